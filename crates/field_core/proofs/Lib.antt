@@ -1,0 +1,17 @@
+pub mod Agreement
+pub mod Coprime
+pub mod Divisors
+pub mod Dots
+pub mod Duality
+pub mod ExitSteps
+pub mod FieldLaws
+pub mod FlowSteps
+pub mod IntegerRing
+pub mod AnyOrder
+pub mod Live
+pub mod Orders
+pub mod CrossProducts
+pub mod RemovalLaws
+pub mod Sized
+pub mod SumLaws
+pub mod Weights

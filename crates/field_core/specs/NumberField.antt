@@ -1,0 +1,8 @@
+-- The numbers are an ordered field.
+use Rattle.field_core.specs.Number.{Number}
+use Rattle.field_core.specs.Laws.NumberLaws.{number_signed_field}
+use Rattle.field_core.specs.Laws.SignedField.{field_of}
+use Rattle.field_core.specs.Field.{OrderedField}
+
+unfoldable pub number_field : OrderedField Number
+number_field = field_of number_signed_field
