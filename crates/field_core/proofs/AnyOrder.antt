@@ -15,4 +15,3 @@ module _ {K : Type 0} (F : OrderedField K) (m : ℕ) (G : Graph K) where
   -- Whatever the order of the removals, what is left has the weights of its set.
   pub any_order : IsValid F m G → (js : List ℕ) → IsOrder m (λ _. true) js → (k : ℕ) → IsIn m (left_after (λ _. true) js) k → (after F G js).weight k ≡ weight_in F m G (left_after (λ _. true) js) k
   any_order V js o k p = reached_is F m G V (left_after (λ _. true) js) (after F G js) (reached_after js (λ _. true) G (reached_start F m G V) o) k p
-

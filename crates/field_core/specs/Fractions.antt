@@ -16,4 +16,3 @@ quotient n d = quotient_by n d (ℤ_discrete (lowest d) (pos 0))
 -- the fraction n/d
 abbrev pub fraction : ℤ → ℤ → Number
 fraction n d = quotient (n ∷ []) (d ∷ [])
-

@@ -23,4 +23,3 @@ module _ {K : Type 0} (F : OrderedField K) where
     pub edge_nonneg : (i k : ℕ) → i < m → k < m → 𝟘 ≼ G.edge i k
     pub no_loop : (i : ℕ) → i < m → G.edge i i ≡ 𝟘
     pub row_total : (i : ℕ) → i < m → sum_below F m (G.edge i) ≼ 𝟙
-

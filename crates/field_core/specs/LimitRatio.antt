@@ -20,4 +20,3 @@ cut (c ∷ n) f = at_zero c (f n) number_zero
 unfoldable pub limit_ratio : List ℤ → List ℤ → Number
 limit_ratio n [] = number_zero
 limit_ratio n (d ∷ e) = at_zero d (cut n (λ m. limit_ratio m e)) (fraction (coefficient n 0) d)
-

@@ -20,4 +20,3 @@ pub data Number : Type 0 where
   cross : (a b : Pair) → CrossEqual a b → of_pair a ≡ of_pair b
   hub : (Sp → Number) → Number
   spoke : (s : Sp) (f : Sp → Number) → hub f ≡ f s
-

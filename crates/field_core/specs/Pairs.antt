@@ -32,9 +32,7 @@ pair_one = record { numerator = pos 1 ∷ []; denominator = pos 1 ∷ []; nonzer
 unfoldable pub pair_sign : Pair → Ordering
 pair_sign a = int_sign (lowest (poly_multiply a.numerator a.denominator))
 
-
 -- n/d to d/n, and 0 for a pair that is 0
 abbrev pub invert_by : (a : Pair) → Dec (lowest a.numerator ≡ pos 0) → Number
 invert_by a (yes e) = of_pair pair_zero
 invert_by a (no h) = of_pair record { numerator = a.denominator; denominator = a.numerator; nonzero = h }
-

@@ -50,4 +50,3 @@ unfoldable pub int_sign : ℤ → Ordering
 int_sign (pos zero) = Equal
 int_sign (pos (suc n)) = Greater
 int_sign (negsuc n) = Less
-

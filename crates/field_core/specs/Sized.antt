@@ -17,4 +17,3 @@ sized op z = if nat_lt (unsigned_abs z) (2 ^ 127) then Ok z else Err (record { o
 -- the greatest common divisor of absolute values, as a whole number
 abbrev pub gcd_of : ℤ → ℤ → ℤ
 gcd_of x y = pos (gcd (unsigned_abs x) (unsigned_abs y))
-

@@ -13,4 +13,3 @@ pub record IsReduced (x : Terms) : Type 0 where
   pub num_size : unsigned_abs x.num < 2 ^ 127
   pub den_size : unsigned_abs x.den < 2 ^ 127
   pub reduced : gcd (unsigned_abs x.num) (unsigned_abs x.den) ≡ 1
-

@@ -86,10 +86,7 @@ impl Whole {
         ensures value { result ≡ gcd_of self other }
         ensures positive { pos 0 <ℤ result }
     {
-        let divisor = gcd(
-            self.value.unsigned_abs(),
-            other.value.unsigned_abs(),
-        );
+        let divisor = gcd(self.value.unsigned_abs(), other.value.unsigned_abs());
         Whole {
             value: divisor as i128,
         }

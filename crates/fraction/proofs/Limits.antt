@@ -1,17 +1,16 @@
-use Rattle.std.proofs.Common.{◌≡◌, refl, ap, ap₂, ◌∙◌, ℕ, suc, ◌/◌, ℤ, pos, negsuc, neg_ℤ, int_div, unsigned_abs}
+use Rattle.std.proofs.Common.{◌≡◌, ap, ap₂, ◌∙◌, suc, ℤ, pos, negsuc, neg_ℤ, int_div}
 use Rattle.std.proofs.Math.Nat.{div-one}
-use Rattle.field_core.specs.Divisor.{gcd}
 use Rattle.field_core.specs.Terms.{Terms, IsReduced}
 use Rattle.field_core.specs.Sized.{gcd_of}
-use Rattle.field_core.specs.LimitParts.{limit_pair}
+use Rattle.field_core.specs.LimitParts.{limit_terms}
 use Rattle.fraction.specs.Plain.{single}
 
 by_one : (z : ℤ) → int_div z (pos 1) ≡ z
 by_one (pos n) = ap pos (div-one n)
 by_one (negsuc n) = ap (λ m. neg_ℤ (pos m)) (div-one (suc n))
 
-pub limit_reduced : (p : Terms) → IsReduced p → limit_pair (single p) ≡ p
-unfolding limit_pair
+pub limit_reduced : (p : Terms) → IsReduced p → limit_terms (single p) ≡ p
+unfolding limit_terms
 limit_reduced p r =
     let n : int_div p.num (gcd_of p.num p.den) ≡ p.num = ap (λ g. int_div p.num (pos g)) r.reduced ∙ by_one p.num in
     let d : int_div p.den (gcd_of p.num p.den) ≡ p.den = ap (λ g. int_div p.den (pos g)) r.reduced ∙ by_one p.den in

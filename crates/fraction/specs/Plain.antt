@@ -1,5 +1,5 @@
 -- The kind of the fractions: one coefficient above and one below.
-use Rattle.std.specs.Prelude.{◌≡◌, refl, ℤ, pos, List, [], ◌∷◌, ◌*ℤ◌, Result, Ok}
+use Rattle.std.specs.Prelude.{◌≡◌, refl, pos, [], ◌∷◌, ◌*ℤ◌, Result, Ok}
 use Rattle.std.specs.Ordering.{int_cmp}
 use Rattle.std.proofs.Common.{arith, lit<}
 use Rattle.std.proofs.lemmas.Int.{ints}

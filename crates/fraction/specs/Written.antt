@@ -1,5 +1,5 @@
 -- The written operations on fractions, step by step: each written part must be below 2^127 in size.
-use Rattle.std.specs.Prelude.{◌≡◌, zero, suc, ℤ, pos, negsuc, neg_ℤ, ◌+ℤ◌, ◌*ℤ◌, int_div, Result, Ok, Err}
+use Rattle.std.specs.Prelude.{suc, ℤ, pos, negsuc, neg_ℤ, ◌+ℤ◌, ◌*ℤ◌, int_div, Result, Ok}
 use Rattle.field_core.specs.Sized.{◌>>=◌, sized, gcd_of}
 use Rattle.field_core.specs.Terms.{Terms}
 use Rattle.field_core.specs.declared.place.Op.{Op}

@@ -9,7 +9,6 @@ use Rattle.field_core.specs.Number.{of_pair}
 use Rattle.field_core.specs.Laws.Lift.{cross_equal}
 use Rattle.field_core.specs.Pairs.{pair_add, pair_multiply, pair_negate, pair_zero, pair_sign}
 use Rattle.field_core.specs.Arithmetic.{number_zero, ◌+ε◌, ◌*ε◌, number_negate, number_sign}
-
 use Rattle.field_core.specs.Fractions.{quotient, quotient_by, fraction}
 
 quotient_by-pair : (n d : List ℤ) (e : Dec (lowest d ≡ pos 0)) (h : IsNonZero d)

@@ -100,4 +100,3 @@ limit_respects (pos zero ∷ e) (pos (suc c) ∷ n) d m h g same = sym (infinite
 limit_respects (pos zero ∷ e) (negsuc c ∷ n) d m h g same = sym (infinite (negsuc c) n e d m (λ e. cc) g same)
 limit_respects (pos (suc c) ∷ e) n d m h g same = sym (finite (pos (suc c)) n e d m (λ e. cc) g same)
 limit_respects (negsuc c ∷ e) n d m h g same = sym (finite (negsuc c) n e d m (λ e. cc) g same)
-

@@ -5,7 +5,6 @@ use Rattle.std.specs.declared.cmp.Ordering.{Ordering}
 use Rattle.std.specs.declared.cmp.Ordering.TheVariants.{Less, Equal, Greater}
 use Rattle.field_core.specs.Laws.Ring.{add_left_comm, zero_add, add_negate_cancel, negate_sum, negate_negate, negate_zero, negate_unique, multiply_zero}
 use Rattle.field_core.specs.Field.{OrderedField}
-
 use Rattle.field_core.specs.Laws.Ring.{CommutativeRing}
 
 pub record SignedField (A : Type 0) : Type 0 where

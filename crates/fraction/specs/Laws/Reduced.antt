@@ -1,4 +1,4 @@
-use Rattle.std.proofs.Common.{◌≡◌, ◌≢◌, ℕ, zero, suc, ◌+◌, ◌*◌, ◌/◌, ◌%◌, ◌<◌, ◌≤◌, ◌^◌, refl, sym, ◌∙◌, ap, subst, arith, ℤ, pos, negsuc, ◌+ℤ◌, ◌*ℤ◌, ◌<ℤ◌, unsigned_abs, Ok, Err, int_div, inl, inr, neg_ℤ, ◌⊎◌}
+use Rattle.std.proofs.Common.{◌≡◌, ℕ, zero, suc, ◌+◌, ◌*◌, ◌/◌, ◌<◌, ◌^◌, refl, arith, ℤ, pos, negsuc, ◌+ℤ◌, ◌*ℤ◌, ◌<ℤ◌, unsigned_abs, Ok, int_div, inl, inr, neg_ℤ, ◌⊎◌}
 use Rattle.std.proofs.lemmas.Bool.{cases_lt}
 use Rattle.std.proofs.lemmas.Nat.Gcd.{dvd_refl, dvd_trans}
 use Rattle.std.proofs.Math.Nat.{pos_of_dvd_of_pos, dvd-mul_left_of_dvd, mul-div_assoc, div-mul_cancel, div-le_self, dvd-add_iff_left, dvd-add, mul-pos}
@@ -9,7 +9,6 @@ use Rattle.std.specs.Int.{◌∣◌}
 use Rattle.field_core.specs.Divisor.{gcd}
 use Rattle.field_core.specs.Terms.{Terms, IsReduced}
 use Rattle.field_core.specs.Sized.{sized, gcd_of}
-use Rattle.fraction.specs.Written.{written_mul, written_add}
 use Rattle.field_core.specs.declared.place.Op.{Op}
 use Rattle.field_core.proofs.Divisors.{gcd_is}
 use Rattle.field_core.proofs.Coprime.{Apart, apart_from_gcd, gcd_from_apart, apart_swap, apart_parts, apart_product, quotients_apart, quotient_divides, gcd_bounds}

@@ -1,17 +1,16 @@
-use Rattle.std.proofs.Common.{◌≡◌, ℕ, zero, suc, ◌+◌, ◌*◌, ◌/◌, ◌<◌, refl, sym, ◌∙◌, ap, arith, ℤ, pos, negsuc, ◌+ℤ◌, ◌*ℤ◌, unsigned_abs, Ok, int_div, neg_ℤ}
+use Rattle.std.proofs.Common.{◌≡◌, ℕ, zero, suc, ◌*◌, ◌/◌, refl, sym, ◌∙◌, ap, arith, ℤ, pos, negsuc, ◌+ℤ◌, ◌*ℤ◌, unsigned_abs, Ok, int_div, neg_ℤ}
 use Rattle.std.proofs.lemmas.Int.{ints}
 use Rattle.std.proofs.lemmas.Nat.Gcd.{dvd_trans}
 use Rattle.std.proofs.Math.Nat.{div-mul_cancel, zero-mul}
 use Rattle.std.specs.Int.{◌∣◌}
 use Rattle.field_core.specs.Divisor.{gcd}
-use Rattle.field_core.specs.Terms.{Terms, IsReduced}
+use Rattle.field_core.specs.Terms.{Terms}
 use Rattle.field_core.specs.Sized.{sized, gcd_of}
-use Rattle.fraction.specs.Exactness.{Same, sum_of, product_of}
+use Rattle.fraction.specs.Laws.CrossProducts.{Same, sum_of, product_of}
 use Rattle.field_core.specs.declared.place.Op.{Op}
-use Rattle.field_core.specs.declared.place.TooWide.{TooWide}
 use Rattle.field_core.proofs.Divisors.{gcd_is}
 use Rattle.field_core.proofs.IntegerRing.{ring}
-use Rattle.fraction.proofs.Reduced.{sized_says}
+use Rattle.fraction.specs.Laws.Reduced.{sized_says}
 
 neg_times : (m g : ℕ) → neg_ℤ (pos m) *ℤ pos g ≡ neg_ℤ (pos (m * g))
 neg_times zero g = rw (zero-mul g) (omega (arith, ints))

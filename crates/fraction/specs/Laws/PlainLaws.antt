@@ -1,29 +1,28 @@
 -- The plain kind is exact.
-use Rattle.std.proofs.Common.{◌≡◌, ◌≢◌, refl, sym, ap, ap₂, subst, ◌∙◌, ℤ, pos, negsuc, zero, suc, neg_ℤ, ◌+ℤ◌, ◌*ℤ◌, ◌<ℤ◌, List, [], ◌∷◌, Bool, true, false, Result, Ok, Err, arith}
+use Rattle.std.proofs.Common.{◌≡◌, ◌≢◌, refl, sym, ap, ap₂, ◌∙◌, ℤ, pos, negsuc, zero, suc, neg_ℤ, ◌*ℤ◌, ◌<ℤ◌, [], ◌∷◌, true, false, Result, Ok, Err, arith}
 use Rattle.std.proofs.lemmas.Int.{ints}
-use Rattle.std.specs.Ordering.{int_cmp}
 use Rattle.field_core.specs.declared.place.Op.{Op}
 use Rattle.field_core.specs.declared.place.Op.TheVariants.{Add, Sub, Mul, Div}
 use Rattle.field_core.specs.declared.place.TooWide.{TooWide}
 use Rattle.field_core.specs.Terms.{Terms, IsReduced}
 use Rattle.fraction.specs.Written.{opposite, inverse, inverse_of}
-use Rattle.fraction.specs.Exactness.{Same, sum_of, product_of}
-use Rattle.fraction.proofs.Turned.{opposite_reduced, inverse_reduced}
-use Rattle.field_core.proofs.IntegerRing.{ring}
+use Rattle.fraction.specs.Laws.CrossProducts.{sum_of, product_of}
+use Rattle.fraction.specs.Laws.Turned.{opposite_reduced, inverse_reduced}
 use Rattle.field_core.specs.Laws.Ring.{negate_multiply, multiply_negate, negate_negate}
 use Rattle.field_core.specs.Laws.Integers.{integers}
 use Rattle.field_core.specs.Number.{Number}
-use Rattle.field_core.specs.Arithmetic.{number_zero, number_one, number_negate, ◌+ε◌, ◌-ε◌, ◌*ε◌, ◌/ε◌, number_compare}
-use Rattle.field_core.specs.Pairs.{nonzero-one}
+use Rattle.field_core.specs.Arithmetic.{number_zero, number_one, number_negate, number_sign, ◌+ε◌, ◌*ε◌, ◌/ε◌, number_compare}
+use Rattle.field_core.specs.Laws.PolynomialLaws.{nonzero-one, int_sign-scale, positive_in}
+use Rattle.field_core.specs.Polynomial.{lowest, int_sign}
 use Rattle.field_core.specs.Laws.NumberLaws.{number_multiply_assoc, number_multiply_one}
-use Rattle.field_core.specs.Laws.Order.{number_subtract_is, number_zero_multiply, divide_unique}
+use Rattle.field_core.specs.Laws.Order.{number_subtract_is, divide_unique}
 use Rattle.field_core.specs.Fractions.{fraction}
-use Rattle.field_core.specs.Laws.FractionLaws.{quotient-pair, fraction-equal, fraction-add, fraction-multiply, fraction-negate, fraction-zero}
+use Rattle.field_core.specs.Laws.FractionLaws.{quotient-pair, fraction-equal, fraction-add, fraction-multiply, fraction-negate, fraction-zero, fraction-sign, lowest-constant}
 use Rattle.field_core.specs.Laws.Effective.{positive_nonzero, product_positive, fraction-cross, fraction-compare}
-use Rattle.field_core.specs.Kind.{Parts, Kind, is_zero, is_zero_integer, ok_map}
+use Rattle.field_core.specs.Kind.{Parts, is_zero, is_zero_integer, sign_of, ok_map}
 use Rattle.field_core.specs.Exact.{IsExact, MayTake, value_of, exact_result}
-use Rattle.fraction.specs.Plain.{plain, IsFraction, pair_of, single, written_pair, zero_reduced, one_reduced}
-use Rattle.fraction.specs.Turns.{Makes, add_says, mul_says}
+use Rattle.fraction.specs.Plain.{plain, IsFraction, pair_of, single, zero_reduced, one_reduced}
+use Rattle.fraction.specs.Laws.WrittenLaws.{Makes, add_says, mul_says}
 
 abbrev value : Terms → Number
 value p = fraction p.num p.den
@@ -94,10 +93,10 @@ div_value : (x y z : Terms) → IsReduced x → IsReduced y → y.num ≢ pos 0 
 unfolding inverse
 div_value x y z r s h n m =
     sym (divide_unique (value x) (value y) (value z) n
-      (ap (λ v. v *ε value y) (mul_value x (inverse y) z r (inverse_reduced y s h) m)
-      ∙ number_multiply_assoc (value x) (value (inverse y)) (value y)
-      ∙ ap (λ v. value x *ε v) (inverse_times_of y.num y.den (some y s) s.positive h)
-      ∙ number_multiply_one (value x)))
+    (ap (λ v. v *ε value y) (mul_value x (inverse y) z r (inverse_reduced y s h) m)
+    ∙ number_multiply_assoc (value x) (value (inverse y)) (value y)
+    ∙ ap (λ v. value x *ε v) (inverse_times_of y.num y.den (some y s) s.positive h)
+    ∙ number_multiply_one (value x)))
 
 -- ---- of parts
 
@@ -180,6 +179,16 @@ run Div x y z f g t h =
     let s = mul_says Div _ _ m.pair f.reduced i m.is in
     made z m.pair _ m.seen s.reduced (div_value _ _ m.pair f.reduced g.reduced n (value_nonzero _ _ (some _ g.reduced) n) s ∙ ap₂ ◌/ε◌ (sym (shown x f)) (sym (shown y g)))
 
+lowest_single : (n : ℤ) → lowest (n ∷ []) ≡ n
+lowest_single n = lowest-constant n
+
+sign_first : (x : Parts) → IsFraction x → sign_of x ≡ int_sign (pair_of x).num
+unfolding sign_of
+sign_first x f = ap sign_of f.shape ∙ ap int_sign (lowest_single (pair_of x).num)
+
+sign_is : (x : Parts) → IsFraction x → sign_of x ≡ number_sign (value_of x)
+sign_is x f = sign_first x f ∙ sym (ap number_sign (shown x f) ∙ fraction-sign _ _ (some _ f.reduced) ∙ int_sign-scale (pair_of x).num (pair_of x).den (positive_in (pair_of x).den f.reduced.positive))
+
 pub plain_is_exact : IsExact plain IsFraction
 plain_is_exact = record {
   zero_stored = record { reduced = zero_reduced; shape = refl };
@@ -190,5 +199,6 @@ plain_is_exact = record {
   is_null = λ x f h. shown x f ∙ ap (λ n. fraction n (pair_of x).den) (yes_zero _ (sym (zero_first x f) ∙ h)) ∙ fraction-zero _ (some _ f.reduced);
   stored = λ op x y z f g t h. (run op x y z f g t h).stored;
   exact = λ op x y z f g t h. (run op x y z f g t h).value;
-  compare = λ x y f g. sym (ap₂ number_compare (shown x f) (shown y g) ∙ fraction-compare _ _ _ _ f.reduced.positive g.reduced.positive)
+  compare = λ x y f g. sym (ap₂ number_compare (shown x f) (shown y g) ∙ fraction-compare _ _ _ _ f.reduced.positive g.reduced.positive);
+  sign = λ x f. sign_is x f;
 }

@@ -1,13 +1,13 @@
 -- What Ok written operations on pairs say, step by step.
-use Rattle.std.proofs.Common.{◌≡◌, ◌≢◌, refl, sym, ap, subst, ◌∙◌, ℤ, pos, negsuc, zero, suc, neg_ℤ, ◌+ℤ◌, ◌*ℤ◌, int_div, Result, Ok, Err}
+use Rattle.std.proofs.Common.{◌≡◌, refl, subst, Result, Ok, Err}
 use Rattle.field_core.specs.declared.place.Op.{Op}
 use Rattle.field_core.specs.declared.place.TooWide.{TooWide}
 use Rattle.field_core.specs.Terms.{Terms, IsReduced}
-use Rattle.field_core.specs.Sized.{sized, gcd_of, ◌>>=◌}
+use Rattle.field_core.specs.Sized.{◌>>=◌}
 use Rattle.fraction.specs.Written.{written_add, written_mul}
-use Rattle.fraction.specs.Exactness.{Same, sum_of, product_of}
-use Rattle.fraction.proofs.Reduced.{mul_reduced, add_reduced}
-use Rattle.fraction.proofs.Exactness.{mul_exact, add_exact}
+use Rattle.fraction.specs.Laws.CrossProducts.{Same, sum_of, product_of}
+use Rattle.fraction.specs.Laws.Reduced.{mul_reduced, add_reduced}
+use Rattle.fraction.specs.Laws.ExactTerms.{mul_exact, add_exact}
 
 bind_ok : {A B : Type 0} (r : Result A TooWide) (f : A → Result B TooWide) (y : B) → (r >>= f) ≡ Ok y → (x : A) × ((r ≡ Ok x) × (f x ≡ Ok y))
 bind_ok (Ok x) f y h = (x, (refl, h))

@@ -1,4 +1,4 @@
-use Rattle.std.proofs.Common.{◌≡◌, ◌≢◌, ℕ, zero, suc, ◌<◌, ◌^◌, refl, sym, ◌∙◌, ap, arith, ℤ, pos, negsuc, ◌<ℤ◌, ◌≤ℤ◌, unsigned_abs, neg_ℤ}
+use Rattle.std.proofs.Common.{◌≡◌, ◌≢◌, ℕ, zero, suc, refl, arith, ℤ, pos, negsuc, ◌<ℤ◌, ◌≤ℤ◌, unsigned_abs, neg_ℤ}
 use Rattle.std.proofs.lemmas.Int.{ints}
 use Rattle.field_core.specs.Divisor.{gcd}
 use Rattle.field_core.specs.Terms.{Terms, IsReduced}
@@ -19,7 +19,7 @@ opposite_reduced x r = record {
   positive = r.positive;
   num_size = rw (abs_neg x.num) r.num_size;
   den_size = r.den_size;
-  reduced = rw (abs_neg x.num) r.reduced
+  reduced = rw (abs_neg x.num) r.reduced;
 }
 
 turned : (n d : ℤ) → IsReduced (record { num = n; den = d }) → n ≢ pos 0 → IsReduced (inverse_of n d)

@@ -1,0 +1,4 @@
+pub mod Laws
+pub mod Plain
+pub mod View
+pub mod Written

@@ -1,0 +1,95 @@
+ghost use Rattle.std.specs.Prelude.{◌≡◌};
+ghost use Rattle.fraction.specs.Plain.{plain, IsFraction, fraction_parts, fraction_stored};
+ghost use Rattle.fraction.specs.Laws.PlainLaws.{plain_is_exact};
+
+use crate::written::{inverse, multiply, opposite, plus};
+use field_core::{Number, Op, Ratio, TooWide};
+use std::cmp::Ordering;
+
+/// A fraction in lowest terms: its denominator is at least 1, and both parts are at most 2^127 - 1 in size.
+#[derive(Clone, Copy)]
+pub struct Fraction {
+    ratio: Ratio,
+}
+
+#[tactic(auto, unfolding(field_core::specs::Kind::is_zero, field_core::specs::Kind::sign_of))]
+impl Number for Fraction {
+    ghost kind = { plain };
+
+    ghost parts = { λ x. fraction_parts x.ratio };
+
+    ghost IsStored = { IsFraction };
+
+    fn zero() -> Fraction {
+        Fraction {
+            ratio: Ratio::new(0, 1),
+        }
+    }
+
+    fn one() -> Fraction {
+        Fraction {
+            ratio: Ratio::new(1, 1),
+        }
+    }
+
+    fn add(&self, other: &Fraction) -> Result<Fraction, TooWide> {
+        let ratio = plus(Op::Add, &self.ratio, &other.ratio)?;
+        Ok(Fraction { ratio })
+    }
+
+    fn sub(&self, other: &Fraction) -> Result<Fraction, TooWide> {
+        let ratio = plus(Op::Sub, &self.ratio, &opposite(&other.ratio))?;
+        Ok(Fraction { ratio })
+    }
+
+    fn mul(&self, other: &Fraction) -> Result<Fraction, TooWide> {
+        let ratio = multiply(Op::Mul, &self.ratio, &other.ratio)?;
+        Ok(Fraction { ratio })
+    }
+
+    fn div(&self, other: &Fraction) -> Result<Fraction, TooWide> {
+        let ratio = multiply(Op::Div, &self.ratio, &inverse(&other.ratio))?;
+        Ok(Fraction { ratio })
+    }
+
+    /// Never refused.
+    fn compare(&self, other: &Fraction) -> Result<Ordering, TooWide> {
+        Ok(self.ratio.compare(&other.ratio))
+    }
+
+    fn is_zero(&self) -> bool {
+        self.ratio.num() == 0
+    }
+
+    fn sign(&self) -> Ordering {
+        self.ratio.num().cmp(&0)
+    }
+
+    fn limit(&self) -> Ratio {
+        self.ratio
+    }
+
+    ghost stored = { λ x. fraction_stored x.ratio };
+
+    ghost exact = { plain_is_exact };
+}
+
+impl Fraction {
+    ghost use Rattle.std.specs.Prelude.{◌≡◌};
+    ghost use Rattle.field_core.specs.View.{terms};
+    ghost use Rattle.fraction.specs.View.{terms_of};
+
+    /// The same fraction.
+    pub fn of(ratio: Ratio) -> Fraction
+        ensures { terms_of result ≡ terms ratio }
+    {
+        Fraction { ratio }
+    }
+
+    /// The same fraction.
+    pub fn ratio(&self) -> Ratio
+        ensures { terms result ≡ terms_of self.now }
+    {
+        self.ratio
+    }
+}

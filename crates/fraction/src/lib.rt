@@ -1,0 +1,7 @@
+//! Fractions: the plain kind of numbers.
+#![tactic(auto)]
+
+mod fraction;
+mod written;
+
+pub use fraction::Fraction;
