@@ -1,0 +1,7 @@
+pub mod CaseView
+pub mod Content
+pub mod Sums
+pub mod Draft
+pub mod ClosedTest
+pub mod EntangledGraph
+pub mod IntersectionWeight
