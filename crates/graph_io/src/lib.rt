@@ -1,0 +1,18 @@
+//! Where bytes come from and go to: sources and sinks, and whole inputs and outputs.
+#![tactic(auto)]
+
+mod adapters;
+mod faults;
+mod memory_sink;
+mod memory_source;
+mod reading;
+mod remaining;
+mod room;
+mod writing;
+
+pub use adapters::{StdSink, StdSource};
+pub use faults::Failed;
+pub use memory_sink::MemorySink;
+pub use memory_source::MemorySource;
+pub use reading::{ReadEnd, Source, read_all};
+pub use writing::{Sink, write_all};
