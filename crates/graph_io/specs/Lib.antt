@@ -1,6 +1,9 @@
 pub mod Adapters
 pub mod Causes
+pub mod FailingSink
+pub mod FailingSource
 pub mod MemorySink
 pub mod Reading
 pub mod Room
+pub mod Script
 pub mod Writing

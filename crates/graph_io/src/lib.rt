@@ -2,15 +2,20 @@
 #![tactic(auto)]
 
 mod adapters;
+mod failing_sink;
+mod failing_source;
 mod faults;
 mod memory_sink;
 mod memory_source;
 mod reading;
 mod remaining;
 mod room;
+mod script;
 mod writing;
 
 pub use adapters::{StdSink, StdSource};
+pub use failing_sink::FailingSink;
+pub use failing_source::FailingSource;
 pub use faults::Failed;
 pub use memory_sink::MemorySink;
 pub use memory_source::MemorySource;
