@@ -11,6 +11,8 @@ mod reading;
 mod remaining;
 mod room;
 mod script;
+#[cfg(test)]
+mod tests;
 mod writing;
 
 pub use adapters::{StdSink, StdSource};
