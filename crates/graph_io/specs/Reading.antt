@@ -1,4 +1,4 @@
-use Rattle.std.specs.Prelude.{◌≡◌, ℕ, ◌+◌, ◌<◌, ◌≤◌, List, length, Result, IfSome, OnOk, IfOk, IfErr, Ok, Err, ◌++◌}
+use Rattle.std.specs.Prelude.{◌≡◌, ℕ, ◌+◌, ◌<◌, ◌≤◌, List, length, Result, IfSome, OnOk, IfOk, IfErr, ⊤, Ok, Err, ◌++◌}
 use Rattle.std.specs.declared.option.Option.{Option}
 use Rattle.std.specs.declared.option.Option.TheVariants.{None, Some}
 use Rattle.std.specs.Io.KnownBytes.{Consumes, IsAtEnd, Keeps}
@@ -16,9 +16,15 @@ TookAtMost old new n = (bs : List ℕ) × Consumes old new bs × (length bs ≤ 
 
 -- why the reading of at most limit bytes ended early
 abbrev pub EndedBy : ℕ → Option (List ℕ) → Option (List ℕ) → ℕ → ℕ → ReadEnd → Type 0
-EndedBy limit old new before now Fault = Rose before now × TookAtMost old new limit
+EndedBy limit old new before now Fault = Rose before now
 EndedBy limit old new before now (TooLong n) = (n ≡ limit + 1) × TookCount old new n × IfSome old (λ xs. limit < length xs)
-EndedBy limit old new before now NoMemory = TookAtMost old new (limit + 1)
+EndedBy limit old new before now NoMemory = ⊤
+
+-- the most bytes that are taken before a reading of at most limit bytes ends early
+abbrev pub most_taken : ℕ → ReadEnd → ℕ
+most_taken limit Fault = limit
+most_taken limit (TooLong n) = n
+most_taken limit NoMemory = limit + 1
 
 -- all bytes, to the end, and at most limit of them
 pub record ReadWhole (limit : ℕ) (old new : Option (List ℕ)) (bytes : List ℕ) : Type 0 where

@@ -1,5 +1,8 @@
 //! A source and a sink over std's readers and writers.
-ghost use Rattle.std.specs.Prelude.{◌≡◌};
+ghost use Rattle.std.specs.Prelude.{◌≡◌, ◌<◌, length, IfOk};
+ghost use Rattle.std.specs.Io.{ReadsAtMost, WritesAtMost};
+ghost use Rattle.std.specs.Io.KnownBytes.{ReadConsumes, WriteAppends};
+ghost use Rattle.graph_io.specs.Causes.{HasCause, CountsFault};
 ghost use Rattle.graph_io.specs.Adapters.{reader_of, read_faults, writer_of, write_faults};
 
 use crate::faults::FaultCount;
@@ -33,7 +36,14 @@ impl<R: Read> Source for StdSource<R> {
 
     ghost counted = { λ s. s.faults.in_range };
 
-    fn take(&mut self, buf: &mut [u8]) -> Result<usize, Failed> {
+    fn take(&mut self, buf: &mut [u8]) -> Result<usize, Failed>
+        ensures bound { ReadsAtMost result buf.new }
+        ensures bytes { ReadConsumes (R.remaining (reader_of self.old))
+            (R.remaining (reader_of self.new)) result buf.new }
+        ensures cause { HasCause (read_faults self.old) (read_faults self.new) result }
+
+        ensures counted { CountsFault (read_faults self.old) (read_faults self.new) result }
+    {
         let moved = self.inner.read(buf).map_err(|_| Failed);
         self.faults.note(moved)
     }
@@ -67,7 +77,15 @@ impl<W: Write> Sink for StdSink<W> {
 
     ghost counted = { λ s. s.faults.in_range };
 
-    fn put(&mut self, bytes: &[u8]) -> Result<usize, Failed> {
+    fn put(&mut self, bytes: &[u8]) -> Result<usize, Failed>
+        ensures bound { WritesAtMost result bytes.now }
+        ensures some { IfOk result (λ n. 0 < length bytes.now → 0 < n) }
+        ensures bytes { WriteAppends (W.contents (writer_of self.old))
+            (W.contents (writer_of self.new)) result bytes.now }
+        ensures cause { HasCause (write_faults self.old) (write_faults self.new) result }
+
+        ensures counted { CountsFault (write_faults self.old) (write_faults self.new) result }
+    {
         let taken = match self.inner.write(bytes) {
             Ok(count) if count > 0 || bytes.is_empty() => Ok(count),
             _ => Err(Failed),

@@ -69,17 +69,21 @@ impl Sink for FailingSink {
     fn put(&mut self, bytes: &[u8]) -> Result<usize, Failed>
         ensures bound { WritesAtMost result bytes.now }
         ensures some { IfOk result (λ n. 0 < length bytes.now → 0 < n) }
-        ensures bytes { WriteAppends (Some (held_bytes self.old)) (Some (held_bytes self.new)) result bytes.now }
+        ensures bytes { WriteAppends (Some (held_bytes self.old)) (Some (held_bytes self.new))
+            result bytes.now }
         ensures cause { HasCause (fault_count self.old) (fault_count self.new) result }
 
         // The puts whose numbers stand in the list fail, those of some bytes with no room left fail,
         // and no others.
-        ensures fails { IsErr result ↔ (Contains (fails_at self.old) (call_number (puts_made self.old)) ⊎ ((room_left self.old ≡ 0) × (0 < length bytes.now))) }
+        ensures fails { IsErr result
+            ↔ (Contains (fails_at self.old) (call_number (puts_made self.old))
+            ⊎ ((room_left self.old ≡ 0) × (0 < length bytes.now))) }
         ensures puts { puts_made self.new ≡ call_number (puts_made self.old) }
         ensures plan { HasSamePlan self.old self.new }
         ensures counted { CountsFault (fault_count self.old) (fault_count self.new) result }
 
-        ensures count { IfOk result (λ n. n ≡ min (length bytes.now) (min (most_a_put self.old) (room_left self.old))) }
+        ensures count { IfOk result (λ n.
+            n ≡ min (length bytes.now) (min (most_a_put self.old) (room_left self.old))) }
         ensures room { TakesRoom (room_left self.old) (room_left self.new) result }
     {
         let taken = if self.script.next_fails() {

@@ -55,16 +55,19 @@ impl Source for FailingSource {
 
     fn take(&mut self, buf: &mut [u8]) -> Result<usize, Failed>
         ensures bound { ReadsAtMost result buf.new }
-        ensures bytes { ReadConsumes (Some (bytes_left self.old)) (Some (bytes_left self.new)) result buf.new }
+        ensures bytes { ReadConsumes (Some (bytes_left self.old)) (Some (bytes_left self.new))
+            result buf.new }
         ensures cause { HasCause (fault_count self.old) (fault_count self.new) result }
 
         // The takes whose numbers stand in the list fail, and no others.
-        ensures fails { IsErr result ↔ Contains (fails_at self.old) (call_number (takes_made self.old)) }
+        ensures fails { IsErr result
+            ↔ Contains (fails_at self.old) (call_number (takes_made self.old)) }
         ensures takes { takes_made self.new ≡ call_number (takes_made self.old) }
         ensures plan { HasSamePlan self.old self.new }
         ensures counted { CountsFault (fault_count self.old) (fault_count self.new) result }
 
-        ensures count { IfOk result (λ n. n ≡ min (most_a_take self.old) (min (length (bytes_left self.old)) (length buf.old))) }
+        ensures count { IfOk result (λ n.
+            n ≡ min (most_a_take self.old) (min (length (bytes_left self.old)) (length buf.old))) }
         ensures beyond { IfOk result (λ n. drop n buf.new ≡ drop n buf.old) }
         ensures unmoved { OnErr result (buf.new ≡ buf.old) }
     {

@@ -54,7 +54,8 @@ impl Sink for MemorySink {
     fn put(&mut self, bytes: &[u8]) -> Result<usize, Failed>
         ensures bound { WritesAtMost result bytes.now }
         ensures some { IfOk result (λ n. 0 < length bytes.now → 0 < n) }
-        ensures bytes { WriteAppends (Some (held_bytes self.old)) (Some (held_bytes self.new)) result bytes.now }
+        ensures bytes { WriteAppends (Some (held_bytes self.old)) (Some (held_bytes self.new))
+            result bytes.now }
         ensures cause { HasCause (fault_count self.old) (fault_count self.new) result }
 
         // Only a piece that isn't empty, where no room is left, fails.

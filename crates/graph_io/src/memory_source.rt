@@ -1,5 +1,5 @@
 //! A source in memory.
-ghost use Rattle.std.specs.Prelude.{◌≡◌, ℕ, List as Seq, Some};
+ghost use Rattle.std.specs.Prelude.{◌≡◌, ℕ, min, List as Seq, length, drop, Ok, Some, IfOk};
 ghost use Rattle.std.proofs.Common.{lit<};
 
 use crate::remaining::Remaining;
@@ -32,13 +32,24 @@ impl MemorySource {
 }
 
 impl Source for MemorySource {
+    ghost use Rattle.std.specs.Io.{ReadsAtMost};
+    ghost use Rattle.std.specs.Io.KnownBytes.{ReadConsumes};
+    ghost use Rattle.graph_io.specs.Causes.{HasCause};
+
     ghost left = { λ s. Some s };
 
     ghost faults = { λ s. 0 };
 
     ghost counted = { λ s. lit< tt };
 
-    fn take(&mut self, buf: &mut [u8]) -> Result<usize, Failed> {
+    fn take(&mut self, buf: &mut [u8]) -> Result<usize, Failed>
+        ensures bound { ReadsAtMost result buf.new }
+        ensures bytes { ReadConsumes (Some self.old) (Some self.new) result buf.new }
+        ensures cause { HasCause 0 0 result }
+
+        ensures count { result ≡ Ok (min (length self.old) (length buf.old)) }
+        ensures beyond { IfOk result (λ n. drop n buf.new ≡ drop n buf.old) }
+    {
         let most = buf.len();
         Ok(self.rest.move_into(buf, most))
     }

@@ -4,7 +4,7 @@ ghost use Rattle.std.specs.declared.option.Option.{Option};
 ghost use Rattle.std.specs.Io.{ReadsAtMost};
 ghost use Rattle.std.specs.Io.KnownBytes.{ReadConsumes};
 ghost use Rattle.graph_io.specs.Causes.{HasCause};
-ghost use Rattle.graph_io.specs.Reading.{ReadWhole, EndedBy};
+ghost use Rattle.graph_io.specs.Reading.{ReadWhole, EndedBy, TookAtMost, most_taken};
 
 use crate::Failed;
 use field_core::{List, NoMemory};
@@ -51,10 +51,17 @@ pub trait Source {
 }
 
 /// All bytes of a source, read to its end, where there are at most `limit` of them.
+///
+/// A fault comes only where the source's count rose. `TooLong` comes exactly where byte `limit + 1`
+/// was taken, and no more is taken then.
 pub fn read_all<S: Source>(alloc: Global, source: &mut S, limit: u64) -> Result<List<u8>, ReadEnd>
     requires { limit ≤ 4194304 }
     ensures whole { IfOk result (ReadWhole limit (S.left source.old) (S.left source.new)) }
-    ensures ended { IfErr result (EndedBy limit (S.left source.old) (S.left source.new) (S.faults source.old) (S.faults source.new)) }
+    ensures ended { IfErr result
+        (EndedBy limit (S.left source.old) (S.left source.new)
+        (S.faults source.old) (S.faults source.new)) }
+    ensures taken { IfErr result
+        (λ end. TookAtMost (S.left source.old) (S.left source.new) (most_taken limit end)) }
     ensures later { S.faults source.old ≤ S.faults source.new }
 {
     let most = limit as usize;

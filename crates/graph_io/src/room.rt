@@ -34,9 +34,13 @@ impl Room {
 
     /// Takes the bytes that fit, at most `most`; it fails where it takes none of some.
     pub(crate) fn put(&mut self, bytes: &[u8], most: usize) -> Result<usize, Failed>
-        ensures failed { IsErr result ↔ ((min most (free_in self.old) ≡ 0) × (0 < length bytes.now)) }
-        ensures count { IfOk result (λ n. n ≡ min (length bytes.now) (min most (free_in self.old))) }
-        ensures held { MatchResult result (λ n. held_in self.new ≡ held_in self.old ++ take n bytes.now) (λ _. held_in self.new ≡ held_in self.old) }
+        ensures failed { IsErr result
+            ↔ ((min most (free_in self.old) ≡ 0) × (0 < length bytes.now)) }
+        ensures count { IfOk result
+            (λ n. n ≡ min (length bytes.now) (min most (free_in self.old))) }
+        ensures held { MatchResult result
+            (λ n. held_in self.new ≡ held_in self.old ++ take n bytes.now)
+            (λ _. held_in self.new ≡ held_in self.old) }
         ensures free { TakesRoom (free_in self.old) (free_in self.new) result }
     {
         let count = bytes.len().min(most.min(self.size - self.held.len()));

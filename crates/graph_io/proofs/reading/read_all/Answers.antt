@@ -5,8 +5,8 @@ use Rattle.std.specs.Io.KnownBytes.{Consumes}
 use Rattle.graph_io.proofs.Pieces.{TookAtMost-piece}
 use Rattle.graph_io.proofs.reading.read_all.Goals as goal
 
-pub returns-in_err-append-in-Ok-clause-ended : goal.returns-in_err-append-in-Ok-clause-ended
-returns-in_err-append-in-Ok-clause-ended g c =
+pub returns-in_err-append-in-Ok-clause-taken : goal.returns-in_err-append-in-Ok-clause-taken
+returns-in_err-append-in-Ok-clause-taken g c =
     let l = c.pieces in
     let p = err_from_is_err_and c.from_residual.result c.from_residual.ensures.1 in
     let cs = take c.in-Ok.count c.take.new.buf in
