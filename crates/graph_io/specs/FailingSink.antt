@@ -16,11 +16,11 @@ most_a_put sink = sink.cap
 
 -- the numbers of the puts that fail, from 1
 abbrev pub fails_at : FailingSink → List ℕ
-fails_at sink = sink.script.fails
+fails_at sink = sink.plan.fails
 
 -- how many puts were made
 abbrev pub puts_made : FailingSink → ℕ
-puts_made sink = sink.script.calls
+puts_made sink = sink.plan.calls
 
 -- how many puts failed
 abbrev pub fault_count : FailingSink → ℕ

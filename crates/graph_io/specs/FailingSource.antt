@@ -11,11 +11,11 @@ most_a_take source = source.cap
 
 -- the numbers of the takes that fail, from 1
 abbrev pub fails_at : FailingSource → List ℕ
-fails_at source = source.script.fails
+fails_at source = source.plan.fails
 
 -- how many takes were made
 abbrev pub takes_made : FailingSource → ℕ
-takes_made source = source.script.calls
+takes_made source = source.plan.calls
 
 -- how many takes failed
 abbrev pub fault_count : FailingSource → ℕ

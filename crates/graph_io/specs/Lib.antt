@@ -3,7 +3,7 @@ pub mod Causes
 pub mod FailingSink
 pub mod FailingSource
 pub mod MemorySink
+pub mod Plan
 pub mod Reading
 pub mod Room
-pub mod Script
 pub mod Writing

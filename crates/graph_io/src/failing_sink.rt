@@ -1,9 +1,9 @@
 //! A sink in memory that fails by plan.
-ghost use Rattle.std.specs.Prelude.{◌≡◌, ◌⊎◌, ℕ, ◌<◌, ◌≤◌, ◌↔◌, [], min, length, IfOk, IsErr, Some, Contains};
+ghost use Rattle.std.specs.Prelude.{◌≡◌, ◌⊎◌, ◌<◌, ◌≤◌, ◌↔◌, [], min, length, IfOk, IsErr, Some, Contains};
 
 use crate::faults::FaultCount;
+use crate::plan::Plan;
 use crate::room::Room;
-use crate::script::Script;
 use crate::{Failed, Sink};
 use field_core::{List, NoMemory};
 use std::alloc::Global;
@@ -17,7 +17,7 @@ const ROOM: usize = 65_536;
 pub struct FailingSink {
     room: Room,
     cap: usize,
-    script: Script,
+    plan: Plan,
     faults: FaultCount,
     ghost takes: { 0 < cap },
 }
@@ -39,7 +39,7 @@ impl FailingSink {
         Ok(FailingSink {
             room: Room::new(alloc, ROOM)?,
             cap,
-            script: Script::new(fails),
+            plan: Plan::new(fails),
             faults: FaultCount::new(),
         })
     }
@@ -57,7 +57,7 @@ impl Sink for FailingSink {
     ghost use Rattle.std.specs.Io.KnownBytes.{WriteAppends};
     ghost use Rattle.graph_io.specs.Causes.{HasCause, CountsFault};
     ghost use Rattle.graph_io.specs.Room.{TakesRoom};
-    ghost use Rattle.graph_io.specs.Script.{call_number};
+    ghost use Rattle.graph_io.specs.Plan.{call_number};
     ghost use Rattle.graph_io.specs.FailingSink.{held_bytes, room_left, most_a_put, fails_at, puts_made, fault_count, HasSamePlan};
 
     ghost held = { λ s. Some (held_bytes s) };
@@ -86,7 +86,7 @@ impl Sink for FailingSink {
             n ≡ min (length bytes.now) (min (most_a_put self.old) (room_left self.old))) }
         ensures room { TakesRoom (room_left self.old) (room_left self.new) result }
     {
-        let taken = if self.script.next_fails() {
+        let taken = if self.plan.next_fails() {
             Err(Failed)
         } else {
             self.room.put(bytes, self.cap)

@@ -1,9 +1,9 @@
 //! A source in memory that fails by plan.
-ghost use Rattle.std.specs.Prelude.{◌≡◌, ℕ, ◌<◌, ◌≤◌, ◌↔◌, min, List as Seq, length, drop, IfOk, OnErr, IsErr, Some, Contains};
+ghost use Rattle.std.specs.Prelude.{◌≡◌, ◌<◌, ◌≤◌, ◌↔◌, min, length, drop, IfOk, OnErr, IsErr, Some, Contains};
 
 use crate::faults::FaultCount;
+use crate::plan::Plan;
 use crate::remaining::Remaining;
-use crate::script::Script;
 use crate::{Failed, Source};
 use field_core::List;
 
@@ -13,7 +13,7 @@ use field_core::List;
 pub struct FailingSource {
     rest: Remaining,
     cap: usize,
-    script: Script,
+    plan: Plan,
     faults: FaultCount,
     ghost moves: { 0 < cap },
 }
@@ -34,7 +34,7 @@ impl FailingSource {
         FailingSource {
             rest: Remaining::new(bytes),
             cap,
-            script: Script::new(fails),
+            plan: Plan::new(fails),
             faults: FaultCount::new(),
         }
     }
@@ -44,7 +44,7 @@ impl Source for FailingSource {
     ghost use Rattle.std.specs.Io.{ReadsAtMost};
     ghost use Rattle.std.specs.Io.KnownBytes.{ReadConsumes};
     ghost use Rattle.graph_io.specs.Causes.{HasCause, CountsFault};
-    ghost use Rattle.graph_io.specs.Script.{call_number};
+    ghost use Rattle.graph_io.specs.Plan.{call_number};
     ghost use Rattle.graph_io.specs.FailingSource.{bytes_left, most_a_take, fails_at, takes_made, fault_count, HasSamePlan};
 
     ghost left = { λ s. Some (bytes_left s) };
@@ -71,7 +71,7 @@ impl Source for FailingSource {
         ensures beyond { IfOk result (λ n. drop n buf.new ≡ drop n buf.old) }
         ensures unmoved { OnErr result (buf.new ≡ buf.old) }
     {
-        let moved = if self.script.next_fails() {
+        let moved = if self.plan.next_fails() {
             Err(Failed)
         } else {
             Ok(self.rest.move_into(buf, self.cap))

@@ -7,10 +7,10 @@ mod failing_source;
 mod faults;
 mod memory_sink;
 mod memory_source;
+mod plan;
 mod reading;
 mod remaining;
 mod room;
-mod script;
 #[cfg(test)]
 mod tests;
 mod writing;

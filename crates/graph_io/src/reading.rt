@@ -50,7 +50,8 @@ pub trait Source {
     ghost counted: { (s : Self) → faults s < 2 ^ 64 };
 }
 
-/// All bytes of a source, read to its end, where there are at most `limit` of them.
+/// All bytes of a source, read to its end, where there are at most `limit` of them; `limit` is at
+/// most 4,194,304.
 ///
 /// A fault comes only where the source's count rose. `TooLong` comes exactly where byte `limit + 1`
 /// was taken, and no more is taken then.

@@ -1,5 +1,5 @@
 //! Bytes that are handed out from the front.
-ghost use Rattle.std.specs.Prelude.{◌≡◌, ℕ, ◌≤◌, ◌<◌, min, List as Seq, [], ◌++◌, length, drop, take};
+ghost use Rattle.std.specs.Prelude.{◌≡◌, ℕ, ◌≤◌, ◌<◌, min, List as Seq, ◌++◌, length, drop, take};
 
 use field_core::List;
 use std::marker::Model;

@@ -1,5 +1,5 @@
 //! A fixed room for bytes.
-ghost use Rattle.std.specs.Prelude.{◌≡◌, ◌<◌, ◌≤◌, ◌↔◌, ◌++◌, [], min, length, take, IfOk, IfErr, MatchResult, IsErr, vec_len, vec_capacity};
+ghost use Rattle.std.specs.Prelude.{◌≡◌, ◌<◌, ◌≤◌, ◌↔◌, ◌++◌, [], min, length, take, IfOk, MatchResult, IsErr, vec_len, vec_capacity};
 
 use crate::Failed;
 use field_core::NoMemory;

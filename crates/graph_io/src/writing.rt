@@ -1,5 +1,5 @@
 //! Sinks, and writing whole texts.
-ghost use Rattle.std.specs.Prelude.{◌≡◌, ℕ, ◌≤◌, ◌<◌, ◌^◌, List as Seq, length, IfOk};
+ghost use Rattle.std.specs.Prelude.{ℕ, ◌<◌, ◌^◌, List as Seq, length, IfOk};
 ghost use Rattle.std.specs.declared.option.Option.{Option};
 ghost use Rattle.std.specs.Io.{WritesAtMost};
 ghost use Rattle.std.specs.Io.KnownBytes.{WriteAppends};

@@ -1,5 +1,5 @@
-use Rattle.std.proofs.Common.{arith, take, drop, length, ◌≤◌, ◌-◌, ◌+◌, ◌≡◌, ℕ}
-use Rattle.std.proofs.lemmas.List.{length-drop, length-take}
+use Rattle.std.proofs.Common.{arith, drop, length, ◌≡◌, ℕ}
+use Rattle.std.proofs.lemmas.List.{length-take}
 use Rattle.graph_io.proofs.Pieces.{moved}
 use Rattle.graph_io.proofs.remaining.Remaining.move_into.Goals as goal
 

@@ -1,22 +1,22 @@
 //! Calls that fail by plan.
 ghost use Rattle.std.specs.Prelude.{◌≡◌, ◌↔◌, IsTrue, Contains};
-ghost use Rattle.graph_io.specs.Script.{call_number};
+ghost use Rattle.graph_io.specs.Plan.{call_number};
 
 use field_core::List;
 
 /// The numbers of the calls that are to fail, from 1, and how many calls were made.
 #[derive(Drop)]
-pub(crate) struct Script {
+pub(crate) struct Plan {
     fails: List<u64>,
     calls: u64,
 }
 
-impl Script {
-    pub(crate) fn new(fails: List<u64>) -> Script
+impl Plan {
+    pub(crate) fn new(fails: List<u64>) -> Plan
         ensures fails { result.fails ≡ fails }
         ensures calls { result.calls ≡ 0 }
     {
-        Script { fails, calls: 0 }
+        Plan { fails, calls: 0 }
     }
 
     /// Makes the next call, and says whether it is to fail.
