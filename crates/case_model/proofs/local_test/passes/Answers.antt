@@ -1,20 +1,9 @@
-use Rattle.std.proofs.Common.{◌≡◌, refl, sym, ap, ◌∙◌, not, true, false, Bool}
-use Rattle.std.specs.Bool.{IsTrue}
-use Rattle.std.specs.Ordering.{is_le}
-use Rattle.field_core.specs.Number.{Number}
+use Rattle.std.proofs.Common.{◌≡◌, refl, sym, ap, ◌∙◌, not, true, false}
 use Rattle.fraction.specs.View.{terms_of, number_of}
 use Rattle.case_model.specs.Draft.{at_most}
 use Rattle.case_model.specs.ClosedTest.{Passes}
 use Rattle.case_model.proofs.Thresholds.{good_level, below_threshold, above_threshold, positive_is, positive_in, positive_out}
 use Rattle.case_model.proofs.local_test.passes.Goals as goal
-
-is_true : (b : Bool) → IsTrue b → b ≡ true
-is_true true h = refl
-is_true false h = absurd h
-
-true_is : (b : Bool) → b ≡ true → IsTrue b
-true_is true h = tt
-true_is false h = absurd (cc)
 
 pub returns-then-is_positive : goal.returns-then-is_positive
 returns-then-is_positive c =
@@ -26,15 +15,15 @@ returns-then-is_positive c =
     (
       λ h. record {
         positive = positive_in _ (ap not (sym (positive_is w)) ∙ sym c.is_positive.ensures ∙ c.if-is_positive.true);
-        small = below_threshold p a t w c.threshold.ensures level.nonneg (sym c.at_most.ensures ∙ is_true _ h);
+        small = below_threshold p a t w c.threshold.ensures level.nonneg (sym c.at_most.ensures ∙ h);
       },
-      λ k. true_is _ (c.at_most.ensures ∙ above_threshold p a t w c.threshold.ensures level.nonneg level.nonzero k.small)
+      λ k. (c.at_most.ensures ∙ above_threshold p a t w c.threshold.ensures level.nonneg level.nonzero k.small)
     )
 
 pub returns-else-is_positive : goal.returns-else-is_positive
 returns-else-is_positive c =
     let w = number_of c.args.weight.now in
     (
-      λ h. let e : true ≡ false = sym (is_true _ h) ∙ c.if-is_positive.false in absurd (cc),
-      λ k. true_is _ (c.is_positive.ensures ∙ ap not (positive_is w) ∙ positive_out _ k.positive)
+      λ h. let e : true ≡ false = sym (h) ∙ c.if-is_positive.false in absurd (cc),
+      λ k. (c.is_positive.ensures ∙ ap not (positive_is w) ∙ positive_out _ k.positive)
     )
