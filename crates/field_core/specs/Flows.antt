@@ -16,7 +16,7 @@ module _ {K : Type 0} (F : OrderedField K) where
   into G k e = G.edge e k
 
   -- No less than what a walk solution would need, at each removed position.
-  pub record IsSuperSolution (m : ℕ) (G : Graph K) (I : ℕ → Bool) (k : ℕ) (h : ℕ → K) : Type 0 where
+  pub record IsSupersolution (m : ℕ) (G : Graph K) (I : ℕ → Bool) (k : ℕ) (h : ℕ → K) : Type 0 where
     pub nonneg : (r : ℕ) → r < m → 𝟘 ≼ h r
     pub above : (r : ℕ) → r < m → I r ≡ false → G.edge r k ⊕ dot F m (G.edge r) h ≼ h r
 

@@ -11,6 +11,7 @@ pub mod LimitParts
 pub mod LimitRatio
 pub mod Number
 pub mod NumberField
+pub mod Order
 pub mod Pairs
 pub mod Polynomial
 pub mod Removal

@@ -5,7 +5,7 @@ use Rattle.std.specs.declared.cmp.Ordering.TheVariants.{Less, Equal, Greater}
 use Rattle.field_core.specs.Number.{Number}
 use Rattle.field_core.specs.Arithmetic.{number_zero, number_one, ◌+ε◌, ◌-ε◌, ◌*ε◌, number_negate, number_invert, number_sign, number_compare}
 use Rattle.field_core.specs.Laws.NumberLaws.{number_add_assoc, number_add_comm, number_add_zero, number_add_negate, number_multiply_assoc, number_multiply_comm, number_multiply_one, number_distribute, number_multiply_invert, number_sign_zero, number_sign_one, number_sign_negate, number_sign_multiply}
-use Rattle.field_core.specs.Laws.Order.{◌<ε◌, number_laws, number_subtract_is, compare_less, compare_equal, lt_le, lt_of_lt_of_le}
+use Rattle.field_core.specs.Laws.Order.{◌≺ε◌, number_laws, number_subtract_is, compare_less, compare_equal, lt_le, lt_of_lt_of_le}
 use Rattle.field_core.specs.Laws.FieldRecord.{IsOrderedField}
 
 compare_same : (x : Number) → number_compare x x ≡ Equal
@@ -19,7 +19,7 @@ compare_swap : (x y : Number) → number_compare y x ≡ ordering_reverse (numbe
 unfolding number_compare
 compare_swap x y = ap number_sign (negate_difference x y) ∙ number_sign_negate (x -ε y)
 
-less_in : (x y : Number) → x <ε y → number_compare x y ≡ Less
+less_in : (x y : Number) → x ≺ε y → number_compare x y ≡ Less
 unfolding number_compare
 less_in x y h = compare_swap y x ∙ ap ordering_reverse h.below
 
@@ -40,7 +40,7 @@ compare_multiply : (x y z : Number) → number_compare number_zero z ≡ Less �
 unfolding number_compare
 compare_multiply x y z h = by_sign x y z (ap number_sign (zero_out z) ∙ below_of (compare_less number_zero z h))
   where
-    below_of : {x y : Number} → x <ε y → number_sign (y -ε x) ≡ Greater
+    below_of : {x y : Number} → x ≺ε y → number_sign (y -ε x) ≡ Greater
     below_of h = h.below
 
     by_sign : (x y z : Number) → number_sign z ≡ Greater → number_compare (x *ε z) (y *ε z) ≡ number_compare x y

@@ -20,7 +20,7 @@ use Rattle.field_core.specs.Pairs.{pair_sign, pair_one, pair_negate, pair_zero, 
 use Rattle.field_core.specs.Laws.Lift.{cross_equal, Number-set}
 use Rattle.field_core.specs.Arithmetic.{number_negate-pair}
 use Rattle.field_core.specs.Laws.Lift.{by_pair}
-use Rattle.field_core.specs.Laws.Order.{◌≤ε◌, ◌<ε◌, nonneg_in, nonneg_out, lt_le, combine_le, number_laws}
+use Rattle.field_core.specs.Laws.Order.{◌≼ε◌, ◌≺ε◌, nonneg_in, nonneg_out, lt_le, combine_le, number_laws}
 use Rattle.field_core.specs.Laws.NumberLaws.{number_sign_one}
 use Rattle.field_core.specs.Limit.{limit, limit-pair}
 use Rattle.field_core.specs.LimitRatio.{limit_ratio}
@@ -139,10 +139,10 @@ one_minus a =
     (same_in _ _ (simp (value-add, value-multiply, value-one, one_multiply ring, ring.multiply_one))))
     (lowest-same _ a.denominator (same_in _ _ (simp (value-multiply, value-one, one_multiply ring))))
 
-pub finite_between : (x : Number) → number_zero ≤ε x → x ≤ε number_one → IsFinite x
+pub finite_between : (x : Number) → number_zero ≼ε x → x ≼ε number_one → IsFinite x
 unfolding IsFinite Form number_one ◌+ε◌ ◌-ε◌ number_negate number_sign pair_sign
 finite_between =
-    by_pair (λ x. number_zero ≤ε x → x ≤ε number_one → IsFinite x) (λ x. Π_prop (λ h. Π_prop (λ g. ∥∥₁_prop)))
+    by_pair (λ x. number_zero ≼ε x → x ≼ε number_one → IsFinite x) (λ x. Π_prop (λ h. Π_prop (λ g. ∥∥₁_prop)))
     (λ a h g. ∣ form a.numerator a.denominator a.nonzero
     (λ s. nonneg_in (of_pair a) h (ap int_sign (lowest-multiply a.numerator a.denominator) ∙ s))
     (λ s. g.at_most (one_minus a ∙ s)) ∣₁)
@@ -176,7 +176,7 @@ first_sign n d h e (yes z) s = nothing (int_sign (coefficient n 0 *ℤ coefficie
     nothing s e g = cc
 first_sign n d h e (no g) s = e (ap₂ (λ x y. int_sign (x *ℤ y)) (lowest-first n g) (lowest-first d h) ∙ s)
 
-pair_limit_nonneg : (a : Pair) → HasLimit a → number_zero ≤ε of_pair a → number_zero ≤ε limit (of_pair a)
+pair_limit_nonneg : (a : Pair) → HasLimit a → number_zero ≼ε of_pair a → number_zero ≼ε limit (of_pair a)
 unfolding number_sign pair_sign
 pair_limit_nonneg a h g =
     rw (limit_at a h) (nonneg_out (fraction (coefficient a.numerator 0) (coefficient a.denominator 0))
@@ -185,17 +185,17 @@ pair_limit_nonneg a h g =
     (ℤ_discrete (coefficient a.numerator 0) (pos 0))
     (sym (fraction-sign (coefficient a.numerator 0) (coefficient a.denominator 0) h) ∙ s)))
 
-≤ε-prop : (x y : Number) → IsProp (x ≤ε y)
-≤ε-prop x y p q = λ i. record { at_most = λ e. ⊥-path (p.at_most e) (p.at_most e) (q.at_most e) i }
+≼ε-prop : (x y : Number) → IsProp (x ≼ε y)
+≼ε-prop x y p q = λ i. record { at_most = λ e. ⊥-path (p.at_most e) (p.at_most e) (q.at_most e) i }
   where
     ⊥-path : ⊥ → (x y : ⊥) → x ≡ y
     ⊥-path z = absurd z
 
-pub limit_nonneg : (x : Number) → IsFinite x → number_zero ≤ε x → number_zero ≤ε limit x
+pub limit_nonneg : (x : Number) → IsFinite x → number_zero ≼ε x → number_zero ≼ε limit x
 unfolding IsFinite
 limit_nonneg x h g =
-    ∥∥₁_elim h (≤ε-prop number_zero (limit x)) λ s.
-    subst (λ z. number_zero ≤ε limit z) s.1 (pair_limit_nonneg s.0 s.2 (subst (λ z. number_zero ≤ε z) (sym s.1) g))
+    ∥∥₁_elim h (≼ε-prop number_zero (limit x)) λ s.
+    subst (λ z. number_zero ≼ε limit z) s.1 (pair_limit_nonneg s.0 s.2 (subst (λ z. number_zero ≼ε z) (sym s.1) g))
 
 pair_limit_negate : (a : Pair) → HasLimit a → limit (number_negate (of_pair a)) ≡ number_negate (limit (of_pair a))
 unfolding pair_negate
@@ -213,16 +213,16 @@ pub IsFinite-negate : (x : Number) → IsFinite x → IsFinite (number_negate x)
 unfolding IsFinite pair_negate
 IsFinite-negate x h = ∥∥₁_elim h ∥∥₁_prop λ s. ∣ (pair_negate s.0, sym (number_negate-pair s.0) ∙ ap number_negate s.1, s.2) ∣₁
 
-zero_below_one : number_zero <ε number_one
+zero_below_one : number_zero ≺ε number_one
 zero_below_one = record { below = ap number_sign (simp number_laws) ∙ number_sign_one }
 
-at_most_of : (p q : Number) → number_zero ≤ε (q +ε number_negate p) → p ≤ε q
+at_most_of : (p q : Number) → number_zero ≼ε (q +ε number_negate p) → p ≼ε q
 at_most_of p q h = combine_le p q number_zero (q +ε number_negate p) number_one h (lt_le number_zero number_one zero_below_one) (simp number_laws)
 
 -- the limit keeps the order
-pub limit_le : (x y : Number) → IsFinite x → IsFinite y → x ≤ε y → limit x ≤ε limit y
+pub limit_le : (x y : Number) → IsFinite x → IsFinite y → x ≼ε y → limit x ≼ε limit y
 unfolding ◌-ε◌
 limit_le x y h g e =
-    let bound : number_zero ≤ε (y +ε number_negate x) = nonneg_out (y +ε number_negate x) e.at_most in
-    let rest : number_zero ≤ε limit (y +ε number_negate x) = limit_nonneg (y +ε number_negate x) (IsFinite-add y (number_negate x) g (IsFinite-negate x h)) bound in
-    at_most_of (limit x) (limit y) (subst (λ z. number_zero ≤ε z) (limit_add y (number_negate x) g (IsFinite-negate x h) ∙ ap (λ z. limit y +ε z) (limit_negate x h)) rest)
+    let bound : number_zero ≼ε (y +ε number_negate x) = nonneg_out (y +ε number_negate x) e.at_most in
+    let rest : number_zero ≼ε limit (y +ε number_negate x) = limit_nonneg (y +ε number_negate x) (IsFinite-add y (number_negate x) g (IsFinite-negate x h)) bound in
+    at_most_of (limit x) (limit y) (subst (λ z. number_zero ≼ε z) (limit_add y (number_negate x) g (IsFinite-negate x h) ∙ ap (λ z. limit y +ε z) (limit_negate x h)) rest)
