@@ -14,4 +14,5 @@ pub mod CrossProducts
 pub mod RemovalLaws
 pub mod Sized
 pub mod SumLaws
+pub mod UnitLimits
 pub mod Weights

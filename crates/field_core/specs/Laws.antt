@@ -2,7 +2,6 @@
 pub mod AtMostLaws
 pub mod Effective
 pub mod FieldLaws
-pub mod FieldRecord
 pub mod FractionLaws
 pub mod Integers
 pub mod InverseLaws
