@@ -14,5 +14,7 @@ pub mod CrossProducts
 pub mod RemovalLaws
 pub mod Sized
 pub mod SumLaws
+pub mod SetOrders
 pub mod UnitLimits
+pub mod WeightLaws
 pub mod Weights

@@ -6,6 +6,7 @@ pub mod Field
 pub mod Flows
 pub mod Fractions
 pub mod Graph
+pub mod GraphStatements
 pub mod IsOrderedField
 pub mod Kind
 pub mod Limit
@@ -25,4 +26,5 @@ pub mod Sums
 pub mod Terms
 pub mod View
 pub mod Walks
+pub mod WeightStatements
 pub mod Laws
