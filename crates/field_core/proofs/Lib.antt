@@ -6,10 +6,14 @@ pub mod Duality
 pub mod ExitSteps
 pub mod FieldLaws
 pub mod FlowSteps
+pub mod GateWeights
+pub mod HolmWeights
 pub mod IntegerRing
 pub mod AnyOrder
 pub mod Live
+pub mod OnlySolutions
 pub mod Orders
+pub mod PairWeights
 pub mod CrossProducts
 pub mod RemovalLaws
 pub mod Sized

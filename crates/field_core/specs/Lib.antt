@@ -2,6 +2,7 @@ pub mod Arithmetic
 pub mod Divisor
 pub mod Epsilon
 pub mod Exact
+pub mod Examples
 pub mod Field
 pub mod Flows
 pub mod Fractions
