@@ -19,6 +19,7 @@ pub mod RemovalLaws
 pub mod Sized
 pub mod SumLaws
 pub mod SetOrders
+pub mod SmallNumbers
 pub mod UnitLimits
 pub mod WeightLaws
 pub mod Weights
