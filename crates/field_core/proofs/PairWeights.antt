@@ -4,7 +4,7 @@ use Rattle.field_core.specs.Field.{OrderedField, AtMost}
 use Rattle.field_core.specs.Sums.{dot}
 use Rattle.field_core.specs.Graph.{Graph}
 use Rattle.field_core.specs.Walks.{IsWalkSolution, IsComponentWeight}
-use Rattle.field_core.specs.Examples.{set_of, entry, arrow_graph}
+use Rattle.field_core.specs.Examples.{set_of, entry, arrow_graph, pair_graph}
 use Rattle.field_core.proofs.FieldLaws.{ring}
 use Rattle.field_core.proofs.Orders.{zero_le_one, mul_cancel, by_eq, plus_eq, times_eq}
 use Rattle.field_core.proofs.OnlySolutions.{two, three, dot_two, dot_three, in_two, out_two, in_three, only_solution, zero_solution}
@@ -95,7 +95,7 @@ module _ {K : Type 0} (F : OrderedField K) where
   closed_row d = simp ring
 
   -- What the two keep to themselves doesn't arrive.
-  pub pair_keeps : (G : Graph K) (d : K) → IsPair G d 𝟘 → ((i : ℕ) → i < 3 → 𝟘 ≼ G.weight i) → IsComponentWeight F 3 G (set_of (2 ∷ [])) 2 (G.weight 2)
+  pair_keeps : (G : Graph K) (d : K) → IsPair G d 𝟘 → ((i : ℕ) → i < 3 → 𝟘 ≼ G.weight i) → IsComponentWeight F 3 G (set_of (2 ∷ [])) 2 (G.weight 2)
   pair_keeps G d E w =
       zero_solution F 3 G (set_of (2 ∷ [])) 2
       record {
@@ -104,3 +104,12 @@ module _ {K : Type 0} (F : OrderedField K) where
         solves = three _ (λ _. sym (first_of_pair G d 𝟘 E (λ _. 𝟘) refl ∙ closed_row d)) (λ _. sym (second_of_pair G d 𝟘 E (λ _. 𝟘) refl ∙ closed_row d)) (λ t. absurd (cc));
       }
       w
+
+  is_pair : (w1 w2 w3 d e : K) → IsPair (pair_graph F w1 w2 w3 d e) d e
+  is_pair w1 w2 w3 d e = record { own_first = refl; first_second = refl; first_third = refl; second_first = refl; own_second = refl; second_third = refl }
+
+  pub closed_pair_weight : (w1 w2 w3 : K) → 𝟘 ≼ w1 → 𝟘 ≼ w2 → 𝟘 ≼ w3 → IsComponentWeight F 3 (pair_graph F w1 w2 w3 𝟙 𝟘) (set_of (2 ∷ [])) 2 w3
+  closed_pair_weight w1 w2 w3 p q r = pair_keeps (pair_graph F w1 w2 w3 𝟙 𝟘) 𝟙 (is_pair w1 w2 w3 𝟙 𝟘) (three (λ i. 𝟘 ≼ entry F (w1 ∷ w2 ∷ w3 ∷ []) i) p q r)
+
+  pub open_pair_weight : (w1 w2 w3 d e : K) → e ⊕ d ≡ 𝟙 → (e ⊗ (𝟙 ⊕ d) ≡ 𝟘 → ⊥) → IsComponentWeight F 3 (pair_graph F w1 w2 w3 d e) (set_of (2 ∷ [])) 2 (w1 ⊕ w2 ⊕ w3)
+  open_pair_weight w1 w2 w3 d e p n = pair_weight (pair_graph F w1 w2 w3 d e) d e (is_pair w1 w2 w3 d e) p n

@@ -63,8 +63,11 @@ GatekeepingGivesHalves =
 abbrev pub GatekeepingGivesNothingBack : Type 0
 GatekeepingGivesNothingBack = IsComponentWeight number_field 4 (gatekeeping_graph number_field half) (set_of (1 ∷ [])) 1 half
 
--- In the improved graph it has 1, and so it has in the limit.
+-- In the improved graph it has 1: all comes back over the edges of epsilon.
 abbrev pub ImprovedGatekeepingGivesAllBack : Type 0
-ImprovedGatekeepingGivesAllBack =
-    IsComponentWeight number_field 4 (improved_gatekeeping_graph number_field half (number_one -ε epsilon) epsilon) (set_of (1 ∷ [])) 1 number_one
-    × (limit number_one ≡ number_one)
+ImprovedGatekeepingGivesAllBack = IsComponentWeight number_field 4 (improved_gatekeeping_graph number_field half (number_one -ε epsilon) epsilon) (set_of (1 ∷ [])) 1 number_one
+
+-- So it does in the limit.
+abbrev pub LimitOfImprovedGatekeepingIsAll : Type 0
+LimitOfImprovedGatekeepingIsAll =
+    (x : Number) → IsComponentWeight number_field 4 (improved_gatekeeping_graph number_field half (number_one -ε epsilon) epsilon) (set_of (1 ∷ [])) 1 x → limit x ≡ number_one

@@ -1,6 +1,6 @@
 //! Component weights of small graphs: facts that show what the definitions say.
 
-ghost use Rattle.field_core.specs.ExampleStatements.{WeightsStayWithoutEdges, ArrowPassesItsPart, ClosedPairKeepsItsWeight, OpenPairGivesAll, LimitOfOpenPairIsAll, HolmGivesHalves, HolmGivesOne, GatekeepingGivesHalves, GatekeepingGivesNothingBack, ImprovedGatekeepingGivesAllBack};
+ghost use Rattle.field_core.specs.ExampleStatements.{WeightsStayWithoutEdges, ArrowPassesItsPart, ClosedPairKeepsItsWeight, OpenPairGivesAll, LimitOfOpenPairIsAll, HolmGivesHalves, HolmGivesOne, GatekeepingGivesHalves, GatekeepingGivesNothingBack, ImprovedGatekeepingGivesAllBack, LimitOfImprovedGatekeepingIsAll};
 
 /// Without edges each hypothesis has its own weight, in each set.
 pub fn weights_stay_without_edges()
@@ -35,5 +35,6 @@ pub fn gatekeeping_with_four_hypotheses()
     ensures two { GatekeepingGivesHalves }
     ensures plain { GatekeepingGivesNothingBack }
     ensures improved { ImprovedGatekeepingGivesAllBack }
+    ensures limit { LimitOfImprovedGatekeepingIsAll }
 {
 }
