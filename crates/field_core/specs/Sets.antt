@@ -1,4 +1,4 @@
--- Sets of hypotheses, as intersections take them.
+-- Sets of hypotheses, one for each intersection hypothesis.
 use Rattle.std.specs.Prelude.{◌≡◌, ◌<◌, ℕ, Bool, true, not, ◌&&◌, ◌==◌}
 
 -- `l` is a member of a set. A set of positions is a test, of which only the values below `m` count.
