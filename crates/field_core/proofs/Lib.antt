@@ -21,5 +21,6 @@ pub mod SumLaws
 pub mod SetOrders
 pub mod SmallNumbers
 pub mod UnitLimits
+pub mod ValidExamples
 pub mod WeightLaws
 pub mod Weights

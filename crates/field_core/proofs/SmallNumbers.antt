@@ -34,6 +34,10 @@ half_positive = fraction-sign (pos 1) (pos 2) (suc_not_zero 1)
 pub half_at_least_zero : number_zero ≤ε half
 half_at_least_zero = positive-at_least_zero half half_positive
 
+pub third_at_least_zero : number_zero ≤ε third
+unfolding int_sign
+third_at_least_zero = positive-at_least_zero third (fraction-sign (pos 1) (pos 3) (suc_not_zero 2))
+
 pub half_escapes : ¬ (half *ε (number_one +ε half) ≡ number_zero)
 half_escapes = positive-nonzero _ (positive-product half (number_one +ε half) half_positive (positive-sum number_one half positive-one half_positive))
 
@@ -48,6 +52,12 @@ rest_positive = above (epsilon_below 0 0)
   where
     above : epsilon ≺ε fraction (pos 1) (pos 1) → IsPositive (number_one -ε epsilon)
     above h = ap (λ z. number_sign (z -ε epsilon)) one_is ∙ h.below
+
+pub epsilon_at_least_zero : number_zero ≤ε epsilon
+epsilon_at_least_zero = positive-at_least_zero epsilon epsilon_positive
+
+pub rest_at_least_zero : number_zero ≤ε (number_one -ε epsilon)
+rest_at_least_zero = positive-at_least_zero (number_one -ε epsilon) rest_positive
 
 epsilon_part : IsPositive (epsilon *ε (number_one +ε (number_one -ε epsilon)))
 epsilon_part = positive-product epsilon (number_one +ε (number_one -ε epsilon)) epsilon_positive (positive-sum number_one (number_one -ε epsilon) positive-one rest_positive)

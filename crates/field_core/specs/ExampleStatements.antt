@@ -7,6 +7,7 @@ use Rattle.field_core.specs.Fractions.{fraction}
 use Rattle.field_core.specs.Epsilon.{epsilon}
 use Rattle.field_core.specs.Limit.{limit}
 use Rattle.field_core.specs.NumberField.{number_field}
+use Rattle.field_core.specs.Graph.{IsValid}
 use Rattle.field_core.specs.Sets.{IsIn}
 use Rattle.field_core.specs.Walks.{IsComponentWeight}
 use Rattle.field_core.specs.Examples.{set_of, graph_without_edges, arrow_graph, pair_graph, holm_graph, gatekeeping_graph, improved_gatekeeping_graph}
@@ -18,6 +19,12 @@ half = fraction (pos 1) (pos 2)
 -- one third
 abbrev pub third : Number
 third = fraction (pos 1) (pos 3)
+
+-- Holm's graph and the improved gatekeeping graph are valid.
+abbrev pub ExampleGraphsAreValid : Type 0
+ExampleGraphsAreValid =
+    IsValid number_field 3 (holm_graph number_field third half)
+    × IsValid number_field 4 (improved_gatekeeping_graph number_field half (number_one -ε epsilon) epsilon)
 
 -- Without edges each hypothesis has its own weight, in each set.
 abbrev pub WeightsStayWithoutEdges : Type 0

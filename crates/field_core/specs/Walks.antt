@@ -1,5 +1,5 @@
--- The component weight of a hypothesis in a kept set, by walks through the hypotheses outside it (this project's reading of the update of Bretz, Maurer, Brannath and Posch 2009;
--- graphs that are combined as in the entangled graphs of Maurer and Bretz 2013 are their components).
+-- The component weight of a hypothesis in a kept set, by walks through the hypotheses outside it (this project's reading of the update of Bretz, Maurer, Brannath and Posch 2009).
+-- A component is one of the graphs that entangled graphs combine (Maurer and Bretz 2013); a single graph is its own component.
 use Rattle.std.specs.Prelude.{◌≡◌, ◌<◌, ℕ, Bool, true, false}
 use Rattle.field_core.specs.Field.{OrderedField, AtMost}
 use Rattle.field_core.specs.Sums.{dot}

@@ -1,6 +1,12 @@
 //! Component weights of small graphs: facts that show what the definitions say.
 
-ghost use Rattle.field_core.specs.ExampleStatements.{WeightsStayWithoutEdges, ArrowPassesItsPart, ClosedPairKeepsItsWeight, OpenPairGivesAll, LimitOfOpenPairIsAll, HolmGivesHalves, HolmGivesOne, GatekeepingGivesHalves, GatekeepingGivesNothingBack, ImprovedGatekeepingGivesAllBack, LimitOfImprovedGatekeepingIsAll};
+ghost use Rattle.field_core.specs.ExampleStatements.{ExampleGraphsAreValid, WeightsStayWithoutEdges, ArrowPassesItsPart, ClosedPairKeepsItsWeight, OpenPairGivesAll, LimitOfOpenPairIsAll, HolmGivesHalves, HolmGivesOne, GatekeepingGivesHalves, GatekeepingGivesNothingBack, ImprovedGatekeepingGivesAllBack, LimitOfImprovedGatekeepingIsAll};
+
+/// Usual graphs are valid, with epsilon and without.
+pub fn example_graphs_are_valid()
+    ensures { ExampleGraphsAreValid }
+{
+}
 
 /// Without edges each hypothesis has its own weight, in each set.
 pub fn weights_stay_without_edges()
