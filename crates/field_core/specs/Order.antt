@@ -1,4 +1,4 @@
--- The order of the numbers, as tests at a level take it.
+-- The order of the numbers, in which epsilon is above 0 and below each positive fraction (this project's rule).
 use Rattle.std.specs.Prelude.{◌≡◌}
 use Rattle.std.specs.declared.cmp.Ordering.TheVariants.{Greater}
 use Rattle.field_core.specs.Number.{Number}
@@ -6,7 +6,8 @@ use Rattle.field_core.specs.Arithmetic.{number_sign}
 use Rattle.field_core.specs.Field.{AtMost}
 use Rattle.field_core.specs.NumberField.{number_field}
 
-infix 5 ◌≤ε◌
+infix 50 ◌≤ε◌
+
 -- x is at most y
 abbrev pub ◌≤ε◌ : Number → Number → Type 0
 x ≤ε y = AtMost number_field x y
