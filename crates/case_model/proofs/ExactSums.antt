@@ -12,7 +12,7 @@ use Rattle.fraction.specs.Plain.{single, plain, IsFraction, zero_reduced}
 use Rattle.fraction.specs.Written.{written_add}
 use Rattle.fraction.specs.Laws.PlainLaws.{plain_is_exact}
 use Rattle.case_model.specs.Sums.{number, zero_terms, written_sum}
-use Rattle.case_model.proofs.FieldWords.{field_zero, field_add}
+use Rattle.field_core.specs.Laws.NumberFieldLaws.{field_zero, field_sum}
 
 bind_ok : {A B : Type 0} (r : Result A TooWide) (f : A → Result B TooWide) (y : B) → (r >>= f) ≡ Ok y → (x : A) × ((r ≡ Ok x) × (f x ≡ Ok y))
 bind_ok (Ok x) f y h = (x, (refl, h))
@@ -53,5 +53,5 @@ exact_sum (suc n) f s h e =
     let last = h n (omega arith) in
     record {
       reduced = add_reduced step.0 (f n) s before.reduced last step.1.1;
-      value = add_exact step.0 (f n) s before.reduced last step.1.1 ∙ ap (λ x. x +ε number (f n)) before.value ∙ sym (field_add _ _)
+      value = add_exact step.0 (f n) s before.reduced last step.1.1 ∙ ap (λ x. x +ε number (f n)) before.value ∙ sym (field_sum _ _)
     }

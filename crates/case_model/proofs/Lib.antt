@@ -2,7 +2,6 @@ pub mod CaseFacts
 pub mod Comparisons
 pub mod Constants
 pub mod ExactSums
-pub mod FieldWords
 pub mod ListTests
 pub mod SumSteps
 pub mod Thresholds

@@ -26,7 +26,7 @@ use Rattle.fraction.specs.Laws.PlainLaws.{plain_is_exact}
 use Rattle.case_model.specs.Sums.{number}
 use Rattle.case_model.specs.Draft.{at_most, is_p_value, is_level, is_within, is_unit}
 use Rattle.case_model.proofs.Comparisons.{at_most_terms, at_most_is}
-use Rattle.case_model.proofs.FieldWords.{field_zero, field_multiply}
+use Rattle.field_core.specs.Laws.NumberFieldLaws.{field_zero, field_product}
 use Rattle.case_model.proofs.Validity.{Both, both}
 use Rattle.case_model.proofs.ExactSums.{value_single, stored_single}
 
@@ -156,11 +156,11 @@ level_nonneg a k = elim (number_field.le_total number_field.𝟘 (number a)) [
 
 -- a threshold is at most a weight exactly where the p-value is at most weight times level
 pub below_threshold : (p a t w : Number) → t *ε a ≡ p → AtMost number_field number_field.𝟘 a → at_most t w ≡ true → at_most p (w *ε a) ≡ true
-below_threshold p a t w e n h = subst₂ (λ x y. at_most x y ≡ true) (field_multiply t a ∙ e) (field_multiply w a) (mul_le_right number_field t w a n h)
+below_threshold p a t w e n h = subst₂ (λ x y. at_most x y ≡ true) (field_product t a ∙ e) (field_product w a) (mul_le_right number_field t w a n h)
 
 pub above_threshold : (p a t w : Number) → t *ε a ≡ p → AtMost number_field number_field.𝟘 a → ¬ (a ≡ number_field.𝟘) → at_most p (w *ε a) ≡ true → at_most t w ≡ true
 above_threshold p a t w e n some h =
-    let turned : (x : Number) → number_field.◌⊗◌ a x ≡ x *ε a = λ x. number_field.mul_comm a x ∙ field_multiply x a in
+    let turned : (x : Number) → number_field.◌⊗◌ a x ≡ x *ε a = λ x. number_field.mul_comm a x ∙ field_product x a in
     mul_le_cancel number_field a t w n some (subst₂ (λ x y. at_most x y ≡ true) (sym (turned t ∙ e)) (sym (turned w)) h)
 
 pub record IsGoodLevel (a : Terms) : Type 0 where

@@ -10,7 +10,7 @@ use Rattle.case_model.specs.IntersectionWeight.{IsIntersectionWeight}
 -- a p-value passes at a weight and a level where the weight is above 0 and the p-value at most weight times level
 pub record Passes (p weight level : Number) : Type 0 where
   pub positive : IsPositive weight
-  pub small : p ≤ε weight *ε level
+  pub small : p ≤ε (weight *ε level)
 
 -- the set of one hypothesis
 abbrev pub only : ℕ → ℕ → Bool
