@@ -1,7 +1,6 @@
 use Rattle.field_core.specs.NumberField.{number_field}
 use Rattle.field_core.specs.Laws.NumberLaws.{number_ring, number_signed_field}
 use Rattle.field_core.specs.Laws.SignedField.{field_of}
-use Rattle.field_core.specs.LimitParts.{IsUnit}
 use Rattle.field_core.proofs.UnitLimits.{limit_order}
 use Rattle.field_core.proofs.WeightLaws.{weight_monotone, weight_low, weight_high}
 use Rattle.field_core.specs.Sets.{IsIn}
