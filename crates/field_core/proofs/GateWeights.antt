@@ -3,7 +3,7 @@ use Rattle.std.proofs.Common.{◌≡◌, refl, sym, ap, ap₂, ◌∙◌, ℕ, �
 use Rattle.field_core.specs.Field.{OrderedField, AtMost}
 use Rattle.field_core.specs.Sums.{dot}
 use Rattle.field_core.specs.Graph.{Graph}
-use Rattle.field_core.specs.Walks.{IsWalkSolution, IsComponentWeight}
+use Rattle.field_core.specs.Walks.{IsComponentWeight}
 use Rattle.field_core.specs.Examples.{set_of, entry, gatekeeping_graph, improved_gatekeeping_graph}
 use Rattle.field_core.proofs.FieldLaws.{ring}
 use Rattle.field_core.proofs.Orders.{zero_le_one, mul_cancel, by_eq, plus_eq, times_eq}
@@ -101,9 +101,9 @@ module _ {K : Type 0} (F : OrderedField K) where
       }
       (in_four F 𝟘 half (entry F (half ∷ half ∷ 𝟘 ∷ 𝟘 ∷ [])) (entry F (𝟙 ∷ 𝟘 ∷ 𝟙 ∷ [])) (secondary_value half))
       (λ h' S.
-        let z : h' 3 ≡ 𝟘 = S.elsewhere 3 (omega arith) refl in
-        let y : h' 2 ≡ 𝟙 = S.solves 2 (omega arith) refl ∙ third h' z in
-        four (λ r. entry F (𝟙 ∷ 𝟘 ∷ 𝟙 ∷ []) r ≡ h' r) (sym (S.solves 0 (omega arith) refl ∙ first h' y z)) (sym (S.elsewhere 1 (omega arith) refl)) (sym y) (sym z))
+      let z : h' 3 ≡ 𝟘 = S.elsewhere 3 (omega arith) refl in
+      let y : h' 2 ≡ 𝟙 = S.solves 2 (omega arith) refl ∙ third h' z in
+      four (λ r. entry F (𝟙 ∷ 𝟘 ∷ 𝟙 ∷ []) r ≡ h' r) (sym (S.solves 0 (omega arith) refl ∙ first h' y z)) (sym (S.elsewhere 1 (omega arith) refl)) (sym y) (sym z))
     where
       first : (h : ℕ → K) → h 2 ≡ 𝟙 → h 3 ≡ 𝟘 → (gatekeeping_graph F half).edge 0 3 ⊕ dot F 4 ((gatekeeping_graph F half).edge 0) h ≡ 𝟙
       first h y z = from_first (gatekeeping_graph F half) half 𝟙 𝟘 (gate_of half) 3 h ∙ first_arrives half (h 2) (h 3) p y z
@@ -143,14 +143,14 @@ module _ {K : Type 0} (F : OrderedField K) where
       }
       (in_four F half 𝟙 (entry F (half ∷ half ∷ 𝟘 ∷ 𝟘 ∷ [])) (entry F (𝟙 ∷ 𝟘 ∷ 𝟙 ∷ 𝟙 ∷ [])) (sym T ∙ improved_value half))
       (λ h' S.
-        let o : h' 1 ≡ 𝟘 = S.elsewhere 1 (omega arith) refl in
-        let x : h' 0 ≡ 𝟘 ⊕ (half ⊗ h' 2 ⊕ half ⊗ h' 3) = S.solves 0 (omega arith) refl ∙ first h' in
-        let y : h' 2 ≡ 𝟘 ⊕ (e ⊗ h' 0 ⊕ d ⊗ h' 3) = S.solves 2 (omega arith) refl ∙ third h' in
-        let z : h' 3 ≡ e ⊕ d ⊗ h' 2 = S.solves 3 (omega arith) refl ∙ fourth h' o in
-        let b : h' 2 ≡ 𝟙 = mul_cancel F (half ⊗ (e ⊗ (𝟙 ⊕ d))) (h' 2) 𝟙 n (improved_algebra half d e (h' 0) (h' 2) (h' 3) T P x y z) in
-        let c : h' 3 ≡ 𝟙 = z ∙ ap (λ v. e ⊕ d ⊗ v) b ∙ sym (all_back d e P) in
-        let a : h' 0 ≡ 𝟙 = x ∙ ap₂ (λ v w. 𝟘 ⊕ (half ⊗ v ⊕ half ⊗ w)) b c ∙ sym (all_rows half half T) in
-        four (λ r. entry F (𝟙 ∷ 𝟘 ∷ 𝟙 ∷ 𝟙 ∷ []) r ≡ h' r) (sym a) (sym o) (sym b) (sym c))
+      let o : h' 1 ≡ 𝟘 = S.elsewhere 1 (omega arith) refl in
+      let x : h' 0 ≡ 𝟘 ⊕ (half ⊗ h' 2 ⊕ half ⊗ h' 3) = S.solves 0 (omega arith) refl ∙ first h' in
+      let y : h' 2 ≡ 𝟘 ⊕ (e ⊗ h' 0 ⊕ d ⊗ h' 3) = S.solves 2 (omega arith) refl ∙ third h' in
+      let z : h' 3 ≡ e ⊕ d ⊗ h' 2 = S.solves 3 (omega arith) refl ∙ fourth h' o in
+      let b : h' 2 ≡ 𝟙 = mul_cancel F (half ⊗ (e ⊗ (𝟙 ⊕ d))) (h' 2) 𝟙 n (improved_algebra half d e (h' 0) (h' 2) (h' 3) T P x y z) in
+      let c : h' 3 ≡ 𝟙 = z ∙ ap (λ v. e ⊕ d ⊗ v) b ∙ sym (all_back d e P) in
+      let a : h' 0 ≡ 𝟙 = x ∙ ap₂ (λ v w. 𝟘 ⊕ (half ⊗ v ⊕ half ⊗ w)) b c ∙ sym (all_rows half half T) in
+      four (λ r. entry F (𝟙 ∷ 𝟘 ∷ 𝟙 ∷ 𝟙 ∷ []) r ≡ h' r) (sym a) (sym o) (sym b) (sym c))
     where
       first : (h : ℕ → K) → (improved_gatekeeping_graph F half d e).edge 0 1 ⊕ dot F 4 ((improved_gatekeeping_graph F half d e).edge 0) h ≡ 𝟘 ⊕ (half ⊗ h 2 ⊕ half ⊗ h 3)
       first h = from_first (improved_gatekeeping_graph F half d e) half d e (improved_of half d e) 1 h

@@ -11,6 +11,7 @@ pub mod HolmWeights
 pub mod IntegerRing
 pub mod AnyOrder
 pub mod Live
+pub mod NumberWeights
 pub mod OnlySolutions
 pub mod Orders
 pub mod PairWeights

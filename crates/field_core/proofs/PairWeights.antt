@@ -7,7 +7,7 @@ use Rattle.field_core.specs.Walks.{IsWalkSolution, IsComponentWeight}
 use Rattle.field_core.specs.Examples.{set_of, entry, arrow_graph, pair_graph}
 use Rattle.field_core.proofs.FieldLaws.{ring}
 use Rattle.field_core.proofs.Orders.{zero_le_one, mul_cancel, by_eq, plus_eq, times_eq}
-use Rattle.field_core.proofs.OnlySolutions.{two, three, dot_two, dot_three, in_two, out_two, in_three, only_solution, zero_solution}
+use Rattle.field_core.proofs.OnlySolutions.{two, three, dot_three, in_two, out_two, in_three, only_solution, zero_solution}
 
 module _ {K : Type 0} (F : OrderedField K) where
   open F use {𝟘, 𝟙, ◌⊕◌, ◌⊗◌}

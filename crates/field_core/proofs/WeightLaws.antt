@@ -1,13 +1,13 @@
 -- Runs of removals and component weights, as their laws state them.
-use Rattle.std.proofs.Common.{◌≡◌, ◌⊎◌, inl, inr, refl, sym, ◌∙◌, ap, subst, subst₂, ℕ, ◌<◌, Bool, true, false, cond, List}
+use Rattle.std.proofs.Common.{◌≡◌, inl, inr, sym, ◌∙◌, subst₂, ℕ, ◌<◌, Bool, true, false, cond, List}
 use Rattle.field_core.specs.Field.{OrderedField, AtMost}
 use Rattle.field_core.specs.Sums.{sum_below, dot}
 use Rattle.field_core.specs.Graph.{Graph, IsValid}
-use Rattle.field_core.specs.Removal.{left_over, without}
+use Rattle.field_core.specs.Removal.{without}
 use Rattle.field_core.specs.Sets.{IsIn, IsSubset, HaveSameMembers, whole}
 use Rattle.field_core.specs.Flows.{into, IsFlow, IsSupersolution}
 use Rattle.field_core.specs.Walks.{IsWalkSolution, IsComponentWeight}
-use Rattle.field_core.specs.Runs.{Flows, Exits, Reached, through, IsOrder, left_after, after, weight_in}
+use Rattle.field_core.specs.Runs.{Flows, Exits, Reached, IsOrder, left_after, after, weight_in}
 use Rattle.field_core.proofs.FieldLaws.{mul_one}
 use Rattle.field_core.proofs.Orders.{add_le, le_eq, eq_le}
 use Rattle.field_core.proofs.SumLaws.{sum_congr}

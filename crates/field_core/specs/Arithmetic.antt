@@ -81,7 +81,7 @@ number_sign-pair a = refl
 unfoldable pub ◌-ε◌ : Number → Number → Number
 x -ε y = x +ε number_negate y
 
--- the quotient of two numbers, and 0 over 0
+-- the quotient of two numbers; what is divided by 0 is 0
 unfoldable pub ◌/ε◌ : Number → Number → Number
 x /ε y = x *ε number_invert y
 

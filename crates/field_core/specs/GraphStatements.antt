@@ -1,5 +1,5 @@
 -- The laws of graphs and of removals, as contracts name them.
-use Rattle.std.specs.Prelude.{◌≡◌, ◌⊎◌, ◌<◌, ℕ, Bool, true, false, List}
+use Rattle.std.specs.Prelude.{◌≡◌, ◌⊎◌, ◌<◌, ℕ, Bool, true, List}
 use Rattle.field_core.specs.Number.{Number}
 use Rattle.field_core.specs.Arithmetic.{number_zero, number_one, ◌+ε◌}
 use Rattle.field_core.specs.Order.{◌≤ε◌}

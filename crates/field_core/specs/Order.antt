@@ -7,7 +7,6 @@ use Rattle.field_core.specs.Field.{AtMost}
 use Rattle.field_core.specs.NumberField.{number_field}
 
 infix 50 ◌≤ε◌
-
 -- x is at most y
 abbrev pub ◌≤ε◌ : Number → Number → Type 0
 x ≤ε y = AtMost number_field x y

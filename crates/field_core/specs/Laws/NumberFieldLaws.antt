@@ -1,5 +1,5 @@
 -- The operations of the ordered field of numbers are those of the numbers, and its order is told by the sign of a difference.
-use Rattle.std.proofs.Common.{◌≡◌, refl, sym, ◌∙◌, ap, subst, true}
+use Rattle.std.proofs.Common.{◌≡◌, refl, sym, ◌∙◌, true}
 use Rattle.std.specs.declared.cmp.Ordering.{Ordering}
 use Rattle.std.specs.declared.cmp.Ordering.TheVariants.{Less, Equal, Greater}
 use Rattle.field_core.specs.Number.{Number}
