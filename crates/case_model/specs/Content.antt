@@ -2,7 +2,9 @@
 use Rattle.std.specs.Prelude.{ℕ, List, Some, map, length}
 use Rattle.field_core.specs.Terms.{Terms}
 use Rattle.field_core.specs.Number.{Number}
-use Rattle.field_core.specs.Arithmetic.{number_zero, number_one}
+use Rattle.field_core.specs.Arithmetic.{number_one}
+use Rattle.field_core.specs.NumberField.{number_field}
+use Rattle.field_core.specs.Examples.{graph_without_edges}
 use Rattle.case_model.specs.Sums.{number, number_at}
 use Rattle.case_model.specs.Draft.{DraftContent}
 use Rattle.case_model.specs.EntangledGraph.{EntangledGraph}
@@ -25,7 +27,7 @@ entangled c = record {
   hypotheses = length c.names;
   components = 1;
   share = λ _. number_one;
-  graph = λ _. record { weight = number_at c.weights; edge = λ _ _. number_zero };
+  graph = λ _. graph_without_edges number_field (number_at c.weights);
 }
 
 -- the closed test at the level of the case rejects the hypothesis at this position
