@@ -7,3 +7,5 @@ pub mod SumSteps
 pub mod Thresholds
 pub mod Totals
 pub mod Validity
+pub mod IntersectionLaws
+pub mod IntersectionTotals

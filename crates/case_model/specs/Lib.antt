@@ -5,3 +5,4 @@ pub mod Draft
 pub mod ClosedTest
 pub mod EntangledGraph
 pub mod IntersectionWeight
+pub mod IntersectionStatements
