@@ -9,3 +9,8 @@ pub mod Totals
 pub mod Validity
 pub mod IntersectionLaws
 pub mod IntersectionTotals
+pub mod RejectionOrders
+pub mod Consonance
+pub mod ClosedTestLaws
+pub mod PriorityOrders
+pub mod OrderExistence

@@ -6,3 +6,5 @@ pub mod ClosedTest
 pub mod EntangledGraph
 pub mod IntersectionWeight
 pub mod IntersectionStatements
+pub mod LegalOrder
+pub mod ClosedTestStatements
