@@ -14,3 +14,5 @@ pub mod Consonance
 pub mod ClosedTestLaws
 pub mod PriorityOrders
 pub mod OrderExistence
+pub mod ExampleTests
+pub mod ExampleOrders

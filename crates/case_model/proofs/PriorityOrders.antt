@@ -22,7 +22,7 @@ use Rattle.case_model.proofs.RejectionOrders.{compared, below_or_not, at_or_belo
 
 -- ---- ratios
 
-divided : (x u : Number) → IsPositive u → u *ε (x /ε u) ≡ x
+pub divided : (x u : Number) → IsPositive u → u *ε (x /ε u) ≡ x
 divided x u h = number_multiply_comm u (x /ε u) ∙ divide_multiply x u (positive-nonzero u h)
 
 cancelled : (u x y : Number) → IsPositive u → (u *ε x) ≤ε (u *ε y) → x ≤ε y
@@ -35,6 +35,9 @@ ratio_at_most x u a h k = cancelled u (x /ε u) a h (subst (λ z. z ≤ε (u *ε
 
 pub at_most_ratio : (x u a : Number) → IsPositive u → (x /ε u) ≤ε a → x ≤ε (u *ε a)
 at_most_ratio x u a h k = subst (λ z. z ≤ε (u *ε a)) (divided x u h) (at_most_multiply_left (x /ε u) a u (positive-at_least_zero u h) k)
+
+pub divided_order : (x y u : Number) → IsPositive u → x ≤ε y → (x /ε u) ≤ε (y /ε u)
+divided_order x y u h k = ratio_at_most x u (y /ε u) h (subst (λ z. x ≤ε z) (sym (divided y u h)) k)
 
 module _ (E : EntangledGraph) (p : ℕ → Number) (I : ℕ → Bool) where
   pub ratio_unique : (k : ℕ) (q r : Number) → IsRatio E p I k q → IsRatio E p I k r → q ≡ r

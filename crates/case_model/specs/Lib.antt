@@ -8,3 +8,4 @@ pub mod IntersectionWeight
 pub mod IntersectionStatements
 pub mod LegalOrder
 pub mod ClosedTestStatements
+pub mod ClosedTestExamples

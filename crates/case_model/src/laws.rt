@@ -1,6 +1,7 @@
 //! Laws of entangled graphs and of the closed test. Each function states laws that hold of all valid entangled graphs,
 //! and does nothing.
 
+ghost use Rattle.case_model.specs.ClosedTestExamples.{HalvesAreValid, OnlyFirstHalfIsRejected, BothLinkedHalvesAreRejected, WeightZeroRejectsNothing, AlikeAreTakenByPosition, LeastRatioIsTakenFirst};
 ghost use Rattle.case_model.specs.ClosedTestStatements.{SetsAreRejectedByTheirSupersets, HypothesesAreRejectedByTheirSets, RejectionsStayAtGreaterLevels, LegalOrdersAreRejected, CompleteListsHaveAllRejected, CompleteOrdersDecide, CompleteOrdersAgree, FirstOrdersAreComplete, LastOrdersAreComplete, RatioOrdersAreComplete, FirstOrdersExist, LastOrdersExist, RatioOrdersExist, FirstOrdersAreUnique, LastOrdersAreUnique, RatioOrdersAreUnique};
 ghost use Rattle.case_model.specs.IntersectionStatements.{IntersectionWeightsExist, IntersectionWeightsAreUnique, IntersectionWeightsAreUnit, IntersectionWeightsSumToOne, IntersectionWeightsAreLeftByRemovals, IntersectionWeightsAreMonotone};
 
@@ -60,4 +61,18 @@ pub fn priority_orders_exist()
     ensures one_first { FirstOrdersAreUnique }
     ensures one_last { LastOrdersAreUnique }
     ensures one_ratio { RatioOrdersAreUnique }
+{}
+
+/// What the closed test rejects of one or two hypotheses: facts that show what the definitions say.
+pub fn small_closed_tests()
+    ensures valid { HalvesAreValid }
+    ensures apart { OnlyFirstHalfIsRejected }
+    ensures linked { BothLinkedHalvesAreRejected }
+    ensures weight_zero { WeightZeroRejectsNothing }
+{}
+
+/// The orders of the three priorities of two hypotheses.
+pub fn orders_of_two_hypotheses()
+    ensures alike { AlikeAreTakenByPosition }
+    ensures ratio { LeastRatioIsTakenFirst }
 {}
