@@ -5,13 +5,13 @@ use Rattle.field_core.specs.Number.{Number}
 use Rattle.field_core.specs.Arithmetic.{number_zero, ◌*ε◌}
 use Rattle.field_core.specs.Order.{◌≤ε◌, IsPositive}
 use Rattle.field_core.specs.LimitParts.{IsUnit}
-use Rattle.field_core.specs.Sets.{IsIn, IsSubset, whole}
+use Rattle.field_core.specs.Sets.{IsIn, IsSubset, HaveSameMembers, whole}
 use Rattle.field_core.specs.Laws.AtMostLaws.{at_most_trans, at_most_multiply, at_most_multiply_left, positive-at_least, positive-at_least_zero}
 use Rattle.case_model.specs.EntangledGraph.{EntangledGraph, IsValidEntangled}
 use Rattle.case_model.specs.IntersectionWeight.{IsIntersectionWeight}
 use Rattle.case_model.specs.ClosedTest.{Passes, only, IsLegal, IsLocallyRejected, IsClosedRejected, IsRejected}
 use Rattle.case_model.specs.LegalOrder.{IsListed, IsLegalOrder, IsComplete}
-use Rattle.case_model.proofs.IntersectionLaws.{intersection_unique, intersection_exists, intersection_monotone}
+use Rattle.case_model.proofs.IntersectionLaws.{intersection_unique, intersection_same, intersection_exists, intersection_monotone}
 use Rattle.case_model.proofs.RejectionOrders.{listed_in}
 use Rattle.case_model.proofs.Consonance.{IsConsonant, listed_rejects, all_listed}
 
@@ -54,6 +54,14 @@ module _ (E : EntangledGraph) (p : ℕ → Number) (level : Number) where
   pub rejected_below : (j : ℕ) → IsRejected E p level j → j < E.hypotheses
   rejected_below j r = subst (λ i. i < E.hypotheses) (in_only j r.some r.member.member) r.member.below
 
+  -- what holds a rejected set is rejected
+  pub closed_larger : (S T : ℕ → Bool) → IsSubset E.hypotheses S T → IsClosedRejected E p level S → IsClosedRejected E p level T
+  closed_larger S T sub r = record {
+    some = r.some;
+    member = record { below = r.member.below; member = sub r.some r.member.below r.member.member };
+    each = λ I above. r.each I (λ i q e. above i q (sub i q e));
+  }
+
   -- ---- legal hypotheses
 
   pub legal_passes : (I : ℕ → Bool) (k : ℕ) (u : Number) → IsLegal E p level I k → IsIntersectionWeight E I k u → Passes (p k) u level
@@ -61,6 +69,14 @@ module _ (E : EntangledGraph) (p : ℕ → Number) (level : Number) where
 
   pub passes_legal : (I : ℕ → Bool) (k : ℕ) (u : Number) → IsIn E.hypotheses I k → IsIntersectionWeight E I k u → Passes (p k) u level → IsLegal E p level I k
   passes_legal I k u q U h = record { member = q; weight = u; is_weight = U; passes = h }
+
+  -- only the members of a set count
+  pub legal_same : (I J : ℕ → Bool) (k : ℕ) → HaveSameMembers E.hypotheses I J → IsLegal E p level I k → IsLegal E p level J k
+  legal_same I J k same h =
+      passes_legal J k h.weight (record { below = h.member.below; member = sym (same k h.member.below) ∙ h.member.member }) (intersection_same E I J k h.weight same h.is_weight) h.passes
+
+  pub locally_same : (I J : ℕ → Bool) → HaveSameMembers E.hypotheses I J → IsLocallyRejected E p level I → IsLocallyRejected E p level J
+  locally_same I J same r = record { hypothesis = r.hypothesis; legal = legal_same I J r.hypothesis same r.legal }
 
   pub legal_smaller : IsValidEntangled E → number_zero ≤ε level → (I J : ℕ → Bool) (k : ℕ) → IsSubset E.hypotheses J I → IsIn E.hypotheses J k → IsLegal E p level I k → IsLegal E p level J k
   legal_smaller V n I J k sub q h =

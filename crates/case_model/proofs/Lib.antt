@@ -16,3 +16,4 @@ pub mod PriorityOrders
 pub mod OrderExistence
 pub mod ExampleTests
 pub mod ExampleOrders
+pub mod LegalSteps
