@@ -1,10 +1,9 @@
 -- The closed test and legal orders of valid entangled graphs.
-use Rattle.std.proofs.Common.{◌≡◌, inl, inr, refl, sym, ap, ◌∙◌, subst, ℕ, ◌<◌, ◌==◌, arith, Bool, true, false, List, ◌↔◌}
+use Rattle.std.proofs.Common.{◌≡◌, refl, sym, ap, ◌∙◌, subst, ℕ, ◌<◌, arith, Bool, true, List, ◌↔◌}
 use Rattle.std.proofs.lemmas.Bool.Decides.{nat_tests}
 use Rattle.field_core.specs.Number.{Number}
-use Rattle.field_core.specs.Arithmetic.{number_zero, ◌*ε◌}
-use Rattle.field_core.specs.Order.{◌≤ε◌, IsPositive}
-use Rattle.field_core.specs.LimitParts.{IsUnit}
+use Rattle.field_core.specs.Arithmetic.{number_zero}
+use Rattle.field_core.specs.Order.{◌≤ε◌}
 use Rattle.field_core.specs.Sets.{IsIn, IsSubset, HaveSameMembers, whole}
 use Rattle.field_core.specs.Laws.AtMostLaws.{at_most_trans, at_most_multiply, at_most_multiply_left, positive-at_least, positive-at_least_zero}
 use Rattle.case_model.specs.EntangledGraph.{EntangledGraph, IsValidEntangled}

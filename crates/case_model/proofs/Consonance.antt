@@ -1,8 +1,7 @@
 -- Legal orders and the closed test, for any rule that allows members alone and what it allows in a set also in each smaller one: whatever passes at a weight and still passes at a greater one.
-use Rattle.std.proofs.Common.{◌≡◌, inl, inr, refl, sym, ap, ◌∙◌, ℕ, ◌<◌, Bool, true, false, List, [], ◌∷◌}
+use Rattle.std.proofs.Common.{◌≡◌, inl, inr, refl, sym, ap, ◌∙◌, ℕ, ◌<◌, Bool, false, List, [], ◌∷◌}
 use Rattle.field_core.specs.Sets.{IsIn, IsSubset, HaveSameMembers, dropping, whole}
 use Rattle.field_core.specs.Runs.{left_after}
-use Rattle.field_core.specs.Examples.{set_of}
 use Rattle.field_core.proofs.Live.{dropping_other, true_or_false, true_not_false}
 use Rattle.case_model.specs.LegalOrder.{IsListed, IsOrderBy, IsCompleteBy}
 use Rattle.case_model.proofs.RejectionOrders.{here_or_later, listed_or_not, not_listed_left}

@@ -1,13 +1,11 @@
 -- Orders of two hypotheses that are both legal.
-use Rattle.std.proofs.Common.{◌≡◌, ◌≢◌, ◌⊎◌, inl, inr, refl, sym, ap, ap₂, ◌∙◌, subst, subst₂, ℕ, zero, suc, ◌<◌, arith, Bool, true, false, [], ◌∷◌, pos}
-use Rattle.std.proofs.lemmas.Bool.Decides.{nat_tests}
+use Rattle.std.proofs.Common.{◌≡◌, ◌≢◌, ◌⊎◌, inl, inr, refl, sym, ap, ◌∙◌, subst, ℕ, ◌<◌, arith, Bool, [], ◌∷◌, pos}
 use Rattle.std.proofs.lemmas.Int.{ints}
 use Rattle.field_core.specs.Number.{Number}
-use Rattle.field_core.specs.Arithmetic.{◌*ε◌, ◌/ε◌, number_compare}
-use Rattle.field_core.specs.Order.{◌≤ε◌, IsPositive}
+use Rattle.field_core.specs.Arithmetic.{◌*ε◌, ◌/ε◌}
+use Rattle.field_core.specs.Order.{◌≤ε◌}
 use Rattle.field_core.specs.Fractions.{fraction}
 use Rattle.field_core.specs.Sets.{IsIn, dropping, whole}
-use Rattle.field_core.specs.Examples.{entry}
 use Rattle.field_core.specs.ExampleStatements.{half}
 use Rattle.field_core.specs.Laws.AtMostLaws.{at_most_refl, at_most_equal, at_most_less, at_most-compare}
 use Rattle.field_core.specs.Laws.Effective.{fraction-compare}
@@ -42,8 +40,11 @@ module _ (p : ℕ → Number) (passing : (k : ℕ) → k < 2 → Passes (p k) ha
   first_then_second = record {
     order = (
       record { allowed = legal whole 0 (in_whole 0 (omega arith)); least = λ k h. absurd (omega arith) },
-      (record { allowed = legal (dropping 0 whole) 1 (still_in 0 1 (omega arith) (omega arith)); least = λ k h r. live_other 0 whole r.member (omega arith) },
-      tt));
+      (
+        record { allowed = legal (dropping 0 whole) 1 (still_in 0 1 (omega arith) (omega arith)); least = λ k h r. live_other 0 whole r.member (omega arith) },
+        tt,
+      ),
+    );
     complete = λ k l. none_left 0 1 k (omega arith) (omega arith) (omega arith) l.allowed.member;
   }
 
@@ -51,8 +52,11 @@ module _ (p : ℕ → Number) (passing : (k : ℕ) → k < 2 → Passes (p k) ha
   second_then_first = record {
     order = (
       record { allowed = legal whole 1 (in_whole 1 (omega arith)); greatest = λ k h l. let b : k < 2 = l.member.below in absurd (omega arith) },
-      (record { allowed = legal (dropping 1 whole) 0 (still_in 1 0 (omega arith) (omega arith)); greatest = λ k h l. let e : k ≡ 0 = other_left 1 0 k (omega arith) (omega arith) (omega arith) l.member in absurd (omega arith) },
-      tt));
+      (
+        record { allowed = legal (dropping 1 whole) 0 (still_in 1 0 (omega arith) (omega arith)); greatest = λ k h l. let e : k ≡ 0 = other_left 1 0 k (omega arith) (omega arith) (omega arith) l.member in absurd (omega arith) },
+        tt,
+      ),
+    );
     complete = λ k l. none_left 1 0 k (omega arith) (omega arith) (omega arith) l.allowed.member;
   }
 
@@ -119,12 +123,14 @@ pub alike_by_position : AlikeAreTakenByPosition
 alike_by_position = (
   first_then_second (λ _. fortieth) (λ _ _. fortieth_passes),
   second_then_first (λ _. fortieth) (λ _ _. fortieth_passes),
-  ratio_then_other (λ _. fortieth) (λ _ _. fortieth_passes) 0 1 (omega arith) (omega arith) (omega arith) (at_most_refl fortieth) (λ h. absurd (omega arith)))
+  ratio_then_other (λ _. fortieth) (λ _ _. fortieth_passes) 0 1 (omega arith) (omega arith) (omega arith) (at_most_refl fortieth) (λ h. absurd (omega arith)),
+)
 
 pub least_ratio_first : LeastRatioIsTakenFirst
 least_ratio_first = (
   ratio_then_other falling passing 1 0 (omega arith) (omega arith) (omega arith) fiftieth_below (λ h. fortieth_above),
-  first_then_second falling passing)
+  first_then_second falling passing,
+)
   where
     passing : (k : ℕ) → k < 2 → Passes (falling k) half twentieth
     passing = two (λ k. Passes (falling k) half twentieth) fortieth_passes fiftieth_passes

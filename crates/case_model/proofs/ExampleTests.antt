@@ -1,26 +1,26 @@
 -- The closed test of one or two hypotheses.
-use Rattle.std.proofs.Common.{◌≡◌, inl, inr, refl, sym, ap, ap₂, ◌∙◌, subst, subst₂, ℕ, zero, suc, ◌<◌, arith, Bool, true, false, [], ◌∷◌, pos}
+use Rattle.std.proofs.Common.{◌≡◌, inl, inr, refl, sym, ap, ap₂, ◌∙◌, subst, subst₂, ℕ, ◌<◌, arith, Bool, false, [], ◌∷◌, pos}
 use native.Mathlib.Omega.{arith}
 use Rattle.std.proofs.lemmas.Int.{ints}
 use Rattle.field_core.specs.Number.{Number}
-use Rattle.field_core.specs.Arithmetic.{number_zero, number_one, ◌+ε◌, ◌*ε◌, number_compare}
+use Rattle.field_core.specs.Arithmetic.{number_zero, number_one, ◌+ε◌, ◌*ε◌}
 use Rattle.field_core.specs.Field.{AtMost}
-use Rattle.field_core.specs.Order.{◌≤ε◌, IsPositive}
+use Rattle.field_core.specs.Order.{◌≤ε◌}
 use Rattle.field_core.specs.Fractions.{fraction}
 use Rattle.field_core.specs.Limit.{limit}
 use Rattle.field_core.specs.NumberField.{number_field}
 use Rattle.field_core.specs.Sums.{sum_below, dot}
 use Rattle.field_core.specs.Graph.{Graph, IsValid}
-use Rattle.field_core.specs.Sets.{IsIn, IsSubset}
-use Rattle.field_core.specs.Walks.{IsWalkSolution, IsComponentWeight}
+use Rattle.field_core.specs.Sets.{IsIn}
+use Rattle.field_core.specs.Walks.{IsComponentWeight}
 use Rattle.field_core.specs.Examples.{set_of, entry, graph_without_edges, arrow_graph}
 use Rattle.field_core.specs.ExampleStatements.{half}
-use Rattle.case_model.specs.EntangledGraph.{EntangledGraph, IsValidEntangled}
+use Rattle.case_model.specs.EntangledGraph.{IsValidEntangled}
 use Rattle.case_model.specs.IntersectionWeight.{IsIntersectionWeight}
-use Rattle.case_model.specs.ClosedTest.{Passes, only, IsLegal, IsLocallyRejected, IsRejected}
+use Rattle.case_model.specs.ClosedTest.{Passes, only, IsLocallyRejected}
 use Rattle.case_model.specs.ClosedTestExamples.{alone, two_halves, linked_halves, twentieth, near_half, OnlyFirstHalfIsRejected, BothLinkedHalvesAreRejected, HalvesAreValid, WeightZeroRejectsNothing}
-use Rattle.field_core.specs.Laws.AtMostLaws.{at_most_refl, at_most_equal, at_most-compare, at_most_less, positive-nonzero, positive-one, zero_at_most_one}
-use Rattle.field_core.specs.Laws.FractionLaws.{fraction-multiply, fraction-equal}
+use Rattle.field_core.specs.Laws.AtMostLaws.{at_most_equal, at_most-compare, at_most_less, positive-nonzero, positive-one, zero_at_most_one}
+use Rattle.field_core.specs.Laws.FractionLaws.{fraction-multiply}
 use Rattle.field_core.specs.Laws.Effective.{fraction-compare}
 use Rattle.field_core.specs.Laws.LimitLaws.{limit-fraction}
 use Rattle.field_core.specs.Laws.NumberFieldLaws.{field_zero, field_one, field_sum, field_product}
@@ -29,15 +29,14 @@ use Rattle.field_core.specs.Laws.NumberLaws.{number_multiply_one, number_ring, n
 use Rattle.field_core.specs.Laws.SignedField.{field_of}
 use Rattle.field_core.proofs.FieldLaws.{add_zero}
 use Rattle.field_core.proofs.Dots.{dot_zero}
-use Rattle.field_core.proofs.SumLaws.{sum_suc, sum_zero}
-use Rattle.field_core.proofs.Live.{true_or_false, true_not_false}
+use Rattle.field_core.proofs.Live.{true_or_false}
 use Rattle.field_core.proofs.OnlySolutions.{two, no_edges, zero_solution}
 use Rattle.field_core.proofs.PairWeights.{arrow}
 use Rattle.field_core.proofs.Weights.{weight_same}
 use Rattle.field_core.proofs.SmallNumbers.{half_half, half_positive, half_at_least_zero}
 use Rattle.field_core.proofs.UnitLimits.{suc_not_zero, limit_zero, limit_one}
 use Rattle.case_model.proofs.IntersectionLaws.{intersection_unique}
-use Rattle.case_model.proofs.ClosedTestLaws.{only_itself, in_only, legal_passes, rejected_by}
+use Rattle.case_model.proofs.ClosedTestLaws.{in_only, legal_passes, rejected_by}
 
 -- ---- a graph as the only component
 

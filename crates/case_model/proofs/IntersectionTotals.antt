@@ -1,5 +1,5 @@
 -- The intersection weights of a set sum to at most 1.
-use Rattle.std.proofs.Common.{◌≡◌, inl, inr, refl, sym, ap, ap₂, ◌∙◌, subst, ℕ, zero, suc, ◌<◌, ◌≤◌, arith, Bool, true, false, cond, List}
+use Rattle.std.proofs.Common.{◌≡◌, inl, inr, sym, ap, ◌∙◌, subst, ℕ, zero, suc, ◌<◌, arith, Bool, true, false, cond}
 use mathlib.Core.Path.{fun_ext}
 use Rattle.field_core.specs.Number.{Number}
 use Rattle.field_core.specs.Arithmetic.{number_zero, number_one, ◌+ε◌, ◌*ε◌}
@@ -9,24 +9,23 @@ use Rattle.field_core.specs.Limit.{limit}
 use Rattle.field_core.specs.LimitParts.{IsUnit}
 use Rattle.field_core.specs.Sums.{sum_below}
 use Rattle.field_core.specs.Graph.{Graph, IsValid}
-use Rattle.field_core.specs.Sets.{IsIn, IsSubset, HaveSameMembers, whole}
+use Rattle.field_core.specs.Sets.{IsIn}
 use Rattle.field_core.specs.Walks.{IsComponentWeight}
-use Rattle.field_core.specs.Runs.{IsOrder, left_after, after, weight_in}
-use Rattle.field_core.specs.Laws.AtMostLaws.{at_most_refl, at_most_equal, at_most_trans, at_most_multiply_left, at_least_zero_product, zero_at_most_one}
+use Rattle.field_core.specs.Runs.{weight_in}
+use Rattle.field_core.specs.Laws.AtMostLaws.{at_most_refl, zero_at_most_one}
 use Rattle.field_core.specs.Laws.LimitLaws.{IsFinite, IsFinite-add, limit_add, finite_between}
-use Rattle.field_core.specs.Laws.NumberFieldLaws.{field_zero, field_one, field_sum, field_product, at_most_in, at_most_out}
+use Rattle.field_core.specs.Laws.NumberFieldLaws.{field_zero, field_sum, at_most_out}
 use Rattle.field_core.specs.Laws.Order.{number_multiply_zero}
-use Rattle.field_core.specs.Laws.NumberLaws.{number_multiply_one, number_ring, number_signed_field}
+use Rattle.field_core.specs.Laws.NumberLaws.{number_ring, number_signed_field}
 use Rattle.field_core.specs.Laws.SignedField.{field_of}
-use Rattle.field_core.proofs.SumLaws.{sum_suc, sum_congr, sum_le, sum_nonneg, sum_zero, sum_scale, sum_swap}
+use Rattle.field_core.proofs.SumLaws.{sum_suc, sum_congr, sum_zero, sum_scale, sum_swap}
 use Rattle.field_core.proofs.Live.{true_or_false}
 use Rattle.field_core.proofs.UnitLimits.{limit_unit, limit_zero}
-use Rattle.field_core.proofs.Weights.{weight_unique, weight_same, weight_in_is}
-use Rattle.field_core.proofs.WeightLaws.{order_weight, weights_total}
-use Rattle.field_core.proofs.NumberWeights.{weight_unit, limit_monotone}
+use Rattle.field_core.proofs.Weights.{weight_in_is}
+use Rattle.field_core.proofs.WeightLaws.{weights_total}
+use Rattle.field_core.proofs.NumberWeights.{weight_unit}
 use Rattle.case_model.specs.EntangledGraph.{EntangledGraph, IsValidEntangled}
 use Rattle.case_model.specs.IntersectionWeight.{IsIntersectionWeight}
-use Rattle.case_model.specs.IntersectionStatements.{weight_left}
 use Rattle.case_model.proofs.IntersectionLaws.{total_at_least_zero, shared_at_most_one, intersection_weight, intersection_is}
 
 -- ---- limits of sums

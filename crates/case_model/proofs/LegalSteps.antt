@@ -1,5 +1,5 @@
 -- Rejections one after another: what is legal once a list is removed, by the weights that the removals leave.
-use Rattle.std.proofs.Common.{◌≡◌, refl, sym, ap, ◌∙◌, subst, ℕ, ◌<◌, Bool, true, List, [], ◌∷◌, ◌++◌, ◌↔◌}
+use Rattle.std.proofs.Common.{◌≡◌, refl, ap, ◌∙◌, subst, ℕ, Bool, List, [], ◌∷◌, ◌++◌, ◌↔◌}
 use Rattle.field_core.specs.Field.{OrderedField}
 use Rattle.field_core.specs.Number.{Number}
 use Rattle.field_core.specs.Arithmetic.{◌/ε◌}
@@ -41,7 +41,8 @@ module _ (E : EntangledGraph) (V : IsValidEntangled E) where
     pub legal_left : (js : List ℕ) (k : ℕ) → IsOrder E.hypotheses whole js → IsLegal E p level (left_after whole js) k ↔ (IsIn E.hypotheses (left_after whole js) k × Passes (p k) (weight_left E js k) level)
     legal_left js k o = (
       λ h. (h.member, legal_passes E p level (left_after whole js) k (weight_left E js k) h (weight_left_is js k o h.member)),
-      λ h. passes_legal E p level (left_after whole js) k (weight_left E js k) h.0 (weight_left_is js k o h.0) h.1)
+      λ h. passes_legal E p level (left_after whole js) k (weight_left E js k) h.0 (weight_left_is js k o h.0) h.1,
+    )
 
     -- a legal order goes on by what passes at the weight that is left to it
     pub legal_next : (js : List ℕ) (k : ℕ) → IsLegalOrder E p level whole js → IsIn E.hypotheses (left_after whole js) k → Passes (p k) (weight_left E js k) level → IsLegalOrder E p level whole (js ++ (k ∷ []))
@@ -55,5 +56,6 @@ module _ (E : EntangledGraph) (V : IsValidEntangled E) where
     pub ratio_left : (js : List ℕ) (k : ℕ) (q : Number) → IsOrder E.hypotheses whole js → IsRatio E p (left_after whole js) k q ↔ (IsIn E.hypotheses (left_after whole js) k × IsPositive (weight_left E js k) × (q ≡ p k /ε weight_left E js k))
     ratio_left js k q o = (
       λ r. let e : r.weight ≡ weight_left E js k = intersection_unique E (left_after whole js) k r.weight _ r.is_weight (weight_left_is js k o r.member) in
-           (r.member, subst IsPositive e r.positive, r.ratio ∙ ap (λ u. p k /ε u) e),
-      λ h. record { member = h.0; weight = weight_left E js k; is_weight = weight_left_is js k o h.0; positive = h.1; ratio = h.2 })
+          (r.member, subst IsPositive e r.positive, r.ratio ∙ ap (λ u. p k /ε u) e),
+      λ h. record { member = h.0; weight = weight_left E js k; is_weight = weight_left_is js k o h.0; positive = h.1; ratio = h.2 },
+    )

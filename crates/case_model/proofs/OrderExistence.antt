@@ -1,7 +1,7 @@
 -- A rule that tells what it allows has an order from each set on.
-use Rattle.std.proofs.Common.{◌≡◌, ◌≢◌, ◌⊎◌, inl, inr, refl, sym, ap, ◌∙◌, subst, ℕ, zero, suc, ◌<◌, ◌≤◌, ◌+◌, arith, Bool, true, false, cond, List, [], ◌∷◌}
+use Rattle.std.proofs.Common.{◌≡◌, ◌⊎◌, inl, inr, refl, sym, ap, ◌∙◌, subst, ℕ, zero, suc, ◌<◌, ◌≤◌, arith, Bool, true, false, cond, List, [], ◌∷◌}
 use Rattle.field_core.specs.Number.{Number}
-use Rattle.field_core.specs.Arithmetic.{number_zero, ◌*ε◌}
+use Rattle.field_core.specs.Arithmetic.{◌*ε◌}
 use Rattle.field_core.specs.Sets.{IsIn, dropping}
 use Rattle.field_core.specs.Laws.AtMostLaws.{at_most_or_above, at_most-compare, positive_or_not, positive-not_at_most}
 use Rattle.field_core.proofs.Live.{dropping_same, dropping_other, true_or_false, true_not_false}

@@ -1,10 +1,9 @@
 -- The orders of the three priorities.
-use Rattle.std.proofs.Common.{◌≡◌, ◌⊎◌, inl, inr, refl, sym, ap, ◌∙◌, subst, ℕ, zero, suc, ◌<◌, ◌≤◌, arith, Bool, true, false, List}
-use Rattle.std.specs.declared.cmp.Ordering.TheVariants.{Greater}
+use Rattle.std.proofs.Common.{◌≡◌, ◌⊎◌, inl, inr, refl, sym, ap, ◌∙◌, subst, ℕ, zero, suc, ◌<◌, arith, Bool, List}
 use Rattle.field_core.specs.Number.{Number}
-use Rattle.field_core.specs.Arithmetic.{number_zero, ◌*ε◌, ◌/ε◌, number_compare}
+use Rattle.field_core.specs.Arithmetic.{number_zero, ◌*ε◌, ◌/ε◌}
 use Rattle.field_core.specs.Order.{◌≤ε◌, IsPositive}
-use Rattle.field_core.specs.Sets.{IsIn, dropping, whole}
+use Rattle.field_core.specs.Sets.{IsIn}
 use Rattle.field_core.specs.Runs.{left_after}
 use Rattle.field_core.specs.Laws.AtMostLaws.{at_most_refl, at_most_equal, at_most_total, at_most_trans, at_most_antisymm, at_most_multiply_left, at_most_or_above, at_most-compare, positive_or_not, positive-not_at_most, positive-at_least_zero, positive-nonzero}
 use Rattle.field_core.specs.NumberField.{number_field}
@@ -14,9 +13,8 @@ use Rattle.field_core.specs.Laws.SignedField.{field_of}
 use Rattle.field_core.proofs.Orders.{mul_le_cancel}
 use Rattle.field_core.proofs.Live.{true_or_false, true_not_false}
 use Rattle.case_model.specs.EntangledGraph.{EntangledGraph, IsValidEntangled}
-use Rattle.case_model.specs.IntersectionWeight.{IsIntersectionWeight}
-use Rattle.case_model.specs.ClosedTest.{Passes, IsLegal}
-use Rattle.case_model.specs.LegalOrder.{IsOrderBy, IsCompleteBy, IsRunBy, IsFirst, IsLast, IsRatio, IsLeastRatio, IsLegalOrder, IsComplete, IsLeastLegalRatio, IsFirstOrder, IsLastOrder, IsRatioOrder}
+use Rattle.case_model.specs.ClosedTest.{IsLegal}
+use Rattle.case_model.specs.LegalOrder.{IsFirst, IsLast, IsRatio, IsLeastRatio, IsLegalOrder, IsComplete, IsLeastLegalRatio, IsFirstOrder, IsLastOrder, IsRatioOrder}
 use Rattle.case_model.proofs.IntersectionLaws.{intersection_unique, intersection_exists}
 use Rattle.case_model.proofs.RejectionOrders.{compared, below_or_not, at_or_below, order_by, run_unique, first_unique, last_unique, first_none, last_none}
 
