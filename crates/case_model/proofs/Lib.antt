@@ -7,3 +7,13 @@ pub mod SumSteps
 pub mod Thresholds
 pub mod Totals
 pub mod Validity
+pub mod IntersectionLaws
+pub mod IntersectionTotals
+pub mod RejectionOrders
+pub mod Consonance
+pub mod ClosedTestLaws
+pub mod PriorityOrders
+pub mod OrderExistence
+pub mod ExampleTests
+pub mod ExampleOrders
+pub mod LegalSteps

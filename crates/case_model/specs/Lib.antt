@@ -5,3 +5,7 @@ pub mod Draft
 pub mod ClosedTest
 pub mod EntangledGraph
 pub mod IntersectionWeight
+pub mod IntersectionStatements
+pub mod LegalOrder
+pub mod ClosedTestStatements
+pub mod ClosedTestExamples

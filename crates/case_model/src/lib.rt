@@ -5,6 +5,7 @@
 
 mod case;
 mod draft;
+pub mod laws;
 mod local_test;
 mod names;
 mod numbers;
