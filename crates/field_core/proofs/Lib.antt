@@ -9,6 +9,7 @@ pub mod FlowSteps
 pub mod IntegerRing
 pub mod AnyOrder
 pub mod Live
+pub mod Longest
 pub mod Orders
 pub mod CrossProducts
 pub mod RemovalLaws
