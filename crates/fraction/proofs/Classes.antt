@@ -18,7 +18,7 @@ IsOf classes.Other b = Unit {0}
 either : (b m n : ℕ) → (eqb b m || eqb b n) ≡ true → (b ≡ m) ⊎ (b ≡ n)
 either b m n h = elim (or_cases (eqb b m) (eqb b n) h) [ inl e ↦ inl (eqb-true b m e) | inr e ↦ inr (eqb-true b n e) ]
 
-digit_in : (b : ℕ) → is_ascii_digit b ≡ true → (48 ≤ b) × (b ≤ 57)
+pub digit_in : (b : ℕ) → is_ascii_digit b ≡ true → (48 ≤ b) × (b ≤ 57)
 digit_in b h = grind (arith, nat_tests)
 
 pub class_is : (b : ℕ) → IsOf (class_of b) b
@@ -31,7 +31,7 @@ class_is b =
     cond_both (eqb b 101 || eqb b 69) classes.Mark _ P (λ e. either b 101 69 e) (λ _.
     cond_both (eqb b 47) classes.Slash classes.Other P (λ e. eqb-true b 47 e) (λ _. tt)))))
 
-digit_test : (b : ℕ) → 48 ≤ b → b ≤ 57 → is_ascii_digit b ≡ true
+pub digit_test : (b : ℕ) → 48 ≤ b → b ≤ 57 → is_ascii_digit b ≡ true
 digit_test b h k = grind (arith, nat_tests)
 
 pub class_digit : (b : ℕ) → 48 ≤ b → b ≤ 57 → class_of b ≡ classes.Digit

@@ -1,6 +1,12 @@
 pub mod Accepted
+pub mod Bodies
 pub mod Classes
+pub mod Cut
+pub mod DigitNumbers
 pub mod Limits
 pub mod Read
 pub mod Scan
+pub mod Scaling
+pub mod SignedTexts
 pub mod Signs
+pub mod Zeros

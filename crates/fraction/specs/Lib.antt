@@ -4,5 +4,6 @@ pub mod Machine
 pub mod Numeral
 pub mod Plain
 pub mod Prefixes
+pub mod Sizes
 pub mod View
 pub mod Written

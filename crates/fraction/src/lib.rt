@@ -2,9 +2,13 @@
 #![tactic(auto)]
 
 mod check;
+mod decimal;
+mod digits;
 mod fault;
 mod fraction;
 mod machine;
+mod size;
+mod value;
 mod written;
 
 pub use fault::{FractionFault, NumberFault};
