@@ -4,6 +4,7 @@ pub mod Classes
 pub mod Cut
 pub mod DigitNumbers
 pub mod Limits
+pub mod LowestTerms
 pub mod Read
 pub mod Scan
 pub mod Scaling

@@ -135,13 +135,13 @@ same_past len number s t (Err (BadByte n)) h k r = r
 same_past len number s t (Err ZeroDenominator) h k r = r
 
 -- what a shift gives is what its exponent gives
-pub exact_shift : (len number behind zeros up down : ℕ) (z : ℤ) (r : Result Size NumberFault) → behind < 2 ^ 64 → zeros < 2 ^ 65 → IsShift up down z → IsScaled len number (pos (behind + down) -ℤ pos (up + zeros)) r → IsScaled len number ((pos behind -ℤ z) -ℤ pos zeros) r
-exact_shift len number behind zeros up down z r f k (inl e) h =
-    let same : pos (behind + down) -ℤ pos (up + zeros) ≡ (pos behind -ℤ z) -ℤ pos zeros = omega (arith, ints) in
+pub exact_shift : (len number behind dropped up down : ℕ) (z : ℤ) (r : Result Size NumberFault) → behind < 2 ^ 64 → dropped < 2 ^ 65 → IsShift up down z → IsScaled len number (pos (behind + down) -ℤ pos (up + dropped)) r → IsScaled len number ((pos behind -ℤ z) -ℤ pos dropped) r
+exact_shift len number behind dropped up down z r f k (inl e) h =
+    let same : pos (behind + down) -ℤ pos (up + dropped) ≡ (pos behind -ℤ z) -ℤ pos dropped = omega (arith, ints) in
     subst (λ s. IsScaled len number s r) same h
-exact_shift len number behind zeros up down z r f k (inr (inl e)) h =
+exact_shift len number behind dropped up down z r f k (inr (inl e)) h =
     same_past len number _ _ r (inr (inr (omega (arith, ints, e.0, e.1), omega (arith, ints, e.0, e.1)))) (inr (inr (omega (arith, ints, e.2), omega (arith, ints, e.2)))) h
-exact_shift len number behind zeros up down z r f k (inr (inr e)) h =
+exact_shift len number behind dropped up down z r f k (inr (inr e)) h =
     same_past len number _ _ r (inr (inl (omega (arith, ints, e.0, e.1)))) (inr (inl (omega (arith, ints, e.2)))) h
 
 -- ---- a decimal d, of which the digits are ds without leading zeros, with z trailing ones

@@ -7,7 +7,7 @@ use Rattle.std.proofs.lemmas.Bool.{ne_eqb, eqb-true, eqb-false, cases_lt}
 use Rattle.std.proofs.lemmas.Int.{ints}
 use Rattle.std.proofs.lemmas.List.{append-nil}
 use Rattle.fraction.specs.declared.decimal.Shift.{Shift}
-use Rattle.fraction.specs.Numeral.{AreDigits, sign_text, IsSign, signed, Exponent, exponent_text, IsExponent, exponent_of, Body, Plain, Pointed, Pair, body_text, IsBody}
+use Rattle.fraction.specs.Numeral.{AreDigits, sign_text, IsSign, is_minus, signed, Exponent, exponent_text, IsExponent, exponent_of, Body, Plain, Pointed, Pair, body_text, IsBody}
 use Rattle.fraction.specs.Sizes.{IsShift, GivesShift}
 use Rattle.fraction.proofs.Cut.{front_digits}
 
@@ -15,10 +15,6 @@ use Rattle.fraction.proofs.Cut.{front_digits}
 abbrev pub NoSign : List ℕ → Type 0
 NoSign [] = Unit {0}
 NoSign (b ∷ bs) = (b ≢ 43) × (b ≢ 45)
-
-abbrev pub is_minus : Option ℕ → Bool
-is_minus None = false
-is_minus (Some b) = eqb b 45
 
 unsigned_none : (rest : List ℕ) → NoSign rest → (starts_with_minus rest ≡ false) × (without_leading_sign rest ≡ rest)
 unsigned_none [] h = (refl, refl)
@@ -62,12 +58,10 @@ shift_up n size up down e f g =
     ]
 
 signed_minus : (sign : Option ℕ) (n : ℕ) → is_minus sign ≡ true → signed sign n ≡ neg_ℤ (pos n)
-signed_minus None n h = absurd cc
-signed_minus (Some b) n h = rw h refl
+signed_minus sign n h = rw h refl
 
 signed_plus : (sign : Option ℕ) (n : ℕ) → is_minus sign ≡ false → signed sign n ≡ pos n
-signed_plus None n h = refl
-signed_plus (Some b) n h = rw h refl
+signed_plus sign n h = rw h refl
 
 -- what is read of a text that is an exponent
 record IsReadOf (e : Exponent) (negative : Bool) (digits : List ℕ) : Type 0 where

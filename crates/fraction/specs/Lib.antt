@@ -1,5 +1,6 @@
 pub mod Checking
 pub mod Laws
+pub mod Lowest
 pub mod Machine
 pub mod Numeral
 pub mod Plain

@@ -1,5 +1,5 @@
 -- Numerals: what they are, what they are worth, and why a text is none that can be taken.
-use Rattle.std.specs.Prelude.{◌≡◌, ℕ, suc, ◌+◌, ◌-◌, ◌^◌, ◌<◌, ◌≤◌, ◌⊎◌, Bool, List, [], ◌∷◌, ◌++◌, length, drop, ℤ, pos, negsuc, neg_ℤ, ◌-ℤ◌, ◌*ℤ◌, ◌<ℤ◌, Option, Some, None, ◌==◌, if◌then◌else◌}
+use Rattle.std.specs.Prelude.{◌≡◌, ℕ, suc, ◌+◌, ◌-◌, ◌^◌, ◌<◌, ◌≤◌, ◌⊎◌, Bool, false, List, [], ◌∷◌, ◌++◌, length, drop, ℤ, pos, negsuc, neg_ℤ, ◌-ℤ◌, ◌*ℤ◌, ◌<ℤ◌, Option, Some, None, ◌==◌, if◌then◌else◌}
 use Rattle.std.specs.List.{prefix_len, suffix_len}
 use Rattle.std.specs.Str.Parse.{digits_value}
 use Rattle.field_core.specs.Terms.{Terms, IsReduced}
@@ -68,10 +68,17 @@ pub record IsNumeral (text : List ℕ) : Type 0 where
 
 -- ---- what it is worth
 
+abbrev pub is_minus : Option ℕ → Bool
+is_minus None = false
+is_minus (Some b) = b == 45
+
+-- a number of this size, below 0 or not
+abbrev pub with_sign : Bool → ℕ → ℤ
+with_sign negative n = if negative then neg_ℤ (pos n) else pos n
+
 -- a number behind a sign
 abbrev pub signed : Option ℕ → ℕ → ℤ
-signed None n = pos n
-signed (Some b) n = if b == 45 then neg_ℤ (pos n) else pos n
+signed sign n = with_sign (is_minus sign) n
 
 -- the exponent, 0 where none is written
 abbrev pub exponent_of : Option Exponent → ℤ

@@ -6,6 +6,7 @@ mod decimal;
 mod digits;
 mod fault;
 mod fraction;
+mod lowest;
 mod machine;
 mod size;
 mod value;
