@@ -12,7 +12,7 @@ use Rattle.fraction.specs.declared.decimal.Decimal.{Decimal}
 use Rattle.fraction.specs.declared.decimal.Shift.{Shift}
 use Rattle.fraction.specs.Numeral.{AreDigits, Exponent, exponent_text, IsExponent, exponent_of, Body, Plain, Pointed, Pair, body_text, IsBody, value_of, without_leading_zeros, HasZeroDenominator, HasTooManyDigits}
 use Rattle.fraction.specs.Sizes.{BeginsOtherwise, quotient_of, digits_in, IsDecimalSize, IsBodySize, GivesShift, GivesDecimal, GivesBody}
-use Rattle.fraction.proofs.Cut.{front_digits, cut_at, body_cut, exponent_no_digit}
+use Rattle.fraction.proofs.Cut.{front_digits, cut_at, body_cut, exponent_no_digit, heads, exponent_apart}
 use Rattle.fraction.proofs.Zeros.{no_value, some_value, without_value}
 
 -- ---- pairs, with the parts us and vs without their leading zeros
@@ -72,15 +72,6 @@ pointed whole fraction e (Ok x) h = pointed_ok whole fraction e x h
 pointed whole fraction e (Err f) h = pointed_fault whole fraction e f h
 
 -- ---- what is read of a text
-
-heads : (a b : ℕ) (xs ys : List ℕ) → a ∷ xs ≡ b ∷ ys → (a ≡ b) × (xs ≡ ys)
-heads a b xs ys e = (cc, cc)
-
-exponent_apart : (e : Option Exponent) (b : ℕ) (more : List ℕ) → IsExponent e → b < 48 → ¬ (b ∷ more ≡ exponent_text e)
-exponent_apart None b more h k q = absurd cc
-exponent_apart (Some e) b more h k q =
-    let m : b ≡ e.mark = (heads b e.mark more _ q).0 in
-    elim h.0 [ inl f ↦ omega arith | inr f ↦ omega arith ]
 
 all_digits : (ds : List ℕ) → AreDigits ds → take_while is_ascii_digit ds ≡ ds
 all_digits ds h = ap (take_while is_ascii_digit) (sym (append-nil ds)) ∙ front_digits ds [] h tt

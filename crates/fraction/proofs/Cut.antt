@@ -97,6 +97,17 @@ front_are [] = tt
 front_are (b ∷ bs) =
     cond_both (is_ascii_digit b) (1 + prefix_len is_ascii_digit bs) 0 (λ n. AreDigits (take n (b ∷ bs))) (λ h. front_by b bs (prefix_len is_ascii_digit bs) h refl (front_are bs)) (λ h. tt)
 
+-- the parts of equal lists
+pub heads : (a b : ℕ) (xs ys : List ℕ) → a ∷ xs ≡ b ∷ ys → (a ≡ b) × (xs ≡ ys)
+heads a b xs ys e = (cc, cc)
+
+-- what begins with a byte below the digits is no exponent
+pub exponent_apart : (e : Option Exponent) (b : ℕ) (more : List ℕ) → IsExponent e → b < 48 → ¬ (b ∷ more ≡ exponent_text e)
+exponent_apart None b more h k q = absurd cc
+exponent_apart (Some e) b more h k q =
+    let m : b ≡ e.mark = (heads b e.mark more _ q).0 in
+    elim h.0 [ inl f ↦ omega arith | inr f ↦ omega arith ]
+
 -- ---- the parts of what stands behind a sign
 
 mark_no_digit : (b : ℕ) → (b ≡ 101) ⊎ (b ≡ 69) → (b < 48) ⊎ (57 < b)

@@ -10,4 +10,5 @@ pub mod Scan
 pub mod Scaling
 pub mod SignedTexts
 pub mod Signs
+pub mod Unique
 pub mod Zeros

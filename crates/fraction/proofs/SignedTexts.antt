@@ -1,5 +1,5 @@
 -- Signs in front of texts, and exponents.
-use Rattle.std.proofs.Common.{◌≡◌, ◌≢◌, ℕ, zero, suc, ◌+◌, ◌^◌, ◌<◌, ◌≤◌, ◌⊎◌, inl, inr, Bool, true, false, eqb, List, [], ◌∷◌, ◌++◌, length, drop, min, ℤ, pos, neg_ℤ, ◌-ℤ◌, ◌≤ℤ◌, Option, Some, None, refl, sym, ap, ap₂, subst, ◌∙◌, arith}
+use Rattle.std.proofs.Common.{◌≡◌, ◌≢◌, ℕ, zero, suc, ◌+◌, ◌^◌, ◌<◌, ◌≤◌, ◌⊎◌, inl, inr, Bool, true, false, eqb, List, [], ◌∷◌, ◌++◌, length, drop, min, ℤ, pos, neg_ℤ, ◌-ℤ◌, ◌≤ℤ◌, Option, Some, None, refl, sym, ap, ap₂, subst, ◌∙◌, append_assoc, arith}
 use Rattle.std.specs.List.{prefix_len, take_while}
 use Rattle.std.specs.Char.{is_ascii_digit}
 use Rattle.std.specs.Str.Parse.{starts_with_minus, without_leading_sign, digits_value}
@@ -7,7 +7,7 @@ use Rattle.std.proofs.lemmas.Bool.{ne_eqb, eqb-true, eqb-false, cases_lt}
 use Rattle.std.proofs.lemmas.Int.{ints}
 use Rattle.std.proofs.lemmas.List.{append-nil}
 use Rattle.fraction.specs.declared.decimal.Shift.{Shift}
-use Rattle.fraction.specs.Numeral.{AreDigits, sign_text, IsSign, is_minus, signed, Exponent, exponent_text, IsExponent, exponent_of, Body, Plain, Pointed, Pair, body_text, IsBody}
+use Rattle.fraction.specs.Numeral.{AreDigits, sign_text, IsSign, is_minus, signed, Exponent, exponent_text, IsExponent, exponent_of, Body, Plain, Pointed, Pair, body_text, IsBody, IsNumeral}
 use Rattle.fraction.specs.Sizes.{IsShift, GivesShift}
 use Rattle.fraction.proofs.Cut.{front_digits}
 
@@ -40,6 +40,21 @@ no_sign_before (x ∷ xs) ys some h = h
 pointed_no_sign : (whole more : List ℕ) → AreDigits whole → NoSign (whole ++ 46 ∷ more)
 pointed_no_sign [] more h = ((λ e. omega arith), (λ e. omega arith))
 pointed_no_sign (d ∷ ds) more h = ((λ e. omega arith), (λ e. omega arith))
+
+pub body_no_sign : (body : Body) → IsBody body → NoSign (body_text body)
+body_no_sign (Plain whole e) h = no_sign_before whole (exponent_text e) h.1 (digits_no_sign whole h.0)
+body_no_sign (Pointed whole fraction e) h = subst NoSign (sym (append_assoc whole (46 ∷ fraction) (exponent_text e))) (pointed_no_sign whole (fraction ++ exponent_text e) h.0)
+body_no_sign (Pair over under) h = no_sign_before over (47 ∷ under) h.1 (digits_no_sign over h.0)
+
+-- the parts of a numeral, as they are read of the text
+pub record IsSplit (text : List ℕ) (n : IsNumeral text) : Type 0 where
+  pub minus : starts_with_minus text ≡ is_minus n.sign
+  pub behind : without_leading_sign text ≡ body_text n.body
+
+pub numeral_split : (text : List ℕ) (n : IsNumeral text) → IsSplit text n
+numeral_split text n =
+    let cut = sign_cut n.sign (body_text n.body) n.is_sign (body_no_sign n.body n.is_body) in
+    record { minus = ap starts_with_minus n.spelt ∙ cut.0; behind = ap without_leading_sign n.spelt ∙ cut.1 }
 
 -- ---- exponents
 
