@@ -7,6 +7,7 @@ pub mod Limits
 pub mod LowestTerms
 pub mod Read
 pub mod Scan
+pub mod ReadTexts
 pub mod Scaling
 pub mod SignedTexts
 pub mod Signs

@@ -5,6 +5,7 @@ pub mod Machine
 pub mod Numeral
 pub mod Plain
 pub mod Prefixes
+pub mod Reading
 pub mod Sizes
 pub mod View
 pub mod Written

@@ -8,6 +8,7 @@ mod fault;
 mod fraction;
 mod lowest;
 mod machine;
+mod parse;
 mod size;
 mod value;
 mod written;
