@@ -2,7 +2,10 @@ ghost use Rattle.std.specs.Prelude.{◌≡◌};
 ghost use Rattle.fraction.specs.Plain.{plain, IsFraction, fraction_parts, fraction_stored};
 ghost use Rattle.fraction.specs.Laws.PlainLaws.{plain_is_exact};
 
+use crate::lowest::quotient;
+use crate::parse::read;
 use crate::written::{inverse, multiply, opposite, plus};
+use crate::{FractionFault, NumberFault};
 use field_core::{Number, Op, Ratio, TooWide};
 use std::cmp::Ordering;
 
@@ -75,9 +78,34 @@ impl Number for Fraction {
 }
 
 impl Fraction {
-    ghost use Rattle.std.specs.Prelude.{◌≡◌};
+    ghost use Rattle.std.specs.Prelude.{◌≡◌, ◌≢◌, ◌↔◌, pos, IfOk, IfErr, IsOkAnd};
+    ghost use Rattle.field_core.specs.Terms.{Terms};
+    ghost use Rattle.field_core.specs.Fractions.{fraction};
     ghost use Rattle.field_core.specs.View.{terms};
-    ghost use Rattle.fraction.specs.View.{terms_of};
+    ghost use Rattle.fraction.specs.View.{terms_of, number_of};
+    ghost use Rattle.fraction.specs.Lowest.{lowest_terms, HasWidePart};
+    ghost use Rattle.fraction.specs.Numeral.{IsNumeralOf, IsParseFault};
+
+    /// The fraction num/den, in lowest terms.
+    pub fn new(num: i128, den: i128) -> Result<Fraction, FractionFault>
+        ensures lowest { IfOk result (λ x. terms_of x ≡ lowest_terms num den) }
+        ensures value { IfOk result (λ x. number_of x ≡ fraction num den) }
+        ensures zero { (result ≡ Err FractionFault.ZeroDenominator) ↔ (den ≡ pos 0) }
+        ensures wide { (result ≡ Err FractionFault.TooWide) ↔ ((den ≢ pos 0) × HasWidePart (lowest_terms num den)) }
+    {
+        let ratio = quotient(num, den)?;
+        Ok(Fraction { ratio })
+    }
+
+    /// Reads a numeral: a decimal such as `-1.5e3`, or a pair such as `2/3`, within 38 digits.
+    pub fn parse(text: &[u8]) -> Result<Fraction, NumberFault>
+        ensures found { IfOk result (λ x. IsNumeralOf text.now (terms_of x)) }
+        ensures only { (t : Terms) → IsNumeralOf text.now t → IsOkAnd result (λ x. terms_of x ≡ t) }
+        ensures fault { IfErr result (IsParseFault text.now) }
+    {
+        let ratio = read(text)?;
+        Ok(Fraction { ratio })
+    }
 
     /// The same fraction.
     pub fn of(ratio: Ratio) -> Fraction

@@ -1,7 +1,17 @@
 //! Fractions: the plain kind of numbers.
 #![tactic(auto)]
 
+mod check;
+mod decimal;
+mod digits;
+mod fault;
 mod fraction;
+mod lowest;
+mod machine;
+mod parse;
+mod size;
+mod value;
 mod written;
 
+pub use fault::{FractionFault, NumberFault};
 pub use fraction::Fraction;
