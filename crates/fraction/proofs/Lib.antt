@@ -2,6 +2,7 @@ pub mod Accepted
 pub mod Bodies
 pub mod Classes
 pub mod Cut
+pub mod Decimals
 pub mod DigitNumbers
 pub mod Limits
 pub mod LowestTerms

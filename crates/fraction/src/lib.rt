@@ -1,6 +1,7 @@
 //! Fractions: the plain kind of numbers.
 #![tactic(auto)]
 
+mod backward;
 mod check;
 mod decimal;
 mod digits;
@@ -9,6 +10,7 @@ mod fraction;
 mod lowest;
 mod machine;
 mod parse;
+mod print;
 mod size;
 mod value;
 mod written;
