@@ -8,6 +8,7 @@ pub mod Limits
 pub mod LowestTerms
 pub mod Read
 pub mod Scan
+pub mod ReadBack
 pub mod ReadTexts
 pub mod Scaling
 pub mod SignedTexts

@@ -7,6 +7,7 @@ mod decimal;
 mod digits;
 mod fault;
 mod fraction;
+pub mod laws;
 mod lowest;
 mod machine;
 mod parse;
