@@ -97,7 +97,7 @@ in_lowest n d below turned over under p q x r some h k e =
 below_nothing : (n : ℕ) → is_negative (pos n) ≡ false
 below_nothing n = le-ltb n 0 (omega arith)
 
-sign_is : (z : ℤ) → z ≡ with_sign (is_negative z) (unsigned_abs z)
+pub sign_is : (z : ℤ) → z ≡ with_sign (is_negative z) (unsigned_abs z)
 sign_is (pos n) = rw below_nothing refl
 sign_is (negsuc n) = refl
 

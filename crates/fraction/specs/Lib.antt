@@ -7,5 +7,6 @@ pub mod Plain
 pub mod Prefixes
 pub mod Reading
 pub mod Sizes
+pub mod Spelling
 pub mod View
 pub mod Written

@@ -4,9 +4,10 @@ ghost use Rattle.fraction.specs.Laws.PlainLaws.{plain_is_exact};
 
 use crate::lowest::quotient;
 use crate::parse::read;
+use crate::print::spelling;
 use crate::written::{inverse, multiply, opposite, plus};
 use crate::{FractionFault, NumberFault};
-use field_core::{Number, Op, Ratio, TooWide};
+use field_core::{List, NoMemory, Number, Op, Ratio, TooWide};
 use std::cmp::Ordering;
 
 /// A fraction in lowest terms: its denominator is at least 1, and both parts are at most 2^127 - 1 in size.
@@ -78,13 +79,14 @@ impl Number for Fraction {
 }
 
 impl Fraction {
-    ghost use Rattle.std.specs.Prelude.{◌≡◌, ◌≢◌, ◌↔◌, pos, IfOk, IfErr, IsOkAnd};
+    ghost use Rattle.std.specs.Prelude.{◌≡◌, ◌≢◌, ◌↔◌, ◌++◌, pos, IfOk, IfErr, IsOkAnd, OnOk, OnErr};
     ghost use Rattle.field_core.specs.Terms.{Terms};
     ghost use Rattle.field_core.specs.Fractions.{fraction};
     ghost use Rattle.field_core.specs.View.{terms};
     ghost use Rattle.fraction.specs.View.{terms_of, number_of};
     ghost use Rattle.fraction.specs.Lowest.{lowest_terms, HasWidePart};
     ghost use Rattle.fraction.specs.Numeral.{IsNumeralOf, IsParseFault};
+    ghost use Rattle.fraction.specs.Spelling.{spelling};
 
     /// The fraction num/den, in lowest terms.
     pub fn new(num: i128, den: i128) -> Result<Fraction, FractionFault>
@@ -105,6 +107,15 @@ impl Fraction {
     {
         let ratio = read(text)?;
         Ok(Fraction { ratio })
+    }
+
+    /// Appends the fraction as a text: `n` where the denominator is 1, else `n/d`.
+    pub fn print(&self, out: &mut List<u8>) -> Result<(), NoMemory>
+        ensures printed { OnOk result (out.new ≡ out.old ++ spelling (terms_of self.now)) }
+        ensures unchanged { OnErr result (out.new ≡ out.old) }
+    {
+        let text = spelling(&self.ratio);
+        out.append(text.as_slice())
     }
 
     /// The same fraction.
