@@ -1,5 +1,6 @@
 pub mod Answer
 pub mod Form
+pub mod Laws
 pub mod Outcome
 pub mod Report
 pub mod Run

@@ -8,7 +8,7 @@ use Rattle.graph_cli.specs.declared.words.Command.{Command}
 use Rattle.graph_cli.specs.declared.words.Command.TheVariants.{Test}
 use Rattle.graph_cli.specs.Answer.{malformed, usage}
 use Rattle.graph_cli.specs.Form.{IsInForm}
-use Rattle.graph_cli.specs.Report.{AreRejected, decided}
+use Rattle.graph_cli.specs.Report.{IsDecided}
 
 -- the most bytes that a case may have
 abbrev pub most_bytes : ℕ
@@ -25,7 +25,7 @@ pub data IsTestOutcome (bytes : List ℕ) : Answer → Type 0 where
   too_long : most_bytes < length bytes → IsTestOutcome bytes malformed
   not_in_form : length bytes ≤ most_bytes → ((d : DraftContent) → IsInForm bytes d → ⊥) → IsTestOutcome bytes malformed
   not_valid : length bytes ≤ most_bytes → (d : DraftContent) → IsInForm bytes d → is_valid d ≡ false → IsTestOutcome bytes malformed
-  valid : length bytes ≤ most_bytes → (c : Content) → IsInForm bytes (drafted c) → is_valid (drafted c) ≡ true → (positions : List ℕ) → AreRejected c positions → IsTestOutcome bytes (decided c positions)
+  valid : (answer : Answer) → length bytes ≤ most_bytes → (c : Content) → IsInForm bytes (drafted c) → is_valid (drafted c) ≡ true → IsDecided c answer → IsTestOutcome bytes answer
 
 -- what a command answers to a case, where its bytes are told
 abbrev pub IsCommandOutcome : Result Command ℕ → Option (List ℕ) → Answer → Type 0

@@ -1,5 +1,5 @@
 -- What the command `test` prints.
-use Rattle.std.specs.Prelude.{◌≡◌, ◌<◌, ◌↔◌, ℕ, List, [], ◌∷◌, ◌++◌, length, get_or, codes}
+use Rattle.std.specs.Prelude.{◌≡◌, ◌<◌, ℕ, List, [], ◌∷◌, ◌++◌, length, get_or, codes}
 use Rattle.std.specs.List.{Contains, flat_map}
 use Rattle.std.specs.List.Sorted.{IsStrictlyIncreasing}
 use Rattle.fraction.specs.Spelling.{spelling}
@@ -7,12 +7,16 @@ use Rattle.case_model.specs.Content.{Content, IsRejectedIn}
 use Rattle.graph_cli.specs.declared.answer.Answer.{Answer}
 use Rattle.graph_cli.specs.Answer.{line}
 
--- the positions, ascending, of exactly the hypotheses that the closed test rejects at the level of the case
-pub record AreRejected (case : Content) (positions : List ℕ) : Type 0 where
+-- the positions, ascending, of exactly the hypotheses below `count` that the closed test rejects at the level of the case
+pub record AreRejectedBelow (count : ℕ) (case : Content) (positions : List ℕ) : Type 0 where
   pub ascending : IsStrictlyIncreasing positions
-  pub below : (j : ℕ) → Contains positions j → j < length case.names
+  pub below : (j : ℕ) → Contains positions j → j < count
   pub rejected : (j : ℕ) → Contains positions j → IsRejectedIn case j
-  pub all : (j : ℕ) → j < length case.names → IsRejectedIn case j → Contains positions j
+  pub all : (j : ℕ) → j < count → IsRejectedIn case j → Contains positions j
+
+-- of all hypotheses
+abbrev pub AreRejected : Content → List ℕ → Type 0
+AreRejected case positions = AreRejectedBelow (length case.names) case positions
 
 -- a space and the name of the hypothesis at a position
 abbrev pub spaced_name : List (List ℕ) → ℕ → List ℕ
@@ -24,3 +28,9 @@ decided case positions = record {
   status = 0;
   text = line (codes "alpha " ++ spelling case.alpha) ++ line (codes "rejected" ++ flat_map (spaced_name case.names) positions) ++ line (codes "end");
 }
+
+-- what is printed of a case: these are the rejected, and this is the answer with their names
+pub record IsDecided (case : Content) (answer : Answer) : Type 0 where
+  pub positions : List ℕ
+  pub rejected : AreRejected case positions
+  pub printed : answer ≡ decided case positions

@@ -2,4 +2,12 @@
 #![tactic(auto)]
 
 mod answer;
+mod decision;
+mod fault;
+mod form;
+pub mod laws;
+mod report;
+mod top;
 mod words;
+
+pub use top::run;
