@@ -1,0 +1,5 @@
+pub mod Loops
+pub mod Units
+pub mod RowSteps
+pub mod Ready
+pub mod WeightsLeft
