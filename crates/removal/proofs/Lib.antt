@@ -3,3 +3,7 @@ pub mod Units
 pub mod RowSteps
 pub mod Ready
 pub mod WeightsLeft
+pub mod SoundTest
+pub mod FractionGraphs
+pub mod TestGraphs
+pub mod PreparedLive

@@ -6,6 +6,8 @@ mod laws;
 mod net;
 mod remover;
 mod rows;
+#[cfg(test)]
+mod tests;
 
 pub use laws::{removal_is_exact, removal_is_sound, removals_leave_weights};
 pub use net::Net;
