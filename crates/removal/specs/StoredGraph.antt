@@ -26,9 +26,9 @@ module _ (K : Kind) where
   edge G l k = if l == k then K.zero else get_or G.edges (l * size G + k) K.zero
 
 -- as many weights as hypotheses, at most 64, and a row of edges for each
-pub record IsSquare (hypotheses vertices arrows : ℕ) : Type 0 where
-  pub weights : vertices ≡ hypotheses
-  pub edges : arrows ≡ hypotheses * hypotheses
+pub record IsSquare (hypotheses weight_count edge_count : ℕ) : Type 0 where
+  pub weights : weight_count ≡ hypotheses
+  pub edges : edge_count ≡ hypotheses * hypotheses
   pub few : hypotheses ≤ 64
 
 -- all hypotheses live, with these weights and edges
