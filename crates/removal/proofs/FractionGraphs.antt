@@ -1,5 +1,5 @@
 -- Graphs of written fractions, as a computation sees them.
-use Rattle.std.proofs.Common.{◌≡◌, refl, sym, ap, ap₂, subst, ◌∙◌, ℕ, zero, suc, ◌+◌, ◌*◌, ◌==◌, Bool, true, false, if◌then◌else◌, List, [], ◌∷◌, ℤ, pos, negsuc, map, length, get_or}
+use Rattle.std.proofs.Common.{◌≡◌, refl, sym, ap, ap₂, subst, ◌∙◌, ℕ, zero, suc, ◌+◌, ◌*◌, ◌==◌, Bool, true, false, if◌then◌else◌, List, [], ◌∷◌, ℤ, pos, negsuc, map, get_or}
 use Rattle.std.proofs.Math.ListN.{get_or-map}
 use mathlib.Core.Path.{fun_ext}
 use lib.IntN.{ℤ_discrete}

@@ -1,12 +1,12 @@
 -- A graph is valid where a test says so.
-use Rattle.std.proofs.Common.{◌≡◌, refl, ℕ, zero, suc, ◌<◌, ◌⊎◌, inl, inr, Bool, true, false, ◌&&◌, sym, ap, ◌∙◌, subst, arith}
+use Rattle.std.proofs.Common.{◌≡◌, refl, ℕ, zero, suc, ◌<◌, ◌⊎◌, inl, inr, Bool, true, false, ◌&&◌, sym, ap, ◌∙◌, arith}
 use Rattle.field_core.specs.Number.{Number}
 use Rattle.field_core.specs.Arithmetic.{number_zero}
 use Rattle.field_core.specs.Laws.NumberLaws.{number_signed_field, number_ring}
 use Rattle.field_core.specs.Laws.SignedField.{field_of}
 use Rattle.field_core.specs.NumberField.{number_field}
 use Rattle.field_core.specs.Sums.{sum_below}
-use Rattle.field_core.specs.Graph.{Graph, IsValid}
+use Rattle.field_core.specs.Graph.{Graph}
 use Rattle.field_core.specs.Kind.{Kind}
 use Rattle.removal.specs.StoredGraph.{StoredGraph, size}
 use Rattle.removal.specs.ByValue.{graph_of, IsSound}

@@ -2,7 +2,7 @@
 use Rattle.std.proofs.Common.{refl, List, [], ◌∷◌, ℤ, pos}
 use Rattle.field_core.specs.Terms.{Terms}
 use Rattle.field_core.specs.Polynomial.{poly_add, poly_negate, poly_multiply, poly_scale, lowest, or_else, int_sign}
-use Rattle.field_core.specs.Pairs.{pair_add, pair_multiply, pair_negate, pair_sign}
+use Rattle.field_core.specs.Pairs.{pair_add, pair_negate, pair_sign}
 use Rattle.field_core.specs.Laws.Lift.{lift₁, lift₂}
 use Rattle.field_core.specs.Arithmetic.{number_zero, number_one, ◌+ε◌, number_negate, number_sign}
 use Rattle.field_core.specs.Laws.NumberLaws.{number_signed_field, number_ring}

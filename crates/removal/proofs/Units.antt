@@ -5,7 +5,6 @@ use Rattle.field_core.specs.Laws.NumberLaws.{number_signed_field, number_ring}
 use Rattle.field_core.specs.Laws.SignedField.{field_of}
 use Rattle.field_core.specs.NumberField.{number_field}
 use Rattle.field_core.specs.Field.{AtMost}
-use Rattle.field_core.specs.Graph.{IsValid}
 use Rattle.field_core.proofs.SumLaws.{term_le}
 use Rattle.field_core.specs.Kind.{Kind}
 use Rattle.field_core.specs.Exact.{value_of}

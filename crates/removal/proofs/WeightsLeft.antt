@@ -6,17 +6,17 @@ use Rattle.field_core.specs.NumberField.{number_field}
 use Rattle.field_core.specs.Graph.{Graph, IsValid}
 use Rattle.field_core.specs.Removal.{without}
 use Rattle.field_core.specs.Sets.{IsIn, dropping}
-use Rattle.field_core.specs.Runs.{IsOrder, left_after, after, weight_in}
+use Rattle.field_core.specs.Runs.{IsOrder, left_after, after}
 use Rattle.field_core.specs.Walks.{IsComponentWeight}
 use Rattle.field_core.proofs.AnyOrder.{any_order}
 use Rattle.field_core.proofs.Weights.{weight_in_is, weight_same}
 use Rattle.field_core.specs.Kind.{Parts, Kind}
 use Rattle.field_core.specs.Exact.{value_of}
 use Rattle.removal.specs.Steps.{◌>>=◌}
-use Rattle.removal.specs.StoredGraph.{StoredGraph, size, is_live, weight, AreAllLive}
-use Rattle.removal.specs.ByValue.{graph_of, IsSound}
-use Rattle.removal.specs.Exactness.{IsRemoved, RemovesExactly}
-use Rattle.removal.specs.InTurn.{removed_in_turn, ListsOutside, HasWeightsIn, LeavesWeights}
+use Rattle.removal.specs.StoredGraph.{StoredGraph, size, is_live, weight}
+use Rattle.removal.specs.ByValue.{graph_of}
+use Rattle.removal.specs.Exactness.{RemovesExactly}
+use Rattle.removal.specs.InTurn.{removed_in_turn, ListsOutside, LeavesWeights}
 use Rattle.removal.specs.Laws.Prefixes.{bind_ok, ok_same}
 use Rattle.removal.specs.Laws.Seen.{weight_in as weight_seen}
 

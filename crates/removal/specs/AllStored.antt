@@ -1,8 +1,8 @@
 -- All that a graph of the program holds is what its kind of numbers stores.
-use Rattle.std.proofs.Common.{◌≡◌, ℕ, zero, suc, ◌*◌, ◌+◌, ◌==◌, Bool, true, false, if◌then◌else◌, List, [], ◌∷◌, map, get_or, length}
+use Rattle.std.proofs.Common.{ℕ, zero, suc, ◌==◌, Bool, true, false, if◌then◌else◌, List, [], ◌∷◌, map, get_or}
 use Rattle.std.proofs.lemmas.List.{length-map}
 use Rattle.field_core.specs.Kind.{Parts, Kind}
-use Rattle.removal.specs.StoredGraph.{StoredGraph, IsSquare, size, weight, edge}
+use Rattle.removal.specs.StoredGraph.{weight, edge}
 use Rattle.removal.specs.ByValue.{AreStored}
 use Rattle.removal.specs.View.{stored}
 use Rattle.removal.specs.declared.graph.Graph.{Graph}

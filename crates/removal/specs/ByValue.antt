@@ -1,5 +1,5 @@
 -- A stored graph by the values of its numbers.
-use Rattle.std.specs.Prelude.{◌≡◌, ◌<◌, ◌&&◌, ◌==◌, not, ℕ, Bool, length, if◌then◌else◌}
+use Rattle.std.specs.Prelude.{◌<◌, ◌&&◌, ◌==◌, not, ℕ, Bool, length, if◌then◌else◌}
 use Rattle.std.proofs.Props.{props}
 use Rattle.field_core.specs.Number.{Number}
 use Rattle.field_core.specs.Arithmetic.{number_zero}

@@ -1,5 +1,5 @@
 -- A graph of the program, as it is stored.
-use Rattle.std.specs.Prelude.{ℕ, List, map, length}
+use Rattle.std.specs.Prelude.{ℕ, map, length}
 use Rattle.field_core.specs.Kind.{Parts}
 use Rattle.removal.specs.StoredGraph.{StoredGraph}
 use Rattle.removal.specs.declared.graph.Graph.{Graph}

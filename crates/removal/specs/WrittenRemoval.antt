@@ -1,5 +1,5 @@
 -- The written removal of a hypothesis: which operations are done, in which order and for what. All operands are old values.
-use Rattle.std.specs.Prelude.{◌||◌, ◌==◌, not, ℕ, List, Bool, false, if◌then◌else◌, Option, Some, None, Result, Ok, Err, set}
+use Rattle.std.specs.Prelude.{◌||◌, ◌==◌, not, ℕ, List, Bool, false, if◌then◌else◌, Option, Some, None, Result, Ok, set}
 use Rattle.field_core.specs.declared.place.Op.TheVariants.{Add, Sub, Mul, Div}
 use Rattle.field_core.specs.declared.place.Place.TheVariants.{Weight, Loss, Edge}
 use Rattle.field_core.specs.declared.place.Wide.{Wide}

@@ -1,7 +1,5 @@
 -- Written removals that aren't refused are exact.
-use Rattle.std.proofs.Common.{◌≡◌, ◌≢◌, ◌⊎◌, inl, inr, refl, sym, ap, subst, ap₂, ◌∙◌, ℕ, ◌+◌, ◌*◌, ◌<◌, Bool, true, false, not, ◌||◌, ◌&&◌, ◌==◌, List, get_or, set, length, Option, Some, None, Result, Ok, Err, arith, length-set}
-use Rattle.std.proofs.lemmas.List.{get_or-set_same, get_or-set_other}
-use Rattle.std.proofs.lemmas.Bool.Decides.{nat_tests}
+use Rattle.std.proofs.Common.{◌≡◌, ◌≢◌, ◌⊎◌, inl, inr, refl, sym, ap, subst, ap₂, ◌∙◌, ℕ, ◌<◌, true, false, ◌||◌, ◌==◌, length, Option, Some, None, Result, Ok}
 use Rattle.field_core.specs.declared.place.Wide.{Wide}
 use Rattle.field_core.specs.Number.{Number}
 use Rattle.field_core.specs.Arithmetic.{number_zero, number_one, ◌+ε◌, ◌-ε◌, ◌*ε◌, ◌/ε◌}
@@ -12,18 +10,17 @@ use Rattle.field_core.specs.NumberField.{number_field}
 use Rattle.field_core.specs.Graph.{Graph}
 use Rattle.field_core.specs.Removal.{without}
 use Rattle.field_core.specs.Sets.{dropping}
-use Rattle.field_core.proofs.Live.{true_or_false, not_dropped, dropping_same, dropping_other}
-use Rattle.field_core.proofs.RemovalLaws.{same_or_not, still_valid}
-use Rattle.field_core.specs.Kind.{Parts, Kind, is_zero}
+use Rattle.field_core.proofs.Live.{true_or_false, dropping_same, dropping_other}
+use Rattle.field_core.proofs.RemovalLaws.{same_or_not}
+use Rattle.field_core.specs.Kind.{Parts, Kind}
 use Rattle.field_core.specs.Exact.{IsExact, value_of}
 use Rattle.removal.specs.StoredGraph.{StoredGraph, IsSquare, size, is_live, weight, edge}
-use Rattle.removal.specs.Steps.{at, each_below, joined_below, ◌>>=◌}
-use Rattle.removal.specs.WrittenRemoval.{is_gone, new_weight, divisor, new_edge, new_row, written_removal}
+use Rattle.removal.specs.WrittenRemoval.{is_gone, new_weight, divisor, new_edge}
 use Rattle.removal.specs.Laws.LiveBelow.{live_below}
-use Rattle.removal.specs.ByValue.{counts, graph_of, AreStored, IsSound}
-use Rattle.removal.specs.Exactness.{IsRemoved, RemovalIsExact, RemovalIsSound}
+use Rattle.removal.specs.ByValue.{graph_of, AreStored}
+use Rattle.removal.specs.Exactness.{IsRemoved, RemovalIsExact}
 use Rattle.removal.specs.Laws.Prefixes.{ok_same, each_length, joined_length}
-use Rattle.removal.specs.Laws.WrittenValues.{Gives, DivisorIs, rest, edge_value, new_weight_value, divisor_value, new_edge_value}
+use Rattle.removal.specs.Laws.WrittenValues.{Gives, edge_value, new_weight_value, divisor_value, new_edge_value}
 use Rattle.removal.specs.Laws.After.{weight_after, edge_after, weight_removed, row_removed, column_removed, loop_removed}
 use Rattle.removal.specs.Laws.Passes.{Passes, passes, same_size, weight_entry, edge_entry, row_length, live_after}
 use Rattle.removal.specs.Laws.Seen.{edge_itself, stays_live, stays_edge, weight_in, weight_off, edge_in, edge_off_left, edge_off_right, edge_off_loop}

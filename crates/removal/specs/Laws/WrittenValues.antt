@@ -1,6 +1,5 @@
 -- The values of the numbers that a written removal gives.
-use Rattle.std.proofs.Common.{◌≡◌, ◌≢◌, refl, sym, ap, ap₂, subst, cond, ◌∙◌, ℕ, ◌<◌, Bool, true, false, not, ◌||◌, ◌==◌, Option, Some, None, Result, Ok, Err, arith}
-use Rattle.std.proofs.lemmas.Bool.Decides.{nat_tests}
+use Rattle.std.proofs.Common.{◌≡◌, refl, sym, ap, ap₂, subst, cond, ◌∙◌, ℕ, Bool, true, false, ◌||◌, ◌==◌, Option, Some, None, Result, Ok}
 use Rattle.field_core.specs.declared.place.Op.TheVariants.{Add, Sub, Mul, Div}
 use Rattle.field_core.specs.declared.place.Wide.{Wide}
 use Rattle.field_core.specs.declared.place.Place.TheVariants.{Weight, Loss, Edge}
@@ -10,10 +9,10 @@ use Rattle.field_core.specs.Laws.Order.{number_divide_is, number_multiply_zero}
 use Rattle.field_core.specs.Laws.NumberLaws.{number_invert_zero}
 use Rattle.field_core.specs.Kind.{Parts, Kind, is_zero}
 use Rattle.field_core.specs.Exact.{IsExact, value_of}
-use Rattle.removal.specs.StoredGraph.{StoredGraph, size, is_live, weight, edge}
-use Rattle.removal.specs.Steps.{at, each_below, ◌>>=◌}
-use Rattle.removal.specs.WrittenRemoval.{is_gone, new_weight, divisor, new_edge, new_row}
-use Rattle.removal.specs.Laws.Prefixes.{bind_ok, at_ok, step_ok, ok_same}
+use Rattle.removal.specs.StoredGraph.{StoredGraph, weight, edge}
+use Rattle.removal.specs.Steps.{at, ◌>>=◌}
+use Rattle.removal.specs.WrittenRemoval.{is_gone, new_weight, divisor, new_edge}
+use Rattle.removal.specs.Laws.Prefixes.{at_ok, step_ok, ok_same}
 
 divide_zero : (x : Number) → x /ε number_zero ≡ number_zero
 divide_zero x = number_divide_is x number_zero ∙ ap (λ v. x *ε v) number_invert_zero ∙ number_multiply_zero x
