@@ -8,7 +8,7 @@ use Rattle.field_core.specs.Runs.{Reached}
 use Rattle.field_core.proofs.Weights.{reached_start, reached_step, reached_is}
 
 module _ {K : Type 0} (F : OrderedField K) (m : ℕ) (G : Graph K) where
-  reached_after : (js : List ℕ) (I : ℕ → Bool) (now : Graph K) → Reached F m G I now → IsOrder m I js → Reached F m G (left_after I js) (after F now js)
+  pub reached_after : (js : List ℕ) (I : ℕ → Bool) (now : Graph K) → Reached F m G I now → IsOrder m I js → Reached F m G (left_after I js) (after F now js)
   reached_after [] I now R o = R
   reached_after (j ∷ js) I now R o = reached_after js (dropping j I) (without F now j) (reached_step F m G I now j R o.0) o.1
 

@@ -5,7 +5,7 @@ use Rattle.field_core.specs.Sums.{sum_below, unit, dot}
 use Rattle.field_core.specs.Graph.{Graph, IsValid}
 use Rattle.field_core.specs.Removal.{without}
 use Rattle.field_core.specs.Sets.{IsIn, dropping}
-use Rattle.field_core.specs.Flows.{into, IsSuperSolution}
+use Rattle.field_core.specs.Flows.{into, IsSupersolution}
 use Rattle.field_core.specs.Walks.{IsWalkSolution, IsComponentWeight}
 use Rattle.field_core.specs.Runs.{part, through, Flows, Exits, Reached, flow_after, rows_after, exits_after}
 use Rattle.field_core.specs.Runs.{settled, weight_in}
@@ -59,11 +59,11 @@ module _ {K : Type 0} (F : OrderedField K) (m : ℕ) (G : Graph K) where
     flows = flows_step F m G I now R.y R.z R.flows R.valid j p;
   }
 
-  pub solution_super : (I : ℕ → Bool) (k : ℕ) (h : ℕ → K) → IsWalkSolution F m G I k h → IsSuperSolution F m G I k h
+  pub solution_super : (I : ℕ → Bool) (k : ℕ) (h : ℕ → K) → IsWalkSolution F m G I k h → IsSupersolution F m G I k h
   solution_super I k h S = record { nonneg = S.nonneg; above = λ r p e. is F (sym (S.solves r p e)) }
 
   -- What a flow of `I` carries to `k` is at most what a supersolution of a smaller set gives.
-  flow_le : (I J : ℕ → Bool) (now : Graph K) → Reached F m G I now → ((i : ℕ) → i < m → J i ≡ true → I i ≡ true) → (k : ℕ) → IsIn m I k → (h : ℕ → K) → IsSuperSolution F m G J k h → now.weight k ≼ G.weight k ⊕ dot F m G.weight h
+  flow_le : (I J : ℕ → Bool) (now : Graph K) → Reached F m G I now → ((i : ℕ) → i < m → J i ≡ true → I i ≡ true) → (k : ℕ) → IsIn m I k → (h : ℕ → K) → IsSupersolution F m G J k h → now.weight k ≼ G.weight k ⊕ dot F m G.weight h
   flow_le I J now R sub k p h S =
       rw (R.flows.weight k p) (by_le F (weak_duality F m G G.weight R.y h k R.flows.flow S.nonneg super) (simp sums))
     where
@@ -161,7 +161,7 @@ module _ {K : Type 0} (F : OrderedField K) (m : ℕ) (G : Graph K) where
       R = reach V I m (omega arith)
 
   -- The weight is the least value of a supersolution.
-  pub weight_below : IsValid F m G → (I : ℕ → Bool) (k : ℕ) → IsIn m I k → (h : ℕ → K) → IsSuperSolution F m G I k h → weight_in F m G I k ≼ G.weight k ⊕ dot F m G.weight h
+  pub weight_below : IsValid F m G → (I : ℕ → Bool) (k : ℕ) → IsIn m I k → (h : ℕ → K) → IsSupersolution F m G I k h → weight_in F m G I k ≼ G.weight k ⊕ dot F m G.weight h
   weight_below V I k p h S =
       subst (λ v. v ≼ G.weight k ⊕ dot F m G.weight h) (weight_unique (part m I) k _ _ (reached_weight (part m I) (settled F G I m) R k (inside I k p)) (weight_same I (part m I) (λ i q. sym (part_below m I i q)) k _ (weight_in_is V I k p)))
       (flow_le (part m I) I (settled F G I m) R (λ i q e. part_below m I i q ∙ e) k (inside I k p) h S)

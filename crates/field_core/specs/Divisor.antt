@@ -1,4 +1,4 @@
--- The greatest common divisor.
+-- The greatest common divisor (Euclid).
 use Rattle.std.specs.Prelude.{ℕ, zero, suc, ◌%◌}
 
 -- Euclid's steps, at most k of them

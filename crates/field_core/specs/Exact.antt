@@ -1,4 +1,4 @@
--- The value of stored parts, and kinds whose written operations are exact.
+-- The value of stored parts, and kinds whose written operations are exact (this project's own).
 use Rattle.std.specs.Prelude.{◌≡◌, true, false, Ok, IfOk}
 use Rattle.field_core.specs.declared.place.Op.{Op}
 use Rattle.field_core.specs.declared.place.Op.TheVariants.{Add, Sub, Mul, Div}

@@ -1,6 +1,7 @@
--- An ordered field: the laws that the order, the sum and the product of numbers have, and that the proofs on graphs rest on.
+-- An ordered field (common algebra): what the proofs on graphs use of the numbers.
 use Rattle.std.specs.Prelude.{◌≡◌, ◌⊎◌, Bool, true}
 
+-- sum, product, opposite, inverse and order of `K`, with their laws; the inverse of 0 is 0
 pub record OrderedField (K : Type 0) : Type 0 where
   pub 𝟘 : K
   pub 𝟙 : K
@@ -30,5 +31,6 @@ pub record OrderedField (K : Type 0) : Type 0 where
   pub mul_nonneg : (a b : K) → at_most 𝟘 a ≡ true → at_most 𝟘 b ≡ true → at_most 𝟘 (a ⊗ b) ≡ true
 
 module _ {K : Type 0} (F : OrderedField K) where
+  -- `a` is at most `b`
   abbrev pub AtMost : K → K → Type 0
   AtMost a b = F.at_most a b ≡ true

@@ -1,7 +1,7 @@
 -- Laws that the definitions rest on; whoever reads contracts can pass them by.
+pub mod AtMostLaws
 pub mod Effective
 pub mod FieldLaws
-pub mod FieldRecord
 pub mod FractionLaws
 pub mod Integers
 pub mod InverseLaws
@@ -9,6 +9,7 @@ pub mod Lift
 pub mod LimitLaws
 pub mod LimitRespects
 pub mod NumberLaws
+pub mod NumberFieldLaws
 pub mod NumberSums
 pub mod Order
 pub mod PairLaws

@@ -16,7 +16,7 @@ abbrev pub cut : List ℤ → (List ℤ → Number) → Number
 cut [] f = number_zero
 cut (c ∷ n) f = at_zero c (f n) number_zero
 
--- common powers of epsilon are cut, and then the coefficients of power 0 divided. It is 0 where the quotient has no limit
+-- the limit of n/d, and 0 where it has none
 unfoldable pub limit_ratio : List ℤ → List ℤ → Number
 limit_ratio n [] = number_zero
 limit_ratio n (d ∷ e) = at_zero d (cut n (λ m. limit_ratio m e)) (fraction (coefficient n 0) d)

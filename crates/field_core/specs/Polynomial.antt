@@ -14,19 +14,23 @@ coefficient (c ∷ p) (suc k) = coefficient p k
 abbrev pub Same : List ℤ → List ℤ → Type 0
 Same p q = (k : ℕ) → coefficient p k ≡ coefficient q k
 
+-- the sum, power by power
 unfoldable pub poly_add : List ℤ → List ℤ → List ℤ
 poly_add [] q = q
 poly_add (c ∷ p) [] = c ∷ p
 poly_add (c ∷ p) (d ∷ q) = (c +ℤ d) ∷ poly_add p q
 
+-- the opposite
 unfoldable pub poly_negate : List ℤ → List ℤ
 poly_negate [] = []
 poly_negate (c ∷ p) = neg_ℤ c ∷ poly_negate p
 
+-- a multiple by a whole number
 unfoldable pub poly_scale : ℤ → List ℤ → List ℤ
 poly_scale a [] = []
 poly_scale a (c ∷ p) = (a *ℤ c) ∷ poly_scale a p
 
+-- the product
 unfoldable pub poly_multiply : List ℤ → List ℤ → List ℤ
 poly_multiply [] q = []
 poly_multiply (c ∷ p) q = poly_add (poly_scale c q) (pos 0 ∷ poly_multiply p q)
@@ -42,6 +46,7 @@ unfoldable pub lowest : List ℤ → ℤ
 lowest [] = pos 0
 lowest (c ∷ p) = or_else c (lowest p)
 
+-- some coefficient isn't 0
 abbrev pub IsNonZero : List ℤ → Type 0
 IsNonZero p = ¬ (lowest p ≡ pos 0)
 

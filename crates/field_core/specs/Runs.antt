@@ -1,4 +1,4 @@
--- Runs of removals: what is left, and what holds of it at every moment (this project's own).
+-- Runs of removals: the graph that is left, and what flows and exits tell of it at every moment (this project's own).
 use Rattle.std.specs.Prelude.{◌≡◌, ◌≢◌, ℕ, zero, suc, Bool, cond, true, false, leb, ◌||◌, List, [], ◌∷◌}
 use Rattle.field_core.specs.Field.{OrderedField, AtMost}
 use Rattle.field_core.specs.Sums.{unit, dot}
@@ -7,16 +7,16 @@ use Rattle.field_core.specs.Removal.{left_over, without}
 use Rattle.field_core.specs.Sets.{IsIn, dropping}
 use Rattle.field_core.specs.Flows.{IsFlow, into}
 
--- `I` with all positions from `n` on.
+-- The set `I` with all positions from `n` on: what is kept while those below `n` are looked at.
 unfoldable pub part : ℕ → (ℕ → Bool) → ℕ → Bool
 part n I i = leb n i || I i
 
--- A list of distinct positions of `I`.
+-- A list of distinct members of `I`, in the order of their removal.
 abbrev pub IsOrder : ℕ → (ℕ → Bool) → List ℕ → Type 0
 IsOrder m I [] = Unit {0}
 IsOrder m I (j ∷ js) = IsIn m I j × IsOrder m (dropping j I) js
 
--- the set that is left after the removals of a list
+-- The set that is left after the removals of a list.
 abbrev pub left_after : (ℕ → Bool) → List ℕ → ℕ → Bool
 left_after I [] = I
 left_after I (j ∷ js) = left_after (dropping j I) js
@@ -25,14 +25,15 @@ module _ {K : Type 0} (F : OrderedField K) where
   open F use {𝟘, 𝟙, ◌⊕◌, ◌⊗◌, invert}
 
   infix 50 ◌≼◌
+  -- at most
   abbrev ◌≼◌ : K → K → Type 0
   a ≼ b = AtMost F a b
 
-  -- What the exit vector for `k` gives to the position `l`.
+  -- What passes from `l` to `k`, at once and through removed hypotheses, where `H k` are the exits to `k`.
   unfoldable pub through : ℕ → Graph K → (ℕ → ℕ → K) → ℕ → ℕ → K
   through m G H l k = G.edge l k ⊕ dot F m (G.edge l) (H k)
 
-  -- `now` is the graph `G` when `I` is kept, told by exits.
+  -- `now` is what is left of the graph `G` where `I` is kept, told by exits: `H k r` is the part of the weight of the removed `r` that arrives at `k`.
   pub record Exits (m : ℕ) (G : Graph K) (I : ℕ → Bool) (now : Graph K) (H : ℕ → ℕ → K) : Type 0 where
     pub nonneg : (k r : ℕ) → IsIn m I k → 𝟘 ≼ H k r
     pub elsewhere : (k r : ℕ) → I r ≡ true → H k r ≡ 𝟘
@@ -40,10 +41,11 @@ module _ {K : Type 0} (F : OrderedField K) where
     pub weight : (k : ℕ) → IsIn m I k → now.weight k ≡ G.weight k ⊕ dot F m G.weight (H k)
     pub edge : (l k : ℕ) → IsIn m I l → IsIn m I k → l ≢ k → through m G H l k ⊕ now.edge l k ⊗ through m G H l l ≡ now.edge l k
 
+  -- The exits once `j` is removed too: what came to `j` goes on along its present edges.
   unfoldable pub exits_after : (ℕ → ℕ → K) → Graph K → ℕ → ℕ → ℕ → K
   exits_after H now j k r = H k r ⊕ (H j r ⊕ unit F j r) ⊗ now.edge j k
 
-  -- `now` is the graph `G` when `I` is kept, told by flows.
+  -- `now` is what is left of the graph `G` where `I` is kept, told by flows: `y` carries the weights through the removed hypotheses, and `z l` carries what `l` passes on.
   pub record Flows (m : ℕ) (G : Graph K) (I : ℕ → Bool) (now : Graph K) (y : ℕ → K) (z : ℕ → ℕ → K) : Type 0 where
     pub flow : IsFlow F m G G.weight y
     pub elsewhere : (r : ℕ) → I r ≡ true → y r ≡ 𝟘
@@ -52,13 +54,15 @@ module _ {K : Type 0} (F : OrderedField K) where
     pub row_elsewhere : (l r : ℕ) → I r ≡ true → l ≢ r → z l r ≡ 𝟘
     pub edge : (l k : ℕ) → IsIn m I l → IsIn m I k → l ≢ k → now.edge l k ≡ dot F m (z l) (into F G k)
 
+  -- The flow of the weights once `j` is removed too: the present weight of `j` goes on.
   unfoldable pub flow_after : (ℕ → K) → (ℕ → ℕ → K) → Graph K → ℕ → ℕ → K
   flow_after y z now j r = y r ⊕ now.weight j ⊗ z j r
 
+  -- The flows of the rows once `j` is removed too.
   unfoldable pub rows_after : (ℕ → ℕ → K) → Graph K → ℕ → ℕ → ℕ → K
   rows_after z now j l r = (z l r ⊕ now.edge l j ⊗ z j r) ⊗ invert (left_over F now j l)
 
-  -- A graph that removals lead to, with all that is known of it.
+  -- A graph that removals lead to is valid, and has exits and flows.
   pub record Reached (m : ℕ) (G : Graph K) (I : ℕ → Bool) (now : Graph K) : Type 0 where
     pub valid : IsValid F m now
     pub exit : ℕ → ℕ → K
@@ -67,11 +71,12 @@ module _ {K : Type 0} (F : OrderedField K) where
     pub z : ℕ → ℕ → K
     pub flows : Flows m G I now y z
 
-  -- The positions below `n` and outside `I` removed, one after the other.
+  -- The graph after the removal of the positions below `n` outside `I`, in their order.
   unfoldable pub settled : Graph K → (ℕ → Bool) → ℕ → Graph K
   settled G I zero = G
   settled G I (suc n) = cond (I n) (settled G I n) (without F (settled G I n) n)
 
+  -- The weight that `k` has once all hypotheses outside `I` are removed, in their order.
   unfoldable pub weight_in : ℕ → Graph K → (ℕ → Bool) → ℕ → K
   weight_in m G I k = (settled G I m).weight k
 

@@ -6,9 +6,11 @@ module _ {K : Type 0} (F : OrderedField K) where
   open F use {𝟘, 𝟙, ◌⊕◌, ◌⊗◌}
 
   infix 50 ◌≼◌
+  -- at most
   abbrev ◌≼◌ : K → K → Type 0
   a ≼ b = AtMost F a b
 
+  -- The sum of `f i` over the positions below a number.
   unfoldable pub sum_below : ℕ → (ℕ → K) → K
   sum_below zero f = 𝟘
   sum_below (suc n) f = sum_below n f ⊕ f n

@@ -1,2 +1,17 @@
+pub mod Accepted
+pub mod Bodies
+pub mod Classes
+pub mod Cut
+pub mod Decimals
+pub mod DigitNumbers
 pub mod Limits
+pub mod LowestTerms
+pub mod Read
+pub mod Scan
+pub mod ReadBack
+pub mod ReadTexts
+pub mod Scaling
+pub mod SignedTexts
 pub mod Signs
+pub mod Unique
+pub mod Zeros

@@ -1,4 +1,12 @@
+pub mod Checking
 pub mod Laws
+pub mod Lowest
+pub mod Machine
+pub mod Numeral
 pub mod Plain
+pub mod Prefixes
+pub mod Reading
+pub mod Sizes
+pub mod Spelling
 pub mod View
 pub mod Written

@@ -1,7 +1,20 @@
 //! Fractions: the plain kind of numbers.
 #![tactic(auto)]
 
+mod backward;
+mod check;
+mod decimal;
+mod digits;
+mod fault;
 mod fraction;
+pub mod laws;
+mod lowest;
+mod machine;
+mod parse;
+mod print;
+mod size;
+mod value;
 mod written;
 
+pub use fault::{FractionFault, NumberFault};
 pub use fraction::Fraction;

@@ -11,14 +11,14 @@ use Rattle.std.specs.Cmp.{int_cmp_is}
 use Rattle.std.specs.declared.cmp.Ordering.TheVariants.{Equal}
 use Rattle.field_core.specs.Laws.Ring.{negate_multiply, difference_none}
 use Rattle.field_core.specs.Laws.Integers.{integers}
-use Rattle.field_core.specs.Polynomial.{Same, coefficient, poly_add, poly_negate, poly_multiply, lowest, int_sign}
+use Rattle.field_core.specs.Polynomial.{Same, coefficient, poly_add, poly_negate, poly_multiply, lowest, int_sign, IsNonZero}
 use Rattle.field_core.specs.Laws.PolynomialLaws.{ring, value, value-add, value-multiply, value-negate, value-zero, same_in, same_out, lowest-none, lowest-same, lowest-multiply, nonzero-multiply, product_nonzero, int_sign-scale, int_sign-none, positive_in}
 use Rattle.field_core.specs.Number.{Pair, CrossEqual, of_pair}
 use Rattle.field_core.specs.Pairs.{pair_sign, pair_add, pair_negate}
 use Rattle.field_core.specs.Arithmetic.{◌+ε◌, ◌-ε◌, number_negate, number_sign, number_compare}
 use Rattle.field_core.specs.Laws.NumberLaws.{number_add_negate, number_sign_zero}
 use Rattle.field_core.specs.Laws.LimitRespects.{factor_zero}
-use Rattle.field_core.specs.Fractions.{fraction}
+use Rattle.field_core.specs.Fractions.{quotient, fraction}
 use Rattle.field_core.specs.Laws.FractionLaws.{fraction-add, fraction-negate, fraction-sign, quotient-pair, constant_nonzero, constant-multiply}
 
 -- a difference that is nothing
@@ -41,6 +41,10 @@ pub cross_of_equal : (a b : Pair) → of_pair a ≡ of_pair b → CrossEqual a b
 unfolding number_sign ◌+ε◌ number_negate
 cross_of_equal a b e =
     cross_of_sign a b (ap number_sign (ap (λ x. x +ε number_negate (of_pair b)) e ∙ number_add_negate (of_pair b)) ∙ number_sign_zero)
+
+pub cross_of_quotients : (n d m e : List ℤ) → IsNonZero d → IsNonZero e → quotient n d ≡ quotient m e → Same (poly_multiply n e) (poly_multiply m d)
+cross_of_quotients n d m e h g same =
+    cross_of_equal record { numerator = n; denominator = d; nonzero = h } record { numerator = m; denominator = e; nonzero = g } (sym (quotient-pair n d h) ∙ same ∙ quotient-pair m e g)
 
 int_negate_multiply : (a b : ℤ) → neg_ℤ a *ℤ b ≡ neg_ℤ (a *ℤ b)
 unfolding integers

@@ -12,7 +12,7 @@ use Rattle.field_core.proofs.Divisors.{gcd_is}
 use Rattle.field_core.proofs.IntegerRing.{ring}
 use Rattle.fraction.specs.Laws.Reduced.{sized_says}
 
-neg_times : (m g : ℕ) → neg_ℤ (pos m) *ℤ pos g ≡ neg_ℤ (pos (m * g))
+pub neg_times : (m g : ℕ) → neg_ℤ (pos m) *ℤ pos g ≡ neg_ℤ (pos (m * g))
 neg_times zero g = rw (zero-mul g) (omega (arith, ints))
 neg_times (suc m) g = omega (arith, ints)
 

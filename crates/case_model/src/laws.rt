@@ -1,0 +1,78 @@
+//! Laws of entangled graphs and of the closed test. Each function states laws that hold of all valid entangled graphs,
+//! and does nothing.
+
+ghost use Rattle.case_model.specs.ClosedTestExamples.{HalvesAreValid, OnlyFirstHalfIsRejected, BothLinkedHalvesAreRejected, WeightZeroRejectsNothing, AlikeAreTakenByPosition, LeastRatioIsTakenFirst};
+ghost use Rattle.case_model.specs.ClosedTestStatements.{SetsAreRejectedByTheirSupersets, HypothesesAreRejectedByTheirSets, RejectionsStayAtGreaterLevels, LegalOrdersAreRejected, CompleteListsHaveAllRejected, CompleteOrdersDecide, CompleteOrdersAgree, FirstOrdersAreComplete, LastOrdersAreComplete, RatioOrdersAreComplete, FirstOrdersExist, LastOrdersExist, RatioOrdersExist, FirstOrdersAreUnique, LastOrdersAreUnique, RatioOrdersAreUnique};
+ghost use Rattle.case_model.specs.IntersectionStatements.{IntersectionWeightsExist, IntersectionWeightsAreUnique, IntersectionWeightsAreUnit, IntersectionWeightsSumToOne, IntersectionWeightsAreLeftByRemovals, IntersectionWeightsAreMonotone};
+
+/// Each member of each set has just one intersection weight.
+pub fn intersection_weights_exist()
+    ensures exist { IntersectionWeightsExist }
+    ensures unique { IntersectionWeightsAreUnique }
+{}
+
+/// Intersection weights are from 0 to 1, and those of a set sum to at most 1.
+pub fn intersection_weights_are_weights()
+    ensures range { IntersectionWeightsAreUnit }
+    ensures total { IntersectionWeightsSumToOne }
+{}
+
+/// Intersection weights are what removals leave, in whatever order.
+pub fn intersection_weights_are_left_by_removals()
+    ensures { IntersectionWeightsAreLeftByRemovals }
+{}
+
+/// Intersection weights don't fall when the set shrinks.
+pub fn intersection_weights_are_monotone()
+    ensures { IntersectionWeightsAreMonotone }
+{}
+
+/// The closed test rejects a set, or a hypothesis, exactly where the local test rejects all sets that hold it.
+pub fn closed_rejections_are_of_all_supersets()
+    ensures sets { SetsAreRejectedByTheirSupersets }
+    ensures hypotheses { HypothesesAreRejectedByTheirSets }
+{}
+
+/// What is rejected at a level is rejected at each greater one.
+pub fn rejections_stay_at_greater_levels()
+    ensures { RejectionsStayAtGreaterLevels }
+{}
+
+/// A complete legal order has exactly the hypotheses that the closed test rejects, whichever order it is.
+pub fn complete_orders_decide()
+    ensures legal { LegalOrdersAreRejected }
+    ensures complete { CompleteListsHaveAllRejected }
+    ensures decide { CompleteOrdersDecide }
+    ensures agree { CompleteOrdersAgree }
+{}
+
+/// The order of each priority is a complete legal order.
+pub fn priority_orders_are_complete()
+    ensures first { FirstOrdersAreComplete }
+    ensures last { LastOrdersAreComplete }
+    ensures ratio { RatioOrdersAreComplete }
+{}
+
+/// Each priority has just one order.
+pub fn priority_orders_exist()
+    ensures first { FirstOrdersExist }
+    ensures last { LastOrdersExist }
+    ensures ratio { RatioOrdersExist }
+    ensures one_first { FirstOrdersAreUnique }
+    ensures one_last { LastOrdersAreUnique }
+    ensures one_ratio { RatioOrdersAreUnique }
+{}
+
+/// What the closed test rejects of one or two hypotheses: facts that show what the definitions say.
+pub fn small_closed_tests()
+    ensures valid { HalvesAreValid }
+    ensures apart { OnlyFirstHalfIsRejected }
+    ensures linked { BothLinkedHalvesAreRejected }
+    ensures weight_zero { WeightZeroRejectsNothing }
+{}
+
+/// The orders of the three priorities of two hypotheses.
+pub fn orders_of_two_hypotheses()
+    ensures alike { AlikeAreTakenByPosition }
+    ensures ratio { LeastRatioIsTakenFirst }
+{}

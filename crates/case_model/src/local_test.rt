@@ -1,0 +1,31 @@
+ghost use Rattle.std.specs.Prelude.{◌≡◌, ◌↔◌, IsTrue, true};
+ghost use Rattle.field_core.specs.Arithmetic.{◌*ε◌};
+ghost use Rattle.fraction.specs.View.{terms_of, number_of};
+ghost use Rattle.case_model.specs.Draft.{is_level, is_p_value};
+ghost use Rattle.case_model.specs.ClosedTest.{Passes};
+
+use crate::numbers::{at_most, is_positive};
+use field_core::Number;
+use fraction::Fraction;
+
+/// The greatest weight at which a p-value may fail to pass: p / alpha. It always fits.
+fn threshold(p: &Fraction, alpha: &Fraction) -> Fraction
+    requires p { is_p_value (terms_of p.now) ≡ true }
+    requires alpha { is_level (terms_of alpha.now) ≡ true }
+    ensures { number_of result *ε number_of alpha.now ≡ number_of p.now }
+{
+    match p.div(alpha) {
+        Ok(threshold) => threshold,
+        Err(_) => unreachable!(),
+    }
+}
+
+/// Whether a p-value passes at a weight: the weight is above 0 and the p-value is at most weight times alpha.
+/// It never refuses, because p / alpha has parts of at most 10^34.
+pub fn passes(p: &Fraction, weight: &Fraction, alpha: &Fraction) -> bool
+    requires p { is_p_value (terms_of p.now) ≡ true }
+    requires alpha { is_level (terms_of alpha.now) ≡ true }
+    ensures { IsTrue result ↔ Passes (number_of p.now) (number_of weight.now) (number_of alpha.now) }
+{
+    is_positive(weight) && at_most(&threshold(p, alpha), weight)
+}

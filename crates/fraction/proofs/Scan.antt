@@ -1,0 +1,85 @@
+-- A scan of a text.
+use Rattle.std.proofs.Common.{◌≡◌, ℕ, suc, ◌+◌, ◌<◌, ◌≤◌, true, false, List, [], ◌∷◌, length, get_or, drop, Some, None, Ok, Err, refl, sym, ap, ◌∙◌, arith}
+use Rattle.std.proofs.lemmas.List.{drop_more, drop_all}
+use Rattle.field_core.proofs.Longest.{accepts_then, count, count_then, count_nil, count_cons, stops_behind}
+use Rattle.fraction.specs.declared.fault.NumberFault.TheVariants.{Empty, BadByte}
+use Rattle.fraction.specs.declared.machine.State.{State}
+use Rattle.fraction.specs.declared.machine.State.TheVariants.{Start, Signed, Whole, Point, Fraction, Mark, MarkSigned, Exponent, Slash, Under}
+use Rattle.fraction.specs.Machine.{class_of, step, byte_step, is_final}
+use Rattle.fraction.specs.Numeral.{IsNumeral}
+use Rattle.fraction.specs.Prefixes.{IsBadByte}
+use Rattle.fraction.specs.Checking.{IsChecked}
+use Rattle.fraction.proofs.Accepted.{reads, reads_nil, reads_cons, accepted}
+use Rattle.fraction.proofs.Read.{is_numeral}
+
+-- how many bytes of t may follow in a state
+abbrev pub reached : List ℕ → State → ℕ
+reached t s = count byte_step t s
+
+pub reads_on : (text : List ℕ) (i : ℕ) (s t : State) → i < length text → step s (class_of (get_or text i 0)) ≡ Some t → reads (drop i text) s ≡ reads (drop (i + 1) text) t
+reads_on text i s t lt e = ap (λ (x : List ℕ). reads x s) (drop_more text i 0 lt) ∙ reads_cons (get_or text i 0) (drop (i + 1) text) s ∙ ap (accepts_then (reads (drop (i + 1) text))) e
+
+pub reads_off : (text : List ℕ) (i : ℕ) (s : State) → i < length text → step s (class_of (get_or text i 0)) ≡ None → reads (drop i text) s ≡ false
+reads_off text i s lt e = ap (λ (x : List ℕ). reads x s) (drop_more text i 0 lt) ∙ reads_cons (get_or text i 0) (drop (i + 1) text) s ∙ ap (accepts_then (reads (drop (i + 1) text))) e
+
+pub reads_end : (text : List ℕ) (n : ℕ) (s : State) → length text ≤ n → reads (drop n text) s ≡ is_final s
+reads_end text n s h = ap (λ (x : List ℕ). reads x s) (drop_all n text h) ∙ reads_nil s
+
+pub reached_on : (text : List ℕ) (i : ℕ) (s t : State) → i < length text → step s (class_of (get_or text i 0)) ≡ Some t → reached (drop i text) s ≡ 1 + reached (drop (i + 1) text) t
+reached_on text i s t lt e = ap (λ (x : List ℕ). reached x s) (drop_more text i 0 lt) ∙ count_cons byte_step is_final (get_or text i 0) (drop (i + 1) text) s ∙ ap (count_then (reached (drop (i + 1) text))) e
+
+pub reached_off : (text : List ℕ) (i : ℕ) (s : State) → i < length text → step s (class_of (get_or text i 0)) ≡ None → reached (drop i text) s ≡ 0
+reached_off text i s lt e = ap (λ (x : List ℕ). reached x s) (drop_more text i 0 lt) ∙ count_cons byte_step is_final (get_or text i 0) (drop (i + 1) text) s ∙ ap (count_then (reached (drop (i + 1) text))) e
+
+pub reached_end : (text : List ℕ) (n : ℕ) (s : State) → length text ≤ n → reached (drop n text) s ≡ 0
+reached_end text n s h = ap (λ (x : List ℕ). reached x s) (drop_all n text h) ∙ count_nil byte_step is_final s
+
+-- how a numeral may end of which so much was read
+completion : State → List ℕ
+completion Whole = []
+completion Fraction = []
+completion Exponent = []
+completion Under = []
+completion state = 48 ∷ []
+
+digit_completes : (s : State) → accepts_then (reads []) (step s (class_of 48)) ≡ true → reads (48 ∷ []) s ≡ true
+digit_completes s h = reads_cons 48 [] s ∙ h
+
+completes : (s : State) → reads (completion s) s ≡ true
+unfolding completion class_of
+completes Start = digit_completes Start (reads_nil Whole)
+completes Signed = digit_completes Signed (reads_nil Whole)
+completes Whole = reads_nil Whole
+completes Point = digit_completes Point (reads_nil Fraction)
+completes Fraction = reads_nil Fraction
+completes Mark = digit_completes Mark (reads_nil Exponent)
+completes MarkSigned = digit_completes MarkSigned (reads_nil Exponent)
+completes Exponent = reads_nil Exponent
+completes Slash = digit_completes Slash (reads_nil Under)
+completes Under = reads_nil Under
+
+bad_byte : (t : List ℕ) → reads t Start ≡ false → IsBadByte IsNumeral t (reached t Start)
+bad_byte t h =
+    let l = stops_behind byte_step is_final completion completes IsNumeral Start accepted is_numeral t in
+    record {
+      refused = λ n. let e = sym (accepted t n) ∙ h in cc;
+      within = l.within;
+      begins = record { rest = l.rest; whole = l.whole };
+      longest = λ m le b. l.longest m b.rest le b.whole;
+    }
+
+some_not_nil : (t : List ℕ) → 0 < length t → ¬ (t ≡ [])
+some_not_nil t some e = let n : length t ≡ 0 = ap length e in omega arith
+
+pub checked_empty : (t : List ℕ) → length t ≡ 0 → IsChecked t (Err Empty)
+unfolding IsChecked
+checked_empty [] h = refl
+checked_empty (b ∷ t) h = absurd (omega arith)
+
+pub checked_numeral : (t : List ℕ) → reads t Start ≡ true → IsChecked t (Ok tt)
+unfolding IsChecked
+checked_numeral t h = is_numeral t h
+
+pub checked_bad : (t : List ℕ) (n : ℕ) → 0 < length t → reads t Start ≡ false → reached t Start ≡ n → IsChecked t (Err (BadByte n))
+unfolding IsChecked
+checked_bad t n some h e = rw (← e) (some_not_nil t some, bad_byte t h)

@@ -1,0 +1,7 @@
+use Rattle.std.proofs.Common.{arith}
+use Rattle.std.proofs.lemmas.List.{length-take}
+use Rattle.fraction.proofs.DigitNumbers.{power_small}
+use Rattle.fraction.proofs.digits.number.Goals as goal
+
+pub extended-requires-clause-room : goal.extended-requires-clause-room
+extended-requires-clause-room c = omega (arith, power_small _ c.requires.few)

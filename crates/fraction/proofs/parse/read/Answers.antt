@@ -1,0 +1,16 @@
+use Rattle.std.proofs.lemmas.Result.{err_from_is_err_and}
+use Rattle.fraction.proofs.ReadTexts.{checked_fault, body_fault, body_ok}
+use Rattle.fraction.proofs.parse.read.Goals as goal
+
+pub returns-in_err-check : goal.returns-in_err-check
+returns-in_err-check c =
+    let p = err_from_is_err_and c.from_residual.result c.from_residual.ensures.1 in
+    rw (p.1, p.2) (checked_fault c.args.text.now _ c.in_err-check.ensures)
+
+pub returns-in_err-size : goal.returns-in_err-size
+returns-in_err-size c =
+    let p = err_from_is_err_and c.from_residual-in_err-size.result c.from_residual-in_err-size.ensures.1 in
+    rw (p.1, p.2) (body_fault c.args.text.now _ _ c.in_ok-check.ensures c.split_sign-negative.ensures.rest c.in_err-size.ensures)
+
+pub returns : goal.returns
+returns c = body_ok c.args.text.now _ _ c.in_ok-size.size c.lowest.result c.in_ok-check.ensures c.split_sign-negative.ensures.minus c.split_sign-negative.ensures.rest c.in_ok-size.ensures c.lowest.ensures

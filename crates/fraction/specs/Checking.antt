@@ -1,0 +1,14 @@
+-- What a look at the bytes of a text alone tells.
+use Rattle.std.specs.Prelude.{◌≡◌, List, ℕ, [], Result, Ok, Err}
+use Rattle.fraction.specs.declared.fault.NumberFault.{NumberFault}
+use Rattle.fraction.specs.declared.fault.NumberFault.TheVariants.{Empty, BadByte, ZeroDenominator, TooManyDigits}
+use Rattle.fraction.specs.Prefixes.{IsBadByte}
+use Rattle.fraction.specs.Numeral.{IsNumeral}
+
+-- it is a numeral, or empty, or else has a first bad byte
+unfoldable pub IsChecked : List ℕ → Result (Unit {0}) NumberFault → Type 0
+IsChecked text (Ok x) = IsNumeral text
+IsChecked text (Err Empty) = text ≡ []
+IsChecked text (Err (BadByte n)) = ¬ (text ≡ []) × IsBadByte IsNumeral text n
+IsChecked text (Err ZeroDenominator) = ⊥
+IsChecked text (Err TooManyDigits) = ⊥

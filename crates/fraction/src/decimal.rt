@@ -1,0 +1,17 @@
+ghost use Rattle.std.specs.Prelude.{◌≤◌, ◌^◌};
+
+/// How many times a number is multiplied by ten, and how many times it is divided.
+#[derive(Clone, Copy)]
+pub struct Shift {
+    pub up: u128,
+    pub down: u128,
+    ghost near_up: { up ≤ 2 ^ 100 },
+    ghost near_down: { down ≤ 2 ^ 100 },
+}
+
+/// The digits of a decimal before and behind its point.
+#[derive(Clone, Copy)]
+pub struct Decimal<'a> {
+    pub whole: &'a [u8],
+    pub fraction: &'a [u8],
+}

@@ -1,0 +1,21 @@
+/// Why two whole numbers make no fraction.
+#[derive(Clone, Copy, PartialEq, Eq, Debug)]
+pub enum FractionFault {
+    /// The denominator is 0.
+    ZeroDenominator,
+    /// In lowest terms a part passes 2^127 - 1 in size.
+    TooWide,
+}
+
+/// Why a text is no numeral that can be taken. The faults are tested in this order.
+#[derive(Clone, Copy, PartialEq, Eq, Debug)]
+pub enum NumberFault {
+    /// The text has no byte.
+    Empty,
+    /// The text is no numeral, and this many bytes of it begin some numeral.
+    BadByte(usize),
+    /// The second part of a pair is 0.
+    ZeroDenominator,
+    /// The number has more digits than the limit of 38 allows.
+    TooManyDigits,
+}

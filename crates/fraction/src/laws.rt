@@ -1,0 +1,18 @@
+//! Laws of numerals.
+ghost use Rattle.std.specs.Prelude.{◌≡◌, ◌<◌, ◌^◌, ℕ, List, unsigned_abs};
+ghost use Rattle.field_core.specs.Terms.{Terms, IsReduced};
+ghost use Rattle.fraction.specs.declared.fault.NumberFault.{NumberFault};
+ghost use Rattle.fraction.specs.Numeral.{IsNumeralOf, IsParseFault};
+ghost use Rattle.fraction.specs.Spelling.{spelling};
+
+/// A text has at most one value, or one fault.
+pub fn a_text_says_one_thing()
+    ensures value { (text : List ℕ) (t u : Terms) → IsNumeralOf text t → IsNumeralOf text u → t ≡ u }
+    ensures fault { (text : List ℕ) (f g : NumberFault) → IsParseFault text f → IsParseFault text g → f ≡ g }
+    ensures apart { (text : List ℕ) (t : Terms) (f : NumberFault) → IsNumeralOf text t → ¬ IsParseFault text f }
+{}
+
+/// The text of a fraction whose parts have at most 38 digits is a numeral of it.
+pub fn a_printed_fraction_reads_back()
+    ensures { (t : Terms) → IsReduced t → unsigned_abs t.num < 10 ^ 38 → unsigned_abs t.den < 10 ^ 38 → IsNumeralOf (spelling t) t }
+{}

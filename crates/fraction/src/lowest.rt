@@ -1,0 +1,78 @@
+//! Lowest terms.
+ghost use Rattle.std.specs.Prelude.{◌≡◌, ◌/◌, ◌<◌, ◌≤◌, ◌^◌, pos, false, unsigned_abs};
+ghost use Rattle.std.specs.Int.{is_negative};
+ghost use Rattle.field_core.specs.Divisor.{gcd};
+ghost use Rattle.field_core.specs.View.{terms};
+ghost use Rattle.fraction.specs.Numeral.{with_sign};
+ghost use Rattle.fraction.specs.Lowest.{lowest_of, IsLowest};
+
+use crate::FractionFault;
+use crate::size::Size;
+use field_core::{Ratio, Whole, gcd};
+
+/// The largest size of a part.
+const LARGEST: u128 = u128::MAX / 2;
+
+fn with_sign(negative: bool, size: u128) -> Whole
+    requires { size < 2 ^ 127 }
+    ensures { result ≡ with_sign negative size }
+{
+    let whole = Whole::new(size as i128);
+    if negative { whole.negated() } else { whole }
+}
+
+/// The quotient of two numbers that have no common divisor above 1, behind a sign.
+fn reduced(negative: bool, size: &Size) -> Ratio
+    requires { gcd size.now.num size.now.den ≡ 1 }
+    ensures { terms result ≡ record { num = with_sign negative size.now.num; den = pos size.now.den } }
+{
+    Ratio::of_wholes(with_sign(negative, size.num), with_sign(false, size.den))
+}
+
+/// Two numbers without their common divisors.
+#[tactic(auto, using(crate::proofs::LowestTerms::divided))]
+fn divided(num: u128, den: u128) -> (u128, u128)
+    requires { 0 < den }
+    ensures first { result.0 ≡ num / gcd num den }
+    ensures second { result.1 ≡ den / gcd num den }
+    ensures apart { gcd result.0 result.1 ≡ 1 }
+    ensures some { 0 < result.1 }
+    ensures first_within { result.0 ≤ num }
+    ensures second_within { result.1 ≤ den }
+{
+    let divisor = gcd(num, den);
+    (num / divisor, den / divisor)
+}
+
+/// The quotient of two numbers in lowest terms, behind a sign.
+#[tactic(auto, unfolding(crate::specs::Lowest::lowest_of))]
+pub fn lowest(negative: bool, size: &Size) -> Ratio
+    ensures { terms result ≡ lowest_of negative size.now.num size.now.den }
+{
+    let (num, den) = divided(size.num, size.den);
+    reduced(negative, &Size { num, den })
+}
+
+/// Whether a whole number is below 0, and its size.
+pub fn sign_and_size(number: i128) -> (bool, u128)
+    ensures sign { result.0 ≡ is_negative number }
+    ensures size { result.1 ≡ unsigned_abs number }
+{
+    (number < 0, number.unsigned_abs())
+}
+
+/// The quotient of two whole numbers in lowest terms.
+pub fn quotient(num: i128, den: i128) -> Result<Ratio, FractionFault>
+    ensures { IsLowest num den result }
+{
+    let (below, over) = sign_and_size(num);
+    let (turned, under) = sign_and_size(den);
+    if under == 0 {
+        return Err(FractionFault::ZeroDenominator);
+    }
+    let (num, den) = divided(over, under);
+    if num > LARGEST || den > LARGEST {
+        return Err(FractionFault::TooWide);
+    }
+    Ok(reduced(below != turned, &Size { num, den }))
+}

@@ -1,0 +1,5 @@
+//! The top call: words, a case and a proof in, a text and a status out.
+#![tactic(auto)]
+
+mod answer;
+mod words;

@@ -1,0 +1,9 @@
+pub mod Adapters
+pub mod Causes
+pub mod FailingSink
+pub mod FailingSource
+pub mod MemorySink
+pub mod Plan
+pub mod Reading
+pub mod Room
+pub mod Writing

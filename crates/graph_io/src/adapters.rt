@@ -1,0 +1,95 @@
+//! A source and a sink over std's readers and writers.
+ghost use Rattle.std.specs.Prelude.{◌≡◌, ◌<◌, length, IfOk};
+ghost use Rattle.std.specs.Io.{ReadsAtMost, WritesAtMost};
+ghost use Rattle.std.specs.Io.KnownBytes.{ReadConsumes, WriteAppends};
+ghost use Rattle.graph_io.specs.Causes.{HasCause, CountsFault};
+ghost use Rattle.graph_io.specs.Adapters.{reader_of, read_faults, writer_of, write_faults};
+
+use crate::faults::FaultCount;
+use crate::{Failed, Sink, Source};
+use std::io::{Read, Write};
+
+/// A reader as a source. It tells what the reader tells, keeps no bytes, and counts the errors.
+#[derive(Drop)]
+pub struct StdSource<R> {
+    inner: R,
+    faults: FaultCount,
+}
+
+impl<R> StdSource<R> {
+    /// A source of what this reader gives.
+    pub fn new(inner: R) -> StdSource<R>
+        ensures inner { reader_of result ≡ inner }
+        ensures faults { read_faults result ≡ 0 }
+    {
+        StdSource {
+            inner,
+            faults: FaultCount::new(),
+        }
+    }
+}
+
+impl<R: Read> Source for StdSource<R> {
+    ghost left = { λ s. R.remaining (reader_of s) };
+
+    ghost faults = { read_faults };
+
+    ghost counted = { λ s. s.faults.in_range };
+
+    fn take(&mut self, buf: &mut [u8]) -> Result<usize, Failed>
+        ensures bound { ReadsAtMost result buf.new }
+        ensures bytes { ReadConsumes (R.remaining (reader_of self.old))
+            (R.remaining (reader_of self.new)) result buf.new }
+        ensures cause { HasCause (read_faults self.old) (read_faults self.new) result }
+
+        ensures counted { CountsFault (read_faults self.old) (read_faults self.new) result }
+    {
+        let moved = self.inner.read(buf).map_err(|_| Failed);
+        self.faults.note(moved)
+    }
+}
+
+/// A writer as a sink. It tells what the writer tells, keeps no bytes, and counts the errors; that
+/// the writer takes nothing of a piece that isn't empty counts as one.
+#[derive(Drop)]
+pub struct StdSink<W> {
+    inner: W,
+    faults: FaultCount,
+}
+
+impl<W> StdSink<W> {
+    /// A sink that hands all to this writer.
+    pub fn new(inner: W) -> StdSink<W>
+        ensures inner { writer_of result ≡ inner }
+        ensures faults { write_faults result ≡ 0 }
+    {
+        StdSink {
+            inner,
+            faults: FaultCount::new(),
+        }
+    }
+}
+
+impl<W: Write> Sink for StdSink<W> {
+    ghost held = { λ s. W.contents (writer_of s) };
+
+    ghost faults = { write_faults };
+
+    ghost counted = { λ s. s.faults.in_range };
+
+    fn put(&mut self, bytes: &[u8]) -> Result<usize, Failed>
+        ensures bound { WritesAtMost result bytes.now }
+        ensures some { IfOk result (λ n. 0 < length bytes.now → 0 < n) }
+        ensures bytes { WriteAppends (W.contents (writer_of self.old))
+            (W.contents (writer_of self.new)) result bytes.now }
+        ensures cause { HasCause (write_faults self.old) (write_faults self.new) result }
+
+        ensures counted { CountsFault (write_faults self.old) (write_faults self.new) result }
+    {
+        let taken = match self.inner.write(bytes) {
+            Ok(count) if count > 0 || bytes.is_empty() => Ok(count),
+            _ => Err(Failed),
+        };
+        self.faults.note(taken)
+    }
+}

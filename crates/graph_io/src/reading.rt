@@ -1,0 +1,84 @@
+//! Sources, and reading one to its end.
+ghost use Rattle.std.specs.Prelude.{◌≡◌, ℕ, ◌≤◌, ◌<◌, ◌^◌, List as Seq, IfOk, IfErr};
+ghost use Rattle.std.specs.declared.option.Option.{Option};
+ghost use Rattle.std.specs.Io.{ReadsAtMost};
+ghost use Rattle.std.specs.Io.KnownBytes.{ReadConsumes};
+ghost use Rattle.graph_io.specs.Causes.{HasCause};
+ghost use Rattle.graph_io.specs.Reading.{ReadWhole, EndedBy, TookAtMost, most_taken};
+
+use crate::Failed;
+use field_core::{List, NoMemory};
+use std::alloc::Global;
+
+/// Why a reading ended early.
+#[derive(Clone, Copy, PartialEq, Eq, Debug)]
+pub enum ReadEnd {
+    /// The source failed.
+    Fault,
+    /// There are more bytes than allowed; the number is the first one past the limit, from 1.
+    TooLong(u64),
+    /// Memory ran out.
+    NoMemory,
+}
+
+impl From<NoMemory> for ReadEnd {
+    ghost use Rattle.graph_io.specs.declared.reading.ReadEnd.TheVariants.{NoMemory};
+
+    ghost from_gives = { λ _ e. e ≡ NoMemory };
+
+    fn from(_: NoMemory) -> Self {
+        ReadEnd::NoMemory
+    }
+}
+
+/// Bytes to be read.
+pub trait Source {
+    /// The bytes that are left, where the source tells them.
+    ghost left: { Self → Option (Seq ℕ) };
+
+    /// How often a call failed.
+    ghost faults: { Self → ℕ };
+
+    /// Moves the next bytes into the front of `buf`, and says how many. None, with room in `buf`,
+    /// is the end. A failed call moves nothing.
+    fn take(&mut self, buf: &mut [u8]) -> Result<usize, Failed>
+        ensures bound { ReadsAtMost result buf.new }
+        ensures bytes { ReadConsumes (left self.old) (left self.new) result buf.new }
+        ensures cause { HasCause (faults self.old) (faults self.new) result };
+
+    /// The count of faults is a `u64`.
+    ghost counted: { (s : Self) → faults s < 2 ^ 64 };
+}
+
+/// All bytes of a source, read to its end, where there are at most `limit` of them; `limit` is at
+/// most 4,194,304.
+///
+/// A fault comes only where the source's count rose. `TooLong` comes exactly where byte `limit + 1`
+/// was taken, and no more is taken then.
+pub fn read_all<S: Source>(alloc: Global, source: &mut S, limit: u64) -> Result<List<u8>, ReadEnd>
+    requires { limit ≤ 4194304 }
+    ensures whole { IfOk result (ReadWhole limit (S.left source.old) (S.left source.new)) }
+    ensures ended { IfErr result
+        (EndedBy limit (S.left source.old) (S.left source.new)
+        (S.faults source.old) (S.faults source.new)) }
+    ensures taken { IfErr result
+        (λ end. TookAtMost (S.left source.old) (S.left source.new) (most_taken limit end)) }
+    ensures later { S.faults source.old ≤ S.faults source.new }
+{
+    let most = limit as usize;
+    let mut read = List::new(alloc);
+    let mut piece = [0u8; 4096];
+    'pieces: loop {
+        let ask = (most + 1 - read.len()).min(4096);
+        match source.take(&mut piece[..ask]) {
+            Err(_) => return Err(ReadEnd::Fault),
+            Ok(0) => return Ok(read),
+            Ok(count) => {
+                read.append(&piece[..count])?;
+                if most < read.len() {
+                    return Err(ReadEnd::TooLong(limit + 1));
+                }
+            }
+        }
+    }
+}

@@ -1,0 +1,41 @@
+//! Sinks, and writing whole texts.
+ghost use Rattle.std.specs.Prelude.{ℕ, ◌<◌, ◌^◌, List as Seq, length, IfOk};
+ghost use Rattle.std.specs.declared.option.Option.{Option};
+ghost use Rattle.std.specs.Io.{WritesAtMost};
+ghost use Rattle.std.specs.Io.KnownBytes.{WriteAppends};
+ghost use Rattle.graph_io.specs.Causes.{HasCause};
+ghost use Rattle.graph_io.specs.Writing.{PutAll};
+
+use crate::Failed;
+
+/// A place where bytes are written.
+pub trait Sink {
+    /// The bytes that it holds, where the sink tells them.
+    ghost held: { Self → Option (Seq ℕ) };
+
+    /// How often a call failed.
+    ghost faults: { Self → ℕ };
+
+    /// Appends the first bytes of `bytes`, at least one where there are any, and says how many. A
+    /// failed call appends nothing.
+    fn put(&mut self, bytes: &[u8]) -> Result<usize, Failed>
+        ensures bound { WritesAtMost result bytes.now }
+        ensures some { IfOk result (λ n. 0 < length bytes.now → 0 < n) }
+        ensures bytes { WriteAppends (held self.old) (held self.new) result bytes.now }
+        ensures cause { HasCause (faults self.old) (faults self.new) result };
+
+    /// The count of faults is a `u64`.
+    ghost counted: { (s : Self) → faults s < 2 ^ 64 };
+}
+
+/// Puts all bytes into a sink. After a failure the sink holds a prefix of them.
+pub fn write_all<W: Sink>(sink: &mut W, bytes: &[u8]) -> Result<(), Failed>
+    ensures bytes { PutAll (W.held sink.old) (W.held sink.new) bytes.now result }
+    ensures cause { HasCause (W.faults sink.old) (W.faults sink.new) result }
+{
+    let mut from = 0;
+    'pieces: while from < bytes.len() {
+        from += sink.put(&bytes[from..])?;
+    }
+    Ok(())
+}
