@@ -1,7 +1,6 @@
 -- A graph is valid where a test says so.
-use Rattle.std.proofs.Common.{◌≡◌, refl, ℕ, zero, suc, ◌<◌, ◌⊎◌, inl, inr, Bool, true, false, ◌&&◌, sym, ap, ◌∙◌, arith}
+use Rattle.std.proofs.Common.{◌≡◌, refl, ℕ, zero, suc, ◌<◌, ◌⊎◌, inl, inr, Bool, true, false, ◌&&◌, ap, ◌∙◌, arith}
 use Rattle.field_core.specs.Number.{Number}
-use Rattle.field_core.specs.Arithmetic.{number_zero}
 use Rattle.field_core.specs.Laws.NumberLaws.{number_signed_field, number_ring}
 use Rattle.field_core.specs.Laws.SignedField.{field_of}
 use Rattle.field_core.specs.NumberField.{number_field}
@@ -43,11 +42,8 @@ at_most_one f m = number_field.at_most (sum_below number_field m f) number_field
 abbrev pub is_valid_test : ℕ → Graph Number → Bool
 is_valid_test m A = each_passes (λ i. at_least_zero (A.weight i)) m && (at_most_one A.weight m && (each_passes (λ i. each_passes (λ k. at_least_zero (A.edge i k)) m) m && each_passes (λ i. at_most_one (A.edge i) m) m))
 
-zero_is : number_field.𝟘 ≡ number_zero
-unfolding number_field field_of number_signed_field number_ring
-zero_is = refl
-
 pub sound_by_test : (K : Kind) (G : StoredGraph) → is_valid_test (size G) (graph_of K G) ≡ true → IsSound K G
+unfolding number_field field_of number_signed_field number_ring
 sound_by_test K G h =
     let m = size G in
     let A = graph_of K G in
@@ -57,6 +53,6 @@ sound_by_test K G h =
       weight_nonneg = passes _ m (left_true _ _ h);
       weight_total = left_true _ _ rest;
       edge_nonneg = λ i k b c. passes (λ k. at_least_zero (A.edge i k)) m (passes (λ i. each_passes (λ k. at_least_zero (A.edge i k)) m) m (left_true _ _ edges) i b) k c;
-      no_loop = λ i b. edge_off_loop K G i ∙ sym zero_is;
+      no_loop = λ i b. edge_off_loop K G i;
       row_total = passes _ m (right_true _ _ edges);
     }

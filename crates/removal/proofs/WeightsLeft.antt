@@ -1,22 +1,21 @@
 -- Removals one after the other follow the graph of the numbers, and so leave the weights of the set.
-use Rattle.std.proofs.Common.{◌≡◌, refl, sym, ap, subst, ◌∙◌, ℕ, ◌<◌, Bool, true, List, [], ◌∷◌, Result, Ok}
+use Rattle.std.proofs.Common.{◌≡◌, refl, sym, ap, subst, ◌∙◌, ℕ, ◌<◌, Bool, List, [], ◌∷◌, Result, Ok}
 use Rattle.field_core.specs.declared.place.Wide.{Wide}
 use Rattle.field_core.specs.Number.{Number}
 use Rattle.field_core.specs.NumberField.{number_field}
 use Rattle.field_core.specs.Graph.{Graph, IsValid}
 use Rattle.field_core.specs.Removal.{without}
-use Rattle.field_core.specs.Sets.{IsIn, dropping}
+use Rattle.field_core.specs.Sets.{IsIn, HaveSameMembers, dropping, whole}
 use Rattle.field_core.specs.Runs.{IsOrder, left_after, after}
 use Rattle.field_core.specs.Walks.{IsComponentWeight}
-use Rattle.field_core.proofs.AnyOrder.{any_order}
-use Rattle.field_core.proofs.Weights.{weight_in_is, weight_same}
+use Rattle.field_core.proofs.WeightLaws.{order_weight}
 use Rattle.field_core.specs.Kind.{Parts, Kind}
 use Rattle.field_core.specs.Exact.{value_of}
 use Rattle.removal.specs.Steps.{◌>>=◌}
 use Rattle.removal.specs.StoredGraph.{StoredGraph, size, is_live, weight}
 use Rattle.removal.specs.ByValue.{graph_of}
 use Rattle.removal.specs.Exactness.{RemovesExactly}
-use Rattle.removal.specs.InTurn.{removed_in_turn, ListsOutside, LeavesWeights}
+use Rattle.removal.specs.InTurn.{removed_in_turn, LeavesWeights}
 use Rattle.removal.specs.Laws.Prefixes.{bind_ok, ok_same}
 use Rattle.removal.specs.Laws.Seen.{weight_in as weight_seen}
 
@@ -57,21 +56,19 @@ module _ {S : Type 0} (K : Kind) (IsStored : Parts → Type 0) (graph : S → St
       let a = bind_ok (removal s j) _ t (sym (turn_more s j js) ∙ h) in
       in_turn js (dropping j I) (without number_field A j) a.0 t (step I A s a.0 j T o.0 a.1.0) o.1 a.1.1
 
-  pub leaves : (s t : S) (I : ℕ → Bool) (js : List ℕ) → Stands (λ _. true) (graph_of K (graph s)) s → IsValid number_field m (graph_of K (graph s)) → ListsOutside m I js → removed_in_turn removal s js ≡ Ok t
+  pub leaves : (s t : S) (I : ℕ → Bool) (js : List ℕ) → Stands whole (graph_of K (graph s)) s → IsValid number_field m (graph_of K (graph s)) → IsOrder m whole js → HaveSameMembers m (left_after whole js) I → removed_in_turn removal s js ≡ Ok t
       → (k : ℕ) → IsIn m I k → IsComponentWeight number_field m (graph_of K (graph s)) I k (value_of (weight K (graph t) k))
-  leaves s t I js T V L h k i =
+  leaves s t I js T V o rest h k i =
       let A = graph_of K (graph s) in
-      let left = left_after (λ _. true) js in
-      let U = in_turn js (λ _. true) A s t T L.distinct h in
-      let there : IsIn m left k = record { below = i.below; member = L.rest k i.below ∙ i.member } in
-      let same = sym (any_order number_field m A V js L.distinct k there) ∙ sym (ap (λ B. B.weight k) U.value) ∙ weight_seen K (graph t) k (U.live k i.below ∙ there.member) in
-      weight_same number_field m A left I L.rest k _ (subst (IsComponentWeight number_field m A left k) same (weight_in_is number_field m A V left k there))
+      let U = in_turn js whole A s t T o h in
+      let same = sym (ap (λ B. B.weight k) U.value) ∙ weight_seen K (graph t) k (U.live k i.below ∙ rest k i.below ∙ i.member) in
+      subst (IsComponentWeight number_field m A I k) same (order_weight number_field m A V I js k o rest i)
 
 pub leaves_weights : {S : Type 0} (K : Kind) (IsStored : Parts → Type 0) (graph : S → StoredGraph) (IsProper : S → Type 0) (removal : S → ℕ → Result S Wide) → RemovesExactly K IsStored graph IsProper removal → LeavesWeights K graph IsProper removal
-leaves_weights K IsStored graph IsProper removal E = λ s t I js P live V L h.
-    let T : Stands K IsStored graph IsProper removal E (size (graph s)) (λ _. true) (graph_of K (graph s)) s = record { proper = P; same_size = refl; live = live; value = refl } in
-    let U = in_turn K IsStored graph IsProper removal E (size (graph s)) js (λ _. true) (graph_of K (graph s)) s t T L.distinct h in
+leaves_weights K IsStored graph IsProper removal E = λ s t I js P live V o rest h.
+    let T : Stands K IsStored graph IsProper removal E (size (graph s)) whole (graph_of K (graph s)) s = record { proper = P; same_size = refl; live = live; value = refl } in
+    let U = in_turn K IsStored graph IsProper removal E (size (graph s)) js whole (graph_of K (graph s)) s t T o h in
     record {
-      live = λ k b. U.live k b ∙ L.rest k b;
-      weights = λ k i. leaves K IsStored graph IsProper removal E (size (graph s)) s t I js T V L h k i;
+      live = λ k b. U.live k b ∙ rest k b;
+      weights = λ k i. leaves K IsStored graph IsProper removal E (size (graph s)) s t I js T V o rest h k i;
     }

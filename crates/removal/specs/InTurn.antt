@@ -1,8 +1,8 @@
 -- Removals one after the other, in any order.
-use Rattle.std.specs.Prelude.{◌≡◌, ◌<◌, ℕ, Bool, true, List, [], ◌∷◌, Result, Ok}
+use Rattle.std.specs.Prelude.{◌≡◌, ◌<◌, ℕ, Bool, List, [], ◌∷◌, Result, Ok}
 use Rattle.field_core.specs.declared.place.Wide.{Wide}
 use Rattle.field_core.specs.NumberField.{number_field}
-use Rattle.field_core.specs.Sets.{IsIn}
+use Rattle.field_core.specs.Sets.{IsIn, HaveSameMembers, whole}
 use Rattle.field_core.specs.Runs.{IsOrder, left_after}
 use Rattle.field_core.specs.Walks.{IsComponentWeight}
 use Rattle.field_core.specs.Kind.{Kind}
@@ -19,11 +19,6 @@ module _ {S : Type 0} (removal : S → ℕ → Result S Wide) where
     t ← removal s j
     removed_in_turn t js
 
--- the list holds each hypothesis outside the set once, and no other
-pub record ListsOutside (m : ℕ) (I : ℕ → Bool) (js : List ℕ) : Type 0 where
-  pub distinct : IsOrder m (λ _. true) js
-  pub rest : (i : ℕ) → i < m → left_after (λ _. true) js i ≡ I i
-
 -- in `H` just the members of the set are in, and each has its weight in the set by the graph `G`
 pub record HasWeightsIn (K : Kind) (I : ℕ → Bool) (G H : StoredGraph) : Type 0 where
   pub live : (k : ℕ) → k < size G → is_live H k ≡ I k
@@ -31,4 +26,7 @@ pub record HasWeightsIn (K : Kind) (I : ℕ → Bool) (G H : StoredGraph) : Type
 
 -- Removing what isn't in a set, in any order in which nothing is refused, leaves the weights of the set.
 abbrev pub LeavesWeights : {S : Type 0} (K : Kind) (graph : S → StoredGraph) (IsProper : S → Type 0) (removal : S → ℕ → Result S Wide) → Type 0
-LeavesWeights {S} K graph IsProper removal = (s t : S) (I : ℕ → Bool) (js : List ℕ) → IsProper s → AreAllLive (graph s) → IsSound K (graph s) → ListsOutside (size (graph s)) I js → removed_in_turn removal s js ≡ Ok t → HasWeightsIn K I (graph s) (graph t)
+LeavesWeights {S} K graph IsProper removal =
+    (s t : S) (I : ℕ → Bool) (js : List ℕ) → IsProper s → AreAllLive (graph s) → IsSound K (graph s)
+    → IsOrder (size (graph s)) whole js → HaveSameMembers (size (graph s)) (left_after whole js) I → removed_in_turn removal s js ≡ Ok t
+    → HasWeightsIn K I (graph s) (graph t)
