@@ -30,13 +30,15 @@ pub record AreDivided (n d p q : ℕ) : Type 0 where
 
 pub divided : (n d : ℕ) → 0 < d → (0 < gcd n d) × AreDivided n d (n / gcd n d) (d / gcd n d)
 divided n d some =
-    let g : 0 < gcd n d = (gcd_bounds n d some).0 in
-    (g, record {
-      apart = gcd_from_apart _ _ (quotients_apart n d g);
-      some = pos_of_dvd_of_pos (quotient_divides (gcd n d) (gcd_is n d).1) some;
-      first = div-le_self n (gcd n d);
-      second = div-le_self d (gcd n d);
-    })
+    let g : 0 < gcd n d = (gcd_bounds n d some).0 in (
+      g,
+      record {
+        apart = gcd_from_apart _ _ (quotients_apart n d g);
+        some = pos_of_dvd_of_pos (quotient_divides (gcd n d) (gcd_is n d).1) some;
+        first = div-le_self n (gcd n d);
+        second = div-le_self d (gcd n d);
+      },
+    )
 
 abs_sign : (b : Bool) (n : ℕ) → unsigned_abs (with_sign b n) ≡ n
 abs_sign true n = abs_neg (pos n)

@@ -19,7 +19,6 @@ use Rattle.fraction.specs.Checking.{IsChecked}
 use Rattle.fraction.specs.Sizes.{quotient_of, IsBodySize, GivesBody}
 use Rattle.fraction.specs.Lowest.{lowest_of}
 use Rattle.fraction.specs.Reading.{IsRead}
-
 use Rattle.fraction.proofs.SignedTexts.{numeral_split}
 use Rattle.fraction.proofs.Unique.{one_value, value_or_fault}
 

@@ -18,3 +18,8 @@ mod written;
 
 pub use fault::{FractionFault, NumberFault};
 pub use fraction::Fraction;
+
+#[cfg(test)]
+mod tests;
+#[cfg(test)]
+mod vectors;

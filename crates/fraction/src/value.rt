@@ -6,8 +6,10 @@ ghost use Rattle.fraction.specs.Sizes.{digits_in, GivesShift, IsScaled, GivesDec
 
 use crate::NumberFault;
 use crate::decimal::{Decimal, Shift};
-use crate::digits::{behind, extended, number, number_to_far, split_digits, split_sign};
-use crate::digits::{trailing_zeros, without_leading_zeros};
+use crate::digits::{
+    behind, extended, number, number_to_far, split_digits, split_sign, trailing_zeros,
+    without_leading_zeros,
+};
 use crate::size::Size;
 
 impl<'a> Decimal<'a> {
