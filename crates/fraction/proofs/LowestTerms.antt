@@ -1,5 +1,5 @@
 -- Quotients by the greatest common divisor.
-use Rattle.std.proofs.Common.{◌≡◌, ◌≢◌, ℕ, zero, suc, ◌+◌, ◌-◌, ◌*◌, ◌/◌, ◌<◌, ◌≤◌, ◌^◌, ◌⊎◌, inl, inr, Bool, true, false, refl, sym, ap, ap₂, subst, ◌∙◌, arith, ℤ, pos, negsuc, neg_ℤ, ◌*ℤ◌, ◌<ℤ◌, unsigned_abs, FitsSigned, to_z, of_z, Result, Ok, Err}
+use Rattle.std.proofs.Common.{◌≡◌, ◌≢◌, ℕ, zero, suc, ◌-◌, ◌*◌, ◌/◌, ◌<◌, ◌≤◌, ◌^◌, ◌⊎◌, inl, inr, Bool, true, false, refl, sym, ap, ◌∙◌, arith, ℤ, pos, negsuc, neg_ℤ, ◌*ℤ◌, unsigned_abs, FitsSigned, to_z, of_z, Result, Ok, Err}
 use Rattle.std.proofs.lemmas.Bool.{le-ltb}
 use Rattle.std.proofs.lemmas.Int.{ints, to_z-of_z}
 use Rattle.std.proofs.Math.Nat.{div-le_self, pos_of_dvd_of_pos, mul_comm, div-mul_cancel}
@@ -7,7 +7,7 @@ use Rattle.std.proofs.Math.IntN.{*ℤ_comm}
 use Rattle.std.specs.Int.{w128, is_negative}
 use mathlib.Core.Bool.{not, beq}
 use Rattle.field_core.specs.Divisor.{gcd}
-use Rattle.field_core.specs.Terms.{Terms, IsReduced}
+use Rattle.field_core.specs.Terms.{Terms}
 use Rattle.field_core.specs.Fractions.{fraction}
 use Rattle.field_core.specs.Laws.FractionLaws.{fraction-equal}
 use Rattle.field_core.specs.View.{terms}

@@ -12,6 +12,7 @@ mod lowest;
 mod machine;
 mod parse;
 mod print;
+mod shift;
 mod size;
 mod value;
 mod written;

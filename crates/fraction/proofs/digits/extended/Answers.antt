@@ -1,4 +1,4 @@
-use Rattle.std.proofs.Common.{◌^◌, ◌≤◌, ◌+◌, ◌*◌, arith, subst, sym}
+use Rattle.std.proofs.Common.{arith}
 use Rattle.fraction.proofs.DigitNumbers.{digit_at, goes_on, goes_below, goes_end, value_below}
 use Rattle.fraction.proofs.digits.extended.Goals as goal
 
