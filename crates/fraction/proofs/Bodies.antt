@@ -1,17 +1,16 @@
 -- What the parts of a body give.
-use Rattle.std.proofs.Common.{◌≡◌, ◌≢◌, ℕ, zero, suc, ◌+◌, ◌*◌, ◌<◌, ◌≤◌, ◌⊎◌, inl, inr, List, [], ◌∷◌, ◌++◌, length, get_or, drop, take, ℤ, pos, ◌-ℤ◌, Option, Some, None, Result, Ok, Err, refl, sym, ap, ap₂, subst, ◌∙◌, arith}
+use Rattle.std.proofs.Common.{◌≡◌, ℕ, ◌*◌, ◌<◌, ◌≤◌, ◌⊎◌, inl, inr, List, [], ◌∷◌, ◌++◌, length, drop, pos, ◌-ℤ◌, Option, Result, Ok, Err, refl, sym, ap, ap₂, ◌∙◌, arith}
 use Rattle.std.specs.List.{prefix_len, take_while}
 use Rattle.std.specs.Char.{is_ascii_digit}
 use Rattle.std.specs.Str.Parse.{digits_value}
 use Rattle.std.proofs.lemmas.List.{append-nil}
-use Rattle.fraction.specs.Laws.CrossProducts.{Same}
 use Rattle.fraction.specs.declared.fault.NumberFault.{NumberFault}
 use Rattle.fraction.specs.declared.fault.NumberFault.TheVariants.{Empty, BadByte, ZeroDenominator, TooManyDigits}
 use Rattle.fraction.specs.declared.size.Size.{Size}
 use Rattle.fraction.specs.declared.decimal.Decimal.{Decimal}
-use Rattle.fraction.specs.declared.decimal.Shift.{Shift}
-use Rattle.fraction.specs.Numeral.{AreDigits, Exponent, exponent_text, IsExponent, exponent_of, Body, Plain, Pointed, Pair, body_text, IsBody, value_of, without_leading_zeros, HasZeroDenominator, HasTooManyDigits}
-use Rattle.fraction.specs.Sizes.{BeginsOtherwise, quotient_of, digits_in, IsDecimalSize, IsBodySize, GivesShift, GivesDecimal, GivesBody}
+use Rattle.fraction.specs.declared.shift.Shift.{Shift}
+use Rattle.fraction.specs.Numeral.{AreDigits, Exponent, exponent_text, IsExponent, exponent_of, Plain, Pointed, Pair, value_of, without_leading_zeros, HasZeroDenominator, HasTooManyDigits}
+use Rattle.fraction.specs.Sizes.{BeginsOtherwise, digits_in, IsDecimalSize, IsBodySize, GivesShift, GivesDecimal, GivesBody}
 use Rattle.fraction.proofs.Cut.{front_digits, cut_at, body_cut, exponent_no_digit, heads, exponent_apart}
 use Rattle.fraction.proofs.Zeros.{no_value, some_value, without_value}
 

@@ -1,12 +1,12 @@
 -- Digits in front of a text, and parts of digits.
-use Rattle.std.proofs.Common.{◌≡◌, ◌≢◌, ℕ, zero, suc, ◌+◌, ◌-◌, ◌*◌, ◌^◌, min, ◌<◌, ◌≤◌, ◌⊎◌, inl, inr, true, false, List, [], ◌∷◌, ◌++◌, length, get_or, drop, take, Option, Some, None, refl, sym, ap, ap₂, subst, ◌∙◌, append_assoc, arith}
+use Rattle.std.proofs.Common.{◌≡◌, ℕ, zero, suc, ◌+◌, ◌-◌, ◌*◌, ◌^◌, min, ◌<◌, ◌≤◌, ◌⊎◌, inl, inr, true, false, List, [], ◌∷◌, ◌++◌, length, drop, take, Option, Some, None, refl, sym, ap, subst, ◌∙◌, append_assoc, arith}
 use Rattle.std.specs.List.{prefix_len, take_while}
 use Rattle.std.specs.Char.{is_ascii_digit}
 use Rattle.std.specs.Str.Parse.{digits_value, digits_value_after}
 use Rattle.std.proofs.lemmas.Bool.{cond_both}
 use Rattle.std.proofs.lemmas.Bool.Decides.{nat_tests}
-use Rattle.std.proofs.lemmas.List.{append-nil, take_at, drop_at, length-take-le}
-use Rattle.fraction.specs.Numeral.{AreDigits, sign_text, IsSign, Exponent, exponent_text, IsExponent, Body, Plain, Pointed, Pair, body_text, IsBody, without_leading_zeros}
+use Rattle.std.proofs.lemmas.List.{take_at, drop_at, length-take-le}
+use Rattle.fraction.specs.Numeral.{AreDigits, Exponent, exponent_text, IsExponent, Body, Plain, Pointed, Pair, body_text, IsBody, without_leading_zeros}
 use Rattle.fraction.proofs.Classes.{digit_test, digit_in}
 use Rattle.fraction.proofs.DigitNumbers.{value_below, value_append}
 

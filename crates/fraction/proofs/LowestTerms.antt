@@ -1,5 +1,5 @@
 -- Quotients by the greatest common divisor.
-use Rattle.std.proofs.Common.{◌≡◌, ◌≢◌, ℕ, zero, suc, ◌+◌, ◌-◌, ◌*◌, ◌/◌, ◌<◌, ◌≤◌, ◌^◌, ◌⊎◌, inl, inr, Bool, true, false, refl, sym, ap, ap₂, subst, ◌∙◌, arith, ℤ, pos, negsuc, neg_ℤ, ◌*ℤ◌, ◌<ℤ◌, unsigned_abs, FitsSigned, to_z, of_z, Result, Ok, Err}
+use Rattle.std.proofs.Common.{◌≡◌, ◌≢◌, ℕ, zero, suc, ◌-◌, ◌*◌, ◌/◌, ◌<◌, ◌≤◌, ◌^◌, ◌⊎◌, inl, inr, Bool, true, false, refl, sym, ap, ◌∙◌, arith, ℤ, pos, negsuc, neg_ℤ, ◌*ℤ◌, unsigned_abs, FitsSigned, to_z, of_z, Result, Ok, Err}
 use Rattle.std.proofs.lemmas.Bool.{le-ltb}
 use Rattle.std.proofs.lemmas.Int.{ints, to_z-of_z}
 use Rattle.std.proofs.Math.Nat.{div-le_self, pos_of_dvd_of_pos, mul_comm, div-mul_cancel}
@@ -7,7 +7,7 @@ use Rattle.std.proofs.Math.IntN.{*ℤ_comm}
 use Rattle.std.specs.Int.{w128, is_negative}
 use mathlib.Core.Bool.{not, beq}
 use Rattle.field_core.specs.Divisor.{gcd}
-use Rattle.field_core.specs.Terms.{Terms, IsReduced}
+use Rattle.field_core.specs.Terms.{Terms}
 use Rattle.field_core.specs.Fractions.{fraction}
 use Rattle.field_core.specs.Laws.FractionLaws.{fraction-equal}
 use Rattle.field_core.specs.View.{terms}
@@ -30,13 +30,15 @@ pub record AreDivided (n d p q : ℕ) : Type 0 where
 
 pub divided : (n d : ℕ) → 0 < d → (0 < gcd n d) × AreDivided n d (n / gcd n d) (d / gcd n d)
 divided n d some =
-    let g : 0 < gcd n d = (gcd_bounds n d some).0 in
-    (g, record {
-      apart = gcd_from_apart _ _ (quotients_apart n d g);
-      some = pos_of_dvd_of_pos (quotient_divides (gcd n d) (gcd_is n d).1) some;
-      first = div-le_self n (gcd n d);
-      second = div-le_self d (gcd n d);
-    })
+    let g : 0 < gcd n d = (gcd_bounds n d some).0 in (
+      g,
+      record {
+        apart = gcd_from_apart _ _ (quotients_apart n d g);
+        some = pos_of_dvd_of_pos (quotient_divides (gcd n d) (gcd_is n d).1) some;
+        first = div-le_self n (gcd n d);
+        second = div-le_self d (gcd n d);
+      },
+    )
 
 abs_sign : (b : Bool) (n : ℕ) → unsigned_abs (with_sign b n) ≡ n
 abs_sign true n = abs_neg (pos n)

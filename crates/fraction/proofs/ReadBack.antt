@@ -1,5 +1,5 @@
 -- The text of a fraction reads back.
-use Rattle.std.proofs.Common.{◌≡◌, ◌≢◌, ℕ, ◌+◌, ◌-◌, ◌^◌, ◌<◌, ◌≤◌, ◌⊎◌, inl, inr, Bool, true, false, List, [], ◌∷◌, ◌++◌, length, ℤ, pos, ◌-ℤ◌, ◌*ℤ◌, ◌<ℤ◌, unsigned_abs, Option, Some, None, refl, sym, ap, ap₂, subst, ◌∙◌, arith}
+use Rattle.std.proofs.Common.{◌≡◌, ◌≢◌, ℕ, ◌^◌, ◌<◌, ◌≤◌, ◌⊎◌, inl, inr, Bool, true, false, List, [], ◌∷◌, ◌++◌, length, ℤ, pos, ◌-ℤ◌, ◌*ℤ◌, ◌<ℤ◌, unsigned_abs, Option, Some, None, refl, sym, ap, ap₂, ◌∙◌, arith}
 use Rattle.std.specs.Fmt.{decimal}
 use Rattle.std.specs.Int.{is_negative}
 use Rattle.std.specs.Str.Parse.{AllDigits, digits_value}
@@ -8,8 +8,7 @@ use Rattle.std.proofs.lemmas.Fmt.{decimal_is_IsNumeral_wide, length-decimal-le_w
 use Rattle.std.proofs.lemmas.Str.Parse.{digit_from_value}
 use Rattle.std.proofs.lemmas.Int.{ints}
 use Rattle.field_core.specs.Terms.{Terms, IsReduced}
-use Rattle.fraction.specs.Laws.CrossProducts.{Same}
-use Rattle.fraction.specs.Numeral.{AreDigits, sign_text, IsSign, is_minus, with_sign, Body, Plain, Pointed, Pair, body_text, IsBody, IsNumeral, value_of, without_leading_zeros, trailing_zeros, IsTooLong, HasZeroDenominator, HasTooManyDigits, IsNumeralOf}
+use Rattle.fraction.specs.Numeral.{AreDigits, sign_text, IsSign, is_minus, with_sign, Plain, Pair, IsNumeral, value_of, without_leading_zeros, IsTooLong, HasZeroDenominator, HasTooManyDigits, IsNumeralOf}
 use Rattle.fraction.specs.Spelling.{signed_text, denominator_text, spelling}
 use Rattle.fraction.proofs.LowestTerms.{sign_is}
 use Rattle.fraction.proofs.Zeros.{length_without_le, trailing_le}

@@ -1,8 +1,7 @@
 -- What reading a text gives.
-use Rattle.std.proofs.Common.{◌≡◌, ℕ, ◌*◌, ◌/◌, ◌<◌, ◌++◌, Bool, true, false, List, length, ℤ, pos, negsuc, neg_ℤ, ◌*ℤ◌, ◌-ℤ◌, ◌^◌, suc, Option, Some, None, Result, Ok, Err, refl, sym, ap, ap₂, subst, ◌∙◌, arith}
+use Rattle.std.proofs.Common.{◌≡◌, ℕ, ◌*◌, ◌/◌, ◌<◌, ◌++◌, Bool, true, false, List, length, ℤ, pos, negsuc, ◌*ℤ◌, ◌-ℤ◌, ◌^◌, suc, Option, None, Result, Ok, Err, refl, sym, ap, subst, ◌∙◌, arith}
 use Rattle.std.specs.Str.Parse.{starts_with_minus, without_leading_sign, digits_value}
 use Rattle.std.proofs.Math.Nat.{div-mul_cancel, eq_of_mul-eq-mul_right}
-use Rattle.std.proofs.lemmas.Int.{ints}
 use Rattle.field_core.specs.Divisor.{gcd}
 use Rattle.field_core.specs.Terms.{Terms}
 use Rattle.field_core.specs.View.{terms}
@@ -14,12 +13,11 @@ use Rattle.fraction.specs.Laws.ExactTerms.{neg_times}
 use Rattle.fraction.specs.declared.fault.NumberFault.{NumberFault}
 use Rattle.fraction.specs.declared.fault.NumberFault.TheVariants.{Empty, BadByte, ZeroDenominator, TooManyDigits}
 use Rattle.fraction.specs.declared.size.Size.{Size}
-use Rattle.fraction.specs.Numeral.{is_minus, with_sign, Body, Plain, Pointed, Pair, exponent_of, over_power, value_of, HasZeroDenominator, HasTooManyDigits, IsNumeral, IsNumeralOf, IsParseFault}
+use Rattle.fraction.specs.Numeral.{is_minus, with_sign, Body, Plain, Pointed, Pair, exponent_of, over_power, value_of, IsNumeral, IsNumeralOf, IsParseFault}
 use Rattle.fraction.specs.Checking.{IsChecked}
 use Rattle.fraction.specs.Sizes.{quotient_of, IsBodySize, GivesBody}
 use Rattle.fraction.specs.Lowest.{lowest_of}
 use Rattle.fraction.specs.Reading.{IsRead}
-
 use Rattle.fraction.proofs.SignedTexts.{numeral_split}
 use Rattle.fraction.proofs.Unique.{one_value, value_or_fault}
 

@@ -1,10 +1,10 @@
 -- Numbers divided by powers of ten.
-use Rattle.std.proofs.Common.{◌≡◌, ◌≢◌, ℕ, zero, suc, ◌+◌, ◌-◌, ◌*◌, ◌^◌, ◌<◌, ◌≤◌, ◌⊎◌, inl, inr, Bool, true, false, IsTrue, List, [], ◌∷◌, length, take, ℤ, pos, negsuc, neg_ℤ, ◌-ℤ◌, ◌*ℤ◌, ◌<ℤ◌, ◌≤ℤ◌, Result, Ok, Err, refl, sym, ap, ap₂, subst, ◌∙◌, arith}
+use Rattle.std.proofs.Common.{◌≡◌, ℕ, suc, ◌+◌, ◌-◌, ◌*◌, ◌^◌, ◌<◌, ◌≤◌, inl, inr, Bool, true, false, IsTrue, List, length, take, ℤ, pos, negsuc, ◌-ℤ◌, Result, Ok, Err, refl, sym, ap, subst, ◌∙◌, arith}
 use Rattle.std.specs.Str.Parse.{digits_value}
 use Rattle.std.proofs.lemmas.Bool.{cases_lt}
 use Rattle.std.proofs.lemmas.Int.{ints}
-use Rattle.std.proofs.lemmas.Nat.{pow-add, mul-lt}
-use Rattle.std.proofs.Math.Nat.{mul_assoc, mul_comm, mul-le-mul_right, pow-le-pow_right, one-le-pow}
+use Rattle.std.proofs.lemmas.Nat.{pow-add}
+use Rattle.std.proofs.Math.Nat.{mul_assoc, mul-le-mul_right, pow-le-pow_right, one-le-pow}
 use Rattle.field_core.specs.Terms.{Terms}
 use Rattle.fraction.specs.Laws.CrossProducts.{Same}
 use Rattle.fraction.specs.declared.fault.NumberFault.{NumberFault}
@@ -12,9 +12,9 @@ use Rattle.fraction.specs.declared.fault.NumberFault.TheVariants.{Empty, BadByte
 use Rattle.fraction.specs.declared.size.Size.{Size}
 use Rattle.fraction.specs.Numeral.{over_power, PassesLimit, IsTooLong, without_leading_zeros, trailing_zeros}
 use Rattle.fraction.specs.declared.decimal.Decimal.{Decimal}
-use Rattle.fraction.specs.declared.decimal.Shift.{Shift}
+use Rattle.fraction.specs.declared.shift.Shift.{Shift}
 use Rattle.fraction.specs.Sizes.{quotient_of, digits_in, IsShift, IsScaled, IsDecimalSize, GivesDecimal}
-use Rattle.fraction.proofs.Zeros.{no_value, trailing_value, without_value, length_without_le, trailing_le}
+use Rattle.fraction.proofs.Zeros.{no_value, trailing_value, without_value}
 
 -- ---- the limit
 

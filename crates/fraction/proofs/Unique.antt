@@ -1,10 +1,10 @@
 -- A text has at most one reading.
-use Rattle.std.proofs.Common.{◌≡◌, ◌≢◌, ℕ, zero, suc, ◌+◌, ◌*◌, ◌^◌, ◌<◌, ◌≤◌, ◌⊎◌, inl, inr, Bool, true, false, List, [], ◌∷◌, ◌++◌, length, drop, take, ℤ, pos, negsuc, ◌*ℤ◌, ◌-ℤ◌, ◌<ℤ◌, unsigned_abs, Option, Some, None, refl, sym, ap, ap₂, subst, ◌∙◌, arith}
+use Rattle.std.proofs.Common.{◌≡◌, ℕ, ◌*◌, ◌⊎◌, inl, inr, List, [], ◌∷◌, ◌++◌, length, ℤ, pos, negsuc, ◌*ℤ◌, ◌-ℤ◌, ◌<ℤ◌, unsigned_abs, Option, Some, None, refl, sym, ap, ap₂, subst, ◌∙◌, arith}
 use Rattle.std.specs.Int.{◌∣◌}
-use Rattle.std.specs.Str.Parse.{starts_with_minus, without_leading_sign, digits_value}
+use Rattle.std.specs.Str.Parse.{digits_value}
 use Rattle.std.proofs.lemmas.Int.{ints, unsigned_abs-mul}
 use Rattle.std.proofs.lemmas.Nat.Gcd.{dvd_antisymm}
-use Rattle.std.proofs.Math.Nat.{dvd-mul_right, dvd-mul_left}
+use Rattle.std.proofs.Math.Nat.{dvd-mul_left}
 use Rattle.field_core.specs.Terms.{Terms, IsReduced}
 use Rattle.field_core.proofs.Coprime.{apart_from_gcd, divides_other}
 use Rattle.field_core.proofs.IntegerRing.{ring, *ℤ_cancel}

@@ -6,6 +6,9 @@ ghost use Rattle.std.specs.Str.Parse.{starts_with_minus, without_leading_sign, d
 ghost use Rattle.fraction.specs.Sizes.{BeginsOtherwise};
 ghost use Rattle.fraction.specs.Numeral.{AreDigits, is_nought, without_leading_zeros, trailing_zeros};
 
+/// The most digits that a number may have.
+pub const MOST_DIGITS: usize = 38;
+
 /// Whether a text begins with a minus, and what stands behind its sign.
 pub fn split_sign(text: &[u8]) -> (bool, &[u8])
     ensures minus { result.0 ≡ starts_with_minus text.now }

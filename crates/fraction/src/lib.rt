@@ -12,9 +12,15 @@ mod lowest;
 mod machine;
 mod parse;
 mod print;
+mod shift;
 mod size;
 mod value;
 mod written;
 
 pub use fault::{FractionFault, NumberFault};
 pub use fraction::Fraction;
+
+#[cfg(test)]
+mod tests;
+#[cfg(test)]
+mod vectors;

@@ -1,7 +1,6 @@
-use Rattle.std.proofs.Common.{◌^◌, ◌≤◌, ◌+◌, ◌*◌, arith, subst, sym}
+use Rattle.std.proofs.Common.{arith}
 use Rattle.fraction.proofs.DigitNumbers.{digit_at, goes_on, goes_below, goes_end, value_below}
 use Rattle.fraction.proofs.digits.extended.Goals as goal
-
 
 pub overflow_mul-number : goal.overflow_mul-number
 overflow_mul-number c = let b = goes_below c.args.digits.now c.loop-digit.digit-index c.loop-digit.number _ _ c.loop-digit-test.true c.loop-digit.invariant in record { fits = omega arith }

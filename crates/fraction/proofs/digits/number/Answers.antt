@@ -1,5 +1,4 @@
 use Rattle.std.proofs.Common.{arith}
-use Rattle.std.proofs.lemmas.List.{length-take}
 use Rattle.fraction.proofs.DigitNumbers.{power_small}
 use Rattle.fraction.proofs.digits.number.Goals as goal
 

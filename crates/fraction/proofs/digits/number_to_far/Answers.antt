@@ -1,4 +1,4 @@
-use Rattle.std.proofs.Common.{◌^◌, ◌≤◌, ◌+◌, ◌*◌, arith, subst, sym}
+use Rattle.std.proofs.Common.{◌^◌}
 use Rattle.fraction.proofs.DigitNumbers.{digit_at, far_on}
 use Rattle.fraction.proofs.digits.number_to_far.Goals as goal
 

@@ -1,4 +1,4 @@
-use Rattle.std.proofs.Common.{◌++◌, ◌∙◌, List, ℕ, ap, length, length-append, arith}
+use Rattle.std.proofs.Common.{ap, length, length-append, arith}
 use Rattle.std.specs.Fmt.{decimal}
 use Rattle.fraction.proofs.Decimals.{few_digits}
 use Rattle.fraction.proofs.print.put_denominator.Goals as goal

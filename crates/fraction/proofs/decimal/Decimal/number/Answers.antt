@@ -1,6 +1,5 @@
-use Rattle.std.proofs.Common.{◌≡◌, ◌<◌, ◌≤◌, ◌+◌, ◌-◌, ◌*◌, ◌^◌, ◌++◌, ◌∙◌, ℕ, List, length, take, min, sym, ap, ap₂, subst, arith}
-use Rattle.std.specs.Str.Parse.{digits_value, digits_value_after}
-use Rattle.std.proofs.lemmas.List.{length-take, length-append}
+use Rattle.std.proofs.Common.{◌-◌, length, take, arith}
+use Rattle.std.proofs.lemmas.List.{length-take}
 use Rattle.fraction.proofs.Cut.{digits_before, digits_behind, digits_take, first_value, first_below}
 use Rattle.fraction.proofs.DigitNumbers.{power_small, room_for}
 use Rattle.fraction.proofs.decimal.Decimal.number.Goals as goal

@@ -1,6 +1,5 @@
-use Rattle.std.proofs.Common.{◌≡◌, ◌<◌, ◌∙◌, ◌++◌, ℕ, List, length, sym, ap, ap₂, arith}
+use Rattle.std.proofs.Common.{◌∙◌, sym, arith}
 use Rattle.std.proofs.lemmas.Bool.{eqb-true, eqb-false}
-use Rattle.fraction.specs.Numeral.{without_leading_zeros}
 use Rattle.fraction.proofs.Zeros.{joined_none, joined_some}
 use Rattle.fraction.proofs.decimal.Decimal.without_leading_zeros.Goals as goal
 

@@ -1,7 +1,7 @@
-use Rattle.std.proofs.Common.{◌≡◌, ◌<◌, ◌≤◌, ◌∙◌, ◌*◌, ◌^◌, ◌-◌, ap, ap₂, sym, refl, arith}
+use Rattle.std.proofs.Common.{◌*◌, ◌-◌, ap, ap₂, refl, arith}
 use Rattle.fraction.proofs.DigitNumbers.{power_small, power_some}
 use Rattle.fraction.proofs.Scaling.{limits, inside_limit, raised_small, raised, lowered, scaled_ok, scaled_fault}
-use Rattle.fraction.proofs.value.scaled.Goals as goal
+use Rattle.fraction.proofs.decimal.scaled.Goals as goal
 
 pub returns-then-passes_limit : goal.returns-then-passes_limit
 returns-then-passes_limit c = scaled_fault c.args.len _ _ (c.passes_limit.ensures.0 c.if-passes_limit.true)
