@@ -39,6 +39,7 @@ impl Draft {
     /// The case that the draft says, where it is valid. A refusal hands back the draft's names; the rest is given up.
     pub fn finish(self, alloc: Global) -> Result<Case, Refused>
         ensures case { IfOk result (λ c. drafted (content c) ≡ said self) }
+        ensures valid { IfOk result (λ _. is_valid (said self) ≡ true) }
         ensures invalid { IfErr result (λ r. r.fault ≡ NotValid → is_valid (said self) ≡ false) }
         ensures names { IfErr result (λ r. r.names ≡ self.names) }
     {
