@@ -41,7 +41,7 @@ total_ok ws s e =
     let sum = exact_sum (length ws) f (terms_of s) (λ i h. reduced_at ws i h) (sym e) in
     let ok : is_ok (written_sum (length (map terms_of ws)) f) ≡ true = ap (λ n. is_ok (written_sum n f)) (as_many ws) ∙ is_ok_from _ _ (sym e) in
     let same : at_most (number_of s) number_one ≡ at_most (sum_below number_field (length (map terms_of ws)) (number_at (map terms_of ws))) number_one
-        = ap (λ x. at_most x number_one) (sum.value ∙ ap (λ n. sum_below number_field n (number_at (map terms_of ws))) (sym (as_many ws))) in
+    = ap (λ x. at_most x number_one) (sum.value ∙ ap (λ n. sum_below number_field n (number_at (map terms_of ws))) (sym (as_many ws))) in
     same ∙ and_true _ _ ok
 
 -- no written sum is there

@@ -26,7 +26,12 @@ impl Case {
     ghost use Rattle.case_model.specs.CaseView.{content};
 
     /// The case of these parts.
-    pub(crate) fn of(names: List<Text>, alpha: Fraction, weights: List<Fraction>, p: List<Fraction>) -> Case
+    pub(crate) fn of(
+        names: List<Text>,
+        alpha: Fraction,
+        weights: List<Fraction>,
+        p: List<Fraction>,
+    ) -> Case
         requires { is_valid (drafted (record { names = names; alpha = terms_of alpha; weights = map terms_of weights; p = map terms_of p })) ≡ true }
         ensures { content result ≡ record { names = names; alpha = terms_of alpha; weights = map terms_of weights; p = map terms_of p } }
     {

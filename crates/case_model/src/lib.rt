@@ -1,8 +1,6 @@
 //! Valid cases, and what the closed test decides of them.
 #![tactic(auto)]
 
-
-
 mod case;
 mod draft;
 pub mod laws;
@@ -10,9 +8,6 @@ mod local_test;
 mod names;
 mod numbers;
 
-
-
-
 pub use case::Case;
-pub use local_test::passes;
 pub use draft::{CaseFault, Draft, Refused};
+pub use local_test::passes;
