@@ -1,15 +1,16 @@
 -- The text of a fraction reads back.
-use Rattle.std.proofs.Common.{◌≡◌, ◌≢◌, ℕ, ◌^◌, ◌<◌, ◌≤◌, ◌⊎◌, inl, inr, Bool, true, false, List, [], ◌∷◌, ◌++◌, length, ℤ, pos, ◌-ℤ◌, ◌*ℤ◌, ◌<ℤ◌, unsigned_abs, Option, Some, None, refl, sym, ap, ap₂, ◌∙◌, arith}
+use Rattle.std.proofs.Common.{◌≡◌, ◌≢◌, ℕ, ◌^◌, ◌<◌, ◌≤◌, ◌⊎◌, inl, inr, Bool, true, false, eqb, List, [], ◌∷◌, ◌++◌, length, length-append, ℤ, pos, ◌-ℤ◌, ◌*ℤ◌, ◌<ℤ◌, unsigned_abs, Option, Some, None, refl, sym, ap, ap₂, ◌∙◌, arith}
 use Rattle.std.specs.Fmt.{decimal}
 use Rattle.std.specs.Int.{is_negative}
+use Rattle.std.specs.List.{AllByRecursion}
 use Rattle.std.specs.Str.Parse.{AllDigits, digits_value}
-use Rattle.std.proofs.lemmas.Bool.{ne_eqb, cases_eq}
+use Rattle.std.proofs.lemmas.Bool.{ne_eqb, cases_eq, cond_both}
 use Rattle.std.proofs.lemmas.Fmt.{decimal_is_IsNumeral_wide, length-decimal-le_wide}
 use Rattle.std.proofs.lemmas.Str.Parse.{digit_from_value}
 use Rattle.std.proofs.lemmas.Int.{ints}
 use Rattle.field_core.specs.Terms.{Terms, IsReduced}
 use Rattle.fraction.specs.Numeral.{AreDigits, sign_text, IsSign, is_minus, with_sign, Plain, Pair, IsNumeral, value_of, without_leading_zeros, IsTooLong, HasZeroDenominator, HasTooManyDigits, IsNumeralOf}
-use Rattle.fraction.specs.Spelling.{signed_text, denominator_text, spelling}
+use Rattle.fraction.specs.Spelling.{signed_text, denominator_text, spelling, IsSpellingByte}
 use Rattle.fraction.proofs.LowestTerms.{sign_is}
 use Rattle.fraction.proofs.Zeros.{length_without_le, trailing_le}
 
@@ -123,3 +124,35 @@ read_back x r n d =
       | inl one ↦ whole_back x r one (short (unsigned_abs x.num) n)
       | inr other ↦ pair_back x r other (short (unsigned_abs x.num) n) (short (unsigned_abs x.den) d)
     ]
+
+-- ---- its bytes
+
+append_bytes : (xs ys : List ℕ) → AllByRecursion IsSpellingByte xs → AllByRecursion IsSpellingByte ys → AllByRecursion IsSpellingByte (xs ++ ys)
+append_bytes [] ys h k = k
+append_bytes (x ∷ xs) ys h k = (h.0, append_bytes xs ys h.1 k)
+
+digit_bytes : (ds : List ℕ) → AllDigits 10 ds → AllByRecursion IsSpellingByte ds
+digit_bytes [] h = tt
+digit_bytes (d ∷ ds) h = let r = digit_from_value d h.0 in (inl (r.0, r.1), digit_bytes ds h.1)
+
+decimal_bytes : (n : ℕ) → n < 10 ^ 64 → AllByRecursion IsSpellingByte (decimal n)
+decimal_bytes n h = digit_bytes (decimal n) (decimal_is_IsNumeral_wide n h).0.1
+
+signed_bytes : (negative : Bool) (n : ℕ) → n < 10 ^ 64 → AllByRecursion IsSpellingByte (signed_text negative n)
+signed_bytes true n h = (inr (inl refl), decimal_bytes n h)
+signed_bytes false n h = decimal_bytes n h
+
+denominator_bytes : (d : ℕ) → d < 10 ^ 64 → AllByRecursion IsSpellingByte (denominator_text d)
+denominator_bytes d h = cond_both (eqb d 1) [] (47 ∷ decimal d) (AllByRecursion IsSpellingByte) (λ e. tt) (λ e. (inr (inr refl), decimal_bytes d h))
+
+pub spelling_bytes : (x : Terms) → IsReduced x → AllByRecursion IsSpellingByte (spelling x)
+unfolding spelling
+spelling_bytes x r = append_bytes _ _ (signed_bytes (is_negative x.num) (unsigned_abs x.num) (omega (arith, r.num_size))) (denominator_bytes (unsigned_abs x.den) (omega (arith, r.den_size)))
+
+signed_some : (negative : Bool) (n : ℕ) → n < 10 ^ 64 → 0 < length (signed_text negative n)
+signed_some true n h = omega arith
+signed_some false n h = (decimal_is_IsNumeral_wide n h).0.0
+
+pub spelling_some : (x : Terms) → IsReduced x → 0 < length (spelling x)
+unfolding spelling
+spelling_some x r = omega (arith, signed_some (is_negative x.num) (unsigned_abs x.num) (omega (arith, r.num_size)), length-append (signed_text (is_negative x.num) (unsigned_abs x.num)) (denominator_text (unsigned_abs x.den)))

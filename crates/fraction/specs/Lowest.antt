@@ -13,6 +13,7 @@ use Rattle.fraction.specs.Numeral.{with_sign}
 unfoldable pub lowest_of : Bool → ℕ → ℕ → Terms
 lowest_of negative n d = record { num = with_sign negative (n / gcd n d); den = pos (d / gcd n d) }
 
+-- one of two holds, and not the other
 abbrev pub differ : Bool → Bool → Bool
 differ true b = not b
 differ false b = b

@@ -15,25 +15,28 @@ abbrev pub AreDigits : List ℕ → Type 0
 AreDigits [] = Unit {0}
 AreDigits (b ∷ bs) = (48 ≤ b) × (b ≤ 57) × AreDigits bs
 
--- a plus or a minus, or nothing
+-- a sign as it is written, perhaps not at all
 abbrev pub sign_text : Option ℕ → List ℕ
 sign_text None = []
 sign_text (Some b) = b ∷ []
 
+-- a plus or a minus, or nothing
 abbrev pub IsSign : Option ℕ → Type 0
 IsSign None = Unit {0}
 IsSign (Some b) = (b ≡ 43) ⊎ (b ≡ 45)
 
--- the mark `e` or `E`, a sign and digits
+-- a mark, perhaps a sign, and digits
 pub record Exponent : Type 0 where
   pub mark : ℕ
   pub sign : Option ℕ
   pub digits : List ℕ
 
+-- an exponent as it is written, perhaps not at all
 abbrev pub exponent_text : Option Exponent → List ℕ
 exponent_text None = []
 exponent_text (Some e) = e.mark ∷ sign_text e.sign ++ e.digits
 
+-- the mark is `e` or `E`, and there is a digit
 abbrev pub IsExponent : Option Exponent → Type 0
 IsExponent None = Unit {0}
 IsExponent (Some e) = ((e.mark ≡ 101) ⊎ (e.mark ≡ 69)) × IsSign e.sign × AreDigits e.digits × (0 < length e.digits)
@@ -47,12 +50,13 @@ pub data Body : Type 0 where
   -- digits, a slash, digits
   Pair : (over under : List ℕ) → Body
 
+-- a body as it is written
 abbrev pub body_text : Body → List ℕ
 body_text (Plain whole exponent) = whole ++ exponent_text exponent
 body_text (Pointed whole fraction exponent) = whole ++ 46 ∷ fraction ++ exponent_text exponent
 body_text (Pair over under) = over ++ 47 ∷ under
 
--- At a point there is a digit before or behind it.
+-- each part has a digit; at a point one of its two sides may have none
 abbrev pub IsBody : Body → Type 0
 IsBody (Plain whole exponent) = AreDigits whole × (0 < length whole) × IsExponent exponent
 IsBody (Pointed whole fraction exponent) = AreDigits whole × AreDigits fraction × (0 < length whole + length fraction) × IsExponent exponent
@@ -68,6 +72,7 @@ pub record IsNumeral (text : List ℕ) : Type 0 where
 
 -- ---- what it is worth
 
+-- whether a sign is a minus
 abbrev pub is_minus : Option ℕ → Bool
 is_minus None = false
 is_minus (Some b) = b == 45
@@ -98,6 +103,7 @@ value_of sign (Pair over under) = record { num = signed sign (digits_value 10 ov
 
 -- ---- its limits
 
+-- the digit 0
 abbrev pub is_nought : ℕ → Bool
 is_nought b = b == 48
 
@@ -109,11 +115,11 @@ without_leading_zeros digits = drop (prefix_len is_nought digits) digits
 unfoldable pub trailing_zeros : List ℕ → ℕ
 trailing_zeros digits = suffix_len is_nought digits
 
--- n digits, divided by ten to the s: there are too many, or the last stands too far behind the point, or too far before it
+-- n digits, divided by ten to the s: they are more than 38, or reach more than 38 places behind the point, or are more than 38 together with the zeros up to the point
 abbrev pub PassesLimit : ℕ → ℤ → Type 0
 PassesLimit n s = (38 < n) ⊎ ((pos 38 <ℤ s) ⊎ ((s <ℤ pos 0) × (pos 38 <ℤ (pos n -ℤ s))))
 
--- The digits of a whole number that isn't 0, divided by ten to the s. Their trailing zeros are dropped, and each lowers s by 1.
+-- The digits of a whole number without leading zeros, divided by ten to the s: it isn't 0, and passes the limit once its trailing zeros are dropped, each of which lowers s by 1.
 unfoldable pub IsTooLong : List ℕ → ℤ → Type 0
 IsTooLong digits s = (0 < length digits) × PassesLimit (length digits - trailing_zeros digits) (s -ℤ pos (trailing_zeros digits))
 
@@ -123,6 +129,7 @@ HasZeroDenominator (Plain whole exponent) = ⊥
 HasZeroDenominator (Pointed whole fraction exponent) = ⊥
 HasZeroDenominator (Pair over under) = digits_value 10 under ≡ 0
 
+-- All digits before the exponent make one whole number, and s is the number of those behind the point less the exponent. In a pair each part is a number of its own.
 unfoldable pub HasTooManyDigits : Body → Type 0
 HasTooManyDigits (Plain whole exponent) = IsTooLong (without_leading_zeros whole) (pos 0 -ℤ exponent_of exponent)
 HasTooManyDigits (Pointed whole fraction exponent) = IsTooLong (without_leading_zeros (whole ++ fraction)) (pos (length fraction) -ℤ exponent_of exponent)

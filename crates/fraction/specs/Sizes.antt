@@ -15,6 +15,7 @@ abbrev pub BeginsOtherwise : ℕ → List ℕ → Type 0
 BeginsOtherwise byte [] = Unit {0}
 BeginsOtherwise byte (b ∷ bs) = b ≢ byte
 
+-- a size as a quotient
 abbrev pub quotient_of : Size → Terms
 quotient_of x = record { num = pos x.num; den = pos x.den }
 
@@ -30,28 +31,29 @@ IsShift up down z = (z ≡ pos up -ℤ pos down) ⊎ (((up ≡ 2 ^ 100) × (down
 unfoldable pub GivesShift : List ℕ → Shift → Type 0
 GivesShift text x = (exponent : Option Exponent) → IsExponent exponent → text ≡ exponent_text exponent → IsShift x.up x.down (exponent_of exponent)
 
--- n digits, of which the last isn't 0, divided by ten to the s
+-- what a number of n digits gives, divided by ten to the s
 unfoldable pub IsScaled : ℕ → ℕ → ℤ → Result Size NumberFault → Type 0
 IsScaled n number s (Ok x) = ¬ PassesLimit n s × (quotient_of x ≡ over_power (pos number) s)
 IsScaled n number s (Err TooManyDigits) = PassesLimit n s
 IsScaled n number s (Err fault) = ⊥
 
--- digits divided by ten to the s
+-- what digits give, divided by ten to the s
 unfoldable pub IsDecimalSize : List ℕ → ℤ → Result Size NumberFault → Type 0
 IsDecimalSize digits s (Ok x) = ¬ IsTooLong (without_leading_zeros digits) s × Same (quotient_of x) (over_power (pos (digits_value 10 digits)) s)
 IsDecimalSize digits s (Err TooManyDigits) = IsTooLong (without_leading_zeros digits) s
 IsDecimalSize digits s (Err fault) = ⊥
 
--- the digits of a decimal with the shift of its exponent
+-- what a decimal gives with the shift of its exponent
 unfoldable pub GivesDecimal : Decimal → Shift → Result Size NumberFault → Type 0
 GivesDecimal d x result = (exponent : ℤ) → IsShift x.up x.down exponent → IsDecimalSize (digits_in d) (pos (length d.fraction.now) -ℤ exponent) result
 
+-- what a body gives without a sign
 unfoldable pub IsBodySize : Body → Result Size NumberFault → Type 0
 IsBodySize body (Ok x) = ¬ HasZeroDenominator body × (¬ HasTooManyDigits body × Same (quotient_of x) (value_of None body))
 IsBodySize body (Err ZeroDenominator) = HasZeroDenominator body
 IsBodySize body (Err TooManyDigits) = ¬ HasZeroDenominator body × HasTooManyDigits body
 IsBodySize body (Err fault) = ⊥
 
--- what stands behind a sign gives, however it is spelt
+-- what a text gives, however it is spelt as a body
 unfoldable pub GivesBody : List ℕ → Result Size NumberFault → Type 0
 GivesBody text result = (body : Body) → IsBody body → text ≡ body_text body → IsBodySize body result

@@ -1,5 +1,5 @@
 -- The texts of fractions.
-use Rattle.std.specs.Prelude.{ℕ, Bool, List, [], ◌∷◌, ◌++◌, ◌==◌, if◌then◌else◌, unsigned_abs}
+use Rattle.std.specs.Prelude.{◌≡◌, ◌≤◌, ◌⊎◌, ℕ, Bool, List, [], ◌∷◌, ◌++◌, ◌==◌, if◌then◌else◌, unsigned_abs}
 use Rattle.std.specs.Fmt.{decimal}
 use Rattle.std.specs.Int.{is_negative}
 use Rattle.field_core.specs.Terms.{Terms}
@@ -15,3 +15,7 @@ signed_text negative n = if negative then 45 ∷ decimal n else decimal n
 -- `n`, or `n/d` where the denominator isn't 1
 unfoldable pub spelling : Terms → List ℕ
 spelling x = signed_text (is_negative x.num) (unsigned_abs x.num) ++ denominator_text (unsigned_abs x.den)
+
+-- a digit, a minus or a slash
+abbrev pub IsSpellingByte : ℕ → Type 0
+IsSpellingByte b = ((48 ≤ b) × (b ≤ 57)) ⊎ ((b ≡ 45) ⊎ (b ≡ 47))

@@ -1,9 +1,10 @@
 //! Laws of numerals.
-ghost use Rattle.std.specs.Prelude.{◌≡◌, ◌<◌, ◌^◌, ℕ, List, unsigned_abs};
+ghost use Rattle.std.specs.Prelude.{◌≡◌, ◌<◌, ◌^◌, ℕ, List, length, unsigned_abs};
+ghost use Rattle.std.specs.List.{AllByRecursion};
 ghost use Rattle.field_core.specs.Terms.{Terms, IsReduced};
 ghost use Rattle.fraction.specs.declared.fault.NumberFault.{NumberFault};
 ghost use Rattle.fraction.specs.Numeral.{IsNumeralOf, IsParseFault};
-ghost use Rattle.fraction.specs.Spelling.{spelling};
+ghost use Rattle.fraction.specs.Spelling.{spelling, IsSpellingByte};
 
 /// A text has at most one value, or one fault.
 pub fn a_text_says_one_thing()
@@ -12,7 +13,9 @@ pub fn a_text_says_one_thing()
     ensures apart { (text : List ℕ) (t : Terms) (f : NumberFault) → IsNumeralOf text t → ¬ IsParseFault text f }
 {}
 
-/// The text of a fraction whose parts have at most 38 digits is a numeral of it.
+/// The text of a fraction is a word of digits, a minus and a slash; where its parts have at most 38 digits, it is a numeral of the fraction.
 pub fn a_printed_fraction_reads_back()
-    ensures { (t : Terms) → IsReduced t → unsigned_abs t.num < 10 ^ 38 → unsigned_abs t.den < 10 ^ 38 → IsNumeralOf (spelling t) t }
+    ensures some { (t : Terms) → IsReduced t → 0 < length (spelling t) }
+    ensures bytes { (t : Terms) → IsReduced t → AllByRecursion IsSpellingByte (spelling t) }
+    ensures back { (t : Terms) → IsReduced t → unsigned_abs t.num < 10 ^ 38 → unsigned_abs t.den < 10 ^ 38 → IsNumeralOf (spelling t) t }
 {}
