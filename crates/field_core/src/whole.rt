@@ -22,6 +22,7 @@ impl Model for Whole {
 }
 
 impl Whole {
+    /// This number, which is at most 2^127 - 1 in size.
     pub fn new(value: i128) -> Whole
         requires { unsigned_abs value < 2 ^ 127 }
         ensures { result ≡ value }
@@ -29,6 +30,7 @@ impl Whole {
         Whole { value }
     }
 
+    /// The number.
     pub fn value(self) -> i128
         ensures value { result ≡ self }
         ensures size { unsigned_abs result < 2 ^ 127 }
@@ -36,6 +38,7 @@ impl Whole {
         self.value
     }
 
+    /// The product, or `TooWide` exactly where it has 2^127 or more in size; `op` is what it is made for.
     pub fn times(self, op: Op, other: Whole) -> Result<Whole, TooWide>
         ensures { result ≡ sized op (self *ℤ other) }
     {
@@ -51,6 +54,7 @@ impl Whole {
         }
     }
 
+    /// The sum, or `TooWide` exactly where it has 2^127 or more in size; `op` is what it is made for.
     pub fn plus(self, op: Op, other: Whole) -> Result<Whole, TooWide>
         ensures { result ≡ sized op (self +ℤ other) }
     {
@@ -66,12 +70,14 @@ impl Whole {
         }
     }
 
+    /// The number with the other sign.
     pub fn negated(self) -> Whole
         ensures { result ≡ neg_ℤ self }
     {
         Whole { value: -self.value }
     }
 
+    /// The quotient by a number above 0, without its remainder.
     pub fn over(self, by: Whole) -> Whole
         requires { pos 0 <ℤ by }
         ensures { result ≡ int_div self by }
@@ -81,6 +87,7 @@ impl Whole {
         }
     }
 
+    /// The greatest common divisor with a number above 0.
     pub fn common_divisor(self, other: Whole) -> Whole
         requires { pos 0 <ℤ other }
         ensures value { result ≡ gcd_of self other }

@@ -22,6 +22,7 @@ impl Model for Backward {
 }
 
 impl Backward {
+    /// An empty text.
     pub fn empty() -> Backward
         ensures { result ≡ [] }
     {
@@ -31,6 +32,7 @@ impl Backward {
         }
     }
 
+    /// Puts a byte in front.
     pub fn put(&mut self, byte: u8)
         requires { length self.old < 80 }
         ensures { self.new ≡ byte ∷ self.old }
@@ -54,6 +56,7 @@ impl Backward {
         }
     }
 
+    /// The bytes, in their order.
     pub fn as_slice(&self) -> &[u8]
         ensures { result.now ≡ self.now }
     {
