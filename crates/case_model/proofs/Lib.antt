@@ -1,9 +1,6 @@
-pub mod CaseFacts
+pub mod Tests
 pub mod Comparisons
 pub mod Constants
 pub mod ExactSums
-pub mod ListTests
 pub mod SumSteps
 pub mod Thresholds
-pub mod Totals
-pub mod Validity

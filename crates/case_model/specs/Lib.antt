@@ -1,7 +1,10 @@
+pub mod CaseFaults
 pub mod CaseView
-pub mod Content
-pub mod Sums
-pub mod Draft
 pub mod ClosedTest
+pub mod Content
+pub mod Draft
 pub mod EntangledGraph
+pub mod Entries
 pub mod IntersectionWeight
+pub mod Sums
+pub mod Validity

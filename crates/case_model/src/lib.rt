@@ -1,17 +1,16 @@
 //! Valid cases, and what the closed test decides of them.
 #![tactic(auto)]
 
-
-
 mod case;
 mod draft;
+mod entry;
+mod fault;
 mod local_test;
 mod names;
 mod numbers;
 
-
-
-
-pub use case::Case;
+pub use case::{Case, Component, Inputs, Stages};
+pub use draft::{Arrival, Draft, DraftComponent, DraftEdge, DraftStages};
+pub use entry::Entry;
+pub use fault::{CaseFault, PartPlace, Refused};
 pub use local_test::passes;
-pub use draft::{CaseFault, Draft, Refused};
