@@ -1,6 +1,7 @@
-pub mod Tests
 pub mod Comparisons
 pub mod Constants
 pub mod ExactSums
 pub mod SumSteps
+pub mod Tests
 pub mod Thresholds
+pub mod Totals

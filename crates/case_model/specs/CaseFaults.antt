@@ -1,5 +1,6 @@
 -- The fault of a draft: what the first row of a table finds. Each row is a test of all components, hypotheses or places of a list, in ascending order.
 use Rattle.std.specs.Prelude.{ℕ, zero, suc, ◌+◌, ◌==◌, ◌&&◌, not, Bool, true, false, List, [], ◌∷◌, Option, Some, None, Result, Ok, Err, length, map, take, nat_lt, is_some, is_none, position, if◌then◌else◌}
+use Rattle.std.specs.Bool.{then_some}
 use Rattle.std.specs.List.{list_all, list_any, find}
 use Rattle.std.specs.Option.{option_or, option_map}
 use Rattle.std.specs.Str.{bytes_eq}
@@ -31,8 +32,7 @@ first or second = option_or first second
 -- the fault, where the test holds
 infix 30 ◌when◌
 abbrev pub ◌when◌ : CaseFault → Bool → Option CaseFault
-fault when true = Some fault
-fault when false = None
+fault when test = then_some test fault
 
 -- the first fault that a row finds in a list, item by item, with the places counted from `i`
 unfoldable pub first_from : {A : Type 0} → (ℕ → A → Option CaseFault) → ℕ → List A → Option CaseFault

@@ -1,8 +1,9 @@
 //! Tests of fractions.
-ghost use Rattle.std.specs.Prelude.{◌≡◌, ◌^◌, map, length, not, nat_le, unsigned_abs, ◌<◌, ◌≤◌, true, Some, IfOk};
+ghost use Rattle.std.specs.Prelude.{◌≡◌, not};
 ghost use Rattle.field_core.specs.Arithmetic.{number_zero, number_one};
 ghost use Rattle.fraction.specs.View.{terms_of, number_of};
-ghost use Rattle.case_model.specs.Draft.{at_most, is_within};
+ghost use Rattle.case_model.specs.Draft.{at_most, is_unit, is_within, is_short_level, is_short, is_short_p_value, is_level_range};
+ghost use Rattle.case_model.specs.CaseFaults.{is_below_zero};
 
 use field_core::Number;
 use fraction::Fraction;
@@ -28,11 +29,32 @@ fn is_nonnegative(x: &Fraction) -> bool
     at_most(&Fraction::zero(), x)
 }
 
+/// Whether `x` is below 0.
+pub fn is_below_zero(x: &Fraction) -> bool
+    ensures { result ≡ is_below_zero (terms_of x.now) }
+{
+    !is_nonnegative(x)
+}
+
 /// Whether `x` is at most 1.
-fn is_at_most_one(x: &Fraction) -> bool
+pub fn is_at_most_one(x: &Fraction) -> bool
     ensures { result ≡ at_most (number_of x.now) number_one }
 {
     at_most(x, &Fraction::one())
+}
+
+/// Whether `x` is from 0 to 1.
+pub fn is_unit(x: &Fraction) -> bool
+    ensures { result ≡ is_unit (number_of x.now) }
+{
+    is_nonnegative(x) && is_at_most_one(x)
+}
+
+/// Whether `x` is above 0 and at most 1.
+pub fn is_level_range(x: &Fraction) -> bool
+    ensures { result ≡ is_level_range (terms_of x.now) }
+{
+    is_positive(x) && is_at_most_one(x)
 }
 
 /// Whether numerator and denominator are at most `limit` in size.
@@ -41,4 +63,25 @@ fn is_within(limit: u128, x: &Fraction) -> bool
 {
     let ratio = x.ratio();
     ratio.num().unsigned_abs() <= limit && ratio.den().unsigned_abs() <= limit
+}
+
+/// Whether the parts are at most 10,000.
+pub fn is_short_level(x: &Fraction) -> bool
+    ensures { result ≡ is_short_level (terms_of x.now) }
+{
+    is_within(10_000, x)
+}
+
+/// Whether the parts are at most 10^18.
+pub fn is_short(x: &Fraction) -> bool
+    ensures { result ≡ is_short (terms_of x.now) }
+{
+    is_within(1_000_000_000_000_000_000, x)
+}
+
+/// Whether the denominator is at most 10^30.
+pub fn is_short_p_value(x: &Fraction) -> bool
+    ensures { result ≡ is_short_p_value (terms_of x.now) }
+{
+    x.ratio().den().unsigned_abs() <= 1_000_000_000_000_000_000_000_000_000_000
 }

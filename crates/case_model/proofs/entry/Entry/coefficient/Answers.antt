@@ -1,4 +1,5 @@
-use Rattle.std.proofs.Common.{sym, length, arith, ◌<◌}
+use Rattle.std.proofs.Common.{sym, ap, ◌∙◌, length, arith, ◌<◌}
+use Rattle.fraction.specs.View.{terms_of}
 use Rattle.case_model.proofs.SumSteps.{item_terms}
 use Rattle.case_model.proofs.entry.Entry.coefficient.Goals as goal
 
@@ -6,4 +7,4 @@ pub returns : goal.returns
 returns c =
     let e = c.args.self.now in
     let within : c.args.power < length e.coefficients = omega arith in
-    sym (item_terms e.coefficients c.args.power c.index-self-power.result within c.index-self-power.is)
+    ap terms_of (sym c.index-self-power.is) ∙ sym (item_terms e.coefficients c.args.power c.index-self-power.result within c.index-self-power.is)
