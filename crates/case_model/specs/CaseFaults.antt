@@ -51,23 +51,27 @@ first_below row (suc n) = first_below row n or row n
 -- ---- the names
 
 -- there is no hypothesis
-unfoldable pub no_hypothesis : DraftContent → Option CaseFault
-no_hypothesis d = NoHypothesis when length d.names == 0
+unfoldable pub no_hypothesis : List (List ℕ) → Option CaseFault
+no_hypothesis names = NoHypothesis when length names == 0
 
 -- there are more than 64
-unfoldable pub too_many : DraftContent → Option CaseFault
-too_many d = TooMany (length d.names) when nat_lt 64 (length d.names)
+unfoldable pub too_many : List (List ℕ) → Option CaseFault
+too_many names = TooMany (length names) when nat_lt 64 (length names)
 
 -- the first name that isn't well formed
-unfoldable pub name_form : DraftContent → Option CaseFault
-name_form d = option_map NameForm (position (λ name. not (is_name name)) d.names)
+unfoldable pub name_form : List (List ℕ) → Option CaseFault
+name_form names = option_map NameForm (position (λ name. not (is_name name)) names)
 
--- the first name that is equal to an earlier one
-unfoldable pub duplicate_name : DraftContent → Option CaseFault
-duplicate_name d = first_of (λ i name. DuplicateName i when list_any (bytes_eq name) (take i d.names)) d.names
+-- the name at a place is equal to an earlier one
+abbrev pub repeated_name : List (List ℕ) → ℕ → List ℕ → Option CaseFault
+repeated_name names i name = DuplicateName i when list_any (bytes_eq name) (take i names)
 
-unfoldable pub names_fault : DraftContent → Option CaseFault
-names_fault d = no_hypothesis d or too_many d or name_form d or duplicate_name d
+-- the first such name
+unfoldable pub duplicate_name : List (List ℕ) → Option CaseFault
+duplicate_name names = first_of (repeated_name names) names
+
+unfoldable pub names_fault : List (List ℕ) → Option CaseFault
+names_fault names = no_hypothesis names or too_many names or name_form names or duplicate_name names
 
 -- ---- the number of components
 
@@ -169,9 +173,13 @@ is_self_edge e = e.from == e.to && not (is_zero_entry e.entry)
 unfoldable pub self_edge : ℕ → DraftComponentContent → Option CaseFault
 self_edge c k = option_map (λ e. SelfEdge c e.from) (find is_self_edge k.edges)
 
--- the first edge of a component with the ends of an earlier one
+-- the edge at a place has the ends of an earlier one
+abbrev pub edge_again : ℕ → List DraftEdgeContent → ℕ → DraftEdgeContent → Option CaseFault
+edge_again c es n e = RepeatedEdge c e.from e.to when list_any (has_ends e.from e.to) (take n es)
+
+-- the first such edge of a component
 unfoldable pub repeated_edge : ℕ → DraftComponentContent → Option CaseFault
-repeated_edge c k = first_of (λ n e. RepeatedEdge c e.from e.to when list_any (has_ends e.from e.to) (take n k.edges)) k.edges
+repeated_edge c k = first_of (edge_again c k.edges) k.edges
 
 -- the first edge of a component that isn't from 0 to 1, in the order of epsilon
 unfoldable pub edge_range : ℕ → DraftComponentContent → Option CaseFault
@@ -237,7 +245,7 @@ p_values_fault d = mixed d or p_count d or p_missing d or p_range d
 
 -- the rows before the sums of the rows of edges
 unfoldable pub early_fault : DraftContent → Option CaseFault
-early_fault d = names_fault d or components_fault d or part_too_long d or alpha_range d or shares_fault d or weights_fault d or edges_fault d
+early_fault d = names_fault d.names or components_fault d or part_too_long d or alpha_range d or shares_fault d or weights_fault d or edges_fault d
 
 -- the first fault of a draft
 unfoldable pub case_fault : DraftContent → Option CaseFault
