@@ -2,6 +2,7 @@ pub mod Comparisons
 pub mod Constants
 pub mod ExactSums
 pub mod FirstFaults
+pub mod Places
 pub mod SumSteps
 pub mod Tests
 pub mod Thresholds

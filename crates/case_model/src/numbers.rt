@@ -1,9 +1,11 @@
 //! Tests of fractions.
-ghost use Rattle.std.specs.Prelude.{◌≡◌, not};
+ghost use Rattle.std.specs.Prelude.{◌≡◌, not, map, position};
 ghost use Rattle.field_core.specs.Arithmetic.{number_zero, number_one};
 ghost use Rattle.fraction.specs.View.{terms_of, number_of};
 ghost use Rattle.case_model.specs.Draft.{at_most, is_unit, is_within, is_short_level, is_short, is_short_p_value, is_level_range};
+ghost use Rattle.case_model.specs.Entries.{is_zero_terms};
 ghost use Rattle.case_model.specs.CaseFaults.{is_below_zero};
+ghost use Rattle.std.specs.List.{list_all};
 
 use field_core::Number;
 use fraction::Fraction;
@@ -57,6 +59,14 @@ pub fn is_level_range(x: &Fraction) -> bool
     is_positive(x) && is_at_most_one(x)
 }
 
+/// Whether `x` is 0.
+#[tactic(auto, unfolding(field_core::specs::Kind::is_zero))]
+fn is_zero(x: &Fraction) -> bool
+    ensures { result ≡ is_zero_terms (terms_of x.now) }
+{
+    x.is_zero()
+}
+
 /// Whether numerator and denominator are at most `limit` in size.
 fn is_within(limit: u128, x: &Fraction) -> bool
     ensures { result ≡ is_within limit (terms_of x.now) }
@@ -84,4 +94,32 @@ pub fn is_short_p_value(x: &Fraction) -> bool
     ensures { result ≡ is_short_p_value (terms_of x.now) }
 {
     x.ratio().den().unsigned_abs() <= 1_000_000_000_000_000_000_000_000_000_000
+}
+
+/// Whether each is 0.
+pub fn are_zero(fractions: &[Fraction]) -> bool
+    ensures { result ≡ list_all is_zero_terms (map terms_of fractions.now) }
+{
+    fractions.iter().all(|fraction| is_zero(fraction))
+}
+
+/// Whether the parts of each are at most 10^18.
+pub fn are_short(fractions: &[Fraction]) -> bool
+    ensures { result ≡ list_all is_short (map terms_of fractions.now) }
+{
+    fractions.iter().all(|fraction| is_short(fraction))
+}
+
+/// The place of the first with a part above 10^18.
+pub fn first_long(fractions: &[Fraction]) -> Option<usize>
+    ensures { result ≡ position (λ w. not (is_short w)) (map terms_of fractions.now) }
+{
+    fractions.iter().position(|fraction| !is_short(fraction))
+}
+
+/// The place of the first below 0.
+pub fn first_below_zero(fractions: &[Fraction]) -> Option<usize>
+    ensures { result ≡ position is_below_zero (map terms_of fractions.now) }
+{
+    fractions.iter().position(|fraction| is_below_zero(fraction))
 }
