@@ -1,5 +1,6 @@
 pub mod Comparisons
 pub mod Constants
+pub mod EntryOrder
 pub mod ExactSums
 pub mod FirstFaults
 pub mod Places

@@ -3,6 +3,7 @@ use Rattle.std.proofs.Common.{◌≡◌, refl, sym, ap, ap₂, ◌∙◌, ℕ, �
 use Rattle.std.proofs.lemmas.List.{length-map}
 use Rattle.std.specs.List.{list_any, find, prefix_len, position}
 use Rattle.std.specs.Option.{option_map}
+use Rattle.std.specs.Borrow.{Bor}
 
 prefix_len-map : {A B : Type 0} (p : B → Bool) (f : A → B) (xs : List A) → prefix_len p (map f xs) ≡ prefix_len (λ x. p (f x)) xs
 prefix_len-map p f [] = refl
@@ -25,3 +26,11 @@ find_cond f false x r = refl
 pub find-map : {A B : Type 0} (p : B → Bool) (f : A → B) (xs : List A) → find p (map f xs) ≡ option_map f (find (λ x. p (f x)) xs)
 find-map p f [] = refl
 find-map p f (x ∷ xs) = ap (cond (p (f x)) (Some (f x))) (find-map p f xs) ∙ find_cond f (p (f x)) x _
+
+both_maps : {A B C : Type 0} (g : A → B) (f : B → C) (r : Option A) → option_map (λ x. f (g x)) r ≡ option_map f (option_map g r)
+both_maps g f None = refl
+both_maps g f (Some x) = refl
+
+-- what is found in a list is what is found in the mapped list
+pub find_through : {A B : Type 0} (p : B → Bool) (f : A → B) (r : Option (Bor A)) (xs : List A) → option_map (λ y. y.now) r ≡ find (λ x. p (f x)) xs → option_map (λ y. f y.now) r ≡ find p (map f xs)
+find_through p f r xs e = both_maps (λ y. y.now) f r ∙ ap (option_map f) e ∙ sym (find-map p f xs)

@@ -1,6 +1,10 @@
 -- Entries of tables of edges: polynomials in epsilon of degree at most 4, by their coefficients of ascending power.
 use Rattle.std.specs.Prelude.{ℕ, zero, suc, List, [], ◌∷◌, ◌+◌, ◌*◌, Bool, drop, get_or}
 use Rattle.std.specs.List.{list_all}
+use Rattle.std.specs.Ordering.{ordering_then}
+use Rattle.std.specs.declared.cmp.Ordering.{Ordering}
+use Rattle.std.specs.declared.cmp.Ordering.TheVariants.{Equal}
+use Rattle.field_core.specs.Polynomial.{int_sign}
 use Rattle.field_core.specs.Terms.{Terms}
 use Rattle.field_core.specs.Kind.{is_zero_integer}
 use Rattle.field_core.specs.Number.{Number}
@@ -38,3 +42,8 @@ is_plain_entry e = list_all is_zero_terms (drop 1 e)
 -- the entry of the edge from `i` to `j` in a table of `m` rows and columns
 unfoldable pub entry_at : ℕ → List (List Terms) → ℕ → ℕ → List Terms
 entry_at m table i j = get_or table (i * m + j) no_edge
+
+-- the sign of the first coefficient that isn't 0
+unfoldable pub first_sign : List Terms → Ordering
+first_sign [] = Equal
+first_sign (t ∷ ts) = ordering_then (int_sign t.num) (first_sign ts)

@@ -1,7 +1,9 @@
 ghost use Rattle.std.specs.Prelude.{◌≡◌};
 
-use crate::numbers::{are_short, are_zero};
+use crate::numbers::{are_short, are_zero, compare, first_sign};
+use field_core::Number;
 use fraction::Fraction;
+use std::cmp::Ordering;
 
 /// The weight of an edge: a polynomial in epsilon of degree at most 4, by its coefficients of ascending power.
 #[derive(Clone, Copy)]
@@ -12,10 +14,11 @@ pub struct Entry {
 impl Entry {
     ghost use Rattle.std.specs.Prelude.{◌≡◌, ◌≤◌, map};
     ghost use Rattle.std.specs.List.{list_all};
-    ghost use Rattle.fraction.specs.View.{terms_of};
+    ghost use Rattle.fraction.specs.View.{terms_of, number_of};
+    ghost use Rattle.field_core.specs.Arithmetic.{number_zero, number_one, number_compare};
     ghost use Rattle.case_model.specs.Sums.{terms_at};
-    ghost use Rattle.case_model.specs.Entries.{is_zero_entry, is_plain_entry};
-    ghost use Rattle.case_model.specs.Draft.{is_short};
+    ghost use Rattle.case_model.specs.Entries.{entry_value, is_zero_entry, is_plain_entry};
+    ghost use Rattle.case_model.specs.Draft.{at_most, is_unit, is_short};
     ghost use Rattle.case_model.specs.CaseView.{coefficients_of};
 
     /// The entry with these coefficients.
@@ -55,5 +58,34 @@ impl Entry {
     {
         let coefficients = &self.coefficients[..];
         are_zero(&coefficients[1..])
+    }
+
+    /// How the value compares with a fraction, in the order of epsilon.
+    fn compare(&self, other: &Fraction) -> Ordering
+        ensures { result ≡ number_compare (entry_value (coefficients_of self.now)) (number_of other.now) }
+    {
+        let coefficients = &self.coefficients[..];
+        compare(&coefficients[0], other).then(first_sign(&coefficients[1..]))
+    }
+
+    /// Whether the value isn't below 0, in the order of epsilon.
+    fn is_nonnegative(&self) -> bool
+        ensures { result ≡ at_most number_zero (entry_value (coefficients_of self.now)) }
+    {
+        self.compare(&Fraction::zero()).is_ge()
+    }
+
+    /// Whether the value is at most 1, in the order of epsilon.
+    pub(crate) fn is_at_most_one(&self) -> bool
+        ensures { result ≡ at_most (entry_value (coefficients_of self.now)) number_one }
+    {
+        self.compare(&Fraction::one()).is_le()
+    }
+
+    /// Whether the value is from 0 to 1, in the order of epsilon.
+    pub(crate) fn is_unit(&self) -> bool
+        ensures { result ≡ is_unit (entry_value (coefficients_of self.now)) }
+    {
+        self.is_nonnegative() && self.is_at_most_one()
     }
 }

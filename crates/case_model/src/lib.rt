@@ -8,6 +8,7 @@ mod fault;
 mod local_test;
 mod names;
 mod numbers;
+mod rows;
 mod sums;
 
 pub use case::{Case, Component, Inputs, Stages};

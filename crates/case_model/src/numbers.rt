@@ -1,20 +1,47 @@
 //! Tests of fractions.
 ghost use Rattle.std.specs.Prelude.{◌≡◌, not, map, position};
-ghost use Rattle.field_core.specs.Arithmetic.{number_zero, number_one};
+ghost use Rattle.field_core.specs.Arithmetic.{number_zero, number_one, number_compare};
 ghost use Rattle.fraction.specs.View.{terms_of, number_of};
 ghost use Rattle.case_model.specs.Draft.{at_most, is_unit, is_within, is_short_level, is_short, is_short_p_value, is_level_range};
-ghost use Rattle.case_model.specs.Entries.{is_zero_terms};
+ghost use Rattle.field_core.specs.Polynomial.{int_sign};
+ghost use Rattle.case_model.specs.Entries.{is_zero_terms, first_sign};
 ghost use Rattle.case_model.specs.CaseFaults.{is_below_zero};
 ghost use Rattle.std.specs.List.{list_all};
 
 use field_core::Number;
 use fraction::Fraction;
+use std::cmp::Ordering;
+
+/// How `x` compares with `y`.
+pub fn compare(x: &Fraction, y: &Fraction) -> Ordering
+    ensures { result ≡ number_compare (number_of x.now) (number_of y.now) }
+{
+    x.ratio().compare(&y.ratio())
+}
+
+/// Whether `x` is below, at or above 0.
+fn sign(x: &Fraction) -> Ordering
+    ensures { result ≡ int_sign (terms_of x.now).num }
+{
+    x.sign()
+}
+
+/// The sign of the first that isn't 0.
+#[tactic(auto, unfolding(crate::specs::Entries::first_sign))]
+pub fn first_sign(fractions: &[Fraction]) -> Ordering
+    ensures { result ≡ first_sign (map terms_of fractions.now) }
+{
+    match fractions {
+        [] => Ordering::Equal,
+        [first, rest @ ..] => sign(first).then(first_sign(rest)),
+    }
+}
 
 /// Whether `x` is at most `y`.
 pub fn at_most(x: &Fraction, y: &Fraction) -> bool
     ensures { result ≡ at_most (number_of x.now) (number_of y.now) }
 {
-    x.ratio().compare(&y.ratio()).is_le()
+    compare(x, y).is_le()
 }
 
 /// Whether `x` is above 0.
