@@ -1,5 +1,5 @@
 -- The first fault that a row finds, as a loop comes to it.
-use Rattle.std.proofs.Common.{◌≡◌, refl, sym, ap, ap₂, ◌∙◌, ℕ, zero, suc, ◌+◌, ◌-◌, ◌<◌, ◌≤◌, List, [], ◌∷◌, ◌++◌, length, map, get_or, take, drop, Option, Some, None, arith}
+use Rattle.std.proofs.Common.{◌≡◌, refl, sym, ap, ap₂, ◌∙◌, ℕ, zero, suc, ◌+◌, ◌-◌, ◌<◌, ◌≤◌, List, [], ◌∷◌, ◌++◌, length, map, get_or, take, drop, Option, Some, None, is_some, true, false, arith}
 use Rattle.std.proofs.lemmas.List.{take_more, take-append-drop, length-take-le, take_all}
 use Rattle.case_model.specs.declared.fault.CaseFault.{CaseFault}
 use Rattle.case_model.specs.CaseFaults.{◌or◌, first_from, first_of, first_below}
@@ -76,3 +76,23 @@ pub below_found : (row : ℕ → Option CaseFault) (i n : ℕ) (fault : CaseFaul
 below_found row i n fault h before here =
     let same : n ≡ i + 1 + (n - (i + 1)) = omega arith in
     ap (first_below row) same ∙ stays row (i + 1) (n - (i + 1)) fault (below_more row i ∙ ap₂ ◌or◌ before here)
+
+-- ---- answers of a row, as a loop tests them
+
+none_is : (r : Option CaseFault) → is_some r ≡ false → r ≡ None
+none_is None h = refl
+none_is (Some f) h = absurd (cc)
+
+pub first_answer : {A : Type 0} (row : ℕ → A → Option CaseFault) (xs : List A) (n : ℕ) (d : A) (r : Option CaseFault) → n < length xs → first_of row (take n xs) ≡ None → row n (get_or xs n d) ≡ r → is_some r ≡ true → r ≡ first_of row xs
+first_answer row xs n d None h before here some = absurd (cc)
+first_answer row xs n d (Some fault) h before here some = sym (first_found row xs n d fault h before here)
+
+pub first_silence : {A : Type 0} (row : ℕ → A → Option CaseFault) (xs : List A) (n : ℕ) (d : A) (r : Option CaseFault) → n < length xs → first_of row (take n xs) ≡ None → row n (get_or xs n d) ≡ r → is_some r ≡ false → first_of row (take (n + 1) xs) ≡ None
+first_silence row xs n d r h before here none = first_on row xs n d h before (here ∙ none_is r none)
+
+pub below_answer : (row : ℕ → Option CaseFault) (i n : ℕ) (r : Option CaseFault) → i < n → first_below row i ≡ None → row i ≡ r → is_some r ≡ true → r ≡ first_below row n
+below_answer row i n None h before here some = absurd (cc)
+below_answer row i n (Some fault) h before here some = sym (below_found row i n fault h before here)
+
+pub below_silence : (row : ℕ → Option CaseFault) (i : ℕ) (r : Option CaseFault) → first_below row i ≡ None → row i ≡ r → is_some r ≡ false → first_below row (i + 1) ≡ None
+below_silence row i r before here none = below_on row i before (here ∙ none_is r none)

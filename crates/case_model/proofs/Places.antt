@@ -1,6 +1,6 @@
 -- First places and tests in mapped lists.
-use Rattle.std.proofs.Common.{◌≡◌, refl, sym, ap, ap₂, ◌∙◌, ℕ, ◌+◌, List, [], ◌∷◌, length, map, Bool, true, false, cond, not, ◌||◌, Option, Some, None, nat_lt}
-use Rattle.std.proofs.lemmas.List.{length-map}
+use Rattle.std.proofs.Common.{◌≡◌, refl, sym, ap, ap₂, ◌∙◌, ℕ, ◌+◌, ◌<◌, List, [], ◌∷◌, length, map, get_or, Bool, true, false, cond, not, ◌||◌, Option, Some, None, nat_lt}
+use Rattle.std.proofs.lemmas.List.{length-map, get_or-map}
 use Rattle.std.specs.List.{list_any, find, prefix_len, position}
 use Rattle.std.specs.Option.{option_map}
 use Rattle.std.specs.Borrow.{Bor}
@@ -34,3 +34,10 @@ both_maps g f (Some x) = refl
 -- what is found in a list is what is found in the mapped list
 pub find_through : {A B : Type 0} (p : B → Bool) (f : A → B) (r : Option (Bor A)) (xs : List A) → option_map (λ y. y.now) r ≡ find (λ x. p (f x)) xs → option_map (λ y. f y.now) r ≡ find p (map f xs)
 find_through p f r xs e = both_maps (λ y. y.now) f r ∙ ap (option_map f) e ∙ sym (find-map p f xs)
+
+-- the item at a place of a mapped list
+pub mapped_item : {A B : Type 0} (f : A → B) (xs : List A) (n : ℕ) (x : A) (d : B) → n < length xs → x ≡ get_or xs n x → get_or (map f xs) n d ≡ f x
+mapped_item f xs n x d h e = get_or-map f xs n x d h ∙ ap f (sym e)
+
+pub within_map : {A B : Type 0} (f : A → B) (xs : List A) (n : ℕ) → n < length xs → n < length (map f xs)
+within_map f xs n h = rw (as_many f xs) h

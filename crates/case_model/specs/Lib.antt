@@ -6,5 +6,6 @@ pub mod Draft
 pub mod EntangledGraph
 pub mod Entries
 pub mod IntersectionWeight
+pub mod Rows
 pub mod Sums
 pub mod Validity

@@ -38,7 +38,7 @@ fn total(fractions: &[Fraction]) -> Result<Fraction, TooWide>
 }
 
 /// The fault of a written sum of fractions: that it is too wide, or else that it is above 1.
-fn total_fault(fractions: &[Fraction], component: usize, place: Place, above: CaseFault) -> Option<CaseFault>
+pub fn total_fault(fractions: &[Fraction], component: usize, place: Place, above: CaseFault) -> Option<CaseFault>
     ensures { result ≡ total_fault (map terms_of fractions.now) component place above }
 {
     match total(fractions) {
