@@ -76,25 +76,25 @@ names_fault names = no_hypothesis names or too_many names or name_form names or 
 -- ---- the number of components
 
 -- there is no component
-unfoldable pub no_component : DraftContent → Option CaseFault
-no_component d = NoComponent when length d.components == 0
+unfoldable pub no_component : List DraftComponentContent → Option CaseFault
+no_component ks = NoComponent when length ks == 0
 
 -- there are more than 8
-unfoldable pub too_many_components : DraftContent → Option CaseFault
-too_many_components d = TooManyComponents (length d.components) when nat_lt 8 (length d.components)
+unfoldable pub too_many_components : List DraftComponentContent → Option CaseFault
+too_many_components ks = TooManyComponents (length ks) when nat_lt 8 (length ks)
 
-unfoldable pub components_fault : DraftContent → Option CaseFault
-components_fault d = no_component d or too_many_components d
+unfoldable pub components_fault : List DraftComponentContent → Option CaseFault
+components_fault ks = no_component ks or too_many_components ks
 
 -- ---- numbers with long parts
 
 -- the level
-unfoldable pub long_alpha : DraftContent → Option CaseFault
-long_alpha d = PartTooLong Alpha when not (is_short_level d.alpha)
+unfoldable pub long_alpha : Terms → Option CaseFault
+long_alpha alpha = PartTooLong Alpha when not (is_short_level alpha)
 
 -- the first share
-unfoldable pub long_share : DraftContent → Option CaseFault
-long_share d = option_map (λ c. PartTooLong (Share c)) (position (λ k. not (is_short k.share)) d.components)
+unfoldable pub long_share : List DraftComponentContent → Option CaseFault
+long_share ks = option_map (λ c. PartTooLong (Share c)) (position (λ k. not (is_short k.share)) ks)
 
 -- the first weight of a component
 unfoldable pub long_weight : ℕ → DraftComponentContent → Option CaseFault
@@ -110,25 +110,25 @@ is_long_p_value None = false
 is_long_p_value (Some p) = not (is_short_p_value p)
 
 -- the first p-value
-unfoldable pub long_p_value : DraftContent → Option CaseFault
-long_p_value d = option_map (λ i. PartTooLong (P i)) (position is_long_p_value d.p)
+unfoldable pub long_p_value : List (Option Terms) → Option CaseFault
+long_p_value ps = option_map (λ i. PartTooLong (P i)) (position is_long_p_value ps)
 
 unfoldable pub part_too_long : DraftContent → Option CaseFault
-part_too_long d = long_alpha d or long_share d or first_of long_weight d.components or first_of long_edge d.components or long_p_value d
+part_too_long d = long_alpha d.alpha or long_share d.components or first_of long_weight d.components or first_of long_edge d.components or long_p_value d.p
 
 -- ---- the level and the shares
 
 -- the level isn't above 0 and at most 1
-unfoldable pub alpha_range : DraftContent → Option CaseFault
-alpha_range d = AlphaRange when not (is_level_range d.alpha)
+unfoldable pub alpha_range : Terms → Option CaseFault
+alpha_range alpha = AlphaRange when not (is_level_range alpha)
 
 -- below 0
 abbrev pub is_below_zero : Terms → Bool
 is_below_zero t = not (at_most number_zero (number t))
 
 -- the first share below 0
-unfoldable pub share_range : DraftContent → Option CaseFault
-share_range d = option_map ShareRange (position (λ k. is_below_zero k.share) d.components)
+unfoldable pub share_range : List DraftComponentContent → Option CaseFault
+share_range ks = option_map ShareRange (position (λ k. is_below_zero k.share) ks)
 
 -- the fault of a sum: that it can't be written, or else that its value is above 1
 abbrev pub sum_fault : {A : Type 0} → Result A TooWide → Number → ℕ → Place → CaseFault → Option CaseFault
@@ -140,17 +140,17 @@ unfoldable pub total_fault : List Terms → ℕ → Place → CaseFault → Opti
 total_fault ts c place above = sum_fault (written_sum (length ts) (terms_at ts)) (sum_below number_field (length ts) (number_at ts)) c place above
 
 -- the shares sum above 1
-unfoldable pub share_sum : DraftContent → Option CaseFault
-share_sum d = total_fault (map (λ k. k.share) d.components) 0 AtShareSum ShareSum
+unfoldable pub share_sum : List DraftComponentContent → Option CaseFault
+share_sum ks = total_fault (map (λ k. k.share) ks) 0 AtShareSum ShareSum
 
-unfoldable pub shares_fault : DraftContent → Option CaseFault
-shares_fault d = share_range d or share_sum d
+unfoldable pub shares_fault : List DraftComponentContent → Option CaseFault
+shares_fault ks = share_range ks or share_sum ks
 
 -- ---- the weights
 
--- the first component without just one weight for each hypothesis
-unfoldable pub weight_count : DraftContent → Option CaseFault
-weight_count d = option_map WeightCount (position (λ k. not (length k.weights == length d.names)) d.components)
+-- the first component without just one weight for each of `m` hypotheses
+unfoldable pub weight_count : ℕ → List DraftComponentContent → Option CaseFault
+weight_count m ks = option_map WeightCount (position (λ k. not (length k.weights == m)) ks)
 
 -- the first weight of a component below 0
 unfoldable pub weight_range : ℕ → DraftComponentContent → Option CaseFault
@@ -160,8 +160,8 @@ weight_range c k = option_map (WeightRange c) (position is_below_zero k.weights)
 unfoldable pub weight_sum : ℕ → DraftComponentContent → Option CaseFault
 weight_sum c k = total_fault k.weights c AtWeightSum (WeightSum c)
 
-unfoldable pub weights_fault : DraftContent → Option CaseFault
-weights_fault d = weight_count d or first_of weight_range d.components or first_of weight_sum d.components
+unfoldable pub weights_fault : ℕ → List DraftComponentContent → Option CaseFault
+weights_fault m ks = weight_count m ks or first_of weight_range ks or first_of weight_sum ks
 
 -- ---- the edges
 
@@ -185,8 +185,8 @@ repeated_edge c k = first_of (edge_again c k.edges) k.edges
 unfoldable pub edge_range : ℕ → DraftComponentContent → Option CaseFault
 edge_range c k = option_map (λ e. EdgeRange c e.from e.to) (find (λ e. not (is_unit (entry_value e.entry))) k.edges)
 
-unfoldable pub edges_fault : DraftContent → Option CaseFault
-edges_fault d = first_of self_edge d.components or first_of repeated_edge d.components or first_of edge_range d.components
+unfoldable pub edges_fault : List DraftComponentContent → Option CaseFault
+edges_fault ks = first_of self_edge ks or first_of repeated_edge ks or first_of edge_range ks
 
 -- ---- the rows of edges
 
@@ -204,7 +204,7 @@ written_row m row = do
   e ← power_sum m row 4
   Ok (a ∷ b ∷ c ∷ d ∷ e ∷ [])
 
--- the sum of the row of `i` in a table is above 1, in the order of epsilon
+-- the sum of the row of `i` in a table of `m` rows and columns is above 1, in the order of epsilon
 unfoldable pub row_sum : ℕ → ℕ → List (List Terms) → ℕ → Option CaseFault
 row_sum m c table i = sum_fault (written_row m (entry_at m table i)) (sum_below number_field m (λ j. entry_value (entry_at m table i j))) c (AtRowSum i) (RowSum c i)
 
@@ -212,8 +212,8 @@ row_sum m c table i = sum_fault (written_row m (entry_at m table i)) (sum_below 
 unfoldable pub component_rows : ℕ → ℕ → ComponentContent → Option CaseFault
 component_rows m c k = first_below (row_sum m c k.edges) m
 
-unfoldable pub rows_fault : Content → Option CaseFault
-rows_fault c = first_of (component_rows (length c.names)) c.components
+unfoldable pub rows_fault : ℕ → List ComponentContent → Option CaseFault
+rows_fault m ks = first_of (component_rows m) ks
 
 -- ---- the p-values
 
@@ -221,13 +221,13 @@ rows_fault c = first_of (component_rows (length c.names)) c.components
 unfoldable pub mixed : DraftContent → Option CaseFault
 mixed d = Mixed when (is_some d.stages && not (length d.p == 0))
 
--- there are p-values, and not just one place for each hypothesis
-unfoldable pub p_count : DraftContent → Option CaseFault
-p_count d = PCount (length d.p) when (not (length d.p == 0) && not (length d.p == length d.names))
+-- there are p-values, and not just one place for each of `m` hypotheses
+unfoldable pub p_count : ℕ → List (Option Terms) → Option CaseFault
+p_count m ps = PCount (length ps) when (not (length ps == 0) && not (length ps == m))
 
 -- some p-value is given; the first that isn't
-unfoldable pub p_missing : DraftContent → Option CaseFault
-p_missing d = if list_any is_some d.p then option_map PMissing (position is_none d.p) else None
+unfoldable pub p_missing : List (Option Terms) → Option CaseFault
+p_missing ps = if list_any is_some ps then option_map PMissing (position is_none ps) else None
 
 -- a p-value is given, and isn't from 0 to 1
 abbrev pub is_outside : Option Terms → Bool
@@ -235,18 +235,19 @@ is_outside None = false
 is_outside (Some p) = not (is_unit (number p))
 
 -- the first such p-value
-unfoldable pub p_range : DraftContent → Option CaseFault
-p_range d = option_map PRange (position is_outside d.p)
+unfoldable pub p_range : List (Option Terms) → Option CaseFault
+p_range ps = option_map PRange (position is_outside ps)
 
-unfoldable pub p_values_fault : DraftContent → Option CaseFault
-p_values_fault d = mixed d or p_count d or p_missing d or p_range d
+unfoldable pub p_values_fault : ℕ → List (Option Terms) → Option CaseFault
+p_values_fault m ps = p_count m ps or p_missing ps or p_range ps
 
 -- ---- all rows
 
 -- the rows before the sums of the rows of edges
 unfoldable pub early_fault : DraftContent → Option CaseFault
-early_fault d = names_fault d.names or components_fault d or part_too_long d or alpha_range d or shares_fault d or weights_fault d or edges_fault d
+early_fault d =
+    names_fault d.names or components_fault d.components or part_too_long d or alpha_range d.alpha or shares_fault d.components or weights_fault (length d.names) d.components or edges_fault d.components
 
 -- the first fault of a draft
 unfoldable pub case_fault : DraftContent → Option CaseFault
-case_fault d = early_fault d or rows_fault (content_of d) or p_values_fault d
+case_fault d = early_fault d or rows_fault (length d.names) (content_of d).components or mixed d or p_values_fault (length d.names) d.p

@@ -1,5 +1,11 @@
--- What the rows that test one component find in it.
-use Rattle.std.specs.Prelude.{ℕ, Option}
+-- What the rows that test one component find in it, and what the code sums.
+use Rattle.std.specs.Prelude.{ℕ, Option, Result, Ok, Err, List, map}
+use Rattle.field_core.specs.Number.{Number}
+use Rattle.field_core.specs.Arithmetic.{number_zero}
+use Rattle.field_core.specs.declared.place.TooWide.{TooWide}
+use Rattle.fraction.specs.declared.fraction.Fraction.{Fraction}
+use Rattle.fraction.specs.View.{number_of}
+use Rattle.case_model.specs.declared.draft.DraftComponent.{DraftComponent}
 use Rattle.case_model.specs.declared.rows.Row.{Row}
 use Rattle.case_model.specs.declared.rows.Row.TheVariants.{LongWeight, LongEdge, WeightRange, WeightSum, SelfEdge, RepeatedEdge, EdgeRange}
 use Rattle.case_model.specs.declared.fault.CaseFault.{CaseFault}
@@ -14,3 +20,12 @@ row_of WeightSum = weight_sum
 row_of SelfEdge = self_edge
 row_of RepeatedEdge = repeated_edge
 row_of EdgeRange = edge_range
+
+-- the shares of components
+abbrev pub shares_in : List DraftComponent → List Fraction
+shares_in ks = map (λ k. k.share) ks
+
+-- the value of a sum that isn't refused
+abbrev pub written_value : Result Fraction TooWide → Number
+written_value (Ok s) = number_of s
+written_value (Err e) = number_zero

@@ -5,9 +5,11 @@ ghost use Rattle.field_core.specs.Kind.{ok_map};
 ghost use Rattle.fraction.specs.View.{terms_of};
 ghost use Rattle.fraction.specs.Written.{written_add};
 ghost use Rattle.case_model.specs.Sums.{zero_terms, terms_at, written_sum};
-ghost use Rattle.case_model.specs.CaseFaults.{total_fault};
+ghost use Rattle.case_model.specs.CaseFaults.{sum_fault, total_fault, share_sum};
+ghost use Rattle.case_model.specs.CaseView.{component_said};
+ghost use Rattle.case_model.specs.Rows.{shares_in, written_value};
 
-use crate::CaseFault;
+use crate::{CaseFault, DraftComponent};
 use crate::numbers::is_at_most_one;
 use field_core::{Number, Place, TooWide, WideAt};
 use fraction::Fraction;
@@ -37,11 +39,22 @@ fn total(fractions: &[Fraction]) -> Result<Fraction, TooWide>
     Ok(sum)
 }
 
-/// The fault of a written sum of fractions: that it is too wide, or else that it is above 1.
-pub fn total_fault(fractions: &[Fraction], component: usize, place: Place, above: CaseFault) -> Option<CaseFault>
-    ensures { result ≡ total_fault (map terms_of fractions.now) component place above }
+/// The sum of the shares, written one after the other.
+fn share_total(components: &[DraftComponent]) -> Result<Fraction, TooWide>
+    ensures { ok_map terms_of result ≡ written_sum (length components.now) (terms_at (map terms_of (shares_in components.now))) }
 {
-    match total(fractions) {
+    let mut sum = zero();
+    for component in components {
+        sum = plus(&sum, &component.share)?;
+    }
+    Ok(sum)
+}
+
+/// The fault of a written sum: that it is too wide, or else that it is above 1.
+fn sum_fault(sum: Result<Fraction, TooWide>, component: usize, place: Place, above: CaseFault) -> Option<CaseFault>
+    ensures { result ≡ sum_fault sum (written_value sum) component place above }
+{
+    match sum {
         Ok(sum) => (!is_at_most_one(&sum)).then_some(above),
         Err(TooWide { op }) => Some(CaseFault::Wide(WideAt {
             component,
@@ -49,4 +62,18 @@ pub fn total_fault(fractions: &[Fraction], component: usize, place: Place, above
             op,
         })),
     }
+}
+
+/// The fault of a sum of fractions.
+pub fn total_fault(fractions: &[Fraction], component: usize, place: Place, above: CaseFault) -> Option<CaseFault>
+    ensures { result ≡ total_fault (map terms_of fractions.now) component place above }
+{
+    sum_fault(total(fractions), component, place, above)
+}
+
+/// The fault of the sum of the shares.
+pub fn share_sum(components: &[DraftComponent]) -> Option<CaseFault>
+    ensures { result ≡ share_sum (map component_said components.now) }
+{
+    sum_fault(share_total(components), 0, Place::ShareSum, CaseFault::ShareSum)
 }
