@@ -3,6 +3,7 @@
 
 mod case;
 mod draft;
+mod early;
 mod entry;
 mod fault;
 mod local_test;
