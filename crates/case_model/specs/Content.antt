@@ -1,6 +1,7 @@
 -- What a case holds, the content that a draft stands for, and the entangled graph, the p-values and the level of a content.
 use Rattle.std.specs.Prelude.{ℕ, ◌*◌, ◌/◌, ◌%◌, ◌&&◌, Bool, List, [], ◌∷◌, Option, Some, None, map, length, get_or, if◌then◌else◌, is_some}
-use Rattle.std.specs.List.{list_any, list_all, range_with_len}
+use Rattle.std.specs.Option.{option_map_or}
+use Rattle.std.specs.List.{list_any, list_all, find, range_with_len}
 use Rattle.field_core.specs.Terms.{Terms}
 use Rattle.field_core.specs.Number.{Number}
 use Rattle.case_model.specs.Sums.{number, number_at, zero_terms}
@@ -38,8 +39,7 @@ pub record Content : Type 0 where
 
 -- the entry of the first edge in a list that goes from `i` to `j`
 unfoldable pub edge_between : List DraftEdgeContent → ℕ → ℕ → List Terms
-edge_between [] i j = no_edge
-edge_between (e ∷ es) i j = if has_ends i j e then e.entry else edge_between es i j
+edge_between es i j = option_map_or (λ e. e.entry) (find (has_ends i j) es) no_edge
 
 -- the table of the edges between `m` hypotheses, row by row
 unfoldable pub table_of : ℕ → List DraftEdgeContent → List (List Terms)

@@ -1,6 +1,7 @@
 ghost use Rattle.std.specs.Prelude.{◌≡◌};
 
 use crate::numbers::{are_short, are_zero, compare, first_sign};
+use crate::sums::zero;
 use field_core::Number;
 use fraction::Fraction;
 use std::cmp::Ordering;
@@ -17,7 +18,7 @@ impl Entry {
     ghost use Rattle.fraction.specs.View.{terms_of, number_of};
     ghost use Rattle.field_core.specs.Arithmetic.{number_zero, number_one, number_compare};
     ghost use Rattle.case_model.specs.Sums.{terms_at};
-    ghost use Rattle.case_model.specs.Entries.{entry_value, is_zero_entry, is_plain_entry};
+    ghost use Rattle.case_model.specs.Entries.{no_edge, entry_value, is_zero_entry, is_plain_entry};
     ghost use Rattle.case_model.specs.Draft.{at_most, is_unit, is_short};
     ghost use Rattle.case_model.specs.CaseView.{coefficients_of};
 
@@ -26,6 +27,13 @@ impl Entry {
         ensures { coefficients_of result ≡ map terms_of coefficients }
     {
         Entry { coefficients }
+    }
+
+    /// The entry of an edge that isn't there.
+    pub(crate) fn no_edge() -> Entry
+        ensures { coefficients_of result ≡ no_edge }
+    {
+        Entry::new([zero(); 5])
     }
 
     /// The coefficient of a power from 0 to 4.

@@ -11,6 +11,7 @@ mod names;
 mod numbers;
 mod rows;
 mod sums;
+mod tables;
 
 pub use case::{Case, Component, Inputs, Stages};
 pub use draft::{Arrival, Draft, DraftComponent, DraftEdge, DraftStages};
