@@ -125,7 +125,7 @@ unfolding horner first_sign
 HasSign-horner [] h = HasSign-zero
 HasSign-horner (t ∷ ts) h = HasSign-add t.num t.den (horner ts) (first_sign ts) h.0 (HasSign-horner ts h.1)
 
-sum_last : (n : ℕ) (f : ℕ → Number) → sum_below number_field (suc n) f ≡ sum_below number_field n f +ε f n
+pub sum_last : (n : ℕ) (f : ℕ → Number) → sum_below number_field (suc n) f ≡ sum_below number_field n f +ε f n
 unfolding sum_below
 sum_last n f = field_sum (sum_below number_field n f) (f n)
 
@@ -133,7 +133,7 @@ sum_nothing : (f : ℕ → Number) → sum_below number_field 0 f ≡ number_zer
 unfolding sum_below
 sum_nothing f = field_zero
 
-sum_of_five : (f : ℕ → Number) → sum_below number_field 5 f ≡ number_zero +ε f 0 +ε f 1 +ε f 2 +ε f 3 +ε f 4
+pub sum_of_five : (f : ℕ → Number) → sum_below number_field 5 f ≡ number_zero +ε f 0 +ε f 1 +ε f 2 +ε f 3 +ε f 4
 sum_of_five f = sum_last 4 f ∙ ap (λ x. x +ε f 4) (sum_last 3 f ∙ ap (λ x. x +ε f 3) (sum_last 2 f ∙ ap (λ x. x +ε f 2) (sum_last 1 f ∙ ap (λ x. x +ε f 1) (sum_last 0 f ∙ ap (λ x. x +ε f 0) (sum_nothing f)))))
 
 one_inside_the_other : (a b c d e x : Number) → number_zero +ε a *ε number_one +ε b *ε (x *ε number_one) +ε c *ε (x *ε (x *ε number_one)) +ε d *ε (x *ε (x *ε (x *ε number_one))) +ε e *ε (x *ε (x *ε (x *ε (x *ε number_one))))

@@ -4,6 +4,7 @@ pub mod EntryOrder
 pub mod ExactSums
 pub mod FirstFaults
 pub mod Places
+pub mod RowTotals
 pub mod SumSteps
 pub mod Tests
 pub mod Thresholds

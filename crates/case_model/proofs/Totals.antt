@@ -10,6 +10,7 @@ use Rattle.field_core.specs.Kind.{ok_map}
 use Rattle.field_core.specs.declared.place.Place.{Place}
 use Rattle.field_core.specs.declared.place.TooWide.{TooWide}
 use Rattle.fraction.specs.declared.fraction.Fraction.{Fraction}
+use Rattle.fraction.specs.Plain.{zero_reduced}
 use Rattle.fraction.specs.View.{terms_of, number_of}
 use Rattle.case_model.specs.declared.fault.CaseFault.{CaseFault}
 use Rattle.case_model.specs.Sums.{number, terms_at, number_at, written_sum}
@@ -18,12 +19,12 @@ use Rattle.case_model.specs.CaseFaults.{◌when◌, sum_fault, total_fault}
 use Rattle.case_model.specs.Rows.{written_value}
 use Rattle.case_model.proofs.ExactSums.{exact_sum}
 
--- each item of a list of fractions is in lowest terms
-pub reduced_at : (ws : List Fraction) (i : ℕ) → i < length ws → IsReduced (terms_at (map terms_of ws) i)
+-- the terms at each place of a list of fractions are in lowest terms
+pub reduced_at : (ws : List Fraction) (i : ℕ) → IsReduced (terms_at (map terms_of ws) i)
 unfolding terms_at
-reduced_at [] i h = absurd (omega arith)
-reduced_at (w ∷ ws) zero h = w.ratio.valid
-reduced_at (w ∷ ws) (suc i) h = reduced_at ws i (omega arith)
+reduced_at [] i = zero_reduced
+reduced_at (w ∷ ws) zero = w.ratio.valid
+reduced_at (w ∷ ws) (suc i) = reduced_at ws i
 
 as_many : (ws : List Fraction) → length (map terms_of ws) ≡ length ws
 as_many ws = simp length-map
@@ -37,7 +38,7 @@ unfolding total_fault
 total_is ws (Ok s) c place above e =
     let f = terms_at (map terms_of ws) in
     let n = length (map terms_of ws) in
-    let sum = exact_sum (length ws) f (terms_of s) (λ i h. reduced_at ws i h) (sym e) in
+    let sum = exact_sum (length ws) f (terms_of s) (λ i h. reduced_at ws i) (sym e) in
     let value : number_of s ≡ sum_below number_field n (number_at (map terms_of ws)) = sum.value ∙ ap (λ n. sum_below number_field n (number_at (map terms_of ws))) (sym (as_many ws)) in
     ap (λ x. above when not (at_most x number_one)) value ∙ ap (λ r. sum_fault r (sum_below number_field n (number_at (map terms_of ws))) c place above) (e ∙ in_count ws)
 total_is ws (Err e) c place above h = ap (λ r. sum_fault r (sum_below number_field (length (map terms_of ws)) (number_at (map terms_of ws))) c place above) (h ∙ in_count ws)
