@@ -9,6 +9,7 @@ mod fault;
 mod local_test;
 mod names;
 mod numbers;
+mod p_values;
 mod row_sums;
 mod rows;
 mod sums;
