@@ -18,7 +18,7 @@ use Rattle.case_model.specs.declared.fault.CaseFault.TheVariants.{RowSum, Wide}
 use Rattle.case_model.specs.Sums.{number, terms_at, number_at}
 use Rattle.case_model.specs.Entries.{power_of_epsilon, entry_value, entry_at, no_edge}
 use Rattle.case_model.specs.Draft.{at_most}
-use Rattle.case_model.specs.CaseView.{coefficients_of}
+use Rattle.case_model.specs.EntryView.{coefficients_of}
 use Rattle.case_model.specs.CaseFaults.{◌when◌, sum_fault, power_sum, written_row, row_sum}
 use Rattle.case_model.proofs.ExactSums.{bind_ok, exact_sum}
 use Rattle.case_model.proofs.Places.{mapped_item}

@@ -248,6 +248,10 @@ unfoldable pub early_fault : DraftContent → Option CaseFault
 early_fault d =
     names_fault d.names or components_fault d.components or part_too_long d or alpha_range d.alpha or shares_fault d.components or weights_fault (length d.names) d.components or edges_fault d.components
 
+-- the later rows, with the components whose edges are in tables
+unfoldable pub late_fault : DraftContent → List ComponentContent → Option CaseFault
+late_fault d ks = rows_fault (length d.names) ks or mixed d or p_values_fault (length d.names) d.p
+
 -- the first fault of a draft
 unfoldable pub case_fault : DraftContent → Option CaseFault
-case_fault d = early_fault d or rows_fault (length d.names) (content_of d).components or mixed d or p_values_fault (length d.names) d.p
+case_fault d = early_fault d or late_fault d (content_of d).components

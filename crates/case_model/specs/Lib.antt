@@ -1,10 +1,13 @@
 pub mod CaseFaults
 pub mod CaseView
 pub mod ClosedTest
+pub mod ComponentView
 pub mod Content
 pub mod Draft
+pub mod DraftView
 pub mod EntangledGraph
 pub mod Entries
+pub mod EntryView
 pub mod IntersectionWeight
 pub mod Rows
 pub mod Sums

@@ -1,34 +1,11 @@
-ghost use Rattle.std.specs.Prelude.{◌≡◌, map};
+ghost use Rattle.std.specs.Prelude.{map};
 ghost use Rattle.fraction.specs.View.{terms_of};
+ghost use Rattle.case_model.specs.ComponentView.{component_content, inputs_content};
+ghost use Rattle.case_model.specs.Validity.{IsValidContent};
 
-use crate::{Arrival, Entry};
+use crate::{Component, Entry, Inputs};
 use field_core::{List, Text};
 use fraction::Fraction;
-
-/// A component of a case: its share of the level, the weights of the hypotheses, and the table of its edges, row by row.
-#[derive(Drop)]
-pub struct Component {
-    pub(crate) share: Fraction,
-    pub(crate) weights: List<Fraction>,
-    pub(crate) edges: List<Entry>,
-}
-
-/// The stages of a case: how many there are, the fraction of its level that each hypothesis spends at each, row by row,
-/// and the p-values that arrived.
-#[derive(Drop)]
-pub struct Stages {
-    pub(crate) count: usize,
-    pub(crate) spend: List<Fraction>,
-    pub(crate) arrivals: List<Arrival>,
-}
-
-/// The p-values of a case: none, one for each hypothesis, or those of stages.
-#[derive(Drop)]
-pub enum Inputs {
-    Bare,
-    Single(List<Fraction>),
-    Staged(Stages),
-}
 
 /// A case without faults.
 #[derive(Drop)]
@@ -37,6 +14,7 @@ pub struct Case {
     alpha: Fraction,
     components: List<Component>,
     inputs: Inputs,
+    ghost valid: { IsValidContent (record { names = names; alpha = terms_of alpha; components = map component_content components; inputs = inputs_content inputs }) },
 }
 
 impl Case {
@@ -45,7 +23,23 @@ impl Case {
     ghost use Rattle.case_model.specs.Sums.{terms_at};
     ghost use Rattle.case_model.specs.Entries.{entry_at};
     ghost use Rattle.case_model.specs.Content.{component_at};
-    ghost use Rattle.case_model.specs.CaseView.{content, inputs_content, coefficients_of};
+    ghost use Rattle.case_model.specs.Validity.{IsValidContent};
+    ghost use Rattle.case_model.specs.CaseView.{content};
+    ghost use Rattle.case_model.specs.ComponentView.{inputs_content};
+    ghost use Rattle.case_model.specs.EntryView.{coefficients_of};
+
+    /// The case of these parts.
+    pub(crate) fn of(names: List<Text>, alpha: Fraction, components: List<Component>, inputs: Inputs) -> Case
+        requires { IsValidContent (record { names = names; alpha = terms_of alpha; components = map component_content components; inputs = inputs_content inputs }) }
+        ensures { content result ≡ record { names = names; alpha = terms_of alpha; components = map component_content components; inputs = inputs_content inputs } }
+    {
+        Case {
+            names,
+            alpha,
+            components,
+            inputs,
+        }
+    }
 
     /// How many hypotheses there are, from 1 to 64.
     pub fn size(&self) -> usize

@@ -2,7 +2,8 @@ ghost use Rattle.std.specs.Prelude.{◌≡◌, ◌⊎◌, true, None, Some, IfOk
 ghost use Rattle.case_model.specs.Draft.{have_known_ends};
 ghost use Rattle.case_model.specs.Content.{content_of};
 ghost use Rattle.case_model.specs.CaseFaults.{case_fault};
-ghost use Rattle.case_model.specs.CaseView.{content, said};
+ghost use Rattle.case_model.specs.CaseView.{content};
+ghost use Rattle.case_model.specs.DraftView.{said};
 ghost use Rattle.case_model.specs.declared.fault.CaseFault.TheVariants.{NoMemory as OutOfMemory};
 
 use crate::{Case, Entry, Refused};

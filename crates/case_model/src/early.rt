@@ -3,7 +3,7 @@ ghost use Rattle.std.specs.Prelude.{◌≡◌, ◌==◌, map, not, length, posit
 ghost use Rattle.std.specs.Option.{option_map};
 ghost use Rattle.fraction.specs.View.{terms_of};
 ghost use Rattle.case_model.specs.Draft.{is_short};
-ghost use Rattle.case_model.specs.CaseView.{component_said, said};
+ghost use Rattle.case_model.specs.DraftView.{component_said, said};
 ghost use Rattle.case_model.specs.CaseFaults.{components_fault, long_share, is_long_p_value, long_p_value, part_too_long, alpha_range, share_range, shares_fault, is_below_zero, weight_count, weights_fault, edges_fault, early_fault};
 
 use crate::names::names_fault;

@@ -20,7 +20,7 @@ impl Entry {
     ghost use Rattle.case_model.specs.Sums.{terms_at};
     ghost use Rattle.case_model.specs.Entries.{no_edge, entry_value, is_zero_entry, is_plain_entry};
     ghost use Rattle.case_model.specs.Draft.{at_most, is_unit, is_short};
-    ghost use Rattle.case_model.specs.CaseView.{coefficients_of};
+    ghost use Rattle.case_model.specs.EntryView.{coefficients_of};
 
     /// The entry with these coefficients.
     pub fn new(coefficients: [Fraction; 5]) -> Entry

@@ -2,10 +2,12 @@
 #![tactic(auto)]
 
 mod case;
+mod component;
 mod draft;
 mod early;
 mod entry;
 mod fault;
+mod inputs;
 mod local_test;
 mod names;
 mod numbers;
@@ -15,8 +17,10 @@ mod rows;
 mod sums;
 mod tables;
 
-pub use case::{Case, Component, Inputs, Stages};
+pub use case::Case;
+pub use component::Component;
 pub use draft::{Arrival, Draft, DraftComponent, DraftEdge, DraftStages};
 pub use entry::Entry;
 pub use fault::{CaseFault, PartPlace, Refused};
+pub use inputs::{Inputs, Stages};
 pub use local_test::passes;

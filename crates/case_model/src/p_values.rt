@@ -4,7 +4,7 @@ ghost use Rattle.std.specs.Option.{option_map};
 ghost use Rattle.std.specs.List.{list_any};
 ghost use Rattle.fraction.specs.View.{terms_of};
 ghost use Rattle.case_model.specs.Content.{given, inputs_given};
-ghost use Rattle.case_model.specs.CaseView.{inputs_content};
+ghost use Rattle.case_model.specs.ComponentView.{inputs_content};
 ghost use Rattle.case_model.specs.CaseFaults.{is_outside, p_values_fault};
 
 use crate::numbers::is_unit;

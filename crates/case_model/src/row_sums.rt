@@ -3,7 +3,8 @@ ghost use Rattle.std.specs.Prelude.{◌≡◌, ◌≤◌, ◌<◌, ◌*◌, map,
 ghost use Rattle.field_core.specs.Kind.{ok_map};
 ghost use Rattle.fraction.specs.View.{terms_of};
 ghost use Rattle.case_model.specs.Entries.{entry_at};
-ghost use Rattle.case_model.specs.CaseView.{coefficients_of, component_content};
+ghost use Rattle.case_model.specs.EntryView.{coefficients_of};
+ghost use Rattle.case_model.specs.ComponentView.{component_content};
 ghost use Rattle.case_model.specs.CaseFaults.{first_below, power_sum, written_row, row_sum, component_rows, rows_fault};
 ghost use Rattle.case_model.specs.Rows.{are_tables};
 

@@ -4,7 +4,7 @@ ghost use Rattle.std.specs.List.{list_all, list_any, find};
 ghost use Rattle.std.specs.Option.{option_map};
 ghost use Rattle.case_model.specs.Entries.{entry_value};
 ghost use Rattle.case_model.specs.Draft.{is_short, is_unit, has_ends};
-ghost use Rattle.case_model.specs.CaseView.{component_said, edge_said};
+ghost use Rattle.case_model.specs.DraftView.{component_said, edge_said};
 ghost use Rattle.case_model.specs.CaseFaults.{first_of, long_weight, long_edge, weight_range, weight_sum, is_self_edge, self_edge, edge_again, repeated_edge, edge_range};
 ghost use Rattle.case_model.specs.Rows.{row_of};
 

@@ -6,7 +6,7 @@ ghost use Rattle.fraction.specs.View.{terms_of};
 ghost use Rattle.fraction.specs.Written.{written_add};
 ghost use Rattle.case_model.specs.Sums.{zero_terms, terms_at, written_sum};
 ghost use Rattle.case_model.specs.CaseFaults.{sum_fault, total_fault, share_sum};
-ghost use Rattle.case_model.specs.CaseView.{component_said};
+ghost use Rattle.case_model.specs.DraftView.{component_said};
 ghost use Rattle.case_model.specs.Rows.{shares_in, written_value};
 
 use crate::{CaseFault, DraftComponent};

@@ -5,7 +5,9 @@ ghost use Rattle.std.specs.List.{find};
 ghost use Rattle.fraction.specs.View.{terms_of};
 ghost use Rattle.case_model.specs.Draft.{has_ends};
 ghost use Rattle.case_model.specs.Content.{edge_between, table_of, tabled};
-ghost use Rattle.case_model.specs.CaseView.{coefficients_of, edge_said, component_said, component_content};
+ghost use Rattle.case_model.specs.EntryView.{coefficients_of};
+ghost use Rattle.case_model.specs.DraftView.{edge_said, component_said};
+ghost use Rattle.case_model.specs.ComponentView.{component_content};
 
 use crate::{Component, DraftComponent, DraftEdge, Entry};
 use field_core::{List, NoMemory};

@@ -1,7 +1,7 @@
 use Rattle.std.proofs.Common.{◌≡◌, sym, ◌∙◌, not, length, rules, tests, ◌==◌}
 use Rattle.std.proofs.lemmas.Iterator.{YieldsList-from_slice}
 use Rattle.std.proofs.lemmas.Iterator.Search.{position_from_yields_List}
-use Rattle.case_model.specs.CaseView.{component_said}
+use Rattle.case_model.specs.DraftView.{component_said}
 use Rattle.case_model.proofs.Places.{position-map}
 use Rattle.case_model.proofs.early.first_count_of_weights.Goals as goal
 

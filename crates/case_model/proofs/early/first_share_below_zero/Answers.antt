@@ -2,7 +2,7 @@ use Rattle.std.proofs.Common.{◌≡◌, sym, ◌∙◌, not, length, rules, tes
 use Rattle.std.proofs.lemmas.Iterator.{YieldsList-from_slice}
 use Rattle.std.proofs.lemmas.Iterator.Search.{position_from_yields_List}
 use Rattle.case_model.specs.CaseFaults.{is_below_zero}
-use Rattle.case_model.specs.CaseView.{component_said}
+use Rattle.case_model.specs.DraftView.{component_said}
 use Rattle.case_model.proofs.Places.{position-map}
 use Rattle.case_model.proofs.early.first_share_below_zero.Goals as goal
 

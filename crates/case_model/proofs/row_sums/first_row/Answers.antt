@@ -1,5 +1,5 @@
 use Rattle.std.proofs.Common.{sym, ◌∙◌, map, arith}
-use Rattle.case_model.specs.CaseView.{coefficients_of}
+use Rattle.case_model.specs.EntryView.{coefficients_of}
 use Rattle.case_model.specs.CaseFaults.{row_sum}
 use Rattle.case_model.proofs.FirstFaults.{below_none, below_answer, below_silence}
 use Rattle.case_model.proofs.row_sums.first_row.Goals as goal

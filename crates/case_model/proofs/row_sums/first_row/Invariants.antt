@@ -1,5 +1,5 @@
 use Rattle.std.proofs.Common.{◌≡◌, map, None}
-use Rattle.case_model.specs.CaseView.{coefficients_of}
+use Rattle.case_model.specs.EntryView.{coefficients_of}
 use Rattle.case_model.specs.CaseFaults.{first_below, row_sum}
 use Rattle.case_model.proofs.row_sums.first_row.Given as goal
 

@@ -7,7 +7,7 @@ use Rattle.fraction.specs.View.{terms_of}
 use Rattle.case_model.specs.declared.entry.Entry.{Entry}
 use Rattle.case_model.specs.Sums.{terms_at}
 use Rattle.case_model.specs.Entries.{entry_at}
-use Rattle.case_model.specs.CaseView.{coefficients_of}
+use Rattle.case_model.specs.EntryView.{coefficients_of}
 use Rattle.case_model.proofs.RowTotals.{entry_of}
 use Rattle.case_model.proofs.SumSteps.{sum_none, sum_more, sum_stops}
 use Rattle.case_model.proofs.row_sums.power_sum.Goals as goal

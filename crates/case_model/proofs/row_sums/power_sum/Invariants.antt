@@ -2,7 +2,7 @@ use Rattle.std.proofs.Common.{◌≡◌, map, Ok}
 use Rattle.fraction.specs.View.{terms_of}
 use Rattle.case_model.specs.Sums.{terms_at, written_sum}
 use Rattle.case_model.specs.Entries.{entry_at}
-use Rattle.case_model.specs.CaseView.{coefficients_of}
+use Rattle.case_model.specs.EntryView.{coefficients_of}
 use Rattle.case_model.proofs.row_sums.power_sum.Given as goal
 
 abbrev pub invariant-loop-j : goal.invariant-loop-j

@@ -1,7 +1,8 @@
 use Rattle.std.proofs.Common.{◌≡◌, ◌==◌, ◌*◌, true, sym, ap, ◌∙◌, map, length, get_or, arith}
 use Rattle.std.proofs.lemmas.List.{length-map}
 use Rattle.std.proofs.lemmas.Bool.Decides.{nat_tests}
-use Rattle.case_model.specs.CaseView.{component_content, coefficients_of}
+use Rattle.case_model.specs.ComponentView.{component_content}
+use Rattle.case_model.specs.EntryView.{coefficients_of}
 use Rattle.case_model.specs.CaseFaults.{first_below, row_sum, component_rows, rows_fault}
 use Rattle.case_model.specs.Rows.{are_tables}
 use Rattle.case_model.proofs.Tests.{all_at}

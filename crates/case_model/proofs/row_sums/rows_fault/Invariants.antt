@@ -1,5 +1,5 @@
 use Rattle.std.proofs.Common.{◌≡◌, map, take, None}
-use Rattle.case_model.specs.CaseView.{component_content}
+use Rattle.case_model.specs.ComponentView.{component_content}
 use Rattle.case_model.specs.CaseFaults.{first_of, component_rows}
 use Rattle.case_model.proofs.row_sums.rows_fault.Given as goal
 

@@ -3,7 +3,7 @@ use Rattle.std.proofs.lemmas.Iterator.{YieldsList-from_slice}
 use Rattle.std.proofs.lemmas.Iterator.Search.{find_from_yields_List}
 use Rattle.case_model.specs.Draft.{is_unit}
 use Rattle.case_model.specs.Entries.{entry_value}
-use Rattle.case_model.specs.CaseView.{edge_said}
+use Rattle.case_model.specs.DraftView.{edge_said}
 use Rattle.case_model.proofs.Places.{find_through}
 use Rattle.case_model.proofs.rows.first_edge_outside.Goals as goal
 

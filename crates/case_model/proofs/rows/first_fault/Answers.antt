@@ -1,5 +1,5 @@
 use Rattle.std.proofs.Common.{◌≡◌, sym, ap, ◌∙◌, map, get_or, arith}
-use Rattle.case_model.specs.CaseView.{component_said}
+use Rattle.case_model.specs.DraftView.{component_said}
 use Rattle.case_model.specs.Rows.{row_of}
 use Rattle.case_model.proofs.Places.{mapped_item, within_map}
 use Rattle.case_model.proofs.FirstFaults.{first_none, first_answer, first_silence}

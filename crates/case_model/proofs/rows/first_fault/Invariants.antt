@@ -1,6 +1,6 @@
 use Rattle.std.proofs.Common.{◌≡◌, map, take, None}
 use Rattle.case_model.specs.Rows.{row_of}
-use Rattle.case_model.specs.CaseView.{component_said}
+use Rattle.case_model.specs.DraftView.{component_said}
 use Rattle.case_model.specs.CaseFaults.{first_of}
 use Rattle.case_model.proofs.rows.first_fault.Given as goal
 

@@ -3,7 +3,7 @@ use Rattle.std.specs.List.{list_all}
 use Rattle.std.proofs.lemmas.Iterator.{YieldsList-from_slice}
 use Rattle.std.proofs.lemmas.Iterator.Search.{find_from_yields_List}
 use Rattle.case_model.specs.Draft.{is_short}
-use Rattle.case_model.specs.CaseView.{edge_said}
+use Rattle.case_model.specs.DraftView.{edge_said}
 use Rattle.case_model.proofs.Places.{find_through}
 use Rattle.case_model.proofs.rows.first_long_edge.Goals as goal
 

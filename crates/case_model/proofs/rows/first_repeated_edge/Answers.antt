@@ -3,7 +3,7 @@ use Rattle.std.specs.List.{list_any}
 use Rattle.std.proofs.lemmas.List.{take-map}
 use Rattle.case_model.specs.declared.fault.CaseFault.TheVariants.{RepeatedEdge}
 use Rattle.case_model.specs.Draft.{has_ends}
-use Rattle.case_model.specs.CaseView.{edge_said}
+use Rattle.case_model.specs.DraftView.{edge_said}
 use Rattle.case_model.specs.CaseFaults.{◌when◌, edge_again}
 use Rattle.case_model.proofs.Places.{mapped_item, within_map}
 use Rattle.case_model.proofs.FirstFaults.{first_none, first_on, first_found}

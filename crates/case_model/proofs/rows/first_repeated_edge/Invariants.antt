@@ -1,5 +1,5 @@
 use Rattle.std.proofs.Common.{◌≡◌, map, take, None}
-use Rattle.case_model.specs.CaseView.{edge_said}
+use Rattle.case_model.specs.DraftView.{edge_said}
 use Rattle.case_model.specs.CaseFaults.{first_of, edge_again}
 use Rattle.case_model.proofs.rows.first_repeated_edge.Given as goal
 

@@ -1,7 +1,7 @@
 use Rattle.std.proofs.Common.{rules, tests}
 use Rattle.std.proofs.lemmas.Iterator.{YieldsList-from_slice}
 use Rattle.std.proofs.lemmas.Iterator.Search.{find_from_yields_List}
-use Rattle.case_model.specs.CaseView.{edge_said}
+use Rattle.case_model.specs.DraftView.{edge_said}
 use Rattle.case_model.specs.CaseFaults.{is_self_edge}
 use Rattle.case_model.proofs.Places.{find_through}
 use Rattle.case_model.proofs.rows.first_self_edge.Goals as goal

@@ -2,7 +2,7 @@ use Rattle.std.proofs.Common.{sym, ◌∙◌, rules, tests}
 use Rattle.std.proofs.lemmas.Iterator.{YieldsList-from_slice}
 use Rattle.std.proofs.lemmas.Iterator.Search.{any_from_yields_List}
 use Rattle.case_model.specs.Draft.{has_ends}
-use Rattle.case_model.specs.CaseView.{edge_said}
+use Rattle.case_model.specs.DraftView.{edge_said}
 use Rattle.case_model.proofs.Places.{list_any-map}
 use Rattle.case_model.proofs.rows.has_edge.Goals as goal
 

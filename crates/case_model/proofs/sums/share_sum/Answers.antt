@@ -5,7 +5,7 @@ use Rattle.fraction.specs.View.{terms_of}
 use Rattle.case_model.specs.declared.fault.CaseFault.TheVariants.{ShareSum}
 use Rattle.case_model.specs.declared.draft.DraftComponent.{DraftComponent}
 use Rattle.case_model.specs.Sums.{terms_at, written_sum}
-use Rattle.case_model.specs.CaseView.{component_said}
+use Rattle.case_model.specs.DraftView.{component_said}
 use Rattle.case_model.specs.CaseFaults.{total_fault, share_sum}
 use Rattle.case_model.specs.Rows.{shares_in}
 use Rattle.case_model.proofs.Places.{as_many}

@@ -4,7 +4,8 @@ use Rattle.std.proofs.lemmas.List.FromFn.{map-range_with_len_more}
 use Rattle.std.specs.List.{range_with_len}
 use Rattle.field_core.specs.Terms.{Terms}
 use Rattle.case_model.specs.Content.{edge_between, table_of}
-use Rattle.case_model.specs.CaseView.{coefficients_of, edge_said}
+use Rattle.case_model.specs.EntryView.{coefficients_of}
+use Rattle.case_model.specs.DraftView.{edge_said}
 use Rattle.case_model.proofs.tables.table.Goals as goal
 
 pub loop-k-preserved : goal.loop-k-preserved

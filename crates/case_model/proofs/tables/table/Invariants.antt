@@ -1,7 +1,8 @@
 use Rattle.std.proofs.Common.{◌≡◌, ◌/◌, ◌%◌, map}
 use Rattle.std.specs.List.{range_with_len}
 use Rattle.case_model.specs.Content.{edge_between}
-use Rattle.case_model.specs.CaseView.{coefficients_of, edge_said}
+use Rattle.case_model.specs.EntryView.{coefficients_of}
+use Rattle.case_model.specs.DraftView.{edge_said}
 use Rattle.case_model.proofs.tables.table.Given as goal
 
 abbrev pub invariant-loop-k : goal.invariant-loop-k

@@ -2,7 +2,7 @@ use Rattle.std.proofs.Common.{sym, ap, ◌∙◌}
 use Rattle.std.specs.Ordering.{is_ge}
 use Rattle.field_core.specs.Arithmetic.{number_zero, number_compare}
 use Rattle.case_model.specs.Entries.{entry_value}
-use Rattle.case_model.specs.CaseView.{coefficients_of}
+use Rattle.case_model.specs.EntryView.{coefficients_of}
 use Rattle.case_model.proofs.Comparisons.{at_least_is}
 use Rattle.case_model.proofs.Constants.{zero_is}
 use Rattle.case_model.proofs.entry.Entry.is_nonnegative.Goals as goal
