@@ -53,5 +53,5 @@ exact_sum (suc n) f s h e =
     let last = h n (omega arith) in
     record {
       reduced = add_reduced step.0 (f n) s before.reduced last step.1.1;
-      value = add_exact step.0 (f n) s before.reduced last step.1.1 ∙ ap (λ x. x +ε number (f n)) before.value ∙ sym (field_sum _ _)
+      value = add_exact step.0 (f n) s before.reduced last step.1.1 ∙ ap (λ x. x +ε number (f n)) before.value ∙ sym (field_sum _ _);
     }

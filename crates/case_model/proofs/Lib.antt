@@ -2,6 +2,7 @@ pub mod Comparisons
 pub mod Constants
 pub mod EntryOrder
 pub mod ExactSums
+pub mod Faultless
 pub mod FirstFaults
 pub mod Places
 pub mod RowTotals

@@ -29,7 +29,12 @@ impl Case {
     ghost use Rattle.case_model.specs.EntryView.{coefficients_of};
 
     /// The case of these parts.
-    pub(crate) fn of(names: List<Text>, alpha: Fraction, components: List<Component>, inputs: Inputs) -> Case
+    pub(crate) fn of(
+        names: List<Text>,
+        alpha: Fraction,
+        components: List<Component>,
+        inputs: Inputs,
+    ) -> Case
         requires { IsValidContent (record { names = names; alpha = terms_of alpha; components = map component_content components; inputs = inputs_content inputs }) }
         ensures { content result ≡ record { names = names; alpha = terms_of alpha; components = map component_content components; inputs = inputs_content inputs } }
     {

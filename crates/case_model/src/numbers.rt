@@ -148,5 +148,7 @@ pub fn first_long(fractions: &[Fraction]) -> Option<usize>
 pub fn first_below_zero(fractions: &[Fraction]) -> Option<usize>
     ensures { result ≡ position is_below_zero (map terms_of fractions.now) }
 {
-    fractions.iter().position(|fraction| is_below_zero(fraction))
+    fractions
+        .iter()
+        .position(|fraction| is_below_zero(fraction))
 }

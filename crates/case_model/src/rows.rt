@@ -46,9 +46,7 @@ fn long_edge(c: usize, component: &DraftComponent) -> Option<CaseFault>
     ensures { result ≡ long_edge c (component_said component.now) }
 {
     let edge = first_long_edge(component.edges.as_slice())?;
-    Some(CaseFault::PartTooLong(PartPlace::Edge(
-        c, edge.from, edge.to,
-    )))
+    Some(CaseFault::PartTooLong(PartPlace::Edge(c, edge.from, edge.to)))
 }
 
 /// The first weight below 0.

@@ -9,8 +9,8 @@ ghost use Rattle.case_model.specs.CaseFaults.{sum_fault, total_fault, share_sum}
 ghost use Rattle.case_model.specs.DraftView.{component_said};
 ghost use Rattle.case_model.specs.Rows.{shares_in, written_value};
 
-use crate::{CaseFault, DraftComponent};
 use crate::numbers::is_at_most_one;
+use crate::{CaseFault, DraftComponent};
 use field_core::{Number, Place, TooWide, WideAt};
 use fraction::Fraction;
 
@@ -51,7 +51,12 @@ fn share_total(components: &[DraftComponent]) -> Result<Fraction, TooWide>
 }
 
 /// The fault of a written sum: that it is too wide, or else that it is above 1.
-fn sum_fault(sum: Result<Fraction, TooWide>, component: usize, place: Place, above: CaseFault) -> Option<CaseFault>
+fn sum_fault(
+    sum: Result<Fraction, TooWide>,
+    component: usize,
+    place: Place,
+    above: CaseFault,
+) -> Option<CaseFault>
     ensures { result ≡ sum_fault sum (written_value sum) component place above }
 {
     match sum {
@@ -65,7 +70,12 @@ fn sum_fault(sum: Result<Fraction, TooWide>, component: usize, place: Place, abo
 }
 
 /// The fault of a sum of fractions.
-pub fn total_fault(fractions: &[Fraction], component: usize, place: Place, above: CaseFault) -> Option<CaseFault>
+pub fn total_fault(
+    fractions: &[Fraction],
+    component: usize,
+    place: Place,
+    above: CaseFault,
+) -> Option<CaseFault>
     ensures { result ≡ total_fault (map terms_of fractions.now) component place above }
 {
     sum_fault(total(fractions), component, place, above)
@@ -75,5 +85,10 @@ pub fn total_fault(fractions: &[Fraction], component: usize, place: Place, above
 pub fn share_sum(components: &[DraftComponent]) -> Option<CaseFault>
     ensures { result ≡ share_sum (map component_said components.now) }
 {
-    sum_fault(share_total(components), 0, Place::ShareSum, CaseFault::ShareSum)
+    sum_fault(
+        share_total(components),
+        0,
+        Place::ShareSum,
+        CaseFault::ShareSum,
+    )
 }

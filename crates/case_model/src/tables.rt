@@ -18,9 +18,7 @@ use std::alloc::Global;
 fn first_between(edges: &[DraftEdge], from: usize, to: usize) -> Option<&DraftEdge>
     ensures { option_map (λ e. edge_said e.now) result ≡ find (has_ends from to) (map edge_said edges.now) }
 {
-    edges
-        .iter()
-        .find(|edge| edge.from == from && edge.to == to)
+    edges.iter().find(|edge| edge.from == from && edge.to == to)
 }
 
 /// The entry of the first edge with these ends.
@@ -69,7 +67,11 @@ fn tabled(alloc: Global, count: usize, component: &DraftComponent) -> Result<Com
 }
 
 /// The components with their edges in tables.
-pub fn tabled_all(alloc: Global, count: usize, components: &[DraftComponent]) -> Result<List<Component>, NoMemory>
+pub fn tabled_all(
+    alloc: Global,
+    count: usize,
+    components: &[DraftComponent],
+) -> Result<List<Component>, NoMemory>
     requires { count ≤ 64 }
     ensures { IfOk result (λ ks. map component_content ks ≡ map (tabled count) (map component_said components.now)) }
 {
