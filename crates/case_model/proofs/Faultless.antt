@@ -9,26 +9,13 @@ use Rattle.case_model.specs.Draft.{DraftContent, DraftComponentContent, DraftEdg
 use Rattle.case_model.specs.Content.{Content, ComponentContent, InputsContent, content_of, table_of, tabled, edge_between, inputs_given}
 use Rattle.case_model.specs.CaseFaults.{◌or◌, ◌when◌, names_fault, no_hypothesis, too_many, name_form, duplicate_name, components_fault, part_too_long, alpha_range, shares_fault, weights_fault, edges_fault, early_fault, late_fault, case_fault}
 use Rattle.case_model.specs.Rows.{are_tables}
-
--- neither finds a fault
-pub record Neither (a b : Option CaseFault) : Type 0 where
-  pub first : a ≡ None
-  pub second : b ≡ None
-
-pub neither : (a b : Option CaseFault) → (a or b) ≡ None → Neither a b
-neither None b h = record { first = refl; second = h }
-neither (Some f) b h = absurd (cc)
+use Rattle.case_model.proofs.NoFaults.{Neither, neither, no_when}
 
 pub first_of_two : (a b : Option CaseFault) (f : CaseFault) → a ≡ Some f → (a or b) ≡ Some f
 first_of_two a b f e = ap (λ r. r or b) e
 
 pub second_of_two : (a b r : Option CaseFault) → a ≡ None → b ≡ r → (a or b) ≡ r
 second_of_two a b r e h = ap (λ r. r or b) e ∙ h
-
--- a test that finds no fault fails
-pub no_when : (test : Bool) (f : CaseFault) → (f when test) ≡ None → test ≡ false
-no_when true f h = absurd (cc)
-no_when false f h = refl
 
 pub record GoodNames (names : List (List ℕ)) : Type 0 where
   pub none : no_hypothesis names ≡ None

@@ -4,9 +4,12 @@ pub mod EntryOrder
 pub mod ExactSums
 pub mod Faultless
 pub mod FirstFaults
+pub mod NoFaults
 pub mod Places
 pub mod RowTotals
 pub mod SumSteps
 pub mod Tests
 pub mod Thresholds
 pub mod Totals
+pub mod ValidDrafts
+pub mod ValidGraphs

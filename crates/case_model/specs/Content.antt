@@ -4,6 +4,7 @@ use Rattle.std.specs.Option.{option_map_or}
 use Rattle.std.specs.List.{list_any, list_all, find, range_with_len}
 use Rattle.field_core.specs.Terms.{Terms}
 use Rattle.field_core.specs.Number.{Number}
+use Rattle.field_core.specs.Graph.{Graph}
 use Rattle.case_model.specs.Sums.{number, number_at, zero_terms}
 use Rattle.case_model.specs.Entries.{entry_value, entry_at, no_edge, is_plain_entry}
 use Rattle.case_model.specs.Draft.{DraftContent, DraftComponentContent, DraftEdgeContent, ArrivalContent, has_ends}
@@ -77,16 +78,17 @@ empty_component = record { share = zero_terms; weights = []; edges = [] }
 abbrev pub component_at : List ComponentContent → ℕ → ComponentContent
 component_at ks c = get_or ks c empty_component
 
--- the shares, the weights and the values of the entries, each as a number
+-- the weights of a component and the values of the entries of its table of `m` rows and columns
+abbrev pub graph_of : ℕ → ComponentContent → Graph Number
+graph_of m k = record { weight = number_at k.weights; edge = λ i j. entry_value (entry_at m k.edges i j) }
+
+-- the shares and the graphs of the components
 unfoldable pub entangled : Content → EntangledGraph
 entangled c = record {
   hypotheses = length c.names;
   components = length c.components;
   share = λ k. number (component_at c.components k).share;
-  graph = λ k. record {
-    weight = number_at (component_at c.components k).weights;
-    edge = λ i j. entry_value (entry_at (length c.names) (component_at c.components k).edges i j);
-  };
+  graph = λ k. graph_of (length c.names) (component_at c.components k);
 }
 
 -- a fact of single p-values; it doesn't hold where there are none, or stages
