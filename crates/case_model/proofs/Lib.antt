@@ -11,5 +11,6 @@ pub mod SumSteps
 pub mod Tests
 pub mod Thresholds
 pub mod Totals
+pub mod ValidContents
 pub mod ValidDrafts
 pub mod ValidGraphs

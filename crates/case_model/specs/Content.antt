@@ -91,6 +91,12 @@ entangled c = record {
   graph = λ k. graph_of (length c.names) (component_at c.components k);
 }
 
+-- a fact of single p-values, where there are some
+abbrev pub IfSingle : InputsContent → (List Terms → Type 0) → Type 0
+IfSingle (single ps) P = P ps
+IfSingle bare P = Unit {0}
+IfSingle (staged s) P = Unit {0}
+
 -- a fact of single p-values; it doesn't hold where there are none, or stages
 abbrev pub ForSingle : InputsContent → (List Terms → Type 0) → Type 0
 ForSingle (single ps) P = P ps
