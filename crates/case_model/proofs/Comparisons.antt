@@ -1,5 +1,5 @@
 use Rattle.std.proofs.Common.{◌≡◌, refl, sym, ap, ◌∙◌, Bool, ◌*ℤ◌, ◌<ℤ◌, pos}
-use Rattle.std.specs.Ordering.{is_le, int_cmp, ordering_reverse}
+use Rattle.std.specs.Ordering.{is_le, is_ge, int_cmp, ordering_reverse}
 use Rattle.std.specs.declared.cmp.Ordering.{Ordering}
 use Rattle.std.specs.declared.cmp.Ordering.TheVariants.{Less, Equal, Greater}
 use Rattle.field_core.specs.Number.{Number}
@@ -25,5 +25,17 @@ pub at_most_is : (x y : Number) → number_field.at_most x y ≡ is_le (number_c
 at_most_is x y = by_difference x y ∙ ap not_less (number_is_field.compare_swap x y) ∙ reversed (number_compare x y)
 
 -- fractions compare by their cross products
+pub compare_terms : (x y : Terms) → pos 0 <ℤ x.den → pos 0 <ℤ y.den → int_cmp (x.num *ℤ y.den) (y.num *ℤ x.den) ≡ number_compare (number x) (number y)
+compare_terms x y h g = sym (fraction-compare x.num x.den y.num y.den h g)
+
 pub at_most_terms : (x y : Terms) → pos 0 <ℤ x.den → pos 0 <ℤ y.den → is_le (int_cmp (x.num *ℤ y.den) (y.num *ℤ x.den)) ≡ number_field.at_most (number x) (number y)
-at_most_terms x y h g = sym (at_most_is (number x) (number y) ∙ ap is_le (fraction-compare x.num x.den y.num y.den h g))
+at_most_terms x y h g = ap is_le (compare_terms x y h g) ∙ sym (at_most_is (number x) (number y))
+
+turned : (o : Ordering) → is_le (ordering_reverse o) ≡ is_ge o
+turned Less = refl
+turned Equal = refl
+turned Greater = refl
+
+-- at least, by the order the other way round
+pub at_least_is : (x y : Number) → number_field.at_most y x ≡ is_ge (number_compare x y)
+at_least_is x y = at_most_is y x ∙ ap is_le (number_is_field.compare_swap x y) ∙ turned (number_compare x y)

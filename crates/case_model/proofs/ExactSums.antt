@@ -14,7 +14,7 @@ use Rattle.fraction.specs.Laws.PlainLaws.{plain_is_exact}
 use Rattle.case_model.specs.Sums.{number, zero_terms, written_sum}
 use Rattle.field_core.specs.Laws.NumberFieldLaws.{field_zero, field_sum}
 
-bind_ok : {A B : Type 0} (r : Result A TooWide) (f : A → Result B TooWide) (y : B) → (r >>= f) ≡ Ok y → (x : A) × ((r ≡ Ok x) × (f x ≡ Ok y))
+pub bind_ok : {A B : Type 0} (r : Result A TooWide) (f : A → Result B TooWide) (y : B) → (r >>= f) ≡ Ok y → (x : A) × ((r ≡ Ok x) × (f x ≡ Ok y))
 bind_ok (Ok x) f y h = (x, (refl, h))
 bind_ok (Err e) f y h = absurd (cc)
 

@@ -1,3 +1,4 @@
+-- Written sums, item by item.
 use Rattle.std.proofs.Common.{◌≡◌, refl, sym, ap, ap₂, ◌∙◌, ℕ, zero, suc, ◌+◌, ◌<◌, ◌≤◌, List, length, map, get_or, Result, Ok, Err, arith, inl, inr, ◌⊎◌}
 use Rattle.field_core.specs.Terms.{Terms}
 use Rattle.field_core.specs.Sized.{◌>>=◌}
@@ -25,6 +26,10 @@ in_terms_of (Ok x) (Err f) e = absurd (cc)
 in_terms_of (Err f) (Ok t) e = absurd (cc)
 in_terms_of (Err f) (Err g) e = cc
 
+-- a fraction stored as 0 has the terms of 0
+pub zero_of : (z : Fraction) → fraction_parts z.ratio ≡ plain.zero → terms_of z ≡ zero_terms
+zero_of z e = from_single (terms_of z) zero_terms e
+
 pub sum_none : (f : ℕ → Terms) → written_sum 0 f ≡ Ok zero_terms
 unfolding written_sum
 sum_none f = refl
@@ -32,18 +37,18 @@ sum_none f = refl
 next : (n : ℕ) → n + 1 ≡ suc n
 next n = omega arith
 
-pub sum_next : (n : ℕ) (f : ℕ → Terms) → written_sum (n + 1) f ≡ (written_sum n f >>= λ s. written_add Add s (f n))
+sum_next : (n : ℕ) (f : ℕ → Terms) → written_sum (n + 1) f ≡ (written_sum n f >>= λ s. written_add Add s (f n))
 unfolding written_sum
 sum_next n f = ap (λ k. written_sum k f) (next n)
 
-pub sum_on : (n : ℕ) (f : ℕ → Terms) (s : Terms) → written_sum n f ≡ Ok s → written_sum (n + 1) f ≡ written_add Add s (f n)
+sum_on : (n : ℕ) (f : ℕ → Terms) (s : Terms) → written_sum n f ≡ Ok s → written_sum (n + 1) f ≡ written_add Add s (f n)
 sum_on n f s e = sum_next n f ∙ ap (λ r. r >>= λ s. written_add Add s (f n)) e
 
 at_or_past : (n m : ℕ) → n ≤ suc m → (n ≡ suc m) ⊎ (n ≤ m)
 at_or_past n m h = grind arith
 
 -- what is refused on the way is refused in the end
-pub sum_refused : (n m : ℕ) (f : ℕ → Terms) (e : TooWide) → n ≤ m → written_sum n f ≡ Err e → written_sum m f ≡ Err e
+sum_refused : (n m : ℕ) (f : ℕ → Terms) (e : TooWide) → n ≤ m → written_sum n f ≡ Err e → written_sum m f ≡ Err e
 unfolding written_sum
 sum_refused n zero f e h k = let z : n ≡ 0 = omega arith in rw z at k
 sum_refused n (suc m) f e h k = elim (at_or_past n m h) [
@@ -57,13 +62,9 @@ unfolding terms_at
 item_terms ws i x h e = get_or-map terms_of ws i x zero_terms h ∙ ap terms_of (sym e)
 
 -- one item more
-pub sum_item : (ws : List Fraction) (i : ℕ) (sum x : Fraction) (r : Result Fraction TooWide) → i < length ws → x ≡ get_or ws i x → written_sum i (terms_at (map terms_of ws)) ≡ Ok (terms_of sum)
-    → ok_map (λ y. fraction_parts y.ratio) r ≡ plain.written Add (fraction_parts sum.ratio) (fraction_parts x.ratio) → ok_map terms_of r ≡ written_sum (i + 1) (terms_at (map terms_of ws))
-sum_item ws i sum x r h e before step =
-    in_terms_of r (written_add Add (terms_of sum) (terms_of x)) step
-    ∙ ap (written_add Add (terms_of sum)) (sym (item_terms ws i x h e))
-    ∙ sym (sum_on i (terms_at (map terms_of ws)) (terms_of sum) before)
+pub sum_more : (f : ℕ → Terms) (i : ℕ) (sum x : Terms) (r : Result Fraction TooWide) → f i ≡ x → written_sum i f ≡ Ok sum → ok_map terms_of r ≡ written_add Add sum x → ok_map terms_of r ≡ written_sum (i + 1) f
+sum_more f i sum x r here before step = step ∙ ap (written_add Add sum) (sym here) ∙ sym (sum_on i f sum before)
 
--- a fraction stored as 0 has the terms of 0
-pub zero_of : (z : Fraction) → fraction_parts z.ratio ≡ plain.zero → terms_of z ≡ zero_terms
-zero_of z e = from_single (terms_of z) zero_terms e
+-- a refused item refuses the sum
+pub sum_stops : (f : ℕ → Terms) (i n : ℕ) (sum x : Terms) (e : TooWide) → i < n → f i ≡ x → written_sum i f ≡ Ok sum → Err e ≡ written_add Add sum x → Err e ≡ written_sum n f
+sum_stops f i n sum x e h here before step = sym (sum_refused (i + 1) n f e (omega arith) (sym (step ∙ ap (written_add Add sum) (sym here) ∙ sym (sum_on i f sum before))))

@@ -27,7 +27,7 @@ use Rattle.case_model.specs.Sums.{number}
 use Rattle.case_model.specs.Draft.{at_most, is_p_value, is_level, is_within, is_unit}
 use Rattle.case_model.proofs.Comparisons.{at_most_terms, at_most_is}
 use Rattle.field_core.specs.Laws.NumberFieldLaws.{field_zero, field_product}
-use Rattle.case_model.proofs.Validity.{Both, both}
+use Rattle.case_model.proofs.Tests.{Both, both}
 use Rattle.case_model.proofs.ExactSums.{value_single, stored_single}
 
 int_le : (a b : ℤ) → is_le (int_cmp a b) ≡ true → a ≤ℤ b
@@ -111,10 +111,10 @@ not_false true h = absurd (cc)
 level_of : (x : Terms) → is_level x ≡ true → IsLevel x
 unfolding is_level
 level_of x h =
-    let a = both _ (at_most (number x) number_one) h in
-    let b = both (is_within 10000 x) (not (at_most (number x) number_zero)) a.left in
-    let c = both (nat_le (unsigned_abs x.num) 10000) (nat_le (unsigned_abs x.den) 10000) b.left in
-    record { short = record { num = grind (arith, nat_tests, c.left); den = grind (arith, nat_tests, c.right) }; positive = not_false _ b.right; high = a.right }
+    let a = both (is_within 10000 x) (not (at_most (number x) number_zero) && at_most (number x) number_one) h in
+    let b = both (not (at_most (number x) number_zero)) (at_most (number x) number_one) a.right in
+    let c = both (nat_le (unsigned_abs x.num) 10000) (nat_le (unsigned_abs x.den) 10000) a.left in
+    record { short = record { num = grind (arith, nat_tests, c.left); den = grind (arith, nat_tests, c.right) }; positive = not_false _ b.left; high = b.right }
 
 -- a p-value over a level always fits
 pub threshold_fits : (p a : Terms) → IsReduced p → is_p_value p ≡ true → is_level a ≡ true → (e : TooWide) → written_mul Div p (inverse a) ≡ Err e → ⊥

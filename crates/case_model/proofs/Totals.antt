@@ -1,53 +1,44 @@
-use Rattle.std.proofs.Common.{◌≡◌, refl, sym, ap, ap₂, ◌∙◌, ℕ, zero, suc, ◌<◌, arith, List, [], ◌∷◌, length, map, get_or, Result, Ok, Err, Bool, true, false, is_ok, ◌&&◌}
+-- The faults of written sums.
+use Rattle.std.proofs.Common.{◌≡◌, refl, sym, ap, ap₂, ◌∙◌, ℕ, zero, suc, ◌<◌, arith, List, [], ◌∷◌, length, map, get_or, Result, Ok, Err, Bool, true, false, not, Some, None, Option}
 use Rattle.std.proofs.lemmas.List.{length-map}
 use Rattle.field_core.specs.Terms.{Terms, IsReduced}
-use Rattle.field_core.specs.Kind.{ok_map}
+use Rattle.field_core.specs.Number.{Number}
 use Rattle.field_core.specs.Arithmetic.{number_one}
 use Rattle.field_core.specs.NumberField.{number_field}
 use Rattle.field_core.specs.Sums.{sum_below}
+use Rattle.field_core.specs.Kind.{ok_map}
+use Rattle.field_core.specs.declared.place.Place.{Place}
 use Rattle.field_core.specs.declared.place.TooWide.{TooWide}
 use Rattle.fraction.specs.declared.fraction.Fraction.{Fraction}
+use Rattle.fraction.specs.Plain.{zero_reduced}
 use Rattle.fraction.specs.View.{terms_of, number_of}
-use Rattle.case_model.specs.Sums.{terms_at, number_at, written_sum}
-use Rattle.case_model.specs.Draft.{at_most, is_total}
-use Rattle.case_model.proofs.SumSteps.{item_terms}
+use Rattle.case_model.specs.declared.fault.CaseFault.{CaseFault}
+use Rattle.case_model.specs.Sums.{number, terms_at, number_at, written_sum}
+use Rattle.case_model.specs.Draft.{at_most}
+use Rattle.case_model.specs.CaseFaults.{◌when◌, sum_fault, total_fault}
+use Rattle.case_model.specs.Rows.{written_value}
 use Rattle.case_model.proofs.ExactSums.{exact_sum}
 
--- each item of a list of fractions is in lowest terms
-pub reduced_at : (ws : List Fraction) (i : ℕ) → i < length ws → IsReduced (terms_at (map terms_of ws) i)
+-- the terms at each place of a list of fractions are in lowest terms
+pub reduced_at : (ws : List Fraction) (i : ℕ) → IsReduced (terms_at (map terms_of ws) i)
 unfolding terms_at
-reduced_at [] i h = absurd (omega arith)
-reduced_at (w ∷ ws) zero h = w.ratio.valid
-reduced_at (w ∷ ws) (suc i) h = reduced_at ws i (omega arith)
+reduced_at [] i = zero_reduced
+reduced_at (w ∷ ws) zero = w.ratio.valid
+reduced_at (w ∷ ws) (suc i) = reduced_at ws i
 
 as_many : (ws : List Fraction) → length (map terms_of ws) ≡ length ws
 as_many ws = simp length-map
 
-and_true : (a b : Bool) → a ≡ true → b ≡ (a && b)
-and_true true b h = refl
-and_true false b h = absurd (cc)
+in_count : (ws : List Fraction) → written_sum (length ws) (terms_at (map terms_of ws)) ≡ written_sum (length (map terms_of ws)) (terms_at (map terms_of ws))
+in_count ws = ap (λ n. written_sum n (terms_at (map terms_of ws))) (sym (as_many ws))
 
-is_ok_from : (r : Result Terms TooWide) (s : Terms) → r ≡ Ok s → is_ok r ≡ true
-is_ok_from r s e = ap is_ok e
-
-is_ok_false : (r : Result Terms TooWide) (e : TooWide) → r ≡ Err e → is_ok r ≡ false
-is_ok_false r e h = ap is_ok h
-
--- the written sum is there, and tells
-pub total_ok : (ws : List Fraction) (s : Fraction) → Ok (terms_of s) ≡ written_sum (length ws) (terms_at (map terms_of ws)) → at_most (number_of s) number_one ≡ is_total (map terms_of ws)
-unfolding is_total
-total_ok ws s e =
+-- the fault of a written sum is that of the list
+pub total_is : (ws : List Fraction) (r : Result Fraction TooWide) (c : ℕ) (place : Place) (above : CaseFault) → ok_map terms_of r ≡ written_sum (length ws) (terms_at (map terms_of ws)) → sum_fault r (written_value r) c place above ≡ total_fault (map terms_of ws) c place above
+unfolding total_fault
+total_is ws (Ok s) c place above e =
     let f = terms_at (map terms_of ws) in
-    let sum = exact_sum (length ws) f (terms_of s) (λ i h. reduced_at ws i h) (sym e) in
-    let ok : is_ok (written_sum (length (map terms_of ws)) f) ≡ true = ap (λ n. is_ok (written_sum n f)) (as_many ws) ∙ is_ok_from _ _ (sym e) in
-    let same : at_most (number_of s) number_one ≡ at_most (sum_below number_field (length (map terms_of ws)) (number_at (map terms_of ws))) number_one
-    = ap (λ x. at_most x number_one) (sum.value ∙ ap (λ n. sum_below number_field n (number_at (map terms_of ws))) (sym (as_many ws))) in
-    same ∙ and_true _ _ ok
-
--- no written sum is there
-pub total_refused : (ws : List Fraction) (e : TooWide) → Err e ≡ written_sum (length ws) (terms_at (map terms_of ws)) → false ≡ is_total (map terms_of ws)
-unfolding is_total
-total_refused ws e h =
-    let f = terms_at (map terms_of ws) in
-    let ok : is_ok (written_sum (length (map terms_of ws)) f) ≡ false = ap (λ n. is_ok (written_sum n f)) (as_many ws) ∙ is_ok_false _ e (sym h) in
-    rw ok refl
+    let n = length (map terms_of ws) in
+    let sum = exact_sum (length ws) f (terms_of s) (λ i h. reduced_at ws i) (sym e) in
+    let value : number_of s ≡ sum_below number_field n (number_at (map terms_of ws)) = sum.value ∙ ap (λ n. sum_below number_field n (number_at (map terms_of ws))) (sym (as_many ws)) in
+    ap (λ x. above when not (at_most x number_one)) value ∙ ap (λ r. sum_fault r (sum_below number_field n (number_at (map terms_of ws))) c place above) (e ∙ in_count ws)
+total_is ws (Err e) c place above h = ap (λ r. sum_fault r (sum_below number_field (length (map terms_of ws)) (number_at (map terms_of ws))) c place above) (h ∙ in_count ws)

@@ -1,35 +1,112 @@
--- What a case holds, and the entangled graph, the p-values and the level that it stands for.
-use Rattle.std.specs.Prelude.{ℕ, List, Some, map, length}
+-- What a case holds, the content that a draft stands for, and the entangled graph, the p-values and the level of a content.
+use Rattle.std.specs.Prelude.{ℕ, ◌*◌, ◌/◌, ◌%◌, ◌&&◌, Bool, List, [], ◌∷◌, Option, Some, None, map, length, get_or, if◌then◌else◌, is_some}
+use Rattle.std.specs.Option.{option_map_or}
+use Rattle.std.specs.List.{list_any, list_all, find, range_with_len}
 use Rattle.field_core.specs.Terms.{Terms}
 use Rattle.field_core.specs.Number.{Number}
-use Rattle.field_core.specs.Arithmetic.{number_one}
-use Rattle.field_core.specs.NumberField.{number_field}
-use Rattle.field_core.specs.Examples.{graph_without_edges}
-use Rattle.case_model.specs.Sums.{number, number_at}
-use Rattle.case_model.specs.Draft.{DraftContent}
+use Rattle.field_core.specs.Graph.{Graph}
+use Rattle.case_model.specs.Sums.{number, number_at, zero_terms}
+use Rattle.case_model.specs.Entries.{entry_value, entry_at, no_edge, is_plain_entry}
+use Rattle.case_model.specs.Draft.{DraftContent, DraftComponentContent, DraftEdgeContent, ArrivalContent, has_ends}
 use Rattle.case_model.specs.EntangledGraph.{EntangledGraph}
 use Rattle.case_model.specs.ClosedTest.{IsRejected}
 
--- the names of the hypotheses, the level, and a weight and a p-value for each
+-- a component: its share of the level, the weights of the hypotheses, and the table of its edges, row by row
+pub record ComponentContent : Type 0 where
+  pub share : Terms
+  pub weights : List Terms
+  pub edges : List (List Terms)
+
+-- stages: how many there are, the fraction of its level that each hypothesis spends at each, row by row, and what arrived
+pub record StagesContent : Type 0 where
+  pub count : ℕ
+  pub spend : List Terms
+  pub arrivals : List ArrivalContent
+
+-- p-values: none, one for each hypothesis, or those of stages
+pub data InputsContent : Type 0 where
+  bare : InputsContent
+  single : List Terms → InputsContent
+  staged : StagesContent → InputsContent
+
+-- the names of the hypotheses, the level, the components and the p-values
 pub record Content : Type 0 where
   pub names : List (List ℕ)
   pub alpha : Terms
-  pub weights : List Terms
-  pub p : List Terms
+  pub components : List ComponentContent
+  pub inputs : InputsContent
 
--- the draft that says the same
-abbrev pub drafted : Content → DraftContent
-drafted c = record { names = c.names; alpha = c.alpha; p = map Some c.p; weights = c.weights }
+-- ---- the content of a draft
 
--- one component of share 1, with these weights and without edges
+-- the entry of the first edge in a list that goes from `i` to `j`
+unfoldable pub edge_between : List DraftEdgeContent → ℕ → ℕ → List Terms
+edge_between es i j = option_map_or (λ e. e.entry) (find (has_ends i j) es) no_edge
+
+-- the table of the edges between `m` hypotheses, row by row
+unfoldable pub table_of : ℕ → List DraftEdgeContent → List (List Terms)
+table_of m es = map (λ k. edge_between es (k / m) (k % m)) (range_with_len 0 (m * m))
+
+-- a component with its edges in a table
+abbrev pub tabled : ℕ → DraftComponentContent → ComponentContent
+tabled m k = record { share = k.share; weights = k.weights; edges = table_of m k.edges }
+
+-- the p-values that are given
+unfoldable pub given : List (Option Terms) → List Terms
+given [] = []
+given (None ∷ ps) = given ps
+given (Some p ∷ ps) = p ∷ given ps
+
+-- none where no p-value is given
+abbrev pub inputs_given : List (Option Terms) → InputsContent
+inputs_given ps = if list_any is_some ps then single (given ps) else bare
+
+-- the content of a draft without stages
+unfoldable pub content_of : DraftContent → Content
+content_of d = record {
+  names = d.names;
+  alpha = d.alpha;
+  components = map (tabled (length d.names)) d.components;
+  inputs = inputs_given d.p;
+}
+
+-- ---- the closed test of a content
+
+abbrev pub empty_component : ComponentContent
+empty_component = record { share = zero_terms; weights = []; edges = [] }
+
+-- the component at a place of a list, and nothing past its end
+abbrev pub component_at : List ComponentContent → ℕ → ComponentContent
+component_at ks c = get_or ks c empty_component
+
+-- the weights of a component and the values of the entries of its table of `m` rows and columns
+abbrev pub graph_of : ℕ → ComponentContent → Graph Number
+graph_of m k = record { weight = number_at k.weights; edge = λ i j. entry_value (entry_at m k.edges i j) }
+
+-- the shares and the graphs of the components
 unfoldable pub entangled : Content → EntangledGraph
 entangled c = record {
   hypotheses = length c.names;
-  components = 1;
-  share = λ _. number_one;
-  graph = λ _. graph_without_edges number_field (number_at c.weights);
+  components = length c.components;
+  share = λ k. number (component_at c.components k).share;
+  graph = λ k. graph_of (length c.names) (component_at c.components k);
 }
+
+-- a fact of single p-values, where there are some
+abbrev pub IfSingle : InputsContent → (List Terms → Type 0) → Type 0
+IfSingle (single ps) P = P ps
+IfSingle bare P = Unit {0}
+IfSingle (staged s) P = Unit {0}
+
+-- a fact of single p-values; it doesn't hold where there are none, or stages
+abbrev pub ForSingle : InputsContent → (List Terms → Type 0) → Type 0
+ForSingle (single ps) P = P ps
+ForSingle bare P = ⊥
+ForSingle (staged s) P = ⊥
 
 -- the closed test at the level of the case rejects the hypothesis at this position
 abbrev pub IsRejectedIn : Content → ℕ → Type 0
-IsRejectedIn c j = IsRejected (entangled c) (number_at c.p) (number c.alpha) j
+IsRejectedIn c j = ForSingle c.inputs (λ ps. IsRejected (entangled c) (number_at ps) (number c.alpha) j)
+
+-- no edge has a coefficient other than 0 above power 0
+unfoldable pub is_plain : Content → Bool
+is_plain c = list_all (λ k. list_all is_plain_entry k.edges) c.components

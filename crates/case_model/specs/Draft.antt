@@ -1,21 +1,44 @@
--- Drafts of a case, and which of them are valid.
-use Rattle.std.specs.Prelude.{◌==◌, ◌||◌, ◌&&◌, not, ◌^◌, ℕ, Bool, true, false, List, [], ◌∷◌, Option, Some, None, length, map, nat_lt, nat_le, is_some, is_ok, unsigned_abs}
-use Rattle.std.specs.List.{list_all, list_any}
+-- What a draft of a case says, and tests of its parts.
+use Rattle.std.specs.Prelude.{◌==◌, ◌||◌, ◌&&◌, not, ◌^◌, ◌+◌, ◌*◌, ℕ, Bool, true, false, List, [], ◌∷◌, Option, Some, None, length, nat_lt, nat_le, unsigned_abs}
+use Rattle.std.specs.List.{list_all}
 use Rattle.std.specs.Char.{is_ascii_alphanumeric}
-use Rattle.std.specs.Str.{bytes_eq}
 use Rattle.field_core.specs.Terms.{Terms}
 use Rattle.field_core.specs.Number.{Number}
 use Rattle.field_core.specs.Arithmetic.{number_zero, number_one}
 use Rattle.field_core.specs.NumberField.{number_field}
-use Rattle.field_core.specs.Sums.{sum_below}
-use Rattle.case_model.specs.Sums.{number, terms_at, number_at, written_sum}
+use Rattle.case_model.specs.Sums.{number}
 
--- what a draft says: the names of the hypotheses, the level, the p-values, of which some may be missing, and the weights
+-- an edge of a draft: its ends, and the coefficients of its weight
+pub record DraftEdgeContent : Type 0 where
+  pub from : ℕ
+  pub to : ℕ
+  pub entry : List Terms
+
+-- a component of a draft: its share of the level, the weights of the hypotheses, and its edges
+pub record DraftComponentContent : Type 0 where
+  pub share : Terms
+  pub weights : List Terms
+  pub edges : List DraftEdgeContent
+
+-- a p-value that arrived, with its hypothesis and its stage, counted from 1
+pub record ArrivalContent : Type 0 where
+  pub hypothesis : ℕ
+  pub stage : ℕ
+  pub p : Terms
+
+-- the stages of a draft: how many there are, the fractions of its level that each hypothesis spends at them, and what arrived
+pub record DraftStagesContent : Type 0 where
+  pub count : ℕ
+  pub spend : List (List Terms)
+  pub arrivals : List ArrivalContent
+
+-- what a draft says: the names of the hypotheses, the level, the p-values, of which some may be missing, the components, and the stages where there are some
 pub record DraftContent : Type 0 where
   pub names : List (List ℕ)
   pub alpha : Terms
   pub p : List (Option Terms)
-  pub weights : List Terms
+  pub components : List DraftComponentContent
+  pub stages : Option DraftStagesContent
 
 -- x is at most y
 abbrev pub at_most : Number → Number → Bool
@@ -33,48 +56,38 @@ is_name_byte b = is_ascii_alphanumeric b || b == 95 || b == 46 || b == 45
 unfoldable pub is_name : List ℕ → Bool
 is_name name = nat_lt 0 (length name) && nat_le (length name) 32 && list_all is_name_byte name
 
--- no name is equal to an earlier one
-unfoldable pub are_distinct : List (List ℕ) → Bool
-are_distinct [] = true
-are_distinct (name ∷ names) = not (list_any (bytes_eq name) names) && are_distinct names
-
--- from 1 to 64 distinct names
-unfoldable pub are_hypotheses : List (List ℕ) → Bool
-are_hypotheses names = nat_lt 0 (length names) && nat_le (length names) 64 && list_all is_name names && are_distinct names
-
 -- both parts are at most the limit
 abbrev pub is_within : ℕ → Terms → Bool
 is_within limit t = nat_le (unsigned_abs t.num) limit && nat_le (unsigned_abs t.den) limit
 
+-- the parts of a level are at most 10,000
+abbrev pub is_short_level : Terms → Bool
+is_short_level = is_within 10000
+
+-- the parts of a share, a weight or a coefficient are at most 10^18
+abbrev pub is_short : Terms → Bool
+is_short = is_within (10 ^ 18)
+
+-- the denominator of a p-value is at most 10^30
+abbrev pub is_short_p_value : Terms → Bool
+is_short_p_value t = nat_le (unsigned_abs t.den) (10 ^ 30)
+
+-- above 0 and at most 1
+abbrev pub is_level_range : Terms → Bool
+is_level_range t = not (at_most (number t) number_zero) && at_most (number t) number_one
+
 -- a level has parts of at most 10,000, is above 0 and at most 1
 unfoldable pub is_level : Terms → Bool
-is_level t = is_within 10000 t && not (at_most (number t) number_zero) && at_most (number t) number_one
-
--- a weight has parts of at most 10^18 and isn't below 0
-unfoldable pub is_weight : Terms → Bool
-is_weight t = is_within (10 ^ 18) t && at_most number_zero (number t)
+is_level t = is_short_level t && is_level_range t
 
 -- a p-value has a denominator of at most 10^30 and is from 0 to 1
 unfoldable pub is_p_value : Terms → Bool
-is_p_value t = nat_le (unsigned_abs t.den) (10 ^ 30) && is_unit (number t)
+is_p_value t = is_short_p_value t && is_unit (number t)
 
--- a p-value is given
-unfoldable pub is_given : Option Terms → Bool
-is_given None = false
-is_given (Some t) = is_p_value t
+-- the edge goes from `i` to `j`
+abbrev pub has_ends : ℕ → ℕ → DraftEdgeContent → Bool
+has_ends i j e = e.from == i && e.to == j
 
--- the weights can be summed within the sizes of written numbers, and sum to at most 1
-unfoldable pub is_total : List Terms → Bool
-is_total weights = is_ok (written_sum (length weights) (terms_at weights)) && at_most (sum_below number_field (length weights) (number_at weights)) number_one
-
--- a weight for each of so many hypotheses
-unfoldable pub are_weights : ℕ → List Terms → Bool
-are_weights count weights = length weights == count && list_all is_weight weights && is_total weights
-
--- a p-value for each of so many hypotheses
-unfoldable pub are_p_values : ℕ → List (Option Terms) → Bool
-are_p_values count p = length p == count && list_all is_given p
-
--- a draft is valid: from 1 to 64 hypotheses with distinct names, a level, and a weight and a p-value for each
-unfoldable pub is_valid : DraftContent → Bool
-is_valid d = are_hypotheses d.names && is_level d.alpha && are_weights (length d.names) d.weights && are_p_values (length d.names) d.p
+-- each edge goes from a hypothesis to a hypothesis
+unfoldable pub have_known_ends : DraftContent → Bool
+have_known_ends d = list_all (λ k. list_all (λ e. nat_lt e.from (length d.names) && nat_lt e.to (length d.names)) k.edges) d.components

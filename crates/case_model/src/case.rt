@@ -1,45 +1,48 @@
-ghost use Rattle.std.specs.Prelude.{◌≡◌, true, map};
+ghost use Rattle.std.specs.Prelude.{map};
 ghost use Rattle.fraction.specs.View.{terms_of};
-ghost use Rattle.case_model.specs.Draft.{is_valid};
-ghost use Rattle.case_model.specs.Content.{drafted};
+ghost use Rattle.case_model.specs.ComponentView.{component_content, inputs_content};
+ghost use Rattle.case_model.specs.Validity.{IsValidContent};
 
-use crate::numbers::at;
+use crate::{Component, Entry, Inputs};
 use field_core::{List, Text};
 use fraction::Fraction;
 
-/// A valid case: from 1 to 64 hypotheses with distinct names, a level, and a weight and a p-value for each.
+/// A case without faults.
 #[derive(Drop)]
 pub struct Case {
     names: List<Text>,
     alpha: Fraction,
-    weights: List<Fraction>,
-    p: List<Fraction>,
-    ghost valid: { is_valid (drafted (record { names = names; alpha = terms_of alpha; weights = map terms_of weights; p = map terms_of p })) ≡ true },
+    components: List<Component>,
+    inputs: Inputs,
+    ghost valid: { IsValidContent (record { names = names; alpha = terms_of alpha; components = map component_content components; inputs = inputs_content inputs }) },
 }
 
 impl Case {
     ghost use Rattle.std.specs.Prelude.{◌≡◌, ◌<◌, length, slice_get, Some, true, map};
     ghost use Rattle.fraction.specs.View.{terms_of, number_of};
     ghost use Rattle.case_model.specs.Sums.{terms_at};
-    ghost use Rattle.case_model.specs.Draft.{is_valid};
-    ghost use Rattle.case_model.specs.Content.{drafted};
+    ghost use Rattle.case_model.specs.Entries.{entry_at};
+    ghost use Rattle.case_model.specs.Content.{component_at};
+    ghost use Rattle.case_model.specs.Validity.{IsValidContent};
     ghost use Rattle.case_model.specs.CaseView.{content};
+    ghost use Rattle.case_model.specs.ComponentView.{inputs_content};
+    ghost use Rattle.case_model.specs.EntryView.{coefficients_of};
 
     /// The case of these parts.
     pub(crate) fn of(
         names: List<Text>,
         alpha: Fraction,
-        weights: List<Fraction>,
-        p: List<Fraction>,
+        components: List<Component>,
+        inputs: Inputs,
     ) -> Case
-        requires { is_valid (drafted (record { names = names; alpha = terms_of alpha; weights = map terms_of weights; p = map terms_of p })) ≡ true }
-        ensures { content result ≡ record { names = names; alpha = terms_of alpha; weights = map terms_of weights; p = map terms_of p } }
+        requires { IsValidContent (record { names = names; alpha = terms_of alpha; components = map component_content components; inputs = inputs_content inputs }) }
+        ensures { content result ≡ record { names = names; alpha = terms_of alpha; components = map component_content components; inputs = inputs_content inputs } }
     {
         Case {
             names,
             alpha,
-            weights,
-            p,
+            components,
+            inputs,
         }
     }
 
@@ -65,19 +68,25 @@ impl Case {
         self.alpha
     }
 
-    /// The weight of the hypothesis at a position.
-    pub fn weight(&self, i: usize) -> Fraction
-        requires { i < length (content self.now).names }
-        ensures { terms_of result ≡ terms_at (content self.now).weights i }
+    /// How many components there are, from 1 to 8.
+    pub fn components(&self) -> usize
+        ensures { result ≡ length (content self.now).components }
     {
-        at(self.weights.as_slice(), i)
+        self.components.len()
     }
 
-    /// The p-value of the hypothesis at a position.
-    pub fn p_value(&self, i: usize) -> Fraction
-        requires { i < length (content self.now).names }
-        ensures { terms_of result ≡ terms_at (content self.now).p i }
+    /// The share of the component at a place.
+    pub fn share(&self, c: usize) -> Fraction
+        requires { c < length (content self.now).components }
+        ensures { terms_of result ≡ (component_at (content self.now).components c).share }
     {
-        at(self.p.as_slice(), i)
+        self.components.as_slice()[c].share
+    }
+
+    /// The p-values.
+    pub fn inputs(&self) -> &Inputs
+        ensures { inputs_content result.now ≡ (content self.now).inputs }
+    {
+        &self.inputs
     }
 }

@@ -2,12 +2,26 @@
 #![tactic(auto)]
 
 mod case;
+mod component;
 mod draft;
+mod early;
+mod entry;
+mod fault;
+mod inputs;
 pub mod laws;
 mod local_test;
 mod names;
 mod numbers;
+mod p_values;
+mod row_sums;
+mod rows;
+mod sums;
+mod tables;
 
 pub use case::Case;
-pub use draft::{CaseFault, Draft, Refused};
+pub use component::Component;
+pub use draft::{Arrival, Draft, DraftComponent, DraftEdge, DraftStages};
+pub use entry::Entry;
+pub use fault::{CaseFault, PartPlace, Refused};
+pub use inputs::{Inputs, Stages};
 pub use local_test::passes;

@@ -1,9 +1,11 @@
 //! Names of hypotheses.
-ghost use Rattle.std.specs.Prelude.{◌≡◌};
+ghost use Rattle.std.specs.Prelude.{◌≡◌, not, position};
 ghost use Rattle.std.specs.List.{list_all, list_any};
 ghost use Rattle.std.specs.Str.{bytes_eq};
-ghost use Rattle.case_model.specs.Draft.{is_name_byte, is_name, are_distinct, are_hypotheses};
+ghost use Rattle.case_model.specs.Draft.{is_name_byte, is_name};
+ghost use Rattle.case_model.specs.CaseFaults.{first_of, repeated_name, names_fault};
 
+use crate::CaseFault;
 use field_core::Text;
 
 fn is_name_byte(byte: u8) -> bool
@@ -26,6 +28,13 @@ fn is_name(name: &[u8]) -> bool
     !name.is_empty() && name.len() <= 32 && are_name_bytes(name)
 }
 
+/// The place of the first that isn't a name.
+fn first_bad_name(names: &[Text]) -> Option<usize>
+    ensures { result ≡ position (λ name. not (is_name name)) names.now }
+{
+    names.iter().position(|name| !is_name(name.as_bytes()))
+}
+
 /// Whether one of the names is this one.
 fn has(names: &[Text], name: &[u8]) -> bool
     ensures { result ≡ list_any (bytes_eq name.now) names.now }
@@ -33,28 +42,31 @@ fn has(names: &[Text], name: &[u8]) -> bool
     names.iter().any(|other| name == other.as_bytes())
 }
 
-/// Whether no name is equal to an earlier one.
-#[tactic(auto, unfolding(crate::specs::Draft::are_distinct))]
-fn are_distinct(names: &[Text]) -> bool
-    ensures { result ≡ are_distinct names.now }
+/// The fault of the first name that is equal to an earlier one.
+fn duplicate_name(names: &[Text]) -> Option<CaseFault>
+    ensures { result ≡ first_of (repeated_name names.now) names.now }
 {
-    match names {
-        [] => true,
-        [first, rest @ ..] => !has(rest, first.as_bytes()) && are_distinct(rest),
+    for (i, name) in names.iter().enumerate() {
+        if has(&names[..i], name.as_bytes()) {
+            return Some(CaseFault::DuplicateName(i));
+        }
     }
+    None
 }
 
-/// Whether each is a name.
-fn are_names(names: &[Text]) -> bool
-    ensures { result ≡ list_all is_name names.now }
+/// The first fault of the names.
+#[tactic(auto, unfolding(crate::specs::CaseFaults::names_fault, crate::specs::CaseFaults::no_hypothesis, crate::specs::CaseFaults::too_many, crate::specs::CaseFaults::name_form, crate::specs::CaseFaults::duplicate_name))]
+pub fn names_fault(names: &[Text]) -> Option<CaseFault>
+    ensures { result ≡ names_fault names.now }
 {
-    names.iter().all(|name| is_name(name.as_bytes()))
-}
-
-/// Whether these are from 1 to 64 distinct names.
-#[tactic(auto, unfolding(crate::specs::Draft::are_hypotheses))]
-pub fn are_hypotheses(names: &[Text]) -> bool
-    ensures { result ≡ are_hypotheses names.now }
-{
-    !names.is_empty() && names.len() <= 64 && are_names(names) && are_distinct(names)
+    if names.is_empty() {
+        return Some(CaseFault::NoHypothesis);
+    }
+    if names.len() > 64 {
+        return Some(CaseFault::TooMany(names.len() as u64));
+    }
+    if let Some(i) = first_bad_name(names) {
+        return Some(CaseFault::NameForm(i));
+    }
+    duplicate_name(names)
 }

@@ -1,29 +1,47 @@
 //! Tests of fractions.
-ghost use Rattle.std.specs.Prelude.{◌≡◌, ◌^◌, map, length, not, nat_le, unsigned_abs, ◌<◌, ◌≤◌, true, Some, IfOk};
-ghost use Rattle.std.specs.Option.{option_map};
-ghost use Rattle.std.specs.List.{list_all};
-ghost use Rattle.field_core.specs.Kind.{ok_map};
-ghost use Rattle.field_core.specs.Arithmetic.{number_zero, number_one};
+ghost use Rattle.std.specs.Prelude.{◌≡◌, not, map, position};
+ghost use Rattle.field_core.specs.Arithmetic.{number_zero, number_one, number_compare};
 ghost use Rattle.fraction.specs.View.{terms_of, number_of};
-ghost use Rattle.case_model.specs.Sums.{terms_at, written_sum};
-ghost use Rattle.case_model.specs.Draft.{at_most, is_within, is_level, is_weight, is_p_value, is_given, is_total, are_weights, are_p_values};
+ghost use Rattle.case_model.specs.Draft.{at_most, is_unit, is_within, is_short_level, is_short, is_short_p_value, is_level_range};
+ghost use Rattle.field_core.specs.Polynomial.{int_sign};
+ghost use Rattle.case_model.specs.Entries.{is_zero_terms, first_sign};
+ghost use Rattle.case_model.specs.CaseFaults.{is_below_zero};
+ghost use Rattle.std.specs.List.{list_all};
 
-use field_core::{List, NoMemory, Number, TooWide};
+use field_core::Number;
 use fraction::Fraction;
-use std::alloc::Global;
+use std::cmp::Ordering;
+
+/// How `x` compares with `y`.
+pub fn compare(x: &Fraction, y: &Fraction) -> Ordering
+    ensures { result ≡ number_compare (number_of x.now) (number_of y.now) }
+{
+    x.ratio().compare(&y.ratio())
+}
+
+/// Whether `x` is below, at or above 0.
+fn sign(x: &Fraction) -> Ordering
+    ensures { result ≡ int_sign (terms_of x.now).num }
+{
+    x.sign()
+}
+
+/// The sign of the first that isn't 0.
+#[tactic(auto, unfolding(crate::specs::Entries::first_sign))]
+pub fn first_sign(fractions: &[Fraction]) -> Ordering
+    ensures { result ≡ first_sign (map terms_of fractions.now) }
+{
+    match fractions {
+        [] => Ordering::Equal,
+        [first, rest @ ..] => sign(first).then(first_sign(rest)),
+    }
+}
 
 /// Whether `x` is at most `y`.
 pub fn at_most(x: &Fraction, y: &Fraction) -> bool
     ensures { result ≡ at_most (number_of x.now) (number_of y.now) }
 {
-    x.ratio().compare(&y.ratio()).is_le()
-}
-
-/// Whether `x` isn't below 0.
-fn is_nonnegative(x: &Fraction) -> bool
-    ensures { result ≡ at_most number_zero (number_of x.now) }
-{
-    at_most(&Fraction::zero(), x)
+    compare(x, y).is_le()
 }
 
 /// Whether `x` is above 0.
@@ -33,11 +51,47 @@ pub fn is_positive(x: &Fraction) -> bool
     !at_most(x, &Fraction::zero())
 }
 
+/// Whether `x` isn't below 0.
+fn is_nonnegative(x: &Fraction) -> bool
+    ensures { result ≡ at_most number_zero (number_of x.now) }
+{
+    at_most(&Fraction::zero(), x)
+}
+
+/// Whether `x` is below 0.
+pub fn is_below_zero(x: &Fraction) -> bool
+    ensures { result ≡ is_below_zero (terms_of x.now) }
+{
+    !is_nonnegative(x)
+}
+
 /// Whether `x` is at most 1.
-fn is_at_most_one(x: &Fraction) -> bool
+pub fn is_at_most_one(x: &Fraction) -> bool
     ensures { result ≡ at_most (number_of x.now) number_one }
 {
     at_most(x, &Fraction::one())
+}
+
+/// Whether `x` is from 0 to 1.
+pub fn is_unit(x: &Fraction) -> bool
+    ensures { result ≡ is_unit (number_of x.now) }
+{
+    is_nonnegative(x) && is_at_most_one(x)
+}
+
+/// Whether `x` is above 0 and at most 1.
+pub fn is_level_range(x: &Fraction) -> bool
+    ensures { result ≡ is_level_range (terms_of x.now) }
+{
+    is_positive(x) && is_at_most_one(x)
+}
+
+/// Whether `x` is 0.
+#[tactic(auto, unfolding(field_core::specs::Kind::is_zero))]
+fn is_zero(x: &Fraction) -> bool
+    ensures { result ≡ is_zero_terms (terms_of x.now) }
+{
+    x.is_zero()
 }
 
 /// Whether numerator and denominator are at most `limit` in size.
@@ -48,118 +102,53 @@ fn is_within(limit: u128, x: &Fraction) -> bool
     ratio.num().unsigned_abs() <= limit && ratio.den().unsigned_abs() <= limit
 }
 
-/// Whether a level has parts of at most 10,000, is above 0 and at most 1.
-#[tactic(auto, unfolding(crate::specs::Draft::is_level))]
-pub fn is_level(x: &Fraction) -> bool
-    ensures { result ≡ is_level (terms_of x.now) }
+/// Whether the parts are at most 10,000.
+pub fn is_short_level(x: &Fraction) -> bool
+    ensures { result ≡ is_short_level (terms_of x.now) }
 {
-    is_within(10_000, x) && is_positive(x) && is_at_most_one(x)
+    is_within(10_000, x)
 }
 
-/// Whether a weight has parts of at most 10^18 and isn't below 0.
-#[tactic(auto, unfolding(crate::specs::Draft::is_weight))]
-fn is_weight(x: &Fraction) -> bool
-    ensures { result ≡ is_weight (terms_of x.now) }
+/// Whether the parts are at most 10^18.
+pub fn is_short(x: &Fraction) -> bool
+    ensures { result ≡ is_short (terms_of x.now) }
 {
-    is_within(1_000_000_000_000_000_000, x) && is_nonnegative(x)
+    is_within(1_000_000_000_000_000_000, x)
 }
 
 /// Whether the denominator is at most 10^30.
-fn is_short(x: &Fraction) -> bool
-    ensures { result ≡ nat_le (unsigned_abs (terms_of x.now).den) (10 ^ 30) }
+pub fn is_short_p_value(x: &Fraction) -> bool
+    ensures { result ≡ is_short_p_value (terms_of x.now) }
 {
     x.ratio().den().unsigned_abs() <= 1_000_000_000_000_000_000_000_000_000_000
 }
 
-/// Whether a p-value has a denominator of at most 10^30 and is from 0 to 1.
-#[tactic(auto, unfolding(crate::specs::Draft::is_p_value))]
-fn is_p_value(x: &Fraction) -> bool
-    ensures { result ≡ is_p_value (terms_of x.now) }
+/// Whether each is 0.
+pub fn are_zero(fractions: &[Fraction]) -> bool
+    ensures { result ≡ list_all is_zero_terms (map terms_of fractions.now) }
 {
-    is_short(x) && is_nonnegative(x) && is_at_most_one(x)
+    fractions.iter().all(|fraction| is_zero(fraction))
 }
 
-/// The sum, written one after the other.
-fn total(weights: &[Fraction]) -> Result<Fraction, TooWide>
-    ensures { ok_map terms_of result ≡ written_sum (length weights.now) (terms_at (map terms_of weights.now)) }
+/// Whether the parts of each are at most 10^18.
+pub fn are_short(fractions: &[Fraction]) -> bool
+    ensures { result ≡ list_all is_short (map terms_of fractions.now) }
 {
-    let mut sum = Fraction::zero();
-    for weight in weights {
-        sum = sum.add(weight)?;
-    }
-    Ok(sum)
+    fractions.iter().all(|fraction| is_short(fraction))
 }
 
-/// Whether the weights can be summed within the sizes of written numbers, and sum to at most 1.
-#[tactic(auto, unfolding(crate::specs::Draft::is_total))]
-pub fn is_total(weights: &[Fraction]) -> bool
-    ensures { result ≡ is_total (map terms_of weights.now) }
+/// The place of the first with a part above 10^18.
+pub fn first_long(fractions: &[Fraction]) -> Option<usize>
+    ensures { result ≡ position (λ w. not (is_short w)) (map terms_of fractions.now) }
 {
-    match total(weights) {
-        Ok(sum) => is_at_most_one(&sum),
-        Err(_) => false,
-    }
+    fractions.iter().position(|fraction| !is_short(fraction))
 }
 
-/// The fraction at a place of a list.
-pub fn at(items: &[Fraction], i: usize) -> Fraction
-    requires within { i < length items.now }
-    requires few { length items.now ≤ 64 }
-    ensures { terms_of result ≡ terms_at (map terms_of items.now) i }
+/// The place of the first below 0.
+pub fn first_below_zero(fractions: &[Fraction]) -> Option<usize>
+    ensures { result ≡ position is_below_zero (map terms_of fractions.now) }
 {
-    items[i]
-}
-
-/// Whether each is a weight.
-fn are_all_weights(weights: &[Fraction]) -> bool
-    ensures { result ≡ list_all (λ x. is_weight (terms_of x)) weights.now }
-{
-    weights.iter().all(|weight| is_weight(weight))
-}
-
-/// Whether these are weights for so many hypotheses.
-pub fn are_weights(count: usize, weights: &[Fraction]) -> bool
-    ensures { result ≡ are_weights count (map terms_of weights.now) }
-{
-    weights.len() == count && are_all_weights(weights) && is_total(weights)
-}
-
-/// Whether a p-value is given.
-#[tactic(auto, unfolding(crate::specs::Draft::is_given))]
-fn is_given(p: &Option<Fraction>) -> bool
-    ensures { result ≡ is_given (option_map terms_of p.now) }
-{
-    match p {
-        Some(p) => is_p_value(p),
-        None => false,
-    }
-}
-
-/// Whether each p-value is given.
-fn are_all_given(p: &[Option<Fraction>]) -> bool
-    ensures { result ≡ list_all (λ x. is_given (option_map terms_of x)) p.now }
-{
-    p.iter().all(|p| is_given(p))
-}
-
-/// Whether these are p-values for so many hypotheses.
-pub fn are_p_values(count: usize, p: &[Option<Fraction>]) -> bool
-    ensures { result ≡ are_p_values count (map (option_map terms_of) p.now) }
-{
-    p.len() == count && are_all_given(p)
-}
-
-/// The p-values, all of which are given.
-pub fn given(alloc: Global, p: &[Option<Fraction>]) -> Result<List<Fraction>, NoMemory>
-    requires { list_all (λ x. is_given (option_map terms_of x)) p.now ≡ true }
-    ensures { IfOk result (λ given. map Some (map terms_of given) ≡ map (option_map terms_of) p.now) }
-{
-    let mut given = List::new(alloc);
-    for p in p {
-        match p {
-            Some(p) => given.push(*p)?,
-            None => unreachable!(),
-        }
-    }
-    Ok(given)
+    fractions
+        .iter()
+        .position(|fraction| is_below_zero(fraction))
 }

@@ -1,14 +1,20 @@
-use Rattle.std.proofs.Common.{◌≡◌, sym, ap, ◌∙◌, true, rules}
-use Rattle.std.specs.List.{list_all}
-use Rattle.std.specs.Option.{option_map}
-use Rattle.fraction.specs.View.{terms_of}
-use Rattle.case_model.specs.Draft.{is_valid, is_given}
-use Rattle.case_model.specs.CaseView.{said}
-use Rattle.case_model.proofs.Validity.{validity, list_all-map}
+use Rattle.std.proofs.Common.{sym, ap, ◌∙◌, map}
+use Rattle.std.proofs.lemmas.Grind.{merely}
+use Rattle.case_model.specs.DraftView.{said}
+use Rattle.case_model.specs.ComponentView.{component_content, inputs_content}
+use Rattle.case_model.proofs.Faultless.{content_by_parts}
 use Rattle.case_model.proofs.draft.Draft.finish.Goals as goal
 
-pub given-requires : goal.given-requires
-given-requires c =
-    let d = c.args.self in
-    let ok : is_valid (said d) ≡ true = search rules in
-    ap (list_all (λ x. is_given (option_map terms_of x))) c.as_slice.ensures ∙ sym (list_all-map is_given (option_map terms_of) d.p) ∙ (validity (said d) ok).p
+pub of-requires : goal.of-requires
+of-requires c =
+    let made = c.in-Ok.field-0 in
+    merely (record {
+      draft = said c.args.self;
+      content_is = sym (content_by_parts (said c.args.self) (map component_content made.components) (inputs_content made.inputs) c.in-Ok.ensures.components c.in-Ok.ensures.inputs);
+      faultless = c.in-Ok.ensures.faultless;
+    })
+
+pub returns-in-Ok-clause-case : goal.returns-in-Ok-clause-case
+returns-in-Ok-clause-case c =
+    let made = c.in-Ok.field-0 in
+    c.of.ensures ∙ content_by_parts (said c.args.self) (map component_content made.components) (inputs_content made.inputs) c.in-Ok.ensures.components c.in-Ok.ensures.inputs

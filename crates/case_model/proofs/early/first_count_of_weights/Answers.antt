@@ -1,0 +1,11 @@
+use Rattle.std.proofs.Common.{◌≡◌, sym, ◌∙◌, not, length, rules, tests, ◌==◌}
+use Rattle.std.proofs.lemmas.Iterator.{YieldsList-from_slice}
+use Rattle.std.proofs.lemmas.Iterator.Search.{position_from_yields_List}
+use Rattle.case_model.specs.DraftView.{component_said}
+use Rattle.case_model.proofs.Places.{position-map}
+use Rattle.case_model.proofs.early.first_count_of_weights.Goals as goal
+
+pub returns : goal.returns
+returns c =
+    let xs = c.args.components.now in
+    position_from_yields_List (λ x. not (length (component_said x).weights == c.args.count)) _ _ _ c.position.ensures.ran (YieldsList-from_slice xs cc) (λ x b q k. search (rules, tests)) ∙ sym (position-map (λ k. not (length k.weights == c.args.count)) (component_said) xs)

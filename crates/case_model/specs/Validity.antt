@@ -1,0 +1,15 @@
+-- Which contents are those of cases.
+use Rattle.std.specs.Prelude.{◌≡◌, None}
+use Rattle.case_model.specs.Draft.{DraftContent}
+use Rattle.case_model.specs.Content.{Content, content_of}
+use Rattle.case_model.specs.CaseFaults.{case_fault}
+
+-- a draft without a fault that has this content
+pub record FaultlessDraft (c : Content) : Type 0 where
+  pub draft : DraftContent
+  pub content_is : content_of draft ≡ c
+  pub faultless : case_fault draft ≡ None
+
+-- the content of some draft without a fault
+abbrev pub IsValidContent : Content → Type 0
+IsValidContent c = ∥ FaultlessDraft c ∥₁

@@ -1,0 +1,107 @@
+use field_core::{List, NoMemory, Text, WideAt};
+
+/// Where a number stands in a draft. Components, hypotheses and arrivals are named by their places, from 0, and stages
+/// from 1.
+#[derive(Clone, Copy, PartialEq, Eq, Debug)]
+pub enum PartPlace {
+    Alpha,
+    /// Of a component.
+    Share(usize),
+    /// Of a component and a hypothesis.
+    Weight(usize, usize),
+    /// Of a component, from a hypothesis to a hypothesis.
+    Edge(usize, usize, usize),
+    /// Of a hypothesis.
+    P(usize),
+    /// Of a hypothesis and a stage.
+    Spend(usize, usize),
+    /// By its place in the list.
+    Arrival(usize),
+}
+
+/// Why a draft is refused. The rows are tested in this order, each for all components, hypotheses and places of a list,
+/// in ascending order, before the next. Components are named by their places, and hypotheses by their positions, from 0.
+#[derive(Clone, Copy, PartialEq, Eq, Debug)]
+pub enum CaseFault {
+    /// There is no name.
+    NoHypothesis,
+    /// There are more than 64 names, so many.
+    TooMany(u64),
+    /// A name isn't 1 to 32 bytes of letters, digits, `_`, `.` and `-`.
+    NameForm(usize),
+    /// A name is equal to an earlier one.
+    DuplicateName(usize),
+    /// There is no component.
+    NoComponent,
+    /// There are more than 8 components, so many.
+    TooManyComponents(u64),
+    /// A part of a number passes its limit: 10,000 for the level, 10^30 for the denominator of a p-value, 10^18 for a
+    /// share, a weight or a coefficient of an edge.
+    PartTooLong(PartPlace),
+    /// The level isn't above 0 and at most 1.
+    AlphaRange,
+    /// The share of a component is below 0.
+    ShareRange(usize),
+    /// The shares sum above 1.
+    ShareSum,
+    /// A component hasn't just one weight for each hypothesis.
+    WeightCount(usize),
+    /// In a component, the weight of a hypothesis is below 0.
+    WeightRange(usize, usize),
+    /// The weights of a component sum above 1.
+    WeightSum(usize),
+    /// In a component, an edge from a hypothesis to itself isn't 0.
+    SelfEdge(usize, usize),
+    /// In a component, an edge has the ends of an earlier one.
+    RepeatedEdge(usize, usize, usize),
+    /// In a component, an edge is below 0 or above 1.
+    EdgeRange(usize, usize, usize),
+    /// In a component, the edges from a hypothesis sum above 1.
+    RowSum(usize, usize),
+    /// There are stages, and p-values that belong to none.
+    Mixed,
+    /// There are p-values, so many places, and not just one for each hypothesis.
+    PCount(usize),
+    /// Some p-value is given, and that of a hypothesis isn't.
+    PMissing(usize),
+    /// The p-value of a hypothesis is below 0 or above 1.
+    PRange(usize),
+    /// There are 0 stages.
+    NoStage,
+    /// There are more than 12 stages, so many.
+    TooManyStages(u64),
+    /// A hypothesis hasn't just one fraction for each stage, or there is a list of fractions past the last hypothesis.
+    SpendCount(usize),
+    /// The fraction of a hypothesis at a stage is below 0.
+    SpendRange(usize, usize),
+    /// The fractions of a hypothesis sum above 1.
+    SpendSum(usize),
+    /// The stage of an arrival isn't one of the stages.
+    ArrivalStage(usize),
+    /// An arrival has the hypothesis and the stage of an earlier one.
+    ArrivalRepeated(usize),
+    /// The p-value of an arrival is below 0 or above 1.
+    ArrivalRange(usize),
+    /// A part of a written sum of shares, weights, edges or fractions passes its size. It is found in the place of the
+    /// row that tests the sum, before that row's own fault.
+    Wide(WideAt),
+    NoMemory,
+}
+
+impl From<NoMemory> for CaseFault {
+    ghost use Rattle.std.specs.Prelude.{◌≡◌};
+    ghost use Rattle.case_model.specs.declared.fault.CaseFault.TheVariants.{NoMemory as OutOfMemory};
+
+    ghost from_gives = { λ _ fault. fault ≡ OutOfMemory };
+
+    fn from(_: NoMemory) -> CaseFault {
+        CaseFault::NoMemory
+    }
+}
+
+/// A refused draft's names, all of them in their order, and why it is refused.
+#[derive(Drop)]
+pub struct Refused {
+    pub names: List<Text>,
+    pub fault: CaseFault,
+}
