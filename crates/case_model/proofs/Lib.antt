@@ -1,3 +1,4 @@
+pub mod CaseFacts
 pub mod Comparisons
 pub mod Constants
 pub mod EntryOrder
