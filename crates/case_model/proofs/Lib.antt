@@ -1,3 +1,4 @@
+pub mod CaseFacts
 pub mod ClosedTestLaws
 pub mod Comparisons
 pub mod Consonance

@@ -13,6 +13,7 @@ pub mod EntryView
 pub mod IntersectionStatements
 pub mod IntersectionWeight
 pub mod LegalOrder
+pub mod Names
 pub mod Rows
 pub mod Sums
 pub mod Validity

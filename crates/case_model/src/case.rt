@@ -22,7 +22,8 @@ impl Case {
     ghost use Rattle.fraction.specs.View.{terms_of, number_of};
     ghost use Rattle.case_model.specs.Sums.{terms_at};
     ghost use Rattle.case_model.specs.Entries.{entry_at};
-    ghost use Rattle.case_model.specs.Content.{component_at};
+    ghost use Rattle.case_model.specs.Content.{component_at, IfSingle, is_plain};
+    ghost use Rattle.case_model.specs.Names.{position_of};
     ghost use Rattle.case_model.specs.Validity.{IsValidContent};
     ghost use Rattle.case_model.specs.CaseView.{content};
     ghost use Rattle.case_model.specs.ComponentView.{inputs_content};
@@ -83,10 +84,51 @@ impl Case {
         self.components.as_slice()[c].share
     }
 
-    /// The p-values.
+    /// The weight of a hypothesis in a component.
+    pub fn weight(&self, c: usize, i: usize) -> Fraction
+        requires component { c < length (content self.now).components }
+        requires hypothesis { i < length (content self.now).names }
+        ensures { terms_of result ≡ terms_at (component_at (content self.now).components c).weights i }
+    {
+        self.components.as_slice()[c].weight(i)
+    }
+
+    /// The edge from a hypothesis to a hypothesis in a component.
+    pub fn edge(&self, c: usize, i: usize, j: usize) -> &Entry
+        requires component { c < length (content self.now).components }
+        requires from { i < length (content self.now).names }
+        requires to { j < length (content self.now).names }
+        ensures { coefficients_of result.now ≡ entry_at (length (content self.now).names) (component_at (content self.now).components c).edges i j }
+    {
+        self.components.as_slice()[c].edge(self.names.len(), i, j)
+    }
+
+    /// The p-values. Where there are single ones, there is one for each hypothesis.
     pub fn inputs(&self) -> &Inputs
-        ensures { inputs_content result.now ≡ (content self.now).inputs }
+        ensures inputs { inputs_content result.now ≡ (content self.now).inputs }
+        ensures count { IfSingle (inputs_content result.now) (λ ps. length ps ≡ length (content self.now).names) }
     {
         &self.inputs
+    }
+
+    /// Whether no edge has a coefficient other than 0 above power 0.
+    #[tactic(auto, unfolding(crate::specs::Content::is_plain))]
+    pub fn is_plain(&self) -> bool
+        ensures { result ≡ is_plain (content self.now) }
+    {
+        self.components
+            .as_slice()
+            .iter()
+            .all(|component| component.is_plain())
+    }
+
+    /// The position of the hypothesis of this name; `None` where no hypothesis has it.
+    pub fn position(&self, name: &[u8]) -> Option<usize>
+        ensures { result ≡ position_of name.now (content self.now).names }
+    {
+        self.names
+            .as_slice()
+            .iter()
+            .position(|other| name == other.as_bytes())
     }
 }

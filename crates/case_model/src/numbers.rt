@@ -1,9 +1,10 @@
 //! Tests of fractions.
-ghost use Rattle.std.specs.Prelude.{◌≡◌, not, map, position};
+ghost use Rattle.std.specs.Prelude.{◌≡◌, ◌≤◌, ◌<◌, not, map, length, position};
 ghost use Rattle.field_core.specs.Arithmetic.{number_zero, number_one, number_compare};
 ghost use Rattle.fraction.specs.View.{terms_of, number_of};
 ghost use Rattle.case_model.specs.Draft.{at_most, is_unit, is_within, is_short_level, is_short, is_short_p_value, is_level_range};
 ghost use Rattle.field_core.specs.Polynomial.{int_sign};
+ghost use Rattle.case_model.specs.Sums.{terms_at};
 ghost use Rattle.case_model.specs.Entries.{is_zero_terms, first_sign};
 ghost use Rattle.case_model.specs.CaseFaults.{is_below_zero};
 ghost use Rattle.std.specs.List.{list_all};
@@ -151,4 +152,13 @@ pub fn first_below_zero(fractions: &[Fraction]) -> Option<usize>
     fractions
         .iter()
         .position(|fraction| is_below_zero(fraction))
+}
+
+/// The fraction at a place of a list.
+pub fn at(fractions: &[Fraction], i: usize) -> Fraction
+    requires few { length fractions.now ≤ 64 }
+    requires within { i < length fractions.now }
+    ensures { terms_of result ≡ terms_at (map terms_of fractions.now) i }
+{
+    fractions[i]
 }
