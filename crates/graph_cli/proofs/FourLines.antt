@@ -2,7 +2,7 @@
 use Rattle.std.proofs.Common.{◌≡◌, ℕ, List, [], ◌∷◌, Result, Ok, Err, sym, ◌∙◌, subst}
 use Rattle.std.specs.Prelude.{IfOk}
 use Rattle.case_model.specs.declared.draft.Draft.{Draft}
-use Rattle.case_model.specs.CaseView.{said}
+use Rattle.case_model.specs.DraftView.{said}
 use Rattle.case_model.specs.Draft.{DraftContent}
 use Rattle.graph_cli.specs.declared.fault.FormFault.{FormFault}
 use Rattle.graph_cli.specs.Form.{lines_of, SayDraft, IsInForm}

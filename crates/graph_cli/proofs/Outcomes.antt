@@ -1,8 +1,9 @@
-use Rattle.std.proofs.Common.{◌≡◌, sym, ap, ◌∙◌, subst, ℕ, ◌≤◌, List, length, true, Result, Ok, Err}
+use Rattle.std.proofs.Common.{◌≡◌, sym, ap, ◌∙◌, subst, ℕ, ◌≤◌, List, length, None, Result, Ok, Err}
 use Rattle.std.specs.Prelude.{IfOk}
 use Rattle.field_core.specs.declared.memory.NoMemory.{NoMemory}
-use Rattle.case_model.specs.Content.{Content, drafted}
-use Rattle.case_model.specs.Draft.{DraftContent, is_valid}
+use Rattle.case_model.specs.CaseFaults.{case_fault}
+use Rattle.case_model.specs.Content.{Content, content_of}
+use Rattle.case_model.specs.Draft.{DraftContent}
 use Rattle.graph_cli.specs.declared.answer.Answer.{Answer}
 use Rattle.graph_cli.specs.Answer.{malformed}
 use Rattle.graph_cli.specs.Report.{AreRejected, IsDecided, decided}
@@ -20,7 +21,7 @@ pub malformed_of : (bytes : List ℕ) (result : Result Answer NoMemory) → IfOk
 malformed_of bytes (Ok answer) h o = subst (IsTestOutcome bytes) (sym h) o
 malformed_of bytes (Err e) h o = tt
 
--- the answer of bytes that say a valid case
-pub valid_of : (bytes : List ℕ) (result : Result Answer NoMemory) (c : Content) (d : DraftContent) → length bytes ≤ 4194304 → IsInForm bytes d → drafted c ≡ d → is_valid (drafted c) ≡ true → IfOk result (IsDecided c) → IfOk result (IsTestOutcome bytes)
-valid_of bytes (Ok answer) c d low f e v h = outcomes.valid answer low c (subst (IsInForm bytes) (sym e) f) v h
+-- the answer of bytes that say a draft without a fault
+pub valid_of : (bytes : List ℕ) (result : Result Answer NoMemory) (c : Content) (d : DraftContent) → length bytes ≤ 4194304 → IsInForm bytes d → c ≡ content_of d → case_fault d ≡ None → IfOk result (IsDecided c) → IfOk result (IsTestOutcome bytes)
+valid_of bytes (Ok answer) c d low f e v h = outcomes.valid answer low d f v (subst (λ x. IsDecided x answer) e h)
 valid_of bytes (Err x) c d low f e v h = tt

@@ -1,9 +1,9 @@
 -- The form of a case as four lines of words.
-use Rattle.std.specs.Prelude.{◌≡◌, ◌<◌, ◌==◌, ℕ, List, [], ◌∷◌, Some, map, length, codes}
+use Rattle.std.specs.Prelude.{◌≡◌, ◌<◌, ◌==◌, ℕ, List, [], ◌∷◌, Some, None, map, length, codes, pos}
 use Rattle.std.specs.List.{All, AllZip, slice_split}
 use Rattle.field_core.specs.Terms.{Terms}
 use Rattle.fraction.specs.Numeral.{IsNumeralOf}
-use Rattle.case_model.specs.Draft.{DraftContent}
+use Rattle.case_model.specs.Draft.{DraftContent, DraftComponentContent}
 
 -- the words of a line are what stands between its spaces
 unfoldable pub words_of : List ℕ → List (List ℕ)
@@ -36,14 +36,21 @@ pub record IsNumbersLine (keyword : List ℕ) (line : List ℕ) (values : List T
   pub some : 0 < length numerals
   pub each : AllZip Says numerals values
 
--- four lines say this draft
+-- a component of share 1 with these weights, without edges
+abbrev pub without_edges : List Terms → DraftComponentContent
+without_edges weights = record { share = record { num = pos 1; den = pos 1 }; weights = weights; edges = [] }
+
+-- four lines say this draft, which has one component and no stages
 pub record SayDraft (alpha_line names_line p_line weights_line : List ℕ) (draft : DraftContent) : Type 0 where
   pub alpha : IsAlphaLine alpha_line draft.alpha
   pub names : IsNamesLine names_line draft.names
   pub values : List Terms
   pub p : IsNumbersLine (codes "p") p_line values
   pub given : draft.p ≡ map Some values
-  pub weights : IsNumbersLine (codes "weights") weights_line draft.weights
+  pub weight_values : List Terms
+  pub weights : IsNumbersLine (codes "weights") weights_line weight_values
+  pub components : draft.components ≡ without_edges weight_values ∷ []
+  pub stages : draft.stages ≡ None
 
 -- The text has exactly four lines, each ended by a line feed, with one space between words, and they say this draft.
 pub record IsInForm (text : List ℕ) (draft : DraftContent) : Type 0 where

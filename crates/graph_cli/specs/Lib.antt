@@ -4,3 +4,4 @@ pub mod Laws
 pub mod Outcome
 pub mod Report
 pub mod Run
+pub mod WithoutEdges

@@ -1,8 +1,10 @@
 -- What the words and the bytes of a case call for: the first cause that holds decides.
-use Rattle.std.specs.Prelude.{◌≡◌, ◌<◌, ◌≤◌, ℕ, List, [], ◌∷◌, Result, Ok, Err, IfSome, Option, if◌then◌else◌, codes, length, true, false}
+use Rattle.std.specs.Prelude.{◌≡◌, ◌<◌, ◌≤◌, ℕ, List, [], ◌∷◌, Result, Ok, Err, IfSome, Option, if◌then◌else◌, codes, length, Some, None}
 use Rattle.std.specs.Str.{bytes_eq}
-use Rattle.case_model.specs.Content.{Content, drafted}
-use Rattle.case_model.specs.Draft.{DraftContent, is_valid}
+use Rattle.case_model.specs.declared.fault.CaseFault.{CaseFault}
+use Rattle.case_model.specs.CaseFaults.{case_fault}
+use Rattle.case_model.specs.Content.{content_of}
+use Rattle.case_model.specs.Draft.{DraftContent}
 use Rattle.graph_cli.specs.declared.answer.Answer.{Answer}
 use Rattle.graph_cli.specs.declared.words.Command.{Command}
 use Rattle.graph_cli.specs.declared.words.Command.TheVariants.{Test}
@@ -24,8 +26,8 @@ command_of (word ∷ more ∷ words) = if bytes_eq word (codes "test") then Err 
 pub data IsTestOutcome (bytes : List ℕ) : Answer → Type 0 where
   too_long : most_bytes < length bytes → IsTestOutcome bytes malformed
   not_in_form : length bytes ≤ most_bytes → ((d : DraftContent) → IsInForm bytes d → ⊥) → IsTestOutcome bytes malformed
-  not_valid : length bytes ≤ most_bytes → (d : DraftContent) → IsInForm bytes d → is_valid d ≡ false → IsTestOutcome bytes malformed
-  valid : (answer : Answer) → length bytes ≤ most_bytes → (c : Content) → IsInForm bytes (drafted c) → is_valid (drafted c) ≡ true → IsDecided c answer → IsTestOutcome bytes answer
+  not_valid : length bytes ≤ most_bytes → (d : DraftContent) → IsInForm bytes d → (fault : CaseFault) → case_fault d ≡ Some fault → IsTestOutcome bytes malformed
+  valid : (answer : Answer) → length bytes ≤ most_bytes → (d : DraftContent) → IsInForm bytes d → case_fault d ≡ None → IsDecided (content_of d) answer → IsTestOutcome bytes answer
 
 -- what a command answers to a case, where its bytes are told
 abbrev pub IsCommandOutcome : Result Command ℕ → Option (List ℕ) → Answer → Type 0

@@ -6,13 +6,13 @@ ghost use Rattle.std.specs.Str.{bytes_eq};
 ghost use Rattle.field_core.specs.Terms.{Terms};
 ghost use Rattle.fraction.specs.View.{terms_of};
 ghost use Rattle.case_model.specs.Draft.{DraftContent};
-ghost use Rattle.case_model.specs.CaseView.{said};
-ghost use Rattle.graph_cli.specs.Form.{Says, words_of, lines_of, IsAlphaLine, IsNamesLine, IsNumbersLine, SayDraft, IsInForm};
+ghost use Rattle.case_model.specs.DraftView.{said, component_said};
+ghost use Rattle.graph_cli.specs.Form.{Says, words_of, lines_of, IsAlphaLine, IsNamesLine, IsNumbersLine, SayDraft, IsInForm, without_edges};
 ghost use Rattle.graph_cli.specs.declared.fault.FormFault.TheVariants.{NotInForm};
 
 use crate::fault::FormFault;
-use case_model::Draft;
-use field_core::{List, NoMemory, Text};
+use case_model::{Draft, DraftComponent};
+use field_core::{List, NoMemory, Number, Text};
 use fraction::Fraction;
 use std::alloc::{AllocError, Global};
 
@@ -153,6 +153,19 @@ fn given(alloc: Global, values: &[Fraction]) -> Result<List<Option<Fraction>>, N
     Ok(given)
 }
 
+/// One component of share 1 with these weights, without edges.
+fn one_component(alloc: Global, weights: List<Fraction>) -> Result<List<DraftComponent>, NoMemory>
+    ensures { IfOk result (λ components. map component_said components ≡ without_edges (map terms_of weights) ∷ []) }
+{
+    let mut components = List::new(alloc);
+    components.push(DraftComponent {
+        share: Fraction::one(),
+        weights,
+        edges: List::new(alloc),
+    })?;
+    Ok(components)
+}
+
 /// The four lines of a case.
 #[derive(Clone, Copy)]
 struct FourLines<'a> {
@@ -192,7 +205,8 @@ fn draft(alloc: Global, four: FourLines) -> Result<Draft, FormFault>
         names,
         alpha,
         p,
-        weights,
+        components: one_component(alloc, weights)?,
+        stages: None,
     })
 }
 

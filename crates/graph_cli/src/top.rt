@@ -4,6 +4,7 @@ ghost use Rattle.graph_io.specs.Causes.{Rose};
 ghost use Rattle.graph_cli.specs.Outcome.{IsTestOutcome, IsOutcome, ReadsCase};
 ghost use Rattle.graph_cli.specs.Report.{IsDecided};
 ghost use Rattle.case_model.specs.CaseView.{content};
+ghost use Rattle.graph_cli.specs.WithoutEdges.{IsWithoutEdges};
 ghost use Rattle.graph_cli.specs.Run.{Runs, StopsFor, Finished, read_fault, no_memory};
 
 use crate::answer::{Answer, Stop};
@@ -22,6 +23,7 @@ const MOST_BYTES: u64 = 4_194_304;
 
 /// What is decided of a case.
 fn decide(alloc: Global, case: &Case) -> Result<Answer, NoMemory>
+    requires { IsWithoutEdges (content case.now) }
     ensures { IfOk result (IsDecided (content case.now)) }
 {
     let rejected = rejected(alloc, case)?;
@@ -41,8 +43,8 @@ fn test_answer(alloc: Global, bytes: &[u8]) -> Result<Answer, NoMemory>
     match draft.finish(alloc) {
         Ok(case) => decide(alloc, &case),
         Err(refused) => match refused.fault {
-            CaseFault::NotValid => malformed(alloc),
             CaseFault::NoMemory => Err(NoMemory),
+            _ => malformed(alloc),
         },
     }
 }

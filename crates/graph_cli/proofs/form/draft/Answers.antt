@@ -16,4 +16,4 @@ returns-in_err-p-clause-refused c = λ e d s.
 pub returns-in_err-weights-clause-refused : goal.returns-in_err-weights-clause-refused
 returns-in_err-weights-clause-refused c = λ e d s.
     let p = err_from_is_err_and c.from_residual-in_err-weights.result c.from_residual-in_err-weights.ensures.1 in
-    c.in_err-weights.ensures.refused (handed_on _ _ _ _ _ p.1 p.2 e refl) d.weights s.weights
+    c.in_err-weights.ensures.refused (handed_on _ _ _ _ _ p.1 p.2 e refl) s.weight_values s.weights

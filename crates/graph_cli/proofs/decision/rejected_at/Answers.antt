@@ -1,8 +1,8 @@
 use Rattle.std.proofs.Common.{◌≡◌, sym, ◌∙◌, true, false}
 use Rattle.case_model.specs.CaseView.{content}
 use Rattle.graph_cli.proofs.Rejections.{taken, passed_over}
-use Rattle.graph_cli.proofs.decision.rejected.Goals as goal
-use Rattle.graph_cli.proofs.decision.rejected.Goals.{then-is_rejected+in_ok-push, else-is_rejected}
+use Rattle.graph_cli.proofs.decision.rejected_at.Goals as goal
+use Rattle.graph_cli.proofs.decision.rejected_at.Goals.{then-is_rejected+in_ok-push, else-is_rejected}
 
 pub loop-j-preserved : goal.loop-j-preserved
 loop-j-preserved c =
