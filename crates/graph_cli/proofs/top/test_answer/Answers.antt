@@ -1,4 +1,4 @@
-use Rattle.std.proofs.Common.{refl}
+use Rattle.std.proofs.Common.{refl, inl, inr}
 use Rattle.case_model.specs.CaseView.{content}
 use Rattle.graph_cli.specs.Outcome.{IsTestOutcome}
 use Rattle.graph_cli.specs.Outcome as outcomes
