@@ -26,7 +26,7 @@ pub test_status : (bytes : List ℕ) (a : Answer) → IsTestOutcome bytes a → 
 test_status bytes a (too_long l) = low_malformed
 test_status bytes a (not_in_form l n) = low_malformed
 test_status bytes a (not_valid l d i x v) = low_malformed
-test_status bytes a (valid a' l c i v d) = let e = ap (λ x. x.status) d.printed ∙ decided_status c d.positions in omega arith
+test_status bytes a (valid a' l c i v d) = let e = ap (λ x. x.status) d.printed ∙ decided_status _ d.positions in omega arith
 
 pub malformed_low : (a : Answer) → a ≡ malformed → a.status ≤ 5
 malformed_low a e = let h = ap (λ x. x.status) e ∙ malformed_status in omega arith
