@@ -1,5 +1,5 @@
 -- Each text has a value or a fault, so that reading a numeral is a function of its text.
-use Rattle.std.proofs.Common.{◌≡◌, ℕ, suc, ◌+◌, ◌-◌, ◌*◌, ◌^◌, ◌<◌, ◌≤◌, ◌⊎◌, inl, inr, Bool, true, false, List, [], ◌∷◌, ◌++◌, length, take, ℤ, pos, negsuc, ◌-ℤ◌, ◌<ℤ◌, unsigned_abs, Option, Some, None, Result, Ok, Err, IfOk, IfErr, refl, sym, ap, ◌∙◌, arith}
+use Rattle.std.proofs.Common.{◌≡◌, ℕ, suc, ◌+◌, ◌-◌, ◌*◌, ◌^◌, ◌<◌, ◌≤◌, ◌⊎◌, inl, inr, Bool, true, false, List, ◌++◌, length, take, ℤ, pos, negsuc, ◌-ℤ◌, ◌<ℤ◌, Result, Ok, Err, IfOk, IfErr, refl, sym, ap, arith}
 use Rattle.std.specs.Str.Parse.{digits_value}
 use Rattle.std.proofs.lemmas.Bool.{cases_lt}
 use Rattle.std.proofs.lemmas.Int.{ints}
@@ -9,11 +9,10 @@ use Rattle.fraction.specs.declared.fault.NumberFault.{NumberFault}
 use Rattle.fraction.specs.declared.fault.NumberFault.TheVariants.{Empty, BadByte, ZeroDenominator, TooManyDigits}
 use Rattle.fraction.specs.declared.machine.State.TheVariants.{Start}
 use Rattle.fraction.specs.declared.size.Size.{Size}
-use Rattle.fraction.specs.Numeral.{AreDigits, exponent_of, Body, Plain, Pointed, Pair, IsBody, is_minus, value_of, without_leading_zeros, trailing_zeros, PassesLimit, IsTooLong, IsNumeral, IsNumeralOf, IsParseFault}
+use Rattle.fraction.specs.Numeral.{AreDigits, exponent_of, Body, Plain, Pointed, Pair, IsBody, is_minus, without_leading_zeros, trailing_zeros, PassesLimit, IsTooLong, IsNumeral, IsNumeralOf, IsParseFault}
 use Rattle.fraction.specs.Checking.{IsChecked}
 use Rattle.fraction.specs.Lowest.{lowest_of}
-use Rattle.fraction.specs.Reading.{IsRead}
-use Rattle.fraction.specs.Sizes.{quotient_of, IsScaled, IsDecimalSize, IsBodySize}
+use Rattle.fraction.specs.Sizes.{IsScaled, IsDecimalSize, IsBodySize}
 use Rattle.fraction.proofs.Accepted.{reads}
 use Rattle.fraction.proofs.Bodies.{pair_zero, pair_some, pair_long, pair_ok, plain, pointed}
 use Rattle.fraction.proofs.Cut.{digits_append, digits_without, first_below}
@@ -114,10 +113,10 @@ pair_size over under h k =
         | inr short ↦ elim (cases_lt 38 (length vs)) [
           | inl long ↦ (Err TooManyDigits, pair_long over under us vs refl refl k some (inr long))
           | inr few ↦
-            let num : digits_value 10 us < (0 + 1) * 10 ^ length us = value_below 0 us (digits_without over h) in
-            let den : digits_value 10 vs < (0 + 1) * 10 ^ length vs = value_below 0 vs (digits_without under k) in
-            let x : Size = record { num = digits_value 10 us; den = digits_value 10 vs; some = pair_some under vs _ refl k some refl; num_size = omega (arith, power_small (length us) short); den_size = omega (arith, power_small (length vs) few) } in
-            (Ok x, pair_ok over under us vs x refl refl k some short few refl refl)
+              let num : digits_value 10 us < (0 + 1) * 10 ^ length us = value_below 0 us (digits_without over h) in
+              let den : digits_value 10 vs < (0 + 1) * 10 ^ length vs = value_below 0 vs (digits_without under k) in
+              let x : Size = record { num = digits_value 10 us; den = digits_value 10 vs; some = pair_some under vs _ refl k some refl; num_size = omega (arith, power_small (length us) short); den_size = omega (arith, power_small (length vs) few) } in
+              (Ok x, pair_ok over under us vs x refl refl k some short few refl refl)
         ]
       ]
     ]
