@@ -1,0 +1,7 @@
+//! Tests that cross crates: whole runs of the top call over sources and sinks in memory.
+#![tactic(auto)]
+
+#[cfg(test)]
+mod decided;
+#[cfg(test)]
+mod runs;
