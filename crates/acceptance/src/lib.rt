@@ -4,4 +4,12 @@
 #[cfg(test)]
 mod decided;
 #[cfg(test)]
+mod devices;
+#[cfg(test)]
+mod malformed;
+#[cfg(test)]
 mod runs;
+#[cfg(test)]
+mod too_long;
+#[cfg(test)]
+mod words;

@@ -52,3 +52,11 @@ pub fn test_of(alloc: Global, bytes: List<u8>) -> Result<Ended, NoMemory> {
     let status = status_of_test(alloc, &mut case, &mut out)?;
     Ok(Ended { status, out })
 }
+
+/// Appends a piece so many times.
+pub fn repeated(text: &mut List<u8>, piece: &[u8], times: u32) -> Result<(), NoMemory> {
+    for _ in 0..times {
+        text.append(piece)?;
+    }
+    Ok(())
+}

@@ -1,0 +1,45 @@
+//! Words that aren't accepted.
+use crate::runs::{TIE, list_of, words_of};
+use field_core::List;
+use graph_cli::run;
+use graph_io::{Failed, FailingSource, MemorySink, MemorySource, Source};
+use std::test::Fail;
+
+const REFUSED: [(&[&str], &str); 14] = [
+    (&[], "usage: word 1\n"),
+    (&[""], "usage: word 1\n"),
+    (&["tests"], "usage: word 1\n"),
+    (&["tes"], "usage: word 1\n"),
+    (&["Test"], "usage: word 1\n"),
+    (&["test "], "usage: word 1\n"),
+    (&["help"], "usage: word 1\n"),
+    (&["--help"], "usage: word 1\n"),
+    (&["help", "test"], "usage: word 1\n"),
+    (&["", "test"], "usage: word 1\n"),
+    (&["test", "test"], "usage: word 2\n"),
+    (&["test", ""], "usage: word 2\n"),
+    (&["test", "-"], "usage: word 2\n"),
+    (&["test", "--x", "y"], "usage: word 2\n"),
+];
+
+/// The first take of the case is to fail, and it isn't made by the run.
+#[test]
+fn words_are_refused_before_the_case_is_read(rt: HostRuntime) -> Result<(), Fail> {
+    let alloc = rt.alloc();
+    for (words, printed) in REFUSED {
+        let copies = words_of(alloc, words)?;
+        let mut case = FailingSource::new(
+            list_of(alloc, TIE.as_bytes())?,
+            4,
+            list_of(alloc, &[1])?,
+        );
+        let mut proof = MemorySource::new(List::new(alloc));
+        let mut out = MemorySink::with_room(alloc, 4096)?;
+        let status = run(alloc, copies.as_slice(), &mut case, &mut proof, &mut out);
+        assert_eq!(rt; out.held(), printed.as_bytes(), "{words:?}");
+        assert_eq!(rt; status, 2, "{words:?}");
+        assert_eq!(rt; case.take(&mut [0; 4]), Err(Failed), "{words:?}");
+        assert_eq!(rt; case.take(&mut [0; 4]), Ok(4), "{words:?}");
+    }
+    Ok(())
+}
