@@ -1,7 +1,8 @@
 //! Cases that are decided, and what is printed of them.
-use crate::runs::{TIE, TIE_DECIDED, list_of, repeated, test_of};
+use crate::runs::{TIE, TIE_DECIDED, expect_answer, list_of, repeated};
 use field_core::{List, NoMemory};
 use std::alloc::Global;
+use std::process::Abort;
 use std::test::Fail;
 
 /// Cases of which some hypothesis is rejected.
@@ -48,43 +49,26 @@ const SOME_REJECTED: [(&str, &str); 9] = [
     ),
 ];
 
-#[test]
-fn some_are_rejected(rt: HostRuntime) -> Result<(), Fail> {
-    let alloc = rt.alloc();
-    for (text, printed) in SOME_REJECTED {
-        let ended = test_of(alloc, list_of(alloc, text.as_bytes())?)?;
-        assert_eq!(rt; ended.out.held(), printed.as_bytes(), "{text}");
-        assert_eq!(rt; ended.status, 0, "{text}");
-    }
-    Ok(())
-}
+/// What is printed at the level 1/20 where no hypothesis is rejected.
+const NONE: &str = "alpha 1/20\nrejected\nend\n";
 
 /// Cases at the level 1/20 of which no hypothesis is rejected.
-const NONE_REJECTED: [&str; 5] = [
-    "alpha 0.05\nhypotheses H1\np 1\nweights 1\n",
+const NONE_REJECTED: [(&str, &str); 5] = [
+    ("alpha 0.05\nhypotheses H1\np 1\nweights 1\n", NONE),
     // A weight of 0 rejects nothing.
-    "alpha 0.05\nhypotheses H1 H2\np 0.2 0\nweights 1 0\n",
-    "alpha 0.05\nhypotheses H1 H2\np 0 0\nweights 0 0\n",
+    ("alpha 0.05\nhypotheses H1 H2\np 0.2 0\nweights 1 0\n", NONE),
+    ("alpha 0.05\nhypotheses H1 H2\np 0 0\nweights 0 0\n", NONE),
     // Both p-values are below the level, and above their thresholds of 1/40.
-    "alpha 0.05\nhypotheses H1 H2\np 0.026 0.026\nweights 0.5 0.5\n",
+    (
+        "alpha 0.05\nhypotheses H1 H2\np 0.026 0.026\nweights 0.5 0.5\n",
+        NONE,
+    ),
     // The p-value is 10^-30 above the threshold.
-    "alpha 0.05\nhypotheses H1\np 0.050000000000000000000000000001\nweights 1\n",
+    (
+        "alpha 0.05\nhypotheses H1\np 0.050000000000000000000000000001\nweights 1\n",
+        NONE,
+    ),
 ];
-
-#[test]
-fn none_is_rejected(rt: HostRuntime) -> Result<(), Fail> {
-    let alloc = rt.alloc();
-    for text in NONE_REJECTED {
-        let ended = test_of(alloc, list_of(alloc, text.as_bytes())?)?;
-        assert_eq!(rt;
-            ended.out.held(),
-            b"alpha 1/20\nrejected\nend\n".as_slice(),
-            "{text}"
-        );
-        assert_eq!(rt; ended.status, 0, "{text}");
-    }
-    Ok(())
-}
 
 /// Spellings of names and numbers that are taken, up to their limits.
 const SPELLINGS: [(&str, &str); 10] = [
@@ -136,20 +120,31 @@ const SPELLINGS: [(&str, &str); 10] = [
     ),
 ];
 
-#[test]
-fn spellings_are_taken(rt: HostRuntime) -> Result<(), Fail> {
-    let alloc = rt.alloc();
-    for (text, printed) in SPELLINGS {
-        let ended = test_of(alloc, list_of(alloc, text.as_bytes())?)?;
-        assert_eq!(rt; ended.out.held(), printed.as_bytes(), "{text}");
-        assert_eq!(rt; ended.status, 0, "{text}");
+/// A run over each of these texts prints what stands beside it.
+fn expect_decided(rt: &impl Abort, alloc: Global, rows: &[(&str, &str)]) -> Result<(), NoMemory> {
+    for (text, printed) in rows {
+        let bytes = list_of(alloc, text.as_bytes())?;
+        expect_answer(rt, alloc, text, bytes, (0, printed))?;
     }
     Ok(())
 }
 
-/// The first 64 names.
+#[test]
+fn cases_are_decided(rt: HostRuntime) -> Result<(), Fail> {
+    let alloc = rt.alloc();
+    expect_decided(&rt, alloc, &SOME_REJECTED)?;
+    expect_decided(&rt, alloc, &NONE_REJECTED)?;
+    expect_decided(&rt, alloc, &SPELLINGS)?;
+    Ok(())
+}
+
+/// 64 names.
 const NAMES: &str =
     " 1 2 3 4 5 6 7 8 9 10 11 12 13 14 15 16 17 18 19 20 21 22 23 24 25 26 27 28 29 30 31 32 33 34 35 36 37 38 39 40 41 42 43 44 45 46 47 48 49 50 51 52 53 54 55 56 57 58 59 60 61 62 63 64";
+
+/// What is printed where each of them is rejected.
+const NAMES_REJECTED: &str =
+    "alpha 1/20\nrejected 1 2 3 4 5 6 7 8 9 10 11 12 13 14 15 16 17 18 19 20 21 22 23 24 25 26 27 28 29 30 31 32 33 34 35 36 37 38 39 40 41 42 43 44 45 46 47 48 49 50 51 52 53 54 55 56 57 58 59 60 61 62 63 64\nend\n";
 
 /// A case of these names, so many, each with p-value 0 and weight 1/100.
 fn case_of(alloc: Global, names: &[&str], count: u32) -> Result<List<u8>, NoMemory> {
@@ -166,22 +161,11 @@ fn case_of(alloc: Global, names: &[&str], count: u32) -> Result<List<u8>, NoMemo
 }
 
 #[test]
-fn sixty_four_hypotheses_are_decided(rt: HostRuntime) -> Result<(), Fail> {
+fn no_more_than_64_hypotheses_are_decided(rt: HostRuntime) -> Result<(), Fail> {
     let alloc = rt.alloc();
-    let ended = test_of(alloc, case_of(alloc, &[NAMES], 64)?)?;
-    let mut printed = list_of(alloc, b"alpha 1/20\nrejected")?;
-    printed.append(NAMES.as_bytes())?;
-    printed.append(b"\nend\n")?;
-    assert_eq!(rt; ended.out.held(), printed.as_slice());
-    assert_eq!(rt; ended.status, 0);
-    Ok(())
-}
-
-#[test]
-fn sixty_five_hypotheses_are_too_many(rt: HostRuntime) -> Result<(), Fail> {
-    let alloc = rt.alloc();
-    let ended = test_of(alloc, case_of(alloc, &[NAMES, " 65"], 65)?)?;
-    assert_eq!(rt; ended.out.held(), b"malformed\n".as_slice());
-    assert_eq!(rt; ended.status, 3);
+    let most = case_of(alloc, &[NAMES], 64)?;
+    expect_answer(&rt, alloc, "64", most, (0, NAMES_REJECTED))?;
+    let more = case_of(alloc, &[NAMES, " 65"], 65)?;
+    expect_answer(&rt, alloc, "65", more, (3, "malformed\n"))?;
     Ok(())
 }

@@ -1,49 +1,72 @@
 //! Sources and sinks that fail, and ones that move few bytes a call.
-use crate::runs::{TIE, TIE_DECIDED, list_of, status_of_test, words_of};
+use crate::runs::{TIE, TIE_DECIDED, list_of, status_of};
 use field_core::{List, NoMemory};
-use graph_cli::run;
 use graph_io::{FailingSink, FailingSource, MemorySink, MemorySource};
 use std::alloc::Global;
+use std::process::Abort;
 use std::test::Fail;
 
-/// A source of these bytes that moves 4 of them a take.
-fn by_fours(alloc: Global, text: &str, fails: &[u64]) -> Result<FailingSource, NoMemory> {
-    let bytes = list_of(alloc, text.as_bytes())?;
-    Ok(FailingSource::new(bytes, 4, list_of(alloc, fails)?))
+/// A run over a source that moves 4 bytes a take and fails at some takes, and a sink that takes 5 bytes a put and fails
+/// at one put, and how it ends. Takes and puts count from 1; at 0 none fails.
+#[derive(Clone, Copy)]
+struct Row<'a> {
+    words: &'a [&'a str],
+    text: &'a str,
+    take: u64,
+    put: u64,
+    status: u8,
+    held: &'a str,
 }
 
-/// A sink that takes 5 bytes a put and fails at one.
-fn failing_at(alloc: Global, put: u64) -> Result<FailingSink, NoMemory> {
-    FailingSink::new(alloc, 5, list_of(alloc, &[put])?)
+fn expect_end(rt: &impl Abort, alloc: Global, row: Row) -> Result<(), NoMemory> {
+    let bytes = list_of(alloc, row.text.as_bytes())?;
+    let mut case = FailingSource::new(bytes, 4, list_of(alloc, &[row.take])?);
+    let mut out = FailingSink::new(alloc, 5, list_of(alloc, &[row.put])?)?;
+    let answered = status_of(alloc, row.words, &mut case, &mut out)?;
+    assert_eq!(rt;
+        out.held(),
+        row.held.as_bytes(),
+        "{:?} {} {}",
+        row.words,
+        row.take,
+        row.put
+    );
+    assert_eq!(rt;
+        answered,
+        row.status,
+        "{:?} {} {}",
+        row.words, row.take, row.put
+    );
+    Ok(())
 }
 
-/// The case has 58 bytes: 14 takes of 4, one of 2, and the end.
+/// The tie with one failing take or put.
+fn tie<'a>(take: u64, put: u64, status: u8, held: &'a str) -> Row<'a> {
+    Row {
+        words: &["test"],
+        text: TIE,
+        take,
+        put,
+        status,
+        held,
+    }
+}
+
+/// The tie has 58 bytes: 14 takes of 4, one of 2, and one that tells the end.
 const TAKES: u64 = 16;
 
 #[test]
 fn each_take_can_fail(rt: HostRuntime) -> Result<(), Fail> {
     let alloc = rt.alloc();
     for take in 1..=TAKES {
-        let mut out = MemorySink::with_room(alloc, 4096)?;
-        let status = status_of_test(alloc, &mut by_fours(alloc, TIE, &[take])?, &mut out)?;
-        assert_eq!(rt; out.held(), b"read fault\n".as_slice(), "{take}");
-        assert_eq!(rt; status, 6, "{take}");
+        expect_end(&rt, alloc, tie(take, 0, 6, "read fault\n"))?;
     }
+    expect_end(&rt, alloc, tie(TAKES + 1, 0, 0, TIE_DECIDED))?;
     Ok(())
 }
 
-#[test]
-fn no_take_comes_behind_the_end(rt: HostRuntime) -> Result<(), Fail> {
-    let alloc = rt.alloc();
-    let mut out = MemorySink::with_room(alloc, 4096)?;
-    let status = status_of_test(alloc, &mut by_fours(alloc, TIE, &[TAKES + 1])?, &mut out)?;
-    assert_eq!(rt; out.held(), TIE_DECIDED.as_bytes());
-    assert_eq!(rt; status, 0);
-    Ok(())
-}
-
-/// What the sink holds where each of its puts in turn fails: the answer has 27 bytes.
-const DECIDED_UP_TO: [&str; 6] = [
+/// What the sink holds before each of its puts: the answer has 27 bytes.
+const BEFORE_PUT: [&str; 6] = [
     "",
     "alpha",
     "alpha 1/20",
@@ -55,59 +78,41 @@ const DECIDED_UP_TO: [&str; 6] = [
 #[test]
 fn each_put_can_fail(rt: HostRuntime) -> Result<(), Fail> {
     let alloc = rt.alloc();
-    for (before, held) in DECIDED_UP_TO.iter().enumerate() {
-        let mut out = failing_at(alloc, before as u64 + 1)?;
-        let status = status_of_test(alloc, &mut by_fours(alloc, TIE, &[])?, &mut out)?;
-        assert_eq!(rt; out.held(), held.as_bytes(), "{held}");
-        assert_eq!(rt; status, 7, "{held}");
+    for (before, held) in BEFORE_PUT.iter().enumerate() {
+        expect_end(&rt, alloc, tie(0, before as u64 + 1, 7, held))?;
     }
+    expect_end(&rt, alloc, tie(0, 7, 0, TIE_DECIDED))?;
     Ok(())
 }
 
-#[test]
-fn no_put_comes_behind_the_answer(rt: HostRuntime) -> Result<(), Fail> {
-    let alloc = rt.alloc();
-    let mut out = failing_at(alloc, 7)?;
-    let status = status_of_test(alloc, &mut by_fours(alloc, TIE, &[])?, &mut out)?;
-    assert_eq!(rt; out.held(), TIE_DECIDED.as_bytes());
-    assert_eq!(rt; status, 0);
-    Ok(())
-}
-
-/// What the sink holds where its puts fail one by one while a refusal is put, and the status: what is put is the line
-/// of a fault of the source, and then `malformed`.
-const REFUSALS_UP_TO: [(&str, &[u64], u64, u8, &str); 7] = [
-    (TIE, &[2], 1, 7, ""),
-    (TIE, &[2], 2, 7, "read "),
-    (TIE, &[2], 3, 7, "read fault"),
-    (TIE, &[2], 4, 6, "read fault\n"),
-    ("alpha 2\n", &[], 1, 7, ""),
-    ("alpha 2\n", &[], 2, 7, "malfo"),
-    ("alpha 2\n", &[], 3, 3, "malformed\n"),
+/// Each put of a line that says why there is no answer.
+const REFUSALS: [(&[&str], &str, u64, u64, u8, &str); 11] = [
+    (&["test"], TIE, 2, 1, 7, ""),
+    (&["test"], TIE, 2, 2, 7, "read "),
+    (&["test"], TIE, 2, 3, 7, "read fault"),
+    (&["test"], TIE, 2, 4, 6, "read fault\n"),
+    (&["test"], "alpha 2\n", 0, 1, 7, ""),
+    (&["test"], "alpha 2\n", 0, 2, 7, "malfo"),
+    (&["test"], "alpha 2\n", 0, 3, 3, "malformed\n"),
+    (&["test", "test"], TIE, 1, 1, 7, ""),
+    (&["test", "test"], TIE, 1, 2, 7, "usage"),
+    (&["test", "test"], TIE, 1, 3, 7, "usage: wor"),
+    (&["test", "test"], TIE, 1, 4, 2, "usage: word 2\n"),
 ];
 
 #[test]
-fn refusals_can_fail(rt: HostRuntime) -> Result<(), Fail> {
-    let alloc = rt.alloc();
-    for (text, takes, put, wanted, held) in REFUSALS_UP_TO {
-        let mut out = failing_at(alloc, put)?;
-        let status = status_of_test(alloc, &mut by_fours(alloc, text, takes)?, &mut out)?;
-        assert_eq!(rt; out.held(), held.as_bytes(), "{text} {put}");
-        assert_eq!(rt; status, wanted, "{text} {put}");
+fn each_put_of_a_refusal_can_fail(rt: HostRuntime) -> Result<(), Fail> {
+    for (words, text, take, put, status, held) in REFUSALS {
+        let row = Row {
+            words,
+            text,
+            take,
+            put,
+            status,
+            held,
+        };
+        expect_end(&rt, rt.alloc(), row)?;
     }
-    Ok(())
-}
-
-#[test]
-fn a_refusal_of_words_can_fail(rt: HostRuntime) -> Result<(), Fail> {
-    let alloc = rt.alloc();
-    let words = words_of(alloc, &["test", "test"])?;
-    let mut proof = MemorySource::new(List::new(alloc));
-    let mut out = failing_at(alloc, 3)?;
-    let mut case = by_fours(alloc, TIE, &[1])?;
-    let status = run(alloc, words.as_slice(), &mut case, &mut proof, &mut out);
-    assert_eq!(rt; out.held(), b"usage: wor".as_slice());
-    assert_eq!(rt; status, 7);
     Ok(())
 }
 
@@ -121,14 +126,14 @@ fn short_takes_and_puts_change_nothing(rt: HostRuntime) -> Result<(), Fail> {
         let bytes = list_of(alloc, TIE.as_bytes())?;
         let mut case = FailingSource::new(bytes, cap, List::new(alloc));
         let mut out = FailingSink::new(alloc, cap, List::new(alloc))?;
-        let status = status_of_test(alloc, &mut case, &mut out)?;
+        let status = status_of(alloc, &["test"], &mut case, &mut out)?;
         assert_eq!(rt; out.held(), TIE_DECIDED.as_bytes(), "{cap}");
         assert_eq!(rt; status, 0, "{cap}");
     }
     Ok(())
 }
 
-/// The room of a sink, and what it holds.
+/// The room of a sink, the status, and what it holds in the end.
 const ROOMS: [(usize, u8, &str); 4] = [
     (0, 7, ""),
     (12, 7, "alpha 1/20\nr"),
@@ -140,8 +145,9 @@ const ROOMS: [(usize, u8, &str); 4] = [
 fn want_of_room_is_a_fault(rt: HostRuntime) -> Result<(), Fail> {
     let alloc = rt.alloc();
     for (room, wanted, held) in ROOMS {
+        let mut case = MemorySource::new(list_of(alloc, TIE.as_bytes())?);
         let mut out = MemorySink::with_room(alloc, room)?;
-        let status = status_of_test(alloc, &mut by_fours(alloc, TIE, &[])?, &mut out)?;
+        let status = status_of(alloc, &["test"], &mut case, &mut out)?;
         assert_eq!(rt; out.held(), held.as_bytes(), "{room}");
         assert_eq!(rt; status, wanted, "{room}");
     }

@@ -1,13 +1,17 @@
 //! Texts that are no case.
-use crate::runs::{list_of, test_of};
+use crate::runs::{expect_answer, list_of};
 use field_core::NoMemory;
 use std::alloc::Global;
+use std::process::Abort;
 use std::test::Fail;
 
-/// Whether a text is refused as malformed, and nothing else is said.
-fn is_malformed(alloc: Global, text: &str) -> Result<bool, NoMemory> {
-    let ended = test_of(alloc, list_of(alloc, text.as_bytes())?)?;
-    Ok(ended.status == 3 && ended.out.held() == b"malformed\n".as_slice())
+/// A run over each of these texts says that it is malformed.
+fn expect_malformed(rt: &impl Abort, alloc: Global, texts: &[&str]) -> Result<(), NoMemory> {
+    for text in texts {
+        let bytes = list_of(alloc, text.as_bytes())?;
+        expect_answer(rt, alloc, text, bytes, (3, "malformed\n"))?;
+    }
+    Ok(())
 }
 
 const LINES: [&str; 24] = [
@@ -46,14 +50,6 @@ const LINES: [&str; 24] = [
     "alpha 0.05\nhypotheses H1 H2\nP 0.025 0.026\nweights 1/2 1/2\n",
 ];
 
-#[test]
-fn lines_are_refused(rt: HostRuntime) -> Result<(), Fail> {
-    for text in LINES {
-        assert!(rt; is_malformed(rt.alloc(), text)?, "{text}");
-    }
-    Ok(())
-}
-
 const SPACES: [&str; 20] = [
     // Two spaces.
     "alpha  0.05\nhypotheses H1 H2\np 0.025 0.026\nweights 1/2 1/2\n",
@@ -81,14 +77,6 @@ const SPACES: [&str; 20] = [
     "\u{feff}alpha 0.05\nhypotheses H1 H2\np 0.025 0.026\nweights 1/2 1/2\n",
 ];
 
-#[test]
-fn spaces_are_refused(rt: HostRuntime) -> Result<(), Fail> {
-    for text in SPACES {
-        assert!(rt; is_malformed(rt.alloc(), text)?, "{text}");
-    }
-    Ok(())
-}
-
 const NAMES: [&str; 12] = [
     // None, and an empty one.
     "alpha 0.05\nhypotheses\np 0.025\nweights 1/2\n",
@@ -107,14 +95,6 @@ const NAMES: [&str; 12] = [
     "alpha 0.05\nhypotheses H\u{e9}\np 0.025\nweights 1\n",
     "alpha 0.05\nhypotheses H1 \"H2\"\np 0.025 0.026\nweights 1/2 1/2\n",
 ];
-
-#[test]
-fn names_are_refused(rt: HostRuntime) -> Result<(), Fail> {
-    for text in NAMES {
-        assert!(rt; is_malformed(rt.alloc(), text)?, "{text}");
-    }
-    Ok(())
-}
 
 const LEVELS: [&str; 16] = [
     // None, and two.
@@ -138,14 +118,6 @@ const LEVELS: [&str; 16] = [
     "alpha 1/20.0\nhypotheses H1\np 0.01\nweights 1\n",
     "alpha 1/2e1\nhypotheses H1\np 0.01\nweights 1\n",
 ];
-
-#[test]
-fn levels_are_refused(rt: HostRuntime) -> Result<(), Fail> {
-    for text in LEVELS {
-        assert!(rt; is_malformed(rt.alloc(), text)?, "{text}");
-    }
-    Ok(())
-}
 
 const P_VALUES: [&str; 18] = [
     // None, too few and too many.
@@ -173,14 +145,6 @@ const P_VALUES: [&str; 18] = [
     "alpha 0.05\nhypotheses H1 H2\np 0.01 NA\nweights 1/2 1/2\n",
 ];
 
-#[test]
-fn p_values_are_refused(rt: HostRuntime) -> Result<(), Fail> {
-    for text in P_VALUES {
-        assert!(rt; is_malformed(rt.alloc(), text)?, "{text}");
-    }
-    Ok(())
-}
-
 const WEIGHTS: [&str; 15] = [
     // None, too few and too many.
     "alpha 0.05\nhypotheses H1\np 0.01\nweights\n",
@@ -206,9 +170,13 @@ const WEIGHTS: [&str; 15] = [
 ];
 
 #[test]
-fn weights_are_refused(rt: HostRuntime) -> Result<(), Fail> {
-    for text in WEIGHTS {
-        assert!(rt; is_malformed(rt.alloc(), text)?, "{text}");
-    }
+fn other_texts_are_malformed(rt: HostRuntime) -> Result<(), Fail> {
+    let alloc = rt.alloc();
+    expect_malformed(&rt, alloc, &LINES)?;
+    expect_malformed(&rt, alloc, &SPACES)?;
+    expect_malformed(&rt, alloc, &NAMES)?;
+    expect_malformed(&rt, alloc, &LEVELS)?;
+    expect_malformed(&rt, alloc, &P_VALUES)?;
+    expect_malformed(&rt, alloc, &WEIGHTS)?;
     Ok(())
 }

@@ -1,13 +1,14 @@
 //! Inputs of the greatest length, and longer ones.
-use crate::runs::{TIE_DECIDED, list_of, repeated, status_of_test, test_of};
+use crate::runs::{TIE_DECIDED, expect_answer, list_of, repeated, status_of};
 use field_core::{List, NoMemory};
 use graph_io::{MemorySink, MemorySource, Source};
 use std::alloc::Global;
 use std::test::Fail;
 
-/// A case of 58 bytes with so many noughts more before its level.
+/// A case of 58 bytes with 4,193,280 noughts more before its level, and so many.
 fn padded(alloc: Global, noughts: u32) -> Result<List<u8>, NoMemory> {
     let mut text = list_of(alloc, b"alpha ")?;
+    repeated(&mut text, &[b'0'; 1024], 4095)?;
     repeated(&mut text, b"0", noughts)?;
     text.append(b"0.05\nhypotheses H1 H2\np 0.025 0.026\nweights 1/2 1/2\n")?;
     Ok(text)
@@ -15,23 +16,23 @@ fn padded(alloc: Global, noughts: u32) -> Result<List<u8>, NoMemory> {
 
 #[test]
 fn the_greatest_length_is_decided(rt: HostRuntime) -> Result<(), Fail> {
-    let alloc = rt.alloc();
-    let text = padded(alloc, 4_194_246)?;
+    let text = padded(rt.alloc(), 966)?;
     assert_eq!(rt; text.len(), 4_194_304);
-    let ended = test_of(alloc, text)?;
-    assert_eq!(rt; ended.out.held(), TIE_DECIDED.as_bytes());
-    assert_eq!(rt; ended.status, 0);
+    expect_answer(
+        &rt,
+        rt.alloc(),
+        "the greatest length",
+        text,
+        (0, TIE_DECIDED),
+    )?;
     Ok(())
 }
 
 #[test]
 fn a_byte_more_is_too_long(rt: HostRuntime) -> Result<(), Fail> {
-    let alloc = rt.alloc();
-    let text = padded(alloc, 4_194_247)?;
+    let text = padded(rt.alloc(), 967)?;
     assert_eq!(rt; text.len(), 4_194_305);
-    let ended = test_of(alloc, text)?;
-    assert_eq!(rt; ended.out.held(), b"malformed\n".as_slice());
-    assert_eq!(rt; ended.status, 3);
+    expect_answer(&rt, rt.alloc(), "a byte more", text, (3, "malformed\n"))?;
     Ok(())
 }
 
@@ -39,12 +40,12 @@ fn a_byte_more_is_too_long(rt: HostRuntime) -> Result<(), Fail> {
 #[test]
 fn no_byte_behind_it_is_taken(rt: HostRuntime) -> Result<(), Fail> {
     let alloc = rt.alloc();
-    let mut text = List::new(alloc);
-    repeated(&mut text, b"a", 4_194_305)?;
+    let mut text = list_of(alloc, b"a")?;
+    repeated(&mut text, &[b'a'; 1024], 4096)?;
     text.append(b"about")?;
     let mut case = MemorySource::new(text);
     let mut out = MemorySink::with_room(alloc, 4096)?;
-    assert_eq!(rt; status_of_test(alloc, &mut case, &mut out)?, 3);
+    assert_eq!(rt; status_of(alloc, &["test"], &mut case, &mut out)?, 3);
     assert_eq!(rt; out.held(), b"malformed\n".as_slice());
     let mut rest = [0; 8];
     assert_eq!(rt; case.take(&mut rest), Ok(5));

@@ -1,8 +1,6 @@
 //! Words that aren't accepted.
-use crate::runs::{TIE, list_of, words_of};
-use field_core::List;
-use graph_cli::run;
-use graph_io::{Failed, FailingSource, MemorySink, MemorySource, Source};
+use crate::runs::{TIE, list_of, status_of};
+use graph_io::{Failed, FailingSource, MemorySink, Source};
 use std::test::Fail;
 
 const REFUSED: [(&[&str], &str); 14] = [
@@ -27,15 +25,10 @@ const REFUSED: [(&[&str], &str); 14] = [
 fn words_are_refused_before_the_case_is_read(rt: HostRuntime) -> Result<(), Fail> {
     let alloc = rt.alloc();
     for (words, printed) in REFUSED {
-        let copies = words_of(alloc, words)?;
-        let mut case = FailingSource::new(
-            list_of(alloc, TIE.as_bytes())?,
-            4,
-            list_of(alloc, &[1])?,
-        );
-        let mut proof = MemorySource::new(List::new(alloc));
+        let bytes = list_of(alloc, TIE.as_bytes())?;
+        let mut case = FailingSource::new(bytes, 4, list_of(alloc, &[1])?);
         let mut out = MemorySink::with_room(alloc, 4096)?;
-        let status = run(alloc, copies.as_slice(), &mut case, &mut proof, &mut out);
+        let status = status_of(alloc, words, &mut case, &mut out)?;
         assert_eq!(rt; out.held(), printed.as_bytes(), "{words:?}");
         assert_eq!(rt; status, 2, "{words:?}");
         assert_eq!(rt; case.take(&mut [0; 4]), Err(Failed), "{words:?}");
