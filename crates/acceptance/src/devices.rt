@@ -6,8 +6,8 @@ use std::alloc::Global;
 use std::process::Abort;
 use std::test::Fail;
 
-/// A run over a source that moves 4 bytes a take and fails at some takes, and a sink that takes 5 bytes a put and fails
-/// at one put, and how it ends. Takes and puts count from 1; at 0 none fails.
+/// A run over a source that moves 4 bytes a take and fails at one take, and a sink that takes 5 bytes a put and
+/// fails at one put, and how it ends. Takes and puts count from 1; at 0 none fails.
 #[derive(Clone, Copy)]
 struct Row<'a> {
     words: &'a [&'a str],
@@ -19,24 +19,23 @@ struct Row<'a> {
 }
 
 fn expect_end(rt: &impl Abort, alloc: Global, row: Row) -> Result<(), NoMemory> {
-    let bytes = list_of(alloc, row.text.as_bytes())?;
-    let mut case = FailingSource::new(bytes, 4, list_of(alloc, &[row.take])?);
-    let mut out = FailingSink::new(alloc, 5, list_of(alloc, &[row.put])?)?;
-    let answered = status_of(alloc, row.words, &mut case, &mut out)?;
-    assert_eq!(rt;
-        out.held(),
-        row.held.as_bytes(),
-        "{:?} {} {}",
-        row.words,
-        row.take,
-        row.put
+    let Row {
+        words,
+        text,
+        take,
+        put,
+        status,
+        held,
+    } = row;
+    let mut case = FailingSource::new(
+        list_of(alloc, text.as_bytes())?,
+        4,
+        list_of(alloc, &[take])?,
     );
-    assert_eq!(rt;
-        answered,
-        row.status,
-        "{:?} {} {}",
-        row.words, row.take, row.put
-    );
+    let mut out = FailingSink::new(alloc, 5, list_of(alloc, &[put])?)?;
+    let answered = status_of(alloc, words, &mut case, &mut out)?;
+    assert_eq!(rt; out.held(), held.as_bytes(), "{text} {take} {put}");
+    assert_eq!(rt; answered, status, "{text} {take} {put}");
     Ok(())
 }
 
