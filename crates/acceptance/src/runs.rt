@@ -19,7 +19,7 @@ pub fn list_of<T: Copy>(alloc: Global, items: &[T]) -> Result<List<T>, NoMemory>
 }
 
 /// These words, as the program is given them.
-pub fn words_of(alloc: Global, words: &[&str]) -> Result<Vec<String>, NoMemory> {
+fn words_of(alloc: Global, words: &[&str]) -> Result<Vec<String>, NoMemory> {
     let mut copies = Vec::new(alloc);
     for word in words {
         copies.push(String::from_str(alloc, word)?)?;

@@ -3,6 +3,7 @@ use crate::runs::{TIE, list_of, status_of};
 use graph_io::{Failed, FailingSource, MemorySink, Source};
 use std::test::Fail;
 
+/// Words, and what is printed of them.
 const REFUSED: [(&[&str], &str); 14] = [
     (&[], "usage: word 1\n"),
     (&[""], "usage: word 1\n"),
