@@ -51,7 +51,7 @@ plain_ok : (whole : List ℕ) (e : Option Exponent) (x : Size) → IsDecimalSize
 unfolding IsBodySize HasZeroDenominator HasTooManyDigits IsDecimalSize value_of
 plain_ok whole e x h = ((λ z. z), h)
 
-plain : (whole : List ℕ) (e : Option Exponent) (r : Result Size NumberFault) → IsDecimalSize whole (pos 0 -ℤ exponent_of e) r → IsBodySize (Plain whole e) r
+pub plain : (whole : List ℕ) (e : Option Exponent) (r : Result Size NumberFault) → IsDecimalSize whole (pos 0 -ℤ exponent_of e) r → IsBodySize (Plain whole e) r
 plain whole e (Ok x) h = plain_ok whole e x h
 plain whole e (Err f) h = plain_fault whole e f h
 
@@ -66,7 +66,7 @@ pointed_ok : (whole fraction : List ℕ) (e : Option Exponent) (x : Size) → Is
 unfolding IsBodySize HasZeroDenominator HasTooManyDigits IsDecimalSize value_of
 pointed_ok whole fraction e x h = ((λ z. z), h)
 
-pointed : (whole fraction : List ℕ) (e : Option Exponent) (r : Result Size NumberFault) → IsDecimalSize (whole ++ fraction) (pos (length fraction) -ℤ exponent_of e) r → IsBodySize (Pointed whole fraction e) r
+pub pointed : (whole fraction : List ℕ) (e : Option Exponent) (r : Result Size NumberFault) → IsDecimalSize (whole ++ fraction) (pos (length fraction) -ℤ exponent_of e) r → IsBodySize (Pointed whole fraction e) r
 pointed whole fraction e (Ok x) h = pointed_ok whole fraction e x h
 pointed whole fraction e (Err f) h = pointed_fault whole fraction e f h
 

@@ -6,6 +6,7 @@ pub mod Decimals
 pub mod DigitNumbers
 pub mod Limits
 pub mod LowestTerms
+pub mod Numerals
 pub mod Read
 pub mod Scan
 pub mod ReadBack

@@ -40,7 +40,7 @@ divided n d some =
       },
     )
 
-abs_sign : (b : Bool) (n : ℕ) → unsigned_abs (with_sign b n) ≡ n
+pub abs_sign : (b : Bool) (n : ℕ) → unsigned_abs (with_sign b n) ≡ n
 abs_sign true n = abs_neg (pos n)
 abs_sign false n = refl
 

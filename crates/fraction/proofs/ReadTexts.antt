@@ -24,7 +24,7 @@ use Rattle.fraction.proofs.Unique.{one_value, value_or_fault}
 -- ---- the sign of a value
 
 -- the value of a body without a sign, and with one
-record IsSigned (negative : Bool) (bare whole : Terms) : Type 0 where
+pub record IsSigned (negative : Bool) (bare whole : Terms) : Type 0 where
   top : ℕ
   low : ℕ
   bare_is : bare ≡ record { num = pos top; den = pos low }
@@ -38,7 +38,7 @@ power_signed : (negative : Bool) (n : ℕ) (s : ℤ) → IsSigned negative (over
 power_signed negative n (pos s) = record { top = n; low = 10 ^ s; bare_is = refl; whole_is = refl }
 power_signed negative n (negsuc s) = record { top = n * 10 ^ suc s; low = 1; bare_is = refl; whole_is = ap (λ z. record { num = z; den = pos 1 }) (times_sign negative n (10 ^ suc s)) }
 
-value_signed : (sign : Option ℕ) (body : Body) → IsSigned (is_minus sign) (value_of None body) (value_of sign body)
+pub value_signed : (sign : Option ℕ) (body : Body) → IsSigned (is_minus sign) (value_of None body) (value_of sign body)
 unfolding value_of
 value_signed sign (Plain whole e) = power_signed (is_minus sign) (digits_value 10 whole) (pos 0 -ℤ exponent_of e)
 value_signed sign (Pointed whole fraction e) = power_signed (is_minus sign) (digits_value 10 (whole ++ fraction)) (pos (length fraction) -ℤ exponent_of e)
@@ -62,7 +62,7 @@ lowest_same negative x a b h =
 same_sizes : (x : Size) (v : Terms) (a b : ℕ) → v ≡ record { num = pos a; den = pos b } → Same (quotient_of x) v → x.num * b ≡ a * x.den
 same_sizes x v a b e h = let f : pos (x.num * b) ≡ pos (a * x.den) = subst (λ w. Same (quotient_of x) w) e h in cc
 
-signed_lowest : (negative : Bool) (x : Size) (bare whole : Terms) → IsSigned negative bare whole → Same (quotient_of x) bare → Same (lowest_of negative x.num x.den) whole
+pub signed_lowest : (negative : Bool) (x : Size) (bare whole : Terms) → IsSigned negative bare whole → Same (quotient_of x) bare → Same (lowest_of negative x.num x.den) whole
 signed_lowest negative x bare whole s h = subst (λ w. Same (lowest_of negative x.num x.den) w) (sym s.whole_is) (lowest_same negative x s.top s.low (same_sizes x bare s.top s.low s.bare_is h))
 
 -- ---- a text
@@ -78,7 +78,7 @@ given : (text body : List ℕ) (r : Result Size NumberFault) (n : IsNumeral text
 unfolding GivesBody
 given text body r n e g = g n.body n.is_body (e ∙ (numeral_split text n).behind)
 
-size_fault : (text : List ℕ) (n : IsNumeral text) (f : NumberFault) → IsBodySize n.body (Err f) → IsRead text (Err f)
+pub size_fault : (text : List ℕ) (n : IsNumeral text) (f : NumberFault) → IsBodySize n.body (Err f) → IsRead text (Err f)
 unfolding IsBodySize IsRead IsParseFault
 size_fault text n ZeroDenominator h = (n, h)
 size_fault text n TooManyDigits h = (n, h)

@@ -1,13 +1,14 @@
 //! Laws of numerals.
-ghost use Rattle.std.specs.Prelude.{◌≡◌, ◌<◌, ◌^◌, ℕ, List, length, unsigned_abs};
+ghost use Rattle.std.specs.Prelude.{◌≡◌, ◌<◌, ◌^◌, ◌⊎◌, ℕ, List, length, unsigned_abs};
 ghost use Rattle.std.specs.List.{AllByRecursion};
 ghost use Rattle.field_core.specs.Terms.{Terms, IsReduced};
 ghost use Rattle.fraction.specs.declared.fault.NumberFault.{NumberFault};
 ghost use Rattle.fraction.specs.Numeral.{IsNumeralOf, IsParseFault};
 ghost use Rattle.fraction.specs.Spelling.{spelling, IsSpellingByte};
 
-/// A text has at most one value, or one fault.
+/// A text has a value or a fault, only one, and not both.
 pub fn a_text_says_one_thing()
+    ensures each { (text : List ℕ) → ((t : Terms) × IsNumeralOf text t) ⊎ ((f : NumberFault) × IsParseFault text f) }
     ensures value { (text : List ℕ) (t u : Terms) → IsNumeralOf text t → IsNumeralOf text u → t ≡ u }
     ensures fault { (text : List ℕ) (f g : NumberFault) → IsParseFault text f → IsParseFault text g → f ≡ g }
     ensures apart { (text : List ℕ) (t : Terms) (f : NumberFault) → IsNumeralOf text t → ¬ IsParseFault text f }

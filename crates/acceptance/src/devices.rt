@@ -1,0 +1,154 @@
+//! Sources and sinks that fail, and ones that move few bytes a call.
+use crate::runs::{TIE, TIE_DECIDED, list_of, status_of};
+use field_core::{List, NoMemory};
+use graph_io::{FailingSink, FailingSource, MemorySink, MemorySource};
+use std::alloc::Global;
+use std::process::Abort;
+use std::test::Fail;
+
+/// A run over a source that moves 4 bytes a take and fails at one take, and a sink that takes 5 bytes a put and
+/// fails at one put, and how it ends. Takes and puts count from 1; at 0 none fails.
+#[derive(Clone, Copy)]
+struct Row<'a> {
+    words: &'a [&'a str],
+    text: &'a str,
+    take: u64,
+    put: u64,
+    status: u8,
+    held: &'a str,
+}
+
+fn expect_end(rt: &impl Abort, alloc: Global, row: Row) -> Result<(), NoMemory> {
+    let Row {
+        words,
+        text,
+        take,
+        put,
+        status,
+        held,
+    } = row;
+    let mut case = FailingSource::new(
+        list_of(alloc, text.as_bytes())?,
+        4,
+        list_of(alloc, &[take])?,
+    );
+    let mut out = FailingSink::new(alloc, 5, list_of(alloc, &[put])?)?;
+    let answered = status_of(alloc, words, &mut case, &mut out)?;
+    assert_eq!(rt; out.held(), held.as_bytes(), "{text} {take} {put}");
+    assert_eq!(rt; answered, status, "{text} {take} {put}");
+    Ok(())
+}
+
+/// The tie with one failing take or put.
+fn tie<'a>(take: u64, put: u64, status: u8, held: &'a str) -> Row<'a> {
+    Row {
+        words: &["test"],
+        text: TIE,
+        take,
+        put,
+        status,
+        held,
+    }
+}
+
+/// The tie has 58 bytes: 14 takes of 4, one of 2, and one that tells the end.
+const TAKES: u64 = 16;
+
+#[test]
+fn each_take_can_fail(rt: HostRuntime) -> Result<(), Fail> {
+    let alloc = rt.alloc();
+    for take in 1..=TAKES {
+        expect_end(&rt, alloc, tie(take, 0, 6, "read fault\n"))?;
+    }
+    expect_end(&rt, alloc, tie(TAKES + 1, 0, 0, TIE_DECIDED))?;
+    Ok(())
+}
+
+/// What the sink holds before each of its puts: the answer has 27 bytes.
+const BEFORE_PUT: [&str; 6] = [
+    "",
+    "alpha",
+    "alpha 1/20",
+    "alpha 1/20\nreje",
+    "alpha 1/20\nrejected ",
+    "alpha 1/20\nrejected H1\nen",
+];
+
+#[test]
+fn each_put_can_fail(rt: HostRuntime) -> Result<(), Fail> {
+    let alloc = rt.alloc();
+    for (before, held) in BEFORE_PUT.iter().enumerate() {
+        expect_end(&rt, alloc, tie(0, before as u64 + 1, 7, held))?;
+    }
+    expect_end(&rt, alloc, tie(0, 7, 0, TIE_DECIDED))?;
+    Ok(())
+}
+
+/// Each put of a line that says why there is no answer.
+const REFUSALS: [(&[&str], &str, u64, u64, u8, &str); 11] = [
+    (&["test"], TIE, 2, 1, 7, ""),
+    (&["test"], TIE, 2, 2, 7, "read "),
+    (&["test"], TIE, 2, 3, 7, "read fault"),
+    (&["test"], TIE, 2, 4, 6, "read fault\n"),
+    (&["test"], "alpha 2\n", 0, 1, 7, ""),
+    (&["test"], "alpha 2\n", 0, 2, 7, "malfo"),
+    (&["test"], "alpha 2\n", 0, 3, 3, "malformed\n"),
+    (&["test", "test"], TIE, 1, 1, 7, ""),
+    (&["test", "test"], TIE, 1, 2, 7, "usage"),
+    (&["test", "test"], TIE, 1, 3, 7, "usage: wor"),
+    (&["test", "test"], TIE, 1, 4, 2, "usage: word 2\n"),
+];
+
+#[test]
+fn each_put_of_a_refusal_can_fail(rt: HostRuntime) -> Result<(), Fail> {
+    for (words, text, take, put, status, held) in REFUSALS {
+        let row = Row {
+            words,
+            text,
+            take,
+            put,
+            status,
+            held,
+        };
+        expect_end(&rt, rt.alloc(), row)?;
+    }
+    Ok(())
+}
+
+const CAPS: [usize; 7] = [1, 2, 3, 26, 27, 58, 59];
+
+#[test]
+fn short_takes_and_puts_change_nothing(rt: HostRuntime) -> Result<(), Fail> {
+    let alloc = rt.alloc();
+    for cap in CAPS {
+        assert!(rt; 1 <= cap);
+        let bytes = list_of(alloc, TIE.as_bytes())?;
+        let mut case = FailingSource::new(bytes, cap, List::new(alloc));
+        let mut out = FailingSink::new(alloc, cap, List::new(alloc))?;
+        let status = status_of(alloc, &["test"], &mut case, &mut out)?;
+        assert_eq!(rt; out.held(), TIE_DECIDED.as_bytes(), "{cap}");
+        assert_eq!(rt; status, 0, "{cap}");
+    }
+    Ok(())
+}
+
+/// The room of a sink, the status, and what it holds in the end.
+const ROOMS: [(usize, u8, &str); 4] = [
+    (0, 7, ""),
+    (12, 7, "alpha 1/20\nr"),
+    (26, 7, "alpha 1/20\nrejected H1\nend"),
+    (27, 0, "alpha 1/20\nrejected H1\nend\n"),
+];
+
+#[test]
+fn want_of_room_is_a_fault(rt: HostRuntime) -> Result<(), Fail> {
+    let alloc = rt.alloc();
+    for (room, wanted, held) in ROOMS {
+        let mut case = MemorySource::new(list_of(alloc, TIE.as_bytes())?);
+        let mut out = MemorySink::with_room(alloc, room)?;
+        let status = status_of(alloc, &["test"], &mut case, &mut out)?;
+        assert_eq!(rt; out.held(), held.as_bytes(), "{room}");
+        assert_eq!(rt; status, wanted, "{room}");
+    }
+    Ok(())
+}

@@ -1,0 +1,15 @@
+//! Tests that cross crates: whole runs of the top call over sources and sinks in memory.
+#![tactic(auto)]
+
+#[cfg(test)]
+mod decided;
+#[cfg(test)]
+mod devices;
+#[cfg(test)]
+mod malformed;
+#[cfg(test)]
+mod runs;
+#[cfg(test)]
+mod too_long;
+#[cfg(test)]
+mod words;
