@@ -47,7 +47,7 @@ share_numbers m ks =
     let count : length (map (tabled m) ks) ≡ length ks = simp length-map in
     let shares : length (map (λ k. k.share) ks) ≡ length ks = simp length-map in
     let here : (c : ℕ) → c < length ks → number (component_at (map (tabled m) ks) c).share ≡ number_at (map (λ k. k.share) ks) c
-        = λ c h. ap (λ k. number k.share) (get_or-map (tabled m) ks c no_draft_component empty_component h) ∙ sym (ap number (get_or-map (λ k. k.share) ks c no_draft_component zero_terms h)) in
+    = λ c h. ap (λ k. number k.share) (get_or-map (tabled m) ks c no_draft_component empty_component h) ∙ sym (ap number (get_or-map (λ k. k.share) ks c no_draft_component zero_terms h)) in
     ap (λ n. sum_below number_field n (λ c. number (component_at (map (tabled m) ks) c).share)) count
     ∙ sum_congr number_field (length ks) (λ c. number (component_at (map (tabled m) ks) c).share) (number_at (map (λ k. k.share) ks)) here
     ∙ ap (λ n. sum_below number_field n (number_at (map (λ k. k.share) ks))) (sym shares)
