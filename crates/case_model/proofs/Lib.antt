@@ -5,6 +5,7 @@ pub mod EntryOrder
 pub mod ExactSums
 pub mod Faultless
 pub mod FirstFaults
+pub mod NamePlaces
 pub mod NoFaults
 pub mod Places
 pub mod RowTotals

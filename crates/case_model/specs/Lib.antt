@@ -9,6 +9,7 @@ pub mod EntangledGraph
 pub mod Entries
 pub mod EntryView
 pub mod IntersectionWeight
+pub mod NameIndexView
 pub mod Names
 pub mod Rows
 pub mod Sums
