@@ -1,4 +1,5 @@
 pub mod CaseFaults
+pub mod CaseStatements
 pub mod CaseView
 pub mod ClosedTest
 pub mod ComponentView

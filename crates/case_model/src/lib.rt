@@ -8,6 +8,7 @@ mod early;
 mod entry;
 mod fault;
 mod inputs;
+pub mod laws;
 mod local_test;
 mod name_index;
 mod names;
