@@ -19,7 +19,7 @@ use Rattle.field_core.specs.Laws.Lift.{Number-set}
 use Rattle.field_core.proofs.SumLaws.{sum_congr}
 use Rattle.case_model.specs.EntangledGraph.{EntangledGraph, IsValidEntangled}
 use Rattle.case_model.specs.Sums.{number, terms_at, number_at, zero_terms}
-use Rattle.case_model.specs.Draft.{DraftContent, DraftComponentContent, at_most, is_unit, is_level, is_p_value, is_short_p_value}
+use Rattle.case_model.specs.Draft.{DraftContent, DraftComponentContent, at_most, is_unit, is_level, is_p_value, is_short_p_value, ArePValues}
 use Rattle.case_model.specs.Content.{Content, ComponentContent, InputsContent, bare, single, staged, content_of, tabled, table_of, graph_of, given, inputs_given, IfSingle, component_at, empty_component, entangled}
 use Rattle.case_model.specs.CaseFaults.{◌or◌, case_fault, late_fault, rows_fault, mixed, p_count, p_missing, p_range, p_values_fault, is_outside, is_long_p_value, long_p_value, no_hypothesis, no_component, too_many_components, components_fault}
 use Rattle.case_model.specs.Validity.{FaultlessDraft, IsValidContent}
@@ -103,11 +103,6 @@ p_values_none : (d : DraftContent) → case_fault d ≡ None → p_values_fault 
 unfolding late_fault
 p_values_none d h = (neither (mixed d) (p_values_fault (length d.names) d.p) (neither (rows_fault (length d.names) (content_of d).components) _ (late_none d h)).second).second
 
--- a good p-value for each of `m` hypotheses
-pub record GoodPValues (m : ℕ) (ps : List Terms) : Type 0 where
-  pub count : length ps ≡ m
-  pub each : list_all is_p_value ps ≡ true
-
 module _ (d : DraftContent) (h : case_fault d ≡ None) where
   counted : Neither (p_count (length d.names) d.p) (p_missing d.p or p_range d.p)
   unfolding p_values_fault
@@ -141,10 +136,10 @@ module _ (d : DraftContent) (h : case_fault d ≡ None) where
       same_count n m h e = grind (arith, nat_tests)
 
   -- where p-values are given, there is a good one for each hypothesis
-  pub good_inputs : IfSingle (inputs_given d.p) (GoodPValues (length d.names))
+  pub good_inputs : IfSingle (inputs_given d.p) (ArePValues (length d.names))
   good_inputs = by_test (list_any is_some d.p) refl
     where
-      by_test : (b : Bool) → list_any is_some d.p ≡ b → IfSingle (cond b (single (given d.p)) bare) (GoodPValues (length d.names))
+      by_test : (b : Bool) → list_any is_some d.p ≡ b → IfSingle (cond b (single (given d.p)) bare) (ArePValues (length d.names))
       by_test true e = record { count = count_given e; each = good_p_values }
       by_test false e = tt
 
@@ -157,7 +152,7 @@ pub record HasShape (c : Content) : Type 0 where
   pub level : is_level c.alpha ≡ true
   pub weights : (k : ℕ) → k < length c.components → length (component_at c.components k).weights ≡ length c.names
   pub edges : (k : ℕ) → k < length c.components → length (component_at c.components k).edges ≡ length c.names * length c.names
-  pub p_values : IfSingle c.inputs (GoodPValues (length c.names))
+  pub p_values : IfSingle c.inputs (ArePValues (length c.names))
 
 few_ks : (ks : List DraftComponentContent) → components_fault ks ≡ None → length ks ≤ 8
 unfolding components_fault too_many_components
@@ -184,8 +179,8 @@ shape_of_draft d h =
       p_values = good_inputs d h;
     }
 
-GoodPValues-prop : (m : ℕ) (ps : List Terms) → IsProp (GoodPValues m ps)
-GoodPValues-prop m ps = hlevel (ℕ_set, Bool-set)
+ArePValues-prop : (m : ℕ) (ps : List Terms) → IsProp (ArePValues m ps)
+ArePValues-prop m ps = hlevel (ℕ_set, Bool-set)
 
 IfSingle-prop : (i : InputsContent) (P : List Terms → Type 0) → ((ps : List Terms) → IsProp (P ps)) → IsProp (IfSingle i P)
 IfSingle-prop (single ps) P h = h ps
@@ -193,7 +188,7 @@ IfSingle-prop bare P h = hlevel
 IfSingle-prop (staged s) P h = hlevel
 
 HasShape-prop : (c : Content) → IsProp (HasShape c)
-HasShape-prop c = let p = IfSingle-prop c.inputs (GoodPValues (length c.names)) (GoodPValues-prop (length c.names)) in hlevel (p, ℕ_set, Bool-set, le_prop)
+HasShape-prop c = let p = IfSingle-prop c.inputs (ArePValues (length c.names)) (ArePValues-prop (length c.names)) in hlevel (p, ℕ_set, Bool-set, le_prop)
 
 pub shape : (c : Content) → IsValidContent c → HasShape c
 shape c v = ∥∥₁_elim v (HasShape-prop c) (λ f. subst HasShape f.content_is (shape_of_draft f.draft f.faultless))

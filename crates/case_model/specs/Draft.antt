@@ -1,5 +1,5 @@
 -- What a draft of a case says, and tests of its parts.
-use Rattle.std.specs.Prelude.{◌==◌, ◌||◌, ◌&&◌, not, ◌^◌, ◌+◌, ◌*◌, ℕ, Bool, true, false, List, [], ◌∷◌, Option, Some, None, length, nat_lt, nat_le, unsigned_abs}
+use Rattle.std.specs.Prelude.{◌≡◌, ◌==◌, ◌||◌, ◌&&◌, not, ◌^◌, ◌+◌, ◌*◌, ℕ, Bool, true, false, List, [], ◌∷◌, Option, Some, None, length, nat_lt, nat_le, unsigned_abs}
 use Rattle.std.specs.List.{list_all}
 use Rattle.std.specs.Char.{is_ascii_alphanumeric}
 use Rattle.field_core.specs.Terms.{Terms}
@@ -83,6 +83,11 @@ is_level t = is_short_level t && is_level_range t
 -- a p-value has a denominator of at most 10^30 and is from 0 to 1
 unfoldable pub is_p_value : Terms → Bool
 is_p_value t = is_short_p_value t && is_unit (number t)
+
+-- a p-value for each of `m` hypotheses
+pub record ArePValues (m : ℕ) (ps : List Terms) : Type 0 where
+  pub count : length ps ≡ m
+  pub each : list_all is_p_value ps ≡ true
 
 -- the edge goes from `i` to `j`
 abbrev pub has_ends : ℕ → ℕ → DraftEdgeContent → Bool

@@ -1,4 +1,5 @@
 pub mod CaseFaults
+pub mod CaseStatements
 pub mod CaseView
 pub mod ClosedTest
 pub mod ClosedTestExamples
@@ -13,6 +14,7 @@ pub mod EntryView
 pub mod IntersectionStatements
 pub mod IntersectionWeight
 pub mod LegalOrder
+pub mod NameIndexView
 pub mod Names
 pub mod Rows
 pub mod Sums

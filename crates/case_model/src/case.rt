@@ -22,6 +22,7 @@ impl Case {
     ghost use Rattle.fraction.specs.View.{terms_of, number_of};
     ghost use Rattle.case_model.specs.Sums.{terms_at};
     ghost use Rattle.case_model.specs.Entries.{entry_at};
+    ghost use Rattle.case_model.specs.Draft.{is_level, ArePValues};
     ghost use Rattle.case_model.specs.Content.{component_at, IfSingle, is_plain};
     ghost use Rattle.case_model.specs.Names.{position_of};
     ghost use Rattle.case_model.specs.Validity.{IsValidContent};
@@ -62,9 +63,10 @@ impl Case {
         self.names.as_slice()[i].as_bytes()
     }
 
-    /// The level.
+    /// The level, above 0 and at most 1.
     pub fn alpha(&self) -> Fraction
-        ensures { terms_of result ≡ (content self.now).alpha }
+        ensures alpha { terms_of result ≡ (content self.now).alpha }
+        ensures level { is_level (terms_of result) ≡ true }
     {
         self.alpha
     }
@@ -103,10 +105,10 @@ impl Case {
         self.components.as_slice()[c].edge(self.names.len(), i, j)
     }
 
-    /// The p-values. Where there are single ones, there is one for each hypothesis.
+    /// The p-values. Where there are single ones, there is one for each hypothesis, from 0 to 1.
     pub fn inputs(&self) -> &Inputs
         ensures inputs { inputs_content result.now ≡ (content self.now).inputs }
-        ensures count { IfSingle (inputs_content result.now) (λ ps. length ps ≡ length (content self.now).names) }
+        ensures p_values { IfSingle (inputs_content result.now) (ArePValues (length (content self.now).names)) }
     {
         &self.inputs
     }

@@ -1,9 +1,16 @@
-//! Laws of entangled graphs and of the closed test. Each function states laws that hold of all valid entangled graphs,
-//! and does nothing.
+//! Laws of cases, of entangled graphs and of the closed test. Each function states laws that hold of all valid
+//! entangled graphs, and does nothing.
 
+ghost use Rattle.case_model.specs.CaseStatements.{EntangledGraphsAreValid};
 ghost use Rattle.case_model.specs.ClosedTestExamples.{HalvesAreValid, OnlyFirstHalfIsRejected, BothLinkedHalvesAreRejected, WeightZeroRejectsNothing, AlikeAreTakenByPosition, LeastRatioIsTakenFirst};
 ghost use Rattle.case_model.specs.ClosedTestStatements.{SetsAreRejectedByTheirSupersets, HypothesesAreRejectedByTheirSets, RejectionsStayAtGreaterLevels, LegalOrdersAreRejected, CompleteListsHaveAllRejected, CompleteOrdersDecide, CompleteOrdersAgree, FirstOrdersAreComplete, LastOrdersAreComplete, RatioOrdersAreComplete, FirstOrdersExist, LastOrdersExist, RatioOrdersExist, FirstOrdersAreUnique, LastOrdersAreUnique, RatioOrdersAreUnique};
 ghost use Rattle.case_model.specs.IntersectionStatements.{IntersectionWeightsExist, IntersectionWeightsAreUnique, IntersectionWeightsAreUnit, IntersectionWeightsSumToOne, IntersectionWeightsAreLeftByRemovals, IntersectionWeightsAreMonotone};
+
+/// The entangled graph of a case is valid: weights, edges and shares aren't below 0, no hypothesis passes weight to
+/// itself, and the weights, each row of edges and the shares sum to at most 1.
+pub fn entangled_graphs_are_valid()
+    ensures { EntangledGraphsAreValid }
+{}
 
 /// Each member of each set has just one intersection weight.
 pub fn intersection_weights_exist()

@@ -1,5 +1,5 @@
-use Rattle.case_model.proofs.CaseFacts.{p_values_count}
+use Rattle.case_model.proofs.CaseFacts.{case_p_values}
 use Rattle.case_model.proofs.case.Case.inputs.Goals as goal
 
-pub returns-clause-count : goal.returns-clause-count
-returns-clause-count c = p_values_count c.args.self.now
+pub returns-clause-p_values : goal.returns-clause-p_values
+returns-clause-p_values c = case_p_values c.args.self.now
