@@ -8,14 +8,14 @@ use Rattle.fraction.specs.View.{terms_of}
 use Rattle.case_model.specs.declared.case.Case.{Case}
 use Rattle.case_model.specs.declared.component.Component.{Component}
 use Rattle.case_model.specs.Sums.{terms_at}
-use Rattle.case_model.specs.Draft.{DraftContent, DraftComponentContent, have_known_ends, is_p_value, is_level}
+use Rattle.case_model.specs.Draft.{DraftContent, DraftComponentContent, ArePValues, have_known_ends, is_p_value, is_level}
 use Rattle.case_model.specs.Content.{Content, ComponentContent, InputsContent, IfSingle, component_at, content_of, given, inputs_given, single}
 use Rattle.case_model.specs.ComponentView.{component_content}
 use Rattle.case_model.specs.CaseView.{content}
 use Rattle.case_model.proofs.CaseFacts.{case_shape}
 use Rattle.case_model.proofs.Tests.{both}
 use Rattle.case_model.proofs.Totals.{reduced_at}
-use Rattle.case_model.proofs.ValidContents.{GoodPValues}
+
 use Rattle.graph_cli.specs.Form.{Says, SayDraft, IsInForm}
 use Rattle.graph_cli.specs.WithoutEdges.{IsWithoutEdges}
 
@@ -66,8 +66,8 @@ each_at [] j d h lt = absurd (omega arith)
 each_at (p ∷ ps) zero d h lt = (both (is_p_value (terms_of p)) (list_all is_p_value (map terms_of ps)) h).left
 each_at (p ∷ ps) (suc j) d h lt = each_at ps j d (both (is_p_value (terms_of p)) (list_all is_p_value (map terms_of ps)) h).right (omega arith)
 
-good_values : (i : InputsContent) (m : ℕ) (ps : List Terms) → IfSingle i (GoodPValues m) → i ≡ single ps → list_all is_p_value ps ≡ true
-good_values i m ps h e = (subst (λ x. IfSingle x (GoodPValues m)) e h).each
+good_values : (i : InputsContent) (m : ℕ) (ps : List Terms) → IfSingle i (ArePValues m) → i ≡ single ps → list_all is_p_value ps ≡ true
+good_values i m ps h e = (subst (λ x. IfSingle x (ArePValues m)) e h).each
 
 pub p_value_is : (c : Case) (ps : List Fraction) (j : ℕ) (x : Fraction) → (content c).inputs ≡ single (map terms_of ps) → j < length ps → x ≡ get_or ps j x → is_p_value (terms_of x) ≡ true
 p_value_is c ps j x e lt h = ap (λ y. is_p_value (terms_of y)) h ∙ each_at ps j x (good_values (content c).inputs (length c.names) (map terms_of ps) (case_shape c).p_values e) lt

@@ -17,7 +17,7 @@ pub passes-requires-clause-p : goal.passes-requires-clause-p
 passes-requires-clause-p c = p_value_is c.args.case.now c.args.p.now c.args.j c.index-p-j.result c.requires.inputs (omega (arith, c.requires.below, c.requires.count)) c.index-p-j.is
 
 pub passes-requires-clause-alpha : goal.passes-requires-clause-alpha
-passes-requires-clause-alpha c = ap is_level c.alpha.ensures ∙ level_is c.args.case.now
+passes-requires-clause-alpha c = c.alpha.ensures.level
 
 pub returns : goal.returns
 returns c =
@@ -28,6 +28,6 @@ returns c =
     let value = value_at c.args.p.now c.args.j c.index-p-j.result (omega (arith, c.requires.below, c.requires.count)) c.index-p-j.is in
     let weight = c.weight.ensures ∙ weight_is case W c.args.j in
     let same : (p w a : Terms) (q v b : Terms) → p ≡ q → w ≡ v → a ≡ b → Passes (number p) (number w) (number a) → Passes (number q) (number v) (number b) = λ p w a q v b e f g h. subst (λ t. Passes (number q) (number v) (number t)) g (subst (λ t. Passes (number q) (number t) (number a)) f (subst (λ t. Passes (number t) (number w) (number a)) e h)) in (
-      λ h. passes_rejected case W reduced ps c.args.j c.requires.inputs c.requires.below (same _ _ _ _ _ _ (sym value) weight c.alpha.ensures (c.passes.ensures.0 h)),
-      λ r. c.passes.ensures.1 (same _ _ _ _ _ _ value (sym weight) (sym c.alpha.ensures) (rejected_passes case W reduced ps c.args.j c.requires.inputs r)),
+      λ h. passes_rejected case W reduced ps c.args.j c.requires.inputs c.requires.below (same _ _ _ _ _ _ (sym value) weight c.alpha.ensures.alpha (c.passes.ensures.0 h)),
+      λ r. c.passes.ensures.1 (same _ _ _ _ _ _ value (sym weight) (sym c.alpha.ensures.alpha) (rejected_passes case W reduced ps c.args.j c.requires.inputs r)),
     )
