@@ -1,0 +1,94 @@
+-- What lines of words say, and which lists of lines are documents.
+use Rattle.std.specs.Prelude.{◌≡◌, ◌<◌, ℕ, List, [], ◌∷◌, ◌++◌, Option, Some, None, map, length, codes, pos}
+use Rattle.std.specs.List.{AllZip}
+use Rattle.field_core.specs.Terms.{Terms}
+use Rattle.fraction.specs.Numeral.{IsNumeralOf}
+use Rattle.case_model.specs.Draft.{DraftContent, DraftComponentContent, DraftEdgeContent}
+use Rattle.case_model.specs.Names.{position_of}
+use Rattle.case_model.specs.Sums.{zero_terms}
+use Rattle.edge_text.specs.Lines.{rows_of, words_in}
+
+-- a line as its words
+abbrev pub Words : Type 0
+Words = List (List ℕ)
+
+-- the word is a numeral of this value
+unfoldable pub Says : List ℕ → Terms → Type 0
+Says word value = IsNumeralOf word value
+
+-- `alpha` and a numeral of this value
+pub record IsAlphaLine (line : Words) (value : Terms) : Type 0 where
+  pub numeral : List ℕ
+  pub words : line ≡ codes "alpha" ∷ numeral ∷ []
+  pub says : Says numeral value
+
+-- `hypotheses` and these names, any number of them
+abbrev pub IsNamesLine : Words → List (List ℕ) → Type 0
+IsNamesLine line names = line ≡ codes "hypotheses" ∷ names
+
+-- a keyword and numerals of these values, any number of them
+pub record IsNumbersLine (keyword : List ℕ) (line : Words) (values : List Terms) : Type 0 where
+  pub numerals : List (List ℕ)
+  pub words : line ≡ keyword ∷ numerals
+  pub each : AllZip Says numerals values
+
+-- `p` and numerals of these values, at least one
+pub record IsPLine (line : Words) (values : List Terms) : Type 0 where
+  pub numbers : IsNumbersLine (codes "p") line values
+  pub some : 0 < length values
+
+-- `weights` and numerals of these values, any number of them
+abbrev pub IsWeightsLine : Words → List Terms → Type 0
+IsWeightsLine line values = IsNumbersLine (codes "weights") line values
+
+-- the coefficients of an edge that weighs a plain number
+abbrev pub plain_entry : Terms → List Terms
+plain_entry value = value ∷ zero_terms ∷ zero_terms ∷ zero_terms ∷ zero_terms ∷ []
+
+-- `edge`, the names of its two ends, and a numeral of its weight. Where a name stands for several hypotheses, it is the first.
+pub record IsEdgeLine (names : List (List ℕ)) (line : Words) (edge : DraftEdgeContent) : Type 0 where
+  pub from : List ℕ
+  pub to : List ℕ
+  pub numeral : List ℕ
+  pub words : line ≡ codes "edge" ∷ from ∷ to ∷ numeral ∷ []
+  pub from_is : position_of from names ≡ Some edge.from
+  pub to_is : position_of to names ≡ Some edge.to
+  pub weight : Terms
+  pub says : Says numeral weight
+  pub entry_is : edge.entry ≡ plain_entry weight
+
+-- a line that may be left out
+abbrev pub optional : Option Words → List Words
+optional None = []
+optional (Some line) = line ∷ []
+
+-- the p-values that such a line gives: none where it is left out
+abbrev pub GivesP : Option Words → List (Option Terms) → Type 0
+GivesP None p = p ≡ []
+GivesP (Some line) p = (values : List Terms) × IsPLine line values × (p ≡ map Some values)
+
+-- one component, of share 1
+abbrev pub one_component : List Terms → List DraftEdgeContent → List DraftComponentContent
+one_component weights edges = record { share = record { num = pos 1; den = pos 1 }; weights = weights; edges = edges } ∷ []
+
+-- The lines are, in this order, the level, the names, perhaps the p-values, the weights, and any number of edges, and they say this draft. It has one component and no stages.
+pub record IsDocument (lines : List Words) (draft : DraftContent) : Type 0 where
+  pub alpha_line : Words
+  pub names_line : Words
+  pub p_line : Option Words
+  pub weights_line : Words
+  pub edge_lines : List Words
+  pub spelt : lines ≡ alpha_line ∷ names_line ∷ optional p_line ++ weights_line ∷ edge_lines
+  pub alpha : IsAlphaLine alpha_line draft.alpha
+  pub names : IsNamesLine names_line draft.names
+  pub p : GivesP p_line draft.p
+  pub weights : List Terms
+  pub weights_are : IsWeightsLine weights_line weights
+  pub edges : List DraftEdgeContent
+  pub edges_are : AllZip (IsEdgeLine draft.names) edge_lines edges
+  pub components : draft.components ≡ one_component weights edges
+  pub stages : draft.stages ≡ None
+
+-- the lines of a text that count are a document, and it says this draft
+abbrev pub IsText : List ℕ → DraftContent → Type 0
+IsText bytes draft = IsDocument (words_in (rows_of bytes)) draft

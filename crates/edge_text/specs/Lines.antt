@@ -1,0 +1,67 @@
+-- A text in lines, and a line in words.
+use Rattle.std.specs.Prelude.{ℕ, ◌+◌, ◌||◌, Bool, true, false, List, [], ◌∷◌, map, drop, length, ◌==◌, if◌then◌else◌}
+use Rattle.std.specs.List.{slice_split, filter, prefix_len}
+use Rattle.std.specs.Str.Lines.{strip_carriage_return}
+
+-- a space or a tab
+abbrev pub is_blank : ℕ → Bool
+is_blank b = (b == 32) || (b == 9)
+
+-- the byte that ends a line
+abbrev pub is_line_feed : ℕ → Bool
+is_line_feed b = b == 10
+
+-- all parts but an empty last one: what stands behind the last line feed is a line only where it has a byte
+abbrev pub whole_lines : List (List ℕ) → List (List ℕ)
+whole_lines [] = []
+whole_lines ([] ∷ []) = []
+whole_lines ((b ∷ x) ∷ []) = (b ∷ x) ∷ []
+whole_lines (x ∷ y ∷ more) = x ∷ whole_lines (y ∷ more)
+
+-- the lines of a text, each without its line feed, and without one carriage return before that or at the very end
+unfoldable pub lines_of : List ℕ → List (List ℕ)
+lines_of bytes = map strip_carriage_return (whole_lines (slice_split is_line_feed bytes))
+
+-- a word has a byte
+abbrev pub is_word : List ℕ → Bool
+is_word [] = false
+is_word (b ∷ bs) = true
+
+-- the words of a line are what stands between its blanks
+unfoldable pub words_of : List ℕ → List (List ℕ)
+words_of line = filter is_word (slice_split is_blank line)
+
+-- a line from the first byte on that isn't blank
+unfoldable pub after_blanks : List ℕ → List ℕ
+after_blanks line = drop (prefix_len is_blank line) line
+
+-- nothing, or '#' first
+abbrev pub begins_comment : List ℕ → Bool
+begins_comment [] = true
+begins_comment (b ∷ bs) = b == 35
+
+-- a line of blanks alone, or one whose first other byte is '#'
+unfoldable pub is_skipped : List ℕ → Bool
+is_skipped line = begins_comment (after_blanks line)
+
+-- a line that counts, and its number among all lines, from 1
+pub record Row : Type 0 where
+  pub number : ℕ
+  pub text : List ℕ
+
+-- the lines that count, where n others stand before the first
+unfoldable pub kept_after : ℕ → List (List ℕ) → List Row
+kept_after n [] = []
+kept_after n (line ∷ lines) = if is_skipped line then kept_after (n + 1) lines else record { number = n + 1; text = line } ∷ kept_after (n + 1) lines
+
+-- the lines of a text that count
+abbrev pub rows_of : List ℕ → List Row
+rows_of bytes = kept_after 0 (lines_of bytes)
+
+-- the number of the line that would stand behind the last one
+abbrev pub end_of : List ℕ → ℕ
+end_of bytes = length (lines_of bytes) + 1
+
+-- the words of lines
+abbrev pub words_in : List Row → List (List (List ℕ))
+words_in rows = map (λ row. words_of row.text) rows

@@ -1,0 +1,41 @@
+use case_model::Refused;
+use field_core::NoMemory;
+use fraction::NumberFault;
+
+/// What is wrong with a line. Within a line the first word is tested first, then the number of words, then the words
+/// from left to right.
+#[derive(Clone, Copy, PartialEq, Eq, Debug)]
+pub enum LineKind {
+    /// The first word isn't one that may stand here.
+    Unexpected,
+    /// The document ends where a line must follow.
+    Ended,
+    /// There are too few or too many words.
+    WordCount,
+    /// A name isn't that of a hypothesis.
+    UnknownName,
+    /// A numeral is refused.
+    Number(NumberFault),
+}
+
+/// Why a text gives no case.
+#[derive(Drop)]
+pub enum TextFault {
+    /// The first line that can't stand where it stands, counted from 1 over all lines, and what is wrong with it. Where
+    /// the document ends too early it is the number of lines plus 1.
+    Line(usize, LineKind),
+    /// Each line stands, and the draft that they say is refused.
+    Case(Refused),
+    NoMemory,
+}
+
+impl From<NoMemory> for TextFault {
+    ghost use Rattle.std.specs.Prelude.{◌≡◌};
+    ghost use Rattle.edge_text.specs.declared.fault.TextFault.TheVariants.{NoMemory as OutOfMemory};
+
+    ghost from_gives = { λ _ fault. fault ≡ OutOfMemory };
+
+    fn from(_: NoMemory) -> TextFault {
+        TextFault::NoMemory
+    }
+}

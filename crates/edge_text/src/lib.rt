@@ -1,0 +1,6 @@
+//! The text form of cases.
+#![tactic(auto)]
+
+mod fault;
+
+pub use fault::{LineKind, TextFault};
