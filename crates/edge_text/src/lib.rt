@@ -1,6 +1,16 @@
 //! The text form of cases.
 #![tactic(auto)]
 
+mod cursor;
+mod document;
 mod fault;
+mod lines;
+mod read;
+mod rules;
+mod words;
 
 pub use fault::{LineKind, TextFault};
+pub use read::read_text;
+
+#[cfg(test)]
+mod tests;

@@ -1,0 +1,122 @@
+-- Lines, words and faults as contracts of the reader's parts see them.
+use Rattle.std.specs.Prelude.{◌≡◌, ◌<◌, ◌⊎◌, ℕ, ◌+◌, List, [], ◌∷◌, ◌++◌, Option, Some, map, length}
+use Rattle.std.specs.List.{AllZip}
+use Rattle.field_core.specs.Terms.{Terms}
+use Rattle.fraction.specs.Numeral.{IsParseFault}
+use Rattle.case_model.specs.declared.name_index.NameIndex.{NameIndex}
+use Rattle.case_model.specs.NameIndexView.{place_of}
+use Rattle.case_model.specs.Names.{position_of}
+use Rattle.case_model.specs.Draft.{DraftEdgeContent}
+use Rattle.edge_text.specs.declared.cursor.Line.{Line}
+use Rattle.edge_text.specs.declared.cursor.Lines.{Lines}
+use Rattle.edge_text.specs.declared.cursor.Words.{Words as WordsLeft}
+use Rattle.edge_text.specs.declared.fault.LineKind.{LineKind}
+use Rattle.edge_text.specs.declared.fault.LineKind.TheVariants.{Unexpected, Ended, WordCount, UnknownName, Number}
+use Rattle.edge_text.specs.declared.fault.TextFault.{TextFault}
+use Rattle.edge_text.specs.declared.fault.TextFault.TheVariants as faults
+use Rattle.edge_text.specs.Lines.{Row, lines_of, words_of, words_in, kept_after}
+use Rattle.edge_text.specs.Grammar.{Words, Says, IsWeightsLine, GivesP, optional, plain_entry}
+use Rattle.edge_text.specs.Faults.{Place, IsFirstRefused, IsUnknown, IsFaultFrom}
+
+-- a line that was taken
+abbrev pub row : Line → Row
+row line = record { number = line.number; text = line.text.now }
+
+-- the words of a line that was taken
+abbrev pub line_words : Line → Words
+line_words line = words_of line.text.now
+
+-- the words of a line that are still to come
+abbrev pub words_left : WordsLeft → Words
+words_left words = words_of words.rest.now
+
+-- the lines still to come that count
+unfoldable pub rows_left : Lines → List Row
+rows_left s = kept_after s.number (lines_of s.rest.now)
+
+-- the number of the line that would stand behind the last one
+unfoldable pub end_at : Lines → ℕ
+end_at s = s.number + length (lines_of s.rest.now) + 1
+
+-- a fault of the line of this number, of such a kind, or want of memory
+abbrev pub IsOnLine : ℕ → (LineKind → Type 0) → TextFault → Type 0
+IsOnLine number Bad (faults.Line n kind) = (n ≡ number) × Bad kind
+IsOnLine number Bad (faults.Case refused) = ⊥
+IsOnLine number Bad faults.NoMemory = Unit {0}
+
+-- the word is no numeral that can be taken
+abbrev pub IsNumeralFault : List ℕ → LineKind → Type 0
+IsNumeralFault word Unexpected = ⊥
+IsNumeralFault word Ended = ⊥
+IsNumeralFault word WordCount = ⊥
+IsNumeralFault word UnknownName = ⊥
+IsNumeralFault word (Number fault) = IsParseFault word fault
+
+-- one of the words is no numeral that can be taken
+abbrev pub IsListFault : Words → LineKind → Type 0
+IsListFault words Unexpected = ⊥
+IsListFault words Ended = ⊥
+IsListFault words WordCount = ⊥
+IsListFault words UnknownName = ⊥
+IsListFault words (Number fault) = IsFirstRefused words fault
+
+-- the words are numerals of these p-values, at least one
+pub record AreGiven (words : Words) (p : List (Option Terms)) : Type 0 where
+  pub values : List Terms
+  pub each : AllZip Says words values
+  pub some : 0 < length values
+  pub p_is : p ≡ map Some values
+
+-- there is no word, or one of the words is no numeral that can be taken
+abbrev pub IsGivenFault : Words → LineKind → Type 0
+IsGivenFault words Unexpected = ⊥
+IsGivenFault words Ended = ⊥
+IsGivenFault words WordCount = words ≡ []
+IsGivenFault words UnknownName = ⊥
+IsGivenFault words (Number fault) = IsFirstRefused words fault
+
+-- the edge between these two names, with the weight of a numeral
+pub record IsEdgeOf (names : List (List ℕ)) (from to numeral : List ℕ) (edge : DraftEdgeContent) : Type 0 where
+  pub from_is : position_of from names ≡ Some edge.from
+  pub to_is : position_of to names ≡ Some edge.to
+  pub weight : Terms
+  pub says : Says numeral weight
+  pub entry_is : edge.entry ≡ plain_entry weight
+
+-- a name is unknown, or the word is no numeral that can be taken
+abbrev pub IsEdgeOfFault : List (List ℕ) → List ℕ → List ℕ → List ℕ → LineKind → Type 0
+IsEdgeOfFault names from to word Unexpected = ⊥
+IsEdgeOfFault names from to word Ended = ⊥
+IsEdgeOfFault names from to word WordCount = ⊥
+IsEdgeOfFault names from to word UnknownName = IsUnknown names from ⊎ IsUnknown names to
+IsEdgeOfFault names from to word (Number fault) = ¬ IsUnknown names from × ¬ IsUnknown names to × IsParseFault word fault
+
+-- the index of these names
+abbrev pub IsIndexOf : NameIndex → List (List ℕ) → Type 0
+IsIndexOf index names = (name : List ℕ) → place_of index name ≡ position_of name names
+
+-- the first fault of these lines, from this place on, or want of memory
+abbrev pub IsFaultAt : Place → List Row → ℕ → TextFault → Type 0
+IsFaultAt place rows end (faults.Line n kind) = IsFaultFrom place rows end n kind
+IsFaultAt place rows end (faults.Case refused) = ⊥
+IsFaultAt place rows end faults.NoMemory = Unit {0}
+
+-- one line was taken, and it is such a line
+pub record TakesLine (old new : List Row) (Is : Words → Type 0) : Type 0 where
+  pub line : Row
+  pub taken : old ≡ line ∷ new
+  pub is : Is (words_of line.text)
+
+-- some lines were taken, and they are such lines
+pub record TakesLines (old new : List Row) (Are : List Words → Type 0) : Type 0 where
+  pub lines : List Row
+  pub taken : old ≡ lines ++ new
+  pub are : Are (words_in lines)
+
+-- perhaps a `p` line, and the weights
+pub record AreNumbersLines (lines : List Words) (p : List (Option Terms)) (weights : List Terms) : Type 0 where
+  pub p_line : Option Words
+  pub weights_line : Words
+  pub spelt : lines ≡ optional p_line ++ weights_line ∷ []
+  pub p_is : GivesP p_line p
+  pub weights_are : IsWeightsLine weights_line weights
