@@ -4,12 +4,14 @@
 mod cursor;
 mod document;
 mod fault;
+mod laws;
 mod lines;
 mod read;
 mod rules;
 mod words;
 
 pub use fault::{LineKind, TextFault};
+pub use laws::texts_are_plain;
 pub use read::read_text;
 
 #[cfg(test)]

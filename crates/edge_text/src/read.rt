@@ -18,10 +18,12 @@ pub fn read_text(alloc: Global, bytes: &[u8]) -> Result<Case, TextFault>
 {
     match draft(alloc, bytes)?.finish(alloc) {
         Ok(case) => Ok(case),
-        Err(Refused {
-            fault: CaseFault::NoMemory,
-            ..
-        }) => Err(TextFault::NoMemory),
+        Err(
+            Refused {
+                fault: CaseFault::NoMemory,
+                ..
+            },
+        ) => Err(TextFault::NoMemory),
         Err(refused) => Err(TextFault::Case(refused)),
     }
 }
