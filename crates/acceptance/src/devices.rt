@@ -64,35 +64,33 @@ fn each_take_can_fail(rt: HostRuntime) -> Result<(), Fail> {
     Ok(())
 }
 
-/// What the sink holds before each of its puts: the answer has 27 bytes.
-const BEFORE_PUT: [&str; 6] = [
-    "",
-    "alpha",
-    "alpha 1/20",
-    "alpha 1/20\nreje",
-    "alpha 1/20\nrejected ",
-    "alpha 1/20\nrejected H1\nen",
-];
+/// The answer has 83 bytes: 16 puts of 5, and one of 3.
+const PUTS: usize = 17;
 
 #[test]
 fn each_put_can_fail(rt: HostRuntime) -> Result<(), Fail> {
     let alloc = rt.alloc();
-    for (before, held) in BEFORE_PUT.iter().enumerate() {
+    assert_eq!(rt; TIE_DECIDED.len(), 83);
+    for before in 0..PUTS {
+        let held = &TIE_DECIDED[..5 * before];
         expect_end(&rt, alloc, tie(0, before as u64 + 1, 7, held))?;
     }
-    expect_end(&rt, alloc, tie(0, 7, 0, TIE_DECIDED))?;
+    expect_end(&rt, alloc, tie(0, PUTS as u64 + 1, 0, TIE_DECIDED))?;
     Ok(())
 }
 
 /// Each put of a line that says why there is no answer.
-const REFUSALS: [(&[&str], &str, u64, u64, u8, &str); 11] = [
+const REFUSALS: [(&[&str], &str, u64, u64, u8, &str); 14] = [
     (&["test"], TIE, 2, 1, 7, ""),
     (&["test"], TIE, 2, 2, 7, "read "),
     (&["test"], TIE, 2, 3, 7, "read fault"),
     (&["test"], TIE, 2, 4, 6, "read fault\n"),
     (&["test"], "alpha 2\n", 0, 1, 7, ""),
     (&["test"], "alpha 2\n", 0, 2, 7, "malfo"),
-    (&["test"], "alpha 2\n", 0, 3, 3, "malformed\n"),
+    (&["test"], "alpha 2\n", 0, 3, 7, "malformed:"),
+    (&["test"], "alpha 2\n", 0, 4, 7, "malformed: line"),
+    (&["test"], "alpha 2\n", 0, 5, 7, "malformed: line 2: e"),
+    (&["test"], "alpha 2\n", 0, 6, 3, "malformed: line 2: ended\n"),
     (&["test", "test"], TIE, 1, 1, 7, ""),
     (&["test", "test"], TIE, 1, 2, 7, "usage"),
     (&["test", "test"], TIE, 1, 3, 7, "usage: wor"),
@@ -115,7 +113,7 @@ fn each_put_of_a_refusal_can_fail(rt: HostRuntime) -> Result<(), Fail> {
     Ok(())
 }
 
-const CAPS: [usize; 7] = [1, 2, 3, 26, 27, 58, 59];
+const CAPS: [usize; 9] = [1, 2, 3, 57, 58, 59, 82, 83, 84];
 
 #[test]
 fn short_takes_and_puts_change_nothing(rt: HostRuntime) -> Result<(), Fail> {
@@ -132,12 +130,13 @@ fn short_takes_and_puts_change_nothing(rt: HostRuntime) -> Result<(), Fail> {
     Ok(())
 }
 
-/// The room of a sink, the status, and what it holds in the end.
-const ROOMS: [(usize, u8, &str); 4] = [
-    (0, 7, ""),
-    (12, 7, "alpha 1/20\nr"),
-    (26, 7, "alpha 1/20\nrejected H1\nend"),
-    (27, 0, "alpha 1/20\nrejected H1\nend\n"),
+/// The room of a sink, the status, and how many bytes of the answer it holds in the end.
+const ROOMS: [(usize, u8, usize); 5] = [
+    (0, 7, 0),
+    (12, 7, 12),
+    (82, 7, 82),
+    (83, 0, 83),
+    (84, 0, 83),
 ];
 
 #[test]
@@ -147,7 +146,7 @@ fn want_of_room_is_a_fault(rt: HostRuntime) -> Result<(), Fail> {
         let mut case = MemorySource::new(list_of(alloc, TIE.as_bytes())?);
         let mut out = MemorySink::with_room(alloc, room)?;
         let status = status_of(alloc, &["test"], &mut case, &mut out)?;
-        assert_eq!(rt; out.held(), held.as_bytes(), "{room}");
+        assert_eq!(rt; out.held(), TIE_DECIDED[..held].as_bytes(), "{room}");
         assert_eq!(rt; status, wanted, "{room}");
     }
     Ok(())

@@ -6,7 +6,9 @@ mod decided;
 #[cfg(test)]
 mod devices;
 #[cfg(test)]
-mod malformed;
+mod graphs;
+#[cfg(test)]
+mod refused;
 #[cfg(test)]
 mod runs;
 #[cfg(test)]

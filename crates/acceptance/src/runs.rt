@@ -9,7 +9,8 @@ use std::process::Abort;
 pub const TIE: &str = "alpha 0.05\nhypotheses H1 H2\np 0.025 0.026\nweights 1/2 1/2\n";
 
 /// What is printed of it.
-pub const TIE_DECIDED: &str = "alpha 1/20\nrejected H1\nend\n";
+pub const TIE_DECIDED: &str =
+    "alpha 1/20\nstep 1 H1 p 1/40 weight 1/2\nkept H2 p 13/500 weight 1/2\nrejected H1\nend\n";
 
 /// A list of these items.
 pub fn list_of<T: Copy>(alloc: Global, items: &[T]) -> Result<List<T>, NoMemory> {
@@ -45,12 +46,12 @@ pub fn expect_answer(
     alloc: Global,
     label: &str,
     bytes: List<u8>,
-    (status, printed): (u8, &str),
+    (status, printed): (u8, &[u8]),
 ) -> Result<(), NoMemory> {
     let mut case = MemorySource::new(bytes);
     let mut out = MemorySink::with_room(alloc, 4096)?;
     let answered = status_of(alloc, &["test"], &mut case, &mut out)?;
-    assert_eq!(rt; out.held(), printed.as_bytes(), "{label}");
+    assert_eq!(rt; out.held(), printed, "{label}");
     assert_eq!(rt; answered, status, "{label}");
     Ok(())
 }

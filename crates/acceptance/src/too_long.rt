@@ -23,7 +23,7 @@ fn the_greatest_length_is_decided(rt: HostRuntime) -> Result<(), Fail> {
         rt.alloc(),
         "the greatest length",
         text,
-        (0, TIE_DECIDED),
+        (0, TIE_DECIDED.as_bytes()),
     )?;
     Ok(())
 }
@@ -32,7 +32,13 @@ fn the_greatest_length_is_decided(rt: HostRuntime) -> Result<(), Fail> {
 fn a_byte_more_is_too_long(rt: HostRuntime) -> Result<(), Fail> {
     let text = padded(rt.alloc(), 967)?;
     assert_eq!(rt; text.len(), 4_194_305);
-    expect_answer(&rt, rt.alloc(), "a byte more", text, (3, "malformed\n"))?;
+    expect_answer(
+        &rt,
+        rt.alloc(),
+        "a byte more",
+        text,
+        (4, b"limit: bytes 4194305\n"),
+    )?;
     Ok(())
 }
 
@@ -45,8 +51,8 @@ fn no_byte_behind_it_is_taken(rt: HostRuntime) -> Result<(), Fail> {
     text.append(b"about")?;
     let mut case = MemorySource::new(text);
     let mut out = MemorySink::with_room(alloc, 4096)?;
-    assert_eq!(rt; status_of(alloc, &["test"], &mut case, &mut out)?, 3);
-    assert_eq!(rt; out.held(), b"malformed\n".as_slice());
+    assert_eq!(rt; status_of(alloc, &["test"], &mut case, &mut out)?, 4);
+    assert_eq!(rt; out.held(), b"limit: bytes 4194305\n".as_slice());
     let mut rest = [0; 8];
     assert_eq!(rt; case.take(&mut rest), Ok(5));
     assert_eq!(rt; rest.as_slice(), b"about\0\0\0".as_slice());
