@@ -6,7 +6,8 @@ mod decision;
 mod fault;
 mod form;
 pub mod laws;
-mod report;
+mod printed;
+mod refusal;
 mod top;
 mod words;
 

@@ -11,7 +11,7 @@ use crate::answer::{Answer, Stop};
 use crate::decision::rejected;
 use crate::fault::FormFault;
 use crate::form::read;
-use crate::report::{decided, malformed, usage};
+use crate::printed::{decided, malformed, usage};
 use crate::words::{Command, read_words};
 use case_model::{Case, CaseFault};
 use field_core::NoMemory;

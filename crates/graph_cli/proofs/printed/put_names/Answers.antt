@@ -4,7 +4,7 @@ use Rattle.case_model.specs.CaseView.{content}
 use Rattle.graph_cli.specs.Report.{spaced_name}
 use Rattle.graph_cli.proofs.Names.{name_more}
 use Rattle.std.proofs.lemmas.List.Elements.{Contains-get_or}
-use Rattle.graph_cli.proofs.report.put_names.Goals as goal
+use Rattle.graph_cli.proofs.printed.put_names.Goals as goal
 
 pub name-requires : goal.name-requires
 name-requires c = c.requires _ (Contains-get_or c.args.positions.now c.loop-j.j-index 0 c.loop-j-test.true)

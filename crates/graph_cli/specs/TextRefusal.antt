@@ -1,0 +1,37 @@
+-- Lines of inputs that give no case, or one of the wrong kind.
+use Rattle.std.specs.Prelude.{ℕ, List, ◌++◌, codes}
+use Rattle.std.specs.Fmt.{decimal}
+use Rattle.fraction.specs.declared.fault.NumberFault.{NumberFault}
+use Rattle.fraction.specs.declared.fault.NumberFault.TheVariants.{Empty, BadByte, ZeroDenominator, TooManyDigits}
+use Rattle.edge_text.specs.declared.fault.LineKind.{LineKind}
+use Rattle.edge_text.specs.declared.fault.LineKind.TheVariants.{Unexpected, Ended, WordCount, UnknownName, Number}
+use Rattle.graph_cli.specs.declared.answer.Answer.{Answer}
+use Rattle.graph_cli.specs.Answer.{line}
+use Rattle.graph_cli.specs.LinePieces.{malformed_at, past_limit}
+
+-- a line of a text, by its number from 1
+abbrev pub at_line : ℕ → List ℕ
+at_line n = codes "line " ++ decimal n
+
+-- a numeral of a place is refused
+unfoldable pub number_refusal : List ℕ → NumberFault → Answer
+number_refusal place Empty = malformed_at place (codes "number")
+number_refusal place (BadByte n) = malformed_at place (codes "number")
+number_refusal place ZeroDenominator = malformed_at place (codes "zero denominator")
+number_refusal place TooManyDigits = past_limit (place ++ codes ": digits")
+
+-- a line of a text can't stand
+unfoldable pub line_refusal : ℕ → LineKind → Answer
+line_refusal n Unexpected = malformed_at (at_line n) (codes "unexpected")
+line_refusal n Ended = malformed_at (at_line n) (codes "ended")
+line_refusal n WordCount = malformed_at (at_line n) (codes "words")
+line_refusal n UnknownName = malformed_at (at_line n) (codes "unknown name")
+line_refusal n (Number fault) = number_refusal (at_line n) fault
+
+-- an input has more bytes than it may have; so many were read
+unfoldable pub bytes_refusal : ℕ → Answer
+bytes_refusal n = past_limit (codes "bytes " ++ decimal n)
+
+-- the p-values aren't of the kind that a command needs
+unfoldable pub kind_refusal : Answer
+kind_refusal = record { status = 3; text = line (codes "malformed: kind") }

@@ -1,0 +1,10 @@
+//! The lines of refusals.
+
+mod case;
+mod pieces;
+mod text;
+mod wide;
+
+pub use case::case_refusal;
+pub use text::{bytes_refusal, kind_refusal, line_refusal};
+pub use wide::{When, wide_refusal};
