@@ -13,7 +13,7 @@ use Rattle.fraction.specs.Plain.{written_pair}
 use Rattle.case_model.specs.Sums.{number, number_at, terms_at}
 use Rattle.case_model.specs.Content.{Content, ForSingle, entangled}
 use Rattle.case_model.specs.LegalOrder.{IsOrderBy}
-use Rattle.entangled.specs.CaseState.{CaseState, is_live, level, case_opening, case_removal, case_after}
+use Rattle.entangled.specs.CaseRun.{CaseState, is_live_in_case, case_level, case_opening, case_removal, case_after}
 use Rattle.sequential.specs.Decisions.{IsNext}
 use Rattle.sequential.specs.declared.fault.DecideFault.{DecideFault}
 use Rattle.sequential.specs.declared.fault.DecideFault.TheVariants.{Wide, NoMemory}
@@ -22,12 +22,12 @@ use Rattle.sequential.specs.declared.priority.Priority.TheVariants.{First, Last,
 
 -- the ratio of `k` is written: `k` is still in, and its weight is above 0
 pub record HasWrittenRatio (s : CaseState) (k : ℕ) : Type 0 where
-  pub live : is_live s k ≡ true
-  pub positive : IsPositive (number (level s k))
+  pub live : is_live_in_case s k ≡ true
+  pub positive : IsPositive (number (case_level s k))
 
 -- the ratio of `k` as it is written: its p-value over its weight
 abbrev pub written_ratio : List Terms → CaseState → ℕ → Result Terms TooWide
-written_ratio ps s k = written_pair Div (terms_at ps k) (level s k)
+written_ratio ps s k = written_pair Div (terms_at ps k) (case_level s k)
 
 -- the ratios of the positions below `n` are defined
 abbrev pub AreDefinedBelow : ℕ → List Terms → CaseState → Type 0
