@@ -19,8 +19,8 @@ use Rattle.removal.specs.InTurn.{removed_in_turn, LeavesWeights}
 use Rattle.removal.specs.Laws.Prefixes.{bind_ok, ok_same}
 use Rattle.removal.specs.Laws.Seen.{weight_in as weight_seen}
 
-module _ {S : Type 0} (K : Kind) (IsStored : Parts → Type 0) (graph : S → StoredGraph) (IsProper : S → Type 0) (removal : S → ℕ → Result S Wide) (E : RemovesExactly K IsStored graph IsProper removal) (m : ℕ) where
-  turn_none : (s t : S) → removed_in_turn removal s [] ≡ Ok t → s ≡ t
+module _ {S E : Type 0} (removal : S → ℕ → Result S E) where
+  pub turn_none : (s t : S) → removed_in_turn removal s [] ≡ Ok t → s ≡ t
   unfolding removed_in_turn
   turn_none s t h = ok_same (Ok s) s t refl h
 
@@ -28,6 +28,11 @@ module _ {S : Type 0} (K : Kind) (IsStored : Parts → Type 0) (graph : S → St
   unfolding removed_in_turn
   turn_more s j js = refl
 
+  -- the state after the first removal
+  pub turn_first : (s t : S) (j : ℕ) (js : List ℕ) → removed_in_turn removal s (j ∷ js) ≡ Ok t → (u : S) × ((removal s j ≡ Ok u) × (removed_in_turn removal u js ≡ Ok t))
+  turn_first s t j js h = bind_ok (removal s j) _ t (sym (turn_more s j js) ∙ h)
+
+module _ {S : Type 0} (K : Kind) (IsStored : Parts → Type 0) (graph : S → StoredGraph) (IsProper : S → Type 0) (removal : S → ℕ → Result S Wide) (E : RemovesExactly K IsStored graph IsProper removal) (m : ℕ) where
   -- A state in which just the members of the set are in, and whose graph is this one.
   pub record Stands (I : ℕ → Bool) (A : Graph Number) (s : S) : Type 0 where
     pub proper : IsProper s
@@ -51,9 +56,9 @@ module _ {S : Type 0} (K : Kind) (IsStored : Parts → Type 0) (graph : S → St
       dropped k e = rw (dropping, e) refl
 
   pub in_turn : (js : List ℕ) (I : ℕ → Bool) (A : Graph Number) (s t : S) → Stands I A s → IsOrder m I js → removed_in_turn removal s js ≡ Ok t → Stands (left_after I js) (after number_field A js) t
-  in_turn [] I A s t T o h = subst (Stands I A) (turn_none s t h) T
+  in_turn [] I A s t T o h = subst (Stands I A) (turn_none removal s t h) T
   in_turn (j ∷ js) I A s t T o h =
-      let a = bind_ok (removal s j) _ t (sym (turn_more s j js) ∙ h) in
+      let a = turn_first removal s t j js h in
       in_turn js (dropping j I) (without number_field A j) a.0 t (step I A s a.0 j T o.0 a.1.0) o.1 a.1.1
 
   pub leaves : (s t : S) (I : ℕ → Bool) (js : List ℕ) → Stands whole (graph_of K (graph s)) s → IsValid number_field m (graph_of K (graph s)) → IsOrder m whole js → HaveSameMembers m (left_after whole js) I → removed_in_turn removal s js ≡ Ok t
