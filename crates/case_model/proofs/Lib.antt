@@ -12,6 +12,7 @@ pub mod FirstFaults
 pub mod IntersectionLaws
 pub mod IntersectionTotals
 pub mod LegalSteps
+pub mod LowestParts
 pub mod NamePlaces
 pub mod NoFaults
 pub mod OrderExistence

@@ -2,7 +2,7 @@
 use Rattle.std.proofs.Common.{◌≡◌, ◌⊎◌, inl, inr, refl, sym, ap, ◌∙◌, subst, ℕ, zero, suc, ◌<◌, ◌≤◌, arith, Bool, true, false, cond, List, [], ◌∷◌}
 use Rattle.field_core.specs.Number.{Number}
 use Rattle.field_core.specs.Arithmetic.{◌*ε◌}
-use Rattle.field_core.specs.Sets.{IsIn, dropping}
+use Rattle.field_core.specs.Sets.{IsIn, dropping, whole}
 use Rattle.field_core.specs.Laws.AtMostLaws.{at_most_or_above, at_most-compare, positive_or_not, positive-not_at_most}
 use Rattle.field_core.proofs.Live.{dropping_same, dropping_other, true_or_false, true_not_false}
 use Rattle.case_model.specs.EntangledGraph.{EntangledGraph, IsValidEntangled}
@@ -15,7 +15,7 @@ use Rattle.case_model.proofs.PriorityOrders.{legal_ratio, least_exists, least_le
 
 -- ---- how many members a set has
 
-size_of : ℕ → (ℕ → Bool) → ℕ
+pub size_of : ℕ → (ℕ → Bool) → ℕ
 size_of zero I = 0
 size_of (suc n) I = cond (I n) (suc (size_of n I)) (size_of n I)
 
@@ -32,7 +32,7 @@ unfolding size_of
 size_same zero I J same = refl
 size_same (suc n) I J same = rw (size_of, same n (omega arith), size_same n I J (λ i h. same i (omega arith)))
 
-size_dropped : (n j : ℕ) (I : ℕ → Bool) → IsIn n I j → suc (size_of n (dropping j I)) ≡ size_of n I
+pub size_dropped : (n j : ℕ) (I : ℕ → Bool) → IsIn n I j → suc (size_of n (dropping j I)) ≡ size_of n I
 size_dropped zero j I p = absurd (omega (arith, p.below))
 size_dropped (suc n) j I p = elim (at_or_below j n p.below) [
   | inl e ↦
@@ -43,6 +43,11 @@ size_dropped (suc n) j I p = elim (at_or_below j n p.below) [
     | inr f ↦ ap suc (size_out n (dropping j I) (dropping_other j I n (omega arith) ∙ f)) ∙ size_dropped n j I (record { below = b; member = p.member }) ∙ sym (size_out n I f)
   ]
 ]
+
+pub size_whole : (m : ℕ) → size_of m whole ≡ m
+unfolding size_of
+size_whole zero = refl
+size_whole (suc n) = ap suc (size_whole n)
 
 module _ (m : ℕ) (Rule : (ℕ → Bool) → ℕ → Type 0) (inside : (I : ℕ → Bool) (k : ℕ) → Rule I k → IsIn m I k) where
   run_within : ((I : ℕ → Bool) → ((j : ℕ) × Rule I j) ⊎ ((j : ℕ) → ¬ Rule I j)) → (n : ℕ) (I : ℕ → Bool) → size_of m I ≤ n → (js : List ℕ) × IsRunBy Rule I js
