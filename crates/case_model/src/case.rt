@@ -55,6 +55,13 @@ impl Case {
         self.names.len()
     }
 
+    /// The names of the hypotheses, in their order.
+    pub fn names(&self) -> &[Text]
+        ensures { result.now ≡ (content self.now).names }
+    {
+        self.names.as_slice()
+    }
+
     /// The name of the hypothesis at a position.
     pub fn name(&self, i: usize) -> &[u8]
         requires { i < length (content self.now).names }

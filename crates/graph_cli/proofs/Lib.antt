@@ -1,13 +1,4 @@
-pub mod Decisions
 pub mod Endings
-pub mod Filled
-pub mod FourLines
-pub mod Names
-pub mod Numerals
-pub mod OneAnswer
 pub mod Outcomes
 pub mod Refusals
-pub mod Rejections
-pub mod SameMembers
 pub mod Statuses
-pub mod WithoutEdges

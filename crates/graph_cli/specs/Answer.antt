@@ -6,9 +6,6 @@ use Rattle.graph_cli.specs.declared.answer.Answer.{Answer}
 abbrev pub line : List ℕ → List ℕ
 line text = text ++ 10 ∷ []
 
-unfoldable pub malformed : Answer
-malformed = record { status = 3; text = line (codes "malformed") }
-
 -- the word of this number, from 1 to 9, is the first that can't stand
 unfoldable pub usage : ℕ → Answer
 usage n = record { status = 2; text = line (codes "usage: word " ++ (48 + n) ∷ []) }

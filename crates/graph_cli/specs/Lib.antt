@@ -1,11 +1,8 @@
 pub mod Answer
 pub mod CaseRefusal
-pub mod Form
 pub mod Laws
 pub mod LinePieces
 pub mod Outcome
-pub mod Report
 pub mod Run
 pub mod TextRefusal
 pub mod WideRefusal
-pub mod WithoutEdges

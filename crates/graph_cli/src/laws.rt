@@ -1,11 +1,6 @@
-//! Laws of the form of a case and of the answers.
+//! Laws of the answers.
 
-ghost use Rattle.graph_cli.specs.Laws.{HasOneDraft, HasOneAnswer};
-
-/// A text says at most one draft.
-pub fn texts_say_one_draft()
-    ensures { HasOneDraft }
-{}
+ghost use Rattle.graph_cli.specs.Laws.{HasOneAnswer};
 
 /// Words and the bytes of a case have at most one answer.
 pub fn cases_have_one_answer()

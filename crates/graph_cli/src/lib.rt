@@ -2,11 +2,7 @@
 #![tactic(auto)]
 
 mod answer;
-mod decision;
-mod fault;
-mod form;
 pub mod laws;
-mod printed;
 mod refusal;
 mod top;
 mod words;

@@ -4,7 +4,9 @@ mod case;
 mod pieces;
 mod text;
 mod wide;
+mod words;
 
 pub use case::case_refusal;
 pub use text::{bytes_refusal, kind_refusal, line_refusal};
 pub use wide::{When, wide_refusal};
+pub use words::usage;

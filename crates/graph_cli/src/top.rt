@@ -1,33 +1,64 @@
-ghost use Rattle.std.specs.Prelude.{◌≡◌, ◌≤◌, ◌<◌, IfOk, IfErr, IfSome, map, string_bytes, length};
+ghost use Rattle.std.specs.Prelude.{◌≡◌, ◌≤◌, ◌<◌, ◌↔◌, true, IsTrue, IfOk, IfErr, IfSome, map, string_bytes, length};
 ghost use Rattle.std.specs.Io.KnownBytes.{IsAtEnd};
 ghost use Rattle.graph_io.specs.Causes.{Rose};
-ghost use Rattle.graph_cli.specs.Outcome.{IsTestOutcome, IsOutcome, ReadsCase};
-ghost use Rattle.graph_cli.specs.Report.{IsDecided};
 ghost use Rattle.case_model.specs.CaseView.{content};
-ghost use Rattle.graph_cli.specs.WithoutEdges.{IsWithoutEdges};
+ghost use Rattle.case_model.specs.Content.{is_plain};
+ghost use Rattle.sequential.specs.TrialAnswers.{IsSingle};
+ghost use Rattle.graph_cli.specs.Outcome.{IsCaseOutcome, IsTestOutcome, IsOutcome, ReadsCase};
 ghost use Rattle.graph_cli.specs.Run.{Runs, StopsFor, Finished, read_fault, no_memory};
 
 use crate::answer::{Answer, Stop};
-use crate::decision::rejected;
-use crate::fault::FormFault;
-use crate::form::read;
-use crate::printed::{decided, malformed, usage};
+use crate::refusal::{When, bytes_refusal, case_refusal, kind_refusal, line_refusal, usage, wide_refusal};
 use crate::words::{Command, read_words};
-use case_model::{Case, CaseFault};
+use case_model::{Case, Inputs};
+use edge_text::{TextFault, read_text};
 use field_core::NoMemory;
 use graph_io::{ReadEnd, Sink, Source, read_all, write_all};
+use report::test_text;
+use sequential::{DecideFault, Priority, decide};
 use std::alloc::Global;
 
 /// The most bytes that a case may have.
 const MOST_BYTES: u64 = 4_194_304;
 
-/// What is decided of a case.
-fn decide(alloc: Global, case: &Case) -> Result<Answer, NoMemory>
-    requires { IsWithoutEdges (content case.now) }
-    ensures { IfOk result (IsDecided (content case.now)) }
+/// Whether there is a p-value for each hypothesis.
+fn is_single(case: &Case) -> bool
+    ensures { IsTrue result ↔ IsSingle (content case.now).inputs }
 {
-    let rejected = rejected(alloc, case)?;
-    decided(alloc, case, rejected.as_slice())
+    match case.inputs() {
+        Inputs::Single(_) => true,
+        _ => false,
+    }
+}
+
+/// What is decided of a case with p-values.
+fn decision_answer(alloc: Global, case: &Case) -> Result<Answer, NoMemory>
+    requires plain { is_plain (content case.now) ≡ true }
+    requires single { IsSingle (content case.now).inputs }
+    ensures { IfOk result (IsCaseOutcome (content case.now)) }
+{
+    match decide(alloc, case, Priority::First) {
+        Ok(decision) => Ok(Answer {
+            status: 0,
+            text: test_text(alloc, case, &decision)?,
+        }),
+        Err(DecideFault::Wide(step, wide)) => {
+            wide_refusal(alloc, case.names(), When::Step(step), &wide)
+        }
+        Err(DecideFault::NoMemory) => Err(NoMemory),
+    }
+}
+
+/// The answer to a case.
+fn case_answer(alloc: Global, case: &Case) -> Result<Answer, NoMemory>
+    requires { is_plain (content case.now) ≡ true }
+    ensures { IfOk result (IsCaseOutcome (content case.now)) }
+{
+    if is_single(case) {
+        decision_answer(alloc, case)
+    } else {
+        kind_refusal(alloc)
+    }
 }
 
 /// The answer to the bytes of a case.
@@ -35,17 +66,13 @@ fn test_answer(alloc: Global, bytes: &[u8]) -> Result<Answer, NoMemory>
     requires { length bytes.now ≤ 4194304 }
     ensures { IfOk result (IsTestOutcome bytes.now) }
 {
-    let draft = match read(alloc, bytes) {
-        Ok(draft) => draft,
-        Err(FormFault::NotInForm) => return malformed(alloc),
-        Err(FormFault::NoMemory) => return Err(NoMemory),
-    };
-    match draft.finish(alloc) {
-        Ok(case) => decide(alloc, &case),
-        Err(refused) => match refused.fault {
-            CaseFault::NoMemory => Err(NoMemory),
-            _ => malformed(alloc),
-        },
+    match read_text(alloc, bytes) {
+        Ok(case) => case_answer(alloc, &case),
+        Err(TextFault::Line(n, kind)) => line_refusal(alloc, n, kind),
+        Err(TextFault::Case(refused)) => {
+            case_refusal(alloc, refused.names.as_slice(), &refused.fault)
+        }
+        Err(TextFault::NoMemory) => Err(NoMemory),
     }
 }
 
@@ -59,7 +86,7 @@ fn test<S: Source>(alloc: Global, case: &mut S) -> Result<Answer, Stop>
 {
     match read_all(alloc, case, MOST_BYTES) {
         Ok(bytes) => Ok(test_answer(alloc, bytes.as_slice())?),
-        Err(ReadEnd::TooLong(_)) => Ok(malformed(alloc)?),
+        Err(ReadEnd::TooLong(n)) => Ok(bytes_refusal(alloc, n)?),
         Err(ReadEnd::Fault) => Err(Stop::ReadFault),
         Err(ReadEnd::NoMemory) => Err(Stop::NoMemory),
     }
@@ -93,7 +120,8 @@ fn finish<W: Sink>(out: &mut W, text: &[u8], status: u8) -> u8
 /// All that the program does. `words` are the words after the program's name, `case` is standard input, `proof` the
 /// file of the command `check`, and `out` gets the text of the answer, or one line that says why there is none.
 ///
-/// Statuses: 0 done; 2 the words aren't accepted; 3 the case is malformed; 6 `case` had a fault; 7 `out` had a fault;
+/// Statuses: 0 done; 2 the words aren't accepted; 3 the case is malformed; 4 it is past a limit; 5 a number of it or of
+/// its run is too wide; 6 `case` had a fault; 7 `out` had a fault;
 /// 8 memory ran out.
 pub fn run<S: Source, T: Source, W: Sink>(
     alloc: Global,
