@@ -1,4 +1,2 @@
 pub mod Endings
-pub mod Outcomes
 pub mod Refusals
-pub mod Statuses

@@ -4,11 +4,10 @@ use Rattle.std.specs.Fmt.{decimal}
 use Rattle.case_model.specs.declared.fault.PartPlace.{PartPlace}
 use Rattle.case_model.specs.declared.fault.PartPlace.TheVariants.{Alpha, Share, Weight, Edge, P, Spend, Arrival}
 use Rattle.case_model.specs.declared.fault.CaseFault.{CaseFault}
-use Rattle.case_model.specs.declared.fault.CaseFault.TheVariants.{NoHypothesis, TooMany, NameForm, DuplicateName, NoComponent, TooManyComponents, PartTooLong, AlphaRange, ShareRange, ShareSum, WeightCount, WeightRange, WeightSum, SelfEdge, RepeatedEdge, EdgeRange, RowSum, Mixed, PCount, PMissing, PRange, NoStage, TooManyStages, SpendCount, SpendRange, SpendSum, ArrivalStage, ArrivalRepeated, ArrivalRange, Wide, NoMemory}
+use Rattle.case_model.specs.declared.fault.CaseFault.TheVariants.{NoHypothesis, TooMany, NameForm, DuplicateName, NoComponent, TooManyComponents, PartTooLong, AlphaRange, ShareRange, ShareSum, WeightCount, WeightRange, WeightSum, SelfEdge, RepeatedEdge, EdgeRange, RowSum, Mixed, PCount, PMissing, PRange, NoStage, TooManyStages, SpendCount, SpendRange, SpendSum, ArrivalStage, ArrivalRepeated, ArrivalRange, Wide}
 use Rattle.graph_cli.specs.declared.answer.Answer.{Answer}
 use Rattle.graph_cli.specs.declared.refusal.wide.When.TheVariants.{Reading}
 use Rattle.graph_cli.specs.LinePieces.{counted, name_at, two_names, in_component, malformed_at, past_limit}
-use Rattle.graph_cli.specs.Run.{no_memory}
 use Rattle.graph_cli.specs.WideRefusal.{wide_refusal}
 
 -- where a number stands in a draft
@@ -50,12 +49,11 @@ case_kind names (ArrivalRepeated n) = codes "arrival " ++ counted n ++ codes " r
 case_kind names (ArrivalRange n) = codes "arrival " ++ counted n ++ codes " p"
 case_kind names fault = []
 
--- The line of a fault. Want of memory is no fault of a case. All faults without a row of their own are of malformed cases.
+-- The line of a fault. All faults without a row of their own are of malformed cases; want of memory is no fault of a draft.
 unfoldable pub case_refusal : List (List ℕ) → CaseFault → Answer
 case_refusal names (TooMany n) = past_limit (codes "hypotheses " ++ decimal n)
 case_refusal names (TooManyComponents n) = past_limit (codes "components " ++ decimal n)
 case_refusal names (TooManyStages n) = past_limit (codes "stages " ++ decimal n)
 case_refusal names (PartTooLong place) = past_limit (codes "case: part " ++ part_words names place)
 case_refusal names (Wide wide) = wide_refusal names Reading wide
-case_refusal names NoMemory = record { status = 8; text = no_memory }
 case_refusal names fault = malformed_at (codes "case") (case_kind names fault)

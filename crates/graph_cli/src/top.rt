@@ -35,7 +35,8 @@ fn is_single(case: &Case) -> bool
 fn decision_answer(alloc: Global, case: &Case) -> Result<Answer, NoMemory>
     requires plain { is_plain (content case.now) ≡ true }
     requires single { IsSingle (content case.now).inputs }
-    ensures { IfOk result (IsCaseOutcome (content case.now)) }
+    ensures value { IfOk result (IsCaseOutcome (content case.now)) }
+    ensures low { IfOk result (λ answer. answer.status ≤ 5) }
 {
     match decide(alloc, case, Priority::First) {
         Ok(decision) => Ok(Answer {
@@ -52,7 +53,8 @@ fn decision_answer(alloc: Global, case: &Case) -> Result<Answer, NoMemory>
 /// The answer to a case.
 fn case_answer(alloc: Global, case: &Case) -> Result<Answer, NoMemory>
     requires { is_plain (content case.now) ≡ true }
-    ensures { IfOk result (IsCaseOutcome (content case.now)) }
+    ensures value { IfOk result (IsCaseOutcome (content case.now)) }
+    ensures low { IfOk result (λ answer. answer.status ≤ 5) }
 {
     if is_single(case) {
         decision_answer(alloc, case)
@@ -64,7 +66,8 @@ fn case_answer(alloc: Global, case: &Case) -> Result<Answer, NoMemory>
 /// The answer to the bytes of a case.
 fn test_answer(alloc: Global, bytes: &[u8]) -> Result<Answer, NoMemory>
     requires { length bytes.now ≤ 4194304 }
-    ensures { IfOk result (IsTestOutcome bytes.now) }
+    ensures value { IfOk result (IsTestOutcome bytes.now) }
+    ensures low { IfOk result (λ answer. answer.status ≤ 5) }
 {
     match read_text(alloc, bytes) {
         Ok(case) => case_answer(alloc, &case),

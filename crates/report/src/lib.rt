@@ -2,5 +2,7 @@
 #![tactic(auto)]
 
 mod number;
+mod text;
 
 pub use number::put_number;
+pub use text::test_text;

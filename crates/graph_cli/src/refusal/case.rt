@@ -1,5 +1,5 @@
 //! Lines of the faults of a case.
-ghost use Rattle.std.specs.Prelude.{◌≡◌, ◌++◌, IfOk, OnOk, codes};
+ghost use Rattle.std.specs.Prelude.{◌≡◌, ◌≤◌, ◌++◌, IfOk, OnOk, codes};
 ghost use Rattle.std.specs.Fmt.{decimal};
 ghost use Rattle.graph_cli.specs.LinePieces.{counted, name_at, two_names, in_component, past_limit, malformed_at};
 ghost use Rattle.graph_cli.specs.CaseRefusal.{part_words, case_kind, case_refusal};
@@ -149,9 +149,10 @@ fn too_long(alloc: Global, names: &[Text], place: PartPlace) -> Result<Answer, N
 }
 
 /// The answer to a fault of a case with these names; `NoMemory` where the fault is want of memory, or memory runs out.
-#[tactic(auto, unfolding(crate::specs::CaseRefusal::case_refusal))]
+#[tactic(auto, unfolding(crate::specs::CaseRefusal::case_refusal, crate::specs::LinePieces::past_limit, crate::specs::LinePieces::malformed_at, crate::specs::WideRefusal::wide_refusal))]
 pub fn case_refusal(alloc: Global, names: &[Text], fault: &CaseFault) -> Result<Answer, NoMemory>
-    ensures { IfOk result (λ answer. answer ≡ case_refusal names.now fault.now) }
+    ensures value { IfOk result (λ answer. answer ≡ case_refusal names.now fault.now) }
+    ensures low { IfOk result (λ answer. answer.status ≤ 5) }
 {
     match *fault {
         CaseFault::TooMany(n) => too_many(alloc, b"hypotheses ", n),

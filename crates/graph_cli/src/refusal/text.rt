@@ -1,5 +1,5 @@
 //! Lines of inputs that give no case, or one of the wrong kind.
-ghost use Rattle.std.specs.Prelude.{◌≡◌, ◌++◌, IfOk, codes};
+ghost use Rattle.std.specs.Prelude.{◌≡◌, ◌≤◌, ◌++◌, IfOk, codes};
 ghost use Rattle.graph_cli.specs.LinePieces.{malformed_at, past_limit};
 ghost use Rattle.graph_cli.specs.TextRefusal.{at_line, number_refusal, line_refusal, bytes_refusal, kind_refusal};
 
@@ -53,9 +53,10 @@ fn at_line(alloc: Global, line: usize) -> Result<List<u8>, NoMemory>
 }
 
 /// The answer to a line of a text, by its number from 1, that can't stand.
-#[tactic(auto, unfolding(crate::specs::TextRefusal::line_refusal))]
+#[tactic(auto, unfolding(crate::specs::TextRefusal::line_refusal, crate::specs::LinePieces::past_limit, crate::specs::LinePieces::malformed_at, crate::specs::TextRefusal::number_refusal))]
 pub fn line_refusal(alloc: Global, line: usize, kind: LineKind) -> Result<Answer, NoMemory>
-    ensures { IfOk result (λ answer. answer ≡ line_refusal line kind) }
+    ensures value { IfOk result (λ answer. answer ≡ line_refusal line kind) }
+    ensures low { IfOk result (λ answer. answer.status ≤ 5) }
 {
     let place = at_line(alloc, line)?;
     let place = place.as_slice();
@@ -71,7 +72,8 @@ pub fn line_refusal(alloc: Global, line: usize, kind: LineKind) -> Result<Answer
 /// The answer to an input of more bytes than it may have, of which so many were read.
 #[tactic(auto, unfolding(crate::specs::TextRefusal::bytes_refusal, crate::specs::LinePieces::past_limit))]
 pub fn bytes_refusal(alloc: Global, n: u64) -> Result<Answer, NoMemory>
-    ensures { IfOk result (λ answer. answer ≡ bytes_refusal n) }
+    ensures value { IfOk result (λ answer. answer ≡ bytes_refusal n) }
+    ensures low { IfOk result (λ answer. answer.status ≤ 5) }
 {
     let mut text = past_limit(alloc)?;
     put_counting(&mut text, b"bytes ", n as u128)?;
@@ -81,7 +83,8 @@ pub fn bytes_refusal(alloc: Global, n: u64) -> Result<Answer, NoMemory>
 /// The answer to p-values that aren't of the kind that a command needs.
 #[tactic(auto, unfolding(crate::specs::TextRefusal::kind_refusal))]
 pub fn kind_refusal(alloc: Global) -> Result<Answer, NoMemory>
-    ensures { IfOk result (λ answer. answer ≡ kind_refusal) }
+    ensures value { IfOk result (λ answer. answer ≡ kind_refusal) }
+    ensures low { IfOk result (λ answer. answer.status ≤ 5) }
 {
     let mut text = List::new(alloc);
     text.append(b"malformed: kind")?;

@@ -1,5 +1,5 @@
 //! Lines of operations that have a part past its size.
-ghost use Rattle.std.specs.Prelude.{◌≡◌, ◌++◌, IfOk, OnOk};
+ghost use Rattle.std.specs.Prelude.{◌≡◌, ◌≤◌, ◌++◌, IfOk, OnOk};
 ghost use Rattle.graph_cli.specs.WideRefusal.{when_words, place_words, op_words, wide_refusal};
 
 use super::pieces::{ended, put_between, put_counted, put_counting, put_of};
@@ -68,7 +68,8 @@ pub fn wide_refusal(
     when: When,
     wide: &WideAt,
 ) -> Result<Answer, NoMemory>
-    ensures { IfOk result (λ answer. answer ≡ wide_refusal names.now when wide.now) }
+    ensures value { IfOk result (λ answer. answer ≡ wide_refusal names.now when wide.now) }
+    ensures low { IfOk result (λ answer. answer.status ≤ 5) }
 {
     let mut text = List::new(alloc);
     text.append(b"too wide: ")?;

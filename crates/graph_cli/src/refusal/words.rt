@@ -1,5 +1,5 @@
 //! Lines of words that aren't accepted.
-ghost use Rattle.std.specs.Prelude.{◌≡◌, ◌<◌, IfOk};
+ghost use Rattle.std.specs.Prelude.{◌≡◌, ◌≤◌, ◌<◌, IfOk};
 ghost use Rattle.graph_cli.specs.Answer.{usage};
 
 use super::pieces::ended;
@@ -11,7 +11,8 @@ use std::alloc::Global;
 #[tactic(auto, unfolding(crate::specs::Answer::usage))]
 pub fn usage(alloc: Global, word: u8) -> Result<Answer, NoMemory>
     requires { word < 10 }
-    ensures { IfOk result (λ answer. answer ≡ usage word) }
+    ensures value { IfOk result (λ answer. answer ≡ usage word) }
+    ensures low { IfOk result (λ answer. answer.status ≤ 5) }
 {
     let mut text = List::new(alloc);
     text.append(b"usage: word ")?;
