@@ -2,5 +2,7 @@
 #![tactic(auto)]
 
 mod number;
+mod test;
 
 pub use number::put_number;
+pub use test::test_text;
