@@ -1,11 +1,11 @@
 //! What the command `test` prints.
-ghost use Rattle.std.specs.Prelude.{◌≡◌, ◌<◌, ◌++◌, IfOk, OnOk, length, map};
-ghost use Rattle.std.specs.List.{flat_map, range_with_len};
+ghost use Rattle.std.specs.Prelude.{◌≡◌, ◌==◌, ◌<◌, ◌++◌, IfOk, OnOk, length, map};
+ghost use Rattle.std.specs.List.{flat_map, list_any, range_with_len};
 ghost use Rattle.fraction.specs.View.{terms_of};
 ghost use Rattle.case_model.specs.CaseView.{content};
 ghost use Rattle.case_model.specs.Sums.{terms_at};
 ghost use Rattle.sequential.specs.DecisionView.{line, decision as decided};
-ghost use Rattle.report.specs.TestReport.{IsSingle, AreOfCase, p_values, figures, spaced_name, alpha_line, step_line, step_lines, kept_line, is_rejected, name_if_rejected, rejected_line, test_report};
+ghost use Rattle.report.specs.TestReport.{IsSingle, AreOfCase, p_values, figures, spaced_name, alpha_line, step_line, step_lines, kept_line, name_if_rejected, rejected_line, test_report};
 
 use crate::number::put_number;
 use case_model::{Case, Inputs};
@@ -114,11 +114,26 @@ fn put_kept(text: &mut List<u8>, case: &Case, kept: &[StepLine]) -> Result<(), N
 }
 
 /// Whether the hypothesis at a position is that of a step.
-#[tactic(auto, unfolding(crate::specs::TestReport::is_rejected))]
 fn is_rejected(steps: &[StepLine], j: usize) -> bool
-    ensures { result ≡ is_rejected (map line steps.now) j }
+    ensures { result ≡ list_any (λ step. step.hypothesis == j) steps.now }
 {
     steps.iter().any(|step| step.hypothesis == j)
+}
+
+/// Appends the name of the hypothesis at a position, where it is that of a step.
+fn put_if_rejected(
+    text: &mut List<u8>,
+    case: &Case,
+    steps: &[StepLine],
+    j: usize,
+) -> Result<(), NoMemory>
+    requires { j < length (content case.now).names }
+    ensures { OnOk result (text.new ≡ text.old ++ name_if_rejected (content case.now) (map line steps.now) j) }
+{
+    if !is_rejected(steps, j) {
+        return Ok(());
+    }
+    put_name(text, case, j)
 }
 
 /// Appends the names of the hypotheses that are rejected.
@@ -126,9 +141,7 @@ fn put_rejected_names(text: &mut List<u8>, case: &Case, steps: &[StepLine]) -> R
     ensures { OnOk result (text.new ≡ text.old ++ flat_map (name_if_rejected (content case.now) (map line steps.now)) (range_with_len 0 (length (content case.now).names))) }
 {
     for j in 0..case.size() {
-        if is_rejected(steps, j) {
-            put_name(text, case, j)?;
-        }
+        put_if_rejected(text, case, steps, j)?;
     }
     Ok(())
 }
