@@ -2,6 +2,8 @@
 
 mod case;
 mod pieces;
+#[cfg(test)]
+mod tests;
 mod text;
 mod wide;
 mod words;

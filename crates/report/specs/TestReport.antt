@@ -1,7 +1,69 @@
--- stub
-use Rattle.std.specs.Prelude.{ℕ, List, codes}
-use Rattle.case_model.specs.Content.{Content}
-use Rattle.sequential.specs.DecisionView.{DecisionContent}
+-- What the command `test` prints of a case and the decision on it.
+use Rattle.std.specs.Prelude.{ℕ, ◌+◌, ◌<◌, ◌==◌, Bool, List, [], ◌∷◌, ◌++◌, length, get_or, codes, if◌then◌else◌}
+use Rattle.std.specs.Fmt.{decimal}
+use Rattle.std.specs.List.{All, flat_map, list_any, range_with_len}
+use Rattle.field_core.specs.Terms.{Terms}
+use Rattle.fraction.specs.Spelling.{spelling}
+use Rattle.case_model.specs.Content.{Content, InputsContent, ForSingle, bare, single, staged}
+use Rattle.case_model.specs.Sums.{terms_at}
+use Rattle.sequential.specs.DecisionView.{StepContent, DecisionContent}
 
+-- there is a p-value for each hypothesis
+abbrev pub IsSingle : InputsContent → Type 0
+IsSingle inputs = ForSingle inputs (λ ps. Unit {0})
+
+-- each line is of a hypothesis of the case
+abbrev pub AreOfCase : Content → List StepContent → Type 0
+AreOfCase case lines = All (λ x. x.hypothesis < length case.names) lines
+
+-- the p-values, and nothing where there are no single ones
+abbrev pub p_values : InputsContent → List Terms
+p_values (single ps) = ps
+p_values bare = []
+p_values (staged stages) = []
+
+-- a text and the end of its line
+abbrev pub line : List ℕ → List ℕ
+line text = text ++ 10 ∷ []
+
+-- a space and the name of the hypothesis at a position
+abbrev pub spaced_name : Content → ℕ → List ℕ
+spaced_name case j = 32 ∷ get_or case.names j []
+
+-- the name of a hypothesis, its p-value and its weight
+unfoldable pub figures : Content → StepContent → List ℕ
+figures case x = spaced_name case x.hypothesis ++ codes " p " ++ spelling (terms_at (p_values case.inputs) x.hypothesis) ++ codes " weight " ++ spelling x.weight
+
+-- the level
+unfoldable pub alpha_line : Content → List ℕ
+alpha_line case = line (codes "alpha " ++ spelling case.alpha)
+
+-- the step of this number
+unfoldable pub step_line : Content → ℕ → StepContent → List ℕ
+step_line case n x = line (codes "step " ++ decimal n ++ figures case x)
+
+-- the steps in their order, of which the first has this number
+abbrev pub step_lines : Content → ℕ → List StepContent → List ℕ
+step_lines case n [] = []
+step_lines case n (x ∷ xs) = step_line case n x ++ step_lines case (n + 1) xs
+
+-- a hypothesis that is kept
+unfoldable pub kept_line : Content → StepContent → List ℕ
+kept_line case x = line (codes "kept" ++ figures case x)
+
+-- the hypothesis at a position is that of a step
+unfoldable pub is_rejected : List StepContent → ℕ → Bool
+is_rejected steps j = list_any (λ x. x.hypothesis == j) steps
+
+-- its name, where it is
+abbrev pub name_if_rejected : Content → List StepContent → ℕ → List ℕ
+name_if_rejected case steps j = if is_rejected steps j then spaced_name case j else []
+
+-- the names of the hypotheses that are rejected, by ascending position
+unfoldable pub rejected_line : Content → List StepContent → List ℕ
+rejected_line case steps = line (codes "rejected" ++ flat_map (name_if_rejected case steps) (range_with_len 0 (length case.names)))
+
+-- the level, the steps, the hypotheses that are kept, the names of those that are rejected, and the last line
 unfoldable pub test_report : Content → DecisionContent → List ℕ
-test_report c d = codes "end"
+test_report case decision =
+    alpha_line case ++ step_lines case 1 decision.steps ++ flat_map (kept_line case) decision.kept ++ rejected_line case decision.steps ++ line (codes "end")

@@ -2,7 +2,7 @@
 #![tactic(auto)]
 
 mod number;
-mod text;
+mod test;
 
 pub use number::put_number;
-pub use text::test_text;
+pub use test::test_text;

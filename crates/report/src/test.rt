@@ -1,0 +1,177 @@
+//! What the command `test` prints.
+ghost use Rattle.std.specs.Prelude.{◌≡◌, ◌==◌, ◌<◌, ◌++◌, IfOk, OnOk, length, map};
+ghost use Rattle.std.specs.List.{flat_map, list_any, range_with_len};
+ghost use Rattle.fraction.specs.View.{terms_of};
+ghost use Rattle.case_model.specs.CaseView.{content};
+ghost use Rattle.case_model.specs.Sums.{terms_at};
+ghost use Rattle.sequential.specs.DecisionView.{line, decision as decided};
+ghost use Rattle.report.specs.TestReport.{IsSingle, AreOfCase, p_values, figures, spaced_name, alpha_line, step_line, step_lines, kept_line, name_if_rejected, rejected_line, test_report};
+
+use crate::number::put_number;
+use case_model::{Case, Inputs};
+use field_core::{List, NoMemory};
+use fraction::Fraction;
+use sequential::{Decision, StepLine};
+use std::alloc::Global;
+
+/// The p-value of the hypothesis at a position.
+fn p_value(case: &Case, j: usize) -> Fraction
+    requires single { IsSingle (content case.now).inputs }
+    requires below { j < length (content case.now).names }
+    ensures { terms_of result ≡ terms_at (p_values (content case.now).inputs) j }
+{
+    match case.inputs() {
+        Inputs::Single(p_values) => p_values.as_slice()[j],
+        _ => unreachable!(),
+    }
+}
+
+/// Appends a space and the name of the hypothesis at a position.
+fn put_name(text: &mut List<u8>, case: &Case, j: usize) -> Result<(), NoMemory>
+    requires { j < length (content case.now).names }
+    ensures { OnOk result (text.new ≡ text.old ++ spaced_name (content case.now) j) }
+{
+    text.push(b' ')?;
+    text.append(case.name(j))
+}
+
+/// Appends the name of a hypothesis, its p-value and its weight.
+#[tactic(auto, unfolding(crate::specs::TestReport::figures))]
+fn put_figures(text: &mut List<u8>, case: &Case, step: &StepLine) -> Result<(), NoMemory>
+    requires single { IsSingle (content case.now).inputs }
+    requires below { step.now.hypothesis < length (content case.now).names }
+    ensures { OnOk result (text.new ≡ text.old ++ figures (content case.now) (line step.now)) }
+{
+    put_name(text, case, step.hypothesis)?;
+    text.append(b" p ")?;
+    p_value(case, step.hypothesis).print(text)?;
+    text.append(b" weight ")?;
+    step.weight.print(text)
+}
+
+/// Appends the level.
+#[tactic(auto, unfolding(crate::specs::TestReport::alpha_line))]
+fn put_alpha(text: &mut List<u8>, case: &Case) -> Result<(), NoMemory>
+    ensures { OnOk result (text.new ≡ text.old ++ alpha_line (content case.now)) }
+{
+    text.append(b"alpha ")?;
+    case.alpha().print(text)?;
+    text.push(b'\n')
+}
+
+/// Appends the step of this number.
+#[tactic(auto, unfolding(crate::specs::TestReport::step_line))]
+fn put_step(
+    text: &mut List<u8>,
+    case: &Case,
+    number: usize,
+    step: &StepLine,
+) -> Result<(), NoMemory>
+    requires single { IsSingle (content case.now).inputs }
+    requires below { step.now.hypothesis < length (content case.now).names }
+    ensures { OnOk result (text.new ≡ text.old ++ step_line (content case.now) number (line step.now)) }
+{
+    text.append(b"step ")?;
+    put_number(text, number as u128)?;
+    put_figures(text, case, step)?;
+    text.push(b'\n')
+}
+
+/// Appends the steps, counted from 1.
+fn put_steps(text: &mut List<u8>, case: &Case, steps: &[StepLine]) -> Result<(), NoMemory>
+    requires single { IsSingle (content case.now).inputs }
+    requires of_case { AreOfCase (content case.now) (map line steps.now) }
+    ensures { OnOk result (text.new ≡ text.old ++ step_lines (content case.now) 1 (map line steps.now)) }
+{
+    for (i, step) in steps.iter().enumerate() {
+        put_step(text, case, i + 1, step)?;
+    }
+    Ok(())
+}
+
+/// Appends a hypothesis that is kept.
+#[tactic(auto, unfolding(crate::specs::TestReport::kept_line))]
+fn put_kept_line(text: &mut List<u8>, case: &Case, kept: &StepLine) -> Result<(), NoMemory>
+    requires single { IsSingle (content case.now).inputs }
+    requires below { kept.now.hypothesis < length (content case.now).names }
+    ensures { OnOk result (text.new ≡ text.old ++ kept_line (content case.now) (line kept.now)) }
+{
+    text.append(b"kept")?;
+    put_figures(text, case, kept)?;
+    text.push(b'\n')
+}
+
+/// Appends the hypotheses that are kept.
+fn put_kept(text: &mut List<u8>, case: &Case, kept: &[StepLine]) -> Result<(), NoMemory>
+    requires single { IsSingle (content case.now).inputs }
+    requires of_case { AreOfCase (content case.now) (map line kept.now) }
+    ensures { OnOk result (text.new ≡ text.old ++ flat_map (kept_line (content case.now)) (map line kept.now)) }
+{
+    for kept_hypothesis in kept {
+        put_kept_line(text, case, kept_hypothesis)?;
+    }
+    Ok(())
+}
+
+/// Whether the hypothesis at a position is that of a step.
+fn is_rejected(steps: &[StepLine], j: usize) -> bool
+    ensures { result ≡ list_any (λ step. step.hypothesis == j) steps.now }
+{
+    steps.iter().any(|step| step.hypothesis == j)
+}
+
+/// Appends the name of the hypothesis at a position, where it is that of a step.
+fn put_if_rejected(
+    text: &mut List<u8>,
+    case: &Case,
+    steps: &[StepLine],
+    j: usize,
+) -> Result<(), NoMemory>
+    requires { j < length (content case.now).names }
+    ensures { OnOk result (text.new ≡ text.old ++ name_if_rejected (content case.now) (map line steps.now) j) }
+{
+    if !is_rejected(steps, j) {
+        return Ok(());
+    }
+    put_name(text, case, j)
+}
+
+/// Appends the names of the hypotheses that are rejected.
+fn put_rejected_names(text: &mut List<u8>, case: &Case, steps: &[StepLine]) -> Result<(), NoMemory>
+    ensures { OnOk result (text.new ≡ text.old ++ flat_map (name_if_rejected (content case.now) (map line steps.now)) (range_with_len 0 (length (content case.now).names))) }
+{
+    for j in 0..case.size() {
+        put_if_rejected(text, case, steps, j)?;
+    }
+    Ok(())
+}
+
+/// Appends the line of the hypotheses that are rejected.
+#[tactic(auto, unfolding(crate::specs::TestReport::rejected_line))]
+fn put_rejected(text: &mut List<u8>, case: &Case, steps: &[StepLine]) -> Result<(), NoMemory>
+    ensures { OnOk result (text.new ≡ text.old ++ rejected_line (content case.now) (map line steps.now)) }
+{
+    text.append(b"rejected")?;
+    put_rejected_names(text, case, steps)?;
+    text.push(b'\n')
+}
+
+/// What the command `test` prints: the level, the steps of the decision, the hypotheses that it keeps, and the names of
+/// those that it rejects.
+///
+/// Each hypothesis of the decision must be one of the case, which must have a p-value for each.
+#[tactic(auto, unfolding(crate::specs::TestReport::test_report))]
+pub fn test_text(alloc: Global, case: &Case, decision: &Decision) -> Result<List<u8>, NoMemory>
+    requires single { IsSingle (content case.now).inputs }
+    requires steps { AreOfCase (content case.now) (decided decision.now).steps }
+    requires kept { AreOfCase (content case.now) (decided decision.now).kept }
+    ensures { IfOk result (λ text. text ≡ test_report (content case.now) (decided decision.now)) }
+{
+    let mut text = List::new(alloc);
+    put_alpha(&mut text, case)?;
+    put_steps(&mut text, case, decision.steps.as_slice())?;
+    put_kept(&mut text, case, decision.kept.as_slice())?;
+    put_rejected(&mut text, case, decision.steps.as_slice())?;
+    text.append(b"end\n")?;
+    Ok(text)
+}
