@@ -4,6 +4,7 @@
 mod cursor;
 mod document;
 mod fault;
+mod laws;
 mod lines;
 mod read;
 mod rules;
