@@ -1,11 +1,11 @@
 -- Lines say at most one draft.
-use Rattle.std.proofs.Common.{◌≡◌, ℕ, ◌<◌, List, [], ◌∷◌, ◌++◌, Option, Some, None, map, refl, sym, ap, ap₂, subst, ◌∙◌}
+use Rattle.std.proofs.Common.{◌≡◌, ℕ, List, [], ◌∷◌, ◌++◌, Option, Some, None, map, refl, sym, ap, ap₂, subst, ◌∙◌}
 use Rattle.std.specs.Prelude.{codes}
 use Rattle.std.specs.List.{AllZip}
 use Rattle.field_core.specs.Terms.{Terms}
-use Rattle.case_model.specs.Draft.{DraftContent, DraftComponentContent, DraftStagesContent, DraftEdgeContent}
+use Rattle.case_model.specs.Draft.{DraftContent, DraftEdgeContent}
 use Rattle.case_model.specs.Names.{position_of}
-use Rattle.edge_text.specs.Grammar.{Words, Says, IsAlphaLine, IsNamesLine, IsNumbersLine, IsPLine, IsWeightsLine, IsEdgeLine, plain_entry, optional, GivesP, one_component, IsDocument}
+use Rattle.edge_text.specs.Grammar.{Words, Says, IsAlphaLine, IsNamesLine, IsWeightsLine, IsEdgeLine, plain_entry, optional, GivesP, one_component, IsDocument}
 use Rattle.edge_text.proofs.LineWords.{tails, one_word, second_words, third_words, fourth_words, keywords_differ, one_saying, same_numbers}
 
 lines_heads : (x y : Words) (xs ys : List Words) → x ∷ xs ≡ y ∷ ys → x ≡ y

@@ -49,3 +49,11 @@ abbrev pub FirstFaultsEndDocuments : Type 0
 FirstFaultsEndDocuments =
     (bytes : List ℕ) (number : ℕ) (kind : LineKind) → IsFirstFault bytes number kind →
     ((kind ≢ Ended) × IsWhereNoneGoesOn (rows_of bytes) number) ⊎ ((kind ≡ Ended) × (number ≡ end_of bytes) × IsUnfinished (rows_of bytes))
+
+-- the first line with which no document goes on has the first fault
+abbrev pub WhereNoneGoesOnIsFault : Type 0
+WhereNoneGoesOnIsFault = (bytes : List ℕ) (number : ℕ) → IsWhereNoneGoesOn (rows_of bytes) number → (kind : LineKind) × IsFirstFault bytes number kind
+
+-- a text that only begins a document has its first fault behind its last line
+abbrev pub UnfinishedTextsEnd : Type 0
+UnfinishedTextsEnd = (bytes : List ℕ) → IsUnfinished (rows_of bytes) → IsFirstFault bytes (end_of bytes) Ended

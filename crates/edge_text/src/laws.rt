@@ -1,19 +1,26 @@
 //! Laws of texts: each says one draft, or has one first fault.
-ghost use Rattle.edge_text.specs.TextStatements.{TextsSayOneDraft, TextsHaveOneFault, TextsDontSayAndFail, FirstFaultsEndDocuments};
+ghost use Rattle.edge_text.specs.TextStatements.{TextsSayOneDraft, TextsHaveOneFault, TextsSayOrFail, TextsDontSayAndFail, FirstFaultsEndDocuments, WhereNoneGoesOnIsFault, UnfinishedTextsEnd};
 
 /// A text says at most one draft.
 pub fn texts_say_one_draft()
     ensures { TextsSayOneDraft }
 {}
 
-/// A text has at most one first fault, and none where it says a draft.
+/// A text has at most one first fault.
 pub fn texts_have_one_fault()
-    ensures one { TextsHaveOneFault }
+    ensures { TextsHaveOneFault }
+{}
+
+/// A text says a draft or has a first fault, and not both.
+pub fn texts_say_or_fail()
+    ensures each { TextsSayOrFail }
     ensures apart { TextsDontSayAndFail }
 {}
 
-/// The first fault of a text is at the first line with which no document goes on, or else behind its last line, where
-/// it is no document yet.
+/// The first fault of a text is exactly where no document goes on: at the first line with which none does, or else
+/// behind the last line, where the lines are no document yet.
 pub fn first_faults_end_documents()
-    ensures { FirstFaultsEndDocuments }
+    ensures there { FirstFaultsEndDocuments }
+    ensures line { WhereNoneGoesOnIsFault }
+    ensures end { UnfinishedTextsEnd }
 {}

@@ -4,7 +4,7 @@
 mod cursor;
 mod document;
 mod fault;
-mod laws;
+pub mod laws;
 mod lines;
 mod read;
 mod rules;

@@ -1,8 +1,5 @@
-use Rattle.edge_text.proofs.TextLaws.{one_first_fault, not_both}
+use Rattle.edge_text.proofs.TextLaws.{one_first_fault}
 use Rattle.edge_text.proofs.laws.texts_have_one_fault.Goals as goal
 
-pub returns-clause-one : goal.returns-clause-one
-returns-clause-one c = one_first_fault
-
-pub returns-clause-apart : goal.returns-clause-apart
-returns-clause-apart c = not_both
+pub returns : goal.returns
+returns c = one_first_fault

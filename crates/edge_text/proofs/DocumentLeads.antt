@@ -1,14 +1,14 @@
 -- Lines that may stand one behind the other, and documents.
-use Rattle.std.proofs.Common.{◌≡◌, ℕ, ◌⊎◌, inl, inr, List, [], ◌∷◌, ◌++◌, Option, Some, None, map, ℤ, pos, refl, sym, ap, ap₂, subst, ◌∙◌, arith, append_assoc}
+use Rattle.std.proofs.Common.{◌≡◌, inl, inr, List, [], ◌∷◌, ◌++◌, Option, Some, None, map, refl, sym, ap, subst, ◌∙◌, arith}
 use Rattle.std.specs.Prelude.{codes}
 use Rattle.std.specs.List.{AllZip}
 use Rattle.field_core.specs.Terms.{Terms}
 use Rattle.fraction.specs.Plain.{zero_reduced}
 use Rattle.fraction.specs.Spelling.{spelling}
 use Rattle.fraction.proofs.ReadBack.{read_back}
-use Rattle.case_model.specs.Draft.{DraftContent, DraftComponentContent, DraftEdgeContent}
+use Rattle.case_model.specs.Draft.{DraftContent, DraftEdgeContent}
 use Rattle.case_model.specs.Sums.{zero_terms}
-use Rattle.edge_text.specs.Grammar.{Words, Says, IsAlphaLine, IsNamesLine, IsNumbersLine, IsPLine, IsWeightsLine, IsEdgeLine, optional, GivesP, one_component, IsDocument}
+use Rattle.edge_text.specs.Grammar.{Words, Says, IsAlphaLine, IsNamesLine, IsWeightsLine, IsEdgeLine, optional, GivesP, one_component, IsDocument}
 use Rattle.edge_text.specs.Faults.{Place, Alpha, Names, POrWeights, Weights, Edges, MustFollow, Stands, Lead}
 use Rattle.edge_text.specs.TextStatements.{BeginDocument}
 use Rattle.edge_text.proofs.LineFaults.{stands_once}
@@ -131,11 +131,22 @@ said_by line lines alpha a n =
     record {
       draft = record { names = n.names; alpha = alpha; p = numbers.p; components = one_component numbers.weights numbers.edges.edges; stages = None };
       is = record {
-        alpha_line = line; names_line = n.line; p_line = numbers.p_line; weights_line = numbers.line; edge_lines = numbers.rest;
+        alpha_line = line;
+        names_line = n.line;
+        p_line = numbers.p_line;
+        weights_line = numbers.line;
+        edge_lines = numbers.rest;
         spelt = ap (λ ls. line ∷ ls) (n.spelt ∙ ap (λ ls. n.line ∷ ls) numbers.spelt);
-        alpha = a; names = n.are; p = numbers.given; weights = numbers.weights; weights_are = numbers.are;
-        edges = numbers.edges.edges; edges_are = numbers.edges.are; components = refl; stages = refl
-      }
+        alpha = a;
+        names = n.are;
+        p = numbers.given;
+        weights = numbers.weights;
+        weights_are = numbers.are;
+        edges = numbers.edges.edges;
+        edges_are = numbers.edges.are;
+        components = refl;
+        stages = refl;
+      };
     }
 
 pub lead_says : (names : Words) (lines : List Words) → Lead Alpha lines (Edges names) → IsSaid lines
