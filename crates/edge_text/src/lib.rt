@@ -15,3 +15,5 @@ pub use read::read_text;
 
 #[cfg(test)]
 mod tests;
+#[cfg(test)]
+mod vectors;
