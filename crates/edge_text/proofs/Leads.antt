@@ -16,7 +16,7 @@ pub lead_on : (place here next : Place) (before lines : List Words) → Lead pla
 lead_on place here next [] lines h k = subst (λ p. Lead p lines next) h k
 lead_on place here next (line ∷ before) lines h k = (h.0, h.1, lead_on h.0 here next before lines h.2 k)
 
-words_append : (xs ys : List Row) → words_in (xs ++ ys) ≡ words_in xs ++ words_in ys
+pub words_append : (xs ys : List Row) → words_in (xs ++ ys) ≡ words_in xs ++ words_in ys
 words_append xs ys = map-append (λ row. words_of row.text) xs ys
 
 lead_rows : (place here next : Place) (before rows : List Row) → Lead place (words_in before) here → Lead here (words_in rows) next → Lead place (words_in (before ++ rows)) next
