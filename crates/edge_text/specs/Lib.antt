@@ -2,4 +2,5 @@ pub mod Faults
 pub mod Grammar
 pub mod Lines
 pub mod Reading
+pub mod TextStatements
 pub mod View

@@ -1,10 +1,31 @@
-//! Laws of the text form.
-ghost use Rattle.std.specs.Prelude.{◌≡◌, ℕ, List, true};
-ghost use Rattle.case_model.specs.Draft.{DraftContent};
-ghost use Rattle.case_model.specs.Content.{content_of, is_plain};
-ghost use Rattle.edge_text.specs.Grammar.{IsText};
+//! Laws of texts: each says one draft, or has one first fault.
+ghost use Rattle.edge_text.specs.TextStatements.{TextsSayOneDraft, TextsArePlain, TextsHaveOneFault, TextsSayOrFail, TextsDontSayAndFail, FirstFaultsEndDocuments, WhereNoneGoesOnIsFault, UnfinishedTextsEnd};
+
+/// A text says at most one draft.
+pub fn texts_say_one_draft()
+    ensures { TextsSayOneDraft }
+{}
+
+/// A text has at most one first fault.
+pub fn texts_have_one_fault()
+    ensures { TextsHaveOneFault }
+{}
+
+/// A text says a draft or has a first fault, and not both.
+pub fn texts_say_or_fail()
+    ensures each { TextsSayOrFail }
+    ensures apart { TextsDontSayAndFail }
+{}
+
+/// The first fault of a text is exactly where no document goes on: at the first line with which none does, or else
+/// behind the last line, where the lines are no document yet.
+pub fn first_faults_end_documents()
+    ensures there { FirstFaultsEndDocuments }
+    ensures line { WhereNoneGoesOnIsFault }
+    ensures end { UnfinishedTextsEnd }
+{}
 
 /// What a text says has plain edges alone: no coefficient above power 0.
 pub fn texts_are_plain()
-    ensures { (bytes : List ℕ) (d : DraftContent) → IsText bytes d → is_plain (content_of d) ≡ true }
+    ensures { TextsArePlain }
 {}

@@ -4,15 +4,16 @@
 mod cursor;
 mod document;
 mod fault;
-mod laws;
+pub mod laws;
 mod lines;
 mod read;
 mod rules;
 mod words;
 
 pub use fault::{LineKind, TextFault};
-pub use laws::texts_are_plain;
 pub use read::read_text;
 
 #[cfg(test)]
 mod tests;
+#[cfg(test)]
+mod vectors;

@@ -1,5 +1,7 @@
-ghost use Rattle.std.specs.Prelude.{IfOk, IfErr};
+ghost use Rattle.std.specs.Prelude.{◌≡◌, ◌≢◌, ◌⊎◌, IfOk, IfErr};
+ghost use Rattle.case_model.specs.declared.fault.CaseFault.TheVariants.{NoMemory as OutOfMemory};
 ghost use Rattle.edge_text.specs.Reading.{IsCaseOf, IsTextFault};
+ghost use Rattle.edge_text.specs.declared.fault.TextFault.TheVariants as faults;
 
 use crate::TextFault;
 use crate::document::draft;
@@ -11,19 +13,23 @@ use std::alloc::Global;
 /// A text has the lines `alpha N`, `hypotheses NAME..`, perhaps `p N..`, `weights N..`, and lines `edge NAME NAME N`, in
 /// this order, where `N` is a numeral that `Fraction::parse` reads. Words stand between runs of spaces and tabs. A line
 /// ends with a line feed, perhaps after a carriage return, and the last one may lack its line feed. Lines of blanks, and
-/// lines whose first other byte is `#`, are skipped. Names aren't tested before the whole text is read.
+/// lines whose first other byte is `#`, are skipped. The draft is looked at once the whole text is read.
 pub fn read_text(alloc: Global, bytes: &[u8]) -> Result<Case, TextFault>
     ensures case { IfOk result (IsCaseOf bytes.now) }
     ensures fault { IfErr result (IsTextFault bytes.now) }
 {
     match draft(alloc, bytes)?.finish(alloc) {
         Ok(case) => Ok(case),
-        Err(
-            Refused {
-                fault: CaseFault::NoMemory,
-                ..
-            },
-        ) => Err(TextFault::NoMemory),
-        Err(refused) => Err(TextFault::Case(refused)),
+        Err(refused) => Err(text_fault(refused)),
+    }
+}
+
+/// The fault of a text whose draft gives no case.
+fn text_fault(refused: Refused) -> TextFault
+    ensures { ((refused.fault ≡ OutOfMemory) × (result ≡ faults.NoMemory)) ⊎ ((refused.fault ≢ OutOfMemory) × (result ≡ faults.Case refused)) }
+{
+    match refused.fault {
+        CaseFault::NoMemory => TextFault::NoMemory,
+        _ => TextFault::Case(refused),
     }
 }

@@ -1,103 +1,168 @@
+//! Texts by hand: those with a line that can't stand, those whose drafts are refused, and those that say cases.
+use crate::vectors::{
+    CASES, ENDED, Edge, Held, NUMBERS, ORDER, REFUSED, RefusedText, Terms, UNEXPECTED,
+    UNKNOWN_NAMES, WORD_COUNTS,
+};
 use crate::{LineKind, TextFault, read_text};
-use case_model::Case;
-use fraction::NumberFault;
+use case_model::{Case, Entry, Inputs, Refused};
+use field_core::Text;
+use fraction::Fraction;
 use std::alloc::Global;
+use std::process::Abort;
+use std::test::Fail;
 
-fn line_fault(answer: Result<Case, TextFault>) -> Option<(usize, LineKind)> {
-    match answer {
+// ---- lines that can't stand
+
+/// The first line that can't stand is that of this number, for this kind of fault.
+fn expect_line_fault(rt: &impl Abort, alloc: Global, text: &str, number: usize, kind: LineKind) {
+    let found = match read_text(alloc, text.as_bytes()) {
         Err(TextFault::Line(number, kind)) => Some((number, kind)),
         _ => None,
-    }
+    };
+    assert_eq!(rt; found, Some((number, kind)), "{text}");
 }
 
-const FAULTS: [(&str, usize, LineKind); 18] = [
-    ("", 1, LineKind::Ended),
-    ("# no line\n \t\n", 3, LineKind::Ended),
-    ("beta 1\n", 1, LineKind::Unexpected),
-    ("alpha\n", 1, LineKind::WordCount),
-    ("alpha 1 2\n", 1, LineKind::WordCount),
-    ("\nalpha x\n", 2, LineKind::Number(NumberFault::BadByte(0))),
-    ("alpha 0.05\np 1\n", 2, LineKind::Unexpected),
-    ("alpha 0.05\nhypotheses A\n", 3, LineKind::Ended),
-    ("alpha 0.05\nhypotheses A\np\n", 3, LineKind::WordCount),
-    (
-        "alpha 0.05\nhypotheses A\np 1/0\n",
-        3,
-        LineKind::Number(NumberFault::ZeroDenominator),
-    ),
-    ("alpha 0.05\nhypotheses A\np 1\n\n", 5, LineKind::Ended),
-    (
-        "alpha 0.05\nhypotheses A\np 1\np 1\n",
-        4,
-        LineKind::Unexpected,
-    ),
-    (
-        "alpha 0.05\nhypotheses A\ncomponent 1\n",
-        3,
-        LineKind::Unexpected,
-    ),
-    (
-        "alpha 0.05\nhypotheses A\nweights 1 1/\n",
-        3,
-        LineKind::Number(NumberFault::BadByte(2)),
-    ),
-    (
-        "alpha 0.05\nhypotheses A B\nweights 1 0\nstages 1\n",
-        4,
-        LineKind::Unexpected,
-    ),
-    (
-        "alpha 0.05\nhypotheses A B\nweights 1 0\nedge A B\n",
-        4,
-        LineKind::WordCount,
-    ),
-    (
-        "alpha 0.05\nhypotheses A B\nweights 1 0\nedge A C x\n",
-        4,
-        LineKind::UnknownName,
-    ),
-    (
-        "alpha 0.05\nhypotheses A B\nweights 1 0\nedge A B 1-\\epsilon\n",
-        4,
-        LineKind::Number(NumberFault::BadByte(1)),
-    ),
-];
-
-#[test]
-fn first_faults(rt: HostRuntime) {
-    for (text, number, kind) in FAULTS {
-        let found = line_fault(read_text(rt.alloc(), text.as_bytes()));
-        assert_eq!(rt; found, Some((number, kind)), "{text}");
-    }
-}
-
-const CASES: [(&str, usize); 4] = [
-    ("alpha 0.05\nhypotheses H1\np 1\nweights 1", 1),
-    ("alpha 0.05\r\nhypotheses H1\r\np 1\r\nweights 1\r", 1),
-    (
-        "alpha 0.03\nhypotheses H1 H2 H3\np 0.02 0.015 0.005\nweights 1/3 1/3 1/3\nedge H1 H2 1\nedge H2 H3 1\n",
-        3,
-    ),
-    (
-        "# three\n alpha\t0.03 \nhypotheses H1 H2 H3\nweights 1/3 1/3 1/3\n",
-        3,
-    ),
-];
-
-fn size(answer: Result<Case, TextFault>) -> usize {
-    match answer {
-        Ok(case) => case.size(),
-        Err(_) => 0,
+/// Each text has a fault of this kind, in the line of its number.
+fn expect_line_faults(rt: &impl Abort, alloc: Global, texts: &[(&str, usize)], kind: LineKind) {
+    for (text, number) in texts {
+        expect_line_fault(rt, alloc, text, *number, kind);
     }
 }
 
 #[test]
-fn cases(rt: HostRuntime) {
-    for (text, wanted) in CASES {
-        assert_eq!(rt;
-            size(read_text(rt.alloc(), text.as_bytes())),
-            wanted,
-            "{text}"
-        );
+fn other_first_words_are_unexpected(rt: HostRuntime) {
+    expect_line_faults(&rt, rt.alloc(), &UNEXPECTED, LineKind::Unexpected);
+}
+
+#[test]
+fn unfinished_texts_are_ended(rt: HostRuntime) {
+    expect_line_faults(&rt, rt.alloc(), &ENDED, LineKind::Ended);
+}
+
+#[test]
+fn words_are_counted(rt: HostRuntime) {
+    expect_line_faults(&rt, rt.alloc(), &WORD_COUNTS, LineKind::WordCount);
+}
+
+#[test]
+fn ends_of_edges_are_hypotheses(rt: HostRuntime) {
+    expect_line_faults(&rt, rt.alloc(), &UNKNOWN_NAMES, LineKind::UnknownName);
+}
+
+#[test]
+fn numerals_are_refused(rt: HostRuntime) {
+    for (text, number, fault) in NUMBERS {
+        expect_line_fault(&rt, rt.alloc(), text, number, LineKind::Number(fault));
     }
+}
+
+#[test]
+fn the_first_fault_counts(rt: HostRuntime) {
+    for (text, number, kind) in ORDER {
+        expect_line_fault(&rt, rt.alloc(), text, number, kind);
+    }
+}
+
+// ---- drafts that are refused
+
+fn expect_names(rt: &impl Abort, names: &[Text], wanted: &[&str]) {
+    assert_eq!(rt; names.len(), wanted.len());
+    for (name, wanted) in names.iter().zip(wanted) {
+        assert_eq!(rt; name.as_bytes(), wanted.as_bytes());
+    }
+}
+
+/// Each line stands, and the draft is refused for its fault, with its names.
+fn expect_refused(rt: &impl Abort, alloc: Global, refused: &RefusedText) {
+    match read_text(alloc, refused.text.as_bytes()) {
+        Err(TextFault::Case(Refused { names, fault })) => {
+            assert_eq!(rt; fault, refused.fault, "{}", refused.text);
+            expect_names(rt, names.as_slice(), refused.names);
+        }
+        _ => assert!(rt; false, "{}", refused.text),
+    }
+}
+
+#[test]
+fn drafts_are_refused(rt: HostRuntime) {
+    for refused in REFUSED {
+        expect_refused(&rt, rt.alloc(), &refused);
+    }
+}
+
+// ---- cases
+
+fn terms(x: &Fraction) -> Terms {
+    (x.ratio().num(), x.ratio().den())
+}
+
+/// A plain number.
+fn expect_entry(rt: &impl Abort, entry: &Entry, weight: Terms) {
+    assert_eq!(rt; terms(&entry.coefficient(0)), weight);
+    for power in 1..5 {
+        assert_eq!(rt; terms(&entry.coefficient(power)), (0, 1));
+    }
+}
+
+/// The weight of the edge with these ends, 0 where it isn't listed.
+fn listed(edges: &[Edge], from: usize, to: usize) -> Terms {
+    match edges.iter().find(|edge| edge.0 == from && edge.1 == to) {
+        Some(edge) => edge.2,
+        None => (0, 1),
+    }
+}
+
+/// A whole table of edges.
+fn expect_edges(rt: &impl Abort, case: &Case, edges: &[Edge]) {
+    assert!(rt; 0 < case.components());
+    for i in 0..case.size() {
+        for j in 0..case.size() {
+            expect_entry(rt, case.edge(0, i, j), listed(edges, i, j));
+        }
+    }
+}
+
+/// These names and weights, and no others.
+fn expect_hypotheses(rt: &impl Abort, case: &Case, held: &Held) {
+    assert!(rt; 0 < case.components());
+    assert_eq!(rt; case.size(), held.names.len());
+    assert_eq!(rt; case.size(), held.weights.len());
+    for (i, (name, weight)) in held.names.iter().zip(held.weights).enumerate() {
+        assert!(rt; i < case.size());
+        assert_eq!(rt; case.name(i), name.as_bytes());
+        assert_eq!(rt; terms(&case.weight(0, i)), *weight, "{name}");
+    }
+}
+
+/// These p-values; none where there is none.
+fn expect_p(rt: &impl Abort, inputs: &Inputs, p: &[Terms]) {
+    match inputs {
+        Inputs::Bare => assert!(rt; p.is_empty()),
+        Inputs::Single(found) => {
+            assert_eq!(rt; found.len(), p.len());
+            for (found, p) in found.as_slice().iter().zip(p) {
+                assert_eq!(rt; terms(found), *p);
+            }
+        }
+        Inputs::Staged(_) => assert!(rt; false),
+    }
+}
+
+/// The case holds just this, in one component of share 1.
+fn expect_case(rt: &impl Abort, case: &Case, held: &Held) {
+    assert_eq!(rt; terms(&case.alpha()), held.alpha);
+    assert_eq!(rt; case.components(), 1);
+    assert_eq!(rt; terms(&case.share(0)), (1, 1));
+    expect_hypotheses(rt, case, held);
+    expect_edges(rt, case, held.edges);
+    expect_p(rt, case.inputs(), held.p);
+}
+
+#[test]
+fn texts_say_cases(rt: HostRuntime) -> Result<(), Fail> {
+    for (text, held) in CASES {
+        let case = read_text(rt.alloc(), text.as_bytes()).ok().ok_or(text)?;
+        expect_case(&rt, &case, &held);
+    }
+    Ok(())
 }

@@ -1,0 +1,64 @@
+-- What the grammar of texts and its first faults promise.
+use Rattle.std.specs.Prelude.{◌≡◌, ◌≢◌, ◌⊎◌, ℕ, true, List, [], ◌∷◌, ◌++◌}
+use Rattle.case_model.specs.Draft.{DraftContent}
+use Rattle.case_model.specs.Content.{content_of, is_plain}
+use Rattle.edge_text.specs.declared.fault.LineKind.{LineKind}
+use Rattle.edge_text.specs.declared.fault.LineKind.TheVariants.{Ended}
+use Rattle.edge_text.specs.Lines.{Row, rows_of, words_of, words_in, end_of}
+use Rattle.edge_text.specs.Grammar.{Words, IsDocument, IsText}
+use Rattle.edge_text.specs.Faults.{IsFirstFault}
+
+-- a text says at most one draft
+abbrev pub TextsSayOneDraft : Type 0
+TextsSayOneDraft = (bytes : List ℕ) (d e : DraftContent) → IsText bytes d → IsText bytes e → d ≡ e
+
+-- a text has at most one first fault
+abbrev pub TextsHaveOneFault : Type 0
+TextsHaveOneFault = (bytes : List ℕ) (m n : ℕ) (j k : LineKind) → IsFirstFault bytes m j → IsFirstFault bytes n k → (m ≡ n) × (j ≡ k)
+
+-- a text says a draft or has a first fault
+abbrev pub TextsSayOrFail : Type 0
+TextsSayOrFail = (bytes : List ℕ) → ((d : DraftContent) × IsText bytes d) ⊎ ((n : ℕ) × (kind : LineKind) × IsFirstFault bytes n kind)
+
+-- a text that says a draft has no first fault
+abbrev pub TextsDontSayAndFail : Type 0
+TextsDontSayAndFail = (bytes : List ℕ) (d : DraftContent) (n : ℕ) (kind : LineKind) → IsText bytes d → ¬ IsFirstFault bytes n kind
+
+-- what a text says has plain edges alone: no coefficient above power 0
+abbrev pub TextsArePlain : Type 0
+TextsArePlain = (bytes : List ℕ) (d : DraftContent) → IsText bytes d → is_plain (content_of d) ≡ true
+
+-- some document begins with these lines
+pub record BeginDocument (lines : List Words) : Type 0 where
+  pub more : List Words
+  pub draft : DraftContent
+  pub is : IsDocument (lines ++ more) draft
+
+-- The lines before the one of this number begin some document, and together with that line they begin none.
+pub record IsWhereNoneGoesOn (rows : List Row) (number : ℕ) : Type 0 where
+  pub before : List Row
+  pub row : Row
+  pub after : List Row
+  pub rows_are : rows ≡ before ++ row ∷ after
+  pub number_is : number ≡ row.number
+  pub begins : BeginDocument (words_in before)
+  pub refused : ¬ BeginDocument (words_in before ++ words_of row.text ∷ [])
+
+-- the lines begin some document, and are none
+pub record IsUnfinished (rows : List Row) : Type 0 where
+  pub begins : BeginDocument (words_in rows)
+  pub refused : (draft : DraftContent) → ¬ IsDocument (words_in rows) draft
+
+-- the first fault of a text is at the first line with which no document goes on, or else behind the last line, where each document goes on
+abbrev pub FirstFaultsEndDocuments : Type 0
+FirstFaultsEndDocuments =
+    (bytes : List ℕ) (number : ℕ) (kind : LineKind) → IsFirstFault bytes number kind →
+    ((kind ≢ Ended) × IsWhereNoneGoesOn (rows_of bytes) number) ⊎ ((kind ≡ Ended) × (number ≡ end_of bytes) × IsUnfinished (rows_of bytes))
+
+-- the first line with which no document goes on has the first fault
+abbrev pub WhereNoneGoesOnIsFault : Type 0
+WhereNoneGoesOnIsFault = (bytes : List ℕ) (number : ℕ) → IsWhereNoneGoesOn (rows_of bytes) number → (kind : LineKind) × IsFirstFault bytes number kind
+
+-- a text that only begins a document has its first fault behind its last line
+abbrev pub UnfinishedTextsEnd : Type 0
+UnfinishedTextsEnd = (bytes : List ℕ) → IsUnfinished (rows_of bytes) → IsFirstFault bytes (end_of bytes) Ended
