@@ -42,8 +42,8 @@ report c decision = record { status = 0; text = test_report c decision }
 pub data IsCaseOutcome (c : Content) : Answer → Type 0 where
   -- there isn't a p-value for each hypothesis
   other_kind : ¬ IsSingle c.inputs → IsCaseOutcome c kind_refusal
-  -- the written run is undefined in a step
-  too_wide : (step : ℕ) (wide : WideAt) → IsWideDecision c First step wide → IsCaseOutcome c (wide_refusal c.names (Step step) wide)
+  -- there is, and the written run is undefined in a step
+  too_wide : IsSingle c.inputs → (step : ℕ) (wide : WideAt) → IsWideDecision c First step wide → IsCaseOutcome c (wide_refusal c.names (Step step) wide)
   -- the case is decided
   decided : (decision : DecisionContent) → ((step : ℕ) (wide : WideAt) → ¬ IsWideDecision c First step wide) → IsDecision c First decision → IsCaseOutcome c (report c decision)
 
