@@ -13,7 +13,7 @@ use Rattle.case_model.specs.Content.{Content, ComponentContent, InputsContent, I
 use Rattle.case_model.specs.ComponentView.{component_content}
 use Rattle.case_model.specs.CaseView.{content}
 use Rattle.case_model.proofs.CaseFacts.{case_shape}
-use Rattle.case_model.proofs.Tests.{both}
+use Rattle.case_model.proofs.Holding.{both}
 use Rattle.case_model.proofs.Totals.{reduced_at}
 use Rattle.graph_cli.specs.Form.{Says, SayDraft, IsInForm}
 use Rattle.graph_cli.specs.WithoutEdges.{IsWithoutEdges}

@@ -2,7 +2,7 @@ use Rattle.std.proofs.Common.{◌≡◌, refl, ℕ, suc, ◌<◌, ◌&&◌, List
 use Rattle.std.specs.List.{All, list_all}
 use Rattle.std.proofs.lemmas.List.Elements.{All-nil, All-cons}
 use Rattle.std.proofs.lemmas.Bool.Decides.{nat_tests}
-use Rattle.case_model.proofs.Tests.{both}
+use Rattle.case_model.proofs.Holding.{both}
 
 -- no name is empty
 pub filled_in : (names : List (Bor (List ℕ))) → list_all (λ name. nat_lt 0 (length name.now)) names ≡ true → All (λ name. 0 < length name) (map (λ name. name.now) names)
