@@ -1,5 +1,5 @@
 //! Drafts that are refused, and why; drafts that make cases; and the index of names.
-ghost use Rattle.std.specs.Prelude.{◌≡◌, ◌&&◌, map, length, nat_lt, is_none};
+ghost use Rattle.std.specs.Prelude.{◌≡◌, ◌&&◌, map, nat_lt};
 ghost use Rattle.std.specs.List.{list_all};
 ghost use Rattle.case_model.specs.Draft.{have_known_ends};
 ghost use Rattle.case_model.specs.DraftView.{edge_said, said};
@@ -54,28 +54,21 @@ fn coefficient(coefficients: &[Terms], power: usize) -> Terms {
     coefficients.get(power).copied().unwrap_or((0, 1))
 }
 
-fn entry(coefficients: &[Terms]) -> Result<Entry, FractionFault> {
+/// The coefficients of the powers from 0 to 4.
+fn five_coefficients(coefficients: &[Terms]) -> Result<[Fraction; 5], FractionFault> {
     let constant = fraction(coefficient(coefficients, 0))?;
     let first = fraction(coefficient(coefficients, 1))?;
     let second = fraction(coefficient(coefficients, 2))?;
     let third = fraction(coefficient(coefficients, 3))?;
     let fourth = fraction(coefficient(coefficients, 4))?;
-    Ok(Entry::new([constant, first, second, third, fourth]))
-}
-
-fn draft_edge(edge: &Edge) -> Result<DraftEdge, FractionFault> {
-    let entry = entry(edge.2)?;
-    Ok(DraftEdge {
-        from: edge.0,
-        to: edge.1,
-        entry,
-    })
+    Ok([constant, first, second, third, fourth])
 }
 
 fn draft_edges(alloc: Global, edges: &[Edge]) -> Result<List<DraftEdge>, Fail> {
     let mut list = List::new(alloc);
-    for edge in edges {
-        list.push(draft_edge(edge)?)?;
+    for &(from, to, coefficients) in edges {
+        let entry = Entry::new(five_coefficients(coefficients)?);
+        list.push(DraftEdge { from, to, entry })?;
     }
     Ok(list)
 }
@@ -146,17 +139,12 @@ fn expect_fault(
     sample: &Sample,
     fault: CaseFault,
 ) -> Result<(), Fail> {
-    let refused = finish(rt, alloc, draft_of(alloc, sample)?).err();
-    assert!(rt; refused.is_some(), "{fault:?}");
-    if let Some(
-        Refused {
-            names,
-            fault: found,
-        },
-    ) = refused
-    {
-        assert_eq!(rt; found, fault);
-        expect_names(rt, names.as_slice(), sample.names);
+    match finish(rt, alloc, draft_of(alloc, sample)?) {
+        Ok(_) => panic!(rt; "accepted, in place of {fault:?}"),
+        Err(refused) => {
+            assert_eq!(rt; refused.fault, fault);
+            expect_names(rt, refused.names.as_slice(), sample.names);
+        }
     }
     Ok(())
 }
@@ -185,7 +173,7 @@ fn p_values_are_refused(rt: HostRuntime) -> Result<(), Fail> {
     Ok(())
 }
 
-/// The sample with components of these shares.
+/// Two hypotheses are refused for this fault where the components have these shares.
 fn expect_share_fault(
     rt: &impl Abort,
     alloc: Global,
@@ -208,7 +196,7 @@ fn shares_are_refused(rt: HostRuntime) -> Result<(), Fail> {
     Ok(())
 }
 
-/// The sample with components of these weights.
+/// Four hypotheses are refused for this fault where the components have these weights.
 fn expect_weight_fault(
     rt: &impl Abort,
     alloc: Global,
@@ -234,7 +222,7 @@ fn weights_are_refused(rt: HostRuntime) -> Result<(), Fail> {
     Ok(())
 }
 
-/// The sample with components of these edges.
+/// Four hypotheses are refused for this fault where the components have these edges.
 fn expect_edge_fault(
     rt: &impl Abort,
     alloc: Global,
@@ -271,7 +259,7 @@ fn terms(x: &Fraction) -> Terms {
     (x.ratio().num(), x.ratio().den())
 }
 
-/// The names, their positions, and nothing else.
+/// The names at their positions. Other names have none.
 fn expect_hypotheses(rt: &impl Abort, case: &Case, names: &[&str]) {
     assert_eq!(rt; case.size(), names.len());
     for (i, name) in names.iter().enumerate() {
@@ -330,7 +318,7 @@ fn expect_inputs(rt: &impl Abort, inputs: &Inputs, p: &[Option<Terms>]) {
                 assert_eq!(rt; Some(terms(found)), *p);
             }
         }
-        Inputs::Staged(_) => assert!(rt; false),
+        Inputs::Staged(_) => panic!(rt; "stages"),
     }
 }
 

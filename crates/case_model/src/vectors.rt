@@ -146,7 +146,7 @@ pub const WEIGHTS: [(&[&[Terms]], CaseFault); 22] = [
 ];
 
 /// The edges between four hypotheses, component by component.
-pub const EDGES: [(&[&[Edge]], CaseFault); 33] = [
+pub const EDGES: [(&[&[Edge]], CaseFault); 35] = [
     (
         &[&[(0, 1, &[LONG])]],
         CaseFault::PartTooLong(PartPlace::Edge(0, 0, 1)),
@@ -324,6 +324,26 @@ pub const EDGES: [(&[&[Edge]], CaseFault); 33] = [
             &[(0, 1, &[FIRST]), (0, 2, &[SECOND]), (0, 3, &[THIRD])],
             &[(0, 1, &[ONE]), (0, 2, &[ONE])],
         ],
+        WIDE_ROW,
+    ),
+    (
+        &[&[
+            (2, 0, &[FIRST]),
+            (2, 1, &[SECOND]),
+            (2, 3, &[THIRD]),
+            (1, 0, &[ONE]),
+            (1, 2, &[ONE]),
+        ]],
+        CaseFault::RowSum(0, 1),
+    ),
+    (
+        &[&[
+            (1, 0, &[ONE]),
+            (1, 2, &[ONE]),
+            (0, 1, &[FIRST]),
+            (0, 2, &[SECOND]),
+            (0, 3, &[THIRD]),
+        ]],
         WIDE_ROW,
     ),
 ];
