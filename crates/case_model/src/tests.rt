@@ -107,7 +107,6 @@ fn go_between(count: usize, edges: &[DraftEdge]) -> bool
 }
 
 /// Whether each edge goes from a hypothesis to a hypothesis.
-#[tactic(auto, unfolding(crate::specs::Draft::have_known_ends))]
 fn has_known_ends(draft: &Draft) -> bool
     ensures { result ≡ have_known_ends (said draft.now) }
 {
