@@ -9,7 +9,7 @@ use Rattle.case_model.specs.ComponentView.{component_content}
 use Rattle.case_model.specs.CaseView.{content}
 use Rattle.case_model.specs.declared.component.Component.{Component}
 use Rattle.case_model.specs.declared.case.Case.{Case}
-use Rattle.case_model.proofs.Tests.{all_at}
+use Rattle.case_model.proofs.Holding.{all_at}
 use Rattle.case_model.proofs.Places.{mapped_item, within_map}
 use Rattle.case_model.proofs.ValidContents.{HasShape, shape, valid_content}
 

@@ -9,6 +9,7 @@ pub mod ExampleOrders
 pub mod ExampleTests
 pub mod Faultless
 pub mod FirstFaults
+pub mod Holding
 pub mod IntersectionLaws
 pub mod IntersectionTotals
 pub mod LegalSteps
@@ -21,7 +22,6 @@ pub mod PriorityOrders
 pub mod RejectionOrders
 pub mod RowTotals
 pub mod SumSteps
-pub mod Tests
 pub mod Thresholds
 pub mod Totals
 pub mod ValidContents

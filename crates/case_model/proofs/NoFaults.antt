@@ -11,7 +11,7 @@ use Rattle.field_core.specs.declared.place.Place.{Place}
 use Rattle.field_core.specs.declared.place.TooWide.{TooWide}
 use Rattle.case_model.specs.declared.fault.CaseFault.{CaseFault}
 use Rattle.case_model.specs.Draft.{at_most}
-use Rattle.case_model.proofs.Tests.{Both, both}
+use Rattle.case_model.proofs.Holding.{Both, both}
 use Rattle.case_model.specs.CaseFaults.{◌or◌, ◌when◌, first_from, first_of, first_below, sum_fault}
 
 -- neither finds a fault

@@ -27,7 +27,7 @@ use Rattle.case_model.specs.Sums.{number}
 use Rattle.case_model.specs.Draft.{at_most, is_p_value, is_level, is_within, is_unit}
 use Rattle.case_model.proofs.Comparisons.{at_most_terms, at_most_is}
 use Rattle.field_core.specs.Laws.NumberFieldLaws.{field_zero, field_product}
-use Rattle.case_model.proofs.Tests.{Both, both}
+use Rattle.case_model.proofs.Holding.{Both, both}
 use Rattle.case_model.proofs.ExactSums.{value_single, stored_single}
 
 int_le : (a b : ℤ) → is_le (int_cmp a b) ≡ true → a ≤ℤ b

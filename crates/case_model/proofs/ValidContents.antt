@@ -23,7 +23,7 @@ use Rattle.case_model.specs.Draft.{DraftContent, DraftComponentContent, at_most,
 use Rattle.case_model.specs.Content.{Content, ComponentContent, InputsContent, bare, single, staged, content_of, tabled, table_of, graph_of, given, inputs_given, IfSingle, component_at, empty_component, entangled}
 use Rattle.case_model.specs.CaseFaults.{◌or◌, case_fault, late_fault, rows_fault, mixed, p_count, p_missing, p_range, p_values_fault, is_outside, is_long_p_value, long_p_value, no_hypothesis, no_component, too_many_components, components_fault}
 use Rattle.case_model.specs.Validity.{FaultlessDraft, IsFaultlessContent, IsValidContent}
-use Rattle.case_model.proofs.Tests.{Both, both, all_at}
+use Rattle.case_model.proofs.Holding.{Both, both, all_at}
 use Rattle.case_model.proofs.NoFaults.{Neither, neither, no_when, not_false, not_true, nothing_mapped, no_position}
 use Rattle.case_model.proofs.Faultless.{good_start, good_names, few_names, length-table_of, content_of-components, content_of-inputs}
 use Rattle.case_model.proofs.ValidDrafts.{early_none, late_none, GoodComponent, good_component, share_total, level, long_edges}

@@ -18,7 +18,7 @@ use Rattle.case_model.specs.Entries.{entry_value, entry_at, is_zero_entry, no_ed
 use Rattle.case_model.specs.Draft.{DraftContent, DraftComponentContent, DraftEdgeContent, at_most, is_unit, is_short, is_level, is_short_level, is_level_range, has_ends}
 use Rattle.case_model.specs.Content.{content_of, table_of, tabled, edge_between}
 use Rattle.case_model.specs.CaseFaults.{◌or◌, case_fault, early_fault, late_fault, names_fault, no_hypothesis, components_fault, no_component, too_many_components, part_too_long, long_alpha, long_share, long_weight, long_edge, long_p_value, alpha_range, is_below_zero, share_range, share_sum, shares_fault, total_fault, weight_count, weight_range, weight_sum, weights_fault, is_self_edge, self_edge, repeated_edge, edge_range, edges_fault, row_sum, component_rows, rows_fault, mixed, p_values_fault, first_of}
-use Rattle.case_model.proofs.Tests.{Both, both, all_at}
+use Rattle.case_model.proofs.Holding.{Both, both, all_at}
 use Rattle.case_model.proofs.NoFaults.{Neither, neither, no_when, no_unless, not_true, not_false, nothing_mapped, no_position, no_find, no_first, no_below, no_sum_fault, IsFound, found}
 use Rattle.case_model.proofs.Faultless.{GoodStart, good_start, content_of-components}
 

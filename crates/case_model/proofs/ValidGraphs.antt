@@ -29,7 +29,7 @@ use Rattle.case_model.specs.Entries.{power_of_epsilon, entry_value, entry_at, is
 use Rattle.case_model.specs.Draft.{DraftContent, DraftComponentContent, DraftEdgeContent, at_most, is_unit, has_ends}
 use Rattle.case_model.specs.Content.{ComponentContent, content_of, table_of, tabled, edge_between, graph_of, component_at, empty_component, entangled}
 use Rattle.case_model.specs.CaseFaults.{case_fault, is_self_edge}
-use Rattle.case_model.proofs.Tests.{Both, both, all_at}
+use Rattle.case_model.proofs.Holding.{Both, both, all_at}
 use Rattle.case_model.proofs.NoFaults.{IsFound, found, not_false, not_true}
 use Rattle.case_model.proofs.Faultless.{content_of-components}
 use Rattle.case_model.proofs.ValidDrafts.{GoodComponent, good_component, share_total}

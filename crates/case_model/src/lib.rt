@@ -27,3 +27,10 @@ pub use fault::{CaseFault, PartPlace, Refused};
 pub use inputs::{Inputs, Stages};
 pub use local_test::passes;
 pub use name_index::NameIndex;
+
+#[cfg(test)]
+mod samples;
+#[cfg(test)]
+mod tests;
+#[cfg(test)]
+mod vectors;

@@ -12,7 +12,7 @@ use Rattle.case_model.specs.Draft.{ArePValues, is_level, is_p_value}
 use Rattle.case_model.specs.Content.{Content, IfSingle, entangled}
 use Rattle.case_model.specs.ClosedTest.{IsLegal}
 use Rattle.case_model.specs.LegalOrder.{IsListed}
-use Rattle.case_model.proofs.Tests.{all_at}
+use Rattle.case_model.proofs.Holding.{all_at}
 use Rattle.case_model.proofs.ValidContents.{shape, valid_content}
 use Rattle.case_model.proofs.LegalSteps.{legal_distinct}
 use Rattle.case_model.proofs.RejectionOrders.{order_next, not_listed_left, left_not_listed, listed_or_not}

@@ -4,7 +4,7 @@ use Rattle.std.proofs.lemmas.Iterator.{YieldsList-from_slice}
 use Rattle.std.proofs.lemmas.Iterator.Search.{all_from_yields_List}
 use Rattle.fraction.specs.View.{terms_of}
 use Rattle.case_model.specs.Draft.{is_short}
-use Rattle.case_model.proofs.Tests.{list_all_map}
+use Rattle.case_model.proofs.Holding.{list_all_map}
 use Rattle.case_model.proofs.numbers.are_short.Goals as goal
 
 pub returns : goal.returns

@@ -4,7 +4,7 @@ use Rattle.std.proofs.lemmas.Iterator.{YieldsList-from_slice}
 use Rattle.std.proofs.lemmas.Iterator.Search.{all_from_yields_List}
 use Rattle.fraction.specs.View.{terms_of}
 use Rattle.case_model.specs.Entries.{is_zero_terms}
-use Rattle.case_model.proofs.Tests.{list_all_map}
+use Rattle.case_model.proofs.Holding.{list_all_map}
 use Rattle.case_model.proofs.numbers.are_zero.Goals as goal
 
 pub returns : goal.returns

@@ -5,7 +5,7 @@ use Rattle.case_model.specs.ComponentView.{component_content}
 use Rattle.case_model.specs.EntryView.{coefficients_of}
 use Rattle.case_model.specs.CaseFaults.{first_below, row_sum, component_rows, rows_fault}
 use Rattle.case_model.specs.Rows.{are_tables}
-use Rattle.case_model.proofs.Tests.{all_at}
+use Rattle.case_model.proofs.Holding.{all_at}
 use Rattle.case_model.proofs.Places.{mapped_item, within_map, as_many}
 use Rattle.case_model.proofs.FirstFaults.{first_none, first_answer, first_silence}
 use Rattle.case_model.proofs.row_sums.rows_fault.Goals as goal

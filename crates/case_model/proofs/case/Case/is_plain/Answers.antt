@@ -5,7 +5,7 @@ use Rattle.std.proofs.lemmas.Iterator.Search.{all_from_yields_List}
 use Rattle.case_model.specs.Entries.{is_plain_entry}
 use Rattle.case_model.specs.Content.{is_plain}
 use Rattle.case_model.specs.ComponentView.{component_content}
-use Rattle.case_model.proofs.Tests.{list_all_map}
+use Rattle.case_model.proofs.Holding.{list_all_map}
 use Rattle.case_model.proofs.case.Case.is_plain.Goals as goal
 
 pub returns : goal.returns

@@ -4,7 +4,7 @@ use Rattle.std.proofs.lemmas.Iterator.{YieldsList-from_slice}
 use Rattle.std.proofs.lemmas.Iterator.Search.{all_from_yields_List}
 use Rattle.case_model.specs.Entries.{is_plain_entry}
 use Rattle.case_model.specs.EntryView.{coefficients_of}
-use Rattle.case_model.proofs.Tests.{list_all_map}
+use Rattle.case_model.proofs.Holding.{list_all_map}
 use Rattle.case_model.proofs.component.Component.is_plain.Goals as goal
 
 pub returns : goal.returns

@@ -1,4 +1,4 @@
--- Tests that are true.
+-- What holds where tests are true.
 use Rattle.std.proofs.Common.{◌≡◌, refl, sym, ap, ◌∙◌, ℕ, zero, suc, ◌<◌, List, [], ◌∷◌, length, map, get_or, Bool, true, false, ◌&&◌, not, arith}
 use Rattle.std.specs.List.{list_all}
 
