@@ -3,6 +3,7 @@
 
 mod bundle;
 mod case_net;
+pub mod laws;
 mod levels;
 mod open_fault;
 mod shared;

@@ -1,0 +1,4 @@
+pub mod BundleLevels
+pub mod EachNet
+pub mod ExactProducts
+pub mod LevelValues

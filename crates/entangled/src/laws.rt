@@ -1,0 +1,13 @@
+//! Laws of bundles and of the nets of cases. Each function states laws of written runs, and does nothing.
+
+ghost use Rattle.entangled.specs.LevelStatements.{BundleLevelsAreWeights, BundleLiveAreLeft, BundleLevelsAreLowest};
+
+use removal::Remover;
+
+/// After the written opening of nets and removals in turn, in any order in which nothing is refused, the levels of
+/// the hypotheses that are left are their weights in the intersection of those that are left, in lowest terms.
+pub fn bundle_levels_are_weights<R: Remover>()
+    ensures weights { BundleLevelsAreWeights R.Value.kind R.graph R.IsProper R.removal }
+    ensures live { BundleLiveAreLeft R.Value.kind R.graph R.IsProper R.removal }
+    ensures lowest { BundleLevelsAreLowest R.Value.kind R.graph R.IsProper R.removal }
+{}
