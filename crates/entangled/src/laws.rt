@@ -1,6 +1,6 @@
 //! Laws of bundles and of the nets of cases. Each function states laws of written runs, and does nothing.
 
-ghost use Rattle.entangled.specs.LevelStatements.{BundleLevelsAreWeights, BundleLiveAreLeft, BundleLevelsAreLowest};
+ghost use Rattle.entangled.specs.LevelStatements.{BundleLevelsAreWeights, BundleLiveAreLeft, BundleLevelsAreLowest, LevelsAreWeights, LiveAreLeft, LevelsAreLowest};
 
 use removal::Remover;
 
@@ -10,4 +10,12 @@ pub fn bundle_levels_are_weights<R: Remover>()
     ensures weights { BundleLevelsAreWeights R.Value.kind R.graph R.IsProper R.removal }
     ensures live { BundleLiveAreLeft R.Value.kind R.graph R.IsProper R.removal }
     ensures lowest { BundleLevelsAreLowest R.Value.kind R.graph R.IsProper R.removal }
+{}
+
+/// After the written opening of a plain case and removals in turn, in any order in which nothing is refused, the
+/// levels of the hypotheses that are left are their weights in the intersection of those that are left, in lowest terms.
+pub fn case_levels_are_weights()
+    ensures weights { LevelsAreWeights }
+    ensures live { LiveAreLeft }
+    ensures lowest { LevelsAreLowest }
 {}
