@@ -1,7 +1,6 @@
 -- The levels of a bundle after removals in turn are the intersection weights.
-use Rattle.std.proofs.Common.{◌≡◌, refl, sym, ap, subst, ◌∙◌, inl, inr, ℕ, zero, suc, ◌<◌, ◌≤◌, ◌⊎◌, List, [], ◌∷◌, length, map, get_or, true, false, Result, Ok, arith}
+use Rattle.std.proofs.Common.{◌≡◌, refl, sym, subst, ◌∙◌, inl, inr, ℕ, ◌<◌, ◌≤◌, ◌⊎◌, List, [], ◌∷◌, length, map, get_or, Result, Ok, arith}
 use Rattle.std.proofs.lemmas.Bool.{cases_lt}
-use Rattle.std.specs.List.{All}
 use Rattle.std.proofs.lemmas.List.{get_or-map}
 use Rattle.std.proofs.lemmas.List.Elements.{All-get_or}
 use Rattle.field_core.specs.declared.place.Wide.{Wide}
@@ -10,7 +9,7 @@ use Rattle.field_core.specs.Number.{Number}
 use Rattle.field_core.specs.Arithmetic.{◌*ε◌}
 use Rattle.field_core.specs.NumberField.{number_field}
 use Rattle.field_core.specs.Limit.{limit}
-use Rattle.field_core.specs.LimitParts.{IsUnit, limit_terms}
+use Rattle.field_core.specs.LimitParts.{limit_terms}
 use Rattle.field_core.specs.Sums.{sum_below}
 use Rattle.field_core.specs.Graph.{Graph, IsValid}
 use Rattle.field_core.specs.Sets.{IsIn, whole}

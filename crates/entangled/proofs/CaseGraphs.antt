@@ -1,5 +1,5 @@
 -- The stored graphs of the components of a plain case.
-use Rattle.std.proofs.Common.{◌≡◌, ◌≢◌, refl, sym, ap, ap₂, subst, ◌∙◌, inl, inr, ℕ, ◌+◌, ◌*◌, ◌==◌, ◌<◌, ◌≤◌, List, length, map, get_or, Bool, true, false, if◌then◌else◌, arith}
+use Rattle.std.proofs.Common.{◌≡◌, ◌≢◌, refl, sym, ap, ap₂, subst, ◌∙◌, inl, inr, ℕ, ◌+◌, ◌*◌, ◌<◌, ◌≤◌, List, length, map, get_or, true, arith}
 use Rattle.std.specs.List.{All, list_all}
 use Rattle.std.proofs.Math.ListN.{get_or-map}
 use Rattle.std.proofs.lemmas.List.{length-map, get_or_past}
@@ -7,23 +7,22 @@ use Rattle.std.proofs.lemmas.Bool.{cases_lt}
 use Rattle.std.proofs.lemmas.List.Elements.{All-get_or}
 use Rattle.std.proofs.lemmas.Nat.{mul-add-lt}
 use Rattle.field_core.specs.Terms.{Terms, IsReduced}
-use Rattle.field_core.specs.Number.{Number}
 use Rattle.field_core.specs.NumberField.{number_field}
-use Rattle.field_core.specs.Graph.{Graph, IsValid}
+use Rattle.field_core.specs.Graph.{IsValid}
 use Rattle.field_core.specs.Kind.{Parts}
 use Rattle.field_core.specs.Exact.{value_of}
 use Rattle.field_core.specs.Laws.NumberFieldLaws.{field_zero}
 use Rattle.field_core.proofs.RemovalLaws.{same_or_not}
 use Rattle.fraction.specs.Plain.{plain, single, IsFraction, zero_reduced}
 use Rattle.fraction.specs.Laws.PlainLaws.{plain_is_exact}
-use Rattle.case_model.specs.Sums.{number, terms_at, number_at, zero_terms}
+use Rattle.case_model.specs.Sums.{terms_at, number_at, zero_terms}
 use Rattle.case_model.specs.Entries.{entry_value, entry_at, no_edge, is_plain_entry}
 use Rattle.case_model.specs.Content.{ComponentContent, graph_of as graph_of_component}
 use Rattle.case_model.specs.Validity.{AreLowestParts}
 use Rattle.case_model.proofs.Tests.{all_at}
 use Rattle.case_model.proofs.ExactSums.{stored_single, value_single}
 use Rattle.case_model.proofs.PlainEntries.{plain_entry_value}
-use Rattle.removal.specs.StoredGraph.{StoredGraph, IsSquare, size, is_live, weight, edge, all_live, AreAllLive}
+use Rattle.removal.specs.StoredGraph.{IsSquare, size, weight, edge, all_live, AreAllLive}
 use Rattle.removal.specs.ByValue.{graph_of, IsSound, AreStored}
 use Rattle.removal.specs.Laws.Seen.{edge_off_loop, edge_apart, edge_itself}
 use Rattle.removal.proofs.Opening.{size-all_live, are_all_live, weight_opened, edge_opened}

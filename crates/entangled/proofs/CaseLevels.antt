@@ -1,5 +1,5 @@
 -- The levels of a plain case after removals in turn are the intersection weights.
-use Rattle.std.proofs.Common.{◌≡◌, refl, sym, ap, subst, ◌∙◌, ℕ, ◌<◌, Bool, List, [], ◌∷◌, length, map, get_or, true, Result, Ok}
+use Rattle.std.proofs.Common.{◌≡◌, refl, sym, ap, subst, ◌∙◌, ℕ, ◌<◌, Bool, List, length, map, get_or, true, Ok}
 use Rattle.std.specs.List.{All, list_all}
 use Rattle.std.proofs.Math.ListN.{get_or-map as map_at}
 use Rattle.std.proofs.lemmas.List.{length-map, get_or-map}
@@ -17,9 +17,9 @@ use Rattle.field_core.specs.Walks.{IsComponentWeight}
 use Rattle.field_core.proofs.SumLaws.{sum_congr}
 use Rattle.fraction.specs.Plain.{plain, IsFraction}
 use Rattle.fraction.specs.Laws.PlainLaws.{plain_is_exact}
-use Rattle.case_model.specs.Sums.{number, number_at, terms_at, zero_terms}
+use Rattle.case_model.specs.Sums.{number, number_at, terms_at}
 use Rattle.case_model.specs.Entries.{is_plain_entry}
-use Rattle.case_model.specs.EntangledGraph.{EntangledGraph, IsValidEntangled}
+use Rattle.case_model.specs.EntangledGraph.{EntangledGraph}
 use Rattle.case_model.specs.IntersectionWeight.{IsIntersectionWeight}
 use Rattle.case_model.specs.Content.{Content, ComponentContent, component_at, empty_component, entangled, is_plain, graph_of as graph_of_component}
 use Rattle.case_model.specs.Validity.{IsValidContent, AreLowestParts}

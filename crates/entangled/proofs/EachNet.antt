@@ -3,8 +3,6 @@ use Rattle.std.proofs.Common.{◌≡◌, refl, sym, ap, subst, ◌∙◌, ℕ, z
 use Rattle.field_core.specs.Kind.{Kind}
 use Rattle.field_core.specs.Terms.{Terms}
 use Rattle.field_core.specs.declared.place.Wide.{Wide}
-use Rattle.field_core.specs.declared.place.WideAt.{WideAt}
-use Rattle.removal.specs.Steps.{◌>>=◌}
 use Rattle.removal.specs.StoredGraph.{StoredGraph}
 use Rattle.removal.specs.InTurn.{removed_in_turn}
 use Rattle.removal.specs.Laws.Prefixes.{bind_ok, ok_same}

@@ -5,9 +5,7 @@ use Rattle.field_core.specs.Terms.{Terms}
 use Rattle.field_core.specs.Kind.{Kind}
 use Rattle.field_core.specs.LimitParts.{limit_terms}
 use Rattle.field_core.specs.declared.place.Place.TheVariants.{Share}
-use Rattle.field_core.specs.declared.place.WideAt.{WideAt}
 use Rattle.case_model.specs.Sums.{terms_at, zero_terms}
-use Rattle.removal.specs.Steps.{at, each_below}
 use Rattle.removal.specs.StoredGraph.{StoredGraph, weight, size as graph_size, is_live as is_live_in}
 use Rattle.removal.specs.Laws.Prefixes.{at_ok, ok_same, each_get, each_length}
 use Rattle.entangled.specs.Shares.{written_products}
