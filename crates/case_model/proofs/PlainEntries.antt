@@ -1,10 +1,10 @@
 -- The value of an entry without coefficients above power 0.
-use Rattle.std.proofs.Common.{◌≡◌, refl, sym, ap, ◌∙◌, ℕ, suc, List, [], ◌∷◌, true}
+use Rattle.std.proofs.Common.{◌≡◌, refl, ◌∙◌, ℕ, suc, List, [], ◌∷◌, true}
 use Rattle.field_core.specs.Terms.{Terms}
 use Rattle.field_core.specs.Number.{Number}
 use Rattle.field_core.specs.Arithmetic.{number_zero, number_one, ◌+ε◌, ◌*ε◌}
 use Rattle.field_core.specs.Laws.Order.{number_laws}
-use Rattle.case_model.specs.Sums.{number, terms_at, number_at, zero_terms}
+use Rattle.case_model.specs.Sums.{terms_at, number_at, zero_terms}
 use Rattle.case_model.specs.Entries.{power_of_epsilon, entry_value, is_plain_entry}
 use Rattle.case_model.proofs.EntryOrder.{sum_of_five}
 use Rattle.case_model.proofs.ValidGraphs.{number-zero, zero_at}

@@ -1,5 +1,5 @@
 -- The levels of a bundle after removals in turn are the intersection weights.
-use Rattle.std.proofs.Common.{◌≡◌, refl, sym, subst, ◌∙◌, inl, inr, ℕ, ◌<◌, ◌≤◌, ◌⊎◌, List, [], ◌∷◌, length, map, get_or, Result, Ok, arith}
+use Rattle.std.proofs.Common.{◌≡◌, refl, sym, subst, ◌∙◌, inl, inr, ℕ, ◌<◌, ◌≤◌, List, [], ◌∷◌, length, map, get_or, Result, Ok, arith}
 use Rattle.std.proofs.lemmas.Bool.{cases_lt}
 use Rattle.std.proofs.lemmas.List.{get_or-map}
 use Rattle.std.proofs.lemmas.List.Elements.{All-get_or}
@@ -29,8 +29,9 @@ use Rattle.removal.proofs.WeightsLeft.{Stands, in_turn, leaves}
 use Rattle.entangled.specs.Shares.{written_products}
 use Rattle.entangled.specs.Bundled.{Bundled, level, size, is_live, states_size, limits}
 use Rattle.entangled.specs.BundleRun.{AreReady, by_value, empty_graph}
-use Rattle.entangled.specs.LevelStatements.{BundleLevelsAreWeights, BundleLiveAreLeft, BundleLevelsAreLowest}
-use Rattle.entangled.proofs.ExactProducts.{Has, exact_products}
+use Rattle.entangled.specs.LevelStatements.{BundleLevelsAreWeights, BundleLiveAreLeft, BundleSizesStay, BundleLevelsAreLowest}
+use Rattle.case_model.proofs.ExactSums.{Has}
+use Rattle.entangled.proofs.ExactProducts.{exact_products}
 use Rattle.entangled.proofs.EachNet.{IsLater, run_says}
 use Rattle.entangled.proofs.LevelValues.{limit_at, live_by, size_by, level_live, level_gone, level_past}
 
@@ -85,13 +86,13 @@ module _ {S : Type 0} (K : Kind) (IsStored : Parts → Type 0) (X : IsExact K Is
   some_left : 0 < length b.states
   some_left = subst (λ n. 0 < n) (sym L.as_many) R.some
 
-  size_left : size graph b ≡ m
+  pub size_left : size graph b ≡ states_size graph states
   unfolding afterwards
-  size_left = size_by K graph b.states d some_left ∙ (end 0 R.some).same_size
+  size_left = size_by graph b.states d some_left ∙ (end 0 R.some).same_size
 
-  pub live_left : (k : ℕ) → k < m → is_live graph b k ≡ left_after whole js k
+  pub live_left : (k : ℕ) → k < states_size graph states → is_live graph b k ≡ left_after whole js k
   unfolding afterwards
-  live_left k p = live_by K graph b.states d k some_left ∙ (end 0 R.some).live k p
+  live_left k p = live_by graph b.states d k some_left ∙ (end 0 R.some).live k p
 
   -- ---- the level of one that is left
 
@@ -147,13 +148,10 @@ module _ {S : Type 0} (K : Kind) (IsStored : Parts → Type 0) (X : IsExact K Is
     | inr h ↦ subst IsReduced (sym (level_gone K graph b k L.levels (subst (λ n. k < n) (sym size_left) p) (live_left k p ∙ h))) zero_reduced
   ]
 
-  below_or_past : (k : ℕ) → (k < m) ⊎ (m ≤ k)
-  below_or_past k = elim (cases_lt k m) [ inl h ↦ inl h | inr h ↦ inr (omega arith) ]
-
   pub level_lowest : (k : ℕ) → IsReduced (level b k)
-  level_lowest k = elim (below_or_past k) [
+  level_lowest k = elim (cases_lt k m) [
     | inl p ↦ level_within k p
-    | inr p ↦ subst IsReduced (sym (level_past K graph b k L.levels (subst (λ n. n ≤ k) (sym size_left) p))) zero_reduced
+    | inr p ↦ subst IsReduced (sym (level_past K graph b k L.levels (subst (λ n. n ≤ k) (sym size_left) (omega arith)))) zero_reduced
   ]
 
 -- ---- the laws
@@ -164,6 +162,9 @@ module _ {S : Type 0} (K : Kind) (IsStored : Parts → Type 0) (X : IsExact K Is
 
   pub live_are_left : BundleLiveAreLeft K graph IsProper removal
   live_are_left = λ states shares js b k R o h p. live_left K IsStored X graph IsProper removal E states shares js b R o (run_says K graph removal states shares js b h) k p
+
+  pub sizes_stay : BundleSizesStay K graph IsProper removal
+  sizes_stay = λ states shares js b R o h. size_left K IsStored X graph IsProper removal E states shares js b R o (run_says K graph removal states shares js b h)
 
   pub levels_are_lowest : BundleLevelsAreLowest K graph IsProper removal
   levels_are_lowest = λ states shares js b k R o h. level_lowest K IsStored X graph IsProper removal E states shares js b R o (run_says K graph removal states shares js b h) k

@@ -33,11 +33,11 @@ use Rattle.removal.specs.Laws.Exact.{removal_is_exact}
 use Rattle.removal.proofs.SameBelow.{SameBelow, component_weight_same}
 use Rattle.entangled.specs.Bundled.{states_size}
 use Rattle.entangled.specs.BundleRun.{opened_after, AreReady, by_value, empty_graph}
-use Rattle.entangled.specs.CaseRun.{CaseState, is_live_in_case, case_level, component_graph, case_opening, case_removal}
+use Rattle.entangled.specs.CaseRun.{CaseState, case_size, is_live_in_case, case_level, component_graph, case_opening, case_removal}
 use Rattle.entangled.specs.CaseAfter.{case_after}
-use Rattle.entangled.specs.LevelStatements.{LevelsAreWeights, LiveAreLeft, LevelsAreLowest}
+use Rattle.entangled.specs.LevelStatements.{LevelsAreWeights, LiveAreLeft, SizesStay, LevelsAreLowest}
 use Rattle.entangled.proofs.LevelValues.{size_by}
-use Rattle.entangled.proofs.BundleLevels.{levels_are_weights, live_are_left, levels_are_lowest}
+use Rattle.entangled.proofs.BundleLevels.{levels_are_weights, live_are_left, sizes_stay, levels_are_lowest}
 use Rattle.entangled.proofs.CaseGraphs.{IsPlainComponent, component_size, component_live, component_same, component_sound, component_stored}
 
 -- ---- entangled graphs that are the same below their number of hypotheses
@@ -109,7 +109,7 @@ module _ (c : Content) (V : IsValidContent c) (P : is_plain c ≡ true) where
   state_at i p = map_at component_graph c.components i empty_component
 
   size_is : states_size (λ (G : StoredGraph). G) states ≡ m
-  size_is = size_by plain (λ G. G) states (component_graph empty_component) some_states ∙ ap graph_size (state_at 0 H.some_components) ∙ component_size m (component_at c.components 0) (plain_component 0 H.some_components)
+  size_is = size_by (λ (G : StoredGraph). G) states (component_graph empty_component) some_states ∙ ap graph_size (state_at 0 H.some_components) ∙ component_size m (component_at c.components 0) (plain_component 0 H.some_components)
 
   ready : AreReady plain (λ G. G) (AreStored plain IsFraction) states shares
   ready = record {
@@ -161,6 +161,9 @@ module _ (c : Content) (V : IsValidContent c) (P : is_plain c ≡ true) where
   pub live_in_case : (js : List ℕ) (s : CaseState) (k : ℕ) → IsOrder m whole js → case_after c js ≡ Ok s → k < m → is_live_in_case s k ≡ left_after whole js k
   live_in_case js s k o h p = live_are_left plain IsFraction plain_is_exact (λ G. G) (AreStored plain IsFraction) (written_removal plain) plain_removal states shares js s k ready (order js s o h) (after js s o h) (subst (λ n. k < n) (sym size_is) p)
 
+  pub size_of_case : (js : List ℕ) (s : CaseState) → IsOrder m whole js → case_after c js ≡ Ok s → case_size s ≡ m
+  size_of_case js s o h = sizes_stay plain IsFraction plain_is_exact (λ G. G) (AreStored plain IsFraction) (written_removal plain) plain_removal states shares js s ready (order js s o h) (after js s o h) ∙ size_is
+
   pub lowest_in_case : (js : List ℕ) (s : CaseState) (k : ℕ) → IsOrder m whole js → case_after c js ≡ Ok s → IsReduced (case_level s k)
   lowest_in_case js s k o h = levels_are_lowest plain IsFraction plain_is_exact (λ G. G) (AreStored plain IsFraction) (written_removal plain) plain_removal states shares js s k ready (order js s o h) (after js s o h)
 
@@ -171,6 +174,9 @@ case_levels = λ c js s k V P. level_of_case c V P js s k
 
 pub case_live : LiveAreLeft
 case_live = λ c js s k V P. live_in_case c V P js s k
+
+pub case_sizes : SizesStay
+case_sizes = λ c js s V P. size_of_case c V P js s
 
 pub case_lowest : LevelsAreLowest
 case_lowest = λ c js s k V P. lowest_in_case c V P js s k

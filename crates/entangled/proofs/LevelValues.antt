@@ -12,11 +12,7 @@ use Rattle.entangled.specs.Shares.{written_products}
 use Rattle.entangled.specs.Bundled.{Bundled, level, size, is_live, is_live_by, states_size, limits, written_share, written_level, written_levels}
 use Rattle.entangled.proofs.EachNet.{in_component_ok, HasLevels}
 
-module _ {S : Type 0} (K : Kind) (graph : S → StoredGraph) where
-  pub limit_at : (states : List S) (k c : ℕ) (d : S) → c < length states → terms_at (limits K graph states k) c ≡ limit_terms (weight K (graph (get_or states c d)) k)
-  unfolding terms_at
-  limit_at states k c d p = get_or-map (λ s. limit_terms (weight K (graph s) k)) states c d zero_terms p
-
+module _ {S : Type 0} (graph : S → StoredGraph) where
   -- as the first net says
   pub live_by : (states : List S) (d : S) (k : ℕ) → 0 < length states → is_live_by graph states k ≡ is_live_in (graph (get_or states 0 d)) k
   unfolding is_live_by
@@ -27,6 +23,11 @@ module _ {S : Type 0} (K : Kind) (graph : S → StoredGraph) where
   unfolding states_size
   size_by [] d p = absurd (omega arith)
   size_by (s ∷ ss) d p = refl
+
+module _ {S : Type 0} (K : Kind) (graph : S → StoredGraph) where
+  pub limit_at : (states : List S) (k c : ℕ) (d : S) → c < length states → terms_at (limits K graph states k) c ≡ limit_terms (weight K (graph (get_or states c d)) k)
+  unfolding terms_at
+  limit_at states k c d p = get_or-map (λ s. limit_terms (weight K (graph s) k)) states c d zero_terms p
 
   written_at : (b : Bundled S) (k : ℕ) → HasLevels K graph b → k < size graph b → written_level K graph b.states b.shares k ≡ Ok (level b k)
   unfolding written_levels terms_at

@@ -10,9 +10,9 @@ use Rattle.case_model.specs.IntersectionWeight.{IsIntersectionWeight}
 use Rattle.case_model.specs.Content.{Content, entangled, is_plain}
 use Rattle.case_model.specs.Validity.{IsValidContent}
 use Rattle.removal.specs.StoredGraph.{StoredGraph}
-use Rattle.entangled.specs.Bundled.{Bundled, states_size, is_live, level}
+use Rattle.entangled.specs.Bundled.{Bundled, states_size, size, is_live, level}
 use Rattle.entangled.specs.BundleRun.{opened_after, AreReady, by_value}
-use Rattle.entangled.specs.CaseRun.{CaseState, is_live_in_case, case_level}
+use Rattle.entangled.specs.CaseRun.{CaseState, case_size, is_live_in_case, case_level}
 use Rattle.entangled.specs.CaseAfter.{case_after}
 
 module _ {S : Type 0} (K : Kind) (graph : S → StoredGraph) (IsProper : S → Type 0) (removal : S → ℕ → Result S Wide) where
@@ -28,6 +28,12 @@ module _ {S : Type 0} (K : Kind) (graph : S → StoredGraph) (IsProper : S → T
   BundleLiveAreLeft =
       (states : List S) (shares : List Terms) (js : List ℕ) (b : Bundled S) (k : ℕ) → AreReady K graph IsProper states shares → IsOrder (states_size graph states) whole js
       → opened_after K graph removal states shares js ≡ Ok b → k < states_size graph states → is_live graph b k ≡ left_after whole js k
+
+  -- No removal changes the number of hypotheses, live or not.
+  abbrev pub BundleSizesStay : Type 0
+  BundleSizesStay =
+      (states : List S) (shares : List Terms) (js : List ℕ) (b : Bundled S) → AreReady K graph IsProper states shares → IsOrder (states_size graph states) whole js
+      → opened_after K graph removal states shares js ≡ Ok b → size graph b ≡ states_size graph states
 
   -- Each level is in lowest terms.
   abbrev pub BundleLevelsAreLowest : Type 0
@@ -47,6 +53,12 @@ abbrev pub LiveAreLeft : Type 0
 LiveAreLeft =
     (c : Content) (js : List ℕ) (s : CaseState) (k : ℕ) → IsValidContent c → is_plain c ≡ true → IsOrder (length c.names) whole js
     → case_after c js ≡ Ok s → k < length c.names → is_live_in_case s k ≡ left_after whole js k
+
+-- No removal changes the number of hypotheses, live or not.
+abbrev pub SizesStay : Type 0
+SizesStay =
+    (c : Content) (js : List ℕ) (s : CaseState) → IsValidContent c → is_plain c ≡ true → IsOrder (length c.names) whole js
+    → case_after c js ≡ Ok s → case_size s ≡ length c.names
 
 -- Each level is in lowest terms.
 abbrev pub LevelsAreLowest : Type 0

@@ -1,6 +1,6 @@
 //! Laws of bundles and of the nets of cases. Each function states laws of written runs, and does nothing.
 
-ghost use Rattle.entangled.specs.LevelStatements.{BundleLevelsAreWeights, BundleLiveAreLeft, BundleLevelsAreLowest, LevelsAreWeights, LiveAreLeft, LevelsAreLowest};
+ghost use Rattle.entangled.specs.LevelStatements.{BundleLevelsAreWeights, BundleLiveAreLeft, BundleSizesStay, BundleLevelsAreLowest, LevelsAreWeights, LiveAreLeft, SizesStay, LevelsAreLowest};
 
 use removal::Remover;
 
@@ -9,6 +9,7 @@ use removal::Remover;
 pub fn bundle_levels_are_weights<R: Remover>()
     ensures weights { BundleLevelsAreWeights R.Value.kind R.graph R.IsProper R.removal }
     ensures live { BundleLiveAreLeft R.Value.kind R.graph R.IsProper R.removal }
+    ensures size { BundleSizesStay R.Value.kind R.graph R.IsProper R.removal }
     ensures lowest { BundleLevelsAreLowest R.Value.kind R.graph R.IsProper R.removal }
 {}
 
@@ -17,5 +18,6 @@ pub fn bundle_levels_are_weights<R: Remover>()
 pub fn case_levels_are_weights()
     ensures weights { LevelsAreWeights }
     ensures live { LiveAreLeft }
+    ensures size { SizesStay }
     ensures lowest { LevelsAreLowest }
 {}
