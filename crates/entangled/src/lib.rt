@@ -6,6 +6,8 @@ mod case_net;
 mod levels;
 mod open_fault;
 mod shared;
+#[cfg(test)]
+mod tests;
 mod together;
 
 pub use bundle::Bundle;
