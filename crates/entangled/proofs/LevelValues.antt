@@ -1,12 +1,11 @@
 -- The levels of the hypotheses that are in are the shared sums, and 0 elsewhere.
 use Rattle.std.proofs.Common.{◌≡◌, refl, sym, ◌∙◌, ℕ, ◌<◌, ◌≤◌, List, [], ◌∷◌, length, get_or, true, false, Ok, arith}
-use Rattle.std.proofs.lemmas.List.{get_or-map, get_or_past}
+use Rattle.std.proofs.lemmas.List.{get_or_past}
 use Rattle.field_core.specs.Terms.{Terms}
 use Rattle.field_core.specs.Kind.{Kind}
-use Rattle.field_core.specs.LimitParts.{limit_terms}
 use Rattle.field_core.specs.declared.place.Place.TheVariants.{Share}
 use Rattle.case_model.specs.Sums.{terms_at, zero_terms}
-use Rattle.removal.specs.StoredGraph.{StoredGraph, weight, size as graph_size, is_live as is_live_in}
+use Rattle.removal.specs.StoredGraph.{StoredGraph, size as graph_size, is_live as is_live_in}
 use Rattle.removal.specs.Laws.Prefixes.{at_ok, ok_same, each_get, each_length}
 use Rattle.entangled.specs.Shares.{written_products}
 use Rattle.entangled.specs.Bundled.{Bundled, level, size, is_live, is_live_by, states_size, limits, written_share, written_level, written_levels}
@@ -25,10 +24,6 @@ module _ {S : Type 0} (graph : S → StoredGraph) where
   size_by (s ∷ ss) d p = refl
 
 module _ {S : Type 0} (K : Kind) (graph : S → StoredGraph) where
-  pub limit_at : (states : List S) (k c : ℕ) (d : S) → c < length states → terms_at (limits K graph states k) c ≡ limit_terms (weight K (graph (get_or states c d)) k)
-  unfolding terms_at
-  limit_at states k c d p = get_or-map (λ s. limit_terms (weight K (graph s) k)) states c d zero_terms p
-
   written_at : (b : Bundled S) (k : ℕ) → HasLevels K graph b → k < size graph b → written_level K graph b.states b.shares k ≡ Ok (level b k)
   unfolding written_levels terms_at
   written_at b k h p = each_get (states_size graph b.states) (written_level K graph b.states b.shares) b.levels h zero_terms k p
