@@ -3,3 +3,5 @@ pub mod Limits
 pub mod Gathered
 pub mod ItemSteps
 pub mod AllPrepared
+pub mod AllCommitted
+pub mod LevelSteps
