@@ -5,3 +5,4 @@ pub mod ItemSteps
 pub mod AllPrepared
 pub mod AllCommitted
 pub mod LevelSteps
+pub mod RemovedTogether
