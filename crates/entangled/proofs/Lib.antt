@@ -6,3 +6,4 @@ pub mod AllPrepared
 pub mod AllCommitted
 pub mod LevelSteps
 pub mod RemovedTogether
+pub mod Start

@@ -50,7 +50,7 @@ module _ {S : Type 0} (graph : S → StoredGraph) where
   live_by [] L b h = absurd (omega arith)
   live_by (s ∷ ss) L b h = All-head (λ s. is_live_in (graph s) ≡ L) s ss h
 
-  alike_by : (states : List S) (n : ℕ) (L : ℕ → Bool) → 0 < length states → All (λ s. graph_size (graph s) ≡ n) states → All (λ s. is_live_in (graph s) ≡ L) states → AreAlike graph states
+  pub alike_by : (states : List S) (n : ℕ) (L : ℕ → Bool) → 0 < length states → All (λ s. graph_size (graph s) ≡ n) states → All (λ s. is_live_in (graph s) ≡ L) states → AreAlike graph states
   alike_by states n L b size live = record {
     size = All-weaker (λ s. graph_size (graph s) ≡ n) (λ s. graph_size (graph s) ≡ states_size graph states) (λ s h. h ∙ sym (size_by states n b size)) states size;
     live = All-weaker (λ s. is_live_in (graph s) ≡ L) (λ s. is_live_in (graph s) ≡ is_live_by graph states) (λ s h. h ∙ sym (live_by states L b live)) states live;
