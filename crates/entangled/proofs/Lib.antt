@@ -7,3 +7,5 @@ pub mod AllCommitted
 pub mod LevelSteps
 pub mod RemovedTogether
 pub mod Start
+pub mod Pushes
+pub mod CaseParts
