@@ -9,3 +9,4 @@ pub mod RemovedTogether
 pub mod Start
 pub mod Pushes
 pub mod CaseParts
+pub mod CaseGraphs
