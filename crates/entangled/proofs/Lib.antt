@@ -10,3 +10,4 @@ pub mod Start
 pub mod Pushes
 pub mod CaseParts
 pub mod CaseGraphs
+pub mod CaseStart

@@ -40,7 +40,7 @@ module _ {S : Type 0} (graph : S → StoredGraph) where
   live_within [] k h = absurd (cc)
   live_within (s ∷ ss) k h = live_below (graph s) k h
 
-  size_by : (states : List S) (n : ℕ) → 0 < length states → All (λ s. graph_size (graph s) ≡ n) states → states_size graph states ≡ n
+  pub size_by : (states : List S) (n : ℕ) → 0 < length states → All (λ s. graph_size (graph s) ≡ n) states → states_size graph states ≡ n
   unfolding states_size
   size_by [] n b h = absurd (omega arith)
   size_by (s ∷ ss) n b h = All-head (λ s. graph_size (graph s) ≡ n) s ss h
