@@ -13,7 +13,8 @@ use Rattle.fraction.specs.Plain.{written_pair}
 use Rattle.case_model.specs.Sums.{number, number_at, terms_at}
 use Rattle.case_model.specs.Content.{Content, ForSingle, entangled}
 use Rattle.case_model.specs.LegalOrder.{IsOrderBy}
-use Rattle.entangled.specs.CaseRun.{CaseState, is_live_in_case, case_level, case_opening, case_removal, case_after}
+use Rattle.entangled.specs.CaseRun.{CaseState, is_live_in_case, case_level, case_opening, case_removal}
+use Rattle.entangled.specs.CaseAfter.{case_after}
 use Rattle.sequential.specs.Decisions.{IsNext}
 use Rattle.sequential.specs.declared.fault.DecideFault.{DecideFault}
 use Rattle.sequential.specs.declared.fault.DecideFault.TheVariants.{Wide, NoMemory}
