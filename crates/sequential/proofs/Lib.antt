@@ -1,3 +1,4 @@
-pub mod Counting
+pub mod AnyTrial
 pub mod CaseLaws
+pub mod Counting
 pub mod TrialFacts

@@ -4,3 +4,6 @@ pub mod TrialView
 pub mod TrialAnswers
 pub mod Decisions
 pub mod WideDecisions
+pub mod Choices
+pub mod DecisionRuns
+pub mod OpeningFault

@@ -13,7 +13,8 @@ use Rattle.fraction.specs.Plain.{written_pair}
 use Rattle.case_model.specs.Sums.{number, number_at, terms_at}
 use Rattle.case_model.specs.Content.{Content, ForSingle, entangled}
 use Rattle.case_model.specs.LegalOrder.{IsOrderBy}
-use Rattle.entangled.specs.CaseRun.{CaseState, is_live_in_case, case_level, case_opening, case_removal, case_after}
+use Rattle.entangled.specs.CaseRun.{CaseState, is_live_in_case, case_level, case_opening, case_removal}
+use Rattle.entangled.specs.CaseAfter.{case_after}
 use Rattle.sequential.specs.Decisions.{IsNext}
 use Rattle.sequential.specs.declared.fault.DecideFault.{DecideFault}
 use Rattle.sequential.specs.declared.fault.DecideFault.TheVariants.{Wide, NoMemory}
@@ -26,8 +27,20 @@ pub record HasWrittenRatio (s : CaseState) (k : ℕ) : Type 0 where
   pub positive : IsPositive (number (case_level s k))
 
 -- the ratio of `k` as it is written: its p-value over its weight
-abbrev pub written_ratio : List Terms → CaseState → ℕ → Result Terms TooWide
+unfoldable pub written_ratio : List Terms → CaseState → ℕ → Result Terms TooWide
 written_ratio ps s k = written_pair Div (terms_at ps k) (case_level s k)
+
+-- the ratio of `k` is written, and is `q`
+pub record IsWrittenRatio (ps : List Terms) (s : CaseState) (k : ℕ) (q : Terms) : Type 0 where
+  pub written : HasWrittenRatio s k
+  pub quotient : written_ratio ps s k ≡ Ok q
+
+-- the ratio of `k` is written, and is undefined, at the place `w`
+pub record IsWideRatio (ps : List Terms) (s : CaseState) (k : ℕ) (w : WideAt) : Type 0 where
+  pub written : HasWrittenRatio s k
+  pub fault : TooWide
+  pub refused : written_ratio ps s k ≡ Err fault
+  pub place : w ≡ record { component = 0; place = AtRatio k; op = fault.op }
 
 -- the ratios of the positions below `n` are defined
 abbrev pub AreDefinedBelow : ℕ → List Terms → CaseState → Type 0
@@ -37,10 +50,7 @@ AreDefinedBelow n ps s = (k : ℕ) → k < n → HasWrittenRatio s k → (q : Te
 pub record IsFirstWideRatio (ps : List Terms) (s : CaseState) (w : WideAt) : Type 0 where
   pub hypothesis : ℕ
   pub below : hypothesis < length ps
-  pub written : HasWrittenRatio s hypothesis
-  pub fault : TooWide
-  pub refused : written_ratio ps s hypothesis ≡ Err fault
-  pub place : w ≡ record { component = 0; place = AtRatio hypothesis; op = fault.op }
+  pub wide : IsWideRatio ps s hypothesis w
   pub before : AreDefinedBelow hypothesis ps s
 
 -- what the choice by a priority writes is defined: the priority `ratio` writes the ratios, the others write nothing
