@@ -1,4 +1,6 @@
 pub mod AnyTrial
 pub mod CaseLaws
 pub mod Counting
+pub mod DecisionLaws
 pub mod TrialFacts
+pub mod WideLaws
