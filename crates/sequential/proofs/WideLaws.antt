@@ -62,14 +62,14 @@ unfolding removed_in_turn
 turns_append [] ks s t h = ap (λ u. removed_in_turn case_removal u ks) (same_state (Ok s) s t refl h)
 turns_append (j ∷ js) ks s t h = goes_on (case_removal s j) (λ u. removed_in_turn case_removal u js) (λ u. removed_in_turn case_removal u (js ++ ks)) t (removed_in_turn case_removal t ks) (λ u e. turns_append js ks u t e) h
 
+stopped : (s : CaseState) (j : ℕ) (rest : List ℕ) (w : WideAt) → case_removal s j ≡ Err w → removed_in_turn case_removal s (j ∷ rest) ≡ Err w
+unfolding removed_in_turn
+stopped s j rest w e = ap (λ r. r >>= λ u. removed_in_turn case_removal u rest) e
+
 module _ (c : Content) where
   pub after_append : (js ks : List ℕ) (s : CaseState) → case_after c js ≡ Ok s → case_after c (js ++ ks) ≡ removed_in_turn case_removal s ks
   unfolding case_after
   after_append js ks s h = goes_on (case_opening c) (λ u. removed_in_turn case_removal u js) (λ u. removed_in_turn case_removal u (js ++ ks)) s (removed_in_turn case_removal s ks) (λ u e. turns_append js ks u s e) h
-
-  stopped : (s : CaseState) (j : ℕ) (rest : List ℕ) (w : WideAt) → case_removal s j ≡ Err w → removed_in_turn case_removal s (j ∷ rest) ≡ Err w
-  unfolding removed_in_turn
-  stopped s j rest w e = ap (λ r. r >>= λ u. removed_in_turn case_removal u rest) e
 
   -- what begins with a refused removal doesn't go on
   refused_stops : (js : List ℕ) (j : ℕ) (rest : List ℕ) (s t : CaseState) (w : WideAt) → case_after c js ≡ Ok s → case_removal s j ≡ Err w → ¬ (case_after c (js ++ j ∷ rest) ≡ Ok t)
