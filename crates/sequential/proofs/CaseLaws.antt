@@ -1,5 +1,12 @@
 -- Stand-in for the laws of the crate below.
-use Rattle.entangled.specs.CaseLaws.{LevelsAreWeights, LiveAreLeft, SizesStay}
+use Rattle.std.proofs.Common.{◌≡◌, ℕ, true, List, length, Ok}
+use Rattle.field_core.specs.Sets.{whole}
+use Rattle.field_core.specs.Runs.{IsOrder}
+use Rattle.case_model.specs.Content.{Content, is_plain}
+use Rattle.case_model.specs.Validity.{IsValidContent}
+use Rattle.entangled.specs.CaseRun.{CaseState, case_size}
+use Rattle.entangled.specs.CaseAfter.{case_after}
+use Rattle.entangled.specs.LevelStatements.{LevelsAreWeights, LiveAreLeft}
 
 pub levels_are_weights : LevelsAreWeights
 levels_are_weights = ?
@@ -7,5 +14,5 @@ levels_are_weights = ?
 pub live_are_left : LiveAreLeft
 live_are_left = ?
 
-pub sizes_stay : SizesStay
+pub sizes_stay : (c : Content) (js : List ℕ) (s : CaseState) → IsValidContent c → is_plain c ≡ true → IsOrder (length c.names) whole js → case_after c js ≡ Ok s → case_size s ≡ length c.names
 sizes_stay = ?

@@ -1,3 +1,6 @@
-pub mod Counting
+pub mod AnyTrial
 pub mod CaseLaws
+pub mod Counting
+pub mod DecisionLaws
 pub mod TrialFacts
+pub mod WideLaws

@@ -1,61 +1,87 @@
 -- What is known of a trial of a case.
-use Rattle.std.proofs.Common.{◌≡◌, ◌≢◌, inl, inr, refl, sym, ap, ◌∙◌, subst, ℕ, ◌<◌, Bool, true, false, List, [], ◌∷◌, ◌++◌, length, ◌↔◌, Result, Ok, Err}
+use Rattle.std.proofs.Common.{◌≡◌, ◌≢◌, inl, inr, refl, sym, ap, ◌∙◌, subst, subst₂, ℕ, ◌<◌, Bool, true, false, List, [], ◌∷◌, ◌++◌, length, ◌↔◌, Result, Ok, Err}
 use Rattle.field_core.specs.Terms.{Terms}
 use Rattle.field_core.specs.Number.{Number}
 use Rattle.field_core.specs.Sets.{IsIn, whole}
 use Rattle.field_core.specs.Runs.{IsOrder, left_after}
+use Rattle.field_core.specs.Arithmetic.{number_zero}
+use Rattle.field_core.specs.Order.{◌≤ε◌}
+use Rattle.field_core.specs.Laws.NumberFieldLaws.{field_zero}
+use Rattle.field_core.proofs.Live.{true_not_false}
 use Rattle.field_core.specs.declared.place.WideAt.{WideAt}
 use Rattle.case_model.specs.EntangledGraph.{IsValidEntangled}
 use Rattle.case_model.specs.IntersectionWeight.{IsIntersectionWeight}
 use Rattle.case_model.specs.Sums.{number, number_at, terms_at}
 use Rattle.case_model.specs.Draft.{ArePValues, is_level, is_p_value}
-use Rattle.case_model.specs.Content.{Content, IfSingle, entangled}
-use Rattle.case_model.specs.ClosedTest.{IsLegal}
-use Rattle.case_model.specs.LegalOrder.{IsListed}
+use Rattle.case_model.specs.Content.{Content, single, IfSingle, ForSingle, entangled, is_plain, IsRejectedIn}
+use Rattle.case_model.specs.Validity.{IsValidContent}
+use Rattle.case_model.specs.ClosedTest.{IsLegal, IsRejected}
+use Rattle.case_model.specs.LegalOrder.{IsListed, IsLegalOrder}
 use Rattle.case_model.proofs.Holding.{all_at}
+use Rattle.case_model.proofs.Thresholds.{good_level}
 use Rattle.case_model.proofs.ValidContents.{shape, valid_content}
 use Rattle.case_model.proofs.LegalSteps.{legal_distinct}
 use Rattle.case_model.proofs.RejectionOrders.{order_next, not_listed_left, left_not_listed, listed_or_not}
-use Rattle.case_model.proofs.ClosedTestLaws.{legal_passes, passes_legal}
-use Rattle.entangled.specs.CaseRun.{CaseState, is_live_in_case, case_level, case_opening, case_removal, case_after, removals, ◌>>=◌}
-use Rattle.sequential.specs.Trials.{TrialContent, IsTrialOf, IsLegalNow, MayReject, remaining}
-use Rattle.sequential.proofs.CaseLaws.{levels_are_weights, live_are_left}
+use Rattle.case_model.proofs.ClosedTestLaws.{legal_passes, passes_legal, legal_rejected, rejected_listed}
+use Rattle.removal.specs.Steps.{◌>>=◌}
+use Rattle.removal.specs.InTurn.{removed_in_turn}
+use Rattle.entangled.specs.CaseRun.{CaseState, case_size, is_live_in_case, case_level, case_opening, case_removal}
+use Rattle.entangled.specs.CaseAfter.{case_after}
+use Rattle.sequential.specs.Trials.{TrialContent, IsTrialOf, IsLegalNow, MayReject, IsNextTrial, remaining}
+use Rattle.sequential.proofs.CaseLaws.{levels_are_weights, live_are_left, sizes_stay}
 use Rattle.sequential.proofs.Counting.{one_left}
 
 -- ---- removals in turn
 
-removals_next : (js : List ℕ) (s t : CaseState) (j : ℕ) → removals s js ≡ Ok t → removals s (js ++ j ∷ []) ≡ case_removal t j
-unfolding removals
-removals_next [] s t j h = last (case_removal s j) ∙ ap (λ x. case_removal x j) (same h)
-  where
-    last : (r : Result CaseState WideAt) → (r >>= λ x. Ok x) ≡ r
-    last (Ok x) = refl
-    last (Err e) = refl
-    same : Path (Result CaseState WideAt) (Ok s) (Ok t) → s ≡ t
-    same e = cc
-removals_next (i ∷ js) s t j h = step (case_removal s i) h
-  where
-    step : (r : Result CaseState WideAt) → (r >>= λ u. removals u js) ≡ Ok t → (r >>= λ u. removals u (js ++ j ∷ [])) ≡ case_removal t j
-    step (Ok u) e = removals_next js u t j e
-    step (Err w) e = absurd (cc)
+last_step : (r : Result CaseState WideAt) → (r >>= λ x. Ok x) ≡ r
+last_step (Ok x) = refl
+last_step (Err e) = refl
+
+-- a step that goes on to a good end, and on from there
+goes_on : (r : Result CaseState WideAt) (f g : CaseState → Result CaseState WideAt) (t : CaseState) (end : Result CaseState WideAt) → ((u : CaseState) → f u ≡ Ok t → g u ≡ end) → (r >>= f) ≡ Ok t → (r >>= g) ≡ end
+goes_on (Ok u) f g t end step e = step u e
+goes_on (Err w) f g t end step e = absurd (cc)
+
+same_state : (s t : CaseState) → Path (Result CaseState WideAt) (Ok s) (Ok t) → s ≡ t
+same_state s t e = cc
+
+turns_next : (js : List ℕ) (s t : CaseState) (j : ℕ) → removed_in_turn case_removal s js ≡ Ok t → removed_in_turn case_removal s (js ++ j ∷ []) ≡ case_removal t j
+unfolding removed_in_turn
+turns_next [] s t j h = last_step (case_removal s j) ∙ ap (λ x. case_removal x j) (same_state s t h)
+turns_next (i ∷ js) s t j h = goes_on (case_removal s i) (λ u. removed_in_turn case_removal u js) (λ u. removed_in_turn case_removal u (js ++ j ∷ [])) t (case_removal t j) (λ u e. turns_next js u t j e) h
 
 -- the removal of one more
 pub after_next : (c : Content) (js : List ℕ) (s : CaseState) (j : ℕ) → case_after c js ≡ Ok s → case_after c (js ++ j ∷ []) ≡ case_removal s j
 unfolding case_after
-after_next c js s j h = step (case_opening c) h
-  where
-    step : (r : Result CaseState WideAt) → (r >>= λ u. removals u js) ≡ Ok s → (r >>= λ u. removals u (js ++ j ∷ [])) ≡ case_removal s j
-    step (Ok u) e = removals_next js u s j e
-    step (Err w) e = absurd (cc)
+after_next c js s j h = goes_on (case_opening c) (λ u. removed_in_turn case_removal u js) (λ u. removed_in_turn case_removal u (js ++ j ∷ [])) s (case_removal s j) (λ u e. turns_next js u s j e) h
+
+after_opening : (c : Content) (s : CaseState) → case_opening c ≡ Ok s → case_after c [] ≡ Ok s
+unfolding case_after removed_in_turn
+after_opening c s h = last_step (case_opening c) ∙ h
 
 -- how many hypotheses the graph of a case has
 hypotheses_are : (c : Content) → (entangled c).hypotheses ≡ length c.names
 unfolding entangled
 hypotheses_are c = refl
 
+-- a level isn't below 0
+pub level_low : (a : Terms) → is_level a ≡ true → number_zero ≤ε number a
+level_low a h = subst (λ z. z ≤ε number a) field_zero (good_level a h).nonneg
+
+-- a case that was opened, with no rejection yet
+pub opened_trial : (c : Content) (t : TrialContent) → IsValidContent c → is_plain c ≡ true → c.inputs ≡ single t.p_values → c.alpha ≡ t.alpha → t.rejected ≡ [] → case_opening c ≡ Ok t.state → IsTrialOf c t
+opened_trial c t valid plain inputs alpha none opened = record {
+  valid = valid;
+  plain = plain;
+  inputs = inputs;
+  alpha = alpha;
+  order = subst (IsLegalOrder (entangled c) (number_at t.p_values) (number t.alpha) whole) (sym none) tt;
+  state = ap (case_after c) none ∙ after_opening c t.state opened;
+}
+
 module _ (c : Content) (t : TrialContent) (T : IsTrialOf c t) where
   pub graph_valid : IsValidEntangled (entangled c)
-  graph_valid = valid_content c T.valid
+  graph_valid = valid_content c T.valid.faultless
 
   pub p_values_are : ArePValues (length c.names) t.p_values
   p_values_are = subst (λ i. IfSingle i (ArePValues (length c.names))) T.inputs (shape c T.valid).p_values
@@ -113,13 +139,44 @@ module _ (c : Content) (t : TrialContent) (T : IsTrialOf c t) where
     | inr f ↦ live_now k (subst (λ n. k < n) p_values_are.count h) ∙ not_listed_left t.rejected whole k refl f
   ]
 
+  -- what is in isn't rejected
+  pub live_not_rejected : (k : ℕ) → k < length t.p_values → is_live_in_case t.state k ≡ true → ¬ IsListed t.rejected k
+  live_not_rejected k h l r = true_not_false (sym r ∙ left_not_listed t.rejected whole k (remains_in k h l).member)
+
+  -- and what isn't in is
+  pub gone_rejected : (k : ℕ) → k < length t.p_values → is_live_in_case t.state k ≡ false → IsListed t.rejected k
+  gone_rejected k h f = elim (listed_or_not t.rejected k) [
+    | inl l ↦ l
+    | inr n ↦ absurd (true_not_false (sym (not_listed_left t.rejected whole k refl n) ∙ sym (live_now k (subst (λ n. k < n) p_values_are.count h)) ∙ f))
+  ]
+
+  -- the state has a place for each hypothesis
+  pub sizes_are : case_size t.state ≡ length t.p_values
+  sizes_are = sizes_stay c t.rejected t.state T.valid T.plain distinct T.state ∙ sym p_values_are.count
+
   -- the trial after one more rejection
-  pub next_trial : (j : ℕ) (s : CaseState) → IsLegalNow c t j → case_removal t.state j ≡ Ok s → IsTrialOf c (record t { state = s; rejected = t.rejected ++ j ∷ [] })
-  next_trial j s h e = record {
+  pub next_trial : (j : ℕ) (new : TrialContent) → IsLegalNow c t j → IsNextTrial t j new → IsTrialOf c new
+  next_trial j new h n = record {
     valid = T.valid;
     plain = T.plain;
-    inputs = T.inputs;
-    alpha = T.alpha;
-    order = order_next (IsLegal (entangled c) (number_at t.p_values) (number t.alpha)) t.rejected j whole T.order h;
-    state = after_next c t.rejected t.state j T.state ∙ e;
+    inputs = T.inputs ∙ ap single (sym n.p_values);
+    alpha = T.alpha ∙ sym n.alpha;
+    order = subst₂ (λ ps a. IsLegalOrder (entangled c) (number_at ps) (number a) whole new.rejected) (sym n.p_values) (sym n.alpha) (subst (IsLegalOrder (entangled c) (number_at t.p_values) (number t.alpha) whole) (sym n.rejected) (order_next (IsLegal (entangled c) (number_at t.p_values) (number t.alpha)) t.rejected j whole T.order h));
+    state = ap (case_after c) n.rejected ∙ after_next c t.rejected t.state j T.state ∙ n.removed;
   }
+
+  -- what the closed test rejects, by the p-values and the level of the trial
+  by_inputs : (j : ℕ) → IsRejected (entangled c) (number_at t.p_values) (number t.alpha) j → IsRejectedIn c j
+  by_inputs j r = subst₂ (λ i a. ForSingle i (λ ps. IsRejected (entangled c) (number_at ps) (number a) j)) (sym T.inputs) (sym T.alpha) r
+
+  by_trial : (j : ℕ) → IsRejectedIn c j → IsRejected (entangled c) (number_at t.p_values) (number t.alpha) j
+  by_trial j r = subst₂ (λ i a. ForSingle i (λ ps. IsRejected (entangled c) (number_at ps) (number a) j)) T.inputs T.alpha r
+
+  -- the closed test rejects what is rejected
+  pub listed_rejected : (j : ℕ) → IsListed t.rejected j → IsRejectedIn c j
+  listed_rejected j l =
+      by_inputs j (legal_rejected (entangled c) (number_at t.p_values) (number t.alpha) graph_valid (level_low t.alpha level_is) t.rejected T.order j l)
+
+  -- and nothing else, once nothing is legal
+  pub rejected_listed_now : ((k : ℕ) → ¬ IsLegalNow c t k) → (j : ℕ) → IsRejectedIn c j → IsListed t.rejected j
+  rejected_listed_now none j r = rejected_listed (entangled c) (number_at t.p_values) (number t.alpha) t.rejected none j (by_trial j r)

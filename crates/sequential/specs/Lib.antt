@@ -4,3 +4,8 @@ pub mod TrialView
 pub mod TrialAnswers
 pub mod Decisions
 pub mod WideDecisions
+pub mod Choices
+pub mod DecisionRuns
+pub mod OpeningFault
+pub mod DefinedRuns
+pub mod DecisionStatements

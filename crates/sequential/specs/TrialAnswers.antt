@@ -6,7 +6,8 @@ use Rattle.case_model.specs.Sums.{number}
 use Rattle.case_model.specs.Content.{Content, InputsContent, ForSingle, entangled}
 use Rattle.case_model.specs.IntersectionWeight.{IsIntersectionWeight}
 use Rattle.case_model.specs.LegalOrder.{IsListed}
-use Rattle.entangled.specs.CaseRun.{CaseState, case_opening, case_after}
+use Rattle.entangled.specs.CaseRun.{CaseState, case_opening}
+use Rattle.entangled.specs.CaseAfter.{case_after}
 use Rattle.entangled.specs.declared.open_fault.OpenFault.{OpenFault}
 use Rattle.entangled.specs.declared.open_fault.OpenFault.TheVariants.{Wide as OpenWide, NoMemory as OpenNoMemory}
 use Rattle.sequential.specs.Trials.{TrialContent, remaining, IsLegalNow}

@@ -8,7 +8,8 @@ use Rattle.case_model.specs.Content.{Content, single, entangled, is_plain}
 use Rattle.case_model.specs.Validity.{IsValidContent}
 use Rattle.case_model.specs.ClosedTest.{Passes, IsLegal}
 use Rattle.case_model.specs.LegalOrder.{IsLegalOrder}
-use Rattle.entangled.specs.CaseRun.{CaseState, is_live_in_case, case_level, case_removal, case_after}
+use Rattle.entangled.specs.CaseRun.{CaseState, is_live_in_case, case_level, case_removal}
+use Rattle.entangled.specs.CaseAfter.{case_after}
 
 -- the p-values, the level, the present state, and the rejections in their order
 pub record TrialContent : Type 0 where

@@ -1,5 +1,5 @@
 -- Where the written run of a decision is undefined (this project's own).
-use Rattle.std.specs.Prelude.{◌≡◌, ◌<◌, ◌⊎◌, ℕ, zero, suc, Bool, true, List, length, Result, Ok, Err}
+use Rattle.std.specs.Prelude.{◌≡◌, ◌<◌, ◌⊎◌, ℕ, zero, suc, Bool, true, List, ◌∷◌, ◌++◌, length, Result, Ok, Err}
 use Rattle.field_core.specs.Terms.{Terms}
 use Rattle.field_core.specs.Number.{Number}
 use Rattle.field_core.specs.Order.{IsPositive}
@@ -13,7 +13,8 @@ use Rattle.fraction.specs.Plain.{written_pair}
 use Rattle.case_model.specs.Sums.{number, number_at, terms_at}
 use Rattle.case_model.specs.Content.{Content, ForSingle, entangled}
 use Rattle.case_model.specs.LegalOrder.{IsOrderBy}
-use Rattle.entangled.specs.CaseRun.{CaseState, is_live_in_case, case_level, case_opening, case_removal, case_after}
+use Rattle.entangled.specs.CaseRun.{CaseState, is_live_in_case, case_level, case_opening, case_removal}
+use Rattle.entangled.specs.CaseAfter.{case_after}
 use Rattle.sequential.specs.Decisions.{IsNext}
 use Rattle.sequential.specs.declared.fault.DecideFault.{DecideFault}
 use Rattle.sequential.specs.declared.fault.DecideFault.TheVariants.{Wide, NoMemory}
@@ -26,8 +27,20 @@ pub record HasWrittenRatio (s : CaseState) (k : ℕ) : Type 0 where
   pub positive : IsPositive (number (case_level s k))
 
 -- the ratio of `k` as it is written: its p-value over its weight
-abbrev pub written_ratio : List Terms → CaseState → ℕ → Result Terms TooWide
+unfoldable pub written_ratio : List Terms → CaseState → ℕ → Result Terms TooWide
 written_ratio ps s k = written_pair Div (terms_at ps k) (case_level s k)
+
+-- the ratio of `k` is written, and is `q`
+pub record IsWrittenRatio (ps : List Terms) (s : CaseState) (k : ℕ) (q : Terms) : Type 0 where
+  pub written : HasWrittenRatio s k
+  pub quotient : written_ratio ps s k ≡ Ok q
+
+-- the ratio of `k` is written, and is undefined, at the place `w`
+pub record IsWideRatio (ps : List Terms) (s : CaseState) (k : ℕ) (w : WideAt) : Type 0 where
+  pub written : HasWrittenRatio s k
+  pub fault : TooWide
+  pub refused : written_ratio ps s k ≡ Err fault
+  pub place : w ≡ record { component = 0; place = AtRatio k; op = fault.op }
 
 -- the ratios of the positions below `n` are defined
 abbrev pub AreDefinedBelow : ℕ → List Terms → CaseState → Type 0
@@ -37,10 +50,7 @@ AreDefinedBelow n ps s = (k : ℕ) → k < n → HasWrittenRatio s k → (q : Te
 pub record IsFirstWideRatio (ps : List Terms) (s : CaseState) (w : WideAt) : Type 0 where
   pub hypothesis : ℕ
   pub below : hypothesis < length ps
-  pub written : HasWrittenRatio s hypothesis
-  pub fault : TooWide
-  pub refused : written_ratio ps s hypothesis ≡ Err fault
-  pub place : w ≡ record { component = 0; place = AtRatio hypothesis; op = fault.op }
+  pub wide : IsWideRatio ps s hypothesis w
   pub before : AreDefinedBelow hypothesis ps s
 
 -- what the choice by a priority writes is defined: the priority `ratio` writes the ratios, the others write nothing
@@ -55,6 +65,16 @@ IsWideChoice First ps s w = ⊥
 IsWideChoice Last ps s w = ⊥
 IsWideChoice Ratio ps s w = IsFirstWideRatio ps s w
 
+-- after the rejections of a list the run is defined, and so is the choice by the priority that comes next
+pub record IsDefinedAt (c : Content) (ps : List Terms) (priority : Priority) (js : List ℕ) : Type 0 where
+  pub state : CaseState
+  pub reached : case_after c js ≡ Ok state
+  pub choice : IsChoiceDefined priority ps state
+
+-- each choice of a list of rejections is defined, after those before it
+abbrev pub AreChoicesDefined : Content → List Terms → Priority → List ℕ → Type 0
+AreChoicesDefined c ps priority js = (ks : List ℕ) (j : ℕ) (rest : List ℕ) → js ≡ ks ++ j ∷ rest → IsDefinedAt c ps priority ks
+
 -- the choice is defined, and the removal of the hypothesis that it gives is undefined first at `w`
 pub record IsWideRemoval (c : Content) (ps : List Terms) (priority : Priority) (js : List ℕ) (s : CaseState) (w : WideAt) : Type 0 where
   pub choice : IsChoiceDefined priority ps s
@@ -67,6 +87,7 @@ pub record IsWideStep (c : Content) (ps : List Terms) (priority : Priority) (k :
   pub rejected : List ℕ
   pub count : length rejected ≡ k
   pub order : IsOrderBy (IsNext (entangled c) (number_at ps) (number c.alpha) priority) whole rejected
+  pub choices : AreChoicesDefined c ps priority rejected
   pub state : CaseState
   pub reached : case_after c rejected ≡ Ok state
   pub cause : IsWideChoice priority ps state w ⊎ IsWideRemoval c ps priority rejected state w

@@ -1,4 +1,4 @@
-ghost use Rattle.std.specs.Prelude.{◌≡◌, ◌<◌, ◌++◌, [], ◌∷◌, length, Err, OnOk, OnErr, IfErr};
+ghost use Rattle.std.specs.Prelude.{◌≡◌, ◌<◌, ◌≤◌, ◌++◌, [], ◌∷◌, length, Err, OnOk, OnErr, IfErr, vec_len, vec_capacity};
 ghost use Rattle.case_model.specs.Content.{Content};
 ghost use Rattle.entangled.specs.CaseRun.{case_removal};
 ghost use Rattle.sequential.specs.Trials.{IsTrialOf, IsNextTrial, MayReject};
@@ -8,6 +8,18 @@ ghost use Rattle.sequential.specs.TrialView.{trial};
 use super::Trial;
 use crate::RejectFault;
 use field_core::WideAt;
+
+/// Puts a position last, where there is room.
+fn put_last(positions: &mut Vec<usize>, position: usize)
+    requires { vec_len positions.old < vec_capacity positions.old }
+    ensures items { positions.new.items ≡ positions.old.items ++ position ∷ [] }
+    ensures room { vec_capacity positions.old ≤ vec_capacity positions.new }
+{
+    match positions.push(position) {
+        Ok(()) => (),
+        Err(_) => unreachable!(),
+    }
+}
 
 #[tactic(auto, unfolding(crate::specs::TrialView::trial))]
 impl Trial {
@@ -19,10 +31,8 @@ impl Trial {
         ensures refused { OnErr result (trial self.new ≡ trial self.old) }
     {
         self.net.remove(j)?;
-        match self.rejected.push(j) {
-            Ok(()) => Ok(()),
-            Err(_) => unreachable!(),
-        }
+        put_last(&mut self.rejected, j);
+        Ok(())
     }
 
     /// Rejects `j`, a position below the size, where it is legal now, and puts it last on the list of the rejected.
