@@ -20,15 +20,47 @@ const FAULTS: [(&str, usize, LineKind); 18] = [
     ("alpha 0.05\np 1\n", 2, LineKind::Unexpected),
     ("alpha 0.05\nhypotheses A\n", 3, LineKind::Ended),
     ("alpha 0.05\nhypotheses A\np\n", 3, LineKind::WordCount),
-    ("alpha 0.05\nhypotheses A\np 1/0\n", 3, LineKind::Number(NumberFault::ZeroDenominator)),
+    (
+        "alpha 0.05\nhypotheses A\np 1/0\n",
+        3,
+        LineKind::Number(NumberFault::ZeroDenominator),
+    ),
     ("alpha 0.05\nhypotheses A\np 1\n\n", 5, LineKind::Ended),
-    ("alpha 0.05\nhypotheses A\np 1\np 1\n", 4, LineKind::Unexpected),
-    ("alpha 0.05\nhypotheses A\ncomponent 1\n", 3, LineKind::Unexpected),
-    ("alpha 0.05\nhypotheses A\nweights 1 1/\n", 3, LineKind::Number(NumberFault::BadByte(2))),
-    ("alpha 0.05\nhypotheses A B\nweights 1 0\nstages 1\n", 4, LineKind::Unexpected),
-    ("alpha 0.05\nhypotheses A B\nweights 1 0\nedge A B\n", 4, LineKind::WordCount),
-    ("alpha 0.05\nhypotheses A B\nweights 1 0\nedge A C x\n", 4, LineKind::UnknownName),
-    ("alpha 0.05\nhypotheses A B\nweights 1 0\nedge A B 1-\\epsilon\n", 4, LineKind::Number(NumberFault::BadByte(1))),
+    (
+        "alpha 0.05\nhypotheses A\np 1\np 1\n",
+        4,
+        LineKind::Unexpected,
+    ),
+    (
+        "alpha 0.05\nhypotheses A\ncomponent 1\n",
+        3,
+        LineKind::Unexpected,
+    ),
+    (
+        "alpha 0.05\nhypotheses A\nweights 1 1/\n",
+        3,
+        LineKind::Number(NumberFault::BadByte(2)),
+    ),
+    (
+        "alpha 0.05\nhypotheses A B\nweights 1 0\nstages 1\n",
+        4,
+        LineKind::Unexpected,
+    ),
+    (
+        "alpha 0.05\nhypotheses A B\nweights 1 0\nedge A B\n",
+        4,
+        LineKind::WordCount,
+    ),
+    (
+        "alpha 0.05\nhypotheses A B\nweights 1 0\nedge A C x\n",
+        4,
+        LineKind::UnknownName,
+    ),
+    (
+        "alpha 0.05\nhypotheses A B\nweights 1 0\nedge A B 1-\\epsilon\n",
+        4,
+        LineKind::Number(NumberFault::BadByte(1)),
+    ),
 ];
 
 #[test]
@@ -42,8 +74,14 @@ fn first_faults(rt: HostRuntime) {
 const CASES: [(&str, usize); 4] = [
     ("alpha 0.05\nhypotheses H1\np 1\nweights 1", 1),
     ("alpha 0.05\r\nhypotheses H1\r\np 1\r\nweights 1\r", 1),
-    ("alpha 0.03\nhypotheses H1 H2 H3\np 0.02 0.015 0.005\nweights 1/3 1/3 1/3\nedge H1 H2 1\nedge H2 H3 1\n", 3),
-    ("# three\n alpha\t0.03 \nhypotheses H1 H2 H3\nweights 1/3 1/3 1/3\n", 3),
+    (
+        "alpha 0.03\nhypotheses H1 H2 H3\np 0.02 0.015 0.005\nweights 1/3 1/3 1/3\nedge H1 H2 1\nedge H2 H3 1\n",
+        3,
+    ),
+    (
+        "# three\n alpha\t0.03 \nhypotheses H1 H2 H3\nweights 1/3 1/3 1/3\n",
+        3,
+    ),
 ];
 
 fn size(answer: Result<Case, TextFault>) -> usize {
@@ -56,6 +94,10 @@ fn size(answer: Result<Case, TextFault>) -> usize {
 #[test]
 fn cases(rt: HostRuntime) {
     for (text, wanted) in CASES {
-        assert_eq!(rt; size(read_text(rt.alloc(), text.as_bytes())), wanted, "{text}");
+        assert_eq!(rt;
+            size(read_text(rt.alloc(), text.as_bytes())),
+            wanted,
+            "{text}"
+        );
     }
 }
