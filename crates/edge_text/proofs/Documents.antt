@@ -1,51 +1,12 @@
--- The parts of a document, and faults behind them.
-use Rattle.std.proofs.Common.{◌≡◌, ℕ, List, [], ◌∷◌, ◌++◌, inl, inr, Option, Some, None, refl, sym, ap, ap₂, subst, ◌∙◌, append_assoc}
-use Rattle.std.specs.List.{AllZip}
-use Rattle.std.proofs.lemmas.List.{append-nil}
+-- Faults behind the first parts of a document.
+use Rattle.std.proofs.Common.{ℕ, List, [], ◌∷◌, ◌++◌, inl, inr, Option, Some, None, refl, sym, subst}
 use Rattle.field_core.specs.Terms.{Terms}
-use Rattle.case_model.specs.Draft.{DraftContent, DraftComponentContent, DraftEdgeContent}
 use Rattle.edge_text.specs.declared.fault.TextFault.{TextFault}
 use Rattle.edge_text.specs.Lines.{Row, words_of, words_in}
-use Rattle.edge_text.specs.Grammar.{Words, IsAlphaLine, IsNamesLine, IsWeightsLine, IsEdgeLine, optional, GivesP, one_component, IsDocument}
+use Rattle.edge_text.specs.Grammar.{Words, IsAlphaLine, IsNamesLine, IsWeightsLine, optional, GivesP}
 use Rattle.edge_text.specs.Faults.{Lead, Alpha, Names, POrWeights, Weights, Edges}
 use Rattle.edge_text.specs.View.{TakesLine, TakesLines, AreNumbersLines, IsFaultAt}
-use Rattle.edge_text.proofs.Leads.{words_append, fault_behind}
-
--- ---- the draft
-
-lines_are : (rows rest : List Row) (p_line : Option Words) (weights_line : Words) (lines edges : List Row) → words_in lines ≡ optional p_line ++ weights_line ∷ [] → rows ≡ lines ++ rest → rest ≡ edges ++ [] → words_in rows ≡ optional p_line ++ weights_line ∷ words_in edges
-lines_are rows rest p_line weights_line lines edges s r e =
-    ap words_in r ∙ words_append lines rest ∙ ap₂ (λ a b. a ++ b) s (ap words_in (e ∙ append-nil edges)) ∙ append_assoc (optional p_line) (weights_line ∷ []) (words_in edges)
-
--- the draft of these parts
-abbrev pub draft_of : Terms → List (List ℕ) → List (Option Terms) → List DraftComponentContent → DraftContent
-draft_of alpha names p components = record { names = names; alpha = alpha; p = p; components = components; stages = None }
-
-pub document_is : (rows behind_alpha behind_names behind_numbers : List Row) (alpha : Terms) (names : List (List ℕ)) (p : List (Option Terms)) (weights : List Terms) (edges : List DraftEdgeContent) (components : List DraftComponentContent)
-    → TakesLine rows behind_alpha (λ line. IsAlphaLine line alpha) → TakesLine behind_alpha behind_names (λ line. IsNamesLine line names)
-    → TakesLines behind_names behind_numbers (λ lines. AreNumbersLines lines p weights) → TakesLines behind_numbers [] (λ lines. AllZip (IsEdgeLine names) lines edges)
-    → components ≡ one_component weights edges → IsDocument (words_in rows) (draft_of alpha names p components)
-document_is rows behind_alpha behind_names behind_numbers alpha names p weights edges components a n v e c = record {
-  alpha_line = words_of a.line.text;
-  names_line = words_of n.line.text;
-  p_line = v.are.p_line;
-  weights_line = v.are.weights_line;
-  edge_lines = words_in e.lines;
-  spelt =
-    ap words_in a.taken ∙ ap (λ rs. words_of a.line.text ∷ words_in rs) n.taken
-    ∙ ap (λ ls. words_of a.line.text ∷ words_of n.line.text ∷ ls) (lines_are behind_names behind_numbers v.are.p_line v.are.weights_line v.lines e.lines v.are.spelt v.taken e.taken);
-  alpha = a.is;
-  names = n.is;
-  p = v.are.p_is;
-  weights = weights;
-  weights_are = v.are.weights_are;
-  edges = edges;
-  edges_are = e.are;
-  components = c;
-  stages = refl;
-}
-
--- ---- faults
+use Rattle.edge_text.proofs.Leads.{fault_behind}
 
 pub behind_alpha : (rows rest : List Row) (alpha : Terms) (end : ℕ) (fault : TextFault) → TakesLine rows rest (λ line. IsAlphaLine line alpha) → IsFaultAt Names rest end fault → IsFaultAt Alpha rows end fault
 behind_alpha rows rest alpha end fault a f =

@@ -1,7 +1,7 @@
 -- Edge lines, read one by one.
 use Rattle.std.proofs.Common.{◌≡◌, ℕ, List, [], ◌∷◌, ◌++◌, map, refl, sym, ap, subst, ◌∙◌, append_assoc}
 use Rattle.std.specs.List.{AllZip}
-use Rattle.std.proofs.lemmas.List.{map_push, append-nil}
+use Rattle.std.proofs.lemmas.List.{map_push}
 use Rattle.case_model.specs.declared.draft.DraftEdge.{DraftEdge}
 use Rattle.case_model.specs.Draft.{DraftEdgeContent}
 use Rattle.case_model.specs.DraftView.{edge_said}
@@ -9,7 +9,7 @@ use Rattle.edge_text.specs.declared.fault.TextFault.{TextFault}
 use Rattle.edge_text.specs.Lines.{Row, words_of, words_in}
 use Rattle.edge_text.specs.Grammar.{Words, IsEdgeLine}
 use Rattle.edge_text.specs.Faults.{IsEdgeFault, Lead, Edges}
-use Rattle.edge_text.specs.View.{IsOnLine, IsFaultAt, TakesLines}
+use Rattle.edge_text.specs.View.{IsOnLine, IsFaultAt}
 use Rattle.edge_text.proofs.Leads.{fault_first, fault_behind}
 
 -- of these lines some have been read, with these edges, and the others are left
@@ -24,21 +24,15 @@ zip_push names [] (e ∷ edges) line edge h k = absurd h
 zip_push names (l ∷ lines) [] line edge h k = absurd h
 zip_push names (l ∷ lines) (e ∷ edges) line edge h k = (h.0, zip_push names lines edges line edge h.1 k)
 
-pub none_read : (names : List (List ℕ)) (lines : List Row) → EdgesRead names lines lines []
-none_read names lines = record { lines = []; taken = refl; are = tt }
-
 pub one_read : (names : List (List ℕ)) (initial left rest : List Row) (row : Row) (edges next : List DraftEdge) (edge : DraftEdge) → left ≡ row ∷ rest → next ≡ edges ++ edge ∷ [] → IsEdgeLine names (words_of row.text) (edge_said edge) → EdgesRead names initial left edges → EdgesRead names initial rest next
 one_read names initial left rest row edges next edge l n is r = record {
   lines = r.lines ++ row ∷ [];
   taken = r.taken ∙ ap (λ rs. r.lines ++ rs) l ∙ sym (append_assoc r.lines (row ∷ []) rest);
   are =
-    let lines : words_in (r.lines ++ row ∷ []) ≡ words_in r.lines ++ words_of row.text ∷ [] = map_push (λ row. words_of row.text) r.lines row in
-    let said : map edge_said next ≡ map edge_said edges ++ edge_said edge ∷ [] = ap (map edge_said) n ∙ map_push edge_said edges edge in
-    rw (lines, said) (zip_push names (words_in r.lines) (map edge_said edges) (words_of row.text) (edge_said edge) r.are is);
+      let lines : words_in (r.lines ++ row ∷ []) ≡ words_in r.lines ++ words_of row.text ∷ [] = map_push (λ row. words_of row.text) r.lines row in
+      let said : map edge_said next ≡ map edge_said edges ++ edge_said edge ∷ [] = ap (map edge_said) n ∙ map_push edge_said edges edge in
+      rw (lines, said) (zip_push names (words_in r.lines) (map edge_said edges) (words_of row.text) (edge_said edge) r.are is);
 }
-
-pub all_read : (names : List (List ℕ)) (initial left : List Row) (edges : List DraftEdge) → left ≡ [] → EdgesRead names initial left edges → TakesLines initial [] (λ taken. AllZip (IsEdgeLine names) taken (map edge_said edges))
-all_read names initial left edges e r = record { lines = r.lines; taken = r.taken ∙ ap (λ rs. r.lines ++ rs) e; are = r.are }
 
 -- edge lines lead from edge to edge
 pub edges_lead : (names : List (List ℕ)) (lines : List Words) (edges : List DraftEdgeContent) → AllZip (IsEdgeLine names) lines edges → Lead (Edges names) lines (Edges names)

@@ -1,5 +1,5 @@
 -- Lines that lead from place to place, and faults behind them.
-use Rattle.std.proofs.Common.{◌≡◌, ℕ, ◌⊎◌, inl, inr, ◌∙◌, List, [], ◌∷◌, ◌++◌, Result, Ok, Err, refl, sym, ap, subst, append_assoc}
+use Rattle.std.proofs.Common.{◌≡◌, ℕ, inl, inr, ◌∙◌, List, [], ◌∷◌, ◌++◌, Result, Ok, Err, refl, sym, ap, subst, append_assoc}
 use Rattle.std.specs.Prelude.{IfErr, IsErrAnd}
 use Rattle.std.proofs.lemmas.List.{map-append}
 use Rattle.edge_text.specs.declared.fault.LineKind.{LineKind}
@@ -8,7 +8,7 @@ use Rattle.edge_text.specs.declared.fault.TextFault.{TextFault}
 use Rattle.edge_text.specs.declared.fault.TextFault.TheVariants as faults
 use Rattle.edge_text.specs.Lines.{Row, words_of, words_in}
 use Rattle.edge_text.specs.Grammar.{Words}
-use Rattle.edge_text.specs.Faults.{Place, MustFollow, Stands, Lead, IsBad, IsBadLine, IsEndedEarly}
+use Rattle.edge_text.specs.Faults.{Place, MustFollow, Lead, IsBad, IsBadLine, IsEndedEarly}
 use Rattle.edge_text.specs.View.{IsOnLine, IsFaultAt}
 
 -- lines that lead on from where others led to

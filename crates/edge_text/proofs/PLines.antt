@@ -1,12 +1,12 @@
 -- The lines of p-values and weights.
-use Rattle.std.proofs.Common.{◌≡◌, ℕ, List, [], ◌∷◌, ◌++◌, ◌⊎◌, inl, inr, Option, Some, None, refl, sym, subst}
+use Rattle.std.proofs.Common.{◌≡◌, ℕ, List, [], ◌∷◌, inl, inr, Option, Some, None, refl, sym, subst}
 use Rattle.std.specs.Prelude.{codes}
 use Rattle.field_core.specs.Terms.{Terms}
 use Rattle.edge_text.specs.declared.fault.LineKind.{LineKind}
 use Rattle.edge_text.specs.declared.fault.LineKind.TheVariants.{Unexpected, Ended, WordCount, UnknownName, Number}
 use Rattle.edge_text.specs.declared.fault.TextFault.{TextFault}
 use Rattle.edge_text.specs.Lines.{Row, words_of}
-use Rattle.edge_text.specs.Grammar.{Words, IsPLine, IsWeightsLine, GivesP}
+use Rattle.edge_text.specs.Grammar.{Words, IsPLine, IsWeightsLine}
 use Rattle.edge_text.specs.Faults.{IsOther, IsWeightsFault, IsPOrWeightsFault, Lead, POrWeights, Weights}
 use Rattle.edge_text.specs.View.{AreGiven, IsGivenFault, AreNumbersLines, IsOnLine, IsFaultAt, TakesLine, TakesLines}
 use Rattle.edge_text.proofs.Leads.{fault_first, fault_behind, other_kind}

@@ -1,5 +1,5 @@
 -- Texts that say a draft, and what becomes of it.
-use Rattle.std.proofs.Common.{◌≡◌, ◌≢◌, ◌⊎◌, inl, inr, ℕ, ◌<◌, ◌&&◌, Bool, true, List, [], ◌∷◌, Some, refl, sym, ap, ap₂, subst, ◌∙◌, length}
+use Rattle.std.proofs.Common.{◌≡◌, ◌≢◌, ◌⊎◌, inl, inr, ℕ, ◌&&◌, true, List, [], ◌∷◌, Some, refl, sym, ap, ap₂, subst, ◌∙◌, length}
 use Rattle.std.specs.List.{AllZip, list_all}
 use Rattle.std.specs.Prelude.{nat_lt}
 use Rattle.std.specs.Str.{bytes_eq}
@@ -15,7 +15,7 @@ use Rattle.case_model.specs.Names.{position_of}
 use Rattle.edge_text.specs.declared.fault.TextFault.{TextFault}
 use Rattle.edge_text.specs.declared.fault.TextFault.TheVariants as faults
 use Rattle.edge_text.specs.Lines.{rows_of, end_of}
-use Rattle.edge_text.specs.Grammar.{Words, IsEdgeLine, IsDocument, IsText, one_component}
+use Rattle.edge_text.specs.Grammar.{Words, IsEdgeLine, IsDocument, IsText}
 use Rattle.edge_text.specs.Faults.{Alpha}
 use Rattle.edge_text.specs.Reading.{IsTextFault}
 use Rattle.edge_text.specs.View.{IsFaultAt}

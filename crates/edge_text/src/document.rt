@@ -12,8 +12,7 @@ ghost use Rattle.edge_text.specs.declared.fault.LineKind.TheVariants.{Ended};
 ghost use Rattle.edge_text.specs.declared.fault.TextFault.TheVariants as faults;
 
 use crate::cursor::{Line, Lines};
-use crate::rules;
-use crate::{LineKind, TextFault};
+use crate::{LineKind, TextFault, rules};
 use case_model::{Draft, DraftComponent, DraftEdge, NameIndex};
 use field_core::{List, NoMemory, Number, Text};
 use fraction::Fraction;

@@ -1,7 +1,7 @@
-use Rattle.std.proofs.Common.{◌≡◌, map, subst, ◌∙◌, ℕ}
+use Rattle.std.proofs.Common.{◌≡◌, map, subst, ◌∙◌}
 use Rattle.std.specs.Option.{option_map}
 use Rattle.fraction.specs.View.{terms_of}
-use Rattle.edge_text.specs.Lines.{rows_of, end_of}
+use Rattle.edge_text.specs.Lines.{end_of}
 use Rattle.edge_text.specs.Faults.{Alpha, Names, POrWeights, Edges}
 use Rattle.edge_text.specs.View.{rows_left, end_at, IsFaultAt}
 use Rattle.edge_text.proofs.Leads.{handed_on}

@@ -5,5 +5,4 @@ use Rattle.edge_text.proofs.Leads.{fault_first}
 use Rattle.edge_text.proofs.document.names.Goals as goal
 
 pub returns-clause-fault : goal.returns-clause-fault
-
 returns-clause-fault c = IfErr-weaker c.names.result _ _ (λ fault f. fault_first Names (row c.in_ok-line.line) _ (rows_left c.args.lines.now) (end_at c.args.lines.now) fault c.in_ok-line.ensures.found f) c.names.ensures.fault

@@ -1,4 +1,3 @@
-use Rattle.std.proofs.Common.{◌≡◌, [], ◌∷◌}
 use Rattle.std.specs.Prelude.{codes}
 use Rattle.edge_text.specs.View.{line_words}
 use Rattle.edge_text.proofs.EdgeLines.{behind_word, edge_found, edge_refused}

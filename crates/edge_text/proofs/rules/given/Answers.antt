@@ -1,6 +1,5 @@
-use Rattle.std.proofs.Common.{◌≡◌, refl, length, map, sym, subst, ap, ◌∙◌, arith}
+use Rattle.std.proofs.Common.{◌≡◌, refl, length, sym, subst, ap, ◌∙◌, arith}
 use Rattle.std.proofs.lemmas.Bool.Decides.{nat_tests}
-use Rattle.fraction.specs.View.{terms_of}
 use Rattle.edge_text.specs.View.{words_left, IsOnLine, IsGivenFault}
 use Rattle.edge_text.proofs.Numerals.{no_values}
 use Rattle.edge_text.proofs.rules.given.Goals as goal

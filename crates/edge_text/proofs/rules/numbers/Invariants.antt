@@ -1,4 +1,4 @@
-use Rattle.std.proofs.Common.{◌≡◌, length, map}
+use Rattle.std.proofs.Common.{length, map}
 use Rattle.fraction.specs.View.{terms_of}
 use Rattle.edge_text.specs.View.{words_left}
 use Rattle.edge_text.proofs.Numerals.{AreRead}
