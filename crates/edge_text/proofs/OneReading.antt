@@ -1,15 +1,11 @@
 -- A text has one reading.
-use Rattle.std.proofs.Common.{◌≡◌, ℕ, List, Option, Some, None, refl, sym, ap, subst, ◌∙◌}
-use Rattle.case_model.specs.declared.case.Case.{Case}
+use Rattle.std.proofs.Common.{◌≡◌, Option, Some, None, refl, sym, ap, ◌∙◌}
 use Rattle.case_model.specs.declared.fault.CaseFault.{CaseFault}
-use Rattle.case_model.specs.declared.fault.Refused.{Refused}
 use Rattle.case_model.specs.CaseFaults.{case_fault}
 use Rattle.case_model.specs.Content.{content_of}
 use Rattle.case_model.specs.Draft.{DraftContent}
-use Rattle.edge_text.specs.declared.fault.LineKind.{LineKind}
-use Rattle.edge_text.specs.declared.fault.TextFault.{TextFault}
 use Rattle.edge_text.specs.declared.fault.TextFault.TheVariants as faults
-use Rattle.edge_text.specs.Reading.{IsCaseOf, IsRefusedText, IsTextFault}
+use Rattle.edge_text.specs.Reading.{IsTextFault}
 use Rattle.edge_text.specs.TextStatements.{TextsHaveOneCase, TextsHaveOneRefusal, FaultsArentRefusals, CasesHaveNoFault}
 use Rattle.edge_text.proofs.TextLaws.{one_draft, not_both}
 
