@@ -11,6 +11,7 @@ use Rattle.case_model.specs.Sums.{zero_terms}
 use Rattle.edge_text.specs.Grammar.{Words, Says, IsAlphaLine, IsNamesLine, IsWeightsLine, IsEdgeLine, optional, GivesP, one_component, IsDocument}
 use Rattle.edge_text.specs.Faults.{Place, Alpha, Names, POrWeights, Weights, Edges, MustFollow, Stands, Lead}
 use Rattle.edge_text.specs.TextStatements.{BeginDocument}
+use Rattle.edge_text.proofs.Leads.{lead_on}
 use Rattle.edge_text.proofs.LineFaults.{stands_once}
 
 -- ---- leads
@@ -32,10 +33,6 @@ lead_split place [] ys next h = record { here = place; first = refl; second = h 
 lead_split place (x ∷ xs) ys next h =
     let more = lead_split h.0 xs ys next h.2 in
     record { here = more.here; first = (h.0, h.1, more.first); second = more.second }
-
-pub lead_join : (place : Place) (xs ys : List Words) (here next : Place) → Lead place xs here → Lead here ys next → Lead place (xs ++ ys) next
-lead_join place [] ys here next h k = subst (λ p. Lead p ys next) h k
-lead_join place (x ∷ xs) ys here next h k = (h.0, h.1, lead_join h.0 xs ys here next h.2 k)
 
 -- ---- documents lead to edges
 
@@ -194,7 +191,7 @@ begin_by lines more s = record { more = more; draft = s.draft; is = s.is }
 pub lead_begins : (lines : List Words) (here : Place) → Lead Alpha lines here → BeginDocument lines
 lead_begins lines here h =
     let rest = rest_of here in
-    begin_by lines rest.lines (lead_says rest.names (lines ++ rest.lines) (lead_join Alpha lines rest.lines here (Edges rest.names) h rest.lead))
+    begin_by lines rest.lines (lead_says rest.names (lines ++ rest.lines) (lead_on Alpha here (Edges rest.names) lines rest.lines h rest.lead))
 
 -- ---- and what a document begins with leads somewhere
 

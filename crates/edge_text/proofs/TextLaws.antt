@@ -6,8 +6,9 @@ use Rattle.edge_text.specs.Lines.{rows_of, words_of, words_in, end_of}
 use Rattle.edge_text.specs.Grammar.{Words, IsDocument, IsText}
 use Rattle.edge_text.specs.Faults.{Place, Alpha, Names, POrWeights, Weights, Edges, MustFollow, Stands, Lead, IsBad, IsFirstFault}
 use Rattle.edge_text.specs.TextStatements.{TextsSayOneDraft, TextsHaveOneFault, TextsSayOrFail, TextsDontSayAndFail, BeginDocument, FirstFaultsEndDocuments, WhereNoneGoesOnIsFault, UnfinishedTextsEnd}
+use Rattle.edge_text.proofs.Leads.{lead_on}
 use Rattle.edge_text.proofs.LineFaults.{stands_not_bad, bad_not_ended}
-use Rattle.edge_text.proofs.DocumentLeads.{lead_once, lead_join, lead_split, document_leads, lead_begins, begins_leads, lead_says}
+use Rattle.edge_text.proofs.DocumentLeads.{lead_once, lead_split, document_leads, lead_begins, begins_leads, lead_says}
 use Rattle.edge_text.proofs.LineChoices.{Chooses, chooses, Ends, ends}
 use Rattle.edge_text.proofs.OneDraft.{one_document}
 use Rattle.edge_text.proofs.OneFault.{fault_by, fault_from, fault_once, lead_not_fault}
@@ -63,7 +64,7 @@ ends_documents bytes number kind (inr e) =
 
 -- a line with which no document goes on has a fault
 bad_behind : (before : List Words) (line : Words) (here : Place) → Lead Alpha before here → ¬ BeginDocument (before ++ line ∷ []) → Chooses here line → (kind : LineKind) × IsBad here line kind
-bad_behind before line here lead refused (inl h) = absurd (refused (lead_begins (before ++ line ∷ []) h.0 (lead_join Alpha before (line ∷ []) here h.0 lead (h.0, h.1, refl))))
+bad_behind before line here lead refused (inl h) = absurd (refused (lead_begins (before ++ line ∷ []) h.0 (lead_on Alpha here h.0 before (line ∷ []) lead (h.0, h.1, refl))))
 bad_behind before line here lead refused (inr h) = h
 
 pub none_goes_on : WhereNoneGoesOnIsFault

@@ -1,12 +1,18 @@
 -- What the grammar of texts and its first faults promise.
 use Rattle.std.specs.Prelude.{◌≡◌, ◌≢◌, ◌⊎◌, ℕ, true, List, [], ◌∷◌, ◌++◌}
+use Rattle.case_model.specs.declared.case.Case.{Case}
+use Rattle.case_model.specs.declared.fault.Refused.{Refused}
+use Rattle.case_model.specs.CaseView.{content}
 use Rattle.case_model.specs.Draft.{DraftContent}
 use Rattle.case_model.specs.Content.{content_of, is_plain}
 use Rattle.edge_text.specs.declared.fault.LineKind.{LineKind}
 use Rattle.edge_text.specs.declared.fault.LineKind.TheVariants.{Ended}
+use Rattle.edge_text.specs.declared.fault.TextFault.{TextFault}
+use Rattle.edge_text.specs.declared.fault.TextFault.TheVariants as faults
 use Rattle.edge_text.specs.Lines.{Row, rows_of, words_of, words_in, end_of}
 use Rattle.edge_text.specs.Grammar.{Words, IsDocument, IsText}
 use Rattle.edge_text.specs.Faults.{IsFirstFault}
+use Rattle.edge_text.specs.Reading.{IsCaseOf, IsRefusedText, IsTextFault}
 
 -- a text says at most one draft
 abbrev pub TextsSayOneDraft : Type 0
@@ -62,3 +68,19 @@ WhereNoneGoesOnIsFault = (bytes : List ℕ) (number : ℕ) → IsWhereNoneGoesOn
 -- a text that only begins a document has its first fault behind its last line
 abbrev pub UnfinishedTextsEnd : Type 0
 UnfinishedTextsEnd = (bytes : List ℕ) → IsUnfinished (rows_of bytes) → IsFirstFault bytes (end_of bytes) Ended
+
+-- the cases of a text have one content
+abbrev pub TextsHaveOneCase : Type 0
+TextsHaveOneCase = (bytes : List ℕ) (c d : Case) → IsCaseOf bytes c → IsCaseOf bytes d → content c ≡ content d
+
+-- a text whose draft is refused is refused for one fault, with the same names
+abbrev pub TextsHaveOneRefusal : Type 0
+TextsHaveOneRefusal = (bytes : List ℕ) (r s : Refused) → IsRefusedText bytes r → IsRefusedText bytes s → (r.fault ≡ s.fault) × (r.names ≡ s.names)
+
+-- a text with a first fault has no draft that is refused
+abbrev pub FaultsArentRefusals : Type 0
+FaultsArentRefusals = (bytes : List ℕ) (n : ℕ) (kind : LineKind) (refused : Refused) → IsFirstFault bytes n kind → ¬ IsRefusedText bytes refused
+
+-- where a text says a case, only memory can be wanting
+abbrev pub CasesHaveNoFault : Type 0
+CasesHaveNoFault = (bytes : List ℕ) (c : Case) (fault : TextFault) → IsCaseOf bytes c → IsTextFault bytes fault → fault ≡ faults.NoMemory

@@ -42,18 +42,48 @@ pub const UNEXPECTED: [(&str, usize); 40] = [
     ("alpha 0.05\nhypotheses A B\np 1/2 1/2\nedge A B 1\n", 4),
     ("alpha 0.05\nhypotheses A B\np 1/2 1/2\ncomponent 1\n", 4),
     // Where an edge may stand, or nothing.
-    ("alpha 0.05\nhypotheses A B\nweights 1/2 1/2\nalpha 0.05\n", 4),
-    ("alpha 0.05\nhypotheses A B\nweights 1/2 1/2\nhypotheses A B\n", 4),
-    ("alpha 0.05\nhypotheses A B\nweights 1/2 1/2\np 1/2 1/2\n", 4),
-    ("alpha 0.05\nhypotheses A B\nweights 1/2 1/2\nweights 1/2 1/2\n", 4),
-    ("alpha 0.05\nhypotheses A B\nweights 1/2 1/2\nedges A B 1\n", 4),
+    (
+        "alpha 0.05\nhypotheses A B\nweights 1/2 1/2\nalpha 0.05\n",
+        4,
+    ),
+    (
+        "alpha 0.05\nhypotheses A B\nweights 1/2 1/2\nhypotheses A B\n",
+        4,
+    ),
+    (
+        "alpha 0.05\nhypotheses A B\nweights 1/2 1/2\np 1/2 1/2\n",
+        4,
+    ),
+    (
+        "alpha 0.05\nhypotheses A B\nweights 1/2 1/2\nweights 1/2 1/2\n",
+        4,
+    ),
+    (
+        "alpha 0.05\nhypotheses A B\nweights 1/2 1/2\nedges A B 1\n",
+        4,
+    ),
     ("alpha 0.05\nhypotheses A B\nweights 1/2 1/2\nA B 1\n", 4),
-    ("alpha 0.05\nhypotheses A B\nweights 1/2 1/2\ncomponent 1\n", 4),
+    (
+        "alpha 0.05\nhypotheses A B\nweights 1/2 1/2\ncomponent 1\n",
+        4,
+    ),
     ("alpha 0.05\nhypotheses A B\nweights 1/2 1/2\nstages 1\n", 4),
-    ("alpha 0.05\nhypotheses A B\nweights 1/2 1/2\nedge A B 1\nspend A 1\n", 5),
-    ("alpha 0.05\nhypotheses A B\nweights 1/2 1/2\nedge A B 1\narrive A 1 0.5\n", 5),
-    ("alpha 0.05\nhypotheses A B\nweights 1/2 1/2\nedge A B 1\nweights 1/2 1/2\n", 5),
-    ("alpha 0.05\nhypotheses A B\nweights 1/2 1/2\nedge A B 1\nend", 5),
+    (
+        "alpha 0.05\nhypotheses A B\nweights 1/2 1/2\nedge A B 1\nspend A 1\n",
+        5,
+    ),
+    (
+        "alpha 0.05\nhypotheses A B\nweights 1/2 1/2\nedge A B 1\narrive A 1 0.5\n",
+        5,
+    ),
+    (
+        "alpha 0.05\nhypotheses A B\nweights 1/2 1/2\nedge A B 1\nweights 1/2 1/2\n",
+        5,
+    ),
+    (
+        "alpha 0.05\nhypotheses A B\nweights 1/2 1/2\nedge A B 1\nend",
+        5,
+    ),
 ];
 
 /// Texts that end where a line must follow.
@@ -77,7 +107,10 @@ pub const ENDED: [(&str, usize); 20] = [
     ("alpha 0.05\n\nhypotheses A B\n\n\n", 6),
     ("alpha 0.05\nhypotheses A B\n#p 1/2 1/2\n", 4),
     ("alpha 0.05\nhypotheses A B\np 1/2 1/2\n", 4),
-    ("alpha 0.05\nhypotheses A B\np 1/2 1/2\n# weights 1/2 1/2\n", 5),
+    (
+        "alpha 0.05\nhypotheses A B\np 1/2 1/2\n# weights 1/2 1/2\n",
+        5,
+    ),
 ];
 
 /// Lines of too few or too many words.
@@ -95,24 +128,66 @@ pub const WORD_COUNTS: [(&str, usize); 17] = [
     ("alpha 0.05\nhypotheses A B\nweights 1/2 1/2\nedge\n", 4),
     ("alpha 0.05\nhypotheses A B\nweights 1/2 1/2\nedge A\n", 4),
     ("alpha 0.05\nhypotheses A B\nweights 1/2 1/2\nedge A B", 4),
-    ("alpha 0.05\nhypotheses A B\nweights 1/2 1/2\nedge A B 1 2\n", 4),
-    ("alpha 0.05\nhypotheses A B\nweights 1/2 1/2\nedge A B 1 - 1/2\n", 4),
-    ("alpha 0.05\nhypotheses A B\nweights 1/2 1/2\nedge A B 1 # all\n", 4),
-    ("alpha 0.05\nhypotheses A B\nweights 1/2 1/2\nedge A B 1/2\nedge B A\n", 5),
+    (
+        "alpha 0.05\nhypotheses A B\nweights 1/2 1/2\nedge A B 1 2\n",
+        4,
+    ),
+    (
+        "alpha 0.05\nhypotheses A B\nweights 1/2 1/2\nedge A B 1 - 1/2\n",
+        4,
+    ),
+    (
+        "alpha 0.05\nhypotheses A B\nweights 1/2 1/2\nedge A B 1 # all\n",
+        4,
+    ),
+    (
+        "alpha 0.05\nhypotheses A B\nweights 1/2 1/2\nedge A B 1/2\nedge B A\n",
+        5,
+    ),
 ];
 
 /// Edges with a name that no hypothesis has.
 pub const UNKNOWN_NAMES: [(&str, usize); 11] = [
-    ("alpha 0.05\nhypotheses H1 H2\nweights 1/2 1/2\nedge H3 H2 1\n", 4),
-    ("alpha 0.05\nhypotheses H1 H2\nweights 1/2 1/2\nedge H1 H3 1\n", 4),
-    ("alpha 0.05\nhypotheses H1 H2\nweights 1/2 1/2\nedge H3 H4 1\n", 4),
-    ("alpha 0.05\nhypotheses H1 H2\nweights 1/2 1/2\nedge H H2 1\n", 4),
-    ("alpha 0.05\nhypotheses H1 H2\nweights 1/2 1/2\nedge H1 H 1\n", 4),
-    ("alpha 0.05\nhypotheses H1 H2\nweights 1/2 1/2\nedge H11 H2 1\n", 4),
-    ("alpha 0.05\nhypotheses H1 H2\nweights 1/2 1/2\nedge H1 H22 1\n", 4),
-    ("alpha 0.05\nhypotheses H1 H2\nweights 1/2 1/2\nedge h1 h2 1\n", 4),
-    ("alpha 0.05\nhypotheses H1 H2\nweights 1/2 1/2\nedge 1 2 1\n", 4),
-    ("alpha 0.05\nhypotheses H1 H2\nweights 1/2 1/2\nedge H1 H2 1\n\nedge H1 1 H2\n", 6),
+    (
+        "alpha 0.05\nhypotheses H1 H2\nweights 1/2 1/2\nedge H3 H2 1\n",
+        4,
+    ),
+    (
+        "alpha 0.05\nhypotheses H1 H2\nweights 1/2 1/2\nedge H1 H3 1\n",
+        4,
+    ),
+    (
+        "alpha 0.05\nhypotheses H1 H2\nweights 1/2 1/2\nedge H3 H4 1\n",
+        4,
+    ),
+    (
+        "alpha 0.05\nhypotheses H1 H2\nweights 1/2 1/2\nedge H H2 1\n",
+        4,
+    ),
+    (
+        "alpha 0.05\nhypotheses H1 H2\nweights 1/2 1/2\nedge H1 H 1\n",
+        4,
+    ),
+    (
+        "alpha 0.05\nhypotheses H1 H2\nweights 1/2 1/2\nedge H11 H2 1\n",
+        4,
+    ),
+    (
+        "alpha 0.05\nhypotheses H1 H2\nweights 1/2 1/2\nedge H1 H22 1\n",
+        4,
+    ),
+    (
+        "alpha 0.05\nhypotheses H1 H2\nweights 1/2 1/2\nedge h1 h2 1\n",
+        4,
+    ),
+    (
+        "alpha 0.05\nhypotheses H1 H2\nweights 1/2 1/2\nedge 1 2 1\n",
+        4,
+    ),
+    (
+        "alpha 0.05\nhypotheses H1 H2\nweights 1/2 1/2\nedge H1 H2 1\n\nedge H1 1 H2\n",
+        6,
+    ),
     ("alpha 0.05\nhypotheses\nweights\nedge H1 H2 1\n", 4),
 ];
 
@@ -125,29 +200,81 @@ pub const NUMBERS: [(&str, usize, NumberFault); 18] = [
     ("alpha 0.05\r \n", 1, NumberFault::BadByte(4)),
     ("alpha 1/0\n", 1, NumberFault::ZeroDenominator),
     ("alpha 1e-39\n", 1, NumberFault::TooManyDigits),
-    ("alpha 0.05\nhypotheses A B\np 1/2 NA\n", 3, NumberFault::BadByte(0)),
-    ("alpha 0.05\nhypotheses A B\np 1/2/3 1/2\n", 3, NumberFault::BadByte(3)),
-    ("alpha 0.05\nhypotheses A B\np 0/0\n", 3, NumberFault::ZeroDenominator),
-    ("alpha 0.05\nhypotheses A B\np 1e39 1/2\n", 3, NumberFault::TooManyDigits),
-    ("alpha 0.05\nhypotheses A B\nweights 1/2 1/2.\n", 3, NumberFault::BadByte(3)),
-    ("alpha 0.05\nhypotheses A B\np 1/2 1/2\nweights -", 4, NumberFault::BadByte(1)),
-    ("alpha 0.05\nhypotheses A B\nweights 1 1 1 1/00\n", 3, NumberFault::ZeroDenominator),
+    (
+        "alpha 0.05\nhypotheses A B\np 1/2 NA\n",
+        3,
+        NumberFault::BadByte(0),
+    ),
+    (
+        "alpha 0.05\nhypotheses A B\np 1/2/3 1/2\n",
+        3,
+        NumberFault::BadByte(3),
+    ),
+    (
+        "alpha 0.05\nhypotheses A B\np 0/0\n",
+        3,
+        NumberFault::ZeroDenominator,
+    ),
+    (
+        "alpha 0.05\nhypotheses A B\np 1e39 1/2\n",
+        3,
+        NumberFault::TooManyDigits,
+    ),
+    (
+        "alpha 0.05\nhypotheses A B\nweights 1/2 1/2.\n",
+        3,
+        NumberFault::BadByte(3),
+    ),
+    (
+        "alpha 0.05\nhypotheses A B\np 1/2 1/2\nweights -",
+        4,
+        NumberFault::BadByte(1),
+    ),
+    (
+        "alpha 0.05\nhypotheses A B\nweights 1 1 1 1/00\n",
+        3,
+        NumberFault::ZeroDenominator,
+    ),
     (
         "alpha 0.05\nhypotheses A B\nweights 1/123456789012345678901234567890123456789\n",
         3,
         NumberFault::TooManyDigits,
     ),
-    ("alpha 0.05\nhypotheses A B\nweights 1/2 1/2\nedge A B 1-\\epsilon\n", 4, NumberFault::BadByte(1)),
-    ("alpha 0.05\nhypotheses A B\nweights 1/2 1/2\nedge A B 1/0\n", 4, NumberFault::ZeroDenominator),
-    ("alpha 0.05\nhypotheses A B\nweights 1/2 1/2\nedge A B 1e99\n", 4, NumberFault::TooManyDigits),
+    (
+        "alpha 0.05\nhypotheses A B\nweights 1/2 1/2\nedge A B 1-\\epsilon\n",
+        4,
+        NumberFault::BadByte(1),
+    ),
+    (
+        "alpha 0.05\nhypotheses A B\nweights 1/2 1/2\nedge A B 1/0\n",
+        4,
+        NumberFault::ZeroDenominator,
+    ),
+    (
+        "alpha 0.05\nhypotheses A B\nweights 1/2 1/2\nedge A B 1e99\n",
+        4,
+        NumberFault::TooManyDigits,
+    ),
 ];
 
 /// Texts with several faults, of which the first counts.
 pub const ORDER: [Faulty; 19] = [
     // Of several lines.
-    ("alpha x\nhypotheses A B\np\n", 1, LineKind::Number(NumberFault::BadByte(0))),
-    ("alpha 0.05\nweights x\nhypotheses A B\n", 2, LineKind::Unexpected),
-    ("alpha 0.05\nhypotheses A B\np\nweights x\n", 3, LineKind::WordCount),
+    (
+        "alpha x\nhypotheses A B\np\n",
+        1,
+        LineKind::Number(NumberFault::BadByte(0)),
+    ),
+    (
+        "alpha 0.05\nweights x\nhypotheses A B\n",
+        2,
+        LineKind::Unexpected,
+    ),
+    (
+        "alpha 0.05\nhypotheses A B\np\nweights x\n",
+        3,
+        LineKind::WordCount,
+    ),
     (
         "alpha 0.05\nhypotheses A B\nweights 1/2 1/2\nedge A C 1\nedge A\n",
         4,
@@ -156,21 +283,65 @@ pub const ORDER: [Faulty; 19] = [
     // Of one line: the first word, the number of words, the words from left to right.
     ("beta x y\n", 1, LineKind::Unexpected),
     ("alpha x y\n", 1, LineKind::WordCount),
-    ("alpha 0.05\nhypotheses A B\np 1/0 x\n", 3, LineKind::Number(NumberFault::ZeroDenominator)),
-    ("alpha 0.05\nhypotheses A B\nweights x 1/0\n", 3, LineKind::Number(NumberFault::BadByte(0))),
-    ("alpha 0.05\nhypotheses A B\nweights 1/2 1/2\nedge C B\n", 4, LineKind::WordCount),
-    ("alpha 0.05\nhypotheses A B\nweights 1/2 1/2\nedge C D x y\n", 4, LineKind::WordCount),
-    ("alpha 0.05\nhypotheses A B\nweights 1/2 1/2\nedge C B x\n", 4, LineKind::UnknownName),
-    ("alpha 0.05\nhypotheses A B\nweights 1/2 1/2\nedge A C x\n", 4, LineKind::UnknownName),
+    (
+        "alpha 0.05\nhypotheses A B\np 1/0 x\n",
+        3,
+        LineKind::Number(NumberFault::ZeroDenominator),
+    ),
+    (
+        "alpha 0.05\nhypotheses A B\nweights x 1/0\n",
+        3,
+        LineKind::Number(NumberFault::BadByte(0)),
+    ),
+    (
+        "alpha 0.05\nhypotheses A B\nweights 1/2 1/2\nedge C B\n",
+        4,
+        LineKind::WordCount,
+    ),
+    (
+        "alpha 0.05\nhypotheses A B\nweights 1/2 1/2\nedge C D x y\n",
+        4,
+        LineKind::WordCount,
+    ),
+    (
+        "alpha 0.05\nhypotheses A B\nweights 1/2 1/2\nedge C B x\n",
+        4,
+        LineKind::UnknownName,
+    ),
+    (
+        "alpha 0.05\nhypotheses A B\nweights 1/2 1/2\nedge A C x\n",
+        4,
+        LineKind::UnknownName,
+    ),
     // Skipped lines are counted.
-    ("\n\nalpha x\n", 3, LineKind::Number(NumberFault::BadByte(0))),
-    ("# none\r\n\t\r\nalpha 0.05\r\n\r\nbeta\r\n", 5, LineKind::Unexpected),
+    (
+        "\n\nalpha x\n",
+        3,
+        LineKind::Number(NumberFault::BadByte(0)),
+    ),
+    (
+        "# none\r\n\t\r\nalpha 0.05\r\n\r\nbeta\r\n",
+        5,
+        LineKind::Unexpected,
+    ),
     ("\ralpha 0.05\n", 1, LineKind::Unexpected),
-    ("alpha 0.05\n\r\r\nhypotheses A B\n", 2, LineKind::Unexpected),
+    (
+        "alpha 0.05\n\r\r\nhypotheses A B\n",
+        2,
+        LineKind::Unexpected,
+    ),
     // Faults of the draft come behind those of all lines.
     ("alpha 2\nhypotheses A A\n", 3, LineKind::Ended),
-    ("alpha 0.05\nhypotheses A A\nweights 1 1\nedge A A\n", 4, LineKind::WordCount),
-    ("alpha 0.05\nhypotheses ? ?\nweights 1 1\nstages 1\n", 4, LineKind::Unexpected),
+    (
+        "alpha 0.05\nhypotheses A A\nweights 1 1\nedge A A\n",
+        4,
+        LineKind::WordCount,
+    ),
+    (
+        "alpha 0.05\nhypotheses ? ?\nweights 1 1\nstages 1\n",
+        4,
+        LineKind::Unexpected,
+    ),
 ];
 
 /// A text whose draft is refused, the names of the draft, and its fault.
@@ -325,11 +496,20 @@ pub const CASES: [(&str, Held); 15] = [
     // The last line may lack its line feed, and each may have a carriage return.
     ("alpha 0.05\nhypotheses A\np 0.01\nweights 1\n", SINGLE),
     ("alpha 0.05\nhypotheses A\np 0.01\nweights 1", SINGLE),
-    ("alpha 0.05\r\nhypotheses A\r\np 0.01\r\nweights 1\r\n", SINGLE),
-    ("alpha 0.05\r\nhypotheses A\r\np 0.01\r\nweights 1\r", SINGLE),
+    (
+        "alpha 0.05\r\nhypotheses A\r\np 0.01\r\nweights 1\r\n",
+        SINGLE,
+    ),
+    (
+        "alpha 0.05\r\nhypotheses A\r\np 0.01\r\nweights 1\r",
+        SINGLE,
+    ),
     ("alpha 0.05\nhypotheses A\r\np 0.01\nweights 1\r\n", SINGLE),
     // Blanks, blank lines and comments.
-    (" \talpha\t 0.05 \t\n\thypotheses  A\t\np\t0.01\t\r\n weights\t1 \n", SINGLE),
+    (
+        " \talpha\t 0.05 \t\n\thypotheses  A\t\np\t0.01\t\r\n weights\t1 \n",
+        SINGLE,
+    ),
     (
         "\n# A case\n\nalpha 0.05\n \t\r\n\t # The names\nhypotheses A\n#p 1\n#\np 0.01\n\nweights 1\n\n# end",
         SINGLE,
