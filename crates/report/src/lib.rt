@@ -3,6 +3,8 @@
 
 mod number;
 mod test;
+#[cfg(test)]
+mod tests;
 
 pub use number::put_number;
 pub use test::test_text;

@@ -1,4 +1,4 @@
-use Rattle.std.proofs.Common.{◌≡◌, ap, sym, ◌∙◌, ◌++◌, true, false, append-nil}
+use Rattle.std.proofs.Common.{ap, sym, ◌∙◌, ◌++◌, true, false, append-nil}
 use Rattle.case_model.specs.CaseView.{content}
 use Rattle.report.proofs.Lines.{name_by}
 use Rattle.report.proofs.test.put_if_rejected.Goals as goal

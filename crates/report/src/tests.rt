@@ -1,0 +1,291 @@
+//! Reports written by hand.
+ghost use Rattle.std.specs.Prelude.{◌≡◌, true, None, IfOk, IsTrue, map, nat_lt};
+ghost use Rattle.std.specs.List.{list_all};
+ghost use Rattle.case_model.specs.Draft.{have_known_ends};
+ghost use Rattle.case_model.specs.DraftView.{said};
+ghost use Rattle.case_model.specs.CaseView.{content};
+ghost use Rattle.sequential.specs.DecisionView.{line};
+ghost use Rattle.report.specs.TestReport.{IsSingle, AreOfCase};
+
+use crate::{put_number, test_text};
+use case_model::{Case, Draft, DraftComponent, Inputs};
+use field_core::{List, NoMemory, Number, Text};
+use fraction::{Fraction, FractionFault};
+use sequential::{Decision, StepLine};
+use std::alloc::Global;
+use std::process::Abort;
+use std::test::Fail;
+
+type Terms = (i128, i128);
+
+/// A level, hypotheses with their p-values, the lines of a decision, and what is printed.
+#[derive(Clone, Copy)]
+struct Row {
+    alpha: Terms,
+    hypotheses: &'static [(&'static str, Terms)],
+    steps: &'static [(usize, Terms)],
+    kept: &'static [(usize, Terms)],
+    text: &'static str,
+}
+
+/// All are rejected, not in their order.
+const ALL_REJECTED: Row = Row {
+    alpha: (1, 40),
+    hypotheses: &[("H1", (1, 100)), ("H2", (1, 200)), ("H3", (1, 50))],
+    steps: &[(1, (1, 3)), (0, (1, 2)), (2, (1, 1))],
+    kept: &[],
+    text: "alpha 1/40\n\
+        step 1 H2 p 1/200 weight 1/3\n\
+        step 2 H1 p 1/100 weight 1/2\n\
+        step 3 H3 p 1/50 weight 1\n\
+        rejected H1 H2 H3\n\
+        end\n",
+};
+
+const NONE_REJECTED: Row = Row {
+    alpha: (1, 20),
+    hypotheses: &[("H1", (1, 1))],
+    steps: &[],
+    kept: &[(0, (1, 1))],
+    text: "alpha 1/20\nkept H1 p 1 weight 1\nrejected\nend\n",
+};
+
+const ONE_OF_TWO: Row = Row {
+    alpha: (1, 20),
+    hypotheses: &[("H1", (1, 40)), ("H2", (13, 500))],
+    steps: &[(0, (1, 2))],
+    kept: &[(1, (1, 2))],
+    text: "alpha 1/20\n\
+        step 1 H1 p 1/40 weight 1/2\n\
+        kept H2 p 13/500 weight 1/2\n\
+        rejected H1\n\
+        end\n",
+};
+
+/// The one that is kept stands between the others.
+const THREE_OF_FOUR: Row = Row {
+    alpha: (1, 20),
+    hypotheses: &[
+        ("H1", (1, 50)),
+        ("H2", (1, 25)),
+        ("H3", (1, 100)),
+        ("H4", (1, 50)),
+    ],
+    steps: &[(0, (1, 2)), (2, (1, 4)), (3, (1, 2))],
+    kept: &[(1, (1, 2))],
+    text: "alpha 1/20\n\
+        step 1 H1 p 1/50 weight 1/2\n\
+        step 2 H3 p 1/100 weight 1/4\n\
+        step 3 H4 p 1/50 weight 1/2\n\
+        kept H2 p 1/25 weight 1/2\n\
+        rejected H1 H3 H4\n\
+        end\n",
+};
+
+const TWO_KEPT: Row = Row {
+    alpha: (1, 20),
+    hypotheses: &[
+        ("dose-high", (1, 100)),
+        ("dose.low", (9, 10)),
+        ("late_end", (0, 1)),
+    ],
+    steps: &[(0, (1, 1))],
+    kept: &[(1, (1, 1)), (2, (0, 1))],
+    text: "alpha 1/20\n\
+        step 1 dose-high p 1/100 weight 1\n\
+        kept dose.low p 9/10 weight 1\n\
+        kept late_end p 0 weight 0\n\
+        rejected dose-high\n\
+        end\n",
+};
+
+/// From the last to the first.
+const ELEVEN_STEPS: Row = Row {
+    alpha: (1, 1),
+    hypotheses: &[
+        ("A", (0, 1)),
+        ("B", (0, 1)),
+        ("C", (0, 1)),
+        ("D", (0, 1)),
+        ("E", (0, 1)),
+        ("F", (0, 1)),
+        ("G", (0, 1)),
+        ("H", (0, 1)),
+        ("I", (0, 1)),
+        ("J", (0, 1)),
+        ("K", (0, 1)),
+    ],
+    steps: &[
+        (10, (1, 11)),
+        (9, (1, 10)),
+        (8, (1, 9)),
+        (7, (1, 8)),
+        (6, (1, 7)),
+        (5, (1, 6)),
+        (4, (1, 5)),
+        (3, (1, 4)),
+        (2, (1, 3)),
+        (1, (1, 2)),
+        (0, (1, 1)),
+    ],
+    kept: &[],
+    text: "alpha 1\n\
+        step 1 K p 0 weight 1/11\n\
+        step 2 J p 0 weight 1/10\n\
+        step 3 I p 0 weight 1/9\n\
+        step 4 H p 0 weight 1/8\n\
+        step 5 G p 0 weight 1/7\n\
+        step 6 F p 0 weight 1/6\n\
+        step 7 E p 0 weight 1/5\n\
+        step 8 D p 0 weight 1/4\n\
+        step 9 C p 0 weight 1/3\n\
+        step 10 B p 0 weight 1/2\n\
+        step 11 A p 0 weight 1\n\
+        rejected A B C D E F G H I J K\n\
+        end\n",
+};
+
+fn fraction(terms: Terms) -> Result<Fraction, FractionFault> {
+    Fraction::new(terms.0, terms.1)
+}
+
+fn lines(alloc: Global, all: &[(usize, Terms)]) -> Result<List<StepLine>, Fail> {
+    let mut lines = List::new(alloc);
+    for &(hypothesis, weight) in all {
+        let weight = fraction(weight)?;
+        lines.push(StepLine { hypothesis, weight })?;
+    }
+    Ok(lines)
+}
+
+fn names(alloc: Global, hypotheses: &[(&str, Terms)]) -> Result<List<Text>, NoMemory> {
+    let mut names = List::new(alloc);
+    for (name, _) in hypotheses {
+        names.push(Text::copy(alloc, name.as_bytes())?)?;
+    }
+    Ok(names)
+}
+
+fn p_values(alloc: Global, hypotheses: &[(&str, Terms)]) -> Result<List<Option<Fraction>>, Fail> {
+    let mut p_values = List::new(alloc);
+    for &(_, p) in hypotheses {
+        p_values.push(Some(fraction(p)?))?;
+    }
+    Ok(p_values)
+}
+
+/// So many weights of 0.
+fn no_weights(alloc: Global, count: usize) -> Result<List<Fraction>, NoMemory> {
+    let mut weights = List::new(alloc);
+    for _ in 0..count {
+        weights.push(Fraction::zero())?;
+    }
+    Ok(weights)
+}
+
+/// A draft of one component, without edges.
+#[tactic(auto, unfolding(case_model::specs::Draft::have_known_ends))]
+fn draft(
+    alloc: Global,
+    names: List<Text>,
+    alpha: Fraction,
+    p: List<Option<Fraction>>,
+    weights: List<Fraction>,
+) -> Result<Draft, NoMemory>
+    ensures ends { IfOk result (λ d. have_known_ends (said d) ≡ true) }
+    ensures unstaged { IfOk result (λ d. (said d).stages ≡ None) }
+{
+    let mut components = List::new(alloc);
+    components.push(DraftComponent {
+        share: Fraction::one(),
+        weights,
+        edges: List::new(alloc),
+    })?;
+    Ok(Draft {
+        names,
+        alpha,
+        p,
+        components,
+        stages: None,
+    })
+}
+
+/// The case of a row. Its weights aren't printed.
+fn case(alloc: Global, row: &Row) -> Result<Case, Fail> {
+    let names = names(alloc, row.hypotheses)?;
+    let alpha = fraction(row.alpha)?;
+    let p = p_values(alloc, row.hypotheses)?;
+    let weights = no_weights(alloc, row.hypotheses.len())?;
+    let draft = draft(alloc, names, alpha, p, weights)?;
+    match draft.finish(alloc) {
+        Ok(case) => Ok(case),
+        Err(refused) => Err(refused.fault)?,
+    }
+}
+
+fn is_single(case: &Case) -> bool
+    ensures { IsTrue result → IsSingle (content case.now).inputs }
+{
+    matches!(case.inputs(), Inputs::Single(_))
+}
+
+/// Whether each line is of one of so many hypotheses.
+fn are_below(lines: &[StepLine], count: usize) -> bool
+    ensures { result ≡ list_all (λ line. nat_lt line.hypothesis count) lines.now }
+{
+    lines.iter().all(|line| line.hypothesis < count)
+}
+
+fn are_of_case(case: &Case, lines: &[StepLine]) -> bool
+    ensures { IsTrue result → AreOfCase (content case.now) (map line lines.now) }
+{
+    are_below(lines, case.size())
+}
+
+fn expect(rt: &impl Abort, alloc: Global, row: &Row) -> Result<(), Fail> {
+    let case = case(alloc, row)?;
+    let decision = Decision {
+        steps: lines(alloc, row.steps)?,
+        kept: lines(alloc, row.kept)?,
+    };
+    assert!(rt; is_single(&case));
+    assert!(rt; are_of_case(&case, decision.steps.as_slice()));
+    assert!(rt; are_of_case(&case, decision.kept.as_slice()));
+    let text = test_text(alloc, &case, &decision)?;
+    assert_eq!(rt; text.as_slice(), row.text.as_bytes(), "{}", row.text);
+    Ok(())
+}
+
+#[test]
+fn decisions(rt: HostRuntime) -> Result<(), Fail> {
+    expect(&rt, rt.alloc(), &ALL_REJECTED)?;
+    expect(&rt, rt.alloc(), &NONE_REJECTED)?;
+    expect(&rt, rt.alloc(), &ONE_OF_TWO)?;
+    expect(&rt, rt.alloc(), &THREE_OF_FOUR)?;
+    expect(&rt, rt.alloc(), &TWO_KEPT)?;
+    expect(&rt, rt.alloc(), &ELEVEN_STEPS)?;
+    Ok(())
+}
+
+const NUMBERS: [(u128, &str); 6] = [
+    (0, "n 0"),
+    (7, "n 7"),
+    (10, "n 10"),
+    (4_194_305, "n 4194305"),
+    (18_446_744_073_709_551_616, "n 18446744073709551616"),
+    (
+        340_282_366_920_938_463_463_374_607_431_768_211_455,
+        "n 340282366920938463463374607431768211455",
+    ),
+];
+
+#[test]
+fn numbers(rt: HostRuntime) -> Result<(), Fail> {
+    for (n, wanted) in NUMBERS {
+        let mut text = List::new(rt.alloc());
+        text.append(b"n ")?;
+        put_number(&mut text, n)?;
+        assert_eq!(rt; text.as_slice(), wanted.as_bytes());
+    }
+    Ok(())
+}
