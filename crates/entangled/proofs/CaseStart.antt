@@ -35,18 +35,6 @@ use Rattle.entangled.specs.declared.open_fault.OpenFault.{OpenFault}
 use Rattle.entangled.specs.declared.open_fault.OpenFault.TheVariants.{Wide, NoMemory}
 use Rattle.entangled.proofs.RemovedTogether.{size_by}
 
--- ---- there is a component
-
-draft_components : (d : DraftContent) → case_fault d ≡ None → 0 < length (content_of d).components
-unfolding components_fault no_component content_of
-draft_components d h =
-    let none = no_when (length d.components == 0) _ (neither (no_component d.components) (too_many_components d.components) (good_start d (early_none d h)).components).first in
-    let some : 0 < length d.components = grind (arith, nat_tests) in
-    subst (λ n. 0 < n) (sym (length-map d.components _)) some
-
-pub some_components : (c : Content) → IsValidContent c → 0 < length c.components
-some_components c v = ∥∥₁_elim v le_prop (λ f. subst (λ c. 0 < length c.components) f.content_is (draft_components f.draft f.faultless))
-
 -- ---- the graphs of the components
 
 module _ (c : Content) (shape : HasShape c) where

@@ -32,3 +32,13 @@ invariant_of-result g c =
           (subst (λ ls. IsBundle graph (record { states = states; shares = shares; levels = map terms_of ls })) (sym after) whole));
       room = c.in_ok-next_levels.ensures ∙ sym (ap length after ∙ long ∙ room);
     }
+
+pub write_levels-requires-clause-room : goal.write_levels-requires-clause-room
+write_levels-requires-clause-room g c =
+    let graph = g.R.Remover.graph in
+    let present = g.R.Remover.present in
+    let nets : c.into_vec-nets.result.items ≡ c.args.nets = c.into_vec-nets.ensures in
+    let first : states_size graph (map present c.args.nets) ≡ c.size-size.result
+    = first_size graph present c.args.nets c.index.result.now c.requires.some (c.index.ensures ∙ ap (λ ns. get_or ns 0 c.index.result.now) nets) ∙ sym c.size-size.ensures in
+    let shown : c.deref.result.now ≡ c.args.nets = c.deref.ensures.value ∙ nets in
+    c.deref_mut.ensures.len ∙ c.in_ok-levels.levels.ok.0 ∙ c.in_ok-levels.ensures ∙ sym first ∙ ap (λ ns. states_size graph (map present ns)) (sym shown)
