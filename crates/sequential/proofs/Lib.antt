@@ -1,4 +1,9 @@
 pub mod AnyTrial
+pub mod Candidates
 pub mod CaseLaws
+pub mod ChoiceFacts
 pub mod Counting
+pub mod KeptLines
+pub mod RatioFacts
+pub mod RunSteps
 pub mod TrialFacts
