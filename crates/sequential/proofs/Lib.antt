@@ -3,6 +3,7 @@ pub mod Candidates
 pub mod CaseLaws
 pub mod ChoiceFacts
 pub mod Counting
+pub mod Decided
 pub mod KeptLines
 pub mod RatioFacts
 pub mod RunSteps

@@ -1,5 +1,5 @@
 -- The run of a decision, step by step.
-use Rattle.std.proofs.Common.{◌≡◌, refl, sym, ap, ap₂, ◌∙◌, subst, subst₂, inl, inr, ◌⊎◌, ℕ, zero, suc, ◌+◌, ◌<◌, ◌≤◌, arith, Bool, List, [], ◌∷◌, ◌++◌, length, map, take, Result, Ok, Err, add-one}
+use Rattle.std.proofs.Common.{◌≡◌, refl, sym, ap, ap₂, ◌∙◌, subst, subst₂, inl, inr, ◌⊎◌, ℕ, zero, suc, ◌+◌, ◌-◌, ◌<◌, ◌≤◌, arith, Bool, List, [], ◌∷◌, ◌++◌, length, map, take, Result, Ok, Err, add-one}
 use Rattle.std.proofs.lemmas.List.{map-append, length-map, length-append, take-append-le}
 use Rattle.std.proofs.Math.Seq.{take-append_seam}
 use Rattle.field_core.specs.Terms.{Terms}
@@ -17,16 +17,20 @@ use Rattle.case_model.proofs.RejectionOrders.{order_next, at_or_below}
 use Rattle.entangled.specs.CaseRun.{CaseState, case_level, case_removal}
 use Rattle.entangled.specs.CaseAfter.{case_after}
 use Rattle.sequential.specs.DecisionView.{StepContent, line}
-use Rattle.sequential.specs.Trials.{TrialContent, IsTrialOf, MayReject, remaining, IsNextTrial}
+use Rattle.sequential.specs.Trials.{TrialContent, IsTrial, IsTrialOf, MayReject, remaining, IsNextTrial}
 use Rattle.sequential.specs.Decisions.{IsNext, hypotheses, HasWeightIn, HaveStepWeights}
 use Rattle.sequential.specs.WideDecisions.{IsWideChoice, IsWideRemoval, IsWideStep, IsWideDecision, IsDecideFault}
 use Rattle.sequential.specs.DecisionRuns.{IsStepOf, IsEndOf, IsWideNext, IsStepFault, IsDefinedAfter, HasDefinedChoices, IsRunSoFar, IsRun}
 use Rattle.sequential.specs.declared.decision.StepLine.{StepLine}
 use Rattle.sequential.specs.declared.fault.DecideFault.TheVariants.{Wide}
 use Rattle.sequential.specs.declared.priority.Priority.{Priority}
+use Rattle.sequential.proofs.AnyTrial.{any_few}
 use Rattle.sequential.proofs.TrialFacts.{may_legal, next_trial, weight_now, remains_in}
 
 -- ---- lists
+
+many : (xs : List StepContent) → length (hypotheses xs) ≡ length xs
+many xs = simp length-map
 
 -- one more step has its weight
 weights_next : (E : EntangledGraph) (xs : List StepContent) (x : StepContent) (I : ℕ → Bool) → HaveStepWeights E I xs → HasWeightIn E (left_after I (hypotheses xs)) x → HaveStepWeights E I (xs ++ x ∷ [])
@@ -88,7 +92,7 @@ module _ (c : Content) (priority : Priority) where
   pub run_fault : (steps : List StepContent) (t : TrialContent) (w : WideAt) → IsRunSoFar c priority steps t → IsStepFault priority t w → IsDecideFault c priority (Wide (length steps + 1) w)
   run_fault steps t w R F =
       let T = R.is_trial in
-      let as_many : length t.rejected ≡ length steps = sym (ap length R.listed) ∙ length-map (λ y. y.hypothesis) steps in
+      let as_many : length t.rejected ≡ length steps = sym (ap length R.listed) ∙ many steps in
       let cause : IsWideChoice priority t.p_values t.state w ⊎ IsWideRemoval c t.p_values priority t.rejected t.state w = elim F [
         | inl wide ↦ inl wide
         | inr n ↦ inr (record { choice = n.defined; hypothesis = n.hypothesis; next = subst (λ a. IsNext (entangled c) (number_at t.p_values) (number a) priority (remaining t) n.hypothesis) (sym T.alpha) (n.choice c T); refused = n.refused })
@@ -102,3 +106,11 @@ module _ (c : Content) (priority : Priority) where
         cause = cause;
       } in
       subst (λ n. IsWideDecision c priority n w) (sym (add-one (length steps))) (subst (λ i. ForSingle i (λ ps. IsWideStep c ps priority (length steps) w)) (sym T.inputs) step)
+
+-- each step leaves fewer hypotheses
+pub step_smaller : (priority : Priority) (old new : TrialContent) (x : StepLine) → IsTrial old → IsStepOf priority old new x → length new.p_values - length new.rejected < length old.p_values - length old.rejected
+step_smaller priority old new x T S =
+    let few : length old.rejected < length old.p_values = any_few old T x.hypothesis S.legal in
+    let e : length new.rejected ≡ length old.rejected + 1 = ap length S.next.rejected ∙ length-append old.rejected (x.hypothesis ∷ []) in
+    let f : length new.p_values ≡ length old.p_values = ap length S.next.p_values in
+    omega (arith, few, e, f)

@@ -166,10 +166,10 @@ module _ (c : Content) (t : TrialContent) (T : IsTrialOf c t) where
   }
 
   -- what the closed test rejects, by the p-values and the level of the trial
-  by_inputs : (j : ℕ) → IsRejected (entangled c) (number_at t.p_values) (number t.alpha) j → IsRejectedIn c j
+  pub by_inputs : (j : ℕ) → IsRejected (entangled c) (number_at t.p_values) (number t.alpha) j → IsRejectedIn c j
   by_inputs j r = subst₂ (λ i a. ForSingle i (λ ps. IsRejected (entangled c) (number_at ps) (number a) j)) (sym T.inputs) (sym T.alpha) r
 
-  by_trial : (j : ℕ) → IsRejectedIn c j → IsRejected (entangled c) (number_at t.p_values) (number t.alpha) j
+  pub by_trial : (j : ℕ) → IsRejectedIn c j → IsRejected (entangled c) (number_at t.p_values) (number t.alpha) j
   by_trial j r = subst₂ (λ i a. ForSingle i (λ ps. IsRejected (entangled c) (number_at ps) (number a) j)) T.inputs T.alpha r
 
   -- the closed test rejects what is rejected
