@@ -4,6 +4,7 @@ pub mod CaseLaws
 pub mod ChoiceFacts
 pub mod Counting
 pub mod Decided
+pub mod Defined
 pub mod KeptLines
 pub mod RatioFacts
 pub mod RunSteps

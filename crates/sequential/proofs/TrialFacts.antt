@@ -42,18 +42,26 @@ goes_on : (r : Result CaseState WideAt) (f g : CaseState → Result CaseState Wi
 goes_on (Ok u) f g t end step e = step u e
 goes_on (Err w) f g t end step e = absurd (cc)
 
-same_state : (s t : CaseState) → Path (Result CaseState WideAt) (Ok s) (Ok t) → s ≡ t
+pub same_state : (s t : CaseState) → Path (Result CaseState WideAt) (Ok s) (Ok t) → s ≡ t
 same_state s t e = cc
 
-turns_next : (js : List ℕ) (s t : CaseState) (j : ℕ) → removed_in_turn case_removal s js ≡ Ok t → removed_in_turn case_removal s (js ++ j ∷ []) ≡ case_removal t j
+turns_more : (js ks : List ℕ) (s t : CaseState) → removed_in_turn case_removal s js ≡ Ok t → removed_in_turn case_removal s (js ++ ks) ≡ removed_in_turn case_removal t ks
 unfolding removed_in_turn
-turns_next [] s t j h = last_step (case_removal s j) ∙ ap (λ x. case_removal x j) (same_state s t h)
-turns_next (i ∷ js) s t j h = goes_on (case_removal s i) (λ u. removed_in_turn case_removal u js) (λ u. removed_in_turn case_removal u (js ++ j ∷ [])) t (case_removal t j) (λ u e. turns_next js u t j e) h
+turns_more [] ks s t h = ap (λ x. removed_in_turn case_removal x ks) (same_state s t h)
+turns_more (i ∷ js) ks s t h = goes_on (case_removal s i) (λ u. removed_in_turn case_removal u js) (λ u. removed_in_turn case_removal u (js ++ ks)) t (removed_in_turn case_removal t ks) (λ u e. turns_more js ks u t e) h
+
+-- the removals of more
+pub after_more : (c : Content) (js ks : List ℕ) (s : CaseState) → case_after c js ≡ Ok s → case_after c (js ++ ks) ≡ removed_in_turn case_removal s ks
+unfolding case_after
+after_more c js ks s h = goes_on (case_opening c) (λ u. removed_in_turn case_removal u js) (λ u. removed_in_turn case_removal u (js ++ ks)) s (removed_in_turn case_removal s ks) (λ u e. turns_more js ks u s e) h
+
+one_turn : (s : CaseState) (j : ℕ) → removed_in_turn case_removal s (j ∷ []) ≡ case_removal s j
+unfolding removed_in_turn
+one_turn s j = last_step (case_removal s j)
 
 -- the removal of one more
 pub after_next : (c : Content) (js : List ℕ) (s : CaseState) (j : ℕ) → case_after c js ≡ Ok s → case_after c (js ++ j ∷ []) ≡ case_removal s j
-unfolding case_after
-after_next c js s j h = goes_on (case_opening c) (λ u. removed_in_turn case_removal u js) (λ u. removed_in_turn case_removal u (js ++ j ∷ [])) s (case_removal s j) (λ u e. turns_next js u s j e) h
+after_next c js s j h = after_more c js (j ∷ []) s h ∙ one_turn s j
 
 after_opening : (c : Content) (s : CaseState) → case_opening c ≡ Ok s → case_after c [] ≡ Ok s
 unfolding case_after removed_in_turn
