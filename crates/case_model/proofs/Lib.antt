@@ -17,6 +17,7 @@ pub mod NamePlaces
 pub mod NoFaults
 pub mod OrderExistence
 pub mod Places
+pub mod PlainEntries
 pub mod PriorityOrders
 pub mod RejectionOrders
 pub mod RowTotals

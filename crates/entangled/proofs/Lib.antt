@@ -1,0 +1,11 @@
+pub mod AllPrepared
+pub mod BundleLevels
+pub mod CaseGraphs
+pub mod CaseLevels
+pub mod EachNet
+pub mod ExactProducts
+pub mod Gathered
+pub mod ItemSteps
+pub mod LevelValues
+pub mod Limits
+pub mod Products
