@@ -25,7 +25,7 @@ use Rattle.sequential.specs.Trials.{TrialContent, IsTrialOf, IsLegalNow, MayReje
 use Rattle.sequential.specs.WideDecisions.{HasWrittenRatio, IsWrittenRatio, AreDefinedBelow, written_ratio}
 use Rattle.sequential.specs.Choices.{MayRejectNone, IsFirstToReject, IsLastToReject, HasLeastRatioBelow, HasNoRatioBelow, IsChoice, IsLegalChoice, IsNoLegalRatio, no_ratio, not_legal}
 use Rattle.sequential.specs.declared.priority.Priority.TheVariants.{First, Last, Ratio}
-use Rattle.sequential.proofs.CaseLaws.{levels_are_lowest}
+use Rattle.entangled.proofs.CaseLevels.{case_lowest}
 use Rattle.sequential.proofs.RatioFacts.{level_divides}
 use Rattle.sequential.proofs.TrialFacts.{may_legal, legal_may, weight_now, remains_in, p_values_are, live_now, distinct}
 
@@ -47,7 +47,7 @@ module _ (c : Content) (t : TrialContent) (T : IsTrialOf c t) where
   p_value_lowest k h = All-get_or IsReduced t.p_values k _ h (subst AreLowestInputs T.inputs T.valid.inputs)
 
   level_lowest : (k : ℕ) → IsReduced (case_level t.state k)
-  level_lowest k = levels_are_lowest c t.rejected t.state k T.valid T.plain (distinct c t T) T.state
+  level_lowest k = case_lowest c t.rejected t.state k T.valid T.plain (distinct c t T) T.state
 
   -- a written ratio is the ratio
   written_is_ratio : (k : ℕ) (q : Terms) → k < length t.p_values → IsWrittenRatio t.p_values t.state k q → IsRatio (entangled c) (number_at t.p_values) (remaining t) k (number q)

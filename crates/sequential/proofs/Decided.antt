@@ -7,24 +7,25 @@ use Rattle.field_core.specs.Arithmetic.{number_zero}
 use Rattle.field_core.specs.Order.{◌≤ε◌}
 use Rattle.field_core.specs.Sets.{whole}
 use Rattle.field_core.specs.Runs.{left_after}
+use Rattle.field_core.specs.declared.place.WideAt.{WideAt}
 use Rattle.field_core.proofs.Live.{true_or_false}
 use Rattle.case_model.specs.EntangledGraph.{EntangledGraph, IsValidEntangled}
 use Rattle.case_model.specs.IntersectionWeight.{IsIntersectionWeight}
 use Rattle.case_model.specs.Sums.{number, number_at}
 use Rattle.case_model.specs.Content.{Content, ForSingle, entangled, IsRejectedIn}
 use Rattle.case_model.specs.LegalOrder.{IsRunBy, IsListed, IsLegalOrder, IsComplete}
-use Rattle.case_model.proofs.ClosedTestLaws.{complete_decides}
-use Rattle.case_model.proofs.PriorityOrders.{first_order, last_order, ratio_order}
 use Rattle.entangled.specs.CaseRun.{CaseState, is_live_in_case, case_level}
 use Rattle.sequential.specs.DecisionView.{StepContent, line}
 use Rattle.sequential.specs.Trials.{TrialContent, IsTrialOf, remaining}
 use Rattle.sequential.specs.Decisions.{IsNext, hypotheses, HasWeightIn, IsDecisionWith, IsDecision}
 use Rattle.sequential.specs.Choices.{line_at, kept_below}
+use Rattle.sequential.specs.WideDecisions.{IsWideDecision}
+use Rattle.sequential.specs.DefinedRuns.{IsDefinedRun}
 use Rattle.sequential.specs.DecisionRuns.{IsRun}
+use Rattle.sequential.proofs.WideLaws.{defined_excludes}
 use Rattle.sequential.specs.declared.decision.StepLine.{StepLine}
 use Rattle.sequential.specs.declared.priority.Priority.{Priority}
-use Rattle.sequential.specs.declared.priority.Priority.TheVariants.{First, Last, Ratio}
-use Rattle.sequential.proofs.TrialFacts.{graph_valid, level_is, level_low, p_values_are, live_now, weight_now, remains_in, by_inputs, by_trial}
+use Rattle.sequential.proofs.TrialFacts.{p_values_are, live_now, weight_now, remains_in}
 
 -- ---- filtered ranges
 
@@ -60,12 +61,6 @@ kept_hypotheses s (k ∷ ks) = ap (λ xs. k ∷ xs) (kept_hypotheses s ks)
 
 -- ---- what a run decides
 
--- the order of a priority is a complete legal order
-run_legal : (E : EntangledGraph) (V : IsValidEntangled E) (p : ℕ → Number) (level : Number) (priority : Priority) (js : List ℕ) → IsRunBy (IsNext E p level priority) whole js → IsLegalOrder E p level whole js × IsComplete E p level whole js
-run_legal E V p level First js r = first_order E p level whole js r
-run_legal E V p level Last js r = last_order E p level whole js r
-run_legal E V p level Ratio js r = ratio_order E p level V whole js r
-
 module _ (c : Content) (priority : Priority) (steps : List StepContent) (t : TrialContent) (R : IsRun c priority steps t) where
   T : IsTrialOf c t
   T = R.so_far.is_trial
@@ -94,9 +89,13 @@ module _ (c : Content) (priority : Priority) (steps : List StepContent) (t : Tri
       (subst (AllByRecursion HasItsWeight) (sym e) (all_mapped (line_at t.state) HasItsWeight (filter (is_live_in_case t.state) (range_with_len 0 (length t.p_values))) (all_filtered (is_live_in_case t.state) (λ k. HasItsWeight (line_at t.state k)) 0 (length t.p_values) (λ k h l. weight_now c t T k (remains_in c t T k (omega arith) l))))));
   })
 
-  pub run_closed : (j : ℕ) → IsListed (hypotheses steps) j ↔ IsRejectedIn c j
-  run_closed j =
-      let V = graph_valid c t T in
-      let l = run_legal (entangled c) V (number_at t.p_values) (number t.alpha) priority (hypotheses steps) ordered in
-      let d = complete_decides (entangled c) (number_at t.p_values) (number t.alpha) V (level_low t.alpha (level_is c t T)) (hypotheses steps) l.0 l.1 j in
-      (λ h. by_inputs c t T j (d.0 h), λ r. d.1 (by_trial c t T j r))
+  -- the run is defined to its end
+  run_defined : IsDefinedRun c t.p_values priority t.rejected
+  run_defined = record {
+    run = subst (λ a. IsRunBy (IsNext (entangled c) (number_at t.p_values) (number a) priority) whole t.rejected) (sym T.alpha) (record { order = R.so_far.order; complete = R.complete });
+    choices = R.so_far.choices;
+    end = R.end;
+  }
+
+  pub never_wide : (n : ℕ) (w : WideAt) → ¬ IsWideDecision c priority n w
+  never_wide n w = defined_excludes c priority t.p_values t.rejected n w T.inputs run_defined

@@ -1,7 +1,6 @@
 -- The run of a decision, step by step.
-use Rattle.std.proofs.Common.{◌≡◌, refl, sym, ap, ap₂, ◌∙◌, subst, subst₂, inl, inr, ◌⊎◌, ℕ, zero, suc, ◌+◌, ◌-◌, ◌<◌, ◌≤◌, arith, Bool, List, [], ◌∷◌, ◌++◌, length, map, take, Result, Ok, Err, add-one}
-use Rattle.std.proofs.lemmas.List.{map-append, length-map, length-append, take-append-le}
-use Rattle.std.proofs.Math.Seq.{take-append_seam}
+use Rattle.std.proofs.Common.{◌≡◌, refl, sym, ap, ap₂, ◌∙◌, subst, subst₂, inl, inr, ◌⊎◌, ℕ, zero, suc, ◌+◌, ◌-◌, ◌<◌, ◌≤◌, arith, Bool, List, [], ◌∷◌, ◌++◌, length, map, Result, Ok, Err, add-one}
+use Rattle.std.proofs.lemmas.List.{map-append, length-map, length-append}
 use Rattle.field_core.specs.Terms.{Terms}
 use Rattle.field_core.specs.Number.{Number}
 use Rattle.field_core.specs.Sets.{dropping, whole}
@@ -13,18 +12,19 @@ use Rattle.case_model.specs.IntersectionWeight.{IsIntersectionWeight}
 use Rattle.case_model.specs.Sums.{number, number_at}
 use Rattle.case_model.specs.Content.{Content, ForSingle, entangled}
 use Rattle.case_model.specs.LegalOrder.{IsOrderBy, IsCompleteBy}
-use Rattle.case_model.proofs.RejectionOrders.{order_next, at_or_below}
+use Rattle.case_model.proofs.RejectionOrders.{order_next}
 use Rattle.entangled.specs.CaseRun.{CaseState, case_level, case_removal}
 use Rattle.entangled.specs.CaseAfter.{case_after}
 use Rattle.sequential.specs.DecisionView.{StepContent, line}
 use Rattle.sequential.specs.Trials.{TrialContent, IsTrial, IsTrialOf, MayReject, remaining, IsNextTrial}
 use Rattle.sequential.specs.Decisions.{IsNext, hypotheses, HasWeightIn, HaveStepWeights}
-use Rattle.sequential.specs.WideDecisions.{IsWideChoice, IsWideRemoval, IsWideStep, IsWideDecision, IsDecideFault}
-use Rattle.sequential.specs.DecisionRuns.{IsStepOf, IsEndOf, IsWideNext, IsStepFault, IsDefinedAfter, HasDefinedChoices, IsRunSoFar, IsRun}
+use Rattle.sequential.specs.WideDecisions.{AreChoicesDefined, IsWideChoice, IsWideRemoval, IsWideStep, IsWideDecision, IsDecideFault}
+use Rattle.sequential.specs.DecisionRuns.{IsStepOf, IsEndOf, IsWideNext, IsStepFault, IsRunSoFar, IsRun}
 use Rattle.sequential.specs.declared.decision.StepLine.{StepLine}
 use Rattle.sequential.specs.declared.fault.DecideFault.TheVariants.{Wide}
 use Rattle.sequential.specs.declared.priority.Priority.{Priority}
 use Rattle.sequential.proofs.AnyTrial.{any_few}
+use Rattle.sequential.proofs.WideLaws.{choices_none, choices_next}
 use Rattle.sequential.proofs.TrialFacts.{may_legal, next_trial, weight_now, remains_in}
 
 -- ---- lists
@@ -36,15 +36,6 @@ many xs = simp length-map
 weights_next : (E : EntangledGraph) (xs : List StepContent) (x : StepContent) (I : ℕ → Bool) → HaveStepWeights E I xs → HasWeightIn E (left_after I (hypotheses xs)) x → HaveStepWeights E I (xs ++ x ∷ [])
 weights_next E [] x I h w = (w, tt)
 weights_next E (y ∷ xs) x I h w = (h.0, weights_next E xs x (dropping y.hypothesis I) h.1 w)
-
--- before one more rejection the choice is defined too
-defined_next : (c : Content) (ps : List Terms) (priority : Priority) (js : List ℕ) (j : ℕ) → HasDefinedChoices c ps priority js → IsDefinedAfter c ps priority js → HasDefinedChoices c ps priority (js ++ j ∷ [])
-defined_next c ps priority js j before here k h =
-    let within : k < suc (length js) = let e = length-append js (j ∷ []) in omega (arith, e, h) in
-    elim (at_or_below k (length js) within) [
-      | inl e ↦ subst (IsDefinedAfter c ps priority) (sym (ap (λ n. take n (js ++ j ∷ [])) e ∙ take-append_seam js (j ∷ []))) here
-      | inr b ↦ subst (IsDefinedAfter c ps priority) (sym (take-append-le k js (j ∷ []) (omega arith))) (before k b)
-    ]
 
 -- ---- steps
 
@@ -58,7 +49,7 @@ module _ (c : Content) (priority : Priority) where
     listed = sym none;
     order = subst (IsOrderBy (IsNext (entangled c) (number_at t.p_values) (number t.alpha) priority) whole) (sym none) tt;
     weights = tt;
-    defined = subst (HasDefinedChoices c t.p_values priority) (sym none) (λ k h. absurd (omega arith));
+    choices = subst (AreChoicesDefined c t.p_values priority) (sym none) (choices_none c t.p_values priority);
   }
 
   pub run_step : (steps : List StepContent) (old new : TrialContent) (x : StepLine) → IsRunSoFar c priority steps old → IsStepOf priority old new x → IsRunSoFar c priority (steps ++ line x ∷ []) new
@@ -77,9 +68,9 @@ module _ (c : Content) (priority : Priority) where
             subst₂ (λ ps a. IsOrderBy (IsNext (entangled c) (number_at ps) (number a) priority) whole new.rejected) (sym S.next.p_values) (sym S.next.alpha)
             (subst (IsOrderBy (rule old) whole) (sym S.next.rejected) (order_next (rule old) old.rejected j whole R.order (S.choice c T)));
         weights = weights_next (entangled c) steps (line x) whole R.weights (subst (λ js. HasWeightIn (entangled c) (left_after whole js) (line x)) (sym R.listed) weight);
-        defined =
-            subst₂ (λ ps js. HasDefinedChoices c ps priority js) (sym S.next.p_values) (sym S.next.rejected)
-            (defined_next c old.p_values priority old.rejected j R.defined (record { state = old.state; reached = T.state; choice = S.defined }));
+        choices =
+            subst₂ (λ ps js. AreChoicesDefined c ps priority js) (sym S.next.p_values) (sym S.next.rejected)
+            (choices_next c old.p_values priority old.rejected j R.choices (record { state = old.state; reached = T.state; choice = S.defined }));
       }
 
   pub run_end : (steps : List StepContent) (old new : TrialContent) → IsRunSoFar c priority steps old → IsEndOf priority old new → IsRun c priority steps new
@@ -101,6 +92,7 @@ module _ (c : Content) (priority : Priority) where
         rejected = t.rejected;
         count = as_many;
         order = subst (λ a. IsOrderBy (IsNext (entangled c) (number_at t.p_values) (number a) priority) whole t.rejected) (sym T.alpha) R.order;
+        choices = R.choices;
         state = t.state;
         reached = T.state;
         cause = cause;

@@ -12,7 +12,7 @@ use Rattle.entangled.specs.CaseAfter.{case_after}
 use Rattle.sequential.specs.DecisionView.{StepContent}
 use Rattle.sequential.specs.Trials.{TrialContent, IsTrialOf, MayReject, IsNextTrial}
 use Rattle.sequential.specs.Decisions.{IsNext, hypotheses, HaveStepWeights}
-use Rattle.sequential.specs.WideDecisions.{IsChoiceDefined, IsWideChoice}
+use Rattle.sequential.specs.WideDecisions.{IsChoiceDefined, IsWideChoice, IsDefinedAt, AreChoicesDefined}
 use Rattle.sequential.specs.Choices.{IsNextIn, IsChoice}
 use Rattle.sequential.specs.declared.decision.StepLine.{StepLine}
 use Rattle.sequential.specs.declared.priority.Priority.{Priority}
@@ -47,26 +47,16 @@ pub record IsWideNext (priority : Priority) (t : TrialContent) (w : WideAt) : Ty
 abbrev pub IsStepFault : Priority → TrialContent → WideAt → Type 0
 IsStepFault priority t w = IsWideChoice priority t.p_values t.state w ⊎ IsWideNext priority t w
 
--- once a list is rejected, the choice by the priority is defined
-pub record IsDefinedAfter (c : Content) (ps : List Terms) (priority : Priority) (js : List ℕ) : Type 0 where
-  pub state : CaseState
-  pub reached : case_after c js ≡ Ok state
-  pub choice : IsChoiceDefined priority ps state
-
--- before each rejection of a list, the choice by the priority is defined
-abbrev pub HasDefinedChoices : Content → List Terms → Priority → List ℕ → Type 0
-HasDefinedChoices c ps priority js = (k : ℕ) → k < length js → IsDefinedAfter c ps priority (take k js)
-
 -- the steps so far of a run
 pub record IsRunSoFar (c : Content) (priority : Priority) (steps : List StepContent) (t : TrialContent) : Type 0 where
   pub is_trial : IsTrialOf c t
   pub listed : hypotheses steps ≡ t.rejected
   pub order : IsOrderBy (IsNext (entangled c) (number_at t.p_values) (number t.alpha) priority) whole t.rejected
   pub weights : HaveStepWeights (entangled c) whole steps
-  pub defined : HasDefinedChoices c t.p_values priority t.rejected
+  pub choices : AreChoicesDefined c t.p_values priority t.rejected
 
 -- the steps of a run that is done
 pub record IsRun (c : Content) (priority : Priority) (steps : List StepContent) (t : TrialContent) : Type 0 where
   pub so_far : IsRunSoFar c priority steps t
   pub complete : IsCompleteBy (IsNext (entangled c) (number_at t.p_values) (number t.alpha) priority) whole t.rejected
-  pub end : IsDefinedAfter c t.p_values priority t.rejected
+  pub end : IsDefinedAt c t.p_values priority t.rejected

@@ -7,3 +7,5 @@ pub mod WideDecisions
 pub mod Choices
 pub mod DecisionRuns
 pub mod OpeningFault
+pub mod DefinedRuns
+pub mod DecisionStatements

@@ -1,5 +1,5 @@
 -- Where the written run of a decision is undefined (this project's own).
-use Rattle.std.specs.Prelude.{◌≡◌, ◌<◌, ◌⊎◌, ℕ, zero, suc, Bool, true, List, length, Result, Ok, Err}
+use Rattle.std.specs.Prelude.{◌≡◌, ◌<◌, ◌⊎◌, ℕ, zero, suc, Bool, true, List, ◌∷◌, ◌++◌, length, Result, Ok, Err}
 use Rattle.field_core.specs.Terms.{Terms}
 use Rattle.field_core.specs.Number.{Number}
 use Rattle.field_core.specs.Order.{IsPositive}
@@ -65,6 +65,16 @@ IsWideChoice First ps s w = ⊥
 IsWideChoice Last ps s w = ⊥
 IsWideChoice Ratio ps s w = IsFirstWideRatio ps s w
 
+-- after the rejections of a list the run is defined, and so is the choice by the priority that comes next
+pub record IsDefinedAt (c : Content) (ps : List Terms) (priority : Priority) (js : List ℕ) : Type 0 where
+  pub state : CaseState
+  pub reached : case_after c js ≡ Ok state
+  pub choice : IsChoiceDefined priority ps state
+
+-- each choice of a list of rejections is defined, after those before it
+abbrev pub AreChoicesDefined : Content → List Terms → Priority → List ℕ → Type 0
+AreChoicesDefined c ps priority js = (ks : List ℕ) (j : ℕ) (rest : List ℕ) → js ≡ ks ++ j ∷ rest → IsDefinedAt c ps priority ks
+
 -- the choice is defined, and the removal of the hypothesis that it gives is undefined first at `w`
 pub record IsWideRemoval (c : Content) (ps : List Terms) (priority : Priority) (js : List ℕ) (s : CaseState) (w : WideAt) : Type 0 where
   pub choice : IsChoiceDefined priority ps s
@@ -77,6 +87,7 @@ pub record IsWideStep (c : Content) (ps : List Terms) (priority : Priority) (k :
   pub rejected : List ℕ
   pub count : length rejected ≡ k
   pub order : IsOrderBy (IsNext (entangled c) (number_at ps) (number c.alpha) priority) whole rejected
+  pub choices : AreChoicesDefined c ps priority rejected
   pub state : CaseState
   pub reached : case_after c rejected ≡ Ok state
   pub cause : IsWideChoice priority ps state w ⊎ IsWideRemoval c ps priority rejected state w

@@ -5,6 +5,7 @@ mod candidate;
 mod choice;
 mod decision;
 mod fault;
+pub mod laws;
 mod priority;
 mod ratios;
 mod steps;
