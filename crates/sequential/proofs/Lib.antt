@@ -1,6 +1,12 @@
 pub mod AnyTrial
-pub mod CaseLaws
+pub mod Candidates
+pub mod CaseRuns
+pub mod ChoiceFacts
 pub mod Counting
+pub mod Decided
 pub mod DecisionLaws
+pub mod KeptLines
+pub mod RatioFacts
+pub mod RunSteps
 pub mod TrialFacts
 pub mod WideLaws

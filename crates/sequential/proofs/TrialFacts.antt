@@ -23,41 +23,12 @@ use Rattle.case_model.proofs.ValidContents.{shape, valid_content}
 use Rattle.case_model.proofs.LegalSteps.{legal_distinct}
 use Rattle.case_model.proofs.RejectionOrders.{order_next, not_listed_left, left_not_listed, listed_or_not}
 use Rattle.case_model.proofs.ClosedTestLaws.{legal_passes, passes_legal, legal_rejected, rejected_listed}
-use Rattle.removal.specs.Steps.{◌>>=◌}
-use Rattle.removal.specs.InTurn.{removed_in_turn}
 use Rattle.entangled.specs.CaseRun.{CaseState, case_size, is_live_in_case, case_level, case_opening, case_removal}
 use Rattle.entangled.specs.CaseAfter.{case_after}
 use Rattle.sequential.specs.Trials.{TrialContent, IsTrialOf, IsLegalNow, MayReject, IsNextTrial, remaining}
-use Rattle.sequential.proofs.CaseLaws.{levels_are_weights, live_are_left, sizes_stay}
+use Rattle.sequential.proofs.CaseRuns.{after_opening, after_next}
+use Rattle.entangled.proofs.CaseLevels.{case_levels, case_live, case_sizes}
 use Rattle.sequential.proofs.Counting.{one_left}
-
--- ---- removals in turn
-
-last_step : (r : Result CaseState WideAt) → (r >>= λ x. Ok x) ≡ r
-last_step (Ok x) = refl
-last_step (Err e) = refl
-
--- a step that goes on to a good end, and on from there
-goes_on : (r : Result CaseState WideAt) (f g : CaseState → Result CaseState WideAt) (t : CaseState) (end : Result CaseState WideAt) → ((u : CaseState) → f u ≡ Ok t → g u ≡ end) → (r >>= f) ≡ Ok t → (r >>= g) ≡ end
-goes_on (Ok u) f g t end step e = step u e
-goes_on (Err w) f g t end step e = absurd (cc)
-
-same_state : (s t : CaseState) → Path (Result CaseState WideAt) (Ok s) (Ok t) → s ≡ t
-same_state s t e = cc
-
-turns_next : (js : List ℕ) (s t : CaseState) (j : ℕ) → removed_in_turn case_removal s js ≡ Ok t → removed_in_turn case_removal s (js ++ j ∷ []) ≡ case_removal t j
-unfolding removed_in_turn
-turns_next [] s t j h = last_step (case_removal s j) ∙ ap (λ x. case_removal x j) (same_state s t h)
-turns_next (i ∷ js) s t j h = goes_on (case_removal s i) (λ u. removed_in_turn case_removal u js) (λ u. removed_in_turn case_removal u (js ++ j ∷ [])) t (case_removal t j) (λ u e. turns_next js u t j e) h
-
--- the removal of one more
-pub after_next : (c : Content) (js : List ℕ) (s : CaseState) (j : ℕ) → case_after c js ≡ Ok s → case_after c (js ++ j ∷ []) ≡ case_removal s j
-unfolding case_after
-after_next c js s j h = goes_on (case_opening c) (λ u. removed_in_turn case_removal u js) (λ u. removed_in_turn case_removal u (js ++ j ∷ [])) s (case_removal s j) (λ u e. turns_next js u s j e) h
-
-after_opening : (c : Content) (s : CaseState) → case_opening c ≡ Ok s → case_after c [] ≡ Ok s
-unfolding case_after removed_in_turn
-after_opening c s h = last_step (case_opening c) ∙ h
 
 -- how many hypotheses the graph of a case has
 hypotheses_are : (c : Content) → (entangled c).hypotheses ≡ length c.names
@@ -100,11 +71,11 @@ module _ (c : Content) (t : TrialContent) (T : IsTrialOf c t) where
 
   -- the ones that are in are those that remain
   pub live_now : (k : ℕ) → k < length c.names → is_live_in_case t.state k ≡ remaining t k
-  live_now k h = live_are_left c t.rejected t.state k T.valid T.plain distinct T.state h
+  live_now k h = case_live c t.rejected t.state k T.valid T.plain distinct T.state h
 
   -- the present levels are the weights in what remains
   pub weight_now : (k : ℕ) → IsIn (length c.names) (remaining t) k → IsIntersectionWeight (entangled c) (remaining t) k (number (case_level t.state k))
-  weight_now k p = levels_are_weights c t.rejected t.state k T.valid T.plain distinct T.state p
+  weight_now k p = case_levels c t.rejected t.state k T.valid T.plain distinct T.state p
 
   -- a hypothesis that is in remains
   pub remains_in : (k : ℕ) → k < length t.p_values → is_live_in_case t.state k ≡ true → IsIn (length c.names) (remaining t) k
@@ -152,7 +123,7 @@ module _ (c : Content) (t : TrialContent) (T : IsTrialOf c t) where
 
   -- the state has a place for each hypothesis
   pub sizes_are : case_size t.state ≡ length t.p_values
-  sizes_are = sizes_stay c t.rejected t.state T.valid T.plain distinct T.state ∙ sym p_values_are.count
+  sizes_are = case_sizes c t.rejected t.state T.valid T.plain distinct T.state ∙ sym p_values_are.count
 
   -- the trial after one more rejection
   pub next_trial : (j : ℕ) (new : TrialContent) → IsLegalNow c t j → IsNextTrial t j new → IsTrialOf c new
@@ -166,10 +137,10 @@ module _ (c : Content) (t : TrialContent) (T : IsTrialOf c t) where
   }
 
   -- what the closed test rejects, by the p-values and the level of the trial
-  by_inputs : (j : ℕ) → IsRejected (entangled c) (number_at t.p_values) (number t.alpha) j → IsRejectedIn c j
+  pub by_inputs : (j : ℕ) → IsRejected (entangled c) (number_at t.p_values) (number t.alpha) j → IsRejectedIn c j
   by_inputs j r = subst₂ (λ i a. ForSingle i (λ ps. IsRejected (entangled c) (number_at ps) (number a) j)) (sym T.inputs) (sym T.alpha) r
 
-  by_trial : (j : ℕ) → IsRejectedIn c j → IsRejected (entangled c) (number_at t.p_values) (number t.alpha) j
+  pub by_trial : (j : ℕ) → IsRejectedIn c j → IsRejected (entangled c) (number_at t.p_values) (number t.alpha) j
   by_trial j r = subst₂ (λ i a. ForSingle i (λ ps. IsRejected (entangled c) (number_at ps) (number a) j)) T.inputs T.alpha r
 
   -- the closed test rejects what is rejected

@@ -19,6 +19,7 @@ use Rattle.sequential.specs.WideDecisions.{written_ratio, IsFirstWideRatio, IsCh
 use Rattle.sequential.specs.DefinedRuns.{IsDefinedRun}
 use Rattle.sequential.specs.declared.priority.Priority.{Priority}
 use Rattle.sequential.specs.declared.priority.Priority.TheVariants.{First, Last, Ratio}
+use Rattle.sequential.proofs.CaseRuns.{same_state, after_more}
 use Rattle.sequential.proofs.DecisionLaws.{for_both, next_unique}
 
 -- ---- what a list of rejections begins with
@@ -50,30 +51,14 @@ module _ (Rule : (ℕ → Bool) → ℕ → Type 0) (one : (I : ℕ → Bool) (j
 
 -- ---- removals in turn
 
-goes_on : (r : Result CaseState WideAt) (f g : CaseState → Result CaseState WideAt) (t : CaseState) (end : Result CaseState WideAt) → ((u : CaseState) → f u ≡ Ok t → g u ≡ end) → (r >>= f) ≡ Ok t → (r >>= g) ≡ end
-goes_on (Ok u) f g t end step e = step u e
-goes_on (Err w) f g t end step e = absurd (cc)
-
-same_state : (r : Result CaseState WideAt) (s t : CaseState) → r ≡ Ok s → r ≡ Ok t → s ≡ t
-same_state r s t h k = cc
-
-turns_append : (js ks : List ℕ) (s t : CaseState) → removed_in_turn case_removal s js ≡ Ok t → removed_in_turn case_removal s (js ++ ks) ≡ removed_in_turn case_removal t ks
-unfolding removed_in_turn
-turns_append [] ks s t h = ap (λ u. removed_in_turn case_removal u ks) (same_state (Ok s) s t refl h)
-turns_append (j ∷ js) ks s t h = goes_on (case_removal s j) (λ u. removed_in_turn case_removal u js) (λ u. removed_in_turn case_removal u (js ++ ks)) t (removed_in_turn case_removal t ks) (λ u e. turns_append js ks u t e) h
-
 stopped : (s : CaseState) (j : ℕ) (rest : List ℕ) (w : WideAt) → case_removal s j ≡ Err w → removed_in_turn case_removal s (j ∷ rest) ≡ Err w
 unfolding removed_in_turn
 stopped s j rest w e = ap (λ r. r >>= λ u. removed_in_turn case_removal u rest) e
 
 module _ (c : Content) where
-  pub after_append : (js ks : List ℕ) (s : CaseState) → case_after c js ≡ Ok s → case_after c (js ++ ks) ≡ removed_in_turn case_removal s ks
-  unfolding case_after
-  after_append js ks s h = goes_on (case_opening c) (λ u. removed_in_turn case_removal u js) (λ u. removed_in_turn case_removal u (js ++ ks)) s (removed_in_turn case_removal s ks) (λ u e. turns_append js ks u s e) h
-
   -- what begins with a refused removal doesn't go on
   refused_stops : (js : List ℕ) (j : ℕ) (rest : List ℕ) (s t : CaseState) (w : WideAt) → case_after c js ≡ Ok s → case_removal s j ≡ Err w → ¬ (case_after c (js ++ j ∷ rest) ≡ Ok t)
-  refused_stops js j rest s t w h e k = let a = after_append js (j ∷ rest) s h in let b = stopped s j rest w e in cc
+  refused_stops js j rest s t w h e k = let a = after_more c js (j ∷ rest) s h in let b = stopped s j rest w e in cc
 
   -- after an opening that is refused nothing is reached
   pub closed_stops : (w : WideAt) (js : List ℕ) (s : CaseState) → case_opening c ≡ Err w → ¬ (case_after c js ≡ Ok s)

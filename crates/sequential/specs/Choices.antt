@@ -53,9 +53,13 @@ abbrev pub IsChoice : Content → TrialContent → Priority → Option ℕ → T
 IsChoice c t priority None = (k : ℕ) → ¬ IsNextIn c t priority k
 IsChoice c t priority (Some j) = IsNextIn c t priority j
 
+-- `k` with its present weight
+abbrev pub line_at : CaseState → ℕ → StepContent
+line_at s k = record { hypothesis = k; weight = case_level s k }
+
 -- those below `n` that are still in, with their weights
 abbrev pub kept_below : ℕ → CaseState → List StepContent
-kept_below n s = map (λ k. record { hypothesis = k; weight = case_level s k }) (filter (is_live_in_case s) (range_with_len 0 n))
+kept_below n s = map (line_at s) (filter (is_live_in_case s) (range_with_len 0 n))
 
 -- none has a ratio, or the one with the least ratio may not be rejected
 pub data IsNoLegalRatio (t : TrialContent) : Type 0 where

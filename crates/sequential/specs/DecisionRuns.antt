@@ -1,16 +1,18 @@
 -- The run of a decision: its steps so far.
-use Rattle.std.specs.Prelude.{◌≡◌, ◌⊎◌, ℕ, List, [], ◌∷◌, Bool, true, Option, Some, None, Err}
+use Rattle.std.specs.Prelude.{◌≡◌, ◌<◌, ◌⊎◌, ℕ, List, [], ◌∷◌, length, take, Bool, true, Option, Some, None, Ok, Err}
+use Rattle.field_core.specs.Terms.{Terms}
 use Rattle.field_core.specs.Sets.{whole}
 use Rattle.field_core.specs.declared.place.WideAt.{WideAt}
 use Rattle.fraction.specs.View.{terms_of}
 use Rattle.case_model.specs.Sums.{number, number_at}
 use Rattle.case_model.specs.Content.{Content, entangled}
 use Rattle.case_model.specs.LegalOrder.{IsOrderBy, IsCompleteBy}
-use Rattle.entangled.specs.CaseRun.{case_level, case_removal}
+use Rattle.entangled.specs.CaseRun.{CaseState, case_level, case_removal}
+use Rattle.entangled.specs.CaseAfter.{case_after}
 use Rattle.sequential.specs.DecisionView.{StepContent}
 use Rattle.sequential.specs.Trials.{TrialContent, IsTrialOf, MayReject, IsNextTrial}
 use Rattle.sequential.specs.Decisions.{IsNext, hypotheses, HaveStepWeights}
-use Rattle.sequential.specs.WideDecisions.{IsChoiceDefined, IsWideChoice}
+use Rattle.sequential.specs.WideDecisions.{IsChoiceDefined, IsWideChoice, IsDefinedAt, AreChoicesDefined}
 use Rattle.sequential.specs.Choices.{IsNextIn, IsChoice}
 use Rattle.sequential.specs.declared.decision.StepLine.{StepLine}
 use Rattle.sequential.specs.declared.priority.Priority.{Priority}
@@ -51,8 +53,10 @@ pub record IsRunSoFar (c : Content) (priority : Priority) (steps : List StepCont
   pub listed : hypotheses steps ≡ t.rejected
   pub order : IsOrderBy (IsNext (entangled c) (number_at t.p_values) (number t.alpha) priority) whole t.rejected
   pub weights : HaveStepWeights (entangled c) whole steps
+  pub choices : AreChoicesDefined c t.p_values priority t.rejected
 
 -- the steps of a run that is done
 pub record IsRun (c : Content) (priority : Priority) (steps : List StepContent) (t : TrialContent) : Type 0 where
   pub so_far : IsRunSoFar c priority steps t
   pub complete : IsCompleteBy (IsNext (entangled c) (number_at t.p_values) (number t.alpha) priority) whole t.rejected
+  pub end : IsDefinedAt c t.p_values priority t.rejected

@@ -10,7 +10,6 @@ use crate::Trial;
 use crate::candidate::Candidate;
 use field_core::{Number, Place, TooWide, WideAt};
 use fraction::Fraction;
-use std::cmp::Ordering;
 
 /// Whether `x` is at most `y`.
 fn is_at_most(x: &Fraction, y: &Fraction) -> bool
@@ -19,13 +18,24 @@ fn is_at_most(x: &Fraction, y: &Fraction) -> bool
     x.ratio().compare(&y.ratio()).is_le()
 }
 
+/// The place of a ratio that is undefined.
+fn wide_ratio(k: usize, fault: TooWide) -> WideAt
+    ensures { result ≡ record { component = 0; place = Place.Ratio k; op = fault.op } }
+{
+    WideAt {
+        component: 0,
+        place: Place::Ratio(k),
+        op: fault.op,
+    }
+}
+
 impl Trial {
     /// Whether `k` is still in and has a weight above 0.
     fn has_ratio(&self, k: usize) -> bool
         requires { k < length (trial self.now).p_values }
         ensures { IsTrue result ↔ HasWrittenRatio (trial self.now).state k }
     {
-        self.is_in(k) && self.present_weight(k).sign() == Ordering::Greater
+        self.is_in(k) && self.present_weight(k).sign().is_gt()
     }
 
     /// The ratio of the p-value of `k` and its weight; none where `k` is rejected or its weight isn't above 0.
@@ -39,11 +49,7 @@ impl Trial {
         }
         match self.p_value(k).div(&self.present_weight(k)) {
             Ok(ratio) => Ok(Some(ratio)),
-            Err(TooWide { op }) => Err(WideAt {
-                component: 0,
-                place: Place::Ratio(k),
-                op,
-            }),
+            Err(fault) => Err(wide_ratio(k, fault)),
         }
     }
 

@@ -1,4 +1,4 @@
-ghost use Rattle.std.specs.Prelude.{◌≡◌, ◌↔◌, ℕ, true, [], map, length, IfOk, IfErr};
+ghost use Rattle.std.specs.Prelude.{◌≡◌, ◌↔◌, ℕ, true, [], map, length, IfOk, IfErr, OnOk};
 ghost use Rattle.case_model.specs.Content.{Content, is_plain, IsRejectedIn};
 ghost use Rattle.case_model.specs.CaseView.{content};
 ghost use Rattle.case_model.specs.LegalOrder.{IsListed};
@@ -7,7 +7,7 @@ ghost use Rattle.sequential.specs.Trials.{IsTrialOf};
 ghost use Rattle.sequential.specs.TrialAnswers.{IsSingle};
 ghost use Rattle.sequential.specs.TrialView.{trial};
 ghost use Rattle.sequential.specs.Decisions.{hypotheses, IsDecision};
-ghost use Rattle.sequential.specs.WideDecisions.{IsDecideFault};
+ghost use Rattle.sequential.specs.WideDecisions.{IsWideDecision, IsDecideFault};
 ghost use Rattle.sequential.specs.Choices.{kept_below};
 ghost use Rattle.sequential.specs.DecisionRuns.{IsStep, IsStepFault, IsRun};
 
@@ -75,6 +75,7 @@ pub fn decide(alloc: Global, case: &Case, priority: Priority) -> Result<Decision
     requires single { IsSingle (content case.now).inputs }
     ensures value { IfOk result (λ d. IsDecision (content case.now) priority (decision d)) }
     ensures fault { IfErr result (IsDecideFault (content case.now) priority) }
+    ensures defined { OnOk result ((n : ℕ) (w : WideAt) → ¬ IsWideDecision (content case.now) priority n w) }
     ensures closed { IfOk result (λ d. (j : ℕ) → IsListed (hypotheses (decision d).steps) j ↔ IsRejectedIn (content case.now) j) }
 {
     let mut current = Trial::open(alloc, case)?;

@@ -6,7 +6,8 @@ use Rattle.case_model.specs.Content.{entangled}
 use Rattle.case_model.specs.IntersectionWeight.{IsIntersectionWeight}
 use Rattle.sequential.specs.Trials.{remaining}
 use Rattle.sequential.specs.TrialView.{trial}
-use Rattle.sequential.proofs.TrialFacts.{after_next, gone_rejected, live_not_rejected, legal_may, may_legal, weight_now, remains_in, next_trial}
+use Rattle.sequential.proofs.CaseRuns.{after_next}
+use Rattle.sequential.proofs.TrialFacts.{gone_rejected, live_not_rejected, legal_may, may_legal, weight_now, remains_in, next_trial}
 use Rattle.sequential.proofs.trial.Trial.reject.Goals as goal
 
 pub returns-then-not-is_in-clause-answer : goal.returns-then-not-is_in-clause-answer
