@@ -157,7 +157,11 @@ const LAYOUTS: [&str; 19] = [
 ];
 
 /// A run over each of these texts prints what stands beside it.
-pub fn expect_decided(rt: &impl Abort, alloc: Global, rows: &[(&str, &str)]) -> Result<(), NoMemory> {
+pub fn expect_decided(
+    rt: &impl Abort,
+    alloc: Global,
+    rows: &[(&str, &str)],
+) -> Result<(), NoMemory> {
     for (text, printed) in rows {
         let bytes = list_of(alloc, text.as_bytes())?;
         expect_answer(rt, alloc, text, bytes, (0, printed.as_bytes()))?;

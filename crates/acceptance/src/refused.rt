@@ -16,176 +16,700 @@ const ORDER: [Row; 24] = [
     ("# nothing", 3, "malformed: line 2: ended\n"),
     ("alpha 0.05\n", 3, "malformed: line 2: ended\n"),
     ("alpha 0.05\n\n# names\n", 3, "malformed: line 4: ended\n"),
-    ("alpha 0.05\nhypotheses H1\n", 3, "malformed: line 3: ended\n"),
-    ("alpha 0.05\nhypotheses H1 H2\np 0.025 0.026\n", 3, "malformed: line 4: ended\n"),
-    ("alpha 0.05\nhypotheses H1 H2\np 0.025 0.026\nweights 1/2 1/2\nend\n", 3, "malformed: line 5: unexpected\n"),
-    ("hypotheses H1 H2\np 0.025 0.026\nweights 1/2 1/2\n", 3, "malformed: line 1: unexpected\n"),
-    ("hypotheses H1 H2\nalpha 0.05\np 0.025 0.026\nweights 1/2 1/2\n", 3, "malformed: line 1: unexpected\n"),
-    ("alpha 0.05\nhypotheses H1 H2\nweights 1/2 1/2\np 0.025 0.026\n", 3, "malformed: line 4: unexpected\n"),
-    ("alpha 0.05\np 0.025 0.026\nhypotheses H1 H2\nweights 1/2 1/2\n", 3, "malformed: line 2: unexpected\n"),
-    ("alpha 0.05\nalpha 0.05\nhypotheses H1 H2\np 0.025 0.026\nweights 1/2 1/2\n", 3, "malformed: line 2: unexpected\n"),
-    ("alpha 0.05\nhypotheses H1 H2\np 0.025 0.026\np 0.025 0.026\nweights 1/2 1/2\n", 3, "malformed: line 4: unexpected\n"),
-    ("alpha 0.05\nhypotheses H1 H2\np 0.025 0.026\nedge H1 H2 1\nweights 1/2 1/2\n", 3, "malformed: line 4: unexpected\n"),
-    ("alpha 0.05\nhypotheses H1 H2\np 0.025 0.026\nweights 1/2 1/2\nedge H1 H2 1\nweights 1/2 1/2\n", 3, "malformed: line 6: unexpected\n"),
+    (
+        "alpha 0.05\nhypotheses H1\n",
+        3,
+        "malformed: line 3: ended\n",
+    ),
+    (
+        "alpha 0.05\nhypotheses H1 H2\np 0.025 0.026\n",
+        3,
+        "malformed: line 4: ended\n",
+    ),
+    (
+        "alpha 0.05\nhypotheses H1 H2\np 0.025 0.026\nweights 1/2 1/2\nend\n",
+        3,
+        "malformed: line 5: unexpected\n",
+    ),
+    (
+        "hypotheses H1 H2\np 0.025 0.026\nweights 1/2 1/2\n",
+        3,
+        "malformed: line 1: unexpected\n",
+    ),
+    (
+        "hypotheses H1 H2\nalpha 0.05\np 0.025 0.026\nweights 1/2 1/2\n",
+        3,
+        "malformed: line 1: unexpected\n",
+    ),
+    (
+        "alpha 0.05\nhypotheses H1 H2\nweights 1/2 1/2\np 0.025 0.026\n",
+        3,
+        "malformed: line 4: unexpected\n",
+    ),
+    (
+        "alpha 0.05\np 0.025 0.026\nhypotheses H1 H2\nweights 1/2 1/2\n",
+        3,
+        "malformed: line 2: unexpected\n",
+    ),
+    (
+        "alpha 0.05\nalpha 0.05\nhypotheses H1 H2\np 0.025 0.026\nweights 1/2 1/2\n",
+        3,
+        "malformed: line 2: unexpected\n",
+    ),
+    (
+        "alpha 0.05\nhypotheses H1 H2\np 0.025 0.026\np 0.025 0.026\nweights 1/2 1/2\n",
+        3,
+        "malformed: line 4: unexpected\n",
+    ),
+    (
+        "alpha 0.05\nhypotheses H1 H2\np 0.025 0.026\nedge H1 H2 1\nweights 1/2 1/2\n",
+        3,
+        "malformed: line 4: unexpected\n",
+    ),
+    (
+        "alpha 0.05\nhypotheses H1 H2\np 0.025 0.026\nweights 1/2 1/2\nedge H1 H2 1\nweights 1/2 1/2\n",
+        3,
+        "malformed: line 6: unexpected\n",
+    ),
     // Other first words.
-    ("level 0.05\nhypotheses H1 H2\np 0.025 0.026\nweights 1/2 1/2\n", 3, "malformed: line 1: unexpected\n"),
-    ("alpha 0.05\nhypothesis H1 H2\np 0.025 0.026\nweights 1/2 1/2\n", 3, "malformed: line 2: unexpected\n"),
-    ("alpha 0.05\nhypotheses H1 H2\np: 0.025 0.026\nweights 1/2 1/2\n", 3, "malformed: line 3: unexpected\n"),
-    ("\nalpha 0.05\n# names\nhypotheses H1 H2\n\np 0.025 0.026\nweight 1/2 1/2\n", 3, "malformed: line 7: unexpected\n"),
-    ("Alpha 0.05\nhypotheses H1 H2\np 0.025 0.026\nweights 1/2 1/2\n", 3, "malformed: line 1: unexpected\n"),
-    ("alpha 0.05\nHYPOTHESES H1 H2\np 0.025 0.026\nweights 1/2 1/2\n", 3, "malformed: line 2: unexpected\n"),
-    ("alpha 0.05\nhypotheses H1 H2\nP 0.025 0.026\nweights 1/2 1/2\n", 3, "malformed: line 3: unexpected\n"),
+    (
+        "level 0.05\nhypotheses H1 H2\np 0.025 0.026\nweights 1/2 1/2\n",
+        3,
+        "malformed: line 1: unexpected\n",
+    ),
+    (
+        "alpha 0.05\nhypothesis H1 H2\np 0.025 0.026\nweights 1/2 1/2\n",
+        3,
+        "malformed: line 2: unexpected\n",
+    ),
+    (
+        "alpha 0.05\nhypotheses H1 H2\np: 0.025 0.026\nweights 1/2 1/2\n",
+        3,
+        "malformed: line 3: unexpected\n",
+    ),
+    (
+        "\nalpha 0.05\n# names\nhypotheses H1 H2\n\np 0.025 0.026\nweight 1/2 1/2\n",
+        3,
+        "malformed: line 7: unexpected\n",
+    ),
+    (
+        "Alpha 0.05\nhypotheses H1 H2\np 0.025 0.026\nweights 1/2 1/2\n",
+        3,
+        "malformed: line 1: unexpected\n",
+    ),
+    (
+        "alpha 0.05\nHYPOTHESES H1 H2\np 0.025 0.026\nweights 1/2 1/2\n",
+        3,
+        "malformed: line 2: unexpected\n",
+    ),
+    (
+        "alpha 0.05\nhypotheses H1 H2\nP 0.025 0.026\nweights 1/2 1/2\n",
+        3,
+        "malformed: line 3: unexpected\n",
+    ),
 ];
 
 /// First words of lines that come later in the history of the form.
 const LATER: [Row; 4] = [
-    ("alpha 0.05\nhypotheses H1\np 0\ncomponent 1/2\nweights 1\n", 3, "malformed: line 4: unexpected\n"),
-    ("alpha 0.05\nhypotheses H1\nweights 1\nstages 2\n", 3, "malformed: line 4: unexpected\n"),
-    ("alpha 0.05\nhypotheses H1\nweights 1\nspend H1 1\n", 3, "malformed: line 4: unexpected\n"),
-    ("alpha 0.05\nhypotheses H1\nweights 1\narrive H1 1 0.01\n", 3, "malformed: line 4: unexpected\n"),
+    (
+        "alpha 0.05\nhypotheses H1\np 0\ncomponent 1/2\nweights 1\n",
+        3,
+        "malformed: line 4: unexpected\n",
+    ),
+    (
+        "alpha 0.05\nhypotheses H1\nweights 1\nstages 2\n",
+        3,
+        "malformed: line 4: unexpected\n",
+    ),
+    (
+        "alpha 0.05\nhypotheses H1\nweights 1\nspend H1 1\n",
+        3,
+        "malformed: line 4: unexpected\n",
+    ),
+    (
+        "alpha 0.05\nhypotheses H1\nweights 1\narrive H1 1 0.01\n",
+        3,
+        "malformed: line 4: unexpected\n",
+    ),
 ];
 
 /// Lines with other words than they must have.
 const WORDS: [Row; 15] = [
-    ("alpha\nhypotheses H1\np 0.01\nweights 1\n", 3, "malformed: line 1: words\n"),
-    ("alpha \nhypotheses H1\np 0.01\nweights 1\n", 3, "malformed: line 1: words\n"),
-    ("alpha 0.05 0.05\nhypotheses H1\np 0.01\nweights 1\n", 3, "malformed: line 1: words\n"),
-    ("alpha 0.05 # level\nhypotheses H1\np 0.01\nweights 1\n", 3, "malformed: line 1: words\n"),
+    (
+        "alpha\nhypotheses H1\np 0.01\nweights 1\n",
+        3,
+        "malformed: line 1: words\n",
+    ),
+    (
+        "alpha \nhypotheses H1\np 0.01\nweights 1\n",
+        3,
+        "malformed: line 1: words\n",
+    ),
+    (
+        "alpha 0.05 0.05\nhypotheses H1\np 0.01\nweights 1\n",
+        3,
+        "malformed: line 1: words\n",
+    ),
+    (
+        "alpha 0.05 # level\nhypotheses H1\np 0.01\nweights 1\n",
+        3,
+        "malformed: line 1: words\n",
+    ),
     // The number of words comes before the numerals.
-    ("alpha x y\nhypotheses H1\np 0.01\nweights 1\n", 3, "malformed: line 1: words\n"),
-    ("alpha 0.05\nhypotheses H1\np\nweights 1\n", 3, "malformed: line 3: words\n"),
-    ("alpha 0.05\nhypotheses\np\nweights\n", 3, "malformed: line 3: words\n"),
-    ("alpha 0.05\nhypotheses H1 H2\nweights 1/2 1/2\nedge\n", 3, "malformed: line 4: words\n"),
-    ("alpha 0.05\nhypotheses H1 H2\nweights 1/2 1/2\nedge H1 H2\n", 3, "malformed: line 4: words\n"),
-    ("alpha 0.05\nhypotheses H1 H2\nweights 1/2 1/2\nedge H1 1\n", 3, "malformed: line 4: words\n"),
-    ("alpha 0.05\nhypotheses H1 H2\nweights 1/2 1/2\nedge H1 H2 1/2 3\n", 3, "malformed: line 4: words\n"),
+    (
+        "alpha x y\nhypotheses H1\np 0.01\nweights 1\n",
+        3,
+        "malformed: line 1: words\n",
+    ),
+    (
+        "alpha 0.05\nhypotheses H1\np\nweights 1\n",
+        3,
+        "malformed: line 3: words\n",
+    ),
+    (
+        "alpha 0.05\nhypotheses\np\nweights\n",
+        3,
+        "malformed: line 3: words\n",
+    ),
+    (
+        "alpha 0.05\nhypotheses H1 H2\nweights 1/2 1/2\nedge\n",
+        3,
+        "malformed: line 4: words\n",
+    ),
+    (
+        "alpha 0.05\nhypotheses H1 H2\nweights 1/2 1/2\nedge H1 H2\n",
+        3,
+        "malformed: line 4: words\n",
+    ),
+    (
+        "alpha 0.05\nhypotheses H1 H2\nweights 1/2 1/2\nedge H1 1\n",
+        3,
+        "malformed: line 4: words\n",
+    ),
+    (
+        "alpha 0.05\nhypotheses H1 H2\nweights 1/2 1/2\nedge H1 H2 1/2 3\n",
+        3,
+        "malformed: line 4: words\n",
+    ),
     // It comes before the names, too.
-    ("alpha 0.05\nhypotheses H1 H2\nweights 1/2 1/2\nedge H3 H4\n", 3, "malformed: line 4: words\n"),
-    ("alpha 0.05\nhypotheses H1 H2\nweights 1/2 1/2\nedge H1 H3 1\n", 3, "malformed: line 4: unknown name\n"),
-    ("alpha 0.05\nhypotheses H1 H2\nweights 1/2 1/2\n\nedge H 1 x\n", 3, "malformed: line 5: unknown name\n"),
-    ("alpha 0.05\nhypotheses H1 H2\nweights 1/2 1/2\nedge h1 H2 1\n", 3, "malformed: line 4: unknown name\n"),
+    (
+        "alpha 0.05\nhypotheses H1 H2\nweights 1/2 1/2\nedge H3 H4\n",
+        3,
+        "malformed: line 4: words\n",
+    ),
+    (
+        "alpha 0.05\nhypotheses H1 H2\nweights 1/2 1/2\nedge H1 H3 1\n",
+        3,
+        "malformed: line 4: unknown name\n",
+    ),
+    (
+        "alpha 0.05\nhypotheses H1 H2\nweights 1/2 1/2\n\nedge H 1 x\n",
+        3,
+        "malformed: line 5: unknown name\n",
+    ),
+    (
+        "alpha 0.05\nhypotheses H1 H2\nweights 1/2 1/2\nedge h1 H2 1\n",
+        3,
+        "malformed: line 4: unknown name\n",
+    ),
 ];
 
 /// Words that are no numerals which can be taken.
 const NUMERALS: [Row; 31] = [
-    ("alpha0.05\nhypotheses H1\np 0.01\nweights 1\n", 3, "malformed: line 1: unexpected\n"),
-    ("alpha 1/0\nhypotheses H1\np 0.01\nweights 1\n", 3, "malformed: line 1: zero denominator\n"),
-    ("alpha 5%\nhypotheses H1\np 0.01\nweights 1\n", 3, "malformed: line 1: number\n"),
-    ("alpha 0.O5\nhypotheses H1\np 0.01\nweights 1\n", 3, "malformed: line 1: number\n"),
-    ("alpha 1/20.0\nhypotheses H1\np 0.01\nweights 1\n", 3, "malformed: line 1: number\n"),
-    ("alpha 1/2e1\nhypotheses H1\np 0.01\nweights 1\n", 3, "malformed: line 1: number\n"),
-    ("alpha 0.05\0\nhypotheses H1\np 0.01\nweights 1\n", 3, "malformed: line 1: number\n"),
-    ("\u{feff}alpha 0.05\nhypotheses H1\np 0.01\nweights 1\n", 3, "malformed: line 1: unexpected\n"),
+    (
+        "alpha0.05\nhypotheses H1\np 0.01\nweights 1\n",
+        3,
+        "malformed: line 1: unexpected\n",
+    ),
+    (
+        "alpha 1/0\nhypotheses H1\np 0.01\nweights 1\n",
+        3,
+        "malformed: line 1: zero denominator\n",
+    ),
+    (
+        "alpha 5%\nhypotheses H1\np 0.01\nweights 1\n",
+        3,
+        "malformed: line 1: number\n",
+    ),
+    (
+        "alpha 0.O5\nhypotheses H1\np 0.01\nweights 1\n",
+        3,
+        "malformed: line 1: number\n",
+    ),
+    (
+        "alpha 1/20.0\nhypotheses H1\np 0.01\nweights 1\n",
+        3,
+        "malformed: line 1: number\n",
+    ),
+    (
+        "alpha 1/2e1\nhypotheses H1\np 0.01\nweights 1\n",
+        3,
+        "malformed: line 1: number\n",
+    ),
+    (
+        "alpha 0.05\0\nhypotheses H1\np 0.01\nweights 1\n",
+        3,
+        "malformed: line 1: number\n",
+    ),
+    (
+        "\u{feff}alpha 0.05\nhypotheses H1\np 0.01\nweights 1\n",
+        3,
+        "malformed: line 1: unexpected\n",
+    ),
     // One of two carriage returns stays.
-    ("alpha 0.05\r\r\nhypotheses H1\np 0.01\nweights 1\n", 3, "malformed: line 1: number\n"),
-    ("alpha 0.05\nhypotheses H1\np 0.01\rweights 1\n", 3, "malformed: line 3: number\n"),
-    ("alpha 0.05\nhypotheses H1\np 100000000000000000000000000000000000000/400000000000000000000000000000000000000\nweights 1\n", 4, "limit: line 3: digits\n"),
-    ("alpha 0.05\nhypotheses H1\np 1e-39\nweights 1\n", 4, "limit: line 3: digits\n"),
-    ("alpha 0.05\nhypotheses H1\np 0/0\nweights 1\n", 3, "malformed: line 3: zero denominator\n"),
-    ("alpha 0.05\nhypotheses H1\np 0x1\nweights 1\n", 3, "malformed: line 3: number\n"),
-    ("alpha 0.05\nhypotheses H1\np -\nweights 1\n", 3, "malformed: line 3: number\n"),
-    ("alpha 0.05\nhypotheses H1\np .\nweights 1\n", 3, "malformed: line 3: number\n"),
-    ("alpha 0.05\nhypotheses H1\np 0,01\nweights 1\n", 3, "malformed: line 3: number\n"),
-    ("alpha 0.05\nhypotheses H1\np 1e-\nweights 1\n", 3, "malformed: line 3: number\n"),
-    ("alpha 0.05\nhypotheses H1\np <0.001\nweights 1\n", 3, "malformed: line 3: number\n"),
-    ("alpha 0.05\nhypotheses H1 H2\np 0.01 NA\nweights 1/2 1/2\n", 3, "malformed: line 3: number\n"),
+    (
+        "alpha 0.05\r\r\nhypotheses H1\np 0.01\nweights 1\n",
+        3,
+        "malformed: line 1: number\n",
+    ),
+    (
+        "alpha 0.05\nhypotheses H1\np 0.01\rweights 1\n",
+        3,
+        "malformed: line 3: number\n",
+    ),
+    (
+        "alpha 0.05\nhypotheses H1\np 100000000000000000000000000000000000000/400000000000000000000000000000000000000\nweights 1\n",
+        4,
+        "limit: line 3: digits\n",
+    ),
+    (
+        "alpha 0.05\nhypotheses H1\np 1e-39\nweights 1\n",
+        4,
+        "limit: line 3: digits\n",
+    ),
+    (
+        "alpha 0.05\nhypotheses H1\np 0/0\nweights 1\n",
+        3,
+        "malformed: line 3: zero denominator\n",
+    ),
+    (
+        "alpha 0.05\nhypotheses H1\np 0x1\nweights 1\n",
+        3,
+        "malformed: line 3: number\n",
+    ),
+    (
+        "alpha 0.05\nhypotheses H1\np -\nweights 1\n",
+        3,
+        "malformed: line 3: number\n",
+    ),
+    (
+        "alpha 0.05\nhypotheses H1\np .\nweights 1\n",
+        3,
+        "malformed: line 3: number\n",
+    ),
+    (
+        "alpha 0.05\nhypotheses H1\np 0,01\nweights 1\n",
+        3,
+        "malformed: line 3: number\n",
+    ),
+    (
+        "alpha 0.05\nhypotheses H1\np 1e-\nweights 1\n",
+        3,
+        "malformed: line 3: number\n",
+    ),
+    (
+        "alpha 0.05\nhypotheses H1\np <0.001\nweights 1\n",
+        3,
+        "malformed: line 3: number\n",
+    ),
+    (
+        "alpha 0.05\nhypotheses H1 H2\np 0.01 NA\nweights 1/2 1/2\n",
+        3,
+        "malformed: line 3: number\n",
+    ),
     // The first word that can't be taken decides.
-    ("alpha 0.05\nhypotheses H1 H2\np 1/0 NA\nweights 1/2 1/2\n", 3, "malformed: line 3: zero denominator\n"),
-    ("alpha 0.05\nhypotheses H1\np 0.01\nweights 1/0\n", 3, "malformed: line 4: zero denominator\n"),
-    ("alpha 0.05\nhypotheses H1\np 0.01\nweights 1/-2\n", 3, "malformed: line 4: number\n"),
-    ("alpha 0.05\nhypotheses H1\np 0.01\nweights 1/2/1\n", 3, "malformed: line 4: number\n"),
-    ("alpha 0.05\nhypotheses H1 H2\np 0.01 0.02\nweights 1/2 half\n", 3, "malformed: line 4: number\n"),
-    ("alpha 0.05\nhypotheses H1\np 0.01\nweights 1e38\n", 4, "limit: line 4: digits\n"),
-    ("alpha 0.05\nhypotheses H1 H2\nweights 1/2 1/2\nedge H1 H2 1/0\n", 3, "malformed: line 4: zero denominator\n"),
-    ("alpha 0.05\nhypotheses H1 H2\nweights 1/2 1/2\nedge H1 H2 all\n", 3, "malformed: line 4: number\n"),
+    (
+        "alpha 0.05\nhypotheses H1 H2\np 1/0 NA\nweights 1/2 1/2\n",
+        3,
+        "malformed: line 3: zero denominator\n",
+    ),
+    (
+        "alpha 0.05\nhypotheses H1\np 0.01\nweights 1/0\n",
+        3,
+        "malformed: line 4: zero denominator\n",
+    ),
+    (
+        "alpha 0.05\nhypotheses H1\np 0.01\nweights 1/-2\n",
+        3,
+        "malformed: line 4: number\n",
+    ),
+    (
+        "alpha 0.05\nhypotheses H1\np 0.01\nweights 1/2/1\n",
+        3,
+        "malformed: line 4: number\n",
+    ),
+    (
+        "alpha 0.05\nhypotheses H1 H2\np 0.01 0.02\nweights 1/2 half\n",
+        3,
+        "malformed: line 4: number\n",
+    ),
+    (
+        "alpha 0.05\nhypotheses H1\np 0.01\nweights 1e38\n",
+        4,
+        "limit: line 4: digits\n",
+    ),
+    (
+        "alpha 0.05\nhypotheses H1 H2\nweights 1/2 1/2\nedge H1 H2 1/0\n",
+        3,
+        "malformed: line 4: zero denominator\n",
+    ),
+    (
+        "alpha 0.05\nhypotheses H1 H2\nweights 1/2 1/2\nedge H1 H2 all\n",
+        3,
+        "malformed: line 4: number\n",
+    ),
     // Epsilon isn't taken yet.
-    ("alpha 0.05\nhypotheses H1 H2\nweights 1/2 1/2\nedge H1 H2 \\epsilon\n", 3, "malformed: line 4: number\n"),
-    ("alpha 0.05\nhypotheses H1 H2\nweights 1/2 1/2\nedge H1 H2 1-\\epsilon\n", 3, "malformed: line 4: number\n"),
-    ("alpha 0.05\nhypotheses H1 H2\nweights 1/2 1/2\nedge H1 H2 .00000000000000000000000000000000000001234567890123456789012345678901234567\n", 4, "limit: line 4: digits\n"),
+    (
+        "alpha 0.05\nhypotheses H1 H2\nweights 1/2 1/2\nedge H1 H2 \\epsilon\n",
+        3,
+        "malformed: line 4: number\n",
+    ),
+    (
+        "alpha 0.05\nhypotheses H1 H2\nweights 1/2 1/2\nedge H1 H2 1-\\epsilon\n",
+        3,
+        "malformed: line 4: number\n",
+    ),
+    (
+        "alpha 0.05\nhypotheses H1 H2\nweights 1/2 1/2\nedge H1 H2 .00000000000000000000000000000000000001234567890123456789012345678901234567\n",
+        4,
+        "limit: line 4: digits\n",
+    ),
 ];
 
 /// Names and levels that no case has.
 const NAMES_AND_LEVELS: [Row; 21] = [
-    ("alpha 0.05\nhypotheses\nweights\n", 3, "malformed: case: no hypothesis\n"),
-    ("alpha 0.05\nhypotheses \np 0.025\nweights 1/2\n", 3, "malformed: case: no hypothesis\n"),
-    ("alpha 0.05\nhypotheses H1 H1\np 0 0\nweights 0.6 0.5\n", 3, "malformed: case: duplicate name 2\n"),
-    ("alpha 0.05\nhypotheses H1 H2 H1\np 0.025 0.026 0.027\nweights 1/3 1/3 1/3\n", 3, "malformed: case: duplicate name 3\n"),
-    ("alpha 0.05\nhypotheses abcdefghijklmnopqrstuvwxyz0123456\np 0.025\nweights 1\n", 3, "malformed: case: name 1\n"),
-    ("alpha 0.05\nhypotheses H*1\np 0.025\nweights 1\n", 3, "malformed: case: name 1\n"),
-    ("alpha 0.05\nhypotheses H/1\np 0.025\nweights 1\n", 3, "malformed: case: name 1\n"),
-    ("alpha 0.05\nhypotheses H1,H2\np 0.025\nweights 1\n", 3, "malformed: case: name 1\n"),
-    ("alpha 0.05\nhypotheses +\np 0.025\nweights 1\n", 3, "malformed: case: name 1\n"),
-    ("alpha 0.05\nhypotheses H\u{e9}\np 0.025\nweights 1\n", 3, "malformed: case: name 1\n"),
-    ("alpha 0.05\nhypotheses H1 \"H2\"\np 0.025 0.026\nweights 1/2 1/2\n", 3, "malformed: case: name 2\n"),
+    (
+        "alpha 0.05\nhypotheses\nweights\n",
+        3,
+        "malformed: case: no hypothesis\n",
+    ),
+    (
+        "alpha 0.05\nhypotheses \np 0.025\nweights 1/2\n",
+        3,
+        "malformed: case: no hypothesis\n",
+    ),
+    (
+        "alpha 0.05\nhypotheses H1 H1\np 0 0\nweights 0.6 0.5\n",
+        3,
+        "malformed: case: duplicate name 2\n",
+    ),
+    (
+        "alpha 0.05\nhypotheses H1 H2 H1\np 0.025 0.026 0.027\nweights 1/3 1/3 1/3\n",
+        3,
+        "malformed: case: duplicate name 3\n",
+    ),
+    (
+        "alpha 0.05\nhypotheses abcdefghijklmnopqrstuvwxyz0123456\np 0.025\nweights 1\n",
+        3,
+        "malformed: case: name 1\n",
+    ),
+    (
+        "alpha 0.05\nhypotheses H*1\np 0.025\nweights 1\n",
+        3,
+        "malformed: case: name 1\n",
+    ),
+    (
+        "alpha 0.05\nhypotheses H/1\np 0.025\nweights 1\n",
+        3,
+        "malformed: case: name 1\n",
+    ),
+    (
+        "alpha 0.05\nhypotheses H1,H2\np 0.025\nweights 1\n",
+        3,
+        "malformed: case: name 1\n",
+    ),
+    (
+        "alpha 0.05\nhypotheses +\np 0.025\nweights 1\n",
+        3,
+        "malformed: case: name 1\n",
+    ),
+    (
+        "alpha 0.05\nhypotheses H\u{e9}\np 0.025\nweights 1\n",
+        3,
+        "malformed: case: name 1\n",
+    ),
+    (
+        "alpha 0.05\nhypotheses H1 \"H2\"\np 0.025 0.026\nweights 1/2 1/2\n",
+        3,
+        "malformed: case: name 2\n",
+    ),
     // The form of all names comes before names that stand twice.
-    ("alpha 0.05\nhypotheses H1 H1 H*\np 0 0 0\nweights 0 0 0\n", 3, "malformed: case: name 3\n"),
-    ("alpha 0\nhypotheses H1\np 0\nweights 1\n", 3, "malformed: case: alpha\n"),
-    ("alpha 0/20\nhypotheses H1\np 0\nweights 1\n", 3, "malformed: case: alpha\n"),
-    ("alpha -0.05\nhypotheses H1\np 0\nweights 1\n", 3, "malformed: case: alpha\n"),
-    ("alpha 20/1\nhypotheses H1\np 0.01\nweights 1\n", 3, "malformed: case: alpha\n"),
-    ("alpha 10001/10000\nhypotheses H1\np 0.01\nweights 1\n", 4, "limit: case: part alpha\n"),
-    ("alpha 1.0001\nhypotheses H1\np 0.01\nweights 1\n", 4, "limit: case: part alpha\n"),
-    ("alpha 1/10001\nhypotheses H1\np 0\nweights 1\n", 4, "limit: case: part alpha\n"),
-    ("alpha 0.02281\nhypotheses H1\np 0.01\nweights 1\n", 4, "limit: case: part alpha\n"),
-    ("alpha 1e-5\nhypotheses H1\np 0\nweights 1\n", 4, "limit: case: part alpha\n"),
+    (
+        "alpha 0.05\nhypotheses H1 H1 H*\np 0 0 0\nweights 0 0 0\n",
+        3,
+        "malformed: case: name 3\n",
+    ),
+    (
+        "alpha 0\nhypotheses H1\np 0\nweights 1\n",
+        3,
+        "malformed: case: alpha\n",
+    ),
+    (
+        "alpha 0/20\nhypotheses H1\np 0\nweights 1\n",
+        3,
+        "malformed: case: alpha\n",
+    ),
+    (
+        "alpha -0.05\nhypotheses H1\np 0\nweights 1\n",
+        3,
+        "malformed: case: alpha\n",
+    ),
+    (
+        "alpha 20/1\nhypotheses H1\np 0.01\nweights 1\n",
+        3,
+        "malformed: case: alpha\n",
+    ),
+    (
+        "alpha 10001/10000\nhypotheses H1\np 0.01\nweights 1\n",
+        4,
+        "limit: case: part alpha\n",
+    ),
+    (
+        "alpha 1.0001\nhypotheses H1\np 0.01\nweights 1\n",
+        4,
+        "limit: case: part alpha\n",
+    ),
+    (
+        "alpha 1/10001\nhypotheses H1\np 0\nweights 1\n",
+        4,
+        "limit: case: part alpha\n",
+    ),
+    (
+        "alpha 0.02281\nhypotheses H1\np 0.01\nweights 1\n",
+        4,
+        "limit: case: part alpha\n",
+    ),
+    (
+        "alpha 1e-5\nhypotheses H1\np 0\nweights 1\n",
+        4,
+        "limit: case: part alpha\n",
+    ),
 ];
 
 /// Weights and p-values that no case has, and cases without p-values.
 const WEIGHTS_AND_P_VALUES: [Row; 25] = [
-    ("alpha 0.05\nhypotheses H1\np 0.01\nweights\n", 3, "malformed: case: weight count component 1\n"),
-    ("alpha 0.05\nhypotheses H1 H2\np 0.025 0.026\nweights 1/2\n", 3, "malformed: case: weight count component 1\n"),
-    ("alpha 0.05\nhypotheses H1 H2\np 0.025 0.026\nweights 1/3 1/3 1/3\n", 3, "malformed: case: weight count component 1\n"),
-    ("alpha 0.05\nhypotheses H1\np 0.01\nweights -1e-18\n", 3, "malformed: case: weight of H1 component 1\n"),
-    ("alpha 0.05\nhypotheses H1 H2 H3\np 0.01 0.01 0.01\nweights 1 -1/2 1/2\n", 3, "malformed: case: weight of H2 component 1\n"),
-    ("alpha 0.05\nhypotheses H1\np 0.01\nweights 1.000001\n", 3, "malformed: case: weight sum component 1\n"),
-    ("alpha 0.05\nhypotheses H1 H2\np 0 0\nweights 0.6 0.5\n", 3, "malformed: case: weight sum component 1\n"),
-    ("alpha 0.05\nhypotheses H1 H2\np 0.025 0.026\nweights 0.5 0.500001\n", 3, "malformed: case: weight sum component 1\n"),
-    ("alpha 0.05\nhypotheses A B C D E F\np 0 0 0 0 0 0\nweights 0.166666666666667 0.166666666666667 0.166666666666667 0.166666666666667 0.166666666666667 0.166666666666667\n", 3, "malformed: case: weight sum component 1\n"),
-    ("alpha 0.05\nhypotheses H1\np 0.01\nweights 1e-19\n", 4, "limit: case: part weight of H1 component 1\n"),
-    ("alpha 0.05\nhypotheses H1 H2\np 0.01 0.01\nweights 0 1/1000000000000000001\n", 4, "limit: case: part weight of H2 component 1\n"),
+    (
+        "alpha 0.05\nhypotheses H1\np 0.01\nweights\n",
+        3,
+        "malformed: case: weight count component 1\n",
+    ),
+    (
+        "alpha 0.05\nhypotheses H1 H2\np 0.025 0.026\nweights 1/2\n",
+        3,
+        "malformed: case: weight count component 1\n",
+    ),
+    (
+        "alpha 0.05\nhypotheses H1 H2\np 0.025 0.026\nweights 1/3 1/3 1/3\n",
+        3,
+        "malformed: case: weight count component 1\n",
+    ),
+    (
+        "alpha 0.05\nhypotheses H1\np 0.01\nweights -1e-18\n",
+        3,
+        "malformed: case: weight of H1 component 1\n",
+    ),
+    (
+        "alpha 0.05\nhypotheses H1 H2 H3\np 0.01 0.01 0.01\nweights 1 -1/2 1/2\n",
+        3,
+        "malformed: case: weight of H2 component 1\n",
+    ),
+    (
+        "alpha 0.05\nhypotheses H1\np 0.01\nweights 1.000001\n",
+        3,
+        "malformed: case: weight sum component 1\n",
+    ),
+    (
+        "alpha 0.05\nhypotheses H1 H2\np 0 0\nweights 0.6 0.5\n",
+        3,
+        "malformed: case: weight sum component 1\n",
+    ),
+    (
+        "alpha 0.05\nhypotheses H1 H2\np 0.025 0.026\nweights 0.5 0.500001\n",
+        3,
+        "malformed: case: weight sum component 1\n",
+    ),
+    (
+        "alpha 0.05\nhypotheses A B C D E F\np 0 0 0 0 0 0\nweights 0.166666666666667 0.166666666666667 0.166666666666667 0.166666666666667 0.166666666666667 0.166666666666667\n",
+        3,
+        "malformed: case: weight sum component 1\n",
+    ),
+    (
+        "alpha 0.05\nhypotheses H1\np 0.01\nweights 1e-19\n",
+        4,
+        "limit: case: part weight of H1 component 1\n",
+    ),
+    (
+        "alpha 0.05\nhypotheses H1 H2\np 0.01 0.01\nweights 0 1/1000000000000000001\n",
+        4,
+        "limit: case: part weight of H2 component 1\n",
+    ),
     // A weight past the last hypothesis has its place for a name.
-    ("alpha 0.05\nhypotheses H1\np 0.01\nweights 0 1e-19\n", 4, "limit: case: part weight of 2 component 1\n"),
+    (
+        "alpha 0.05\nhypotheses H1\np 0.01\nweights 0 1e-19\n",
+        4,
+        "limit: case: part weight of 2 component 1\n",
+    ),
     // A sum whose denominator is the product of the three.
-    ("alpha 0.05\nhypotheses H1 H2 H3\np 0 0 0\nweights 1/1000000000000000000 1/999999999999999999 1/999999999999999997\n", 5, "too wide: reading: component 1 weight sum add\n"),
-    ("alpha 0.05\nhypotheses H1 H2\np 0.025\nweights 1/2 1/2\n", 3, "malformed: case: p count 1\n"),
-    ("alpha 0.05\nhypotheses H1 H2\np 0.025 0.026 0.027\nweights 1/2 1/2\n", 3, "malformed: case: p count 3\n"),
-    ("alpha 0.05\nhypotheses H1\np -0.01\nweights 1\n", 3, "malformed: case: p of H1\n"),
-    ("alpha 0.05\nhypotheses H1\np -1e-30\nweights 1\n", 3, "malformed: case: p of H1\n"),
-    ("alpha 0.05\nhypotheses H1\np 1.000001\nweights 1\n", 3, "malformed: case: p of H1\n"),
-    ("alpha 0.05\nhypotheses H1 H2\np 0.01 3/2\nweights 1/2 1/2\n", 3, "malformed: case: p of H2\n"),
-    ("alpha 0.05\nhypotheses H1\np 1e-31\nweights 1\n", 4, "limit: case: part p of H1\n"),
-    ("alpha 0.05\nhypotheses H1\np 1/1000000000000000000000000000001\nweights 1\n", 4, "limit: case: part p of H1\n"),
-    ("alpha 0.05\nhypotheses H1\np 0 1e-31\nweights 1\n", 4, "limit: case: part p of 2\n"),
+    (
+        "alpha 0.05\nhypotheses H1 H2 H3\np 0 0 0\nweights 1/1000000000000000000 1/999999999999999999 1/999999999999999997\n",
+        5,
+        "too wide: reading: component 1 weight sum add\n",
+    ),
+    (
+        "alpha 0.05\nhypotheses H1 H2\np 0.025\nweights 1/2 1/2\n",
+        3,
+        "malformed: case: p count 1\n",
+    ),
+    (
+        "alpha 0.05\nhypotheses H1 H2\np 0.025 0.026 0.027\nweights 1/2 1/2\n",
+        3,
+        "malformed: case: p count 3\n",
+    ),
+    (
+        "alpha 0.05\nhypotheses H1\np -0.01\nweights 1\n",
+        3,
+        "malformed: case: p of H1\n",
+    ),
+    (
+        "alpha 0.05\nhypotheses H1\np -1e-30\nweights 1\n",
+        3,
+        "malformed: case: p of H1\n",
+    ),
+    (
+        "alpha 0.05\nhypotheses H1\np 1.000001\nweights 1\n",
+        3,
+        "malformed: case: p of H1\n",
+    ),
+    (
+        "alpha 0.05\nhypotheses H1 H2\np 0.01 3/2\nweights 1/2 1/2\n",
+        3,
+        "malformed: case: p of H2\n",
+    ),
+    (
+        "alpha 0.05\nhypotheses H1\np 1e-31\nweights 1\n",
+        4,
+        "limit: case: part p of H1\n",
+    ),
+    (
+        "alpha 0.05\nhypotheses H1\np 1/1000000000000000000000000000001\nweights 1\n",
+        4,
+        "limit: case: part p of H1\n",
+    ),
+    (
+        "alpha 0.05\nhypotheses H1\np 0 1e-31\nweights 1\n",
+        4,
+        "limit: case: part p of 2\n",
+    ),
     // A weight above the limit comes before a p-value above it, and both before the number of weights.
-    ("alpha 0.05\nhypotheses H1\np 1e-31\nweights 1 1e-19\n", 4, "limit: case: part weight of 2 component 1\n"),
+    (
+        "alpha 0.05\nhypotheses H1\np 1e-31\nweights 1 1e-19\n",
+        4,
+        "limit: case: part weight of 2 component 1\n",
+    ),
     // No p-values.
-    ("alpha 0.05\nhypotheses H1\nweights 1\n", 3, "malformed: kind\n"),
-    ("alpha 0.05\nhypotheses H1 H2\nweights 1/2 1/2\nedge H1 H2 1\n", 3, "malformed: kind\n"),
+    (
+        "alpha 0.05\nhypotheses H1\nweights 1\n",
+        3,
+        "malformed: kind\n",
+    ),
+    (
+        "alpha 0.05\nhypotheses H1 H2\nweights 1/2 1/2\nedge H1 H2 1\n",
+        3,
+        "malformed: kind\n",
+    ),
 ];
 
 /// Edges that no case has, and sums and runs that are too wide.
 const EDGES: [Row; 17] = [
-    ("alpha 0.05\nhypotheses H1 H2\np 0 0\nweights 1 0\nedge H1 H1 1/2\n", 3, "malformed: case: self edge of H1 component 1\n"),
-    ("alpha 0.05\nhypotheses H1 H2\np 0 0\nweights 1 0\nedge H1 H2 1/2\nedge H1 H2 1/2\n", 3, "malformed: case: repeated edge H1 H2 component 1\n"),
-    ("alpha 0.05\nhypotheses H1 H2\np 0 0\nweights 1 0\nedge H2 H1 0\nedge H1 H2 1\nedge H2 H1 0\n", 3, "malformed: case: repeated edge H2 H1 component 1\n"),
-    ("alpha 0.05\nhypotheses H1 H2\np 0 0\nweights 1 0\nedge H1 H2 -1/2\n", 3, "malformed: case: edge H1 H2 component 1\n"),
-    ("alpha 0.05\nhypotheses H1 H2\np 0 0\nweights 1 0\nedge H2 H1 1.000001\n", 3, "malformed: case: edge H2 H1 component 1\n"),
-    ("alpha 0.05\nhypotheses H1 H2 H3\np 0 0 0\nweights 1 0 0\nedge H1 H2 1/2\nedge H1 H3 0.500001\n", 3, "malformed: case: row sum of H1 component 1\n"),
-    ("alpha 0.05\nhypotheses H1 H2 H3\np 0 0 0\nweights 1 0 0\nedge H3 H2 2/3\nedge H3 H1 2/3\n", 3, "malformed: case: row sum of H3 component 1\n"),
-    ("alpha 0.05\nhypotheses H1 H2\np 0 0\nweights 1 0\nedge H1 H2 1e-19\n", 4, "limit: case: part edge H1 H2 component 1\n"),
-    ("alpha 0.05\nhypotheses H1 H2\np 0 0\nweights 1 0\nedge H2 H1 1/1000000000000000001\n", 4, "limit: case: part edge H2 H1 component 1\n"),
+    (
+        "alpha 0.05\nhypotheses H1 H2\np 0 0\nweights 1 0\nedge H1 H1 1/2\n",
+        3,
+        "malformed: case: self edge of H1 component 1\n",
+    ),
+    (
+        "alpha 0.05\nhypotheses H1 H2\np 0 0\nweights 1 0\nedge H1 H2 1/2\nedge H1 H2 1/2\n",
+        3,
+        "malformed: case: repeated edge H1 H2 component 1\n",
+    ),
+    (
+        "alpha 0.05\nhypotheses H1 H2\np 0 0\nweights 1 0\nedge H2 H1 0\nedge H1 H2 1\nedge H2 H1 0\n",
+        3,
+        "malformed: case: repeated edge H2 H1 component 1\n",
+    ),
+    (
+        "alpha 0.05\nhypotheses H1 H2\np 0 0\nweights 1 0\nedge H1 H2 -1/2\n",
+        3,
+        "malformed: case: edge H1 H2 component 1\n",
+    ),
+    (
+        "alpha 0.05\nhypotheses H1 H2\np 0 0\nweights 1 0\nedge H2 H1 1.000001\n",
+        3,
+        "malformed: case: edge H2 H1 component 1\n",
+    ),
+    (
+        "alpha 0.05\nhypotheses H1 H2 H3\np 0 0 0\nweights 1 0 0\nedge H1 H2 1/2\nedge H1 H3 0.500001\n",
+        3,
+        "malformed: case: row sum of H1 component 1\n",
+    ),
+    (
+        "alpha 0.05\nhypotheses H1 H2 H3\np 0 0 0\nweights 1 0 0\nedge H3 H2 2/3\nedge H3 H1 2/3\n",
+        3,
+        "malformed: case: row sum of H3 component 1\n",
+    ),
+    (
+        "alpha 0.05\nhypotheses H1 H2\np 0 0\nweights 1 0\nedge H1 H2 1e-19\n",
+        4,
+        "limit: case: part edge H1 H2 component 1\n",
+    ),
+    (
+        "alpha 0.05\nhypotheses H1 H2\np 0 0\nweights 1 0\nedge H2 H1 1/1000000000000000001\n",
+        4,
+        "limit: case: part edge H2 H1 component 1\n",
+    ),
     // Where a fault of a row stands beside one of a later row, the earlier row decides.
-    ("alpha 0.05\nhypotheses H1 H2\np 0 0\nweights 1 1/2\nedge H1 H1 1/2\n", 3, "malformed: case: weight sum component 1\n"),
-    ("alpha 0.05\nhypotheses H1 H2\np 0 0\nweights 1 0\nedge H1 H2 2\nedge H1 H2 2\n", 3, "malformed: case: repeated edge H1 H2 component 1\n"),
-    ("alpha 0.05\nhypotheses H1 H2 H3\np 0 0\nweights 1 0 0\nedge H1 H2 1\nedge H1 H3 1\n", 3, "malformed: case: row sum of H1 component 1\n"),
-    ("alpha 0.05\nhypotheses H1 H2 H3\np 0 0 2\nweights 1 0 0\nedge H1 H2 2\n", 3, "malformed: case: edge H1 H2 component 1\n"),
+    (
+        "alpha 0.05\nhypotheses H1 H2\np 0 0\nweights 1 1/2\nedge H1 H1 1/2\n",
+        3,
+        "malformed: case: weight sum component 1\n",
+    ),
+    (
+        "alpha 0.05\nhypotheses H1 H2\np 0 0\nweights 1 0\nedge H1 H2 2\nedge H1 H2 2\n",
+        3,
+        "malformed: case: repeated edge H1 H2 component 1\n",
+    ),
+    (
+        "alpha 0.05\nhypotheses H1 H2 H3\np 0 0\nweights 1 0 0\nedge H1 H2 1\nedge H1 H3 1\n",
+        3,
+        "malformed: case: row sum of H1 component 1\n",
+    ),
+    (
+        "alpha 0.05\nhypotheses H1 H2 H3\np 0 0 2\nweights 1 0 0\nedge H1 H2 2\n",
+        3,
+        "malformed: case: edge H1 H2 component 1\n",
+    ),
     // A row sum whose denominator is the product of the three.
-    ("alpha 0.05\nhypotheses H1 H2 H3 H4\np 0 0 0 0\nweights 1 0 0 0\nedge H1 H2 1/1000000000000000000\nedge H1 H3 1/999999999999999999\nedge H1 H4 1/999999999999999997\n", 5, "too wide: reading: component 1 row sum of H1 add\n"),
+    (
+        "alpha 0.05\nhypotheses H1 H2 H3 H4\np 0 0 0 0\nweights 1 0 0 0\nedge H1 H2 1/1000000000000000000\nedge H1 H3 1/999999999999999999\nedge H1 H4 1/999999999999999997\n",
+        5,
+        "too wide: reading: component 1 row sum of H1 add\n",
+    ),
     // Each weight has the denominators of all edges before it; the third product would have one near 10^54.
-    ("alpha 0.05\nhypotheses H1 H2 H3 H4\np 0 0 0 0\nweights 1 0 0 0\nedge H1 H2 1/1000000000000000000\nedge H2 H3 1/999999999999999999\nedge H3 H4 1/999999999999999997\n", 5, "too wide: step 3: component 1 weight of H4 mul\n"),
+    (
+        "alpha 0.05\nhypotheses H1 H2 H3 H4\np 0 0 0 0\nweights 1 0 0 0\nedge H1 H2 1/1000000000000000000\nedge H2 H3 1/999999999999999999\nedge H3 H4 1/999999999999999997\n",
+        5,
+        "too wide: step 3: component 1 weight of H4 mul\n",
+    ),
     // The run meets the wide removal only where it comes so far.
-    ("alpha 0.05\nhypotheses H1 H2 H3 H4\np 0 0 0 0\nweights 0 0 1 0\nedge H3 H4 1/1000000000000000000\nedge H4 H1 1/999999999999999999\nedge H1 H2 1/999999999999999997\n", 5, "too wide: step 3: component 1 weight of H2 mul\n"),
-    ("alpha 0.05\nhypotheses H1 H2\np 1e-31 2\nweights 2 -1\nedge H1 H1 2\n", 4, "limit: case: part p of H1\n"),
+    (
+        "alpha 0.05\nhypotheses H1 H2 H3 H4\np 0 0 0 0\nweights 0 0 1 0\nedge H3 H4 1/1000000000000000000\nedge H4 H1 1/999999999999999999\nedge H1 H2 1/999999999999999997\n",
+        5,
+        "too wide: step 3: component 1 weight of H2 mul\n",
+    ),
+    (
+        "alpha 0.05\nhypotheses H1 H2\np 1e-31 2\nweights 2 -1\nedge H1 H1 2\n",
+        4,
+        "limit: case: part p of H1\n",
+    ),
 ];
 
 /// A run over each of these texts ends with its status and its line.

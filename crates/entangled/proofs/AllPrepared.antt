@@ -30,7 +30,6 @@ refused : {S : Type 0} (r : Result S Wide) (e : Wide) → Err e ≡ ok_map {B = 
 refused (Ok s) e h = absurd (cc)
 refused (Err f) e h = cc
 
-
 count : {A : Type 0} (xs : List A) (n : ℕ) → n < length xs → 0 + length (take n xs) ≡ n
 count xs n h = omega (arith, length-take n xs)
 

@@ -38,10 +38,19 @@ fn holm(alloc: Global) -> Result<DraftComponent, NoMemory> {
 }
 
 /// Two hypotheses, of which the first has all the weight and passes it to the other.
-fn one_way(alloc: Global, share: Fraction, first: usize, other: usize) -> Result<DraftComponent, NoMemory> {
+fn one_way(
+    alloc: Global,
+    share: Fraction,
+    first: usize,
+    other: usize,
+) -> Result<DraftComponent, NoMemory> {
     let mut weights = List::new(alloc);
     for k in 0..2 {
-        weights.push(if k == first { Fraction::one() } else { Fraction::zero() })?;
+        weights.push(if k == first {
+            Fraction::one()
+        } else {
+            Fraction::zero()
+        })?;
     }
     let mut edges = List::new(alloc);
     edges.push(edge(first, other, Fraction::one()))?;
@@ -52,7 +61,12 @@ fn one_way(alloc: Global, share: Fraction, first: usize, other: usize) -> Result
     })
 }
 
-fn case(rt: &impl Abort, alloc: Global, names: &[&[u8]], components: List<DraftComponent>) -> Result<Case, NoMemory> {
+fn case(
+    rt: &impl Abort,
+    alloc: Global,
+    names: &[&[u8]],
+    components: List<DraftComponent>,
+) -> Result<Case, NoMemory> {
     let mut texts = List::new(alloc);
     for name in names {
         texts.push(Text::copy(alloc, name)?)?;

@@ -8,7 +8,9 @@ ghost use Rattle.graph_cli.specs.Outcome.{IsCaseOutcome, IsTestOutcome, IsOutcom
 ghost use Rattle.graph_cli.specs.Run.{Runs, StopsFor, Finished, read_fault, no_memory};
 
 use crate::answer::{Answer, Stop};
-use crate::refusal::{When, bytes_refusal, case_refusal, kind_refusal, line_refusal, usage, wide_refusal};
+use crate::refusal::{
+    When, bytes_refusal, case_refusal, kind_refusal, line_refusal, usage, wide_refusal,
+};
 use crate::words::{Command, read_words};
 use case_model::{Case, Inputs};
 use edge_text::{TextFault, read_text};

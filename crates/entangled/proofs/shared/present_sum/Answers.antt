@@ -29,9 +29,9 @@ returns-in_err-sum g c =
     let p = err_from_is_err_and c.from_residual.result c.from_residual.ensures.1 in
     ap (ok_map terms_of) (p.1 ∙ ap Err p.2)
     ∙ products_stop _ _ c.loop-c.c _ _ (terms_of share) (terms c.limit.result) c.in_err-sum.field-0.0 c.loop-c-test.true
-        (item_terms c.args.shares.now c.loop-c.c share (omega (arith, c.loop-c-test.true, c.requires.count)) c.index-shares-c.is)
-        (present_limit _ _ _ g.R.Remover.present c.args.nets.now c.loop-c.c c.index-nets-c.result c.loop-c-test.true c.index-nets-c.is ∙ sym (c.limit.ensures ∙ ap limit_terms c.weight.ensures))
-        c.loop-c.invariant c.in_err-sum.ensures
+    (item_terms c.args.shares.now c.loop-c.c share (omega (arith, c.loop-c-test.true, c.requires.count)) c.index-shares-c.is)
+    (present_limit _ _ _ g.R.Remover.present c.args.nets.now c.loop-c.c c.index-nets-c.result c.loop-c-test.true c.index-nets-c.is ∙ sym (c.limit.ensures ∙ ap limit_terms c.weight.ensures))
+    c.loop-c.invariant c.in_err-sum.ensures
 
 pub loop-c-preserved : goal.loop-c-preserved
 loop-c-preserved g c =
