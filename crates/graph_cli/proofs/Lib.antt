@@ -1,5 +1,7 @@
 pub mod CaseLines
+pub mod ClosedReports
 pub mod Endings
+pub mod NoRefusals
 pub mod OneAnswer
 pub mod Outcomes
 pub mod Refusals

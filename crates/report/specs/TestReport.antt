@@ -8,10 +8,6 @@ use Rattle.case_model.specs.Content.{Content, InputsContent, ForSingle, bare, si
 use Rattle.case_model.specs.Sums.{terms_at}
 use Rattle.sequential.specs.DecisionView.{StepContent, DecisionContent}
 
--- there is a p-value for each hypothesis
-abbrev pub IsSingle : InputsContent → Type 0
-IsSingle inputs = ForSingle inputs (λ ps. Unit {0})
-
 -- each line is of a hypothesis of the case
 abbrev pub AreOfCase : Content → List StepContent → Type 0
 AreOfCase case lines = All (λ x. x.hypothesis < length case.names) lines

@@ -5,7 +5,8 @@ ghost use Rattle.fraction.specs.View.{terms_of};
 ghost use Rattle.case_model.specs.CaseView.{content};
 ghost use Rattle.case_model.specs.Sums.{terms_at};
 ghost use Rattle.sequential.specs.DecisionView.{line, decision as decided};
-ghost use Rattle.report.specs.TestReport.{IsSingle, AreOfCase, p_values, figures, spaced_name, alpha_line, step_line, step_lines, kept_line, name_if_rejected, rejected_line, test_report};
+ghost use Rattle.sequential.specs.TrialAnswers.{IsSingle};
+ghost use Rattle.report.specs.TestReport.{AreOfCase, p_values, figures, spaced_name, alpha_line, step_line, step_lines, kept_line, name_if_rejected, rejected_line, test_report};
 
 use crate::number::put_number;
 use case_model::{Case, Inputs};

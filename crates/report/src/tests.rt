@@ -5,7 +5,8 @@ ghost use Rattle.case_model.specs.Draft.{have_known_ends};
 ghost use Rattle.case_model.specs.DraftView.{said};
 ghost use Rattle.case_model.specs.CaseView.{content};
 ghost use Rattle.sequential.specs.DecisionView.{line};
-ghost use Rattle.report.specs.TestReport.{IsSingle, AreOfCase};
+ghost use Rattle.sequential.specs.TrialAnswers.{IsSingle};
+ghost use Rattle.report.specs.TestReport.{AreOfCase};
 
 use crate::{put_number, test_text};
 use case_model::{Case, Draft, DraftComponent, Inputs};

@@ -1,5 +1,7 @@
 -- A decision is unique, and rejects what the closed test rejects.
-use Rattle.std.proofs.Common.{◌≡◌, refl, sym, ap, ap₂, ◌∙◌, subst, ◌↔◌, ℕ, Bool, List, [], ◌∷◌, length}
+use Rattle.std.proofs.Common.{◌≡◌, refl, sym, ap, ap₂, ◌∙◌, subst, ◌↔◌, ℕ, Bool, true, List, [], ◌∷◌, length}
+use Rattle.std.proofs.Math.Logic.{∥∥₁_elim}
+use mathlib.Core.Bool.{Bool-set}
 use Rattle.std.specs.List.{AllByRecursion, filter, range_with_len}
 use Rattle.field_core.specs.Terms.{Terms, IsReduced}
 use Rattle.field_core.specs.Number.{Number}
@@ -14,12 +16,13 @@ use Rattle.case_model.specs.EntangledGraph.{EntangledGraph, IsValidEntangled}
 use Rattle.case_model.specs.IntersectionWeight.{IsIntersectionWeight}
 use Rattle.case_model.specs.Sums.{number, number_at}
 use Rattle.case_model.specs.Content.{Content, InputsContent, bare, single, staged, ForSingle, entangled, IsRejectedIn}
-use Rattle.case_model.specs.Validity.{IsValidContent}
+use Rattle.case_model.specs.Validity.{FaultlessDraft, IsFaultlessContent}
+use Rattle.case_model.specs.Draft.{is_level}
 use Rattle.case_model.specs.ClosedTest.{IsLegal, IsRejected}
 use Rattle.case_model.specs.LegalOrder.{IsListed, IsRunBy, IsLegalOrder, IsComplete}
 use Rattle.case_model.proofs.IntersectionLaws.{intersection_unique}
 use Rattle.case_model.proofs.Thresholds.{good_level}
-use Rattle.case_model.proofs.ValidContents.{shape, valid_content}
+use Rattle.case_model.proofs.ValidContents.{shape_of_draft, valid_content}
 use Rattle.case_model.proofs.RejectionOrders.{run_unique, first_unique, last_unique}
 use Rattle.case_model.proofs.PriorityOrders.{first_order, last_order, ratio_order, next_unique as least_legal_unique}
 use Rattle.case_model.proofs.ClosedTestLaws.{complete_decides}
@@ -100,13 +103,16 @@ priority_order E p level First js V r = first_order E p level whole js r
 priority_order E p level Last js V r = last_order E p level whole js r
 priority_order E p level Ratio js V r = ratio_order E p level V whole js r
 
-module _ (c : Content) (priority : Priority) (d : DecisionContent) (valid : IsValidContent c) where
+module _ (c : Content) (priority : Priority) (d : DecisionContent) (valid : IsFaultlessContent c) where
+  level_good : is_level c.alpha ≡ true
+  level_good = ∥∥₁_elim valid (hlevel Bool-set) (λ f. subst (λ k. is_level k.alpha ≡ true) f.content_is (shape_of_draft f.draft f.faultless).level)
+
   level_low : number_zero ≤ε number c.alpha
-  level_low = subst (λ z. z ≤ε number c.alpha) field_zero (good_level c.alpha (shape c valid).level).nonneg
+  level_low = subst (λ z. z ≤ε number c.alpha) field_zero (good_level c.alpha level_good).nonneg
 
   decides_with : (j : ℕ) (ps : List Terms) → IsDecisionWith c ps priority d → IsListed (hypotheses d.steps) j ↔ IsRejected (entangled c) (number_at ps) (number c.alpha) j
   decides_with j ps D =
-      let V : IsValidEntangled (entangled c) = valid_content c valid.faultless in
+      let V : IsValidEntangled (entangled c) = valid_content c valid in
       let o = priority_order (entangled c) (number_at ps) (number c.alpha) priority (hypotheses d.steps) V D.order in
       complete_decides (entangled c) (number_at ps) (number c.alpha) V level_low (hypotheses d.steps) o.0 o.1 j
 

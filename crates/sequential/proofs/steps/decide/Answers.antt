@@ -20,5 +20,5 @@ pub returns-clause-closed : goal.returns-clause-closed
 returns-clause-closed c = λ j.
     let case = content c.args.case.now in
     let steps = map line c.in_ok-steps.steps in
-    decision_decides case c.args.priority (record { steps = steps; kept = map line c.in_ok-kept.kept }) c.args.case.now.valid j
+    decision_decides case c.args.priority (record { steps = steps; kept = map line c.in_ok-kept.kept }) c.args.case.now.valid.faultless j
     (run_decision case c.args.priority steps (trial c.run.new.current) (c.in_ok-steps.ensures.run case c.in_ok-current.ensures.trial) c.in_ok-kept.kept c.in_ok-kept.ensures)
