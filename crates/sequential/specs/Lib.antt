@@ -1,1 +1,2 @@
 pub mod DecisionView
+pub mod Decisions
