@@ -1,4 +1,3 @@
-pub mod CaseLines
 pub mod ClosedReports
 pub mod Endings
 pub mod NoRefusals

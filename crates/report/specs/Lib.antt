@@ -1,1 +1,2 @@
+pub mod ReportStatements
 pub mod TestReport

@@ -1,6 +1,7 @@
 //! What the commands print.
 #![tactic(auto)]
 
+pub mod laws;
 mod number;
 mod test;
 #[cfg(test)]
