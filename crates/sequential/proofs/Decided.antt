@@ -85,8 +85,8 @@ module _ (c : Content) (priority : Priority) (steps : List StepContent) (t : Tri
         ∙ filter_same (is_live_in_case t.state) (remaining t) 0 (length t.p_values) (λ k h. live_now c t T k (within k h))
         ∙ ap₂ (λ js n. filter (left_after whole js) (range_with_len 0 n)) (sym R.so_far.listed) (p_values_are c t T).count;
     kept_weights = subst (λ js. AllByRecursion (HasWeightIn (entangled c) (left_after whole js)) (map line kept)) (sym R.so_far.listed) (
-      both_all (λ y. IsReduced y.weight) HasItsWeight (HasWeightIn (entangled c) (remaining t)) (λ y r w. record { reduced = r; is_weight = w }) (map line kept) (lines_lowest kept)
-      (subst (AllByRecursion HasItsWeight) (sym e) (all_mapped (line_at t.state) HasItsWeight (filter (is_live_in_case t.state) (range_with_len 0 (length t.p_values))) (all_filtered (is_live_in_case t.state) (λ k. HasItsWeight (line_at t.state k)) 0 (length t.p_values) (λ k h l. weight_now c t T k (remains_in c t T k (omega arith) l))))));
+        both_all (λ y. IsReduced y.weight) HasItsWeight (HasWeightIn (entangled c) (remaining t)) (λ y r w. record { reduced = r; is_weight = w }) (map line kept) (lines_lowest kept)
+        (subst (AllByRecursion HasItsWeight) (sym e) (all_mapped (line_at t.state) HasItsWeight (filter (is_live_in_case t.state) (range_with_len 0 (length t.p_values))) (all_filtered (is_live_in_case t.state) (λ k. HasItsWeight (line_at t.state k)) 0 (length t.p_values) (λ k h l. weight_now c t T k (remains_in c t T k (omega arith) l))))));
   })
 
   -- the run is defined to its end

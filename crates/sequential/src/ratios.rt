@@ -54,7 +54,11 @@ impl Trial {
     }
 
     /// The candidate of the positions up to `k`, by that of the positions before it.
-    fn candidate_with(&self, k: usize, before: Option<Candidate>) -> Result<Option<Candidate>, WideAt>
+    fn candidate_with(
+        &self,
+        k: usize,
+        before: Option<Candidate>,
+    ) -> Result<Option<Candidate>, WideAt>
         requires within { k < length (trial self.now).p_values }
         requires before { IsCandidate k (trial self.now).p_values (trial self.now).state before }
         requires defined { AreDefinedBelow k (trial self.now).p_values (trial self.now).state }
@@ -65,7 +69,10 @@ impl Trial {
         let Some(ratio) = self.ratio(k)? else {
             return Ok(before);
         };
-        let here = Candidate { hypothesis: k, ratio };
+        let here = Candidate {
+            hypothesis: k,
+            ratio,
+        };
         match before {
             None => Ok(Some(here)),
             Some(other) => {

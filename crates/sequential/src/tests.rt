@@ -79,7 +79,12 @@ fn expect_lines(rt: &impl Abort, lines: &List<StepLine>, wanted: &[(usize, Parts
     }
 }
 
-fn decided(rt: &impl Abort, alloc: Global, sample: &Sample, priority: Priority) -> Result<Decision, DecideFault> {
+fn decided(
+    rt: &impl Abort,
+    alloc: Global,
+    sample: &Sample,
+    priority: Priority,
+) -> Result<Decision, DecideFault> {
     let case = case(rt, alloc, sample)?;
     decide(alloc, &case, priority)
 }
@@ -170,7 +175,14 @@ fn a_p_value_at_the_limit_rejects(rt: HostRuntime) -> Result<(), Fail> {
         edges: &[],
     };
     for priority in [Priority::First, Priority::Last, Priority::Ratio] {
-        expect_decision(&rt, rt.alloc(), &tie, priority, &[(0, (1, 2))], &[(1, (1, 2))]);
+        expect_decision(
+            &rt,
+            rt.alloc(),
+            &tie,
+            priority,
+            &[(0, (1, 2))],
+            &[(1, (1, 2))],
+        );
     }
     Ok(())
 }
@@ -179,10 +191,31 @@ fn a_p_value_at_the_limit_rejects(rt: HostRuntime) -> Result<(), Fail> {
 fn gatekeeping_rejects_by_the_priority(rt: HostRuntime) -> Result<(), Fail> {
     let kept = [(1, (1, 2))];
     let first = [(0, (1, 2)), (2, (1, 4)), (3, (1, 2))];
-    expect_decision(&rt, rt.alloc(), &gatekeeping(), Priority::First, &first, &kept);
+    expect_decision(
+        &rt,
+        rt.alloc(),
+        &gatekeeping(),
+        Priority::First,
+        &first,
+        &kept,
+    );
     let last = [(0, (1, 2)), (2, (1, 4)), (3, (1, 2))];
-    expect_decision(&rt, rt.alloc(), &gatekeeping(), Priority::Last, &last, &kept);
-    expect_decision(&rt, rt.alloc(), &gatekeeping(), Priority::Ratio, &first, &kept);
+    expect_decision(
+        &rt,
+        rt.alloc(),
+        &gatekeeping(),
+        Priority::Last,
+        &last,
+        &kept,
+    );
+    expect_decision(
+        &rt,
+        rt.alloc(),
+        &gatekeeping(),
+        Priority::Ratio,
+        &first,
+        &kept,
+    );
     Ok(())
 }
 
@@ -226,7 +259,14 @@ fn fallback_and_fixed_sequence(rt: HostRuntime) -> Result<(), Fail> {
         edges: &[(0, 1, (1, 1)), (1, 2, (1, 1))],
     };
     let kept = [(0, (1, 3)), (1, (1, 3))];
-    expect_decision(&rt, rt.alloc(), &fallback, Priority::First, &[(2, (1, 3))], &kept);
+    expect_decision(
+        &rt,
+        rt.alloc(),
+        &fallback,
+        Priority::First,
+        &[(2, (1, 3))],
+        &kept,
+    );
     let sequence = Sample {
         alpha: (1, 40),
         p_values: &[(1, 100), (3, 100), (1, 1000)],
@@ -234,7 +274,14 @@ fn fallback_and_fixed_sequence(rt: HostRuntime) -> Result<(), Fail> {
         edges: &[(0, 1, (1, 1)), (1, 2, (1, 1))],
     };
     let kept = [(1, (1, 1)), (2, (0, 1))];
-    expect_decision(&rt, rt.alloc(), &sequence, Priority::First, &[(0, (1, 1))], &kept);
+    expect_decision(
+        &rt,
+        rt.alloc(),
+        &sequence,
+        Priority::First,
+        &[(0, (1, 1))],
+        &kept,
+    );
     Ok(())
 }
 
@@ -255,7 +302,14 @@ fn a_run_that_is_too_wide_names_its_step(rt: HostRuntime) -> Result<(), Fail> {
         (2, (1, 999_999_999_999_999_999_000_000_000_000_000_000)),
     ];
     let kept = [(3, (0, 1))];
-    expect_decision(&rt, rt.alloc(), &chain(&LINKS[..2]), Priority::First, &steps, &kept);
+    expect_decision(
+        &rt,
+        rt.alloc(),
+        &chain(&LINKS[..2]),
+        Priority::First,
+        &steps,
+        &kept,
+    );
     Ok(())
 }
 
