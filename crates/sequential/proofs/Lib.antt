@@ -1,4 +1,5 @@
 pub mod AnyTrial
+pub mod Calls
 pub mod Candidates
 pub mod CaseRuns
 pub mod ChoiceFacts

@@ -2,6 +2,7 @@ pub mod DecisionView
 pub mod Trials
 pub mod TrialView
 pub mod TrialAnswers
+pub mod TrialCalls
 pub mod Decisions
 pub mod WideDecisions
 pub mod Choices

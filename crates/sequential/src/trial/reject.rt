@@ -3,6 +3,7 @@ ghost use Rattle.case_model.specs.Content.{Content};
 ghost use Rattle.entangled.specs.CaseRun.{case_removal};
 ghost use Rattle.sequential.specs.Trials.{IsTrialOf, IsNextTrial, MayReject};
 ghost use Rattle.sequential.specs.TrialAnswers.{IsRejectAnswer};
+ghost use Rattle.sequential.specs.TrialCalls.{IsCall};
 ghost use Rattle.sequential.specs.TrialView.{trial};
 
 use super::Trial;
@@ -42,6 +43,8 @@ impl Trial {
         requires { j < length (trial self.old).p_values }
         ensures kept { (c : Content) → IsTrialOf c (trial self.old) → IsTrialOf c (trial self.new) }
         ensures answer { (c : Content) → IsTrialOf c (trial self.old) → IsRejectAnswer c (trial self.old) j result }
+        ensures call { (c : Content) → IsTrialOf c (trial self.old) → IsCall c (trial self.old) j (trial self.new) }
+        ensures p_values { (trial self.new).p_values ≡ (trial self.old).p_values }
         ensures added { OnOk result ((trial self.new).rejected ≡ (trial self.old).rejected ++ j ∷ []) }
         ensures refused { OnErr result (trial self.new ≡ trial self.old) }
     {

@@ -5,6 +5,7 @@ use Rattle.case_model.specs.Sums.{number}
 use Rattle.case_model.specs.Content.{entangled}
 use Rattle.case_model.specs.IntersectionWeight.{IsIntersectionWeight}
 use Rattle.sequential.specs.Trials.{remaining}
+use Rattle.sequential.specs.TrialCalls.{accepted}
 use Rattle.sequential.specs.TrialView.{trial}
 use Rattle.sequential.proofs.CaseRuns.{after_next}
 use Rattle.sequential.proofs.TrialFacts.{gone_rejected, live_not_rejected, legal_may, may_legal, weight_now, remains_in, next_trial}
@@ -43,3 +44,6 @@ returns-in-Err-clause-answer c = λ k T.
       may_legal k t T c.args.j (c.may_reject.ensures.0 c.if-not-may_reject.false),
       after_next k t.rejected t.state c.args.j T.state ∙ c.in-Err.ensures.wide,
     )
+
+pub returns-in-Ok-clause-call : goal.returns-in-Ok-clause-call
+returns-in-Ok-clause-call c = λ k T. accepted (may_legal k (trial c.args.self.now) T c.args.j (c.may_reject.ensures.0 c.if-not-may_reject.false)) c.in-Ok.ensures.next
