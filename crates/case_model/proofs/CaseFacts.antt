@@ -19,7 +19,7 @@ case_shape c = shape (content c) c.valid
 
 -- the entangled graph of a case is valid
 pub case_graph : (c : Case) → IsValidEntangled (entangled (content c))
-case_graph c = valid_content (content c) c.valid
+case_graph c = valid_content (content c) c.valid.faultless
 
 -- a component, as it is read from a case
 pub component_read : (c : Case) (n : ℕ) (k : Component) → n < length c.components → k ≡ get_or c.components n k → component_at (content c).components n ≡ component_content k

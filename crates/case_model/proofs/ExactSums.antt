@@ -2,13 +2,14 @@ use Rattle.std.proofs.Common.{◌≡◌, refl, sym, ap, ap₂, ◌∙◌, subst,
 use Rattle.field_core.specs.Terms.{Terms, IsReduced}
 use Rattle.field_core.specs.Sized.{◌>>=◌}
 use Rattle.field_core.specs.Kind.{ok_map}
-use Rattle.field_core.specs.Exact.{value_of}
-use Rattle.field_core.specs.Arithmetic.{◌+ε◌}
+use Rattle.field_core.specs.Exact.{value_of, MayTake, exact_result}
+use Rattle.field_core.specs.Number.{Number}
 use Rattle.field_core.specs.NumberField.{number_field}
 use Rattle.field_core.specs.Sums.{sum_below}
+use Rattle.field_core.specs.declared.place.Op.{Op}
 use Rattle.field_core.specs.declared.place.Op.TheVariants.{Add}
 use Rattle.field_core.specs.declared.place.TooWide.{TooWide}
-use Rattle.fraction.specs.Plain.{single, plain, IsFraction, zero_reduced}
+use Rattle.fraction.specs.Plain.{single, IsFraction, written_pair, zero_reduced}
 use Rattle.fraction.specs.Written.{written_add}
 use Rattle.fraction.specs.Laws.PlainLaws.{plain_is_exact}
 use Rattle.case_model.specs.Sums.{number, zero_terms, written_sum}
@@ -25,24 +26,32 @@ pub value_single : (t : Terms) → value_of (single t) ≡ number t
 unfolding value_of
 value_single t = refl
 
--- an Ok sum of two is reduced and exact
-add_reduced : (s x t : Terms) → IsReduced s → IsReduced x → written_add Add s x ≡ Ok t → IsReduced t
-add_reduced s x t r q e = (plain_is_exact.stored Add (single s) (single x) (single t) (stored_single s r) (stored_single x q) tt (ap (ok_map single) e)).reduced
+-- in lowest terms, with this value
+pub record Has (t : Terms) (v : Number) : Type 0 where
+  pub reduced : IsReduced t
+  pub value : number t ≡ v
 
-add_exact : (s x t : Terms) → IsReduced s → IsReduced x → written_add Add s x ≡ Ok t → number t ≡ number s +ε number x
-add_exact s x t r q e =
-    sym (value_single t) ∙ plain_is_exact.exact Add (single s) (single x) (single t) (stored_single s r) (stored_single x q) tt (ap (ok_map single) e) ∙ ap₂ ◌+ε◌ (value_single s) (value_single x)
+-- a written operation that isn't refused is exact
+pub written_has : (op : Op) (x y z : Terms) (u v : Number) → MayTake op (single y) → Has x u → Has y v → written_pair op x y ≡ Ok z → Has z (exact_result op u v)
+written_has op x y z u v may p q e =
+    let e' = ap (ok_map single) e in
+    let sx = stored_single x p.reduced in
+    let sy = stored_single y q.reduced in
+    record {
+      reduced = (plain_is_exact.stored op (single x) (single y) (single z) sx sy may e').reduced;
+      value = sym (value_single z) ∙ plain_is_exact.exact op (single x) (single y) (single z) sx sy may e' ∙ ap₂ (exact_result op) (value_single x ∙ p.value) (value_single y ∙ q.value);
+    }
+
+pub has_zero : Has zero_terms number_field.𝟘
+has_zero = record { reduced = zero_reduced; value = sym (value_single zero_terms) ∙ plain_is_exact.zero_value ∙ sym field_zero }
 
 -- a written sum that isn't refused is reduced, and has the value of the sum
-pub record IsSum (n : ℕ) (f : ℕ → Terms) (s : Terms) : Type 0 where
-  pub reduced : IsReduced s
-  pub value : number s ≡ sum_below number_field n (λ i. number (f i))
+abbrev pub IsSum : (n : ℕ) (f : ℕ → Terms) (s : Terms) → Type 0
+IsSum n f s = Has s (sum_below number_field n (λ i. number (f i)))
 
 start : (f : ℕ → Terms) (s : Terms) → written_sum 0 f ≡ Ok s → IsSum 0 f s
-unfolding written_sum sum_below value_of
-start f s e =
-    let same : zero_terms ≡ s = cc in
-    subst (IsSum 0 f) same (record { reduced = zero_reduced; value = plain_is_exact.zero_value ∙ sym field_zero })
+unfolding written_sum sum_below
+start f s e = let same : zero_terms ≡ s = cc in subst (λ t. Has t number_field.𝟘) same has_zero
 
 pub exact_sum : (n : ℕ) (f : ℕ → Terms) (s : Terms) → ((i : ℕ) → i < n → IsReduced (f i)) → written_sum n f ≡ Ok s → IsSum n f s
 unfolding written_sum sum_below
@@ -50,8 +59,5 @@ exact_sum zero f s h e = start f s e
 exact_sum (suc n) f s h e =
     let step = bind_ok _ _ s e in
     let before = exact_sum n f step.0 (λ i p. h i (omega arith)) step.1.0 in
-    let last = h n (omega arith) in
-    record {
-      reduced = add_reduced step.0 (f n) s before.reduced last step.1.1;
-      value = add_exact step.0 (f n) s before.reduced last step.1.1 ∙ ap (λ x. x +ε number (f n)) before.value ∙ sym (field_sum _ _);
-    }
+    let last : Has (f n) (number (f n)) = record { reduced = h n (omega arith); value = refl } in
+    subst (Has s) (sym (field_sum _ _)) (written_has Add step.0 (f n) s _ _ tt before last step.1.1)

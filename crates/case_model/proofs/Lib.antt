@@ -12,10 +12,12 @@ pub mod FirstFaults
 pub mod IntersectionLaws
 pub mod IntersectionTotals
 pub mod LegalSteps
+pub mod LowestParts
 pub mod NamePlaces
 pub mod NoFaults
 pub mod OrderExistence
 pub mod Places
+pub mod PlainEntries
 pub mod PriorityOrders
 pub mod RejectionOrders
 pub mod RowTotals

@@ -22,7 +22,7 @@ use Rattle.case_model.specs.Sums.{number, terms_at, number_at, zero_terms}
 use Rattle.case_model.specs.Draft.{DraftContent, DraftComponentContent, at_most, is_unit, is_level, is_p_value, is_short_p_value, ArePValues}
 use Rattle.case_model.specs.Content.{Content, ComponentContent, InputsContent, bare, single, staged, content_of, tabled, table_of, graph_of, given, inputs_given, IfSingle, component_at, empty_component, entangled}
 use Rattle.case_model.specs.CaseFaults.{◌or◌, case_fault, late_fault, rows_fault, mixed, p_count, p_missing, p_range, p_values_fault, is_outside, is_long_p_value, long_p_value, no_hypothesis, no_component, too_many_components, components_fault}
-use Rattle.case_model.specs.Validity.{FaultlessDraft, IsValidContent}
+use Rattle.case_model.specs.Validity.{FaultlessDraft, IsFaultlessContent, IsValidContent}
 use Rattle.case_model.proofs.Tests.{Both, both, all_at}
 use Rattle.case_model.proofs.NoFaults.{Neither, neither, no_when, not_false, not_true, nothing_mapped, no_position}
 use Rattle.case_model.proofs.Faultless.{good_start, good_names, few_names, length-table_of, content_of-components, content_of-inputs}
@@ -148,6 +148,7 @@ module _ (d : DraftContent) (h : case_fault d ≡ None) where
 pub record HasShape (c : Content) : Type 0 where
   pub some : 0 < length c.names
   pub few : length c.names ≤ 64
+  pub some_components : 0 < length c.components
   pub few_components : length c.components ≤ 8
   pub level : is_level c.alpha ≡ true
   pub weights : (k : ℕ) → k < length c.components → length (component_at c.components k).weights ≡ length c.names
@@ -157,6 +158,10 @@ pub record HasShape (c : Content) : Type 0 where
 few_ks : (ks : List DraftComponentContent) → components_fault ks ≡ None → length ks ≤ 8
 unfolding components_fault too_many_components
 few_ks ks h = grind (arith, nat_tests, no_when (nat_lt 8 (length ks)) _ (neither (no_component ks) (too_many_components ks) h).second)
+
+some_ks : (ks : List DraftComponentContent) → components_fault ks ≡ None → 0 < length ks
+unfolding components_fault no_component
+some_ks ks h = grind (arith, nat_tests, no_when (length ks == 0) _ (neither (no_component ks) (too_many_components ks) h).first)
 
 some_names : (names : List (List ℕ)) → no_hypothesis names ≡ None → 0 < length names
 unfolding no_hypothesis
@@ -172,6 +177,7 @@ shape_of_draft d h =
     record {
       some = some_names d.names (good_names d.names start.names).none;
       few = few_names d (early_none d h);
+      some_components = simp length-map (some_ks d.components start.components);
       few_components = simp length-map few;
       level = level d h;
       weights = λ c g. ap (λ k. length k.weights) (get_or-map (tabled m) d.components c no_draft_component empty_component (within c g)) ∙ (good_component d h c no_draft_component (within c g)).count;
@@ -191,10 +197,10 @@ HasShape-prop : (c : Content) → IsProp (HasShape c)
 HasShape-prop c = let p = IfSingle-prop c.inputs (ArePValues (length c.names)) (ArePValues-prop (length c.names)) in hlevel (p, ℕ_set, Bool-set, le_prop)
 
 pub shape : (c : Content) → IsValidContent c → HasShape c
-shape c v = ∥∥₁_elim v (HasShape-prop c) (λ f. subst HasShape f.content_is (shape_of_draft f.draft f.faultless))
+shape c v = ∥∥₁_elim v.faultless (HasShape-prop c) (λ f. subst HasShape f.content_is (shape_of_draft f.draft f.faultless))
 
 IsValidEntangled-prop : (E : EntangledGraph) → IsProp (IsValidEntangled E)
 IsValidEntangled-prop E = hlevel (Bool-set, Number-set)
 
-pub valid_content : (c : Content) → IsValidContent c → IsValidEntangled (entangled c)
+pub valid_content : (c : Content) → IsFaultlessContent c → IsValidEntangled (entangled c)
 valid_content c v = ∥∥₁_elim v (IsValidEntangled-prop (entangled c)) (λ f. subst (λ c. IsValidEntangled (entangled c)) f.content_is (valid_entangled f.draft f.faultless))

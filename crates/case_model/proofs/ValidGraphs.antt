@@ -56,7 +56,7 @@ zero_over d (no h) = fraction-zero d h
 pub number-zero : (t : Terms) → is_zero_terms t ≡ true → number t ≡ number_zero
 number-zero t h = ap (λ n. fraction n t.den) (integer_zero t.num h) ∙ zero_over t.den (ℤ_discrete t.den (pos 0))
 
-zero_at : (e : List Terms) (k : ℕ) → list_all is_zero_terms e ≡ true → number_at e k ≡ number_zero
+pub zero_at : (e : List Terms) (k : ℕ) → list_all is_zero_terms e ≡ true → number_at e k ≡ number_zero
 unfolding terms_at
 zero_at [] k h = number-zero zero_terms refl
 zero_at (t ∷ e) zero h = number-zero t (both (is_zero_terms t) (list_all is_zero_terms e) h).left

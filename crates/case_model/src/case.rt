@@ -1,7 +1,7 @@
 ghost use Rattle.std.specs.Prelude.{map};
 ghost use Rattle.fraction.specs.View.{terms_of};
 ghost use Rattle.case_model.specs.ComponentView.{component_content, inputs_content};
-ghost use Rattle.case_model.specs.Validity.{IsValidContent};
+ghost use Rattle.case_model.specs.Validity.{IsValidContent, valid_is_fact};
 
 use crate::{Component, Entry, Inputs};
 use field_core::{List, Text};
@@ -14,7 +14,7 @@ pub struct Case {
     alpha: Fraction,
     components: List<Component>,
     inputs: Inputs,
-    ghost valid: { IsValidContent (record { names = names; alpha = terms_of alpha; components = map component_content components; inputs = inputs_content inputs }) },
+    ghost valid: { IsValidContent (record { names = names; alpha = terms_of alpha; components = map component_content components; inputs = inputs_content inputs }) } by { Prim.hlevel valid_is_fact },
 }
 
 impl Case {

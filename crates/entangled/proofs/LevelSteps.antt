@@ -19,6 +19,7 @@ use Rattle.entangled.specs.Items.{in_component}
 use Rattle.entangled.specs.Shares.{written_products}
 use Rattle.entangled.specs.Bundled.{limits, states_size, is_live_by, AreAlike, written_share, written_level}
 use Rattle.entangled.specs.Prepared.{AreNext}
+use Rattle.entangled.proofs.LevelValues.{live_is}
 use Rattle.entangled.proofs.Gathered.{some_of, length-gathered, gathered_at}
 use Rattle.entangled.proofs.Limits.{item_has}
 
@@ -62,17 +63,9 @@ module _ {S : Type 0} (graph : S → StoredGraph) where
   alike_live states k A h n d b = ap (λ f. f k) (A.live n d b) ∙ h
 
   module _ (K : Kind) (states : List S) (shares : List Terms) (k : ℕ) where
-    pub level_live : is_live_by graph states k ≡ true → written_level K graph states shares k ≡ written_share K graph states shares k
-    unfolding written_level
-    level_live h = rw (written_level, h) refl
-
-    pub level_gone : is_live_by graph states k ≡ false → written_level K graph states shares k ≡ Ok zero_terms
-    unfolding written_level
-    level_gone h = rw (written_level, h) refl
-
     pub share_is : (r : Result Terms WideAt) (s : Result Terms TooWide) (n : ℕ) → r ≡ in_component 0 (at (Share k) s) → s ≡ written_products (terms_at shares) (terms_at (limits K graph states k)) n → n ≡ length states → is_live_by graph states k ≡ true → r ≡ written_level K graph states shares k
     unfolding written_share
-    share_is r s n h e l i = h ∙ ap (λ s. in_component 0 (at (Share k) s)) (e ∙ ap (written_products (terms_at shares) (terms_at (limits K graph states k))) l) ∙ sym (level_live i)
+    share_is r s n h e l i = h ∙ ap (λ s. in_component 0 (at (Share k) s)) (e ∙ ap (written_products (terms_at shares) (terms_at (limits K graph states k))) l) ∙ sym (live_is K graph states shares k i)
 
   module _ (states next : List S) (j k : ℕ) (N : AreNext graph states next j) where
     pub next_live : k ≢ j → is_live_by graph states k ≡ true → is_live_by graph next k ≡ true

@@ -16,12 +16,9 @@ use Rattle.removal.specs.Laws.Prefixes.{bind_ok}
 use Rattle.entangled.specs.Items.{in_component, each_item}
 use Rattle.entangled.specs.Bundled.{states_size, is_live_by, AreAlike, IsBundle, removed_together}
 use Rattle.entangled.specs.Prepared.{AreNext}
+use Rattle.entangled.proofs.EachNet.{in_component_ok}
 use Rattle.entangled.proofs.Gathered.{length-gathered}
 use Rattle.entangled.proofs.LevelSteps.{alike_live}
-
-component_ok : {A : Type 0} (c : ℕ) (r : Result A Wide) (x : A) → in_component c r ≡ Ok x → r ≡ Ok x
-component_ok c (Ok y) x h = cc
-component_ok c (Err e) x h = absurd (cc)
 
 same_ok : {A : Type 0} (x y : A) → ◌≡◌ {A = Result A WideAt} (Ok x) (Ok y) → x ≡ y
 same_ok x y h = cc
@@ -65,7 +62,7 @@ module _ {S : Type 0} {K : Kind} {IsStored : Parts → Type 0} {graph : S → St
   each_goes c (s ∷ ss) ts h P L =
       let a = bind_ok (in_component c (removal s j)) _ ts h in
       let b = bind_ok (each_item (λ c s. in_component c (removal s j)) (c + 1) ss) _ ts a.1.1 in
-      let r = component_ok c (removal s j) a.0 a.1.0 in
+      let r = in_component_ok c (removal s j) a.0 a.1.0 in
       let p = All-head IsProper s ss P in
       let l = All-head (λ s. is_live_in (graph s) j ≡ true) s ss L in
       let rest = each_goes (c + 1) ss b.0 b.1.0 (All-tail IsProper s ss P) (All-tail (λ s. is_live_in (graph s) j ≡ true) s ss L) in

@@ -6,3 +6,6 @@ pub mod Opening
 pub mod BundleView
 pub mod CaseRun
 pub mod CaseNetView
+pub mod BundleRun
+pub mod CaseAfter
+pub mod LevelStatements

@@ -4,7 +4,6 @@ pub mod Classes
 pub mod Cut
 pub mod Decimals
 pub mod DigitNumbers
-pub mod Limits
 pub mod LowestTerms
 pub mod Numerals
 pub mod Read

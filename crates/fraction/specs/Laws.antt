@@ -2,6 +2,7 @@
 pub mod CrossProducts
 pub mod ExactTerms
 pub mod PlainLaws
+pub mod PlainLimits
 pub mod Reduced
 pub mod Turned
 pub mod WrittenLaws

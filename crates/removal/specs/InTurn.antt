@@ -11,9 +11,9 @@ use Rattle.removal.specs.Steps.{◌>>=◌}
 use Rattle.removal.specs.StoredGraph.{StoredGraph, size, is_live, weight, AreAllLive}
 use Rattle.removal.specs.ByValue.{graph_of, IsSound}
 
-module _ {S : Type 0} (removal : S → ℕ → Result S Wide) where
-  -- the state after the removals of a list, the first first, or the first operation that is undefined
-  unfoldable pub removed_in_turn : S → List ℕ → Result S Wide
+module _ {S E : Type 0} (removal : S → ℕ → Result S E) where
+  -- the state after the removals of a list, the first first, or the first refusal
+  unfoldable pub removed_in_turn : S → List ℕ → Result S E
   removed_in_turn s [] = Ok s
   removed_in_turn s (j ∷ js) = do
     t ← removal s j

@@ -1,5 +1,5 @@
 -- The plain kind is exact.
-use Rattle.std.proofs.Common.{◌≡◌, ◌≢◌, refl, sym, ap, ap₂, ◌∙◌, ℤ, pos, negsuc, zero, suc, neg_ℤ, ◌*ℤ◌, ◌<ℤ◌, [], ◌∷◌, true, false, Result, Ok, Err, arith}
+use Rattle.std.proofs.Common.{◌≡◌, ◌≢◌, refl, sym, ap, ap₂, subst, ◌∙◌, ℤ, pos, negsuc, zero, suc, neg_ℤ, ◌*ℤ◌, ◌<ℤ◌, [], ◌∷◌, true, false, Result, Ok, Err, arith}
 use Rattle.std.proofs.lemmas.Int.{ints}
 use Rattle.field_core.specs.declared.place.Op.{Op}
 use Rattle.field_core.specs.declared.place.Op.TheVariants.{Add, Sub, Mul, Div}
@@ -19,10 +19,13 @@ use Rattle.field_core.specs.Laws.Order.{number_subtract_is, divide_unique}
 use Rattle.field_core.specs.Fractions.{fraction}
 use Rattle.field_core.specs.Laws.FractionLaws.{quotient-pair, fraction-equal, fraction-add, fraction-multiply, fraction-negate, fraction-zero, fraction-sign, lowest-constant}
 use Rattle.field_core.specs.Laws.Effective.{positive_nonzero, product_positive, fraction-cross, fraction-compare}
+use Rattle.field_core.specs.Limit.{limit}
+use Rattle.field_core.specs.Laws.LimitLaws.{limit-fraction}
 use Rattle.field_core.specs.Kind.{Parts, is_zero, is_zero_integer, sign_of, ok_map}
 use Rattle.field_core.specs.Exact.{IsExact, MayTake, value_of, exact_result}
 use Rattle.fraction.specs.Plain.{plain, IsFraction, pair_of, single, zero_reduced, one_reduced}
 use Rattle.fraction.specs.Laws.WrittenLaws.{Makes, add_says, mul_says}
+use Rattle.fraction.specs.Laws.PlainLimits.{limit_pair}
 
 abbrev value : Terms → Number
 value p = fraction p.num p.den
@@ -201,4 +204,6 @@ plain_is_exact = record {
   exact = λ op x y z f g t h. (run op x y z f g t h).value;
   compare = λ x y f g. sym (ap₂ number_compare (shown x f) (shown y g) ∙ fraction-compare _ _ _ _ f.reduced.positive g.reduced.positive);
   sign = λ x f. sign_is x f;
+  limit_reduced = λ x f _. subst IsReduced (sym (limit_pair x f)) f.reduced;
+  limit_value = λ x f _. ap value (limit_pair x f) ∙ sym (limit-fraction _ _ (some _ f.reduced)) ∙ ap limit (sym (shown x f));
 }

@@ -1,6 +1,6 @@
 use Rattle.std.proofs.Common.{sym}
-use Rattle.fraction.proofs.Limits.{limit_reduced}
+use Rattle.fraction.specs.Laws.PlainLimits.{limit_single}
 use Rattle.fraction.proofs.fraction.FractionNumber.limit.Goals as goal
 
 pub returns : goal.returns
-returns c = sym (limit_reduced _ c.args.self.now.ratio.valid)
+returns c = sym (limit_single _ c.args.self.now.ratio.valid)
