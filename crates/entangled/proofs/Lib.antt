@@ -16,3 +16,4 @@ pub mod Products
 pub mod Pushes
 pub mod RemovedTogether
 pub mod Start
+pub mod TestBundles
