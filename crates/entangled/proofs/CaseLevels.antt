@@ -111,7 +111,8 @@ module _ (c : Content) (V : IsValidContent c) (P : is_plain c ≡ true) where
   size_is : states_size (λ (G : StoredGraph). G) states ≡ m
   size_is = size_by (λ (G : StoredGraph). G) states (component_graph empty_component) some_states ∙ ap graph_size (state_at 0 H.some_components) ∙ component_size m (component_at c.components 0) (plain_component 0 H.some_components)
 
-  ready : AreReady plain (λ G. G) (AreStored plain IsFraction) states shares
+  -- the nets of the case can be opened
+  pub ready : AreReady plain (λ G. G) (AreStored plain IsFraction) states shares
   ready = record {
     some = some_states;
     share_count = simp length-map;
