@@ -23,7 +23,7 @@ use Rattle.case_model.specs.EntangledGraph.{EntangledGraph}
 use Rattle.case_model.specs.IntersectionWeight.{IsIntersectionWeight}
 use Rattle.case_model.specs.Content.{Content, ComponentContent, component_at, empty_component, entangled, is_plain, graph_of as graph_of_component}
 use Rattle.case_model.specs.Validity.{IsValidContent, AreLowestParts}
-use Rattle.case_model.proofs.Holding.{all_at}
+use Rattle.case_model.proofs.Tests.{all_at}
 use Rattle.case_model.proofs.ValidContents.{HasShape, shape, valid_content}
 use Rattle.removal.specs.StoredGraph.{StoredGraph, size as graph_size, AreAllLive}
 use Rattle.removal.specs.ByValue.{graph_of, AreStored, IsSound}
@@ -111,7 +111,8 @@ module _ (c : Content) (V : IsValidContent c) (P : is_plain c ≡ true) where
   size_is : states_size (λ (G : StoredGraph). G) states ≡ m
   size_is = size_by (λ (G : StoredGraph). G) states (component_graph empty_component) some_states ∙ ap graph_size (state_at 0 H.some_components) ∙ component_size m (component_at c.components 0) (plain_component 0 H.some_components)
 
-  ready : AreReady plain (λ G. G) (AreStored plain IsFraction) states shares
+  -- the nets of the case can be opened
+  pub ready : AreReady plain (λ G. G) (AreStored plain IsFraction) states shares
   ready = record {
     some = some_states;
     share_count = simp length-map;

@@ -3,7 +3,6 @@ pub mod AllPrepared
 pub mod BundleLevels
 pub mod CaseGraphs
 pub mod CaseLevels
-pub mod CaseNets
 pub mod CaseParts
 pub mod CaseStart
 pub mod EachNet
@@ -17,3 +16,4 @@ pub mod Products
 pub mod Pushes
 pub mod RemovedTogether
 pub mod Start
+pub mod TestBundles

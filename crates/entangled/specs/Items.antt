@@ -16,10 +16,3 @@ each_item f c (x ∷ xs) = do
   y ← f c x
   ys ← each_item f (c + 1) xs
   Ok (y ∷ ys)
-
--- the state after the removals of a list, the first first, or the first operation that is undefined
-unfoldable pub in_turn : {B : Type 0} → (B → ℕ → Result B WideAt) → B → List ℕ → Result B WideAt
-in_turn removal b [] = Ok b
-in_turn removal b (j ∷ js) = do
-  next ← removal b j
-  in_turn removal next js

@@ -1,78 +1,114 @@
-use crate::{CaseNet, OpenFault};
+ghost use Rattle.std.specs.Prelude.{◌≡◌, ◌<◌, ◌&&◌, pos, true, IfOk, nat_lt, length};
+ghost use Rattle.std.specs.List.{list_all};
+ghost use Rattle.fraction.specs.Plain.{single};
+ghost use Rattle.removal.specs.StoredGraph.{size as graph_size, AreAllLive};
+ghost use Rattle.removal.specs.NetView.{present_of};
+
+use crate::{Bundle, CaseNet, OpenFault};
 use case_model::{Case, Draft, DraftComponent, DraftEdge, Entry};
-use field_core::{List, NoMemory, Number, Op, Place, Ratio, Text, WideAt};
+use field_core::{List, NoMemory, Number, Ratio, Text, WideAt};
 use fraction::Fraction;
+use removal::{Net, Remover};
 use std::alloc::Global;
 use std::process::Abort;
 use std::test::Fail;
 
-fn half() -> Fraction {
+fn none() -> Fraction
+    ensures { ⟦<Fraction as Number>⟧.parts result ≡ single (record { num = pos 0; den = pos 1 }) }
+{
+    Fraction::zero()
+}
+
+fn one() -> Fraction
+    ensures { ⟦<Fraction as Number>⟧.parts result ≡ single (record { num = pos 1; den = pos 1 }) }
+{
+    Fraction::one()
+}
+
+fn half() -> Fraction
+    ensures { ⟦<Fraction as Number>⟧.parts result ≡ single (record { num = pos 1; den = pos 2 }) }
+{
     Fraction::of(Ratio::new(1, 2))
 }
 
-fn third() -> Fraction {
+fn third() -> Fraction
+    ensures { ⟦<Fraction as Number>⟧.parts result ≡ single (record { num = pos 1; den = pos 3 }) }
+{
     Fraction::of(Ratio::new(1, 3))
 }
 
-/// An edge of this weight.
-fn edge(from: usize, to: usize, weight: Fraction) -> DraftEdge {
-    let none = Fraction::zero();
-    let entry = Entry::new([weight, none, none, none, none]);
-    DraftEdge { from, to, entry }
-}
-
 /// Three hypotheses of weight 1/3, with edges of 1/2 between them.
-fn holm(alloc: Global) -> Result<DraftComponent, NoMemory> {
+fn holm(alloc: Global) -> Result<Net<Fraction>, NoMemory>
+    ensures size { IfOk result (λ n. graph_size (present_of n) ≡ 3) }
+    ensures live { IfOk result (λ n. AreAllLive (present_of n)) }
+{
+    let weights = [third(), third(), third()];
+    let edges = [
+        none(),
+        half(),
+        half(),
+        half(),
+        none(),
+        half(),
+        half(),
+        half(),
+        none(),
+    ];
+    Net::try_new(alloc, &weights, &edges)
+}
+
+/// The one net has all of the level.
+fn whole(alloc: Global, net: Net<Fraction>) -> Result<Bundle<Net<Fraction>>, OpenFault>
+    requires size { graph_size (present_of net) ≡ 3 }
+    requires live { AreAllLive (present_of net) }
+{
+    let mut nets = List::new(alloc);
+    nets.push(net)?;
+    Bundle::try_new(alloc, nets, &[one()])
+}
+
+/// Half of the level is for a component of two hypotheses with these weights, of which one passes all to the other.
+fn half_component(
+    alloc: Global,
+    first: Fraction,
+    second: Fraction,
+    from: usize,
+    to: usize,
+) -> Result<DraftComponent, NoMemory>
+    requires from { from < 2 }
+    requires to { to < 2 }
+    ensures { IfOk result (λ k. list_all (λ e. nat_lt e.from 2 && nat_lt e.to 2) k.edges ≡ true) }
+{
     let mut weights = List::new(alloc);
+    weights.push(first)?;
+    weights.push(second)?;
+    let entry = Entry::new([one(), none(), none(), none(), none()]);
     let mut edges = List::new(alloc);
-    for from in 0..3 {
-        weights.push(third())?;
-        edges.push(edge(from, (from + 1) % 3, half()))?;
-        edges.push(edge(from, (from + 2) % 3, half()))?;
-    }
+    edges.push(DraftEdge { from, to, entry })?;
     Ok(DraftComponent {
-        share: Fraction::one(),
+        share: half(),
         weights,
         edges,
     })
 }
 
-/// Two hypotheses, of which the first has all the weight and passes it to the other.
-fn one_way(
-    alloc: Global,
-    share: Fraction,
-    first: usize,
-    other: usize,
-) -> Result<DraftComponent, NoMemory> {
-    let mut weights = List::new(alloc);
-    for k in 0..2 {
-        weights.push(if k == first {
-            Fraction::one()
-        } else {
-            Fraction::zero()
-        })?;
-    }
-    let mut edges = List::new(alloc);
-    edges.push(edge(first, other, Fraction::one()))?;
-    Ok(DraftComponent {
-        share,
-        weights,
-        edges,
-    })
+fn names(alloc: Global) -> Result<List<Text>, NoMemory>
+    ensures { IfOk result (λ names. length names ≡ 2) }
+{
+    let mut names = List::new(alloc);
+    names.push(Text::copy(alloc, b"A")?)?;
+    names.push(Text::copy(alloc, b"B")?)?;
+    Ok(names)
 }
 
-fn case(
-    rt: &impl Abort,
-    alloc: Global,
-    names: &[&[u8]],
-    components: List<DraftComponent>,
-) -> Result<Case, NoMemory> {
-    let mut texts = List::new(alloc);
-    for name in names {
-        texts.push(Text::copy(alloc, name)?)?;
-    }
+/// Two hypotheses, and two components of share 1/2: in each of them one hypothesis has all the weight, and passes it
+/// to the other one.
+fn two_ways(rt: &impl Abort, alloc: Global) -> Result<Case, NoMemory> {
+    let mut components = List::new(alloc);
+    components.push(half_component(alloc, one(), none(), 0, 1)?)?;
+    components.push(half_component(alloc, none(), one(), 1, 0)?)?;
     let draft = Draft {
-        names: texts,
+        names: names(alloc)?,
         alpha: half(),
         p: List::new(alloc),
         components,
@@ -85,52 +121,56 @@ fn case(
 }
 
 /// The level of each hypothesis, none where it was removed.
-fn expect_levels(rt: &impl Abort, net: &CaseNet, wanted: &[Option<(i128, i128)>]) {
-    assert_eq!(rt; net.size(), wanted.len());
+fn expect_levels<R: Remover>(rt: &impl Abort, bundle: &Bundle<R>, wanted: &[Option<(i128, i128)>]) {
+    assert_eq!(rt; bundle.size(), wanted.len());
     for (k, entry) in wanted.iter().enumerate() {
-        assert!(rt; k < net.size());
-        assert_eq!(rt; net.is_live(k), entry.is_some(), "whether {k} is in");
-        if net.is_live(k) {
-            let level = net.weight_limit(k).ratio();
+        assert!(rt; k < bundle.size());
+        assert_eq!(rt; bundle.is_live(k), entry.is_some(), "whether {k} is in");
+        if bundle.is_live(k) {
+            let level = bundle.weight_limit(k).ratio();
             assert_eq!(rt; Some((level.num(), level.den())), *entry, "level of {k}");
         }
     }
 }
 
-fn remove(rt: &impl Abort, net: &mut CaseNet, j: usize) -> Result<(), WideAt> {
-    assert!(rt; j < net.size());
-    assert!(rt; net.is_live(j));
-    net.remove(j)
+fn expect_case_levels(rt: &impl Abort, nets: &CaseNet, wanted: &[Option<(i128, i128)>]) {
+    assert_eq!(rt; nets.size(), wanted.len());
+    for (k, entry) in wanted.iter().enumerate() {
+        assert!(rt; k < nets.size());
+        assert_eq!(rt; nets.is_live(k), entry.is_some(), "whether {k} is in");
+        if nets.is_live(k) {
+            let level = nets.weight_limit(k).ratio();
+            assert_eq!(rt; Some((level.num(), level.den())), *entry, "level of {k}");
+        }
+    }
 }
 
-fn load(rt: &impl Abort, alloc: Global, case: &Case) -> Result<CaseNet, OpenFault> {
-    assert!(rt; case.is_plain());
-    CaseNet::load(alloc, case)
+fn remove<R: Remover>(rt: &impl Abort, bundle: &mut Bundle<R>, j: usize) -> Result<(), WideAt> {
+    assert!(rt; j < bundle.size());
+    assert!(rt; bundle.is_live(j));
+    bundle.remove(j)
 }
 
 #[test]
 fn levels_of_one_component_are_its_weights(rt: HostRuntime) -> Result<(), Fail> {
-    let mut components = List::new(rt.alloc());
-    components.push(holm(rt.alloc())?)?;
-    let case = case(&rt, rt.alloc(), &[b"A", b"B", b"C"], components)?;
-    let mut net = load(&rt, rt.alloc(), &case)?;
-    expect_levels(&rt, &net, &[Some((1, 3)), Some((1, 3)), Some((1, 3))]);
-    remove(&rt, &mut net, 1)?;
-    expect_levels(&rt, &net, &[Some((1, 2)), None, Some((1, 2))]);
-    remove(&rt, &mut net, 0)?;
-    expect_levels(&rt, &net, &[None, None, Some((1, 1))]);
+    let mut bundle = whole(rt.alloc(), holm(rt.alloc())?)?;
+    expect_levels(&rt, &bundle, &[Some((1, 3)), Some((1, 3)), Some((1, 3))]);
+    remove(&rt, &mut bundle, 1)?;
+    expect_levels(&rt, &bundle, &[Some((1, 2)), None, Some((1, 2))]);
+    remove(&rt, &mut bundle, 0)?;
+    expect_levels(&rt, &bundle, &[None, None, Some((1, 1))]);
     Ok(())
 }
 
 #[test]
 fn levels_are_shared_sums(rt: HostRuntime) -> Result<(), Fail> {
-    let mut components = List::new(rt.alloc());
-    components.push(one_way(rt.alloc(), half(), 0, 1)?)?;
-    components.push(one_way(rt.alloc(), half(), 1, 0)?)?;
-    let case = case(&rt, rt.alloc(), &[b"A", b"B"], components)?;
-    let mut net = load(&rt, rt.alloc(), &case)?;
-    expect_levels(&rt, &net, &[Some((1, 2)), Some((1, 2))]);
-    remove(&rt, &mut net, 0)?;
-    expect_levels(&rt, &net, &[None, Some((1, 1))]);
+    let case = two_ways(&rt, rt.alloc())?;
+    assert!(rt; case.is_plain());
+    let mut nets = CaseNet::load(rt.alloc(), &case)?;
+    expect_case_levels(&rt, &nets, &[Some((1, 2)), Some((1, 2))]);
+    assert!(rt; 0 < nets.size());
+    assert!(rt; nets.is_live(0));
+    nets.remove(0)?;
+    expect_case_levels(&rt, &nets, &[None, Some((1, 1))]);
     Ok(())
 }

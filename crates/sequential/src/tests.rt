@@ -1,5 +1,15 @@
+ghost use Rattle.std.specs.Prelude.{◌≡◌, ◌&&◌, [], map, not, true, nat_lt, IsTrue, IfOk};
+ghost use Rattle.std.specs.List.{list_all};
+ghost use Rattle.field_core.specs.Examples.{set_of};
+ghost use Rattle.case_model.specs.Draft.{have_known_ends};
+ghost use Rattle.case_model.specs.DraftView.{edge_said, said};
+ghost use Rattle.case_model.specs.CaseView.{content};
+ghost use Rattle.sequential.specs.TrialAnswers.{IsSingle};
+ghost use Rattle.sequential.specs.TrialView.{trial};
+
 use crate::{DecideFault, Decision, Priority, RejectFault, StepLine, Trial, decide};
 use case_model::{Case, Draft, DraftComponent, DraftEdge, Entry, Inputs};
+use entangled::OpenFault;
 use field_core::{List, NoMemory, Number, Op, Place, Text, WideAt};
 use fraction::Fraction;
 use std::alloc::Global;
@@ -27,15 +37,20 @@ fn fraction(rt: &impl Abort, parts: Parts) -> Fraction {
     }
 }
 
+/// An edge of this weight.
+fn plain(weight: Fraction) -> Entry {
+    let none = Fraction::zero();
+    Entry::new([weight, none, none, none, none])
+}
+
 fn component(rt: &impl Abort, alloc: Global, sample: &Sample) -> Result<DraftComponent, NoMemory> {
     let mut weights = List::new(alloc);
     for parts in sample.weights {
         weights.push(fraction(rt, *parts))?;
     }
-    let none = Fraction::zero();
     let mut edges = List::new(alloc);
     for (from, to, parts) in sample.edges {
-        let entry = Entry::new([fraction(rt, *parts), none, none, none, none]);
+        let entry = plain(fraction(rt, *parts));
         edges.push(DraftEdge {
             from: *from,
             to: *to,
@@ -47,6 +62,47 @@ fn component(rt: &impl Abort, alloc: Global, sample: &Sample) -> Result<DraftCom
         weights,
         edges,
     })
+}
+
+/// Whether each edge goes from one of so many hypotheses to one of them.
+fn go_between(count: usize, edges: &[DraftEdge]) -> bool
+    ensures { result ≡ list_all (λ e. nat_lt e.from count && nat_lt e.to count) (map edge_said edges.now) }
+{
+    edges
+        .iter()
+        .all(|edge| edge.from < count && edge.to < count)
+}
+
+/// Whether each edge goes from a hypothesis to a hypothesis.
+fn has_known_ends(draft: &Draft) -> bool
+    ensures { result ≡ have_known_ends (said draft.now) }
+{
+    let count = draft.names.len();
+    draft
+        .components
+        .as_slice()
+        .iter()
+        .all(|component| go_between(count, component.edges.as_slice()))
+}
+
+/// Whether there is a p-value for each hypothesis.
+fn is_single(case: &Case) -> bool
+    ensures { IsTrue result → IsSingle (content case.now).inputs }
+{
+    match case.inputs() {
+        Inputs::Single(_) => true,
+        _ => false,
+    }
+}
+
+/// Whether a position isn't on a list.
+fn is_missing(positions: &[usize], k: usize) -> bool
+    ensures { result ≡ not (set_of positions.now k) }
+{
+    match positions {
+        [] => true,
+        [first, rest @ ..] => k != *first && is_missing(rest, k),
+    }
 }
 
 fn case(rt: &impl Abort, alloc: Global, sample: &Sample) -> Result<Case, NoMemory> {
@@ -65,6 +121,8 @@ fn case(rt: &impl Abort, alloc: Global, sample: &Sample) -> Result<Case, NoMemor
         components,
         stages: None,
     };
+    assert!(rt; has_known_ends(&draft));
+    assert!(rt; draft.stages.is_none());
     match draft.finish(alloc) {
         Ok(case) => Ok(case),
         Err(_) => panic!(rt; "a fault"),
@@ -86,6 +144,8 @@ fn decided(
     priority: Priority,
 ) -> Result<Decision, DecideFault> {
     let case = case(rt, alloc, sample)?;
+    assert!(rt; case.is_plain());
+    assert!(rt; is_single(&case));
     decide(alloc, &case, priority)
 }
 
@@ -313,25 +373,63 @@ fn a_run_that_is_too_wide_names_its_step(rt: HostRuntime) -> Result<(), Fail> {
     Ok(())
 }
 
+fn opened(rt: &impl Abort, alloc: Global, case: &Case) -> Result<Trial, OpenFault> {
+    assert!(rt; case.is_plain());
+    assert!(rt; is_single(case));
+    Trial::open(alloc, case)
+}
+
+fn reject(rt: &impl Abort, trial: &mut Trial, j: usize) -> Result<(), RejectFault> {
+    assert!(rt; j < trial.size());
+    let is_legal = trial.can_reject(j);
+    let answer = trial.reject(j);
+    assert_eq!(rt; answer.is_ok(), is_legal);
+    answer
+}
+
+fn expect_weight(rt: &impl Abort, trial: &Trial, k: usize, wanted: Parts) {
+    assert!(rt; k < trial.size());
+    assert!(rt; is_missing(trial.rejected(), k));
+    let weight = trial.weight_limit(k).ratio();
+    assert_eq!(rt; (weight.num(), weight.den()), wanted);
+}
+
 #[test]
 fn a_trial_rejects_what_is_legal(rt: HostRuntime) -> Result<(), Fail> {
     let case = case(&rt, rt.alloc(), &holm())?;
-    let mut trial = Trial::open(rt.alloc(), &case)?;
-    assert_eq!(rt; trial.size(), 3);
-    assert!(rt; !trial.can_reject(2));
-    match trial.reject(2) {
-        Err(RejectFault::NotLegal(weight)) => assert_eq!(rt; (weight.num(), weight.den()), (1, 3)),
+    let mut trial = opened(&rt, rt.alloc(), &case)?;
+    match reject(&rt, &mut trial, 2) {
+        Err(RejectFault::NotLegal(weight)) => {
+            assert_eq!(rt; (weight.num(), weight.den()), (1, 3));
+        }
         _ => panic!(rt; "not refused"),
     }
-    assert!(rt; trial.can_reject(1));
-    assert!(rt; trial.reject(1).is_ok());
-    match trial.reject(1) {
+    assert!(rt; reject(&rt, &mut trial, 1).is_ok());
+    match reject(&rt, &mut trial, 1) {
         Err(RejectFault::Rejected) => (),
         _ => panic!(rt; "rejected twice"),
     }
-    let weight = trial.weight_limit(0).ratio();
-    assert_eq!(rt; (weight.num(), weight.den()), (1, 2));
-    assert!(rt; trial.reject(0).is_ok());
+    expect_weight(&rt, &trial, 0, (1, 2));
+    assert!(rt; reject(&rt, &mut trial, 0).is_ok());
     assert_eq!(rt; trial.rejected(), [1, 0].as_slice());
+    Ok(())
+}
+
+#[test]
+fn a_rejection_that_is_too_wide_changes_nothing(rt: HostRuntime) -> Result<(), Fail> {
+    let case = case(&rt, rt.alloc(), &chain(&LINKS))?;
+    let mut trial = opened(&rt, rt.alloc(), &case)?;
+    assert!(rt; reject(&rt, &mut trial, 0).is_ok());
+    assert!(rt; reject(&rt, &mut trial, 1).is_ok());
+    let weight = (1, 999_999_999_999_999_999_000_000_000_000_000_000);
+    expect_weight(&rt, &trial, 2, weight);
+    assert!(rt; 2 < trial.size());
+    match trial.reject(2) {
+        Err(RejectFault::Wide(wide)) => assert_eq!(rt; wide.place, Place::Weight(3)),
+        _ => panic!(rt; "not too wide"),
+    }
+    expect_weight(&rt, &trial, 2, weight);
+    expect_weight(&rt, &trial, 3, (0, 1));
+    assert_eq!(rt; trial.rejected(), [0, 1].as_slice());
     Ok(())
 }

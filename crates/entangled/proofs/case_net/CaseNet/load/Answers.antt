@@ -1,35 +1,34 @@
-use Rattle.std.proofs.Common.{◌≡◌, refl, sym, ap, ap₂, subst, ◌∙◌, ◌<◌, List, map, length, Ok, Err, rules}
+use Rattle.std.proofs.Common.{◌≡◌, sym, ap, ap₂, subst, ◌∙◌, ◌<◌, List, map, length, Err, rules}
 use Rattle.std.proofs.lemmas.List.{length-map}
 use Rattle.std.specs.List.{All}
-use Rattle.field_core.specs.Terms.{Terms}
 use Rattle.fraction.specs.View.{terms_of}
 use Rattle.fraction.specs.Plain.{plain}
-use Rattle.case_model.specs.Content.{ComponentContent}
 use Rattle.case_model.specs.CaseView.{content}
-use Rattle.case_model.proofs.CaseFacts.{case_shape, case_graph}
+use Rattle.case_model.proofs.CaseFacts.{case_graph}
 use Rattle.removal.specs.StoredGraph.{StoredGraph, size as graph_size, AreAllLive}
 use Rattle.removal.specs.NetView.{present_of}
 use Rattle.entangled.specs.Shares.{AreShares}
 use Rattle.entangled.specs.Bundled.{states_size, opened}
-use Rattle.entangled.specs.CaseRun.{component_graph, case_opening}
+use Rattle.entangled.specs.CaseRun.{case_opening}
 use Rattle.entangled.specs.CaseNetView.{case_state}
 use Rattle.entangled.specs.declared.case_net.CaseNet.TheVariants.{Plain}
-use Rattle.entangled.proofs.CaseStart.{graphs_size, graphs_live, case_shares, fault_passed}
+use Rattle.entangled.proofs.CaseLevels.{ready}
+use Rattle.entangled.proofs.CaseStart.{case_shares, fault_passed}
 use Rattle.entangled.proofs.case_net.CaseNet.load.Goals as goal
 
 pub try_new-requires-clause-some : goal.try_new-requires-clause-some
 try_new-requires-clause-some c =
-    let ks = (content c.args.case.now).components in
-    let count : length c.in_ok-nets.nets ≡ length ks = sym (length-map c.in_ok-nets.nets present_of) ∙ ap length c.in_ok-nets.ensures ∙ length-map ks component_graph in
-    subst (λ n. 0 < n) (sym count) (case_shape c.args.case.now).some_components
+    let case = c.args.case.now in
+    let count = ap length (sym c.in_ok-nets.ensures) ∙ length-map c.in_ok-nets.nets present_of in
+    subst (λ n. 0 < n) count (ready (content case) case.valid c.requires).some
 
 pub try_new-requires-clause-size : goal.try_new-requires-clause-size
 try_new-requires-clause-size c =
-    let case = content c.args.case.now in
-    subst (λ (Gs : List StoredGraph). All (λ G. graph_size G ≡ states_size (λ G. G) Gs) Gs) (sym c.in_ok-nets.ensures) (graphs_size case (case_shape c.args.case.now) (case_shape c.args.case.now).some_components)
+    let case = c.args.case.now in
+    subst (λ (Gs : List StoredGraph). All (λ G. graph_size G ≡ states_size (λ G. G) Gs) Gs) (sym c.in_ok-nets.ensures) (ready (content case) case.valid c.requires).same_size
 
 pub try_new-requires-clause-live : goal.try_new-requires-clause-live
-try_new-requires-clause-live c = subst (All AreAllLive) (sym c.in_ok-nets.ensures) (graphs_live (content c.args.case.now) (case_shape c.args.case.now))
+try_new-requires-clause-live c = let case = c.args.case.now in subst (All AreAllLive) (sym c.in_ok-nets.ensures) (ready (content case) case.valid c.requires).live
 
 pub try_new-requires-clause-shares : goal.try_new-requires-clause-shares
 try_new-requires-clause-shares c =

@@ -1,4 +1,4 @@
-use Rattle.std.proofs.Common.{◌≡◌, refl, sym, ap, ap₂, subst, ◌∙◌, ◌*◌, ◌≤◌, List, map, length, IfOk}
+use Rattle.std.proofs.Common.{◌≡◌, refl, sym, ap, subst, ◌∙◌, ◌*◌, ◌≤◌, List, map, length, IfOk}
 use Rattle.std.proofs.lemmas.List.{length-map}
 use Rattle.field_core.specs.Terms.{Terms}
 use Rattle.fraction.specs.View.{terms_of}
@@ -6,10 +6,12 @@ use Rattle.fraction.specs.Plain.{plain}
 use Rattle.case_model.specs.Sums.{terms_at}
 use Rattle.case_model.specs.Content.{component_at}
 use Rattle.case_model.specs.CaseView.{content}
-use Rattle.case_model.proofs.CaseFacts.{case_shape, case_graph}
+use Rattle.case_model.proofs.CaseFacts.{case_shape}
 use Rattle.removal.specs.ByValue.{IsSound}
 use Rattle.removal.specs.NetView.{present_of}
-use Rattle.entangled.proofs.CaseNets.{sound, graph_is, as_long}
+use Rattle.entangled.proofs.CaseGraphs.{component_sound}
+use Rattle.entangled.proofs.CaseLevels.{plain_component}
+use Rattle.entangled.proofs.CaseParts.{graph_is, as_long}
 use Rattle.entangled.proofs.case_net.load.plain_net.Goals as goal
 
 pub try_new-requires-clause-square : goal.try_new-requires-clause-square
@@ -29,7 +31,7 @@ try_new-requires-clause-sound c =
     let k = component_at (content case).components c.args.c in
     subst (λ G. IsSound plain G)
     (sym (graph_is c.as_slice.result.now c.as_slice-2.result.now k (ap (map terms_of) c.as_slice.ensures ∙ c.in_ok-weights.ensures) (ap (map terms_of) c.as_slice-2.ensures ∙ c.in_ok-edges.ensures)))
-    (sound (content case) (case_shape case) (case_graph case) c.requires.plain c.args.c c.requires.component)
+    (component_sound (length case.names) k (plain_component (content case) case.valid c.requires.plain c.args.c c.requires.component))
 
 pub returns : goal.returns
 returns c =
