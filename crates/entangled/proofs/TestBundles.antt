@@ -3,7 +3,6 @@ use Rattle.std.proofs.Common.{◌≡◌, refl, sym, ap, ap₂, subst, ◌∙◌,
 use Rattle.std.proofs.lemmas.List.Elements.{All-nil, All-cons}
 use Rattle.std.specs.List.{All, list_all}
 use Rattle.field_core.specs.Terms.{Terms}
-use Rattle.field_core.specs.Number.{Number}
 use Rattle.field_core.specs.Arithmetic.{number_zero, number_one}
 use Rattle.field_core.specs.Order.{◌≤ε◌}
 use Rattle.field_core.specs.NumberField.{number_field}

@@ -121,11 +121,7 @@ fn two_ways(rt: &impl Abort, alloc: Global) -> Result<Case, NoMemory> {
 }
 
 /// The level of each hypothesis, none where it was removed.
-fn expect_levels<R: Remover>(
-    rt: &impl Abort,
-    bundle: &Bundle<R>,
-    wanted: &[Option<(i128, i128)>],
-) {
+fn expect_levels<R: Remover>(rt: &impl Abort, bundle: &Bundle<R>, wanted: &[Option<(i128, i128)>]) {
     assert_eq!(rt; bundle.size(), wanted.len());
     for (k, entry) in wanted.iter().enumerate() {
         assert!(rt; k < bundle.size());
@@ -158,11 +154,7 @@ fn remove<R: Remover>(rt: &impl Abort, bundle: &mut Bundle<R>, j: usize) -> Resu
 #[test]
 fn levels_of_one_component_are_its_weights(rt: HostRuntime) -> Result<(), Fail> {
     let mut bundle = whole(rt.alloc(), holm(rt.alloc())?)?;
-    expect_levels(
-        &rt,
-        &bundle,
-        &[Some((1, 3)), Some((1, 3)), Some((1, 3))],
-    );
+    expect_levels(&rt, &bundle, &[Some((1, 3)), Some((1, 3)), Some((1, 3))]);
     remove(&rt, &mut bundle, 1)?;
     expect_levels(&rt, &bundle, &[Some((1, 2)), None, Some((1, 2))]);
     remove(&rt, &mut bundle, 0)?;

@@ -1,4 +1,4 @@
-use Rattle.std.proofs.Common.{◌≡◌, ap, ◌∙◌, ◌++◌, ◌∷◌, []}
+use Rattle.std.proofs.Common.{ap, ◌∙◌, ◌++◌, ◌∷◌, []}
 use Rattle.removal.specs.NetView.{present_of}
 use Rattle.entangled.proofs.TestBundles.{one_size, whole_share}
 use Rattle.entangled.proofs.tests.whole.Goals as goal

@@ -1,17 +1,15 @@
-use Rattle.std.proofs.Common.{◌≡◌, refl, sym, ap, ap₂, subst, ◌∙◌, ◌<◌, List, map, length, Ok, Err, rules}
+use Rattle.std.proofs.Common.{◌≡◌, sym, ap, ap₂, subst, ◌∙◌, ◌<◌, List, map, length, Err, rules}
 use Rattle.std.proofs.lemmas.List.{length-map}
 use Rattle.std.specs.List.{All}
-use Rattle.field_core.specs.Terms.{Terms}
 use Rattle.fraction.specs.View.{terms_of}
 use Rattle.fraction.specs.Plain.{plain}
-use Rattle.case_model.specs.Content.{ComponentContent}
 use Rattle.case_model.specs.CaseView.{content}
 use Rattle.case_model.proofs.CaseFacts.{case_graph}
 use Rattle.removal.specs.StoredGraph.{StoredGraph, size as graph_size, AreAllLive}
 use Rattle.removal.specs.NetView.{present_of}
 use Rattle.entangled.specs.Shares.{AreShares}
 use Rattle.entangled.specs.Bundled.{states_size, opened}
-use Rattle.entangled.specs.CaseRun.{component_graph, case_opening}
+use Rattle.entangled.specs.CaseRun.{case_opening}
 use Rattle.entangled.specs.CaseNetView.{case_state}
 use Rattle.entangled.specs.declared.case_net.CaseNet.TheVariants.{Plain}
 use Rattle.entangled.proofs.CaseLevels.{ready}

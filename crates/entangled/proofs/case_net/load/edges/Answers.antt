@@ -1,4 +1,4 @@
-use Rattle.std.proofs.Common.{◌≡◌, ◌≤◌, ◌*◌, ◌/◌, ◌%◌, List, ap, ap₂, ◌∙◌, map, length, arith}
+use Rattle.std.proofs.Common.{◌*◌, ◌/◌, ◌%◌, List, ap, ap₂, ◌∙◌, map, length, arith}
 use Rattle.field_core.specs.Terms.{Terms}
 use Rattle.fraction.specs.View.{terms_of}
 use Rattle.case_model.specs.Sums.{terms_at}

@@ -1,4 +1,4 @@
-use Rattle.std.proofs.Common.{◌≡◌, refl, sym, ap, ap₂, subst, ◌∙◌, ◌*◌, ◌≤◌, List, map, length, IfOk}
+use Rattle.std.proofs.Common.{◌≡◌, refl, sym, ap, subst, ◌∙◌, ◌*◌, ◌≤◌, List, map, length, IfOk}
 use Rattle.std.proofs.lemmas.List.{length-map}
 use Rattle.field_core.specs.Terms.{Terms}
 use Rattle.fraction.specs.View.{terms_of}

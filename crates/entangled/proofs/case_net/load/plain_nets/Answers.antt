@@ -1,4 +1,4 @@
-use Rattle.std.proofs.Common.{◌≡◌, ap, ◌∙◌, map, length, arith}
+use Rattle.std.proofs.Common.{ap, ◌∙◌, map, arith}
 use Rattle.case_model.specs.Content.{empty_component}
 use Rattle.case_model.specs.CaseView.{content}
 use Rattle.removal.specs.NetView.{present_of}

@@ -1,4 +1,4 @@
-use Rattle.std.proofs.Common.{◌≡◌, ap, ◌∙◌, map, length, arith}
+use Rattle.std.proofs.Common.{ap, ◌∙◌, map, arith}
 use Rattle.fraction.specs.View.{terms_of}
 use Rattle.case_model.specs.Content.{ComponentContent, empty_component}
 use Rattle.case_model.specs.CaseView.{content}

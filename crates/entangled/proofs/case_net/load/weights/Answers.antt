@@ -1,4 +1,4 @@
-use Rattle.std.proofs.Common.{◌≡◌, refl, ap, ◌∙◌, map, length, arith}
+use Rattle.std.proofs.Common.{◌≡◌, ap, ◌∙◌, map, length, arith}
 use Rattle.fraction.specs.View.{terms_of}
 use Rattle.case_model.specs.Sums.{terms_at, zero_terms}
 use Rattle.case_model.specs.Content.{component_at}
