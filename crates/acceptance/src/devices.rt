@@ -15,7 +15,7 @@ struct Row<'a> {
     take: u64,
     put: u64,
     status: u8,
-    held: &'a str,
+    held: &'a [u8],
 }
 
 fn expect_end(rt: &impl Abort, alloc: Global, row: Row) -> Result<(), NoMemory> {
@@ -34,13 +34,13 @@ fn expect_end(rt: &impl Abort, alloc: Global, row: Row) -> Result<(), NoMemory> 
     );
     let mut out = FailingSink::new(alloc, 5, list_of(alloc, &[put])?)?;
     let answered = status_of(alloc, words, &mut case, &mut out)?;
-    assert_eq!(rt; out.held(), held.as_bytes(), "{text} {take} {put}");
+    assert_eq!(rt; out.held(), held, "{text} {take} {put}");
     assert_eq!(rt; answered, status, "{text} {take} {put}");
     Ok(())
 }
 
 /// The tie with one failing take or put.
-fn tie<'a>(take: u64, put: u64, status: u8, held: &'a str) -> Row<'a> {
+fn tie<'a>(take: u64, put: u64, status: u8, held: &'a [u8]) -> Row<'a> {
     Row {
         words: &["test"],
         text: TIE,
@@ -58,9 +58,9 @@ const TAKES: u64 = 16;
 fn each_take_can_fail(rt: HostRuntime) -> Result<(), Fail> {
     let alloc = rt.alloc();
     for take in 1..=TAKES {
-        expect_end(&rt, alloc, tie(take, 0, 6, "read fault\n"))?;
+        expect_end(&rt, alloc, tie(take, 0, 6, b"read fault\n"))?;
     }
-    expect_end(&rt, alloc, tie(TAKES + 1, 0, 0, TIE_DECIDED))?;
+    expect_end(&rt, alloc, tie(TAKES + 1, 0, 0, TIE_DECIDED.as_bytes()))?;
     Ok(())
 }
 
@@ -70,12 +70,13 @@ const PUTS: usize = 17;
 #[test]
 fn each_put_can_fail(rt: HostRuntime) -> Result<(), Fail> {
     let alloc = rt.alloc();
-    assert_eq!(rt; TIE_DECIDED.len(), 83);
+    let answer = TIE_DECIDED.as_bytes();
+    assert_eq!(rt; answer.len(), 83);
     for before in 0..PUTS {
-        let held = &TIE_DECIDED[..5 * before];
+        let held = &answer[..5 * before];
         expect_end(&rt, alloc, tie(0, before as u64 + 1, 7, held))?;
     }
-    expect_end(&rt, alloc, tie(0, PUTS as u64 + 1, 0, TIE_DECIDED))?;
+    expect_end(&rt, alloc, tie(0, PUTS as u64 + 1, 0, answer))?;
     Ok(())
 }
 
@@ -113,7 +114,7 @@ fn each_put_of_a_refusal_can_fail(rt: HostRuntime) -> Result<(), Fail> {
             take,
             put,
             status,
-            held,
+            held: held.as_bytes(),
         };
         expect_end(&rt, rt.alloc(), row)?;
     }
@@ -153,7 +154,8 @@ fn want_of_room_is_a_fault(rt: HostRuntime) -> Result<(), Fail> {
         let mut case = MemorySource::new(list_of(alloc, TIE.as_bytes())?);
         let mut out = MemorySink::with_room(alloc, room)?;
         let status = status_of(alloc, &["test"], &mut case, &mut out)?;
-        assert_eq!(rt; out.held(), TIE_DECIDED[..held].as_bytes(), "{room}");
+        assert!(rt; held <= TIE_DECIDED.len());
+        assert_eq!(rt; out.held(), &TIE_DECIDED.as_bytes()[..held], "{room}");
         assert_eq!(rt; status, wanted, "{room}");
     }
     Ok(())

@@ -19,7 +19,7 @@ use Rattle.case_model.specs.Sums.{terms_at, number_at, zero_terms}
 use Rattle.case_model.specs.Entries.{entry_value, entry_at, no_edge, is_plain_entry}
 use Rattle.case_model.specs.Content.{ComponentContent, graph_of as graph_of_component}
 use Rattle.case_model.specs.Validity.{AreLowestParts}
-use Rattle.case_model.proofs.Tests.{all_at}
+use Rattle.case_model.proofs.Holding.{all_at}
 use Rattle.case_model.proofs.ExactSums.{stored_single, value_single}
 use Rattle.case_model.proofs.PlainEntries.{plain_entry_value}
 use Rattle.removal.specs.StoredGraph.{IsSquare, size, weight, edge, all_live, AreAllLive}

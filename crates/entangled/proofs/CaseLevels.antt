@@ -23,7 +23,7 @@ use Rattle.case_model.specs.EntangledGraph.{EntangledGraph}
 use Rattle.case_model.specs.IntersectionWeight.{IsIntersectionWeight}
 use Rattle.case_model.specs.Content.{Content, ComponentContent, component_at, empty_component, entangled, is_plain, graph_of as graph_of_component}
 use Rattle.case_model.specs.Validity.{IsValidContent, AreLowestParts}
-use Rattle.case_model.proofs.Tests.{all_at}
+use Rattle.case_model.proofs.Holding.{all_at}
 use Rattle.case_model.proofs.ValidContents.{HasShape, shape, valid_content}
 use Rattle.removal.specs.StoredGraph.{StoredGraph, size as graph_size, AreAllLive}
 use Rattle.removal.specs.ByValue.{graph_of, AreStored, IsSound}

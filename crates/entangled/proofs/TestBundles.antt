@@ -20,7 +20,7 @@ use Rattle.case_model.specs.Draft.{DraftContent, DraftEdgeContent, DraftComponen
 use Rattle.case_model.specs.DraftView.{component_said, edge_said}
 use Rattle.case_model.specs.declared.draft.DraftComponent.{DraftComponent}
 use Rattle.case_model.proofs.ExactSums.{value_single}
-use Rattle.case_model.proofs.Tests.{list_all_map}
+use Rattle.case_model.proofs.Holding.{list_all_map}
 use Rattle.removal.specs.StoredGraph.{StoredGraph, size as graph_size, all_live, AreAllLive}
 use Rattle.removal.proofs.Opening.{size-all_live, are_all_live}
 use Rattle.entangled.specs.Shares.{AreShares}

@@ -2,7 +2,7 @@ use Rattle.std.proofs.Common.{◌≡◌, sym, ◌∙◌, subst, ℕ, ◌<◌, na
 use Rattle.std.specs.List.{All, list_all}
 use Rattle.std.proofs.lemmas.List.Elements.{All-nil, All-cons}
 use Rattle.std.proofs.lemmas.Bool.Decides.{nat_tests}
-use Rattle.case_model.proofs.Tests.{both}
+use Rattle.case_model.proofs.Holding.{both}
 use Rattle.sequential.specs.DecisionView.{line}
 use Rattle.sequential.specs.declared.decision.StepLine.{StepLine}
 use Rattle.report.proofs.tests.are_of_case.Goals as goal
