@@ -8,6 +8,8 @@ mod devices;
 #[cfg(test)]
 mod graphs;
 #[cfg(test)]
+mod orders;
+#[cfg(test)]
 mod refused;
 #[cfg(test)]
 mod runs;
