@@ -39,8 +39,13 @@ fn fraction(rt: &impl Abort, parts: Parts) -> Fraction {
 
 /// An edge of this weight.
 fn plain(weight: Fraction) -> Entry {
-    let none = Fraction::zero();
-    Entry::new([weight, none, none, none, none])
+    Entry::new([
+        weight,
+        Fraction::zero(),
+        Fraction::zero(),
+        Fraction::zero(),
+        Fraction::zero(),
+    ])
 }
 
 fn component(rt: &impl Abort, alloc: Global, sample: &Sample) -> Result<DraftComponent, NoMemory> {
