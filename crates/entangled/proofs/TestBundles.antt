@@ -7,7 +7,7 @@ use Rattle.field_core.specs.Arithmetic.{number_zero, number_one}
 use Rattle.field_core.specs.Order.{◌≤ε◌}
 use Rattle.field_core.specs.NumberField.{number_field}
 use Rattle.field_core.specs.Sums.{sum_below}
-use Rattle.field_core.specs.Kind.{Parts}
+use Rattle.field_core.specs.Kind.{Parts, Kind}
 use Rattle.field_core.specs.LimitParts.{first}
 use Rattle.field_core.specs.Laws.AtMostLaws.{at_most_equal, zero_at_most_one}
 use Rattle.field_core.proofs.FieldLaws.{zero_add}
@@ -22,9 +22,12 @@ use Rattle.case_model.specs.declared.draft.DraftComponent.{DraftComponent}
 use Rattle.case_model.proofs.ExactSums.{value_single}
 use Rattle.case_model.proofs.Holding.{list_all_map}
 use Rattle.removal.specs.StoredGraph.{StoredGraph, size as graph_size, all_live, AreAllLive}
-use Rattle.removal.proofs.Opening.{size-all_live, are_all_live}
+use Rattle.removal.proofs.Opening.{are_all_live}
 use Rattle.entangled.specs.Shares.{AreShares}
-use Rattle.entangled.specs.Bundled.{states_size}
+use Rattle.removal.specs.Laws.Prefixes.{bind_ok, ok_same}
+use Rattle.entangled.specs.Bundled.{Bundled, states_size, written_levels, opened}
+use Rattle.entangled.specs.Opening.{Opens}
+use Rattle.entangled.specs.declared.open_fault.OpenFault.{OpenFault}
 
 -- ---- one net
 
@@ -33,10 +36,6 @@ unfolding states_size
 one_size present nets n e =
     subst (λ ns. All (λ G. graph_size G ≡ states_size (λ G. G) (map present ns)) (map present ns)) (sym e)
     (All-cons (λ G. graph_size G ≡ graph_size (present n)) (present n) [] refl (All-nil (λ G. graph_size G ≡ graph_size (present n))))
-
-pub opened_size : {A E : Type 0} (view : A → StoredGraph) (r : Result A E) (ws es : List Parts) (n : ℕ) → length ws ≡ n → IfOk r (λ x. view x ≡ all_live ws es) → IfOk r (λ x. graph_size (view x) ≡ n)
-opened_size view (Ok x) ws es n h e = ap graph_size e ∙ size-all_live ws es ∙ h
-opened_size view (Err f) ws es n h e = tt
 
 pub opened_live : {A E : Type 0} (view : A → StoredGraph) (r : Result A E) (ws es : List Parts) → IfOk r (λ x. view x ≡ all_live ws es) → IfOk r (λ x. AreAllLive (view x))
 opened_live view (Ok x) ws es e = subst AreAllLive (sym e) (are_all_live ws es)
@@ -82,3 +81,16 @@ unfolding have_known_ends
 two_known d ks first second n same two h g =
     ap₂ (λ m (ks : List DraftComponentContent). list_all (λ k. list_all (λ e. nat_lt e.from m && nat_lt e.to m) k.edges) ks) n (same ∙ ap (map component_said) two)
     ∙ ap₂ (λ a b. a && (b && true)) (list_all_map known edge_said first.edges ∙ h) (list_all_map known edge_said second.edges ∙ g)
+
+-- ---- the nets of a bundle that was opened
+
+opened_states : {S : Type 0} (K : Kind) (graph : S → StoredGraph) (states : List S) (shares : List Terms) (b : Bundled S) → opened K graph states shares ≡ Ok b → states ≡ b.states
+unfolding opened
+opened_states K graph states shares b h =
+    let levels = bind_ok (written_levels K graph states shares) _ b h in
+    let same : record { states = states; shares = shares; levels = levels.0 } ≡ b = ok_same (Ok b) _ b (sym levels.1.1) refl in
+    ap (λ b. b.states) same
+
+pub some_nets : {A S : Type 0} (view : A → Bundled S) (r : Result A OpenFault) (K : Kind) (graph : S → StoredGraph) (states : List S) (shares : List Terms) → 0 < length states → Opens view r (opened K graph states shares) → IfOk r (λ x. 0 < length (view x).states)
+some_nets view (Ok x) K graph states shares b h = subst (λ ss. 0 < length ss) (opened_states K graph states shares (view x) h) b
+some_nets view (Err f) K graph states shares b h = tt

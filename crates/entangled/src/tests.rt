@@ -1,12 +1,13 @@
 ghost use Rattle.std.specs.Prelude.{◌≡◌, ◌<◌, ◌&&◌, pos, true, IfOk, nat_lt, length};
 ghost use Rattle.std.specs.List.{list_all};
 ghost use Rattle.fraction.specs.Plain.{single};
-ghost use Rattle.removal.specs.StoredGraph.{size as graph_size, AreAllLive};
+ghost use Rattle.removal.specs.StoredGraph.{AreAllLive};
 ghost use Rattle.removal.specs.NetView.{present_of};
+ghost use Rattle.entangled.specs.BundleView.{bundled};
 
 use crate::{Bundle, CaseNet, OpenFault};
 use case_model::{Case, Draft, DraftComponent, DraftEdge, Entry};
-use field_core::{List, NoMemory, Number, Ratio, Text, WideAt};
+use field_core::{List, NoMemory, Number, Op, Place, Ratio, Text, WideAt};
 use fraction::Fraction;
 use removal::{Net, Remover};
 use std::alloc::Global;
@@ -37,10 +38,27 @@ fn third() -> Fraction
     Fraction::of(Ratio::new(1, 3))
 }
 
+fn first_link() -> Fraction
+    ensures { ⟦<Fraction as Number>⟧.parts result ≡ single (record { num = pos 1; den = pos 1000000000000000000 }) }
+{
+    Fraction::of(Ratio::new(1, 1_000_000_000_000_000_000))
+}
+
+fn second_link() -> Fraction
+    ensures { ⟦<Fraction as Number>⟧.parts result ≡ single (record { num = pos 1; den = pos 999999999999999999 }) }
+{
+    Fraction::of(Ratio::new(1, 999_999_999_999_999_999))
+}
+
+fn third_link() -> Fraction
+    ensures { ⟦<Fraction as Number>⟧.parts result ≡ single (record { num = pos 1; den = pos 999999999999999997 }) }
+{
+    Fraction::of(Ratio::new(1, 999_999_999_999_999_997))
+}
+
 /// Three hypotheses of weight 1/3, with edges of 1/2 between them.
 fn holm(alloc: Global) -> Result<Net<Fraction>, NoMemory>
-    ensures size { IfOk result (λ n. graph_size (present_of n) ≡ 3) }
-    ensures live { IfOk result (λ n. AreAllLive (present_of n)) }
+    ensures { IfOk result (λ n. AreAllLive (present_of n)) }
 {
     let weights = [third(), third(), third()];
     let edges = [
@@ -57,10 +75,36 @@ fn holm(alloc: Global) -> Result<Net<Fraction>, NoMemory>
     Net::try_new(alloc, &weights, &edges)
 }
 
+/// Four hypotheses in a chain, whose edges have no common factor.
+fn chain(alloc: Global) -> Result<Net<Fraction>, NoMemory>
+    ensures { IfOk result (λ n. AreAllLive (present_of n)) }
+{
+    let weights = [one(), none(), none(), none()];
+    let edges = [
+        none(),
+        first_link(),
+        none(),
+        none(),
+        none(),
+        none(),
+        second_link(),
+        none(),
+        none(),
+        none(),
+        none(),
+        third_link(),
+        none(),
+        none(),
+        none(),
+        none(),
+    ];
+    Net::try_new(alloc, &weights, &edges)
+}
+
 /// The one net has all of the level.
 fn whole(alloc: Global, net: Net<Fraction>) -> Result<Bundle<Net<Fraction>>, OpenFault>
-    requires size { graph_size (present_of net) ≡ 3 }
-    requires live { AreAllLive (present_of net) }
+    requires { AreAllLive (present_of net) }
+    ensures { IfOk result (λ b. 0 < length (bundled b).states) }
 {
     let mut nets = List::new(alloc);
     nets.push(net)?;
@@ -154,11 +198,30 @@ fn remove<R: Remover>(rt: &impl Abort, bundle: &mut Bundle<R>, j: usize) -> Resu
 #[test]
 fn levels_of_one_component_are_its_weights(rt: HostRuntime) -> Result<(), Fail> {
     let mut bundle = whole(rt.alloc(), holm(rt.alloc())?)?;
+    assert_eq!(rt; bundle.net(0).size(), 3);
     expect_levels(&rt, &bundle, &[Some((1, 3)), Some((1, 3)), Some((1, 3))]);
     remove(&rt, &mut bundle, 1)?;
     expect_levels(&rt, &bundle, &[Some((1, 2)), None, Some((1, 2))]);
     remove(&rt, &mut bundle, 0)?;
     expect_levels(&rt, &bundle, &[None, None, Some((1, 1))]);
+    Ok(())
+}
+
+#[test]
+fn a_removal_that_is_too_wide_changes_nothing(rt: HostRuntime) -> Result<(), Fail> {
+    let mut bundle = whole(rt.alloc(), chain(rt.alloc())?)?;
+    remove(&rt, &mut bundle, 0)?;
+    remove(&rt, &mut bundle, 1)?;
+    let level = (1, 999_999_999_999_999_999_000_000_000_000_000_000);
+    let levels = [None, None, Some(level), Some((0, 1))];
+    expect_levels(&rt, &bundle, &levels);
+    let wide = WideAt {
+        component: 0,
+        place: Place::Weight(3),
+        op: Op::Mul,
+    };
+    assert_eq!(rt; remove(&rt, &mut bundle, 2), Err(wide));
+    expect_levels(&rt, &bundle, &levels);
     Ok(())
 }
 
