@@ -1,29 +1,27 @@
 -- From the choices by the present state to those of the priorities.
-use Rattle.std.proofs.Common.{◌≡◌, refl, sym, ap, ap₂, ◌∙◌, subst, ℕ, ◌<◌, Bool, true, List, length, Option, Some, None, Result, Ok, Err, IfOk, OnOk, MatchOption}
+use Rattle.std.proofs.Common.{◌≡◌, sym, ap, ap₂, ◌∙◌, subst, ℕ, ◌<◌, true, length, Option, Some, None, Result, Ok, Err, IfOk, OnOk, MatchOption}
 use Rattle.std.proofs.lemmas.List.Elements.{All-get_or}
 use Rattle.field_core.specs.Terms.{Terms, IsReduced}
 use Rattle.field_core.specs.Number.{Number}
 use Rattle.field_core.specs.Arithmetic.{◌/ε◌}
 use Rattle.field_core.specs.Order.{◌≤ε◌, IsPositive}
 use Rattle.field_core.specs.Kind.{ok_map}
-use Rattle.field_core.specs.Sets.{IsIn}
 use Rattle.field_core.specs.Laws.AtMostLaws.{at_most_equal}
 use Rattle.field_core.specs.declared.place.WideAt.{WideAt}
 use Rattle.field_core.specs.declared.place.Op.TheVariants.{Div}
-use Rattle.fraction.specs.Plain.{single as single_parts, written_pair}
+use Rattle.fraction.specs.Plain.{single as single_parts}
 use Rattle.fraction.specs.Laws.PlainLaws.{plain_is_exact}
-use Rattle.case_model.specs.IntersectionWeight.{IsIntersectionWeight}
 use Rattle.case_model.specs.Sums.{number, number_at, terms_at}
 use Rattle.case_model.specs.Content.{Content, entangled}
 use Rattle.case_model.specs.Validity.{AreLowestInputs}
-use Rattle.case_model.specs.LegalOrder.{IsRatio, IsLeastRatio, IsLeastLegalRatio}
+use Rattle.case_model.specs.LegalOrder.{IsRatio, IsLeastRatio}
 use Rattle.case_model.proofs.ExactSums.{value_single, stored_single}
 use Rattle.case_model.proofs.IntersectionLaws.{intersection_unique}
 use Rattle.case_model.proofs.PriorityOrders.{least_unique, ratio_unique}
 use Rattle.entangled.specs.CaseRun.{is_live_in_case, case_level}
-use Rattle.sequential.specs.Trials.{TrialContent, IsTrialOf, IsLegalNow, MayReject, remaining}
+use Rattle.sequential.specs.Trials.{TrialContent, IsTrialOf, IsLegalNow, remaining}
 use Rattle.sequential.specs.WideDecisions.{HasWrittenRatio, IsWrittenRatio, AreDefinedBelow, written_ratio}
-use Rattle.sequential.specs.Choices.{MayRejectNone, IsFirstToReject, IsLastToReject, HasLeastRatioBelow, HasNoRatioBelow, IsChoice, IsLegalChoice, IsNoLegalRatio, no_ratio, not_legal}
+use Rattle.sequential.specs.Choices.{MayRejectNone, IsFirstToReject, IsLastToReject, HasLeastRatioBelow, IsChoice, IsLegalChoice, no_ratio, not_legal}
 use Rattle.sequential.specs.declared.priority.Priority.TheVariants.{First, Last, Ratio}
 use Rattle.entangled.proofs.CaseLevels.{case_lowest}
 use Rattle.sequential.proofs.RatioFacts.{level_divides}

@@ -1,20 +1,16 @@
 -- What a run that is done decides.
-use Rattle.std.proofs.Common.{◌≡◌, refl, sym, ap, ap₂, ◌∙◌, subst, inl, inr, ℕ, zero, suc, ◌+◌, ◌<◌, ◌≤◌, arith, Bool, true, false, cond, List, [], ◌∷◌, length, map, ◌↔◌}
+use Rattle.std.proofs.Common.{◌≡◌, refl, sym, ap, ap₂, ◌∙◌, subst, inl, inr, ℕ, zero, suc, ◌+◌, ◌<◌, arith, Bool, true, cond, List, [], ◌∷◌, length, map}
 use Rattle.std.specs.List.{filter, range_with_len, AllByRecursion}
 use Rattle.field_core.specs.Terms.{IsReduced}
-use Rattle.field_core.specs.Number.{Number}
-use Rattle.field_core.specs.Arithmetic.{number_zero}
-use Rattle.field_core.specs.Order.{◌≤ε◌}
 use Rattle.field_core.specs.Sets.{whole}
 use Rattle.field_core.specs.Runs.{left_after}
 use Rattle.field_core.specs.declared.place.WideAt.{WideAt}
 use Rattle.field_core.proofs.Live.{true_or_false}
-use Rattle.case_model.specs.EntangledGraph.{EntangledGraph, IsValidEntangled}
 use Rattle.case_model.specs.IntersectionWeight.{IsIntersectionWeight}
 use Rattle.case_model.specs.Sums.{number, number_at}
-use Rattle.case_model.specs.Content.{Content, ForSingle, entangled, IsRejectedIn}
-use Rattle.case_model.specs.LegalOrder.{IsRunBy, IsListed, IsLegalOrder, IsComplete}
-use Rattle.entangled.specs.CaseRun.{CaseState, is_live_in_case, case_level}
+use Rattle.case_model.specs.Content.{Content, ForSingle, entangled}
+use Rattle.case_model.specs.LegalOrder.{IsRunBy}
+use Rattle.entangled.specs.CaseRun.{CaseState, is_live_in_case}
 use Rattle.sequential.specs.DecisionView.{StepContent, line}
 use Rattle.sequential.specs.Trials.{TrialContent, IsTrialOf, remaining}
 use Rattle.sequential.specs.Decisions.{IsNext, hypotheses, HasWeightIn, IsDecisionWith, IsDecision}

@@ -1,10 +1,10 @@
 -- The lines of the hypotheses that are kept.
-use Rattle.std.proofs.Common.{◌≡◌, refl, sym, ap, ◌∙◌, ℕ, zero, suc, ◌+◌, ◌<◌, arith, Bool, true, false, cond, List, [], ◌∷◌, ◌++◌, map, append-nil, add-zero, zero-add, add-one}
+use Rattle.std.proofs.Common.{◌≡◌, sym, ap, ◌∙◌, ℕ, zero, suc, ◌+◌, arith, true, false, cond, List, [], ◌∷◌, ◌++◌, map, append-nil, add-zero, zero-add, add-one}
 use Rattle.std.proofs.lemmas.List.{map-append}
 use Rattle.std.proofs.lemmas.List.Elements.{filter-append}
 use Rattle.std.specs.List.{filter, range_with_len}
-use Rattle.entangled.specs.CaseRun.{CaseState, is_live_in_case, case_level}
-use Rattle.sequential.specs.DecisionView.{StepContent, line}
+use Rattle.entangled.specs.CaseRun.{CaseState, is_live_in_case}
+use Rattle.sequential.specs.DecisionView.{line}
 use Rattle.sequential.specs.Choices.{line_at, kept_below}
 use Rattle.sequential.specs.declared.decision.StepLine.{StepLine}
 

@@ -1,10 +1,9 @@
 -- Signs and quotients of fractions.
-use Rattle.std.proofs.Common.{◌≡◌, refl, sym, ap, ◌∙◌, inl, inr, Bool, true, false, Result, Ok, Err}
+use Rattle.std.proofs.Common.{◌≡◌, refl, sym, ap, ◌∙◌, inl, inr, true, false, Result, Ok, Err}
 use Rattle.std.specs.Ordering.{is_gt}
 use Rattle.std.specs.declared.cmp.Ordering.{Ordering}
 use Rattle.std.specs.declared.cmp.Ordering.TheVariants.{Less, Equal, Greater}
-use Rattle.field_core.specs.Number.{Number}
-use Rattle.field_core.specs.Arithmetic.{number_zero, number_sign}
+use Rattle.field_core.specs.Arithmetic.{number_sign}
 use Rattle.field_core.specs.Order.{IsPositive}
 use Rattle.field_core.specs.Terms.{Terms, IsReduced}
 use Rattle.field_core.specs.Kind.{Parts, is_zero, sign_of, ok_map}

@@ -1,25 +1,20 @@
 -- The run of a decision, step by step.
-use Rattle.std.proofs.Common.{◌≡◌, refl, sym, ap, ap₂, ◌∙◌, subst, subst₂, inl, inr, ◌⊎◌, ℕ, zero, suc, ◌+◌, ◌-◌, ◌<◌, ◌≤◌, arith, Bool, List, [], ◌∷◌, ◌++◌, length, map, Result, Ok, Err, add-one}
+use Rattle.std.proofs.Common.{◌≡◌, sym, ap, ◌∙◌, subst, subst₂, inl, inr, ◌⊎◌, ℕ, ◌+◌, ◌-◌, ◌<◌, arith, Bool, List, [], ◌∷◌, ◌++◌, length, add-one}
 use Rattle.std.proofs.lemmas.List.{map-append, length-map, length-append}
-use Rattle.field_core.specs.Terms.{Terms}
-use Rattle.field_core.specs.Number.{Number}
 use Rattle.field_core.specs.Sets.{dropping, whole}
 use Rattle.field_core.specs.Runs.{left_after}
 use Rattle.field_core.specs.declared.place.WideAt.{WideAt}
-use Rattle.fraction.specs.View.{terms_of}
 use Rattle.case_model.specs.EntangledGraph.{EntangledGraph}
 use Rattle.case_model.specs.IntersectionWeight.{IsIntersectionWeight}
 use Rattle.case_model.specs.Sums.{number, number_at}
 use Rattle.case_model.specs.Content.{Content, ForSingle, entangled}
-use Rattle.case_model.specs.LegalOrder.{IsOrderBy, IsCompleteBy}
+use Rattle.case_model.specs.LegalOrder.{IsOrderBy}
 use Rattle.case_model.proofs.RejectionOrders.{order_next}
-use Rattle.entangled.specs.CaseRun.{CaseState, case_level, case_removal}
-use Rattle.entangled.specs.CaseAfter.{case_after}
 use Rattle.sequential.specs.DecisionView.{StepContent, line}
-use Rattle.sequential.specs.Trials.{TrialContent, IsTrial, IsTrialOf, MayReject, remaining, IsNextTrial}
+use Rattle.sequential.specs.Trials.{TrialContent, IsTrial, IsTrialOf, remaining}
 use Rattle.sequential.specs.Decisions.{IsNext, hypotheses, HasWeightIn, HaveStepWeights}
 use Rattle.sequential.specs.WideDecisions.{AreChoicesDefined, IsWideChoice, IsWideRemoval, IsWideStep, IsWideDecision, IsDecideFault}
-use Rattle.sequential.specs.DecisionRuns.{IsStepOf, IsEndOf, IsWideNext, IsStepFault, IsRunSoFar, IsRun}
+use Rattle.sequential.specs.DecisionRuns.{IsStepOf, IsEndOf, IsStepFault, IsRunSoFar, IsRun}
 use Rattle.sequential.specs.declared.decision.StepLine.{StepLine}
 use Rattle.sequential.specs.declared.fault.DecideFault.TheVariants.{Wide}
 use Rattle.sequential.specs.declared.priority.Priority.{Priority}

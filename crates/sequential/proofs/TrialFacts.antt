@@ -1,14 +1,12 @@
 -- What is known of a trial of a case.
-use Rattle.std.proofs.Common.{◌≡◌, ◌≢◌, inl, inr, refl, sym, ap, ◌∙◌, subst, subst₂, ℕ, ◌<◌, Bool, true, false, List, [], ◌∷◌, ◌++◌, length, ◌↔◌, Result, Ok, Err}
+use Rattle.std.proofs.Common.{◌≡◌, inl, inr, refl, sym, ap, ◌∙◌, subst, subst₂, ℕ, ◌<◌, true, false, [], length, Ok}
 use Rattle.field_core.specs.Terms.{Terms}
-use Rattle.field_core.specs.Number.{Number}
 use Rattle.field_core.specs.Sets.{IsIn, whole}
-use Rattle.field_core.specs.Runs.{IsOrder, left_after}
+use Rattle.field_core.specs.Runs.{IsOrder}
 use Rattle.field_core.specs.Arithmetic.{number_zero}
 use Rattle.field_core.specs.Order.{◌≤ε◌}
 use Rattle.field_core.specs.Laws.NumberFieldLaws.{field_zero}
 use Rattle.field_core.proofs.Live.{true_not_false}
-use Rattle.field_core.specs.declared.place.WideAt.{WideAt}
 use Rattle.case_model.specs.EntangledGraph.{IsValidEntangled}
 use Rattle.case_model.specs.IntersectionWeight.{IsIntersectionWeight}
 use Rattle.case_model.specs.Sums.{number, number_at, terms_at}
@@ -23,7 +21,7 @@ use Rattle.case_model.proofs.ValidContents.{shape, valid_content}
 use Rattle.case_model.proofs.LegalSteps.{legal_distinct}
 use Rattle.case_model.proofs.RejectionOrders.{order_next, not_listed_left, left_not_listed, listed_or_not}
 use Rattle.case_model.proofs.ClosedTestLaws.{legal_passes, passes_legal, legal_rejected, rejected_listed}
-use Rattle.entangled.specs.CaseRun.{CaseState, case_size, is_live_in_case, case_level, case_opening, case_removal}
+use Rattle.entangled.specs.CaseRun.{case_size, is_live_in_case, case_level, case_opening}
 use Rattle.entangled.specs.CaseAfter.{case_after}
 use Rattle.sequential.specs.Trials.{TrialContent, IsTrialOf, IsLegalNow, MayReject, IsNextTrial, remaining}
 use Rattle.sequential.proofs.CaseRuns.{after_opening, after_next}

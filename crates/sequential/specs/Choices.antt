@@ -1,10 +1,10 @@
 -- The choices by the present state of a trial.
-use Rattle.std.specs.Prelude.{◌≡◌, ◌<◌, ◌+◌, ℕ, Bool, List, length, map, Option, Some, None}
+use Rattle.std.specs.Prelude.{◌<◌, ℕ, List, length, map, Option, Some, None}
 use Rattle.std.specs.List.{filter, range_with_len}
 use Rattle.field_core.specs.Terms.{Terms}
 use Rattle.field_core.specs.Order.{◌≤ε◌}
 use Rattle.field_core.specs.Sets.{whole}
-use Rattle.fraction.specs.View.{terms_of, number_of}
+use Rattle.fraction.specs.View.{terms_of}
 use Rattle.case_model.specs.Sums.{number, number_at}
 use Rattle.case_model.specs.Content.{Content, entangled}
 use Rattle.case_model.specs.LegalOrder.{IsFirst, IsLast}

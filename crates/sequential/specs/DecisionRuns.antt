@@ -1,19 +1,17 @@
 -- The run of a decision: its steps so far.
-use Rattle.std.specs.Prelude.{◌≡◌, ◌<◌, ◌⊎◌, ℕ, List, [], ◌∷◌, length, take, Bool, true, Option, Some, None, Ok, Err}
-use Rattle.field_core.specs.Terms.{Terms}
+use Rattle.std.specs.Prelude.{◌≡◌, ◌⊎◌, ℕ, List, Option, Some, None, Err}
 use Rattle.field_core.specs.Sets.{whole}
 use Rattle.field_core.specs.declared.place.WideAt.{WideAt}
 use Rattle.fraction.specs.View.{terms_of}
 use Rattle.case_model.specs.Sums.{number, number_at}
 use Rattle.case_model.specs.Content.{Content, entangled}
 use Rattle.case_model.specs.LegalOrder.{IsOrderBy, IsCompleteBy}
-use Rattle.entangled.specs.CaseRun.{CaseState, case_level, case_removal}
-use Rattle.entangled.specs.CaseAfter.{case_after}
+use Rattle.entangled.specs.CaseRun.{case_level, case_removal}
 use Rattle.sequential.specs.DecisionView.{StepContent}
 use Rattle.sequential.specs.Trials.{TrialContent, IsTrialOf, MayReject, IsNextTrial}
 use Rattle.sequential.specs.Decisions.{IsNext, hypotheses, HaveStepWeights}
 use Rattle.sequential.specs.WideDecisions.{IsChoiceDefined, IsWideChoice, IsDefinedAt, AreChoicesDefined}
-use Rattle.sequential.specs.Choices.{IsNextIn, IsChoice}
+use Rattle.sequential.specs.Choices.{IsNextIn}
 use Rattle.sequential.specs.declared.decision.StepLine.{StepLine}
 use Rattle.sequential.specs.declared.priority.Priority.{Priority}
 

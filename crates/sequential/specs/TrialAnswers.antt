@@ -1,5 +1,5 @@
 -- What the calls on a trial answer.
-use Rattle.std.specs.Prelude.{◌≡◌, ℕ, List, [], ◌∷◌, ◌++◌, Result, Ok, Err}
+use Rattle.std.specs.Prelude.{◌≡◌, ℕ, [], ◌∷◌, ◌++◌, Result, Ok, Err}
 use Rattle.field_core.specs.declared.ratio.Ratio.{Ratio}
 use Rattle.field_core.specs.View.{terms}
 use Rattle.case_model.specs.Sums.{number}

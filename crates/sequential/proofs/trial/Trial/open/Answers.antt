@@ -1,8 +1,7 @@
-use Rattle.std.proofs.Common.{◌≡◌, refl, sym, ap, ◌∙◌, map}
+use Rattle.std.proofs.Common.{sym, ap, ◌∙◌, map}
 use Rattle.fraction.specs.View.{terms_of}
 use Rattle.case_model.specs.Content.{single}
 use Rattle.case_model.specs.CaseView.{content}
-use Rattle.sequential.specs.Trials.{IsTrialOf}
 use Rattle.sequential.specs.TrialView.{trial}
 use Rattle.sequential.proofs.TrialFacts.{opened_trial}
 use Rattle.sequential.proofs.trial.Trial.open.Goals as goal

@@ -1,11 +1,10 @@
-use Rattle.std.proofs.Common.{◌≡◌, refl, sym, ap, ap₂, ◌∙◌, subst}
+use Rattle.std.proofs.Common.{sym, ap₂, ◌∙◌, subst}
 use Rattle.field_core.specs.Order.{IsPositive}
 use Rattle.field_core.specs.declared.place.Op.TheVariants.{Div}
 use Rattle.fraction.specs.Plain.{written_pair}
 use Rattle.fraction.specs.View.{terms_of}
 use Rattle.case_model.specs.Sums.{number}
 use Rattle.sequential.specs.WideDecisions.{written_ratio}
-use Rattle.sequential.specs.TrialView.{trial}
 use Rattle.sequential.proofs.RatioFacts.{positive_divides, quotient_in, refused_in}
 use Rattle.sequential.proofs.trial.Trial.ratio.Goals as goal
 

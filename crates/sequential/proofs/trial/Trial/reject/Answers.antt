@@ -1,5 +1,4 @@
-use Rattle.std.proofs.Common.{sym, ap, ◌∙◌, subst}
-use Rattle.field_core.specs.View.{terms}
+use Rattle.std.proofs.Common.{sym, ◌∙◌, subst}
 use Rattle.field_core.proofs.Live.{true_not_false}
 use Rattle.case_model.specs.Sums.{number}
 use Rattle.case_model.specs.Content.{entangled}
