@@ -80,8 +80,16 @@ fn each_put_can_fail(rt: HostRuntime) -> Result<(), Fail> {
     Ok(())
 }
 
-/// Each put of a line that says why there is no answer.
-const REFUSALS: [(&[&str], &str, u64, u64, u8, &str); 14] = [
+/// A put of an answer, and each put of a line that says why there is none.
+const REFUSALS: [(&[&str], &str, u64, u64, u8, &str); 15] = [
+    (
+        &["test"],
+        "alpha 0.05\nhypotheses H1\np 1\nweights 1\n",
+        0,
+        2,
+        7,
+        "alpha",
+    ),
     (&["test"], TIE, 2, 1, 7, ""),
     (&["test"], TIE, 2, 2, 7, "read "),
     (&["test"], TIE, 2, 3, 7, "read fault"),
