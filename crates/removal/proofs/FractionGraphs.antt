@@ -8,17 +8,13 @@ use Rattle.field_core.specs.Polynomial.{lowest}
 use Rattle.field_core.specs.Number.{Number, of_pair}
 use Rattle.field_core.specs.Arithmetic.{number_zero}
 use Rattle.field_core.specs.Fractions.{quotient, quotient_by}
-use Rattle.field_core.specs.Laws.FractionLaws.{quotient-pair, constant_nonzero, lowest-constant}
+use Rattle.field_core.specs.Laws.FractionLaws.{quotient-pair, quotient-zero, constant_nonzero, lowest-constant}
 use Rattle.field_core.specs.Graph.{Graph}
 use Rattle.field_core.specs.Exact.{value_of}
 use Rattle.fraction.specs.Plain.{plain, single}
 use Rattle.removal.specs.StoredGraph.{StoredGraph, size, is_live, weight, edge, all_live}
 use Rattle.removal.specs.ByValue.{graph_of, counts, IsSound}
 use Rattle.removal.proofs.SoundTest.{is_valid_test, sound_by_test}
-
-zero_by : (n d : List ℤ) (e : Dec (lowest d ≡ pos 0)) → lowest d ≡ pos 0 → quotient_by n d e ≡ number_zero
-zero_by n d (yes e) h = refl
-zero_by n d (no g) h = absurd (g h)
 
 -- The number n/d, with no test of d left.
 unfoldable pub shown_by : ℤ → ℤ → Number
@@ -27,8 +23,8 @@ shown_by n (pos (suc e)) = of_pair record { numerator = n ∷ []; denominator = 
 shown_by n (negsuc e) = of_pair record { numerator = n ∷ []; denominator = negsuc e ∷ []; nonzero = constant_nonzero (negsuc e) (λ h. cc) }
 
 value_by : (n d : ℤ) → quotient (n ∷ []) (d ∷ []) ≡ shown_by n d
-unfolding quotient shown_by
-value_by n (pos zero) = zero_by (n ∷ []) (pos zero ∷ []) (ℤ_discrete (lowest (pos zero ∷ [])) (pos 0)) (lowest-constant (pos zero))
+unfolding shown_by
+value_by n (pos zero) = quotient-zero (n ∷ []) (pos zero ∷ []) (lowest-constant (pos zero))
 value_by n (pos (suc e)) = quotient-pair _ _ (constant_nonzero (pos (suc e)) (λ h. cc))
 value_by n (negsuc e) = quotient-pair _ _ (constant_nonzero (negsuc e) (λ h. cc))
 

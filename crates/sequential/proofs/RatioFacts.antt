@@ -51,11 +51,6 @@ quotient_in (Ok x) t h = ap (λ p. Ok (pair_of p)) (same_parts (single x) (singl
     same_parts a b e = cc
 quotient_in (Err e) t h = absurd (cc)
 
--- and where it is refused
-pub refused_in : (r : Result Terms TooWide) (e : TooWide) → Path (Result Parts TooWide) (Err e) (ok_map single r) → r ≡ Err e
-refused_in (Ok x) e h = absurd (cc)
-refused_in (Err f) e h = cc
-
 -- a level above 0 may divide
 pub level_divides : (w : Terms) → IsReduced w → IsPositive (number w) → is_zero (single w) ≡ false
 level_divides w r h = elim (true_or_false (is_zero (single w))) [

@@ -12,12 +12,11 @@ use Rattle.std.specs.declared.cmp.Ordering.TheVariants.{Equal}
 use Rattle.field_core.specs.Laws.Ring.{negate_multiply, difference_none}
 use Rattle.field_core.specs.Laws.Integers.{integers}
 use Rattle.field_core.specs.Polynomial.{Same, coefficient, poly_add, poly_negate, poly_multiply, lowest, int_sign, IsNonZero}
-use Rattle.field_core.specs.Laws.PolynomialLaws.{ring, value, value-add, value-multiply, value-negate, value-zero, same_in, same_out, lowest-none, lowest-same, lowest-multiply, nonzero-multiply, product_nonzero, int_sign-scale, int_sign-none, positive_in}
+use Rattle.field_core.specs.Laws.PolynomialLaws.{ring, value, value-add, value-multiply, value-negate, value-zero, same_in, same_out, lowest-none, lowest-same, lowest-multiply, nonzero-multiply, factor_zero, int_sign-scale, int_sign-none, positive_in}
 use Rattle.field_core.specs.Number.{Pair, CrossEqual, of_pair}
 use Rattle.field_core.specs.Pairs.{pair_sign, pair_add, pair_negate}
 use Rattle.field_core.specs.Arithmetic.{◌+ε◌, ◌-ε◌, number_negate, number_sign, number_compare}
 use Rattle.field_core.specs.Laws.NumberLaws.{number_add_negate, number_sign_zero}
-use Rattle.field_core.specs.Laws.LimitRespects.{factor_zero}
 use Rattle.field_core.specs.Fractions.{quotient, fraction}
 use Rattle.field_core.specs.Laws.FractionLaws.{fraction-add, fraction-negate, fraction-sign, quotient-pair, constant_nonzero, constant-multiply}
 
