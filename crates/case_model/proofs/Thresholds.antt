@@ -10,7 +10,7 @@ use Rattle.field_core.specs.Number.{Number}
 use Rattle.field_core.specs.Arithmetic.{number_zero, number_one, number_sign, number_compare, ◌*ε◌, ◌/ε◌}
 use Rattle.field_core.specs.NumberField.{number_field}
 use Rattle.field_core.specs.Field.{AtMost}
-use Rattle.field_core.specs.Kind.{is_zero, ok_map, Parts}
+use Rattle.field_core.specs.Kind.{is_zero, Parts}
 use Rattle.field_core.specs.Laws.Order.{divide_multiply, subtract_zero}
 use Rattle.field_core.proofs.Orders.{mul_le_right, mul_le_cancel}
 use Rattle.field_core.proofs.Live.{true_or_false}
