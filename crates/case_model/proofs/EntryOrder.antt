@@ -16,7 +16,7 @@ use Rattle.field_core.specs.Laws.PolynomialLaws.{lowest-multiply, positive_in, i
 use Rattle.field_core.specs.Laws.FractionLaws.{quotient-add, quotient-multiply, quotient-pair, quotient-sign, constant_nonzero, constant-multiply, lowest-constant, fraction-add, fraction-negate, fraction-sign}
 use Rattle.field_core.specs.Laws.Effective.{product_positive, positive_nonzero}
 use Rattle.field_core.specs.Laws.Order.{number_laws, number_subtract_is}
-use Rattle.field_core.specs.Laws.NumberFieldLaws.{field_zero, field_sum}
+use Rattle.field_core.specs.Laws.NumberFieldLaws.{sum_nothing, sum_last}
 use Rattle.fraction.specs.declared.fraction.Fraction.{Fraction}
 use Rattle.fraction.specs.View.{terms_of}
 use Rattle.case_model.specs.Sums.{number, terms_at, number_at}
@@ -124,14 +124,6 @@ HasSign-horner : (ts : List Terms) → ArePositive ts → HasSign (horner ts) (f
 unfolding horner first_sign
 HasSign-horner [] h = HasSign-zero
 HasSign-horner (t ∷ ts) h = HasSign-add t.num t.den (horner ts) (first_sign ts) h.0 (HasSign-horner ts h.1)
-
-pub sum_last : (n : ℕ) (f : ℕ → Number) → sum_below number_field (suc n) f ≡ sum_below number_field n f +ε f n
-unfolding sum_below
-sum_last n f = field_sum (sum_below number_field n f) (f n)
-
-sum_nothing : (f : ℕ → Number) → sum_below number_field 0 f ≡ number_zero
-unfolding sum_below
-sum_nothing f = field_zero
 
 pub sum_of_five : (f : ℕ → Number) → sum_below number_field 5 f ≡ number_zero +ε f 0 +ε f 1 +ε f 2 +ε f 3 +ε f 4
 sum_of_five f = sum_last 4 f ∙ ap (λ x. x +ε f 4) (sum_last 3 f ∙ ap (λ x. x +ε f 3) (sum_last 2 f ∙ ap (λ x. x +ε f 2) (sum_last 1 f ∙ ap (λ x. x +ε f 1) (sum_last 0 f ∙ ap (λ x. x +ε f 0) (sum_nothing f)))))

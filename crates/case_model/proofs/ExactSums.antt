@@ -1,6 +1,5 @@
-use Rattle.std.proofs.Common.{◌≡◌, refl, sym, ap, ap₂, ◌∙◌, subst, ℕ, zero, suc, ◌<◌, Result, Ok, Err, arith, true}
+use Rattle.std.proofs.Common.{◌≡◌, refl, sym, ap, ap₂, ◌∙◌, subst, ℕ, zero, suc, ◌<◌, Ok, arith, true}
 use Rattle.field_core.specs.Terms.{Terms, IsReduced}
-use Rattle.field_core.specs.Sized.{◌>>=◌}
 use Rattle.field_core.specs.Kind.{ok_map}
 use Rattle.field_core.specs.Exact.{value_of, MayTake, exact_result}
 use Rattle.field_core.specs.Number.{Number}
@@ -8,16 +7,12 @@ use Rattle.field_core.specs.NumberField.{number_field}
 use Rattle.field_core.specs.Sums.{sum_below}
 use Rattle.field_core.specs.declared.place.Op.{Op}
 use Rattle.field_core.specs.declared.place.Op.TheVariants.{Add}
-use Rattle.field_core.specs.declared.place.TooWide.{TooWide}
 use Rattle.fraction.specs.Plain.{single, IsFraction, written_pair, zero_reduced}
 use Rattle.fraction.specs.Written.{written_add}
 use Rattle.fraction.specs.Laws.PlainLaws.{plain_is_exact}
+use Rattle.fraction.specs.Laws.WrittenLaws.{bind_ok}
 use Rattle.case_model.specs.Sums.{number, zero_terms, written_sum}
 use Rattle.field_core.specs.Laws.NumberFieldLaws.{field_zero, field_sum}
-
-pub bind_ok : {A B : Type 0} (r : Result A TooWide) (f : A → Result B TooWide) (y : B) → (r >>= f) ≡ Ok y → (x : A) × ((r ≡ Ok x) × (f x ≡ Ok y))
-bind_ok (Ok x) f y h = (x, (refl, h))
-bind_ok (Err e) f y h = absurd (cc)
 
 pub stored_single : (t : Terms) → IsReduced t → IsFraction (single t)
 stored_single t r = record { reduced = r; shape = refl }

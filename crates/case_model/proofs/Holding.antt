@@ -1,5 +1,5 @@
 -- What holds where tests are true.
-use Rattle.std.proofs.Common.{◌≡◌, refl, sym, ap, ◌∙◌, ℕ, zero, suc, ◌<◌, List, [], ◌∷◌, length, map, get_or, Bool, true, false, ◌&&◌, not, arith}
+use Rattle.std.proofs.Common.{◌≡◌, refl, sym, ◌∙◌, ℕ, zero, suc, ◌<◌, List, [], ◌∷◌, length, get_or, Bool, true, false, ◌&&◌, not, arith}
 use Rattle.std.specs.List.{list_all}
 
 pub record Both (a b : Bool) : Type 0 where
@@ -15,7 +15,3 @@ pub all_at : {A : Type 0} (test : A → Bool) (xs : List A) (i : ℕ) (d : A) �
 all_at test [] i d h p = absurd (omega arith)
 all_at test (x ∷ xs) zero d h p = (both (test x) (list_all test xs) h).left
 all_at test (x ∷ xs) (suc i) d h p = all_at test xs i d (both (test x) (list_all test xs) h).right (omega arith)
-
-pub list_all_map : {A B : Type 0} (test : B → Bool) (f : A → B) (xs : List A) → list_all test (map f xs) ≡ list_all (λ x. test (f x)) xs
-list_all_map test f [] = refl
-list_all_map test f (x ∷ xs) = ap (λ b. test (f x) && b) (list_all_map test f xs)

@@ -14,11 +14,11 @@ use Rattle.field_core.specs.Walks.{IsComponentWeight}
 use Rattle.field_core.specs.Runs.{weight_in}
 use Rattle.field_core.specs.Laws.AtMostLaws.{at_most_refl, zero_at_most_one}
 use Rattle.field_core.specs.Laws.LimitLaws.{IsFinite, IsFinite-add, limit_add, finite_between}
-use Rattle.field_core.specs.Laws.NumberFieldLaws.{field_zero, field_sum, at_most_out}
+use Rattle.field_core.specs.Laws.NumberFieldLaws.{field_zero, sum_nothing, sum_last, at_most_out}
 use Rattle.field_core.specs.Laws.Order.{number_multiply_zero}
 use Rattle.field_core.specs.Laws.NumberLaws.{number_ring, number_signed_field}
 use Rattle.field_core.specs.Laws.SignedField.{field_of}
-use Rattle.field_core.proofs.SumLaws.{sum_suc, sum_congr, sum_zero, sum_scale, sum_swap}
+use Rattle.field_core.proofs.SumLaws.{sum_congr, sum_zero, sum_scale, sum_swap}
 use Rattle.field_core.proofs.Live.{true_or_false}
 use Rattle.field_core.proofs.UnitLimits.{limit_unit, limit_zero}
 use Rattle.field_core.proofs.Weights.{weight_in_is}
@@ -30,22 +30,15 @@ use Rattle.case_model.proofs.IntersectionLaws.{total_at_least_zero, shared_at_mo
 
 -- ---- limits of sums
 
-below_zero : (f : ℕ → Number) → sum_below number_field zero f ≡ number_zero
-unfolding sum_below
-below_zero f = field_zero
-
-below_next : (n : ℕ) (f : ℕ → Number) → sum_below number_field (suc n) f ≡ sum_below number_field n f +ε f n
-below_next n f = sum_suc number_field n f ∙ field_sum (sum_below number_field n f) (f n)
-
 pub finite_sum : (n : ℕ) (f : ℕ → Number) → ((i : ℕ) → i < n → IsFinite (f i)) → IsFinite (sum_below number_field n f)
-finite_sum zero f h = rw (below_zero f) (finite_between number_zero (at_most_out number_zero number_zero (at_most_refl number_zero)) (at_most_out number_zero number_one zero_at_most_one))
-finite_sum (suc n) f h = rw (below_next n f) (IsFinite-add _ _ (finite_sum n f (λ i p. h i (omega arith))) (h n (omega arith)))
+finite_sum zero f h = rw (sum_nothing f) (finite_between number_zero (at_most_out number_zero number_zero (at_most_refl number_zero)) (at_most_out number_zero number_one zero_at_most_one))
+finite_sum (suc n) f h = rw (sum_last n f) (IsFinite-add _ _ (finite_sum n f (λ i p. h i (omega arith))) (h n (omega arith)))
 
 pub limit_of_sum : (n : ℕ) (f : ℕ → Number) → ((i : ℕ) → i < n → IsFinite (f i)) → limit (sum_below number_field n f) ≡ sum_below number_field n (λ i. limit (f i))
-limit_of_sum zero f h = ap limit (below_zero f) ∙ limit_zero ∙ sym (below_zero (λ i. limit (f i)))
+limit_of_sum zero f h = ap limit (sum_nothing f) ∙ limit_zero ∙ sym (sum_nothing (λ i. limit (f i)))
 limit_of_sum (suc n) f h =
-    ap limit (below_next n f) ∙ limit_add _ _ (finite_sum n f (λ i p. h i (omega arith))) (h n (omega arith))
-    ∙ ap (λ z. z +ε limit (f n)) (limit_of_sum n f (λ i p. h i (omega arith))) ∙ sym (below_next n (λ i. limit (f i)))
+    ap limit (sum_last n f) ∙ limit_add _ _ (finite_sum n f (λ i p. h i (omega arith))) (h n (omega arith))
+    ∙ ap (λ z. z +ε limit (f n)) (limit_of_sum n f (λ i p. h i (omega arith))) ∙ sym (sum_last n (λ i. limit (f i)))
 
 unit_finite : (x : Number) → IsUnit x → IsFinite x
 unit_finite x h = finite_between x (at_most_out number_zero x h.low) (at_most_out x number_one h.high)

@@ -22,6 +22,7 @@ pub mod PlainEntries
 pub mod PriorityOrders
 pub mod RejectionOrders
 pub mod RowTotals
+pub mod SingleInputs
 pub mod SumSteps
 pub mod Thresholds
 pub mod Totals

@@ -44,7 +44,7 @@ sum_next n f = ap (λ k. written_sum k f) (next n)
 sum_on : (n : ℕ) (f : ℕ → Terms) (s : Terms) → written_sum n f ≡ Ok s → written_sum (n + 1) f ≡ written_add Add s (f n)
 sum_on n f s e = sum_next n f ∙ ap (λ r. r >>= λ s. written_add Add s (f n)) e
 
-at_or_past : (n m : ℕ) → n ≤ suc m → (n ≡ suc m) ⊎ (n ≤ m)
+pub at_or_past : (n m : ℕ) → n ≤ suc m → (n ≡ suc m) ⊎ (n ≤ m)
 at_or_past n m h = grind arith
 
 -- what is refused on the way is refused in the end

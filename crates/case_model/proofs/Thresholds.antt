@@ -10,7 +10,7 @@ use Rattle.field_core.specs.Number.{Number}
 use Rattle.field_core.specs.Arithmetic.{number_zero, number_one, number_sign, number_compare, ◌*ε◌, ◌/ε◌}
 use Rattle.field_core.specs.NumberField.{number_field}
 use Rattle.field_core.specs.Field.{AtMost}
-use Rattle.field_core.specs.Kind.{is_zero, ok_map, Parts}
+use Rattle.field_core.specs.Kind.{is_zero, Parts}
 use Rattle.field_core.specs.Laws.Order.{divide_multiply, subtract_zero}
 use Rattle.field_core.proofs.Orders.{mul_le_right, mul_le_cancel}
 use Rattle.field_core.proofs.Live.{true_or_false}
@@ -22,7 +22,7 @@ use Rattle.field_core.specs.declared.place.TooWide.{TooWide}
 use Rattle.field_core.proofs.Sized.{sized_small}
 use Rattle.fraction.specs.Written.{written_mul, inverse, inverse_of}
 use Rattle.fraction.specs.Plain.{plain, single, zero_reduced, one_reduced}
-use Rattle.fraction.specs.Laws.PlainLaws.{plain_is_exact}
+use Rattle.fraction.specs.Laws.PlainLaws.{plain_is_exact, mapped_err}
 use Rattle.case_model.specs.Sums.{number}
 use Rattle.case_model.specs.Draft.{at_most, is_p_value, is_level, is_within, is_unit}
 use Rattle.case_model.proofs.Comparisons.{at_most_terms, at_most_is}
@@ -184,10 +184,6 @@ pub positive_out : (o : Ordering) → o ≡ Greater → not (is_le o) ≡ true
 positive_out Less h = absurd (cc)
 positive_out Equal h = absurd (cc)
 positive_out Greater h = refl
-
-mapped_err : (r : Result Terms TooWide) (e : TooWide) → Path (Result Parts TooWide) (Err e) (ok_map single r) → r ≡ Err e
-mapped_err (Ok x) e h = absurd (cc)
-mapped_err (Err f) e h = cc
 
 -- the division for a threshold is never refused
 pub threshold_never : (p a : Terms) (e : TooWide) → IsReduced p → is_p_value p ≡ true → is_level a ≡ true → Path (Result Parts TooWide) (Err e) (plain.written Div (single p) (single a)) → ⊥

@@ -1,5 +1,5 @@
 -- The entangled graph of a draft without a fault is valid.
-use Rattle.std.proofs.Common.{◌≡◌, refl, sym, ap, ap₂, subst, ◌∙◌, ℕ, zero, suc, ◌+◌, ◌*◌, ◌/◌, ◌%◌, ◌==◌, ◌<◌, ◌≤◌, List, [], ◌∷◌, length, map, get_or, Bool, true, false, ◌&&◌, not, Option, Some, None, ℤ, pos, negsuc, arith}
+use Rattle.std.proofs.Common.{◌≡◌, refl, sym, ap, ap₂, subst, ◌∙◌, ℕ, zero, suc, ◌+◌, ◌*◌, ◌/◌, ◌%◌, ◌==◌, ◌<◌, ◌≤◌, List, [], ◌∷◌, length, map, get_or, Bool, true, false, ◌&&◌, not, Option, Some, None, ℤ, pos, arith}
 use Rattle.std.proofs.lemmas.Bool.Decides.{nat_tests}
 use Rattle.std.proofs.lemmas.Nat.{mul-add-lt, div-mul-add, mod-mul-add}
 use Rattle.std.proofs.lemmas.List.{length-map, get_or-map}
@@ -9,20 +9,19 @@ use Rattle.std.specs.Option.{option_map_or, MatchOption}
 use Rattle.std.specs.Bool.{⊤}
 use lib.IntN.{ℤ_discrete}
 use Rattle.field_core.specs.Terms.{Terms}
-use Rattle.field_core.specs.Kind.{is_zero_integer}
-use Rattle.field_core.specs.Polynomial.{lowest}
 use Rattle.field_core.specs.Number.{Number}
 use Rattle.field_core.specs.Arithmetic.{number_zero, number_one, ◌*ε◌}
 use Rattle.field_core.specs.Order.{◌≤ε◌}
-use Rattle.field_core.specs.Fractions.{quotient, quotient_by, fraction}
+use Rattle.field_core.specs.Fractions.{fraction}
 use Rattle.field_core.specs.NumberField.{number_field}
 use Rattle.field_core.specs.Sums.{sum_below}
 use Rattle.field_core.specs.Graph.{Graph, IsValid}
 use Rattle.field_core.specs.Laws.Order.{number_zero_multiply}
-use Rattle.field_core.specs.Laws.FractionLaws.{fraction-zero, lowest-constant}
+use Rattle.field_core.specs.Laws.FractionLaws.{quotient-zero, fraction-zero, lowest-constant}
 use Rattle.field_core.specs.Laws.NumberFieldLaws.{field_zero, field_one}
 use Rattle.field_core.specs.Laws.AtMostLaws.{at_most_refl, zero_at_most_one}
 use Rattle.field_core.proofs.SumLaws.{sum_congr, sum_zero}
+use Rattle.fraction.specs.Laws.PlainLaws.{integer_zero}
 use Rattle.case_model.specs.EntangledGraph.{EntangledGraph, IsValidEntangled}
 use Rattle.case_model.specs.Sums.{number, terms_at, number_at, zero_terms}
 use Rattle.case_model.specs.Entries.{power_of_epsilon, entry_value, entry_at, is_zero_terms, is_zero_entry, no_edge}
@@ -36,18 +35,8 @@ use Rattle.case_model.proofs.ValidDrafts.{GoodComponent, good_component, share_t
 
 -- ---- the value 0
 
-integer_zero : (z : ℤ) → is_zero_integer z ≡ true → z ≡ pos 0
-integer_zero (pos zero) h = refl
-integer_zero (pos (suc n)) h = absurd (cc)
-integer_zero (negsuc n) h = absurd (cc)
-
-by_nothing : (n d : List ℤ) (e : Dec (lowest d ≡ pos 0)) → lowest d ≡ pos 0 → quotient_by n d e ≡ number_zero
-by_nothing n d (yes e) h = refl
-by_nothing n d (no g) h = absurd (g h)
-
 over_zero : fraction (pos 0) (pos 0) ≡ number_zero
-unfolding quotient
-over_zero = by_nothing (pos 0 ∷ []) (pos 0 ∷ []) (ℤ_discrete (lowest (pos 0 ∷ [])) (pos 0)) (lowest-constant (pos 0))
+over_zero = quotient-zero (pos 0 ∷ []) (pos 0 ∷ []) (lowest-constant (pos 0))
 
 zero_over : (d : ℤ) → Dec (d ≡ pos 0) → fraction (pos 0) d ≡ number_zero
 zero_over d (yes e) = ap (fraction (pos 0)) e ∙ over_zero

@@ -6,11 +6,9 @@ use Rattle.field_core.specs.declared.place.TooWide.{TooWide}
 use Rattle.fraction.specs.declared.fraction.Fraction.{Fraction}
 use Rattle.fraction.specs.View.{terms_of}
 use Rattle.case_model.specs.Sums.{zero_terms}
+use Rattle.case_model.proofs.SumSteps.{at_or_past}
 use Rattle.removal.specs.Steps.{◌>>=◌}
 use Rattle.entangled.specs.Shares.{with_product, written_products}
-
-at_or_past : (n m : ℕ) → n ≤ suc m → (n ≡ suc m) ⊎ (n ≤ m)
-at_or_past n m h = grind arith
 
 module _ (f g : ℕ → Terms) where
   pub products_none : written_products f g 0 ≡ Ok zero_terms

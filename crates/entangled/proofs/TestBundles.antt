@@ -20,7 +20,7 @@ use Rattle.case_model.specs.Draft.{DraftContent, DraftEdgeContent, DraftComponen
 use Rattle.case_model.specs.DraftView.{component_said, edge_said}
 use Rattle.case_model.specs.declared.draft.DraftComponent.{DraftComponent}
 use Rattle.case_model.proofs.ExactSums.{value_single}
-use Rattle.case_model.proofs.Holding.{list_all_map}
+use Rattle.std.proofs.lemmas.List.Folds.{list_all-map}
 use Rattle.removal.specs.StoredGraph.{StoredGraph, size as graph_size, all_live, AreAllLive}
 use Rattle.removal.proofs.Opening.{are_all_live}
 use Rattle.entangled.specs.Shares.{AreShares}
@@ -80,7 +80,7 @@ pub two_known : (d : DraftContent) (ks : List DraftComponent) (first second : Dr
 unfolding have_known_ends
 two_known d ks first second n same two h g =
     ap₂ (λ m (ks : List DraftComponentContent). list_all (λ k. list_all (λ e. nat_lt e.from m && nat_lt e.to m) k.edges) ks) n (same ∙ ap (map component_said) two)
-    ∙ ap₂ (λ a b. a && (b && true)) (list_all_map known edge_said first.edges ∙ h) (list_all_map known edge_said second.edges ∙ g)
+    ∙ ap₂ (λ a b. a && (b && true)) (list_all-map known edge_said first.edges ∙ h) (list_all-map known edge_said second.edges ∙ g)
 
 -- ---- the nets of a bundle that was opened
 

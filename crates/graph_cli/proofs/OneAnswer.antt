@@ -3,11 +3,12 @@ use Rattle.std.proofs.Common.{◌≡◌, refl, sym, ap, ap₂, ◌∙◌, subst,
 use Rattle.field_core.specs.Terms.{Terms}
 use Rattle.case_model.specs.declared.fault.CaseFault.{CaseFault}
 use Rattle.case_model.specs.CaseFaults.{case_fault}
-use Rattle.case_model.specs.Content.{Content, InputsContent, bare, single, staged, ForSingle, content_of}
+use Rattle.case_model.specs.Content.{Content, content_of}
 use Rattle.case_model.specs.Draft.{DraftContent}
+use Rattle.case_model.proofs.SingleInputs.{for_single}
 use Rattle.edge_text.specs.Grammar.{IsText}
 use Rattle.edge_text.proofs.TextLaws.{one_draft, one_first_fault, not_both}
-use Rattle.sequential.specs.Decisions.{IsDecision}
+use Rattle.sequential.specs.Decisions.{IsDecisionWith, IsDecision}
 use Rattle.sequential.specs.TrialAnswers.{IsSingle}
 use Rattle.sequential.specs.declared.priority.Priority.TheVariants.{First}
 use Rattle.sequential.proofs.DecisionLaws.{decision_unique}
@@ -24,13 +25,8 @@ use Rattle.graph_cli.specs.Laws.{HasOneAnswer}
 
 -- ---- the answer to a case
 
-single_inputs : (P : List Terms → Type 0) (inputs : InputsContent) → ForSingle inputs P → IsSingle inputs
-single_inputs P (single ps) h = tt
-single_inputs P bare h = absurd h
-single_inputs P (staged s) h = absurd h
-
 decided_single : (c : Content) (d : _) → IsDecision c First d → IsSingle c.inputs
-decided_single c d h = single_inputs _ c.inputs h
+decided_single c d = for_single (λ ps. IsDecisionWith c ps First d) IsSingle (λ ps h. tt) c.inputs
 
 one_case_answer : (c : Content) (a b : Answer) → IsCaseOutcome c a → IsCaseOutcome c b → a ≡ b
 one_case_answer c a b (other_kind n) (other_kind m) = refl

@@ -11,7 +11,8 @@ use Rattle.field_core.specs.Runs.{left_after}
 use Rattle.case_model.specs.EntangledGraph.{EntangledGraph}
 use Rattle.case_model.specs.LegalOrder.{IsOrderBy}
 use Rattle.case_model.specs.Sums.{number, number_at, zero_terms}
-use Rattle.case_model.specs.Content.{Content, InputsContent, ForSingle, bare, single, staged, entangled}
+use Rattle.case_model.specs.Content.{Content, entangled}
+use Rattle.case_model.proofs.SingleInputs.{for_single}
 use Rattle.sequential.specs.DecisionView.{StepContent, DecisionContent}
 use Rattle.sequential.specs.Decisions.{IsNext, IsDecisionWith, hypotheses}
 use Rattle.sequential.specs.declared.priority.Priority.{Priority}
@@ -55,11 +56,5 @@ with_p_values c ps priority d h = (
   kept_below (length c.names) (left_after whole (hypotheses d.steps)) d.kept h.kept,
 )
 
--- what holds whatever the single p-values are
-for_single : (inputs : InputsContent) (P : List Terms → Type 0) (Q : Type 0) → ((ps : List Terms) → P ps → Q) → ForSingle inputs P → Q
-for_single (single ps) P Q f h = f ps h
-for_single bare P Q f h = absurd h
-for_single (staged stages) P Q f h = absurd h
-
 pub of_their_cases : DecisionsAreOfTheirCases
-of_their_cases c priority d h = for_single c.inputs (λ ps. IsDecisionWith c ps priority d) (AreOfCase c d.steps × AreOfCase c d.kept) (λ ps. with_p_values c ps priority d) h
+of_their_cases c priority d = for_single (λ ps. IsDecisionWith c ps priority d) (λ _. AreOfCase c d.steps × AreOfCase c d.kept) (λ ps. with_p_values c ps priority d) c.inputs

@@ -15,12 +15,13 @@ use Rattle.fraction.proofs.Unique.{reduced_unique}
 use Rattle.case_model.specs.EntangledGraph.{EntangledGraph, IsValidEntangled}
 use Rattle.case_model.specs.IntersectionWeight.{IsIntersectionWeight}
 use Rattle.case_model.specs.Sums.{number, number_at}
-use Rattle.case_model.specs.Content.{Content, InputsContent, bare, single, staged, ForSingle, entangled, IsRejectedIn}
+use Rattle.case_model.specs.Content.{Content, ForSingle, entangled, IsRejectedIn}
 use Rattle.case_model.specs.Validity.{FaultlessDraft, IsFaultlessContent}
 use Rattle.case_model.specs.Draft.{is_level}
 use Rattle.case_model.specs.ClosedTest.{IsLegal, IsRejected}
 use Rattle.case_model.specs.LegalOrder.{IsListed, IsRunBy, IsLegalOrder, IsComplete}
 use Rattle.case_model.proofs.IntersectionLaws.{intersection_unique}
+use Rattle.case_model.proofs.SingleInputs.{for_single, for_both}
 use Rattle.case_model.proofs.Thresholds.{good_level}
 use Rattle.case_model.proofs.ValidContents.{shape_of_draft, valid_content}
 use Rattle.case_model.proofs.RejectionOrders.{run_unique, first_unique, last_unique}
@@ -30,14 +31,6 @@ use Rattle.sequential.specs.DecisionView.{StepContent, DecisionContent}
 use Rattle.sequential.specs.Decisions.{IsNext, hypotheses, HasWeightIn, HaveStepWeights, IsDecisionWith, IsDecision}
 use Rattle.sequential.specs.declared.priority.Priority.{Priority}
 use Rattle.sequential.specs.declared.priority.Priority.TheVariants.{First, Last, Ratio}
-
--- ---- the p-values of a case
-
--- two facts of single p-values are of the same ones
-pub for_both : (i : InputsContent) (P Q : List Terms → Type 0) {R : Type 0} → ((ps : List Terms) → P ps → Q ps → R) → ForSingle i P → ForSingle i Q → R
-for_both (single ps) P Q step p q = step ps p q
-for_both bare P Q step p q = absurd p
-for_both (staged s) P Q step p q = absurd p
 
 -- ---- lines
 
@@ -93,7 +86,7 @@ module _ (c : Content) (priority : Priority) where
       ap₂ (λ xs ys. record { steps = xs; kept = ys }) steps kept
 
   pub decision_unique : (d e : DecisionContent) → IsDecision c priority d → IsDecision c priority e → d ≡ e
-  decision_unique d e = for_both c.inputs (λ ps. IsDecisionWith c ps priority d) (λ ps. IsDecisionWith c ps priority e) (unique_with d e)
+  decision_unique d e = for_both (λ ps. IsDecisionWith c ps priority d) (λ ps. IsDecisionWith c ps priority e) (d ≡ e) (unique_with d e) c.inputs
 
 -- ---- the closed test
 
@@ -116,10 +109,5 @@ module _ (c : Content) (priority : Priority) (d : DecisionContent) (valid : IsFa
       let o = priority_order (entangled c) (number_at ps) (number c.alpha) priority (hypotheses d.steps) V D.order in
       complete_decides (entangled c) (number_at ps) (number c.alpha) V level_low (hypotheses d.steps) o.0 o.1 j
 
-  by_inputs : (i : InputsContent) (j : ℕ) → ForSingle i (λ ps. IsDecisionWith c ps priority d) → IsListed (hypotheses d.steps) j ↔ ForSingle i (λ ps. IsRejected (entangled c) (number_at ps) (number c.alpha) j)
-  by_inputs (single ps) j D = decides_with j ps D
-  by_inputs bare j D = absurd D
-  by_inputs (staged s) j D = absurd D
-
   pub decision_decides : (j : ℕ) → IsDecision c priority d → IsListed (hypotheses d.steps) j ↔ IsRejectedIn c j
-  decision_decides j = by_inputs c.inputs j
+  decision_decides j = for_single (λ ps. IsDecisionWith c ps priority d) (λ i. IsListed (hypotheses d.steps) j ↔ ForSingle i (λ ps. IsRejected (entangled c) (number_at ps) (number c.alpha) j)) (decides_with j) c.inputs

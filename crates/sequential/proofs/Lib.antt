@@ -7,7 +7,6 @@ pub mod Counting
 pub mod Decided
 pub mod DecisionLaws
 pub mod KeptLines
-pub mod KnownEnds
 pub mod RatioFacts
 pub mod RunSteps
 pub mod TrialFacts

@@ -1,11 +1,12 @@
 -- The operations of the ordered field of numbers are those of the numbers, and its order is told by the sign of a difference.
-use Rattle.std.proofs.Common.{◌≡◌, refl, sym, ◌∙◌, true}
+use Rattle.std.proofs.Common.{◌≡◌, refl, sym, ◌∙◌, ℕ, suc, true}
 use Rattle.std.specs.declared.cmp.Ordering.{Ordering}
 use Rattle.std.specs.declared.cmp.Ordering.TheVariants.{Less, Equal, Greater}
 use Rattle.field_core.specs.Number.{Number}
 use Rattle.field_core.specs.Arithmetic.{number_zero, number_one, ◌+ε◌, ◌*ε◌, ◌-ε◌, number_negate, number_invert, number_sign}
 use Rattle.field_core.specs.Field.{AtMost}
 use Rattle.field_core.specs.NumberField.{number_field}
+use Rattle.field_core.specs.Sums.{sum_below}
 use Rattle.field_core.specs.Laws.NumberLaws.{number_ring, number_signed_field}
 use Rattle.field_core.specs.Laws.SignedField.{field_of, at_most, not_less}
 use Rattle.field_core.specs.Laws.Order.{◌≼ε◌}
@@ -25,6 +26,14 @@ field_sum x y = refl
 pub field_product : (x y : Number) → number_field.◌⊗◌ x y ≡ x *ε y
 unfolding number_field field_of number_signed_field number_ring
 field_product x y = refl
+
+pub sum_nothing : (f : ℕ → Number) → sum_below number_field 0 f ≡ number_zero
+unfolding sum_below
+sum_nothing f = field_zero
+
+pub sum_last : (n : ℕ) (f : ℕ → Number) → sum_below number_field (suc n) f ≡ sum_below number_field n f +ε f n
+unfolding sum_below
+sum_last n f = field_sum (sum_below number_field n f) (f n)
 
 pub field_negate : (x : Number) → number_field.negate x ≡ number_negate x
 unfolding number_field field_of number_signed_field number_ring

@@ -125,10 +125,10 @@ not_zero (pos zero) h e = cc
 not_zero (pos (suc n)) h e = cc
 not_zero (negsuc n) h e = cc
 
-yes_zero : (n : ℤ) → is_zero_integer n ≡ true → n ≡ pos 0
-yes_zero (pos zero) h = refl
-yes_zero (pos (suc n)) h = absurd (cc)
-yes_zero (negsuc n) h = absurd (cc)
+pub integer_zero : (n : ℤ) → is_zero_integer n ≡ true → n ≡ pos 0
+integer_zero (pos zero) h = refl
+integer_zero (pos (suc n)) h = absurd (cc)
+integer_zero (negsuc n) h = absurd (cc)
 
 value_nonzero : (n d : ℤ) → ¬ (d ≡ pos 0) → n ≢ pos 0 → ¬ (fraction n d ≡ number_zero)
 value_nonzero n d s h e =
@@ -146,6 +146,10 @@ pub record Mapped (r : Result Terms TooWide) (z : Parts) : Type 0 where
 mapped : (r : Result Terms TooWide) (z : Parts) → ok_map single r ≡ Ok z → Mapped r z
 mapped (Ok p) z h = record { pair = p; is = refl; seen = cc }
 mapped (Err e) z h = absurd (cc)
+
+pub mapped_err : (r : Result Terms TooWide) (e : TooWide) → Path (Result Parts TooWide) (Err e) (ok_map single r) → r ≡ Err e
+mapped_err (Ok x) e h = absurd (cc)
+mapped_err (Err f) e h = cc
 
 stored_of : (z : Parts) (p : Terms) → z ≡ single p → IsReduced p → IsFraction z
 stored_of z p e r = record { reduced = rw e r; shape = rw e refl }
@@ -199,7 +203,7 @@ plain_is_exact = record {
   zero_value = value_single _ ∙ fraction-zero (pos 1) one_above;
   one_value = value_single _ ∙ one_is;
   nonzero = λ x f h e. value_nonzero _ _ (some _ f.reduced) (not_zero _ (sym (zero_first x f) ∙ h)) (sym (shown x f) ∙ e);
-  is_null = λ x f h. shown x f ∙ ap (λ n. fraction n (pair_of x).den) (yes_zero _ (sym (zero_first x f) ∙ h)) ∙ fraction-zero _ (some _ f.reduced);
+  is_null = λ x f h. shown x f ∙ ap (λ n. fraction n (pair_of x).den) (integer_zero _ (sym (zero_first x f) ∙ h)) ∙ fraction-zero _ (some _ f.reduced);
   stored = λ op x y z f g t h. (run op x y z f g t h).stored;
   exact = λ op x y z f g t h. (run op x y z f g t h).value;
   compare = λ x y f g. sym (ap₂ number_compare (shown x f) (shown y g) ∙ fraction-compare _ _ _ _ f.reduced.positive g.reduced.positive);

@@ -1,7 +1,7 @@
 use Rattle.std.proofs.Common.{◌≡◌, ℕ, zero, suc, ◌+◌, ◌*◌, ◌/◌, ◌<◌, ◌^◌, refl, arith, ℤ, pos, negsuc, ◌+ℤ◌, ◌*ℤ◌, ◌<ℤ◌, unsigned_abs, Ok, int_div, inl, inr, neg_ℤ, ◌⊎◌}
 use Rattle.std.proofs.lemmas.Bool.{cases_lt}
 use Rattle.std.proofs.lemmas.Nat.Gcd.{dvd_refl, dvd_trans}
-use Rattle.std.proofs.Math.Nat.{pos_of_dvd_of_pos, dvd-mul_left_of_dvd, mul-div_assoc, div-mul_cancel, div-le_self, dvd-add_iff_left, dvd-add, mul-pos}
+use Rattle.std.proofs.Math.Nat.{pos_of_dvd_of_pos, dvd-mul_left_of_dvd, mul-div_assoc, div-mul_cancel, div-le_self, dvd-add_iff_left, dvd-add}
 use Rattle.std.proofs.Math.IntN.{+ℤ_comm}
 use Rattle.field_core.proofs.Sized.{sized_small, sized_large}
 use Rattle.std.proofs.lemmas.Int.{ints, unsigned_abs-mul}
@@ -10,6 +10,7 @@ use Rattle.field_core.specs.Divisor.{gcd}
 use Rattle.field_core.specs.Terms.{Terms, IsReduced}
 use Rattle.field_core.specs.Sized.{sized, gcd_of}
 use Rattle.field_core.specs.declared.place.Op.{Op}
+use Rattle.field_core.specs.Laws.Effective.{product_positive}
 use Rattle.field_core.proofs.Divisors.{gcd_is}
 use Rattle.field_core.proofs.Coprime.{Apart, apart_from_gcd, gcd_from_apart, apart_swap, apart_parts, apart_product, quotients_apart, quotient_divides, gcd_bounds}
 
@@ -38,11 +39,6 @@ quot_positive z g h d = pos_of_dvd_of_pos (quotient_divides g d) (abs_of_positiv
 whole_positive : (z : ℤ) (g : ℕ) → pos 0 <ℤ z → g ∣ unsigned_abs z → pos 0 <ℤ int_div z (pos g)
 whole_positive (pos n) g h d = let q = quot_positive (pos n) g h d in omega (arith, ints)
 whole_positive (negsuc n) g h d = absurd (omega (arith, ints))
-
-product_positive : (y z : ℤ) → pos 0 <ℤ y → pos 0 <ℤ z → pos 0 <ℤ (y *ℤ z)
-product_positive (pos m) (pos n) p q = let r : 0 < m * n = mul-pos (omega (arith, ints)) (omega (arith, ints)) in omega (arith, ints)
-product_positive (pos m) (negsuc n) p q = absurd (omega (arith, ints))
-product_positive (negsuc m) z p q = absurd (omega (arith, ints))
 
 pub mul_reduced : (op : Op) (x y : Terms) (num den : ℤ) → IsReduced x → IsReduced y → sized op (int_div x.num (gcd_of x.num y.den) *ℤ int_div y.num (gcd_of y.num x.den)) ≡ Ok num → sized op (int_div x.den (gcd_of y.num x.den) *ℤ int_div y.den (gcd_of x.num y.den)) ≡ Ok den → IsReduced (record { num = num; den = den })
 mul_reduced op x y num den p q e f =

@@ -9,7 +9,8 @@ use Rattle.fraction.specs.Laws.CrossProducts.{Same, sum_of, product_of}
 use Rattle.fraction.specs.Laws.Reduced.{mul_reduced, add_reduced}
 use Rattle.fraction.specs.Laws.ExactTerms.{mul_exact, add_exact}
 
-bind_ok : {A B : Type 0} (r : Result A TooWide) (f : A → Result B TooWide) (y : B) → (r >>= f) ≡ Ok y → (x : A) × ((r ≡ Ok x) × (f x ≡ Ok y))
+-- a step that was taken
+pub bind_ok : {A B : Type 0} (r : Result A TooWide) (f : A → Result B TooWide) (y : B) → (r >>= f) ≡ Ok y → (x : A) × ((r ≡ Ok x) × (f x ≡ Ok y))
 bind_ok (Ok x) f y h = (x, (refl, h))
 bind_ok (Err e) f y h = absurd (cc)
 

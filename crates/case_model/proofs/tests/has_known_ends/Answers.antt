@@ -4,7 +4,7 @@ use Rattle.std.proofs.lemmas.Iterator.{YieldsList-from_slice}
 use Rattle.std.proofs.lemmas.Iterator.Search.{all_from_yields_List}
 use Rattle.case_model.specs.Draft.{DraftComponentContent, have_known_ends}
 use Rattle.case_model.specs.DraftView.{component_said}
-use Rattle.case_model.proofs.Holding.{list_all_map}
+use Rattle.std.proofs.lemmas.List.Folds.{list_all-map}
 use Rattle.case_model.proofs.tests.has_known_ends.Goals as goal
 
 abbrev has_ends_below : ℕ → DraftComponentContent → Bool
@@ -15,4 +15,4 @@ unfolding have_known_ends
 returns c =
     let ks = c.args.draft.now.components in
     let n = length c.args.draft.now.names in
-    all_from_yields_List (λ k. has_ends_below n (component_said k)) _ _ _ c.all.ensures.ran (YieldsList-from_slice ks cc) (λ x b q k. search (rules, tests)) ∙ sym (list_all_map (has_ends_below n) component_said ks)
+    all_from_yields_List (λ k. has_ends_below n (component_said k)) _ _ _ c.all.ensures.ran (YieldsList-from_slice ks cc) (λ x b q k. search (rules, tests)) ∙ sym (list_all-map (has_ends_below n) component_said ks)

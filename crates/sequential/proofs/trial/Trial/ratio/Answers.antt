@@ -5,7 +5,13 @@ use Rattle.fraction.specs.Plain.{written_pair}
 use Rattle.fraction.specs.View.{terms_of}
 use Rattle.case_model.specs.Sums.{number}
 use Rattle.sequential.specs.WideDecisions.{written_ratio}
+<<<<<<< HEAD
 use Rattle.sequential.proofs.RatioFacts.{positive_divides, quotient_in, refused_in}
+=======
+use Rattle.sequential.specs.TrialView.{trial}
+use Rattle.fraction.specs.Laws.PlainLaws.{mapped_err}
+use Rattle.sequential.proofs.RatioFacts.{positive_divides, quotient_in}
+>>>>>>> tidy_laws
 use Rattle.sequential.proofs.trial.Trial.ratio.Goals as goal
 
 pub div-requires : goal.div-requires
@@ -27,6 +33,6 @@ returns-in-Err-clause-wide c = record {
   fault = c.in-Err.fault;
   refused =
       ap₂ (written_pair Div) (sym c.p_value.ensures.value) (sym c.present_weight.ensures)
-      ∙ refused_in (written_pair Div (terms_of c.p_value.result) (terms_of c.present_weight.result)) c.in-Err.fault c.in-Err.ensures;
+      ∙ mapped_err (written_pair Div (terms_of c.p_value.result) (terms_of c.present_weight.result)) c.in-Err.fault c.in-Err.ensures;
   place = c.wide_ratio.ensures;
 }
