@@ -24,16 +24,17 @@ pub record IsPut (Outcome : Answer → Type 0) (Put : List ℕ → Type 0) : Typ
   pub outcome : Outcome answer
   pub put : Put answer.text
 
--- What a top call answers. `Outcome` says which answers are called for, `read_rose` that a source that it reads had a fault in this call, and `write_rose` that the sink had one; `old` and `new` are what the sink held.
-pub record Runs (Outcome : Answer → Type 0) (read_rose write_rose : Type 0) (old new : Option (List ℕ)) (status : ℕ) : Type 0 where
+-- What a top call answers. `Outcome` says which answers are called for, `read_rose` that a source that it reads had a fault in this call, and `write_rose` that the sink had one; `clean` that neither's count of faults changed; `old` and `new` are what the sink held.
+pub record Runs (Outcome : Answer → Type 0) (read_rose write_rose clean : Type 0) (old new : Option (List ℕ)) (status : ℕ) : Type 0 where
   pub done : status ≤ 5 → IsPut (λ a. Outcome a × (status ≡ a.status)) (Appends old new)
   pub read : status ≡ 6 → read_rose × Appends old new read_fault
   pub write : status ≡ 7 → write_rose
   pub partial : status ≡ 7 → IsPut Outcome (AppendsPrefix old new) ⊎ ((read_rose × AppendsPrefix old new read_fault) ⊎ AppendsPrefix old new no_memory)
   pub memory : status ≡ 8 → Appends old new no_memory
   pub complete : ¬ read_rose → ¬ write_rose → (status ≤ 5) ⊎ (status ≡ 8)
+  pub faultless : status ≤ 5 → clean
   pub known : status ≤ 8
 
--- a text was put and its status answered, or the sink had a fault and holds a prefix
-unfoldable pub Finished : Type 0 → Option (List ℕ) → Option (List ℕ) → List ℕ → ℕ → ℕ → Type 0
-Finished rose old new text status result = ((result ≡ status) × Appends old new text) ⊎ ((result ≡ 7) × rose × AppendsPrefix old new text)
+-- a text was put without a fault and its status answered, or the sink had a fault and holds a prefix
+unfoldable pub Finished : Type 0 → Type 0 → Option (List ℕ) → Option (List ℕ) → List ℕ → ℕ → ℕ → Type 0
+Finished rose same old new text status result = ((result ≡ status) × Appends old new text × same) ⊎ ((result ≡ 7) × rose × AppendsPrefix old new text)

@@ -1,4 +1,4 @@
-ghost use Rattle.std.specs.Prelude.{◌≡◌, ◌≤◌, ◌<◌, ◌↔◌, true, IsTrue, IfOk, IfErr, IfSome, map, string_bytes, length};
+ghost use Rattle.std.specs.Prelude.{◌≡◌, ◌≤◌, ◌<◌, ◌↔◌, true, IsTrue, IfOk, OnOk, IfErr, IfSome, map, string_bytes, length};
 ghost use Rattle.std.specs.Io.KnownBytes.{IsAtEnd};
 ghost use Rattle.graph_io.specs.Causes.{Rose};
 ghost use Rattle.case_model.specs.CaseView.{content};
@@ -88,6 +88,7 @@ fn test<S: Source>(alloc: Global, case: &mut S) -> Result<Answer, Stop>
     ensures end { IfOk result (λ answer. answer.status ≡ 0 → IsAtEnd (S.left case.new)) }
     ensures stopped { IfErr result (StopsFor (Rose (S.faults case.old) (S.faults case.new))) }
     ensures later { S.faults case.old ≤ S.faults case.new }
+    ensures clean { OnOk result (S.faults case.new ≡ S.faults case.old) }
 {
     match read_all(alloc, case, MOST_BYTES) {
         Ok(bytes) => Ok(test_answer(alloc, bytes.as_slice())?),
@@ -104,6 +105,7 @@ fn answer<S: Source>(alloc: Global, words: &[String], case: &mut S) -> Result<An
     ensures end { IfOk result (λ answer. answer.status ≡ 0 → IsAtEnd (S.left case.new)) }
     ensures stopped { IfErr result (StopsFor (ReadsCase (map string_bytes words.now) × Rose (S.faults case.old) (S.faults case.new))) }
     ensures untouched { ¬ ReadsCase (map string_bytes words.now) → case.new ≡ case.old }
+    ensures clean { OnOk result (S.faults case.new ≡ S.faults case.old) }
 {
     match read_words(words) {
         Err(word) => Ok(usage(alloc, word)?),
@@ -114,7 +116,7 @@ fn answer<S: Source>(alloc: Global, words: &[String], case: &mut S) -> Result<An
 /// Puts a text, and answers its status, or 7 where that failed.
 #[tactic(auto, unfolding(crate::specs::Run::Finished))]
 fn finish<W: Sink>(out: &mut W, text: &[u8], status: u8) -> u8
-    ensures { Finished (Rose (W.faults out.old) (W.faults out.new)) (W.held out.old) (W.held out.new) text.now status result }
+    ensures { Finished (Rose (W.faults out.old) (W.faults out.new)) (W.faults out.new ≡ W.faults out.old) (W.held out.old) (W.held out.new) text.now status result }
 {
     match write_all(out, text) {
         Ok(()) => status,
@@ -135,7 +137,7 @@ pub fn run<S: Source, T: Source, W: Sink>(
     proof: &mut T,
     out: &mut W,
 ) -> u8
-    ensures runs { Runs (IsOutcome (map string_bytes words.now) (S.left case.old)) (ReadsCase (map string_bytes words.now) × Rose (S.faults case.old) (S.faults case.new)) (Rose (W.faults out.old) (W.faults out.new)) (W.held out.old) (W.held out.new) result }
+    ensures runs { Runs (IsOutcome (map string_bytes words.now) (S.left case.old)) (ReadsCase (map string_bytes words.now) × Rose (S.faults case.old) (S.faults case.new)) (Rose (W.faults out.old) (W.faults out.new)) ((S.faults case.new ≡ S.faults case.old) × (W.faults out.new ≡ W.faults out.old)) (W.held out.old) (W.held out.new) result }
     ensures end { result ≡ 0 → IsAtEnd (S.left case.new) }
     ensures untouched { ¬ ReadsCase (map string_bytes words.now) → case.new ≡ case.old }
     ensures proof { proof.new ≡ proof.old }

@@ -1,4 +1,4 @@
-use Rattle.std.specs.Prelude.{◌≡◌, ℕ, ◌+◌, ◌<◌, ◌≤◌, List, length, IfSome, ⊤}
+use Rattle.std.specs.Prelude.{◌≡◌, ℕ, ◌+◌, ◌<◌, ◌≤◌, List, length, IfSome, Result, Ok, Err, ⊤}
 use Rattle.std.specs.declared.option.Option.{Option}
 use Rattle.std.specs.Io.KnownBytes.{Consumes, IsAtEnd}
 use Rattle.graph_io.specs.Causes.{Rose}
@@ -18,6 +18,13 @@ abbrev pub EndedBy : ℕ → Option (List ℕ) → Option (List ℕ) → ℕ →
 EndedBy limit old new before now Fault = Rose before now
 EndedBy limit old new before now (TooLong n) = (n ≡ limit + 1) × TookCount old new n × IfSome old (λ xs. limit < length xs)
 EndedBy limit old new before now NoMemory = ⊤
+
+-- no take failed, where the reading didn't end by a fault or want of memory
+abbrev pub IsClean : {A : Type 0} → ℕ → ℕ → Result A ReadEnd → Type 0
+IsClean before now (Ok x) = now ≡ before
+IsClean before now (Err (TooLong n)) = now ≡ before
+IsClean before now (Err Fault) = Unit {0}
+IsClean before now (Err NoMemory) = Unit {0}
 
 -- the most bytes that are taken before a reading of at most limit bytes ends early
 abbrev pub most_taken : ℕ → ReadEnd → ℕ

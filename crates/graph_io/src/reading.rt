@@ -4,7 +4,7 @@ ghost use Rattle.std.specs.declared.option.Option.{Option};
 ghost use Rattle.std.specs.Io.{ReadsAtMost};
 ghost use Rattle.std.specs.Io.KnownBytes.{ReadConsumes};
 ghost use Rattle.graph_io.specs.Causes.{HasCause};
-ghost use Rattle.graph_io.specs.Reading.{ReadWhole, EndedBy, TookAtMost, most_taken};
+ghost use Rattle.graph_io.specs.Reading.{ReadWhole, EndedBy, IsClean, TookAtMost, most_taken};
 
 use crate::Failed;
 use field_core::{List, NoMemory};
@@ -53,8 +53,8 @@ pub trait Source {
 /// All bytes of a source, read to its end, where there are at most `limit` of them; `limit` is at
 /// most 4,194,304.
 ///
-/// A fault comes only where the source's count rose. `TooLong` comes exactly where byte `limit + 1`
-/// was taken, and no more is taken then.
+/// A fault comes only where the source's count rose, and no failed take is made again: with all bytes, and with
+/// `TooLong`, the count stays. `TooLong` comes exactly where byte `limit + 1` was taken, and no more is taken then.
 pub fn read_all<S: Source>(alloc: Global, source: &mut S, limit: u64) -> Result<List<u8>, ReadEnd>
     requires { limit ≤ 4194304 }
     ensures whole { IfOk result (ReadWhole limit (S.left source.old) (S.left source.new)) }
@@ -64,6 +64,7 @@ pub fn read_all<S: Source>(alloc: Global, source: &mut S, limit: u64) -> Result<
     ensures taken { IfErr result
         (λ end. TookAtMost (S.left source.old) (S.left source.new) (most_taken limit end)) }
     ensures later { S.faults source.old ≤ S.faults source.new }
+    ensures clean { IsClean (S.faults source.old) (S.faults source.new) result }
 {
     let most = limit as usize;
     let mut read = List::new(alloc);
