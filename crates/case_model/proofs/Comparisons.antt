@@ -1,4 +1,4 @@
-use Rattle.std.proofs.Common.{◌≡◌, refl, sym, ap, ◌∙◌, Bool, ◌*ℤ◌, ◌<ℤ◌, pos}
+use Rattle.std.proofs.Common.{◌≡◌, refl, sym, ap, ◌∙◌, ◌*ℤ◌, ◌<ℤ◌, pos}
 use Rattle.std.specs.Ordering.{is_le, is_ge, int_cmp, ordering_reverse}
 use Rattle.std.specs.declared.cmp.Ordering.{Ordering}
 use Rattle.std.specs.declared.cmp.Ordering.TheVariants.{Less, Equal, Greater}
@@ -6,8 +6,7 @@ use Rattle.field_core.specs.Number.{Number}
 use Rattle.field_core.specs.Arithmetic.{number_compare, ◌-ε◌}
 use Rattle.field_core.specs.NumberField.{number_field}
 use Rattle.field_core.specs.Terms.{Terms}
-use Rattle.field_core.specs.Laws.SignedField.{field_of, not_less, at_most as signed_at_most}
-use Rattle.field_core.specs.Laws.NumberLaws.{number_signed_field, number_ring}
+use Rattle.field_core.specs.Field.{not_less}
 use Rattle.field_core.specs.Laws.FieldLaws.{number_is_field}
 use Rattle.field_core.specs.Laws.Effective.{fraction-compare}
 use Rattle.case_model.specs.Sums.{number}
@@ -18,7 +17,7 @@ reversed Equal = refl
 reversed Greater = refl
 
 by_difference : (x y : Number) → number_field.at_most x y ≡ not_less (number_compare y x)
-unfolding number_field field_of signed_at_most number_signed_field number_ring number_compare ◌-ε◌
+unfolding number_field number_compare ◌-ε◌
 by_difference x y = refl
 
 pub at_most_is : (x y : Number) → number_field.at_most x y ≡ is_le (number_compare x y)

@@ -1,9 +1,9 @@
 -- The order of entries: epsilon is so small that the lowest coefficient that isn't 0 decides.
-use Rattle.std.proofs.Common.{◌≡◌, refl, sym, ap, ap₂, ◌∙◌, ℕ, zero, suc, ◌+◌, ◌<◌, List, [], ◌∷◌, length, map, drop, ℤ, pos, negsuc, neg_ℤ, ◌+ℤ◌, ◌*ℤ◌, ◌<ℤ◌, arith}
+use Rattle.std.proofs.Common.{◌≡◌, refl, sym, ap, ap₂, ◌∙◌, ℕ, zero, suc, List, [], ◌∷◌, length, map, drop, ℤ, pos, negsuc, neg_ℤ, ◌+ℤ◌, ◌*ℤ◌, ◌<ℤ◌, arith}
 use Rattle.std.proofs.lemmas.Int.{ints}
 use Rattle.std.specs.Ordering.{ordering_then}
 use Rattle.std.specs.declared.cmp.Ordering.{Ordering}
-use Rattle.std.specs.declared.cmp.Ordering.TheVariants.{Less, Equal, Greater}
+use Rattle.std.specs.declared.cmp.Ordering.TheVariants.{Equal}
 use Rattle.field_core.specs.Terms.{Terms}
 use Rattle.field_core.specs.Polynomial.{coefficient, poly_add, poly_scale, poly_multiply, lowest, or_else, int_sign, IsNonZero}
 use Rattle.field_core.specs.Number.{Number}
@@ -12,7 +12,7 @@ use Rattle.field_core.specs.Epsilon.{epsilon}
 use Rattle.field_core.specs.Fractions.{quotient, fraction}
 use Rattle.field_core.specs.NumberField.{number_field}
 use Rattle.field_core.specs.Sums.{sum_below}
-use Rattle.field_core.specs.Laws.PolynomialLaws.{lowest-multiply, positive_in, int_sign-scale, nonzero-multiply, nonzero-one}
+use Rattle.field_core.specs.Laws.PolynomialLaws.{lowest-multiply, positive_in, int_sign-scale, nonzero-one}
 use Rattle.field_core.specs.Laws.FractionLaws.{quotient-add, quotient-multiply, quotient-pair, quotient-sign, constant_nonzero, constant-multiply, lowest-constant, fraction-add, fraction-negate, fraction-sign}
 use Rattle.field_core.specs.Laws.Effective.{product_positive, positive_nonzero}
 use Rattle.field_core.specs.Laws.Order.{number_laws, number_subtract_is}

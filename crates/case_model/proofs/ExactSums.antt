@@ -1,4 +1,4 @@
-use Rattle.std.proofs.Common.{◌≡◌, refl, sym, ap, ap₂, ◌∙◌, subst, ℕ, zero, suc, ◌<◌, Ok, arith, true}
+use Rattle.std.proofs.Common.{◌≡◌, refl, sym, ap, ap₂, ◌∙◌, subst, ℕ, zero, suc, ◌<◌, Ok, arith}
 use Rattle.field_core.specs.Terms.{Terms, IsReduced}
 use Rattle.field_core.specs.Kind.{ok_map}
 use Rattle.field_core.specs.Exact.{value_of, MayTake, exact_result}
@@ -8,7 +8,6 @@ use Rattle.field_core.specs.Sums.{sum_below}
 use Rattle.field_core.specs.declared.place.Op.{Op}
 use Rattle.field_core.specs.declared.place.Op.TheVariants.{Add}
 use Rattle.fraction.specs.Plain.{single, IsFraction, written_pair, zero_reduced}
-use Rattle.fraction.specs.Written.{written_add}
 use Rattle.fraction.specs.Laws.PlainLaws.{plain_is_exact}
 use Rattle.fraction.specs.Laws.WrittenLaws.{bind_ok}
 use Rattle.case_model.specs.Sums.{number, zero_terms, written_sum}

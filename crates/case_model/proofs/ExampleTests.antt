@@ -11,9 +11,9 @@ use Rattle.field_core.specs.Limit.{limit}
 use Rattle.field_core.specs.NumberField.{number_field}
 use Rattle.field_core.specs.Sums.{sum_below, dot}
 use Rattle.field_core.specs.Graph.{Graph, IsValid}
-use Rattle.field_core.specs.Sets.{IsIn}
+use Rattle.field_core.specs.Sets.{IsIn, set_of}
 use Rattle.field_core.specs.Walks.{IsComponentWeight}
-use Rattle.field_core.specs.Examples.{set_of, entry, graph_without_edges, arrow_graph}
+use Rattle.field_core.specs.Examples.{entry, graph_without_edges, arrow_graph}
 use Rattle.field_core.specs.ExampleStatements.{half}
 use Rattle.case_model.specs.EntangledGraph.{IsValidEntangled}
 use Rattle.case_model.specs.IntersectionWeight.{IsIntersectionWeight}
@@ -25,8 +25,7 @@ use Rattle.field_core.specs.Laws.Effective.{fraction-compare}
 use Rattle.field_core.specs.Laws.LimitLaws.{limit-fraction}
 use Rattle.field_core.specs.Laws.NumberFieldLaws.{field_zero, field_one, field_sum, field_product}
 use Rattle.field_core.specs.Laws.Order.{number_zero_add, number_one_multiply}
-use Rattle.field_core.specs.Laws.NumberLaws.{number_multiply_one, number_ring, number_signed_field}
-use Rattle.field_core.specs.Laws.SignedField.{field_of}
+use Rattle.field_core.specs.Laws.NumberLaws.{number_multiply_one}
 use Rattle.field_core.proofs.FieldLaws.{add_zero}
 use Rattle.field_core.proofs.Dots.{dot_zero}
 use Rattle.field_core.proofs.Live.{true_or_false}
@@ -41,7 +40,7 @@ use Rattle.case_model.proofs.ClosedTestLaws.{in_only, legal_passes, rejected_by}
 -- ---- a graph as the only component
 
 one_term : (f : ℕ → Number) → sum_below number_field 1 f ≡ f 0
-unfolding sum_below number_field field_of number_signed_field number_ring
+unfolding sum_below number_field
 one_term f = number_zero_add (f 0)
 
 pub alone_weight : (m : ℕ) (G : Graph Number) (I : ℕ → Bool) (k : ℕ) (x u : Number) → IsComponentWeight number_field m G I k x → limit x ≡ u → IsIntersectionWeight (alone m G) I k u
@@ -158,7 +157,7 @@ nothing_rejected m level j r = none (r.each (only j) (λ i h e. e))
 -- ---- validity
 
 two_terms : (f : ℕ → Number) → sum_below number_field 2 f ≡ f 0 +ε f 1
-unfolding sum_below number_field field_of number_signed_field number_ring
+unfolding sum_below number_field
 two_terms f = ap (λ z. z +ε f 1) (number_zero_add (f 0))
 
 sums_to_one : (f : ℕ → Number) → f 0 +ε f 1 ≡ number_one → AtMost number_field (sum_below number_field 2 f) number_field.𝟙

@@ -1,15 +1,14 @@
 -- What is known of a draft in which no row finds a fault.
-use Rattle.std.proofs.Common.{◌≡◌, refl, sym, ap, ap₂, ◌∙◌, ℕ, ◌*◌, ◌==◌, ◌<◌, ◌≤◌, List, [], ◌∷◌, length, map, Bool, true, false, ◌&&◌, not, nat_lt, Option, Some, None, arith}
+use Rattle.std.proofs.Common.{◌≡◌, refl, ap, ap₂, ◌∙◌, ℕ, ◌*◌, ◌==◌, ◌≤◌, List, [], ◌∷◌, length, map, true, ◌&&◌, nat_lt, Option, Some, None, arith}
 use Rattle.std.proofs.lemmas.Bool.Decides.{nat_tests}
 use Rattle.std.proofs.lemmas.List.FromFn.{length-map-range_with_len}
-use Rattle.std.specs.Bool.{then_some}
 use Rattle.std.specs.List.{list_all}
 use Rattle.case_model.specs.declared.fault.CaseFault.{CaseFault}
 use Rattle.case_model.specs.Draft.{DraftContent, DraftComponentContent, DraftEdgeContent}
-use Rattle.case_model.specs.Content.{Content, ComponentContent, InputsContent, content_of, table_of, tabled, edge_between, inputs_given}
-use Rattle.case_model.specs.CaseFaults.{◌or◌, ◌when◌, names_fault, no_hypothesis, too_many, name_form, duplicate_name, components_fault, part_too_long, alpha_range, shares_fault, weights_fault, edges_fault, early_fault, late_fault, case_fault}
+use Rattle.case_model.specs.Content.{Content, ComponentContent, InputsContent, content_of, table_of, tabled, inputs_given}
+use Rattle.case_model.specs.CaseFaults.{◌or◌, names_fault, no_hypothesis, too_many, name_form, duplicate_name, components_fault, part_too_long, alpha_range, shares_fault, weights_fault, edges_fault, early_fault, late_fault, case_fault}
 use Rattle.case_model.specs.Rows.{are_tables}
-use Rattle.case_model.proofs.NoFaults.{Neither, neither, no_when}
+use Rattle.case_model.proofs.NoFaults.{neither, no_when}
 
 pub first_of_two : (a b : Option CaseFault) (f : CaseFault) → a ≡ Some f → (a or b) ≡ Some f
 first_of_two a b f e = ap (λ r. r or b) e

@@ -1,5 +1,5 @@
 -- What holds where tests are true.
-use Rattle.std.proofs.Common.{◌≡◌, refl, sym, ◌∙◌, ℕ, zero, suc, ◌<◌, List, [], ◌∷◌, length, get_or, Bool, true, false, ◌&&◌, not, arith}
+use Rattle.std.proofs.Common.{◌≡◌, refl, ℕ, zero, suc, ◌<◌, List, [], ◌∷◌, length, get_or, Bool, true, false, ◌&&◌, arith}
 use Rattle.std.specs.List.{list_all}
 
 pub record Both (a b : Bool) : Type 0 where

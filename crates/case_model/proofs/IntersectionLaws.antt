@@ -8,7 +8,8 @@ use Rattle.field_core.specs.Limit.{limit}
 use Rattle.field_core.specs.LimitParts.{IsUnit}
 use Rattle.field_core.specs.Sums.{sum_below}
 use Rattle.field_core.specs.Sets.{IsIn, IsSubset, HaveSameMembers, whole}
-use Rattle.field_core.specs.Runs.{IsOrder, left_after, after, weight_in}
+use Rattle.field_core.specs.Runs.{IsOrder, left_after, after}
+use Rattle.field_core.proofs.Settled.{weight_in}
 use Rattle.field_core.specs.Laws.AtMostLaws.{at_most_equal, at_most_trans, at_most_multiply_left, at_least_zero_product}
 use Rattle.field_core.specs.Laws.NumberFieldLaws.{field_zero}
 use Rattle.field_core.specs.Laws.NumberLaws.{number_multiply_one}

@@ -11,13 +11,11 @@ use Rattle.field_core.specs.Sums.{sum_below}
 use Rattle.field_core.specs.Graph.{Graph, IsValid}
 use Rattle.field_core.specs.Sets.{IsIn}
 use Rattle.field_core.specs.Walks.{IsComponentWeight}
-use Rattle.field_core.specs.Runs.{weight_in}
+use Rattle.field_core.proofs.Settled.{weight_in}
 use Rattle.field_core.specs.Laws.AtMostLaws.{at_most_refl, zero_at_most_one}
 use Rattle.field_core.specs.Laws.LimitLaws.{IsFinite, IsFinite-add, limit_add, finite_between}
 use Rattle.field_core.specs.Laws.NumberFieldLaws.{field_zero, sum_nothing, sum_last, at_most_out}
 use Rattle.field_core.specs.Laws.Order.{number_multiply_zero}
-use Rattle.field_core.specs.Laws.NumberLaws.{number_ring, number_signed_field}
-use Rattle.field_core.specs.Laws.SignedField.{field_of}
 use Rattle.field_core.proofs.SumLaws.{sum_congr, sum_zero, sum_scale, sum_swap}
 use Rattle.field_core.proofs.Live.{true_or_false}
 use Rattle.field_core.proofs.UnitLimits.{limit_unit, limit_zero}
@@ -46,7 +44,7 @@ unit_finite x h = finite_between x (at_most_out number_zero x h.low) (at_most_ou
 -- ---- the weights of a set
 
 component_total : (m : ℕ) (G : Graph Number) (I : ℕ → Bool) (w : ℕ → Number) → IsValid number_field m G → ((k : ℕ) → IsIn m I k → IsComponentWeight number_field m G I k (w k)) → ((k : ℕ) → k < m → I k ≡ false → w k ≡ number_zero) → sum_below number_field m w ≤ε number_one
-unfolding number_field field_of number_signed_field number_ring
+unfolding number_field
 component_total m G I w V = weights_total number_field m G V I w
 
 -- the weight of a member, and 0 outside the set
@@ -94,7 +92,7 @@ module _ (E : EntangledGraph) (V : IsValidEntangled E) (I : ℕ → Bool) where
   outside_is k f = sum_congr number_field E.components _ (λ _. number_field.𝟘) (λ c q. ap (λ z. E.share c *ε limit z) (member_outside E.hypotheses (E.graph c) I k f) ∙ ap (λ z. E.share c *ε z) limit_zero ∙ number_multiply_zero (E.share c) ∙ sym field_zero) ∙ sum_zero number_field E.components ∙ field_zero
 
   scaled : (c : ℕ) → sum_below number_field E.hypotheses (λ k. part_of k c) ≡ E.share c *ε sum_below number_field E.hypotheses (λ k. limit (member_weight E.hypotheses (E.graph c) I k))
-  unfolding number_field field_of number_signed_field number_ring part_of
+  unfolding number_field part_of
   scaled c = sum_scale number_field E.hypotheses (E.share c) (λ k. limit (member_weight E.hypotheses (E.graph c) I k))
 
   pub intersection_total : (w : ℕ → Number) → ((k : ℕ) → IsIn E.hypotheses I k → IsIntersectionWeight E I k (w k)) → ((k : ℕ) → k < E.hypotheses → I k ≡ false → w k ≡ number_zero) → sum_below number_field E.hypotheses w ≤ε number_one

@@ -1,12 +1,10 @@
 -- The first place of a name, name by name.
-use Rattle.std.proofs.Common.{◌≡◌, ℕ, ◌+◌, ◌<◌, zero, suc, List, [], ◌∷◌, ◌++◌, take, length, get_or, Bool, true, false, cond, None, Some, refl, sym, ◌∙◌, ap, arith, not, is_some, Bor}
+use Rattle.std.proofs.Common.{◌≡◌, ℕ, ◌+◌, suc, List, [], ◌∷◌, ◌++◌, length, Bool, true, false, cond, None, Some, refl, sym, ◌∙◌, ap, arith, not, is_some, Bor}
 use Rattle.std.proofs.lemmas.Iterator.Adapters.{position_from-zero}
 use Rattle.std.specs.Option.{option_copied, option_or}
 use Rattle.std.specs.List.{position, position_from}
 use Rattle.std.specs.declared.option.Option.{Option}
 use Rattle.std.specs.Map.{lookup}
-use Rattle.std.specs.Str.{bytes_eq}
-use Rattle.case_model.specs.Names.{position_of}
 
 option_or-cond : {A : Type 0} (b : Bool) (x : A) (r s t : Option A) → r ≡ option_or s t → cond b (Some x) r ≡ option_or (cond b (Some x) s) t
 option_or-cond true x r s t h = refl

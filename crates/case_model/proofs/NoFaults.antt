@@ -1,7 +1,6 @@
 -- What it means that a row finds nothing.
 use Rattle.std.proofs.Common.{◌≡◌, refl, sym, ap, ◌∙◌, ℕ, zero, suc, ◌+◌, ◌<◌, ◌⊎◌, inl, inr, List, [], ◌∷◌, length, get_or, Bool, true, false, not, ◌&&◌, cond, Option, Some, None, Result, Ok, Err, arith}
 use Rattle.std.proofs.lemmas.Iterator.Adapters.{position_from-zero}
-use Rattle.std.specs.Bool.{then_some}
 use Rattle.std.specs.List.{list_all, find, position, position_from}
 use Rattle.std.specs.Option.{option_map, MatchOption}
 use Rattle.std.specs.Bool.{⊤}
@@ -11,7 +10,7 @@ use Rattle.field_core.specs.declared.place.Place.{Place}
 use Rattle.field_core.specs.declared.place.TooWide.{TooWide}
 use Rattle.case_model.specs.declared.fault.CaseFault.{CaseFault}
 use Rattle.case_model.specs.Draft.{at_most}
-use Rattle.case_model.proofs.Holding.{Both, both}
+use Rattle.case_model.proofs.Holding.{both}
 use Rattle.case_model.specs.CaseFaults.{◌or◌, ◌when◌, first_from, first_of, first_below, sum_fault}
 
 -- neither finds a fault

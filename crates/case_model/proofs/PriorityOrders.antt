@@ -8,8 +8,7 @@ use Rattle.field_core.specs.Runs.{left_after}
 use Rattle.field_core.specs.Laws.AtMostLaws.{at_most_refl, at_most_equal, at_most_total, at_most_trans, at_most_antisymm, at_most_multiply_left, at_most_or_above, at_most-compare, positive_or_not, positive-not_at_most, positive-at_least_zero, positive-nonzero}
 use Rattle.field_core.specs.NumberField.{number_field}
 use Rattle.field_core.specs.Laws.Order.{divide_multiply}
-use Rattle.field_core.specs.Laws.NumberLaws.{number_multiply_comm, number_ring, number_signed_field}
-use Rattle.field_core.specs.Laws.SignedField.{field_of}
+use Rattle.field_core.specs.Laws.NumberLaws.{number_multiply_comm}
 use Rattle.field_core.proofs.Orders.{mul_le_cancel}
 use Rattle.field_core.proofs.Live.{true_or_false, true_not_false}
 use Rattle.case_model.specs.EntangledGraph.{EntangledGraph, IsValidEntangled}
@@ -24,7 +23,7 @@ pub divided : (x u : Number) → IsPositive u → u *ε (x /ε u) ≡ x
 divided x u h = number_multiply_comm u (x /ε u) ∙ divide_multiply x u (positive-nonzero u h)
 
 cancelled : (u x y : Number) → IsPositive u → (u *ε x) ≤ε (u *ε y) → x ≤ε y
-unfolding number_field field_of number_signed_field number_ring
+unfolding number_field
 cancelled u x y h k = mul_le_cancel number_field u x y (positive-at_least_zero u h) (positive-nonzero u h) k
 
 -- a ratio is at most a level where the p-value is at most the weight times it

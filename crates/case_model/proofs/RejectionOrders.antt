@@ -1,9 +1,8 @@
 -- Orders of rejections by any rule.
 use Rattle.std.proofs.Common.{◌≡◌, ◌≢◌, ◌⊎◌, inl, inr, refl, sym, ap₂, ◌∙◌, subst, ℕ, zero, suc, ◌<◌, ◌≤◌, ◌+◌, arith, Bool, true, false, List, [], ◌∷◌, ◌++◌}
 use Rattle.std.proofs.lemmas.Bool.Decides.{nat_tests}
-use Rattle.field_core.specs.Sets.{IsIn, dropping}
+use Rattle.field_core.specs.Sets.{IsIn, dropping, set_of}
 use Rattle.field_core.specs.Runs.{IsOrder, left_after}
-use Rattle.field_core.specs.Examples.{set_of}
 use Rattle.field_core.proofs.Live.{dropping_other, kept_before, not_dropped, live_before, true_or_false}
 use Rattle.case_model.specs.LegalOrder.{IsListed, IsOrderBy, IsRunBy, IsFirst, IsLast}
 

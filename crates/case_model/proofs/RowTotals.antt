@@ -1,21 +1,19 @@
 -- The sums of rows of entries.
-use Rattle.std.proofs.Common.{◌≡◌, refl, sym, ap, ap₂, ◌∙◌, ℕ, zero, suc, ◌+◌, ◌*◌, ◌<◌, List, [], ◌∷◌, length, map, get_or, Result, Ok, Err, not, Some, arith}
+use Rattle.std.proofs.Common.{◌≡◌, sym, ap, ◌∙◌, ℕ, zero, suc, ◌+◌, ◌*◌, ◌<◌, List, [], ◌∷◌, length, map, get_or, Ok, Err, not, Some, arith}
 use mathlib.Core.Path.{fun_ext}
 use Rattle.field_core.specs.Terms.{Terms, IsReduced}
 use Rattle.field_core.specs.Number.{Number}
 use Rattle.field_core.specs.Arithmetic.{number_one, ◌*ε◌}
 use Rattle.field_core.specs.NumberField.{number_field}
 use Rattle.field_core.specs.Sums.{sum_below}
-use Rattle.field_core.specs.Sized.{◌>>=◌}
 use Rattle.field_core.specs.Laws.NumberFieldLaws.{field_product}
 use Rattle.field_core.proofs.SumLaws.{sum_congr, sum_swap, sum_scale_right}
 use Rattle.field_core.specs.declared.place.Place.TheVariants.{RowSum as AtRowSum}
 use Rattle.field_core.specs.declared.place.TooWide.{TooWide}
 use Rattle.fraction.specs.Plain.{zero_reduced}
-use Rattle.fraction.specs.View.{terms_of}
 use Rattle.case_model.specs.declared.entry.Entry.{Entry}
 use Rattle.case_model.specs.declared.fault.CaseFault.TheVariants.{RowSum, Wide}
-use Rattle.case_model.specs.Sums.{number, terms_at, number_at}
+use Rattle.case_model.specs.Sums.{terms_at, number_at}
 use Rattle.case_model.specs.Entries.{power_of_epsilon, entry_value, entry_at, no_edge}
 use Rattle.case_model.specs.Draft.{at_most}
 use Rattle.case_model.specs.EntryView.{coefficients_of}

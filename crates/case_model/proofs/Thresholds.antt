@@ -1,10 +1,10 @@
-use Rattle.std.proofs.Common.{◌≡◌, ◌≢◌, refl, sym, ap, ap₂, subst₂, ◌∙◌, ℕ, zero, suc, ◌+◌, ◌*◌, ◌/◌, ◌^◌, ◌<◌, ◌≤◌, ◌⊎◌, inl, inr, ℤ, pos, negsuc, neg_ℤ, ◌*ℤ◌, ◌≤ℤ◌, ◌<ℤ◌, unsigned_abs, int_div, Result, Ok, Err, Bool, true, false, not, arith, lit<, nat_le, ◌&&◌}
+use Rattle.std.proofs.Common.{◌≡◌, refl, sym, ap, ap₂, subst₂, ◌∙◌, ℕ, zero, suc, ◌*◌, ◌/◌, ◌^◌, ◌<◌, ◌≤◌, inl, inr, ℤ, pos, negsuc, neg_ℤ, ◌*ℤ◌, ◌≤ℤ◌, unsigned_abs, int_div, Result, Ok, Err, Bool, true, false, not, arith, lit<, nat_le, ◌&&◌}
 use Rattle.std.proofs.lemmas.Int.{ints, unsigned_abs-mul}
 use Rattle.std.proofs.lemmas.Bool.Decides.{nat_tests}
 use Rattle.std.proofs.Math.Nat.{div-le_self, mul-le-mul_left, mul-le-mul_right}
 use Rattle.std.specs.Ordering.{is_le, int_cmp}
 use Rattle.field_core.specs.Terms.{Terms, IsReduced}
-use Rattle.field_core.specs.Sized.{sized, gcd_of}
+use Rattle.field_core.specs.Sized.{sized}
 use Rattle.field_core.specs.Divisor.{gcd}
 use Rattle.field_core.specs.Number.{Number}
 use Rattle.field_core.specs.Arithmetic.{number_zero, number_one, number_sign, number_compare, ◌*ε◌, ◌/ε◌}
@@ -27,7 +27,7 @@ use Rattle.case_model.specs.Sums.{number}
 use Rattle.case_model.specs.Draft.{at_most, is_p_value, is_level, is_within, is_unit}
 use Rattle.case_model.proofs.Comparisons.{at_most_terms, at_most_is}
 use Rattle.field_core.specs.Laws.NumberFieldLaws.{field_zero, field_product}
-use Rattle.case_model.proofs.Holding.{Both, both}
+use Rattle.case_model.proofs.Holding.{both}
 use Rattle.case_model.proofs.ExactSums.{value_single, stored_single}
 
 int_le : (a b : ℤ) → is_le (int_cmp a b) ≡ true → a ≤ℤ b

@@ -1,8 +1,7 @@
 -- The faults of written sums.
-use Rattle.std.proofs.Common.{◌≡◌, refl, sym, ap, ap₂, ◌∙◌, ℕ, zero, suc, ◌<◌, arith, List, [], ◌∷◌, length, map, get_or, Result, Ok, Err, Bool, true, false, not, Some, None, Option}
+use Rattle.std.proofs.Common.{◌≡◌, sym, ap, ◌∙◌, ℕ, zero, suc, List, [], ◌∷◌, length, map, Result, Ok, Err, not}
 use Rattle.std.proofs.lemmas.List.{length-map}
-use Rattle.field_core.specs.Terms.{Terms, IsReduced}
-use Rattle.field_core.specs.Number.{Number}
+use Rattle.field_core.specs.Terms.{IsReduced}
 use Rattle.field_core.specs.Arithmetic.{number_one}
 use Rattle.field_core.specs.NumberField.{number_field}
 use Rattle.field_core.specs.Sums.{sum_below}
@@ -13,7 +12,7 @@ use Rattle.fraction.specs.declared.fraction.Fraction.{Fraction}
 use Rattle.fraction.specs.Plain.{zero_reduced}
 use Rattle.fraction.specs.View.{terms_of, number_of}
 use Rattle.case_model.specs.declared.fault.CaseFault.{CaseFault}
-use Rattle.case_model.specs.Sums.{number, terms_at, number_at, written_sum}
+use Rattle.case_model.specs.Sums.{terms_at, number_at, written_sum}
 use Rattle.case_model.specs.Draft.{at_most}
 use Rattle.case_model.specs.CaseFaults.{◌when◌, sum_fault, total_fault}
 use Rattle.case_model.specs.Rows.{written_value}

@@ -1,5 +1,5 @@
 -- What is known of the content of a case.
-use Rattle.std.proofs.Common.{◌≡◌, refl, sym, ap, ap₂, subst, ◌∙◌, ℕ, zero, suc, ◌+◌, ◌*◌, ◌==◌, ◌<◌, ◌≤◌, List, [], ◌∷◌, length, map, get_or, Bool, true, false, ◌&&◌, ◌||◌, not, nat_lt, cond, Option, Some, None, is_some, is_none, arith}
+use Rattle.std.proofs.Common.{◌≡◌, refl, sym, ap, subst, ◌∙◌, ℕ, suc, ◌*◌, ◌==◌, ◌<◌, ◌≤◌, List, [], ◌∷◌, length, map, get_or, Bool, true, false, ◌&&◌, not, nat_lt, cond, Option, Some, None, is_some, is_none, arith}
 use mathlib.Core.Bool.{Bool-set}
 use native.Mathlib.Nat.{ℕ_set}
 use native.Mathlib.Bridge.{le_prop}
@@ -10,7 +10,6 @@ use Rattle.std.specs.List.{list_all, list_any, position}
 use Rattle.std.specs.Option.{option_map}
 use Rattle.case_model.specs.declared.fault.CaseFault.TheVariants.{PMissing}
 use Rattle.field_core.specs.Terms.{Terms}
-use Rattle.field_core.specs.Number.{Number}
 use Rattle.field_core.specs.Arithmetic.{number_zero, number_one}
 use Rattle.field_core.specs.NumberField.{number_field}
 use Rattle.field_core.specs.Sums.{sum_below}
@@ -20,12 +19,12 @@ use Rattle.field_core.proofs.SumLaws.{sum_congr}
 use Rattle.case_model.specs.EntangledGraph.{EntangledGraph, IsValidEntangled}
 use Rattle.case_model.specs.Sums.{number, terms_at, number_at, zero_terms}
 use Rattle.case_model.specs.Draft.{DraftContent, DraftComponentContent, at_most, is_unit, is_level, is_p_value, is_short_p_value, ArePValues}
-use Rattle.case_model.specs.Content.{Content, ComponentContent, InputsContent, bare, single, staged, content_of, tabled, table_of, graph_of, given, inputs_given, IfSingle, component_at, empty_component, entangled}
+use Rattle.case_model.specs.Content.{Content, InputsContent, bare, single, staged, content_of, tabled, graph_of, given, inputs_given, IfSingle, component_at, empty_component, entangled}
 use Rattle.case_model.specs.CaseFaults.{◌or◌, case_fault, late_fault, rows_fault, mixed, p_count, p_missing, p_range, p_values_fault, is_outside, is_long_p_value, long_p_value, no_hypothesis, no_component, too_many_components, components_fault}
-use Rattle.case_model.specs.Validity.{FaultlessDraft, IsFaultlessContent, IsValidContent}
-use Rattle.case_model.proofs.Holding.{Both, both, all_at}
+use Rattle.case_model.specs.Validity.{IsFaultlessContent, IsValidContent}
+use Rattle.case_model.proofs.Holding.{both}
 use Rattle.case_model.proofs.NoFaults.{Neither, neither, no_when, not_false, not_true, nothing_mapped, no_position}
-use Rattle.case_model.proofs.Faultless.{good_start, good_names, few_names, length-table_of, content_of-components, content_of-inputs}
+use Rattle.case_model.proofs.Faultless.{good_start, good_names, few_names, length-table_of, content_of-components}
 use Rattle.case_model.proofs.ValidDrafts.{early_none, late_none, GoodComponent, good_component, share_total, level, long_edges}
 use Rattle.case_model.proofs.ValidGraphs.{valid_graph}
 

@@ -1,25 +1,20 @@
 -- What is known of the components of a draft without a fault.
-use Rattle.std.proofs.Common.{◌≡◌, refl, sym, ap, subst, ◌∙◌, ℕ, zero, suc, ◌+◌, ◌*◌, ◌/◌, ◌%◌, ◌==◌, ◌<◌, ◌≤◌, List, [], ◌∷◌, length, map, get_or, Bool, true, false, ◌&&◌, not, nat_lt, Option, Some, None, arith}
+use Rattle.std.proofs.Common.{◌≡◌, refl, sym, ap, ◌∙◌, ℕ, ◌==◌, ◌<◌, List, [], ◌∷◌, length, map, get_or, Bool, true, ◌&&◌, not, None, arith}
 use Rattle.std.proofs.lemmas.Bool.Decides.{nat_tests}
-use Rattle.std.proofs.lemmas.Nat.{mul-add-lt, div-mul-add}
 use Rattle.std.proofs.lemmas.List.{length-map, get_or-map}
-use Rattle.std.proofs.lemmas.List.FromFn.{get_or-map-range_with_len}
-use Rattle.std.specs.List.{list_all, find}
-use Rattle.std.specs.Option.{option_map_or, MatchOption}
-use Rattle.std.specs.Bool.{⊤}
+use Rattle.std.specs.List.{list_all}
 use Rattle.field_core.specs.Terms.{Terms}
-use Rattle.field_core.specs.Number.{Number}
 use Rattle.field_core.specs.Arithmetic.{number_zero, number_one}
 use Rattle.field_core.specs.NumberField.{number_field}
 use Rattle.field_core.specs.Sums.{sum_below}
 use Rattle.case_model.specs.declared.fault.CaseFault.{CaseFault}
 use Rattle.case_model.specs.Sums.{number, number_at}
-use Rattle.case_model.specs.Entries.{entry_value, entry_at, is_zero_entry, no_edge}
-use Rattle.case_model.specs.Draft.{DraftContent, DraftComponentContent, DraftEdgeContent, at_most, is_unit, is_short, is_level, is_short_level, is_level_range, has_ends}
-use Rattle.case_model.specs.Content.{content_of, table_of, tabled, edge_between}
-use Rattle.case_model.specs.CaseFaults.{◌or◌, case_fault, early_fault, late_fault, names_fault, no_hypothesis, components_fault, no_component, too_many_components, part_too_long, long_alpha, long_share, long_weight, long_edge, long_p_value, alpha_range, is_below_zero, share_range, share_sum, shares_fault, total_fault, weight_count, weight_range, weight_sum, weights_fault, is_self_edge, self_edge, repeated_edge, edge_range, edges_fault, row_sum, component_rows, rows_fault, mixed, p_values_fault, first_of}
-use Rattle.case_model.proofs.Holding.{Both, both, all_at}
-use Rattle.case_model.proofs.NoFaults.{Neither, neither, no_when, no_unless, not_true, not_false, nothing_mapped, no_position, no_find, no_first, no_below, no_sum_fault, IsFound, found}
+use Rattle.case_model.specs.Entries.{entry_value, entry_at}
+use Rattle.case_model.specs.Draft.{DraftContent, DraftComponentContent, at_most, is_unit, is_short, is_level, is_short_level, is_level_range}
+use Rattle.case_model.specs.Content.{content_of, table_of, tabled}
+use Rattle.case_model.specs.CaseFaults.{◌or◌, case_fault, early_fault, late_fault, part_too_long, long_alpha, long_share, long_weight, long_edge, long_p_value, alpha_range, is_below_zero, share_range, share_sum, shares_fault, total_fault, weight_count, weight_range, weight_sum, weights_fault, is_self_edge, self_edge, repeated_edge, edge_range, edges_fault, row_sum, component_rows, rows_fault, first_of}
+use Rattle.case_model.proofs.Holding.{both, all_at}
+use Rattle.case_model.proofs.NoFaults.{Neither, neither, no_unless, not_true, not_false, nothing_mapped, no_position, no_find, no_first, no_below, no_sum_fault}
 use Rattle.case_model.proofs.Faultless.{GoodStart, good_start, content_of-components}
 
 pub early_none : (d : DraftContent) → case_fault d ≡ None → early_fault d ≡ None

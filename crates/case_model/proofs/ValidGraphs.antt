@@ -1,8 +1,7 @@
 -- The entangled graph of a draft without a fault is valid.
-use Rattle.std.proofs.Common.{◌≡◌, refl, sym, ap, ap₂, subst, ◌∙◌, ℕ, zero, suc, ◌+◌, ◌*◌, ◌/◌, ◌%◌, ◌==◌, ◌<◌, ◌≤◌, List, [], ◌∷◌, length, map, get_or, Bool, true, false, ◌&&◌, not, Option, Some, None, ℤ, pos, arith}
+use Rattle.std.proofs.Common.{◌≡◌, refl, sym, ap, ap₂, ◌∙◌, ℕ, zero, suc, ◌+◌, ◌*◌, ◌/◌, ◌%◌, ◌==◌, ◌<◌, List, [], ◌∷◌, Bool, true, ◌&&◌, not, Option, Some, None, ℤ, pos, arith}
 use Rattle.std.proofs.lemmas.Bool.Decides.{nat_tests}
 use Rattle.std.proofs.lemmas.Nat.{mul-add-lt, div-mul-add, mod-mul-add}
-use Rattle.std.proofs.lemmas.List.{length-map, get_or-map}
 use Rattle.std.proofs.lemmas.List.FromFn.{get_or-map-range_with_len}
 use Rattle.std.specs.List.{list_all, find}
 use Rattle.std.specs.Option.{option_map_or, MatchOption}
@@ -11,27 +10,24 @@ use lib.IntN.{ℤ_discrete}
 use Rattle.field_core.specs.Terms.{Terms}
 use Rattle.field_core.specs.Number.{Number}
 use Rattle.field_core.specs.Arithmetic.{number_zero, number_one, ◌*ε◌}
-use Rattle.field_core.specs.Order.{◌≤ε◌}
 use Rattle.field_core.specs.Fractions.{fraction}
 use Rattle.field_core.specs.NumberField.{number_field}
 use Rattle.field_core.specs.Sums.{sum_below}
-use Rattle.field_core.specs.Graph.{Graph, IsValid}
+use Rattle.field_core.specs.Graph.{IsValid}
 use Rattle.field_core.specs.Laws.Order.{number_zero_multiply}
 use Rattle.field_core.specs.Laws.FractionLaws.{quotient-zero, fraction-zero, lowest-constant}
 use Rattle.field_core.specs.Laws.NumberFieldLaws.{field_zero, field_one}
 use Rattle.field_core.specs.Laws.AtMostLaws.{at_most_refl, zero_at_most_one}
 use Rattle.field_core.proofs.SumLaws.{sum_congr, sum_zero}
 use Rattle.fraction.specs.Laws.PlainLaws.{integer_zero}
-use Rattle.case_model.specs.EntangledGraph.{EntangledGraph, IsValidEntangled}
 use Rattle.case_model.specs.Sums.{number, terms_at, number_at, zero_terms}
 use Rattle.case_model.specs.Entries.{power_of_epsilon, entry_value, entry_at, is_zero_terms, is_zero_entry, no_edge}
-use Rattle.case_model.specs.Draft.{DraftContent, DraftComponentContent, DraftEdgeContent, at_most, is_unit, has_ends}
-use Rattle.case_model.specs.Content.{ComponentContent, content_of, table_of, tabled, edge_between, graph_of, component_at, empty_component, entangled}
-use Rattle.case_model.specs.CaseFaults.{case_fault, is_self_edge}
-use Rattle.case_model.proofs.Holding.{Both, both, all_at}
+use Rattle.case_model.specs.Draft.{DraftComponentContent, DraftEdgeContent, at_most, is_unit, has_ends}
+use Rattle.case_model.specs.Content.{table_of, tabled, edge_between, graph_of}
+use Rattle.case_model.specs.CaseFaults.{is_self_edge}
+use Rattle.case_model.proofs.Holding.{both}
 use Rattle.case_model.proofs.NoFaults.{IsFound, found, not_false, not_true}
-use Rattle.case_model.proofs.Faultless.{content_of-components}
-use Rattle.case_model.proofs.ValidDrafts.{GoodComponent, good_component, share_total}
+use Rattle.case_model.proofs.ValidDrafts.{GoodComponent}
 
 -- ---- the value 0
 

@@ -1,5 +1,5 @@
--- The fault of a draft: what the first row of a table finds. Each row is a test of all components, hypotheses or places of a list, in ascending order.
-use Rattle.std.specs.Prelude.{ℕ, zero, suc, ◌+◌, ◌==◌, ◌&&◌, not, Bool, true, false, List, [], ◌∷◌, Option, Some, None, Result, Ok, Err, length, map, take, nat_lt, is_some, is_none, position, if◌then◌else◌}
+-- The fault of a draft: what the first test that finds something tells. The tests stand in a table; each is made of all components, hypotheses or places of a list, in ascending order, before the next. (A row is here a row of edges, or what a test of one item tells.)
+use Rattle.std.specs.Prelude.{ℕ, zero, suc, ◌+◌, ◌==◌, ◌&&◌, not, Bool, false, List, [], ◌∷◌, Option, Some, None, Result, Ok, Err, length, map, take, nat_lt, is_some, is_none, position, if◌then◌else◌}
 use Rattle.std.specs.Bool.{then_some}
 use Rattle.std.specs.List.{list_all, list_any, find}
 use Rattle.std.specs.Option.{option_or, option_map}
@@ -11,7 +11,6 @@ use Rattle.field_core.specs.NumberField.{number_field}
 use Rattle.field_core.specs.Sized.{◌>>=◌}
 use Rattle.field_core.specs.Sums.{sum_below}
 use Rattle.field_core.specs.declared.place.TooWide.{TooWide}
-use Rattle.field_core.specs.declared.place.WideAt.{WideAt}
 use Rattle.field_core.specs.declared.place.Place.{Place}
 use Rattle.field_core.specs.declared.place.Place.TheVariants.{WeightSum as AtWeightSum, RowSum as AtRowSum, ShareSum as AtShareSum}
 use Rattle.case_model.specs.declared.fault.PartPlace.TheVariants.{Alpha, Share, Weight, Edge, P}
@@ -20,7 +19,7 @@ use Rattle.case_model.specs.declared.fault.CaseFault.TheVariants.{NoHypothesis, 
 use Rattle.case_model.specs.Sums.{number, terms_at, number_at, written_sum}
 use Rattle.case_model.specs.Entries.{entry_value, entry_at, is_zero_entry}
 use Rattle.case_model.specs.Draft.{DraftContent, DraftComponentContent, DraftEdgeContent, at_most, is_unit, is_name, is_short_level, is_short, is_short_p_value, is_level_range, has_ends}
-use Rattle.case_model.specs.Content.{Content, ComponentContent, content_of}
+use Rattle.case_model.specs.Content.{ComponentContent, content_of}
 
 -- ---- first faults
 
@@ -34,7 +33,7 @@ infix 30 ◌when◌
 abbrev pub ◌when◌ : CaseFault → Bool → Option CaseFault
 fault when test = then_some test fault
 
--- the first fault that a row finds in a list, item by item, with the places counted from `i`
+-- the first fault that a test finds in a list, item by item, with the places counted from `i`
 unfoldable pub first_from : {A : Type 0} → (ℕ → A → Option CaseFault) → ℕ → List A → Option CaseFault
 first_from row i [] = None
 first_from row i (x ∷ xs) = row i x or first_from row (i + 1) xs
@@ -43,7 +42,7 @@ first_from row i (x ∷ xs) = row i x or first_from row (i + 1) xs
 abbrev pub first_of : {A : Type 0} → (ℕ → A → Option CaseFault) → List A → Option CaseFault
 first_of row xs = first_from row 0 xs
 
--- the first fault that a row finds at the positions below a number
+-- the first fault that a test finds at the positions below a number
 unfoldable pub first_below : (ℕ → Option CaseFault) → ℕ → Option CaseFault
 first_below row zero = None
 first_below row (suc n) = first_below row n or row n
@@ -70,6 +69,7 @@ repeated_name names i name = DuplicateName i when list_any (bytes_eq name) (take
 unfoldable pub duplicate_name : List (List ℕ) → Option CaseFault
 duplicate_name names = first_of (repeated_name names) names
 
+-- the first fault of the names
 unfoldable pub names_fault : List (List ℕ) → Option CaseFault
 names_fault names = no_hypothesis names or too_many names or name_form names or duplicate_name names
 
@@ -83,36 +83,38 @@ no_component ks = NoComponent when length ks == 0
 unfoldable pub too_many_components : List DraftComponentContent → Option CaseFault
 too_many_components ks = TooManyComponents (length ks) when nat_lt 8 (length ks)
 
+-- the fault of the number of components
 unfoldable pub components_fault : List DraftComponentContent → Option CaseFault
 components_fault ks = no_component ks or too_many_components ks
 
 -- ---- numbers with long parts
 
--- the level
+-- the level has a part above its limit
 unfoldable pub long_alpha : Terms → Option CaseFault
 long_alpha alpha = PartTooLong Alpha when not (is_short_level alpha)
 
--- the first share
+-- the first share with a part above its limit
 unfoldable pub long_share : List DraftComponentContent → Option CaseFault
 long_share ks = option_map (λ c. PartTooLong (Share c)) (position (λ k. not (is_short k.share)) ks)
 
--- the first weight of a component
+-- the first weight of a component with a part above its limit
 unfoldable pub long_weight : ℕ → DraftComponentContent → Option CaseFault
 long_weight c k = option_map (λ i. PartTooLong (Weight c i)) (position (λ w. not (is_short w)) k.weights)
 
--- the first edge of a component with a long coefficient
+-- the first edge of a component that has a coefficient with a part above its limit
 unfoldable pub long_edge : ℕ → DraftComponentContent → Option CaseFault
 long_edge c k = option_map (λ e. PartTooLong (Edge c e.from e.to)) (find (λ e. not (list_all is_short e.entry)) k.edges)
 
--- a p-value is given, and long
+-- a p-value is given, and its denominator is above its limit
 abbrev pub is_long_p_value : Option Terms → Bool
 is_long_p_value None = false
 is_long_p_value (Some p) = not (is_short_p_value p)
 
--- the first p-value
+-- the first p-value with a denominator above its limit
 unfoldable pub long_p_value : List (Option Terms) → Option CaseFault
 long_p_value ps = option_map (λ i. PartTooLong (P i)) (position is_long_p_value ps)
 
+-- the first number with a part above its limit: the level, shares, weights, edges, p-values
 unfoldable pub part_too_long : DraftContent → Option CaseFault
 part_too_long d = long_alpha d.alpha or long_share d.components or first_of long_weight d.components or first_of long_edge d.components or long_p_value d.p
 
@@ -143,6 +145,7 @@ total_fault ts c place above = sum_fault (written_sum (length ts) (terms_at ts))
 unfoldable pub share_sum : List DraftComponentContent → Option CaseFault
 share_sum ks = total_fault (map (λ k. k.share) ks) 0 AtShareSum ShareSum
 
+-- the first fault of the shares
 unfoldable pub shares_fault : List DraftComponentContent → Option CaseFault
 shares_fault ks = share_range ks or share_sum ks
 
@@ -160,6 +163,7 @@ weight_range c k = option_map (WeightRange c) (position is_below_zero k.weights)
 unfoldable pub weight_sum : ℕ → DraftComponentContent → Option CaseFault
 weight_sum c k = total_fault k.weights c AtWeightSum (WeightSum c)
 
+-- the first fault of the weights of `m` hypotheses
 unfoldable pub weights_fault : ℕ → List DraftComponentContent → Option CaseFault
 weights_fault m ks = weight_count m ks or first_of weight_range ks or first_of weight_sum ks
 
@@ -185,6 +189,7 @@ repeated_edge c k = first_of (edge_again c k.edges) k.edges
 unfoldable pub edge_range : ℕ → DraftComponentContent → Option CaseFault
 edge_range c k = option_map (λ e. EdgeRange c e.from e.to) (find (λ e. not (is_unit (entry_value e.entry))) k.edges)
 
+-- the first fault of the edges, one by one
 unfoldable pub edges_fault : List DraftComponentContent → Option CaseFault
 edges_fault ks = first_of self_edge ks or first_of repeated_edge ks or first_of edge_range ks
 
@@ -212,6 +217,7 @@ row_sum m c table i = sum_fault (written_row m (entry_at m table i)) (sum_below 
 unfoldable pub component_rows : ℕ → ℕ → ComponentContent → Option CaseFault
 component_rows m c k = first_below (row_sum m c k.edges) m
 
+-- the first fault of the rows of edges
 unfoldable pub rows_fault : ℕ → List ComponentContent → Option CaseFault
 rows_fault m ks = first_of (component_rows m) ks
 
@@ -238,17 +244,18 @@ is_outside (Some p) = not (is_unit (number p))
 unfoldable pub p_range : List (Option Terms) → Option CaseFault
 p_range ps = option_map PRange (position is_outside ps)
 
+-- the first fault of the p-values of `m` hypotheses
 unfoldable pub p_values_fault : ℕ → List (Option Terms) → Option CaseFault
 p_values_fault m ps = p_count m ps or p_missing ps or p_range ps
 
--- ---- all rows
+-- ---- all tests
 
--- the rows before the sums of the rows of edges
+-- the tests before those of the rows of edges
 unfoldable pub early_fault : DraftContent → Option CaseFault
 early_fault d =
     names_fault d.names or components_fault d.components or part_too_long d or alpha_range d.alpha or shares_fault d.components or weights_fault (length d.names) d.components or edges_fault d.components
 
--- the later rows, with the components whose edges are in tables
+-- the later tests, with the components whose edges are in tables
 unfoldable pub late_fault : DraftContent → List ComponentContent → Option CaseFault
 late_fault d ks = rows_fault (length d.names) ks or mixed d or p_values_fault (length d.names) d.p
 

@@ -1,4 +1,4 @@
--- The local test of an intersection, and the closed test (Bretz, Maurer, Brannath and Posch 2009). That a weight of 0 rejects nothing is this project's own.
+-- The local test of an intersection (Bretz, Maurer, Brannath and Posch 2009), and the closed test (Marcus, Peritz and Gabriel 1976). That a weight of 0 rejects nothing is this project's own.
 use Rattle.std.specs.Prelude.{◌==◌, ℕ, Bool}
 use Rattle.field_core.specs.Number.{Number}
 use Rattle.field_core.specs.Arithmetic.{◌*ε◌}

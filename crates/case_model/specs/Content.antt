@@ -1,5 +1,5 @@
 -- What a case holds, the content that a draft stands for, and the entangled graph, the p-values and the level of a content.
-use Rattle.std.specs.Prelude.{ℕ, ◌*◌, ◌/◌, ◌%◌, ◌&&◌, Bool, List, [], ◌∷◌, Option, Some, None, map, length, get_or, if◌then◌else◌, is_some}
+use Rattle.std.specs.Prelude.{ℕ, ◌*◌, ◌/◌, ◌%◌, Bool, List, [], ◌∷◌, Option, Some, None, map, length, get_or, if◌then◌else◌, is_some}
 use Rattle.std.specs.Option.{option_map_or}
 use Rattle.std.specs.List.{list_any, list_all, find, range_with_len}
 use Rattle.field_core.specs.Terms.{Terms}
@@ -38,11 +38,11 @@ pub record Content : Type 0 where
 
 -- ---- the content of a draft
 
--- the entry of the first edge in a list that goes from `i` to `j`
+-- the entry of the first edge in a list that goes from `i` to `j`, and 0 where none does
 unfoldable pub edge_between : List DraftEdgeContent → ℕ → ℕ → List Terms
 edge_between es i j = option_map_or (λ e. e.entry) (find (has_ends i j) es) no_edge
 
--- the table of the edges between `m` hypotheses, row by row
+-- the table of the edges between `m` hypotheses, row by row: place `i * m + j` has the edge from `i` to `j`
 unfoldable pub table_of : ℕ → List DraftEdgeContent → List (List Terms)
 table_of m es = map (λ k. edge_between es (k / m) (k % m)) (range_with_len 0 (m * m))
 
@@ -56,7 +56,7 @@ given [] = []
 given (None ∷ ps) = given ps
 given (Some p ∷ ps) = p ∷ given ps
 
--- none where no p-value is given
+-- the p-values that are given, or none where no p-value is
 abbrev pub inputs_given : List (Option Terms) → InputsContent
 inputs_given ps = if list_any is_some ps then single (given ps) else bare
 
@@ -71,10 +71,11 @@ content_of d = record {
 
 -- ---- the closed test of a content
 
+-- a component without weights and edges, of share 0
 abbrev pub empty_component : ComponentContent
 empty_component = record { share = zero_terms; weights = []; edges = [] }
 
--- the component at a place of a list, and nothing past its end
+-- the component at a place of a list, and an empty one past its end
 abbrev pub component_at : List ComponentContent → ℕ → ComponentContent
 component_at ks c = get_or ks c empty_component
 

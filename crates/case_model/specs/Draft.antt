@@ -1,5 +1,5 @@
 -- What a draft of a case says, and tests of its parts.
-use Rattle.std.specs.Prelude.{◌≡◌, ◌==◌, ◌||◌, ◌&&◌, not, ◌^◌, ◌+◌, ◌*◌, ℕ, Bool, true, false, List, [], ◌∷◌, Option, Some, None, length, nat_lt, nat_le, unsigned_abs}
+use Rattle.std.specs.Prelude.{◌≡◌, ◌==◌, ◌||◌, ◌&&◌, not, ◌^◌, ℕ, Bool, true, List, Option, length, nat_lt, nat_le, unsigned_abs}
 use Rattle.std.specs.List.{list_all}
 use Rattle.std.specs.Char.{is_ascii_alphanumeric}
 use Rattle.field_core.specs.Terms.{Terms}
@@ -48,7 +48,7 @@ at_most = number_field.at_most
 abbrev pub is_unit : Number → Bool
 is_unit x = at_most number_zero x && at_most x number_one
 
--- a letter, a digit, '_', '.' or '-'
+-- an ASCII letter or digit, '_', '.' or '-'
 abbrev pub is_name_byte : ℕ → Bool
 is_name_byte b = is_ascii_alphanumeric b || b == 95 || b == 46 || b == 45
 
@@ -56,7 +56,7 @@ is_name_byte b = is_ascii_alphanumeric b || b == 95 || b == 46 || b == 45
 unfoldable pub is_name : List ℕ → Bool
 is_name name = nat_lt 0 (length name) && nat_le (length name) 32 && list_all is_name_byte name
 
--- both parts are at most the limit
+-- both parts are at most the limit in size
 abbrev pub is_within : ℕ → Terms → Bool
 is_within limit t = nat_le (unsigned_abs t.num) limit && nat_le (unsigned_abs t.den) limit
 

@@ -10,15 +10,19 @@ use Rattle.case_model.specs.declared.draft.DraftEdge.{DraftEdge}
 use Rattle.case_model.specs.declared.draft.DraftStages.{DraftStages}
 use Rattle.case_model.specs.declared.draft.Arrival.{Arrival}
 
+-- what an edge says
 abbrev pub edge_said : DraftEdge → DraftEdgeContent
 edge_said e = record { from = e.from; to = e.to; entry = coefficients_of e.entry }
 
+-- what a component says
 abbrev pub component_said : DraftComponent → DraftComponentContent
 component_said k = record { share = terms_of k.share; weights = map terms_of k.weights; edges = map edge_said k.edges }
 
+-- what a p-value that arrived says
 abbrev pub arrival_said : Arrival → ArrivalContent
 arrival_said a = record { hypothesis = a.hypothesis; stage = a.stage; p = terms_of a.p }
 
+-- what stages say
 abbrev pub stages_said : DraftStages → DraftStagesContent
 stages_said s = record { count = s.count; spend = map (map terms_of) s.spend; arrivals = map arrival_said s.arrivals }
 

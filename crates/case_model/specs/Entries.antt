@@ -1,4 +1,4 @@
--- Entries of tables of edges: polynomials in epsilon of degree at most 4, by their coefficients of ascending power.
+-- Entries of tables of edges: sums of fractions times the powers 0 to 4 of epsilon, by their coefficients of ascending power.
 use Rattle.std.specs.Prelude.{ℕ, zero, suc, List, [], ◌∷◌, ◌+◌, ◌*◌, Bool, drop, get_or}
 use Rattle.std.specs.List.{list_all}
 use Rattle.std.specs.Ordering.{ordering_then}
@@ -43,7 +43,7 @@ is_plain_entry e = list_all is_zero_terms (drop 1 e)
 unfoldable pub entry_at : ℕ → List (List Terms) → ℕ → ℕ → List Terms
 entry_at m table i j = get_or table (i * m + j) no_edge
 
--- the sign of the first coefficient that isn't 0
+-- the sign of the first coefficient that isn't 0, and that of 0 where all are 0
 unfoldable pub first_sign : List Terms → Ordering
 first_sign [] = Equal
 first_sign (t ∷ ts) = ordering_then (int_sign t.num) (first_sign ts)

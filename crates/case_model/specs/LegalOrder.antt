@@ -3,9 +3,8 @@ use Rattle.std.specs.Prelude.{◌≡◌, ◌<◌, ℕ, Bool, true, List, [], ◌
 use Rattle.field_core.specs.Number.{Number}
 use Rattle.field_core.specs.Arithmetic.{◌/ε◌}
 use Rattle.field_core.specs.Order.{◌≤ε◌, IsPositive}
-use Rattle.field_core.specs.Sets.{IsIn, dropping}
+use Rattle.field_core.specs.Sets.{IsIn, dropping, set_of}
 use Rattle.field_core.specs.Runs.{left_after}
-use Rattle.field_core.specs.Examples.{set_of}
 use Rattle.case_model.specs.EntangledGraph.{EntangledGraph}
 use Rattle.case_model.specs.IntersectionWeight.{IsIntersectionWeight}
 use Rattle.case_model.specs.ClosedTest.{IsLegal}

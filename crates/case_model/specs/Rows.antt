@@ -1,4 +1,4 @@
--- What the rows that test one component find in it, and what the code sums.
+-- What the tests of one component find in it, and sums that the code writes.
 use Rattle.std.specs.Prelude.{ℕ, ◌*◌, ◌==◌, Bool, Option, Result, Ok, Err, List, map, length}
 use Rattle.std.specs.List.{list_all}
 use Rattle.field_core.specs.Number.{Number}
@@ -14,6 +14,7 @@ use Rattle.case_model.specs.Draft.{DraftComponentContent}
 use Rattle.case_model.specs.Content.{ComponentContent}
 use Rattle.case_model.specs.CaseFaults.{long_weight, long_edge, weight_range, weight_sum, self_edge, repeated_edge, edge_range}
 
+-- what a test finds in the component at a place
 abbrev pub row_of : Row → ℕ → DraftComponentContent → Option CaseFault
 row_of LongWeight = long_weight
 row_of LongEdge = long_edge
@@ -27,7 +28,7 @@ row_of EdgeRange = edge_range
 abbrev pub shares_in : List DraftComponent → List Fraction
 shares_in ks = map (λ k. k.share) ks
 
--- the value of a sum that isn't refused
+-- the value of a sum that isn't refused, and 0 of one that is
 abbrev pub written_value : Result Fraction TooWide → Number
 written_value (Ok s) = number_of s
 written_value (Err e) = number_zero

@@ -1,5 +1,5 @@
 -- Sums of fractions, by value and as they are written.
-use Rattle.std.specs.Prelude.{ℕ, zero, suc, ℤ, pos, List, get_or, Result, Ok, Err}
+use Rattle.std.specs.Prelude.{ℕ, zero, suc, pos, List, get_or, Result, Ok}
 use Rattle.field_core.specs.Terms.{Terms}
 use Rattle.field_core.specs.Sized.{◌>>=◌}
 use Rattle.field_core.specs.Number.{Number}
@@ -12,6 +12,7 @@ use Rattle.fraction.specs.Written.{written_add}
 abbrev pub number : Terms → Number
 number t = fraction t.num t.den
 
+-- 0/1
 abbrev pub zero_terms : Terms
 zero_terms = record { num = pos 0; den = pos 1 }
 

@@ -12,7 +12,7 @@ pub record FaultlessDraft (c : Content) : Type 0 where
   pub content_is : content_of draft ≡ c
   pub faultless : case_fault draft ≡ None
 
--- the content of some draft without a fault
+-- the content of some draft without a fault (whichever)
 abbrev pub IsFaultlessContent : Content → Type 0
 IsFaultlessContent c = ∥ FaultlessDraft c ∥₁
 
@@ -35,6 +35,7 @@ pub record IsValidContent (c : Content) : Type 0 where
   pub components : All AreLowestParts c.components
   pub inputs : AreLowestInputs c.inputs
 
+-- (Each of these facts has one proof at most.)
 pub reduced_is_fact : (t : Terms) → IsProp (IsReduced t)
 reduced_is_fact t = hlevel props
 

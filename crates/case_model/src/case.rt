@@ -85,7 +85,7 @@ impl Case {
         self.components.len()
     }
 
-    /// The share of the component at a place.
+    /// The share of the component at a place, from 0 to 1.
     pub fn share(&self, c: usize) -> Fraction
         requires { c < length (content self.now).components }
         ensures { terms_of result ≡ (component_at (content self.now).components c).share }
@@ -93,7 +93,7 @@ impl Case {
         self.components.as_slice()[c].share
     }
 
-    /// The weight of a hypothesis in a component.
+    /// The weight of a hypothesis in a component, from 0 to 1.
     pub fn weight(&self, c: usize, i: usize) -> Fraction
         requires component { c < length (content self.now).components }
         requires hypothesis { i < length (content self.now).names }

@@ -50,7 +50,8 @@ pub struct DraftStages {
     pub arrivals: List<Arrival>,
 }
 
-/// A case as it was read, which may have faults. A place of `p` that is empty is a p-value that is missing.
+/// A case as it was read, which may have faults. `p` has no place, or one for each hypothesis; an empty place is a p-value
+/// that is missing, and where all are empty the case has no p-values.
 #[derive(Drop)]
 pub struct Draft {
     pub names: List<Text>,
@@ -68,8 +69,9 @@ struct Made {
 }
 
 impl Draft {
-    /// The case that the draft says, or the first fault that a row of `CaseFault` finds in it. A refusal hands back the
-    /// draft's names; the rest is given up.
+    /// The case that the draft says, or the first fault that a row of `CaseFault` finds in it, or `NoMemory`. A refusal
+    /// hands back the draft's names; the rest is given up. Each edge goes from a hypothesis to a hypothesis, and there are no
+    /// stages.
     pub fn finish(self, alloc: Global) -> Result<Case, Refused>
         requires ends { have_known_ends (said self) ≡ true }
         requires unstaged { (said self).stages ≡ None }

@@ -6,7 +6,7 @@ use field_core::Number;
 use fraction::Fraction;
 use std::cmp::Ordering;
 
-/// The weight of an edge: a polynomial in epsilon of degree at most 4, by its coefficients of ascending power.
+/// The weight of an edge: a sum of fractions times the powers 0 to 4 of epsilon, by its coefficients of ascending power.
 #[derive(Clone, Copy)]
 pub struct Entry {
     coefficients: [Fraction; 5],
@@ -22,7 +22,7 @@ impl Entry {
     ghost use Rattle.case_model.specs.Draft.{at_most, is_unit, is_short};
     ghost use Rattle.case_model.specs.EntryView.{coefficients_of};
 
-    /// The entry with these coefficients.
+    /// The entry with these coefficients, by ascending power of epsilon.
     pub fn new(coefficients: [Fraction; 5]) -> Entry
         ensures { coefficients_of result ≡ map terms_of coefficients }
     {

@@ -20,20 +20,22 @@ pub enum PartPlace {
 }
 
 /// Why a draft is refused. The rows are tested in this order, each for all components, hypotheses and places of a list,
-/// in ascending order, before the next. Components are named by their places, and hypotheses by their positions, from 0.
+/// in ascending order, before the next; numbers with long parts in the order of `PartPlace`. The rows from `NoStage` to
+/// `ArrivalRange` aren't tested yet, since `finish` takes drafts without stages. Components are named by their places, and
+/// hypotheses by their positions, from 0.
 #[derive(Clone, Copy, PartialEq, Eq, Debug)]
 pub enum CaseFault {
     /// There is no name.
     NoHypothesis,
-    /// There are more than 64 names, so many.
+    /// There are this many names, more than 64.
     TooMany(u64),
-    /// A name isn't 1 to 32 bytes of letters, digits, `_`, `.` and `-`.
+    /// A name isn't 1 to 32 bytes of ASCII letters and digits, `_`, `.` and `-`.
     NameForm(usize),
     /// A name is equal to an earlier one.
     DuplicateName(usize),
     /// There is no component.
     NoComponent,
-    /// There are more than 8 components, so many.
+    /// There are this many components, more than 8.
     TooManyComponents(u64),
     /// A part of a number passes its limit: 10,000 for the level, 10^30 for the denominator of a p-value, 10^18 for a
     /// share, a weight or a coefficient of an edge.
@@ -60,7 +62,7 @@ pub enum CaseFault {
     RowSum(usize, usize),
     /// There are stages, and p-values that belong to none.
     Mixed,
-    /// There are p-values, so many places, and not just one for each hypothesis.
+    /// There are this many places of p-values, and not just one for each hypothesis.
     PCount(usize),
     /// Some p-value is given, and that of a hypothesis isn't.
     PMissing(usize),
@@ -68,7 +70,7 @@ pub enum CaseFault {
     PRange(usize),
     /// There are 0 stages.
     NoStage,
-    /// There are more than 12 stages, so many.
+    /// There are this many stages, more than 12.
     TooManyStages(u64),
     /// A hypothesis hasn't just one fraction for each stage, or there is a list of fractions past the last hypothesis.
     SpendCount(usize),
@@ -82,9 +84,10 @@ pub enum CaseFault {
     ArrivalRepeated(usize),
     /// The p-value of an arrival is below 0 or above 1.
     ArrivalRange(usize),
-    /// A part of a written sum of shares, weights, edges or fractions passes its size. It is found in the place of the
-    /// row that tests the sum, before that row's own fault.
+    /// A part of a written sum of shares, weights, edges or fractions passes its size. It is found where the row tests
+    /// this sum, before the sum is compared with 1.
     Wide(WideAt),
+    /// Memory ran out.
     NoMemory,
 }
 

@@ -14,7 +14,10 @@ pub struct Stages {
 /// The p-values of a case: none, one for each hypothesis, or those of stages.
 #[derive(Drop)]
 pub enum Inputs {
+    /// There are none.
     Bare,
+    /// One for each hypothesis, in their order.
     Single(List<Fraction>),
+    /// Those of stages.
     Staged(Stages),
 }

@@ -45,7 +45,8 @@ pub fn rejections_stay_at_greater_levels()
     ensures { RejectionsStayAtGreaterLevels }
 {}
 
-/// A complete legal order has exactly the hypotheses that the closed test rejects, whichever order it is.
+/// At a level from 0 to 1, a complete legal order has exactly the hypotheses that the closed test rejects, whichever
+/// order it is.
 pub fn complete_orders_decide()
     ensures legal { LegalOrdersAreRejected }
     ensures complete { CompleteListsHaveAllRejected }

@@ -8,24 +8,25 @@ use crate::numbers::{at_most, is_positive};
 use field_core::Number;
 use fraction::Fraction;
 
-/// The greatest weight at which a p-value may fail to pass: p / alpha. It always fits.
-fn threshold(p: &Fraction, alpha: &Fraction) -> Fraction
+/// The least weight, if it is above 0, at which a p-value passes: p / alpha. It always fits.
+fn least_weight(p: &Fraction, alpha: &Fraction) -> Fraction
     requires p { is_p_value (terms_of p.now) ≡ true }
     requires alpha { is_level (terms_of alpha.now) ≡ true }
     ensures { number_of result *ε number_of alpha.now ≡ number_of p.now }
 {
     match p.div(alpha) {
-        Ok(threshold) => threshold,
+        Ok(weight) => weight,
         Err(_) => unreachable!(),
     }
 }
 
 /// Whether a p-value passes at a weight: the weight is above 0 and the p-value is at most weight times alpha.
-/// It never refuses, because p / alpha has parts of at most 10^34.
+/// `p` is from 0 to 1 with a denominator of at most 10^30, and `alpha` a level with parts of at most 10,000; so p / alpha
+/// has parts of at most 10^34, and nothing is refused.
 pub fn passes(p: &Fraction, weight: &Fraction, alpha: &Fraction) -> bool
     requires p { is_p_value (terms_of p.now) ≡ true }
     requires alpha { is_level (terms_of alpha.now) ≡ true }
     ensures { IsTrue result ↔ Passes (number_of p.now) (number_of weight.now) (number_of alpha.now) }
 {
-    is_positive(weight) && at_most(&threshold(p, alpha), weight)
+    is_positive(weight) && at_most(&least_weight(p, alpha), weight)
 }

@@ -15,7 +15,7 @@ pub struct NameIndex {
 }
 
 impl NameIndex {
-    /// The index of these names.
+    /// The index of these names, or `NoMemory`.
     pub fn build(alloc: Global, names: &[Text]) -> Result<NameIndex, NoMemory>
         ensures { IfOk result (λ index. (name : List ℕ) → place_of index name ≡ position_of name names.now) }
     {

@@ -20,7 +20,7 @@ fn are_name_bytes(bytes: &[u8]) -> bool
     bytes.iter().all(|byte| is_name_byte(*byte))
 }
 
-/// Whether a name has 1 to 32 bytes, each a letter, a digit, `_`, `.` or `-`.
+/// Whether a name has 1 to 32 bytes, each an ASCII letter or digit, `_`, `.` or `-`.
 #[tactic(auto, unfolding(crate::specs::Draft::is_name))]
 fn is_name(name: &[u8]) -> bool
     ensures { result ≡ is_name name.now }

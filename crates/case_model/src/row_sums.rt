@@ -61,7 +61,7 @@ fn row_sum(count: usize, c: usize, table: &[Entry], i: usize) -> Option<CaseFaul
     }
 }
 
-/// The fault of the first row of a table.
+/// The first fault of the rows of a table.
 fn first_row(count: usize, c: usize, table: &[Entry]) -> Option<CaseFault>
     requires few { count ≤ 64 }
     requires size { length table.now ≡ count * count }
@@ -76,7 +76,7 @@ fn first_row(count: usize, c: usize, table: &[Entry]) -> Option<CaseFault>
     None
 }
 
-/// The fault of the first row of the components' tables.
+/// The first fault of the rows of the components' tables.
 #[tactic(auto, unfolding(crate::specs::CaseFaults::rows_fault))]
 pub fn rows_fault(count: usize, components: &[Component]) -> Option<CaseFault>
     requires few { count ≤ 64 }

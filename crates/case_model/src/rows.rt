@@ -58,7 +58,7 @@ fn weight_range(c: usize, component: &DraftComponent) -> Option<CaseFault>
     Some(CaseFault::WeightRange(c, i))
 }
 
-/// The sum of the weights.
+/// The fault of the sum of the weights.
 #[tactic(auto, unfolding(crate::specs::CaseFaults::weight_sum))]
 fn weight_sum(c: usize, component: &DraftComponent) -> Option<CaseFault>
     ensures { result ≡ weight_sum c (component_said component.now) }

@@ -29,7 +29,7 @@ IsAlphaFault line WordCount = (rest : Words) × (line ≡ codes "alpha" ∷ rest
 IsAlphaFault line UnknownName = ⊥
 IsAlphaFault line (Number fault) = (word : List ℕ) × (line ≡ codes "alpha" ∷ word ∷ []) × IsParseFault word fault
 
--- where `hypotheses` and names must stand
+-- where `hypotheses` and names, any number of them, must stand
 abbrev pub IsNamesFault : Words → LineKind → Type 0
 IsNamesFault line Unexpected = IsOther (codes "hypotheses") line
 IsNamesFault line Ended = ⊥
@@ -37,7 +37,7 @@ IsNamesFault line WordCount = ⊥
 IsNamesFault line UnknownName = ⊥
 IsNamesFault line (Number fault) = ⊥
 
--- where a keyword and numerals must stand
+-- where a keyword and numerals, any number of them, must stand
 abbrev pub IsNumbersFault : List ℕ → Words → LineKind → Type 0
 IsNumbersFault keyword line Unexpected = IsOther keyword line
 IsNumbersFault keyword line Ended = ⊥
@@ -45,11 +45,11 @@ IsNumbersFault keyword line WordCount = ⊥
 IsNumbersFault keyword line UnknownName = ⊥
 IsNumbersFault keyword line (Number fault) = (words : Words) × (line ≡ keyword ∷ words) × IsFirstRefused words fault
 
--- where `weights` and numerals must stand
+-- where `weights` and numerals, any number of them, must stand
 abbrev pub IsWeightsFault : Words → LineKind → Type 0
 IsWeightsFault line kind = IsNumbersFault (codes "weights") line kind
 
--- where either `p` and at least one numeral, or `weights` and numerals must stand
+-- where either `p` and at least one numeral, or `weights` and any number of numerals must stand
 abbrev pub IsPOrWeightsFault : Words → LineKind → Type 0
 IsPOrWeightsFault line Unexpected = IsOther (codes "p") line × IsOther (codes "weights") line
 IsPOrWeightsFault line Ended = ⊥

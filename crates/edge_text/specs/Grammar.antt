@@ -41,7 +41,7 @@ pub record IsPLine (line : Words) (values : List Terms) : Type 0 where
 abbrev pub IsWeightsLine : Words → List Terms → Type 0
 IsWeightsLine line values = IsNumbersLine (codes "weights") line values
 
--- the coefficients of an edge that weighs a plain number
+-- the coefficients of an edge that is a fraction: those of the powers of epsilon are 0
 abbrev pub plain_entry : Terms → List Terms
 plain_entry value = value ∷ zero_terms ∷ zero_terms ∷ zero_terms ∷ zero_terms ∷ []
 
@@ -89,6 +89,6 @@ pub record IsDocument (lines : List Words) (draft : DraftContent) : Type 0 where
   pub components : draft.components ≡ one_component weights edges
   pub stages : draft.stages ≡ None
 
--- the lines of a text that count are a document, and it says this draft
+-- the lines of a text that aren't skipped are a document, and it says this draft
 abbrev pub IsText : List ℕ → DraftContent → Type 0
 IsText bytes draft = IsDocument (words_in (rows_of bytes)) draft

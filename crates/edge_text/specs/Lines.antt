@@ -35,7 +35,7 @@ words_of line = filter is_word (slice_split is_blank line)
 unfoldable pub after_blanks : List ℕ → List ℕ
 after_blanks line = drop (prefix_len is_blank line) line
 
--- nothing, or '#' first
+-- whether a line that doesn't begin with a blank has nothing, or '#' first
 abbrev pub begins_comment : List ℕ → Bool
 begins_comment [] = true
 begins_comment (b ∷ bs) = b == 35
@@ -44,17 +44,17 @@ begins_comment (b ∷ bs) = b == 35
 unfoldable pub is_skipped : List ℕ → Bool
 is_skipped line = begins_comment (after_blanks line)
 
--- a line that counts, and its number among all lines, from 1
+-- a line that isn't skipped, and its number among all lines, from 1
 pub record Row : Type 0 where
   pub number : ℕ
   pub text : List ℕ
 
--- the lines that count, where n others stand before the first
+-- the lines that aren't skipped, where n others stand before the first
 unfoldable pub kept_after : ℕ → List (List ℕ) → List Row
 kept_after n [] = []
 kept_after n (line ∷ lines) = if is_skipped line then kept_after (n + 1) lines else record { number = n + 1; text = line } ∷ kept_after (n + 1) lines
 
--- the lines of a text that count
+-- the lines of a text that aren't skipped
 abbrev pub rows_of : List ℕ → List Row
 rows_of bytes = kept_after 0 (lines_of bytes)
 

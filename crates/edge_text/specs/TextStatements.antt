@@ -55,7 +55,7 @@ pub record IsUnfinished (rows : List Row) : Type 0 where
   pub begins : BeginDocument (words_in rows)
   pub refused : (draft : DraftContent) → ¬ IsDocument (words_in rows) draft
 
--- the first fault of a text is at the first line with which no document goes on, or else behind the last line, where each document goes on
+-- the first fault of a text is at the first line with which no document goes on; or, where the lines begin some document and are none, behind the last line
 abbrev pub FirstFaultsEndDocuments : Type 0
 FirstFaultsEndDocuments =
     (bytes : List ℕ) (number : ℕ) (kind : LineKind) → IsFirstFault bytes number kind →

@@ -10,7 +10,7 @@ pub enum LineKind {
     Unexpected,
     /// The document ends where a line must follow.
     Ended,
-    /// There are too few or too many words.
+    /// `alpha` has not just one word behind it, `edge` not just three, or `p` none.
     WordCount,
     /// A name isn't that of a hypothesis.
     UnknownName,
@@ -26,6 +26,7 @@ pub enum TextFault {
     Line(usize, LineKind),
     /// Each line stands, and the draft that they say is refused.
     Case(Refused),
+    /// Memory ran out.
     NoMemory,
 }
 

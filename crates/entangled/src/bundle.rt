@@ -11,8 +11,9 @@ use removal::Remover;
 
 /// Several nets over one set of hypotheses, each with its share of the level.
 ///
-/// The level of a hypothesis is the sum, over the nets, of the share times the limit of its weight there. The levels
-/// stand ready, and so does the room for those after the next removal, so no removal takes memory.
+/// The level of a hypothesis is its fraction of alpha, from 0 to 1: the sum, over the nets, of the share times the limit
+/// of its weight there, as the opening or the last removal wrote it. There is room for the levels after the next removal,
+/// so no removal takes memory.
 #[derive(Drop)]
 pub struct Bundle<R: Remover> {
     nets: Vec<R>,

@@ -5,7 +5,8 @@ ghost use Rattle.entangled.specs.LevelStatements.{BundleLevelsAreWeights, Bundle
 use removal::Remover;
 
 /// After the written opening of nets and removals in turn, in any order in which nothing is refused, the levels of
-/// the hypotheses that are left are their weights in the intersection of those that are left, in lowest terms.
+/// the hypotheses that are left are their weights in the intersection of those that are left, in lowest terms. Just
+/// those are live that are left, and the size stays.
 pub fn bundle_levels_are_weights<R: Remover>()
     ensures weights { BundleLevelsAreWeights R.Value.kind R.graph R.IsProper R.removal }
     ensures live { BundleLiveAreLeft R.Value.kind R.graph R.IsProper R.removal }
@@ -15,6 +16,7 @@ pub fn bundle_levels_are_weights<R: Remover>()
 
 /// After the written opening of a plain case and removals in turn, in any order in which nothing is refused, the
 /// levels of the hypotheses that are left are their weights in the intersection of those that are left, in lowest terms.
+/// Just those are live that are left, and the size stays.
 pub fn case_levels_are_weights()
     ensures weights { LevelsAreWeights }
     ensures live { LiveAreLeft }

@@ -8,12 +8,11 @@ use Rattle.field_core.specs.View.{terms}
 use Rattle.field_core.specs.declared.ratio.Ratio.{Ratio}
 use Rattle.field_core.proofs.Divisors.{gcd_is}
 use Rattle.field_core.proofs.Coprime.{gcd_bounds}
-use Rattle.fraction.specs.Laws.CrossProducts.{Same}
 use Rattle.fraction.specs.Laws.ExactTerms.{neg_times}
 use Rattle.fraction.specs.declared.fault.NumberFault.{NumberFault}
 use Rattle.fraction.specs.declared.fault.NumberFault.TheVariants.{Empty, BadByte, ZeroDenominator, TooManyDigits}
 use Rattle.fraction.specs.declared.size.Size.{Size}
-use Rattle.fraction.specs.Numeral.{is_minus, with_sign, Body, Plain, Pointed, Pair, exponent_of, over_power, value_of, IsNumeral, IsNumeralOf, IsParseFault}
+use Rattle.fraction.specs.Numeral.{is_minus, with_sign, Body, Plain, Pointed, Pair, exponent_of, over_power, value_of, IsNumeral, IsNumeralOf, IsParseFault, Same}
 use Rattle.fraction.specs.Checking.{IsChecked}
 use Rattle.fraction.specs.Sizes.{quotient_of, IsBodySize, GivesBody}
 use Rattle.fraction.specs.Lowest.{lowest_of}

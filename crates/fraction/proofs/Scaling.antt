@@ -6,11 +6,10 @@ use Rattle.std.proofs.lemmas.Int.{ints}
 use Rattle.std.proofs.lemmas.Nat.{pow-add}
 use Rattle.std.proofs.Math.Nat.{mul_assoc, mul-le-mul_right, pow-le-pow_right, one-le-pow}
 use Rattle.field_core.specs.Terms.{Terms}
-use Rattle.fraction.specs.Laws.CrossProducts.{Same}
 use Rattle.fraction.specs.declared.fault.NumberFault.{NumberFault}
 use Rattle.fraction.specs.declared.fault.NumberFault.TheVariants.{Empty, BadByte, ZeroDenominator, TooManyDigits}
 use Rattle.fraction.specs.declared.size.Size.{Size}
-use Rattle.fraction.specs.Numeral.{over_power, PassesLimit, IsTooLong, without_leading_zeros, trailing_zeros}
+use Rattle.fraction.specs.Numeral.{over_power, PassesLimit, IsTooLong, without_leading_zeros, trailing_zeros, Same}
 use Rattle.fraction.specs.declared.decimal.Decimal.{Decimal}
 use Rattle.fraction.specs.declared.shift.Shift.{Shift}
 use Rattle.fraction.specs.Sizes.{quotient_of, digits_in, IsShift, IsScaled, IsDecimalSize, GivesDecimal}

@@ -1,9 +1,8 @@
--- Numerals: what they are, what they are worth, and why a text is none that can be taken.
+-- Numerals: what they are, what they are worth, and why a text has no value.
 use Rattle.std.specs.Prelude.{◌≡◌, ℕ, suc, ◌+◌, ◌-◌, ◌^◌, ◌<◌, ◌≤◌, ◌⊎◌, Bool, false, List, [], ◌∷◌, ◌++◌, length, drop, ℤ, pos, negsuc, neg_ℤ, ◌-ℤ◌, ◌*ℤ◌, ◌<ℤ◌, Option, Some, None, ◌==◌, if◌then◌else◌}
 use Rattle.std.specs.List.{prefix_len, suffix_len}
 use Rattle.std.specs.Str.Parse.{digits_value}
 use Rattle.field_core.specs.Terms.{Terms, IsReduced}
-use Rattle.fraction.specs.Laws.CrossProducts.{Same}
 use Rattle.fraction.specs.Prefixes.{IsBadByte}
 use Rattle.fraction.specs.declared.fault.NumberFault.{NumberFault}
 use Rattle.fraction.specs.declared.fault.NumberFault.TheVariants.{Empty, BadByte, ZeroDenominator, TooManyDigits}
@@ -115,7 +114,7 @@ without_leading_zeros digits = drop (prefix_len is_nought digits) digits
 unfoldable pub trailing_zeros : List ℕ → ℕ
 trailing_zeros digits = suffix_len is_nought digits
 
--- n digits, divided by ten to the s: they are more than 38, or reach more than 38 places behind the point, or are more than 38 together with the zeros up to the point
+-- a number of n digits, divided by ten to the s: they are more than 38, or reach more than 38 places behind the point, or are more than 38 together with the zeros up to the point
 abbrev pub PassesLimit : ℕ → ℤ → Type 0
 PassesLimit n s = (38 < n) ⊎ ((pos 38 <ℤ s) ⊎ ((s <ℤ pos 0) × (pos 38 <ℤ (pos n -ℤ s))))
 
@@ -137,7 +136,11 @@ HasTooManyDigits (Pair over under) = (38 < length (without_leading_zeros over)) 
 
 -- ---- what a text gives
 
--- The text is a numeral within the limits, and this is its value in lowest terms.
+-- two quotients with one value: their cross products are equal
+abbrev pub Same : Terms → Terms → Type 0
+Same x y = x.num *ℤ y.den ≡ y.num *ℤ x.den
+
+-- The text is a numeral within the limits and not over 0, and this is its value in lowest terms.
 pub record IsNumeralOf (text : List ℕ) (value : Terms) : Type 0 where
   pub numeral : IsNumeral text
   pub defined : ¬ HasZeroDenominator numeral.body

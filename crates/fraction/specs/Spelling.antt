@@ -12,7 +12,7 @@ denominator_text den = if den == 1 then [] else 47 ∷ decimal den
 abbrev pub signed_text : Bool → ℕ → List ℕ
 signed_text negative n = if negative then 45 ∷ decimal n else decimal n
 
--- `n`, or `n/d` where the denominator isn't 1
+-- `n`, or `n/d` where the denominator isn't 1, with a minus in front where n is below 0
 unfoldable pub spelling : Terms → List ℕ
 spelling x = signed_text (is_negative x.num) (unsigned_abs x.num) ++ denominator_text (unsigned_abs x.den)
 

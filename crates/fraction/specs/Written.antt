@@ -1,16 +1,18 @@
--- The written operations on fractions, step by step: each written part must be below 2^127 in size.
+-- The written operations on fractions, step by step. Each part that is written must be below 2^127 in size; where one isn't, the operation is undefined.
 use Rattle.std.specs.Prelude.{suc, ℤ, pos, negsuc, neg_ℤ, ◌+ℤ◌, ◌*ℤ◌, int_div, Result, Ok}
 use Rattle.field_core.specs.Sized.{◌>>=◌, sized, gcd_of}
 use Rattle.field_core.specs.Terms.{Terms}
 use Rattle.field_core.specs.declared.place.Op.{Op}
 use Rattle.field_core.specs.declared.place.TooWide.{TooWide}
 
+-- n/d * n'/d', where a = gcd(n, d') and b = gcd(n', d): the numerator is (n/a) * (n'/b), the denominator (d/b) * (d'/a)
 unfoldable pub written_mul : Op → Terms → Terms → Result Terms TooWide
 written_mul op x y = do
   num ← sized op (int_div x.num (gcd_of x.num y.den) *ℤ int_div y.num (gcd_of y.num x.den))
   den ← sized op (int_div x.den (gcd_of y.num x.den) *ℤ int_div y.den (gcd_of x.num y.den))
   Ok (record { num = num; den = den })
 
+-- n/d + n'/d', where g = gcd(d, d'): u = n * (d'/g), v = n' * (d/g) and t = u + v are written; then, with h = gcd(t, g), the denominator (d/g) * (d'/h), and t/h stands above it
 unfoldable pub written_add : Op → Terms → Terms → Result Terms TooWide
 written_add op x y = do
   u ← sized op (x.num *ℤ int_div y.den (gcd_of x.den y.den))
@@ -28,5 +30,6 @@ abbrev pub inverse_of : ℤ → ℤ → Terms
 inverse_of (pos n) d = record { num = d; den = pos n }
 inverse_of (negsuc n) d = record { num = neg_ℤ d; den = pos (suc n) }
 
+-- 1 over a fraction that isn't 0
 unfoldable pub inverse : Terms → Terms
 inverse x = inverse_of x.num x.den

@@ -7,12 +7,12 @@ pub enum FractionFault {
     TooWide,
 }
 
-/// Why a text is no numeral that can be taken. The faults are tested in this order.
+/// Why a text has no value: the first of these that holds.
 #[derive(Clone, Copy, PartialEq, Eq, Debug)]
 pub enum NumberFault {
     /// The text has no byte.
     Empty,
-    /// The text is no numeral, and this many bytes of it begin some numeral.
+    /// The text is no numeral, and its longest prefix with which some numeral begins has this many bytes.
     BadByte(usize),
     /// The second part of a pair is 0.
     ZeroDenominator,

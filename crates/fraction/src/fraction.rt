@@ -88,7 +88,8 @@ impl Fraction {
     ghost use Rattle.fraction.specs.Numeral.{IsNumeralOf, IsParseFault};
     ghost use Rattle.fraction.specs.Spelling.{spelling};
 
-    /// The fraction num/den, in lowest terms.
+    /// The fraction num/den, in lowest terms. `ZeroDenominator` where `den` is 0, else `TooWide` where a part in lowest
+    /// terms has 2^127 or more in size.
     pub fn new(num: i128, den: i128) -> Result<Fraction, FractionFault>
         ensures lowest { IfOk result (λ x. terms_of x ≡ lowest_terms num den) }
         ensures value { IfOk result (λ x. number_of x ≡ fraction num den) }
@@ -99,7 +100,8 @@ impl Fraction {
         Ok(Fraction { ratio })
     }
 
-    /// Reads a numeral: a decimal such as `-1.5e3`, or a pair such as `2/3`, within 38 digits.
+    /// Reads a numeral: a decimal such as `-1.5e3`, or a pair such as `2/3`, within 38 digits. Else it is the first fault
+    /// of `NumberFault` that holds.
     pub fn parse(text: &[u8]) -> Result<Fraction, NumberFault>
         ensures found { IfOk result (λ x. IsNumeralOf text.now (terms_of x)) }
         ensures only { (t : Terms) → IsNumeralOf text.now t → IsOkAnd result (λ x. terms_of x ≡ t) }
@@ -109,7 +111,8 @@ impl Fraction {
         Ok(Fraction { ratio })
     }
 
-    /// Appends the fraction as a text: `n` where the denominator is 1, else `n/d`.
+    /// Appends the fraction as a text: `n` where the denominator is 1, else `n/d`. Where memory runs out, `out` stays as it
+    /// was.
     pub fn print(&self, out: &mut List<u8>) -> Result<(), NoMemory>
         ensures printed { OnOk result (out.new ≡ out.old ++ spelling (terms_of self.now)) }
         ensures unchanged { OnErr result (out.new ≡ out.old) }
@@ -118,14 +121,14 @@ impl Fraction {
         out.append(text.as_slice())
     }
 
-    /// The same fraction.
+    /// This ratio as a fraction.
     pub fn of(ratio: Ratio) -> Fraction
         ensures { terms_of result ≡ terms ratio }
     {
         Fraction { ratio }
     }
 
-    /// The same fraction.
+    /// This fraction as a ratio.
     pub fn ratio(&self) -> Ratio
         ensures { terms result ≡ terms_of self.now }
     {

@@ -1,22 +1,21 @@
 -- What is printed of a case that is accepted names exactly what the closed test rejects.
-use Rattle.std.proofs.Common.{◌≡◌, refl, sym, ap, ◌∙◌, subst, ◌↔◌, ℕ, ◌==◌, ◌||◌, Bool, true, false, List, [], ◌∷◌, None, arith}
+use Rattle.std.proofs.Common.{◌≡◌, refl, sym, ◌∙◌, ℕ, ◌==◌, true, List, [], ◌∷◌, None, arith}
 use Rattle.std.proofs.lemmas.Bool.Decides.{nat_tests}
 use Rattle.std.specs.List.{list_any}
-use Rattle.field_core.specs.Examples.{set_of}
+use Rattle.field_core.specs.Sets.{set_of}
 use Rattle.case_model.specs.CaseFaults.{case_fault}
-use Rattle.case_model.specs.Content.{Content, content_of, IsRejectedIn}
+use Rattle.case_model.specs.Content.{Content, content_of}
 use Rattle.case_model.specs.Draft.{DraftContent}
-use Rattle.case_model.specs.LegalOrder.{IsListed}
 use Rattle.case_model.specs.Validity.{IsFaultlessContent}
-use Rattle.sequential.specs.DecisionView.{StepContent, DecisionContent}
-use Rattle.sequential.specs.Decisions.{hypotheses, IsDecision}
+use Rattle.sequential.specs.DecisionView.{StepContent}
+use Rattle.sequential.specs.Decisions.{hypotheses}
 use Rattle.sequential.specs.declared.priority.Priority.TheVariants.{First}
 use Rattle.sequential.proofs.DecisionLaws.{decision_decides}
 use Rattle.report.specs.TestReport.{is_rejected}
 use Rattle.graph_cli.specs.declared.answer.Answer.{Answer}
 use Rattle.graph_cli.specs.declared.refusal.wide.When.TheVariants.{Step}
-use Rattle.graph_cli.specs.Outcome.{IsCaseOutcome, other_kind, too_wide, decided, IsTestOutcome, too_long, bad_line, refused, accepted}
-use Rattle.graph_cli.specs.Laws.{ReportsClosedTest, ReportsCase, ReportsAreOfTheClosedTest}
+use Rattle.graph_cli.specs.Outcome.{IsCaseOutcome, other_kind, too_wide, decided, too_long, bad_line, refused, accepted}
+use Rattle.graph_cli.specs.Laws.{ReportsClosedTest, ReportsAreOfTheClosedTest}
 use Rattle.graph_cli.proofs.NoRefusals.{not_wide, not_kind, not_bytes, not_line, not_case}
 
 any_listed : (steps : List StepContent) (j : ℕ) → list_any (λ x. x.hypothesis == j) steps ≡ set_of (hypotheses steps) j

@@ -1,6 +1,5 @@
 -- Words and a case have at most one answer.
-use Rattle.std.proofs.Common.{◌≡◌, refl, sym, ap, ap₂, ◌∙◌, subst, ℕ, ◌<◌, ◌≤◌, List, length, Some, None, Result, Ok, Err, arith}
-use Rattle.field_core.specs.Terms.{Terms}
+use Rattle.std.proofs.Common.{◌≡◌, refl, sym, ap, ap₂, ◌∙◌, subst, ℕ, List, Some, None, Result, Ok, Err, arith}
 use Rattle.case_model.specs.declared.fault.CaseFault.{CaseFault}
 use Rattle.case_model.specs.CaseFaults.{case_fault}
 use Rattle.case_model.specs.Content.{Content, content_of}

@@ -1,11 +1,9 @@
 -- The outcomes of a case and of its bytes, answer by answer.
-use Rattle.std.proofs.Common.{◌≡◌, refl, sym, ap, ◌∙◌, subst, ℕ, ◌+◌, ◌<◌, ◌≤◌, List, length, Some, None, true, Result, Ok, Err, arith}
+use Rattle.std.proofs.Common.{◌≡◌, sym, ap, ◌∙◌, subst, ℕ, ◌<◌, ◌≤◌, List, length, Some, None, true, Result, Ok, Err}
 use Rattle.std.specs.Prelude.{IfOk, IfSome}
 use Rattle.std.specs.declared.option.Option.{Option}
 use Rattle.field_core.specs.declared.memory.NoMemory.{NoMemory}
-use Rattle.case_model.specs.CaseFaults.{case_fault}
-use Rattle.case_model.specs.Content.{Content, content_of, is_plain}
-use Rattle.case_model.specs.Draft.{DraftContent}
+use Rattle.case_model.specs.Content.{is_plain}
 use Rattle.case_model.specs.CaseView.{content}
 use Rattle.case_model.specs.declared.case.Case.{Case}
 use Rattle.case_model.specs.declared.fault.Refused.{Refused}

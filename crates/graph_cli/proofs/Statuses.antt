@@ -1,5 +1,5 @@
 -- No refusal has the status of a case that is decided.
-use Rattle.std.proofs.Common.{◌≡◌, ℕ, ◌∙◌, ap, sym, refl, arith}
+use Rattle.std.proofs.Common.{◌≡◌, ℕ, ◌∙◌, ap, refl, arith}
 use Rattle.graph_cli.specs.declared.answer.Answer.{Answer}
 use Rattle.graph_cli.specs.Answer.{usage}
 use Rattle.graph_cli.specs.LinePieces.{past_limit}

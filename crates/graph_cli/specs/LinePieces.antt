@@ -2,7 +2,7 @@
 use Rattle.std.specs.Prelude.{ℕ, ◌+◌, List, [], ◌++◌, length, get_or, nat_lt, if◌then◌else◌, codes}
 use Rattle.std.specs.Fmt.{decimal}
 use Rattle.graph_cli.specs.declared.answer.Answer.{Answer}
-use Rattle.graph_cli.specs.Answer.{line}
+use Rattle.report.specs.TestReport.{line}
 
 -- a place, counted from 1
 abbrev pub counted : ℕ → List ℕ
@@ -16,7 +16,7 @@ name_at names i = if nat_lt i (length names) then get_or names i [] else counted
 abbrev pub two_names : List (List ℕ) → ℕ → ℕ → List ℕ
 two_names names i j = name_at names i ++ codes " " ++ name_at names j
 
--- the place of a component behind what is in it
+-- ` component` and its number, from 1
 abbrev pub in_component : ℕ → List ℕ
 in_component c = codes " component " ++ counted c
 

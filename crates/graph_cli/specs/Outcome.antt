@@ -28,7 +28,7 @@ use Rattle.graph_cli.specs.WideRefusal.{wide_refusal}
 abbrev pub most_bytes : ℕ
 most_bytes = 4194304
 
--- the command that a list of words names, or the number of the first word that can't stand, from 1
+-- the command that a list of words names, or the number of the first word that can't stand, from 1; with no word, it is 1
 unfoldable pub command_of : List (List ℕ) → Result Command ℕ
 command_of [] = Err 1
 command_of (word ∷ []) = if bytes_eq word (codes "test") then Ok Test else Err 1
@@ -58,7 +58,7 @@ pub data IsTestOutcome (bytes : List ℕ) : Answer → Type 0 where
   -- they say a case
   accepted : (answer : Answer) → length bytes ≤ most_bytes → (d : DraftContent) → IsText bytes d → case_fault d ≡ None → IsCaseOutcome (content_of d) answer → IsTestOutcome bytes answer
 
--- what a command answers to a case, where its bytes are told
+-- what a command answers to a case, where its bytes are told; any answer where they aren't
 abbrev pub IsCommandOutcome : Result Command ℕ → Option (List ℕ) → Answer → Type 0
 IsCommandOutcome (Err n) case answer = answer ≡ usage n
 IsCommandOutcome (Ok Test) case answer = IfSome case (λ bytes. IsTestOutcome bytes answer)

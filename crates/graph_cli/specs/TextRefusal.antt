@@ -6,7 +6,7 @@ use Rattle.fraction.specs.declared.fault.NumberFault.TheVariants.{Empty, BadByte
 use Rattle.edge_text.specs.declared.fault.LineKind.{LineKind}
 use Rattle.edge_text.specs.declared.fault.LineKind.TheVariants.{Unexpected, Ended, WordCount, UnknownName, Number}
 use Rattle.graph_cli.specs.declared.answer.Answer.{Answer}
-use Rattle.graph_cli.specs.Answer.{line}
+use Rattle.report.specs.TestReport.{line}
 use Rattle.graph_cli.specs.LinePieces.{malformed_at, past_limit}
 
 -- a line of a text, by its number from 1

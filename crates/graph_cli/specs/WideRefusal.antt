@@ -9,7 +9,7 @@ use Rattle.field_core.specs.declared.place.WideAt.{WideAt}
 use Rattle.graph_cli.specs.declared.answer.Answer.{Answer}
 use Rattle.graph_cli.specs.declared.refusal.wide.When.{When}
 use Rattle.graph_cli.specs.declared.refusal.wide.When.TheVariants.{Reading, Step}
-use Rattle.graph_cli.specs.Answer.{line}
+use Rattle.report.specs.TestReport.{line}
 use Rattle.graph_cli.specs.LinePieces.{counted, name_at, two_names}
 
 -- when an operation is written

@@ -124,12 +124,11 @@ fn finish<W: Sink>(out: &mut W, text: &[u8], status: u8) -> u8
     }
 }
 
-/// All that the program does. `words` are the words after the program's name, `case` is standard input, `proof` the
-/// file of the command `check`, and `out` gets the text of the answer, or one line that says why there is none.
+/// All that the program does. `words` are the words after the program's name, `case` is standard input, and `out` gets the
+/// text of the answer, or one line that says why there is none. `proof` isn't read: it is for a command to come.
 ///
-/// Statuses: 0 done; 2 the words aren't accepted; 3 the case is malformed; 4 it is past a limit; 5 a number of it or of
-/// its run is too wide; 6 `case` had a fault; 7 `out` had a fault;
-/// 8 memory ran out.
+/// Statuses: 0 done; 2 the words aren't accepted; 3 the case is malformed or has no p-values; 4 it is past a limit; 5 a
+/// number of it or of its run is too wide; 6 `case` had a fault; 7 `out` had a fault; 8 memory ran out.
 pub fn run<S: Source, T: Source, W: Sink>(
     alloc: Global,
     words: &[String],

@@ -1,3 +1,4 @@
+-- Sources and sinks over readers and writers of std, as contracts see them.
 use Rattle.std.specs.Prelude.{ℕ}
 use Rattle.graph_io.specs.declared.adapters.StdSource.{StdSource}
 use Rattle.graph_io.specs.declared.adapters.StdSink.{StdSink}

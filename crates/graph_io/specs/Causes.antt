@@ -1,3 +1,4 @@
+-- Counts of faults, and what an error of a call says of them.
 use Rattle.std.specs.Prelude.{◌≡◌, ℕ, ◌+◌, ◌-◌, ◌^◌, ◌≤◌, min, Result, OnErr, OnOk, MatchResult}
 
 -- one more, of a count that stays at 2^64 - 1

@@ -1,3 +1,4 @@
+-- A sink in memory that fails by plan, as contracts see it.
 use Rattle.std.specs.Prelude.{◌≡◌, ℕ, List}
 use Rattle.graph_io.specs.declared.failing_sink.FailingSink.{FailingSink}
 use Rattle.graph_io.specs.Room.{held_in, free_in}
@@ -26,7 +27,7 @@ puts_made sink = sink.plan.calls
 abbrev pub fault_count : FailingSink → ℕ
 fault_count sink = sink.faults.count
 
--- the same puts fail, and a put takes at most as many bytes
+-- the same puts fail, and the most bytes that a put takes are the same
 pub record HasSamePlan (old new : FailingSink) : Type 0 where
   pub fails : fails_at new ≡ fails_at old
   pub most : most_a_put new ≡ most_a_put old

@@ -1,3 +1,4 @@
+-- A source in memory that fails by plan, as contracts see it.
 use Rattle.std.specs.Prelude.{◌≡◌, ℕ, List}
 use Rattle.graph_io.specs.declared.failing_source.FailingSource.{FailingSource}
 
@@ -21,7 +22,7 @@ takes_made source = source.plan.calls
 abbrev pub fault_count : FailingSource → ℕ
 fault_count source = source.faults.count
 
--- the same takes fail, and a take moves at most as many bytes
+-- the same takes fail, and the most bytes that a take moves are the same
 pub record HasSamePlan (old new : FailingSource) : Type 0 where
   pub fails : fails_at new ≡ fails_at old
   pub most : most_a_take new ≡ most_a_take old

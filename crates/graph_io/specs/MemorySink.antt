@@ -1,3 +1,4 @@
+-- A sink in memory, as contracts see it.
 use Rattle.std.specs.Prelude.{ℕ, List}
 use Rattle.graph_io.specs.declared.memory_sink.MemorySink.{MemorySink}
 use Rattle.graph_io.specs.Room.{held_in, free_in}

@@ -1,3 +1,4 @@
+-- Calls that fail by plan.
 use Rattle.std.specs.Prelude.{ℕ}
 use Rattle.graph_io.specs.Causes.{count_up}
 

@@ -1,3 +1,4 @@
+-- What reading a source to its end gives.
 use Rattle.std.specs.Prelude.{◌≡◌, ℕ, ◌+◌, ◌<◌, ◌≤◌, List, length, IfSome, Result, Ok, Err, ⊤}
 use Rattle.std.specs.declared.option.Option.{Option}
 use Rattle.std.specs.Io.KnownBytes.{Consumes, IsAtEnd}
@@ -19,7 +20,7 @@ EndedBy limit old new before now Fault = Rose before now
 EndedBy limit old new before now (TooLong n) = (n ≡ limit + 1) × TookCount old new n × IfSome old (λ xs. limit < length xs)
 EndedBy limit old new before now NoMemory = ⊤
 
--- no take failed, where the reading didn't end by a fault or want of memory
+-- the count of faults stayed, where the reading didn't end by a fault or want of memory
 abbrev pub IsClean : {A : Type 0} → ℕ → ℕ → Result A ReadEnd → Type 0
 IsClean before now (Ok x) = now ≡ before
 IsClean before now (Err (TooLong n)) = now ≡ before

@@ -1,3 +1,4 @@
+-- A fixed room for bytes.
 use Rattle.std.specs.Prelude.{◌≡◌, ℕ, ◌-◌, List, Result, MatchResult, vec_len}
 use Rattle.graph_io.specs.declared.room.Room.{Room}
 

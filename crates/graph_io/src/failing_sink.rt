@@ -12,7 +12,7 @@ use std::alloc::Global;
 const ROOM: usize = 65_536;
 
 /// A sink in memory with room for 65,536 bytes, for tests. It tells what it holds, takes at most
-/// `cap` bytes a put, and fails at the puts of given numbers and where it has no room left.
+/// `cap` bytes a put, and fails at the puts of given numbers, and where some bytes are put and no room is left.
 #[derive(Drop)]
 pub struct FailingSink {
     room: Room,
@@ -25,8 +25,8 @@ pub struct FailingSink {
 impl FailingSink {
     ghost use Rattle.graph_io.specs.FailingSink.{held_bytes, room_left, most_a_put, fails_at, puts_made, fault_count};
 
-    /// An empty sink that takes at most `cap` bytes a put and fails at the puts whose numbers, from
-    /// 1, stand in `fails`.
+    /// An empty sink that takes at most `cap` bytes a put, at least 1, and fails at the puts whose numbers, from 1, stand
+    /// in `fails`; or `NoMemory`.
     pub fn new(alloc: Global, cap: usize, fails: List<u64>) -> Result<FailingSink, NoMemory>
         requires { 1 ≤ cap }
         ensures empty { IfOk result (λ sink. held_bytes sink ≡ []) }

@@ -21,8 +21,8 @@ pub struct FailingSource {
 impl FailingSource {
     ghost use Rattle.graph_io.specs.FailingSource.{bytes_left, most_a_take, fails_at, takes_made, fault_count};
 
-    /// A source of these bytes that moves at most `cap` of them a take and fails at the takes whose
-    /// numbers, from 1, stand in `fails`.
+    /// A source of these bytes that moves at most `cap` of them a take, at least 1, and fails at the takes whose numbers,
+    /// from 1, stand in `fails`.
     pub fn new(bytes: List<u8>, cap: usize, fails: List<u64>) -> FailingSource
         requires { 1 ≤ cap }
         ensures bytes { bytes_left result ≡ bytes }

@@ -18,7 +18,7 @@ pub struct MemorySink {
 impl MemorySink {
     ghost use Rattle.graph_io.specs.MemorySink.{held_bytes, room_left, fault_count};
 
-    /// An empty sink with room for so many bytes.
+    /// An empty sink with room for so many bytes, or `NoMemory`.
     pub fn with_room(alloc: Global, bytes: usize) -> Result<MemorySink, NoMemory>
         ensures empty { IfOk result (λ sink. held_bytes sink ≡ []) }
         ensures room { IfOk result (λ sink. room_left sink ≡ bytes) }

@@ -15,7 +15,7 @@ use std::alloc::Global;
 pub enum ReadEnd {
     /// The source failed.
     Fault,
-    /// There are more bytes than allowed; the number is the first one past the limit, from 1.
+    /// There are more bytes than allowed; the number is that of the first byte past the limit, counted from 1.
     TooLong(u64),
     /// Memory ran out.
     NoMemory,
@@ -33,14 +33,14 @@ impl From<NoMemory> for ReadEnd {
 
 /// Bytes to be read.
 pub trait Source {
-    /// The bytes that are left, where the source tells them.
+    /// The bytes that are left, where contracts know them; else `None`.
     ghost left: { Self → Option (Seq ℕ) };
 
     /// How often a call failed.
     ghost faults: { Self → ℕ };
 
-    /// Moves the next bytes into the front of `buf`, and says how many. None, with room in `buf`,
-    /// is the end. A failed call moves nothing.
+    /// Moves the next bytes into the front of `buf`, and says how many. 0, where `buf` has room, means the end. A failed
+    /// call moves nothing.
     fn take(&mut self, buf: &mut [u8]) -> Result<usize, Failed>
         ensures bound { ReadsAtMost result buf.new }
         ensures bytes { ReadConsumes (left self.old) (left self.new) result buf.new }
@@ -53,8 +53,9 @@ pub trait Source {
 /// All bytes of a source, read to its end, where there are at most `limit` of them; `limit` is at
 /// most 4,194,304.
 ///
-/// A fault comes only where the source's count rose, and no failed take is made again: with all bytes, and with
-/// `TooLong`, the count stays. `TooLong` comes exactly where byte `limit + 1` was taken, and no more is taken then.
+/// `Fault` comes only where the source's count of faults rose; with all bytes, and with `TooLong`, the count stays.
+/// `TooLong` comes only where just `limit + 1` bytes were taken. Before `Fault` at most `limit` bytes were taken, before
+/// `NoMemory` at most `limit + 1`.
 pub fn read_all<S: Source>(alloc: Global, source: &mut S, limit: u64) -> Result<List<u8>, ReadEnd>
     requires { limit ≤ 4194304 }
     ensures whole { IfOk result (ReadWhole limit (S.left source.old) (S.left source.new)) }

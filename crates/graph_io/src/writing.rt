@@ -10,7 +10,7 @@ use crate::Failed;
 
 /// A place where bytes are written.
 pub trait Sink {
-    /// The bytes that it holds, where the sink tells them.
+    /// The bytes that it holds, where contracts know them; else `None`.
     ghost held: { Self → Option (Seq ℕ) };
 
     /// How often a call failed.
@@ -28,7 +28,8 @@ pub trait Sink {
     ghost counted: { (s : Self) → faults s < 2 ^ 64 };
 }
 
-/// Puts all bytes into a sink. After a failure the sink holds a prefix of them.
+/// Puts all bytes into a sink, behind what it holds. After a failure a prefix of them stands there, and the count of
+/// faults rose; else the count stays.
 pub fn write_all<W: Sink>(sink: &mut W, bytes: &[u8]) -> Result<(), Failed>
     ensures bytes { PutAll (W.held sink.old) (W.held sink.new) bytes.now result }
     ensures cause { HasCause (W.faults sink.old) (W.faults sink.new) result }

@@ -23,7 +23,7 @@ pub trait Remover {
     /// The live marks, the weights and the edges of a state.
     ghost graph: { State → StoredGraph };
 
-    /// What each state that can be reached keeps.
+    /// What holds of each state that can be reached.
     ghost IsProper: { State → Type 0 };
 
     /// The state after the written removal of a hypothesis, or the first operation of it that is undefined.
@@ -44,12 +44,12 @@ pub trait Remover {
         requires { k < size (graph (present self.now)) }
         ensures { result ≡ is_live (graph (present self.now)) k };
 
-    /// The weight of `k`.
+    /// The weight of `k`, which is still in.
     fn weight(&self, k: usize) -> Self::Value
         requires { is_live (graph (present self.now)) k ≡ true }
         ensures { Self.Value.parts result ≡ weight Self.Value.kind (graph (present self.now)) k };
 
-    /// The edge from `l` to `k`, 0 where they are equal.
+    /// The edge from `l` to `k`, which are still in; 0 where they are equal.
     fn edge(&self, l: usize, k: usize) -> Self::Value
         requires l { is_live (graph (present self.now)) l ≡ true }
         requires k { is_live (graph (present self.now)) k ≡ true }
@@ -63,12 +63,12 @@ pub trait Remover {
         ensures present { present self.new ≡ present self.old }
         ensures prepared { prepared self.new ≡ result_ok (removal (present self.old) j) };
 
-    /// The limit of the weight of `k` in the prepared state.
+    /// The limit of the weight of `k` in the prepared state, in which `k` is still in.
     fn prepared_limit(&self, k: usize) -> Ratio
         requires { IsSomeAnd (prepared self.now) (λ s. is_live (graph s) k ≡ true) }
         ensures { (s : State) → prepared self.now ≡ Some s → terms result ≡ limit_terms (weight Self.Value.kind (graph s) k) };
 
-    /// Makes the prepared state the present one.
+    /// Makes the prepared state the present one. There must be one.
     fn commit(&mut self)
         requires { IsSome (prepared self.old) }
         ensures present { prepared self.old ≡ Some (present self.new) }
@@ -86,6 +86,7 @@ pub trait Remover {
     /// The live weights and edges are a valid graph.
     ghost sound: { (x : Self) → IsSound Self.Value.kind (graph (present x)) };
 
+    /// The present state is proper.
     ghost proper: { (x : Self) → IsProper (present x) };
 
     /// By value a removal is the update of the graphical procedure.

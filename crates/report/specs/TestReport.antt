@@ -4,7 +4,7 @@ use Rattle.std.specs.Fmt.{decimal}
 use Rattle.std.specs.List.{All, flat_map, list_any, range_with_len}
 use Rattle.field_core.specs.Terms.{Terms}
 use Rattle.fraction.specs.Spelling.{spelling}
-use Rattle.case_model.specs.Content.{Content, InputsContent, ForSingle, bare, single, staged}
+use Rattle.case_model.specs.Content.{Content, InputsContent, bare, single, staged}
 use Rattle.case_model.specs.Sums.{terms_at}
 use Rattle.sequential.specs.DecisionView.{StepContent, DecisionContent}
 
@@ -30,20 +30,20 @@ spaced_name case j = 32 ∷ get_or case.names j []
 unfoldable pub figures : Content → StepContent → List ℕ
 figures case x = spaced_name case x.hypothesis ++ codes " p " ++ spelling (terms_at (p_values case.inputs) x.hypothesis) ++ codes " weight " ++ spelling x.weight
 
--- the level
+-- the line of the level
 unfoldable pub alpha_line : Content → List ℕ
 alpha_line case = line (codes "alpha " ++ spelling case.alpha)
 
--- the step of this number
+-- the line of the step of this number
 unfoldable pub step_line : Content → ℕ → StepContent → List ℕ
 step_line case n x = line (codes "step " ++ decimal n ++ figures case x)
 
--- the steps in their order, of which the first has this number
+-- the lines of the steps in their order, of which the first has this number
 abbrev pub step_lines : Content → ℕ → List StepContent → List ℕ
 step_lines case n [] = []
 step_lines case n (x ∷ xs) = step_line case n x ++ step_lines case (n + 1) xs
 
--- a hypothesis that is kept
+-- the line of a hypothesis that is kept
 unfoldable pub kept_line : Content → StepContent → List ℕ
 kept_line case x = line (codes "kept" ++ figures case x)
 
@@ -51,11 +51,11 @@ kept_line case x = line (codes "kept" ++ figures case x)
 unfoldable pub is_rejected : List StepContent → ℕ → Bool
 is_rejected steps j = list_any (λ x. x.hypothesis == j) steps
 
--- its name, where it is
+-- a space and the name of the hypothesis at a position, where it is that of a step; else nothing
 abbrev pub name_if_rejected : Content → List StepContent → ℕ → List ℕ
 name_if_rejected case steps j = if is_rejected steps j then spaced_name case j else []
 
--- the names of the hypotheses that are rejected, by ascending position
+-- the line of the names of the hypotheses that are rejected, by ascending position
 unfoldable pub rejected_line : Content → List StepContent → List ℕ
 rejected_line case steps = line (codes "rejected" ++ flat_map (name_if_rejected case steps) (range_with_len 0 (length case.names)))
 

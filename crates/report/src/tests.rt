@@ -4,7 +4,7 @@ ghost use Rattle.std.specs.List.{list_all};
 ghost use Rattle.case_model.specs.Draft.{have_known_ends};
 ghost use Rattle.case_model.specs.DraftView.{said};
 ghost use Rattle.case_model.specs.CaseView.{content};
-ghost use Rattle.sequential.specs.DecisionView.{line};
+ghost use Rattle.sequential.specs.DecisionView.{step_content};
 ghost use Rattle.sequential.specs.TrialAnswers.{IsSingle};
 ghost use Rattle.report.specs.TestReport.{AreOfCase};
 
@@ -238,7 +238,7 @@ fn are_below(lines: &[StepLine], count: usize) -> bool
 }
 
 fn are_of_case(case: &Case, lines: &[StepLine]) -> bool
-    ensures { IsTrue result → AreOfCase (content case.now) (map line lines.now) }
+    ensures { IsTrue result → AreOfCase (content case.now) (map step_content lines.now) }
 {
     are_below(lines, case.size())
 }

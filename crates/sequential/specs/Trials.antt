@@ -22,7 +22,7 @@ pub record TrialContent : Type 0 where
 abbrev pub remaining : TrialContent → ℕ → Bool
 remaining t = left_after whole t.rejected
 
--- a trial of the case `c`: it has the p-values and the level of the case, its rejections are a legal order, and its state is the one after them
+-- a trial of the plain case `c`, whose content is valid: it has the p-values and the level of the case, its rejections are a legal order, and its state is the one after them
 pub record IsTrialOf (c : Content) (t : TrialContent) : Type 0 where
   pub valid : IsValidContent c
   pub plain : is_plain c ≡ true

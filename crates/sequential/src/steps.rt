@@ -2,7 +2,7 @@ ghost use Rattle.std.specs.Prelude.{◌≡◌, ◌↔◌, ℕ, true, [], map, le
 ghost use Rattle.case_model.specs.Content.{Content, is_plain, IsRejectedIn};
 ghost use Rattle.case_model.specs.CaseView.{content};
 ghost use Rattle.case_model.specs.LegalOrder.{IsListed};
-ghost use Rattle.sequential.specs.DecisionView.{line, decision};
+ghost use Rattle.sequential.specs.DecisionView.{step_content, decision};
 ghost use Rattle.sequential.specs.Trials.{IsTrialOf};
 ghost use Rattle.sequential.specs.TrialAnswers.{IsSingle};
 ghost use Rattle.sequential.specs.TrialView.{trial};
@@ -38,7 +38,7 @@ fn run(
     priority: Priority,
 ) -> Result<List<StepLine>, DecideFault>
     requires { (trial current.old).rejected ≡ [] }
-    ensures run { IfOk result (λ steps. (c : Content) → IsTrialOf c (trial current.old) → IsRun c priority (map line steps) (trial current.new)) }
+    ensures run { IfOk result (λ steps. (c : Content) → IsTrialOf c (trial current.old) → IsRun c priority (map step_content steps) (trial current.new)) }
     ensures fault { IfErr result (λ fault. (c : Content) → IsTrialOf c (trial current.old) → IsDecideFault c priority fault) }
 {
     let mut steps = List::new(alloc);
@@ -53,7 +53,7 @@ fn run(
 
 /// The hypotheses that aren't rejected, by ascending position, with their weights.
 fn kept(alloc: Global, current: &Trial) -> Result<List<StepLine>, NoMemory>
-    ensures { IfOk result (λ lines. map line lines ≡ kept_below (length (trial current.now).p_values) (trial current.now).state) }
+    ensures { IfOk result (λ lines. map step_content lines ≡ kept_below (length (trial current.now).p_values) (trial current.now).state) }
 {
     let mut lines = List::new(alloc);
     for hypothesis in 0..current.size() {
@@ -65,11 +65,11 @@ fn kept(alloc: Global, current: &Trial) -> Result<List<StepLine>, NoMemory>
     Ok(lines)
 }
 
-/// Decides a case that has a p-value for each hypothesis: rejects one hypothesis after another, each time the one that
+/// Decides a plain case that has a p-value for each hypothesis: rejects one hypothesis after another, each time the one that
 /// the priority takes, until none is legal. So it rejects exactly what the closed test rejects.
 ///
-/// It is `DecideFault::Wide` exactly where the written run is undefined, with the step, counted from 1; step 0 is the
-/// opening.
+/// Unless memory runs out, it is `DecideFault::Wide` exactly where the written run is undefined, with the step, counted
+/// from 1; step 0 is the opening.
 pub fn decide(alloc: Global, case: &Case, priority: Priority) -> Result<Decision, DecideFault>
     requires plain { is_plain (content case.now) ≡ true }
     requires single { IsSingle (content case.now).inputs }

@@ -1,6 +1,6 @@
 ghost use Rattle.std.specs.Prelude.{◌≡◌, ◌&&◌, [], map, not, true, nat_lt, IsTrue, IfOk};
 ghost use Rattle.std.specs.List.{list_all};
-ghost use Rattle.field_core.specs.Examples.{set_of};
+ghost use Rattle.field_core.specs.Sets.{set_of};
 ghost use Rattle.case_model.specs.Draft.{have_known_ends};
 ghost use Rattle.case_model.specs.DraftView.{edge_said, said};
 ghost use Rattle.case_model.specs.CaseView.{content};

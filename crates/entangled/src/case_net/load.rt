@@ -78,7 +78,7 @@ fn plain_nets(alloc: Global, case: &Case) -> Result<List<Net<Fraction>>, NoMemor
 impl CaseNet {
     /// The nets of a plain case, with all hypotheses in.
     ///
-    /// It is `OpenFault::Wide` exactly where the written opening is undefined.
+    /// Unless memory runs out, it is `OpenFault::Wide` exactly where the written opening is undefined.
     pub fn load(alloc: Global, case: &Case) -> Result<CaseNet, OpenFault>
         requires { is_plain (content case.now) ≡ true }
         ensures { Opens case_state result (case_opening (content case.now)) }

@@ -19,7 +19,7 @@ impl CaseNet {
         }
     }
 
-    /// Whether `k` is still in.
+    /// Whether `k`, a position below the size, is still in.
     pub fn is_live(&self, k: usize) -> bool
         requires { k < case_size (case_state self.now) }
         ensures { result ≡ is_live_in_case (case_state self.now) k }
@@ -29,7 +29,7 @@ impl CaseNet {
         }
     }
 
-    /// The level of `k`, as a fraction of alpha.
+    /// The level of `k`, which is still in, as a fraction of alpha: the weight, with the limits for epsilon taken.
     pub fn weight_limit(&self, k: usize) -> Fraction
         requires { is_live_in_case (case_state self.now) k ≡ true }
         ensures { terms_of result ≡ case_level (case_state self.now) k }
@@ -39,7 +39,7 @@ impl CaseNet {
         }
     }
 
-    /// Removes `j` from all nets. It is `WideAt` exactly where the written removal is undefined; the nets then stay.
+    /// Removes `j`, which is still in, from all nets. It is `WideAt` exactly where the written removal is undefined; the nets then stay.
     pub fn remove(&mut self, j: usize) -> Result<(), WideAt>
         requires { is_live_in_case (case_state self.old) j ≡ true }
         ensures value { ok_map (λ _. case_state self.new) result ≡ case_removal (case_state self.old) j }

@@ -6,7 +6,8 @@ use Rattle.std.specs.Int.{◌∣◌}
 use Rattle.field_core.specs.Divisor.{gcd}
 use Rattle.field_core.specs.Terms.{Terms}
 use Rattle.field_core.specs.Sized.{sized, gcd_of}
-use Rattle.fraction.specs.Laws.CrossProducts.{Same, sum_of, product_of}
+use Rattle.fraction.specs.Numeral.{Same}
+use Rattle.fraction.specs.Laws.CrossProducts.{sum_of, product_of}
 use Rattle.field_core.specs.declared.place.Op.{Op}
 use Rattle.field_core.proofs.Divisors.{gcd_is}
 use Rattle.field_core.proofs.IntegerRing.{ring}

@@ -1,7 +1,7 @@
 //! Pieces of lines.
 ghost use Rattle.std.specs.Prelude.{◌≡◌, ◌++◌, IfOk, OnOk, codes};
 ghost use Rattle.std.specs.Fmt.{decimal};
-ghost use Rattle.graph_cli.specs.Answer.{line};
+ghost use Rattle.report.specs.TestReport.{line};
 ghost use Rattle.graph_cli.specs.LinePieces.{counted, name_at, two_names, in_component};
 
 use crate::answer::Answer;

@@ -43,9 +43,10 @@ fn room_for(alloc: Global, count: usize) -> Result<Vec<usize>, NoMemory>
 }
 
 impl Trial {
-    /// Opens a case that has a p-value for each hypothesis. Nothing is rejected yet.
+    /// Opens a plain case that has a p-value for each hypothesis. Nothing is rejected yet.
     ///
-    /// It is `OpenFault::Wide` exactly where the written opening is undefined. All memory that a trial needs is taken here.
+    /// Unless memory runs out, it is `OpenFault::Wide` exactly where the written opening is undefined. All memory that a
+    /// trial needs is taken here.
     pub fn open(alloc: Global, case: &Case) -> Result<Trial, OpenFault>
         requires plain { is_plain (content case.now) ≡ true }
         requires single { IsSingle (content case.now).inputs }

@@ -1,9 +1,7 @@
-use Rattle.std.proofs.Common.{◌≡◌, sym, ap, ◌∙◌, take, None, Some, get_or, arith}
-use Rattle.std.specs.List.{list_any}
-use Rattle.std.specs.Str.{bytes_eq}
+use Rattle.std.proofs.Common.{◌≡◌, sym, ap, ◌∙◌, None, Some, get_or, arith}
 use Rattle.case_model.specs.declared.fault.CaseFault.TheVariants.{DuplicateName}
 use Rattle.case_model.specs.CaseFaults.{◌when◌, repeated_name}
-use Rattle.case_model.proofs.FirstFaults.{first_none, first_on, first_found, first_all}
+use Rattle.case_model.proofs.FirstFaults.{first_none, first_on, first_found}
 use Rattle.case_model.proofs.names.duplicate_name.Goals as goal
 
 pub loop-i-init : goal.loop-i-init

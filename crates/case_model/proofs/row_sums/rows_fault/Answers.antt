@@ -1,5 +1,4 @@
 use Rattle.std.proofs.Common.{◌≡◌, ◌==◌, ◌*◌, true, sym, ap, ◌∙◌, map, length, get_or, arith}
-use Rattle.std.proofs.lemmas.List.{length-map}
 use Rattle.std.proofs.lemmas.Bool.Decides.{nat_tests}
 use Rattle.case_model.specs.ComponentView.{component_content}
 use Rattle.case_model.specs.EntryView.{coefficients_of}

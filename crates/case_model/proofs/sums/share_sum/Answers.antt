@@ -1,5 +1,4 @@
 use Rattle.std.proofs.Common.{◌≡◌, sym, ap, ◌∙◌, refl, map, List, [], ◌∷◌}
-use Rattle.field_core.specs.Terms.{Terms}
 use Rattle.field_core.specs.declared.place.Place.TheVariants.{ShareSum as AtShareSum}
 use Rattle.fraction.specs.View.{terms_of}
 use Rattle.case_model.specs.declared.fault.CaseFault.TheVariants.{ShareSum}

@@ -1,10 +1,8 @@
-use Rattle.std.proofs.Common.{◌≡◌, ap, sym, ◌∙◌, map, length, get_or, Ok, Err, arith, ◌<◌, ◌≤◌, ◌+◌}
+use Rattle.std.proofs.Common.{◌≡◌, ap, sym, ◌∙◌, map, length, Ok, Err, arith}
 use Rattle.std.proofs.lemmas.Result.{err_from_is_err_and}
 use Rattle.field_core.specs.Kind.{ok_map}
-use Rattle.fraction.specs.declared.fraction.Fraction.{Fraction}
 use Rattle.fraction.specs.View.{terms_of}
-use Rattle.case_model.specs.declared.draft.DraftComponent.{DraftComponent}
-use Rattle.case_model.specs.Sums.{terms_at, written_sum}
+use Rattle.case_model.specs.Sums.{terms_at}
 use Rattle.case_model.specs.Rows.{shares_in}
 use Rattle.case_model.proofs.Places.{mapped_item, within_map}
 use Rattle.case_model.proofs.SumSteps.{sum_none, sum_more, sum_stops, item_terms}

@@ -1,4 +1,3 @@
-use Rattle.std.specs.Prelude.{map}
 use Rattle.case_model.specs.CaseView.{content}
 use Rattle.sequential.specs.DecisionView.{decision}
 use Rattle.sequential.specs.declared.priority.Priority.TheVariants.{First}

@@ -1,4 +1,4 @@
-use Rattle.std.proofs.Common.{◌≡◌, ◌*◌, ◌<◌, sym, ap, ◌∙◌, length, get_or, arith}
+use Rattle.std.proofs.Common.{◌*◌, ◌<◌, sym, ap, ◌∙◌, length, get_or, arith}
 use Rattle.std.proofs.lemmas.List.{length-map}
 use Rattle.case_model.proofs.CaseFacts.{case_shape, edges_read}
 use Rattle.case_model.proofs.case.Case.edge.Goals as goal

@@ -1,4 +1,4 @@
-use Rattle.std.proofs.Common.{sym, ap, ◌∙◌, map}
+use Rattle.std.proofs.Common.{sym, ◌∙◌, map}
 use Rattle.std.proofs.lemmas.Grind.{merely}
 use Rattle.case_model.specs.DraftView.{said}
 use Rattle.case_model.specs.ComponentView.{component_content, inputs_content}

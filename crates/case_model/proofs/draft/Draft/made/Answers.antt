@@ -1,12 +1,9 @@
-use Rattle.std.proofs.Common.{◌≡◌, sym, ap, ap₂, ◌∙◌, inr, map, length, None, Some, true, arith, List}
+use Rattle.std.proofs.Common.{◌≡◌, sym, ap, ap₂, ◌∙◌, inr, map, length, None, Some, arith}
 use Rattle.std.specs.Option.{option_map}
 use Rattle.fraction.specs.View.{terms_of}
-use Rattle.case_model.specs.declared.component.Component.{Component}
-use Rattle.case_model.specs.declared.draft.Draft.{Draft}
 use Rattle.case_model.specs.Content.{tabled, content_of, inputs_given}
 use Rattle.case_model.specs.DraftView.{said, component_said}
 use Rattle.case_model.specs.ComponentView.{component_content}
-use Rattle.case_model.specs.CaseFaults.{early_fault, late_fault}
 use Rattle.case_model.specs.Rows.{are_tables}
 use Rattle.case_model.proofs.Faultless.{few_names, are_tables-tabled, content_of-components, content_of-inputs, early_is, late_is}
 use Rattle.case_model.proofs.draft.Draft.made.Goals as goal

@@ -1,4 +1,4 @@
-use Rattle.std.proofs.Common.{arith, length, take, ◌∙◌, ap, sym, ◌≡◌, ℕ, ◌+◌, ◌++◌, ◌∷◌, [], cond, Some, None}
+use Rattle.std.proofs.Common.{arith, length, take, ◌∙◌, ap, sym, ◌≡◌, ◌+◌, ◌++◌, ◌∷◌, [], cond, Some, None}
 use Rattle.std.proofs.lemmas.List.{length-take-le, take_more}
 use Rattle.std.specs.Option.{option_or}
 use Rattle.std.specs.Str.{bytes_eq}
