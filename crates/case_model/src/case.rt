@@ -18,7 +18,7 @@ pub struct Case {
 }
 
 impl Case {
-    ghost use Rattle.std.specs.Prelude.{◌≡◌, ◌<◌, length, slice_get, Some, true, map};
+    ghost use Rattle.std.specs.Prelude.{◌≡◌, ◌<◌, ◌≤◌, length, slice_get, Some, true, map};
     ghost use Rattle.fraction.specs.View.{terms_of, number_of};
     ghost use Rattle.case_model.specs.Sums.{terms_at};
     ghost use Rattle.case_model.specs.Entries.{entry_at};
@@ -50,7 +50,8 @@ impl Case {
 
     /// How many hypotheses there are, from 1 to 64.
     pub fn size(&self) -> usize
-        ensures { result ≡ length (content self.now).names }
+        ensures count { result ≡ length (content self.now).names }
+        ensures range { (1 ≤ result) × (result ≤ 64) }
     {
         self.names.len()
     }
@@ -80,7 +81,8 @@ impl Case {
 
     /// How many components there are, from 1 to 8.
     pub fn components(&self) -> usize
-        ensures { result ≡ length (content self.now).components }
+        ensures count { result ≡ length (content self.now).components }
+        ensures range { (1 ≤ result) × (result ≤ 8) }
     {
         self.components.len()
     }

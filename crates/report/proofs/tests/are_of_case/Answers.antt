@@ -16,4 +16,4 @@ below_in m (x ∷ xs) h =
     All-cons (λ s. s.hypothesis < m) (step_content x) (map step_content xs) here (below_in m xs b.right)
 
 pub returns : goal.returns
-returns c = λ h. subst (λ m. All (λ s. s.hypothesis < m) (map step_content c.args.lines.now)) c.size.ensures (below_in c.size.result c.args.lines.now (sym c.are_below.ensures ∙ h))
+returns c = λ h. subst (λ m. All (λ s. s.hypothesis < m) (map step_content c.args.lines.now)) c.size.ensures.count (below_in c.size.result c.args.lines.now (sym c.are_below.ensures ∙ h))
