@@ -1,3 +1,4 @@
 pub mod Coefficients
 pub mod SizedLists
+pub mod ProductLaws
 pub mod SumLaws
