@@ -1,4 +1,5 @@
 pub mod Coefficients
 pub mod SizedLists
+pub mod IntegerQuotients
 pub mod ProductLaws
 pub mod SumLaws

@@ -116,13 +116,29 @@ coefficient_step op p q k n c e =
       sum = ap (λ x. sized op (first.0 +ℤ x)) (sym same) ∙ second.2;
     }
 
-pub coefficient_next : (op : Op) (p q : List ℤ) (k n : ℕ) (c product sum : ℤ) → written_coefficient op p q k n ≡ Ok c → sized op (coefficient p n *ℤ coefficient q (k - n)) ≡ Ok product → sized op (c +ℤ product) ≡ Ok sum → written_coefficient op p q k (suc n) ≡ Ok sum
+pub coefficient_next : (op : Op) (p q : List ℤ) (k n : ℕ) (c product : ℤ) (sum : Result ℤ TooWide) → written_coefficient op p q k n ≡ Ok c → sized op (coefficient p n *ℤ coefficient q (k - n)) ≡ Ok product → sized op (c +ℤ product) ≡ sum → written_coefficient op p q k (suc n) ≡ sum
 unfolding written_coefficient
 coefficient_next op p q k n c product sum e f g = rw (e, f) g
 
 pub coefficient_none : (op : Op) (p q : List ℤ) (k : ℕ) → written_coefficient op p q k 0 ≡ Ok (pos 0)
 unfolding written_coefficient
 coefficient_none op p q k = refl
+
+pub coefficient_product_refused : (op : Op) (p q : List ℤ) (k n : ℕ) (c : ℤ) (e : TooWide) → written_coefficient op p q k n ≡ Ok c → sized op (coefficient p n *ℤ coefficient q (k - n)) ≡ Err e → written_coefficient op p q k (suc n) ≡ Err e
+unfolding written_coefficient
+coefficient_product_refused op p q k n c e h f = rw (h, f) refl
+
+coefficient_kept : (op : Op) (p q : List ℤ) (k n : ℕ) (e : TooWide) → written_coefficient op p q k n ≡ Err e → written_coefficient op p q k (suc n) ≡ Err e
+unfolding written_coefficient
+coefficient_kept op p q k n e h = rw h refl
+
+coefficient_stays : (op : Op) (p q : List ℤ) (k n m : ℕ) (e : TooWide) → written_coefficient op p q k n ≡ Err e → written_coefficient op p q k (m + n) ≡ Err e
+coefficient_stays op p q k n zero e h = ap (written_coefficient op p q k) (omega arith) ∙ h
+coefficient_stays op p q k n (suc m) e h = ap (written_coefficient op p q k) (omega arith) ∙ coefficient_kept op p q k (m + n) e (coefficient_stays op p q k n m e h)
+
+-- a refusal on the way is that of the whole
+pub coefficient_refused : (op : Op) (p q : List ℤ) (k n m : ℕ) (e : TooWide) → written_coefficient op p q k n ≡ Err e → n ≤ m → written_coefficient op p q k m ≡ Err e
+coefficient_refused op p q k n m e h l = ap (written_coefficient op p q k) (omega arith) ∙ coefficient_stays op p q k n (m - n) e h
 
 -- it is the sum of the products
 pub coefficient_is : (op : Op) (p q : List ℤ) (k n : ℕ) (c : ℤ) → written_coefficient op p q k n ≡ Ok c → c ≡ product_part p q k n
