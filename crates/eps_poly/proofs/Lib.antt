@@ -4,4 +4,6 @@ pub mod ContentLaws
 pub mod IntegerQuotients
 pub mod OrderLaws
 pub mod ProductLaws
+pub mod Signs
 pub mod SumLaws
+pub mod Validity
