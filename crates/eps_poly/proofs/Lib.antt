@@ -1,6 +1,7 @@
 pub mod Coefficients
 pub mod SizedLists
 pub mod ContentLaws
+pub mod FactorLaws
 pub mod IntegerQuotients
 pub mod OrderLaws
 pub mod ProductLaws
