@@ -38,7 +38,9 @@ impl EpsPoly {
         requires { power ≤ 32 }
         ensures { coefficients result ≡ monomial c power }
     {
-        EpsPoly::zero().set(power, c)
+        let mut single = EpsPoly::zero();
+        single.put(power, c);
+        single
     }
 
     /// This polynomial with `c` as one coefficient, refused with `Op::Add` exactly where `c` is the least `i128`;
@@ -47,17 +49,9 @@ impl EpsPoly {
         requires { power ≤ 32 }
         ensures { ok_map coefficients result ≡ ok_map (slice_set (coefficients self.now) power) (sized Add c) }
     {
-        Ok(self.set(power, whole(c)?))
-    }
-
-    /// This polynomial with `c` as one coefficient; `power` is at most 32.
-    pub fn set(&self, power: usize, c: Whole) -> EpsPoly
-        requires { power ≤ 32 }
-        ensures { coefficients result ≡ slice_set (coefficients self.now) power c }
-    {
         let mut changed = *self;
-        changed.put(power, c);
-        changed
+        changed.put(power, whole(c)?);
+        Ok(changed)
     }
 
     /// Puts `c` in place of one coefficient; `power` is at most 32.

@@ -37,7 +37,7 @@ impl EpsPoly {
     ghost use Rattle.eps_poly.specs.View.{coefficients};
     ghost use Rattle.eps_poly.specs.Written.{degree, sized_product};
 
-    /// The product, or `TooWide` exactly where the written product has a part past its size.
+    /// The product, or `TooWide` exactly where the written product has a part past its size or a degree above 32.
     pub fn mul(&self, other: &EpsPoly) -> Result<EpsPoly, TooWide>
         ensures written { ok_map coefficients result ≡ sized_product Mul (coefficients self.now) (coefficients other.now) }
         ensures exact { IfOk result (λ r. Same (coefficients r) (poly_multiply (coefficients self.now) (coefficients other.now))) }
@@ -45,7 +45,7 @@ impl EpsPoly {
         self.times(Op::Mul, other)
     }
 
-    /// The product, or `TooWide` exactly where the written product has a part past its size; `op` is what it is made for.
+    /// The product, or `TooWide` exactly where the written product has a part past its size or a degree above 32; `op` is what it is made for.
     pub fn times(&self, op: Op, other: &EpsPoly) -> Result<EpsPoly, TooWide>
         ensures written { ok_map coefficients result ≡ sized_product op (coefficients self.now) (coefficients other.now) }
         ensures exact { IfOk result (λ r. Same (coefficients r) (poly_multiply (coefficients self.now) (coefficients other.now))) }
