@@ -44,7 +44,7 @@ pub fn size(c: Whole) -> u128
 /// The number that times `by` is `product`, where there is one.
 pub fn divided(product: Whole, by: Whole) -> Option<Whole>
     requires { by ≢ pos 0 }
-    ensures { (x : ℤ) → x *ℤ by ≡ product → result ≡ Some x }
+    ensures { (x : ℤ) → (result ≡ Some x) ↔ (x *ℤ by ≡ product) }
 {
     let over = product.value();
     let under = by.value();

@@ -1,7 +1,7 @@
-use Rattle.std.proofs.Common.{◌≡◌, ◌<◌, ◌≤◌, ◌+◌, ◌∙◌, sym, arith, Ok}
+use Rattle.std.proofs.Common.{◌≤◌, ◌+◌, ◌∙◌, sym, arith}
 use Rattle.std.proofs.lemmas.Result.{err_from_is_err_and}
 use Rattle.eps_poly.specs.View.{coefficients}
-use Rattle.eps_poly.specs.Written.{degree, sized_product}
+use Rattle.eps_poly.specs.Written.{degree}
 use Rattle.eps_poly.proofs.Coefficients.{filled_none, filled_more}
 use Rattle.eps_poly.proofs.SizedLists.{list_from_filled, list_from_refused}
 use Rattle.eps_poly.proofs.ProductLaws.{product_from_list, product_past, product_is_exact}
