@@ -16,18 +16,21 @@ pub fn whole(c: i128) -> Result<Whole, TooWide>
     Ok(Whole::new(c))
 }
 
+/// Whether it is 0.
 pub fn is_zero(c: Whole) -> bool
     ensures { result ≡ is_zero_integer c }
 {
     c.value() == 0
 }
 
+/// Whether it is below 0.
 pub fn is_below_zero(c: Whole) -> bool
     ensures { IsTrue result ↔ (c <ℤ pos 0) }
 {
     c.value() < 0
 }
 
+/// Whether two numbers are the same.
 pub fn is_equal(c: Whole, d: Whole) -> bool
     ensures { IsTrue result ↔ (c ≡ d) }
 {
