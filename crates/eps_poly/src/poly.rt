@@ -3,10 +3,13 @@ ghost use Rattle.eps_poly.specs.Polynomials.{IsPolynomial};
 use crate::numbers::whole;
 use field_core::{TooWide, Whole};
 
+/// How many coefficients a polynomial holds: those of the powers 0 to 32.
+pub const COUNT: usize = 33;
+
 /// A polynomial in epsilon with whole coefficients: one of at most 2^127 - 1 in size for each of the powers 0 to 32.
 #[derive(Clone, Copy)]
 pub struct EpsPoly {
-    entries: [i128; 33],
+    entries: [i128; COUNT],
     ghost valid: { IsPolynomial entries },
 }
 
@@ -23,7 +26,9 @@ impl EpsPoly {
     pub fn zero() -> EpsPoly
         ensures { coefficients result ≡ zero_polynomial }
     {
-        EpsPoly { entries: [0; 33] }
+        EpsPoly {
+            entries: [0; COUNT],
+        }
     }
 
     /// The polynomial `c`, refused with `Op::Add` exactly where `c` is the least `i128`.
