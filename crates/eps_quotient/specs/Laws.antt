@@ -1,0 +1,3 @@
+-- Laws that the kind of the quotients rests on; whoever reads contracts can pass them by.
+pub mod LimitTerms
+pub mod QuotientLaws
