@@ -1,0 +1,42 @@
+//! Sums, opposites and quotients, coefficient by coefficient.
+ghost use Rattle.std.specs.Prelude.{◌≡◌, ◌≤◌, ◌<ℤ◌, pos};
+ghost use Rattle.field_core.specs.Polynomial.{poly_negate};
+ghost use Rattle.eps_poly.specs.Factors.{lowered};
+ghost use Rattle.eps_poly.specs.Written.{sized_sum};
+
+use field_core::{Op, TooWide, Whole};
+
+/// The written sum.
+pub fn sums(op: Op, p: &[Whole; 33], q: &[Whole; 33]) -> Result<[Whole; 33], TooWide>
+    ensures { result ≡ sized_sum op p.now q.now }
+{
+    let mut sums = [Whole::new(0); 33];
+    for power in 0..33 {
+        sums[power] = p[power].plus(op, q[power])?;
+    }
+    Ok(sums)
+}
+
+/// The opposite.
+pub fn opposites(p: &[Whole; 33]) -> [Whole; 33]
+    ensures { result ≡ poly_negate p.now }
+{
+    let mut opposites = [Whole::new(0); 33];
+    for power in 0..33 {
+        opposites[power] = p[power].negated();
+    }
+    opposites
+}
+
+/// The coefficients from a power on, each divided by a number above 0.
+pub fn lowered(p: &[Whole; 33], power: usize, by: Whole) -> [Whole; 33]
+    requires power { power ≤ 32 }
+    requires by { pos 0 <ℤ by }
+    ensures { result ≡ lowered power by p.now }
+{
+    let mut lowered = [Whole::new(0); 33];
+    for at in 0..33 - power {
+        lowered[at] = p[at + power].over(by);
+    }
+    lowered
+}
