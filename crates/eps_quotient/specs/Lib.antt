@@ -1,1 +1,4 @@
 pub mod Laws
+pub mod Lowering
+pub mod Quotients
+pub mod Stored
