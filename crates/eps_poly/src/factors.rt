@@ -2,6 +2,7 @@
 ghost use Rattle.std.specs.Prelude.{◌≡◌, ◌≤◌};
 ghost use Rattle.eps_poly.specs.Factors.{content, order};
 
+use crate::numbers::{is_zero, size};
 use field_core::{Whole, gcd};
 
 /// The greatest common divisor of the coefficients, and 0 where all are 0.
@@ -10,7 +11,7 @@ pub fn content(p: &[Whole; 33]) -> u128
 {
     let mut divisor = 0;
     for power in (0..33).rev() {
-        divisor = gcd(p[power].value().unsigned_abs(), divisor);
+        divisor = gcd(size(p[power]), divisor);
     }
     divisor
 }
@@ -21,7 +22,7 @@ pub fn order(p: &[Whole; 33]) -> usize
     ensures within { result ≤ 33 }
 {
     for power in 0..33 {
-        if p[power].value() != 0 {
+        if !is_zero(p[power]) {
             return power;
         }
     }

@@ -3,6 +3,7 @@
 
 mod compare;
 mod factors;
+mod numbers;
 mod poly;
 mod products;
 mod quotients;

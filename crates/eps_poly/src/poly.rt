@@ -1,13 +1,11 @@
-ghost use Rattle.std.specs.Prelude.{◌≡◌};
-ghost use Rattle.field_core.specs.Sized.{sized};
-ghost use Rattle.field_core.specs.declared.place.Op.TheVariants.{Add};
 ghost use Rattle.eps_poly.specs.Polynomials.{IsPolynomial};
 
 use crate::compare::are_same;
 use crate::factors::{content, order};
+use crate::numbers::{is_below_zero, whole};
 use crate::products::products;
 use crate::quotients::quotient;
-use crate::sums::{lowered, opposites, sums};
+use crate::sums::{lowered, opposites, sums, zeros};
 use field_core::{Op, TooWide, Whole};
 
 /// A polynomial in epsilon with whole coefficients: one of at most 2^127 - 1 in size for each of the powers 0 to 32.
@@ -15,16 +13,6 @@ use field_core::{Op, TooWide, Whole};
 pub struct EpsPoly {
     entries: [Whole; 33],
     ghost valid: { IsPolynomial entries },
-}
-
-/// The number, refused where it is the least `i128`.
-fn whole(c: i128) -> Result<Whole, TooWide>
-    ensures { result ≡ sized Add c }
-{
-    if c == i128::MIN {
-        return Err(TooWide { op: Op::Add });
-    }
-    Ok(Whole::new(c))
 }
 
 impl EpsPoly {
@@ -43,9 +31,7 @@ impl EpsPoly {
     pub fn zero() -> EpsPoly
         ensures { coefficients result ≡ zero_polynomial }
     {
-        EpsPoly {
-            entries: [Whole::new(0); 33],
-        }
+        EpsPoly { entries: zeros() }
     }
 
     /// The polynomial `c`, refused with `Op::Add` exactly where `c` is the least `i128`.
@@ -198,7 +184,7 @@ impl EpsPoly {
         ensures { result ≡ factor (coefficients self.now) }
     {
         let content = Whole::new(self.content() as i128);
-        if self.lowest().value() < 0 {
+        if is_below_zero(self.lowest()) {
             content.negated()
         } else {
             content
@@ -218,7 +204,7 @@ impl EpsPoly {
     fn turned(&self) -> EpsPoly
         ensures { coefficients result ≡ turned_as (lowest (coefficients self.now)) (coefficients self.now) }
     {
-        if self.lowest().value() < 0 {
+        if is_below_zero(self.lowest()) {
             self.negate()
         } else {
             *self
@@ -244,11 +230,6 @@ impl EpsPoly {
         ensures none { IfNone result ((q : List ℤ) → sized_product Mul q (coefficients by.now) ≢ Ok (coefficients self.now)) }
     {
         let entries = quotient(&self.entries, &by.entries)?;
-        let product = products(Op::Mul, &entries, &by.entries).ok()?;
-        if are_same(&product, &self.entries) {
-            Some(EpsPoly { entries })
-        } else {
-            None
-        }
+        Some(EpsPoly { entries })
     }
 }

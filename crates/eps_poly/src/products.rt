@@ -2,6 +2,8 @@
 ghost use Rattle.std.specs.Prelude.{◌≡◌, ◌≤◌, ◌+◌};
 ghost use Rattle.eps_poly.specs.Written.{degree, written_coefficient, sized_product};
 
+use crate::numbers::is_zero;
+use crate::sums::zeros;
 use field_core::{Op, TooWide, Whole};
 
 /// The greatest power with a coefficient that isn't 0, and 0 where there is none.
@@ -10,7 +12,7 @@ fn degree(p: &[Whole; 33]) -> usize
     ensures within { result ≤ 32 }
 {
     for power in (0..33).rev() {
-        if p[power].value() != 0 {
+        if !is_zero(p[power]) {
             return power;
         }
     }
@@ -44,7 +46,7 @@ pub fn products(op: Op, p: &[Whole; 33], q: &[Whole; 33]) -> Result<[Whole; 33],
     if degree(p) + degree(q) > 32 {
         return Err(TooWide { op });
     }
-    let mut products = [Whole::new(0); 33];
+    let mut products = zeros();
     for power in 0..33 {
         products[power] = part_of_product(op, p, q, power, power + 1)?;
     }

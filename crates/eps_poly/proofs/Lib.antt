@@ -1,0 +1,3 @@
+pub mod Coefficients
+pub mod SizedLists
+pub mod SumLaws
