@@ -1,3 +1,4 @@
 -- Laws that the kind of the quotients rests on; whoever reads contracts can pass them by.
+pub mod Cuts
 pub mod LimitTerms
 pub mod QuotientLaws
