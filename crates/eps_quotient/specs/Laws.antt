@@ -1,4 +1,5 @@
 -- Laws that the kind of the quotients rests on; whoever reads contracts can pass them by.
 pub mod Cuts
 pub mod LimitTerms
+pub mod LowerLaws
 pub mod QuotientLaws

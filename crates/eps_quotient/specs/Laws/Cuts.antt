@@ -108,7 +108,7 @@ one_core = record {
   first = rw (monomial-at (pos 1) 0 (omega arith)) (omega (arith, ints));
 }
 
-monomial_held : (c : ℤ) (k : ℕ) → k ≤ 32 → unsigned_abs c < 2 ^ 127 → IsPolynomial (monomial c k)
+pub monomial_held : (c : ℤ) (k : ℕ) → k ≤ 32 → unsigned_abs c < 2 ^ 127 → IsPolynomial (monomial c k)
 monomial_held c k low small = record { count = length-monomial c k; sizes = size }
   where
     size : (j : ℕ) → unsigned_abs (coefficient (monomial c k) j) < 2 ^ 127
@@ -118,7 +118,7 @@ monomial_held c k low small = record { count = length-monomial c k; sizes = size
     ]
 
 -- what is left has the core 1
-monomial_core : (c : ℤ) (k : ℕ) → k ≤ 32 → ¬ (c ≡ pos 0) → Is (monomial c k) c k one_polynomial
+pub monomial_core : (c : ℤ) (k : ℕ) → k ≤ 32 → ¬ (c ≡ pos 0) → Is (monomial c k) c k one_polynomial
 monomial_core c k low some = only_core (monomial c k) one_polynomial c k some one_core (monomial-term c k low)
 
 monomial_times : (c d : ℤ) (i z : ℕ) (p q : List ℤ) → i ≤ 32 → Same p (term (c *ℤ d) (i + z) q) → Same p (poly_multiply (term d z q) (monomial c i))
