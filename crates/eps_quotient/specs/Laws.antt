@@ -2,4 +2,5 @@
 pub mod Cuts
 pub mod LimitTerms
 pub mod LowerLaws
+pub mod NormLaws
 pub mod QuotientLaws

@@ -128,7 +128,7 @@ zero_held = record { count = length-zero; sizes = λ k. rw (coefficient-zero k) 
 pub one_held : IsPolynomial one_polynomial
 one_held = monomial_held (pos 1) 0 (omega arith) (lit< tt)
 
-one_is : Is one_polynomial (pos 1) 0 one_polynomial
+pub one_is : Is one_polynomial (pos 1) 0 one_polynomial
 one_is = monomial_core (pos 1) 0 (omega arith) (λ e. cc)
 
 pub one_first : ¬ (coefficient one_polynomial 0 ≡ pos 0)
