@@ -4,7 +4,7 @@ use Rattle.std.specs.List.{range_with_len}
 use Rattle.std.proofs.lemmas.Bool.{cases_eq, cases_lt}
 use Rattle.std.proofs.lemmas.List.{same_lists, get_or_past, get_or-set_same, get_or-set_other, length-set, length-replicate, get_or-replicate}
 use Rattle.std.proofs.lemmas.List.FromFn.{length-map-range_with_len, get_or-map-range_with_len}
-use Rattle.field_core.specs.Polynomial.{coefficient, Same}
+use Rattle.field_core.specs.Polynomial.{coefficient, poly_negate}
 use Rattle.field_core.specs.Laws.PolynomialLaws.{coefficient-index}
 use Rattle.eps_poly.specs.Polynomials.{by_powers, zero_polynomial}
 
@@ -18,6 +18,11 @@ coefficient-past (c ∷ p) (suc k) h = coefficient-past p k (omega arith)
 pub same_polynomials : (p q : List ℤ) → length p ≡ length q → ((k : ℕ) → k < length p → coefficient p k ≡ coefficient q k) → p ≡ q
 same_polynomials p q e h =
     same_lists p q e (λ k d l. sym (coefficient-index p k d l) ∙ h k l ∙ coefficient-index q k d (omega arith))
+
+pub length-negate : (p : List ℤ) → length (poly_negate p) ≡ length p
+unfolding poly_negate
+length-negate [] = refl
+length-negate (c ∷ p) = ap suc (length-negate p)
 
 pub coefficient-set_same : (p : List ℤ) (i : ℕ) (c : ℤ) → i < length p → coefficient (set p i c) i ≡ c
 coefficient-set_same p i c h =

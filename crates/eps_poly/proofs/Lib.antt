@@ -3,5 +3,7 @@ pub mod Contents
 pub mod Cores
 pub mod Shifts
 pub mod SizedLists
+pub mod IntegerQuotients
+pub mod ProductLaws
 pub mod SumLaws
 pub mod WholeQuotients
