@@ -1,5 +1,6 @@
 -- Laws that the kind of the quotients rests on; whoever reads contracts can pass them by.
 pub mod Cuts
+pub mod Exact
 pub mod LimitTerms
 pub mod LowerLaws
 pub mod NormLaws

@@ -1,6 +1,5 @@
 -- The kind of the quotients in epsilon: how 0 and 1 are stored, and what the written operations give or refuse (this project's own).
-use Rattle.std.specs.Prelude.{◌||◌, ◌&&◌, Bool, if◌then◌else◌, List, ℤ, Result, Ok, Err}
-use Rattle.std.specs.declared.cmp.Ordering.{Ordering}
+use Rattle.std.specs.Prelude.{◌||◌, ◌&&◌, Bool, if◌then◌else◌, List, ℤ, Result, Ok}
 use Rattle.field_core.specs.declared.place.Op.{Op}
 use Rattle.field_core.specs.declared.place.Op.TheVariants.{Add, Sub, Mul, Div}
 use Rattle.field_core.specs.declared.place.TooWide.{TooWide}

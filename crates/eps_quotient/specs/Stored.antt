@@ -1,11 +1,10 @@
 -- What is stored of a quotient in epsilon.
 use Rattle.std.specs.Prelude.{◌≡◌, pos}
 use Rattle.std.specs.declared.cmp.Ordering.TheVariants.{Greater}
-use Rattle.field_core.specs.Divisor.{gcd}
 use Rattle.field_core.specs.Kind.{Parts}
 use Rattle.field_core.specs.Polynomial.{coefficient, lowest, int_sign}
 use Rattle.eps_poly.specs.Polynomials.{IsPolynomial}
-use Rattle.eps_poly.specs.Factors.{content, core}
+use Rattle.eps_poly.specs.Factors.{core}
 use Rattle.eps_quotient.specs.Lowering.{one_polynomial, common_content}
 
 -- Two polynomials within their sizes; the lowest coefficient of the denominator is positive, 0 is stored as 0/1,

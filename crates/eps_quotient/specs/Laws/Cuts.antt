@@ -1,22 +1,22 @@
 -- Polynomials of which a content and a power of epsilon are cut, with the core or without it.
-use Rattle.std.proofs.Common.{◌≡◌, ℕ, zero, suc, ◌+◌, ◌-◌, ◌*◌, ◌/◌, ◌<◌, ◌≤◌, ◌^◌, List, [], ◌∷◌, length, refl, sym, ◌∙◌, ap, ap₂, subst, add_comm, arith, lit<, ℤ, pos, negsuc, ◌*ℤ◌, ◌<ℤ◌, unsigned_abs, int_div, inl, inr}
+use Rattle.std.proofs.Common.{◌≡◌, ℕ, zero, suc, ◌+◌, ◌-◌, ◌*◌, ◌/◌, ◌<◌, ◌≤◌, ◌^◌, List, [], ◌∷◌, length, refl, sym, ◌∙◌, ap, subst, add_comm, arith, lit<, ℤ, pos, negsuc, ◌*ℤ◌, unsigned_abs, int_div, inl, inr}
 use Rattle.std.specs.Int.{◌∣◌}
 use Rattle.std.proofs.lemmas.Bool.{cases_lt, cases_eq}
-use Rattle.std.proofs.lemmas.Int.{ints, unsigned_abs-mul}
+use Rattle.std.proofs.lemmas.Int.{ints}
 use Rattle.std.proofs.lemmas.Nat.Gcd.{dvd_trans, le_of_dvd}
 use Rattle.std.proofs.Math.IntN.{*ℤ-zero, zero-*ℤ}
-use Rattle.std.proofs.Math.Nat.{mul-one, div-le_self, mul-div_cancel', pos_of_dvd_of_pos, eq-one_of_dvd-one}
-use Rattle.field_core.specs.Polynomial.{coefficient, Same, poly_scale, poly_multiply, lowest, IsNonZero}
+use Rattle.std.proofs.Math.Nat.{div-le_self, mul-div_cancel', pos_of_dvd_of_pos, eq-one_of_dvd-one}
+use Rattle.field_core.specs.Polynomial.{coefficient, Same, poly_multiply, lowest, IsNonZero}
 use Rattle.field_core.specs.Laws.PolynomialLaws.{multiply_comm, lowest-multiply, lowest-same, product_nonzero}
 use Rattle.eps_poly.specs.Polynomials.{IsPolynomial, monomial}
 use Rattle.eps_poly.specs.Factors.{content, order, factor, lowered, core}
 use Rattle.eps_poly.proofs.Coefficients.{coefficient-past}
-use Rattle.eps_poly.proofs.Contents.{content_divides, content-same, content-term, content_some, order_below, order_at, order_is, some_nonzero}
+use Rattle.eps_poly.proofs.Contents.{content_divides, content-same, content-term, content_some, order_below, order_at, some_nonzero}
 use Rattle.eps_poly.proofs.Cores.{IsCore, Is, only_core, has_core, size-factor, factor_some, lowered_times, length-lowered, coefficient-lowered}
-use Rattle.eps_poly.proofs.Shifts.{shifted, term, term-below, term-above, term-term, term-same, multiply-term, length-monomial, monomial-at, monomial-other, monomial-multiply, monomial-term}
+use Rattle.eps_poly.proofs.Shifts.{shifted, term, term-term, term-same, multiply-term, length-monomial, monomial-at, monomial-other, monomial-multiply, monomial-term}
 use Rattle.eps_poly.proofs.WholeQuotients.{quotient_times, size_quotient}
 use Rattle.eps_quotient.specs.Lowering.{one_polynomial}
-use Rattle.eps_quotient.specs.Laws.QuotientLaws.{same_sym, same_trans, same_nonzero, multiply-same}
+use Rattle.eps_quotient.specs.Laws.QuotientLaws.{same_sym, same_trans}
 
 -- p is h * epsilon^z times q, and in the first case by its core besides
 pub record IsCut (p q c : List ℤ) (h z : ℕ) : Type 0 where

@@ -3,30 +3,28 @@ use Rattle.std.proofs.Common.{◌≡◌, refl, sym, ◌∙◌, ap, ap₂, zero, 
 use Rattle.std.specs.Int.{◌∣◌}
 use Rattle.std.proofs.lemmas.Int.{ints}
 use Rattle.std.proofs.Math.Nat.{div-mul_cancel, div-le_self, pos_of_dvd_of_pos, zero-mul}
-use Rattle.std.specs.declared.cmp.Ordering.TheVariants.{Less, Equal, Greater}
+use Rattle.std.specs.declared.cmp.Ordering.TheVariants.{Less, Greater}
 use Rattle.field_core.specs.Divisor.{gcd}
 use Rattle.field_core.specs.Sized.{gcd_of}
-use Rattle.field_core.specs.Terms.{Terms, IsReduced}
-use Rattle.field_core.specs.Polynomial.{coefficient, Same, poly_add, poly_negate, poly_multiply, lowest, or_else, int_sign, IsNonZero}
+use Rattle.field_core.specs.Terms.{IsReduced}
+use Rattle.field_core.specs.Polynomial.{coefficient, poly_add, poly_negate, lowest, int_sign, IsNonZero}
 use Rattle.field_core.specs.Laws.PolynomialLaws.{coefficient-add, coefficient-negate, or_else_first, positive_out}
-use Rattle.field_core.specs.Number.{Number}
-use Rattle.field_core.specs.Arithmetic.{number_one, number_negate, number_sign, ◌+ε◌, ◌-ε◌}
-use Rattle.field_core.specs.LimitRatio.{at_zero, limit_ratio}
+use Rattle.field_core.specs.Arithmetic.{number_one, number_sign, ◌+ε◌, ◌-ε◌}
+use Rattle.field_core.specs.LimitRatio.{limit_ratio}
 use Rattle.field_core.specs.Limit.{limit}
 use Rattle.field_core.specs.LimitParts.{first, limit_terms, IsUnit}
-use Rattle.field_core.specs.Kind.{Parts}
 use Rattle.field_core.specs.Fractions.{quotient, fraction}
 use Rattle.field_core.specs.Laws.LimitRespects.{first_other}
 use Rattle.field_core.specs.Laws.LimitLaws.{limit-quotient}
 use Rattle.field_core.specs.Laws.NumberFieldLaws.{at_most_out}
-use Rattle.field_core.specs.Laws.Order.{◌≼ε◌, nonneg_in, number_subtract_is}
+use Rattle.field_core.specs.Laws.Order.{nonneg_in, number_subtract_is}
 use Rattle.field_core.specs.Laws.FractionLaws.{quotient-negate, fraction-equal}
 use Rattle.field_core.specs.Laws.Effective.{positive_nonzero}
 use Rattle.field_core.proofs.Divisors.{gcd_is}
 use Rattle.field_core.proofs.IntegerRing.{ring}
 use Rattle.std.proofs.Math.IntN.{+ℤ_idl}
 use Rattle.field_core.proofs.Coprime.{gcd_from_apart, quotients_apart, quotient_divides, gcd_bounds}
-use Rattle.eps_quotient.specs.Laws.QuotientLaws.{one_value, sum_over, sign_value}
+use Rattle.eps_quotient.specs.Laws.QuotientLaws.{one_value, sum_over_same, sign_value}
 
 pub first_is : (p : List ℤ) → first p ≡ coefficient p 0
 unfolding coefficient
@@ -44,7 +42,7 @@ one_less : (n d : List ℤ) → IsNonZero d → number_one -ε quotient n d ≡ 
 one_less n d h =
     number_subtract_is number_one (quotient n d)
     ∙ ap₂ ◌+ε◌ (sym (one_value d h)) (quotient-negate n d h)
-    ∙ sym (sum_over d (poly_negate n) d (poly_add d (poly_negate n)) h (λ k. refl))
+    ∙ sym (sum_over_same d (poly_negate n) d (poly_add d (poly_negate n)) h (λ k. refl))
 
 signs_apart : (c : ℤ) → ¬ (c ≡ pos 0) → ¬ (int_sign c ≡ Less) → int_sign (pos 0 +ℤ neg_ℤ c) ≡ Less
 unfolding int_sign

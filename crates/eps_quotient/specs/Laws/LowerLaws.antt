@@ -1,9 +1,8 @@
 -- A lowered quotient has the value of the quotient, and no common power, content or core.
-use Rattle.std.proofs.Common.{◌≡◌, ℕ, zero, suc, ◌+◌, ◌*◌, ◌<◌, ◌≤◌, min, Bool, true, false, List, [], ◌∷◌, if◌then◌else◌, refl, sym, ◌∙◌, ap, ap₂, subst, arith, lit<, int_div, ◌-◌, ◌*ℤ◌, ◌⊎◌, ℤ, pos, negsuc, inl, inr}
+use Rattle.std.proofs.Common.{◌≡◌, ℕ, zero, suc, ◌+◌, ◌<◌, min, Bool, true, false, List, [], ◌∷◌, if◌then◌else◌, refl, sym, ◌∙◌, ap, ap₂, subst, arith, lit<, int_div, ◌-◌, ◌*ℤ◌, ◌⊎◌, ℤ, pos, negsuc, inl, inr}
 use Rattle.std.specs.List.{list_all}
 use Rattle.std.specs.Int.{◌∣◌}
-use Rattle.eps_poly.proofs.Cores.{Is, IsCore}
-use Rattle.std.proofs.lemmas.Int.{ints}
+use Rattle.eps_poly.proofs.Cores.{Is}
 use Rattle.std.proofs.Math.Nat.{mul-one, eq_of_mul-eq-mul_left, min-le_left, min-le_right, eq-one_of_dvd-one}
 use Rattle.std.proofs.lemmas.Slice.Eq.{slice_eq-Decides}
 use Rattle.std.proofs.lemmas.Bool.Decides.{Decides-int_eq}
@@ -11,19 +10,19 @@ use Rattle.field_core.specs.Divisor.{gcd}
 use Rattle.field_core.proofs.Divisors.{gcd_is}
 use Rattle.field_core.proofs.Coprime.{gcd_scaled, gcd_bounds}
 use Rattle.field_core.specs.Kind.{Parts, is_zero_integer}
-use Rattle.field_core.specs.Polynomial.{coefficient, Same, poly_scale, poly_multiply, lowest, or_else, IsNonZero}
+use Rattle.field_core.specs.Polynomial.{coefficient, Same, poly_multiply, lowest, or_else, IsNonZero}
 use Rattle.field_core.specs.Laws.PolynomialLaws.{lowest-same, lowest-multiply}
 use Rattle.std.proofs.lemmas.Bool.{cases_lt}
 use Rattle.std.proofs.Math.IntN.{zero-*ℤ}
 use Rattle.field_core.specs.Fractions.{quotient}
 use Rattle.eps_poly.specs.Polynomials.{IsPolynomial, zero_polynomial, monomial}
-use Rattle.eps_poly.specs.Factors.{content, order, factor, lowered, core}
+use Rattle.eps_poly.specs.Factors.{content, order, factor, core}
 use Rattle.eps_poly.proofs.Contents.{content_some, order_at, some_nonzero}
 use Rattle.eps_poly.proofs.Coefficients.{length-zero, coefficient-zero}
-use Rattle.eps_poly.proofs.Shifts.{shifted, term, monomial-at}
+use Rattle.eps_poly.proofs.Shifts.{term, monomial-at}
 use Rattle.eps_quotient.specs.Lowering.{one_polynomial, zero_quotient, common_content, common_order, is_same, without_powers, without_cores, lower}
 use Rattle.eps_quotient.specs.Laws.QuotientLaws.{quotient-cancel, zero_value}
-use Rattle.eps_quotient.specs.Laws.Cuts.{IsCut, IsCutBy, cut_powers, cut_core, one_core, monomial_held, monomial_core}
+use Rattle.eps_quotient.specs.Laws.Cuts.{IsCut, cut_powers, cut_core, one_core, monomial_held, monomial_core}
 
 -- What is lowered: it has the value of a/b, and has no common factors.
 pub record IsLowered (a b : List ℤ) (x : Parts) : Type 0 where
@@ -134,7 +133,7 @@ one_is = monomial_core (pos 1) 0 (omega arith) (λ e. cc)
 pub one_first : ¬ (coefficient one_polynomial 0 ≡ pos 0)
 one_first = first_some one_polynomial one_some one_is.order_of
 
-gcd_one : (n m : ℕ) → m ≡ 1 → gcd n m ≡ 1
+pub gcd_one : (n m : ℕ) → m ≡ 1 → gcd n m ≡ 1
 gcd_one n m e = eq-one_of_dvd-one (subst (λ k. gcd n m ∣ k) e (gcd_is n m).1)
 
 pub zero_quotient_is : (a b : List ℤ) → IsNonZero b → lowest a ≡ pos 0 → IsLowered a b zero_quotient

@@ -1,15 +1,15 @@
 -- What the norm of two polynomials gives is stored, and has the value of their quotient.
 use Rattle.std.proofs.lemmas.Int.{ints}
 use Rattle.field_core.specs.Laws.Integers.{integers}
-use Rattle.std.proofs.Common.{◌≡◌, ℕ, zero, suc, ◌+◌, ◌*ℤ◌, ◌<◌, ◌^◌, Bool, true, false, List, [], ◌∷◌, length, if◌then◌else◌, refl, sym, ◌∙◌, ap, ap₂, subst, arith, ℤ, pos, negsuc, neg_ℤ, unsigned_abs}
+use Rattle.std.proofs.Common.{◌≡◌, ℕ, zero, suc, ◌+◌, ◌*ℤ◌, true, false, List, [], ◌∷◌, length, refl, sym, ◌∙◌, ap, ap₂, arith, ℤ, pos, negsuc, neg_ℤ, unsigned_abs}
 use Rattle.std.specs.Int.{is_negative}
 use Rattle.std.specs.Ordering.{ordering_reverse}
-use Rattle.std.specs.declared.cmp.Ordering.TheVariants.{Less, Equal, Greater}
+use Rattle.std.specs.declared.cmp.Ordering.TheVariants.{Less, Greater}
 use Rattle.field_core.specs.Divisor.{gcd}
 use Rattle.field_core.specs.Kind.{Parts}
 use Rattle.field_core.specs.Exact.{value_of}
 use Rattle.field_core.specs.Laws.Ring.{negate_multiply, multiply_negate}
-use Rattle.field_core.specs.Polynomial.{coefficient, Same, poly_negate, poly_multiply, lowest, int_sign, IsNonZero}
+use Rattle.field_core.specs.Polynomial.{coefficient, poly_negate, lowest, int_sign, IsNonZero}
 use Rattle.field_core.specs.Laws.PolynomialLaws.{ring, value-multiply, value-negate, same_in, coefficient-negate, lowest-negate, int_sign-negate}
 use Rattle.field_core.specs.Fractions.{quotient}
 use Rattle.field_core.specs.Laws.FractionLaws.{quotient-equal}
@@ -17,8 +17,8 @@ use Rattle.eps_poly.specs.Polynomials.{IsPolynomial}
 use Rattle.eps_poly.specs.Factors.{content, order, factor, core}
 use Rattle.eps_poly.proofs.Contents.{content-sizes, order_at}
 use Rattle.eps_poly.proofs.Cores.{only_core, has_core, factor_some}
-use Rattle.eps_poly.proofs.Shifts.{term, term-below, term-above, same_term, monomial-at}
-use Rattle.eps_quotient.specs.Lowering.{one_polynomial, common_content, lower, turned, norm}
+use Rattle.eps_poly.proofs.Shifts.{term-below, term-above, same_term, monomial-at}
+use Rattle.eps_quotient.specs.Lowering.{one_polynomial, lower, turned, norm}
 use Rattle.eps_quotient.specs.Stored.{IsQuotient}
 use Rattle.eps_quotient.specs.Laws.LowerLaws.{IsLowered, lower_is, either_branch, one_is}
 
@@ -48,14 +48,14 @@ negate_held p held = record { count = length-negate p ∙ held.count; sizes = λ
 pub negate_some : (p : List ℤ) → IsNonZero p → IsNonZero (poly_negate p)
 negate_some p some e = some (negated_none (lowest p) (sym (lowest-negate p) ∙ e))
 
-content-negate : (p : List ℤ) → content (poly_negate p) ≡ content p
+pub content-negate : (p : List ℤ) → content (poly_negate p) ≡ content p
 content-negate p = content-sizes (poly_negate p) p (size-coefficient p)
 
 negated_product : (c x : ℤ) → neg_ℤ (c *ℤ x) ≡ neg_ℤ c *ℤ x
 unfolding integers
 negated_product c x = sym (negate_multiply integers c x)
 
-core-negate : (p : List ℤ) → length p ≡ 33 → IsNonZero p → core (poly_negate p) ≡ core p
+pub core-negate : (p : List ℤ) → length p ≡ 33 → IsNonZero p → core (poly_negate p) ≡ core p
 core-negate p count some =
     let c = has_core p count some in
     (only_core (poly_negate p) (core p) (neg_ℤ (factor p)) (order p) (λ e. factor_some p some (negated_none (factor p) e)) c.0
@@ -89,7 +89,7 @@ pub record IsStoredOf (a b : List ℤ) (x : Parts) : Type 0 where
   pub stored : IsQuotient x
   pub value : quotient a b ≡ value_of x
 
-upright : (a b : List ℤ) (x : Parts) → IsLowered a b x → is_negative (lowest x.denominator) ≡ false → IsStoredOf a b x
+pub upright : (a b : List ℤ) (x : Parts) → IsLowered a b x → is_negative (lowest x.denominator) ≡ false → IsStoredOf a b x
 unfolding value_of
 upright a b x s e = record {
   stored = record {
@@ -104,7 +104,7 @@ upright a b x s e = record {
   value = s.value;
 }
 
-lowest_one : lowest one_polynomial ≡ pos 1
+pub lowest_one : lowest one_polynomial ≡ pos 1
 lowest_one = sym (order_at one_polynomial) ∙ ap (coefficient one_polynomial) one_is.order_of ∙ monomial-at (pos 1) 0 (omega arith)
 
 -- a denominator with a negative lowest coefficient isn't 1, so the numerator isn't 0

@@ -1,15 +1,15 @@
 -- Quotients of polynomials under common factors, products, sums and turned about.
-use Rattle.std.proofs.Common.{◌≡◌, refl, sym, ◌∙◌, ap, ap₂, zero, suc, ℕ, List, [], ◌∷◌, ℤ, pos, negsuc, ◌*ℤ◌, ◌<ℤ◌}
+use Rattle.std.proofs.Common.{◌≡◌, refl, sym, ◌∙◌, ap, ap₂, List, [], ◌∷◌, ℤ, pos}
 use Rattle.std.specs.declared.cmp.Ordering.TheVariants.{Greater}
-use Rattle.field_core.specs.Polynomial.{coefficient, Same, poly_add, poly_negate, poly_multiply, lowest, or_else, int_sign, IsNonZero}
-use Rattle.field_core.specs.Laws.Ring.{CommutativeRing, one_multiply, multiply_left_comm, distribute_right, zero_multiply}
-use Rattle.field_core.specs.Laws.PolynomialLaws.{ring, value, value-add, value-multiply, value-negate, value-zero, value-one, same_in, same_out, multiply_comm, lowest-same, lowest-multiply, lowest-none, nonzero-multiply, nonzero-one, int_sign-scale}
+use Rattle.field_core.specs.Polynomial.{Same, poly_add, poly_multiply, lowest, int_sign, IsNonZero}
+use Rattle.field_core.specs.Laws.Ring.{multiply_left_comm, distribute_right}
+use Rattle.field_core.specs.Laws.PolynomialLaws.{ring, value, value-add, value-multiply, value-zero, value-one, same_in, same_out, multiply_comm, lowest-same, lowest-multiply, lowest-none, nonzero-multiply, nonzero-one, int_sign-scale}
 use Rattle.field_core.specs.Number.{Number}
-use Rattle.field_core.specs.Arithmetic.{number_zero, number_one, ◌+ε◌, ◌-ε◌, ◌*ε◌, ◌/ε◌, number_negate, number_sign}
-use Rattle.field_core.specs.Laws.NumberLaws.{number_multiply_assoc, number_multiply_one, number_sign_equal, number_sign_zero}
+use Rattle.field_core.specs.Arithmetic.{number_zero, number_one, ◌+ε◌, ◌*ε◌, ◌/ε◌, number_sign}
+use Rattle.field_core.specs.Laws.NumberLaws.{number_multiply_assoc, number_multiply_one}
 use Rattle.field_core.specs.Laws.Order.{divide_unique}
 use Rattle.field_core.specs.Fractions.{quotient}
-use Rattle.field_core.specs.Laws.FractionLaws.{quotient-pair, quotient-equal, quotient-add, quotient-multiply, quotient-negate, quotient-sign, quotient-zero}
+use Rattle.field_core.specs.Laws.FractionLaws.{quotient-pair, quotient-equal, quotient-add, quotient-multiply, quotient-sign}
 use Rattle.field_core.specs.Laws.Effective.{cross_of_quotients}
 
 -- ---- the same polynomials
@@ -67,8 +67,8 @@ over_same n m d =
     same_in _ _ (simp (value-multiply, value-add) (sym (ring.multiply_assoc _ _ _) ∙ ap (λ z. ring.multiply z (value d)) (distribute_right ring _ _ _)))
 
 -- over the same denominator numerators are added
-pub sum_over : (n m d t : List ℤ) → IsNonZero d → Same t (poly_add n m) → quotient t d ≡ quotient n d +ε quotient m d
-sum_over n m d t h s =
+pub sum_over_same : (n m d t : List ℤ) → IsNonZero d → Same t (poly_add n m) → quotient t d ≡ quotient n d +ε quotient m d
+sum_over_same n m d t h s =
     quotient-same t d (poly_add n m) d h s (λ k. refl)
     ∙ quotient-equal (poly_add n m) d (poly_add (poly_multiply n d) (poly_multiply m d)) (poly_multiply d d) h (nonzero-multiply d d h h) (over_same n m d)
     ∙ sym (quotient-add n d m d h h)
@@ -82,7 +82,7 @@ pub sum_value : (n1 d1 n2 d2 e1 e2 u v t d : List ℤ) → IsNonZero d1 → IsNo
     → quotient d1 d2 ≡ quotient e1 e2 → Same u (poly_multiply n1 e2) → Same v (poly_multiply n2 e1) → Same t (poly_add u v) → Same d (poly_multiply d1 e2)
     → quotient t d ≡ quotient n1 d1 +ε quotient n2 d2
 sum_value n1 d1 n2 d2 e1 e2 u v t d h1 h2 g1 g2 s su sv st sd =
-    sum_over u v d t (same_nonzero _ d (same_sym d _ sd) (nonzero-multiply d1 e2 h1 g2)) st
+    sum_over_same u v d t (same_nonzero _ d (same_sym d _ sd) (nonzero-multiply d1 e2 h1 g2)) st
     ∙ ap₂ ◌+ε◌ (quotient-widen n1 d1 e2 u d h1 g2 su sd)
     (quotient-widen n2 d2 e1 v d h2 g1 sv (same_trans d _ _ sd (same_trans _ _ _ (cross_of_quotients d1 d2 e1 e2 h2 g2 s) (multiply_comm e1 d2))))
 
