@@ -24,6 +24,7 @@ use Rattle.field_core.proofs.Divisors.{gcd_is}
 use Rattle.field_core.proofs.IntegerRing.{ring}
 use Rattle.std.proofs.Math.IntN.{+ℤ_idl}
 use Rattle.field_core.proofs.Coprime.{gcd_from_apart, quotients_apart, quotient_divides, gcd_bounds}
+use Rattle.eps_poly.proofs.WholeQuotients.{quotient_times, size_quotient, quotient_positive}
 use Rattle.eps_quotient.specs.Laws.QuotientLaws.{one_value, sum_over_same, sign_value}
 
 pub first_is : (p : List ℤ) → first p ≡ coefficient p 0
@@ -67,28 +68,8 @@ first_below n d h up some unit z =
 
 -- ---- lowest terms
 
-negative_times : (m g : ℕ) → neg_ℤ (pos m) *ℤ pos g ≡ neg_ℤ (pos (m * g))
-negative_times zero g = rw (zero-mul g) (omega (arith, ints))
-negative_times (suc m) g = omega (arith, ints)
-
-pub quotient_times : (z : ℤ) (g : ℕ) → g ∣ unsigned_abs z → int_div z (pos g) *ℤ pos g ≡ z
-quotient_times (pos n) g d = let e = div-mul_cancel g d in omega (arith, ints)
-quotient_times (negsuc n) g d = negative_times (suc n / g) g ∙ ap (λ m. neg_ℤ (pos m)) (div-mul_cancel g d)
-
-size_negative : (n : ℕ) → unsigned_abs (neg_ℤ (pos n)) ≡ n
-size_negative zero = refl
-size_negative (suc n) = refl
-
-pub size_quotient : (z : ℤ) (g : ℕ) → unsigned_abs (int_div z (pos g)) ≡ unsigned_abs z / g
-size_quotient (pos n) g = refl
-size_quotient (negsuc n) g = size_negative (suc n / g)
-
 size_positive : (z : ℤ) → pos 0 <ℤ z → 0 < unsigned_abs z
 size_positive z h = omega (arith, ints)
-
-pub quotient_positive : (z : ℤ) (g : ℕ) → pos 0 <ℤ z → g ∣ unsigned_abs z → pos 0 <ℤ int_div z (pos g)
-quotient_positive (pos n) g h d = let q = pos_of_dvd_of_pos (quotient_divides g d) (size_positive (pos n) h) in omega (arith, ints)
-quotient_positive (negsuc n) g h d = absurd (omega (arith, ints))
 
 lowest_terms : (n d : ℤ) → unsigned_abs n < 2 ^ 127 → unsigned_abs d < 2 ^ 127 → pos 0 <ℤ d
     → IsReduced (record { num = int_div n (gcd_of n d); den = int_div d (gcd_of n d) })
