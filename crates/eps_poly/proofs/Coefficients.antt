@@ -1,9 +1,10 @@
 -- Lists by their coefficients.
-use Rattle.std.proofs.Common.{◌≡◌, ◌≢◌, ℕ, zero, suc, ◌+◌, ◌<◌, ◌≤◌, List, [], ◌∷◌, length, get_or, set, replicate, map, refl, sym, ◌∙◌, ap, arith, ℤ, pos, inl, inr}
+use Rattle.std.proofs.Common.{◌≡◌, ◌≢◌, ℕ, zero, suc, ◌+◌, ◌<◌, ◌≤◌, List, [], ◌∷◌, length, get_or, set, replicate, map, refl, sym, ◌∙◌, ap, arith, Bool, true, false, ℤ, pos, negsuc, inl, inr}
 use Rattle.std.specs.List.{range_with_len}
 use Rattle.std.proofs.lemmas.Bool.{cases_eq, cases_lt}
 use Rattle.std.proofs.lemmas.List.{same_lists, get_or_past, get_or-set_same, get_or-set_other, length-set, length-replicate, get_or-replicate}
 use Rattle.std.proofs.lemmas.List.FromFn.{length-map-range_with_len, get_or-map-range_with_len}
+use Rattle.field_core.specs.Kind.{is_zero_integer}
 use Rattle.field_core.specs.Polynomial.{coefficient, poly_negate}
 use Rattle.field_core.specs.Laws.PolynomialLaws.{coefficient-index}
 use Rattle.eps_poly.specs.Polynomials.{by_powers, zero_polynomial}
@@ -54,6 +55,25 @@ coefficient-zero k = elim (cases_lt k 33) [
   | inl h ↦ coefficient-index (replicate 33 (pos 0)) k (pos 0) (omega (arith, length-replicate 33 (pos 0))) ∙ get_or-replicate 33 k (pos 0) (pos 0) h
   | inr h ↦ coefficient-past (replicate 33 (pos 0)) k (omega (arith, length-replicate 33 (pos 0)))
 ]
+
+-- ---- tests for 0
+
+pub is_zero_true : (c : ℤ) → is_zero_integer c ≡ true → c ≡ pos 0
+is_zero_true (pos zero) e = refl
+is_zero_true (pos (suc n)) e = cc
+is_zero_true (negsuc n) e = cc
+
+pub is_zero_false : (c : ℤ) → is_zero_integer c ≡ false → c ≢ pos 0
+is_zero_false (pos zero) e same = cc
+is_zero_false (pos (suc n)) e same = cc
+is_zero_false (negsuc n) e same = cc
+
+-- a coefficient that was read and tested
+pub read_zero : (p : List ℤ) (k : ℕ) (x : ℤ) (b : Bool) → k < length p → b ≡ is_zero_integer (get_or p k x) → b ≡ true → coefficient p k ≡ pos 0
+read_zero p k x b h e f = coefficient-index p k x h ∙ is_zero_true (get_or p k x) (sym e ∙ f)
+
+pub read_some : (p : List ℤ) (k : ℕ) (x : ℤ) (b : Bool) → k < length p → b ≡ is_zero_integer (get_or p k x) → b ≡ false → coefficient p k ≢ pos 0
+read_some p k x b h e f same = is_zero_false (get_or p k x) (sym e ∙ f) (sym (coefficient-index p k x h) ∙ same)
 
 -- ---- a loop that writes the coefficients of ascending powers
 

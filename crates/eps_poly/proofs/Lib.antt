@@ -3,7 +3,9 @@ pub mod Contents
 pub mod Cores
 pub mod Shifts
 pub mod SizedLists
+pub mod ContentLaws
 pub mod IntegerQuotients
+pub mod OrderLaws
 pub mod ProductLaws
 pub mod SumLaws
 pub mod WholeQuotients
