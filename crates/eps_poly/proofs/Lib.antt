@@ -7,5 +7,7 @@ pub mod ContentLaws
 pub mod IntegerQuotients
 pub mod OrderLaws
 pub mod ProductLaws
+pub mod Signs
 pub mod SumLaws
+pub mod Validity
 pub mod WholeQuotients

@@ -1,6 +1,7 @@
 -- The least power with a coefficient that isn't 0.
-use Rattle.std.proofs.Common.{◌≡◌, ◌≢◌, ℕ, zero, suc, ◌+◌, ◌<◌, ◌≤◌, Bool, true, false, List, [], ◌∷◌, length, refl, sym, ◌∙◌, ap, arith, ℤ, pos, negsuc, inl, inr, Some, None}
-use Rattle.std.proofs.lemmas.Bool.{cases_lt}
+use Rattle.std.proofs.Common.{◌≡◌, ◌≢◌, ℕ, zero, suc, ◌+◌, ◌<◌, ◌≤◌, Bool, true, false, List, [], ◌∷◌, length, refl, sym, ◌∙◌, ap, arith, ℤ, pos, negsuc, inl, inr, Some, None, eqb, IsTrue, ◌↔◌}
+use Rattle.std.proofs.lemmas.Bool.{cases_lt, cases_eq}
+use Rattle.std.proofs.lemmas.Bool.Decides.{nat_tests}
 use Rattle.std.specs.List.{list_all}
 use Rattle.field_core.specs.Kind.{is_zero_integer}
 use Rattle.field_core.specs.Polynomial.{coefficient, or_else, lowest, IsNonZero}
@@ -97,3 +98,16 @@ low_order_none p e = rw (all_zero p e) refl
 pub low_order_some : (p : List ℤ) → order p ≢ length p → low_order p ≡ Some (order p)
 unfolding low_order
 low_order_some p apart = rw (not_all_zero p apart) refl
+
+-- what the code tests
+pub zero_value : (p : List ℤ) (n : ℕ) → length p ≡ 33 → n ≡ order p → eqb n 33 ≡ list_all is_zero_integer p
+zero_value p n count e = elim (cases_eq n 33) [
+  | inl same ↦ let test : eqb n 33 ≡ true = grind (arith, nat_tests) in test ∙ sym (all_zero p (sym e ∙ same ∙ sym count))
+  | inr apart ↦ let test : eqb n 33 ≡ false = grind (arith, nat_tests) in test ∙ sym (not_all_zero p (λ f. apart (e ∙ f ∙ count)))
+]
+
+pub zero_test : (p : List ℤ) (n : ℕ) → length p ≡ 33 → n ≡ order p → IsTrue (eqb n 33) ↔ (lowest p ≡ pos 0)
+zero_test p n count e =
+    let forward : IsTrue (eqb n 33) → lowest p ≡ pos 0 = λ test. let same : n ≡ 33 = grind (arith, nat_tests) in lowest_is_zero p (sym e ∙ same ∙ sym count) in
+    let back : lowest p ≡ pos 0 → IsTrue (eqb n 33) = λ none. let same : n ≡ 33 = e ∙ order_at_end p none ∙ count in grind (arith, nat_tests) in
+    (forward, back)

@@ -63,6 +63,7 @@ impl EpsPoly {
         requires { power ≤ 32 }
         ensures { coefficients result ≡ slice_set (coefficients self.now) power c }
     {
+        let _value = c.value();
         let mut entries = self.entries;
         entries[power] = c;
         EpsPoly { entries }
@@ -158,6 +159,13 @@ impl EpsPoly {
         content(&self.entries)
     }
 
+    /// The greatest common divisor of the coefficients, as a whole number.
+    pub fn whole_content(&self) -> Whole
+        ensures { result ≡ pos (content (coefficients self.now)) }
+    {
+        Whole::new(self.content() as i128)
+    }
+
     /// The least power with a coefficient that isn't 0, or `None` exactly for the polynomial 0.
     pub fn low_order(&self) -> Option<usize>
         ensures value { result ≡ low_order (coefficients self.now) }
@@ -183,7 +191,7 @@ impl EpsPoly {
     pub fn factor(&self) -> Whole
         ensures { result ≡ factor (coefficients self.now) }
     {
-        let content = Whole::new(self.content() as i128);
+        let content = self.whole_content();
         if is_below_zero(self.lowest()) {
             content.negated()
         } else {
@@ -197,7 +205,7 @@ impl EpsPoly {
         ensures { coefficients result ≡ core (coefficients self.now) }
     {
         let turned = self.turned();
-        turned.lowered(order(&self.entries), Whole::new(self.content() as i128))
+        turned.lowered(order(&self.entries), self.whole_content())
     }
 
     /// This polynomial or its opposite, whichever has a positive lowest coefficient.
