@@ -3,5 +3,6 @@ pub mod Cuts
 pub mod Exact
 pub mod LimitTerms
 pub mod LowerLaws
+pub mod NormAgain
 pub mod NormLaws
 pub mod QuotientLaws

@@ -28,7 +28,7 @@ pub record IsCut (p q c : List ℤ) (h z : ℕ) : Type 0 where
 
 -- ---- what is not 0
 
-order_within : (p : List ℤ) → length p ≡ 33 → IsNonZero p → order p < 33
+pub order_within : (p : List ℤ) → length p ≡ 33 → IsNonZero p → order p < 33
 order_within p count some = elim (cases_lt (order p) 33) [
   | inl h ↦ h
   | inr h ↦ absurd (some (sym (order_at p) ∙ coefficient-past p (order p) (omega arith)))

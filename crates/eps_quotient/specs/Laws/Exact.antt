@@ -53,7 +53,7 @@ positive_some : (p : List ℤ) → int_sign (lowest p) ≡ Greater → IsNonZero
 unfolding int_sign
 positive_some p e z = let f : int_sign (pos 0) ≡ Greater = ap int_sign (sym z) ∙ e in cc
 
-some_below : (x : Parts) → IsQuotient x → IsNonZero x.denominator
+pub some_below : (x : Parts) → IsQuotient x → IsNonZero x.denominator
 some_below x s = positive_some x.denominator s.positive
 
 null_value : (x : Parts) → IsQuotient x → is_zero x ≡ true → value_of x ≡ number_zero
