@@ -7,6 +7,7 @@ pub mod ContentLaws
 pub mod IntegerQuotients
 pub mod OrderLaws
 pub mod ProductLaws
+pub mod QuotientLaws
 pub mod Signs
 pub mod SumLaws
 pub mod Validity

@@ -213,7 +213,7 @@ product_is_exact op p q r e k =
 
 -- ---- the same factors
 
-coefficient-same : (op : Op) (p p' q : List ℤ) (k n : ℕ) → ((i : ℕ) → i < n → coefficient p i ≡ coefficient p' i) → written_coefficient op p q k n ≡ written_coefficient op p' q k n
+pub coefficient-same : (op : Op) (p p' q : List ℤ) (k n : ℕ) → ((i : ℕ) → i < n → coefficient p i ≡ coefficient p' i) → written_coefficient op p q k n ≡ written_coefficient op p' q k n
 unfolding written_coefficient
 coefficient-same op p p' q k zero h = refl
 coefficient-same op p p' q k (suc n) h =

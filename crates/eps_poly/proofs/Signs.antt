@@ -1,5 +1,5 @@
 -- Numbers and polynomials with the sign of a number.
-use Rattle.std.proofs.Common.{◌≡◌, ℕ, List, refl, arith, ℤ, pos, negsuc, neg_ℤ, ◌<ℤ◌}
+use Rattle.std.proofs.Common.{◌≡◌, ◌↔◌, ℕ, Bool, false, IsTrue, List, refl, arith, ℤ, pos, negsuc, neg_ℤ, ◌<ℤ◌}
 use Rattle.std.proofs.lemmas.Int.{ints}
 use Rattle.field_core.specs.Polynomial.{poly_negate}
 use Rattle.eps_poly.specs.Factors.{signed_as, turned_as}
@@ -19,3 +19,7 @@ turned_below (negsuc c) p h = refl
 pub turned_above : (c : ℤ) (p : List ℤ) → ¬ (c <ℤ pos 0) → turned_as c p ≡ p
 turned_above (pos c) p h = refl
 turned_above (negsuc c) p h = absurd (h (omega (arith, ints)))
+
+-- what the code tests
+pub not_below : (b : Bool) (c : ℤ) → (IsTrue b ↔ (c <ℤ pos 0)) → b ≡ false → ¬ (c <ℤ pos 0)
+not_below b c test e h = let yes_it_is = test.1 h in cc
