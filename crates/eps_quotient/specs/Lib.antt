@@ -2,3 +2,4 @@ pub mod Laws
 pub mod Lowering
 pub mod Quotients
 pub mod Stored
+pub mod View

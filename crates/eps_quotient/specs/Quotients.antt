@@ -14,7 +14,7 @@ unfoldable pub is_one : Parts → Bool
 is_one x = is_same x.numerator one_polynomial && is_same x.denominator one_polynomial
 
 -- -x
-unfoldable pub opposite : Parts → Parts
+abbrev pub opposite : Parts → Parts
 opposite x = record { numerator = poly_negate x.numerator; denominator = x.denominator }
 
 -- 1/x
@@ -34,9 +34,9 @@ written_product op x y =
     if is_zero x || is_zero y
     then Ok zero_quotient
     else (
-      if is_one x
-      then Ok y
-      else (if is_one y then Ok x else product_of op (lower x.numerator y.denominator) (lower y.numerator x.denominator))
+    if is_one x
+    then Ok y
+    else (if is_one y then Ok x else product_of op (lower x.numerator y.denominator) (lower y.numerator x.denominator))
     )
 
 -- the written sum over the same denominator
@@ -60,13 +60,13 @@ written_sum op x y =
     if is_zero x
     then Ok y
     else (
-      if is_zero y
-      then Ok x
-      else (
-        if is_same x.denominator y.denominator
-        then sum_over op x.numerator y.numerator x.denominator
-        else sum_of op x y (lower x.denominator y.denominator)
-      )
+    if is_zero y
+    then Ok x
+    else (
+    if is_same x.denominator y.denominator
+    then sum_over op x.numerator y.numerator x.denominator
+    else sum_of op x y (lower x.denominator y.denominator)
+    )
     )
 
 -- what each written operation gives or refuses: a difference is the sum with the opposite, a quotient the product with the inverse

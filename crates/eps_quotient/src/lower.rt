@@ -3,11 +3,12 @@ ghost use Rattle.std.specs.Prelude.{◌≡◌, ◌≤◌, ◌<ℤ◌, pos};
 ghost use Rattle.field_core.specs.Polynomial.{IsNonZero, int_sign, lowest};
 ghost use Rattle.eps_poly.specs.Factors.{order};
 ghost use Rattle.eps_poly.specs.View.{coefficients};
-ghost use Rattle.eps_quotient.specs.Lowering.{common_content, common_order, lower, norm, one_polynomial, turned, without_cores, without_powers, zero_quotient};
+ghost use Rattle.eps_quotient.specs.Lowering.{common_content, common_order, is_same, lower, norm, one_polynomial, turned, without_cores, without_powers, zero_quotient};
+ghost use Rattle.eps_quotient.specs.Stored.{IsQuotient};
 ghost use Rattle.eps_quotient.specs.View.{pair_parts};
 
 use eps_poly::EpsPoly;
-use field_core::{Whole, gcd};
+use field_core::Whole;
 use std::cmp::Ordering;
 
 /// A numerator over a denominator.
@@ -26,7 +27,8 @@ pub fn one() -> EpsPoly
 
 /// 0/1.
 pub fn zero_quotient() -> Pair
-    ensures { pair_parts result ≡ zero_quotient }
+    ensures zero { pair_parts result ≡ zero_quotient }
+    ensures some { IsNonZero (coefficients result.denominator) }
 {
     Pair {
         numerator: EpsPoly::zero(),
@@ -49,7 +51,7 @@ fn common_content(a: &EpsPoly, b: &EpsPoly) -> Whole
     ensures value { result ≡ pos (common_content (coefficients a.now) (coefficients b.now)) }
     ensures positive { pos 0 <ℤ result }
 {
-    Whole::new(gcd(a.content(), b.content()) as i128)
+    a.whole_content().common_divisor(b.whole_content())
 }
 
 /// The quotient without common content and common powers of epsilon.
@@ -57,7 +59,8 @@ fn common_content(a: &EpsPoly, b: &EpsPoly) -> Whole
 fn without_powers(a: &EpsPoly, b: &EpsPoly) -> Pair
     requires a { IsNonZero (coefficients a.now) }
     requires b { IsNonZero (coefficients b.now) }
-    ensures { pair_parts result ≡ without_powers (coefficients a.now) (coefficients b.now) }
+    ensures lowered { pair_parts result ≡ without_powers (coefficients a.now) (coefficients b.now) }
+    ensures some { IsNonZero (coefficients result.denominator) }
 {
     let power = order(a).min(order(b));
     let content = common_content(a, b);
@@ -72,7 +75,8 @@ fn without_powers(a: &EpsPoly, b: &EpsPoly) -> Pair
 fn without_cores(a: &EpsPoly, b: &EpsPoly) -> Pair
     requires a { IsNonZero (coefficients a.now) }
     requires b { IsNonZero (coefficients b.now) }
-    ensures { pair_parts result ≡ without_cores (coefficients a.now) (coefficients b.now) }
+    ensures lowered { pair_parts result ≡ without_cores (coefficients a.now) (coefficients b.now) }
+    ensures some { IsNonZero (coefficients result.denominator) }
 {
     let above = order(a);
     let below = order(b);
@@ -84,15 +88,23 @@ fn without_cores(a: &EpsPoly, b: &EpsPoly) -> Pair
     }
 }
 
+/// Whether the coefficients of two polynomials are the same.
+pub fn are_same(p: &EpsPoly, q: &EpsPoly) -> bool
+    ensures { result ≡ is_same (coefficients p.now) (coefficients q.now) }
+{
+    p.is_same(q)
+}
+
 /// The quotient without common content, common powers of epsilon and equal cores; 0/1 where the numerator is 0.
 #[tactic(auto, unfolding(crate::specs::Lowering::lower))]
 pub fn lower(a: &EpsPoly, b: &EpsPoly) -> Pair
     requires { IsNonZero (coefficients b.now) }
-    ensures { pair_parts result ≡ lower (coefficients a.now) (coefficients b.now) }
+    ensures lowered { pair_parts result ≡ lower (coefficients a.now) (coefficients b.now) }
+    ensures some { IsNonZero (coefficients result.denominator) }
 {
     if a.is_zero() {
         zero_quotient()
-    } else if a.core().is_same(&b.core()) {
+    } else if are_same(&a.core(), &b.core()) {
         without_cores(a, b)
     } else {
         without_powers(a, b)
@@ -118,7 +130,8 @@ fn turned(x: &Pair) -> Pair
 #[tactic(auto, unfolding(crate::specs::Lowering::norm))]
 pub fn norm(a: &EpsPoly, b: &EpsPoly) -> Pair
     requires { IsNonZero (coefficients b.now) }
-    ensures { pair_parts result ≡ norm (coefficients a.now) (coefficients b.now) }
+    ensures norm { pair_parts result ≡ norm (coefficients a.now) (coefficients b.now) }
+    ensures stored { IsQuotient (pair_parts result) }
 {
     turned(&lower(a, b))
 }

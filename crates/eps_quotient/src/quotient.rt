@@ -5,7 +5,7 @@ ghost use Rattle.eps_quotient.specs.Stored.{IsQuotient};
 use crate::lower::{Pair, norm, one, sign, zero_quotient};
 use crate::written::{inverse, opposite, product, sum};
 use eps_poly::EpsPoly;
-use field_core::{Number, Op, Ratio, TooWide, Whole};
+use field_core::{Number, Op, Ratio, TooWide};
 use std::cmp::Ordering;
 
 /// A quotient of two polynomials in epsilon, as the norm of two polynomials stores it: without common content, common powers
@@ -20,7 +20,7 @@ pub struct EpsQuotient {
 impl EpsQuotient {
     ghost use Rattle.std.specs.Prelude.{◌≡◌, ◌↔◌, IfSome, IfNone, pos};
     ghost use Rattle.field_core.specs.Kind.{Parts};
-    ghost use Rattle.field_core.specs.Polynomial.{lowest};
+    ghost use Rattle.field_core.specs.Polynomial.{lowest, IsNonZero};
     ghost use Rattle.field_core.specs.Fractions.{quotient as quotient_of};
     ghost use Rattle.eps_poly.specs.View.{coefficients};
     ghost use Rattle.eps_quotient.specs.Lowering.{norm};
@@ -66,7 +66,8 @@ impl EpsQuotient {
 
     /// The two polynomials.
     fn pair(&self) -> Pair
-        ensures { pair_parts result ≡ quotient_parts self.now }
+        ensures parts { pair_parts result ≡ quotient_parts self.now }
+        ensures some { IsNonZero (coefficients result.denominator) }
     {
         Pair {
             numerator: self.numerator,
@@ -121,8 +122,10 @@ impl Number for EpsQuotient {
 
     /// Refused exactly where the difference is, with `Op::Sub`.
     fn compare(&self, other: &EpsQuotient) -> Result<Ordering, TooWide> {
-        let pair = sum(Op::Sub, &self.pair(), &opposite(&other.pair()))?;
-        Ok(sign(&pair.numerator))
+        match self.sub(other) {
+            Ok(difference) => Ok(difference.sign()),
+            Err(wide) => Err(wide),
+        }
     }
 
     fn is_zero(&self) -> bool {

@@ -3,11 +3,10 @@ ghost use Rattle.std.specs.Prelude.{◌≡◌, false};
 ghost use Rattle.field_core.specs.Kind.{ok_map, is_zero};
 ghost use Rattle.field_core.specs.Polynomial.{IsNonZero};
 ghost use Rattle.eps_poly.specs.View.{coefficients};
-ghost use Rattle.eps_quotient.specs.Stored.{IsQuotient};
 ghost use Rattle.eps_quotient.specs.Quotients.{inverse, is_one, opposite, product_of, sum_of, sum_over, written_product, written_sum};
 ghost use Rattle.eps_quotient.specs.View.{pair_parts};
 
-use crate::lower::{Pair, lower, norm, one, zero_quotient};
+use crate::lower::{Pair, are_same, lower, norm, one, zero_quotient};
 use eps_poly::EpsPoly;
 use field_core::{Op, TooWide};
 
@@ -16,11 +15,10 @@ use field_core::{Op, TooWide};
 fn is_one(x: &Pair) -> bool
     ensures { result ≡ is_one (pair_parts x.now) }
 {
-    x.numerator.is_same(&one()) && x.denominator.is_same(&one())
+    are_same(&x.numerator, &one()) && are_same(&x.denominator, &one())
 }
 
 /// The opposite.
-#[tactic(auto, unfolding(crate::specs::Quotients::opposite))]
 pub fn opposite(x: &Pair) -> Pair
     ensures { pair_parts result ≡ opposite (pair_parts x.now) }
 {
@@ -34,7 +32,8 @@ pub fn opposite(x: &Pair) -> Pair
 #[tactic(auto, unfolding(crate::specs::Quotients::inverse, field_core::specs::Kind::is_zero))]
 pub fn inverse(x: &Pair) -> Pair
     requires { is_zero (pair_parts x.now) ≡ false }
-    ensures { pair_parts result ≡ inverse (pair_parts x.now) }
+    ensures inverse { pair_parts result ≡ inverse (pair_parts x.now) }
+    ensures some { IsNonZero (coefficients result.denominator) }
 {
     norm(&x.denominator, &x.numerator)
 }
@@ -54,8 +53,8 @@ fn product_of(op: Op, x: &Pair, y: &Pair) -> Result<Pair, TooWide>
 /// The written product.
 #[tactic(auto, unfolding(crate::specs::Quotients::written_product, field_core::specs::Kind::is_zero))]
 pub fn product(op: Op, x: &Pair, y: &Pair) -> Result<Pair, TooWide>
-    requires first { IsQuotient (pair_parts x.now) }
-    requires second { IsQuotient (pair_parts y.now) }
+    requires first { IsNonZero (coefficients x.now.denominator) }
+    requires second { IsNonZero (coefficients y.now.denominator) }
     ensures { ok_map pair_parts result ≡ written_product op (pair_parts x.now) (pair_parts y.now) }
 {
     if x.numerator.is_zero() || y.numerator.is_zero() {
@@ -65,7 +64,11 @@ pub fn product(op: Op, x: &Pair, y: &Pair) -> Result<Pair, TooWide>
     } else if is_one(y) {
         Ok(*x)
     } else {
-        product_of(op, &lower(&x.numerator, &y.denominator), &lower(&y.numerator, &x.denominator))
+        product_of(
+            op,
+            &lower(&x.numerator, &y.denominator),
+            &lower(&y.numerator, &x.denominator),
+        )
     }
 }
 
@@ -95,15 +98,15 @@ fn sum_of(op: Op, x: &Pair, y: &Pair, e: &Pair) -> Result<Pair, TooWide>
 /// The written sum.
 #[tactic(auto, unfolding(crate::specs::Quotients::written_sum, field_core::specs::Kind::is_zero))]
 pub fn sum(op: Op, x: &Pair, y: &Pair) -> Result<Pair, TooWide>
-    requires first { IsQuotient (pair_parts x.now) }
-    requires second { IsQuotient (pair_parts y.now) }
+    requires first { IsNonZero (coefficients x.now.denominator) }
+    requires second { IsNonZero (coefficients y.now.denominator) }
     ensures { ok_map pair_parts result ≡ written_sum op (pair_parts x.now) (pair_parts y.now) }
 {
     if x.numerator.is_zero() {
         Ok(*y)
     } else if y.numerator.is_zero() {
         Ok(*x)
-    } else if x.denominator.is_same(&y.denominator) {
+    } else if are_same(&x.denominator, &y.denominator) {
         sum_over(op, &x.numerator, &y.numerator, &x.denominator)
     } else {
         sum_of(op, x, y, &lower(&x.denominator, &y.denominator))

@@ -1,5 +1,5 @@
 -- The kind of the quotients is exact.
-use Rattle.std.proofs.Common.{◌≡◌, Bool, true, false, ◌||◌, ◌&&◌, List, refl, sym, ◌∙◌, ap, ap₂, subst, arith, inl, inr, ◌⊎◌, ◌*ℤ◌, ℤ, pos, Result, Ok, Err, IfOk}
+use Rattle.std.proofs.Common.{◌≡◌, Bool, true, false, ◌||◌, ◌&&◌, List, refl, sym, ◌∙◌, ap, ap₂, subst, arith, inl, inr, ◌⊎◌, ◌*ℤ◌, ◌<ℤ◌, ℤ, pos, Result, Ok, Err, IfOk}
 use Rattle.std.specs.Int.{is_negative}
 use Rattle.std.proofs.lemmas.Int.{ints}
 use Rattle.std.proofs.Math.IntN.{zero-*ℤ}
@@ -32,7 +32,7 @@ use Rattle.eps_quotient.specs.Lowering.{one_polynomial, zero_quotient, one_quoti
 use Rattle.eps_quotient.specs.Quotients.{is_one, opposite, inverse, product_of, written_product, sum_over, sum_of, written_sum, written_quotient, quotients}
 use Rattle.eps_quotient.specs.Stored.{IsQuotient}
 use Rattle.eps_quotient.specs.Laws.QuotientLaws.{same_sym, same_nonzero, product_value, sum_over_same, sum_value, zero_value, one_value, inverse_value, divide_value, sign_value}
-use Rattle.eps_quotient.specs.Laws.LimitTerms.{first_below, limit_terms-reduced, limit_terms-value}
+use Rattle.eps_quotient.specs.Laws.LimitTerms.{first_below, first_above, limit_terms-reduced, limit_terms-value}
 use Rattle.eps_quotient.specs.Laws.LowerLaws.{IsLowered, lower_is, zeros_lowest, others_lowest, same_from, either_branch, one_some, one_held, one_is, one_first, zero_lowest, zero_quotient_is, gcd_one}
 use Rattle.eps_quotient.specs.Laws.Cuts.{one_core}
 use Rattle.eps_quotient.specs.Laws.NormLaws.{IsStoredOf, norm_is, upright, lowest_one, negated_none, negate_held, content-negate, core-negate}
@@ -64,7 +64,7 @@ sign_is : (x : Parts) → IsQuotient x → sign_of x ≡ number_sign (value_of x
 unfolding value_of sign_of
 sign_is x s = sym (sign_value x.numerator x.denominator s.positive (some_below x s))
 
-some_value : (x : Parts) → IsQuotient x → is_zero x ≡ false → ¬ (value_of x ≡ number_zero)
+pub some_value : (x : Parts) → IsQuotient x → is_zero x ≡ false → ¬ (value_of x ≡ number_zero)
 unfolding is_zero sign_of
 some_value x s e z = others_lowest x.numerator e (none (lowest x.numerator) (sign_is x s ∙ ap number_sign z ∙ number_sign_zero))
   where
@@ -124,10 +124,10 @@ one_quotient-value : value_of one_quotient ≡ number_one
 unfolding value_of
 one_quotient-value = one_value one_polynomial one_some
 
-zero_stored : IsQuotient zero_quotient
+pub zero_stored : IsQuotient zero_quotient
 zero_stored = (upright zero_polynomial one_polynomial zero_quotient (zero_quotient_is zero_polynomial one_polynomial one_some zero_lowest) (ap is_negative lowest_one)).stored
 
-one_stored : IsQuotient one_quotient
+pub one_stored : IsQuotient one_quotient
 one_stored = record {
   above = one_held;
   below = one_held;
@@ -211,8 +211,7 @@ sum_gives op x y f g =
 
 -- ---- opposites and inverses
 
-opposite_stored : (x : Parts) → IsQuotient x → IsQuotient (opposite x)
-unfolding opposite
+pub opposite_stored : (x : Parts) → IsQuotient x → IsQuotient (opposite x)
 opposite_stored x s = record {
   above = negate_held x.numerator s.above;
   below = s.below;
@@ -227,10 +226,10 @@ opposite_stored x s = record {
 }
 
 opposite_value : (x : Parts) → IsQuotient x → value_of (opposite x) ≡ number_negate (value_of x)
-unfolding opposite value_of
+unfolding value_of
 opposite_value x s = sym (quotient-negate x.numerator x.denominator (some_below x s))
 
-inverse_is : (x : Parts) → IsQuotient x → is_zero x ≡ false → IsStoredOf x.denominator x.numerator (inverse x)
+pub inverse_is : (x : Parts) → IsQuotient x → is_zero x ≡ false → IsStoredOf x.denominator x.numerator (inverse x)
 unfolding inverse is_zero
 inverse_is x s e = norm_is x.denominator x.numerator s.below s.above (others_lowest x.numerator e)
 
@@ -260,11 +259,14 @@ unfolding GivesOk number_compare
 compared (Ok z) x y g = let s = g z refl in sign_is z s.stored ∙ ap number_sign s.value
 compared (Err e) x y g = tt
 
-below_first : (x : Parts) → IsQuotient x → IsUnit (value_of x) → ¬ (coefficient x.denominator 0 ≡ pos 0)
+pub below_first : (x : Parts) → IsQuotient x → IsUnit (value_of x) → ¬ (coefficient x.denominator 0 ≡ pos 0)
 unfolding value_of
 below_first x s unit = first_below x.numerator x.denominator (some_below x s) s.positive s.no_power unit
 
-limit_in_lowest_terms : (x : Parts) → IsQuotient x → IsUnit (value_of x) → IsReduced (limit_terms x)
+pub first_positive : (x : Parts) → IsQuotient x → IsUnit (value_of x) → pos 0 <ℤ coefficient x.denominator 0
+first_positive x s unit = first_above x.denominator s.positive (below_first x s unit)
+
+pub limit_in_lowest_terms : (x : Parts) → IsQuotient x → IsUnit (value_of x) → IsReduced (limit_terms x)
 limit_in_lowest_terms x s unit =
     limit_terms-reduced x.numerator x.denominator s.positive (below_first x s unit) (s.above.sizes 0) (s.below.sizes 0)
 

@@ -1,8 +1,7 @@
 -- The limit of a quotient from 0 to 1 is the quotient of the coefficients of power 0, in lowest terms.
-use Rattle.std.proofs.Common.{◌≡◌, refl, sym, ◌∙◌, ap, ap₂, zero, suc, ℕ, List, [], ◌∷◌, ℤ, pos, negsuc, ◌+ℤ◌, ◌*ℤ◌, ◌<ℤ◌, neg_ℤ, unsigned_abs, int_div, ◌<◌, ◌/◌, ◌*◌, ◌^◌, arith}
-use Rattle.std.specs.Int.{◌∣◌}
+use Rattle.std.proofs.Common.{◌≡◌, refl, sym, ◌∙◌, ap, ap₂, zero, suc, List, [], ◌∷◌, ℤ, pos, negsuc, ◌+ℤ◌, ◌*ℤ◌, ◌<ℤ◌, neg_ℤ, unsigned_abs, int_div, ◌<◌, ◌^◌, arith}
 use Rattle.std.proofs.lemmas.Int.{ints}
-use Rattle.std.proofs.Math.Nat.{div-mul_cancel, div-le_self, pos_of_dvd_of_pos, zero-mul}
+use Rattle.std.proofs.Math.Nat.{div-le_self}
 use Rattle.std.specs.declared.cmp.Ordering.TheVariants.{Less, Greater}
 use Rattle.field_core.specs.Divisor.{gcd}
 use Rattle.field_core.specs.Sized.{gcd_of}
@@ -23,7 +22,7 @@ use Rattle.field_core.specs.Laws.Effective.{positive_nonzero}
 use Rattle.field_core.proofs.Divisors.{gcd_is}
 use Rattle.field_core.proofs.IntegerRing.{ring}
 use Rattle.std.proofs.Math.IntN.{+ℤ_idl}
-use Rattle.field_core.proofs.Coprime.{gcd_from_apart, quotients_apart, quotient_divides, gcd_bounds}
+use Rattle.field_core.proofs.Coprime.{gcd_from_apart, quotients_apart, gcd_bounds}
 use Rattle.eps_poly.proofs.WholeQuotients.{quotient_times, size_quotient, quotient_positive}
 use Rattle.eps_quotient.specs.Laws.QuotientLaws.{one_value, sum_over_same, sign_value}
 
@@ -100,16 +99,25 @@ unfolding limit_ratio coefficient
 ratio_at n [] h = absurd (h refl)
 ratio_at n (c ∷ d) h = first_other c _ _ h
 
+pub first_above : (d : List ℤ) → int_sign (lowest d) ≡ Greater → ¬ (coefficient d 0 ≡ pos 0) → pos 0 <ℤ coefficient d 0
+first_above d up h = positive_out (coefficient d 0) (ap int_sign (sym (lowest_first d h)) ∙ up)
+
+-- the terms, by the coefficients of power 0
+pub limit_terms-first : (n d : List ℤ) → limit_terms (record { numerator = n; denominator = d })
+    ≡ record { num = int_div (coefficient n 0) (gcd_of (coefficient n 0) (coefficient d 0)); den = int_div (coefficient d 0) (gcd_of (coefficient n 0) (coefficient d 0)) }
+unfolding limit_terms
+limit_terms-first n d = rw (first_is n, first_is d) refl
+
 -- where the denominator has a coefficient of power 0
 pub limit_terms-reduced : (n d : List ℤ) → int_sign (lowest d) ≡ Greater → ¬ (coefficient d 0 ≡ pos 0)
     → unsigned_abs (coefficient n 0) < 2 ^ 127 → unsigned_abs (coefficient d 0) < 2 ^ 127 → IsReduced (limit_terms (record { numerator = n; denominator = d }))
 unfolding limit_terms
 limit_terms-reduced n d up h sn sd =
-    rw (first_is n, first_is d) (lowest_terms (coefficient n 0) (coefficient d 0) sn sd (positive_out (coefficient d 0) (ap int_sign (sym (lowest_first d h)) ∙ up)))
+    rw (first_is n, first_is d) (lowest_terms (coefficient n 0) (coefficient d 0) sn sd (first_above d up h))
 
 pub limit_terms-value : (n d : List ℤ) → IsNonZero d → int_sign (lowest d) ≡ Greater → ¬ (coefficient d 0 ≡ pos 0)
     → fraction (limit_terms (record { numerator = n; denominator = d })).num (limit_terms (record { numerator = n; denominator = d })).den ≡ limit (quotient n d)
 unfolding limit_terms
 limit_terms-value n d some up h =
-    rw (first_is n, first_is d) (same_fraction (coefficient n 0) (coefficient d 0) (positive_out (coefficient d 0) (ap int_sign (sym (lowest_first d h)) ∙ up)))
+    rw (first_is n, first_is d) (same_fraction (coefficient n 0) (coefficient d 0) (first_above d up h))
     ∙ sym (limit-quotient n d some ∙ ratio_at n d h)

@@ -115,6 +115,14 @@ without_cores_is a b ka kb ha hb same =
     let s' = subst (λ p. IsCut a (monomial (int_div (factor a) (pos (common_content a b))) (order a - common_order a b)) (term (pos (common_content a b)) (common_order a b) p) (common_content a b) (common_order a b)) same s.cut in
     lowered_by a b _ _ _ hb (multiplier_some b _ _ t.cut.times hb) s' t.cut (λ e. t.core_of)
 
+pub without_powers_some : (a b : List ℤ) → IsPolynomial b → IsNonZero b → IsNonZero (without_powers a b).denominator
+unfolding without_powers
+without_powers_some a b kb hb = (cut_powers b (common_content a b) (common_order a b) kb hb (gcd_is (content a) (content b)).1 (min-le_right (order a) (order b))).cut.some
+
+pub without_cores_some : (a b : List ℤ) → IsPolynomial b → IsNonZero b → IsNonZero (without_cores a b).denominator
+unfolding without_cores
+without_cores_some a b kb hb = (cut_core b (common_content a b) (common_order a b) kb hb (gcd_is (content a) (content b)).1 (min-le_right (order a) (order b))).cut.some
+
 pub one_some : IsNonZero one_polynomial
 one_some = some_nonzero one_polynomial 0 (λ e. let z = sym (monomial-at (pos 1) 0 (omega arith)) ∙ e in absurd (cc z))
 

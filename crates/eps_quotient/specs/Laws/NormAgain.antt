@@ -1,5 +1,5 @@
 -- The norm of a stored quotient is the quotient itself.
-use Rattle.std.proofs.Common.{◌≡◌, ℕ, zero, suc, ◌+◌, ◌-◌, ◌<◌, ◌≤◌, min, Bool, true, false, List, [], ◌∷◌, length, if◌then◌else◌, refl, sym, ◌∙◌, ap, ap₂, arith, ℤ, pos, negsuc, int_div, inl, inr}
+use Rattle.std.proofs.Common.{◌≡◌, ℕ, ◌+◌, ◌-◌, ◌<◌, ◌≤◌, min, false, List, length, if◌then◌else◌, sym, ◌∙◌, ap, ap₂, arith, ℤ, pos, negsuc, int_div, inl, inr}
 use Rattle.std.specs.List.{list_all}
 use Rattle.std.specs.Int.{is_negative}
 use Rattle.std.specs.declared.cmp.Ordering.TheVariants.{Greater}
@@ -10,14 +10,14 @@ use Rattle.field_core.specs.Kind.{Parts, is_zero_integer}
 use Rattle.field_core.specs.Laws.Integers.{int_multiply_one}
 use Rattle.field_core.specs.Polynomial.{coefficient, Same, poly_negate, lowest, int_sign, IsNonZero}
 use Rattle.field_core.specs.Laws.PolynomialLaws.{lowest-none}
-use Rattle.eps_poly.specs.Polynomials.{IsPolynomial, zero_polynomial, monomial}
-use Rattle.eps_poly.specs.Factors.{content, order, factor, lowered, core}
+use Rattle.eps_poly.specs.Polynomials.{zero_polynomial, monomial}
+use Rattle.eps_poly.specs.Factors.{order, factor, lowered, core}
 use Rattle.eps_poly.proofs.Coefficients.{same_polynomials, length-zero, coefficient-zero}
 use Rattle.eps_poly.proofs.Contents.{order_below}
 use Rattle.eps_poly.proofs.Cores.{has_core, length-lowered, coefficient-lowered}
 use Rattle.eps_poly.proofs.Shifts.{term, length-monomial, monomial-term}
 use Rattle.eps_poly.proofs.WholeQuotients.{quotient_times}
-use Rattle.eps_quotient.specs.Lowering.{one_polynomial, zero_quotient, common_content, common_order, is_same, without_powers, without_cores, lower, turned, norm}
+use Rattle.eps_quotient.specs.Lowering.{one_polynomial, zero_quotient, common_order, is_same, without_powers, without_cores, lower, turned, norm}
 use Rattle.eps_quotient.specs.Stored.{IsQuotient}
 use Rattle.eps_quotient.specs.Laws.QuotientLaws.{same_sym, same_trans}
 use Rattle.eps_quotient.specs.Laws.Cuts.{order_within}
