@@ -2,7 +2,8 @@
 use Rattle.std.proofs.Common.{◌≡◌, ◌≢◌, ℕ, zero, suc, ◌+◌, ◌*◌, ◌/◌, ◌<◌, ◌≤◌, refl, sym, ◌∙◌, ap, arith, ℤ, pos, negsuc, ◌+ℤ◌, ◌*ℤ◌, neg_ℤ, unsigned_abs, int_div, int_rem, inl, inr}
 use Rattle.std.proofs.lemmas.Bool.{cases_lt}
 use Rattle.std.proofs.lemmas.Int.{ints, quot-rem, rem_below, unsigned_abs-mul}
-use Rattle.std.proofs.Math.Nat.{mul-le-mul_right}
+use Rattle.std.proofs.Math.Nat.{mul-le-mul_right, div-mul_cancel, zero-mul}
+use Rattle.std.specs.Int.{◌∣◌}
 use Rattle.field_core.proofs.IntegerRing.{*ℤ_distrib_right}
 
 pub size_some : (d : ℤ) → d ≢ pos 0 → 0 < unsigned_abs d
@@ -52,3 +53,12 @@ pub int_div-zero : (d : ℤ) → int_div (pos 0) d ≡ pos 0
 int_div-zero (pos zero) = omega (arith, ints)
 int_div-zero (pos (suc n)) = omega (arith, ints)
 int_div-zero (negsuc n) = let none : 0 / suc n ≡ 0 = omega arith in rw none refl
+
+neg_times : (m g : ℕ) → neg_ℤ (pos m) *ℤ pos g ≡ neg_ℤ (pos (m * g))
+neg_times zero g = rw (zero-mul g) (omega (arith, ints))
+neg_times (suc m) g = omega (arith, ints)
+
+-- the quotient by a divisor, times the divisor
+pub quotient_times : (z : ℤ) (g : ℕ) → g ∣ unsigned_abs z → int_div z (pos g) *ℤ pos g ≡ z
+quotient_times (pos n) g d = let e = div-mul_cancel g d in omega (arith, ints)
+quotient_times (negsuc n) g d = neg_times (suc n / g) g ∙ ap (λ m. neg_ℤ (pos m)) (div-mul_cancel g d)

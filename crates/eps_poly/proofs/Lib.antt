@@ -4,6 +4,7 @@ pub mod Cores
 pub mod Shifts
 pub mod SizedLists
 pub mod ContentLaws
+pub mod FactorLaws
 pub mod IntegerQuotients
 pub mod OrderLaws
 pub mod ProductLaws

@@ -4,10 +4,10 @@ use Rattle.std.proofs.lemmas.Bool.{cases_eq, cases_lt}
 use Rattle.std.proofs.lemmas.Int.{ints}
 use Rattle.std.proofs.lemmas.List.{length-set}
 use Rattle.std.proofs.Math.Nat.{div-le_self}
-use Rattle.field_core.specs.Polynomial.{coefficient, poly_negate}
+use Rattle.field_core.specs.Polynomial.{coefficient, lowest, poly_negate}
 use Rattle.field_core.specs.Laws.PolynomialLaws.{coefficient-negate}
 use Rattle.eps_poly.specs.Polynomials.{IsPolynomial, by_powers, zero_polynomial}
-use Rattle.eps_poly.specs.Factors.{lowered}
+use Rattle.eps_poly.specs.Factors.{content, core, lowered, order, turned_as}
 use Rattle.eps_poly.proofs.Coefficients.{coefficient-past, coefficient-set_same, coefficient-set_other, coefficient-zero, length-zero, length-negate, length-by_powers, coefficient-by_powers}
 
 pub zero_valid : IsPolynomial zero_polynomial
@@ -51,3 +51,11 @@ lowered_valid k by p v =
         | inr h ↦ rw (coefficient-past (by_powers value) i (omega arith)) (lit< tt)
       ];
     }
+
+turned_valid : (s : ℤ) (p : List ℤ) → IsPolynomial p → IsPolynomial (turned_as s p)
+turned_valid (pos n) p v = v
+turned_valid (negsuc n) p v = negate_valid p v
+
+pub core_valid : (p : List ℤ) → IsPolynomial p → IsPolynomial (core p)
+unfolding core
+core_valid p v = lowered_valid (order p) (pos (content p)) (turned_as (lowest p) p) (turned_valid (lowest p) p v)

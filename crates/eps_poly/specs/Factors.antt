@@ -1,10 +1,10 @@
 -- The factors of a polynomial: a polynomial that isn't zero is in one way c * epsilon^k * P, where the coefficients of P have
 -- greatest common divisor 1 and its coefficient of power 0 is above 0.
-use Rattle.std.specs.Prelude.{ℕ, zero, suc, ◌+◌, if◌then◌else◌, ℤ, pos, negsuc, neg_ℤ, unsigned_abs, int_div, List, [], ◌∷◌, Option, Some, None}
+use Rattle.std.specs.Prelude.{◌≡◌, ℕ, zero, suc, ◌+◌, if◌then◌else◌, ℤ, pos, negsuc, neg_ℤ, ◌<ℤ◌, unsigned_abs, int_div, List, [], ◌∷◌, ◌++◌, replicate, Option, Some, None}
 use Rattle.std.specs.List.{list_all}
 use Rattle.field_core.specs.Divisor.{gcd}
 use Rattle.field_core.specs.Kind.{is_zero_integer}
-use Rattle.field_core.specs.Polynomial.{coefficient, lowest, poly_negate}
+use Rattle.field_core.specs.Polynomial.{coefficient, lowest, poly_negate, poly_scale}
 use Rattle.eps_poly.specs.Polynomials.{by_powers}
 
 -- the greatest common divisor of the coefficients, and 0 for the zero polynomial
@@ -38,6 +38,15 @@ turned_as (negsuc c) p = poly_negate p
 -- the polynomial without its first k powers, divided by a whole number above 0
 unfoldable pub lowered : ℕ → ℤ → List ℤ → List ℤ
 lowered k by p = by_powers (λ i. int_div (coefficient p (i + k)) by)
+
+-- c * epsilon^k * P
+unfoldable pub from_factors : ℤ → ℕ → List ℤ → List ℤ
+from_factors c k p = poly_scale c (replicate k (pos 0) ++ p)
+
+-- coefficients with greatest common divisor 1, that of power 0 above 0
+pub record IsCore (p : List ℤ) : Type 0 where
+  pub divisor : content p ≡ 1
+  pub first : pos 0 <ℤ coefficient p 0
 
 -- the polynomial P of c * epsilon^k * P
 unfoldable pub core : List ℤ → List ℤ

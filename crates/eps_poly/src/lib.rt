@@ -3,6 +3,7 @@
 
 mod compare;
 mod factors;
+pub mod laws;
 mod numbers;
 mod poly;
 mod products;
