@@ -1,7 +1,4 @@
 pub mod Coefficients
-pub mod Contents
-pub mod Cores
-pub mod Shifts
 pub mod SizedLists
 pub mod ContentLaws
 pub mod FactorLaws
@@ -12,4 +9,3 @@ pub mod QuotientLaws
 pub mod Signs
 pub mod SumLaws
 pub mod Validity
-pub mod WholeQuotients

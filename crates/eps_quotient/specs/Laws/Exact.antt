@@ -25,6 +25,7 @@ use Rattle.field_core.specs.Terms.{IsReduced}
 use Rattle.field_core.specs.Exact.{IsExact, MayTake, value_of, exact_result}
 use Rattle.eps_poly.specs.Polynomials.{IsPolynomial, zero_polynomial}
 use Rattle.eps_poly.specs.Factors.{content, core}
+use Rattle.eps_poly.proofs.Validity.{negate_valid}
 use Rattle.eps_poly.proofs.SizedLists.{bind_ok}
 use Rattle.eps_poly.proofs.SumLaws.{sum_polynomial, sum_is_exact}
 use Rattle.eps_poly.proofs.ProductLaws.{product_polynomial, product_is_exact}
@@ -35,7 +36,7 @@ use Rattle.eps_quotient.specs.Laws.QuotientLaws.{same_sym, same_nonzero, product
 use Rattle.eps_quotient.specs.Laws.LimitTerms.{first_below, first_above, limit_terms-reduced, limit_terms-value}
 use Rattle.eps_quotient.specs.Laws.LowerLaws.{IsLowered, lower_is, zeros_lowest, others_lowest, same_from, either_branch, one_some, one_held, one_is, one_first, zero_lowest, zero_quotient_is, gcd_one}
 use Rattle.eps_quotient.specs.Laws.Cuts.{one_core}
-use Rattle.eps_quotient.specs.Laws.NormLaws.{IsStoredOf, norm_is, upright, lowest_one, negated_none, negate_held, content-negate, core-negate}
+use Rattle.eps_quotient.specs.Laws.NormLaws.{IsStoredOf, norm_is, upright, lowest_one, negated_none, content-negate, core-negate}
 
 -- ---- tests
 
@@ -134,7 +135,7 @@ one_stored = record {
   positive = ap int_sign lowest_one ∙ positive_in (pos 1) (omega (arith, ints));
   zero_over_one = λ e. refl;
   no_power = λ z. one_first z.1;
-  no_content = gcd_one (content one_polynomial) (content one_polynomial) one_core.content_one;
+  no_content = gcd_one (content one_polynomial) (content one_polynomial) one_core.divisor;
   no_core = λ e. one_is.core_of;
 }
 
@@ -213,7 +214,7 @@ sum_gives op x y f g =
 
 pub opposite_stored : (x : Parts) → IsQuotient x → IsQuotient (opposite x)
 opposite_stored x s = record {
-  above = negate_held x.numerator s.above;
+  above = negate_valid x.numerator s.above;
   below = s.below;
   positive = s.positive;
   zero_over_one = λ z. s.zero_over_one (negated_none _ (sym (lowest-negate x.numerator) ∙ z));

@@ -2,7 +2,7 @@
 use Rattle.std.proofs.Common.{◌≡◌, ℕ, zero, suc, ◌+◌, ◌<◌, min, Bool, true, false, List, [], ◌∷◌, if◌then◌else◌, refl, sym, ◌∙◌, ap, ap₂, subst, arith, lit<, int_div, ◌-◌, ◌*ℤ◌, ◌⊎◌, ℤ, pos, negsuc, inl, inr}
 use Rattle.std.specs.List.{list_all}
 use Rattle.std.specs.Int.{◌∣◌}
-use Rattle.eps_poly.proofs.Cores.{Is}
+use Rattle.eps_quotient.specs.Laws.Cores.{Is}
 use Rattle.std.proofs.Math.Nat.{mul-one, eq_of_mul-eq-mul_left, min-le_left, min-le_right, eq-one_of_dvd-one}
 use Rattle.std.proofs.lemmas.Slice.Eq.{slice_eq-Decides}
 use Rattle.std.proofs.lemmas.Bool.Decides.{Decides-int_eq}
@@ -16,10 +16,12 @@ use Rattle.std.proofs.lemmas.Bool.{cases_lt}
 use Rattle.std.proofs.Math.IntN.{zero-*ℤ}
 use Rattle.field_core.specs.Fractions.{quotient}
 use Rattle.eps_poly.specs.Polynomials.{IsPolynomial, zero_polynomial, monomial}
-use Rattle.eps_poly.specs.Factors.{content, order, factor, core}
-use Rattle.eps_poly.proofs.Contents.{content_some, order_at, some_nonzero}
-use Rattle.eps_poly.proofs.Coefficients.{length-zero, coefficient-zero}
-use Rattle.eps_poly.proofs.Shifts.{term, monomial-at}
+use Rattle.eps_poly.specs.Factors.{content, order, factor, core, from_factors}
+use Rattle.eps_poly.proofs.ContentLaws.{content_some}
+use Rattle.eps_poly.proofs.OrderLaws.{coefficient-order, lowest_from_coefficient}
+use Rattle.eps_poly.proofs.Validity.{zero_valid}
+use Rattle.eps_poly.proofs.Coefficients.{coefficient-zero}
+use Rattle.eps_quotient.specs.Laws.Multiples.{monomial-at}
 use Rattle.eps_quotient.specs.Lowering.{one_polynomial, zero_quotient, common_content, common_order, is_same, without_powers, without_cores, lower}
 use Rattle.eps_quotient.specs.Laws.QuotientLaws.{quotient-cancel, zero_value}
 use Rattle.eps_quotient.specs.Laws.Cuts.{IsCut, cut_powers, cut_core, one_core, monomial_held, monomial_core}
@@ -66,7 +68,7 @@ one_at_least : (i k j m : ℕ) → i ≡ min i k + j → k ≡ min i k + m → (
 one_at_least i k j m e f = elim (cases_lt i k) [ inl h ↦ inl (omega arith) | inr h ↦ inr (omega arith) ]
 
 first_some : (p : List ℤ) → IsNonZero p → order p ≡ 0 → ¬ (coefficient p 0 ≡ pos 0)
-first_some p some e z = some (sym (order_at p) ∙ ap (coefficient p) e ∙ z)
+first_some p some e z = some (sym (coefficient-order p) ∙ ap (coefficient p) e ∙ z)
 
 powers_apart : (a b p q c d : List ℤ) (h : ℕ) → IsCut a p c h (common_order a b) → IsCut b q d h (common_order a b)
     → ¬ ((coefficient p 0 ≡ pos 0) × (coefficient q 0 ≡ pos 0))
@@ -112,7 +114,7 @@ without_cores_is a b ka kb ha hb same =
     let g = gcd_is (content a) (content b) in
     let s = cut_core a (common_content a b) (common_order a b) ka ha g.0 (min-le_left (order a) (order b)) in
     let t = cut_core b (common_content a b) (common_order a b) kb hb g.1 (min-le_right (order a) (order b)) in
-    let s' = subst (λ p. IsCut a (monomial (int_div (factor a) (pos (common_content a b))) (order a - common_order a b)) (term (pos (common_content a b)) (common_order a b) p) (common_content a b) (common_order a b)) same s.cut in
+    let s' = subst (λ p. IsCut a (monomial (int_div (factor a) (pos (common_content a b))) (order a - common_order a b)) (from_factors (pos (common_content a b)) (common_order a b) p) (common_content a b) (common_order a b)) same s.cut in
     lowered_by a b _ _ _ hb (multiplier_some b _ _ t.cut.times hb) s' t.cut (λ e. t.core_of)
 
 pub without_powers_some : (a b : List ℤ) → IsPolynomial b → IsNonZero b → IsNonZero (without_powers a b).denominator
@@ -124,13 +126,10 @@ unfolding without_cores
 without_cores_some a b kb hb = (cut_core b (common_content a b) (common_order a b) kb hb (gcd_is (content a) (content b)).1 (min-le_right (order a) (order b))).cut.some
 
 pub one_some : IsNonZero one_polynomial
-one_some = some_nonzero one_polynomial 0 (λ e. let z = sym (monomial-at (pos 1) 0 (omega arith)) ∙ e in absurd (cc z))
+one_some = lowest_from_coefficient one_polynomial 0 (λ e. let z = sym (monomial-at (pos 1) 0 (omega arith)) ∙ e in absurd (cc z))
 
 pub zero_lowest : lowest zero_polynomial ≡ pos 0
-zero_lowest = sym (order_at zero_polynomial) ∙ coefficient-zero (order zero_polynomial)
-
-zero_held : IsPolynomial zero_polynomial
-zero_held = record { count = length-zero; sizes = λ k. rw (coefficient-zero k) (lit< tt) }
+zero_lowest = sym (coefficient-order zero_polynomial) ∙ coefficient-zero (order zero_polynomial)
 
 pub one_held : IsPolynomial one_polynomial
 one_held = monomial_held (pos 1) 0 (omega arith) (lit< tt)
@@ -147,12 +146,12 @@ gcd_one n m e = eq-one_of_dvd-one (subst (λ k. gcd n m ∣ k) e (gcd_is n m).1)
 pub zero_quotient_is : (a b : List ℤ) → IsNonZero b → lowest a ≡ pos 0 → IsLowered a b zero_quotient
 zero_quotient_is a b hb none = record {
   value = zero_value a b hb none ∙ sym (zero_value zero_polynomial one_polynomial one_some zero_lowest);
-  above = zero_held;
+  above = zero_valid;
   below = one_held;
   some = one_some;
   zero_over_one = λ e. refl;
   no_power = λ z. one_first z.1;
-  no_content = gcd_one (content zero_polynomial) (content one_polynomial) one_core.content_one;
+  no_content = gcd_one (content zero_polynomial) (content one_polynomial) one_core.divisor;
   no_core = λ e. one_is.core_of;
 }
 

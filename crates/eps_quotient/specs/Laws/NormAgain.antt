@@ -1,5 +1,5 @@
 -- The norm of a stored quotient is the quotient itself.
-use Rattle.std.proofs.Common.{◌≡◌, ℕ, ◌+◌, ◌-◌, ◌<◌, ◌≤◌, min, false, List, length, if◌then◌else◌, sym, ◌∙◌, ap, ap₂, arith, ℤ, pos, negsuc, int_div, inl, inr}
+use Rattle.std.proofs.Common.{◌≡◌, ℕ, ◌+◌, ◌-◌, ◌<◌, min, false, List, length, if◌then◌else◌, sym, ◌∙◌, ap, ap₂, arith, ℤ, pos, negsuc, int_div, inl, inr}
 use Rattle.std.specs.List.{list_all}
 use Rattle.std.specs.Int.{is_negative}
 use Rattle.std.specs.declared.cmp.Ordering.TheVariants.{Greater}
@@ -11,12 +11,13 @@ use Rattle.field_core.specs.Laws.Integers.{int_multiply_one}
 use Rattle.field_core.specs.Polynomial.{coefficient, Same, poly_negate, lowest, int_sign, IsNonZero}
 use Rattle.field_core.specs.Laws.PolynomialLaws.{lowest-none}
 use Rattle.eps_poly.specs.Polynomials.{zero_polynomial, monomial}
-use Rattle.eps_poly.specs.Factors.{order, factor, lowered, core}
+use Rattle.eps_poly.specs.Factors.{order, factor, lowered, core, from_factors}
 use Rattle.eps_poly.proofs.Coefficients.{same_polynomials, length-zero, coefficient-zero}
-use Rattle.eps_poly.proofs.Contents.{order_below}
-use Rattle.eps_poly.proofs.Cores.{has_core, length-lowered, coefficient-lowered}
-use Rattle.eps_poly.proofs.Shifts.{term, length-monomial, monomial-term}
-use Rattle.eps_poly.proofs.WholeQuotients.{quotient_times}
+use Rattle.eps_poly.proofs.OrderLaws.{coefficient-below_order}
+use Rattle.eps_poly.proofs.FactorLaws.{coefficient-lowered, core_factors}
+use Rattle.eps_quotient.specs.Laws.Cores.{length-lowered}
+use Rattle.eps_quotient.specs.Laws.Multiples.{length-monomial, monomial-factors}
+use Rattle.eps_poly.proofs.IntegerQuotients.{quotient_times}
 use Rattle.eps_quotient.specs.Lowering.{one_polynomial, zero_quotient, common_order, is_same, without_powers, without_cores, lower, turned, norm}
 use Rattle.eps_quotient.specs.Stored.{IsQuotient}
 use Rattle.eps_quotient.specs.Laws.QuotientLaws.{same_sym, same_trans}
@@ -36,12 +37,12 @@ least_none i k h = elim (cases_lt 0 i) [
 ]
 
 no_order : (x : Parts) → IsQuotient x → common_order x.numerator x.denominator ≡ 0
-no_order x s = least_none (order x.numerator) (order x.denominator) (λ h. s.no_power (order_below x.numerator 0 h.0, order_below x.denominator 0 h.1))
+no_order x s = least_none (order x.numerator) (order x.denominator) (λ h. s.no_power (coefficient-below_order x.numerator 0 h.0, coefficient-below_order x.denominator 0 h.1))
 
 lowered_again : (p : List ℤ) → length p ≡ 33 → lowered 0 (pos 1) p ≡ p
 lowered_again p count =
     same_polynomials (lowered 0 (pos 1) p) p (length-lowered 0 (pos 1) p ∙ sym count)
-    (λ i h. coefficient-lowered 0 (pos 1) p i (omega (arith, length-lowered 0 (pos 1) p)) ∙ by_one (coefficient p (i + 0)) ∙ ap (coefficient p) (plus_zero i))
+    (λ i h. coefficient-lowered 0 (pos 1) p i count ∙ by_one (coefficient p (i + 0)) ∙ ap (coefficient p) (plus_zero i))
   where
     plus_zero : (i : ℕ) → i + 0 ≡ i
     plus_zero i = omega arith
@@ -50,16 +51,13 @@ monomial_again : (p : List ℤ) → length p ≡ 33 → IsNonZero p → core p �
 monomial_again p count some is =
     ap₂ monomial (by_one (factor p)) (minus_zero (order p))
     ∙ same_polynomials (monomial (factor p) (order p)) p (length-monomial (factor p) (order p) ∙ sym count)
-    (λ i h. same_trans _ _ _ (monomial-term (factor p) (order p) (within (order p) (order_within p count some))) (same_sym p _ whole) i)
+    (λ i h. same_trans _ _ _ (monomial-factors (factor p) (order p) (order_within p count some)) (same_sym p _ whole) i)
   where
     minus_zero : (i : ℕ) → i - 0 ≡ i
     minus_zero i = omega arith
 
-    within : (i : ℕ) → i < 33 → i ≤ 32
-    within i h = omega arith
-
-    whole : Same p (term (factor p) (order p) one_polynomial)
-    whole k = (has_core p count some).1 k ∙ ap (λ q. coefficient (term (factor p) (order p) q) k) is
+    whole : Same p (from_factors (factor p) (order p) one_polynomial)
+    whole k = core_factors p count k ∙ ap (λ q. coefficient (from_factors (factor p) (order p) q) k) is
 
 -- ---- the three ways to lower
 

@@ -1,7 +1,7 @@
 -- What the norm of two polynomials gives is stored, and has the value of their quotient.
 use Rattle.std.proofs.lemmas.Int.{ints}
 use Rattle.field_core.specs.Laws.Integers.{integers}
-use Rattle.std.proofs.Common.{◌≡◌, ℕ, zero, suc, ◌+◌, ◌*ℤ◌, true, false, List, [], ◌∷◌, length, refl, sym, ◌∙◌, ap, ap₂, arith, ℤ, pos, negsuc, neg_ℤ, unsigned_abs}
+use Rattle.std.proofs.Common.{◌≡◌, ℕ, zero, suc, ◌+◌, ◌*ℤ◌, true, false, List, length, refl, sym, ◌∙◌, ap, ap₂, arith, ℤ, pos, negsuc, neg_ℤ, unsigned_abs}
 use Rattle.std.specs.Int.{is_negative}
 use Rattle.std.specs.Ordering.{ordering_reverse}
 use Rattle.std.specs.declared.cmp.Ordering.TheVariants.{Less, Greater}
@@ -15,9 +15,12 @@ use Rattle.field_core.specs.Fractions.{quotient}
 use Rattle.field_core.specs.Laws.FractionLaws.{quotient-equal}
 use Rattle.eps_poly.specs.Polynomials.{IsPolynomial}
 use Rattle.eps_poly.specs.Factors.{content, order, factor, core}
-use Rattle.eps_poly.proofs.Contents.{content-sizes, order_at}
-use Rattle.eps_poly.proofs.Cores.{only_core, has_core, factor_some}
-use Rattle.eps_poly.proofs.Shifts.{term-below, term-above, same_term, monomial-at}
+use Rattle.eps_poly.proofs.OrderLaws.{coefficient-order}
+use Rattle.eps_poly.proofs.Validity.{negate_valid}
+use Rattle.eps_poly.proofs.Coefficients.{length-negate}
+use Rattle.eps_poly.proofs.FactorLaws.{coefficient-factors_below, core_is, core_factors}
+use Rattle.eps_quotient.specs.Laws.Cores.{only_core, length-core}
+use Rattle.eps_quotient.specs.Laws.Multiples.{factors-at, same_factors, monomial-at, content-sizes}
 use Rattle.eps_quotient.specs.Lowering.{one_polynomial, lower, turned, norm}
 use Rattle.eps_quotient.specs.Stored.{IsQuotient}
 use Rattle.eps_quotient.specs.Laws.LowerLaws.{IsLowered, lower_is, either_branch, one_is}
@@ -34,16 +37,8 @@ size-negate (pos zero) = refl
 size-negate (pos (suc n)) = refl
 size-negate (negsuc n) = refl
 
-length-negate : (p : List ℤ) → length (poly_negate p) ≡ length p
-unfolding poly_negate
-length-negate [] = refl
-length-negate (c ∷ p) = ap suc (length-negate p)
-
 size-coefficient : (p : List ℤ) (k : ℕ) → unsigned_abs (coefficient (poly_negate p) k) ≡ unsigned_abs (coefficient p k)
 size-coefficient p k = ap unsigned_abs (coefficient-negate p k) ∙ size-negate (coefficient p k)
-
-pub negate_held : (p : List ℤ) → IsPolynomial p → IsPolynomial (poly_negate p)
-negate_held p held = record { count = length-negate p ∙ held.count; sizes = λ k. rw (size-coefficient p k) (held.sizes k) }
 
 pub negate_some : (p : List ℤ) → IsNonZero p → IsNonZero (poly_negate p)
 negate_some p some e = some (negated_none (lowest p) (sym (lowest-negate p) ∙ e))
@@ -57,11 +52,11 @@ negated_product c x = sym (negate_multiply integers c x)
 
 pub core-negate : (p : List ℤ) → length p ≡ 33 → IsNonZero p → core (poly_negate p) ≡ core p
 core-negate p count some =
-    let c = has_core p count some in
-    (only_core (poly_negate p) (core p) (neg_ℤ (factor p)) (order p) (λ e. factor_some p some (negated_none (factor p) e)) c.0
-    (same_term (poly_negate p) (core p) (neg_ℤ (factor p)) (order p)
-    (λ j h. coefficient-negate p j ∙ ap neg_ℤ (c.1 j ∙ term-below (factor p) (order p) (core p) j h))
-    (λ j. coefficient-negate p (j + order p) ∙ ap neg_ℤ (c.1 (j + order p) ∙ term-above (factor p) (order p) (core p) j) ∙ negated_product (factor p) (coefficient (core p) j)))).core_of
+    let whole = core_factors p count in
+    (only_core (poly_negate p) (core p) (neg_ℤ (factor p)) (order p) (length-negate p ∙ count) (negate_some p some) (length-core p) (core_is p count some)
+    (same_factors (poly_negate p) (core p) (neg_ℤ (factor p)) (order p)
+    (λ j h. coefficient-negate p j ∙ ap neg_ℤ (whole j ∙ coefficient-factors_below (factor p) (order p) j (core p) h))
+    (λ j. coefficient-negate p (j + order p) ∙ ap neg_ℤ (whole (j + order p) ∙ factors-at (factor p) (order p) (core p) j) ∙ negated_product (factor p) (coefficient (core p) j)))).core_of
 
 -- both negated
 pub quotient-negated : (n d : List ℤ) → IsNonZero d → quotient (poly_negate n) (poly_negate d) ≡ quotient n d
@@ -105,7 +100,7 @@ upright a b x s e = record {
 }
 
 pub lowest_one : lowest one_polynomial ≡ pos 1
-lowest_one = sym (order_at one_polynomial) ∙ ap (coefficient one_polynomial) one_is.order_of ∙ monomial-at (pos 1) 0 (omega arith)
+lowest_one = sym (coefficient-order one_polynomial) ∙ ap (coefficient one_polynomial) one_is.order_of ∙ monomial-at (pos 1) 0 (omega arith)
 
 -- a denominator with a negative lowest coefficient isn't 1, so the numerator isn't 0
 negative_some : (a b : List ℤ) (x : Parts) → IsLowered a b x → is_negative (lowest x.denominator) ≡ true → IsNonZero x.numerator
@@ -118,8 +113,8 @@ negated : (a b : List ℤ) (x : Parts) → IsLowered a b x → is_negative (lowe
 unfolding value_of
 negated a b x s e = record {
   stored = record {
-    above = negate_held x.numerator s.above;
-    below = negate_held x.denominator s.below;
+    above = negate_valid x.numerator s.above;
+    below = negate_valid x.denominator s.below;
     positive = ap int_sign (lowest-negate x.denominator) ∙ int_sign-negate (lowest x.denominator) ∙ ap ordering_reverse (negative_sign (lowest x.denominator) e);
     zero_over_one = λ z. absurd (negative_some a b x s e (negated_none _ (sym (lowest-negate x.numerator) ∙ z)));
     no_power = λ z. s.no_power (negated_none _ (sym (coefficient-negate x.numerator 0) ∙ z.0), negated_none _ (sym (coefficient-negate x.denominator 0) ∙ z.1));
