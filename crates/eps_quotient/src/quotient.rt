@@ -18,12 +18,14 @@ pub struct EpsQuotient {
 }
 
 impl EpsQuotient {
-    ghost use Rattle.std.specs.Prelude.{◌≡◌, ◌↔◌, IfSome, IfNone, pos};
-    ghost use Rattle.field_core.specs.Kind.{Parts};
+    ghost use Rattle.std.specs.Prelude.{◌≡◌, ◌≤◌, ◌↔◌, IfSome, IfOk, map, pos};
+    ghost use Rattle.field_core.specs.Kind.{ok_map};
     ghost use Rattle.field_core.specs.Polynomial.{lowest, IsNonZero};
     ghost use Rattle.field_core.specs.Fractions.{quotient as quotient_of};
     ghost use Rattle.eps_poly.specs.View.{coefficients};
+    ghost use Rattle.field_core.specs.View.{terms};
     ghost use Rattle.eps_quotient.specs.Lowering.{norm};
+    ghost use Rattle.eps_quotient.specs.Polynomials.{polynomial_value, term, written_polynomial};
     ghost use Rattle.eps_quotient.specs.Stored.{IsQuotient};
     ghost use Rattle.eps_quotient.specs.View.{pair_parts, quotient_parts, number_of};
 
@@ -51,6 +53,30 @@ impl EpsQuotient {
         ensures { coefficients result ≡ (quotient_parts self.now).denominator }
     {
         self.denominator
+    }
+
+    /// The quotient whose value is the polynomial with these coefficients of ascending power: the written sum of its terms,
+    /// or `TooWide` with `Op::Add` exactly where that sum has a part past its size.
+    pub fn from_parts(parts: &[Ratio; 5]) -> Result<EpsQuotient, TooWide>
+        ensures written { ok_map quotient_parts result ≡ written_polynomial (map terms parts.now) }
+        ensures value { IfOk result (λ x. number_of x ≡ polynomial_value (map terms parts.now)) }
+    {
+        let mut sum = EpsQuotient::zero();
+        for power in 0..5 {
+            sum = sum.add(&EpsQuotient::term(&parts[power], power))?;
+        }
+        Ok(sum)
+    }
+
+    /// A fraction times a power of epsilon.
+    fn term(part: &Ratio, power: usize) -> EpsQuotient
+        requires { power ≤ 32 }
+        ensures { quotient_parts result ≡ term power (terms part.now) }
+    {
+        EpsQuotient::stored(&Pair {
+            numerator: EpsPoly::monomial(part.whole_num(), power),
+            denominator: EpsPoly::monomial(part.whole_den(), 0),
+        })
     }
 
     /// A pair that is stored.

@@ -78,7 +78,7 @@ pub monomial_held : (c : ℤ) (k : ℕ) → k ≤ 32 → unsigned_abs c < 2 ^ 12
 unfolding monomial
 monomial_held c k low small = set_valid zero_polynomial k c zero_valid low small
 
-monomial_some : (c : ℤ) (k : ℕ) → k ≤ 32 → ¬ (c ≡ pos 0) → IsNonZero (monomial c k)
+pub monomial_some : (c : ℤ) (k : ℕ) → k ≤ 32 → ¬ (c ≡ pos 0) → IsNonZero (monomial c k)
 monomial_some c k low some = lowest_from_coefficient (monomial c k) k (λ e. some (sym (monomial-at c k low) ∙ e))
 
 -- what is left has the core 1

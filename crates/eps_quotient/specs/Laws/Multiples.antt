@@ -62,7 +62,7 @@ factors-same c k p q s =
 
 -- ---- products
 
-front-same : (p q : List ℤ) → Same p q → Same (pos 0 ∷ p) (pos 0 ∷ q)
+pub front-same : (p q : List ℤ) → Same p q → Same (pos 0 ∷ p) (pos 0 ∷ q)
 unfolding coefficient
 front-same p q s zero = refl
 front-same p q s (suc k) = s k
@@ -114,7 +114,7 @@ monomial-other c k j apart = coefficient-set_other zero_polynomial k j c apart �
 zero_plus : (k : ℕ) → 0 + k ≡ k
 zero_plus k = omega arith
 
-one_same : Same one_polynomial (pos 1 ∷ [])
+pub one_same : Same one_polynomial (pos 1 ∷ [])
 unfolding coefficient
 one_same zero = monomial-at (pos 1) 0 (omega arith)
 one_same (suc k) = monomial-other (pos 1) 0 (suc k) (λ e. omega arith)
@@ -146,7 +146,7 @@ content-sizes p q s =
 pub content-same : (p q : List ℤ) → Same p q → content p ≡ content q
 content-same p q s = content-sizes p q (λ k. ap unsigned_abs (s k))
 
-gcd_nothing : (n : ℕ) → gcd 0 n ≡ n
+pub gcd_nothing : (n : ℕ) → gcd 0 n ≡ n
 gcd_nothing n = sym (gcd_same 0 n n (dvd-zero n, dvd_refl n, λ d h k. k))
 
 content-raised : (k : ℕ) (p : List ℤ) → content (replicate k (pos 0) ++ p) ≡ content p
