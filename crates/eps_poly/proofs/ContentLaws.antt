@@ -9,7 +9,7 @@ use Rattle.std.proofs.Math.Nat.{pos_of_dvd_of_pos, eq-zero_of_zero-dvd}
 use Rattle.field_core.specs.Divisor.{gcd}
 use Rattle.field_core.specs.Polynomial.{coefficient, lowest, IsNonZero}
 use Rattle.field_core.proofs.Divisors.{gcd_is}
-use Rattle.field_core.specs.Laws.PolynomialLaws.{lowest-none}
+use Rattle.field_core.specs.Laws.PolynomialLaws.{lowest-none, coefficient-index}
 use Rattle.eps_poly.specs.Factors.{content, order}
 use Rattle.eps_poly.proofs.Coefficients.{coefficient-past}
 use Rattle.eps_poly.proofs.IntegerQuotients.{size_some}
@@ -39,7 +39,7 @@ pub content_small : (p : List ℤ) → ((k : ℕ) → unsigned_abs (coefficient 
 content_small p small = elim (ℤ_discrete (lowest p) (pos 0)) [
   | yes none ↦ rw (content_none p none) (lit< tt)
   | no some ↦ let here = small (order p) in
-    let least = le_of_dvd (rw (coefficient-order p) (size_some (lowest p) some)) (content_divides p (order p)) in omega arith
+      let least = le_of_dvd (rw (coefficient-order p) (size_some (lowest p) some)) (content_divides p (order p)) in omega arith
 ]
 
 -- a loop that takes in the coefficients of descending powers
@@ -47,8 +47,9 @@ pub content_end : (p : List ℤ) → length p ≡ 33 → 0 ≡ content (drop 33 
 unfolding content
 content_end p long = rw (drop_all 33 p (omega arith)) refl
 
-pub content_more : (p : List ℤ) (n : ℕ) (x : ℤ) (size divisor result : ℕ) → 0 < n → n ≤ length p → divisor ≡ content (drop n p) → size ≡ unsigned_abs (get_or p (n - 1) x) → result ≡ gcd size divisor → result ≡ content (drop (n - 1) p)
+pub content_more : (p : List ℤ) (n : ℕ) (size divisor result : ℕ) → 0 < n → n ≤ length p → divisor ≡ content (drop n p) → size ≡ unsigned_abs (coefficient p (n - 1)) → result ≡ gcd size divisor → result ≡ content (drop (n - 1) p)
 unfolding content
-content_more p n x size divisor result some within d e f =
+content_more p n size divisor result some within d e f =
     let next : (n - 1) + 1 ≡ n = omega arith in
-    f ∙ rw (e, d) (sym (ap content (drop_more p (n - 1) x (omega arith) ∙ ap (λ m. get_or p (n - 1) x ∷ drop m p) next)))
+    let read = coefficient-index p (n - 1) (pos 0) (omega arith) in
+    f ∙ rw (e, d, read) (sym (ap content (drop_more p (n - 1) (pos 0) (omega arith) ∙ ap (λ m. get_or p (n - 1) (pos 0) ∷ drop m p) next)))

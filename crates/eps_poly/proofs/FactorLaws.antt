@@ -59,10 +59,10 @@ pub lowered_factors : (k h : ℕ) (p : List ℤ) → length p ≡ 33 → h ∣ c
 lowered_factors k h p long divides within i = elim (cases_lt i k) [
   | inl l ↦ coefficient-below_order p i (omega arith) ∙ sym (coefficient-factors_below (pos h) k i (lowered k (pos h) p) l)
   | inr l ↦ let back : (i - k) + k ≡ i = omega arith in
-    sym (coefficient-factors (pos h) k (i - k) i (lowered k (pos h) p) (sym back)
-    ∙ ap (λ x. pos h *ℤ x) (coefficient-lowered k (pos h) p (i - k) long ∙ ap (λ m. int_div (coefficient p m) (pos h)) back)
-    ∙ *ℤ_comm (pos h) (int_div (coefficient p i) (pos h))
-    ∙ quotient_times (coefficient p i) h (dvd_trans h divides (content_divides p i)))
+      sym (coefficient-factors (pos h) k (i - k) i (lowered k (pos h) p) (sym back)
+      ∙ ap (λ x. pos h *ℤ x) (coefficient-lowered k (pos h) p (i - k) long ∙ ap (λ m. int_div (coefficient p m) (pos h)) back)
+      ∙ *ℤ_comm (pos h) (int_div (coefficient p i) (pos h))
+      ∙ quotient_times (coefficient p i) h (dvd_trans h divides (content_divides p i)))
 ]
 
 -- ---- the core
@@ -105,8 +105,8 @@ signed_factors (negsuc n) p long i =
     elim (cases_lt i k) [
       | inl l ↦ coefficient-below_order p i l ∙ sym (coefficient-factors_below (neg_ℤ g) k i q l)
       | inr l ↦ let back : (i - k) + k ≡ i = omega arith in
-        sym (coefficient-factors (neg_ℤ g) k (i - k) i q (sym back)
-        ∙ opposite_times g (coefficient q (i - k)) (coefficient p i) (core_times (negsuc n) p (i - k) long ∙ coefficient-negate p ((i - k) + k) ∙ ap (λ m. neg_ℤ (coefficient p m)) back))
+          sym (coefficient-factors (neg_ℤ g) k (i - k) i q (sym back)
+          ∙ opposite_times g (coefficient q (i - k)) (coefficient p i) (core_times (negsuc n) p (i - k) long ∙ coefficient-negate p ((i - k) + k) ∙ ap (λ m. neg_ℤ (coefficient p m)) back))
     ]
 
 -- a polynomial is the product of its factors
@@ -133,10 +133,10 @@ core_divisor s p long some =
     let each : (i : ℕ) → d * g ∣ unsigned_abs (coefficient p i) = λ i. elim (cases_lt i (order p)) [
       | inl l ↦ rw (coefficient-below_order p i l) (dvd-zero (d * g))
       | inr l ↦ let back : (i - order p) + order p ≡ i = omega arith in
-        let size : unsigned_abs (coefficient q (i - order p)) * g ≡ unsigned_abs (coefficient p i) =
-        sym (unsigned_abs-mul (coefficient q (i - order p)) (pos g)) ∙ ap unsigned_abs (core_times s p (i - order p) long)
-        ∙ turned_size s p ((i - order p) + order p) ∙ ap (λ m. unsigned_abs (coefficient p m)) back in
-        subst (λ n. d * g ∣ n) size (mul-dvd-mul_right d (content_divides q (i - order p)) g)
+          let size : unsigned_abs (coefficient q (i - order p)) * g ≡ unsigned_abs (coefficient p i) =
+          sym (unsigned_abs-mul (coefficient q (i - order p)) (pos g)) ∙ ap unsigned_abs (core_times s p (i - order p) long)
+          ∙ turned_size s p ((i - order p) + order p) ∙ ap (λ m. unsigned_abs (coefficient p m)) back in
+          subst (λ n. d * g ∣ n) size (mul-dvd-mul_right d (content_divides q (i - order p)) g)
     ] in
     let all : d * g ∣ 1 * g = subst (λ n. d * g ∣ n) (sym (one-mul g)) (content_greatest p (d * g) each) in
     eq-one_of_dvd-one (dvd_of_mul-dvd-mul_right d (content_some p some) all)

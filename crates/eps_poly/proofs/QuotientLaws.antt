@@ -1,5 +1,7 @@
 -- How the coefficients of an exact quotient follow from one another.
-use Rattle.std.proofs.Common.{◌≡◌, ◌≢◌, ℕ, zero, suc, ◌+◌, ◌-◌, ◌<◌, ◌≤◌, List, length, refl, sym, ◌∙◌, ap, ap₂, arith, ℤ, pos, ◌+ℤ◌, ◌*ℤ◌, neg_ℤ, inl, inr, ◌⊎◌, Result, Ok, Err, Some, unsigned_abs, ◌^◌, lit<}
+use Rattle.std.proofs.Common.{◌≡◌, ◌≢◌, ℕ, zero, suc, ◌+◌, ◌-◌, ◌<◌, ◌≤◌, List, length, refl, sym, ◌∙◌, ap, ap₂, arith, ℤ, pos, ◌+ℤ◌, ◌*ℤ◌, neg_ℤ, inl, inr, ◌⊎◌, Result, Ok, Err, Some, None}
+use Rattle.std.specs.Result.{result_ok}
+use Rattle.field_core.specs.Kind.{ok_map}
 use Rattle.std.proofs.lemmas.Bool.{cases_eq, cases_lt}
 use Rattle.std.proofs.lemmas.Int.{ints}
 use Rattle.field_core.specs.Polynomial.{coefficient, lowest, Same, IsNonZero}
@@ -11,6 +13,7 @@ use Rattle.eps_poly.specs.Factors.{order}
 use Rattle.eps_poly.specs.Polynomials.{IsPolynomial}
 use Rattle.eps_poly.specs.Written.{written_coefficient, degree, sized_product}
 use Rattle.eps_poly.proofs.Coefficients.{Filled}
+use Rattle.eps_poly.proofs.SizedLists.{ok_inside}
 use Rattle.eps_poly.proofs.SumLaws.{sized_inside}
 use Rattle.eps_poly.proofs.OrderLaws.{coefficient-below_order, coefficient-order}
 use Rattle.eps_poly.proofs.ProductLaws.{coefficient-above_degree, degree_at_least, coefficient_step, coefficient_is, coefficient_refused, coefficient-same, product_written}
@@ -88,18 +91,17 @@ quotient_known op p by q r n low e is_low some enough front rest k =
     ]
 
 -- c is the coefficient of power k of each q whose written product with by is p
-pub record IsNextCoefficient (op : Op) (p by : List ℤ) (k : ℕ) (c : ℤ) : Type 0 where
-  pub size : unsigned_abs c < 2 ^ 127
-  pub value : (q : List ℤ) → sized_product op q by ≡ Ok p → c ≡ coefficient q k
-
-pub found_valid : (op : Op) (p by r : List ℤ) (n : ℕ) → Filled (IsNextCoefficient op p by) r n → IsPolynomial r
-found_valid op p by r n f = record {
-  count = f.count;
-  sizes = λ k. elim (cases_lt k n) [
-    | inl l ↦ (f.front k l).size
-    | inr l ↦ rw (f.rest k l) (lit< tt)
-  ];
-}
+abbrev pub IsNextCoefficient : Op → List ℤ → List ℤ → ℕ → ℤ → Type 0
+IsNextCoefficient op p by k c = (q : List ℤ) → sized_product op q by ≡ Ok p → c ≡ coefficient q k
 
 pub some_inside : {A : Type 0} (a b : A) → Some a ≡ Some b → a ≡ b
 some_inside a b e = cc
+
+-- a result that is Ok, seen through a function
+pub ok_not_none : {A B : Type 0} (f : A → B) (r : Result A TooWide) (b : B) → ok_map f r ≡ Ok b → result_ok r ≡ None → ⊥
+ok_not_none f (Ok a) b e none = cc
+ok_not_none f (Err d) b e none = cc
+
+pub ok_value : {A B : Type 0} (f : A → B) (r : Result A TooWide) (a : A) (b : B) → ok_map f r ≡ Ok b → result_ok r ≡ Some a → f a ≡ b
+ok_value f (Ok x) a b e some = ap f (sym (some_inside x a some)) ∙ ok_inside (Ok (f x)) (f x) b refl e
+ok_value f (Err d) a b e some = cc

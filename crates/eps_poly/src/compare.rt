@@ -1,17 +1,21 @@
 //! Equality.
-ghost use Rattle.std.specs.Prelude.{◌≡◌, ◌↔◌, IsTrue};
 
+use crate::EpsPoly;
 use crate::numbers::is_equal;
-use field_core::Whole;
 
-/// Whether all coefficients are the same.
-pub fn are_same(p: &[Whole; 33], q: &[Whole; 33]) -> bool
-    ensures { IsTrue result ↔ (p.now ≡ q.now) }
-{
-    for power in 0..33 {
-        if !is_equal(p[power], q[power]) {
-            return false;
+impl EpsPoly {
+    ghost use Rattle.std.specs.Prelude.{◌≡◌, ◌↔◌, IsTrue};
+    ghost use Rattle.eps_poly.specs.View.{coefficients};
+
+    /// Whether all coefficients are those of the other.
+    pub fn is_same(&self, other: &EpsPoly) -> bool
+        ensures { IsTrue result ↔ (coefficients self.now ≡ coefficients other.now) }
+    {
+        for power in 0..33 {
+            if !is_equal(self.whole(power), other.whole(power)) {
+                return false;
+            }
         }
+        true
     }
-    true
 }

@@ -1,5 +1,5 @@
 //! Whole numbers.
-ghost use Rattle.std.specs.Prelude.{◌≡◌, ◌≢◌, ◌<◌, ◌^◌, ◌↔◌, ◌*ℤ◌, ◌<ℤ◌, ℤ, pos, unsigned_abs, IfSome, IsTrue};
+ghost use Rattle.std.specs.Prelude.{◌≡◌, ◌≢◌, ◌↔◌, ◌*ℤ◌, ◌<ℤ◌, ℤ, pos, unsigned_abs, IsTrue};
 ghost use Rattle.field_core.specs.Kind.{is_zero_integer};
 ghost use Rattle.field_core.specs.Sized.{sized};
 ghost use Rattle.field_core.specs.declared.place.Op.TheVariants.{Add};
@@ -44,8 +44,7 @@ pub fn size(c: Whole) -> u128
 /// The number that times `by` is `product`, where there is one.
 pub fn divided(product: Whole, by: Whole) -> Option<Whole>
     requires { by ≢ pos 0 }
-    ensures value { (x : ℤ) → x *ℤ by ≡ product → result ≡ Some x }
-    ensures size { IfSome result (λ x. unsigned_abs x < 2 ^ 127) }
+    ensures { (x : ℤ) → x *ℤ by ≡ product → result ≡ Some x }
 {
     let over = product.value();
     let under = by.value();

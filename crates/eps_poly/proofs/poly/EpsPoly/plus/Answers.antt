@@ -1,9 +1,35 @@
-use Rattle.std.proofs.Common.{◌∙◌, sym}
-use Rattle.eps_poly.proofs.SumLaws.{sum_polynomial, sum_is_exact}
+use Rattle.std.proofs.Common.{◌≡◌, sym, ◌∙◌, ap, ap₂, ◌+ℤ◌, Ok, Err}
+use Rattle.std.proofs.lemmas.Result.{err_from_is_err_and}
+use Rattle.field_core.specs.Kind.{ok_map}
+use Rattle.field_core.specs.Sized.{sized}
+use Rattle.eps_poly.specs.View.{coefficients}
+use Rattle.eps_poly.specs.Written.{sized_sum}
+use Rattle.eps_poly.proofs.Coefficients.{filled_none, filled_more}
+use Rattle.eps_poly.proofs.SizedLists.{list_from_filled, list_from_refused}
+use Rattle.eps_poly.proofs.SumLaws.{sum_is_exact}
 use Rattle.eps_poly.proofs.poly.EpsPoly.plus.Goals as goal
 
-pub invariant_of-result : goal.invariant_of-result
-invariant_of-result c = record { valid = sum_polynomial c.args.op c.args.self.now.entries c.args.other.now.entries _ (sym c.sums.ensures ∙ c.in_ok-entries.was) }
+pub loop-power-init : goal.loop-power-init
+loop-power-init c = filled_none _ _ c.zero-sum.ensures
+
+pub loop-power-preserved : goal.loop-power-preserved
+loop-power-preserved c =
+    let read = ap₂ (λ a b. sized c.args.op (a +ℤ b)) (sym c.whole-left.ensures) (sym c.whole-right.ensures) ∙ sym c.plus.ensures in
+    rw c.put.ensures (filled_more _ _ _ _ c.loop-power-test.true c.loop-power.invariant (read ∙ c.in_ok-plus.was))
+
+pub returns-in_err-plus-clause-written : goal.returns-in_err-plus-clause-written
+unfolding sized_sum
+returns-in_err-plus-clause-written c =
+    let read = ap₂ (λ a b. sized c.args.op (a +ℤ b)) (sym c.whole-left.ensures) (sym c.whole-right.ensures) ∙ sym c.plus.ensures in
+    let returned = err_from_is_err_and c.from_residual.result c.from_residual.ensures.1 in
+    rw (returned.1, returned.2) (sym (list_from_refused _ _ _ _ c.loop-power-test.true c.loop-power.invariant (read ∙ c.in_err-plus.was)))
+
+pub returns-clause-written : goal.returns-clause-written
+unfolding sized_sum
+returns-clause-written c = sym (list_from_filled _ _ _ c.loop-power-test.false c.loop-power.invariant)
 
 pub returns-clause-exact : goal.returns-clause-exact
-returns-clause-exact c = sum_is_exact c.args.op c.args.self.now.entries c.args.other.now.entries _ c.args.self.now.valid.count c.args.other.now.valid.count (sym c.sums.ensures ∙ c.in_ok-entries.was)
+unfolding sized_sum
+returns-clause-exact c =
+    sum_is_exact c.args.op (coefficients c.args.self.now) (coefficients c.args.other.now) (coefficients c.loop-power.sum) c.args.self.now.valid.count c.args.other.now.valid.count
+    (list_from_filled _ _ _ c.loop-power-test.false c.loop-power.invariant)

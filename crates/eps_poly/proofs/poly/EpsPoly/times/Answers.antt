@@ -1,9 +1,42 @@
-use Rattle.std.proofs.Common.{◌∙◌, sym}
-use Rattle.eps_poly.proofs.ProductLaws.{product_polynomial, product_is_exact}
+use Rattle.std.proofs.Common.{◌≡◌, ◌<◌, ◌≤◌, ◌+◌, ◌∙◌, sym, arith, Ok}
+use Rattle.std.proofs.lemmas.Result.{err_from_is_err_and}
+use Rattle.eps_poly.specs.View.{coefficients}
+use Rattle.eps_poly.specs.Written.{degree, sized_product}
+use Rattle.eps_poly.proofs.Coefficients.{filled_none, filled_more}
+use Rattle.eps_poly.proofs.SizedLists.{list_from_filled, list_from_refused}
+use Rattle.eps_poly.proofs.ProductLaws.{product_from_list, product_past, product_is_exact}
 use Rattle.eps_poly.proofs.poly.EpsPoly.times.Goals as goal
 
-pub invariant_of-result : goal.invariant_of-result
-invariant_of-result c = record { valid = product_polynomial c.args.op c.args.self.now.entries c.args.other.now.entries _ (sym c.products.ensures ∙ c.in_ok-entries.was) }
+pub returns-then-degree-gt32-clause-written : goal.returns-then-degree-gt32-clause-written
+returns-then-degree-gt32-clause-written c = sym (product_past c.args.op (coefficients c.args.self.now) (coefficients c.args.other.now) (omega arith))
+
+pub loop-power-init : goal.loop-power-init
+loop-power-init c = filled_none _ _ c.zero-product.ensures
+
+pub loop-power-preserved : goal.loop-power-preserved
+loop-power-preserved c =
+    rw c.put.ensures (filled_more _ _ _ _ c.loop-power-test.true c.loop-power.invariant (sym c.part_of_product.ensures ∙ c.in_ok-part_of_product.was))
+
+pub returns-in_err-part_of_product-clause-written : goal.returns-in_err-part_of_product-clause-written
+returns-in_err-part_of_product-clause-written c =
+    let p = coefficients c.args.self.now in
+    let q = coefficients c.args.other.now in
+    let within : degree p + degree q ≤ 32 = omega arith in
+    let returned = err_from_is_err_and c.from_residual.result c.from_residual.ensures.1 in
+    rw (returned.1, returned.2) (sym (product_from_list c.args.op p q within
+    ∙ list_from_refused _ _ _ _ c.loop-power-test.true c.loop-power.invariant (sym c.part_of_product.ensures ∙ c.in_err-part_of_product.was)))
+
+pub returns-clause-written : goal.returns-clause-written
+returns-clause-written c =
+    let p = coefficients c.args.self.now in
+    let q = coefficients c.args.other.now in
+    let within : degree p + degree q ≤ 32 = omega arith in
+    sym (product_from_list c.args.op p q within ∙ list_from_filled _ _ _ c.loop-power-test.false c.loop-power.invariant)
 
 pub returns-clause-exact : goal.returns-clause-exact
-returns-clause-exact c = product_is_exact c.args.op c.args.self.now.entries c.args.other.now.entries _ (sym c.products.ensures ∙ c.in_ok-entries.was)
+returns-clause-exact c =
+    let p = coefficients c.args.self.now in
+    let q = coefficients c.args.other.now in
+    let within : degree p + degree q ≤ 32 = omega arith in
+    product_is_exact c.args.op p q (coefficients c.loop-power.product)
+    (product_from_list c.args.op p q within ∙ list_from_filled _ _ _ c.loop-power-test.false c.loop-power.invariant)

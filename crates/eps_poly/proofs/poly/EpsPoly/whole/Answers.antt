@@ -1,6 +1,21 @@
-use Rattle.std.proofs.Common.{◌<◌, length, sym, arith}
+use Rattle.std.proofs.Common.{◌≡◌, ◌<◌, ◌≤◌, ◌^◌, ◌∙◌, sym, arith, FitsSigned, List, length, get_or, unsigned_abs, ℕ, ℤ, pos, to_z, of_z}
+use Rattle.std.specs.Int.{w128}
+use Rattle.std.proofs.lemmas.Int.{to_z-of_z}
 use Rattle.field_core.specs.Laws.PolynomialLaws.{coefficient-index}
+use Rattle.field_core.proofs.Sized.{fits_from_small}
+use Rattle.eps_poly.specs.Polynomials.{IsPolynomial}
 use Rattle.eps_poly.proofs.poly.EpsPoly.whole.Goals as goal
 
+entry_small : (p : List ℤ) (k : ℕ) → IsPolynomial p → k ≤ 32 → unsigned_abs (get_or p k (pos 0)) < 2 ^ 127
+entry_small p k valid h = let count = valid.count in rw (← coefficient-index p k (pos 0) (omega arith)) (valid.sizes k)
+
+pub new-requires : goal.new-requires
+new-requires c =
+    let small = entry_small c.args.self.now.entries c.args.power c.args.self.now.valid c.requires in
+    rw (to_z-of_z w128 (get_or c.args.self.now.entries c.args.power (pos 0)) (fits_from_small _ small)) small
+
 pub returns : goal.returns
-returns c = sym (coefficient-index c.args.self.now.entries c.args.power c.index-self-power.result (omega (arith, c.args.self.now.valid.count, c.requires)))
+returns c =
+    let small = entry_small c.args.self.now.entries c.args.power c.args.self.now.valid c.requires in
+    c.new.ensures ∙ to_z-of_z w128 (get_or c.args.self.now.entries c.args.power (pos 0)) (fits_from_small _ small)
+    ∙ sym (coefficient-index c.args.self.now.entries c.args.power (pos 0) (omega (arith, c.requires, c.args.self.now.valid.count)))

@@ -1,5 +1,12 @@
+use Rattle.std.proofs.Common.{refl}
+use Rattle.eps_poly.specs.Polynomials.{zero_polynomial}
 use Rattle.eps_poly.proofs.Validity.{zero_valid}
 use Rattle.eps_poly.proofs.poly.EpsPoly.zero.Goals as goal
 
 pub invariant_of-result : goal.invariant_of-result
-invariant_of-result c = record { valid = rw c.zeros.ensures zero_valid }
+unfolding zero_polynomial
+invariant_of-result c = record { valid = zero_valid }
+
+pub returns : goal.returns
+unfolding zero_polynomial
+returns c = refl

@@ -1,19 +1,19 @@
-use Rattle.std.proofs.Common.{◌≡◌, ◌≢◌, ◌<◌, ◌≤◌, ◌-◌, ℕ, pos, length, arith, inl, inr}
+use Rattle.std.proofs.Common.{◌≡◌, ◌≢◌, ◌<◌, ◌≤◌, ◌-◌, ◌∙◌, sym, ℕ, pos, length, arith, inl, inr}
 use Rattle.std.proofs.lemmas.Bool.{cases_eq}
 use Rattle.field_core.specs.Polynomial.{coefficient}
+use Rattle.eps_poly.specs.View.{coefficients}
 use Rattle.eps_poly.specs.Written.{degree}
-use Rattle.eps_poly.proofs.Coefficients.{coefficient-past, read_zero, read_some}
+use Rattle.eps_poly.proofs.Coefficients.{coefficient-past, is_zero_true, is_zero_false}
 use Rattle.eps_poly.proofs.ProductLaws.{degree_at_least, degree_at_most}
-use Rattle.eps_poly.proofs.products.degree.Goals as goal
+use Rattle.eps_poly.proofs.poly.EpsPoly.degree.Goals as goal
 
 pub loop-power-init : goal.loop-power-init
-loop-power-init c k h = coefficient-past c.args.p.now k (omega (arith, c.told-p))
+loop-power-init c k h = coefficient-past (coefficients c.args.self.now) k (omega (arith, c.args.self.now.valid.count))
 
 pub loop-power-preserved : goal.loop-power-preserved
 loop-power-preserved c k h =
-    let p = c.args.p.now in
     let some = c.loop-power-test.true in
-    let here : coefficient p (c.loop-power.power - 1) ≡ pos 0 = read_zero p (c.loop-power.power - 1) c.index-p-power.result c.is_zero.result (omega (arith, c.told-p, c.loop-power.auto.power)) c.is_zero.ensures c.if-not-is_zero.false in
+    let here : coefficient (coefficients c.args.self.now) (c.loop-power.power - 1) ≡ pos 0 = sym c.whole.ensures ∙ is_zero_true c.whole.result (sym c.is_zero.ensures ∙ c.if-not-is_zero.false) in
     elim (cases_eq k (c.loop-power.power - 1)) [
       | inl e ↦ rw e here
       | inr apart ↦ c.loop-power.invariant k (omega arith)
@@ -21,9 +21,9 @@ loop-power-preserved c k h =
 
 pub returns-then-not-is_zero-clause-value : goal.returns-then-not-is_zero-clause-value
 returns-then-not-is_zero-clause-value c =
-    let p = c.args.p.now in
+    let p = coefficients c.args.self.now in
     let some = c.loop-power-test.true in
-    let here : coefficient p (c.loop-power.power - 1) ≢ pos 0 = read_some p (c.loop-power.power - 1) c.index-p-power.result c.is_zero.result (omega (arith, c.told-p, c.loop-power.auto.power)) c.is_zero.ensures c.if-not-is_zero.true in
+    let here : coefficient p (c.loop-power.power - 1) ≢ pos 0 = λ none. is_zero_false c.whole.result (sym c.is_zero.ensures ∙ c.if-not-is_zero.true) (c.whole.ensures ∙ none) in
     let low = degree_at_least p (c.loop-power.power - 1) here in
     let high = degree_at_most p (c.loop-power.power - 1) (λ k h. c.loop-power.invariant k (omega arith)) in
     omega (arith, low, high)
@@ -31,5 +31,5 @@ returns-then-not-is_zero-clause-value c =
 pub returns-clause-value : goal.returns-clause-value
 returns-clause-value c =
     let none = c.loop-power-test.false in
-    let high = degree_at_most c.args.p.now 0 (λ k h. c.loop-power.invariant k (omega arith)) in
+    let high = degree_at_most (coefficients c.args.self.now) 0 (λ k h. c.loop-power.invariant k (omega arith)) in
     omega (arith, high)
