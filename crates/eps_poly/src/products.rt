@@ -61,7 +61,7 @@ impl EpsPoly {
     }
 
     /// The greatest power with a coefficient that isn't 0, and 0 where there is none.
-    fn degree(&self) -> usize
+    pub fn degree(&self) -> usize
         ensures value { result ≡ degree (coefficients self.now) }
         ensures within { result ≤ 32 }
     {

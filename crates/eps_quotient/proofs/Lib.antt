@@ -1,3 +1,4 @@
 pub mod Signs
+pub mod Spelled
 pub mod Stored
 pub mod TermLaws

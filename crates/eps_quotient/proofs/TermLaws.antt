@@ -137,11 +137,13 @@ unfolding sum_from polynomial_value power AreReduced
 sum_value k sum z [] room s r e =
     ap value_of (sym (parts_inside sum z e)) ∙ sym (ap (λ v. value_of sum +ε v) (number_multiply_zero (power k)) ∙ number_add_zero (value_of sum))
 sum_value k sum z (t ∷ ts) room s r e =
+    let low : k ≤ 32 = omega arith in
+    let more : suc k + length ts ≤ 33 = omega arith in
     let b = bind_ok _ _ z e in
-    let st = term_stored k t (omega arith) r.0 in
+    let st = term_stored k t low r.0 in
     let next = quotients_are_exact.stored Add sum (term k t) b.0 s st tt b.1 in
-    sum_value (suc k) b.0 z ts (omega arith) next r.1 b.2
-    ∙ ap (λ v. v +ε (epsilon *ε power k) *ε polynomial_value ts) (quotients_are_exact.exact Add sum (term k t) b.0 s st tt b.1 ∙ ap (λ v. value_of sum +ε v) (term_value k t (omega arith) r.0))
+    sum_value (suc k) b.0 z ts more next r.1 b.2
+    ∙ ap (λ v. v +ε (epsilon *ε power k) *ε polynomial_value ts) (quotients_are_exact.exact Add sum (term k t) b.0 s st tt b.1 ∙ ap (λ v. value_of sum +ε v) (term_value k t low r.0))
     ∙ one_more (value_of sum) (power k) (fraction t.num t.den) epsilon (polynomial_value ts)
 
 reduced_ratios : (xs : List Ratio) → AreReduced (map terms xs)

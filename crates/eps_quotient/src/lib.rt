@@ -2,6 +2,7 @@
 #![tactic(auto)]
 
 mod lower;
+mod print;
 mod quotient;
 mod written;
 

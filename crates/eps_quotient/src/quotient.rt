@@ -3,9 +3,10 @@ ghost use Rattle.eps_poly.specs.View.{coefficients};
 ghost use Rattle.eps_quotient.specs.Stored.{IsQuotient};
 
 use crate::lower::{Pair, norm, one, sign, zero_quotient};
+use crate::print::put_quotient;
 use crate::written::{inverse, opposite, product, sum};
 use eps_poly::EpsPoly;
-use field_core::{Number, Op, Ratio, TooWide};
+use field_core::{List, NoMemory, Number, Op, Ratio, TooWide};
 use std::cmp::Ordering;
 
 /// A quotient of two polynomials in epsilon, as the norm of two polynomials stores it: without common content, common powers
@@ -18,7 +19,7 @@ pub struct EpsQuotient {
 }
 
 impl EpsQuotient {
-    ghost use Rattle.std.specs.Prelude.{◌≡◌, ◌≤◌, ◌↔◌, IfSome, IfOk, map, pos};
+    ghost use Rattle.std.specs.Prelude.{◌≡◌, ◌≤◌, ◌↔◌, ◌++◌, IfSome, IfOk, OnOk, OnErr, map, pos};
     ghost use Rattle.field_core.specs.Kind.{ok_map};
     ghost use Rattle.field_core.specs.Polynomial.{lowest, IsNonZero};
     ghost use Rattle.field_core.specs.Fractions.{quotient as quotient_of};
@@ -26,6 +27,7 @@ impl EpsQuotient {
     ghost use Rattle.field_core.specs.View.{terms};
     ghost use Rattle.eps_quotient.specs.Lowering.{norm};
     ghost use Rattle.eps_quotient.specs.Polynomials.{polynomial_value, term, written_polynomial};
+    ghost use Rattle.eps_quotient.specs.Spelling.{HoldsFront, quotient_text};
     ghost use Rattle.eps_quotient.specs.Stored.{IsQuotient};
     ghost use Rattle.eps_quotient.specs.View.{pair_parts, quotient_parts, number_of};
 
@@ -53,6 +55,15 @@ impl EpsQuotient {
         ensures { coefficients result ≡ (quotient_parts self.now).denominator }
     {
         self.denominator
+    }
+
+    /// Appends the text: that of the fraction where both polynomials are constants, else `[c0,c1,..]/[d0,d1,..]`, the coefficients
+    /// of both up to the last that isn't 0. Where memory runs out, a beginning of it may stand behind what was there.
+    pub fn print(&self, out: &mut List<u8>) -> Result<(), NoMemory>
+        ensures printed { OnOk result (out.new ≡ out.old ++ quotient_text (quotient_parts self.now)) }
+        ensures front { OnErr result (HoldsFront out.old (quotient_text (quotient_parts self.now)) out.new) }
+    {
+        put_quotient(out, &self.pair())
     }
 
     /// The quotient whose value is the polynomial with these coefficients of ascending power: the written sum of its terms,
