@@ -1,14 +1,21 @@
 use crate::EpsQuotient;
 use eps_poly::EpsPoly;
-use field_core::{Number, Op, TooWide};
+use field_core::{List, Number, Op, Ratio, TooWide, Whole};
 use std::cmp::Ordering;
 use std::test::Fail;
 
-/// The largest coefficient.
-const M: i128 = i128::MAX;
+/// The greatest size of a coefficient.
+const MOST: i128 = i128::MAX;
 
-/// Coefficients of the powers 0 to 3.
+/// The coefficients of the powers 0 to 3.
 type Low = [i128; 4];
+
+/// A numerator and a denominator.
+type Terms = (Low, Low);
+
+const ZERO: Low = [0, 0, 0, 0];
+
+const ONE: Low = [1, 0, 0, 0];
 
 fn poly(low: Low) -> Result<EpsPoly, TooWide> {
     EpsPoly::zero()
@@ -27,43 +34,50 @@ fn low(p: &EpsPoly) -> Low {
     ]
 }
 
-fn parts(x: &EpsQuotient) -> (Low, Low) {
+fn terms(x: &EpsQuotient) -> Terms {
     (low(&x.numerator()), low(&x.denominator()))
 }
 
-fn quotient(num: Low, den: Low) -> Result<EpsQuotient, Fail> {
-    let num = poly(num)?;
-    let den = poly(den)?;
+fn quotient(terms: Terms) -> Result<EpsQuotient, Fail> {
+    let num = poly(terms.0)?;
+    let den = poly(terms.1)?;
     Ok(EpsQuotient::new(&num, &den).ok_or("over 0")?)
 }
 
-fn stored(outcome: Result<EpsQuotient, TooWide>) -> Option<(Low, Low)> {
-    outcome.ok().map(|x| parts(&x))
+fn stored(outcome: Result<EpsQuotient, TooWide>) -> Option<Terms> {
+    outcome.ok().map(|x| terms(&x))
 }
-
-const ONE: Low = [1, 0, 0, 0];
 
 #[test]
 fn a_quotient_is_lowered(rt: HostRuntime) -> Result<(), Fail> {
-    let check = [
+    let quotients = [
         // 0 is 0/1
-        ([0, 0, 0, 0], [0, -7, 0, 0], [0, 0, 0, 0], ONE),
+        ((ZERO, [0, -7, 0, 0]), (ZERO, ONE)),
         // the common content goes out, and the sign stands above
-        ([6, 0, 0, 0], [-9, 0, 0, 0], [-2, 0, 0, 0], [3, 0, 0, 0]),
+        (([6, 0, 0, 0], [-9, 0, 0, 0]), ([-2, 0, 0, 0], [3, 0, 0, 0])),
         // so do common powers of epsilon
-        ([0, 0, 4, 0], [0, 6, 0, 0], [0, 2, 0, 0], [3, 0, 0, 0]),
+        (([0, 0, 4, 0], [0, 6, 0, 0]), ([0, 2, 0, 0], [3, 0, 0, 0])),
         // and equal cores, of other contents and powers
-        ([2, 2, 0, 0], [0, 3, 3, 0], [2, 0, 0, 0], [0, 3, 0, 0]),
-        ([-2, 2, 0, 0], [3, -3, 0, 0], [-2, 0, 0, 0], [3, 0, 0, 0]),
+        (([2, 2, 0, 0], [0, 3, 3, 0]), ([2, 0, 0, 0], [0, 3, 0, 0])),
+        (
+            ([-2, 2, 0, 0], [3, -3, 0, 0]),
+            ([-2, 0, 0, 0], [3, 0, 0, 0]),
+        ),
         // other common factors stay: (1 - e^2) / (1 + e)
-        ([1, 0, -1, 0], [1, 1, 0, 0], [1, 0, -1, 0], [1, 1, 0, 0]),
+        (([1, 0, -1, 0], [1, 1, 0, 0]), ([1, 0, -1, 0], [1, 1, 0, 0])),
         // the lowest coefficient of the denominator is positive
-        ([0, 1, 0, 0], [0, 0, -1, 3], [-1, 0, 0, 0], [0, 1, -3, 0]),
-        ([1, -1, 0, 0], [-1, 2, 0, 0], [-1, 1, 0, 0], [1, -2, 0, 0]),
+        (
+            ([0, 1, 0, 0], [0, 0, -1, 3]),
+            ([-1, 0, 0, 0], [0, 1, -3, 0]),
+        ),
+        (
+            ([1, -1, 0, 0], [-1, 2, 0, 0]),
+            ([-1, 1, 0, 0], [1, -2, 0, 0]),
+        ),
     ];
-    for (num, den, above, below) in check {
-        let x = quotient(num, den)?;
-        assert_eq!(rt; parts(&x), (above, below));
+    for (written, lowered) in quotients {
+        let x = quotient(written)?;
+        assert_eq!(rt; terms(&x), lowered);
     }
     Ok(())
 }
@@ -73,5 +87,257 @@ fn nothing_is_over_zero(rt: HostRuntime) -> Result<(), Fail> {
     let one = poly(ONE)?;
     assert!(rt; EpsQuotient::new(&one, &EpsPoly::zero()).is_none());
     assert!(rt; EpsQuotient::new(&EpsPoly::zero(), &EpsPoly::zero()).is_none());
+    Ok(())
+}
+
+/// 1/2, 1/3, e, 1/e, 1 - e, 1 + e and its inverse.
+const HALF: Terms = (ONE, [2, 0, 0, 0]);
+
+const THIRD: Terms = (ONE, [3, 0, 0, 0]);
+
+const EPSILON: Terms = ([0, 1, 0, 0], ONE);
+
+const LARGE: Terms = (ONE, [0, 1, 0, 0]);
+
+const LESS: Terms = ([1, -1, 0, 0], ONE);
+
+const MORE: Terms = ([1, 1, 0, 0], ONE);
+
+const OVER_MORE: Terms = (ONE, [1, 1, 0, 0]);
+
+const OVER_LESS: Terms = (ONE, [1, -1, 0, 0]);
+
+const UNIT: Terms = (ONE, ONE);
+
+const NOTHING: Terms = (ZERO, ONE);
+
+const WIDEST: Terms = ([MOST, 0, 0, 0], ONE);
+
+#[test]
+fn sums_are_stored(rt: HostRuntime) -> Result<(), Fail> {
+    let sums = [
+        (HALF, THIRD, ([5, 0, 0, 0], [6, 0, 0, 0])),
+        // over the same denominator: e/(1 + e) + 1/(1 + e)
+        (([0, 1, 0, 0], [1, 1, 0, 0]), OVER_MORE, UNIT),
+        // over others: (1 - e + 1 + e) / (1 - e^2)
+        (OVER_MORE, OVER_LESS, ([2, 0, 0, 0], [1, 0, -1, 0])),
+        (LARGE, UNIT, ([1, 1, 0, 0], [0, 1, 0, 0])),
+        // a summand that is 0 has no written part
+        (WIDEST, NOTHING, WIDEST),
+        (NOTHING, WIDEST, WIDEST),
+    ];
+    for (x, y, sum) in sums {
+        assert_eq!(rt; stored(quotient(x)?.add(&quotient(y)?)), Some(sum));
+    }
+    Ok(())
+}
+
+#[test]
+fn differences_are_stored(rt: HostRuntime) -> Result<(), Fail> {
+    let differences = [
+        (UNIT, LESS, EPSILON),
+        (HALF, HALF, NOTHING),
+        (HALF, THIRD, (ONE, [6, 0, 0, 0])),
+        (NOTHING, LESS, ([-1, 1, 0, 0], ONE)),
+        // equal, though the cores of the first are not cut: (1 - e^2) / (1 + e)
+        (([1, 0, -1, 0], [1, 1, 0, 0]), LESS, NOTHING),
+    ];
+    for (x, y, difference) in differences {
+        assert_eq!(rt; stored(quotient(x)?.sub(&quotient(y)?)), Some(difference));
+    }
+    Ok(())
+}
+
+#[test]
+fn products_are_stored(rt: HostRuntime) -> Result<(), Fail> {
+    let products = [
+        (MORE, LESS, ([1, 0, -1, 0], ONE)),
+        // each numerator is lowered with the other denominator
+        (
+            ([2, 0, 0, 0], [1, 1, 0, 0]),
+            ([1, 1, 0, 0], [3, 0, 0, 0]),
+            ([2, 0, 0, 0], [3, 0, 0, 0]),
+        ),
+        (
+            ([0, 1, 0, 0], [2, 0, 0, 0]),
+            ([2, 0, 0, 0], [0, 1, 0, 0]),
+            UNIT,
+        ),
+        // other common factors stay
+        (
+            ([1, 0, -1, 0], ONE),
+            OVER_MORE,
+            ([1, 0, -1, 0], [1, 1, 0, 0]),
+        ),
+        (WIDEST, NOTHING, NOTHING),
+        (NOTHING, WIDEST, NOTHING),
+        (WIDEST, UNIT, WIDEST),
+        (UNIT, WIDEST, WIDEST),
+    ];
+    for (x, y, product) in products {
+        assert_eq!(rt; stored(quotient(x)?.mul(&quotient(y)?)), Some(product));
+    }
+    Ok(())
+}
+
+/// The stored quotient of two quotients, where the second isn't 0.
+fn divided(x: Terms, y: Terms) -> Result<Option<Terms>, Fail> {
+    let by = quotient(y)?;
+    if by.is_zero() {
+        return Ok(None);
+    }
+    Ok(stored(quotient(x)?.div(&by)))
+}
+
+#[test]
+fn quotients_are_stored(rt: HostRuntime) -> Result<(), Fail> {
+    let quotients = [
+        (UNIT, LESS, OVER_LESS),
+        (HALF, THIRD, ([3, 0, 0, 0], [2, 0, 0, 0])),
+        (UNIT, ([0, -1, 0, 0], ONE), ([-1, 0, 0, 0], [0, 1, 0, 0])),
+        (LESS, LESS, UNIT),
+        (NOTHING, LESS, NOTHING),
+        (WIDEST, UNIT, WIDEST),
+    ];
+    for (x, y, stored) in quotients {
+        let found = divided(x, y)?;
+        assert_eq!(rt; found, Some(stored));
+    }
+    Ok(())
+}
+
+#[test]
+fn parts_past_their_size_are_refused(rt: HostRuntime) -> Result<(), Fail> {
+    let most = quotient(WIDEST)?;
+    let one = quotient(UNIT)?;
+    let minus_one = quotient(([-1, 0, 0, 0], ONE))?;
+    let two = quotient(([2, 0, 0, 0], ONE))?;
+    let half = quotient(HALF)?;
+    assert_eq!(rt; most.add(&one).err(), Some(TooWide { op: Op::Add }));
+    assert_eq!(rt; most.sub(&minus_one).err(), Some(TooWide { op: Op::Sub }));
+    assert_eq!(rt;
+        most.compare(&minus_one).err(),
+        Some(TooWide { op: Op::Sub })
+    );
+    assert_eq!(rt; most.mul(&two).err(), Some(TooWide { op: Op::Mul }));
+    if !half.is_zero() {
+        assert_eq!(rt; most.div(&half).err(), Some(TooWide { op: Op::Div }));
+    }
+    Ok(())
+}
+
+#[test]
+fn degrees_go_to_32(rt: HostRuntime) -> Result<(), Fail> {
+    let one = poly(ONE)?;
+    let last = EpsQuotient::new(&EpsPoly::monomial(Whole::new(1), 32), &one).ok_or("over 0")?;
+    let epsilon = quotient(EPSILON)?;
+    assert_eq!(rt; last.mul(&epsilon).err(), Some(TooWide { op: Op::Mul }));
+    let less = last.mul(&quotient(LARGE)?)?;
+    assert_eq!(rt; less.numerator().coefficient(31), 1);
+    assert_eq!(rt; low(&less.denominator()), ONE);
+    Ok(())
+}
+
+#[test]
+fn epsilon_is_below_each_fraction(rt: HostRuntime) -> Result<(), Fail> {
+    let orders = [
+        (EPSILON, (ONE, [1000000, 0, 0, 0]), Ordering::Less),
+        (EPSILON, NOTHING, Ordering::Greater),
+        (OVER_MORE, UNIT, Ordering::Less),
+        (OVER_LESS, UNIT, Ordering::Greater),
+        (([0, 2, 0, 0], ONE), EPSILON, Ordering::Greater),
+        (LARGE, WIDEST, Ordering::Greater),
+        (([1, 0, -1, 0], [1, 1, 0, 0]), LESS, Ordering::Equal),
+        (NOTHING, LESS, Ordering::Less),
+    ];
+    for (x, y, order) in orders {
+        assert_eq!(rt; quotient(x)?.compare(&quotient(y)?).ok(), Some(order));
+    }
+    Ok(())
+}
+
+#[test]
+fn the_lowest_coefficient_tells_the_sign(rt: HostRuntime) -> Result<(), Fail> {
+    assert!(rt; quotient(NOTHING)?.is_zero());
+    assert!(rt; !quotient(EPSILON)?.is_zero());
+    assert_eq!(rt; quotient(NOTHING)?.sign(), Ordering::Equal);
+    assert_eq!(rt;
+        quotient(([0, 1, -5, 0], [1, 1, 0, 0]))?.sign(),
+        Ordering::Greater
+    );
+    assert_eq!(rt;
+        quotient(([0, 1, -5, 0], [-1, 1, 0, 0]))?.sign(),
+        Ordering::Less
+    );
+    Ok(())
+}
+
+/// The limit of a value from 0 to 1.
+fn limit(x: &EpsQuotient) -> Option<(i128, i128)> {
+    if x.sign() == Ordering::Less || x.compare(&EpsQuotient::one()).ok()? == Ordering::Greater {
+        return None;
+    }
+    let limit = x.limit();
+    Some((limit.num(), limit.den()))
+}
+
+#[test]
+fn limits_are_quotients_of_first_coefficients(rt: HostRuntime) -> Result<(), Fail> {
+    let limits = [
+        (NOTHING, (0, 1)),
+        (EPSILON, (0, 1)),
+        (LESS, (1, 1)),
+        (([2, -1, 0, 0], [6, 1, 0, 0]), (1, 3)),
+        (([0, 1, 0, 0], [3, 1, 0, 0]), (0, 1)),
+    ];
+    for (x, terms) in limits {
+        assert_eq!(rt; limit(&quotient(x)?), Some(terms));
+    }
+    Ok(())
+}
+
+#[test]
+fn a_polynomial_is_summed_term_by_term(rt: HostRuntime) -> Result<(), Fail> {
+    let none = Ratio::new(0, 1);
+    let half = Ratio::new(1, 2);
+    let third = Ratio::new(-1, 3);
+    let x = EpsQuotient::from_parts(&[none, half, none, third, none])?;
+    // e/2 - e^3/3
+    assert_eq!(rt; terms(&x), ([0, 3, 0, -2], [6, 0, 0, 0]));
+    let zero = EpsQuotient::from_parts(&[none, none, none, none, none])?;
+    assert_eq!(rt; terms(&zero), NOTHING);
+    let wide = Ratio::new(1, MOST);
+    let refused = EpsQuotient::from_parts(&[half, wide, none, none, none]);
+    assert_eq!(rt; refused.err(), Some(TooWide { op: Op::Add }));
+    Ok(())
+}
+
+#[test]
+fn quotients_are_printed(rt: HostRuntime) -> Result<(), Fail> {
+    let texts = [
+        (NOTHING, "0"),
+        (([-7, 0, 0, 0], ONE), "-7"),
+        (([-1, 0, 0, 0], [2, 0, 0, 0]), "-1/2"),
+        (EPSILON, "[0,1]/[1]"),
+        (LARGE, "[1]/[0,1]"),
+        (([1, 0, -2, 0], [3, 1, 0, 0]), "[1,0,-2]/[3,1]"),
+        (WIDEST, "170141183460469231731687303715884105727"),
+    ];
+    for (x, text) in texts {
+        let mut out = List::new(rt.alloc());
+        out.push(b'=')?;
+        quotient(x)?.print(&mut out)?;
+        assert_eq!(rt; &out.as_slice()[1..], text.as_bytes());
+    }
+    Ok(())
+}
+
+fn twice<N: Number>(x: &N) -> Result<N, TooWide> {
+    x.add(x)
+}
+
+#[test]
+fn a_quotient_is_a_number(rt: HostRuntime) -> Result<(), Fail> {
+    assert_eq!(rt; stored(twice(&quotient(LESS)?)), Some(([2, -2, 0, 0], ONE)));
     Ok(())
 }
