@@ -1,4 +1,6 @@
+pub mod ReadSteps
 pub mod Signs
 pub mod Spelled
 pub mod Stored
 pub mod TermLaws
+pub mod Units

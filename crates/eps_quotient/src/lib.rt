@@ -4,6 +4,7 @@
 mod lower;
 mod print;
 mod quotient;
+mod read;
 mod written;
 
 pub use quotient::EpsQuotient;

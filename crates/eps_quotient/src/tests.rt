@@ -273,12 +273,17 @@ fn the_lowest_coefficient_tells_the_sign(rt: HostRuntime) -> Result<(), Fail> {
 }
 
 /// The limit of a value from 0 to 1.
-fn limit(x: &EpsQuotient) -> Option<(i128, i128)> {
-    if x.sign() == Ordering::Less || x.compare(&EpsQuotient::one()).ok()? == Ordering::Greater {
+fn limit(x: &EpsQuotient) -> Option<Ratio> {
+    let Ok(order) = x.compare(&EpsQuotient::one()) else {
+        return None;
+    };
+    if order.is_gt() {
         return None;
     }
-    let limit = x.limit();
-    Some((limit.num(), limit.den()))
+    if x.sign().is_lt() {
+        return None;
+    }
+    Some(x.limit())
 }
 
 #[test]
@@ -290,25 +295,31 @@ fn limits_are_quotients_of_first_coefficients(rt: HostRuntime) -> Result<(), Fai
         (([2, -1, 0, 0], [6, 1, 0, 0]), (1, 3)),
         (([0, 1, 0, 0], [3, 1, 0, 0]), (0, 1)),
     ];
-    for (x, terms) in limits {
-        assert_eq!(rt; limit(&quotient(x)?), Some(terms));
+    for (x, (num, den)) in limits {
+        let limit = limit(&quotient(x)?).ok_or("not from 0 to 1")?;
+        assert_eq!(rt; (limit.num(), limit.den()), (num, den));
     }
     Ok(())
 }
 
+/// The quotient of a polynomial whose coefficients of the powers 0 and 1 are limits, and that of power 3 too.
+fn polynomial(parts: (Terms, Terms, Terms)) -> Result<Result<EpsQuotient, TooWide>, Fail> {
+    let first = limit(&quotient(parts.0)?).ok_or("not from 0 to 1")?;
+    let second = limit(&quotient(parts.1)?).ok_or("not from 0 to 1")?;
+    let fourth = limit(&quotient(parts.2)?).ok_or("not from 0 to 1")?;
+    let third = limit(&EpsQuotient::zero()).ok_or("not from 0 to 1")?;
+    let fifth = limit(&EpsQuotient::zero()).ok_or("not from 0 to 1")?;
+    Ok(EpsQuotient::from_parts(&[first, second, third, fourth, fifth]))
+}
+
 #[test]
 fn a_polynomial_is_summed_term_by_term(rt: HostRuntime) -> Result<(), Fail> {
-    let none = Ratio::new(0, 1);
-    let half = Ratio::new(1, 2);
-    let third = Ratio::new(-1, 3);
-    let x = EpsQuotient::from_parts(&[none, half, none, third, none])?;
-    // e/2 - e^3/3
-    assert_eq!(rt; terms(&x), ([0, 3, 0, -2], [6, 0, 0, 0]));
-    let zero = EpsQuotient::from_parts(&[none, none, none, none, none])?;
-    assert_eq!(rt; terms(&zero), NOTHING);
-    let wide = Ratio::new(1, MOST);
-    let refused = EpsQuotient::from_parts(&[half, wide, none, none, none]);
-    assert_eq!(rt; refused.err(), Some(TooWide { op: Op::Add }));
+    // e/2 + e^3/3
+    let x = polynomial((NOTHING, HALF, THIRD))?;
+    assert_eq!(rt; stored(x), Some(([0, 3, 0, 2], [6, 0, 0, 0])));
+    // the denominator would be 2 (2^127 - 1)
+    let wide = polynomial((HALF, (ONE, [MOST, 0, 0, 0]), NOTHING))?;
+    assert_eq!(rt; wide.err(), Some(TooWide { op: Op::Add }));
     Ok(())
 }
 
