@@ -1,4 +1,6 @@
+pub mod ListReadings
 pub mod ReadSteps
+pub mod Readings
 pub mod Signs
 pub mod Spelled
 pub mod Stored
