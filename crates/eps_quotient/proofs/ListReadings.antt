@@ -1,17 +1,16 @@
 -- What is read of lists, fractions and whole texts is what the grammar says.
-use Rattle.std.proofs.Common.{◌≡◌, ◌≢◌, ℕ, zero, suc, ◌+◌, ◌-◌, ◌<◌, ◌≤◌, ◌==◌, ◌&&◌, Bool, true, false, List, [], ◌∷◌, ◌++◌, length, refl, sym, ◌∙◌, ap, ap₂, subst, arith, ℤ, pos, Option, Some, None, inl, inr, ◌⊎◌, append_assoc}
+use Rattle.std.proofs.Common.{◌≡◌, ◌≢◌, ℕ, suc, ◌<◌, ◌≤◌, ◌==◌, ◌&&◌, Bool, true, false, List, [], ◌∷◌, ◌++◌, length, refl, sym, ◌∙◌, ap, subst, arith, ℤ, Some, inl, inr, ◌⊎◌}
 use Rattle.std.specs.Char.{is_ascii_digit}
 use Rattle.std.specs.List.{All, list_all, slice_split, join_with_byte}
 use Rattle.std.proofs.lemmas.Bool.{ne_eqb}
 use Rattle.std.proofs.lemmas.List.{append_cancel_left, append_cancel_right}
 use Rattle.std.proofs.lemmas.List.Elements.{All-nil, All-cons, All-append}
 use Rattle.std.proofs.lemmas.List.Splits.{slice_split_none, slice_split_at, length-slice_split, join_with_byte-slice_split}
-use Rattle.eps_poly.specs.Polynomials.{zero_polynomial, by_powers}
-use Rattle.field_core.specs.Polynomial.{coefficient}
-use Rattle.eps_quotient.specs.Grammar.{IsNumber, IsWhole, minus_text, AreWholes, IsList}
+use Rattle.eps_poly.specs.Polynomials.{zero_polynomial}
+use Rattle.eps_quotient.specs.Grammar.{IsWhole, minus_text, AreWholes, IsList}
 use Rattle.eps_quotient.specs.Reading.{filled, polynomial_of}
 use Rattle.eps_quotient.proofs.ReadSteps.{digit_at}
-use Rattle.eps_quotient.proofs.Readings.{IsFilled, filled_found, filled_only, overlay_is}
+use Rattle.eps_quotient.proofs.Readings.{filled_found, filled_only, overlay_is}
 
 -- ---- bytes that don't stand in numbers
 
@@ -19,9 +18,9 @@ use Rattle.eps_quotient.proofs.Readings.{IsFilled, filled_found, filled_only, ov
 abbrev pub IsFree : ℕ → List ℕ → Type 0
 IsFree byte text = All (λ b. (b == byte) ≡ false) text
 
--- a comma or a slash
+-- neither a digit nor a minus
 abbrev IsMark : ℕ → Type 0
-IsMark byte = (byte < 48) × (byte ≢ 45)
+IsMark byte = ((byte < 48) ⊎ (57 < byte)) × (byte ≢ 45)
 
 free_none : (byte : ℕ) → IsFree byte []
 free_none byte = All-nil (λ b. (b == byte) ≡ false)
@@ -39,12 +38,13 @@ tail_digits b bs h = tail (is_ascii_digit b) (list_all is_ascii_digit bs) h
     tail true t e = e
     tail false t e = absurd (cc)
 
+other_digit : (byte d : ℕ) → (byte < 48) ⊎ (57 < byte) → (48 ≤ d) × (d ≤ 57) → d ≢ byte
+other_digit byte d mark bounds e = elim mark [ inl l ↦ omega (arith, bounds) | inr l ↦ omega (arith, bounds) ]
+
 digits_free : (byte : ℕ) → IsMark byte → (ds : List ℕ) → list_all is_ascii_digit ds ≡ true → IsFree byte ds
 digits_free byte mark [] h = free_none byte
 digits_free byte mark (d ∷ ds) h =
-    let low = digit_at (d ∷ ds) 0 h (omega arith) in
-    let m = mark.0 in
-    free_more byte d ds (λ e. absurd (omega arith)) (digits_free byte mark ds (tail_digits d ds h))
+    free_more byte d ds (other_digit byte d mark.0 (digit_at (d ∷ ds) 0 h (omega arith))) (digits_free byte mark ds (tail_digits d ds h))
 
 minus_free : (byte : ℕ) → IsMark byte → (negative : Bool) → IsFree byte (minus_text negative)
 minus_free byte mark true = free_more byte 45 [] (λ e. mark.1 (sym e)) (free_none byte)
@@ -55,10 +55,13 @@ whole_free byte mark text z is =
     subst (IsFree byte) (sym is.spelt) (free_append byte (minus_text is.negative) is.digits (minus_free byte mark is.negative) (digits_free byte mark is.digits is.is_number.digits))
 
 pub comma : IsMark 44
-comma = (omega arith, λ e. absurd (omega arith))
+comma = (inl (omega arith), λ e. absurd (omega arith))
 
 pub slash : IsMark 47
-slash = (omega arith, λ e. absurd (omega arith))
+slash = (inl (omega arith), λ e. absurd (omega arith))
+
+pub bracket : IsMark 91
+bracket = (inr (omega arith), λ e. absurd (omega arith))
 
 -- ---- words with commas between them
 
@@ -120,6 +123,13 @@ list_free text p is =
     subst (IsFree 47) (sym is.spelt)
     (free_more 47 91 _ (λ e. absurd (omega arith))
     (free_append 47 (join_with_byte 44 is.words) (93 ∷ []) (joined_free is.words is.numbers is.each) (free_more 47 93 [] (λ e. absurd (omega arith)) (free_none 47))))
+
+-- a whole number is no list
+pub list_or_whole : (text : List ℕ) (z : ℤ) (p : List ℤ) → IsWhole text z → IsList text p → ⊥
+list_or_whole text z p w l = opened (join_with_byte 44 l.words ++ 93 ∷ []) (subst (IsFree 91) l.spelt (whole_free 91 bracket text z w))
+  where
+    opened : (rest : List ℕ) → IsFree 91 (91 ∷ rest) → ⊥
+    opened rest h = let f = h 0 0 (omega arith) in cc
 
 -- ---- the first slash
 

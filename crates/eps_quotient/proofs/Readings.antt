@@ -1,7 +1,7 @@
 -- What is read is what the grammar says.
-use Rattle.std.proofs.Common.{◌≡◌, ◌≢◌, ℕ, zero, suc, ◌+◌, ◌-◌, ◌<◌, ◌≤◌, ◌^◌, ◌==◌, ◌&&◌, nat_lt, nat_le, Bool, true, false, if◌then◌else◌, List, [], ◌∷◌, ◌++◌, length, set, refl, sym, ◌∙◌, ap, ap₂, subst, arith, ℤ, pos, neg_ℤ, Option, Some, None, inl, inr, ◌⊎◌}
+use Rattle.std.proofs.Common.{◌≡◌, ℕ, zero, suc, ◌+◌, ◌<◌, ◌≤◌, ◌^◌, ◌==◌, ◌&&◌, nat_lt, nat_le, Bool, true, false, if◌then◌else◌, List, [], ◌∷◌, ◌++◌, length, set, refl, sym, ◌∙◌, ap, subst, arith, ℤ, pos, neg_ℤ, Option, Some, None, inl, inr}
 use Rattle.std.specs.Char.{is_ascii_digit}
-use Rattle.std.specs.List.{All, list_all, slice_split, join_with_byte}
+use Rattle.std.specs.List.{list_all}
 use Rattle.std.specs.Str.Parse.{digits_value}
 use Rattle.std.proofs.lemmas.Bool.Decides.{nat_tests}
 use Rattle.std.proofs.lemmas.Bool.{ne_eqb, eqb-true, cases_lt}
@@ -10,8 +10,8 @@ use Rattle.std.proofs.lemmas.List.{length-set}
 use Rattle.field_core.specs.Polynomial.{coefficient}
 use Rattle.eps_poly.specs.Polynomials.{zero_polynomial, by_powers}
 use Rattle.eps_poly.proofs.Coefficients.{same_polynomials, length-zero, coefficient-zero, length-by_powers, coefficient-by_powers, coefficient-past, coefficient-set_same, coefficient-set_other}
-use Rattle.eps_quotient.specs.Grammar.{IsNumber, IsWhole, minus_text, signed, AreWholes, IsList}
-use Rattle.eps_quotient.specs.Reading.{and_then, is_some_text, number_of, whole_of, filled, polynomial_of}
+use Rattle.eps_quotient.specs.Grammar.{IsNumber, IsWhole, minus_text, signed, AreWholes}
+use Rattle.eps_quotient.specs.Reading.{and_then, is_some_text, number_of, whole_of, filled}
 
 -- ---- numbers
 

@@ -1,5 +1,5 @@
 -- What lies from 0 to 1, by a comparison and a sign.
-use Rattle.std.proofs.Common.{◌≡◌, sym, ◌∙◌, ap, ap₂, subst, true, false, Result, Ok, IfOk, is_lt, is_gt}
+use Rattle.std.proofs.Common.{◌≡◌, ◌∙◌, ap, true, false, Ok, is_lt, is_gt}
 use Rattle.std.proofs.lemmas.Result.{IfOk-at_ok}
 use Rattle.std.specs.declared.cmp.Ordering.{Ordering}
 use Rattle.std.specs.declared.cmp.Ordering.TheVariants.{Less, Greater}

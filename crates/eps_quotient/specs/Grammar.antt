@@ -1,8 +1,9 @@
 -- The texts that are read as quotients.
-use Rattle.std.specs.Prelude.{◌≡◌, ◌⊎◌, ◌<◌, ◌≤◌, ◌^◌, ℕ, Bool, true, false, ℤ, pos, neg_ℤ, List, [], ◌∷◌, ◌++◌, length}
+use Rattle.std.specs.Prelude.{◌≡◌, ◌⊎◌, ◌<◌, ◌≤◌, ◌^◌, ℕ, Bool, true, false, ℤ, pos, neg_ℤ, List, [], ◌∷◌, ◌++◌, length, Option, Some, IfSome}
 use Rattle.std.specs.Char.{is_ascii_digit}
 use Rattle.std.specs.List.{list_all, join_with_byte}
 use Rattle.std.specs.Str.Parse.{digits_value}
+use Rattle.field_core.specs.Kind.{Parts}
 use Rattle.field_core.specs.Polynomial.{coefficient, IsNonZero}
 use Rattle.eps_poly.specs.Polynomials.{by_powers, monomial}
 use Rattle.eps_quotient.specs.Lowering.{one_polynomial}
@@ -57,27 +58,45 @@ pub record IsWholeText (text : List ℕ) (n d : List ℤ) : Type 0 where
   pub above : n ≡ monomial number 0
   pub below : d ≡ one_polynomial
 
--- a whole number, a slash and a number
-pub record IsFractionText (text : List ℕ) (n d : List ℤ) : Type 0 where
-  pub over : List ℕ
-  pub under : List ℕ
+-- a whole number over a number
+pub record IsFraction (over under : List ℕ) (n d : List ℤ) : Type 0 where
   pub num : ℤ
   pub den : ℕ
   pub is_whole : IsWhole over num
   pub is_number : IsNumber under den
-  pub spelt : text ≡ over ++ 47 ∷ under
   pub above : n ≡ monomial num 0
   pub below : d ≡ monomial (pos den) 0
 
--- two lists with a slash between them
-pub record IsListsText (text : List ℕ) (n d : List ℤ) : Type 0 where
-  pub over : List ℕ
-  pub under : List ℕ
+-- a list over a list
+pub record IsLists (over under : List ℕ) (n d : List ℤ) : Type 0 where
   pub above : IsList over n
   pub below : IsList under d
+
+-- numbers or lists
+abbrev pub AreSides : List ℕ → List ℕ → List ℤ → List ℤ → Type 0
+AreSides over under n d = IsFraction over under n d ⊎ IsLists over under n d
+
+-- two sides of a slash
+pub record IsPairText (text : List ℕ) (n d : List ℤ) : Type 0 where
+  pub over : List ℕ
+  pub under : List ℕ
   pub spelt : text ≡ over ++ 47 ∷ under
+  pub sides : AreSides over under n d
+
+-- a whole number, or two sides of a slash
+abbrev pub IsPolynomials : List ℕ → List ℤ → List ℤ → Type 0
+IsPolynomials text n d = IsWholeText text n d ⊎ IsPairText text n d
 
 -- the text of n/d, where d isn't 0
 pub record IsQuotientText (text : List ℕ) (n d : List ℤ) : Type 0 where
-  pub form : IsWholeText text n d ⊎ (IsFractionText text n d ⊎ IsListsText text n d)
+  pub polynomials : IsPolynomials text n d
   pub nonzero : IsNonZero d
+
+-- What is found is as P says, and nothing else is.
+pub record IsOnly {A : Type 0} (P : A → Type 0) (found : Option A) : Type 0 where
+  pub is : IfSome found P
+  pub only : (x : A) → P x → found ≡ Some x
+
+-- the same, of a numerator and a denominator
+abbrev pub IsOnlyPair : (List ℤ → List ℤ → Type 0) → Option Parts → Type 0
+IsOnlyPair P = IsOnly (λ x. P x.numerator x.denominator)

@@ -4,6 +4,7 @@ ghost use Rattle.eps_quotient.specs.Stored.{IsQuotient};
 
 use crate::lower::{Pair, norm, one, sign, zero_quotient};
 use crate::print::put_quotient;
+use crate::read::polynomials;
 use crate::written::{inverse, opposite, product, sum};
 use eps_poly::EpsPoly;
 use field_core::{List, NoMemory, Number, Op, Ratio, TooWide};
@@ -19,12 +20,13 @@ pub struct EpsQuotient {
 }
 
 impl EpsQuotient {
-    ghost use Rattle.std.specs.Prelude.{◌≡◌, ◌≤◌, ◌↔◌, ◌++◌, IfSome, IfOk, OnOk, OnErr, map, pos};
+    ghost use Rattle.std.specs.Prelude.{◌≡◌, ◌≤◌, ◌↔◌, ◌++◌, List as Seq, ℤ, IfSome, IsSomeAnd, IfOk, OnOk, OnErr, map, pos};
     ghost use Rattle.field_core.specs.Kind.{ok_map};
     ghost use Rattle.field_core.specs.Polynomial.{lowest, IsNonZero};
     ghost use Rattle.field_core.specs.Fractions.{quotient as quotient_of};
     ghost use Rattle.eps_poly.specs.View.{coefficients};
     ghost use Rattle.field_core.specs.View.{terms};
+    ghost use Rattle.eps_quotient.specs.Grammar.{IsQuotientText};
     ghost use Rattle.eps_quotient.specs.Lowering.{norm};
     ghost use Rattle.eps_quotient.specs.Polynomials.{polynomial_value, term, written_polynomial};
     ghost use Rattle.eps_quotient.specs.Spelling.{HoldsFront, quotient_text};
@@ -64,6 +66,16 @@ impl EpsQuotient {
         ensures front { OnErr result (HoldsFront out.old (quotient_text (quotient_parts self.now)) out.new) }
     {
         put_quotient(out, &self.pair())
+    }
+
+    /// Reads the text of a quotient: a whole number, two numbers with a slash between them, or two lists of coefficients in brackets
+    /// with a slash between them, each number of at most 2^127 - 1 in size. Anything else gives `None`.
+    pub fn read(text: &[u8]) -> Option<EpsQuotient>
+        ensures found { IfSome result (λ x. (n d : Seq ℤ) × IsQuotientText text.now n d × (quotient_parts x ≡ norm n d)) }
+        ensures only { (n d : Seq ℤ) → IsQuotientText text.now n d → IsSomeAnd result (λ x. quotient_parts x ≡ norm n d) }
+    {
+        let pair = polynomials(text)?;
+        EpsQuotient::new(&pair.numerator, &pair.denominator)
     }
 
     /// The quotient whose value is the polynomial with these coefficients of ascending power: the written sum of its terms,

@@ -4,8 +4,11 @@ ghost use Rattle.std.specs.Char.{is_ascii_digit};
 ghost use Rattle.std.specs.List.{All, list_all};
 ghost use Rattle.std.specs.Str.Parse.{digits_value};
 ghost use Rattle.eps_poly.specs.View.{coefficients};
+ghost use Rattle.eps_quotient.specs.Grammar.{AreSides, IsFraction, IsList, IsLists, IsOnly, IsOnlyPair, IsPolynomials, IsWholeText};
 ghost use Rattle.eps_quotient.specs.Reading.{number_of, polynomial_of, whole_of};
+ghost use Rattle.eps_quotient.specs.View.{pair_parts};
 
+use crate::lower::{Pair, one};
 use eps_poly::EpsPoly;
 use field_core::Whole;
 
@@ -85,7 +88,7 @@ fn inside(text: &[u8]) -> Option<&[u8]>
 }
 
 /// The polynomial whose coefficients are written with commas between them.
-pub fn polynomial(text: &[u8]) -> Option<EpsPoly>
+fn polynomial(text: &[u8]) -> Option<EpsPoly>
     ensures { option_map coefficients result ≡ polynomial_of text.now }
 {
     let mut polynomial = EpsPoly::zero();
@@ -99,4 +102,66 @@ pub fn polynomial(text: &[u8]) -> Option<EpsPoly>
         rest = more;
     }
     None
+}
+
+/// The polynomial whose coefficients stand in brackets.
+fn list(text: &[u8]) -> Option<EpsPoly>
+    ensures { IsOnly (IsList text.now) (option_map coefficients result) }
+{
+    polynomial(inside(text)?)
+}
+
+/// A whole number over a number.
+fn fraction(over: &[u8], under: &[u8]) -> Option<Pair>
+    ensures { IsOnlyPair (IsFraction over.now under.now) (option_map pair_parts result) }
+{
+    let num = whole(over)?;
+    let den = number(under)?;
+    Some(Pair {
+        numerator: EpsPoly::monomial(num, 0),
+        denominator: EpsPoly::monomial(den, 0),
+    })
+}
+
+/// A list over a list.
+fn lists(over: &[u8], under: &[u8]) -> Option<Pair>
+    ensures { IsOnlyPair (IsLists over.now under.now) (option_map pair_parts result) }
+{
+    let numerator = list(over)?;
+    let denominator = list(under)?;
+    Some(Pair {
+        numerator,
+        denominator,
+    })
+}
+
+/// What stands on both sides of a slash.
+fn sides(over: &[u8], under: &[u8]) -> Option<Pair>
+    ensures { IsOnlyPair (AreSides over.now under.now) (option_map pair_parts result) }
+{
+    match fraction(over, under) {
+        Some(pair) => Some(pair),
+        None => lists(over, under),
+    }
+}
+
+/// A whole number over 1.
+fn over_one(text: &[u8]) -> Option<Pair>
+    ensures { IsOnlyPair (IsWholeText text.now) (option_map pair_parts result) }
+{
+    let number = whole(text)?;
+    Some(Pair {
+        numerator: EpsPoly::monomial(number, 0),
+        denominator: one(),
+    })
+}
+
+/// The two polynomials of a text.
+pub fn polynomials(text: &[u8]) -> Option<Pair>
+    ensures { IsOnlyPair (IsPolynomials text.now) (option_map pair_parts result) }
+{
+    match cut(text, b'/') {
+        Some((over, under)) => sides(over, under),
+        None => over_one(text),
+    }
 }

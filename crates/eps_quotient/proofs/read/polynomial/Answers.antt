@@ -1,4 +1,4 @@
-use Rattle.std.proofs.Common.{◌≡◌, ◌≤◌, ◌+◌, ◌==◌, ◌∙◌, [], sym, ap, Some, arith}
+use Rattle.std.proofs.Common.{◌≤◌, ◌+◌, ◌==◌, ◌∙◌, [], sym, ap, Some, arith}
 use Rattle.std.specs.List.{slice_split}
 use Rattle.eps_quotient.specs.Reading.{filled}
 use Rattle.eps_quotient.proofs.ReadSteps.{last_word, next_word, word_refused, word_put, no_more_words, words_past}
