@@ -1,4 +1,5 @@
 pub mod ListReadings
+pub mod ReadBack
 pub mod ReadSteps
 pub mod Readings
 pub mod Sides

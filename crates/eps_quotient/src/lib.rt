@@ -1,6 +1,7 @@
 //! Quotients of polynomials in epsilon: the kind of numbers with epsilon.
 #![tactic(auto)]
 
+pub mod laws;
 mod lower;
 mod print;
 mod quotient;

@@ -343,6 +343,59 @@ fn quotients_are_printed(rt: HostRuntime) -> Result<(), Fail> {
     Ok(())
 }
 
+#[test]
+fn texts_are_read(rt: HostRuntime) -> Result<(), Fail> {
+    let texts = [
+        ("0", NOTHING),
+        ("-0", NOTHING),
+        ("007", ([7, 0, 0, 0], ONE)),
+        ("-2/4", ([-1, 0, 0, 0], [2, 0, 0, 0])),
+        ("0/5", NOTHING),
+        ("[0,1]/[1]", EPSILON),
+        // unlowered pairs and zeros behind the last coefficient are taken
+        ("[00,-2,0,0]/[-2]", EPSILON),
+        ("[1,1]/[0,3,3]", (ONE, [0, 3, 0, 0])),
+        ("[5]/[1]", ([5, 0, 0, 0], ONE)),
+        ("170141183460469231731687303715884105727", WIDEST),
+    ];
+    for (text, read) in texts {
+        let x = EpsQuotient::read(text.as_bytes()).ok_or("not read")?;
+        assert_eq!(rt; terms(&x), read);
+    }
+    Ok(())
+}
+
+#[test]
+fn other_texts_are_not_read(rt: HostRuntime) {
+    let texts = [
+        "",
+        "-",
+        "+1",
+        " 1",
+        "1/",
+        "/1",
+        "1/0",
+        "1/-2",
+        "1/2/3",
+        "1.5",
+        "[1]",
+        "[1]/2",
+        "1/[2]",
+        "[]/[1]",
+        "[1,]/[1]",
+        "[1]/[0,0]",
+        "[1]/[1]/[1]",
+        "[1 ]/[1]",
+        "[+1]/[1]",
+        // both parts are past their size, though the quotient isn't
+        "170141183460469231731687303715884105728/170141183460469231731687303715884105728",
+        "[0,0,0,0,0,0,0,0,0,0,0,0,0,0,0,0,0,0,0,0,0,0,0,0,0,0,0,0,0,0,0,0,0,1]/[1]",
+    ];
+    for text in texts {
+        assert!(rt; EpsQuotient::read(text.as_bytes()).is_none(), "{text}");
+    }
+}
+
 fn twice<N: Number>(x: &N) -> Result<N, TooWide> {
     x.add(x)
 }
