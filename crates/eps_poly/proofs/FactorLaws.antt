@@ -1,21 +1,23 @@
 -- Polynomials and their factors.
-use Rattle.std.proofs.Common.{◌≡◌, ◌≢◌, ℕ, zero, suc, ◌+◌, ◌-◌, ◌*◌, ◌/◌, ◌<◌, ◌≤◌, List, [], ◌∷◌, ◌++◌, length, replicate, refl, sym, ◌∙◌, ap, subst, arith, ℤ, pos, negsuc, neg_ℤ, ◌*ℤ◌, ◌<ℤ◌, unsigned_abs, int_div, inl, inr}
+use Rattle.std.proofs.Common.{◌≡◌, ◌≢◌, ℕ, zero, suc, ◌+◌, ◌-◌, ◌*◌, ◌/◌, ◌<◌, ◌≤◌, List, ◌++◌, length, replicate, refl, sym, ◌∙◌, ap, subst, arith, ℤ, pos, negsuc, neg_ℤ, ◌*ℤ◌, ◌<ℤ◌, unsigned_abs, int_div, inl, inr}
 use Rattle.std.specs.Int.{◌∣◌}
 use Rattle.std.proofs.lemmas.Bool.{cases_lt}
 use Rattle.std.proofs.lemmas.Int.{ints, unsigned_abs-mul}
 use Rattle.std.proofs.lemmas.Nat.Gcd.{dvd_trans, dvd_refl, dvd-zero}
 use Rattle.std.proofs.Math.Nat.{zero-add, one-mul, mul-one, mul-div_cancel', dvd-mul_right, dvd_of_mul-dvd-mul_left, mul-dvd-mul_right, dvd_of_mul-dvd-mul_right, eq-one_of_dvd-one}
+use lib.IntN.{*ℤ-zero}
 use Rattle.std.proofs.Math.IntN.{*ℤ_comm}
-use Rattle.field_core.specs.Polynomial.{coefficient, Same, poly_scale, poly_negate, lowest, IsNonZero}
+use Rattle.field_core.specs.Polynomial.{coefficient, Same, poly_negate, lowest, IsNonZero}
 use Rattle.field_core.specs.Laws.Integers.{integers}
-use Rattle.field_core.specs.Laws.Ring.{negate_multiply}
+use Rattle.field_core.specs.Laws.Ring.{negate_multiply, negate_negate}
 use Rattle.field_core.specs.Laws.PolynomialLaws.{coefficient-scale, coefficient-negate, product_nonzero}
-use Rattle.eps_poly.specs.Polynomials.{IsPolynomial, by_powers}
+use Rattle.eps_poly.specs.Polynomials.{by_powers}
 use Rattle.eps_poly.specs.Factors.{content, order, factor, signed_as, turned_as, lowered, from_factors, IsCore, core}
 use Rattle.eps_poly.proofs.Coefficients.{coefficient-past, length-by_powers, coefficient-by_powers, length-negate}
 use Rattle.eps_poly.proofs.ContentLaws.{content_divides, content_greatest, content_some}
 use Rattle.eps_poly.proofs.IntegerQuotients.{quotient_times, int_div-zero, int_div_exact, size_some, size_none}
 use Rattle.eps_poly.proofs.OrderLaws.{coefficient-below_order, coefficient-order, order_is}
+use Rattle.eps_poly.proofs.Validity.{abs_negate}
 use Rattle.eps_poly.proofs.Signs.{signed_below, signed_above, turned_below, turned_above}
 
 -- ---- coefficients of c * epsilon^k * P
@@ -32,13 +34,10 @@ raised_above zero i m p e = ap (coefficient p) (omega arith)
 raised_above (suc k) i zero p e = absurd (omega arith)
 raised_above (suc k) i (suc m) p e = raised_above k i m p (omega arith)
 
-times_zero : (c : ℤ) → c *ℤ pos 0 ≡ pos 0
-times_zero c = omega (arith, ints)
-
 pub coefficient-factors_below : (c : ℤ) (k i : ℕ) (p : List ℤ) → i < k → coefficient (from_factors c k p) i ≡ pos 0
 unfolding from_factors
 coefficient-factors_below c k i p h =
-    coefficient-scale c (replicate k (pos 0) ++ p) i ∙ ap (λ x. c *ℤ x) (raised_below k i p h) ∙ times_zero c
+    coefficient-scale c (replicate k (pos 0) ++ p) i ∙ ap (λ x. c *ℤ x) (raised_below k i p h) ∙ *ℤ-zero c
 
 pub coefficient-factors : (c : ℤ) (k i m : ℕ) (p : List ℤ) → m ≡ i + k → coefficient (from_factors c k p) m ≡ c *ℤ coefficient p i
 unfolding from_factors
@@ -67,19 +66,9 @@ lowered_factors k h p long divides within i = elim (cases_lt i k) [
 
 -- ---- the core
 
-opposite_twice : (z : ℤ) → neg_ℤ (neg_ℤ z) ≡ z
-opposite_twice (pos zero) = refl
-opposite_twice (pos (suc n)) = refl
-opposite_twice (negsuc n) = refl
-
 opposite_times : (g x z : ℤ) → x *ℤ g ≡ neg_ℤ z → neg_ℤ g *ℤ x ≡ z
 unfolding integers
-opposite_times g x z e = negate_multiply integers g x ∙ ap neg_ℤ (*ℤ_comm g x ∙ e) ∙ opposite_twice z
-
-size_negate : (z : ℤ) → unsigned_abs (neg_ℤ z) ≡ unsigned_abs z
-size_negate (pos zero) = refl
-size_negate (pos (suc n)) = refl
-size_negate (negsuc n) = refl
+opposite_times g x z e = negate_multiply integers g x ∙ ap neg_ℤ (*ℤ_comm g x ∙ e) ∙ negate_negate integers z
 
 pub length-turned : (s : ℤ) (p : List ℤ) → length (turned_as s p) ≡ length p
 length-turned (pos n) p = refl
@@ -87,7 +76,7 @@ length-turned (negsuc n) p = length-negate p
 
 turned_size : (s : ℤ) (p : List ℤ) (i : ℕ) → unsigned_abs (coefficient (turned_as s p) i) ≡ unsigned_abs (coefficient p i)
 turned_size (pos n) p i = refl
-turned_size (negsuc n) p i = ap unsigned_abs (coefficient-negate p i) ∙ size_negate (coefficient p i)
+turned_size (negsuc n) p i = ap unsigned_abs (coefficient-negate p i) ∙ abs_negate (coefficient p i)
 
 -- a coefficient of the core, times the content
 core_times : (s : ℤ) (p : List ℤ) (i : ℕ) → length p ≡ 33 → coefficient (lowered (order p) (pos (content p)) (turned_as s p)) i *ℤ pos (content p) ≡ coefficient (turned_as s p) (i + order p)

@@ -1,9 +1,10 @@
 -- Quotients of whole numbers that leave no remainder.
-use Rattle.std.proofs.Common.{◌≡◌, ◌≢◌, ℕ, zero, suc, ◌+◌, ◌*◌, ◌/◌, ◌<◌, ◌≤◌, refl, sym, ◌∙◌, ap, arith, ℤ, pos, negsuc, ◌+ℤ◌, ◌*ℤ◌, neg_ℤ, unsigned_abs, int_div, int_rem, inl, inr}
+use Rattle.std.proofs.Common.{◌≡◌, ◌≢◌, ℕ, zero, suc, ◌*◌, ◌/◌, ◌<◌, ◌≤◌, refl, sym, ◌∙◌, ap, arith, ℤ, pos, negsuc, ◌+ℤ◌, ◌*ℤ◌, neg_ℤ, unsigned_abs, int_div, int_rem, inl, inr}
 use Rattle.std.proofs.lemmas.Bool.{cases_lt}
 use Rattle.std.proofs.lemmas.Int.{ints, quot-rem, rem_below, unsigned_abs-mul}
 use Rattle.std.proofs.Math.Nat.{mul-le-mul_right, div-mul_cancel, zero-mul}
 use Rattle.std.specs.Int.{◌∣◌}
+use lib.IntN.{+ℤ_idr}
 use Rattle.field_core.proofs.IntegerRing.{*ℤ_distrib_right}
 
 pub size_some : (d : ℤ) → d ≢ pos 0 → 0 < unsigned_abs d
@@ -53,6 +54,10 @@ pub int_div-zero : (d : ℤ) → int_div (pos 0) d ≡ pos 0
 int_div-zero (pos zero) = omega (arith, ints)
 int_div-zero (pos (suc n)) = omega (arith, ints)
 int_div-zero (negsuc n) = let none : 0 / suc n ≡ 0 = omega arith in rw none refl
+
+-- a quotient without remainder
+pub no_remainder : (a d : ℤ) → int_rem a d ≡ pos 0 → int_div a d *ℤ d ≡ a
+no_remainder a d e = sym (+ℤ_idr (int_div a d *ℤ d)) ∙ ap (λ r. int_div a d *ℤ d +ℤ r) (sym e) ∙ quot-rem a d
 
 neg_times : (m g : ℕ) → neg_ℤ (pos m) *ℤ pos g ≡ neg_ℤ (pos (m * g))
 neg_times zero g = rw (zero-mul g) (omega (arith, ints))

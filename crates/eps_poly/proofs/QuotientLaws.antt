@@ -1,18 +1,17 @@
 -- How the coefficients of an exact quotient follow from one another.
-use Rattle.std.proofs.Common.{◌≡◌, ◌≢◌, ℕ, zero, suc, ◌+◌, ◌-◌, ◌<◌, ◌≤◌, List, length, refl, sym, ◌∙◌, ap, ap₂, arith, ℤ, pos, ◌+ℤ◌, ◌*ℤ◌, neg_ℤ, inl, inr, ◌⊎◌, Result, Ok, Err, Some, None}
+use Rattle.std.proofs.Common.{◌≡◌, ◌≢◌, ℕ, zero, suc, ◌+◌, ◌-◌, ◌<◌, ◌≤◌, List, refl, sym, ◌∙◌, ap, ap₂, arith, ℤ, pos, ◌+ℤ◌, ◌*ℤ◌, neg_ℤ, inl, inr, ◌⊎◌, Result, Ok, Err, Some, None}
+use lib.IntN.{+ℤ_idr, *ℤ-zero}
 use Rattle.std.specs.Result.{result_ok}
 use Rattle.field_core.specs.Kind.{ok_map}
-use Rattle.std.proofs.lemmas.Bool.{cases_eq, cases_lt}
+use Rattle.std.proofs.lemmas.Bool.{cases_lt}
 use Rattle.std.proofs.lemmas.Int.{ints}
-use Rattle.field_core.specs.Polynomial.{coefficient, lowest, Same, IsNonZero}
+use Rattle.field_core.specs.Polynomial.{coefficient, Same, IsNonZero}
 use Rattle.field_core.specs.Sized.{sized}
 use Rattle.field_core.specs.Laws.PolynomialLaws.{product_part}
 use Rattle.field_core.specs.declared.place.Op.{Op}
 use Rattle.field_core.specs.declared.place.TooWide.{TooWide}
 use Rattle.eps_poly.specs.Factors.{order}
-use Rattle.eps_poly.specs.Polynomials.{IsPolynomial}
-use Rattle.eps_poly.specs.Written.{written_coefficient, degree, sized_product}
-use Rattle.eps_poly.proofs.Coefficients.{Filled}
+use Rattle.eps_poly.specs.Written.{written_coefficient, sized_product}
 use Rattle.eps_poly.proofs.SizedLists.{ok_inside}
 use Rattle.eps_poly.proofs.SumLaws.{sized_inside}
 use Rattle.eps_poly.proofs.OrderLaws.{coefficient-below_order, coefficient-order}
@@ -39,13 +38,10 @@ part_more p q k n zero h = let none : zero + n ≡ n = omega arith in ap (produc
 part_more p q k n (suc m) h =
     let next : suc m + n ≡ suc (m + n) = omega arith in
     ap (product_part p q k) next ∙ ap₂ (λ a b. a +ℤ b) (part_more p q k n m (λ i l u. h i l (omega arith))) (h (m + n) (omega arith) (omega arith))
-    ∙ plus_zero (product_part p q k n)
-  where
-    plus_zero : (a : ℤ) → a +ℤ pos 0 ≡ a
-    plus_zero a = omega (arith, ints)
+    ∙ +ℤ_idr (product_part p q k n)
 
 product_zero : (a b : ℤ) → b ≡ pos 0 → a *ℤ b ≡ pos 0
-product_zero a b e = rw e (omega (arith, ints))
+product_zero a b e = rw e (*ℤ-zero a)
 
 difference : (a b c : ℤ) → a ≡ b +ℤ c → a +ℤ neg_ℤ b ≡ c
 difference a b c e = omega (arith, ints)

@@ -1,5 +1,5 @@
 -- What a sum that isn't refused is.
-use Rattle.std.proofs.Common.{◌≡◌, ℕ, ◌+◌, ◌<◌, ◌≤◌, ◌^◌, List, [], length, refl, sym, ◌∙◌, ap, ap₂, arith, ℤ, pos, ◌+ℤ◌, unsigned_abs, inl, inr, Result, Ok, Err}
+use Rattle.std.proofs.Common.{◌≡◌, ℕ, ◌<◌, ◌^◌, List, length, sym, ◌∙◌, ap₂, arith, ℤ, ◌+ℤ◌, unsigned_abs, inl, inr, Result, Ok}
 use Rattle.std.proofs.lemmas.Bool.{cases_lt}
 use Rattle.std.proofs.lemmas.Int.{ints}
 use Rattle.field_core.specs.Polynomial.{coefficient, Same, poly_add}
@@ -11,7 +11,7 @@ use Rattle.field_core.proofs.Sized.{sized_small, sized_large}
 use Rattle.eps_poly.specs.Polynomials.{IsPolynomial}
 use Rattle.eps_poly.specs.Written.{sized_list, sized_sum}
 use Rattle.eps_poly.proofs.Coefficients.{coefficient-past}
-use Rattle.eps_poly.proofs.SizedLists.{AreValues, list_values, ok_inside}
+use Rattle.eps_poly.proofs.SizedLists.{list_values, ok_inside}
 
 -- a written part that isn't refused
 pub sized_inside : (op : Op) (z c : ℤ) → sized op z ≡ Ok c → (c ≡ z) × (unsigned_abs c < 2 ^ 127)

@@ -1,7 +1,6 @@
 -- Lists that are polynomials: 33 coefficients, each of at most 2^127 - 1 in size.
-use Rattle.std.proofs.Common.{◌≡◌, ℕ, zero, suc, ◌+◌, ◌/◌, ◌<◌, ◌≤◌, ◌^◌, List, length, set, refl, sym, ◌∙◌, ap, arith, lit<, ℤ, pos, negsuc, neg_ℤ, ◌<ℤ◌, int_div, unsigned_abs, inl, inr}
+use Rattle.std.proofs.Common.{◌≡◌, ℕ, zero, suc, ◌+◌, ◌/◌, ◌<◌, ◌≤◌, ◌^◌, List, set, refl, ◌∙◌, arith, lit<, ℤ, pos, negsuc, neg_ℤ, int_div, unsigned_abs, inl, inr}
 use Rattle.std.proofs.lemmas.Bool.{cases_eq, cases_lt}
-use Rattle.std.proofs.lemmas.Int.{ints}
 use Rattle.std.proofs.lemmas.List.{length-set}
 use Rattle.std.proofs.Math.Nat.{div-le_self}
 use Rattle.field_core.specs.Polynomial.{coefficient, lowest, poly_negate}
@@ -22,7 +21,7 @@ set_valid p i c v room small = let count = v.count in record {
   ];
 }
 
-abs_negate : (z : ℤ) → unsigned_abs (neg_ℤ z) ≡ unsigned_abs z
+pub abs_negate : (z : ℤ) → unsigned_abs (neg_ℤ z) ≡ unsigned_abs z
 abs_negate (pos zero) = refl
 abs_negate (pos (suc n)) = refl
 abs_negate (negsuc n) = refl

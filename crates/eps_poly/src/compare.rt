@@ -2,6 +2,7 @@
 
 use crate::EpsPoly;
 use crate::numbers::is_equal;
+use crate::poly::COUNT;
 
 impl EpsPoly {
     ghost use Rattle.std.specs.Prelude.{◌≡◌, ◌↔◌, IsTrue};
@@ -11,7 +12,7 @@ impl EpsPoly {
     pub fn is_same(&self, other: &EpsPoly) -> bool
         ensures { IsTrue result ↔ (coefficients self.now ≡ coefficients other.now) }
     {
-        for power in 0..33 {
+        for power in 0..COUNT {
             if !is_equal(self.whole(power), other.whole(power)) {
                 return false;
             }

@@ -2,6 +2,7 @@
 
 use crate::EpsPoly;
 use crate::numbers::{is_below_zero, is_zero, size};
+use crate::poly::COUNT;
 use field_core::{Whole, gcd};
 
 impl EpsPoly {
@@ -17,7 +18,7 @@ impl EpsPoly {
         ensures value { result ≡ list_all is_zero_integer (coefficients self.now) }
         ensures zero { IsTrue result ↔ (lowest (coefficients self.now) ≡ pos 0) }
     {
-        self.order() == 33
+        self.order() == COUNT
     }
 
     /// The greatest common divisor of the coefficients, and 0 for the polynomial 0.
@@ -26,7 +27,7 @@ impl EpsPoly {
         ensures size { result < 2 ^ 127 }
     {
         let mut divisor = 0;
-        for power in (0..33).rev() {
+        for power in (0..COUNT).rev() {
             divisor = gcd(size(self.whole(power)), divisor);
         }
         divisor
@@ -44,12 +45,12 @@ impl EpsPoly {
         ensures value { result ≡ order (coefficients self.now) }
         ensures within { result ≤ 33 }
     {
-        for power in 0..33 {
+        for power in 0..COUNT {
             if !is_zero(self.whole(power)) {
                 return power;
             }
         }
-        33
+        COUNT
     }
 
     /// The least power with a coefficient that isn't 0, or `None` exactly for the polynomial 0.
@@ -58,7 +59,7 @@ impl EpsPoly {
         ensures within { IfSome result (λ k. k ≤ 32) }
     {
         let order = self.order();
-        if order == 33 { None } else { Some(order) }
+        if order == COUNT { None } else { Some(order) }
     }
 
     /// The lowest coefficient that isn't 0, or 0 for the polynomial 0.
@@ -66,7 +67,7 @@ impl EpsPoly {
         ensures { result ≡ lowest (coefficients self.now) }
     {
         let order = self.order();
-        if order == 33 {
+        if order == COUNT {
             Whole::new(0)
         } else {
             self.whole(order)

@@ -16,18 +16,21 @@ pub fn whole(c: i128) -> Result<Whole, TooWide>
     Ok(Whole::new(c))
 }
 
+/// Whether it is 0.
 pub fn is_zero(c: Whole) -> bool
     ensures { result ≡ is_zero_integer c }
 {
     c.value() == 0
 }
 
+/// Whether it is below 0.
 pub fn is_below_zero(c: Whole) -> bool
     ensures { IsTrue result ↔ (c <ℤ pos 0) }
 {
     c.value() < 0
 }
 
+/// Whether two numbers are the same.
 pub fn is_equal(c: Whole, d: Whole) -> bool
     ensures { IsTrue result ↔ (c ≡ d) }
 {
@@ -44,7 +47,7 @@ pub fn size(c: Whole) -> u128
 /// The number that times `by` is `product`, where there is one.
 pub fn divided(product: Whole, by: Whole) -> Option<Whole>
     requires { by ≢ pos 0 }
-    ensures { (x : ℤ) → x *ℤ by ≡ product → result ≡ Some x }
+    ensures { (x : ℤ) → (result ≡ Some x) ↔ (x *ℤ by ≡ product) }
 {
     let over = product.value();
     let under = by.value();

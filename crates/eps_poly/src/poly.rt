@@ -3,10 +3,13 @@ ghost use Rattle.eps_poly.specs.Polynomials.{IsPolynomial};
 use crate::numbers::whole;
 use field_core::{TooWide, Whole};
 
+/// How many coefficients a polynomial holds: those of the powers 0 to 32.
+pub const COUNT: usize = 33;
+
 /// A polynomial in epsilon with whole coefficients: one of at most 2^127 - 1 in size for each of the powers 0 to 32.
 #[derive(Clone, Copy)]
 pub struct EpsPoly {
-    entries: [i128; 33],
+    entries: [i128; COUNT],
     ghost valid: { IsPolynomial entries },
 }
 
@@ -23,7 +26,9 @@ impl EpsPoly {
     pub fn zero() -> EpsPoly
         ensures { coefficients result ≡ zero_polynomial }
     {
-        EpsPoly { entries: [0; 33] }
+        EpsPoly {
+            entries: [0; COUNT],
+        }
     }
 
     /// The polynomial `c`, refused with `Op::Add` exactly where `c` is the least `i128`.
@@ -38,7 +43,9 @@ impl EpsPoly {
         requires { power ≤ 32 }
         ensures { coefficients result ≡ monomial c power }
     {
-        EpsPoly::zero().set(power, c)
+        let mut single = EpsPoly::zero();
+        single.put(power, c);
+        single
     }
 
     /// This polynomial with `c` as one coefficient, refused with `Op::Add` exactly where `c` is the least `i128`;
@@ -47,17 +54,9 @@ impl EpsPoly {
         requires { power ≤ 32 }
         ensures { ok_map coefficients result ≡ ok_map (slice_set (coefficients self.now) power) (sized Add c) }
     {
-        Ok(self.set(power, whole(c)?))
-    }
-
-    /// This polynomial with `c` as one coefficient; `power` is at most 32.
-    pub fn set(&self, power: usize, c: Whole) -> EpsPoly
-        requires { power ≤ 32 }
-        ensures { coefficients result ≡ slice_set (coefficients self.now) power c }
-    {
         let mut changed = *self;
-        changed.put(power, c);
-        changed
+        changed.put(power, whole(c)?);
+        Ok(changed)
     }
 
     /// Puts `c` in place of one coefficient; `power` is at most 32.

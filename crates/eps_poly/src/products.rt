@@ -5,6 +5,7 @@ ghost use Rattle.eps_poly.specs.Written.{written_coefficient};
 
 use crate::EpsPoly;
 use crate::numbers::is_zero;
+use crate::poly::COUNT;
 use field_core::{Op, TooWide, Whole};
 
 /// What the coefficients below `count` of the first factor add to a coefficient of the product.
@@ -37,7 +38,7 @@ impl EpsPoly {
     ghost use Rattle.eps_poly.specs.View.{coefficients};
     ghost use Rattle.eps_poly.specs.Written.{degree, sized_product};
 
-    /// The product, or `TooWide` exactly where the written product has a part past its size.
+    /// The product, or `TooWide` exactly where the written product has a part past its size or a degree above 32.
     pub fn mul(&self, other: &EpsPoly) -> Result<EpsPoly, TooWide>
         ensures written { ok_map coefficients result ≡ sized_product Mul (coefficients self.now) (coefficients other.now) }
         ensures exact { IfOk result (λ r. Same (coefficients r) (poly_multiply (coefficients self.now) (coefficients other.now))) }
@@ -45,16 +46,16 @@ impl EpsPoly {
         self.times(Op::Mul, other)
     }
 
-    /// The product, or `TooWide` exactly where the written product has a part past its size; `op` is what it is made for.
+    /// The product, or `TooWide` exactly where the written product has a part past its size or a degree above 32; `op` is what it is made for.
     pub fn times(&self, op: Op, other: &EpsPoly) -> Result<EpsPoly, TooWide>
         ensures written { ok_map coefficients result ≡ sized_product op (coefficients self.now) (coefficients other.now) }
         ensures exact { IfOk result (λ r. Same (coefficients r) (poly_multiply (coefficients self.now) (coefficients other.now))) }
     {
-        if self.degree() + other.degree() > 32 {
+        if self.degree() + other.degree() >= COUNT {
             return Err(TooWide { op });
         }
         let mut product = EpsPoly::zero();
-        for power in 0..33 {
+        for power in 0..COUNT {
             product.put(power, part_of_product(op, self, other, power, power + 1)?);
         }
         Ok(product)
@@ -65,7 +66,7 @@ impl EpsPoly {
         ensures value { result ≡ degree (coefficients self.now) }
         ensures within { result ≤ 32 }
     {
-        for power in (0..33).rev() {
+        for power in (0..COUNT).rev() {
             if !is_zero(self.whole(power)) {
                 return power;
             }

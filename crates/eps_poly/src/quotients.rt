@@ -8,6 +8,7 @@ ghost use Rattle.eps_poly.specs.Written.{sized_product};
 
 use crate::EpsPoly;
 use crate::numbers::divided;
+use crate::poly::COUNT;
 use crate::products::part_of_product;
 use field_core::{Op, Whole};
 
@@ -33,7 +34,7 @@ fn candidate(p: &EpsPoly, by: &EpsPoly) -> Option<EpsPoly>
 {
     let low = by.order();
     let mut quotient = EpsPoly::zero();
-    for power in 0..33 - low {
+    for power in 0..COUNT - low {
         quotient.put(power, next(p, by, low, &quotient, power)?);
     }
     Some(quotient)

@@ -1,6 +1,7 @@
 //! Sums, opposites and quotients, coefficient by coefficient.
 
 use crate::EpsPoly;
+use crate::poly::COUNT;
 use field_core::{Op, TooWide, Whole};
 
 impl EpsPoly {
@@ -34,7 +35,7 @@ impl EpsPoly {
         ensures exact { IfOk result (λ r. Same (coefficients r) (poly_add (coefficients self.now) (coefficients other.now))) }
     {
         let mut sum = EpsPoly::zero();
-        for power in 0..33 {
+        for power in 0..COUNT {
             let left = self.whole(power);
             let right = other.whole(power);
             sum.put(power, left.plus(op, right)?);
@@ -47,7 +48,7 @@ impl EpsPoly {
         ensures { coefficients result ≡ poly_negate (coefficients self.now) }
     {
         let mut opposite = EpsPoly::zero();
-        for power in 0..33 {
+        for power in 0..COUNT {
             opposite.put(power, self.whole(power).negated());
         }
         opposite
@@ -60,7 +61,7 @@ impl EpsPoly {
         ensures { coefficients result ≡ lowered power by (coefficients self.now) }
     {
         let mut lowered = EpsPoly::zero();
-        for at in 0..33 - power {
+        for at in 0..COUNT - power {
             lowered.put(at, self.whole(at + power).over(by));
         }
         lowered

@@ -1,4 +1,4 @@
-use Rattle.std.proofs.Common.{◌≡◌, ◌<◌, ◌≤◌, ◌+◌, ◌-◌, ◌∙◌, sym, ap, arith, ℕ, ℤ, List, Ok, Some, None}
+use Rattle.std.proofs.Common.{◌≡◌, arith, Some, None}
 use Rattle.field_core.specs.Polynomial.{coefficient}
 use Rattle.field_core.specs.declared.place.Op.TheVariants.{Mul}
 use Rattle.eps_poly.specs.View.{coefficients}

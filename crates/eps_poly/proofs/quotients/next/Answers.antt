@@ -45,4 +45,4 @@ returns c q e same =
     let sum : c.plus.result ≡ sized Mul (coefficient p at +ℤ neg_ℤ s.part) = c.plus.ensures ∙ ap₂ (λ a b. sized Mul (a +ℤ b)) c.whole.ensures (c.negated.ensures ∙ ap neg_ℤ part) in
     let rest : c.ok-2.result ≡ Some (coefficient q c.args.power *ℤ coefficient by c.args.low) = c.ok-2.ensures.value ∙ ap result_ok (sum ∙ s.rest) in
     let product : c.in_ok-rest.rest ≡ coefficient q c.args.power *ℤ coefficient by c.args.low = some_inside _ _ (sym c.in_ok-rest.was ∙ rest) in
-    c.divided.ensures (coefficient q c.args.power) (ap (λ x. coefficient q c.args.power *ℤ x) c.whole-2.ensures ∙ sym product)
+    (c.divided.ensures (coefficient q c.args.power)).1 (ap (λ x. coefficient q c.args.power *ℤ x) c.whole-2.ensures ∙ sym product)

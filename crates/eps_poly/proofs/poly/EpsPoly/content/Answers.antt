@@ -1,4 +1,4 @@
-use Rattle.std.proofs.Common.{◌≡◌, ◌∙◌, ap, arith, drop, ◌≤◌, unsigned_abs}
+use Rattle.std.proofs.Common.{◌≡◌, ◌∙◌, ap, arith, drop, unsigned_abs}
 use Rattle.eps_poly.specs.Factors.{content}
 use Rattle.eps_poly.specs.View.{coefficients}
 use Rattle.eps_poly.proofs.ContentLaws.{content_end, content_more, content_small}

@@ -1,7 +1,6 @@
-use Rattle.std.proofs.Common.{◌≡◌, ◌<◌, ◌<ℤ◌, ◌∙◌, ap, refl, pos, length, arith}
+use Rattle.std.proofs.Common.{◌∙◌, ap, refl, arith}
 use Rattle.std.proofs.lemmas.Int.{ints}
-use Rattle.field_core.specs.Polynomial.{lowest}
-use Rattle.eps_poly.specs.Factors.{content, core, lowered, turned_as}
+use Rattle.eps_poly.specs.Factors.{core, lowered}
 use Rattle.eps_poly.proofs.OrderLaws.{order_below}
 use Rattle.eps_poly.proofs.ContentLaws.{content_some}
 use Rattle.eps_poly.proofs.poly.EpsPoly.core.Goals as goal

@@ -1,8 +1,7 @@
-use Rattle.std.proofs.Common.{◌≡◌, ◌≢◌, ◌<◌, ◌≤◌, ◌-◌, ◌∙◌, sym, ℕ, pos, length, arith, inl, inr}
+use Rattle.std.proofs.Common.{◌≡◌, ◌≢◌, ◌-◌, ◌∙◌, sym, pos, arith, inl, inr}
 use Rattle.std.proofs.lemmas.Bool.{cases_eq}
 use Rattle.field_core.specs.Polynomial.{coefficient}
 use Rattle.eps_poly.specs.View.{coefficients}
-use Rattle.eps_poly.specs.Written.{degree}
 use Rattle.eps_poly.proofs.Coefficients.{coefficient-past, is_zero_true, is_zero_false}
 use Rattle.eps_poly.proofs.ProductLaws.{degree_at_least, degree_at_most}
 use Rattle.eps_poly.proofs.poly.EpsPoly.degree.Goals as goal

@@ -1,4 +1,4 @@
-use Rattle.std.proofs.Common.{◌≡◌, ◌∙◌, sym, List, ℤ, Ok, Some, None}
+use Rattle.std.proofs.Common.{◌≡◌, ◌∙◌, sym, List, ℤ, Ok}
 use Rattle.field_core.specs.Kind.{ok_map}
 use Rattle.field_core.specs.declared.place.Op.TheVariants.{Mul}
 use Rattle.eps_poly.specs.View.{coefficients}

@@ -1,6 +1,6 @@
-use Rattle.std.proofs.Common.{◌≡◌, ◌∙◌, sym, ap, neg_ℤ}
+use Rattle.std.proofs.Common.{◌∙◌, sym, ap, neg_ℤ}
 use Rattle.field_core.specs.Polynomial.{lowest}
-use Rattle.eps_poly.specs.Factors.{content, factor, signed_as}
+use Rattle.eps_poly.specs.Factors.{content, factor}
 use Rattle.eps_poly.proofs.Signs.{signed_below, signed_above, not_below}
 use Rattle.eps_poly.proofs.poly.EpsPoly.factor.Goals as goal
 

@@ -1,9 +1,9 @@
-use Rattle.std.proofs.Common.{◌≡◌, ◌<◌, ◌≤◌, ◌+◌, ◌-◌, ◌∙◌, sym, ap, arith, int_div, pos, length, ℕ, ℤ, inl, inr}
+use Rattle.std.proofs.Common.{◌≡◌, ◌+◌, ◌∙◌, sym, ap, arith, int_div, length, ℕ, ℤ, inl, inr}
 use Rattle.std.proofs.lemmas.Bool.{cases_lt}
 use Rattle.field_core.specs.Polynomial.{coefficient}
 use Rattle.eps_poly.specs.Factors.{lowered}
 use Rattle.eps_poly.specs.View.{coefficients}
-use Rattle.eps_poly.proofs.Coefficients.{Filled, filled_none, filled_more, same_polynomials, coefficient-past, length-by_powers, coefficient-by_powers}
+use Rattle.eps_poly.proofs.Coefficients.{filled_none, filled_more, same_polynomials, coefficient-past, length-by_powers, coefficient-by_powers}
 use Rattle.eps_poly.proofs.IntegerQuotients.{int_div-zero}
 use Rattle.eps_poly.proofs.poly.EpsPoly.lowered.Goals as goal
 

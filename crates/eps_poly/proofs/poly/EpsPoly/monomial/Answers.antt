@@ -4,4 +4,4 @@ use Rattle.eps_poly.proofs.poly.EpsPoly.monomial.Goals as goal
 
 pub returns : goal.returns
 unfolding monomial
-returns c = c.set.ensures ∙ ap (λ p. set p c.args.power c.args.c) c.zero.ensures
+returns c = c.put.ensures ∙ ap (λ p. set p c.args.power c.args.c) c.zero-single.ensures

@@ -1,7 +1,7 @@
-use Rattle.std.proofs.Common.{◌≡◌, ◌<◌, ◌≤◌, ◌∙◌, sym, ap, arith, neg_ℤ, length}
+use Rattle.std.proofs.Common.{◌∙◌, sym, ap, arith, neg_ℤ}
 use Rattle.field_core.specs.Laws.PolynomialLaws.{coefficient-negate}
 use Rattle.eps_poly.specs.View.{coefficients}
-use Rattle.eps_poly.proofs.Coefficients.{Filled, filled_none, filled_more, same_polynomials, length-negate}
+use Rattle.eps_poly.proofs.Coefficients.{filled_none, filled_more, same_polynomials, length-negate}
 use Rattle.eps_poly.proofs.poly.EpsPoly.negate.Goals as goal
 
 pub loop-power-init : goal.loop-power-init

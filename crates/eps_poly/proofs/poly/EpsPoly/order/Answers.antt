@@ -1,7 +1,6 @@
-use Rattle.std.proofs.Common.{◌≡◌, ◌≢◌, ◌<◌, ◌≤◌, ◌∙◌, sym, ℕ, pos, length, arith, inl, inr}
+use Rattle.std.proofs.Common.{◌≡◌, ◌∙◌, sym, pos, arith, inl, inr}
 use Rattle.std.proofs.lemmas.Bool.{cases_eq}
 use Rattle.field_core.specs.Polynomial.{coefficient}
-use Rattle.eps_poly.specs.Factors.{order}
 use Rattle.eps_poly.specs.View.{coefficients}
 use Rattle.eps_poly.proofs.Coefficients.{is_zero_true, is_zero_false}
 use Rattle.eps_poly.proofs.OrderLaws.{order_is, order_none}

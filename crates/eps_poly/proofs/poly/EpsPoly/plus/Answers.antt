@@ -1,6 +1,5 @@
-use Rattle.std.proofs.Common.{◌≡◌, sym, ◌∙◌, ap, ap₂, ◌+ℤ◌, Ok, Err}
+use Rattle.std.proofs.Common.{sym, ◌∙◌, ap₂, ◌+ℤ◌}
 use Rattle.std.proofs.lemmas.Result.{err_from_is_err_and}
-use Rattle.field_core.specs.Kind.{ok_map}
 use Rattle.field_core.specs.Sized.{sized}
 use Rattle.eps_poly.specs.View.{coefficients}
 use Rattle.eps_poly.specs.Written.{sized_sum}

@@ -1,14 +1,14 @@
-use Rattle.std.proofs.Common.{◌≡◌, ◌<◌, ◌≤◌, ◌+◌, ◌∙◌, sym, arith, Ok}
+use Rattle.std.proofs.Common.{◌≤◌, ◌+◌, ◌∙◌, sym, arith}
 use Rattle.std.proofs.lemmas.Result.{err_from_is_err_and}
 use Rattle.eps_poly.specs.View.{coefficients}
-use Rattle.eps_poly.specs.Written.{degree, sized_product}
+use Rattle.eps_poly.specs.Written.{degree}
 use Rattle.eps_poly.proofs.Coefficients.{filled_none, filled_more}
 use Rattle.eps_poly.proofs.SizedLists.{list_from_filled, list_from_refused}
 use Rattle.eps_poly.proofs.ProductLaws.{product_from_list, product_past, product_is_exact}
 use Rattle.eps_poly.proofs.poly.EpsPoly.times.Goals as goal
 
-pub returns-then-degree-gt32-clause-written : goal.returns-then-degree-gt32-clause-written
-returns-then-degree-gt32-clause-written c = sym (product_past c.args.op (coefficients c.args.self.now) (coefficients c.args.other.now) (omega arith))
+pub returns-then-degree-ge-COUNT-clause-written : goal.returns-then-degree-ge-COUNT-clause-written
+returns-then-degree-ge-COUNT-clause-written c = sym (product_past c.args.op (coefficients c.args.self.now) (coefficients c.args.other.now) (omega arith))
 
 pub loop-power-init : goal.loop-power-init
 loop-power-init c = filled_none _ _ c.zero-product.ensures

@@ -1,4 +1,4 @@
-use Rattle.std.proofs.Common.{◌≡◌, ◌∙◌, sym}
+use Rattle.std.proofs.Common.{◌∙◌, sym}
 use Rattle.field_core.specs.Polynomial.{lowest}
 use Rattle.eps_poly.proofs.Signs.{turned_below, turned_above, not_below}
 use Rattle.eps_poly.proofs.poly.EpsPoly.turned.Goals as goal

@@ -1,4 +1,4 @@
-use Rattle.std.proofs.Common.{◌≡◌, ◌<◌, ◌≤◌, ◌^◌, ◌∙◌, sym, arith, FitsSigned, List, length, get_or, unsigned_abs, ℕ, ℤ, pos, to_z, of_z}
+use Rattle.std.proofs.Common.{◌<◌, ◌≤◌, ◌^◌, ◌∙◌, sym, arith, List, get_or, unsigned_abs, ℕ, ℤ, pos}
 use Rattle.std.specs.Int.{w128}
 use Rattle.std.proofs.lemmas.Int.{to_z-of_z}
 use Rattle.field_core.specs.Laws.PolynomialLaws.{coefficient-index}
