@@ -1,5 +1,5 @@
 -- Lists by their coefficients.
-use Rattle.std.proofs.Common.{◌≡◌, ◌≢◌, ℕ, zero, suc, ◌+◌, ◌<◌, ◌≤◌, List, [], ◌∷◌, length, get_or, set, replicate, map, refl, sym, ◌∙◌, ap, arith, Bool, true, false, ℤ, pos, negsuc, inl, inr}
+use Rattle.std.proofs.Common.{◌≡◌, ◌≢◌, ℕ, zero, suc, ◌+◌, ◌<◌, ◌≤◌, List, [], ◌∷◌, length, set, replicate, map, refl, sym, ◌∙◌, ap, arith, true, false, ℤ, pos, negsuc, inl, inr}
 use Rattle.std.specs.List.{range_with_len}
 use Rattle.std.proofs.lemmas.Bool.{cases_eq, cases_lt}
 use Rattle.std.proofs.lemmas.List.{same_lists, get_or-set_same, get_or-set_other, length-set, length-replicate, get_or-replicate}
@@ -67,13 +67,6 @@ pub is_zero_false : (c : ℤ) → is_zero_integer c ≡ false → c ≢ pos 0
 is_zero_false (pos zero) e same = cc
 is_zero_false (pos (suc n)) e same = cc
 is_zero_false (negsuc n) e same = cc
-
--- a coefficient that was read and tested
-pub read_zero : (p : List ℤ) (k : ℕ) (x : ℤ) (b : Bool) → k < length p → b ≡ is_zero_integer (get_or p k x) → b ≡ true → coefficient p k ≡ pos 0
-read_zero p k x b h e f = coefficient-index p k x h ∙ is_zero_true (get_or p k x) (sym e ∙ f)
-
-pub read_some : (p : List ℤ) (k : ℕ) (x : ℤ) (b : Bool) → k < length p → b ≡ is_zero_integer (get_or p k x) → b ≡ false → coefficient p k ≢ pos 0
-read_some p k x b h e f same = is_zero_false (get_or p k x) (sym e ∙ f) (sym (coefficient-index p k x h) ∙ same)
 
 -- ---- a loop that writes the coefficients of ascending powers
 
