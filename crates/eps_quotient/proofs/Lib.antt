@@ -1,0 +1,11 @@
+pub mod ListReadings
+pub mod ReadBack
+pub mod ReadSteps
+pub mod Readings
+pub mod Sides
+pub mod Signs
+pub mod Spelled
+pub mod Stored
+pub mod TermLaws
+pub mod Units
+pub mod WholeReadings

@@ -1,0 +1,31 @@
+-- The texts of quotients.
+use Rattle.std.specs.Prelude.{◌≡◌, ◌+◌, ◌==◌, ◌&&◌, ℕ, ℤ, pos, List, [], ◌∷◌, ◌++◌, map, take, if◌then◌else◌}
+use Rattle.std.specs.Fmt.{signed_decimal}
+use Rattle.std.specs.List.{join_with_byte}
+use Rattle.std.specs.Ordering.{int_eq}
+use Rattle.field_core.specs.Kind.{Parts}
+use Rattle.field_core.specs.Polynomial.{coefficient}
+use Rattle.eps_poly.specs.Written.{degree}
+
+-- whole numbers in brackets, with commas between them
+abbrev pub list_text : List ℤ → List ℕ
+list_text cs = 91 ∷ join_with_byte 44 (map signed_decimal cs) ++ 93 ∷ []
+
+-- the coefficients up to the last that isn't 0
+abbrev pub polynomial_text : List ℤ → List ℕ
+polynomial_text p = list_text (take (degree p + 1) p)
+
+-- `n`, or `n/d` where the denominator isn't 1
+abbrev pub fraction_text : ℤ → ℤ → List ℕ
+fraction_text n d = if int_eq d (pos 1) then signed_decimal n else signed_decimal n ++ 47 ∷ signed_decimal d
+
+-- the text of a fraction where both polynomials are constants, else both polynomials in brackets
+unfoldable pub quotient_text : Parts → List ℕ
+quotient_text x =
+    if (degree x.numerator == 0) && (degree x.denominator == 0)
+    then fraction_text (coefficient x.numerator 0) (coefficient x.denominator 0)
+    else polynomial_text x.numerator ++ 47 ∷ polynomial_text x.denominator
+
+-- the old bytes, and behind them a beginning of a text
+abbrev pub HoldsFront : List ℕ → List ℕ → List ℕ → Type 0
+HoldsFront old text new = (front rest : List ℕ) × (text ≡ front ++ rest) × (new ≡ old ++ front)

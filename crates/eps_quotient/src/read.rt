@@ -1,0 +1,167 @@
+//! Reading the texts of quotients.
+ghost use Rattle.std.specs.Prelude.{◌≡◌, ◌≢◌, ◌==◌, ◌-◌, ◌^◌, ◌∷◌, ◌++◌, ℕ, List, [], min, true, false, option_map, IfSome, IfNone};
+ghost use Rattle.std.specs.Char.{is_ascii_digit};
+ghost use Rattle.std.specs.List.{All, list_all};
+ghost use Rattle.std.specs.Str.Parse.{digits_value};
+ghost use Rattle.eps_poly.specs.View.{coefficients};
+ghost use Rattle.eps_quotient.specs.Grammar.{AreSides, IsFraction, IsList, IsLists, IsOnly, IsOnlyPair, IsPolynomials, IsWholeText};
+ghost use Rattle.eps_quotient.specs.Reading.{number_of, polynomial_of, whole_of};
+ghost use Rattle.eps_quotient.specs.View.{pair_parts};
+
+use crate::lower::{Pair, one};
+use eps_poly::EpsPoly;
+use field_core::Whole;
+
+/// The largest size of a part.
+const LARGEST: u128 = u128::MAX / 2;
+
+/// Whether each byte is a digit.
+fn are_digits(text: &[u8]) -> bool
+    ensures { result ≡ list_all is_ascii_digit text.now }
+{
+    text.iter().all(|byte| byte.is_ascii_digit())
+}
+
+/// The number that digits write, or the greatest that there is where it is greater.
+fn size(digits: &[u8]) -> u128
+    requires { list_all is_ascii_digit digits.now ≡ true }
+    ensures { result ≡ min (digits_value 10 digits.now) (2 ^ 128 - 1) }
+{
+    let mut size: u128 = 0;
+    for digit in digits {
+        size = size
+            .saturating_mul(10)
+            .saturating_add(u128::from(*digit - b'0'));
+    }
+    size
+}
+
+/// The number that digits write, where it is at most 2^127 - 1.
+#[tactic(auto, unfolding(crate::specs::Reading::number_of))]
+fn number(text: &[u8]) -> Option<Whole>
+    ensures { result ≡ number_of text.now }
+{
+    if text.is_empty() || !are_digits(text) {
+        return None;
+    }
+    let size = size(text);
+    if size > LARGEST {
+        return None;
+    }
+    Some(Whole::new(size as i128))
+}
+
+/// The number that digits write, perhaps behind a minus.
+#[tactic(auto, unfolding(crate::specs::Reading::whole_of))]
+fn whole(text: &[u8]) -> Option<Whole>
+    ensures { result ≡ whole_of text.now }
+{
+    match text {
+        [] => None,
+        [b'-', digits @ ..] => Some(number(digits)?.negated()),
+        _ => number(text),
+    }
+}
+
+/// What stands before the first such byte, and behind it.
+fn cut(text: &[u8], byte: u8) -> Option<(&[u8], &[u8])>
+    ensures none { IfNone result (All (λ b. (b == byte) ≡ false) text.now) }
+    ensures whole { IfSome result (λ x. text.now ≡ x.0.now ++ byte ∷ x.1.now) }
+    ensures first { IfSome result (λ x. All (λ b. (b == byte) ≡ false) x.0.now) }
+{
+    let front = text.iter().take_while(|b| **b != byte).count();
+    if front == text.len() {
+        return None;
+    }
+    Some((&text[..front], &text[front + 1..]))
+}
+
+/// What stands inside the brackets.
+fn inside(text: &[u8]) -> Option<&[u8]>
+    ensures found { IfSome result (λ inner. text.now ≡ 91 ∷ inner.now ++ 93 ∷ []) }
+    ensures none { IfNone result ((inner : List ℕ) → text.now ≢ 91 ∷ inner ++ 93 ∷ []) }
+{
+    match text {
+        [b'[', inner @ .., b']'] => Some(inner),
+        _ => None,
+    }
+}
+
+/// The polynomial whose coefficients are written with commas between them.
+fn polynomial(text: &[u8]) -> Option<EpsPoly>
+    ensures { option_map coefficients result ≡ polynomial_of text.now }
+{
+    let mut polynomial = EpsPoly::zero();
+    let mut rest = text;
+    for power in 0..33 {
+        let Some((word, more)) = cut(rest, b',') else {
+            polynomial.put(power, whole(rest)?);
+            return Some(polynomial);
+        };
+        polynomial.put(power, whole(word)?);
+        rest = more;
+    }
+    None
+}
+
+/// The polynomial whose coefficients stand in brackets.
+fn list(text: &[u8]) -> Option<EpsPoly>
+    ensures { IsOnly (IsList text.now) (option_map coefficients result) }
+{
+    polynomial(inside(text)?)
+}
+
+/// A whole number over a number.
+fn fraction(over: &[u8], under: &[u8]) -> Option<Pair>
+    ensures { IsOnlyPair (IsFraction over.now under.now) (option_map pair_parts result) }
+{
+    let num = whole(over)?;
+    let den = number(under)?;
+    Some(Pair {
+        numerator: EpsPoly::monomial(num, 0),
+        denominator: EpsPoly::monomial(den, 0),
+    })
+}
+
+/// A list over a list.
+fn lists(over: &[u8], under: &[u8]) -> Option<Pair>
+    ensures { IsOnlyPair (IsLists over.now under.now) (option_map pair_parts result) }
+{
+    let numerator = list(over)?;
+    let denominator = list(under)?;
+    Some(Pair {
+        numerator,
+        denominator,
+    })
+}
+
+/// What stands on both sides of a slash.
+fn sides(over: &[u8], under: &[u8]) -> Option<Pair>
+    ensures { IsOnlyPair (AreSides over.now under.now) (option_map pair_parts result) }
+{
+    match fraction(over, under) {
+        Some(pair) => Some(pair),
+        None => lists(over, under),
+    }
+}
+
+/// A whole number over 1.
+fn over_one(text: &[u8]) -> Option<Pair>
+    ensures { IsOnlyPair (IsWholeText text.now) (option_map pair_parts result) }
+{
+    let number = whole(text)?;
+    Some(Pair {
+        numerator: EpsPoly::monomial(number, 0),
+        denominator: one(),
+    })
+}
+
+/// The two polynomials of a text.
+pub fn polynomials(text: &[u8]) -> Option<Pair>
+    ensures { IsOnlyPair (IsPolynomials text.now) (option_map pair_parts result) }
+{
+    match cut(text, b'/') {
+        Some((over, under)) => sides(over, under),
+        None => over_one(text),
+    }
+}
