@@ -1,9 +1,9 @@
 -- The levels of a case after removals in turn are the intersection weights.
-use Rattle.std.proofs.Common.{◌≡◌, refl, sym, ap, subst, ◌∙◌, ℕ, ◌<◌, Bool, List, length, map, get_or, Ok}
+use Rattle.std.proofs.Common.{◌≡◌, sym, ap, subst, ◌∙◌, ℕ, ◌<◌, Bool, List, length, map, get_or, Ok}
 use Rattle.std.specs.List.{All}
 use Rattle.std.proofs.Math.ListN.{get_or-map as map_at}
 use Rattle.std.proofs.lemmas.List.{length-map, get_or-map}
-use Rattle.std.proofs.lemmas.List.Elements.{All-get_or, All-from_get_or, All-map}
+use Rattle.std.proofs.lemmas.List.Elements.{All-from_get_or, All-map}
 use Rattle.field_core.specs.Terms.{Terms, IsReduced}
 use Rattle.field_core.specs.Number.{Number}
 use Rattle.field_core.specs.Arithmetic.{◌*ε◌}

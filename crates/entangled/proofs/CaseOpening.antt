@@ -6,13 +6,13 @@ use Rattle.case_model.specs.Entries.{is_plain_entry, no_edge}
 use Rattle.case_model.specs.Content.{Content, component_at, empty_component, entangled, is_plain}
 use Rattle.case_model.specs.Validity.{IsValidContent, AreLowestParts}
 use Rattle.case_model.proofs.Holding.{all_at}
-use Rattle.case_model.proofs.ValidContents.{HasShape, shape, valid_content}
+use Rattle.case_model.proofs.ValidContents.{shape, valid_content}
 use Rattle.removal.specs.StoredGraph.{StoredGraph}
 use Rattle.entangled.specs.Items.{in_component}
 use Rattle.entangled.specs.Loading.{Numbers, in_fractions, in_quotients, numbers_of, CanRunIn, kind_of, loaded_graph, loaded_graphs}
 use Rattle.entangled.proofs.CaseGraphs.{IsComponent, IsGraphOf}
 use Rattle.entangled.proofs.LoadedGraphs.{stored_in, CanLoadEach, loaded_is}
-use Rattle.entangled.proofs.EachNet.{AreItems, items, in_component_ok}
+use Rattle.entangled.proofs.EachNet.{items, in_component_ok}
 
 can_run_by : (c : Content) (b : Bool) → is_plain c ≡ b → CanRunIn (cond b in_fractions in_quotients) c
 can_run_by c true e = e

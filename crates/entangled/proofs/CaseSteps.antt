@@ -1,5 +1,5 @@
 -- The run of a case is the run of its bundle.
-use Rattle.std.proofs.Common.{◌≡◌, refl, sym, ap, subst, ◌∙◌, ℕ, List, [], ◌∷◌, length, map, Result, Ok, Err}
+use Rattle.std.proofs.Common.{◌≡◌, refl, ap, ◌∙◌, ℕ, List, [], ◌∷◌, length, map, Result, Ok, Err}
 use Rattle.field_core.specs.Kind.{ok_map}
 use Rattle.field_core.specs.declared.place.WideAt.{WideAt}
 use Rattle.case_model.specs.Content.{Content}
@@ -9,7 +9,7 @@ use Rattle.removal.specs.InTurn.{removed_in_turn}
 use Rattle.removal.specs.WrittenRemoval.{written_removal}
 use Rattle.removal.specs.Laws.Prefixes.{bind_ok}
 use Rattle.removal.proofs.WeightsLeft.{turn_end, turn_none, turn_on, turn_first}
-use Rattle.entangled.specs.Bundled.{Bundled, opened, removed}
+use Rattle.entangled.specs.Bundled.{Bundled, removed}
 use Rattle.entangled.specs.BundleRun.{opened_after}
 use Rattle.entangled.specs.Loading.{Numbers, numbers_of, kind_of, loaded_graphs}
 use Rattle.entangled.specs.CaseRun.{CaseState, state_of, opening_in, case_opening, case_removal}
