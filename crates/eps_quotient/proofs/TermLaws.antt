@@ -1,5 +1,5 @@
 -- Sums of terms of ascending power.
-use Rattle.std.proofs.Common.{◌≡◌, ℕ, zero, suc, ◌+◌, ◌<◌, ◌≤◌, List, [], ◌∷◌, length, drop, map, refl, sym, ◌∙◌, ap, ap₂, arith, ℤ, pos, negsuc, ◌*ℤ◌, ◌<ℤ◌, unsigned_abs, Result, Ok, Err, lit≤, get_or, ◌*◌}
+use Rattle.std.proofs.Common.{◌≡◌, ℕ, zero, suc, ◌+◌, ◌<◌, ◌≤◌, List, [], ◌∷◌, length, drop, map, refl, sym, ◌∙◌, ap, ap₂, arith, ℤ, pos, negsuc, ◌*ℤ◌, ◌<ℤ◌, unsigned_abs, Result, Ok, Err, lit≤, get_or, ◌*◌, subst}
 use Rattle.std.proofs.lemmas.Int.{ints}
 use Rattle.field_core.specs.declared.place.Op.TheVariants.{Add}
 use Rattle.field_core.specs.declared.place.TooWide.{TooWide}
@@ -11,6 +11,8 @@ use Rattle.field_core.specs.Divisor.{gcd}
 use Rattle.field_core.specs.Laws.Integers.{int_multiply_one}
 use Rattle.std.proofs.Math.IntN.{*ℤ-zero}
 use Rattle.std.proofs.Math.Nat.{mul-one}
+use Rattle.std.specs.List.{All}
+use Rattle.std.proofs.lemmas.List.Elements.{All-head, All-tail}
 use Rattle.std.proofs.lemmas.List.{drop_all, drop_more, length-map, get_or-map}
 use lib.IntN.{ℤ_discrete}
 use Rattle.field_core.specs.Laws.Order.{number_laws, number_one_multiply, number_multiply_zero}
@@ -192,3 +194,34 @@ sum_next sum next k xs d h f =
 pub sum_stops : (sum : Parts) (k : ℕ) (xs : List Ratio) (d : Ratio) (wide : TooWide) → k < length xs → written_sum Add sum (term k (terms (get_or xs k d))) ≡ Err wide
     → sum_from k sum (drop k (map terms xs)) ≡ Err wide
 sum_stops sum k xs d wide h f = ap (sum_from k sum) (terms_left xs d k h) ∙ step_stops sum k (terms (get_or xs k d)) (drop (k + 1) (map terms xs)) wide f
+
+-- ---- written polynomials are exact
+
+all_reduced : (ts : List Terms) → All IsReduced ts → AreReduced ts
+unfolding AreReduced
+all_reduced [] r = tt
+all_reduced (t ∷ ts) r = (All-head IsReduced t ts r, all_reduced ts (All-tail IsReduced t ts r))
+
+sum_stored : (k : ℕ) (sum z : Parts) (ts : List Terms) → k + length ts ≤ 33 → IsQuotient sum → AreReduced ts → sum_from k sum ts ≡ Ok z → IsQuotient z
+unfolding sum_from AreReduced
+sum_stored k sum z [] room s r e = subst IsQuotient (parts_inside sum z e) s
+sum_stored k sum z (t ∷ ts) room s r e =
+    let b = bind_ok _ _ z e in
+    let next = quotients_are_exact.stored Add sum (term k t) b.0 s (term_stored k t (omega arith) r.0) tt b.1 in
+    sum_stored (suc k) b.0 z ts (omega arith) next r.1 b.2
+
+-- a written polynomial that isn't refused is stored
+pub polynomial_stored : (ts : List Terms) (z : Parts) → length ts ≤ 33 → All IsReduced ts → written_polynomial ts ≡ Ok z → IsQuotient z
+polynomial_stored ts z few r e = sum_stored 0 zero_quotient z ts (omega arith) zero_stored (all_reduced ts r) e
+
+-- and it has the value of the polynomial
+pub polynomial_is : (ts : List Terms) (z : Parts) → length ts ≤ 33 → All IsReduced ts → written_polynomial ts ≡ Ok z → value_of z ≡ polynomial_value ts
+unfolding power
+polynomial_is ts z few r e =
+    sum_value 0 zero_quotient z ts (omega arith) zero_stored (all_reduced ts r) e
+    ∙ ap (λ v. v +ε number_one *ε polynomial_value ts) quotients_are_exact.zero_value ∙ start_value (polynomial_value ts)
+
+-- a fraction as a quotient has its value
+pub constant_value : (t : Terms) → IsReduced t → value_of (term 0 t) ≡ fraction t.num t.den
+unfolding power
+constant_value t r = term_value 0 t (omega arith) r ∙ number_one_multiply (fraction t.num t.den)

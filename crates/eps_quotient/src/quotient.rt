@@ -91,6 +91,13 @@ impl EpsQuotient {
         Ok(sum)
     }
 
+    /// A fraction as a quotient: its parts as constant polynomials, with nothing written.
+    pub fn of(value: Ratio) -> EpsQuotient
+        ensures { quotient_parts result ≡ term 0 (terms value) }
+    {
+        EpsQuotient::term(&value, 0)
+    }
+
     /// A fraction times a power of epsilon.
     fn term(part: &Ratio, power: usize) -> EpsQuotient
         requires { power ≤ 32 }
