@@ -19,9 +19,13 @@ abbrev pub ◌>>=◌ : {A B : Type 0} → Result A ExprFault → (A → Result B
 
 -- ---- fractions
 
+-- a fraction, where neither part is above 10^18
+unfoldable pub short_of : Terms → Result Terms ExprFault
+short_of t = if is_short t then Ok t else Err Part
+
 -- n/d in lowest terms, where neither part is above 10^18
 unfoldable pub short : ℤ → ℤ → Result Terms ExprFault
-short n d = if is_short (lowest_terms n d) then Ok (lowest_terms n d) else Err Part
+short n d = short_of (lowest_terms n d)
 
 -- the sum of two fractions
 abbrev pub sum : Terms → Terms → Result Terms ExprFault

@@ -3,6 +3,7 @@ pub mod EntryValues
 pub mod Expressions
 pub mod EntryReading
 pub mod EntryTexts
+pub mod EntryView
 pub mod ExpressionStatements
 pub mod Faults
 pub mod Grammar

@@ -5,19 +5,31 @@ mod byte_class;
 mod byte_machine;
 mod cursor;
 mod document;
+mod evaluate;
 mod expr_fault;
 pub mod expression_laws;
+mod factor_cursor;
 mod fault;
 pub mod laws;
 mod lines;
+mod polynomial;
+mod print_entry;
 mod read;
+mod read_entry;
 mod rules;
+mod scan;
+mod short;
+mod short_arithmetic;
 mod words;
 
 pub use expr_fault::ExprFault;
 pub use fault::{LineKind, TextFault};
+pub use print_entry::print_entry;
 pub use read::read_text;
+pub use read_entry::read_entry;
 
+#[cfg(test)]
+mod entry_tests;
 #[cfg(test)]
 mod tests;
 #[cfg(test)]
