@@ -13,20 +13,21 @@ mod fault;
 pub mod laws;
 mod lines;
 mod polynomial;
-mod print_entry;
+mod printing;
 mod read;
-mod read_entry;
+mod reading;
 mod rules;
 mod scan;
 mod short;
 mod short_arithmetic;
 mod words;
+pub mod tmp_laws;
 
 pub use expr_fault::ExprFault;
 pub use fault::{LineKind, TextFault};
-pub use print_entry::print_entry;
+pub use printing::print_entry;
 pub use read::read_text;
-pub use read_entry::read_entry;
+pub use reading::read_entry;
 
 #[cfg(test)]
 mod entry_tests;
