@@ -1,5 +1,5 @@
 //! Arithmetic of fractions with short parts.
-ghost use Rattle.std.specs.Prelude.{◌≡◌, ◌≢◌, ◌≤◌, ◌^◌, ◌<ℤ◌, pos, unsigned_abs, false};
+ghost use Rattle.std.specs.Prelude.{◌≡◌, ◌≢◌, ◌≤◌, ◌^◌, ◌*ℤ◌, pos, unsigned_abs, false};
 ghost use Rattle.fraction.specs.View.{terms_of};
 ghost use Rattle.case_model.specs.Draft.{is_short};
 ghost use Rattle.case_model.specs.Entries.{is_zero_terms};
@@ -20,6 +20,17 @@ fn is_short(x: &Fraction) -> bool
 {
     let ratio = x.ratio();
     ratio.num().unsigned_abs() <= LARGEST && ratio.den().unsigned_abs() <= LARGEST
+}
+
+/// The product of two short parts.
+fn cross(x: i128, y: i128) -> i128
+    requires first { unsigned_abs x ≤ 10 ^ 18 }
+    requires second { unsigned_abs y ≤ 10 ^ 18 }
+    ensures value { result ≡ x *ℤ y }
+    ensures size { unsigned_abs result ≤ 10 ^ 36 }
+    ensures some { x ≢ pos 0 → y ≢ pos 0 → result ≢ pos 0 }
+{
+    x * y
 }
 
 impl Short {
@@ -62,7 +73,7 @@ impl Short {
 
     fn den(&self) -> i128
         ensures value { result ≡ (short_terms self.now).den }
-        ensures positive { pos 0 <ℤ result }
+        ensures some { result ≢ pos 0 }
         ensures size { unsigned_abs result ≤ 10 ^ 18 }
     {
         self.value.ratio().den()
@@ -78,8 +89,8 @@ impl Short {
         ensures { map_value short_terms result ≡ sum (short_terms self.now) (short_terms other.now) }
     {
         lowest(
-            self.num() * other.den() + other.num() * self.den(),
-            self.den() * other.den(),
+            cross(self.num(), other.den()) + cross(other.num(), self.den()),
+            cross(self.den(), other.den()),
         )
     }
 
@@ -87,22 +98,28 @@ impl Short {
         ensures { map_value short_terms result ≡ difference (short_terms self.now) (short_terms other.now) }
     {
         lowest(
-            self.num() * other.den() - other.num() * self.den(),
-            self.den() * other.den(),
+            cross(self.num(), other.den()) - cross(other.num(), self.den()),
+            cross(self.den(), other.den()),
         )
     }
 
     pub fn multiply(&self, other: &Short) -> Result<Short, ExprFault>
         ensures { map_value short_terms result ≡ product (short_terms self.now) (short_terms other.now) }
     {
-        lowest(self.num() * other.num(), self.den() * other.den())
+        lowest(
+            cross(self.num(), other.num()),
+            cross(self.den(), other.den()),
+        )
     }
 
     pub fn divide(&self, other: &Short) -> Result<Short, ExprFault>
         requires { is_zero_terms (short_terms other.now) ≡ false }
         ensures { map_value short_terms result ≡ quotient (short_terms self.now) (short_terms other.now) }
     {
-        lowest(self.num() * other.den(), self.den() * other.num())
+        lowest(
+            cross(self.num(), other.den()),
+            cross(self.den(), other.num()),
+        )
     }
 }
 
