@@ -9,7 +9,7 @@ use fraction::Fraction;
 /// The value of a decimal.
 fn decimal(text: &[u8]) -> Result<Polynomial, ExprFault> {
     match Fraction::parse(text) {
-        Ok(value) => Ok(Polynomial::constant(Short::of(value)?)),
+        Ok(value) => Ok(Polynomial::constant(&Short::of(value)?)),
         Err(_) => Err(ExprFault::Part),
     }
 }

@@ -1,10 +1,10 @@
 //! Polynomials in epsilon with short coefficients, and the operations of edge expressions.
-ghost use Rattle.std.specs.Prelude.{◌≡◌, ◌≤◌, ◌+◌, map};
+ghost use Rattle.std.specs.Prelude.{◌≡◌, ◌≤◌, suc, map};
 ghost use Rattle.case_model.specs.Entries.{no_edge, is_zero_terms};
 ghost use Rattle.case_model.specs.EntryView.{coefficients_of};
 ghost use Rattle.case_model.specs.Sums.{terms_at};
 ghost use Rattle.edge_text.specs.EntryView.{short_terms, map_value, polynomial_terms, coefficient, applied, CanDivide};
-ghost use Rattle.edge_text.specs.EntryValues.{degree, product_sum, unit_at, power_value, coefficients};
+ghost use Rattle.edge_text.specs.EntryValues.{degree, product_sum, unit_at, power_value, coefficients, times, over};
 ghost use Rattle.edge_text.specs.Grammar.{plain_entry};
 
 use crate::ExprFault;
@@ -45,11 +45,16 @@ impl Polynomial {
     }
 
     /// A number.
-    pub fn constant(value: Short) -> Polynomial
-        ensures { polynomial_terms result ≡ plain_entry (short_terms value) }
+    pub fn constant(value: &Short) -> Polynomial
+        ensures { polynomial_terms result ≡ plain_entry (short_terms value.now) }
     {
-        let zero = Short::zero();
-        Polynomial::of([value, zero, zero, zero, zero])
+        Polynomial::of([
+            *value,
+            Short::zero(),
+            Short::zero(),
+            Short::zero(),
+            Short::zero(),
+        ])
     }
 
     /// A power of epsilon.
@@ -102,28 +107,41 @@ impl Polynomial {
         power
     }
 
+    /// The product with another one.
+    #[tactic(auto, unfolding(crate::specs::EntryValues::times))]
+    fn times(&self, other: &Polynomial) -> Result<Polynomial, ExprFault>
+        ensures { map_value polynomial_terms result ≡ times (polynomial_terms self.now) (polynomial_terms other.now) }
+    {
+        if self.degree() + other.degree() > GREATEST {
+            return Err(ExprFault::Degree);
+        }
+        coefficients(Operation::Multiply, self, other)
+    }
+
+    /// The quotient by another one, which must be a number other than 0.
+    #[tactic(auto, unfolding(crate::specs::EntryValues::over))]
+    fn over(&self, other: &Polynomial) -> Result<Polynomial, ExprFault>
+        ensures { map_value polynomial_terms result ≡ over (polynomial_terms self.now) (polynomial_terms other.now) }
+    {
+        if other.degree() > 0 {
+            return Err(ExprFault::DivisorNotNumber);
+        }
+        if other.coefficient(0).is_zero() {
+            return Err(ExprFault::ZeroDivisor);
+        }
+        coefficients(Operation::Divide, self, other)
+    }
+
     /// The polynomial with another one added, taken away, multiplied or divided.
-    #[tactic(auto, unfolding(crate::specs::EntryView::applied))]
+    #[tactic(auto, unfolding(crate::specs::EntryView::applied, crate::specs::EntryValues::joined))]
     pub fn apply(&self, operation: Operation, other: &Polynomial) -> Result<Polynomial, ExprFault>
         ensures { map_value polynomial_terms result ≡ applied operation (polynomial_terms self.now) (polynomial_terms other.now) }
     {
         match operation {
-            Operation::Multiply => {
-                if self.degree() + other.degree() > GREATEST {
-                    return Err(ExprFault::Degree);
-                }
-            }
-            Operation::Divide => {
-                if other.degree() > 0 {
-                    return Err(ExprFault::DivisorNotNumber);
-                }
-                if other.coefficient(0).is_zero() {
-                    return Err(ExprFault::ZeroDivisor);
-                }
-            }
-            Operation::Add | Operation::Subtract => {}
+            Operation::Add | Operation::Subtract => coefficients(operation, self, other),
+            Operation::Multiply => self.times(other),
+            Operation::Divide => self.over(other),
         }
-        coefficients(operation, self, other)
     }
 }
 
@@ -141,7 +159,7 @@ fn unit_at(power: usize, at: usize) -> Short
 /// The sum of the products that make a power, by ascending power of the first factor.
 fn product_sum(x: &Polynomial, y: &Polynomial, power: usize) -> Result<Short, ExprFault>
     requires { power ≤ 4 }
-    ensures { map_value short_terms result ≡ product_sum (polynomial_terms x.now) (polynomial_terms y.now) power (power + 1) }
+    ensures { map_value short_terms result ≡ product_sum (polynomial_terms x.now) (polynomial_terms y.now) power (suc power) }
 {
     let mut sum = Short::zero();
     for at in 0..power + 1 {
