@@ -31,12 +31,13 @@ IsOtherThan b (c ∷ cs) = c ≢ b
 abbrev pub NoSign : List ℕ → Type 0
 NoSign text = IsOtherThan 43 text × IsOtherThan 45 text
 
--- an operation as it is written
-abbrev pub operation_byte : Operation → ℕ
-operation_byte operations.Add = 43
-operation_byte operations.Subtract = 45
-operation_byte operations.Multiply = 42
-operation_byte operations.Divide = 47
+-- a sign was taken, or else there is none
+abbrev pub SignTaken : Option Operation → List ℕ → List ℕ → Type 0
+SignTaken None old new = NoSign (after_blanks old) × (new ≡ old)
+SignTaken (Some operations.Add) old new = after_blanks old ≡ 43 ∷ new
+SignTaken (Some operations.Subtract) old new = after_blanks old ≡ 45 ∷ new
+SignTaken (Some operations.Multiply) old new = ⊥
+SignTaken (Some operations.Divide) old new = ⊥
 
 -- a factor other than a decimal may begin here
 abbrev pub MayBeBeside : List ℕ → Type 0
@@ -49,10 +50,12 @@ NoJoint [] = Unit {0}
 NoJoint (b ∷ bs) = (b ≢ 42) × (b ≢ 47) × (b ≢ 40) × (b ≢ 92)
 
 -- what joins a further factor was taken, or else there is none; a `*` that is left out takes no byte
-abbrev pub OperationTaken : Option Operation → List ℕ → List ℕ → Type 0
-OperationTaken None old new = NoJoint (after_blanks old) × (new ≡ old)
-OperationTaken (Some operation) old new =
-    (after_blanks old ≡ operation_byte operation ∷ new) ⊎ ((operation ≡ operations.Multiply) × MayBeBeside (after_blanks old) × (new ≡ old))
+abbrev pub JointTaken : Option Operation → List ℕ → List ℕ → Type 0
+JointTaken None old new = NoJoint (after_blanks old) × (new ≡ old)
+JointTaken (Some operations.Add) old new = ⊥
+JointTaken (Some operations.Subtract) old new = ⊥
+JointTaken (Some operations.Multiply) old new = (after_blanks old ≡ 42 ∷ new) ⊎ (MayBeBeside (after_blanks old) × (new ≡ old))
+JointTaken (Some operations.Divide) old new = after_blanks old ≡ 47 ∷ new
 
 -- the text begins with a backslash
 abbrev pub BeginsWord : List ℕ → Type 0

@@ -2,7 +2,7 @@
 ghost use Rattle.std.specs.Prelude.{◌≡◌, ◌≤◌, [], ◌∷◌, length, MatchOption};
 ghost use Rattle.std.specs.Bool.{MatchBool};
 ghost use Rattle.edge_text.specs.Lines.{after_blanks};
-ghost use Rattle.edge_text.specs.CursorView.{decimal_length, IsOtherThan, operation_byte, NoSign, OperationTaken, HeadTaken, PowerTaken, CloseTaken};
+ghost use Rattle.edge_text.specs.CursorView.{decimal_length, IsOtherThan, SignTaken, JointTaken, HeadTaken, PowerTaken, CloseTaken};
 
 use crate::byte_class::class_of;
 use crate::byte_machine::{Part, decimal_step};
@@ -77,7 +77,7 @@ impl<'a> Cursor<'a> {
 
     /// Takes a sign, if it is next: what it does with the term behind it.
     pub fn take_sign(&mut self) -> Option<Operation>
-        ensures { MatchOption result (NoSign (after_blanks self.old.rest.now) × (self.new.rest.now ≡ self.old.rest.now)) (λ operation. after_blanks self.old.rest.now ≡ operation_byte operation ∷ self.new.rest.now) }
+        ensures { SignTaken result self.old.rest.now self.new.rest.now }
     {
         if self.take_byte(b'+') {
             Some(Operation::Add)
@@ -90,7 +90,7 @@ impl<'a> Cursor<'a> {
 
     /// Takes what joins a further factor to those before it, if there is a further one. A `*` that is left out is no byte.
     pub fn take_joint(&mut self) -> Option<Operation>
-        ensures { OperationTaken result self.old.rest.now self.new.rest.now }
+        ensures { JointTaken result self.old.rest.now self.new.rest.now }
     {
         if self.take_byte(b'*') {
             Some(Operation::Multiply)
