@@ -59,7 +59,7 @@ fn product(cursor: &mut Cursor) -> Result<Polynomial, ExprFault>
 /// The value of a factor, whose front is taken and whose rest the cursor takes.
 #[cycle(evaluate)]
 fn factor(cursor: &mut Cursor, head: Head) -> Result<Polynomial, ExprFault>
-    ensures value { FactorGives head cursor.old.rest.now result cursor.new.rest.now }
+    ensures value { FactorGives head.entry cursor.old.rest.now result cursor.new.rest.now }
     ensures shorter { IfOk result (λ _. length cursor.new.rest.now ≤ length cursor.old.rest.now) }
 {
     match head {
