@@ -78,6 +78,8 @@ pub fn worth(text: &[u8]) -> Result<Entry, ExprFault>
     ensures { (e : Expression) → Spells text.now e → map_value coefficients_of result ≡ value e }
 {
     let mut cursor = Cursor::new(text);
-    let worth = sum(&mut cursor)?;
-    Ok(worth.entry())
+    match sum(&mut cursor) {
+        Ok(worth) => Ok(worth.entry()),
+        Err(fault) => Err(fault),
+    }
 }
