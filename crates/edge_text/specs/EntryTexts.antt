@@ -1,5 +1,5 @@
 -- The canonical texts of entries.
-use Rattle.std.specs.Prelude.{ℕ, zero, suc, ◌+◌, ◌&&◌, ◌==◌, ℤ, pos, Bool, true, false, List, [], ◌∷◌, ◌++◌, codes, unsigned_abs, if◌then◌else◌}
+use Rattle.std.specs.Prelude.{◌≡◌, ℕ, suc, ◌+◌, ◌&&◌, ◌==◌, ℤ, pos, Bool, true, false, List, [], ◌∷◌, ◌++◌, codes, unsigned_abs, if◌then◌else◌}
 use Rattle.std.specs.Int.{is_negative}
 use Rattle.field_core.specs.Terms.{Terms}
 use Rattle.fraction.specs.Spelling.{spelling}
@@ -23,8 +23,7 @@ factor_text t = if is_one t then [] else spelling t ++ codes "*"
 
 -- a term with its coefficient, which isn't below 0: the fraction alone at power 0
 unfoldable pub term_text : ℕ → Terms → List ℕ
-term_text zero t = spelling t
-term_text (suc k) t = factor_text t ++ power_text (suc k)
+term_text power t = if power == 0 then spelling t else factor_text t ++ power_text power
 
 -- what joins a term to those before it: a minus where it is below 0, else a plus, which the first term lacks
 abbrev pub joint_text : Bool → Bool → List ℕ
@@ -32,13 +31,24 @@ joint_text is_first true = codes "-"
 joint_text true false = []
 joint_text false false = codes "+"
 
+-- a term with what joins it to those before it
+unfoldable pub joined_term : Bool → ℕ → Terms → List ℕ
+joined_term is_first power t = joint_text is_first (is_negative t.num) ++ term_text power (without_sign t)
+
 -- the terms that aren't 0, from a power on
 unfoldable pub terms_text : Bool → ℕ → List Terms → List ℕ
 terms_text is_first power [] = []
 terms_text is_first power (t ∷ ts) =
     if is_zero_terms t then terms_text is_first (suc power) ts
-    else joint_text is_first (is_negative t.num) ++ term_text power (without_sign t) ++ terms_text false (suc power) ts
+    else joined_term is_first power t ++ terms_text false (suc power) ts
 
 -- the terms of an entry that aren't 0 by ascending power, or 0 where there is none
 unfoldable pub entry_text : List Terms → List ℕ
 entry_text entry = if is_zero_entry entry then codes "0" else terms_text true 0 entry
+
+-- a front of the text was appended, and what there was before stays
+pub record IsBegun (old new text : List ℕ) : Type 0 where
+  pub front : List ℕ
+  pub rest : List ℕ
+  pub appended : new ≡ old ++ front
+  pub text_is : text ≡ front ++ rest
