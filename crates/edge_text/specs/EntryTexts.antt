@@ -1,9 +1,10 @@
 -- The canonical texts of entries.
-use Rattle.std.specs.Prelude.{◌≡◌, ℕ, suc, ◌+◌, ◌&&◌, ◌==◌, ℤ, pos, Bool, true, false, List, [], ◌∷◌, ◌++◌, codes, unsigned_abs, if◌then◌else◌}
+use Rattle.std.specs.Prelude.{◌≡◌, ℕ, zero, suc, ◌+◌, ◌&&◌, ◌==◌, ℤ, pos, Bool, true, false, List, [], ◌∷◌, ◌++◌, codes, unsigned_abs, if◌then◌else◌}
 use Rattle.std.specs.Int.{is_negative}
 use Rattle.field_core.specs.Terms.{Terms}
 use Rattle.fraction.specs.Spelling.{spelling}
-use Rattle.case_model.specs.Entries.{is_zero_terms, is_zero_entry}
+use Rattle.case_model.specs.Entries.{is_zero_terms}
+use Rattle.case_model.specs.Sums.{terms_at}
 
 -- the fraction without its sign
 abbrev pub without_sign : Terms → Terms
@@ -35,16 +36,21 @@ joint_text false false = codes "+"
 unfoldable pub joined_term : Bool → ℕ → Terms → List ℕ
 joined_term is_first power t = joint_text is_first (is_negative t.num) ++ term_text power (without_sign t)
 
--- the terms that aren't 0, from a power on
-unfoldable pub terms_text : Bool → ℕ → List Terms → List ℕ
-terms_text is_first power [] = []
-terms_text is_first power (t ∷ ts) =
-    if is_zero_terms t then terms_text is_first (suc power) ts
-    else joined_term is_first power t ++ terms_text false (suc power) ts
+-- the terms of n powers that aren't 0, from a power on
+unfoldable pub terms_text : Bool → ℕ → ℕ → List Terms → List ℕ
+terms_text is_first power zero entry = []
+terms_text is_first power (suc n) entry =
+    if is_zero_terms (terms_at entry power) then terms_text is_first (suc power) n entry
+    else joined_term is_first power (terms_at entry power) ++ terms_text false (suc power) n entry
 
--- the terms of an entry that aren't 0 by ascending power, or 0 where there is none
+-- the coefficients of all powers below n are 0
+unfoldable pub are_zero_below : ℕ → List Terms → Bool
+are_zero_below zero entry = true
+are_zero_below (suc n) entry = are_zero_below n entry && is_zero_terms (terms_at entry n)
+
+-- the terms of an entry that aren't 0, from power 0 to 4, or 0 where there is none
 unfoldable pub entry_text : List Terms → List ℕ
-entry_text entry = if is_zero_entry entry then codes "0" else terms_text true 0 entry
+entry_text entry = if are_zero_below 5 entry then codes "0" else terms_text true 0 5 entry
 
 -- a front of the text was appended, and what there was before stays
 pub record IsBegun (old new text : List ℕ) : Type 0 where

@@ -123,10 +123,11 @@ pub fn print_entry(entry: &Entry, out: &mut List<u8>) -> Result<(), NoMemory>
     let mut is_first = true;
     for power in 0..5 {
         let coefficient = entry.coefficient(power);
-        if !is_zero(&coefficient) {
-            put_joined(out, is_first, power, &coefficient)?;
-            is_first = false;
+        if is_zero(&coefficient) {
+            continue;
         }
+        put_joined(out, is_first, power, &coefficient)?;
+        is_first = false;
     }
     if is_first {
         return out.push(b'0');
