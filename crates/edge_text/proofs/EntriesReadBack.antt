@@ -1,9 +1,9 @@
 -- The text of an entry is an expression of that entry.
-use Rattle.std.proofs.Common.{◌≡◌, ◌≢◌, ℕ, zero, suc, ◌+◌, ◌-◌, ◌^◌, ◌<◌, ◌≤◌, ◌⊎◌, inl, inr, Bool, true, false, cond, eqb, ltb, List, [], ◌∷◌, ◌++◌, length, get_or, take, ℤ, pos, negsuc, neg_ℤ, ◌<ℤ◌, unsigned_abs, Option, Some, None, Result, Ok, Err, refl, sym, ap, ap₂, subst, ◌∙◌, append_assoc, arith}
-use Rattle.std.specs.Prelude.{codes, nat_lt, nat_le, ◌==◌, ◌&&◌, if◌then◌else◌, int_lt}
+use Rattle.std.proofs.Common.{◌≡◌, ◌≢◌, ℕ, zero, suc, ◌+◌, ◌^◌, ◌<◌, ◌≤◌, inl, inr, Bool, true, false, cond, eqb, List, [], ◌∷◌, ◌++◌, length, take, ℤ, pos, neg_ℤ, unsigned_abs, Option, Some, None, Ok, refl, sym, ap, subst, ◌∙◌, append_assoc, arith}
+use Rattle.std.specs.Prelude.{codes, nat_lt, nat_le, ◌==◌, ◌&&◌, if◌then◌else◌}
 use Rattle.std.specs.Int.{is_negative}
 use Rattle.std.specs.List.{AllByRecursion}
-use Rattle.std.proofs.lemmas.Bool.{cases_Bool, cases_lt, le-ltb, lt-ltb, leb-true, eqb-true, eqb-false}
+use Rattle.std.proofs.lemmas.Bool.{le-ltb, lt-ltb, leb-true, eqb-true, eqb-false}
 use Rattle.std.proofs.lemmas.Bool.Decides.{nat_tests}
 use Rattle.std.proofs.lemmas.Int.{ints}
 use Rattle.std.proofs.lemmas.Fmt.{decimal_digit}
@@ -12,10 +12,8 @@ use Rattle.fraction.proofs.LowestTerms.{sign_is}
 use Rattle.fraction.specs.Numeral.{with_sign}
 use Rattle.fraction.specs.Spelling.{spelling, IsSpellingByte}
 use Rattle.fraction.proofs.ReadBack.{spelling_bytes}
-use Rattle.case_model.specs.Draft.{is_short}
 use Rattle.case_model.specs.Entries.{no_edge, is_zero_terms}
 use Rattle.case_model.specs.Sums.{terms_at, zero_terms}
-use Rattle.edge_text.specs.declared.expr_fault.ExprFault.{ExprFault}
 use Rattle.edge_text.specs.Expressions.{Sign, Plus, Minus, Expression, Sum, MoreTerms, NoTerm, AndTerm, Term, Token, SignToken, expression_tokens, terms_tokens, term_tokens, token_text, IsSpelt, Spells}
 use Rattle.edge_text.specs.EntryValues.{◌>>=◌, joined, sign_or_plus, value, with_terms, term_value}
 use Rattle.edge_text.specs.EntryTexts.{without_sign, is_one, power_text, factor_text, joint_text, joined_term, term_text, terms_text, are_zero_below, entry_text}

@@ -1,10 +1,10 @@
 -- Terms of the texts of entries, as terms of expressions.
-use Rattle.std.proofs.Common.{◌≡◌, ◌≢◌, ℕ, zero, suc, ◌+◌, ◌-◌, ◌^◌, ◌<◌, ◌≤◌, ◌⊎◌, inl, inr, Bool, true, false, cond, eqb, List, [], ◌∷◌, ◌++◌, length, ℤ, pos, negsuc, neg_ℤ, ◌<ℤ◌, unsigned_abs, Option, Some, None, Result, Ok, Err, refl, sym, ap, ap₂, subst, ◌∙◌, append_assoc, arith, lit<}
-use Rattle.std.specs.Prelude.{codes, if◌then◌else◌, ◌==◌, ◌&&◌, nat_le}
+use Rattle.std.proofs.Common.{◌≡◌, ℕ, zero, suc, ◌+◌, ◌^◌, ◌<◌, ◌≤◌, Bool, true, false, cond, eqb, List, [], ◌∷◌, ◌++◌, pos, Option, Some, None, Ok, refl, sym, ap, ap₂, subst, ◌∙◌, append_assoc, arith, lit<}
+use Rattle.std.specs.Prelude.{codes, ◌&&◌}
 use Rattle.std.specs.Fmt.{decimal}
 use Rattle.std.specs.Int.{is_negative}
 use Rattle.std.specs.Str.Parse.{AllDigits}
-use Rattle.std.proofs.lemmas.Bool.{le-ltb, leb-true, le-leb, cases_Bool, eqb-true, eqb-false}
+use Rattle.std.proofs.lemmas.Bool.{le-ltb, le-leb, eqb-true}
 use Rattle.std.proofs.lemmas.Bool.Decides.{nat_tests}
 use Rattle.std.proofs.lemmas.Fmt.{decimal_is_IsNumeral_wide}
 use Rattle.std.proofs.lemmas.Str.Parse.{digit_from_value}
@@ -13,19 +13,16 @@ use Rattle.std.proofs.lemmas.List.{append-nil}
 use Rattle.field_core.specs.Divisor.{gcd}
 use Rattle.field_core.specs.Terms.{Terms, IsReduced}
 use Rattle.fraction.specs.Numeral.{AreDigits, Plain, body_text, IsNumeralOf}
-use Rattle.fraction.specs.Spelling.{signed_text, denominator_text, spelling}
+use Rattle.fraction.specs.Spelling.{spelling}
 use Rattle.fraction.proofs.ReadBack.{read_back}
 use Rattle.case_model.specs.Draft.{is_short}
-use Rattle.case_model.specs.Entries.{is_zero_terms}
-use Rattle.case_model.specs.Sums.{zero_terms}
-use Rattle.edge_text.specs.declared.expr_fault.ExprFault.{ExprFault}
 use Rattle.edge_text.specs.Grammar.{plain_entry}
-use Rattle.edge_text.specs.Expressions.{Decimal, Power, Term, Product, MoreFactors, NoFactor, Times, Over, Factor, Number, Other, Further, Epsilon, Token, DecimalToken, WordToken, CaretToken, PowerToken, TimesToken, OverToken, power_tokens, term_tokens, factors_tokens, factor_tokens, token_text, IsSpelt}
-use Rattle.edge_text.specs.EntryValues.{◌>>=◌, short_of, times, over, decimal_value, power_value, epsilon_value, term_value, with_factors, factor_value, further_value}
+use Rattle.edge_text.specs.Expressions.{Decimal, Power, Term, Product, MoreFactors, NoFactor, Times, Over, Factor, Number, Other, Further, Epsilon, Token, DecimalToken, WordToken, CaretToken, PowerToken, TimesToken, OverToken, term_tokens, factors_tokens, factor_tokens, token_text, IsSpelt}
+use Rattle.edge_text.specs.EntryValues.{◌>>=◌, short_of, times, over, decimal_value, power_value, epsilon_value, term_value, with_factors, factor_value}
 use Rattle.edge_text.specs.EntryTexts.{is_one, power_text, factor_text, term_text}
 use Rattle.edge_text.specs.ExpressionStatements.{IsShortTerms}
 use Rattle.edge_text.proofs.DecimalValues.{decimal_found}
-use Rattle.edge_text.proofs.UnitOperations.{one_terms, one_short}
+use Rattle.edge_text.proofs.UnitOperations.{one_terms}
 use Rattle.edge_text.proofs.UnitEntries.{tabled, single, power_is, times_power, over_parts}
 
 -- ---- whole numbers

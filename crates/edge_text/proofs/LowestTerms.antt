@@ -1,5 +1,5 @@
 -- One pair of lowest terms for each value.
-use Rattle.std.proofs.Common.{◌≡◌, ℕ, ◌*◌, ◌/◌, ◌<◌, ◌^◌, suc, Bool, false, ℤ, pos, negsuc, neg_ℤ, ◌*ℤ◌, ◌<ℤ◌, unsigned_abs, refl, sym, ap, ap₂, subst, ◌∙◌, arith}
+use Rattle.std.proofs.Common.{◌≡◌, ℕ, ◌*◌, ◌/◌, ◌<◌, suc, false, ℤ, pos, negsuc, neg_ℤ, ◌*ℤ◌, ◌<ℤ◌, unsigned_abs, refl, sym, ap, ap₂, subst, ◌∙◌, arith}
 use Rattle.std.specs.Int.{◌∣◌, is_negative}
 use Rattle.std.proofs.lemmas.Bool.{le-ltb}
 use Rattle.std.proofs.lemmas.Int.{ints, unsigned_abs-mul}
@@ -11,8 +11,7 @@ use Rattle.field_core.proofs.Coprime.{apart_from_gcd, divides_other}
 use Rattle.field_core.proofs.Divisors.{gcd_is}
 use Rattle.field_core.proofs.IntegerRing.{*ℤ_cancel}
 use Rattle.fraction.specs.Laws.CrossProducts.{Same}
-use Rattle.fraction.specs.Numeral.{with_sign}
-use Rattle.fraction.specs.Lowest.{lowest_of, lowest_terms, differ}
+use Rattle.fraction.specs.Lowest.{lowest_of, lowest_terms}
 use Rattle.fraction.specs.Laws.Turned.{abs_neg}
 use Rattle.fraction.specs.Laws.ExactTerms.{neg_times}
 use Rattle.fraction.proofs.LowestTerms.{divided}

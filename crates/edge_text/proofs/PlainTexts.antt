@@ -1,13 +1,12 @@
 -- A text says plain edges alone: no coefficient above power 0.
-use Rattle.std.proofs.Common.{◌≡◌, refl, sym, ap, ◌∙◌, ℕ, ◌/◌, ◌%◌, Bool, true, false, List, [], ◌∷◌, Option, Some, None, map, length}
-use Rattle.std.specs.Prelude.{◌&&◌}
-use Rattle.std.specs.List.{list_all, find, AllZip, range_with_len}
+use Rattle.std.proofs.Common.{◌≡◌, refl, ap, ◌∙◌, ℕ, ◌/◌, ◌%◌, Bool, true, false, List, [], ◌∷◌, map, length}
+use Rattle.std.specs.List.{list_all, find, AllZip}
 use Rattle.std.specs.Option.{option_map_or}
 use Rattle.field_core.specs.Terms.{Terms}
 use Rattle.case_model.specs.Draft.{DraftContent, DraftEdgeContent, has_ends}
 use Rattle.case_model.specs.Entries.{is_plain_entry, no_edge}
-use Rattle.case_model.specs.Content.{content_of, edge_between, table_of, tabled, is_plain}
-use Rattle.edge_text.specs.Grammar.{Words, IsEdgeLine, plain_entry, one_component, IsText}
+use Rattle.case_model.specs.Content.{content_of, edge_between, table_of, is_plain}
+use Rattle.edge_text.specs.Grammar.{Words, IsEdgeLine, plain_entry, IsText}
 
 plain_value : (value : Terms) → is_plain_entry (plain_entry value) ≡ true
 unfolding is_plain_entry

@@ -1,5 +1,5 @@
 -- The text of an entry, term by term.
-use Rattle.std.proofs.Common.{◌≡◌, ℕ, zero, suc, ◌+◌, ◌-◌, ◌<◌, ◌≤◌, Bool, true, false, cond, List, [], ◌∷◌, ◌++◌, refl, sym, ap, ◌∙◌, arith, append_assoc, inl, inr}
+use Rattle.std.proofs.Common.{◌≡◌, ℕ, zero, suc, ◌+◌, ◌-◌, ◌<◌, Bool, true, false, cond, List, [], ◌++◌, refl, sym, ap, ◌∙◌, arith, append_assoc, inl, inr}
 use Rattle.std.specs.Prelude.{codes, ◌&&◌, Result, Ok, Err, OnOk, OnErr}
 use Rattle.std.proofs.lemmas.List.{append-nil}
 use Rattle.std.proofs.lemmas.Bool.{cases_lt}
@@ -106,7 +106,7 @@ begun_some old out new f p t e i h same z b =
       rest = b.rest ++ rest;
       appended = b.appended ∙ ap (λ (x : List ℕ). x ++ b.front) i.out_is ∙ append_assoc old i.done b.front;
       text_is = some_entry e p (are_zero_below 5 e) refl h zero ∙ sym i.text_is ∙ ap (λ (x : List ℕ). i.done ++ x) (text_some f p e h zero ∙ ap (λ (x : List ℕ). x ++ rest) piece ∙ append_assoc b.front b.rest rest)
-      ∙ sym (append_assoc i.done b.front (b.rest ++ rest));
+          ∙ sym (append_assoc i.done b.front (b.rest ++ rest));
     }
 
 -- ---- the end

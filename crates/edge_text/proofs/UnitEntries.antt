@@ -1,16 +1,16 @@
 -- Operations of entries with a number, a power of epsilon or a single coefficient.
-use Rattle.std.proofs.Common.{◌≡◌, ℕ, zero, suc, ◌+◌, ◌-◌, ◌<◌, ◌≤◌, ◌⊎◌, inl, inr, Bool, true, false, cond, eqb, ltb, List, [], ◌∷◌, length, get_or, ℤ, pos, negsuc, neg_ℤ, ◌<ℤ◌, Result, Ok, Err, refl, sym, ap, ap₂, subst, ◌∙◌, arith}
+use Rattle.std.proofs.Common.{◌≡◌, ℕ, zero, suc, ◌+◌, ◌-◌, ◌<◌, ◌≤◌, ◌⊎◌, inl, inr, Bool, true, false, cond, eqb, List, [], ◌∷◌, ℤ, pos, negsuc, neg_ℤ, ◌<ℤ◌, Result, Ok, refl, ap, ap₂, ◌∙◌, arith}
 use Rattle.std.specs.Prelude.{nat_lt, ◌==◌, if◌then◌else◌}
-use Rattle.std.proofs.lemmas.Bool.{le-ltb, lt-ltb, cases_lt, cases_Bool, eqb-true, eqb-false}
+use Rattle.std.proofs.lemmas.Bool.{le-ltb, cases_Bool, eqb-true, eqb-false}
 use Rattle.std.proofs.lemmas.Bool.Decides.{nat_tests}
-use Rattle.field_core.specs.Terms.{Terms, IsReduced}
+use Rattle.field_core.specs.Terms.{Terms}
 use Rattle.std.proofs.lemmas.Int.{ints}
 use Rattle.field_core.specs.Kind.{is_zero_integer}
-use Rattle.case_model.specs.Entries.{no_edge, is_zero_terms}
+use Rattle.case_model.specs.Entries.{is_zero_terms}
 use Rattle.case_model.specs.Sums.{terms_at, zero_terms}
 use Rattle.edge_text.specs.declared.expr_fault.ExprFault.{ExprFault}
 use Rattle.edge_text.specs.Grammar.{plain_entry}
-use Rattle.edge_text.specs.Expressions.{Sign, Plus, Minus}
+use Rattle.edge_text.specs.Expressions.{Plus, Minus}
 use Rattle.edge_text.specs.EntryValues.{◌>>=◌, sum, difference, product, quotient, coefficients, joined, degree_within, degree, product_sum, times, over, unit_at, power_value}
 use Rattle.edge_text.specs.ExpressionStatements.{IsShortTerms}
 use Rattle.edge_text.proofs.UnitOperations.{one_terms, zero_short, one_short, sum_zero_left, sum_zero_right, difference_zero_left, difference_zero_right, product_one_right, product_zero_left, product_zero_right, quotient_parts, quotient_zero}

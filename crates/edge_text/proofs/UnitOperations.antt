@@ -1,16 +1,13 @@
 -- Operations of fractions with 0 and 1.
-use Rattle.std.proofs.Common.{◌≡◌, ℕ, zero, suc, ◌^◌, ◌<◌, ◌≤◌, Bool, true, false, cond, ℤ, pos, negsuc, neg_ℤ, ◌+ℤ◌, ◌-ℤ◌, ◌*ℤ◌, ◌<ℤ◌, unsigned_abs, Result, Ok, Err, refl, sym, ap, ap₂, ◌∙◌, arith, lit<}
+use Rattle.std.proofs.Common.{◌≡◌, zero, suc, true, ℤ, pos, negsuc, neg_ℤ, ◌+ℤ◌, ◌-ℤ◌, ◌*ℤ◌, ◌<ℤ◌, Ok, refl, sym, ap₂, ◌∙◌, arith}
 use Rattle.std.proofs.lemmas.Int.{ints}
 use Rattle.field_core.specs.Terms.{Terms, IsReduced}
 use Rattle.field_core.specs.Kind.{is_zero_integer}
-use Rattle.field_core.specs.Laws.Effective.{product_positive}
 use Rattle.fraction.specs.Laws.CrossProducts.{Same}
 use Rattle.fraction.specs.Lowest.{lowest_terms}
 use Rattle.fraction.specs.Plain.{zero_reduced, one_reduced}
-use Rattle.case_model.specs.Draft.{is_short}
 use Rattle.case_model.specs.Entries.{is_zero_terms}
 use Rattle.case_model.specs.Sums.{zero_terms}
-use Rattle.edge_text.specs.declared.expr_fault.ExprFault.{ExprFault}
 use Rattle.edge_text.specs.EntryValues.{short_of, short, sum, difference, product, quotient}
 use Rattle.edge_text.specs.ExpressionStatements.{IsShortTerms}
 use Rattle.edge_text.proofs.LowestTerms.{AreLowest, lowest_unique, lowest_any}

@@ -21,7 +21,6 @@ mod scan;
 mod short;
 mod short_arithmetic;
 mod words;
-pub mod tmp_laws;
 
 pub use expr_fault::ExprFault;
 pub use fault::{LineKind, TextFault};

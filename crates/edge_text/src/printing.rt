@@ -16,10 +16,7 @@ fn without_sign(x: &Fraction) -> Fraction
 {
     let ratio = x.ratio();
     if ratio.num() < 0 {
-        Fraction::of(Ratio::of_wholes(
-            ratio.whole_num().negated(),
-            ratio.whole_den(),
-        ))
+        Fraction::of(Ratio::of_wholes(ratio.whole_num().negated(), ratio.whole_den()))
     } else {
         *x
     }
