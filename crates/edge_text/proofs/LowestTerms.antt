@@ -47,7 +47,7 @@ pub lowest_pos : (n d : ℕ) → lowest_terms (pos n) (pos d) ≡ record { num =
 unfolding lowest_terms lowest_of
 lowest_pos n d = rw (not_negative n, not_negative d) refl
 
-divided_cross : (n d p q g : ℕ) → p * g ≡ n → q * g ≡ d → p * d ≡ n * q
+pub divided_cross : (n d p q g : ℕ) → p * g ≡ n → q * g ≡ d → p * d ≡ n * q
 divided_cross n d p q g e f = rw (← e, ← f) (omega arith)
 
 pub lowest_is : (t : Terms) (n d : ℕ) → IsReduced t → 0 < d → Same t (record { num = pos n; den = pos d }) → lowest_terms (pos n) (pos d) ≡ t
@@ -64,7 +64,7 @@ lowest_is t n d r some h =
 
 -- ---- quotients of any sign
 
-lowest_neg : (n d : ℕ) → lowest_terms (negsuc n) (pos d) ≡ record { num = neg_ℤ (pos (suc n / gcd (suc n) d)); den = pos (d / gcd (suc n) d) }
+pub lowest_neg : (n d : ℕ) → lowest_terms (negsuc n) (pos d) ≡ record { num = neg_ℤ (pos (suc n / gcd (suc n) d)); den = pos (d / gcd (suc n) d) }
 unfolding lowest_terms lowest_of
 lowest_neg n d = rw (not_negative d) refl
 
