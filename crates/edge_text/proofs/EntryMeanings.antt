@@ -235,3 +235,175 @@ products_at x y k (suc n) t p q h =
     let next = product_number (terms_at x n) (terms_at y (k - n)) u.0 (p n) (q (k - n)) u.1.0 in
     let both = sum_number s.0 u.0 t before.positive next.positive u.1.1 in
     record { positive = both.positive; is = both.is ∙ ap₂ (λ a b. a +ε b) before.is next.is }
+
+all_are_low : (f g : ℕ → Value) (x : Value) → all_products f g x ≡ low_products (f 0) (f 1) (f 2) (f 3) (f 4) (g 0) (g 1) (g 2) (g 3) (g 4) x
+unfolding all_products products low_products by_powers five
+all_are_low f g x = refl
+
+add_none : (x : Value) → x +ε number_zero ≡ x
+add_none x = simp number_laws
+
+all_of : (x y : List Terms) → ((j : ℕ) → pos 0 <ℤ (terms_at x j).den) → ((j : ℕ) → pos 0 <ℤ (terms_at y j).den) → degree x + degree y ≤ 4 → all_products (number_at x) (number_at y) epsilon ≡ entry_value x *ε entry_value y
+all_of x y p q d =
+    let a = number_at x 0 in
+    let b = number_at x 1 in
+    let c = number_at x 2 in
+    let e = number_at x 3 in
+    let f = number_at x 4 in
+    let g = number_at y 0 in
+    let h = number_at y 1 in
+    let i = number_at y 2 in
+    let j = number_at y 3 in
+    let k = number_at y 4 in
+    let low = low_products a b c e f g h i j k epsilon in
+    let none : past a b c e f g h i j k epsilon ≡ number_zero = past_none a b c e f g h i j k epsilon (pair_none x y 1 4 p q d (omega arith) (omega arith) (omega arith)) (pair_none x y 2 3 p q d (omega arith) (omega arith) (omega arith)) (pair_none x y 2 4 p q d (omega arith) (omega arith) (omega arith))
+        (pair_none x y 3 2 p q d (omega arith) (omega arith) (omega arith)) (pair_none x y 3 3 p q d (omega arith) (omega arith) (omega arith)) (pair_none x y 3 4 p q d (omega arith) (omega arith) (omega arith))
+        (pair_none x y 4 1 p q d (omega arith) (omega arith) (omega arith)) (pair_none x y 4 2 p q d (omega arith) (omega arith) (omega arith)) (pair_none x y 4 3 p q d (omega arith) (omega arith) (omega arith)) (pair_none x y 4 4 p q d (omega arith) (omega arith) (omega arith)) in
+    all_are_low (number_at x) (number_at y) epsilon ∙ sym (ap (λ v. low +ε v) none ∙ add_none low) ∙ product_of a b c e f g h i j k epsilon ∙ ap₂ (λ v w. v *ε w) (sym (value_by_powers x)) (sym (value_by_powers y))
+
+low_degree : (b : Bool) (n : ℕ) (r : Result (List Terms) ExprFault) (z : List Terms) → nat_lt 4 n ≡ b → cond b (Err Degree) r ≡ Ok z → (n ≤ 4) × (r ≡ Ok z)
+low_degree true n r z e h = absurd cc
+low_degree false n r z e h = (ltb-false 4 n e, h)
+
+times_meant : (x y z : List Terms) (v w : Value) → IsMeant x v → IsMeant y w → times x y ≡ Ok z → IsMeant z (v *ε w)
+unfolding times all_products
+times_meant x y z v w p q h =
+    let l = low_degree (nat_lt 4 (degree x + degree y)) (degree x + degree y) (coefficients (λ k. product_sum x y k (suc k))) z refl h in
+    let m = made _ z l.1 in
+    let n = of_five m.a m.b m.c m.d m.e _ _ _ _ _ (products_at x y 0 1 m.a p.positive q.positive m.at_0) (products_at x y 1 2 m.b p.positive q.positive m.at_1) (products_at x y 2 3 m.c p.positive q.positive m.at_2) (products_at x y 3 4 m.d p.positive q.positive m.at_3) (products_at x y 4 5 m.e p.positive q.positive m.at_4) in
+    subst (λ t. IsMeant t (v *ε w)) m.is (as_meant _ _ (v *ε w) (all_of x y p.positive q.positive l.0 ∙ ap₂ (λ a b. a *ε b) p.is q.is) n)
+
+-- ---- quotients
+
+number_divisor : (b c : Bool) (n : ℕ) (r : Result (List Terms) ExprFault) (z : List Terms) → nat_lt 0 n ≡ b → cond b (Err DivisorNotNumber) (cond c (Err ZeroDivisor) r) ≡ Ok z → (n ≤ 0) × ((c ≡ false) × (r ≡ Ok z))
+number_divisor true c n r z e h = absurd cc
+number_divisor false true n r z e h = absurd cc
+number_divisor false false n r z e h = (ltb-false 0 n e, (refl, h))
+
+divisor_is : (y : List Terms) → ((j : ℕ) → pos 0 <ℤ (terms_at y j).den) → degree y ≤ 0 → entry_value y ≡ number_at y 0
+divisor_is y q d =
+    value_by_powers y ∙ rw (none_above y 1 q (omega (arith, d)) (omega arith), none_above y 2 q (omega (arith, d)) (omega arith), none_above y 3 q (omega (arith, d)) (omega arith), none_above y 4 q (omega (arith, d)) (omega arith)) (constant_powers (number_at y 0) epsilon)
+
+some_number : (z : ℤ) → is_zero_integer z ≡ false → z ≢ pos 0
+some_number (pos zero) h e = absurd cc
+some_number (pos (suc n)) h e = absurd cc
+some_number (negsuc n) h e = absurd cc
+
+quotient_at : (x y : List Terms) (k : ℕ) (t : Terms) → ((j : ℕ) → pos 0 <ℤ (terms_at x j).den) → ((j : ℕ) → pos 0 <ℤ (terms_at y j).den) → is_zero_terms (terms_at y 0) ≡ false → quotient (terms_at x k) (terms_at y 0) ≡ Ok t → IsNumber t (number_at x k /ε number_at y 0)
+quotient_at x y k t p q s e = quotient_number (terms_at x k) (terms_at y 0) t (p k) (q 0) (some_number (terms_at y 0).num s) e
+
+over_meant : (x y z : List Terms) (v w : Value) → IsMeant x v → IsMeant y w → over x y ≡ Ok z → IsMeant z (v /ε w)
+unfolding over
+over_meant x y z v w p q h =
+    let l = number_divisor (nat_lt 0 (degree y)) (is_zero_terms (terms_at y 0)) (degree y) (coefficients (λ k. quotient (terms_at x k) (terms_at y 0))) z refl h in
+    let m = made _ z l.1.1 in
+    let s = l.1.0 in
+    let n = of_five m.a m.b m.c m.d m.e _ _ _ _ _ (quotient_at x y 0 m.a p.positive q.positive s m.at_0) (quotient_at x y 1 m.b p.positive q.positive s m.at_1) (quotient_at x y 2 m.c p.positive q.positive s m.at_2) (quotient_at x y 3 m.d p.positive q.positive s m.at_3) (quotient_at x y 4 m.e p.positive q.positive s m.at_4) in
+    subst (λ t. IsMeant t (v /ε w)) m.is (as_meant _ _ (v /ε w) (over_powers _ _ _ _ _ (number_at y 0) epsilon ∙ ap₂ (λ a b. a /ε b) (sym (value_by_powers x) ∙ p.is) (sym (divisor_is y q.positive l.0) ∙ q.is)) n)
+
+-- ---- literals
+
+plain_meant : (t : Terms) (v : Value) → IsNumber t v → IsMeant (plain_entry t) v
+plain_meant t v h = as_meant (plain_entry t) _ v (constant_powers v epsilon) (of_five t zero_terms zero_terms zero_terms zero_terms v number_zero number_zero number_zero number_zero h zero_is zero_is zero_is zero_is)
+
+decimal_by : (b : Bool) (r : Result Terms ExprFault) (x : List Terms) → cond b (Err Part) (r >>= λ t. Ok (plain_entry t)) ≡ Ok x → (t : Terms) × ((r ≡ Ok t) × (plain_entry t ≡ x))
+decimal_by true r x h = absurd cc
+decimal_by false r x h = let b = bind_ok r (λ t. Ok (plain_entry t)) x h in (b.0, (b.1.0, same_ok (plain_entry b.0) x b.1.1))
+
+under_some : (v : Terms) → IsOver v → v.den ≢ pos 0
+under_some v o e = let d : pos o.under ≡ pos 0 = sym (ap (λ (t : Terms). t.den) o.is) ∙ e in let s = o.some in omega (arith, ints)
+
+decimal_meant : (d : Decimal) (x : List Terms) → decimal_value d ≡ Ok x → IsMeant x (fraction (value_of None d.body).num (value_of None d.body).den)
+unfolding decimal_value
+decimal_meant d x h =
+    let v = value_of None d.body in
+    let t = decimal_by (has_too_many_digits d.body) (short v.num v.den) x h in
+    subst (λ l. IsMeant l (fraction v.num v.den)) t.1.1 (plain_meant t.0 (fraction v.num v.den) (short_number v.num v.den t.0 (under_some v (body_over d.body d.no_pair)) t.1.0))
+
+one_is : IsNumber (record { num = pos 1; den = pos 1 }) number_one
+unfolding stored_value
+one_is = record { positive = omega (arith, ints); is = plain_is_exact.one_value }
+
+zero_entry : IsMeant no_edge number_zero
+zero_entry = plain_meant zero_terms number_zero zero_is
+
+epsilon_0 : (x : Value) → by_powers number_one number_zero number_zero number_zero number_zero x ≡ number_one
+epsilon_0 x = constant_powers number_one x
+
+power_1 : (p q r s t : Value) → number_zero +ε number_zero *ε p +ε number_one *ε q +ε number_zero *ε r +ε number_zero *ε s +ε number_zero *ε t ≡ q
+power_1 p q r s t = simp number_laws
+
+power_2 : (p q r s t : Value) → number_zero +ε number_zero *ε p +ε number_zero *ε q +ε number_one *ε r +ε number_zero *ε s +ε number_zero *ε t ≡ r
+power_2 p q r s t = simp number_laws
+
+power_3 : (p q r s t : Value) → number_zero +ε number_zero *ε p +ε number_zero *ε q +ε number_zero *ε r +ε number_one *ε s +ε number_zero *ε t ≡ s
+power_3 p q r s t = simp number_laws
+
+power_4 : (p q r s t : Value) → number_zero +ε number_zero *ε p +ε number_zero *ε q +ε number_zero *ε r +ε number_zero *ε s +ε number_one *ε t ≡ t
+power_4 p q r s t = simp number_laws
+
+unit_meant : (p : ℕ) → p ≤ 4 → IsMeant (tabled (unit_at p)) (power_of_epsilon p)
+unfolding power_of_epsilon by_powers five
+unit_meant zero h = as_meant _ _ number_one (epsilon_0 epsilon) (of_five _ _ _ _ _ number_one number_zero number_zero number_zero number_zero one_is zero_is zero_is zero_is zero_is)
+unit_meant (suc zero) h = as_meant _ _ _ (power_1 _ _ _ _ _) (of_five _ _ _ _ _ number_zero number_one number_zero number_zero number_zero zero_is one_is zero_is zero_is zero_is)
+unit_meant (suc (suc zero)) h = as_meant _ _ _ (power_2 _ _ _ _ _) (of_five _ _ _ _ _ number_zero number_zero number_one number_zero number_zero zero_is zero_is one_is zero_is zero_is)
+unit_meant (suc (suc (suc zero))) h = as_meant _ _ _ (power_3 _ _ _ _ _) (of_five _ _ _ _ _ number_zero number_zero number_zero number_one number_zero zero_is zero_is zero_is one_is zero_is)
+unit_meant (suc (suc (suc (suc zero)))) h = as_meant _ _ _ (power_4 _ _ _ _ _) (of_five _ _ _ _ _ number_zero number_zero number_zero number_zero number_one zero_is zero_is zero_is zero_is one_is)
+unit_meant (suc (suc (suc (suc (suc p))))) h = absurd (omega arith)
+
+power_meaning : (p : ℕ) (x : List Terms) → power_value p ≡ Ok x → IsMeant x (power_of_epsilon p)
+unfolding power_value coefficients
+power_meaning p x h =
+    let l = low_degree (nat_lt 4 p) p (Ok (tabled (unit_at p))) x refl h in
+    subst (λ t. IsMeant t (power_of_epsilon p)) (same_ok (tabled (unit_at p)) x l.1) (unit_meant p l.0)
+
+epsilon_meaning : (power : Option Power) (x : List Terms) → epsilon_value power ≡ Ok x → IsMeant x (power_meant power)
+epsilon_meaning None x h = power_meaning 1 x h
+epsilon_meaning (Some power) x h = power_meaning power.power x h
+
+-- ---- expressions
+
+mutual
+  unfolding value meaning
+  expression_meant : (e : Expression) (x : List Terms) → value e ≡ Ok x → IsMeant x (meaning e)
+  expression_meant (Sum sign first others) x h =
+      let t = bind_ok (term_value first) _ x h in
+      let s = bind_ok (joined (sign_or_plus sign) no_edge t.0) _ x t.1.1 in
+      terms_meant others s.0 (moved (sign_or_plus sign) number_zero (term_meaning first)) x (joined_meant (sign_or_plus sign) no_edge t.0 s.0 number_zero (term_meaning first) zero_entry (term_meant first t.0 t.1.0) s.1.0) s.1.1
+
+  terms_meant : (ts : MoreTerms) (s : List Terms) (v : Value) (x : List Terms) → IsMeant s v → with_terms s ts ≡ Ok x → IsMeant x (and_terms v ts)
+  terms_meant NoTerm s v x m h = subst (λ l. IsMeant l v) (same_ok s x h) m
+  terms_meant (AndTerm sign term others) s v x m h =
+      let t = bind_ok (term_value term) _ x h in
+      let l = bind_ok (joined sign s t.0) _ x t.1.1 in
+      terms_meant others l.0 (moved sign v (term_meaning term)) x (joined_meant sign s t.0 l.0 v (term_meaning term) m (term_meant term t.0 t.1.0) l.1.0) l.1.1
+
+  term_meant : (t : Term) (x : List Terms) → term_value t ≡ Ok x → IsMeant x (term_meaning t)
+  term_meant (Product first others) x h = let f = bind_ok (factor_value first) _ x h in factors_meant others f.0 (factor_meaning first) x (factor_meant first f.0 f.1.0) f.1.1
+
+  factors_meant : (fs : MoreFactors) (p : List Terms) (v : Value) (x : List Terms) → IsMeant p v → with_factors p fs ≡ Ok x → IsMeant x (and_factors v fs)
+  factors_meant NoFactor p v x m h = subst (λ l. IsMeant l v) (same_ok p x h) m
+  factors_meant (Times factor others) p v x m h =
+      let f = bind_ok (factor_value factor) _ x h in
+      let l = bind_ok (times p f.0) _ x f.1.1 in
+      factors_meant others l.0 (v *ε factor_meaning factor) x (times_meant p f.0 l.0 v (factor_meaning factor) m (factor_meant factor f.0 f.1.0) l.1.0) l.1.1
+  factors_meant (Over divisor others) p v x m h =
+      let f = bind_ok (factor_value divisor) _ x h in
+      let l = bind_ok (over p f.0) _ x f.1.1 in
+      factors_meant others l.0 (v /ε factor_meaning divisor) x (over_meant p f.0 l.0 v (factor_meaning divisor) m (factor_meant divisor f.0 f.1.0) l.1.0) l.1.1
+  factors_meant (Beside factor others) p v x m h =
+      let f = bind_ok (further_value factor) _ x h in
+      let l = bind_ok (times p f.0) _ x f.1.1 in
+      factors_meant others l.0 (v *ε further_meaning factor) x (times_meant p f.0 l.0 v (further_meaning factor) m (further_meant factor f.0 f.1.0) l.1.0) l.1.1
+
+  factor_meant : (f : Factor) (x : List Terms) → factor_value f ≡ Ok x → IsMeant x (factor_meaning f)
+  factor_meant (Number d) x h = decimal_meant d x h
+  factor_meant (Other further) x h = further_meant further x h
+
+  further_meant : (f : Further) (x : List Terms) → further_value f ≡ Ok x → IsMeant x (further_meaning f)
+  further_meant (Epsilon power) x h = epsilon_meaning power x h
+  further_meant (Parens inner) x h = expression_meant inner x h
+
+-- an entry is the number that its expression means
+pub entry_is_meant : (e : Expression) (x : List Terms) → value e ≡ Ok x → entry_value x ≡ meaning e
+entry_is_meant e x h = (expression_meant e x h).is
