@@ -1,0 +1,44 @@
+-- The canonical texts of entries.
+use Rattle.std.specs.Prelude.{ℕ, zero, suc, ◌+◌, ◌&&◌, ◌==◌, ℤ, pos, Bool, true, false, List, [], ◌∷◌, ◌++◌, codes, unsigned_abs, if◌then◌else◌}
+use Rattle.std.specs.Int.{is_negative}
+use Rattle.field_core.specs.Terms.{Terms}
+use Rattle.fraction.specs.Spelling.{spelling}
+use Rattle.case_model.specs.Entries.{is_zero_terms, is_zero_entry}
+
+-- the fraction without its sign
+abbrev pub without_sign : Terms → Terms
+without_sign t = record { num = pos (unsigned_abs t.num); den = t.den }
+
+-- a fraction that isn't below 0 is 1
+abbrev pub is_one : Terms → Bool
+is_one t = (unsigned_abs t.num == 1) && (unsigned_abs t.den == 1)
+
+-- a power of epsilon above 0
+abbrev pub power_text : ℕ → List ℕ
+power_text power = if power == 1 then codes "\\epsilon" else codes "\\epsilon^" ++ ((48 + power) ∷ [])
+
+-- what stands before a power of epsilon: nothing for 1, else the fraction and `*`
+abbrev pub factor_text : Terms → List ℕ
+factor_text t = if is_one t then [] else spelling t ++ codes "*"
+
+-- a term with its coefficient, which isn't below 0: the fraction alone at power 0
+unfoldable pub term_text : ℕ → Terms → List ℕ
+term_text zero t = spelling t
+term_text (suc k) t = factor_text t ++ power_text (suc k)
+
+-- what joins a term to those before it: a minus where it is below 0, else a plus, which the first term lacks
+abbrev pub joint_text : Bool → Bool → List ℕ
+joint_text is_first true = codes "-"
+joint_text true false = []
+joint_text false false = codes "+"
+
+-- the terms that aren't 0, from a power on
+unfoldable pub terms_text : Bool → ℕ → List Terms → List ℕ
+terms_text is_first power [] = []
+terms_text is_first power (t ∷ ts) =
+    if is_zero_terms t then terms_text is_first (suc power) ts
+    else joint_text is_first (is_negative t.num) ++ term_text power (without_sign t) ++ terms_text false (suc power) ts
+
+-- the terms of an entry that aren't 0 by ascending power, or 0 where there is none
+unfoldable pub entry_text : List Terms → List ℕ
+entry_text entry = if is_zero_entry entry then codes "0" else terms_text true 0 entry
