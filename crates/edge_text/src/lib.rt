@@ -20,8 +20,8 @@ mod rules;
 mod scan;
 mod short;
 mod short_arithmetic;
-mod words;
 pub mod tmp_laws;
+mod words;
 
 pub use expr_fault::ExprFault;
 pub use fault::{LineKind, TextFault};
