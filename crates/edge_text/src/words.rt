@@ -58,7 +58,7 @@ pub struct Ends<'a> {
 
 impl<'a> Words<'a> {
     /// The next word.
-    #[tactic(auto, using(crate::proofs::Cut::words_end, crate::proofs::Cut::words_ended, crate::proofs::Cut::words_next))]
+    #[tactic(auto, using(crate::proofs::Cut::words_end, crate::proofs::Cut::words_ended, crate::proofs::Cut::words_next), unfolding(crate::specs::Lines::behind_word))]
     pub fn take(&mut self) -> Option<&'a [u8]>
         ensures word { YieldsFirstRef words_left self.old result self.new }
         ensures rest { text_left self.new ≡ behind_word (text_left self.old) }
