@@ -1,6 +1,7 @@
 pub mod ByteMachine
 pub mod EntryValues
 pub mod Expressions
+pub mod CursorView
 pub mod EntryReading
 pub mod EntryTexts
 pub mod EntryView

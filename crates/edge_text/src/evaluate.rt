@@ -1,4 +1,12 @@
 //! Edge expressions from left to right. What is said of a text holds where it is an expression.
+ghost use Rattle.std.specs.Prelude.{◌≡◌, ◌≤◌, [], length, IfOk};
+ghost use Rattle.fraction.specs.Numeral.{body_text};
+ghost use Rattle.case_model.specs.EntryView.{coefficients_of};
+ghost use Rattle.edge_text.specs.Expressions.{Decimal, Expression, Spells};
+ghost use Rattle.edge_text.specs.EntryValues.{decimal_value, value};
+ghost use Rattle.edge_text.specs.EntryView.{map_value, polynomial_terms};
+ghost use Rattle.edge_text.specs.CursorView.{SumGives, ProductGives, FactorGives};
+
 use crate::ExprFault;
 use crate::factor_cursor::{Cursor, Head};
 use crate::polynomial::{Operation, Polynomial};
@@ -7,7 +15,9 @@ use case_model::Entry;
 use fraction::Fraction;
 
 /// The value of a decimal.
-fn decimal(text: &[u8]) -> Result<Polynomial, ExprFault> {
+fn decimal(text: &[u8]) -> Result<Polynomial, ExprFault>
+    ensures { (d : Decimal) → text.now ≡ body_text d.body → map_value polynomial_terms result ≡ decimal_value d }
+{
     match Fraction::parse(text) {
         Ok(value) => Ok(Polynomial::constant(&Short::of(value)?)),
         Err(_) => Err(ExprFault::Part),
@@ -16,9 +26,13 @@ fn decimal(text: &[u8]) -> Result<Polynomial, ExprFault> {
 
 /// The value of a sum, which the cursor takes.
 #[cycle(evaluate)]
-fn sum(cursor: &mut Cursor) -> Result<Polynomial, ExprFault> {
+fn sum(cursor: &mut Cursor) -> Result<Polynomial, ExprFault>
+    ensures value { SumGives cursor.old.rest.now result cursor.new.rest.now }
+    ensures shorter { IfOk result (λ _. length cursor.new.rest.now ≤ length cursor.old.rest.now) }
+{
     let sign = cursor.take_sign().unwrap_or(Operation::Add);
-    let mut sum = Polynomial::zero().apply(sign, &product(cursor)?)?;
+    let first = product(cursor)?;
+    let mut sum = Polynomial::zero().apply(sign, &first)?;
     while let Some(sign) = cursor.take_sign() {
         let term = product(cursor)?;
         sum = sum.apply(sign, &term)?;
@@ -28,10 +42,14 @@ fn sum(cursor: &mut Cursor) -> Result<Polynomial, ExprFault> {
 
 /// The value of a product, which the cursor takes.
 #[cycle(evaluate)]
-fn product(cursor: &mut Cursor) -> Result<Polynomial, ExprFault> {
+fn product(cursor: &mut Cursor) -> Result<Polynomial, ExprFault>
+    ensures value { ProductGives cursor.old.rest.now result cursor.new.rest.now }
+    ensures shorter { IfOk result (λ _. length cursor.new.rest.now ≤ length cursor.old.rest.now) }
+{
     let head = cursor.take_head();
     let mut product = factor(cursor, head)?;
-    while let Some((operation, head)) = cursor.take_joint() {
+    while let Some(operation) = cursor.take_joint() {
+        let head = cursor.take_head();
         let next = factor(cursor, head)?;
         product = product.apply(operation, &next)?;
     }
@@ -40,7 +58,10 @@ fn product(cursor: &mut Cursor) -> Result<Polynomial, ExprFault> {
 
 /// The value of a factor, whose front is taken and whose rest the cursor takes.
 #[cycle(evaluate)]
-fn factor(cursor: &mut Cursor, head: Head) -> Result<Polynomial, ExprFault> {
+fn factor(cursor: &mut Cursor, head: Head) -> Result<Polynomial, ExprFault>
+    ensures value { FactorGives head cursor.old.rest.now result cursor.new.rest.now }
+    ensures shorter { IfOk result (λ _. length cursor.new.rest.now ≤ length cursor.old.rest.now) }
+{
     match head {
         Head::Decimal(text) => decimal(text),
         Head::Epsilon => Polynomial::power(cursor.take_power()),
@@ -52,8 +73,10 @@ fn factor(cursor: &mut Cursor, head: Head) -> Result<Polynomial, ExprFault> {
     }
 }
 
-/// The entry that an edge expression is worth.
-pub fn entry(text: &[u8]) -> Result<Entry, ExprFault> {
+/// What an edge expression is worth.
+pub fn worth(text: &[u8]) -> Result<Entry, ExprFault>
+    ensures { (e : Expression) → Spells text.now e → map_value coefficients_of result ≡ value e }
+{
     let mut cursor = Cursor::new(text);
     let worth = sum(&mut cursor)?;
     Ok(worth.entry())

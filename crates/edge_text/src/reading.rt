@@ -4,7 +4,7 @@ ghost use Rattle.case_model.specs.EntryView.{coefficients_of};
 ghost use Rattle.edge_text.specs.EntryReading.{IsEntryText, IsExprFault};
 
 use crate::ExprFault;
-use crate::evaluate::entry;
+use crate::evaluate::worth;
 use crate::scan::scan;
 use case_model::Entry;
 
@@ -23,5 +23,5 @@ pub fn read_entry(text: &[u8]) -> Result<Entry, ExprFault>
     ensures fault { IfErr result (IsExprFault text.now) }
 {
     scan(text)?;
-    entry(text)
+    worth(text)
 }
