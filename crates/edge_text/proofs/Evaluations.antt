@@ -1,6 +1,8 @@
 -- Sums and products, term by term and factor by factor.
 use Rattle.std.proofs.Common.{◌≡◌, ℕ, true, List, [], ◌∷◌, Option, Some, None, Result, Ok, Err, refl, sym, ap, subst, ◌∙◌}
-use Rattle.std.specs.Prelude.{is_ok}
+use Rattle.std.specs.Prelude.{is_ok, IfOk}
+use Rattle.std.specs.Option.{unwrap_or}
+use Rattle.edge_text.specs.declared.polynomial.Operation.TheVariants as operations
 use Rattle.std.specs.Borrow.{Bor}
 use Rattle.field_core.specs.Terms.{Terms}
 use Rattle.case_model.specs.Entries.{no_edge}
@@ -10,7 +12,7 @@ use Rattle.edge_text.specs.declared.polynomial.Operation.{Operation}
 use Rattle.edge_text.specs.declared.factor_cursor.Head.{Head}
 use Rattle.edge_text.specs.declared.factor_cursor.Head.TheVariants as heads
 use Rattle.fraction.specs.Numeral.{body_text}
-use Rattle.edge_text.specs.Expressions.{Decimal, Power, Sign, Plus, Minus, Expression, Sum, MoreTerms, NoTerm, AndTerm, Term, Product, MoreFactors, NoFactor, Times, Over, Beside, Factor, Number, Other, Further, Epsilon, Parens, Token, CloseToken, expression_tokens, terms_tokens, term_tokens, factors_tokens, factor_tokens, power_tokens, IsSpelt}
+use Rattle.edge_text.specs.Expressions.{Decimal, Power, Sign, Plus, Minus, Expression, Sum, MoreTerms, NoTerm, AndTerm, Term, Product, MoreFactors, NoFactor, Times, Over, Beside, Factor, Number, Other, Further, Epsilon, Parens, Token, CloseToken, expression_tokens, terms_tokens, term_tokens, factors_tokens, factor_tokens, power_tokens, IsSpelt, Spells}
 use Rattle.edge_text.specs.EntryValues.{◌>>=◌, joined, sign_or_plus, value, with_terms, term_value, with_factors, factor_value, further_value, decimal_value, power_value, epsilon_value}
 use Rattle.edge_text.specs.EntryView.{map_value, polynomial_terms, applied}
 use Rattle.edge_text.specs.CursorView.{SignTaken, JointTaken, HeadTaken, PowerTaken, CloseTaken, EndsExpression, EndsTerm, EndsFactor, Evaluates, IsHead, SumGives, ProductGives, FactorGives}
@@ -252,3 +254,23 @@ parens_fail old mid new f r is gives (Other (Epsilon power)) more ends h = absur
 parens_fail old mid new f r is gives (Other (Parens inner)) more ends h =
     let g = gives inner (CloseToken ∷ more) tt h in
     err_gives f new more (factor_value (Other (Parens inner))) r is (parens_value_is inner ∙ sym g.0)
+
+pub if_ok : (r : Result Polynomial ExprFault) (P : Type 0) → P → IfOk r (λ x. P)
+if_ok (Ok x) P p = p
+if_ok (Err f) P p = tt
+
+abbrev pub held : Polynomial → Result Polynomial ExprFault
+held p = Ok p
+
+unwrapped : (taken : Option Operation) → unwrap_or taken operations.Add ≡ first_operation taken
+unwrapped None = refl
+unwrapped (Some op) = refl
+
+-- what is made of 0 and the first term
+pub applied_first : (taken : Option Operation) (op : Operation) (z x : List Terms) (r : Result (List Terms) ExprFault) → op ≡ unwrap_or taken operations.Add → z ≡ no_edge → r ≡ applied op z x → r ≡ applied (first_operation taken) no_edge x
+applied_first taken op z x r e f g = g ∙ ap (λ o. applied o z x) (e ∙ unwrapped taken) ∙ ap (λ y. applied (first_operation taken) y x) f
+
+-- what a text is worth that spells an expression
+pub sum_worth : (old text new : List ℕ) (r : Result Polynomial ExprFault) (e : Expression) → old ≡ text → SumGives old r new → Spells text e → map_value polynomial_terms r ≡ value e
+unfolding SumGives Spells
+sum_worth old text new r e same gives h = (gives e [] tt (subst (IsSpelt (expression_tokens e [])) (sym same) h)).0

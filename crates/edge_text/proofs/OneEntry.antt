@@ -9,7 +9,7 @@ use Rattle.edge_text.specs.Expressions.{Expression, IsExpression, Spells}
 use Rattle.edge_text.specs.EntryValues.{value}
 use Rattle.edge_text.specs.EntryReading.{IsDeep, IsShallow, IsTooDeep, IsScanned, IsWorth, IsEntryText, IsExprFault}
 use Rattle.edge_text.proofs.ScannedTexts.{scanned, is_scanned}
-use Rattle.edge_text.proofs.LateFaults.{IsLate, FailsLate, value_late}
+use Rattle.edge_text.proofs.ReadEntries.{Fine, fine_value, worth_fault, scan_fault}
 use Rattle.edge_text.proofs.OneValue.{one_value}
 
 -- ---- what a text is worth
@@ -113,25 +113,14 @@ one_expr_fault text Part g h k = worth_once text Part g h k
 abbrev HasOne : List ℕ → Type 0
 HasOne text = ((e : List Terms) × IsEntryText text e) ⊎ ((f : ExprFault) × IsExprFault text f)
 
-by_value : (text : List ℕ) (e : Expression) (r : Result (List Terms) ExprFault) → Spells text e → IsShallow text (length text) → value e ≡ r → FailsLate r → HasOne text
-unfolding IsExprFault
-by_value text e (Ok x) s h v late = inl (x, record { expression = e; spells = s; shallow = h; worth_is = v })
-by_value text e (Err Depth) s h v late = absurd late
-by_value text e (Err (BadByte n)) s h v late = absurd late
-by_value text e (Err DivisorNotNumber) s h v late = inr (DivisorNotNumber, record { expression = e; spells = s; shallow = h; worth_is = v })
-by_value text e (Err ZeroDivisor) s h v late = inr (ZeroDivisor, record { expression = e; spells = s; shallow = h; worth_is = v })
-by_value text e (Err Degree) s h v late = inr (Degree, record { expression = e; spells = s; shallow = h; worth_is = v })
-by_value text e (Err Part) s h v late = inr (Part, record { expression = e; spells = s; shallow = h; worth_is = v })
+by_value : (text : List ℕ) (e : Expression) (r : Result (List Terms) ExprFault) → Spells text e → IsShallow text (length text) → value e ≡ r → Fine r → HasOne text
+by_value text e (Ok x) s h v fine = inl (x, record { expression = e; spells = s; shallow = h; worth_is = v })
+by_value text e (Err f) s h v fine = inr (f, worth_fault text f fine (record { expression = e; spells = s; shallow = h; worth_is = v }))
 
 by_scan : (text : List ℕ) (r : Result (Unit {0}) ExprFault) → IsScanned text r → HasOne text
-unfolding IsScanned IsExprFault
-by_scan text (Ok x) h = by_value text h.0.expression (value h.0.expression) h.0.spells h.1 refl (value_late h.0.expression)
-by_scan text (Err Depth) h = inr (Depth, h)
-by_scan text (Err (BadByte n)) h = inr (BadByte n, h)
-by_scan text (Err DivisorNotNumber) h = absurd h
-by_scan text (Err ZeroDivisor) h = absurd h
-by_scan text (Err Degree) h = absurd h
-by_scan text (Err Part) h = absurd h
+unfolding IsScanned
+by_scan text (Ok x) h = by_value text h.0.expression (value h.0.expression) h.0.spells h.1 refl (fine_value h.0.expression)
+by_scan text (Err f) h = inr (f, scan_fault text f h)
 
 pub entry_or_fault : (text : List ℕ) → ((e : List Terms) × IsEntryText text e) ⊎ ((f : ExprFault) × IsExprFault text f)
 entry_or_fault text = by_scan text (scanned 0 text start) (is_scanned text (scanned 0 text start) refl)

@@ -346,7 +346,7 @@ power_is n (Some p) more old new e (inr h) s =
     let t : IsSpelt (PowerToken p ∷ more) h.0 = one_taken CaretToken (PowerToken p ∷ more) old h.0 94 94 refl s h.1 in
     elim h.2 [
       | inl d ↦ let x = digit_taken p more h.0 new d.0 n d.1 d.2 t in (ap power_value x.0, x.1)
-      | inr none ↦ absurd (no_digit p more h.0 none t)
+      | inr none ↦ absurd (no_digit p more h.0 none.0 t)
     ]
 
 pub close_is : (more : List Token) (old new : List ℕ) → CloseTaken old new → IsSpelt (CloseToken ∷ more) old → IsSpelt more new

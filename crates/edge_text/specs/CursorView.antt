@@ -68,11 +68,17 @@ HeadTaken heads.Open old new = old ≡ 40 ∷ new
 HeadTaken heads.Epsilon old new = BeginsWord old × (new ≡ drop (min (length old) 8) old)
 HeadTaken (heads.Decimal text) old new = IsOtherThan 40 old × IsOtherThan 92 old × (text.now ≡ take (decimal_length old) old) × (new ≡ drop (decimal_length old) old)
 
+-- what a front adds to the length of what is left, where that counts the calls to come: a parenthesis goes on to a sum
+abbrev pub head_weight : Head → ℕ
+head_weight heads.Open = 3
+head_weight heads.Epsilon = 0
+head_weight (heads.Decimal text) = 0
+
 -- a byte behind a caret was taken as the digit of a power, or there is no caret
 abbrev pub PowerTaken : ℕ → List ℕ → List ℕ → Type 0
 PowerTaken power old new =
     (IsOtherThan 94 (after_blanks old) × (new ≡ old) × (power ≡ 1))
-    ⊎ ((between : List ℕ) × (after_blanks old ≡ 94 ∷ between) × (((digit : ℕ) × (after_blanks between ≡ digit ∷ new) × (power ≡ (digit + 208) % 256)) ⊎ (after_blanks between ≡ [])))
+    ⊎ ((between : List ℕ) × (after_blanks old ≡ 94 ∷ between) × (((digit : ℕ) × (after_blanks between ≡ digit ∷ new) × (power ≡ (digit + 208) % 256)) ⊎ ((after_blanks between ≡ []) × (new ≡ between))))
 
 -- a byte was taken, if there is one
 abbrev pub CloseTaken : List ℕ → List ℕ → Type 0

@@ -59,7 +59,7 @@ fn product(cursor: &mut Cursor) -> Result<Polynomial, ExprFault>
 /// The value of a factor, whose front is taken and whose rest the cursor takes.
 #[cycle(evaluate)]
 fn factor(cursor: &mut Cursor, head: Head) -> Result<Polynomial, ExprFault>
-    ensures value { FactorGives head cursor.old.rest.now result cursor.new.rest.now }
+    ensures value { FactorGives head.entry cursor.old.rest.now result cursor.new.rest.now }
     ensures shorter { IfOk result (λ _. length cursor.new.rest.now ≤ length cursor.old.rest.now) }
 {
     match head {
@@ -78,6 +78,8 @@ pub fn worth(text: &[u8]) -> Result<Entry, ExprFault>
     ensures { (e : Expression) → Spells text.now e → map_value coefficients_of result ≡ value e }
 {
     let mut cursor = Cursor::new(text);
-    let worth = sum(&mut cursor)?;
-    Ok(worth.entry())
+    match sum(&mut cursor) {
+        Ok(worth) => Ok(worth.entry()),
+        Err(fault) => Err(fault),
+    }
 }
