@@ -1,5 +1,5 @@
 -- The machine accepts each expression, and what it has read can always be completed.
-use Rattle.std.proofs.Common.{◌≡◌, ℕ, zero, suc, ◌+◌, ◌≤◌, ◌<◌, ◌⊎◌, Bool, true, false, eqb, cond, List, [], ◌∷◌, ◌++◌, Option, Some, None, refl, sym, ap, ap₂, ◌∙◌, append_assoc, inl, inr, arith}
+use Rattle.std.proofs.Common.{◌≡◌, ℕ, zero, suc, ◌+◌, Bool, true, false, List, [], ◌∷◌, ◌++◌, Option, Some, None, refl, sym, ap, ◌∙◌, inl, inr, arith}
 use Rattle.std.proofs.lemmas.List.{append-nil}
 use Rattle.field_core.proofs.Longest.{accepts, accepts_then, count, stops_behind}
 use Rattle.fraction.specs.Prefixes.{IsBadByte}
@@ -13,11 +13,11 @@ use Rattle.edge_text.specs.declared.byte_machine.Letter.TheVariants as letters
 use Rattle.edge_text.specs.declared.byte_machine.State.{State}
 use Rattle.edge_text.specs.declared.byte_machine.State.TheVariants as states
 use Rattle.edge_text.specs.declared.byte_machine.Reached.{Reached}
-use Rattle.edge_text.specs.ByteMachine.{class_of, decimal_step, is_decimal, next_letter, with_letter, further, at_operand, at_start, behind_factor, behind_parts, behind_part, behind_epsilon, behind_caret, behind_letter, next, opened, reached, step, is_whole, ends, may_end, start}
+use Rattle.edge_text.specs.ByteMachine.{class_of, decimal_step, is_decimal, next_letter, with_letter, further, at_operand, at_start, behind_factor, behind_parts, behind_part, behind_epsilon, behind_caret, next, opened, reached, step, ends, may_end, start}
 use Rattle.edge_text.specs.Expressions.{Decimal, Power, Sign, Plus, Minus, Expression, Sum, MoreTerms, NoTerm, AndTerm, Term, Product, MoreFactors, NoFactor, Times, Over, Beside, Factor, Number, Other, Further, Epsilon, Parens, Token, DecimalToken, WordToken, CaretToken, PowerToken, SignToken, TimesToken, OverToken, OpenToken, CloseToken, sign_tokens, power_tokens, expression_tokens, terms_tokens, term_tokens, factors_tokens, factor_tokens, further_tokens, sign_byte, token_text, AreBlanks, IsSpelt, Spells, IsExpression}
 use Rattle.edge_text.proofs.ByteClasses.{class_digit, class_blank, class_sign, class_joint, class_caret, class_open, class_close, class_backslash}
 use Rattle.edge_text.proofs.DecimalTexts.{takes, takes_nil, takes_cons, decimal_taken}
-use Rattle.edge_text.proofs.Machine.{at, reads, reads_nil, reads_cons, reads_by, behind, letter_opens, part_opens}
+use Rattle.edge_text.proofs.Machine.{reads, reads_nil, reads_cons, reads_by, behind, letter_opens, part_opens}
 use Rattle.edge_text.proofs.ReadExpressions.{is_expression}
 
 -- each text of these tokens is accepted from a state on

@@ -1,5 +1,5 @@
 -- Coefficients of polynomials, one after the other.
-use Rattle.std.proofs.Common.{◌≡◌, refl, sym, ap, ap₂, ◌∙◌, ℕ, zero, suc, ◌+◌, ◌-◌, ◌<◌, ◌≤◌, ◌⊎◌, inl, inr, List, length, map, get_or, Bool, true, false, cond, Result, Ok, Err, arith}
+use Rattle.std.proofs.Common.{◌≡◌, refl, sym, ap, ◌∙◌, ℕ, zero, suc, ◌+◌, ◌-◌, ◌<◌, ◌≤◌, inl, inr, List, length, map, get_or, true, false, cond, Result, Ok, Err, arith}
 use Rattle.std.proofs.lemmas.Bool.{cases_lt}
 use Rattle.field_core.specs.Terms.{Terms}
 use Rattle.case_model.specs.Sums.{terms_at, zero_terms}
@@ -7,7 +7,7 @@ use Rattle.case_model.specs.Entries.{is_zero_terms}
 use Rattle.case_model.proofs.Places.{mapped_item}
 use Rattle.edge_text.specs.declared.expr_fault.ExprFault.{ExprFault}
 use Rattle.edge_text.specs.declared.short.Short.{Short}
-use Rattle.edge_text.specs.EntryView.{short_terms, map_value}
+use Rattle.edge_text.specs.EntryView.{short_terms}
 use Rattle.edge_text.specs.EntryValues.{◌>>=◌, sum, product, product_sum, degree_within}
 
 -- the coefficient at a place

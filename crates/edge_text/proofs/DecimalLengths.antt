@@ -1,10 +1,8 @@
 -- How many bytes of a text begin a decimal.
-use Rattle.std.proofs.Common.{◌≡◌, ℕ, suc, ◌+◌, ◌<◌, ◌≤◌, Bool, true, false, List, [], ◌∷◌, ◌++◌, length, get_or, drop, take, Option, Some, None, refl, sym, ap, ◌∙◌, arith, length-append}
+use Rattle.std.proofs.Common.{◌≡◌, ℕ, suc, ◌+◌, ◌<◌, ◌≤◌, true, List, [], ◌∷◌, ◌++◌, length, get_or, drop, Option, Some, None, sym, ap, ◌∙◌, arith}
 use Rattle.std.proofs.lemmas.List.{drop_more, drop_all}
 use Rattle.field_core.proofs.Longest.{accepts_then, count, count_then, count_nil, count_cons}
 use Rattle.fraction.specs.Numeral.{body_text}
-use Rattle.edge_text.specs.declared.byte_class.Class.{Class}
-use Rattle.edge_text.specs.declared.byte_class.Class.TheVariants as classes
 use Rattle.edge_text.specs.declared.byte_machine.Part.{Part}
 use Rattle.edge_text.specs.declared.byte_machine.Part.TheVariants as parts
 use Rattle.edge_text.specs.ByteMachine.{class_of, decimal_step, decimal_byte, is_decimal}

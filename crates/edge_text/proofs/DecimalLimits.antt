@@ -1,5 +1,5 @@
 -- The limit of a decimal's digits is that of numerals.
-use Rattle.std.proofs.Common.{◌≡◌, ℕ, ◌-◌, ◌<◌, ◌++◌, ◌⊎◌, Bool, true, false, inl, inr, List, length, ℤ, pos, ◌-ℤ◌, ◌<ℤ◌, refl, sym, ◌∙◌, arith}
+use Rattle.std.proofs.Common.{◌≡◌, ℕ, ◌-◌, ◌<◌, ◌++◌, ◌⊎◌, Bool, true, false, inl, inr, List, length, ℤ, pos, ◌-ℤ◌, ◌<ℤ◌, refl, arith}
 use Rattle.std.specs.Prelude.{nat_lt, int_lt, ◌||◌, ◌&&◌}
 use Rattle.std.specs.Bool.{Decides}
 use Rattle.std.proofs.lemmas.Int.{ints}

@@ -1,7 +1,6 @@
 -- What a decimal is worth, by what is read of it.
-use Rattle.std.proofs.Common.{◌≡◌, ℕ, suc, ◌*◌, ◌^◌, ◌<◌, ◌++◌, Bool, true, false, List, [], length, ℤ, pos, negsuc, ◌-ℤ◌, ◌*ℤ◌, Option, None, Result, Ok, Err, refl, sym, ap, subst, ◌∙◌, arith}
+use Rattle.std.proofs.Common.{◌≡◌, ℕ, suc, ◌*◌, ◌^◌, ◌<◌, ◌++◌, Bool, true, false, List, [], length, ℤ, pos, negsuc, ◌-ℤ◌, None, Ok, Err, refl, sym, ap, subst, ◌∙◌, arith}
 use Rattle.std.specs.Str.Parse.{digits_value}
-use Rattle.std.proofs.lemmas.Int.{ints}
 use Rattle.field_core.specs.Terms.{Terms, IsReduced}
 use Rattle.fraction.specs.declared.fault.NumberFault.{NumberFault}
 use Rattle.fraction.specs.declared.fault.NumberFault.TheVariants.{Empty, BadByte, ZeroDenominator, TooManyDigits}

@@ -1,5 +1,5 @@
 -- One pair of lowest terms for each value.
-use Rattle.std.proofs.Common.{◌≡◌, ℕ, ◌*◌, ◌/◌, ◌<◌, ◌^◌, suc, Bool, false, ℤ, pos, negsuc, ◌*ℤ◌, ◌<ℤ◌, unsigned_abs, refl, sym, ap, ap₂, subst, ◌∙◌, arith}
+use Rattle.std.proofs.Common.{◌≡◌, ℕ, ◌*◌, ◌/◌, ◌<◌, suc, false, ℤ, pos, negsuc, neg_ℤ, ◌*ℤ◌, ◌<ℤ◌, unsigned_abs, refl, sym, ap, ap₂, subst, ◌∙◌, arith}
 use Rattle.std.specs.Int.{◌∣◌, is_negative}
 use Rattle.std.proofs.lemmas.Bool.{le-ltb}
 use Rattle.std.proofs.lemmas.Int.{ints, unsigned_abs-mul}
@@ -10,8 +10,10 @@ use Rattle.field_core.specs.Terms.{Terms, IsReduced}
 use Rattle.field_core.proofs.Coprime.{apart_from_gcd, divides_other}
 use Rattle.field_core.proofs.Divisors.{gcd_is}
 use Rattle.field_core.proofs.IntegerRing.{*ℤ_cancel}
-use Rattle.fraction.specs.Numeral.{Same, with_sign}
-use Rattle.fraction.specs.Lowest.{lowest_of, lowest_terms, differ}
+use Rattle.fraction.specs.Numeral.{Same}
+use Rattle.fraction.specs.Lowest.{lowest_of, lowest_terms}
+use Rattle.fraction.specs.Laws.Turned.{abs_neg}
+use Rattle.fraction.specs.Laws.ExactTerms.{neg_times}
 use Rattle.fraction.proofs.LowestTerms.{divided}
 use Rattle.fraction.proofs.Unique.{same_through}
 
@@ -45,7 +47,7 @@ pub lowest_pos : (n d : ℕ) → lowest_terms (pos n) (pos d) ≡ record { num =
 unfolding lowest_terms lowest_of
 lowest_pos n d = rw (not_negative n, not_negative d) refl
 
-divided_cross : (n d p q g : ℕ) → p * g ≡ n → q * g ≡ d → p * d ≡ n * q
+pub divided_cross : (n d p q g : ℕ) → p * g ≡ n → q * g ≡ d → p * d ≡ n * q
 divided_cross n d p q g e f = rw (← e, ← f) (omega arith)
 
 pub lowest_is : (t : Terms) (n d : ℕ) → IsReduced t → 0 < d → Same t (record { num = pos n; den = pos d }) → lowest_terms (pos n) (pos d) ≡ t
@@ -59,3 +61,29 @@ lowest_is t n d r some h =
     let reduced : AreLowest t = record { positive = r.positive; apart = r.reduced } in
     let same : Same low t = same_through low t whole (omega (arith, ints)) (ap pos cross) h in
     lowest_pos n d ∙ lowest_unique low t lowest reduced same
+
+-- ---- quotients of any sign
+
+pub lowest_neg : (n d : ℕ) → lowest_terms (negsuc n) (pos d) ≡ record { num = neg_ℤ (pos (suc n / gcd (suc n) d)); den = pos (d / gcd (suc n) d) }
+unfolding lowest_terms lowest_of
+lowest_neg n d = rw (not_negative d) refl
+
+lowest_below : (t : Terms) (n d : ℕ) → IsReduced t → 0 < d → Same t (record { num = negsuc n; den = pos d }) → lowest_terms (negsuc n) (pos d) ≡ t
+lowest_below t n d r some h =
+    let m : ℕ = suc n in
+    let g = gcd m d in
+    let both = divided m d some in
+    let cross : m / g * d ≡ m * (d / g) = divided_cross m d (m / g) (d / g) g (div-mul_cancel g (gcd_is m d).0) (div-mul_cancel g (gcd_is m d).1) in
+    let low : Terms = record { num = neg_ℤ (pos (m / g)); den = pos (d / g) } in
+    let whole : Terms = record { num = negsuc n; den = pos d } in
+    let lowest : AreLowest low = record { positive = (let p = both.1.some in omega (arith, ints)); apart = ap (λ k. gcd k (d / g)) (abs_neg (pos (m / g))) ∙ both.1.apart } in
+    let reduced : AreLowest t = record { positive = r.positive; apart = r.reduced } in
+    let same : Same low t = same_through low t whole (omega (arith, ints)) (neg_times (m / g) d ∙ ap (λ k. neg_ℤ (pos k)) cross ∙ sym (neg_times m (d / g))) h in
+    lowest_neg n d ∙ lowest_unique low t lowest reduced same
+
+-- the lowest terms of any pair with the value of a fraction are that fraction
+pub lowest_any : (t : Terms) (n d : ℤ) → IsReduced t → pos 0 <ℤ d → Same t (record { num = n; den = d }) → lowest_terms n d ≡ t
+lowest_any t (pos n) (pos d) r some h = lowest_is t n d r (omega (arith, ints)) h
+lowest_any t (negsuc n) (pos d) r some h = lowest_below t n d r (omega (arith, ints)) h
+lowest_any t (pos n) (negsuc d) r some h = absurd (omega (arith, ints))
+lowest_any t (negsuc n) (negsuc d) r some h = absurd (omega (arith, ints))

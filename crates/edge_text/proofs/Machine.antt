@@ -1,5 +1,5 @@
 -- The machine of edge expressions, state by state.
-use Rattle.std.proofs.Common.{◌≡◌, ℕ, zero, suc, ◌≤◌, ◌⊎◌, Bool, true, false, eqb, List, [], ◌∷◌, ◌++◌, Option, Some, None, refl, sym, ap, ◌∙◌}
+use Rattle.std.proofs.Common.{◌≡◌, ℕ, Bool, List, [], ◌∷◌, Some, refl, ◌∙◌}
 use Rattle.field_core.proofs.Longest.{accepts, accepts_then, accepts_nil, accepts_cons}
 use Rattle.edge_text.specs.declared.byte_class.Class.{Class}
 use Rattle.edge_text.specs.declared.byte_class.Class.TheVariants as classes
@@ -8,7 +8,6 @@ use Rattle.edge_text.specs.declared.byte_machine.Part.TheVariants as parts
 use Rattle.edge_text.specs.declared.byte_machine.Letter.{Letter}
 use Rattle.edge_text.specs.declared.byte_machine.Letter.TheVariants as letters
 use Rattle.edge_text.specs.declared.byte_machine.State.{State}
-use Rattle.edge_text.specs.declared.byte_machine.State.TheVariants as states
 use Rattle.edge_text.specs.declared.byte_machine.Reached.{Reached}
 use Rattle.edge_text.specs.ByteMachine.{mark_of, class_of, decimal_step, next_letter, next, opened, reached, step, is_whole, ends, may_end}
 

@@ -1,21 +1,20 @@
 -- What reading an edge expression gives.
-use Rattle.std.proofs.Common.{◌≡◌, ℕ, zero, suc, ◌+◌, ◌-◌, ◌<◌, ◌≤◌, ◌⊎◌, inl, inr, Bool, true, false, cond, ℤ, List, [], ◌∷◌, length, Option, Some, None, Result, Ok, Err, refl, sym, ap, subst, ◌∙◌, arith}
+use Rattle.std.proofs.Common.{◌≡◌, ℕ, zero, suc, ◌+◌, ◌-◌, inl, inr, Bool, true, false, cond, ℤ, List, length, Option, Some, None, Result, Ok, Err, sym, subst, ◌∙◌, arith}
 use Rattle.std.specs.Prelude.{IfOk, IfErr, IsOkAnd, nat_lt}
 use Rattle.field_core.specs.Terms.{Terms}
 use Rattle.fraction.specs.Lowest.{lowest_terms}
 use Rattle.fraction.specs.Numeral.{value_of}
-use Rattle.fraction.specs.Prefixes.{IsBadByte}
 use Rattle.case_model.specs.declared.entry.Entry.{Entry}
 use Rattle.case_model.specs.EntryView.{coefficients_of}
 use Rattle.case_model.specs.Draft.{is_short}
 use Rattle.case_model.specs.Entries.{no_edge, is_zero_terms}
-use Rattle.case_model.specs.Sums.{terms_at, zero_terms}
+use Rattle.case_model.specs.Sums.{terms_at}
 use Rattle.edge_text.specs.declared.expr_fault.ExprFault.{ExprFault}
 use Rattle.edge_text.specs.declared.expr_fault.ExprFault.TheVariants.{BadByte, Depth, DivisorNotNumber, ZeroDivisor, Degree, Part}
 use Rattle.edge_text.specs.Expressions.{Decimal, Power, Sign, Plus, Minus, Expression, Sum, MoreTerms, NoTerm, AndTerm, Term, Product, MoreFactors, NoFactor, Times, Over, Beside, Factor, Number, Other, Further, Epsilon, Parens, Spells, IsExpression}
-use Rattle.edge_text.specs.EntryValues.{◌>>=◌, short_of, short, sum, difference, product, quotient, plain_entry, coefficients, joined, degree, product_sum, times, over, has_too_many_digits, decimal_value, unit_at, power_value, epsilon_value, sign_or_plus, value, with_terms, term_value, with_factors, factor_value, further_value}
+use Rattle.edge_text.specs.EntryValues.{◌>>=◌, short_of, short, product, coefficients, joined, degree, product_sum, times, over, has_too_many_digits, decimal_value, power_value, epsilon_value, sign_or_plus, value, with_terms, term_value, with_factors, factor_value, further_value}
 use Rattle.edge_text.specs.EntryView.{map_value}
-use Rattle.edge_text.specs.EntryReading.{IsDeep, IsShallow, IsTooDeep, IsScanned, IsWorth, IsEntryText, IsExprFault}
+use Rattle.edge_text.specs.EntryReading.{IsDeep, IsShallow, IsScanned, IsWorth, IsEntryText, IsExprFault}
 
 -- ---- the faults of values
 
@@ -87,6 +86,7 @@ fine_epsilon (Some power) = fine_power power.power
 
 mutual
   unfolding Fine value
+
   pub fine_value : (e : Expression) → Fine (value e)
   fine_value (Sum sign first others) = fine_bind (term_value first) _ (fine_term first) (λ x. fine_bind (joined (sign_or_plus sign) no_edge x) _ (fine_joined (sign_or_plus sign) no_edge x) (λ s. fine_terms s others))
 

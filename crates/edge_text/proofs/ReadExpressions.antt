@@ -1,8 +1,7 @@
 -- What the machine accepts is an expression.
-use Rattle.std.proofs.Common.{◌≡◌, ℕ, zero, suc, ◌+◌, ◌-◌, ◌<◌, ◌≤◌, ◌⊎◌, Bool, true, false, cond, eqb, List, [], ◌∷◌, ◌++◌, Option, Some, None, refl, sym, ap, subst, ◌∙◌, inl, inr, arith}
+use Rattle.std.proofs.Common.{◌≡◌, ℕ, zero, suc, ◌+◌, ◌-◌, ◌≤◌, ◌⊎◌, Bool, true, false, cond, eqb, List, [], ◌∷◌, ◌++◌, Option, Some, None, refl, sym, ap, subst, ◌∙◌, inl, inr, arith}
 use Rattle.std.proofs.lemmas.Bool.{eqb-true}
 use Rattle.field_core.proofs.Longest.{accepts, accepts_then}
-use Rattle.fraction.specs.Numeral.{body_text}
 use Rattle.edge_text.specs.declared.byte_class.Class.{Class}
 use Rattle.edge_text.specs.declared.byte_class.Class.TheVariants as classes
 use Rattle.edge_text.specs.declared.byte_machine.Part.{Part}
@@ -12,10 +11,10 @@ use Rattle.edge_text.specs.declared.byte_machine.Letter.TheVariants as letters
 use Rattle.edge_text.specs.declared.byte_machine.State.{State}
 use Rattle.edge_text.specs.declared.byte_machine.State.TheVariants as states
 use Rattle.edge_text.specs.ByteMachine.{class_of, decimal_step, is_decimal, next_letter, with_letter, at_operand, at_start, behind_factor, behind_parts, behind_epsilon, behind_caret, next, opened, reached, step, is_whole, ends, may_end, start}
-use Rattle.edge_text.specs.Expressions.{Decimal, Power, Sign, Plus, Minus, Expression, Sum, MoreTerms, NoTerm, AndTerm, Term, Product, MoreFactors, NoFactor, Times, Over, Beside, Factor, Number, Other, Further, Epsilon, Parens, Token, DecimalToken, WordToken, CaretToken, PowerToken, SignToken, TimesToken, OverToken, OpenToken, CloseToken, sign_tokens, power_tokens, expression_tokens, terms_tokens, term_tokens, factors_tokens, factor_tokens, further_tokens, sign_byte, token_text, AreBlanks, IsTokenThen, IsSpelt, Spells, IsExpression}
+use Rattle.edge_text.specs.Expressions.{Decimal, Power, Sign, Plus, Minus, Expression, Sum, MoreTerms, NoTerm, AndTerm, Product, MoreFactors, NoFactor, Times, Over, Beside, Factor, Number, Other, Further, Epsilon, Parens, Token, DecimalToken, WordToken, CaretToken, PowerToken, SignToken, TimesToken, OverToken, OpenToken, CloseToken, power_tokens, expression_tokens, terms_tokens, factors_tokens, factor_tokens, further_tokens, token_text, IsSpelt, Spells, IsExpression}
 use Rattle.edge_text.proofs.ByteClasses.{IsOf, class_is}
 use Rattle.edge_text.proofs.DecimalTexts.{takes, takes_nil, takes_cons, is_decimal_text}
-use Rattle.edge_text.proofs.Machine.{at, reads, reads_nil, reads_cons, behind, letter_opens, part_opens}
+use Rattle.edge_text.proofs.Machine.{reads, reads_nil, reads_cons, behind, letter_opens, part_opens}
 
 -- ---- tokens behind a place, where so many parentheses are open
 

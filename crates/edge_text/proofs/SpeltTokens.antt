@@ -1,5 +1,5 @@
 -- The bytes with which spelt tokens begin.
-use Rattle.std.proofs.Common.{◌≡◌, ◌≢◌, ℕ, suc, ◌+◌, ◌≤◌, ◌<◌, ◌⊎◌, Bool, true, false, inl, inr, List, [], ◌∷◌, ◌++◌, length, drop, None, refl, sym, ap, subst, ◌∙◌, arith, length-drop, eqb, ◌||◌}
+use Rattle.std.proofs.Common.{◌≡◌, ◌≢◌, ℕ, suc, ◌+◌, ◌≤◌, ◌⊎◌, true, false, inl, inr, List, [], ◌∷◌, ◌++◌, length, drop, None, refl, sym, ap, subst, ◌∙◌, arith, length-drop, eqb}
 use Rattle.std.specs.List.{prefix_len}
 use Rattle.std.proofs.lemmas.Bool.Decides.{nat_tests}
 use Rattle.std.proofs.lemmas.Bool.{cases_Bool, eqb-true, or_cases}
@@ -11,7 +11,7 @@ use Rattle.edge_text.specs.declared.byte_class.Class.TheVariants as classes
 use Rattle.edge_text.specs.declared.byte_machine.Part.{Part}
 use Rattle.edge_text.specs.declared.byte_machine.Part.TheVariants as parts
 use Rattle.edge_text.specs.ByteMachine.{class_of, decimal_step, is_decimal}
-use Rattle.edge_text.specs.Expressions.{Decimal, Power, Sign, Plus, Minus, Token, DecimalToken, WordToken, CaretToken, PowerToken, SignToken, TimesToken, OverToken, OpenToken, CloseToken, sign_byte, token_text, AreBlanks, IsTokenThen, IsSpelt}
+use Rattle.edge_text.specs.Expressions.{Decimal, Plus, Minus, Token, DecimalToken, WordToken, CaretToken, PowerToken, SignToken, TimesToken, OverToken, OpenToken, CloseToken, sign_byte, token_text, AreBlanks, IsSpelt}
 use Rattle.edge_text.specs.CursorView.{EndsFactor}
 use Rattle.edge_text.proofs.ByteClasses.{IsOf, class_is, class_blank, class_sign, class_joint, class_open, class_close, class_backslash}
 use Rattle.edge_text.proofs.DecimalTexts.{takes, takes_nil, takes_cons, decimal_taken}

@@ -1,5 +1,5 @@
 -- What is left of an edge expression, as contracts of the evaluator's parts see it.
-use Rattle.std.specs.Prelude.{◌≡◌, ◌≢◌, ℕ, ◌+◌, ◌%◌, ◌⊎◌, Bool, true, false, List, [], ◌∷◌, Option, Some, None, Result, Ok, Err, is_ok, length, drop, take, min}
+use Rattle.std.specs.Prelude.{◌≡◌, ◌≢◌, ℕ, ◌+◌, ◌%◌, ◌⊎◌, true, List, [], ◌∷◌, Option, Some, None, Result, is_ok, length, drop, take, min}
 use Rattle.field_core.proofs.Longest.{count}
 use Rattle.fraction.specs.Numeral.{body_text}
 use Rattle.field_core.specs.Terms.{Terms}
@@ -12,7 +12,7 @@ use Rattle.edge_text.specs.declared.polynomial.Operation.TheVariants as operatio
 use Rattle.edge_text.specs.declared.factor_cursor.Head.{Head}
 use Rattle.edge_text.specs.declared.factor_cursor.Head.TheVariants as heads
 use Rattle.edge_text.specs.ByteMachine.{decimal_byte}
-use Rattle.edge_text.specs.Expressions.{Expression, Term, Factor, Number, Other, Epsilon, Parens, Token, DecimalToken, WordToken, CaretToken, PowerToken, SignToken, TimesToken, OverToken, OpenToken, CloseToken, power_tokens, expression_tokens, term_tokens, factor_tokens, IsSpelt}
+use Rattle.edge_text.specs.Expressions.{Expression, Term, Factor, Number, Other, Epsilon, Parens, Token, DecimalToken, CaretToken, PowerToken, SignToken, CloseToken, power_tokens, expression_tokens, term_tokens, IsSpelt}
 use Rattle.edge_text.specs.EntryValues.{value, term_value, factor_value}
 use Rattle.edge_text.specs.EntryView.{map_value, polynomial_terms}
 

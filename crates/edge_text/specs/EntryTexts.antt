@@ -1,9 +1,10 @@
 -- The canonical texts of entries.
-use Rattle.std.specs.Prelude.{ℕ, zero, suc, ◌+◌, ◌&&◌, ◌==◌, ℤ, pos, Bool, true, false, List, [], ◌∷◌, ◌++◌, codes, unsigned_abs, if◌then◌else◌}
+use Rattle.std.specs.Prelude.{◌≡◌, ℕ, zero, suc, ◌+◌, ◌&&◌, ◌==◌, pos, Bool, true, false, List, [], ◌∷◌, ◌++◌, codes, unsigned_abs, if◌then◌else◌}
 use Rattle.std.specs.Int.{is_negative}
 use Rattle.field_core.specs.Terms.{Terms}
 use Rattle.fraction.specs.Spelling.{spelling}
-use Rattle.case_model.specs.Entries.{is_zero_terms, is_zero_entry}
+use Rattle.case_model.specs.Entries.{is_zero_terms}
+use Rattle.case_model.specs.Sums.{terms_at}
 
 -- the fraction without its sign
 abbrev pub without_sign : Terms → Terms
@@ -23,8 +24,7 @@ factor_text t = if is_one t then [] else spelling t ++ codes "*"
 
 -- a term with its coefficient, which isn't below 0: the fraction alone at power 0
 unfoldable pub term_text : ℕ → Terms → List ℕ
-term_text zero t = spelling t
-term_text (suc k) t = factor_text t ++ power_text (suc k)
+term_text power t = if power == 0 then spelling t else factor_text t ++ power_text power
 
 -- what joins a term to those before it: a minus where it is below 0, else a plus, which the first term lacks
 abbrev pub joint_text : Bool → Bool → List ℕ
@@ -32,13 +32,29 @@ joint_text is_first true = codes "-"
 joint_text true false = []
 joint_text false false = codes "+"
 
--- the terms that aren't 0, from a power on
-unfoldable pub terms_text : Bool → ℕ → List Terms → List ℕ
-terms_text is_first power [] = []
-terms_text is_first power (t ∷ ts) =
-    if is_zero_terms t then terms_text is_first (suc power) ts
-    else joint_text is_first (is_negative t.num) ++ term_text power (without_sign t) ++ terms_text false (suc power) ts
+-- a term with what joins it to those before it
+unfoldable pub joined_term : Bool → ℕ → Terms → List ℕ
+joined_term is_first power t = joint_text is_first (is_negative t.num) ++ term_text power (without_sign t)
 
--- the terms of an entry that aren't 0 by ascending power, or 0 where there is none
+-- the terms of n powers that aren't 0, from a power on
+unfoldable pub terms_text : Bool → ℕ → ℕ → List Terms → List ℕ
+terms_text is_first power zero entry = []
+terms_text is_first power (suc n) entry =
+    if is_zero_terms (terms_at entry power) then terms_text is_first (suc power) n entry
+    else joined_term is_first power (terms_at entry power) ++ terms_text false (suc power) n entry
+
+-- the coefficients of all powers below n are 0
+unfoldable pub are_zero_below : ℕ → List Terms → Bool
+are_zero_below zero entry = true
+are_zero_below (suc n) entry = are_zero_below n entry && is_zero_terms (terms_at entry n)
+
+-- the terms of an entry that aren't 0, from power 0 to 4, or 0 where there is none
 unfoldable pub entry_text : List Terms → List ℕ
-entry_text entry = if is_zero_entry entry then codes "0" else terms_text true 0 entry
+entry_text entry = if are_zero_below 5 entry then codes "0" else terms_text true 0 5 entry
+
+-- a front of the text was appended, and what there was before stays
+pub record IsBegun (old new text : List ℕ) : Type 0 where
+  pub front : List ℕ
+  pub rest : List ℕ
+  pub appended : new ≡ old ++ front
+  pub text_is : text ≡ front ++ rest

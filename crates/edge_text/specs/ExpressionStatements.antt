@@ -1,5 +1,5 @@
 -- What holds of edge expressions and of the texts of entries.
-use Rattle.std.specs.Prelude.{◌≡◌, ◌↔◌, ℕ, true, List, length, Option, Some, None, Ok}
+use Rattle.std.specs.Prelude.{◌≡◌, ◌↔◌, true, List, length, Option, Some, None, Ok}
 use Rattle.std.specs.List.{AllByRecursion}
 use Rattle.field_core.specs.Terms.{Terms, IsReduced}
 use Rattle.field_core.specs.Number.{Number as Value}
@@ -8,7 +8,7 @@ use Rattle.field_core.specs.Fractions.{fraction}
 use Rattle.fraction.specs.Numeral.{Body, value_of, HasTooManyDigits}
 use Rattle.case_model.specs.Draft.{is_short}
 use Rattle.case_model.specs.Entries.{entry_value, power_of_epsilon}
-use Rattle.edge_text.specs.Expressions.{Decimal, Power, Sign, Plus, Minus, Expression, Sum, MoreTerms, NoTerm, AndTerm, Term, Product, MoreFactors, NoFactor, Times, Over, Beside, Factor, Number, Other, Further, Epsilon, Parens}
+use Rattle.edge_text.specs.Expressions.{Power, Sign, Plus, Minus, Expression, Sum, MoreTerms, NoTerm, AndTerm, Term, Product, MoreFactors, NoFactor, Times, Over, Beside, Factor, Number, Other, Further, Epsilon, Parens}
 use Rattle.edge_text.specs.EntryValues.{sign_or_plus, has_too_many_digits, value}
 use Rattle.edge_text.specs.EntryReading.{IsEntryText}
 use Rattle.edge_text.specs.EntryTexts.{entry_text}

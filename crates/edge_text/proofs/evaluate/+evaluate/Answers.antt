@@ -1,5 +1,4 @@
-use Rattle.std.proofs.Common.{◌≡◌, ◌∷◌, ◌+◌, ℕ, length, sym, ap, subst, ◌∙◌, arith, Some, None}
-use Rattle.std.specs.Prelude.{IfOk}
+use Rattle.std.proofs.Common.{sym, subst, arith}
 use Rattle.std.proofs.lemmas.Result.{err_from_is_err_and}
 use Rattle.edge_text.specs.CursorView.{FactorGives}
 use Rattle.edge_text.specs.EntryView.{polynomial_terms}
@@ -84,7 +83,7 @@ product-loop-operation-smaller t c =
 pub product-loop-operation-preserved : goal.product-loop-operation-preserved
 product-loop-operation-preserved t c = record {
   goes = factor_goes c.in-Some.operation c.take_head-head-in-Some.result c.args.cursor.now.rest.now c.loop-operation.cursor.rest.now c.take_joint.new.self.rest.now c.take_head-head-in-Some.new.self.rest.now c.factor-in-Some.new.cursor.rest.now (polynomial_terms c.loop-operation.product) (polynomial_terms c.in_ok-product-2.product) c.in_ok-next.next
-  c.loop-operation.invariant.goes c.in-Some.ensures c.take_head-head-in-Some.ensures c.in_ok-next.ensures.value c.in_ok-product-2.ensures;
+      c.loop-operation.invariant.goes c.in-Some.ensures c.take_head-head-in-Some.ensures c.in_ok-next.ensures.value c.in_ok-product-2.ensures;
   shorter = omega (arith, c.loop-operation.invariant.shorter, c.in_ok-next.ensures.shorter, joint_shorter c.in-Some.operation c.take_head-head-in-Some.result c.loop-operation.cursor.rest.now c.take_joint.new.self.rest.now c.take_head-head-in-Some.new.self.rest.now c.in-Some.ensures c.take_head-head-in-Some.ensures);
 }
 

@@ -1,4 +1,4 @@
-use Rattle.std.proofs.Common.{ℕ, ◌+◌, ◌*◌, ◌<◌, ◌≤◌, length}
+use Rattle.std.proofs.Common.{◌+◌, ◌*◌, ◌≤◌, length}
 use Rattle.edge_text.specs.CursorView.{head_weight}
 use Rattle.edge_text.specs.EntryView.{polynomial_terms}
 use Rattle.edge_text.proofs.Evaluations.{SumGoes, ProductGoes}

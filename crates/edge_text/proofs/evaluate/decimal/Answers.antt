@@ -1,4 +1,4 @@
-use Rattle.std.proofs.Common.{◌≡◌, sym, ap, ◌∙◌, Ok, Err}
+use Rattle.std.proofs.Common.{sym, ap, ◌∙◌, Ok, Err}
 use Rattle.std.proofs.lemmas.Result.{err_from_is_err_and}
 use Rattle.fraction.specs.View.{terms_of}
 use Rattle.edge_text.specs.EntryView.{map_value, polynomial_terms, short_terms}

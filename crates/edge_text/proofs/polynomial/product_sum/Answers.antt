@@ -1,7 +1,7 @@
-use Rattle.std.proofs.Common.{◌≡◌, ◌≤◌, ◌+◌, suc, sym, ap, ◌∙◌, Ok, Err, arith}
+use Rattle.std.proofs.Common.{suc, sym, ap, ◌∙◌, Ok, Err, arith}
 use Rattle.std.proofs.lemmas.Result.{err_from_is_err_and}
 use Rattle.edge_text.specs.EntryView.{polynomial_terms, short_terms, map_value}
-use Rattle.edge_text.proofs.Coefficients.{held, fails, product_none, product_more, product_refused, product_stops}
+use Rattle.edge_text.proofs.Coefficients.{product_none, product_more, product_refused, product_stops}
 use Rattle.edge_text.proofs.polynomial.product_sum.Goals as goal
 
 pub loop-at-init : goal.loop-at-init

@@ -1,5 +1,4 @@
-use Rattle.std.proofs.Common.{◌≡◌, ◌∙◌, sym, ap, length, true, false, arith, get_or, None, Some}
-use Rattle.edge_text.specs.ByteMachine.{step}
+use Rattle.std.proofs.Common.{◌≡◌, ◌∙◌, sym, ap, length, true, false, arith}
 use Rattle.edge_text.proofs.ScannedTexts.{scan_none, scan_deep, scan_on, scan_end, bad_at, is_scanned}
 use Rattle.edge_text.proofs.scan.scan.Goals as goal
 

@@ -1,4 +1,4 @@
-use Rattle.std.proofs.Common.{ap, ◌∙◌, sym, subst, ◌≤◌, ◌^◌, ◌≢◌, unsigned_abs, pos}
+use Rattle.std.proofs.Common.{sym, subst, ◌≤◌, ◌^◌, ◌≢◌, unsigned_abs, pos}
 use Rattle.edge_text.proofs.ShortProducts.{product_size, product_held, product_some}
 use Rattle.edge_text.proofs.short_arithmetic.cross.Goals as goal
 
