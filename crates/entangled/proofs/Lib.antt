@@ -3,8 +3,10 @@ pub mod AllPrepared
 pub mod BundleLevels
 pub mod CaseGraphs
 pub mod CaseLevels
+pub mod CaseOpening
 pub mod CaseParts
 pub mod CaseStart
+pub mod CaseSteps
 pub mod EachNet
 pub mod ExactProducts
 pub mod Gathered
@@ -12,6 +14,8 @@ pub mod ItemSteps
 pub mod LevelSteps
 pub mod LevelValues
 pub mod Limits
+pub mod LoadSteps
+pub mod LoadedGraphs
 pub mod Products
 pub mod Pushes
 pub mod RemovedTogether

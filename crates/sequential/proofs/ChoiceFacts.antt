@@ -45,7 +45,7 @@ module _ (c : Content) (t : TrialContent) (T : IsTrialOf c t) where
   p_value_lowest k h = All-get_or IsReduced t.p_values k _ h (subst AreLowestInputs T.inputs T.valid.inputs)
 
   level_lowest : (k : ℕ) → IsReduced (case_level t.state k)
-  level_lowest k = case_lowest c t.rejected t.state k T.valid T.plain (distinct c t T) T.state
+  level_lowest k = case_lowest c t.rejected t.state k T.valid (distinct c t T) T.state
 
   -- a written ratio is the ratio
   written_is_ratio : (k : ℕ) (q : Terms) → k < length t.p_values → IsWrittenRatio t.p_values t.state k q → IsRatio (entangled c) (number_at t.p_values) (remaining t) k (number q)

@@ -1,5 +1,5 @@
 ghost use Rattle.std.specs.Prelude.{◌≡◌, ◌↔◌, ℕ, true, [], map, length, IfOk, IfErr, OnOk};
-ghost use Rattle.case_model.specs.Content.{Content, is_plain, IsRejectedIn};
+ghost use Rattle.case_model.specs.Content.{Content, IsRejectedIn};
 ghost use Rattle.case_model.specs.CaseView.{content};
 ghost use Rattle.case_model.specs.LegalOrder.{IsListed};
 ghost use Rattle.sequential.specs.DecisionView.{step_content, decision};
@@ -65,14 +65,13 @@ fn kept(alloc: Global, current: &Trial) -> Result<List<StepLine>, NoMemory>
     Ok(lines)
 }
 
-/// Decides a plain case that has a p-value for each hypothesis: rejects one hypothesis after another, each time the one that
+/// Decides a case that has a p-value for each hypothesis: rejects one hypothesis after another, each time the one that
 /// the priority takes, until none is legal. So it rejects exactly what the closed test rejects.
 ///
 /// Unless memory runs out, it is `DecideFault::Wide` exactly where the written run is undefined, with the step, counted
 /// from 1; step 0 is the opening.
 pub fn decide(alloc: Global, case: &Case, priority: Priority) -> Result<Decision, DecideFault>
-    requires plain { is_plain (content case.now) ≡ true }
-    requires single { IsSingle (content case.now).inputs }
+    requires { IsSingle (content case.now).inputs }
     ensures value { IfOk result (λ d. IsDecision (content case.now) priority (decision d)) }
     ensures fault { IfErr result (IsDecideFault (content case.now) priority) }
     ensures defined { OnOk result ((n : ℕ) (w : WideAt) → ¬ IsWideDecision (content case.now) priority n w) }

@@ -1,91 +1,72 @@
-ghost use Rattle.std.specs.Prelude.{◌≡◌, ◌<◌, true, map, length, IfOk};
-ghost use Rattle.fraction.specs.View.{terms_of};
-ghost use Rattle.case_model.specs.Sums.{terms_at};
+ghost use Rattle.std.specs.Prelude.{◌≡◌, ◌<◌, map, length, IfOk};
 ghost use Rattle.case_model.specs.Content.{component_at, is_plain};
 ghost use Rattle.case_model.specs.CaseView.{content};
 ghost use Rattle.removal.specs.NetView.{present_of};
+ghost use Rattle.entangled.specs.Items.{in_component};
 ghost use Rattle.entangled.specs.Opening.{Opens};
-ghost use Rattle.entangled.specs.CaseRun.{component_graph, case_opening};
-ghost use Rattle.entangled.specs.CaseNetView.{case_state};
+ghost use Rattle.entangled.specs.BundleView.{bundled};
+ghost use Rattle.entangled.specs.Loading.{CanRunIn, loaded_graph, loaded_graphs};
+ghost use Rattle.entangled.specs.CaseRun.{opening_in, case_opening};
+ghost use Rattle.entangled.specs.CaseNetView.{case_state, is_of_fractions};
 
 use super::CaseNet;
+use super::number::CaseNumber;
+use super::parts::{edges, shares, weights};
 use crate::{Bundle, OpenFault};
 use case_model::Case;
-use field_core::{List, NoMemory};
-use fraction::Fraction;
+use field_core::List;
 use removal::Net;
 use std::alloc::Global;
 
-/// The weights of a component.
-fn weights(alloc: Global, case: &Case, c: usize) -> Result<List<Fraction>, NoMemory>
-    requires { c < length (content case.now).components }
-    ensures { IfOk result (λ ws. map terms_of ws ≡ (component_at (content case.now).components c).weights) }
-{
-    let mut weights = List::new(alloc);
-    for i in 0..case.size() {
-        weights.push(case.weight(c, i))?;
-    }
-    Ok(weights)
-}
-
-/// The coefficients of power 0 of the edges of a component, row by row.
-fn edges(alloc: Global, case: &Case, c: usize) -> Result<List<Fraction>, NoMemory>
-    requires { c < length (content case.now).components }
-    ensures { IfOk result (λ es. map terms_of es ≡ map (λ e. terms_at e 0) (component_at (content case.now).components c).edges) }
-{
-    let size = case.size();
-    let mut edges = List::new(alloc);
-    for k in 0..size * size {
-        edges.push(case.edge(c, k / size, k % size).coefficient(0))?;
-    }
-    Ok(edges)
-}
-
-/// The shares of the components.
-fn shares(alloc: Global, case: &Case) -> Result<List<Fraction>, NoMemory>
-    ensures { IfOk result (λ ss. map terms_of ss ≡ map (λ k. k.share) (content case.now).components) }
-{
-    let mut shares = List::new(alloc);
-    for c in 0..case.components() {
-        shares.push(case.share(c))?;
-    }
-    Ok(shares)
-}
-
-/// The net of a component of a plain case.
-fn plain_net(alloc: Global, case: &Case, c: usize) -> Result<Net<Fraction>, NoMemory>
-    requires plain { is_plain (content case.now) ≡ true }
+/// The net of a component.
+fn net<F: CaseNumber>(alloc: Global, case: &Case, c: usize) -> Result<Net<F>, OpenFault>
+    requires numbers { CanRunIn F.numbers (content case.now) }
     requires component { c < length (content case.now).components }
-    ensures { IfOk result (λ n. present_of n ≡ component_graph (component_at (content case.now).components c)) }
+    ensures { Opens present_of result (in_component c (loaded_graph F.numbers (length (content case.now).names) (component_at (content case.now).components c))) }
 {
     let weights = weights(alloc, case, c)?;
     let edges = edges(alloc, case, c)?;
-    Net::try_new(alloc, weights.as_slice(), edges.as_slice())
+    let net = Net::try_new(alloc, weights.as_slice(), edges.as_slice())?;
+    Ok(net)
 }
 
-/// The nets of a plain case.
-fn plain_nets(alloc: Global, case: &Case) -> Result<List<Net<Fraction>>, NoMemory>
-    requires { is_plain (content case.now) ≡ true }
-    ensures { IfOk result (λ ns. map present_of ns ≡ map component_graph (content case.now).components) }
+/// The nets of a case.
+fn nets<F: CaseNumber>(alloc: Global, case: &Case) -> Result<List<Net<F>>, OpenFault>
+    requires { CanRunIn F.numbers (content case.now) }
+    ensures { Opens (map present_of) result (loaded_graphs F.numbers (length (content case.now).names) (content case.now).components) }
 {
     let mut nets = List::new(alloc);
     for c in 0..case.components() {
-        nets.push(plain_net(alloc, case, c)?)?;
+        nets.push(net(alloc, case, c)?)?;
     }
     Ok(nets)
 }
 
+/// The bundle of a case.
+fn bundle<F: CaseNumber>(alloc: Global, case: &Case) -> Result<Bundle<Net<F>>, OpenFault>
+    requires { CanRunIn F.numbers (content case.now) }
+    ensures { Opens bundled result (opening_in F.numbers (content case.now)) }
+{
+    let nets = nets(alloc, case)?;
+    let shares = shares(alloc, case)?;
+    Bundle::try_new(alloc, nets, shares.as_slice())
+}
+
 impl CaseNet {
-    /// The nets of a plain case, with all hypotheses in.
+    /// The nets of a case, with all hypotheses in: of fractions where the case is plain, and of quotients in epsilon where it
+    /// isn't. There each edge is loaded as the written polynomial of its coefficients.
     ///
     /// Unless memory runs out, it is `OpenFault::Wide` exactly where the written opening is undefined.
     pub fn load(alloc: Global, case: &Case) -> Result<CaseNet, OpenFault>
-        requires { is_plain (content case.now) ≡ true }
-        ensures { Opens case_state result (case_opening (content case.now)) }
+        ensures opened { Opens case_state result (case_opening (content case.now)) }
+        ensures plain { IfOk result (λ n. is_of_fractions n ≡ is_plain (content case.now)) }
     {
-        let nets = plain_nets(alloc, case)?;
-        let shares = shares(alloc, case)?;
-        let bundle = Bundle::try_new(alloc, nets, shares.as_slice())?;
-        Ok(CaseNet::Plain(bundle))
+        if case.is_plain() {
+            let bundle = bundle(alloc, case)?;
+            Ok(CaseNet::Plain(bundle))
+        } else {
+            let bundle = bundle(alloc, case)?;
+            Ok(CaseNet::Eps(bundle))
+        }
     }
 }

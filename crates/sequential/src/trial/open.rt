@@ -1,6 +1,6 @@
-ghost use Rattle.std.specs.Prelude.{◌≡◌, ◌≤◌, true, [], map, IfOk, IfErr, vec_capacity};
+ghost use Rattle.std.specs.Prelude.{◌≡◌, ◌≤◌, [], map, IfOk, IfErr, vec_capacity};
 ghost use Rattle.fraction.specs.View.{terms_of};
-ghost use Rattle.case_model.specs.Content.{single, is_plain};
+ghost use Rattle.case_model.specs.Content.{single};
 ghost use Rattle.case_model.specs.CaseView.{content};
 ghost use Rattle.sequential.specs.Trials.{IsTrialOf};
 ghost use Rattle.sequential.specs.TrialAnswers.{IsSingle, IsOpenFaultOf};
@@ -43,13 +43,12 @@ fn room_for(alloc: Global, count: usize) -> Result<Vec<usize>, NoMemory>
 }
 
 impl Trial {
-    /// Opens a plain case that has a p-value for each hypothesis. Nothing is rejected yet.
+    /// Opens a case that has a p-value for each hypothesis. Nothing is rejected yet.
     ///
     /// Unless memory runs out, it is `OpenFault::Wide` exactly where the written opening is undefined. All memory that a
     /// trial needs is taken here.
     pub fn open(alloc: Global, case: &Case) -> Result<Trial, OpenFault>
-        requires plain { is_plain (content case.now) ≡ true }
-        requires single { IsSingle (content case.now).inputs }
+        requires { IsSingle (content case.now).inputs }
         ensures trial { IfOk result (λ t. IsTrialOf (content case.now) (trial t)) }
         ensures start { IfOk result (λ t. (trial t).rejected ≡ []) }
         ensures fault { IfErr result (IsOpenFaultOf (content case.now)) }

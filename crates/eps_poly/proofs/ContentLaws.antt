@@ -1,0 +1,54 @@
+-- The greatest common divisor of coefficients.
+use Rattle.std.proofs.Common.{◌≡◌, ◌≢◌, ℕ, zero, suc, ◌+◌, ◌*◌, ◌<◌, ◌≤◌, ◌^◌, List, [], ◌∷◌, length, refl, sym, ◌∙◌, ap, subst, arith, ℤ, pos, negsuc, unsigned_abs, get_or, drop, ◌-◌, lit<}
+use lib.IntN.{ℤ_discrete}
+use Rattle.std.proofs.lemmas.List.{drop_more, drop_all}
+use Rattle.std.specs.Int.{◌∣◌}
+use Rattle.std.proofs.lemmas.Bool.{cases_lt}
+use Rattle.std.proofs.lemmas.Nat.Gcd.{dvd_trans, dvd-zero, le_of_dvd}
+use Rattle.std.proofs.Math.Nat.{pos_of_dvd_of_pos, eq-zero_of_zero-dvd}
+use Rattle.field_core.specs.Divisor.{gcd}
+use Rattle.field_core.specs.Polynomial.{coefficient, lowest, IsNonZero}
+use Rattle.field_core.proofs.Divisors.{gcd_is}
+use Rattle.field_core.specs.Laws.PolynomialLaws.{lowest-none}
+use Rattle.eps_poly.specs.Factors.{content, order}
+use Rattle.eps_poly.proofs.Coefficients.{coefficient-past}
+use Rattle.eps_poly.proofs.IntegerQuotients.{size_some}
+use Rattle.eps_poly.proofs.OrderLaws.{coefficient-order}
+
+-- it divides each coefficient
+pub content_divides : (p : List ℤ) (k : ℕ) → content p ∣ unsigned_abs (coefficient p k)
+unfolding content coefficient
+content_divides [] k = dvd-zero 0
+content_divides (c ∷ p) zero = (gcd_is (unsigned_abs c) (content p)).0
+content_divides (c ∷ p) (suc k) = dvd_trans (gcd (unsigned_abs c) (content p)) (gcd_is (unsigned_abs c) (content p)).1 (content_divides p k)
+
+-- and what divides each coefficient divides it
+pub content_greatest : (p : List ℤ) (d : ℕ) → ((k : ℕ) → d ∣ unsigned_abs (coefficient p k)) → d ∣ content p
+unfolding content coefficient
+content_greatest [] d h = h 0
+content_greatest (c ∷ p) d h = (gcd_is (unsigned_abs c) (content p)).2 d (h 0) (content_greatest p d (λ k. h (suc k)))
+
+pub content_some : (p : List ℤ) → IsNonZero p → 0 < content p
+content_some p some =
+    pos_of_dvd_of_pos (content_divides p (order p)) (rw (coefficient-order p) (size_some (lowest p) some))
+
+pub content_none : (p : List ℤ) → lowest p ≡ pos 0 → content p ≡ 0
+content_none p none = eq-zero_of_zero-dvd (content_greatest p 0 (λ k. rw (lowest-none p none k, coefficient-past [] k (omega arith)) (dvd-zero 0)))
+
+pub content_small : (p : List ℤ) → ((k : ℕ) → unsigned_abs (coefficient p k) < 2 ^ 127) → content p < 2 ^ 127
+content_small p small = elim (ℤ_discrete (lowest p) (pos 0)) [
+  | yes none ↦ rw (content_none p none) (lit< tt)
+  | no some ↦ let here = small (order p) in
+    let least = le_of_dvd (rw (coefficient-order p) (size_some (lowest p) some)) (content_divides p (order p)) in omega arith
+]
+
+-- a loop that takes in the coefficients of descending powers
+pub content_end : (p : List ℤ) → length p ≡ 33 → 0 ≡ content (drop 33 p)
+unfolding content
+content_end p long = rw (drop_all 33 p (omega arith)) refl
+
+pub content_more : (p : List ℤ) (n : ℕ) (x : ℤ) (size divisor result : ℕ) → 0 < n → n ≤ length p → divisor ≡ content (drop n p) → size ≡ unsigned_abs (get_or p (n - 1) x) → result ≡ gcd size divisor → result ≡ content (drop (n - 1) p)
+unfolding content
+content_more p n x size divisor result some within d e f =
+    let next : (n - 1) + 1 ≡ n = omega arith in
+    f ∙ rw (e, d) (sym (ap content (drop_more p (n - 1) x (omega arith) ∙ ap (λ m. get_or p (n - 1) x ∷ drop m p) next)))

@@ -1,0 +1,64 @@
+-- Quotients of whole numbers that leave no remainder.
+use Rattle.std.proofs.Common.{◌≡◌, ◌≢◌, ℕ, zero, suc, ◌+◌, ◌*◌, ◌/◌, ◌<◌, ◌≤◌, refl, sym, ◌∙◌, ap, arith, ℤ, pos, negsuc, ◌+ℤ◌, ◌*ℤ◌, neg_ℤ, unsigned_abs, int_div, int_rem, inl, inr}
+use Rattle.std.proofs.lemmas.Bool.{cases_lt}
+use Rattle.std.proofs.lemmas.Int.{ints, quot-rem, rem_below, unsigned_abs-mul}
+use Rattle.std.proofs.Math.Nat.{mul-le-mul_right, div-mul_cancel, zero-mul}
+use Rattle.std.specs.Int.{◌∣◌}
+use Rattle.field_core.proofs.IntegerRing.{*ℤ_distrib_right}
+
+pub size_some : (d : ℤ) → d ≢ pos 0 → 0 < unsigned_abs d
+size_some (pos zero) h = absurd (h refl)
+size_some (pos (suc n)) h = omega arith
+size_some (negsuc n) h = omega arith
+
+pub size_none : (d : ℤ) → unsigned_abs d ≡ 0 → d ≡ pos 0
+size_none (pos zero) h = refl
+size_none (pos (suc n)) h = absurd (omega arith)
+size_none (negsuc n) h = absurd (omega arith)
+
+-- a multiple that is smaller in size is 0
+small_multiple : (y d : ℤ) → unsigned_abs (y *ℤ d) < unsigned_abs d → y ≡ pos 0
+small_multiple y d h = elim (cases_lt 0 (unsigned_abs y)) [
+  | inl some ↦ let large : 1 * unsigned_abs d ≤ unsigned_abs y * unsigned_abs d = mul-le-mul_right (unsigned_abs d) some in let product = unsigned_abs-mul y d in absurd (omega arith)
+  | inr none ↦ size_none y (omega arith)
+]
+
+difference_times : (x q d : ℤ) → (x +ℤ neg_ℤ q) *ℤ d +ℤ q *ℤ d ≡ x *ℤ d
+difference_times x q d = sym (*ℤ_distrib_right (x +ℤ neg_ℤ q) q d) ∙ ap (λ a. a *ℤ d) (cancel x q)
+  where
+    cancel : (x q : ℤ) → (x +ℤ neg_ℤ q) +ℤ q ≡ x
+    cancel x q = omega (arith, ints)
+
+left_over : (a b c r : ℤ) → a +ℤ b ≡ c → b +ℤ r ≡ c → a ≡ r
+left_over a b c r e f = omega (arith, ints)
+
+from_difference : (x q : ℤ) → x +ℤ neg_ℤ q ≡ pos 0 → q ≡ x
+from_difference x q e = omega (arith, ints)
+
+-- a multiple of d, divided by d
+pub int_div_exact : (x d : ℤ) → d ≢ pos 0 → int_div (x *ℤ d) d ≡ x
+int_div_exact x d some =
+    let q = int_div (x *ℤ d) d in
+    let y = x +ℤ neg_ℤ q in
+    let is : y *ℤ d ≡ int_rem (x *ℤ d) d = left_over (y *ℤ d) (q *ℤ d) (x *ℤ d) (int_rem (x *ℤ d) d) (difference_times x q d) (quot-rem (x *ℤ d) d) in
+    from_difference x q (small_multiple y d (rw is (rem_below (x *ℤ d) d (size_some d some))))
+
+pub int_rem_exact : (x d : ℤ) → d ≢ pos 0 → int_rem (x *ℤ d) d ≡ pos 0
+int_rem_exact x d some = rest (x *ℤ d) (int_rem (x *ℤ d) d) (rw (int_div_exact x d some) at (quot-rem (x *ℤ d) d))
+  where
+    rest : (a r : ℤ) → a +ℤ r ≡ a → r ≡ pos 0
+    rest a r e = omega (arith, ints)
+
+pub int_div-zero : (d : ℤ) → int_div (pos 0) d ≡ pos 0
+int_div-zero (pos zero) = omega (arith, ints)
+int_div-zero (pos (suc n)) = omega (arith, ints)
+int_div-zero (negsuc n) = let none : 0 / suc n ≡ 0 = omega arith in rw none refl
+
+neg_times : (m g : ℕ) → neg_ℤ (pos m) *ℤ pos g ≡ neg_ℤ (pos (m * g))
+neg_times zero g = rw (zero-mul g) (omega (arith, ints))
+neg_times (suc m) g = omega (arith, ints)
+
+-- the quotient by a divisor, times the divisor
+pub quotient_times : (z : ℤ) (g : ℕ) → g ∣ unsigned_abs z → int_div z (pos g) *ℤ pos g ≡ z
+quotient_times (pos n) g d = let e = div-mul_cancel g d in omega (arith, ints)
+quotient_times (negsuc n) g d = neg_times (suc n / g) g ∙ ap (λ m. neg_ℤ (pos m)) (div-mul_cancel g d)

@@ -1,0 +1,11 @@
+pub mod Coefficients
+pub mod SizedLists
+pub mod ContentLaws
+pub mod FactorLaws
+pub mod IntegerQuotients
+pub mod OrderLaws
+pub mod ProductLaws
+pub mod QuotientLaws
+pub mod Signs
+pub mod SumLaws
+pub mod Validity

@@ -1,0 +1,105 @@
+-- How the coefficients of an exact quotient follow from one another.
+use Rattle.std.proofs.Common.{◌≡◌, ◌≢◌, ℕ, zero, suc, ◌+◌, ◌-◌, ◌<◌, ◌≤◌, List, length, refl, sym, ◌∙◌, ap, ap₂, arith, ℤ, pos, ◌+ℤ◌, ◌*ℤ◌, neg_ℤ, inl, inr, ◌⊎◌, Result, Ok, Err, Some, unsigned_abs, ◌^◌, lit<}
+use Rattle.std.proofs.lemmas.Bool.{cases_eq, cases_lt}
+use Rattle.std.proofs.lemmas.Int.{ints}
+use Rattle.field_core.specs.Polynomial.{coefficient, lowest, Same, IsNonZero}
+use Rattle.field_core.specs.Sized.{sized}
+use Rattle.field_core.specs.Laws.PolynomialLaws.{product_part}
+use Rattle.field_core.specs.declared.place.Op.{Op}
+use Rattle.field_core.specs.declared.place.TooWide.{TooWide}
+use Rattle.eps_poly.specs.Factors.{order}
+use Rattle.eps_poly.specs.Polynomials.{IsPolynomial}
+use Rattle.eps_poly.specs.Written.{written_coefficient, degree, sized_product}
+use Rattle.eps_poly.proofs.Coefficients.{Filled}
+use Rattle.eps_poly.proofs.SumLaws.{sized_inside}
+use Rattle.eps_poly.proofs.OrderLaws.{coefficient-below_order, coefficient-order}
+use Rattle.eps_poly.proofs.ProductLaws.{coefficient-above_degree, degree_at_least, coefficient_step, coefficient_is, coefficient_refused, coefficient-same, product_written}
+
+result_cases : {A : Type 0} (r : Result A TooWide) → ((x : A) × (r ≡ Ok x)) ⊎ ((e : TooWide) × (r ≡ Err e))
+result_cases (Ok x) = inl (x, refl)
+result_cases (Err e) = inr (e, refl)
+
+-- the sums on the way to one that isn't refused
+coefficient_front : (op : Op) (p q : List ℤ) (k n m : ℕ) (c : ℤ) → n ≤ m → written_coefficient op p q k m ≡ Ok c → (x : ℤ) × (written_coefficient op p q k n ≡ Ok x)
+coefficient_front op p q k n m c within e = elim (result_cases (written_coefficient op p q k n)) [
+  | inl (x, f) ↦ (x, f)
+  | inr (d, f) ↦ let refused = coefficient_refused op p q k n m d f within in absurd (ok_and_err (written_coefficient op p q k m) c d e refused)
+]
+  where
+    ok_and_err : (r : Result ℤ TooWide) (c : ℤ) (d : TooWide) → r ≡ Ok c → r ≡ Err d → ⊥
+    ok_and_err r c d e f = cc
+
+-- products of which one factor is 0 add nothing
+part_more : (p q : List ℤ) (k n m : ℕ) → ((i : ℕ) → n ≤ i → i < m + n → coefficient p i *ℤ coefficient q (k - i) ≡ pos 0) → product_part p q k (m + n) ≡ product_part p q k n
+unfolding product_part
+part_more p q k n zero h = let none : zero + n ≡ n = omega arith in ap (product_part p q k) none
+part_more p q k n (suc m) h =
+    let next : suc m + n ≡ suc (m + n) = omega arith in
+    ap (product_part p q k) next ∙ ap₂ (λ a b. a +ℤ b) (part_more p q k n m (λ i l u. h i l (omega arith))) (h (m + n) (omega arith) (omega arith))
+    ∙ plus_zero (product_part p q k n)
+  where
+    plus_zero : (a : ℤ) → a +ℤ pos 0 ≡ a
+    plus_zero a = omega (arith, ints)
+
+product_zero : (a b : ℤ) → b ≡ pos 0 → a *ℤ b ≡ pos 0
+product_zero a b e = rw e (omega (arith, ints))
+
+difference : (a b c : ℤ) → a ≡ b +ℤ c → a +ℤ neg_ℤ b ≡ c
+difference a b c e = omega (arith, ints)
+
+-- what one step of a division finds, where p is the written product of q and by
+pub record NextStep (op : Op) (p by q known : List ℤ) (power low : ℕ) : Type 0 where
+  pub part : ℤ
+  pub known_part : written_coefficient op known by (power + low) power ≡ Ok part
+  pub rest : sized op (coefficient p (power + low) +ℤ neg_ℤ part) ≡ Ok (coefficient q power *ℤ coefficient by low)
+
+pub next_step : (op : Op) (p by q known : List ℤ) (power low : ℕ) → sized_product op q by ≡ Ok p → low ≡ order by → power + low ≤ 32 → ((k : ℕ) → k < power → coefficient known k ≡ coefficient q k) → NextStep op p by q known power low
+next_step op p by q known power low e is_low within same =
+    let at = power + low in
+    let w = product_written op q by p e in
+    let all = w.values.each at (omega arith) in
+    let front = coefficient_front op q by at (suc power) (at + 1) (coefficient p at) (omega arith) all in
+    let s = coefficient_step op q by at power front.0 front.1 in
+    let gap : at - power ≡ low = omega arith in
+    let product : sized op (coefficient q power *ℤ coefficient by low) ≡ Ok (coefficient q power *ℤ coefficient by low) = rw gap at s.product in
+    let sum : front.0 ≡ s.before +ℤ coefficient q power *ℤ coefficient by low = rw gap at ((sized_inside op _ front.0 s.sum).0) in
+    let above : product_part q by at (low + suc power) ≡ product_part q by at (suc power) =
+    part_more q by at (suc power) low (λ i l u. product_zero (coefficient q i) (coefficient by (at - i)) (coefficient-below_order by (at - i) (omega arith))) in
+    let count : at + 1 ≡ low + suc power = omega arith in
+    let whole : coefficient p at ≡ front.0 = coefficient_is op q by at (at + 1) (coefficient p at) all ∙ ap (product_part q by at) count ∙ above ∙ sym (coefficient_is op q by at (suc power) front.0 front.1) in
+    record {
+      part = s.before;
+      known_part = coefficient-same op known q by at power same ∙ s.part;
+      rest = ap (sized op) (difference (coefficient p at) s.before (coefficient q power *ℤ coefficient by low) (whole ∙ sum)) ∙ product;
+    }
+
+-- the lowest coefficient of a divisor that isn't zero
+pub divisor_some : (by : List ℤ) (low : ℕ) → low ≡ order by → IsNonZero by → coefficient by low ≢ pos 0
+divisor_some by low e some none = some (sym (coefficient-order by) ∙ ap (coefficient by) (sym e) ∙ none)
+
+-- once all coefficients that a quotient can have are known
+pub quotient_known : (op : Op) (p by q r : List ℤ) (n low : ℕ) → sized_product op q by ≡ Ok p → low ≡ order by → IsNonZero by → 33 - low ≤ n → ((k : ℕ) → k < n → coefficient r k ≡ coefficient q k) → ((k : ℕ) → n ≤ k → coefficient r k ≡ pos 0) → Same r q
+quotient_known op p by q r n low e is_low some enough front rest k =
+    let w = product_written op q by p e in
+    let high = degree_at_least by low (divisor_some by low is_low some) in
+    elim (cases_lt k n) [
+      | inl l ↦ front k l
+      | inr l ↦ let degrees = w.degrees in rest k l ∙ sym (coefficient-above_degree q k (omega arith))
+    ]
+
+-- c is the coefficient of power k of each q whose written product with by is p
+pub record IsNextCoefficient (op : Op) (p by : List ℤ) (k : ℕ) (c : ℤ) : Type 0 where
+  pub size : unsigned_abs c < 2 ^ 127
+  pub value : (q : List ℤ) → sized_product op q by ≡ Ok p → c ≡ coefficient q k
+
+pub found_valid : (op : Op) (p by r : List ℤ) (n : ℕ) → Filled (IsNextCoefficient op p by) r n → IsPolynomial r
+found_valid op p by r n f = record {
+  count = f.count;
+  sizes = λ k. elim (cases_lt k n) [
+    | inl l ↦ (f.front k l).size
+    | inr l ↦ rw (f.rest k l) (lit< tt)
+  ];
+}
+
+pub some_inside : {A : Type 0} (a b : A) → Some a ≡ Some b → a ≡ b
+some_inside a b e = cc

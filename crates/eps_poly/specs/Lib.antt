@@ -1,0 +1,4 @@
+pub mod Factors
+pub mod Polynomials
+pub mod View
+pub mod Written
