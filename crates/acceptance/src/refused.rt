@@ -134,7 +134,7 @@ const LATER: [Row; 4] = [
 ];
 
 /// Lines with other words than they must have.
-const WORDS: [Row; 15] = [
+const WORDS: [Row; 14] = [
     (
         "alpha\nhypotheses H1\np 0.01\nweights 1\n",
         3,
@@ -186,11 +186,6 @@ const WORDS: [Row; 15] = [
         3,
         "malformed: line 4: words\n",
     ),
-    (
-        "alpha 0.05\nhypotheses H1 H2\nweights 1/2 1/2\nedge H1 H2 1/2 3\n",
-        3,
-        "malformed: line 4: words\n",
-    ),
     // It comes before the names, too.
     (
         "alpha 0.05\nhypotheses H1 H2\nweights 1/2 1/2\nedge H3 H4\n",
@@ -215,7 +210,7 @@ const WORDS: [Row; 15] = [
 ];
 
 /// Words that are no numerals which can be taken.
-const NUMERALS: [Row; 31] = [
+const NUMERALS: [Row; 26] = [
     (
         "alpha0.05\nhypotheses H1\np 0.01\nweights 1\n",
         3,
@@ -348,31 +343,85 @@ const NUMERALS: [Row; 31] = [
         4,
         "limit: line 4: digits\n",
     ),
-    (
-        "alpha 0.05\nhypotheses H1 H2\nweights 1/2 1/2\nedge H1 H2 1/0\n",
-        3,
-        "malformed: line 4: zero denominator\n",
-    ),
+];
+
+/// Edges whose expressions can't be taken.
+const EXPRESSIONS: [Row; 15] = [
     (
         "alpha 0.05\nhypotheses H1 H2\nweights 1/2 1/2\nedge H1 H2 all\n",
         3,
-        "malformed: line 4: number\n",
-    ),
-    // Epsilon isn't taken yet.
-    (
-        "alpha 0.05\nhypotheses H1 H2\nweights 1/2 1/2\nedge H1 H2 \\epsilon\n",
-        3,
-        "malformed: line 4: number\n",
+        "malformed: line 4: expression\n",
     ),
     (
-        "alpha 0.05\nhypotheses H1 H2\nweights 1/2 1/2\nedge H1 H2 1-\\epsilon\n",
+        "alpha 0.05\nhypotheses H1 H2\nweights 1/2 1/2\nedge H1 H2 1/2 3\n",
         3,
-        "malformed: line 4: number\n",
+        "malformed: line 4: expression\n",
+    ),
+    (
+        "alpha 0.05\nhypotheses H1 H2\nweights 1/2 1/2\nedge H1 H2 1/2 # half\n",
+        3,
+        "malformed: line 4: expression\n",
+    ),
+    (
+        "alpha 0.05\nhypotheses H1 H2\nweights 1/2 1/2\nedge H1 H2 (1/2\n",
+        3,
+        "malformed: line 4: expression\n",
+    ),
+    (
+        "alpha 0.05\nhypotheses H1 H2\nweights 1/2 1/2\nedge H1 H2 \\epsilon \\eps\n",
+        3,
+        "malformed: line 4: expression\n",
+    ),
+    (
+        "alpha 0.05\nhypotheses H1 H2\nweights 1/2 1/2\nedge H1 H2 1/0\n",
+        3,
+        "malformed: line 4: zero divisor\n",
+    ),
+    (
+        "alpha 0.05\nhypotheses H1 H2\nweights 1/2 1/2\nedge H1 H2 1/(1 - 1)\n",
+        3,
+        "malformed: line 4: zero divisor\n",
+    ),
+    (
+        "alpha 0.05\nhypotheses H1 H2\nweights 1/2 1/2\nedge H1 H2 1/\\epsilon\n",
+        3,
+        "malformed: line 4: divisor\n",
+    ),
+    (
+        "alpha 0.05\nhypotheses H1 H2\nweights 1/2 1/2\nedge H1 H2 \\epsilon^5\n",
+        4,
+        "limit: line 4: degree\n",
+    ),
+    (
+        "alpha 0.05\nhypotheses H1 H2\nweights 1/2 1/2\nedge H1 H2 1e-19\n",
+        4,
+        "limit: line 4: part\n",
+    ),
+    (
+        "alpha 0.05\nhypotheses H1 H2\nweights 1/2 1/2\nedge H1 H2 1/1000000000000000001\n",
+        4,
+        "limit: line 4: part\n",
     ),
     (
         "alpha 0.05\nhypotheses H1 H2\nweights 1/2 1/2\nedge H1 H2 .00000000000000000000000000000000000001234567890123456789012345678901234567\n",
         4,
-        "limit: line 4: digits\n",
+        "limit: line 4: part\n",
+    ),
+    (
+        "alpha 0.05\nhypotheses H1 H2\nweights 1/2 1/2\nedge H1 H2 (((((((((((((((((((((((((((((((((1)))))))))))))))))))))))))))))))))\n",
+        4,
+        "limit: line 4: depth\n",
+    ),
+    // The names come before the expression, and the expression before the case.
+    (
+        "alpha 0.05\nhypotheses H1 H2\nweights 1/2 1/2\nedge H1 H3 1/0\n",
+        3,
+        "malformed: line 4: unknown name\n",
+    ),
+    (
+        "alpha 2\nhypotheses H1 H1\nweights 2\nedge H1 H1 0/0\n",
+        3,
+        "malformed: line 4: zero divisor\n",
     ),
 ];
 
@@ -620,7 +669,7 @@ const WEIGHTS_AND_P_VALUES: [Row; 25] = [
 ];
 
 /// Edges that no case has, and sums and runs that are too wide.
-const EDGES: [Row; 17] = [
+const EDGES: [Row; 18] = [
     (
         "alpha 0.05\nhypotheses H1 H2\np 0 0\nweights 1 0\nedge H1 H1 1/2\n",
         3,
@@ -657,14 +706,19 @@ const EDGES: [Row; 17] = [
         "malformed: case: row sum of H3 component 1\n",
     ),
     (
-        "alpha 0.05\nhypotheses H1 H2\np 0 0\nweights 1 0\nedge H1 H2 1e-19\n",
-        4,
-        "limit: case: part edge H1 H2 component 1\n",
+        "alpha 0.05\nhypotheses H1 H2\np 0 0\nweights 1 0\nedge H1 H2 1 + \\epsilon\n",
+        3,
+        "malformed: case: edge H1 H2 component 1\n",
     ),
     (
-        "alpha 0.05\nhypotheses H1 H2\np 0 0\nweights 1 0\nedge H2 H1 1/1000000000000000001\n",
-        4,
-        "limit: case: part edge H2 H1 component 1\n",
+        "alpha 0.05\nhypotheses H1 H2\np 0 0\nweights 1 0\nedge H1 H1 \\epsilon\n",
+        3,
+        "malformed: case: self edge of H1 component 1\n",
+    ),
+    (
+        "alpha 0.05\nhypotheses H1 H2 H3\np 0 0 0\nweights 1 0 0\nedge H1 H2 1\nedge H1 H3 \\epsilon^4\n",
+        3,
+        "malformed: case: row sum of H1 component 1\n",
     ),
     // Where a fault of a row stands beside one of a later row, the earlier row decides.
     (
@@ -728,6 +782,7 @@ fn lines_are_refused(rt: HostRuntime) -> Result<(), Fail> {
     expect_refused(&rt, alloc, &LATER)?;
     expect_refused(&rt, alloc, &WORDS)?;
     expect_refused(&rt, alloc, &NUMERALS)?;
+    expect_refused(&rt, alloc, &EXPRESSIONS)?;
     Ok(())
 }
 

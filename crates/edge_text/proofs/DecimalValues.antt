@@ -2,18 +2,16 @@
 use Rattle.std.proofs.Common.{◌≡◌, ℕ, suc, ◌*◌, ◌^◌, ◌<◌, ◌++◌, Bool, true, false, List, [], length, ℤ, pos, negsuc, ◌-ℤ◌, None, Ok, Err, refl, sym, ap, subst, ◌∙◌, arith}
 use Rattle.std.specs.Str.Parse.{digits_value}
 use Rattle.field_core.specs.Terms.{Terms, IsReduced}
-use Rattle.fraction.specs.Laws.CrossProducts.{Same}
 use Rattle.fraction.specs.declared.fault.NumberFault.{NumberFault}
 use Rattle.fraction.specs.declared.fault.NumberFault.TheVariants.{Empty, BadByte, ZeroDenominator, TooManyDigits}
 use Rattle.fraction.specs.Lowest.{lowest_terms}
-use Rattle.fraction.specs.Numeral.{Body, Plain, Pointed, Pair, body_text, exponent_of, over_power, value_of, IsNumeral, HasZeroDenominator, HasTooManyDigits, IsNumeralOf, IsParseFault}
+use Rattle.fraction.specs.Numeral.{Same, Body, Plain, Pointed, Pair, body_text, exponent_of, over_power, value_of, IsNumeral, HasZeroDenominator, HasTooManyDigits, IsNumeralOf, IsParseFault}
 use Rattle.fraction.proofs.DigitNumbers.{power_some}
 use Rattle.fraction.proofs.Unique.{body_unique, value_unique}
 use Rattle.edge_text.specs.declared.expr_fault.ExprFault.{ExprFault}
 use Rattle.edge_text.specs.declared.expr_fault.ExprFault.TheVariants.{Part}
-use Rattle.edge_text.specs.Grammar.{plain_entry}
 use Rattle.edge_text.specs.Expressions.{IsPair, Decimal}
-use Rattle.edge_text.specs.EntryValues.{◌>>=◌, short_of, short, has_too_many_digits, decimal_value}
+use Rattle.edge_text.specs.EntryValues.{◌>>=◌, short_of, short, plain_entry, has_too_many_digits, decimal_value}
 use Rattle.edge_text.specs.declared.byte_machine.Part.TheVariants as parts
 use Rattle.edge_text.proofs.DecimalTexts.{takes, takes_nil, decimal_taken}
 use Rattle.edge_text.proofs.DecimalLimits.{decides_too_many}

@@ -1,6 +1,7 @@
 -- Lines that may stand one behind the other, and documents.
-use Rattle.std.proofs.Common.{◌≡◌, inl, inr, List, [], ◌∷◌, ◌++◌, Option, Some, None, map, refl, sym, ap, subst, ◌∙◌, arith}
+use Rattle.std.proofs.Common.{◌≡◌, ℕ, inl, inr, List, [], ◌∷◌, ◌++◌, Option, Some, None, map, refl, sym, ap, subst, ◌∙◌, arith}
 use Rattle.std.specs.Prelude.{codes}
+use Rattle.std.specs.Fmt.{digits}
 use Rattle.std.specs.List.{AllZip}
 use Rattle.field_core.specs.Terms.{Terms}
 use Rattle.fraction.specs.Plain.{zero_reduced}
@@ -8,6 +9,7 @@ use Rattle.fraction.specs.Spelling.{spelling}
 use Rattle.fraction.proofs.ReadBack.{read_back}
 use Rattle.case_model.specs.Draft.{DraftContent, DraftEdgeContent}
 use Rattle.case_model.specs.Sums.{zero_terms}
+use Rattle.edge_text.specs.Lines.{words_of}
 use Rattle.edge_text.specs.Grammar.{Words, Says, IsAlphaLine, IsNamesLine, IsWeightsLine, IsEdgeLine, optional, GivesP, one_component, IsDocument}
 use Rattle.edge_text.specs.Faults.{Place, Alpha, Names, POrWeights, Weights, Edges, MustFollow, Stands, Lead}
 use Rattle.edge_text.specs.TextStatements.{BeginDocument}
@@ -16,19 +18,19 @@ use Rattle.edge_text.proofs.LineFaults.{stands_once}
 
 -- ---- leads
 
-pub lead_once : (place : Place) (lines : List Words) (a b : Place) → Lead place lines a → Lead place lines b → a ≡ b
+pub lead_once : (place : Place) (lines : List (List ℕ)) (a b : Place) → Lead place lines a → Lead place lines b → a ≡ b
 lead_once place [] a b h k = h ∙ sym k
 lead_once place (line ∷ lines) a b h k =
     let same : h.0 ≡ k.0 = stands_once place line h.0 k.0 h.1 k.1 in
     lead_once k.0 lines a b (subst (λ p. Lead p lines a) same h.2) k.2
 
 -- a lead through joined lines, in two
-pub record Halves (place : Place) (xs ys : List Words) (next : Place) : Type 0 where
+pub record Halves (place : Place) (xs ys : List (List ℕ)) (next : Place) : Type 0 where
   pub here : Place
   pub first : Lead place xs here
   pub second : Lead here ys next
 
-pub lead_split : (place : Place) (xs ys : List Words) (next : Place) → Lead place (xs ++ ys) next → Halves place xs ys next
+pub lead_split : (place : Place) (xs ys : List (List ℕ)) (next : Place) → Lead place (xs ++ ys) next → Halves place xs ys next
 lead_split place [] ys next h = record { here = place; first = refl; second = h }
 lead_split place (x ∷ xs) ys next h =
     let more = lead_split h.0 xs ys next h.2 in
@@ -36,16 +38,16 @@ lead_split place (x ∷ xs) ys next h =
 
 -- ---- documents lead to edges
 
-edges_lead : (names : Words) (lines : List Words) (edges : List DraftEdgeContent) → AllZip (IsEdgeLine names) lines edges → Lead (Edges names) lines (Edges names)
+edges_lead : (names : Words) (lines : List (List ℕ)) (edges : List DraftEdgeContent) → AllZip (IsEdgeLine names) lines edges → Lead (Edges names) lines (Edges names)
 edges_lead names [] edges h = refl
 edges_lead names (line ∷ lines) [] h = absurd h
 edges_lead names (line ∷ lines) (e ∷ es) h = (Edges names, ((e, h.0), refl), edges_lead names lines es h.1)
 
-numbers_lead : (names : Words) (p_line : Option Words) (p : List (Option Terms)) (line : Words) (weights : List Terms) (lines : List Words) (edges : List DraftEdgeContent) → GivesP p_line p → IsWeightsLine line weights → AllZip (IsEdgeLine names) lines edges → Lead (POrWeights names) (optional p_line ++ line ∷ lines) (Edges names)
+numbers_lead : (names : Words) (p_line : Option (List ℕ)) (p : List (Option Terms)) (line : List ℕ) (weights : List Terms) (lines : List (List ℕ)) (edges : List DraftEdgeContent) → GivesP p_line p → IsWeightsLine line weights → AllZip (IsEdgeLine names) lines edges → Lead (POrWeights names) (optional p_line ++ line ∷ lines) (Edges names)
 numbers_lead names None p line weights lines edges g w h = (Edges names, inr ((weights, w), refl), edges_lead names lines edges h)
 numbers_lead names (Some given) p line weights lines edges g w h = (Weights names, inl ((g.0, g.1), refl), (Edges names, ((weights, w), refl), edges_lead names lines edges h))
 
-pub document_leads : (lines : List Words) (d : DraftContent) → IsDocument lines d → Lead Alpha lines (Edges d.names)
+pub document_leads : (lines : List (List ℕ)) (d : DraftContent) → IsDocument lines d → Lead Alpha lines (Edges d.names)
 document_leads lines d h =
     let numbers = numbers_lead d.names h.p_line d.p h.weights_line h.weights h.edge_lines h.edges h.p h.weights_are h.edges_are in
     subst (λ ls. Lead Alpha ls (Edges d.names)) (sym h.spelt) (Names, ((d.alpha, h.alpha), refl), (POrWeights d.names, (d.names, h.names, refl), numbers))
@@ -56,73 +58,73 @@ pub ends_at_edges : (place : Place) (names : Words) → Edges names ≡ place �
 ends_at_edges place names e must = subst MustFollow (sym e) must
 
 -- lines from the edges on
-record EdgesFrom (names : Words) (lines : List Words) : Type 0 where
+record EdgesFrom (names : Words) (lines : List (List ℕ)) : Type 0 where
   edges : List DraftEdgeContent
   are : AllZip (IsEdgeLine names) lines edges
 
-edges_from : (names : Words) (lines : List Words) (next : Place) → Lead (Edges names) lines next → EdgesFrom names lines
+edges_from : (names : Words) (lines : List (List ℕ)) (next : Place) → Lead (Edges names) lines next → EdgesFrom names lines
 edges_from names [] next h = record { edges = []; are = tt }
 edges_from names (line ∷ lines) next h =
     let more = edges_from names lines next (subst (λ p. Lead p lines next) h.1.1 h.2) in
     record { edges = h.1.0.0 ∷ more.edges; are = (h.1.0.1, more.are) }
 
 -- lines from the weights on
-record WeightsFrom (names : Words) (lines : List Words) : Type 0 where
-  line : Words
-  rest : List Words
+record WeightsFrom (names : Words) (lines : List (List ℕ)) : Type 0 where
+  line : List ℕ
+  rest : List (List ℕ)
   spelt : lines ≡ line ∷ rest
   weights : List Terms
   are : IsWeightsLine line weights
   edges : EdgesFrom names rest
 
-weights_from : (names known : Words) (lines : List Words) → Lead (Weights names) lines (Edges known) → WeightsFrom names lines
+weights_from : (names known : Words) (lines : List (List ℕ)) → Lead (Weights names) lines (Edges known) → WeightsFrom names lines
 weights_from names known [] h = absurd (ends_at_edges (Weights names) known h tt)
 weights_from names known (line ∷ lines) h =
     record { line = line; rest = lines; spelt = refl; weights = h.1.0.0; are = h.1.0.1; edges = edges_from names lines (Edges known) (subst (λ p. Lead p lines (Edges known)) h.1.1 h.2) }
 
 -- lines from the p-values on, or from the weights on where there are none
-record NumbersFrom (names : Words) (lines : List Words) : Type 0 where
-  p_line : Option Words
+record NumbersFrom (names : Words) (lines : List (List ℕ)) : Type 0 where
+  p_line : Option (List ℕ)
   p : List (Option Terms)
   given : GivesP p_line p
-  line : Words
-  rest : List Words
+  line : List ℕ
+  rest : List (List ℕ)
   spelt : lines ≡ optional p_line ++ line ∷ rest
   weights : List Terms
   are : IsWeightsLine line weights
   edges : EdgesFrom names rest
 
-numbers_by : (names known line : Words) (lines : List Words) (behind : Place) → Stands (POrWeights names) line behind → Lead behind lines (Edges known) → NumbersFrom names (line ∷ lines)
+numbers_by : (names known : Words) (line : List ℕ) (lines : List (List ℕ)) (behind : Place) → Stands (POrWeights names) line behind → Lead behind lines (Edges known) → NumbersFrom names (line ∷ lines)
 numbers_by names known line lines behind (inl h) k =
     let more = weights_from names known lines (subst (λ p. Lead p lines (Edges known)) h.1 k) in
     record { p_line = Some line; p = map Some h.0.0; given = (h.0.0, h.0.1, refl); line = more.line; rest = more.rest; spelt = ap (λ ls. line ∷ ls) more.spelt; weights = more.weights; are = more.are; edges = more.edges }
 numbers_by names known line lines behind (inr h) k =
     record { p_line = None; p = []; given = refl; line = line; rest = lines; spelt = refl; weights = h.0.0; are = h.0.1; edges = edges_from names lines (Edges known) (subst (λ p. Lead p lines (Edges known)) h.1 k) }
 
-numbers_from : (names known : Words) (lines : List Words) → Lead (POrWeights names) lines (Edges known) → NumbersFrom names lines
+numbers_from : (names known : Words) (lines : List (List ℕ)) → Lead (POrWeights names) lines (Edges known) → NumbersFrom names lines
 numbers_from names known [] h = absurd (ends_at_edges (POrWeights names) known h tt)
 numbers_from names known (line ∷ lines) h = numbers_by names known line lines h.0 h.1 h.2
 
 -- lines from the names on
-record NamesFrom (lines : List Words) : Type 0 where
-  line : Words
-  rest : List Words
+record NamesFrom (lines : List (List ℕ)) : Type 0 where
+  line : List ℕ
+  rest : List (List ℕ)
   spelt : lines ≡ line ∷ rest
   names : Words
   are : IsNamesLine line names
   numbers : NumbersFrom names rest
 
-names_from : (known : Words) (lines : List Words) → Lead Names lines (Edges known) → NamesFrom lines
+names_from : (known : Words) (lines : List (List ℕ)) → Lead Names lines (Edges known) → NamesFrom lines
 names_from known [] h = absurd (ends_at_edges Names known h tt)
 names_from known (line ∷ lines) h =
     record { line = line; rest = lines; spelt = refl; names = h.1.0; are = h.1.1; numbers = numbers_from h.1.0 known lines (subst (λ p. Lead p lines (Edges known)) h.1.2 h.2) }
 
 -- a draft that lines say
-pub record IsSaid (lines : List Words) : Type 0 where
+pub record IsSaid (lines : List (List ℕ)) : Type 0 where
   pub draft : DraftContent
   pub is : IsDocument lines draft
 
-said_by : (line : Words) (lines : List Words) (alpha : Terms) → IsAlphaLine line alpha → NamesFrom lines → IsSaid (line ∷ lines)
+said_by : (line : List ℕ) (lines : List (List ℕ)) (alpha : Terms) → IsAlphaLine line alpha → NamesFrom lines → IsSaid (line ∷ lines)
 said_by line lines alpha a n =
     let numbers = n.numbers in
     record {
@@ -146,37 +148,53 @@ said_by line lines alpha a n =
       };
     }
 
-pub lead_says : (names : Words) (lines : List Words) → Lead Alpha lines (Edges names) → IsSaid lines
+pub lead_says : (names : Words) (lines : List (List ℕ)) → Lead Alpha lines (Edges names) → IsSaid lines
 lead_says known [] h = absurd (ends_at_edges Alpha known h tt)
 lead_says known (line ∷ lines) h = said_by line lines h.1.0.0 h.1.0.1 (names_from known lines (subst (λ p. Lead p lines (Edges known)) h.1.1 h.2))
 
 -- ---- each lead goes on to a document
 
-zero_said : Says (spelling zero_terms) zero_terms
+zero_spelt : spelling zero_terms ≡ codes "0"
+unfolding spelling digits
+zero_spelt = refl
+
+zero_said : Says (codes "0") zero_terms
 unfolding Says
-zero_said = read_back zero_terms zero_reduced (omega arith) (omega arith)
+zero_said = subst (λ word. Says word zero_terms) zero_spelt (read_back zero_terms zero_reduced (omega arith) (omega arith))
 
 -- lines that lead to edges
 record Rest (place : Place) : Type 0 where
-  lines : List Words
+  lines : List (List ℕ)
   names : Words
   lead : Lead place lines (Edges names)
 
+weights_said : words_of (codes "weights") ≡ codes "weights" ∷ []
+unfolding words_of
+weights_said = refl
+
+names_said : words_of (codes "hypotheses") ≡ codes "hypotheses" ∷ []
+unfolding words_of
+names_said = refl
+
+alpha_said : words_of (codes "alpha 0") ≡ codes "alpha" ∷ codes "0" ∷ []
+unfolding words_of
+alpha_said = refl
+
 weights_rest : (names : Words) → Rest (Weights names)
-weights_rest names = record { lines = (codes "weights" ∷ []) ∷ []; names = names; lead = (Edges names, (([], record { numerals = []; words = refl; each = tt }), refl), refl) }
+weights_rest names = record { lines = codes "weights" ∷ []; names = names; lead = (Edges names, (([], record { numerals = []; words = weights_said; each = tt }), refl), refl) }
 
 numbers_rest : (names : Words) → Rest (POrWeights names)
-numbers_rest names = record { lines = (codes "weights" ∷ []) ∷ []; names = names; lead = (Edges names, inr (([], record { numerals = []; words = refl; each = tt }), refl), refl) }
+numbers_rest names = record { lines = codes "weights" ∷ []; names = names; lead = (Edges names, inr (([], record { numerals = []; words = weights_said; each = tt }), refl), refl) }
 
 names_rest : Rest Names
 names_rest =
     let more = numbers_rest [] in
-    record { lines = (codes "hypotheses" ∷ []) ∷ more.lines; names = more.names; lead = (POrWeights [], ([], refl, refl), more.lead) }
+    record { lines = codes "hypotheses" ∷ more.lines; names = more.names; lead = (POrWeights [], ([], names_said, refl), more.lead) }
 
 alpha_rest : Rest Alpha
 alpha_rest =
     let more = names_rest in
-    record { lines = (codes "alpha" ∷ spelling zero_terms ∷ []) ∷ more.lines; names = more.names; lead = (Names, ((zero_terms, record { numeral = spelling zero_terms; words = refl; says = zero_said }), refl), more.lead) }
+    record { lines = codes "alpha 0" ∷ more.lines; names = more.names; lead = (Names, ((zero_terms, record { numeral = codes "0"; words = alpha_said; says = zero_said }), refl), more.lead) }
 
 rest_of : (place : Place) → Rest place
 rest_of Alpha = alpha_rest
@@ -185,17 +203,17 @@ rest_of (POrWeights names) = numbers_rest names
 rest_of (Weights names) = weights_rest names
 rest_of (Edges names) = record { lines = []; names = names; lead = refl }
 
-begin_by : (lines more : List Words) → IsSaid (lines ++ more) → BeginDocument lines
+begin_by : (lines more : List (List ℕ)) → IsSaid (lines ++ more) → BeginDocument lines
 begin_by lines more s = record { more = more; draft = s.draft; is = s.is }
 
-pub lead_begins : (lines : List Words) (here : Place) → Lead Alpha lines here → BeginDocument lines
+pub lead_begins : (lines : List (List ℕ)) (here : Place) → Lead Alpha lines here → BeginDocument lines
 lead_begins lines here h =
     let rest = rest_of here in
     begin_by lines rest.lines (lead_says rest.names (lines ++ rest.lines) (lead_on Alpha here (Edges rest.names) lines rest.lines h rest.lead))
 
 -- ---- and what a document begins with leads somewhere
 
-pub begins_leads : (lines : List Words) → BeginDocument lines → (here : Place) × Lead Alpha lines here
+pub begins_leads : (lines : List (List ℕ)) → BeginDocument lines → (here : Place) × Lead Alpha lines here
 begins_leads lines b =
     let halves = lead_split Alpha lines b.more (Edges b.draft.names) (document_leads (lines ++ b.more) b.draft b.is) in
     (halves.here, halves.first)

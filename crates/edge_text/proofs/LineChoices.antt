@@ -11,26 +11,30 @@ use Rattle.fraction.specs.declared.fault.NumberFault.{NumberFault}
 use Rattle.fraction.proofs.Numerals.{reading}
 use Rattle.case_model.specs.Names.{position_of}
 use Rattle.edge_text.specs.declared.fault.LineKind.{LineKind}
-use Rattle.edge_text.specs.declared.fault.LineKind.TheVariants.{Unexpected, Ended, WordCount, UnknownName, Number}
-use Rattle.edge_text.specs.Lines.{Row, words_of, words_in}
-use Rattle.edge_text.specs.Grammar.{Words, Says, plain_entry}
+use Rattle.edge_text.specs.declared.fault.LineKind.TheVariants.{Unexpected, Ended, WordCount, UnknownName, Number, Expr}
+use Rattle.edge_text.specs.Lines.{Row, words_of, behind_words, texts_in}
+use Rattle.edge_text.specs.Grammar.{Words, Says, HasEnds}
 use Rattle.edge_text.specs.Faults.{IsOther, IsFirstRefused, Place, Alpha, Names, POrWeights, Weights, Edges, Stands, Lead, IsBad}
+use Rattle.edge_text.proofs.OneEntry.{entry_or_fault}
 use Rattle.edge_text.proofs.LineWords.{heads}
 use Rattle.edge_text.proofs.OneFault.{IsFaultBy}
 
 -- ---- parts of lines
 
 -- the first word is the keyword or isn't
-abbrev Begins : List ℕ → Words → Type 0
-Begins keyword line = ((rest : Words) × (line ≡ keyword ∷ rest)) ⊎ IsOther keyword line
+abbrev Begins : List ℕ → List ℕ → Type 0
+Begins keyword line = ((rest : Words) × (words_of line ≡ keyword ∷ rest)) ⊎ IsOther keyword line
 
-first_word : (keyword : List ℕ) (line : Words) → Begins keyword line
-first_word keyword [] = inr (λ rest e. cc)
-first_word keyword (word ∷ words) =
+first_by : (keyword line : List ℕ) (words : Words) → words_of line ≡ words → Begins keyword line
+first_by keyword line [] e = inr (λ rest f. let k : [] ≡ keyword ∷ rest = sym e ∙ f in cc)
+first_by keyword line (word ∷ words) e =
     elim (cases_Bool (bytes_eq word keyword)) [
-      | inl e ↦ inl (words, ap (λ w. w ∷ words) ((bytes_eq-Decides word keyword).0 e))
-      | inr e ↦ inr (λ rest same. let found = (bytes_eq-Decides word keyword).1 (heads word keyword words rest same) in cc)
+      | inl b ↦ inl (words, e ∙ ap (λ w. w ∷ words) ((bytes_eq-Decides word keyword).0 b))
+      | inr b ↦ inr (λ rest same. let found = (bytes_eq-Decides word keyword).1 (heads word keyword words rest (sym e ∙ same)) in cc)
     ]
+
+first_word : (keyword line : List ℕ) → Begins keyword line
+first_word keyword line = first_by keyword line (words_of line) refl
 
 -- a numeral, or its fault
 numeral_or_fault : (word : List ℕ) → ((x : Terms) × Says word x) ⊎ ((f : NumberFault) × IsParseFault word f)
@@ -55,10 +59,10 @@ numerals_or_fault (word ∷ words) =
 -- ---- lines
 
 -- a line may stand at the place or has a fault there
-abbrev pub Chooses : Place → Words → Type 0
+abbrev pub Chooses : Place → List ℕ → Type 0
 Chooses place line = ((next : Place) × Stands place line next) ⊎ ((kind : LineKind) × IsBad place line kind)
 
-alpha_behind : (line rest : Words) → line ≡ codes "alpha" ∷ rest → Chooses Alpha line
+alpha_behind : (line : List ℕ) (rest : Words) → words_of line ≡ codes "alpha" ∷ rest → Chooses Alpha line
 alpha_behind line [] e = inr (WordCount, ([], e, λ n. let few : length {A = List ℕ} [] ≡ 1 = n in omega arith))
 alpha_behind line (word ∷ []) e =
     elim (numeral_or_fault word) [
@@ -67,61 +71,60 @@ alpha_behind line (word ∷ []) e =
     ]
 alpha_behind line (a ∷ b ∷ more) e = inr (WordCount, (a ∷ b ∷ more, e, λ n. omega arith))
 
-alpha_chooses : (line : Words) → Chooses Alpha line
+alpha_chooses : (line : List ℕ) → Chooses Alpha line
 alpha_chooses line = elim (first_word (codes "alpha") line) [ inl h ↦ alpha_behind line h.0 h.1 | inr o ↦ inr (Unexpected, o) ]
 
-names_choose : (line : Words) → Chooses Names line
+names_choose : (line : List ℕ) → Chooses Names line
 names_choose line = elim (first_word (codes "hypotheses") line) [ inl h ↦ inl (POrWeights h.0, (h.0, h.1, refl)) | inr o ↦ inr (Unexpected, o) ]
 
-p_behind : (names line rest : Words) → line ≡ codes "p" ∷ rest → AreNumerals rest → Chooses (POrWeights names) line
+p_behind : (names : Words) (line : List ℕ) (rest : Words) → words_of line ≡ codes "p" ∷ rest → AreNumerals rest → Chooses (POrWeights names) line
 p_behind names line [] e n = inr (WordCount, e)
 p_behind names line (word ∷ words) e (inl ([], h)) = absurd h
 p_behind names line (word ∷ words) e (inl (x ∷ xs, h)) = inl (Weights names, inl ((x ∷ xs, record { numbers = record { numerals = word ∷ words; words = e; each = h }; some = omega arith }), refl))
 p_behind names line (word ∷ words) e (inr h) = inr (Number h.0, inl (word ∷ words, e, h.1))
 
-weights_behind : (names line rest : Words) → line ≡ codes "weights" ∷ rest → AreNumerals rest → Chooses (POrWeights names) line
+weights_behind : (names : Words) (line : List ℕ) (rest : Words) → words_of line ≡ codes "weights" ∷ rest → AreNumerals rest → Chooses (POrWeights names) line
 weights_behind names line rest e (inl h) = inl (Edges names, inr ((h.0, record { numerals = rest; words = e; each = h.1 }), refl))
 weights_behind names line rest e (inr h) = inr (Number h.0, inr (rest, e, h.1))
 
-either_other : (names line : Words) → IsOther (codes "p") line → Begins (codes "weights") line → Chooses (POrWeights names) line
+either_other : (names : Words) (line : List ℕ) → IsOther (codes "p") line → Begins (codes "weights") line → Chooses (POrWeights names) line
 either_other names line o (inl h) = weights_behind names line h.0 h.1 (numerals_or_fault h.0)
 either_other names line o (inr q) = inr (Unexpected, (o, q))
 
-either_chooses : (names line : Words) → Chooses (POrWeights names) line
+either_chooses : (names : Words) (line : List ℕ) → Chooses (POrWeights names) line
 either_chooses names line =
     elim (first_word (codes "p") line) [
       | inl h ↦ p_behind names line h.0 h.1 (numerals_or_fault h.0)
       | inr o ↦ either_other names line o (first_word (codes "weights") line)
     ]
 
-numbers_behind : (names line rest : Words) → line ≡ codes "weights" ∷ rest → AreNumerals rest → Chooses (Weights names) line
+numbers_behind : (names : Words) (line : List ℕ) (rest : Words) → words_of line ≡ codes "weights" ∷ rest → AreNumerals rest → Chooses (Weights names) line
 numbers_behind names line rest e (inl h) = inl (Edges names, ((h.0, record { numerals = rest; words = e; each = h.1 }), refl))
 numbers_behind names line rest e (inr h) = inr (Number h.0, (rest, e, h.1))
 
-weights_choose : (names line : Words) → Chooses (Weights names) line
+weights_choose : (names : Words) (line : List ℕ) → Chooses (Weights names) line
 weights_choose names line = elim (first_word (codes "weights") line) [ inl h ↦ numbers_behind names line h.0 h.1 (numerals_or_fault h.0) | inr o ↦ inr (Unexpected, o) ]
 
--- an edge of three words, by the positions of its ends
-edge_of : (names line : Words) (from to word : List ℕ) (i j : Option ℕ) → line ≡ codes "edge" ∷ from ∷ to ∷ word ∷ [] → position_of from names ≡ i → position_of to names ≡ j → Chooses (Edges names) line
-edge_of names line from to word None j e p q = inr (UnknownName, (from, to, word, e, inl p))
-edge_of names line from to word (Some i) None e p q = inr (UnknownName, (from, to, word, e, inr q))
-edge_of names line from to word (Some i) (Some j) e p q =
-    elim (numeral_or_fault word) [
-      | inl h ↦ inl (Edges names, ((record { from = i; to = j; entry = plain_entry h.0 }, record { from = from; to = to; numeral = word; words = e; from_is = p; to_is = q; weight = h.0; says = h.1; entry_is = refl }), refl))
-      | inr h ↦ inr (Number h.0, (from, to, word, e, (λ u. let k : None ≡ Some i = sym u ∙ p in cc), (λ u. let k : None ≡ Some j = sym u ∙ q in cc), h.1))
+-- an edge with two names, by their positions
+edge_of : (names : Words) (line from to : List ℕ) (i j : Option ℕ) → HasEnds line from to → position_of from names ≡ i → position_of to names ≡ j → Chooses (Edges names) line
+edge_of names line from to None j h p q = inr (UnknownName, (from, to, h, inl p))
+edge_of names line from to (Some i) None h p q = inr (UnknownName, (from, to, h, inr q))
+edge_of names line from to (Some i) (Some j) h p q =
+    elim (entry_or_fault (behind_words 3 line)) [
+      | inl x ↦ inl (Edges names, ((record { from = i; to = j; entry = x.0 }, record { from = from; to = to; ends = h; from_is = p; to_is = q; says = x.1 }), refl))
+      | inr x ↦ inr (Expr x.0, (from, to, h, (λ u. let k : None ≡ Some i = sym u ∙ p in cc), (λ u. let k : None ≡ Some j = sym u ∙ q in cc), x.1))
     ]
 
-edge_behind : (names line rest : Words) → line ≡ codes "edge" ∷ rest → Chooses (Edges names) line
-edge_behind names line [] e = inr (WordCount, ([], e, λ n. let few : length {A = List ℕ} [] ≡ 3 = n in omega arith))
-edge_behind names line (a ∷ []) e = inr (WordCount, (a ∷ [], e, λ n. let few : length (a ∷ []) ≡ 3 = n in omega arith))
-edge_behind names line (a ∷ b ∷ []) e = inr (WordCount, (a ∷ b ∷ [], e, λ n. let few : length (a ∷ b ∷ []) ≡ 3 = n in omega arith))
-edge_behind names line (a ∷ b ∷ c ∷ []) e = edge_of names line a b c (position_of a names) (position_of b names) e refl refl
-edge_behind names line (a ∷ b ∷ c ∷ d ∷ more) e = inr (WordCount, (a ∷ b ∷ c ∷ d ∷ more, e, λ n. omega arith))
+edge_behind : (names : Words) (line : List ℕ) (rest : Words) → words_of line ≡ codes "edge" ∷ rest → Chooses (Edges names) line
+edge_behind names line [] e = inr (WordCount, ([], e, omega arith))
+edge_behind names line (a ∷ []) e = inr (WordCount, (a ∷ [], e, omega arith))
+edge_behind names line (a ∷ b ∷ []) e = inr (WordCount, (a ∷ b ∷ [], e, omega arith))
+edge_behind names line (a ∷ b ∷ c ∷ more) e = edge_of names line a b (position_of a names) (position_of b names) (record { further = c; others = more; words = e }) refl refl
 
-edge_chooses : (names line : Words) → Chooses (Edges names) line
+edge_chooses : (names : Words) (line : List ℕ) → Chooses (Edges names) line
 edge_chooses names line = elim (first_word (codes "edge") line) [ inl h ↦ edge_behind names line h.0 h.1 | inr o ↦ inr (Unexpected, o) ]
 
-pub chooses : (place : Place) (line : Words) → Chooses place line
+pub chooses : (place : Place) (line : List ℕ) → Chooses place line
 chooses Alpha line = alpha_chooses line
 chooses Names line = names_choose line
 chooses (POrWeights names) line = either_chooses names line
@@ -132,7 +135,7 @@ chooses (Edges names) line = edge_chooses names line
 
 -- lines lead to edges or have a first fault
 abbrev pub Ends : Place → List Row → ℕ → Type 0
-Ends place rows end = ((names : Words) × Lead place (words_in rows) (Edges names)) ⊎ ((number : ℕ) × (kind : LineKind) × IsFaultBy place rows end number kind)
+Ends place rows end = ((names : Words) × Lead place (texts_in rows) (Edges names)) ⊎ ((number : ℕ) × (kind : LineKind) × IsFaultBy place rows end number kind)
 
 none_left : (place : Place) (end : ℕ) → Ends place [] end
 none_left Alpha end = inr (end, Ended, (tt, refl, refl))
@@ -141,14 +144,14 @@ none_left (POrWeights names) end = inr (end, Ended, (tt, refl, refl))
 none_left (Weights names) end = inr (end, Ended, (tt, refl, refl))
 none_left (Edges names) end = inl (names, refl)
 
-ends_behind : (place : Place) (row : Row) (rows : List Row) (end : ℕ) (next : Place) → Stands place (words_of row.text) next → Ends next rows end → Ends place (row ∷ rows) end
+ends_behind : (place : Place) (row : Row) (rows : List Row) (end : ℕ) (next : Place) → Stands place row.text next → Ends next rows end → Ends place (row ∷ rows) end
 ends_behind place row rows end next s (inl h) = inl (h.0, (next, s, h.1))
 ends_behind place row rows end next s (inr h) = inr (h.0, h.1, inr (next, s, h.2))
 
 pub ends : (place : Place) (rows : List Row) (end : ℕ) → Ends place rows end
 ends place [] end = none_left place end
 ends place (row ∷ rows) end =
-    elim (chooses place (words_of row.text)) [
+    elim (chooses place row.text) [
       | inl h ↦ ends_behind place row rows end h.0 h.1 (ends h.0 rows end)
       | inr h ↦ inr (row.number, h.0, inl (h.1, refl))
     ]

@@ -10,7 +10,7 @@ use Rattle.field_core.specs.Terms.{Terms, IsReduced}
 use Rattle.field_core.proofs.Coprime.{apart_from_gcd, divides_other}
 use Rattle.field_core.proofs.Divisors.{gcd_is}
 use Rattle.field_core.proofs.IntegerRing.{*ℤ_cancel}
-use Rattle.fraction.specs.Laws.CrossProducts.{Same}
+use Rattle.fraction.specs.Numeral.{Same}
 use Rattle.fraction.specs.Lowest.{lowest_of, lowest_terms}
 use Rattle.fraction.specs.Laws.Turned.{abs_neg}
 use Rattle.fraction.specs.Laws.ExactTerms.{neg_times}

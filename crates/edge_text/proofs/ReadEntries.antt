@@ -19,7 +19,7 @@ use Rattle.edge_text.specs.EntryReading.{IsDeep, IsShallow, IsScanned, IsWorth, 
 -- ---- the faults of values
 
 -- a value, or a fault that an evaluation may have
-Fine : {A : Type 0} → Result A ExprFault → Type 0
+unfoldable pub Fine : {A : Type 0} → Result A ExprFault → Type 0
 Fine (Ok x) = Unit {0}
 Fine (Err (BadByte n)) = ⊥
 Fine (Err Depth) = ⊥
@@ -87,7 +87,7 @@ fine_epsilon (Some power) = fine_power power.power
 mutual
   unfolding Fine value
 
-  fine_value : (e : Expression) → Fine (value e)
+  pub fine_value : (e : Expression) → Fine (value e)
   fine_value (Sum sign first others) = fine_bind (term_value first) _ (fine_term first) (λ x. fine_bind (joined (sign_or_plus sign) no_edge x) _ (fine_joined (sign_or_plus sign) no_edge x) (λ s. fine_terms s others))
 
   fine_terms : (s : List Terms) (ts : MoreTerms) → Fine (with_terms s ts)
@@ -146,7 +146,7 @@ worth_of : (text : List ℕ) (w : Result (List Terms) ExprFault) → IsScanned t
 unfolding IsScanned
 worth_of text w s h = record { expression = s.0.expression; spells = s.0.spells; shallow = s.1; worth_is = sym (h s.0.expression s.0.spells) }
 
-worth_fault : (text : List ℕ) (f : ExprFault) → Fine {A = List Terms} (Err f) → IsWorth text (Err f) → IsExprFault text f
+pub worth_fault : (text : List ℕ) (f : ExprFault) → Fine {A = List Terms} (Err f) → IsWorth text (Err f) → IsExprFault text f
 unfolding Fine IsExprFault
 worth_fault text (BadByte n) h w = absurd h
 worth_fault text Depth h w = absurd h

@@ -2,7 +2,7 @@
 use Rattle.std.proofs.Common.{◌≡◌, ℕ, ◌⊎◌, inl, inr, List, [], ◌∷◌, ◌++◌, refl, sym, subst}
 use Rattle.case_model.specs.Draft.{DraftContent}
 use Rattle.edge_text.specs.declared.fault.LineKind.{LineKind}
-use Rattle.edge_text.specs.Lines.{rows_of, words_of, words_in, end_of}
+use Rattle.edge_text.specs.Lines.{rows_of, words_of, texts_in, end_of}
 use Rattle.edge_text.specs.Grammar.{Words, IsDocument, IsText}
 use Rattle.edge_text.specs.Faults.{Place, Alpha, Names, POrWeights, Weights, Edges, MustFollow, Stands, Lead, IsBad, IsFirstFault}
 use Rattle.edge_text.specs.TextStatements.{TextsSayOneDraft, TextsHaveOneFault, TextsSayOrFail, TextsDontSayAndFail, BeginDocument, FirstFaultsEndDocuments, WhereNoneGoesOnIsFault, UnfinishedTextsEnd}
@@ -14,24 +14,24 @@ use Rattle.edge_text.proofs.OneDraft.{one_document}
 use Rattle.edge_text.proofs.OneFault.{fault_by, fault_from, fault_once, lead_not_fault}
 
 pub one_draft : TextsSayOneDraft
-one_draft bytes d e h k = one_document (words_in (rows_of bytes)) d e h k
+one_draft bytes d e h k = one_document (texts_in (rows_of bytes)) d e h k
 
 pub one_first_fault : TextsHaveOneFault
 one_first_fault bytes m n j k f g = fault_once Alpha (rows_of bytes) (end_of bytes) m n j k (fault_by Alpha (rows_of bytes) (end_of bytes) m j f) (fault_by Alpha (rows_of bytes) (end_of bytes) n k g)
 
 pub not_both : TextsDontSayAndFail
 not_both bytes d n kind h f =
-    lead_not_fault Alpha (rows_of bytes) (end_of bytes) n kind (Edges d.names) (document_leads (words_in (rows_of bytes)) d h) (λ must. must) (fault_by Alpha (rows_of bytes) (end_of bytes) n kind f)
+    lead_not_fault Alpha (rows_of bytes) (end_of bytes) n kind (Edges d.names) (document_leads (texts_in (rows_of bytes)) d h) (λ must. must) (fault_by Alpha (rows_of bytes) (end_of bytes) n kind f)
 
 said_or_failed : (bytes : List ℕ) → Ends Alpha (rows_of bytes) (end_of bytes) → ((d : DraftContent) × IsText bytes d) ⊎ ((n : ℕ) × (kind : LineKind) × IsFirstFault bytes n kind)
-said_or_failed bytes (inl h) = let said = lead_says h.0 (words_in (rows_of bytes)) h.1 in inl (said.draft, said.is)
+said_or_failed bytes (inl h) = let said = lead_says h.0 (texts_in (rows_of bytes)) h.1 in inl (said.draft, said.is)
 said_or_failed bytes (inr h) = inr (h.0, h.1, fault_from Alpha (rows_of bytes) (end_of bytes) h.0 h.1 h.2)
 
 pub says_or_fails : TextsSayOrFail
 says_or_fails bytes = said_or_failed bytes (ends Alpha (rows_of bytes) (end_of bytes))
 
 -- no document begins with lines that may stand and one that can't
-refused_behind : (before : List Words) (line : Words) (here : Place) (kind : LineKind) → Lead Alpha before here → ((next : Place) → Stands here line next → ⊥) → ¬ BeginDocument (before ++ line ∷ [])
+refused_behind : (before : List (List ℕ)) (line : List ℕ) (here : Place) (kind : LineKind) → Lead Alpha before here → ((next : Place) → Stands here line next → ⊥) → ¬ BeginDocument (before ++ line ∷ [])
 refused_behind before line here kind lead bad b =
     let leads = begins_leads (before ++ line ∷ []) b in
     let halves = lead_split Alpha before (line ∷ []) leads.0 leads.1 in
@@ -41,15 +41,15 @@ refused_behind before line here kind lead bad b =
 pub ends_documents : FirstFaultsEndDocuments
 ends_documents bytes number kind (inl b) =
     inl (
-      λ e. bad_not_ended b.here (words_of b.row.text) (subst (λ k. IsBad b.here (words_of b.row.text) k) e b.bad),
+      λ e. bad_not_ended b.here b.row.text (subst (λ k. IsBad b.here b.row.text k) e b.bad),
       record {
         before = b.before;
         row = b.row;
         after = b.after;
         rows_are = b.rows_are;
         number_is = b.number_is;
-        begins = lead_begins (words_in b.before) b.here b.lead;
-        refused = refused_behind (words_in b.before) (words_of b.row.text) b.here kind b.lead (λ next s. stands_not_bad b.here (words_of b.row.text) next kind s b.bad);
+        begins = lead_begins (texts_in b.before) b.here b.lead;
+        refused = refused_behind (texts_in b.before) b.row.text b.here kind b.lead (λ next s. stands_not_bad b.here b.row.text next kind s b.bad);
       },
     )
 ends_documents bytes number kind (inr e) =
@@ -57,23 +57,23 @@ ends_documents bytes number kind (inr e) =
       e.kind_is,
       e.number_is,
       record {
-        begins = lead_begins (words_in (rows_of bytes)) e.here e.lead;
-        refused = λ d h. let same : Edges d.names ≡ e.here = lead_once Alpha (words_in (rows_of bytes)) (Edges d.names) e.here (document_leads (words_in (rows_of bytes)) d h) e.lead in subst MustFollow (sym same) e.must;
+        begins = lead_begins (texts_in (rows_of bytes)) e.here e.lead;
+        refused = λ d h. let same : Edges d.names ≡ e.here = lead_once Alpha (texts_in (rows_of bytes)) (Edges d.names) e.here (document_leads (texts_in (rows_of bytes)) d h) e.lead in subst MustFollow (sym same) e.must;
       },
     )
 
 -- a line with which no document goes on has a fault
-bad_behind : (before : List Words) (line : Words) (here : Place) → Lead Alpha before here → ¬ BeginDocument (before ++ line ∷ []) → Chooses here line → (kind : LineKind) × IsBad here line kind
+bad_behind : (before : List (List ℕ)) (line : List ℕ) (here : Place) → Lead Alpha before here → ¬ BeginDocument (before ++ line ∷ []) → Chooses here line → (kind : LineKind) × IsBad here line kind
 bad_behind before line here lead refused (inl h) = absurd (refused (lead_begins (before ++ line ∷ []) h.0 (lead_on Alpha here h.0 before (line ∷ []) lead (h.0, h.1, refl))))
 bad_behind before line here lead refused (inr h) = h
 
 pub none_goes_on : WhereNoneGoesOnIsFault
 none_goes_on bytes number w =
-    let leads = begins_leads (words_in w.before) w.begins in
-    let bad = bad_behind (words_in w.before) (words_of w.row.text) leads.0 leads.1 w.refused (chooses leads.0 (words_of w.row.text)) in
+    let leads = begins_leads (texts_in w.before) w.begins in
+    let bad = bad_behind (texts_in w.before) w.row.text leads.0 leads.1 w.refused (chooses leads.0 w.row.text) in
     (bad.0, inl (record { before = w.before; row = w.row; after = w.after; rows_are = w.rows_are; here = leads.0; lead = leads.1; bad = bad.1; number_is = w.number_is }))
 
-must_follow : (lines : List Words) (here : Place) → Lead Alpha lines here → ((d : DraftContent) → ¬ IsDocument lines d) → MustFollow here
+must_follow : (lines : List (List ℕ)) (here : Place) → Lead Alpha lines here → ((d : DraftContent) → ¬ IsDocument lines d) → MustFollow here
 must_follow lines Alpha lead none = tt
 must_follow lines Names lead none = tt
 must_follow lines (POrWeights names) lead none = tt
@@ -82,5 +82,5 @@ must_follow lines (Edges names) lead none = let said = lead_says names lines lea
 
 pub unfinished_end : UnfinishedTextsEnd
 unfinished_end bytes u =
-    let leads = begins_leads (words_in (rows_of bytes)) u.begins in
-    inr (record { here = leads.0; lead = leads.1; must = must_follow (words_in (rows_of bytes)) leads.0 leads.1 u.refused; number_is = refl; kind_is = refl })
+    let leads = begins_leads (texts_in (rows_of bytes)) u.begins in
+    inr (record { here = leads.0; lead = leads.1; must = must_follow (texts_in (rows_of bytes)) leads.0 leads.1 u.refused; number_is = refl; kind_is = refl })

@@ -25,14 +25,14 @@ use Rattle.edge_text.specs.View.{IsFaultAt}
 known : (names : List (List ℕ)) (name : List ℕ) (i : ℕ) → position_of name names ≡ Some i → nat_lt i (length names) ≡ true
 known names name i e = lt-ltb i (length names) (position-Some (bytes_eq name) names i [] e).0
 
-known_edges : (names : List (List ℕ)) (lines : List Words) (edges : List DraftEdgeContent) → AllZip (IsEdgeLine names) lines edges → list_all (λ e. nat_lt e.from (length names) && nat_lt e.to (length names)) edges ≡ true
+known_edges : (names : List (List ℕ)) (lines : List (List ℕ)) (edges : List DraftEdgeContent) → AllZip (IsEdgeLine names) lines edges → list_all (λ e. nat_lt e.from (length names) && nat_lt e.to (length names)) edges ≡ true
 known_edges names [] [] h = refl
 known_edges names [] (edge ∷ edges) h = absurd h
 known_edges names (line ∷ lines) [] h = absurd h
 known_edges names (line ∷ lines) (edge ∷ edges) h =
     ap₂ (λ x y. x && y) (ap₂ (λ x y. x && y) (known names h.0.from edge.from h.0.from_is) (known names h.0.to edge.to h.0.to_is)) (known_edges names lines edges h.1)
 
-pub document_ends : (lines : List Words) (draft : DraftContent) → IsDocument lines draft → have_known_ends draft ≡ true
+pub document_ends : (lines : List (List ℕ)) (draft : DraftContent) → IsDocument lines draft → have_known_ends draft ≡ true
 unfolding have_known_ends
 document_ends lines draft d =
     ap (list_all (λ k. list_all (λ e. nat_lt e.from (length draft.names) && nat_lt e.to (length draft.names)) k.edges)) d.components ∙ ap (λ b. b && true) (known_edges draft.names d.edge_lines d.edges d.edges_are)

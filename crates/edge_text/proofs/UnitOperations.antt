@@ -3,7 +3,7 @@ use Rattle.std.proofs.Common.{◌≡◌, zero, suc, true, ℤ, pos, negsuc, neg_
 use Rattle.std.proofs.lemmas.Int.{ints}
 use Rattle.field_core.specs.Terms.{Terms, IsReduced}
 use Rattle.field_core.specs.Kind.{is_zero_integer}
-use Rattle.fraction.specs.Laws.CrossProducts.{Same}
+use Rattle.fraction.specs.Numeral.{Same}
 use Rattle.fraction.specs.Lowest.{lowest_terms}
 use Rattle.fraction.specs.Plain.{zero_reduced, one_reduced}
 use Rattle.case_model.specs.Entries.{is_zero_terms}

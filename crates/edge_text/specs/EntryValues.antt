@@ -8,7 +8,6 @@ use Rattle.case_model.specs.Sums.{zero_terms, terms_at}
 use Rattle.case_model.specs.Entries.{no_edge, is_zero_terms}
 use Rattle.edge_text.specs.declared.expr_fault.ExprFault.{ExprFault}
 use Rattle.edge_text.specs.declared.expr_fault.ExprFault.TheVariants.{DivisorNotNumber, ZeroDivisor, Degree, Part}
-use Rattle.edge_text.specs.Grammar.{plain_entry}
 use Rattle.edge_text.specs.Expressions.{Decimal, Power, Sign, Plus, Minus, Expression, Sum, MoreTerms, NoTerm, AndTerm, Term, Product, MoreFactors, NoFactor, Times, Over, Beside, Factor, Number, Other, Further, Epsilon, Parens}
 
 infixl 10 ◌>>=◌
@@ -44,6 +43,10 @@ abbrev pub quotient : Terms → Terms → Result Terms ExprFault
 quotient x y = short (x.num *ℤ y.den) (x.den *ℤ y.num)
 
 -- ---- entries
+
+-- a number: the coefficients of the powers of epsilon are 0
+abbrev pub plain_entry : Terms → List Terms
+plain_entry value = value ∷ zero_terms ∷ zero_terms ∷ zero_terms ∷ zero_terms ∷ []
 
 -- the coefficients of the powers from 0 to 4
 unfoldable pub coefficients : (ℕ → Result Terms ExprFault) → Result (List Terms) ExprFault

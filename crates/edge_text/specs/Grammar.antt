@@ -1,14 +1,14 @@
--- What lines of words say, and which lists of lines are documents.
+-- What lines say, and which lists of lines are documents.
 use Rattle.std.specs.Prelude.{◌≡◌, ◌<◌, ℕ, List, [], ◌∷◌, ◌++◌, Option, Some, None, map, length, codes, pos}
 use Rattle.std.specs.List.{AllZip}
 use Rattle.field_core.specs.Terms.{Terms}
 use Rattle.fraction.specs.Numeral.{IsNumeralOf}
 use Rattle.case_model.specs.Draft.{DraftContent, DraftComponentContent, DraftEdgeContent}
 use Rattle.case_model.specs.Names.{position_of}
-use Rattle.case_model.specs.Sums.{zero_terms}
-use Rattle.edge_text.specs.Lines.{rows_of, words_in}
+use Rattle.edge_text.specs.Lines.{words_of, behind_words, rows_of, texts_in}
+use Rattle.edge_text.specs.EntryReading.{IsEntryText}
 
--- a line as its words
+-- the words of a line
 abbrev pub Words : Type 0
 Words = List (List ℕ)
 
@@ -17,53 +17,52 @@ unfoldable pub Says : List ℕ → Terms → Type 0
 Says word value = IsNumeralOf word value
 
 -- `alpha` and a numeral of this value
-pub record IsAlphaLine (line : Words) (value : Terms) : Type 0 where
+pub record IsAlphaLine (line : List ℕ) (value : Terms) : Type 0 where
   pub numeral : List ℕ
-  pub words : line ≡ codes "alpha" ∷ numeral ∷ []
+  pub words : words_of line ≡ codes "alpha" ∷ numeral ∷ []
   pub says : Says numeral value
 
 -- `hypotheses` and these names, any number of them
-abbrev pub IsNamesLine : Words → List (List ℕ) → Type 0
-IsNamesLine line names = line ≡ codes "hypotheses" ∷ names
+abbrev pub IsNamesLine : List ℕ → List (List ℕ) → Type 0
+IsNamesLine line names = words_of line ≡ codes "hypotheses" ∷ names
 
 -- a keyword and numerals of these values, any number of them
-pub record IsNumbersLine (keyword : List ℕ) (line : Words) (values : List Terms) : Type 0 where
-  pub numerals : List (List ℕ)
-  pub words : line ≡ keyword ∷ numerals
+pub record IsNumbersLine (keyword : List ℕ) (line : List ℕ) (values : List Terms) : Type 0 where
+  pub numerals : Words
+  pub words : words_of line ≡ keyword ∷ numerals
   pub each : AllZip Says numerals values
 
 -- `p` and numerals of these values, at least one
-pub record IsPLine (line : Words) (values : List Terms) : Type 0 where
+pub record IsPLine (line : List ℕ) (values : List Terms) : Type 0 where
   pub numbers : IsNumbersLine (codes "p") line values
   pub some : 0 < length values
 
 -- `weights` and numerals of these values, any number of them
-abbrev pub IsWeightsLine : Words → List Terms → Type 0
+abbrev pub IsWeightsLine : List ℕ → List Terms → Type 0
 IsWeightsLine line values = IsNumbersLine (codes "weights") line values
 
--- the coefficients of an edge that is a fraction: those of the powers of epsilon are 0
-abbrev pub plain_entry : Terms → List Terms
-plain_entry value = value ∷ zero_terms ∷ zero_terms ∷ zero_terms ∷ zero_terms ∷ []
+-- `edge`, two names, and at least one further word
+pub record HasEnds (line from to : List ℕ) : Type 0 where
+  pub further : List ℕ
+  pub others : Words
+  pub words : words_of line ≡ codes "edge" ∷ from ∷ to ∷ further ∷ others
 
--- `edge`, the names of its two ends, and a numeral of its weight. Where a name stands for several hypotheses, it is the first.
-pub record IsEdgeLine (names : List (List ℕ)) (line : Words) (edge : DraftEdgeContent) : Type 0 where
+-- `edge`, the names of its two ends, and an expression of its weight: all that stands behind the second name. Where a name stands for several hypotheses, it is the first.
+pub record IsEdgeLine (names : List (List ℕ)) (line : List ℕ) (edge : DraftEdgeContent) : Type 0 where
   pub from : List ℕ
   pub to : List ℕ
-  pub numeral : List ℕ
-  pub words : line ≡ codes "edge" ∷ from ∷ to ∷ numeral ∷ []
+  pub ends : HasEnds line from to
   pub from_is : position_of from names ≡ Some edge.from
   pub to_is : position_of to names ≡ Some edge.to
-  pub weight : Terms
-  pub says : Says numeral weight
-  pub entry_is : edge.entry ≡ plain_entry weight
+  pub says : IsEntryText (behind_words 3 line) edge.entry
 
 -- a line that may be left out
-abbrev pub optional : Option Words → List Words
+abbrev pub optional : Option (List ℕ) → List (List ℕ)
 optional None = []
 optional (Some line) = line ∷ []
 
 -- the p-values that such a line gives: none where it is left out
-abbrev pub GivesP : Option Words → List (Option Terms) → Type 0
+abbrev pub GivesP : Option (List ℕ) → List (Option Terms) → Type 0
 GivesP None p = p ≡ []
 GivesP (Some line) p = (values : List Terms) × IsPLine line values × (p ≡ map Some values)
 
@@ -72,12 +71,12 @@ abbrev pub one_component : List Terms → List DraftEdgeContent → List DraftCo
 one_component weights edges = record { share = record { num = pos 1; den = pos 1 }; weights = weights; edges = edges } ∷ []
 
 -- The lines are, in this order, the level, the names, perhaps the p-values, the weights, and any number of edges, and they say this draft. It has one component and no stages.
-pub record IsDocument (lines : List Words) (draft : DraftContent) : Type 0 where
-  pub alpha_line : Words
-  pub names_line : Words
-  pub p_line : Option Words
-  pub weights_line : Words
-  pub edge_lines : List Words
+pub record IsDocument (lines : List (List ℕ)) (draft : DraftContent) : Type 0 where
+  pub alpha_line : List ℕ
+  pub names_line : List ℕ
+  pub p_line : Option (List ℕ)
+  pub weights_line : List ℕ
+  pub edge_lines : List (List ℕ)
   pub spelt : lines ≡ alpha_line ∷ names_line ∷ optional p_line ++ weights_line ∷ edge_lines
   pub alpha : IsAlphaLine alpha_line draft.alpha
   pub names : IsNamesLine names_line draft.names
@@ -91,4 +90,4 @@ pub record IsDocument (lines : List Words) (draft : DraftContent) : Type 0 where
 
 -- the lines of a text that aren't skipped are a document, and it says this draft
 abbrev pub IsText : List ℕ → DraftContent → Type 0
-IsText bytes draft = IsDocument (words_in (rows_of bytes)) draft
+IsText bytes draft = IsDocument (texts_in (rows_of bytes)) draft

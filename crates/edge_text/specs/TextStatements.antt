@@ -1,16 +1,15 @@
 -- What the grammar of texts and its first faults promise.
-use Rattle.std.specs.Prelude.{◌≡◌, ◌≢◌, ◌⊎◌, ℕ, true, List, [], ◌∷◌, ◌++◌}
+use Rattle.std.specs.Prelude.{◌≡◌, ◌≢◌, ◌⊎◌, ℕ, List, [], ◌∷◌, ◌++◌}
 use Rattle.case_model.specs.declared.case.Case.{Case}
 use Rattle.case_model.specs.declared.fault.Refused.{Refused}
 use Rattle.case_model.specs.CaseView.{content}
 use Rattle.case_model.specs.Draft.{DraftContent}
-use Rattle.case_model.specs.Content.{content_of, is_plain}
 use Rattle.edge_text.specs.declared.fault.LineKind.{LineKind}
 use Rattle.edge_text.specs.declared.fault.LineKind.TheVariants.{Ended}
 use Rattle.edge_text.specs.declared.fault.TextFault.{TextFault}
 use Rattle.edge_text.specs.declared.fault.TextFault.TheVariants as faults
-use Rattle.edge_text.specs.Lines.{Row, rows_of, words_of, words_in, end_of}
-use Rattle.edge_text.specs.Grammar.{Words, IsDocument, IsText}
+use Rattle.edge_text.specs.Lines.{Row, rows_of, texts_in, end_of}
+use Rattle.edge_text.specs.Grammar.{IsDocument, IsText}
 use Rattle.edge_text.specs.Faults.{IsFirstFault}
 use Rattle.edge_text.specs.Reading.{IsCaseOf, IsRefusedText, IsTextFault}
 
@@ -30,13 +29,9 @@ TextsSayOrFail = (bytes : List ℕ) → ((d : DraftContent) × IsText bytes d) �
 abbrev pub TextsDontSayAndFail : Type 0
 TextsDontSayAndFail = (bytes : List ℕ) (d : DraftContent) (n : ℕ) (kind : LineKind) → IsText bytes d → ¬ IsFirstFault bytes n kind
 
--- what a text says has plain edges alone: no coefficient above power 0
-abbrev pub TextsArePlain : Type 0
-TextsArePlain = (bytes : List ℕ) (d : DraftContent) → IsText bytes d → is_plain (content_of d) ≡ true
-
 -- some document begins with these lines
-pub record BeginDocument (lines : List Words) : Type 0 where
-  pub more : List Words
+pub record BeginDocument (lines : List (List ℕ)) : Type 0 where
+  pub more : List (List ℕ)
   pub draft : DraftContent
   pub is : IsDocument (lines ++ more) draft
 
@@ -47,13 +42,13 @@ pub record IsWhereNoneGoesOn (rows : List Row) (number : ℕ) : Type 0 where
   pub after : List Row
   pub rows_are : rows ≡ before ++ row ∷ after
   pub number_is : number ≡ row.number
-  pub begins : BeginDocument (words_in before)
-  pub refused : ¬ BeginDocument (words_in before ++ words_of row.text ∷ [])
+  pub begins : BeginDocument (texts_in before)
+  pub refused : ¬ BeginDocument (texts_in before ++ row.text ∷ [])
 
 -- the lines begin some document, and are none
 pub record IsUnfinished (rows : List Row) : Type 0 where
-  pub begins : BeginDocument (words_in rows)
-  pub refused : (draft : DraftContent) → ¬ IsDocument (words_in rows) draft
+  pub begins : BeginDocument (texts_in rows)
+  pub refused : (draft : DraftContent) → ¬ IsDocument (texts_in rows) draft
 
 -- the first fault of a text is at the first line with which no document goes on; or, where the lines begin some document and are none, behind the last line
 abbrev pub FirstFaultsEndDocuments : Type 0

@@ -11,24 +11,39 @@ use Rattle.edge_text.specs.declared.cursor.Line.{Line}
 use Rattle.edge_text.specs.declared.cursor.Lines.{Lines}
 use Rattle.edge_text.specs.declared.cursor.Words.{Words as WordsLeft}
 use Rattle.edge_text.specs.declared.fault.LineKind.{LineKind}
-use Rattle.edge_text.specs.declared.fault.LineKind.TheVariants.{Unexpected, Ended, WordCount, UnknownName, Number}
+use Rattle.edge_text.specs.declared.fault.LineKind.TheVariants.{Unexpected, Ended, WordCount, UnknownName, Number, Expr}
 use Rattle.edge_text.specs.declared.fault.TextFault.{TextFault}
 use Rattle.edge_text.specs.declared.fault.TextFault.TheVariants as faults
-use Rattle.edge_text.specs.Lines.{Row, lines_of, words_of, words_in, kept_after}
-use Rattle.edge_text.specs.Grammar.{Words, Says, IsWeightsLine, GivesP, optional, plain_entry}
+use Rattle.edge_text.specs.Lines.{Row, lines_of, words_of, texts_in, kept_after}
+use Rattle.edge_text.specs.EntryReading.{IsEntryText, IsExprFault}
+use Rattle.edge_text.specs.Grammar.{Words, Says, IsWeightsLine, GivesP, optional}
 use Rattle.edge_text.specs.Faults.{Place, IsFirstRefused, IsUnknown, IsFaultFrom}
 
 -- a line that was taken
 abbrev pub row : Line → Row
 row line = record { number = line.number; text = line.text.now }
 
--- the words of a line that was taken
-abbrev pub line_words : Line → Words
-line_words line = words_of line.text.now
+-- its text
+abbrev pub line_text : Line → List ℕ
+line_text line = line.text.now
 
--- the words of a line that are still to come
+-- its words
+abbrev pub line_words : Line → Words
+line_words line = words_of (line_text line)
+
+-- what of a line is still to come
+abbrev pub text_left : WordsLeft → List ℕ
+text_left words = words.rest.now
+
+-- its words
 abbrev pub words_left : WordsLeft → Words
-words_left words = words_of words.rest.now
+words_left words = words_of (text_left words)
+
+-- these two words, and at least one more
+pub record HasThree (words : Words) (from to : List ℕ) : Type 0 where
+  pub further : List ℕ
+  pub others : Words
+  pub words_are : words ≡ from ∷ to ∷ further ∷ others
 
 -- the lines still to come that count
 unfoldable pub rows_left : Lines → List Row
@@ -51,6 +66,7 @@ IsNumeralFault word Ended = ⊥
 IsNumeralFault word WordCount = ⊥
 IsNumeralFault word UnknownName = ⊥
 IsNumeralFault word (Number fault) = IsParseFault word fault
+IsNumeralFault word (Expr fault) = ⊥
 
 -- one of the words is no numeral that can be taken
 abbrev pub IsListFault : Words → LineKind → Type 0
@@ -59,6 +75,7 @@ IsListFault words Ended = ⊥
 IsListFault words WordCount = ⊥
 IsListFault words UnknownName = ⊥
 IsListFault words (Number fault) = IsFirstRefused words fault
+IsListFault words (Expr fault) = ⊥
 
 -- the words are numerals of these p-values, at least one
 pub record AreGiven (words : Words) (p : List (Option Terms)) : Type 0 where
@@ -74,22 +91,31 @@ IsGivenFault words Ended = ⊥
 IsGivenFault words WordCount = words ≡ []
 IsGivenFault words UnknownName = ⊥
 IsGivenFault words (Number fault) = IsFirstRefused words fault
+IsGivenFault words (Expr fault) = ⊥
 
--- the edge between these two names, with the weight of a numeral
-pub record IsEdgeOf (names : List (List ℕ)) (from to numeral : List ℕ) (edge : DraftEdgeContent) : Type 0 where
+-- the text is no expression that can be taken
+abbrev pub IsEntryFault : List ℕ → LineKind → Type 0
+IsEntryFault text Unexpected = ⊥
+IsEntryFault text Ended = ⊥
+IsEntryFault text WordCount = ⊥
+IsEntryFault text UnknownName = ⊥
+IsEntryFault text (Number fault) = ⊥
+IsEntryFault text (Expr fault) = IsExprFault text fault
+
+-- the edge between these two names, with the weight of an expression
+pub record IsEdgeOf (names : List (List ℕ)) (from to expression : List ℕ) (edge : DraftEdgeContent) : Type 0 where
   pub from_is : position_of from names ≡ Some edge.from
   pub to_is : position_of to names ≡ Some edge.to
-  pub weight : Terms
-  pub says : Says numeral weight
-  pub entry_is : edge.entry ≡ plain_entry weight
+  pub says : IsEntryText expression edge.entry
 
--- a name is unknown, or the word is no numeral that can be taken
+-- a name is unknown, or the expression is refused
 abbrev pub IsEdgeOfFault : List (List ℕ) → List ℕ → List ℕ → List ℕ → LineKind → Type 0
-IsEdgeOfFault names from to word Unexpected = ⊥
-IsEdgeOfFault names from to word Ended = ⊥
-IsEdgeOfFault names from to word WordCount = ⊥
-IsEdgeOfFault names from to word UnknownName = IsUnknown names from ⊎ IsUnknown names to
-IsEdgeOfFault names from to word (Number fault) = ¬ IsUnknown names from × ¬ IsUnknown names to × IsParseFault word fault
+IsEdgeOfFault names from to expression Unexpected = ⊥
+IsEdgeOfFault names from to expression Ended = ⊥
+IsEdgeOfFault names from to expression WordCount = ⊥
+IsEdgeOfFault names from to expression UnknownName = IsUnknown names from ⊎ IsUnknown names to
+IsEdgeOfFault names from to expression (Number fault) = ⊥
+IsEdgeOfFault names from to expression (Expr fault) = ¬ IsUnknown names from × ¬ IsUnknown names to × IsExprFault expression fault
 
 -- the index of these names
 abbrev pub IsIndexOf : NameIndex → List (List ℕ) → Type 0
@@ -102,21 +128,21 @@ IsFaultAt place rows end (faults.Case refused) = ⊥
 IsFaultAt place rows end faults.NoMemory = Unit {0}
 
 -- one line was taken, and it is such a line
-pub record TakesLine (old new : List Row) (Is : Words → Type 0) : Type 0 where
+pub record TakesLine (old new : List Row) (Is : List ℕ → Type 0) : Type 0 where
   pub line : Row
   pub taken : old ≡ line ∷ new
-  pub is : Is (words_of line.text)
+  pub is : Is line.text
 
 -- some lines were taken, and they are such lines
-pub record TakesLines (old new : List Row) (Are : List Words → Type 0) : Type 0 where
+pub record TakesLines (old new : List Row) (Are : List (List ℕ) → Type 0) : Type 0 where
   pub lines : List Row
   pub taken : old ≡ lines ++ new
-  pub are : Are (words_in lines)
+  pub are : Are (texts_in lines)
 
 -- perhaps a `p` line, and the weights
-pub record AreNumbersLines (lines : List Words) (p : List (Option Terms)) (weights : List Terms) : Type 0 where
-  pub p_line : Option Words
-  pub weights_line : Words
+pub record AreNumbersLines (lines : List (List ℕ)) (p : List (Option Terms)) (weights : List Terms) : Type 0 where
+  pub p_line : Option (List ℕ)
+  pub weights_line : List ℕ
   pub spelt : lines ≡ optional p_line ++ weights_line ∷ []
   pub p_is : GivesP p_line p
   pub weights_are : IsWeightsLine weights_line weights

@@ -1,8 +1,9 @@
+use crate::ExprFault;
 use case_model::Refused;
 use field_core::NoMemory;
 use fraction::NumberFault;
 
-/// What is wrong with a line. Within a line the first word is tested first, then the number of words, then the words
+/// What is wrong with a line. Within a line the first word is tested first, then the number of words, then what follows
 /// from left to right.
 #[derive(Clone, Copy, PartialEq, Eq, Debug)]
 pub enum LineKind {
@@ -10,12 +11,14 @@ pub enum LineKind {
     Unexpected,
     /// The document ends where a line must follow.
     Ended,
-    /// `alpha` has not just one word behind it, `edge` not just three, or `p` none.
+    /// `alpha` has not just one word behind it, `edge` fewer than three, or `p` none.
     WordCount,
     /// A name isn't that of a hypothesis.
     UnknownName,
     /// A numeral is refused.
     Number(NumberFault),
+    /// The expression of an edge is refused.
+    Expr(ExprFault),
 }
 
 /// Why a text gives no case.

@@ -1,5 +1,5 @@
 //! Laws of texts: each says one draft, or has one first fault.
-ghost use Rattle.edge_text.specs.TextStatements.{TextsSayOneDraft, TextsArePlain, TextsHaveOneFault, TextsSayOrFail, TextsDontSayAndFail, FirstFaultsEndDocuments, WhereNoneGoesOnIsFault, UnfinishedTextsEnd, TextsHaveOneCase, TextsHaveOneRefusal, FaultsArentRefusals, CasesHaveNoFault};
+ghost use Rattle.edge_text.specs.TextStatements.{TextsSayOneDraft, TextsHaveOneFault, TextsSayOrFail, TextsDontSayAndFail, FirstFaultsEndDocuments, WhereNoneGoesOnIsFault, UnfinishedTextsEnd, TextsHaveOneCase, TextsHaveOneRefusal, FaultsArentRefusals, CasesHaveNoFault};
 
 /// A text says at most one draft.
 pub fn texts_say_one_draft()
@@ -23,11 +23,6 @@ pub fn first_faults_end_documents()
     ensures there { FirstFaultsEndDocuments }
     ensures line { WhereNoneGoesOnIsFault }
     ensures end { UnfinishedTextsEnd }
-{}
-
-/// What a text says has plain edges alone: no coefficient above power 0.
-pub fn texts_are_plain()
-    ensures { TextsArePlain }
 {}
 
 /// A text has one reading: one case by its content, or one first fault, or one refusal of its draft.

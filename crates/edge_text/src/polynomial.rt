@@ -4,8 +4,7 @@ ghost use Rattle.case_model.specs.Entries.{no_edge, is_zero_terms};
 ghost use Rattle.case_model.specs.EntryView.{coefficients_of};
 ghost use Rattle.case_model.specs.Sums.{terms_at};
 ghost use Rattle.edge_text.specs.EntryView.{short_terms, map_value, polynomial_terms, coefficient, applied, CanDivide};
-ghost use Rattle.edge_text.specs.EntryValues.{degree, product_sum, unit_at, power_value, coefficients, times, over};
-ghost use Rattle.edge_text.specs.Grammar.{plain_entry};
+ghost use Rattle.edge_text.specs.EntryValues.{plain_entry, degree, product_sum, unit_at, power_value, coefficients, times, over};
 
 use crate::ExprFault;
 use crate::short::Short;

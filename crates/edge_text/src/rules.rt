@@ -5,15 +5,16 @@ ghost use Rattle.std.specs.Option.{option_map};
 ghost use Rattle.fraction.specs.View.{terms_of};
 ghost use Rattle.case_model.specs.DraftView.{edge_said};
 ghost use Rattle.case_model.specs.EntryView.{coefficients_of};
-ghost use Rattle.edge_text.specs.Grammar.{Says, IsAlphaLine, IsNamesLine, IsWeightsLine, IsEdgeLine, plain_entry};
+ghost use Rattle.edge_text.specs.EntryReading.{IsEntryText};
+ghost use Rattle.edge_text.specs.Grammar.{Says, IsAlphaLine, IsNamesLine, IsWeightsLine, IsEdgeLine};
 ghost use Rattle.edge_text.specs.Faults.{IsAlphaFault, IsNamesFault, IsWeightsFault, IsEdgeFault};
-ghost use Rattle.edge_text.specs.View.{words_left, line_words, IsOnLine, IsNumeralFault, IsListFault, AreGiven, IsGivenFault, IsIndexOf, IsEdgeOf, IsEdgeOfFault};
+ghost use Rattle.edge_text.specs.View.{words_left, line_text, IsOnLine, IsNumeralFault, IsListFault, AreGiven, IsGivenFault, IsEntryFault, IsIndexOf, IsEdgeOf, IsEdgeOfFault};
 
 use crate::cursor::{Line, Words};
-use crate::words::Three;
-use crate::{LineKind, TextFault};
+use crate::words::Ends;
+use crate::{LineKind, TextFault, read_entry};
 use case_model::{DraftEdge, Entry, NameIndex};
-use field_core::{List, NoMemory, Number, Text};
+use field_core::{List, NoMemory, Text};
 use fraction::Fraction;
 use std::alloc::Global;
 
@@ -54,8 +55,8 @@ fn copies(alloc: Global, mut words: Words) -> Result<List<Text>, NoMemory>
 
 /// The level, behind `alpha`.
 pub fn alpha(line: &Line) -> Result<Fraction, TextFault>
-    ensures found { IfOk result (λ x. IsAlphaLine (line_words line.now) (terms_of x)) }
-    ensures fault { IfErr result (IsOnLine line.now.number (IsAlphaFault (line_words line.now))) }
+    ensures found { IfOk result (λ x. IsAlphaLine (line_text line.now) (terms_of x)) }
+    ensures fault { IfErr result (IsOnLine line.now.number (IsAlphaFault (line_text line.now))) }
 {
     let Some(words) = line.behind(b"alpha") else {
         return Err(line.fault(LineKind::Unexpected));
@@ -68,8 +69,8 @@ pub fn alpha(line: &Line) -> Result<Fraction, TextFault>
 
 /// The names, behind `hypotheses`.
 pub fn names(alloc: Global, line: &Line) -> Result<List<Text>, TextFault>
-    ensures found { IfOk result (λ names. IsNamesLine (line_words line.now) names) }
-    ensures fault { IfErr result (IsOnLine line.now.number (IsNamesFault (line_words line.now))) }
+    ensures found { IfOk result (λ names. IsNamesLine (line_text line.now) names) }
+    ensures fault { IfErr result (IsOnLine line.now.number (IsNamesFault (line_text line.now))) }
 {
     let Some(words) = line.behind(b"hypotheses") else {
         return Err(line.fault(LineKind::Unexpected));
@@ -79,8 +80,8 @@ pub fn names(alloc: Global, line: &Line) -> Result<List<Text>, TextFault>
 
 /// The weights, behind `weights`.
 pub fn weights(alloc: Global, line: &Line) -> Result<List<Fraction>, TextFault>
-    ensures found { IfOk result (λ xs. IsWeightsLine (line_words line.now) (map terms_of xs)) }
-    ensures fault { IfErr result (IsOnLine line.now.number (IsWeightsFault (line_words line.now))) }
+    ensures found { IfOk result (λ xs. IsWeightsLine (line_text line.now) (map terms_of xs)) }
+    ensures fault { IfErr result (IsOnLine line.now.number (IsWeightsFault (line_text line.now))) }
 {
     let Some(words) = line.behind(b"weights") else {
         return Err(line.fault(LineKind::Unexpected));
@@ -111,45 +112,39 @@ fn filled(alloc: Global, values: &[Fraction]) -> Result<List<Option<Fraction>>, 
     Ok(filled)
 }
 
-/// The weight of an edge that is a plain number.
-fn plain_entry(weight: Fraction) -> Entry
-    ensures { coefficients_of result ≡ plain_entry (terms_of weight) }
+/// The entry of an expression on a line.
+fn entry(line: &Line, expression: &[u8]) -> Result<Entry, TextFault>
+    ensures found { IfOk result (λ e. IsEntryText expression.now (coefficients_of e)) }
+    ensures fault { IfErr result (IsOnLine line.now.number (IsEntryFault expression.now)) }
 {
-    Entry::new([
-        weight,
-        Fraction::zero(),
-        Fraction::zero(),
-        Fraction::zero(),
-        Fraction::zero(),
-    ])
+    match read_entry(expression) {
+        Ok(entry) => Ok(entry),
+        Err(fault) => Err(line.fault(LineKind::Expr(fault))),
+    }
 }
 
-/// The edge between two hypotheses that three words give.
-fn edge_of(line: &Line, index: &NameIndex, words: Three) -> Result<DraftEdge, TextFault>
-    ensures found { IfOk result (λ e. (names : Seq (Seq ℕ)) → IsIndexOf index.now names → IsEdgeOf names words.entry.first.now words.entry.second.now words.entry.third.now (edge_said e)) }
-    ensures fault { IfErr result (IsOnLine line.now.number (λ kind. (names : Seq (Seq ℕ)) → IsIndexOf index.now names → IsEdgeOfFault names words.entry.first.now words.entry.second.now words.entry.third.now kind)) }
+/// The edge between two hypotheses, from its names and its expression.
+fn edge_of(line: &Line, index: &NameIndex, ends: Ends) -> Result<DraftEdge, TextFault>
+    ensures found { IfOk result (λ e. (names : Seq (Seq ℕ)) → IsIndexOf index.now names → IsEdgeOf names ends.entry.from.now ends.entry.to.now ends.entry.expression.now (edge_said e)) }
+    ensures fault { IfErr result (IsOnLine line.now.number (λ kind. (names : Seq (Seq ℕ)) → IsIndexOf index.now names → IsEdgeOfFault names ends.entry.from.now ends.entry.to.now ends.entry.expression.now kind)) }
 {
-    let (Some(from), Some(to)) = (index.position(words.first), index.position(words.second)) else {
+    let (Some(from), Some(to)) = (index.position(ends.from), index.position(ends.to)) else {
         return Err(line.fault(LineKind::UnknownName));
     };
-    let weight = number(line, words.third)?;
-    Ok(DraftEdge {
-        from,
-        to,
-        entry: plain_entry(weight),
-    })
+    let entry = entry(line, ends.expression)?;
+    Ok(DraftEdge { from, to, entry })
 }
 
 /// The edge behind `edge`.
 pub fn edge(line: &Line, index: &NameIndex) -> Result<DraftEdge, TextFault>
-    ensures found { IfOk result (λ e. (names : Seq (Seq ℕ)) → IsIndexOf index.now names → IsEdgeLine names (line_words line.now) (edge_said e)) }
-    ensures fault { IfErr result (IsOnLine line.now.number (λ kind. (names : Seq (Seq ℕ)) → IsIndexOf index.now names → IsEdgeFault names (line_words line.now) kind)) }
+    ensures found { IfOk result (λ e. (names : Seq (Seq ℕ)) → IsIndexOf index.now names → IsEdgeLine names (line_text line.now) (edge_said e)) }
+    ensures fault { IfErr result (IsOnLine line.now.number (λ kind. (names : Seq (Seq ℕ)) → IsIndexOf index.now names → IsEdgeFault names (line_text line.now) kind)) }
 {
     let Some(words) = line.behind(b"edge") else {
         return Err(line.fault(LineKind::Unexpected));
     };
-    let Some(words) = words.three() else {
+    let Some(ends) = words.ends() else {
         return Err(line.fault(LineKind::WordCount));
     };
-    edge_of(line, index, words)
+    edge_of(line, index, ends)
 }

@@ -1,6 +1,6 @@
 //! Texts by hand: those with a line that can't stand, those whose drafts are refused, and those that say cases.
 use crate::vectors::{
-    CASES, ENDED, Edge, Held, NUMBERS, ORDER, REFUSED, RefusedText, Terms, UNEXPECTED,
+    CASES, ENDED, EXPRESSIONS, Edge, Held, NUMBERS, ORDER, REFUSED, RefusedText, Terms, UNEXPECTED,
     UNKNOWN_NAMES, WORD_COUNTS,
 };
 use crate::{LineKind, TextFault, read_text};
@@ -57,6 +57,13 @@ fn numerals_are_refused(rt: HostRuntime) {
 }
 
 #[test]
+fn expressions_are_refused(rt: HostRuntime) {
+    for (text, number, fault) in EXPRESSIONS {
+        expect_line_fault(&rt, rt.alloc(), text, number, LineKind::Expr(fault));
+    }
+}
+
+#[test]
 fn the_first_fault_counts(rt: HostRuntime) {
     for (text, number, kind) in ORDER {
         expect_line_fault(&rt, rt.alloc(), text, number, kind);
@@ -96,19 +103,19 @@ fn terms(x: &Fraction) -> Terms {
     (x.ratio().num(), x.ratio().den())
 }
 
-/// A plain number.
-fn expect_entry(rt: &impl Abort, entry: &Entry, weight: Terms) {
-    assert_eq!(rt; terms(&entry.coefficient(0)), weight);
-    for power in 1..5 {
-        assert_eq!(rt; terms(&entry.coefficient(power)), (0, 1));
+/// These coefficients by ascending power, and 0 behind the last.
+fn expect_entry(rt: &impl Abort, entry: &Entry, weight: &[Terms]) {
+    for power in 0..5 {
+        let wanted = weight.get(power).copied().unwrap_or((0, 1));
+        assert_eq!(rt; terms(&entry.coefficient(power)), wanted);
     }
 }
 
 /// The weight of the edge with these ends, 0 where it isn't listed.
-fn listed(edges: &[Edge], from: usize, to: usize) -> Terms {
+fn listed(edges: &[Edge], from: usize, to: usize) -> &'static [Terms] {
     match edges.iter().find(|edge| edge.0 == from && edge.1 == to) {
         Some(edge) => edge.2,
-        None => (0, 1),
+        None => &[],
     }
 }
 

@@ -1,5 +1,5 @@
 //! Texts, with the line that can't stand, or the fault of the draft, or the case that they say.
-use crate::LineKind;
+use crate::{ExprFault, LineKind};
 use case_model::{CaseFault, PartPlace};
 use field_core::{Op, Place, WideAt};
 use fraction::NumberFault;
@@ -114,7 +114,7 @@ pub const ENDED: [(&str, usize); 20] = [
 ];
 
 /// Lines of too few or too many words.
-pub const WORD_COUNTS: [(&str, usize); 17] = [
+pub const WORD_COUNTS: [(&str, usize); 18] = [
     ("alpha", 1),
     ("alpha\n", 1),
     ("alpha \t \r\n", 1),
@@ -129,16 +129,20 @@ pub const WORD_COUNTS: [(&str, usize); 17] = [
     ("alpha 0.05\nhypotheses A B\nweights 1/2 1/2\nedge A\n", 4),
     ("alpha 0.05\nhypotheses A B\nweights 1/2 1/2\nedge A B", 4),
     (
-        "alpha 0.05\nhypotheses A B\nweights 1/2 1/2\nedge A B 1 2\n",
+        "alpha 0.05\nhypotheses A B\nweights 1/2 1/2\nedge A B \t\r\n",
         4,
     ),
     (
-        "alpha 0.05\nhypotheses A B\nweights 1/2 1/2\nedge A B 1 - 1/2\n",
+        "alpha 0.05\nhypotheses A B\nweights 1/2 1/2\nedge A (1/2)\n",
         4,
     ),
     (
-        "alpha 0.05\nhypotheses A B\nweights 1/2 1/2\nedge A B 1 # all\n",
+        "alpha 0.05\nhypotheses A B\nweights 1/2 1/2\n\tedge\tA\tB\n",
         4,
+    ),
+    (
+        "alpha 0.05\nhypotheses A B\nweights 1/2 1/2\nedge A B 1\nedge 1-\\epsilon\n",
+        5,
     ),
     (
         "alpha 0.05\nhypotheses A B\nweights 1/2 1/2\nedge A B 1/2\nedge B A\n",
@@ -147,7 +151,7 @@ pub const WORD_COUNTS: [(&str, usize); 17] = [
 ];
 
 /// Edges with a name that no hypothesis has.
-pub const UNKNOWN_NAMES: [(&str, usize); 11] = [
+pub const UNKNOWN_NAMES: [(&str, usize); 13] = [
     (
         "alpha 0.05\nhypotheses H1 H2\nweights 1/2 1/2\nedge H3 H2 1\n",
         4,
@@ -189,10 +193,18 @@ pub const UNKNOWN_NAMES: [(&str, usize); 11] = [
         6,
     ),
     ("alpha 0.05\nhypotheses\nweights\nedge H1 H2 1\n", 4),
+    (
+        "alpha 0.05\nhypotheses H1 H2\nweights 1/2 1/2\nedge H1 H3 1 - \\epsilon\n",
+        4,
+    ),
+    (
+        "alpha 0.05\nhypotheses H1 H2\nweights 1/2 1/2\nedge H1 (H2) 1\n",
+        4,
+    ),
 ];
 
 /// Lines with a numeral that is refused.
-pub const NUMBERS: [(&str, usize, NumberFault); 18] = [
+pub const NUMBERS: [(&str, usize, NumberFault); 15] = [
     ("alpha x\n", 1, NumberFault::BadByte(0)),
     ("alpha 0,05\n", 1, NumberFault::BadByte(1)),
     ("alpha 1/\n", 1, NumberFault::BadByte(2)),
@@ -240,25 +252,129 @@ pub const NUMBERS: [(&str, usize, NumberFault); 18] = [
         3,
         NumberFault::TooManyDigits,
     ),
+];
+
+/// Edges with an expression that is refused. The blank behind the second name belongs to it.
+pub const EXPRESSIONS: [(&str, usize, ExprFault); 23] = [
     (
-        "alpha 0.05\nhypotheses A B\nweights 1/2 1/2\nedge A B 1-\\epsilon\n",
+        "alpha 0.05\nhypotheses A B\nweights 1/2 1/2\nedge A B x\n",
         4,
-        NumberFault::BadByte(1),
+        ExprFault::BadByte(1),
+    ),
+    (
+        "alpha 0.05\nhypotheses A B\nweights 1/2 1/2\nedge A B 1 2\n",
+        4,
+        ExprFault::BadByte(3),
+    ),
+    (
+        "alpha 0.05\nhypotheses A B\nweights 1/2 1/2\nedge A B 1 # all\n",
+        4,
+        ExprFault::BadByte(3),
+    ),
+    (
+        "alpha 0.05\nhypotheses A B\nweights 1/2 1/2\nedge A B 1)\n",
+        4,
+        ExprFault::BadByte(2),
+    ),
+    (
+        "alpha 0.05\nhypotheses A B\nweights 1/2 1/2\nedge A B (1\n",
+        4,
+        ExprFault::BadByte(3),
+    ),
+    (
+        "alpha 0.05\nhypotheses A B\nweights 1/2 1/2\nedge A B 1 /\n",
+        4,
+        ExprFault::BadByte(4),
+    ),
+    (
+        "alpha 0.05\nhypotheses A B\nweights 1/2 1/2\nedge A B 1\\epsilon\\eps\n",
+        4,
+        ExprFault::BadByte(14),
+    ),
+    (
+        "alpha 0.05\nhypotheses A B\nweights 1/2 1/2\nedge A B 1/2\r\r\n",
+        4,
+        ExprFault::BadByte(4),
+    ),
+    (
+        "alpha 0.05\nhypotheses A B\nweights 1/2 1/2\nedge A B NA\n",
+        4,
+        ExprFault::BadByte(1),
+    ),
+    (
+        "alpha 0.05\nhypotheses A B\nweights 1/2 1/2\nedge A B (((((((((((((((((((((((((((((((((1\n",
+        4,
+        ExprFault::Depth,
+    ),
+    (
+        "alpha 0.05\nhypotheses A B\nweights 1/2 1/2\nedge A B (((((((((((((((((((((((((((((((((1)))))))))))))))))))))))))))))))))\n",
+        4,
+        ExprFault::Depth,
+    ),
+    (
+        "alpha 0.05\nhypotheses A B\nweights 1/2 1/2\nedge A B 1/\\epsilon\n",
+        4,
+        ExprFault::DivisorNotNumber,
     ),
     (
         "alpha 0.05\nhypotheses A B\nweights 1/2 1/2\nedge A B 1/0\n",
         4,
-        NumberFault::ZeroDenominator,
+        ExprFault::ZeroDivisor,
+    ),
+    (
+        "alpha 0.05\nhypotheses A B\nweights 1/2 1/2\nedge A B 0/0\n",
+        4,
+        ExprFault::ZeroDivisor,
+    ),
+    (
+        "alpha 0.05\nhypotheses A B\nweights 1/2 1/2\nedge A B 1/(1-1)\n",
+        4,
+        ExprFault::ZeroDivisor,
+    ),
+    (
+        "alpha 0.05\nhypotheses A B\nweights 1/2 1/2\nedge A B \\epsilon^5\n",
+        4,
+        ExprFault::Degree,
+    ),
+    (
+        "alpha 0.05\nhypotheses A B\nweights 1/2 1/2\nedge A B \\epsilon^3 * \\epsilon^2\n",
+        4,
+        ExprFault::Degree,
     ),
     (
         "alpha 0.05\nhypotheses A B\nweights 1/2 1/2\nedge A B 1e99\n",
         4,
-        NumberFault::TooManyDigits,
+        ExprFault::Part,
+    ),
+    (
+        "alpha 0.05\nhypotheses A B\nweights 1/2 1/2\nedge A B 1e-19\n",
+        4,
+        ExprFault::Part,
+    ),
+    (
+        "alpha 0.05\nhypotheses A B\nweights 1/2 1/2\nedge A B 1/1000000000000000001\n",
+        4,
+        ExprFault::Part,
+    ),
+    (
+        "alpha 0.05\nhypotheses A B\nweights 1/2 1/2\nedge A B 1/1e18/10\n",
+        4,
+        ExprFault::Part,
+    ),
+    (
+        "alpha 0.05\nhypotheses A B\nweights 1/2 1/2\nedge A B\t1.\t5",
+        4,
+        ExprFault::BadByte(4),
+    ),
+    (
+        "alpha 0.05\nhypotheses A B\nweights 1/2 1/2\n\nedge A B 1\n# none\nedge B A 1 - * \\epsilon\n",
+        7,
+        ExprFault::BadByte(5),
     ),
 ];
 
 /// Texts with several faults, of which the first counts.
-pub const ORDER: [Faulty; 19] = [
+pub const ORDER: [Faulty; 27] = [
     // Of several lines.
     (
         "alpha x\nhypotheses A B\np\n",
@@ -301,7 +417,7 @@ pub const ORDER: [Faulty; 19] = [
     (
         "alpha 0.05\nhypotheses A B\nweights 1/2 1/2\nedge C D x y\n",
         4,
-        LineKind::WordCount,
+        LineKind::UnknownName,
     ),
     (
         "alpha 0.05\nhypotheses A B\nweights 1/2 1/2\nedge C B x\n",
@@ -312,6 +428,37 @@ pub const ORDER: [Faulty; 19] = [
         "alpha 0.05\nhypotheses A B\nweights 1/2 1/2\nedge A C x\n",
         4,
         LineKind::UnknownName,
+    ),
+    (
+        "alpha 0.05\nhypotheses A B\nweights 1/2 1/2\nedge A C 1/0\n",
+        4,
+        LineKind::UnknownName,
+    ),
+    (
+        "alpha 0.05\nhypotheses A B\nweights 1/2 1/2\nedges A B x\n",
+        4,
+        LineKind::Unexpected,
+    ),
+    // Of one expression: its bytes, and then its values from left to right.
+    (
+        "alpha 0.05\nhypotheses A B\nweights 1/2 1/2\nedge A B (1/0\n",
+        4,
+        LineKind::Expr(ExprFault::BadByte(5)),
+    ),
+    (
+        "alpha 0.05\nhypotheses A B\nweights 1/2 1/2\nedge A B 1/0 + 1e99\n",
+        4,
+        LineKind::Expr(ExprFault::ZeroDivisor),
+    ),
+    (
+        "alpha 0.05\nhypotheses A B\nweights 1/2 1/2\nedge A B 1e99 + 1/0\n",
+        4,
+        LineKind::Expr(ExprFault::Part),
+    ),
+    (
+        "alpha 0.05\nhypotheses A B\nweights 1/2 1/2\nedge A B x\nedge A C 1\n",
+        4,
+        LineKind::Expr(ExprFault::BadByte(1)),
     ),
     // Skipped lines are counted.
     (
@@ -338,6 +485,16 @@ pub const ORDER: [Faulty; 19] = [
         LineKind::WordCount,
     ),
     (
+        "alpha 0.05\nhypotheses A B\nweights 1 1\nedge A A 1+\n",
+        4,
+        LineKind::Expr(ExprFault::BadByte(3)),
+    ),
+    (
+        "alpha 2\nhypotheses A A\nweights 1 1\nedge A A \\epsilon\nedge A A \\epsilon^5\n",
+        5,
+        LineKind::Expr(ExprFault::Degree),
+    ),
+    (
         "alpha 0.05\nhypotheses ? ?\nweights 1 1\nstages 1\n",
         4,
         LineKind::Unexpected,
@@ -353,7 +510,7 @@ pub struct RefusedText {
 }
 
 /// Texts whose drafts are refused.
-pub const REFUSED: [RefusedText; 21] = [
+pub const REFUSED: [RefusedText; 25] = [
     RefusedText {
         text: "alpha 0.05\nhypotheses\nweights\n",
         names: &[],
@@ -383,11 +540,6 @@ pub const REFUSED: [RefusedText; 21] = [
         text: "alpha 1/10001\nhypotheses A B\nweights 1/2 1/2\n",
         names: &["A", "B"],
         fault: CaseFault::PartTooLong(PartPlace::Alpha),
-    },
-    RefusedText {
-        text: "alpha 0.05\nhypotheses A B\nweights 1/2 1/2\nedge A B 1/1000000000000000001\n",
-        names: &["A", "B"],
-        fault: CaseFault::PartTooLong(PartPlace::Edge(0, 0, 1)),
     },
     RefusedText {
         text: "alpha 0\nhypotheses A B\nweights 1/2 1/2\n",
@@ -444,6 +596,31 @@ pub const REFUSED: [RefusedText; 21] = [
         fault: CaseFault::EdgeRange(0, 0, 1),
     },
     RefusedText {
+        text: "alpha 0.05\nhypotheses A B\nweights 1/2 1/2\nedge A B -1/2\n",
+        names: &["A", "B"],
+        fault: CaseFault::EdgeRange(0, 0, 1),
+    },
+    RefusedText {
+        text: "alpha 0.05\nhypotheses A B\nweights 1/2 1/2\nedge A B 1\nedge B A 1 + \\epsilon\n",
+        names: &["A", "B"],
+        fault: CaseFault::EdgeRange(0, 1, 0),
+    },
+    RefusedText {
+        text: "alpha 0.05\nhypotheses A B\nweights 1/2 1/2\nedge A B \\epsilon^2 - \\epsilon\n",
+        names: &["A", "B"],
+        fault: CaseFault::EdgeRange(0, 0, 1),
+    },
+    RefusedText {
+        text: "alpha 0.05\nhypotheses A B\nweights 1/2 1/2\nedge B B \\epsilon\n",
+        names: &["A", "B"],
+        fault: CaseFault::SelfEdge(0, 1),
+    },
+    RefusedText {
+        text: "alpha 0.05\nhypotheses A B C\nweights 1/3 1/3 1/3\nedge B A 1-\\epsilon\nedge B C 2\\epsilon\n",
+        names: &["A", "B", "C"],
+        fault: CaseFault::RowSum(0, 1),
+    },
+    RefusedText {
         text: "alpha 0.05\nhypotheses A B C\nweights 1/3 1/3 1/3\nedge A B 1/2\nedge C A 1/2\nedge C B 0.6\n",
         names: &["A", "B", "C"],
         fault: CaseFault::RowSum(0, 2),
@@ -469,8 +646,9 @@ pub const REFUSED: [RefusedText; 21] = [
 /// Numerator and denominator, in lowest terms.
 pub type Terms = (i128, i128);
 
-/// The positions of the ends of an edge, and its weight.
-pub type Edge = (usize, usize, Terms);
+/// The positions of the ends of an edge, and the coefficients of its weight by ascending power of epsilon. Those behind
+/// the last one are 0.
+pub type Edge = (usize, usize, &'static [Terms]);
 
 /// What a case of one component holds. Edges that aren't listed are 0.
 #[derive(Clone, Copy)]
@@ -492,7 +670,7 @@ pub const SINGLE: Held = Held {
 };
 
 /// Texts, and the cases that they say.
-pub const CASES: [(&str, Held); 15] = [
+pub const CASES: [(&str, Held); 19] = [
     // The last line may lack its line feed, and each may have a carriage return.
     ("alpha 0.05\nhypotheses A\np 0.01\nweights 1\n", SINGLE),
     ("alpha 0.05\nhypotheses A\np 0.01\nweights 1", SINGLE),
@@ -536,10 +714,10 @@ pub const CASES: [(&str, Held); 15] = [
             p: &[(1, 50), (3, 200), (1, 200)],
             weights: &[(1, 2), (1, 3), (1, 6)],
             edges: &[
-                (0, 1, (1, 1)),
-                (1, 0, (1, 2)),
-                (1, 2, (1, 3)),
-                (2, 0, (1, 4)),
+                (0, 1, &[(1, 1)]),
+                (1, 0, &[(1, 2)]),
+                (1, 2, &[(1, 3)]),
+                (2, 0, &[(1, 4)]),
             ],
         },
     ),
@@ -551,7 +729,7 @@ pub const CASES: [(&str, Held); 15] = [
             alpha: (1, 20),
             p: &[(0, 1), (1, 1)],
             weights: &[(1, 1), (0, 1)],
-            edges: &[(0, 1, (1, 1))],
+            edges: &[(0, 1, &[(1, 1)])],
         },
     ),
     // Names that begin others.
@@ -562,7 +740,7 @@ pub const CASES: [(&str, Held); 15] = [
             alpha: (1, 20),
             p: &[],
             weights: &[(1, 4), (1, 4), (1, 2)],
-            edges: &[(1, 0, (1, 2)), (2, 1, (3, 4))],
+            edges: &[(1, 0, &[(1, 2)]), (2, 1, &[(3, 4)])],
         },
     ),
     // Names that are keywords or numerals.
@@ -573,7 +751,7 @@ pub const CASES: [(&str, Held); 15] = [
             alpha: (1, 20),
             p: &[],
             weights: &[(1, 4), (1, 4), (1, 4), (1, 4)],
-            edges: &[(0, 1, (1, 2)), (2, 0, (1, 3)), (3, 2, (1, 2))],
+            edges: &[(0, 1, &[(1, 2)]), (2, 0, &[(1, 3)]), (3, 2, &[(1, 2)])],
         },
     ),
     // The longest name and the longest parts.
@@ -595,9 +773,64 @@ pub const CASES: [(&str, Held); 15] = [
             p: &[],
             weights: &[(3, 10), (3, 10)],
             edges: &[
-                (0, 1, (1, 1_000_000_000_000_000_000)),
-                (1, 0, (999_999_999_999_999_999, 1_000_000_000_000_000_000)),
+                (0, 1, &[(1, 1_000_000_000_000_000_000)]),
+                (
+                    1,
+                    0,
+                    &[(999_999_999_999_999_999, 1_000_000_000_000_000_000)],
+                ),
             ],
+        },
+    ),
+    // Signs and blanks in expressions.
+    (
+        "alpha 0.05\nhypotheses A B\nweights 1/2 1/2\nedge A B  + 1 / 2 \t\r\n\tedge\tB\tA\t-1/4\t+\t(.75)\r\n",
+        Held {
+            names: &["A", "B"],
+            alpha: (1, 20),
+            p: &[],
+            weights: &[(1, 2), (1, 2)],
+            edges: &[(0, 1, &[(1, 2)]), (1, 0, &[(1, 2)])],
+        },
+    ),
+    // Powers of epsilon.
+    (
+        "alpha 0.05\nhypotheses A B C\nweights 1 0 0\nedge A B 1 - \\epsilon\nedge A C \\epsilon\nedge B A 1/2\\epsilon + \\epsilon ^ 2 * 3\nedge B C 0.5-\\epsilon^4/3\nedge C A (1 - 2\\epsilon)(1 + 2\\epsilon)\nedge C B 4\\epsilon\\epsilon",
+        Held {
+            names: &["A", "B", "C"],
+            alpha: (1, 20),
+            p: &[],
+            weights: &[(1, 1), (0, 1), (0, 1)],
+            edges: &[
+                (0, 1, &[(1, 1), (-1, 1)]),
+                (0, 2, &[(0, 1), (1, 1)]),
+                (1, 0, &[(0, 1), (1, 2), (3, 1)]),
+                (1, 2, &[(1, 2), (0, 1), (0, 1), (0, 1), (-1, 3)]),
+                (2, 0, &[(1, 1), (0, 1), (-4, 1)]),
+                (2, 1, &[(0, 1), (0, 1), (4, 1)]),
+            ],
+        },
+    ),
+    // An expression that is 0 is no edge.
+    (
+        "alpha 0.05\nhypotheses A B\nweights 1 0\nedge A A 1 - 1\nedge A B \\epsilon - \\epsilon\n",
+        Held {
+            names: &["A", "B"],
+            alpha: (1, 20),
+            p: &[],
+            weights: &[(1, 1), (0, 1)],
+            edges: &[],
+        },
+    ),
+    // Expressions with 32 parentheses open at once.
+    (
+        "alpha 0.05\nhypotheses A B\nweights 1 0\nedge A B ((((((((((((((((((((((((((((((((1))))))))))))))))))))))))))))))))\n",
+        Held {
+            names: &["A", "B"],
+            alpha: (1, 20),
+            p: &[],
+            weights: &[(1, 1), (0, 1)],
+            edges: &[(0, 1, &[(1, 1)])],
         },
     ),
 ];

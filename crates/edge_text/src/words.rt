@@ -1,10 +1,10 @@
 //! A line, word by word.
-ghost use Rattle.std.specs.Prelude.{◌≡◌, ◌≤◌, [], ◌∷◌, length, IfSome, IfNone};
+ghost use Rattle.std.specs.Prelude.{◌≡◌, ◌<◌, ◌≤◌, [], ◌∷◌, length, IfSome, IfNone};
 ghost use Rattle.std.specs.List.{position_or_len};
 ghost use Rattle.std.specs.Iterator.{YieldsFirstRef};
-ghost use Rattle.edge_text.specs.Lines.{is_blank, words_of};
+ghost use Rattle.edge_text.specs.Lines.{is_blank, words_of, behind_word, behind_words};
 ghost use Rattle.edge_text.specs.Faults.{IsOther};
-ghost use Rattle.edge_text.specs.View.{words_left, line_words};
+ghost use Rattle.edge_text.specs.View.{text_left, words_left, line_text, line_words, HasThree};
 ghost use Rattle.edge_text.specs.declared.fault.TextFault.TheVariants as faults;
 
 use crate::cursor::{Line, Words};
@@ -21,7 +21,7 @@ fn word_len(bytes: &[u8]) -> usize
 impl<'a> Line<'a> {
     /// The words of the line.
     pub fn words(&self) -> Words<'a>
-        ensures { words_left result ≡ line_words self.now }
+        ensures { text_left result ≡ line_text self.now }
     {
         Words { rest: self.text }
     }
@@ -29,7 +29,8 @@ impl<'a> Line<'a> {
     /// The words behind the first one, where that is the keyword.
     pub fn behind(&self, keyword: &[u8]) -> Option<Words<'a>>
         ensures found { IfSome result (λ words. line_words self.now ≡ keyword.now ∷ words_left words) }
-        ensures other { IfNone result (IsOther keyword.now (line_words self.now)) }
+        ensures rest { IfSome result (λ words. text_left words ≡ behind_word (line_text self.now)) }
+        ensures other { IfNone result (IsOther keyword.now (line_text self.now)) }
     {
         let mut words = self.words();
         let first = words.take()?;
@@ -47,19 +48,20 @@ impl<'a> Line<'a> {
     }
 }
 
-/// Three words.
+/// The names of the ends of an edge, and what stands behind them.
 #[derive(Clone, Copy)]
-pub struct Three<'a> {
-    pub first: &'a [u8],
-    pub second: &'a [u8],
-    pub third: &'a [u8],
+pub struct Ends<'a> {
+    pub from: &'a [u8],
+    pub to: &'a [u8],
+    pub expression: &'a [u8],
 }
 
 impl<'a> Words<'a> {
     /// The next word.
-    #[tactic(auto, using(crate::proofs::Cut::words_end, crate::proofs::Cut::words_ended, crate::proofs::Cut::words_next))]
+    #[tactic(auto, using(crate::proofs::Cut::words_end, crate::proofs::Cut::words_ended, crate::proofs::Cut::words_next), unfolding(crate::specs::Lines::behind_word))]
     pub fn take(&mut self) -> Option<&'a [u8]>
-        ensures { YieldsFirstRef words_left self.old result self.new }
+        ensures word { YieldsFirstRef words_left self.old result self.new }
+        ensures rest { text_left self.new ≡ behind_word (text_left self.old) }
     {
         let rest = after_blanks(self.rest);
         let (word, rest) = rest.split_at(word_len(rest));
@@ -79,21 +81,20 @@ impl<'a> Words<'a> {
         }
     }
 
-    /// The words, where there are just three.
-    pub fn three(mut self) -> Option<Three<'a>>
-        ensures found { IfSome result (λ three. words_left self.entry ≡ three.first.now ∷ three.second.now ∷ three.third.now ∷ []) }
-        ensures other { IfNone result (¬ (length (words_left self.entry) ≡ 3)) }
+    /// Two names and what stands behind them, where that has a word.
+    pub fn ends(mut self) -> Option<Ends<'a>>
+        ensures found { IfSome result (λ ends. HasThree (words_left self.entry) ends.from.now ends.to.now) }
+        ensures rest { IfSome result (λ ends. ends.expression.now ≡ behind_words 2 (text_left self.entry)) }
+        ensures other { IfNone result (length (words_left self.entry) < 3) }
     {
-        let first = self.take()?;
-        let second = self.take()?;
-        let third = self.take()?;
-        match self.take() {
-            Some(_) => None,
-            None => Some(Three {
-                first,
-                second,
-                third,
-            }),
-        }
+        let from = self.take()?;
+        let to = self.take()?;
+        let expression = self.rest;
+        self.take()?;
+        Some(Ends {
+            from,
+            to,
+            expression,
+        })
     }
 }

@@ -6,12 +6,15 @@ use Rattle.field_core.specs.declared.place.WideAt.{WideAt}
 use Rattle.case_model.specs.declared.fault.CaseFault.{CaseFault}
 use Rattle.case_model.specs.declared.fault.CaseFault.TheVariants.{NoHypothesis, TooMany, NameForm, DuplicateName, NoComponent, TooManyComponents, PartTooLong, AlphaRange, ShareRange, ShareSum, WeightCount, WeightRange, WeightSum, SelfEdge, RepeatedEdge, EdgeRange, RowSum, Mixed, PCount, PMissing, PRange, NoStage, TooManyStages, SpendCount, SpendRange, SpendSum, ArrivalStage, ArrivalRepeated, ArrivalRange, Wide, NoMemory}
 use Rattle.edge_text.specs.declared.fault.LineKind.{LineKind}
-use Rattle.edge_text.specs.declared.fault.LineKind.TheVariants.{Unexpected, Ended, WordCount, UnknownName, Number}
+use Rattle.edge_text.specs.declared.fault.LineKind.TheVariants.{Unexpected, Ended, WordCount, UnknownName, Number, Expr}
+use Rattle.edge_text.specs.declared.expr_fault.ExprFault.{ExprFault}
+use Rattle.edge_text.specs.declared.expr_fault.ExprFault.TheVariants.{Depth, DivisorNotNumber, ZeroDivisor, Degree, Part}
+use Rattle.edge_text.specs.declared.expr_fault.ExprFault.TheVariants as expressions
 use Rattle.graph_cli.specs.declared.refusal.wide.When.{When}
 use Rattle.graph_cli.specs.declared.refusal.wide.When.TheVariants.{Reading}
 use Rattle.graph_cli.specs.LinePieces.{malformed_at, past_limit}
 use Rattle.graph_cli.specs.CaseRefusal.{case_refusal}
-use Rattle.graph_cli.specs.TextRefusal.{number_refusal, line_refusal, bytes_refusal, kind_refusal, at_line}
+use Rattle.graph_cli.specs.TextRefusal.{number_refusal, expression_refusal, line_refusal, bytes_refusal, kind_refusal, at_line}
 use Rattle.graph_cli.specs.WideRefusal.{wide_refusal}
 
 not_malformed : (place kind : List ℕ) → (malformed_at place kind).status ≡ 0 → ⊥
@@ -41,6 +44,15 @@ not_number place (BadByte n) h = not_malformed _ _ h
 not_number place ZeroDenominator h = not_malformed _ _ h
 not_number place TooManyDigits h = not_limit _ h
 
+not_expression : (place : List ℕ) (fault : ExprFault) → (expression_refusal place fault).status ≡ 0 → ⊥
+unfolding expression_refusal
+not_expression place (expressions.BadByte n) h = not_malformed _ _ h
+not_expression place DivisorNotNumber h = not_malformed _ _ h
+not_expression place ZeroDivisor h = not_malformed _ _ h
+not_expression place Degree h = not_limit _ h
+not_expression place Part h = not_limit _ h
+not_expression place Depth h = not_limit _ h
+
 pub not_line : (n : ℕ) (kind : LineKind) → (line_refusal n kind).status ≡ 0 → ⊥
 unfolding line_refusal
 not_line n Unexpected h = not_malformed _ _ h
@@ -48,6 +60,7 @@ not_line n Ended h = not_malformed _ _ h
 not_line n WordCount h = not_malformed _ _ h
 not_line n UnknownName h = not_malformed _ _ h
 not_line n (Number fault) h = not_number (at_line n) fault h
+not_line n (Expr fault) h = not_expression (at_line n) fault h
 
 pub not_case : (names : List (List ℕ)) (fault : CaseFault) → (case_refusal names fault).status ≡ 0 → ⊥
 unfolding case_refusal

@@ -27,3 +27,7 @@ malformed_at place kind = record { status = 3; text = line (codes "malformed: " 
 -- a quantity past its limit
 unfoldable pub past_limit : List ℕ → Answer
 past_limit quantity = record { status = 4; text = line (codes "limit: " ++ quantity) }
+
+-- a quantity past its limit at a place
+abbrev pub limit_at : List ℕ → List ℕ → Answer
+limit_at place quantity = past_limit (place ++ codes ": " ++ quantity)

@@ -4,10 +4,13 @@ use Rattle.std.specs.Fmt.{decimal}
 use Rattle.fraction.specs.declared.fault.NumberFault.{NumberFault}
 use Rattle.fraction.specs.declared.fault.NumberFault.TheVariants.{Empty, BadByte, ZeroDenominator, TooManyDigits}
 use Rattle.edge_text.specs.declared.fault.LineKind.{LineKind}
-use Rattle.edge_text.specs.declared.fault.LineKind.TheVariants.{Unexpected, Ended, WordCount, UnknownName, Number}
+use Rattle.edge_text.specs.declared.fault.LineKind.TheVariants.{Unexpected, Ended, WordCount, UnknownName, Number, Expr}
+use Rattle.edge_text.specs.declared.expr_fault.ExprFault.{ExprFault}
+use Rattle.edge_text.specs.declared.expr_fault.ExprFault.TheVariants.{Depth, DivisorNotNumber, ZeroDivisor, Degree, Part}
+use Rattle.edge_text.specs.declared.expr_fault.ExprFault.TheVariants as expressions
 use Rattle.graph_cli.specs.declared.answer.Answer.{Answer}
 use Rattle.report.specs.TestReport.{line}
-use Rattle.graph_cli.specs.LinePieces.{malformed_at, past_limit}
+use Rattle.graph_cli.specs.LinePieces.{malformed_at, past_limit, limit_at}
 
 -- a line of a text, by its number from 1
 abbrev pub at_line : ℕ → List ℕ
@@ -18,7 +21,16 @@ unfoldable pub number_refusal : List ℕ → NumberFault → Answer
 number_refusal place Empty = malformed_at place (codes "number")
 number_refusal place (BadByte n) = malformed_at place (codes "number")
 number_refusal place ZeroDenominator = malformed_at place (codes "zero denominator")
-number_refusal place TooManyDigits = past_limit (place ++ codes ": digits")
+number_refusal place TooManyDigits = limit_at place (codes "digits")
+
+-- an expression of a place is refused
+unfoldable pub expression_refusal : List ℕ → ExprFault → Answer
+expression_refusal place (expressions.BadByte n) = malformed_at place (codes "expression")
+expression_refusal place DivisorNotNumber = malformed_at place (codes "divisor")
+expression_refusal place ZeroDivisor = malformed_at place (codes "zero divisor")
+expression_refusal place Degree = limit_at place (codes "degree")
+expression_refusal place Part = limit_at place (codes "part")
+expression_refusal place Depth = limit_at place (codes "depth")
 
 -- a line of a text can't stand
 unfoldable pub line_refusal : ℕ → LineKind → Answer
@@ -27,6 +39,7 @@ line_refusal n Ended = malformed_at (at_line n) (codes "ended")
 line_refusal n WordCount = malformed_at (at_line n) (codes "words")
 line_refusal n UnknownName = malformed_at (at_line n) (codes "unknown name")
 line_refusal n (Number fault) = number_refusal (at_line n) fault
+line_refusal n (Expr fault) = expression_refusal (at_line n) fault
 
 -- an input has more bytes than it may have; so many were read
 unfoldable pub bytes_refusal : ℕ → Answer

@@ -2,7 +2,7 @@
 use super::{When, bytes_refusal, case_refusal, kind_refusal, line_refusal, wide_refusal};
 use crate::answer::Answer;
 use case_model::{CaseFault, PartPlace};
-use edge_text::LineKind;
+use edge_text::{ExprFault, LineKind};
 use field_core::{List, NoMemory, Op, Place, Text, WideAt};
 use fraction::NumberFault;
 use std::alloc::Global;
@@ -280,7 +280,7 @@ fn too_wide_sums_of_cases(rt: HostRuntime) -> Result<(), Fail> {
     Ok(())
 }
 
-const LINES: [(usize, LineKind, u8, &str); 8] = [
+const LINES: [(usize, LineKind, u8, &str); 14] = [
     (
         1,
         LineKind::Unexpected,
@@ -318,6 +318,42 @@ const LINES: [(usize, LineKind, u8, &str); 8] = [
         LineKind::Number(NumberFault::TooManyDigits),
         4,
         "limit: line 100: digits\n",
+    ),
+    (
+        5,
+        LineKind::Expr(ExprFault::BadByte(0)),
+        3,
+        "malformed: line 5: expression\n",
+    ),
+    (
+        6,
+        LineKind::Expr(ExprFault::DivisorNotNumber),
+        3,
+        "malformed: line 6: divisor\n",
+    ),
+    (
+        7,
+        LineKind::Expr(ExprFault::ZeroDivisor),
+        3,
+        "malformed: line 7: zero divisor\n",
+    ),
+    (
+        18,
+        LineKind::Expr(ExprFault::Degree),
+        4,
+        "limit: line 18: degree\n",
+    ),
+    (
+        4,
+        LineKind::Expr(ExprFault::Part),
+        4,
+        "limit: line 4: part\n",
+    ),
+    (
+        12,
+        LineKind::Expr(ExprFault::Depth),
+        4,
+        "limit: line 12: depth\n",
     ),
 ];
 

@@ -1,11 +1,11 @@
 //! Lines of inputs that give no case, or one of the wrong kind.
 ghost use Rattle.std.specs.Prelude.{◌≡◌, ◌≤◌, ◌++◌, IfOk, codes};
-ghost use Rattle.graph_cli.specs.LinePieces.{malformed_at, past_limit};
-ghost use Rattle.graph_cli.specs.TextRefusal.{at_line, number_refusal, line_refusal, bytes_refusal, kind_refusal};
+ghost use Rattle.graph_cli.specs.LinePieces.{malformed_at, limit_at};
+ghost use Rattle.graph_cli.specs.TextRefusal.{at_line, number_refusal, expression_refusal, line_refusal, bytes_refusal, kind_refusal};
 
 use super::pieces::{ended, malformed, past_limit, put_counting};
 use crate::answer::Answer;
-use edge_text::LineKind;
+use edge_text::{ExprFault, LineKind};
 use field_core::{List, NoMemory};
 use fraction::NumberFault;
 use std::alloc::Global;
@@ -20,14 +20,15 @@ fn malformed_at(alloc: Global, place: &[u8], kind: &[u8]) -> Result<Answer, NoMe
     ended(3, text)
 }
 
-/// The answer to a numeral of too many digits.
+/// The answer to a quantity past its limit at a place.
 #[tactic(auto, unfolding(crate::specs::LinePieces::past_limit))]
-fn too_many_digits(alloc: Global, place: &[u8]) -> Result<Answer, NoMemory>
-    ensures { IfOk result (λ answer. answer ≡ past_limit (place.now ++ codes ": digits")) }
+fn limit_at(alloc: Global, place: &[u8], quantity: &[u8]) -> Result<Answer, NoMemory>
+    ensures { IfOk result (λ answer. answer ≡ limit_at place.now quantity.now) }
 {
     let mut text = past_limit(alloc)?;
     text.append(place)?;
-    text.append(b": digits")?;
+    text.append(b": ")?;
+    text.append(quantity)?;
     ended(4, text)
 }
 
@@ -39,7 +40,22 @@ fn number_refusal(alloc: Global, place: &[u8], fault: NumberFault) -> Result<Ans
     match fault {
         NumberFault::Empty | NumberFault::BadByte(_) => malformed_at(alloc, place, b"number"),
         NumberFault::ZeroDenominator => malformed_at(alloc, place, b"zero denominator"),
-        NumberFault::TooManyDigits => too_many_digits(alloc, place),
+        NumberFault::TooManyDigits => limit_at(alloc, place, b"digits"),
+    }
+}
+
+/// The answer to an expression at a place that is refused.
+#[tactic(auto, unfolding(crate::specs::TextRefusal::expression_refusal))]
+fn expression_refusal(alloc: Global, place: &[u8], fault: ExprFault) -> Result<Answer, NoMemory>
+    ensures { IfOk result (λ answer. answer ≡ expression_refusal place.now fault) }
+{
+    match fault {
+        ExprFault::BadByte(_) => malformed_at(alloc, place, b"expression"),
+        ExprFault::DivisorNotNumber => malformed_at(alloc, place, b"divisor"),
+        ExprFault::ZeroDivisor => malformed_at(alloc, place, b"zero divisor"),
+        ExprFault::Degree => limit_at(alloc, place, b"degree"),
+        ExprFault::Part => limit_at(alloc, place, b"part"),
+        ExprFault::Depth => limit_at(alloc, place, b"depth"),
     }
 }
 
@@ -53,7 +69,7 @@ fn at_line(alloc: Global, line: usize) -> Result<List<u8>, NoMemory>
 }
 
 /// The answer to a line of a text, by its number from 1, that can't stand.
-#[tactic(auto, unfolding(crate::specs::TextRefusal::line_refusal, crate::specs::LinePieces::past_limit, crate::specs::LinePieces::malformed_at, crate::specs::TextRefusal::number_refusal))]
+#[tactic(auto, unfolding(crate::specs::TextRefusal::line_refusal, crate::specs::LinePieces::past_limit, crate::specs::LinePieces::malformed_at, crate::specs::TextRefusal::number_refusal, crate::specs::TextRefusal::expression_refusal))]
 pub fn line_refusal(alloc: Global, line: usize, kind: LineKind) -> Result<Answer, NoMemory>
     ensures value { IfOk result (λ answer. answer ≡ line_refusal line kind) }
     ensures low { IfOk result (λ answer. answer.status ≤ 5) }
@@ -66,6 +82,7 @@ pub fn line_refusal(alloc: Global, line: usize, kind: LineKind) -> Result<Answer
         LineKind::WordCount => malformed_at(alloc, place, b"words"),
         LineKind::UnknownName => malformed_at(alloc, place, b"unknown name"),
         LineKind::Number(fault) => number_refusal(alloc, place, fault),
+        LineKind::Expr(fault) => expression_refusal(alloc, place, fault),
     }
 }
 
