@@ -70,9 +70,39 @@ const MERGED: [(&str, &str); 5] = [
     ),
 ];
 
+/// Edges that are expressions, with and without epsilon.
+const EXPRESSIONS: [(&str, &str); 4] = [
+    // Improved gatekeeping. H3 and H4 keep nearly all between them, and give what is left over to H2.
+    (
+        "alpha 0.05\nhypotheses H1 H2 H3 H4\np 0.02 0.04 0.01 0.02\nweights 1/2 1/2 0 0\nedge H1 H3 1/2\nedge H1 H4 1/2\nedge H2 H3 1/2\nedge H2 H4 1/2\nedge H3 H1 \\epsilon\nedge H3 H4 1-\\epsilon\nedge H4 H2 \\epsilon\nedge H4 H3 1 - \\epsilon\n",
+        "alpha 1/20\nstep 1 H1 p 1/50 weight 1/2\nstep 2 H3 p 1/100 weight 1/4\nstep 3 H4 p 1/50 weight 1/2\nstep 4 H2 p 1/25 weight 1\nrejected H1 H2 H3 H4\nend\n",
+    ),
+    // A weight of epsilon rejects nothing.
+    (
+        "alpha 0.05\nhypotheses H1 H2 H3\np 0.01 0.9 0\nweights 1 0 0\nedge H1 H2 1 - \\epsilon\nedge H1 H3 \\epsilon\n",
+        "alpha 1/20\nstep 1 H1 p 1/100 weight 1\nkept H2 p 9/10 weight 1\nkept H3 p 0 weight 0\nrejected H1\nend\n",
+    ),
+    // Without H1, the edge from H2 to H3 is (0 + 1 * epsilon) / (1 - 1 * (1 - epsilon)) = 1.
+    (
+        "alpha 0.05\nhypotheses H1 H2 H3\np 0.01 0.01 0.05\nweights 1 0 0\nedge H1 H2 1-\\epsilon\nedge H1 H3 \\epsilon\nedge H2 H1 1\n",
+        "alpha 1/20\nstep 1 H1 p 1/100 weight 1\nstep 2 H2 p 1/100 weight 1\nstep 3 H3 p 1/20 weight 1\nrejected H1 H2 H3\nend\n",
+    ),
+    // H2 gets half of 1/2.
+    (
+        "alpha 0.05\nhypotheses H1 H2\np 0.025 0.0375\nweights 1/2 1/2\nedge H1 H2 (1 + 1) / 4\n",
+        "alpha 1/20\nstep 1 H1 p 1/40 weight 1/2\nstep 2 H2 p 3/80 weight 3/4\nrejected H1 H2\nend\n",
+    ),
+];
+
 #[test]
 fn known_procedures_are_decided(rt: HostRuntime) -> Result<(), Fail> {
     expect_decided(&rt, rt.alloc(), &PROCEDURES)?;
+    Ok(())
+}
+
+#[test]
+fn edges_may_be_expressions(rt: HostRuntime) -> Result<(), Fail> {
+    expect_decided(&rt, rt.alloc(), &EXPRESSIONS)?;
     Ok(())
 }
 

@@ -669,7 +669,7 @@ const WEIGHTS_AND_P_VALUES: [Row; 25] = [
 ];
 
 /// Edges that no case has, and sums and runs that are too wide.
-const EDGES: [Row; 18] = [
+const EDGES: [Row; 19] = [
     (
         "alpha 0.05\nhypotheses H1 H2\np 0 0\nweights 1 0\nedge H1 H1 1/2\n",
         3,
@@ -752,6 +752,12 @@ const EDGES: [Row; 18] = [
         "alpha 0.05\nhypotheses H1 H2 H3 H4\np 0 0 0 0\nweights 1 0 0 0\nedge H1 H2 1/1000000000000000000\nedge H2 H3 1/999999999999999999\nedge H3 H4 1/999999999999999997\n",
         5,
         "too wide: step 3: component 1 weight of H4 mul\n",
+    ),
+    // The three terms of an edge are added up before the first step.
+    (
+        "alpha 0.05\nhypotheses H1 H2\np 0 0\nweights 1 0\nedge H1 H2 1/1000000000000000000 + 1/999999999999999999*\\epsilon + 1/999999999999999997*\\epsilon^2\n",
+        5,
+        "too wide: step 0: component 1 edge H1 H2 add\n",
     ),
     // The run meets the wide removal only where it comes so far.
     (

@@ -119,7 +119,7 @@ difference_number x y t h k e =
     let c = x.num *ℤ y.den -ℤ y.num *ℤ x.den in
     let some = product_some x.den y.den h k in
     let whole : fraction c (x.den *ℤ y.den) +ε number y ≡ number x = fraction-add c (x.den *ℤ y.den) y.num y.den some (positive_nonzero y.den k)
-        ∙ fraction-equal (c *ℤ y.den +ℤ y.num *ℤ (x.den *ℤ y.den)) ((x.den *ℤ y.den) *ℤ y.den) x.num x.den (product_nonzero (x.den *ℤ y.den) y.den some (positive_nonzero y.den k)) (positive_nonzero x.den h) (difference_cross x.num x.den y.num y.den c (back (x.num *ℤ y.den) (y.num *ℤ x.den))) in
+    ∙ fraction-equal (c *ℤ y.den +ℤ y.num *ℤ (x.den *ℤ y.den)) ((x.den *ℤ y.den) *ℤ y.den) x.num x.den (product_nonzero (x.den *ℤ y.den) y.den some (positive_nonzero y.den k)) (positive_nonzero x.den h) (difference_cross x.num x.den y.num y.den c (back (x.num *ℤ y.den) (y.num *ℤ x.den))) in
     as_value t _ _ (sym ((subtract_equal (number x) (number y) (fraction c (x.den *ℤ y.den))).1 (sym whole))) (short_number _ _ t some e)
 
 sign_some : (z : ℤ) → z ≢ pos 0 → int_sign z ≡ Equal → ⊥
@@ -137,5 +137,5 @@ quotient_number x y t h k some e =
     let z = fraction (x.num *ℤ y.den) (x.den *ℤ y.num) in
     let cross : ((x.num *ℤ y.den) *ℤ y.num) *ℤ x.den ≡ x.num *ℤ ((x.den *ℤ y.num) *ℤ y.den) = simp ring in
     let whole : z *ε number y ≡ number x = fraction-multiply (x.num *ℤ y.den) (x.den *ℤ y.num) y.num y.den under (positive_nonzero y.den k)
-        ∙ fraction-equal ((x.num *ℤ y.den) *ℤ y.num) ((x.den *ℤ y.num) *ℤ y.den) x.num x.den (product_nonzero (x.den *ℤ y.num) y.den under (positive_nonzero y.den k)) (positive_nonzero x.den h) cross in
+    ∙ fraction-equal ((x.num *ℤ y.den) *ℤ y.num) ((x.den *ℤ y.num) *ℤ y.den) x.num x.den (product_nonzero (x.den *ℤ y.num) y.den under (positive_nonzero y.den k)) (positive_nonzero x.den h) cross in
     as_value t _ _ (sym (divide_unique (number x) (number y) z (number_some y.num y.den some (positive_nonzero y.den k)) whole)) (short_number _ _ t under e)
