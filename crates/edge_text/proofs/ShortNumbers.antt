@@ -1,5 +1,5 @@
 -- The numbers that short fractions are.
-use Rattle.std.proofs.Common.{◌≡◌, ◌≢◌, ℕ, zero, suc, ◌*◌, ◌/◌, ◌<◌, Bool, true, false, cond, ℤ, pos, negsuc, neg_ℤ, ◌+ℤ◌, ◌-ℤ◌, ◌*ℤ◌, ◌<ℤ◌, unsigned_abs, Result, Ok, Err, refl, sym, ap, ap₂, subst, ◌∙◌, arith}
+use Rattle.std.proofs.Common.{◌≡◌, ◌≢◌, ℕ, zero, suc, ◌*◌, ◌/◌, ◌<◌, Bool, true, false, cond, ℤ, pos, negsuc, neg_ℤ, ◌+ℤ◌, ◌-ℤ◌, ◌*ℤ◌, ◌<ℤ◌, Ok, Err, refl, sym, ap, subst, ◌∙◌, arith}
 use Rattle.std.specs.declared.cmp.Ordering.TheVariants.{Equal}
 use Rattle.std.specs.Int.{is_negative}
 use Rattle.std.proofs.lemmas.Bool.{le-ltb}
@@ -19,11 +19,10 @@ use Rattle.field_core.specs.Laws.Effective.{positive_nonzero}
 use Rattle.field_core.proofs.Divisors.{gcd_is}
 use Rattle.field_core.proofs.IntegerRing.{ring}
 use Rattle.fraction.specs.Laws.ExactTerms.{neg_times}
-use Rattle.fraction.specs.Lowest.{lowest_of, lowest_terms, differ}
+use Rattle.fraction.specs.Lowest.{lowest_of, lowest_terms}
 use Rattle.fraction.proofs.LowestTerms.{divided}
 use Rattle.case_model.specs.Draft.{is_short}
 use Rattle.case_model.specs.Sums.{number}
-use Rattle.edge_text.specs.declared.expr_fault.ExprFault.{ExprFault}
 use Rattle.edge_text.specs.declared.expr_fault.ExprFault.TheVariants.{Part}
 use Rattle.edge_text.specs.EntryValues.{short_of, short, sum, difference, product, quotient}
 use Rattle.edge_text.proofs.LowestTerms.{lowest_pos, lowest_neg, divided_cross}
@@ -119,7 +118,7 @@ difference_number x y t h k e =
     let c = x.num *ℤ y.den -ℤ y.num *ℤ x.den in
     let some = product_some x.den y.den h k in
     let whole : fraction c (x.den *ℤ y.den) +ε number y ≡ number x = fraction-add c (x.den *ℤ y.den) y.num y.den some (positive_nonzero y.den k)
-        ∙ fraction-equal (c *ℤ y.den +ℤ y.num *ℤ (x.den *ℤ y.den)) ((x.den *ℤ y.den) *ℤ y.den) x.num x.den (product_nonzero (x.den *ℤ y.den) y.den some (positive_nonzero y.den k)) (positive_nonzero x.den h) (difference_cross x.num x.den y.num y.den c (back (x.num *ℤ y.den) (y.num *ℤ x.den))) in
+    ∙ fraction-equal (c *ℤ y.den +ℤ y.num *ℤ (x.den *ℤ y.den)) ((x.den *ℤ y.den) *ℤ y.den) x.num x.den (product_nonzero (x.den *ℤ y.den) y.den some (positive_nonzero y.den k)) (positive_nonzero x.den h) (difference_cross x.num x.den y.num y.den c (back (x.num *ℤ y.den) (y.num *ℤ x.den))) in
     as_value t _ _ (sym ((subtract_equal (number x) (number y) (fraction c (x.den *ℤ y.den))).1 (sym whole))) (short_number _ _ t some e)
 
 sign_some : (z : ℤ) → z ≢ pos 0 → int_sign z ≡ Equal → ⊥
@@ -137,5 +136,5 @@ quotient_number x y t h k some e =
     let z = fraction (x.num *ℤ y.den) (x.den *ℤ y.num) in
     let cross : ((x.num *ℤ y.den) *ℤ y.num) *ℤ x.den ≡ x.num *ℤ ((x.den *ℤ y.num) *ℤ y.den) = simp ring in
     let whole : z *ε number y ≡ number x = fraction-multiply (x.num *ℤ y.den) (x.den *ℤ y.num) y.num y.den under (positive_nonzero y.den k)
-        ∙ fraction-equal ((x.num *ℤ y.den) *ℤ y.num) ((x.den *ℤ y.num) *ℤ y.den) x.num x.den (product_nonzero (x.den *ℤ y.num) y.den under (positive_nonzero y.den k)) (positive_nonzero x.den h) cross in
+    ∙ fraction-equal ((x.num *ℤ y.den) *ℤ y.num) ((x.den *ℤ y.num) *ℤ y.den) x.num x.den (product_nonzero (x.den *ℤ y.num) y.den under (positive_nonzero y.den k)) (positive_nonzero x.den h) cross in
     as_value t _ _ (sym (divide_unique (number x) (number y) z (number_some y.num y.den some (positive_nonzero y.den k)) whole)) (short_number _ _ t under e)
