@@ -1,15 +1,13 @@
 -- An entry is the number that its expression means.
-use Rattle.std.proofs.Common.{◌≡◌, ◌≢◌, ℕ, zero, suc, ◌+◌, ◌-◌, ◌<◌, ◌≤◌, ◌⊎◌, inl, inr, Bool, true, false, cond, List, [], ◌∷◌, ℤ, pos, negsuc, ◌<ℤ◌, Option, Some, None, Result, Ok, Err, refl, sym, ap, ap₂, subst, ◌∙◌, arith}
+use Rattle.std.proofs.Common.{◌≡◌, ◌≢◌, ℕ, zero, suc, ◌+◌, ◌-◌, ◌<◌, ◌≤◌, inl, inr, Bool, true, false, cond, List, [], ◌∷◌, ℤ, pos, negsuc, ◌<ℤ◌, Option, Some, None, Result, Ok, Err, refl, sym, ap, ap₂, subst, ◌∙◌, arith}
 use Rattle.std.specs.Prelude.{nat_lt}
 use Rattle.std.proofs.lemmas.Bool.{ltb-false, cases_lt}
 use Rattle.std.proofs.lemmas.Int.{ints}
 use Rattle.field_core.specs.Terms.{Terms}
 use Rattle.field_core.specs.Kind.{is_zero_integer}
 use Rattle.field_core.specs.Number.{Number as Value}
-use Rattle.field_core.specs.NumberField.{number_field}
-use Rattle.field_core.specs.Sums.{sum_below}
 use Rattle.field_core.specs.Epsilon.{epsilon}
-use Rattle.field_core.specs.Arithmetic.{number_zero, number_one, number_negate, number_invert, ◌+ε◌, ◌-ε◌, ◌*ε◌, ◌/ε◌}
+use Rattle.field_core.specs.Arithmetic.{number_zero, number_one, ◌+ε◌, ◌-ε◌, ◌*ε◌, ◌/ε◌}
 use Rattle.field_core.specs.Exact.{value_of as stored_value}
 use Rattle.field_core.specs.Fractions.{fraction}
 use Rattle.field_core.specs.Laws.FractionLaws.{fraction-zero}
@@ -26,7 +24,7 @@ use Rattle.edge_text.specs.Grammar.{plain_entry}
 use Rattle.edge_text.specs.Expressions.{Decimal, Power, Sign, Plus, Minus, Expression, Sum, MoreTerms, NoTerm, AndTerm, Term, Product, MoreFactors, NoFactor, Times, Over, Beside, Factor, Number, Other, Further, Epsilon, Parens}
 use Rattle.edge_text.specs.EntryValues.{◌>>=◌, short, sum, difference, product, quotient, coefficients, joined, degree_within, degree, product_sum, times, over, has_too_many_digits, decimal_value, unit_at, power_value, epsilon_value, sign_or_plus, value, with_terms, term_value, with_factors, factor_value, further_value}
 use Rattle.edge_text.specs.ExpressionStatements.{moved, power_meant, meaning, and_terms, term_meaning, and_factors, factor_meaning, further_meaning}
-use Rattle.edge_text.proofs.UnitEntries.{tabled, at_tabled}
+use Rattle.edge_text.proofs.UnitEntries.{tabled}
 use Rattle.edge_text.proofs.ShortNumbers.{IsNumber, short_number, sum_number, product_number, difference_number, quotient_number}
 use Rattle.edge_text.proofs.DecimalValues.{IsOver, body_over}
 
@@ -257,8 +255,8 @@ all_of x y p q d =
     let k = number_at y 4 in
     let low = low_products a b c e f g h i j k epsilon in
     let none : past a b c e f g h i j k epsilon ≡ number_zero = past_none a b c e f g h i j k epsilon (pair_none x y 1 4 p q d (omega arith) (omega arith) (omega arith)) (pair_none x y 2 3 p q d (omega arith) (omega arith) (omega arith)) (pair_none x y 2 4 p q d (omega arith) (omega arith) (omega arith))
-        (pair_none x y 3 2 p q d (omega arith) (omega arith) (omega arith)) (pair_none x y 3 3 p q d (omega arith) (omega arith) (omega arith)) (pair_none x y 3 4 p q d (omega arith) (omega arith) (omega arith))
-        (pair_none x y 4 1 p q d (omega arith) (omega arith) (omega arith)) (pair_none x y 4 2 p q d (omega arith) (omega arith) (omega arith)) (pair_none x y 4 3 p q d (omega arith) (omega arith) (omega arith)) (pair_none x y 4 4 p q d (omega arith) (omega arith) (omega arith)) in
+    (pair_none x y 3 2 p q d (omega arith) (omega arith) (omega arith)) (pair_none x y 3 3 p q d (omega arith) (omega arith) (omega arith)) (pair_none x y 3 4 p q d (omega arith) (omega arith) (omega arith))
+    (pair_none x y 4 1 p q d (omega arith) (omega arith) (omega arith)) (pair_none x y 4 2 p q d (omega arith) (omega arith) (omega arith)) (pair_none x y 4 3 p q d (omega arith) (omega arith) (omega arith)) (pair_none x y 4 4 p q d (omega arith) (omega arith) (omega arith)) in
     all_are_low (number_at x) (number_at y) epsilon ∙ sym (ap (λ v. low +ε v) none ∙ add_none low) ∙ product_of a b c e f g h i j k epsilon ∙ ap₂ (λ v w. v *ε w) (sym (value_by_powers x)) (sym (value_by_powers y))
 
 low_degree : (b : Bool) (n : ℕ) (r : Result (List Terms) ExprFault) (z : List Terms) → nat_lt 4 n ≡ b → cond b (Err Degree) r ≡ Ok z → (n ≤ 4) × (r ≡ Ok z)
@@ -365,6 +363,7 @@ epsilon_meaning (Some power) x h = power_meaning power.power x h
 
 mutual
   unfolding value meaning
+
   expression_meant : (e : Expression) (x : List Terms) → value e ≡ Ok x → IsMeant x (meaning e)
   expression_meant (Sum sign first others) x h =
       let t = bind_ok (term_value first) _ x h in
