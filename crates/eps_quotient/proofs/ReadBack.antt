@@ -5,7 +5,7 @@ use Rattle.std.specs.Fmt.{decimal, signed_decimal}
 use Rattle.std.specs.List.{list_all}
 use Rattle.std.specs.Ordering.{int_eq}
 use Rattle.std.specs.Str.Parse.{AllDigits}
-use Rattle.std.proofs.lemmas.Bool.{cases_lt, eqb-true}
+use Rattle.std.proofs.lemmas.Bool.{and_parts, cases_lt, eqb-true}
 use Rattle.std.proofs.lemmas.Bool.Decides.{nat_tests, Decides-int_eq}
 use Rattle.std.proofs.lemmas.Fmt.{decimal_is_IsNumeral_wide}
 use Rattle.std.proofs.lemmas.Str.Parse.{digit_from_value}
@@ -122,10 +122,6 @@ constants_text : (x : Parts) → ((degree x.numerator == 0) && (degree x.denomin
 unfolding quotient_text
 constants_text x e = rw e refl
 
-both : (s t : Bool) → (s && t) ≡ true → (s ≡ true) × (t ≡ true)
-both true t e = (refl, e)
-both false t e = absurd (cc)
-
 constants_back : (x : Parts) → IsQuotient x → degree x.numerator ≡ 0 → degree x.denominator ≡ 0 → (t : Bool) → int_eq (coefficient x.denominator 0) (pos 1) ≡ t
     → quotient_text x ≡ (if t then signed_decimal (coefficient x.numerator 0) else signed_decimal (coefficient x.numerator 0) ++ 47 ∷ signed_decimal (coefficient x.denominator 0))
     → IsQuotientText (quotient_text x) x.numerator x.denominator
@@ -160,7 +156,7 @@ constants_back x s e f false h text =
 
 text_back : (x : Parts) → IsQuotient x → (t : Bool) → ((degree x.numerator == 0) && (degree x.denominator == 0)) ≡ t → IsQuotientText (quotient_text x) x.numerator x.denominator
 text_back x s true h =
-    let b = both (degree x.numerator == 0) (degree x.denominator == 0) h in
+    let b = and_parts (degree x.numerator == 0) (degree x.denominator == 0) h in
     constants_back x s (eqb-true (degree x.numerator) 0 b.0) (eqb-true (degree x.denominator) 0 b.1) (int_eq (coefficient x.denominator 0) (pos 1)) refl (constants_text x h)
 text_back x s false h = record {
   polynomials = inr (record {

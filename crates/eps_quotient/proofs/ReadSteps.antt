@@ -1,5 +1,6 @@
 -- Digits and words, one after the other.
-use Rattle.std.proofs.Common.{◌≡◌, ℕ, zero, suc, ◌+◌, ◌-◌, ◌*◌, ◌<◌, ◌≤◌, ◌==◌, ◌&&◌, nat_le, min, Bool, true, false, if◌then◌else◌, List, [], ◌∷◌, ◌++◌, length, take, get_or, set, refl, ◌∙◌, ap, arith, ℤ, Some, None}
+use Rattle.std.proofs.lemmas.Bool.{and_parts}
+use Rattle.std.proofs.Common.{◌≡◌, ℕ, zero, suc, ◌+◌, ◌-◌, ◌*◌, ◌<◌, ◌≤◌, ◌==◌, nat_le, min, Bool, true, false, if◌then◌else◌, List, [], ◌∷◌, ◌++◌, length, take, get_or, set, refl, ◌∙◌, ap, arith, ℤ, Some, None}
 use Rattle.std.specs.Char.{is_ascii_digit, digit_value}
 use Rattle.std.specs.List.{All, list_all, slice_split}
 use Rattle.std.specs.Str.Parse.{digits_value}
@@ -16,14 +17,10 @@ digit_bounds b h =
     let high : b ≤ 57 = grind (arith, nat_tests) in
     (low, high)
 
-both : (s t : Bool) → (s && t) ≡ true → (s ≡ true) × (t ≡ true)
-both true t e = (refl, e)
-both false t e = absurd (cc)
-
 pub digit_at : (ds : List ℕ) (i : ℕ) → list_all is_ascii_digit ds ≡ true → i < length ds → (48 ≤ get_or ds i 0) × (get_or ds i 0 ≤ 57)
 digit_at [] i h l = absurd (omega arith)
-digit_at (d ∷ ds) zero h l = digit_bounds d (both (is_ascii_digit d) (list_all is_ascii_digit ds) h).0
-digit_at (d ∷ ds) (suc i) h l = digit_at ds i (both (is_ascii_digit d) (list_all is_ascii_digit ds) h).1 (omega arith)
+digit_at (d ∷ ds) zero h l = digit_bounds d (and_parts (is_ascii_digit d) (list_all is_ascii_digit ds) h).0
+digit_at (d ∷ ds) (suc i) h l = digit_at ds i (and_parts (is_ascii_digit d) (list_all is_ascii_digit ds) h).1 (omega arith)
 
 digit_is : (b : ℕ) → 48 ≤ b → b ≤ 57 → digit_value b ≡ b - 48
 digit_is b h k = grind (arith, nat_tests)
@@ -38,9 +35,6 @@ size_more ds i size next most are l e f =
     omega arith
 
 -- ---- words
-
-is_comma : ℕ → Bool
-is_comma b = b == 44
 
 pub last_word : (text : List ℕ) → All (λ b. (b == 44) ≡ false) text → slice_split (λ b. b == 44) text ≡ text ∷ []
 last_word text free = slice_split_none (λ b. b == 44) text free

@@ -1,5 +1,5 @@
 -- The only pair that a text gives.
-use Rattle.std.proofs.Common.{◌≡◌, ◌≢◌, ℕ, ◌∷◌, ◌++◌, [], List, sym, ◌∙◌, ap, ap₂, subst, ℤ, pos, Option, Some, None, inl, inr}
+use Rattle.std.proofs.Common.{◌≡◌, ℕ, ◌∷◌, ◌++◌, [], List, sym, ◌∙◌, ap, ap₂, subst, ℤ, pos, Option, Some, None, inl, inr}
 use Rattle.field_core.specs.Kind.{Parts}
 use Rattle.eps_poly.specs.Polynomials.{monomial}
 use Rattle.eps_quotient.specs.Lowering.{one_polynomial}
@@ -21,9 +21,6 @@ pub none_or_some : {A : Type 0} (x : A) → None ≡ Some x → ⊥
 none_or_some x e = cc
 
 -- ---- a list
-
-pub list_none : (text : List ℕ) → ((inner : List ℕ) → text ≢ 91 ∷ inner ++ 93 ∷ []) → IsOnly (IsList text) None
-list_none text h = only_none (IsList text) (λ p is. h _ is.spelt)
 
 pub list_reads : (text inner : List ℕ) (found : Option (List ℤ)) → text ≡ 91 ∷ inner ++ 93 ∷ [] → found ≡ polynomial_of inner → IsOnly (IsList text) found
 list_reads text inner found e f = reads found f

@@ -18,9 +18,6 @@ at_refusal (Err e) P h = h
 
 -- ---- beginnings
 
-pub front_none : (old text new : List ℕ) → new ≡ old → HoldsFront old text new
-front_none old text new e = ([], text, refl, e ∙ sym (append-nil old))
-
 -- a beginning of what stands behind a part that is there
 pub front_behind : (old mid new first text all rest : List ℕ) → mid ≡ old ++ first → HoldsFront mid text new → all ≡ first ++ (text ++ rest) → HoldsFront old all new
 front_behind old mid new first text all rest e f g = (

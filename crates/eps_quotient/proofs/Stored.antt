@@ -13,9 +13,6 @@ use Rattle.eps_quotient.specs.Laws.QuotientLaws.{same_sym, same_nonzero}
 pub stored_same : (x y : Parts) → x ≡ y → IsQuotient y → IsQuotient x
 stored_same x y e s = subst IsQuotient (sym e) s
 
-pub some_same : (x y : Parts) → x ≡ y → IsNonZero y.denominator → IsNonZero x.denominator
-some_same x y e h z = h (ap (λ p. lowest p.denominator) (sym e) ∙ z)
-
 pub parts_same : (n d m e : List ℤ) → n ≡ m → d ≡ e → Path Parts (record { numerator = n; denominator = d }) (record { numerator = m; denominator = e })
 parts_same n d m e f g = ap₂ (λ n d. record { numerator = n; denominator = d }) f g
 

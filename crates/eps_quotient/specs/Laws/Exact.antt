@@ -1,5 +1,6 @@
 -- The kind of the quotients is exact.
-use Rattle.std.proofs.Common.{◌≡◌, Bool, true, false, ◌||◌, ◌&&◌, List, refl, sym, ◌∙◌, ap, ap₂, subst, arith, inl, inr, ◌⊎◌, ◌*ℤ◌, ◌<ℤ◌, ℤ, pos, Result, Ok, Err, IfOk}
+use Rattle.std.proofs.lemmas.Bool.{and_parts}
+use Rattle.std.proofs.Common.{◌≡◌, Bool, true, false, ◌||◌, List, refl, sym, ◌∙◌, ap, ap₂, subst, arith, inl, inr, ◌⊎◌, ◌*ℤ◌, ◌<ℤ◌, ℤ, pos, Result, Ok, Err, IfOk}
 use Rattle.std.specs.Int.{is_negative}
 use Rattle.std.proofs.lemmas.Int.{ints}
 use Rattle.std.proofs.Math.IntN.{zero-*ℤ}
@@ -39,10 +40,6 @@ use Rattle.eps_quotient.specs.Laws.Cuts.{one_core}
 use Rattle.eps_quotient.specs.Laws.NormLaws.{IsStoredOf, norm_is, upright, lowest_one, negated_none, content-negate, core-negate}
 
 -- ---- tests
-
-both : (s t : Bool) → (s && t) ≡ true → (s ≡ true) × (t ≡ true)
-both true t e = (refl, e)
-both false t e = absurd (cc)
 
 either : (s t : Bool) → (s || t) ≡ true → (s ≡ true) ⊎ (t ≡ true)
 either true t e = inl refl
@@ -142,7 +139,7 @@ one_stored = record {
 one_is_one : (x : Parts) → is_one x ≡ true → value_of x ≡ number_one
 unfolding is_one value_of
 one_is_one x e =
-    let b = both (is_same x.numerator one_polynomial) (is_same x.denominator one_polynomial) e in
+    let b = and_parts (is_same x.numerator one_polynomial) (is_same x.denominator one_polynomial) e in
     ap₂ quotient (same_from x.numerator one_polynomial b.0) (same_from x.denominator one_polynomial b.1) ∙ one_value one_polynomial one_some
 
 zero_product : (x y : Parts) → IsQuotient x → IsQuotient y → (is_zero x || is_zero y) ≡ true → number_zero ≡ value_of x *ε value_of y

@@ -26,9 +26,6 @@ same_nonzero p q s h e = h (lowest-same p q s ∙ e)
 pub multiply-same : (p q r s : List ℤ) → Same p q → Same r s → Same (poly_multiply p r) (poly_multiply q s)
 multiply-same p q r s h g = same_in _ _ (value-multiply p r ∙ ap₂ ring.multiply (same_out _ _ h) (same_out _ _ g) ∙ sym (value-multiply q s))
 
-pub add-same : (p q r s : List ℤ) → Same p q → Same r s → Same (poly_add p r) (poly_add q s)
-add-same p q r s h g = same_in _ _ (value-add p r ∙ ap₂ ring.add (same_out _ _ h) (same_out _ _ g) ∙ sym (value-add q s))
-
 pub multiply-one : (p : List ℤ) → Same (poly_multiply p (pos 1 ∷ [])) p
 multiply-one p = same_in _ _ (value-multiply p (pos 1 ∷ []) ∙ ap (ring.multiply (value p)) value-one ∙ ring.multiply_one (value p))
 

@@ -1,4 +1,4 @@
-use Rattle.std.proofs.Common.{◌≡◌, ◌∙◌, sym, ap, false}
+use Rattle.std.proofs.Common.{◌∙◌, sym}
 use Rattle.eps_quotient.specs.View.{quotient_parts}
 use Rattle.eps_quotient.proofs.Units.{unit_by_tests}
 use Rattle.eps_quotient.proofs.tests.limit.Goals as goal
