@@ -29,7 +29,6 @@ fn case_of(rt: &impl Abort, alloc: Global, text: &str) -> Case {
 }
 
 fn opened(rt: &impl Abort, alloc: Global, case: &Case) -> Trial {
-    assert!(rt; case.is_plain());
     assert!(rt; is_single(case));
     match Trial::open(alloc, case) {
         Ok(trial) => trial,
@@ -38,7 +37,6 @@ fn opened(rt: &impl Abort, alloc: Global, case: &Case) -> Trial {
 }
 
 fn decided(rt: &impl Abort, alloc: Global, case: &Case, priority: Priority) -> Decision {
-    assert!(rt; case.is_plain());
     assert!(rt; is_single(case));
     match decide(alloc, case, priority) {
         Ok(decision) => decision,

@@ -1,14 +1,12 @@
 -- The outcomes of a case and of its bytes, answer by answer.
-use Rattle.std.proofs.Common.{◌≡◌, sym, ap, ◌∙◌, subst, ℕ, ◌<◌, ◌≤◌, List, length, Some, None, true, Result, Ok, Err}
+use Rattle.std.proofs.Common.{◌≡◌, sym, ap, ◌∙◌, subst, ℕ, ◌<◌, ◌≤◌, List, length, Some, None, Result, Ok, Err}
 use Rattle.std.specs.Prelude.{IfOk, IfSome}
 use Rattle.std.specs.declared.option.Option.{Option}
 use Rattle.field_core.specs.declared.memory.NoMemory.{NoMemory}
-use Rattle.case_model.specs.Content.{is_plain}
 use Rattle.case_model.specs.CaseView.{content}
 use Rattle.case_model.specs.declared.case.Case.{Case}
 use Rattle.case_model.specs.declared.fault.Refused.{Refused}
 use Rattle.edge_text.specs.Reading.{IsCaseOf, IsRefusedText}
-use Rattle.edge_text.proofs.PlainTexts.{plain_texts}
 use Rattle.graph_cli.specs.declared.answer.Answer.{Answer}
 use Rattle.graph_cli.specs.CaseRefusal.{case_refusal}
 use Rattle.graph_cli.specs.TextRefusal.{bytes_refusal}
@@ -18,10 +16,6 @@ use Rattle.graph_cli.specs.Outcome.{IsCaseOutcome, IsTestOutcome, too_long, refu
 pub answered : {A : Type 0} (Outcome : A → Type 0) (a : A) (result : Result A NoMemory) → IfOk result (λ answer. answer ≡ a) → Outcome a → IfOk result Outcome
 answered Outcome a (Ok x) h o = subst Outcome (sym h) o
 answered Outcome a (Err e) h o = tt
-
--- a case that a text says is plain
-pub plain_case : (bytes : List ℕ) (case : Case) → IsCaseOf bytes case → is_plain (content case) ≡ true
-plain_case bytes case h = ap is_plain h.content_is ∙ plain_texts bytes h.draft h.says
 
 -- the answer to a case that a text says
 pub accepted_of : (bytes : List ℕ) (case : Case) (result : Result Answer NoMemory) → length bytes ≤ 4194304 → IsCaseOf bytes case → IfOk result (IsCaseOutcome (content case)) → IfOk result (IsTestOutcome bytes)

@@ -1,8 +1,7 @@
-ghost use Rattle.std.specs.Prelude.{◌≡◌, ◌≤◌, ◌<◌, ◌↔◌, true, IsTrue, IfOk, OnOk, IfErr, IfSome, map, string_bytes, length};
+ghost use Rattle.std.specs.Prelude.{◌≡◌, ◌≤◌, ◌<◌, ◌↔◌, IsTrue, IfOk, OnOk, IfErr, IfSome, map, string_bytes, length};
 ghost use Rattle.std.specs.Io.KnownBytes.{IsAtEnd};
 ghost use Rattle.graph_io.specs.Causes.{Rose};
 ghost use Rattle.case_model.specs.CaseView.{content};
-ghost use Rattle.case_model.specs.Content.{is_plain};
 ghost use Rattle.sequential.specs.TrialAnswers.{IsSingle};
 ghost use Rattle.graph_cli.specs.Outcome.{IsCaseOutcome, IsTestOutcome, IsOutcome, ReadsCase};
 ghost use Rattle.graph_cli.specs.Run.{Runs, StopsFor, Finished, read_fault, no_memory};
@@ -35,8 +34,7 @@ fn is_single(case: &Case) -> bool
 
 /// What is decided of a case with p-values.
 fn decision_answer(alloc: Global, case: &Case) -> Result<Answer, NoMemory>
-    requires plain { is_plain (content case.now) ≡ true }
-    requires single { IsSingle (content case.now).inputs }
+    requires { IsSingle (content case.now).inputs }
     ensures value { IfOk result (IsCaseOutcome (content case.now)) }
     ensures low { IfOk result (λ answer. answer.status ≤ 5) }
 {
@@ -54,7 +52,6 @@ fn decision_answer(alloc: Global, case: &Case) -> Result<Answer, NoMemory>
 
 /// The answer to a case.
 fn case_answer(alloc: Global, case: &Case) -> Result<Answer, NoMemory>
-    requires { is_plain (content case.now) ≡ true }
     ensures value { IfOk result (IsCaseOutcome (content case.now)) }
     ensures low { IfOk result (λ answer. answer.status ≤ 5) }
 {

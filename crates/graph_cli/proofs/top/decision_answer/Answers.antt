@@ -16,4 +16,4 @@ pub returns-in_ok-test_text-in-Ok-clause-value : goal.returns-in_ok-test_text-in
 returns-in_ok-test_text-in-Ok-clause-value c = rw c.in_ok-test_text-in-Ok.ensures (decided (decision c.in-Ok.decision) c.in-Ok.ensures.defined c.in-Ok.ensures.value)
 
 pub returns-in-Err-Wide-clause-value : goal.returns-in-Err-Wide-clause-value
-returns-in-Err-Wide-clause-value c = answered (IsCaseOutcome (content c.args.case.now)) _ c.wide_refusal.result c.wide_refusal.ensures.value (rw c.names.ensures (too_wide c.requires.single _ _ (rw c.in-Err-Wide.field-0-is at c.in-Err-Wide.ensures.fault)))
+returns-in-Err-Wide-clause-value c = answered (IsCaseOutcome (content c.args.case.now)) _ c.wide_refusal.result c.wide_refusal.ensures.value (rw c.names.ensures (too_wide c.requires _ _ (rw c.in-Err-Wide.field-0-is at c.in-Err-Wide.ensures.fault)))

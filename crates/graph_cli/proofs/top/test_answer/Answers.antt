@@ -1,10 +1,7 @@
 use Rattle.edge_text.specs.Reading.{IsTextFault}
 use Rattle.graph_cli.specs.Outcome.{IsTestOutcome, bad_line}
-use Rattle.graph_cli.proofs.Outcomes.{answered, plain_case, accepted_of, refused_of}
+use Rattle.graph_cli.proofs.Outcomes.{answered, accepted_of, refused_of}
 use Rattle.graph_cli.proofs.top.test_answer.Goals as goal
-
-pub case_answer-requires : goal.case_answer-requires
-case_answer-requires c = plain_case c.args.bytes.now c.in-Ok.case c.in-Ok.ensures.case
 
 pub returns-in-Ok-clause-value : goal.returns-in-Ok-clause-value
 returns-in-Ok-clause-value c = accepted_of c.args.bytes.now c.in-Ok.case c.case_answer.result c.requires c.in-Ok.ensures.case c.case_answer.ensures.value
