@@ -40,7 +40,7 @@ over_by : (n : ℕ) (s : ℤ) → IsOver (over_power (pos n) s)
 over_by n (pos s) = record { over = n; under = 10 ^ s; some = power_some s; is = refl }
 over_by n (negsuc s) = record { over = n * 10 ^ suc s; under = 1; some = omega arith; is = refl }
 
-body_over : (body : Body) → ¬ IsPair body → IsOver (value_of None body)
+pub body_over : (body : Body) → ¬ IsPair body → IsOver (value_of None body)
 unfolding value_of
 body_over (Plain whole e) n = over_by (digits_value 10 whole) (pos 0 -ℤ exponent_of e)
 body_over (Pointed whole fraction e) n = over_by (digits_value 10 (whole ++ fraction)) (pos (length fraction) -ℤ exponent_of e)

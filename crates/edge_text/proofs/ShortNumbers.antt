@@ -1,5 +1,5 @@
 -- The numbers that short fractions are.
-use Rattle.std.proofs.Common.{◌≡◌, ◌≢◌, ℕ, zero, suc, ◌*◌, ◌/◌, ◌<◌, Bool, true, false, cond, ℤ, pos, negsuc, neg_ℤ, ◌+ℤ◌, ◌-ℤ◌, ◌*ℤ◌, ◌<ℤ◌, unsigned_abs, Result, Ok, Err, refl, sym, ap, ap₂, subst, ◌∙◌, arith}
+use Rattle.std.proofs.Common.{◌≡◌, ◌≢◌, ℕ, zero, suc, ◌*◌, ◌/◌, ◌<◌, Bool, true, false, cond, ℤ, pos, negsuc, neg_ℤ, ◌+ℤ◌, ◌-ℤ◌, ◌*ℤ◌, ◌<ℤ◌, Ok, Err, refl, sym, ap, subst, ◌∙◌, arith}
 use Rattle.std.specs.declared.cmp.Ordering.TheVariants.{Equal}
 use Rattle.std.specs.Int.{is_negative}
 use Rattle.std.proofs.lemmas.Bool.{le-ltb}
@@ -19,11 +19,10 @@ use Rattle.field_core.specs.Laws.Effective.{positive_nonzero}
 use Rattle.field_core.proofs.Divisors.{gcd_is}
 use Rattle.field_core.proofs.IntegerRing.{ring}
 use Rattle.fraction.specs.Laws.ExactTerms.{neg_times}
-use Rattle.fraction.specs.Lowest.{lowest_of, lowest_terms, differ}
+use Rattle.fraction.specs.Lowest.{lowest_of, lowest_terms}
 use Rattle.fraction.proofs.LowestTerms.{divided}
 use Rattle.case_model.specs.Draft.{is_short}
 use Rattle.case_model.specs.Sums.{number}
-use Rattle.edge_text.specs.declared.expr_fault.ExprFault.{ExprFault}
 use Rattle.edge_text.specs.declared.expr_fault.ExprFault.TheVariants.{Part}
 use Rattle.edge_text.specs.EntryValues.{short_of, short, sum, difference, product, quotient}
 use Rattle.edge_text.proofs.LowestTerms.{lowest_pos, lowest_neg, divided_cross}

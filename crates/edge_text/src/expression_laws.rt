@@ -1,5 +1,12 @@
-//! Laws of edge expressions and of the texts of entries.
-ghost use Rattle.edge_text.specs.ExpressionStatements.{DecimalsHaveTheLimitOfNumerals, EntryTextsReadBack};
+//! Laws of edge expressions: what they mean, and that the texts of entries are expressions of these entries.
+ghost use Rattle.edge_text.specs.ExpressionStatements.{EntriesAreMeant, DecimalsHaveTheLimitOfNumerals, EntryTextsReadBack};
+
+/// An entry is the number that its expression means: the sum, the product and the quotient of numbers and of powers of
+/// epsilon.
+#[tactic(auto, using(crate::proofs::EntryMeanings::entry_is_meant))]
+pub fn entries_are_meant()
+    ensures { EntriesAreMeant }
+{}
 
 /// The limit of a decimal's digits is that of numerals.
 #[tactic(auto, using(crate::proofs::DecimalLimits::decides_too_many))]

@@ -20,7 +20,6 @@ mod rules;
 mod scan;
 mod short;
 mod short_arithmetic;
-pub mod tmp_laws;
 mod words;
 
 pub use expr_fault::ExprFault;
