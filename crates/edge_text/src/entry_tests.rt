@@ -24,21 +24,27 @@ fn coefficients(entry: &Entry) -> [Parts; 5] {
     ]
 }
 
+/// The coefficients of the entry that a text is read as.
+fn reading(text: &[u8]) -> Result<[Parts; 5], ExprFault> {
+    match read_entry(text) {
+        Ok(entry) => Ok(coefficients(&entry)),
+        Err(fault) => Err(fault),
+    }
+}
+
 /// The text is an expression of these coefficients, of which those past the last are 0.
 fn expect_entry(rt: &impl Abort, text: &str, expected: &[Parts]) {
     let mut all = [(0, 1); 5];
     for (power, coefficient) in expected.iter().enumerate().take(5) {
         all[power] = *coefficient;
     }
-    let found = read_entry(text.as_bytes()).map(|entry| coefficients(&entry));
-    assert_eq!(rt; found, Ok(all), "{text}");
+    assert_eq!(rt; reading(text.as_bytes()), Ok(all), "{text}");
 }
 
 /// Each text has this fault.
 fn expect_faults(rt: &impl Abort, texts: &[&str], fault: ExprFault) {
     for text in texts {
-        let found = read_entry(text.as_bytes()).map(|entry| coefficients(&entry));
-        assert_eq!(rt; found, Err(fault), "{text}");
+        assert_eq!(rt; reading(text.as_bytes()), Err(fault), "{text}");
     }
 }
 
@@ -202,17 +208,14 @@ fn nested(rt: &impl Abort, alloc: Global, depth: usize, inner: &str) -> List<u8>
 fn parentheses_nest_32_deep(rt: HostRuntime) {
     let alloc = rt.alloc();
     let deep = nested(&rt, alloc, 32, "1/2");
-    let found = read_entry(deep.as_slice()).map(|entry| coefficients(&entry)[0]);
-    assert_eq!(&rt; found, Ok((1, 2)));
+    let half = [(1, 2), (0, 1), (0, 1), (0, 1), (0, 1)];
+    assert_eq!(&rt; reading(deep.as_slice()), Ok(half));
     let deeper = nested(&rt, alloc, 33, "1/2");
-    let found = read_entry(deeper.as_slice()).map(|entry| coefficients(&entry)[0]);
-    assert_eq!(&rt; found, Err(ExprFault::Depth));
+    assert_eq!(&rt; reading(deeper.as_slice()), Err(ExprFault::Depth));
     let bad = nested(&rt, alloc, 33, "1/0 5");
-    let found = read_entry(bad.as_slice()).map(|entry| coefficients(&entry)[0]);
-    assert_eq!(&rt; found, Err(ExprFault::Depth));
+    assert_eq!(&rt; reading(bad.as_slice()), Err(ExprFault::Depth));
     let bad = nested(&rt, alloc, 32, "*(");
-    let found = read_entry(bad.as_slice()).map(|entry| coefficients(&entry)[0]);
-    assert_eq!(&rt; found, Err(ExprFault::BadByte(32)));
+    assert_eq!(&rt; reading(bad.as_slice()), Err(ExprFault::BadByte(32)));
 }
 
 /// The entry of an expression is printed so.
@@ -236,6 +239,7 @@ fn canonical_texts(rt: HostRuntime) {
     expect_text(&rt, alloc, "\\epsilon^1/2", "1/2*\\epsilon");
     expect_text(&rt, alloc, "2\\epsilon\\epsilon", "2*\\epsilon^2");
     expect_text(&rt, alloc, "1-\\epsilon", "1-\\epsilon");
+    expect_text(&rt, alloc, "-1/2 - 2\\epsilon", "-1/2-2*\\epsilon");
     expect_text(&rt, alloc, "(1-\\epsilon)/3", "1/3-1/3*\\epsilon");
     expect_text(
         &rt,

@@ -1,8 +1,7 @@
-ghost use Rattle.std.specs.Prelude.{◌≡◌, ◌≤◌, ◌<◌, ◌++◌, codes, true, OnOk, OnErr};
+ghost use Rattle.std.specs.Prelude.{◌≡◌, ◌≤◌, ◌<◌, ◌++◌, OnOk, OnErr};
 ghost use Rattle.std.specs.Int.{is_negative};
 ghost use Rattle.fraction.specs.View.{terms_of};
-ghost use Rattle.case_model.specs.Draft.{is_unit};
-ghost use Rattle.case_model.specs.Entries.{entry_value, is_zero_terms};
+ghost use Rattle.case_model.specs.Entries.{is_zero_terms};
 ghost use Rattle.case_model.specs.EntryView.{coefficients_of};
 ghost use Rattle.edge_text.specs.EntryTexts.{without_sign, is_one, power_text, factor_text, term_text, joint_text, joined_term, entry_text, IsBegun};
 
@@ -107,13 +106,12 @@ fn put_joined(
     put_term(out, power, &without_sign(coefficient))
 }
 
-/// Appends the canonical text of an entry from 0 to 1: its terms that aren't 0 by ascending power, or `0`.
+/// Appends the canonical text of an entry: its terms that aren't 0 by ascending power, or `0`.
 ///
 /// A term of power 0 is its fraction. A term of power 1 is `\epsilon` and of a greater power `\epsilon^` and the power;
-/// before it stand its absolute coefficient and `*`, unless that is 1. Terms are joined by `+` or `-`. Where memory runs
-/// out, a front of the text may have been appended.
+/// before it stand its absolute coefficient and `*`, unless that is 1. Terms are joined by `+` or `-`, and a `-` stands
+/// before a first term below 0. Where memory runs out, a front of the text may have been appended.
 pub fn print_entry(entry: &Entry, out: &mut List<u8>) -> Result<(), NoMemory>
-    requires { is_unit (entry_value (coefficients_of entry.now)) ≡ true }
     ensures printed { OnOk result (out.new ≡ out.old ++ entry_text (coefficients_of entry.now)) }
     ensures begun { OnErr result (IsBegun out.old out.new (entry_text (coefficients_of entry.now))) }
 {
