@@ -20,9 +20,8 @@ use Rattle.case_model.specs.Sums.{number, number_at, terms_at, zero_terms}
 use Rattle.case_model.proofs.EntryOrder.{sum_of_five}
 use Rattle.edge_text.specs.declared.expr_fault.ExprFault.{ExprFault}
 use Rattle.edge_text.specs.declared.expr_fault.ExprFault.TheVariants.{DivisorNotNumber, ZeroDivisor, Degree, Part}
-use Rattle.edge_text.specs.Grammar.{plain_entry}
 use Rattle.edge_text.specs.Expressions.{Decimal, Power, Sign, Plus, Minus, Expression, Sum, MoreTerms, NoTerm, AndTerm, Term, Product, MoreFactors, NoFactor, Times, Over, Beside, Factor, Number, Other, Further, Epsilon, Parens}
-use Rattle.edge_text.specs.EntryValues.{◌>>=◌, short, sum, difference, product, quotient, coefficients, joined, degree_within, degree, product_sum, times, over, has_too_many_digits, decimal_value, unit_at, power_value, epsilon_value, sign_or_plus, value, with_terms, term_value, with_factors, factor_value, further_value}
+use Rattle.edge_text.specs.EntryValues.{plain_entry, ◌>>=◌, short, sum, difference, product, quotient, coefficients, joined, degree_within, degree, product_sum, times, over, has_too_many_digits, decimal_value, unit_at, power_value, epsilon_value, sign_or_plus, value, with_terms, term_value, with_factors, factor_value, further_value}
 use Rattle.edge_text.specs.ExpressionStatements.{moved, power_meant, meaning, and_terms, term_meaning, and_factors, factor_meaning, further_meaning}
 use Rattle.edge_text.proofs.UnitEntries.{tabled}
 use Rattle.edge_text.proofs.ShortNumbers.{IsNumber, short_number, sum_number, product_number, difference_number, quotient_number}
