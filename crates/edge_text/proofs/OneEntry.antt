@@ -1,5 +1,5 @@
 -- A text has one entry or one fault.
-use Rattle.std.proofs.Common.{◌≡◌, ℕ, suc, ◌≤◌, ◌<◌, ◌⊎◌, inl, inr, List, length, take, Result, Ok, Err, refl, sym, ap, subst, ◌∙◌, arith}
+use Rattle.std.proofs.Common.{◌≡◌, ℕ, ◌⊎◌, inl, inr, List, length, Result, Ok, Err, refl, sym, ap, subst, ◌∙◌, arith}
 use Rattle.field_core.specs.Terms.{Terms}
 use Rattle.fraction.specs.Prefixes.{IsBadByte}
 use Rattle.edge_text.specs.declared.expr_fault.ExprFault.{ExprFault}

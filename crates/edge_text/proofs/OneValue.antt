@@ -1,11 +1,11 @@
 -- All expressions that one text spells have one value.
 use mathlib.Core.Path.{fun_ext}
-use Rattle.std.proofs.Common.{◌≡◌, ◌≢◌, ℕ, ◌+◌, ◌≤◌, ◌⊎◌, ◌||◌, Bool, true, false, inl, inr, List, [], ◌∷◌, ◌++◌, length, Option, Some, None, Result, Ok, Err, refl, sym, ap, ap₂, subst, ◌∙◌, arith}
+use Rattle.std.proofs.Common.{◌≡◌, ◌≢◌, ℕ, ◌+◌, ◌≤◌, ◌⊎◌, ◌||◌, true, inl, inr, List, [], ◌∷◌, ◌++◌, length, Option, Some, None, Result, refl, sym, ap, ap₂, subst, ◌∙◌, arith}
 use Rattle.std.specs.Prelude.{◌==◌, if◌then◌else◌}
 use Rattle.std.specs.Char.{is_ascii_digit}
 use Rattle.std.proofs.lemmas.Bool.Decides.{nat_tests}
 use Rattle.field_core.specs.Terms.{Terms}
-use Rattle.fraction.specs.Numeral.{Body, body_text, IsNumeral}
+use Rattle.fraction.specs.Numeral.{body_text}
 use Rattle.fraction.proofs.Unique.{body_unique}
 use Rattle.case_model.specs.Entries.{no_edge}
 use Rattle.edge_text.specs.Lines.{after_blanks}
