@@ -6,10 +6,10 @@ use Rattle.fraction.specs.Plain.{plain, fraction_parts}
 use Rattle.fraction.specs.Laws.PlainLaws.{plain_is_exact}
 use Rattle.fraction.specs.View.{number_of}
 
-pub zero_is : (z : Fraction) → fraction_parts z.ratio ≡ plain.zero → number_of z ≡ number_zero
+pub zero_is : (z : Fraction) → fraction_parts z ≡ plain.zero → number_of z ≡ number_zero
 unfolding value_of
 zero_is z e = ap value_of e ∙ plain_is_exact.zero_value
 
-pub one_is : (z : Fraction) → fraction_parts z.ratio ≡ plain.one → number_of z ≡ number_one
+pub one_is : (z : Fraction) → fraction_parts z ≡ plain.one → number_of z ≡ number_one
 unfolding value_of
 one_is z e = ap value_of e ∙ plain_is_exact.one_value

@@ -175,4 +175,4 @@ entry-compare (t ∷ ts) u n h k = ap (λ x. number_compare x (number u)) (entry
 -- the denominators of fractions are above 0
 pub positive_terms : (xs : List Fraction) → ArePositive (map terms_of xs)
 positive_terms [] = tt
-positive_terms (x ∷ xs) = (x.ratio.valid.positive, positive_terms xs)
+positive_terms (x ∷ xs) = (x.valid.positive, positive_terms xs)

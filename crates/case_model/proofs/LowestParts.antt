@@ -18,11 +18,11 @@ each_mapped : {A B : Type 0} (P : B → Type 0) (f : A → B) (xs : List A) → 
 each_mapped P f xs h = All-map P f xs (λ k d _. h _)
 
 pub lowest_fractions : (xs : List Fraction) → All IsReduced (map terms_of xs)
-lowest_fractions xs = each_mapped IsReduced terms_of xs (λ x. x.ratio.valid)
+lowest_fractions xs = each_mapped IsReduced terms_of xs (λ x. x.valid)
 
 lowest_component : (k : Component) → AreLowestParts (component_content k)
 lowest_component k = record {
-  share = k.share.ratio.valid;
+  share = k.share.valid;
   weights = lowest_fractions k.weights;
   edges = each_mapped (All IsReduced) coefficients_of k.edges (λ e. lowest_fractions e.coefficients);
 }
@@ -33,4 +33,4 @@ lowest_components ks = each_mapped AreLowestParts component_content ks lowest_co
 pub lowest_inputs : (i : Inputs) → AreLowestInputs (inputs_content i)
 lowest_inputs Bare = tt
 lowest_inputs (Single ps) = lowest_fractions ps
-lowest_inputs (Staged s) = (lowest_fractions s.spend, each_mapped (λ a. IsReduced a.p) arrival_said s.arrivals (λ a. a.p.ratio.valid))
+lowest_inputs (Staged s) = (lowest_fractions s.spend, each_mapped (λ a. IsReduced a.p) arrival_said s.arrivals (λ a. a.p.valid))

@@ -1,8 +1,17 @@
 -- First places and tests in mapped lists.
 use Rattle.std.proofs.Common.{◌≡◌, refl, sym, ap, ap₂, ◌∙◌, ℕ, ◌+◌, ◌<◌, List, [], ◌∷◌, length, map, get_or, Bool, true, false, cond, not, ◌||◌, Option, Some, None, nat_lt}
 use Rattle.std.proofs.lemmas.List.{length-map, get_or-map}
-use Rattle.std.specs.List.{list_any, find, prefix_len, position}
-use Rattle.std.specs.Option.{option_map}
+use Rattle.std.proofs.lemmas.List.Folds.{list_all-map}
+use Rattle.std.proofs.lemmas.Iterator.{YieldsList-from_slice}
+use Rattle.std.proofs.lemmas.Iterator.Search.{all_from_yields_List, any_from_yields_List, position_from_yields_List}
+use Rattle.std.proofs.iter.Yields.{fronts}
+use Rattle.std.specs.Fn.{Called}
+use Rattle.std.specs.Iterator.{YieldsThen}
+use Rattle.std.specs.declared.slice.Iter.{Iter}
+use Rattle.std.specs.Slice.Iter.{iter_rest}
+use denote.Param.Members.{Mut}
+use Rattle.std.specs.List.{list_all, list_any, find, prefix_len, position, FoldsTo}
+use Rattle.std.specs.Option.{option_map, MatchOption}
 use Rattle.std.specs.Borrow.{Bor}
 
 prefix_len-map : {A B : Type 0} (p : B → Bool) (f : A → B) (xs : List A) → prefix_len p (map f xs) ≡ prefix_len (λ x. p (f x)) xs
@@ -41,3 +50,14 @@ mapped_item f xs n x d h e = get_or-map f xs n x d h ∙ ap f (sym e)
 
 pub within_map : {A B : Type 0} (f : A → B) (xs : List A) (n : ℕ) → n < length xs → n < length (map f xs)
 within_map f xs n h = rw (as_many f xs) h
+
+-- What `position`, `all` and `any` over a slice answer, where the closure tests what a function makes of an item: the same of the mapped list. The last argument is `λ x b q k. search (rules, tests)`.
+module _ {A B F : Type 0} {g : Mut F (Bor A × Unit {0}) Bool} {s u : Iter A} {f : F} {xs : List A} where
+  pub position_through : {r : Option ℕ} (p : B → Bool) (m : A → B) → iter_rest s ≡ xs → ((ys : List (Bor A)) × (o : Option (Bor A)) × (j : F) × YieldsThen fronts s ys o u × FoldsTo (λ q x t. Called g q (x, tt) false t) f ys j × MatchOption o (r ≡ None) (λ x. (r ≡ Some (length ys)) × ((h : F) × Called g j (x, tt) true h))) → ((x : Bor A) (b : Bool) (q : F) → Called g f (x, tt) b q → (q ≡ f) × (b ≡ p (m x.now))) → r ≡ position p (map m xs)
+  position_through p m e ran calls = position_from_yields_List (λ x. p (m x)) _ _ _ ran (YieldsList-from_slice xs e) calls ∙ sym (position-map p m xs)
+
+  pub all_through : {r : Bool} (p : B → Bool) (m : A → B) → iter_rest s ≡ xs → ((ys : List (Bor A)) × (o : Option (Bor A)) × (j : F) × YieldsThen fronts s ys o u × FoldsTo (λ q x t. Called g q (x, tt) true t) f ys j × MatchOption o (r ≡ true) (λ x. (r ≡ false) × ((h : F) × Called g j (x, tt) false h))) → ((x : Bor A) (b : Bool) (q : F) → Called g f (x, tt) b q → (q ≡ f) × (b ≡ p (m x.now))) → r ≡ list_all p (map m xs)
+  all_through p m e ran calls = all_from_yields_List (λ x. p (m x)) _ _ _ ran (YieldsList-from_slice xs e) calls ∙ sym (list_all-map p m xs)
+
+  pub any_through : {r : Bool} (p : B → Bool) (m : A → B) → iter_rest s ≡ xs → ((ys : List (Bor A)) × (o : Option (Bor A)) × (j : F) × YieldsThen fronts s ys o u × FoldsTo (λ q x t. Called g q (x, tt) false t) f ys j × MatchOption o (r ≡ false) (λ x. (r ≡ true) × ((h : F) × Called g j (x, tt) true h))) → ((x : Bor A) (b : Bool) (q : F) → Called g f (x, tt) b q → (q ≡ f) × (b ≡ p (m x.now))) → r ≡ list_any p (map m xs)
+  any_through p m e ran calls = any_from_yields_List (λ x. p (m x)) _ _ _ ran (YieldsList-from_slice xs e) calls ∙ sym (list_any-map p m xs)

@@ -39,7 +39,7 @@ reduced_nothing (suc (suc (suc (suc (suc k))))) = zero_reduced
 
 reduced_in : (table : List Entry) (n k : ℕ) → IsReduced (terms_at (get_or (map coefficients_of table) n no_edge) k)
 reduced_in [] n k = reduced_nothing k
-reduced_in (e ∷ table) zero k = reduced_at e.coefficients k
+reduced_in (e ∷ table) zero k = reduced_at e k
 reduced_in (e ∷ table) (suc n) k = reduced_in table n k
 
 reduced_entry : (table : List Entry) (m i j k : ℕ) → IsReduced (terms_at (entry_at m (map coefficients_of table) i j) k)

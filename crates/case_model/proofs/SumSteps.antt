@@ -20,14 +20,14 @@ from_single s t e =
     ap₂ (λ x y. record { num = x; den = y }) n d
 
 -- a result of fractions by its terms, from its stored parts
-pub in_terms_of : (r : Result Fraction TooWide) (s : Result Terms TooWide) → ok_map (λ x. fraction_parts x.ratio) r ≡ ok_map single s → ok_map terms_of r ≡ s
+pub in_terms_of : (r : Result Fraction TooWide) (s : Result Terms TooWide) → ok_map (λ x. fraction_parts x) r ≡ ok_map single s → ok_map terms_of r ≡ s
 in_terms_of (Ok x) (Ok t) e = let same : single (terms_of x) ≡ single t = cc in ap Ok (from_single (terms_of x) t same)
 in_terms_of (Ok x) (Err f) e = absurd (cc)
 in_terms_of (Err f) (Ok t) e = absurd (cc)
 in_terms_of (Err f) (Err g) e = cc
 
 -- a fraction stored as 0 has the terms of 0
-pub zero_of : (z : Fraction) → fraction_parts z.ratio ≡ plain.zero → terms_of z ≡ zero_terms
+pub zero_of : (z : Fraction) → fraction_parts z ≡ plain.zero → terms_of z ≡ zero_terms
 zero_of z e = from_single (terms_of z) zero_terms e
 
 pub sum_none : (f : ℕ → Terms) → written_sum 0 f ≡ Ok zero_terms

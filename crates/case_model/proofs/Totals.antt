@@ -22,7 +22,7 @@ use Rattle.case_model.proofs.ExactSums.{exact_sum}
 pub reduced_at : (ws : List Fraction) (i : ℕ) → IsReduced (terms_at (map terms_of ws) i)
 unfolding terms_at
 reduced_at [] i = zero_reduced
-reduced_at (w ∷ ws) zero = w.ratio.valid
+reduced_at (w ∷ ws) zero = w.valid
 reduced_at (w ∷ ws) (suc i) = reduced_at ws i
 
 as_many : (ws : List Fraction) → length (map terms_of ws) ≡ length ws

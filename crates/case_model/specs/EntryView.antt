@@ -6,4 +6,4 @@ use Rattle.case_model.specs.declared.entry.Entry.{Entry}
 
 -- the coefficients of an entry, by ascending power
 abbrev pub coefficients_of : Entry → List Terms
-coefficients_of e = map terms_of e.coefficients
+coefficients_of e = map terms_of e

@@ -5,11 +5,23 @@ use crate::sums::zero;
 use field_core::Number;
 use fraction::Fraction;
 use std::cmp::Ordering;
+use std::marker::Model;
 
 /// The weight of an edge: a sum of fractions times the powers 0 to 4 of epsilon, by its coefficients of ascending power.
-#[derive(Clone, Copy)]
+#[derive(Clone, Copy, PartialEq, Eq, Debug)]
 pub struct Entry {
     coefficients: [Fraction; 5],
+}
+
+impl Model for Entry {
+    ghost use Rattle.std.specs.Prelude.{List};
+    ghost use Rattle.field_core.specs.declared.ratio.Ratio.{Ratio};
+
+    ghost Value = { List Ratio };
+
+    ghost view = { λ e. e.coefficients };
+
+    ghost inverse = { λ xs. record { coefficients = xs } };
 }
 
 impl Entry {

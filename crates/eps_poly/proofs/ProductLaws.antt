@@ -1,5 +1,5 @@
 -- What a product that isn't refused is.
-use Rattle.std.proofs.Common.{◌≡◌, ◌≢◌, ℕ, zero, suc, ◌+◌, ◌-◌, ◌<◌, ◌≤◌, ◌^◌, List, [], ◌∷◌, refl, sym, ◌∙◌, ap, ap₂, arith, ℤ, pos, negsuc, ◌+ℤ◌, ◌*ℤ◌, unsigned_abs, inl, inr, Result, Ok, Err, Bool, true, false, nat_le, if◌then◌else◌}
+use Rattle.std.proofs.Common.{◌≡◌, ◌≢◌, ℕ, zero, suc, ◌+◌, ◌-◌, ◌<◌, ◌≤◌, ◌^◌, List, [], ◌∷◌, refl, sym, ◌∙◌, ap, ap₂, arith, ℤ, pos, negsuc, ◌+ℤ◌, ◌*ℤ◌, unsigned_abs, inl, inr, Option, Some, None, Bool, true, false, nat_le, if◌then◌else◌}
 use mathlib.Core.Path.{fun_ext}
 use Rattle.std.proofs.lemmas.Bool.{cases_lt}
 use Rattle.std.proofs.lemmas.Bool.Decides.{nat_tests}
@@ -7,12 +7,10 @@ use Rattle.std.proofs.lemmas.Int.{ints}
 use Rattle.field_core.specs.Polynomial.{coefficient, Same, poly_multiply}
 use Rattle.field_core.specs.Sized.{◌>>=◌, sized}
 use Rattle.field_core.specs.Laws.PolynomialLaws.{product_part, coefficient-multiply_part}
-use Rattle.field_core.specs.declared.place.Op.{Op}
-use Rattle.field_core.specs.declared.place.TooWide.{TooWide}
 use Rattle.eps_poly.specs.Polynomials.{IsPolynomial}
 use Rattle.eps_poly.specs.Written.{sized_list, written_coefficient, counted, count_to_last, degree, sized_product}
 use Rattle.eps_poly.proofs.Coefficients.{coefficient-past}
-use Rattle.eps_poly.proofs.SizedLists.{AreValues, list_values, bind_ok, ok_inside}
+use Rattle.eps_poly.proofs.SizedLists.{AreValues, list_values, bind_some, ok_inside}
 use Rattle.eps_poly.proofs.SumLaws.{sized_inside, values_polynomial}
 
 -- ---- degrees
@@ -96,97 +94,97 @@ degree-same p q e =
 -- ---- written coefficients
 
 -- the steps of a written coefficient
-pub record Step (op : Op) (p q : List ℤ) (k n : ℕ) (c : ℤ) : Type 0 where
+pub record Step (p q : List ℤ) (k n : ℕ) (c : ℤ) : Type 0 where
   pub before : ℤ
-  pub part : written_coefficient op p q k n ≡ Ok before
-  pub product : sized op (coefficient p n *ℤ coefficient q (k - n)) ≡ Ok (coefficient p n *ℤ coefficient q (k - n))
-  pub sum : sized op (before +ℤ coefficient p n *ℤ coefficient q (k - n)) ≡ Ok c
+  pub part : written_coefficient p q k n ≡ Some before
+  pub product : sized (coefficient p n *ℤ coefficient q (k - n)) ≡ Some (coefficient p n *ℤ coefficient q (k - n))
+  pub sum : sized (before +ℤ coefficient p n *ℤ coefficient q (k - n)) ≡ Some c
 
-pub coefficient_step : (op : Op) (p q : List ℤ) (k n : ℕ) (c : ℤ) → written_coefficient op p q k (suc n) ≡ Ok c → Step op p q k n c
+pub coefficient_step : (p q : List ℤ) (k n : ℕ) (c : ℤ) → written_coefficient p q k (suc n) ≡ Some c → Step p q k n c
 unfolding written_coefficient
-coefficient_step op p q k n c e =
+coefficient_step p q k n c e =
     let z = coefficient p n *ℤ coefficient q (k - n) in
-    let first = bind_ok (written_coefficient op p q k n) (λ sum. sized op z >>= (λ product. sized op (sum +ℤ product))) c e in
-    let second = bind_ok (sized op z) (λ product. sized op (first.0 +ℤ product)) c first.2 in
-    let same = (sized_inside op z second.0 second.1).0 in
+    let first = bind_some (written_coefficient p q k n) (λ sum. sized z >>= (λ product. sized (sum +ℤ product))) c e in
+    let second = bind_some (sized z) (λ product. sized (first.0 +ℤ product)) c first.2 in
+    let same = (sized_inside z second.0 second.1).0 in
     record {
       before = first.0;
       part = first.1;
-      product = second.1 ∙ ap Ok same;
-      sum = ap (λ x. sized op (first.0 +ℤ x)) (sym same) ∙ second.2;
+      product = second.1 ∙ ap Some same;
+      sum = ap (λ x. sized (first.0 +ℤ x)) (sym same) ∙ second.2;
     }
 
-pub coefficient_next : (op : Op) (p q : List ℤ) (k n : ℕ) (c product : ℤ) (sum : Result ℤ TooWide) → written_coefficient op p q k n ≡ Ok c → sized op (coefficient p n *ℤ coefficient q (k - n)) ≡ Ok product → sized op (c +ℤ product) ≡ sum → written_coefficient op p q k (suc n) ≡ sum
+pub coefficient_next : (p q : List ℤ) (k n : ℕ) (c product : ℤ) (sum : Option ℤ) → written_coefficient p q k n ≡ Some c → sized (coefficient p n *ℤ coefficient q (k - n)) ≡ Some product → sized (c +ℤ product) ≡ sum → written_coefficient p q k (suc n) ≡ sum
 unfolding written_coefficient
-coefficient_next op p q k n c product sum e f g = rw (e, f) g
+coefficient_next p q k n c product sum e f g = rw (e, f) g
 
-pub coefficient_none : (op : Op) (p q : List ℤ) (k : ℕ) → written_coefficient op p q k 0 ≡ Ok (pos 0)
+pub coefficient_none : (p q : List ℤ) (k : ℕ) → written_coefficient p q k 0 ≡ Some (pos 0)
 unfolding written_coefficient
-coefficient_none op p q k = refl
+coefficient_none p q k = refl
 
-pub coefficient_product_refused : (op : Op) (p q : List ℤ) (k n : ℕ) (c : ℤ) (e : TooWide) → written_coefficient op p q k n ≡ Ok c → sized op (coefficient p n *ℤ coefficient q (k - n)) ≡ Err e → written_coefficient op p q k (suc n) ≡ Err e
+pub coefficient_product_refused : (p q : List ℤ) (k n : ℕ) (c : ℤ) → written_coefficient p q k n ≡ Some c → sized (coefficient p n *ℤ coefficient q (k - n)) ≡ None → written_coefficient p q k (suc n) ≡ None
 unfolding written_coefficient
-coefficient_product_refused op p q k n c e h f = rw (h, f) refl
+coefficient_product_refused p q k n c h f = rw (h, f) refl
 
-coefficient_kept : (op : Op) (p q : List ℤ) (k n : ℕ) (e : TooWide) → written_coefficient op p q k n ≡ Err e → written_coefficient op p q k (suc n) ≡ Err e
+coefficient_kept : (p q : List ℤ) (k n : ℕ) → written_coefficient p q k n ≡ None → written_coefficient p q k (suc n) ≡ None
 unfolding written_coefficient
-coefficient_kept op p q k n e h = rw h refl
+coefficient_kept p q k n h = rw h refl
 
-coefficient_stays : (op : Op) (p q : List ℤ) (k n m : ℕ) (e : TooWide) → written_coefficient op p q k n ≡ Err e → written_coefficient op p q k (m + n) ≡ Err e
-coefficient_stays op p q k n zero e h = ap (written_coefficient op p q k) (omega arith) ∙ h
-coefficient_stays op p q k n (suc m) e h = ap (written_coefficient op p q k) (omega arith) ∙ coefficient_kept op p q k (m + n) e (coefficient_stays op p q k n m e h)
+coefficient_stays : (p q : List ℤ) (k n m : ℕ) → written_coefficient p q k n ≡ None → written_coefficient p q k (m + n) ≡ None
+coefficient_stays p q k n zero h = ap (written_coefficient p q k) (omega arith) ∙ h
+coefficient_stays p q k n (suc m) h = ap (written_coefficient p q k) (omega arith) ∙ coefficient_kept p q k (m + n) (coefficient_stays p q k n m h)
 
 -- a refusal on the way is that of the whole
-pub coefficient_refused : (op : Op) (p q : List ℤ) (k n m : ℕ) (e : TooWide) → written_coefficient op p q k n ≡ Err e → n ≤ m → written_coefficient op p q k m ≡ Err e
-coefficient_refused op p q k n m e h l = ap (written_coefficient op p q k) (omega arith) ∙ coefficient_stays op p q k n (m - n) e h
+pub coefficient_refused : (p q : List ℤ) (k n m : ℕ) → written_coefficient p q k n ≡ None → n ≤ m → written_coefficient p q k m ≡ None
+coefficient_refused p q k n m h l = ap (written_coefficient p q k) (omega arith) ∙ coefficient_stays p q k n (m - n) h
 
 -- it is the sum of the products
-pub coefficient_is : (op : Op) (p q : List ℤ) (k n : ℕ) (c : ℤ) → written_coefficient op p q k n ≡ Ok c → c ≡ product_part p q k n
+pub coefficient_is : (p q : List ℤ) (k n : ℕ) (c : ℤ) → written_coefficient p q k n ≡ Some c → c ≡ product_part p q k n
 unfolding product_part
-coefficient_is op p q k zero c e = ok_inside (written_coefficient op p q k 0) c (pos 0) e (coefficient_none op p q k)
-coefficient_is op p q k (suc n) c e =
-    let s = coefficient_step op p q k n c e in
-    (sized_inside op _ c s.sum).0 ∙ ap (λ x. x +ℤ coefficient p n *ℤ coefficient q (k - n)) (coefficient_is op p q k n s.before s.part)
+coefficient_is p q k zero c e = ok_inside (written_coefficient p q k 0) c (pos 0) e (coefficient_none p q k)
+coefficient_is p q k (suc n) c e =
+    let s = coefficient_step p q k n c e in
+    (sized_inside _ c s.sum).0 ∙ ap (λ x. x +ℤ coefficient p n *ℤ coefficient q (k - n)) (coefficient_is p q k n s.before s.part)
 
-pub coefficient_small : (op : Op) (p q : List ℤ) (k n : ℕ) (c : ℤ) → written_coefficient op p q k n ≡ Ok c → unsigned_abs c < 2 ^ 127
-coefficient_small op p q k zero c e =
-    let none : c ≡ pos 0 = ok_inside (written_coefficient op p q k 0) c (pos 0) e (coefficient_none op p q k) in
+pub coefficient_small : (p q : List ℤ) (k n : ℕ) (c : ℤ) → written_coefficient p q k n ≡ Some c → unsigned_abs c < 2 ^ 127
+coefficient_small p q k zero c e =
+    let none : c ≡ pos 0 = ok_inside (written_coefficient p q k 0) c (pos 0) e (coefficient_none p q k) in
     rw none (omega (arith, ints))
-coefficient_small op p q k (suc n) c e = let s = coefficient_step op p q k n c e in (sized_inside op _ c s.sum).1
+coefficient_small p q k (suc n) c e = let s = coefficient_step p q k n c e in (sized_inside _ c s.sum).1
 
 -- ---- written products
 
 -- a written product that isn't refused: its degree and its coefficients
-pub record IsWritten (op : Op) (p q r : List ℤ) : Type 0 where
+pub record IsWritten (p q r : List ℤ) : Type 0 where
   pub degrees : degree p + degree q ≤ 32
-  pub values : AreValues 33 (λ k. written_coefficient op p q k (k + 1)) r
+  pub values : AreValues 33 (λ k. written_coefficient p q k (k + 1)) r
 
-within : (b : Bool) (op : Op) (x : Result (List ℤ) TooWide) (r : List ℤ) → (if b then x else Err (record { op = op })) ≡ Ok r → (b ≡ true) × (x ≡ Ok r)
-within true op x r e = (refl, e)
-within false op x r e = cc
+within : (b : Bool) (x : Option (List ℤ)) (r : List ℤ) → (if b then x else None) ≡ Some r → (b ≡ true) × (x ≡ Some r)
+within true x r e = (refl, e)
+within false x r e = cc
 
-pub product_written : (op : Op) (p q r : List ℤ) → sized_product op p q ≡ Ok r → IsWritten op p q r
+pub product_written : (p q r : List ℤ) → sized_product p q ≡ Some r → IsWritten p q r
 unfolding sized_product
-product_written op p q r e =
-    let both = within (nat_le (degree p + degree q) 32) op (sized_list 33 (λ k. written_coefficient op p q k (k + 1))) r e in
+product_written p q r e =
+    let both = within (nat_le (degree p + degree q) 32) (sized_list 33 (λ k. written_coefficient p q k (k + 1))) r e in
     record {
       degrees = let test = both.0 in grind (arith, nat_tests);
-      values = list_values 33 (λ k. written_coefficient op p q k (k + 1)) r both.1;
+      values = list_values 33 (λ k. written_coefficient p q k (k + 1)) r both.1;
     }
 
-pub product_from_list : (op : Op) (p q : List ℤ) → degree p + degree q ≤ 32 → sized_product op p q ≡ sized_list 33 (λ k. written_coefficient op p q k (k + 1))
+pub product_from_list : (p q : List ℤ) → degree p + degree q ≤ 32 → sized_product p q ≡ sized_list 33 (λ k. written_coefficient p q k (k + 1))
 unfolding sized_product
-product_from_list op p q h = let test : nat_le (degree p + degree q) 32 ≡ true = grind (arith, nat_tests) in rw test refl
+product_from_list p q h = let test : nat_le (degree p + degree q) 32 ≡ true = grind (arith, nat_tests) in rw test refl
 
-pub product_past : (op : Op) (p q : List ℤ) → 32 < degree p + degree q → sized_product op p q ≡ Err (record { op = op })
+pub product_past : (p q : List ℤ) → 32 < degree p + degree q → sized_product p q ≡ None
 unfolding sized_product
-product_past op p q h = let test : nat_le (degree p + degree q) 32 ≡ false = grind (arith, nat_tests) in rw test refl
+product_past p q h = let test : nat_le (degree p + degree q) 32 ≡ false = grind (arith, nat_tests) in rw test refl
 
-pub product_polynomial : (op : Op) (p q r : List ℤ) → sized_product op p q ≡ Ok r → IsPolynomial r
-product_polynomial op p q r e =
-    let w = product_written op p q r e in
-    values_polynomial (λ k. written_coefficient op p q k (k + 1)) r (λ k c h. coefficient_small op p q k (k + 1) c h)
-    (sym (product_from_list op p q w.degrees) ∙ e)
+pub product_polynomial : (p q r : List ℤ) → sized_product p q ≡ Some r → IsPolynomial r
+product_polynomial p q r e =
+    let w = product_written p q r e in
+    values_polynomial (λ k. written_coefficient p q k (k + 1)) r (λ k c h. coefficient_small p q k (k + 1) c h)
+    (sym (product_from_list p q w.degrees) ∙ e)
 
 -- products of which one factor is 0 add nothing
 part_none : (p q : List ℤ) (k n : ℕ) → ((i : ℕ) → i < n → coefficient p i *ℤ coefficient q (k - i) ≡ pos 0) → product_part p q k n ≡ pos 0
@@ -201,27 +199,27 @@ past_degrees p q k i h = elim (cases_lt (degree p) i) [
 ]
 
 -- a written product that isn't refused is the product
-pub product_is_exact : (op : Op) (p q r : List ℤ) → sized_product op p q ≡ Ok r → Same r (poly_multiply p q)
-product_is_exact op p q r e k =
-    let w = product_written op p q r e in
+pub product_is_exact : (p q r : List ℤ) → sized_product p q ≡ Some r → Same r (poly_multiply p q)
+product_is_exact p q r e k =
+    let w = product_written p q r e in
     let all = w.values.count in
     let small = w.degrees in
     elim (cases_lt k 33) [
-      | inl h ↦ coefficient_is op p q k (k + 1) (coefficient r k) (w.values.each k h) ∙ sym (coefficient-multiply_part p q k)
+      | inl h ↦ coefficient_is p q k (k + 1) (coefficient r k) (w.values.each k h) ∙ sym (coefficient-multiply_part p q k)
       | inr h ↦ coefficient-past r k (omega arith) ∙ sym (coefficient-multiply_part p q k ∙ part_none p q k (k + 1) (λ i l. past_degrees p q k i (omega arith)))
     ]
 
 -- ---- the same factors
 
-pub coefficient-same : (op : Op) (p p' q : List ℤ) (k n : ℕ) → ((i : ℕ) → i < n → coefficient p i ≡ coefficient p' i) → written_coefficient op p q k n ≡ written_coefficient op p' q k n
+pub coefficient-same : (p p' q : List ℤ) (k n : ℕ) → ((i : ℕ) → i < n → coefficient p i ≡ coefficient p' i) → written_coefficient p q k n ≡ written_coefficient p' q k n
 unfolding written_coefficient
-coefficient-same op p p' q k zero h = refl
-coefficient-same op p p' q k (suc n) h =
-    ap₂ (λ a b. a >>= (λ sum. sized op (b *ℤ coefficient q (k - n)) >>= (λ product. sized op (sum +ℤ product))))
-    (coefficient-same op p p' q k n (λ i l. h i (omega arith))) (h n (omega arith))
+coefficient-same p p' q k zero h = refl
+coefficient-same p p' q k (suc n) h =
+    ap₂ (λ a b. a >>= (λ sum. sized (b *ℤ coefficient q (k - n)) >>= (λ product. sized (sum +ℤ product))))
+    (coefficient-same p p' q k n (λ i l. h i (omega arith))) (h n (omega arith))
 
-pub product-same : (op : Op) (p p' q : List ℤ) → Same p p' → sized_product op p q ≡ sized_product op p' q
+pub product-same : (p p' q : List ℤ) → Same p p' → sized_product p q ≡ sized_product p' q
 unfolding sized_product
-product-same op p p' q e =
-    ap₂ (λ a b. if nat_le (a + degree q) 32 then sized_list 33 b else Err (record { op = op }))
-    (degree-same p p' e) (fun_ext (λ k. coefficient-same op p p' q k (k + 1) (λ i l. e i)))
+product-same p p' q e =
+    ap₂ (λ a b. if nat_le (a + degree q) 32 then sized_list 33 b else None)
+    (degree-same p p' e) (fun_ext (λ k. coefficient-same p p' q k (k + 1) (λ i l. e i)))

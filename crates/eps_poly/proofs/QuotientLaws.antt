@@ -1,15 +1,12 @@
 -- How the coefficients of an exact quotient follow from one another.
-use Rattle.std.proofs.Common.{◌≡◌, ◌≢◌, ℕ, zero, suc, ◌+◌, ◌-◌, ◌<◌, ◌≤◌, List, refl, sym, ◌∙◌, ap, ap₂, arith, ℤ, pos, ◌+ℤ◌, ◌*ℤ◌, neg_ℤ, inl, inr, ◌⊎◌, Result, Ok, Err, Some, None}
+use Rattle.std.proofs.Common.{◌≡◌, ◌≢◌, ℕ, zero, suc, ◌+◌, ◌-◌, ◌<◌, ◌≤◌, List, refl, sym, ◌∙◌, ap, ap₂, arith, ℤ, pos, ◌+ℤ◌, ◌*ℤ◌, neg_ℤ, inl, inr, ◌⊎◌, Option, Some, None}
 use lib.IntN.{+ℤ_idr, *ℤ-zero}
-use Rattle.std.specs.Result.{result_ok}
-use Rattle.field_core.specs.Kind.{ok_map}
+use Rattle.std.specs.Option.{option_map}
 use Rattle.std.proofs.lemmas.Bool.{cases_lt}
 use Rattle.std.proofs.lemmas.Int.{ints}
 use Rattle.field_core.specs.Polynomial.{coefficient, Same, IsNonZero}
 use Rattle.field_core.specs.Sized.{sized}
 use Rattle.field_core.specs.Laws.PolynomialLaws.{product_part}
-use Rattle.field_core.specs.declared.place.Op.{Op}
-use Rattle.field_core.specs.declared.place.TooWide.{TooWide}
 use Rattle.eps_poly.specs.Factors.{order}
 use Rattle.eps_poly.specs.Written.{written_coefficient, sized_product}
 use Rattle.eps_poly.proofs.SizedLists.{ok_inside}
@@ -17,19 +14,19 @@ use Rattle.eps_poly.proofs.SumLaws.{sized_inside}
 use Rattle.eps_poly.proofs.OrderLaws.{coefficient-below_order, coefficient-order}
 use Rattle.eps_poly.proofs.ProductLaws.{coefficient-above_degree, degree_at_least, coefficient_step, coefficient_is, coefficient_refused, coefficient-same, product_written}
 
-result_cases : {A : Type 0} (r : Result A TooWide) → ((x : A) × (r ≡ Ok x)) ⊎ ((e : TooWide) × (r ≡ Err e))
-result_cases (Ok x) = inl (x, refl)
-result_cases (Err e) = inr (e, refl)
+result_cases : {A : Type 0} (r : Option A) → ((x : A) × (r ≡ Some x)) ⊎ (r ≡ None)
+result_cases (Some x) = inl (x, refl)
+result_cases None = inr refl
 
 -- the sums on the way to one that isn't refused
-coefficient_front : (op : Op) (p q : List ℤ) (k n m : ℕ) (c : ℤ) → n ≤ m → written_coefficient op p q k m ≡ Ok c → (x : ℤ) × (written_coefficient op p q k n ≡ Ok x)
-coefficient_front op p q k n m c within e = elim (result_cases (written_coefficient op p q k n)) [
+coefficient_front : (p q : List ℤ) (k n m : ℕ) (c : ℤ) → n ≤ m → written_coefficient p q k m ≡ Some c → (x : ℤ) × (written_coefficient p q k n ≡ Some x)
+coefficient_front p q k n m c within e = elim (result_cases (written_coefficient p q k n)) [
   | inl (x, f) ↦ (x, f)
-  | inr (d, f) ↦ let refused = coefficient_refused op p q k n m d f within in absurd (ok_and_err (written_coefficient op p q k m) c d e refused)
+  | inr f ↦ let refused = coefficient_refused p q k n m f within in absurd (some_and_none (written_coefficient p q k m) c e refused)
 ]
   where
-    ok_and_err : (r : Result ℤ TooWide) (c : ℤ) (d : TooWide) → r ≡ Ok c → r ≡ Err d → ⊥
-    ok_and_err r c d e f = cc
+    some_and_none : (r : Option ℤ) (c : ℤ) → r ≡ Some c → r ≡ None → ⊥
+    some_and_none r c e f = cc
 
 -- products of which one factor is 0 add nothing
 part_more : (p q : List ℤ) (k n m : ℕ) → ((i : ℕ) → n ≤ i → i < m + n → coefficient p i *ℤ coefficient q (k - i) ≡ pos 0) → product_part p q k (m + n) ≡ product_part p q k n
@@ -47,29 +44,29 @@ difference : (a b c : ℤ) → a ≡ b +ℤ c → a +ℤ neg_ℤ b ≡ c
 difference a b c e = omega (arith, ints)
 
 -- what one step of a division finds, where p is the written product of q and by
-pub record NextStep (op : Op) (p by q known : List ℤ) (power low : ℕ) : Type 0 where
+pub record NextStep (p by q known : List ℤ) (power low : ℕ) : Type 0 where
   pub part : ℤ
-  pub known_part : written_coefficient op known by (power + low) power ≡ Ok part
-  pub rest : sized op (coefficient p (power + low) +ℤ neg_ℤ part) ≡ Ok (coefficient q power *ℤ coefficient by low)
+  pub known_part : written_coefficient known by (power + low) power ≡ Some part
+  pub rest : sized (coefficient p (power + low) +ℤ neg_ℤ part) ≡ Some (coefficient q power *ℤ coefficient by low)
 
-pub next_step : (op : Op) (p by q known : List ℤ) (power low : ℕ) → sized_product op q by ≡ Ok p → low ≡ order by → power + low ≤ 32 → ((k : ℕ) → k < power → coefficient known k ≡ coefficient q k) → NextStep op p by q known power low
-next_step op p by q known power low e is_low within same =
+pub next_step : (p by q known : List ℤ) (power low : ℕ) → sized_product q by ≡ Some p → low ≡ order by → power + low ≤ 32 → ((k : ℕ) → k < power → coefficient known k ≡ coefficient q k) → NextStep p by q known power low
+next_step p by q known power low e is_low within same =
     let at = power + low in
-    let w = product_written op q by p e in
+    let w = product_written q by p e in
     let all = w.values.each at (omega arith) in
-    let front = coefficient_front op q by at (suc power) (at + 1) (coefficient p at) (omega arith) all in
-    let s = coefficient_step op q by at power front.0 front.1 in
+    let front = coefficient_front q by at (suc power) (at + 1) (coefficient p at) (omega arith) all in
+    let s = coefficient_step q by at power front.0 front.1 in
     let gap : at - power ≡ low = omega arith in
-    let product : sized op (coefficient q power *ℤ coefficient by low) ≡ Ok (coefficient q power *ℤ coefficient by low) = rw gap at s.product in
-    let sum : front.0 ≡ s.before +ℤ coefficient q power *ℤ coefficient by low = rw gap at ((sized_inside op _ front.0 s.sum).0) in
+    let product : sized (coefficient q power *ℤ coefficient by low) ≡ Some (coefficient q power *ℤ coefficient by low) = rw gap at s.product in
+    let sum : front.0 ≡ s.before +ℤ coefficient q power *ℤ coefficient by low = rw gap at ((sized_inside _ front.0 s.sum).0) in
     let above : product_part q by at (low + suc power) ≡ product_part q by at (suc power) =
     part_more q by at (suc power) low (λ i l u. product_zero (coefficient q i) (coefficient by (at - i)) (coefficient-below_order by (at - i) (omega arith))) in
     let count : at + 1 ≡ low + suc power = omega arith in
-    let whole : coefficient p at ≡ front.0 = coefficient_is op q by at (at + 1) (coefficient p at) all ∙ ap (product_part q by at) count ∙ above ∙ sym (coefficient_is op q by at (suc power) front.0 front.1) in
+    let whole : coefficient p at ≡ front.0 = coefficient_is q by at (at + 1) (coefficient p at) all ∙ ap (product_part q by at) count ∙ above ∙ sym (coefficient_is q by at (suc power) front.0 front.1) in
     record {
       part = s.before;
-      known_part = coefficient-same op known q by at power same ∙ s.part;
-      rest = ap (sized op) (difference (coefficient p at) s.before (coefficient q power *ℤ coefficient by low) (whole ∙ sum)) ∙ product;
+      known_part = coefficient-same known q by at power same ∙ s.part;
+      rest = ap (sized) (difference (coefficient p at) s.before (coefficient q power *ℤ coefficient by low) (whole ∙ sum)) ∙ product;
     }
 
 -- the lowest coefficient of a divisor that isn't zero
@@ -77,9 +74,9 @@ pub divisor_some : (by : List ℤ) (low : ℕ) → low ≡ order by → IsNonZer
 divisor_some by low e some none = some (sym (coefficient-order by) ∙ ap (coefficient by) (sym e) ∙ none)
 
 -- once all coefficients that a quotient can have are known
-pub quotient_known : (op : Op) (p by q r : List ℤ) (n low : ℕ) → sized_product op q by ≡ Ok p → low ≡ order by → IsNonZero by → 33 - low ≤ n → ((k : ℕ) → k < n → coefficient r k ≡ coefficient q k) → ((k : ℕ) → n ≤ k → coefficient r k ≡ pos 0) → Same r q
-quotient_known op p by q r n low e is_low some enough front rest k =
-    let w = product_written op q by p e in
+pub quotient_known : (p by q r : List ℤ) (n low : ℕ) → sized_product q by ≡ Some p → low ≡ order by → IsNonZero by → 33 - low ≤ n → ((k : ℕ) → k < n → coefficient r k ≡ coefficient q k) → ((k : ℕ) → n ≤ k → coefficient r k ≡ pos 0) → Same r q
+quotient_known p by q r n low e is_low some enough front rest k =
+    let w = product_written q by p e in
     let high = degree_at_least by low (divisor_some by low is_low some) in
     elim (cases_lt k n) [
       | inl l ↦ front k l
@@ -87,17 +84,17 @@ quotient_known op p by q r n low e is_low some enough front rest k =
     ]
 
 -- c is the coefficient of power k of each q whose written product with by is p
-abbrev pub IsNextCoefficient : Op → List ℤ → List ℤ → ℕ → ℤ → Type 0
-IsNextCoefficient op p by k c = (q : List ℤ) → sized_product op q by ≡ Ok p → c ≡ coefficient q k
+abbrev pub IsNextCoefficient : List ℤ → List ℤ → ℕ → ℤ → Type 0
+IsNextCoefficient p by k c = (q : List ℤ) → sized_product q by ≡ Some p → c ≡ coefficient q k
 
 pub some_inside : {A : Type 0} (a b : A) → Some a ≡ Some b → a ≡ b
 some_inside a b e = cc
 
--- a result that is Ok, seen through a function
-pub ok_not_none : {A B : Type 0} (f : A → B) (r : Result A TooWide) (b : B) → ok_map f r ≡ Ok b → result_ok r ≡ None → ⊥
-ok_not_none f (Ok a) b e none = cc
-ok_not_none f (Err d) b e none = cc
+-- a result that is there, seen through a function
+pub some_not_none : {A B : Type 0} (f : A → B) (r : Option A) (b : B) → option_map f r ≡ Some b → r ≡ None → ⊥
+some_not_none f (Some a) b e none = cc
+some_not_none f None b e none = cc
 
-pub ok_value : {A B : Type 0} (f : A → B) (r : Result A TooWide) (a : A) (b : B) → ok_map f r ≡ Ok b → result_ok r ≡ Some a → f a ≡ b
-ok_value f (Ok x) a b e some = ap f (sym (some_inside x a some)) ∙ ok_inside (Ok (f x)) (f x) b refl e
-ok_value f (Err d) a b e some = cc
+pub some_value : {A B : Type 0} (f : A → B) (r : Option A) (a : A) (b : B) → option_map f r ≡ Some b → r ≡ Some a → f a ≡ b
+some_value f (Some x) a b e some = ap f (sym (some_inside x a some)) ∙ some_inside (f x) b e
+some_value f None a b e some = cc

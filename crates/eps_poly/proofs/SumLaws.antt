@@ -1,12 +1,10 @@
 -- What a sum that isn't refused is.
-use Rattle.std.proofs.Common.{◌≡◌, ℕ, ◌<◌, ◌^◌, List, length, sym, ◌∙◌, ap₂, arith, ℤ, ◌+ℤ◌, unsigned_abs, inl, inr, Result, Ok}
+use Rattle.std.proofs.Common.{◌≡◌, ℕ, ◌<◌, ◌^◌, List, length, sym, ◌∙◌, ap₂, arith, ℤ, ◌+ℤ◌, unsigned_abs, inl, inr, Option, Some}
 use Rattle.std.proofs.lemmas.Bool.{cases_lt}
 use Rattle.std.proofs.lemmas.Int.{ints}
 use Rattle.field_core.specs.Polynomial.{coefficient, Same, poly_add}
 use Rattle.field_core.specs.Sized.{sized}
 use Rattle.field_core.specs.Laws.PolynomialLaws.{coefficient-add}
-use Rattle.field_core.specs.declared.place.Op.{Op}
-use Rattle.field_core.specs.declared.place.TooWide.{TooWide}
 use Rattle.field_core.proofs.Sized.{sized_small, sized_large}
 use Rattle.eps_poly.specs.Polynomials.{IsPolynomial}
 use Rattle.eps_poly.specs.Written.{sized_list, sized_sum}
@@ -14,14 +12,14 @@ use Rattle.eps_poly.proofs.Coefficients.{coefficient-past}
 use Rattle.eps_poly.proofs.SizedLists.{list_values, ok_inside}
 
 -- a written part that isn't refused
-pub sized_inside : (op : Op) (z c : ℤ) → sized op z ≡ Ok c → (c ≡ z) × (unsigned_abs c < 2 ^ 127)
-sized_inside op z c e = elim (cases_lt (unsigned_abs z) (2 ^ 127)) [
-  | inl h ↦ let same : z ≡ c = ok_inside (sized op z) z c (sized_small op z h) e in (sym same, rw (← same) h)
-  | inr h ↦ let wide = sized_large op z h in cc
+pub sized_inside : (z c : ℤ) → sized z ≡ Some c → (c ≡ z) × (unsigned_abs c < 2 ^ 127)
+sized_inside z c e = elim (cases_lt (unsigned_abs z) (2 ^ 127)) [
+  | inl h ↦ let same : z ≡ c = ok_inside (sized z) z c (sized_small z h) e in (sym same, rw (← same) h)
+  | inr h ↦ let wide = sized_large z h in cc
 ]
 
 -- 33 values of at most 2^127 - 1 in size are a polynomial
-pub values_polynomial : (value : ℕ → Result ℤ TooWide) (r : List ℤ) → ((k : ℕ) (c : ℤ) → value k ≡ Ok c → unsigned_abs c < 2 ^ 127) → sized_list 33 value ≡ Ok r → IsPolynomial r
+pub values_polynomial : (value : ℕ → Option ℤ) (r : List ℤ) → ((k : ℕ) (c : ℤ) → value k ≡ Some c → unsigned_abs c < 2 ^ 127) → sized_list 33 value ≡ Some r → IsPolynomial r
 values_polynomial value r small e =
     let v = list_values 33 value r e in
     let all = v.count in
@@ -33,17 +31,17 @@ values_polynomial value r small e =
       ];
     }
 
-pub sum_polynomial : (op : Op) (p q r : List ℤ) → sized_sum op p q ≡ Ok r → IsPolynomial r
+pub sum_polynomial : (p q r : List ℤ) → sized_sum p q ≡ Some r → IsPolynomial r
 unfolding sized_sum
-sum_polynomial op p q r e = values_polynomial _ r (λ k c h. (sized_inside op (coefficient p k +ℤ coefficient q k) c h).1) e
+sum_polynomial p q r e = values_polynomial _ r (λ k c h. (sized_inside (coefficient p k +ℤ coefficient q k) c h).1) e
 
 -- a written sum that isn't refused is the sum
-pub sum_is_exact : (op : Op) (p q r : List ℤ) → length p ≡ 33 → length q ≡ 33 → sized_sum op p q ≡ Ok r → Same r (poly_add p q)
+pub sum_is_exact : (p q r : List ℤ) → length p ≡ 33 → length q ≡ 33 → sized_sum p q ≡ Some r → Same r (poly_add p q)
 unfolding sized_sum
-sum_is_exact op p q r long_p long_q e k =
+sum_is_exact p q r long_p long_q e k =
     let v = list_values 33 _ r e in
     let all = v.count in
     elim (cases_lt k 33) [
-      | inl h ↦ (sized_inside op (coefficient p k +ℤ coefficient q k) (coefficient r k) (v.each k h)).0 ∙ sym (coefficient-add p q k)
+      | inl h ↦ (sized_inside (coefficient p k +ℤ coefficient q k) (coefficient r k) (v.each k h)).0 ∙ sym (coefficient-add p q k)
       | inr h ↦ coefficient-past r k (omega arith) ∙ sym (coefficient-add p q k ∙ ap₂ (λ a b. a +ℤ b) (coefficient-past p k (omega arith)) (coefficient-past q k (omega arith)))
     ]

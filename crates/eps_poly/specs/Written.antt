@@ -1,29 +1,27 @@
 -- Sums and products of polynomials as they are written: each written part must be below 2^127 in size, and the degree of a product at most 32.
-use Rattle.std.specs.Prelude.{ℕ, zero, suc, ◌+◌, ◌-◌, nat_le, if◌then◌else◌, ℤ, pos, negsuc, ◌+ℤ◌, ◌*ℤ◌, List, [], ◌∷◌, ◌++◌, Result, Ok, Err}
+use Rattle.std.specs.Prelude.{ℕ, zero, suc, ◌+◌, ◌-◌, nat_le, if◌then◌else◌, ℤ, pos, negsuc, ◌+ℤ◌, ◌*ℤ◌, List, [], ◌∷◌, ◌++◌, Option, Some, None}
 use Rattle.field_core.specs.Polynomial.{coefficient}
 use Rattle.field_core.specs.Sized.{◌>>=◌, sized}
-use Rattle.field_core.specs.declared.place.Op.{Op}
-use Rattle.field_core.specs.declared.place.TooWide.{TooWide}
 
 -- n values in their order, or the first refusal
-unfoldable pub sized_list : ℕ → (ℕ → Result ℤ TooWide) → Result (List ℤ) TooWide
-sized_list zero value = Ok []
+unfoldable pub sized_list : ℕ → (ℕ → Option ℤ) → Option (List ℤ)
+sized_list zero value = Some []
 sized_list (suc n) value = do
   front ← sized_list n value
   last ← value n
-  Ok (front ++ last ∷ [])
+  Some (front ++ last ∷ [])
 
 -- the written sum: of each power, the sum of the two coefficients
-unfoldable pub sized_sum : Op → List ℤ → List ℤ → Result (List ℤ) TooWide
-sized_sum op p q = sized_list 33 (λ k. sized op (coefficient p k +ℤ coefficient q k))
+unfoldable pub sized_sum : List ℤ → List ℤ → Option (List ℤ)
+sized_sum p q = sized_list 33 (λ k. sized (coefficient p k +ℤ coefficient q k))
 
 -- what the first n factors add to the coefficient of power k of a product: coefficient i of the first factor times coefficient k - i of the second, by ascending i
-unfoldable pub written_coefficient : Op → List ℤ → List ℤ → ℕ → ℕ → Result ℤ TooWide
-written_coefficient op p q k zero = Ok (pos 0)
-written_coefficient op p q k (suc n) = do
-  sum ← written_coefficient op p q k n
-  product ← sized op (coefficient p n *ℤ coefficient q (k - n))
-  sized op (sum +ℤ product)
+unfoldable pub written_coefficient : List ℤ → List ℤ → ℕ → ℕ → Option ℤ
+written_coefficient p q k zero = Some (pos 0)
+written_coefficient p q k (suc n) = do
+  sum ← written_coefficient p q k n
+  product ← sized (coefficient p n *ℤ coefficient q (k - n))
+  sized (sum +ℤ product)
 
 -- one more, but for a zero with nothing above it
 unfoldable pub counted : ℤ → ℕ → ℕ
@@ -42,8 +40,8 @@ unfoldable pub degree : List ℤ → ℕ
 degree p = count_to_last p - 1
 
 -- the written product: of each power the written coefficient, where the degree doesn't pass 32
-unfoldable pub sized_product : Op → List ℤ → List ℤ → Result (List ℤ) TooWide
-sized_product op p q =
+unfoldable pub sized_product : List ℤ → List ℤ → Option (List ℤ)
+sized_product p q =
     if nat_le (degree p + degree q) 32
-    then sized_list 33 (λ k. written_coefficient op p q k (k + 1))
-    else Err (record { op = op })
+    then sized_list 33 (λ k. written_coefficient p q k (k + 1))
+    else None

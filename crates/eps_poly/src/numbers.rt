@@ -1,20 +1,8 @@
 //! Whole numbers.
 ghost use Rattle.std.specs.Prelude.{◌≡◌, ◌≢◌, ◌↔◌, ◌*ℤ◌, ◌<ℤ◌, ℤ, pos, unsigned_abs, IsTrue};
 ghost use Rattle.field_core.specs.Kind.{is_zero_integer};
-ghost use Rattle.field_core.specs.Sized.{sized};
-ghost use Rattle.field_core.specs.declared.place.Op.TheVariants.{Add};
 
-use field_core::{Op, TooWide, Whole};
-
-/// The number, refused where it is the least `i128`.
-pub fn whole(c: i128) -> Result<Whole, TooWide>
-    ensures { result ≡ sized Add c }
-{
-    if c == i128::MIN {
-        return Err(TooWide { op: Op::Add });
-    }
-    Ok(Whole::new(c))
-}
+use field_core::Whole;
 
 /// Whether it is 0.
 pub fn is_zero(c: Whole) -> bool

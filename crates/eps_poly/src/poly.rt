@@ -1,7 +1,6 @@
 ghost use Rattle.eps_poly.specs.Polynomials.{IsPolynomial};
 
-use crate::numbers::whole;
-use field_core::{TooWide, Whole};
+use field_core::Whole;
 
 /// How many coefficients a polynomial holds: those of the powers 0 to 32.
 pub const COUNT: usize = 33;
@@ -15,10 +14,9 @@ pub struct EpsPoly {
 
 impl EpsPoly {
     ghost use Rattle.std.specs.Prelude.{◌≡◌, ◌≤◌, slice_set};
-    ghost use Rattle.field_core.specs.Kind.{ok_map};
+    ghost use Rattle.std.specs.Option.{option_map};
     ghost use Rattle.field_core.specs.Polynomial.{coefficient};
     ghost use Rattle.field_core.specs.Sized.{sized};
-    ghost use Rattle.field_core.specs.declared.place.Op.TheVariants.{Add};
     ghost use Rattle.eps_poly.specs.Polynomials.{monomial, zero_polynomial};
     ghost use Rattle.eps_poly.specs.View.{coefficients};
 
@@ -31,11 +29,11 @@ impl EpsPoly {
         }
     }
 
-    /// The polynomial `c`, refused with `Op::Add` exactly where `c` is the least `i128`.
-    pub fn constant(c: i128) -> Result<EpsPoly, TooWide>
-        ensures { ok_map coefficients result ≡ ok_map (λ a. monomial a 0) (sized Add c) }
+    /// The polynomial `c`, refused exactly where `c` is the least `i128`.
+    pub fn constant(c: i128) -> Option<EpsPoly>
+        ensures { option_map coefficients result ≡ option_map (λ a. monomial a 0) (sized c) }
     {
-        Ok(EpsPoly::monomial(whole(c)?, 0))
+        Some(EpsPoly::monomial(Whole::checked_new(c)?, 0))
     }
 
     /// The polynomial `c * epsilon^power`; `power` is at most 32.
@@ -48,15 +46,15 @@ impl EpsPoly {
         single
     }
 
-    /// This polynomial with `c` as one coefficient, refused with `Op::Add` exactly where `c` is the least `i128`;
+    /// This polynomial with `c` as one coefficient, refused exactly where `c` is the least `i128`;
     /// `power` is at most 32.
-    pub fn with(&self, power: usize, c: i128) -> Result<EpsPoly, TooWide>
+    pub fn with(&self, power: usize, c: i128) -> Option<EpsPoly>
         requires { power ≤ 32 }
-        ensures { ok_map coefficients result ≡ ok_map (slice_set (coefficients self.now) power) (sized Add c) }
+        ensures { option_map coefficients result ≡ option_map (slice_set (coefficients self.now) power) (sized c) }
     {
         let mut changed = *self;
-        changed.put(power, whole(c)?);
-        Ok(changed)
+        changed.put(power, Whole::checked_new(c)?);
+        Some(changed)
     }
 
     /// Puts `c` in place of one coefficient; `power` is at most 32.

@@ -2,45 +2,28 @@
 
 use crate::EpsPoly;
 use crate::poly::COUNT;
-use field_core::{Op, TooWide, Whole};
+use field_core::Whole;
 
 impl EpsPoly {
-    ghost use Rattle.std.specs.Prelude.{◌≡◌, ◌≤◌, ◌<ℤ◌, pos, IfOk};
-    ghost use Rattle.field_core.specs.Kind.{ok_map};
+    ghost use Rattle.std.specs.Prelude.{◌≡◌, ◌≤◌, ◌<ℤ◌, pos, IfSome};
+    ghost use Rattle.std.specs.Option.{option_map};
     ghost use Rattle.field_core.specs.Polynomial.{Same, poly_add, poly_negate};
-    ghost use Rattle.field_core.specs.declared.place.Op.TheVariants.{Add, Sub};
     ghost use Rattle.eps_poly.specs.Factors.{lowered};
     ghost use Rattle.eps_poly.specs.View.{coefficients};
     ghost use Rattle.eps_poly.specs.Written.{sized_sum};
 
-    /// The sum, or `TooWide` exactly where the written sum has a part past its size.
-    pub fn add(&self, other: &EpsPoly) -> Result<EpsPoly, TooWide>
-        ensures written { ok_map coefficients result ≡ sized_sum Add (coefficients self.now) (coefficients other.now) }
-        ensures exact { IfOk result (λ r. Same (coefficients r) (poly_add (coefficients self.now) (coefficients other.now))) }
-    {
-        self.plus(Op::Add, other)
-    }
-
-    /// The difference, or `TooWide` exactly where the written difference has a part past its size.
-    pub fn sub(&self, other: &EpsPoly) -> Result<EpsPoly, TooWide>
-        ensures written { ok_map coefficients result ≡ sized_sum Sub (coefficients self.now) (poly_negate (coefficients other.now)) }
-        ensures exact { IfOk result (λ r. Same (coefficients r) (poly_add (coefficients self.now) (poly_negate (coefficients other.now)))) }
-    {
-        self.plus(Op::Sub, &other.negate())
-    }
-
-    /// The sum, or `TooWide` exactly where the written sum has a part past its size; `op` is what it is made for.
-    pub fn plus(&self, op: Op, other: &EpsPoly) -> Result<EpsPoly, TooWide>
-        ensures written { ok_map coefficients result ≡ sized_sum op (coefficients self.now) (coefficients other.now) }
-        ensures exact { IfOk result (λ r. Same (coefficients r) (poly_add (coefficients self.now) (coefficients other.now))) }
+    /// The sum, or nothing exactly where the written sum has a part past its size.
+    pub fn checked_add(&self, other: &EpsPoly) -> Option<EpsPoly>
+        ensures written { option_map coefficients result ≡ sized_sum (coefficients self.now) (coefficients other.now) }
+        ensures exact { IfSome result (λ r. Same (coefficients r) (poly_add (coefficients self.now) (coefficients other.now))) }
     {
         let mut sum = EpsPoly::zero();
         for power in 0..COUNT {
             let left = self.whole(power);
             let right = other.whole(power);
-            sum.put(power, left.plus(op, right)?);
+            sum.put(power, left.checked_add(right)?);
         }
-        Ok(sum)
+        Some(sum)
     }
 
     /// The opposite.

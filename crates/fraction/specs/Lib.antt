@@ -8,5 +8,6 @@ pub mod Prefixes
 pub mod Reading
 pub mod Sizes
 pub mod Spelling
+pub mod Tests
 pub mod View
 pub mod Written

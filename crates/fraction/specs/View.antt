@@ -7,7 +7,7 @@ use Rattle.fraction.specs.declared.fraction.Fraction.{Fraction}
 
 -- numerator and denominator
 abbrev pub terms_of : Fraction → Terms
-terms_of x = terms x.ratio
+terms_of x = terms x
 
 -- the number that a fraction is
 abbrev pub number_of : Fraction → Number

@@ -1,25 +1,23 @@
 -- The written operations on fractions, step by step. Each part that is written must be below 2^127 in size; where one isn't, the operation is undefined.
-use Rattle.std.specs.Prelude.{suc, ℤ, pos, negsuc, neg_ℤ, ◌+ℤ◌, ◌*ℤ◌, int_div, Result, Ok}
+use Rattle.std.specs.Prelude.{suc, ℤ, pos, negsuc, neg_ℤ, ◌+ℤ◌, ◌*ℤ◌, int_div, Option, Some}
 use Rattle.field_core.specs.Sized.{◌>>=◌, sized, gcd_of}
 use Rattle.field_core.specs.Terms.{Terms}
-use Rattle.field_core.specs.declared.place.Op.{Op}
-use Rattle.field_core.specs.declared.place.TooWide.{TooWide}
 
 -- n/d * n'/d', where a = gcd(n, d') and b = gcd(n', d): the numerator is (n/a) * (n'/b), the denominator (d/b) * (d'/a)
-unfoldable pub written_mul : Op → Terms → Terms → Result Terms TooWide
-written_mul op x y = do
-  num ← sized op (int_div x.num (gcd_of x.num y.den) *ℤ int_div y.num (gcd_of y.num x.den))
-  den ← sized op (int_div x.den (gcd_of y.num x.den) *ℤ int_div y.den (gcd_of x.num y.den))
-  Ok (record { num = num; den = den })
+unfoldable pub written_mul : Terms → Terms → Option Terms
+written_mul x y = do
+  num ← sized (int_div x.num (gcd_of x.num y.den) *ℤ int_div y.num (gcd_of y.num x.den))
+  den ← sized (int_div x.den (gcd_of y.num x.den) *ℤ int_div y.den (gcd_of x.num y.den))
+  Some (record { num = num; den = den })
 
 -- n/d + n'/d', where g = gcd(d, d'): u = n * (d'/g), v = n' * (d/g) and t = u + v are written; then, with h = gcd(t, g), the denominator (d/g) * (d'/h), and t/h stands above it
-unfoldable pub written_add : Op → Terms → Terms → Result Terms TooWide
-written_add op x y = do
-  u ← sized op (x.num *ℤ int_div y.den (gcd_of x.den y.den))
-  v ← sized op (y.num *ℤ int_div x.den (gcd_of x.den y.den))
-  t ← sized op (u +ℤ v)
-  den ← sized op (int_div x.den (gcd_of x.den y.den) *ℤ int_div y.den (gcd_of t (gcd_of x.den y.den)))
-  Ok (record { num = int_div t (gcd_of t (gcd_of x.den y.den)); den = den })
+unfoldable pub written_add : Terms → Terms → Option Terms
+written_add x y = do
+  u ← sized (x.num *ℤ int_div y.den (gcd_of x.den y.den))
+  v ← sized (y.num *ℤ int_div x.den (gcd_of x.den y.den))
+  t ← sized (u +ℤ v)
+  den ← sized (int_div x.den (gcd_of x.den y.den) *ℤ int_div y.den (gcd_of t (gcd_of x.den y.den)))
+  Some (record { num = int_div t (gcd_of t (gcd_of x.den y.den)); den = den })
 
 -- the fraction with the other sign
 unfoldable pub opposite : Terms → Terms

@@ -9,18 +9,79 @@ use crate::written::{inverse, multiply, opposite, plus};
 use crate::{FractionFault, NumberFault};
 use field_core::{List, NoMemory, Number, Op, Ratio, TooWide};
 use std::cmp::Ordering;
+use std::fmt;
+use std::marker::Model;
 
 /// A fraction in lowest terms: its denominator is at least 1, and both parts are at most 2^127 - 1 in size.
-#[derive(Clone, Copy)]
+#[derive(Clone, Copy, PartialEq, Eq, Debug)]
 pub struct Fraction {
     ratio: Ratio,
+}
+
+impl Model for Fraction {
+    ghost use Rattle.field_core.specs.declared.ratio.Ratio.{Ratio};
+
+    ghost Value = { Ratio };
+
+    ghost view = { λ f. f.ratio };
+
+    ghost inverse = { λ r. record { ratio = r } };
+}
+
+impl Ord for Fraction {
+    ghost use Rattle.std.specs.Prelude.{refl};
+    ghost use Rattle.fraction.specs.Laws.Order.{by_value, by_value_total, by_value_ties};
+
+    ghost cmp = { by_value };
+
+    ghost total = { by_value_total };
+
+    ghost matches_partial_cmp = { λ x y. refl };
+
+    ghost matches_eq = { by_value_ties };
+
+    fn cmp(&self, other: &Fraction) -> Ordering {
+        self.ratio.compare(&other.ratio)
+    }
+}
+
+impl PartialOrd for Fraction {
+    ghost use Rattle.std.specs.Ordering.{as_partial_cmp};
+    ghost use Rattle.fraction.specs.Laws.Order.{by_value, by_value_partial};
+
+    ghost partial_cmp = { as_partial_cmp by_value };
+
+    ghost laws = { by_value_partial };
+
+    fn partial_cmp(&self, other: &Fraction) -> Option<Ordering> {
+        Some(self.cmp(other))
+    }
+}
+
+/// `n` where the denominator is 1, else `n/d`.
+impl fmt::Display for Fraction {
+    ghost use Rattle.std.specs.Prelude.{Some};
+    ghost use Rattle.field_core.specs.View.{terms};
+    ghost use Rattle.fraction.specs.Spelling.{spelling};
+
+    ghost output = { λ x. Some (spelling (terms x)) };
+
+    fn fmt<W: fmt::Write>(&self, f: &mut fmt::Formatter<W>) -> fmt::Result {
+        let num = self.ratio.num();
+        let den = self.ratio.den();
+        if den == 1 {
+            write!(f, "{num}")
+        } else {
+            write!(f, "{num}/{den}")
+        }
+    }
 }
 
 #[tactic(auto, unfolding(field_core::specs::Kind::is_zero, field_core::specs::Kind::sign_of))]
 impl Number for Fraction {
     ghost kind = { plain };
 
-    ghost parts = { λ x. fraction_parts x.ratio };
+    ghost parts = { fraction_parts };
 
     ghost IsStored = { IsFraction };
 
@@ -37,22 +98,22 @@ impl Number for Fraction {
     }
 
     fn add(&self, other: &Fraction) -> Result<Fraction, TooWide> {
-        let ratio = plus(Op::Add, &self.ratio, &other.ratio)?;
+        let ratio = plus(&self.ratio, &other.ratio).ok_or(TooWide { op: Op::Add })?;
         Ok(Fraction { ratio })
     }
 
     fn sub(&self, other: &Fraction) -> Result<Fraction, TooWide> {
-        let ratio = plus(Op::Sub, &self.ratio, &opposite(&other.ratio))?;
+        let ratio = plus(&self.ratio, &opposite(&other.ratio)).ok_or(TooWide { op: Op::Sub })?;
         Ok(Fraction { ratio })
     }
 
     fn mul(&self, other: &Fraction) -> Result<Fraction, TooWide> {
-        let ratio = multiply(Op::Mul, &self.ratio, &other.ratio)?;
+        let ratio = multiply(&self.ratio, &other.ratio).ok_or(TooWide { op: Op::Mul })?;
         Ok(Fraction { ratio })
     }
 
     fn div(&self, other: &Fraction) -> Result<Fraction, TooWide> {
-        let ratio = multiply(Op::Div, &self.ratio, &inverse(&other.ratio))?;
+        let ratio = multiply(&self.ratio, &inverse(&other.ratio)).ok_or(TooWide { op: Op::Div })?;
         Ok(Fraction { ratio })
     }
 
@@ -73,7 +134,7 @@ impl Number for Fraction {
         self.ratio
     }
 
-    ghost stored = { λ x. fraction_stored x.ratio };
+    ghost stored = { fraction_stored };
 
     ghost exact = { plain_is_exact };
 }
@@ -87,6 +148,7 @@ impl Fraction {
     ghost use Rattle.fraction.specs.Lowest.{lowest_terms, HasWidePart};
     ghost use Rattle.fraction.specs.Numeral.{IsNumeralOf, IsParseFault};
     ghost use Rattle.fraction.specs.Spelling.{spelling};
+    ghost use Rattle.fraction.specs.Tests.{is_zero, is_one, is_within, absolute};
 
     /// The fraction num/den, in lowest terms. `ZeroDenominator` where `den` is 0, else `TooWide` where a part in lowest
     /// terms has 2^127 or more in size.
@@ -133,5 +195,38 @@ impl Fraction {
         ensures { terms result ≡ terms_of self.now }
     {
         self.ratio
+    }
+    /// Whether it is 0.
+    pub fn is_zero(&self) -> bool
+        ensures { result ≡ is_zero (terms self.now) }
+    {
+        self.ratio.num() == 0
+    }
+
+    /// Whether it is 1.
+    pub fn is_one(&self) -> bool
+        ensures { result ≡ is_one (terms self.now) }
+    {
+        self.ratio.num() == 1 && self.ratio.den() == 1
+    }
+
+    /// Whether numerator and denominator are at most `limit` in size.
+    pub fn is_within(&self, limit: u128) -> bool
+        ensures { result ≡ is_within limit (terms self.now) }
+    {
+        self.ratio.num().unsigned_abs() <= limit && self.ratio.den().unsigned_abs() <= limit
+    }
+
+    /// The fraction without its sign.
+    pub fn abs(&self) -> Fraction
+        ensures { terms result ≡ absolute (terms self.now) }
+    {
+        if self.ratio.num() < 0 {
+            Fraction {
+                ratio: opposite(&self.ratio),
+            }
+        } else {
+            *self
+        }
     }
 }

@@ -1,13 +1,14 @@
 //! The written operations on fractions.
 ghost use Rattle.std.specs.Prelude.{◌≡◌, ◌≢◌, pos};
-ghost use Rattle.field_core.specs.View.{terms, in_terms};
+ghost use Rattle.std.specs.Option.{option_map};
+ghost use Rattle.field_core.specs.View.{terms};
 ghost use Rattle.fraction.specs.Written.{written_mul, written_add, opposite, inverse};
 
-use field_core::{Op, Ratio, TooWide};
+use field_core::Ratio;
 
 #[tactic(auto, unfolding(crate::specs::Written::written_mul))]
-pub fn multiply(op: Op, x: &Ratio, y: &Ratio) -> Result<Ratio, TooWide>
-    ensures { in_terms result ≡ written_mul op (terms x.now) (terms y.now) }
+pub fn multiply(x: &Ratio, y: &Ratio) -> Option<Ratio>
+    ensures { option_map terms result ≡ written_mul (terms x.now) (terms y.now) }
 {
     let n1 = x.whole_num();
     let d1 = x.whole_den();
@@ -15,25 +16,25 @@ pub fn multiply(op: Op, x: &Ratio, y: &Ratio) -> Result<Ratio, TooWide>
     let d2 = y.whole_den();
     let a = n1.common_divisor(d2);
     let b = n2.common_divisor(d1);
-    let num = n1.over(a).times(op, n2.over(b))?;
-    let den = d1.over(b).times(op, d2.over(a))?;
-    Ok(Ratio::of_wholes(num, den))
+    let num = n1.over(a).checked_mul(n2.over(b))?;
+    let den = d1.over(b).checked_mul(d2.over(a))?;
+    Some(Ratio::of_wholes(num, den))
 }
 
 #[tactic(auto, unfolding(crate::specs::Written::written_add))]
-pub fn plus(op: Op, x: &Ratio, y: &Ratio) -> Result<Ratio, TooWide>
-    ensures { in_terms result ≡ written_add op (terms x.now) (terms y.now) }
+pub fn plus(x: &Ratio, y: &Ratio) -> Option<Ratio>
+    ensures { option_map terms result ≡ written_add (terms x.now) (terms y.now) }
 {
     let d1 = x.whole_den();
     let d2 = y.whole_den();
     let g = d1.common_divisor(d2);
     let rest = d1.over(g);
-    let u = x.whole_num().times(op, d2.over(g))?;
-    let v = y.whole_num().times(op, rest)?;
-    let t = u.plus(op, v)?;
+    let u = x.whole_num().checked_mul(d2.over(g))?;
+    let v = y.whole_num().checked_mul(rest)?;
+    let t = u.checked_add(v)?;
     let h = t.common_divisor(g);
-    let den = rest.times(op, d2.over(h))?;
-    Ok(Ratio::of_wholes(t.over(h), den))
+    let den = rest.checked_mul(d2.over(h))?;
+    Some(Ratio::of_wholes(t.over(h), den))
 }
 
 #[tactic(auto, unfolding(crate::specs::Written::opposite))]

@@ -1,9 +1,9 @@
 -- The plain kind is exact.
-use Rattle.std.proofs.Common.{◌≡◌, ◌≢◌, refl, sym, ap, ap₂, subst, ◌∙◌, ℤ, pos, negsuc, zero, suc, neg_ℤ, ◌*ℤ◌, ◌<ℤ◌, [], ◌∷◌, true, false, Result, Ok, Err, arith}
+use Rattle.std.proofs.Common.{◌≡◌, ◌≢◌, refl, sym, ap, ap₂, subst, ◌∙◌, ℤ, pos, negsuc, zero, suc, neg_ℤ, ◌*ℤ◌, ◌<ℤ◌, [], ◌∷◌, true, false, Option, Some, None, arith}
+use Rattle.std.specs.Option.{option_map}
 use Rattle.std.proofs.lemmas.Int.{ints}
 use Rattle.field_core.specs.declared.place.Op.{Op}
 use Rattle.field_core.specs.declared.place.Op.TheVariants.{Add, Sub, Mul, Div}
-use Rattle.field_core.specs.declared.place.TooWide.{TooWide}
 use Rattle.field_core.specs.Terms.{Terms, IsReduced}
 use Rattle.fraction.specs.Written.{opposite, inverse, inverse_of}
 use Rattle.fraction.specs.Laws.CrossProducts.{sum_of, product_of}
@@ -21,7 +21,7 @@ use Rattle.field_core.specs.Laws.FractionLaws.{quotient-pair, fraction-equal, fr
 use Rattle.field_core.specs.Laws.Effective.{positive_nonzero, product_positive, fraction-cross, fraction-compare}
 use Rattle.field_core.specs.Limit.{limit}
 use Rattle.field_core.specs.Laws.LimitLaws.{limit-fraction}
-use Rattle.field_core.specs.Kind.{Parts, is_zero, is_zero_integer, sign_of, ok_map}
+use Rattle.field_core.specs.Kind.{Parts, is_zero, is_zero_integer, sign_of}
 use Rattle.field_core.specs.Exact.{IsExact, MayTake, value_of, exact_result}
 use Rattle.fraction.specs.Plain.{plain, IsFraction, pair_of, single, zero_reduced, one_reduced}
 use Rattle.fraction.specs.Laws.WrittenLaws.{Makes, add_says, mul_says}
@@ -138,18 +138,14 @@ value_nonzero n d s h e =
     zero_times : (d : ℤ) → pos 0 *ℤ d ≡ pos 0
     zero_times d = omega (arith, ints)
 
-pub record Mapped (r : Result Terms TooWide) (z : Parts) : Type 0 where
+pub record Mapped (r : Option Terms) (z : Parts) : Type 0 where
   pub pair : Terms
-  pub is : r ≡ Ok pair
+  pub is : r ≡ Some pair
   pub seen : z ≡ single pair
 
-mapped : (r : Result Terms TooWide) (z : Parts) → ok_map single r ≡ Ok z → Mapped r z
-mapped (Ok p) z h = record { pair = p; is = refl; seen = cc }
-mapped (Err e) z h = absurd (cc)
-
-pub mapped_err : (r : Result Terms TooWide) (e : TooWide) → Path (Result Parts TooWide) (Err e) (ok_map single r) → r ≡ Err e
-mapped_err (Ok x) e h = absurd (cc)
-mapped_err (Err f) e h = cc
+mapped : (r : Option Terms) (z : Parts) → option_map single r ≡ Some z → Mapped r z
+mapped (Some p) z h = record { pair = p; is = refl; seen = cc }
+mapped None z h = absurd (cc)
 
 stored_of : (z : Parts) (p : Terms) → z ≡ single p → IsReduced p → IsFraction z
 stored_of z p e r = record { reduced = rw e r; shape = rw e refl }
@@ -165,25 +161,25 @@ pub record Result_is (z : Parts) (v : Number) : Type 0 where
 made : (z : Parts) (p : Terms) (v : Number) → z ≡ single p → IsReduced p → value p ≡ v → Result_is z v
 made z p v e r h = record { stored = stored_of z p e r; value = value_from z p e ∙ h }
 
-run : (op : Op) (x y z : Parts) → IsFraction x → IsFraction y → MayTake op y → plain.written op x y ≡ Ok z → Result_is z (exact_result op (value_of x) (value_of y))
+run : (op : Op) (x y z : Parts) → IsFraction x → IsFraction y → MayTake op y → plain.written op x y ≡ Some z → Result_is z (exact_result op (value_of x) (value_of y))
 run Add x y z f g t h =
     let m = mapped _ z h in
-    let s = add_says Add _ _ m.pair f.reduced g.reduced m.is in
+    let s = add_says _ _ m.pair f.reduced g.reduced m.is in
     made z m.pair _ m.seen s.reduced (add_value _ _ m.pair f.reduced g.reduced s ∙ ap₂ ◌+ε◌ (sym (shown x f)) (sym (shown y g)))
 run Sub x y z f g t h =
     let m = mapped _ z h in
     let o = opposite_reduced _ g.reduced in
-    let s = add_says Sub _ _ m.pair f.reduced o m.is in
+    let s = add_says _ _ m.pair f.reduced o m.is in
     made z m.pair _ m.seen s.reduced (add_value _ _ m.pair f.reduced o s ∙ ap₂ ◌+ε◌ (sym (shown x f)) (opposite_value _ g.reduced ∙ ap number_negate (sym (shown y g))) ∙ sym (number_subtract_is _ _))
 run Mul x y z f g t h =
     let m = mapped _ z h in
-    let s = mul_says Mul _ _ m.pair f.reduced g.reduced m.is in
+    let s = mul_says _ _ m.pair f.reduced g.reduced m.is in
     made z m.pair _ m.seen s.reduced (mul_value _ _ m.pair f.reduced g.reduced s ∙ ap₂ ◌*ε◌ (sym (shown x f)) (sym (shown y g)))
 run Div x y z f g t h =
     let m = mapped _ z h in
     let n = not_zero _ (sym (zero_first y g) ∙ t) in
     let i = inverse_reduced _ g.reduced n in
-    let s = mul_says Div _ _ m.pair f.reduced i m.is in
+    let s = mul_says _ _ m.pair f.reduced i m.is in
     made z m.pair _ m.seen s.reduced (div_value _ _ m.pair f.reduced g.reduced n (value_nonzero _ _ (some _ g.reduced) n) s ∙ ap₂ ◌/ε◌ (sym (shown x f)) (sym (shown y g)))
 
 lowest_single : (n : ℤ) → lowest (n ∷ []) ≡ n

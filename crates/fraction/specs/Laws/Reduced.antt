@@ -1,4 +1,4 @@
-use Rattle.std.proofs.Common.{◌≡◌, ℕ, zero, suc, ◌+◌, ◌*◌, ◌/◌, ◌<◌, ◌^◌, refl, arith, ℤ, pos, negsuc, ◌+ℤ◌, ◌*ℤ◌, ◌<ℤ◌, unsigned_abs, Ok, int_div, inl, inr, neg_ℤ, ◌⊎◌}
+use Rattle.std.proofs.Common.{◌≡◌, ℕ, zero, suc, ◌+◌, ◌*◌, ◌/◌, ◌<◌, ◌^◌, refl, arith, ℤ, pos, negsuc, ◌+ℤ◌, ◌*ℤ◌, ◌<ℤ◌, unsigned_abs, Some, int_div, inl, inr, neg_ℤ, ◌⊎◌}
 use Rattle.std.proofs.lemmas.Bool.{cases_lt}
 use Rattle.std.proofs.lemmas.Nat.Gcd.{dvd_refl, dvd_trans}
 use Rattle.std.proofs.Math.Nat.{pos_of_dvd_of_pos, dvd-mul_left_of_dvd, mul-div_assoc, div-mul_cancel, div-le_self, dvd-add_iff_left, dvd-add}
@@ -9,17 +9,16 @@ use Rattle.std.specs.Int.{◌∣◌}
 use Rattle.field_core.specs.Divisor.{gcd}
 use Rattle.field_core.specs.Terms.{Terms, IsReduced}
 use Rattle.field_core.specs.Sized.{sized, gcd_of}
-use Rattle.field_core.specs.declared.place.Op.{Op}
 use Rattle.field_core.specs.Laws.Effective.{product_positive}
 use Rattle.field_core.proofs.Divisors.{gcd_is}
 use Rattle.field_core.proofs.Coprime.{Apart, apart_from_gcd, gcd_from_apart, apart_swap, apart_parts, apart_product, quotients_apart, quotient_divides, gcd_bounds}
 
 -- what a sized part says
-pub sized_says : (op : Op) (z x : ℤ) → sized op z ≡ Ok x → (x ≡ z) × (unsigned_abs x < 2 ^ 127)
-sized_says op z x h =
+pub sized_says : (z x : ℤ) → sized z ≡ Some x → (x ≡ z) × (unsigned_abs x < 2 ^ 127)
+sized_says z x h =
     elim (cases_lt (unsigned_abs z) (2 ^ 127)) [
-      | inl small ↦ let e : x ≡ z = cc (sized_small op z small) in (e, rw e small)
-      | inr large ↦ absurd (let e = sized_large op z large in cc)
+      | inl small ↦ let e : x ≡ z = cc (sized_small z small) in (e, rw e small)
+      | inr large ↦ absurd (let e = sized_large z large in cc)
     ]
 
 unsigned_abs-neg : (n : ℕ) → unsigned_abs (neg_ℤ (pos n)) ≡ n
@@ -40,16 +39,16 @@ whole_positive : (z : ℤ) (g : ℕ) → pos 0 <ℤ z → g ∣ unsigned_abs z �
 whole_positive (pos n) g h d = let q = quot_positive (pos n) g h d in omega (arith, ints)
 whole_positive (negsuc n) g h d = absurd (omega (arith, ints))
 
-pub mul_reduced : (op : Op) (x y : Terms) (num den : ℤ) → IsReduced x → IsReduced y → sized op (int_div x.num (gcd_of x.num y.den) *ℤ int_div y.num (gcd_of y.num x.den)) ≡ Ok num → sized op (int_div x.den (gcd_of y.num x.den) *ℤ int_div y.den (gcd_of x.num y.den)) ≡ Ok den → IsReduced (record { num = num; den = den })
-mul_reduced op x y num den p q e f =
+pub mul_reduced : (x y : Terms) (num den : ℤ) → IsReduced x → IsReduced y → sized (int_div x.num (gcd_of x.num y.den) *ℤ int_div y.num (gcd_of y.num x.den)) ≡ Some num → sized (int_div x.den (gcd_of y.num x.den) *ℤ int_div y.den (gcd_of x.num y.den)) ≡ Some den → IsReduced (record { num = num; den = den })
+mul_reduced x y num den p q e f =
     let n1 = unsigned_abs x.num in
     let d1 = unsigned_abs x.den in
     let n2 = unsigned_abs y.num in
     let d2 = unsigned_abs y.den in
     let a = gcd n1 d2 in
     let b = gcd n2 d1 in
-    let top = sized_says _ _ _ e in
-    let low = sized_says _ _ _ f in
+    let top = sized_says _ _ e in
+    let low = sized_says _ _ f in
     let ga = gcd_is n1 d2 in
     let gb = gcd_is n2 d1 in
     let some_a : 0 < a = (gcd_bounds n1 d2 (abs_of_positive y.den q.positive)).0 in
@@ -88,8 +87,8 @@ dvd_first d u v h k =
 dvd_second : (d : ℕ) (u v : ℤ) → d ∣ unsigned_abs (u +ℤ v) → d ∣ unsigned_abs u → d ∣ unsigned_abs v
 dvd_second d u v h k = dvd_first d v u (rw (+ℤ_comm v u) h) k
 
-pub add_reduced : (op : Op) (x y : Terms) (u v t den : ℤ) → IsReduced x → IsReduced y → sized op (x.num *ℤ int_div y.den (gcd_of x.den y.den)) ≡ Ok u → sized op (y.num *ℤ int_div x.den (gcd_of x.den y.den)) ≡ Ok v → sized op (u +ℤ v) ≡ Ok t → sized op (int_div x.den (gcd_of x.den y.den) *ℤ int_div y.den (gcd_of t (gcd_of x.den y.den))) ≡ Ok den → IsReduced (record { num = int_div t (gcd_of t (gcd_of x.den y.den)); den = den })
-add_reduced op x y u v t den p q eu ev et ed =
+pub add_reduced : (x y : Terms) (u v t den : ℤ) → IsReduced x → IsReduced y → sized (x.num *ℤ int_div y.den (gcd_of x.den y.den)) ≡ Some u → sized (y.num *ℤ int_div x.den (gcd_of x.den y.den)) ≡ Some v → sized (u +ℤ v) ≡ Some t → sized (int_div x.den (gcd_of x.den y.den) *ℤ int_div y.den (gcd_of t (gcd_of x.den y.den))) ≡ Some den → IsReduced (record { num = int_div t (gcd_of t (gcd_of x.den y.den)); den = den })
+add_reduced x y u v t den p q eu ev et ed =
     let n1 = unsigned_abs x.num in
     let d1 = unsigned_abs x.den in
     let n2 = unsigned_abs y.num in
@@ -97,10 +96,10 @@ add_reduced op x y u v t den p q eu ev et ed =
     let g = gcd d1 d2 in
     let tt' = unsigned_abs t in
     let h = gcd tt' g in
-    let su = sized_says _ _ _ eu in
-    let sv = sized_says _ _ _ ev in
-    let st = sized_says _ _ _ et in
-    let sd = sized_says _ _ _ ed in
+    let su = sized_says _ _ eu in
+    let sv = sized_says _ _ ev in
+    let st = sized_says _ _ et in
+    let sd = sized_says _ _ ed in
     let gd = gcd_is d1 d2 in
     let gh = gcd_is tt' g in
     let some_g : 0 < g = (gcd_bounds d1 d2 (abs_of_positive y.den q.positive)).0 in

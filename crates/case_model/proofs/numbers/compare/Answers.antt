@@ -10,4 +10,4 @@ returns c =
     let order : Terms → Terms → _ = λ s t. int_cmp (s.num *ℤ t.den) (t.num *ℤ s.den) in
     let x = c.args.x.now in
     let y = c.args.y.now in
-    c.compare.ensures ∙ ap₂ order c.ratio.ensures c.ratio-2.ensures ∙ compare_terms (terms_of x) (terms_of y) x.ratio.valid.positive y.ratio.valid.positive
+    c.compare.ensures ∙ ap₂ order c.ratio.ensures c.ratio-2.ensures ∙ compare_terms (terms_of x) (terms_of y) x.valid.positive y.valid.positive

@@ -1,6 +1,5 @@
 use Rattle.std.proofs.Common.{◌≡◌, arith, Some, None}
 use Rattle.field_core.specs.Polynomial.{coefficient}
-use Rattle.field_core.specs.declared.place.Op.TheVariants.{Mul}
 use Rattle.eps_poly.specs.View.{coefficients}
 use Rattle.eps_poly.proofs.Coefficients.{filled_none, filled_more}
 use Rattle.eps_poly.proofs.QuotientLaws.{quotient_known, some_inside}
@@ -23,5 +22,5 @@ returns-in_err-next c q e =
 pub returns : goal.returns
 returns c q e =
     let low = c.order-low.ensures.value in
-    quotient_known Mul (coefficients c.args.p.now) (coefficients c.args.by.now) q (coefficients c.loop-power.quotient) c.loop-power.power c.order-low.result e low c.requires c.loop-power-test.false
+    quotient_known (coefficients c.args.p.now) (coefficients c.args.by.now) q (coefficients c.loop-power.quotient) c.loop-power.power c.order-low.result e low c.requires c.loop-power-test.false
     (λ k h. c.loop-power.invariant.front k h q e) c.loop-power.invariant.rest

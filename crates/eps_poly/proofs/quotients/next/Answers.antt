@@ -1,8 +1,6 @@
 use Rattle.std.proofs.Common.{◌≡◌, ◌+◌, ◌∙◌, sym, ap, ap₂, ◌*ℤ◌, ◌+ℤ◌, neg_ℤ, Some, None}
-use Rattle.std.specs.Result.{result_ok}
 use Rattle.field_core.specs.Polynomial.{coefficient}
 use Rattle.field_core.specs.Sized.{sized}
-use Rattle.field_core.specs.declared.place.Op.TheVariants.{Mul}
 use Rattle.eps_poly.specs.View.{coefficients}
 use Rattle.eps_poly.proofs.QuotientLaws.{next_step, divisor_some, some_inside}
 use Rattle.eps_poly.proofs.quotients.next.Goals as goal
@@ -12,9 +10,9 @@ returns-in_err-part c q e same =
     let p = coefficients c.args.p.now in
     let by = coefficients c.args.by.now in
     let at = c.args.power + c.args.low in
-    let s = next_step Mul p by q (coefficients c.args.known.now) c.args.power c.args.low e c.requires.low c.requires.power same in
-    let found : c.ok.result ≡ Some s.part = c.ok.ensures.value ∙ ap result_ok (c.part_of_product.ensures ∙ s.known_part) in
-    let none : c.ok.result ≡ None = c.in_err-part.was in
+    let s = next_step p by q (coefficients c.args.known.now) c.args.power c.args.low e c.requires.low c.requires.power same in
+    let found : c.part_of_product.result ≡ Some s.part = c.part_of_product.ensures ∙ s.known_part in
+    let none : c.part_of_product.result ≡ None = c.in_err-part.was in
     absurd (cc)
 
 pub returns-in_err-rest : goal.returns-in_err-rest
@@ -22,12 +20,12 @@ returns-in_err-rest c q e same =
     let p = coefficients c.args.p.now in
     let by = coefficients c.args.by.now in
     let at = c.args.power + c.args.low in
-    let s = next_step Mul p by q (coefficients c.args.known.now) c.args.power c.args.low e c.requires.low c.requires.power same in
-    let found : c.ok.result ≡ Some s.part = c.ok.ensures.value ∙ ap result_ok (c.part_of_product.ensures ∙ s.known_part) in
+    let s = next_step p by q (coefficients c.args.known.now) c.args.power c.args.low e c.requires.low c.requires.power same in
+    let found : c.part_of_product.result ≡ Some s.part = c.part_of_product.ensures ∙ s.known_part in
     let part : c.in_ok-part.part ≡ s.part = some_inside _ _ (sym c.in_ok-part.was ∙ found) in
-    let sum : c.plus.result ≡ sized Mul (coefficient p at +ℤ neg_ℤ s.part) = c.plus.ensures ∙ ap₂ (λ a b. sized Mul (a +ℤ b)) c.whole.ensures (c.negated.ensures ∙ ap neg_ℤ part) in
-    let rest : c.ok-2.result ≡ Some (coefficient q c.args.power *ℤ coefficient by c.args.low) = c.ok-2.ensures.value ∙ ap result_ok (sum ∙ s.rest) in
-    let none : c.ok-2.result ≡ None = c.in_err-rest.was in
+    let sum : c.checked_add.result ≡ sized (coefficient p at +ℤ neg_ℤ s.part) = c.checked_add.ensures ∙ ap₂ (λ a b. sized (a +ℤ b)) c.whole.ensures (c.negated.ensures ∙ ap neg_ℤ part) in
+    let rest : c.checked_add.result ≡ Some (coefficient q c.args.power *ℤ coefficient by c.args.low) = sum ∙ s.rest in
+    let none : c.checked_add.result ≡ None = c.in_err-rest.was in
     absurd (cc)
 
 pub divided-requires : goal.divided-requires
@@ -39,10 +37,10 @@ returns c q e same =
     let p = coefficients c.args.p.now in
     let by = coefficients c.args.by.now in
     let at = c.args.power + c.args.low in
-    let s = next_step Mul p by q (coefficients c.args.known.now) c.args.power c.args.low e c.requires.low c.requires.power same in
-    let found : c.ok.result ≡ Some s.part = c.ok.ensures.value ∙ ap result_ok (c.part_of_product.ensures ∙ s.known_part) in
+    let s = next_step p by q (coefficients c.args.known.now) c.args.power c.args.low e c.requires.low c.requires.power same in
+    let found : c.part_of_product.result ≡ Some s.part = c.part_of_product.ensures ∙ s.known_part in
     let part : c.in_ok-part.part ≡ s.part = some_inside _ _ (sym c.in_ok-part.was ∙ found) in
-    let sum : c.plus.result ≡ sized Mul (coefficient p at +ℤ neg_ℤ s.part) = c.plus.ensures ∙ ap₂ (λ a b. sized Mul (a +ℤ b)) c.whole.ensures (c.negated.ensures ∙ ap neg_ℤ part) in
-    let rest : c.ok-2.result ≡ Some (coefficient q c.args.power *ℤ coefficient by c.args.low) = c.ok-2.ensures.value ∙ ap result_ok (sum ∙ s.rest) in
+    let sum : c.checked_add.result ≡ sized (coefficient p at +ℤ neg_ℤ s.part) = c.checked_add.ensures ∙ ap₂ (λ a b. sized (a +ℤ b)) c.whole.ensures (c.negated.ensures ∙ ap neg_ℤ part) in
+    let rest : c.checked_add.result ≡ Some (coefficient q c.args.power *ℤ coefficient by c.args.low) = sum ∙ s.rest in
     let product : c.in_ok-rest.rest ≡ coefficient q c.args.power *ℤ coefficient by c.args.low = some_inside _ _ (sym c.in_ok-rest.was ∙ rest) in
     (c.divided.ensures (coefficient q c.args.power)).1 (ap (λ x. coefficient q c.args.power *ℤ x) c.whole-2.ensures ∙ sym product)

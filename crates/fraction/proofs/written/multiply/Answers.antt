@@ -13,4 +13,4 @@ of_wholes-requires c =
     let d2 = c.whole_den-d2.ensures in
     let e = rw (c.over.ensures, c.over-2.ensures, a, b, n1, d1, n2, d2) at (sym c.in_ok-num.ensures) in
     let f = rw (c.over-3.ensures, c.over-4.ensures, a, b, n1, d1, n2, d2) at (sym c.in_ok-den.ensures) in
-    mul_reduced c.args.op (terms c.args.x.now) (terms c.args.y.now) _ _ c.args.x.now.valid c.args.y.now.valid e f
+    mul_reduced (terms c.args.x.now) (terms c.args.y.now) _ _ c.args.x.now.valid c.args.y.now.valid e f

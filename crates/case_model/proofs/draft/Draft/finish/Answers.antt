@@ -15,7 +15,7 @@ of-requires c =
         content_is = sym (content_by_parts (said c.args.self) (map component_content made.components) (inputs_content made.inputs) c.in-Ok.ensures.components c.in-Ok.ensures.inputs);
         faultless = c.in-Ok.ensures.faultless;
       });
-      level = c.args.self.alpha.ratio.valid;
+      level = c.args.self.alpha.valid;
       components = lowest_components made.components;
       inputs = lowest_inputs made.inputs;
     }

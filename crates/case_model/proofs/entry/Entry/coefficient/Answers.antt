@@ -5,6 +5,6 @@ use Rattle.case_model.proofs.entry.Entry.coefficient.Goals as goal
 
 pub returns : goal.returns
 returns c =
-    let e = c.args.self.now in
-    let within : c.args.power < length e.coefficients = omega arith in
-    ap terms_of (sym c.index-self-power.is) ∙ sym (item_terms e.coefficients c.args.power c.index-self-power.result within c.index-self-power.is)
+    let xs = c.self.inside.coefficients in
+    let within : c.args.power < length xs = omega arith in
+    rw (← c.self.view_is) (ap terms_of (sym c.index-self-power.is) ∙ sym (item_terms xs c.args.power c.index-self-power.result within c.index-self-power.is))

@@ -1,9 +1,0 @@
-use Rattle.std.proofs.Common.{◌≡◌, Ok, ◌+ℤ◌}
-use Rattle.field_core.specs.Polynomial.{coefficient}
-use Rattle.field_core.specs.Sized.{sized}
-use Rattle.eps_poly.specs.View.{coefficients}
-use Rattle.eps_poly.proofs.Coefficients.{Filled}
-use Rattle.eps_poly.proofs.poly.EpsPoly.plus.Given as goal
-
-abbrev pub invariant-loop-power : goal.invariant-loop-power
-invariant-loop-power l = Filled (λ k c. sized l.fn.op (coefficient (coefficients l.fn.self) k +ℤ coefficient (coefficients l.fn.other) k) ≡ Ok c) (coefficients l.sum) l.power

@@ -1,8 +1,0 @@
-use Rattle.std.proofs.Common.{◌≡◌, Ok, ◌+◌}
-use Rattle.eps_poly.specs.View.{coefficients}
-use Rattle.eps_poly.specs.Written.{written_coefficient}
-use Rattle.eps_poly.proofs.Coefficients.{Filled}
-use Rattle.eps_poly.proofs.poly.EpsPoly.times.Given as goal
-
-abbrev pub invariant-loop-power : goal.invariant-loop-power
-invariant-loop-power l = Filled (λ k c. written_coefficient l.fn.op (coefficients l.fn.self) (coefficients l.fn.other) k (k + 1) ≡ Ok c) (coefficients l.product) l.power

@@ -1,0 +1,93 @@
+-- The order of fractions by value, and that it is one.
+use Rattle.std.proofs.Common.{◌≡◌, refl, sym, ap, ap₂, subst, ◌∙◌, ◌⊎◌, inl, inr, ℤ, pos, ◌*ℤ◌, ◌<ℤ◌, Bool, true, false, ◌&&◌, unsigned_abs, ◌*◌, arith}
+use Rattle.std.proofs.lemmas.Int.{ints, unsigned_abs-mul}
+use Rattle.std.proofs.lemmas.Nat.Gcd.{dvd_antisymm}
+use Rattle.std.proofs.Math.Nat.{dvd-mul_left}
+use Rattle.std.specs.Int.{◌∣◌}
+use Rattle.std.specs.Bool.{Decides}
+use Rattle.std.specs.Cmp.{IsTotalOrder, IsPartialOrder, both_ways, Equal-is, partial_order_from_agreeing_total}
+use Rattle.std.specs.Ordering.{int_cmp, int_eq, is_eq, eq_by_cmp, as_partial_cmp, ordering_reverse}
+use Rattle.std.specs.declared.cmp.Ordering.{Ordering}
+use Rattle.std.specs.declared.cmp.Ordering.TheVariants.{Less, Equal}
+use Rattle.std.proofs.lemmas.Cmp.{on_total, int_ranked, int_cmp_total, tied_itself}
+use Rattle.field_core.specs.Terms.{Terms, IsReduced}
+use Rattle.field_core.specs.View.{terms}
+use Rattle.field_core.specs.Number.{Number}
+use Rattle.field_core.specs.Arithmetic.{number_compare}
+use Rattle.field_core.specs.Fractions.{fraction}
+use Rattle.field_core.specs.Laws.FieldLaws.{number_is_field}
+use Rattle.field_core.specs.Laws.Effective.{fraction-compare, fraction-cross, positive_nonzero}
+use Rattle.field_core.specs.declared.ratio.Ratio.{Ratio}
+use Rattle.field_core.proofs.Coprime.{apart_from_gcd, divides_other}
+use Rattle.field_core.proofs.IntegerRing.{*ℤ_cancel}
+use Rattle.fraction.specs.Numeral.{Same}
+
+-- ---- one value has one pair of lowest terms
+
+abs_cross : (x y : Terms) → Same x y → unsigned_abs x.num * unsigned_abs y.den ≡ unsigned_abs y.num * unsigned_abs x.den
+abs_cross x y h = sym (unsigned_abs-mul x.num y.den) ∙ ap unsigned_abs h ∙ unsigned_abs-mul y.num x.den
+
+den_divides : (x y : Terms) → IsReduced x → Same x y → unsigned_abs x.den ∣ unsigned_abs y.den
+den_divides x y r h =
+    divides_other (unsigned_abs x.den) (unsigned_abs x.num) (unsigned_abs y.den) (apart_from_gcd (unsigned_abs x.num) (unsigned_abs x.den) r.reduced) (subst (λ n. unsigned_abs x.den ∣ n) (sym (abs_cross x y h)) (dvd-mul_left (unsigned_abs x.den) (unsigned_abs y.num)))
+
+same_den : (m n : ℤ) → pos 0 <ℤ m → pos 0 <ℤ n → unsigned_abs m ≡ unsigned_abs n → m ≡ n
+same_den m n p q e = omega (arith, ints)
+
+pub reduced_unique : (x y : Terms) → IsReduced x → IsReduced y → Same x y → x ≡ y
+reduced_unique x y r s h =
+    let den : x.den ≡ y.den = same_den x.den y.den r.positive s.positive (dvd_antisymm (den_divides x y r h) (den_divides y x s (sym h))) in
+    let num : x.num ≡ y.num = *ℤ_cancel x.num y.num x.den r.positive (subst (λ d. x.num *ℤ d ≡ y.num *ℤ x.den) (sym den) h) in
+    ap₂ (λ n d. record { num = n; den = d }) num den
+
+-- ---- the order
+
+-- the order of the cross products
+abbrev pub by_value : Ratio → Ratio → Ordering
+by_value x y = int_cmp (x.num *ℤ y.den) (y.num *ℤ x.den)
+
+value : Ratio → Number
+value x = fraction x.num x.den
+
+seen : (x y : Ratio) → number_compare (value x) (value y) ≡ by_value x y
+unfolding value
+seen x y = fraction-compare x.num x.den y.num y.den x.valid.positive y.valid.positive
+
+numbers_total : IsTotalOrder number_compare
+numbers_total = record {
+  antisymm = λ x y. number_is_field.compare_swap y x;
+  trans = λ x y z h g. number_is_field.compare_through x y z h g;
+  congr = λ x y z h. ap (λ v. number_compare v z) (number_is_field.compare_equal x y h);
+}
+
+pub by_value_total : IsTotalOrder by_value
+by_value_total = subst IsTotalOrder (λ i x y. seen x y i) (on_total value numbers_total)
+
+-- the same parts
+abbrev pub same_parts : Ratio → Ratio → Bool
+same_parts x y = int_eq x.num y.num && int_eq x.den y.den
+
+equal_parts : (x y : Ratio) → by_value x y ≡ Equal → terms x ≡ terms y
+unfolding value
+equal_parts x y h =
+    reduced_unique (terms x) (terms y) x.valid y.valid
+    (fraction-cross x.num x.den y.num y.den (positive_nonzero x.den x.valid.positive) (positive_nonzero y.den y.valid.positive) (number_is_field.compare_equal (value x) (value y) (seen x y ∙ h)))
+
+both_true : (a b : Bool) → (a && b) ≡ true → (a ≡ true) × (b ≡ true)
+both_true true b h = (refl, h)
+both_true false b h = absurd (cc)
+
+same_from : (a b : ℤ) → int_eq a b ≡ true → a ≡ b
+same_from a b h = int_ranked a b Equal (sym ((Equal-is (int_cmp a b)).0 h))
+
+eq_from : (a b : ℤ) → a ≡ b → int_eq a b ≡ true
+eq_from a b e = ap (λ c. is_eq (int_cmp c b)) e ∙ ap is_eq (tied_itself int_cmp_total b)
+
+pub by_value_ties : (x y : Ratio) → same_parts x y ≡ eq_by_cmp by_value x y
+by_value_ties x y =
+    both_ways (same_parts x y) (eq_by_cmp by_value x y)
+    (λ h. let p = both_true _ _ h in ap₂ (λ n d. is_eq (int_cmp (n *ℤ y.den) (y.num *ℤ d))) (same_from _ _ p.0) (same_from _ _ p.1) ∙ ap is_eq (tied_itself int_cmp_total (y.num *ℤ y.den)))
+    (λ h. let e = equal_parts x y ((Equal-is (by_value x y)).0 h) in ap₂ ◌&&◌ (eq_from _ _ (ap (λ t. t.num) e)) (eq_from _ _ (ap (λ t. t.den) e)))
+
+pub by_value_partial : IsPartialOrder same_parts (as_partial_cmp by_value)
+by_value_partial = partial_order_from_agreeing_total by_value by_value_total (λ x y. refl) by_value_ties
