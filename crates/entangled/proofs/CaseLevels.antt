@@ -26,7 +26,7 @@ use Rattle.removal.specs.ByValue.{graph_of, AreStored, IsSound}
 use Rattle.removal.specs.WrittenRemoval.{written_removal}
 use Rattle.removal.specs.Exactness.{RemovesExactly}
 use Rattle.removal.specs.Laws.Exact.{removal_is_exact}
-use Rattle.removal.proofs.SameBelow.{SameBelow, component_weight_same}
+use Rattle.field_core.proofs.SameBelow.{SameBelow, component_weight_same}
 use Rattle.entangled.specs.Bundled.{states_size}
 use Rattle.entangled.specs.BundleRun.{opened_after, AreReady, by_value, empty_graph}
 use Rattle.entangled.specs.Loading.{Numbers, numbers_of, CanRunIn, kind_of, loaded_graphs}

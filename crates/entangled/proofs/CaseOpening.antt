@@ -8,7 +8,7 @@ use Rattle.case_model.specs.Validity.{IsValidContent, AreLowestParts}
 use Rattle.case_model.proofs.Holding.{all_at}
 use Rattle.case_model.proofs.ValidContents.{shape, valid_content}
 use Rattle.removal.specs.StoredGraph.{StoredGraph}
-use Rattle.entangled.specs.Items.{in_component}
+use Rattle.field_core.specs.Steps.{in_component}
 use Rattle.entangled.specs.Loading.{Numbers, in_fractions, in_quotients, numbers_of, CanRunIn, kind_of, loaded_graph, loaded_graphs}
 use Rattle.entangled.proofs.CaseGraphs.{IsComponent, IsGraphOf}
 use Rattle.entangled.proofs.LoadedGraphs.{stored_in, CanLoadEach, loaded_is}

@@ -8,10 +8,9 @@ use Rattle.field_core.specs.declared.place.Place.TheVariants.{Edge}
 use Rattle.field_core.specs.declared.place.TooWide.{TooWide}
 use Rattle.case_model.specs.Entries.{entry_at, no_edge}
 use Rattle.case_model.specs.Content.{ComponentContent, Content, is_plain}
-use Rattle.removal.specs.Steps.{at, ◌>>=◌}
+use Rattle.field_core.specs.Steps.{at, ◌>>=◌, in_component}
 use Rattle.removal.specs.StoredGraph.{StoredGraph, all_live}
 use Rattle.removal.specs.ByValue.{IsSound}
-use Rattle.entangled.specs.Items.{in_component}
 use Rattle.entangled.specs.Bundled.{Bundled, opened}
 use Rattle.entangled.specs.Opening.{Opens}
 use Rattle.entangled.specs.Loading.{Numbers, in_fractions, in_quotients, numbers_of, kind_of, loaded_weight, loaded_edge, edge_at, loaded_edges, loaded_graph, loaded_graphs}

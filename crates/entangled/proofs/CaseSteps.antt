@@ -3,11 +3,11 @@ use Rattle.std.proofs.Common.{◌≡◌, refl, ap, ◌∙◌, ℕ, List, [], ◌
 use Rattle.field_core.specs.Kind.{ok_map}
 use Rattle.field_core.specs.declared.place.WideAt.{WideAt}
 use Rattle.case_model.specs.Content.{Content}
-use Rattle.removal.specs.Steps.{◌>>=◌}
+use Rattle.field_core.specs.Steps.{◌>>=◌}
 use Rattle.removal.specs.StoredGraph.{StoredGraph}
 use Rattle.removal.specs.InTurn.{removed_in_turn}
 use Rattle.removal.specs.WrittenRemoval.{written_removal}
-use Rattle.removal.specs.Laws.Prefixes.{bind_ok}
+use Rattle.field_core.specs.Laws.Prefixes.{bind_ok}
 use Rattle.removal.proofs.WeightsLeft.{turn_end, turn_none, turn_on, turn_first}
 use Rattle.entangled.specs.Bundled.{Bundled, removed}
 use Rattle.entangled.specs.BundleRun.{opened_after}

@@ -23,7 +23,7 @@ use Rattle.case_model.proofs.EntryOrder.{sum_of_five}
 use Rattle.case_model.proofs.ExactSums.{stored_single, value_single}
 use Rattle.case_model.proofs.PlainEntries.{plain_entry_value}
 use Rattle.removal.specs.StoredGraph.{StoredGraph, all_live}
-use Rattle.removal.specs.Laws.Prefixes.{bind_ok, at_ok, ok_same}
+use Rattle.field_core.specs.Laws.Prefixes.{bind_ok, at_ok, ok_same}
 use Rattle.entangled.specs.Loading.{Numbers, in_fractions, in_quotients, kind_of, five_coefficients, loaded_weight, loaded_edge, edge_at, loaded_edges, loaded_graph}
 use Rattle.entangled.proofs.CaseGraphs.{IsComponent, IsGraphOf, AreItsNumbers, reduced_at, place, is_graph}
 use Rattle.entangled.proofs.EachNet.{AreItems, items}

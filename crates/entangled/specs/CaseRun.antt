@@ -4,7 +4,7 @@ use Rattle.field_core.specs.Terms.{Terms}
 use Rattle.field_core.specs.Kind.{ok_map}
 use Rattle.field_core.specs.declared.place.WideAt.{WideAt}
 use Rattle.case_model.specs.Content.{Content}
-use Rattle.removal.specs.Steps.{◌>>=◌}
+use Rattle.field_core.specs.Steps.{◌>>=◌}
 use Rattle.removal.specs.StoredGraph.{StoredGraph}
 use Rattle.removal.specs.WrittenRemoval.{written_removal}
 use Rattle.entangled.specs.Bundled.{Bundled, size, is_live, level, opened, removed}

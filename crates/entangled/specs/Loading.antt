@@ -11,9 +11,9 @@ use Rattle.eps_quotient.specs.Polynomials.{term, written_polynomial}
 use Rattle.eps_quotient.specs.Quotients.{quotients}
 use Rattle.case_model.specs.Sums.{terms_at}
 use Rattle.case_model.specs.Content.{ComponentContent, Content, is_plain}
-use Rattle.removal.specs.Steps.{at, ◌>>=◌}
+use Rattle.field_core.specs.Steps.{in_component, at, ◌>>=◌}
 use Rattle.removal.specs.StoredGraph.{StoredGraph, all_live}
-use Rattle.entangled.specs.Items.{in_component, each_item}
+use Rattle.entangled.specs.Items.{each_item}
 
 -- the numbers that a case is run in
 pub data Numbers : Type 0 where

@@ -2,7 +2,7 @@ ghost use Rattle.std.specs.Prelude.{◌≡◌, ◌<◌, map, length, IfOk};
 ghost use Rattle.case_model.specs.Content.{component_at, is_plain};
 ghost use Rattle.case_model.specs.CaseView.{content};
 ghost use Rattle.removal.specs.NetView.{present_of};
-ghost use Rattle.entangled.specs.Items.{in_component};
+ghost use Rattle.field_core.specs.Steps.{in_component};
 ghost use Rattle.entangled.specs.Opening.{Opens};
 ghost use Rattle.entangled.specs.BundleView.{bundled};
 ghost use Rattle.entangled.specs.Loading.{CanRunIn, loaded_graph, loaded_graphs};

@@ -2,7 +2,7 @@ use Rattle.std.proofs.Common.{◌≡◌, ◌<◌, ◌≤◌, sym, subst, length,
 use Rattle.case_model.specs.Content.{ComponentContent, empty_component}
 use Rattle.case_model.specs.CaseView.{content}
 use Rattle.removal.specs.NetView.{present_of}
-use Rattle.entangled.specs.Items.{in_component}
+use Rattle.field_core.specs.Steps.{in_component}
 use Rattle.entangled.specs.Loading.{loaded_graph, loaded_graphs}
 use Rattle.entangled.proofs.LoadSteps.{AreMade, made_more, all_made, stop_all}
 use Rattle.entangled.proofs.case_net.load.nets.Goals as goal

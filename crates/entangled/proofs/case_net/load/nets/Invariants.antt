@@ -1,7 +1,7 @@
 use Rattle.std.proofs.Common.{length}
 use Rattle.case_model.specs.CaseView.{content}
 use Rattle.removal.specs.NetView.{present_of}
-use Rattle.entangled.specs.Items.{in_component}
+use Rattle.field_core.specs.Steps.{in_component}
 use Rattle.entangled.specs.Loading.{loaded_graph}
 use Rattle.entangled.proofs.LoadSteps.{AreMade}
 use Rattle.entangled.proofs.case_net.load.nets.Given as goal
