@@ -3,7 +3,7 @@ use Rattle.std.specs.Int.{w128}
 use Rattle.std.proofs.lemmas.Int.{to_z-of_z}
 use Rattle.field_core.specs.Sized.{sized}
 use Rattle.field_core.proofs.Sized.{sized_unfit}
-use Rattle.field_core.proofs.whole.Whole.checked_mul.Goals as goal
+use Rattle.field_core.proofs.whole.Whole.wide_mul.Goals as goal
 
 pub returns-in-Some : goal.returns-in-Some
 returns-in-Some c =
