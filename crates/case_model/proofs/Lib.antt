@@ -13,6 +13,7 @@ pub mod Holding
 pub mod IntersectionLaws
 pub mod IntersectionTotals
 pub mod LegalSteps
+pub mod LocalTests
 pub mod LowestParts
 pub mod NamePlaces
 pub mod NoFaults
