@@ -1,5 +1,10 @@
+pub mod AdjustedExamples
+pub mod AdjustedValues
+pub mod BoundExamples
+pub mod Bounds
 pub mod CaseFacts
 pub mod ClosedTestLaws
+pub mod ClosedTests
 pub mod Comparisons
 pub mod Consonance
 pub mod Constants

@@ -10,6 +10,7 @@ pub mod Numerals
 pub mod Read
 pub mod ReadBack
 pub mod ReadTexts
+pub mod SameRatios
 pub mod Scaling
 pub mod Scan
 pub mod ShortNumbers
