@@ -23,4 +23,7 @@ pub mod Names
 pub mod Rows
 pub mod SetAnswers
 pub mod Sums
+pub mod TextbookGraphs
+pub mod TextbookRules
+pub mod TextbookStatements
 pub mod Validity
