@@ -1,3 +1,6 @@
+pub mod AdjustedStatements
+pub mod AdjustedValues
+pub mod BoundStatements
 pub mod CaseFaults
 pub mod CaseStatements
 pub mod CaseView
@@ -6,6 +9,7 @@ pub mod ClosedTestExamples
 pub mod ClosedTestStatements
 pub mod ComponentView
 pub mod Content
+pub mod DiscoveryBound
 pub mod Draft
 pub mod DraftView
 pub mod EntangledGraph
@@ -17,5 +21,9 @@ pub mod LegalOrder
 pub mod NameIndexView
 pub mod Names
 pub mod Rows
+pub mod SetAnswers
 pub mod Sums
+pub mod TextbookGraphs
+pub mod TextbookRules
+pub mod TextbookStatements
 pub mod Validity
