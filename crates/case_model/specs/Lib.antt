@@ -22,6 +22,7 @@ pub mod NameIndexView
 pub mod Names
 pub mod Rows
 pub mod SetAnswers
+pub mod SetTableView
 pub mod Sums
 pub mod TextbookGraphs
 pub mod TextbookRules

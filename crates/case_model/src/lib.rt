@@ -16,6 +16,8 @@ mod numbers;
 mod p_values;
 mod row_sums;
 mod rows;
+mod set_table;
+mod sets;
 mod sums;
 mod tables;
 
@@ -27,6 +29,8 @@ pub use fault::{CaseFault, PartPlace, Refused};
 pub use inputs::{Inputs, Stages};
 pub use local_test::passes;
 pub use name_index::NameIndex;
+pub use set_table::SetTable;
+pub use sets::{added, dropped, holds};
 
 #[cfg(test)]
 mod samples;
