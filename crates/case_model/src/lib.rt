@@ -18,6 +18,8 @@ mod name_index;
 mod names;
 mod p_values;
 mod row_sums;
+mod set_table;
+mod sets;
 mod sums;
 
 pub use case::Case;
@@ -30,6 +32,8 @@ pub use fault::{CaseFault, PartPlace, Refused};
 pub use inputs::{Inputs, Stages};
 pub use local_test::passes;
 pub use name_index::NameIndex;
+pub use set_table::SetTable;
+pub use sets::{added, dropped, holds};
 
 #[cfg(test)]
 mod samples;

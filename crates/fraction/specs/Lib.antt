@@ -10,4 +10,5 @@ pub mod Sizes
 pub mod Spelling
 pub mod Tests
 pub mod View
+pub mod Within
 pub mod Written
