@@ -1,4 +1,5 @@
 pub mod Accepted
+pub mod AtOnce
 pub mod Bodies
 pub mod Classes
 pub mod Cut

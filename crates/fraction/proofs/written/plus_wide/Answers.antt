@@ -1,7 +1,7 @@
 use Rattle.std.proofs.Common.{sym}
 use Rattle.field_core.specs.View.{terms}
 use Rattle.fraction.specs.Laws.Reduced.{add_reduced}
-use Rattle.fraction.proofs.written.plus.Goals as goal
+use Rattle.fraction.proofs.written.plus_wide.Goals as goal
 
 pub of_wholes-requires : goal.of_wholes-requires
 of_wholes-requires c =
