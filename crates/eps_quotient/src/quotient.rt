@@ -5,7 +5,7 @@ use crate::lower::norm;
 use crate::pair::Pair;
 use crate::print::put_quotient;
 use crate::read::polynomials;
-use crate::written::{inverse, product, sum};
+use crate::written::{product, quotient, sum};
 use eps_poly::EpsPoly;
 use field_core::{List, NoMemory, Number, Op, Ratio, TooWide};
 use std::cmp::Ordering;
@@ -153,7 +153,7 @@ impl Number for EpsQuotient {
     }
 
     fn div(&self, other: &EpsQuotient) -> Result<EpsQuotient, TooWide> {
-        let pair = product(&self.pair, &inverse(&other.pair)).ok_or(TooWide { op: Op::Div })?;
+        let pair = quotient(&self.pair, &other.pair).ok_or(TooWide { op: Op::Div })?;
         Ok(EpsQuotient { pair })
     }
 
