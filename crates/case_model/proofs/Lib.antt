@@ -36,6 +36,8 @@ pub mod RejectionOrders
 pub mod RowTotals
 pub mod SequenceOrders
 pub mod SingleInputs
+pub mod SpendLevels
+pub mod StagedTests
 pub mod SumSteps
 pub mod Thresholds
 pub mod Totals

@@ -23,6 +23,9 @@ pub mod Names
 pub mod Rows
 pub mod SetAnswers
 pub mod SetTableView
+pub mod Spends
+pub mod StagedStatements
+pub mod StagedTest
 pub mod Sums
 pub mod TextbookGraphs
 pub mod TextbookRules

@@ -18,6 +18,7 @@ mod row_sums;
 mod rows;
 mod set_table;
 mod sets;
+mod spend;
 mod sums;
 mod tables;
 
@@ -31,6 +32,7 @@ pub use local_test::passes;
 pub use name_index::NameIndex;
 pub use set_table::SetTable;
 pub use sets::{added, dropped, holds};
+pub use spend::{Spend, SpendStep};
 
 #[cfg(test)]
 mod samples;
