@@ -2,7 +2,6 @@ pub mod CaseFacts
 pub mod ClosedTestLaws
 pub mod Comparisons
 pub mod Consonance
-pub mod Constants
 pub mod EntryOrder
 pub mod ExactSums
 pub mod ExampleOrders
@@ -13,15 +12,14 @@ pub mod Holding
 pub mod IntersectionLaws
 pub mod IntersectionTotals
 pub mod LegalSteps
-pub mod LowestParts
 pub mod NamePlaces
 pub mod NoFaults
 pub mod OrderExistence
-pub mod Places
 pub mod PlainEntries
 pub mod PriorityOrders
 pub mod RejectionOrders
 pub mod RowTotals
+pub mod Same
 pub mod SingleInputs
 pub mod SumSteps
 pub mod Thresholds
@@ -29,3 +27,4 @@ pub mod Totals
 pub mod ValidContents
 pub mod ValidDrafts
 pub mod ValidGraphs
+pub mod Wide

@@ -3,15 +3,16 @@ ghost use Rattle.std.specs.Prelude.{◌≡◌, ◌≤◌, ◌⊎◌, true, None,
 ghost use Rattle.std.specs.List.{list_all};
 ghost use Rattle.case_model.specs.Draft.{goes_between, have_known_ends};
 ghost use Rattle.case_model.specs.Content.{content_of, tabled, inputs_given};
-ghost use Rattle.case_model.specs.CaseFaults.{part_too_long, alpha_range, early_fault, late_fault, case_fault};
+ghost use Rattle.case_model.specs.CaseFaults.{part_too_long, alpha_range, fault_before_edges, early_fault, late_fault, case_fault};
 ghost use Rattle.case_model.specs.CaseView.{content};
 ghost use Rattle.case_model.specs.Tables.{are_tables};
 ghost use Rattle.case_model.specs.declared.fault.CaseFault.TheVariants.{NoMemory as OutOfMemory};
 
 use crate::component::tabled;
 use crate::components::{
-    components_fault, edges_fault, first_fault, long_share, shares_fault, weights_fault,
+    components_fault, edges_fault, long_share, shares_fault, weights_fault,
 };
+use crate::first_faults::first_fault;
 use crate::fraction_tests::{is_level_range, is_short_level};
 use crate::names::names_fault;
 use crate::p_values::{long_p_value, p_values_fault};
@@ -89,11 +90,9 @@ impl Draft {
         }
     }
 
-    /// The first fault of the tests before those of the rows of edges.
-    #[tactic(auto, unfolding(crate::specs::CaseFaults::early_fault))]
-    fn early_fault(&self) -> Option<CaseFault>
-        requires { have_known_ends self.now ≡ true }
-        ensures { result ≡ early_fault self.now }
+    /// The first fault of the tests before those of the edges.
+    fn fault_before_edges(&self) -> Option<CaseFault>
+        ensures { result ≡ fault_before_edges self.now }
     {
         let count = self.names.len();
         let components = self.components.as_slice();
@@ -103,7 +102,18 @@ impl Draft {
             .or_else(|| self.alpha_range())
             .or_else(|| shares_fault(components))
             .or_else(|| weights_fault(count, components))
-            .or_else(|| edges_fault(count, components))
+    }
+
+    /// The first fault of the tests before those of the rows of edges.
+    fn early_fault(&self) -> Option<CaseFault>
+        requires { have_known_ends self.now ≡ true }
+        ensures { result ≡ early_fault self.now }
+    {
+        let fault = self.fault_before_edges();
+        if fault.is_some() {
+            return fault;
+        }
+        edges_fault(self.names.len(), self.components.as_slice())
     }
 
     /// The first number with a part above its limit.
@@ -112,10 +122,9 @@ impl Draft {
         ensures { result ≡ part_too_long self.now }
     {
         let components = self.components.as_slice();
-        if !is_short_level(&self.alpha) {
-            return Some(CaseFault::PartTooLong(PartPlace::Alpha));
-        }
-        long_share(components)
+        (!is_short_level(&self.alpha))
+            .then_some(CaseFault::PartTooLong(PartPlace::Alpha))
+            .or_else(|| long_share(components))
             .or_else(|| first_fault(components, DraftComponent::long_weight))
             .or_else(|| first_fault(components, DraftComponent::long_edge))
             .or_else(|| long_p_value(self.p.as_slice()))
@@ -174,11 +183,8 @@ fn late_fault(
     requires tables { are_tables count components.now ≡ true }
     ensures { result ≡ late_fault count stages.now p.now components.now }
 {
-    if let Some(fault) = rows_fault(count, components) {
-        return Some(fault);
-    }
-    if stages.is_some() && !p.is_empty() {
-        return Some(CaseFault::Mixed);
-    }
-    p_values_fault(count, p)
+    let has_both = stages.is_some() && !p.is_empty();
+    rows_fault(count, components)
+        .or_else(|| has_both.then_some(CaseFault::Mixed))
+        .or_else(|| p_values_fault(count, p))
 }

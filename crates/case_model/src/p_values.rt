@@ -4,6 +4,7 @@ ghost use Rattle.std.specs.List.{list_any};
 ghost use Rattle.case_model.specs.Content.{given};
 ghost use Rattle.case_model.specs.CaseFaults.{is_long_p_value, long_p_value, p_missing, is_outside, p_range, p_values_fault};
 
+use crate::first_faults::first_fault;
 use crate::fraction_tests::{is_short_p_value, is_unit};
 use crate::{CaseFault, PartPlace};
 use field_core::{List, NoMemory};
@@ -25,8 +26,9 @@ fn is_long_p_value(p: &Option<Fraction>) -> bool
 pub fn long_p_value(p: &[Option<Fraction>]) -> Option<CaseFault>
     ensures { result ≡ long_p_value p.now }
 {
-    let i = p.iter().position(|p| is_long_p_value(p))?;
-    Some(CaseFault::PartTooLong(PartPlace::P(i)))
+    first_fault(p, |p, i| {
+        is_long_p_value(p).then_some(CaseFault::PartTooLong(PartPlace::P(i)))
+    })
 }
 
 /// Whether some p-value is given.
@@ -44,8 +46,7 @@ fn p_missing(p: &[Option<Fraction>]) -> Option<CaseFault>
     if !has_some(p) {
         return None;
     }
-    let i = p.iter().position(|p| p.is_none())?;
-    Some(CaseFault::PMissing(i))
+    first_fault(p, |p, i| p.is_none().then_some(CaseFault::PMissing(i)))
 }
 
 /// Whether a p-value is given and isn't from 0 to 1.
@@ -63,8 +64,7 @@ fn is_outside(p: &Option<Fraction>) -> bool
 fn p_range(p: &[Option<Fraction>]) -> Option<CaseFault>
     ensures { result ≡ p_range p.now }
 {
-    let i = p.iter().position(|p| is_outside(p))?;
-    Some(CaseFault::PRange(i))
+    first_fault(p, |p, i| is_outside(p).then_some(CaseFault::PRange(i)))
 }
 
 /// The first fault of the p-values of so many hypotheses.
@@ -79,6 +79,7 @@ pub fn p_values_fault(count: usize, p: &[Option<Fraction>]) -> Option<CaseFault>
 }
 
 /// The p-values that are given.
+#[tactic(auto, unfolding(crate::specs::Content::given))]
 pub fn given(alloc: Global, p: &[Option<Fraction>]) -> Result<List<Fraction>, NoMemory>
     ensures { IfOk result (λ ps. ps ≡ given p.now) }
 {

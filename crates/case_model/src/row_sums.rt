@@ -3,6 +3,7 @@ ghost use Rattle.std.specs.Prelude.{◌≡◌, ◌≤◌, ◌<◌, ◌*◌, map,
 ghost use Rattle.field_core.specs.declared.place.Op.TheVariants.{Add};
 ghost use Rattle.field_core.specs.Kind.{ok_map, or_wide};
 ghost use Rattle.field_core.specs.View.{terms};
+ghost use Rattle.case_model.specs.Content.{component_at};
 ghost use Rattle.case_model.specs.Entries.{entry_at};
 ghost use Rattle.case_model.specs.CaseFaults.{power_sum, written_row, row_sum, component_rows, rows_fault};
 ghost use Rattle.case_model.specs.Tables.{are_tables};
@@ -14,6 +15,7 @@ use field_core::{Place, TooWide};
 use fraction::Fraction;
 
 /// The sum of the coefficients of a power in a row, by ascending column.
+#[tactic(auto, unfolding(crate::specs::Entries::entry_at), using(std::proofs::lemmas::List::get_or_default))]
 fn power_sum(count: usize, table: &[Entry], i: usize, power: usize) -> Result<Fraction, TooWide>
     requires few { count ≤ 64 }
     requires size { length table.now ≡ count * count }
@@ -53,23 +55,23 @@ fn row_sum(count: usize, c: usize, table: &[Entry], i: usize) -> Option<CaseFaul
     }
 }
 
-/// The first fault of the rows of a component's table.
+/// The first fault of the rows of the table of the component at a place.
 #[tactic(auto, unfolding(crate::specs::CaseFaults::component_rows))]
-fn component_rows(count: usize, c: usize, component: &Component) -> Option<CaseFault>
+fn component_rows(count: usize, components: &[Component], c: usize) -> Option<CaseFault>
     requires few { count ≤ 64 }
-    requires size { length component.now.edges ≡ count * count }
-    ensures { result ≡ component_rows count c component.now }
+    requires tables { are_tables count components.now ≡ true }
+    requires within { c < length components.now }
+    ensures { result ≡ component_rows count c (component_at components.now c) }
 {
-    let table = component.edges.as_slice();
+    let table = components[c].edges.as_slice();
     first_below(count, |i| row_sum(count, c, table, i))
 }
 
 /// The first fault of the rows of the components' tables.
-#[tactic(auto, unfolding(crate::specs::CaseFaults::rows_fault))]
 pub fn rows_fault(count: usize, components: &[Component]) -> Option<CaseFault>
     requires few { count ≤ 64 }
     requires tables { are_tables count components.now ≡ true }
     ensures { result ≡ rows_fault count components.now }
 {
-    first_below(components.len(), |c| component_rows(count, c, &components[c]))
+    first_below(components.len(), |c| component_rows(count, components, c))
 }
