@@ -1,8 +1,9 @@
 -- What is known of a draft in which no row finds a fault.
-use Rattle.std.proofs.Common.{◌≡◌, refl, ap, ap₂, ◌∙◌, ℕ, ◌*◌, ◌==◌, ◌≤◌, List, [], ◌∷◌, length, map, true, ◌&&◌, nat_lt, Option, Some, None, arith}
+use Rattle.std.proofs.Common.{◌≡◌, refl, sym, ap, ap₂, ◌∙◌, ℕ, ◌*◌, ◌==◌, ◌≤◌, List, [], ◌∷◌, length, map, true, ◌&&◌, nat_lt, Option, Some, None, arith}
 use Rattle.std.proofs.lemmas.Bool.Decides.{nat_tests}
 use Rattle.std.proofs.lemmas.List.FromFn.{length-map-range_with_len}
 use Rattle.std.specs.List.{list_all}
+use Rattle.field_core.specs.declared.ratio.Ratio.{Ratio}
 use Rattle.case_model.specs.declared.fault.CaseFault.{CaseFault}
 use Rattle.case_model.specs.declared.draft.Draft.{Draft}
 use Rattle.case_model.specs.declared.draft_component.DraftComponent.{DraftComponent}
@@ -91,11 +92,13 @@ pub early_is : (d : Draft) (f : CaseFault) → early_fault d ≡ Some f → case
 unfolding case_fault
 early_is d f e = first_of_two (early_fault d) _ f e
 
-pub late_is : (d : Draft) (r : Option CaseFault) → early_fault d ≡ None → late_fault (length d.names) d.stages d.p (map (tabled (length d.names)) d.components) ≡ r → case_fault d ≡ r
+pub late_is : (d : Draft) (m : ℕ) (ps : List (Option Ratio)) (r : Option CaseFault) → early_fault d ≡ None → m ≡ length d.names → ps ≡ d.p → late_fault m d.stages ps (map (tabled m) d.components) ≡ r → case_fault d ≡ r
 unfolding case_fault content_of
-late_is d r e h = second_of_two (early_fault d) _ r e h
+late_is d m ps r e many same h = second_of_two (early_fault d) _ r e (sym (ap₂ (λ m ps. late_fault m d.stages ps (map (tabled m) d.components)) many same) ∙ h)
 
 -- the content of a draft by its parts
-pub content_by_parts : (d : Draft) → ◌≡◌ {A = Content} (record { names = d.names; alpha = d.alpha; components = map (tabled (length d.names)) d.components; inputs = inputs_given d.p }) (content_of d)
+pub content_by_parts : (d : Draft) (m : ℕ) (ps : List (Option Ratio)) (ks : List Component) (inputs : Inputs) → m ≡ length d.names → ps ≡ d.p → ks ≡ map (tabled m) d.components → inputs ≡ inputs_given ps
+    → ◌≡◌ {A = Content} (record { names = d.names; alpha = d.alpha; components = ks; inputs = inputs }) (content_of d)
 unfolding content_of
-content_by_parts d = refl
+content_by_parts d m ps ks inputs many same e h =
+    ap₂ (λ ks inputs. record { names = d.names; alpha = d.alpha; components = ks; inputs = inputs }) (e ∙ ap (λ m. map (tabled m) d.components) many) (h ∙ ap inputs_given same)

@@ -22,6 +22,7 @@ pub mod RowTotals
 pub mod Same
 pub mod SingleInputs
 pub mod SumSteps
+pub mod TablePlaces
 pub mod Thresholds
 pub mod Totals
 pub mod ValidContents

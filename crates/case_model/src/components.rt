@@ -3,7 +3,7 @@ ghost use Rattle.std.specs.Prelude.{◌≡◌, ◌≤◌, ◌<◌, ◌==◌, len
 ghost use Rattle.std.specs.List.{list_all};
 ghost use Rattle.case_model.specs.declared.draft_component.DraftComponent.{DraftComponent as Component};
 ghost use Rattle.case_model.specs.Draft.{goes_between};
-ghost use Rattle.case_model.specs.CaseFaults.{first_of, components_fault, long_share, share_range, share_sum, shares_fault, weight_count, weights_fault, self_edge, repeated_edge, edges_fault};
+ghost use Rattle.case_model.specs.CaseFaults.{◌or◌, first_of, components_fault, long_share, long_weight, long_edge, share_range, share_sum, shares_fault, weight_count, weights_fault, self_edge, repeated_edge, edges_fault};
 
 use crate::first_faults::{first_below, first_fault};
 use crate::fraction_tests::{is_below_zero, is_short};
@@ -25,12 +25,21 @@ pub fn components_fault(components: &[DraftComponent]) -> Option<CaseFault>
 
 /// The first share with a part above 10^18.
 #[tactic(auto, unfolding(crate::specs::CaseFaults::long_share))]
-pub fn long_share(components: &[DraftComponent]) -> Option<CaseFault>
+fn long_share(components: &[DraftComponent]) -> Option<CaseFault>
     ensures { result ≡ long_share components.now }
 {
     first_fault(components, |component, c| {
         (!is_short(&component.share)).then_some(CaseFault::PartTooLong(PartPlace::Share(c)))
     })
+}
+
+/// The first share, or else the first weight, or else the first edge, with a part above 10^18.
+pub fn long_part(components: &[DraftComponent]) -> Option<CaseFault>
+    ensures { result ≡ (long_share components.now or first_of long_weight components.now or first_of long_edge components.now) }
+{
+    long_share(components)
+        .or_else(|| first_fault(components, DraftComponent::long_weight))
+        .or_else(|| first_fault(components, DraftComponent::long_edge))
 }
 
 /// The first share below 0.

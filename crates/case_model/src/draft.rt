@@ -10,9 +10,8 @@ ghost use Rattle.case_model.specs.declared.fault.CaseFault.TheVariants.{NoMemory
 
 use crate::component::tabled;
 use crate::components::{
-    components_fault, edges_fault, long_share, shares_fault, weights_fault,
+    components_fault, edges_fault, long_part, shares_fault, weights_fault,
 };
-use crate::first_faults::first_fault;
 use crate::fraction_tests::{is_level_range, is_short_level};
 use crate::names::names_fault;
 use crate::p_values::{long_p_value, p_values_fault};
@@ -85,7 +84,7 @@ impl Draft {
             return Err(Refused { names, fault });
         }
         match Parts::made(alloc, names.len(), &stages, p.as_slice(), components) {
-            Ok(Parts { components, inputs }) => Ok(Case::of(names, alpha, components, inputs)),
+            Ok(parts) => Ok(Case::of(names, alpha, parts.components, parts.inputs)),
             Err(fault) => Err(Refused { names, fault }),
         }
     }
@@ -105,13 +104,13 @@ impl Draft {
     }
 
     /// The first fault of the tests before those of the rows of edges.
+    #[tactic(auto, unfolding(crate::specs::CaseFaults::early_fault))]
     fn early_fault(&self) -> Option<CaseFault>
         requires { have_known_ends self.now ≡ true }
         ensures { result ≡ early_fault self.now }
     {
-        let fault = self.fault_before_edges();
-        if fault.is_some() {
-            return fault;
+        if let Some(fault) = self.fault_before_edges() {
+            return Some(fault);
         }
         edges_fault(self.names.len(), self.components.as_slice())
     }
@@ -121,12 +120,9 @@ impl Draft {
     fn part_too_long(&self) -> Option<CaseFault>
         ensures { result ≡ part_too_long self.now }
     {
-        let components = self.components.as_slice();
         (!is_short_level(&self.alpha))
             .then_some(CaseFault::PartTooLong(PartPlace::Alpha))
-            .or_else(|| long_share(components))
-            .or_else(|| first_fault(components, DraftComponent::long_weight))
-            .or_else(|| first_fault(components, DraftComponent::long_edge))
+            .or_else(|| long_part(self.components.as_slice()))
             .or_else(|| long_p_value(self.p.as_slice()))
     }
 

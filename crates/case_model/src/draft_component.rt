@@ -88,9 +88,10 @@ impl DraftComponent {
         let edges = self.edges.as_slice();
         let mut seen = [false; 4096];
         for n in 0..edges.len() {
-            let place = edges[n].from * count + edges[n].to;
+            let edge = &edges[n];
+            let place = edge.place(count);
             if seen[place] {
-                return Some(CaseFault::RepeatedEdge(c, edges[n].from, edges[n].to));
+                return Some(CaseFault::RepeatedEdge(c, edge.from, edge.to));
             }
             seen[place] = true;
         }

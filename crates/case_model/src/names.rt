@@ -1,9 +1,9 @@
 //! Names of hypotheses.
-ghost use Rattle.std.specs.Prelude.{◌≡◌};
+ghost use Rattle.std.specs.Prelude.{◌≡◌, ◌<◌, [], length, get_or};
 ghost use Rattle.std.specs.List.{list_all, list_any};
 ghost use Rattle.std.specs.Str.{bytes_eq};
 ghost use Rattle.case_model.specs.Draft.{is_name_byte, is_name};
-ghost use Rattle.case_model.specs.CaseFaults.{name_form, duplicate_name, names_fault};
+ghost use Rattle.case_model.specs.CaseFaults.{name_form, repeated_name, duplicate_name, names_fault};
 
 use crate::CaseFault;
 use crate::first_faults::{first_below, first_fault};
@@ -46,13 +46,20 @@ fn name_form(names: &[Text]) -> Option<CaseFault>
     })
 }
 
+/// The name at a place is equal to an earlier one.
+#[tactic(auto, using(std::proofs::lemmas::List::get_or_default))]
+fn repeated_name(names: &[Text], i: usize) -> Option<CaseFault>
+    requires { i < length names.now }
+    ensures { result ≡ repeated_name names.now i (get_or names.now i []) }
+{
+    has(&names[..i], names[i].as_bytes()).then_some(CaseFault::DuplicateName(i))
+}
+
 /// The first name that is equal to an earlier one.
 fn duplicate_name(names: &[Text]) -> Option<CaseFault>
     ensures { result ≡ duplicate_name names.now }
 {
-    first_below(names.len(), |i| {
-        has(&names[..i], names[i].as_bytes()).then_some(CaseFault::DuplicateName(i))
-    })
+    first_below(names.len(), |i| repeated_name(names, i))
 }
 
 /// The first fault of the names.

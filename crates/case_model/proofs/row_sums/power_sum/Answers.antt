@@ -1,4 +1,0 @@
-use Rattle.case_model.proofs.row_sums.power_sum.Goals as goal
-
-pub returns : goal.returns
-returns c = ?
