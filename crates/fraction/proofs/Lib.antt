@@ -3,8 +3,6 @@ pub mod AtOnce
 pub mod Bodies
 pub mod Classes
 pub mod Cut
-pub mod Decimals
-pub mod Displayed
 pub mod DigitNumbers
 pub mod LowestTerms
 pub mod Numerals
