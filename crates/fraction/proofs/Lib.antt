@@ -3,9 +3,7 @@ pub mod AtOnce
 pub mod Bodies
 pub mod Classes
 pub mod Cut
-pub mod Decimals
 pub mod DigitNumbers
-pub mod Displayed
 pub mod LowestTerms
 pub mod Numerals
 pub mod Read
