@@ -1,0 +1,3 @@
+-- Laws that the definitions rest on; whoever reads contracts can pass them by.
+pub mod Together
+pub mod ClearingLaws

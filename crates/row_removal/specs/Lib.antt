@@ -1,0 +1,3 @@
+pub mod StoredRow
+pub mod Clearing
+pub mod Laws

@@ -1,0 +1,4 @@
+//! The removal of a hypothesis from a weighted graph of quotients in epsilon, kept in rows over one denominator.
+#![tactic(auto)]
+
+mod row;
