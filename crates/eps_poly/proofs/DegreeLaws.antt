@@ -90,3 +90,7 @@ degree-same p q e =
     let up = degree_at_most p (degree q) (λ k h. e k ∙ coefficient-above_degree q k h) in
     let down = degree_at_most q (degree p) (λ k h. sym (e k) ∙ coefficient-above_degree p k h) in
     omega arith
+
+-- and the least power is at most the degree
+pub order_low : (p : List ℤ) → IsNonZero p → order p ≤ degree p
+order_low p some = degree_at_least p (order p) (λ none. some (sym (coefficient-order p) ∙ none))

@@ -25,3 +25,7 @@ monomial c k = slice_set zero_polynomial k c
 -- whether the coefficients of two polynomials are the same
 abbrev pub is_same : List ℤ → List ℤ → Bool
 is_same p q = pointwise int_eq p q
+
+-- a constant: no coefficient but that of power 0
+abbrev pub IsConstant : List ℤ → Type 0
+IsConstant p = (k : ℕ) → 0 < k → coefficient p k ≡ pos 0

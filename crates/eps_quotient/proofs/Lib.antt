@@ -1,3 +1,5 @@
+pub mod Constants
+pub mod CoreTests
 pub mod ListReadings
 pub mod ReadBack
 pub mod ReadSteps

@@ -1,13 +1,14 @@
-use Rattle.std.proofs.Common.{◌∙◌, ap, ap₂, sym}
+use Rattle.std.proofs.Common.{◌∙◌, ap, sym}
+use Rattle.std.specs.Option.{option_map}
 use Rattle.field_core.specs.declared.place.Op.TheVariants.{Div}
-use Rattle.eps_quotient.specs.Quotients.{inverse, written_product}
+use Rattle.eps_quotient.specs.Quotients.{written_product}
 use Rattle.eps_quotient.specs.View.{pair_parts, quotient_parts}
 use Rattle.eps_quotient.specs.Laws.Exact.{quotients_are_exact}
 use Rattle.eps_quotient.proofs.quotient.EpsQuotientNumber.div.Goals as goal
 
-pub stored-requires : goal.stored-requires
-stored-requires c =
+pub invariant_of-result : goal.invariant_of-result
+invariant_of-result c =
     let x = c.args.self.now in
     let y = c.args.other.now in
-    quotients_are_exact.stored Div (quotient_parts x) (quotient_parts y) (pair_parts c.in_ok-pair.pair) x.stored y.stored c.requires
-    (ap₂ (written_product Div) (sym c.pair.ensures.parts) (sym (c.inverse.ensures.inverse ∙ ap inverse c.pair-2.ensures.parts)) ∙ sym c.in_ok-pair.ensures)
+    record { stored = quotients_are_exact.stored Div (quotient_parts x) (quotient_parts y) (pair_parts c.in_ok-pair.pair) x.stored y.stored c.requires
+    (ap (written_product (quotient_parts x)) (sym c.inverse.ensures) ∙ sym c.product.ensures ∙ ap (option_map pair_parts) c.in_ok-pair.ensures.ok_part) }
