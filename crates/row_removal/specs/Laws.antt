@@ -1,3 +1,7 @@
 -- Laws that the definitions rest on; whoever reads contracts can pass them by.
 pub mod Together
 pub mod ClearingLaws
+pub mod RowNumbers
+pub mod RowPasses
+pub mod RowGraphs
+pub mod RowsExact
