@@ -3,7 +3,8 @@ ghost use Rattle.std.specs.Prelude.{◌≡◌, ◌<◌, ◌≤◌, ◌^◌, ◌<
 ghost use Rattle.std.specs.Option.{ok_or};
 ghost use Rattle.field_core.specs.Polynomial.{IsNonZero};
 ghost use Rattle.eps_poly.specs.ExactQuotients.{exact_quotient};
-ghost use Rattle.row_removal.specs.StoredRow.{numerator_at, zero_row};
+ghost use Rattle.eps_poly.specs.Polynomials.{IsPolynomial};
+ghost use Rattle.row_removal.specs.StoredRow.{IsProperRow, numerator_at, zero_row};
 ghost use Rattle.eps_poly.specs.Factors.{lowered};
 ghost use Rattle.row_removal.specs.Clearing.{cleared, divided_row, lowered_row, map_all, row_content, row_order};
 
@@ -26,8 +27,8 @@ fn lower_all(power: usize, by: Whole, numerators: &mut [EpsPoly])
 /// Numerators over one denominator.
 #[derive(Drop)]
 pub struct Row {
-    numerators: Vec<EpsPoly>,
-    denominator: EpsPoly,
+    pub numerators: Vec<EpsPoly>,
+    pub denominator: EpsPoly,
 }
 
 impl Model for Row {
@@ -109,10 +110,14 @@ impl Row {
     #[tactic(auto, using(std::proofs::lemmas::List::with_items_is), unfolding(crate::specs::Clearing::divided_row, crate::specs::Clearing::quotient_row))]
     fn divide(&mut self, by: &EpsPoly, spare: &mut Row)
         requires some { IsNonZero by.now }
+        requires proper { IsProperRow (length self.old.numerators) self.old }
         requires room { length spare.old.numerators ≡ length self.old.numerators }
         ensures divided { self.new ≡ divided_row by.now self.old }
         ensures room { length spare.new.numerators ≡ length self.old.numerators }
     {
+        if *by == EpsPoly::monomial(Whole::new(1), 0) {
+            return;
+        }
         let Some(denominator) = self.denominator.divide_exact(by) else {
             return;
         };
@@ -160,11 +165,12 @@ impl Row {
     }
 
     /// Clears the row: if each polynomial has an exact quotient by the core of `last`, it becomes that, and then all are divided
-    /// by their common content and their common power of epsilon.
+    /// by their common content and their common power of epsilon. `spare` is room for the quotients.
     #[tactic(auto, unfolding(crate::specs::Clearing::cleared))]
     pub fn clear(&mut self, last: &EpsPoly, spare: &mut Row)
-        requires last { IsNonZero last.now }
-        requires some { IsNonZero self.old.denominator }
+        requires last { IsPolynomial last.now }
+        requires last_some { IsNonZero last.now }
+        requires proper { IsProperRow (length self.old.numerators) self.old }
         requires room { length spare.old.numerators ≡ length self.old.numerators }
         ensures cleared { self.new ≡ cleared last.now self.old }
         ensures room { length spare.new.numerators ≡ length self.old.numerators }
