@@ -56,20 +56,39 @@ impl RowGraph {
         !self.live[k] || k == j
     }
 
-    /// The row of weights.
-    pub fn weights(&self) -> &Row
-        ensures { result.now ≡ self.now.weights }
+    /// The numerator of the weight of `k`.
+    pub fn weight_numerator(&self, k: usize) -> &EpsPoly
+        requires proper { AreProperRows self.now }
+        requires k { k < rows_size self.now }
+        ensures { result.now ≡ numerator_at self.now.weights k }
     {
-        &self.weights
+        self.weights.numerator(k)
     }
 
-    /// The row of edges from `l`.
-    pub fn row(&self, l: usize) -> &Row
+    /// The denominator of the weights.
+    pub fn weight_denominator(&self) -> &EpsPoly
+        ensures { result.now ≡ self.now.weights.denominator }
+    {
+        self.weights.denominator()
+    }
+
+    /// The numerator of the edge from `l` to `k`.
+    pub fn numerator(&self, l: usize, k: usize) -> &EpsPoly
         requires proper { AreProperRows self.now }
         requires l { l < rows_size self.now }
-        ensures { result.now ≡ row_at self.now l }
+        requires k { k < rows_size self.now }
+        ensures { result.now ≡ numerator_at (row_at self.now l) k }
     {
-        &self.edges[l]
+        self.edges[l].numerator(k)
+    }
+
+    /// The denominator of the row of edges from `l`.
+    pub fn denominator(&self, l: usize) -> &EpsPoly
+        requires proper { AreProperRows self.now }
+        requires l { l < rows_size self.now }
+        ensures { result.now ≡ (row_at self.now l).denominator }
+    {
+        self.edges[l].denominator()
     }
 
     /// The denominator that the row of the last removed hypothesis had, or 1.
