@@ -173,6 +173,7 @@ impl RowGraph {
     }
 }
 
+#[tactic(auto, using(crate::specs::Laws::RowGraphs::weight_seen, crate::specs::Laws::RowGraphs::edge_seen, crate::specs::Laws::RowGraphs::loop_seen, crate::specs::Laws::RowPasses::row_some))]
 impl RowGraph {
     ghost use Rattle.std.specs.Prelude.{◌≡◌, ◌<◌};
     ghost use Rattle.removal.specs.StoredGraph.{weight, edge};

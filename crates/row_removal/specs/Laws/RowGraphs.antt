@@ -87,6 +87,9 @@ module _ (s : StoredRows) (P : AreProperRows s) where
       ∙ flat_at (rows_size s) s.edges each_count l k (omega (arith, P.count)) i
       ∙ quotients_at (rows_size s) (row_at s l) (each_row l h) k i
 
+  pub loop_seen : (k : ℕ) → edge quotients (rows_graph s) k k ≡ zero_quotient
+  loop_seen k = edge_itself quotients (rows_graph s) k
+
   pub weight_number : (l : ℕ) → l < rows_size s → value_of (weight quotients (rows_graph s) l) ≡ row_value s.weights l
   weight_number l h = ap value_of (weight_seen l h) ∙ value_at (rows_size s) s.weights P.weights l h
 

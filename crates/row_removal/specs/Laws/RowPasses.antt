@@ -88,6 +88,9 @@ module _ (s : StoredRows) (j : ℕ) (P : AreProperRows s) (j_in : j < rows_size 
   unfolding row_at
   row_proper l h = All-get_or (IsProperRow (rows_size s)) s.edges l (zero_row 0) (omega (arith, P.count)) P.edges
 
+  pub row_some : (l : ℕ) → l < rows_size s → IsNonZero (row_at s l).denominator
+  row_some l h = (row_proper l h).some
+
   entry : (l k : ℕ) → l < rows_size s → k < rows_size s → IsPolynomial (above s j l k)
   entry l k h i = numerator_is (rows_size s) (row_at s l) k (row_proper l h) i
 
