@@ -2,5 +2,10 @@
 #![tactic(auto)]
 
 mod graph;
+mod net;
 mod new_rows;
 mod row;
+mod row_open;
+
+pub use net::RowNet;
+pub use row_open::RowOpen;
