@@ -1,8 +1,8 @@
 -- The least levels of two hypotheses of weight 1/2, and of hypotheses without weights.
-use Rattle.std.proofs.Common.{◌≡◌, inl, inr, sym, ap, ◌∙◌, subst, ℕ, ◌<◌, arith, Bool, pos, ◌*ℤ◌}
+use Rattle.std.proofs.Common.{◌≡◌, sym, subst, ℕ, ◌<◌, arith, Bool, pos}
 use Rattle.std.proofs.lemmas.Int.{ints}
 use Rattle.field_core.specs.Number.{Number}
-use Rattle.field_core.specs.Arithmetic.{number_zero, number_one, ◌*ε◌}
+use Rattle.field_core.specs.Arithmetic.{◌*ε◌}
 use Rattle.field_core.specs.Order.{◌≤ε◌}
 use Rattle.field_core.specs.Fractions.{fraction}
 use Rattle.field_core.specs.NumberField.{number_field}
@@ -11,7 +11,7 @@ use Rattle.field_core.specs.Sets.{IsIn}
 use Rattle.field_core.specs.ExampleStatements.{half}
 use Rattle.field_core.specs.Laws.AtMostLaws.{at_most_equal, at_most_less, positive-at_least_zero, positive-nonzero}
 use Rattle.field_core.specs.Laws.Effective.{fraction-compare}
-use Rattle.field_core.specs.Laws.FractionLaws.{fraction-multiply, fraction-equal}
+use Rattle.field_core.specs.Laws.FractionLaws.{fraction-multiply}
 use Rattle.field_core.proofs.Orders.{mul_le_cancel}
 use Rattle.field_core.proofs.SmallNumbers.{half_positive}
 use Rattle.field_core.proofs.UnitLimits.{suc_not_zero, zero_is, one_is}

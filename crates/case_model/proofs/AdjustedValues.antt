@@ -1,5 +1,5 @@
 -- An adjusted value decides each level, and is the only one.
-use Rattle.std.proofs.Common.{◌≡◌, sym, ap₂, ◌∙◌, subst, inl, inr, ℕ, Bool, true, ◌↔◌}
+use Rattle.std.proofs.Common.{◌≡◌, sym, ◌∙◌, subst, inl, inr, ℕ, Bool, true, ◌↔◌}
 use Rattle.field_core.specs.Number.{Number}
 use Rattle.field_core.specs.Arithmetic.{number_one}
 use Rattle.field_core.specs.Order.{◌≤ε◌}

@@ -1,5 +1,5 @@
 -- The bounds of two hypotheses of which a table rejects both together alone.
-use Rattle.std.proofs.Common.{◌≡◌, inr, refl, ℕ, arith, Bool, true, false}
+use Rattle.std.proofs.Common.{◌≡◌, inr, refl, ℕ, arith, Bool, false}
 use Rattle.field_core.specs.Sets.{IsIn, dropping, whole}
 use Rattle.field_core.specs.NumberedSets.{set_number}
 use Rattle.field_core.proofs.OnlySolutions.{two}

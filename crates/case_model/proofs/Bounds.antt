@@ -1,5 +1,5 @@
 -- The bound of a set from those of the sets with one member less.
-use Rattle.std.proofs.Common.{◌≡◌, ◌⊎◌, inl, inr, sym, ap, ◌∙◌, subst, ℕ, zero, suc, ◌+◌, ◌<◌, ◌≤◌, arith, Bool, true, false, ◌↔◌}
+use Rattle.std.proofs.Common.{◌≡◌, ◌⊎◌, inl, inr, sym, ap, ◌∙◌, subst, ℕ, zero, suc, ◌+◌, ◌<◌, ◌≤◌, arith, Bool, false, ◌↔◌}
 use Rattle.field_core.specs.Sets.{IsIn, IsSubset, HaveSameMembers, dropping, size_of}
 use Rattle.field_core.specs.NumberedSets.{members, set_number}
 use Rattle.field_core.proofs.Live.{true_or_false, true_not_false, kept_before}

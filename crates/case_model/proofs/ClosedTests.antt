@@ -1,5 +1,5 @@
 -- The closed test of any local test.
-use Rattle.std.proofs.Common.{◌≡◌, inl, inr, sym, ap, ◌∙◌, subst, ℕ, ◌+◌, ◌^◌, ◌<◌, Bool, true, false, arith, ◌↔◌}
+use Rattle.std.proofs.Common.{◌≡◌, inl, inr, sym, ap, ◌∙◌, subst, ℕ, ◌^◌, ◌<◌, Bool, true, false, arith, ◌↔◌}
 use Rattle.std.proofs.lemmas.Bool.Decides.{nat_tests}
 use Rattle.field_core.specs.Sets.{IsIn, IsSubset, HaveSameMembers, adding}
 use Rattle.field_core.specs.NumberedSets.{members, set_number}

@@ -1,10 +1,10 @@
 -- Holm's rule rejects as many as Holm's number tells.
-use Rattle.std.proofs.Common.{◌≡◌, inl, inr, sym, ap, ◌∙◌, subst, ℕ, zero, suc, ◌-◌, ◌<◌, ◌≤◌, arith, true, false, List, [], ◌∷◌, length, get_or, take}
+use Rattle.std.proofs.Common.{◌≡◌, inl, inr, sym, ap, ◌∙◌, subst, ℕ, zero, suc, ◌-◌, ◌<◌, ◌≤◌, arith, List, [], ◌∷◌, length, get_or, take}
 use Rattle.field_core.specs.Number.{Number}
 use Rattle.field_core.specs.Arithmetic.{◌*ε◌}
 use Rattle.field_core.specs.Order.{◌≤ε◌, at_most}
 use Rattle.field_core.specs.Fractions.{one_over}
-use Rattle.field_core.proofs.Live.{true_or_false, true_not_false}
+use Rattle.field_core.proofs.Live.{true_or_false}
 use Rattle.case_model.specs.TextbookRules.{by_p_value, stepped_down, IsHolmNumber}
 use Rattle.case_model.proofs.ByPValue.{by_p_value_length}
 use Rattle.case_model.proofs.HolmOrders.{down_none, down_on, down_stop}

@@ -1,5 +1,5 @@
 -- The entangled graphs of textbook rules are valid.
-use Rattle.std.proofs.Common.{◌≡◌, ◌≢◌, ◌⊎◌, inl, inr, refl, sym, ap, ap₂, ◌∙◌, subst, subst₂, ℕ, zero, suc, ◌<◌, ◌==◌, arith, Bool, true, false, cond, pos, ◌-ℤ◌}
+use Rattle.std.proofs.Common.{◌≡◌, inl, inr, refl, sym, ap, ◌∙◌, subst, ℕ, zero, suc, ◌<◌, arith, cond, pos, ◌-ℤ◌}
 use Rattle.field_core.specs.Field.{AtMost}
 use Rattle.field_core.specs.Number.{Number}
 use Rattle.field_core.specs.Arithmetic.{number_zero, number_one, ◌+ε◌, ◌*ε◌}
@@ -9,7 +9,6 @@ use Rattle.field_core.specs.NumberField.{number_field}
 use Rattle.field_core.specs.Sums.{sum_below, unit}
 use Rattle.field_core.specs.Graph.{IsValid}
 use Rattle.field_core.specs.Laws.Order.{number_laws}
-use Rattle.field_core.specs.Laws.NumberLaws.{number_multiply_comm}
 use Rattle.field_core.specs.Laws.AtMostLaws.{at_most_refl, at_most_equal, zero_at_most_one, positive-at_least_zero}
 use Rattle.field_core.specs.Laws.NumberFieldLaws.{field_zero, field_one, field_sum, sum_nothing, sum_last}
 use Rattle.field_core.proofs.UnitLimits.{zero_is}

@@ -1,8 +1,8 @@
 -- The fault of a draft: what the first test that finds something tells. The tests stand in a table; each is made of all components, hypotheses or places of a list, in ascending order, before the next. (A row is here a row of edges, or what a test of one item tells.)
-use Rattle.std.specs.Prelude.{ℕ, zero, suc, ◌+◌, ◌==◌, ◌&&◌, not, Bool, false, List, [], ◌∷◌, Option, Some, None, Result, Ok, Err, length, map, take, nat_lt, is_some, is_none, position, if◌then◌else◌}
+use Rattle.std.specs.Prelude.{ℕ, zero, suc, ◌+◌, ◌==◌, ◌&&◌, not, Bool, false, List, [], ◌∷◌, Option, Some, None, Result, Ok, Err, length, map, take, nat_lt, is_some, is_none, if◌then◌else◌}
 use Rattle.std.specs.Bool.{then_some}
-use Rattle.std.specs.List.{list_all, list_any, find}
-use Rattle.std.specs.Option.{option_or, option_map}
+use Rattle.std.specs.List.{list_all, list_any}
+use Rattle.std.specs.Option.{option_or}
 use Rattle.std.specs.Str.{bytes_eq}
 use Rattle.field_core.specs.Terms.{Terms}
 use Rattle.field_core.specs.declared.ratio.Ratio.{Ratio}
@@ -42,7 +42,7 @@ infix 30 ◌when◌
 abbrev pub ◌when◌ : CaseFault → Bool → Option CaseFault
 fault when test = then_some test fault
 
--- the first fault that a test finds in a list, item by item, with the places counted from `i`
+-- the first fault that a test of items at their places finds in a list, with the places counted from `i`
 unfoldable pub first_from : {A : Type 0} → (ℕ → A → Option CaseFault) → ℕ → List A → Option CaseFault
 first_from row i [] = None
 first_from row i (x ∷ xs) = row i x or first_from row (i + 1) xs
@@ -68,7 +68,7 @@ too_many names = TooMany (length names) when nat_lt 64 (length names)
 
 -- the first name that isn't well formed
 unfoldable pub name_form : List (List ℕ) → Option CaseFault
-name_form names = option_map NameForm (position (λ name. not (is_name name)) names)
+name_form names = first_of (λ i name. NameForm i when not (is_name name)) names
 
 -- the name at a place is equal to an earlier one
 abbrev pub repeated_name : List (List ℕ) → ℕ → List ℕ → Option CaseFault
@@ -104,15 +104,15 @@ long_alpha alpha = PartTooLong Alpha when not (is_short_level alpha)
 
 -- the first share with a part above its limit
 unfoldable pub long_share : List DraftComponent → Option CaseFault
-long_share ks = option_map (λ c. PartTooLong (Share c)) (position (λ k. not (is_short k.share)) ks)
+long_share ks = first_of (λ c k. PartTooLong (Share c) when not (is_short k.share)) ks
 
 -- the first weight of a component with a part above its limit
 unfoldable pub long_weight : ℕ → DraftComponent → Option CaseFault
-long_weight c k = option_map (λ i. PartTooLong (Weight c i)) (position (λ w. not (is_short w)) k.weights)
+long_weight c k = first_of (λ i w. PartTooLong (Weight c i) when not (is_short w)) k.weights
 
 -- the first edge of a component that has a coefficient with a part above its limit
 unfoldable pub long_edge : ℕ → DraftComponent → Option CaseFault
-long_edge c k = option_map (λ e. PartTooLong (Edge c e.from e.to)) (find (λ e. not (list_all is_short e.entry)) k.edges)
+long_edge c k = first_of (λ _ e. PartTooLong (Edge c e.from e.to) when not (list_all is_short e.entry)) k.edges
 
 -- a p-value is given, and its denominator is above its limit
 abbrev pub is_long_p_value : Option Ratio → Bool
@@ -121,7 +121,7 @@ is_long_p_value (Some p) = not (is_short_p_value p)
 
 -- the first p-value with a denominator above its limit
 unfoldable pub long_p_value : List (Option Ratio) → Option CaseFault
-long_p_value ps = option_map (λ i. PartTooLong (P i)) (position is_long_p_value ps)
+long_p_value ps = first_of (λ i p. PartTooLong (P i) when is_long_p_value p) ps
 
 -- the first number with a part above its limit: the level, shares, weights, edges, p-values
 unfoldable pub part_too_long : Draft → Option CaseFault
@@ -139,7 +139,7 @@ is_below_zero x = not (at_most number_zero (number_of x))
 
 -- the first share below 0
 unfoldable pub share_range : List DraftComponent → Option CaseFault
-share_range ks = option_map ShareRange (position (λ k. is_below_zero k.share) ks)
+share_range ks = first_of (λ c k. ShareRange c when is_below_zero k.share) ks
 
 -- the fault of a sum: that it can't be written, or else that its value is above 1
 abbrev pub sum_fault : {A : Type 0} → Result A WideAt → Number → CaseFault → Option CaseFault
@@ -162,11 +162,11 @@ shares_fault ks = share_range ks or share_sum ks
 
 -- the first component without just one weight for each of `m` hypotheses
 unfoldable pub weight_count : ℕ → List DraftComponent → Option CaseFault
-weight_count m ks = option_map WeightCount (position (λ k. not (length k.weights == m)) ks)
+weight_count m ks = first_of (λ c k. WeightCount c when not (length k.weights == m)) ks
 
 -- the first weight of a component below 0
 unfoldable pub weight_range : ℕ → DraftComponent → Option CaseFault
-weight_range c k = option_map (WeightRange c) (position is_below_zero k.weights)
+weight_range c k = first_of (λ i w. WeightRange c i when is_below_zero w) k.weights
 
 -- the weights of a component sum above 1
 unfoldable pub weight_sum : ℕ → DraftComponent → Option CaseFault
@@ -184,7 +184,7 @@ is_self_edge e = e.from == e.to && not (is_zero_entry e.entry)
 
 -- the first such edge of a component
 unfoldable pub self_edge : ℕ → DraftComponent → Option CaseFault
-self_edge c k = option_map (λ e. SelfEdge c e.from) (find is_self_edge k.edges)
+self_edge c k = first_of (λ _ e. SelfEdge c e.from when is_self_edge e) k.edges
 
 -- the edge at a place has the ends of an earlier one
 abbrev pub edge_again : ℕ → List DraftEdge → ℕ → DraftEdge → Option CaseFault
@@ -196,7 +196,7 @@ repeated_edge c k = first_of (edge_again c k.edges) k.edges
 
 -- the first edge of a component that isn't from 0 to 1, in the order of epsilon
 unfoldable pub edge_range : ℕ → DraftComponent → Option CaseFault
-edge_range c k = option_map (λ e. EdgeRange c e.from e.to) (find (λ e. not (is_unit (entry_value e.entry))) k.edges)
+edge_range c k = first_of (λ _ e. EdgeRange c e.from e.to when not (is_unit (entry_value e.entry))) k.edges
 
 -- the first fault of the edges, one by one
 unfoldable pub edges_fault : List DraftComponent → Option CaseFault
@@ -242,7 +242,7 @@ p_count m ps = PCount (length ps) when (not (length ps == 0) && not (length ps =
 
 -- some p-value is given; the first that isn't
 unfoldable pub p_missing : List (Option Ratio) → Option CaseFault
-p_missing ps = if list_any is_some ps then option_map PMissing (position is_none ps) else None
+p_missing ps = if list_any is_some ps then first_of (λ i p. PMissing i when is_none p) ps else None
 
 -- a p-value is given, and isn't from 0 to 1
 abbrev pub is_outside : Option Ratio → Bool
@@ -251,7 +251,7 @@ is_outside (Some p) = not (is_unit (number_of p))
 
 -- the first such p-value
 unfoldable pub p_range : List (Option Ratio) → Option CaseFault
-p_range ps = option_map PRange (position is_outside ps)
+p_range ps = first_of (λ i p. PRange i when is_outside p) ps
 
 -- the first fault of the p-values of `m` hypotheses
 unfoldable pub p_values_fault : ℕ → List (Option Ratio) → Option CaseFault
@@ -259,10 +259,13 @@ p_values_fault m ps = p_count m ps or p_missing ps or p_range ps
 
 -- ---- all tests
 
+-- the tests before those of the edges
+abbrev pub fault_before_edges : Draft → Option CaseFault
+fault_before_edges d = names_fault d.names or components_fault d.components or part_too_long d or alpha_range d.alpha or shares_fault d.components or weights_fault (length d.names) d.components
+
 -- the tests before those of the rows of edges
 unfoldable pub early_fault : Draft → Option CaseFault
-early_fault d =
-    names_fault d.names or components_fault d.components or part_too_long d or alpha_range d.alpha or shares_fault d.components or weights_fault (length d.names) d.components or edges_fault d.components
+early_fault d = fault_before_edges d or edges_fault d.components
 
 -- the later tests of `m` hypotheses, with the components whose edges are in tables
 unfoldable pub late_fault : ℕ → Option DraftStages → List (Option Ratio) → List Component → Option CaseFault

@@ -17,16 +17,14 @@ pub mod IntersectionWeight
 pub mod LegalOrder
 pub mod NameIndexView
 pub mod Names
-<<<<<<< HEAD
-pub mod Sums
-pub mod Tables
-=======
-pub mod Rows
 pub mod SetAnswers
 pub mod SetTableView
+pub mod Spends
+pub mod StagedStatements
+pub mod StagedTest
 pub mod Sums
+pub mod Tables
 pub mod TextbookGraphs
 pub mod TextbookRules
 pub mod TextbookStatements
->>>>>>> main
 pub mod Validity

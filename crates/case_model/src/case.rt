@@ -82,12 +82,22 @@ impl Case {
         self.components.len()
     }
 
+    /// The component at a place.
+    fn component(&self, c: usize) -> &Component
+        requires { c < length (content self.now).components }
+        ensures component { result.now ≡ component_at (content self.now).components c }
+        ensures weights { length result.now.weights ≡ length (content self.now).names }
+        ensures edges { length result.now.edges ≡ length (content self.now).names * length (content self.now).names }
+    {
+        &self.components.as_slice()[c]
+    }
+
     /// The share of the component at a place, from 0 to 1.
     pub fn share(&self, c: usize) -> Fraction
         requires { c < length (content self.now).components }
         ensures { result ≡ (component_at (content self.now).components c).share }
     {
-        self.components.as_slice()[c].share
+        self.component(c).share
     }
 
     /// The weight of a hypothesis in a component, from 0 to 1.
@@ -96,7 +106,7 @@ impl Case {
         requires hypothesis { i < length (content self.now).names }
         ensures { result ≡ ratio_at (component_at (content self.now).components c).weights i }
     {
-        self.components.as_slice()[c].weight(i)
+        self.component(c).weight(i)
     }
 
     /// The edge from a hypothesis to a hypothesis in a component.
@@ -106,7 +116,7 @@ impl Case {
         requires to { j < length (content self.now).names }
         ensures { result.now ≡ entry_at (length (content self.now).names) (component_at (content self.now).components c).edges i j }
     {
-        self.components.as_slice()[c].edge(self.names.len(), i, j)
+        self.component(c).edge(self.size(), i, j)
     }
 
     /// The table of the edges of a component, row by row.
@@ -115,7 +125,7 @@ impl Case {
         ensures edges { result.now ≡ (component_at (content self.now).components c).edges }
         ensures size { length result.now ≡ length (content self.now).names * length (content self.now).names }
     {
-        self.components.as_slice()[c].edges.as_slice()
+        self.component(c).edges.as_slice()
     }
 
     /// The p-values. Where there are single ones, there is one for each hypothesis, from 0 to 1.

@@ -79,11 +79,12 @@ fn table(alloc: Global, count: usize, edges: &[DraftEdge]) -> Result<List<Entry>
     requires ends { list_all (goes_between count) edges.now ≡ true }
     ensures { IfOk result (λ table. table ≡ table_of count edges.now) }
 {
-    let mut table = vec![in alloc; Entry::no_edge(); count * count]?;
+    let mut table = List::of(vec![in alloc; Entry::no_edge(); count * count]?);
     for n in (0..edges.len()).rev() {
-        table[edges[n].from * count + edges[n].to] = edges[n].entry;
+        let edge = &edges[n];
+        table.set(edge.place(count), edge.entry);
     }
-    Ok(List::of(table))
+    Ok(table)
 }
 
 /// The components of a draft with their edges in tables.

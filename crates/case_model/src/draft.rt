@@ -3,14 +3,14 @@ ghost use Rattle.std.specs.Prelude.{◌≡◌, ◌≤◌, ◌⊎◌, true, None,
 ghost use Rattle.std.specs.List.{list_all};
 ghost use Rattle.case_model.specs.Draft.{goes_between, have_known_ends};
 ghost use Rattle.case_model.specs.Content.{content_of, tabled, inputs_given};
-ghost use Rattle.case_model.specs.CaseFaults.{part_too_long, alpha_range, early_fault, late_fault, case_fault};
+ghost use Rattle.case_model.specs.CaseFaults.{part_too_long, alpha_range, fault_before_edges, early_fault, late_fault, case_fault};
 ghost use Rattle.case_model.specs.CaseView.{content};
 ghost use Rattle.case_model.specs.Tables.{are_tables};
 ghost use Rattle.case_model.specs.declared.fault.CaseFault.TheVariants.{NoMemory as OutOfMemory};
 
 use crate::component::tabled;
 use crate::components::{
-    components_fault, edges_fault, first_fault, long_share, shares_fault, weights_fault,
+    components_fault, edges_fault, long_part, shares_fault, weights_fault,
 };
 use crate::fraction_tests::{is_level_range, is_short_level};
 use crate::names::names_fault;
@@ -84,16 +84,14 @@ impl Draft {
             return Err(Refused { names, fault });
         }
         match Parts::made(alloc, names.len(), &stages, p.as_slice(), components) {
-            Ok(Parts { components, inputs }) => Ok(Case::of(names, alpha, components, inputs)),
+            Ok(parts) => Ok(Case::of(names, alpha, parts.components, parts.inputs)),
             Err(fault) => Err(Refused { names, fault }),
         }
     }
 
-    /// The first fault of the tests before those of the rows of edges.
-    #[tactic(auto, unfolding(crate::specs::CaseFaults::early_fault))]
-    fn early_fault(&self) -> Option<CaseFault>
-        requires { have_known_ends self.now ≡ true }
-        ensures { result ≡ early_fault self.now }
+    /// The first fault of the tests before those of the edges.
+    fn fault_before_edges(&self) -> Option<CaseFault>
+        ensures { result ≡ fault_before_edges self.now }
     {
         let count = self.names.len();
         let components = self.components.as_slice();
@@ -103,7 +101,18 @@ impl Draft {
             .or_else(|| self.alpha_range())
             .or_else(|| shares_fault(components))
             .or_else(|| weights_fault(count, components))
-            .or_else(|| edges_fault(count, components))
+    }
+
+    /// The first fault of the tests before those of the rows of edges.
+    #[tactic(auto, unfolding(crate::specs::CaseFaults::early_fault))]
+    fn early_fault(&self) -> Option<CaseFault>
+        requires { have_known_ends self.now ≡ true }
+        ensures { result ≡ early_fault self.now }
+    {
+        if let Some(fault) = self.fault_before_edges() {
+            return Some(fault);
+        }
+        edges_fault(self.names.len(), self.components.as_slice())
     }
 
     /// The first number with a part above its limit.
@@ -111,13 +120,9 @@ impl Draft {
     fn part_too_long(&self) -> Option<CaseFault>
         ensures { result ≡ part_too_long self.now }
     {
-        let components = self.components.as_slice();
-        if !is_short_level(&self.alpha) {
-            return Some(CaseFault::PartTooLong(PartPlace::Alpha));
-        }
-        long_share(components)
-            .or_else(|| first_fault(components, DraftComponent::long_weight))
-            .or_else(|| first_fault(components, DraftComponent::long_edge))
+        (!is_short_level(&self.alpha))
+            .then_some(CaseFault::PartTooLong(PartPlace::Alpha))
+            .or_else(|| long_part(self.components.as_slice()))
             .or_else(|| long_p_value(self.p.as_slice()))
     }
 
@@ -174,11 +179,8 @@ fn late_fault(
     requires tables { are_tables count components.now ≡ true }
     ensures { result ≡ late_fault count stages.now p.now components.now }
 {
-    if let Some(fault) = rows_fault(count, components) {
-        return Some(fault);
-    }
-    if stages.is_some() && !p.is_empty() {
-        return Some(CaseFault::Mixed);
-    }
-    p_values_fault(count, p)
+    let has_both = stages.is_some() && !p.is_empty();
+    rows_fault(count, components)
+        .or_else(|| has_both.then_some(CaseFault::Mixed))
+        .or_else(|| p_values_fault(count, p))
 }

@@ -4,6 +4,7 @@ ghost use Rattle.std.specs.List.{list_all};
 ghost use Rattle.case_model.specs.Draft.{goes_between};
 ghost use Rattle.case_model.specs.CaseFaults.{long_weight, long_edge, weight_range, weight_sum, self_edge, repeated_edge, edge_range};
 
+use crate::first_faults::first_fault;
 use crate::fraction_tests::{is_below_zero, is_short};
 use crate::sums::total_fault;
 use crate::{CaseFault, DraftEdge, PartPlace};
@@ -31,8 +32,9 @@ impl DraftComponent {
     pub(crate) fn long_weight(&self, c: usize) -> Option<CaseFault>
         ensures { result ≡ long_weight c self.now }
     {
-        let i = self.weights.iter().position(|weight| !is_short(weight))?;
-        Some(CaseFault::PartTooLong(PartPlace::Weight(c, i)))
+        first_fault(self.weights.as_slice(), |weight, i| {
+            (!is_short(weight)).then_some(CaseFault::PartTooLong(PartPlace::Weight(c, i)))
+        })
     }
 
     /// The first edge with a part above 10^18.
@@ -40,8 +42,10 @@ impl DraftComponent {
     pub(crate) fn long_edge(&self, c: usize) -> Option<CaseFault>
         ensures { result ≡ long_edge c self.now }
     {
-        let edge = self.edges.iter().find(|edge| !edge.entry.is_short())?;
-        Some(CaseFault::PartTooLong(PartPlace::Edge(c, edge.from, edge.to)))
+        first_fault(self.edges.as_slice(), |edge, _| {
+            let place = PartPlace::Edge(c, edge.from, edge.to);
+            (!edge.entry.is_short()).then_some(CaseFault::PartTooLong(place))
+        })
     }
 
     /// The first weight below 0.
@@ -49,12 +53,13 @@ impl DraftComponent {
     pub(crate) fn weight_range(&self, c: usize) -> Option<CaseFault>
         ensures { result ≡ weight_range c self.now }
     {
-        let i = self.weights.iter().position(|weight| is_below_zero(weight))?;
-        Some(CaseFault::WeightRange(c, i))
+        first_fault(self.weights.as_slice(), |weight, i| {
+            is_below_zero(weight).then_some(CaseFault::WeightRange(c, i))
+        })
     }
 
     /// The fault of the sum of the weights.
-    #[tactic(auto, unfolding(crate::specs::CaseFaults::weight_sum))]
+    #[tactic(auto, unfolding(crate::specs::CaseFaults::weight_sum, crate::specs::Sums::ratio_at), using(std::proofs::lemmas::List::get_or_default))]
     pub(crate) fn weight_sum(&self, c: usize) -> Option<CaseFault>
         ensures { result ≡ weight_sum c self.now }
     {
@@ -68,8 +73,9 @@ impl DraftComponent {
     pub(crate) fn self_edge(&self, c: usize) -> Option<CaseFault>
         ensures { result ≡ self_edge c self.now }
     {
-        let edge = self.edges.iter().find(|edge| edge.is_self_edge())?;
-        Some(CaseFault::SelfEdge(c, edge.from))
+        first_fault(self.edges.as_slice(), |edge, _| {
+            edge.is_self_edge().then_some(CaseFault::SelfEdge(c, edge.from))
+        })
     }
 
     /// The first edge with the ends of an earlier one.
@@ -82,9 +88,10 @@ impl DraftComponent {
         let edges = self.edges.as_slice();
         let mut seen = [false; 4096];
         for n in 0..edges.len() {
-            let place = edges[n].from * count + edges[n].to;
+            let edge = &edges[n];
+            let place = edge.place(count);
             if seen[place] {
-                return Some(CaseFault::RepeatedEdge(c, edges[n].from, edges[n].to));
+                return Some(CaseFault::RepeatedEdge(c, edge.from, edge.to));
             }
             seen[place] = true;
         }
@@ -96,7 +103,8 @@ impl DraftComponent {
     pub(crate) fn edge_range(&self, c: usize) -> Option<CaseFault>
         ensures { result ≡ edge_range c self.now }
     {
-        let edge = self.edges.iter().find(|edge| !edge.entry.is_unit())?;
-        Some(CaseFault::EdgeRange(c, edge.from, edge.to))
+        first_fault(self.edges.as_slice(), |edge, _| {
+            (!edge.entry.is_unit()).then_some(CaseFault::EdgeRange(c, edge.from, edge.to))
+        })
     }
 }

@@ -1,5 +1,5 @@
 //! Edges of drafts.
-ghost use Rattle.std.specs.Prelude.{◌≡◌};
+ghost use Rattle.std.specs.Prelude.{◌≡◌, ◌≤◌, ◌<◌, ◌+◌, ◌*◌, true};
 ghost use Rattle.case_model.specs.Draft.{goes_between};
 ghost use Rattle.case_model.specs.CaseFaults.{is_self_edge};
 
@@ -19,6 +19,16 @@ impl DraftEdge {
         ensures { result ≡ goes_between count self.now }
     {
         self.from < count && self.to < count
+    }
+
+    /// Its place in the table of the edges between so many hypotheses, row by row.
+    pub(crate) fn place(&self, count: usize) -> usize
+        requires few { count ≤ 64 }
+        requires ends { goes_between count self.now ≡ true }
+        ensures place { result ≡ self.now.from * count + self.now.to }
+        ensures within { result < count * count }
+    {
+        self.from * count + self.to
     }
 
     /// Whether it goes from a hypothesis to itself, and isn't 0.

@@ -1,6 +1,7 @@
 //! Entries of tables of edges.
 ghost use Rattle.std.specs.Prelude.{◌≡◌};
 ghost use Rattle.std.specs.List.{list_all};
+ghost use Rattle.field_core.specs.Polynomial.{int_sign};
 ghost use Rattle.field_core.specs.View.{terms};
 ghost use Rattle.fraction.specs.Tests.{is_zero};
 ghost use Rattle.case_model.specs.Draft.{is_short};
@@ -129,13 +130,21 @@ fn are_short(fractions: &[Fraction]) -> bool
     fractions.iter().all(|fraction| is_short(fraction))
 }
 
+/// Whether `x` is below, at or above 0.
+#[tactic(auto, using(crate::proofs::Comparisons::sign_is))]
+fn sign(x: &Fraction) -> Ordering
+    ensures { result ≡ int_sign x.now.num }
+{
+    x.sign()
+}
+
 /// The sign of the first that isn't 0.
-#[tactic(auto, unfolding(crate::specs::Entries::first_sign, field_core::specs::Kind::sign_of))]
+#[tactic(auto, unfolding(crate::specs::Entries::first_sign))]
 fn first_sign(fractions: &[Fraction]) -> Ordering
     ensures { result ≡ first_sign fractions.now }
 {
     match fractions {
         [] => Ordering::Equal,
-        [first, rest @ ..] => first.sign().then(first_sign(rest)),
+        [first, rest @ ..] => sign(first).then(first_sign(rest)),
     }
 }

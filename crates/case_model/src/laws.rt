@@ -4,6 +4,7 @@
 pub mod adjusted;
 pub mod bounds;
 pub mod rules;
+pub mod staged;
 
 ghost use Rattle.case_model.specs.CaseStatements.{EntangledGraphsAreValid};
 ghost use Rattle.case_model.specs.ClosedTestExamples.{HalvesAreValid, OnlyFirstHalfIsRejected, BothLinkedHalvesAreRejected, WeightZeroRejectsNothing, AlikeAreTakenByPosition, LeastRatioIsTakenFirst};

@@ -1,9 +1,11 @@
 //! The p-values of a draft.
-ghost use Rattle.std.specs.Prelude.{◌≡◌, IfOk, is_some};
+ghost use Rattle.std.specs.Prelude.{◌≡◌, IfOk, is_some, is_none};
 ghost use Rattle.std.specs.List.{list_any};
 ghost use Rattle.case_model.specs.Content.{given};
-ghost use Rattle.case_model.specs.CaseFaults.{is_long_p_value, long_p_value, p_missing, is_outside, p_range, p_values_fault};
+ghost use Rattle.case_model.specs.declared.fault.CaseFault.TheVariants.{PMissing};
+ghost use Rattle.case_model.specs.CaseFaults.{◌when◌, first_of, is_long_p_value, long_p_value, p_missing, is_outside, p_range, p_values_fault};
 
+use crate::first_faults::first_fault;
 use crate::fraction_tests::{is_short_p_value, is_unit};
 use crate::{CaseFault, PartPlace};
 use field_core::{List, NoMemory};
@@ -25,8 +27,9 @@ fn is_long_p_value(p: &Option<Fraction>) -> bool
 pub fn long_p_value(p: &[Option<Fraction>]) -> Option<CaseFault>
     ensures { result ≡ long_p_value p.now }
 {
-    let i = p.iter().position(|p| is_long_p_value(p))?;
-    Some(CaseFault::PartTooLong(PartPlace::P(i)))
+    first_fault(p, |p, i| {
+        is_long_p_value(p).then_some(CaseFault::PartTooLong(PartPlace::P(i)))
+    })
 }
 
 /// Whether some p-value is given.
@@ -36,16 +39,26 @@ pub fn has_some(p: &[Option<Fraction>]) -> bool
     p.iter().any(|p| p.is_some())
 }
 
-/// Some p-value is given: the first that isn't.
+/// Whether a p-value isn't given.
+fn is_missing(p: &Option<Fraction>) -> bool
+    ensures { result ≡ is_none p.now }
+{
+    p.is_none()
+}
+
+/// The first p-value that isn't given.
+fn first_missing(p: &[Option<Fraction>]) -> Option<CaseFault>
+    ensures { result ≡ first_of (λ i p. PMissing i when is_none p) p.now }
+{
+    first_fault(p, |p, i| is_missing(p).then_some(CaseFault::PMissing(i)))
+}
+
+/// Where some p-value is given, the first that isn't.
 #[tactic(auto, unfolding(crate::specs::CaseFaults::p_missing))]
 fn p_missing(p: &[Option<Fraction>]) -> Option<CaseFault>
     ensures { result ≡ p_missing p.now }
 {
-    if !has_some(p) {
-        return None;
-    }
-    let i = p.iter().position(|p| p.is_none())?;
-    Some(CaseFault::PMissing(i))
+    if has_some(p) { first_missing(p) } else { None }
 }
 
 /// Whether a p-value is given and isn't from 0 to 1.
@@ -63,8 +76,7 @@ fn is_outside(p: &Option<Fraction>) -> bool
 fn p_range(p: &[Option<Fraction>]) -> Option<CaseFault>
     ensures { result ≡ p_range p.now }
 {
-    let i = p.iter().position(|p| is_outside(p))?;
-    Some(CaseFault::PRange(i))
+    first_fault(p, |p, i| is_outside(p).then_some(CaseFault::PRange(i)))
 }
 
 /// The first fault of the p-values of so many hypotheses.
@@ -79,6 +91,7 @@ pub fn p_values_fault(count: usize, p: &[Option<Fraction>]) -> Option<CaseFault>
 }
 
 /// The p-values that are given.
+#[tactic(auto, unfolding(crate::specs::Content::given))]
 pub fn given(alloc: Global, p: &[Option<Fraction>]) -> Result<List<Fraction>, NoMemory>
     ensures { IfOk result (λ ps. ps ≡ given p.now) }
 {

@@ -1,10 +1,12 @@
 //! The sums of the rows of tables of edges.
-ghost use Rattle.std.specs.Prelude.{◌≡◌, ◌≤◌, ◌<◌, ◌*◌, map, length, true};
+ghost use Rattle.std.specs.Prelude.{◌≡◌, ◌≤◌, ◌<◌, ◌*◌, length, map, true};
 ghost use Rattle.field_core.specs.declared.place.Op.TheVariants.{Add};
 ghost use Rattle.field_core.specs.Kind.{ok_map, or_wide};
 ghost use Rattle.field_core.specs.View.{terms};
+ghost use Rattle.case_model.specs.Content.{component_at};
 ghost use Rattle.case_model.specs.Entries.{entry_at};
-ghost use Rattle.case_model.specs.CaseFaults.{power_sum, written_row, row_sum, component_rows, rows_fault};
+ghost use Rattle.case_model.specs.CaseFaults.{first_below, power_sum, written_row, row_sum, component_rows, rows_fault};
+ghost use Rattle.case_model.specs.Sums.{ratio_at};
 ghost use Rattle.case_model.specs.Tables.{are_tables};
 
 use crate::first_faults::first_below;
@@ -12,6 +14,19 @@ use crate::sums::written_sum;
 use crate::{CaseFault, Component, Entry};
 use field_core::{Place, TooWide};
 use fraction::Fraction;
+
+/// The coefficient of a power in the entry at a row and a column.
+#[tactic(auto, unfolding(crate::specs::Entries::entry_at), using(std::proofs::lemmas::List::get_or_default))]
+fn coefficient(count: usize, table: &[Entry], i: usize, j: usize, power: usize) -> Fraction
+    requires few { count ≤ 64 }
+    requires size { length table.now ≡ count * count }
+    requires row { i < count }
+    requires column { j < count }
+    requires power { power ≤ 4 }
+    ensures { result ≡ ratio_at (entry_at count table.now i j) power }
+{
+    table[i * count + j].coefficient(power)
+}
 
 /// The sum of the coefficients of a power in a row, by ascending column.
 fn power_sum(count: usize, table: &[Entry], i: usize, power: usize) -> Result<Fraction, TooWide>
@@ -21,7 +36,7 @@ fn power_sum(count: usize, table: &[Entry], i: usize, power: usize) -> Result<Fr
     requires power { power ≤ 4 }
     ensures { ok_map terms result ≡ or_wide Add (power_sum count (entry_at count table.now i) power) }
 {
-    written_sum(count, |j| table[i * count + j].coefficient(power))
+    written_sum(count, |j| coefficient(count, table, i, j, power))
 }
 
 /// The sum of a row, power by power.
@@ -53,23 +68,30 @@ fn row_sum(count: usize, c: usize, table: &[Entry], i: usize) -> Option<CaseFaul
     }
 }
 
-/// The first fault of the rows of a component's table.
-#[tactic(auto, unfolding(crate::specs::CaseFaults::component_rows))]
-fn component_rows(count: usize, c: usize, component: &Component) -> Option<CaseFault>
+/// The first fault of the rows of a table.
+fn first_row(count: usize, c: usize, table: &[Entry]) -> Option<CaseFault>
     requires few { count ≤ 64 }
-    requires size { length component.now.edges ≡ count * count }
-    ensures { result ≡ component_rows count c component.now }
+    requires size { length table.now ≡ count * count }
+    ensures { result ≡ first_below (row_sum count c table.now) count }
 {
-    let table = component.edges.as_slice();
     first_below(count, |i| row_sum(count, c, table, i))
 }
 
+/// The first fault of the rows of the component at a place.
+fn component_rows(count: usize, components: &[Component], c: usize) -> Option<CaseFault>
+    requires few { count ≤ 64 }
+    requires tables { are_tables count components.now ≡ true }
+    requires within { c < length components.now }
+    ensures { result ≡ component_rows count c (component_at components.now c) }
+{
+    first_row(count, c, components[c].edges.as_slice())
+}
+
 /// The first fault of the rows of the components' tables.
-#[tactic(auto, unfolding(crate::specs::CaseFaults::rows_fault))]
 pub fn rows_fault(count: usize, components: &[Component]) -> Option<CaseFault>
     requires few { count ≤ 64 }
     requires tables { are_tables count components.now ≡ true }
     ensures { result ≡ rows_fault count components.now }
 {
-    first_below(components.len(), |c| component_rows(count, c, &components[c]))
+    first_below(components.len(), |c| component_rows(count, components, c))
 }

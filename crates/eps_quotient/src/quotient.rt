@@ -5,7 +5,7 @@ use crate::lower::norm;
 use crate::pair::Pair;
 use crate::print::put_quotient;
 use crate::read::polynomials;
-use crate::written::{inverse, product, sum};
+use crate::written::{product, quotient, sum};
 use eps_poly::EpsPoly;
 use field_core::{List, NoMemory, Number, Op, Ratio, TooWide};
 use std::cmp::Ordering;
@@ -20,6 +20,7 @@ pub struct EpsQuotient {
 
 impl EpsQuotient {
     ghost use Rattle.std.specs.Prelude.{◌≡◌, ◌≤◌, ◌↔◌, ◌++◌, List as Seq, ℤ, IfSome, IsSomeAnd, IfOk, OnOk, OnErr, map, pos};
+    ghost use Rattle.std.specs.Option.{option_map};
     ghost use Rattle.field_core.specs.declared.place.Op.TheVariants.{Add};
     ghost use Rattle.field_core.specs.Kind.{ok_map, or_wide};
     ghost use Rattle.field_core.specs.Polynomial.{lowest, IsNonZero};
@@ -30,7 +31,8 @@ impl EpsQuotient {
     ghost use Rattle.eps_quotient.specs.Lowering.{norm};
     ghost use Rattle.eps_quotient.specs.Polynomials.{polynomial_value, term, written_polynomial};
     ghost use Rattle.eps_quotient.specs.Spelling.{HoldsFront, quotient_text};
-    ghost use Rattle.eps_quotient.specs.View.{quotient_parts, number_of};
+    ghost use Rattle.eps_quotient.specs.Stored.{IsQuotient};
+    ghost use Rattle.eps_quotient.specs.View.{number_of, pair_parts, quotient_parts};
 
     /// The quotient num/den as the norm of the two polynomials stores it, or `None` exactly where `den` is 0.
     pub fn new(num: &EpsPoly, den: &EpsPoly) -> Option<EpsQuotient>
@@ -111,6 +113,17 @@ impl EpsQuotient {
             pair: Pair::new(numerator, denominator),
         }
     }
+
+    /// What an operation answers whose written parts may be refused.
+    fn answer(op: Op, pair: Option<Pair>) -> Result<EpsQuotient, TooWide>
+        requires { IfSome pair (λ x. IsQuotient (pair_parts x)) }
+        ensures { ok_map quotient_parts result ≡ or_wide op (option_map pair_parts pair) }
+    {
+        match pair {
+            Some(pair) => Ok(EpsQuotient { pair }),
+            None => Err(TooWide { op }),
+        }
+    }
 }
 
 impl Number for EpsQuotient {
@@ -138,23 +151,19 @@ impl Number for EpsQuotient {
     }
 
     fn add(&self, other: &EpsQuotient) -> Result<EpsQuotient, TooWide> {
-        let pair = sum(&self.pair, &other.pair).ok_or(TooWide { op: Op::Add })?;
-        Ok(EpsQuotient { pair })
+        EpsQuotient::answer(Op::Add, sum(&self.pair, &other.pair))
     }
 
     fn sub(&self, other: &EpsQuotient) -> Result<EpsQuotient, TooWide> {
-        let pair = sum(&self.pair, &other.pair.opposite()).ok_or(TooWide { op: Op::Sub })?;
-        Ok(EpsQuotient { pair })
+        EpsQuotient::answer(Op::Sub, sum(&self.pair, &other.pair.opposite()))
     }
 
     fn mul(&self, other: &EpsQuotient) -> Result<EpsQuotient, TooWide> {
-        let pair = product(&self.pair, &other.pair).ok_or(TooWide { op: Op::Mul })?;
-        Ok(EpsQuotient { pair })
+        EpsQuotient::answer(Op::Mul, product(&self.pair, &other.pair))
     }
 
     fn div(&self, other: &EpsQuotient) -> Result<EpsQuotient, TooWide> {
-        let pair = product(&self.pair, &inverse(&other.pair)).ok_or(TooWide { op: Op::Div })?;
-        Ok(EpsQuotient { pair })
+        EpsQuotient::answer(Op::Div, quotient(&self.pair, &other.pair))
     }
 
     /// Refused exactly where the difference is, with `Op::Sub`.

@@ -125,6 +125,9 @@ gcd_of_zero a b h = gcd_same a b b (IsGcd-swap b a b (IsGcd-from_zero b a h))
 pub gcd_with_zero : (a b : ℕ) → b ≡ 0 → a ≡ gcd a b
 gcd_with_zero a b h = gcd_same a b a (IsGcd-from_zero a b h)
 
+pub gcd_by_one : (a b : ℕ) → b ≡ 1 → 1 ≡ gcd a b
+gcd_by_one a b h = sym (eq-one_of_dvd-one (subst (λ n. gcd a b ∣ n) h (gcd_is a b).1))
+
 pub gcd_with_one : (a b : ℕ) → (a ≡ 1) ⊎ ((a ≡ 1 → ⊥) × (b ≡ 1)) → 1 ≡ gcd a b
-gcd_with_one a b (inl h) = sym (eq-one_of_dvd-one (subst (λ n. gcd a b ∣ n) h (gcd_is a b).0))
-gcd_with_one a b (inr h) = sym (eq-one_of_dvd-one (subst (λ n. gcd a b ∣ n) h.1 (gcd_is a b).1))
+gcd_with_one a b (inl h) = gcd_by_one b a h ∙ gcd_comm b a
+gcd_with_one a b (inr h) = gcd_by_one a b h.1

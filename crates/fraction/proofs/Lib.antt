@@ -1,10 +1,9 @@
 pub mod Accepted
+pub mod AtOnce
 pub mod Bodies
 pub mod Classes
 pub mod Cut
-pub mod Decimals
 pub mod DigitNumbers
-pub mod Displayed
 pub mod LowestTerms
 pub mod Numerals
 pub mod Read

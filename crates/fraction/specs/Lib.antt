@@ -6,6 +6,7 @@ pub mod Numeral
 pub mod Plain
 pub mod Prefixes
 pub mod Reading
+pub mod Short
 pub mod Sizes
 pub mod Spelling
 pub mod Tests
