@@ -12,6 +12,5 @@ pub mod ReadBack
 pub mod ReadTexts
 pub mod Scaling
 pub mod SignedTexts
-pub mod Signs
 pub mod Unique
 pub mod Zeros
