@@ -15,6 +15,5 @@ pub mod Scan
 pub mod ShortNumbers
 pub mod ShortTerms
 pub mod SignedTexts
-pub mod Signs
 pub mod Unique
 pub mod Zeros
