@@ -1,0 +1,10 @@
+//! What commands need of their cases.
+
+use crate::kind::Kind;
+
+/// The p-values that a command needs, and the most hypotheses that it takes. No case has more than 64.
+#[derive(Clone, Copy, PartialEq, Eq, Debug)]
+pub struct Needs {
+    pub kind: Kind,
+    pub most: usize,
+}
