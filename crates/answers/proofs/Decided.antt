@@ -3,7 +3,7 @@ use Rattle.std.proofs.Common.{◌≡◌, ◌∙◌, sym, ap, subst, ℕ, List, l
 use Rattle.answers.specs.declared.answer.Answer.{Answer}
 use Rattle.answers.specs.declared.refusal.Refusal.{Refusal}
 use Rattle.answers.specs.Lines.{refused}
-use Rattle.answers.specs.Stages.{Stage, IsDecided, and_then, in_words, only, within, IsAnswerOf}
+use Rattle.answers.specs.Stages.{Stage, IsDecided, and_then, told_as, only, within, IsAnswerOf}
 
 pub then_decided : {R A B : Type 0} (s : Stage R A) (t : A → Stage R B) → IsDecided s → ((x : A) → IsDecided (t x)) → IsDecided (and_then s t)
 then_decided s t f g = record {
@@ -24,10 +24,10 @@ then_decided s t f g = record {
   ];
 }
 
-pub in_words_decided : {Q R A : Type 0} (words : Q → R) (s : Stage Q A) → IsDecided s → IsDecided (in_words words s)
-in_words_decided words s f = record {
+pub told_as_decided : {Q R A : Type 0} (tell : Q → R) (s : Stage Q A) → IsDecided s → IsDecided (told_as tell s)
+told_as_decided tell s f = record {
   one = f.one;
-  one_refusal = λ r q h k. h.2 ∙ ap words (f.one_refusal h.0 k.0 h.1 k.1) ∙ sym k.2;
+  one_refusal = λ r q h k. h.2 ∙ ap tell (f.one_refusal h.0 k.0 h.1 k.1) ∙ sym k.2;
   not_both = λ x r h k. f.not_both x k.0 h k.1;
 }
 

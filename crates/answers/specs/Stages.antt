@@ -22,9 +22,9 @@ and_then {R} {A} {B} s t = record {
   Refuses = λ r. s.Refuses r ⊎ ((x : A) × s.Gives x × (t x).Refuses r);
 }
 
--- a stage, with its refusals put into these words
-abbrev pub in_words : {Q R A : Type 0} → (Q → R) → Stage Q A → Stage R A
-in_words {Q} words s = record { Gives = s.Gives; Refuses = λ r. (q : Q) × s.Refuses q × (r ≡ words q) }
+-- a stage whose refusals are told in another way
+abbrev pub told_as : {Q R A : Type 0} → (Q → R) → Stage Q A → Stage R A
+told_as {Q} tell s = record { Gives = s.Gives; Refuses = λ r. (q : Q) × s.Refuses q × (r ≡ tell q) }
 
 -- a stage on the bytes that a source had left; on some bytes, where it doesn't tell which
 abbrev pub on_bytes : {R A : Type 0} → Option (List ℕ) → (List ℕ → Stage R A) → Stage R A

@@ -8,18 +8,18 @@ use Rattle.command_words.specs.declared.argument.Argument.TheVariants as argumen
 use Rattle.command_words.specs.declared.form.Form.{Form}
 use Rattle.command_words.specs.declared.form.Form.TheVariants.{Text, Csv, Json}
 use Rattle.command_words.specs.declared.verb.Verb.{Verb}
-use Rattle.command_words.specs.declared.verb.Verb.TheVariants.{Test, Help}
+use Rattle.command_words.specs.declared.verb.Verb.TheVariants as verbs
 use Rattle.sequential.specs.declared.priority.Priority.{Priority}
 use Rattle.sequential.specs.declared.priority.Priority.TheVariants.{First, Last, Ratio}
 
 -- ---- commands
 
 abbrev verb_of : List ℕ → Verb
-verb_of name = if bytes_eq name (codes "test") then Test else Help
+verb_of name = if bytes_eq name (codes "test") then verbs.Test else verbs.Help
 
 verb_back : (v : Verb) → verb_of (verb_name v) ≡ v
-verb_back Test = refl
-verb_back Help = refl
+verb_back verbs.Test = refl
+verb_back verbs.Help = refl
 
 pub one_verb : (v w : Verb) → verb_name v ≡ verb_name w → v ≡ w
 one_verb v w e = sym (verb_back v) ∙ (ap verb_of e ∙ verb_back w)

@@ -10,7 +10,7 @@ use Rattle.command_words.specs.Given.{GivenContent, nothing, forbidden_word, ask
 use Rattle.command_words.specs.Laws.{WordsAreDecided}
 use Rattle.command_words.specs.Table.{verb_name, argument_name, operand_of}
 use Rattle.command_words.specs.WordParts.{opener, joined_word}
-use Rattle.command_words.specs.Words.{Piece, joined, apart, bare, spelled, MayStand, with_piece, Stand, Begin, IsBadFront, IsBadPiece, command_in, pieces_in, complete, allowed, words_in}
+use Rattle.command_words.specs.Words.{Piece, joined, apart, bare, spelled, MayStand, with_piece, Stand, Begin, IsBadFront, IsBadPiece, command_in, pieces_in, complete, allowed, asked_in}
 use Rattle.command_words.specs.declared.argument.Argument.{Argument}
 use Rattle.command_words.specs.declared.argument.Argument.TheVariants as arguments
 use Rattle.command_words.specs.declared.verb.Verb.{Verb}

@@ -12,7 +12,7 @@ use Rattle.command_words.specs.declared.form.Form.{Form}
 use Rattle.command_words.specs.declared.form.Form.TheVariants as forms
 use Rattle.command_words.specs.declared.given.Given.{Given}
 use Rattle.command_words.specs.declared.verb.Verb.{Verb}
-use Rattle.command_words.specs.declared.verb.Verb.TheVariants.{Test, Help}
+use Rattle.command_words.specs.declared.verb.Verb.TheVariants as verbs
 use Rattle.sequential.specs.declared.priority.Priority.{Priority}
 use Rattle.sequential.specs.declared.priority.Priority.TheVariants.{First}
 
@@ -72,8 +72,8 @@ on_case g task = option_map (λ form. task_on_case form task) (written_of g)
 
 -- what a command asks for; nothing, where something is missing
 abbrev pub asked_of : Verb → GivenContent → Option Asked
-asked_of Test g = on_case g (tasks.Test (priority_or_first g.priority))
-asked_of Help g = Some help
+asked_of verbs.Test g = on_case g (tasks.Test (priority_or_first g.priority))
+asked_of verbs.Help g = Some help
 
 -- ---- what the others forbid
 

@@ -5,30 +5,29 @@ use Rattle.command_words.specs.declared.argument.Argument.TheVariants as argumen
 use Rattle.command_words.specs.declared.form.Form.{Form}
 use Rattle.command_words.specs.declared.form.Form.TheVariants.{Text, Csv, Json}
 use Rattle.command_words.specs.declared.verb.Verb.{Verb}
-use Rattle.command_words.specs.declared.verb.Verb.TheVariants.{Test, Help}
+use Rattle.command_words.specs.declared.verb.Verb.TheVariants as verbs
 use Rattle.sequential.specs.declared.priority.Priority.{Priority}
 use Rattle.sequential.specs.declared.priority.Priority.TheVariants.{First, Last, Ratio}
 
 -- ---- commands
 
 abbrev pub verb_name : Verb → List ℕ
-verb_name Test = codes "test"
-verb_name Help = codes "help"
+verb_name verbs.Test = codes "test"
+verb_name verbs.Help = codes "help"
 
 -- the options that a command takes
 abbrev pub options_of : Verb → List Argument
-options_of Test = arguments.Form ∷ arguments.Alpha ∷ arguments.Priority ∷ []
-options_of Help = []
+options_of verbs.Test = arguments.Form ∷ arguments.Alpha ∷ arguments.Priority ∷ []
+options_of verbs.Help = []
 
--- what a word without a name gives, where a command takes one
+-- what a word without a name gives, where a command takes one; none does yet
 abbrev pub operand_of : Verb → Option Argument
-operand_of Test = None
-operand_of Help = None
+operand_of verb = None
 
 -- the forms in which a command reads its case
 abbrev pub forms_of : Verb → List Form
-forms_of Test = Text ∷ Csv ∷ Json ∷ []
-forms_of Help = []
+forms_of verbs.Test = Text ∷ Csv ∷ Json ∷ []
+forms_of verbs.Help = []
 
 -- ---- arguments
 

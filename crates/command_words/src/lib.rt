@@ -8,6 +8,8 @@ mod form;
 mod given;
 pub mod laws;
 mod reading;
+#[cfg(test)]
+mod tests;
 mod verb;
 mod word;
 

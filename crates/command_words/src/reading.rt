@@ -5,7 +5,7 @@ ghost use Rattle.command_words.specs.Choices.{Chosen, chosen};
 ghost use Rattle.command_words.specs.Given.{given_content};
 ghost use Rattle.command_words.specs.Table.{argument_name};
 ghost use Rattle.command_words.specs.WordParts.{IsBare};
-ghost use Rattle.command_words.specs.Words.{bare, MayOpen, MayStand, IsStep, IsBadFront, command_in, pieces_in, words_in};
+ghost use Rattle.command_words.specs.Words.{bare, MayOpen, MayStand, IsStep, IsBadFront, command_in, pieces_in, asked_in};
 
 use crate::argument::Argument;
 use crate::choice::Choice;
@@ -121,8 +121,8 @@ fn command_word(words: &[String]) -> Result<Verb, usize>
 
 /// What the words ask for; or the number, from 1, of the first word at which the reading fails.
 pub fn read_words(words: &[String]) -> Result<Command, usize>
-    ensures given { IfOk result (λ command. (words_in (map string_bytes words.now)).Gives (asked command)) }
-    ensures refused { IfErr result (words_in (map string_bytes words.now)).Refuses }
+    ensures given { IfOk result (λ command. (asked_in (map string_bytes words.now)).Gives (asked command)) }
+    ensures refused { IfErr result (asked_in (map string_bytes words.now)).Refuses }
 {
     let verb = command_word(words)?;
     let given = pieces(verb, words)?;

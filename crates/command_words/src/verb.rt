@@ -46,13 +46,11 @@ impl Verb {
         }
     }
 
-    /// What a word without a name gives, where the command takes one.
+    /// What a word without a name gives, where the command takes one. None does yet.
     pub(crate) fn operand(self) -> Option<Argument>
         ensures { result ≡ operand_of self }
     {
-        match self {
-            Verb::Test | Verb::Help => None,
-        }
+        None
     }
 
     /// Whether the command takes an option.

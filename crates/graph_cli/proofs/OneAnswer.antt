@@ -1,7 +1,7 @@
 -- Words, a case and a proof have at most one answer.
 use Rattle.std.proofs.Common.{Some}
-use Rattle.answers.proofs.Decided.{then_decided, in_words_decided, one_answer}
-use Rattle.command_words.specs.Words.{words_in}
+use Rattle.answers.proofs.Decided.{then_decided, told_as_decided, one_answer}
+use Rattle.command_words.specs.Words.{asked_in}
 use Rattle.command_words.proofs.OneReading.{words_decided}
 use Rattle.refusals.specs.UsageRefusal.{usage}
 use Rattle.graph_cli.specs.Laws.{HasOneAnswer}
@@ -10,4 +10,4 @@ use Rattle.graph_cli.proofs.CallAnswers.{call_decided}
 
 pub has_one_answer : HasOneAnswer
 has_one_answer words case proof =
-    one_answer (outcome words (Some case) (Some proof)) (then_decided _ _ (in_words_decided usage (words_in words) (words_decided words)) (λ command. call_decided command case proof))
+    one_answer (outcome words (Some case) (Some proof)) (then_decided _ _ (told_as_decided usage (asked_in words) (words_decided words)) (λ command. call_decided command case proof))

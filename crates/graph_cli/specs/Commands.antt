@@ -6,7 +6,7 @@ use Rattle.answers.specs.Stages.{Stage, and_then}
 use Rattle.case_model.specs.Content.{Content}
 use Rattle.command_words.specs.Asked.{Written, Asked, on_case as task_on_case, help}
 use Rattle.command_words.specs.declared.command.CaseTask.{CaseTask}
-use Rattle.command_words.specs.declared.command.CaseTask.TheVariants.{Test}
+use Rattle.command_words.specs.declared.command.CaseTask.TheVariants as tasks
 use Rattle.graph_cli.specs.Accepted.{accepted}
 use Rattle.graph_cli.specs.Help.{help_stage}
 use Rattle.graph_cli.specs.Test.{test_stage}
@@ -15,11 +15,11 @@ use Rattle.graph_cli.specs.declared.needs.Needs.{Needs}
 
 -- what a task needs of its case
 abbrev pub needs_of : CaseTask → Needs
-needs_of (Test priority) = record { kind = Single; most = 64 }
+needs_of (tasks.Test priority) = record { kind = Single; most = 64 }
 
 -- what a task answers to a case that it can take
 abbrev pub on_case : CaseTask → Content → Stage Refusal Answer
-on_case (Test priority) c = test_stage priority c
+on_case (tasks.Test priority) c = test_stage priority c
 
 -- a task on a case alone
 abbrev pub case_call : Written → CaseTask → Option (List ℕ) → Stage Refusal Answer

@@ -2,19 +2,19 @@
 use Rattle.std.specs.Prelude.{ℕ, ◌⊎◌, List, Option, None}
 use Rattle.answers.specs.declared.answer.Answer.{Answer}
 use Rattle.answers.specs.declared.refusal.Refusal.{Refusal}
-use Rattle.answers.specs.Stages.{Stage, and_then, in_words}
+use Rattle.answers.specs.Stages.{Stage, and_then, told_as}
 use Rattle.command_words.specs.Asked.{Asked, on_case, help}
-use Rattle.command_words.specs.Words.{words_in}
+use Rattle.command_words.specs.Words.{asked_in}
 use Rattle.refusals.specs.UsageRefusal.{usage}
 use Rattle.graph_cli.specs.Commands.{call_of, TakesCase, TakesProof}
 
 -- the outcome of words, a case and a proof
 abbrev pub outcome : List (List ℕ) → Option (List ℕ) → Option (List ℕ) → Stage Refusal Answer
-outcome words case proof = and_then (in_words usage (words_in words)) (λ command. call_of command case proof)
+outcome words case proof = and_then (told_as usage (asked_in words)) (λ command. call_of command case proof)
 
 -- words are accepted, and ask for this
 abbrev pub AskFor : List (List ℕ) → Asked → Type 0
-AskFor words command = (words_in words).Gives command
+AskFor words command = (asked_in words).Gives command
 
 -- the words ask for a command that reads a case
 abbrev pub ReadsCase : List (List ℕ) → Type 0

@@ -27,10 +27,7 @@ fn needs_of(task: CaseTask) -> Needs
     ensures { result ≡ needs_of task }
 {
     match task {
-        CaseTask::Test(_) => Needs {
-            kind: Kind::Single,
-            most: 64,
-        },
+        CaseTask::Test(_) => Needs::new(Kind::Single, 64),
     }
 }
 

@@ -1,4 +1,5 @@
 //! What commands need of their cases.
+ghost use Rattle.std.specs.Prelude.{◌≡◌};
 
 use crate::kind::Kind;
 
@@ -7,4 +8,12 @@ use crate::kind::Kind;
 pub struct Needs {
     pub kind: Kind,
     pub most: usize,
+}
+
+impl Needs {
+    pub fn new(kind: Kind, most: usize) -> Needs
+        ensures { result ≡ record { kind = kind; most = most } }
+    {
+        Needs { kind, most }
+    }
 }
