@@ -2,6 +2,7 @@
 use Rattle.std.specs.Prelude.{ℕ, ◌+◌, ◌<◌, ◌==◌, Bool, List, [], ◌∷◌, ◌++◌, length, get_or, codes, if◌then◌else◌}
 use Rattle.std.specs.Fmt.{decimal}
 use Rattle.std.specs.List.{All, flat_map, list_any, range_with_len}
+use Rattle.answers.specs.Lines.{line}
 use Rattle.field_core.specs.Terms.{Terms}
 use Rattle.fraction.specs.Spelling.{spelling}
 use Rattle.case_model.specs.Content.{Content, InputsContent, bare, single, staged}
@@ -17,10 +18,6 @@ abbrev pub p_values : InputsContent → List Terms
 p_values (single ps) = ps
 p_values bare = []
 p_values (staged stages) = []
-
--- a text and the end of its line
-abbrev pub line : List ℕ → List ℕ
-line text = text ++ 10 ∷ []
 
 -- a space and the name of the hypothesis at a position
 abbrev pub spaced_name : Content → ℕ → List ℕ

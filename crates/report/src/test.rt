@@ -8,7 +8,7 @@ ghost use Rattle.sequential.specs.DecisionView.{step_content, decision as decide
 ghost use Rattle.sequential.specs.TrialAnswers.{IsSingle};
 ghost use Rattle.report.specs.TestReport.{AreOfCase, p_values, figures, spaced_name, alpha_line, step_line, step_lines, kept_line, name_if_rejected, rejected_line, test_report};
 
-use crate::number::put_number;
+use answers::put_number;
 use case_model::{Case, Inputs};
 use field_core::{List, NoMemory};
 use fraction::Fraction;

@@ -8,7 +8,7 @@ ghost use Rattle.sequential.specs.DecisionView.{step_content};
 ghost use Rattle.sequential.specs.TrialAnswers.{IsSingle};
 ghost use Rattle.report.specs.TestReport.{AreOfCase};
 
-use crate::{put_number, test_text};
+use crate::test_text;
 use case_model::{Case, Draft, DraftComponent, Inputs};
 use field_core::{List, NoMemory, Number, Text};
 use fraction::{Fraction, FractionFault};
@@ -265,28 +265,5 @@ fn decisions(rt: HostRuntime) -> Result<(), Fail> {
     expect(&rt, rt.alloc(), &THREE_OF_FOUR)?;
     expect(&rt, rt.alloc(), &TWO_KEPT)?;
     expect(&rt, rt.alloc(), &ELEVEN_STEPS)?;
-    Ok(())
-}
-
-const NUMBERS: [(u128, &str); 6] = [
-    (0, "n 0"),
-    (7, "n 7"),
-    (10, "n 10"),
-    (4_194_305, "n 4194305"),
-    (18_446_744_073_709_551_616, "n 18446744073709551616"),
-    (
-        340_282_366_920_938_463_463_374_607_431_768_211_455,
-        "n 340282366920938463463374607431768211455",
-    ),
-];
-
-#[test]
-fn numbers(rt: HostRuntime) -> Result<(), Fail> {
-    for (n, wanted) in NUMBERS {
-        let mut text = List::new(rt.alloc());
-        text.append(b"n ")?;
-        put_number(&mut text, n)?;
-        assert_eq!(rt; text.as_slice(), wanted.as_bytes());
-    }
     Ok(())
 }
