@@ -1,6 +1,6 @@
-//! Numbers, answers and refusals, and what is put of them.
+//! Answers and refusals, and what is put of them.
 use crate::whole::bytes_refusal;
-use crate::{Answer, Cause, Refusal, Status, Stop, conclude, put_number, take_whole};
+use crate::{Answer, Cause, Refusal, Status, Stop, conclude, take_whole};
 use field_core::{List, NoMemory};
 use graph_io::{FailingSource, MemorySink, MemorySource};
 use std::alloc::Global;
@@ -11,29 +11,6 @@ fn list_of<T: Copy>(alloc: Global, items: &[T]) -> Result<List<T>, NoMemory> {
     let mut list = List::new(alloc);
     list.append(items)?;
     Ok(list)
-}
-
-const NUMBERS: [(u128, &str); 6] = [
-    (0, "n 0"),
-    (7, "n 7"),
-    (10, "n 10"),
-    (4_194_305, "n 4194305"),
-    (18_446_744_073_709_551_616, "n 18446744073709551616"),
-    (
-        340_282_366_920_938_463_463_374_607_431_768_211_455,
-        "n 340282366920938463463374607431768211455",
-    ),
-];
-
-#[test]
-fn numbers(rt: HostRuntime) -> Result<(), Fail> {
-    for (n, wanted) in NUMBERS {
-        let mut text = List::new(rt.alloc());
-        text.append(b"n ")?;
-        put_number(&mut text, n)?;
-        assert_eq!(rt; text.as_slice(), wanted.as_bytes());
-    }
-    Ok(())
 }
 
 #[test]

@@ -6,7 +6,7 @@ use Rattle.answers.proofs.Decided.{then_decided, within_decided}
 use Rattle.case_model.specs.declared.fault.CaseFault.{CaseFault}
 use Rattle.case_model.specs.CaseFaults.{case_fault}
 use Rattle.case_model.specs.Content.{Content}
-use Rattle.case_model.specs.Draft.{DraftContent}
+use Rattle.case_model.specs.declared.draft.Draft.{Draft}
 use Rattle.command_words.specs.Asked.{Written, text, csv, json}
 use Rattle.edge_text.proofs.TextLaws.{one_draft, one_first_fault, not_both}
 use Rattle.refusals.specs.CaseRefusal.{case_refusal}
@@ -30,7 +30,7 @@ same_fault o x y h k = cc
 no_fault : (o : Option CaseFault) (x : CaseFault) → o ≡ None → o ≡ Some x → ⊥
 no_fault o x h k = cc
 
-faultless_decided : (d : DraftContent) → IsDecided (faultless d)
+faultless_decided : (d : Draft) → IsDecided (faultless d)
 faultless_decided d = record {
   one = λ c e h k. h.1 ∙ sym k.1;
   one_refusal = λ r q h k. h.2 ∙ ap (case_refusal d.names) (same_fault (case_fault d) h.0 k.0 h.1 k.1) ∙ sym k.2;

@@ -9,12 +9,13 @@ use Rattle.answers.specs.declared.status.Status.{Status}
 use Rattle.answers.specs.declared.status.Status.TheVariants.{Done, Refused}
 use Rattle.case_model.specs.CaseFaults.{case_fault}
 use Rattle.case_model.specs.Content.{Content, content_of}
-use Rattle.case_model.specs.Draft.{DraftContent}
-use Rattle.case_model.specs.Validity.{IsFaultlessContent}
+use Rattle.case_model.specs.declared.draft.Draft.{Draft}
+use Rattle.case_model.specs.Validity.{IsValidContent}
 use Rattle.command_words.specs.Asked.{on_case}
 use Rattle.command_words.specs.declared.command.CaseTask.TheVariants.{Test}
 use Rattle.command_words.proofs.OneReading.{words_decided}
-use Rattle.sequential.specs.DecisionView.{StepContent, DecisionContent}
+use Rattle.sequential.specs.declared.decision.StepLine.{StepLine}
+use Rattle.sequential.specs.declared.decision.Decision.{Decision}
 use Rattle.sequential.specs.Decisions.{hypotheses, IsDecision}
 use Rattle.sequential.specs.declared.priority.Priority.{Priority}
 use Rattle.sequential.proofs.DecisionLaws.{decision_decides}
@@ -23,22 +24,22 @@ use Rattle.graph_cli.specs.Accepted.{grammar}
 use Rattle.graph_cli.specs.Commands.{call_of}
 use Rattle.graph_cli.specs.Laws.{ReportsClosedTest, ReportsAreOfTheClosedTest}
 
-any_listed : (steps : List StepContent) (j : ℕ) → list_any (λ x. x.hypothesis == j) steps ≡ set_of (hypotheses steps) j
+any_listed : (steps : List StepLine) (j : ℕ) → list_any (λ x. x.hypothesis == j) steps ≡ set_of (hypotheses steps) j
 any_listed [] j = refl
 any_listed (x ∷ xs) j = let e : (x.hypothesis == j) ≡ (j == x.hypothesis) = grind (arith, nat_tests) in rw (e, any_listed xs j) refl
 
-named_listed : (steps : List StepContent) (j : ℕ) → is_rejected steps j ≡ set_of (hypotheses steps) j
+named_listed : (steps : List StepLine) (j : ℕ) → is_rejected steps j ≡ set_of (hypotheses steps) j
 unfolding is_rejected
 named_listed steps j = any_listed steps j
 
-faultless_content : (d : DraftContent) → case_fault d ≡ None → IsFaultlessContent (content_of d)
+faultless_content : (d : Draft) → case_fault d ≡ None → IsValidContent (content_of d)
 faultless_content d f = ∣ (record { draft = d; content_is = refl; faultless = f }) ∣₁
 
 -- a refusal isn't done
 not_done : (s : Status) (cause : Cause) → s ≡ Refused cause → s ≡ Done → ⊥
 not_done s cause e f = cc
 
-reported : (c : Content) (priority : Priority) (d : DecisionContent) (text : List ℕ) → IsFaultlessContent c → IsDecision c priority d → text ≡ test_report c d → ReportsClosedTest c text
+reported : (c : Content) (priority : Priority) (d : Decision) (text : List ℕ) → IsValidContent c → IsDecision c priority d → text ≡ test_report c d → ReportsClosedTest c text
 reported c priority d text v h e = record {
   decision = d;
   text_is = e;
@@ -58,5 +59,5 @@ reports_closed_test words form priority case proof a asks (inl h) z =
       draft = draft;
       says = subst (λ xs. (grammar form xs).Gives draft) bytes_are read.1;
       faultless = read.2.0;
-      reports = subst (λ c. ReportsClosedTest c a.text) content_is (reported gives.0 priority gives.2.1.0 a.text (subst IsFaultlessContent (sym content_is) (faultless_content draft read.2.0)) gives.2.1.1 (ap (λ (x : Answer). x.text) gives.2.1.2));
+      reports = subst (λ c. ReportsClosedTest c a.text) content_is (reported gives.0 priority gives.2.1.0 a.text (subst IsValidContent (sym content_is) (faultless_content draft read.2.0)) gives.2.1.1 (ap (λ (x : Answer). x.text) gives.2.1.2));
     }

@@ -4,8 +4,10 @@ use Rattle.answers.specs.declared.refusal.Refusal.{Refusal}
 use Rattle.answers.specs.Stages.{Stage, and_then, on_bytes, within}
 use Rattle.case_model.specs.declared.fault.CaseFault.{CaseFault}
 use Rattle.case_model.specs.CaseFaults.{case_fault}
-use Rattle.case_model.specs.Content.{Content, InputsContent, bare, single, staged, content_of}
-use Rattle.case_model.specs.Draft.{DraftContent}
+use Rattle.case_model.specs.declared.inputs.Inputs.{Inputs}
+use Rattle.case_model.specs.declared.inputs.Inputs.TheVariants.{Bare as NoValues, Single as Values, Staged as Stages}
+use Rattle.case_model.specs.Content.{Content, content_of}
+use Rattle.case_model.specs.declared.draft.Draft.{Draft}
 use Rattle.command_words.specs.Asked.{Written, text, csv, json}
 use Rattle.edge_text.specs.Grammar.{IsText}
 use Rattle.edge_text.specs.Faults.{IsFirstFault}
@@ -18,7 +20,7 @@ use Rattle.graph_cli.specs.declared.kind.Kind.TheVariants.{Any, Single, Staged}
 use Rattle.graph_cli.specs.declared.needs.Needs.{Needs}
 
 -- the draft that bytes say in a form, or the first place where they can't stand; sheets and JSON aren't read yet
-abbrev pub grammar : Written → List ℕ → Stage Refusal DraftContent
+abbrev pub grammar : Written → List ℕ → Stage Refusal Draft
 grammar text bytes = record {
   Gives = λ d. IsText bytes d;
   Refuses = λ r. (n : ℕ) × (kind : LineKind) × IsFirstFault bytes n kind × (r ≡ line_refusal n kind);
@@ -27,7 +29,7 @@ grammar (csv alpha) bytes = record { Gives = λ d. ⊥; Refuses = λ r. r ≡ fo
 grammar json bytes = record { Gives = λ d. ⊥; Refuses = λ r. r ≡ form_refusal }
 
 -- the case of a draft, or its first fault
-abbrev pub faultless : DraftContent → Stage Refusal Content
+abbrev pub faultless : Draft → Stage Refusal Content
 faultless d = record {
   Gives = λ c. (case_fault d ≡ None) × (c ≡ content_of d);
   Refuses = λ r. (fault : CaseFault) × (case_fault d ≡ Some fault) × (r ≡ case_refusal d.names fault);
@@ -38,14 +40,14 @@ abbrev pub case_in : Written → List ℕ → Stage Refusal Content
 case_in form bytes = and_then (grammar form bytes) faultless
 
 -- p-values are of a kind
-abbrev pub IsOfKind : Kind → InputsContent → Type 0
+abbrev pub IsOfKind : Kind → Inputs → Type 0
 IsOfKind Any inputs = Unit {0}
-IsOfKind Single (single ps) = Unit {0}
-IsOfKind Single bare = ⊥
-IsOfKind Single (staged stages) = ⊥
-IsOfKind Staged (staged stages) = Unit {0}
-IsOfKind Staged bare = ⊥
-IsOfKind Staged (single ps) = ⊥
+IsOfKind Single (Values ps) = Unit {0}
+IsOfKind Single NoValues = ⊥
+IsOfKind Single (Stages stages) = ⊥
+IsOfKind Staged (Stages stages) = Unit {0}
+IsOfKind Staged NoValues = ⊥
+IsOfKind Staged (Values ps) = ⊥
 
 -- a case with p-values of a kind
 abbrev pub of_kind : Kind → Content → Stage Refusal Content

@@ -5,11 +5,11 @@ use Rattle.answers.specs.declared.status.Status.TheVariants.{Done}
 use Rattle.answers.specs.Stages.{IsAnswerOf}
 use Rattle.case_model.specs.CaseFaults.{case_fault}
 use Rattle.case_model.specs.Content.{Content, content_of, IsRejectedIn}
-use Rattle.case_model.specs.Draft.{DraftContent}
+use Rattle.case_model.specs.declared.draft.Draft.{Draft}
 use Rattle.command_words.specs.Asked.{Written, on_case}
 use Rattle.command_words.specs.declared.command.CaseTask.TheVariants.{Test}
 use Rattle.report.specs.TestReport.{is_rejected, test_report}
-use Rattle.sequential.specs.DecisionView.{DecisionContent}
+use Rattle.sequential.specs.declared.decision.Decision.{Decision}
 use Rattle.sequential.specs.declared.priority.Priority.{Priority}
 use Rattle.graph_cli.specs.Accepted.{grammar}
 use Rattle.graph_cli.specs.Outcome.{AskFor, outcome}
@@ -20,13 +20,13 @@ HasOneAnswer = (words : List (List ℕ)) (case proof : List ℕ) (a b : Answer) 
 
 -- the text is the report of a decision, whose line `rejected` names exactly the hypotheses that the closed test rejects
 pub record ReportsClosedTest (c : Content) (text : List ℕ) : Type 0 where
-  pub decision : DecisionContent
+  pub decision : Decision
   pub text_is : text ≡ test_report c decision
   pub named : (j : ℕ) → (is_rejected decision.steps j ≡ true) ↔ IsRejectedIn c j
 
 -- the bytes say, in a form, a draft without a fault, and the text reports the closed test on its case
 pub record ReportsCase (form : Written) (bytes text : List ℕ) : Type 0 where
-  pub draft : DraftContent
+  pub draft : Draft
   pub says : (grammar form bytes).Gives draft
   pub faultless : case_fault draft ≡ None
   pub reports : ReportsClosedTest (content_of draft) text

@@ -3,7 +3,6 @@ ghost use Rattle.std.specs.Prelude.{◌≡◌, ◌++◌, IfOk, OnOk, codes};
 ghost use Rattle.std.specs.Fmt.{decimal};
 ghost use Rattle.refusals.specs.LinePieces.{counted, name_at, two_names, in_component};
 
-use answers::put_number;
 use field_core::{List, NoMemory, Text};
 use std::alloc::Global;
 
@@ -11,7 +10,7 @@ use std::alloc::Global;
 pub fn put_counted(text: &mut List<u8>, i: usize) -> Result<(), NoMemory>
     ensures { OnOk result (text.new ≡ text.old ++ counted i) }
 {
-    put_number(text, i as u128 + 1)
+    text.append_unsigned(i as u128 + 1)
 }
 
 /// Appends the name of the hypothesis at a position. Past the last name it is the place, counted from 1.
@@ -52,7 +51,7 @@ pub fn put_counting(text: &mut List<u8>, words: &[u8], n: u128) -> Result<(), No
     ensures { OnOk result (text.new ≡ text.old ++ (words.now ++ decimal n)) }
 {
     text.append(words)?;
-    put_number(text, n)
+    text.append_unsigned(n)
 }
 
 /// Appends words and a place, counted from 1.

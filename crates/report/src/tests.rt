@@ -2,9 +2,7 @@
 ghost use Rattle.std.specs.Prelude.{◌≡◌, true, None, IfOk, IsTrue, map, nat_lt};
 ghost use Rattle.std.specs.List.{list_all};
 ghost use Rattle.case_model.specs.Draft.{have_known_ends};
-ghost use Rattle.case_model.specs.DraftView.{said};
 ghost use Rattle.case_model.specs.CaseView.{content};
-ghost use Rattle.sequential.specs.DecisionView.{step_content};
 ghost use Rattle.sequential.specs.TrialAnswers.{IsSingle};
 ghost use Rattle.report.specs.TestReport.{AreOfCase};
 
@@ -193,8 +191,8 @@ fn draft(
     p: List<Option<Fraction>>,
     weights: List<Fraction>,
 ) -> Result<Draft, NoMemory>
-    ensures ends { IfOk result (λ d. have_known_ends (said d) ≡ true) }
-    ensures unstaged { IfOk result (λ d. (said d).stages ≡ None) }
+    ensures ends { IfOk result (λ d. have_known_ends d ≡ true) }
+    ensures unstaged { IfOk result (λ d. d.stages ≡ None) }
 {
     let mut components = List::new(alloc);
     components.push(DraftComponent {
@@ -238,7 +236,7 @@ fn are_below(lines: &[StepLine], count: usize) -> bool
 }
 
 fn are_of_case(case: &Case, lines: &[StepLine]) -> bool
-    ensures { IsTrue result → AreOfCase (content case.now) (map step_content lines.now) }
+    ensures { IsTrue result → AreOfCase (content case.now) lines.now }
 {
     are_below(lines, case.size())
 }
