@@ -7,7 +7,6 @@ ghost use Rattle.answers.specs.Lines.{bytes_refusal};
 ghost use Rattle.answers.specs.Stages.{on_bytes, within};
 
 use crate::cause::Cause;
-use crate::number::put_number;
 use crate::refusal::Refusal;
 use crate::stop::Stop;
 use field_core::{List, NoMemory};
@@ -26,7 +25,7 @@ pub(crate) fn bytes_refusal(alloc: Global, name: &[u8], n: u64) -> Result<Refusa
     text.append(b"limit: ")?;
     text.append(name)?;
     text.append(b"bytes ")?;
-    put_number(&mut text, n as u128)?;
+    text.append_unsigned(n as u128)?;
     Refusal::of_line(Cause::Limit, text)
 }
 
