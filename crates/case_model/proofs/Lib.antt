@@ -27,6 +27,7 @@ pub mod LocalTests
 pub mod NamePlaces
 pub mod NoFaults
 pub mod OrderExistence
+pub mod OtherLevels
 pub mod PassTests
 pub mod PlainEntries
 pub mod PriorityOrders
