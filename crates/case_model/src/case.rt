@@ -149,8 +149,6 @@ impl Case {
     pub fn position(&self, name: &[u8]) -> Option<usize>
         ensures { result ≡ position_of name.now (content self.now).names }
     {
-        self.names
-            .iter()
-            .position(|other| name == other.as_bytes())
+        self.names.iter().position(|other| name == other.as_bytes())
     }
 }

@@ -91,7 +91,9 @@ impl Entry {
         ensures { result ≡ number_compare (entry_value self.now) (number_of other.now) }
     {
         let coefficients = &self.coefficients[..];
-        coefficients[0].cmp(other).then(first_sign(&coefficients[1..]))
+        coefficients[0]
+            .cmp(other)
+            .then(first_sign(&coefficients[1..]))
     }
 
     /// Whether the value isn't below 0, in the order of epsilon.
