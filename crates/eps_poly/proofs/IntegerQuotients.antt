@@ -1,9 +1,8 @@
 -- Quotients of whole numbers that leave no remainder.
-use Rattle.std.proofs.Common.{◌≡◌, ◌≢◌, ℕ, zero, suc, ◌*◌, ◌/◌, ◌<◌, ◌≤◌, refl, sym, ◌∙◌, ap, arith, ℤ, pos, negsuc, ◌+ℤ◌, ◌*ℤ◌, neg_ℤ, unsigned_abs, int_div, int_rem, inl, inr}
+use Rattle.std.proofs.Common.{◌≡◌, ◌≢◌, zero, suc, ◌*◌, ◌/◌, ◌<◌, ◌≤◌, refl, sym, ◌∙◌, ap, arith, ℤ, pos, negsuc, ◌+ℤ◌, ◌*ℤ◌, neg_ℤ, unsigned_abs, int_div, int_rem, inl, inr}
 use Rattle.std.proofs.lemmas.Bool.{cases_lt}
 use Rattle.std.proofs.lemmas.Int.{ints, quot-rem, rem_below, unsigned_abs-mul}
-use Rattle.std.proofs.Math.Nat.{mul-le-mul_right, div-mul_cancel, zero-mul}
-use Rattle.std.specs.Int.{◌∣◌}
+use Rattle.std.proofs.Math.Nat.{mul-le-mul_right}
 use lib.IntN.{+ℤ_idr}
 use Rattle.field_core.proofs.IntegerRing.{int_distribute_right}
 

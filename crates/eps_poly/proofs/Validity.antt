@@ -1,5 +1,5 @@
 -- Lists that are polynomials: 33 coefficients, each of at most 2^127 - 1 in size.
-use Rattle.std.proofs.Common.{◌≡◌, ℕ, zero, suc, ◌+◌, ◌/◌, ◌<◌, ◌≤◌, ◌^◌, List, set, refl, sym, ap, ◌∙◌, arith, lit<, ℤ, pos, negsuc, neg_ℤ, int_div, unsigned_abs, inl, inr}
+use Rattle.std.proofs.Common.{◌≡◌, ℕ, suc, ◌+◌, ◌/◌, ◌<◌, ◌≤◌, ◌^◌, List, set, sym, ap, ◌∙◌, arith, lit<, ℤ, pos, negsuc, int_div, unsigned_abs, inl, inr}
 use Rattle.std.proofs.lemmas.Bool.{cases_eq, cases_lt}
 use Rattle.std.proofs.lemmas.List.{length-set}
 use Rattle.std.proofs.Math.Nat.{div-le_self}
