@@ -1,0 +1,15 @@
+//! Texts in lines, and lines in words.
+#![tactic(auto)]
+
+mod blank;
+pub mod laws;
+mod line;
+mod lines;
+mod words;
+
+pub use line::Line;
+pub use lines::Lines;
+pub use words::Words;
+
+#[cfg(test)]
+mod tests;
