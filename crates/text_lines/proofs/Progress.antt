@@ -1,5 +1,5 @@
 -- An iterator that gives the items of a list, one after the other, makes progress.
-use Rattle.std.proofs.Common.{ℕ, List, Option, Some, None, ap, length, arith}
+use Rattle.std.proofs.Common.{List, Option, Some, None, ap, length, arith}
 use Rattle.std.specs.Prelude.{⊤}
 use Rattle.std.specs.Iterator.{YieldsFirstBy, MakesProgress, item_count}
 

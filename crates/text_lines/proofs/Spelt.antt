@@ -4,7 +4,7 @@ use Rattle.std.specs.List.{slice_split, onto_first, filter, flat_map, prefix_len
 use Rattle.std.specs.Str.Lines.{strip_carriage_return}
 use Rattle.std.proofs.lemmas.Bool.{ne_eqb}
 use Rattle.std.proofs.lemmas.List.{append-nil}
-use Rattle.std.proofs.lemmas.List.Splits.{slice_split-cons_no, slice_split-cons_yes, length-slice_split}
+use Rattle.std.proofs.lemmas.List.Splits.{slice_split-cons_no, length-slice_split}
 use Rattle.text_lines.specs.Lines.{is_line_feed, whole_lines, lines_of, begins_comment, is_skipped, kept_after, Row}
 use Rattle.text_lines.specs.Words.{is_blank, words_of, is_word, after_blanks, behind_word}
 use Rattle.text_lines.specs.Spelling.{spaced, line_spelt, text_of, IsPlain, IsWord, IsNoComment, IsLine, numbered}

@@ -81,22 +81,22 @@ fn words_are_counted(rt: HostRuntime) {
     assert_eq!(rt; Words::new(b"a b c d").three(), None);
 }
 
-fn line(text: &str) -> Line<'_> {
-    Line {
+/// What stands behind the keyword in a line is this, or the line begins otherwise.
+fn expect_behind(rt: &impl Abort, text: &str, keyword: &str, wanted: Option<&[u8]>) {
+    let line = Line {
         number: 1,
         text: text.as_bytes(),
-    }
+    };
+    let found = line.behind(keyword.as_bytes()).map(|words| words.rest());
+    assert_eq!(rt; found, wanted, "{text}");
 }
 
 #[test]
 fn keywords_are_first_words(rt: HostRuntime) {
-    let rest = |text: &str, keyword: &str| -> Option<usize> {
-        let words = line(text).behind(keyword.as_bytes())?;
-        Some(words.count())
-    };
-    assert_eq!(rt; rest(" edge a b", "edge"), Some(2));
-    assert_eq!(rt; rest("edge", "edge"), Some(0));
-    assert_eq!(rt; rest("edges a", "edge"), None);
-    assert_eq!(rt; rest("a edge", "edge"), None);
-    assert_eq!(rt; rest("", "edge"), None);
+    expect_behind(&rt, " edge a b", "edge", Some(b" a b"));
+    expect_behind(&rt, "edge", "edge", Some(b""));
+    expect_behind(&rt, "edges a", "edge", None);
+    expect_behind(&rt, "edg", "edge", None);
+    expect_behind(&rt, "a edge", "edge", None);
+    expect_behind(&rt, "", "edge", None);
 }
