@@ -1,15 +1,18 @@
-use Rattle.std.proofs.Common.{◌≡◌, refl, sym, ap, ap₂, ◌∙◌, subst, ℕ, zero, suc, ◌<◌, Ok, arith}
+use Rattle.std.proofs.Common.{◌≡◌, refl, sym, ap, ap₂, ◌∙◌, subst, ℕ, zero, suc, ◌<◌, Ok, Option, Some, None, Err, arith}
 use Rattle.field_core.specs.Terms.{Terms, IsReduced}
-use Rattle.field_core.specs.Kind.{ok_map}
+use Rattle.std.specs.Option.{option_map}
+use Rattle.field_core.specs.Kind.{or_wide}
 use Rattle.field_core.specs.Exact.{value_of, MayTake, exact_result}
 use Rattle.field_core.specs.Number.{Number}
 use Rattle.field_core.specs.NumberField.{number_field}
 use Rattle.field_core.specs.Sums.{sum_below}
 use Rattle.field_core.specs.declared.place.Op.{Op}
+use Rattle.field_core.specs.declared.place.TooWide.{TooWide}
 use Rattle.field_core.specs.declared.place.Op.TheVariants.{Add}
 use Rattle.fraction.specs.Plain.{single, IsFraction, written_pair, zero_reduced}
 use Rattle.fraction.specs.Laws.PlainLaws.{plain_is_exact}
-use Rattle.fraction.specs.Laws.WrittenLaws.{bind_ok}
+use Rattle.fraction.specs.Written.{written_add}
+use Rattle.field_core.specs.Laws.Prefixes.{bind_ok}
 use Rattle.case_model.specs.Sums.{number, zero_terms, written_sum}
 use Rattle.field_core.specs.Laws.NumberFieldLaws.{field_zero, field_sum}
 
@@ -26,15 +29,23 @@ pub record Has (t : Terms) (v : Number) : Type 0 where
   pub value : number t ≡ v
 
 -- a written operation that isn't refused is exact
-pub written_has : (op : Op) (x y z : Terms) (u v : Number) → MayTake op (single y) → Has x u → Has y v → written_pair op x y ≡ Ok z → Has z (exact_result op u v)
+pub written_has : (op : Op) (x y z : Terms) (u v : Number) → MayTake op (single y) → Has x u → Has y v → written_pair op x y ≡ Some z → Has z (exact_result op u v)
 written_has op x y z u v may p q e =
-    let e' = ap (ok_map single) e in
+    let e' = ap (option_map single) e in
     let sx = stored_single x p.reduced in
     let sy = stored_single y q.reduced in
     record {
       reduced = (plain_is_exact.stored op (single x) (single y) (single z) sx sy may e').reduced;
       value = sym (value_single z) ∙ plain_is_exact.exact op (single x) (single y) (single z) sx sy may e' ∙ ap₂ (exact_result op) (value_single x ∙ p.value) (value_single y ∙ q.value);
     }
+
+pub some_of : {A : Type 0} (op : Op) (r : Option A) (x : A) → or_wide op r ≡ Ok x → r ≡ Some x
+some_of op (Some y) x h = cc
+some_of op None x h = absurd (cc)
+
+pub none_of : {A : Type 0} (op : Op) (r : Option A) (e : TooWide) → or_wide op r ≡ Err e → r ≡ None
+none_of op (Some y) e h = absurd (cc)
+none_of op None e h = refl
 
 pub has_zero : Has zero_terms number_field.𝟘
 has_zero = record { reduced = zero_reduced; value = sym (value_single zero_terms) ∙ plain_is_exact.zero_value ∙ sym field_zero }
@@ -54,4 +65,4 @@ exact_sum (suc n) f s h e =
     let step = bind_ok _ _ s e in
     let before = exact_sum n f step.0 (λ i p. h i (omega arith)) step.1.0 in
     let last : Has (f n) (number (f n)) = record { reduced = h n (omega arith); value = refl } in
-    subst (Has s) (sym (field_sum _ _)) (written_has Add step.0 (f n) s _ _ tt before last step.1.1)
+    subst (Has s) (sym (field_sum _ _)) (written_has Add step.0 (f n) s _ _ tt before last (some_of Add (written_add step.0 (f n)) s step.1.1))

@@ -24,7 +24,7 @@ lowest_component : (k : Component) → AreLowestParts (component_content k)
 lowest_component k = record {
   share = k.share.valid;
   weights = lowest_fractions k.weights;
-  edges = each_mapped (All IsReduced) coefficients_of k.edges (λ e. lowest_fractions e.coefficients);
+  edges = each_mapped (All IsReduced) coefficients_of k.edges (λ e. lowest_fractions e);
 }
 
 pub lowest_components : (ks : List Component) → All AreLowestParts (map component_content ks)

@@ -18,7 +18,7 @@ use Rattle.case_model.specs.Entries.{power_of_epsilon, entry_value, entry_at, no
 use Rattle.case_model.specs.Draft.{at_most}
 use Rattle.case_model.specs.EntryView.{coefficients_of}
 use Rattle.case_model.specs.CaseFaults.{◌when◌, sum_fault, power_sum, written_row, row_sum}
-use Rattle.fraction.specs.Laws.WrittenLaws.{bind_ok}
+use Rattle.field_core.specs.Laws.Prefixes.{bind_ok}
 use Rattle.case_model.proofs.ExactSums.{exact_sum}
 use Rattle.case_model.proofs.Places.{mapped_item}
 use Rattle.case_model.proofs.Totals.{reduced_at}

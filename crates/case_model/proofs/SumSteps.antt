@@ -1,9 +1,11 @@
 -- Written sums, item by item.
-use Rattle.std.proofs.Common.{◌≡◌, refl, sym, ap, ap₂, ◌∙◌, ℕ, zero, suc, ◌+◌, ◌<◌, ◌≤◌, List, length, map, get_or, Result, Ok, Err, arith, inl, inr, ◌⊎◌}
+use Rattle.std.proofs.Common.{◌≡◌, refl, sym, ap, ap₂, ◌∙◌, ℕ, zero, suc, ◌+◌, ◌<◌, ◌≤◌, List, length, map, get_or, Option, Some, None, Result, Ok, Err, arith, inl, inr, ◌⊎◌}
 use Rattle.field_core.specs.Terms.{Terms}
-use Rattle.field_core.specs.Sized.{◌>>=◌}
-use Rattle.field_core.specs.Kind.{ok_map, Parts}
+use Rattle.field_core.specs.Steps.{◌>>=◌}
+use Rattle.field_core.specs.Kind.{ok_map, or_wide, Parts}
 use Rattle.field_core.specs.LimitParts.{first}
+use Rattle.std.specs.Option.{option_map}
+use Rattle.field_core.specs.declared.place.Op.{Op}
 use Rattle.field_core.specs.declared.place.Op.TheVariants.{Add}
 use Rattle.field_core.specs.declared.place.TooWide.{TooWide}
 use Rattle.fraction.specs.declared.fraction.Fraction.{Fraction}
@@ -26,6 +28,13 @@ in_terms_of (Ok x) (Err f) e = absurd (cc)
 in_terms_of (Err f) (Ok t) e = absurd (cc)
 in_terms_of (Err f) (Err g) e = cc
 
+wide_terms : (op : Op) (s : Option Terms) → or_wide op (option_map single s) ≡ ok_map single (or_wide op s)
+wide_terms op (Some t) = refl
+wide_terms op None = refl
+
+pub option_terms_of : (op : Op) (r : Result Fraction TooWide) (s : Option Terms) → ok_map (λ x. fraction_parts x) r ≡ or_wide op (option_map single s) → ok_map terms_of r ≡ or_wide op s
+option_terms_of op r s e = in_terms_of r (or_wide op s) (e ∙ wide_terms op s)
+
 -- a fraction stored as 0 has the terms of 0
 pub zero_of : (z : Fraction) → fraction_parts z ≡ plain.zero → terms_of z ≡ zero_terms
 zero_of z e = from_single (terms_of z) zero_terms e
@@ -37,12 +46,12 @@ sum_none f = refl
 next : (n : ℕ) → n + 1 ≡ suc n
 next n = omega arith
 
-sum_next : (n : ℕ) (f : ℕ → Terms) → written_sum (n + 1) f ≡ (written_sum n f >>= λ s. written_add Add s (f n))
+sum_next : (n : ℕ) (f : ℕ → Terms) → written_sum (n + 1) f ≡ (written_sum n f >>= λ s. or_wide Add (written_add s (f n)))
 unfolding written_sum
 sum_next n f = ap (λ k. written_sum k f) (next n)
 
-sum_on : (n : ℕ) (f : ℕ → Terms) (s : Terms) → written_sum n f ≡ Ok s → written_sum (n + 1) f ≡ written_add Add s (f n)
-sum_on n f s e = sum_next n f ∙ ap (λ r. r >>= λ s. written_add Add s (f n)) e
+sum_on : (n : ℕ) (f : ℕ → Terms) (s : Terms) → written_sum n f ≡ Ok s → written_sum (n + 1) f ≡ or_wide Add (written_add s (f n))
+sum_on n f s e = sum_next n f ∙ ap (λ r. r >>= λ s. or_wide Add (written_add s (f n))) e
 
 pub at_or_past : (n m : ℕ) → n ≤ suc m → (n ≡ suc m) ⊎ (n ≤ m)
 at_or_past n m h = grind arith
@@ -53,7 +62,7 @@ unfolding written_sum
 sum_refused n zero f e h k = let z : n ≡ 0 = omega arith in rw z at k
 sum_refused n (suc m) f e h k = elim (at_or_past n m h) [
   | inl same ↦ rw same at k
-  | inr below ↦ ap (λ r. r >>= λ s. written_add Add s (f m)) (sum_refused n m f e below k)
+  | inr below ↦ ap (λ r. r >>= λ s. or_wide Add (written_add s (f m))) (sum_refused n m f e below k)
 ]
 
 -- the terms of one item of a list of fractions
@@ -62,9 +71,9 @@ unfolding terms_at
 item_terms ws i x h e = get_or-map terms_of ws i x zero_terms h ∙ ap terms_of (sym e)
 
 -- one item more
-pub sum_more : (f : ℕ → Terms) (i : ℕ) (sum x : Terms) (r : Result Fraction TooWide) → f i ≡ x → written_sum i f ≡ Ok sum → ok_map terms_of r ≡ written_add Add sum x → ok_map terms_of r ≡ written_sum (i + 1) f
-sum_more f i sum x r here before step = step ∙ ap (written_add Add sum) (sym here) ∙ sym (sum_on i f sum before)
+pub sum_more : (f : ℕ → Terms) (i : ℕ) (sum x : Terms) (r : Result Fraction TooWide) → f i ≡ x → written_sum i f ≡ Ok sum → ok_map terms_of r ≡ or_wide Add (written_add sum x) → ok_map terms_of r ≡ written_sum (i + 1) f
+sum_more f i sum x r here before step = step ∙ ap (λ y. or_wide Add (written_add sum y)) (sym here) ∙ sym (sum_on i f sum before)
 
 -- a refused item refuses the sum
-pub sum_stops : (f : ℕ → Terms) (i n : ℕ) (sum x : Terms) (e : TooWide) → i < n → f i ≡ x → written_sum i f ≡ Ok sum → Err e ≡ written_add Add sum x → Err e ≡ written_sum n f
-sum_stops f i n sum x e h here before step = sym (sum_refused (i + 1) n f e (omega arith) (sym (step ∙ ap (written_add Add sum) (sym here) ∙ sym (sum_on i f sum before))))
+pub sum_stops : (f : ℕ → Terms) (i n : ℕ) (sum x : Terms) (e : TooWide) → i < n → f i ≡ x → written_sum i f ≡ Ok sum → Err e ≡ or_wide Add (written_add sum x) → Err e ≡ written_sum n f
+sum_stops f i n sum x e h here before step = sym (sum_refused (i + 1) n f e (omega arith) (sym (step ∙ ap (λ y. or_wide Add (written_add sum y)) (sym here) ∙ sym (sum_on i f sum before))))

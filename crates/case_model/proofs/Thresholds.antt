@@ -1,4 +1,4 @@
-use Rattle.std.proofs.Common.{◌≡◌, refl, sym, ap, ap₂, subst₂, ◌∙◌, ℕ, zero, suc, ◌*◌, ◌/◌, ◌^◌, ◌<◌, ◌≤◌, inl, inr, ℤ, pos, negsuc, neg_ℤ, ◌*ℤ◌, ◌≤ℤ◌, unsigned_abs, int_div, Result, Ok, Err, Bool, true, false, not, arith, lit<, nat_le, ◌&&◌}
+use Rattle.std.proofs.Common.{◌≡◌, refl, sym, ap, ap₂, subst₂, ◌∙◌, ℕ, zero, suc, ◌*◌, ◌/◌, ◌^◌, ◌<◌, ◌≤◌, inl, inr, ℤ, pos, negsuc, neg_ℤ, ◌*ℤ◌, ◌≤ℤ◌, unsigned_abs, int_div, Option, Some, None, Bool, true, false, not, arith, lit<, nat_le, ◌&&◌}
 use Rattle.std.proofs.lemmas.Int.{ints, unsigned_abs-mul}
 use Rattle.std.proofs.lemmas.Bool.Decides.{nat_tests}
 use Rattle.std.proofs.Math.Nat.{div-le_self, mul-le-mul_left, mul-le-mul_right}
@@ -10,7 +10,8 @@ use Rattle.field_core.specs.Number.{Number}
 use Rattle.field_core.specs.Arithmetic.{number_zero, number_one, number_sign, number_compare, ◌*ε◌, ◌/ε◌}
 use Rattle.field_core.specs.NumberField.{number_field}
 use Rattle.field_core.specs.Field.{AtMost}
-use Rattle.field_core.specs.Kind.{is_zero, Parts}
+use Rattle.std.specs.Option.{option_map}
+use Rattle.field_core.specs.Kind.{is_zero}
 use Rattle.field_core.specs.Laws.Order.{divide_multiply, subtract_zero}
 use Rattle.field_core.proofs.Orders.{mul_le_right, mul_le_cancel}
 use Rattle.field_core.proofs.Live.{true_or_false}
@@ -22,7 +23,7 @@ use Rattle.field_core.specs.declared.place.TooWide.{TooWide}
 use Rattle.field_core.proofs.Sized.{sized_small}
 use Rattle.fraction.specs.Written.{written_mul, inverse, inverse_of}
 use Rattle.fraction.specs.Plain.{plain, single, zero_reduced, one_reduced}
-use Rattle.fraction.specs.Laws.PlainLaws.{plain_is_exact, mapped_err}
+use Rattle.fraction.specs.Laws.PlainLaws.{plain_is_exact}
 use Rattle.case_model.specs.Sums.{number}
 use Rattle.case_model.specs.Draft.{at_most, is_p_value, is_level, is_within, is_unit}
 use Rattle.case_model.proofs.Comparisons.{at_most_terms, at_most_is}
@@ -63,17 +64,17 @@ product_size a b c d h k =
     let right : c * b ≤ c * d = mul-le-mul_left c k in
     omega arith
 
-fits : (op : Op) (u v : ℤ) (g h a b : ℕ) → unsigned_abs u ≤ a → unsigned_abs v ≤ b → a * b < 2 ^ 127 → sized op (int_div u (pos g) *ℤ int_div v (pos h)) ≡ Ok (int_div u (pos g) *ℤ int_div v (pos h))
-fits op u v g h a b p q small =
+fits : (u v : ℤ) (g h a b : ℕ) → unsigned_abs u ≤ a → unsigned_abs v ≤ b → a * b < 2 ^ 127 → sized (int_div u (pos g) *ℤ int_div v (pos h)) ≡ Some (int_div u (pos g) *ℤ int_div v (pos h))
+fits u v g h a b p q small =
     let size : unsigned_abs (int_div u (pos g) *ℤ int_div v (pos h)) ≤ a * b = rw (unsigned_abs-mul (int_div u (pos g)) (int_div v (pos h))) (product_size _ _ a b (let s = quotient_size u g in omega arith) (let s = quotient_size v h in omega arith)) in
-    sized_small op _ (omega arith)
+    sized_small _ (omega arith)
 
 -- a product of small parts is never too wide
-product_fits : (op : Op) (x y : Terms) (a b : ℕ) → unsigned_abs x.num ≤ a → unsigned_abs x.den ≤ a → unsigned_abs y.num ≤ b → unsigned_abs y.den ≤ b → a * b < 2 ^ 127 → (e : TooWide) → written_mul op x y ≡ Err e → ⊥
+product_fits : (x y : Terms) (a b : ℕ) → unsigned_abs x.num ≤ a → unsigned_abs x.den ≤ a → unsigned_abs y.num ≤ b → unsigned_abs y.den ≤ b → a * b < 2 ^ 127 → written_mul x y ≡ None → ⊥
 unfolding written_mul
-product_fits op x y a b xn xd yn yd small e h =
-    let top = fits op x.num y.num (gcd (unsigned_abs x.num) (unsigned_abs y.den)) (gcd (unsigned_abs y.num) (unsigned_abs x.den)) a b xn yn small in
-    let low = fits op x.den y.den (gcd (unsigned_abs y.num) (unsigned_abs x.den)) (gcd (unsigned_abs x.num) (unsigned_abs y.den)) a b xd yd small in
+product_fits x y a b xn xd yn yd small h =
+    let top = fits x.num y.num (gcd (unsigned_abs x.num) (unsigned_abs y.den)) (gcd (unsigned_abs y.num) (unsigned_abs x.den)) a b xn yn small in
+    let low = fits x.den y.den (gcd (unsigned_abs y.num) (unsigned_abs x.den)) (gcd (unsigned_abs x.num) (unsigned_abs y.den)) a b xd yd small in
     let e' = rw (top, low) at h in
     cc
 
@@ -117,13 +118,13 @@ level_of x h =
     record { short = record { num = grind (arith, nat_tests, c.left); den = grind (arith, nat_tests, c.right) }; positive = not_false _ b.left; high = b.right }
 
 -- a p-value over a level always fits
-pub threshold_fits : (p a : Terms) → IsReduced p → is_p_value p ≡ true → is_level a ≡ true → (e : TooWide) → written_mul Div p (inverse a) ≡ Err e → ⊥
+pub threshold_fits : (p a : Terms) → IsReduced p → is_p_value p ≡ true → is_level a ≡ true → written_mul p (inverse a) ≡ None → ⊥
 unfolding inverse
-threshold_fits p a r h k e w =
+threshold_fits p a r h k w =
     let s = p_short p r h in
     let l = (level_of a k).short in
     let i = inverse_size a.num a.den 10000 l.num l.den in
-    product_fits Div p (inverse a) (10 ^ 30) 10000 s.num s.den i.0 i.1 (lit< tt) e w
+    product_fits p (inverse a) (10 ^ 30) 10000 s.num s.den i.0 i.1 (lit< tt) w
 
 nothing_below : at_most number_zero number_zero ≡ true
 nothing_below = number_field.le_refl number_zero
@@ -142,7 +143,7 @@ level_stored_nonzero a r k = elim (true_or_false (is_zero (single a))) [
 ]
 
 -- the threshold times the level is the p-value
-pub threshold_times : (p a t : Terms) → IsReduced p → IsReduced a → is_level a ≡ true → plain.written Div (single p) (single a) ≡ Ok (single t) → number t *ε number a ≡ number p
+pub threshold_times : (p a t : Terms) → IsReduced p → IsReduced a → is_level a ≡ true → plain.written Div (single p) (single a) ≡ Some (single t) → number t *ε number a ≡ number p
 threshold_times p a t r q k e =
     let quotient = plain_is_exact.exact Div (single p) (single a) (single t) (stored_single p r) (stored_single a q) (level_stored_nonzero a q k) e in
     ap (λ z. z *ε number a) (sym (value_single t) ∙ quotient ∙ ap₂ ◌/ε◌ (value_single p) (value_single a))
@@ -185,6 +186,11 @@ positive_out Less h = absurd (cc)
 positive_out Equal h = absurd (cc)
 positive_out Greater h = refl
 
+-- what is refused with a value seen through `f` is refused
+mapped_none : {A B : Type 0} (f : A → B) (r : Option A) → option_map f r ≡ None → r ≡ None
+mapped_none f (Some x) h = absurd (cc)
+mapped_none f None h = refl
+
 -- the division for a threshold is never refused
-pub threshold_never : (p a : Terms) (e : TooWide) → IsReduced p → is_p_value p ≡ true → is_level a ≡ true → Path (Result Parts TooWide) (Err e) (plain.written Div (single p) (single a)) → ⊥
-threshold_never p a e r h k w = threshold_fits p a r h k e (mapped_err (written_mul Div p (inverse a)) e w)
+pub threshold_never : (p a : Terms) → IsReduced p → is_p_value p ≡ true → is_level a ≡ true → plain.written Div (single p) (single a) ≡ None → ⊥
+threshold_never p a r h k w = threshold_fits p a r h k (mapped_none single (written_mul p (inverse a)) w)

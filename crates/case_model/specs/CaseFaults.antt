@@ -8,7 +8,7 @@ use Rattle.field_core.specs.Terms.{Terms}
 use Rattle.field_core.specs.Number.{Number}
 use Rattle.field_core.specs.Arithmetic.{number_zero, number_one}
 use Rattle.field_core.specs.NumberField.{number_field}
-use Rattle.field_core.specs.Sized.{◌>>=◌}
+use Rattle.field_core.specs.Steps.{◌>>=◌}
 use Rattle.field_core.specs.Sums.{sum_below}
 use Rattle.field_core.specs.declared.place.TooWide.{TooWide}
 use Rattle.field_core.specs.declared.place.Place.{Place}

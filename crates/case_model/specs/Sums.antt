@@ -1,7 +1,8 @@
 -- Sums of fractions, by value and as they are written.
 use Rattle.std.specs.Prelude.{ℕ, zero, suc, pos, List, get_or, Result, Ok}
 use Rattle.field_core.specs.Terms.{Terms}
-use Rattle.field_core.specs.Sized.{◌>>=◌}
+use Rattle.field_core.specs.Steps.{◌>>=◌}
+use Rattle.field_core.specs.Kind.{or_wide}
 use Rattle.field_core.specs.Number.{Number}
 use Rattle.field_core.specs.Fractions.{fraction}
 use Rattle.field_core.specs.declared.place.Op.TheVariants.{Add}
@@ -27,4 +28,4 @@ number_at ts i = number (terms_at ts i)
 -- the sum of the first `n`, written one after the other by ascending place
 unfoldable pub written_sum : ℕ → (ℕ → Terms) → Result Terms TooWide
 written_sum zero f = Ok zero_terms
-written_sum (suc n) f = written_sum n f >>= λ s. written_add Add s (f n)
+written_sum (suc n) f = written_sum n f >>= λ s. or_wide Add (written_add s (f n))

@@ -1,7 +1,7 @@
 //! Written sums, whose parts may pass their sizes.
 ghost use Rattle.std.specs.Prelude.{◌≡◌, map, length, ◌+◌, ◌*◌, ◌≤◌, ◌<◌};
 ghost use Rattle.field_core.specs.declared.place.Op.TheVariants.{Add};
-ghost use Rattle.field_core.specs.Kind.{ok_map};
+ghost use Rattle.field_core.specs.Kind.{ok_map, or_wide};
 ghost use Rattle.fraction.specs.View.{terms_of};
 ghost use Rattle.fraction.specs.Written.{written_add};
 ghost use Rattle.case_model.specs.Sums.{zero_terms, terms_at, written_sum};
@@ -23,7 +23,7 @@ pub fn zero() -> Fraction
 
 /// The written sum of two.
 pub fn plus(x: &Fraction, y: &Fraction) -> Result<Fraction, TooWide>
-    ensures { ok_map terms_of result ≡ written_add Add (terms_of x.now) (terms_of y.now) }
+    ensures { ok_map terms_of result ≡ or_wide Add (written_add (terms_of x.now) (terms_of y.now)) }
 {
     x.add(y)
 }

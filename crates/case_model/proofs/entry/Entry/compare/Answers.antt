@@ -11,11 +11,11 @@ use Rattle.case_model.proofs.entry.Entry.compare.Goals as goal
 
 pub returns : goal.returns
 returns c =
-    let xs = c.args.self.now.coefficients in
+    let xs = c.self.inside.coefficients in
     let u = c.args.other.now in
     let x = c.index-coefficients-0.result in
     let within : 0 < length xs = omega arith in
     let five : length (map terms_of xs) ≡ 5 = simp length-map (omega arith) in
-    c.then.ensures
+    rw (← c.self.view_is) (c.then.ensures
     ∙ ap₂ ordering_then (c.compare.ensures ∙ ap (λ t. number_compare (number t) (number_of u)) (sym (item_terms xs 0 x within c.index-coefficients-0.is))) (c.first_sign.ensures ∙ ap (λ l. first_sign (map terms_of l)) (take_rest xs 1) ∙ ap first_sign (sym (drop-map terms_of 1 xs)))
-    ∙ sym (entry-compare (map terms_of xs) (terms_of u) five (positive_terms xs) u.valid.positive)
+    ∙ sym (entry-compare (map terms_of xs) (terms_of u) five (positive_terms xs) u.valid.positive))
