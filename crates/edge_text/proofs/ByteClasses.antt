@@ -3,7 +3,7 @@ use Rattle.std.proofs.Common.{◌≡◌, ◌≢◌, ℕ, ◌≤◌, ◌⊎◌, �
 use Rattle.std.specs.Char.{is_ascii_digit}
 use Rattle.std.proofs.lemmas.Bool.{cond_both, or_cases, eqb-true, eqb-false}
 use Rattle.std.proofs.lemmas.Bool.Decides.{nat_tests}
-use Rattle.edge_text.specs.Lines.{is_blank}
+use Rattle.text_lines.specs.Words.{is_blank}
 use Rattle.edge_text.specs.declared.byte_class.Class.{Class}
 use Rattle.edge_text.specs.declared.byte_class.Class.TheVariants as classes
 use Rattle.edge_text.specs.ByteMachine.{mark_of, class_of}

@@ -8,7 +8,8 @@ use Rattle.case_model.proofs.Places.{mapped_item}
 use Rattle.edge_text.specs.declared.expr_fault.ExprFault.{ExprFault}
 use Rattle.edge_text.specs.declared.short.Short.{Short}
 use Rattle.edge_text.specs.EntryView.{short_terms}
-use Rattle.edge_text.specs.EntryValues.{◌>>=◌, sum, product, product_sum, degree_within}
+use Rattle.field_core.specs.Steps.{◌>>=◌}
+use Rattle.edge_text.specs.EntryValues.{sum, product, product_sum, degree_within}
 
 -- the coefficient at a place
 pub item_terms : (xs : List Short) (n : ℕ) (x : Short) → n < length xs → x ≡ get_or xs n x → terms_at (map short_terms xs) n ≡ short_terms x

@@ -1,6 +1,6 @@
 -- How much is left of what a cursor takes from.
 use Rattle.std.proofs.Common.{◌≡◌, ℕ, ◌+◌, ◌*◌, ◌≤◌, ◌<◌, inl, inr, List, [], ◌∷◌, length, drop, min, Option, Some, None, ap, subst, arith, length-drop}
-use Rattle.edge_text.specs.Lines.{after_blanks}
+use Rattle.text_lines.specs.Words.{after_blanks}
 use Rattle.edge_text.specs.declared.polynomial.Operation.{Operation}
 use Rattle.edge_text.specs.declared.polynomial.Operation.TheVariants as operations
 use Rattle.edge_text.specs.declared.factor_cursor.Head.{Head}

@@ -11,7 +11,8 @@ use Rattle.fraction.proofs.Unique.{body_unique, value_unique}
 use Rattle.edge_text.specs.declared.expr_fault.ExprFault.{ExprFault}
 use Rattle.edge_text.specs.declared.expr_fault.ExprFault.TheVariants.{Part}
 use Rattle.edge_text.specs.Expressions.{IsPair, Decimal}
-use Rattle.edge_text.specs.EntryValues.{◌>>=◌, short_of, short, plain_entry, has_too_many_digits, decimal_value}
+use Rattle.field_core.specs.Steps.{◌>>=◌}
+use Rattle.edge_text.specs.EntryValues.{short_of, short, plain_entry, has_too_many_digits, decimal_value}
 use Rattle.edge_text.specs.declared.byte_machine.Part.TheVariants as parts
 use Rattle.edge_text.proofs.DecimalTexts.{takes, takes_nil, decimal_taken}
 use Rattle.edge_text.proofs.DecimalLimits.{decides_too_many}

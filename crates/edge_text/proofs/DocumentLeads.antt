@@ -9,7 +9,7 @@ use Rattle.fraction.specs.Spelling.{spelling}
 use Rattle.fraction.proofs.ReadBack.{read_back}
 use Rattle.case_model.specs.Draft.{DraftContent, DraftEdgeContent}
 use Rattle.case_model.specs.Sums.{zero_terms}
-use Rattle.edge_text.specs.Lines.{words_of}
+use Rattle.text_lines.specs.Words.{words_of}
 use Rattle.edge_text.specs.Grammar.{Words, Says, IsAlphaLine, IsNamesLine, IsWeightsLine, IsEdgeLine, optional, GivesP, one_component, IsDocument}
 use Rattle.edge_text.specs.Faults.{Place, Alpha, Names, POrWeights, Weights, Edges, MustFollow, Stands, Lead}
 use Rattle.edge_text.specs.TextStatements.{BeginDocument}

@@ -2,7 +2,7 @@
 use Rattle.std.proofs.Common.{ℕ, List, [], ◌∷◌, ◌++◌, inl, inr, Option, Some, None, refl, sym, subst}
 use Rattle.field_core.specs.Terms.{Terms}
 use Rattle.edge_text.specs.declared.fault.TextFault.{TextFault}
-use Rattle.edge_text.specs.Lines.{Row, texts_in}
+use Rattle.text_lines.specs.Lines.{Row, texts_in}
 use Rattle.edge_text.specs.Grammar.{IsAlphaLine, IsNamesLine, IsWeightsLine, optional, GivesP}
 use Rattle.edge_text.specs.Faults.{Lead, Alpha, Names, POrWeights, Weights, Edges}
 use Rattle.edge_text.specs.View.{TakesLine, TakesLines, AreNumbersLines, IsFaultAt}

@@ -6,7 +6,7 @@ use Rattle.case_model.specs.declared.draft.DraftEdge.{DraftEdge}
 use Rattle.case_model.specs.Draft.{DraftEdgeContent}
 use Rattle.case_model.specs.DraftView.{edge_said}
 use Rattle.edge_text.specs.declared.fault.TextFault.{TextFault}
-use Rattle.edge_text.specs.Lines.{Row, texts_in}
+use Rattle.text_lines.specs.Lines.{Row, texts_in}
 use Rattle.edge_text.specs.Grammar.{IsEdgeLine}
 use Rattle.edge_text.specs.Faults.{IsEdgeFault, Lead, Edges}
 use Rattle.edge_text.specs.View.{IsOnLine, IsFaultAt}

@@ -15,7 +15,8 @@ use Rattle.fraction.proofs.ReadBack.{spelling_bytes}
 use Rattle.case_model.specs.Entries.{no_edge, is_zero_terms}
 use Rattle.case_model.specs.Sums.{terms_at, zero_terms}
 use Rattle.edge_text.specs.Expressions.{Sign, Plus, Minus, Expression, Sum, MoreTerms, NoTerm, AndTerm, Term, Token, SignToken, expression_tokens, terms_tokens, term_tokens, token_text, IsSpelt, Spells}
-use Rattle.edge_text.specs.EntryValues.{◌>>=◌, joined, sign_or_plus, value, with_terms, term_value}
+use Rattle.field_core.specs.Steps.{◌>>=◌}
+use Rattle.edge_text.specs.EntryValues.{joined, sign_or_plus, value, with_terms, term_value}
 use Rattle.edge_text.specs.EntryTexts.{without_sign, is_one, power_text, factor_text, joint_text, joined_term, term_text, terms_text, are_zero_below, entry_text}
 use Rattle.edge_text.specs.EntryReading.{open_with, open_behind, IsShallow, IsEntryText}
 use Rattle.edge_text.specs.ExpressionStatements.{IsShortTerms}

@@ -21,7 +21,9 @@ use Rattle.case_model.proofs.EntryOrder.{sum_of_five}
 use Rattle.edge_text.specs.declared.expr_fault.ExprFault.{ExprFault}
 use Rattle.edge_text.specs.declared.expr_fault.ExprFault.TheVariants.{DivisorNotNumber, ZeroDivisor, Degree, Part}
 use Rattle.edge_text.specs.Expressions.{Decimal, Power, Sign, Plus, Minus, Expression, Sum, MoreTerms, NoTerm, AndTerm, Term, Product, MoreFactors, NoFactor, Times, Over, Beside, Factor, Number, Other, Further, Epsilon, Parens}
-use Rattle.edge_text.specs.EntryValues.{plain_entry, ◌>>=◌, short, sum, difference, product, quotient, coefficients, joined, degree_within, degree, product_sum, times, over, has_too_many_digits, decimal_value, unit_at, power_value, epsilon_value, sign_or_plus, value, with_terms, term_value, with_factors, factor_value, further_value}
+use Rattle.field_core.specs.Steps.{◌>>=◌}
+use Rattle.field_core.specs.Laws.Prefixes.{bind_ok}
+use Rattle.edge_text.specs.EntryValues.{plain_entry, short, sum, difference, product, quotient, coefficients, joined, degree_within, degree, product_sum, times, over, has_too_many_digits, decimal_value, unit_at, power_value, epsilon_value, sign_or_plus, value, with_terms, term_value, with_factors, factor_value, further_value}
 use Rattle.edge_text.specs.ExpressionStatements.{moved, power_meant, meaning, and_terms, term_meaning, and_factors, factor_meaning, further_meaning}
 use Rattle.edge_text.proofs.UnitEntries.{tabled}
 use Rattle.edge_text.proofs.ShortNumbers.{IsNumber, short_number, sum_number, product_number, difference_number, quotient_number}
@@ -113,10 +115,6 @@ of_five : (a b c d e : Terms) (u v w x y : Value) → IsNumber a u → IsNumber 
 of_five a b c d e u v w x y p q r s t = record { positive = positive_by a b c d e p.positive q.positive r.positive s.positive t.positive; is = value_of_list a b c d e ∙ rw (p.is, q.is, r.is, s.is, t.is) refl }
 
 -- ---- results
-
-bind_ok : {A B : Type 0} (r : Result A ExprFault) (f : A → Result B ExprFault) (y : B) → (r >>= f) ≡ Ok y → (x : A) × ((r ≡ Ok x) × (f x ≡ Ok y))
-bind_ok (Ok x) f y h = (x, (refl, h))
-bind_ok (Err e) f y h = absurd cc
 
 -- the coefficients that make an entry
 record IsMade (f : ℕ → Result Terms ExprFault) (z : List Terms) : Type 0 where

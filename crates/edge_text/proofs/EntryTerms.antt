@@ -17,7 +17,8 @@ use Rattle.fraction.specs.Spelling.{spelling}
 use Rattle.fraction.proofs.ReadBack.{read_back}
 use Rattle.case_model.specs.Draft.{is_short}
 use Rattle.edge_text.specs.Expressions.{Decimal, Power, Term, Product, MoreFactors, NoFactor, Times, Over, Factor, Number, Other, Further, Epsilon, Token, DecimalToken, WordToken, CaretToken, PowerToken, TimesToken, OverToken, term_tokens, factors_tokens, factor_tokens, token_text, IsSpelt}
-use Rattle.edge_text.specs.EntryValues.{plain_entry, ◌>>=◌, short_of, times, over, decimal_value, power_value, epsilon_value, term_value, with_factors, factor_value}
+use Rattle.field_core.specs.Steps.{◌>>=◌}
+use Rattle.edge_text.specs.EntryValues.{plain_entry, short_of, times, over, decimal_value, power_value, epsilon_value, term_value, with_factors, factor_value}
 use Rattle.edge_text.specs.EntryTexts.{is_one, power_text, factor_text, term_text}
 use Rattle.edge_text.specs.ExpressionStatements.{IsShortTerms}
 use Rattle.edge_text.proofs.DecimalValues.{decimal_found}

@@ -13,10 +13,11 @@ use Rattle.edge_text.specs.declared.factor_cursor.Head.{Head}
 use Rattle.edge_text.specs.declared.factor_cursor.Head.TheVariants as heads
 use Rattle.fraction.specs.Numeral.{body_text}
 use Rattle.edge_text.specs.Expressions.{Decimal, Power, Sign, Plus, Minus, Expression, Sum, MoreTerms, NoTerm, AndTerm, Term, Product, MoreFactors, NoFactor, Number, Other, Epsilon, Parens, Token, CloseToken, expression_tokens, terms_tokens, term_tokens, factors_tokens, IsSpelt, Spells}
-use Rattle.edge_text.specs.EntryValues.{◌>>=◌, joined, sign_or_plus, value, with_terms, term_value, with_factors, factor_value, decimal_value, power_value, epsilon_value}
+use Rattle.field_core.specs.Steps.{◌>>=◌}
+use Rattle.edge_text.specs.EntryValues.{joined, sign_or_plus, value, with_terms, term_value, with_factors, factor_value, decimal_value, power_value, epsilon_value}
 use Rattle.edge_text.specs.EntryView.{map_value, polynomial_terms, applied}
 use Rattle.edge_text.specs.CursorView.{SignTaken, JointTaken, HeadTaken, PowerTaken, CloseTaken, EndsExpression, EndsTerm, Evaluates, IsHead, SumGives, ProductGives, FactorGives}
-use Rattle.edge_text.specs.Lines.{after_blanks}
+use Rattle.text_lines.specs.Words.{after_blanks}
 use Rattle.edge_text.proofs.TakenTokens.{sign_operation, first_operation, first_sign, next_term, no_term, terms_end, factors_end, next_factor, no_factor, head_is, power_is, close_is}
 
 -- ---- faults

@@ -12,7 +12,8 @@ use Rattle.fraction.proofs.Numerals.{reading}
 use Rattle.case_model.specs.Names.{position_of}
 use Rattle.edge_text.specs.declared.fault.LineKind.{LineKind}
 use Rattle.edge_text.specs.declared.fault.LineKind.TheVariants.{Unexpected, Ended, WordCount, UnknownName, Number, Expr}
-use Rattle.edge_text.specs.Lines.{Row, words_of, behind_words, texts_in}
+use Rattle.text_lines.specs.Lines.{Row, texts_in}
+use Rattle.text_lines.specs.Words.{words_of, behind_words}
 use Rattle.edge_text.specs.Grammar.{Words, Says, HasEnds}
 use Rattle.edge_text.specs.Faults.{IsOther, IsFirstRefused, Place, Alpha, Names, POrWeights, Weights, Edges, Stands, Lead, IsBad}
 use Rattle.edge_text.proofs.OneEntry.{entry_or_fault}

@@ -11,7 +11,7 @@ use Rattle.case_model.specs.Names.{position_of}
 use Rattle.edge_text.specs.declared.fault.LineKind.{LineKind}
 use Rattle.edge_text.specs.declared.fault.LineKind.TheVariants.{Unexpected, Ended, WordCount, UnknownName, Number, Expr}
 use Rattle.edge_text.specs.declared.expr_fault.ExprFault.{ExprFault}
-use Rattle.edge_text.specs.Lines.{words_of, behind_words}
+use Rattle.text_lines.specs.Words.{words_of, behind_words}
 use Rattle.edge_text.specs.EntryReading.{IsExprFault}
 use Rattle.edge_text.specs.Grammar.{Words, Says, IsAlphaLine, IsNamesLine, IsNumbersLine, IsPLine, IsWeightsLine, HasEnds, IsEdgeLine}
 use Rattle.edge_text.specs.Faults.{IsOther, IsFirstRefused, IsAlphaFault, IsNamesFault, IsNumbersFault, IsPOrWeightsFault, IsUnknown, IsEdgeFault, Place, Alpha, Names, POrWeights, Weights, Edges, Stands, IsBad}

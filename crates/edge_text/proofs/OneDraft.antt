@@ -5,7 +5,7 @@ use Rattle.std.specs.List.{AllZip}
 use Rattle.field_core.specs.Terms.{Terms}
 use Rattle.case_model.specs.Draft.{DraftContent, DraftEdgeContent}
 use Rattle.case_model.specs.Names.{position_of}
-use Rattle.edge_text.specs.Lines.{behind_words}
+use Rattle.text_lines.specs.Words.{behind_words}
 use Rattle.edge_text.specs.Grammar.{Words, Says, IsAlphaLine, IsNamesLine, IsWeightsLine, IsEdgeLine, optional, GivesP, one_component, IsDocument}
 use Rattle.edge_text.proofs.OneEntry.{one_entry}
 use Rattle.edge_text.proofs.LineWords.{tails, one_word, same_ends, keywords_differ, one_saying, same_numbers}

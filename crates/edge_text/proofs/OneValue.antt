@@ -8,10 +8,11 @@ use Rattle.field_core.specs.Terms.{Terms}
 use Rattle.fraction.specs.Numeral.{body_text}
 use Rattle.fraction.proofs.Unique.{body_unique}
 use Rattle.case_model.specs.Entries.{no_edge}
-use Rattle.edge_text.specs.Lines.{after_blanks}
+use Rattle.text_lines.specs.Words.{after_blanks}
 use Rattle.edge_text.specs.declared.expr_fault.ExprFault.{ExprFault}
 use Rattle.edge_text.specs.Expressions.{Decimal, Power, Sign, Plus, Minus, Expression, Sum, MoreTerms, NoTerm, AndTerm, Term, Product, MoreFactors, NoFactor, Times, Over, Beside, Factor, Number, Other, Further, Epsilon, Parens, Token, DecimalToken, WordToken, CaretToken, PowerToken, SignToken, TimesToken, OverToken, OpenToken, CloseToken, sign_tokens, power_tokens, expression_tokens, terms_tokens, term_tokens, factors_tokens, factor_tokens, further_tokens, sign_byte, token_text, IsSpelt, Spells}
-use Rattle.edge_text.specs.EntryValues.{◌>>=◌, joined, times, over, sign_or_plus, decimal_value, epsilon_value, power_value, value, with_terms, term_value, with_factors, factor_value, further_value}
+use Rattle.field_core.specs.Steps.{◌>>=◌}
+use Rattle.edge_text.specs.EntryValues.{joined, times, over, sign_or_plus, decimal_value, epsilon_value, power_value, value, with_terms, term_value, with_factors, factor_value, further_value}
 use Rattle.edge_text.specs.CursorView.{decimal_length, EndsExpression, EndsTerm, EndsFactor}
 use Rattle.edge_text.proofs.DecimalLengths.{decimal_front}
 use Rattle.edge_text.proofs.SpeltTokens.{IsFirst, front, leads, all_blank, stops}

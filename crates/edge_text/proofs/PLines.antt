@@ -5,7 +5,8 @@ use Rattle.field_core.specs.Terms.{Terms}
 use Rattle.edge_text.specs.declared.fault.LineKind.{LineKind}
 use Rattle.edge_text.specs.declared.fault.LineKind.TheVariants.{Unexpected, Ended, WordCount, UnknownName, Number, Expr}
 use Rattle.edge_text.specs.declared.fault.TextFault.{TextFault}
-use Rattle.edge_text.specs.Lines.{Row, words_of}
+use Rattle.text_lines.specs.Lines.{Row}
+use Rattle.text_lines.specs.Words.{words_of}
 use Rattle.edge_text.specs.Grammar.{Words, IsPLine, IsWeightsLine}
 use Rattle.edge_text.specs.Faults.{IsOther, IsWeightsFault, IsPOrWeightsFault, Lead, POrWeights, Weights}
 use Rattle.edge_text.specs.View.{AreGiven, IsGivenFault, AreNumbersLines, IsOnLine, IsFaultAt, TakesLine, TakesLines}

@@ -12,7 +12,8 @@ use Rattle.case_model.specs.Sums.{terms_at}
 use Rattle.edge_text.specs.declared.expr_fault.ExprFault.{ExprFault}
 use Rattle.edge_text.specs.declared.expr_fault.ExprFault.TheVariants.{BadByte, Depth, DivisorNotNumber, ZeroDivisor, Degree, Part}
 use Rattle.edge_text.specs.Expressions.{Decimal, Power, Sign, Plus, Minus, Expression, Sum, MoreTerms, NoTerm, AndTerm, Term, Product, MoreFactors, NoFactor, Times, Over, Beside, Factor, Number, Other, Further, Epsilon, Parens, Spells, IsExpression}
-use Rattle.edge_text.specs.EntryValues.{◌>>=◌, short_of, short, product, coefficients, joined, degree, product_sum, times, over, has_too_many_digits, decimal_value, power_value, epsilon_value, sign_or_plus, value, with_terms, term_value, with_factors, factor_value, further_value}
+use Rattle.field_core.specs.Steps.{◌>>=◌}
+use Rattle.edge_text.specs.EntryValues.{short_of, short, product, coefficients, joined, degree, product_sum, times, over, has_too_many_digits, decimal_value, power_value, epsilon_value, sign_or_plus, value, with_terms, term_value, with_factors, factor_value, further_value}
 use Rattle.edge_text.specs.EntryView.{map_value}
 use Rattle.edge_text.specs.EntryReading.{IsDeep, IsShallow, IsScanned, IsWorth, IsEntryText, IsExprFault}
 

@@ -5,7 +5,7 @@ use Rattle.std.proofs.lemmas.Bool.Decides.{nat_tests}
 use Rattle.std.proofs.lemmas.Bool.{cases_Bool, eqb-true, or_cases}
 use Rattle.field_core.proofs.Longest.{accepts_then}
 use Rattle.fraction.specs.Numeral.{body_text}
-use Rattle.edge_text.specs.Lines.{is_blank, after_blanks}
+use Rattle.text_lines.specs.Words.{is_blank, after_blanks}
 use Rattle.edge_text.specs.declared.byte_class.Class.{Class}
 use Rattle.edge_text.specs.declared.byte_class.Class.TheVariants as classes
 use Rattle.edge_text.specs.declared.byte_machine.Part.{Part}

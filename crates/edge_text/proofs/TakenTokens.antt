@@ -2,13 +2,14 @@
 use Rattle.std.proofs.Common.{◌≡◌, ◌≢◌, ℕ, ◌+◌, ◌%◌, ◌≤◌, ◌<◌, ◌⊎◌, inl, inr, List, [], ◌∷◌, ◌++◌, length, drop, take, min, Option, Some, None, refl, sym, ap, ap₂, subst, ◌∙◌, arith, length-append}
 use Rattle.field_core.specs.Terms.{Terms}
 use Rattle.fraction.specs.Numeral.{body_text}
-use Rattle.edge_text.specs.Lines.{after_blanks}
+use Rattle.text_lines.specs.Words.{after_blanks}
 use Rattle.edge_text.specs.declared.polynomial.Operation.{Operation}
 use Rattle.edge_text.specs.declared.polynomial.Operation.TheVariants as operations
 use Rattle.edge_text.specs.declared.factor_cursor.Head.{Head}
 use Rattle.edge_text.specs.declared.factor_cursor.Head.TheVariants as heads
 use Rattle.edge_text.specs.Expressions.{Decimal, Power, Sign, Plus, Minus, MoreTerms, NoTerm, AndTerm, Term, Product, MoreFactors, NoFactor, Times, Over, Beside, Factor, Number, Other, Further, Epsilon, Parens, Token, DecimalToken, WordToken, CaretToken, PowerToken, SignToken, TimesToken, OverToken, OpenToken, CloseToken, sign_tokens, power_tokens, expression_tokens, terms_tokens, term_tokens, factors_tokens, factor_tokens, further_tokens, sign_byte, token_text, IsSpelt}
-use Rattle.edge_text.specs.EntryValues.{◌>>=◌, sign_or_plus, power_value, epsilon_value, with_factors, factor_value}
+use Rattle.field_core.specs.Steps.{◌>>=◌}
+use Rattle.edge_text.specs.EntryValues.{sign_or_plus, power_value, epsilon_value, with_factors, factor_value}
 use Rattle.edge_text.specs.EntryView.{applied}
 use Rattle.edge_text.specs.CursorView.{decimal_length, IsOtherThan, NoSign, SignTaken, MayBeBeside, NoJoint, JointTaken, BeginsWord, HeadTaken, PowerTaken, CloseTaken, EndsExpression, EndsTerm, EndsFactor, IsHead}
 use Rattle.edge_text.proofs.DecimalLengths.{decimal_front}

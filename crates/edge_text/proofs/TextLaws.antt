@@ -2,7 +2,7 @@
 use Rattle.std.proofs.Common.{◌≡◌, ℕ, ◌⊎◌, inl, inr, List, [], ◌∷◌, ◌++◌, refl, sym, subst}
 use Rattle.case_model.specs.Draft.{DraftContent}
 use Rattle.edge_text.specs.declared.fault.LineKind.{LineKind}
-use Rattle.edge_text.specs.Lines.{rows_of, texts_in, end_of}
+use Rattle.text_lines.specs.Lines.{rows_of, texts_in, end_of}
 use Rattle.edge_text.specs.Grammar.{IsDocument, IsText}
 use Rattle.edge_text.specs.Faults.{Place, Alpha, Names, POrWeights, Weights, Edges, MustFollow, Stands, Lead, IsBad, IsFirstFault}
 use Rattle.edge_text.specs.TextStatements.{TextsSayOneDraft, TextsHaveOneFault, TextsSayOrFail, TextsDontSayAndFail, BeginDocument, FirstFaultsEndDocuments, WhereNoneGoesOnIsFault, UnfinishedTextsEnd}

@@ -14,7 +14,7 @@ use Rattle.case_model.specs.DraftView.{said}
 use Rattle.case_model.specs.Names.{position_of}
 use Rattle.edge_text.specs.declared.fault.TextFault.{TextFault}
 use Rattle.edge_text.specs.declared.fault.TextFault.TheVariants as faults
-use Rattle.edge_text.specs.Lines.{rows_of, end_of}
+use Rattle.text_lines.specs.Lines.{rows_of, end_of}
 use Rattle.edge_text.specs.Grammar.{IsEdgeLine, IsDocument, IsText}
 use Rattle.edge_text.specs.Faults.{Alpha}
 use Rattle.edge_text.specs.Reading.{IsTextFault}

@@ -10,7 +10,8 @@ use Rattle.case_model.specs.Entries.{is_zero_terms}
 use Rattle.case_model.specs.Sums.{terms_at, zero_terms}
 use Rattle.edge_text.specs.declared.expr_fault.ExprFault.{ExprFault}
 use Rattle.edge_text.specs.Expressions.{Plus, Minus}
-use Rattle.edge_text.specs.EntryValues.{plain_entry, ◌>>=◌, sum, difference, product, quotient, coefficients, joined, degree_within, degree, product_sum, times, over, unit_at, power_value}
+use Rattle.field_core.specs.Steps.{◌>>=◌}
+use Rattle.edge_text.specs.EntryValues.{plain_entry, sum, difference, product, quotient, coefficients, joined, degree_within, degree, product_sum, times, over, unit_at, power_value}
 use Rattle.edge_text.specs.ExpressionStatements.{IsShortTerms}
 use Rattle.edge_text.proofs.UnitOperations.{one_terms, zero_short, one_short, sum_zero_left, sum_zero_right, difference_zero_left, difference_zero_right, product_one_right, product_zero_left, product_zero_right, quotient_parts, quotient_zero}
 

@@ -1,7 +1,7 @@
 -- Edge expressions byte by byte.
 use Rattle.std.specs.Prelude.{ℕ, zero, suc, ◌||◌, Bool, true, false, Option, Some, None, ◌==◌, if◌then◌else◌}
 use Rattle.std.specs.Char.{is_ascii_digit}
-use Rattle.edge_text.specs.Lines.{is_blank}
+use Rattle.text_lines.specs.Words.{is_blank}
 use Rattle.edge_text.specs.declared.byte_class.Class.{Class}
 use Rattle.edge_text.specs.declared.byte_class.Class.TheVariants as classes
 use Rattle.edge_text.specs.declared.byte_machine.Part.{Part}

@@ -3,7 +3,7 @@ use Rattle.std.specs.Prelude.{◌≡◌, ◌≢◌, ℕ, ◌+◌, ◌%◌, ◌�
 use Rattle.field_core.proofs.Longest.{count}
 use Rattle.fraction.specs.Numeral.{body_text}
 use Rattle.field_core.specs.Terms.{Terms}
-use Rattle.edge_text.specs.Lines.{after_blanks}
+use Rattle.text_lines.specs.Words.{after_blanks}
 use Rattle.edge_text.specs.declared.expr_fault.ExprFault.{ExprFault}
 use Rattle.edge_text.specs.declared.byte_machine.Part.TheVariants as parts
 use Rattle.edge_text.specs.declared.polynomial.Polynomial.{Polynomial}

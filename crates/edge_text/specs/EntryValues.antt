@@ -1,6 +1,7 @@
 -- What edge expressions are worth: entries, by their five coefficients of ascending power, or the first fault from left to right.
 use Rattle.std.specs.Prelude.{ℕ, zero, suc, ◌-◌, ◌+◌, ◌||◌, ◌&&◌, ◌==◌, Bool, List, [], ◌∷◌, ◌++◌, length, pos, ℤ, ◌+ℤ◌, ◌-ℤ◌, ◌*ℤ◌, Option, Some, None, Result, Ok, Err, nat_lt, int_lt, if◌then◌else◌}
 use Rattle.field_core.specs.Terms.{Terms}
+use Rattle.field_core.specs.Steps.{◌>>=◌}
 use Rattle.fraction.specs.Lowest.{lowest_terms}
 use Rattle.fraction.specs.Numeral.{Body, Plain, Pointed, Pair, exponent_of, without_leading_zeros, trailing_zeros, value_of}
 use Rattle.case_model.specs.Draft.{is_short}
@@ -9,12 +10,6 @@ use Rattle.case_model.specs.Entries.{no_edge, is_zero_terms}
 use Rattle.edge_text.specs.declared.expr_fault.ExprFault.{ExprFault}
 use Rattle.edge_text.specs.declared.expr_fault.ExprFault.TheVariants.{DivisorNotNumber, ZeroDivisor, Degree, Part}
 use Rattle.edge_text.specs.Expressions.{Decimal, Power, Sign, Plus, Minus, Expression, Sum, MoreTerms, NoTerm, AndTerm, Term, Product, MoreFactors, NoFactor, Times, Over, Beside, Factor, Number, Other, Further, Epsilon, Parens}
-
-infixl 10 ◌>>=◌
--- the first fault, or what is made of the value
-abbrev pub ◌>>=◌ : {A B : Type 0} → Result A ExprFault → (A → Result B ExprFault) → Result B ExprFault
-(Ok x) >>= f = f x
-(Err fault) >>= f = Err fault
 
 -- ---- fractions
 

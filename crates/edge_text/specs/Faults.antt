@@ -7,7 +7,8 @@ use Rattle.case_model.specs.Draft.{DraftEdgeContent}
 use Rattle.case_model.specs.Names.{position_of}
 use Rattle.edge_text.specs.declared.fault.LineKind.{LineKind}
 use Rattle.edge_text.specs.declared.fault.LineKind.TheVariants.{Unexpected, Ended, WordCount, UnknownName, Number, Expr}
-use Rattle.edge_text.specs.Lines.{Row, rows_of, words_of, behind_words, texts_in, end_of}
+use Rattle.text_lines.specs.Lines.{Row, rows_of, texts_in, end_of}
+use Rattle.text_lines.specs.Words.{words_of, behind_words}
 use Rattle.edge_text.specs.EntryReading.{IsExprFault}
 use Rattle.edge_text.specs.Grammar.{Words, Says, IsAlphaLine, IsNamesLine, IsPLine, IsWeightsLine, HasEnds, IsEdgeLine}
 

@@ -5,7 +5,8 @@ use Rattle.field_core.specs.Terms.{Terms}
 use Rattle.fraction.specs.Numeral.{IsNumeralOf}
 use Rattle.case_model.specs.Draft.{DraftContent, DraftComponentContent, DraftEdgeContent}
 use Rattle.case_model.specs.Names.{position_of}
-use Rattle.edge_text.specs.Lines.{words_of, behind_words, rows_of, texts_in}
+use Rattle.text_lines.specs.Lines.{rows_of, texts_in}
+use Rattle.text_lines.specs.Words.{words_of, behind_words}
 use Rattle.edge_text.specs.EntryReading.{IsEntryText}
 
 -- the words of a line

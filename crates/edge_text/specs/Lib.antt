@@ -8,7 +8,6 @@ pub mod EntryView
 pub mod ExpressionStatements
 pub mod Faults
 pub mod Grammar
-pub mod Lines
 pub mod Reading
 pub mod TextStatements
 pub mod View

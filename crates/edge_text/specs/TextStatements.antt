@@ -8,7 +8,7 @@ use Rattle.edge_text.specs.declared.fault.LineKind.{LineKind}
 use Rattle.edge_text.specs.declared.fault.LineKind.TheVariants.{Ended}
 use Rattle.edge_text.specs.declared.fault.TextFault.{TextFault}
 use Rattle.edge_text.specs.declared.fault.TextFault.TheVariants as faults
-use Rattle.edge_text.specs.Lines.{Row, rows_of, texts_in, end_of}
+use Rattle.text_lines.specs.Lines.{Row, rows_of, texts_in, end_of}
 use Rattle.edge_text.specs.Grammar.{IsDocument, IsText}
 use Rattle.edge_text.specs.Faults.{IsFirstFault}
 use Rattle.edge_text.specs.Reading.{IsCaseOf, IsRefusedText, IsTextFault}

@@ -1,4 +1,4 @@
--- Lines, words and faults as contracts of the reader's parts see them.
+-- Words and faults as contracts of the reader's parts see them.
 use Rattle.std.specs.Prelude.{◌≡◌, ◌<◌, ◌⊎◌, ℕ, ◌+◌, List, [], ◌∷◌, ◌++◌, Option, Some, map, length}
 use Rattle.std.specs.List.{AllZip}
 use Rattle.field_core.specs.Terms.{Terms}
@@ -7,51 +7,21 @@ use Rattle.case_model.specs.declared.name_index.NameIndex.{NameIndex}
 use Rattle.case_model.specs.NameIndexView.{place_of}
 use Rattle.case_model.specs.Names.{position_of}
 use Rattle.case_model.specs.Draft.{DraftEdgeContent}
-use Rattle.edge_text.specs.declared.cursor.Line.{Line}
-use Rattle.edge_text.specs.declared.cursor.Lines.{Lines}
-use Rattle.edge_text.specs.declared.cursor.Words.{Words as WordsLeft}
 use Rattle.edge_text.specs.declared.fault.LineKind.{LineKind}
 use Rattle.edge_text.specs.declared.fault.LineKind.TheVariants.{Unexpected, Ended, WordCount, UnknownName, Number, Expr}
 use Rattle.edge_text.specs.declared.fault.TextFault.{TextFault}
 use Rattle.edge_text.specs.declared.fault.TextFault.TheVariants as faults
-use Rattle.edge_text.specs.Lines.{Row, lines_of, words_of, texts_in, kept_after}
+use Rattle.text_lines.specs.Lines.{Row, lines_of, texts_in, kept_after}
+use Rattle.text_lines.specs.Words.{words_of}
 use Rattle.edge_text.specs.EntryReading.{IsEntryText, IsExprFault}
 use Rattle.edge_text.specs.Grammar.{Words, Says, IsWeightsLine, GivesP, optional}
 use Rattle.edge_text.specs.Faults.{Place, IsFirstRefused, IsUnknown, IsFaultFrom}
-
--- a line that was taken
-abbrev pub row : Line → Row
-row line = record { number = line.number; text = line.text.now }
-
--- its text
-abbrev pub line_text : Line → List ℕ
-line_text line = line.text.now
-
--- its words
-abbrev pub line_words : Line → Words
-line_words line = words_of (line_text line)
-
--- what of a line is still to come
-abbrev pub text_left : WordsLeft → List ℕ
-text_left words = words.rest.now
-
--- its words
-abbrev pub words_left : WordsLeft → Words
-words_left words = words_of (text_left words)
 
 -- these two words, and at least one more
 pub record HasThree (words : Words) (from to : List ℕ) : Type 0 where
   pub further : List ℕ
   pub others : Words
   pub words_are : words ≡ from ∷ to ∷ further ∷ others
-
--- the lines still to come that count
-unfoldable pub rows_left : Lines → List Row
-rows_left s = kept_after s.number (lines_of s.rest.now)
-
--- the number of the line that would stand behind the last one
-unfoldable pub end_at : Lines → ℕ
-end_at s = s.number + length (lines_of s.rest.now) + 1
 
 -- a fault of the line of this number, of such a kind, or want of memory
 abbrev pub IsOnLine : ℕ → (LineKind → Type 0) → TextFault → Type 0

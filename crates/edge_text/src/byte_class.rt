@@ -2,7 +2,7 @@
 ghost use Rattle.std.specs.Prelude.{◌≡◌};
 ghost use Rattle.edge_text.specs.ByteMachine.{class_of, mark_of};
 
-use crate::lines::is_blank;
+use text_lines::is_blank;
 
 /// What a byte may be in an edge expression, but for the letters of `\epsilon`.
 #[derive(Clone, Copy)]

@@ -4,19 +4,21 @@ ghost use Rattle.std.specs.List.{AllZip};
 ghost use Rattle.std.specs.Option.{option_map};
 ghost use Rattle.fraction.specs.View.{terms_of};
 ghost use Rattle.case_model.specs.DraftView.{said, edge_said, component_said};
-ghost use Rattle.edge_text.specs.Lines.{rows_of, end_of};
+ghost use Rattle.text_lines.specs.Lines.{rows_of, end_of};
 ghost use Rattle.edge_text.specs.Grammar.{IsAlphaLine, IsNamesLine, IsWeightsLine, IsEdgeLine, IsText, one_component};
 ghost use Rattle.edge_text.specs.Faults.{Alpha as AtAlpha, Names as AtNames, POrWeights as AtPOrWeights, Weights as AtWeights, Edges as AtEdges};
-ghost use Rattle.edge_text.specs.View.{row, rows_left, end_at, TakesLine, TakesLines, AreNumbersLines, IsFaultAt};
+ghost use Rattle.text_lines.specs.Lines.{rows_left, end_at};
+ghost use Rattle.text_lines.specs.View.{row};
+ghost use Rattle.edge_text.specs.View.{TakesLine, TakesLines, AreNumbersLines, IsFaultAt};
 ghost use Rattle.edge_text.specs.declared.fault.LineKind.TheVariants.{Ended};
 ghost use Rattle.edge_text.specs.declared.fault.TextFault.TheVariants as faults;
 
-use crate::cursor::{Line, Lines};
 use crate::{LineKind, TextFault, rules};
 use case_model::{Draft, DraftComponent, DraftEdge, NameIndex};
 use field_core::{List, NoMemory, Number, Text};
 use fraction::Fraction;
 use std::alloc::Global;
+use text_lines::{Line, Lines};
 
 /// The next line, which must be there.
 fn next_line<'a>(lines: &mut Lines<'a>) -> Result<Line<'a>, TextFault>
@@ -24,7 +26,7 @@ fn next_line<'a>(lines: &mut Lines<'a>) -> Result<Line<'a>, TextFault>
     ensures fault { IfErr result (λ fault. (rows_left lines.old ≡ []) × (fault ≡ faults.Line (end_at lines.old) Ended)) }
     ensures end { end_at lines.new ≡ end_at lines.old }
 {
-    match lines.take() {
+    match lines.next() {
         Some(line) => Ok(line),
         None => Err(TextFault::Line(lines.next_number(), LineKind::Ended)),
     }
@@ -97,7 +99,7 @@ fn edges(alloc: Global, lines: &mut Lines, names: &[Text]) -> Result<List<DraftE
 {
     let index = NameIndex::build(alloc, names)?;
     let mut edges = List::new(alloc);
-    while let Some(line) = lines.take() {
+    while let Some(line) = lines.next() {
         edges.push(rules::edge(&line, &index)?)?;
     }
     Ok(edges)

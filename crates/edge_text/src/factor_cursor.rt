@@ -1,13 +1,13 @@
 //! What is left of an edge expression, token by token. Each call takes the blanks before what it takes.
 ghost use Rattle.std.specs.Prelude.{◌≡◌, ◌≤◌, [], ◌∷◌, length, MatchOption};
 ghost use Rattle.std.specs.Bool.{MatchBool};
-ghost use Rattle.edge_text.specs.Lines.{after_blanks};
+ghost use Rattle.text_lines.specs.Words.{after_blanks};
 ghost use Rattle.edge_text.specs.CursorView.{decimal_length, IsOtherThan, SignTaken, JointTaken, HeadTaken, PowerTaken, CloseTaken};
 
 use crate::byte_class::class_of;
 use crate::byte_machine::{Part, decimal_step};
-use crate::lines::after_blanks;
 use crate::polynomial::Operation;
+use text_lines::after_blanks;
 
 /// What is left of an edge expression.
 #[derive(Drop)]

@@ -3,15 +3,14 @@
 
 mod byte_class;
 mod byte_machine;
-mod cursor;
 mod document;
+mod ends;
 mod evaluate;
 mod expr_fault;
 pub mod expression_laws;
 mod factor_cursor;
 mod fault;
 pub mod laws;
-mod lines;
 mod polynomial;
 mod printing;
 mod read;
@@ -20,7 +19,6 @@ mod rules;
 mod scan;
 mod short;
 mod short_arithmetic;
-mod words;
 
 pub use expr_fault::ExprFault;
 pub use fault::{LineKind, TextFault};

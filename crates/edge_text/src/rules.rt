@@ -8,15 +8,16 @@ ghost use Rattle.case_model.specs.EntryView.{coefficients_of};
 ghost use Rattle.edge_text.specs.EntryReading.{IsEntryText};
 ghost use Rattle.edge_text.specs.Grammar.{Says, IsAlphaLine, IsNamesLine, IsWeightsLine, IsEdgeLine};
 ghost use Rattle.edge_text.specs.Faults.{IsAlphaFault, IsNamesFault, IsWeightsFault, IsEdgeFault};
-ghost use Rattle.edge_text.specs.View.{words_left, line_text, IsOnLine, IsNumeralFault, IsListFault, AreGiven, IsGivenFault, IsEntryFault, IsIndexOf, IsEdgeOf, IsEdgeOfFault};
+ghost use Rattle.text_lines.specs.Words.{words_of};
+ghost use Rattle.edge_text.specs.View.{IsOnLine, IsNumeralFault, IsListFault, AreGiven, IsGivenFault, IsEntryFault, IsIndexOf, IsEdgeOf, IsEdgeOfFault};
 
-use crate::cursor::{Line, Words};
-use crate::words::Ends;
+use crate::ends::Ends;
 use crate::{LineKind, TextFault, read_entry};
 use case_model::{DraftEdge, Entry, NameIndex};
 use field_core::{List, NoMemory, Text};
 use fraction::Fraction;
 use std::alloc::Global;
+use text_lines::{Line, Words};
 
 /// The value of a numeral on a line.
 #[tactic(auto, unfolding(crate::specs::Grammar::Says))]
@@ -26,17 +27,17 @@ fn number(line: &Line, word: &[u8]) -> Result<Fraction, TextFault>
 {
     match Fraction::parse(word) {
         Ok(value) => Ok(value),
-        Err(fault) => Err(line.fault(LineKind::Number(fault))),
+        Err(fault) => Err(TextFault::Line(line.number, LineKind::Number(fault))),
     }
 }
 
 /// The values of numerals on a line.
 fn numbers(alloc: Global, line: &Line, mut words: Words) -> Result<List<Fraction>, TextFault>
-    ensures found { IfOk result (λ xs. AllZip Says (words_left words.entry) (map terms_of xs)) }
-    ensures fault { IfErr result (IsOnLine line.now.number (IsListFault (words_left words.entry))) }
+    ensures found { IfOk result (λ xs. AllZip Says (words_of words.entry) (map terms_of xs)) }
+    ensures fault { IfErr result (IsOnLine line.now.number (IsListFault (words_of words.entry))) }
 {
     let mut values = List::new(alloc);
-    while let Some(word) = words.take() {
+    while let Some(word) = words.next() {
         values.push(number(line, word)?)?;
     }
     Ok(values)
@@ -44,59 +45,62 @@ fn numbers(alloc: Global, line: &Line, mut words: Words) -> Result<List<Fraction
 
 /// Copies of words.
 fn copies(alloc: Global, mut words: Words) -> Result<List<Text>, NoMemory>
-    ensures { IfOk result (λ copies. copies ≡ words_left words.entry) }
+    ensures { IfOk result (λ copies. copies ≡ words_of words.entry) }
 {
     let mut copies = List::new(alloc);
-    while let Some(word) = words.take() {
+    while let Some(word) = words.next() {
         copies.push(Text::copy(alloc, word)?)?;
     }
     Ok(copies)
 }
 
 /// The level, behind `alpha`.
+#[tactic(auto, using(text_lines::proofs::Keywords::keyword_found, text_lines::proofs::Keywords::keyword_missing, text_lines::proofs::Keywords::word_found, text_lines::proofs::Keywords::words_counted))]
 pub fn alpha(line: &Line) -> Result<Fraction, TextFault>
-    ensures found { IfOk result (λ x. IsAlphaLine (line_text line.now) (terms_of x)) }
-    ensures fault { IfErr result (IsOnLine line.now.number (IsAlphaFault (line_text line.now))) }
+    ensures found { IfOk result (λ x. IsAlphaLine line.now.text.now (terms_of x)) }
+    ensures fault { IfErr result (IsOnLine line.now.number (IsAlphaFault line.now.text.now)) }
 {
     let Some(words) = line.behind(b"alpha") else {
-        return Err(line.fault(LineKind::Unexpected));
+        return Err(TextFault::Line(line.number, LineKind::Unexpected));
     };
     let Some(numeral) = words.one() else {
-        return Err(line.fault(LineKind::WordCount));
+        return Err(TextFault::Line(line.number, LineKind::WordCount));
     };
     number(line, numeral)
 }
 
 /// The names, behind `hypotheses`.
+#[tactic(auto, using(text_lines::proofs::Keywords::keyword_found, text_lines::proofs::Keywords::keyword_missing))]
 pub fn names(alloc: Global, line: &Line) -> Result<List<Text>, TextFault>
-    ensures found { IfOk result (λ names. IsNamesLine (line_text line.now) names) }
-    ensures fault { IfErr result (IsOnLine line.now.number (IsNamesFault (line_text line.now))) }
+    ensures found { IfOk result (λ names. IsNamesLine line.now.text.now names) }
+    ensures fault { IfErr result (IsOnLine line.now.number (IsNamesFault line.now.text.now)) }
 {
     let Some(words) = line.behind(b"hypotheses") else {
-        return Err(line.fault(LineKind::Unexpected));
+        return Err(TextFault::Line(line.number, LineKind::Unexpected));
     };
     Ok(copies(alloc, words)?)
 }
 
 /// The weights, behind `weights`.
+#[tactic(auto, using(text_lines::proofs::Keywords::keyword_found, text_lines::proofs::Keywords::keyword_missing))]
 pub fn weights(alloc: Global, line: &Line) -> Result<List<Fraction>, TextFault>
-    ensures found { IfOk result (λ xs. IsWeightsLine (line_text line.now) (map terms_of xs)) }
-    ensures fault { IfErr result (IsOnLine line.now.number (IsWeightsFault (line_text line.now))) }
+    ensures found { IfOk result (λ xs. IsWeightsLine line.now.text.now (map terms_of xs)) }
+    ensures fault { IfErr result (IsOnLine line.now.number (IsWeightsFault line.now.text.now)) }
 {
     let Some(words) = line.behind(b"weights") else {
-        return Err(line.fault(LineKind::Unexpected));
+        return Err(TextFault::Line(line.number, LineKind::Unexpected));
     };
     numbers(alloc, line, words)
 }
 
 /// The p-values on a line, one or more.
 pub fn given(alloc: Global, line: &Line, words: Words) -> Result<List<Option<Fraction>>, TextFault>
-    ensures found { IfOk result (λ p. AreGiven (words_left words.entry) (map (option_map terms_of) p)) }
-    ensures fault { IfErr result (IsOnLine line.now.number (IsGivenFault (words_left words.entry))) }
+    ensures found { IfOk result (λ p. AreGiven (words_of words.entry) (map (option_map terms_of) p)) }
+    ensures fault { IfErr result (IsOnLine line.now.number (IsGivenFault (words_of words.entry))) }
 {
     let values = numbers(alloc, line, words)?;
     if values.as_slice().is_empty() {
-        return Err(line.fault(LineKind::WordCount));
+        return Err(TextFault::Line(line.number, LineKind::WordCount));
     }
     Ok(filled(alloc, values.as_slice())?)
 }
@@ -119,7 +123,7 @@ fn entry(line: &Line, expression: &[u8]) -> Result<Entry, TextFault>
 {
     match read_entry(expression) {
         Ok(entry) => Ok(entry),
-        Err(fault) => Err(line.fault(LineKind::Expr(fault))),
+        Err(fault) => Err(TextFault::Line(line.number, LineKind::Expr(fault))),
     }
 }
 
@@ -129,22 +133,23 @@ fn edge_of(line: &Line, index: &NameIndex, ends: Ends) -> Result<DraftEdge, Text
     ensures fault { IfErr result (IsOnLine line.now.number (λ kind. (names : Seq (Seq ℕ)) → IsIndexOf index.now names → IsEdgeOfFault names ends.entry.from.now ends.entry.to.now ends.entry.expression.now kind)) }
 {
     let (Some(from), Some(to)) = (index.position(ends.from), index.position(ends.to)) else {
-        return Err(line.fault(LineKind::UnknownName));
+        return Err(TextFault::Line(line.number, LineKind::UnknownName));
     };
     let entry = entry(line, ends.expression)?;
     Ok(DraftEdge { from, to, entry })
 }
 
 /// The edge behind `edge`.
+#[tactic(auto, using(text_lines::proofs::Keywords::keyword_missing))]
 pub fn edge(line: &Line, index: &NameIndex) -> Result<DraftEdge, TextFault>
-    ensures found { IfOk result (λ e. (names : Seq (Seq ℕ)) → IsIndexOf index.now names → IsEdgeLine names (line_text line.now) (edge_said e)) }
-    ensures fault { IfErr result (IsOnLine line.now.number (λ kind. (names : Seq (Seq ℕ)) → IsIndexOf index.now names → IsEdgeFault names (line_text line.now) kind)) }
+    ensures found { IfOk result (λ e. (names : Seq (Seq ℕ)) → IsIndexOf index.now names → IsEdgeLine names line.now.text.now (edge_said e)) }
+    ensures fault { IfErr result (IsOnLine line.now.number (λ kind. (names : Seq (Seq ℕ)) → IsIndexOf index.now names → IsEdgeFault names line.now.text.now kind)) }
 {
     let Some(words) = line.behind(b"edge") else {
-        return Err(line.fault(LineKind::Unexpected));
+        return Err(TextFault::Line(line.number, LineKind::Unexpected));
     };
-    let Some(ends) = words.ends() else {
-        return Err(line.fault(LineKind::WordCount));
+    let Some(ends) = Ends::of(words) else {
+        return Err(TextFault::Line(line.number, LineKind::WordCount));
     };
     edge_of(line, index, ends)
 }

@@ -1,3 +1,3 @@
 pub mod Cut
-pub mod Progress
+pub mod Keywords
 pub mod Spelt

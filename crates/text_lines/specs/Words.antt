@@ -1,7 +1,9 @@
 -- A line in words.
-use Rattle.std.specs.Prelude.{ℕ, zero, suc, ◌||◌, Bool, true, false, List, [], ◌∷◌, Option, Some, None, drop, ◌==◌, if◌then◌else◌}
+use Rattle.std.specs.Prelude.{◌≡◌, ℕ, zero, suc, ◌||◌, Bool, true, false, List, [], ◌∷◌, Option, Some, None, drop, ◌==◌, if◌then◌else◌}
 use Rattle.std.specs.List.{slice_split, filter, prefix_len, position_or_len}
 use Rattle.std.specs.Str.{bytes_eq}
+use Rattle.std.specs.Iterator.{YieldsFirstRef}
+use Rattle.std.specs.Borrow.{Bor}
 
 -- a space or a tab
 abbrev pub is_blank : ℕ → Bool
@@ -47,3 +49,8 @@ only_three (a ∷ []) = None
 only_three (a ∷ b ∷ []) = None
 only_three (a ∷ b ∷ c ∷ []) = Some (a, b, c)
 only_three (a ∷ b ∷ c ∷ d ∷ ws) = None
+
+-- The next word was taken, if there is one, and this is left of the line.
+pub record TakesWord (old : List ℕ) (result : Option (Bor (List ℕ))) (new : List ℕ) : Type 0 where
+  pub word : YieldsFirstRef words_of old result new
+  pub rest : new ≡ behind_word old

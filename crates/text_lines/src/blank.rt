@@ -3,7 +3,8 @@ ghost use Rattle.std.specs.Prelude.{◌≡◌, ◌≤◌, length};
 ghost use Rattle.std.specs.List.{prefix_len, position_or_len};
 ghost use Rattle.text_lines.specs.Words.{is_blank, after_blanks};
 
-fn is_blank(byte: u8) -> bool
+/// Whether a byte is a space or a tab.
+pub fn is_blank(byte: u8) -> bool
     ensures { result ≡ is_blank byte }
 {
     byte == b' ' || byte == b'\t'

@@ -7,6 +7,7 @@ mod line;
 mod lines;
 mod words;
 
+pub use blank::{after_blanks, is_blank};
 pub use line::Line;
 pub use lines::Lines;
 pub use words::Words;

@@ -1,10 +1,10 @@
 //! A text, line by line.
-ghost use Rattle.std.specs.Prelude.{◌≡◌, ◌+◌, ◌<◌, ◌≤◌, ◌^◌, [], ◌∷◌, length, MatchOption, IfNone};
+ghost use Rattle.std.specs.Prelude.{◌≡◌, ◌+◌, ◌<◌, ◌≤◌, ◌^◌, [], ◌∷◌, length, MatchOption};
 ghost use Rattle.std.specs.List.{position_or_len, before_first, after_first};
-ghost use Rattle.std.specs.Iterator.{YieldsFirstBy, item_count};
+ghost use Rattle.std.specs.Iterator.{item_count};
 ghost use Rattle.std.specs.Str.Lines.{strip_carriage_return};
 ghost use Rattle.text_lines.specs.Lines.{is_line_feed, is_skipped, lines_of, rows_of, end_of, Remainder, rows_left, end_at};
-ghost use Rattle.text_lines.specs.View.{row};
+ghost use Rattle.text_lines.specs.View.{TakesRow};
 
 use crate::Line;
 use crate::blank::after_blanks;
@@ -110,17 +110,13 @@ impl<'a> Lines<'a> {
 impl<'a> Iterator for Lines<'a> {
     type Item = Line<'a>;
 
-    ghost next_gives = { YieldsFirstBy row rows_left };
+    ghost next_gives = { TakesRow };
 
     ghost remaining = { item_count rows_left };
 
     /// The next line that isn't skipped.
     #[tactic(auto, using(crate::proofs::Cut::kept_skip, crate::proofs::Cut::kept_take, crate::proofs::Cut::kept_nil), unfolding(crate::specs::Lines::rows_left, crate::specs::Lines::end_at))]
-    fn next(&mut self) -> Option<Line<'a>>
-        ensures rows { YieldsFirstBy row rows_left self.old result self.new }
-        ensures end { end_at self.new ≡ end_at self.old }
-        ensures done { IfNone result (self.new.before + 1 ≡ end_at self.old) }
-    {
+    fn next(&mut self) -> Option<Line<'a>> {
         while let Some(text) = self.take_line() {
             if !is_skipped(text) {
                 return Some(Line {

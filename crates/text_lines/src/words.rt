@@ -1,8 +1,8 @@
 //! A line, word by word.
-ghost use Rattle.std.specs.Prelude.{◌≡◌, ℕ, List, IfSome};
+ghost use Rattle.std.specs.Prelude.{◌≡◌, ℕ, List};
 ghost use Rattle.std.specs.Option.{option_map};
-ghost use Rattle.std.specs.Iterator.{YieldsFirstRef, item_count};
-ghost use Rattle.text_lines.specs.Words.{words_of, behind_word, only_word, only_three};
+ghost use Rattle.std.specs.Iterator.{item_count};
+ghost use Rattle.text_lines.specs.Words.{words_of, TakesWord, only_word, only_three};
 
 use crate::blank::{after_blanks, word_len};
 use std::marker::Model;
@@ -62,16 +62,13 @@ impl<'a> Words<'a> {
 impl<'a> Iterator for Words<'a> {
     type Item = &'a [u8];
 
-    ghost next_gives = { YieldsFirstRef words_of };
+    ghost next_gives = { TakesWord };
 
     ghost remaining = { item_count words_of };
 
     /// The next word.
     #[tactic(auto, using(crate::proofs::Cut::words_end, crate::proofs::Cut::words_ended, crate::proofs::Cut::words_next), unfolding(crate::specs::Words::behind_word))]
-    fn next(&mut self) -> Option<&'a [u8]>
-        ensures word { YieldsFirstRef words_of self.old result self.new }
-        ensures rest { self.new ≡ behind_word self.old }
-    {
+    fn next(&mut self) -> Option<&'a [u8]> {
         let rest = after_blanks(self.rest);
         let (word, rest) = rest.split_at(word_len(rest));
         self.rest = rest;

@@ -1,9 +1,10 @@
 use Rattle.std.proofs.Common.{◌≡◌, map, subst, ◌∙◌}
 use Rattle.std.specs.Option.{option_map}
 use Rattle.fraction.specs.View.{terms_of}
-use Rattle.edge_text.specs.Lines.{end_of}
+use Rattle.text_lines.specs.Lines.{end_of}
 use Rattle.edge_text.specs.Faults.{Alpha, Names, POrWeights, Edges}
-use Rattle.edge_text.specs.View.{rows_left, end_at, IsFaultAt}
+use Rattle.text_lines.specs.Lines.{rows_left, end_at}
+use Rattle.edge_text.specs.View.{IsFaultAt}
 use Rattle.edge_text.proofs.Leads.{handed_on}
 use Rattle.edge_text.proofs.Documents.{behind_alpha, behind_names, behind_numbers}
 use Rattle.edge_text.proofs.document.draft.Goals as goal

@@ -1,5 +1,5 @@
 use Rattle.std.proofs.Common.{length}
-use Rattle.edge_text.specs.View.{rows_left}
+use Rattle.text_lines.specs.Lines.{rows_left}
 use Rattle.edge_text.proofs.EdgeLists.{EdgesRead}
 use Rattle.edge_text.proofs.document.edges.Given as goal
 
