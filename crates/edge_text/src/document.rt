@@ -99,7 +99,7 @@ fn edges(alloc: Global, lines: &mut Lines, names: &[Text]) -> Result<List<DraftE
 {
     let index = NameIndex::build(alloc, names)?;
     let mut edges = List::new(alloc);
-    while let Some(line) = lines.next() {
+    for line in lines {
         edges.push(rules::edge(&line, &index)?)?;
     }
     Ok(edges)

@@ -32,23 +32,23 @@ fn number(line: &Line, word: &[u8]) -> Result<Fraction, TextFault>
 }
 
 /// The values of numerals on a line.
-fn numbers(alloc: Global, line: &Line, mut words: Words) -> Result<List<Fraction>, TextFault>
+fn numbers(alloc: Global, line: &Line, words: Words) -> Result<List<Fraction>, TextFault>
     ensures found { IfOk result (λ xs. AllZip Says (words_of words.entry) (map terms_of xs)) }
     ensures fault { IfErr result (IsOnLine line.now.number (IsListFault (words_of words.entry))) }
 {
     let mut values = List::new(alloc);
-    while let Some(word) = words.next() {
+    for word in words {
         values.push(number(line, word)?)?;
     }
     Ok(values)
 }
 
 /// Copies of words.
-fn copies(alloc: Global, mut words: Words) -> Result<List<Text>, NoMemory>
+fn copies(alloc: Global, words: Words) -> Result<List<Text>, NoMemory>
     ensures { IfOk result (λ copies. copies ≡ words_of words.entry) }
 {
     let mut copies = List::new(alloc);
-    while let Some(word) = words.next() {
+    for word in words {
         copies.push(Text::copy(alloc, word)?)?;
     }
     Ok(copies)

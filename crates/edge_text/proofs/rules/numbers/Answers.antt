@@ -5,4 +5,4 @@ use Rattle.edge_text.proofs.Numerals.{all_read}
 use Rattle.edge_text.proofs.rules.numbers.Goals as goal
 
 pub returns-clause-found : goal.returns-clause-found
-returns-clause-found c = all_read (words_of c.args.words) (words_of c.loop-word.words) (map terms_of c.loop-word.values) c.in_default.ensures.steps.word.0 c.loop-word.invariant
+returns-clause-found c = all_read (words_of c.args.words) (words_of c.loop-word.word-iterator) (map terms_of c.loop-word.values) c.in-None.ensures.steps.word.0 c.loop-word.invariant
