@@ -10,7 +10,7 @@ use Rattle.edge_text.specs.declared.fault.LineKind.{LineKind}
 use Rattle.edge_text.specs.declared.fault.LineKind.TheVariants.{Unexpected, Ended, WordCount, UnknownName, Number, Expr}
 use Rattle.edge_text.specs.declared.fault.TextFault.{TextFault}
 use Rattle.text_lines.specs.Words.{words_of, behind_word, behind_words}
-use Rattle.edge_text.specs.EntryReading.{IsEntryText, IsExprFault}
+use Rattle.edge_expression.specs.EntryReading.{IsEntryText, IsExprFault}
 use Rattle.edge_text.specs.Grammar.{Words, HasEnds, IsEdgeLine}
 use Rattle.edge_text.specs.Faults.{IsEdgeFault}
 use Rattle.edge_text.specs.View.{HasThree, IsEdgeOf, IsEdgeOfFault, IsIndexOf, IsOnLine}

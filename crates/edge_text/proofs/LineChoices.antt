@@ -16,7 +16,7 @@ use Rattle.text_lines.specs.Lines.{Row, texts_in}
 use Rattle.text_lines.specs.Words.{words_of, behind_words}
 use Rattle.edge_text.specs.Grammar.{Words, Says, HasEnds}
 use Rattle.edge_text.specs.Faults.{IsOther, IsFirstRefused, Place, Alpha, Names, POrWeights, Weights, Edges, Stands, Lead, IsBad}
-use Rattle.edge_text.proofs.OneEntry.{entry_or_fault}
+use Rattle.edge_expression.proofs.OneEntry.{entry_or_fault}
 use Rattle.edge_text.proofs.LineWords.{heads}
 use Rattle.edge_text.proofs.OneFault.{IsFaultBy}
 

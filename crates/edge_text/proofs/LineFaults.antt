@@ -10,12 +10,12 @@ use Rattle.case_model.specs.Draft.{DraftEdgeContent}
 use Rattle.case_model.specs.Names.{position_of}
 use Rattle.edge_text.specs.declared.fault.LineKind.{LineKind}
 use Rattle.edge_text.specs.declared.fault.LineKind.TheVariants.{Unexpected, Ended, WordCount, UnknownName, Number, Expr}
-use Rattle.edge_text.specs.declared.expr_fault.ExprFault.{ExprFault}
+use Rattle.edge_expression.specs.declared.fault.ExprFault.{ExprFault}
 use Rattle.text_lines.specs.Words.{words_of, behind_words}
-use Rattle.edge_text.specs.EntryReading.{IsExprFault}
+use Rattle.edge_expression.specs.EntryReading.{IsExprFault}
 use Rattle.edge_text.specs.Grammar.{Words, Says, IsAlphaLine, IsNamesLine, IsNumbersLine, IsPLine, IsWeightsLine, HasEnds, IsEdgeLine}
 use Rattle.edge_text.specs.Faults.{IsOther, IsFirstRefused, IsAlphaFault, IsNamesFault, IsNumbersFault, IsPOrWeightsFault, IsUnknown, IsEdgeFault, Place, Alpha, Names, POrWeights, Weights, Edges, Stands, IsBad}
-use Rattle.edge_text.proofs.OneEntry.{one_expr_fault, entry_not_fault}
+use Rattle.edge_expression.proofs.OneEntry.{one_expr_fault, entry_not_fault}
 use Rattle.edge_text.proofs.LineWords.{tails, one_word, same_ends, keywords_differ, says_no_fault, no_values, refused_not_said, one_refused}
 
 -- ---- what may stand has no fault

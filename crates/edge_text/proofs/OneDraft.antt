@@ -7,7 +7,7 @@ use Rattle.case_model.specs.Draft.{DraftContent, DraftEdgeContent}
 use Rattle.case_model.specs.Names.{position_of}
 use Rattle.text_lines.specs.Words.{behind_words}
 use Rattle.edge_text.specs.Grammar.{Words, Says, IsAlphaLine, IsNamesLine, IsWeightsLine, IsEdgeLine, optional, GivesP, one_component, IsDocument}
-use Rattle.edge_text.proofs.OneEntry.{one_entry}
+use Rattle.edge_expression.proofs.OneEntry.{one_entry}
 use Rattle.edge_text.proofs.LineWords.{tails, one_word, same_ends, keywords_differ, one_saying, same_numbers}
 
 lines_heads : (x y : List ℕ) (xs ys : List (List ℕ)) → x ∷ xs ≡ y ∷ ys → x ≡ y

@@ -9,7 +9,7 @@ use Rattle.edge_text.specs.declared.fault.LineKind.{LineKind}
 use Rattle.edge_text.specs.declared.fault.LineKind.TheVariants.{Unexpected, Ended, WordCount, UnknownName, Number, Expr}
 use Rattle.text_lines.specs.Lines.{Row, rows_of, texts_in, end_of}
 use Rattle.text_lines.specs.Words.{words_of, behind_words}
-use Rattle.edge_text.specs.EntryReading.{IsExprFault}
+use Rattle.edge_expression.specs.EntryReading.{IsExprFault}
 use Rattle.edge_text.specs.Grammar.{Words, Says, IsAlphaLine, IsNamesLine, IsPLine, IsWeightsLine, HasEnds, IsEdgeLine}
 
 -- ---- what is wrong with a line

@@ -7,7 +7,7 @@ use Rattle.case_model.specs.Draft.{DraftContent, DraftComponentContent, DraftEdg
 use Rattle.case_model.specs.Names.{position_of}
 use Rattle.text_lines.specs.Lines.{rows_of, texts_in}
 use Rattle.text_lines.specs.Words.{words_of, behind_words}
-use Rattle.edge_text.specs.EntryReading.{IsEntryText}
+use Rattle.edge_expression.specs.EntryReading.{IsEntryText}
 
 -- the words of a line
 abbrev pub Words : Type 0

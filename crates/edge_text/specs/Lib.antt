@@ -1,11 +1,3 @@
-pub mod ByteMachine
-pub mod EntryValues
-pub mod Expressions
-pub mod CursorView
-pub mod EntryReading
-pub mod EntryTexts
-pub mod EntryView
-pub mod ExpressionStatements
 pub mod Faults
 pub mod Grammar
 pub mod Reading

@@ -13,7 +13,7 @@ use Rattle.edge_text.specs.declared.fault.TextFault.{TextFault}
 use Rattle.edge_text.specs.declared.fault.TextFault.TheVariants as faults
 use Rattle.text_lines.specs.Lines.{Row, lines_of, texts_in, kept_after}
 use Rattle.text_lines.specs.Words.{words_of}
-use Rattle.edge_text.specs.EntryReading.{IsEntryText, IsExprFault}
+use Rattle.edge_expression.specs.EntryReading.{IsEntryText, IsExprFault}
 use Rattle.edge_text.specs.Grammar.{Words, Says, IsWeightsLine, GivesP, optional}
 use Rattle.edge_text.specs.Faults.{Place, IsFirstRefused, IsUnknown, IsFaultFrom}
 

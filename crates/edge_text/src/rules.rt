@@ -5,7 +5,7 @@ ghost use Rattle.std.specs.Option.{option_map};
 ghost use Rattle.fraction.specs.View.{terms_of};
 ghost use Rattle.case_model.specs.DraftView.{edge_said};
 ghost use Rattle.case_model.specs.EntryView.{coefficients_of};
-ghost use Rattle.edge_text.specs.EntryReading.{IsEntryText};
+ghost use Rattle.edge_expression.specs.EntryReading.{IsEntryText};
 ghost use Rattle.edge_text.specs.Grammar.{Says, IsAlphaLine, IsNamesLine, IsWeightsLine, IsEdgeLine};
 ghost use Rattle.edge_text.specs.Faults.{IsAlphaFault, IsNamesFault, IsWeightsFault, IsEdgeFault};
 ghost use Rattle.text_lines.specs.Words.{words_of};
