@@ -3,7 +3,7 @@ use Rattle.std.proofs.Common.{◌≡◌, refl, sym, ap, ◌∙◌, ℕ, zero, su
 use Rattle.std.proofs.lemmas.Bool.{cases_lt}
 use Rattle.field_core.specs.Terms.{Terms}
 use Rattle.case_model.specs.Sums.{terms_at, zero_terms}
-use Rattle.case_model.specs.Entries.{is_zero_terms}
+use Rattle.fraction.specs.Tests.{is_zero}
 use Rattle.case_model.proofs.Places.{mapped_item}
 use Rattle.edge_expression.specs.declared.fault.ExprFault.{ExprFault}
 use Rattle.edge_expression.specs.declared.short.Short.{Short}
@@ -18,12 +18,12 @@ item_terms xs n x h e = mapped_item short_terms xs n x zero_terms h e
 
 -- ---- degrees
 
-pub degree_down : (p : ℕ) (x : List Terms) → 0 < p → is_zero_terms (terms_at x p) ≡ true → degree_within (p - 1) x ≡ degree_within p x
+pub degree_down : (p : ℕ) (x : List Terms) → 0 < p → is_zero (terms_at x p) ≡ true → degree_within (p - 1) x ≡ degree_within p x
 unfolding degree_within
 degree_down zero x h e = absurd (omega arith)
 degree_down (suc n) x h e = let same : suc n - 1 ≡ n = omega arith in ap (λ k. degree_within k x) same ∙ sym (ap (λ b. cond b (degree_within n x) (suc n)) e)
 
-pub degree_here : (p : ℕ) (x : List Terms) → is_zero_terms (terms_at x p) ≡ false → degree_within p x ≡ p
+pub degree_here : (p : ℕ) (x : List Terms) → is_zero (terms_at x p) ≡ false → degree_within p x ≡ p
 unfolding degree_within
 degree_here zero x e = refl
 degree_here (suc n) x e = ap (λ b. cond b (degree_within n x) (suc n)) e

@@ -1,6 +1,7 @@
 -- What a decimal is worth, by what is read of it.
 use Rattle.std.proofs.Common.{◌≡◌, ℕ, suc, ◌*◌, ◌^◌, ◌<◌, ◌++◌, Bool, true, false, List, [], length, ℤ, pos, negsuc, ◌-ℤ◌, None, Ok, Err, refl, sym, ap, subst, ◌∙◌, arith}
 use Rattle.std.specs.Str.Parse.{digits_value}
+use Rattle.std.proofs.lemmas.Int.{ints}
 use Rattle.field_core.specs.Terms.{Terms, IsReduced}
 use Rattle.fraction.specs.declared.fault.NumberFault.{NumberFault}
 use Rattle.fraction.specs.declared.fault.NumberFault.TheVariants.{Empty, BadByte, ZeroDenominator, TooManyDigits}
@@ -16,7 +17,7 @@ use Rattle.edge_expression.specs.EntryValues.{short_of, short, plain_entry, has_
 use Rattle.edge_expression.specs.declared.byte_machine.Part.TheVariants as parts
 use Rattle.edge_expression.proofs.DecimalTexts.{takes, takes_nil, decimal_taken}
 use Rattle.edge_expression.proofs.DecimalLimits.{decides_too_many}
-use Rattle.edge_expression.proofs.LowestTerms.{lowest_is}
+use Rattle.edge_expression.proofs.LowestTerms.{lowest_any}
 
 -- a decimal is a numeral
 numeral : (d : Decimal) → IsNumeral (body_text d.body)
@@ -51,7 +52,7 @@ lowest_by : (t v : Terms) → IsOver v → IsReduced t → Same t v → lowest_t
 lowest_by t v o r s =
     let num : v.num ≡ pos o.over = ap (λ (x : Terms). x.num) o.is in
     let den : v.den ≡ pos o.under = ap (λ (x : Terms). x.den) o.is in
-    rw (num, den) (lowest_is t o.over o.under r o.some (subst (Same t) o.is s))
+    rw (num, den) (lowest_any t (pos o.over) (pos o.under) r (let p = o.some in λ e. omega (arith, ints)) (subst (Same t) o.is s))
 
 false_by : (b : Bool) → ¬ (b ≡ true) → b ≡ false
 false_by true h = absurd (h refl)

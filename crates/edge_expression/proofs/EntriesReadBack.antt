@@ -12,12 +12,13 @@ use Rattle.fraction.proofs.LowestTerms.{sign_is}
 use Rattle.fraction.specs.Numeral.{with_sign}
 use Rattle.fraction.specs.Spelling.{spelling, IsSpellingByte}
 use Rattle.fraction.proofs.ReadBack.{spelling_bytes}
-use Rattle.case_model.specs.Entries.{no_edge, is_zero_terms}
+use Rattle.fraction.specs.Tests.{is_zero, is_one, absolute}
+use Rattle.edge_expression.specs.EntryValues.{zero_coefficients}
 use Rattle.case_model.specs.Sums.{terms_at, zero_terms}
 use Rattle.edge_expression.specs.Expressions.{Sign, Plus, Minus, Expression, Sum, MoreTerms, NoTerm, AndTerm, Term, Token, SignToken, expression_tokens, terms_tokens, term_tokens, token_text, IsSpelt, Spells}
 use Rattle.field_core.specs.Steps.{◌>>=◌}
 use Rattle.edge_expression.specs.EntryValues.{joined, sign_or_plus, value, with_terms, term_value}
-use Rattle.edge_expression.specs.EntryTexts.{without_sign, is_one, power_text, factor_text, joint_text, joined_term, term_text, terms_text, are_zero_below, entry_text}
+use Rattle.edge_expression.specs.EntryTexts.{power_text, factor_text, joint_text, joined_term, term_text, terms_text, are_zero_below, entry_text}
 use Rattle.edge_expression.specs.EntryReading.{open_with, open_behind, IsShallow, IsEntryText}
 use Rattle.edge_expression.specs.ExpressionStatements.{IsShortTerms}
 use Rattle.edge_expression.proofs.UnitOperations.{zero_short, zero_is}
@@ -72,7 +73,7 @@ upto_skip e p z = same_tabled (upto e p) (λ k. if k == p then terms_at e p else
 
 -- ---- a coefficient without its sign
 
-size_of : (t : Terms) → IsShortTerms t → over_of (unsigned_abs t.num) (unsigned_abs t.den) ≡ without_sign t
+size_of : (t : Terms) → IsShortTerms t → over_of (unsigned_abs t.num) (unsigned_abs t.den) ≡ absolute t
 size_of t s = let p = s.0.positive in let d : pos (unsigned_abs t.den) ≡ t.den = omega (arith, ints) in ap (λ z. record { num = pos (unsigned_abs t.num); den = z }) d
 
 size_short : (t : Terms) → IsShortTerms t → IsShortTerms (over_of (unsigned_abs t.num) (unsigned_abs t.den))
@@ -94,7 +95,7 @@ num_within t s = leb-true (unsigned_abs t.num) (10 ^ 18) (both_left (nat_le (uns
 den_within : (t : Terms) → IsShortTerms t → unsigned_abs t.den ≤ 10 ^ 18
 den_within t s = leb-true (unsigned_abs t.den) (10 ^ 18) (both_right (nat_le (unsigned_abs t.num) (10 ^ 18)) (nat_le (unsigned_abs t.den) (10 ^ 18)) s.1)
 
-coefficient_term : (p : ℕ) (t : Terms) → p ≤ 4 → IsShortTerms t → IsTerm p (without_sign t)
+coefficient_term : (p : ℕ) (t : Terms) → p ≤ 4 → IsShortTerms t → IsTerm p (absolute t)
 coefficient_term p t h s = subst (IsTerm p) (size_of t s) (term_of p (unsigned_abs t.num) (unsigned_abs t.den) h (num_within t s) (den_within t s) (size_short t s))
 
 -- ---- a term more
@@ -109,14 +110,14 @@ below_is z h = sign_is z ∙ ap (λ b. with_sign b (unsigned_abs z)) h
 above_is : (z : ℤ) → is_negative z ≡ false → z ≡ pos (unsigned_abs z)
 above_is z h = sign_is z ∙ ap (λ b. with_sign b (unsigned_abs z)) h
 
-without_is : (t : Terms) → is_negative t.num ≡ false → without_sign t ≡ t
+without_is : (t : Terms) → is_negative t.num ≡ false → absolute t ≡ t
 without_is t h = ap (λ z. record { num = z; den = t.den }) (sym (above_is t.num h))
 
-join_by : (e : List Terms) (p : ℕ) (b : Bool) → is_negative (terms_at e p).num ≡ b → AreShort e → joined (sign_if b) (tabled (upto e p)) (tabled (single p (without_sign (terms_at e p)))) ≡ Ok (tabled (upto e (suc p)))
+join_by : (e : List Terms) (p : ℕ) (b : Bool) → is_negative (terms_at e p).num ≡ b → AreShort e → joined (sign_if b) (tabled (upto e p)) (tabled (single p (absolute (terms_at e p)))) ≡ Ok (tabled (upto e (suc p)))
 unfolding AreShort sign_if
 join_by e p true n s =
     let t : Terms = terms_at e p in
-    joined_minus (upto e p) p (without_sign t) t (λ k. upto_short e p k s) (s p) (below_is t.num n) refl (upto_here e p) ∙ ap Ok (upto_next e p)
+    joined_minus (upto e p) p (absolute t) t (λ k. upto_short e p k s) (s p) (below_is t.num n) refl (upto_here e p) ∙ ap Ok (upto_next e p)
 join_by e p false n s =
     let t : Terms = terms_at e p in
     ap (λ u. joined Plus (tabled (upto e p)) (tabled (single p u))) (without_is t n) ∙ joined_plus (upto e p) p t (λ k. upto_short e p k s) (s p) (upto_here e p) ∙ ap Ok (upto_next e p)
@@ -132,7 +133,7 @@ none_text : (f : Bool) (p : ℕ) (e : List Terms) → terms_text f p zero e ≡ 
 unfolding terms_text
 none_text f p e = refl
 
-next_text : (f : Bool) (p n : ℕ) (e : List Terms) (b : Bool) → is_zero_terms (terms_at e p) ≡ b → terms_text f p (suc n) e ≡ cond b (terms_text f (suc p) n e) (joined_term f p (terms_at e p) ++ terms_text false (suc p) n e)
+next_text : (f : Bool) (p n : ℕ) (e : List Terms) (b : Bool) → is_zero (terms_at e p) ≡ b → terms_text f p (suc n) e ≡ cond b (terms_text f (suc p) n e) (joined_term f p (terms_at e p) ++ terms_text false (suc p) n e)
 unfolding terms_text
 next_text f p n e b h = ap (λ c. cond c (terms_text f (suc p) n e) (joined_term f p (terms_at e p) ++ terms_text false (suc p) n e)) h
 
@@ -152,29 +153,29 @@ unfolding sign_if
 sign_text_is true = refl
 sign_text_is false = refl
 
-joined_is : (f : Bool) (p : ℕ) (t : Terms) (b : Bool) → is_negative t.num ≡ b → joined_term f p t ≡ joint_text f b ++ term_text p (without_sign t)
+joined_is : (f : Bool) (p : ℕ) (t : Terms) (b : Bool) → is_negative t.num ≡ b → joined_term f p t ≡ joint_text f b ++ term_text p (absolute t)
 unfolding joined_term
-joined_is f p t b h = ap (λ c. joint_text f c ++ term_text p (without_sign t)) h
+joined_is f p t b h = ap (λ c. joint_text f c ++ term_text p (absolute t)) h
 
 lead : (k : Token) (ks : List Token) (text x : List ℕ) → text ≡ token_text k ++ x → IsSpelt ks x → IsSpelt (k ∷ ks) text
 lead k ks text x e s = record { blanks = []; rest = x; are_blanks = tt; spelt = e; is_rest = s }
 
-piece_text : (f : Bool) (p n : ℕ) (e : List Terms) (b : Bool) → is_zero_terms (terms_at e p) ≡ false → is_negative (terms_at e p).num ≡ b → terms_text f p (suc n) e ≡ joint_text f b ++ (term_text p (without_sign (terms_at e p)) ++ terms_text false (suc p) n e)
+piece_text : (f : Bool) (p n : ℕ) (e : List Terms) (b : Bool) → is_zero (terms_at e p) ≡ false → is_negative (terms_at e p).num ≡ b → terms_text f p (suc n) e ≡ joint_text f b ++ (term_text p (absolute (terms_at e p)) ++ terms_text false (suc p) n e)
 piece_text f p n e b z h =
-    next_text f p n e false z ∙ ap (λ (y : List ℕ). y ++ terms_text false (suc p) n e) (joined_is f p (terms_at e p) b h) ∙ append_assoc (joint_text f b) (term_text p (without_sign (terms_at e p))) (terms_text false (suc p) n e)
+    next_text f p n e false z ∙ ap (λ (y : List ℕ). y ++ terms_text false (suc p) n e) (joined_is f p (terms_at e p) b h) ∙ append_assoc (joint_text f b) (term_text p (absolute (terms_at e p))) (terms_text false (suc p) n e)
 
-more_term : (e : List Terms) (p n : ℕ) (b : Bool) → AreShort e → p ≤ 4 → is_zero_terms (terms_at e p) ≡ false → is_negative (terms_at e p).num ≡ b → IsMore e (suc p) n → IsMore e p (suc n)
+more_term : (e : List Terms) (p n : ℕ) (b : Bool) → AreShort e → p ≤ 4 → is_zero (terms_at e p) ≡ false → is_negative (terms_at e p).num ≡ b → IsMore e (suc p) n → IsMore e p (suc n)
 unfolding AreShort
 more_term e p n b s h z neg m =
     let t = coefficient_term p (terms_at e p) h (s p) in
     let rest : List ℕ = terms_text false (suc p) n e in
     record {
       terms = AndTerm (sign_if b) t.term m.terms;
-      spelt = lead (SignToken (sign_if b)) (term_tokens t.term (terms_tokens m.terms [])) (terms_text false p (suc n) e) (term_text p (without_sign (terms_at e p)) ++ rest) (piece_text false p n e b z neg ∙ ap (λ (y : List ℕ). y ++ (term_text p (without_sign (terms_at e p)) ++ rest)) (sign_text_is b)) (t.spelt (terms_tokens m.terms []) rest m.spelt);
+      spelt = lead (SignToken (sign_if b)) (term_tokens t.term (terms_tokens m.terms [])) (terms_text false p (suc n) e) (term_text p (absolute (terms_at e p)) ++ rest) (piece_text false p n e b z neg ∙ ap (λ (y : List ℕ). y ++ (term_text p (absolute (terms_at e p)) ++ rest)) (sign_text_is b)) (t.spelt (terms_tokens m.terms []) rest m.spelt);
       worth = and_more (tabled (upto e p)) (sign_if b) t.term m.terms ∙ rw (t.worth, join_by e p b neg s) m.worth;
     }
 
-skipped : (e : List Terms) (p n : ℕ) → AreShort e → is_zero_terms (terms_at e p) ≡ true → IsMore e (suc p) n → IsMore e p (suc n)
+skipped : (e : List Terms) (p n : ℕ) → AreShort e → is_zero (terms_at e p) ≡ true → IsMore e (suc p) n → IsMore e p (suc n)
 unfolding AreShort
 skipped e p n s z m =
     let none : terms_at e p ≡ zero_terms = zero_is (terms_at e p) (s p).0 z in
@@ -184,7 +185,7 @@ skipped e p n s z m =
       worth = ap (λ v. with_terms v m.terms) (upto_skip e p none) ∙ m.worth;
     }
 
-more_by : (e : List Terms) (p n : ℕ) (b : Bool) → AreShort e → p ≤ 4 → is_zero_terms (terms_at e p) ≡ b → IsMore e (suc p) n → IsMore e p (suc n)
+more_by : (e : List Terms) (p n : ℕ) (b : Bool) → AreShort e → p ≤ 4 → is_zero (terms_at e p) ≡ b → IsMore e (suc p) n → IsMore e p (suc n)
 more_by e p n true s h z m = skipped e p n s z m
 more_by e p n false s h z m = more_term e p n (is_negative (terms_at e p).num) s h z refl m
 
@@ -192,7 +193,7 @@ more : (e : List Terms) (n p : ℕ) → AreShort e → p + n ≡ 5 → IsMore e 
 more e zero p s h =
     let last : p ≡ 5 = omega (arith, h) in
     record { terms = NoTerm; spelt = subst (IsSpelt []) (sym (none_text false p e)) tt; worth = no_more (tabled (upto e p)) ∙ ap (λ q. Ok (tabled (upto e q))) last }
-more e (suc n) p s h = more_by e p n (is_zero_terms (terms_at e p)) s (omega (arith, h)) refl (more e n (suc p) s (omega (arith, h)))
+more e (suc n) p s h = more_by e p n (is_zero (terms_at e p)) s (omega (arith, h)) refl (more e n (suc p) s (omega (arith, h)))
 
 -- ---- the whole text
 
@@ -215,22 +216,22 @@ unfolding first_sign
 first_spelt true t ks x s ts e = subst (λ k. IsSpelt (SignToken Minus ∷ term_tokens t k) (45 ∷ x)) e (lead (SignToken Minus) (term_tokens t ks) (45 ∷ x) x refl s)
 first_spelt false t ks x s ts e = subst (λ k. IsSpelt (term_tokens t k) x) e s
 
-sum_is : (sign : Option Sign) (t : Term) (ts : MoreTerms) → value (Sum sign t ts) ≡ (term_value t >>= λ x. joined (sign_or_plus sign) no_edge x >>= λ s. with_terms s ts)
+sum_is : (sign : Option Sign) (t : Term) (ts : MoreTerms) → value (Sum sign t ts) ≡ (term_value t >>= λ x. joined (sign_or_plus sign) zero_coefficients x >>= λ s. with_terms s ts)
 unfolding value
 sum_is sign t ts = refl
 
-first_term : (e : List Terms) (p n : ℕ) (b : Bool) → AreShort e → p ≤ 4 → is_zero_terms (terms_at e p) ≡ false → is_negative (terms_at e p).num ≡ b → no_edge ≡ tabled (upto e p) → IsMore e (suc p) n → IsWhole e (terms_text true p (suc n) e) (tabled (upto e 5))
+first_term : (e : List Terms) (p n : ℕ) (b : Bool) → AreShort e → p ≤ 4 → is_zero (terms_at e p) ≡ false → is_negative (terms_at e p).num ≡ b → zero_coefficients ≡ tabled (upto e p) → IsMore e (suc p) n → IsWhole e (terms_text true p (suc n) e) (tabled (upto e 5))
 unfolding AreShort Spells
 first_term e p n b s h z neg start m =
     let t = coefficient_term p (terms_at e p) h (s p) in
     let rest : List ℕ = terms_text false (suc p) n e in
     record {
       expression = Sum (first_sign b) t.term m.terms;
-      spells = subst (IsSpelt (expression_tokens (Sum (first_sign b) t.term m.terms) [])) (sym (piece_text true p n e b z neg)) (first_spelt b t.term (terms_tokens m.terms []) (term_text p (without_sign (terms_at e p)) ++ rest) (t.spelt (terms_tokens m.terms []) rest m.spelt) m.terms refl);
+      spells = subst (IsSpelt (expression_tokens (Sum (first_sign b) t.term m.terms) [])) (sym (piece_text true p n e b z neg)) (first_spelt b t.term (terms_tokens m.terms []) (term_text p (absolute (terms_at e p)) ++ rest) (t.spelt (terms_tokens m.terms []) rest m.spelt) m.terms refl);
       worth = sum_is (first_sign b) t.term m.terms ∙ rw (t.worth, first_sign_is b, start, join_by e p b neg s) m.worth;
     }
 
-pub at_first : (e : List Terms) (p n : ℕ) (b : Bool) → AreShort e → p + suc n ≡ 5 → is_zero_terms (terms_at e p) ≡ b → no_edge ≡ tabled (upto e p) → (no_edge ≡ tabled (upto e (suc p)) → IsWhole e (terms_text true (suc p) n e) (tabled (upto e 5))) → IsWhole e (terms_text true p (suc n) e) (tabled (upto e 5))
+pub at_first : (e : List Terms) (p n : ℕ) (b : Bool) → AreShort e → p + suc n ≡ 5 → is_zero (terms_at e p) ≡ b → zero_coefficients ≡ tabled (upto e p) → (zero_coefficients ≡ tabled (upto e (suc p)) → IsWhole e (terms_text true (suc p) n e) (tabled (upto e 5))) → IsWhole e (terms_text true p (suc n) e) (tabled (upto e 5))
 unfolding AreShort
 at_first e p n true s h z start r =
     let none : terms_at e p ≡ zero_terms = zero_is (terms_at e p) (s p).0 z in
@@ -239,21 +240,21 @@ at_first e p n false s h z start r = first_term e p n (is_negative (terms_at e p
 
 -- ---- an entry without terms
 
-zero_upto : (e : List Terms) (k : ℕ) → no_edge ≡ tabled (upto e 5) → k < 5 → terms_at e k ≡ zero_terms
+zero_upto : (e : List Terms) (k : ℕ) → zero_coefficients ≡ tabled (upto e 5) → k < 5 → terms_at e k ≡ zero_terms
 zero_upto e k h l = sym (ap (λ b. cond b (terms_at e k) zero_terms) (lt-ltb k 5 l)) ∙ sym (at_tabled (upto e 5) k l) ∙ ap (λ x. terms_at x k) (sym h) ∙ at_tabled (λ j. zero_terms) k l
 
-all_zero : (e : List Terms) → no_edge ≡ tabled (upto e 5) → are_zero_below 5 e ≡ true
+all_zero : (e : List Terms) → zero_coefficients ≡ tabled (upto e 5) → are_zero_below 5 e ≡ true
 unfolding are_zero_below
 all_zero e h = rw (zero_upto e 0 h (omega arith), zero_upto e 1 h (omega arith), zero_upto e 2 h (omega arith), zero_upto e 3 h (omega arith), zero_upto e 4 h (omega arith)) refl
 
 no_true : false ≡ true → ⊥
 no_true e = cc
 
-whole_from : (e : List Terms) (n p : ℕ) → AreShort e → p + n ≡ 5 → are_zero_below 5 e ≡ false → no_edge ≡ tabled (upto e p) → IsWhole e (terms_text true p n e) (tabled (upto e 5))
+whole_from : (e : List Terms) (n p : ℕ) → AreShort e → p + n ≡ 5 → are_zero_below 5 e ≡ false → zero_coefficients ≡ tabled (upto e p) → IsWhole e (terms_text true p n e) (tabled (upto e 5))
 whole_from e zero p s h some start =
     let last : p ≡ 5 = omega (arith, h) in
     absurd (no_true (sym some ∙ all_zero e (start ∙ ap (λ q. tabled (upto e q)) last)))
-whole_from e (suc n) p s h some start = at_first e p n (is_zero_terms (terms_at e p)) s h refl start (λ next. whole_from e n (suc p) s (omega (arith, h)) some next)
+whole_from e (suc n) p s h some start = at_first e p n (is_zero (terms_at e p)) s h refl start (λ next. whole_from e n (suc p) s (omega (arith, h)) some next)
 
 nought_text : term_text 0 (over_of 0 1) ≡ codes "0"
 unfolding term_text spelling
@@ -262,21 +263,21 @@ nought_text = ap (λ (x : List ℕ). x ++ []) (decimal_digit 0 (omega arith))
 nought_term : IsTerm 0 (over_of 0 1)
 nought_term = term_of 0 0 1 (omega arith) (omega arith) (omega arith) zero_short
 
-nought_sum : joined Plus no_edge (tabled (single 0 zero_terms)) ≡ Ok no_edge
+nought_sum : joined Plus zero_coefficients (tabled (single 0 zero_terms)) ≡ Ok zero_coefficients
 nought_sum = joined_plus (λ k. zero_terms) 0 zero_terms (λ k. zero_short) zero_short refl
 
-nought : (e : List Terms) → IsWhole e (codes "0") no_edge
+nought : (e : List Terms) → IsWhole e (codes "0") zero_coefficients
 unfolding Spells
 nought e =
     let t = nought_term in
     record {
       expression = Sum None t.term NoTerm;
       spells = subst (IsSpelt (term_tokens t.term [])) (ap (λ (x : List ℕ). x ++ []) nought_text) (t.spelt [] [] tt);
-      worth = sum_is None t.term NoTerm ∙ rw (t.worth, nought_sum) (no_more no_edge);
+      worth = sum_is None t.term NoTerm ∙ rw (t.worth, nought_sum) (no_more zero_coefficients);
     }
 
 -- an entry whose coefficients are all 0
-zero_entry : (e : List Terms) → AreShort e → are_zero_below 5 e ≡ true → no_edge ≡ tabled (upto e 5)
+zero_entry : (e : List Terms) → AreShort e → are_zero_below 5 e ≡ true → zero_coefficients ≡ tabled (upto e 5)
 unfolding AreShort
 zero_entry e s h = same_tabled (λ k. zero_terms) (upto e 5) (λ k l. sym (ap (λ b. cond b (terms_at e k) zero_terms) (lt-ltb k 5 l) ∙ zero_is (terms_at e k) (s k).0 (zero_at 5 k e l h)))
 
@@ -285,7 +286,7 @@ unfolding entry_text
 text_if e b h = ap (λ c. cond c (codes "0") (terms_text true 0 5 e)) h
 
 whole_by : (e : List Terms) (b : Bool) → AreShort e → are_zero_below 5 e ≡ b → IsWhole e (entry_text e) (tabled (upto e 5))
-whole_by e true s h = subst (λ v. IsWhole e (entry_text e) v) (zero_entry e s h) (subst (λ x. IsWhole e x no_edge) (sym (text_if e true h)) (nought e))
+whole_by e true s h = subst (λ v. IsWhole e (entry_text e) v) (zero_entry e s h) (subst (λ x. IsWhole e x zero_coefficients) (sym (text_if e true h)) (nought e))
 whole_by e false s h = subst (λ x. IsWhole e x (tabled (upto e 5))) (sym (text_if e false h)) (whole_from e 5 0 s (omega arith) h refl)
 
 -- ---- no parenthesis
@@ -366,13 +367,13 @@ joint_open false false = (λ e. omega (arith, e), tt)
 
 joined_open : (f : Bool) (p : ℕ) (t : Terms) → IsShortTerms t → NoOpen (joined_term f p t)
 unfolding joined_term
-joined_open f p t s = no_open_both (joint_text f (is_negative t.num)) (term_text p (without_sign t)) (joint_open f (is_negative t.num)) (term_open p (without_sign t) (subst IsReduced (size_of t s) (size_short t s).0))
+joined_open f p t s = no_open_both (joint_text f (is_negative t.num)) (term_text p (absolute t)) (joint_open f (is_negative t.num)) (term_open p (absolute t) (subst IsReduced (size_of t s) (size_short t s).0))
 
 terms_open : (f : Bool) (p n : ℕ) (e : List Terms) → AreShort e → NoOpen (terms_text f p n e)
 unfolding terms_text AreShort NoOpen
 terms_open f p zero e s = tt
 terms_open f p (suc n) e s =
-    open_if (is_zero_terms (terms_at e p)) (terms_text f (suc p) n e) (joined_term f p (terms_at e p) ++ terms_text false (suc p) n e) (terms_open f (suc p) n e s) (no_open_both (joined_term f p (terms_at e p)) (terms_text false (suc p) n e) (joined_open f p (terms_at e p) (s p)) (terms_open false (suc p) n e s))
+    open_if (is_zero (terms_at e p)) (terms_text f (suc p) n e) (joined_term f p (terms_at e p) ++ terms_text false (suc p) n e) (terms_open f (suc p) n e s) (no_open_both (joined_term f p (terms_at e p)) (terms_text false (suc p) n e) (joined_open f p (terms_at e p) (s p)) (terms_open false (suc p) n e s))
 
 entry_open : (e : List Terms) → AreShort e → NoOpen (entry_text e)
 unfolding entry_text NoOpen

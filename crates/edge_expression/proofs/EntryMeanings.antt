@@ -3,8 +3,9 @@ use Rattle.std.proofs.Common.{◌≡◌, ◌≢◌, ℕ, zero, suc, ◌+◌, ◌
 use Rattle.std.specs.Prelude.{nat_lt}
 use Rattle.std.proofs.lemmas.Bool.{ltb-false, cases_lt}
 use Rattle.std.proofs.lemmas.Int.{ints}
-use Rattle.field_core.specs.Terms.{Terms}
-use Rattle.field_core.specs.Kind.{is_zero_integer}
+use Rattle.std.specs.Ordering.{int_eq}
+use Rattle.std.proofs.lemmas.Bool.Decides.{Decides-int_eq}
+use Rattle.field_core.specs.Terms.{Terms, IsReduced}
 use Rattle.field_core.specs.Number.{Number as Value}
 use Rattle.field_core.specs.Epsilon.{epsilon}
 use Rattle.field_core.specs.Arithmetic.{number_zero, number_one, ◌+ε◌, ◌-ε◌, ◌*ε◌, ◌/ε◌}
@@ -13,9 +14,12 @@ use Rattle.field_core.specs.Fractions.{fraction}
 use Rattle.field_core.specs.Laws.FractionLaws.{fraction-zero}
 use Rattle.field_core.specs.Laws.Effective.{positive_nonzero}
 use Rattle.field_core.specs.Laws.Order.{number_laws}
-use Rattle.fraction.specs.Laws.PlainLaws.{plain_is_exact, integer_zero}
+use Rattle.fraction.specs.Laws.PlainLaws.{plain_is_exact}
 use Rattle.fraction.specs.Numeral.{value_of}
-use Rattle.case_model.specs.Entries.{no_edge, is_zero_terms, power_of_epsilon, entry_value}
+use Rattle.fraction.specs.Plain.{zero_reduced, one_reduced}
+use Rattle.case_model.specs.Entries.{power_of_epsilon, entry_value}
+use Rattle.fraction.specs.Tests.{is_zero}
+use Rattle.edge_expression.specs.EntryValues.{zero_coefficients}
 use Rattle.case_model.specs.Sums.{number, number_at, terms_at, zero_terms}
 use Rattle.case_model.proofs.EntryOrder.{sum_of_five}
 use Rattle.edge_expression.specs.declared.fault.ExprFault.{ExprFault}
@@ -86,9 +90,9 @@ past_none a b c d e f g h i j x e1 e2 e3 e4 e5 e6 e7 e8 e9 e10 = rw (e1, e2, e3,
 
 -- ---- entries by their coefficients
 
--- an entry with positive denominators that is this number
+-- an entry of coefficients in lowest terms that is this number
 pub record IsMeant (x : List Terms) (v : Value) : Type 0 where
-  pub positive : (k : ℕ) → pos 0 <ℤ (terms_at x k).den
+  pub reduced : (k : ℕ) → IsReduced (terms_at x k)
   pub is : entry_value x ≡ v
 
 value_by_powers : (x : List Terms) → entry_value x ≡ by_powers (number_at x 0) (number_at x 1) (number_at x 2) (number_at x 3) (number_at x 4) epsilon
@@ -96,23 +100,23 @@ unfolding entry_value power_of_epsilon by_powers five
 value_by_powers x = sum_of_five (λ k. number_at x k *ε power_of_epsilon k)
 
 as_meant : (x : List Terms) (v w : Value) → v ≡ w → IsMeant x v → IsMeant x w
-as_meant x v w e h = record { positive = h.positive; is = h.is ∙ e }
+as_meant x v w e h = record { reduced = h.reduced; is = h.is ∙ e }
 
-positive_by : (a b c d e : Terms) → pos 0 <ℤ a.den → pos 0 <ℤ b.den → pos 0 <ℤ c.den → pos 0 <ℤ d.den → pos 0 <ℤ e.den → (k : ℕ) → pos 0 <ℤ (terms_at (a ∷ b ∷ c ∷ d ∷ e ∷ []) k).den
+reduced_by : (a b c d e : Terms) → IsReduced a → IsReduced b → IsReduced c → IsReduced d → IsReduced e → (k : ℕ) → IsReduced (terms_at (a ∷ b ∷ c ∷ d ∷ e ∷ []) k)
 unfolding terms_at
-positive_by a b c d e p q r s t zero = p
-positive_by a b c d e p q r s t (suc zero) = q
-positive_by a b c d e p q r s t (suc (suc zero)) = r
-positive_by a b c d e p q r s t (suc (suc (suc zero))) = s
-positive_by a b c d e p q r s t (suc (suc (suc (suc zero)))) = t
-positive_by a b c d e p q r s t (suc (suc (suc (suc (suc k))))) = omega (arith, ints)
+reduced_by a b c d e p q r s t zero = p
+reduced_by a b c d e p q r s t (suc zero) = q
+reduced_by a b c d e p q r s t (suc (suc zero)) = r
+reduced_by a b c d e p q r s t (suc (suc (suc zero))) = s
+reduced_by a b c d e p q r s t (suc (suc (suc (suc zero)))) = t
+reduced_by a b c d e p q r s t (suc (suc (suc (suc (suc k))))) = zero_reduced
 
 value_of_list : (a b c d e : Terms) → entry_value (a ∷ b ∷ c ∷ d ∷ e ∷ []) ≡ by_powers (number a) (number b) (number c) (number d) (number e) epsilon
 unfolding terms_at
 value_of_list a b c d e = value_by_powers (a ∷ b ∷ c ∷ d ∷ e ∷ [])
 
 of_five : (a b c d e : Terms) (u v w x y : Value) → IsNumber a u → IsNumber b v → IsNumber c w → IsNumber d x → IsNumber e y → IsMeant (a ∷ b ∷ c ∷ d ∷ e ∷ []) (by_powers u v w x y epsilon)
-of_five a b c d e u v w x y p q r s t = record { positive = positive_by a b c d e p.positive q.positive r.positive s.positive t.positive; is = value_of_list a b c d e ∙ rw (p.is, q.is, r.is, s.is, t.is) refl }
+of_five a b c d e u v w x y p q r s t = record { reduced = reduced_by a b c d e p.reduced q.reduced r.reduced s.reduced t.reduced; is = value_of_list a b c d e ∙ rw (p.is, q.is, r.is, s.is, t.is) refl }
 
 -- ---- results
 
@@ -161,21 +165,21 @@ constant_powers : (a x : Value) → by_powers a number_zero number_zero number_z
 unfolding by_powers
 constant_powers a x = five_first a (x *ε number_one) (x *ε (x *ε number_one)) (x *ε (x *ε (x *ε number_one))) (x *ε (x *ε (x *ε (x *ε number_one))))
 
-sum_at : (x y : List Terms) (k : ℕ) (t : Terms) → ((j : ℕ) → pos 0 <ℤ (terms_at x j).den) → ((j : ℕ) → pos 0 <ℤ (terms_at y j).den) → sum (terms_at x k) (terms_at y k) ≡ Ok t → IsNumber t (number_at x k +ε number_at y k)
-sum_at x y k t p q e = sum_number (terms_at x k) (terms_at y k) t (p k) (q k) e
+sum_at : (x y : List Terms) (k : ℕ) (t : Terms) → ((j : ℕ) → IsReduced (terms_at x j)) → ((j : ℕ) → IsReduced (terms_at y j)) → sum (terms_at x k) (terms_at y k) ≡ Ok t → IsNumber t (number_at x k +ε number_at y k)
+sum_at x y k t p q e = sum_number (terms_at x k) (terms_at y k) t (p k).positive (q k).positive e
 
-difference_at : (x y : List Terms) (k : ℕ) (t : Terms) → ((j : ℕ) → pos 0 <ℤ (terms_at x j).den) → ((j : ℕ) → pos 0 <ℤ (terms_at y j).den) → difference (terms_at x k) (terms_at y k) ≡ Ok t → IsNumber t (number_at x k -ε number_at y k)
-difference_at x y k t p q e = difference_number (terms_at x k) (terms_at y k) t (p k) (q k) e
+difference_at : (x y : List Terms) (k : ℕ) (t : Terms) → ((j : ℕ) → IsReduced (terms_at x j)) → ((j : ℕ) → IsReduced (terms_at y j)) → difference (terms_at x k) (terms_at y k) ≡ Ok t → IsNumber t (number_at x k -ε number_at y k)
+difference_at x y k t p q e = difference_number (terms_at x k) (terms_at y k) t (p k).positive (q k).positive e
 
 joined_meant : (sign : Sign) (x y z : List Terms) (v w : Value) → IsMeant x v → IsMeant y w → joined sign x y ≡ Ok z → IsMeant z (moved sign v w)
 unfolding joined
 joined_meant Plus x y z v w p q h =
     let m = made _ z h in
-    let n = of_five m.a m.b m.c m.d m.e _ _ _ _ _ (sum_at x y 0 m.a p.positive q.positive m.at_0) (sum_at x y 1 m.b p.positive q.positive m.at_1) (sum_at x y 2 m.c p.positive q.positive m.at_2) (sum_at x y 3 m.d p.positive q.positive m.at_3) (sum_at x y 4 m.e p.positive q.positive m.at_4) in
+    let n = of_five m.a m.b m.c m.d m.e _ _ _ _ _ (sum_at x y 0 m.a p.reduced q.reduced m.at_0) (sum_at x y 1 m.b p.reduced q.reduced m.at_1) (sum_at x y 2 m.c p.reduced q.reduced m.at_2) (sum_at x y 3 m.d p.reduced q.reduced m.at_3) (sum_at x y 4 m.e p.reduced q.reduced m.at_4) in
     subst (λ l. IsMeant l (v +ε w)) m.is (as_meant _ _ (v +ε w) (plus_powers _ _ _ _ _ _ _ _ _ _ epsilon ∙ ap₂ (λ a b. a +ε b) (sym (value_by_powers x) ∙ p.is) (sym (value_by_powers y) ∙ q.is)) n)
 joined_meant Minus x y z v w p q h =
     let m = made _ z h in
-    let n = of_five m.a m.b m.c m.d m.e _ _ _ _ _ (difference_at x y 0 m.a p.positive q.positive m.at_0) (difference_at x y 1 m.b p.positive q.positive m.at_1) (difference_at x y 2 m.c p.positive q.positive m.at_2) (difference_at x y 3 m.d p.positive q.positive m.at_3) (difference_at x y 4 m.e p.positive q.positive m.at_4) in
+    let n = of_five m.a m.b m.c m.d m.e _ _ _ _ _ (difference_at x y 0 m.a p.reduced q.reduced m.at_0) (difference_at x y 1 m.b p.reduced q.reduced m.at_1) (difference_at x y 2 m.c p.reduced q.reduced m.at_2) (difference_at x y 3 m.d p.reduced q.reduced m.at_3) (difference_at x y 4 m.e p.reduced q.reduced m.at_4) in
     subst (λ l. IsMeant l (v -ε w)) m.is (as_meant _ _ (v -ε w) (minus_powers _ _ _ _ _ _ _ _ _ _ epsilon ∙ ap₂ (λ a b. a -ε b) (sym (value_by_powers x) ∙ p.is) (sym (value_by_powers y) ∙ q.is)) n)
 
 -- ---- coefficients above the degree
@@ -184,21 +188,21 @@ zero_by : (b : Bool) (n k m : ℕ) → cond b m (suc n) < k → k ≤ suc n → 
 zero_by true n k m h l = (refl, h)
 zero_by false n k m h l = absurd (omega (arith, h, l))
 
-above : (n k : ℕ) (x : List Terms) → degree_within n x < k → k ≤ n → is_zero_terms (terms_at x k) ≡ true
+above : (n k : ℕ) (x : List Terms) → degree_within n x < k → k ≤ n → is_zero (terms_at x k) ≡ true
 unfolding degree_within
 above zero k x h l = absurd (omega (arith, h, l))
 above (suc n) k x h l =
-    let z = zero_by (is_zero_terms (terms_at x (suc n))) n k (degree_within n x) h l in
+    let z = zero_by (is_zero (terms_at x (suc n))) n k (degree_within n x) h l in
     elim (cases_lt k (suc n)) [
       | inl lt ↦ above n k x z.1 (omega (arith, lt))
-      | inr ge ↦ let same : k ≡ suc n = omega (arith, l, ge) in ap (λ j. is_zero_terms (terms_at x j)) same ∙ z.0
+      | inr ge ↦ let same : k ≡ suc n = omega (arith, l, ge) in ap (λ j. is_zero (terms_at x j)) same ∙ z.0
     ]
 
-number_none : (t : Terms) → pos 0 <ℤ t.den → is_zero_terms t ≡ true → number t ≡ number_zero
-number_none t p h = ap (λ n. fraction n t.den) (integer_zero t.num h) ∙ fraction-zero t.den (positive_nonzero t.den p)
+number_none : (t : Terms) → pos 0 <ℤ t.den → is_zero t ≡ true → number t ≡ number_zero
+number_none t p h = ap (λ n. fraction n t.den) ((Decides-int_eq t.num (pos 0)).0 h) ∙ fraction-zero t.den (positive_nonzero t.den p)
 
-none_above : (x : List Terms) (k : ℕ) → ((j : ℕ) → pos 0 <ℤ (terms_at x j).den) → degree x < k → k ≤ 4 → number_at x k ≡ number_zero
-none_above x k p h l = number_none (terms_at x k) (p k) (above 4 k x h l)
+none_above : (x : List Terms) (k : ℕ) → ((j : ℕ) → IsReduced (terms_at x j)) → degree x < k → k ≤ 4 → number_at x k ≡ number_zero
+none_above x k p h l = number_none (terms_at x k) (p k).positive (above 4 k x h l)
 
 zero_times : (x : Value) → number_zero *ε x ≡ number_zero
 zero_times x = simp number_laws
@@ -206,7 +210,7 @@ zero_times x = simp number_laws
 times_zero : (x : Value) → x *ε number_zero ≡ number_zero
 times_zero x = simp number_laws
 
-pair_none : (x y : List Terms) (i j : ℕ) → ((k : ℕ) → pos 0 <ℤ (terms_at x k).den) → ((k : ℕ) → pos 0 <ℤ (terms_at y k).den) → degree x + degree y ≤ 4 → 4 < i + j → i ≤ 4 → j ≤ 4 → number_at x i *ε number_at y j ≡ number_zero
+pair_none : (x y : List Terms) (i j : ℕ) → ((k : ℕ) → IsReduced (terms_at x k)) → ((k : ℕ) → IsReduced (terms_at y k)) → degree x + degree y ≤ 4 → 4 < i + j → i ≤ 4 → j ≤ 4 → number_at x i *ε number_at y j ≡ number_zero
 pair_none x y i j p q d s h k = elim (cases_lt (degree x) i) [
   | inl lt ↦ ap (λ v. v *ε number_at y j) (none_above x i p lt h) ∙ zero_times (number_at y j)
   | inr ge ↦ ap (λ v. number_at x i *ε v) (none_above y j q (omega (arith, d, s, ge)) k) ∙ times_zero (number_at x i)
@@ -218,18 +222,18 @@ same_terms : (x y : Terms) → Path (Result Terms ExprFault) (Ok x) (Ok y) → x
 same_terms x y h = cc
 
 zero_is : IsNumber zero_terms number_zero
-zero_is = record { positive = omega (arith, ints); is = fraction-zero (pos 1) (λ e. omega (arith, ints)) }
+zero_is = record { reduced = zero_reduced; is = fraction-zero (pos 1) (λ e. omega (arith, ints)) }
 
-pub products_at : (x y : List Terms) (k n : ℕ) (t : Terms) → ((j : ℕ) → pos 0 <ℤ (terms_at x j).den) → ((j : ℕ) → pos 0 <ℤ (terms_at y j).den) → product_sum x y k n ≡ Ok t → IsNumber t (products (number_at x) (number_at y) k n)
+pub products_at : (x y : List Terms) (k n : ℕ) (t : Terms) → ((j : ℕ) → IsReduced (terms_at x j)) → ((j : ℕ) → IsReduced (terms_at y j)) → product_sum x y k n ≡ Ok t → IsNumber t (products (number_at x) (number_at y) k n)
 unfolding product_sum products
 products_at x y k zero t p q h = subst (λ u. IsNumber u number_zero) (same_terms zero_terms t h) zero_is
 products_at x y k (suc n) t p q h =
     let s = bind_ok (product_sum x y k n) _ t h in
     let u = bind_ok (product (terms_at x n) (terms_at y (k - n))) _ t s.1.1 in
     let before = products_at x y k n s.0 p q s.1.0 in
-    let next = product_number (terms_at x n) (terms_at y (k - n)) u.0 (p n) (q (k - n)) u.1.0 in
-    let both = sum_number s.0 u.0 t before.positive next.positive u.1.1 in
-    record { positive = both.positive; is = both.is ∙ ap₂ (λ a b. a +ε b) before.is next.is }
+    let next = product_number (terms_at x n) (terms_at y (k - n)) u.0 (p n).positive (q (k - n)).positive u.1.0 in
+    let both = sum_number s.0 u.0 t before.reduced.positive next.reduced.positive u.1.1 in
+    record { reduced = both.reduced; is = both.is ∙ ap₂ (λ a b. a +ε b) before.is next.is }
 
 all_are_low : (f g : ℕ → Value) (x : Value) → all_products f g x ≡ low_products (f 0) (f 1) (f 2) (f 3) (f 4) (g 0) (g 1) (g 2) (g 3) (g 4) x
 unfolding all_products products low_products by_powers five
@@ -238,7 +242,7 @@ all_are_low f g x = refl
 add_none : (x : Value) → x +ε number_zero ≡ x
 add_none x = simp number_laws
 
-all_of : (x y : List Terms) → ((j : ℕ) → pos 0 <ℤ (terms_at x j).den) → ((j : ℕ) → pos 0 <ℤ (terms_at y j).den) → degree x + degree y ≤ 4 → all_products (number_at x) (number_at y) epsilon ≡ entry_value x *ε entry_value y
+all_of : (x y : List Terms) → ((j : ℕ) → IsReduced (terms_at x j)) → ((j : ℕ) → IsReduced (terms_at y j)) → degree x + degree y ≤ 4 → all_products (number_at x) (number_at y) epsilon ≡ entry_value x *ε entry_value y
 all_of x y p q d =
     let a = number_at x 0 in
     let b = number_at x 1 in
@@ -265,8 +269,8 @@ unfolding times all_products
 times_meant x y z v w p q h =
     let l = low_degree (nat_lt 4 (degree x + degree y)) (degree x + degree y) (coefficients (λ k. product_sum x y k (suc k))) z refl h in
     let m = made _ z l.1 in
-    let n = of_five m.a m.b m.c m.d m.e _ _ _ _ _ (products_at x y 0 1 m.a p.positive q.positive m.at_0) (products_at x y 1 2 m.b p.positive q.positive m.at_1) (products_at x y 2 3 m.c p.positive q.positive m.at_2) (products_at x y 3 4 m.d p.positive q.positive m.at_3) (products_at x y 4 5 m.e p.positive q.positive m.at_4) in
-    subst (λ t. IsMeant t (v *ε w)) m.is (as_meant _ _ (v *ε w) (all_of x y p.positive q.positive l.0 ∙ ap₂ (λ a b. a *ε b) p.is q.is) n)
+    let n = of_five m.a m.b m.c m.d m.e _ _ _ _ _ (products_at x y 0 1 m.a p.reduced q.reduced m.at_0) (products_at x y 1 2 m.b p.reduced q.reduced m.at_1) (products_at x y 2 3 m.c p.reduced q.reduced m.at_2) (products_at x y 3 4 m.d p.reduced q.reduced m.at_3) (products_at x y 4 5 m.e p.reduced q.reduced m.at_4) in
+    subst (λ t. IsMeant t (v *ε w)) m.is (as_meant _ _ (v *ε w) (all_of x y p.reduced q.reduced l.0 ∙ ap₂ (λ a b. a *ε b) p.is q.is) n)
 
 -- ---- quotients
 
@@ -275,26 +279,24 @@ number_divisor true c n r z e h = absurd cc
 number_divisor false true n r z e h = absurd cc
 number_divisor false false n r z e h = (ltb-false 0 n e, (refl, h))
 
-divisor_is : (y : List Terms) → ((j : ℕ) → pos 0 <ℤ (terms_at y j).den) → degree y ≤ 0 → entry_value y ≡ number_at y 0
+divisor_is : (y : List Terms) → ((j : ℕ) → IsReduced (terms_at y j)) → degree y ≤ 0 → entry_value y ≡ number_at y 0
 divisor_is y q d =
     value_by_powers y ∙ rw (none_above y 1 q (omega (arith, d)) (omega arith), none_above y 2 q (omega (arith, d)) (omega arith), none_above y 3 q (omega (arith, d)) (omega arith), none_above y 4 q (omega (arith, d)) (omega arith)) (constant_powers (number_at y 0) epsilon)
 
-some_number : (z : ℤ) → is_zero_integer z ≡ false → z ≢ pos 0
-some_number (pos zero) h e = absurd cc
-some_number (pos (suc n)) h e = absurd cc
-some_number (negsuc n) h e = absurd cc
+some_number : (z : ℤ) → int_eq z (pos 0) ≡ false → z ≢ pos 0
+some_number z h e = let k : int_eq z (pos 0) ≡ true = (Decides-int_eq z (pos 0)).1 e in cc
 
-quotient_at : (x y : List Terms) (k : ℕ) (t : Terms) → ((j : ℕ) → pos 0 <ℤ (terms_at x j).den) → ((j : ℕ) → pos 0 <ℤ (terms_at y j).den) → is_zero_terms (terms_at y 0) ≡ false → quotient (terms_at x k) (terms_at y 0) ≡ Ok t → IsNumber t (number_at x k /ε number_at y 0)
-quotient_at x y k t p q s e = quotient_number (terms_at x k) (terms_at y 0) t (p k) (q 0) (some_number (terms_at y 0).num s) e
+quotient_at : (x y : List Terms) (k : ℕ) (t : Terms) → ((j : ℕ) → IsReduced (terms_at x j)) → ((j : ℕ) → IsReduced (terms_at y j)) → is_zero (terms_at y 0) ≡ false → quotient (terms_at x k) (terms_at y 0) ≡ Ok t → IsNumber t (number_at x k /ε number_at y 0)
+quotient_at x y k t p q s e = quotient_number (terms_at x k) (terms_at y 0) t (p k).positive (q 0).positive (some_number (terms_at y 0).num s) e
 
 over_meant : (x y z : List Terms) (v w : Value) → IsMeant x v → IsMeant y w → over x y ≡ Ok z → IsMeant z (v /ε w)
 unfolding over
 over_meant x y z v w p q h =
-    let l = number_divisor (nat_lt 0 (degree y)) (is_zero_terms (terms_at y 0)) (degree y) (coefficients (λ k. quotient (terms_at x k) (terms_at y 0))) z refl h in
+    let l = number_divisor (nat_lt 0 (degree y)) (is_zero (terms_at y 0)) (degree y) (coefficients (λ k. quotient (terms_at x k) (terms_at y 0))) z refl h in
     let m = made _ z l.1.1 in
     let s = l.1.0 in
-    let n = of_five m.a m.b m.c m.d m.e _ _ _ _ _ (quotient_at x y 0 m.a p.positive q.positive s m.at_0) (quotient_at x y 1 m.b p.positive q.positive s m.at_1) (quotient_at x y 2 m.c p.positive q.positive s m.at_2) (quotient_at x y 3 m.d p.positive q.positive s m.at_3) (quotient_at x y 4 m.e p.positive q.positive s m.at_4) in
-    subst (λ t. IsMeant t (v /ε w)) m.is (as_meant _ _ (v /ε w) (over_powers _ _ _ _ _ (number_at y 0) epsilon ∙ ap₂ (λ a b. a /ε b) (sym (value_by_powers x) ∙ p.is) (sym (divisor_is y q.positive l.0) ∙ q.is)) n)
+    let n = of_five m.a m.b m.c m.d m.e _ _ _ _ _ (quotient_at x y 0 m.a p.reduced q.reduced s m.at_0) (quotient_at x y 1 m.b p.reduced q.reduced s m.at_1) (quotient_at x y 2 m.c p.reduced q.reduced s m.at_2) (quotient_at x y 3 m.d p.reduced q.reduced s m.at_3) (quotient_at x y 4 m.e p.reduced q.reduced s m.at_4) in
+    subst (λ t. IsMeant t (v /ε w)) m.is (as_meant _ _ (v /ε w) (over_powers _ _ _ _ _ (number_at y 0) epsilon ∙ ap₂ (λ a b. a /ε b) (sym (value_by_powers x) ∙ p.is) (sym (divisor_is y q.reduced l.0) ∙ q.is)) n)
 
 -- ---- literals
 
@@ -317,9 +319,9 @@ decimal_meant d x h =
 
 one_is : IsNumber (record { num = pos 1; den = pos 1 }) number_one
 unfolding stored_value
-one_is = record { positive = omega (arith, ints); is = plain_is_exact.one_value }
+one_is = record { reduced = one_reduced; is = plain_is_exact.one_value }
 
-zero_entry : IsMeant no_edge number_zero
+zero_entry : IsMeant zero_coefficients number_zero
 zero_entry = plain_meant zero_terms number_zero zero_is
 
 epsilon_0 : (x : Value) → by_powers number_one number_zero number_zero number_zero number_zero x ≡ number_one
@@ -364,8 +366,8 @@ mutual
   expression_meant : (e : Expression) (x : List Terms) → value e ≡ Ok x → IsMeant x (meaning e)
   expression_meant (Sum sign first others) x h =
       let t = bind_ok (term_value first) _ x h in
-      let s = bind_ok (joined (sign_or_plus sign) no_edge t.0) _ x t.1.1 in
-      terms_meant others s.0 (moved (sign_or_plus sign) number_zero (term_meaning first)) x (joined_meant (sign_or_plus sign) no_edge t.0 s.0 number_zero (term_meaning first) zero_entry (term_meant first t.0 t.1.0) s.1.0) s.1.1
+      let s = bind_ok (joined (sign_or_plus sign) zero_coefficients t.0) _ x t.1.1 in
+      terms_meant others s.0 (moved (sign_or_plus sign) number_zero (term_meaning first)) x (joined_meant (sign_or_plus sign) zero_coefficients t.0 s.0 number_zero (term_meaning first) zero_entry (term_meant first t.0 t.1.0) s.1.0) s.1.1
 
   terms_meant : (ts : MoreTerms) (s : List Terms) (v : Value) (x : List Terms) → IsMeant s v → with_terms s ts ≡ Ok x → IsMeant x (and_terms v ts)
   terms_meant NoTerm s v x m h = subst (λ l. IsMeant l v) (same_ok s x h) m

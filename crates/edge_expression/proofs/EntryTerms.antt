@@ -15,11 +15,15 @@ use Rattle.field_core.specs.Terms.{Terms, IsReduced}
 use Rattle.fraction.specs.Numeral.{AreDigits, Plain, body_text, IsNumeralOf}
 use Rattle.fraction.specs.Spelling.{spelling}
 use Rattle.fraction.proofs.ReadBack.{read_back}
-use Rattle.case_model.specs.Draft.{is_short}
+use Rattle.edge_expression.specs.EntryValues.{is_short}
 use Rattle.edge_expression.specs.Expressions.{Decimal, Power, Term, Product, MoreFactors, NoFactor, Times, Over, Factor, Number, Other, Further, Epsilon, Token, DecimalToken, WordToken, CaretToken, PowerToken, TimesToken, OverToken, term_tokens, factors_tokens, factor_tokens, token_text, IsSpelt}
 use Rattle.field_core.specs.Steps.{◌>>=◌}
 use Rattle.edge_expression.specs.EntryValues.{plain_entry, short_of, times, over, decimal_value, power_value, epsilon_value, term_value, with_factors, factor_value}
-use Rattle.edge_expression.specs.EntryTexts.{is_one, power_text, factor_text, term_text}
+use Rattle.std.specs.Ordering.{int_eq}
+use Rattle.std.proofs.lemmas.Bool.Decides.{Decides-int_eq}
+use Rattle.case_model.proofs.Holding.{both}
+use Rattle.fraction.specs.Tests.{is_one}
+use Rattle.edge_expression.specs.EntryTexts.{power_text, factor_text, term_text}
 use Rattle.edge_expression.specs.ExpressionStatements.{IsShortTerms}
 use Rattle.edge_expression.proofs.DecimalValues.{decimal_found}
 use Rattle.edge_expression.proofs.UnitOperations.{one_terms}
@@ -217,13 +221,10 @@ power_term_text : (p : ℕ) (t : Terms) → 0 < p → term_text p t ≡ factor_t
 unfolding term_text
 power_term_text p t h = let e : eqb p 0 ≡ false = grind (arith, nat_tests) in ap (λ b. cond b (spelling t) (factor_text t ++ power_text p)) e
 
-ones_by : (m d : ℕ) (a b : Bool) → eqb m 1 ≡ a → eqb d 1 ≡ b → (a && b) ≡ true → over_of m d ≡ one_terms
-ones_by m d true true e f h = ap₂ (λ x y. over_of x y) (eqb-true m 1 e) (eqb-true d 1 f)
-ones_by m d true false e f h = absurd cc
-ones_by m d false b e f h = absurd cc
-
 both_ones : (m d : ℕ) → is_one (over_of m d) ≡ true → over_of m d ≡ one_terms
-both_ones m d h = ones_by m d (eqb m 1) (eqb d 1) refl refl h
+both_ones m d h =
+    let b = both (int_eq (pos m) (pos 1)) (int_eq (pos d) (pos 1)) h in
+    ap₂ (λ n k. record { num = n; den = k }) ((Decides-int_eq (pos m) (pos 1)).0 b.left) ((Decides-int_eq (pos d) (pos 1)).0 b.right)
 
 unit_term : (p m d : ℕ) → 0 < p → p ≤ 4 → is_one (over_of m d) ≡ true → IsTerm p (over_of m d)
 unit_term p m d some h one =

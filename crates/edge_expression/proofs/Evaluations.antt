@@ -5,7 +5,7 @@ use Rattle.std.specs.Option.{unwrap_or}
 use Rattle.edge_expression.specs.declared.polynomial.Operation.TheVariants as operations
 use Rattle.std.specs.Borrow.{Bor}
 use Rattle.field_core.specs.Terms.{Terms}
-use Rattle.case_model.specs.Entries.{no_edge}
+use Rattle.edge_expression.specs.EntryValues.{zero_coefficients}
 use Rattle.edge_expression.specs.declared.fault.ExprFault.{ExprFault}
 use Rattle.edge_expression.specs.declared.polynomial.Polynomial.{Polynomial}
 use Rattle.edge_expression.specs.declared.polynomial.Operation.{Operation}
@@ -70,26 +70,26 @@ by_sign : (op : Operation) (sign : Sign) (x y : List Terms) (r : Result (List Te
 by_sign op sign x y r e f = sym (f ∙ ap (λ o. applied o x y) e ∙ sign_applied sign x y)
 
 -- the first term
-pub first_goes : (taken : Option Operation) (entry mid rest : List ℕ) (p : Polynomial) (s : List Terms) → SignTaken taken entry mid → ProductGives mid (Ok p) rest → Ok s ≡ applied (first_operation taken) no_edge (polynomial_terms p) → SumGoes entry rest s
+pub first_goes : (taken : Option Operation) (entry mid rest : List ℕ) (p : Polynomial) (s : List Terms) → SignTaken taken entry mid → ProductGives mid (Ok p) rest → Ok s ≡ applied (first_operation taken) zero_coefficients (polynomial_terms p) → SumGoes entry rest s
 unfolding SumGoes ProductGives value
 first_goes taken entry mid rest p s h gives a (Sum sign first others) more ends t =
     let x = first_sign taken sign first (terms_tokens others more) entry mid h t in
     let g = gives first (terms_tokens others more) (terms_end others more ends) x.1 in
-    record { others = others; spelt = g.1 refl; worth_is = sum_on (term_value first) (sign_or_plus sign) no_edge (polynomial_terms p) s others g.0 (by_sign (first_operation taken) (sign_or_plus sign) no_edge (polynomial_terms p) (Ok s) x.0 a) }
+    record { others = others; spelt = g.1 refl; worth_is = sum_on (term_value first) (sign_or_plus sign) zero_coefficients (polynomial_terms p) s others g.0 (by_sign (first_operation taken) (sign_or_plus sign) zero_coefficients (polynomial_terms p) (Ok s) x.0 a) }
 
-pub first_refused : (taken : Option Operation) (entry mid rest new : List ℕ) (p : Polynomial) (f : ExprFault) (r : Result Polynomial ExprFault) → r ≡ Err f → SignTaken taken entry mid → ProductGives mid (Ok p) rest → Err f ≡ applied (first_operation taken) no_edge (polynomial_terms p) → SumGives entry r new
+pub first_refused : (taken : Option Operation) (entry mid rest new : List ℕ) (p : Polynomial) (f : ExprFault) (r : Result Polynomial ExprFault) → r ≡ Err f → SignTaken taken entry mid → ProductGives mid (Ok p) rest → Err f ≡ applied (first_operation taken) zero_coefficients (polynomial_terms p) → SumGives entry r new
 unfolding SumGives ProductGives value
 first_refused taken entry mid rest new p f r is h gives a (Sum sign first others) more ends t =
     let x = first_sign taken sign first (terms_tokens others more) entry mid h t in
     let g = gives first (terms_tokens others more) (terms_end others more ends) x.1 in
-    err_gives f new more _ r is (sum_off (term_value first) (sign_or_plus sign) no_edge (polynomial_terms p) others f g.0 (by_sign (first_operation taken) (sign_or_plus sign) no_edge (polynomial_terms p) (Err f) x.0 a))
+    err_gives f new more _ r is (sum_off (term_value first) (sign_or_plus sign) zero_coefficients (polynomial_terms p) others f g.0 (by_sign (first_operation taken) (sign_or_plus sign) zero_coefficients (polynomial_terms p) (Err f) x.0 a))
 
 pub first_fails : (taken : Option Operation) (entry mid rest new : List ℕ) (f : ExprFault) (r : Result Polynomial ExprFault) → r ≡ Err f → SignTaken taken entry mid → ProductGives mid (Err f) rest → SumGives entry r new
 unfolding SumGives ProductGives value
 first_fails taken entry mid rest new f r is h gives (Sum sign first others) more ends t =
     let x = first_sign taken sign first (terms_tokens others more) entry mid h t in
     let g = gives first (terms_tokens others more) (terms_end others more ends) x.1 in
-    err_gives f new more _ r is (sum_stop (term_value first) (sign_or_plus sign) no_edge others f g.0)
+    err_gives f new more _ r is (sum_stop (term_value first) (sign_or_plus sign) zero_coefficients others f g.0)
 
 -- a further term
 with_next : (sum : List Terms) (sign : Sign) (term : Term) (others : MoreTerms) → with_terms sum (AndTerm sign term others) ≡ (term_value term >>= λ x. joined sign sum x >>= λ longer. with_terms longer others)
@@ -268,7 +268,7 @@ unwrapped None = refl
 unwrapped (Some op) = refl
 
 -- what is made of 0 and the first term
-pub applied_first : (taken : Option Operation) (op : Operation) (z x : List Terms) (r : Result (List Terms) ExprFault) → op ≡ unwrap_or taken operations.Add → z ≡ no_edge → r ≡ applied op z x → r ≡ applied (first_operation taken) no_edge x
+pub applied_first : (taken : Option Operation) (op : Operation) (z x : List Terms) (r : Result (List Terms) ExprFault) → op ≡ unwrap_or taken operations.Add → z ≡ zero_coefficients → r ≡ applied op z x → r ≡ applied (first_operation taken) zero_coefficients x
 applied_first taken op z x r e f g = g ∙ ap (λ o. applied o z x) (e ∙ unwrapped taken) ∙ ap (λ y. applied (first_operation taken) y x) f
 
 -- what a text is worth that spells an expression

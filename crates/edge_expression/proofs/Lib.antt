@@ -19,7 +19,7 @@ pub mod ReadEntries
 pub mod ReadExpressions
 pub mod ScannedTexts
 pub mod ShortNumbers
-pub mod ShortProducts
+pub mod ShortOperations
 pub mod SpeltTokens
 pub mod TakenTokens
 pub mod UnitEntries

@@ -7,7 +7,7 @@ use Rattle.std.proofs.lemmas.Bool.Decides.{nat_tests}
 use Rattle.field_core.specs.Terms.{Terms}
 use Rattle.fraction.specs.Numeral.{body_text}
 use Rattle.fraction.proofs.Unique.{body_unique}
-use Rattle.case_model.specs.Entries.{no_edge}
+use Rattle.edge_expression.specs.EntryValues.{zero_coefficients}
 use Rattle.text_lines.specs.Words.{after_blanks}
 use Rattle.edge_expression.specs.declared.fault.ExprFault.{ExprFault}
 use Rattle.edge_expression.specs.Expressions.{Decimal, Power, Sign, Plus, Minus, Expression, Sum, MoreTerms, NoTerm, AndTerm, Term, Product, MoreFactors, NoFactor, Times, Over, Beside, Factor, Number, Other, Further, Epsilon, Parens, Token, DecimalToken, WordToken, CaretToken, PowerToken, SignToken, TimesToken, OverToken, OpenToken, CloseToken, sign_tokens, power_tokens, expression_tokens, terms_tokens, term_tokens, factors_tokens, factor_tokens, further_tokens, sign_byte, token_text, IsSpelt, Spells}
@@ -236,7 +236,7 @@ SameFactors fs gs = (x : List Terms) → with_factors x fs ≡ with_factors x gs
 
 expression_by : (a b : Option Sign) (x y : Term) (ts us : MoreTerms) → sign_or_plus a ≡ sign_or_plus b → term_value x ≡ term_value y → SameTerms ts us → value (Sum a x ts) ≡ value (Sum b y us)
 unfolding value SameTerms
-expression_by a b x y ts us h e k = sums_one (term_value x) (term_value y) (sign_or_plus a) (sign_or_plus b) no_edge (λ z. with_terms z ts) (λ z. with_terms z us) e h k
+expression_by a b x y ts us h e k = sums_one (term_value x) (term_value y) (sign_or_plus a) (sign_or_plus b) zero_coefficients (λ z. with_terms z ts) (λ z. with_terms z us) e h k
 
 terms_by : (a : Sign) (x y : Term) (ts us : MoreTerms) → term_value x ≡ term_value y → SameTerms ts us → SameTerms (AndTerm a x ts) (AndTerm a y us)
 unfolding with_terms SameTerms

@@ -4,7 +4,7 @@ use Rattle.std.specs.Prelude.{codes, ◌&&◌, Result, Ok, Err, OnOk, OnErr}
 use Rattle.std.proofs.lemmas.List.{append-nil}
 use Rattle.std.proofs.lemmas.Bool.{cases_lt}
 use Rattle.field_core.specs.Terms.{Terms}
-use Rattle.case_model.specs.Entries.{is_zero_terms}
+use Rattle.fraction.specs.Tests.{is_zero}
 use Rattle.case_model.specs.Sums.{terms_at}
 use Rattle.edge_expression.specs.EntryTexts.{joined_term, terms_text, are_zero_below, entry_text, IsBegun}
 
@@ -26,17 +26,17 @@ next n = omega arith
 left : (p : ℕ) → p < 5 → 5 - p ≡ suc (5 - (p + 1))
 left p h = omega arith
 
-text_by : (f : Bool) (p : ℕ) (e : List Terms) → p < 5 → terms_text f p (5 - p) e ≡ cond (is_zero_terms (terms_at e p)) (terms_text f (p + 1) (5 - (p + 1)) e) (joined_term f p (terms_at e p) ++ terms_text false (p + 1) (5 - (p + 1)) e)
+text_by : (f : Bool) (p : ℕ) (e : List Terms) → p < 5 → terms_text f p (5 - p) e ≡ cond (is_zero (terms_at e p)) (terms_text f (p + 1) (5 - (p + 1)) e) (joined_term f p (terms_at e p) ++ terms_text false (p + 1) (5 - (p + 1)) e)
 unfolding terms_text
 text_by f p e h = ap (λ n. terms_text f p n e) (left p h) ∙ rw (next p) refl
 
-text_zero : (f : Bool) (p : ℕ) (e : List Terms) → p < 5 → is_zero_terms (terms_at e p) ≡ true → terms_text f p (5 - p) e ≡ terms_text f (p + 1) (5 - (p + 1)) e
+text_zero : (f : Bool) (p : ℕ) (e : List Terms) → p < 5 → is_zero (terms_at e p) ≡ true → terms_text f p (5 - p) e ≡ terms_text f (p + 1) (5 - (p + 1)) e
 text_zero f p e h z = text_by f p e h ∙ ap (λ b. cond b (terms_text f (p + 1) (5 - (p + 1)) e) (joined_term f p (terms_at e p) ++ terms_text false (p + 1) (5 - (p + 1)) e)) z
 
-text_some : (f : Bool) (p : ℕ) (e : List Terms) → p < 5 → is_zero_terms (terms_at e p) ≡ false → terms_text f p (5 - p) e ≡ joined_term f p (terms_at e p) ++ terms_text false (p + 1) (5 - (p + 1)) e
+text_some : (f : Bool) (p : ℕ) (e : List Terms) → p < 5 → is_zero (terms_at e p) ≡ false → terms_text f p (5 - p) e ≡ joined_term f p (terms_at e p) ++ terms_text false (p + 1) (5 - (p + 1)) e
 text_some f p e h z = text_by f p e h ∙ ap (λ b. cond b (terms_text f (p + 1) (5 - (p + 1)) e) (joined_term f p (terms_at e p) ++ terms_text false (p + 1) (5 - (p + 1)) e)) z
 
-zero_more : (e : List Terms) (p : ℕ) (b : Bool) → is_zero_terms (terms_at e p) ≡ b → are_zero_below (p + 1) e ≡ (are_zero_below p e && b)
+zero_more : (e : List Terms) (p : ℕ) (b : Bool) → is_zero (terms_at e p) ≡ b → are_zero_below (p + 1) e ≡ (are_zero_below p e && b)
 unfolding are_zero_below
 zero_more e p b z = ap (λ n. are_zero_below n e) (next p) ∙ ap (λ c. are_zero_below p e && c) z
 
@@ -48,7 +48,7 @@ and_false : (b : Bool) → b && false ≡ false
 and_false true = refl
 and_false false = refl
 
-pub next_zero : (old out : List ℕ) (f : Bool) (p : ℕ) (e : List Terms) → IsPrinted old out f p e → p < 5 → is_zero_terms (terms_at e p) ≡ true → IsPrinted old out f (p + 1) e
+pub next_zero : (old out : List ℕ) (f : Bool) (p : ℕ) (e : List Terms) → IsPrinted old out f p e → p < 5 → is_zero (terms_at e p) ≡ true → IsPrinted old out f (p + 1) e
 next_zero old out f p e i h z = record {
   done = i.done;
   out_is = i.out_is;
@@ -60,9 +60,9 @@ next_zero old out f p e i h z = record {
 no_true : false ≡ true → ⊥
 no_true e = cc
 
-pub next_some : (old out new : List ℕ) (f : Bool) (p : ℕ) (t : Terms) (e : List Terms) → IsPrinted old out f p e → p < 5 → t ≡ terms_at e p → is_zero_terms t ≡ false → new ≡ out ++ joined_term f p t → IsPrinted old new false (p + 1) e
+pub next_some : (old out new : List ℕ) (f : Bool) (p : ℕ) (t : Terms) (e : List Terms) → IsPrinted old out f p e → p < 5 → t ≡ terms_at e p → is_zero t ≡ false → new ≡ out ++ joined_term f p t → IsPrinted old new false (p + 1) e
 next_some old out new f p t e i h same z put =
-    let zero : is_zero_terms (terms_at e p) ≡ false = ap is_zero_terms (sym same) ∙ z in
+    let zero : is_zero (terms_at e p) ≡ false = ap is_zero (sym same) ∙ z in
     let piece : joined_term f p t ≡ joined_term f p (terms_at e p) = ap (joined_term f p) same in
     let rest : List ℕ = terms_text false (p + 1) (5 - (p + 1)) e in
     record {
@@ -83,22 +83,22 @@ both_right : (a b : Bool) → (a && b) ≡ true → b ≡ true
 both_right true b h = h
 both_right false b h = absurd cc
 
-pub zero_at : (n p : ℕ) (e : List Terms) → p < n → are_zero_below n e ≡ true → is_zero_terms (terms_at e p) ≡ true
+pub zero_at : (n p : ℕ) (e : List Terms) → p < n → are_zero_below n e ≡ true → is_zero (terms_at e p) ≡ true
 unfolding are_zero_below
 zero_at zero p e h a = absurd (omega arith)
 zero_at (suc n) p e h a = elim (cases_lt p n) [
-  | inl lt ↦ zero_at n p e lt (both_left (are_zero_below n e) (is_zero_terms (terms_at e n)) a)
-  | inr ge ↦ let same : p ≡ n = omega (arith, h, ge) in ap (λ k. is_zero_terms (terms_at e k)) same ∙ both_right (are_zero_below n e) (is_zero_terms (terms_at e n)) a
+  | inl lt ↦ zero_at n p e lt (both_left (are_zero_below n e) (is_zero (terms_at e n)) a)
+  | inr ge ↦ let same : p ≡ n = omega (arith, h, ge) in ap (λ k. is_zero (terms_at e k)) same ∙ both_right (are_zero_below n e) (is_zero (terms_at e n)) a
 ]
 
-some_entry : (e : List Terms) (p : ℕ) (b : Bool) → are_zero_below 5 e ≡ b → p < 5 → is_zero_terms (terms_at e p) ≡ false → entry_text e ≡ terms_text true 0 5 e
+some_entry : (e : List Terms) (p : ℕ) (b : Bool) → are_zero_below 5 e ≡ b → p < 5 → is_zero (terms_at e p) ≡ false → entry_text e ≡ terms_text true 0 5 e
 unfolding entry_text
 some_entry e p true a h z = absurd (no_true (sym z ∙ zero_at 5 p e h a))
 some_entry e p false a h z = ap (λ b. cond b (codes "0") (terms_text true 0 5 e)) a
 
-pub begun_some : (old out new : List ℕ) (f : Bool) (p : ℕ) (t : Terms) (e : List Terms) → IsPrinted old out f p e → p < 5 → t ≡ terms_at e p → is_zero_terms t ≡ false → IsBegun out new (joined_term f p t) → IsBegun old new (entry_text e)
+pub begun_some : (old out new : List ℕ) (f : Bool) (p : ℕ) (t : Terms) (e : List Terms) → IsPrinted old out f p e → p < 5 → t ≡ terms_at e p → is_zero t ≡ false → IsBegun out new (joined_term f p t) → IsBegun old new (entry_text e)
 begun_some old out new f p t e i h same z b =
-    let zero : is_zero_terms (terms_at e p) ≡ false = ap is_zero_terms (sym same) ∙ z in
+    let zero : is_zero (terms_at e p) ≡ false = ap is_zero (sym same) ∙ z in
     let piece : joined_term f p (terms_at e p) ≡ b.front ++ b.rest = ap (joined_term f p) (sym same) ∙ b.text_is in
     let rest : List ℕ = terms_text false (p + 1) (5 - (p + 1)) e in
     record {

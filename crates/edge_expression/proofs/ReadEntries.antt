@@ -6,8 +6,9 @@ use Rattle.fraction.specs.Lowest.{lowest_terms}
 use Rattle.fraction.specs.Numeral.{value_of}
 use Rattle.case_model.specs.declared.entry.Entry.{Entry}
 use Rattle.case_model.specs.EntryView.{coefficients_of}
-use Rattle.case_model.specs.Draft.{is_short}
-use Rattle.case_model.specs.Entries.{no_edge, is_zero_terms}
+use Rattle.edge_expression.specs.EntryValues.{is_short}
+use Rattle.fraction.specs.Tests.{is_zero}
+use Rattle.edge_expression.specs.EntryValues.{zero_coefficients}
 use Rattle.case_model.specs.Sums.{terms_at}
 use Rattle.edge_expression.specs.declared.fault.ExprFault.{ExprFault}
 use Rattle.edge_expression.specs.declared.fault.ExprFault.TheVariants.{BadByte, Depth, DivisorNotNumber, ZeroDivisor, Degree, Part}
@@ -71,7 +72,7 @@ fine_times x y = fine_if (nat_lt 4 (degree x + degree y)) (Err Degree) _ tt (fin
 
 fine_over : (x y : List Terms) → Fine (over x y)
 unfolding Fine over
-fine_over x y = fine_if (nat_lt 0 (degree y)) (Err DivisorNotNumber) _ tt (fine_if (is_zero_terms (terms_at y 0)) (Err ZeroDivisor) _ tt (fine_coefficients _ (λ k. fine_short _ _)))
+fine_over x y = fine_if (nat_lt 0 (degree y)) (Err DivisorNotNumber) _ tt (fine_if (is_zero (terms_at y 0)) (Err ZeroDivisor) _ tt (fine_coefficients _ (λ k. fine_short _ _)))
 
 fine_decimal : (d : Decimal) → Fine (decimal_value d)
 unfolding Fine decimal_value
@@ -89,7 +90,7 @@ mutual
   unfolding Fine value
 
   pub fine_value : (e : Expression) → Fine (value e)
-  fine_value (Sum sign first others) = fine_bind (term_value first) _ (fine_term first) (λ x. fine_bind (joined (sign_or_plus sign) no_edge x) _ (fine_joined (sign_or_plus sign) no_edge x) (λ s. fine_terms s others))
+  fine_value (Sum sign first others) = fine_bind (term_value first) _ (fine_term first) (λ x. fine_bind (joined (sign_or_plus sign) zero_coefficients x) _ (fine_joined (sign_or_plus sign) zero_coefficients x) (λ s. fine_terms s others))
 
   fine_terms : (s : List Terms) (ts : MoreTerms) → Fine (with_terms s ts)
   fine_terms s NoTerm = tt

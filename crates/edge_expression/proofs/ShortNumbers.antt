@@ -1,12 +1,9 @@
 -- The numbers that short fractions are.
-use Rattle.std.proofs.Common.{◌≡◌, ◌≢◌, ℕ, zero, suc, ◌*◌, ◌/◌, ◌<◌, Bool, true, false, cond, ℤ, pos, negsuc, neg_ℤ, ◌+ℤ◌, ◌-ℤ◌, ◌*ℤ◌, ◌<ℤ◌, Ok, Err, refl, sym, ap, subst, ◌∙◌, arith}
+use Rattle.std.proofs.Common.{◌≡◌, ◌≢◌, zero, suc, ◌≤◌, ◌^◌, Bool, true, false, cond, nat_le, ℤ, pos, negsuc, ◌+ℤ◌, ◌-ℤ◌, ◌*ℤ◌, ◌<ℤ◌, unsigned_abs, Ok, Err, refl, sym, ap, subst, ◌∙◌, arith}
 use Rattle.std.specs.declared.cmp.Ordering.TheVariants.{Equal}
-use Rattle.std.specs.Int.{is_negative}
-use Rattle.std.proofs.lemmas.Bool.{le-ltb}
 use Rattle.std.proofs.lemmas.Int.{ints}
-use Rattle.std.proofs.Math.Nat.{div-mul_cancel, zero-div}
-use Rattle.field_core.specs.Divisor.{gcd}
-use Rattle.field_core.specs.Terms.{Terms}
+use Rattle.std.proofs.lemmas.Bool.Decides.{nat_tests}
+use Rattle.field_core.specs.Terms.{Terms, IsReduced}
 use Rattle.field_core.specs.Number.{Number as Value}
 use Rattle.field_core.specs.Arithmetic.{number_zero, number_sign, ◌+ε◌, ◌-ε◌, ◌*ε◌, ◌/ε◌}
 use Rattle.field_core.specs.Polynomial.{int_sign}
@@ -16,77 +13,49 @@ use Rattle.field_core.specs.Laws.NumberLaws.{number_sign_zero}
 use Rattle.field_core.specs.Laws.Order.{subtract_equal, divide_unique}
 use Rattle.field_core.specs.Laws.PolynomialLaws.{product_nonzero}
 use Rattle.field_core.specs.Laws.Effective.{positive_nonzero}
-use Rattle.field_core.proofs.Divisors.{gcd_is}
 use Rattle.field_core.proofs.IntegerRing.{ring}
-use Rattle.fraction.specs.Laws.ExactTerms.{neg_times}
-use Rattle.fraction.specs.Lowest.{lowest_of, lowest_terms}
-use Rattle.fraction.proofs.LowestTerms.{divided}
-use Rattle.case_model.specs.Draft.{is_short}
+use Rattle.fraction.specs.Laws.Order.{AreLowest}
+use Rattle.fraction.specs.Lowest.{lowest_terms}
+use Rattle.fraction.proofs.LowestTerms.{lowest_cross}
 use Rattle.case_model.specs.Sums.{number}
 use Rattle.edge_expression.specs.declared.fault.ExprFault.TheVariants.{Part}
-use Rattle.edge_expression.specs.EntryValues.{short_of, short, sum, difference, product, quotient}
-use Rattle.edge_expression.proofs.LowestTerms.{lowest_pos, lowest_neg, divided_cross}
+use Rattle.edge_expression.specs.EntryValues.{is_short, short_of, short, sum, difference, product, quotient}
+use Rattle.case_model.proofs.Holding.{both}
+use Rattle.edge_expression.proofs.LowestTerms.{are_lowest}
 
--- a fraction with a positive denominator that is this number
+-- in lowest terms, and this number
 pub record IsNumber (t : Terms) (v : Value) : Type 0 where
-  pub positive : pos 0 <ℤ t.den
+  pub reduced : IsReduced t
   pub is : number t ≡ v
 
-by_cross : (t : Terms) (n d : ℤ) → pos 0 <ℤ t.den → d ≢ pos 0 → t.num *ℤ d ≡ n *ℤ t.den → IsNumber t (fraction n d)
-by_cross t n d p h e = record { positive = p; is = fraction-equal t.num t.den n d (positive_nonzero t.den p) h e }
+lowest_value : (n d : ℤ) → d ≢ pos 0 → number (lowest_terms n d) ≡ fraction n d
+lowest_value n d some =
+    let low = lowest_terms n d in
+    fraction-equal low.num low.den n d (positive_nonzero low.den (are_lowest n d some).positive) some (lowest_cross n d)
 
-lowest_above : (n d : ℕ) → 0 < d → IsNumber (lowest_terms (pos n) (pos d)) (fraction (pos n) (pos d))
-lowest_above n d some =
-    let g = gcd n d in
-    let both = divided n d some in
-    let cross : n / g * d ≡ n * (d / g) = divided_cross n d (n / g) (d / g) g (div-mul_cancel g (gcd_is n d).0) (div-mul_cancel g (gcd_is n d).1) in
-    let p = both.1.some in
-    subst (λ t. IsNumber t (fraction (pos n) (pos d))) (sym (lowest_pos n d)) (by_cross (record { num = pos (n / g); den = pos (d / g) }) (pos n) (pos d) (omega (arith, ints)) (λ e. omega (arith, ints)) (ap pos cross))
+-- the sizes of short parts
+pub record AreShortParts (t : Terms) : Type 0 where
+  pub num : unsigned_abs t.num ≤ 10 ^ 18
+  pub den : unsigned_abs t.den ≤ 10 ^ 18
 
-lowest_below : (n d : ℕ) → 0 < d → IsNumber (lowest_terms (negsuc n) (pos d)) (fraction (negsuc n) (pos d))
-lowest_below n d some =
-    let m : ℕ = suc n in
-    let g = gcd m d in
-    let both = divided m d some in
-    let cross : m / g * d ≡ m * (d / g) = divided_cross m d (m / g) (d / g) g (div-mul_cancel g (gcd_is m d).0) (div-mul_cancel g (gcd_is m d).1) in
-    let p = both.1.some in
-    subst (λ t. IsNumber t (fraction (negsuc n) (pos d))) (sym (lowest_neg n d))
-    (by_cross (record { num = neg_ℤ (pos (m / g)); den = pos (d / g) }) (negsuc n) (pos d) (omega (arith, ints)) (λ e. omega (arith, ints)) (neg_times (m / g) d ∙ ap (λ k. neg_ℤ (pos k)) cross ∙ sym (neg_times m (d / g))))
+pub short_parts : (t : Terms) → is_short t ≡ true → AreShortParts t
+short_parts t s =
+    let b = both (nat_le (unsigned_abs t.num) (10 ^ 18)) (nat_le (unsigned_abs t.den) (10 ^ 18)) s in
+    record { num = grind (arith, nat_tests, b.left); den = grind (arith, nat_tests, b.right) }
 
-not_negative : (n : ℕ) → is_negative (pos n) ≡ false
-not_negative n = le-ltb n 0 (omega arith)
+short_reduced : (t : Terms) → AreLowest t → is_short t ≡ true → IsReduced t
+short_reduced t low s = let p = short_parts t s in record { positive = low.positive; num_size = omega (arith, p.num); den_size = omega (arith, p.den); reduced = low.apart }
 
--- a negative denominator turns both signs
-turned : (n : ℤ) (d : ℕ) → lowest_terms n (negsuc d) ≡ lowest_terms (neg_ℤ n) (pos (suc d))
-unfolding lowest_terms lowest_of
-turned (pos zero) d = rw (not_negative (suc d), zero-div (gcd 0 (suc d))) refl
-turned (pos (suc n)) d = rw (not_negative (suc n), not_negative (suc d)) refl
-turned (negsuc n) d = rw (not_negative (suc n), not_negative (suc d)) refl
-
-turned_product : (n : ℤ) (d : ℕ) → neg_ℤ n *ℤ negsuc d ≡ n *ℤ pos (suc d)
-turned_product (pos zero) d = omega (arith, ints)
-turned_product (pos (suc n)) d = refl
-turned_product (negsuc n) d = refl
-
-lowest_positive : (n : ℤ) (d : ℕ) → 0 < d → IsNumber (lowest_terms n (pos d)) (fraction n (pos d))
-lowest_positive (pos n) d h = lowest_above n d h
-lowest_positive (negsuc n) d h = lowest_below n d h
-
-lowest_number : (n d : ℤ) → d ≢ pos 0 → IsNumber (lowest_terms n d) (fraction n d)
-lowest_number n (pos zero) h = absurd (h refl)
-lowest_number n (pos (suc d)) h = lowest_positive n (suc d) (omega arith)
-lowest_number n (negsuc d) h =
-    let k = lowest_positive (neg_ℤ n) (suc d) (omega arith) in
-    let same : fraction (neg_ℤ n) (pos (suc d)) ≡ fraction n (negsuc d) = fraction-equal (neg_ℤ n) (pos (suc d)) n (negsuc d) (λ e. omega (arith, ints)) h (turned_product n d) in
-    subst (λ t. IsNumber t (fraction n (negsuc d))) (sym (turned n d)) (record { positive = k.positive; is = k.is ∙ same })
-
-made_by : (b : Bool) (t l : Terms) → cond b (Ok l) (Err Part) ≡ Ok t → l ≡ t
-made_by true t l h = cc
+made_by : (b : Bool) (t l : Terms) → cond b (Ok l) (Err Part) ≡ Ok t → (b ≡ true) × (l ≡ t)
+made_by true t l h = (refl, (cc))
 made_by false t l h = absurd cc
 
 pub short_number : (n d : ℤ) (t : Terms) → d ≢ pos 0 → short n d ≡ Ok t → IsNumber t (fraction n d)
 unfolding short short_of
-short_number n d t h e = subst (λ u. IsNumber u (fraction n d)) (made_by (is_short (lowest_terms n d)) t (lowest_terms n d) e) (lowest_number n d h)
+short_number n d t h e =
+    let low = lowest_terms n d in
+    let made = made_by (is_short low) t low e in
+    subst (λ u. IsNumber u (fraction n d)) made.1 (record { reduced = short_reduced low (are_lowest n d h) made.0; is = lowest_value n d h })
 
 -- ---- operations
 
@@ -94,7 +63,7 @@ product_some : (a b : ℤ) → pos 0 <ℤ a → pos 0 <ℤ b → a *ℤ b ≢ po
 product_some a b h k = product_nonzero a b (positive_nonzero a h) (positive_nonzero b k)
 
 as_value : (t : Terms) (v w : Value) → v ≡ w → IsNumber t v → IsNumber t w
-as_value t v w e h = record { positive = h.positive; is = h.is ∙ e }
+as_value t v w e h = record { reduced = h.reduced; is = h.is ∙ e }
 
 pub sum_number : (x y t : Terms) → pos 0 <ℤ x.den → pos 0 <ℤ y.den → sum x y ≡ Ok t → IsNumber t (number x +ε number y)
 sum_number x y t h k e =

@@ -5,8 +5,9 @@ use Rattle.std.proofs.lemmas.Bool.{le-ltb, cases_Bool, eqb-true, eqb-false}
 use Rattle.std.proofs.lemmas.Bool.Decides.{nat_tests}
 use Rattle.field_core.specs.Terms.{Terms}
 use Rattle.std.proofs.lemmas.Int.{ints}
-use Rattle.field_core.specs.Kind.{is_zero_integer}
-use Rattle.case_model.specs.Entries.{is_zero_terms}
+use Rattle.std.specs.Ordering.{int_eq}
+use Rattle.std.proofs.lemmas.Bool.Decides.{Decides-int_eq}
+use Rattle.fraction.specs.Tests.{is_zero}
 use Rattle.case_model.specs.Sums.{terms_at, zero_terms}
 use Rattle.edge_expression.specs.declared.fault.ExprFault.{ExprFault}
 use Rattle.edge_expression.specs.Expressions.{Plus, Minus}
@@ -94,7 +95,7 @@ most_by false n m h = omega arith
 degree_most : (n : ℕ) (x : List Terms) → degree_within n x ≤ n
 unfolding degree_within
 degree_most zero x = omega arith
-degree_most (suc n) x = most_by (is_zero_terms (terms_at x (suc n))) n (degree_within n x) (degree_most n x)
+degree_most (suc n) x = most_by (is_zero (terms_at x (suc n))) n (degree_within n x) (degree_most n x)
 
 short_if : (b : Bool) (t : Terms) → IsShortTerms t → IsShortTerms (cond b t zero_terms)
 short_if true t s = s
@@ -112,10 +113,8 @@ minus_if : (k p : ℕ) (b : Bool) → eqb k p ≡ b → (f : ℕ → Terms) (t c
 minus_if k p true x f t c h s n d e = let same : k ≡ p = eqb-true k p x in ap (λ y. difference y t) (ap f same ∙ e) ∙ difference_zero_left t c s n d
 minus_if k p false x f t c h s n d e = difference_zero_right (f k) (h k)
 
-not_zero : (d : ℤ) → pos 0 <ℤ d → is_zero_integer d ≡ false
-not_zero (pos zero) h = absurd (omega (arith, ints))
-not_zero (pos (suc n)) h = refl
-not_zero (negsuc n) h = refl
+not_zero : (d : ℤ) → pos 0 <ℤ d → int_eq d (pos 0) ≡ false
+not_zero d h = elim (cases_Bool (int_eq d (pos 0))) [ inl t ↦ (let e : d ≡ pos 0 = (Decides-int_eq d (pos 0)).0 t in absurd (omega (arith, ints))) | inr f ↦ f ]
 
 number_at : Terms → ℕ → Terms
 number_at t zero = t
@@ -161,7 +160,7 @@ unfolding over number_at
 over_parts t s =
     let d : Terms = record { num = t.den; den = pos 1 } in
     let n : Terms = record { num = t.num; den = pos 1 } in
-    let some : is_zero_terms (terms_at (plain_entry d) 0) ≡ false = ap is_zero_terms (plain_first d) ∙ not_zero t.den s.0.positive in
+    let some : is_zero (terms_at (plain_entry d) 0) ≡ false = ap is_zero (plain_first d) ∙ not_zero t.den s.0.positive in
     rw (degree_number d, some) (coefficients_are (λ k. quotient (terms_at (plain_entry n) k) (terms_at (plain_entry d) 0)) (number_at t) (λ k l. parts_at t k s l))
 
 -- ---- sums with a single coefficient

@@ -2,15 +2,17 @@
 use Rattle.std.proofs.Common.{◌≡◌, zero, suc, true, ℤ, pos, negsuc, neg_ℤ, ◌+ℤ◌, ◌-ℤ◌, ◌*ℤ◌, ◌<ℤ◌, Ok, refl, sym, ap₂, ◌∙◌, arith}
 use Rattle.std.proofs.lemmas.Int.{ints}
 use Rattle.field_core.specs.Terms.{Terms, IsReduced}
-use Rattle.field_core.specs.Kind.{is_zero_integer}
+use Rattle.field_core.specs.Laws.Effective.{positive_nonzero}
+use Rattle.fraction.specs.Laws.Order.{reduced_unique}
+use Rattle.std.proofs.lemmas.Bool.Decides.{Decides-int_eq}
 use Rattle.fraction.specs.Numeral.{Same}
 use Rattle.fraction.specs.Lowest.{lowest_terms}
 use Rattle.fraction.specs.Plain.{zero_reduced, one_reduced}
-use Rattle.case_model.specs.Entries.{is_zero_terms}
+use Rattle.fraction.specs.Tests.{is_zero}
 use Rattle.case_model.specs.Sums.{zero_terms}
 use Rattle.edge_expression.specs.EntryValues.{short_of, short, sum, difference, product, quotient}
 use Rattle.edge_expression.specs.ExpressionStatements.{IsShortTerms}
-use Rattle.edge_expression.proofs.LowestTerms.{AreLowest, lowest_unique, lowest_any}
+use Rattle.edge_expression.proofs.LowestTerms.{lowest_any}
 
 abbrev pub one_terms : Terms
 one_terms = record { num = pos 1; den = pos 1 }
@@ -41,7 +43,7 @@ unfolding short short_of
 short_by t n d s e = rw (e, s.1) refl
 
 pub short_is : (t : Terms) (n d : ℤ) → IsShortTerms t → pos 0 <ℤ d → Same t (record { num = n; den = d }) → short n d ≡ Ok t
-short_is t n d s p h = short_by t n d s (lowest_any t n d s.0 p h)
+short_is t n d s p h = short_by t n d s (lowest_any t n d s.0 (positive_nonzero d p) h)
 
 pub short_self : (t : Terms) → IsShortTerms t → short t.num t.den ≡ Ok t
 short_self t s = short_is t t.num t.den s s.0.positive refl
@@ -91,13 +93,5 @@ quotient_zero d p = ap₂ short (one_right (pos 0)) (one_left d) ∙ nothing d p
 
 -- ---- a fraction that is 0
 
-no_size : (z : ℤ) → is_zero_integer z ≡ true → z ≡ pos 0
-no_size (pos zero) h = refl
-no_size (pos (suc n)) h = absurd cc
-no_size (negsuc n) h = absurd cc
-
-lowest_of : (t : Terms) → IsReduced t → AreLowest t
-lowest_of t r = record { positive = r.positive; apart = r.reduced }
-
-pub zero_is : (t : Terms) → IsReduced t → is_zero_terms t ≡ true → t ≡ zero_terms
-zero_is t r h = let n : t.num ≡ pos 0 = no_size t.num h in lowest_unique t zero_terms (lowest_of t r) (lowest_of zero_terms zero_reduced) (one_right t.num ∙ n ∙ sym (zero_left t.den))
+pub zero_is : (t : Terms) → IsReduced t → is_zero t ≡ true → t ≡ zero_terms
+zero_is t r h = let n : t.num ≡ pos 0 = (Decides-int_eq t.num (pos 0)).0 h in reduced_unique t zero_terms r zero_reduced (one_right t.num ∙ n ∙ sym (zero_left t.den))

@@ -1,18 +1,10 @@
 -- The canonical texts of entries.
-use Rattle.std.specs.Prelude.{◌≡◌, ℕ, zero, suc, ◌+◌, ◌&&◌, ◌==◌, pos, Bool, true, false, List, [], ◌∷◌, ◌++◌, codes, unsigned_abs, if◌then◌else◌}
+use Rattle.std.specs.Prelude.{◌≡◌, ℕ, zero, suc, ◌+◌, ◌&&◌, ◌==◌, Bool, true, false, List, [], ◌∷◌, ◌++◌, codes, if◌then◌else◌}
 use Rattle.std.specs.Int.{is_negative}
 use Rattle.field_core.specs.Terms.{Terms}
 use Rattle.fraction.specs.Spelling.{spelling}
-use Rattle.case_model.specs.Entries.{is_zero_terms}
+use Rattle.fraction.specs.Tests.{is_zero, is_one, absolute}
 use Rattle.case_model.specs.Sums.{terms_at}
-
--- the fraction without its sign
-abbrev pub without_sign : Terms → Terms
-without_sign t = record { num = pos (unsigned_abs t.num); den = t.den }
-
--- a fraction that isn't below 0 is 1
-abbrev pub is_one : Terms → Bool
-is_one t = (unsigned_abs t.num == 1) && (unsigned_abs t.den == 1)
 
 -- a power of epsilon above 0
 abbrev pub power_text : ℕ → List ℕ
@@ -34,19 +26,19 @@ joint_text false false = codes "+"
 
 -- a term with what joins it to those before it
 unfoldable pub joined_term : Bool → ℕ → Terms → List ℕ
-joined_term is_first power t = joint_text is_first (is_negative t.num) ++ term_text power (without_sign t)
+joined_term is_first power t = joint_text is_first (is_negative t.num) ++ term_text power (absolute t)
 
 -- the terms of n powers that aren't 0, from a power on
 unfoldable pub terms_text : Bool → ℕ → ℕ → List Terms → List ℕ
 terms_text is_first power zero entry = []
 terms_text is_first power (suc n) entry =
-    if is_zero_terms (terms_at entry power) then terms_text is_first (suc power) n entry
+    if is_zero (terms_at entry power) then terms_text is_first (suc power) n entry
     else joined_term is_first power (terms_at entry power) ++ terms_text false (suc power) n entry
 
 -- the coefficients of all powers below n are 0
 unfoldable pub are_zero_below : ℕ → List Terms → Bool
 are_zero_below zero entry = true
-are_zero_below (suc n) entry = are_zero_below n entry && is_zero_terms (terms_at entry n)
+are_zero_below (suc n) entry = are_zero_below n entry && is_zero (terms_at entry n)
 
 -- the terms of an entry that aren't 0, from power 0 to 4, or 0 where there is none
 unfoldable pub entry_text : List Terms → List ℕ

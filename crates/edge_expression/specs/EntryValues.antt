@@ -1,17 +1,20 @@
 -- What edge expressions are worth: entries, by their five coefficients of ascending power, or the first fault from left to right.
-use Rattle.std.specs.Prelude.{ℕ, zero, suc, ◌-◌, ◌+◌, ◌||◌, ◌&&◌, ◌==◌, Bool, List, [], ◌∷◌, ◌++◌, length, pos, ℤ, ◌+ℤ◌, ◌-ℤ◌, ◌*ℤ◌, Option, Some, None, Result, Ok, Err, nat_lt, int_lt, if◌then◌else◌}
+use Rattle.std.specs.Prelude.{ℕ, zero, suc, ◌-◌, ◌+◌, ◌^◌, ◌||◌, ◌&&◌, ◌==◌, Bool, List, [], ◌∷◌, ◌++◌, length, pos, ℤ, ◌+ℤ◌, ◌-ℤ◌, ◌*ℤ◌, Option, Some, None, Result, Ok, Err, nat_lt, int_lt, if◌then◌else◌}
 use Rattle.field_core.specs.Terms.{Terms}
 use Rattle.field_core.specs.Steps.{◌>>=◌}
 use Rattle.fraction.specs.Lowest.{lowest_terms}
 use Rattle.fraction.specs.Numeral.{Body, Plain, Pointed, Pair, exponent_of, without_leading_zeros, trailing_zeros, value_of}
-use Rattle.case_model.specs.Draft.{is_short}
 use Rattle.case_model.specs.Sums.{zero_terms, terms_at}
-use Rattle.case_model.specs.Entries.{no_edge, is_zero_terms}
+use Rattle.fraction.specs.Tests.{is_zero, is_within}
 use Rattle.edge_expression.specs.declared.fault.ExprFault.{ExprFault}
 use Rattle.edge_expression.specs.declared.fault.ExprFault.TheVariants.{DivisorNotNumber, ZeroDivisor, Degree, Part}
 use Rattle.edge_expression.specs.Expressions.{Decimal, Power, Sign, Plus, Minus, Expression, Sum, MoreTerms, NoTerm, AndTerm, Term, Product, MoreFactors, NoFactor, Times, Over, Beside, Factor, Number, Other, Further, Epsilon, Parens}
 
 -- ---- fractions
+
+-- neither part is above 10^18
+abbrev pub is_short : Terms → Bool
+is_short t = is_within (10 ^ 18) t
 
 -- a fraction, where neither part is above 10^18
 unfoldable pub short_of : Terms → Result Terms ExprFault
@@ -43,6 +46,10 @@ quotient x y = short (x.num *ℤ y.den) (x.den *ℤ y.num)
 abbrev pub plain_entry : Terms → List Terms
 plain_entry value = value ∷ zero_terms ∷ zero_terms ∷ zero_terms ∷ zero_terms ∷ []
 
+-- 0
+abbrev pub zero_coefficients : List Terms
+zero_coefficients = plain_entry zero_terms
+
 -- the coefficients of the powers from 0 to 4
 unfoldable pub coefficients : (ℕ → Result Terms ExprFault) → Result (List Terms) ExprFault
 coefficients f = do
@@ -61,7 +68,7 @@ joined Minus x y = coefficients (λ k. difference (terms_at x k) (terms_at y k))
 -- the greatest power up to n whose coefficient isn't 0, and 0 where there is none
 unfoldable pub degree_within : ℕ → List Terms → ℕ
 degree_within zero x = zero
-degree_within (suc n) x = if is_zero_terms (terms_at x (suc n)) then degree_within n x else suc n
+degree_within (suc n) x = if is_zero (terms_at x (suc n)) then degree_within n x else suc n
 
 -- the greatest power whose coefficient isn't 0, and 0 where there is none
 abbrev pub degree : List Terms → ℕ
@@ -83,7 +90,7 @@ times x y = if nat_lt 4 (degree x + degree y) then Err Degree else coefficients 
 unfoldable pub over : List Terms → List Terms → Result (List Terms) ExprFault
 over x y =
     if nat_lt 0 (degree y) then Err DivisorNotNumber
-    else if is_zero_terms (terms_at y 0) then Err ZeroDivisor
+    else if is_zero (terms_at y 0) then Err ZeroDivisor
     else coefficients (λ k. quotient (terms_at x k) (terms_at y 0))
 
 -- ---- literals
@@ -133,7 +140,7 @@ unfoldable mutual
   pub value : Expression → Result (List Terms) ExprFault
   value (Sum sign first others) = do
     term ← term_value first
-    sum ← joined (sign_or_plus sign) no_edge term
+    sum ← joined (sign_or_plus sign) zero_coefficients term
     with_terms sum others
 
   -- a sum, and further terms added to it

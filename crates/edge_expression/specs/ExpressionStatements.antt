@@ -6,7 +6,7 @@ use Rattle.field_core.specs.Number.{Number as Value}
 use Rattle.field_core.specs.Arithmetic.{number_zero, ◌+ε◌, ◌-ε◌, ◌*ε◌, ◌/ε◌}
 use Rattle.field_core.specs.Fractions.{fraction}
 use Rattle.fraction.specs.Numeral.{Body, value_of, HasTooManyDigits}
-use Rattle.case_model.specs.Draft.{is_short}
+use Rattle.edge_expression.specs.EntryValues.{is_short}
 use Rattle.case_model.specs.Entries.{entry_value, power_of_epsilon}
 use Rattle.edge_expression.specs.Expressions.{Power, Sign, Plus, Minus, Expression, Sum, MoreTerms, NoTerm, AndTerm, Term, Product, MoreFactors, NoFactor, Times, Over, Beside, Factor, Number, Other, Further, Epsilon, Parens}
 use Rattle.edge_expression.specs.EntryValues.{sign_or_plus, has_too_many_digits, value}

@@ -12,7 +12,6 @@ mod printing;
 mod reading;
 mod scan;
 mod short;
-mod short_arithmetic;
 
 pub use fault::ExprFault;
 pub use printing::print_entry;

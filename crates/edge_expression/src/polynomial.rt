@@ -1,6 +1,7 @@
 //! Polynomials in epsilon with short coefficients, and the operations of edge expressions.
 ghost use Rattle.std.specs.Prelude.{◌≡◌, ◌≤◌, suc, map};
-ghost use Rattle.case_model.specs.Entries.{no_edge, is_zero_terms};
+ghost use Rattle.fraction.specs.Tests.{is_zero};
+ghost use Rattle.edge_expression.specs.EntryValues.{zero_coefficients};
 ghost use Rattle.case_model.specs.EntryView.{coefficients_of};
 ghost use Rattle.case_model.specs.Sums.{terms_at};
 ghost use Rattle.edge_expression.specs.EntryView.{short_terms, map_value, polynomial_terms, coefficient, applied, CanDivide};
@@ -38,7 +39,7 @@ impl Polynomial {
 
     /// 0.
     pub fn zero() -> Polynomial
-        ensures { polynomial_terms result ≡ no_edge }
+        ensures { polynomial_terms result ≡ zero_coefficients }
     {
         Polynomial::of([Short::zero(); 5])
     }

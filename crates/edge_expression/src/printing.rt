@@ -1,40 +1,11 @@
 ghost use Rattle.std.specs.Prelude.{◌≡◌, ◌≤◌, ◌<◌, ◌++◌, OnOk, OnErr};
-ghost use Rattle.std.specs.Int.{is_negative};
 ghost use Rattle.fraction.specs.View.{terms_of};
-ghost use Rattle.case_model.specs.Entries.{is_zero_terms};
 ghost use Rattle.case_model.specs.EntryView.{coefficients_of};
-ghost use Rattle.edge_expression.specs.EntryTexts.{without_sign, is_one, power_text, factor_text, term_text, joint_text, joined_term, entry_text, IsBegun};
+ghost use Rattle.edge_expression.specs.EntryTexts.{power_text, factor_text, term_text, joint_text, joined_term, entry_text, IsBegun};
 
 use case_model::Entry;
-use field_core::{List, NoMemory, Number, Ratio};
+use field_core::{List, NoMemory};
 use fraction::Fraction;
-
-/// The fraction without its sign.
-fn without_sign(x: &Fraction) -> Fraction
-    ensures { terms_of result ≡ without_sign (terms_of x.now) }
-{
-    let ratio = x.ratio();
-    if ratio.num() < 0 {
-        Fraction::of(Ratio::of_wholes(ratio.whole_num().negated(), ratio.whole_den()))
-    } else {
-        *x
-    }
-}
-
-/// Whether a fraction that isn't below 0 is 1.
-fn is_one(x: &Fraction) -> bool
-    ensures { result ≡ is_one (terms_of x.now) }
-{
-    let ratio = x.ratio();
-    ratio.num().unsigned_abs() == 1 && ratio.den().unsigned_abs() == 1
-}
-
-#[tactic(auto, unfolding(field_core::specs::Kind::is_zero))]
-fn is_zero(x: &Fraction) -> bool
-    ensures { result ≡ is_zero_terms (terms_of x.now) }
-{
-    x.is_zero()
-}
 
 /// Appends a power of epsilon above 0.
 fn put_power(out: &mut List<u8>, power: usize) -> Result<(), NoMemory>
@@ -55,7 +26,7 @@ fn put_factor(out: &mut List<u8>, coefficient: &Fraction) -> Result<(), NoMemory
     ensures put { OnOk result (out.new ≡ out.old ++ factor_text (terms_of coefficient.now)) }
     ensures begun { OnErr result (IsBegun out.old out.new (factor_text (terms_of coefficient.now))) }
 {
-    if is_one(coefficient) {
+    if coefficient.is_one() {
         return Ok(());
     }
     coefficient.print(out)?;
@@ -103,7 +74,7 @@ fn put_joined(
     ensures begun { OnErr result (IsBegun out.old out.new (joined_term is_first power (terms_of coefficient.now))) }
 {
     put_joint(out, is_first, coefficient.ratio().num() < 0)?;
-    put_term(out, power, &without_sign(coefficient))
+    put_term(out, power, &coefficient.abs())
 }
 
 /// Appends the canonical text of an entry: its terms that aren't 0 by ascending power, or `0`.
@@ -118,7 +89,7 @@ pub fn print_entry(entry: &Entry, out: &mut List<u8>) -> Result<(), NoMemory>
     let mut is_first = true;
     for power in 0..5 {
         let coefficient = entry.coefficient(power);
-        if is_zero(&coefficient) {
+        if coefficient.is_zero() {
             continue;
         }
         put_joined(out, is_first, power, &coefficient)?;

@@ -1,6 +1,6 @@
 use Rattle.std.proofs.Common.{◌≡◌, ℕ, List, [], ◌∷◌, sym, ap, ◌∙◌, ◌++◌, arith, false, true, subst}
 use Rattle.fraction.specs.View.{terms_of}
-use Rattle.case_model.specs.Entries.{is_zero_terms}
+use Rattle.fraction.specs.Tests.{is_zero}
 use Rattle.case_model.specs.EntryView.{coefficients_of}
 use Rattle.edge_expression.proofs.PrintedTerms.{IsPrinted, nothing_printed, next_zero, next_some, begun_some, end_none, end_some, on_err, on_ok}
 use Rattle.edge_expression.proofs.printing.print_entry.Goals as goal
@@ -10,7 +10,7 @@ loop-power-init c = nothing_printed c.args.out.now (coefficients_of c.args.entry
 
 pub loop-power-preserved-then-is_zero : goal.loop-power-preserved-then-is_zero
 loop-power-preserved-then-is_zero c =
-    next_zero c.args.out.now c.loop-power.out c.loop-power.is_first c.loop-power.power (coefficients_of c.args.entry.now) c.loop-power.invariant c.loop-power-test.true (ap is_zero_terms (sym c.coefficient-coefficient.ensures) ∙ sym c.is_zero.ensures ∙ c.if-is_zero.true)
+    next_zero c.args.out.now c.loop-power.out c.loop-power.is_first c.loop-power.power (coefficients_of c.args.entry.now) c.loop-power.invariant c.loop-power-test.true (ap is_zero (sym c.coefficient-coefficient.ensures) ∙ sym c.is_zero.ensures ∙ c.if-is_zero.true)
 
 pub loop-power-preserved : goal.loop-power-preserved
 loop-power-preserved c =
