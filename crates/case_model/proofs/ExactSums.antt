@@ -1,18 +1,19 @@
-use Rattle.std.proofs.Common.{◌≡◌, refl, sym, ap, ap₂, ◌∙◌, subst, ℕ, zero, suc, ◌<◌, Ok, Option, Some, None, Err, arith}
-use Rattle.field_core.specs.Terms.{Terms, IsReduced}
+-- Written sums that aren't refused are exact.
 use Rattle.std.specs.Option.{option_map}
-use Rattle.field_core.specs.Kind.{or_wide}
+use Rattle.std.proofs.Common.{◌≡◌, refl, sym, ap, ap₂, ◌∙◌, subst, ℕ, zero, suc, ◌<◌, Some, arith}
+use Rattle.field_core.specs.Terms.{Terms, IsReduced}
+use Rattle.field_core.specs.View.{terms}
+use Rattle.field_core.specs.declared.ratio.Ratio.{Ratio}
 use Rattle.field_core.specs.Exact.{value_of, MayTake, exact_result}
 use Rattle.field_core.specs.Number.{Number}
 use Rattle.field_core.specs.NumberField.{number_field}
 use Rattle.field_core.specs.Sums.{sum_below}
 use Rattle.field_core.specs.declared.place.Op.{Op}
-use Rattle.field_core.specs.declared.place.TooWide.{TooWide}
 use Rattle.field_core.specs.declared.place.Op.TheVariants.{Add}
 use Rattle.fraction.specs.Plain.{single, IsFraction, written_pair, zero_reduced}
 use Rattle.fraction.specs.Laws.PlainLaws.{plain_is_exact}
-use Rattle.fraction.specs.Written.{written_add}
-use Rattle.field_core.specs.Laws.Prefixes.{bind_ok}
+use Rattle.fraction.specs.View.{number_of}
+use Rattle.fraction.specs.Laws.WrittenLaws.{bind_some}
 use Rattle.case_model.specs.Sums.{number, zero_terms, written_sum}
 use Rattle.field_core.specs.Laws.NumberFieldLaws.{field_zero, field_sum}
 
@@ -39,30 +40,22 @@ written_has op x y z u v may p q e =
       value = sym (value_single z) ∙ plain_is_exact.exact op (single x) (single y) (single z) sx sy may e' ∙ ap₂ (exact_result op) (value_single x ∙ p.value) (value_single y ∙ q.value);
     }
 
-pub some_of : {A : Type 0} (op : Op) (r : Option A) (x : A) → or_wide op r ≡ Ok x → r ≡ Some x
-some_of op (Some y) x h = cc
-some_of op None x h = absurd (cc)
-
-pub none_of : {A : Type 0} (op : Op) (r : Option A) (e : TooWide) → or_wide op r ≡ Err e → r ≡ None
-none_of op (Some y) e h = absurd (cc)
-none_of op None e h = refl
-
 pub has_zero : Has zero_terms number_field.𝟘
 has_zero = record { reduced = zero_reduced; value = sym (value_single zero_terms) ∙ plain_is_exact.zero_value ∙ sym field_zero }
 
 -- a written sum that isn't refused is reduced, and has the value of the sum
-abbrev pub IsSum : (n : ℕ) (f : ℕ → Terms) (s : Terms) → Type 0
-IsSum n f s = Has s (sum_below number_field n (λ i. number (f i)))
+abbrev pub IsSum : (n : ℕ) (f : ℕ → Ratio) (s : Terms) → Type 0
+IsSum n f s = Has s (sum_below number_field n (λ i. number_of (f i)))
 
-start : (f : ℕ → Terms) (s : Terms) → written_sum 0 f ≡ Ok s → IsSum 0 f s
+start : (f : ℕ → Ratio) (s : Terms) → written_sum 0 f ≡ Some s → IsSum 0 f s
 unfolding written_sum sum_below
 start f s e = let same : zero_terms ≡ s = cc in subst (λ t. Has t number_field.𝟘) same has_zero
 
-pub exact_sum : (n : ℕ) (f : ℕ → Terms) (s : Terms) → ((i : ℕ) → i < n → IsReduced (f i)) → written_sum n f ≡ Ok s → IsSum n f s
+pub exact_sum : (n : ℕ) (f : ℕ → Ratio) (s : Terms) → written_sum n f ≡ Some s → IsSum n f s
 unfolding written_sum sum_below
-exact_sum zero f s h e = start f s e
-exact_sum (suc n) f s h e =
-    let step = bind_ok _ _ s e in
-    let before = exact_sum n f step.0 (λ i p. h i (omega arith)) step.1.0 in
-    let last : Has (f n) (number (f n)) = record { reduced = h n (omega arith); value = refl } in
-    subst (Has s) (sym (field_sum _ _)) (written_has Add step.0 (f n) s _ _ tt before last (some_of Add (written_add step.0 (f n)) s step.1.1))
+exact_sum zero f s e = start f s e
+exact_sum (suc n) f s e =
+    let step = bind_some _ _ s e in
+    let before = exact_sum n f step.0 step.1.0 in
+    let last : Has (terms (f n)) (number_of (f n)) = record { reduced = (f n).valid; value = refl } in
+    subst (Has s) (sym (field_sum _ _)) (written_has Add step.0 (terms (f n)) s _ _ tt before last step.1.1)

@@ -1,5 +1,5 @@
 -- Lists by their coefficients.
-use Rattle.std.proofs.Common.{◌≡◌, ◌≢◌, ℕ, zero, suc, ◌+◌, ◌<◌, ◌≤◌, List, [], ◌∷◌, length, set, replicate, map, refl, sym, ◌∙◌, ap, arith, true, false, ℤ, pos, negsuc, inl, inr}
+use Rattle.std.proofs.Common.{◌≡◌, ◌≢◌, ℕ, zero, suc, ◌+◌, ◌<◌, ◌≤◌, List, [], ◌∷◌, length, drop, set, replicate, map, refl, sym, ◌∙◌, ap, arith, true, false, ℤ, pos, negsuc, inl, inr}
 use Rattle.std.specs.List.{range_with_len}
 use Rattle.std.proofs.lemmas.Bool.{cases_eq, cases_lt}
 use Rattle.std.proofs.lemmas.List.{same_lists, get_or-set_same, get_or-set_other, length-set, length-replicate, get_or-replicate}
@@ -7,13 +7,21 @@ use Rattle.std.proofs.lemmas.List.FromFn.{length-map-range_with_len, get_or-map-
 use Rattle.field_core.specs.Kind.{is_zero_integer}
 use Rattle.field_core.specs.Polynomial.{coefficient, poly_negate}
 use Rattle.field_core.specs.Laws.PolynomialLaws.{coefficient-index}
-use Rattle.eps_poly.specs.Polynomials.{by_powers, zero_polynomial}
+use Rattle.std.proofs.lemmas.Slice.Eq.{slice_eq-Decides}
+use Rattle.std.proofs.lemmas.Bool.Decides.{Decides-int_eq}
+use Rattle.eps_poly.specs.Polynomials.{by_powers, is_same, zero_polynomial}
 
 pub coefficient-past : (p : List ℤ) (k : ℕ) → length p ≤ k → coefficient p k ≡ pos 0
 unfolding coefficient
 coefficient-past [] k h = refl
 coefficient-past (c ∷ p) zero h = absurd (omega arith)
 coefficient-past (c ∷ p) (suc k) h = coefficient-past p k (omega arith)
+
+pub coefficient-drop : (p : List ℤ) (n k : ℕ) → coefficient (drop n p) k ≡ coefficient p (k + n)
+unfolding coefficient
+coefficient-drop p zero k = let same : k ≡ k + 0 = omega arith in ap (coefficient p) same
+coefficient-drop [] (suc n) k = refl
+coefficient-drop (c ∷ p) (suc n) k = let next : suc (k + n) ≡ k + suc n = omega arith in coefficient-drop p n k ∙ ap (coefficient (c ∷ p)) next
 
 -- two lists of one length with the same coefficients
 pub same_polynomials : (p q : List ℤ) → length p ≡ length q → ((k : ℕ) → k < length p → coefficient p k ≡ coefficient q k) → p ≡ q
@@ -68,6 +76,17 @@ is_zero_false (pos zero) e same = cc
 is_zero_false (pos (suc n)) e same = cc
 is_zero_false (negsuc n) e same = cc
 
+-- ---- the test for equality
+
+pub same_from : (p q : List ℤ) → is_same p q ≡ true → p ≡ q
+same_from p q e = (slice_eq-Decides Decides-int_eq p q (is_same p q) refl).0 e
+
+pub same_to : (p q : List ℤ) → p ≡ q → is_same p q ≡ true
+same_to p q e = (slice_eq-Decides Decides-int_eq p q (is_same p q) refl).1 e
+
+pub other_from : (p q : List ℤ) → is_same p q ≡ false → ¬ (p ≡ q)
+other_from p q e s = let t = same_to p q s in cc
+
 -- ---- a loop that writes the coefficients of ascending powers
 
 -- the first n of 33 coefficients are as P says, and the others are still 0
@@ -93,4 +112,17 @@ filled_more P p n c room f here =
         | inr apart ↦ rw (coefficient-set_other p n k c apart) (f.front k (omega arith))
       ];
       rest = λ k h. coefficient-set_other p n k c (λ e. absurd (omega arith)) ∙ f.rest k (omega arith);
+    }
+
+-- what is still 0 is as P says too
+pub filled_rest : (P : ℕ → ℤ → Type 0) (p : List ℤ) (n : ℕ) → ((k : ℕ) → n ≤ k → P k (pos 0)) → Filled P p n → Filled P p 33
+filled_rest P p n zeros f =
+    let all = f.count in
+    record {
+      count = f.count;
+      front = λ k h. elim (cases_lt k n) [
+        | inl l ↦ f.front k l
+        | inr l ↦ rw (f.rest k l) (zeros k l)
+      ];
+      rest = λ k h. coefficient-past p k (omega arith);
     }

@@ -1,7 +1,7 @@
 -- The greatest common divisor of coefficients.
 use Rattle.std.proofs.Common.{◌≡◌, ℕ, zero, suc, ◌+◌, ◌<◌, ◌≤◌, ◌^◌, List, [], ◌∷◌, length, refl, sym, ◌∙◌, ap, arith, ℤ, pos, unsigned_abs, get_or, drop, ◌-◌, lit<}
 use lib.IntN.{ℤ_discrete}
-use Rattle.std.proofs.lemmas.List.{drop_more, drop_all}
+use Rattle.std.proofs.lemmas.List.{drop_more}
 use Rattle.std.specs.Int.{◌∣◌}
 use Rattle.std.proofs.lemmas.Nat.Gcd.{dvd_trans, dvd-zero, le_of_dvd}
 use Rattle.std.proofs.Math.Nat.{pos_of_dvd_of_pos, eq-zero_of_zero-dvd}
@@ -10,7 +10,7 @@ use Rattle.field_core.specs.Polynomial.{coefficient, lowest, IsNonZero}
 use Rattle.field_core.proofs.Divisors.{gcd_is}
 use Rattle.field_core.specs.Laws.PolynomialLaws.{lowest-none, coefficient-index}
 use Rattle.eps_poly.specs.Factors.{content, order}
-use Rattle.eps_poly.proofs.Coefficients.{coefficient-past}
+use Rattle.eps_poly.proofs.Coefficients.{coefficient-past, coefficient-drop}
 use Rattle.eps_poly.proofs.IntegerQuotients.{size_some}
 use Rattle.eps_poly.proofs.OrderLaws.{coefficient-order}
 
@@ -31,8 +31,11 @@ pub content_some : (p : List ℤ) → IsNonZero p → 0 < content p
 content_some p some =
     pos_of_dvd_of_pos (content_divides p (order p)) (rw (coefficient-order p) (size_some (lowest p) some))
 
+pub content_zeros : (p : List ℤ) → ((k : ℕ) → coefficient p k ≡ pos 0) → content p ≡ 0
+content_zeros p none = eq-zero_of_zero-dvd (content_greatest p 0 (λ k. rw (none k) (dvd-zero 0)))
+
 pub content_none : (p : List ℤ) → lowest p ≡ pos 0 → content p ≡ 0
-content_none p none = eq-zero_of_zero-dvd (content_greatest p 0 (λ k. rw (lowest-none p none k, coefficient-past [] k (omega arith)) (dvd-zero 0)))
+content_none p none = content_zeros p (λ k. lowest-none p none k ∙ coefficient-past [] k (omega arith))
 
 pub content_small : (p : List ℤ) → ((k : ℕ) → unsigned_abs (coefficient p k) < 2 ^ 127) → content p < 2 ^ 127
 content_small p small = elim (ℤ_discrete (lowest p) (pos 0)) [
@@ -42,9 +45,8 @@ content_small p small = elim (ℤ_discrete (lowest p) (pos 0)) [
 ]
 
 -- a loop that takes in the coefficients of descending powers
-pub content_end : (p : List ℤ) → length p ≡ 33 → 0 ≡ content (drop 33 p)
-unfolding content
-content_end p long = rw (drop_all 33 p (omega arith)) refl
+pub content_end : (p : List ℤ) (n : ℕ) → ((k : ℕ) → n ≤ k → coefficient p k ≡ pos 0) → 0 ≡ content (drop n p)
+content_end p n none = sym (content_zeros (drop n p) (λ k. coefficient-drop p n k ∙ none (k + n) (omega arith)))
 
 pub content_more : (p : List ℤ) (n : ℕ) (size divisor result : ℕ) → 0 < n → n ≤ length p → divisor ≡ content (drop n p) → size ≡ unsigned_abs (coefficient p (n - 1)) → result ≡ gcd size divisor → result ≡ content (drop (n - 1) p)
 unfolding content

@@ -16,7 +16,9 @@ use Rattle.eps_poly.specs.Factors.{content, order, factor, signed_as, turned_as,
 use Rattle.eps_poly.proofs.Coefficients.{coefficient-past, length-by_powers, coefficient-by_powers, length-negate}
 use Rattle.eps_poly.proofs.ContentLaws.{content_divides, content_greatest, content_some}
 use Rattle.eps_poly.proofs.IntegerQuotients.{quotient_times, int_div-zero, int_div_exact, size_some, size_none}
-use Rattle.eps_poly.proofs.OrderLaws.{coefficient-below_order, coefficient-order, order_is}
+use Rattle.eps_poly.specs.Written.{degree}
+use Rattle.eps_poly.proofs.DegreeLaws.{coefficient-above_degree, coefficient-degree, degree_at_least, degree_at_most}
+use Rattle.eps_poly.proofs.OrderLaws.{coefficient-below_order, coefficient-order, lowest_from_coefficient, order_is}
 use Rattle.eps_poly.proofs.Validity.{abs_negate}
 use Rattle.eps_poly.proofs.Signs.{signed_below, signed_above, turned_below, turned_above}
 
@@ -136,6 +138,20 @@ core_is p long some = record {
   divisor = core_divisor (lowest p) p long some;
   first = positive_part (coefficient (lowered (order p) (pos (content p)) (turned_as (lowest p) p)) 0) (content p) _ (core_times (lowest p) p 0 long) (rw zero-add (turned_first (lowest p) p some refl));
 }
+
+-- the degree of the core is what is above the least power
+pub degree-core : (p : List ℤ) → length p ≡ 33 → IsNonZero p → degree (core p) + order p ≡ degree p
+degree-core p long some =
+    let q = core p in
+    let c = factor p in
+    let k = order p in
+    let whole = core_factors p long in
+    let first = (core_is p long some).first in
+    let left : IsNonZero q = lowest_from_coefficient q 0 (λ none. absurd (let low : pos 0 <ℤ pos 0 = rw none at first in omega (arith, ints))) in
+    let factor_some : c ≢ pos 0 = λ none. some (sym (coefficient-order p) ∙ whole k ∙ coefficient-factors c k 0 k q (omega arith) ∙ rw none (omega (arith, ints))) in
+    let low = degree_at_least p (degree q + k) (λ none. product_nonzero c (coefficient q (degree q)) factor_some (coefficient-degree q left) (sym (whole (degree q + k) ∙ coefficient-factors c k (degree q) (degree q + k) q refl) ∙ none)) in
+    let high = degree_at_most p (degree q + k) (λ j h. whole j ∙ coefficient-factors c k (j - k) j q (omega arith) ∙ rw (coefficient-above_degree q (j - k) (omega arith)) (*ℤ-zero c)) in
+    omega arith
 
 -- ---- there is one way only
 

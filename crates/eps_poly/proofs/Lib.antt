@@ -1,6 +1,8 @@
 pub mod Coefficients
 pub mod SizedLists
 pub mod ContentLaws
+pub mod DegreeLaws
+pub mod ExactLaws
 pub mod FactorLaws
 pub mod IntegerQuotients
 pub mod OrderLaws

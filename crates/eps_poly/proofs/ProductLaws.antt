@@ -1,95 +1,20 @@
 -- What a product that isn't refused is.
-use Rattle.std.proofs.Common.{◌≡◌, ◌≢◌, ℕ, zero, suc, ◌+◌, ◌-◌, ◌<◌, ◌≤◌, ◌^◌, List, [], ◌∷◌, refl, sym, ◌∙◌, ap, ap₂, arith, ℤ, pos, negsuc, ◌+ℤ◌, ◌*ℤ◌, unsigned_abs, inl, inr, Option, Some, None, Bool, true, false, nat_le, if◌then◌else◌}
+use Rattle.std.proofs.Common.{lit<, ◌≡◌, ◌≢◌, ℕ, zero, suc, ◌+◌, ◌-◌, ◌<◌, ◌≤◌, ◌^◌, List, [], ◌∷◌, refl, sym, ◌∙◌, ap, ap₂, arith, ℤ, pos, negsuc, ◌+ℤ◌, ◌*ℤ◌, unsigned_abs, inl, inr, Option, Some, None, Bool, true, false, nat_le, if◌then◌else◌}
 use mathlib.Core.Path.{fun_ext}
 use Rattle.std.proofs.lemmas.Bool.{cases_lt}
 use Rattle.std.proofs.lemmas.Bool.Decides.{nat_tests}
 use Rattle.std.proofs.lemmas.Int.{ints}
+use lib.IntN.{+ℤ_idr}
+use Rattle.field_core.proofs.Sized.{sized_small}
 use Rattle.field_core.specs.Polynomial.{coefficient, Same, poly_multiply}
 use Rattle.field_core.specs.Sized.{◌>>=◌, sized}
 use Rattle.field_core.specs.Laws.PolynomialLaws.{product_part, coefficient-multiply_part}
 use Rattle.eps_poly.specs.Polynomials.{IsPolynomial}
-use Rattle.eps_poly.specs.Written.{sized_list, written_coefficient, counted, count_to_last, degree, sized_product}
+use Rattle.eps_poly.specs.Written.{sized_list, written_coefficient, degree, sized_product}
 use Rattle.eps_poly.proofs.Coefficients.{coefficient-past}
+use Rattle.eps_poly.proofs.DegreeLaws.{coefficient-above_degree, degree-same}
 use Rattle.eps_poly.proofs.SizedLists.{AreValues, list_values, bind_some, ok_inside}
 use Rattle.eps_poly.proofs.SumLaws.{sized_inside, values_polynomial}
-
--- ---- degrees
-
-counted_least : (c : ℤ) (n : ℕ) → n ≤ counted c n
-unfolding counted
-counted_least (pos zero) zero = omega arith
-counted_least (pos zero) (suc n) = omega arith
-counted_least (pos (suc c)) n = omega arith
-counted_least (negsuc c) n = omega arith
-
-counted_none : (c : ℤ) (n : ℕ) → counted c n ≡ 0 → c ≡ pos 0
-unfolding counted
-counted_none (pos zero) n e = refl
-counted_none (pos (suc c)) n e = absurd (omega arith)
-counted_none (negsuc c) n e = absurd (omega arith)
-
-counted_some : (c : ℤ) (n m : ℕ) → counted c n ≡ suc m → (n ≡ m) × ((m ≡ 0) → c ≢ pos 0)
-unfolding counted
-counted_some (pos zero) zero m e = absurd (omega arith)
-counted_some (pos zero) (suc n) m e = (omega arith, λ none. absurd (omega arith))
-counted_some (pos (suc c)) n m e = (omega arith, λ none same. cc)
-counted_some (negsuc c) n m e = (omega arith, λ none same. cc)
-
-counted_next : (c : ℤ) (n k : ℕ) → counted c n ≤ suc k → n ≤ k
-unfolding counted
-counted_next (pos zero) zero k h = omega arith
-counted_next (pos zero) (suc n) k h = omega arith
-counted_next (pos (suc c)) n k h = omega arith
-counted_next (negsuc c) n k h = omega arith
-
--- above the last coefficient that isn't 0 there are zeros
-coefficient-above : (p : List ℤ) (k : ℕ) → count_to_last p ≤ k → coefficient p k ≡ pos 0
-unfolding coefficient count_to_last
-coefficient-above [] k h = refl
-coefficient-above (c ∷ p) zero h = counted_none c (count_to_last p) (omega arith)
-coefficient-above (c ∷ p) (suc k) h = coefficient-above p k (counted_next c (count_to_last p) k h)
-
--- the last one isn't 0
-coefficient-last : (p : List ℤ) (n : ℕ) → count_to_last p ≡ suc n → coefficient p n ≢ pos 0
-unfolding coefficient count_to_last
-coefficient-last [] n e = absurd (omega arith)
-coefficient-last (c ∷ p) zero e = (counted_some c (count_to_last p) zero e).1 refl
-coefficient-last (c ∷ p) (suc n) e = coefficient-last p n (counted_some c (count_to_last p) (suc n) e).0
-
--- where there are only zeros above
-count_at_most : (p : List ℤ) (n : ℕ) → ((k : ℕ) → n ≤ k → coefficient p k ≡ pos 0) → count_to_last p ≤ n
-count_at_most p n h = at (count_to_last p) refl
-  where
-    at : (m : ℕ) → count_to_last p ≡ m → count_to_last p ≤ n
-    at zero e = omega arith
-    at (suc m) e = elim (cases_lt m n) [
-      | inl l ↦ omega arith
-      | inr l ↦ absurd (coefficient-last p m e (h m l))
-    ]
-
-count_at_least : (p : List ℤ) (n : ℕ) → coefficient p n ≢ pos 0 → n < count_to_last p
-count_at_least p n some = elim (cases_lt n (count_to_last p)) [
-  | inl l ↦ l
-  | inr l ↦ absurd (some (coefficient-above p n l))
-]
-
-pub coefficient-above_degree : (p : List ℤ) (k : ℕ) → degree p < k → coefficient p k ≡ pos 0
-unfolding degree
-coefficient-above_degree p k h = coefficient-above p k (omega arith)
-
-pub degree_at_least : (p : List ℤ) (n : ℕ) → coefficient p n ≢ pos 0 → n ≤ degree p
-unfolding degree
-degree_at_least p n some = let l = count_at_least p n some in omega arith
-
-pub degree_at_most : (p : List ℤ) (n : ℕ) → ((k : ℕ) → n < k → coefficient p k ≡ pos 0) → degree p ≤ n
-unfolding degree
-degree_at_most p n h = let l = count_at_most p (suc n) h in omega arith
-
-pub degree-same : (p q : List ℤ) → Same p q → degree p ≡ degree q
-degree-same p q e =
-    let up = degree_at_most p (degree q) (λ k h. e k ∙ coefficient-above_degree q k h) in
-    let down = degree_at_most q (degree p) (λ k h. sym (e k) ∙ coefficient-above_degree p k h) in
-    omega arith
 
 -- ---- written coefficients
 
@@ -152,6 +77,24 @@ coefficient_small p q k zero c e =
     rw none (omega (arith, ints))
 coefficient_small p q k (suc n) c e = let s = coefficient_step p q k n c e in (sized_inside _ c s.sum).1
 
+-- a product by 0 adds nothing
+pub coefficient_zero : (p q : List ℤ) (k n : ℕ) → coefficient p n *ℤ coefficient q (k - n) ≡ pos 0 → written_coefficient p q k (suc n) ≡ written_coefficient p q k n
+coefficient_zero p q k n h = at (written_coefficient p q k n) refl
+  where
+    at : (r : Option ℤ) → written_coefficient p q k n ≡ r → written_coefficient p q k (suc n) ≡ written_coefficient p q k n
+    at None e = coefficient_kept p q k n e ∙ sym e
+    at (Some c) e =
+        coefficient_next p q k n c (pos 0) (Some c) e (ap sized h ∙ sized_small (pos 0) (lit< tt))
+        (ap sized (+ℤ_idr c) ∙ sized_small c (coefficient_small p q k n c e))
+        ∙ sym e
+
+pub coefficient_zeros : (p q : List ℤ) (k n m : ℕ) → ((i : ℕ) → n ≤ i → coefficient p i *ℤ coefficient q (k - i) ≡ pos 0) → n ≤ m → written_coefficient p q k m ≡ written_coefficient p q k n
+coefficient_zeros p q k n m h l = ap (written_coefficient p q k) (omega arith) ∙ more (m - n)
+  where
+    more : (m : ℕ) → written_coefficient p q k (m + n) ≡ written_coefficient p q k n
+    more zero = ap (written_coefficient p q k) (omega arith)
+    more (suc m) = ap (written_coefficient p q k) (omega arith) ∙ coefficient_zero p q k (m + n) (h (m + n) (omega arith)) ∙ more m
+
 -- ---- written products
 
 -- a written product that isn't refused: its degree and its coefficients
@@ -187,7 +130,7 @@ product_polynomial p q r e =
     (sym (product_from_list p q w.degrees) ∙ e)
 
 -- products of which one factor is 0 add nothing
-part_none : (p q : List ℤ) (k n : ℕ) → ((i : ℕ) → i < n → coefficient p i *ℤ coefficient q (k - i) ≡ pos 0) → product_part p q k n ≡ pos 0
+pub part_none : (p q : List ℤ) (k n : ℕ) → ((i : ℕ) → i < n → coefficient p i *ℤ coefficient q (k - i) ≡ pos 0) → product_part p q k n ≡ pos 0
 unfolding product_part
 part_none p q k zero h = refl
 part_none p q k (suc n) h = rw (part_none p q k n (λ i l. h i (omega arith)), h n (omega arith)) refl
@@ -197,6 +140,17 @@ past_degrees p q k i h = elim (cases_lt (degree p) i) [
   | inl l ↦ rw (coefficient-above_degree p i l) (omega (arith, ints))
   | inr l ↦ rw (coefficient-above_degree q (k - i) (omega arith)) (omega (arith, ints))
 ]
+
+-- the first factor's coefficients above its degree add nothing
+pub coefficient_whole : (p q : List ℤ) (k n : ℕ) → n ≤ k + 1 → (n ≤ k → degree p < n) → written_coefficient p q k (k + 1) ≡ written_coefficient p q k n
+coefficient_whole p q k n within past = elim (cases_lt k n) [
+  | inl l ↦ ap (written_coefficient p q k) (omega arith)
+  | inr l ↦ coefficient_zeros p q k n (k + 1) (λ i h. let d = past l in rw (coefficient-above_degree p i (omega arith)) (omega (arith, ints))) within
+]
+
+-- nor does anything add to a coefficient past both degrees
+pub coefficient_past : (p q : List ℤ) (k : ℕ) → degree p + degree q < k → written_coefficient p q k (k + 1) ≡ Some (pos 0)
+coefficient_past p q k h = coefficient_zeros p q k 0 (k + 1) (λ i l. past_degrees p q k i h) (omega arith) ∙ coefficient_none p q k
 
 -- a written product that isn't refused is the product
 pub product_is_exact : (p q r : List ℤ) → sized_product p q ≡ Some r → Same r (poly_multiply p q)

@@ -1,5 +1,5 @@
 -- What a sum that isn't refused is.
-use Rattle.std.proofs.Common.{◌≡◌, ℕ, ◌<◌, ◌^◌, List, length, sym, ◌∙◌, ap₂, arith, ℤ, ◌+ℤ◌, unsigned_abs, inl, inr, Option, Some}
+use Rattle.std.proofs.Common.{lit<, pos, ◌≡◌, ℕ, ◌<◌, ◌^◌, List, length, sym, ◌∙◌, ap₂, arith, ℤ, ◌+ℤ◌, unsigned_abs, inl, inr, Option, Some}
 use Rattle.std.proofs.lemmas.Bool.{cases_lt}
 use Rattle.std.proofs.lemmas.Int.{ints}
 use Rattle.field_core.specs.Polynomial.{coefficient, Same, poly_add}
@@ -7,8 +7,9 @@ use Rattle.field_core.specs.Sized.{sized}
 use Rattle.field_core.specs.Laws.PolynomialLaws.{coefficient-add}
 use Rattle.field_core.proofs.Sized.{sized_small, sized_large}
 use Rattle.eps_poly.specs.Polynomials.{IsPolynomial}
-use Rattle.eps_poly.specs.Written.{sized_list, sized_sum}
+use Rattle.eps_poly.specs.Written.{degree, sized_list, sized_sum}
 use Rattle.eps_poly.proofs.Coefficients.{coefficient-past}
+use Rattle.eps_poly.proofs.DegreeLaws.{coefficient-above_degree}
 use Rattle.eps_poly.proofs.SizedLists.{list_values, ok_inside}
 
 -- a written part that isn't refused
@@ -17,6 +18,10 @@ sized_inside z c e = elim (cases_lt (unsigned_abs z) (2 ^ 127)) [
   | inl h ↦ let same : z ≡ c = ok_inside (sized z) z c (sized_small z h) e in (sym same, rw (← same) h)
   | inr h ↦ let wide = sized_large z h in cc
 ]
+
+-- past both degrees nothing is added
+pub sum_past : (p q : List ℤ) (k : ℕ) → degree p < k → degree q < k → sized (coefficient p k +ℤ coefficient q k) ≡ Some (pos 0)
+sum_past p q k h l = rw (coefficient-above_degree p k h, coefficient-above_degree q k l) (sized_small (pos 0) (lit< tt))
 
 -- 33 values of at most 2^127 - 1 in size are a polynomial
 pub values_polynomial : (value : ℕ → Option ℤ) (r : List ℤ) → ((k : ℕ) (c : ℤ) → value k ≡ Some c → unsigned_abs c < 2 ^ 127) → sized_list 33 value ≡ Some r → IsPolynomial r

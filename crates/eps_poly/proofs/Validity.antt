@@ -1,13 +1,15 @@
 -- Lists that are polynomials: 33 coefficients, each of at most 2^127 - 1 in size.
-use Rattle.std.proofs.Common.{◌≡◌, ℕ, zero, suc, ◌+◌, ◌/◌, ◌<◌, ◌≤◌, ◌^◌, List, set, refl, ◌∙◌, arith, lit<, ℤ, pos, negsuc, neg_ℤ, int_div, unsigned_abs, inl, inr}
+use Rattle.std.proofs.Common.{◌≡◌, ℕ, zero, suc, ◌+◌, ◌/◌, ◌<◌, ◌≤◌, ◌^◌, List, set, refl, sym, ap, ◌∙◌, arith, lit<, ℤ, pos, negsuc, neg_ℤ, int_div, unsigned_abs, inl, inr}
 use Rattle.std.proofs.lemmas.Bool.{cases_eq, cases_lt}
 use Rattle.std.proofs.lemmas.List.{length-set}
 use Rattle.std.proofs.Math.Nat.{div-le_self}
 use Rattle.field_core.specs.Polynomial.{coefficient, lowest, poly_negate}
 use Rattle.field_core.specs.Laws.PolynomialLaws.{coefficient-negate}
+use Rattle.field_core.specs.Laws.Integers.{int_multiply_one}
+use Rattle.eps_poly.proofs.IntegerQuotients.{int_div_exact}
 use Rattle.eps_poly.specs.Polynomials.{IsPolynomial, by_powers, zero_polynomial}
 use Rattle.eps_poly.specs.Factors.{content, core, lowered, order, turned_as}
-use Rattle.eps_poly.proofs.Coefficients.{coefficient-past, coefficient-set_same, coefficient-set_other, coefficient-zero, length-zero, length-negate, length-by_powers, coefficient-by_powers}
+use Rattle.eps_poly.proofs.Coefficients.{same_polynomials, coefficient-past, coefficient-set_same, coefficient-set_other, coefficient-zero, length-zero, length-negate, length-by_powers, coefficient-by_powers}
 
 pub zero_valid : IsPolynomial zero_polynomial
 zero_valid = record { count = length-zero; sizes = λ k. rw (coefficient-zero k) (lit< tt) }
@@ -50,6 +52,18 @@ lowered_valid k by p v =
         | inr h ↦ rw (coefficient-past (by_powers value) i (omega arith)) (lit< tt)
       ];
     }
+
+over_one : (z : ℤ) → int_div z (pos 1) ≡ z
+over_one z = ap (λ x. int_div x (pos 1)) (sym (int_multiply_one z)) ∙ int_div_exact z (pos 1) (λ e. cc)
+
+-- nothing is lowered by 1
+pub lowered_same : (p : List ℤ) → IsPolynomial p → lowered 0 (pos 1) p ≡ p
+unfolding lowered
+lowered_same p v =
+    let value : ℕ → ℤ = λ i. int_div (coefficient p (i + 0)) (pos 1) in
+    let all = length-by_powers value in
+    same_polynomials (by_powers value) p (all ∙ sym v.count)
+    (λ k h. let same : k + 0 ≡ k = omega arith in coefficient-by_powers value k (omega arith) ∙ over_one (coefficient p (k + 0)) ∙ ap (coefficient p) same)
 
 turned_valid : (s : ℤ) (p : List ℤ) → IsPolynomial p → IsPolynomial (turned_as s p)
 turned_valid (pos n) p v = v

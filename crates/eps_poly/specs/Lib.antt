@@ -1,4 +1,4 @@
+pub mod ExactQuotients
 pub mod Factors
 pub mod Polynomials
-pub mod View
 pub mod Written

@@ -1,14 +1,11 @@
 //! Polynomials in epsilon with whole coefficients, in place: 33 coefficients, for the powers 0 to 32.
 #![tactic(auto)]
 
-mod compare;
-mod factors;
 pub mod laws;
 mod numbers;
 mod poly;
 mod products;
 mod quotients;
-mod sums;
 
 pub use poly::EpsPoly;
 

@@ -18,13 +18,6 @@ pub fn is_below_zero(c: Whole) -> bool
     c.value() < 0
 }
 
-/// Whether two numbers are the same.
-pub fn is_equal(c: Whole, d: Whole) -> bool
-    ensures { IsTrue result ↔ (c ≡ d) }
-{
-    c.value() == d.value()
-}
-
 /// The absolute value.
 pub fn size(c: Whole) -> u128
     ensures { result ≡ unsigned_abs c }

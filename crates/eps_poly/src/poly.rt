@@ -1,66 +1,88 @@
-ghost use Rattle.eps_poly.specs.Polynomials.{IsPolynomial};
+//! Polynomials: sums, products, exact quotients and factors.
+ghost use Rattle.std.specs.Prelude.{◌≡◌, ◌≢◌, ◌↔◌, ◌≤◌, ◌<◌, ◌^◌, ◌<ℤ◌, ℤ, pos, List, slice_set, IfOk, IfSome, IfNone, IsSomeAnd, IsTrue, Some};
+ghost use Rattle.std.specs.List.{list_all};
+ghost use Rattle.std.specs.Option.{option_map};
+ghost use Rattle.field_core.specs.Kind.{is_zero_integer, or_wide};
+ghost use Rattle.field_core.specs.Polynomial.{coefficient, lowest, poly_add, poly_multiply, poly_negate, IsNonZero, Same};
+ghost use Rattle.field_core.specs.Sized.{sized};
+ghost use Rattle.field_core.specs.declared.place.Op.TheVariants.{Add, Sub, Mul};
+ghost use Rattle.eps_poly.specs.ExactQuotients.{exact_quotient};
+ghost use Rattle.eps_poly.specs.Factors.{content, core, factor, low_order, lowered, order, turned_as};
+ghost use Rattle.eps_poly.specs.Polynomials.{monomial, zero_polynomial, IsPolynomial};
+ghost use Rattle.eps_poly.specs.Written.{degree, sized_product, sized_sum};
 
-use field_core::Whole;
+use crate::numbers::{is_below_zero, is_zero, size};
+use crate::products::part_of_product;
+use crate::quotients::candidate;
+use field_core::{Op, TooWide, Whole, gcd};
+use std::marker::Model;
 
 /// How many coefficients a polynomial holds: those of the powers 0 to 32.
 pub const COUNT: usize = 33;
 
 /// A polynomial in epsilon with whole coefficients: one of at most 2^127 - 1 in size for each of the powers 0 to 32.
-#[derive(Clone, Copy)]
+#[derive(Clone, Copy, PartialEq, Eq, Debug)]
 pub struct EpsPoly {
     entries: [i128; COUNT],
-    ghost valid: { IsPolynomial entries },
+}
+
+impl Model for EpsPoly {
+    ghost use Rattle.std.specs.Prelude.{List, ℤ};
+    ghost use Rattle.eps_poly.specs.Polynomials.{IsPolynomial};
+
+    ghost Value = { List ℤ };
+
+    ghost view = { λ p. p.entries };
+
+    ghost invariant = { λ p. IsPolynomial p.entries };
+
+    ghost inverse = { λ p. record { entries = p } };
 }
 
 impl EpsPoly {
-    ghost use Rattle.std.specs.Prelude.{◌≡◌, ◌≤◌, slice_set};
-    ghost use Rattle.std.specs.Option.{option_map};
-    ghost use Rattle.field_core.specs.Polynomial.{coefficient};
-    ghost use Rattle.field_core.specs.Sized.{sized};
-    ghost use Rattle.eps_poly.specs.Polynomials.{monomial, zero_polynomial};
-    ghost use Rattle.eps_poly.specs.View.{coefficients};
-
     /// The polynomial 0.
     pub fn zero() -> EpsPoly
-        ensures { coefficients result ≡ zero_polynomial }
+        ensures { result ≡ zero_polynomial }
     {
         EpsPoly {
             entries: [0; COUNT],
         }
     }
 
-    /// The polynomial `c`, refused exactly where `c` is the least `i128`.
-    pub fn constant(c: i128) -> Option<EpsPoly>
-        ensures { option_map coefficients result ≡ option_map (λ a. monomial a 0) (sized c) }
+    /// The polynomial `c`, refused with `Op::Add` exactly where `c` is the least `i128`.
+    pub fn constant(c: i128) -> Result<EpsPoly, TooWide>
+        ensures { result ≡ or_wide Add (option_map (λ a. monomial a 0) (sized c)) }
     {
-        Some(EpsPoly::monomial(Whole::checked_new(c)?, 0))
+        let c = Whole::checked_new(c).ok_or(TooWide { op: Op::Add })?;
+        Ok(EpsPoly::monomial(c, 0))
     }
 
     /// The polynomial `c * epsilon^power`; `power` is at most 32.
     pub fn monomial(c: Whole, power: usize) -> EpsPoly
         requires { power ≤ 32 }
-        ensures { coefficients result ≡ monomial c power }
+        ensures { result ≡ monomial c power }
     {
         let mut single = EpsPoly::zero();
         single.put(power, c);
         single
     }
 
-    /// This polynomial with `c` as one coefficient, refused exactly where `c` is the least `i128`;
+    /// This polynomial with `c` as one coefficient, refused with `Op::Add` exactly where `c` is the least `i128`;
     /// `power` is at most 32.
-    pub fn with(&self, power: usize, c: i128) -> Option<EpsPoly>
+    pub fn with(&self, power: usize, c: i128) -> Result<EpsPoly, TooWide>
         requires { power ≤ 32 }
-        ensures { option_map coefficients result ≡ option_map (slice_set (coefficients self.now) power) (sized c) }
+        ensures { result ≡ or_wide Add (option_map (slice_set self.now power) (sized c)) }
     {
+        let c = Whole::checked_new(c).ok_or(TooWide { op: Op::Add })?;
         let mut changed = *self;
-        changed.put(power, Whole::checked_new(c)?);
-        Some(changed)
+        changed.put(power, c);
+        Ok(changed)
     }
 
     /// Puts `c` in place of one coefficient; `power` is at most 32.
     pub fn put(&mut self, power: usize, c: Whole)
         requires { power ≤ 32 }
-        ensures { coefficients self.new ≡ slice_set (coefficients self.old) power c }
+        ensures { self.new ≡ slice_set self.old power c }
     {
         self.entries[power] = c.value();
     }
@@ -68,7 +90,7 @@ impl EpsPoly {
     /// One coefficient; `power` is at most 32.
     pub fn coefficient(&self, power: usize) -> i128
         requires { power ≤ 32 }
-        ensures { result ≡ coefficient (coefficients self.now) power }
+        ensures { result ≡ coefficient self.now power }
     {
         self.whole(power).value()
     }
@@ -76,8 +98,220 @@ impl EpsPoly {
     /// One coefficient; `power` is at most 32.
     pub fn whole(&self, power: usize) -> Whole
         requires { power ≤ 32 }
-        ensures { result ≡ coefficient (coefficients self.now) power }
+        ensures { result ≡ coefficient self.now power }
     {
         Whole::new(self.entries[power])
+    }
+
+    /// The greatest power with a coefficient that isn't 0, and 0 where there is none.
+    pub fn degree(&self) -> usize
+        ensures value { result ≡ degree self.now }
+        ensures within { result ≤ 32 }
+        ensures polynomial { IsPolynomial self.now }
+    {
+        let _ = &self.entries;
+        for power in (0..COUNT).rev() {
+            if !is_zero(self.whole(power)) {
+                return power;
+            }
+        }
+        0
+    }
+
+    /// How many coefficients of 0 come first: the least power with a coefficient that isn't 0, or 33.
+    pub fn order(&self) -> usize
+        ensures value { result ≡ order self.now }
+        ensures within { result ≤ 33 }
+        ensures polynomial { IsPolynomial self.now }
+    {
+        let _ = &self.entries;
+        for power in 0..COUNT {
+            if !is_zero(self.whole(power)) {
+                return power;
+            }
+        }
+        COUNT
+    }
+
+    /// The least power with a coefficient that isn't 0, or `None` exactly for the polynomial 0.
+    pub fn low_order(&self) -> Option<usize>
+        ensures value { result ≡ low_order self.now }
+        ensures within { IfSome result (λ k. k ≤ 32) }
+    {
+        let order = self.order();
+        if order == COUNT { None } else { Some(order) }
+    }
+
+    /// Whether it is 0.
+    pub fn is_zero(&self) -> bool
+        ensures value { result ≡ list_all is_zero_integer self.now }
+        ensures zero { IsTrue result ↔ (lowest self.now ≡ pos 0) }
+    {
+        self.order() == COUNT
+    }
+
+    /// The lowest coefficient that isn't 0, or 0 for the polynomial 0.
+    pub fn lowest(&self) -> Whole
+        ensures { result ≡ lowest self.now }
+    {
+        let order = self.order();
+        if order == COUNT {
+            Whole::new(0)
+        } else {
+            self.whole(order)
+        }
+    }
+
+    /// The greatest common divisor of the coefficients, and 0 for the polynomial 0.
+    pub fn content(&self) -> u128
+        ensures value { result ≡ content self.now }
+        ensures size { result < 2 ^ 127 }
+    {
+        let mut divisor = 0;
+        for power in (0..self.degree() + 1).rev() {
+            divisor = gcd(size(self.whole(power)), divisor);
+        }
+        divisor
+    }
+
+    /// The greatest common divisor of the coefficients, as a whole number.
+    pub fn whole_content(&self) -> Whole
+        ensures { result ≡ pos (content self.now) }
+    {
+        Whole::new(self.content() as i128)
+    }
+
+    /// The whole number `c` of `c * epsilon^k * P`, where `P` is the core; 0 for the polynomial 0.
+    pub fn factor(&self) -> Whole
+        ensures { result ≡ factor self.now }
+    {
+        let content = self.whole_content();
+        if is_below_zero(self.lowest()) {
+            content.negated()
+        } else {
+            content
+        }
+    }
+
+    /// The polynomial `P` of `c * epsilon^k * P`: its coefficients have greatest common divisor 1, and its coefficient of power 0 is above 0.
+    pub fn core(&self) -> EpsPoly
+        requires { IsNonZero self.now }
+        ensures { result ≡ core self.now }
+    {
+        let turned = self.turned();
+        turned.lowered(self.order(), self.whole_content())
+    }
+
+    /// This polynomial or its opposite, whichever has a positive lowest coefficient.
+    fn turned(&self) -> EpsPoly
+        ensures { result ≡ turned_as (lowest self.now) self.now }
+    {
+        if is_below_zero(self.lowest()) {
+            self.negate()
+        } else {
+            *self
+        }
+    }
+
+    /// The coefficients from a power on, each divided by a number above 0, without remainders; `power` is at most 32.
+    pub fn lowered(&self, power: usize, by: Whole) -> EpsPoly
+        requires power { power ≤ 32 }
+        requires by { pos 0 <ℤ by }
+        ensures { result ≡ lowered power by self.now }
+    {
+        let _ = &self.entries;
+        if power == 0 && by.value() == 1 {
+            return *self;
+        }
+        let mut lowered = EpsPoly::zero();
+        for from in power..self.degree() + 1 {
+            lowered.put(from - power, self.whole(from).over(by));
+        }
+        lowered
+    }
+
+    /// The opposite.
+    pub fn negate(&self) -> EpsPoly
+        ensures { result ≡ poly_negate self.now }
+    {
+        let mut opposite = EpsPoly::zero();
+        for power in 0..self.degree() + 1 {
+            opposite.put(power, self.whole(power).negated());
+        }
+        opposite
+    }
+
+    /// The sum, or `TooWide` exactly where the written sum has a part past its size.
+    pub fn add(&self, other: &EpsPoly) -> Result<EpsPoly, TooWide>
+        ensures written { result ≡ or_wide Add (sized_sum self.now other.now) }
+        ensures exact { IfOk result (λ r. Same r (poly_add self.now other.now)) }
+    {
+        self.checked_add(other).ok_or(TooWide { op: Op::Add })
+    }
+
+    /// The difference, or `TooWide` exactly where the written difference has a part past its size.
+    pub fn sub(&self, other: &EpsPoly) -> Result<EpsPoly, TooWide>
+        ensures written { result ≡ or_wide Sub (sized_sum self.now (poly_negate other.now)) }
+        ensures exact { IfOk result (λ r. Same r (poly_add self.now (poly_negate other.now))) }
+    {
+        self.checked_add(&other.negate())
+            .ok_or(TooWide { op: Op::Sub })
+    }
+
+    /// The product, or `TooWide` exactly where the written product has a part past its size or a degree above 32.
+    pub fn mul(&self, other: &EpsPoly) -> Result<EpsPoly, TooWide>
+        ensures written { result ≡ or_wide Mul (sized_product self.now other.now) }
+        ensures exact { IfOk result (λ r. Same r (poly_multiply self.now other.now)) }
+    {
+        self.checked_mul(other).ok_or(TooWide { op: Op::Mul })
+    }
+
+    /// The sum, or nothing exactly where the written sum has a part past its size.
+    pub fn checked_add(&self, other: &EpsPoly) -> Option<EpsPoly>
+        ensures written { result ≡ sized_sum self.now other.now }
+        ensures exact { IfSome result (λ r. Same r (poly_add self.now other.now)) }
+    {
+        let mut sum = EpsPoly::zero();
+        for power in 0..self.degree().max(other.degree()) + 1 {
+            let left = self.whole(power);
+            let right = other.whole(power);
+            sum.put(power, left.checked_add(right)?);
+        }
+        Some(sum)
+    }
+
+    /// The product, or nothing exactly where the written product has a part past its size or a degree above 32.
+    pub fn checked_mul(&self, other: &EpsPoly) -> Option<EpsPoly>
+        ensures written { result ≡ sized_product self.now other.now }
+        ensures exact { IfSome result (λ r. Same r (poly_multiply self.now other.now)) }
+    {
+        let above = self.degree();
+        let below = other.degree();
+        if above + below >= COUNT {
+            return None;
+        }
+        let mut product = EpsPoly::zero();
+        for power in 0..above + below + 1 {
+            let count = power.min(above) + 1;
+            product.put(power, part_of_product(self, other, power, count)?);
+        }
+        Some(product)
+    }
+
+    /// The polynomial `q` whose written product with `by` is this polynomial, or `None` exactly where there is none.
+    pub fn divide_exact(&self, by: &EpsPoly) -> Option<EpsPoly>
+        requires { IsNonZero by.now }
+        ensures value { result ≡ exact_quotient self.now by.now }
+        ensures found { IfSome result (λ q. sized_product q by.now ≡ Some self.now) }
+        ensures only { (q : List ℤ) → sized_product q by.now ≡ Some self.now → IsSomeAnd result (λ r. Same r q) }
+        ensures none { IfNone result ((q : List ℤ) → sized_product q by.now ≢ Some self.now) }
+    {
+        let quotient = candidate(self, by)?;
+        let product = quotient.checked_mul(by)?;
+        if product == *self {
+            Some(quotient)
+        } else {
+            None
+        }
     }
 }

@@ -152,8 +152,8 @@ fn polynomials_have_factors(rt: HostRuntime) -> Result<(), Fail> {
 #[test]
 fn polynomials_are_compared(rt: HostRuntime) -> Result<(), Fail> {
     let p = poly(&[0, -6, 9])?;
-    assert!(rt; p.is_same(&poly(&[0, -6, 9])?));
-    assert!(rt; !p.is_same(&p.with(32, 1)?));
+    assert_eq!(rt; p, poly(&[0, -6, 9])?);
+    assert!(rt; p != p.with(32, 1)?);
     assert!(rt; EpsPoly::zero().is_zero());
     assert!(rt; !EpsPoly::zero().with(32, -1)?.is_zero());
     Ok(())

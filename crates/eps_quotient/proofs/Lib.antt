@@ -1,4 +1,7 @@
+pub mod Constants
+pub mod CoreTests
 pub mod ListReadings
+pub mod Quick
 pub mod ReadBack
 pub mod ReadSteps
 pub mod Readings

@@ -16,7 +16,7 @@ use Rattle.field_core.specs.Polynomial.{coefficient, IsNonZero}
 use Rattle.eps_poly.specs.Polynomials.{IsPolynomial, by_powers, monomial}
 use Rattle.eps_poly.specs.Written.{degree}
 use Rattle.eps_poly.proofs.Coefficients.{same_polynomials, coefficient-past, length-by_powers, coefficient-by_powers}
-use Rattle.eps_poly.proofs.ProductLaws.{coefficient-above_degree, degree_at_most}
+use Rattle.eps_poly.proofs.DegreeLaws.{coefficient-above_degree, degree_at_most}
 use Rattle.eps_poly.proofs.OrderLaws.{coefficient-order}
 use Rattle.eps_poly.specs.Factors.{order}
 use Rattle.eps_quotient.specs.Laws.LimitTerms.{first_above}

@@ -1,8 +1,7 @@
 -- Sums of terms of ascending power.
-use Rattle.std.proofs.Common.{◌≡◌, ℕ, zero, suc, ◌+◌, ◌<◌, ◌≤◌, List, [], ◌∷◌, length, drop, map, refl, sym, ◌∙◌, ap, ap₂, arith, ℤ, pos, negsuc, ◌*ℤ◌, ◌<ℤ◌, unsigned_abs, Result, Ok, Err, lit≤, get_or, ◌*◌, subst}
+use Rattle.std.proofs.Common.{◌≡◌, ℕ, zero, suc, ◌+◌, ◌<◌, ◌≤◌, List, [], ◌∷◌, length, drop, map, refl, sym, ◌∙◌, ap, ap₂, arith, ℤ, pos, negsuc, ◌*ℤ◌, ◌<ℤ◌, unsigned_abs, Option, Some, None, Result, Ok, Err, lit≤, get_or, ◌*◌, subst}
 use Rattle.std.proofs.lemmas.Int.{ints}
 use Rattle.field_core.specs.declared.place.Op.TheVariants.{Add}
-use Rattle.field_core.specs.declared.place.TooWide.{TooWide}
 use Rattle.field_core.specs.declared.ratio.Ratio.{Ratio}
 use Rattle.field_core.specs.Number.{Number}
 use Rattle.field_core.specs.Arithmetic.{number_zero, number_one, ◌+ε◌, ◌*ε◌}
@@ -12,7 +11,7 @@ use Rattle.field_core.specs.Laws.Integers.{int_multiply_one}
 use Rattle.std.proofs.Math.IntN.{*ℤ-zero}
 use Rattle.std.proofs.Math.Nat.{mul-one}
 use Rattle.std.specs.List.{All}
-use Rattle.std.proofs.lemmas.List.Elements.{All-head, All-tail}
+use Rattle.std.proofs.lemmas.List.Elements.{All-head, All-map, All-tail}
 use Rattle.std.proofs.lemmas.List.{drop_all, drop_more, length-map, get_or-map}
 use lib.IntN.{ℤ_discrete}
 use Rattle.field_core.specs.Laws.Order.{number_laws, number_one_multiply, number_multiply_zero}
@@ -22,13 +21,14 @@ use Rattle.field_core.specs.Fractions.{quotient, fraction}
 use Rattle.field_core.specs.Laws.FractionLaws.{quotient-multiply, constant_nonzero}
 use Rattle.field_core.specs.Laws.Effective.{positive_nonzero}
 use Rattle.field_core.specs.Laws.PolynomialLaws.{coefficient-scale, multiply_comm, multiply-shift_left, nonzero-one, nonzero-multiply, positive_in}
-use Rattle.field_core.specs.Kind.{Parts}
+use Rattle.field_core.specs.declared.place.TooWide.{TooWide}
+use Rattle.field_core.specs.Kind.{Parts, or_wide}
 use Rattle.field_core.specs.Polynomial.{coefficient, Same, poly_scale, poly_multiply, lowest, int_sign, IsNonZero}
 use Rattle.field_core.specs.Terms.{Terms, IsReduced}
 use Rattle.field_core.specs.View.{terms}
 use Rattle.eps_poly.specs.Polynomials.{monomial}
 use Rattle.eps_poly.specs.Factors.{content, from_factors}
-use Rattle.eps_poly.proofs.SizedLists.{bind_ok}
+use Rattle.eps_poly.proofs.SizedLists.{bind_some}
 use Rattle.eps_quotient.specs.Lowering.{one_polynomial, zero_quotient}
 use Rattle.eps_quotient.specs.Polynomials.{term, sum_from, written_polynomial, polynomial_value}
 use Rattle.eps_quotient.specs.Quotients.{written_sum}
@@ -130,10 +130,10 @@ unfoldable AreReduced : List Terms → Type 0
 AreReduced [] = Unit {0}
 AreReduced (t ∷ ts) = IsReduced t × AreReduced ts
 
-parts_inside : (x y : Parts) → Path (Result Parts TooWide) (Ok x) (Ok y) → x ≡ y
+parts_inside : (x y : Parts) → Path (Option Parts) (Some x) (Some y) → x ≡ y
 parts_inside x y e = cc
 
-sum_value : (k : ℕ) (sum z : Parts) (ts : List Terms) → k + length ts ≤ 33 → IsQuotient sum → AreReduced ts → sum_from k sum ts ≡ Ok z
+sum_value : (k : ℕ) (sum z : Parts) (ts : List Terms) → k + length ts ≤ 33 → IsQuotient sum → AreReduced ts → sum_from k sum ts ≡ Some z
     → value_of z ≡ value_of sum +ε power k *ε polynomial_value ts
 unfolding sum_from polynomial_value power AreReduced
 sum_value k sum z [] room s r e =
@@ -141,7 +141,7 @@ sum_value k sum z [] room s r e =
 sum_value k sum z (t ∷ ts) room s r e =
     let low : k ≤ 32 = omega arith in
     let more : suc k + length ts ≤ 33 = omega arith in
-    let b = bind_ok _ _ z e in
+    let b = bind_some _ _ z e in
     let st = term_stored k t low r.0 in
     let next = quotients_are_exact.stored Add sum (term k t) b.0 s st tt b.1 in
     sum_value (suc k) b.0 z ts more next r.1 b.2
@@ -157,32 +157,48 @@ start_value : (v : Number) → number_zero +ε number_one *ε v ≡ v
 start_value v = simp number_laws
 
 -- the written sum of five terms has the value of their polynomial
-pub five_value : (xs : List Ratio) (z : Parts) → length xs ≡ 5 → written_polynomial (map terms xs) ≡ Ok z → value_of z ≡ polynomial_value (map terms xs)
+pub five_value : (xs : List Ratio) (z : Parts) → length xs ≡ 5 → written_polynomial (map terms xs) ≡ Some z → value_of z ≡ polynomial_value (map terms xs)
 unfolding power
 five_value xs z five e =
     sum_value 0 zero_quotient z (map terms xs) (rw (length-map, five) (lit≤ tt)) zero_stored (reduced_ratios xs) e
     ∙ ap (λ v. v +ε number_one *ε polynomial_value (map terms xs)) quotients_are_exact.zero_value ∙ start_value (polynomial_value (map terms xs))
 
+pub all_ratios : (xs : List Ratio) → All IsReduced (map terms xs)
+all_ratios xs = All-map IsReduced terms xs (λ k d h. (get_or xs k d).valid)
+
+-- ---- what the code answers
+
+pub kept : (x : Parts) (r : Option Parts) → Path (Result Parts TooWide) (Ok x) (or_wide Add r) → r ≡ Some x
+kept x (Some y) e = ap Some (same e)
+  where
+    same : Path (Result Parts TooWide) (Ok x) (Ok y) → y ≡ x
+    same e = cc
+kept x None e = absurd (cc)
+
+pub refused : (wide : TooWide) (r : Option Parts) → Path (Result Parts TooWide) (Err wide) (or_wide Add r) → r ≡ None
+refused wide (Some y) e = absurd (cc)
+refused wide None e = refl
+
 -- ---- one step of the loop
 
-pub sum_end : (sum : Parts) (k : ℕ) (ts : List Terms) → length ts ≤ k → sum_from k sum (drop k ts) ≡ Ok sum
+pub sum_end : (sum : Parts) (k : ℕ) (ts : List Terms) → length ts ≤ k → sum_from k sum (drop k ts) ≡ Some sum
 unfolding sum_from
 sum_end sum k ts h = rw (drop_all k ts h) refl
 
-step_next : (sum next : Parts) (k : ℕ) (t : Terms) (ts : List Terms) → written_sum Add sum (term k t) ≡ Ok next → sum_from k sum (t ∷ ts) ≡ sum_from (suc k) next ts
+step_next : (sum next : Parts) (k : ℕ) (t : Terms) (ts : List Terms) → written_sum sum (term k t) ≡ Some next → sum_from k sum (t ∷ ts) ≡ sum_from (suc k) next ts
 unfolding sum_from
 step_next sum next k t ts f = rw f refl
 
-step_stops : (sum : Parts) (k : ℕ) (t : Terms) (ts : List Terms) (wide : TooWide) → written_sum Add sum (term k t) ≡ Err wide → sum_from k sum (t ∷ ts) ≡ Err wide
+step_stops : (sum : Parts) (k : ℕ) (t : Terms) (ts : List Terms) → written_sum sum (term k t) ≡ None → sum_from k sum (t ∷ ts) ≡ None
 unfolding sum_from
-step_stops sum k t ts wide f = rw f refl
+step_stops sum k t ts f = rw f refl
 
 -- the terms that are left, the first of them apart
 terms_left : (xs : List Ratio) (d : Ratio) (k : ℕ) → k < length xs → drop k (map terms xs) ≡ terms (get_or xs k d) ∷ drop (k + 1) (map terms xs)
 terms_left xs d k h =
     drop_more (map terms xs) k (terms d) (rw length-map h) ∙ ap (λ t. t ∷ drop (k + 1) (map terms xs)) (get_or-map terms xs k d (terms d) h)
 
-pub sum_next : (sum next : Parts) (k : ℕ) (xs : List Ratio) (d : Ratio) → k < length xs → written_sum Add sum (term k (terms (get_or xs k d))) ≡ Ok next
+pub sum_next : (sum next : Parts) (k : ℕ) (xs : List Ratio) (d : Ratio) → k < length xs → written_sum sum (term k (terms (get_or xs k d))) ≡ Some next
     → sum_from k sum (drop k (map terms xs)) ≡ sum_from (k + 1) next (drop (k + 1) (map terms xs))
 sum_next sum next k xs d h f =
     ap (sum_from k sum) (terms_left xs d k h) ∙ step_next sum next k (terms (get_or xs k d)) (drop (k + 1) (map terms xs)) f
@@ -191,9 +207,9 @@ sum_next sum next k xs d h f =
     one_further : (k : ℕ) → suc k ≡ k + 1
     one_further k = omega arith
 
-pub sum_stops : (sum : Parts) (k : ℕ) (xs : List Ratio) (d : Ratio) (wide : TooWide) → k < length xs → written_sum Add sum (term k (terms (get_or xs k d))) ≡ Err wide
-    → sum_from k sum (drop k (map terms xs)) ≡ Err wide
-sum_stops sum k xs d wide h f = ap (sum_from k sum) (terms_left xs d k h) ∙ step_stops sum k (terms (get_or xs k d)) (drop (k + 1) (map terms xs)) wide f
+pub sum_stops : (sum : Parts) (k : ℕ) (xs : List Ratio) (d : Ratio) → k < length xs → written_sum sum (term k (terms (get_or xs k d))) ≡ None
+    → sum_from k sum (drop k (map terms xs)) ≡ None
+sum_stops sum k xs d h f = ap (sum_from k sum) (terms_left xs d k h) ∙ step_stops sum k (terms (get_or xs k d)) (drop (k + 1) (map terms xs)) f
 
 -- ---- written polynomials are exact
 
@@ -202,20 +218,20 @@ unfolding AreReduced
 all_reduced [] r = tt
 all_reduced (t ∷ ts) r = (All-head IsReduced t ts r, all_reduced ts (All-tail IsReduced t ts r))
 
-sum_stored : (k : ℕ) (sum z : Parts) (ts : List Terms) → k + length ts ≤ 33 → IsQuotient sum → AreReduced ts → sum_from k sum ts ≡ Ok z → IsQuotient z
+sum_stored : (k : ℕ) (sum z : Parts) (ts : List Terms) → k + length ts ≤ 33 → IsQuotient sum → AreReduced ts → sum_from k sum ts ≡ Some z → IsQuotient z
 unfolding sum_from AreReduced
 sum_stored k sum z [] room s r e = subst IsQuotient (parts_inside sum z e) s
 sum_stored k sum z (t ∷ ts) room s r e =
-    let b = bind_ok _ _ z e in
+    let b = bind_some _ _ z e in
     let next = quotients_are_exact.stored Add sum (term k t) b.0 s (term_stored k t (omega arith) r.0) tt b.1 in
     sum_stored (suc k) b.0 z ts (omega arith) next r.1 b.2
 
 -- a written polynomial that isn't refused is stored
-pub polynomial_stored : (ts : List Terms) (z : Parts) → length ts ≤ 33 → All IsReduced ts → written_polynomial ts ≡ Ok z → IsQuotient z
+pub polynomial_stored : (ts : List Terms) (z : Parts) → length ts ≤ 33 → All IsReduced ts → written_polynomial ts ≡ Some z → IsQuotient z
 polynomial_stored ts z few r e = sum_stored 0 zero_quotient z ts (omega arith) zero_stored (all_reduced ts r) e
 
 -- and it has the value of the polynomial
-pub polynomial_is : (ts : List Terms) (z : Parts) → length ts ≤ 33 → All IsReduced ts → written_polynomial ts ≡ Ok z → value_of z ≡ polynomial_value ts
+pub polynomial_is : (ts : List Terms) (z : Parts) → length ts ≤ 33 → All IsReduced ts → written_polynomial ts ≡ Some z → value_of z ≡ polynomial_value ts
 unfolding power
 polynomial_is ts z few r e =
     sum_value 0 zero_quotient z ts (omega arith) zero_stored (all_reduced ts r) e

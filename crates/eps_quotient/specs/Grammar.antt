@@ -3,7 +3,6 @@ use Rattle.std.specs.Prelude.{◌≡◌, ◌⊎◌, ◌<◌, ◌≤◌, ◌^◌,
 use Rattle.std.specs.Char.{is_ascii_digit}
 use Rattle.std.specs.List.{list_all, join_with_byte}
 use Rattle.std.specs.Str.Parse.{digits_value}
-use Rattle.field_core.specs.Kind.{Parts}
 use Rattle.field_core.specs.Polynomial.{coefficient, IsNonZero}
 use Rattle.eps_poly.specs.Polynomials.{by_powers, monomial}
 use Rattle.eps_quotient.specs.Lowering.{one_polynomial}
@@ -98,5 +97,5 @@ pub record IsOnly {A : Type 0} (P : A → Type 0) (found : Option A) : Type 0 wh
   pub only : (x : A) → P x → found ≡ Some x
 
 -- the same, of a numerator and a denominator
-abbrev pub IsOnlyPair : (List ℤ → List ℤ → Type 0) → Option Parts → Type 0
-IsOnlyPair P = IsOnly (λ x. P x.numerator x.denominator)
+abbrev pub IsOnlyPair : (List ℤ → List ℤ → Type 0) → Option (List ℤ × List ℤ) → Type 0
+IsOnlyPair P = IsOnly (λ x. P x.0 x.1)

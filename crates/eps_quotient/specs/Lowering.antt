@@ -1,14 +1,12 @@
 -- Quotients of polynomials without common factors, as they are stored (this project's own). A polynomial that isn't 0 is in one way
 -- c * epsilon^k * P, where P is its core; two equal cores are cut, and other common factors of cores are left.
-use Rattle.std.specs.Prelude.{◌-◌, ℕ, min, Bool, if◌then◌else◌, ℤ, pos, int_div, List}
+use Rattle.std.specs.Prelude.{◌-◌, ℕ, min, if◌then◌else◌, ℤ, pos, int_div, List}
 use Rattle.std.specs.List.{list_all}
 use Rattle.std.specs.Int.{is_negative}
-use Rattle.std.specs.Cmp.Lexicographic.{pointwise}
-use Rattle.std.specs.Ordering.{int_eq}
 use Rattle.field_core.specs.Divisor.{gcd}
 use Rattle.field_core.specs.Kind.{Parts, is_zero_integer}
 use Rattle.field_core.specs.Polynomial.{lowest, poly_negate}
-use Rattle.eps_poly.specs.Polynomials.{zero_polynomial, monomial}
+use Rattle.eps_poly.specs.Polynomials.{is_same, zero_polynomial, monomial}
 use Rattle.eps_poly.specs.Factors.{content, order, factor, core, lowered}
 
 -- the polynomial 1
@@ -30,10 +28,6 @@ common_content a b = gcd (content a) (content b)
 -- the least power with a coefficient that isn't 0
 abbrev pub common_order : List ℤ → List ℤ → ℕ
 common_order a b = min (order a) (order b)
-
--- Whether the coefficients of two polynomials are the same.
-abbrev pub is_same : List ℤ → List ℤ → Bool
-is_same p q = pointwise int_eq p q
 
 -- a/b, without common content and common powers of epsilon
 unfoldable pub without_powers : List ℤ → List ℤ → Parts

@@ -1,7 +1,5 @@
 -- Polynomials in epsilon with fractions for coefficients, as quotients (this project's own).
-use Rattle.std.specs.Prelude.{ℕ, suc, List, [], ◌∷◌, Result, Ok}
-use Rattle.field_core.specs.declared.place.Op.TheVariants.{Add}
-use Rattle.field_core.specs.declared.place.TooWide.{TooWide}
+use Rattle.std.specs.Prelude.{ℕ, suc, List, [], ◌∷◌, Option, Some}
 use Rattle.field_core.specs.Number.{Number}
 use Rattle.field_core.specs.Arithmetic.{number_zero, ◌+ε◌, ◌*ε◌}
 use Rattle.field_core.specs.Epsilon.{epsilon}
@@ -18,14 +16,14 @@ unfoldable pub term : ℕ → Terms → Parts
 term k t = record { numerator = monomial t.num k; denominator = monomial t.den 0 }
 
 -- the written sum of a quotient and of terms, the first with the power k
-unfoldable pub sum_from : ℕ → Parts → List Terms → Result Parts TooWide
-sum_from k sum [] = Ok sum
+unfoldable pub sum_from : ℕ → Parts → List Terms → Option Parts
+sum_from k sum [] = Some sum
 sum_from k sum (t ∷ ts) = do
-  next ← written_sum Add sum (term k t)
+  next ← written_sum sum (term k t)
   sum_from (suc k) next ts
 
 -- The written sum of the terms, by ascending power; a term that is 0 has no written part.
-abbrev pub written_polynomial : List Terms → Result Parts TooWide
+abbrev pub written_polynomial : List Terms → Option Parts
 written_polynomial ts = sum_from 0 zero_quotient ts
 
 -- the number whose coefficients of ascending power are these fractions

@@ -1,13 +1,13 @@
 -- The kind of the quotients in epsilon: how 0 and 1 are stored, and what the written operations give or refuse (this project's own).
-use Rattle.std.specs.Prelude.{◌||◌, ◌&&◌, Bool, if◌then◌else◌, List, ℤ, Result, Ok}
+use Rattle.std.specs.Prelude.{◌||◌, ◌&&◌, Bool, if◌then◌else◌, List, ℤ, Option, Some}
 use Rattle.field_core.specs.declared.place.Op.{Op}
 use Rattle.field_core.specs.declared.place.Op.TheVariants.{Add, Sub, Mul, Div}
-use Rattle.field_core.specs.declared.place.TooWide.{TooWide}
 use Rattle.field_core.specs.Polynomial.{poly_negate}
 use Rattle.field_core.specs.Sized.{◌>>=◌}
-use Rattle.field_core.specs.Kind.{Parts, Kind, is_zero, sign_of, ok_map}
+use Rattle.field_core.specs.Kind.{Parts, Kind, is_zero, sign_of, ok_map, or_wide}
+use Rattle.eps_poly.specs.Polynomials.{is_same}
 use Rattle.eps_poly.specs.Written.{sized_sum, sized_product}
-use Rattle.eps_quotient.specs.Lowering.{one_polynomial, zero_quotient, one_quotient, is_same, lower, norm}
+use Rattle.eps_quotient.specs.Lowering.{one_polynomial, zero_quotient, one_quotient, lower, norm}
 
 -- whether a stored quotient is 1/1
 unfoldable pub is_one : Parts → Bool
@@ -22,59 +22,59 @@ unfoldable pub inverse : Parts → Parts
 inverse x = norm x.denominator x.numerator
 
 -- a c / (e b), of quotients a/b and c/e
-unfoldable pub product_of : Op → Parts → Parts → Result Parts TooWide
-product_of op x y = do
-  numerator ← sized_product op x.numerator y.numerator
-  denominator ← sized_product op y.denominator x.denominator
-  Ok (norm numerator denominator)
+unfoldable pub product_of : Parts → Parts → Option Parts
+product_of x y = do
+  numerator ← sized_product x.numerator y.numerator
+  denominator ← sized_product y.denominator x.denominator
+  Some (norm numerator denominator)
 
 -- The written product: each numerator is lowered with the other denominator. A factor that is 0 or 1/1 has no written part.
-unfoldable pub written_product : Op → Parts → Parts → Result Parts TooWide
-written_product op x y =
+unfoldable pub written_product : Parts → Parts → Option Parts
+written_product x y =
     if is_zero x || is_zero y
-    then Ok zero_quotient
+    then Some zero_quotient
     else (
     if is_one x
-    then Ok y
-    else (if is_one y then Ok x else product_of op (lower x.numerator y.denominator) (lower y.numerator x.denominator))
+    then Some y
+    else (if is_one y then Some x else product_of (lower x.numerator y.denominator) (lower y.numerator x.denominator))
     )
 
 -- the written sum over the same denominator
-unfoldable pub sum_over : Op → List ℤ → List ℤ → List ℤ → Result Parts TooWide
-sum_over op n m d = do
-  numerator ← sized_sum op n m
-  Ok (norm numerator d)
+unfoldable pub sum_over : List ℤ → List ℤ → List ℤ → Option Parts
+sum_over n m d = do
+  numerator ← sized_sum n m
+  Some (norm numerator d)
 
 -- the written sum of n1/d1 and n2/d2, where e1/e2 is the quotient d1/d2, lowered
-unfoldable pub sum_of : Op → Parts → Parts → Parts → Result Parts TooWide
-sum_of op x y e = do
-  u ← sized_product op x.numerator e.denominator
-  v ← sized_product op y.numerator e.numerator
-  d ← sized_product op x.denominator e.denominator
-  sum_over op u v d
+unfoldable pub sum_of : Parts → Parts → Parts → Option Parts
+sum_of x y e = do
+  u ← sized_product x.numerator e.denominator
+  v ← sized_product y.numerator e.numerator
+  d ← sized_product x.denominator e.denominator
+  sum_over u v d
 
 -- The written sum: over the same denominator the numerators are added, over others the denominators are lowered first.
 -- A summand that is 0 has no written part.
-unfoldable pub written_sum : Op → Parts → Parts → Result Parts TooWide
-written_sum op x y =
+unfoldable pub written_sum : Parts → Parts → Option Parts
+written_sum x y =
     if is_zero x
-    then Ok y
+    then Some y
     else (
     if is_zero y
-    then Ok x
+    then Some x
     else (
     if is_same x.denominator y.denominator
-    then sum_over op x.numerator y.numerator x.denominator
-    else sum_of op x y (lower x.denominator y.denominator)
+    then sum_over x.numerator y.numerator x.denominator
+    else sum_of x y (lower x.denominator y.denominator)
     )
     )
 
 -- what each written operation gives or refuses: a difference is the sum with the opposite, a quotient the product with the inverse
-abbrev pub written_quotient : Op → Parts → Parts → Result Parts TooWide
-written_quotient Add x y = written_sum Add x y
-written_quotient Sub x y = written_sum Sub x (opposite y)
-written_quotient Mul x y = written_product Mul x y
-written_quotient Div x y = written_product Div x (inverse y)
+abbrev pub written_quotient : Op → Parts → Parts → Option Parts
+written_quotient Add x y = written_sum x y
+written_quotient Sub x y = written_sum x (opposite y)
+written_quotient Mul x y = written_product x y
+written_quotient Div x y = written_product x (inverse y)
 
 -- The kind of the quotients: two are compared by the sign of their written difference.
 abbrev pub quotients : Kind
@@ -82,5 +82,5 @@ quotients = record {
   zero = zero_quotient;
   one = one_quotient;
   written = written_quotient;
-  compare = λ x y. ok_map sign_of (written_quotient Sub x y);
+  compare = λ x y. ok_map sign_of (or_wide Sub (written_quotient Sub x y));
 }

@@ -2,17 +2,16 @@
 use Rattle.field_core.specs.Kind.{Parts}
 use Rattle.field_core.specs.Number.{Number}
 use Rattle.field_core.specs.Exact.{value_of}
-use Rattle.eps_poly.specs.View.{coefficients}
-use Rattle.eps_quotient.specs.declared.lower.Pair.{Pair}
+use Rattle.eps_quotient.specs.declared.pair.Pair.{Pair}
 use Rattle.eps_quotient.specs.declared.quotient.EpsQuotient.{EpsQuotient}
 
 -- the coefficients above and below
 abbrev pub pair_parts : Pair → Parts
-pair_parts x = record { numerator = coefficients x.numerator; denominator = coefficients x.denominator }
+pair_parts x = record { numerator = x.numerator; denominator = x.denominator }
 
 -- the coefficients of the numerator and of the denominator
 abbrev pub quotient_parts : EpsQuotient → Parts
-quotient_parts x = record { numerator = coefficients x.numerator; denominator = coefficients x.denominator }
+quotient_parts x = pair_parts x.pair
 
 -- the number that a quotient is
 abbrev pub number_of : EpsQuotient → Number

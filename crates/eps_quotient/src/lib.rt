@@ -3,6 +3,7 @@
 
 pub mod laws;
 mod lower;
+mod pair;
 mod print;
 mod quotient;
 mod read;

@@ -2,12 +2,11 @@
 ghost use Rattle.std.specs.Prelude.{◌≡◌, ◌≤◌, ◌==◌, ◌&&◌, ◌∷◌, ◌++◌, OnOk, OnErr, if◌then◌else◌};
 ghost use Rattle.std.specs.Fmt.{signed_decimal};
 ghost use Rattle.field_core.specs.Polynomial.{coefficient};
-ghost use Rattle.eps_poly.specs.View.{coefficients};
 ghost use Rattle.eps_poly.specs.Written.{degree};
 ghost use Rattle.eps_quotient.specs.Spelling.{HoldsFront, fraction_text, polynomial_text, quotient_text};
 ghost use Rattle.eps_quotient.specs.View.{pair_parts};
 
-use crate::lower::Pair;
+use crate::pair::Pair;
 use eps_poly::EpsPoly;
 use field_core::{List, NoMemory};
 use itoa::Buffer;
@@ -24,8 +23,8 @@ fn put_number(text: &mut List<u8>, number: i128) -> Result<(), NoMemory>
 /// Appends a coefficient, behind a comma where it isn't that of power 0.
 fn put_coefficient(text: &mut List<u8>, p: &EpsPoly, power: usize) -> Result<(), NoMemory>
     requires { power ≤ 32 }
-    ensures put { OnOk result (text.new ≡ text.old ++ (if power == 0 then signed_decimal (coefficient (coefficients p.now) power) else 44 ∷ signed_decimal (coefficient (coefficients p.now) power))) }
-    ensures front { OnErr result (HoldsFront text.old (if power == 0 then signed_decimal (coefficient (coefficients p.now) power) else 44 ∷ signed_decimal (coefficient (coefficients p.now) power)) text.new) }
+    ensures put { OnOk result (text.new ≡ text.old ++ (if power == 0 then signed_decimal (coefficient p.now power) else 44 ∷ signed_decimal (coefficient p.now power))) }
+    ensures front { OnErr result (HoldsFront text.old (if power == 0 then signed_decimal (coefficient p.now power) else 44 ∷ signed_decimal (coefficient p.now power)) text.new) }
 {
     if power == 0 {
         return put_number(text, p.coefficient(power));
@@ -36,8 +35,8 @@ fn put_coefficient(text: &mut List<u8>, p: &EpsPoly, power: usize) -> Result<(),
 
 /// Appends the coefficients up to the last that isn't 0, in brackets.
 fn put_polynomial(text: &mut List<u8>, p: &EpsPoly) -> Result<(), NoMemory>
-    ensures put { OnOk result (text.new ≡ text.old ++ polynomial_text (coefficients p.now)) }
-    ensures front { OnErr result (HoldsFront text.old (polynomial_text (coefficients p.now)) text.new) }
+    ensures put { OnOk result (text.new ≡ text.old ++ polynomial_text p.now) }
+    ensures front { OnErr result (HoldsFront text.old (polynomial_text p.now) text.new) }
 {
     text.push(b'[')?;
     for power in 0..p.degree() + 1 {
@@ -61,7 +60,7 @@ fn put_fraction(text: &mut List<u8>, num: i128, den: i128) -> Result<(), NoMemor
 
 /// Whether both polynomials are constants.
 fn is_fraction(x: &Pair) -> bool
-    ensures { result ≡ ((degree (coefficients x.now.numerator) == 0) && (degree (coefficients x.now.denominator) == 0)) }
+    ensures { result ≡ ((degree x.now.numerator == 0) && (degree x.now.denominator == 0)) }
 {
     x.numerator.degree() == 0 && x.denominator.degree() == 0
 }

@@ -1,62 +1,65 @@
-ghost use Rattle.std.specs.Prelude.{◌≡◌};
-ghost use Rattle.eps_poly.specs.View.{coefficients};
+//! Quotients in epsilon, as they are stored.
 ghost use Rattle.eps_quotient.specs.Stored.{IsQuotient};
 
-use crate::lower::{Pair, norm, one, sign, zero_quotient};
+use crate::lower::norm;
+use crate::pair::Pair;
 use crate::print::put_quotient;
 use crate::read::polynomials;
-use crate::written::{inverse, opposite, product, sum};
+use crate::written::{product, quotient, sum};
 use eps_poly::EpsPoly;
 use field_core::{List, NoMemory, Number, Op, Ratio, TooWide};
 use std::cmp::Ordering;
 
 /// A quotient of two polynomials in epsilon, as the norm of two polynomials stores it: without common content, common powers
 /// of epsilon and equal cores. The lowest coefficient of the denominator is positive, and 0 is stored as 0/1.
-#[derive(Clone, Copy)]
+#[derive(Clone, Copy, PartialEq, Eq, Debug)]
 pub struct EpsQuotient {
-    numerator: EpsPoly,
-    denominator: EpsPoly,
-    ghost stored: { IsQuotient (record { numerator = coefficients numerator; denominator = coefficients denominator }) },
+    pair: Pair,
+    ghost stored: { IsQuotient (record { numerator = pair.numerator; denominator = pair.denominator }) },
 }
 
 impl EpsQuotient {
     ghost use Rattle.std.specs.Prelude.{◌≡◌, ◌≤◌, ◌↔◌, ◌++◌, List as Seq, ℤ, IfSome, IsSomeAnd, IfOk, OnOk, OnErr, map, pos};
-    ghost use Rattle.field_core.specs.Kind.{ok_map};
+    ghost use Rattle.std.specs.Option.{option_map};
+    ghost use Rattle.field_core.specs.declared.place.Op.TheVariants.{Add};
+    ghost use Rattle.field_core.specs.Kind.{ok_map, or_wide};
     ghost use Rattle.field_core.specs.Polynomial.{lowest, IsNonZero};
     ghost use Rattle.field_core.specs.Fractions.{quotient as quotient_of};
-    ghost use Rattle.eps_poly.specs.View.{coefficients};
+    ghost use Rattle.eps_poly.specs.Polynomials.{IsConstant};
     ghost use Rattle.field_core.specs.View.{terms};
     ghost use Rattle.eps_quotient.specs.Grammar.{IsQuotientText};
     ghost use Rattle.eps_quotient.specs.Lowering.{norm};
     ghost use Rattle.eps_quotient.specs.Polynomials.{polynomial_value, term, written_polynomial};
     ghost use Rattle.eps_quotient.specs.Spelling.{HoldsFront, quotient_text};
     ghost use Rattle.eps_quotient.specs.Stored.{IsQuotient};
-    ghost use Rattle.eps_quotient.specs.View.{pair_parts, quotient_parts, number_of};
+    ghost use Rattle.eps_quotient.specs.View.{number_of, pair_parts, quotient_parts};
 
     /// The quotient num/den as the norm of the two polynomials stores it, or `None` exactly where `den` is 0.
     pub fn new(num: &EpsPoly, den: &EpsPoly) -> Option<EpsQuotient>
-        ensures norm { IfSome result (λ x. quotient_parts x ≡ norm (coefficients num.now) (coefficients den.now)) }
-        ensures value { IfSome result (λ x. number_of x ≡ quotient_of (coefficients num.now) (coefficients den.now)) }
-        ensures none { (result ≡ None) ↔ (lowest (coefficients den.now) ≡ pos 0) }
+        ensures norm { IfSome result (λ x. quotient_parts x ≡ norm num.now den.now) }
+        ensures value { IfSome result (λ x. number_of x ≡ quotient_of num.now den.now) }
+        ensures none { (result ≡ None) ↔ (lowest den.now ≡ pos 0) }
     {
         if den.is_zero() {
             return None;
         }
-        Some(EpsQuotient::stored(&norm(num, den)))
+        Some(EpsQuotient {
+            pair: norm(num, den),
+        })
     }
 
     /// The numerator.
     pub fn numerator(&self) -> EpsPoly
-        ensures { coefficients result ≡ (quotient_parts self.now).numerator }
+        ensures { result ≡ (quotient_parts self.now).numerator }
     {
-        self.numerator
+        self.pair.numerator
     }
 
     /// The denominator.
     pub fn denominator(&self) -> EpsPoly
-        ensures { coefficients result ≡ (quotient_parts self.now).denominator }
+        ensures { result ≡ (quotient_parts self.now).denominator }
     {
-        self.denominator
+        self.pair.denominator
     }
 
     /// Appends the text: that of the fraction where both polynomials are constants, else `[c0,c1,..]/[d0,d1,..]`, the coefficients
@@ -65,7 +68,7 @@ impl EpsQuotient {
         ensures printed { OnOk result (out.new ≡ out.old ++ quotient_text (quotient_parts self.now)) }
         ensures front { OnErr result (HoldsFront out.old (quotient_text (quotient_parts self.now)) out.new) }
     {
-        put_quotient(out, &self.pair())
+        put_quotient(out, &self.pair)
     }
 
     /// Reads the text of a quotient: a whole number, two numbers with a slash between them, or two lists of coefficients in brackets
@@ -74,15 +77,16 @@ impl EpsQuotient {
         ensures found { IfSome result (λ x. (n d : Seq ℤ) × IsQuotientText text.now n d × (quotient_parts x ≡ norm n d)) }
         ensures only { (n d : Seq ℤ) → IsQuotientText text.now n d → IsSomeAnd result (λ x. quotient_parts x ≡ norm n d) }
     {
-        let pair = polynomials(text)?;
-        EpsQuotient::new(&pair.numerator, &pair.denominator)
+        let (num, den) = polynomials(text)?;
+        EpsQuotient::new(&num, &den)
     }
 
     /// The quotient whose value is the polynomial with these coefficients of ascending power: the written sum of its terms,
     /// or `TooWide` with `Op::Add` exactly where that sum has a part past its size.
     pub fn from_parts(parts: &[Ratio; 5]) -> Result<EpsQuotient, TooWide>
-        ensures written { ok_map quotient_parts result ≡ written_polynomial (map terms parts.now) }
+        ensures written { ok_map quotient_parts result ≡ or_wide Add (written_polynomial (map terms parts.now)) }
         ensures value { IfOk result (λ x. number_of x ≡ polynomial_value (map terms parts.now)) }
+        ensures constant { IfOk result (λ x. IsConstant (quotient_parts x).denominator) }
     {
         let mut sum = EpsQuotient::zero();
         for power in 0..5 {
@@ -103,36 +107,25 @@ impl EpsQuotient {
         requires { power ≤ 32 }
         ensures { quotient_parts result ≡ term power (terms part.now) }
     {
-        EpsQuotient::stored(&Pair {
-            numerator: EpsPoly::monomial(part.whole_num(), power),
-            denominator: EpsPoly::monomial(part.whole_den(), 0),
-        })
-    }
-
-    /// A pair that is stored.
-    fn stored(pair: &Pair) -> EpsQuotient
-        requires { IsQuotient (pair_parts pair.now) }
-        ensures { quotient_parts result ≡ pair_parts pair.now }
-    {
+        let numerator = EpsPoly::monomial(part.whole_num(), power);
+        let denominator = EpsPoly::monomial(part.whole_den(), 0);
         EpsQuotient {
-            numerator: pair.numerator,
-            denominator: pair.denominator,
+            pair: Pair::new(numerator, denominator),
         }
     }
 
-    /// The two polynomials.
-    fn pair(&self) -> Pair
-        ensures parts { pair_parts result ≡ quotient_parts self.now }
-        ensures some { IsNonZero (coefficients result.denominator) }
+    /// What an operation answers whose written parts may be refused.
+    fn answer(op: Op, pair: Option<Pair>) -> Result<EpsQuotient, TooWide>
+        requires { IfSome pair (λ x. IsQuotient (pair_parts x)) }
+        ensures { ok_map quotient_parts result ≡ or_wide op (option_map pair_parts pair) }
     {
-        Pair {
-            numerator: self.numerator,
-            denominator: self.denominator,
+        match pair {
+            Some(pair) => Ok(EpsQuotient { pair }),
+            None => Err(TooWide { op }),
         }
     }
 }
 
-#[tactic(auto, unfolding(field_core::specs::Kind::is_zero, field_core::specs::Kind::sign_of))]
 impl Number for EpsQuotient {
     ghost use Rattle.eps_quotient.specs.Quotients.{quotients};
     ghost use Rattle.eps_quotient.specs.Stored.{IsQuotient};
@@ -146,34 +139,31 @@ impl Number for EpsQuotient {
     ghost IsStored = { IsQuotient };
 
     fn zero() -> EpsQuotient {
-        EpsQuotient::stored(&zero_quotient())
+        EpsQuotient {
+            pair: Pair::zero(),
+        }
     }
 
     fn one() -> EpsQuotient {
-        EpsQuotient::stored(&Pair {
-            numerator: one(),
-            denominator: one(),
-        })
+        EpsQuotient {
+            pair: Pair::one(),
+        }
     }
 
     fn add(&self, other: &EpsQuotient) -> Result<EpsQuotient, TooWide> {
-        let pair = sum(Op::Add, &self.pair(), &other.pair())?;
-        Ok(EpsQuotient::stored(&pair))
+        EpsQuotient::answer(Op::Add, sum(&self.pair, &other.pair))
     }
 
     fn sub(&self, other: &EpsQuotient) -> Result<EpsQuotient, TooWide> {
-        let pair = sum(Op::Sub, &self.pair(), &opposite(&other.pair()))?;
-        Ok(EpsQuotient::stored(&pair))
+        EpsQuotient::answer(Op::Sub, sum(&self.pair, &other.pair.opposite()))
     }
 
     fn mul(&self, other: &EpsQuotient) -> Result<EpsQuotient, TooWide> {
-        let pair = product(Op::Mul, &self.pair(), &other.pair())?;
-        Ok(EpsQuotient::stored(&pair))
+        EpsQuotient::answer(Op::Mul, product(&self.pair, &other.pair))
     }
 
     fn div(&self, other: &EpsQuotient) -> Result<EpsQuotient, TooWide> {
-        let pair = product(Op::Div, &self.pair(), &inverse(&other.pair()))?;
-        Ok(EpsQuotient::stored(&pair))
+        EpsQuotient::answer(Op::Div, quotient(&self.pair, &other.pair))
     }
 
     /// Refused exactly where the difference is, with `Op::Sub`.
@@ -185,16 +175,16 @@ impl Number for EpsQuotient {
     }
 
     fn is_zero(&self) -> bool {
-        self.numerator.is_zero()
+        self.pair.is_zero()
     }
 
     fn sign(&self) -> Ordering {
-        sign(&self.numerator)
+        self.pair.sign()
     }
 
     fn limit(&self) -> Ratio {
-        let num = self.numerator.whole(0);
-        let den = self.denominator.whole(0);
+        let num = self.pair.numerator.whole(0);
+        let den = self.pair.denominator.whole(0);
         let divisor = num.common_divisor(den);
         Ratio::of_wholes(num.over(divisor), den.over(divisor))
     }

@@ -1,14 +1,12 @@
 //! Reading the texts of quotients.
-ghost use Rattle.std.specs.Prelude.{◌≡◌, ◌≢◌, ◌==◌, ◌-◌, ◌^◌, ◌∷◌, ◌++◌, ℕ, List, [], min, true, false, option_map, IfSome, IfNone};
+ghost use Rattle.std.specs.Prelude.{◌≡◌, ◌≢◌, ◌==◌, ◌-◌, ◌^◌, ◌∷◌, ◌++◌, ℕ, List, [], min, true, false, IfSome, IfNone};
 ghost use Rattle.std.specs.Char.{is_ascii_digit};
 ghost use Rattle.std.specs.List.{All, list_all};
 ghost use Rattle.std.specs.Str.Parse.{digits_value};
-ghost use Rattle.eps_poly.specs.View.{coefficients};
 ghost use Rattle.eps_quotient.specs.Grammar.{AreSides, IsFraction, IsList, IsLists, IsOnly, IsOnlyPair, IsPolynomials, IsWholeText};
 ghost use Rattle.eps_quotient.specs.Reading.{number_of, polynomial_of, whole_of};
-ghost use Rattle.eps_quotient.specs.View.{pair_parts};
 
-use crate::lower::{Pair, one};
+use crate::pair::one;
 use eps_poly::EpsPoly;
 use field_core::Whole;
 
@@ -89,7 +87,7 @@ fn inside(text: &[u8]) -> Option<&[u8]>
 
 /// The polynomial whose coefficients are written with commas between them.
 fn polynomial(text: &[u8]) -> Option<EpsPoly>
-    ensures { option_map coefficients result ≡ polynomial_of text.now }
+    ensures { result ≡ polynomial_of text.now }
 {
     let mut polynomial = EpsPoly::zero();
     let mut rest = text;
@@ -106,38 +104,32 @@ fn polynomial(text: &[u8]) -> Option<EpsPoly>
 
 /// The polynomial whose coefficients stand in brackets.
 fn list(text: &[u8]) -> Option<EpsPoly>
-    ensures { IsOnly (IsList text.now) (option_map coefficients result) }
+    ensures { IsOnly (IsList text.now) (result) }
 {
     polynomial(inside(text)?)
 }
 
 /// A whole number over a number.
-fn fraction(over: &[u8], under: &[u8]) -> Option<Pair>
-    ensures { IsOnlyPair (IsFraction over.now under.now) (option_map pair_parts result) }
+fn fraction(over: &[u8], under: &[u8]) -> Option<(EpsPoly, EpsPoly)>
+    ensures { IsOnlyPair (IsFraction over.now under.now) result }
 {
     let num = whole(over)?;
     let den = number(under)?;
-    Some(Pair {
-        numerator: EpsPoly::monomial(num, 0),
-        denominator: EpsPoly::monomial(den, 0),
-    })
+    Some((EpsPoly::monomial(num, 0), EpsPoly::monomial(den, 0)))
 }
 
 /// A list over a list.
-fn lists(over: &[u8], under: &[u8]) -> Option<Pair>
-    ensures { IsOnlyPair (IsLists over.now under.now) (option_map pair_parts result) }
+fn lists(over: &[u8], under: &[u8]) -> Option<(EpsPoly, EpsPoly)>
+    ensures { IsOnlyPair (IsLists over.now under.now) result }
 {
     let numerator = list(over)?;
     let denominator = list(under)?;
-    Some(Pair {
-        numerator,
-        denominator,
-    })
+    Some((numerator, denominator))
 }
 
 /// What stands on both sides of a slash.
-fn sides(over: &[u8], under: &[u8]) -> Option<Pair>
-    ensures { IsOnlyPair (AreSides over.now under.now) (option_map pair_parts result) }
+fn sides(over: &[u8], under: &[u8]) -> Option<(EpsPoly, EpsPoly)>
+    ensures { IsOnlyPair (AreSides over.now under.now) result }
 {
     match fraction(over, under) {
         Some(pair) => Some(pair),
@@ -146,19 +138,16 @@ fn sides(over: &[u8], under: &[u8]) -> Option<Pair>
 }
 
 /// A whole number over 1.
-fn over_one(text: &[u8]) -> Option<Pair>
-    ensures { IsOnlyPair (IsWholeText text.now) (option_map pair_parts result) }
+fn over_one(text: &[u8]) -> Option<(EpsPoly, EpsPoly)>
+    ensures { IsOnlyPair (IsWholeText text.now) result }
 {
     let number = whole(text)?;
-    Some(Pair {
-        numerator: EpsPoly::monomial(number, 0),
-        denominator: one(),
-    })
+    Some((EpsPoly::monomial(number, 0), one()))
 }
 
 /// The two polynomials of a text.
-pub fn polynomials(text: &[u8]) -> Option<Pair>
-    ensures { IsOnlyPair (IsPolynomials text.now) (option_map pair_parts result) }
+pub fn polynomials(text: &[u8]) -> Option<(EpsPoly, EpsPoly)>
+    ensures { IsOnlyPair (IsPolynomials text.now) result }
 {
     match cut(text, b'/') {
         Some((over, under)) => sides(over, under),

@@ -1,114 +1,99 @@
 //! The written operations on quotients.
 ghost use Rattle.std.specs.Prelude.{◌≡◌, false};
-ghost use Rattle.field_core.specs.Kind.{ok_map, is_zero};
+ghost use Rattle.std.specs.Option.{option_map};
+ghost use Rattle.field_core.specs.Kind.{is_zero};
 ghost use Rattle.field_core.specs.Polynomial.{IsNonZero};
-ghost use Rattle.eps_poly.specs.View.{coefficients};
-ghost use Rattle.eps_quotient.specs.Quotients.{inverse, is_one, opposite, product_of, sum_of, sum_over, written_product, written_sum};
+ghost use Rattle.eps_quotient.specs.Quotients.{inverse, product_of, sum_of, sum_over, written_product, written_sum};
 ghost use Rattle.eps_quotient.specs.View.{pair_parts};
 
-use crate::lower::{Pair, are_same, lower, norm, one, zero_quotient};
+use crate::lower::{lower, norm};
+use crate::pair::Pair;
 use eps_poly::EpsPoly;
-use field_core::{Op, TooWide};
-
-/// Whether it is 1/1.
-#[tactic(auto, unfolding(crate::specs::Quotients::is_one))]
-fn is_one(x: &Pair) -> bool
-    ensures { result ≡ is_one (pair_parts x.now) }
-{
-    are_same(&x.numerator, &one()) && are_same(&x.denominator, &one())
-}
-
-/// The opposite.
-pub fn opposite(x: &Pair) -> Pair
-    ensures { pair_parts result ≡ opposite (pair_parts x.now) }
-{
-    Pair {
-        numerator: x.numerator.negate(),
-        denominator: x.denominator,
-    }
-}
 
 /// The inverse.
 #[tactic(auto, unfolding(crate::specs::Quotients::inverse, field_core::specs::Kind::is_zero))]
-pub fn inverse(x: &Pair) -> Pair
+fn inverse(x: &Pair) -> Pair
     requires { is_zero (pair_parts x.now) ≡ false }
-    ensures inverse { pair_parts result ≡ inverse (pair_parts x.now) }
-    ensures some { IsNonZero (coefficients result.denominator) }
+    ensures { pair_parts result ≡ inverse (pair_parts x.now) }
 {
     norm(&x.denominator, &x.numerator)
 }
 
 /// The product of a/b and c/e, as ac over eb.
 #[tactic(auto, unfolding(crate::specs::Quotients::product_of))]
-fn product_of(op: Op, x: &Pair, y: &Pair) -> Result<Pair, TooWide>
-    requires first { IsNonZero (coefficients x.now.denominator) }
-    requires second { IsNonZero (coefficients y.now.denominator) }
-    ensures { ok_map pair_parts result ≡ product_of op (pair_parts x.now) (pair_parts y.now) }
+fn product_of(x: &Pair, y: &Pair) -> Option<Pair>
+    ensures { option_map pair_parts result ≡ product_of (pair_parts x.now) (pair_parts y.now) }
 {
-    let numerator = x.numerator.times(op, &y.numerator)?;
-    let denominator = y.denominator.times(op, &x.denominator)?;
-    Ok(norm(&numerator, &denominator))
+    let numerator = x.numerator.checked_mul(&y.numerator)?;
+    let denominator = y.denominator.checked_mul(&x.denominator)?;
+    Some(norm(&numerator, &denominator))
 }
 
 /// The written product.
-#[tactic(auto, unfolding(crate::specs::Quotients::written_product, field_core::specs::Kind::is_zero))]
-pub fn product(op: Op, x: &Pair, y: &Pair) -> Result<Pair, TooWide>
-    requires first { IsNonZero (coefficients x.now.denominator) }
-    requires second { IsNonZero (coefficients y.now.denominator) }
-    ensures { ok_map pair_parts result ≡ written_product op (pair_parts x.now) (pair_parts y.now) }
+#[tactic(auto, unfolding(crate::specs::Quotients::written_product))]
+pub fn product(x: &Pair, y: &Pair) -> Option<Pair>
+    ensures { option_map pair_parts result ≡ written_product (pair_parts x.now) (pair_parts y.now) }
 {
-    if x.numerator.is_zero() || y.numerator.is_zero() {
-        Ok(zero_quotient())
-    } else if is_one(x) {
-        Ok(*y)
-    } else if is_one(y) {
-        Ok(*x)
+    if x.is_zero() || y.is_zero() {
+        Some(Pair::zero())
+    } else if x.is_one() {
+        Some(*y)
+    } else if y.is_one() {
+        Some(*x)
     } else {
         product_of(
-            op,
             &lower(&x.numerator, &y.denominator),
             &lower(&y.numerator, &x.denominator),
         )
     }
 }
 
+/// The written quotient. What is 0 stays 0, and nothing is written by 1/1.
+pub fn quotient(x: &Pair, y: &Pair) -> Option<Pair>
+    requires { is_zero (pair_parts y.now) ≡ false }
+    ensures { option_map pair_parts result ≡ written_product (pair_parts x.now) (inverse (pair_parts y.now)) }
+{
+    if x.is_zero() {
+        Some(Pair::zero())
+    } else if y.is_one() {
+        Some(*x)
+    } else {
+        product(x, &inverse(y))
+    }
+}
+
 /// The written sum of n/d and m/d.
 #[tactic(auto, unfolding(crate::specs::Quotients::sum_over))]
-fn sum_over(op: Op, n: &EpsPoly, m: &EpsPoly, d: &EpsPoly) -> Result<Pair, TooWide>
-    requires { IsNonZero (coefficients d.now) }
-    ensures { ok_map pair_parts result ≡ sum_over op (coefficients n.now) (coefficients m.now) (coefficients d.now) }
+fn sum_over(n: &EpsPoly, m: &EpsPoly, d: &EpsPoly) -> Option<Pair>
+    requires { IsNonZero d.now }
+    ensures { option_map pair_parts result ≡ sum_over n.now m.now d.now }
 {
-    let numerator = n.plus(op, m)?;
-    Ok(norm(&numerator, d))
+    Some(norm(&n.checked_add(m)?, d))
 }
 
 /// The written sum over other denominators, whose quotient is e, lowered.
 #[tactic(auto, unfolding(crate::specs::Quotients::sum_of))]
-fn sum_of(op: Op, x: &Pair, y: &Pair, e: &Pair) -> Result<Pair, TooWide>
-    requires denominator { IsNonZero (coefficients x.now.denominator) }
-    requires lowered { IsNonZero (coefficients e.now.denominator) }
-    ensures { ok_map pair_parts result ≡ sum_of op (pair_parts x.now) (pair_parts y.now) (pair_parts e.now) }
+fn sum_of(x: &Pair, y: &Pair, e: &Pair) -> Option<Pair>
+    ensures { option_map pair_parts result ≡ sum_of (pair_parts x.now) (pair_parts y.now) (pair_parts e.now) }
 {
-    let u = x.numerator.times(op, &e.denominator)?;
-    let v = y.numerator.times(op, &e.numerator)?;
-    let d = x.denominator.times(op, &e.denominator)?;
-    sum_over(op, &u, &v, &d)
+    let u = x.numerator.checked_mul(&e.denominator)?;
+    let v = y.numerator.checked_mul(&e.numerator)?;
+    let d = x.denominator.checked_mul(&e.denominator)?;
+    sum_over(&u, &v, &d)
 }
 
 /// The written sum.
-#[tactic(auto, unfolding(crate::specs::Quotients::written_sum, field_core::specs::Kind::is_zero))]
-pub fn sum(op: Op, x: &Pair, y: &Pair) -> Result<Pair, TooWide>
-    requires first { IsNonZero (coefficients x.now.denominator) }
-    requires second { IsNonZero (coefficients y.now.denominator) }
-    ensures { ok_map pair_parts result ≡ written_sum op (pair_parts x.now) (pair_parts y.now) }
+#[tactic(auto, unfolding(crate::specs::Quotients::written_sum))]
+pub fn sum(x: &Pair, y: &Pair) -> Option<Pair>
+    ensures { option_map pair_parts result ≡ written_sum (pair_parts x.now) (pair_parts y.now) }
 {
-    if x.numerator.is_zero() {
-        Ok(*y)
-    } else if y.numerator.is_zero() {
-        Ok(*x)
-    } else if are_same(&x.denominator, &y.denominator) {
-        sum_over(op, &x.numerator, &y.numerator, &x.denominator)
+    if x.is_zero() {
+        Some(*y)
+    } else if y.is_zero() {
+        Some(*x)
+    } else if x.denominator == y.denominator {
+        sum_over(&x.numerator, &y.numerator, &x.denominator)
     } else {
-        sum_of(op, x, y, &lower(&x.denominator, &y.denominator))
+        sum_of(x, y, &lower(&x.denominator, &y.denominator))
     }
 }

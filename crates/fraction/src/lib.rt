@@ -13,6 +13,7 @@ mod machine;
 mod parse;
 mod print;
 mod shift;
+mod short;
 mod size;
 mod value;
 mod written;

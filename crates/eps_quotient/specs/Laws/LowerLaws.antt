@@ -4,8 +4,6 @@ use Rattle.std.specs.List.{list_all}
 use Rattle.std.specs.Int.{◌∣◌}
 use Rattle.eps_quotient.specs.Laws.Cores.{Is}
 use Rattle.std.proofs.Math.Nat.{mul-one, eq_of_mul-eq-mul_left, min-le_left, min-le_right, eq-one_of_dvd-one}
-use Rattle.std.proofs.lemmas.Slice.Eq.{slice_eq-Decides}
-use Rattle.std.proofs.lemmas.Bool.Decides.{Decides-int_eq}
 use Rattle.field_core.specs.Divisor.{gcd}
 use Rattle.field_core.proofs.Divisors.{gcd_is}
 use Rattle.field_core.proofs.Coprime.{gcd_scaled, gcd_bounds}
@@ -15,14 +13,14 @@ use Rattle.field_core.specs.Laws.PolynomialLaws.{lowest-same, lowest-multiply}
 use Rattle.std.proofs.lemmas.Bool.{cases_lt}
 use Rattle.std.proofs.Math.IntN.{zero-*ℤ}
 use Rattle.field_core.specs.Fractions.{quotient}
-use Rattle.eps_poly.specs.Polynomials.{IsPolynomial, zero_polynomial, monomial}
+use Rattle.eps_poly.specs.Polynomials.{IsPolynomial, is_same, zero_polynomial, monomial}
 use Rattle.eps_poly.specs.Factors.{content, order, factor, core, from_factors}
 use Rattle.eps_poly.proofs.ContentLaws.{content_some}
 use Rattle.eps_poly.proofs.OrderLaws.{coefficient-order, lowest_from_coefficient}
 use Rattle.eps_poly.proofs.Validity.{zero_valid}
-use Rattle.eps_poly.proofs.Coefficients.{coefficient-zero}
+use Rattle.eps_poly.proofs.Coefficients.{coefficient-zero, same_from, other_from}
 use Rattle.eps_quotient.specs.Laws.Multiples.{monomial-at}
-use Rattle.eps_quotient.specs.Lowering.{one_polynomial, zero_quotient, common_content, common_order, is_same, without_powers, without_cores, lower}
+use Rattle.eps_quotient.specs.Lowering.{one_polynomial, zero_quotient, common_content, common_order, without_powers, without_cores, lower}
 use Rattle.eps_quotient.specs.Laws.QuotientLaws.{quotient-cancel, zero_value}
 use Rattle.eps_quotient.specs.Laws.Cuts.{IsCut, cut_powers, cut_core, one_core, monomial_held, monomial_core}
 
@@ -38,15 +36,6 @@ pub record IsLowered (a b : List ℤ) (x : Parts) : Type 0 where
   pub no_core : core x.numerator ≡ core x.denominator → core x.denominator ≡ one_polynomial
 
 -- ---- tests
-
-pub same_from : (p q : List ℤ) → is_same p q ≡ true → p ≡ q
-same_from p q e = (slice_eq-Decides Decides-int_eq p q (is_same p q) refl).0 e
-
-pub same_to : (p q : List ℤ) → p ≡ q → is_same p q ≡ true
-same_to p q e = (slice_eq-Decides Decides-int_eq p q (is_same p q) refl).1 e
-
-pub other_from : (p q : List ℤ) → is_same p q ≡ false → ¬ (p ≡ q)
-other_from p q e s = let t = same_to p q s in cc
 
 pub zeros_lowest : (p : List ℤ) → list_all is_zero_integer p ≡ true → lowest p ≡ pos 0
 unfolding lowest or_else

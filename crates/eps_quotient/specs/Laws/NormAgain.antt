@@ -10,19 +10,19 @@ use Rattle.field_core.specs.Kind.{Parts, is_zero_integer}
 use Rattle.field_core.specs.Laws.Integers.{int_multiply_one}
 use Rattle.field_core.specs.Polynomial.{coefficient, Same, poly_negate, lowest, int_sign, IsNonZero}
 use Rattle.field_core.specs.Laws.PolynomialLaws.{lowest-none}
-use Rattle.eps_poly.specs.Polynomials.{zero_polynomial, monomial}
+use Rattle.eps_poly.specs.Polynomials.{is_same, zero_polynomial, monomial}
 use Rattle.eps_poly.specs.Factors.{order, factor, lowered, core, from_factors}
-use Rattle.eps_poly.proofs.Coefficients.{same_polynomials, length-zero, coefficient-zero}
+use Rattle.eps_poly.proofs.Coefficients.{same_from, same_polynomials, length-zero, coefficient-zero}
 use Rattle.eps_poly.proofs.OrderLaws.{coefficient-below_order}
 use Rattle.eps_poly.proofs.FactorLaws.{coefficient-lowered, core_factors}
 use Rattle.eps_quotient.specs.Laws.Cores.{length-lowered}
 use Rattle.eps_quotient.specs.Laws.Multiples.{length-monomial, monomial-factors}
 use Rattle.eps_poly.proofs.IntegerQuotients.{quotient_times}
-use Rattle.eps_quotient.specs.Lowering.{one_polynomial, zero_quotient, common_order, is_same, without_powers, without_cores, lower, turned, norm}
+use Rattle.eps_quotient.specs.Lowering.{one_polynomial, zero_quotient, common_order, without_powers, without_cores, lower, turned, norm}
 use Rattle.eps_quotient.specs.Stored.{IsQuotient}
 use Rattle.eps_quotient.specs.Laws.QuotientLaws.{same_sym, same_trans}
 use Rattle.eps_quotient.specs.Laws.Cuts.{order_within}
-use Rattle.eps_quotient.specs.Laws.LowerLaws.{zeros_lowest, others_lowest, same_from, either_branch}
+use Rattle.eps_quotient.specs.Laws.LowerLaws.{zeros_lowest, others_lowest, either_branch}
 use Rattle.eps_quotient.specs.Laws.Exact.{some_below}
 
 -- ---- nothing is left to cut

@@ -1,26 +1,25 @@
 use Rattle.std.proofs.Common.{◌≡◌, ◌+◌, ◌∙◌, sym, ap, ap₂, ◌*ℤ◌, ◌+ℤ◌, neg_ℤ, Some, None}
 use Rattle.field_core.specs.Polynomial.{coefficient}
 use Rattle.field_core.specs.Sized.{sized}
-use Rattle.eps_poly.specs.View.{coefficients}
 use Rattle.eps_poly.proofs.QuotientLaws.{next_step, divisor_some, some_inside}
 use Rattle.eps_poly.proofs.quotients.next.Goals as goal
 
 pub returns-in_err-part : goal.returns-in_err-part
 returns-in_err-part c q e same =
-    let p = coefficients c.args.p.now in
-    let by = coefficients c.args.by.now in
+    let p = c.args.p.now in
+    let by = c.args.by.now in
     let at = c.args.power + c.args.low in
-    let s = next_step p by q (coefficients c.args.known.now) c.args.power c.args.low e c.requires.low c.requires.power same in
+    let s = next_step p by q c.args.known.now c.args.power c.args.low e c.requires.low c.requires.power same in
     let found : c.part_of_product.result ≡ Some s.part = c.part_of_product.ensures ∙ s.known_part in
     let none : c.part_of_product.result ≡ None = c.in_err-part.was in
     absurd (cc)
 
 pub returns-in_err-rest : goal.returns-in_err-rest
 returns-in_err-rest c q e same =
-    let p = coefficients c.args.p.now in
-    let by = coefficients c.args.by.now in
+    let p = c.args.p.now in
+    let by = c.args.by.now in
     let at = c.args.power + c.args.low in
-    let s = next_step p by q (coefficients c.args.known.now) c.args.power c.args.low e c.requires.low c.requires.power same in
+    let s = next_step p by q c.args.known.now c.args.power c.args.low e c.requires.low c.requires.power same in
     let found : c.part_of_product.result ≡ Some s.part = c.part_of_product.ensures ∙ s.known_part in
     let part : c.in_ok-part.part ≡ s.part = some_inside _ _ (sym c.in_ok-part.was ∙ found) in
     let sum : c.checked_add.result ≡ sized (coefficient p at +ℤ neg_ℤ s.part) = c.checked_add.ensures ∙ ap₂ (λ a b. sized (a +ℤ b)) c.whole.ensures (c.negated.ensures ∙ ap neg_ℤ part) in
@@ -30,14 +29,14 @@ returns-in_err-rest c q e same =
 
 pub divided-requires : goal.divided-requires
 divided-requires c none =
-    divisor_some (coefficients c.args.by.now) c.args.low c.requires.low c.requires.nonzero (sym c.whole-2.ensures ∙ none)
+    divisor_some c.args.by.now c.args.low c.requires.low c.requires.nonzero (sym c.whole-2.ensures ∙ none)
 
 pub returns : goal.returns
 returns c q e same =
-    let p = coefficients c.args.p.now in
-    let by = coefficients c.args.by.now in
+    let p = c.args.p.now in
+    let by = c.args.by.now in
     let at = c.args.power + c.args.low in
-    let s = next_step p by q (coefficients c.args.known.now) c.args.power c.args.low e c.requires.low c.requires.power same in
+    let s = next_step p by q c.args.known.now c.args.power c.args.low e c.requires.low c.requires.power same in
     let found : c.part_of_product.result ≡ Some s.part = c.part_of_product.ensures ∙ s.known_part in
     let part : c.in_ok-part.part ≡ s.part = some_inside _ _ (sym c.in_ok-part.was ∙ found) in
     let sum : c.checked_add.result ≡ sized (coefficient p at +ℤ neg_ℤ s.part) = c.checked_add.ensures ∙ ap₂ (λ a b. sized (a +ℤ b)) c.whole.ensures (c.negated.ensures ∙ ap neg_ℤ part) in

@@ -1,14 +1,20 @@
-use Rattle.std.proofs.Common.{◌∙◌, ap₂, min}
+use Rattle.std.proofs.Common.{◌≤◌, ◌∙◌, ap₂, arith}
 use Rattle.eps_poly.specs.Factors.{lowered}
 use Rattle.eps_quotient.specs.Lowering.{without_powers}
+use Rattle.eps_quotient.specs.Laws.Cuts.{order_within}
 use Rattle.eps_quotient.specs.Laws.LowerLaws.{without_powers_some}
 use Rattle.eps_quotient.proofs.Stored.{some_list}
 use Rattle.eps_quotient.proofs.lower.without_powers.Goals as goal
 
-pub returns-clause-some : goal.returns-clause-some
+pub lowered-requires-clause-power : goal.lowered-requires-clause-power
+lowered-requires-clause-power c = let low = order_within c.args.b.now c.requires.held.count c.requires.b in omega arith
+
+pub lowered-requires-2-clause-power : goal.lowered-requires-2-clause-power
+lowered-requires-2-clause-power c = let low = order_within c.args.b.now c.requires.held.count c.requires.b in omega arith
+
+pub invariant_of-result : goal.invariant_of-result
 unfolding without_powers
-returns-clause-some c =
-    let power = c.min-power.ensures ∙ ap₂ min c.order.ensures.value c.order-2.ensures.value in
-    some_list _ _
-    (c.lowered-2.ensures ∙ ap₂ (λ z h. lowered z h c.args.b.now.entries) power c.common_content-content.ensures.value)
-    (without_powers_some c.args.a.now.entries c.args.b.now.entries c.args.b.now.valid c.requires.b)
+invariant_of-result c =
+    record { some = some_list _ _
+    (c.lowered-2.ensures ∙ ap₂ (λ z h. lowered z h c.args.b.now) c.requires.power c.common_content-content.ensures.value)
+    (without_powers_some c.args.a.now c.args.b.now c.requires.held c.requires.b) }

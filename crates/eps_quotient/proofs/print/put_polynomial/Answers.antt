@@ -8,10 +8,10 @@ use Rattle.eps_quotient.proofs.print.put_polynomial.Goals as goal
 
 pub returns-in_err-put_coefficient-clause-front : goal.returns-in_err-put_coefficient-clause-front
 returns-in_err-put_coefficient-clause-front c =
-    let p = c.args.p.now.entries in
+    let p = c.args.p.now in
     let k = c.loop-power.power in
-    let count = c.args.p.now.valid.count in
     let end = c.degree-power-end.ensures in
+    let count = end.polynomial.count in
     let low : k ≤ degree p = omega arith in
     let room : degree p < length p = omega arith in
     let t = text_at p k low room in
@@ -20,10 +20,10 @@ returns-in_err-put_coefficient-clause-front c =
 
 pub loop-power-preserved : goal.loop-power-preserved
 loop-power-preserved c =
-    let p = c.args.p.now.entries in
+    let p = c.args.p.now in
     let k = c.loop-power.power in
-    let count = c.args.p.now.valid.count in
     let end = c.degree-power-end.ensures in
+    let count = end.polynomial.count in
     let room : k < length p = omega arith in
     c.in_ok-put_coefficient.ensures.put
     ∙ ap (λ m. m ++ item k (coefficient p k)) c.loop-power.invariant

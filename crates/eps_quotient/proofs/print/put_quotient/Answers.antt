@@ -12,21 +12,21 @@ returns-in_err-put_polynomial-clause-front c =
     let old = c.args.text.now in
     let text = lists_text (pair_parts x) (sym c.is_fraction.ensures ∙ c.if-is_fraction.false) in
     at_refusal c.from_residual.result _
-    (front_behind old old c.put_polynomial.new.text [] (polynomial_text x.numerator.entries) (quotient_text (pair_parts x)) (47 ∷ polynomial_text x.denominator.entries) (sym (append-nil old)) c.in_err-put_polynomial.ensures.front text)
+    (front_behind old old c.put_polynomial.new.text [] (polynomial_text x.numerator) (quotient_text (pair_parts x)) (47 ∷ polynomial_text x.denominator) (sym (append-nil old)) c.in_err-put_polynomial.ensures.front text)
 
 pub returns-in_err-push-clause-front : goal.returns-in_err-push-clause-front
 returns-in_err-push-clause-front c =
     let x = c.args.x.now in
     let text = lists_text (pair_parts x) (sym c.is_fraction.ensures ∙ c.if-is_fraction.false) in
     at_refusal c.from_residual-in_err-push.result _
-    (polynomial_text x.numerator.entries, 47 ∷ polynomial_text x.denominator.entries, text, c.in_err-push.ensures.unchanged ∙ c.in_ok-put_polynomial.ensures.put)
+    (polynomial_text x.numerator, 47 ∷ polynomial_text x.denominator, text, c.in_err-push.ensures.unchanged ∙ c.in_ok-put_polynomial.ensures.put)
 
 pub returns-clause-front : goal.returns-clause-front
 returns-clause-front c =
     let x = c.args.x.now in
     let old = c.args.text.now in
-    let n = polynomial_text x.numerator.entries in
-    let d = polynomial_text x.denominator.entries in
+    let n = polynomial_text x.numerator in
+    let d = polynomial_text x.denominator in
     let text = lists_text (pair_parts x) (sym c.is_fraction.ensures ∙ c.if-is_fraction.false) in
     let mid : c.push.new.self ≡ old ++ (n ++ 47 ∷ []) = c.in_ok-push.ensures.pushed ∙ ap (λ m. m ++ 47 ∷ []) c.in_ok-put_polynomial.ensures.put ∙ append_assoc old n (47 ∷ []) in
     on_err_weaker c.put_polynomial-2.result (λ f. front_behind old c.push.new.self _ (n ++ 47 ∷ []) d (quotient_text (pair_parts x)) [] mid f (text ∙ behind_slash n d)) c.put_polynomial-2.ensures.front

@@ -7,7 +7,7 @@ use Rattle.eps_quotient.proofs.read.polynomial.Goals as goal
 pub returns-in_err-whole : goal.returns-in_err-whole
 returns-in_err-whole c =
     let k = c.loop-power.power in
-    let p = c.loop-power.polynomial.entries in
+    let p = c.loop-power.polynomial in
     let rest = c.loop-power.rest.now in
     rw c.from_residual.ensures
     (sym (ap (filled k p) (last_word rest c.in_default.ensures.none) ∙ word_refused k p rest [] (sym c.in_err-whole.ensures)) ∙ c.loop-power.invariant)
@@ -15,7 +15,7 @@ returns-in_err-whole c =
 pub returns-in_default : goal.returns-in_default
 returns-in_default c =
     let k = c.loop-power.power in
-    let p = c.loop-power.polynomial.entries in
+    let p = c.loop-power.polynomial in
     let rest = c.loop-power.rest.now in
     let low : k ≤ 32 = omega arith in
     ap Some c.put.ensures
@@ -25,7 +25,7 @@ returns-in_default c =
 pub returns-in_err-whole-2 : goal.returns-in_err-whole-2
 returns-in_err-whole-2 c =
     let k = c.loop-power.power in
-    let p = c.loop-power.polynomial.entries in
+    let p = c.loop-power.polynomial in
     let rest = c.loop-power.rest.now in
     rw c.from_residual-in_err-whole-2.ensures
     (sym (ap (filled k p) (next_word rest c.in-Some.word.now c.in-Some.more.now c.in-Some.ensures.whole c.in-Some.ensures.first)
@@ -35,7 +35,7 @@ returns-in_err-whole-2 c =
 pub loop-power-preserved : goal.loop-power-preserved
 loop-power-preserved c =
     let k = c.loop-power.power in
-    let p = c.loop-power.polynomial.entries in
+    let p = c.loop-power.polynomial in
     let rest = c.loop-power.rest.now in
     let low : k ≤ 32 = omega arith in
     let more = slice_split (λ b. b == 44) c.in-Some.more.now in
@@ -46,4 +46,4 @@ loop-power-preserved c =
 
 pub returns : goal.returns
 returns c =
-    sym (words_past c.loop-power.power c.loop-power.polynomial.entries c.loop-power.rest.now c.loop-power-test.false) ∙ c.loop-power.invariant
+    sym (words_past c.loop-power.power c.loop-power.polynomial c.loop-power.rest.now c.loop-power-test.false) ∙ c.loop-power.invariant

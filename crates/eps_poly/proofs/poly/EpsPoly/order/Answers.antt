@@ -1,7 +1,7 @@
-use Rattle.std.proofs.Common.{◌≡◌, ◌∙◌, sym, pos, arith, inl, inr}
+use Rattle.std.proofs.Common.{◌≡◌, ◌∙◌, sym, subst, pos, arith, inl, inr}
 use Rattle.std.proofs.lemmas.Bool.{cases_eq}
 use Rattle.field_core.specs.Polynomial.{coefficient}
-use Rattle.eps_poly.specs.View.{coefficients}
+use Rattle.eps_poly.specs.Polynomials.{IsPolynomial}
 use Rattle.eps_poly.proofs.Coefficients.{is_zero_true, is_zero_false}
 use Rattle.eps_poly.proofs.OrderLaws.{order_is, order_none}
 use Rattle.eps_poly.proofs.poly.EpsPoly.order.Goals as goal
@@ -11,7 +11,7 @@ loop-power-init c k h = absurd (omega arith)
 
 pub loop-power-preserved : goal.loop-power-preserved
 loop-power-preserved c k h =
-    let here : coefficient (coefficients c.args.self.now) c.loop-power.power ≡ pos 0 = sym c.whole.ensures ∙ is_zero_true c.whole.result (sym c.is_zero.ensures ∙ c.if-not-is_zero.false) in
+    let here : coefficient c.args.self.now c.loop-power.power ≡ pos 0 = sym c.whole.ensures ∙ is_zero_true c.whole.result (sym c.is_zero.ensures ∙ c.if-not-is_zero.false) in
     elim (cases_eq k c.loop-power.power) [
       | inl e ↦ rw e here
       | inr apart ↦ c.loop-power.invariant k (omega arith)
@@ -19,11 +19,12 @@ loop-power-preserved c k h =
 
 pub returns-then-not-is_zero-clause-value : goal.returns-then-not-is_zero-clause-value
 returns-then-not-is_zero-clause-value c =
-    sym (order_is (coefficients c.args.self.now) c.loop-power.power c.loop-power.invariant
+    sym (order_is c.args.self.now c.loop-power.power c.loop-power.invariant
     (λ none. is_zero_false c.whole.result (sym c.is_zero.ensures ∙ c.if-not-is_zero.true) (c.whole.ensures ∙ none)))
 
 pub returns-clause-value : goal.returns-clause-value
 returns-clause-value c =
     let done = c.loop-power-test.false in
-    let long = c.args.self.now.valid.count in
-    sym (order_none (coefficients c.args.self.now) (λ k h. c.loop-power.invariant k (omega arith)) ∙ long)
+    let held = subst IsPolynomial c.self.view_is c.self.invariant in
+    let long = held.count in
+    sym (order_none c.args.self.now (λ k h. c.loop-power.invariant k (omega arith)) ∙ long)

@@ -8,9 +8,9 @@ pub invariant_of-self : goal.invariant_of-self
 invariant_of-self c =
     let fits : FitsSigned w128 c.value.result = search rules in
     let small : unsigned_abs c.args.c < 2 ^ 127 = rw (← c.value.ensures.value) c.value.ensures.size in
-    record { valid = rw (to_z-of_z w128 c.value.result fits, c.value.ensures.value) (set_valid c.args.self.now.entries c.args.power c.args.c c.args.self.now.valid c.requires small) }
+    rw (to_z-of_z w128 c.value.result fits, c.value.ensures.value) (set_valid c.self.inside.entries c.args.power c.args.c c.self.invariant c.requires small)
 
 pub returns : goal.returns
 returns c =
     let fits : FitsSigned w128 c.value.result = search rules in
-    ap (set c.args.self.now.entries c.args.power) (to_z-of_z w128 c.value.result fits ∙ c.value.ensures.value)
+    rw (to_z-of_z w128 c.value.result fits, c.value.ensures.value) (ap (λ p. set p c.args.power c.args.c) c.self.view_is)

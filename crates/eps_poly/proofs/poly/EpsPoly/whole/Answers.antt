@@ -1,6 +1,7 @@
-use Rattle.std.proofs.Common.{◌<◌, ◌≤◌, ◌^◌, ◌∙◌, sym, arith, List, get_or, unsigned_abs, ℕ, ℤ, pos}
+use Rattle.std.proofs.Common.{◌<◌, ◌≤◌, ◌^◌, ◌∙◌, sym, ap, arith, List, get_or, unsigned_abs, ℕ, ℤ, pos}
 use Rattle.std.specs.Int.{w128}
 use Rattle.std.proofs.lemmas.Int.{to_z-of_z}
+use Rattle.field_core.specs.Polynomial.{coefficient}
 use Rattle.field_core.specs.Laws.PolynomialLaws.{coefficient-index}
 use Rattle.field_core.proofs.Sized.{fits_from_small}
 use Rattle.eps_poly.specs.Polynomials.{IsPolynomial}
@@ -11,11 +12,12 @@ entry_small p k valid h = let count = valid.count in rw (← coefficient-index p
 
 pub new-requires : goal.new-requires
 new-requires c =
-    let small = entry_small c.args.self.now.entries c.args.power c.args.self.now.valid c.requires in
-    rw (to_z-of_z w128 (get_or c.args.self.now.entries c.args.power (pos 0)) (fits_from_small _ small)) small
+    let small = entry_small c.self.inside.entries c.args.power c.self.invariant c.requires in
+    rw (to_z-of_z w128 (get_or c.self.inside.entries c.args.power (pos 0)) (fits_from_small _ small)) small
 
 pub returns : goal.returns
 returns c =
-    let small = entry_small c.args.self.now.entries c.args.power c.args.self.now.valid c.requires in
-    c.new.ensures ∙ to_z-of_z w128 (get_or c.args.self.now.entries c.args.power (pos 0)) (fits_from_small _ small)
-    ∙ sym (coefficient-index c.args.self.now.entries c.args.power (pos 0) (omega (arith, c.requires, c.args.self.now.valid.count)))
+    let small = entry_small c.self.inside.entries c.args.power c.self.invariant c.requires in
+    c.new.ensures ∙ to_z-of_z w128 (get_or c.self.inside.entries c.args.power (pos 0)) (fits_from_small _ small)
+    ∙ sym (coefficient-index c.self.inside.entries c.args.power (pos 0) (omega (arith, c.requires, c.self.invariant.count)))
+    ∙ ap (λ p. coefficient p c.args.power) c.self.view_is

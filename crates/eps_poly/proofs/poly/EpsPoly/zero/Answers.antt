@@ -5,7 +5,7 @@ use Rattle.eps_poly.proofs.poly.EpsPoly.zero.Goals as goal
 
 pub invariant_of-result : goal.invariant_of-result
 unfolding zero_polynomial
-invariant_of-result c = record { valid = zero_valid }
+invariant_of-result c = zero_valid
 
 pub returns : goal.returns
 unfolding zero_polynomial

@@ -1,6 +1,6 @@
 use Rattle.eps_quotient.specs.Laws.Exact.{one_stored}
-use Rattle.eps_quotient.proofs.Stored.{stored_same, parts_same}
+use Rattle.eps_quotient.proofs.Stored.{stored_same}
 use Rattle.eps_quotient.proofs.quotient.EpsQuotientNumber.one.Goals as goal
 
-pub stored-requires : goal.stored-requires
-stored-requires c = stored_same _ _ (parts_same _ _ _ _ c.one.ensures c.one-2.ensures) one_stored
+pub invariant_of-result : goal.invariant_of-result
+invariant_of-result c = record { stored = stored_same _ _ c.one.ensures one_stored }

@@ -1,0 +1,96 @@
+-- The degree of a polynomial.
+use Rattle.std.proofs.Common.{◌≡◌, ◌≢◌, ℕ, zero, suc, ◌-◌, ◌<◌, ◌≤◌, List, [], ◌∷◌, refl, sym, ◌∙◌, ap, arith, ℤ, pos, negsuc, inl, inr}
+use Rattle.std.proofs.lemmas.Bool.{cases_lt}
+use Rattle.field_core.specs.Polynomial.{coefficient, Same, IsNonZero}
+use Rattle.eps_poly.specs.Factors.{order}
+use Rattle.eps_poly.specs.Written.{counted, count_to_last, degree}
+use Rattle.eps_poly.proofs.OrderLaws.{coefficient-order}
+
+counted_least : (c : ℤ) (n : ℕ) → n ≤ counted c n
+unfolding counted
+counted_least (pos zero) zero = omega arith
+counted_least (pos zero) (suc n) = omega arith
+counted_least (pos (suc c)) n = omega arith
+counted_least (negsuc c) n = omega arith
+
+counted_none : (c : ℤ) (n : ℕ) → counted c n ≡ 0 → c ≡ pos 0
+unfolding counted
+counted_none (pos zero) n e = refl
+counted_none (pos (suc c)) n e = absurd (omega arith)
+counted_none (negsuc c) n e = absurd (omega arith)
+
+counted_some : (c : ℤ) (n m : ℕ) → counted c n ≡ suc m → (n ≡ m) × ((m ≡ 0) → c ≢ pos 0)
+unfolding counted
+counted_some (pos zero) zero m e = absurd (omega arith)
+counted_some (pos zero) (suc n) m e = (omega arith, λ none. absurd (omega arith))
+counted_some (pos (suc c)) n m e = (omega arith, λ none same. cc)
+counted_some (negsuc c) n m e = (omega arith, λ none same. cc)
+
+counted_next : (c : ℤ) (n k : ℕ) → counted c n ≤ suc k → n ≤ k
+unfolding counted
+counted_next (pos zero) zero k h = omega arith
+counted_next (pos zero) (suc n) k h = omega arith
+counted_next (pos (suc c)) n k h = omega arith
+counted_next (negsuc c) n k h = omega arith
+
+-- above the last coefficient that isn't 0 there are zeros
+coefficient-above : (p : List ℤ) (k : ℕ) → count_to_last p ≤ k → coefficient p k ≡ pos 0
+unfolding coefficient count_to_last
+coefficient-above [] k h = refl
+coefficient-above (c ∷ p) zero h = counted_none c (count_to_last p) (omega arith)
+coefficient-above (c ∷ p) (suc k) h = coefficient-above p k (counted_next c (count_to_last p) k h)
+
+-- the last one isn't 0
+coefficient-last : (p : List ℤ) (n : ℕ) → count_to_last p ≡ suc n → coefficient p n ≢ pos 0
+unfolding coefficient count_to_last
+coefficient-last [] n e = absurd (omega arith)
+coefficient-last (c ∷ p) zero e = (counted_some c (count_to_last p) zero e).1 refl
+coefficient-last (c ∷ p) (suc n) e = coefficient-last p n (counted_some c (count_to_last p) (suc n) e).0
+
+-- where there are only zeros above
+count_at_most : (p : List ℤ) (n : ℕ) → ((k : ℕ) → n ≤ k → coefficient p k ≡ pos 0) → count_to_last p ≤ n
+count_at_most p n h = at (count_to_last p) refl
+  where
+    at : (m : ℕ) → count_to_last p ≡ m → count_to_last p ≤ n
+    at zero e = omega arith
+    at (suc m) e = elim (cases_lt m n) [
+      | inl l ↦ omega arith
+      | inr l ↦ absurd (coefficient-last p m e (h m l))
+    ]
+
+count_at_least : (p : List ℤ) (n : ℕ) → coefficient p n ≢ pos 0 → n < count_to_last p
+count_at_least p n some = elim (cases_lt n (count_to_last p)) [
+  | inl l ↦ l
+  | inr l ↦ absurd (some (coefficient-above p n l))
+]
+
+pub coefficient-above_degree : (p : List ℤ) (k : ℕ) → degree p < k → coefficient p k ≡ pos 0
+unfolding degree
+coefficient-above_degree p k h = coefficient-above p k (omega arith)
+
+pub degree_at_least : (p : List ℤ) (n : ℕ) → coefficient p n ≢ pos 0 → n ≤ degree p
+unfolding degree
+degree_at_least p n some = let l = count_at_least p n some in omega arith
+
+pub degree_at_most : (p : List ℤ) (n : ℕ) → ((k : ℕ) → n < k → coefficient p k ≡ pos 0) → degree p ≤ n
+unfolding degree
+degree_at_most p n h = let l = count_at_most p (suc n) h in omega arith
+
+-- the coefficient of that power isn't 0
+pub coefficient-degree : (p : List ℤ) → IsNonZero p → coefficient p (degree p) ≢ pos 0
+unfolding degree
+coefficient-degree p some = at (count_to_last p) refl
+  where
+    at : (n : ℕ) → count_to_last p ≡ n → coefficient p (count_to_last p - 1) ≢ pos 0
+    at zero e = λ none. some (sym (coefficient-order p) ∙ coefficient-above p (order p) (omega arith))
+    at (suc n) e = λ none. coefficient-last p n e (ap (coefficient p) (omega arith) ∙ none)
+
+pub degree-same : (p q : List ℤ) → Same p q → degree p ≡ degree q
+degree-same p q e =
+    let up = degree_at_most p (degree q) (λ k h. e k ∙ coefficient-above_degree q k h) in
+    let down = degree_at_most q (degree p) (λ k h. sym (e k) ∙ coefficient-above_degree p k h) in
+    omega arith
+
+-- and the least power is at most the degree
+pub order_low : (p : List ℤ) → IsNonZero p → order p ≤ degree p
+order_low p some = degree_at_least p (order p) (λ none. some (sym (coefficient-order p) ∙ none))
