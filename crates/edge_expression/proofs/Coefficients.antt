@@ -4,7 +4,7 @@ use Rattle.std.proofs.lemmas.Bool.{cases_lt}
 use Rattle.field_core.specs.Terms.{Terms}
 use Rattle.case_model.specs.Sums.{terms_at, zero_terms}
 use Rattle.fraction.specs.Tests.{is_zero}
-use Rattle.case_model.proofs.Places.{mapped_item}
+use Rattle.std.proofs.lemmas.List.{get_or-map}
 use Rattle.edge_expression.specs.declared.fault.ExprFault.{ExprFault}
 use Rattle.edge_expression.specs.declared.short.Short.{Short}
 use Rattle.edge_expression.specs.EntryView.{short_terms}
@@ -14,7 +14,7 @@ use Rattle.edge_expression.specs.EntryValues.{sum, product, product_sum, degree_
 -- the coefficient at a place
 pub item_terms : (xs : List Short) (n : ℕ) (x : Short) → n < length xs → x ≡ get_or xs n x → terms_at (map short_terms xs) n ≡ short_terms x
 unfolding terms_at
-item_terms xs n x h e = mapped_item short_terms xs n x zero_terms h e
+item_terms xs n x h e = get_or-map short_terms xs n x zero_terms h ∙ ap short_terms (sym e)
 
 -- ---- degrees
 

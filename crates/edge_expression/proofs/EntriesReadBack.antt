@@ -1,12 +1,17 @@
 -- The text of an entry is an expression of that entry.
-use Rattle.std.proofs.Common.{◌≡◌, ◌≢◌, ℕ, zero, suc, ◌+◌, ◌^◌, ◌<◌, ◌≤◌, inl, inr, Bool, true, false, cond, eqb, List, [], ◌∷◌, ◌++◌, length, take, ℤ, pos, neg_ℤ, unsigned_abs, Option, Some, None, Ok, refl, sym, ap, subst, ◌∙◌, append_assoc, arith}
+use Rattle.std.proofs.Common.{◌≡◌, ◌≢◌, ℕ, zero, suc, ◌+◌, ◌^◌, ◌<◌, ◌≤◌, inl, inr, Bool, true, false, cond, eqb, List, [], ◌∷◌, ◌++◌, map, length, take, ℤ, pos, neg_ℤ, unsigned_abs, Option, Some, None, Ok, refl, sym, ap, subst, ◌∙◌, append_assoc, arith}
 use Rattle.std.specs.Prelude.{codes, nat_lt, nat_le, ◌==◌, ◌&&◌, if◌then◌else◌}
 use Rattle.std.specs.Int.{is_negative}
-use Rattle.std.specs.List.{AllByRecursion}
+use Rattle.std.specs.List.{list_all}
 use Rattle.std.proofs.lemmas.Bool.{le-ltb, lt-ltb, leb-true, eqb-true, eqb-false}
 use Rattle.std.proofs.lemmas.Bool.Decides.{nat_tests}
 use Rattle.std.proofs.lemmas.Int.{ints}
 use Rattle.std.proofs.lemmas.Fmt.{decimal_digit}
+use Rattle.field_core.specs.View.{terms}
+use Rattle.field_core.specs.declared.ratio.Ratio.{Ratio}
+use Rattle.std.proofs.lemmas.List.{length-map}
+use Rattle.case_model.specs.Draft.{is_short}
+use Rattle.case_model.proofs.Holding.{both}
 use Rattle.field_core.specs.Terms.{Terms, IsReduced}
 use Rattle.fraction.proofs.LowestTerms.{sign_is}
 use Rattle.fraction.specs.Numeral.{with_sign}
@@ -18,10 +23,9 @@ use Rattle.case_model.specs.Sums.{terms_at, zero_terms}
 use Rattle.edge_expression.specs.Expressions.{Sign, Plus, Minus, Expression, Sum, MoreTerms, NoTerm, AndTerm, Term, Token, SignToken, expression_tokens, terms_tokens, term_tokens, token_text, IsSpelt, Spells}
 use Rattle.field_core.specs.Steps.{◌>>=◌}
 use Rattle.edge_expression.specs.EntryValues.{joined, sign_or_plus, value, with_terms, term_value}
-use Rattle.edge_expression.specs.EntryTexts.{power_text, factor_text, joint_text, joined_term, term_text, terms_text, are_zero_below, entry_text}
+use Rattle.edge_expression.specs.EntryTexts.{power_text, factor_text, joint_text, joined_term, term_text, terms_text, are_zero_below, coefficients_text, entry_text}
 use Rattle.edge_expression.specs.EntryReading.{open_with, open_behind, IsShallow, IsEntryText}
-use Rattle.edge_expression.specs.ExpressionStatements.{IsShortTerms}
-use Rattle.edge_expression.proofs.UnitOperations.{zero_short, zero_is}
+use Rattle.edge_expression.proofs.UnitOperations.{IsShortTerms, zero_short, zero_is}
 use Rattle.edge_expression.proofs.UnitEntries.{tabled, at_tabled, same_tabled, single, joined_plus, joined_minus}
 use Rattle.edge_expression.proofs.EntryTerms.{over_of, IsTerm, term_of}
 use Rattle.edge_expression.proofs.PrintedTerms.{zero_at}
@@ -281,12 +285,12 @@ zero_entry : (e : List Terms) → AreShort e → are_zero_below 5 e ≡ true →
 unfolding AreShort
 zero_entry e s h = same_tabled (λ k. zero_terms) (upto e 5) (λ k l. sym (ap (λ b. cond b (terms_at e k) zero_terms) (lt-ltb k 5 l) ∙ zero_is (terms_at e k) (s k).0 (zero_at 5 k e l h)))
 
-text_if : (e : List Terms) (b : Bool) → are_zero_below 5 e ≡ b → entry_text e ≡ cond b (codes "0") (terms_text true 0 5 e)
-unfolding entry_text
+text_if : (e : List Terms) (b : Bool) → are_zero_below 5 e ≡ b → coefficients_text e ≡ cond b (codes "0") (terms_text true 0 5 e)
+unfolding coefficients_text
 text_if e b h = ap (λ c. cond c (codes "0") (terms_text true 0 5 e)) h
 
-whole_by : (e : List Terms) (b : Bool) → AreShort e → are_zero_below 5 e ≡ b → IsWhole e (entry_text e) (tabled (upto e 5))
-whole_by e true s h = subst (λ v. IsWhole e (entry_text e) v) (zero_entry e s h) (subst (λ x. IsWhole e x zero_coefficients) (sym (text_if e true h)) (nought e))
+whole_by : (e : List Terms) (b : Bool) → AreShort e → are_zero_below 5 e ≡ b → IsWhole e (coefficients_text e) (tabled (upto e 5))
+whole_by e true s h = subst (λ v. IsWhole e (coefficients_text e) v) (zero_entry e s h) (subst (λ x. IsWhole e x zero_coefficients) (sym (text_if e true h)) (nought e))
 whole_by e false s h = subst (λ x. IsWhole e x (tabled (upto e 5))) (sym (text_if e false h)) (whole_from e 5 0 s (omega arith) h refl)
 
 -- ---- no parenthesis
@@ -375,8 +379,8 @@ terms_open f p zero e s = tt
 terms_open f p (suc n) e s =
     open_if (is_zero (terms_at e p)) (terms_text f (suc p) n e) (joined_term f p (terms_at e p) ++ terms_text false (suc p) n e) (terms_open f (suc p) n e s) (no_open_both (joined_term f p (terms_at e p)) (terms_text false (suc p) n e) (joined_open f p (terms_at e p) (s p)) (terms_open false (suc p) n e s))
 
-entry_open : (e : List Terms) → AreShort e → NoOpen (entry_text e)
-unfolding entry_text NoOpen
+entry_open : (e : List Terms) → AreShort e → NoOpen (coefficients_text e)
+unfolding coefficients_text NoOpen
 entry_open e s = open_if (are_zero_below 5 e) (codes "0") (terms_text true 0 5 e) (λ x. omega (arith, x), tt) (terms_open true 0 5 e s)
 
 -- ---- an entry by its coefficients
@@ -391,14 +395,15 @@ five (a ∷ b ∷ c ∷ d ∷ []) h = absurd (omega arith)
 five (a ∷ b ∷ c ∷ d ∷ f ∷ []) h = refl
 five (a ∷ b ∷ c ∷ d ∷ f ∷ g ∷ e) h = absurd (omega arith)
 
-each_short : (e : List Terms) → AllByRecursion IsShortTerms e → AreShort e
+each_short : (xs : List Ratio) → list_all is_short xs ≡ true → AreShort (map terms xs)
 unfolding AreShort terms_at
 each_short [] h k = zero_short
-each_short (t ∷ e) h zero = h.0
-each_short (t ∷ e) h (suc k) = each_short e h.1 k
+each_short (x ∷ xs) h zero = (x.valid, (both (is_short x) (list_all is_short xs) h).left)
+each_short (x ∷ xs) h (suc k) = each_short xs (both (is_short x) (list_all is_short xs) h).right k
 
-pub entry_reads_back : (e : List Terms) → length e ≡ 5 → AllByRecursion IsShortTerms e → IsEntryText (entry_text e) e
-entry_reads_back e h a =
-    let s = each_short e a in
+pub entry_reads_back : (xs : List Ratio) → length xs ≡ 5 → list_all is_short xs ≡ true → IsEntryText (entry_text xs) xs
+entry_reads_back xs h a =
+    let e = map terms xs in
+    let s = each_short xs a in
     let w = whole_by e (are_zero_below 5 e) s refl in
-    record { expression = w.expression; spells = w.spells; shallow = shallow (entry_text e) (length (entry_text e)) (entry_open e s); worth_is = w.worth ∙ ap Ok (five e h) }
+    record { expression = w.expression; spells = w.spells; shallow = shallow (entry_text xs) (length (entry_text xs)) (entry_open e s); worth_is = w.worth ∙ ap Ok (five e (length-map terms xs ∙ h)) }

@@ -1,11 +1,17 @@
 -- An entry is the number that its expression means.
-use Rattle.std.proofs.Common.{◌≡◌, ◌≢◌, ℕ, zero, suc, ◌+◌, ◌-◌, ◌<◌, ◌≤◌, inl, inr, Bool, true, false, cond, List, [], ◌∷◌, ℤ, pos, negsuc, ◌<ℤ◌, Option, Some, None, Result, Ok, Err, refl, sym, ap, ap₂, subst, ◌∙◌, arith}
+use Rattle.std.proofs.Common.{◌≡◌, ◌≢◌, ℕ, zero, suc, ◌+◌, ◌-◌, ◌<◌, ◌≤◌, inl, inr, Bool, true, false, cond, List, [], ◌∷◌, map, ℤ, pos, negsuc, ◌<ℤ◌, Option, Some, None, Result, Ok, Err, refl, sym, ap, ap₂, subst, ◌∙◌, arith}
 use Rattle.std.specs.Prelude.{nat_lt}
 use Rattle.std.proofs.lemmas.Bool.{ltb-false, cases_lt}
 use Rattle.std.proofs.lemmas.Int.{ints}
 use Rattle.std.specs.Ordering.{int_eq}
 use Rattle.std.proofs.lemmas.Bool.Decides.{Decides-int_eq}
 use Rattle.field_core.specs.Terms.{Terms, IsReduced}
+use Rattle.field_core.specs.View.{terms}
+use Rattle.field_core.specs.declared.ratio.Ratio.{Ratio}
+use Rattle.field_core.specs.NumberField.{number_field}
+use Rattle.field_core.specs.Sums.{sum_below}
+use mathlib.Core.Path.{fun_ext}
+use Rattle.edge_expression.proofs.RatioLists.{terms_of_at}
 use Rattle.field_core.specs.Number.{Number as Value}
 use Rattle.field_core.specs.Epsilon.{epsilon}
 use Rattle.field_core.specs.Arithmetic.{number_zero, number_one, ◌+ε◌, ◌-ε◌, ◌*ε◌, ◌/ε◌}
@@ -20,7 +26,7 @@ use Rattle.fraction.specs.Plain.{zero_reduced, one_reduced}
 use Rattle.case_model.specs.Entries.{power_of_epsilon, entry_value}
 use Rattle.fraction.specs.Tests.{is_zero}
 use Rattle.edge_expression.specs.EntryValues.{zero_coefficients}
-use Rattle.case_model.specs.Sums.{number, number_at, terms_at, zero_terms}
+use Rattle.case_model.specs.Sums.{number, terms_at, zero_terms}
 use Rattle.case_model.proofs.EntryOrder.{sum_of_five}
 use Rattle.edge_expression.specs.declared.fault.ExprFault.{ExprFault}
 use Rattle.edge_expression.specs.declared.fault.ExprFault.TheVariants.{DivisorNotNumber, ZeroDivisor, Degree, Part}
@@ -90,14 +96,22 @@ past_none a b c d e f g h i j x e1 e2 e3 e4 e5 e6 e7 e8 e9 e10 = rw (e1, e2, e3,
 
 -- ---- entries by their coefficients
 
+-- the number at a place
+abbrev value_at : List Terms → ℕ → Value
+value_at x k = number (terms_at x k)
+
+-- the value of coefficients by their terms
+terms_value : List Terms → Value
+terms_value x = sum_below number_field 5 (λ k. value_at x k *ε power_of_epsilon k)
+
 -- an entry of coefficients in lowest terms that is this number
 pub record IsMeant (x : List Terms) (v : Value) : Type 0 where
   pub reduced : (k : ℕ) → IsReduced (terms_at x k)
-  pub is : entry_value x ≡ v
+  pub is : terms_value x ≡ v
 
-value_by_powers : (x : List Terms) → entry_value x ≡ by_powers (number_at x 0) (number_at x 1) (number_at x 2) (number_at x 3) (number_at x 4) epsilon
-unfolding entry_value power_of_epsilon by_powers five
-value_by_powers x = sum_of_five (λ k. number_at x k *ε power_of_epsilon k)
+value_by_powers : (x : List Terms) → terms_value x ≡ by_powers (value_at x 0) (value_at x 1) (value_at x 2) (value_at x 3) (value_at x 4) epsilon
+unfolding terms_value power_of_epsilon by_powers five
+value_by_powers x = sum_of_five (λ k. value_at x k *ε power_of_epsilon k)
 
 as_meant : (x : List Terms) (v w : Value) → v ≡ w → IsMeant x v → IsMeant x w
 as_meant x v w e h = record { reduced = h.reduced; is = h.is ∙ e }
@@ -111,7 +125,7 @@ reduced_by a b c d e p q r s t (suc (suc (suc zero))) = s
 reduced_by a b c d e p q r s t (suc (suc (suc (suc zero)))) = t
 reduced_by a b c d e p q r s t (suc (suc (suc (suc (suc k))))) = zero_reduced
 
-value_of_list : (a b c d e : Terms) → entry_value (a ∷ b ∷ c ∷ d ∷ e ∷ []) ≡ by_powers (number a) (number b) (number c) (number d) (number e) epsilon
+value_of_list : (a b c d e : Terms) → terms_value (a ∷ b ∷ c ∷ d ∷ e ∷ []) ≡ by_powers (number a) (number b) (number c) (number d) (number e) epsilon
 unfolding terms_at
 value_of_list a b c d e = value_by_powers (a ∷ b ∷ c ∷ d ∷ e ∷ [])
 
@@ -165,10 +179,10 @@ constant_powers : (a x : Value) → by_powers a number_zero number_zero number_z
 unfolding by_powers
 constant_powers a x = five_first a (x *ε number_one) (x *ε (x *ε number_one)) (x *ε (x *ε (x *ε number_one))) (x *ε (x *ε (x *ε (x *ε number_one))))
 
-sum_at : (x y : List Terms) (k : ℕ) (t : Terms) → ((j : ℕ) → IsReduced (terms_at x j)) → ((j : ℕ) → IsReduced (terms_at y j)) → sum (terms_at x k) (terms_at y k) ≡ Ok t → IsNumber t (number_at x k +ε number_at y k)
+sum_at : (x y : List Terms) (k : ℕ) (t : Terms) → ((j : ℕ) → IsReduced (terms_at x j)) → ((j : ℕ) → IsReduced (terms_at y j)) → sum (terms_at x k) (terms_at y k) ≡ Ok t → IsNumber t (value_at x k +ε value_at y k)
 sum_at x y k t p q e = sum_number (terms_at x k) (terms_at y k) t (p k).positive (q k).positive e
 
-difference_at : (x y : List Terms) (k : ℕ) (t : Terms) → ((j : ℕ) → IsReduced (terms_at x j)) → ((j : ℕ) → IsReduced (terms_at y j)) → difference (terms_at x k) (terms_at y k) ≡ Ok t → IsNumber t (number_at x k -ε number_at y k)
+difference_at : (x y : List Terms) (k : ℕ) (t : Terms) → ((j : ℕ) → IsReduced (terms_at x j)) → ((j : ℕ) → IsReduced (terms_at y j)) → difference (terms_at x k) (terms_at y k) ≡ Ok t → IsNumber t (value_at x k -ε value_at y k)
 difference_at x y k t p q e = difference_number (terms_at x k) (terms_at y k) t (p k).positive (q k).positive e
 
 joined_meant : (sign : Sign) (x y z : List Terms) (v w : Value) → IsMeant x v → IsMeant y w → joined sign x y ≡ Ok z → IsMeant z (moved sign v w)
@@ -201,7 +215,7 @@ above (suc n) k x h l =
 number_none : (t : Terms) → pos 0 <ℤ t.den → is_zero t ≡ true → number t ≡ number_zero
 number_none t p h = ap (λ n. fraction n t.den) ((Decides-int_eq t.num (pos 0)).0 h) ∙ fraction-zero t.den (positive_nonzero t.den p)
 
-none_above : (x : List Terms) (k : ℕ) → ((j : ℕ) → IsReduced (terms_at x j)) → degree x < k → k ≤ 4 → number_at x k ≡ number_zero
+none_above : (x : List Terms) (k : ℕ) → ((j : ℕ) → IsReduced (terms_at x j)) → degree x < k → k ≤ 4 → value_at x k ≡ number_zero
 none_above x k p h l = number_none (terms_at x k) (p k).positive (above 4 k x h l)
 
 zero_times : (x : Value) → number_zero *ε x ≡ number_zero
@@ -210,10 +224,10 @@ zero_times x = simp number_laws
 times_zero : (x : Value) → x *ε number_zero ≡ number_zero
 times_zero x = simp number_laws
 
-pair_none : (x y : List Terms) (i j : ℕ) → ((k : ℕ) → IsReduced (terms_at x k)) → ((k : ℕ) → IsReduced (terms_at y k)) → degree x + degree y ≤ 4 → 4 < i + j → i ≤ 4 → j ≤ 4 → number_at x i *ε number_at y j ≡ number_zero
+pair_none : (x y : List Terms) (i j : ℕ) → ((k : ℕ) → IsReduced (terms_at x k)) → ((k : ℕ) → IsReduced (terms_at y k)) → degree x + degree y ≤ 4 → 4 < i + j → i ≤ 4 → j ≤ 4 → value_at x i *ε value_at y j ≡ number_zero
 pair_none x y i j p q d s h k = elim (cases_lt (degree x) i) [
-  | inl lt ↦ ap (λ v. v *ε number_at y j) (none_above x i p lt h) ∙ zero_times (number_at y j)
-  | inr ge ↦ ap (λ v. number_at x i *ε v) (none_above y j q (omega (arith, d, s, ge)) k) ∙ times_zero (number_at x i)
+  | inl lt ↦ ap (λ v. v *ε value_at y j) (none_above x i p lt h) ∙ zero_times (value_at y j)
+  | inr ge ↦ ap (λ v. value_at x i *ε v) (none_above y j q (omega (arith, d, s, ge)) k) ∙ times_zero (value_at x i)
 ]
 
 -- ---- products
@@ -224,7 +238,7 @@ same_terms x y h = cc
 zero_is : IsNumber zero_terms number_zero
 zero_is = record { reduced = zero_reduced; is = fraction-zero (pos 1) (λ e. omega (arith, ints)) }
 
-pub products_at : (x y : List Terms) (k n : ℕ) (t : Terms) → ((j : ℕ) → IsReduced (terms_at x j)) → ((j : ℕ) → IsReduced (terms_at y j)) → product_sum x y k n ≡ Ok t → IsNumber t (products (number_at x) (number_at y) k n)
+pub products_at : (x y : List Terms) (k n : ℕ) (t : Terms) → ((j : ℕ) → IsReduced (terms_at x j)) → ((j : ℕ) → IsReduced (terms_at y j)) → product_sum x y k n ≡ Ok t → IsNumber t (products (value_at x) (value_at y) k n)
 unfolding product_sum products
 products_at x y k zero t p q h = subst (λ u. IsNumber u number_zero) (same_terms zero_terms t h) zero_is
 products_at x y k (suc n) t p q h =
@@ -242,23 +256,23 @@ all_are_low f g x = refl
 add_none : (x : Value) → x +ε number_zero ≡ x
 add_none x = simp number_laws
 
-all_of : (x y : List Terms) → ((j : ℕ) → IsReduced (terms_at x j)) → ((j : ℕ) → IsReduced (terms_at y j)) → degree x + degree y ≤ 4 → all_products (number_at x) (number_at y) epsilon ≡ entry_value x *ε entry_value y
+all_of : (x y : List Terms) → ((j : ℕ) → IsReduced (terms_at x j)) → ((j : ℕ) → IsReduced (terms_at y j)) → degree x + degree y ≤ 4 → all_products (value_at x) (value_at y) epsilon ≡ terms_value x *ε terms_value y
 all_of x y p q d =
-    let a = number_at x 0 in
-    let b = number_at x 1 in
-    let c = number_at x 2 in
-    let e = number_at x 3 in
-    let f = number_at x 4 in
-    let g = number_at y 0 in
-    let h = number_at y 1 in
-    let i = number_at y 2 in
-    let j = number_at y 3 in
-    let k = number_at y 4 in
+    let a = value_at x 0 in
+    let b = value_at x 1 in
+    let c = value_at x 2 in
+    let e = value_at x 3 in
+    let f = value_at x 4 in
+    let g = value_at y 0 in
+    let h = value_at y 1 in
+    let i = value_at y 2 in
+    let j = value_at y 3 in
+    let k = value_at y 4 in
     let low = low_products a b c e f g h i j k epsilon in
     let none : past a b c e f g h i j k epsilon ≡ number_zero = past_none a b c e f g h i j k epsilon (pair_none x y 1 4 p q d (omega arith) (omega arith) (omega arith)) (pair_none x y 2 3 p q d (omega arith) (omega arith) (omega arith)) (pair_none x y 2 4 p q d (omega arith) (omega arith) (omega arith))
     (pair_none x y 3 2 p q d (omega arith) (omega arith) (omega arith)) (pair_none x y 3 3 p q d (omega arith) (omega arith) (omega arith)) (pair_none x y 3 4 p q d (omega arith) (omega arith) (omega arith))
     (pair_none x y 4 1 p q d (omega arith) (omega arith) (omega arith)) (pair_none x y 4 2 p q d (omega arith) (omega arith) (omega arith)) (pair_none x y 4 3 p q d (omega arith) (omega arith) (omega arith)) (pair_none x y 4 4 p q d (omega arith) (omega arith) (omega arith)) in
-    all_are_low (number_at x) (number_at y) epsilon ∙ sym (ap (λ v. low +ε v) none ∙ add_none low) ∙ product_of a b c e f g h i j k epsilon ∙ ap₂ (λ v w. v *ε w) (sym (value_by_powers x)) (sym (value_by_powers y))
+    all_are_low (value_at x) (value_at y) epsilon ∙ sym (ap (λ v. low +ε v) none ∙ add_none low) ∙ product_of a b c e f g h i j k epsilon ∙ ap₂ (λ v w. v *ε w) (sym (value_by_powers x)) (sym (value_by_powers y))
 
 low_degree : (b : Bool) (n : ℕ) (r : Result (List Terms) ExprFault) (z : List Terms) → nat_lt 4 n ≡ b → cond b (Err Degree) r ≡ Ok z → (n ≤ 4) × (r ≡ Ok z)
 low_degree true n r z e h = absurd cc
@@ -279,14 +293,14 @@ number_divisor true c n r z e h = absurd cc
 number_divisor false true n r z e h = absurd cc
 number_divisor false false n r z e h = (ltb-false 0 n e, (refl, h))
 
-divisor_is : (y : List Terms) → ((j : ℕ) → IsReduced (terms_at y j)) → degree y ≤ 0 → entry_value y ≡ number_at y 0
+divisor_is : (y : List Terms) → ((j : ℕ) → IsReduced (terms_at y j)) → degree y ≤ 0 → terms_value y ≡ value_at y 0
 divisor_is y q d =
-    value_by_powers y ∙ rw (none_above y 1 q (omega (arith, d)) (omega arith), none_above y 2 q (omega (arith, d)) (omega arith), none_above y 3 q (omega (arith, d)) (omega arith), none_above y 4 q (omega (arith, d)) (omega arith)) (constant_powers (number_at y 0) epsilon)
+    value_by_powers y ∙ rw (none_above y 1 q (omega (arith, d)) (omega arith), none_above y 2 q (omega (arith, d)) (omega arith), none_above y 3 q (omega (arith, d)) (omega arith), none_above y 4 q (omega (arith, d)) (omega arith)) (constant_powers (value_at y 0) epsilon)
 
 some_number : (z : ℤ) → int_eq z (pos 0) ≡ false → z ≢ pos 0
 some_number z h e = let k : int_eq z (pos 0) ≡ true = (Decides-int_eq z (pos 0)).1 e in cc
 
-quotient_at : (x y : List Terms) (k : ℕ) (t : Terms) → ((j : ℕ) → IsReduced (terms_at x j)) → ((j : ℕ) → IsReduced (terms_at y j)) → is_zero (terms_at y 0) ≡ false → quotient (terms_at x k) (terms_at y 0) ≡ Ok t → IsNumber t (number_at x k /ε number_at y 0)
+quotient_at : (x y : List Terms) (k : ℕ) (t : Terms) → ((j : ℕ) → IsReduced (terms_at x j)) → ((j : ℕ) → IsReduced (terms_at y j)) → is_zero (terms_at y 0) ≡ false → quotient (terms_at x k) (terms_at y 0) ≡ Ok t → IsNumber t (value_at x k /ε value_at y 0)
 quotient_at x y k t p q s e = quotient_number (terms_at x k) (terms_at y 0) t (p k).positive (q 0).positive (some_number (terms_at y 0).num s) e
 
 over_meant : (x y z : List Terms) (v w : Value) → IsMeant x v → IsMeant y w → over x y ≡ Ok z → IsMeant z (v /ε w)
@@ -296,7 +310,7 @@ over_meant x y z v w p q h =
     let m = made _ z l.1.1 in
     let s = l.1.0 in
     let n = of_five m.a m.b m.c m.d m.e _ _ _ _ _ (quotient_at x y 0 m.a p.reduced q.reduced s m.at_0) (quotient_at x y 1 m.b p.reduced q.reduced s m.at_1) (quotient_at x y 2 m.c p.reduced q.reduced s m.at_2) (quotient_at x y 3 m.d p.reduced q.reduced s m.at_3) (quotient_at x y 4 m.e p.reduced q.reduced s m.at_4) in
-    subst (λ t. IsMeant t (v /ε w)) m.is (as_meant _ _ (v /ε w) (over_powers _ _ _ _ _ (number_at y 0) epsilon ∙ ap₂ (λ a b. a /ε b) (sym (value_by_powers x) ∙ p.is) (sym (divisor_is y q.reduced l.0) ∙ q.is)) n)
+    subst (λ t. IsMeant t (v /ε w)) m.is (as_meant _ _ (v /ε w) (over_powers _ _ _ _ _ (value_at y 0) epsilon ∙ ap₂ (λ a b. a /ε b) (sym (value_by_powers x) ∙ p.is) (sym (divisor_is y q.reduced l.0) ∙ q.is)) n)
 
 -- ---- literals
 
@@ -402,6 +416,14 @@ mutual
   further_meant (Epsilon power) x h = epsilon_meaning power x h
   further_meant (Parens inner) x h = expression_meant inner x h
 
+-- its coefficients are in lowest terms
+pub value_reduced : (e : Expression) (x : List Terms) → value e ≡ Ok x → (k : ℕ) → IsReduced (terms_at x k)
+value_reduced e x h = (expression_meant e x h).reduced
+
+value_of_ratios : (x : List Ratio) → entry_value x ≡ terms_value (map terms x)
+unfolding entry_value terms_value
+value_of_ratios x = ap (sum_below number_field 5) (fun_ext (λ k. ap (λ t. number t *ε power_of_epsilon k) (sym (terms_of_at x k))))
+
 -- an entry is the number that its expression means
-pub entry_is_meant : (e : Expression) (x : List Terms) → value e ≡ Ok x → entry_value x ≡ meaning e
-entry_is_meant e x h = (expression_meant e x h).is
+pub entry_is_meant : (e : Expression) (x : List Ratio) → value e ≡ Ok (map terms x) → entry_value x ≡ meaning e
+entry_is_meant e x h = value_of_ratios x ∙ (expression_meant e (map terms x) h).is

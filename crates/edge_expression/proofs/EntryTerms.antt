@@ -24,9 +24,8 @@ use Rattle.std.proofs.lemmas.Bool.Decides.{Decides-int_eq}
 use Rattle.case_model.proofs.Holding.{both}
 use Rattle.fraction.specs.Tests.{is_one}
 use Rattle.edge_expression.specs.EntryTexts.{power_text, factor_text, term_text}
-use Rattle.edge_expression.specs.ExpressionStatements.{IsShortTerms}
 use Rattle.edge_expression.proofs.DecimalValues.{decimal_found}
-use Rattle.edge_expression.proofs.UnitOperations.{one_terms}
+use Rattle.edge_expression.proofs.UnitOperations.{IsShortTerms, one_terms}
 use Rattle.edge_expression.proofs.UnitEntries.{tabled, single, power_is, times_power, over_parts}
 
 -- ---- whole numbers

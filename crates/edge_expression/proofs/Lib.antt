@@ -15,6 +15,7 @@ pub mod Machine
 pub mod OneEntry
 pub mod OneValue
 pub mod PrintedTerms
+pub mod RatioLists
 pub mod ReadEntries
 pub mod ReadExpressions
 pub mod ScannedTexts

@@ -1,6 +1,10 @@
 -- A text has one entry or one fault.
-use Rattle.std.proofs.Common.{◌≡◌, ℕ, ◌⊎◌, inl, inr, List, length, Result, Ok, Err, refl, sym, ap, subst, ◌∙◌, arith}
+use Rattle.std.proofs.Common.{◌≡◌, ℕ, ◌⊎◌, inl, inr, List, map, length, Result, Ok, Err, refl, sym, ap, subst, ◌∙◌, arith}
 use Rattle.field_core.specs.Terms.{Terms}
+use Rattle.field_core.specs.View.{terms}
+use Rattle.field_core.specs.declared.ratio.Ratio.{Ratio}
+use Rattle.edge_expression.proofs.RatioLists.{same_ratios, ratios_of}
+use Rattle.edge_expression.proofs.EntryMeanings.{value_reduced}
 use Rattle.fraction.specs.Prefixes.{IsBadByte}
 use Rattle.edge_expression.specs.declared.fault.ExprFault.{ExprFault}
 use Rattle.edge_expression.specs.declared.fault.ExprFault.TheVariants.{BadByte, Depth, DivisorNotNumber, ZeroDivisor, Degree, Part}
@@ -35,9 +39,9 @@ ok_not_err : (e : List Terms) (f : ExprFault) → ok_worth e ≡ err_worth f →
 unfolding ok_worth err_worth
 ok_not_err e f h = cc
 
-pub one_entry : (text : List ℕ) (e f : List Terms) → IsEntryText text e → IsEntryText text f → e ≡ f
+pub one_entry : (text : List ℕ) (e f : List Ratio) → IsEntryText text e → IsEntryText text f → e ≡ f
 unfolding ok_worth
-one_entry text e f h k = same_ok e f (one_worth text (Ok e) (Ok f) h k)
+one_entry text e f h k = same_ratios e f (same_ok (map terms e) (map terms f) (one_worth text (Ok (map terms e)) (Ok (map terms f)) h k))
 
 -- ---- depth and bytes
 
@@ -63,14 +67,14 @@ bad_not_deep text n b s (inr d) = shallow_not_deep text n s (subst (IsDeep text)
 
 -- ---- an entry or a fault
 
-pub entry_not_fault : (text : List ℕ) (e : List Terms) (f : ExprFault) → IsEntryText text e → IsExprFault text f → ⊥
+pub entry_not_fault : (text : List ℕ) (e : List Ratio) (f : ExprFault) → IsEntryText text e → IsExprFault text f → ⊥
 unfolding IsExprFault ok_worth err_worth
-entry_not_fault text e Depth h k = worth_not_deep text (Ok e) h k
-entry_not_fault text e (BadByte n) h k = worth_not_bad text (Ok e) n h k.0
-entry_not_fault text e DivisorNotNumber h k = ok_not_err e DivisorNotNumber (one_worth text (Ok e) (Err DivisorNotNumber) h k)
-entry_not_fault text e ZeroDivisor h k = ok_not_err e ZeroDivisor (one_worth text (Ok e) (Err ZeroDivisor) h k)
-entry_not_fault text e Degree h k = ok_not_err e Degree (one_worth text (Ok e) (Err Degree) h k)
-entry_not_fault text e Part h k = ok_not_err e Part (one_worth text (Ok e) (Err Part) h k)
+entry_not_fault text e Depth h k = worth_not_deep text (Ok (map terms e)) h k
+entry_not_fault text e (BadByte n) h k = worth_not_bad text (Ok (map terms e)) n h k.0
+entry_not_fault text e DivisorNotNumber h k = ok_not_err (map terms e) DivisorNotNumber (one_worth text (Ok (map terms e)) (Err DivisorNotNumber) h k)
+entry_not_fault text e ZeroDivisor h k = ok_not_err (map terms e) ZeroDivisor (one_worth text (Ok (map terms e)) (Err ZeroDivisor) h k)
+entry_not_fault text e Degree h k = ok_not_err (map terms e) Degree (one_worth text (Ok (map terms e)) (Err Degree) h k)
+entry_not_fault text e Part h k = ok_not_err (map terms e) Part (one_worth text (Ok (map terms e)) (Err Part) h k)
 
 deep_once : (text : List ℕ) (g : ExprFault) → IsTooDeep text → IsExprFault text g → Depth ≡ g
 unfolding IsExprFault
@@ -111,10 +115,10 @@ one_expr_fault text Part g h k = worth_once text Part g h k
 -- ---- one of both
 
 abbrev HasOne : List ℕ → Type 0
-HasOne text = ((e : List Terms) × IsEntryText text e) ⊎ ((f : ExprFault) × IsExprFault text f)
+HasOne text = ((e : List Ratio) × IsEntryText text e) ⊎ ((f : ExprFault) × IsExprFault text f)
 
 by_value : (text : List ℕ) (e : Expression) (r : Result (List Terms) ExprFault) → Spells text e → IsShallow text (length text) → value e ≡ r → Fine r → HasOne text
-by_value text e (Ok x) s h v fine = inl (x, record { expression = e; spells = s; shallow = h; worth_is = v })
+by_value text e (Ok x) s h v fine = let xs = ratios_of x (value_reduced e x v) in inl (xs.ratios, record { expression = e; spells = s; shallow = h; worth_is = v ∙ ap Ok (sym xs.are) })
 by_value text e (Err f) s h v fine = inr (f, worth_fault text f fine (record { expression = e; spells = s; shallow = h; worth_is = v }))
 
 by_scan : (text : List ℕ) (r : Result (Unit {0}) ExprFault) → IsScanned text r → HasOne text
@@ -122,5 +126,5 @@ unfolding IsScanned
 by_scan text (Ok x) h = by_value text h.0.expression (value h.0.expression) h.0.spells h.1 refl (fine_value h.0.expression)
 by_scan text (Err f) h = inr (f, scan_fault text f h)
 
-pub entry_or_fault : (text : List ℕ) → ((e : List Terms) × IsEntryText text e) ⊎ ((f : ExprFault) × IsExprFault text f)
+pub entry_or_fault : (text : List ℕ) → ((e : List Ratio) × IsEntryText text e) ⊎ ((f : ExprFault) × IsExprFault text f)
 entry_or_fault text = by_scan text (scanned 0 text start) (is_scanned text (scanned 0 text start) refl)

@@ -6,7 +6,7 @@ use Rattle.std.proofs.lemmas.Bool.{cases_lt}
 use Rattle.field_core.specs.Terms.{Terms}
 use Rattle.fraction.specs.Tests.{is_zero}
 use Rattle.case_model.specs.Sums.{terms_at}
-use Rattle.edge_expression.specs.EntryTexts.{joined_term, terms_text, are_zero_below, entry_text, IsBegun}
+use Rattle.edge_expression.specs.EntryTexts.{joined_term, terms_text, are_zero_below, coefficients_text, IsBegun}
 
 -- The terms of the powers below this one are printed; `is_first` tells whether there was none.
 pub record IsPrinted (old out : List ℕ) (is_first : Bool) (power : ℕ) (e : List Terms) : Type 0 where
@@ -91,12 +91,12 @@ zero_at (suc n) p e h a = elim (cases_lt p n) [
   | inr ge ↦ let same : p ≡ n = omega (arith, h, ge) in ap (λ k. is_zero (terms_at e k)) same ∙ both_right (are_zero_below n e) (is_zero (terms_at e n)) a
 ]
 
-some_entry : (e : List Terms) (p : ℕ) (b : Bool) → are_zero_below 5 e ≡ b → p < 5 → is_zero (terms_at e p) ≡ false → entry_text e ≡ terms_text true 0 5 e
-unfolding entry_text
+some_entry : (e : List Terms) (p : ℕ) (b : Bool) → are_zero_below 5 e ≡ b → p < 5 → is_zero (terms_at e p) ≡ false → coefficients_text e ≡ terms_text true 0 5 e
+unfolding coefficients_text
 some_entry e p true a h z = absurd (no_true (sym z ∙ zero_at 5 p e h a))
 some_entry e p false a h z = ap (λ b. cond b (codes "0") (terms_text true 0 5 e)) a
 
-pub begun_some : (old out new : List ℕ) (f : Bool) (p : ℕ) (t : Terms) (e : List Terms) → IsPrinted old out f p e → p < 5 → t ≡ terms_at e p → is_zero t ≡ false → IsBegun out new (joined_term f p t) → IsBegun old new (entry_text e)
+pub begun_some : (old out new : List ℕ) (f : Bool) (p : ℕ) (t : Terms) (e : List Terms) → IsPrinted old out f p e → p < 5 → t ≡ terms_at e p → is_zero t ≡ false → IsBegun out new (joined_term f p t) → IsBegun old new (coefficients_text e)
 begun_some old out new f p t e i h same z b =
     let zero : is_zero (terms_at e p) ≡ false = ap is_zero (sym same) ∙ z in
     let piece : joined_term f p (terms_at e p) ≡ b.front ++ b.rest = ap (joined_term f p) (sym same) ∙ b.text_is in
@@ -115,15 +115,15 @@ none_left : (f : Bool) (e : List Terms) → terms_text f 5 (5 - 5) e ≡ []
 unfolding terms_text
 none_left f e = refl
 
-pub end_none : (old out : List ℕ) (e : List Terms) → IsPrinted old out true 5 e → (out ≡ old) × (entry_text e ≡ codes "0")
-unfolding entry_text
+pub end_none : (old out : List ℕ) (e : List Terms) → IsPrinted old out true 5 e → (out ≡ old) × (coefficients_text e ≡ codes "0")
+unfolding coefficients_text
 end_none old out e i = (i.out_is ∙ ap (λ (x : List ℕ). old ++ x) (i.none refl) ∙ append-nil old, ap (λ b. cond b (codes "0") (terms_text true 0 5 e)) (sym i.first))
 
-pub end_some : (old out : List ℕ) (e : List Terms) → IsPrinted old out false 5 e → out ≡ old ++ entry_text e
-unfolding entry_text
+pub end_some : (old out : List ℕ) (e : List Terms) → IsPrinted old out false 5 e → out ≡ old ++ coefficients_text e
+unfolding coefficients_text
 end_some old out e i =
     let whole : terms_text true 0 5 e ≡ i.done = sym i.text_is ∙ ap (λ (x : List ℕ). i.done ++ x) (none_left false e) ∙ append-nil i.done in
-    let text : entry_text e ≡ i.done = ap (λ b. cond b (codes "0") (terms_text true 0 5 e)) (sym i.first) ∙ whole in
+    let text : coefficients_text e ≡ i.done = ap (λ b. cond b (codes "0") (terms_text true 0 5 e)) (sym i.first) ∙ whole in
     i.out_is ∙ ap (λ (x : List ℕ). old ++ x) (sym text)
 
 -- ---- results

@@ -1,11 +1,13 @@
 -- What reading an edge expression gives.
-use Rattle.std.proofs.Common.{◌≡◌, ℕ, zero, suc, ◌+◌, ◌-◌, inl, inr, Bool, true, false, cond, ℤ, List, length, Option, Some, None, Result, Ok, Err, sym, subst, ◌∙◌, arith}
+use Rattle.std.proofs.Common.{◌≡◌, ℕ, zero, suc, ◌+◌, ◌-◌, inl, inr, Bool, true, false, cond, ℤ, List, map, length, Option, Some, None, Result, Ok, Err, sym, ap, subst, ◌∙◌, arith}
 use Rattle.std.specs.Prelude.{IfOk, IfErr, IsOkAnd, nat_lt}
 use Rattle.field_core.specs.Terms.{Terms}
 use Rattle.fraction.specs.Lowest.{lowest_terms}
 use Rattle.fraction.specs.Numeral.{value_of}
 use Rattle.case_model.specs.declared.entry.Entry.{Entry}
-use Rattle.case_model.specs.EntryView.{coefficients_of}
+use Rattle.field_core.specs.View.{terms}
+use Rattle.field_core.specs.declared.ratio.Ratio.{Ratio}
+use Rattle.edge_expression.proofs.RatioLists.{same_ratios}
 use Rattle.edge_expression.specs.EntryValues.{is_short}
 use Rattle.fraction.specs.Tests.{is_zero}
 use Rattle.edge_expression.specs.EntryValues.{zero_coefficients}
@@ -160,17 +162,17 @@ worth_fault text Part h w = w
 fine_worth : (text : List ℕ) (w : Result (List Terms) ExprFault) → IsWorth text w → Fine w
 fine_worth text w h = subst (λ r. Fine r) h.worth_is (fine_value h.expression)
 
-pub found : (text : List ℕ) (r : Result Entry ExprFault) → IsScanned text (Ok tt) → ((e : Expression) → Spells text e → map_value coefficients_of r ≡ value e) → IfOk r (λ x. IsEntryText text (coefficients_of x))
-found text (Ok x) s h = worth_of text (Ok (coefficients_of x)) s h
+pub found : (text : List ℕ) (r : Result Entry ExprFault) → IsScanned text (Ok tt) → ((e : Expression) → Spells text e → map_value (map terms) r ≡ value e) → IfOk r (IsEntryText text)
+found text (Ok x) s h = worth_of text (Ok (map terms x)) s h
 found text (Err f) s h = tt
 
-pub fault : (text : List ℕ) (r : Result Entry ExprFault) → IsScanned text (Ok tt) → ((e : Expression) → Spells text e → map_value coefficients_of r ≡ value e) → IfErr r (IsExprFault text)
+pub fault : (text : List ℕ) (r : Result Entry ExprFault) → IsScanned text (Ok tt) → ((e : Expression) → Spells text e → map_value (map terms) r ≡ value e) → IfErr r (IsExprFault text)
 fault text (Ok x) s h = tt
 fault text (Err f) s h = let w = worth_of text (Err f) s h in worth_fault text f (fine_worth text (Err f) w) w
 
-only_by : (r : Result Entry ExprFault) (e : List Terms) → map_value coefficients_of r ≡ Ok e → IsOkAnd r (λ x. coefficients_of x ≡ e)
-only_by (Ok x) e h = let f : coefficients_of x ≡ e = cc in f
+only_by : (r : Result Entry ExprFault) (e : List Ratio) → map_value (map terms) r ≡ Ok (map terms e) → r ≡ Ok e
+only_by (Ok x) e h = let f : map terms x ≡ map terms e = cc in ap Ok (same_ratios x e f)
 only_by (Err f) e h = absurd cc
 
-pub only : (text : List ℕ) (r : Result Entry ExprFault) → ((e : Expression) → Spells text e → map_value coefficients_of r ≡ value e) → (e : List Terms) → IsEntryText text e → IsOkAnd r (λ x. coefficients_of x ≡ e)
+pub only : (text : List ℕ) (r : Result Entry ExprFault) → ((e : Expression) → Spells text e → map_value (map terms) r ≡ value e) → (e : List Ratio) → IsEntryText text e → r ≡ Ok e
 only text r h e w = only_by r e (h w.expression w.spells ∙ w.worth_is)

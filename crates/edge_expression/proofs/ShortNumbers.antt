@@ -15,6 +15,7 @@ use Rattle.field_core.specs.Laws.PolynomialLaws.{product_nonzero}
 use Rattle.field_core.specs.Laws.Effective.{positive_nonzero}
 use Rattle.field_core.proofs.IntegerRing.{ring}
 use Rattle.fraction.specs.Laws.Order.{AreLowest}
+use Rattle.fraction.specs.Within.{IsWithin}
 use Rattle.fraction.specs.Lowest.{lowest_terms}
 use Rattle.fraction.proofs.LowestTerms.{lowest_cross}
 use Rattle.case_model.specs.Sums.{number}
@@ -33,12 +34,7 @@ lowest_value n d some =
     let low = lowest_terms n d in
     fraction-equal low.num low.den n d (positive_nonzero low.den (are_lowest n d some).positive) some (lowest_cross n d)
 
--- the sizes of short parts
-pub record AreShortParts (t : Terms) : Type 0 where
-  pub num : unsigned_abs t.num ≤ 10 ^ 18
-  pub den : unsigned_abs t.den ≤ 10 ^ 18
-
-pub short_parts : (t : Terms) → is_short t ≡ true → AreShortParts t
+pub short_parts : (t : Terms) → is_short t ≡ true → IsWithin (10 ^ 18) t
 short_parts t s =
     let b = both (nat_le (unsigned_abs t.num) (10 ^ 18)) (nat_le (unsigned_abs t.den) (10 ^ 18)) s in
     record { num = grind (arith, nat_tests, b.left); den = grind (arith, nat_tests, b.right) }

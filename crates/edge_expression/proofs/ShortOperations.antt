@@ -1,5 +1,5 @@
 -- Operations on fractions with short parts are never too wide, and give the lowest terms.
-use Rattle.std.proofs.Common.{◌≡◌, ◌≢◌, ℕ, zero, suc, ◌*◌, ◌/◌, ◌^◌, ◌<◌, ◌≤◌, true, false, ℤ, pos, negsuc, neg_ℤ, ◌+ℤ◌, ◌-ℤ◌, ◌*ℤ◌, unsigned_abs, int_div, Option, Some, None, Result, Ok, Err, refl, sym, ap, ap₂, ◌∙◌, arith}
+use Rattle.std.proofs.Common.{◌≡◌, ◌≢◌, ℕ, zero, suc, ◌*◌, ◌/◌, ◌^◌, ◌<◌, ◌≤◌, true, false, ℤ, pos, negsuc, neg_ℤ, ◌+ℤ◌, ◌-ℤ◌, ◌*ℤ◌, unsigned_abs, int_div, Option, Some, None, Result, Ok, Err, refl, sym, ap, ◌∙◌, lit<}
 use Rattle.std.specs.Option.{option_map}
 use Rattle.std.specs.Ordering.{int_eq}
 use Rattle.std.proofs.lemmas.Bool.Decides.{Decides-int_eq}
@@ -21,6 +21,8 @@ use Rattle.fraction.specs.Lowest.{lowest_terms}
 use Rattle.fraction.specs.Numeral.{Same}
 use Rattle.fraction.specs.Plain.{single, pair_of, fraction_parts}
 use Rattle.fraction.specs.Tests.{is_zero}
+use Rattle.fraction.specs.Within.{IsWithin}
+use Rattle.fraction.proofs.ShortTerms.{operation_within, opposite_within, inverse_within}
 use Rattle.fraction.specs.Written.{written_add, written_mul, opposite, inverse, inverse_of}
 use Rattle.fraction.specs.Laws.CrossProducts.{sum_of, product_of}
 use Rattle.fraction.specs.Laws.Turned.{abs_neg, opposite_reduced, inverse_reduced}
@@ -28,65 +30,12 @@ use Rattle.fraction.specs.Laws.WrittenLaws.{Makes, add_says, mul_says}
 use Rattle.edge_expression.specs.EntryValues.{is_short, short, short_of, sum, difference, product, quotient}
 use Rattle.edge_expression.specs.EntryView.{made_short}
 use Rattle.edge_expression.proofs.LowestTerms.{lowest_any, negate_left, negate_right, turned_back}
-use Rattle.edge_expression.proofs.ShortNumbers.{AreShortParts, short_parts}
-
--- ---- sizes
-
--- a quotient is no larger
-quotient_size : (z : ℤ) (g n : ℕ) → unsigned_abs z ≤ n → unsigned_abs (int_div z (pos g)) ≤ n
-quotient_size (pos m) g n h = let d : m / g ≤ m = div-le_self m g in omega arith
-quotient_size (negsuc m) g n h = let d : suc m / g ≤ suc m = div-le_self (suc m) g in rw (abs_neg (pos (suc m / g))) (omega arith)
-
-product_size : (x y : ℤ) → unsigned_abs x ≤ 10 ^ 18 → unsigned_abs y ≤ 10 ^ 18 → unsigned_abs (x *ℤ y) ≤ 10 ^ 36
-product_size x y h k =
-    let e = unsigned_abs-mul x y in
-    let m : unsigned_abs x * unsigned_abs y ≤ 10 ^ 18 * 10 ^ 18 = mul-le-mul h k in
-    omega (arith, e, m)
-
-product_sized : (x y : ℤ) → unsigned_abs x ≤ 10 ^ 18 → unsigned_abs y ≤ 10 ^ 18 → sized (x *ℤ y) ≡ Some (x *ℤ y)
-product_sized x y h k = let p = product_size x y h k in sized_small (x *ℤ y) (omega (arith, p))
-
-sum_sized : (x y : ℤ) → unsigned_abs x ≤ 10 ^ 36 → unsigned_abs y ≤ 10 ^ 36 → sized (x +ℤ y) ≡ Some (x +ℤ y)
-sum_sized x y h k = sized_small (x +ℤ y) (omega (arith, ints, h, k))
-
--- ---- written operations
-
--- what is written, in lowest terms
-record IsWritten (r : Option Terms) : Type 0 where
-  value : Terms
-  is : r ≡ Some value
-
-sum_written : (x y : Terms) → AreShortParts x → AreShortParts y → IsWritten (written_add x y)
-unfolding written_add
-sum_written x y p q =
-    let g = gcd (unsigned_abs x.den) (unsigned_abs y.den) in
-    let a = quotient_size y.den g (10 ^ 18) q.den in
-    let b = quotient_size x.den g (10 ^ 18) p.den in
-    let u = x.num *ℤ int_div y.den (pos g) in
-    let v = y.num *ℤ int_div x.den (pos g) in
-    let h = gcd (unsigned_abs (u +ℤ v)) (unsigned_abs (pos g)) in
-    let den = product_sized (int_div x.den (pos g)) (int_div y.den (pos h)) b (quotient_size y.den h (10 ^ 18) q.den) in
-    record {
-      value = record { num = int_div (u +ℤ v) (pos h); den = int_div x.den (pos g) *ℤ int_div y.den (pos h) };
-      is = rw (product_sized x.num (int_div y.den (pos g)) p.num a, product_sized y.num (int_div x.den (pos g)) q.num b, sum_sized u v (product_size x.num (int_div y.den (pos g)) p.num a) (product_size y.num (int_div x.den (pos g)) q.num b), den) refl;
-    }
-
-product_written : (x y : Terms) → AreShortParts x → AreShortParts y → IsWritten (written_mul x y)
-unfolding written_mul
-product_written x y p q =
-    let a = gcd (unsigned_abs x.num) (unsigned_abs y.den) in
-    let b = gcd (unsigned_abs y.num) (unsigned_abs x.den) in
-    record {
-      value = record { num = int_div x.num (pos a) *ℤ int_div y.num (pos b); den = int_div x.den (pos b) *ℤ int_div y.den (pos a) };
-      is = rw (product_sized (int_div x.num (pos a)) (int_div y.num (pos b)) (quotient_size x.num a (10 ^ 18) p.num) (quotient_size y.num b (10 ^ 18) q.num), product_sized (int_div x.den (pos b)) (int_div y.den (pos a)) (quotient_size x.den b (10 ^ 18) p.den) (quotient_size y.den a (10 ^ 18) q.den)) refl;
-    }
-
--- ---- fractions with short parts
+use Rattle.edge_expression.proofs.ShortNumbers.{short_parts}
 
 -- in lowest terms, with short parts
 record IsShort (x : Terms) : Type 0 where
   reduced : IsReduced x
-  parts : AreShortParts x
+  parts : IsWithin (10 ^ 18) x
 
 is_short_of : (x : Ratio) → is_short (terms x) ≡ true → IsShort (terms x)
 is_short_of x s = record { reduced = x.valid; parts = short_parts (terms x) s }
@@ -96,19 +45,18 @@ some_product x y p q = product_nonzero x.den y.den (positive_nonzero x.den p.red
 
 sum_lowest : (x y : Terms) → IsShort x → IsShort y → written_add x y ≡ Some (lowest_terms (x.num *ℤ y.den +ℤ y.num *ℤ x.den) (x.den *ℤ y.den))
 sum_lowest x y p q =
-    let w = sum_written x y p.parts q.parts in
-    let m = add_says x y w.value p.reduced q.reduced w.is in
-    w.is ∙ ap Some (sym (lowest_any w.value (x.num *ℤ y.den +ℤ y.num *ℤ x.den) (x.den *ℤ y.den) m.reduced (some_product x y p q) m.same))
+    let w = operation_within Add x y (10 ^ 18) (10 ^ 18) p.parts q.parts (lit< tt) in
+    let m = add_says x y w.0 p.reduced q.reduced w.1 in
+    w.1 ∙ ap Some (sym (lowest_any w.0 (x.num *ℤ y.den +ℤ y.num *ℤ x.den) (x.den *ℤ y.den) m.reduced (some_product x y p q) m.same))
 
 product_lowest : (x y : Terms) → IsShort x → IsShort y → written_mul x y ≡ Some (lowest_terms (x.num *ℤ y.num) (x.den *ℤ y.den))
 product_lowest x y p q =
-    let w = product_written x y p.parts q.parts in
-    let m = mul_says x y w.value p.reduced q.reduced w.is in
-    w.is ∙ ap Some (sym (lowest_any w.value (x.num *ℤ y.num) (x.den *ℤ y.den) m.reduced (some_product x y p q) m.same))
+    let w = operation_within Mul x y (10 ^ 18) (10 ^ 18) p.parts q.parts (lit< tt) in
+    let m = mul_says x y w.0 p.reduced q.reduced w.1 in
+    w.1 ∙ ap Some (sym (lowest_any w.0 (x.num *ℤ y.num) (x.den *ℤ y.den) m.reduced (some_product x y p q) m.same))
 
 opposite_short : (y : Terms) → IsShort y → IsShort (opposite y)
-unfolding opposite
-opposite_short y q = record { reduced = opposite_reduced y q.reduced; parts = record { num = rw (abs_neg y.num) q.parts.num; den = q.parts.den } }
+opposite_short y q = record { reduced = opposite_reduced y q.reduced; parts = opposite_within (10 ^ 18) y q.parts }
 
 minus : (a b : ℤ) → a +ℤ neg_ℤ b ≡ a -ℤ b
 minus a b = omega (arith, ints)
@@ -118,13 +66,8 @@ unfolding opposite
 difference_lowest x y p q =
     sum_lowest x (opposite y) p (opposite_short y q) ∙ ap (λ n. Some (lowest_terms n (x.den *ℤ y.den))) (ap (λ z. x.num *ℤ y.den +ℤ z) (negate_left y.num x.den) ∙ minus (x.num *ℤ y.den) (y.num *ℤ x.den))
 
-inverse_parts : (n d : ℤ) → unsigned_abs n ≤ 10 ^ 18 → unsigned_abs d ≤ 10 ^ 18 → AreShortParts (inverse_of n d)
-inverse_parts (pos n) d h k = record { num = k; den = h }
-inverse_parts (negsuc n) d h k = record { num = rw (abs_neg d) k; den = h }
-
 inverse_short : (y : Terms) → y.num ≢ pos 0 → IsShort y → IsShort (inverse y)
-unfolding inverse
-inverse_short y some q = record { reduced = inverse_reduced y q.reduced some; parts = inverse_parts y.num y.den q.parts.num q.parts.den }
+inverse_short y some q = record { reduced = inverse_reduced y q.reduced some; parts = inverse_within (10 ^ 18) y q.parts }
 
 -- a product with an inverse has the value of the quotient
 over_inverse : (z : Terms) (n d m e : ℤ) → Same z (product_of (record { num = n; den = d }) (inverse_of m e)) → Same z (record { num = n *ℤ e; den = d *ℤ m })
@@ -135,9 +78,10 @@ over_inverse z n d (negsuc m) e h =
 quotient_lowest : (x y : Terms) → y.num ≢ pos 0 → IsShort x → IsShort y → written_mul x (inverse y) ≡ Some (lowest_terms (x.num *ℤ y.den) (x.den *ℤ y.num))
 unfolding inverse
 quotient_lowest x y some p q =
-    let w = product_written x (inverse y) p.parts (inverse_short y some q).parts in
-    let m = mul_says x (inverse y) w.value p.reduced (inverse_short y some q).reduced w.is in
-    w.is ∙ ap Some (sym (lowest_any w.value (x.num *ℤ y.den) (x.den *ℤ y.num) m.reduced (product_nonzero x.den y.num (positive_nonzero x.den p.reduced.positive) some) (over_inverse w.value x.num x.den y.num y.den m.same)))
+    let i = inverse_short y some q in
+    let w = operation_within Mul x (inverse y) (10 ^ 18) (10 ^ 18) p.parts i.parts (lit< tt) in
+    let m = mul_says x (inverse y) w.0 p.reduced i.reduced w.1 in
+    w.1 ∙ ap Some (sym (lowest_any w.0 (x.num *ℤ y.den) (x.den *ℤ y.num) m.reduced (product_nonzero x.den y.num (positive_nonzero x.den p.reduced.positive) some) (over_inverse w.0 x.num x.den y.num y.den m.same)))
 
 -- ---- what the operations of the program answer
 

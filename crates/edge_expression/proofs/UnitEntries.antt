@@ -13,8 +13,7 @@ use Rattle.edge_expression.specs.declared.fault.ExprFault.{ExprFault}
 use Rattle.edge_expression.specs.Expressions.{Plus, Minus}
 use Rattle.field_core.specs.Steps.{◌>>=◌}
 use Rattle.edge_expression.specs.EntryValues.{plain_entry, sum, difference, product, quotient, coefficients, joined, degree_within, degree, product_sum, times, over, unit_at, power_value}
-use Rattle.edge_expression.specs.ExpressionStatements.{IsShortTerms}
-use Rattle.edge_expression.proofs.UnitOperations.{one_terms, zero_short, one_short, sum_zero_left, sum_zero_right, difference_zero_left, difference_zero_right, product_one_right, product_zero_left, product_zero_right, quotient_parts, quotient_zero}
+use Rattle.edge_expression.proofs.UnitOperations.{IsShortTerms, one_terms, zero_short, one_short, sum_zero_left, sum_zero_right, difference_zero_left, difference_zero_right, product_one_right, product_zero_left, product_zero_right, quotient_parts, quotient_zero}
 
 -- the entry with these coefficients
 abbrev pub tabled : (ℕ → Terms) → List Terms

@@ -10,9 +10,12 @@ use Rattle.fraction.specs.Lowest.{lowest_terms}
 use Rattle.fraction.specs.Plain.{zero_reduced, one_reduced}
 use Rattle.fraction.specs.Tests.{is_zero}
 use Rattle.case_model.specs.Sums.{zero_terms}
-use Rattle.edge_expression.specs.EntryValues.{short_of, short, sum, difference, product, quotient}
-use Rattle.edge_expression.specs.ExpressionStatements.{IsShortTerms}
+use Rattle.edge_expression.specs.EntryValues.{is_short, short_of, short, sum, difference, product, quotient}
 use Rattle.edge_expression.proofs.LowestTerms.{lowest_any}
+
+-- in lowest terms, with parts of at most 10^18
+abbrev pub IsShortTerms : Terms → Type 0
+IsShortTerms t = IsReduced t × (is_short t ≡ true)
 
 abbrev pub one_terms : Terms
 one_terms = record { num = pos 1; den = pos 1 }

@@ -1,6 +1,8 @@
 -- What reading an edge expression answers.
-use Rattle.std.specs.Prelude.{◌≡◌, ℕ, suc, ◌-◌, ◌<◌, ◌≤◌, ◌⊎◌, List, [], ◌∷◌, length, take, ◌==◌, if◌then◌else◌, Result, Ok, Err}
+use Rattle.std.specs.Prelude.{◌≡◌, ℕ, suc, ◌-◌, ◌<◌, ◌≤◌, ◌⊎◌, List, [], ◌∷◌, map, length, take, ◌==◌, if◌then◌else◌, Result, Ok, Err}
 use Rattle.field_core.specs.Terms.{Terms}
+use Rattle.field_core.specs.View.{terms}
+use Rattle.field_core.specs.declared.ratio.Ratio.{Ratio}
 use Rattle.fraction.specs.Prefixes.{IsBadByte}
 use Rattle.edge_expression.specs.declared.fault.ExprFault.{ExprFault}
 use Rattle.edge_expression.specs.declared.fault.ExprFault.TheVariants.{BadByte, Depth, DivisorNotNumber, ZeroDivisor, Degree, Part}
@@ -52,8 +54,8 @@ pub record IsWorth (text : List ℕ) (worth : Result (List Terms) ExprFault) : T
   pub worth_is : value expression ≡ worth
 
 -- the text is an expression of this entry
-abbrev pub IsEntryText : List ℕ → List Terms → Type 0
-IsEntryText text entry = IsWorth text (Ok entry)
+abbrev pub IsEntryText : List ℕ → List Ratio → Type 0
+IsEntryText text entry = IsWorth text (Ok (map terms entry))
 
 -- Why a text gives no entry. Its depth is looked at first, then its bytes, and then it is evaluated.
 unfoldable pub IsExprFault : List ℕ → ExprFault → Type 0

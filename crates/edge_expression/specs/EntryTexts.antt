@@ -1,7 +1,9 @@
 -- The canonical texts of entries.
-use Rattle.std.specs.Prelude.{◌≡◌, ℕ, zero, suc, ◌+◌, ◌&&◌, ◌==◌, Bool, true, false, List, [], ◌∷◌, ◌++◌, codes, if◌then◌else◌}
+use Rattle.std.specs.Prelude.{◌≡◌, ℕ, zero, suc, ◌+◌, ◌&&◌, ◌==◌, Bool, true, false, List, [], ◌∷◌, ◌++◌, map, codes, if◌then◌else◌}
 use Rattle.std.specs.Int.{is_negative}
 use Rattle.field_core.specs.Terms.{Terms}
+use Rattle.field_core.specs.View.{terms}
+use Rattle.field_core.specs.declared.ratio.Ratio.{Ratio}
 use Rattle.fraction.specs.Spelling.{spelling}
 use Rattle.fraction.specs.Tests.{is_zero, is_one, absolute}
 use Rattle.case_model.specs.Sums.{terms_at}
@@ -40,9 +42,13 @@ unfoldable pub are_zero_below : ℕ → List Terms → Bool
 are_zero_below zero entry = true
 are_zero_below (suc n) entry = are_zero_below n entry && is_zero (terms_at entry n)
 
--- the terms of an entry that aren't 0, from power 0 to 4, or 0 where there is none
-unfoldable pub entry_text : List Terms → List ℕ
-entry_text entry = if are_zero_below 5 entry then codes "0" else terms_text true 0 5 entry
+-- the terms of five coefficients that aren't 0, from power 0 to 4, or 0 where there is none
+unfoldable pub coefficients_text : List Terms → List ℕ
+coefficients_text entry = if are_zero_below 5 entry then codes "0" else terms_text true 0 5 entry
+
+-- the text of an entry
+abbrev pub entry_text : List Ratio → List ℕ
+entry_text entry = coefficients_text (map terms entry)
 
 -- a front of the text was appended, and what there was before stays
 pub record IsBegun (old new text : List ℕ) : Type 0 where

@@ -1,7 +1,7 @@
 -- Values of the evaluator as contracts see them.
 use Rattle.std.specs.Prelude.{◌≡◌, ℕ, suc, false, List, map, Result, Ok, Err}
 use Rattle.field_core.specs.Terms.{Terms}
-use Rattle.fraction.specs.View.{terms_of}
+use Rattle.field_core.specs.View.{terms}
 use Rattle.field_core.specs.declared.place.TooWide.{TooWide}
 use Rattle.edge_expression.specs.declared.fault.ExprFault.{ExprFault}
 use Rattle.edge_expression.specs.declared.fault.ExprFault.TheVariants.{Part}
@@ -16,7 +16,7 @@ use Rattle.edge_expression.specs.EntryValues.{short_of, sum, difference, quotien
 
 -- the terms of a short fraction
 abbrev pub short_terms : Short → Terms
-short_terms x = terms_of x.value
+short_terms x = terms x.value
 
 -- the value in such a form, or the same fault
 abbrev pub map_value : {A B : Type 0} → (A → B) → Result A ExprFault → Result B ExprFault

@@ -1,12 +1,13 @@
 -- What holds of edge expressions and of the texts of entries.
-use Rattle.std.specs.Prelude.{◌≡◌, ◌↔◌, true, List, length, Option, Some, None, Ok}
-use Rattle.std.specs.List.{AllByRecursion}
-use Rattle.field_core.specs.Terms.{Terms, IsReduced}
+use Rattle.std.specs.Prelude.{◌≡◌, ◌↔◌, true, List, map, length, Option, Some, None, Ok}
+use Rattle.std.specs.List.{list_all}
+use Rattle.field_core.specs.View.{terms}
+use Rattle.field_core.specs.declared.ratio.Ratio.{Ratio}
 use Rattle.field_core.specs.Number.{Number as Value}
 use Rattle.field_core.specs.Arithmetic.{number_zero, ◌+ε◌, ◌-ε◌, ◌*ε◌, ◌/ε◌}
 use Rattle.field_core.specs.Fractions.{fraction}
 use Rattle.fraction.specs.Numeral.{Body, value_of, HasTooManyDigits}
-use Rattle.edge_expression.specs.EntryValues.{is_short}
+use Rattle.case_model.specs.Draft.{is_short}
 use Rattle.case_model.specs.Entries.{entry_value, power_of_epsilon}
 use Rattle.edge_expression.specs.Expressions.{Power, Sign, Plus, Minus, Expression, Sum, MoreTerms, NoTerm, AndTerm, Term, Product, MoreFactors, NoFactor, Times, Over, Beside, Factor, Number, Other, Further, Epsilon, Parens}
 use Rattle.edge_expression.specs.EntryValues.{sign_or_plus, has_too_many_digits, value}
@@ -60,16 +61,12 @@ unfoldable mutual
 
 -- an entry is the number that the expression means
 abbrev pub EntriesAreMeant : Type 0
-EntriesAreMeant = (expression : Expression) (entry : List Terms) → value expression ≡ Ok entry → entry_value entry ≡ meaning expression
+EntriesAreMeant = (expression : Expression) (entry : List Ratio) → value expression ≡ Ok (map terms entry) → entry_value entry ≡ meaning expression
 
 -- the limit of a decimal's digits is that of numerals
 abbrev pub DecimalsHaveTheLimitOfNumerals : Type 0
 DecimalsHaveTheLimitOfNumerals = (body : Body) → (has_too_many_digits body ≡ true) ↔ HasTooManyDigits body
 
--- in lowest terms, with parts of at most 10^18
-abbrev pub IsShortTerms : Terms → Type 0
-IsShortTerms t = IsReduced t × (is_short t ≡ true)
-
 -- the text of an entry with parts of at most 10^18 is an expression of that entry
 abbrev pub EntryTextsReadBack : Type 0
-EntryTextsReadBack = (entry : List Terms) → length entry ≡ 5 → AllByRecursion IsShortTerms entry → IsEntryText (entry_text entry) entry
+EntryTextsReadBack = (entry : List Ratio) → length entry ≡ 5 → list_all is_short entry ≡ true → IsEntryText (entry_text entry) entry

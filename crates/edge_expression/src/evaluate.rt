@@ -1,7 +1,7 @@
 //! Edge expressions from left to right. What is said of a text holds where it is an expression.
-ghost use Rattle.std.specs.Prelude.{◌≡◌, ◌≤◌, [], length, IfOk};
+ghost use Rattle.std.specs.Prelude.{◌≡◌, ◌≤◌, [], map, length, IfOk};
 ghost use Rattle.fraction.specs.Numeral.{body_text};
-ghost use Rattle.case_model.specs.EntryView.{coefficients_of};
+ghost use Rattle.field_core.specs.View.{terms};
 ghost use Rattle.edge_expression.specs.Expressions.{Decimal, Expression, Spells};
 ghost use Rattle.edge_expression.specs.EntryValues.{decimal_value, value};
 ghost use Rattle.edge_expression.specs.EntryView.{map_value, polynomial_terms};
@@ -75,7 +75,7 @@ fn factor(cursor: &mut Cursor, head: Head) -> Result<Polynomial, ExprFault>
 
 /// What an edge expression is worth.
 pub fn worth(text: &[u8]) -> Result<Entry, ExprFault>
-    ensures { (e : Expression) → Spells text.now e → map_value coefficients_of result ≡ value e }
+    ensures { (e : Expression) → Spells text.now e → map_value (map terms) result ≡ value e }
 {
     let mut cursor = Cursor::new(text);
     match sum(&mut cursor) {

@@ -2,7 +2,7 @@
 ghost use Rattle.std.specs.Prelude.{◌≡◌, ◌≤◌, suc, map};
 ghost use Rattle.fraction.specs.Tests.{is_zero};
 ghost use Rattle.edge_expression.specs.EntryValues.{zero_coefficients};
-ghost use Rattle.case_model.specs.EntryView.{coefficients_of};
+ghost use Rattle.field_core.specs.View.{terms};
 ghost use Rattle.case_model.specs.Sums.{terms_at};
 ghost use Rattle.edge_expression.specs.EntryView.{short_terms, map_value, polynomial_terms, coefficient, applied, CanDivide};
 ghost use Rattle.edge_expression.specs.EntryValues.{plain_entry, degree, product_sum, unit_at, power_value, coefficients, times, over};
@@ -83,7 +83,7 @@ impl Polynomial {
 
     /// The entry with these coefficients.
     pub fn entry(&self) -> Entry
-        ensures { coefficients_of result ≡ polynomial_terms self.now }
+        ensures { map terms result ≡ polynomial_terms self.now }
     {
         let [constant, first, second, third, fourth] = self.coefficients;
         Entry::new([

@@ -1,6 +1,5 @@
 ghost use Rattle.std.specs.Prelude.{◌≡◌, ◌≤◌, ◌<◌, ◌++◌, OnOk, OnErr};
-ghost use Rattle.fraction.specs.View.{terms_of};
-ghost use Rattle.case_model.specs.EntryView.{coefficients_of};
+ghost use Rattle.field_core.specs.View.{terms};
 ghost use Rattle.edge_expression.specs.EntryTexts.{power_text, factor_text, term_text, joint_text, joined_term, entry_text, IsBegun};
 
 use case_model::Entry;
@@ -23,8 +22,8 @@ fn put_power(out: &mut List<u8>, power: usize) -> Result<(), NoMemory>
 
 /// Appends what stands before a power of epsilon.
 fn put_factor(out: &mut List<u8>, coefficient: &Fraction) -> Result<(), NoMemory>
-    ensures put { OnOk result (out.new ≡ out.old ++ factor_text (terms_of coefficient.now)) }
-    ensures begun { OnErr result (IsBegun out.old out.new (factor_text (terms_of coefficient.now))) }
+    ensures put { OnOk result (out.new ≡ out.old ++ factor_text (terms coefficient.now)) }
+    ensures begun { OnErr result (IsBegun out.old out.new (factor_text (terms coefficient.now))) }
 {
     if coefficient.is_one() {
         return Ok(());
@@ -37,8 +36,8 @@ fn put_factor(out: &mut List<u8>, coefficient: &Fraction) -> Result<(), NoMemory
 #[tactic(auto, unfolding(crate::specs::EntryTexts::term_text))]
 fn put_term(out: &mut List<u8>, power: usize, coefficient: &Fraction) -> Result<(), NoMemory>
     requires { power ≤ 4 }
-    ensures put { OnOk result (out.new ≡ out.old ++ term_text power (terms_of coefficient.now)) }
-    ensures begun { OnErr result (IsBegun out.old out.new (term_text power (terms_of coefficient.now))) }
+    ensures put { OnOk result (out.new ≡ out.old ++ term_text power (terms coefficient.now)) }
+    ensures begun { OnErr result (IsBegun out.old out.new (term_text power (terms coefficient.now))) }
 {
     if power == 0 {
         return coefficient.print(out);
@@ -70,8 +69,8 @@ fn put_joined(
     coefficient: &Fraction,
 ) -> Result<(), NoMemory>
     requires { power ≤ 4 }
-    ensures put { OnOk result (out.new ≡ out.old ++ joined_term is_first power (terms_of coefficient.now)) }
-    ensures begun { OnErr result (IsBegun out.old out.new (joined_term is_first power (terms_of coefficient.now))) }
+    ensures put { OnOk result (out.new ≡ out.old ++ joined_term is_first power (terms coefficient.now)) }
+    ensures begun { OnErr result (IsBegun out.old out.new (joined_term is_first power (terms coefficient.now))) }
 {
     put_joint(out, is_first, coefficient.ratio().num() < 0)?;
     put_term(out, power, &coefficient.abs())
@@ -83,8 +82,8 @@ fn put_joined(
 /// before it stand its absolute coefficient and `*`, unless that is 1. Terms are joined by `+` or `-`, and a `-` stands
 /// before a first term below 0. Where memory runs out, a front of the text may have been appended.
 pub fn print_entry(entry: &Entry, out: &mut List<u8>) -> Result<(), NoMemory>
-    ensures printed { OnOk result (out.new ≡ out.old ++ entry_text (coefficients_of entry.now)) }
-    ensures begun { OnErr result (IsBegun out.old out.new (entry_text (coefficients_of entry.now))) }
+    ensures printed { OnOk result (out.new ≡ out.old ++ entry_text entry.now) }
+    ensures begun { OnErr result (IsBegun out.old out.new (entry_text entry.now)) }
 {
     let mut is_first = true;
     for power in 0..5 {

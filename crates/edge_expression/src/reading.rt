@@ -1,6 +1,5 @@
-ghost use Rattle.std.specs.Prelude.{◌≡◌, List as Seq, IfOk, IfErr, IsOkAnd, Ok};
-ghost use Rattle.field_core.specs.Terms.{Terms};
-ghost use Rattle.case_model.specs.EntryView.{coefficients_of};
+ghost use Rattle.std.specs.Prelude.{◌≡◌, List as Seq, IfOk, IfErr, Ok};
+ghost use Rattle.field_core.specs.declared.ratio.Ratio.{Ratio};
 ghost use Rattle.edge_expression.specs.EntryReading.{IsEntryText, IsExprFault};
 
 use crate::ExprFault;
@@ -18,8 +17,8 @@ use case_model::Entry;
 ///
 /// The parts of each decimal, product, quotient and partial sum are at most 10^18 in lowest terms.
 pub fn read_entry(text: &[u8]) -> Result<Entry, ExprFault>
-    ensures found { IfOk result (λ e. IsEntryText text.now (coefficients_of e)) }
-    ensures only { (e : Seq Terms) → IsEntryText text.now e → IsOkAnd result (λ x. coefficients_of x ≡ e) }
+    ensures found { IfOk result (IsEntryText text.now) }
+    ensures only { (e : Seq Ratio) → IsEntryText text.now e → result ≡ Ok e }
     ensures fault { IfErr result (IsExprFault text.now) }
 {
     scan(text)?;
