@@ -139,15 +139,11 @@ impl Number for EpsQuotient {
     ghost IsStored = { IsQuotient };
 
     fn zero() -> EpsQuotient {
-        EpsQuotient {
-            pair: Pair::zero(),
-        }
+        EpsQuotient { pair: Pair::zero() }
     }
 
     fn one() -> EpsQuotient {
-        EpsQuotient {
-            pair: Pair::one(),
-        }
+        EpsQuotient { pair: Pair::one() }
     }
 
     fn add(&self, other: &EpsQuotient) -> Result<EpsQuotient, TooWide> {

@@ -7,9 +7,10 @@ use Rattle.field_core.proofs.IntegerRing.{ring, *ℤ_cancel}
 use Rattle.fraction.specs.declared.fault.NumberFault.{NumberFault}
 use Rattle.fraction.specs.declared.fault.NumberFault.TheVariants.{Empty, BadByte, ZeroDenominator, TooManyDigits}
 use Rattle.fraction.specs.Numeral.{AreDigits, sign_text, IsSign, is_minus, Exponent, exponent_text, IsExponent, exponent_of, Body, Plain, Pointed, Pair, body_text, IsBody, IsNumeral, over_power, value_of, HasZeroDenominator, HasTooManyDigits, IsNumeralOf, IsParseFault, Same}
+use Rattle.field_core.proofs.Heads.{heads}
+use Rattle.fraction.specs.Laws.Order.{reduced_unique}
 use Rattle.fraction.specs.Prefixes.{IsBadByte}
-pub use Rattle.fraction.specs.Laws.Order.{reduced_unique}
-use Rattle.fraction.proofs.Cut.{front_of, rest_of, cut_at, body_cut, exponent_no_digit, heads, exponent_apart}
+use Rattle.fraction.proofs.Cut.{front_of, rest_of, cut_at, body_cut, exponent_no_digit, exponent_apart}
 use Rattle.fraction.proofs.DigitNumbers.{power_some}
 use Rattle.fraction.proofs.SignedTexts.{numeral_split}
 
