@@ -2,7 +2,7 @@
 use Rattle.std.proofs.Common.{◌≡◌, ◌≢◌, ℕ, zero, suc, ◌+◌, ◌^◌, ◌<◌, ◌≤◌, inl, inr, Bool, true, false, cond, eqb, List, [], ◌∷◌, ◌++◌, map, length, take, ℤ, pos, neg_ℤ, unsigned_abs, Option, Some, None, Ok, refl, sym, ap, subst, ◌∙◌, append_assoc, arith}
 use Rattle.std.specs.Prelude.{codes, nat_lt, nat_le, ◌==◌, ◌&&◌, if◌then◌else◌}
 use Rattle.std.specs.Int.{is_negative}
-use Rattle.std.specs.List.{list_all}
+use Rattle.std.specs.List.{AllByRecursion, list_all}
 use Rattle.std.proofs.lemmas.Bool.{le-ltb, lt-ltb, leb-true, eqb-true, eqb-false}
 use Rattle.std.proofs.lemmas.Bool.Decides.{nat_tests}
 use Rattle.std.proofs.lemmas.Int.{ints}
@@ -262,7 +262,7 @@ whole_from e (suc n) p s h some start = at_first e p n (is_zero (terms_at e p)) 
 
 nought_text : term_text 0 (over_of 0 1) ≡ codes "0"
 unfolding term_text spelling
-nought_text = ap (λ (x : List ℕ). x ++ []) (decimal_digit 0 (omega arith))
+nought_text = decimal_digit 0 (omega arith)
 
 nought_term : IsTerm 0 (over_of 0 1)
 nought_term = term_of 0 0 1 (omega arith) (omega arith) (omega arith) zero_short
@@ -406,4 +406,4 @@ entry_reads_back xs h a =
     let e = map terms xs in
     let s = each_short xs a in
     let w = whole_by e (are_zero_below 5 e) s refl in
-    record { expression = w.expression; spells = w.spells; shallow = shallow (entry_text xs) (length (entry_text xs)) (entry_open e s); worth_is = w.worth ∙ ap Ok (five e (length-map terms xs ∙ h)) }
+    record { expression = w.expression; spells = w.spells; shallow = shallow (entry_text xs) (length (entry_text xs)) (entry_open e s); worth_is = w.worth ∙ ap Ok (five e (length-map xs terms ∙ h)) }

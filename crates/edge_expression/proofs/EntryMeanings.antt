@@ -97,11 +97,11 @@ past_none a b c d e f g h i j x e1 e2 e3 e4 e5 e6 e7 e8 e9 e10 = rw (e1, e2, e3,
 -- ---- entries by their coefficients
 
 -- the number at a place
-abbrev value_at : List Terms → ℕ → Value
+abbrev pub value_at : List Terms → ℕ → Value
 value_at x k = number (terms_at x k)
 
 -- the value of coefficients by their terms
-terms_value : List Terms → Value
+unfoldable pub terms_value : List Terms → Value
 terms_value x = sum_below number_field 5 (λ k. value_at x k *ε power_of_epsilon k)
 
 -- an entry of coefficients in lowest terms that is this number

@@ -1,10 +1,10 @@
 -- Terms of the texts of entries, as terms of expressions.
-use Rattle.std.proofs.Common.{◌≡◌, ℕ, zero, suc, ◌+◌, ◌^◌, ◌<◌, ◌≤◌, Bool, true, false, cond, eqb, List, [], ◌∷◌, ◌++◌, pos, Option, Some, None, Ok, refl, sym, ap, ap₂, subst, ◌∙◌, append_assoc, arith, lit<}
+use Rattle.std.proofs.Common.{◌≡◌, ℕ, zero, suc, ◌+◌, ◌^◌, ◌<◌, ◌≤◌, inl, inr, Bool, true, false, cond, eqb, List, [], ◌∷◌, ◌++◌, pos, Option, Some, None, Ok, refl, sym, ap, ap₂, subst, ◌∙◌, append_assoc, arith, lit<}
 use Rattle.std.specs.Prelude.{codes, ◌&&◌}
 use Rattle.std.specs.Fmt.{decimal}
 use Rattle.std.specs.Int.{is_negative}
 use Rattle.std.specs.Str.Parse.{AllDigits}
-use Rattle.std.proofs.lemmas.Bool.{le-ltb, le-leb, eqb-true}
+use Rattle.std.proofs.lemmas.Bool.{le-ltb, le-leb, eqb-true, eqb-false, cases_Bool}
 use Rattle.std.proofs.lemmas.Bool.Decides.{nat_tests}
 use Rattle.std.proofs.lemmas.Fmt.{decimal_is_IsNumeral_wide}
 use Rattle.std.proofs.lemmas.Str.Parse.{digit_from_value}
@@ -13,6 +13,7 @@ use Rattle.std.proofs.lemmas.List.{append-nil}
 use Rattle.field_core.specs.Divisor.{gcd}
 use Rattle.field_core.specs.Terms.{Terms, IsReduced}
 use Rattle.fraction.specs.Numeral.{AreDigits, Plain, body_text, IsNumeralOf}
+use Rattle.field_core.specs.Texts.{fraction_text}
 use Rattle.fraction.specs.Spelling.{spelling}
 use Rattle.fraction.proofs.ReadBack.{read_back}
 use Rattle.edge_expression.specs.EntryValues.{is_short}
@@ -45,12 +46,9 @@ whole_text n h = append-nil (decimal n)
 number_of : ℕ → Terms
 number_of n = record { num = pos n; den = pos 1 }
 
-not_negative : (n : ℕ) → is_negative (pos n) ≡ false
-not_negative n = le-ltb n 0 (omega arith)
-
 number_spelling : (n : ℕ) → spelling (number_of n) ≡ decimal n
 unfolding spelling number_of
-number_spelling n = rw (not_negative n) (append-nil (decimal n))
+number_spelling n = refl
 
 pub one_apart : (n : ℕ) → gcd n 1 ≡ 1
 unfolding gcd
@@ -146,9 +144,15 @@ front_by m d false e h k s = record {
   worth = λ fs. pair_worth m d h k fs s;
 }
 
+pair_spelling : (m d : ℕ) → ¬ (d ≡ 1) → fraction_text (pos m) (pos d) ≡ decimal m ++ 47 ∷ decimal d
+pair_spelling m d h = grind (arith, nat_tests, Decides-int_eq)
+
 spelling_is : (m d : ℕ) → spelling (over_of m d) ≡ decimal m ++ cond (eqb d 1) [] (47 ∷ decimal d)
 unfolding spelling
-spelling_is m d = rw (not_negative m) refl
+spelling_is m d = elim (cases_Bool (eqb d 1)) [
+  | inl t ↦ let e : d ≡ 1 = eqb-true d 1 t in rw e (sym (append-nil (decimal m)))
+  | inr f ↦ rw f (pair_spelling m d (eqb-false d 1 f))
+]
 
 front : (m d : ℕ) → m ≤ 10 ^ 18 → d ≤ 10 ^ 18 → IsShortTerms (over_of m d) → IsFront (spelling (over_of m d)) (over_of m d)
 front m d h k s = subst (λ x. IsFront x (over_of m d)) (sym (spelling_is m d)) (front_by m d (eqb d 1) refl h k s)

@@ -6,7 +6,8 @@ use Rattle.std.proofs.lemmas.Bool.{cases_lt}
 use Rattle.field_core.specs.Terms.{Terms}
 use Rattle.fraction.specs.Tests.{is_zero}
 use Rattle.case_model.specs.Sums.{terms_at}
-use Rattle.edge_expression.specs.EntryTexts.{joined_term, terms_text, are_zero_below, coefficients_text, IsBegun}
+use Rattle.field_core.specs.Texts.{IsBegun}
+use Rattle.edge_expression.specs.EntryTexts.{joined_term, terms_text, are_zero_below, coefficients_text}
 
 -- The terms of the powers below this one are printed; `is_first` tells whether there was none.
 pub record IsPrinted (old out : List ℕ) (is_first : Bool) (power : ℕ) (e : List Terms) : Type 0 where

@@ -1,5 +1,5 @@
 -- Lists of fractions by their terms.
-use Rattle.std.proofs.Common.{◌≡◌, ℕ, zero, suc, List, [], ◌∷◌, map, refl, ap₂}
+use Rattle.std.proofs.Common.{◌≡◌, ℕ, zero, suc, List, [], ◌∷◌, map, refl, ap, ap₂}
 use Rattle.std.specs.List.{AllByRecursion}
 use Rattle.field_core.specs.Terms.{Terms, IsReduced}
 use Rattle.field_core.specs.View.{terms}
@@ -37,4 +37,4 @@ unfolding terms_at
 ratios_of [] h = record { ratios = []; are = refl }
 ratios_of (t ∷ ts) h =
     let more = ratios_of ts (λ k. h (suc k)) in
-    record { ratios = record { num = t.num; den = t.den; valid = h zero } ∷ more.ratios; are = ap₂ (λ z zs. z ∷ zs) (refl {x = t}) more.are }
+    record { ratios = record { num = t.num; den = t.den; valid = h zero } ∷ more.ratios; are = ap (λ zs. t ∷ zs) more.are }

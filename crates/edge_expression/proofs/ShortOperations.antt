@@ -1,5 +1,5 @@
 -- Operations on fractions with short parts are never too wide, and give the lowest terms.
-use Rattle.std.proofs.Common.{◌≡◌, ◌≢◌, ℕ, zero, suc, ◌*◌, ◌/◌, ◌^◌, ◌<◌, ◌≤◌, true, false, ℤ, pos, negsuc, neg_ℤ, ◌+ℤ◌, ◌-ℤ◌, ◌*ℤ◌, unsigned_abs, int_div, Option, Some, None, Result, Ok, Err, refl, sym, ap, ◌∙◌, lit<}
+use Rattle.std.proofs.Common.{◌≡◌, ◌≢◌, ℕ, zero, suc, ◌*◌, ◌/◌, ◌^◌, ◌<◌, ◌≤◌, true, false, ℤ, pos, negsuc, neg_ℤ, ◌+ℤ◌, ◌-ℤ◌, ◌*ℤ◌, unsigned_abs, int_div, Option, Some, None, Result, Ok, Err, refl, sym, ap, ◌∙◌, arith, lit<}
 use Rattle.std.specs.Option.{option_map}
 use Rattle.std.specs.Ordering.{int_eq}
 use Rattle.std.proofs.lemmas.Bool.Decides.{Decides-int_eq}
@@ -25,7 +25,7 @@ use Rattle.fraction.specs.Within.{IsWithin}
 use Rattle.fraction.proofs.ShortTerms.{operation_within, opposite_within, inverse_within}
 use Rattle.fraction.specs.Written.{written_add, written_mul, opposite, inverse, inverse_of}
 use Rattle.fraction.specs.Laws.CrossProducts.{sum_of, product_of}
-use Rattle.fraction.specs.Laws.Turned.{abs_neg, opposite_reduced, inverse_reduced}
+use Rattle.fraction.specs.Laws.Turned.{opposite_reduced, inverse_reduced}
 use Rattle.fraction.specs.Laws.WrittenLaws.{Makes, add_says, mul_says}
 use Rattle.edge_expression.specs.EntryValues.{is_short, short, short_of, sum, difference, product, quotient}
 use Rattle.edge_expression.specs.EntryView.{made_short}

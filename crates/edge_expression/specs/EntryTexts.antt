@@ -49,10 +49,3 @@ coefficients_text entry = if are_zero_below 5 entry then codes "0" else terms_te
 -- the text of an entry
 abbrev pub entry_text : List Ratio → List ℕ
 entry_text entry = coefficients_text (map terms entry)
-
--- a front of the text was appended, and what there was before stays
-pub record IsBegun (old new text : List ℕ) : Type 0 where
-  pub front : List ℕ
-  pub rest : List ℕ
-  pub appended : new ≡ old ++ front
-  pub text_is : text ≡ front ++ rest

@@ -1,6 +1,7 @@
 ghost use Rattle.std.specs.Prelude.{◌≡◌, ◌≤◌, ◌<◌, ◌++◌, OnOk, OnErr};
 ghost use Rattle.field_core.specs.View.{terms};
-ghost use Rattle.edge_expression.specs.EntryTexts.{power_text, factor_text, term_text, joint_text, joined_term, entry_text, IsBegun};
+ghost use Rattle.field_core.specs.Texts.{IsBegun};
+ghost use Rattle.edge_expression.specs.EntryTexts.{power_text, factor_text, term_text, joint_text, joined_term, entry_text};
 
 use case_model::Entry;
 use field_core::{List, NoMemory};

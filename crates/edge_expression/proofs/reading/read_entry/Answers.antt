@@ -1,10 +1,11 @@
-use Rattle.std.proofs.Common.{Ok}
+use Rattle.std.proofs.Common.{Ok, map}
+use Rattle.field_core.specs.View.{terms}
 use Rattle.std.proofs.lemmas.Result.{err_from_is_err_and}
 use Rattle.edge_expression.proofs.ReadEntries.{worth_passes, scan_fault, found, fault, only}
 use Rattle.edge_expression.proofs.reading.read_entry.Goals as goal
 
 pub returns-in_err-scan-clause-only : goal.returns-in_err-scan-clause-only
-returns-in_err-scan-clause-only c e h = absurd (worth_passes c.args.text.now c.in_err-scan.field-0.0 (Ok e) c.in_err-scan.ensures h)
+returns-in_err-scan-clause-only c e h = absurd (worth_passes c.args.text.now c.in_err-scan.field-0.0 (Ok (map terms e)) c.in_err-scan.ensures h)
 
 pub returns-in_err-scan-clause-fault : goal.returns-in_err-scan-clause-fault
 returns-in_err-scan-clause-fault c =
