@@ -1,12 +1,12 @@
 -- Words and faults as contracts of the reader's parts see them.
 use Rattle.std.specs.Prelude.{◌≡◌, ◌<◌, ◌⊎◌, ℕ, ◌+◌, List, [], ◌∷◌, ◌++◌, Option, Some, map, length}
 use Rattle.std.specs.List.{AllZip}
-use Rattle.field_core.specs.Terms.{Terms}
+use Rattle.field_core.specs.declared.ratio.Ratio.{Ratio}
 use Rattle.fraction.specs.Numeral.{IsParseFault}
 use Rattle.case_model.specs.declared.name_index.NameIndex.{NameIndex}
 use Rattle.case_model.specs.NameIndexView.{place_of}
 use Rattle.case_model.specs.Names.{position_of}
-use Rattle.case_model.specs.Draft.{DraftEdgeContent}
+use Rattle.case_model.specs.declared.draft_edge.DraftEdge.{DraftEdge}
 use Rattle.edge_text.specs.declared.fault.LineKind.{LineKind}
 use Rattle.edge_text.specs.declared.fault.LineKind.TheVariants.{Unexpected, Ended, WordCount, UnknownName, Number, Expr}
 use Rattle.edge_text.specs.declared.fault.TextFault.{TextFault}
@@ -48,8 +48,8 @@ IsListFault words (Number fault) = IsFirstRefused words fault
 IsListFault words (Expr fault) = ⊥
 
 -- the words are numerals of these p-values, at least one
-pub record AreGiven (words : Words) (p : List (Option Terms)) : Type 0 where
-  pub values : List Terms
+pub record AreGiven (words : Words) (p : List (Option Ratio)) : Type 0 where
+  pub values : List Ratio
   pub each : AllZip Says words values
   pub some : 0 < length values
   pub p_is : p ≡ map Some values
@@ -73,7 +73,7 @@ IsEntryFault text (Number fault) = ⊥
 IsEntryFault text (Expr fault) = IsExprFault text fault
 
 -- the edge between these two names, with the weight of an expression
-pub record IsEdgeOf (names : List (List ℕ)) (from to expression : List ℕ) (edge : DraftEdgeContent) : Type 0 where
+pub record IsEdgeOf (names : List (List ℕ)) (from to expression : List ℕ) (edge : DraftEdge) : Type 0 where
   pub from_is : position_of from names ≡ Some edge.from
   pub to_is : position_of to names ≡ Some edge.to
   pub says : IsEntryText expression edge.entry
@@ -110,7 +110,7 @@ pub record TakesLines (old new : List Row) (Are : List (List ℕ) → Type 0) : 
   pub are : Are (texts_in lines)
 
 -- perhaps a `p` line, and the weights
-pub record AreNumbersLines (lines : List (List ℕ)) (p : List (Option Terms)) (weights : List Terms) : Type 0 where
+pub record AreNumbersLines (lines : List (List ℕ)) (p : List (Option Ratio)) (weights : List Ratio) : Type 0 where
   pub p_line : Option (List ℕ)
   pub weights_line : List ℕ
   pub spelt : lines ≡ optional p_line ++ weights_line ∷ []

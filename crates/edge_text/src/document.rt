@@ -2,8 +2,6 @@
 ghost use Rattle.std.specs.Prelude.{◌≡◌, ℕ, List as Seq, [], ◌∷◌, map, IfOk, IfErr};
 ghost use Rattle.std.specs.List.{AllZip};
 ghost use Rattle.std.specs.Option.{option_map};
-ghost use Rattle.fraction.specs.View.{terms_of};
-ghost use Rattle.case_model.specs.DraftView.{said, edge_said, component_said};
 ghost use Rattle.text_lines.specs.Lines.{rows_of, end_of};
 ghost use Rattle.edge_text.specs.Grammar.{IsAlphaLine, IsNamesLine, IsWeightsLine, IsEdgeLine, IsText, one_component};
 ghost use Rattle.edge_text.specs.Faults.{Alpha as AtAlpha, Names as AtNames, POrWeights as AtPOrWeights, Weights as AtWeights, Edges as AtEdges};
@@ -34,7 +32,7 @@ fn next_line<'a>(lines: &mut Lines<'a>) -> Result<Line<'a>, TextFault>
 
 /// The level.
 fn alpha(lines: &mut Lines) -> Result<Fraction, TextFault>
-    ensures found { IfOk result (λ x. TakesLine (rows_left lines.old) (rows_left lines.new) (λ line. IsAlphaLine line (terms_of x))) }
+    ensures found { IfOk result (λ x. TakesLine (rows_left lines.old) (rows_left lines.new) (λ line. IsAlphaLine line x)) }
     ensures fault { IfErr result (IsFaultAt AtAlpha (rows_left lines.old) (end_at lines.old)) }
     ensures end { end_at lines.new ≡ end_at lines.old }
 {
@@ -54,7 +52,7 @@ fn names(alloc: Global, lines: &mut Lines) -> Result<List<Text>, TextFault>
 
 /// The weights.
 fn weights(alloc: Global, lines: &mut Lines) -> Result<List<Fraction>, TextFault>
-    ensures found { IfOk result (λ xs. TakesLine (rows_left lines.old) (rows_left lines.new) (λ line. IsWeightsLine line (map terms_of xs))) }
+    ensures found { IfOk result (λ xs. TakesLine (rows_left lines.old) (rows_left lines.new) (λ line. IsWeightsLine line xs)) }
     ensures fault { IfErr result (λ fault. (names : Seq (Seq ℕ)) → IsFaultAt (AtWeights names) (rows_left lines.old) (end_at lines.old) fault) }
     ensures end { end_at lines.new ≡ end_at lines.old }
 {
@@ -71,7 +69,7 @@ struct Values {
 
 /// The p-values, where a line gives them, and the weights.
 fn numbers(alloc: Global, lines: &mut Lines) -> Result<Values, TextFault>
-    ensures found { IfOk result (λ values. TakesLines (rows_left lines.old) (rows_left lines.new) (λ taken. AreNumbersLines taken (map (option_map terms_of) values.p) (map terms_of values.weights))) }
+    ensures found { IfOk result (λ values. TakesLines (rows_left lines.old) (rows_left lines.new) (λ taken. AreNumbersLines taken values.p values.weights)) }
     ensures fault { IfErr result (λ fault. (names : Seq (Seq ℕ)) → IsFaultAt (AtPOrWeights names) (rows_left lines.old) (end_at lines.old) fault) }
     ensures end { end_at lines.new ≡ end_at lines.old }
 {
@@ -94,7 +92,7 @@ fn numbers(alloc: Global, lines: &mut Lines) -> Result<Values, TextFault>
 
 /// The edges between hypotheses of these names, on all lines that are still to come.
 fn edges(alloc: Global, lines: &mut Lines, names: &[Text]) -> Result<List<DraftEdge>, TextFault>
-    ensures found { IfOk result (λ edges. TakesLines (rows_left lines.old) [] (λ taken. AllZip (IsEdgeLine names.now) taken (map edge_said edges))) }
+    ensures found { IfOk result (λ edges. TakesLines (rows_left lines.old) [] (λ taken. AllZip (IsEdgeLine names.now) taken edges)) }
     ensures fault { IfErr result (IsFaultAt (AtEdges names.now) (rows_left lines.old) (end_at lines.old)) }
 {
     let index = NameIndex::build(alloc, names)?;
@@ -111,7 +109,7 @@ fn one_component(
     weights: List<Fraction>,
     edges: List<DraftEdge>,
 ) -> Result<List<DraftComponent>, NoMemory>
-    ensures { IfOk result (λ components. map component_said components ≡ one_component (map terms_of weights) (map edge_said edges)) }
+    ensures { IfOk result (λ components. components ≡ one_component weights edges) }
 {
     let mut components = List::new(alloc);
     components.push(DraftComponent {
@@ -124,7 +122,7 @@ fn one_component(
 
 /// The draft that a text says.
 pub fn draft(alloc: Global, bytes: &[u8]) -> Result<Draft, TextFault>
-    ensures found { IfOk result (λ d. IsText bytes.now (said d)) }
+    ensures found { IfOk result (IsText bytes.now) }
     ensures fault { IfErr result (IsFaultAt AtAlpha (rows_of bytes.now) (end_of bytes.now)) }
 {
     let mut lines = Lines::new(bytes);

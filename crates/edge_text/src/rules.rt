@@ -2,9 +2,6 @@
 ghost use Rattle.std.specs.Prelude.{◌≡◌, ℕ, List as Seq, [], ◌∷◌, Some, map, IfOk, IfErr};
 ghost use Rattle.std.specs.List.{AllZip};
 ghost use Rattle.std.specs.Option.{option_map};
-ghost use Rattle.fraction.specs.View.{terms_of};
-ghost use Rattle.case_model.specs.DraftView.{edge_said};
-ghost use Rattle.case_model.specs.EntryView.{coefficients_of};
 ghost use Rattle.edge_expression.specs.EntryReading.{IsEntryText};
 ghost use Rattle.edge_text.specs.Grammar.{Says, IsAlphaLine, IsNamesLine, IsWeightsLine, IsEdgeLine};
 ghost use Rattle.edge_text.specs.Faults.{IsAlphaFault, IsNamesFault, IsWeightsFault, IsEdgeFault};
@@ -22,7 +19,7 @@ use text_lines::{Line, Words};
 /// The value of a numeral on a line.
 #[tactic(auto, unfolding(crate::specs::Grammar::Says))]
 fn number(line: &Line, word: &[u8]) -> Result<Fraction, TextFault>
-    ensures found { IfOk result (λ x. Says word.now (terms_of x)) }
+    ensures found { IfOk result (Says word.now) }
     ensures fault { IfErr result (IsOnLine line.now.number (IsNumeralFault word.now)) }
 {
     match Fraction::parse(word) {
@@ -33,7 +30,7 @@ fn number(line: &Line, word: &[u8]) -> Result<Fraction, TextFault>
 
 /// The values of numerals on a line.
 fn numbers(alloc: Global, line: &Line, words: Words) -> Result<List<Fraction>, TextFault>
-    ensures found { IfOk result (λ xs. AllZip Says (words_of words.entry) (map terms_of xs)) }
+    ensures found { IfOk result (AllZip Says (words_of words.entry)) }
     ensures fault { IfErr result (IsOnLine line.now.number (IsListFault (words_of words.entry))) }
 {
     let mut values = List::new(alloc);
@@ -57,7 +54,7 @@ fn copies(alloc: Global, words: Words) -> Result<List<Text>, NoMemory>
 /// The level, behind `alpha`.
 #[tactic(auto, using(text_lines::proofs::Keywords::keyword_found, text_lines::proofs::Keywords::keyword_missing, text_lines::proofs::Keywords::word_found, text_lines::proofs::Keywords::words_counted))]
 pub fn alpha(line: &Line) -> Result<Fraction, TextFault>
-    ensures found { IfOk result (λ x. IsAlphaLine line.now.text.now (terms_of x)) }
+    ensures found { IfOk result (IsAlphaLine line.now.text.now) }
     ensures fault { IfErr result (IsOnLine line.now.number (IsAlphaFault line.now.text.now)) }
 {
     let Some(words) = line.behind(b"alpha") else {
@@ -72,7 +69,7 @@ pub fn alpha(line: &Line) -> Result<Fraction, TextFault>
 /// The names, behind `hypotheses`.
 #[tactic(auto, using(text_lines::proofs::Keywords::keyword_found, text_lines::proofs::Keywords::keyword_missing))]
 pub fn names(alloc: Global, line: &Line) -> Result<List<Text>, TextFault>
-    ensures found { IfOk result (λ names. IsNamesLine line.now.text.now names) }
+    ensures found { IfOk result (IsNamesLine line.now.text.now) }
     ensures fault { IfErr result (IsOnLine line.now.number (IsNamesFault line.now.text.now)) }
 {
     let Some(words) = line.behind(b"hypotheses") else {
@@ -84,7 +81,7 @@ pub fn names(alloc: Global, line: &Line) -> Result<List<Text>, TextFault>
 /// The weights, behind `weights`.
 #[tactic(auto, using(text_lines::proofs::Keywords::keyword_found, text_lines::proofs::Keywords::keyword_missing))]
 pub fn weights(alloc: Global, line: &Line) -> Result<List<Fraction>, TextFault>
-    ensures found { IfOk result (λ xs. IsWeightsLine line.now.text.now (map terms_of xs)) }
+    ensures found { IfOk result (IsWeightsLine line.now.text.now) }
     ensures fault { IfErr result (IsOnLine line.now.number (IsWeightsFault line.now.text.now)) }
 {
     let Some(words) = line.behind(b"weights") else {
@@ -95,7 +92,7 @@ pub fn weights(alloc: Global, line: &Line) -> Result<List<Fraction>, TextFault>
 
 /// The p-values on a line, one or more.
 pub fn given(alloc: Global, line: &Line, words: Words) -> Result<List<Option<Fraction>>, TextFault>
-    ensures found { IfOk result (λ p. AreGiven (words_of words.entry) (map (option_map terms_of) p)) }
+    ensures found { IfOk result (AreGiven (words_of words.entry)) }
     ensures fault { IfErr result (IsOnLine line.now.number (IsGivenFault (words_of words.entry))) }
 {
     let values = numbers(alloc, line, words)?;
@@ -107,7 +104,7 @@ pub fn given(alloc: Global, line: &Line, words: Words) -> Result<List<Option<Fra
 
 /// The same numbers, each in a place that isn't empty.
 fn filled(alloc: Global, values: &[Fraction]) -> Result<List<Option<Fraction>>, NoMemory>
-    ensures { IfOk result (λ p. map (option_map terms_of) p ≡ map Some (map terms_of values.now)) }
+    ensures { IfOk result (λ p. p ≡ map Some values.now) }
 {
     let mut filled = List::new(alloc);
     for value in values {
@@ -118,7 +115,7 @@ fn filled(alloc: Global, values: &[Fraction]) -> Result<List<Option<Fraction>>, 
 
 /// The entry of an expression on a line.
 fn entry(line: &Line, expression: &[u8]) -> Result<Entry, TextFault>
-    ensures found { IfOk result (λ e. IsEntryText expression.now (coefficients_of e)) }
+    ensures found { IfOk result (IsEntryText expression.now) }
     ensures fault { IfErr result (IsOnLine line.now.number (IsEntryFault expression.now)) }
 {
     match read_entry(expression) {
@@ -129,7 +126,7 @@ fn entry(line: &Line, expression: &[u8]) -> Result<Entry, TextFault>
 
 /// The edge between two hypotheses, from its names and its expression.
 fn edge_of(line: &Line, index: &NameIndex, ends: Ends) -> Result<DraftEdge, TextFault>
-    ensures found { IfOk result (λ e. (names : Seq (Seq ℕ)) → IsIndexOf index.now names → IsEdgeOf names ends.entry.from.now ends.entry.to.now ends.entry.expression.now (edge_said e)) }
+    ensures found { IfOk result (λ e. (names : Seq (Seq ℕ)) → IsIndexOf index.now names → IsEdgeOf names ends.entry.from.now ends.entry.to.now ends.entry.expression.now e) }
     ensures fault { IfErr result (IsOnLine line.now.number (λ kind. (names : Seq (Seq ℕ)) → IsIndexOf index.now names → IsEdgeOfFault names ends.entry.from.now ends.entry.to.now ends.entry.expression.now kind)) }
 {
     let (Some(from), Some(to)) = (index.position(ends.from), index.position(ends.to)) else {
@@ -142,7 +139,7 @@ fn edge_of(line: &Line, index: &NameIndex, ends: Ends) -> Result<DraftEdge, Text
 /// The edge behind `edge`.
 #[tactic(auto, using(text_lines::proofs::Keywords::keyword_missing))]
 pub fn edge(line: &Line, index: &NameIndex) -> Result<DraftEdge, TextFault>
-    ensures found { IfOk result (λ e. (names : Seq (Seq ℕ)) → IsIndexOf index.now names → IsEdgeLine names line.now.text.now (edge_said e)) }
+    ensures found { IfOk result (λ e. (names : Seq (Seq ℕ)) → IsIndexOf index.now names → IsEdgeLine names line.now.text.now e) }
     ensures fault { IfErr result (IsOnLine line.now.number (λ kind. (names : Seq (Seq ℕ)) → IsIndexOf index.now names → IsEdgeFault names line.now.text.now kind)) }
 {
     let Some(words) = line.behind(b"edge") else {
