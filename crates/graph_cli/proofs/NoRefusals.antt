@@ -7,9 +7,9 @@ use Rattle.case_model.specs.declared.fault.CaseFault.{CaseFault}
 use Rattle.case_model.specs.declared.fault.CaseFault.TheVariants.{NoHypothesis, TooMany, NameForm, DuplicateName, NoComponent, TooManyComponents, PartTooLong, AlphaRange, ShareRange, ShareSum, WeightCount, WeightRange, WeightSum, SelfEdge, RepeatedEdge, EdgeRange, RowSum, Mixed, PCount, PMissing, PRange, NoStage, TooManyStages, SpendCount, SpendRange, SpendSum, ArrivalStage, ArrivalRepeated, ArrivalRange, Wide, NoMemory}
 use Rattle.edge_text.specs.declared.fault.LineKind.{LineKind}
 use Rattle.edge_text.specs.declared.fault.LineKind.TheVariants.{Unexpected, Ended, WordCount, UnknownName, Number, Expr}
-use Rattle.edge_text.specs.declared.expr_fault.ExprFault.{ExprFault}
-use Rattle.edge_text.specs.declared.expr_fault.ExprFault.TheVariants.{Depth, DivisorNotNumber, ZeroDivisor, Degree, Part}
-use Rattle.edge_text.specs.declared.expr_fault.ExprFault.TheVariants as expressions
+use Rattle.edge_expression.specs.declared.fault.ExprFault.{ExprFault}
+use Rattle.edge_expression.specs.declared.fault.ExprFault.TheVariants.{Depth, DivisorNotNumber, ZeroDivisor, Degree, Part}
+use Rattle.edge_expression.specs.declared.fault.ExprFault.TheVariants as expressions
 use Rattle.graph_cli.specs.declared.refusal.wide.When.{When}
 use Rattle.graph_cli.specs.declared.refusal.wide.When.TheVariants.{Reading}
 use Rattle.graph_cli.specs.LinePieces.{malformed_at, past_limit}
