@@ -10,6 +10,7 @@ pub mod ClosedTests
 pub mod Comparisons
 pub mod Consonance
 pub mod EntryOrder
+pub mod EntryTests
 pub mod ExactSums
 pub mod ExampleOrders
 pub mod ExampleTests
@@ -26,7 +27,9 @@ pub mod LocalTests
 pub mod NamePlaces
 pub mod NoFaults
 pub mod OrderExistence
+pub mod OtherLevels
 pub mod PassTests
+pub mod Places
 pub mod PlainEntries
 pub mod PriorityOrders
 pub mod RejectionOrders

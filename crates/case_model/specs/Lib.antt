@@ -3,6 +3,8 @@ pub mod AdjustedValues
 pub mod BoundStatements
 pub mod CaseFaults
 pub mod CaseStatements
+pub mod CaseTestStatements
+pub mod CaseTests
 pub mod CaseView
 pub mod ClosedTest
 pub mod ClosedTestExamples
@@ -20,6 +22,7 @@ pub mod Names
 pub mod SetAnswers
 pub mod SetTableView
 pub mod Spends
+pub mod StagedCase
 pub mod StagedStatements
 pub mod StagedTest
 pub mod Sums

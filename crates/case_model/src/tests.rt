@@ -248,7 +248,11 @@ fn expect_hypotheses(rt: &impl Abort, case: &Case, names: &[&str]) {
 
 fn expect_entry(rt: &impl Abort, entry: &Entry, coefficients: &[Terms]) {
     for power in 0..5 {
-        expect_fraction(rt, entry.coefficient(power), coefficient(coefficients, power));
+        expect_fraction(
+            rt,
+            entry.coefficient(power),
+            coefficient(coefficients, power),
+        );
     }
 }
 

@@ -119,7 +119,7 @@ cross_divided n d =
     let b : d / gcd n d * gcd n d ≡ d = div-mul_cancel (gcd n d) (gcd_is n d).1 in
     cross_four (n / gcd n d) (d / gcd n d) (gcd n d) n d a b
 
-lowest_cross : (n d : ℤ) → (lowest_terms n d).num *ℤ d ≡ n *ℤ (lowest_terms n d).den
+pub lowest_cross : (n d : ℤ) → (lowest_terms n d).num *ℤ d ≡ n *ℤ (lowest_terms n d).den
 unfolding lowest_terms lowest_of
 lowest_cross n d =
     ap (λ z. with_sign (differ (is_negative n) (is_negative d)) (unsigned_abs n / gcd (unsigned_abs n) (unsigned_abs d)) *ℤ z) (sign_is d)

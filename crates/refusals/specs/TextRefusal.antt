@@ -5,9 +5,9 @@ use Rattle.fraction.specs.declared.fault.NumberFault.{NumberFault}
 use Rattle.fraction.specs.declared.fault.NumberFault.TheVariants.{Empty, BadByte, ZeroDenominator, TooManyDigits}
 use Rattle.edge_text.specs.declared.fault.LineKind.{LineKind}
 use Rattle.edge_text.specs.declared.fault.LineKind.TheVariants.{Unexpected, Ended, WordCount, UnknownName, Number, Expr}
-use Rattle.edge_text.specs.declared.expr_fault.ExprFault.{ExprFault}
-use Rattle.edge_text.specs.declared.expr_fault.ExprFault.TheVariants.{Depth, DivisorNotNumber, ZeroDivisor, Degree, Part}
-use Rattle.edge_text.specs.declared.expr_fault.ExprFault.TheVariants as expressions
+use Rattle.edge_expression.specs.declared.fault.ExprFault.{ExprFault}
+use Rattle.edge_expression.specs.declared.fault.ExprFault.TheVariants.{Depth, DivisorNotNumber, ZeroDivisor, Degree, Part}
+use Rattle.edge_expression.specs.declared.fault.ExprFault.TheVariants as expressions
 use Rattle.answers.specs.declared.refusal.Refusal.{Refusal}
 use Rattle.answers.specs.declared.cause.Cause.TheVariants.{Malformed}
 use Rattle.answers.specs.Lines.{line}
