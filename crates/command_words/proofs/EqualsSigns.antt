@@ -52,6 +52,7 @@ name_by (b ∷ bs) e = (by_first b bs e, name_by bs (by_rest b bs e))
 
 -- the name of an argument has no equals sign
 pub argument_is_name : (argument : Argument) → IsName (argument_name argument)
+unfolding argument_name
 argument_is_name Form = name_by (argument_name Form) refl
 argument_is_name Alpha = name_by (argument_name Alpha) refl
 argument_is_name Priority = name_by (argument_name Priority) refl

@@ -18,6 +18,7 @@ abbrev verb_of : List ℕ → Verb
 verb_of name = if bytes_eq name (codes "test") then verbs.Test else verbs.Help
 
 verb_back : (v : Verb) → verb_of (verb_name v) ≡ v
+unfolding verb_name
 verb_back verbs.Test = refl
 verb_back verbs.Help = refl
 
@@ -30,6 +31,7 @@ abbrev argument_of : List ℕ → Argument
 argument_of name = if bytes_eq name (codes "form") then arguments.Form else if bytes_eq name (codes "alpha") then arguments.Alpha else arguments.Priority
 
 argument_back : (a : Argument) → argument_of (argument_name a) ≡ a
+unfolding argument_name
 argument_back arguments.Form = refl
 argument_back arguments.Alpha = refl
 argument_back arguments.Priority = refl
@@ -43,6 +45,7 @@ abbrev form_of : List ℕ → Form
 form_of name = if bytes_eq name (codes "text") then Text else if bytes_eq name (codes "csv") then Csv else Json
 
 form_back : (f : Form) → form_of (form_name f) ≡ f
+unfolding form_name
 form_back Text = refl
 form_back Csv = refl
 form_back Json = refl
@@ -54,6 +57,7 @@ abbrev priority_of : List ℕ → Priority
 priority_of name = if bytes_eq name (codes "first") then First else if bytes_eq name (codes "last") then Last else Ratio
 
 priority_back : (p : Priority) → priority_of (priority_name p) ≡ p
+unfolding priority_name
 priority_back First = refl
 priority_back Last = refl
 priority_back Ratio = refl

@@ -60,8 +60,12 @@ bare_fails verb given word w bad = record {
   stands = bad;
 }
 
--- a text that spells no value of one argument spells none of another with its name
-pub none_named : (verb : Verb) (text : List ℕ) (a b : Argument) → argument_name a ≡ argument_name b → ((value : Value a) → Spells verb a value text → ⊥) → (value : Value b) → Spells verb b value text → ⊥
-none_named verb text a b e none =
+-- a text that spells no value of an argument isn't that of a choice of it
+pub none_spelled : (verb : Verb) (text : List ℕ) (argument : Argument) (choice : Chosen) → argument ≡ choice.argument → ((value : Value argument) → Spells verb argument value text → ⊥) → IsSpelled verb choice text → ⊥
+none_spelled verb text argument choice e none s =
     let P : Argument → Type 0 = λ x. ((value : Value x) → Spells verb x value text → ⊥) in
-    subst P (one_argument a b e) none
+    subst P e none choice.value s
+
+-- likewise, where the two have one name
+pub none_named : (verb : Verb) (text : List ℕ) (a b : Argument) → argument_name a ≡ argument_name b → ((value : Value a) → Spells verb a value text → ⊥) → (value : Value b) → Spells verb b value text → ⊥
+none_named verb text a b e none value s = none_spelled verb text a (record { argument = b; value = value }) (one_argument a b e) none s

@@ -57,7 +57,7 @@ written_as forms.Text alpha = Some text
 written_as forms.Csv alpha = option_map csv alpha
 written_as forms.Json alpha = Some json
 
-abbrev pub written_of : GivenContent → Option Written
+unfoldable pub written_of : GivenContent → Option Written
 written_of g = written_as (form_or_text g.form) g.alpha
 
 -- ---- what a command asks for
@@ -67,7 +67,7 @@ priority_or_first None = First
 priority_or_first (Some priority) = priority
 
 -- a task on the case; nothing, where something is missing
-abbrev pub on_case : GivenContent → CaseTask → Option Asked
+unfoldable pub on_case : GivenContent → CaseTask → Option Asked
 on_case g task = option_map (λ form. task_on_case form task) (written_of g)
 
 -- what a command asks for; nothing, where something is missing
@@ -84,5 +84,5 @@ forbidden_alpha forms.Text alpha word = option_map (λ x. word) alpha
 forbidden_alpha forms.Json alpha word = option_map (λ x. word) alpha
 
 -- the number, from 1, of the first word with the name of an option that the others forbid
-abbrev pub forbidden_word : GivenContent → Option ℕ
+unfoldable pub forbidden_word : GivenContent → Option ℕ
 forbidden_word g = forbidden_alpha (form_or_text g.form) g.alpha g.alpha_word

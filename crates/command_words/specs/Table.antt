@@ -11,39 +11,39 @@ use Rattle.sequential.specs.declared.priority.Priority.TheVariants.{First, Last,
 
 -- ---- commands
 
-abbrev pub verb_name : Verb → List ℕ
+unfoldable pub verb_name : Verb → List ℕ
 verb_name verbs.Test = codes "test"
 verb_name verbs.Help = codes "help"
 
 -- the options that a command takes
-abbrev pub options_of : Verb → List Argument
+unfoldable pub options_of : Verb → List Argument
 options_of verbs.Test = arguments.Form ∷ arguments.Alpha ∷ arguments.Priority ∷ []
 options_of verbs.Help = []
 
 -- what a word without a name gives, where a command takes one; none does yet
-abbrev pub operand_of : Verb → Option Argument
+unfoldable pub operand_of : Verb → Option Argument
 operand_of verb = None
 
 -- the forms in which a command reads its case
-abbrev pub forms_of : Verb → List Form
+unfoldable pub forms_of : Verb → List Form
 forms_of verbs.Test = Text ∷ Csv ∷ Json ∷ []
 forms_of verbs.Help = []
 
 -- ---- arguments
 
-abbrev pub argument_name : Argument → List ℕ
+unfoldable pub argument_name : Argument → List ℕ
 argument_name arguments.Form = codes "form"
 argument_name arguments.Alpha = codes "alpha"
 argument_name arguments.Priority = codes "priority"
 
 -- ---- values
 
-abbrev pub form_name : Form → List ℕ
+unfoldable pub form_name : Form → List ℕ
 form_name Text = codes "text"
 form_name Csv = codes "csv"
 form_name Json = codes "json"
 
-abbrev pub priority_name : Priority → List ℕ
+unfoldable pub priority_name : Priority → List ℕ
 priority_name First = codes "first"
 priority_name Last = codes "last"
 priority_name Ratio = codes "ratio"

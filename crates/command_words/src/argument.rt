@@ -13,6 +13,7 @@ impl Argument {
     ghost use Rattle.command_words.specs.Table.{argument_name};
 
     /// The argument of a name.
+    #[tactic(auto, unfolding(crate::specs::Table::argument_name))]
     pub(crate) fn named(name: &[u8]) -> Option<Argument>
         ensures named { IfSome result (λ argument. name.now ≡ argument_name argument) }
         ensures unknown { result ≡ None → (argument : Argument) → name.now ≢ argument_name argument }

@@ -20,6 +20,7 @@ pub(crate) enum Choice {
 }
 
 /// The priority of a name.
+#[tactic(auto, unfolding(crate::specs::Table::priority_name))]
 fn priority_named(name: &[u8]) -> Option<Priority>
     ensures named { IfSome result (λ priority. name.now ≡ priority_name priority) }
     ensures unknown { result ≡ None → (priority : Priority) → name.now ≢ priority_name priority }

@@ -15,6 +15,7 @@ impl Form {
     ghost use Rattle.command_words.specs.Table.{form_name};
 
     /// The form of a name.
+    #[tactic(auto, unfolding(crate::specs::Table::form_name))]
     pub(crate) fn named(name: &[u8]) -> Option<Form>
         ensures named { IfSome result (λ form. name.now ≡ form_name form) }
         ensures unknown { result ≡ None → (form : Form) → name.now ≢ form_name form }

@@ -64,6 +64,7 @@ impl Given {
     }
 
     /// How the case is written; `None` where its level is missing.
+    #[tactic(auto, unfolding(crate::specs::Given::written_of))]
     fn case_form(&self) -> Option<CaseForm>
         ensures { option_map written result ≡ written_of (given_content self.now) }
     {
@@ -75,6 +76,7 @@ impl Given {
     }
 
     /// A task on the case; `None` where something is missing.
+    #[tactic(auto, unfolding(crate::specs::Given::on_case))]
     fn on_case(&self, task: CaseTask) -> Option<Command>
         ensures { option_map asked result ≡ on_case (given_content self.now) task }
     {
@@ -93,6 +95,7 @@ impl Given {
     }
 
     /// The number, from 1, of the first word with the name of an option that the others forbid.
+    #[tactic(auto, unfolding(crate::specs::Given::forbidden_word))]
     pub(crate) fn forbidden(&self) -> Option<usize>
         ensures { result ≡ forbidden_word (given_content self.now) }
     {

@@ -1,5 +1,5 @@
 //! Reading the words from left to right.
-ghost use Rattle.std.specs.Prelude.{◌≡◌, ◌+◌, ◌<◌, ◌^◌, ◌∷◌, None, IfOk, IfErr, IfSome, [], map, drop, length, string_bytes};
+ghost use Rattle.std.specs.Prelude.{◌≡◌, ◌↔◌, ◌+◌, ◌<◌, ◌^◌, ◌∷◌, None, IfOk, IfErr, IfSome, IsTrue, [], map, drop, length, string_bytes};
 ghost use Rattle.command_words.specs.Asked.{asked};
 ghost use Rattle.command_words.specs.Choices.{Chosen, chosen};
 ghost use Rattle.command_words.specs.Given.{given_content};
@@ -14,6 +14,13 @@ use crate::given::Given;
 use crate::verb::Verb;
 use crate::word::{Parts, parts_of};
 
+/// Whether an option may stand behind what was given.
+fn may_open(verb: Verb, given: &Given, argument: Argument) -> bool
+    ensures { IsTrue result ↔ MayOpen verb (given_content given.now) argument }
+{
+    verb.takes(argument) && !given.has(argument)
+}
+
 /// The option of a name, where it may stand behind what was given.
 fn open(verb: Verb, given: &Given, name: &[u8]) -> Option<Argument>
     ensures named { IfSome result (λ argument. name.now ≡ argument_name argument) }
@@ -22,7 +29,7 @@ fn open(verb: Verb, given: &Given, name: &[u8]) -> Option<Argument>
         ¬ MayOpen verb (given_content given.now) argument }
 {
     let argument = Argument::named(name)?;
-    if verb.takes(argument) && !given.has(argument) {
+    if may_open(verb, given, argument) {
         Some(argument)
     } else {
         None
