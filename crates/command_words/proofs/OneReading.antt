@@ -177,5 +177,6 @@ allowed_decided given asked = record {
 }
 
 pub words_decided : WordsAreDecided
+unfolding asked_in
 words_decided words =
     then_decided _ _ (command_decided words) (λ verb. then_decided _ _ (pieces_decided verb _) (λ given. then_decided _ _ (complete_decided verb _ given) (allowed_decided given)))

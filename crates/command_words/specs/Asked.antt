@@ -1,5 +1,5 @@
 -- Commands, as contracts see them.
-use Rattle.std.specs.Prelude.{ℕ}
+use Rattle.std.specs.Prelude.{ℕ, Option, None}
 use Rattle.command_words.specs.Levels.{Level, level_of}
 use Rattle.command_words.specs.declared.command.CaseTask.{CaseTask}
 use Rattle.command_words.specs.declared.command.Command.{Command}
@@ -26,3 +26,8 @@ written forms.Json = json
 abbrev pub asked : Command → Asked
 asked (commands.OnCase form task) = on_case (written form) task
 asked commands.Help = help
+
+-- the place, from 0, of the word that names the file of a proof
+unfoldable pub file_of : Asked → Option ℕ
+file_of (on_case form task) = None
+file_of help = None

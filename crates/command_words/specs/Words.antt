@@ -128,7 +128,7 @@ allowed given asked = record {
 }
 
 -- what words ask for, or the first word at which their reading fails
-abbrev pub asked_in : List (List ℕ) → Stage ℕ Asked
+unfoldable pub asked_in : List (List ℕ) → Stage ℕ Asked
 asked_in words =
     and_then (command_in words) (λ verb. and_then (pieces_in verb (drop 1 words)) (λ given. and_then (complete verb (length words) given) (allowed given)))
 

@@ -127,6 +127,7 @@ fn command_word(words: &[String]) -> Result<Verb, usize>
 }
 
 /// What the words ask for; or the number, from 1, of the first word at which the reading fails.
+#[tactic(auto, unfolding(crate::specs::Words::asked_in))]
 pub fn read_words(words: &[String]) -> Result<Command, usize>
     ensures given { IfOk result (λ command. (asked_in (map string_bytes words.now)).Gives (asked command)) }
     ensures refused { IfErr result (asked_in (map string_bytes words.now)).Refuses }

@@ -21,7 +21,8 @@ use Rattle.sequential.specs.declared.priority.Priority.{Priority}
 use Rattle.sequential.proofs.DecisionLaws.{decision_decides}
 use Rattle.report.specs.TestReport.{is_rejected, test_report}
 use Rattle.graph_cli.specs.Accepted.{grammar}
-use Rattle.graph_cli.specs.Commands.{call_of}
+use Rattle.graph_cli.specs.Commands.{call_of, case_call, on_case as answers_on_case}
+use Rattle.graph_cli.specs.Test.{test_stage}
 use Rattle.graph_cli.specs.Laws.{ReportsClosedTest, ReportsAreOfTheClosedTest}
 
 any_listed : (steps : List StepLine) (j : ℕ) → list_any (λ x. x.hypothesis == j) steps ≡ set_of (hypotheses steps) j
@@ -47,6 +48,7 @@ reported c priority d text v h e = record {
 }
 
 pub reports_closed_test : ReportsAreOfTheClosedTest
+unfolding call_of case_call answers_on_case test_stage
 reports_closed_test words form priority case proof a asks (inr h) z = absurd (not_done a.status h.0.cause (ap (λ (x : Answer). x.status) h.2) z)
 reports_closed_test words form priority case proof a asks (inl h) z =
     let command_is : h.0 ≡ on_case form (Test priority) = (words_decided words).one h.0 (on_case form (Test priority)) h.1 asks in

@@ -2,4 +2,5 @@ pub mod AcceptedCases
 pub mod CallAnswers
 pub mod ClosedReports
 pub mod OneAnswer
+pub mod SourcesRead
 pub mod TestAnswers

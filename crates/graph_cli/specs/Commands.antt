@@ -14,29 +14,29 @@ use Rattle.graph_cli.specs.declared.kind.Kind.TheVariants.{Single}
 use Rattle.graph_cli.specs.declared.needs.Needs.{Needs}
 
 -- what a task needs of its case
-abbrev pub needs_of : CaseTask → Needs
+unfoldable pub needs_of : CaseTask → Needs
 needs_of (tasks.Test priority) = record { kind = Single; most = 64 }
 
 -- what a task answers to a case that it can take
-abbrev pub on_case : CaseTask → Content → Stage Refusal Answer
+unfoldable pub on_case : CaseTask → Content → Stage Refusal Answer
 on_case (tasks.Test priority) c = test_stage priority c
 
 -- a task on a case alone
-abbrev pub case_call : Written → CaseTask → Option (List ℕ) → Stage Refusal Answer
+unfoldable pub case_call : Written → CaseTask → Option (List ℕ) → Stage Refusal Answer
 case_call form task case = and_then (accepted form (needs_of task) case) (on_case task)
 
 -- what a command answers to a case and a proof
-abbrev pub call_of : Asked → Option (List ℕ) → Option (List ℕ) → Stage Refusal Answer
+unfoldable pub call_of : Asked → Option (List ℕ) → Option (List ℕ) → Stage Refusal Answer
 call_of (task_on_case form task) case proof = case_call form task case
 call_of help case proof = help_stage
 
 -- a command reads a case
-abbrev pub TakesCase : Asked → Type 0
+unfoldable pub TakesCase : Asked → Type 0
 TakesCase (task_on_case form task) = Unit {0}
 TakesCase help = ⊥
 
 -- a command reads a proof, behind a case that it can take
-abbrev pub TakesProof : Asked → Option (List ℕ) → Type 0
+unfoldable pub TakesProof : Asked → Option (List ℕ) → Type 0
 TakesProof (task_on_case form task) case = ⊥
 TakesProof help case = ⊥
 

@@ -12,5 +12,5 @@ help_text =
     line (codes "help") ++
     line (codes "end")
 
-abbrev pub help_stage : Stage Refusal Answer
+unfoldable pub help_stage : Stage Refusal Answer
 help_stage = only (done help_text)

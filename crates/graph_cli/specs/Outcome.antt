@@ -1,9 +1,9 @@
 -- What words, a case and a proof call for: the first stage that refuses decides.
-use Rattle.std.specs.Prelude.{ℕ, ◌⊎◌, List, Option, None}
+use Rattle.std.specs.Prelude.{ℕ, ◌⊎◌, List, Option}
 use Rattle.answers.specs.declared.answer.Answer.{Answer}
 use Rattle.answers.specs.declared.refusal.Refusal.{Refusal}
 use Rattle.answers.specs.Stages.{Stage, and_then, told_as}
-use Rattle.command_words.specs.Asked.{Asked, on_case, help}
+use Rattle.command_words.specs.Asked.{Asked}
 use Rattle.command_words.specs.Words.{asked_in}
 use Rattle.refusals.specs.UsageRefusal.{usage}
 use Rattle.graph_cli.specs.Commands.{call_of, TakesCase, TakesProof}
@@ -27,8 +27,3 @@ ReadsProof words case = (command : Asked) × AskFor words command × TakesProof 
 -- a source that is read had a fault
 abbrev pub ReadRose : List (List ℕ) → Option (List ℕ) → Type 0 → Type 0 → Type 0
 ReadRose words case case_rose proof_rose = (ReadsCase words × case_rose) ⊎ (ReadsProof words case × proof_rose)
-
--- the place, from 0, of the word that names the file of a proof
-abbrev pub file_of : Asked → Option ℕ
-file_of (on_case form task) = None
-file_of help = None

@@ -15,7 +15,7 @@ use Rattle.sequential.specs.WideDecisions.{IsWideDecision}
 use Rattle.sequential.specs.declared.priority.Priority.{Priority}
 
 -- the written run is defined, and the text is the report of the decision; or the run's first operation that is undefined
-abbrev pub test_stage : Priority → Content → Stage Refusal Answer
+unfoldable pub test_stage : Priority → Content → Stage Refusal Answer
 test_stage priority c = record {
   Gives = λ a. ((step : ℕ) (wide : WideAt) → ¬ IsWideDecision c priority step wide) × ((decision : Decision) × IsDecision c priority decision × (a ≡ done (test_report c decision)));
   Refuses = λ r. (step : ℕ) × (wide : WideAt) × IsWideDecision c priority step wide × (r ≡ wide_refusal c.names (Step step) wide);

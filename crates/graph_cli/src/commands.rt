@@ -23,6 +23,7 @@ use graph_io::Source;
 use std::alloc::Global;
 
 /// What a task needs of its case.
+#[tactic(auto, unfolding(crate::specs::Commands::needs_of))]
 fn needs_of(task: CaseTask) -> Needs
     ensures { result ≡ needs_of task }
 {
@@ -32,6 +33,7 @@ fn needs_of(task: CaseTask) -> Needs
 }
 
 /// What a task answers to a case that it can take.
+#[tactic(auto, unfolding(crate::specs::Commands::needs_of, crate::specs::Commands::on_case))]
 fn case_answer(alloc: Global, task: CaseTask, case: &Case) -> Result<Answer, Halt>
     requires { IsOfKind (needs_of task).kind (content case.now).inputs }
     ensures given { IfOk result (on_case task (content case.now)).Gives }
@@ -43,6 +45,7 @@ fn case_answer(alloc: Global, task: CaseTask, case: &Case) -> Result<Answer, Hal
 }
 
 /// A task on a case alone.
+#[tactic(auto, unfolding(crate::specs::Commands::case_call))]
 fn case_call<S: Source>(
     alloc: Global,
     form: &CaseForm,
@@ -61,6 +64,7 @@ fn case_call<S: Source>(
 }
 
 /// What a command answers to a case and a proof. It takes from a source only what it needs.
+#[tactic(auto, unfolding(crate::specs::Commands::call_of, crate::specs::Commands::TakesCase, crate::specs::Commands::TakesProof))]
 pub fn call<S: Source, T: Source>(
     alloc: Global,
     command: &Command,

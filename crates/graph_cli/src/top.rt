@@ -5,12 +5,12 @@ ghost use Rattle.graph_io.specs.Causes.{Rose};
 ghost use Rattle.answers.specs.Halts.{StopsBy, IfAnswered};
 ghost use Rattle.answers.specs.Runs.{Runs, Uses};
 ghost use Rattle.answers.specs.Stages.{IsAnswerOf};
-ghost use Rattle.command_words.specs.Asked.{Asked};
-ghost use Rattle.graph_cli.specs.Outcome.{AskFor, file_of, outcome, ReadsCase, ReadsProof, ReadRose};
+ghost use Rattle.command_words.specs.Asked.{Asked, file_of};
+ghost use Rattle.graph_cli.specs.Outcome.{AskFor, outcome, ReadsCase, ReadsProof, ReadRose};
 
 use crate::commands::call;
 use answers::{Answer, Stop, conclude};
-use command_words::{Command, read_words};
+use command_words::read_words;
 use graph_io::{Sink, Source};
 use refusals::usage;
 use std::alloc::Global;
@@ -23,7 +23,7 @@ pub fn file_word(words: &[String]) -> Option<usize>
         AskFor (map string_bytes words.now) command → file_of command ≡ None }
 {
     match read_words(words) {
-        Ok(Command::OnCase(_, _) | Command::Help) => None,
+        Ok(command) => command.file(),
         Err(_) => None,
     }
 }

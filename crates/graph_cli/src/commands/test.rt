@@ -14,6 +14,7 @@ use sequential::{DecideFault, Priority, decide};
 use std::alloc::Global;
 
 /// What `test` answers to a case.
+#[tactic(auto, unfolding(crate::specs::Test::test_stage))]
 pub fn test_answer(alloc: Global, case: &Case, priority: Priority) -> Result<Answer, Halt>
     requires { IsOfKind Single (content case.now).inputs }
     ensures given { IfOk result (test_stage priority (content case.now)).Gives }
