@@ -1,3 +1,5 @@
 pub mod InPlace
 pub mod Quotients
 pub mod WrittenRows
+pub mod Given
+pub mod Opened

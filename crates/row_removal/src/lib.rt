@@ -1,6 +1,7 @@
 //! The removal of a hypothesis from a weighted graph of quotients in epsilon, kept in rows over one denominator.
 #![tactic(auto)]
 
+mod gathering;
 mod graph;
 mod net;
 mod new_rows;
