@@ -132,9 +132,7 @@ impl Given<'_> {
         }
         let place = place(row, k);
         let missing = EpsPoly::monomial(c.over(self.below(row, k)), 0);
-        x.numerator()
-            .mul(&missing)
-            .map_err(|wide| wide.at(place))
+        x.numerator().mul(&missing).map_err(|wide| wide.at(place))
     }
 
     /// Writes the numerators of a row over the common denominator.

@@ -216,12 +216,7 @@ impl RowGraph {
     ghost use Rattle.row_removal.specs.RowRemoval.{row_removal};
 
     /// Writes the rows after the removal of `j` into `next`. `spare` is room for quotients.
-    pub fn write_removal(
-        &self,
-        j: usize,
-        next: &mut RowGraph,
-        spare: &mut Row,
-    ) -> Result<(), Wide>
+    pub fn write_removal(&self, j: usize, next: &mut RowGraph, spare: &mut Row) -> Result<(), Wide>
         requires proper { AreProperRows self.now }
         requires live { is_live (rows_graph self.now) j ≡ true }
         requires room { HasRoom (rows_size self.now) next.old }
