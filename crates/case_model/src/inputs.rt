@@ -1,13 +1,15 @@
-use crate::Arrival;
-use field_core::List;
+//! What is given of p-values.
+use crate::p_values::{given, has_some};
+use crate::{Arrival, Spend};
+use field_core::{List, NoMemory};
 use fraction::Fraction;
+use std::alloc::Global;
 
-/// The stages of a case: how many there are, the fraction of its level that each hypothesis spends at each, row by row,
-/// and the p-values that arrived.
+/// The stages of a case: how many there are, what each hypothesis spends at them, and the p-values that arrived.
 #[derive(Drop)]
 pub struct Stages {
     count: usize,
-    spend: List<Fraction>,
+    spend: List<Spend>,
     arrivals: List<Arrival>,
 }
 
@@ -20,4 +22,19 @@ pub enum Inputs {
     Single(List<Fraction>),
     /// Those of stages.
     Staged(Stages),
+}
+
+impl Inputs {
+    ghost use Rattle.std.specs.Prelude.{◌≡◌, IfOk};
+    ghost use Rattle.case_model.specs.Content.{inputs_given};
+
+    /// The p-values that are given, or none where no p-value is.
+    pub(crate) fn given(alloc: Global, p: &[Option<Fraction>]) -> Result<Inputs, NoMemory>
+        ensures { IfOk result (λ inputs. inputs ≡ inputs_given p.now) }
+    {
+        if !has_some(p) {
+            return Ok(Inputs::Bare);
+        }
+        Ok(Inputs::Single(List::of(given(alloc, p)?)))
+    }
 }

@@ -28,7 +28,7 @@ use Rattle.field_core.specs.Laws.Prefixes.{bind_ok, at_ok, ok_same, each_length,
 use Rattle.eps_poly.specs.Polynomials.{IsPolynomial, IsConstant, zero_polynomial, monomial}
 use Rattle.eps_poly.specs.Factors.{from_factors}
 use Rattle.eps_poly.specs.Written.{sized_product}
-use Rattle.eps_poly.proofs.IntegerQuotients.{quotient_times}
+use Rattle.field_core.proofs.Wholes.{quotient_times, size_quotient}
 use Rattle.eps_poly.proofs.ProductLaws.{product_is_exact, product_polynomial}
 use Rattle.eps_poly.proofs.SumLaws.{sized_inside}
 use Rattle.eps_poly.proofs.Validity.{zero_valid}
@@ -37,7 +37,6 @@ use Rattle.eps_quotient.specs.Quotients.{quotients}
 use Rattle.eps_quotient.specs.Stored.{IsQuotient}
 use Rattle.eps_quotient.specs.Laws.Cuts.{monomial_held, monomial_some}
 use Rattle.eps_quotient.specs.Laws.Exact.{quotients_are_exact, some_below}
-use Rattle.eps_quotient.specs.Laws.LimitTerms.{size_quotient}
 use Rattle.eps_quotient.specs.Laws.LowerLaws.{one_some, one_held, zero_lowest}
 use Rattle.eps_quotient.specs.Laws.Multiples.{monomial-at, monomial-other, monomial-multiply, factors-at}
 use Rattle.eps_quotient.specs.Laws.QuotientLaws.{same_sym, same_trans, quotient-cancel, zero_value}
