@@ -5,6 +5,7 @@ ghost use Rattle.eps_quotient.specs.Lowering.{norm};
 ghost use Rattle.eps_quotient.specs.View.{quotient_parts};
 ghost use Rattle.row_removal.specs.StoredRow.{zero_row};
 
+use crate::gathering::Given;
 use crate::new_rows::{write_rows, write_weights};
 use crate::row::Row;
 use eps_poly::EpsPoly;
@@ -215,12 +216,7 @@ impl RowGraph {
     ghost use Rattle.row_removal.specs.RowRemoval.{row_removal};
 
     /// Writes the rows after the removal of `j` into `next`. `spare` is room for quotients.
-    pub fn write_removal(
-        &self,
-        j: usize,
-        next: &mut RowGraph,
-        spare: &mut Row,
-    ) -> Result<(), Wide>
+    pub fn write_removal(&self, j: usize, next: &mut RowGraph, spare: &mut Row) -> Result<(), Wide>
         requires proper { AreProperRows self.now }
         requires live { is_live (rows_graph self.now) j ≡ true }
         requires room { HasRoom (rows_size self.now) next.old }
@@ -234,6 +230,27 @@ impl RowGraph {
         next.live.copy_from_slice(&self.live);
         next.live[j] = false;
         next.last = *self.denominator(j);
+        Ok(())
+    }
+}
+
+#[tactic(auto, unfolding(crate::specs::Gathering::gathered))]
+impl RowGraph {
+    ghost use Rattle.std.specs.Prelude.{◌≡◌};
+    ghost use Rattle.field_core.specs.Kind.{ok_map};
+    ghost use Rattle.removal.specs.StoredGraph.{size};
+    ghost use Rattle.row_removal.specs.Gathering.{gathered};
+    ghost use Rattle.row_removal.specs.Proper.{HasRoom};
+
+    /// Writes the rows that are gathered from weights and edges over constants; the marks stay.
+    pub fn gather(&mut self, given: &Given<'_>) -> Result<(), Wide>
+        requires live { self.old.live ≡ given.now.live }
+        requires room { HasRoom (size given.now) self.old }
+        ensures { ok_map (λ _. self.new) result ≡ gathered given.now }
+    {
+        given.write_row(None, &mut self.weights)?;
+        given.write_rows(&mut self.edges)?;
+        self.last = EpsPoly::monomial(Whole::new(1), 0);
         Ok(())
     }
 }

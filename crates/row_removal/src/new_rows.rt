@@ -190,12 +190,7 @@ fn write_row(
 }
 
 /// Writes all rows of edges after the removal of `j`. `spare` is room for quotients.
-pub fn write_rows(
-    graph: &RowGraph,
-    j: usize,
-    next: &mut [Row],
-    spare: &mut Row,
-) -> Result<(), Wide>
+pub fn write_rows(graph: &RowGraph, j: usize, next: &mut [Row], spare: &mut Row) -> Result<(), Wide>
     requires proper { AreProperRows graph.now }
     requires j { j < rows_size graph.now }
     requires count { length next.old ≡ rows_size graph.now }

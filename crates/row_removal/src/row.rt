@@ -137,9 +137,7 @@ impl Row {
         ensures size { result < 2 ^ 127 }
     {
         let own = self.denominator.content();
-        self.numerators
-            .iter()
-            .fold(own, |c, p| gcd(c, p.content()))
+        self.numerators.iter().fold(own, |c, p| gcd(c, p.content()))
     }
 
     /// The least power of epsilon among the polynomials that aren't 0.

@@ -173,7 +173,7 @@ lowered_values m r P =
     (lowered_times h k low r.denominator P.denominator (content_first (content r.denominator) r.numerators) (order_first (order r.denominator) r.numerators))
     (lowered_valid k (pos h) r.denominator P.denominator)
     (λ i b. subst (λ q. Same (numerator_at r i) (poly_multiply (monomial (pos h) k) q)) (sym (by i b))
-      (lowered_times h k low (numerator_at r i) (numerator_is m r i P b) (content_each _ r.numerators i (omega (arith, P.count))) (order_each _ r.numerators i (omega (arith, P.count)))))
+    (lowered_times h k low (numerator_at r i) (numerator_is m r i P b) (content_each _ r.numerators i (omega (arith, P.count))) (order_each _ r.numerators i (omega (arith, P.count)))))
     (λ i b. subst IsPolynomial (sym (by i b)) (lowered_valid k (pos h) (numerator_at r i) (numerator_is m r i P b)))
 
 -- ---- the cleared row
