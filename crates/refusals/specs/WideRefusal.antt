@@ -4,7 +4,7 @@ use Rattle.std.specs.Fmt.{decimal}
 use Rattle.field_core.specs.declared.place.Op.{Op}
 use Rattle.field_core.specs.declared.place.Op.TheVariants.{Add, Sub, Mul, Div}
 use Rattle.field_core.specs.declared.place.Place.{Place}
-use Rattle.field_core.specs.declared.place.Place.TheVariants.{Weight, Loss, Edge, Share, Ratio, Flow, Visit, Bound, Level, WeightSum, RowSum, ShareSum, SpendSum}
+use Rattle.field_core.specs.declared.place.Place.TheVariants.{Weight, Loss, Edge, Share, Ratio, Flow, Visit, Exit, Bound, Level, WeightSum, RowSum, ShareSum, SpendSum}
 use Rattle.field_core.specs.declared.place.WideAt.{WideAt}
 use Rattle.answers.specs.declared.refusal.Refusal.{Refusal}
 use Rattle.answers.specs.declared.cause.Cause.TheVariants.{TooWide}
@@ -27,6 +27,7 @@ place_words names (Share i) = codes "share of " ++ name_at names i
 place_words names (Ratio i) = codes "ratio of " ++ name_at names i
 place_words names (Flow i) = codes "flow of " ++ name_at names i
 place_words names (Visit i j) = codes "visit " ++ two_names names i j
+place_words names (Exit i j) = codes "exit " ++ two_names names i j
 place_words names (Bound i) = codes "bound of " ++ name_at names i
 place_words names (Level i) = codes "level of " ++ name_at names i
 place_words names WeightSum = codes "weight sum"

@@ -38,6 +38,7 @@ fn put_place(text: &mut List<u8>, names: &[Text], place: Place) -> Result<(), No
         Place::Ratio(i) => put_of(text, b"ratio of ", names, i),
         Place::Flow(i) => put_of(text, b"flow of ", names, i),
         Place::Visit(i, j) => put_between(text, b"visit ", names, i, j),
+        Place::Exit(i, j) => put_between(text, b"exit ", names, i, j),
         Place::Bound(i) => put_of(text, b"bound of ", names, i),
         Place::Level(i) => put_of(text, b"level of ", names, i),
         Place::WeightSum => text.append(b"weight sum"),
