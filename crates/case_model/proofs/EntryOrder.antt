@@ -5,6 +5,8 @@ use Rattle.std.specs.Ordering.{ordering_then}
 use Rattle.std.specs.declared.cmp.Ordering.{Ordering}
 use Rattle.std.specs.declared.cmp.Ordering.TheVariants.{Equal}
 use Rattle.field_core.specs.Terms.{Terms}
+use Rattle.field_core.specs.View.{terms}
+use Rattle.field_core.specs.declared.ratio.Ratio.{Ratio}
 use Rattle.field_core.specs.Polynomial.{coefficient, poly_add, poly_scale, poly_multiply, lowest, or_else, int_sign, IsNonZero}
 use Rattle.field_core.specs.Number.{Number}
 use Rattle.field_core.specs.Arithmetic.{number_zero, number_one, ◌+ε◌, ◌*ε◌, ◌-ε◌, number_sign, number_compare}
@@ -17,9 +19,8 @@ use Rattle.field_core.specs.Laws.FractionLaws.{quotient-add, quotient-multiply, 
 use Rattle.field_core.specs.Laws.Effective.{product_positive, positive_nonzero}
 use Rattle.field_core.specs.Laws.Order.{number_laws, number_subtract_is}
 use Rattle.field_core.specs.Laws.NumberFieldLaws.{sum_nothing, sum_last}
-use Rattle.fraction.specs.declared.fraction.Fraction.{Fraction}
-use Rattle.fraction.specs.View.{terms_of}
-use Rattle.case_model.specs.Sums.{number, terms_at, number_at}
+use Rattle.fraction.specs.View.{number_of}
+use Rattle.case_model.specs.Sums.{number, ratio_at, number_at}
 use Rattle.case_model.specs.Entries.{power_of_epsilon, entry_value, first_sign}
 
 -- ---- lowest coefficients
@@ -111,19 +112,14 @@ HasSign-add n d v s h k =
 -- ---- entries
 
 -- the value of a polynomial by its coefficients, one inside the other
-horner : List Terms → Number
+horner : List Ratio → Number
 horner [] = number_zero
-horner (t ∷ ts) = number t +ε (epsilon *ε horner ts)
+horner (x ∷ xs) = number_of x +ε (epsilon *ε horner xs)
 
--- each denominator is above 0
-abbrev pub ArePositive : List Terms → Type 0
-ArePositive [] = Unit {0}
-ArePositive (t ∷ ts) = (pos 0 <ℤ t.den) × ArePositive ts
-
-HasSign-horner : (ts : List Terms) → ArePositive ts → HasSign (horner ts) (first_sign ts)
+HasSign-horner : (xs : List Ratio) → HasSign (horner xs) (first_sign xs)
 unfolding horner first_sign
-HasSign-horner [] h = HasSign-zero
-HasSign-horner (t ∷ ts) h = HasSign-add t.num t.den (horner ts) (first_sign ts) h.0 (HasSign-horner ts h.1)
+HasSign-horner [] = HasSign-zero
+HasSign-horner (x ∷ xs) = HasSign-add x.num x.den (horner xs) (first_sign xs) x.valid.positive (HasSign-horner xs)
 
 pub sum_of_five : (f : ℕ → Number) → sum_below number_field 5 f ≡ number_zero +ε f 0 +ε f 1 +ε f 2 +ε f 3 +ε f 4
 sum_of_five f = sum_last 4 f ∙ ap (λ x. x +ε f 4) (sum_last 3 f ∙ ap (λ x. x +ε f 3) (sum_last 2 f ∙ ap (λ x. x +ε f 2) (sum_last 1 f ∙ ap (λ x. x +ε f 1) (sum_last 0 f ∙ ap (λ x. x +ε f 0) (sum_nothing f)))))
@@ -132,19 +128,19 @@ one_inside_the_other : (a b c d e x : Number) → number_zero +ε a *ε number_o
     ≡ a +ε x *ε (b +ε x *ε (c +ε x *ε (d +ε x *ε (e +ε x *ε number_zero))))
 one_inside_the_other a b c d e x = simp number_laws
 
-value_of_five : (a b c d e : Terms) → entry_value (a ∷ b ∷ c ∷ d ∷ e ∷ []) ≡ horner (a ∷ b ∷ c ∷ d ∷ e ∷ [])
-unfolding entry_value power_of_epsilon terms_at horner
+value_of_five : (a b c d e : Ratio) → entry_value (a ∷ b ∷ c ∷ d ∷ e ∷ []) ≡ horner (a ∷ b ∷ c ∷ d ∷ e ∷ [])
+unfolding entry_value power_of_epsilon ratio_at horner
 value_of_five a b c d e =
-    sum_of_five (λ k. number_at (a ∷ b ∷ c ∷ d ∷ e ∷ []) k *ε power_of_epsilon k) ∙ one_inside_the_other (number a) (number b) (number c) (number d) (number e) epsilon
+    sum_of_five (λ k. number_at (a ∷ b ∷ c ∷ d ∷ e ∷ []) k *ε power_of_epsilon k) ∙ one_inside_the_other (number_of a) (number_of b) (number_of c) (number_of d) (number_of e) epsilon
 
-entry_value-horner : (ts : List Terms) → length ts ≡ 5 → entry_value ts ≡ horner ts
+entry_value-horner : (xs : List Ratio) → length xs ≡ 5 → entry_value xs ≡ horner xs
 entry_value-horner [] h = absurd (omega arith)
 entry_value-horner (a ∷ []) h = absurd (omega arith)
 entry_value-horner (a ∷ b ∷ []) h = absurd (omega arith)
 entry_value-horner (a ∷ b ∷ c ∷ []) h = absurd (omega arith)
 entry_value-horner (a ∷ b ∷ c ∷ d ∷ []) h = absurd (omega arith)
 entry_value-horner (a ∷ b ∷ c ∷ d ∷ e ∷ []) h = value_of_five a b c d e
-entry_value-horner (a ∷ b ∷ c ∷ d ∷ e ∷ f ∷ ts) h = absurd (omega arith)
+entry_value-horner (a ∷ b ∷ c ∷ d ∷ e ∷ f ∷ xs) h = absurd (omega arith)
 
 difference_of_fractions : (t u : Terms) → pos 0 <ℤ t.den → pos 0 <ℤ u.den → number t -ε number u ≡ fraction (t.num *ℤ u.den +ℤ neg_ℤ u.num *ℤ t.den) (t.den *ℤ u.den)
 difference_of_fractions t u h k =
@@ -155,24 +151,19 @@ taken_first : (a b c : Number) → (a +ε b) -ε c ≡ (a -ε c) +ε b
 taken_first a b c = simp number_laws
 
 -- an entry compares with a fraction as its constant does, and where they are equal as the rest does with 0
-horner-compare : (t u : Terms) (ts : List Terms) → pos 0 <ℤ t.den → pos 0 <ℤ u.den → ArePositive ts → number_compare (horner (t ∷ ts)) (number u) ≡ ordering_then (number_compare (number t) (number u)) (first_sign ts)
+horner-compare : (x u : Ratio) (xs : List Ratio) → number_compare (horner (x ∷ xs)) (number_of u) ≡ ordering_then (number_compare (number_of x) (number_of u)) (first_sign xs)
 unfolding number_compare horner
-horner-compare t u ts h k p =
-    let top = t.num *ℤ u.den +ℤ neg_ℤ u.num *ℤ t.den in
-    let bottom = t.den *ℤ u.den in
-    let positive : pos 0 <ℤ bottom = product_positive t.den u.den h k in
-    let difference = difference_of_fractions t u h k in
-    let sign : int_sign top ≡ number_sign (number t -ε number u) = sym (ap number_sign difference ∙ fraction-sign top bottom (positive_nonzero bottom positive) ∙ int_sign-scale top bottom (positive_in bottom positive)) in
-    ap number_sign (taken_first (number t) (epsilon *ε horner ts) (number u) ∙ ap (λ x. x +ε (epsilon *ε horner ts)) difference)
-    ∙ HasSign-sign _ _ (HasSign-add top bottom (horner ts) (first_sign ts) positive (HasSign-horner ts p))
-    ∙ ap (λ o. ordering_then o (first_sign ts)) sign
+horner-compare x u xs =
+    let top = x.num *ℤ u.den +ℤ neg_ℤ u.num *ℤ x.den in
+    let bottom = x.den *ℤ u.den in
+    let positive : pos 0 <ℤ bottom = product_positive x.den u.den x.valid.positive u.valid.positive in
+    let difference = difference_of_fractions (terms x) (terms u) x.valid.positive u.valid.positive in
+    let sign : int_sign top ≡ number_sign (number_of x -ε number_of u) = sym (ap number_sign difference ∙ fraction-sign top bottom (positive_nonzero bottom positive) ∙ int_sign-scale top bottom (positive_in bottom positive)) in
+    ap number_sign (taken_first (number_of x) (epsilon *ε horner xs) (number_of u) ∙ ap (λ x. x +ε (epsilon *ε horner xs)) difference)
+    ∙ HasSign-sign _ _ (HasSign-add top bottom (horner xs) (first_sign xs) positive (HasSign-horner xs))
+    ∙ ap (λ o. ordering_then o (first_sign xs)) sign
 
-pub entry-compare : (e : List Terms) (u : Terms) → length e ≡ 5 → ArePositive e → pos 0 <ℤ u.den → number_compare (entry_value e) (number u) ≡ ordering_then (number_compare (number (terms_at e 0)) (number u)) (first_sign (drop 1 e))
-unfolding terms_at
-entry-compare [] u n h k = absurd (omega arith)
-entry-compare (t ∷ ts) u n h k = ap (λ x. number_compare x (number u)) (entry_value-horner (t ∷ ts) n) ∙ horner-compare t u ts h.0 k h.1
-
--- the denominators of fractions are above 0
-pub positive_terms : (xs : List Fraction) → ArePositive (map terms_of xs)
-positive_terms [] = tt
-positive_terms (x ∷ xs) = (x.valid.positive, positive_terms xs)
+pub entry-compare : (e : List Ratio) (u : Ratio) → length e ≡ 5 → number_compare (entry_value e) (number_of u) ≡ ordering_then (number_compare (number_of (ratio_at e 0)) (number_of u)) (first_sign (drop 1 e))
+unfolding ratio_at
+entry-compare [] u n = absurd (omega arith)
+entry-compare (x ∷ xs) u n = ap (λ v. number_compare v (number_of u)) (entry_value-horner (x ∷ xs) n) ∙ horner-compare x u xs

@@ -1,6 +1,8 @@
--- The first fault that a row finds, as a loop comes to it.
-use Rattle.std.proofs.Common.{◌≡◌, refl, sym, ap, ap₂, ◌∙◌, ℕ, zero, suc, ◌+◌, ◌-◌, ◌<◌, ◌≤◌, List, [], ◌∷◌, ◌++◌, length, map, get_or, take, drop, Option, Some, None, is_some, true, false, arith}
-use Rattle.std.proofs.lemmas.List.{take_more, take-append-drop, length-take-le, take_all}
+-- The first fault that a test finds, as a loop comes to it.
+use Rattle.std.proofs.Common.{◌≡◌, refl, sym, ap, ap₂, ◌∙◌, ℕ, zero, suc, ◌+◌, ◌-◌, ◌<◌, List, [], ◌∷◌, length, get_or, slice_get, Option, Some, None, is_some, true, false, arith}
+use mathlib.Core.Path.{fun_ext}
+use Rattle.std.proofs.lemmas.Option.{slice_get_read, slice_get-get_or}
+use Rattle.std.specs.Option.{option_and_then}
 use Rattle.case_model.specs.declared.fault.CaseFault.{CaseFault}
 use Rattle.case_model.specs.CaseFaults.{◌or◌, first_from, first_of, first_below}
 
@@ -12,49 +14,6 @@ or_assoc : (a b c : Option CaseFault) → ((a or b) or c) ≡ (a or (b or c))
 or_assoc None b c = refl
 or_assoc (Some f) b c = refl
 
-pub first_from-append : {A : Type 0} (row : ℕ → A → Option CaseFault) (i : ℕ) (xs ys : List A) → first_from row i (xs ++ ys) ≡ (first_from row i xs or first_from row (i + length xs) ys)
-unfolding first_from
-first_from-append row i [] ys = ap (λ n. first_from row n ys) (omega arith)
-first_from-append row i (x ∷ xs) ys =
-    let e : i + 1 + length xs ≡ i + suc (length xs) = omega arith in
-    ap (λ r. row i x or r) (first_from-append row (i + 1) xs ys ∙ ap (λ n. first_from row (i + 1) xs or first_from row n ys) e) ∙ sym (or_assoc (row i x) _ _)
-
-first_from-one : {A : Type 0} (row : ℕ → A → Option CaseFault) (i : ℕ) (x : A) → first_from row i (x ∷ []) ≡ row i x
-unfolding first_from
-first_from-one row i x = or_none (row i x)
-
-pub first_none : {A : Type 0} (row : ℕ → A → Option CaseFault) (xs : List A) → first_of row (take 0 xs) ≡ None
-unfolding first_from
-first_none row xs = refl
-
--- one item more
-pub first_more : {A : Type 0} (row : ℕ → A → Option CaseFault) (xs : List A) (n : ℕ) (d : A) → n < length xs → first_of row (take (n + 1) xs) ≡ (first_of row (take n xs) or row n (get_or xs n d))
-first_more row xs n d h =
-    let place : 0 + length (take n xs) ≡ n = omega (arith, length-take-le n xs (omega arith)) in
-    ap (first_from row 0) (take_more xs n d h) ∙ first_from-append row 0 (take n xs) (get_or xs n d ∷ [])
-    ∙ ap (λ r. first_of row (take n xs) or r) (first_from-one row _ _ ∙ ap (λ i. row i (get_or xs n d)) place)
-
--- nothing is found at one item more
-pub first_on : {A : Type 0} (row : ℕ → A → Option CaseFault) (xs : List A) (n : ℕ) (d : A) → n < length xs → first_of row (take n xs) ≡ None → row n (get_or xs n d) ≡ None → first_of row (take (n + 1) xs) ≡ None
-first_on row xs n d h before here = first_more row xs n d h ∙ ap₂ ◌or◌ before here
-
--- what is found first is the answer
-pub first_found : {A : Type 0} (row : ℕ → A → Option CaseFault) (xs : List A) (n : ℕ) (d : A) (fault : CaseFault) → n < length xs → first_of row (take n xs) ≡ None → row n (get_or xs n d) ≡ Some fault → first_of row xs ≡ Some fault
-first_found row xs n d fault h before here =
-    ap (first_from row 0) (sym (take-append-drop (n + 1) xs)) ∙ first_from-append row 0 (take (n + 1) xs) (drop (n + 1) xs)
-    ∙ ap (λ r. r or first_from row (0 + length (take (n + 1) xs)) (drop (n + 1) xs)) (first_more row xs n d h ∙ ap₂ ◌or◌ before here)
-
--- nothing is found
-pub first_all : {A : Type 0} (row : ℕ → A → Option CaseFault) (xs : List A) (n : ℕ) → length xs ≤ n → first_of row (take n xs) ≡ None → first_of row xs ≡ None
-first_all row xs n h e = ap (first_from row 0) (sym (take_all n xs h)) ∙ e
-
-pub first_from-map : {A B : Type 0} (row : ℕ → B → Option CaseFault) (f : A → B) (i : ℕ) (xs : List A) → first_from row i (map f xs) ≡ first_from (λ n x. row n (f x)) i xs
-unfolding first_from
-first_from-map row f i [] = refl
-first_from-map row f i (x ∷ xs) = ap (λ r. row i (f x) or r) (first_from-map row f (i + 1) xs)
-
--- ---- positions below a number
-
 pub below_none : (row : ℕ → Option CaseFault) → first_below row 0 ≡ None
 unfolding first_below
 below_none row = refl
@@ -63,36 +22,62 @@ below_more : (row : ℕ → Option CaseFault) (n : ℕ) → first_below row (n +
 unfolding first_below
 below_more row n = let e : n + 1 ≡ suc n = omega arith in ap (first_below row) e
 
-pub below_on : (row : ℕ → Option CaseFault) (n : ℕ) → first_below row n ≡ None → row n ≡ None → first_below row (n + 1) ≡ None
-below_on row n before here = below_more row n ∙ ap₂ ◌or◌ before here
-
 stays : (row : ℕ → Option CaseFault) (n k : ℕ) (fault : CaseFault) → first_below row n ≡ Some fault → first_below row (n + k) ≡ Some fault
 stays row n zero fault e = let same : n + zero ≡ n = omega arith in ap (first_below row) same ∙ e
 stays row n (suc k) fault e =
     let same : n + suc k ≡ n + k + 1 = omega arith in
     ap (first_below row) same ∙ below_more row (n + k) ∙ ap (λ r. r or row (n + k)) (stays row n k fault e)
 
-pub below_found : (row : ℕ → Option CaseFault) (i n : ℕ) (fault : CaseFault) → i < n → first_below row i ≡ None → row i ≡ Some fault → first_below row n ≡ Some fault
+below_found : (row : ℕ → Option CaseFault) (i n : ℕ) (fault : CaseFault) → i < n → first_below row i ≡ None → row i ≡ Some fault → first_below row n ≡ Some fault
 below_found row i n fault h before here =
     let same : n ≡ i + 1 + (n - (i + 1)) = omega arith in
     ap (first_below row) same ∙ stays row (i + 1) (n - (i + 1)) fault (below_more row i ∙ ap₂ ◌or◌ before here)
 
--- ---- answers of a row, as a loop tests them
-
-none_is : (r : Option CaseFault) → is_some r ≡ false → r ≡ None
+pub none_is : (r : Option CaseFault) → is_some r ≡ false → r ≡ None
 none_is None h = refl
 none_is (Some f) h = absurd (cc)
 
-pub first_answer : {A : Type 0} (row : ℕ → A → Option CaseFault) (xs : List A) (n : ℕ) (d : A) (r : Option CaseFault) → n < length xs → first_of row (take n xs) ≡ None → row n (get_or xs n d) ≡ r → is_some r ≡ true → r ≡ first_of row xs
-first_answer row xs n d None h before here some = absurd (cc)
-first_answer row xs n d (Some fault) h before here some = sym (first_found row xs n d fault h before here)
-
-pub first_silence : {A : Type 0} (row : ℕ → A → Option CaseFault) (xs : List A) (n : ℕ) (d : A) (r : Option CaseFault) → n < length xs → first_of row (take n xs) ≡ None → row n (get_or xs n d) ≡ r → is_some r ≡ false → first_of row (take (n + 1) xs) ≡ None
-first_silence row xs n d r h before here none = first_on row xs n d h before (here ∙ none_is r none)
-
-pub below_answer : (row : ℕ → Option CaseFault) (i n : ℕ) (r : Option CaseFault) → i < n → first_below row i ≡ None → row i ≡ r → is_some r ≡ true → r ≡ first_below row n
+-- what is found first is the answer
+pub below_answer : (row : ℕ → Option CaseFault) (i n : ℕ) (r : Option CaseFault) → i < n → first_below row i ≡ None → r ≡ row i → is_some r ≡ true → r ≡ first_below row n
 below_answer row i n None h before here some = absurd (cc)
-below_answer row i n (Some fault) h before here some = sym (below_found row i n fault h before here)
+below_answer row i n (Some fault) h before here some = sym (below_found row i n fault h before (sym here))
 
-pub below_silence : (row : ℕ → Option CaseFault) (i : ℕ) (r : Option CaseFault) → first_below row i ≡ None → row i ≡ r → is_some r ≡ false → first_below row (i + 1) ≡ None
-below_silence row i r before here none = below_on row i before (here ∙ none_is r none)
+-- nothing is found at one position more
+pub below_silence : (row : ℕ → Option CaseFault) (i : ℕ) (r : Option CaseFault) → first_below row i ≡ None → r ≡ row i → is_some r ≡ false → first_below row (i + 1) ≡ None
+below_silence row i r before here none = below_more row i ∙ ap₂ ◌or◌ before (sym here ∙ none_is r none)
+
+-- ---- lists, by their places
+
+below_head : (row : ℕ → Option CaseFault) (n : ℕ) → first_below row (suc n) ≡ (row 0 or first_below (λ k. row (suc k)) n)
+unfolding first_below
+below_head row zero = sym (or_none (row 0))
+below_head row (suc n) = ap (λ r. r or row (suc n)) (below_head row n) ∙ or_assoc (row 0) (first_below (λ k. row (suc k)) n) (row (suc n))
+
+-- what a test finds at a place of a list
+pub found_at : {A : Type 0} → (ℕ → A → Option CaseFault) → List A → ℕ → Option CaseFault
+found_at row xs i = option_and_then (row i) (slice_get xs i)
+
+pub found_at-item : {A : Type 0} (row : ℕ → A → Option CaseFault) (xs : List A) (i : ℕ) (x : A) → i < length xs → x ≡ get_or xs i x → found_at row xs i ≡ row i x
+unfolding found_at
+found_at-item row xs i x h e = ap (option_and_then (row i)) (slice_get_read xs (length xs) i x refl h e)
+
+pub found_at-get : {A : Type 0} (row : ℕ → A → Option CaseFault) (xs : List A) (i : ℕ) (d : A) → i < length xs → found_at row xs i ≡ row i (get_or xs i d)
+unfolding found_at
+found_at-get row xs i d h = ap (option_and_then (row i)) (slice_get-get_or xs i d h)
+
+first_from-below : {A : Type 0} (row : ℕ → A → Option CaseFault) (i : ℕ) (xs : List A) → first_from row i xs ≡ first_below (λ n. option_and_then (row (i + n)) (slice_get xs n)) (length xs)
+unfolding first_from
+first_from-below row i [] = sym (below_none (λ n. option_and_then (row (i + n)) (slice_get [] n)))
+first_from-below row i (x ∷ xs) =
+    let here : i + 0 ≡ i = omega arith in
+    let next : (n : ℕ) → i + 1 + n ≡ i + suc n = λ n. omega arith in
+    ap (λ r. row i x or r) (first_from-below row (i + 1) xs)
+    ∙ ap₂ (λ k f. row k x or first_below f (length xs)) (sym here) (fun_ext (λ n. ap (λ k. option_and_then (row k) (slice_get xs n)) (next n)))
+    ∙ sym (below_head (λ n. option_and_then (row (i + n)) (slice_get (x ∷ xs) n)) (length xs))
+
+-- what is found first in a list is what is found first below its length
+pub first_of-below : {A : Type 0} (row : ℕ → A → Option CaseFault) (xs : List A) → first_of row xs ≡ first_below (found_at row xs) (length xs)
+unfolding found_at
+first_of-below row xs =
+    let same : (n : ℕ) → 0 + n ≡ n = λ n. omega arith in
+    first_from-below row 0 xs ∙ ap (λ f. first_below f (length xs)) (fun_ext (λ n. ap (λ k. option_and_then (row k) (slice_get xs n)) (same n)))

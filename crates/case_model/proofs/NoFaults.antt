@@ -1,13 +1,11 @@
 -- What it means that a row finds nothing.
 use Rattle.std.proofs.Common.{◌≡◌, refl, sym, ap, ◌∙◌, ℕ, zero, suc, ◌+◌, ◌<◌, ◌⊎◌, inl, inr, List, [], ◌∷◌, length, get_or, Bool, true, false, not, ◌&&◌, cond, Option, Some, None, Result, Ok, Err, arith}
-use Rattle.std.proofs.lemmas.Iterator.Adapters.{position_from-zero}
-use Rattle.std.specs.List.{list_all, find, position, position_from}
+use Rattle.std.specs.List.{list_all, find}
 use Rattle.std.specs.Option.{option_map, MatchOption}
 use Rattle.std.specs.Bool.{⊤}
 use Rattle.field_core.specs.Number.{Number}
 use Rattle.field_core.specs.Arithmetic.{number_one}
-use Rattle.field_core.specs.declared.place.Place.{Place}
-use Rattle.field_core.specs.declared.place.TooWide.{TooWide}
+use Rattle.field_core.specs.declared.place.WideAt.{WideAt}
 use Rattle.case_model.specs.declared.fault.CaseFault.{CaseFault}
 use Rattle.case_model.specs.Draft.{at_most}
 use Rattle.case_model.proofs.Holding.{both}
@@ -43,22 +41,6 @@ pub nothing_mapped : {A B : Type 0} (f : A → B) (o : Option A) → option_map 
 nothing_mapped f None h = refl
 nothing_mapped f (Some x) h = absurd (cc)
 
-fails : (b : Bool) {A : Type 0} (x : A) (r : Option A) → cond b (Some x) r ≡ None → (not b ≡ true) × (r ≡ None)
-fails true x r h = absurd (cc)
-fails false x r h = (refl, h)
-
-none_from : {A : Type 0} (p : A → Bool) (n : ℕ) (xs : List A) → position_from p n xs ≡ None → list_all (λ x. not (p x)) xs ≡ true
-none_from p n [] h = refl
-none_from p n (x ∷ xs) h = let f = fails (p x) n (position_from p (n + 1) xs) h in ap (λ b. b && list_all (λ x. not (p x)) xs) f.0 ∙ none_from p (n + 1) xs f.1
-
--- no item passes
-pub no_position : {A : Type 0} (p : A → Bool) (xs : List A) → position p xs ≡ None → list_all (λ x. not (p x)) xs ≡ true
-no_position p xs h = none_from p 0 xs (sym (position_from-zero p xs) ∙ h)
-
-pub no_find : {A : Type 0} (p : A → Bool) (xs : List A) → find p xs ≡ None → list_all (λ x. not (p x)) xs ≡ true
-no_find p [] h = refl
-no_find p (x ∷ xs) h = let f = fails (p x) x (find p xs) h in ap (λ b. b && list_all (λ x. not (p x)) xs) f.0 ∙ no_find p xs f.1
-
 -- nothing is found at any place
 pub none_at : {A : Type 0} (row : ℕ → A → Option CaseFault) (i : ℕ) (xs : List A) (n : ℕ) (d : A) → first_from row i xs ≡ None → n < length xs → row (i + n) (get_or xs n d) ≡ None
 unfolding first_from
@@ -71,6 +53,22 @@ none_at row i (x ∷ xs) (suc n) d h p =
 pub no_first : {A : Type 0} (row : ℕ → A → Option CaseFault) (xs : List A) (n : ℕ) (d : A) → first_of row xs ≡ None → n < length xs → row n (get_or xs n d) ≡ None
 no_first row xs n d h p = let same : 0 + n ≡ n = omega arith in ap (λ k. row k (get_or xs n d)) (sym same) ∙ none_at row 0 xs n d h p
 
+-- no item of a list passes a test whose fault is nowhere found
+pub none_passes : {A : Type 0} (test : A → Bool) (fault : ℕ → A → CaseFault) (i : ℕ) (xs : List A) → first_from (λ i x. fault i x when test x) i xs ≡ None → list_all (λ x. not (test x)) xs ≡ true
+unfolding first_from
+none_passes test fault i [] h = refl
+none_passes test fault i (x ∷ xs) h =
+    let both = neither (fault i x when test x) _ h in
+    ap (λ b. not b && list_all (λ x. not (test x)) xs) (no_when (test x) (fault i x) both.first) ∙ none_passes test fault (i + 1) xs both.second
+
+-- and each passes one whose opposite is nowhere found
+pub all_pass : {A : Type 0} (test : A → Bool) (fault : ℕ → A → CaseFault) (i : ℕ) (xs : List A) → first_from (λ i x. fault i x when not (test x)) i xs ≡ None → list_all test xs ≡ true
+unfolding first_from
+all_pass test fault i [] h = refl
+all_pass test fault i (x ∷ xs) h =
+    let both = neither (fault i x when not (test x)) _ h in
+    ap (λ b. b && list_all test xs) (no_unless (test x) (fault i x) both.first) ∙ all_pass test fault (i + 1) xs both.second
+
 at_or_below : (i n : ℕ) → i < suc n → (i ≡ n) ⊎ (i < n)
 at_or_below i n h = grind arith
 
@@ -82,9 +80,9 @@ no_below row (suc n) i h p =
     elim (at_or_below i n p) [ inl e ↦ ap row e ∙ both.second | inr g ↦ no_below row n i both.first g ]
 
 -- a sum without a fault is at most 1
-pub no_sum_fault : {A : Type 0} (r : Result A TooWide) (value : Number) (c : ℕ) (place : Place) (above : CaseFault) → sum_fault r value c place above ≡ None → at_most value number_one ≡ true
-no_sum_fault (Ok s) value c place above h = no_unless (at_most value number_one) above h
-no_sum_fault (Err e) value c place above h = absurd (cc)
+pub no_sum_fault : {A : Type 0} (r : Result A WideAt) (value : Number) (above : CaseFault) → sum_fault r value above ≡ None → at_most value number_one ≡ true
+no_sum_fault (Ok s) value above h = no_unless (at_most value number_one) above h
+no_sum_fault (Err e) value above h = absurd (cc)
 
 -- what is found passes the test, and what holds of each item holds of it
 pub record IsFound {A : Type 0} (p q : A → Bool) (x : A) : Type 0 where

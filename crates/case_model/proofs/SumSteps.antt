@@ -1,70 +1,66 @@
 -- Written sums, item by item.
-use Rattle.std.proofs.Common.{◌≡◌, refl, sym, ap, ap₂, ◌∙◌, ℕ, zero, suc, ◌+◌, ◌<◌, ◌≤◌, List, length, map, get_or, Result, Ok, Err, arith, inl, inr, ◌⊎◌}
+use Rattle.std.proofs.Common.{◌≡◌, refl, sym, ap, ◌∙◌, ℕ, zero, suc, ◌+◌, ◌<◌, ◌≤◌, List, length, get_or, Option, Some, None, Result, Ok, Err, arith, inl, inr, ◌⊎◌}
+use Rattle.std.proofs.lemmas.List.{get_or_default}
+use Rattle.std.specs.Option.{option_map}
 use Rattle.field_core.specs.Terms.{Terms}
+use Rattle.field_core.specs.View.{terms}
 use Rattle.field_core.specs.Sized.{◌>>=◌}
-use Rattle.field_core.specs.Kind.{ok_map, Parts}
-use Rattle.field_core.specs.LimitParts.{first}
+use Rattle.field_core.specs.Kind.{Parts, ok_map, or_wide}
 use Rattle.field_core.specs.declared.place.Op.TheVariants.{Add}
 use Rattle.field_core.specs.declared.place.TooWide.{TooWide}
-use Rattle.fraction.specs.declared.fraction.Fraction.{Fraction}
+use Rattle.field_core.specs.declared.ratio.Ratio.{Ratio}
 use Rattle.fraction.specs.Plain.{plain, single, fraction_parts}
-use Rattle.std.proofs.lemmas.List.{get_or-map}
-use Rattle.fraction.specs.View.{terms_of}
 use Rattle.fraction.specs.Written.{written_add}
-use Rattle.case_model.specs.Sums.{terms_at, zero_terms, written_sum}
+use Rattle.case_model.specs.Sums.{zero_terms, zero_ratio, ratio_at, written_sum}
+use Rattle.case_model.proofs.Same.{from_single}
+use Rattle.case_model.proofs.Wide.{some_from, none_from}
 
-from_single : (s t : Terms) → single s ≡ single t → s ≡ t
-from_single s t e =
-    let n : s.num ≡ t.num = ap (λ (p : Parts). first p.numerator) e in
-    let d : s.den ≡ t.den = ap (λ (p : Parts). first p.denominator) e in
-    ap₂ (λ x y. record { num = x; den = y }) n d
+-- the fraction at a place of a list
+pub item_is : (xs : List Ratio) (i : ℕ) (x : Ratio) → i < length xs → x ≡ get_or xs i x → ratio_at xs i ≡ x
+unfolding ratio_at
+item_is xs i x h e = get_or_default xs i zero_ratio x h ∙ sym e
 
 -- a result of fractions by its terms, from its stored parts
-pub in_terms_of : (r : Result Fraction TooWide) (s : Result Terms TooWide) → ok_map (λ x. fraction_parts x) r ≡ ok_map single s → ok_map terms_of r ≡ s
-in_terms_of (Ok x) (Ok t) e = let same : single (terms_of x) ≡ single t = cc in ap Ok (from_single (terms_of x) t same)
-in_terms_of (Ok x) (Err f) e = absurd (cc)
-in_terms_of (Err f) (Ok t) e = absurd (cc)
-in_terms_of (Err f) (Err g) e = cc
+in_terms : (r : Result Ratio TooWide) (s : Option Terms) → ok_map fraction_parts r ≡ or_wide Add (option_map single s) → ok_map terms r ≡ or_wide Add s
+in_terms (Ok x) (Some t) e = let same : fraction_parts x ≡ single t = cc in ap Ok (from_single (terms x) t same)
+in_terms (Ok x) None e = absurd (cc)
+in_terms (Err f) (Some t) e = absurd (cc)
+in_terms (Err f) None e = cc
 
--- a fraction stored as 0 has the terms of 0
-pub zero_of : (z : Fraction) → fraction_parts z ≡ plain.zero → terms_of z ≡ zero_terms
-zero_of z e = from_single (terms_of z) zero_terms e
+-- ---- steps
 
-pub sum_none : (f : ℕ → Terms) → written_sum 0 f ≡ Ok zero_terms
+sum_next : (n : ℕ) (f : ℕ → Ratio) (s : Terms) → written_sum n f ≡ Some s → written_sum (n + 1) f ≡ written_add s (terms (f n))
 unfolding written_sum
-sum_none f = refl
-
-next : (n : ℕ) → n + 1 ≡ suc n
-next n = omega arith
-
-sum_next : (n : ℕ) (f : ℕ → Terms) → written_sum (n + 1) f ≡ (written_sum n f >>= λ s. written_add Add s (f n))
-unfolding written_sum
-sum_next n f = ap (λ k. written_sum k f) (next n)
-
-sum_on : (n : ℕ) (f : ℕ → Terms) (s : Terms) → written_sum n f ≡ Ok s → written_sum (n + 1) f ≡ written_add Add s (f n)
-sum_on n f s e = sum_next n f ∙ ap (λ r. r >>= λ s. written_add Add s (f n)) e
+sum_next n f s e = let next : n + 1 ≡ suc n = omega arith in ap (λ k. written_sum k f) next ∙ ap (λ r. r >>= λ s. written_add s (terms (f n))) e
 
 pub at_or_past : (n m : ℕ) → n ≤ suc m → (n ≡ suc m) ⊎ (n ≤ m)
 at_or_past n m h = grind arith
 
 -- what is refused on the way is refused in the end
-sum_refused : (n m : ℕ) (f : ℕ → Terms) (e : TooWide) → n ≤ m → written_sum n f ≡ Err e → written_sum m f ≡ Err e
+sum_refused : (n m : ℕ) (f : ℕ → Ratio) → n ≤ m → written_sum n f ≡ None → written_sum m f ≡ None
 unfolding written_sum
-sum_refused n zero f e h k = let z : n ≡ 0 = omega arith in rw z at k
-sum_refused n (suc m) f e h k = elim (at_or_past n m h) [
+sum_refused n zero f h k = let z : n ≡ 0 = omega arith in rw z at k
+sum_refused n (suc m) f h k = elim (at_or_past n m h) [
   | inl same ↦ rw same at k
-  | inr below ↦ ap (λ r. r >>= λ s. written_add Add s (f m)) (sum_refused n m f e below k)
+  | inr below ↦ ap (λ r. r >>= λ s. written_add s (terms (f m))) (sum_refused n m f below k)
 ]
 
--- the terms of one item of a list of fractions
-pub item_terms : (ws : List Fraction) (i : ℕ) (x : Fraction) → i < length ws → x ≡ get_or ws i x → terms_at (map terms_of ws) i ≡ terms_of x
-unfolding terms_at
-item_terms ws i x h e = get_or-map terms_of ws i x zero_terms h ∙ ap terms_of (sym e)
+-- a fraction stored as 0 is the sum of nothing
+pub sum_none : (f : ℕ → Ratio) (z : Ratio) → fraction_parts z ≡ plain.zero → written_sum 0 f ≡ Some (terms z)
+unfolding written_sum
+sum_none f z e = ap Some (sym (from_single (terms z) zero_terms e))
 
--- one item more
-pub sum_more : (f : ℕ → Terms) (i : ℕ) (sum x : Terms) (r : Result Fraction TooWide) → f i ≡ x → written_sum i f ≡ Ok sum → ok_map terms_of r ≡ written_add Add sum x → ok_map terms_of r ≡ written_sum (i + 1) f
-sum_more f i sum x r here before step = step ∙ ap (written_add Add sum) (sym here) ∙ sym (sum_on i f sum before)
+module _ (f : ℕ → Ratio) (i : ℕ) (sum x : Ratio) (item : x ≡ f i) (before : written_sum i f ≡ Some (terms sum)) where
+  sum_on : (r : Result Ratio TooWide) → ok_map fraction_parts r ≡ or_wide Add (plain.written Add (fraction_parts sum) (fraction_parts x)) → ok_map terms r ≡ or_wide Add (written_sum (i + 1) f)
+  sum_on r added = in_terms r (written_add (terms sum) (terms x)) added ∙ ap (or_wide Add) (ap (λ x. written_add (terms sum) (terms x)) item ∙ sym (sum_next i f (terms sum) before))
 
--- a refused item refuses the sum
-pub sum_stops : (f : ℕ → Terms) (i n : ℕ) (sum x : Terms) (e : TooWide) → i < n → f i ≡ x → written_sum i f ≡ Ok sum → Err e ≡ written_add Add sum x → Err e ≡ written_sum n f
-sum_stops f i n sum x e h here before step = sym (sum_refused (i + 1) n f e (omega arith) (sym (step ∙ ap (written_add Add sum) (sym here) ∙ sym (sum_on i f sum before))))
+  -- one item more
+  pub sum_more : (s : Ratio) → Path (Result Parts TooWide) (Ok (fraction_parts s)) (or_wide Add (plain.written Add (fraction_parts sum) (fraction_parts x))) → written_sum (i + 1) f ≡ Some (terms s)
+  sum_more s added = some_from Add (terms s) (written_sum (i + 1) f) (sum_on (Ok s) added)
+
+  -- a refused item refuses the sum
+  pub sum_stops : (e : TooWide) (n : ℕ) → i < n → Path (Result Parts TooWide) (Err e) (or_wide Add (plain.written Add (fraction_parts sum) (fraction_parts x))) → Path (Result Terms TooWide) (Err e) (or_wide Add (written_sum n f))
+  sum_stops e n below added =
+      let stopped = sum_on (Err e) added in
+      let none = none_from Add e (written_sum (i + 1) f) stopped in
+      stopped ∙ ap (or_wide Add) (none ∙ sym (sum_refused (i + 1) n f (omega arith) none))

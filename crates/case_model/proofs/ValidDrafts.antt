@@ -3,55 +3,54 @@ use Rattle.std.proofs.Common.{◌≡◌, refl, sym, ap, ◌∙◌, ℕ, ◌==◌
 use Rattle.std.proofs.lemmas.Bool.Decides.{nat_tests}
 use Rattle.std.proofs.lemmas.List.{length-map, get_or-map}
 use Rattle.std.specs.List.{list_all}
-use Rattle.field_core.specs.Terms.{Terms}
+use Rattle.field_core.specs.declared.ratio.Ratio.{Ratio}
 use Rattle.field_core.specs.Arithmetic.{number_zero, number_one}
 use Rattle.field_core.specs.NumberField.{number_field}
 use Rattle.field_core.specs.Sums.{sum_below}
 use Rattle.case_model.specs.declared.fault.CaseFault.{CaseFault}
-use Rattle.case_model.specs.Sums.{number, number_at}
+use Rattle.fraction.specs.View.{number_of}
+use Rattle.case_model.specs.Sums.{number_at}
 use Rattle.case_model.specs.Entries.{entry_value, entry_at}
-use Rattle.case_model.specs.Draft.{DraftContent, DraftComponentContent, at_most, is_unit, is_short, is_level, is_short_level, is_level_range}
+use Rattle.case_model.specs.declared.draft.Draft.{Draft}
+use Rattle.case_model.specs.declared.draft_component.DraftComponent.{DraftComponent}
+use Rattle.case_model.specs.Draft.{at_most, is_unit, is_short, is_level, is_short_level, is_level_range}
 use Rattle.case_model.specs.Content.{content_of, table_of, tabled}
 use Rattle.case_model.specs.CaseFaults.{◌or◌, case_fault, early_fault, late_fault, part_too_long, long_alpha, long_share, long_weight, long_edge, long_p_value, alpha_range, is_below_zero, share_range, share_sum, shares_fault, total_fault, weight_count, weight_range, weight_sum, weights_fault, is_self_edge, self_edge, repeated_edge, edge_range, edges_fault, row_sum, component_rows, rows_fault, first_of}
 use Rattle.case_model.proofs.Holding.{both, all_at}
-use Rattle.case_model.proofs.NoFaults.{Neither, neither, no_unless, not_true, not_false, nothing_mapped, no_position, no_find, no_first, no_below, no_sum_fault}
+use Rattle.case_model.proofs.NoFaults.{Neither, neither, no_unless, not_true, not_false, none_passes, all_pass, no_first, no_below, no_sum_fault}
 use Rattle.case_model.proofs.Faultless.{GoodStart, good_start, content_of-components}
 
-pub early_none : (d : DraftContent) → case_fault d ≡ None → early_fault d ≡ None
+pub early_none : (d : Draft) → case_fault d ≡ None → early_fault d ≡ None
 unfolding case_fault
 early_none d h = (neither (early_fault d) _ h).first
 
-pub late_none : (d : DraftContent) → case_fault d ≡ None → late_fault d (content_of d).components ≡ None
+pub late_none : (d : Draft) → case_fault d ≡ None → late_fault (length d.names) d.stages d.p (content_of d).components ≡ None
 unfolding case_fault
-late_none d h = (neither (early_fault d) (late_fault d (content_of d).components) h).second
+late_none d h = (neither (early_fault d) (late_fault (length d.names) d.stages d.p (content_of d).components) h).second
 
-pub rows_none : (d : DraftContent) → case_fault d ≡ None → rows_fault (length d.names) (content_of d).components ≡ None
+pub rows_none : (d : Draft) → case_fault d ≡ None → rows_fault (length d.names) (content_of d).components ≡ None
 unfolding late_fault
 rows_none d h = (neither (rows_fault (length d.names) (content_of d).components) _ (late_none d h)).first
 
 -- ---- one component
 
-pub record GoodComponent (m : ℕ) (k : DraftComponentContent) : Type 0 where
+pub record GoodComponent (m : ℕ) (k : DraftComponent) : Type 0 where
   pub count : length k.weights ≡ m
   pub short_share : is_short k.share ≡ true
-  pub share : at_most number_zero (number k.share) ≡ true
+  pub share : at_most number_zero (number_of k.share) ≡ true
   pub short_weights : list_all is_short k.weights ≡ true
-  pub weights : list_all (λ w. at_most number_zero (number w)) k.weights ≡ true
+  pub weights : list_all (λ w. at_most number_zero (number_of w)) k.weights ≡ true
   pub total : at_most (sum_below number_field (length k.weights) (number_at k.weights)) number_one ≡ true
   pub short_edges : list_all (λ e. list_all is_short e.entry) k.edges ≡ true
   pub loops : list_all (λ e. not (is_self_edge e)) k.edges ≡ true
   pub range : list_all (λ e. is_unit (entry_value e.entry)) k.edges ≡ true
   pub rows : (i : ℕ) → i < m → at_most (sum_below number_field m (λ j. entry_value (entry_at m (table_of m k.edges) i j))) number_one ≡ true
 
-not_not : {A : Type 0} (p : A → Bool) (xs : List A) → list_all (λ x. not (not (p x))) xs ≡ true → list_all p xs ≡ true
-not_not p [] h = refl
-not_not p (x ∷ xs) h = let b = both (not (not (p x))) (list_all (λ x. not (not (p x))) xs) h in ap (λ b. b && list_all p xs) (not_false (p x) (not_true (not (p x)) b.left)) ∙ not_not p xs b.right
-
-total_at_most : (ts : List Terms) (c : ℕ) (place : _) (above : CaseFault) → total_fault ts c place above ≡ None → at_most (sum_below number_field (length ts) (number_at ts)) number_one ≡ true
+total_at_most : (ts : List Ratio) (c : ℕ) (place : _) (above : CaseFault) → total_fault ts c place above ≡ None → at_most (sum_below number_field (length ts) (number_at ts)) number_one ≡ true
 unfolding total_fault
-total_at_most ts c place above h = no_sum_fault _ _ c place above h
+total_at_most ts c place above h = no_sum_fault _ _ above h
 
-module _ (d : DraftContent) (h : case_fault d ≡ None) where
+module _ (d : Draft) (h : case_fault d ≡ None) where
   start : GoodStart d
   start = good_start d (early_none d h)
 
@@ -96,24 +95,24 @@ module _ (d : DraftContent) (h : case_fault d ≡ None) where
   share_total = total_at_most (map (λ k. k.share) d.components) 0 _ _ shares.second
 
   -- each component is good
-  pub good_component : (c : ℕ) (k : DraftComponentContent) → c < length d.components → GoodComponent (length d.names) (get_or d.components c k)
+  pub good_component : (c : ℕ) (k : DraftComponent) → c < length d.components → GoodComponent (length d.names) (get_or d.components c k)
   unfolding weight_count long_share share_range long_weight weight_range weight_sum long_edge self_edge edge_range component_rows rows_fault row_sum
   good_component c k within =
       let m = length d.names in
       let ks = d.components in
       let component = get_or ks c k in
-      let counted : (length component.weights == m) ≡ true = not_false _ (not_true _ (all_at (λ k. not (not (length k.weights == m))) ks c k (no_position _ ks (nothing_mapped _ _ weights.first)) within)) in
+      let counted : (length component.weights == m) ≡ true = all_at (λ k. length k.weights == m) ks c k (all_pass (λ k. length k.weights == m) _ 0 ks weights.first) within in
       let tabled_at : get_or (content_of d).components c (tabled m k) ≡ tabled m component = ap (λ ts. get_or ts c (tabled m k)) (content_of-components d) ∙ get_or-map (tabled m) ks c k (tabled m k) within in
       let inside : c < length (content_of d).components = rw (content_of-components d, length-map) within in
       record {
         count = grind (arith, nat_tests, counted);
-        short_share = not_false _ (not_true _ (all_at (λ k. not (not (is_short k.share))) ks c k (no_position _ ks (nothing_mapped _ _ long_shares.first)) within));
-        share = not_false _ (not_true _ (all_at (λ k. not (is_below_zero k.share)) ks c k (no_position _ ks (nothing_mapped _ _ shares.first)) within));
-        short_weights = not_not is_short component.weights (no_position _ component.weights (nothing_mapped _ _ (no_first long_weight ks c k long_weights.first within)));
-        weights = not_not (λ w. at_most number_zero (number w)) component.weights (no_position is_below_zero component.weights (nothing_mapped _ _ (no_first weight_range ks c k sums.first within)));
+        short_share = all_at (λ k. is_short k.share) ks c k (all_pass (λ k. is_short k.share) _ 0 ks long_shares.first) within;
+        share = all_at (λ k. at_most number_zero (number_of k.share)) ks c k (all_pass (λ k. at_most number_zero (number_of k.share)) _ 0 ks shares.first) within;
+        short_weights = all_pass is_short _ 0 component.weights (no_first long_weight ks c k long_weights.first within);
+        weights = all_pass (λ w. at_most number_zero (number_of w)) _ 0 component.weights (no_first weight_range ks c k sums.first within);
         total = total_at_most component.weights c _ _ (no_first weight_sum ks c k sums.second within);
-        short_edges = not_not (λ e. list_all is_short e.entry) component.edges (no_find _ component.edges (nothing_mapped _ _ (no_first long_edge ks c k long_edges.first within)));
-        loops = no_find is_self_edge component.edges (nothing_mapped _ _ (no_first self_edge ks c k loops.first within));
-        range = not_not (λ e. is_unit (entry_value e.entry)) component.edges (no_find _ component.edges (nothing_mapped _ _ (no_first edge_range ks c k edges.second within)));
-        rows = λ i g. no_sum_fault _ _ c _ _ (no_below (row_sum m c (table_of m component.edges)) m i (ap (component_rows m c) (sym tabled_at) ∙ no_first (component_rows m) (content_of d).components c (tabled m k) (rows_none d h) inside) g);
+        short_edges = all_pass (λ e. list_all is_short e.entry) _ 0 component.edges (no_first long_edge ks c k long_edges.first within);
+        loops = none_passes is_self_edge _ 0 component.edges (no_first self_edge ks c k loops.first within);
+        range = all_pass (λ e. is_unit (entry_value e.entry)) _ 0 component.edges (no_first edge_range ks c k edges.second within);
+        rows = λ i g. no_sum_fault _ _ _ (no_below (row_sum m c (table_of m component.edges)) m i (ap (component_rows m c) (sym tabled_at) ∙ no_first (component_rows m) (content_of d).components c (tabled m k) (rows_none d h) inside) g);
       }

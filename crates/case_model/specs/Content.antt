@@ -2,66 +2,55 @@
 use Rattle.std.specs.Prelude.{ℕ, ◌*◌, ◌/◌, ◌%◌, Bool, List, [], ◌∷◌, Option, Some, None, map, length, get_or, if◌then◌else◌, is_some}
 use Rattle.std.specs.Option.{option_map_or}
 use Rattle.std.specs.List.{list_any, list_all, find, range_with_len}
-use Rattle.field_core.specs.Terms.{Terms}
 use Rattle.field_core.specs.Number.{Number}
 use Rattle.field_core.specs.Graph.{Graph}
-use Rattle.case_model.specs.Sums.{number, number_at, zero_terms}
+use Rattle.field_core.specs.declared.ratio.Ratio.{Ratio}
+use Rattle.fraction.specs.View.{number_of}
+use Rattle.case_model.specs.declared.draft.Draft.{Draft}
+use Rattle.case_model.specs.declared.draft_component.DraftComponent.{DraftComponent}
+use Rattle.case_model.specs.declared.draft_edge.DraftEdge.{DraftEdge}
+use Rattle.case_model.specs.declared.component.Component.{Component}
+use Rattle.case_model.specs.declared.inputs.Inputs.{Inputs}
+use Rattle.case_model.specs.declared.inputs.Inputs.TheVariants.{Bare, Single, Staged}
+use Rattle.case_model.specs.Sums.{number_at, zero_ratio}
 use Rattle.case_model.specs.Entries.{entry_value, entry_at, no_edge, is_plain_entry}
-use Rattle.case_model.specs.Draft.{DraftContent, DraftComponentContent, DraftEdgeContent, ArrivalContent, has_ends}
+use Rattle.case_model.specs.Draft.{has_ends}
 use Rattle.case_model.specs.EntangledGraph.{EntangledGraph}
 use Rattle.case_model.specs.ClosedTest.{IsRejected}
-
--- a component: its share of the level, the weights of the hypotheses, and the table of its edges, row by row
-pub record ComponentContent : Type 0 where
-  pub share : Terms
-  pub weights : List Terms
-  pub edges : List (List Terms)
-
--- stages: how many there are, the fraction of its level that each hypothesis spends at each, row by row, and what arrived
-pub record StagesContent : Type 0 where
-  pub count : ℕ
-  pub spend : List Terms
-  pub arrivals : List ArrivalContent
-
--- p-values: none, one for each hypothesis, or those of stages
-pub data InputsContent : Type 0 where
-  bare : InputsContent
-  single : List Terms → InputsContent
-  staged : StagesContent → InputsContent
 
 -- the names of the hypotheses, the level, the components and the p-values
 pub record Content : Type 0 where
   pub names : List (List ℕ)
-  pub alpha : Terms
-  pub components : List ComponentContent
-  pub inputs : InputsContent
+  pub alpha : Ratio
+  pub components : List Component
+  pub inputs : Inputs
 
 -- ---- the content of a draft
 
 -- the entry of the first edge in a list that goes from `i` to `j`, and 0 where none does
-unfoldable pub edge_between : List DraftEdgeContent → ℕ → ℕ → List Terms
+unfoldable pub edge_between : List DraftEdge → ℕ → ℕ → List Ratio
 edge_between es i j = option_map_or (λ e. e.entry) (find (has_ends i j) es) no_edge
 
 -- the table of the edges between `m` hypotheses, row by row: place `i * m + j` has the edge from `i` to `j`
-unfoldable pub table_of : ℕ → List DraftEdgeContent → List (List Terms)
+unfoldable pub table_of : ℕ → List DraftEdge → List (List Ratio)
 table_of m es = map (λ k. edge_between es (k / m) (k % m)) (range_with_len 0 (m * m))
 
 -- a component with its edges in a table
-abbrev pub tabled : ℕ → DraftComponentContent → ComponentContent
+abbrev pub tabled : ℕ → DraftComponent → Component
 tabled m k = record { share = k.share; weights = k.weights; edges = table_of m k.edges }
 
 -- the p-values that are given
-unfoldable pub given : List (Option Terms) → List Terms
+unfoldable pub given : List (Option Ratio) → List Ratio
 given [] = []
 given (None ∷ ps) = given ps
 given (Some p ∷ ps) = p ∷ given ps
 
 -- the p-values that are given, or none where no p-value is
-abbrev pub inputs_given : List (Option Terms) → InputsContent
-inputs_given ps = if list_any is_some ps then single (given ps) else bare
+abbrev pub inputs_given : List (Option Ratio) → Inputs
+inputs_given ps = if list_any is_some ps then Single (given ps) else Bare
 
 -- the content of a draft without stages
-unfoldable pub content_of : DraftContent → Content
+unfoldable pub content_of : Draft → Content
 content_of d = record {
   names = d.names;
   alpha = d.alpha;
@@ -72,15 +61,15 @@ content_of d = record {
 -- ---- the closed test of a content
 
 -- a component without weights and edges, of share 0
-abbrev pub empty_component : ComponentContent
-empty_component = record { share = zero_terms; weights = []; edges = [] }
+abbrev pub empty_component : Component
+empty_component = record { share = zero_ratio; weights = []; edges = [] }
 
 -- the component at a place of a list, and an empty one past its end
-abbrev pub component_at : List ComponentContent → ℕ → ComponentContent
+abbrev pub component_at : List Component → ℕ → Component
 component_at ks c = get_or ks c empty_component
 
 -- the weights of a component and the values of the entries of its table of `m` rows and columns
-abbrev pub graph_of : ℕ → ComponentContent → Graph Number
+abbrev pub graph_of : ℕ → Component → Graph Number
 graph_of m k = record { weight = number_at k.weights; edge = λ i j. entry_value (entry_at m k.edges i j) }
 
 -- the shares and the graphs of the components
@@ -88,25 +77,25 @@ unfoldable pub entangled : Content → EntangledGraph
 entangled c = record {
   hypotheses = length c.names;
   components = length c.components;
-  share = λ k. number (component_at c.components k).share;
+  share = λ k. number_of (component_at c.components k).share;
   graph = λ k. graph_of (length c.names) (component_at c.components k);
 }
 
 -- a fact of single p-values, where there are some
-abbrev pub IfSingle : InputsContent → (List Terms → Type 0) → Type 0
-IfSingle (single ps) P = P ps
-IfSingle bare P = Unit {0}
-IfSingle (staged s) P = Unit {0}
+abbrev pub IfSingle : Inputs → (List Ratio → Type 0) → Type 0
+IfSingle (Single ps) P = P ps
+IfSingle Bare P = Unit {0}
+IfSingle (Staged s) P = Unit {0}
 
 -- a fact of single p-values; it doesn't hold where there are none, or stages
-abbrev pub ForSingle : InputsContent → (List Terms → Type 0) → Type 0
-ForSingle (single ps) P = P ps
-ForSingle bare P = ⊥
-ForSingle (staged s) P = ⊥
+abbrev pub ForSingle : Inputs → (List Ratio → Type 0) → Type 0
+ForSingle (Single ps) P = P ps
+ForSingle Bare P = ⊥
+ForSingle (Staged s) P = ⊥
 
 -- the closed test at the level of the case rejects the hypothesis at this position
 abbrev pub IsRejectedIn : Content → ℕ → Type 0
-IsRejectedIn c j = ForSingle c.inputs (λ ps. IsRejected (entangled c) (number_at ps) (number c.alpha) j)
+IsRejectedIn c j = ForSingle c.inputs (λ ps. IsRejected (entangled c) (number_at ps) (number_of c.alpha) j)
 
 -- no edge has a coefficient other than 0 above power 0
 unfoldable pub is_plain : Content → Bool

@@ -1,7 +1,5 @@
-ghost use Rattle.std.specs.Prelude.{map};
-ghost use Rattle.fraction.specs.View.{terms_of};
-ghost use Rattle.case_model.specs.ComponentView.{component_content, inputs_content};
-ghost use Rattle.case_model.specs.Validity.{IsValidContent, valid_is_fact};
+//! Cases.
+ghost use Rattle.case_model.specs.Validity.{IsValidContent};
 
 use crate::{Component, Entry, Inputs};
 use field_core::{List, Text};
@@ -14,21 +12,18 @@ pub struct Case {
     alpha: Fraction,
     components: List<Component>,
     inputs: Inputs,
-    ghost valid: { IsValidContent (record { names = names; alpha = terms_of alpha; components = map component_content components; inputs = inputs_content inputs }) } by { Prim.hlevel valid_is_fact },
+    ghost valid: { IsValidContent (record { names = names; alpha = alpha; components = components; inputs = inputs }) },
 }
 
 impl Case {
-    ghost use Rattle.std.specs.Prelude.{◌≡◌, ◌<◌, ◌≤◌, length, slice_get, Some, true, map};
-    ghost use Rattle.fraction.specs.View.{terms_of, number_of};
-    ghost use Rattle.case_model.specs.Sums.{terms_at};
+    ghost use Rattle.std.specs.Prelude.{◌≡◌, ◌<◌, ◌≤◌, ◌*◌, length, slice_get, Some, true};
+    ghost use Rattle.case_model.specs.Sums.{ratio_at};
     ghost use Rattle.case_model.specs.Entries.{entry_at};
     ghost use Rattle.case_model.specs.Draft.{is_level, ArePValues};
     ghost use Rattle.case_model.specs.Content.{component_at, IfSingle, is_plain};
     ghost use Rattle.case_model.specs.Names.{position_of};
     ghost use Rattle.case_model.specs.Validity.{IsValidContent};
     ghost use Rattle.case_model.specs.CaseView.{content};
-    ghost use Rattle.case_model.specs.ComponentView.{inputs_content};
-    ghost use Rattle.case_model.specs.EntryView.{coefficients_of};
 
     /// The case of these parts.
     pub(crate) fn of(
@@ -37,8 +32,8 @@ impl Case {
         components: List<Component>,
         inputs: Inputs,
     ) -> Case
-        requires { IsValidContent (record { names = names; alpha = terms_of alpha; components = map component_content components; inputs = inputs_content inputs }) }
-        ensures { content result ≡ record { names = names; alpha = terms_of alpha; components = map component_content components; inputs = inputs_content inputs } }
+        requires { IsValidContent (record { names = names; alpha = alpha; components = components; inputs = inputs }) }
+        ensures { content result ≡ record { names = names; alpha = alpha; components = components; inputs = inputs } }
     {
         Case {
             names,
@@ -73,8 +68,8 @@ impl Case {
 
     /// The level, above 0 and at most 1.
     pub fn alpha(&self) -> Fraction
-        ensures alpha { terms_of result ≡ (content self.now).alpha }
-        ensures level { is_level (terms_of result) ≡ true }
+        ensures alpha { result ≡ (content self.now).alpha }
+        ensures level { is_level result ≡ true }
     {
         self.alpha
     }
@@ -87,21 +82,31 @@ impl Case {
         self.components.len()
     }
 
+    /// The component at a place.
+    fn component(&self, c: usize) -> &Component
+        requires { c < length (content self.now).components }
+        ensures component { result.now ≡ component_at (content self.now).components c }
+        ensures weights { length result.now.weights ≡ length (content self.now).names }
+        ensures edges { length result.now.edges ≡ length (content self.now).names * length (content self.now).names }
+    {
+        &self.components.as_slice()[c]
+    }
+
     /// The share of the component at a place, from 0 to 1.
     pub fn share(&self, c: usize) -> Fraction
         requires { c < length (content self.now).components }
-        ensures { terms_of result ≡ (component_at (content self.now).components c).share }
+        ensures { result ≡ (component_at (content self.now).components c).share }
     {
-        self.components.as_slice()[c].share
+        self.component(c).share
     }
 
     /// The weight of a hypothesis in a component, from 0 to 1.
     pub fn weight(&self, c: usize, i: usize) -> Fraction
         requires component { c < length (content self.now).components }
         requires hypothesis { i < length (content self.now).names }
-        ensures { terms_of result ≡ terms_at (component_at (content self.now).components c).weights i }
+        ensures { result ≡ ratio_at (component_at (content self.now).components c).weights i }
     {
-        self.components.as_slice()[c].weight(i)
+        self.component(c).weight(i)
     }
 
     /// The edge from a hypothesis to a hypothesis in a component.
@@ -109,15 +114,24 @@ impl Case {
         requires component { c < length (content self.now).components }
         requires from { i < length (content self.now).names }
         requires to { j < length (content self.now).names }
-        ensures { coefficients_of result.now ≡ entry_at (length (content self.now).names) (component_at (content self.now).components c).edges i j }
+        ensures { result.now ≡ entry_at (length (content self.now).names) (component_at (content self.now).components c).edges i j }
     {
-        self.components.as_slice()[c].edge(self.names.len(), i, j)
+        self.component(c).edge(self.size(), i, j)
+    }
+
+    /// The table of the edges of a component, row by row.
+    pub fn edges(&self, c: usize) -> &[Entry]
+        requires { c < length (content self.now).components }
+        ensures edges { result.now ≡ (component_at (content self.now).components c).edges }
+        ensures size { length result.now ≡ length (content self.now).names * length (content self.now).names }
+    {
+        self.component(c).edges.as_slice()
     }
 
     /// The p-values. Where there are single ones, there is one for each hypothesis, from 0 to 1.
     pub fn inputs(&self) -> &Inputs
-        ensures inputs { inputs_content result.now ≡ (content self.now).inputs }
-        ensures p_values { IfSingle (inputs_content result.now) (ArePValues (length (content self.now).names)) }
+        ensures inputs { result.now ≡ (content self.now).inputs }
+        ensures p_values { IfSingle result.now (ArePValues (length (content self.now).names)) }
     {
         &self.inputs
     }
@@ -127,10 +141,7 @@ impl Case {
     pub fn is_plain(&self) -> bool
         ensures { result ≡ is_plain (content self.now) }
     {
-        self.components
-            .as_slice()
-            .iter()
-            .all(|component| component.is_plain())
+        self.components.iter().all(|component| component.is_plain())
     }
 
     /// The position of the hypothesis of this name; `None` where no hypothesis has it.
@@ -138,7 +149,6 @@ impl Case {
         ensures { result ≡ position_of name.now (content self.now).names }
     {
         self.names
-            .as_slice()
             .iter()
             .position(|other| name == other.as_bytes())
     }

@@ -1,7 +1,13 @@
-use crate::Entry;
-use crate::numbers::at;
-use field_core::List;
+//! Components of cases.
+ghost use Rattle.std.specs.Prelude.{◌≡◌, ◌≤◌, true, map, IfOk};
+ghost use Rattle.std.specs.List.{list_all};
+ghost use Rattle.case_model.specs.Draft.{goes_between};
+ghost use Rattle.case_model.specs.Content.{table_of, tabled};
+
+use crate::{DraftComponent, DraftEdge, Entry};
+use field_core::{List, NoMemory};
 use fraction::Fraction;
+use std::alloc::Global;
 
 /// A component of a case: its share of the level, the weights of the hypotheses, and the table of its edges, row by row.
 #[derive(Drop)]
@@ -12,38 +18,88 @@ pub struct Component {
 }
 
 impl Component {
-    ghost use Rattle.std.specs.Prelude.{◌≡◌, ◌≤◌, ◌<◌, ◌*◌, length};
+    ghost use Rattle.std.specs.Prelude.{◌≡◌, ◌≤◌, ◌<◌, ◌*◌, length, true, IfOk};
     ghost use Rattle.std.specs.List.{list_all};
-    ghost use Rattle.fraction.specs.View.{terms_of};
-    ghost use Rattle.case_model.specs.Sums.{terms_at};
+    ghost use Rattle.case_model.specs.Sums.{ratio_at};
     ghost use Rattle.case_model.specs.Entries.{entry_at, is_plain_entry};
-    ghost use Rattle.case_model.specs.EntryView.{coefficients_of};
-    ghost use Rattle.case_model.specs.ComponentView.{component_content};
+    ghost use Rattle.case_model.specs.Draft.{goes_between};
+    ghost use Rattle.case_model.specs.Content.{tabled};
+
+    /// The component of a draft with its edges in a table.
+    fn tabled(alloc: Global, count: usize, draft: DraftComponent) -> Result<Component, NoMemory>
+        requires few { count ≤ 64 }
+        requires ends { list_all (goes_between count) draft.edges ≡ true }
+        ensures { IfOk result (λ k. k ≡ tabled count draft) }
+    {
+        let DraftComponent {
+            share,
+            weights,
+            edges,
+        } = draft;
+        let edges = table(alloc, count, edges.as_slice())?;
+        Ok(Component {
+            share,
+            weights,
+            edges,
+        })
+    }
 
     /// The weight of a hypothesis.
+    #[tactic(auto, unfolding(crate::specs::Sums::ratio_at), using(std::proofs::lemmas::List::get_or_default))]
     pub(crate) fn weight(&self, i: usize) -> Fraction
-        requires few { length (component_content self.now).weights ≤ 64 }
-        requires within { i < length (component_content self.now).weights }
-        ensures { terms_of result ≡ terms_at (component_content self.now).weights i }
+        requires { i < length self.now.weights }
+        ensures { result ≡ ratio_at self.now.weights i }
     {
-        at(self.weights.as_slice(), i)
+        self.weights.as_slice()[i]
     }
 
     /// The edge from a hypothesis to a hypothesis, of so many.
+    #[tactic(auto, unfolding(crate::specs::Entries::entry_at), using(std::proofs::lemmas::List::get_or_default))]
     pub(crate) fn edge(&self, count: usize, i: usize, j: usize) -> &Entry
         requires few { count ≤ 64 }
-        requires size { length (component_content self.now).edges ≡ count * count }
+        requires size { length self.now.edges ≡ count * count }
         requires from { i < count }
         requires to { j < count }
-        ensures { coefficients_of result.now ≡ entry_at count (component_content self.now).edges i j }
+        ensures { result.now ≡ entry_at count self.now.edges i j }
     {
         &self.edges.as_slice()[i * count + j]
     }
 
     /// Whether no edge has a coefficient other than 0 above power 0.
     pub(crate) fn is_plain(&self) -> bool
-        ensures { result ≡ list_all is_plain_entry (component_content self.now).edges }
+        ensures { result ≡ list_all is_plain_entry self.now.edges }
     {
-        self.edges.as_slice().iter().all(|entry| entry.is_plain())
+        self.edges.iter().all(|entry| entry.is_plain())
     }
+}
+
+/// The table of the edges between so many hypotheses, row by row. Of edges with the same ends it has the first.
+fn table(alloc: Global, count: usize, edges: &[DraftEdge]) -> Result<List<Entry>, NoMemory>
+    requires few { count ≤ 64 }
+    requires ends { list_all (goes_between count) edges.now ≡ true }
+    ensures { IfOk result (λ table. table ≡ table_of count edges.now) }
+{
+    let mut table = List::of(vec![in alloc; Entry::no_edge(); count * count]?);
+    for n in (0..edges.len()).rev() {
+        let edge = &edges[n];
+        table.set(edge.place(count), edge.entry);
+    }
+    Ok(table)
+}
+
+/// The components of a draft with their edges in tables.
+pub fn tabled(
+    alloc: Global,
+    count: usize,
+    components: List<DraftComponent>,
+) -> Result<List<Component>, NoMemory>
+    requires few { count ≤ 64 }
+    requires ends { list_all (λ k. list_all (goes_between count) k.edges) components ≡ true }
+    ensures { IfOk result (λ ks. ks ≡ map (tabled count) components) }
+{
+    let mut all = List::new(alloc);
+    for component in components.into_vec() {
+        all.push(Component::tabled(alloc, count, component)?)?;
+    }
+    Ok(all)
 }

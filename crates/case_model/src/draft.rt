@@ -1,37 +1,25 @@
-ghost use Rattle.std.specs.Prelude.{◌≡◌, ◌≤◌, ◌⊎◌, true, None, Some, IfOk, OnOk, IfErr, length, map};
-ghost use Rattle.case_model.specs.Draft.{have_known_ends};
-ghost use Rattle.case_model.specs.Content.{content_of};
-ghost use Rattle.case_model.specs.CaseFaults.{case_fault, late_fault};
-ghost use Rattle.case_model.specs.Rows.{are_tables};
-ghost use Rattle.case_model.specs.ComponentView.{component_content, inputs_content};
+//! Drafts, and the cases that they make.
+ghost use Rattle.std.specs.Prelude.{◌≡◌, ◌≤◌, ◌⊎◌, true, None, Some, IfOk, OnOk, IfErr, length, map, Option};
+ghost use Rattle.std.specs.List.{list_all};
+ghost use Rattle.case_model.specs.Draft.{goes_between, have_known_ends};
+ghost use Rattle.case_model.specs.Content.{content_of, tabled, inputs_given};
+ghost use Rattle.case_model.specs.CaseFaults.{part_too_long, alpha_range, fault_before_edges, early_fault, late_fault, case_fault};
 ghost use Rattle.case_model.specs.CaseView.{content};
-ghost use Rattle.case_model.specs.DraftView.{said};
+ghost use Rattle.case_model.specs.Tables.{are_tables};
 ghost use Rattle.case_model.specs.declared.fault.CaseFault.TheVariants.{NoMemory as OutOfMemory};
 
-use crate::early::early_fault;
-use crate::p_values::{inputs_given, p_values_fault};
+use crate::component::tabled;
+use crate::components::{
+    components_fault, edges_fault, long_part, shares_fault, weights_fault,
+};
+use crate::fraction_tests::{is_level_range, is_short_level};
+use crate::names::names_fault;
+use crate::p_values::{long_p_value, p_values_fault};
 use crate::row_sums::rows_fault;
-use crate::tables::tabled_all;
-use crate::{Case, CaseFault, Component, Entry, Inputs, Refused};
+use crate::{Case, CaseFault, Component, DraftComponent, Inputs, PartPlace, Refused};
 use field_core::{List, Text};
 use fraction::Fraction;
 use std::alloc::Global;
-
-/// An edge of a draft, from a hypothesis to a hypothesis, by their positions.
-#[derive(Drop)]
-pub struct DraftEdge {
-    pub from: usize,
-    pub to: usize,
-    pub entry: Entry,
-}
-
-/// A component of a draft: its share of the level, the weights of the hypotheses, and its edges in any order.
-#[derive(Drop)]
-pub struct DraftComponent {
-    pub share: Fraction,
-    pub weights: List<Fraction>,
-    pub edges: List<DraftEdge>,
-}
 
 /// A p-value that arrived: of a hypothesis, by its position, at a stage, from 1.
 #[derive(Clone, Copy)]
@@ -61,65 +49,138 @@ pub struct Draft {
     pub stages: Option<DraftStages>,
 }
 
-/// What a draft gives to its case, besides the names and the level.
-#[derive(Drop)]
-struct Made {
-    components: List<Component>,
-    inputs: Inputs,
-}
-
 impl Draft {
+    /// Whether each edge goes from a hypothesis to a hypothesis.
+    #[tactic(auto, unfolding(crate::specs::Draft::have_known_ends))]
+    pub fn has_known_ends(&self) -> bool
+        ensures { result ≡ have_known_ends self.now }
+    {
+        let count = self.names.len();
+        self.components
+            .iter()
+            .all(|component| component.has_known_ends(count))
+    }
+
     /// The case that the draft says, or the first fault that a row of `CaseFault` finds in it, or `NoMemory`. A refusal
     /// hands back the draft's names; the rest is given up. Each edge goes from a hypothesis to a hypothesis, and there are no
     /// stages.
     pub fn finish(self, alloc: Global) -> Result<Case, Refused>
-        requires ends { have_known_ends (said self) ≡ true }
-        requires unstaged { (said self).stages ≡ None }
-        ensures case { IfOk result (λ c. content c ≡ content_of (said self)) }
-        ensures faultless { OnOk result (case_fault (said self) ≡ None) }
-        ensures fault { IfErr result (λ r. (r.fault ≡ OutOfMemory) ⊎ (case_fault (said self) ≡ Some r.fault)) }
+        requires ends { have_known_ends self ≡ true }
+        requires unstaged { self.stages ≡ None }
+        ensures case { IfOk result (λ c. content c ≡ content_of self) }
+        ensures faultless { OnOk result (case_fault self ≡ None) }
+        ensures fault { IfErr result (λ r. (r.fault ≡ OutOfMemory) ⊎ (case_fault self ≡ Some r.fault)) }
         ensures names { IfErr result (λ r. r.names ≡ self.names) }
     {
-        let made = self.made(alloc);
-        let Draft { names, alpha, .. } = self;
-        match made {
-            Ok(Made { components, inputs }) => Ok(Case::of(names, alpha, components, inputs)),
+        let early = self.early_fault();
+        let Draft {
+            names,
+            alpha,
+            p,
+            components,
+            stages,
+        } = self;
+        if let Some(fault) = early {
+            return Err(Refused { names, fault });
+        }
+        match Parts::made(alloc, names.len(), &stages, p.as_slice(), components) {
+            Ok(parts) => Ok(Case::of(names, alpha, parts.components, parts.inputs)),
             Err(fault) => Err(Refused { names, fault }),
         }
     }
 
-    /// The components with their edges in tables, and the p-values, or the first fault.
-    fn made(&self, alloc: Global) -> Result<Made, CaseFault>
-        ensures components { IfOk result (λ made. map component_content made.components ≡ (content_of (said self.now)).components) }
-        ensures inputs { IfOk result (λ made. inputs_content made.inputs ≡ (content_of (said self.now)).inputs) }
-        ensures faultless { OnOk result (case_fault (said self.now) ≡ None) }
-        ensures fault { IfErr result (λ fault. (fault ≡ OutOfMemory) ⊎ (case_fault (said self.now) ≡ Some fault)) }
-    {
-        if let Some(fault) = early_fault(self) {
-            return Err(fault);
-        }
-        let components = tabled_all(alloc, self.names.len(), self.components.as_slice())?;
-        if let Some(fault) = self.late_fault(components.as_slice()) {
-            return Err(fault);
-        }
-        let inputs = inputs_given(alloc, self.p.as_slice())?;
-        Ok(Made { components, inputs })
-    }
-
-    /// The first fault of the rows of edges and of the p-values.
-    #[tactic(auto, unfolding(crate::specs::CaseFaults::late_fault, crate::specs::CaseFaults::mixed))]
-    fn late_fault(&self, components: &[Component]) -> Option<CaseFault>
-        requires few { length self.now.names ≤ 64 }
-        requires tables { are_tables (length self.now.names) (map component_content components.now) ≡ true }
-        ensures { result ≡ late_fault (said self.now) (map component_content components.now) }
+    /// The first fault of the tests before those of the edges.
+    fn fault_before_edges(&self) -> Option<CaseFault>
+        ensures { result ≡ fault_before_edges self.now }
     {
         let count = self.names.len();
-        if let Some(fault) = rows_fault(count, components) {
+        let components = self.components.as_slice();
+        names_fault(self.names.as_slice())
+            .or_else(|| components_fault(components))
+            .or_else(|| self.part_too_long())
+            .or_else(|| self.alpha_range())
+            .or_else(|| shares_fault(components))
+            .or_else(|| weights_fault(count, components))
+    }
+
+    /// The first fault of the tests before those of the rows of edges.
+    #[tactic(auto, unfolding(crate::specs::CaseFaults::early_fault))]
+    fn early_fault(&self) -> Option<CaseFault>
+        requires { have_known_ends self.now ≡ true }
+        ensures { result ≡ early_fault self.now }
+    {
+        if let Some(fault) = self.fault_before_edges() {
             return Some(fault);
         }
-        if self.stages.is_some() && self.p.len() != 0 {
-            return Some(CaseFault::Mixed);
-        }
-        p_values_fault(count, self.p.as_slice())
+        edges_fault(self.names.len(), self.components.as_slice())
     }
+
+    /// The first number with a part above its limit.
+    #[tactic(auto, unfolding(crate::specs::CaseFaults::part_too_long, crate::specs::CaseFaults::long_alpha))]
+    fn part_too_long(&self) -> Option<CaseFault>
+        ensures { result ≡ part_too_long self.now }
+    {
+        (!is_short_level(&self.alpha))
+            .then_some(CaseFault::PartTooLong(PartPlace::Alpha))
+            .or_else(|| long_part(self.components.as_slice()))
+            .or_else(|| long_p_value(self.p.as_slice()))
+    }
+
+    /// The level isn't above 0 and at most 1.
+    #[tactic(auto, unfolding(crate::specs::CaseFaults::alpha_range))]
+    fn alpha_range(&self) -> Option<CaseFault>
+        ensures { result ≡ alpha_range self.now.alpha }
+    {
+        (!is_level_range(&self.alpha)).then_some(CaseFault::AlphaRange)
+    }
+}
+
+/// What a draft gives to its case, besides the names and the level.
+#[derive(Drop)]
+struct Parts {
+    components: List<Component>,
+    inputs: Inputs,
+}
+
+impl Parts {
+    /// The components with their edges in tables, and the p-values, or the first fault of the later tests.
+    fn made(
+        alloc: Global,
+        count: usize,
+        stages: &Option<DraftStages>,
+        p: &[Option<Fraction>],
+        components: List<DraftComponent>,
+    ) -> Result<Parts, CaseFault>
+        requires few { count ≤ 64 }
+        requires ends { list_all (λ k. list_all (goes_between count) k.edges) components ≡ true }
+        ensures components { IfOk result (λ parts. parts.components ≡ map (tabled count) components) }
+        ensures inputs { IfOk result (λ parts. parts.inputs ≡ inputs_given p.now) }
+        ensures faultless { OnOk result (late_fault count stages.now p.now (map (tabled count) components) ≡ None) }
+        ensures fault { IfErr result (λ fault. (fault ≡ OutOfMemory) ⊎ (late_fault count stages.now p.now (map (tabled count) components) ≡ Some fault)) }
+    {
+        let components = tabled(alloc, count, components)?;
+        if let Some(fault) = late_fault(count, stages, p, components.as_slice()) {
+            return Err(fault);
+        }
+        let inputs = Inputs::given(alloc, p)?;
+        Ok(Parts { components, inputs })
+    }
+}
+
+/// The first fault of the rows of edges and of the p-values.
+#[tactic(auto, unfolding(crate::specs::CaseFaults::late_fault, crate::specs::CaseFaults::mixed))]
+fn late_fault(
+    count: usize,
+    stages: &Option<DraftStages>,
+    p: &[Option<Fraction>],
+    components: &[Component],
+) -> Option<CaseFault>
+    requires few { count ≤ 64 }
+    requires tables { are_tables count components.now ≡ true }
+    ensures { result ≡ late_fault count stages.now p.now components.now }
+{
+    let has_both = stages.is_some() && !p.is_empty();
+    rows_fault(count, components)
+        .or_else(|| has_both.then_some(CaseFault::Mixed))
+        .or_else(|| p_values_fault(count, p))
 }

@@ -1,7 +1,13 @@
+//! Entries of tables of edges.
 ghost use Rattle.std.specs.Prelude.{◌≡◌};
+ghost use Rattle.std.specs.List.{list_all};
+ghost use Rattle.field_core.specs.Polynomial.{int_sign};
+ghost use Rattle.field_core.specs.View.{terms};
+ghost use Rattle.fraction.specs.Tests.{is_zero};
+ghost use Rattle.case_model.specs.Draft.{is_short};
+ghost use Rattle.case_model.specs.Entries.{first_sign};
 
-use crate::numbers::{are_short, are_zero, compare, first_sign};
-use crate::sums::zero;
+use crate::fraction_tests::is_short;
 use field_core::Number;
 use fraction::Fraction;
 use std::cmp::Ordering;
@@ -25,33 +31,33 @@ impl Model for Entry {
 }
 
 impl Entry {
-    ghost use Rattle.std.specs.Prelude.{◌≡◌, ◌≤◌, map};
+    ghost use Rattle.std.specs.Prelude.{◌≡◌, ◌≤◌};
     ghost use Rattle.std.specs.List.{list_all};
-    ghost use Rattle.fraction.specs.View.{terms_of, number_of};
+    ghost use Rattle.fraction.specs.View.{number_of};
     ghost use Rattle.field_core.specs.Arithmetic.{number_zero, number_one, number_compare};
-    ghost use Rattle.case_model.specs.Sums.{terms_at};
+    ghost use Rattle.case_model.specs.Sums.{ratio_at};
     ghost use Rattle.case_model.specs.Entries.{no_edge, entry_value, is_zero_entry, is_plain_entry};
     ghost use Rattle.case_model.specs.Draft.{at_most, is_unit, is_short};
-    ghost use Rattle.case_model.specs.EntryView.{coefficients_of};
 
     /// The entry with these coefficients, by ascending power of epsilon.
     pub fn new(coefficients: [Fraction; 5]) -> Entry
-        ensures { coefficients_of result ≡ map terms_of coefficients }
+        ensures { result ≡ coefficients }
     {
         Entry { coefficients }
     }
 
     /// The entry of an edge that isn't there.
     pub(crate) fn no_edge() -> Entry
-        ensures { coefficients_of result ≡ no_edge }
+        ensures { result ≡ no_edge }
     {
-        Entry::new([zero(); 5])
+        Entry::new([Fraction::zero(); 5])
     }
 
     /// The coefficient of a power from 0 to 4.
+    #[tactic(auto, unfolding(crate::specs::Sums::ratio_at), using(std::proofs::lemmas::List::get_or_default))]
     pub fn coefficient(&self, power: usize) -> Fraction
         requires { power ≤ 4 }
-        ensures { terms_of result ≡ terms_at (coefficients_of self.now) power }
+        ensures { result ≡ ratio_at self.now power }
     {
         self.coefficients[power]
     }
@@ -59,14 +65,14 @@ impl Entry {
     /// Whether each coefficient is 0.
     #[tactic(auto, unfolding(crate::specs::Entries::is_zero_entry))]
     pub(crate) fn is_zero(&self) -> bool
-        ensures { result ≡ is_zero_entry (coefficients_of self.now) }
+        ensures { result ≡ is_zero_entry self.now }
     {
         are_zero(&self.coefficients)
     }
 
     /// Whether the parts of each coefficient are at most 10^18.
     pub(crate) fn is_short(&self) -> bool
-        ensures { result ≡ list_all is_short (coefficients_of self.now) }
+        ensures { result ≡ list_all is_short self.now }
     {
         are_short(&self.coefficients)
     }
@@ -74,7 +80,7 @@ impl Entry {
     /// Whether each coefficient above power 0 is 0.
     #[tactic(auto, unfolding(crate::specs::Entries::is_plain_entry))]
     pub(crate) fn is_plain(&self) -> bool
-        ensures { result ≡ is_plain_entry (coefficients_of self.now) }
+        ensures { result ≡ is_plain_entry self.now }
     {
         let coefficients = &self.coefficients[..];
         are_zero(&coefficients[1..])
@@ -82,30 +88,63 @@ impl Entry {
 
     /// How the value compares with a fraction, in the order of epsilon.
     fn compare(&self, other: &Fraction) -> Ordering
-        ensures { result ≡ number_compare (entry_value (coefficients_of self.now)) (number_of other.now) }
+        ensures { result ≡ number_compare (entry_value self.now) (number_of other.now) }
     {
         let coefficients = &self.coefficients[..];
-        compare(&coefficients[0], other).then(first_sign(&coefficients[1..]))
+        coefficients[0].cmp(other).then(first_sign(&coefficients[1..]))
     }
 
     /// Whether the value isn't below 0, in the order of epsilon.
     fn is_nonnegative(&self) -> bool
-        ensures { result ≡ at_most number_zero (entry_value (coefficients_of self.now)) }
+        ensures { result ≡ at_most number_zero (entry_value self.now) }
     {
         self.compare(&Fraction::zero()).is_ge()
     }
 
     /// Whether the value is at most 1, in the order of epsilon.
     pub(crate) fn is_at_most_one(&self) -> bool
-        ensures { result ≡ at_most (entry_value (coefficients_of self.now)) number_one }
+        ensures { result ≡ at_most (entry_value self.now) number_one }
     {
         self.compare(&Fraction::one()).is_le()
     }
 
     /// Whether the value is from 0 to 1, in the order of epsilon.
     pub(crate) fn is_unit(&self) -> bool
-        ensures { result ≡ is_unit (entry_value (coefficients_of self.now)) }
+        ensures { result ≡ is_unit (entry_value self.now) }
     {
         self.is_nonnegative() && self.is_at_most_one()
+    }
+}
+
+/// Whether each is 0.
+fn are_zero(fractions: &[Fraction]) -> bool
+    ensures { result ≡ list_all (λ x. is_zero (terms x)) fractions.now }
+{
+    fractions.iter().all(|fraction| fraction.is_zero())
+}
+
+/// Whether the parts of each are at most 10^18.
+fn are_short(fractions: &[Fraction]) -> bool
+    ensures { result ≡ list_all is_short fractions.now }
+{
+    fractions.iter().all(|fraction| is_short(fraction))
+}
+
+/// Whether `x` is below, at or above 0.
+#[tactic(auto, using(crate::proofs::Comparisons::sign_is))]
+fn sign(x: &Fraction) -> Ordering
+    ensures { result ≡ int_sign x.now.num }
+{
+    x.sign()
+}
+
+/// The sign of the first that isn't 0.
+#[tactic(auto, unfolding(crate::specs::Entries::first_sign))]
+fn first_sign(fractions: &[Fraction]) -> Ordering
+    ensures { result ≡ first_sign fractions.now }
+{
+    match fractions {
+        [] => Ordering::Equal,
+        [first, rest @ ..] => sign(first).then(first_sign(rest)),
     }
 }

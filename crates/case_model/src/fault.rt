@@ -1,3 +1,4 @@
+//! Why drafts are refused.
 use field_core::{List, NoMemory, Text, WideAt};
 
 /// Where a number stands in a draft. Components, hypotheses and arrivals are named by their places, from 0, and stages

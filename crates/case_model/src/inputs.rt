@@ -1,6 +1,9 @@
+//! What is given of p-values.
 use crate::Arrival;
-use field_core::List;
+use crate::p_values::{given, has_some};
+use field_core::{List, NoMemory};
 use fraction::Fraction;
+use std::alloc::Global;
 
 /// The stages of a case: how many there are, the fraction of its level that each hypothesis spends at each, row by row,
 /// and the p-values that arrived.
@@ -20,4 +23,19 @@ pub enum Inputs {
     Single(List<Fraction>),
     /// Those of stages.
     Staged(Stages),
+}
+
+impl Inputs {
+    ghost use Rattle.std.specs.Prelude.{◌≡◌, IfOk};
+    ghost use Rattle.case_model.specs.Content.{inputs_given};
+
+    /// The p-values that are given, or none where no p-value is.
+    pub(crate) fn given(alloc: Global, p: &[Option<Fraction>]) -> Result<Inputs, NoMemory>
+        ensures { IfOk result (λ inputs. inputs ≡ inputs_given p.now) }
+    {
+        if !has_some(p) {
+            return Ok(Inputs::Bare);
+        }
+        Ok(Inputs::Single(given(alloc, p)?))
+    }
 }

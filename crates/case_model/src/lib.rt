@@ -3,25 +3,28 @@
 
 mod case;
 mod component;
+mod components;
 mod draft;
-mod early;
+mod draft_component;
+mod draft_edge;
 mod entry;
 mod fault;
+mod first_faults;
+mod fraction_tests;
 mod inputs;
 pub mod laws;
 mod local_test;
 mod name_index;
 mod names;
-mod numbers;
 mod p_values;
 mod row_sums;
-mod rows;
 mod sums;
-mod tables;
 
 pub use case::Case;
 pub use component::Component;
-pub use draft::{Arrival, Draft, DraftComponent, DraftEdge, DraftStages};
+pub use draft::{Arrival, Draft, DraftStages};
+pub use draft_component::DraftComponent;
+pub use draft_edge::DraftEdge;
 pub use entry::Entry;
 pub use fault::{CaseFault, PartPlace, Refused};
 pub use inputs::{Inputs, Stages};

@@ -1,17 +1,17 @@
+//! The local test of one hypothesis.
 ghost use Rattle.std.specs.Prelude.{◌≡◌, ◌↔◌, IsTrue, true};
 ghost use Rattle.field_core.specs.Arithmetic.{◌*ε◌};
-ghost use Rattle.fraction.specs.View.{terms_of, number_of};
+ghost use Rattle.fraction.specs.View.{number_of};
 ghost use Rattle.case_model.specs.Draft.{is_level, is_p_value};
 ghost use Rattle.case_model.specs.ClosedTest.{Passes};
 
-use crate::numbers::{at_most, is_positive};
 use field_core::Number;
 use fraction::Fraction;
 
 /// The least weight, if it is above 0, at which a p-value passes: p / alpha. It always fits.
 fn least_weight(p: &Fraction, alpha: &Fraction) -> Fraction
-    requires p { is_p_value (terms_of p.now) ≡ true }
-    requires alpha { is_level (terms_of alpha.now) ≡ true }
+    requires p { is_p_value p.now ≡ true }
+    requires alpha { is_level alpha.now ≡ true }
     ensures { number_of result *ε number_of alpha.now ≡ number_of p.now }
 {
     match p.div(alpha) {
@@ -24,9 +24,9 @@ fn least_weight(p: &Fraction, alpha: &Fraction) -> Fraction
 /// `p` is from 0 to 1 with a denominator of at most 10^30, and `alpha` a level with parts of at most 10,000; so p / alpha
 /// has parts of at most 10^34, and nothing is refused.
 pub fn passes(p: &Fraction, weight: &Fraction, alpha: &Fraction) -> bool
-    requires p { is_p_value (terms_of p.now) ≡ true }
-    requires alpha { is_level (terms_of alpha.now) ≡ true }
+    requires p { is_p_value p.now ≡ true }
+    requires alpha { is_level alpha.now ≡ true }
     ensures { IsTrue result ↔ Passes (number_of p.now) (number_of weight.now) (number_of alpha.now) }
 {
-    is_positive(weight) && at_most(&least_weight(p, alpha), weight)
+    *weight > Fraction::zero() && least_weight(p, alpha) <= *weight
 }

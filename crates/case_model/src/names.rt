@@ -1,11 +1,12 @@
 //! Names of hypotheses.
-ghost use Rattle.std.specs.Prelude.{◌≡◌, not, position};
+ghost use Rattle.std.specs.Prelude.{◌≡◌, ◌<◌, [], length, get_or};
 ghost use Rattle.std.specs.List.{list_all, list_any};
 ghost use Rattle.std.specs.Str.{bytes_eq};
 ghost use Rattle.case_model.specs.Draft.{is_name_byte, is_name};
-ghost use Rattle.case_model.specs.CaseFaults.{first_of, repeated_name, names_fault};
+ghost use Rattle.case_model.specs.CaseFaults.{name_form, repeated_name, duplicate_name, names_fault};
 
 use crate::CaseFault;
+use crate::first_faults::{first_below, first_fault};
 use field_core::Text;
 
 fn is_name_byte(byte: u8) -> bool
@@ -28,13 +29,6 @@ fn is_name(name: &[u8]) -> bool
     !name.is_empty() && name.len() <= 32 && are_name_bytes(name)
 }
 
-/// The place of the first that isn't a name.
-fn first_bad_name(names: &[Text]) -> Option<usize>
-    ensures { result ≡ position (λ name. not (is_name name)) names.now }
-{
-    names.iter().position(|name| !is_name(name.as_bytes()))
-}
-
 /// Whether one of the names is this one.
 fn has(names: &[Text], name: &[u8]) -> bool
     ensures { result ≡ list_any (bytes_eq name.now) names.now }
@@ -42,31 +36,42 @@ fn has(names: &[Text], name: &[u8]) -> bool
     names.iter().any(|other| name == other.as_bytes())
 }
 
-/// The fault of the first name that is equal to an earlier one.
-fn duplicate_name(names: &[Text]) -> Option<CaseFault>
-    ensures { result ≡ first_of (repeated_name names.now) names.now }
+/// The first name that isn't well formed.
+#[tactic(auto, unfolding(crate::specs::CaseFaults::name_form))]
+fn name_form(names: &[Text]) -> Option<CaseFault>
+    ensures { result ≡ name_form names.now }
 {
-    for (i, name) in names.iter().enumerate() {
-        if has(&names[..i], name.as_bytes()) {
-            return Some(CaseFault::DuplicateName(i));
-        }
-    }
-    None
+    first_fault(names, |name, i| {
+        (!is_name(name.as_bytes())).then_some(CaseFault::NameForm(i))
+    })
+}
+
+/// The name at a place is equal to an earlier one.
+#[tactic(auto, using(std::proofs::lemmas::List::get_or_default))]
+fn repeated_name(names: &[Text], i: usize) -> Option<CaseFault>
+    requires { i < length names.now }
+    ensures { result ≡ repeated_name names.now i (get_or names.now i []) }
+{
+    has(&names[..i], names[i].as_bytes()).then_some(CaseFault::DuplicateName(i))
+}
+
+/// The first name that is equal to an earlier one.
+fn duplicate_name(names: &[Text]) -> Option<CaseFault>
+    ensures { result ≡ duplicate_name names.now }
+{
+    first_below(names.len(), |i| repeated_name(names, i))
 }
 
 /// The first fault of the names.
-#[tactic(auto, unfolding(crate::specs::CaseFaults::names_fault, crate::specs::CaseFaults::no_hypothesis, crate::specs::CaseFaults::too_many, crate::specs::CaseFaults::name_form, crate::specs::CaseFaults::duplicate_name))]
+#[tactic(auto, unfolding(crate::specs::CaseFaults::names_fault, crate::specs::CaseFaults::no_hypothesis, crate::specs::CaseFaults::too_many))]
 pub fn names_fault(names: &[Text]) -> Option<CaseFault>
     ensures { result ≡ names_fault names.now }
 {
-    if names.is_empty() {
-        return Some(CaseFault::NoHypothesis);
-    }
-    if names.len() > 64 {
-        return Some(CaseFault::TooMany(names.len() as u64));
-    }
-    if let Some(i) = first_bad_name(names) {
-        return Some(CaseFault::NameForm(i));
-    }
-    duplicate_name(names)
+    let count = names.len() as u64;
+    names
+        .is_empty()
+        .then_some(CaseFault::NoHypothesis)
+        .or_else(|| (count > 64).then_some(CaseFault::TooMany(count)))
+        .or_else(|| name_form(names))
+        .or_else(|| duplicate_name(names))
 }

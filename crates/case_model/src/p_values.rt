@@ -1,35 +1,69 @@
 //! The p-values of a draft.
-ghost use Rattle.std.specs.Prelude.{◌≡◌, map, position, is_some, is_none, IfOk};
-ghost use Rattle.std.specs.Option.{option_map};
+ghost use Rattle.std.specs.Prelude.{◌≡◌, IfOk, is_some, is_none};
 ghost use Rattle.std.specs.List.{list_any};
-ghost use Rattle.fraction.specs.View.{terms_of};
-ghost use Rattle.case_model.specs.Content.{given, inputs_given};
-ghost use Rattle.case_model.specs.ComponentView.{inputs_content};
-ghost use Rattle.case_model.specs.CaseFaults.{is_outside, p_values_fault};
+ghost use Rattle.case_model.specs.Content.{given};
+ghost use Rattle.case_model.specs.declared.fault.CaseFault.TheVariants.{PMissing};
+ghost use Rattle.case_model.specs.CaseFaults.{◌when◌, first_of, is_long_p_value, long_p_value, p_missing, is_outside, p_range, p_values_fault};
 
-use crate::numbers::is_unit;
-use crate::{CaseFault, Inputs};
+use crate::first_faults::first_fault;
+use crate::fraction_tests::{is_short_p_value, is_unit};
+use crate::{CaseFault, PartPlace};
 use field_core::{List, NoMemory};
 use fraction::Fraction;
 use std::alloc::Global;
 
+/// Whether a p-value is given and has a denominator above 10^30.
+fn is_long_p_value(p: &Option<Fraction>) -> bool
+    ensures { result ≡ is_long_p_value p.now }
+{
+    match p {
+        Some(p) => !is_short_p_value(p),
+        None => false,
+    }
+}
+
+/// The first p-value with a denominator above 10^30.
+#[tactic(auto, unfolding(crate::specs::CaseFaults::long_p_value))]
+pub fn long_p_value(p: &[Option<Fraction>]) -> Option<CaseFault>
+    ensures { result ≡ long_p_value p.now }
+{
+    first_fault(p, |p, i| {
+        is_long_p_value(p).then_some(CaseFault::PartTooLong(PartPlace::P(i)))
+    })
+}
+
 /// Whether some p-value is given.
-fn has_some(p: &[Option<Fraction>]) -> bool
-    ensures { result ≡ list_any is_some (map (option_map terms_of) p.now) }
+pub fn has_some(p: &[Option<Fraction>]) -> bool
+    ensures { result ≡ list_any is_some p.now }
 {
     p.iter().any(|p| p.is_some())
 }
 
-/// The place of the first that is missing.
-fn first_missing(p: &[Option<Fraction>]) -> Option<usize>
-    ensures { result ≡ position is_none (map (option_map terms_of) p.now) }
+/// Whether a p-value isn't given.
+fn is_missing(p: &Option<Fraction>) -> bool
+    ensures { result ≡ is_none p.now }
 {
-    p.iter().position(|p| p.is_none())
+    p.is_none()
+}
+
+/// The first p-value that isn't given.
+fn first_missing(p: &[Option<Fraction>]) -> Option<CaseFault>
+    ensures { result ≡ first_of (λ i p. PMissing i when is_none p) p.now }
+{
+    first_fault(p, |p, i| is_missing(p).then_some(CaseFault::PMissing(i)))
+}
+
+/// Where some p-value is given, the first that isn't.
+#[tactic(auto, unfolding(crate::specs::CaseFaults::p_missing))]
+fn p_missing(p: &[Option<Fraction>]) -> Option<CaseFault>
+    ensures { result ≡ p_missing p.now }
+{
+    if has_some(p) { first_missing(p) } else { None }
 }
 
 /// Whether a p-value is given and isn't from 0 to 1.
 fn is_outside(p: &Option<Fraction>) -> bool
-    ensures { result ≡ is_outside (option_map terms_of p.now) }
+    ensures { result ≡ is_outside p.now }
 {
     match p {
         Some(p) => !is_unit(p),
@@ -37,33 +71,29 @@ fn is_outside(p: &Option<Fraction>) -> bool
     }
 }
 
-/// The place of the first that isn't from 0 to 1.
-fn first_outside(p: &[Option<Fraction>]) -> Option<usize>
-    ensures { result ≡ position is_outside (map (option_map terms_of) p.now) }
+/// The first p-value that isn't from 0 to 1.
+#[tactic(auto, unfolding(crate::specs::CaseFaults::p_range))]
+fn p_range(p: &[Option<Fraction>]) -> Option<CaseFault>
+    ensures { result ≡ p_range p.now }
 {
-    p.iter().position(|p| is_outside(p))
+    first_fault(p, |p, i| is_outside(p).then_some(CaseFault::PRange(i)))
 }
 
 /// The first fault of the p-values of so many hypotheses.
-#[tactic(auto, unfolding(crate::specs::CaseFaults::p_values_fault, crate::specs::CaseFaults::p_count, crate::specs::CaseFaults::p_missing, crate::specs::CaseFaults::p_range))]
+#[tactic(auto, unfolding(crate::specs::CaseFaults::p_values_fault, crate::specs::CaseFaults::p_count))]
 pub fn p_values_fault(count: usize, p: &[Option<Fraction>]) -> Option<CaseFault>
-    ensures { result ≡ p_values_fault count (map (option_map terms_of) p.now) }
+    ensures { result ≡ p_values_fault count p.now }
 {
     if !p.is_empty() && p.len() != count {
         return Some(CaseFault::PCount(p.len()));
     }
-    if has_some(p) {
-        if let Some(i) = first_missing(p) {
-            return Some(CaseFault::PMissing(i));
-        }
-    }
-    let i = first_outside(p)?;
-    Some(CaseFault::PRange(i))
+    p_missing(p).or_else(|| p_range(p))
 }
 
 /// The p-values that are given.
-fn given(alloc: Global, p: &[Option<Fraction>]) -> Result<List<Fraction>, NoMemory>
-    ensures { IfOk result (λ ps. map terms_of ps ≡ given (map (option_map terms_of) p.now)) }
+#[tactic(auto, unfolding(crate::specs::Content::given))]
+pub fn given(alloc: Global, p: &[Option<Fraction>]) -> Result<List<Fraction>, NoMemory>
+    ensures { IfOk result (λ ps. ps ≡ given p.now) }
 {
     let mut given = List::new(alloc);
     for p in p {
@@ -72,14 +102,4 @@ fn given(alloc: Global, p: &[Option<Fraction>]) -> Result<List<Fraction>, NoMemo
         }
     }
     Ok(given)
-}
-
-/// The p-values of a case: none where none is given.
-pub fn inputs_given(alloc: Global, p: &[Option<Fraction>]) -> Result<Inputs, NoMemory>
-    ensures { IfOk result (λ inputs. inputs_content inputs ≡ inputs_given (map (option_map terms_of) p.now)) }
-{
-    if !has_some(p) {
-        return Ok(Inputs::Bare);
-    }
-    Ok(Inputs::Single(given(alloc, p)?))
 }

@@ -1,94 +1,41 @@
 //! Written sums, whose parts may pass their sizes.
-ghost use Rattle.std.specs.Prelude.{◌≡◌, map, length, ◌+◌, ◌*◌, ◌≤◌, ◌<◌};
+ghost use Rattle.std.specs.Prelude.{◌≡◌, ◌<◌, ℕ, List, length};
 ghost use Rattle.field_core.specs.declared.place.Op.TheVariants.{Add};
-ghost use Rattle.field_core.specs.Kind.{ok_map};
-ghost use Rattle.fraction.specs.View.{terms_of};
-ghost use Rattle.fraction.specs.Written.{written_add};
-ghost use Rattle.case_model.specs.Sums.{zero_terms, terms_at, written_sum};
-ghost use Rattle.case_model.specs.CaseFaults.{sum_fault, total_fault, share_sum};
-ghost use Rattle.case_model.specs.DraftView.{component_said};
-ghost use Rattle.case_model.specs.Rows.{shares_in, written_value};
+ghost use Rattle.field_core.specs.declared.ratio.Ratio.{Ratio};
+ghost use Rattle.field_core.specs.Kind.{ok_map, or_wide};
+ghost use Rattle.field_core.specs.View.{terms};
+ghost use Rattle.case_model.specs.Sums.{ratio_at, written_sum};
+ghost use Rattle.case_model.specs.CaseFaults.{total_fault};
 
-use crate::numbers::is_at_most_one;
-use crate::{CaseFault, DraftComponent};
-use field_core::{Number, Place, TooWide, WideAt};
+use crate::CaseFault;
+use field_core::{Number, Place, TooWide};
 use fraction::Fraction;
 
-/// The sum of nothing.
-pub fn zero() -> Fraction
-    ensures { terms_of result ≡ zero_terms }
+/// The sum of so many fractions, written one after the other.
+pub fn written_sum<F: Fn(usize) -> Fraction>(count: usize, at: F) -> Result<Fraction, TooWide>
+    requires { (i : ℕ) → i < count → F.pre at i }
+    ensures { (f : ℕ → Ratio) → ((i : ℕ) (x : Ratio) → i < count → F.post at i x → x ≡ f i) → ok_map terms result ≡ or_wide Add (written_sum count f) }
 {
-    Fraction::zero()
-}
-
-/// The written sum of two.
-pub fn plus(x: &Fraction, y: &Fraction) -> Result<Fraction, TooWide>
-    ensures { ok_map terms_of result ≡ written_add Add (terms_of x.now) (terms_of y.now) }
-{
-    x.add(y)
-}
-
-/// The sum, written one after the other.
-fn total(fractions: &[Fraction]) -> Result<Fraction, TooWide>
-    ensures { ok_map terms_of result ≡ written_sum (length fractions.now) (terms_at (map terms_of fractions.now)) }
-{
-    let mut sum = zero();
-    for fraction in fractions {
-        sum = plus(&sum, fraction)?;
+    let mut sum = Fraction::zero();
+    for i in 0..count {
+        sum = sum.add(&at(i))?;
     }
     Ok(sum)
 }
 
-/// The sum of the shares, written one after the other.
-fn share_total(components: &[DraftComponent]) -> Result<Fraction, TooWide>
-    ensures { ok_map terms_of result ≡ written_sum (length components.now) (terms_at (map terms_of (shares_in components.now))) }
-{
-    let mut sum = zero();
-    for component in components {
-        sum = plus(&sum, &component.share)?;
-    }
-    Ok(sum)
-}
-
-/// The fault of a written sum: that it is too wide, or else that it is above 1.
-fn sum_fault(
-    sum: Result<Fraction, TooWide>,
+/// The fault of the sum of so many fractions: that it is too wide, or else that it is above 1.
+pub fn total_fault<F: Fn(usize) -> Fraction>(
+    count: usize,
+    at: F,
     component: usize,
     place: Place,
     above: CaseFault,
 ) -> Option<CaseFault>
-    ensures { result ≡ sum_fault sum (written_value sum) component place above }
+    requires { (i : ℕ) → i < count → F.pre at i }
+    ensures { (xs : List Ratio) → count ≡ length xs → ((i : ℕ) (x : Ratio) → i < count → F.post at i x → x ≡ ratio_at xs i) → result ≡ total_fault xs component place above }
 {
-    match sum {
-        Ok(sum) => (!is_at_most_one(&sum)).then_some(above),
-        Err(TooWide { op }) => Some(CaseFault::Wide(WideAt {
-            component,
-            place,
-            op,
-        })),
+    match written_sum(count, at) {
+        Ok(sum) => (sum > Fraction::one()).then_some(above),
+        Err(wide) => Some(CaseFault::Wide(wide.at(place).in_component(component))),
     }
-}
-
-/// The fault of a sum of fractions.
-pub fn total_fault(
-    fractions: &[Fraction],
-    component: usize,
-    place: Place,
-    above: CaseFault,
-) -> Option<CaseFault>
-    ensures { result ≡ total_fault (map terms_of fractions.now) component place above }
-{
-    sum_fault(total(fractions), component, place, above)
-}
-
-/// The fault of the sum of the shares.
-pub fn share_sum(components: &[DraftComponent]) -> Option<CaseFault>
-    ensures { result ≡ share_sum (map component_said components.now) }
-{
-    sum_fault(
-        share_total(components),
-        0,
-        Place::ShareSum,
-        CaseFault::ShareSum,
-    )
 }

@@ -1,13 +1,15 @@
 use Rattle.std.proofs.Common.{sym}
-use Rattle.fraction.specs.View.{terms_of}
-use Rattle.case_model.proofs.Thresholds.{level_stored_nonzero, threshold_never, threshold_times}
+use Rattle.field_core.specs.declared.place.Op.TheVariants.{Div}
+use Rattle.fraction.specs.Plain.{fraction_parts}
+use Rattle.case_model.proofs.Thresholds.{level_stored_nonzero, threshold_fits, threshold_times}
+use Rattle.case_model.proofs.Wide.{some_from, none_from}
 use Rattle.case_model.proofs.local_test.least_weight.Goals as goal
 
 pub div-requires : goal.div-requires
-div-requires c = level_stored_nonzero (terms_of c.args.alpha.now) c.args.alpha.now.valid c.requires.alpha
+div-requires c = level_stored_nonzero c.args.alpha.now c.requires.alpha
 
 pub unreachable-requires : goal.unreachable-requires
-unreachable-requires c = threshold_never (terms_of c.args.p.now) (terms_of c.args.alpha.now) c.in-Err.field-0 c.args.p.now.valid c.requires.p c.requires.alpha c.in-Err.ensures
+unreachable-requires c = threshold_fits c.args.p.now c.args.alpha.now c.requires.p c.requires.alpha (none_from Div c.in-Err.field-0 _ c.in-Err.ensures)
 
 pub returns : goal.returns
-returns c = threshold_times (terms_of c.args.p.now) (terms_of c.args.alpha.now) (terms_of c.in-Ok.weight) c.args.p.now.valid c.args.alpha.now.valid c.requires.alpha (sym c.in-Ok.ensures)
+returns c = threshold_times c.args.p.now c.args.alpha.now c.in-Ok.weight c.requires.alpha (some_from Div (fraction_parts c.in-Ok.weight) _ c.in-Ok.ensures)

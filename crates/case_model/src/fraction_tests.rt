@@ -1,0 +1,53 @@
+//! Tests of fractions: their signs and ranges, and how long their parts are.
+ghost use Rattle.std.specs.Prelude.{◌≡◌};
+ghost use Rattle.fraction.specs.View.{number_of};
+ghost use Rattle.case_model.specs.Draft.{is_unit, is_short_level, is_short, is_short_p_value, is_level_range};
+ghost use Rattle.case_model.specs.CaseFaults.{is_below_zero};
+
+use field_core::Number;
+use fraction::Fraction;
+
+/// Whether `x` is below 0.
+#[tactic(auto, using(crate::proofs::Comparisons::zero_and_one))]
+pub fn is_below_zero(x: &Fraction) -> bool
+    ensures { result ≡ is_below_zero x.now }
+{
+    *x < Fraction::zero()
+}
+
+/// Whether `x` is from 0 to 1.
+#[tactic(auto, using(crate::proofs::Comparisons::zero_and_one))]
+pub fn is_unit(x: &Fraction) -> bool
+    ensures { result ≡ is_unit (number_of x.now) }
+{
+    *x >= Fraction::zero() && *x <= Fraction::one()
+}
+
+/// Whether `x` is above 0 and at most 1.
+#[tactic(auto, using(crate::proofs::Comparisons::zero_and_one))]
+pub fn is_level_range(x: &Fraction) -> bool
+    ensures { result ≡ is_level_range x.now }
+{
+    *x > Fraction::zero() && *x <= Fraction::one()
+}
+
+/// Whether the parts are at most 10,000.
+pub fn is_short_level(x: &Fraction) -> bool
+    ensures { result ≡ is_short_level x.now }
+{
+    x.is_within(10_000)
+}
+
+/// Whether the parts are at most 10^18.
+pub fn is_short(x: &Fraction) -> bool
+    ensures { result ≡ is_short x.now }
+{
+    x.is_within(1_000_000_000_000_000_000)
+}
+
+/// Whether the denominator is at most 10^30.
+pub fn is_short_p_value(x: &Fraction) -> bool
+    ensures { result ≡ is_short_p_value x.now }
+{
+    x.ratio().den().unsigned_abs() <= 1_000_000_000_000_000_000_000_000_000_000
+}
