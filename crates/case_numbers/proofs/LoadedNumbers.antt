@@ -1,5 +1,5 @@
 -- The numbers of a case are stored as their kind stores them, with the values of the weights and of the edges.
-use Rattle.std.proofs.Common.{◌≡◌, sym, subst, ◌∙◌, true, List, [], ◌∷◌, map, Ok, arith, lit≤}
+use Rattle.std.proofs.Common.{◌≡◌, sym, subst, ◌∙◌, true, List, map, Ok, arith, lit≤}
 use Rattle.field_core.specs.Number.{Number}
 use Rattle.field_core.specs.Arithmetic.{number_zero, number_one, ◌+ε◌, ◌*ε◌}
 use Rattle.field_core.specs.Epsilon.{epsilon}
