@@ -3,6 +3,7 @@ pub mod ClosedTestLaws
 pub mod Comparisons
 pub mod Consonance
 pub mod EntryOrder
+pub mod EntryTests
 pub mod ExactSums
 pub mod ExampleOrders
 pub mod ExampleTests

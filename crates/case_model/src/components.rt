@@ -58,7 +58,13 @@ fn share_sum(components: &[DraftComponent]) -> Option<CaseFault>
     ensures { result ≡ share_sum components.now }
 {
     let above = CaseFault::ShareSum;
-    total_fault(components.len(), |c| components[c].share, 0, Place::ShareSum, above)
+    total_fault(
+        components.len(),
+        |c| components[c].share,
+        0,
+        Place::ShareSum,
+        above,
+    )
 }
 
 /// The first fault of the shares.

@@ -9,9 +9,7 @@ ghost use Rattle.case_model.specs.Tables.{are_tables};
 ghost use Rattle.case_model.specs.declared.fault.CaseFault.TheVariants.{NoMemory as OutOfMemory};
 
 use crate::component::tabled;
-use crate::components::{
-    components_fault, edges_fault, long_part, shares_fault, weights_fault,
-};
+use crate::components::{components_fault, edges_fault, long_part, shares_fault, weights_fault};
 use crate::fraction_tests::{is_level_range, is_short_level};
 use crate::names::names_fault;
 use crate::p_values::{long_p_value, p_values_fault};

@@ -74,7 +74,8 @@ impl DraftComponent {
         ensures { result ≡ self_edge c self.now }
     {
         first_fault(self.edges.as_slice(), |edge, _| {
-            edge.is_self_edge().then_some(CaseFault::SelfEdge(c, edge.from))
+            edge.is_self_edge()
+                .then_some(CaseFault::SelfEdge(c, edge.from))
         })
     }
 

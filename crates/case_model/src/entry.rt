@@ -91,10 +91,13 @@ impl Entry {
         ensures { result ≡ number_compare (entry_value self.now) (number_of other.now) }
     {
         let coefficients = &self.coefficients[..];
-        coefficients[0].cmp(other).then(first_sign(&coefficients[1..]))
+        coefficients[0]
+            .cmp(other)
+            .then(first_sign(&coefficients[1..]))
     }
 
     /// Whether the value isn't below 0, in the order of epsilon.
+    #[tactic(auto, using(crate::proofs::EntryTests::at_least_zero))]
     fn is_nonnegative(&self) -> bool
         ensures { result ≡ at_most number_zero (entry_value self.now) }
     {
@@ -102,6 +105,7 @@ impl Entry {
     }
 
     /// Whether the value is at most 1, in the order of epsilon.
+    #[tactic(auto, using(crate::proofs::EntryTests::at_most_one))]
     pub(crate) fn is_at_most_one(&self) -> bool
         ensures { result ≡ at_most (entry_value self.now) number_one }
     {
