@@ -24,6 +24,7 @@ pub enum CaseNet {
 }
 
 /// The bundle of a plain case.
+#[tactic(auto, unfolding(crate::specs::CaseRun::opening_in))]
 fn plain_bundle(alloc: Global, case: &Case) -> Result<Bundle<Net<Fraction>>, OpenFault>
     requires { CanRunIn in_fractions (content case.now) }
     ensures { Opens bundled result (opening_in in_fractions (content case.now)) }
@@ -33,6 +34,7 @@ fn plain_bundle(alloc: Global, case: &Case) -> Result<Bundle<Net<Fraction>>, Ope
 }
 
 /// The bundle of a case with epsilon.
+#[tactic(auto, unfolding(crate::specs::CaseRun::opening_in))]
 fn eps_bundle(alloc: Global, case: &Case) -> Result<Bundle<Net<EpsQuotient>>, OpenFault>
     ensures { Opens bundled result (opening_in in_quotients (content case.now)) }
 {
@@ -55,6 +57,7 @@ impl CaseNet {
     /// isn't. There each edge is loaded as the written polynomial of its coefficients.
     ///
     /// Unless memory runs out, it is `OpenFault::Wide` exactly where the written opening is undefined.
+    #[tactic(auto, unfolding(crate::specs::CaseNetView::case_state), using(crate::proofs::CaseNumbers::plain_opening, crate::proofs::CaseNumbers::other_opening))]
     pub fn load(alloc: Global, case: &Case) -> Result<CaseNet, OpenFault>
         ensures opened { Opens case_state result (case_opening (content case.now)) }
         ensures plain { IfOk result (λ n. is_of_fractions n ≡ is_plain (content case.now)) }

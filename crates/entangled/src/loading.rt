@@ -8,7 +8,7 @@ ghost use Rattle.case_numbers.specs.Numbers.{CanRunIn, loaded_weight};
 ghost use Rattle.entangled.specs.BundleRun.{AreReady};
 ghost use Rattle.entangled.specs.BundleView.{bundled};
 ghost use Rattle.entangled.specs.Bundled.{opened};
-ghost use Rattle.entangled.specs.Loading.{edge_at, loaded_edges, loaded_state, loaded_states};
+ghost use Rattle.entangled.specs.Loading.{edge_at, loaded_edges, loaded_states, state_at};
 ghost use Rattle.entangled.specs.Opening.{Opens};
 
 use crate::component_net::ComponentNet;
@@ -21,13 +21,14 @@ use removal::Remover;
 use std::alloc::Global;
 
 /// The weights of a component.
+#[tactic(auto, using(crate::proofs::Pushes::pushed, crate::proofs::Pushes::pushed_all))]
 fn weights<F: CaseNumber>(alloc: Global, case: &Case, c: usize) -> Result<List<F>, NoMemory>
     requires { c < length (content case.now).components }
     ensures { IfOk result (λ ws. map F.parts ws ≡ map (loaded_weight F.numbers) (component_at (content case.now).components c).weights) }
 {
     let mut weights = List::new(alloc);
-    for i in 0..case.size() {
-        weights.push(F::weight(&case.weight(c, i)))?;
+    for weight in case.weights(c) {
+        weights.push(F::weight(weight))?;
     }
     Ok(weights)
 }
@@ -54,6 +55,7 @@ fn write_edges<F: CaseNumber>(table: &[Entry], size: usize, edges: &mut [F]) -> 
 }
 
 /// The edges of a component, row by row. It is `OpenFault::Wide` exactly where one is undefined, unless memory runs out.
+#[tactic(auto, using(std::proofs::lemmas::List::with_items_is))]
 fn edges<F: CaseNumber>(alloc: Global, case: &Case, c: usize) -> Result<Vec<F>, OpenFault>
     requires { c < length (content case.now).components }
     ensures { Opens (λ es. map F.parts es.items) result (in_component c (loaded_edges F.numbers (length (content case.now).names) (component_at (content case.now).components c).edges)) }
@@ -65,10 +67,11 @@ fn edges<F: CaseNumber>(alloc: Global, case: &Case, c: usize) -> Result<Vec<F>, 
 }
 
 /// The net of a component.
+#[tactic(auto, using(crate::proofs::LoadSteps::state_refused))]
 fn net<N: ComponentNet>(alloc: Global, case: &Case, c: usize) -> Result<N, OpenFault>
     requires numbers { CanRunIn N.numbers (content case.now) }
     requires component { c < length (content case.now).components }
-    ensures { Opens N.state result (in_component c (loaded_state N.numbers (length (content case.now).names) (component_at (content case.now).components c))) }
+    ensures { Opens N.state result (state_at N.numbers (length (content case.now).names) (content case.now).components c) }
 {
     let weights = weights(alloc, case, c)?;
     let edges = edges(alloc, case, c)?;
@@ -76,6 +79,7 @@ fn net<N: ComponentNet>(alloc: Global, case: &Case, c: usize) -> Result<N, OpenF
 }
 
 /// The nets of a case.
+#[tactic(auto, using(crate::proofs::LoadSteps::no_states, crate::proofs::LoadSteps::next_state, crate::proofs::LoadSteps::states_refused, crate::proofs::LoadSteps::all_states))]
 pub fn nets<N: ComponentNet>(alloc: Global, case: &Case) -> Result<List<N>, OpenFault>
     requires { CanRunIn N.numbers (content case.now) }
     ensures { Opens (map N.state) result (loaded_states N.numbers (length (content case.now).names) (content case.now).components) }
