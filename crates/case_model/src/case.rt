@@ -101,6 +101,15 @@ impl Case {
         self.component(c).share
     }
 
+    /// The weights of the hypotheses in a component, each from 0 to 1.
+    pub fn weights(&self, c: usize) -> &[Fraction]
+        requires { c < length (content self.now).components }
+        ensures weights { result.now ≡ (component_at (content self.now).components c).weights }
+        ensures size { length result.now ≡ length (content self.now).names }
+    {
+        self.component(c).weights.as_slice()
+    }
+
     /// The weight of a hypothesis in a component, from 0 to 1.
     pub fn weight(&self, c: usize, i: usize) -> Fraction
         requires component { c < length (content self.now).components }

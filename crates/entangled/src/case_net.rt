@@ -1,12 +1,18 @@
-mod load;
-mod number;
-mod parts;
-mod reads;
+//! The nets of a case.
+ghost use Rattle.case_model.specs.CaseView.{content};
+ghost use Rattle.case_numbers.specs.Numbers.{CanRunIn, in_fractions, in_quotients};
+ghost use Rattle.entangled.specs.BundleView.{bundled};
+ghost use Rattle.entangled.specs.CaseRun.{opening_in};
+ghost use Rattle.entangled.specs.Opening.{Opens};
 
-use crate::Bundle;
+use crate::loading::{bundle, nets};
+use crate::{Bundle, OpenFault};
+use case_model::Case;
 use eps_quotient::EpsQuotient;
+use field_core::WideAt;
 use fraction::Fraction;
 use removal::Net;
+use std::alloc::Global;
 
 /// The nets of a case.
 #[derive(Drop)]
@@ -15,4 +21,98 @@ pub enum CaseNet {
     Plain(Bundle<Net<Fraction>>),
     /// Those of any other case.
     Eps(Bundle<Net<EpsQuotient>>),
+}
+
+/// The bundle of a plain case.
+#[tactic(auto, unfolding(crate::specs::CaseRun::opening_in))]
+fn plain_bundle(alloc: Global, case: &Case) -> Result<Bundle<Net<Fraction>>, OpenFault>
+    requires { CanRunIn in_fractions (content case.now) }
+    ensures { Opens bundled result (opening_in in_fractions (content case.now)) }
+{
+    let nets = nets(alloc, case)?;
+    bundle(alloc, case, nets)
+}
+
+/// The bundle of a case with epsilon.
+#[tactic(auto, unfolding(crate::specs::CaseRun::opening_in))]
+fn eps_bundle(alloc: Global, case: &Case) -> Result<Bundle<Net<EpsQuotient>>, OpenFault>
+    ensures { Opens bundled result (opening_in in_quotients (content case.now)) }
+{
+    let nets = nets(alloc, case)?;
+    bundle(alloc, case, nets)
+}
+
+#[tactic(auto, unfolding(crate::specs::CaseNetView::case_state, crate::specs::CaseRun::case_removal))]
+impl CaseNet {
+    ghost use Rattle.std.specs.Prelude.{◌≡◌, ◌<◌, true, IfOk, OnErr, Ok};
+    ghost use Rattle.field_core.specs.Kind.{ok_map};
+    ghost use Rattle.field_core.specs.View.{terms};
+    ghost use Rattle.case_model.specs.Content.{is_plain};
+    ghost use Rattle.case_model.specs.CaseView.{content};
+    ghost use Rattle.entangled.specs.CaseNetView.{case_state, is_of_fractions};
+    ghost use Rattle.entangled.specs.CaseRun.{case_opening, case_size, is_live_in_case, case_level, case_share, case_removal};
+    ghost use Rattle.entangled.specs.Opening.{Opens};
+
+    /// The nets of a case, with all hypotheses in: of fractions where the case is plain, and of quotients in epsilon where it
+    /// isn't. There each edge is loaded as the written polynomial of its coefficients.
+    ///
+    /// Unless memory runs out, it is `OpenFault::Wide` exactly where the written opening is undefined.
+    #[tactic(auto, unfolding(crate::specs::CaseNetView::case_state), using(crate::proofs::CaseNumbers::plain_opening, crate::proofs::CaseNumbers::other_opening))]
+    pub fn load(alloc: Global, case: &Case) -> Result<CaseNet, OpenFault>
+        ensures opened { Opens case_state result (case_opening (content case.now)) }
+        ensures plain { IfOk result (λ n. is_of_fractions n ≡ is_plain (content case.now)) }
+    {
+        if case.is_plain() {
+            let bundle = plain_bundle(alloc, case)?;
+            Ok(CaseNet::Plain(bundle))
+        } else {
+            let bundle = eps_bundle(alloc, case)?;
+            Ok(CaseNet::Eps(bundle))
+        }
+    }
+
+    /// The number of hypotheses, those removed among them.
+    pub fn size(&self) -> usize
+        ensures { result ≡ case_size (case_state self.now) }
+    {
+        match self {
+            CaseNet::Plain(bundle) => bundle.size(),
+            CaseNet::Eps(bundle) => bundle.size(),
+        }
+    }
+
+    /// Whether `k`, a position below the size, is still in.
+    pub fn is_live(&self, k: usize) -> bool
+        requires { k < case_size (case_state self.now) }
+        ensures { result ≡ is_live_in_case (case_state self.now) k }
+    {
+        match self {
+            CaseNet::Plain(bundle) => bundle.is_live(k),
+            CaseNet::Eps(bundle) => bundle.is_live(k),
+        }
+    }
+
+    /// The level of `k`, which is still in, as a fraction of alpha: the weight, with the limits for epsilon taken.
+    pub fn weight_limit(&self, k: usize) -> Fraction
+        requires { is_live_in_case (case_state self.now) k ≡ true }
+        ensures level { terms result ≡ case_level (case_state self.now) k }
+        ensures share { Ok (terms result) ≡ case_share (case_state self.now) k }
+    {
+        match self {
+            CaseNet::Plain(bundle) => bundle.weight_limit(k),
+            CaseNet::Eps(bundle) => bundle.weight_limit(k),
+        }
+    }
+
+    /// Removes `j`, which is still in, from all nets. It is `WideAt` exactly where the written removal is undefined; the nets then stay.
+    pub fn remove(&mut self, j: usize) -> Result<(), WideAt>
+        requires { is_live_in_case (case_state self.old) j ≡ true }
+        ensures value { ok_map (λ _. case_state self.new) result ≡ case_removal (case_state self.old) j }
+        ensures refused { OnErr result (case_state self.new ≡ case_state self.old) }
+    {
+        match self {
+            CaseNet::Plain(bundle) => bundle.remove(j),
+            CaseNet::Eps(bundle) => bundle.remove(j),
+        }
+    }
 }

@@ -1,0 +1,86 @@
+//! The nets of components, as they are opened.
+ghost use Rattle.std.specs.Prelude.{◌≡◌, length, map};
+ghost use Rattle.field_core.specs.Steps.{in_component};
+ghost use Rattle.case_numbers.specs.Numbers.{Numbers};
+ghost use Rattle.removal.specs.StoredGraph.{IsSquare, all_live};
+ghost use Rattle.removal.specs.ByValue.{IsSound};
+ghost use Rattle.removal.specs.NetView.{present_of};
+ghost use Rattle.entangled.specs.Opening.{Opens};
+ghost use Rattle.entangled.specs.States.{state_in, gathered_in};
+
+use crate::OpenFault;
+use case_numbers::CaseNumber;
+use eps_quotient::EpsQuotient;
+use fraction::Fraction;
+use removal::Net;
+use std::alloc::Global;
+
+/// A net that a component of a case is run in.
+pub trait ComponentNet: Drop {
+    type Value: CaseNumber;
+
+    /// Which numbers its values are.
+    ghost numbers: { Numbers };
+
+    /// Its state, as the nets of these numbers have it.
+    ghost state: { Self → state_in numbers };
+
+    /// All hypotheses are in, with these weights and edges, and nothing is prepared. There are at most 64 hypotheses, a
+    /// weight and a row of edges for each, and they are a valid graph. A refusal is told at the component.
+    fn open(
+        alloc: Global,
+        component: usize,
+        weights: &[Self::Value],
+        edges: &[Self::Value],
+    ) -> Result<Self, OpenFault>
+        requires square { IsSquare (length weights.now) (length weights.now) (length edges.now) }
+        requires sound { IsSound Self.Value.kind (all_live (map Self.Value.parts weights.now) (map Self.Value.parts edges.now)) }
+        ensures { Opens state result (in_component component (gathered_in numbers (all_live (map Self.Value.parts weights.now) (map Self.Value.parts edges.now)))) };
+
+    /// Its values are those numbers.
+    ghost numbers_are: { Self.Value.numbers ≡ numbers };
+}
+
+impl ComponentNet for Net<Fraction> {
+    ghost use Rattle.std.specs.Prelude.{refl};
+    ghost use Rattle.case_numbers.specs.Numbers.{in_fractions};
+
+    type Value = Fraction;
+
+    ghost numbers = { in_fractions };
+
+    ghost state = { present_of };
+
+    fn open(
+        alloc: Global,
+        _: usize,
+        weights: &[Fraction],
+        edges: &[Fraction],
+    ) -> Result<Net<Fraction>, OpenFault> {
+        Ok(Net::try_new(alloc, weights, edges)?)
+    }
+
+    ghost numbers_are = { refl };
+}
+
+impl ComponentNet for Net<EpsQuotient> {
+    ghost use Rattle.std.specs.Prelude.{refl};
+    ghost use Rattle.case_numbers.specs.Numbers.{in_quotients};
+
+    type Value = EpsQuotient;
+
+    ghost numbers = { in_quotients };
+
+    ghost state = { present_of };
+
+    fn open(
+        alloc: Global,
+        _: usize,
+        weights: &[EpsQuotient],
+        edges: &[EpsQuotient],
+    ) -> Result<Net<EpsQuotient>, OpenFault> {
+        Ok(Net::try_new(alloc, weights, edges)?)
+    }
+
+    ghost numbers_are = { refl };
+}
