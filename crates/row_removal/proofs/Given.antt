@@ -5,10 +5,9 @@ use Rattle.field_core.proofs.RemovalLaws.{same_or_not}
 use Rattle.field_core.specs.declared.place.Op.TheVariants.{Mul}
 use Rattle.field_core.specs.declared.place.Place.{Place}
 use Rattle.field_core.specs.declared.place.Wide.{Wide}
-use Rattle.field_core.specs.Kind.{Parts}
 use Rattle.field_core.specs.Sized.{sized, gcd_of}
 use Rattle.field_core.specs.Steps.{at, ◌>>=◌}
-use Rattle.removal.specs.StoredGraph.{StoredGraph, IsSquare, size, weight, edge, all_live}
+use Rattle.removal.specs.StoredGraph.{StoredGraph, IsSquare, size, weight, all_live}
 use Rattle.removal.specs.ByValue.{AreStored}
 use Rattle.removal.specs.Laws.Seen.{edge_apart, edge_itself}
 use Rattle.removal.proofs.Opening.{size-all_live}
@@ -22,7 +21,7 @@ use Rattle.eps_quotient.specs.Laws.Exact.{zero_stored}
 use Rattle.eps_quotient.specs.declared.quotient.EpsQuotient.{EpsQuotient}
 use Rattle.row_removal.specs.Gathering.{HasConstants, given, with_denominator, common_below}
 use Rattle.row_removal.specs.GivenView.{graph_given}
-use Rattle.row_removal.specs.Laws.GatheringLaws.{IsNext, next_is}
+use Rattle.row_removal.specs.Laws.GatheringLaws.{next_is}
 
 last : (l n : ℕ) → l < suc n → (l ≡ n) ⊎ (l < n)
 last l n h = grind arith

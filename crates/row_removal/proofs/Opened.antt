@@ -1,9 +1,9 @@
 -- The gathered rows are those of a net.
-use Rattle.std.proofs.Common.{◌≡◌, refl, sym, ap, subst, ◌∙◌, ℕ, true, List, length, replicate, Result, Ok, All, arith}
+use Rattle.std.proofs.Common.{◌≡◌, sym, ap, subst, ◌∙◌, ℕ, true, List, length, replicate, Result, Ok, arith}
 use Rattle.std.proofs.lemmas.List.{length-replicate, length-map, get_or-replicate}
 use Rattle.std.proofs.lemmas.List.Elements.{All-from_get_or}
 use Rattle.field_core.specs.declared.place.Wide.{Wide}
-use Rattle.removal.specs.StoredGraph.{IsSquare, size, all_live, AreAllLive}
+use Rattle.removal.specs.StoredGraph.{IsSquare, all_live, AreAllLive}
 use Rattle.removal.specs.ByValue.{graph_of, IsSound}
 use Rattle.removal.proofs.Opening.{are_all_live}
 use Rattle.eps_poly.specs.Polynomials.{zero_polynomial}

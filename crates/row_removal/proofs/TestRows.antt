@@ -1,5 +1,5 @@
 -- The graphs that the tests remove from are valid.
-use Rattle.std.proofs.Common.{◌≡◌, ◌≢◌, refl, sym, ap, ap₂, subst, ◌∙◌, ℕ, zero, suc, ◌+◌, ◌*◌, ◌==◌, ◌<◌, Bool, true, false, if◌then◌else◌, List, [], ◌∷◌, ℤ, pos, negsuc, map, get_or, length, replicate, All, ◌&&◌, not, arith}
+use Rattle.std.proofs.Common.{◌≡◌, ◌≢◌, refl, sym, ap, ap₂, ◌∙◌, ℕ, zero, suc, ◌+◌, ◌*◌, ◌==◌, ◌<◌, Bool, true, false, if◌then◌else◌, List, [], ◌∷◌, ℤ, pos, negsuc, map, get_or, length, replicate, All, ◌&&◌, not, arith}
 use Rattle.std.proofs.lemmas.List.{length-map}
 use Rattle.std.proofs.lemmas.List.Elements.{All-head, All-tail}
 use mathlib.Core.Path.{fun_ext}
@@ -9,12 +9,12 @@ use Rattle.field_core.specs.Number.{Number, of_pair}
 use Rattle.field_core.specs.Arithmetic.{number_zero, number_one, ◌+ε◌, ◌*ε◌, number_negate, number_sign}
 use Rattle.field_core.specs.Epsilon.{epsilon}
 use Rattle.field_core.specs.Exact.{value_of}
-use Rattle.field_core.specs.Fractions.{quotient, fraction}
+use Rattle.field_core.specs.Fractions.{fraction}
 use Rattle.field_core.specs.Graph.{Graph}
 use Rattle.field_core.specs.Polynomial.{poly_add, poly_negate, poly_multiply, poly_scale, lowest, or_else, int_sign}
 use Rattle.field_core.specs.Pairs.{pair_add, pair_multiply, pair_negate, pair_sign}
 use Rattle.field_core.specs.Laws.Lift.{lift₁, lift₂}
-use Rattle.field_core.specs.Laws.FractionLaws.{quotient-pair, constant_nonzero}
+use Rattle.field_core.specs.Laws.FractionLaws.{quotient-pair}
 use Rattle.field_core.specs.Laws.PolynomialLaws.{nonzero-one}
 use Rattle.field_core.specs.Laws.Order.{number_multiply_zero}
 use Rattle.field_core.specs.Laws.NumberLaws.{number_add_zero}

@@ -1,5 +1,5 @@
 -- What is written of a row is proper before it is cleared.
-use Rattle.std.proofs.Common.{◌≡◌, sym, subst, ◌∙◌, ℕ, ◌<◌, List, ℤ, Bool, false, length, Ok}
+use Rattle.std.proofs.Common.{◌≡◌, sym, subst, ℕ, ◌<◌, List, ℤ, false, length, Ok}
 use Rattle.std.specs.List.{list_all}
 use Rattle.field_core.specs.Kind.{is_zero_integer}
 use Rattle.field_core.specs.Steps.{each_below}

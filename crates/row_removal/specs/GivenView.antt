@@ -1,5 +1,5 @@
 -- The graph of quotients that rows are gathered from.
-use Rattle.std.specs.Prelude.{◌≡◌, List, length, map}
+use Rattle.std.specs.Prelude.{List, length, map}
 use Rattle.removal.specs.StoredGraph.{StoredGraph, IsSquare, all_live}
 use Rattle.eps_quotient.specs.View.{quotient_parts}
 use Rattle.eps_quotient.specs.declared.quotient.EpsQuotient.{EpsQuotient}

@@ -1,5 +1,5 @@
 -- The graph of proper rows: its weights and edges are the stored quotients of the rows, and have their numbers.
-use Rattle.std.proofs.Common.{◌≡◌, ◌≢◌, inl, inr, refl, sym, ap, subst, ◌∙◌, ℕ, zero, suc, ◌+◌, ◌*◌, ◌<◌, List, [], ◌∷◌, ◌++◌, get_or, map, length, length-append, All, arith}
+use Rattle.std.proofs.Common.{◌≡◌, ◌≢◌, inl, inr, sym, ap, subst, ◌∙◌, ℕ, zero, suc, ◌+◌, ◌*◌, ◌<◌, List, [], ◌∷◌, ◌++◌, get_or, length, length-append, arith}
 use Rattle.std.specs.List.{flat_map}
 use Rattle.std.proofs.lemmas.List.{get_or-map, length-map, get_or-append-add}
 use Rattle.std.proofs.Math.ListN.{get_or-append}
@@ -7,7 +7,7 @@ use Rattle.std.proofs.lemmas.List.Elements.{All-get_or}
 use Rattle.field_core.proofs.RemovalLaws.{same_or_not}
 use Rattle.field_core.specs.Kind.{Parts}
 use Rattle.field_core.specs.Exact.{value_of}
-use Rattle.removal.specs.StoredGraph.{StoredGraph, IsSquare, size, weight, edge}
+use Rattle.removal.specs.StoredGraph.{IsSquare, size, weight, edge}
 use Rattle.removal.specs.ByValue.{AreStored}
 use Rattle.removal.specs.Laws.Seen.{edge_apart, edge_itself}
 use Rattle.eps_poly.specs.Polynomials.{zero_polynomial}

@@ -1,5 +1,5 @@
 -- What a written removal from rows that isn't refused did, and the numbers of the new rows.
-use Rattle.std.proofs.Common.{◌≡◌, ◌≢◌, refl, sym, ap, subst, cond, ◌∙◌, ℕ, ◌<◌, ◌||◌, ◌==◌, inl, inr, Bool, true, false, if◌then◌else◌, List, get_or, set, replicate, length, ℤ, pos, Option, Some, Result, Ok, All, arith, length-set}
+use Rattle.std.proofs.Common.{◌≡◌, refl, sym, ap, subst, ◌∙◌, ℕ, ◌<◌, ◌||◌, ◌==◌, inl, inr, true, false, List, set, replicate, length, ℤ, pos, Option, Some, Ok, arith, length-set}
 use Rattle.std.specs.List.{list_all}
 use Rattle.std.proofs.lemmas.List.{get_or-replicate, length-replicate}
 use Rattle.std.proofs.lemmas.List.Elements.{All-get_or, All-from_get_or}
@@ -7,7 +7,6 @@ use Rattle.field_core.specs.declared.place.Op.{Op}
 use Rattle.field_core.specs.declared.place.Op.TheVariants.{Add, Sub, Mul}
 use Rattle.field_core.specs.declared.place.Place.{Place}
 use Rattle.field_core.specs.declared.place.Place.TheVariants.{Weight, Loss, Edge}
-use Rattle.field_core.specs.declared.place.Wide.{Wide}
 use Rattle.field_core.proofs.Live.{true_or_false}
 use Rattle.field_core.specs.Kind.{is_zero_integer}
 use Rattle.field_core.specs.Number.{Number}
@@ -16,7 +15,7 @@ use Rattle.field_core.specs.Fractions.{quotient}
 use Rattle.field_core.specs.Laws.Order.{number_divide_is, number_multiply_zero}
 use Rattle.field_core.specs.Laws.NumberLaws.{number_invert_zero}
 use Rattle.field_core.specs.Laws.PolynomialLaws.{nonzero-multiply}
-use Rattle.field_core.specs.Polynomial.{lowest, Same, poly_add, poly_multiply, poly_negate, IsNonZero}
+use Rattle.field_core.specs.Polynomial.{lowest, Same, poly_add, poly_negate, IsNonZero}
 use Rattle.field_core.specs.Steps.{at, each_below, ◌>>=◌}
 use Rattle.removal.specs.WrittenRemoval.{is_gone}
 use Rattle.field_core.specs.Laws.Prefixes.{bind_ok, at_ok, step_ok, ok_same, each_length, each_get}

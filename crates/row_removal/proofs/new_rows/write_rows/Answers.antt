@@ -1,6 +1,4 @@
-use Rattle.std.proofs.Common.{◌≡◌, ◌<◌, sym, ap, ◌∙◌, arith, rules, Err}
-use Rattle.std.specs.Result.{is_ok}
-use Rattle.field_core.specs.Kind.{ok_map}
+use Rattle.std.proofs.Common.{◌≡◌, arith, rules, Err}
 use Rattle.field_core.proofs.Fills.{filled_to, filled_until}
 use Rattle.row_removal.proofs.new_rows.write_rows.Goals as goal
 

@@ -1,9 +1,5 @@
-use Rattle.std.proofs.Common.{◌≡◌, sym, ap, ◌∙◌, length, Ok, Result}
-use Rattle.field_core.specs.declared.place.Wide.{Wide}
+use Rattle.std.proofs.Common.{sym, ap, ◌∙◌, length}
 use Rattle.row_removal.specs.StoredRow.{StoredRow}
-use Rattle.row_removal.specs.StoredRows.{StoredRows, rows_size}
-use Rattle.row_removal.specs.Gathering.{gathered}
-use Rattle.row_removal.specs.GivenView.{graph_given}
 use Rattle.row_removal.specs.RowNetView.{present_rows}
 use Rattle.row_removal.proofs.Given.{size_given}
 use Rattle.row_removal.proofs.Opened.{zero_count, zeros_live, zeros_room, rows_proper, rows_count, rows_sound, rows_value, rows_live}
