@@ -2,7 +2,7 @@
 use crate::{ExprFault, print_entry, read_entry};
 use case_model::Entry;
 use field_core::List;
-use fraction::Fraction;
+use fraction::{Fraction, FractionFault};
 use std::alloc::Global;
 use std::process::Abort;
 use std::test::Fail;
@@ -10,41 +10,33 @@ use std::test::Fail;
 /// A fraction by its two parts.
 type Parts = (i128, i128);
 
-fn parts(x: &Fraction) -> Parts {
-    (x.ratio().num(), x.ratio().den())
+/// The coefficient of a power, 0 past the last.
+fn coefficient(coefficients: &[Parts], power: usize) -> Result<Fraction, FractionFault> {
+    let (num, den) = coefficients.get(power).copied().unwrap_or((0, 1));
+    Fraction::new(num, den)
 }
 
-fn coefficients(entry: &Entry) -> [Parts; 5] {
-    [
-        parts(&entry.coefficient(0)),
-        parts(&entry.coefficient(1)),
-        parts(&entry.coefficient(2)),
-        parts(&entry.coefficient(3)),
-        parts(&entry.coefficient(4)),
-    ]
+/// The entry with these coefficients, of which those past the last are 0.
+fn entry(coefficients: &[Parts]) -> Result<Entry, FractionFault> {
+    Ok(Entry::new([
+        coefficient(coefficients, 0)?,
+        coefficient(coefficients, 1)?,
+        coefficient(coefficients, 2)?,
+        coefficient(coefficients, 3)?,
+        coefficient(coefficients, 4)?,
+    ]))
 }
 
-/// The coefficients of the entry that a text is read as.
-fn reading(text: &[u8]) -> Result<[Parts; 5], ExprFault> {
-    match read_entry(text) {
-        Ok(entry) => Ok(coefficients(&entry)),
-        Err(fault) => Err(fault),
-    }
-}
-
-/// The text is an expression of these coefficients, of which those past the last are 0.
-fn expect_entry(rt: &impl Abort, text: &str, expected: &[Parts]) {
-    let mut all = [(0, 1); 5];
-    for (power, coefficient) in expected.iter().enumerate().take(5) {
-        all[power] = *coefficient;
-    }
-    assert_eq!(rt; reading(text.as_bytes()), Ok(all), "{text}");
+/// The text is an expression of these coefficients.
+fn expect_entry(rt: &impl Abort, text: &str, coefficients: &[Parts]) {
+    let expected = entry(coefficients).expect(rt, "a fraction");
+    assert_eq!(rt; read_entry(text.as_bytes()), Ok(expected), "{text}");
 }
 
 /// Each text has this fault.
 fn expect_faults(rt: &impl Abort, texts: &[&str], fault: ExprFault) {
     for text in texts {
-        assert_eq!(rt; reading(text.as_bytes()), Err(fault), "{text}");
+        assert_eq!(rt; read_entry(text.as_bytes()), Err(fault), "{text}");
     }
 }
 
@@ -208,14 +200,13 @@ fn nested(rt: &impl Abort, alloc: Global, depth: usize, inner: &str) -> List<u8>
 fn parentheses_nest_32_deep(rt: HostRuntime) {
     let alloc = rt.alloc();
     let deep = nested(&rt, alloc, 32, "1/2");
-    let half = [(1, 2), (0, 1), (0, 1), (0, 1), (0, 1)];
-    assert_eq!(&rt; reading(deep.as_slice()), Ok(half));
+    assert_eq!(&rt; read_entry(deep.as_slice()).ok(), entry(&[(1, 2)]).ok());
     let deeper = nested(&rt, alloc, 33, "1/2");
-    assert_eq!(&rt; reading(deeper.as_slice()), Err(ExprFault::Depth));
+    assert_eq!(&rt; read_entry(deeper.as_slice()), Err(ExprFault::Depth));
     let bad = nested(&rt, alloc, 33, "1/0 5");
-    assert_eq!(&rt; reading(bad.as_slice()), Err(ExprFault::Depth));
+    assert_eq!(&rt; read_entry(bad.as_slice()), Err(ExprFault::Depth));
     let bad = nested(&rt, alloc, 32, "*(");
-    assert_eq!(&rt; reading(bad.as_slice()), Err(ExprFault::BadByte(32)));
+    assert_eq!(&rt; read_entry(bad.as_slice()), Err(ExprFault::BadByte(32)));
 }
 
 /// The entry of an expression is printed so.

@@ -96,7 +96,7 @@ pub fn given(alloc: Global, line: &Line, words: Words) -> Result<List<Option<Fra
     ensures fault { IfErr result (IsOnLine line.now.number (IsGivenFault (words_of words.entry))) }
 {
     let values = numbers(alloc, line, words)?;
-    if values.as_slice().is_empty() {
+    if values.is_empty() {
         return Err(TextFault::Line(line.number, LineKind::WordCount));
     }
     Ok(filled(alloc, values.as_slice())?)
