@@ -15,4 +15,4 @@ returns-clause-defined c =
     never_wide case c.args.priority c.in_ok-steps.steps (trial c.run.new.current) (c.in_ok-steps.ensures.run case c.in_ok-current.ensures.trial)
 
 pub returns-clause-closed : goal.returns-clause-closed
-returns-clause-closed c = decision_decides (content c.args.case.now) c.args.priority _ c.args.case.now.valid _ (returns-clause-value c)
+returns-clause-closed c = λ j. decision_decides (content c.args.case.now) c.args.priority _ c.args.case.now.valid j (returns-clause-value c)
