@@ -16,6 +16,7 @@ pub mod LegalSteps
 pub mod NamePlaces
 pub mod NoFaults
 pub mod OrderExistence
+pub mod Places
 pub mod PlainEntries
 pub mod PriorityOrders
 pub mod RejectionOrders
