@@ -2,6 +2,9 @@
 """Writes the cases of the benchmark into a folder.
 
 full-64.txt    64 hypotheses of weight 1/64, with an edge of 1/63 from each to each other; all are rejected
+parallel-N.txt improved parallel gatekeeping with N primary and N secondary hypotheses: each primary one has weight 1/N
+               and passes 1/N to each secondary one; each secondary one passes (1-\\epsilon)/(N-1) to each other
+               secondary one, and \\epsilon to one primary one; all are rejected
 lines-N.txt    N MiB of comments, blank lines and edge lines, behind a case whose last lines they are
 """
 import sys
@@ -18,6 +21,19 @@ def full(count):
     return "\n".join(lines) + "\n"
 
 
+def improved_parallel(count):
+    first = [f"H{i + 1}" for i in range(count)]
+    second = [f"H{count + i + 1}" for i in range(count)]
+    lines = ["alpha 0.05", "hypotheses " + " ".join(first + second)]
+    lines.append("p " + " ".join(f"{i + 1}/100000" for i in range(2 * count)))
+    lines.append("weights " + " ".join([f"1/{count}"] * count + ["0"] * count))
+    lines += [f"edge {a} {b} 1/{count}" for a in first for b in second]
+    for at, name in enumerate(second):
+        lines.append(f"edge {name} {first[at]} \\epsilon")
+        lines += [f"edge {name} {other} (1-\\epsilon)/{count - 1}" for other in second if other != name]
+    return "\n".join(lines) + "\n"
+
+
 def padded(size):
     """A case of 64 hypotheses: its edges, with a comment and a blank line behind each, and comments up to the size."""
     head, *edges = full(64).split("\nedge ")
@@ -29,6 +45,9 @@ def padded(size):
 folder = sys.argv[1]
 with open(f"{folder}/full-64.txt", "w") as file:
     file.write(full(64))
+for count in (8, 32):
+    with open(f"{folder}/parallel-{count}.txt", "w") as file:
+        file.write(improved_parallel(count))
 for mib in (1, 2, 4):
     with open(f"{folder}/lines-{mib}.txt", "w") as file:
         file.write(padded(mib * MIB))

@@ -1,15 +1,18 @@
 #!/bin/sh
-# Times the program on generated cases, and the same decision in C++ beside it. Prints a table; nothing of it is a gate.
+# Measures the program on generated cases, and the same decision in C++ beside it where it can read the case. Prints two
+# tables: the least of five times, and the instructions that valgrind counts, which repeat. Nothing of it is a gate.
 set -eu
 here=$(cd "$(dirname "$0")" && pwd)
 out=$here/out
 mkdir -p "$out"
 python3 "$here/cases.py" "$out"
 g++ -O2 -o "$out/decide" "$here/decide.cpp"
-program=$here/../welungad
-"$program" test <"$here/../examples/two-hypotheses.txt" >/dev/null
+"$here/../welungad" test <"$here/../examples/two-hypotheses.txt" >/dev/null
+program=$here/../crates/welungad/out/welungad
+plain='full-64 lines-1 lines-2 lines-4'
+all="$plain parallel-8 parallel-32"
 
-# the least of five times, in milliseconds
+# the least of five times, in microseconds
 least() {
     file=$1
     shift
@@ -21,16 +24,42 @@ least() {
     done | sort -n | head -1
 }
 
-row() {
-    ours=$(least "$out/$1" "$program" test)
-    "$program" test <"$out/$1" >"$out/ours"
-    theirs=$(least "$out/$1" "$out/decide")
-    "$out/decide" <"$out/$1" >"$out/theirs"
-    same=no
-    cmp -s "$out/ours" "$out/theirs" && same=yes
-    awk -v name="$1" -v a="$ours" -v b="$theirs" -v same="$same" 'BEGIN { printf "%-14s %10.1f %10.1f %8.2f   %s\n", name, a / 1000, b / 1000, a / b, same }'
+# instructions, in millions
+counted() {
+    file=$1
+    shift
+    valgrind --tool=callgrind --callgrind-out-file=/dev/null "$@" <"$file" 2>&1 >/dev/null |
+        awk '/Collected/ { printf "%.1f\n", $4 / 1000000 }'
 }
 
-printf '%-14s %10s %10s %8s   %s\n' case 'ours, ms' 'C++, ms' ratio 'same text'
-row full-64.txt
-for mib in 1 2 4; do row lines-$mib.txt; done
+# whether both print the same
+same() {
+    "$program" test <"$out/$1.txt" >"$out/ours"
+    "$out/decide" <"$out/$1.txt" >"$out/theirs"
+    if cmp -s "$out/ours" "$out/theirs"; then echo yes; else echo no; fi
+}
+
+is_plain() {
+    case " $plain " in *" $1 "*) true ;; *) false ;; esac
+}
+
+table() {
+    measure=$1
+    printf '%-14s %12s %12s %8s   %s\n' "$2" ours C++ ratio 'same text'
+    for name in $all; do
+        ours=$($measure "$out/$name.txt" "$program" test)
+        if is_plain "$name"; then
+            theirs=$($measure "$out/$name.txt" "$out/decide")
+            awk -v n="$name" -v a="$ours" -v b="$theirs" -v s="$(same "$name")" -v u="$3" \
+                'BEGIN { printf "%-14s %12.1f %12.1f %8.2f   %s\n", n, a / u, b / u, a / b, s }'
+        else
+            awk -v n="$name" -v a="$ours" -v u="$3" 'BEGIN { printf "%-14s %12.1f\n", n, a / u }'
+        fi
+    done
+}
+
+table least milliseconds 1000
+if command -v valgrind >/dev/null; then
+    echo
+    table counted 'million instr.' 1
+fi

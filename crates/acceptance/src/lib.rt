@@ -10,6 +10,8 @@ mod graphs;
 #[cfg(test)]
 mod orders;
 #[cfg(test)]
+mod priorities;
+#[cfg(test)]
 mod refused;
 #[cfg(test)]
 mod runs;

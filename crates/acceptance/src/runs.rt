@@ -28,7 +28,7 @@ fn words_of(alloc: Global, words: &[&str]) -> Result<Vec<String>, NoMemory> {
     Ok(copies)
 }
 
-/// Runs the program, and answers the status. The other source, which no command reads yet, fails at its first take.
+/// Runs the program, and answers the status. The other source, which no command of these tests reads, fails at its first take.
 pub fn status_of<S: Source, W: Sink>(
     alloc: Global,
     words: &[&str],

@@ -1,39 +1,338 @@
-//! Words that aren't accepted.
-use crate::runs::{TIE, list_of, status_of};
-use graph_io::{Failed, FailingSource, MemorySink, Source};
+//! Lists of words, and what the program answers to each.
+use crate::runs::{TIE, TIE_DECIDED, list_of, status_of};
+use field_core::NoMemory;
+use graph_io::{Failed, FailingSource, MemorySink, MemorySource, Source};
+use std::alloc::Global;
+use std::process::Abort;
 use std::test::Fail;
 
-/// Words, and what is printed of them.
-const REFUSED: [(&[&str], &str); 14] = [
+/// Words, and the number, from 1, of the first at which the reading fails.
+type Row<'a> = (&'a [&'a str], &'a str);
+
+/// No command stands first.
+const NO_COMMAND: [Row; 21] = [
     (&[], "usage: word 1\n"),
     (&[""], "usage: word 1\n"),
     (&["tests"], "usage: word 1\n"),
     (&["tes"], "usage: word 1\n"),
     (&["Test"], "usage: word 1\n"),
     (&["test "], "usage: word 1\n"),
-    (&["help"], "usage: word 1\n"),
     (&["--help"], "usage: word 1\n"),
-    (&["help", "test"], "usage: word 1\n"),
+    (&["-help"], "usage: word 1\n"),
+    (&["--test"], "usage: word 1\n"),
     (&["", "test"], "usage: word 1\n"),
+    (&["--form", "text", "test"], "usage: word 1\n"),
+    (&["--form=text", "test"], "usage: word 1\n"),
+    // Commands that don't run yet.
+    (&["weights"], "usage: word 1\n"),
+    (&["bounds", "--form", "text"], "usage: word 1\n"),
+    (&["evidence"], "usage: word 1\n"),
+    (&["check", "proof.txt"], "usage: word 1\n"),
+    (&["stages", "--form", "csv"], "usage: word 1\n"),
+    (&["canon", "--to", "json"], "usage: word 1\n"),
+    (&["catalogue", "holm", "--size", "3"], "usage: word 1\n"),
+    (
+        &["sample", "--size", "2", "--seed", "1"],
+        "usage: word 1\n",
+    ),
+    (&["study", "looks.txt"], "usage: word 1\n"),
+];
+
+/// A word without a name stands where none may.
+const BARE: [Row; 14] = [
     (&["test", "test"], "usage: word 2\n"),
     (&["test", ""], "usage: word 2\n"),
     (&["test", "-"], "usage: word 2\n"),
-    (&["test", "--x", "y"], "usage: word 2\n"),
+    (&["test", "text"], "usage: word 2\n"),
+    (&["test", "form=text"], "usage: word 2\n"),
+    (&["test", "-form", "text"], "usage: word 2\n"),
+    (&["test", "--form", "text", "text"], "usage: word 4\n"),
+    (&["test", "--form=text", "csv"], "usage: word 3\n"),
+    (&["help", "test"], "usage: word 2\n"),
+    (&["help", ""], "usage: word 2\n"),
+    (&["help", "help"], "usage: word 2\n"),
+    // Before what is missing, and before what is forbidden.
+    (&["test", "--form", "csv", "x"], "usage: word 4\n"),
+    (&["test", "--alpha", "0.05", "x"], "usage: word 4\n"),
+    (
+        &["test", "--form", "csv", "--alpha", "0.05", "x"],
+        "usage: word 6\n",
+    ),
 ];
 
-/// The first take of the case is to fail, and it isn't made by the run.
+/// An option that the command doesn't take.
+const UNKNOWN_OPTIONS: [Row; 19] = [
+    (&["test", "--x", "y"], "usage: word 2\n"),
+    (&["test", "--"], "usage: word 2\n"),
+    (&["test", "--="], "usage: word 2\n"),
+    (&["test", "--=text"], "usage: word 2\n"),
+    (&["test", "--Form", "text"], "usage: word 2\n"),
+    (&["test", "--forms=text"], "usage: word 2\n"),
+    (&["test", "--for", "text"], "usage: word 2\n"),
+    (&["test", "--form ", "text"], "usage: word 2\n"),
+    (&["test", "---form", "text"], "usage: word 2\n"),
+    (&["test", "--to", "json"], "usage: word 2\n"),
+    (&["test", "--size=3"], "usage: word 2\n"),
+    (&["test", "--seed", "1"], "usage: word 2\n"),
+    (&["test", "--second=2"], "usage: word 2\n"),
+    (
+        &["test", "--form", "text", "--to", "csv"],
+        "usage: word 4\n",
+    ),
+    (&["test", "--form=text", "--size", "1"], "usage: word 3\n"),
+    (&["help", "--form", "text"], "usage: word 2\n"),
+    (&["help", "--form=text"], "usage: word 2\n"),
+    (&["help", "--alpha", "1"], "usage: word 2\n"),
+    (&["help", "--help"], "usage: word 2\n"),
+];
+
+/// A value that is unknown. The word behind the name of an option is its value, whatever it begins with.
+const UNKNOWN_VALUES: [Row; 21] = [
+    (&["test", "--form", "xml"], "usage: word 3\n"),
+    (&["test", "--form=xml"], "usage: word 2\n"),
+    (&["test", "--form", "Text"], "usage: word 3\n"),
+    (&["test", "--form", ""], "usage: word 3\n"),
+    (&["test", "--form="], "usage: word 2\n"),
+    (&["test", "--form==text"], "usage: word 2\n"),
+    (&["test", "--form", "text "], "usage: word 3\n"),
+    (&["test", "--form", "--priority"], "usage: word 3\n"),
+    (&["test", "--form", "--form=text"], "usage: word 3\n"),
+    (&["test", "--priority", "middle"], "usage: word 3\n"),
+    (&["test", "--priority=FIRST"], "usage: word 2\n"),
+    (&["test", "--priority", "first,last"], "usage: word 3\n"),
+    (
+        &["test", "--form", "csv", "--alpha", "x"],
+        "usage: word 5\n",
+    ),
+    (&["test", "--form", "csv", "--alpha="], "usage: word 4\n"),
+    (
+        &["test", "--alpha", "1/0", "--form", "csv"],
+        "usage: word 3\n",
+    ),
+    (&["test", "--form=csv", "--alpha=0.05%"], "usage: word 3\n"),
+    (
+        &["test", "--form", "csv", "--alpha", " 0.05"],
+        "usage: word 5\n",
+    ),
+    (&["test", "--alpha", "--form=csv"], "usage: word 3\n"),
+    // The first of two.
+    (
+        &["test", "--form", "xml", "--priority", "middle"],
+        "usage: word 3\n",
+    ),
+    (
+        &["test", "--priority=middle", "--form=xml"],
+        "usage: word 2\n",
+    ),
+    (
+        &["test", "--priority", "last", "--form=xml"],
+        "usage: word 4\n",
+    ),
+];
+
+/// No word stands where a value must.
+const MISSING_VALUES: [Row; 7] = [
+    (&["test", "--form"], "usage: word 3\n"),
+    (&["test", "--priority"], "usage: word 3\n"),
+    (&["test", "--alpha"], "usage: word 3\n"),
+    (&["test", "--form", "text", "--priority"], "usage: word 5\n"),
+    (&["test", "--form=text", "--priority"], "usage: word 4\n"),
+    (&["test", "--form", "csv", "--alpha"], "usage: word 5\n"),
+    (&["help", "--form"], "usage: word 2\n"),
+];
+
+/// An option comes again. The second name fails, whatever its value is.
+const TWICE: [Row; 8] = [
+    (
+        &["test", "--form", "text", "--form", "text"],
+        "usage: word 4\n",
+    ),
+    (
+        &["test", "--form", "text", "--form=csv"],
+        "usage: word 4\n",
+    ),
+    (&["test", "--form=text", "--form", "xml"], "usage: word 3\n"),
+    (&["test", "--form=text", "--form=xml"], "usage: word 3\n"),
+    (&["test", "--form", "text", "--form"], "usage: word 4\n"),
+    (
+        &["test", "--priority=first", "--priority=last"],
+        "usage: word 3\n",
+    ),
+    (
+        &["test", "--alpha", "1", "--alpha=1", "--form", "csv"],
+        "usage: word 4\n",
+    ),
+    (
+        &["test", "--form", "csv", "--alpha", "1", "--form", "text"],
+        "usage: word 6\n",
+    ),
+];
+
+/// A sheet needs its level, which is missing behind the last word.
+const MISSING: [Row; 5] = [
+    (&["test", "--form", "csv"], "usage: word 4\n"),
+    (&["test", "--form=csv"], "usage: word 3\n"),
+    (
+        &["test", "--priority", "last", "--form", "csv"],
+        "usage: word 6\n",
+    ),
+    (
+        &["test", "--form=csv", "--priority=ratio"],
+        "usage: word 4\n",
+    ),
+    (
+        &["test", "--form", "csv", "--priority=ratio"],
+        "usage: word 5\n",
+    ),
+];
+
+/// The other forms say their level.
+const FORBIDDEN: [Row; 9] = [
+    (&["test", "--alpha", "0.05"], "usage: word 2\n"),
+    (&["test", "--alpha=0.05"], "usage: word 2\n"),
+    (
+        &["test", "--form", "text", "--alpha", "0.05"],
+        "usage: word 4\n",
+    ),
+    (
+        &["test", "--alpha", "0.05", "--form", "text"],
+        "usage: word 2\n",
+    ),
+    (
+        &["test", "--form=json", "--alpha=0.05"],
+        "usage: word 3\n",
+    ),
+    (
+        &["test", "--form", "json", "--alpha", "1"],
+        "usage: word 4\n",
+    ),
+    (
+        &["test", "--priority=last", "--alpha", "0.05"],
+        "usage: word 3\n",
+    ),
+    (
+        &["test", "--priority", "last", "--alpha=0.05"],
+        "usage: word 4\n",
+    ),
+    (
+        &[
+            "test",
+            "--alpha",
+            "0.05",
+            "--priority",
+            "last",
+            "--form",
+            "json",
+        ],
+        "usage: word 2\n",
+    ),
+];
+
+/// The words are refused. The first take of the case is to fail, and it isn't made by the run.
+fn expect_refused(
+    rt: &impl Abort,
+    alloc: Global,
+    words: &[&str],
+    printed: &str,
+) -> Result<(), NoMemory> {
+    let bytes = list_of(alloc, TIE.as_bytes())?;
+    let mut case = FailingSource::new(bytes, 4, list_of(alloc, &[1])?);
+    let mut out = MemorySink::with_room(alloc, 4096)?;
+    let status = status_of(alloc, words, &mut case, &mut out)?;
+    assert_eq!(rt; out.held(), printed.as_bytes(), "{words:?}");
+    assert_eq!(rt; status, 2, "{words:?}");
+    assert_eq!(rt; case.take(&mut [0; 4]), Err(Failed), "{words:?}");
+    assert_eq!(rt; case.take(&mut [0; 4]), Ok(4), "{words:?}");
+    Ok(())
+}
+
+fn expect_each_refused(rt: &impl Abort, alloc: Global, rows: &[Row]) -> Result<(), NoMemory> {
+    for (words, printed) in rows {
+        expect_refused(rt, alloc, words, printed)?;
+    }
+    Ok(())
+}
+
 #[test]
 fn words_are_refused_before_the_case_is_read(rt: HostRuntime) -> Result<(), Fail> {
     let alloc = rt.alloc();
-    for (words, printed) in REFUSED {
-        let bytes = list_of(alloc, TIE.as_bytes())?;
-        let mut case = FailingSource::new(bytes, 4, list_of(alloc, &[1])?);
+    expect_each_refused(&rt, alloc, &NO_COMMAND)?;
+    expect_each_refused(&rt, alloc, &BARE)?;
+    expect_each_refused(&rt, alloc, &UNKNOWN_OPTIONS)?;
+    expect_each_refused(&rt, alloc, &UNKNOWN_VALUES)?;
+    expect_each_refused(&rt, alloc, &MISSING_VALUES)?;
+    expect_each_refused(&rt, alloc, &TWICE)?;
+    expect_each_refused(&rt, alloc, &MISSING)?;
+    expect_each_refused(&rt, alloc, &FORBIDDEN)?;
+    Ok(())
+}
+
+/// What is printed where a form isn't read yet.
+const UNREAD: &str = "malformed: form\n";
+
+/// Words that are accepted, the status, and what is printed of the tie.
+const ACCEPTED: [(&[&str], u8, &str); 17] = [
+    (&["test"], 0, TIE_DECIDED),
+    (&["test", "--form", "text"], 0, TIE_DECIDED),
+    (&["test", "--form=text"], 0, TIE_DECIDED),
+    (&["test", "--priority", "first"], 0, TIE_DECIDED),
+    (&["test", "--priority=last"], 0, TIE_DECIDED),
+    (
+        &["test", "--priority", "ratio", "--form", "text"],
+        0,
+        TIE_DECIDED,
+    ),
+    (
+        &["test", "--form=text", "--priority=ratio"],
+        0,
+        TIE_DECIDED,
+    ),
+    (
+        &["test", "--form", "text", "--priority=first"],
+        0,
+        TIE_DECIDED,
+    ),
+    (&["test", "--form", "json"], 3, UNREAD),
+    (&["test", "--form=json", "--priority=last"], 3, UNREAD),
+    (&["test", "--form", "csv", "--alpha", "0.05"], 3, UNREAD),
+    (&["test", "--alpha=1/20", "--form=csv"], 3, UNREAD),
+    (
+        &["test", "--form=csv", "--priority", "last", "--alpha", "5e-2"],
+        3,
+        UNREAD,
+    ),
+    (&["test", "--alpha", "-3", "--form", "csv"], 3, UNREAD),
+    (&["test", "--form=csv", "--alpha=+007"], 3, UNREAD),
+    (&["test", "--form=csv", "--alpha=.5"], 3, UNREAD),
+    (&["test", "--form=csv", "--alpha", "1."], 3, UNREAD),
+];
+
+#[test]
+fn words_are_accepted(rt: HostRuntime) -> Result<(), Fail> {
+    let alloc = rt.alloc();
+    for (words, wanted, printed) in ACCEPTED {
+        let mut case = MemorySource::new(list_of(alloc, TIE.as_bytes())?);
         let mut out = MemorySink::with_room(alloc, 4096)?;
         let status = status_of(alloc, words, &mut case, &mut out)?;
         assert_eq!(rt; out.held(), printed.as_bytes(), "{words:?}");
-        assert_eq!(rt; status, 2, "{words:?}");
-        assert_eq!(rt; case.take(&mut [0; 4]), Err(Failed), "{words:?}");
-        assert_eq!(rt; case.take(&mut [0; 4]), Ok(4), "{words:?}");
+        assert_eq!(rt; status, wanted, "{words:?}");
+        assert_eq!(rt; case.take(&mut [0; 4]), Ok(0), "{words:?}");
     }
+    Ok(())
+}
+
+/// The lines of the commands that run.
+const HELP: &str = "test [--form F] [--alpha N] [--priority P]\nhelp\nend\n";
+
+/// No byte of the case is taken.
+#[test]
+fn help_reads_nothing(rt: HostRuntime) -> Result<(), Fail> {
+    let alloc = rt.alloc();
+    let mut case = MemorySource::new(list_of(alloc, TIE.as_bytes())?);
+    let mut out = MemorySink::with_room(alloc, 4096)?;
+    let status = status_of(alloc, &["help"], &mut case, &mut out)?;
+    assert_eq!(rt; out.held(), HELP.as_bytes());
+    assert_eq!(rt; status, 0);
+    assert_eq!(rt; case.take(&mut [0; 4]), Ok(4));
     Ok(())
 }

@@ -1,53 +1,19 @@
 -- A rule that tells what it allows has an order from each set on.
-use Rattle.std.proofs.Common.{◌≡◌, ◌⊎◌, inl, inr, refl, sym, ap, ◌∙◌, subst, ℕ, zero, suc, ◌<◌, ◌≤◌, arith, Bool, true, false, cond, List, [], ◌∷◌}
+use Rattle.std.proofs.Common.{◌≡◌, ◌⊎◌, inl, inr, sym, ◌∙◌, subst, ℕ, zero, suc, ◌<◌, ◌≤◌, arith, Bool, List, [], ◌∷◌}
 use Rattle.field_core.specs.Number.{Number}
 use Rattle.field_core.specs.Arithmetic.{◌*ε◌}
-use Rattle.field_core.specs.Sets.{IsIn, dropping, whole}
+use Rattle.field_core.specs.Sets.{IsIn, dropping, size_of}
 use Rattle.field_core.specs.Laws.AtMostLaws.{at_most_or_above, at_most-compare, positive_or_not, positive-not_at_most}
-use Rattle.field_core.proofs.Live.{dropping_same, dropping_other, true_or_false, true_not_false}
+use Rattle.field_core.proofs.Live.{true_or_false, true_not_false}
+use Rattle.field_core.proofs.Positions.{below_or_not, at_or_below}
+use Rattle.field_core.proofs.Sizes.{size_dropped}
 use Rattle.case_model.specs.EntangledGraph.{EntangledGraph, IsValidEntangled}
-use Rattle.case_model.specs.ClosedTest.{Passes, IsLegal}
+use Rattle.case_model.specs.ClosedTest.{Passes, IsLegalBy, AtLevel, IsLegal}
 use Rattle.case_model.specs.LegalOrder.{IsRunBy, IsFirst, IsLast, IsLeastLegalRatio, IsFirstOrder, IsLastOrder, IsRatioOrder}
 use Rattle.case_model.proofs.IntersectionLaws.{intersection_exists}
-use Rattle.case_model.proofs.RejectionOrders.{at_or_below, below_or_not, first_none}
-use Rattle.case_model.proofs.ClosedTestLaws.{legal_passes, passes_legal}
+use Rattle.case_model.proofs.RejectionOrders.{first_none}
+use Rattle.case_model.proofs.LocalTests.{legal_passes_by, passes_legal_by}
 use Rattle.case_model.proofs.PriorityOrders.{legal_ratio, least_exists, least_legal}
-
--- ---- how many members a set has
-
-pub size_of : ℕ → (ℕ → Bool) → ℕ
-size_of zero I = 0
-size_of (suc n) I = cond (I n) (suc (size_of n I)) (size_of n I)
-
-size_in : (n : ℕ) (I : ℕ → Bool) → I n ≡ true → size_of (suc n) I ≡ suc (size_of n I)
-unfolding size_of
-size_in n I t = rw t
-
-size_out : (n : ℕ) (I : ℕ → Bool) → I n ≡ false → size_of (suc n) I ≡ size_of n I
-unfolding size_of
-size_out n I f = rw f
-
-size_same : (n : ℕ) (I J : ℕ → Bool) → ((i : ℕ) → i < n → I i ≡ J i) → size_of n I ≡ size_of n J
-unfolding size_of
-size_same zero I J same = refl
-size_same (suc n) I J same = rw (size_of, same n (omega arith), size_same n I J (λ i h. same i (omega arith)))
-
-pub size_dropped : (n j : ℕ) (I : ℕ → Bool) → IsIn n I j → suc (size_of n (dropping j I)) ≡ size_of n I
-size_dropped zero j I p = absurd (omega (arith, p.below))
-size_dropped (suc n) j I p = elim (at_or_below j n p.below) [
-  | inl e ↦
-      ap suc (size_out n (dropping j I) (subst (λ i. dropping j I i ≡ false) e (dropping_same j I)) ∙ size_same n (dropping j I) I (λ i h. dropping_other j I i (omega arith)))
-      ∙ sym (size_in n I (subst (λ i. I i ≡ true) e p.member))
-  | inr b ↦ elim (true_or_false (I n)) [
-    | inl t ↦ ap suc (size_in n (dropping j I) (dropping_other j I n (omega arith) ∙ t) ∙ size_dropped n j I (record { below = b; member = p.member })) ∙ sym (size_in n I t)
-    | inr f ↦ ap suc (size_out n (dropping j I) (dropping_other j I n (omega arith) ∙ f)) ∙ size_dropped n j I (record { below = b; member = p.member }) ∙ sym (size_out n I f)
-  ]
-]
-
-pub size_whole : (m : ℕ) → size_of m whole ≡ m
-unfolding size_of
-size_whole zero = refl
-size_whole (suc n) = ap suc (size_whole n)
 
 module _ (m : ℕ) (Rule : (ℕ → Bool) → ℕ → Type 0) (inside : (I : ℕ → Bool) (k : ℕ) → Rule I k → IsIn m I k) where
   run_within : ((I : ℕ → Bool) → ((j : ℕ) × Rule I j) ⊎ ((j : ℕ) → ¬ Rule I j)) → (n : ℕ) (I : ℕ → Bool) → size_of m I ≤ n → (js : List ℕ) × IsRunBy Rule I js
@@ -102,9 +68,10 @@ passes_or_not p u level = elim (positive_or_not u) [
   ]
 ]
 
-module _ (E : EntangledGraph) (V : IsValidEntangled E) (p : ℕ → Number) (level : Number) where
-  pub legal_or_not : (I : ℕ → Bool) (k : ℕ) → IsLegal E p level I k ⊎ ¬ IsLegal E p level I k
-  legal_or_not I k = elim (below_or_not k E.hypotheses) [
+-- (It is known at which weights each hypothesis passes.)
+module _ (E : EntangledGraph) (V : IsValidEntangled E) (Test : ℕ → Number → Type 0) (decide : (k : ℕ) (u : Number) → Test k u ⊎ ¬ Test k u) where
+  pub legal_or_not_by : (I : ℕ → Bool) (k : ℕ) → IsLegalBy E Test I k ⊎ ¬ IsLegalBy E Test I k
+  legal_or_not_by I k = elim (below_or_not k E.hypotheses) [
     | inr n ↦ inr (λ h. n h.member.below)
     | inl b ↦ elim (true_or_false (I k)) [
       | inr f ↦ inr (λ h. true_not_false (sym h.member.member ∙ f))
@@ -112,11 +79,18 @@ module _ (E : EntangledGraph) (V : IsValidEntangled E) (p : ℕ → Number) (lev
     ]
   ]
     where
-      by_weight : IsIn E.hypotheses I k → IsLegal E p level I k ⊎ ¬ IsLegal E p level I k
-      by_weight q = let W = intersection_exists E V I k q in elim (passes_or_not (p k) W.0 level) [
-        | inl h ↦ inl (passes_legal E p level I k W.0 q W.1 h)
-        | inr n ↦ inr (λ h. n (legal_passes E p level I k W.0 h W.1))
+      by_weight : IsIn E.hypotheses I k → IsLegalBy E Test I k ⊎ ¬ IsLegalBy E Test I k
+      by_weight q = let W = intersection_exists E V I k q in elim (decide k W.0) [
+        | inl h ↦ inl (passes_legal_by E Test I k W.0 q W.1 h)
+        | inr n ↦ inr (λ h. n (legal_passes_by E Test I k W.0 h W.1))
       ]
+
+  pub first_order_exists_by : (I : ℕ → Bool) → (js : List ℕ) × IsRunBy (IsFirst (IsLegalBy E Test)) I js
+  first_order_exists_by = run_exists E.hypotheses (IsFirst (IsLegalBy E Test)) (λ I k f. f.allowed.member) (λ I. first_or_none E.hypotheses (IsLegalBy E Test) (λ J k h. h.member) I (legal_or_not_by I))
+
+module _ (E : EntangledGraph) (V : IsValidEntangled E) (p : ℕ → Number) (level : Number) where
+  pub legal_or_not : (I : ℕ → Bool) (k : ℕ) → IsLegal E p level I k ⊎ ¬ IsLegal E p level I k
+  legal_or_not = legal_or_not_by E V (AtLevel p level) (λ j u. passes_or_not (p j) u level)
 
   -- the least legal ratio, or none
   pub next_or_none : (I : ℕ → Bool) → ((j : ℕ) × IsLeastLegalRatio E p level I j) ⊎ ((j : ℕ) → ¬ IsLeastLegalRatio E p level I j)
@@ -135,7 +109,7 @@ module _ (E : EntangledGraph) (V : IsValidEntangled E) (p : ℕ → Number) (lev
           (l.0, record { least = l.1; legal = least_legal E p I level l.0 k l.1 h })
 
   pub first_order_exists : (I : ℕ → Bool) → (js : List ℕ) × IsFirstOrder E p level I js
-  first_order_exists = run_exists E.hypotheses (IsFirst (IsLegal E p level)) (λ I k f. f.allowed.member) (λ I. first_or_none E.hypotheses (IsLegal E p level) (λ J k h. h.member) I (legal_or_not I))
+  first_order_exists = first_order_exists_by E V (AtLevel p level) (λ j u. passes_or_not (p j) u level)
 
   pub last_order_exists : (I : ℕ → Bool) → (js : List ℕ) × IsLastOrder E p level I js
   last_order_exists = run_exists E.hypotheses (IsLast (IsLegal E p level)) (λ I k f. f.allowed.member) (λ I. last_or_none E.hypotheses (IsLegal E p level) (λ J k h. h.member) I (legal_or_not I))

@@ -4,6 +4,7 @@ use Rattle.std.proofs.lemmas.Bool.Decides.{nat_tests}
 use Rattle.field_core.specs.Sets.{IsIn, dropping, set_of}
 use Rattle.field_core.specs.Runs.{IsOrder, left_after}
 use Rattle.field_core.proofs.Live.{dropping_other, kept_before, not_dropped, live_before, true_or_false}
+pub use Rattle.field_core.proofs.Positions.{compared, below_or_not, at_or_below}
 use Rattle.case_model.specs.LegalOrder.{IsListed, IsOrderBy, IsRunBy, IsFirst, IsLast}
 
 -- ---- what a list leaves
@@ -42,18 +43,6 @@ not_listed_left (j ∷ js) I i h f =
 pub left_append : (js ks : List ℕ) (I : ℕ → Bool) → left_after I (js ++ ks) ≡ left_after (left_after I js) ks
 left_append [] ks I = refl
 left_append (j ∷ js) ks I = left_append js ks (dropping j I)
-
-pub compared : (j k : ℕ) → (j ≡ k) ⊎ ((j < k) ⊎ (k < j))
-compared j k = grind arith
-
-pub below_or_not : (k m : ℕ) → (k < m) ⊎ ¬ (k < m)
-below_or_not k m = elim (at_least_or_below k m) [ inl h ↦ inr (λ b. absurd (omega arith)) | inr h ↦ inl h ]
-  where
-    at_least_or_below : (k m : ℕ) → (m ≤ k) ⊎ (k < m)
-    at_least_or_below k m = grind arith
-
-pub at_or_below : (k n : ℕ) → k < suc n → (k ≡ n) ⊎ (k < n)
-at_or_below k n h = grind arith
 
 module _ (Rule : (ℕ → Bool) → ℕ → Type 0) where
   -- ---- orders step by step

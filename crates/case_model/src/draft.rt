@@ -14,7 +14,7 @@ use crate::fraction_tests::{is_level_range, is_short_level};
 use crate::names::names_fault;
 use crate::p_values::{long_p_value, p_values_fault};
 use crate::row_sums::rows_fault;
-use crate::{Case, CaseFault, Component, DraftComponent, Inputs, PartPlace, Refused};
+use crate::{Case, CaseFault, Component, DraftComponent, Inputs, PartPlace, Refused, Spend};
 use field_core::{List, Text};
 use fraction::Fraction;
 use std::alloc::Global;
@@ -27,12 +27,11 @@ pub struct Arrival {
     pub p: Fraction,
 }
 
-/// The stages of a draft: how many there are, the fractions of its level that each hypothesis spends at them, and the
-/// p-values that arrived.
+/// The stages of a draft: how many there are, what each hypothesis spends at them, and the p-values that arrived.
 #[derive(Drop)]
 pub struct DraftStages {
     pub count: u64,
-    pub spend: List<List<Fraction>>,
+    pub spend: List<Spend>,
     pub arrivals: List<Arrival>,
 }
 

@@ -1,16 +1,15 @@
 //! What is given of p-values.
-use crate::Arrival;
 use crate::p_values::{given, has_some};
+use crate::{Arrival, Spend};
 use field_core::{List, NoMemory};
 use fraction::Fraction;
 use std::alloc::Global;
 
-/// The stages of a case: how many there are, the fraction of its level that each hypothesis spends at each, row by row,
-/// and the p-values that arrived.
+/// The stages of a case: how many there are, what each hypothesis spends at them, and the p-values that arrived.
 #[derive(Drop)]
 pub struct Stages {
     count: usize,
-    spend: List<Fraction>,
+    spend: List<Spend>,
     arrivals: List<Arrival>,
 }
 

@@ -1,6 +1,11 @@
 //! Laws of cases, of entangled graphs and of the closed test. Each function states laws that hold of all valid
 //! entangled graphs, and does nothing.
 
+pub mod adjusted;
+pub mod bounds;
+pub mod rules;
+pub mod staged;
+
 ghost use Rattle.case_model.specs.CaseStatements.{EntangledGraphsAreValid};
 ghost use Rattle.case_model.specs.ClosedTestExamples.{HalvesAreValid, OnlyFirstHalfIsRejected, BothLinkedHalvesAreRejected, WeightZeroRejectsNothing, AlikeAreTakenByPosition, LeastRatioIsTakenFirst};
 ghost use Rattle.case_model.specs.ClosedTestStatements.{SetsAreRejectedByTheirSupersets, HypothesesAreRejectedByTheirSets, RejectionsStayAtGreaterLevels, LegalOrdersAreRejected, CompleteListsHaveAllRejected, CompleteOrdersDecide, CompleteOrdersAgree, FirstOrdersAreComplete, LastOrdersAreComplete, RatioOrdersAreComplete, FirstOrdersExist, LastOrdersExist, RatioOrdersExist, FirstOrdersAreUnique, LastOrdersAreUnique, RatioOrdersAreUnique};

@@ -18,6 +18,9 @@ mod name_index;
 mod names;
 mod p_values;
 mod row_sums;
+mod set_table;
+mod sets;
+mod spend;
 mod sums;
 
 pub use case::Case;
@@ -28,8 +31,11 @@ pub use draft_edge::DraftEdge;
 pub use entry::Entry;
 pub use fault::{CaseFault, PartPlace, Refused};
 pub use inputs::{Inputs, Stages};
-pub use local_test::passes;
+pub use local_test::{least_weight, passes, passes_from};
 pub use name_index::NameIndex;
+pub use set_table::SetTable;
+pub use sets::{added, dropped, holds};
+pub use spend::{Spend, SpendStep};
 
 #[cfg(test)]
 mod samples;

@@ -3,13 +3,14 @@ use Rattle.std.proofs.Common.{◌≡◌, ℕ, inl, inr, List, [], ◌∷◌, ◌
 use Rattle.std.specs.Prelude.{codes}
 use Rattle.std.specs.Fmt.{digits}
 use Rattle.std.specs.List.{AllZip}
-use Rattle.field_core.specs.Terms.{Terms}
+use Rattle.field_core.specs.declared.ratio.Ratio.{Ratio}
 use Rattle.fraction.specs.Plain.{zero_reduced}
 use Rattle.fraction.specs.Spelling.{spelling}
 use Rattle.fraction.proofs.ReadBack.{read_back}
-use Rattle.case_model.specs.Draft.{DraftContent, DraftEdgeContent}
-use Rattle.case_model.specs.Sums.{zero_terms}
-use Rattle.edge_text.specs.Lines.{words_of}
+use Rattle.case_model.specs.declared.draft.Draft.{Draft}
+use Rattle.case_model.specs.declared.draft_edge.DraftEdge.{DraftEdge}
+use Rattle.case_model.specs.Sums.{zero_terms, zero_ratio}
+use Rattle.text_lines.specs.Words.{words_of}
 use Rattle.edge_text.specs.Grammar.{Words, Says, IsAlphaLine, IsNamesLine, IsWeightsLine, IsEdgeLine, optional, GivesP, one_component, IsDocument}
 use Rattle.edge_text.specs.Faults.{Place, Alpha, Names, POrWeights, Weights, Edges, MustFollow, Stands, Lead}
 use Rattle.edge_text.specs.TextStatements.{BeginDocument}
@@ -38,16 +39,16 @@ lead_split place (x ∷ xs) ys next h =
 
 -- ---- documents lead to edges
 
-edges_lead : (names : Words) (lines : List (List ℕ)) (edges : List DraftEdgeContent) → AllZip (IsEdgeLine names) lines edges → Lead (Edges names) lines (Edges names)
+edges_lead : (names : Words) (lines : List (List ℕ)) (edges : List DraftEdge) → AllZip (IsEdgeLine names) lines edges → Lead (Edges names) lines (Edges names)
 edges_lead names [] edges h = refl
 edges_lead names (line ∷ lines) [] h = absurd h
 edges_lead names (line ∷ lines) (e ∷ es) h = (Edges names, ((e, h.0), refl), edges_lead names lines es h.1)
 
-numbers_lead : (names : Words) (p_line : Option (List ℕ)) (p : List (Option Terms)) (line : List ℕ) (weights : List Terms) (lines : List (List ℕ)) (edges : List DraftEdgeContent) → GivesP p_line p → IsWeightsLine line weights → AllZip (IsEdgeLine names) lines edges → Lead (POrWeights names) (optional p_line ++ line ∷ lines) (Edges names)
+numbers_lead : (names : Words) (p_line : Option (List ℕ)) (p : List (Option Ratio)) (line : List ℕ) (weights : List Ratio) (lines : List (List ℕ)) (edges : List DraftEdge) → GivesP p_line p → IsWeightsLine line weights → AllZip (IsEdgeLine names) lines edges → Lead (POrWeights names) (optional p_line ++ line ∷ lines) (Edges names)
 numbers_lead names None p line weights lines edges g w h = (Edges names, inr ((weights, w), refl), edges_lead names lines edges h)
 numbers_lead names (Some given) p line weights lines edges g w h = (Weights names, inl ((g.0, g.1), refl), (Edges names, ((weights, w), refl), edges_lead names lines edges h))
 
-pub document_leads : (lines : List (List ℕ)) (d : DraftContent) → IsDocument lines d → Lead Alpha lines (Edges d.names)
+pub document_leads : (lines : List (List ℕ)) (d : Draft) → IsDocument lines d → Lead Alpha lines (Edges d.names)
 document_leads lines d h =
     let numbers = numbers_lead d.names h.p_line d.p h.weights_line h.weights h.edge_lines h.edges h.p h.weights_are h.edges_are in
     subst (λ ls. Lead Alpha ls (Edges d.names)) (sym h.spelt) (Names, ((d.alpha, h.alpha), refl), (POrWeights d.names, (d.names, h.names, refl), numbers))
@@ -59,7 +60,7 @@ ends_at_edges place names e must = subst MustFollow (sym e) must
 
 -- lines from the edges on
 record EdgesFrom (names : Words) (lines : List (List ℕ)) : Type 0 where
-  edges : List DraftEdgeContent
+  edges : List DraftEdge
   are : AllZip (IsEdgeLine names) lines edges
 
 edges_from : (names : Words) (lines : List (List ℕ)) (next : Place) → Lead (Edges names) lines next → EdgesFrom names lines
@@ -73,7 +74,7 @@ record WeightsFrom (names : Words) (lines : List (List ℕ)) : Type 0 where
   line : List ℕ
   rest : List (List ℕ)
   spelt : lines ≡ line ∷ rest
-  weights : List Terms
+  weights : List Ratio
   are : IsWeightsLine line weights
   edges : EdgesFrom names rest
 
@@ -85,12 +86,12 @@ weights_from names known (line ∷ lines) h =
 -- lines from the p-values on, or from the weights on where there are none
 record NumbersFrom (names : Words) (lines : List (List ℕ)) : Type 0 where
   p_line : Option (List ℕ)
-  p : List (Option Terms)
+  p : List (Option Ratio)
   given : GivesP p_line p
   line : List ℕ
   rest : List (List ℕ)
   spelt : lines ≡ optional p_line ++ line ∷ rest
-  weights : List Terms
+  weights : List Ratio
   are : IsWeightsLine line weights
   edges : EdgesFrom names rest
 
@@ -121,10 +122,10 @@ names_from known (line ∷ lines) h =
 
 -- a draft that lines say
 pub record IsSaid (lines : List (List ℕ)) : Type 0 where
-  pub draft : DraftContent
+  pub draft : Draft
   pub is : IsDocument lines draft
 
-said_by : (line : List ℕ) (lines : List (List ℕ)) (alpha : Terms) → IsAlphaLine line alpha → NamesFrom lines → IsSaid (line ∷ lines)
+said_by : (line : List ℕ) (lines : List (List ℕ)) (alpha : Ratio) → IsAlphaLine line alpha → NamesFrom lines → IsSaid (line ∷ lines)
 said_by line lines alpha a n =
     let numbers = n.numbers in
     record {
@@ -158,9 +159,9 @@ zero_spelt : spelling zero_terms ≡ codes "0"
 unfolding spelling digits
 zero_spelt = refl
 
-zero_said : Says (codes "0") zero_terms
+zero_said : Says (codes "0") zero_ratio
 unfolding Says
-zero_said = subst (λ word. Says word zero_terms) zero_spelt (read_back zero_terms zero_reduced (omega arith) (omega arith))
+zero_said = subst (λ word. Says word zero_ratio) zero_spelt (read_back zero_terms zero_reduced (omega arith) (omega arith))
 
 -- lines that lead to edges
 record Rest (place : Place) : Type 0 where
@@ -194,7 +195,7 @@ names_rest =
 alpha_rest : Rest Alpha
 alpha_rest =
     let more = names_rest in
-    record { lines = codes "alpha 0" ∷ more.lines; names = more.names; lead = (Names, ((zero_terms, record { numeral = codes "0"; words = alpha_said; says = zero_said }), refl), more.lead) }
+    record { lines = codes "alpha 0" ∷ more.lines; names = more.names; lead = (Names, ((zero_ratio, record { numeral = codes "0"; words = alpha_said; says = zero_said }), refl), more.lead) }
 
 rest_of : (place : Place) → Rest place
 rest_of Alpha = alpha_rest

@@ -2,15 +2,13 @@
 use Rattle.std.proofs.Common.{◌≡◌, ℕ, List, ◌∷◌, Result, ◌∙◌, ap, subst}
 use Rattle.std.specs.Prelude.{codes, IfOk, IfErr}
 use Rattle.std.proofs.lemmas.Result.{IfOk-weaker, IfErr-weaker}
-use Rattle.case_model.specs.declared.draft.DraftEdge.{DraftEdge}
+use Rattle.case_model.specs.declared.draft_edge.DraftEdge.{DraftEdge}
 use Rattle.case_model.specs.declared.name_index.NameIndex.{NameIndex}
-use Rattle.case_model.specs.Draft.{DraftEdgeContent}
-use Rattle.case_model.specs.DraftView.{edge_said}
 use Rattle.edge_text.specs.declared.fault.LineKind.{LineKind}
 use Rattle.edge_text.specs.declared.fault.LineKind.TheVariants.{Unexpected, Ended, WordCount, UnknownName, Number, Expr}
 use Rattle.edge_text.specs.declared.fault.TextFault.{TextFault}
-use Rattle.edge_text.specs.Lines.{words_of, behind_word, behind_words}
-use Rattle.edge_text.specs.EntryReading.{IsEntryText, IsExprFault}
+use Rattle.text_lines.specs.Words.{words_of, behind_word, behind_words}
+use Rattle.edge_expression.specs.EntryReading.{IsEntryText, IsExprFault}
 use Rattle.edge_text.specs.Grammar.{Words, HasEnds, IsEdgeLine}
 use Rattle.edge_text.specs.Faults.{IsEdgeFault}
 use Rattle.edge_text.specs.View.{HasThree, IsEdgeOf, IsEdgeOfFault, IsIndexOf, IsOnLine}
@@ -24,7 +22,7 @@ has_ends line rest from to e h = record { further = h.further; others = h.others
 pub behind_ends : (line left expression : List ℕ) → left ≡ behind_word line → expression ≡ behind_words 2 left → expression ≡ behind_words 3 line
 behind_ends line left expression e h = h ∙ ap (behind_words 2) e
 
-edge_line : (names : List (List ℕ)) (line from to expression : List ℕ) (edge : DraftEdgeContent) → HasEnds line from to → expression ≡ behind_words 3 line → IsEdgeOf names from to expression edge → IsEdgeLine names line edge
+edge_line : (names : List (List ℕ)) (line from to expression : List ℕ) (edge : DraftEdge) → HasEnds line from to → expression ≡ behind_words 3 line → IsEdgeOf names from to expression edge → IsEdgeLine names line edge
 edge_line names line from to expression edge ends e h = record { from = from; to = to; ends = ends; from_is = h.from_is; to_is = h.to_is; says = subst (λ t. IsEntryText t edge.entry) e h.says }
 
 edge_line_fault : (names : List (List ℕ)) (line from to expression : List ℕ) (kind : LineKind) → HasEnds line from to → expression ≡ behind_words 3 line → IsEdgeOfFault names from to expression kind → IsEdgeFault names line kind
@@ -36,9 +34,9 @@ edge_line_fault names line from to expression (Number fault) ends e h = h
 edge_line_fault names line from to expression (Expr fault) ends e h = (from, to, ends, h.0, h.1, subst (λ t. IsExprFault t fault) e h.2)
 
 pub edge_found : (result : Result DraftEdge TextFault) (index : NameIndex) (line from to expression : List ℕ) → HasEnds line from to → expression ≡ behind_words 3 line
-    → IfOk result (λ e. (names : List (List ℕ)) → IsIndexOf index names → IsEdgeOf names from to expression (edge_said e))
-    → IfOk result (λ e. (names : List (List ℕ)) → IsIndexOf index names → IsEdgeLine names line (edge_said e))
-edge_found result index line from to expression ends e h = IfOk-weaker result _ _ (λ edge f names i. edge_line names line from to expression (edge_said edge) ends e (f names i)) h
+    → IfOk result (λ e. (names : List (List ℕ)) → IsIndexOf index names → IsEdgeOf names from to expression e)
+    → IfOk result (λ e. (names : List (List ℕ)) → IsIndexOf index names → IsEdgeLine names line e)
+edge_found result index line from to expression ends e h = IfOk-weaker result _ _ (λ edge f names i. edge_line names line from to expression edge ends e (f names i)) h
 
 pub edge_refused : (result : Result DraftEdge TextFault) (index : NameIndex) (number : ℕ) (line from to expression : List ℕ) → HasEnds line from to → expression ≡ behind_words 3 line
     → IfErr result (IsOnLine number (λ kind. (names : List (List ℕ)) → IsIndexOf index names → IsEdgeOfFault names from to expression kind))

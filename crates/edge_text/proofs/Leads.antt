@@ -6,7 +6,7 @@ use Rattle.edge_text.specs.declared.fault.LineKind.{LineKind}
 use Rattle.edge_text.specs.declared.fault.LineKind.TheVariants.{Ended}
 use Rattle.edge_text.specs.declared.fault.TextFault.{TextFault}
 use Rattle.edge_text.specs.declared.fault.TextFault.TheVariants as faults
-use Rattle.edge_text.specs.Lines.{Row, texts_in}
+use Rattle.text_lines.specs.Lines.{Row, texts_in}
 use Rattle.edge_text.specs.Faults.{Place, MustFollow, Lead, IsBad, IsBadLine, IsEndedEarly}
 use Rattle.edge_text.specs.View.{IsOnLine, IsFaultAt}
 

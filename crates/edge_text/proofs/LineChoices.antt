@@ -5,17 +5,18 @@ use Rattle.std.specs.List.{AllZip}
 use Rattle.std.specs.Str.{bytes_eq}
 use Rattle.std.proofs.lemmas.Bool.{cases_Bool}
 use Rattle.std.proofs.lemmas.Slice.Eq.{bytes_eq-Decides}
-use Rattle.field_core.specs.Terms.{Terms}
+use Rattle.field_core.specs.declared.ratio.Ratio.{Ratio}
 use Rattle.fraction.specs.Numeral.{IsParseFault}
 use Rattle.fraction.specs.declared.fault.NumberFault.{NumberFault}
 use Rattle.fraction.proofs.Numerals.{reading}
 use Rattle.case_model.specs.Names.{position_of}
 use Rattle.edge_text.specs.declared.fault.LineKind.{LineKind}
 use Rattle.edge_text.specs.declared.fault.LineKind.TheVariants.{Unexpected, Ended, WordCount, UnknownName, Number, Expr}
-use Rattle.edge_text.specs.Lines.{Row, words_of, behind_words, texts_in}
+use Rattle.text_lines.specs.Lines.{Row, texts_in}
+use Rattle.text_lines.specs.Words.{words_of, behind_words}
 use Rattle.edge_text.specs.Grammar.{Words, Says, HasEnds}
 use Rattle.edge_text.specs.Faults.{IsOther, IsFirstRefused, Place, Alpha, Names, POrWeights, Weights, Edges, Stands, Lead, IsBad}
-use Rattle.edge_text.proofs.OneEntry.{entry_or_fault}
+use Rattle.edge_expression.proofs.OneEntry.{entry_or_fault}
 use Rattle.edge_text.proofs.LineWords.{heads}
 use Rattle.edge_text.proofs.OneFault.{IsFaultBy}
 
@@ -37,14 +38,17 @@ first_word : (keyword line : List ℕ) → Begins keyword line
 first_word keyword line = first_by keyword line (words_of line) refl
 
 -- a numeral, or its fault
-numeral_or_fault : (word : List ℕ) → ((x : Terms) × Says word x) ⊎ ((f : NumberFault) × IsParseFault word f)
+numeral_or_fault : (word : List ℕ) → ((x : Ratio) × Says word x) ⊎ ((f : NumberFault) × IsParseFault word f)
 unfolding Says
-numeral_or_fault word = reading word
+numeral_or_fault word = elim (reading word) [
+  | inl h ↦ inl (record { num = h.0.num; den = h.0.den; valid = h.1.lowest }, h.1)
+  | inr h ↦ inr h
+]
 
 abbrev AreNumerals : Words → Type 0
-AreNumerals words = ((xs : List Terms) × AllZip Says words xs) ⊎ ((f : NumberFault) × IsFirstRefused words f)
+AreNumerals words = ((xs : List Ratio) × AllZip Says words xs) ⊎ ((f : NumberFault) × IsFirstRefused words f)
 
-numerals_behind : (word : List ℕ) (words : Words) (x : Terms) → Says word x → AreNumerals words → AreNumerals (word ∷ words)
+numerals_behind : (word : List ℕ) (words : Words) (x : Ratio) → Says word x → AreNumerals words → AreNumerals (word ∷ words)
 numerals_behind word words x s (inl h) = inl (x ∷ h.0, (s, h.1))
 numerals_behind word words x s (inr h) = inr (h.0, inr ((x, s), h.1))
 

@@ -2,25 +2,25 @@
 use Rattle.std.proofs.Common.{◌≡◌, ◌<◌, ℕ, ◌⊎◌, inl, inr, List, [], ◌∷◌, length, Some, None, refl, sym, ap, subst, ◌∙◌, arith}
 use Rattle.std.specs.Prelude.{codes}
 use Rattle.std.specs.List.{AllZip}
-use Rattle.field_core.specs.Terms.{Terms}
+use Rattle.field_core.specs.declared.ratio.Ratio.{Ratio}
 use Rattle.fraction.specs.Numeral.{IsParseFault}
 use Rattle.fraction.specs.declared.fault.NumberFault.{NumberFault}
 use Rattle.fraction.proofs.Unique.{one_fault}
-use Rattle.case_model.specs.Draft.{DraftEdgeContent}
+use Rattle.case_model.specs.declared.draft_edge.DraftEdge.{DraftEdge}
 use Rattle.case_model.specs.Names.{position_of}
 use Rattle.edge_text.specs.declared.fault.LineKind.{LineKind}
 use Rattle.edge_text.specs.declared.fault.LineKind.TheVariants.{Unexpected, Ended, WordCount, UnknownName, Number, Expr}
-use Rattle.edge_text.specs.declared.expr_fault.ExprFault.{ExprFault}
-use Rattle.edge_text.specs.Lines.{words_of, behind_words}
-use Rattle.edge_text.specs.EntryReading.{IsExprFault}
+use Rattle.edge_expression.specs.declared.fault.ExprFault.{ExprFault}
+use Rattle.text_lines.specs.Words.{words_of, behind_words}
+use Rattle.edge_expression.specs.EntryReading.{IsExprFault}
 use Rattle.edge_text.specs.Grammar.{Words, Says, IsAlphaLine, IsNamesLine, IsNumbersLine, IsPLine, IsWeightsLine, HasEnds, IsEdgeLine}
 use Rattle.edge_text.specs.Faults.{IsOther, IsFirstRefused, IsAlphaFault, IsNamesFault, IsNumbersFault, IsPOrWeightsFault, IsUnknown, IsEdgeFault, Place, Alpha, Names, POrWeights, Weights, Edges, Stands, IsBad}
-use Rattle.edge_text.proofs.OneEntry.{one_expr_fault, entry_not_fault}
+use Rattle.edge_expression.proofs.OneEntry.{one_expr_fault, entry_not_fault}
 use Rattle.edge_text.proofs.LineWords.{tails, one_word, same_ends, keywords_differ, says_no_fault, no_values, refused_not_said, one_refused}
 
 -- ---- what may stand has no fault
 
-alpha_stands : (line : List ℕ) (kind : LineKind) (x : Terms) → IsAlphaLine line x → IsAlphaFault line kind → ⊥
+alpha_stands : (line : List ℕ) (kind : LineKind) (x : Ratio) → IsAlphaLine line x → IsAlphaFault line kind → ⊥
 alpha_stands line Unexpected x h b = b (h.numeral ∷ []) h.words
 alpha_stands line Ended x h b = b
 alpha_stands line WordCount x h b = b.2 (ap length (tails _ _ _ _ (sym b.1 ∙ h.words)))
@@ -36,7 +36,7 @@ names_stand line UnknownName names h b = b
 names_stand line (Number f) names h b = b
 names_stand line (Expr f) names h b = b
 
-numbers_stand : (keyword : List ℕ) (line : List ℕ) (kind : LineKind) (xs : List Terms) → IsNumbersLine keyword line xs → IsNumbersFault keyword line kind → ⊥
+numbers_stand : (keyword : List ℕ) (line : List ℕ) (kind : LineKind) (xs : List Ratio) → IsNumbersLine keyword line xs → IsNumbersFault keyword line kind → ⊥
 numbers_stand keyword line Unexpected xs h b = b h.numerals h.words
 numbers_stand keyword line Ended xs h b = b
 numbers_stand keyword line WordCount xs h b = b
@@ -44,7 +44,7 @@ numbers_stand keyword line UnknownName xs h b = b
 numbers_stand keyword line (Number f) xs h b = refused_not_said b.0 xs f (subst (λ ns. AllZip Says ns xs) (tails keyword keyword _ _ (sym h.words ∙ b.1)) h.each) b.2
 numbers_stand keyword line (Expr f) xs h b = b
 
-p_stands : (line : List ℕ) (kind : LineKind) (xs : List Terms) → IsPLine line xs → IsPOrWeightsFault line kind → ⊥
+p_stands : (line : List ℕ) (kind : LineKind) (xs : List Ratio) → IsPLine line xs → IsPOrWeightsFault line kind → ⊥
 p_stands line Unexpected xs h b = b.0 h.numbers.numerals h.numbers.words
 p_stands line Ended xs h b = b
 p_stands line WordCount xs h b = no_values h.numbers.numerals xs h.numbers.each (tails (codes "p") (codes "p") _ _ (sym h.numbers.words ∙ b)) h.some
@@ -53,7 +53,7 @@ p_stands line (Number f) xs h (inl b) = numbers_stand (codes "p") line (Number f
 p_stands line (Number f) xs h (inr b) = keywords_differ _ _ (sym h.numbers.words ∙ b.1)
 p_stands line (Expr f) xs h b = b
 
-weights_stand : (line : List ℕ) (kind : LineKind) (xs : List Terms) → IsWeightsLine line xs → IsPOrWeightsFault line kind → ⊥
+weights_stand : (line : List ℕ) (kind : LineKind) (xs : List Ratio) → IsWeightsLine line xs → IsPOrWeightsFault line kind → ⊥
 weights_stand line Unexpected xs h b = b.1 h.numerals h.words
 weights_stand line Ended xs h b = b
 weights_stand line WordCount xs h b = keywords_differ _ _ (sym b ∙ h.words)
@@ -65,7 +65,7 @@ weights_stand line (Expr f) xs h b = b
 known : (names : Words) (name : List ℕ) (i : ℕ) → position_of name names ≡ Some i → IsUnknown names name → ⊥
 known names name i e u = let k : None ≡ Some i = sym u ∙ e in cc
 
-edge_stands : (names : Words) (line : List ℕ) (kind : LineKind) (e : DraftEdgeContent) → IsEdgeLine names line e → IsEdgeFault names line kind → ⊥
+edge_stands : (names : Words) (line : List ℕ) (kind : LineKind) (e : DraftEdge) → IsEdgeLine names line e → IsEdgeFault names line kind → ⊥
 edge_stands names line Unexpected e h b = b (h.from ∷ h.to ∷ h.ends.further ∷ h.ends.others) h.ends.words
 edge_stands names line Ended e h b = b
 edge_stands names line WordCount e h b = let n : length b.0 ≡ length (h.from ∷ h.to ∷ h.ends.further ∷ h.ends.others) = ap length (tails _ _ _ _ (sym b.1 ∙ h.ends.words)) in omega (arith, n, b.2)

@@ -2,7 +2,9 @@
 use Rattle.std.proofs.Common.{◌≡◌, ℕ, ◌<◌, inl, inr, List, [], ◌∷◌, length, refl, sym, ap₂, subst, ◌∙◌, arith}
 use Rattle.std.specs.Prelude.{codes}
 use Rattle.std.specs.List.{AllZip}
-use Rattle.field_core.specs.Terms.{Terms}
+use Rattle.field_core.specs.declared.ratio.Ratio.{Ratio}
+use Rattle.field_core.specs.View.{terms}
+use Rattle.fraction.proofs.SameRatios.{same_ratio}
 use Rattle.fraction.specs.Numeral.{IsParseFault}
 use Rattle.fraction.specs.declared.fault.NumberFault.{NumberFault}
 use Rattle.fraction.proofs.Unique.{one_value, one_fault, value_or_fault}
@@ -42,15 +44,15 @@ keywords_differ xs ys e = let k : ◌≡◌ {A = ℕ} 112 119 = first_bytes 112 
 
 -- ---- numerals
 
-pub one_saying : (word : List ℕ) (x y : Terms) → Says word x → Says word y → x ≡ y
+pub one_saying : (word : List ℕ) (x y : Ratio) → Says word x → Says word y → x ≡ y
 unfolding Says
-one_saying word x y h k = one_value word x y h k
+one_saying word x y h k = same_ratio x y (one_value word (terms x) (terms y) h k)
 
-pub says_no_fault : (word : List ℕ) (x : Terms) (f : NumberFault) → Says word x → IsParseFault word f → ⊥
+pub says_no_fault : (word : List ℕ) (x : Ratio) (f : NumberFault) → Says word x → IsParseFault word f → ⊥
 unfolding Says
-says_no_fault word x f h k = value_or_fault word x f h k
+says_no_fault word x f h k = value_or_fault word (terms x) f h k
 
-pub same_values : (numerals : Words) (xs ys : List Terms) → AllZip Says numerals xs → AllZip Says numerals ys → xs ≡ ys
+pub same_values : (numerals : Words) (xs ys : List Ratio) → AllZip Says numerals xs → AllZip Says numerals ys → xs ≡ ys
 same_values [] [] [] h k = refl
 same_values [] [] (y ∷ ys) h k = absurd k
 same_values [] (x ∷ xs) ys h k = absurd h
@@ -58,12 +60,12 @@ same_values (n ∷ ns) [] ys h k = absurd h
 same_values (n ∷ ns) (x ∷ xs) [] h k = absurd k
 same_values (n ∷ ns) (x ∷ xs) (y ∷ ys) h k = ap₂ (λ a more. a ∷ more) (one_saying n x y h.0 k.0) (same_values ns xs ys h.1 k.1)
 
-pub no_values : (numerals : Words) (xs : List Terms) → AllZip Says numerals xs → numerals ≡ [] → 0 < length xs → ⊥
+pub no_values : (numerals : Words) (xs : List Ratio) → AllZip Says numerals xs → numerals ≡ [] → 0 < length xs → ⊥
 no_values [] [] h e some = omega arith
 no_values [] (x ∷ xs) h e some = h
 no_values (n ∷ ns) xs h e some = cc
 
-pub refused_not_said : (words : Words) (xs : List Terms) (f : NumberFault) → AllZip Says words xs → IsFirstRefused words f → ⊥
+pub refused_not_said : (words : Words) (xs : List Ratio) (f : NumberFault) → AllZip Says words xs → IsFirstRefused words f → ⊥
 refused_not_said [] xs f h b = b
 refused_not_said (w ∷ ws) [] f h b = h
 refused_not_said (w ∷ ws) (x ∷ xs) f h (inl b) = says_no_fault w x f h.0 b
@@ -76,7 +78,7 @@ one_refused (w ∷ ws) f g (inl h) (inr k) = absurd (says_no_fault w k.0.0 f k.0
 one_refused (w ∷ ws) f g (inr h) (inl k) = absurd (says_no_fault w h.0.0 g h.0.1 k)
 one_refused (w ∷ ws) f g (inr h) (inr k) = one_refused ws f g h.1 k.1
 
-pub same_numbers : (keyword line : List ℕ) (xs ys : List Terms) → IsNumbersLine keyword line xs → IsNumbersLine keyword line ys → xs ≡ ys
+pub same_numbers : (keyword line : List ℕ) (xs ys : List Ratio) → IsNumbersLine keyword line xs → IsNumbersLine keyword line ys → xs ≡ ys
 same_numbers keyword line xs ys a b =
     let e : a.numerals ≡ b.numerals = tails keyword keyword _ _ (sym a.words ∙ b.words) in
     same_values b.numerals xs ys (subst (λ ns. AllZip Says ns xs) e a.each) b.each

@@ -2,12 +2,13 @@
 use Rattle.std.proofs.Common.{◌≡◌, ℕ, List, [], ◌∷◌, ◌++◌, Option, Some, None, map, refl, sym, ap, ap₂, subst, ◌∙◌}
 use Rattle.std.specs.Prelude.{codes}
 use Rattle.std.specs.List.{AllZip}
-use Rattle.field_core.specs.Terms.{Terms}
-use Rattle.case_model.specs.Draft.{DraftContent, DraftEdgeContent}
+use Rattle.field_core.specs.declared.ratio.Ratio.{Ratio}
+use Rattle.case_model.specs.declared.draft.Draft.{Draft}
+use Rattle.case_model.specs.declared.draft_edge.DraftEdge.{DraftEdge}
 use Rattle.case_model.specs.Names.{position_of}
-use Rattle.edge_text.specs.Lines.{behind_words}
+use Rattle.text_lines.specs.Words.{behind_words}
 use Rattle.edge_text.specs.Grammar.{Words, Says, IsAlphaLine, IsNamesLine, IsWeightsLine, IsEdgeLine, optional, GivesP, one_component, IsDocument}
-use Rattle.edge_text.proofs.OneEntry.{one_entry}
+use Rattle.edge_expression.proofs.OneEntry.{one_entry}
 use Rattle.edge_text.proofs.LineWords.{tails, one_word, same_ends, keywords_differ, one_saying, same_numbers}
 
 lines_heads : (x y : List ℕ) (xs ys : List (List ℕ)) → x ∷ xs ≡ y ∷ ys → x ≡ y
@@ -16,7 +17,7 @@ lines_heads x y xs ys e = cc
 lines_tails : (x y : List ℕ) (xs ys : List (List ℕ)) → x ∷ xs ≡ y ∷ ys → xs ≡ ys
 lines_tails x y xs ys e = cc
 
-one_level : (line : List ℕ) (x y : Terms) → IsAlphaLine line x → IsAlphaLine line y → x ≡ y
+one_level : (line : List ℕ) (x y : Ratio) → IsAlphaLine line x → IsAlphaLine line y → x ≡ y
 one_level line x y a b = one_saying b.numeral x y (subst (λ n. Says n x) (one_word (codes "alpha") a.numeral b.numeral (sym a.words ∙ b.words)) a.says) b.says
 
 same_names : (line : List ℕ) (xs ys : Words) → IsNamesLine line xs → IsNamesLine line ys → xs ≡ ys
@@ -25,17 +26,17 @@ same_names line xs ys a b = tails _ _ _ _ (sym a ∙ b)
 same_place : (name : List ℕ) (names : Words) (i j : ℕ) → position_of name names ≡ Some i → position_of name names ≡ Some j → i ≡ j
 same_place name names i j h k = let e : Some i ≡ Some j = sym h ∙ k in cc
 
-edge_by : (d e : DraftEdgeContent) → d.from ≡ e.from → d.to ≡ e.to → d.entry ≡ e.entry → d ≡ e
+edge_by : (d e : DraftEdge) → d.from ≡ e.from → d.to ≡ e.to → d.entry ≡ e.entry → d ≡ e
 edge_by d e p q r = λ i. record { from = p i; to = q i; entry = r i }
 
-one_edge : (names : Words) (line : List ℕ) (d e : DraftEdgeContent) → IsEdgeLine names line d → IsEdgeLine names line e → d ≡ e
+one_edge : (names : Words) (line : List ℕ) (d e : DraftEdge) → IsEdgeLine names line d → IsEdgeLine names line e → d ≡ e
 one_edge names line d e a b =
     let same = same_ends line a.from a.to b.from b.to a.ends b.ends in
     let from = same_place b.from names d.from e.from (subst (λ n. position_of n names ≡ Some d.from) same.0 a.from_is) b.from_is in
     let to = same_place b.to names d.to e.to (subst (λ n. position_of n names ≡ Some d.to) same.1 a.to_is) b.to_is in
     edge_by d e from to (one_entry (behind_words 3 line) d.entry e.entry a.says b.says)
 
-same_edges : (names : Words) (lines : List (List ℕ)) (ds es : List DraftEdgeContent) → AllZip (IsEdgeLine names) lines ds → AllZip (IsEdgeLine names) lines es → ds ≡ es
+same_edges : (names : Words) (lines : List (List ℕ)) (ds es : List DraftEdge) → AllZip (IsEdgeLine names) lines ds → AllZip (IsEdgeLine names) lines es → ds ≡ es
 same_edges names [] [] [] h k = refl
 same_edges names [] [] (e ∷ es) h k = absurd k
 same_edges names [] (d ∷ ds) es h k = absurd h
@@ -50,10 +51,10 @@ record SameSplit (p q : Option (List ℕ)) (v w : List ℕ) (ls ms : List (List 
   rest : ls ≡ ms
 
 -- a p line is no weights line
-p_apart : (line : List ℕ) (p : List (Option Terms)) (values : List Terms) → GivesP (Some line) p → IsWeightsLine line values → ⊥
+p_apart : (line : List ℕ) (p : List (Option Ratio)) (values : List Ratio) → GivesP (Some line) p → IsWeightsLine line values → ⊥
 p_apart line p values g w = keywords_differ _ _ (sym g.1.numbers.words ∙ w.words)
 
-split_once : (p q : Option (List ℕ)) (x y : List (Option Terms)) (v w : List ℕ) (s t : List Terms) (ls ms : List (List ℕ)) → GivesP p x → GivesP q y → IsWeightsLine v s → IsWeightsLine w t → optional p ++ v ∷ ls ≡ optional q ++ w ∷ ms → SameSplit p q v w ls ms
+split_once : (p q : Option (List ℕ)) (x y : List (Option Ratio)) (v w : List ℕ) (s t : List Ratio) (ls ms : List (List ℕ)) → GivesP p x → GivesP q y → IsWeightsLine v s → IsWeightsLine w t → optional p ++ v ∷ ls ≡ optional q ++ w ∷ ms → SameSplit p q v w ls ms
 split_once None None x y v w s t ls ms g h a b e = record { given = refl; line = lines_heads _ _ _ _ e; rest = lines_tails _ _ _ _ e }
 split_once None (Some m) x y v w s t ls ms g h a b e = absurd (p_apart m y s h (subst (λ l. IsWeightsLine l s) (lines_heads v m _ _ e) a))
 split_once (Some l) None x y v w s t ls ms g h a b e = absurd (p_apart l x t g (subst (λ l. IsWeightsLine l t) (lines_heads w l _ _ (sym e)) b))
@@ -61,14 +62,14 @@ split_once (Some l) (Some m) x y v w s t ls ms g h a b e =
     let more = lines_tails l m (v ∷ ls) (w ∷ ms) e in
     record { given = ap Some (lines_heads l m _ _ e); line = lines_heads _ _ _ _ more; rest = lines_tails _ _ _ _ more }
 
-same_given : (line : Option (List ℕ)) (x y : List (Option Terms)) → GivesP line x → GivesP line y → x ≡ y
+same_given : (line : Option (List ℕ)) (x y : List (Option Ratio)) → GivesP line x → GivesP line y → x ≡ y
 same_given None x y g h = g ∙ sym h
 same_given (Some l) x y g h = g.2 ∙ ap (map Some) (same_numbers (codes "p") l g.0 h.0 g.1.numbers h.1.numbers) ∙ sym h.2
 
-draft_by : (d e : DraftContent) → d.names ≡ e.names → d.alpha ≡ e.alpha → d.p ≡ e.p → d.components ≡ e.components → d.stages ≡ e.stages → d ≡ e
+draft_by : (d e : Draft) → d.names ≡ e.names → d.alpha ≡ e.alpha → d.p ≡ e.p → d.components ≡ e.components → d.stages ≡ e.stages → d ≡ e
 draft_by d e n a p c s = λ i. record { names = n i; alpha = a i; p = p i; components = c i; stages = s i }
 
-pub one_document : (lines : List (List ℕ)) (d e : DraftContent) → IsDocument lines d → IsDocument lines e → d ≡ e
+pub one_document : (lines : List (List ℕ)) (d e : Draft) → IsDocument lines d → IsDocument lines e → d ≡ e
 one_document lines d e h k =
     let spelt = sym h.spelt ∙ k.spelt in
     let behind = lines_tails _ _ _ _ spelt in

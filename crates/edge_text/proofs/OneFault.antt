@@ -2,7 +2,7 @@
 use Rattle.std.proofs.Common.{◌≡◌, ℕ, ◌⊎◌, inl, inr, List, [], ◌∷◌, ◌++◌, refl, sym, ap, subst, ◌∙◌}
 use Rattle.edge_text.specs.declared.fault.LineKind.{LineKind}
 use Rattle.edge_text.specs.declared.fault.LineKind.TheVariants.{Ended}
-use Rattle.edge_text.specs.Lines.{Row, texts_in}
+use Rattle.text_lines.specs.Lines.{Row, texts_in}
 use Rattle.edge_text.specs.Faults.{Place, MustFollow, Stands, Lead, IsBad, IsFaultFrom}
 use Rattle.edge_text.proofs.LineFaults.{stands_not_bad, stands_once, bad_once}
 

@@ -3,7 +3,7 @@ use Rattle.std.proofs.Common.{◌≡◌, Option, Some, None, refl, sym, ap, ◌�
 use Rattle.case_model.specs.declared.fault.CaseFault.{CaseFault}
 use Rattle.case_model.specs.CaseFaults.{case_fault}
 use Rattle.case_model.specs.Content.{content_of}
-use Rattle.case_model.specs.Draft.{DraftContent}
+use Rattle.case_model.specs.declared.draft.Draft.{Draft}
 use Rattle.edge_text.specs.declared.fault.TextFault.TheVariants as faults
 use Rattle.edge_text.specs.Reading.{IsTextFault}
 use Rattle.edge_text.specs.TextStatements.{TextsHaveOneCase, TextsHaveOneRefusal, FaultsArentRefusals, CasesHaveNoFault}
@@ -18,7 +18,7 @@ same_fault a b e = cc
 pub one_refusal : TextsHaveOneRefusal
 one_refusal bytes r s h k =
     let same = one_draft bytes h.draft k.draft h.says k.says in
-    (same_fault r.fault s.fault (sym h.fault_is ∙ ap case_fault same ∙ k.fault_is), h.names_are ∙ ap (λ (d : DraftContent). d.names) same ∙ sym k.names_are)
+    (same_fault r.fault s.fault (sym h.fault_is ∙ ap case_fault same ∙ k.fault_is), h.names_are ∙ ap (λ (d : Draft). d.names) same ∙ sym k.names_are)
 
 pub fault_or_refusal : FaultsArentRefusals
 fault_or_refusal bytes n kind refused f r = not_both bytes r.draft n kind r.says f

@@ -1,8 +1,8 @@
 -- What texts say, and where they fail.
 use Rattle.std.proofs.Common.{◌≡◌, ℕ, ◌⊎◌, inl, inr, List, [], ◌∷◌, ◌++◌, refl, sym, subst}
-use Rattle.case_model.specs.Draft.{DraftContent}
+use Rattle.case_model.specs.declared.draft.Draft.{Draft}
 use Rattle.edge_text.specs.declared.fault.LineKind.{LineKind}
-use Rattle.edge_text.specs.Lines.{rows_of, texts_in, end_of}
+use Rattle.text_lines.specs.Lines.{rows_of, texts_in, end_of}
 use Rattle.edge_text.specs.Grammar.{IsDocument, IsText}
 use Rattle.edge_text.specs.Faults.{Place, Alpha, Names, POrWeights, Weights, Edges, MustFollow, Stands, Lead, IsBad, IsFirstFault}
 use Rattle.edge_text.specs.TextStatements.{TextsSayOneDraft, TextsHaveOneFault, TextsSayOrFail, TextsDontSayAndFail, BeginDocument, FirstFaultsEndDocuments, WhereNoneGoesOnIsFault, UnfinishedTextsEnd}
@@ -23,7 +23,7 @@ pub not_both : TextsDontSayAndFail
 not_both bytes d n kind h f =
     lead_not_fault Alpha (rows_of bytes) (end_of bytes) n kind (Edges d.names) (document_leads (texts_in (rows_of bytes)) d h) (λ must. must) (fault_by Alpha (rows_of bytes) (end_of bytes) n kind f)
 
-said_or_failed : (bytes : List ℕ) → Ends Alpha (rows_of bytes) (end_of bytes) → ((d : DraftContent) × IsText bytes d) ⊎ ((n : ℕ) × (kind : LineKind) × IsFirstFault bytes n kind)
+said_or_failed : (bytes : List ℕ) → Ends Alpha (rows_of bytes) (end_of bytes) → ((d : Draft) × IsText bytes d) ⊎ ((n : ℕ) × (kind : LineKind) × IsFirstFault bytes n kind)
 said_or_failed bytes (inl h) = let said = lead_says h.0 (texts_in (rows_of bytes)) h.1 in inl (said.draft, said.is)
 said_or_failed bytes (inr h) = inr (h.0, h.1, fault_from Alpha (rows_of bytes) (end_of bytes) h.0 h.1 h.2)
 
@@ -73,7 +73,7 @@ none_goes_on bytes number w =
     let bad = bad_behind (texts_in w.before) w.row.text leads.0 leads.1 w.refused (chooses leads.0 w.row.text) in
     (bad.0, inl (record { before = w.before; row = w.row; after = w.after; rows_are = w.rows_are; here = leads.0; lead = leads.1; bad = bad.1; number_is = w.number_is }))
 
-must_follow : (lines : List (List ℕ)) (here : Place) → Lead Alpha lines here → ((d : DraftContent) → ¬ IsDocument lines d) → MustFollow here
+must_follow : (lines : List (List ℕ)) (here : Place) → Lead Alpha lines here → ((d : Draft) → ¬ IsDocument lines d) → MustFollow here
 must_follow lines Alpha lead none = tt
 must_follow lines Names lead none = tt
 must_follow lines (POrWeights names) lead none = tt

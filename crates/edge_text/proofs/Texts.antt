@@ -9,12 +9,12 @@ use Rattle.case_model.specs.declared.fault.Refused.{Refused}
 use Rattle.case_model.specs.declared.fault.CaseFault.TheVariants.{NoMemory as OutOfMemory}
 use Rattle.case_model.specs.declared.draft.Draft.{Draft}
 use Rattle.case_model.specs.CaseFaults.{case_fault}
-use Rattle.case_model.specs.Draft.{DraftContent, DraftEdgeContent, have_known_ends}
-use Rattle.case_model.specs.DraftView.{said}
+use Rattle.case_model.specs.declared.draft_edge.DraftEdge.{DraftEdge}
+use Rattle.case_model.specs.Draft.{have_known_ends}
 use Rattle.case_model.specs.Names.{position_of}
 use Rattle.edge_text.specs.declared.fault.TextFault.{TextFault}
 use Rattle.edge_text.specs.declared.fault.TextFault.TheVariants as faults
-use Rattle.edge_text.specs.Lines.{rows_of, end_of}
+use Rattle.text_lines.specs.Lines.{rows_of, end_of}
 use Rattle.edge_text.specs.Grammar.{IsEdgeLine, IsDocument, IsText}
 use Rattle.edge_text.specs.Faults.{Alpha}
 use Rattle.edge_text.specs.Reading.{IsTextFault}
@@ -25,14 +25,14 @@ use Rattle.edge_text.specs.View.{IsFaultAt}
 known : (names : List (List ℕ)) (name : List ℕ) (i : ℕ) → position_of name names ≡ Some i → nat_lt i (length names) ≡ true
 known names name i e = lt-ltb i (length names) (position-Some (bytes_eq name) names i [] e).0
 
-known_edges : (names : List (List ℕ)) (lines : List (List ℕ)) (edges : List DraftEdgeContent) → AllZip (IsEdgeLine names) lines edges → list_all (λ e. nat_lt e.from (length names) && nat_lt e.to (length names)) edges ≡ true
+known_edges : (names : List (List ℕ)) (lines : List (List ℕ)) (edges : List DraftEdge) → AllZip (IsEdgeLine names) lines edges → list_all (λ e. nat_lt e.from (length names) && nat_lt e.to (length names)) edges ≡ true
 known_edges names [] [] h = refl
 known_edges names [] (edge ∷ edges) h = absurd h
 known_edges names (line ∷ lines) [] h = absurd h
 known_edges names (line ∷ lines) (edge ∷ edges) h =
     ap₂ (λ x y. x && y) (ap₂ (λ x y. x && y) (known names h.0.from edge.from h.0.from_is) (known names h.0.to edge.to h.0.to_is)) (known_edges names lines edges h.1)
 
-pub document_ends : (lines : List (List ℕ)) (draft : DraftContent) → IsDocument lines draft → have_known_ends draft ≡ true
+pub document_ends : (lines : List (List ℕ)) (draft : Draft) → IsDocument lines draft → have_known_ends draft ≡ true
 unfolding have_known_ends
 document_ends lines draft d =
     ap (list_all (λ k. list_all (λ e. nat_lt e.from (length draft.names) && nat_lt e.to (length draft.names)) k.edges)) d.components ∙ ap (λ b. b && true) (known_edges draft.names d.edge_lines d.edges d.edges_are)
@@ -47,9 +47,9 @@ line_fault bytes (faults.Case refused) f = absurd f
 line_fault bytes faults.NoMemory f = tt
 
 -- so is one of the draft
-pub draft_fault : (bytes : List ℕ) (draft : Draft) (refused : Refused) (fault : TextFault) → IsText bytes (said draft) → (refused.fault ≡ OutOfMemory) ⊎ (case_fault (said draft) ≡ Some refused.fault) → refused.names ≡ draft.names
+pub draft_fault : (bytes : List ℕ) (draft : Draft) (refused : Refused) (fault : TextFault) → IsText bytes draft → (refused.fault ≡ OutOfMemory) ⊎ (case_fault draft ≡ Some refused.fault) → refused.names ≡ draft.names
     → ((refused.fault ≡ OutOfMemory) × (fault ≡ faults.NoMemory)) ⊎ ((refused.fault ≢ OutOfMemory) × (fault ≡ faults.Case refused)) → IsTextFault bytes fault
 unfolding IsTextFault
 draft_fault bytes draft refused fault t f n (inl (m, e)) = subst (IsTextFault bytes) (sym e) tt
 draft_fault bytes draft refused fault t (inl m) n (inr (o, e)) = absurd (o m)
-draft_fault bytes draft refused fault t (inr f) n (inr (o, e)) = subst (IsTextFault bytes) (sym e) (record { draft = said draft; says = t; fault_is = f; names_are = n })
+draft_fault bytes draft refused fault t (inr f) n (inr (o, e)) = subst (IsTextFault bytes) (sym e) (record { draft = draft; says = t; fault_is = f; names_are = n })

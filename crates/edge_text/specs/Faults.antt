@@ -1,14 +1,15 @@
 -- The first line of a text that can't stand, and what is wrong with it.
 use Rattle.std.specs.Prelude.{◌≡◌, ◌<◌, ◌⊎◌, ℕ, List, [], ◌∷◌, ◌++◌, None, length, codes}
-use Rattle.field_core.specs.Terms.{Terms}
+use Rattle.field_core.specs.declared.ratio.Ratio.{Ratio}
 use Rattle.fraction.specs.Numeral.{IsParseFault}
 use Rattle.fraction.specs.declared.fault.NumberFault.{NumberFault}
-use Rattle.case_model.specs.Draft.{DraftEdgeContent}
+use Rattle.case_model.specs.declared.draft_edge.DraftEdge.{DraftEdge}
 use Rattle.case_model.specs.Names.{position_of}
 use Rattle.edge_text.specs.declared.fault.LineKind.{LineKind}
 use Rattle.edge_text.specs.declared.fault.LineKind.TheVariants.{Unexpected, Ended, WordCount, UnknownName, Number, Expr}
-use Rattle.edge_text.specs.Lines.{Row, rows_of, words_of, behind_words, texts_in, end_of}
-use Rattle.edge_text.specs.EntryReading.{IsExprFault}
+use Rattle.text_lines.specs.Lines.{Row, rows_of, texts_in, end_of}
+use Rattle.text_lines.specs.Words.{words_of, behind_words}
+use Rattle.edge_expression.specs.EntryReading.{IsExprFault}
 use Rattle.edge_text.specs.Grammar.{Words, Says, IsAlphaLine, IsNamesLine, IsPLine, IsWeightsLine, HasEnds, IsEdgeLine}
 
 -- ---- what is wrong with a line
@@ -20,7 +21,7 @@ IsOther keyword line = (rest : Words) → ¬ (words_of line ≡ keyword ∷ rest
 -- the first of the words that is no numeral which can be taken has this fault
 abbrev pub IsFirstRefused : Words → NumberFault → Type 0
 IsFirstRefused [] fault = ⊥
-IsFirstRefused (word ∷ words) fault = IsParseFault word fault ⊎ (((value : Terms) × Says word value) × IsFirstRefused words fault)
+IsFirstRefused (word ∷ words) fault = IsParseFault word fault ⊎ (((value : Ratio) × Says word value) × IsFirstRefused words fault)
 
 -- where `alpha` and one numeral must stand
 abbrev pub IsAlphaFault : List ℕ → LineKind → Type 0
@@ -100,11 +101,11 @@ MustFollow (Edges names) = ⊥
 
 -- this line may stand at the first place, and the second place comes behind it
 abbrev pub Stands : Place → List ℕ → Place → Type 0
-Stands Alpha line next = ((value : Terms) × IsAlphaLine line value) × (next ≡ Names)
+Stands Alpha line next = ((value : Ratio) × IsAlphaLine line value) × (next ≡ Names)
 Stands Names line next = (names : List (List ℕ)) × IsNamesLine line names × (next ≡ POrWeights names)
-Stands (POrWeights names) line next = (((values : List Terms) × IsPLine line values) × (next ≡ Weights names)) ⊎ (((values : List Terms) × IsWeightsLine line values) × (next ≡ Edges names))
-Stands (Weights names) line next = ((values : List Terms) × IsWeightsLine line values) × (next ≡ Edges names)
-Stands (Edges names) line next = ((edge : DraftEdgeContent) × IsEdgeLine names line edge) × (next ≡ Edges names)
+Stands (POrWeights names) line next = (((values : List Ratio) × IsPLine line values) × (next ≡ Weights names)) ⊎ (((values : List Ratio) × IsWeightsLine line values) × (next ≡ Edges names))
+Stands (Weights names) line next = ((values : List Ratio) × IsWeightsLine line values) × (next ≡ Edges names)
+Stands (Edges names) line next = ((edge : DraftEdge) × IsEdgeLine names line edge) × (next ≡ Edges names)
 
 -- these lines may stand, one behind the other, from the first place on, and the second place comes behind them
 abbrev pub Lead : Place → List (List ℕ) → Place → Type 0

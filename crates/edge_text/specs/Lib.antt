@@ -1,14 +1,5 @@
-pub mod ByteMachine
-pub mod EntryValues
-pub mod Expressions
-pub mod CursorView
-pub mod EntryReading
-pub mod EntryTexts
-pub mod EntryView
-pub mod ExpressionStatements
 pub mod Faults
 pub mod Grammar
-pub mod Lines
 pub mod Reading
 pub mod TextStatements
 pub mod View

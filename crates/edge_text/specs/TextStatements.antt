@@ -3,19 +3,19 @@ use Rattle.std.specs.Prelude.{◌≡◌, ◌≢◌, ◌⊎◌, ℕ, List, [], �
 use Rattle.case_model.specs.declared.case.Case.{Case}
 use Rattle.case_model.specs.declared.fault.Refused.{Refused}
 use Rattle.case_model.specs.CaseView.{content}
-use Rattle.case_model.specs.Draft.{DraftContent}
+use Rattle.case_model.specs.declared.draft.Draft.{Draft}
 use Rattle.edge_text.specs.declared.fault.LineKind.{LineKind}
 use Rattle.edge_text.specs.declared.fault.LineKind.TheVariants.{Ended}
 use Rattle.edge_text.specs.declared.fault.TextFault.{TextFault}
 use Rattle.edge_text.specs.declared.fault.TextFault.TheVariants as faults
-use Rattle.edge_text.specs.Lines.{Row, rows_of, texts_in, end_of}
+use Rattle.text_lines.specs.Lines.{Row, rows_of, texts_in, end_of}
 use Rattle.edge_text.specs.Grammar.{IsDocument, IsText}
 use Rattle.edge_text.specs.Faults.{IsFirstFault}
 use Rattle.edge_text.specs.Reading.{IsCaseOf, IsRefusedText, IsTextFault}
 
 -- a text says at most one draft
 abbrev pub TextsSayOneDraft : Type 0
-TextsSayOneDraft = (bytes : List ℕ) (d e : DraftContent) → IsText bytes d → IsText bytes e → d ≡ e
+TextsSayOneDraft = (bytes : List ℕ) (d e : Draft) → IsText bytes d → IsText bytes e → d ≡ e
 
 -- a text has at most one first fault
 abbrev pub TextsHaveOneFault : Type 0
@@ -23,16 +23,16 @@ TextsHaveOneFault = (bytes : List ℕ) (m n : ℕ) (j k : LineKind) → IsFirstF
 
 -- a text says a draft or has a first fault
 abbrev pub TextsSayOrFail : Type 0
-TextsSayOrFail = (bytes : List ℕ) → ((d : DraftContent) × IsText bytes d) ⊎ ((n : ℕ) × (kind : LineKind) × IsFirstFault bytes n kind)
+TextsSayOrFail = (bytes : List ℕ) → ((d : Draft) × IsText bytes d) ⊎ ((n : ℕ) × (kind : LineKind) × IsFirstFault bytes n kind)
 
 -- a text that says a draft has no first fault
 abbrev pub TextsDontSayAndFail : Type 0
-TextsDontSayAndFail = (bytes : List ℕ) (d : DraftContent) (n : ℕ) (kind : LineKind) → IsText bytes d → ¬ IsFirstFault bytes n kind
+TextsDontSayAndFail = (bytes : List ℕ) (d : Draft) (n : ℕ) (kind : LineKind) → IsText bytes d → ¬ IsFirstFault bytes n kind
 
 -- some document begins with these lines
 pub record BeginDocument (lines : List (List ℕ)) : Type 0 where
   pub more : List (List ℕ)
-  pub draft : DraftContent
+  pub draft : Draft
   pub is : IsDocument (lines ++ more) draft
 
 -- The lines before the one of this number begin some document, and together with that line they begin none.
@@ -48,7 +48,7 @@ pub record IsWhereNoneGoesOn (rows : List Row) (number : ℕ) : Type 0 where
 -- the lines begin some document, and are none
 pub record IsUnfinished (rows : List Row) : Type 0 where
   pub begins : BeginDocument (texts_in rows)
-  pub refused : (draft : DraftContent) → ¬ IsDocument (texts_in rows) draft
+  pub refused : (draft : Draft) → ¬ IsDocument (texts_in rows) draft
 
 -- the first fault of a text is at the first line with which no document goes on; or, where the lines begin some document and are none, behind the last line
 abbrev pub FirstFaultsEndDocuments : Type 0

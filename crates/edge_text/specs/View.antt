@@ -1,57 +1,27 @@
--- Lines, words and faults as contracts of the reader's parts see them.
+-- Words and faults as contracts of the reader's parts see them.
 use Rattle.std.specs.Prelude.{◌≡◌, ◌<◌, ◌⊎◌, ℕ, ◌+◌, List, [], ◌∷◌, ◌++◌, Option, Some, map, length}
 use Rattle.std.specs.List.{AllZip}
-use Rattle.field_core.specs.Terms.{Terms}
+use Rattle.field_core.specs.declared.ratio.Ratio.{Ratio}
 use Rattle.fraction.specs.Numeral.{IsParseFault}
 use Rattle.case_model.specs.declared.name_index.NameIndex.{NameIndex}
 use Rattle.case_model.specs.NameIndexView.{place_of}
 use Rattle.case_model.specs.Names.{position_of}
-use Rattle.case_model.specs.Draft.{DraftEdgeContent}
-use Rattle.edge_text.specs.declared.cursor.Line.{Line}
-use Rattle.edge_text.specs.declared.cursor.Lines.{Lines}
-use Rattle.edge_text.specs.declared.cursor.Words.{Words as WordsLeft}
+use Rattle.case_model.specs.declared.draft_edge.DraftEdge.{DraftEdge}
 use Rattle.edge_text.specs.declared.fault.LineKind.{LineKind}
 use Rattle.edge_text.specs.declared.fault.LineKind.TheVariants.{Unexpected, Ended, WordCount, UnknownName, Number, Expr}
 use Rattle.edge_text.specs.declared.fault.TextFault.{TextFault}
 use Rattle.edge_text.specs.declared.fault.TextFault.TheVariants as faults
-use Rattle.edge_text.specs.Lines.{Row, lines_of, words_of, texts_in, kept_after}
-use Rattle.edge_text.specs.EntryReading.{IsEntryText, IsExprFault}
+use Rattle.text_lines.specs.Lines.{Row, lines_of, texts_in, kept_after}
+use Rattle.text_lines.specs.Words.{words_of}
+use Rattle.edge_expression.specs.EntryReading.{IsEntryText, IsExprFault}
 use Rattle.edge_text.specs.Grammar.{Words, Says, IsWeightsLine, GivesP, optional}
 use Rattle.edge_text.specs.Faults.{Place, IsFirstRefused, IsUnknown, IsFaultFrom}
-
--- a line that was taken
-abbrev pub row : Line → Row
-row line = record { number = line.number; text = line.text.now }
-
--- its text
-abbrev pub line_text : Line → List ℕ
-line_text line = line.text.now
-
--- its words
-abbrev pub line_words : Line → Words
-line_words line = words_of (line_text line)
-
--- what of a line is still to come
-abbrev pub text_left : WordsLeft → List ℕ
-text_left words = words.rest.now
-
--- its words
-abbrev pub words_left : WordsLeft → Words
-words_left words = words_of (text_left words)
 
 -- these two words, and at least one more
 pub record HasThree (words : Words) (from to : List ℕ) : Type 0 where
   pub further : List ℕ
   pub others : Words
   pub words_are : words ≡ from ∷ to ∷ further ∷ others
-
--- the lines still to come that count
-unfoldable pub rows_left : Lines → List Row
-rows_left s = kept_after s.number (lines_of s.rest.now)
-
--- the number of the line that would stand behind the last one
-unfoldable pub end_at : Lines → ℕ
-end_at s = s.number + length (lines_of s.rest.now) + 1
 
 -- a fault of the line of this number, of such a kind, or want of memory
 abbrev pub IsOnLine : ℕ → (LineKind → Type 0) → TextFault → Type 0
@@ -78,8 +48,8 @@ IsListFault words (Number fault) = IsFirstRefused words fault
 IsListFault words (Expr fault) = ⊥
 
 -- the words are numerals of these p-values, at least one
-pub record AreGiven (words : Words) (p : List (Option Terms)) : Type 0 where
-  pub values : List Terms
+pub record AreGiven (words : Words) (p : List (Option Ratio)) : Type 0 where
+  pub values : List Ratio
   pub each : AllZip Says words values
   pub some : 0 < length values
   pub p_is : p ≡ map Some values
@@ -103,7 +73,7 @@ IsEntryFault text (Number fault) = ⊥
 IsEntryFault text (Expr fault) = IsExprFault text fault
 
 -- the edge between these two names, with the weight of an expression
-pub record IsEdgeOf (names : List (List ℕ)) (from to expression : List ℕ) (edge : DraftEdgeContent) : Type 0 where
+pub record IsEdgeOf (names : List (List ℕ)) (from to expression : List ℕ) (edge : DraftEdge) : Type 0 where
   pub from_is : position_of from names ≡ Some edge.from
   pub to_is : position_of to names ≡ Some edge.to
   pub says : IsEntryText expression edge.entry
@@ -140,7 +110,7 @@ pub record TakesLines (old new : List Row) (Are : List (List ℕ) → Type 0) : 
   pub are : Are (texts_in lines)
 
 -- perhaps a `p` line, and the weights
-pub record AreNumbersLines (lines : List (List ℕ)) (p : List (Option Terms)) (weights : List Terms) : Type 0 where
+pub record AreNumbersLines (lines : List (List ℕ)) (p : List (Option Ratio)) (weights : List Ratio) : Type 0 where
   pub p_line : Option (List ℕ)
   pub weights_line : List ℕ
   pub spelt : lines ≡ optional p_line ++ weights_line ∷ []

@@ -2,21 +2,21 @@
 ghost use Rattle.std.specs.Prelude.{◌≡◌, ℕ, List as Seq, [], ◌∷◌, map, IfOk, IfErr};
 ghost use Rattle.std.specs.List.{AllZip};
 ghost use Rattle.std.specs.Option.{option_map};
-ghost use Rattle.fraction.specs.View.{terms_of};
-ghost use Rattle.case_model.specs.DraftView.{said, edge_said, component_said};
-ghost use Rattle.edge_text.specs.Lines.{rows_of, end_of};
+ghost use Rattle.text_lines.specs.Lines.{rows_of, end_of};
 ghost use Rattle.edge_text.specs.Grammar.{IsAlphaLine, IsNamesLine, IsWeightsLine, IsEdgeLine, IsText, one_component};
 ghost use Rattle.edge_text.specs.Faults.{Alpha as AtAlpha, Names as AtNames, POrWeights as AtPOrWeights, Weights as AtWeights, Edges as AtEdges};
-ghost use Rattle.edge_text.specs.View.{row, rows_left, end_at, TakesLine, TakesLines, AreNumbersLines, IsFaultAt};
+ghost use Rattle.text_lines.specs.Lines.{rows_left, end_at};
+ghost use Rattle.text_lines.specs.View.{row};
+ghost use Rattle.edge_text.specs.View.{TakesLine, TakesLines, AreNumbersLines, IsFaultAt};
 ghost use Rattle.edge_text.specs.declared.fault.LineKind.TheVariants.{Ended};
 ghost use Rattle.edge_text.specs.declared.fault.TextFault.TheVariants as faults;
 
-use crate::cursor::{Line, Lines};
 use crate::{LineKind, TextFault, rules};
 use case_model::{Draft, DraftComponent, DraftEdge, NameIndex};
 use field_core::{List, NoMemory, Number, Text};
 use fraction::Fraction;
 use std::alloc::Global;
+use text_lines::{Line, Lines};
 
 /// The next line, which must be there.
 fn next_line<'a>(lines: &mut Lines<'a>) -> Result<Line<'a>, TextFault>
@@ -24,7 +24,7 @@ fn next_line<'a>(lines: &mut Lines<'a>) -> Result<Line<'a>, TextFault>
     ensures fault { IfErr result (λ fault. (rows_left lines.old ≡ []) × (fault ≡ faults.Line (end_at lines.old) Ended)) }
     ensures end { end_at lines.new ≡ end_at lines.old }
 {
-    match lines.take() {
+    match lines.next() {
         Some(line) => Ok(line),
         None => Err(TextFault::Line(lines.next_number(), LineKind::Ended)),
     }
@@ -32,7 +32,7 @@ fn next_line<'a>(lines: &mut Lines<'a>) -> Result<Line<'a>, TextFault>
 
 /// The level.
 fn alpha(lines: &mut Lines) -> Result<Fraction, TextFault>
-    ensures found { IfOk result (λ x. TakesLine (rows_left lines.old) (rows_left lines.new) (λ line. IsAlphaLine line (terms_of x))) }
+    ensures found { IfOk result (λ x. TakesLine (rows_left lines.old) (rows_left lines.new) (λ line. IsAlphaLine line x)) }
     ensures fault { IfErr result (IsFaultAt AtAlpha (rows_left lines.old) (end_at lines.old)) }
     ensures end { end_at lines.new ≡ end_at lines.old }
 {
@@ -52,7 +52,7 @@ fn names(alloc: Global, lines: &mut Lines) -> Result<List<Text>, TextFault>
 
 /// The weights.
 fn weights(alloc: Global, lines: &mut Lines) -> Result<List<Fraction>, TextFault>
-    ensures found { IfOk result (λ xs. TakesLine (rows_left lines.old) (rows_left lines.new) (λ line. IsWeightsLine line (map terms_of xs))) }
+    ensures found { IfOk result (λ xs. TakesLine (rows_left lines.old) (rows_left lines.new) (λ line. IsWeightsLine line xs)) }
     ensures fault { IfErr result (λ fault. (names : Seq (Seq ℕ)) → IsFaultAt (AtWeights names) (rows_left lines.old) (end_at lines.old) fault) }
     ensures end { end_at lines.new ≡ end_at lines.old }
 {
@@ -69,7 +69,7 @@ struct Values {
 
 /// The p-values, where a line gives them, and the weights.
 fn numbers(alloc: Global, lines: &mut Lines) -> Result<Values, TextFault>
-    ensures found { IfOk result (λ values. TakesLines (rows_left lines.old) (rows_left lines.new) (λ taken. AreNumbersLines taken (map (option_map terms_of) values.p) (map terms_of values.weights))) }
+    ensures found { IfOk result (λ values. TakesLines (rows_left lines.old) (rows_left lines.new) (λ taken. AreNumbersLines taken values.p values.weights)) }
     ensures fault { IfErr result (λ fault. (names : Seq (Seq ℕ)) → IsFaultAt (AtPOrWeights names) (rows_left lines.old) (end_at lines.old) fault) }
     ensures end { end_at lines.new ≡ end_at lines.old }
 {
@@ -92,12 +92,12 @@ fn numbers(alloc: Global, lines: &mut Lines) -> Result<Values, TextFault>
 
 /// The edges between hypotheses of these names, on all lines that are still to come.
 fn edges(alloc: Global, lines: &mut Lines, names: &[Text]) -> Result<List<DraftEdge>, TextFault>
-    ensures found { IfOk result (λ edges. TakesLines (rows_left lines.old) [] (λ taken. AllZip (IsEdgeLine names.now) taken (map edge_said edges))) }
+    ensures found { IfOk result (λ edges. TakesLines (rows_left lines.old) [] (λ taken. AllZip (IsEdgeLine names.now) taken edges)) }
     ensures fault { IfErr result (IsFaultAt (AtEdges names.now) (rows_left lines.old) (end_at lines.old)) }
 {
     let index = NameIndex::build(alloc, names)?;
     let mut edges = List::new(alloc);
-    while let Some(line) = lines.take() {
+    for line in lines {
         edges.push(rules::edge(&line, &index)?)?;
     }
     Ok(edges)
@@ -109,7 +109,7 @@ fn one_component(
     weights: List<Fraction>,
     edges: List<DraftEdge>,
 ) -> Result<List<DraftComponent>, NoMemory>
-    ensures { IfOk result (λ components. map component_said components ≡ one_component (map terms_of weights) (map edge_said edges)) }
+    ensures { IfOk result (λ components. components ≡ one_component weights edges) }
 {
     let mut components = List::new(alloc);
     components.push(DraftComponent {
@@ -122,7 +122,7 @@ fn one_component(
 
 /// The draft that a text says.
 pub fn draft(alloc: Global, bytes: &[u8]) -> Result<Draft, TextFault>
-    ensures found { IfOk result (λ d. IsText bytes.now (said d)) }
+    ensures found { IfOk result (IsText bytes.now) }
     ensures fault { IfErr result (IsFaultAt AtAlpha (rows_of bytes.now) (end_of bytes.now)) }
 {
     let mut lines = Lines::new(bytes);

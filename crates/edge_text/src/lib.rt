@@ -1,35 +1,17 @@
 //! The text form of cases.
 #![tactic(auto)]
 
-mod byte_class;
-mod byte_machine;
-mod cursor;
 mod document;
-mod evaluate;
-mod expr_fault;
-pub mod expression_laws;
-mod factor_cursor;
+mod ends;
 mod fault;
 pub mod laws;
-mod lines;
-mod polynomial;
-mod printing;
 mod read;
-mod reading;
 mod rules;
-mod scan;
-mod short;
-mod short_arithmetic;
-mod words;
 
-pub use expr_fault::ExprFault;
+pub use edge_expression::{ExprFault, print_entry, read_entry};
 pub use fault::{LineKind, TextFault};
-pub use printing::print_entry;
 pub use read::read_text;
-pub use reading::read_entry;
 
-#[cfg(test)]
-mod entry_tests;
 #[cfg(test)]
 mod tests;
 #[cfg(test)]

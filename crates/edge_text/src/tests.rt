@@ -5,7 +5,7 @@ use crate::vectors::{
 };
 use crate::{LineKind, TextFault, read_text};
 use case_model::{Case, Entry, Inputs, Refused};
-use field_core::Text;
+use field_core::{Number, Text};
 use fraction::Fraction;
 use std::alloc::Global;
 use std::process::Abort;
@@ -99,15 +99,15 @@ fn drafts_are_refused(rt: HostRuntime) {
 
 // ---- cases
 
-fn terms(x: &Fraction) -> Terms {
-    (x.ratio().num(), x.ratio().den())
+fn expect_fraction(rt: &impl Abort, found: Fraction, wanted: Terms) {
+    assert_eq!(rt; Ok(found), Fraction::new(wanted.0, wanted.1));
 }
 
 /// These coefficients by ascending power, and 0 behind the last.
 fn expect_entry(rt: &impl Abort, entry: &Entry, weight: &[Terms]) {
     for power in 0..5 {
         let wanted = weight.get(power).copied().unwrap_or((0, 1));
-        assert_eq!(rt; terms(&entry.coefficient(power)), wanted);
+        expect_fraction(rt, entry.coefficient(power), wanted);
     }
 }
 
@@ -137,7 +137,7 @@ fn expect_hypotheses(rt: &impl Abort, case: &Case, held: &Held) {
     for (i, (name, weight)) in held.names.iter().zip(held.weights).enumerate() {
         assert!(rt; i < case.size());
         assert_eq!(rt; case.name(i), name.as_bytes());
-        assert_eq!(rt; terms(&case.weight(0, i)), *weight, "{name}");
+        expect_fraction(rt, case.weight(0, i), *weight);
     }
 }
 
@@ -148,7 +148,7 @@ fn expect_p(rt: &impl Abort, inputs: &Inputs, p: &[Terms]) {
         Inputs::Single(found) => {
             assert_eq!(rt; found.len(), p.len());
             for (found, p) in found.as_slice().iter().zip(p) {
-                assert_eq!(rt; terms(found), *p);
+                expect_fraction(rt, *found, *p);
             }
         }
         Inputs::Staged(_) => assert!(rt; false),
@@ -157,9 +157,9 @@ fn expect_p(rt: &impl Abort, inputs: &Inputs, p: &[Terms]) {
 
 /// The case holds just this, in one component of share 1.
 fn expect_case(rt: &impl Abort, case: &Case, held: &Held) {
-    assert_eq!(rt; terms(&case.alpha()), held.alpha);
+    expect_fraction(rt, case.alpha(), held.alpha);
     assert_eq!(rt; case.components(), 1);
-    assert_eq!(rt; terms(&case.share(0)), (1, 1));
+    assert_eq!(rt; case.share(0), Fraction::one());
     expect_hypotheses(rt, case, held);
     expect_edges(rt, case, held.edges);
     expect_p(rt, case.inputs(), held.p);

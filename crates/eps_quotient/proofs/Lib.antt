@@ -1,11 +1,11 @@
 pub mod Constants
 pub mod CoreTests
 pub mod ListReadings
+pub mod Quick
 pub mod ReadBack
 pub mod ReadSteps
 pub mod Readings
 pub mod Sides
-pub mod Signs
 pub mod Spelled
 pub mod Stored
 pub mod TermLaws

@@ -1,5 +1,5 @@
 -- What is stored, from equal parts.
-use Rattle.std.proofs.Common.{◌≡◌, sym, ap, ap₂, ◌∙◌, subst, List, ℤ, int_div}
+use Rattle.std.proofs.Common.{◌≡◌, refl, IfSome, Option, Some, None, sym, ap, ap₂, ◌∙◌, subst, List, ℤ, int_div}
 use Rattle.field_core.specs.Kind.{Parts}
 use Rattle.field_core.specs.Polynomial.{coefficient, Same, poly_multiply, lowest, IsNonZero}
 use Rattle.field_core.specs.Sized.{gcd_of}
@@ -7,7 +7,9 @@ use Rattle.field_core.specs.Terms.{Terms}
 use Rattle.field_core.specs.LimitParts.{limit_terms}
 use Rattle.eps_quotient.specs.Laws.LimitTerms.{limit_terms-first}
 use Rattle.field_core.specs.Laws.PolynomialLaws.{nonzero-multiply}
+use Rattle.eps_quotient.specs.declared.pair.Pair.{Pair}
 use Rattle.eps_quotient.specs.Stored.{IsQuotient}
+use Rattle.eps_quotient.specs.View.{pair_parts}
 use Rattle.eps_quotient.specs.Laws.QuotientLaws.{same_sym, same_nonzero}
 
 pub stored_same : (x y : Parts) → x ≡ y → IsQuotient y → IsQuotient x
@@ -29,3 +31,7 @@ pub terms_made : (n d : List ℤ) (num den g p q : ℤ) → num ≡ coefficient 
 terms_made n d num den g p q e f h i j =
     let divisor : g ≡ gcd_of (coefficient n 0) (coefficient d 0) = h ∙ ap₂ gcd_of e f in
     ap₂ (λ x y. record { num = x; den = y }) (i ∙ ap₂ int_div e divisor) (j ∙ ap₂ int_div f divisor) ∙ sym (limit_terms-first n d)
+
+pub stored_if : (r : Option Pair) → ((x : Pair) → r ≡ Some x → IsQuotient (pair_parts x)) → IfSome r (λ x. IsQuotient (pair_parts x))
+stored_if (Some x) h = h x refl
+stored_if None h = tt

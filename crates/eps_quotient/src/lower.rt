@@ -40,12 +40,13 @@ fn have_one_core(a: &EpsPoly, b: &EpsPoly) -> bool
 
 /// The quotient without common content and common powers of epsilon.
 #[tactic(auto, unfolding(crate::specs::Lowering::without_powers))]
-fn without_powers(a: &EpsPoly, b: &EpsPoly) -> Pair
+fn without_powers(a: &EpsPoly, b: &EpsPoly, power: usize) -> Pair
     requires a { IsNonZero a.now }
     requires b { IsNonZero b.now }
+    requires held { IsPolynomial b.now }
+    requires power { power ≡ common_order a.now b.now }
     ensures { pair_parts result ≡ without_powers a.now b.now }
 {
-    let power = a.order().min(b.order());
     let content = common_content(a, b);
     Pair {
         numerator: a.lowered(power, content),
@@ -55,18 +56,17 @@ fn without_powers(a: &EpsPoly, b: &EpsPoly) -> Pair
 
 /// The same where both cores are replaced by 1.
 #[tactic(auto, unfolding(crate::specs::Lowering::without_cores))]
-fn without_cores(a: &EpsPoly, b: &EpsPoly) -> Pair
+fn without_cores(a: &EpsPoly, b: &EpsPoly, power: usize) -> Pair
     requires a { IsNonZero a.now }
     requires b { IsNonZero b.now }
+    requires held { IsPolynomial b.now }
+    requires power { power ≡ common_order a.now b.now }
     ensures { pair_parts result ≡ without_cores a.now b.now }
 {
-    let above = a.order();
-    let below = b.order();
-    let power = above.min(below);
     let content = common_content(a, b);
     Pair {
-        numerator: EpsPoly::monomial(a.factor().over(content), above - power),
-        denominator: EpsPoly::monomial(b.factor().over(content), below - power),
+        numerator: EpsPoly::monomial(a.factor().over(content), a.order() - power),
+        denominator: EpsPoly::monomial(b.factor().over(content), b.order() - power),
     }
 }
 
@@ -77,14 +77,13 @@ pub fn lower(a: &EpsPoly, b: &EpsPoly) -> Pair
     ensures lowered { pair_parts result ≡ lower a.now b.now }
     ensures held { IsPolynomial a.now × IsPolynomial b.now }
 {
-    let above = a.degree();
-    let below = b.degree();
+    let power = a.order().min(b.order());
     if a.is_zero() {
         Pair::zero()
     } else if have_one_core(a, b) {
-        without_cores(a, b)
+        without_cores(a, b, power)
     } else {
-        without_powers(a, b)
+        without_powers(a, b, power)
     }
 }
 

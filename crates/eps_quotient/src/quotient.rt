@@ -5,7 +5,7 @@ use crate::lower::norm;
 use crate::pair::Pair;
 use crate::print::put_quotient;
 use crate::read::polynomials;
-use crate::written::{inverse, product, sum};
+use crate::written::{product, quotient, sum};
 use eps_poly::EpsPoly;
 use field_core::{List, NoMemory, Number, Op, Ratio, TooWide};
 use std::cmp::Ordering;
@@ -20,6 +20,7 @@ pub struct EpsQuotient {
 
 impl EpsQuotient {
     ghost use Rattle.std.specs.Prelude.{◌≡◌, ◌≤◌, ◌↔◌, ◌++◌, List as Seq, ℤ, IfSome, IsSomeAnd, IfOk, OnOk, OnErr, map, pos};
+    ghost use Rattle.std.specs.Option.{option_map};
     ghost use Rattle.field_core.specs.declared.place.Op.TheVariants.{Add};
     ghost use Rattle.field_core.specs.Kind.{ok_map, or_wide};
     ghost use Rattle.field_core.specs.Polynomial.{lowest, IsNonZero};
@@ -29,8 +30,9 @@ impl EpsQuotient {
     ghost use Rattle.eps_quotient.specs.Grammar.{IsQuotientText};
     ghost use Rattle.eps_quotient.specs.Lowering.{norm};
     ghost use Rattle.eps_quotient.specs.Polynomials.{polynomial_value, term, written_polynomial};
-    ghost use Rattle.eps_quotient.specs.Spelling.{HoldsFront, quotient_text};
-    ghost use Rattle.eps_quotient.specs.View.{quotient_parts, number_of};
+    ghost use Rattle.eps_quotient.specs.Spelling.{quotient_text};
+    ghost use Rattle.eps_quotient.specs.Stored.{IsQuotient};
+    ghost use Rattle.eps_quotient.specs.View.{number_of, pair_parts, quotient_parts};
 
     /// The quotient num/den as the norm of the two polynomials stores it, or `None` exactly where `den` is 0.
     pub fn new(num: &EpsPoly, den: &EpsPoly) -> Option<EpsQuotient>
@@ -61,10 +63,10 @@ impl EpsQuotient {
     }
 
     /// Appends the text: that of the fraction where both polynomials are constants, else `[c0,c1,..]/[d0,d1,..]`, the coefficients
-    /// of both up to the last that isn't 0. Where memory runs out, a beginning of it may stand behind what was there.
+    /// of both up to the last that isn't 0. Where memory runs out, `out` stays as it was.
     pub fn print(&self, out: &mut List<u8>) -> Result<(), NoMemory>
         ensures printed { OnOk result (out.new ≡ out.old ++ quotient_text (quotient_parts self.now)) }
-        ensures front { OnErr result (HoldsFront out.old (quotient_text (quotient_parts self.now)) out.new) }
+        ensures unchanged { OnErr result (out.new ≡ out.old) }
     {
         put_quotient(out, &self.pair)
     }
@@ -111,6 +113,17 @@ impl EpsQuotient {
             pair: Pair::new(numerator, denominator),
         }
     }
+
+    /// What an operation answers whose written parts may be refused.
+    fn answer(op: Op, pair: Option<Pair>) -> Result<EpsQuotient, TooWide>
+        requires { IfSome pair (λ x. IsQuotient (pair_parts x)) }
+        ensures { ok_map quotient_parts result ≡ or_wide op (option_map pair_parts pair) }
+    {
+        match pair {
+            Some(pair) => Ok(EpsQuotient { pair }),
+            None => Err(TooWide { op }),
+        }
+    }
 }
 
 impl Number for EpsQuotient {
@@ -126,35 +139,27 @@ impl Number for EpsQuotient {
     ghost IsStored = { IsQuotient };
 
     fn zero() -> EpsQuotient {
-        EpsQuotient {
-            pair: Pair::zero(),
-        }
+        EpsQuotient { pair: Pair::zero() }
     }
 
     fn one() -> EpsQuotient {
-        EpsQuotient {
-            pair: Pair::one(),
-        }
+        EpsQuotient { pair: Pair::one() }
     }
 
     fn add(&self, other: &EpsQuotient) -> Result<EpsQuotient, TooWide> {
-        let pair = sum(&self.pair, &other.pair).ok_or(TooWide { op: Op::Add })?;
-        Ok(EpsQuotient { pair })
+        EpsQuotient::answer(Op::Add, sum(&self.pair, &other.pair))
     }
 
     fn sub(&self, other: &EpsQuotient) -> Result<EpsQuotient, TooWide> {
-        let pair = sum(&self.pair, &other.pair.opposite()).ok_or(TooWide { op: Op::Sub })?;
-        Ok(EpsQuotient { pair })
+        EpsQuotient::answer(Op::Sub, sum(&self.pair, &other.pair.opposite()))
     }
 
     fn mul(&self, other: &EpsQuotient) -> Result<EpsQuotient, TooWide> {
-        let pair = product(&self.pair, &other.pair).ok_or(TooWide { op: Op::Mul })?;
-        Ok(EpsQuotient { pair })
+        EpsQuotient::answer(Op::Mul, product(&self.pair, &other.pair))
     }
 
     fn div(&self, other: &EpsQuotient) -> Result<EpsQuotient, TooWide> {
-        let pair = product(&self.pair, &inverse(&other.pair)).ok_or(TooWide { op: Op::Div })?;
-        Ok(EpsQuotient { pair })
+        EpsQuotient::answer(Op::Div, quotient(&self.pair, &other.pair))
     }
 
     /// Refused exactly where the difference is, with `Op::Sub`.

@@ -12,7 +12,7 @@ use eps_poly::EpsPoly;
 
 /// The inverse.
 #[tactic(auto, unfolding(crate::specs::Quotients::inverse, field_core::specs::Kind::is_zero))]
-pub fn inverse(x: &Pair) -> Pair
+fn inverse(x: &Pair) -> Pair
     requires { is_zero (pair_parts x.now) ≡ false }
     ensures { pair_parts result ≡ inverse (pair_parts x.now) }
 {
@@ -45,6 +45,20 @@ pub fn product(x: &Pair, y: &Pair) -> Option<Pair>
             &lower(&x.numerator, &y.denominator),
             &lower(&y.numerator, &x.denominator),
         )
+    }
+}
+
+/// The written quotient. What is 0 stays 0, and nothing is written by 1/1.
+pub fn quotient(x: &Pair, y: &Pair) -> Option<Pair>
+    requires { is_zero (pair_parts y.now) ≡ false }
+    ensures { option_map pair_parts result ≡ written_product (pair_parts x.now) (inverse (pair_parts y.now)) }
+{
+    if x.is_zero() {
+        Some(Pair::zero())
+    } else if y.is_one() {
+        Some(*x)
+    } else {
+        product(x, &inverse(y))
     }
 }
 

@@ -49,3 +49,14 @@ pub filled_values : {A E U : Type 0} (f : ℕ → Result A E) (step : ℕ → Re
     → ok_map (λ _. xs) r ≡ each_below n f
 filled_values f step n xs r e says fills =
     ap (λ ys. ok_map (λ _. ys) r) (sym (map-id xs)) ∙ filled_run (λ x. x) f step n xs r e (λ k q i h. as_it_is q ∙ says k q i h) fills
+
+-- a loop that writes the values of a run in place, at its end and where it is refused
+module _ {A E : Type 0} (f : ℕ → Result A E) where
+  pub filled_to : (n l : ℕ) (xs : List A) → AreFilledBelow (λ k r. r ≡ f k) l xs → length xs ≡ n → l ≡ n → Ok xs ≡ each_below n f
+  unfolding AreFilled
+  filled_to n l xs fills e h = filled_values {U = Unit {0}} f (λ k r. r ≡ f k) n xs (Ok tt) e (λ k r i says. says) (λ k d i. fills k d (omega arith))
+
+  pub filled_until : {U : Type 0} (n l : ℕ) (xs : List A) (r : Result U E) (v : U → List A) (e : E) → r ≡ Err e → l < n → length xs ≡ n → AreFilledBelow (λ k r. r ≡ f k) l xs → Err e ≡ f l → ok_map v r ≡ each_below n f
+  unfolding AreFilled
+  filled_until {U = U} n l xs r v e h i size fills g =
+      rw h (filled_values {U = U} f (λ k r. r ≡ f k) n xs (Err e) size (λ k r i says. says) (l, omega arith, fills, g))

@@ -6,8 +6,10 @@ pub mod Numeral
 pub mod Plain
 pub mod Prefixes
 pub mod Reading
+pub mod Short
 pub mod Sizes
 pub mod Spelling
 pub mod Tests
 pub mod View
+pub mod Within
 pub mod Written

@@ -1,10 +1,11 @@
-//! Laws of numerals.
+//! Laws of numerals, and of fractions with short parts.
 ghost use Rattle.std.specs.Prelude.{◌≡◌, ◌<◌, ◌^◌, ◌⊎◌, ℕ, List, length, unsigned_abs};
 ghost use Rattle.std.specs.List.{AllByRecursion};
 ghost use Rattle.field_core.specs.Terms.{Terms, IsReduced};
 ghost use Rattle.fraction.specs.declared.fault.NumberFault.{NumberFault};
 ghost use Rattle.fraction.specs.Numeral.{IsNumeralOf, IsParseFault};
 ghost use Rattle.fraction.specs.Spelling.{spelling, IsSpellingByte};
+ghost use Rattle.fraction.specs.Within.{ShortOperationsAreDefined, LowestTermsAreShortest};
 
 /// A text has a value or a fault, only one, and not both.
 pub fn a_text_says_one_thing()
@@ -19,4 +20,10 @@ pub fn a_printed_fraction_reads_back()
     ensures some { (t : Terms) → IsReduced t → 0 < length (spelling t) }
     ensures bytes { (t : Terms) → IsReduced t → AllByRecursion IsSpellingByte (spelling t) }
     ensures back { (t : Terms) → IsReduced t → unsigned_abs t.num < 10 ^ 38 → unsigned_abs t.den < 10 ^ 38 → IsNumeralOf (spelling t) t }
+{}
+
+/// Operations on short fractions aren't refused, and lowest terms are the shortest of their value.
+pub fn short_operations_are_defined()
+    ensures defined { ShortOperationsAreDefined }
+    ensures shortest { LowestTermsAreShortest }
 {}

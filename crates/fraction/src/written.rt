@@ -4,10 +4,21 @@ ghost use Rattle.std.specs.Option.{option_map};
 ghost use Rattle.field_core.specs.View.{terms};
 ghost use Rattle.fraction.specs.Written.{written_mul, written_add, opposite, inverse};
 
+use crate::short::ShortRatio;
 use field_core::Ratio;
 
-#[tactic(auto, unfolding(crate::specs::Written::written_mul))]
+/// The written product, or nothing where it is refused.
 pub fn multiply(x: &Ratio, y: &Ratio) -> Option<Ratio>
+    ensures { option_map terms result ≡ written_mul (terms x.now) (terms y.now) }
+{
+    match (ShortRatio::of(x), ShortRatio::of(y)) {
+        (Some(x), Some(y)) => Some(x.times(y)),
+        _ => multiply_wide(x, y),
+    }
+}
+
+#[tactic(auto, unfolding(crate::specs::Written::written_mul))]
+fn multiply_wide(x: &Ratio, y: &Ratio) -> Option<Ratio>
     ensures { option_map terms result ≡ written_mul (terms x.now) (terms y.now) }
 {
     let n1 = x.whole_num();
@@ -21,8 +32,18 @@ pub fn multiply(x: &Ratio, y: &Ratio) -> Option<Ratio>
     Some(Ratio::of_wholes(num, den))
 }
 
-#[tactic(auto, unfolding(crate::specs::Written::written_add))]
+/// The written sum, or nothing where it is refused.
 pub fn plus(x: &Ratio, y: &Ratio) -> Option<Ratio>
+    ensures { option_map terms result ≡ written_add (terms x.now) (terms y.now) }
+{
+    match (ShortRatio::of(x), ShortRatio::of(y)) {
+        (Some(x), Some(y)) => x.plus(y),
+        _ => plus_wide(x, y),
+    }
+}
+
+#[tactic(auto, unfolding(crate::specs::Written::written_add))]
+fn plus_wide(x: &Ratio, y: &Ratio) -> Option<Ratio>
     ensures { option_map terms result ≡ written_add (terms x.now) (terms y.now) }
 {
     let d1 = x.whole_den();

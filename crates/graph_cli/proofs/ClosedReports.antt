@@ -1,45 +1,65 @@
 -- What is printed of a case that is accepted names exactly what the closed test rejects.
-use Rattle.std.proofs.Common.{◌≡◌, refl, sym, ◌∙◌, ℕ, ◌==◌, true, List, [], ◌∷◌, None, arith}
+use Rattle.std.proofs.Common.{◌≡◌, refl, sym, ap, subst, ◌∙◌, ℕ, ◌==◌, true, List, [], ◌∷◌, Some, None, inl, inr, arith}
 use Rattle.std.proofs.lemmas.Bool.Decides.{nat_tests}
 use Rattle.std.specs.List.{list_any}
 use Rattle.field_core.specs.Sets.{set_of}
+use Rattle.answers.specs.declared.answer.Answer.{Answer}
+use Rattle.answers.specs.declared.cause.Cause.{Cause}
+use Rattle.answers.specs.declared.status.Status.{Status}
+use Rattle.answers.specs.declared.status.Status.TheVariants.{Done, Refused}
 use Rattle.case_model.specs.CaseFaults.{case_fault}
 use Rattle.case_model.specs.Content.{Content, content_of}
-use Rattle.case_model.specs.Draft.{DraftContent}
-use Rattle.case_model.specs.Validity.{IsFaultlessContent}
-use Rattle.sequential.specs.DecisionView.{StepContent}
-use Rattle.sequential.specs.Decisions.{hypotheses}
-use Rattle.sequential.specs.declared.priority.Priority.TheVariants.{First}
+use Rattle.case_model.specs.declared.draft.Draft.{Draft}
+use Rattle.case_model.specs.Validity.{IsValidContent}
+use Rattle.command_words.specs.Asked.{on_case}
+use Rattle.command_words.specs.declared.command.CaseTask.TheVariants.{Test}
+use Rattle.command_words.proofs.OneReading.{words_decided}
+use Rattle.sequential.specs.declared.decision.StepLine.{StepLine}
+use Rattle.sequential.specs.declared.decision.Decision.{Decision}
+use Rattle.sequential.specs.Decisions.{hypotheses, IsDecision}
+use Rattle.sequential.specs.declared.priority.Priority.{Priority}
 use Rattle.sequential.proofs.DecisionLaws.{decision_decides}
-use Rattle.report.specs.TestReport.{is_rejected}
-use Rattle.graph_cli.specs.declared.answer.Answer.{Answer}
-use Rattle.graph_cli.specs.declared.refusal.wide.When.TheVariants.{Step}
-use Rattle.graph_cli.specs.Outcome.{IsCaseOutcome, other_kind, too_wide, decided, too_long, bad_line, refused, accepted}
+use Rattle.report.specs.TestReport.{is_rejected, test_report}
+use Rattle.graph_cli.specs.Accepted.{grammar}
+use Rattle.graph_cli.specs.Commands.{call_of, case_call, on_case as answers_on_case}
+use Rattle.graph_cli.specs.Test.{test_stage}
 use Rattle.graph_cli.specs.Laws.{ReportsClosedTest, ReportsAreOfTheClosedTest}
-use Rattle.graph_cli.proofs.NoRefusals.{not_wide, not_kind, not_bytes, not_line, not_case}
 
-any_listed : (steps : List StepContent) (j : ℕ) → list_any (λ x. x.hypothesis == j) steps ≡ set_of (hypotheses steps) j
+any_listed : (steps : List StepLine) (j : ℕ) → list_any (λ x. x.hypothesis == j) steps ≡ set_of (hypotheses steps) j
 any_listed [] j = refl
 any_listed (x ∷ xs) j = let e : (x.hypothesis == j) ≡ (j == x.hypothesis) = grind (arith, nat_tests) in rw (e, any_listed xs j) refl
 
-named_listed : (steps : List StepContent) (j : ℕ) → is_rejected steps j ≡ set_of (hypotheses steps) j
+named_listed : (steps : List StepLine) (j : ℕ) → is_rejected steps j ≡ set_of (hypotheses steps) j
 unfolding is_rejected
 named_listed steps j = any_listed steps j
 
-faultless_content : (d : DraftContent) → case_fault d ≡ None → IsFaultlessContent (content_of d)
+faultless_content : (d : Draft) → case_fault d ≡ None → IsValidContent (content_of d)
 faultless_content d f = ∣ (record { draft = d; content_is = refl; faultless = f }) ∣₁
 
-reports : (c : Content) (a : Answer) → IsFaultlessContent c → IsCaseOutcome c a → a.status ≡ 0 → ReportsClosedTest c a.text
-reports c a v (other_kind n) z = absurd (not_kind z)
-reports c a v (too_wide s n w h) z = absurd (not_wide c.names (Step n) w z)
-reports c a v (decided d f h) z = record {
+-- a refusal isn't done
+not_done : (s : Status) (cause : Cause) → s ≡ Refused cause → s ≡ Done → ⊥
+not_done s cause e f = cc
+
+reported : (c : Content) (priority : Priority) (d : Decision) (text : List ℕ) → IsValidContent c → IsDecision c priority d → text ≡ test_report c d → ReportsClosedTest c text
+reported c priority d text v h e = record {
   decision = d;
-  text_is = refl;
-  named = λ j. let r = decision_decides c First d v j h in (λ (e : is_rejected d.steps j ≡ true). r.0 (sym (named_listed d.steps j) ∙ e), λ x. named_listed d.steps j ∙ r.1 x);
+  text_is = e;
+  named = λ j. let r = decision_decides c priority d v j h in (λ (x : is_rejected d.steps j ≡ true). r.0 (sym (named_listed d.steps j) ∙ x), λ x. named_listed d.steps j ∙ r.1 x);
 }
 
 pub reports_closed_test : ReportsAreOfTheClosedTest
-reports_closed_test bytes a (too_long l) z = absurd (not_bytes _ z)
-reports_closed_test bytes a (bad_line l n k h) z = absurd (not_line n k z)
-reports_closed_test bytes a (refused l d s f h) z = absurd (not_case d.names f z)
-reports_closed_test bytes a (accepted b l d s f h) z = record { draft = d; says = s; faultless = f; reports = reports (content_of d) a (faultless_content d f) h z }
+unfolding call_of case_call answers_on_case test_stage
+reports_closed_test words form priority case proof a asks (inr h) z = absurd (not_done a.status h.0.cause (ap (λ (x : Answer). x.status) h.2) z)
+reports_closed_test words form priority case proof a asks (inl h) z =
+    let command_is : h.0 ≡ on_case form (Test priority) = (words_decided words).one h.0 (on_case form (Test priority)) h.1 asks in
+    let gives = subst (λ command. (call_of command (Some case) proof).Gives a) command_is h.2 in
+    let bytes_are = gives.1.1.0 in
+    let read = gives.1.2.1 in
+    let draft = read.0 in
+    let content_is : gives.0 ≡ content_of draft = gives.1.2.2.2.1 ∙ (gives.1.2.2.1.1 ∙ read.2.1) in
+    record {
+      draft = draft;
+      says = subst (λ xs. (grammar form xs).Gives draft) bytes_are read.1;
+      faultless = read.2.0;
+      reports = subst (λ c. ReportsClosedTest c a.text) content_is (reported gives.0 priority gives.2.1.0 a.text (subst IsValidContent (sym content_is) (faultless_content draft read.2.0)) gives.2.1.1 (ap (λ (x : Answer). x.text) gives.2.1.2));
+    }

@@ -1,7 +1,6 @@
+pub mod AcceptedCases
+pub mod CallAnswers
 pub mod ClosedReports
-pub mod Endings
-pub mod NoRefusals
 pub mod OneAnswer
-pub mod Outcomes
-pub mod Refusals
-pub mod Statuses
+pub mod SourcesRead
+pub mod TestAnswers

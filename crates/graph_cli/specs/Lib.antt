@@ -1,8 +1,6 @@
-pub mod Answer
-pub mod CaseRefusal
+pub mod Accepted
+pub mod Commands
+pub mod Help
 pub mod Laws
-pub mod LinePieces
 pub mod Outcome
-pub mod Run
-pub mod TextRefusal
-pub mod WideRefusal
+pub mod Test

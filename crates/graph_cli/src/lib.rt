@@ -1,10 +1,11 @@
 //! The top call: words, a case and a proof in, a text and a status out.
 #![tactic(auto)]
 
-mod answer;
+mod accepted;
+mod commands;
+mod kind;
 pub mod laws;
-mod refusal;
+mod needs;
 mod top;
-mod words;
 
-pub use top::run;
+pub use top::{file_word, run};

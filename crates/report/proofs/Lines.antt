@@ -7,12 +7,7 @@ use Rattle.std.proofs.lemmas.List.{length-map, get_or-map}
 use Rattle.std.proofs.lemmas.List.Folds.{flat_map-map}
 use Rattle.std.proofs.lemmas.List.FromFn.{map-range_with_len_more}
 use Rattle.std.proofs.lemmas.Grind.{flat_map-append}
-use Rattle.fraction.specs.View.{terms_of}
-use Rattle.fraction.specs.declared.fraction.Fraction.{Fraction}
 use Rattle.case_model.specs.Content.{Content}
-use Rattle.case_model.specs.Sums.{terms_at, zero_terms}
-use Rattle.case_model.proofs.Places.{list_any-map}
-use Rattle.sequential.specs.DecisionView.{step_content}
 use Rattle.sequential.specs.declared.decision.StepLine.{StepLine}
 use Rattle.report.specs.TestReport.{spaced_name, is_rejected, name_if_rejected}
 
@@ -29,19 +24,7 @@ pub put_more : (f : ℕ → List ℕ) (start text new : List ℕ) (n : ℕ) → 
 put_more f start text new n e g =
     g ∙ ap (λ t. t ++ f n) e ∙ append_assoc start (flat_map f (range_with_len 0 n)) (f n) ∙ ap (λ t. start ++ t) (sym (flat_map-more f n))
 
--- a line of a list of lines of a case is of a hypothesis of the case
-pub hypothesis_below : (m : ℕ) (xs : List StepLine) (i : ℕ) (x : StepLine) → i < length xs → x ≡ get_or xs i x → All (λ s. s.hypothesis < m) (map step_content xs) → x.hypothesis < m
-hypothesis_below m xs i x h e all =
-    let here : i < length (map step_content xs) = rw length-map h in
-    let same : get_or (map step_content xs) i (step_content x) ≡ step_content x = get_or-map step_content xs i x (step_content x) h ∙ ap step_content (sym e) in
-    subst (λ s. s.hypothesis < m) same (All-get_or (λ s. s.hypothesis < m) (map step_content xs) i (step_content x) here all)
-
--- the terms of a fraction in a list
-pub terms_in : (ps : List Fraction) (j : ℕ) (x : Fraction) → j < length ps → x ≡ get_or ps j x → terms_of x ≡ terms_at (map terms_of ps) j
-unfolding terms_at
-terms_in ps j x h e = ap terms_of e ∙ sym (get_or-map terms_of ps j x zero_terms h)
-
 -- what is printed of a position, by whether it is that of a step
-pub name_by : (case : Content) (steps : List StepLine) (j : ℕ) (rejected : Bool) → list_any (λ step. step.hypothesis == j) steps ≡ rejected → name_if_rejected case (map step_content steps) j ≡ (if rejected then spaced_name case j else [])
+pub name_by : (case : Content) (steps : List StepLine) (j : ℕ) (rejected : Bool) → list_any (λ step. step.hypothesis == j) steps ≡ rejected → name_if_rejected case steps j ≡ (if rejected then spaced_name case j else [])
 unfolding is_rejected
-name_by case steps j rejected e = ap (λ b. if b then spaced_name case j else []) (list_any-map (λ x. x.hypothesis == j) step_content steps ∙ e)
+name_by case steps j rejected e = ap (λ b. if b then spaced_name case j else []) e

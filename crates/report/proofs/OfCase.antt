@@ -4,16 +4,18 @@ use Rattle.std.specs.List.{All, filter, range_with_len}
 use Rattle.std.proofs.lemmas.List.{length-map, get_or-map}
 use Rattle.std.proofs.lemmas.List.Elements.{All-nil, All-cons, All-get_or, All-from_get_or, All-filter}
 use Rattle.std.proofs.lemmas.List.FromFn.{get_or-range_with_len, length-range_with_len}
-use Rattle.field_core.specs.Terms.{Terms}
+use Rattle.field_core.specs.declared.ratio.Ratio.{Ratio}
 use Rattle.field_core.specs.Number.{Number}
 use Rattle.field_core.specs.Sets.{dropping, whole}
 use Rattle.field_core.specs.Runs.{left_after}
 use Rattle.case_model.specs.EntangledGraph.{EntangledGraph}
 use Rattle.case_model.specs.LegalOrder.{IsOrderBy}
-use Rattle.case_model.specs.Sums.{number, number_at, zero_terms}
+use Rattle.fraction.specs.View.{number_of}
+use Rattle.case_model.specs.Sums.{number_at, zero_ratio}
 use Rattle.case_model.specs.Content.{Content, entangled}
 use Rattle.case_model.proofs.SingleInputs.{for_single}
-use Rattle.sequential.specs.DecisionView.{StepContent, DecisionContent}
+use Rattle.sequential.specs.declared.decision.StepLine.{StepLine}
+use Rattle.sequential.specs.declared.decision.Decision.{Decision}
 use Rattle.sequential.specs.Decisions.{IsNext, IsDecisionWith, hypotheses}
 use Rattle.sequential.specs.declared.priority.Priority.{Priority}
 use Rattle.sequential.specs.declared.priority.Priority.TheVariants.{First, Last, Ratio}
@@ -21,7 +23,7 @@ use Rattle.report.specs.TestReport.{AreOfCase}
 use Rattle.report.specs.ReportStatements.{DecisionsAreOfTheirCases}
 
 -- a line is of one of so many hypotheses
-abbrev IsBelow : ℕ → StepContent → Type 0
+abbrev IsBelow : ℕ → StepLine → Type 0
 IsBelow m x = x.hypothesis < m
 
 module _ (E : EntangledGraph) (p : ℕ → Number) (level : Number) where
@@ -31,7 +33,7 @@ module _ (E : EntangledGraph) (p : ℕ → Number) (level : Number) where
   next_below Last I j h = h.allowed.member.below
   next_below Ratio I j h = h.legal.member.below
 
-  steps_below : (priority : Priority) (I : ℕ → Bool) (xs : List StepContent) → IsOrderBy (IsNext E p level priority) I (hypotheses xs) → All (IsBelow E.hypotheses) xs
+  steps_below : (priority : Priority) (I : ℕ → Bool) (xs : List StepLine) → IsOrderBy (IsNext E p level priority) I (hypotheses xs) → All (IsBelow E.hypotheses) xs
   steps_below priority I [] h = All-nil (IsBelow E.hypotheses)
   steps_below priority I (x ∷ xs) h = All-cons (IsBelow E.hypotheses) x xs (next_below priority I x.hypothesis h.0) (steps_below priority (dropping x.hypothesis I) xs h.1)
 
@@ -40,19 +42,19 @@ range_below m = All-from_get_or (λ j. j < m) (range_with_len 0 m) 0 (λ i h.
     let within : i < m = subst (λ n. i < n) (length-range_with_len 0 m) h in
     let place = get_or-range_with_len 0 m i 0 within in omega (arith, place, within))
 
-nothing : StepContent
-nothing = record { hypothesis = 0; weight = zero_terms }
+nothing : StepLine
+nothing = record { hypothesis = 0; weight = zero_ratio }
 
-kept_below : (m : ℕ) (keep : ℕ → Bool) (xs : List StepContent) → hypotheses xs ≡ filter keep (range_with_len 0 m) → All (IsBelow m) xs
+kept_below : (m : ℕ) (keep : ℕ → Bool) (xs : List StepLine) → hypotheses xs ≡ filter keep (range_with_len 0 m) → All (IsBelow m) xs
 kept_below m keep xs e = All-from_get_or (IsBelow m) xs nothing (λ i h.
     let all : All (λ j. j < m) (hypotheses xs) = subst (All (λ j. j < m)) (sym e) (All-filter keep (λ j. j < m) (range_with_len 0 m) (range_below m)) in
     let here : i < length (hypotheses xs) = rw length-map h in
     subst (λ j. j < m) (get_or-map (λ x. x.hypothesis) xs i nothing 0 h) (All-get_or (λ j. j < m) (hypotheses xs) i 0 here all))
 
-with_p_values : (c : Content) (ps : List Terms) (priority : Priority) (d : DecisionContent) → IsDecisionWith c ps priority d → AreOfCase c d.steps × AreOfCase c d.kept
+with_p_values : (c : Content) (ps : List Ratio) (priority : Priority) (d : Decision) → IsDecisionWith c ps priority d → AreOfCase c d.steps × AreOfCase c d.kept
 unfolding entangled
 with_p_values c ps priority d h = (
-  steps_below (entangled c) (number_at ps) (number c.alpha) priority whole d.steps h.order.order,
+  steps_below (entangled c) (number_at ps) (number_of c.alpha) priority whole d.steps h.order.order,
   kept_below (length c.names) (left_after whole (hypotheses d.steps)) d.kept h.kept,
 )
 

@@ -2,64 +2,65 @@
 use Rattle.std.specs.Prelude.{ℕ, ◌+◌, ◌<◌, ◌==◌, Bool, List, [], ◌∷◌, ◌++◌, length, get_or, codes, if◌then◌else◌}
 use Rattle.std.specs.Fmt.{decimal}
 use Rattle.std.specs.List.{All, flat_map, list_any, range_with_len}
-use Rattle.field_core.specs.Terms.{Terms}
+use Rattle.answers.specs.Lines.{line}
+use Rattle.field_core.specs.View.{terms}
+use Rattle.field_core.specs.declared.ratio.Ratio.{Ratio}
 use Rattle.fraction.specs.Spelling.{spelling}
-use Rattle.case_model.specs.Content.{Content, InputsContent, bare, single, staged}
-use Rattle.case_model.specs.Sums.{terms_at}
-use Rattle.sequential.specs.DecisionView.{StepContent, DecisionContent}
+use Rattle.case_model.specs.declared.inputs.Inputs.{Inputs}
+use Rattle.case_model.specs.declared.inputs.Inputs.TheVariants.{Bare, Single, Staged}
+use Rattle.case_model.specs.Content.{Content}
+use Rattle.case_model.specs.Sums.{ratio_at}
+use Rattle.sequential.specs.declared.decision.StepLine.{StepLine}
+use Rattle.sequential.specs.declared.decision.Decision.{Decision}
 
 -- each line is of a hypothesis of the case
-abbrev pub AreOfCase : Content → List StepContent → Type 0
+abbrev pub AreOfCase : Content → List StepLine → Type 0
 AreOfCase case lines = All (λ x. x.hypothesis < length case.names) lines
 
 -- the p-values, and nothing where there are no single ones
-abbrev pub p_values : InputsContent → List Terms
-p_values (single ps) = ps
-p_values bare = []
-p_values (staged stages) = []
-
--- a text and the end of its line
-abbrev pub line : List ℕ → List ℕ
-line text = text ++ 10 ∷ []
+abbrev pub p_values : Inputs → List Ratio
+p_values (Single ps) = ps
+p_values Bare = []
+p_values (Staged stages) = []
 
 -- a space and the name of the hypothesis at a position
 abbrev pub spaced_name : Content → ℕ → List ℕ
 spaced_name case j = 32 ∷ get_or case.names j []
 
 -- the name of a hypothesis, its p-value and its weight
-unfoldable pub figures : Content → StepContent → List ℕ
-figures case x = spaced_name case x.hypothesis ++ codes " p " ++ spelling (terms_at (p_values case.inputs) x.hypothesis) ++ codes " weight " ++ spelling x.weight
+unfoldable pub figures : Content → StepLine → List ℕ
+figures case x = spaced_name case x.hypothesis ++ codes " p " ++ spelling (terms (ratio_at (p_values case.inputs) x.hypothesis)) ++ codes " weight " ++ spelling (terms x.weight)
 
 -- the line of the level
 unfoldable pub alpha_line : Content → List ℕ
-alpha_line case = line (codes "alpha " ++ spelling case.alpha)
+alpha_line case = line (codes "alpha " ++ spelling (terms case.alpha))
 
 -- the line of the step of this number
-unfoldable pub step_line : Content → ℕ → StepContent → List ℕ
+unfoldable pub step_line : Content → ℕ → StepLine → List ℕ
 step_line case n x = line (codes "step " ++ decimal n ++ figures case x)
 
 -- the lines of the steps in their order, of which the first has this number
-abbrev pub step_lines : Content → ℕ → List StepContent → List ℕ
+abbrev pub step_lines : Content → ℕ → List StepLine → List ℕ
 step_lines case n [] = []
 step_lines case n (x ∷ xs) = step_line case n x ++ step_lines case (n + 1) xs
 
 -- the line of a hypothesis that is kept
-unfoldable pub kept_line : Content → StepContent → List ℕ
+unfoldable pub kept_line : Content → StepLine → List ℕ
 kept_line case x = line (codes "kept" ++ figures case x)
 
 -- the hypothesis at a position is that of a step
-unfoldable pub is_rejected : List StepContent → ℕ → Bool
+unfoldable pub is_rejected : List StepLine → ℕ → Bool
 is_rejected steps j = list_any (λ x. x.hypothesis == j) steps
 
 -- a space and the name of the hypothesis at a position, where it is that of a step; else nothing
-abbrev pub name_if_rejected : Content → List StepContent → ℕ → List ℕ
+abbrev pub name_if_rejected : Content → List StepLine → ℕ → List ℕ
 name_if_rejected case steps j = if is_rejected steps j then spaced_name case j else []
 
 -- the line of the names of the hypotheses that are rejected, by ascending position
-unfoldable pub rejected_line : Content → List StepContent → List ℕ
+unfoldable pub rejected_line : Content → List StepLine → List ℕ
 rejected_line case steps = line (codes "rejected" ++ flat_map (name_if_rejected case steps) (range_with_len 0 (length case.names)))
 
 -- the level, the steps, the hypotheses that are kept, the names of those that are rejected, and the last line
-unfoldable pub test_report : Content → DecisionContent → List ℕ
+unfoldable pub test_report : Content → Decision → List ℕ
 test_report case decision =
     alpha_line case ++ step_lines case 1 decision.steps ++ flat_map (kept_line case) decision.kept ++ rejected_line case decision.steps ++ line (codes "end")

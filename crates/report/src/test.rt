@@ -1,14 +1,11 @@
 //! What the command `test` prints.
-ghost use Rattle.std.specs.Prelude.{◌≡◌, ◌==◌, ◌<◌, ◌++◌, IfOk, OnOk, length, map};
+ghost use Rattle.std.specs.Prelude.{◌≡◌, ◌==◌, ◌<◌, ◌++◌, IfOk, OnOk, length};
 ghost use Rattle.std.specs.List.{flat_map, list_any, range_with_len};
-ghost use Rattle.fraction.specs.View.{terms_of};
 ghost use Rattle.case_model.specs.CaseView.{content};
-ghost use Rattle.case_model.specs.Sums.{terms_at};
-ghost use Rattle.sequential.specs.DecisionView.{step_content, decision as decided};
+ghost use Rattle.case_model.specs.Sums.{ratio_at};
 ghost use Rattle.sequential.specs.TrialAnswers.{IsSingle};
 ghost use Rattle.report.specs.TestReport.{AreOfCase, p_values, figures, spaced_name, alpha_line, step_line, step_lines, kept_line, name_if_rejected, rejected_line, test_report};
 
-use crate::number::put_number;
 use case_model::{Case, Inputs};
 use field_core::{List, NoMemory};
 use fraction::Fraction;
@@ -19,7 +16,7 @@ use std::alloc::Global;
 fn p_value(case: &Case, j: usize) -> Fraction
     requires single { IsSingle (content case.now).inputs }
     requires below { j < length (content case.now).names }
-    ensures { terms_of result ≡ terms_at (p_values (content case.now).inputs) j }
+    ensures { result ≡ ratio_at (p_values (content case.now).inputs) j }
 {
     match case.inputs() {
         Inputs::Single(p_values) => p_values.as_slice()[j],
@@ -41,7 +38,7 @@ fn put_name(text: &mut List<u8>, case: &Case, j: usize) -> Result<(), NoMemory>
 fn put_figures(text: &mut List<u8>, case: &Case, step: &StepLine) -> Result<(), NoMemory>
     requires single { IsSingle (content case.now).inputs }
     requires below { step.now.hypothesis < length (content case.now).names }
-    ensures { OnOk result (text.new ≡ text.old ++ figures (content case.now) (step_content step.now)) }
+    ensures { OnOk result (text.new ≡ text.old ++ figures (content case.now) step.now) }
 {
     put_name(text, case, step.hypothesis)?;
     text.append(b" p ")?;
@@ -70,10 +67,10 @@ fn put_step(
 ) -> Result<(), NoMemory>
     requires single { IsSingle (content case.now).inputs }
     requires below { step.now.hypothesis < length (content case.now).names }
-    ensures { OnOk result (text.new ≡ text.old ++ step_line (content case.now) number (step_content step.now)) }
+    ensures { OnOk result (text.new ≡ text.old ++ step_line (content case.now) number step.now) }
 {
     text.append(b"step ")?;
-    put_number(text, number as u128)?;
+    text.append_unsigned(number as u128)?;
     put_figures(text, case, step)?;
     text.push(b'\n')
 }
@@ -81,8 +78,8 @@ fn put_step(
 /// Appends the steps, counted from 1.
 fn put_steps(text: &mut List<u8>, case: &Case, steps: &[StepLine]) -> Result<(), NoMemory>
     requires single { IsSingle (content case.now).inputs }
-    requires of_case { AreOfCase (content case.now) (map step_content steps.now) }
-    ensures { OnOk result (text.new ≡ text.old ++ step_lines (content case.now) 1 (map step_content steps.now)) }
+    requires of_case { AreOfCase (content case.now) steps.now }
+    ensures { OnOk result (text.new ≡ text.old ++ step_lines (content case.now) 1 steps.now) }
 {
     for (i, step) in steps.iter().enumerate() {
         put_step(text, case, i + 1, step)?;
@@ -95,7 +92,7 @@ fn put_steps(text: &mut List<u8>, case: &Case, steps: &[StepLine]) -> Result<(),
 fn put_kept_line(text: &mut List<u8>, case: &Case, kept: &StepLine) -> Result<(), NoMemory>
     requires single { IsSingle (content case.now).inputs }
     requires below { kept.now.hypothesis < length (content case.now).names }
-    ensures { OnOk result (text.new ≡ text.old ++ kept_line (content case.now) (step_content kept.now)) }
+    ensures { OnOk result (text.new ≡ text.old ++ kept_line (content case.now) kept.now) }
 {
     text.append(b"kept")?;
     put_figures(text, case, kept)?;
@@ -105,8 +102,8 @@ fn put_kept_line(text: &mut List<u8>, case: &Case, kept: &StepLine) -> Result<()
 /// Appends the hypotheses that are kept.
 fn put_kept(text: &mut List<u8>, case: &Case, kept: &[StepLine]) -> Result<(), NoMemory>
     requires single { IsSingle (content case.now).inputs }
-    requires of_case { AreOfCase (content case.now) (map step_content kept.now) }
-    ensures { OnOk result (text.new ≡ text.old ++ flat_map (kept_line (content case.now)) (map step_content kept.now)) }
+    requires of_case { AreOfCase (content case.now) kept.now }
+    ensures { OnOk result (text.new ≡ text.old ++ flat_map (kept_line (content case.now)) kept.now) }
 {
     for kept_hypothesis in kept {
         put_kept_line(text, case, kept_hypothesis)?;
@@ -129,7 +126,7 @@ fn put_if_rejected(
     j: usize,
 ) -> Result<(), NoMemory>
     requires { j < length (content case.now).names }
-    ensures { OnOk result (text.new ≡ text.old ++ name_if_rejected (content case.now) (map step_content steps.now) j) }
+    ensures { OnOk result (text.new ≡ text.old ++ name_if_rejected (content case.now) steps.now j) }
 {
     if !is_rejected(steps, j) {
         return Ok(());
@@ -139,7 +136,7 @@ fn put_if_rejected(
 
 /// Appends the names of the hypotheses that are rejected.
 fn put_rejected_names(text: &mut List<u8>, case: &Case, steps: &[StepLine]) -> Result<(), NoMemory>
-    ensures { OnOk result (text.new ≡ text.old ++ flat_map (name_if_rejected (content case.now) (map step_content steps.now)) (range_with_len 0 (length (content case.now).names))) }
+    ensures { OnOk result (text.new ≡ text.old ++ flat_map (name_if_rejected (content case.now) steps.now) (range_with_len 0 (length (content case.now).names))) }
 {
     for j in 0..case.size() {
         put_if_rejected(text, case, steps, j)?;
@@ -150,7 +147,7 @@ fn put_rejected_names(text: &mut List<u8>, case: &Case, steps: &[StepLine]) -> R
 /// Appends the line of the hypotheses that are rejected.
 #[tactic(auto, unfolding(crate::specs::TestReport::rejected_line))]
 fn put_rejected(text: &mut List<u8>, case: &Case, steps: &[StepLine]) -> Result<(), NoMemory>
-    ensures { OnOk result (text.new ≡ text.old ++ rejected_line (content case.now) (map step_content steps.now)) }
+    ensures { OnOk result (text.new ≡ text.old ++ rejected_line (content case.now) steps.now) }
 {
     text.append(b"rejected")?;
     put_rejected_names(text, case, steps)?;
@@ -165,9 +162,9 @@ fn put_rejected(text: &mut List<u8>, case: &Case, steps: &[StepLine]) -> Result<
 #[tactic(auto, unfolding(crate::specs::TestReport::test_report))]
 pub fn test_text(alloc: Global, case: &Case, decision: &Decision) -> Result<List<u8>, NoMemory>
     requires single { IsSingle (content case.now).inputs }
-    requires steps { AreOfCase (content case.now) (decided decision.now).steps }
-    requires kept { AreOfCase (content case.now) (decided decision.now).kept }
-    ensures { IfOk result (λ text. text ≡ test_report (content case.now) (decided decision.now)) }
+    requires steps { AreOfCase (content case.now) decision.now.steps }
+    requires kept { AreOfCase (content case.now) decision.now.kept }
+    ensures { IfOk result (λ text. text ≡ test_report (content case.now) decision.now) }
 {
     let mut text = List::new(alloc);
     put_alpha(&mut text, case)?;

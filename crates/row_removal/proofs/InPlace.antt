@@ -1,5 +1,5 @@
 -- Lists whose items are replaced one after the other.
-use Rattle.std.proofs.Common.{◌≡◌, refl, sym, ap, ◌∙◌, ℕ, zero, suc, ◌+◌, ◌<◌, ◌≤◌, List, [], ◌∷◌, ◌++◌, map, take, set, get_or, length, arith, length-set}
+use Rattle.std.proofs.Common.{◌≡◌, refl, sym, ap, ◌∙◌, ℕ, ◌+◌, ◌<◌, ◌≤◌, List, [], ◌∷◌, ◌++◌, map, take, set, get_or, length, arith, length-set}
 use Rattle.std.proofs.lemmas.List.{take_more, take_more_set, take_all, map-append, get_or-set_other}
 
 module _ {A : Type 0} (f : A → A) (before : List A) where

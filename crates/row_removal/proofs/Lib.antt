@@ -1,2 +1,6 @@
 pub mod InPlace
 pub mod Quotients
+pub mod WrittenRows
+pub mod Given
+pub mod Opened
+pub mod TestRows

@@ -1,5 +1,5 @@
 -- The clearing of a row: all its polynomials are divided by the same things, so no value changes. Nothing is written.
-use Rattle.std.specs.Prelude.{ℕ, min, ℤ, pos, List, [], ◌∷◌, map, Option, Some, None}
+use Rattle.std.specs.Prelude.{ℕ, min, ℤ, pos, List, [], ◌∷◌, map, Option, Some}
 use Rattle.std.specs.List.{fold}
 use Rattle.std.specs.Option.{unwrap_or}
 use Rattle.field_core.specs.Divisor.{gcd}

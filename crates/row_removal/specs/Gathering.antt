@@ -1,5 +1,5 @@
 -- The gathering of a graph into rows: the numbers of each row are brought over one constant, the least common multiple of their denominators.
-use Rattle.std.specs.Prelude.{◌≡◌, ◌<◌, ℕ, zero, suc, ℤ, pos, ◌*ℤ◌, int_div, List, if◌then◌else◌, Option, Some, None, Result, Ok}
+use Rattle.std.specs.Prelude.{◌<◌, ℕ, zero, suc, ℤ, pos, ◌*ℤ◌, int_div, List, if◌then◌else◌, Option, Some, None, Result, Ok}
 use Rattle.field_core.specs.declared.place.Op.TheVariants.{Mul}
 use Rattle.field_core.specs.declared.place.Place.{Place}
 use Rattle.field_core.specs.declared.place.Place.TheVariants.{Weight, Edge}

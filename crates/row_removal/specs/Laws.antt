@@ -4,6 +4,7 @@ pub mod ClearingLaws
 pub mod ByOne
 pub mod RowNumbers
 pub mod RowPasses
+pub mod RowLive
 pub mod RowGraphs
 pub mod RowsExact
 pub mod GatheringLaws

@@ -4,4 +4,7 @@ pub mod StoredRows
 pub mod RowRemoval
 pub mod Proper
 pub mod Gathering
+pub mod GivenView
+pub mod RowNetView
+pub mod RowsOpen
 pub mod Laws

@@ -3,7 +3,7 @@ use Rattle.std.specs.Prelude.{◌≡◌, ◌≤◌, ℕ, length, All}
 use Rattle.std.proofs.Props.{props}
 use Rattle.field_core.specs.Polynomial.{IsNonZero}
 use Rattle.eps_poly.specs.Polynomials.{IsPolynomial}
-use Rattle.row_removal.specs.StoredRow.{StoredRow, IsProperRow}
+use Rattle.row_removal.specs.StoredRow.{IsProperRow}
 use Rattle.row_removal.specs.StoredRows.{StoredRows, rows_size}
 
 -- a row of weights and a row of edges for each hypothesis, and at most 64 hypotheses

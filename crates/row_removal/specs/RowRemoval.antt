@@ -45,11 +45,15 @@ module _ (s : StoredRows) (j : ℕ) where
       then Ok zero_polynomial
       else sum_of_products (Weight l) (numerator_at s.weights l) (below j) (numerator_at s.weights j) (above j l)
 
-  -- the new weights, over `V D_j`
+  -- the new denominator of the weights, `V D_j`
+  unfoldable pub new_scale : Result (List ℤ) Wide
+  new_scale = at (Weight j) Mul (sized_product s.weights.denominator (below j))
+
+  -- the new weights
   unfoldable pub new_weights : Result StoredRow Wide
   new_weights = do
     numerators ← each_below (rows_size s) new_weight
-    denominator ← at (Weight j) Mul (sized_product s.weights.denominator (below j))
+    denominator ← new_scale
     Ok (cleared s.last (record { numerators = numerators; denominator = denominator }))
 
   -- the new denominator of the row of `l`, `D_l D_j - N_lj N_jl`

@@ -62,7 +62,8 @@ impl Row {
 
     /// Becomes zeros over 1.
     pub fn put_zeros(&mut self)
-        ensures { self.new ≡ zero_row (length self.old.numerators) }
+        ensures zeros { self.new ≡ zero_row (length self.old.numerators) }
+        ensures room { length self.new.numerators ≡ length self.old.numerators }
     {
         self.numerators.fill(EpsPoly::zero());
         self.denominator = EpsPoly::monomial(Whole::new(1), 0);
@@ -136,9 +137,7 @@ impl Row {
         ensures size { result < 2 ^ 127 }
     {
         let own = self.denominator.content();
-        self.numerators
-            .iter()
-            .fold(own, |c, p| gcd(c, p.content()))
+        self.numerators.iter().fold(own, |c, p| gcd(c, p.content()))
     }
 
     /// The least power of epsilon among the polynomials that aren't 0.
@@ -173,6 +172,7 @@ impl Row {
         requires proper { IsProperRow (length self.old.numerators) self.old }
         requires room { length spare.old.numerators ≡ length self.old.numerators }
         ensures cleared { self.new ≡ cleared last.now self.old }
+        ensures count { length self.new.numerators ≡ length self.old.numerators }
         ensures room { length spare.new.numerators ≡ length self.old.numerators }
     {
         self.divide(&last.core(), spare);

@@ -1,19 +1,19 @@
 -- From the choices by the present state to those of the priorities.
 use Rattle.std.proofs.Common.{◌≡◌, sym, ap, ap₂, ◌∙◌, subst, ℕ, ◌<◌, true, length, Option, Some, None, Result, Ok, Err, IfOk, OnOk, MatchOption}
-use Rattle.std.proofs.lemmas.List.Elements.{All-get_or}
+use Rattle.std.specs.Option.{option_map}
 use Rattle.field_core.specs.Terms.{Terms, IsReduced}
+use Rattle.field_core.specs.View.{terms}
 use Rattle.field_core.specs.Number.{Number}
 use Rattle.field_core.specs.Arithmetic.{◌/ε◌}
 use Rattle.field_core.specs.Order.{◌≤ε◌, IsPositive}
-use Rattle.field_core.specs.Kind.{ok_map}
 use Rattle.field_core.specs.Laws.AtMostLaws.{at_most_equal}
 use Rattle.field_core.specs.declared.place.WideAt.{WideAt}
 use Rattle.field_core.specs.declared.place.Op.TheVariants.{Div}
 use Rattle.fraction.specs.Plain.{single as single_parts}
 use Rattle.fraction.specs.Laws.PlainLaws.{plain_is_exact}
-use Rattle.case_model.specs.Sums.{number, number_at, terms_at}
+use Rattle.fraction.specs.View.{number_of}
+use Rattle.case_model.specs.Sums.{number, number_at, ratio_at}
 use Rattle.case_model.specs.Content.{Content, entangled}
-use Rattle.case_model.specs.Validity.{AreLowestInputs}
 use Rattle.case_model.specs.LegalOrder.{IsRatio, IsLeastRatio}
 use Rattle.case_model.proofs.ExactSums.{value_single, stored_single}
 use Rattle.case_model.proofs.IntersectionLaws.{intersection_unique}
@@ -40,10 +40,6 @@ module _ (c : Content) (t : TrialContent) (T : IsTrialOf c t) where
 
   -- ---- ratios
 
-  p_value_lowest : (k : ℕ) → k < length t.p_values → IsReduced (terms_at t.p_values k)
-  unfolding terms_at
-  p_value_lowest k h = All-get_or IsReduced t.p_values k _ h (subst AreLowestInputs T.inputs T.valid.inputs)
-
   level_lowest : (k : ℕ) → IsReduced (case_level t.state k)
   level_lowest k = case_lowest c t.rejected t.state k T.valid (distinct c t T) T.state
 
@@ -60,8 +56,8 @@ module _ (c : Content) (t : TrialContent) (T : IsTrialOf c t) where
         positive = Q.written.positive;
         ratio =
             sym (value_single q)
-            ∙ plain_is_exact.exact Div (single_parts (terms_at t.p_values k)) (single_parts w) (single_parts q) (stored_single _ (p_value_lowest k h)) (stored_single w (level_lowest k)) (level_divides w (level_lowest k) Q.written.positive) (ap (λ r. ok_map single_parts r) Q.quotient)
-            ∙ ap₂ ◌/ε◌ (value_single (terms_at t.p_values k)) (value_single w);
+            ∙ plain_is_exact.exact Div (single_parts (terms (ratio_at t.p_values k))) (single_parts w) (single_parts q) (stored_single _ (ratio_at t.p_values k).valid) (stored_single w (level_lowest k)) (level_divides w (level_lowest k) Q.written.positive) (ap (option_map single_parts) Q.quotient)
+            ∙ ap₂ ◌/ε◌ (value_single (terms (ratio_at t.p_values k))) (value_single w);
       }
 
   -- a ratio is written, where it is defined

@@ -3,7 +3,6 @@ pub mod Calls
 pub mod Candidates
 pub mod CaseRuns
 pub mod ChoiceFacts
-pub mod Counting
 pub mod Decided
 pub mod DecisionLaws
 pub mod KeptLines

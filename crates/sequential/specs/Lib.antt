@@ -1,4 +1,3 @@
-pub mod DecisionView
 pub mod Trials
 pub mod TrialView
 pub mod TrialAnswers

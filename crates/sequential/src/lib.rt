@@ -2,19 +2,15 @@
 #![tactic(auto)]
 
 mod candidate;
-mod choice;
 mod decision;
 mod fault;
 pub mod laws;
 mod priority;
-mod ratios;
-mod steps;
 #[cfg(test)]
 mod tests;
 mod trial;
 
-pub use decision::{Decision, StepLine};
+pub use decision::{Decision, StepLine, decide};
 pub use fault::{DecideFault, RejectFault};
 pub use priority::Priority;
-pub use steps::decide;
 pub use trial::Trial;

@@ -1,16 +1,15 @@
 -- A row has exact quotients by 1, and they are its own polynomials.
-use Rattle.std.proofs.Common.{◌≡◌, ℕ, zero, suc, ◌+◌, ◌-◌, ◌<◌, ◌≤◌, ◌^◌, List, get_or, length, refl, sym, ◌∙◌, ap, arith, ℤ, pos, ◌+ℤ◌, ◌*ℤ◌, unsigned_abs, lit<, Option, Some}
+use Rattle.std.proofs.Common.{◌≡◌, ℕ, zero, suc, ◌+◌, ◌-◌, ◌<◌, ◌≤◌, List, refl, ◌∙◌, ap, arith, ℤ, pos, ◌+ℤ◌, ◌*ℤ◌, Some}
 use lib.IntN.{*ℤ-zero}
-use Rattle.std.specs.Option.{unwrap_or}
 use Rattle.std.proofs.lemmas.Int.{ints}
 use Rattle.field_core.specs.Polynomial.{coefficient}
 use Rattle.field_core.specs.Laws.Integers.{int_multiply_one}
-use Rattle.field_core.specs.Sized.{◌>>=◌, sized}
+use Rattle.field_core.specs.Sized.{sized}
 use Rattle.field_core.proofs.Sized.{sized_small}
 use Rattle.eps_poly.specs.ExactQuotients.{exact_quotient}
 use Rattle.eps_poly.specs.Polynomials.{IsPolynomial, zero_polynomial}
 use Rattle.eps_poly.specs.Written.{written_coefficient, degree, sized_product}
-use Rattle.eps_poly.proofs.Coefficients.{Filled, coefficient-past}
+use Rattle.eps_poly.proofs.Coefficients.{coefficient-past}
 use Rattle.eps_poly.proofs.DegreeLaws.{degree_at_most}
 use Rattle.eps_poly.proofs.ExactLaws.{quotient_only}
 use Rattle.eps_poly.proofs.ProductLaws.{coefficient_next, coefficient_none, coefficient_zero, product_from_list}
@@ -19,7 +18,7 @@ use Rattle.eps_quotient.specs.Lowering.{one_polynomial}
 use Rattle.eps_quotient.specs.Laws.LowerLaws.{one_some}
 use Rattle.eps_quotient.specs.Laws.Multiples.{monomial-at, monomial-other}
 use Rattle.row_removal.specs.StoredRow.{StoredRow, numerator_at, IsProperRow}
-use Rattle.row_removal.specs.Clearing.{map_all, quotient_row, divided_row}
+use Rattle.row_removal.specs.Clearing.{quotient_row, divided_row}
 use Rattle.row_removal.specs.Laws.ClearingLaws.{numerator_is}
 use Rattle.row_removal.specs.Laws.Together.{from_given}
 

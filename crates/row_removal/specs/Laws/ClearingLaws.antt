@@ -1,5 +1,5 @@
 -- Clearing a row changes no value.
-use Rattle.std.proofs.Common.{◌≡◌, ℕ, zero, suc, ◌<◌, ◌≤◌, min, List, [], ◌∷◌, length, map, get_or, refl, sym, ◌∙◌, ap, subst, arith, ℤ, pos, ◌*ℤ◌, ◌<ℤ◌, unsigned_abs, Option, Some, None, All}
+use Rattle.std.proofs.Common.{◌≡◌, ℕ, zero, suc, ◌<◌, ◌≤◌, min, List, [], ◌∷◌, length, get_or, refl, sym, ◌∙◌, ap, subst, arith, ℤ, pos, ◌*ℤ◌, ◌<ℤ◌, unsigned_abs, Option, Some, None, All}
 use Rattle.std.specs.List.{fold}
 use Rattle.std.specs.Option.{unwrap_or}
 use Rattle.std.specs.Int.{◌∣◌}
@@ -11,9 +11,7 @@ use Rattle.std.proofs.lemmas.Nat.Gcd.{dvd_trans, dvd_refl, le_of_dvd}
 use Rattle.std.proofs.Math.Nat.{min-le_left, min-le_right, pos_of_dvd_of_pos}
 use Rattle.field_core.specs.Polynomial.{Same, poly_multiply, lowest, IsNonZero}
 use Rattle.field_core.specs.Divisor.{gcd}
-use Rattle.field_core.specs.Fractions.{quotient}
 use Rattle.field_core.specs.Laws.PolynomialLaws.{multiply_comm, lowest-same, lowest-multiply}
-use Rattle.field_core.specs.Sized.{◌>>=◌}
 use Rattle.field_core.proofs.Divisors.{gcd_is}
 use Rattle.eps_poly.specs.ExactQuotients.{exact_quotient}
 use Rattle.eps_poly.specs.Polynomials.{IsPolynomial, monomial, zero_polynomial}
@@ -24,7 +22,7 @@ use Rattle.eps_poly.proofs.FactorLaws.{lowered_factors, core_is}
 use Rattle.eps_poly.proofs.OrderLaws.{lowest_from_coefficient}
 use Rattle.eps_poly.proofs.ProductLaws.{product_is_exact}
 use Rattle.eps_poly.proofs.SizedLists.{bind_some}
-use Rattle.eps_poly.proofs.Validity.{lowered_valid, core_valid}
+use Rattle.eps_poly.proofs.Validity.{lowered_valid}
 use Rattle.eps_quotient.specs.Laws.Cuts.{order_within, monomial_some}
 use Rattle.eps_quotient.specs.Laws.Multiples.{monomial-multiply}
 use Rattle.eps_quotient.specs.Laws.QuotientLaws.{same_sym, same_trans, quotient-cancel}
@@ -173,7 +171,7 @@ lowered_values m r P =
     (lowered_times h k low r.denominator P.denominator (content_first (content r.denominator) r.numerators) (order_first (order r.denominator) r.numerators))
     (lowered_valid k (pos h) r.denominator P.denominator)
     (λ i b. subst (λ q. Same (numerator_at r i) (poly_multiply (monomial (pos h) k) q)) (sym (by i b))
-      (lowered_times h k low (numerator_at r i) (numerator_is m r i P b) (content_each _ r.numerators i (omega (arith, P.count))) (order_each _ r.numerators i (omega (arith, P.count)))))
+    (lowered_times h k low (numerator_at r i) (numerator_is m r i P b) (content_each _ r.numerators i (omega (arith, P.count))) (order_each _ r.numerators i (omega (arith, P.count)))))
     (λ i b. subst IsPolynomial (sym (by i b)) (lowered_valid k (pos h) (numerator_at r i) (numerator_is m r i P b)))
 
 -- ---- the cleared row

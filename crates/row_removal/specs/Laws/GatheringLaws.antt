@@ -1,34 +1,31 @@
 -- The gathered rows have the numbers of the graph.
-use Rattle.std.proofs.Common.{◌≡◌, ◌≢◌, ◌⊎◌, inl, inr, refl, sym, ap, ap₂, subst, ◌∙◌, ℕ, zero, suc, ◌+◌, ◌*◌, ◌/◌, ◌<◌, ◌^◌, Bool, true, false, if◌then◌else◌, List, [], ◌∷◌, length, get_or, ℤ, pos, ◌*ℤ◌, ◌<ℤ◌, unsigned_abs, int_div, Option, Some, None, Result, Ok, arith, All}
+use Rattle.std.proofs.Common.{◌≡◌, ◌≢◌, ◌⊎◌, inl, inr, refl, sym, ap, subst, ◌∙◌, ℕ, zero, suc, ◌+◌, ◌*◌, ◌/◌, ◌<◌, ◌^◌, true, false, List, [], ◌∷◌, get_or, ℤ, pos, ◌*ℤ◌, ◌<ℤ◌, unsigned_abs, int_div, Option, Some, None, Ok, arith}
 use Rattle.std.specs.Int.{◌∣◌}
 use Rattle.std.proofs.lemmas.Int.{ints, unsigned_abs-mul}
 use Rattle.std.proofs.lemmas.Nat.Gcd.{dvd_trans}
 use Rattle.std.proofs.lemmas.List.Elements.{All-from_get_or}
-use Rattle.std.proofs.Math.Nat.{dvd-mul_right, dvd-mul_left, mul-div_cancel', pos_of_dvd_of_pos}
+use Rattle.std.proofs.Math.Nat.{dvd-mul_right, dvd-mul_left, mul-div_cancel'}
 use Rattle.field_core.specs.Divisor.{gcd}
 use Rattle.field_core.proofs.Divisors.{gcd_is}
 use Rattle.field_core.proofs.Coprime.{gcd_bounds}
 use Rattle.field_core.proofs.Live.{true_or_false}
 use Rattle.field_core.specs.declared.place.Op.TheVariants.{Mul}
-use Rattle.field_core.specs.declared.place.Wide.{Wide}
 use Rattle.field_core.specs.Kind.{Parts, is_zero}
-use Rattle.field_core.specs.Exact.{IsExact, value_of}
-use Rattle.field_core.specs.Number.{Number}
-use Rattle.field_core.specs.Arithmetic.{number_zero}
+use Rattle.field_core.specs.Exact.{value_of}
 use Rattle.field_core.specs.Fractions.{quotient}
-use Rattle.field_core.specs.Polynomial.{coefficient, lowest, Same, poly_multiply, int_sign, IsNonZero}
+use Rattle.field_core.specs.Polynomial.{coefficient, Same, poly_multiply, int_sign, IsNonZero}
 use Rattle.field_core.specs.Laws.PolynomialLaws.{lowest-same, multiply_comm, positive_in, positive_out, int_sign-scale}
 use Rattle.field_core.specs.Laws.FractionLaws.{lowest-constant}
 use Rattle.field_core.specs.Laws.Effective.{product_positive, positive_nonzero}
 use Rattle.field_core.specs.Sized.{sized, gcd_of}
 use Rattle.field_core.specs.Steps.{at, each_below, ◌>>=◌}
-use Rattle.removal.specs.StoredGraph.{StoredGraph, IsSquare, size, weight, edge}
+use Rattle.removal.specs.StoredGraph.{StoredGraph, size, weight, edge}
 use Rattle.removal.specs.ByValue.{AreStored}
 use Rattle.field_core.specs.Laws.Prefixes.{bind_ok, at_ok, ok_same, each_length, each_get}
 use Rattle.eps_poly.specs.Polynomials.{IsPolynomial, IsConstant, zero_polynomial, monomial}
 use Rattle.eps_poly.specs.Factors.{from_factors}
 use Rattle.eps_poly.specs.Written.{sized_product}
-use Rattle.eps_poly.proofs.IntegerQuotients.{quotient_times}
+use Rattle.field_core.proofs.Wholes.{quotient_times, size_quotient}
 use Rattle.eps_poly.proofs.ProductLaws.{product_is_exact, product_polynomial}
 use Rattle.eps_poly.proofs.SumLaws.{sized_inside}
 use Rattle.eps_poly.proofs.Validity.{zero_valid}
@@ -37,12 +34,11 @@ use Rattle.eps_quotient.specs.Quotients.{quotients}
 use Rattle.eps_quotient.specs.Stored.{IsQuotient}
 use Rattle.eps_quotient.specs.Laws.Cuts.{monomial_held, monomial_some}
 use Rattle.eps_quotient.specs.Laws.Exact.{quotients_are_exact, some_below}
-use Rattle.eps_quotient.specs.Laws.LimitTerms.{size_quotient}
 use Rattle.eps_quotient.specs.Laws.LowerLaws.{one_some, one_held, zero_lowest}
 use Rattle.eps_quotient.specs.Laws.Multiples.{monomial-at, monomial-other, monomial-multiply, factors-at}
-use Rattle.eps_quotient.specs.Laws.QuotientLaws.{same_sym, same_trans, quotient-cancel, zero_value}
+use Rattle.eps_quotient.specs.Laws.QuotientLaws.{same_trans, quotient-cancel, zero_value}
 use Rattle.row_removal.specs.StoredRow.{StoredRow, zero_row, numerator_at, row_value, IsProperRow}
-use Rattle.row_removal.specs.StoredRows.{StoredRows, rows_size, row_at}
+use Rattle.row_removal.specs.StoredRows.{StoredRows, row_at}
 use Rattle.row_removal.specs.Proper.{AreProperRows}
 use Rattle.row_removal.specs.Gathering.{HasConstants, place_of, given, given_below, with_denominator, common_below, gathered_numerator, gathered_row, gathered}
 

@@ -1,10 +1,7 @@
 -- By value the gathered rows are the graph.
-use Rattle.std.proofs.Common.{◌≡◌, ◌≢◌, inl, inr, refl, sym, ap, ap₂, subst, ◌∙◌, ℕ, ◌<◌, true, false, length, get_or, arith}
-use mathlib.Core.Path.{fun_ext}
+use Rattle.std.proofs.Common.{◌≡◌, inl, inr, sym, ap, ◌∙◌, ℕ, ◌<◌, true, false, length, get_or, arith}
 use Rattle.field_core.proofs.Live.{true_or_false}
 use Rattle.field_core.proofs.RemovalLaws.{same_or_not}
-use Rattle.field_core.specs.Number.{Number}
-use Rattle.field_core.specs.Graph.{Graph}
 use Rattle.removal.specs.StoredGraph.{StoredGraph, size, is_live}
 use Rattle.removal.specs.ByValue.{graph_of, AreStored, IsSound}
 use Rattle.removal.specs.Laws.ByPositions.{same_graph}

@@ -1,5 +1,5 @@
 -- The graph of proper rows: its weights and edges are the stored quotients of the rows, and have their numbers.
-use Rattle.std.proofs.Common.{◌≡◌, ◌≢◌, inl, inr, refl, sym, ap, subst, ◌∙◌, ℕ, zero, suc, ◌+◌, ◌*◌, ◌<◌, List, [], ◌∷◌, ◌++◌, get_or, map, length, length-append, All, arith}
+use Rattle.std.proofs.Common.{◌≡◌, ◌≢◌, inl, inr, sym, ap, subst, ◌∙◌, ℕ, zero, suc, ◌+◌, ◌*◌, ◌<◌, List, [], ◌∷◌, ◌++◌, get_or, length, length-append, arith}
 use Rattle.std.specs.List.{flat_map}
 use Rattle.std.proofs.lemmas.List.{get_or-map, length-map, get_or-append-add}
 use Rattle.std.proofs.Math.ListN.{get_or-append}
@@ -7,7 +7,7 @@ use Rattle.std.proofs.lemmas.List.Elements.{All-get_or}
 use Rattle.field_core.proofs.RemovalLaws.{same_or_not}
 use Rattle.field_core.specs.Kind.{Parts}
 use Rattle.field_core.specs.Exact.{value_of}
-use Rattle.removal.specs.StoredGraph.{StoredGraph, IsSquare, size, weight, edge}
+use Rattle.removal.specs.StoredGraph.{IsSquare, size, weight, edge}
 use Rattle.removal.specs.ByValue.{AreStored}
 use Rattle.removal.specs.Laws.Seen.{edge_apart, edge_itself}
 use Rattle.eps_poly.specs.Polynomials.{zero_polynomial}
@@ -86,6 +86,9 @@ module _ (s : StoredRows) (P : AreProperRows s) where
       edge_apart quotients (rows_graph s) l k q
       ∙ flat_at (rows_size s) s.edges each_count l k (omega (arith, P.count)) i
       ∙ quotients_at (rows_size s) (row_at s l) (each_row l h) k i
+
+  pub loop_seen : (k : ℕ) → edge quotients (rows_graph s) k k ≡ zero_quotient
+  loop_seen k = edge_itself quotients (rows_graph s) k
 
   pub weight_number : (l : ℕ) → l < rows_size s → value_of (weight quotients (rows_graph s) l) ≡ row_value s.weights l
   weight_number l h = ap value_of (weight_seen l h) ∙ value_at (rows_size s) s.weights P.weights l h

@@ -1,5 +1,5 @@
 -- What a written removal from rows that isn't refused did, and the numbers of the new rows.
-use Rattle.std.proofs.Common.{◌≡◌, ◌≢◌, refl, sym, ap, subst, cond, ◌∙◌, ℕ, ◌<◌, ◌||◌, ◌==◌, inl, inr, Bool, true, false, if◌then◌else◌, List, get_or, set, replicate, length, ℤ, pos, Option, Some, Result, Ok, All, arith, length-set}
+use Rattle.std.proofs.Common.{◌≡◌, refl, sym, ap, subst, ◌∙◌, ℕ, ◌<◌, ◌||◌, ◌==◌, inl, inr, true, false, List, set, replicate, length, ℤ, pos, Option, Some, Ok, arith, length-set}
 use Rattle.std.specs.List.{list_all}
 use Rattle.std.proofs.lemmas.List.{get_or-replicate, length-replicate}
 use Rattle.std.proofs.lemmas.List.Elements.{All-get_or, All-from_get_or}
@@ -7,7 +7,6 @@ use Rattle.field_core.specs.declared.place.Op.{Op}
 use Rattle.field_core.specs.declared.place.Op.TheVariants.{Add, Sub, Mul}
 use Rattle.field_core.specs.declared.place.Place.{Place}
 use Rattle.field_core.specs.declared.place.Place.TheVariants.{Weight, Loss, Edge}
-use Rattle.field_core.specs.declared.place.Wide.{Wide}
 use Rattle.field_core.proofs.Live.{true_or_false}
 use Rattle.field_core.specs.Kind.{is_zero_integer}
 use Rattle.field_core.specs.Number.{Number}
@@ -16,7 +15,7 @@ use Rattle.field_core.specs.Fractions.{quotient}
 use Rattle.field_core.specs.Laws.Order.{number_divide_is, number_multiply_zero}
 use Rattle.field_core.specs.Laws.NumberLaws.{number_invert_zero}
 use Rattle.field_core.specs.Laws.PolynomialLaws.{nonzero-multiply}
-use Rattle.field_core.specs.Polynomial.{lowest, Same, poly_add, poly_multiply, poly_negate, IsNonZero}
+use Rattle.field_core.specs.Polynomial.{lowest, Same, poly_add, poly_negate, IsNonZero}
 use Rattle.field_core.specs.Steps.{at, each_below, ◌>>=◌}
 use Rattle.removal.specs.WrittenRemoval.{is_gone}
 use Rattle.field_core.specs.Laws.Prefixes.{bind_ok, at_ok, step_ok, ok_same, each_length, each_get}
@@ -32,7 +31,7 @@ use Rattle.eps_quotient.specs.Lowering.{one_polynomial}
 use Rattle.row_removal.specs.StoredRow.{StoredRow, zero_row, numerator_at, row_value, IsProperRow}
 use Rattle.row_removal.specs.StoredRows.{StoredRows, rows_size, rows_graph, row_at}
 use Rattle.row_removal.specs.Clearing.{cleared}
-use Rattle.row_removal.specs.RowRemoval.{sum_of_products, difference_of_products, below, above, new_weight, new_weights, new_denominator, new_numerator, row_over, new_row, row_removal}
+use Rattle.row_removal.specs.RowRemoval.{sum_of_products, difference_of_products, below, above, new_weight, new_scale, new_weights, new_denominator, new_numerator, row_over, new_row, row_removal}
 use Rattle.row_removal.specs.Proper.{AreProperRows}
 use Rattle.row_removal.specs.Laws.ClearingLaws.{HasValues, numerator_is, each_is, cleared_values}
 use Rattle.row_removal.specs.Laws.RowNumbers.{merged_value, edge_over, loss_none}
@@ -88,6 +87,9 @@ module _ (s : StoredRows) (j : ℕ) (P : AreProperRows s) (j_in : j < rows_size 
   unfolding row_at
   row_proper l h = All-get_or (IsProperRow (rows_size s)) s.edges l (zero_row 0) (omega (arith, P.count)) P.edges
 
+  pub row_some : (l : ℕ) → l < rows_size s → IsNonZero (row_at s l).denominator
+  row_some l h = (row_proper l h).some
+
   entry : (l k : ℕ) → l < rows_size s → k < rows_size s → IsPolynomial (above s j l k)
   entry l k h i = numerator_is (rows_size s) (row_at s l) k (row_proper l h) i
 
@@ -116,14 +118,14 @@ module _ (s : StoredRows) (j : ℕ) (P : AreProperRows s) (j_in : j < rows_size 
   pub record WeightsMade (r : StoredRow) : Type 0 where
     pub raw : StoredRow
     pub numerators : each_below (rows_size s) (new_weight s j) ≡ Ok raw.numerators
-    pub denominator : sized_product s.weights.denominator (below s j j) ≡ Some raw.denominator
+    pub denominator : new_scale s j ≡ Ok raw.denominator
     pub is : cleared s.last raw ≡ r
 
   weights_made : (r : StoredRow) → new_weights s j ≡ Ok r → WeightsMade r
   unfolding new_weights
   weights_made r h =
       let a = bind_ok (each_below (rows_size s) (new_weight s j)) _ r h in
-      let b = step_ok (Weight j) Mul (sized_product s.weights.denominator (below s j j)) _ r a.1.1 in
+      let b = bind_ok (new_scale s j) _ r a.1.1 in
       record {
         raw = record { numerators = a.0; denominator = b.0 };
         numerators = a.1.0;
@@ -131,22 +133,30 @@ module _ (s : StoredRows) (j : ℕ) (P : AreProperRows s) (j_in : j < rows_size 
         is = ok_same (Ok r) _ r (sym b.1.1) refl;
       }
 
+  scale_product : (d : List ℤ) → new_scale s j ≡ Ok d → sized_product s.weights.denominator (below s j j) ≡ Some d
+  unfolding new_scale
+  scale_product d h = at_ok (Weight j) Mul _ d h
+
+  -- what is written of the weights is proper
+  pub raw_weights : (raw : StoredRow) → each_below (rows_size s) (new_weight s j) ≡ Ok raw.numerators → new_scale s j ≡ Ok raw.denominator → IsProperRow (rows_size s) raw
+  unfolding numerator_at
+  raw_weights raw N scale =
+      let D = scale_product raw.denominator scale in
+      let count = each_length _ _ raw.numerators N in
+      record {
+        count = count;
+        numerators = each_is (rows_size s) raw count (λ k h. weight_held k _ (each_get _ _ raw.numerators N zero_polynomial k h));
+        denominator = product_polynomial _ _ _ D;
+        some = same_nonzero _ _ (same_sym raw.denominator _ (product_is_exact _ _ _ D)) (nonzero-multiply s.weights.denominator (below s j j) P.weights.some (row_proper j j_in).some);
+      }
+
   module _ (r : StoredRow) (W : WeightsMade r) where
     raw_weight : (l : ℕ) → l < rows_size s → new_weight s j l ≡ Ok (numerator_at W.raw l)
     unfolding numerator_at
     raw_weight l h = each_get _ _ W.raw.numerators W.numerators zero_polynomial l h
 
-    raw_weights : IsProperRow (rows_size s) W.raw
-    unfolding numerator_at
-    raw_weights = record {
-      count = each_length _ _ W.raw.numerators W.numerators;
-      numerators = All-from_get_or IsPolynomial W.raw.numerators zero_polynomial (λ k h. weight_held k _ (raw_weight k (omega (arith, each_length _ _ W.raw.numerators W.numerators))));
-      denominator = product_polynomial _ _ _ W.denominator;
-      some = let e = product_is_exact _ _ _ W.denominator in same_nonzero _ _ (same_sym W.raw.denominator _ e) (nonzero-multiply s.weights.denominator (below s j j) P.weights.some (row_proper j j_in).some);
-    }
-
     weights_values : HasValues (rows_size s) W.raw r
-    weights_values = subst (HasValues (rows_size s) W.raw) W.is (cleared_values (rows_size s) s.last W.raw P.last P.last_some raw_weights)
+    weights_values = subst (HasValues (rows_size s) W.raw) W.is (cleared_values (rows_size s) s.last W.raw P.last P.last_some (raw_weights W.raw W.numerators W.denominator))
 
     pub weights_proper : IsProperRow (rows_size s) r
     weights_proper = weights_values.proper
@@ -160,7 +170,7 @@ module _ (s : StoredRows) (j : ℕ) (P : AreProperRows s) (j_in : j < rows_size 
         weights_values.value l h
         ∙ merged_value (numerator_at s.weights l) (numerator_at s.weights j) s.weights.denominator (above s j j l) (below s j j) t.a t.b (numerator_at W.raw l) W.raw.denominator
         P.weights.some (row_proper j j_in).some (product_is_exact _ _ _ t.first_is) (product_is_exact _ _ _ t.second_is)
-        (sum_is_exact t.a t.b _ ka.count kb.count t.third_is) (product_is_exact _ _ _ W.denominator)
+        (sum_is_exact t.a t.b _ ka.count kb.count t.third_is) (product_is_exact _ _ _ (scale_product W.raw.denominator W.denominator))
 
   -- ---- a row of edges
 
@@ -224,9 +234,9 @@ module _ (s : StoredRows) (j : ℕ) (P : AreProperRows s) (j_in : j < rows_size 
 
       raw_proper : IsProperRow (rows_size s) raw
       unfolding numerator_at raw
-      raw_proper = record {
-        count = each_length _ _ numerators N;
-        numerators = All-from_get_or IsPolynomial numerators zero_polynomial (λ k h. numerator_held l k _ (raw_numerator k (omega (arith, each_length _ _ numerators N))));
+      raw_proper = let count = each_length _ _ numerators N in record {
+        count = count;
+        numerators = each_is (rows_size s) raw count (λ k h. numerator_held l k _ (each_get _ _ numerators N zero_polynomial k h));
         denominator = sum_polynomial _ _ _ D.third_is;
         some = some;
       }
@@ -263,6 +273,12 @@ module _ (s : StoredRows) (j : ℕ) (P : AreProperRows s) (j_in : j < rows_size 
           let a = bind_ok (each_below (rows_size s) (new_numerator s j l)) _ r (sym (others_over e) ∙ h) in
           subst (RowIs l) (ok_same (Ok r) _ r (sym a.1.1) refl) (cleared_is (others_lowest d e) a.0 a.1.0)
     ]
+
+  -- what is written of a row is proper
+  pub raw_row : (l : ℕ) → l < rows_size s → (r : StoredRow) → new_denominator s j l ≡ Ok r.denominator → list_all is_zero_integer r.denominator ≡ false → each_below (rows_size s) (new_numerator s j l) ≡ Ok r.numerators
+      → IsProperRow (rows_size s) r
+  unfolding raw
+  raw_row l l_in r h some N = raw_proper l l_in r.denominator (denominator_parts l r.denominator h) (others_lowest r.denominator some) r.numerators N
 
   row_gone : (l : ℕ) → is_gone (rows_graph s) j l ≡ true → new_row s j l ≡ Ok (zero_row (rows_size s))
   unfolding new_row

@@ -1,18 +1,18 @@
 -- A written removal from rows that isn't refused is by value the removal of the graphical procedure.
-use Rattle.std.proofs.Common.{◌≡◌, ◌≢◌, inl, inr, refl, sym, ap, ap₂, ◌∙◌, ℕ, ◌<◌, true, false, get_or, set, length, Ok, arith}
+use Rattle.std.proofs.Common.{◌≡◌, ◌≢◌, inl, inr, sym, ap, ap₂, ◌∙◌, ℕ, ◌<◌, true, false, get_or, arith}
 use Rattle.std.proofs.lemmas.List.{get_or-set_same, get_or-set_other}
 use Rattle.field_core.specs.Arithmetic.{number_one, ◌+ε◌, ◌-ε◌, ◌*ε◌, ◌/ε◌}
 use Rattle.field_core.specs.Sets.{dropping}
 use Rattle.field_core.proofs.Live.{dropping_same, dropping_other}
 use Rattle.field_core.proofs.RemovalLaws.{same_or_not}
-use Rattle.removal.specs.StoredGraph.{StoredGraph, size, is_live}
+use Rattle.removal.specs.StoredGraph.{size, is_live}
 use Rattle.removal.specs.WrittenRemoval.{is_gone}
 use Rattle.removal.specs.Exactness.{IsRemoved, RemovesExactly}
 use Rattle.removal.specs.Laws.LiveBelow.{live_below}
 use Rattle.removal.specs.Laws.Seen.{stays_live, stays_edge}
 use Rattle.eps_quotient.specs.Quotients.{quotients}
 use Rattle.eps_quotient.specs.Stored.{IsQuotient}
-use Rattle.row_removal.specs.StoredRows.{StoredRows, rows_size, rows_graph, row_at}
+use Rattle.row_removal.specs.StoredRows.{StoredRows, rows_size, rows_graph}
 use Rattle.row_removal.specs.RowRemoval.{row_removal}
 use Rattle.row_removal.specs.Proper.{AreProperRows}
 use Rattle.removal.specs.Laws.ByPositions.{WeightsFollow, EdgesFollow, removed_by_positions}

@@ -1,6 +1,7 @@
 use Rattle.std.proofs.lemmas.Result.{IfErr-weaker}
 use Rattle.edge_text.specs.Faults.{Alpha}
-use Rattle.edge_text.specs.View.{row, rows_left, end_at}
+use Rattle.text_lines.specs.Lines.{rows_left, end_at}
+use Rattle.text_lines.specs.View.{row}
 use Rattle.edge_text.proofs.Leads.{fault_first}
 use Rattle.edge_text.proofs.document.alpha.Goals as goal
 

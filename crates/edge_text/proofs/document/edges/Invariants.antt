@@ -1,10 +1,6 @@
-use Rattle.std.proofs.Common.{length}
-use Rattle.edge_text.specs.View.{rows_left}
+use Rattle.text_lines.specs.Lines.{rows_left}
 use Rattle.edge_text.proofs.EdgeLists.{EdgesRead}
 use Rattle.edge_text.proofs.document.edges.Given as goal
 
 abbrev pub invariant-loop-line : goal.invariant-loop-line
-invariant-loop-line l = EdgesRead l.names (rows_left l.initial.lines) (rows_left l.lines) l.edges
-
-abbrev pub decreases-loop-line : goal.decreases-loop-line
-decreases-loop-line l = length (rows_left l.lines)
+invariant-loop-line l = EdgesRead l.names (rows_left l.fn.lines) (rows_left l.line-iterator) l.edges

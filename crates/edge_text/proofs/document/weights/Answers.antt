@@ -1,6 +1,7 @@
 use Rattle.std.proofs.lemmas.Result.{IfErr-weaker}
 use Rattle.edge_text.specs.Faults.{Weights}
-use Rattle.edge_text.specs.View.{row, rows_left, end_at}
+use Rattle.text_lines.specs.Lines.{rows_left, end_at}
+use Rattle.text_lines.specs.View.{row}
 use Rattle.edge_text.proofs.Leads.{fault_first, fault_ended, handed_on}
 use Rattle.edge_text.proofs.document.weights.Goals as goal
 

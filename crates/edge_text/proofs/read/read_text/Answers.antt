@@ -1,5 +1,4 @@
-use Rattle.case_model.specs.DraftView.{said}
-use Rattle.edge_text.specs.Lines.{rows_of, texts_in}
+use Rattle.text_lines.specs.Lines.{rows_of, texts_in}
 use Rattle.edge_text.proofs.Leads.{handed_on}
 use Rattle.edge_text.proofs.Texts.{document_ends, line_fault, draft_fault}
 use Rattle.edge_text.proofs.read.read_text.Goals as goal
@@ -9,7 +8,7 @@ returns-in_err-draft-clause-fault c =
     handed_on c.from_residual.result c.in_err-draft.field-0.0 _ c.from_residual.ensures.1 (line_fault c.args.bytes.now c.in_err-draft.field-0.0 c.in_err-draft.ensures.fault)
 
 pub finish-requires-clause-ends : goal.finish-requires-clause-ends
-finish-requires-clause-ends c = document_ends (texts_in (rows_of c.args.bytes.now)) (said c.in_ok-draft.field-0) c.in_ok-draft.ensures.found
+finish-requires-clause-ends c = document_ends (texts_in (rows_of c.args.bytes.now)) c.in_ok-draft.field-0 c.in_ok-draft.ensures.found
 
 pub returns-in-Err-clause-fault : goal.returns-in-Err-clause-fault
 returns-in-Err-clause-fault c = draft_fault c.args.bytes.now c.in_ok-draft.field-0 c.in-Err.refused c.text_fault.result c.in_ok-draft.ensures.found c.in-Err.ensures.fault c.in-Err.ensures.names c.text_fault.ensures

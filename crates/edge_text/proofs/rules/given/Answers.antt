@@ -1,10 +1,10 @@
-use Rattle.std.proofs.Common.{◌≡◌, refl, length, sym, subst, ap, ◌∙◌, arith}
+use Rattle.std.proofs.Common.{◌≡◌, refl, length, arith}
 use Rattle.std.proofs.lemmas.Bool.Decides.{nat_tests}
-use Rattle.edge_text.specs.View.{words_left, IsOnLine, IsGivenFault}
+use Rattle.text_lines.specs.Words.{words_of}
 use Rattle.edge_text.proofs.Numerals.{no_values}
 use Rattle.edge_text.proofs.rules.given.Goals as goal
 
 pub returns-then-is_empty-clause-fault : goal.returns-then-is_empty-clause-fault
 returns-then-is_empty-clause-fault c =
-    let none : length c.as_slice.result.now ≡ 0 = grind (arith, nat_tests, c.is_empty.ensures, c.if-is_empty.true) in
-    subst (IsOnLine c.args.line.now.number (IsGivenFault (words_left c.args.words))) (sym c.fault.ensures) (refl, no_values (words_left c.args.words) c.in_ok-values.values (ap length (sym c.as_slice.ensures) ∙ none) c.in_ok-values.ensures.found)
+    let none : length c.in_ok-values.values ≡ 0 = grind (arith, nat_tests, c.is_empty.ensures, c.if-is_empty.true) in
+    (refl, no_values (words_of c.args.words) c.in_ok-values.values none c.in_ok-values.ensures.found)

@@ -1,11 +1,7 @@
-use Rattle.std.proofs.Common.{length, map}
-use Rattle.fraction.specs.View.{terms_of}
-use Rattle.edge_text.specs.View.{words_left}
+use Rattle.std.proofs.Common.{map}
+use Rattle.text_lines.specs.Words.{words_of}
 use Rattle.edge_text.proofs.Numerals.{AreRead}
 use Rattle.edge_text.proofs.rules.numbers.Given as goal
 
 abbrev pub invariant-loop-word : goal.invariant-loop-word
-invariant-loop-word l = AreRead (words_left l.initial.words) (words_left l.words) (map terms_of l.values)
-
-abbrev pub decreases-loop-word : goal.decreases-loop-word
-decreases-loop-word l = length (words_left l.words)
+invariant-loop-word l = AreRead (words_of l.fn.words) (words_of l.word-iterator) l.values

@@ -1,6 +1,5 @@
-use Rattle.std.proofs.Common.{◌≡◌, ◌++◌, ◌+◌, map, drop}
+use Rattle.std.proofs.Common.{◌≡◌, ◌++◌, ◌+◌, drop}
 use Rattle.case_model.specs.CaseView.{content}
-use Rattle.sequential.specs.DecisionView.{step_content}
 use Rattle.report.specs.TestReport.{step_lines}
 use Rattle.report.proofs.test.put_steps.Given as goal
 
@@ -8,4 +7,4 @@ use Rattle.report.proofs.test.put_steps.Given as goal
 abbrev pub invariant-loop-i : goal.invariant-loop-i
 invariant-loop-i l =
     let n = l.i in
-    l.text ++ step_lines (content l.case) (n + 1) (map step_content (drop n l.steps)) ≡ l.fn.text ++ step_lines (content l.case) 1 (map step_content l.steps)
+    l.text ++ step_lines (content l.case) (n + 1) (drop n l.steps) ≡ l.fn.text ++ step_lines (content l.case) 1 l.steps

@@ -1,4 +1,4 @@
-use Rattle.std.proofs.Common.{◌∙◌, rules, arith, sym}
+use Rattle.std.proofs.Common.{rules, arith}
 use Rattle.eps_poly.specs.ExactQuotients.{exact_quotient}
 use Rattle.eps_poly.specs.Polynomials.{zero_polynomial}
 use Rattle.row_removal.specs.StoredRow.{numerator_at}

@@ -1,0 +1,31 @@
+-- Lines that several commands put.
+use Rattle.std.specs.Prelude.{ℕ, List, [], ◌∷◌, ◌++◌, codes}
+use Rattle.std.specs.Fmt.{decimal}
+use Rattle.answers.specs.declared.answer.Answer.{Answer}
+use Rattle.answers.specs.declared.cause.Cause.TheVariants.{Limit}
+use Rattle.answers.specs.declared.refusal.Refusal.{Refusal}
+use Rattle.answers.specs.declared.status.Status.TheVariants.{Refused, Done}
+
+-- a text and the end of its line
+abbrev pub line : List ℕ → List ℕ
+line text = text ++ 10 ∷ []
+
+-- what is put where a source had a fault
+unfoldable pub read_fault : List ℕ
+read_fault = line (codes "read fault")
+
+-- what is put where memory ran out
+unfoldable pub no_memory : List ℕ
+no_memory = line (codes "no memory")
+
+-- an input, named by these words, has more bytes than it may have; so many were read
+unfoldable pub bytes_refusal : List ℕ → ℕ → Refusal
+bytes_refusal name n = record { cause = Limit; line = line (codes "limit: " ++ name ++ codes "bytes " ++ decimal n) }
+
+-- the answer that a refusal is
+abbrev pub refused : Refusal → Answer
+refused r = record { status = Refused r.cause; text = r.line }
+
+-- a text with which all is done
+abbrev pub done : List ℕ → Answer
+done text = record { status = Done; text = text }

@@ -1,0 +1,22 @@
+//! What a call answers, why it stops, and what is put of either.
+#![tactic(auto)]
+
+mod answer;
+mod cause;
+mod ending;
+mod halt;
+mod refusal;
+mod status;
+mod stop;
+#[cfg(test)]
+mod tests;
+mod whole;
+
+pub use answer::Answer;
+pub use cause::Cause;
+pub use ending::conclude;
+pub use halt::Halt;
+pub use refusal::Refusal;
+pub use status::Status;
+pub use stop::Stop;
+pub use whole::take_whole;

@@ -1,0 +1,48 @@
+//! Taking whole inputs.
+ghost use Rattle.std.specs.Prelude.{◌≡◌, IfOk, OnOk, IfErr};
+ghost use Rattle.std.specs.Io.KnownBytes.{IsAtEnd};
+ghost use Rattle.graph_io.specs.Causes.{Rose};
+ghost use Rattle.answers.specs.Halts.{StopsBy, IfAnswered};
+ghost use Rattle.answers.specs.Lines.{bytes_refusal};
+ghost use Rattle.answers.specs.Stages.{on_bytes, within};
+
+use crate::cause::Cause;
+use crate::refusal::Refusal;
+use crate::stop::Stop;
+use field_core::{List, NoMemory};
+use graph_io::{ReadEnd, Source, read_all};
+use std::alloc::Global;
+
+/// The most bytes that an input may have.
+const MOST_BYTES: u64 = 4_194_304;
+
+/// The refusal of an input of more bytes than it may have, of which so many were read.
+#[tactic(auto, unfolding(crate::specs::Lines::bytes_refusal))]
+pub(crate) fn bytes_refusal(alloc: Global, name: &[u8], n: u64) -> Result<Refusal, NoMemory>
+    ensures { IfOk result (λ refusal. refusal ≡ bytes_refusal name.now n) }
+{
+    let mut text = List::new(alloc);
+    text.append(b"limit: ")?;
+    text.append(name)?;
+    text.append(b"bytes ")?;
+    text.append_unsigned(n as u128)?;
+    Refusal::of_line(Cause::Limit, text)
+}
+
+/// All bytes of a source, where they aren't too many. `name` says in the refusal which input it is, and ends with a space
+/// if it isn't empty.
+pub fn take_whole<S: Source>(alloc: Global, name: &[u8], source: &mut S) -> Result<List<u8>, Stop>
+    ensures given { IfOk result (on_bytes (S.left source.old) (within name.now)).Gives }
+    ensures end { OnOk result (IsAtEnd (S.left source.new)) }
+    ensures stopped { IfErr result
+        (StopsBy (on_bytes (S.left source.old) (within name.now)).Refuses
+        (Rose (S.faults source.old) (S.faults source.new))) }
+    ensures clean { IfAnswered result (S.faults source.new ≡ S.faults source.old) }
+{
+    match read_all(alloc, source, MOST_BYTES) {
+        Ok(bytes) => Ok(bytes),
+        Err(ReadEnd::TooLong(n)) => Err(Stop::Refused(bytes_refusal(alloc, name, n)?)),
+        Err(ReadEnd::Fault) => Err(Stop::ReadFault),
+        Err(ReadEnd::NoMemory) => Err(Stop::NoMemory),
+    }
+}

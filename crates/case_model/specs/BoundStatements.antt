@@ -1,0 +1,44 @@
+-- The laws of bounds, and the law by which a table of the closed test is filled, as contracts name them.
+use Rattle.std.specs.Prelude.{◌≡◌, ◌<◌, ◌≤◌, ◌+◌, ◌==◌, ◌↔◌, ℕ, Bool, false}
+use Rattle.field_core.specs.Number.{Number}
+use Rattle.field_core.specs.Sets.{IsSubset, adding, whole, size_of}
+use Rattle.case_model.specs.EntangledGraph.{EntangledGraph}
+use Rattle.case_model.specs.ClosedTest.{only, IsLocallyRejected, IsClosedRejected}
+use Rattle.case_model.specs.SetAnswers.{SaysYes, AnswersFor}
+use Rattle.case_model.specs.DiscoveryBound.{IsBound}
+
+-- The closed test rejects a set exactly where the local test rejects it and the closed test rejects it with any one hypothesis more.
+abbrev pub SetsAreRejectedByTheNextLarger : Type 0
+SetsAreRejectedByTheNextLarger =
+    (E : EntangledGraph) (p : ℕ → Number) (level : Number) (S : ℕ → Bool)
+    → IsClosedRejected E p level S ↔ (IsLocallyRejected E p level S × ((k : ℕ) → k < E.hypotheses → S k ≡ false → IsClosedRejected E p level (adding k S)))
+
+-- By each table each set has a bound.
+abbrev pub BoundsExist : Type 0
+BoundsExist = (m : ℕ) (table : ℕ → Bool) (S : ℕ → Bool) → (b : ℕ) × IsBound m (SaysYes m table) S b
+
+-- It has one at most, by a table and by the closed test.
+abbrev pub BoundsAreUnique : Type 0
+BoundsAreUnique =
+    ((m : ℕ) (table : ℕ → Bool) (S : ℕ → Bool) (a b : ℕ) → IsBound m (SaysYes m table) S a → IsBound m (SaysYes m table) S b → a ≡ b)
+    × ((E : EntangledGraph) (p : ℕ → Number) (level : Number) (S : ℕ → Bool) (a b : ℕ) → IsBound E.hypotheses (IsClosedRejected E p level) S a → IsBound E.hypotheses (IsClosedRejected E p level) S b → a ≡ b)
+
+-- A table that tells what the closed test rejects has the bounds of the closed test.
+abbrev pub ClosedTablesGiveClosedBounds : Type 0
+ClosedTablesGiveClosedBounds =
+    (E : EntangledGraph) (p : ℕ → Number) (level : Number) (table : ℕ → Bool) (S : ℕ → Bool) (b : ℕ) → AnswersFor E.hypotheses (IsClosedRejected E p level) table
+    → IsBound E.hypotheses (SaysYes E.hypotheses table) S b ↔ IsBound E.hypotheses (IsClosedRejected E p level) S b
+
+-- A bound is at most the size of the set; and each subset with more members than the size less the bound is rejected.
+abbrev pub LargeSubsetsAreRejected : Type 0
+LargeSubsetsAreRejected =
+    (m : ℕ) (table : ℕ → Bool) (S : ℕ → Bool) (b : ℕ) → IsBound m (SaysYes m table) S b
+    → (b ≤ size_of m S) × ((K : ℕ → Bool) → IsSubset m K S → size_of m S < b + size_of m K → SaysYes m table K)
+
+-- the table for two hypotheses that says yes of both together alone
+abbrev pub only_both : ℕ → Bool
+only_both n = n == 3
+
+-- Of two hypotheses that are rejected only both together, one is a true discovery, and of neither of them alone it can be said.
+abbrev pub BoundsOfTwo : Type 0
+BoundsOfTwo = IsBound 2 (SaysYes 2 only_both) whole 1 × IsBound 2 (SaysYes 2 only_both) (only 0) 0 × IsBound 2 (SaysYes 2 only_both) (only 1) 0

@@ -1,0 +1,11 @@
+-- Tables of answers as contracts see them.
+use Rattle.std.specs.Prelude.{ℕ, Bool, false, get_or}
+use Rattle.case_model.specs.declared.set_table.SetTable.{SetTable}
+
+-- for how many hypotheses a table is
+abbrev pub table_size : SetTable → ℕ
+table_size t = t.size
+
+-- the answer of a table for the set of a number, and no past its end
+unfoldable pub answer_of : SetTable → ℕ → Bool
+answer_of t n = get_or t.answers n false

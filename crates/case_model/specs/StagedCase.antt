@@ -1,0 +1,48 @@
+-- The staged test of a case: what it rejects once some values have arrived.
+use Rattle.std.specs.Prelude.{ℕ, Bool, List, [], get_or}
+use Rattle.fraction.specs.View.{number_of}
+use Rattle.field_core.specs.Number.{Number}
+use Rattle.case_model.specs.declared.draft.Arrival.{Arrival}
+use Rattle.case_model.specs.declared.inputs.Inputs.{Inputs}
+use Rattle.case_model.specs.declared.inputs.Inputs.TheVariants.{Bare, Single, Staged}
+use Rattle.case_model.specs.declared.spend.Spend.{Spend}
+use Rattle.case_model.specs.declared.spend.Spend.TheVariants.{Shares}
+use Rattle.case_model.specs.Content.{Content, entangled}
+use Rattle.case_model.specs.StagedTest.{MeetsAt, IsStagedLegal, IsStagedRejected, IsSettling}
+
+-- what the hypotheses spend; nothing where there are no stages
+abbrev pub spends_in : Inputs → List Spend
+spends_in (Staged s) = s.spend
+spends_in Bare = []
+spends_in (Single ps) = []
+
+-- the spend at a position, and one of nothing past the last
+abbrev pub spend_at : List Spend → ℕ → Spend
+spend_at spends k = get_or spends k (Shares [])
+
+-- what the hypothesis at a position spends
+abbrev pub spend_in : Content → ℕ → Spend
+spend_in c = spend_at (spends_in c.inputs)
+
+-- how many stages there are
+abbrev pub stages_in : Inputs → ℕ
+stages_in (Staged s) = s.count
+stages_in Bare = 0
+stages_in (Single ps) = 0
+
+module _ (c : Content) (values : List Arrival) where
+  -- at a weight, `k` meets its level at the stage of a value that has arrived
+  abbrev pub MeetsIn : ℕ → Number → Arrival → Type 0
+  MeetsIn = MeetsAt (spend_in c) (number_of c.alpha) values
+
+  -- `k` is legal in the set `I`
+  abbrev pub IsStagedLegalIn : (ℕ → Bool) → ℕ → Type 0
+  IsStagedLegalIn = IsStagedLegal (spend_in c) (number_of c.alpha) values (entangled c)
+
+  -- the staged closed test rejects the hypothesis at this position
+  abbrev pub IsStagedRejectedIn : ℕ → Type 0
+  IsStagedRejectedIn = IsStagedRejected (spend_in c) (number_of c.alpha) values (entangled c)
+
+  -- the settling from the set `I` on
+  abbrev pub IsSettlingIn : (ℕ → Bool) → List ℕ → Type 0
+  IsSettlingIn = IsSettling (spend_in c) (number_of c.alpha) values (entangled c)

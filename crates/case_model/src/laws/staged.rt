@@ -1,0 +1,24 @@
+//! Laws of what hypotheses spend at stages, and of the staged test.
+
+ghost use Rattle.case_model.specs.StagedStatements.{SpendLevelsAreNondecreasing, LastStepsAreReached, TwoStepsGiveTheirLevels, StagedTestsAreMonotone, ArrivalsKeepWhatIsLegal, StagedOrdersDecide, SettlingsExist, SettlingsAreUnique};
+
+/// The level of a stage doesn't fall as the weight grows; in a table it is that of the last step that the weight reaches.
+pub fn spend_levels_are_nondecreasing()
+    ensures levels { SpendLevelsAreNondecreasing }
+    ensures steps { LastStepsAreReached }
+    ensures two { TwoStepsGiveTheirLevels }
+{}
+
+/// What is legal at stages stays legal at a greater weight and once more values have arrived, and complete legal orders have
+/// exactly the hypotheses that the staged closed test rejects.
+pub fn staged_orders_decide()
+    ensures weights { StagedTestsAreMonotone }
+    ensures arrivals { ArrivalsKeepWhatIsLegal }
+    ensures decide { StagedOrdersDecide }
+{}
+
+/// From each set on there is just one settling.
+pub fn settlings_exist()
+    ensures exist { SettlingsExist }
+    ensures unique { SettlingsAreUnique }
+{}

@@ -1,0 +1,99 @@
+//! Tables of answers for all sets of some hypotheses.
+ghost use Rattle.std.specs.Prelude.{◌≡◌, ◌≤◌, ◌^◌, length};
+
+use field_core::{List, NoMemory};
+use std::alloc::Global;
+
+/// An answer for each set of some hypotheses, of which there are at most 16. A set is a number whose bit `i` says whether
+/// hypothesis `i` is in it.
+#[derive(Drop)]
+pub struct SetTable {
+    size: usize,
+    answers: List<bool>,
+    ghost few: { size ≤ 16 },
+    ghost room: { length answers ≡ 2 ^ size },
+}
+
+#[tactic(auto, unfolding(crate::specs::SetTableView::answer_of))]
+impl SetTable {
+    ghost use Rattle.std.specs.Prelude.{◌≡◌, ◌≢◌, ◌<◌, ◌≤◌, ◌^◌, ℕ, false, IfOk};
+    ghost use Rattle.case_model.specs.SetTableView.{table_size, answer_of};
+
+    /// A table for `m` hypotheses, in which each answer is no.
+    pub fn new(alloc: Global, m: usize) -> Result<SetTable, NoMemory>
+        requires { m ≤ 16 }
+        ensures size { IfOk result (λ t. table_size t ≡ m) }
+        ensures answers { IfOk result (λ t. (n : ℕ) → answer_of t n ≡ false) }
+    {
+        let mut answers = Vec::new(alloc);
+        answers.resize(1 << m, false)?;
+        Ok(SetTable {
+            size: m,
+            answers: List::of(answers),
+        })
+    }
+
+    /// How many hypotheses there are.
+    pub fn size(&self) -> usize
+        ensures size { result ≡ table_size self.now }
+        ensures few { result ≤ 16 }
+    {
+        self.size
+    }
+
+    /// The answer for a set.
+    pub fn get(&self, set: u32) -> bool
+        requires { set < 2 ^ table_size self.now }
+        ensures { result ≡ answer_of self.now set }
+    {
+        self.answers.as_slice()[set as usize]
+    }
+
+    /// Puts the answer for a set. The others stay.
+    pub fn put(&mut self, set: u32, answer: bool)
+        requires { set < 2 ^ table_size self.old }
+        ensures size { table_size self.new ≡ table_size self.old }
+        ensures put { answer_of self.new set ≡ answer }
+        ensures others { (n : ℕ) → n ≢ set → answer_of self.new n ≡ answer_of self.old n }
+    {
+        self.answers.set(set as usize, answer);
+    }
+}
+
+#[cfg(test)]
+mod tests {
+    use super::SetTable;
+    use std::test::Fail;
+
+    #[test]
+    fn answers_are_kept(rt: HostRuntime) -> Result<(), Fail> {
+        let mut table = SetTable::new(rt.alloc(), 3)?;
+        assert_eq!(rt; table.size(), 3);
+        assert!(rt; !table.get(0) && !table.get(5) && !table.get(7));
+        table.put(5, true);
+        table.put(7, true);
+        assert!(rt; !table.get(0) && table.get(5) && !table.get(6) && table.get(7));
+        table.put(7, false);
+        assert!(rt; table.get(5) && !table.get(7));
+        Ok(())
+    }
+
+    #[test]
+    fn there_are_sixteen_hypotheses_at_most(rt: HostRuntime) -> Result<(), Fail> {
+        let mut table = SetTable::new(rt.alloc(), 16)?;
+        assert_eq!(rt; table.size(), 16);
+        table.put(65535, true);
+        assert!(rt; table.get(65535) && !table.get(65534) && !table.get(0));
+        Ok(())
+    }
+
+    #[test]
+    fn no_hypothesis_has_one_set(rt: HostRuntime) -> Result<(), Fail> {
+        let mut table = SetTable::new(rt.alloc(), 0)?;
+        assert_eq!(rt; table.size(), 0);
+        assert!(rt; !table.get(0));
+        table.put(0, true);
+        assert!(rt; table.get(0));
+        Ok(())
+    }
+}

@@ -1,0 +1,6 @@
+pub mod Beginnings
+pub mod EqualsSigns
+pub mod LevelTexts
+pub mod OneName
+pub mod OneReading
+pub mod Steps

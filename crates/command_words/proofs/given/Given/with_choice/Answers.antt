@@ -1,0 +1,11 @@
+use Rattle.std.proofs.Common.{refl}
+use Rattle.command_words.proofs.given.Given.with_choice.Goals as goal
+
+pub returns-in-Form : goal.returns-in-Form
+returns-in-Form c = rw c.in-Form.is refl
+
+pub returns-in-Alpha : goal.returns-in-Alpha
+returns-in-Alpha c = rw c.in-Alpha.is refl
+
+pub returns-in-Priority : goal.returns-in-Priority
+returns-in-Priority c = rw c.in-Priority.is refl

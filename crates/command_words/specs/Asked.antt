@@ -1,0 +1,33 @@
+-- Commands, as contracts see them.
+use Rattle.std.specs.Prelude.{ℕ, Option, None}
+use Rattle.command_words.specs.Levels.{Level, level_of}
+use Rattle.command_words.specs.declared.command.CaseTask.{CaseTask}
+use Rattle.command_words.specs.declared.command.Command.{Command}
+use Rattle.command_words.specs.declared.command.Command.TheVariants as commands
+use Rattle.command_words.specs.declared.form.CaseForm.{CaseForm}
+use Rattle.command_words.specs.declared.form.CaseForm.TheVariants as forms
+
+-- how a case is written; a sheet comes with its level
+pub data Written : Type 0 where
+  text : Written
+  csv : (alpha : Level) → Written
+  json : Written
+
+-- what is to be done
+pub data Asked : Type 0 where
+  on_case : Written → CaseTask → Asked
+  help : Asked
+
+abbrev pub written : CaseForm → Written
+written forms.Text = text
+written (forms.Csv alpha) = csv (level_of alpha)
+written forms.Json = json
+
+abbrev pub asked : Command → Asked
+asked (commands.OnCase form task) = on_case (written form) task
+asked commands.Help = help
+
+-- the place, from 0, of the word that names the file of a proof
+unfoldable pub file_of : Asked → Option ℕ
+file_of (on_case form task) = None
+file_of help = None

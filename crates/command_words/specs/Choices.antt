@@ -1,0 +1,36 @@
+-- Arguments with their values.
+use Rattle.std.specs.Prelude.{◌≡◌, ℕ, List, Contains}
+use Rattle.command_words.specs.Levels.{Level, level_of, IsLevel}
+use Rattle.command_words.specs.Table.{forms_of, form_name, priority_name}
+use Rattle.command_words.specs.declared.argument.Argument.{Argument}
+use Rattle.command_words.specs.declared.argument.Argument.TheVariants as arguments
+use Rattle.command_words.specs.declared.choice.Choice.{Choice}
+use Rattle.command_words.specs.declared.choice.Choice.TheVariants as choices
+use Rattle.command_words.specs.declared.form.Form.{Form}
+use Rattle.command_words.specs.declared.verb.Verb.{Verb}
+use Rattle.sequential.specs.declared.priority.Priority.{Priority}
+
+-- the values of an argument
+abbrev pub Value : Argument → Type 0
+Value arguments.Form = Form
+Value arguments.Alpha = Level
+Value arguments.Priority = Priority
+
+-- An argument with its value.
+pub record Chosen : Type 0 where
+  pub argument : Argument
+  pub value : Value argument
+
+abbrev pub chosen : Choice → Chosen
+chosen (choices.Form form) = record { argument = arguments.Form; value = form }
+chosen (choices.Alpha alpha) = record { argument = arguments.Alpha; value = level_of alpha }
+chosen (choices.Priority priority) = record { argument = arguments.Priority; value = priority }
+
+-- a command knows the text of a value
+abbrev pub Spells : Verb → (argument : Argument) → Value argument → List ℕ → Type 0
+Spells verb arguments.Form form text = Contains (forms_of verb) form × (text ≡ form_name form)
+Spells verb arguments.Alpha alpha text = IsLevel text alpha
+Spells verb arguments.Priority priority text = text ≡ priority_name priority
+
+abbrev pub IsSpelled : Verb → Chosen → List ℕ → Type 0
+IsSpelled verb choice text = Spells verb choice.argument choice.value text

@@ -1,0 +1,88 @@
+-- What the arguments say.
+use Rattle.std.specs.Prelude.{ℕ, ◌+◌, Bool, Option, Some, None, is_some}
+use Rattle.std.specs.Option.{option_map}
+use Rattle.command_words.specs.Asked.{Asked, Written, text, csv, json, on_case as task_on_case, help}
+use Rattle.command_words.specs.Choices.{Value, Chosen}
+use Rattle.command_words.specs.Levels.{Level, level_of}
+use Rattle.command_words.specs.declared.argument.Argument.{Argument}
+use Rattle.command_words.specs.declared.argument.Argument.TheVariants as arguments
+use Rattle.command_words.specs.declared.command.CaseTask.{CaseTask}
+use Rattle.command_words.specs.declared.command.CaseTask.TheVariants as tasks
+use Rattle.command_words.specs.declared.form.Form.{Form}
+use Rattle.command_words.specs.declared.form.Form.TheVariants as forms
+use Rattle.command_words.specs.declared.given.Given.{Given}
+use Rattle.command_words.specs.declared.verb.Verb.{Verb}
+use Rattle.command_words.specs.declared.verb.Verb.TheVariants as verbs
+use Rattle.sequential.specs.declared.priority.Priority.{Priority}
+use Rattle.sequential.specs.declared.priority.Priority.TheVariants.{First}
+
+-- The values that were given, and the number, from 1, of the word with the name `alpha`, or 0 where it isn't given.
+pub record GivenContent : Type 0 where
+  pub form : Option Form
+  pub alpha : Option Level
+  pub alpha_word : ℕ
+  pub priority : Option Priority
+
+abbrev pub given_content : Given → GivenContent
+given_content g = record { form = g.form; alpha = option_map level_of g.alpha; alpha_word = g.alpha_word; priority = g.priority }
+
+abbrev pub nothing : GivenContent
+nothing = record { form = None; alpha = None; alpha_word = 0; priority = None }
+
+-- an argument was given
+abbrev pub is_given : GivenContent → Argument → Bool
+is_given g arguments.Form = is_some g.form
+is_given g arguments.Alpha = is_some g.alpha
+is_given g arguments.Priority = is_some g.priority
+
+-- the same, and a value whose first word stands at a place, from 0
+abbrev pub with_value : ℕ → GivenContent → (argument : Argument) → Value argument → GivenContent
+with_value at g arguments.Form form = record g { form = Some form }
+with_value at g arguments.Alpha alpha = record g { alpha = Some alpha; alpha_word = at + 1 }
+with_value at g arguments.Priority priority = record g { priority = Some priority }
+
+abbrev pub with_chosen : ℕ → GivenContent → Chosen → GivenContent
+with_chosen at g choice = with_value at g choice.argument choice.value
+
+-- ---- how a case is written
+
+-- a text, where no form is given
+abbrev pub form_or_text : Option Form → Form
+form_or_text None = forms.Text
+form_or_text (Some form) = form
+
+-- a sheet needs its level
+abbrev pub written_as : Form → Option Level → Option Written
+written_as forms.Text alpha = Some text
+written_as forms.Csv alpha = option_map csv alpha
+written_as forms.Json alpha = Some json
+
+unfoldable pub written_of : GivenContent → Option Written
+written_of g = written_as (form_or_text g.form) g.alpha
+
+-- ---- what a command asks for
+
+abbrev pub priority_or_first : Option Priority → Priority
+priority_or_first None = First
+priority_or_first (Some priority) = priority
+
+-- a task on the case; nothing, where something is missing
+unfoldable pub on_case : GivenContent → CaseTask → Option Asked
+on_case g task = option_map (λ form. task_on_case form task) (written_of g)
+
+-- what a command asks for; nothing, where something is missing
+abbrev pub asked_of : Verb → GivenContent → Option Asked
+asked_of verbs.Test g = on_case g (tasks.Test (priority_or_first g.priority))
+asked_of verbs.Help g = Some help
+
+-- ---- what the others forbid
+
+-- a level is given, and no sheet
+abbrev pub forbidden_alpha : Form → Option Level → ℕ → Option ℕ
+forbidden_alpha forms.Csv alpha word = None
+forbidden_alpha forms.Text alpha word = option_map (λ x. word) alpha
+forbidden_alpha forms.Json alpha word = option_map (λ x. word) alpha
+
+-- the number, from 1, of the first word with the name of an option that the others forbid
+unfoldable pub forbidden_word : GivenContent → Option ℕ
+forbidden_word g = forbidden_alpha (form_or_text g.form) g.alpha g.alpha_word

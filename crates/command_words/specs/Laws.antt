@@ -1,0 +1,8 @@
+-- What the definitions of words promise.
+use Rattle.std.specs.Prelude.{ℕ, List}
+use Rattle.answers.specs.Stages.{IsDecided}
+use Rattle.command_words.specs.Words.{asked_in}
+
+-- words ask for at most one command, or fail at one word, and not both
+abbrev pub WordsAreDecided : Type 0
+WordsAreDecided = (words : List (List ℕ)) → IsDecided (asked_in words)

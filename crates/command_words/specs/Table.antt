@@ -1,0 +1,49 @@
+-- The names of commands, arguments and values, and what each command takes.
+use Rattle.std.specs.Prelude.{ℕ, List, [], ◌∷◌, Option, None, codes}
+use Rattle.command_words.specs.declared.argument.Argument.{Argument}
+use Rattle.command_words.specs.declared.argument.Argument.TheVariants as arguments
+use Rattle.command_words.specs.declared.form.Form.{Form}
+use Rattle.command_words.specs.declared.form.Form.TheVariants.{Text, Csv, Json}
+use Rattle.command_words.specs.declared.verb.Verb.{Verb}
+use Rattle.command_words.specs.declared.verb.Verb.TheVariants as verbs
+use Rattle.sequential.specs.declared.priority.Priority.{Priority}
+use Rattle.sequential.specs.declared.priority.Priority.TheVariants.{First, Last, Ratio}
+
+-- ---- commands
+
+unfoldable pub verb_name : Verb → List ℕ
+verb_name verbs.Test = codes "test"
+verb_name verbs.Help = codes "help"
+
+-- the options that a command takes
+unfoldable pub options_of : Verb → List Argument
+options_of verbs.Test = arguments.Form ∷ arguments.Alpha ∷ arguments.Priority ∷ []
+options_of verbs.Help = []
+
+-- what a word without a name gives, where a command takes one; none does yet
+unfoldable pub operand_of : Verb → Option Argument
+operand_of verb = None
+
+-- the forms in which a command reads its case
+unfoldable pub forms_of : Verb → List Form
+forms_of verbs.Test = Text ∷ Csv ∷ Json ∷ []
+forms_of verbs.Help = []
+
+-- ---- arguments
+
+unfoldable pub argument_name : Argument → List ℕ
+argument_name arguments.Form = codes "form"
+argument_name arguments.Alpha = codes "alpha"
+argument_name arguments.Priority = codes "priority"
+
+-- ---- values
+
+unfoldable pub form_name : Form → List ℕ
+form_name Text = codes "text"
+form_name Csv = codes "csv"
+form_name Json = codes "json"
+
+unfoldable pub priority_name : Priority → List ℕ
+priority_name First = codes "first"
+priority_name Last = codes "last"
+priority_name Ratio = codes "ratio"

@@ -1,0 +1,66 @@
+//! Arguments with their values.
+ghost use Rattle.std.specs.Prelude.{◌≡◌, ◌≢◌, None, IfSome};
+ghost use Rattle.command_words.specs.Choices.{Value, chosen, Spells, IsSpelled};
+ghost use Rattle.command_words.specs.Levels.{Level, level_of, IsLevel};
+ghost use Rattle.command_words.specs.Table.{priority_name};
+ghost use Rattle.command_words.specs.declared.argument.Argument.TheVariants as arguments;
+
+use crate::argument::Argument;
+use crate::form::Form;
+use crate::verb::Verb;
+use fraction::Fraction;
+use sequential::Priority;
+
+/// An argument with its value.
+#[derive(Clone, Copy)]
+pub(crate) enum Choice {
+    Form(Form),
+    Alpha(Fraction),
+    Priority(Priority),
+}
+
+/// The priority of a name.
+#[tactic(auto, unfolding(crate::specs::Table::priority_name))]
+fn priority_named(name: &[u8]) -> Option<Priority>
+    ensures named { IfSome result (λ priority. name.now ≡ priority_name priority) }
+    ensures unknown { result ≡ None → (priority : Priority) → name.now ≢ priority_name priority }
+{
+    match name {
+        b"first" => Some(Priority::First),
+        b"last" => Some(Priority::Last),
+        b"ratio" => Some(Priority::Ratio),
+        _ => None,
+    }
+}
+
+/// The form of a name, where the command reads its case in it.
+fn form_read(verb: Verb, name: &[u8]) -> Option<Form>
+    ensures known { IfSome result (λ form. Spells verb arguments.Form form name.now) }
+    ensures unknown { result ≡ None → (form : Form) → ¬ Spells verb arguments.Form form name.now }
+{
+    let form = Form::named(name)?;
+    if verb.reads(form) { Some(form) } else { None }
+}
+
+/// The level that a text spells.
+fn level_spelt(text: &[u8]) -> Option<Fraction>
+    ensures known { IfSome result (λ alpha. IsLevel text.now (level_of alpha)) }
+    ensures unknown { result ≡ None → (level : Level) → ¬ IsLevel text.now level }
+{
+    Fraction::parse(text).ok()
+}
+
+impl Choice {
+    /// The value that a text spells of an argument of a command.
+    pub(crate) fn read(verb: Verb, argument: Argument, text: &[u8]) -> Option<Choice>
+        ensures argument { IfSome result (λ choice. (chosen choice).argument ≡ argument) }
+        ensures spelt { IfSome result (λ choice. IsSpelled verb (chosen choice) text.now) }
+        ensures unknown { result ≡ None → (value : Value argument) → ¬ Spells verb argument value text.now }
+    {
+        match argument {
+            Argument::Form => Some(Choice::Form(form_read(verb, text)?)),
+            Argument::Alpha => Some(Choice::Alpha(level_spelt(text)?)),
+            Argument::Priority => Some(Choice::Priority(priority_named(text)?)),
+        }
+    }
+}

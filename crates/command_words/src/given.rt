@@ -1,0 +1,107 @@
+//! What was given so far.
+
+use crate::argument::Argument;
+use crate::choice::Choice;
+use crate::command::{CaseTask, Command};
+use crate::form::{CaseForm, Form};
+use crate::verb::Verb;
+use fraction::Fraction;
+use sequential::Priority;
+
+/// The values that were given so far, and the number, from 1, of the word with the name `alpha`, or 0 where it isn't given.
+#[derive(Clone, Copy)]
+pub(crate) struct Given {
+    form: Option<Form>,
+    alpha: Option<Fraction>,
+    alpha_word: usize,
+    priority: Option<Priority>,
+}
+
+impl Given {
+    ghost use Rattle.std.specs.Prelude.{◌≡◌, ◌<◌, ◌^◌, ◌+◌};
+    ghost use Rattle.std.specs.Option.{option_map};
+    ghost use Rattle.command_words.specs.Asked.{asked, written};
+    ghost use Rattle.command_words.specs.Choices.{chosen};
+    ghost use Rattle.command_words.specs.Given.{given_content, is_given, nothing, with_chosen, written_of, on_case, asked_of, forbidden_word};
+
+    pub(crate) fn new() -> Given
+        ensures { given_content result ≡ nothing }
+    {
+        Given {
+            form: None,
+            alpha: None,
+            alpha_word: 0,
+            priority: None,
+        }
+    }
+
+    /// Whether an argument was given.
+    pub(crate) fn has(&self, argument: Argument) -> bool
+        ensures { result ≡ is_given (given_content self.now) argument }
+    {
+        match argument {
+            Argument::Form => self.form.is_some(),
+            Argument::Alpha => self.alpha.is_some(),
+            Argument::Priority => self.priority.is_some(),
+        }
+    }
+
+    /// The same, and an argument whose first word stands at a place, from 0.
+    pub(crate) fn with_choice(&self, at: usize, choice: Choice) -> Given
+        requires { at + 1 < 2 ^ 64 }
+        ensures { given_content result ≡ with_chosen at (given_content self.now) (chosen choice) }
+    {
+        let mut given = *self;
+        match choice {
+            Choice::Form(form) => given.form = Some(form),
+            Choice::Alpha(alpha) => {
+                given.alpha = Some(alpha);
+                given.alpha_word = at + 1;
+            }
+            Choice::Priority(priority) => given.priority = Some(priority),
+        }
+        given
+    }
+
+    /// How the case is written; `None` where its level is missing.
+    #[tactic(auto, unfolding(crate::specs::Given::written_of))]
+    fn case_form(&self) -> Option<CaseForm>
+        ensures { option_map written result ≡ written_of (given_content self.now) }
+    {
+        match self.form {
+            None | Some(Form::Text) => Some(CaseForm::Text),
+            Some(Form::Csv) => self.alpha.map(CaseForm::Csv),
+            Some(Form::Json) => Some(CaseForm::Json),
+        }
+    }
+
+    /// A task on the case; `None` where something is missing.
+    #[tactic(auto, unfolding(crate::specs::Given::on_case))]
+    fn on_case(&self, task: CaseTask) -> Option<Command>
+        ensures { option_map asked result ≡ on_case (given_content self.now) task }
+    {
+        let form = self.case_form()?;
+        Some(Command::OnCase(form, task))
+    }
+
+    /// What a command asks for with these arguments; `None` where something is missing.
+    pub(crate) fn command(&self, verb: Verb) -> Option<Command>
+        ensures { option_map asked result ≡ asked_of verb (given_content self.now) }
+    {
+        match verb {
+            Verb::Test => self.on_case(CaseTask::Test(self.priority.unwrap_or(Priority::First))),
+            Verb::Help => Some(Command::Help),
+        }
+    }
+
+    /// The number, from 1, of the first word with the name of an option that the others forbid.
+    #[tactic(auto, unfolding(crate::specs::Given::forbidden_word))]
+    pub(crate) fn forbidden(&self) -> Option<usize>
+        ensures { result ≡ forbidden_word (given_content self.now) }
+    {
+        match (self.form, self.alpha) {
+            (Some(Form::Csv), _) | (_, None) => None,
+            (_, Some(_)) => Some(self.alpha_word),
+        }
+    }
+}

@@ -1,0 +1,144 @@
+//! Reading the words from left to right.
+ghost use Rattle.std.specs.Prelude.{◌≡◌, ◌↔◌, ◌+◌, ◌<◌, ◌^◌, ◌∷◌, None, IfOk, IfErr, IfSome, IsTrue, [], map, drop, length, string_bytes};
+ghost use Rattle.command_words.specs.Asked.{asked};
+ghost use Rattle.command_words.specs.Choices.{Chosen, chosen};
+ghost use Rattle.command_words.specs.Given.{given_content};
+ghost use Rattle.command_words.specs.Table.{argument_name};
+ghost use Rattle.command_words.specs.WordParts.{IsBare};
+ghost use Rattle.command_words.specs.Words.{bare, MayOpen, MayStand, IsStep, IsBadFront, command_in, pieces_in, asked_in};
+
+use crate::argument::Argument;
+use crate::choice::Choice;
+use crate::command::Command;
+use crate::given::Given;
+use crate::verb::Verb;
+use crate::word::{Parts, parts_of};
+
+/// Whether an option may stand behind what was given.
+fn may_open(verb: Verb, given: &Given, argument: Argument) -> bool
+    ensures { IsTrue result ↔ MayOpen verb (given_content given.now) argument }
+{
+    verb.takes(argument) && !given.has(argument)
+}
+
+/// The option of a name, where it may stand behind what was given.
+fn open(verb: Verb, given: &Given, name: &[u8]) -> Option<Argument>
+    ensures named { IfSome result (λ argument. name.now ≡ argument_name argument) }
+    ensures may { IfSome result (MayOpen verb (given_content given.now)) }
+    ensures none { result ≡ None → (argument : Argument) → name.now ≡ argument_name argument →
+        ¬ MayOpen verb (given_content given.now) argument }
+{
+    let argument = Argument::named(name)?;
+    if may_open(verb, given, argument) {
+        Some(argument)
+    } else {
+        None
+    }
+}
+
+/// What a word without a name gives, where it may stand behind what was given.
+fn operand(verb: Verb, given: &Given, word: &[u8]) -> Option<Choice>
+    requires { IsBare word.now }
+    ensures found { IfSome result
+        (λ choice. MayStand verb (given_content given.now) (bare (chosen choice) word.now)) }
+    ensures none { result ≡ None → (choice : Chosen) →
+        ¬ MayStand verb (given_content given.now) (bare choice word.now) }
+{
+    let argument = verb.operand()?;
+    if given.has(argument) {
+        return None;
+    }
+    Choice::read(verb, argument, word)
+}
+
+/// What is given with the piece that begins with `word`, which stands at a place, and how many words it has; or the number,
+/// from 0, of the word at which it fails. `more` are the words behind it.
+fn piece(
+    verb: Verb,
+    given: &Given,
+    at: usize,
+    word: &[u8],
+    more: &[String],
+) -> Result<(Given, usize), usize>
+    requires { at + 1 < 2 ^ 64 }
+    ensures step { IfOk result (λ step. IsStep verb at (given_content given.now)
+        (word.now ∷ map string_bytes more.now) (given_content step.0) step.1) }
+    ensures bad { IfErr result
+        (IsBadFront verb (given_content given.now) (word.now ∷ map string_bytes more.now)) }
+{
+    match parts_of(word) {
+        Parts::Bare => match operand(verb, given, word) {
+            Some(choice) => Ok((given.with_choice(at, choice), 1)),
+            None => Err(0),
+        },
+        Parts::Joined(name, text) => {
+            let Some(argument) = open(verb, given, name) else {
+                return Err(0);
+            };
+            match Choice::read(verb, argument, text) {
+                Some(choice) => Ok((given.with_choice(at, choice), 1)),
+                None => Err(0),
+            }
+        }
+        Parts::Open(name) => {
+            let Some(argument) = open(verb, given, name) else {
+                return Err(0);
+            };
+            let Some(text) = more.first() else {
+                return Err(1);
+            };
+            match Choice::read(verb, argument, text.as_bytes()) {
+                Some(choice) => Ok((given.with_choice(at, choice), 2)),
+                None => Err(1),
+            }
+        }
+    }
+}
+
+/// What is given behind the command; or the number, from 1, of the word at which the reading fails.
+fn pieces(verb: Verb, words: &[String]) -> Result<Given, usize>
+    ensures given { IfOk result (λ given.
+        (pieces_in verb (drop 1 (map string_bytes words.now))).Gives (given_content given)) }
+    ensures refused { IfErr result (pieces_in verb (drop 1 (map string_bytes words.now))).Refuses }
+{
+    let mut given = Given::new();
+    let mut at = 1;
+    'pieces: while at < words.len() {
+        match piece(verb, &given, at, words[at].as_bytes(), &words[at + 1..]) {
+            Ok((now, width)) => {
+                given = now;
+                at += width;
+            }
+            Err(n) => return Err(at + n + 1),
+        }
+    }
+    Ok(given)
+}
+
+/// The command that stands first.
+fn command_word(words: &[String]) -> Result<Verb, usize>
+    ensures given { IfOk result (command_in (map string_bytes words.now)).Gives }
+    ensures refused { IfErr result (command_in (map string_bytes words.now)).Refuses }
+{
+    let Some(first) = words.first() else {
+        return Err(1);
+    };
+    Verb::named(first.as_bytes()).ok_or(1)
+}
+
+/// What the words ask for; or the number, from 1, of the first word at which the reading fails.
+#[tactic(auto, unfolding(crate::specs::Words::asked_in))]
+pub fn read_words(words: &[String]) -> Result<Command, usize>
+    ensures given { IfOk result (λ command. (asked_in (map string_bytes words.now)).Gives (asked command)) }
+    ensures refused { IfErr result (asked_in (map string_bytes words.now)).Refuses }
+{
+    let verb = command_word(words)?;
+    let given = pieces(verb, words)?;
+    let Some(command) = given.command(verb) else {
+        return Err(words.len() + 1);
+    };
+    match given.forbidden() {
+        Some(word) => Err(word),
+        None => Ok(command),
+    }
+}

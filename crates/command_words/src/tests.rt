@@ -1,0 +1,89 @@
+//! What words ask for, with the values that they give.
+use crate::{CaseForm, CaseTask, Command, read_words};
+use field_core::NoMemory;
+use sequential::Priority;
+use std::alloc::Global;
+use std::process::Abort;
+use std::test::Fail;
+
+/// These words, as the program is given them.
+fn words_of(alloc: Global, words: &[&str]) -> Result<Vec<String>, NoMemory> {
+    let mut copies = Vec::new(alloc);
+    for word in words {
+        copies.push(String::from_str(alloc, word)?)?;
+    }
+    Ok(copies)
+}
+
+/// The task, and the parts of the level where the case is a sheet.
+fn on_case(command: &Command) -> Option<(CaseTask, Option<(i128, i128)>)> {
+    match command {
+        Command::OnCase(CaseForm::Csv(alpha), task) => {
+            let alpha = alpha.ratio();
+            Some((*task, Some((alpha.num(), alpha.den()))))
+        }
+        Command::OnCase(_, task) => Some((*task, None)),
+        Command::Help => None,
+    }
+}
+
+fn expect(
+    rt: &impl Abort,
+    alloc: Global,
+    words: &[&str],
+    wanted: Option<(CaseTask, Option<(i128, i128)>)>,
+) -> Result<(), NoMemory> {
+    let words = words_of(alloc, words)?;
+    match read_words(words.as_slice()) {
+        Ok(command) => assert!(rt; on_case(&command) == wanted),
+        Err(n) => panic!(rt; "word {n}"),
+    }
+    Ok(())
+}
+
+#[test]
+fn words_give_values(rt: HostRuntime) -> Result<(), Fail> {
+    let alloc = rt.alloc();
+    let first = CaseTask::Test(Priority::First);
+    let last = CaseTask::Test(Priority::Last);
+    let ratio = CaseTask::Test(Priority::Ratio);
+    expect(&rt, alloc, &["help"], None)?;
+    expect(&rt, alloc, &["test"], Some((first, None)))?;
+    expect(
+        &rt,
+        alloc,
+        &["test", "--form=json", "--priority", "last"],
+        Some((last, None)),
+    )?;
+    expect(
+        &rt,
+        alloc,
+        &[
+            "test", "--alpha", "0.05", "--priority", "ratio", "--form", "csv",
+        ],
+        Some((ratio, Some((1, 20)))),
+    )?;
+    expect(
+        &rt,
+        alloc,
+        &["test", "--form=csv", "--alpha=-6e-1"],
+        Some((first, Some((-3, 5)))),
+    )?;
+    Ok(())
+}
+
+#[test]
+fn words_fail_at_a_word(rt: HostRuntime) -> Result<(), Fail> {
+    let alloc = rt.alloc();
+    let rows: [(&[&str], usize); 4] = [
+        (&[], 1),
+        (&["test", "--form", "xml"], 3),
+        (&["test", "--form", "csv"], 4),
+        (&["test", "--alpha", "1"], 2),
+    ];
+    for (words, number) in rows {
+        let words = words_of(alloc, words)?;
+        assert_eq!(rt; read_words(words.as_slice()).err(), Some(number));
+    }
+    Ok(())
+}

@@ -1,0 +1,73 @@
+//! The table of commands.
+
+use crate::argument::Argument;
+use crate::form::Form;
+
+/// A command, by its name alone.
+#[derive(Clone, Copy, PartialEq, Eq, Debug)]
+pub(crate) enum Verb {
+    Test,
+    Help,
+}
+
+impl Verb {
+    ghost use Rattle.std.specs.Prelude.{◌≡◌, ◌≢◌, ◌↔◌, IfSome, IsTrue, Contains};
+    ghost use Rattle.command_words.specs.Table.{verb_name, options_of, operand_of, forms_of};
+
+    /// The command of a name.
+    #[tactic(auto, unfolding(crate::specs::Table::verb_name))]
+    pub(crate) fn named(name: &[u8]) -> Option<Verb>
+        ensures named { IfSome result (λ verb. name.now ≡ verb_name verb) }
+        ensures unknown { result ≡ None → (verb : Verb) → name.now ≢ verb_name verb }
+    {
+        match name {
+            b"test" => Some(Verb::Test),
+            b"help" => Some(Verb::Help),
+            _ => None,
+        }
+    }
+
+    /// The options that the command takes.
+    #[tactic(auto, unfolding(crate::specs::Table::options_of))]
+    fn options(self) -> &'static [Argument]
+        ensures { result.now ≡ options_of self }
+    {
+        match self {
+            Verb::Test => &[Argument::Form, Argument::Alpha, Argument::Priority],
+            Verb::Help => &[],
+        }
+    }
+
+    /// The forms in which the command reads its case.
+    #[tactic(auto, unfolding(crate::specs::Table::forms_of))]
+    fn forms(self) -> &'static [Form]
+        ensures { result.now ≡ forms_of self }
+    {
+        match self {
+            Verb::Test => &[Form::Text, Form::Csv, Form::Json],
+            Verb::Help => &[],
+        }
+    }
+
+    /// What a word without a name gives, where the command takes one. None does yet.
+    #[tactic(auto, unfolding(crate::specs::Table::operand_of))]
+    pub(crate) fn operand(self) -> Option<Argument>
+        ensures { result ≡ operand_of self }
+    {
+        None
+    }
+
+    /// Whether the command takes an option.
+    pub(crate) fn takes(self, argument: Argument) -> bool
+        ensures { IsTrue result ↔ Contains (options_of self) argument }
+    {
+        self.options().contains(&argument)
+    }
+
+    /// Whether the command reads its case in a form.
+    pub(crate) fn reads(self, form: Form) -> bool
+        ensures { IsTrue result ↔ Contains (forms_of self) form }
+    {
+        self.forms().contains(&form)
+    }
+}

@@ -1,0 +1,22 @@
+use Rattle.std.proofs.Common.{Ok, map}
+use Rattle.field_core.specs.View.{terms}
+use Rattle.std.proofs.lemmas.Result.{err_from_is_err_and}
+use Rattle.edge_expression.proofs.ReadEntries.{worth_passes, scan_fault, found, fault, only}
+use Rattle.edge_expression.proofs.reading.read_entry.Goals as goal
+
+pub returns-in_err-scan-clause-only : goal.returns-in_err-scan-clause-only
+returns-in_err-scan-clause-only c e h = absurd (worth_passes c.args.text.now c.in_err-scan.field-0.0 (Ok (map terms e)) c.in_err-scan.ensures h)
+
+pub returns-in_err-scan-clause-fault : goal.returns-in_err-scan-clause-fault
+returns-in_err-scan-clause-fault c =
+    let p = err_from_is_err_and c.from_residual.result c.from_residual.ensures.1 in
+    rw (p.1, p.2) (scan_fault c.args.text.now c.in_err-scan.field-0.0 c.in_err-scan.ensures)
+
+pub returns-clause-found : goal.returns-clause-found
+returns-clause-found c = found c.args.text.now c.worth.result c.in_ok-scan.ensures c.worth.ensures
+
+pub returns-clause-only : goal.returns-clause-only
+returns-clause-only c = only c.args.text.now c.worth.result c.worth.ensures
+
+pub returns-clause-fault : goal.returns-clause-fault
+returns-clause-fault c = fault c.args.text.now c.worth.result c.in_ok-scan.ensures c.worth.ensures

@@ -1,0 +1,62 @@
+//! The bytes of edge expressions.
+ghost use Rattle.std.specs.Prelude.{◌≡◌};
+ghost use Rattle.edge_expression.specs.ByteMachine.{class_of, mark_of};
+
+use text_lines::is_blank;
+
+/// What a byte may be in an edge expression, but for the letters of `\epsilon`.
+#[derive(Clone, Copy)]
+pub enum Class {
+    Digit,
+    Point,
+    /// The mark of an exponent.
+    Mark,
+    Sign,
+    /// What stands between two factors.
+    Joint,
+    Caret,
+    Open,
+    Close,
+    Backslash,
+    Blank,
+    Other,
+}
+
+#[tactic(auto, unfolding(crate::specs::ByteMachine::class_of))]
+pub fn class_of(byte: u8) -> Class
+    ensures { result ≡ class_of byte }
+{
+    if byte.is_ascii_digit() {
+        Class::Digit
+    } else if is_blank(byte) {
+        Class::Blank
+    } else if byte == b'+' || byte == b'-' {
+        Class::Sign
+    } else if byte == b'*' || byte == b'/' {
+        Class::Joint
+    } else {
+        mark_of(byte)
+    }
+}
+
+/// The class of a byte that is no digit, no blank and no operation.
+#[tactic(auto, unfolding(crate::specs::ByteMachine::mark_of))]
+fn mark_of(byte: u8) -> Class
+    ensures { result ≡ mark_of byte }
+{
+    if byte == b'.' {
+        Class::Point
+    } else if byte == b'e' || byte == b'E' {
+        Class::Mark
+    } else if byte == b'^' {
+        Class::Caret
+    } else if byte == b'(' {
+        Class::Open
+    } else if byte == b')' {
+        Class::Close
+    } else if byte == b'\\' {
+        Class::Backslash
+    } else {
+        Class::Other
+    }
+}

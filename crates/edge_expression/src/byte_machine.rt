@@ -1,0 +1,267 @@
+//! Edge expressions byte by byte.
+ghost use Rattle.std.specs.Prelude.{◌≡◌, ◌≤◌};
+ghost use Rattle.edge_expression.specs.ByteMachine.{decimal_step, is_decimal, next_letter, with_letter, further, at_operand, at_start, behind_factor, behind_part, behind_epsilon, behind_caret, behind_letter, next, opened, step, is_whole, may_end};
+
+use crate::byte_class::{Class, class_of};
+
+/// What was read of a decimal.
+#[derive(Clone, Copy)]
+pub enum Part {
+    /// Nothing.
+    Start,
+    /// Digits.
+    Whole,
+    /// A point with no digit before it.
+    Point,
+    /// A point, with a digit before or behind it.
+    Fraction,
+    /// The mark of the exponent.
+    Mark,
+    /// The sign of the exponent.
+    MarkSigned,
+    /// Digits of the exponent.
+    Exponent,
+}
+
+/// What was read of a decimal with one byte more, or nothing where no decimal begins so.
+pub fn decimal_step(part: Part, class: Class) -> Option<Part>
+    ensures { result ≡ decimal_step part class }
+{
+    match (part, class) {
+        (Part::Start | Part::Whole, Class::Digit) => Some(Part::Whole),
+        (Part::Start, Class::Point) => Some(Part::Point),
+        (Part::Whole, Class::Point) => Some(Part::Fraction),
+        (Part::Point | Part::Fraction, Class::Digit) => Some(Part::Fraction),
+        (Part::Whole | Part::Fraction, Class::Mark) => Some(Part::Mark),
+        (Part::Mark, Class::Sign) => Some(Part::MarkSigned),
+        (Part::Mark | Part::MarkSigned | Part::Exponent, Class::Digit) => Some(Part::Exponent),
+        _ => None,
+    }
+}
+
+/// A decimal may end here.
+pub fn is_decimal(part: Part) -> bool
+    ensures { result ≡ is_decimal part }
+{
+    matches!(part, Part::Whole | Part::Fraction | Part::Exponent)
+}
+
+/// The last byte that was read of `\epsilon`.
+#[derive(Clone, Copy)]
+pub enum Letter {
+    Backslash,
+    E,
+    P,
+    S,
+    I,
+    L,
+    O,
+}
+
+/// What was read of an expression, but for the parentheses that are open.
+#[derive(Clone, Copy)]
+pub enum State {
+    /// Nothing of a sum: a sign may stand here, or else a factor.
+    Start,
+    /// What a factor must follow.
+    Operand,
+    /// Part of a decimal.
+    Decimal(Part),
+    /// Part of the word `\epsilon`.
+    Word(Letter),
+    /// The word `\epsilon`.
+    Epsilon,
+    /// A caret: the digit of a power must follow.
+    Caret,
+    /// A factor.
+    Factor,
+}
+
+/// What was read, and how many parentheses are open.
+#[derive(Clone, Copy)]
+pub struct Reached {
+    pub state: State,
+    pub depth: u32,
+}
+
+/// The byte behind a part of `\epsilon`.
+fn next_letter(letter: Letter) -> u8
+    ensures { result ≡ next_letter letter }
+{
+    match letter {
+        Letter::Backslash => b'e',
+        Letter::E => b'p',
+        Letter::P => b's',
+        Letter::S => b'i',
+        Letter::I => b'l',
+        Letter::L => b'o',
+        Letter::O => b'n',
+    }
+}
+
+/// What was read with that byte.
+fn with_letter(letter: Letter) -> State
+    ensures { result ≡ with_letter letter }
+{
+    match letter {
+        Letter::Backslash => State::Word(Letter::E),
+        Letter::E => State::Word(Letter::P),
+        Letter::P => State::Word(Letter::S),
+        Letter::S => State::Word(Letter::I),
+        Letter::I => State::Word(Letter::L),
+        Letter::L => State::Word(Letter::O),
+        Letter::O => State::Epsilon,
+    }
+}
+
+/// What was read with a byte that may begin a factor other than a decimal.
+fn further(class: Class) -> Option<State>
+    ensures { result ≡ further class }
+{
+    match class {
+        Class::Backslash => Some(State::Word(Letter::Backslash)),
+        Class::Open => Some(State::Start),
+        _ => None,
+    }
+}
+
+/// What was read with a byte where a factor must follow.
+fn at_operand(class: Class) -> Option<State>
+    ensures { result ≡ at_operand class }
+{
+    match class {
+        Class::Blank => Some(State::Operand),
+        Class::Digit => Some(State::Decimal(Part::Whole)),
+        Class::Point => Some(State::Decimal(Part::Point)),
+        _ => further(class),
+    }
+}
+
+/// What was read with a byte where a sum begins.
+fn at_start(class: Class) -> Option<State>
+    ensures { result ≡ at_start class }
+{
+    match class {
+        Class::Blank => Some(State::Start),
+        Class::Sign => Some(State::Operand),
+        _ => at_operand(class),
+    }
+}
+
+/// What was read with a byte behind a factor.
+fn behind_factor(class: Class) -> Option<State>
+    ensures { result ≡ behind_factor class }
+{
+    match class {
+        Class::Blank | Class::Close => Some(State::Factor),
+        Class::Sign | Class::Joint => Some(State::Operand),
+        _ => further(class),
+    }
+}
+
+/// What was read with a byte behind part of a decimal.
+fn behind_part(part: Part, class: Class) -> Option<State>
+    ensures { result ≡ behind_part part class }
+{
+    match decimal_step(part, class) {
+        Some(longer) => Some(State::Decimal(longer)),
+        None => {
+            if is_decimal(part) {
+                behind_factor(class)
+            } else {
+                None
+            }
+        }
+    }
+}
+
+/// What was read with a byte behind `\epsilon`.
+fn behind_epsilon(class: Class) -> Option<State>
+    ensures { result ≡ behind_epsilon class }
+{
+    match class {
+        Class::Caret => Some(State::Caret),
+        Class::Blank => Some(State::Epsilon),
+        _ => behind_factor(class),
+    }
+}
+
+/// What was read with a byte behind a caret.
+fn behind_caret(class: Class) -> Option<State>
+    ensures { result ≡ behind_caret class }
+{
+    match class {
+        Class::Blank => Some(State::Caret),
+        Class::Digit => Some(State::Factor),
+        _ => None,
+    }
+}
+
+/// What was read with a byte behind part of `\epsilon`.
+fn behind_letter(letter: Letter, byte: u8) -> Option<State>
+    ensures { result ≡ behind_letter letter byte }
+{
+    if byte == next_letter(letter) {
+        Some(with_letter(letter))
+    } else {
+        None
+    }
+}
+
+/// What was read with one byte more, but for the parentheses that are open.
+fn next(state: State, byte: u8) -> Option<State>
+    ensures { result ≡ next state byte }
+{
+    let class = class_of(byte);
+    match state {
+        State::Start => at_start(class),
+        State::Operand => at_operand(class),
+        State::Decimal(part) => behind_part(part, class),
+        State::Word(letter) => behind_letter(letter, byte),
+        State::Epsilon => behind_epsilon(class),
+        State::Caret => behind_caret(class),
+        State::Factor => behind_factor(class),
+    }
+}
+
+/// How many parentheses are open behind such a byte, or nothing where it closes one and none is.
+fn opened(class: Class, depth: u32) -> Option<u32>
+    requires { depth ≤ 32 }
+    ensures { result ≡ opened class depth }
+{
+    match (class, depth) {
+        (Class::Open, _) => Some(depth + 1),
+        (Class::Close, 0) => None,
+        (Class::Close, _) => Some(depth - 1),
+        _ => Some(depth),
+    }
+}
+
+/// What was read with one byte more, or nothing where no expression begins so.
+#[tactic(auto, unfolding(crate::specs::ByteMachine::step))]
+pub fn step(reached: Reached, byte: u8) -> Option<Reached>
+    requires { reached.depth ≤ 32 }
+    ensures { result ≡ step reached byte }
+{
+    let state = next(reached.state, byte)?;
+    let depth = opened(class_of(byte), reached.depth)?;
+    Some(Reached { state, depth })
+}
+
+fn is_whole(state: State) -> bool
+    ensures { result ≡ is_whole state }
+{
+    match state {
+        State::Factor | State::Epsilon => true,
+        State::Decimal(part) => is_decimal(part),
+        _ => false,
+    }
+}
+
+/// An expression may end here.
+#[tactic(auto, unfolding(crate::specs::ByteMachine::may_end))]
+pub fn may_end(reached: Reached) -> bool
+    ensures { result ≡ may_end reached }
+{
+    is_whole(reached.state) && reached.depth == 0
+}

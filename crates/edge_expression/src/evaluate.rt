@@ -1,0 +1,85 @@
+//! Edge expressions from left to right. What is said of a text holds where it is an expression.
+ghost use Rattle.std.specs.Prelude.{◌≡◌, ◌≤◌, [], map, length, IfOk};
+ghost use Rattle.fraction.specs.Numeral.{body_text};
+ghost use Rattle.field_core.specs.View.{terms};
+ghost use Rattle.edge_expression.specs.Expressions.{Decimal, Expression, Spells};
+ghost use Rattle.edge_expression.specs.EntryValues.{decimal_value, value};
+ghost use Rattle.edge_expression.specs.EntryView.{map_value, polynomial_terms};
+ghost use Rattle.edge_expression.specs.CursorView.{SumGives, ProductGives, FactorGives};
+
+use crate::ExprFault;
+use crate::cursor::{Cursor, Head};
+use crate::polynomial::{Operation, Polynomial};
+use crate::short::Short;
+use case_model::Entry;
+use fraction::Fraction;
+
+/// The value of a decimal.
+fn decimal(text: &[u8]) -> Result<Polynomial, ExprFault>
+    ensures { (d : Decimal) → text.now ≡ body_text d.body → map_value polynomial_terms result ≡ decimal_value d }
+{
+    match Fraction::parse(text) {
+        Ok(value) => Ok(Polynomial::constant(&Short::of(value)?)),
+        Err(_) => Err(ExprFault::Part),
+    }
+}
+
+/// The value of a sum, which the cursor takes.
+#[cycle(evaluate)]
+fn sum(cursor: &mut Cursor) -> Result<Polynomial, ExprFault>
+    ensures value { SumGives cursor.old.rest.now result cursor.new.rest.now }
+    ensures shorter { IfOk result (λ _. length cursor.new.rest.now ≤ length cursor.old.rest.now) }
+{
+    let sign = cursor.take_sign().unwrap_or(Operation::Add);
+    let first = product(cursor)?;
+    let mut sum = Polynomial::zero().apply(sign, &first)?;
+    while let Some(sign) = cursor.take_sign() {
+        let term = product(cursor)?;
+        sum = sum.apply(sign, &term)?;
+    }
+    Ok(sum)
+}
+
+/// The value of a product, which the cursor takes.
+#[cycle(evaluate)]
+fn product(cursor: &mut Cursor) -> Result<Polynomial, ExprFault>
+    ensures value { ProductGives cursor.old.rest.now result cursor.new.rest.now }
+    ensures shorter { IfOk result (λ _. length cursor.new.rest.now ≤ length cursor.old.rest.now) }
+{
+    let head = cursor.take_head();
+    let mut product = factor(cursor, head)?;
+    while let Some(operation) = cursor.take_joint() {
+        let head = cursor.take_head();
+        let next = factor(cursor, head)?;
+        product = product.apply(operation, &next)?;
+    }
+    Ok(product)
+}
+
+/// The value of a factor, whose front is taken and whose rest the cursor takes.
+#[cycle(evaluate)]
+fn factor(cursor: &mut Cursor, head: Head) -> Result<Polynomial, ExprFault>
+    ensures value { FactorGives head.entry cursor.old.rest.now result cursor.new.rest.now }
+    ensures shorter { IfOk result (λ _. length cursor.new.rest.now ≤ length cursor.old.rest.now) }
+{
+    match head {
+        Head::Decimal(text) => decimal(text),
+        Head::Epsilon => Polynomial::power(cursor.take_power()),
+        Head::Open => {
+            let inner = sum(cursor)?;
+            cursor.take_close();
+            Ok(inner)
+        }
+    }
+}
+
+/// What an edge expression is worth.
+pub fn worth(text: &[u8]) -> Result<Entry, ExprFault>
+    ensures { (e : Expression) → Spells text.now e → map_value (map terms) result ≡ value e }
+{
+    let mut cursor = Cursor::new(text);
+    match sum(&mut cursor) {
+        Ok(worth) => Ok(worth.entry()),
+        Err(fault) => Err(fault),
+    }
+}

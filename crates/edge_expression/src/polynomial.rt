@@ -1,0 +1,207 @@
+//! Polynomials in epsilon with short coefficients, and the operations of edge expressions.
+ghost use Rattle.std.specs.Prelude.{◌≡◌, ◌≤◌, suc, map};
+ghost use Rattle.fraction.specs.Tests.{is_zero};
+ghost use Rattle.edge_expression.specs.EntryValues.{zero_coefficients};
+ghost use Rattle.field_core.specs.View.{terms};
+ghost use Rattle.case_model.specs.Sums.{terms_at};
+ghost use Rattle.edge_expression.specs.EntryView.{short_terms, map_value, polynomial_terms, coefficient, applied, CanDivide};
+ghost use Rattle.edge_expression.specs.EntryValues.{plain_entry, degree, product_sum, unit_at, power_value, coefficients, times, over};
+
+use crate::ExprFault;
+use crate::short::Short;
+use case_model::Entry;
+
+/// The greatest power of an entry.
+const GREATEST: usize = 4;
+
+/// A polynomial in epsilon of degree at most 4, whose coefficients have parts of at most 10^18.
+#[derive(Clone, Copy)]
+pub struct Polynomial {
+    coefficients: [Short; 5],
+}
+
+/// What joins two polynomials.
+#[derive(Clone, Copy)]
+pub enum Operation {
+    Add,
+    Subtract,
+    Multiply,
+    Divide,
+}
+
+impl Polynomial {
+    /// The polynomial with these coefficients.
+    fn of(coefficients: [Short; 5]) -> Polynomial
+        ensures { polynomial_terms result ≡ map short_terms coefficients }
+    {
+        Polynomial { coefficients }
+    }
+
+    /// 0.
+    pub fn zero() -> Polynomial
+        ensures { polynomial_terms result ≡ zero_coefficients }
+    {
+        Polynomial::of([Short::zero(); 5])
+    }
+
+    /// A number.
+    pub fn constant(value: &Short) -> Polynomial
+        ensures { polynomial_terms result ≡ plain_entry (short_terms value.now) }
+    {
+        Polynomial::of([
+            *value,
+            Short::zero(),
+            Short::zero(),
+            Short::zero(),
+            Short::zero(),
+        ])
+    }
+
+    /// A power of epsilon.
+    #[tactic(auto, unfolding(crate::specs::EntryValues::power_value, crate::specs::EntryValues::coefficients))]
+    pub fn power(power: usize) -> Result<Polynomial, ExprFault>
+        ensures { map_value polynomial_terms result ≡ power_value power }
+    {
+        if power > GREATEST {
+            return Err(ExprFault::Degree);
+        }
+        Ok(Polynomial::of([
+            unit_at(power, 0),
+            unit_at(power, 1),
+            unit_at(power, 2),
+            unit_at(power, 3),
+            unit_at(power, 4),
+        ]))
+    }
+
+    fn coefficient(&self, power: usize) -> Short
+        requires { power ≤ 4 }
+        ensures { short_terms result ≡ terms_at (polynomial_terms self.now) power }
+    {
+        self.coefficients[power]
+    }
+
+    /// The entry with these coefficients.
+    pub fn entry(&self) -> Entry
+        ensures { map terms result ≡ polynomial_terms self.now }
+    {
+        let [constant, first, second, third, fourth] = self.coefficients;
+        Entry::new([
+            constant.value,
+            first.value,
+            second.value,
+            third.value,
+            fourth.value,
+        ])
+    }
+
+    /// The greatest power whose coefficient isn't 0, and 0 where there is none.
+    fn degree(&self) -> usize
+        ensures value { result ≡ degree (polynomial_terms self.now) }
+        ensures within { result ≤ 4 }
+    {
+        let mut power = GREATEST;
+        while power > 0 && self.coefficient(power).is_zero() {
+            power -= 1;
+        }
+        power
+    }
+
+    /// The product with another one.
+    #[tactic(auto, unfolding(crate::specs::EntryValues::times))]
+    fn times(&self, other: &Polynomial) -> Result<Polynomial, ExprFault>
+        ensures { map_value polynomial_terms result ≡ times (polynomial_terms self.now) (polynomial_terms other.now) }
+    {
+        if self.degree() + other.degree() > GREATEST {
+            return Err(ExprFault::Degree);
+        }
+        coefficients(Operation::Multiply, self, other)
+    }
+
+    /// The quotient by another one, which must be a number other than 0.
+    #[tactic(auto, unfolding(crate::specs::EntryValues::over))]
+    fn over(&self, other: &Polynomial) -> Result<Polynomial, ExprFault>
+        ensures { map_value polynomial_terms result ≡ over (polynomial_terms self.now) (polynomial_terms other.now) }
+    {
+        if other.degree() > 0 {
+            return Err(ExprFault::DivisorNotNumber);
+        }
+        if other.coefficient(0).is_zero() {
+            return Err(ExprFault::ZeroDivisor);
+        }
+        coefficients(Operation::Divide, self, other)
+    }
+
+    /// The polynomial with another one added, taken away, multiplied or divided.
+    #[tactic(auto, unfolding(crate::specs::EntryView::applied, crate::specs::EntryValues::joined))]
+    pub fn apply(&self, operation: Operation, other: &Polynomial) -> Result<Polynomial, ExprFault>
+        ensures { map_value polynomial_terms result ≡ applied operation (polynomial_terms self.now) (polynomial_terms other.now) }
+    {
+        match operation {
+            Operation::Add | Operation::Subtract => coefficients(operation, self, other),
+            Operation::Multiply => self.times(other),
+            Operation::Divide => self.over(other),
+        }
+    }
+}
+
+/// 1 for the power itself, and 0 for any other.
+fn unit_at(power: usize, at: usize) -> Short
+    ensures { short_terms result ≡ unit_at power at }
+{
+    if at == power {
+        Short::one()
+    } else {
+        Short::zero()
+    }
+}
+
+/// The sum of the products that make a power, by ascending power of the first factor.
+fn product_sum(x: &Polynomial, y: &Polynomial, power: usize) -> Result<Short, ExprFault>
+    requires { power ≤ 4 }
+    ensures { map_value short_terms result ≡ product_sum (polynomial_terms x.now) (polynomial_terms y.now) power (suc power) }
+{
+    let mut sum = Short::zero();
+    for at in 0..power + 1 {
+        let product = x.coefficient(at).multiply(&y.coefficient(power - at))?;
+        sum = sum.add(&product)?;
+    }
+    Ok(sum)
+}
+
+/// The coefficient of a power.
+fn coefficient(
+    operation: Operation,
+    x: &Polynomial,
+    y: &Polynomial,
+    power: usize,
+) -> Result<Short, ExprFault>
+    requires within { power ≤ 4 }
+    requires divisor { CanDivide operation (polynomial_terms y.now) }
+    ensures { map_value short_terms result ≡ coefficient operation (polynomial_terms x.now) (polynomial_terms y.now) power }
+{
+    match operation {
+        Operation::Add => x.coefficient(power).add(&y.coefficient(power)),
+        Operation::Subtract => x.coefficient(power).subtract(&y.coefficient(power)),
+        Operation::Multiply => product_sum(x, y, power),
+        Operation::Divide => x.coefficient(power).divide(&y.coefficient(0)),
+    }
+}
+
+/// All coefficients.
+#[tactic(auto, unfolding(crate::specs::EntryValues::coefficients))]
+fn coefficients(
+    operation: Operation,
+    x: &Polynomial,
+    y: &Polynomial,
+) -> Result<Polynomial, ExprFault>
+    requires { CanDivide operation (polynomial_terms y.now) }
+    ensures { map_value polynomial_terms result ≡ coefficients (coefficient operation (polynomial_terms x.now) (polynomial_terms y.now)) }
+{
+    let constant = coefficient(operation, x, y, 0)?;
+    let first = coefficient(operation, x, y, 1)?;
+    let second = coefficient(operation, x, y, 2)?;
+    let third = coefficient(operation, x, y, 3)?;
+    let fourth = coefficient(operation, x, y, 4)?;
+    Ok(Polynomial::of([constant, first, second, third, fourth]))
+}

@@ -1,6 +1,0 @@
-use Rattle.case_model.specs.EntryView.{coefficients_of}
-use Rattle.edge_text.proofs.PrintedTerms.{IsPrinted}
-use Rattle.edge_text.proofs.printing.print_entry.Given as goal
-
-abbrev pub invariant-loop-power : goal.invariant-loop-power
-invariant-loop-power l = IsPrinted l.fn.out l.out l.is_first l.power (coefficients_of l.entry)

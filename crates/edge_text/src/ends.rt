@@ -1,0 +1,33 @@
+//! The two ends of an edge, and its expression.
+ghost use Rattle.std.specs.Prelude.{◌≡◌, ◌<◌, length, IfSome, IfNone};
+ghost use Rattle.text_lines.specs.Words.{words_of, behind_words};
+ghost use Rattle.edge_text.specs.View.{HasThree};
+
+use text_lines::Words;
+
+/// The names of the ends of an edge, and what stands behind them.
+#[derive(Clone, Copy)]
+pub struct Ends<'a> {
+    pub from: &'a [u8],
+    pub to: &'a [u8],
+    pub expression: &'a [u8],
+}
+
+impl<'a> Ends<'a> {
+    /// Two words and what stands behind them, where that has a word.
+    pub fn of(mut words: Words<'a>) -> Option<Ends<'a>>
+        ensures found { IfSome result (λ ends. HasThree (words_of words.entry) ends.from.now ends.to.now) }
+        ensures rest { IfSome result (λ ends. ends.expression.now ≡ behind_words 2 words.entry) }
+        ensures other { IfNone result (length (words_of words.entry) < 3) }
+    {
+        let from = words.next()?;
+        let to = words.next()?;
+        let expression = words.rest();
+        words.next()?;
+        Some(Ends {
+            from,
+            to,
+            expression,
+        })
+    }
+}

@@ -1,0 +1,45 @@
+//! The greatest common divisor of numbers below 2^64, by Stein's steps: factors 2 are shifted out, and odd numbers subtracted.
+ghost use Rattle.std.specs.Prelude.{◌≡◌, ◌<◌, ◌%◌};
+ghost use Rattle.field_core.specs.Divisor.{gcd};
+
+/// The greatest common divisor of odd numbers.
+fn odd_gcd(a: u64, b: u64) -> u64
+    requires a { a % 2 ≡ 1 }
+    requires b { b % 2 ≡ 1 }
+    ensures { result ≡ gcd a b }
+{
+    let mut left = a;
+    let mut right = b;
+    'steps: while left != right {
+        let rest = left.abs_diff(right);
+        right = left.min(right);
+        left = rest >> rest.trailing_zeros();
+    }
+    left
+}
+
+/// The greatest common divisor of numbers above 0.
+fn positive_gcd(a: u64, b: u64) -> u64
+    requires a { 0 < a }
+    requires b { 0 < b }
+    ensures { result ≡ gcd a b }
+{
+    let first = a.trailing_zeros();
+    let second = b.trailing_zeros();
+    odd_gcd(a >> first, b >> second) << first.min(second)
+}
+
+/// The greatest common divisor; `binary_gcd(0, b)` is `b`.
+pub fn binary_gcd(a: u64, b: u64) -> u64
+    ensures { result ≡ gcd a b }
+{
+    if a == 0 {
+        b
+    } else if b == 0 {
+        a
+    } else if a == 1 || b == 1 {
+        1
+    } else {
+        positive_gcd(a, b)
+    }
+}

@@ -1,0 +1,76 @@
+//! The written operations on fractions whose parts fit 64 bits.
+ghost use Rattle.field_core.specs.Terms.{IsReduced};
+
+use field_core::{Ratio, Short};
+
+/// A fraction in lowest terms whose parts fit 64 bits.
+#[derive(Clone, Copy)]
+pub struct ShortRatio {
+    num: Short,
+    den: Short,
+    ghost valid: { IsReduced (record { num = num; den = den }) },
+}
+
+impl ShortRatio {
+    ghost use Rattle.std.specs.Prelude.{◌≡◌, Some, IfSome};
+    ghost use Rattle.std.specs.Option.{option_map};
+    ghost use Rattle.field_core.specs.View.{terms};
+    ghost use Rattle.fraction.specs.Short.{short_terms};
+    ghost use Rattle.fraction.specs.Written.{written_mul, written_add};
+
+    /// A fraction, where its parts fit 64 bits.
+    pub fn of(x: &Ratio) -> Option<ShortRatio>
+        ensures { IfSome result (λ s. short_terms s ≡ terms x.now) }
+    {
+        match (x.whole_num().short(), x.whole_den().short()) {
+            (Some(num), Some(den)) => Some(ShortRatio { num, den }),
+            _ => None,
+        }
+    }
+
+    /// The same fraction.
+    fn ratio(self) -> Ratio
+        ensures { terms result ≡ short_terms self }
+    {
+        Ratio::of_wholes(self.num.whole(), self.den.whole())
+    }
+
+    /// The written product, which is never refused.
+    #[tactic(auto, using(crate::proofs::AtOnce::zero_times, crate::proofs::AtOnce::times_zero), unfolding(crate::specs::Written::written_mul))]
+    pub fn times(self, other: ShortRatio) -> Ratio
+        ensures { Some (terms result) ≡ written_mul (short_terms self) (short_terms other) }
+    {
+        if self.num.is_zero() {
+            return self.ratio();
+        }
+        if other.num.is_zero() {
+            return other.ratio();
+        }
+        let a = self.num.common_divisor(other.den);
+        let b = other.num.common_divisor(self.den);
+        let num = self.num.over(a).times(other.num.over(b));
+        let den = self.den.over(b).times(other.den.over(a));
+        Ratio::of_wholes(num, den)
+    }
+
+    /// The written sum, or nothing where it is refused.
+    #[tactic(auto, using(crate::proofs::AtOnce::zero_plus), unfolding(crate::specs::Written::written_add))]
+    pub fn plus(self, other: ShortRatio) -> Option<Ratio>
+        ensures { option_map terms result ≡ written_add (short_terms self) (short_terms other) }
+    {
+        if self.num.is_zero() {
+            return Some(other.ratio());
+        }
+        if other.num.is_zero() {
+            return Some(self.ratio());
+        }
+        let g = self.den.common_divisor(other.den);
+        let rest = self.den.over(g);
+        let u = self.num.times(other.den.over(g));
+        let v = other.num.times(rest);
+        let t = u.checked_add(v)?;
+        let h = t.common_divisor(g.whole());
+        let den = rest.whole().checked_mul(other.den.whole().over(h))?;
+        Some(Ratio::of_wholes(t.over(h), den))
+    }
+}

@@ -1,0 +1,59 @@
+-- The stages that commands have in common are decided.
+use Rattle.std.proofs.Common.{◌≡◌, sym, ap, ap₂, ◌∙◌, ℕ, List, Some, None, arith}
+use Rattle.std.specs.declared.option.Option.{Option}
+use Rattle.answers.specs.Stages.{IsDecided}
+use Rattle.answers.proofs.Decided.{then_decided, within_decided}
+use Rattle.case_model.specs.declared.fault.CaseFault.{CaseFault}
+use Rattle.case_model.specs.CaseFaults.{case_fault}
+use Rattle.case_model.specs.Content.{Content}
+use Rattle.case_model.specs.declared.draft.Draft.{Draft}
+use Rattle.command_words.specs.Asked.{Written, text, csv, json}
+use Rattle.edge_text.proofs.TextLaws.{one_draft, one_first_fault, not_both}
+use Rattle.refusals.specs.CaseRefusal.{case_refusal}
+use Rattle.refusals.specs.TextRefusal.{line_refusal}
+use Rattle.graph_cli.specs.Accepted.{grammar, faultless, of_kind, of_size, suitable, accepted}
+use Rattle.graph_cli.specs.declared.kind.Kind.{Kind}
+use Rattle.graph_cli.specs.declared.needs.Needs.{Needs}
+
+grammar_decided : (form : Written) (bytes : List ℕ) → IsDecided (grammar form bytes)
+grammar_decided text bytes = record {
+  one = λ d e h k. one_draft bytes d e h k;
+  one_refusal = λ r q h k. let e = one_first_fault bytes h.0 k.0 h.1 k.1 h.2 k.2 in h.3 ∙ ap₂ line_refusal e.0 e.1 ∙ sym k.3;
+  not_both = λ d r h k. not_both bytes d k.0 k.1 h k.2;
+}
+grammar_decided (csv alpha) bytes = record { one = λ d e h k. absurd h; one_refusal = λ r q h k. h ∙ sym k; not_both = λ d r h k. h }
+grammar_decided json bytes = record { one = λ d e h k. absurd h; one_refusal = λ r q h k. h ∙ sym k; not_both = λ d r h k. h }
+
+same_fault : (o : Option CaseFault) (x y : CaseFault) → o ≡ Some x → o ≡ Some y → x ≡ y
+same_fault o x y h k = cc
+
+no_fault : (o : Option CaseFault) (x : CaseFault) → o ≡ None → o ≡ Some x → ⊥
+no_fault o x h k = cc
+
+faultless_decided : (d : Draft) → IsDecided (faultless d)
+faultless_decided d = record {
+  one = λ c e h k. h.1 ∙ sym k.1;
+  one_refusal = λ r q h k. h.2 ∙ ap (case_refusal d.names) (same_fault (case_fault d) h.0 k.0 h.1 k.1) ∙ sym k.2;
+  not_both = λ c r h k. no_fault (case_fault d) k.0 h.0 k.1;
+}
+
+of_kind_decided : (kind : Kind) (c : Content) → IsDecided (of_kind kind c)
+of_kind_decided kind c = record {
+  one = λ x y h k. h.1 ∙ sym k.1;
+  one_refusal = λ r q h k. h.1 ∙ sym k.1;
+  not_both = λ x r h k. k.0 h.0;
+}
+
+of_size_decided : (most : ℕ) (c : Content) → IsDecided (of_size most c)
+of_size_decided most c = record {
+  one = λ x y h k. h.1 ∙ sym k.1;
+  one_refusal = λ r q h k. h.1 ∙ sym k.1;
+  not_both = λ x r h k. absurd (omega (arith, h.0, k.0));
+}
+
+suitable_decided : (needs : Needs) (c : Content) → IsDecided (suitable needs c)
+suitable_decided needs c = then_decided _ _ (of_kind_decided needs.kind c) (of_size_decided needs.most)
+
+pub accepted_decided : (form : Written) (needs : Needs) (bytes : List ℕ) → IsDecided (accepted form needs (Some bytes))
+accepted_decided form needs bytes =
+    then_decided _ _ (within_decided _ bytes) (λ xs. then_decided _ _ (then_decided _ _ (grammar_decided form xs) faultless_decided) (suitable_decided needs))

@@ -1,0 +1,72 @@
+-- The stages that commands have in common: a case is read, and is one that the command can take.
+use Rattle.std.specs.Prelude.{◌≡◌, ◌<◌, ◌≤◌, ℕ, List, [], Some, None, Option, length}
+use Rattle.answers.specs.declared.refusal.Refusal.{Refusal}
+use Rattle.answers.specs.Stages.{Stage, and_then, on_bytes, within}
+use Rattle.case_model.specs.declared.fault.CaseFault.{CaseFault}
+use Rattle.case_model.specs.CaseFaults.{case_fault}
+use Rattle.case_model.specs.declared.inputs.Inputs.{Inputs}
+use Rattle.case_model.specs.declared.inputs.Inputs.TheVariants.{Bare as NoValues, Single as Values, Staged as Stages}
+use Rattle.case_model.specs.Content.{Content, content_of}
+use Rattle.case_model.specs.declared.draft.Draft.{Draft}
+use Rattle.command_words.specs.Asked.{Written, text, csv, json}
+use Rattle.edge_text.specs.Grammar.{IsText}
+use Rattle.edge_text.specs.Faults.{IsFirstFault}
+use Rattle.edge_text.specs.declared.fault.LineKind.{LineKind}
+use Rattle.refusals.specs.CaseRefusal.{case_refusal}
+use Rattle.refusals.specs.NeedRefusal.{kind_refusal, closure_refusal}
+use Rattle.refusals.specs.TextRefusal.{line_refusal, form_refusal}
+use Rattle.graph_cli.specs.declared.kind.Kind.{Kind}
+use Rattle.graph_cli.specs.declared.kind.Kind.TheVariants.{Any, Single, Staged}
+use Rattle.graph_cli.specs.declared.needs.Needs.{Needs}
+
+-- the draft that bytes say in a form, or the first place where they can't stand; sheets and JSON aren't read yet
+abbrev pub grammar : Written → List ℕ → Stage Refusal Draft
+grammar text bytes = record {
+  Gives = λ d. IsText bytes d;
+  Refuses = λ r. (n : ℕ) × (kind : LineKind) × IsFirstFault bytes n kind × (r ≡ line_refusal n kind);
+}
+grammar (csv alpha) bytes = record { Gives = λ d. ⊥; Refuses = λ r. r ≡ form_refusal }
+grammar json bytes = record { Gives = λ d. ⊥; Refuses = λ r. r ≡ form_refusal }
+
+-- the case of a draft, or its first fault
+abbrev pub faultless : Draft → Stage Refusal Content
+faultless d = record {
+  Gives = λ c. (case_fault d ≡ None) × (c ≡ content_of d);
+  Refuses = λ r. (fault : CaseFault) × (case_fault d ≡ Some fault) × (r ≡ case_refusal d.names fault);
+}
+
+-- the case that bytes say in a form
+abbrev pub case_in : Written → List ℕ → Stage Refusal Content
+case_in form bytes = and_then (grammar form bytes) faultless
+
+-- p-values are of a kind
+abbrev pub IsOfKind : Kind → Inputs → Type 0
+IsOfKind Any inputs = Unit {0}
+IsOfKind Single (Values ps) = Unit {0}
+IsOfKind Single NoValues = ⊥
+IsOfKind Single (Stages stages) = ⊥
+IsOfKind Staged (Stages stages) = Unit {0}
+IsOfKind Staged NoValues = ⊥
+IsOfKind Staged (Values ps) = ⊥
+
+-- a case with p-values of a kind
+abbrev pub of_kind : Kind → Content → Stage Refusal Content
+of_kind kind c = record {
+  Gives = λ x. IsOfKind kind c.inputs × (x ≡ c);
+  Refuses = λ r. ¬ IsOfKind kind c.inputs × (r ≡ kind_refusal);
+}
+
+-- a case of no more hypotheses than these
+abbrev pub of_size : ℕ → Content → Stage Refusal Content
+of_size most c = record {
+  Gives = λ x. (length c.names ≤ most) × (x ≡ c);
+  Refuses = λ r. (most < length c.names) × (r ≡ closure_refusal (length c.names));
+}
+
+-- a case that a command with these needs can take
+abbrev pub suitable : Needs → Content → Stage Refusal Content
+suitable needs c = and_then (of_kind needs.kind c) (of_size needs.most)
+
+-- the case that a source says in a form, where a command with these needs can take it
+abbrev pub accepted : Written → Needs → Option (List ℕ) → Stage Refusal Content
+accepted form needs left = and_then (on_bytes left (within [])) (λ bytes. and_then (case_in form bytes) (suitable needs))

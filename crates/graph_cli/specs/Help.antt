@@ -1,0 +1,16 @@
+-- What `help` answers.
+use Rattle.std.specs.Prelude.{ℕ, List, ◌++◌, codes}
+use Rattle.answers.specs.declared.answer.Answer.{Answer}
+use Rattle.answers.specs.declared.refusal.Refusal.{Refusal}
+use Rattle.answers.specs.Lines.{line, done}
+use Rattle.answers.specs.Stages.{Stage, only}
+
+-- a line for each command, and the last line
+abbrev pub help_text : List ℕ
+help_text =
+    line (codes "test [--form F] [--alpha N] [--priority P]") ++
+    line (codes "help") ++
+    line (codes "end")
+
+unfoldable pub help_stage : Stage Refusal Answer
+help_stage = only (done help_text)

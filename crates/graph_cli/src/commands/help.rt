@@ -1,0 +1,18 @@
+//! The command `help`.
+ghost use Rattle.std.specs.Prelude.{IfOk};
+ghost use Rattle.graph_cli.specs.Help.{help_stage};
+
+use answers::Answer;
+use field_core::{List, NoMemory};
+use std::alloc::Global;
+
+/// The list of the commands.
+#[tactic(auto, unfolding(crate::specs::Help::help_stage))]
+pub fn help_answer(alloc: Global) -> Result<Answer, NoMemory>
+    ensures { IfOk result help_stage.Gives }
+{
+    let mut text = List::new(alloc);
+    text.append(b"test [--form F] [--alpha N] [--priority P]\n")?;
+    text.append(b"help\nend\n")?;
+    Ok(Answer::done(text))
+}

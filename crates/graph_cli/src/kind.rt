@@ -1,0 +1,29 @@
+//! Kinds of p-values.
+ghost use Rattle.std.specs.Prelude.{◌↔◌, IsTrue};
+ghost use Rattle.case_model.specs.CaseView.{content};
+
+use case_model::{Case, Inputs};
+
+/// The p-values that a command needs: any or none, one for each hypothesis, or those of stages.
+#[derive(Clone, Copy, PartialEq, Eq, Debug)]
+pub enum Kind {
+    Any,
+    Single,
+    Staged,
+}
+
+impl Kind {
+    ghost use Rattle.graph_cli.specs.Accepted.{IsOfKind};
+
+    /// Whether a case has p-values of the kind.
+    pub fn is_of(self, case: &Case) -> bool
+        ensures { IsTrue result ↔ IsOfKind self (content case.now).inputs }
+    {
+        match (self, case.inputs()) {
+            (Kind::Any, _) => true,
+            (Kind::Single, Inputs::Single(_)) => true,
+            (Kind::Staged, Inputs::Staged(_)) => true,
+            _ => false,
+        }
+    }
+}

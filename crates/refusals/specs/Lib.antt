@@ -1,0 +1,6 @@
+pub mod CaseRefusal
+pub mod LinePieces
+pub mod NeedRefusal
+pub mod TextRefusal
+pub mod UsageRefusal
+pub mod WideRefusal

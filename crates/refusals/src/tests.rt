@@ -1,0 +1,383 @@
+//! Each kind of refusal, with its line written by hand.
+use crate::{When, case_refusal, kind_refusal, line_refusal, wide_refusal};
+use answers::Refusal;
+use case_model::{CaseFault, PartPlace};
+use edge_text::{ExprFault, LineKind};
+use field_core::{List, NoMemory, Op, Place, Text, WideAt};
+use fraction::NumberFault;
+use std::alloc::Global;
+use std::process::Abort;
+use std::test::Fail;
+
+/// Three names.
+fn names(alloc: Global) -> Result<List<Text>, NoMemory> {
+    let mut names = List::new(alloc);
+    names.push(Text::copy(alloc, b"H1")?)?;
+    names.push(Text::copy(alloc, b"H2")?)?;
+    names.push(Text::copy(alloc, b"dose-a")?)?;
+    Ok(names)
+}
+
+/// An answer has this status, and this text.
+fn expect(rt: &impl Abort, answer: &Refusal, status: u8, text: &str) {
+    assert_eq!(rt; answer.line.as_slice(), text.as_bytes(), "{text}");
+    assert_eq!(rt; answer.cause.code(), status, "{text}");
+}
+
+const MALFORMED: [(CaseFault, &str); 25] = [
+    (CaseFault::NoHypothesis, "malformed: case: no hypothesis\n"),
+    (CaseFault::NameForm(0), "malformed: case: name 1\n"),
+    (
+        CaseFault::DuplicateName(1),
+        "malformed: case: duplicate name 2\n",
+    ),
+    (CaseFault::NoComponent, "malformed: case: no component\n"),
+    (CaseFault::AlphaRange, "malformed: case: alpha\n"),
+    (
+        CaseFault::ShareRange(1),
+        "malformed: case: share component 2\n",
+    ),
+    (CaseFault::ShareSum, "malformed: case: share sum\n"),
+    (
+        CaseFault::WeightCount(0),
+        "malformed: case: weight count component 1\n",
+    ),
+    (
+        CaseFault::WeightRange(0, 2),
+        "malformed: case: weight of dose-a component 1\n",
+    ),
+    (
+        CaseFault::WeightSum(7),
+        "malformed: case: weight sum component 8\n",
+    ),
+    (
+        CaseFault::SelfEdge(2, 1),
+        "malformed: case: self edge of H2 component 3\n",
+    ),
+    (
+        CaseFault::RepeatedEdge(1, 0, 2),
+        "malformed: case: repeated edge H1 dose-a component 2\n",
+    ),
+    (
+        CaseFault::EdgeRange(0, 2, 1),
+        "malformed: case: edge dose-a H2 component 1\n",
+    ),
+    (
+        CaseFault::RowSum(0, 0),
+        "malformed: case: row sum of H1 component 1\n",
+    ),
+    (CaseFault::Mixed, "malformed: case: mixed\n"),
+    (CaseFault::PCount(2), "malformed: case: p count 2\n"),
+    (CaseFault::PMissing(1), "malformed: case: p missing H2\n"),
+    (CaseFault::PRange(0), "malformed: case: p of H1\n"),
+    (CaseFault::NoStage, "malformed: case: no stage\n"),
+    (CaseFault::SpendCount(3), "malformed: case: spend count 4\n"),
+    (
+        CaseFault::SpendRange(2, 3),
+        "malformed: case: spend of dose-a stage 3\n",
+    ),
+    (CaseFault::SpendSum(0), "malformed: case: spend sum of H1\n"),
+    (
+        CaseFault::ArrivalStage(0),
+        "malformed: case: arrival 1 stage\n",
+    ),
+    (
+        CaseFault::ArrivalRepeated(11),
+        "malformed: case: arrival 12 repeated\n",
+    ),
+    (CaseFault::ArrivalRange(1), "malformed: case: arrival 2 p\n"),
+];
+
+#[test]
+fn malformed_cases(rt: HostRuntime) -> Result<(), Fail> {
+    let names = names(rt.alloc())?;
+    for (fault, text) in MALFORMED {
+        let answer = case_refusal(rt.alloc(), names.as_slice(), &fault)?;
+        expect(&rt, &answer, 3, text);
+    }
+    Ok(())
+}
+
+const PAST_LIMITS: [(CaseFault, &str); 4] = [
+    (CaseFault::TooMany(65), "limit: hypotheses 65\n"),
+    (
+        CaseFault::TooMany(18446744073709551615),
+        "limit: hypotheses 18446744073709551615\n",
+    ),
+    (CaseFault::TooManyComponents(9), "limit: components 9\n"),
+    (CaseFault::TooManyStages(13), "limit: stages 13\n"),
+];
+
+/// Past the third name a place stands for the name.
+const PARTS: [(PartPlace, &str); 14] = [
+    (PartPlace::Alpha, "limit: case: part alpha\n"),
+    (PartPlace::Share(1), "limit: case: part share component 2\n"),
+    (
+        PartPlace::Weight(0, 2),
+        "limit: case: part weight of dose-a component 1\n",
+    ),
+    (
+        PartPlace::Weight(0, 3),
+        "limit: case: part weight of 4 component 1\n",
+    ),
+    (
+        PartPlace::Weight(7, 99),
+        "limit: case: part weight of 100 component 8\n",
+    ),
+    (
+        PartPlace::Edge(0, 1, 0),
+        "limit: case: part edge H2 H1 component 1\n",
+    ),
+    (
+        PartPlace::Edge(3, 0, 3),
+        "limit: case: part edge H1 4 component 4\n",
+    ),
+    (PartPlace::P(0), "limit: case: part p of H1\n"),
+    (PartPlace::P(3), "limit: case: part p of 4\n"),
+    (
+        PartPlace::P(18446744073709551615),
+        "limit: case: part p of 18446744073709551616\n",
+    ),
+    (
+        PartPlace::Spend(1, 2),
+        "limit: case: part spend of H2 stage 2\n",
+    ),
+    (
+        PartPlace::Spend(5, 1),
+        "limit: case: part spend of 6 stage 1\n",
+    ),
+    (PartPlace::Arrival(0), "limit: case: part arrival 1\n"),
+    (PartPlace::Arrival(9), "limit: case: part arrival 10\n"),
+];
+
+#[test]
+fn cases_past_limits(rt: HostRuntime) -> Result<(), Fail> {
+    let names = names(rt.alloc())?;
+    for (fault, text) in PAST_LIMITS {
+        let answer = case_refusal(rt.alloc(), names.as_slice(), &fault)?;
+        expect(&rt, &answer, 4, text);
+    }
+    for (place, text) in PARTS {
+        let fault = CaseFault::PartTooLong(place);
+        let answer = case_refusal(rt.alloc(), names.as_slice(), &fault)?;
+        expect(&rt, &answer, 4, text);
+    }
+    Ok(())
+}
+
+/// What is too wide, and how a line ends.
+const WIDE: [(usize, Place, Op, &str); 14] = [
+    (
+        0,
+        Place::Weight(2),
+        Op::Mul,
+        "component 1 weight of dose-a mul\n",
+    ),
+    (1, Place::Loss(0), Op::Sub, "component 2 loss of H1 sub\n"),
+    (
+        7,
+        Place::Edge(1, 0),
+        Op::Div,
+        "component 8 edge H2 H1 div\n",
+    ),
+    (0, Place::Share(1), Op::Add, "component 1 share of H2 add\n"),
+    (0, Place::Ratio(0), Op::Div, "component 1 ratio of H1 div\n"),
+    (0, Place::Flow(1), Op::Add, "component 1 flow of H2 add\n"),
+    (
+        2,
+        Place::Visit(0, 2),
+        Op::Mul,
+        "component 3 visit H1 dose-a mul\n",
+    ),
+    (
+        0,
+        Place::Bound(2),
+        Op::Sub,
+        "component 1 bound of dose-a sub\n",
+    ),
+    (0, Place::Level(0), Op::Mul, "component 1 level of H1 mul\n"),
+    (0, Place::WeightSum, Op::Add, "component 1 weight sum add\n"),
+    (
+        1,
+        Place::RowSum(1),
+        Op::Add,
+        "component 2 row sum of H2 add\n",
+    ),
+    (0, Place::ShareSum, Op::Add, "component 1 share sum add\n"),
+    (
+        0,
+        Place::SpendSum(0),
+        Op::Add,
+        "component 1 spend sum of H1 add\n",
+    ),
+    (
+        0,
+        Place::SpendSum(3),
+        Op::Add,
+        "component 1 spend sum of 4 add\n",
+    ),
+];
+
+/// How a line begins.
+const BEGINNINGS: [(When, &str); 4] = [
+    (When::Reading, "too wide: reading: "),
+    (When::Step(0), "too wide: step 0: "),
+    (When::Step(3), "too wide: step 3: "),
+    (When::Step(64), "too wide: step 64: "),
+];
+
+/// An answer is this status, and the two texts in turn.
+fn expect_both(
+    rt: &impl Abort,
+    alloc: Global,
+    answer: &Refusal,
+    beginning: &str,
+    ending: &str,
+) -> Result<(), NoMemory> {
+    let mut text = List::new(alloc);
+    text.append(beginning.as_bytes())?;
+    text.append(ending.as_bytes())?;
+    assert_eq!(rt;
+        answer.line.as_slice(),
+        text.as_slice(),
+        "{beginning}{ending}"
+    );
+    assert_eq!(rt; answer.cause.code(), 5, "{beginning}{ending}");
+    Ok(())
+}
+
+#[test]
+fn too_wide_in_runs(rt: HostRuntime) -> Result<(), Fail> {
+    let alloc = rt.alloc();
+    let names = names(alloc)?;
+    for (component, place, op, ending) in WIDE {
+        let wide = WideAt {
+            component,
+            place,
+            op,
+        };
+        for (when, beginning) in BEGINNINGS {
+            let answer = wide_refusal(alloc, names.as_slice(), when, &wide)?;
+            expect_both(&rt, alloc, &answer, beginning, ending)?;
+        }
+    }
+    Ok(())
+}
+
+#[test]
+fn too_wide_sums_of_cases(rt: HostRuntime) -> Result<(), Fail> {
+    let alloc = rt.alloc();
+    let names = names(alloc)?;
+    for (component, place, op, ending) in WIDE {
+        let fault = CaseFault::Wide(WideAt {
+            component,
+            place,
+            op,
+        });
+        let answer = case_refusal(alloc, names.as_slice(), &fault)?;
+        expect_both(&rt, alloc, &answer, "too wide: reading: ", ending)?;
+    }
+    Ok(())
+}
+
+const LINES: [(usize, LineKind, u8, &str); 14] = [
+    (
+        1,
+        LineKind::Unexpected,
+        3,
+        "malformed: line 1: unexpected\n",
+    ),
+    (12, LineKind::Ended, 3, "malformed: line 12: ended\n"),
+    (2, LineKind::WordCount, 3, "malformed: line 2: words\n"),
+    (
+        5,
+        LineKind::UnknownName,
+        3,
+        "malformed: line 5: unknown name\n",
+    ),
+    (
+        3,
+        LineKind::Number(NumberFault::Empty),
+        3,
+        "malformed: line 3: number\n",
+    ),
+    (
+        3,
+        LineKind::Number(NumberFault::BadByte(7)),
+        3,
+        "malformed: line 3: number\n",
+    ),
+    (
+        4,
+        LineKind::Number(NumberFault::ZeroDenominator),
+        3,
+        "malformed: line 4: zero denominator\n",
+    ),
+    (
+        100,
+        LineKind::Number(NumberFault::TooManyDigits),
+        4,
+        "limit: line 100: digits\n",
+    ),
+    (
+        5,
+        LineKind::Expr(ExprFault::BadByte(0)),
+        3,
+        "malformed: line 5: expression\n",
+    ),
+    (
+        6,
+        LineKind::Expr(ExprFault::DivisorNotNumber),
+        3,
+        "malformed: line 6: divisor\n",
+    ),
+    (
+        7,
+        LineKind::Expr(ExprFault::ZeroDivisor),
+        3,
+        "malformed: line 7: zero divisor\n",
+    ),
+    (
+        18,
+        LineKind::Expr(ExprFault::Degree),
+        4,
+        "limit: line 18: degree\n",
+    ),
+    (
+        4,
+        LineKind::Expr(ExprFault::Part),
+        4,
+        "limit: line 4: part\n",
+    ),
+    (
+        12,
+        LineKind::Expr(ExprFault::Depth),
+        4,
+        "limit: line 12: depth\n",
+    ),
+];
+
+#[test]
+fn lines_that_cannot_stand(rt: HostRuntime) -> Result<(), Fail> {
+    for (line, kind, status, text) in LINES {
+        let answer = line_refusal(rt.alloc(), line, kind)?;
+        expect(&rt, &answer, status, text);
+    }
+    Ok(())
+}
+
+#[test]
+fn another_kind_of_inputs(rt: HostRuntime) -> Result<(), Fail> {
+    let answer = kind_refusal(rt.alloc())?;
+    expect(&rt, &answer, 3, "malformed: kind\n");
+    Ok(())
+}
+
+/// Want of memory is no fault of a case, and has no line here.
+#[test]
+fn want_of_memory(rt: HostRuntime) -> Result<(), Fail> {
+    let names = names(rt.alloc())?;
+    let answer = case_refusal(rt.alloc(), names.as_slice(), &CaseFault::NoMemory);
+    assert_eq!(rt; answer.err(), Some(NoMemory));
+    Ok(())
+}

@@ -1,0 +1,96 @@
+//! Lines of texts that say no draft.
+ghost use Rattle.std.specs.Prelude.{◌≡◌, ◌++◌, IfOk, codes};
+ghost use Rattle.refusals.specs.LinePieces.{malformed_at, limit_at};
+ghost use Rattle.refusals.specs.TextRefusal.{at_line, number_refusal, expression_refusal, line_refusal, form_refusal};
+
+use crate::pieces::{malformed, past_limit, put_counting};
+use answers::{Cause, Refusal};
+use edge_text::{ExprFault, LineKind};
+use field_core::{List, NoMemory};
+use fraction::NumberFault;
+use std::alloc::Global;
+
+/// The refusal of what is malformed at a place.
+#[tactic(auto, unfolding(crate::specs::LinePieces::malformed_at))]
+fn malformed_at(alloc: Global, place: &[u8], kind: &[u8]) -> Result<Refusal, NoMemory>
+    ensures { IfOk result (λ refusal. refusal ≡ malformed_at place.now kind.now) }
+{
+    let mut text = malformed(alloc, place)?;
+    text.append(kind)?;
+    Refusal::of_line(Cause::Malformed, text)
+}
+
+/// The refusal of a quantity past its limit at a place.
+#[tactic(auto, unfolding(crate::specs::LinePieces::past_limit))]
+fn limit_at(alloc: Global, place: &[u8], quantity: &[u8]) -> Result<Refusal, NoMemory>
+    ensures { IfOk result (λ refusal. refusal ≡ limit_at place.now quantity.now) }
+{
+    let mut text = past_limit(alloc)?;
+    text.append(place)?;
+    text.append(b": ")?;
+    text.append(quantity)?;
+    Refusal::of_line(Cause::Limit, text)
+}
+
+/// The refusal of a numeral at a place that is refused.
+#[tactic(auto, unfolding(crate::specs::TextRefusal::number_refusal))]
+fn number_refusal(alloc: Global, place: &[u8], fault: NumberFault) -> Result<Refusal, NoMemory>
+    ensures { IfOk result (λ refusal. refusal ≡ number_refusal place.now fault) }
+{
+    match fault {
+        NumberFault::Empty | NumberFault::BadByte(_) => malformed_at(alloc, place, b"number"),
+        NumberFault::ZeroDenominator => malformed_at(alloc, place, b"zero denominator"),
+        NumberFault::TooManyDigits => limit_at(alloc, place, b"digits"),
+    }
+}
+
+/// The refusal of an expression at a place that is refused.
+#[tactic(auto, unfolding(crate::specs::TextRefusal::expression_refusal))]
+fn expression_refusal(alloc: Global, place: &[u8], fault: ExprFault) -> Result<Refusal, NoMemory>
+    ensures { IfOk result (λ refusal. refusal ≡ expression_refusal place.now fault) }
+{
+    match fault {
+        ExprFault::BadByte(_) => malformed_at(alloc, place, b"expression"),
+        ExprFault::DivisorNotNumber => malformed_at(alloc, place, b"divisor"),
+        ExprFault::ZeroDivisor => malformed_at(alloc, place, b"zero divisor"),
+        ExprFault::Degree => limit_at(alloc, place, b"degree"),
+        ExprFault::Part => limit_at(alloc, place, b"part"),
+        ExprFault::Depth => limit_at(alloc, place, b"depth"),
+    }
+}
+
+/// The place of a line.
+fn at_line(alloc: Global, line: usize) -> Result<List<u8>, NoMemory>
+    ensures { IfOk result (λ place. place ≡ at_line line) }
+{
+    let mut place = List::new(alloc);
+    put_counting(&mut place, b"line ", line as u128)?;
+    Ok(place)
+}
+
+/// The refusal of a line of a text, by its number from 1, that can't stand.
+#[tactic(auto, unfolding(crate::specs::TextRefusal::line_refusal, crate::specs::LinePieces::past_limit, crate::specs::LinePieces::malformed_at, crate::specs::TextRefusal::number_refusal, crate::specs::TextRefusal::expression_refusal))]
+pub fn line_refusal(alloc: Global, line: usize, kind: LineKind) -> Result<Refusal, NoMemory>
+    ensures { IfOk result (λ refusal. refusal ≡ line_refusal line kind) }
+{
+    let place = at_line(alloc, line)?;
+    let place = place.as_slice();
+    match kind {
+        LineKind::Unexpected => malformed_at(alloc, place, b"unexpected"),
+        LineKind::Ended => malformed_at(alloc, place, b"ended"),
+        LineKind::WordCount => malformed_at(alloc, place, b"words"),
+        LineKind::UnknownName => malformed_at(alloc, place, b"unknown name"),
+        LineKind::Number(fault) => number_refusal(alloc, place, fault),
+        LineKind::Expr(fault) => expression_refusal(alloc, place, fault),
+    }
+}
+
+/// The refusal of a form that isn't read yet.
+#[tactic(auto, unfolding(crate::specs::TextRefusal::form_refusal))]
+pub fn form_refusal(alloc: Global) -> Result<Refusal, NoMemory>
+    ensures { IfOk result (λ refusal. refusal ≡ form_refusal) }
+{
+    let mut text = List::new(alloc);
+    text.append(b"malformed: form")?;
+    Refusal::of_line(Cause::Malformed, text)
+}

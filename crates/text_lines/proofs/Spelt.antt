@@ -1,0 +1,157 @@
+-- What is spelt is read.
+use Rattle.std.proofs.Common.{◌≡◌, ◌≢◌, ℕ, zero, suc, ◌+◌, ◌-◌, ◌<◌, ◌||◌, false, List, [], ◌∷◌, ◌++◌, length, map, get_or, drop, refl, ap, ap₂, ◌∙◌, append_assoc, arith}
+use Rattle.std.specs.List.{slice_split, onto_first, filter, flat_map, prefix_len, position_or_len, AllByRecursion}
+use Rattle.std.specs.Str.Lines.{strip_carriage_return}
+use Rattle.std.proofs.lemmas.Bool.{ne_eqb}
+use Rattle.std.proofs.lemmas.List.{append-nil}
+use Rattle.std.proofs.lemmas.List.Splits.{slice_split-cons_no, length-slice_split}
+use Rattle.text_lines.specs.Lines.{is_line_feed, whole_lines, lines_of, begins_comment, is_skipped, kept_after, Row}
+use Rattle.text_lines.specs.Words.{is_blank, words_of, is_word, after_blanks, behind_word}
+use Rattle.text_lines.specs.Spelling.{spaced, line_spelt, text_of, IsPlain, IsWord, IsNoComment, IsLine, numbered}
+use Rattle.text_lines.proofs.Cut.{kept_take, kept_nil, whole_cons, words_blank, drop_past}
+
+plain_blank : (b : ℕ) → IsPlain b → is_blank b ≡ false
+plain_blank b h = ap₂ (λ x y. x || y) (ne_eqb b 32 h.space) (ne_eqb b 9 h.tab)
+
+-- ---- words
+
+split_word : (word rest : List ℕ) → AllByRecursion IsPlain word → slice_split is_blank (word ++ 32 ∷ rest) ≡ word ∷ slice_split is_blank rest
+split_word [] rest h = refl
+split_word (b ∷ word) rest h = slice_split-cons_no is_blank b (word ++ 32 ∷ rest) (plain_blank b h.0) ∙ ap (onto_first b) (split_word word rest h.1)
+
+split_last : (word : List ℕ) → AllByRecursion IsPlain word → slice_split is_blank word ≡ word ∷ []
+split_last [] h = refl
+split_last (b ∷ word) h = slice_split-cons_no is_blank b word (plain_blank b h.0) ∙ ap (onto_first b) (split_last word h.1)
+
+keep_word : (word : List ℕ) (words : List (List ℕ)) → 0 < length word → filter is_word (word ∷ words) ≡ word ∷ filter is_word words
+keep_word [] words h = absurd (omega arith)
+keep_word (b ∷ word) words h = refl
+
+-- a word, a blank and what stands behind it
+pub words_of_word : (word rest : List ℕ) → IsWord word → words_of (word ++ 32 ∷ rest) ≡ word ∷ words_of rest
+unfolding words_of
+words_of_word word rest h = ap (filter is_word) (split_word word rest h.plain) ∙ keep_word word (slice_split is_blank rest) h.some
+
+-- a word alone
+pub words_of_last : (word : List ℕ) → IsWord word → words_of word ≡ word ∷ []
+unfolding words_of
+words_of_last word h = ap (filter is_word) (split_last word h.plain) ∙ keep_word word [] h.some
+
+words_none : words_of [] ≡ []
+unfolding words_of
+words_none = refl
+
+pub words_of_line : (words : List (List ℕ)) → AllByRecursion IsWord words → words_of (line_spelt words) ≡ words
+words_of_line [] h = words_none
+words_of_line (word ∷ []) h = ap words_of (append-nil word) ∙ words_of_last word h.0
+words_of_line (word ∷ next ∷ words) h = words_of_word word (next ++ flat_map spaced words) h.0 ∙ ap (λ (ws : List (List ℕ)). word ∷ ws) (words_of_line (next ∷ words) h.1)
+
+length_plain : (word rest : List ℕ) → AllByRecursion IsPlain word → position_or_len is_blank (word ++ 32 ∷ rest) ≡ length word
+length_plain [] rest h = refl
+length_plain (b ∷ word) rest h = let e : position_or_len is_blank (b ∷ (word ++ 32 ∷ rest)) ≡ 1 + position_or_len is_blank (word ++ 32 ∷ rest) = rw (plain_blank b h.0) refl in
+    e ∙ ap (λ n. 1 + n) (length_plain word rest h.1) ∙ omega arith
+
+no_blanks : (word rest : List ℕ) → IsWord word → after_blanks (word ++ rest) ≡ word ++ rest
+unfolding after_blanks
+no_blanks [] rest h = absurd (omega (arith, h.some))
+no_blanks (b ∷ word) rest h = let k : prefix_len is_blank (b ∷ (word ++ rest)) ≡ 0 = rw (plain_blank b h.plain.0) refl in ap (λ n. drop n (b ∷ (word ++ rest))) k
+
+drop_word : (word rest : List ℕ) → drop (length word) (word ++ rest) ≡ rest
+drop_word [] rest = refl
+drop_word (b ∷ word) rest = drop_word word rest
+
+-- what stands behind a word begins with the blank
+pub behind_spelt : (word rest : List ℕ) → IsWord word → behind_word (word ++ 32 ∷ rest) ≡ 32 ∷ rest
+unfolding behind_word
+behind_spelt word rest h =
+    ap (λ (line : List ℕ). drop (position_or_len is_blank line) line) (no_blanks word (32 ∷ rest) h) ∙ ap (λ n. drop n (word ++ 32 ∷ rest)) (length_plain word rest h.plain) ∙ drop_word word (32 ∷ rest)
+
+-- a blank in front changes nothing
+pub words_of_blank : (rest : List ℕ) → words_of (32 ∷ rest) ≡ words_of rest
+words_of_blank rest = words_blank 32 rest refl
+
+after_blank : (rest : List ℕ) → after_blanks (32 ∷ rest) ≡ after_blanks rest
+unfolding after_blanks
+after_blank rest = drop_past (prefix_len is_blank rest) 32 rest
+
+pub behind_blank : (rest : List ℕ) → behind_word (32 ∷ rest) ≡ behind_word rest
+unfolding behind_word
+behind_blank rest = ap (λ (line : List ℕ). drop (position_or_len is_blank line) line) (after_blank rest)
+
+-- ---- lines
+
+-- neither a line feed nor a carriage return
+record InLine (b : ℕ) : Type 0 where
+  line_feed : b ≢ 10
+  carriage_return : b ≢ 13
+
+in_word : (word : List ℕ) → AllByRecursion IsPlain word → AllByRecursion InLine word
+in_word [] h = tt
+in_word (b ∷ word) h = (record { line_feed = h.0.line_feed; carriage_return = h.0.carriage_return }, in_word word h.1)
+
+in_append : (xs ys : List ℕ) → AllByRecursion InLine xs → AllByRecursion InLine ys → AllByRecursion InLine (xs ++ ys)
+in_append [] ys h k = k
+in_append (x ∷ xs) ys h k = (h.0, in_append xs ys h.1 k)
+
+in_spaced : (words : List (List ℕ)) → AllByRecursion IsWord words → AllByRecursion InLine (flat_map spaced words)
+in_spaced [] h = tt
+in_spaced (word ∷ words) h = (record { line_feed = λ e. cc; carriage_return = λ e. cc }, in_append word (flat_map spaced words) (in_word word h.0.plain) (in_spaced words h.1))
+
+in_line : (words : List (List ℕ)) → AllByRecursion IsWord words → AllByRecursion InLine (line_spelt words)
+in_line [] h = tt
+in_line (word ∷ words) h = in_append word (flat_map spaced words) (in_word word h.0.plain) (in_spaced words h.1)
+
+split_line : (line rest : List ℕ) → AllByRecursion InLine line → slice_split is_line_feed (line ++ 10 ∷ rest) ≡ line ∷ slice_split is_line_feed rest
+split_line [] rest h = refl
+split_line (b ∷ line) rest h = slice_split-cons_no is_line_feed b (line ++ 10 ∷ rest) (ne_eqb b 10 h.0.line_feed) ∙ ap (onto_first b) (split_line line rest h.1)
+
+byte_at : (line : List ℕ) (k : ℕ) → AllByRecursion InLine line → get_or line k 0 ≢ 13
+byte_at [] k h = λ e. cc
+byte_at (b ∷ line) zero h = h.0.carriage_return
+byte_at (b ∷ line) (suc k) h = byte_at line k h.1
+
+strip_none : (line : List ℕ) → AllByRecursion InLine line → strip_carriage_return line ≡ line
+strip_none line h = rw (ne_eqb (get_or line (length line - 1) 0) 13 (byte_at line (length line - 1) h)) refl
+
+lines_of_line : (line rest : List ℕ) → AllByRecursion InLine line → lines_of (line ++ 10 ∷ rest) ≡ line ∷ lines_of rest
+unfolding lines_of
+lines_of_line line rest h =
+    let w : whole_lines (slice_split is_line_feed (line ++ 10 ∷ rest)) ≡ line ∷ whole_lines (slice_split is_line_feed rest) =
+    ap whole_lines (split_line line rest h) ∙ whole_cons line (slice_split is_line_feed rest) (omega (arith, length-slice_split is_line_feed rest)) in
+    ap (map strip_carriage_return) w ∙ ap (λ (x : List ℕ). x ∷ lines_of rest) (strip_none line h)
+
+kept_word : (word : List ℕ) (words : List (List ℕ)) → IsNoComment word → IsWord word → is_skipped (line_spelt (word ∷ words)) ≡ false
+unfolding is_skipped
+kept_word [] words h w = absurd (omega (arith, w.some))
+kept_word (b ∷ bs) words h w = ap begins_comment (no_blanks (b ∷ bs) (flat_map spaced words) w) ∙ ne_eqb b 35 h
+
+kept_line : (words : List (List ℕ)) → IsLine words → is_skipped (line_spelt words) ≡ false
+kept_line [] h = absurd h
+kept_line (word ∷ words) h = kept_word word words h.0 h.1
+
+are_words : (words : List (List ℕ)) → IsLine words → AllByRecursion IsWord words
+are_words [] h = absurd h
+are_words (word ∷ words) h = (h.1, h.2)
+
+text_cons : (line : List (List ℕ)) (lines : List (List (List ℕ))) → text_of (line ∷ lines) ≡ line_spelt line ++ 10 ∷ text_of lines
+unfolding text_of
+text_cons line lines = append_assoc (line_spelt line) (10 ∷ []) (flat_map (λ words. line_spelt words ++ 10 ∷ []) lines)
+
+lines_of_cons : (line : List (List ℕ)) (lines : List (List (List ℕ))) → IsLine line → lines_of (text_of (line ∷ lines)) ≡ line_spelt line ∷ lines_of (text_of lines)
+lines_of_cons line lines h = ap lines_of (text_cons line lines) ∙ lines_of_line (line_spelt line) (text_of lines) (in_line line (are_words line h))
+
+lines_of_none : lines_of (text_of []) ≡ []
+unfolding lines_of text_of
+lines_of_none = refl
+
+-- the lines of a spelt text
+lines_of_text : (lines : List (List (List ℕ))) → AllByRecursion IsLine lines → lines_of (text_of lines) ≡ map line_spelt lines
+lines_of_text [] h = lines_of_none
+lines_of_text (line ∷ lines) h = lines_of_cons line lines h.0 ∙ ap (λ (ls : List (List ℕ)). line_spelt line ∷ ls) (lines_of_text lines h.1)
+
+kept_text : (n : ℕ) (lines : List (List (List ℕ))) → AllByRecursion IsLine lines → kept_after n (map line_spelt lines) ≡ numbered n lines
+kept_text n [] h = kept_nil n
+kept_text n (line ∷ lines) h = kept_take n (line_spelt line) (map line_spelt lines) (kept_line line h.0) ∙ ap (λ (rs : List Row). record { number = n + 1; text = line_spelt line } ∷ rs) (kept_text (n + 1) lines h.1)
+
+pub rows_of_text : (lines : List (List (List ℕ))) → AllByRecursion IsLine lines → kept_after 0 (lines_of (text_of lines)) ≡ numbered 0 lines
+rows_of_text lines h = ap (kept_after 0) (lines_of_text lines h) ∙ kept_text 0 lines h

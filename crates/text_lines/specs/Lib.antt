@@ -1,0 +1,4 @@
+pub mod Lines
+pub mod View
+pub mod Words
+pub mod Spelling

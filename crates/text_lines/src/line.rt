@@ -1,0 +1,35 @@
+//! A line of a text.
+ghost use Rattle.std.specs.Prelude.{◌≡◌, IfSome};
+ghost use Rattle.std.specs.Option.{option_map};
+ghost use Rattle.text_lines.specs.Words.{words_of, behind_word, words_behind};
+
+use crate::Words;
+
+/// A line that isn't skipped, and its number among all lines, from 1.
+#[derive(Clone, Copy)]
+pub struct Line<'a> {
+    pub number: usize,
+    pub text: &'a [u8],
+}
+
+impl<'a> Line<'a> {
+    /// The words of the line.
+    pub fn words(&self) -> Words<'a>
+        ensures { result ≡ self.now.text.now }
+    {
+        Words::new(self.text)
+    }
+
+    /// The words behind the first one, where that is the keyword.
+    pub fn behind(&self, keyword: &[u8]) -> Option<Words<'a>>
+        ensures words { option_map words_of result ≡ words_behind keyword.now (words_of self.now.text.now) }
+        ensures rest { IfSome result (λ words. words ≡ behind_word self.now.text.now) }
+    {
+        let mut words = self.words();
+        let first = words.next()?;
+        if first != keyword {
+            return None;
+        }
+        Some(words)
+    }
+}
