@@ -27,6 +27,7 @@ use Rattle.edge_expression.specs.EntryTexts.{power_text, factor_text, joint_text
 use Rattle.edge_expression.specs.EntryReading.{open_with, open_behind, IsShallow, IsEntryText}
 use Rattle.edge_expression.proofs.UnitOperations.{IsShortTerms, zero_short, zero_is}
 use Rattle.edge_expression.proofs.UnitEntries.{tabled, short_if, at_tabled, same_tabled, single, joined_plus, joined_minus}
+use Rattle.edge_expression.proofs.SignedEntries.{all_five}
 use Rattle.edge_expression.proofs.EntryTerms.{over_of, lead, IsTerm, term_of}
 use Rattle.edge_expression.proofs.ShortNumbers.{short_parts}
 use Rattle.edge_expression.proofs.PrintedTerms.{zero_at}
@@ -372,14 +373,7 @@ entry_open e s = open_if (are_zero_below 5 e) (codes "0") (terms_text true 0 5 e
 -- ---- an entry by its coefficients
 
 five : (e : List Terms) → length e ≡ 5 → tabled (upto e 5) ≡ e
-unfolding terms_at
-five [] h = absurd (omega arith)
-five (a ∷ []) h = absurd (omega arith)
-five (a ∷ b ∷ []) h = absurd (omega arith)
-five (a ∷ b ∷ c ∷ []) h = absurd (omega arith)
-five (a ∷ b ∷ c ∷ d ∷ []) h = absurd (omega arith)
-five (a ∷ b ∷ c ∷ d ∷ f ∷ []) h = refl
-five (a ∷ b ∷ c ∷ d ∷ f ∷ g ∷ e) h = absurd (omega arith)
+five e h = same_tabled (upto e 5) (terms_at e) (λ k l. ap (λ b. cond b (terms_at e k) zero_terms) (lt-ltb k 5 l)) ∙ all_five e h
 
 each_short : (xs : List Ratio) → list_all is_short xs ≡ true → AreShort (map terms xs)
 unfolding AreShort terms_at

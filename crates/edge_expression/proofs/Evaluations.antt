@@ -261,8 +261,8 @@ unwrapped None = refl
 unwrapped (Some op) = refl
 
 -- what is made of 0 and the first term
-pub applied_first : (taken : Option Operation) (op : Operation) (z x : List Terms) (r : Result (List Terms) ExprFault) → op ≡ unwrap_or taken operations.Add → z ≡ zero_coefficients → r ≡ applied op z x → r ≡ applied (first_operation taken) zero_coefficients x
-applied_first taken op z x r e f g = g ∙ ap (λ o. applied o z x) (e ∙ unwrapped taken) ∙ ap (λ y. applied (first_operation taken) y x) f
+pub applied_first : (taken : Option Operation) (op : Operation) (x : List Terms) (r : Result (List Terms) ExprFault) → op ≡ unwrap_or taken operations.Add → r ≡ applied op zero_coefficients x → r ≡ applied (first_operation taken) zero_coefficients x
+applied_first taken op x r e g = g ∙ ap (λ o. applied o zero_coefficients x) (e ∙ unwrapped taken)
 
 -- what a text is worth that spells an expression
 pub sum_worth : (old text new : List ℕ) (r : Result Polynomial ExprFault) (e : Expression) → old ≡ text → SumGives old r new → Spells text e → map_value polynomial_terms r ≡ value e
