@@ -4,6 +4,7 @@ use Rattle.std.specs.Char.{is_ascii_digit}
 use Rattle.std.proofs.lemmas.Bool.{cond_both, or_cases, eqb-true, eqb-false}
 use Rattle.std.proofs.lemmas.Bool.Decides.{nat_tests}
 use Rattle.text_lines.specs.Words.{is_blank}
+use Rattle.fraction.proofs.Classes.{either, digit_in, digit_test}
 use Rattle.edge_expression.specs.declared.byte_class.Class.{Class}
 use Rattle.edge_expression.specs.declared.byte_class.Class.TheVariants as classes
 use Rattle.edge_expression.specs.ByteMachine.{mark_of, class_of}
@@ -20,12 +21,6 @@ IsOf classes.Close b = b ≡ 41
 IsOf classes.Backslash b = b ≡ 92
 IsOf classes.Blank b = (b ≡ 32) ⊎ (b ≡ 9)
 IsOf classes.Other b = (b ≢ 40) × (b ≢ 41)
-
-either : (b m n : ℕ) → (eqb b m || eqb b n) ≡ true → (b ≡ m) ⊎ (b ≡ n)
-either b m n h = elim (or_cases (eqb b m) (eqb b n) h) [ inl e ↦ inl (eqb-true b m e) | inr e ↦ inr (eqb-true b n e) ]
-
-digit_in : (b : ℕ) → is_ascii_digit b ≡ true → (48 ≤ b) × (b ≤ 57)
-digit_in b h = grind (arith, nat_tests)
 
 mark_is : (b : ℕ) → IsOf (mark_of b) b
 unfolding mark_of
@@ -46,9 +41,6 @@ class_is b =
     cond_both (is_blank b) classes.Blank _ P (λ e. either b 32 9 e) (λ _.
     cond_both (eqb b 43 || eqb b 45) classes.Sign _ P (λ e. either b 43 45 e) (λ _.
     cond_both (eqb b 42 || eqb b 47) classes.Joint (mark_of b) P (λ e. either b 42 47 e) (λ _. mark_is b))))
-
-digit_test : (b : ℕ) → 48 ≤ b → b ≤ 57 → is_ascii_digit b ≡ true
-digit_test b h k = grind (arith, nat_tests)
 
 pub class_digit : (b : ℕ) → 48 ≤ b → b ≤ 57 → class_of b ≡ classes.Digit
 unfolding class_of

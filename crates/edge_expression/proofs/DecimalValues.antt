@@ -1,5 +1,5 @@
 -- What a decimal is worth, by what is read of it.
-use Rattle.std.proofs.Common.{◌≡◌, ℕ, suc, ◌*◌, ◌^◌, ◌<◌, ◌++◌, Bool, true, false, List, [], length, ℤ, pos, negsuc, ◌-ℤ◌, None, Ok, Err, refl, sym, ap, subst, ◌∙◌, arith}
+use Rattle.std.proofs.Common.{◌≡◌, ℕ, suc, ◌*◌, ◌^◌, ◌<◌, ◌++◌, Bool, true, false, List, [], length, ℤ, pos, negsuc, ◌-ℤ◌, None, Ok, Err, refl, sym, ap, subst, ◌∙◌, arith, Option}
 use Rattle.std.specs.Str.Parse.{digits_value}
 use Rattle.std.proofs.lemmas.Int.{ints}
 use Rattle.field_core.specs.Terms.{Terms, IsReduced}
@@ -11,13 +11,23 @@ use Rattle.fraction.proofs.DigitNumbers.{power_some}
 use Rattle.fraction.proofs.Unique.{body_unique, value_unique}
 use Rattle.edge_expression.specs.declared.fault.ExprFault.{ExprFault}
 use Rattle.edge_expression.specs.declared.fault.ExprFault.TheVariants.{Part}
-use Rattle.edge_expression.specs.Expressions.{IsPair, Decimal}
+use Rattle.edge_expression.specs.Expressions.{IsPair, Decimal, Power, Number, Other, Epsilon}
 use Rattle.field_core.specs.Steps.{◌>>=◌}
-use Rattle.edge_expression.specs.EntryValues.{short_of, short, plain_entry, has_too_many_digits, decimal_value}
+use Rattle.edge_expression.specs.EntryValues.{short_of, short, plain_entry, has_too_many_digits, decimal_value, epsilon_value, factor_value}
 use Rattle.edge_expression.specs.declared.byte_machine.Part.TheVariants as parts
 use Rattle.edge_expression.proofs.DecimalTexts.{takes, takes_nil, decimal_taken}
 use Rattle.edge_expression.proofs.DecimalLimits.{decides_too_many}
 use Rattle.edge_expression.proofs.LowestTerms.{lowest_any}
+
+-- the value of a factor that is a decimal
+pub decimal_factor : (d : Decimal) → factor_value (Number d) ≡ decimal_value d
+unfolding factor_value
+decimal_factor d = refl
+
+-- and of one that is a power of epsilon
+pub epsilon_factor : (power : Option Power) → factor_value (Other (Epsilon power)) ≡ epsilon_value power
+unfolding factor_value
+epsilon_factor power = refl
 
 -- a decimal is a numeral
 numeral : (d : Decimal) → IsNumeral (body_text d.body)

@@ -26,8 +26,10 @@ use Rattle.edge_expression.specs.EntryValues.{joined, sign_or_plus, value, with_
 use Rattle.edge_expression.specs.EntryTexts.{power_text, factor_text, joint_text, joined_term, term_text, terms_text, are_zero_below, coefficients_text, entry_text}
 use Rattle.edge_expression.specs.EntryReading.{open_with, open_behind, IsShallow, IsEntryText}
 use Rattle.edge_expression.proofs.UnitOperations.{IsShortTerms, zero_short, zero_is}
-use Rattle.edge_expression.proofs.UnitEntries.{tabled, at_tabled, same_tabled, single, joined_plus, joined_minus}
-use Rattle.edge_expression.proofs.EntryTerms.{over_of, IsTerm, term_of}
+use Rattle.edge_expression.proofs.UnitEntries.{tabled, short_if, at_tabled, same_tabled, single, joined_plus, joined_minus}
+use Rattle.edge_expression.proofs.SignedEntries.{all_five}
+use Rattle.edge_expression.proofs.EntryTerms.{over_of, lead, IsTerm, term_of}
+use Rattle.edge_expression.proofs.ShortNumbers.{short_parts}
 use Rattle.edge_expression.proofs.PrintedTerms.{zero_at}
 
 -- each coefficient is in lowest terms, with short parts
@@ -37,10 +39,6 @@ AreShort e = (k : ℕ) → IsShortTerms (terms_at e k)
 -- the coefficients below a power, and 0 from there on
 abbrev pub upto : List Terms → ℕ → ℕ → Terms
 upto e p k = if nat_lt k p then terms_at e k else zero_terms
-
-short_if : (b : Bool) (t : Terms) → IsShortTerms t → IsShortTerms (cond b t zero_terms)
-short_if true t s = s
-short_if false t s = zero_short
 
 upto_short : (e : List Terms) (p k : ℕ) → AreShort e → IsShortTerms (upto e p k)
 unfolding AreShort
@@ -85,19 +83,11 @@ size_short t s =
     let p = s.0.positive in
     (record { positive = omega (arith, ints); num_size = s.0.num_size; den_size = s.0.den_size; reduced = s.0.reduced }, s.1)
 
-both_left : (a b : Bool) → (a && b) ≡ true → a ≡ true
-both_left true b h = refl
-both_left false b h = h
-
-both_right : (a b : Bool) → (a && b) ≡ true → b ≡ true
-both_right true b h = h
-both_right false b h = absurd cc
-
 num_within : (t : Terms) → IsShortTerms t → unsigned_abs t.num ≤ 10 ^ 18
-num_within t s = leb-true (unsigned_abs t.num) (10 ^ 18) (both_left (nat_le (unsigned_abs t.num) (10 ^ 18)) (nat_le (unsigned_abs t.den) (10 ^ 18)) s.1)
+num_within t s = (short_parts t s.1).num
 
 den_within : (t : Terms) → IsShortTerms t → unsigned_abs t.den ≤ 10 ^ 18
-den_within t s = leb-true (unsigned_abs t.den) (10 ^ 18) (both_right (nat_le (unsigned_abs t.num) (10 ^ 18)) (nat_le (unsigned_abs t.den) (10 ^ 18)) s.1)
+den_within t s = (short_parts t s.1).den
 
 coefficient_term : (p : ℕ) (t : Terms) → p ≤ 4 → IsShortTerms t → IsTerm p (absolute t)
 coefficient_term p t h s = subst (IsTerm p) (size_of t s) (term_of p (unsigned_abs t.num) (unsigned_abs t.den) h (num_within t s) (den_within t s) (size_short t s))
@@ -160,9 +150,6 @@ sign_text_is false = refl
 joined_is : (f : Bool) (p : ℕ) (t : Terms) (b : Bool) → is_negative t.num ≡ b → joined_term f p t ≡ joint_text f b ++ term_text p (absolute t)
 unfolding joined_term
 joined_is f p t b h = ap (λ c. joint_text f c ++ term_text p (absolute t)) h
-
-lead : (k : Token) (ks : List Token) (text x : List ℕ) → text ≡ token_text k ++ x → IsSpelt ks x → IsSpelt (k ∷ ks) text
-lead k ks text x e s = record { blanks = []; rest = x; are_blanks = tt; spelt = e; is_rest = s }
 
 piece_text : (f : Bool) (p n : ℕ) (e : List Terms) (b : Bool) → is_zero (terms_at e p) ≡ false → is_negative (terms_at e p).num ≡ b → terms_text f p (suc n) e ≡ joint_text f b ++ (term_text p (absolute (terms_at e p)) ++ terms_text false (suc p) n e)
 piece_text f p n e b z h =
@@ -386,14 +373,7 @@ entry_open e s = open_if (are_zero_below 5 e) (codes "0") (terms_text true 0 5 e
 -- ---- an entry by its coefficients
 
 five : (e : List Terms) → length e ≡ 5 → tabled (upto e 5) ≡ e
-unfolding terms_at
-five [] h = absurd (omega arith)
-five (a ∷ []) h = absurd (omega arith)
-five (a ∷ b ∷ []) h = absurd (omega arith)
-five (a ∷ b ∷ c ∷ []) h = absurd (omega arith)
-five (a ∷ b ∷ c ∷ d ∷ []) h = absurd (omega arith)
-five (a ∷ b ∷ c ∷ d ∷ f ∷ []) h = refl
-five (a ∷ b ∷ c ∷ d ∷ f ∷ g ∷ e) h = absurd (omega arith)
+five e h = same_tabled (upto e 5) (terms_at e) (λ k l. ap (λ b. cond b (terms_at e k) zero_terms) (lt-ltb k 5 l)) ∙ all_five e h
 
 each_short : (xs : List Ratio) → list_all is_short xs ≡ true → AreShort (map terms xs)
 unfolding AreShort terms_at

@@ -37,6 +37,7 @@ use Rattle.edge_expression.specs.EntryValues.{plain_entry, short, sum, differenc
 use Rattle.edge_expression.specs.ExpressionStatements.{moved, power_meant, meaning, and_terms, term_meaning, and_factors, factor_meaning, further_meaning}
 use Rattle.edge_expression.proofs.UnitEntries.{tabled}
 use Rattle.edge_expression.proofs.ShortNumbers.{IsNumber, short_number, sum_number, product_number, difference_number, quotient_number}
+use Rattle.edge_expression.proofs.ShortOperations.{some_number}
 use Rattle.edge_expression.proofs.DecimalValues.{IsOver, body_over}
 
 -- ---- identities of numbers
@@ -296,9 +297,6 @@ number_divisor false false n r z e h = (ltb-false 0 n e, (refl, h))
 divisor_is : (y : List Terms) → ((j : ℕ) → IsReduced (terms_at y j)) → degree y ≤ 0 → terms_value y ≡ value_at y 0
 divisor_is y q d =
     value_by_powers y ∙ rw (none_above y 1 q (omega (arith, d)) (omega arith), none_above y 2 q (omega (arith, d)) (omega arith), none_above y 3 q (omega (arith, d)) (omega arith), none_above y 4 q (omega (arith, d)) (omega arith)) (constant_powers (value_at y 0) epsilon)
-
-some_number : (z : ℤ) → int_eq z (pos 0) ≡ false → z ≢ pos 0
-some_number z h e = let k : int_eq z (pos 0) ≡ true = (Decides-int_eq z (pos 0)).1 e in cc
 
 quotient_at : (x y : List Terms) (k : ℕ) (t : Terms) → ((j : ℕ) → IsReduced (terms_at x j)) → ((j : ℕ) → IsReduced (terms_at y j)) → is_zero (terms_at y 0) ≡ false → quotient (terms_at x k) (terms_at y 0) ≡ Ok t → IsNumber t (value_at x k /ε value_at y 0)
 quotient_at x y k t p q s e = quotient_number (terms_at x k) (terms_at y 0) t (p k).positive (q 0).positive (some_number (terms_at y 0).num s) e

@@ -15,7 +15,7 @@ use Rattle.field_core.specs.Terms.{Terms, IsReduced}
 use Rattle.fraction.specs.Numeral.{AreDigits, Plain, body_text, IsNumeralOf}
 use Rattle.field_core.specs.Texts.{fraction_text}
 use Rattle.fraction.specs.Spelling.{spelling}
-use Rattle.fraction.proofs.ReadBack.{read_back}
+use Rattle.fraction.proofs.ReadBack.{digits_from, read_back}
 use Rattle.edge_expression.specs.EntryValues.{is_short}
 use Rattle.edge_expression.specs.Expressions.{Decimal, Power, Term, Product, MoreFactors, NoFactor, Times, Over, Factor, Number, Other, Further, Epsilon, Token, DecimalToken, WordToken, CaretToken, PowerToken, TimesToken, OverToken, term_tokens, factors_tokens, factor_tokens, token_text, IsSpelt}
 use Rattle.field_core.specs.Steps.{◌>>=◌}
@@ -25,15 +25,11 @@ use Rattle.std.proofs.lemmas.Bool.Decides.{Decides-int_eq}
 use Rattle.case_model.proofs.Holding.{both}
 use Rattle.fraction.specs.Tests.{is_one}
 use Rattle.edge_expression.specs.EntryTexts.{power_text, factor_text, term_text}
-use Rattle.edge_expression.proofs.DecimalValues.{decimal_found}
+use Rattle.edge_expression.proofs.DecimalValues.{decimal_factor, epsilon_factor, decimal_found}
 use Rattle.edge_expression.proofs.UnitOperations.{IsShortTerms, one_terms}
 use Rattle.edge_expression.proofs.UnitEntries.{tabled, single, power_is, times_power, over_parts}
 
 -- ---- whole numbers
-
-digits_from : (ds : List ℕ) → AllDigits 10 ds → AreDigits ds
-digits_from [] h = tt
-digits_from (d ∷ ds) h = let r = digit_from_value d h.0 in (r.0, r.1, digits_from ds h.1)
 
 -- a number of at most 10^18 as a decimal
 whole : (n : ℕ) → n ≤ 10 ^ 18 → Decimal
@@ -75,7 +71,7 @@ whole_value n h = decimal_found (whole n h) (decimal n) (number_of n) (sym (whol
 
 -- ---- tokens one behind the other
 
-lead : (k : Token) (ks : List Token) (text x : List ℕ) → text ≡ token_text k ++ x → IsSpelt ks x → IsSpelt (k ∷ ks) text
+pub lead : (k : Token) (ks : List Token) (text x : List ℕ) → text ≡ token_text k ++ x → IsSpelt ks x → IsSpelt (k ∷ ks) text
 lead k ks text x e s = record { blanks = []; rest = x; are_blanks = tt; spelt = e; is_rest = s }
 
 whole_first : (n : ℕ) (h : n ≤ 10 ^ 18) (ks : List Token) (x : List ℕ) → IsSpelt ks x → IsSpelt (DecimalToken (whole n h) ∷ ks) (decimal n ++ x)
@@ -93,12 +89,8 @@ record IsFront (text : List ℕ) (c : Terms) : Type 0 where
   spelt : (fs : MoreFactors) (more : List Token) (x : List ℕ) → IsSpelt (factors_tokens fs more) x → IsSpelt (factor_tokens first (factors_tokens (before fs) more)) (text ++ x)
   worth : (fs : MoreFactors) → (factor_value first >>= λ v. with_factors v (before fs)) ≡ with_factors (plain_entry c) fs
 
-factor_number : (d : Decimal) → factor_value (Number d) ≡ decimal_value d
-unfolding factor_value
-factor_number d = refl
-
 alone_worth : (n : ℕ) (h : n ≤ 10 ^ 18) (fs : MoreFactors) → (factor_value (Number (whole n h)) >>= λ v. with_factors v fs) ≡ with_factors (plain_entry (number_of n)) fs
-alone_worth n h fs = rw (factor_number (whole n h), whole_value n h) refl
+alone_worth n h fs = rw (decimal_factor (whole n h), whole_value n h) refl
 
 over_next : (v : List Terms) (f : Factor) (fs : MoreFactors) → with_factors v (Over f fs) ≡ (factor_value f >>= λ x. over v x >>= λ l. with_factors l fs)
 unfolding with_factors
@@ -117,7 +109,7 @@ unfolding number_of
 over_is m d s = over_parts (over_of m d) s
 
 pair_worth : (m d : ℕ) (h : m ≤ 10 ^ 18) (k : d ≤ 10 ^ 18) (fs : MoreFactors) → IsShortTerms (over_of m d) → (factor_value (Number (whole m h)) >>= λ v. with_factors v (Over (Number (whole d k)) fs)) ≡ with_factors (plain_entry (over_of m d)) fs
-pair_worth m d h k fs s = rw (factor_number (whole m h), whole_value m h, over_next (plain_entry (number_of m)) (Number (whole d k)) fs, factor_number (whole d k), whole_value d k, over_is m d s) refl
+pair_worth m d h k fs s = rw (decimal_factor (whole m h), whole_value m h, over_next (plain_entry (number_of m)) (Number (whole d k)) fs, decimal_factor (whole d k), whole_value d k, over_is m d s) refl
 
 ap_spelt : (ks : List Token) (m : ℕ) (h : m ≤ 10 ^ 18) (x : List ℕ) → IsSpelt ks x → IsSpelt (DecimalToken (whole m h) ∷ ks) ((decimal m ++ []) ++ x)
 ap_spelt ks m h x t = subst (λ y. IsSpelt (DecimalToken (whole m h) ∷ ks) (y ++ x)) (sym (append-nil (decimal m))) (whole_first m h ks x t)
@@ -168,10 +160,6 @@ record IsPower (p : ℕ) : Type 0 where
   spelt : (more : List Token) (x : List ℕ) → IsSpelt more x → IsSpelt (factor_tokens (Other further) more) (power_text p ++ x)
   worth : factor_value (Other further) ≡ Ok (tabled (single p one_terms))
 
-epsilon_is : (power : Option Power) → factor_value (Other (Epsilon power)) ≡ epsilon_value power
-unfolding factor_value
-epsilon_is power = refl
-
 text_by : (p : ℕ) (b : Bool) → eqb p 1 ≡ b → power_text p ≡ cond b (codes "\\epsilon") (codes "\\epsilon^" ++ ((48 + p) ∷ []))
 text_by p b e = ap (λ c. cond c (codes "\\epsilon") (codes "\\epsilon^" ++ ((48 + p) ∷ []))) e
 
@@ -189,8 +177,8 @@ power_by : (p : ℕ) (b : Bool) → eqb p 1 ≡ b → p ≤ 4 → IsPower p
 unfolding power_of
 power_by p true e h =
     let one : p ≡ 1 = eqb-true p 1 e in
-    record { further = Epsilon None; spelt = λ more x t. first_spelt p e more x t; worth = epsilon_is None ∙ ap power_value (sym one) ∙ power_is p h }
-power_by p false e h = record { further = Epsilon (Some (power_of p h)); spelt = λ more x t. other_spelt p h e more x t; worth = epsilon_is (Some (power_of p h)) ∙ power_is p h }
+    record { further = Epsilon None; spelt = λ more x t. first_spelt p e more x t; worth = epsilon_factor None ∙ ap power_value (sym one) ∙ power_is p h }
+power_by p false e h = record { further = Epsilon (Some (power_of p h)); spelt = λ more x t. other_spelt p h e more x t; worth = epsilon_factor (Some (power_of p h)) ∙ power_is p h }
 
 power : (p : ℕ) → p ≤ 4 → IsPower p
 power p h = power_by p (eqb p 1) refl h

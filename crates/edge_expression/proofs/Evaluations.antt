@@ -19,6 +19,7 @@ use Rattle.edge_expression.specs.EntryView.{map_value, polynomial_terms, applied
 use Rattle.edge_expression.specs.CursorView.{SignTaken, JointTaken, HeadTaken, PowerTaken, CloseTaken, EndsExpression, EndsTerm, Evaluates, IsHead, SumGives, ProductGives, FactorGives}
 use Rattle.text_lines.specs.Words.{after_blanks}
 use Rattle.edge_expression.proofs.TakenTokens.{sign_operation, first_operation, first_sign, next_term, no_term, terms_end, factors_end, next_factor, no_factor, head_is, power_is, close_is}
+use Rattle.edge_expression.proofs.DecimalValues.{decimal_factor, epsilon_factor}
 
 -- ---- faults
 
@@ -216,24 +217,16 @@ product_done entry old new product goes h t more ends x =
 
 -- ---- factors
 
-decimal_value_is : (d : Decimal) → factor_value (Number d) ≡ decimal_value d
-unfolding factor_value
-decimal_value_is d = refl
-
 pub decimal_gives : (text : Bor (List ℕ)) (old : List ℕ) (r : Result Polynomial ExprFault) → ((d : Decimal) → text.now ≡ body_text d.body → map_value polynomial_terms r ≡ decimal_value d) → FactorGives (heads.Decimal text) old r old
 unfolding FactorGives IsHead
-decimal_gives text old r v (Number d) more ends h = (v d h.0 ∙ sym (decimal_value_is d), λ _. h.1)
+decimal_gives text old r v (Number d) more ends h = (v d h.0 ∙ sym (decimal_factor d), λ _. h.1)
 decimal_gives text old r v (Other (Epsilon power)) more ends h = absurd h
 decimal_gives text old r v (Other (Parens inner)) more ends h = absurd h
-
-epsilon_value_is : (power : Option Power) → factor_value (Other (Epsilon power)) ≡ epsilon_value power
-unfolding factor_value
-epsilon_value_is power = refl
 
 pub epsilon_gives : (n : ℕ) (old new : List ℕ) (r : Result Polynomial ExprFault) → PowerTaken n old new → map_value polynomial_terms r ≡ power_value n → FactorGives heads.Epsilon old r new
 unfolding FactorGives IsHead
 epsilon_gives n old new r taken v (Number d) more ends h = absurd h
-epsilon_gives n old new r taken v (Other (Epsilon power)) more ends h = let p = power_is n power more old new ends taken h in (v ∙ p.0 ∙ sym (epsilon_value_is power), λ _. p.1)
+epsilon_gives n old new r taken v (Other (Epsilon power)) more ends h = let p = power_is n power more old new ends taken h in (v ∙ p.0 ∙ sym (epsilon_factor power), λ _. p.1)
 epsilon_gives n old new r taken v (Other (Parens inner)) more ends h = absurd h
 
 parens_value_is : (inner : Expression) → factor_value (Other (Parens inner)) ≡ value inner
@@ -268,8 +261,8 @@ unwrapped None = refl
 unwrapped (Some op) = refl
 
 -- what is made of 0 and the first term
-pub applied_first : (taken : Option Operation) (op : Operation) (z x : List Terms) (r : Result (List Terms) ExprFault) → op ≡ unwrap_or taken operations.Add → z ≡ zero_coefficients → r ≡ applied op z x → r ≡ applied (first_operation taken) zero_coefficients x
-applied_first taken op z x r e f g = g ∙ ap (λ o. applied o z x) (e ∙ unwrapped taken) ∙ ap (λ y. applied (first_operation taken) y x) f
+pub applied_first : (taken : Option Operation) (op : Operation) (x : List Terms) (r : Result (List Terms) ExprFault) → op ≡ unwrap_or taken operations.Add → r ≡ applied op zero_coefficients x → r ≡ applied (first_operation taken) zero_coefficients x
+applied_first taken op x r e g = g ∙ ap (λ o. applied o zero_coefficients x) (e ∙ unwrapped taken)
 
 -- what a text is worth that spells an expression
 pub sum_worth : (old text new : List ℕ) (r : Result Polynomial ExprFault) (e : Expression) → old ≡ text → SumGives old r new → Spells text e → map_value polynomial_terms r ≡ value e

@@ -21,6 +21,7 @@ pub mod ReadExpressions
 pub mod ScannedTexts
 pub mod ShortNumbers
 pub mod ShortOperations
+pub mod SignedEntries
 pub mod SpeltTokens
 pub mod TakenTokens
 pub mod UnitEntries

@@ -4,8 +4,8 @@ use Rattle.std.specs.Int.{is_negative}
 use Rattle.std.proofs.lemmas.Int.{ints}
 use Rattle.field_core.specs.Divisor.{gcd}
 use Rattle.field_core.specs.Terms.{Terms, IsReduced}
-use Rattle.field_core.specs.Laws.Integers.{integers}
-use Rattle.field_core.specs.Laws.Ring.{negate_multiply, multiply_negate, negate_negate}
+use Rattle.field_core.specs.Laws.Integers.{integers, int_negate_multiply}
+use Rattle.field_core.specs.Laws.Ring.{multiply_negate, negate_negate}
 use Rattle.fraction.specs.Numeral.{Same}
 use Rattle.fraction.specs.Lowest.{differ, lowest_of, lowest_terms}
 use Rattle.fraction.specs.Laws.Order.{AreLowest, lowest_unique, lowest_from}
@@ -25,13 +25,9 @@ are_lowest n d some =
 
 -- ---- signs of both parts
 
-pub negate_left : (a b : ℤ) → neg_ℤ a *ℤ b ≡ neg_ℤ (a *ℤ b)
+pub int_multiply_negate : (a b : ℤ) → a *ℤ neg_ℤ b ≡ neg_ℤ (a *ℤ b)
 unfolding integers
-negate_left = negate_multiply integers
-
-pub negate_right : (a b : ℤ) → a *ℤ neg_ℤ b ≡ neg_ℤ (a *ℤ b)
-unfolding integers
-negate_right = multiply_negate integers
+int_multiply_negate = multiply_negate integers
 
 negate_twice : (a : ℤ) → neg_ℤ (neg_ℤ a) ≡ a
 unfolding integers
@@ -39,10 +35,10 @@ negate_twice = negate_negate integers
 
 -- the value of two parts is that of their opposites
 pub turned : (x : Terms) (n d : ℤ) → Same x (record { num = n; den = neg_ℤ d }) → Same x (record { num = neg_ℤ n; den = d })
-turned x n d h = sym (negate_twice (x.num *ℤ d)) ∙ ap neg_ℤ (sym (negate_right x.num d) ∙ h) ∙ sym (negate_left n x.den)
+turned x n d h = sym (negate_twice (x.num *ℤ d)) ∙ ap neg_ℤ (sym (int_multiply_negate x.num d) ∙ h) ∙ sym (int_negate_multiply n x.den)
 
 pub turned_back : (x : Terms) (n d : ℤ) → Same x (record { num = neg_ℤ n; den = d }) → Same x (record { num = n; den = neg_ℤ d })
-turned_back x n d h = negate_right x.num d ∙ ap neg_ℤ (h ∙ negate_left n x.den) ∙ negate_twice (n *ℤ x.den)
+turned_back x n d h = int_multiply_negate x.num d ∙ ap neg_ℤ (h ∙ int_negate_multiply n x.den) ∙ negate_twice (n *ℤ x.den)
 
 -- two fractions of one value
 same_over : (x y : Terms) (n d : ℤ) → d ≢ pos 0 → Same x (record { num = n; den = d }) → Same y (record { num = n; den = d }) → Same x y

@@ -6,6 +6,7 @@ use Rattle.std.proofs.lemmas.Bool.{cases_lt}
 use Rattle.field_core.specs.Terms.{Terms}
 use Rattle.fraction.specs.Tests.{is_zero}
 use Rattle.case_model.specs.Sums.{terms_at}
+use Rattle.case_model.proofs.Holding.{both}
 use Rattle.field_core.specs.Texts.{IsBegun}
 use Rattle.edge_expression.specs.EntryTexts.{joined_term, terms_text, are_zero_below, coefficients_text}
 
@@ -76,20 +77,12 @@ next_some old out new f p t e i h same z put =
 
 -- ---- an entry with a coefficient that isn't 0
 
-both_left : (a b : Bool) → (a && b) ≡ true → a ≡ true
-both_left true b h = refl
-both_left false b h = h
-
-both_right : (a b : Bool) → (a && b) ≡ true → b ≡ true
-both_right true b h = h
-both_right false b h = absurd cc
-
 pub zero_at : (n p : ℕ) (e : List Terms) → p < n → are_zero_below n e ≡ true → is_zero (terms_at e p) ≡ true
 unfolding are_zero_below
 zero_at zero p e h a = absurd (omega arith)
 zero_at (suc n) p e h a = elim (cases_lt p n) [
-  | inl lt ↦ zero_at n p e lt (both_left (are_zero_below n e) (is_zero (terms_at e n)) a)
-  | inr ge ↦ let same : p ≡ n = omega (arith, h, ge) in ap (λ k. is_zero (terms_at e k)) same ∙ both_right (are_zero_below n e) (is_zero (terms_at e n)) a
+  | inl lt ↦ zero_at n p e lt (both (are_zero_below n e) (is_zero (terms_at e n)) a).left
+  | inr ge ↦ let same : p ≡ n = omega (arith, h, ge) in ap (λ k. is_zero (terms_at e k)) same ∙ (both (are_zero_below n e) (is_zero (terms_at e n)) a).right
 ]
 
 some_entry : (e : List Terms) (p : ℕ) (b : Bool) → are_zero_below 5 e ≡ b → p < 5 → is_zero (terms_at e p) ≡ false → coefficients_text e ≡ terms_text true 0 5 e

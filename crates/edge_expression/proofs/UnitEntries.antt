@@ -96,7 +96,7 @@ unfolding degree_within
 degree_most zero x = omega arith
 degree_most (suc n) x = most_by (is_zero (terms_at x (suc n))) n (degree_within n x) (degree_most n x)
 
-short_if : (b : Bool) (t : Terms) → IsShortTerms t → IsShortTerms (cond b t zero_terms)
+pub short_if : (b : Bool) (t : Terms) → IsShortTerms t → IsShortTerms (cond b t zero_terms)
 short_if true t s = s
 short_if false t s = zero_short
 

@@ -32,7 +32,7 @@ fn sum(cursor: &mut Cursor) -> Result<Polynomial, ExprFault>
 {
     let sign = cursor.take_sign().unwrap_or(Operation::Add);
     let first = product(cursor)?;
-    let mut sum = Polynomial::zero().apply(sign, &first)?;
+    let mut sum = first.signed(sign)?;
     while let Some(sign) = cursor.take_sign() {
         let term = product(cursor)?;
         sum = sum.apply(sign, &term)?;

@@ -132,6 +132,20 @@ impl Polynomial {
         coefficients(Operation::Divide, self, other)
     }
 
+    /// The polynomial, added to 0 or taken away from it.
+    #[tactic(auto, unfolding(crate::specs::EntryView::applied))]
+    pub fn signed(&self, sign: Operation) -> Result<Polynomial, ExprFault>
+        ensures { map_value polynomial_terms result ≡ applied sign zero_coefficients (polynomial_terms self.now) }
+    {
+        match sign {
+            Operation::Add => {
+                let [constant, first, second, third, fourth] = self.coefficients;
+                Ok(Polynomial::of([constant, first, second, third, fourth]))
+            }
+            _ => Polynomial::zero().apply(sign, self),
+        }
+    }
+
     /// The polynomial with another one added, taken away, multiplied or divided.
     #[tactic(auto, unfolding(crate::specs::EntryView::applied, crate::specs::EntryValues::joined))]
     pub fn apply(&self, operation: Operation, other: &Polynomial) -> Result<Polynomial, ExprFault>

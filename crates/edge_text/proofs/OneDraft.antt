@@ -9,13 +9,7 @@ use Rattle.case_model.specs.Names.{position_of}
 use Rattle.text_lines.specs.Words.{behind_words}
 use Rattle.edge_text.specs.Grammar.{Words, Says, IsAlphaLine, IsNamesLine, IsWeightsLine, IsEdgeLine, optional, GivesP, one_component, IsDocument}
 use Rattle.edge_expression.proofs.OneEntry.{one_entry}
-use Rattle.edge_text.proofs.LineWords.{tails, one_word, same_ends, keywords_differ, one_saying, same_numbers}
-
-lines_heads : (x y : List ℕ) (xs ys : List (List ℕ)) → x ∷ xs ≡ y ∷ ys → x ≡ y
-lines_heads x y xs ys e = cc
-
-lines_tails : (x y : List ℕ) (xs ys : List (List ℕ)) → x ∷ xs ≡ y ∷ ys → xs ≡ ys
-lines_tails x y xs ys e = cc
+use Rattle.edge_text.proofs.LineWords.{heads, tails, one_word, same_ends, keywords_differ, one_saying, same_numbers}
 
 one_level : (line : List ℕ) (x y : Ratio) → IsAlphaLine line x → IsAlphaLine line y → x ≡ y
 one_level line x y a b = one_saying b.numeral x y (subst (λ n. Says n x) (one_word (codes "alpha") a.numeral b.numeral (sym a.words ∙ b.words)) a.says) b.says
@@ -55,12 +49,12 @@ p_apart : (line : List ℕ) (p : List (Option Ratio)) (values : List Ratio) → 
 p_apart line p values g w = keywords_differ _ _ (sym g.1.numbers.words ∙ w.words)
 
 split_once : (p q : Option (List ℕ)) (x y : List (Option Ratio)) (v w : List ℕ) (s t : List Ratio) (ls ms : List (List ℕ)) → GivesP p x → GivesP q y → IsWeightsLine v s → IsWeightsLine w t → optional p ++ v ∷ ls ≡ optional q ++ w ∷ ms → SameSplit p q v w ls ms
-split_once None None x y v w s t ls ms g h a b e = record { given = refl; line = lines_heads _ _ _ _ e; rest = lines_tails _ _ _ _ e }
-split_once None (Some m) x y v w s t ls ms g h a b e = absurd (p_apart m y s h (subst (λ l. IsWeightsLine l s) (lines_heads v m _ _ e) a))
-split_once (Some l) None x y v w s t ls ms g h a b e = absurd (p_apart l x t g (subst (λ l. IsWeightsLine l t) (lines_heads w l _ _ (sym e)) b))
+split_once None None x y v w s t ls ms g h a b e = record { given = refl; line = heads _ _ _ _ e; rest = tails _ _ _ _ e }
+split_once None (Some m) x y v w s t ls ms g h a b e = absurd (p_apart m y s h (subst (λ l. IsWeightsLine l s) (heads v m _ _ e) a))
+split_once (Some l) None x y v w s t ls ms g h a b e = absurd (p_apart l x t g (subst (λ l. IsWeightsLine l t) (heads w l _ _ (sym e)) b))
 split_once (Some l) (Some m) x y v w s t ls ms g h a b e =
-    let more = lines_tails l m (v ∷ ls) (w ∷ ms) e in
-    record { given = ap Some (lines_heads l m _ _ e); line = lines_heads _ _ _ _ more; rest = lines_tails _ _ _ _ more }
+    let more = tails l m (v ∷ ls) (w ∷ ms) e in
+    record { given = ap Some (heads l m _ _ e); line = heads _ _ _ _ more; rest = tails _ _ _ _ more }
 
 same_given : (line : Option (List ℕ)) (x y : List (Option Ratio)) → GivesP line x → GivesP line y → x ≡ y
 same_given None x y g h = g ∙ sym h
@@ -72,10 +66,10 @@ draft_by d e n a p c s = λ i. record { names = n i; alpha = a i; p = p i; compo
 pub one_document : (lines : List (List ℕ)) (d e : Draft) → IsDocument lines d → IsDocument lines e → d ≡ e
 one_document lines d e h k =
     let spelt = sym h.spelt ∙ k.spelt in
-    let behind = lines_tails _ _ _ _ spelt in
-    let split = split_once h.p_line k.p_line d.p e.p h.weights_line k.weights_line h.weights k.weights h.edge_lines k.edge_lines h.p k.p h.weights_are k.weights_are (lines_tails _ _ _ _ behind) in
-    let alpha = one_level k.alpha_line d.alpha e.alpha (subst (λ l. IsAlphaLine l d.alpha) (lines_heads _ _ _ _ spelt) h.alpha) k.alpha in
-    let names : d.names ≡ e.names = same_names k.names_line d.names e.names (subst (λ l. IsNamesLine l d.names) (lines_heads _ _ _ _ behind) h.names) k.names in
+    let behind = tails _ _ _ _ spelt in
+    let split = split_once h.p_line k.p_line d.p e.p h.weights_line k.weights_line h.weights k.weights h.edge_lines k.edge_lines h.p k.p h.weights_are k.weights_are (tails _ _ _ _ behind) in
+    let alpha = one_level k.alpha_line d.alpha e.alpha (subst (λ l. IsAlphaLine l d.alpha) (heads _ _ _ _ spelt) h.alpha) k.alpha in
+    let names : d.names ≡ e.names = same_names k.names_line d.names e.names (subst (λ l. IsNamesLine l d.names) (heads _ _ _ _ behind) h.names) k.names in
     let p = same_given k.p_line d.p e.p (subst (λ l. GivesP l d.p) split.given h.p) k.p in
     let weights = same_numbers (codes "weights") k.weights_line h.weights k.weights (subst (λ l. IsWeightsLine l h.weights) split.line h.weights_are) k.weights_are in
     let moved = subst (λ ls. AllZip (IsEdgeLine d.names) ls h.edges) split.rest h.edges_are in

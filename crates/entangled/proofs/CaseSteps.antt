@@ -1,18 +1,20 @@
 -- The run of a case is the run of its bundle.
-use Rattle.std.proofs.Common.{◌≡◌, refl, ap, ◌∙◌, ℕ, List, [], ◌∷◌, length, map, Result, Ok, Err}
-use Rattle.field_core.specs.Kind.{ok_map}
+use Rattle.std.proofs.Common.{◌≡◌, refl, sym, ap, ◌∙◌, ℕ, List, [], ◌∷◌, length, map, Result, Ok, Err}
+use Rattle.field_core.specs.Kind.{Kind, ok_map}
 use Rattle.field_core.specs.Steps.{◌>>=◌}
-use Rattle.field_core.specs.Laws.Prefixes.{bind_ok}
+use Rattle.field_core.specs.Laws.Prefixes.{bind_ok, ok_same}
+use Rattle.field_core.specs.declared.place.Wide.{Wide}
 use Rattle.field_core.specs.declared.place.WideAt.{WideAt}
 use Rattle.case_model.specs.Content.{Content}
 use Rattle.case_numbers.specs.Numbers.{Numbers, numbers_of, kind_of}
+use Rattle.removal.specs.StoredGraph.{StoredGraph}
 use Rattle.removal.specs.InTurn.{removed_in_turn}
 use Rattle.removal.proofs.WeightsLeft.{turn_end, turn_none, turn_on, turn_first}
-use Rattle.entangled.specs.Bundled.{Bundled, removed}
+use Rattle.entangled.specs.Bundled.{Bundled, removed, removed_together, written_levels}
 use Rattle.entangled.specs.BundleRun.{opened_after}
 use Rattle.entangled.specs.States.{state_in, graph_in, removal_in}
 use Rattle.entangled.specs.Loading.{loaded_states}
-use Rattle.entangled.specs.CaseRun.{CaseState, state_of, opening_in, case_opening, case_removal}
+use Rattle.entangled.specs.CaseRun.{CaseState, state_of, opening_in, case_opening, case_numbers, case_shares, case_removal}
 use Rattle.entangled.specs.CaseAfter.{case_after}
 
 -- what a good result was seen from
@@ -36,6 +38,23 @@ module _ (n : Numbers) where
       let d = one_step b j r.0 r.1.0 in
       let rest = in_turn js d.0 s (ap (λ t. removed_in_turn case_removal t js) d.1.1 ∙ r.1.1) in
       (rest.0, (turn_on step b d.0 rest.0 j js d.1.0 rest.1.0, rest.1.1))
+
+-- no removal changes the numbers and the shares
+shares_stay : {S : Type 0} (K : Kind) (graph : S → StoredGraph) (removal : S → ℕ → Result S Wide) (b d : Bundled S) (j : ℕ) → removed K graph removal b j ≡ Ok d → d.shares ≡ b.shares
+unfolding removed
+shares_stay K graph removal b d j h =
+    let a = bind_ok (removed_together removal b.states j) _ d h in
+    let l = bind_ok (written_levels K graph a.0 b.shares) _ d a.1.1 in
+    let same : record { states = a.0; shares = b.shares; levels = l.0 } ≡ d = ok_same (Ok d) _ d (sym l.1.1) refl in
+    ap (λ d. d.shares) (sym same)
+
+pub numbers_stay : (s t : CaseState) (j : ℕ) → case_removal s j ≡ Ok t → case_numbers t ≡ case_numbers s
+numbers_stay (state_of n b) t j h = ap case_numbers (sym (one_step n b j t h).1.1)
+
+pub case_shares_stay : (s t : CaseState) (j : ℕ) → case_removal s j ≡ Ok t → case_shares t ≡ case_shares s
+case_shares_stay (state_of n b) t j h =
+    let d = one_step n b j t h in
+    ap case_shares (sym d.1.1) ∙ shares_stay (kind_of n) (graph_in n) (removal_in n) b d.0 j d.1.0
 
 -- the run of the bundle of a case
 pub record IsRunOf (c : Content) (js : List ℕ) (s : CaseState) : Type 0 where

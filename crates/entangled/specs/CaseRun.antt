@@ -1,6 +1,7 @@
 -- The written run of a case: its opening, and removals.
-use Rattle.std.specs.Prelude.{ℕ, Bool, map, length, Result}
+use Rattle.std.specs.Prelude.{ℕ, List, Bool, map, length, Result}
 use Rattle.field_core.specs.Terms.{Terms}
+use Rattle.field_core.specs.declared.ratio.Ratio.{Ratio}
 use Rattle.field_core.specs.Kind.{ok_map}
 use Rattle.field_core.specs.Steps.{◌>>=◌}
 use Rattle.field_core.specs.declared.place.WideAt.{WideAt}
@@ -39,6 +40,14 @@ is_live_in_case (state_of n b) k = is_live (graph_in n) b k
 -- the level of `k`
 abbrev pub case_level : CaseState → ℕ → Terms
 case_level (state_of n b) k = level b k
+
+-- the numbers that it is run in
+abbrev pub case_numbers : CaseState → Numbers
+case_numbers (state_of n b) = n
+
+-- the shares of the components
+abbrev pub case_shares : CaseState → List Ratio
+case_shares (state_of n b) = b.shares
 
 -- the shared sum of `k`
 abbrev pub case_share : CaseState → ℕ → Result Terms WideAt

@@ -78,6 +78,13 @@ impl<R: Remover> Bundle<R> {
         self.nets[0].size()
     }
 
+    /// The number of nets.
+    pub fn components(&self) -> usize
+        ensures { result ≡ length (bundled self.now).states }
+    {
+        self.nets.len()
+    }
+
     /// Whether `k`, a position below the size, is still in.
     pub fn is_live(&self, k: usize) -> bool
         requires { k < size R.graph (bundled self.now) }
@@ -116,10 +123,9 @@ impl<R: Remover> Bundle<R> {
         std::mem::swap(&mut self.levels, &mut self.next_levels);
         Ok(())
     }
-    /// Makes this bundle that of `other`, which has the same size, as many nets and equal shares. Nothing is prepared then.
+    /// Makes this bundle that of `other`, which has the same size and equal shares.
     pub fn set_to(&mut self, other: &Bundle<R>)
         requires size { size R.graph (bundled self.old) ≡ size R.graph (bundled other.now) }
-        requires nets { length (bundled self.old).states ≡ length (bundled other.now).states }
         requires shares { (bundled self.old).shares ≡ (bundled other.now).shares }
         ensures { bundled self.new ≡ bundled other.now }
     {

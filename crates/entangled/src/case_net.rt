@@ -50,7 +50,7 @@ impl CaseNet {
     ghost use Rattle.case_model.specs.Content.{is_plain};
     ghost use Rattle.case_model.specs.CaseView.{content};
     ghost use Rattle.entangled.specs.CaseNetView.{case_state, is_of_fractions};
-    ghost use Rattle.entangled.specs.CaseRun.{case_opening, case_size, is_live_in_case, case_level, case_share, case_removal};
+    ghost use Rattle.entangled.specs.CaseRun.{case_opening, case_numbers, case_size, is_live_in_case, case_level, case_share, case_shares, case_removal};
     ghost use Rattle.entangled.specs.Opening.{Opens};
 
     /// The nets of a case, with all hypotheses in: of fractions where the case is plain, and of quotients in epsilon where it
@@ -113,6 +113,19 @@ impl CaseNet {
         match self {
             CaseNet::Plain(bundle) => bundle.remove(j),
             CaseNet::Eps(bundle) => bundle.remove(j),
+        }
+    }
+    /// Makes these nets those of `other`, which are of the same numbers, with the same size and equal shares.
+    pub fn set_to(&mut self, other: &CaseNet)
+        requires numbers { case_numbers (case_state self.old) ≡ case_numbers (case_state other.now) }
+        requires size { case_size (case_state self.old) ≡ case_size (case_state other.now) }
+        requires shares { case_shares (case_state self.old) ≡ case_shares (case_state other.now) }
+        ensures { case_state self.new ≡ case_state other.now }
+    {
+        match (self, other) {
+            (CaseNet::Plain(bundle), CaseNet::Plain(other)) => bundle.set_to(other),
+            (CaseNet::Eps(bundle), CaseNet::Eps(other)) => bundle.set_to(other),
+            _ => unreachable!(),
         }
     }
 }

@@ -15,7 +15,7 @@ IsOf classes.Mark b = (b ≡ 101) ⊎ (b ≡ 69)
 IsOf classes.Slash b = b ≡ 47
 IsOf classes.Other b = Unit {0}
 
-either : (b m n : ℕ) → (eqb b m || eqb b n) ≡ true → (b ≡ m) ⊎ (b ≡ n)
+pub either : (b m n : ℕ) → (eqb b m || eqb b n) ≡ true → (b ≡ m) ⊎ (b ≡ n)
 either b m n h = elim (or_cases (eqb b m) (eqb b n) h) [ inl e ↦ inl (eqb-true b m e) | inr e ↦ inr (eqb-true b n e) ]
 
 pub digit_in : (b : ℕ) → is_ascii_digit b ≡ true → (48 ≤ b) × (b ≤ 57)

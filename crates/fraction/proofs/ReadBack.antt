@@ -20,7 +20,7 @@ use Rattle.fraction.proofs.Zeros.{length_without_le, trailing_le}
 
 -- ---- decimal digits
 
-digits_from : (ds : List ℕ) → AllDigits 10 ds → AreDigits ds
+pub digits_from : (ds : List ℕ) → AllDigits 10 ds → AreDigits ds
 digits_from [] h = tt
 digits_from (d ∷ ds) h = let r = digit_from_value d h.0 in (r.0, r.1, digits_from ds h.1)
 

@@ -18,7 +18,7 @@ use Rattle.sequential.specs.declared.decision.StepLine.{StepLine}
 use Rattle.sequential.specs.declared.decision.Decision.{Decision}
 use Rattle.sequential.specs.Decisions.{IsNext, IsDecisionWith, hypotheses}
 use Rattle.sequential.specs.declared.priority.Priority.{Priority}
-use Rattle.sequential.specs.declared.priority.Priority.TheVariants.{First, Last, Ratio}
+use Rattle.sequential.specs.declared.priority.Priority.TheVariants.{First, Last, Ratio as ByRatio}
 use Rattle.report.specs.TestReport.{AreOfCase}
 use Rattle.report.specs.ReportStatements.{DecisionsAreOfTheirCases}
 
@@ -31,7 +31,7 @@ module _ (E : EntangledGraph) (p : ℕ → Number) (level : Number) where
   next_below : (priority : Priority) (I : ℕ → Bool) (j : ℕ) → IsNext E p level priority I j → j < E.hypotheses
   next_below First I j h = h.allowed.member.below
   next_below Last I j h = h.allowed.member.below
-  next_below Ratio I j h = h.legal.member.below
+  next_below ByRatio I j h = h.legal.member.below
 
   steps_below : (priority : Priority) (I : ℕ → Bool) (xs : List StepLine) → IsOrderBy (IsNext E p level priority) I (hypotheses xs) → All (IsBelow E.hypotheses) xs
   steps_below priority I [] h = All-nil (IsBelow E.hypotheses)

@@ -105,12 +105,12 @@ pub sum-returns-in_err-sum-clause-value : goal.sum-returns-in_err-sum-clause-val
 sum-returns-in_err-sum-clause-value t c =
     let p = err_from_is_err_and c.from_residual-in_err-sum.result c.from_residual-in_err-sum.ensures.1 in
     let f = c.in_err-sum.field-0.0 in
-    let a = applied_first c.take_sign.result c.unwrap_or-sign.result (polynomial_terms c.zero.result) (polynomial_terms c.in_ok-first.first) _ c.unwrap_or-sign.ensures c.zero.ensures c.in_err-sum.ensures in
+    let a = applied_first c.take_sign.result c.unwrap_or-sign.result (polynomial_terms c.in_ok-first.first) _ c.unwrap_or-sign.ensures c.in_err-sum.ensures in
     first_refused c.take_sign.result c.args.cursor.now.rest.now c.take_sign.new.self.rest.now c.product.new.cursor.rest.now c.product.new.cursor.rest.now c.in_ok-first.first f c.from_residual-in_err-sum.result (err_as c.from_residual-in_err-sum.result p.0 f p.1 p.2) c.take_sign.ensures c.in_ok-first.ensures.value a
 
 pub sum-loop-sign-init : goal.sum-loop-sign-init
 sum-loop-sign-init t c =
-    let a = applied_first c.take_sign.result c.unwrap_or-sign.result (polynomial_terms c.zero.result) (polynomial_terms c.in_ok-first.first) _ c.unwrap_or-sign.ensures c.zero.ensures c.in_ok-sum.ensures in
+    let a = applied_first c.take_sign.result c.unwrap_or-sign.result (polynomial_terms c.in_ok-first.first) _ c.unwrap_or-sign.ensures c.in_ok-sum.ensures in
     record {
       goes = first_goes c.take_sign.result c.args.cursor.now.rest.now c.take_sign.new.self.rest.now c.product.new.cursor.rest.now c.in_ok-first.first (polynomial_terms c.in_ok-sum.sum) c.take_sign.ensures c.in_ok-first.ensures.value a;
       shorter = omega (arith, c.in_ok-first.ensures.shorter, sign_no_longer c.take_sign.result c.args.cursor.now.rest.now c.take_sign.new.self.rest.now c.take_sign.ensures);
