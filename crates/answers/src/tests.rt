@@ -16,10 +16,16 @@ fn list_of<T: Copy>(alloc: Global, items: &[T]) -> Result<List<T>, NoMemory> {
 #[test]
 fn too_many_bytes(rt: HostRuntime) -> Result<(), Fail> {
     let refusal = bytes_refusal(rt.alloc(), b"", 4_194_305)?;
-    assert_eq!(rt; refusal.line.as_slice(), b"limit: bytes 4194305\n".as_slice());
+    assert_eq!(rt;
+        refusal.line.as_slice(),
+        b"limit: bytes 4194305\n".as_slice()
+    );
     assert_eq!(rt; refusal.cause, Cause::Limit);
     let refusal = bytes_refusal(rt.alloc(), b"proof ", 4_194_305)?;
-    assert_eq!(rt; refusal.line.as_slice(), b"limit: proof bytes 4194305\n".as_slice());
+    assert_eq!(rt;
+        refusal.line.as_slice(),
+        b"limit: proof bytes 4194305\n".as_slice()
+    );
     Ok(())
 }
 

@@ -1,5 +1,5 @@
 -- Names, and what stands behind them.
-use Rattle.std.proofs.Common.{Bool, true, false, ◌==◌, if◌then◌else◌, ◌≡◌, ◌≢◌, ◌<◌, ◌≤◌, ◌+◌, ℕ, zero, suc, List, [], ◌∷◌, ◌++◌, length, take, drop, get_or, refl, sym, ap, ◌∙◌, arith, subst}
+use Rattle.std.proofs.Common.{Bool, true, false, ◌==◌, if◌then◌else◌, ◌≡◌, ◌≢◌, ◌<◌, ℕ, zero, suc, List, [], ◌∷◌, ◌++◌, length, take, drop, get_or, refl, ap, arith, subst}
 use Rattle.command_words.specs.WordParts.{IsName}
 use Rattle.command_words.specs.Table.{argument_name}
 use Rattle.command_words.specs.declared.argument.Argument.{Argument}

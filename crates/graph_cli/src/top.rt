@@ -72,8 +72,7 @@ pub fn run<S: Source, T: Source, W: Sink>(
     proof: &mut T,
     out: &mut W,
 ) -> u8
-    ensures runs {
-        Runs (IsAnswerOf (outcome (map string_bytes words.now) (S.left case.old) (T.left proof.old)))
+    ensures runs { Runs (IsAnswerOf (outcome (map string_bytes words.now) (S.left case.old) (T.left proof.old)))
         (ReadRose (map string_bytes words.now) (S.left case.old)
         (Rose (S.faults case.old) (S.faults case.new))
         (Rose (T.faults proof.old) (T.faults proof.new)))

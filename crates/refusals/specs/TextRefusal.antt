@@ -11,7 +11,7 @@ use Rattle.edge_expression.specs.declared.fault.ExprFault.TheVariants as express
 use Rattle.answers.specs.declared.refusal.Refusal.{Refusal}
 use Rattle.answers.specs.declared.cause.Cause.TheVariants.{Malformed}
 use Rattle.answers.specs.Lines.{line}
-use Rattle.refusals.specs.LinePieces.{malformed_at, past_limit, limit_at}
+use Rattle.refusals.specs.LinePieces.{malformed_at, limit_at}
 
 -- a line of a text, by its number from 1
 abbrev pub at_line : ℕ → List ℕ

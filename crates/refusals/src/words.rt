@@ -2,7 +2,7 @@
 ghost use Rattle.std.specs.Prelude.{◌≡◌, IfOk};
 ghost use Rattle.refusals.specs.UsageRefusal.{usage};
 
-use crate::pieces::{put_counting};
+use crate::pieces::put_counting;
 use answers::{Cause, Refusal};
 use field_core::{List, NoMemory};
 use std::alloc::Global;

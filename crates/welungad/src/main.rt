@@ -51,6 +51,7 @@ fn main(rt: HostRuntime) -> ExitCode {
         Err(none) => return ExitCode::from(none.status()),
     };
     let mut case = StdSource::new(rt.stdin());
+    // No command reads a proof yet, so that no file is opened.
     let mut proof = MemorySource::new(List::new(rt.alloc()));
     let mut out = StdSink::new(rt.stdout());
     let status = run(

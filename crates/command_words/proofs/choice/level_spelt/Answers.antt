@@ -1,4 +1,4 @@
-use Rattle.std.proofs.Common.{◌≡◌, Option, Some, None, Result, Ok, Err}
+use Rattle.std.proofs.Common.{◌≡◌, None, Result, Ok, Err}
 use Rattle.std.specs.Result.{result_ok, IsOkAnd}
 use Rattle.command_words.proofs.choice.level_spelt.Goals as goal
 

@@ -1,7 +1,5 @@
-use Rattle.std.proofs.Common.{◌≡◌, sym, ◌∙◌, Option, Some}
-use Rattle.command_words.specs.Choices.{Value, Chosen, Spells, IsSpelled}
+use Rattle.std.proofs.Common.{◌≡◌, sym, Option, Some}
 use Rattle.command_words.specs.declared.argument.Argument.{Argument}
-use Rattle.command_words.specs.declared.verb.Verb.{Verb}
 use Rattle.command_words.proofs.Steps.{none_spelled}
 use Rattle.command_words.proofs.reading.operand.Goals as goal
 

@@ -1,4 +1,4 @@
-use Rattle.std.proofs.Common.{◌≡◌, List, ◌∷◌, refl, sym, ap, ◌∙◌, inl, map}
+use Rattle.std.proofs.Common.{◌∷◌, refl, sym, ap, ◌∙◌, inl, map}
 use Rattle.std.specs.Prelude.{string_bytes}
 use Rattle.command_words.specs.Choices.{chosen}
 use Rattle.command_words.specs.Given.{given_content}

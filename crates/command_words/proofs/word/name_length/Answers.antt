@@ -1,5 +1,4 @@
-use Rattle.std.proofs.Common.{take, length, ◌+◌, add-one, arith, subst, ℕ}
-use Rattle.command_words.specs.WordParts.{IsName}
+use Rattle.std.proofs.Common.{add-one, arith}
 use Rattle.command_words.proofs.EqualsSigns.{name_more}
 use Rattle.command_words.proofs.word.name_length.Goals as goal
 

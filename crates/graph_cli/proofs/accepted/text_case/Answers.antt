@@ -1,4 +1,4 @@
-use Rattle.std.proofs.Common.{inl, inr, sym, subst, ◌∙◌, ap}
+use Rattle.std.proofs.Common.{inl, inr, ◌∙◌, ap}
 use Rattle.edge_text.specs.Reading.{IsTextFault}
 use Rattle.refusals.specs.CaseRefusal.{case_refusal}
 use Rattle.graph_cli.proofs.accepted.text_case.Goals as goal

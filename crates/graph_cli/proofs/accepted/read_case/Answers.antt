@@ -1,0 +1,8 @@
+use Rattle.std.proofs.Common.{IfOk, sym, subst}
+use Rattle.case_model.specs.CaseView.{content}
+use Rattle.command_words.specs.Asked.{written}
+use Rattle.graph_cli.specs.Accepted.{case_in}
+use Rattle.graph_cli.proofs.accepted.read_case.Goals as goal
+
+pub returns-in-Text-clause-given : goal.returns-in-Text-clause-given
+returns-in-Text-clause-given c = subst (λ form. IfOk c.text_case.result (λ case. (case_in (written form) c.args.bytes.now).Gives (content case))) (sym c.in-Text.is) c.text_case.ensures.given
