@@ -31,10 +31,7 @@ const NO_COMMAND: [Row; 21] = [
     (&["stages", "--form", "csv"], "usage: word 1\n"),
     (&["canon", "--to", "json"], "usage: word 1\n"),
     (&["catalogue", "holm", "--size", "3"], "usage: word 1\n"),
-    (
-        &["sample", "--size", "2", "--seed", "1"],
-        "usage: word 1\n",
-    ),
+    (&["sample", "--size", "2", "--seed", "1"], "usage: word 1\n"),
     (&["study", "looks.txt"], "usage: word 1\n"),
 ];
 
@@ -147,10 +144,7 @@ const TWICE: [Row; 8] = [
         &["test", "--form", "text", "--form", "text"],
         "usage: word 4\n",
     ),
-    (
-        &["test", "--form", "text", "--form=csv"],
-        "usage: word 4\n",
-    ),
+    (&["test", "--form", "text", "--form=csv"], "usage: word 4\n"),
     (&["test", "--form=text", "--form", "xml"], "usage: word 3\n"),
     (&["test", "--form=text", "--form=xml"], "usage: word 3\n"),
     (&["test", "--form", "text", "--form"], "usage: word 4\n"),
@@ -198,10 +192,7 @@ const FORBIDDEN: [Row; 9] = [
         &["test", "--alpha", "0.05", "--form", "text"],
         "usage: word 2\n",
     ),
-    (
-        &["test", "--form=json", "--alpha=0.05"],
-        "usage: word 3\n",
-    ),
+    (&["test", "--form=json", "--alpha=0.05"], "usage: word 3\n"),
     (
         &["test", "--form", "json", "--alpha", "1"],
         "usage: word 4\n",
@@ -282,11 +273,7 @@ const ACCEPTED: [(&[&str], u8, &str); 17] = [
         0,
         TIE_DECIDED,
     ),
-    (
-        &["test", "--form=text", "--priority=ratio"],
-        0,
-        TIE_DECIDED,
-    ),
+    (&["test", "--form=text", "--priority=ratio"], 0, TIE_DECIDED),
     (
         &["test", "--form", "text", "--priority=first"],
         0,
@@ -297,7 +284,14 @@ const ACCEPTED: [(&[&str], u8, &str); 17] = [
     (&["test", "--form", "csv", "--alpha", "0.05"], 3, UNREAD),
     (&["test", "--alpha=1/20", "--form=csv"], 3, UNREAD),
     (
-        &["test", "--form=csv", "--priority", "last", "--alpha", "5e-2"],
+        &[
+            "test",
+            "--form=csv",
+            "--priority",
+            "last",
+            "--alpha",
+            "5e-2",
+        ],
         3,
         UNREAD,
     ),
