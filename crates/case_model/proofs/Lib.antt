@@ -10,6 +10,7 @@ pub mod ClosedTests
 pub mod Comparisons
 pub mod Consonance
 pub mod EntryOrder
+pub mod EntryTests
 pub mod ExactSums
 pub mod ExampleOrders
 pub mod ExampleTests

@@ -1,5 +1,5 @@
 -- Written sums, item by item.
-use Rattle.std.proofs.Common.{◌≡◌, refl, sym, ap, ◌∙◌, ℕ, zero, suc, ◌+◌, ◌<◌, ◌≤◌, List, length, get_or, Option, Some, None, Result, Ok, Err, arith, inl, inr, ◌⊎◌}
+use Rattle.std.proofs.Common.{◌≡◌, sym, ap, ◌∙◌, ℕ, zero, suc, ◌+◌, ◌<◌, ◌≤◌, List, length, get_or, Option, Some, None, Result, Ok, Err, arith, inl, inr, ◌⊎◌}
 use Rattle.std.proofs.lemmas.List.{get_or_default}
 use Rattle.std.specs.Option.{option_map}
 use Rattle.field_core.specs.Terms.{Terms}

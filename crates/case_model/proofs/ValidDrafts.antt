@@ -1,5 +1,5 @@
 -- What is known of the components of a draft without a fault.
-use Rattle.std.proofs.Common.{◌≡◌, refl, sym, ap, ◌∙◌, ℕ, ◌==◌, ◌<◌, List, [], ◌∷◌, length, map, get_or, Bool, true, ◌&&◌, not, None, arith}
+use Rattle.std.proofs.Common.{◌≡◌, sym, ap, ◌∙◌, ℕ, ◌==◌, ◌<◌, List, length, map, get_or, true, ◌&&◌, not, None, arith}
 use Rattle.std.proofs.lemmas.Bool.Decides.{nat_tests}
 use Rattle.std.proofs.lemmas.List.{length-map, get_or-map}
 use Rattle.std.specs.List.{list_all}
@@ -15,9 +15,9 @@ use Rattle.case_model.specs.declared.draft.Draft.{Draft}
 use Rattle.case_model.specs.declared.draft_component.DraftComponent.{DraftComponent}
 use Rattle.case_model.specs.Draft.{at_most, is_unit, is_short, is_level, is_short_level, is_level_range}
 use Rattle.case_model.specs.Content.{content_of, table_of, tabled}
-use Rattle.case_model.specs.CaseFaults.{◌or◌, case_fault, early_fault, late_fault, part_too_long, long_alpha, long_share, long_weight, long_edge, long_p_value, alpha_range, is_below_zero, share_range, share_sum, shares_fault, total_fault, weight_count, weight_range, weight_sum, weights_fault, is_self_edge, self_edge, repeated_edge, edge_range, edges_fault, row_sum, component_rows, rows_fault, first_of}
-use Rattle.case_model.proofs.Holding.{both, all_at}
-use Rattle.case_model.proofs.NoFaults.{Neither, neither, no_unless, not_true, not_false, none_passes, all_pass, no_first, no_below, no_sum_fault}
+use Rattle.case_model.specs.CaseFaults.{◌or◌, case_fault, early_fault, late_fault, part_too_long, long_alpha, long_share, long_weight, long_edge, long_p_value, alpha_range, share_range, share_sum, shares_fault, total_fault, weight_count, weight_range, weight_sum, weights_fault, is_self_edge, self_edge, repeated_edge, edge_range, edges_fault, row_sum, component_rows, rows_fault, first_of}
+use Rattle.case_model.proofs.Holding.{all_at}
+use Rattle.case_model.proofs.NoFaults.{Neither, neither, no_unless, none_passes, all_pass, no_first, no_below, no_sum_fault}
 use Rattle.case_model.proofs.Faultless.{GoodStart, good_start, content_of-components}
 
 pub early_none : (d : Draft) → case_fault d ≡ None → early_fault d ≡ None

@@ -1,7 +1,7 @@
 -- What a case holds, the content that a draft stands for, and the entangled graph, the p-values and the level of a content.
-use Rattle.std.specs.Prelude.{ℕ, ◌*◌, ◌/◌, ◌%◌, Bool, List, [], ◌∷◌, Option, Some, None, map, length, get_or, if◌then◌else◌, is_some}
+use Rattle.std.specs.Prelude.{ℕ, ◌*◌, ◌/◌, ◌%◌, Bool, List, [], Option, map, length, get_or, if◌then◌else◌, is_some}
 use Rattle.std.specs.Option.{option_map_or}
-use Rattle.std.specs.List.{list_any, list_all, find, range_with_len}
+use Rattle.std.specs.List.{list_any, list_all, find, filter_map, range_with_len}
 use Rattle.field_core.specs.Number.{Number}
 use Rattle.field_core.specs.Graph.{Graph}
 use Rattle.field_core.specs.declared.ratio.Ratio.{Ratio}
@@ -41,9 +41,7 @@ tabled m k = record { share = k.share; weights = k.weights; edges = table_of m k
 
 -- the p-values that are given
 unfoldable pub given : List (Option Ratio) → List Ratio
-given [] = []
-given (None ∷ ps) = given ps
-given (Some p ∷ ps) = p ∷ given ps
+given ps = filter_map (λ p. p) ps
 
 -- the p-values that are given, or none where no p-value is
 abbrev pub inputs_given : List (Option Ratio) → Inputs

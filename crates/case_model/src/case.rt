@@ -15,6 +15,7 @@ pub struct Case {
     ghost valid: { IsValidContent (record { names = names; alpha = alpha; components = components; inputs = inputs }) },
 }
 
+#[tactic(auto, using(crate::proofs::CaseFacts::facts))]
 impl Case {
     ghost use Rattle.std.specs.Prelude.{◌≡◌, ◌<◌, ◌≤◌, ◌*◌, length, slice_get, Some, true};
     ghost use Rattle.case_model.specs.Sums.{ratio_at};

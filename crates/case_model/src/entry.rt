@@ -97,6 +97,7 @@ impl Entry {
     }
 
     /// Whether the value isn't below 0, in the order of epsilon.
+    #[tactic(auto, using(crate::proofs::EntryTests::at_least_zero))]
     fn is_nonnegative(&self) -> bool
         ensures { result ≡ at_most number_zero (entry_value self.now) }
     {
@@ -104,6 +105,7 @@ impl Entry {
     }
 
     /// Whether the value is at most 1, in the order of epsilon.
+    #[tactic(auto, using(crate::proofs::EntryTests::at_most_one))]
     pub(crate) fn is_at_most_one(&self) -> bool
         ensures { result ≡ at_most (entry_value self.now) number_one }
     {

@@ -35,6 +35,6 @@ impl Inputs {
         if !has_some(p) {
             return Ok(Inputs::Bare);
         }
-        Ok(Inputs::Single(given(alloc, p)?))
+        Ok(Inputs::Single(List::of(given(alloc, p)?)))
     }
 }

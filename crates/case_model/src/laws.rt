@@ -13,6 +13,7 @@ ghost use Rattle.case_model.specs.IntersectionStatements.{IntersectionWeightsExi
 
 /// The entangled graph of a case is valid: weights, edges and shares aren't below 0, no hypothesis passes weight to
 /// itself, and the weights, each row of edges and the shares sum to at most 1.
+#[tactic(auto, using(crate::proofs::ValidContents::valid_content))]
 pub fn entangled_graphs_are_valid()
     ensures { EntangledGraphsAreValid }
 {}
@@ -77,6 +78,7 @@ pub fn priority_orders_exist()
 {}
 
 /// What the closed test rejects of one or two hypotheses: facts that show what the definitions say.
+#[tactic(auto, using(crate::proofs::ExampleTests::halves_are_valid, crate::proofs::ExampleTests::only_first, crate::proofs::ExampleTests::both_linked, crate::proofs::ExampleTests::nothing_rejected))]
 pub fn small_closed_tests()
     ensures valid { HalvesAreValid }
     ensures apart { OnlyFirstHalfIsRejected }
@@ -85,6 +87,7 @@ pub fn small_closed_tests()
 {}
 
 /// The orders of the three priorities of two hypotheses.
+#[tactic(auto, using(crate::proofs::ExampleOrders::alike_by_position, crate::proofs::ExampleOrders::least_ratio_first))]
 pub fn orders_of_two_hypotheses()
     ensures alike { AlikeAreTakenByPosition }
     ensures ratio { LeastRatioIsTakenFirst }

@@ -8,9 +8,8 @@ ghost use Rattle.case_model.specs.CaseFaults.{◌when◌, first_of, is_long_p_va
 use crate::first_faults::first_fault;
 use crate::fraction_tests::{is_short_p_value, is_unit};
 use crate::{CaseFault, PartPlace};
-use field_core::{List, NoMemory};
 use fraction::Fraction;
-use std::alloc::Global;
+use std::alloc::{AllocError, Global};
 
 /// Whether a p-value is given and has a denominator above 10^30.
 fn is_long_p_value(p: &Option<Fraction>) -> bool
@@ -92,14 +91,8 @@ pub fn p_values_fault(count: usize, p: &[Option<Fraction>]) -> Option<CaseFault>
 
 /// The p-values that are given.
 #[tactic(auto, unfolding(crate::specs::Content::given))]
-pub fn given(alloc: Global, p: &[Option<Fraction>]) -> Result<List<Fraction>, NoMemory>
-    ensures { IfOk result (λ ps. ps ≡ given p.now) }
+pub fn given(alloc: Global, p: &[Option<Fraction>]) -> Result<Vec<Fraction>, AllocError>
+    ensures { IfOk result (λ ps. ps.items ≡ given p.now) }
 {
-    let mut given = List::new(alloc);
-    for p in p {
-        if let Some(p) = p {
-            given.push(*p)?;
-        }
-    }
-    Ok(given)
+    p.iter().filter_map(|p| *p).collect(alloc)
 }

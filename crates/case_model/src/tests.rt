@@ -1,9 +1,4 @@
 //! Drafts that are refused, and why; drafts that make cases; and the index of names.
-ghost use Rattle.std.specs.Prelude.{◌≡◌, ◌&&◌, map, nat_lt};
-ghost use Rattle.std.specs.List.{list_all};
-ghost use Rattle.case_model.specs.Draft.{have_known_ends};
-ghost use Rattle.case_model.specs.DraftView.{edge_said, said};
-
 use crate::samples::{
     ACCEPTED, BYTES, Edge, FOUR, HALVES, ORDER, Part, QUARTERS, Sample, TWO, Terms,
 };
@@ -97,29 +92,8 @@ fn draft_of(alloc: Global, sample: &Sample) -> Result<Draft, Fail> {
 
 // ---- finished drafts
 
-/// Whether each edge goes from one of so many hypotheses to one of them.
-fn go_between(count: usize, edges: &[DraftEdge]) -> bool
-    ensures { result ≡ list_all (λ e. nat_lt e.from count && nat_lt e.to count) (map edge_said edges.now) }
-{
-    edges
-        .iter()
-        .all(|edge| edge.from < count && edge.to < count)
-}
-
-/// Whether each edge goes from a hypothesis to a hypothesis.
-fn has_known_ends(draft: &Draft) -> bool
-    ensures { result ≡ have_known_ends (said draft.now) }
-{
-    let count = draft.names.len();
-    draft
-        .components
-        .as_slice()
-        .iter()
-        .all(|component| go_between(count, component.edges.as_slice()))
-}
-
 fn finish(rt: &impl Abort, alloc: Global, draft: Draft) -> Result<Case, Refused> {
-    assert!(rt; has_known_ends(&draft));
+    assert!(rt; draft.has_known_ends());
     assert!(rt; draft.stages.is_none());
     draft.finish(alloc)
 }
@@ -254,8 +228,9 @@ fn the_first_fault_counts(rt: HostRuntime) -> Result<(), Fail> {
 
 // ---- cases
 
-fn terms(x: &Fraction) -> Terms {
-    (x.ratio().num(), x.ratio().den())
+/// The fraction has these terms.
+fn expect_fraction(rt: &impl Abort, found: Fraction, terms: Terms) {
+    assert_eq!(rt; Some(found), fraction(terms).ok());
 }
 
 /// The names at their positions. Other names have none.
@@ -273,8 +248,11 @@ fn expect_hypotheses(rt: &impl Abort, case: &Case, names: &[&str]) {
 
 fn expect_entry(rt: &impl Abort, entry: &Entry, coefficients: &[Terms]) {
     for power in 0..5 {
-        let found = terms(&entry.coefficient(power));
-        assert_eq!(rt; found, coefficient(coefficients, power), "power {power}");
+        expect_fraction(
+            rt,
+            entry.coefficient(power),
+            coefficient(coefficients, power),
+        );
     }
 }
 
@@ -294,15 +272,27 @@ fn expect_edges(rt: &impl Abort, case: &Case, c: usize, edges: &[Edge]) {
             expect_entry(rt, case.edge(c, i, j), listed(edges, i, j));
         }
     }
+    expect_table(rt, case, c);
+}
+
+/// The table of edges, row by row, has what is read edge by edge.
+fn expect_table(rt: &impl Abort, case: &Case, c: usize) {
+    assert!(rt; c < case.components());
+    let size = case.size();
+    assert_eq!(rt; case.edges(c).len(), size * size);
+    for (k, entry) in case.edges(c).iter().enumerate() {
+        assert!(rt; k / size < size);
+        assert_eq!(rt; *entry, *case.edge(c, k / size, k % size));
+    }
 }
 
 fn expect_component(rt: &impl Abort, case: &Case, c: usize, part: &Part) {
     assert!(rt; c < case.components());
-    assert_eq!(rt; terms(&case.share(c)), part.share);
+    expect_fraction(rt, case.share(c), part.share);
     assert_eq!(rt; case.size(), part.weights.len());
     for (i, weight) in part.weights.iter().enumerate() {
         assert!(rt; i < case.size());
-        assert_eq!(rt; terms(&case.weight(c, i)), *weight, "weight of {i}");
+        expect_fraction(rt, case.weight(c, i), *weight);
     }
     expect_edges(rt, case, c, part.edges);
 }
@@ -314,7 +304,7 @@ fn expect_inputs(rt: &impl Abort, inputs: &Inputs, p: &[Option<Terms>]) {
         Inputs::Single(found) => {
             assert_eq!(rt; found.len(), p.len());
             for (found, p) in found.as_slice().iter().zip(p) {
-                assert_eq!(rt; Some(terms(found)), *p);
+                assert_eq!(rt; Some(*found), p.and_then(|terms| fraction(terms).ok()));
             }
         }
         Inputs::Staged(_) => panic!(rt; "stages"),
@@ -324,7 +314,7 @@ fn expect_inputs(rt: &impl Abort, inputs: &Inputs, p: &[Option<Terms>]) {
 /// The case holds just what the sample says.
 fn expect_content(rt: &impl Abort, case: &Case, sample: &Sample) {
     expect_hypotheses(rt, case, sample.names);
-    assert_eq!(rt; terms(&case.alpha()), sample.alpha);
+    expect_fraction(rt, case.alpha(), sample.alpha);
     assert_eq!(rt; case.components(), sample.components.len());
     for (c, part) in sample.components.iter().enumerate() {
         expect_component(rt, case, c, part);
@@ -384,7 +374,7 @@ fn expect_byte(rt: &impl Abort, case: &Case, i: usize, byte: u8) {
     assert!(rt; 0 < case.components() && i < case.size());
     assert_eq!(rt; case.name(i), name.as_slice());
     assert_eq!(rt; case.position(&name), Some(i));
-    assert_eq!(rt; terms(&case.weight(0, i)), (1, 65));
+    expect_fraction(rt, case.weight(0, i), (1, 65));
 }
 
 #[test]

@@ -1,4 +1,3 @@
-use Rattle.std.proofs.Common.{sym}
 use Rattle.field_core.specs.declared.place.Op.TheVariants.{Div}
 use Rattle.fraction.specs.Plain.{fraction_parts}
 use Rattle.case_model.proofs.Thresholds.{level_stored_nonzero, threshold_fits, threshold_times}

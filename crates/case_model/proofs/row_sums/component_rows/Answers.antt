@@ -1,4 +1,4 @@
-use Rattle.std.proofs.Common.{◌≡◌, ◌==◌, ◌*◌, true, sym, ap, ◌∙◌, length, arith}
+use Rattle.std.proofs.Common.{◌==◌, ◌*◌, ap, ◌∙◌, length, arith}
 use Rattle.std.proofs.lemmas.Bool.Decides.{nat_tests}
 use Rattle.std.proofs.lemmas.List.{get_or_default}
 use Rattle.case_model.specs.Content.{empty_component}

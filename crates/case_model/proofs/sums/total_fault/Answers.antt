@@ -1,4 +1,4 @@
-use Rattle.std.proofs.Common.{◌≡◌, ap, ◌∙◌, length, Ok, Err, Result, Some}
+use Rattle.std.proofs.Common.{ap, ◌∙◌, length, Ok, Err, Result, Some}
 use Rattle.field_core.specs.Terms.{Terms}
 use Rattle.field_core.specs.Kind.{or_wide}
 use Rattle.field_core.specs.NumberField.{number_field}

@@ -1,4 +1,4 @@
-use Rattle.std.proofs.Common.{sym, ap, ◌∙◌}
+use Rattle.std.proofs.Common.{ap, ◌∙◌}
 use Rattle.case_model.specs.Tables.{are_tables}
 use Rattle.case_model.proofs.Faultless.{are_tables-tabled}
 use Rattle.case_model.proofs.draft.Parts.made.Goals as goal

@@ -1,4 +1,3 @@
-use Rattle.std.proofs.Common.{arith}
 use Rattle.case_model.proofs.TablePlaces.{place_within}
 use Rattle.case_model.proofs.draft_edge.DraftEdge.place.Goals as goal
 

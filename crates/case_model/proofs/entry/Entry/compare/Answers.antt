@@ -1,4 +1,4 @@
-use Rattle.std.proofs.Common.{◌≡◌, ◌<◌, sym, ap, ap₂, ◌∙◌, length, arith}
+use Rattle.std.proofs.Common.{◌<◌, sym, ap, ap₂, ◌∙◌, length, arith}
 use Rattle.std.proofs.lemmas.List.{take_rest}
 use Rattle.std.specs.Ordering.{ordering_then}
 use Rattle.field_core.specs.Arithmetic.{number_compare}
