@@ -31,7 +31,7 @@ pub use draft_edge::DraftEdge;
 pub use entry::Entry;
 pub use fault::{CaseFault, PartPlace, Refused};
 pub use inputs::{Inputs, Stages};
-pub use local_test::passes;
+pub use local_test::{least_weight, passes, passes_from};
 pub use name_index::NameIndex;
 pub use set_table::SetTable;
 pub use sets::{added, dropped, holds};

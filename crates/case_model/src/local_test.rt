@@ -1,6 +1,7 @@
 //! The local test of one hypothesis.
 ghost use Rattle.std.specs.Prelude.{◌≡◌, ◌↔◌, IsTrue, true};
 ghost use Rattle.field_core.specs.Arithmetic.{◌*ε◌};
+ghost use Rattle.field_core.specs.declared.ratio.Ratio.{Ratio};
 ghost use Rattle.fraction.specs.View.{number_of};
 ghost use Rattle.case_model.specs.Draft.{is_level, is_p_value};
 ghost use Rattle.case_model.specs.ClosedTest.{Passes};
@@ -8,8 +9,10 @@ ghost use Rattle.case_model.specs.ClosedTest.{Passes};
 use field_core::Number;
 use fraction::Fraction;
 
-/// The least weight, if it is above 0, at which a p-value passes: p / alpha. It always fits.
-fn least_weight(p: &Fraction, alpha: &Fraction) -> Fraction
+/// The least weight, if it is above 0, at which a p-value passes at a level: p / alpha.
+/// `p` is from 0 to 1 with a denominator of at most 10^30, and `alpha` a level with parts of at most 10,000; so p / alpha
+/// has parts of at most 10^34, and nothing is refused.
+pub fn least_weight(p: &Fraction, alpha: &Fraction) -> Fraction
     requires p { is_p_value p.now ≡ true }
     requires alpha { is_level alpha.now ≡ true }
     ensures { number_of result *ε number_of alpha.now ≡ number_of p.now }
@@ -20,13 +23,18 @@ fn least_weight(p: &Fraction, alpha: &Fraction) -> Fraction
     }
 }
 
+/// Whether a p-value passes at a weight, by the least weight at which it passes: the weight is above 0 and at least that.
+pub fn passes_from(least: &Fraction, weight: &Fraction) -> bool
+    ensures { (p alpha : Ratio) → is_level alpha ≡ true → number_of least.now *ε number_of alpha ≡ number_of p → IsTrue result ↔ Passes (number_of p) (number_of weight.now) (number_of alpha) }
+{
+    *weight > Fraction::zero() && *least <= *weight
+}
+
 /// Whether a p-value passes at a weight: the weight is above 0 and the p-value is at most weight times alpha.
-/// `p` is from 0 to 1 with a denominator of at most 10^30, and `alpha` a level with parts of at most 10,000; so p / alpha
-/// has parts of at most 10^34, and nothing is refused.
 pub fn passes(p: &Fraction, weight: &Fraction, alpha: &Fraction) -> bool
     requires p { is_p_value p.now ≡ true }
     requires alpha { is_level alpha.now ≡ true }
     ensures { IsTrue result ↔ Passes (number_of p.now) (number_of weight.now) (number_of alpha.now) }
 {
-    *weight > Fraction::zero() && least_weight(p, alpha) <= *weight
+    passes_from(&least_weight(p, alpha), weight)
 }

@@ -8,6 +8,7 @@ use Rattle.std.proofs.Math.Nat.{zero-add, one-mul, mul-one, mul-div_cancel', dvd
 use lib.IntN.{*ℤ-zero}
 use Rattle.std.proofs.Math.IntN.{*ℤ_comm}
 use Rattle.field_core.specs.Polynomial.{coefficient, Same, poly_negate, lowest, IsNonZero}
+use Rattle.field_core.proofs.Wholes.{quotient_times, size_negated}
 use Rattle.field_core.specs.Laws.Integers.{integers}
 use Rattle.field_core.specs.Laws.Ring.{negate_multiply, negate_negate}
 use Rattle.field_core.specs.Laws.PolynomialLaws.{coefficient-scale, coefficient-negate, product_nonzero}
@@ -15,11 +16,10 @@ use Rattle.eps_poly.specs.Polynomials.{by_powers}
 use Rattle.eps_poly.specs.Factors.{content, order, factor, signed_as, turned_as, lowered, from_factors, IsCore, core}
 use Rattle.eps_poly.proofs.Coefficients.{coefficient-past, length-by_powers, coefficient-by_powers, length-negate}
 use Rattle.eps_poly.proofs.ContentLaws.{content_divides, content_greatest, content_some}
-use Rattle.eps_poly.proofs.IntegerQuotients.{quotient_times, int_div-zero, int_div_exact, size_some, size_none}
+use Rattle.eps_poly.proofs.IntegerQuotients.{int_div-zero, int_div_exact, size_some, size_none}
 use Rattle.eps_poly.specs.Written.{degree}
 use Rattle.eps_poly.proofs.DegreeLaws.{coefficient-above_degree, coefficient-degree, degree_at_least, degree_at_most}
 use Rattle.eps_poly.proofs.OrderLaws.{coefficient-below_order, coefficient-order, lowest_from_coefficient, order_is}
-use Rattle.eps_poly.proofs.Validity.{abs_negate}
 use Rattle.eps_poly.proofs.Signs.{signed_below, signed_above, turned_below, turned_above}
 
 -- ---- coefficients of c * epsilon^k * P
@@ -78,7 +78,7 @@ length-turned (negsuc n) p = length-negate p
 
 turned_size : (s : ℤ) (p : List ℤ) (i : ℕ) → unsigned_abs (coefficient (turned_as s p) i) ≡ unsigned_abs (coefficient p i)
 turned_size (pos n) p i = refl
-turned_size (negsuc n) p i = ap unsigned_abs (coefficient-negate p i) ∙ abs_negate (coefficient p i)
+turned_size (negsuc n) p i = ap unsigned_abs (coefficient-negate p i) ∙ size_negated (coefficient p i)
 
 -- a coefficient of the core, times the content
 core_times : (s : ℤ) (p : List ℤ) (i : ℕ) → length p ≡ 33 → coefficient (lowered (order p) (pos (content p)) (turned_as s p)) i *ℤ pos (content p) ≡ coefficient (turned_as s p) (i + order p)

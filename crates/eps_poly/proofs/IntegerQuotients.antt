@@ -5,7 +5,7 @@ use Rattle.std.proofs.lemmas.Int.{ints, quot-rem, rem_below, unsigned_abs-mul}
 use Rattle.std.proofs.Math.Nat.{mul-le-mul_right, div-mul_cancel, zero-mul}
 use Rattle.std.specs.Int.{◌∣◌}
 use lib.IntN.{+ℤ_idr}
-use Rattle.field_core.proofs.IntegerRing.{*ℤ_distrib_right}
+use Rattle.field_core.proofs.IntegerRing.{int_distribute_right}
 
 pub size_some : (d : ℤ) → d ≢ pos 0 → 0 < unsigned_abs d
 size_some (pos zero) h = absurd (h refl)
@@ -25,7 +25,7 @@ small_multiple y d h = elim (cases_lt 0 (unsigned_abs y)) [
 ]
 
 difference_times : (x q d : ℤ) → (x +ℤ neg_ℤ q) *ℤ d +ℤ q *ℤ d ≡ x *ℤ d
-difference_times x q d = sym (*ℤ_distrib_right (x +ℤ neg_ℤ q) q d) ∙ ap (λ a. a *ℤ d) (cancel x q)
+difference_times x q d = sym (int_distribute_right (x +ℤ neg_ℤ q) q d) ∙ ap (λ a. a *ℤ d) (cancel x q)
   where
     cancel : (x q : ℤ) → (x +ℤ neg_ℤ q) +ℤ q ≡ x
     cancel x q = omega (arith, ints)
@@ -58,12 +58,3 @@ int_div-zero (negsuc n) = let none : 0 / suc n ≡ 0 = omega arith in rw none re
 -- a quotient without remainder
 pub no_remainder : (a d : ℤ) → int_rem a d ≡ pos 0 → int_div a d *ℤ d ≡ a
 no_remainder a d e = sym (+ℤ_idr (int_div a d *ℤ d)) ∙ ap (λ r. int_div a d *ℤ d +ℤ r) (sym e) ∙ quot-rem a d
-
-neg_times : (m g : ℕ) → neg_ℤ (pos m) *ℤ pos g ≡ neg_ℤ (pos (m * g))
-neg_times zero g = rw (zero-mul g) (omega (arith, ints))
-neg_times (suc m) g = omega (arith, ints)
-
--- the quotient by a divisor, times the divisor
-pub quotient_times : (z : ℤ) (g : ℕ) → g ∣ unsigned_abs z → int_div z (pos g) *ℤ pos g ≡ z
-quotient_times (pos n) g d = let e = div-mul_cancel g d in omega (arith, ints)
-quotient_times (negsuc n) g d = neg_times (suc n / g) g ∙ ap (λ m. neg_ℤ (pos m)) (div-mul_cancel g d)

@@ -8,7 +8,6 @@ use Rattle.field_core.specs.Sized.{sized}
 use Rattle.field_core.specs.Laws.PolynomialLaws.{product_part, product_nonzero}
 use Rattle.eps_poly.specs.Factors.{order}
 use Rattle.eps_poly.specs.Written.{degree, written_coefficient, sized_product}
-use Rattle.eps_poly.proofs.SizedLists.{ok_inside}
 use Rattle.eps_poly.proofs.SumLaws.{sized_inside}
 use Rattle.eps_poly.proofs.OrderLaws.{coefficient-below_order, coefficient-order, lowest_from_coefficient}
 use Rattle.eps_poly.proofs.DegreeLaws.{coefficient-above_degree, degree_at_least, coefficient-degree}

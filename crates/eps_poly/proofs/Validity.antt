@@ -5,6 +5,7 @@ use Rattle.std.proofs.lemmas.List.{length-set}
 use Rattle.std.proofs.Math.Nat.{div-le_self}
 use Rattle.field_core.specs.Polynomial.{coefficient, lowest, poly_negate}
 use Rattle.field_core.specs.Laws.PolynomialLaws.{coefficient-negate}
+use Rattle.field_core.proofs.Wholes.{size_negated}
 use Rattle.field_core.specs.Laws.Integers.{int_multiply_one}
 use Rattle.eps_poly.proofs.IntegerQuotients.{int_div_exact}
 use Rattle.eps_poly.specs.Polynomials.{IsPolynomial, by_powers, zero_polynomial}
@@ -23,21 +24,16 @@ set_valid p i c v room small = let count = v.count in record {
   ];
 }
 
-pub abs_negate : (z : ℤ) → unsigned_abs (neg_ℤ z) ≡ unsigned_abs z
-abs_negate (pos zero) = refl
-abs_negate (pos (suc n)) = refl
-abs_negate (negsuc n) = refl
-
 pub negate_valid : (p : List ℤ) → IsPolynomial p → IsPolynomial (poly_negate p)
 negate_valid p v = record {
   count = length-negate p ∙ v.count;
-  sizes = λ k. rw (coefficient-negate p k, abs_negate (coefficient p k)) (v.sizes k);
+  sizes = λ k. rw (coefficient-negate p k, size_negated (coefficient p k)) (v.sizes k);
 }
 
 abs_quotient : (a b : ℤ) → unsigned_abs (int_div a b) ≤ unsigned_abs a
 abs_quotient (pos a) (pos b) = div-le_self a b
-abs_quotient (pos a) (negsuc b) = rw (abs_negate (pos (a / suc b))) (div-le_self a (suc b))
-abs_quotient (negsuc a) (pos b) = rw (abs_negate (pos (suc a / b))) (div-le_self (suc a) b)
+abs_quotient (pos a) (negsuc b) = rw (size_negated (pos (a / suc b))) (div-le_self a (suc b))
+abs_quotient (negsuc a) (pos b) = rw (size_negated (pos (suc a / b))) (div-le_self (suc a) b)
 abs_quotient (negsuc a) (negsuc b) = div-le_self (suc a) (suc b)
 
 pub lowered_valid : (k : ℕ) (by : ℤ) (p : List ℤ) → IsPolynomial p → IsPolynomial (lowered k by p)

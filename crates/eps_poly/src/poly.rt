@@ -109,6 +109,7 @@ impl EpsPoly {
         ensures within { result ≤ 32 }
         ensures polynomial { IsPolynomial self.now }
     {
+        // a look at the field tells that it is a polynomial
         let _ = &self.entries;
         for power in (0..COUNT).rev() {
             if !is_zero(self.whole(power)) {
@@ -124,6 +125,7 @@ impl EpsPoly {
         ensures within { result ≤ 33 }
         ensures polynomial { IsPolynomial self.now }
     {
+        // a look at the field tells that it is a polynomial
         let _ = &self.entries;
         for power in 0..COUNT {
             if !is_zero(self.whole(power)) {
@@ -219,6 +221,7 @@ impl EpsPoly {
         requires by { pos 0 <ℤ by }
         ensures { result ≡ lowered power by self.now }
     {
+        // a look at the field tells that it is a polynomial
         let _ = &self.entries;
         if power == 0 && by.value() == 1 {
             return *self;

@@ -1,19 +1,17 @@
 -- The written polynomial of fractions is a quotient over a constant.
-use Rattle.std.proofs.Common.{◌≡◌, ◌≢◌, refl, sym, ap, ap₂, subst, ◌∙◌, ℕ, zero, suc, ◌+◌, ◌-◌, ◌<◌, ◌≤◌, min, Bool, true, false, if◌then◌else◌, List, [], ◌∷◌, length, ℤ, pos, neg_ℤ, ◌+ℤ◌, ◌*ℤ◌, int_div, Option, Some, arith}
+use Rattle.std.proofs.Common.{◌≡◌, ◌≢◌, refl, sym, ap, ap₂, subst, ◌∙◌, ℕ, zero, suc, ◌+◌, ◌-◌, ◌<◌, ◌≤◌, List, [], ◌∷◌, length, ℤ, pos, neg_ℤ, ◌+ℤ◌, ◌*ℤ◌, int_div, Option, Some, arith}
 use Rattle.std.specs.List.{All, list_all}
 use Rattle.std.specs.Int.{is_negative}
 use lib.IntN.{+ℤ_idr, *ℤ-zero}
-use Rattle.std.proofs.lemmas.Int.{ints}
 use Rattle.std.proofs.lemmas.List.Elements.{All-get_or, All-drop}
 use Rattle.std.proofs.Math.IntN.{zero-*ℤ}
 use Rattle.std.proofs.Math.Nat.{min-le_right}
 use Rattle.field_core.specs.declared.place.Op.TheVariants.{Add}
 use Rattle.field_core.specs.Kind.{Parts, is_zero, is_zero_integer}
 use Rattle.field_core.specs.Terms.{Terms, IsReduced}
-use Rattle.field_core.specs.Polynomial.{coefficient, lowest, Same, poly_multiply, poly_negate, IsNonZero}
+use Rattle.field_core.specs.Polynomial.{coefficient, lowest, Same, poly_negate, IsNonZero}
 use Rattle.field_core.specs.Laws.PolynomialLaws.{coefficient-negate, coefficient-multiply_part, product_part, lowest-same, nonzero-multiply}
 use Rattle.field_core.specs.Laws.FractionLaws.{lowest-constant}
-use Rattle.field_core.specs.Sized.{◌>>=◌}
 use Rattle.eps_poly.specs.Polynomials.{IsConstant, IsPolynomial, is_same, monomial}
 use Rattle.eps_poly.specs.Factors.{order, lowered, core, factor}
 use Rattle.eps_poly.specs.Written.{sized_product, sized_sum}
@@ -22,8 +20,8 @@ use Rattle.eps_poly.proofs.IntegerQuotients.{int_div-zero}
 use Rattle.eps_poly.proofs.OrderLaws.{order_is}
 use Rattle.eps_poly.proofs.ProductLaws.{product_is_exact, product_polynomial}
 use Rattle.eps_poly.proofs.SizedLists.{bind_some, ok_inside}
-use Rattle.eps_quotient.specs.Lowering.{one_polynomial, zero_quotient, common_content, common_order, without_powers, without_cores, lower, turned, norm}
-use Rattle.eps_quotient.specs.Quotients.{sum_over, sum_of, written_sum, quotients}
+use Rattle.eps_quotient.specs.Lowering.{zero_quotient, common_content, common_order, without_powers, without_cores, lower, turned, norm}
+use Rattle.eps_quotient.specs.Quotients.{sum_over, sum_of, written_sum}
 use Rattle.eps_quotient.specs.Polynomials.{term, sum_from, written_polynomial}
 use Rattle.eps_quotient.specs.Stored.{IsQuotient}
 use Rattle.eps_quotient.specs.Laws.Exact.{quotients_are_exact, some_below, zero_stored}

@@ -1,5 +1,5 @@
 -- Whether the cores of two polynomials are equal, as the code finds it.
-use Rattle.std.proofs.Common.{◌≡◌, ℕ, ◌+◌, ◌-◌, ◌≤◌, ◌<◌, ◌==◌, eq-eqb, Bool, true, false, List, refl, sym, ◌∙◌, ap, arith, ℤ, pos, inl, inr}
+use Rattle.std.proofs.Common.{◌≡◌, ℕ, ◌-◌, ◌==◌, eq-eqb, Bool, true, false, List, refl, sym, ◌∙◌, ap, arith, ℤ, pos, inl, inr}
 use Rattle.std.proofs.lemmas.Bool.{cases_eq, cases_lt, ne_eqb}
 use Rattle.field_core.specs.Polynomial.{coefficient, lowest, IsNonZero}
 use Rattle.eps_poly.specs.Factors.{core, order}

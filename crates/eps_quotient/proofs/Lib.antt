@@ -6,7 +6,6 @@ pub mod ReadBack
 pub mod ReadSteps
 pub mod Readings
 pub mod Sides
-pub mod Signs
 pub mod Spelled
 pub mod Stored
 pub mod TermLaws

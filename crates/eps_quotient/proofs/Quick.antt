@@ -1,5 +1,5 @@
 -- Written quotients that are told at once.
-use Rattle.std.proofs.Common.{◌≡◌, ◌||◌, Bool, true, false, refl, sym, ◌∙◌, ap, ap₂, if◌then◌else◌, Option, Some}
+use Rattle.std.proofs.Common.{◌≡◌, Bool, true, false, refl, sym, ◌∙◌, ap, ap₂, if◌then◌else◌, Option, Some}
 use Rattle.std.proofs.lemmas.Bool.{and_parts}
 use Rattle.field_core.specs.Kind.{Parts, is_zero}
 use Rattle.eps_poly.specs.Polynomials.{is_same}

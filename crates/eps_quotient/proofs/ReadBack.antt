@@ -21,7 +21,8 @@ use Rattle.eps_poly.proofs.OrderLaws.{coefficient-order}
 use Rattle.eps_poly.specs.Factors.{order}
 use Rattle.eps_quotient.specs.Laws.LimitTerms.{first_above}
 use Rattle.eps_quotient.specs.Grammar.{IsNumber, IsWhole, AreWholes, IsList, IsQuotientText}
-use Rattle.eps_quotient.specs.Spelling.{polynomial_text, fraction_text, quotient_text}
+use Rattle.field_core.specs.Texts.{fraction_text}
+use Rattle.eps_quotient.specs.Spelling.{polynomial_text, quotient_text}
 use Rattle.eps_quotient.specs.Stored.{IsQuotient}
 use Rattle.eps_quotient.specs.Laws.Exact.{some_below}
 use Rattle.eps_quotient.specs.Laws.Multiples.{length-monomial, monomial-at, monomial-other}

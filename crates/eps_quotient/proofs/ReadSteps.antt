@@ -7,6 +7,7 @@ use Rattle.std.specs.Str.Parse.{digits_value}
 use Rattle.std.proofs.lemmas.Bool.Decides.{nat_tests}
 use Rattle.std.proofs.lemmas.Int.Digits.{digits_value_more}
 use Rattle.std.proofs.lemmas.List.Splits.{slice_split_none, slice_split_at, length-slice_split}
+use Rattle.field_core.proofs.Digits.{digit_is}
 use Rattle.eps_quotient.specs.Reading.{and_then, whole_of, filled}
 
 -- ---- digits
@@ -21,9 +22,6 @@ pub digit_at : (ds : List ℕ) (i : ℕ) → list_all is_ascii_digit ds ≡ true
 digit_at [] i h l = absurd (omega arith)
 digit_at (d ∷ ds) zero h l = digit_bounds d (and_parts (is_ascii_digit d) (list_all is_ascii_digit ds) h).0
 digit_at (d ∷ ds) (suc i) h l = digit_at ds i (and_parts (is_ascii_digit d) (list_all is_ascii_digit ds) h).1 (omega arith)
-
-digit_is : (b : ℕ) → 48 ≤ b → b ≤ 57 → digit_value b ≡ b - 48
-digit_is b h k = grind (arith, nat_tests)
 
 -- the number that digits write, cut at a bound, with one digit more
 pub size_more : (ds : List ℕ) (i size next most : ℕ) → list_all is_ascii_digit ds ≡ true → i < length ds → size ≡ min (digits_value 10 (take i ds)) most

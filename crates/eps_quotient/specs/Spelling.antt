@@ -1,10 +1,10 @@
 -- The texts of quotients.
-use Rattle.std.specs.Prelude.{◌≡◌, ◌+◌, ◌==◌, ◌&&◌, ℕ, ℤ, pos, List, [], ◌∷◌, ◌++◌, map, take, if◌then◌else◌}
+use Rattle.std.specs.Prelude.{◌≡◌, ◌+◌, ◌==◌, ◌&&◌, ℕ, ℤ, List, [], ◌∷◌, ◌++◌, map, take, if◌then◌else◌}
 use Rattle.std.specs.Fmt.{signed_decimal}
 use Rattle.std.specs.List.{join_with_byte}
-use Rattle.std.specs.Ordering.{int_eq}
 use Rattle.field_core.specs.Kind.{Parts}
 use Rattle.field_core.specs.Polynomial.{coefficient}
+use Rattle.field_core.specs.Texts.{fraction_text}
 use Rattle.eps_poly.specs.Written.{degree}
 
 -- whole numbers in brackets, with commas between them
@@ -15,9 +15,9 @@ list_text cs = 91 ∷ join_with_byte 44 (map signed_decimal cs) ++ 93 ∷ []
 abbrev pub polynomial_text : List ℤ → List ℕ
 polynomial_text p = list_text (take (degree p + 1) p)
 
--- `n`, or `n/d` where the denominator isn't 1
-abbrev pub fraction_text : ℤ → ℤ → List ℕ
-fraction_text n d = if int_eq d (pos 1) then signed_decimal n else signed_decimal n ++ 47 ∷ signed_decimal d
+-- a coefficient, behind a comma where it isn't the first
+abbrev pub coefficient_text : ℕ → ℤ → List ℕ
+coefficient_text k c = if k == 0 then signed_decimal c else 44 ∷ signed_decimal c
 
 -- the text of a fraction where both polynomials are constants, else both polynomials in brackets
 unfoldable pub quotient_text : Parts → List ℕ
@@ -26,6 +26,6 @@ quotient_text x =
     then fraction_text (coefficient x.numerator 0) (coefficient x.denominator 0)
     else polynomial_text x.numerator ++ 47 ∷ polynomial_text x.denominator
 
--- the old bytes, and behind them a beginning of a text
-abbrev pub HoldsFront : List ℕ → List ℕ → List ℕ → Type 0
-HoldsFront old text new = (front rest : List ℕ) × (text ≡ front ++ rest) × (new ≡ old ++ front)
+-- the old bytes, and others behind them
+abbrev pub Extends : List ℕ → List ℕ → Type 0
+Extends old new = (rest : List ℕ) × (new ≡ old ++ rest)

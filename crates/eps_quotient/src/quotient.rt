@@ -30,7 +30,7 @@ impl EpsQuotient {
     ghost use Rattle.eps_quotient.specs.Grammar.{IsQuotientText};
     ghost use Rattle.eps_quotient.specs.Lowering.{norm};
     ghost use Rattle.eps_quotient.specs.Polynomials.{polynomial_value, term, written_polynomial};
-    ghost use Rattle.eps_quotient.specs.Spelling.{HoldsFront, quotient_text};
+    ghost use Rattle.eps_quotient.specs.Spelling.{quotient_text};
     ghost use Rattle.eps_quotient.specs.Stored.{IsQuotient};
     ghost use Rattle.eps_quotient.specs.View.{number_of, pair_parts, quotient_parts};
 
@@ -63,10 +63,10 @@ impl EpsQuotient {
     }
 
     /// Appends the text: that of the fraction where both polynomials are constants, else `[c0,c1,..]/[d0,d1,..]`, the coefficients
-    /// of both up to the last that isn't 0. Where memory runs out, a beginning of it may stand behind what was there.
+    /// of both up to the last that isn't 0. Where memory runs out, `out` stays as it was.
     pub fn print(&self, out: &mut List<u8>) -> Result<(), NoMemory>
         ensures printed { OnOk result (out.new ≡ out.old ++ quotient_text (quotient_parts self.now)) }
-        ensures front { OnErr result (HoldsFront out.old (quotient_text (quotient_parts self.now)) out.new) }
+        ensures unchanged { OnErr result (out.new ≡ out.old) }
     {
         put_quotient(out, &self.pair)
     }
@@ -139,15 +139,11 @@ impl Number for EpsQuotient {
     ghost IsStored = { IsQuotient };
 
     fn zero() -> EpsQuotient {
-        EpsQuotient {
-            pair: Pair::zero(),
-        }
+        EpsQuotient { pair: Pair::zero() }
     }
 
     fn one() -> EpsQuotient {
-        EpsQuotient {
-            pair: Pair::one(),
-        }
+        EpsQuotient { pair: Pair::one() }
     }
 
     fn add(&self, other: &EpsQuotient) -> Result<EpsQuotient, TooWide> {

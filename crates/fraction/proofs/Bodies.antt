@@ -11,7 +11,8 @@ use Rattle.fraction.specs.declared.decimal.Decimal.{Decimal}
 use Rattle.fraction.specs.declared.shift.Shift.{Shift}
 use Rattle.fraction.specs.Numeral.{AreDigits, Exponent, exponent_text, IsExponent, exponent_of, Plain, Pointed, Pair, value_of, without_leading_zeros, HasZeroDenominator, HasTooManyDigits}
 use Rattle.fraction.specs.Sizes.{BeginsOtherwise, digits_in, IsDecimalSize, IsBodySize, GivesShift, GivesDecimal, GivesBody}
-use Rattle.fraction.proofs.Cut.{front_digits, cut_at, body_cut, exponent_no_digit, heads, exponent_apart}
+use Rattle.fraction.proofs.Cut.{front_digits, cut_at, body_cut, exponent_no_digit, exponent_apart}
+use Rattle.field_core.proofs.Heads.{heads}
 use Rattle.fraction.proofs.Zeros.{no_value, some_value, without_value}
 
 -- ---- pairs, with the parts us and vs without their leading zeros

@@ -6,6 +6,7 @@ use Rattle.std.specs.Str.Parse.{digits_value, digits_value_after}
 use Rattle.std.proofs.lemmas.Bool.{cond_both}
 use Rattle.std.proofs.lemmas.Bool.Decides.{nat_tests}
 use Rattle.std.proofs.lemmas.List.{take_at, drop_at, length-take-le}
+use Rattle.field_core.proofs.Heads.{heads}
 use Rattle.fraction.specs.Numeral.{AreDigits, Exponent, exponent_text, IsExponent, Body, Plain, Pointed, Pair, body_text, IsBody, without_leading_zeros}
 use Rattle.fraction.proofs.Classes.{digit_test, digit_in}
 use Rattle.fraction.proofs.DigitNumbers.{value_below, value_append}
@@ -96,10 +97,6 @@ pub front_are : (text : List ℕ) → AreDigits (take_while is_ascii_digit text)
 front_are [] = tt
 front_are (b ∷ bs) =
     cond_both (is_ascii_digit b) (1 + prefix_len is_ascii_digit bs) 0 (λ n. AreDigits (take n (b ∷ bs))) (λ h. front_by b bs (prefix_len is_ascii_digit bs) h refl (front_are bs)) (λ h. tt)
-
--- the parts of equal lists
-pub heads : (a b : ℕ) (xs ys : List ℕ) → a ∷ xs ≡ b ∷ ys → (a ≡ b) × (xs ≡ ys)
-heads a b xs ys e = (cc, cc)
 
 -- what begins with a byte below the digits is no exponent
 pub exponent_apart : (e : Option Exponent) (b : ℕ) (more : List ℕ) → IsExponent e → b < 48 → ¬ (b ∷ more ≡ exponent_text e)

@@ -3,9 +3,7 @@ pub mod AtOnce
 pub mod Bodies
 pub mod Classes
 pub mod Cut
-pub mod Decimals
 pub mod DigitNumbers
-pub mod Displayed
 pub mod LowestTerms
 pub mod Numerals
 pub mod Read
@@ -17,6 +15,5 @@ pub mod Scan
 pub mod ShortNumbers
 pub mod ShortTerms
 pub mod SignedTexts
-pub mod Signs
 pub mod Unique
 pub mod Zeros

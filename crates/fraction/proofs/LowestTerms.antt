@@ -16,8 +16,7 @@ use Rattle.fraction.specs.declared.fault.FractionFault.{FractionFault}
 use Rattle.fraction.specs.declared.fault.FractionFault.TheVariants.{ZeroDenominator, TooWide}
 use Rattle.fraction.specs.Numeral.{with_sign}
 use Rattle.fraction.specs.Lowest.{lowest_of, differ, lowest_terms, HasWidePart, IsLowest}
-use Rattle.fraction.specs.Laws.Turned.{abs_neg}
-use Rattle.fraction.specs.Laws.ExactTerms.{neg_times}
+use Rattle.field_core.proofs.Wholes.{size_negated, not_negative, neg_times}
 use Rattle.field_core.proofs.Divisors.{gcd_is}
 use Rattle.field_core.proofs.Coprime.{gcd_bounds, gcd_from_apart, quotients_apart, quotient_divides}
 
@@ -41,7 +40,7 @@ divided n d some =
     )
 
 pub abs_sign : (b : Bool) (n : ℕ) → unsigned_abs (with_sign b n) ≡ n
-abs_sign true n = abs_neg (pos n)
+abs_sign true n = size_negated (pos n)
 abs_sign false n = refl
 
 differ_is : (a b : Bool) → not (beq a b) ≡ differ a b
@@ -96,11 +95,8 @@ in_lowest n d below turned over under p q x r some h k e =
 
 -- ---- their values
 
-below_nothing : (n : ℕ) → is_negative (pos n) ≡ false
-below_nothing n = le-ltb n 0 (omega arith)
-
 pub sign_is : (z : ℤ) → z ≡ with_sign (is_negative z) (unsigned_abs z)
-sign_is (pos n) = rw below_nothing refl
+sign_is (pos n) = rw not_negative refl
 sign_is (negsuc n) = refl
 
 neg_both : (m n : ℕ) → neg_ℤ (pos m) *ℤ neg_ℤ (pos n) ≡ pos (m * n)

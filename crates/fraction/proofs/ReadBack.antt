@@ -1,16 +1,20 @@
 -- The text of a fraction reads back.
-use Rattle.std.proofs.Common.{◌≡◌, ◌≢◌, ℕ, ◌^◌, ◌<◌, ◌≤◌, ◌⊎◌, inl, inr, Bool, true, false, eqb, List, [], ◌∷◌, ◌++◌, length, length-append, ℤ, pos, ◌-ℤ◌, ◌*ℤ◌, ◌<ℤ◌, unsigned_abs, Option, Some, None, refl, sym, ap, ap₂, ◌∙◌, arith}
-use Rattle.std.specs.Fmt.{decimal}
+use Rattle.std.proofs.Common.{◌≡◌, ◌≢◌, ℕ, ◌^◌, ◌<◌, ◌≤◌, ◌⊎◌, inl, inr, Bool, true, false, eqb, List, [], ◌∷◌, ◌++◌, length, length-append, ℤ, pos, negsuc, zero, suc, append_assoc, ◌-ℤ◌, ◌*ℤ◌, ◌<ℤ◌, unsigned_abs, Option, Some, None, refl, sym, ap, ap₂, ◌∙◌, arith}
+use Rattle.std.specs.Fmt.{decimal, signed_decimal}
 use Rattle.std.specs.Int.{is_negative}
 use Rattle.std.specs.List.{AllByRecursion}
+use Rattle.std.specs.Ordering.{int_eq}
+use Rattle.std.proofs.lemmas.List.{append-nil}
 use Rattle.std.specs.Str.Parse.{AllDigits, digits_value}
+use Rattle.std.proofs.lemmas.Bool.Decides.{nat_tests, Decides-int_eq}
 use Rattle.std.proofs.lemmas.Bool.{ne_eqb, cases_eq, cond_both}
 use Rattle.std.proofs.lemmas.Fmt.{decimal_is_IsNumeral_wide, length-decimal-le_wide}
 use Rattle.std.proofs.lemmas.Str.Parse.{digit_from_value}
 use Rattle.std.proofs.lemmas.Int.{ints}
 use Rattle.field_core.specs.Terms.{Terms, IsReduced}
 use Rattle.fraction.specs.Numeral.{AreDigits, sign_text, IsSign, is_minus, with_sign, Plain, Pair, IsNumeral, value_of, without_leading_zeros, IsTooLong, HasZeroDenominator, HasTooManyDigits, IsNumeralOf}
-use Rattle.fraction.specs.Spelling.{signed_text, denominator_text, spelling, IsSpellingByte}
+use Rattle.field_core.specs.Texts.{fraction_text}
+use Rattle.fraction.specs.Spelling.{spelling, IsSpellingByte}
 use Rattle.fraction.proofs.LowestTerms.{sign_is}
 use Rattle.fraction.proofs.Zeros.{length_without_le, trailing_le}
 
@@ -60,35 +64,42 @@ unfolding sign_of
 minus_of true = refl
 minus_of false = refl
 
-spelt_with : (negative : Bool) (n : ℕ) (more : List ℕ) → signed_text negative n ++ more ≡ sign_text (sign_of negative) ++ (decimal n ++ more)
+spelt : (z : ℤ) → signed_decimal z ≡ sign_text (sign_of (is_negative z)) ++ decimal (unsigned_abs z)
 unfolding sign_of
-spelt_with true n more = refl
-spelt_with false n more = refl
+spelt (pos n) = grind (arith, nat_tests)
+spelt (negsuc n) = refl
 
-whole_text : (x : Terms) → unsigned_abs x.den ≡ 1 → spelling x ≡ signed_text (is_negative x.num) (unsigned_abs x.num) ++ []
+unsigned : (z : ℤ) → pos 0 <ℤ z → signed_decimal z ≡ decimal (unsigned_abs z)
+unsigned (pos n) p = refl
+unsigned (negsuc n) p = absurd (omega (arith, ints))
+
+whole_text : (x : Terms) → x.den ≡ pos 1 → spelling x ≡ sign_text (sign_of (is_negative x.num)) ++ decimal (unsigned_abs x.num) ++ []
 unfolding spelling
-whole_text x e = ap (λ d. signed_text (is_negative x.num) (unsigned_abs x.num) ++ denominator_text d) e
+whole_text x e = rw e (spelt x.num ∙ sym (append-nil _))
 
-pair_text : (x : Terms) → unsigned_abs x.den ≢ 1 → spelling x ≡ signed_text (is_negative x.num) (unsigned_abs x.num) ++ 47 ∷ decimal (unsigned_abs x.den)
+other_text : (n d : ℤ) → (d ≡ pos 1 → ⊥) → fraction_text n d ≡ signed_decimal n ++ 47 ∷ signed_decimal d
+other_text n d h = grind (arith, nat_tests, Decides-int_eq)
+
+pair_text : (x : Terms) → pos 0 <ℤ x.den → (x.den ≡ pos 1 → ⊥) → spelling x ≡ sign_text (sign_of (is_negative x.num)) ++ decimal (unsigned_abs x.num) ++ 47 ∷ decimal (unsigned_abs x.den)
 unfolding spelling
-pair_text x h = rw (ne_eqb (unsigned_abs x.den) 1 h) refl
+pair_text x p h = other_text x.num x.den h ∙ ap₂ (λ bs cs. bs ++ 47 ∷ cs) (spelt x.num) (unsigned x.den p)
 
-whole_numeral : (x : Terms) → unsigned_abs x.den ≡ 1 → IsShort (unsigned_abs x.num) → IsNumeral (spelling x)
+whole_numeral : (x : Terms) → x.den ≡ pos 1 → IsShort (unsigned_abs x.num) → IsNumeral (spelling x)
 whole_numeral x e s = record {
   sign = sign_of (is_negative x.num);
   body = Plain (decimal (unsigned_abs x.num)) None;
   is_sign = is_sign (is_negative x.num);
   is_body = (s.are, s.some, tt);
-  spelt = whole_text x e ∙ spelt_with (is_negative x.num) (unsigned_abs x.num) [];
+  spelt = whole_text x e ∙ append_assoc (sign_text (sign_of (is_negative x.num))) _ [];
 }
 
-pair_numeral : (x : Terms) → unsigned_abs x.den ≢ 1 → IsShort (unsigned_abs x.num) → IsShort (unsigned_abs x.den) → IsNumeral (spelling x)
-pair_numeral x h s t = record {
+pair_numeral : (x : Terms) → pos 0 <ℤ x.den → (x.den ≡ pos 1 → ⊥) → IsShort (unsigned_abs x.num) → IsShort (unsigned_abs x.den) → IsNumeral (spelling x)
+pair_numeral x p h s t = record {
   sign = sign_of (is_negative x.num);
   body = Pair (decimal (unsigned_abs x.num)) (decimal (unsigned_abs x.den));
   is_sign = is_sign (is_negative x.num);
   is_body = (s.are, s.some, t.are, t.some);
-  spelt = pair_text x h ∙ spelt_with (is_negative x.num) (unsigned_abs x.num) (47 ∷ decimal (unsigned_abs x.den));
+  spelt = pair_text x p h ∙ append_assoc (sign_text (sign_of (is_negative x.num))) _ _;
 }
 
 -- ---- their value
@@ -99,30 +110,33 @@ num_is x s = ap₂ with_sign (minus_of (is_negative x.num)) s.value ∙ sym (sig
 den_is : (z : ℤ) (n : ℕ) → pos 0 <ℤ z → n ≡ unsigned_abs z → pos n ≡ z
 den_is z n p e = omega (arith, ints)
 
-whole_back : (x : Terms) → IsReduced x → unsigned_abs x.den ≡ 1 → IsShort (unsigned_abs x.num) → IsNumeralOf (spelling x) x
+whole_back : (x : Terms) → IsReduced x → x.den ≡ pos 1 → IsShort (unsigned_abs x.num) → IsNumeralOf (spelling x) x
 unfolding whole_numeral HasZeroDenominator HasTooManyDigits value_of
 whole_back x r e s = record {
   numeral = whole_numeral x e s;
   defined = λ z. z;
   within = not_long (without_leading_zeros (decimal (unsigned_abs x.num))) (few_without (unsigned_abs x.num) s);
   lowest = r;
-  same = ap₂ ◌*ℤ◌ (sym (num_is x s)) (den_is x.den 1 r.positive (sym e));
+  same = ap₂ ◌*ℤ◌ (sym (num_is x s)) (sym e);
 }
 
-pair_back : (x : Terms) → IsReduced x → unsigned_abs x.den ≢ 1 → IsShort (unsigned_abs x.num) → IsShort (unsigned_abs x.den) → IsNumeralOf (spelling x) x
+pair_back : (x : Terms) → IsReduced x → (x.den ≡ pos 1 → ⊥) → IsShort (unsigned_abs x.num) → IsShort (unsigned_abs x.den) → IsNumeralOf (spelling x) x
 unfolding pair_numeral HasZeroDenominator HasTooManyDigits value_of
 pair_back x r h s t =
     let num = num_is x s in
     let den : pos (digits_value 10 (decimal (unsigned_abs x.den))) ≡ x.den = den_is x.den _ r.positive t.value in
     let some : ¬ (digits_value 10 (decimal (unsigned_abs x.den)) ≡ 0) = (λ z. let p = r.positive in let v = t.value in omega (arith, ints)) in
     let few : ¬ ((38 < length (without_leading_zeros (decimal (unsigned_abs x.num)))) ⊎ (38 < length (without_leading_zeros (decimal (unsigned_abs x.den))))) = (λ w. elim w [ inl m ↦ omega (arith, few_without (unsigned_abs x.num) s) | inr m ↦ omega (arith, few_without (unsigned_abs x.den) t) ]) in
-    record { numeral = pair_numeral x h s t; defined = some; within = few; lowest = r; same = ap₂ ◌*ℤ◌ (sym num) den }
+    record { numeral = pair_numeral x r.positive h s t; defined = some; within = few; lowest = r; same = ap₂ ◌*ℤ◌ (sym num) den }
+
+den_is_one : (z : ℤ) → pos 0 <ℤ z → unsigned_abs z ≡ 1 → z ≡ pos 1
+den_is_one z p e = omega (arith, ints)
 
 pub read_back : (x : Terms) → IsReduced x → unsigned_abs x.num < 10 ^ 38 → unsigned_abs x.den < 10 ^ 38 → IsNumeralOf (spelling x) x
 read_back x r n d =
     elim (cases_eq (unsigned_abs x.den) 1) [
-      | inl one ↦ whole_back x r one (short (unsigned_abs x.num) n)
-      | inr other ↦ pair_back x r other (short (unsigned_abs x.num) n) (short (unsigned_abs x.den) d)
+      | inl one ↦ whole_back x r (den_is_one x.den r.positive one) (short (unsigned_abs x.num) n)
+      | inr other ↦ pair_back x r (λ e. other (ap unsigned_abs e)) (short (unsigned_abs x.num) n) (short (unsigned_abs x.den) d)
     ]
 
 -- ---- its bytes
@@ -138,21 +152,28 @@ digit_bytes (d ∷ ds) h = let r = digit_from_value d h.0 in (inl (r.0, r.1), di
 decimal_bytes : (n : ℕ) → n < 10 ^ 64 → AllByRecursion IsSpellingByte (decimal n)
 decimal_bytes n h = digit_bytes (decimal n) (decimal_is_IsNumeral_wide n h).0.1
 
-signed_bytes : (negative : Bool) (n : ℕ) → n < 10 ^ 64 → AllByRecursion IsSpellingByte (signed_text negative n)
-signed_bytes true n h = (inr (inl refl), decimal_bytes n h)
-signed_bytes false n h = decimal_bytes n h
+number_bytes : (z : ℤ) → unsigned_abs z < 10 ^ 64 → AllByRecursion IsSpellingByte (signed_decimal z)
+number_bytes (pos n) h = decimal_bytes n h
+number_bytes (negsuc n) h = (inr (inl refl), decimal_bytes (suc n) h)
 
-denominator_bytes : (d : ℕ) → d < 10 ^ 64 → AllByRecursion IsSpellingByte (denominator_text d)
-denominator_bytes d h = cond_both (eqb d 1) [] (47 ∷ decimal d) (AllByRecursion IsSpellingByte) (λ e. tt) (λ e. (inr (inr refl), decimal_bytes d h))
+fraction_bytes : (n d : ℤ) → unsigned_abs n < 10 ^ 64 → unsigned_abs d < 10 ^ 64 → AllByRecursion IsSpellingByte (fraction_text n d)
+fraction_bytes n d h k =
+    cond_both (int_eq d (pos 1)) (signed_decimal n) (signed_decimal n ++ 47 ∷ signed_decimal d) (AllByRecursion IsSpellingByte)
+    (λ e. number_bytes n h) (λ e. append_bytes (signed_decimal n) (47 ∷ signed_decimal d) (number_bytes n h) (inr (inr refl), number_bytes d k))
 
 pub spelling_bytes : (x : Terms) → IsReduced x → AllByRecursion IsSpellingByte (spelling x)
 unfolding spelling
-spelling_bytes x r = append_bytes _ _ (signed_bytes (is_negative x.num) (unsigned_abs x.num) (omega (arith, r.num_size))) (denominator_bytes (unsigned_abs x.den) (omega (arith, r.den_size)))
+spelling_bytes x r = fraction_bytes x.num x.den (omega (arith, r.num_size)) (omega (arith, r.den_size))
 
-signed_some : (negative : Bool) (n : ℕ) → n < 10 ^ 64 → 0 < length (signed_text negative n)
-signed_some true n h = omega arith
-signed_some false n h = (decimal_is_IsNumeral_wide n h).0.0
+number_some : (z : ℤ) → unsigned_abs z < 10 ^ 64 → 0 < length (signed_decimal z)
+number_some (pos n) h = (decimal_is_IsNumeral_wide n h).0.0
+number_some (negsuc n) h = omega arith
+
+fraction_some : (n d : ℤ) → unsigned_abs n < 10 ^ 64 → 0 < length (fraction_text n d)
+fraction_some n d h =
+    cond_both (int_eq d (pos 1)) (signed_decimal n) (signed_decimal n ++ 47 ∷ signed_decimal d) (λ bs. 0 < length bs)
+    (λ e. number_some n h) (λ e. omega (arith, number_some n h, length-append (signed_decimal n) (47 ∷ signed_decimal d)))
 
 pub spelling_some : (x : Terms) → IsReduced x → 0 < length (spelling x)
 unfolding spelling
-spelling_some x r = omega (arith, signed_some (is_negative x.num) (unsigned_abs x.num) (omega (arith, r.num_size)), length-append (signed_text (is_negative x.num) (unsigned_abs x.num)) (denominator_text (unsigned_abs x.den)))
+spelling_some x r = fraction_some x.num x.den (omega (arith, r.num_size))

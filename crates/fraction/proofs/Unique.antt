@@ -6,34 +6,18 @@ use Rattle.std.proofs.lemmas.Int.{ints, unsigned_abs-mul}
 use Rattle.std.proofs.lemmas.Nat.Gcd.{dvd_antisymm}
 use Rattle.std.proofs.Math.Nat.{dvd-mul_left}
 use Rattle.field_core.specs.Terms.{Terms, IsReduced}
-use Rattle.field_core.proofs.Coprime.{apart_from_gcd, divides_other}
 use Rattle.field_core.proofs.IntegerRing.{ring, *ℤ_cancel}
 use Rattle.fraction.specs.declared.fault.NumberFault.{NumberFault}
 use Rattle.fraction.specs.declared.fault.NumberFault.TheVariants.{Empty, BadByte, ZeroDenominator, TooManyDigits}
 use Rattle.fraction.specs.Numeral.{AreDigits, sign_text, IsSign, is_minus, Exponent, exponent_text, IsExponent, exponent_of, Body, Plain, Pointed, Pair, body_text, IsBody, IsNumeral, over_power, value_of, HasZeroDenominator, HasTooManyDigits, IsNumeralOf, IsParseFault, Same}
+use Rattle.field_core.proofs.Heads.{heads}
+use Rattle.fraction.specs.Laws.Order.{reduced_unique}
 use Rattle.fraction.specs.Prefixes.{IsBadByte}
-use Rattle.fraction.proofs.Cut.{front_of, rest_of, cut_at, body_cut, exponent_no_digit, heads, exponent_apart}
+use Rattle.fraction.proofs.Cut.{front_of, rest_of, cut_at, body_cut, exponent_no_digit, exponent_apart}
 use Rattle.fraction.proofs.DigitNumbers.{power_some}
 use Rattle.fraction.proofs.SignedTexts.{numeral_split}
 
 -- ---- fractions in lowest terms
-
-abs_cross : (x y : Terms) → Same x y → unsigned_abs x.num * unsigned_abs y.den ≡ unsigned_abs y.num * unsigned_abs x.den
-abs_cross x y h = sym (unsigned_abs-mul x.num y.den) ∙ ap unsigned_abs h ∙ unsigned_abs-mul y.num x.den
-
-den_divides : (x y : Terms) → IsReduced x → Same x y → unsigned_abs x.den ∣ unsigned_abs y.den
-den_divides x y r h =
-    divides_other (unsigned_abs x.den) (unsigned_abs x.num) (unsigned_abs y.den) (apart_from_gcd (unsigned_abs x.num) (unsigned_abs x.den) r.reduced) (subst (λ n. unsigned_abs x.den ∣ n) (sym (abs_cross x y h)) (dvd-mul_left (unsigned_abs x.den) (unsigned_abs y.num)))
-
-same_den : (m n : ℤ) → pos 0 <ℤ m → pos 0 <ℤ n → unsigned_abs m ≡ unsigned_abs n → m ≡ n
-same_den m n p q e = omega (arith, ints)
-
--- one value has one pair of lowest terms
-pub reduced_unique : (x y : Terms) → IsReduced x → IsReduced y → Same x y → x ≡ y
-reduced_unique x y r s h =
-    let den : x.den ≡ y.den = same_den x.den y.den r.positive s.positive (dvd_antisymm (den_divides x y r h) (den_divides y x s (sym h))) in
-    let num : x.num ≡ y.num = *ℤ_cancel x.num y.num x.den r.positive (subst (λ d. x.num *ℤ d ≡ y.num *ℤ x.den) (sym den) h) in
-    ap₂ (λ n d. record { num = n; den = d }) num den
 
 -- two values that are equal to a third
 pub same_through : (x y v : Terms) → pos 0 <ℤ v.den → Same x v → Same y v → Same x y

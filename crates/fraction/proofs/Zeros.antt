@@ -11,7 +11,7 @@ use Rattle.std.proofs.lemmas.Int.Digits.{digits_value_more}
 use Rattle.std.proofs.Math.Seq.{drop-append_seam}
 use Rattle.std.proofs.Math.Nat.{pow-suc}
 use Rattle.fraction.specs.Numeral.{AreDigits, is_nought, without_leading_zeros, trailing_zeros}
-use Rattle.fraction.proofs.DigitNumbers.{digit_is}
+use Rattle.field_core.proofs.Digits.{digit_is}
 
 -- ---- prefixes of joined lists
 

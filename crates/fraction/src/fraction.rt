@@ -4,7 +4,6 @@ ghost use Rattle.fraction.specs.Laws.PlainLaws.{plain_is_exact};
 
 use crate::lowest::quotient;
 use crate::parse::read;
-use crate::print::spelling;
 use crate::written::{inverse, multiply, opposite, plus};
 use crate::{FractionFault, NumberFault};
 use field_core::{List, NoMemory, Number, Op, Ratio, TooWide};
@@ -66,6 +65,7 @@ impl fmt::Display for Fraction {
 
     ghost output = { λ x. Some (spelling (terms x)) };
 
+    #[tactic(auto, unfolding(crate::specs::Spelling::spelling))]
     fn fmt<W: fmt::Write>(&self, f: &mut fmt::Formatter<W>) -> fmt::Result {
         let num = self.ratio.num();
         let den = self.ratio.den();
@@ -175,12 +175,12 @@ impl Fraction {
 
     /// Appends the fraction as a text: `n` where the denominator is 1, else `n/d`. Where memory runs out, `out` stays as it
     /// was.
+    #[tactic(auto, unfolding(crate::specs::Spelling::spelling))]
     pub fn print(&self, out: &mut List<u8>) -> Result<(), NoMemory>
         ensures printed { OnOk result (out.new ≡ out.old ++ spelling (terms_of self.now)) }
         ensures unchanged { OnErr result (out.new ≡ out.old) }
     {
-        let text = spelling(&self.ratio);
-        out.append(text.as_slice())
+        out.append_fraction(self.ratio.num(), self.ratio.den())
     }
 
     /// This ratio as a fraction.
@@ -196,6 +196,7 @@ impl Fraction {
     {
         self.ratio
     }
+
     /// Whether it is 0.
     pub fn is_zero(&self) -> bool
         ensures { result ≡ is_zero (terms self.now) }

@@ -1,7 +1,6 @@
 //! Fractions: the plain kind of numbers.
 #![tactic(auto)]
 
-mod backward;
 mod check;
 mod decimal;
 mod digits;
@@ -11,7 +10,6 @@ pub mod laws;
 mod lowest;
 mod machine;
 mod parse;
-mod print;
 mod shift;
 mod short;
 mod size;

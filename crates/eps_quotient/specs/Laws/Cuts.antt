@@ -10,12 +10,11 @@ use Rattle.eps_poly.specs.Polynomials.{IsPolynomial, monomial, zero_polynomial}
 use Rattle.eps_poly.specs.Factors.{content, order, factor, lowered, from_factors, IsCore, core}
 use Rattle.eps_poly.proofs.ContentLaws.{content_divides, content_small}
 use Rattle.eps_poly.proofs.FactorLaws.{lowered_factors, core_is, core_factors}
-use Rattle.eps_poly.proofs.IntegerQuotients.{quotient_times}
+use Rattle.field_core.proofs.Wholes.{quotient_times, size_quotient}
 use Rattle.eps_poly.proofs.OrderLaws.{order_below, lowest_from_coefficient}
 use Rattle.eps_poly.proofs.Validity.{zero_valid, set_valid, lowered_valid}
 use Rattle.eps_quotient.specs.Lowering.{one_polynomial}
 use Rattle.eps_quotient.specs.Laws.QuotientLaws.{same_sym, same_trans}
-use Rattle.eps_quotient.specs.Laws.LimitTerms.{size_quotient}
 use Rattle.eps_quotient.specs.Laws.Multiples.{factors-factors, factors-same, length-monomial, monomial-at, monomial-factors, monomial-multiply, content-same, content-factors}
 use Rattle.eps_quotient.specs.Laws.Cores.{Is, only_core, length-core, length-lowered, size-factor, factor_some}
 

@@ -24,7 +24,7 @@ use Rattle.field_core.proofs.Divisors.{gcd_is}
 use Rattle.field_core.proofs.IntegerRing.{ring}
 use Rattle.std.proofs.Math.IntN.{+ℤ_idl}
 use Rattle.field_core.proofs.Coprime.{gcd_from_apart, quotients_apart, quotient_divides, gcd_bounds}
-use Rattle.eps_poly.proofs.IntegerQuotients.{quotient_times}
+use Rattle.field_core.proofs.Wholes.{quotient_times, size_positive, size_quotient}
 use Rattle.eps_quotient.specs.Laws.QuotientLaws.{one_value, sum_over_same, sign_value}
 
 pub first_is : (p : List ℤ) → first p ≡ coefficient p 0
@@ -67,17 +67,6 @@ first_below n d h up some unit z =
     ∙ ap int_sign (lowest_first (poly_add d (poly_negate n)) (λ e. other_nonzero c other (sym head ∙ e)) ∙ head) ∙ signs_apart c other above)
 
 -- ---- lowest terms
-
-size_negative : (n : ℕ) → unsigned_abs (neg_ℤ (pos n)) ≡ n
-size_negative zero = refl
-size_negative (suc n) = refl
-
-pub size_quotient : (z : ℤ) (g : ℕ) → unsigned_abs (int_div z (pos g)) ≡ unsigned_abs z / g
-size_quotient (pos n) g = refl
-size_quotient (negsuc n) g = size_negative (suc n / g)
-
-size_positive : (z : ℤ) → pos 0 <ℤ z → 0 < unsigned_abs z
-size_positive z h = omega (arith, ints)
 
 quotient_positive : (z : ℤ) (g : ℕ) → pos 0 <ℤ z → g ∣ unsigned_abs z → pos 0 <ℤ int_div z (pos g)
 quotient_positive (pos n) g h d = let q = pos_of_dvd_of_pos (quotient_divides g d) (size_positive (pos n) h) in omega (arith, ints)

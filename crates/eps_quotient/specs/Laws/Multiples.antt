@@ -7,11 +7,10 @@ use Rattle.std.proofs.lemmas.List.{length-set}
 use Rattle.std.proofs.lemmas.Nat.Gcd.{dvd-zero, dvd_antisymm, dvd_refl}
 use Rattle.std.proofs.Math.IntN.{+ℤ_idr, *ℤ-zero}
 use Rattle.std.proofs.Math.Nat.{mul-zero}
-use Rattle.field_core.proofs.IntegerRing.{*ℤ_assoc}
 use Rattle.field_core.proofs.Divisors.{gcd_same}
 use Rattle.field_core.proofs.Coprime.{gcd_scaled}
 use Rattle.field_core.specs.Divisor.{gcd}
-use Rattle.field_core.specs.Laws.Integers.{int_multiply_one}
+use Rattle.field_core.specs.Laws.Integers.{int_multiply_assoc, int_multiply_one}
 use Rattle.field_core.specs.Polynomial.{coefficient, Same, poly_scale, poly_multiply}
 use Rattle.field_core.specs.Laws.PolynomialLaws.{ring, value-multiply, same_in, coefficient-add, coefficient-scale, multiply-shift_left, multiply_comm}
 use Rattle.eps_poly.specs.Polynomials.{zero_polynomial, monomial}
@@ -54,7 +53,7 @@ factors-factors c d k m p = same_factors (from_factors c k (from_factors d m p))
     high : (j : ℕ) → coefficient (from_factors c k (from_factors d m p)) (j + (k + m)) ≡ (c *ℤ d) *ℤ coefficient p j
     high j =
         coefficient-factors c k (j + m) (j + (k + m)) (from_factors d m p) (turn j k m) ∙ ap (λ x. c *ℤ x) (factors-at d m p j)
-        ∙ sym (*ℤ_assoc c d (coefficient p j))
+        ∙ sym (int_multiply_assoc c d (coefficient p j))
 
 pub factors-same : (c : ℤ) (k : ℕ) (p q : List ℤ) → Same p q → Same (from_factors c k p) (from_factors c k q)
 factors-same c k p q s =

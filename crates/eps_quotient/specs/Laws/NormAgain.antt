@@ -17,7 +17,7 @@ use Rattle.eps_poly.proofs.OrderLaws.{coefficient-below_order}
 use Rattle.eps_poly.proofs.FactorLaws.{coefficient-lowered, core_factors}
 use Rattle.eps_quotient.specs.Laws.Cores.{length-lowered}
 use Rattle.eps_quotient.specs.Laws.Multiples.{length-monomial, monomial-factors}
-use Rattle.eps_poly.proofs.IntegerQuotients.{quotient_times}
+use Rattle.field_core.proofs.Wholes.{quotient_times}
 use Rattle.eps_quotient.specs.Lowering.{one_polynomial, zero_quotient, common_order, without_powers, without_cores, lower, turned, norm}
 use Rattle.eps_quotient.specs.Stored.{IsQuotient}
 use Rattle.eps_quotient.specs.Laws.QuotientLaws.{same_sym, same_trans}

@@ -6,6 +6,7 @@ use Rattle.std.specs.Int.{is_negative}
 use Rattle.std.specs.Ordering.{ordering_reverse}
 use Rattle.std.specs.declared.cmp.Ordering.TheVariants.{Less, Greater}
 use Rattle.field_core.specs.Divisor.{gcd}
+use Rattle.field_core.proofs.Wholes.{size_negated}
 use Rattle.field_core.specs.Kind.{Parts}
 use Rattle.field_core.specs.Exact.{value_of}
 use Rattle.field_core.specs.Laws.Ring.{negate_multiply, multiply_negate}
@@ -32,13 +33,8 @@ negated_none (pos zero) e = refl
 negated_none (pos (suc n)) e = absurd (cc)
 negated_none (negsuc n) e = absurd (cc)
 
-size-negate : (z : ℤ) → unsigned_abs (neg_ℤ z) ≡ unsigned_abs z
-size-negate (pos zero) = refl
-size-negate (pos (suc n)) = refl
-size-negate (negsuc n) = refl
-
 size-coefficient : (p : List ℤ) (k : ℕ) → unsigned_abs (coefficient (poly_negate p) k) ≡ unsigned_abs (coefficient p k)
-size-coefficient p k = ap unsigned_abs (coefficient-negate p k) ∙ size-negate (coefficient p k)
+size-coefficient p k = ap unsigned_abs (coefficient-negate p k) ∙ size_negated (coefficient p k)
 
 pub negate_some : (p : List ℤ) → IsNonZero p → IsNonZero (poly_negate p)
 negate_some p some e = some (negated_none (lowest p) (sym (lowest-negate p) ∙ e))

@@ -10,15 +10,8 @@ use Rattle.fraction.specs.Numeral.{Same}
 use Rattle.fraction.specs.Laws.CrossProducts.{sum_of, product_of}
 use Rattle.field_core.proofs.Divisors.{gcd_is}
 use Rattle.field_core.proofs.IntegerRing.{ring}
-use Rattle.fraction.specs.Laws.Reduced.{sized_says}
-
-pub neg_times : (m g : ℕ) → neg_ℤ (pos m) *ℤ pos g ≡ neg_ℤ (pos (m * g))
-neg_times zero g = rw (zero-mul g) (omega (arith, ints))
-neg_times (suc m) g = omega (arith, ints)
-
-quotient_times : (z : ℤ) (g : ℕ) → g ∣ unsigned_abs z → int_div z (pos g) *ℤ pos g ≡ z
-quotient_times (pos n) g d = let e = div-mul_cancel g d in omega (arith, ints)
-quotient_times (negsuc n) g d = neg_times (suc n / g) g ∙ ap (λ m. neg_ℤ (pos m)) (div-mul_cancel g d)
+use Rattle.field_core.proofs.Sized.{sized_says}
+use Rattle.field_core.proofs.Wholes.{quotient_times}
 
 mul_ring : (nx dx ny dy n1 n2 d1 d2 a b : ℤ) → n1 *ℤ a ≡ nx → d2 *ℤ a ≡ dy → n2 *ℤ b ≡ ny → d1 *ℤ b ≡ dx → (n1 *ℤ n2) *ℤ (dx *ℤ dy) ≡ (nx *ℤ ny) *ℤ (d1 *ℤ d2)
 mul_ring nx dx ny dy n1 n2 d1 d2 a b e f g h = rw (← e, ← f, ← g, ← h) (simp ring)

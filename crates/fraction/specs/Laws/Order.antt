@@ -20,6 +20,7 @@ use Rattle.field_core.specs.Laws.Effective.{fraction-compare, fraction-cross, po
 use Rattle.field_core.specs.declared.ratio.Ratio.{Ratio}
 use Rattle.field_core.proofs.Coprime.{apart_from_gcd, divides_other}
 use Rattle.field_core.proofs.IntegerRing.{*ℤ_cancel}
+use Rattle.field_core.proofs.Wholes.{same_by_size}
 use Rattle.fraction.specs.Numeral.{Same}
 
 -- ---- one value has one pair of lowest terms
@@ -31,12 +32,9 @@ den_divides : (x y : Terms) → IsReduced x → Same x y → unsigned_abs x.den 
 den_divides x y r h =
     divides_other (unsigned_abs x.den) (unsigned_abs x.num) (unsigned_abs y.den) (apart_from_gcd (unsigned_abs x.num) (unsigned_abs x.den) r.reduced) (subst (λ n. unsigned_abs x.den ∣ n) (sym (abs_cross x y h)) (dvd-mul_left (unsigned_abs x.den) (unsigned_abs y.num)))
 
-same_den : (m n : ℤ) → pos 0 <ℤ m → pos 0 <ℤ n → unsigned_abs m ≡ unsigned_abs n → m ≡ n
-same_den m n p q e = omega (arith, ints)
-
 pub reduced_unique : (x y : Terms) → IsReduced x → IsReduced y → Same x y → x ≡ y
 reduced_unique x y r s h =
-    let den : x.den ≡ y.den = same_den x.den y.den r.positive s.positive (dvd_antisymm (den_divides x y r h) (den_divides y x s (sym h))) in
+    let den : x.den ≡ y.den = same_by_size x.den y.den r.positive s.positive (dvd_antisymm (den_divides x y r h) (den_divides y x s (sym h))) in
     let num : x.num ≡ y.num = *ℤ_cancel x.num y.num x.den r.positive (subst (λ d. x.num *ℤ d ≡ y.num *ℤ x.den) (sym den) h) in
     ap₂ (λ n d. record { num = n; den = d }) num den
 

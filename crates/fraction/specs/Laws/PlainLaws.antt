@@ -9,7 +9,7 @@ use Rattle.fraction.specs.Written.{opposite, inverse, inverse_of}
 use Rattle.fraction.specs.Laws.CrossProducts.{sum_of, product_of}
 use Rattle.fraction.specs.Laws.Turned.{opposite_reduced, inverse_reduced}
 use Rattle.field_core.specs.Laws.Ring.{negate_multiply, multiply_negate, negate_negate}
-use Rattle.field_core.specs.Laws.Integers.{integers}
+use Rattle.field_core.specs.Laws.Integers.{integers, int_negate_multiply}
 use Rattle.field_core.specs.Number.{Number}
 use Rattle.field_core.specs.Arithmetic.{number_zero, number_one, number_negate, number_sign, ◌+ε◌, ◌*ε◌, ◌/ε◌, number_compare}
 use Rattle.field_core.specs.Laws.PolynomialLaws.{nonzero-one, int_sign-scale, positive_in}
@@ -49,10 +49,6 @@ opposite_value y r = sym (fraction-negate y.num y.den (some y r))
 one_is : fraction (pos 1) (pos 1) ≡ number_one
 unfolding number_one
 one_is = quotient-pair (pos 1 ∷ []) (pos 1 ∷ []) nonzero-one
-
-int_negate_multiply : (a b : ℤ) → neg_ℤ a *ℤ b ≡ neg_ℤ (a *ℤ b)
-unfolding integers
-int_negate_multiply = negate_multiply integers
 
 int_multiply_negate : (a b : ℤ) → a *ℤ neg_ℤ b ≡ neg_ℤ (a *ℤ b)
 unfolding integers

@@ -3,12 +3,8 @@ use Rattle.std.proofs.lemmas.Int.{ints}
 use Rattle.field_core.specs.Divisor.{gcd}
 use Rattle.field_core.specs.Terms.{Terms, IsReduced}
 use Rattle.fraction.specs.Written.{opposite, inverse, inverse_of}
+use Rattle.field_core.proofs.Wholes.{size_negated}
 use Rattle.field_core.proofs.Coprime.{apart_from_gcd, gcd_from_apart, apart_swap}
-
-pub abs_neg : (z : ℤ) → unsigned_abs (neg_ℤ z) ≡ unsigned_abs z
-abs_neg (pos zero) = refl
-abs_neg (pos (suc n)) = refl
-abs_neg (negsuc n) = refl
 
 gcd_swap : (a b : ℕ) → gcd a b ≡ 1 → gcd b a ≡ 1
 gcd_swap a b h = gcd_from_apart b a (apart_swap a b (apart_from_gcd a b h))
@@ -17,15 +13,15 @@ pub opposite_reduced : (x : Terms) → IsReduced x → IsReduced (opposite x)
 unfolding opposite
 opposite_reduced x r = record {
   positive = r.positive;
-  num_size = rw (abs_neg x.num) r.num_size;
+  num_size = rw (size_negated x.num) r.num_size;
   den_size = r.den_size;
-  reduced = rw (abs_neg x.num) r.reduced;
+  reduced = rw (size_negated x.num) r.reduced;
 }
 
 turned : (n d : ℤ) → IsReduced (record { num = n; den = d }) → n ≢ pos 0 → IsReduced (inverse_of n d)
 turned (pos zero) d r h = absurd (h refl)
 turned (pos (suc n)) d r h = record { positive = omega (arith, ints); num_size = r.den_size; den_size = r.num_size; reduced = gcd_swap _ _ r.reduced }
-turned (negsuc n) d r h = record { positive = omega (arith, ints); num_size = rw (abs_neg d) r.den_size; den_size = r.num_size; reduced = rw (abs_neg d) (gcd_swap _ _ r.reduced) }
+turned (negsuc n) d r h = record { positive = omega (arith, ints); num_size = rw (size_negated d) r.den_size; den_size = r.num_size; reduced = rw (size_negated d) (gcd_swap _ _ r.reduced) }
 
 pub inverse_reduced : (x : Terms) → IsReduced x → x.num ≢ pos 0 → IsReduced (inverse x)
 unfolding inverse

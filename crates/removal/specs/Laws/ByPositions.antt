@@ -19,7 +19,7 @@ use Rattle.removal.specs.Exactness.{IsRemoved}
 use Rattle.removal.specs.Laws.After.{weight_after, edge_after, weight_removed, row_removed, column_removed, loop_removed}
 use Rattle.removal.specs.Laws.Seen.{weight_in, weight_off, edge_in, edge_off_left, edge_off_right, edge_off_loop}
 
-same_graph : (A B : Graph Number) → ((l : ℕ) → A.weight l ≡ B.weight l) → ((l k : ℕ) → A.edge l k ≡ B.edge l k) → A ≡ B
+pub same_graph : (A B : Graph Number) → ((l : ℕ) → A.weight l ≡ B.weight l) → ((l k : ℕ) → A.edge l k ≡ B.edge l k) → A ≡ B
 same_graph A B h g = made (fun_ext h) (fun_ext (λ l. fun_ext (g l)))
   where
     made : A.weight ≡ B.weight → A.edge ≡ B.edge → A ≡ B

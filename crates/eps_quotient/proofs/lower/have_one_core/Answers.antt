@@ -1,6 +1,5 @@
-use Rattle.std.proofs.Common.{◌≤◌, ◌≡◌, ◌∙◌, sym, ap, arith}
-use Rattle.eps_poly.specs.Factors.{core, order}
-use Rattle.eps_poly.specs.Written.{degree}
+use Rattle.std.proofs.Common.{◌∙◌, sym, ap, arith}
+use Rattle.eps_poly.specs.Factors.{core}
 use Rattle.eps_poly.proofs.Coefficients.{same_from, same_to}
 use Rattle.eps_poly.proofs.DegreeLaws.{order_low}
 use Rattle.eps_quotient.proofs.CoreTests.{cores_apart, cores_of_powers}

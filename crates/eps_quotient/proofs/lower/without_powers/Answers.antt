@@ -1,4 +1,4 @@
-use Rattle.std.proofs.Common.{◌≤◌, ◌∙◌, ap₂, arith}
+use Rattle.std.proofs.Common.{◌∙◌, ap₂, arith}
 use Rattle.eps_poly.specs.Factors.{lowered}
 use Rattle.eps_quotient.specs.Lowering.{without_powers}
 use Rattle.eps_quotient.specs.Laws.Cuts.{order_within}
@@ -15,6 +15,8 @@ lowered-requires-2-clause-power c = let low = order_within c.args.b.now c.requir
 pub invariant_of-result : goal.invariant_of-result
 unfolding without_powers
 invariant_of-result c =
-    record { some = some_list _ _
-    (c.lowered-2.ensures ∙ ap₂ (λ z h. lowered z h c.args.b.now) c.requires.power c.common_content-content.ensures.value)
-    (without_powers_some c.args.a.now c.args.b.now c.requires.held c.requires.b) }
+    record {
+      some = some_list _ _
+          (c.lowered-2.ensures ∙ ap₂ (λ z h. lowered z h c.args.b.now) c.requires.power c.common_content-content.ensures.value)
+          (without_powers_some c.args.a.now c.args.b.now c.requires.held c.requires.b);
+    }

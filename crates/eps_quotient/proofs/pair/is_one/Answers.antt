@@ -1,7 +1,6 @@
-use Rattle.std.proofs.Common.{rules, ◌≡◌, ◌∙◌, sym, ap, FitsSigned, pos, to_z, of_z}
+use Rattle.std.proofs.Common.{rules, ◌∙◌, sym, ap, FitsSigned, to_z, of_z}
 use Rattle.std.specs.Int.{w128}
 use Rattle.std.proofs.lemmas.Int.{to_z-of_z}
-use Rattle.field_core.specs.Polynomial.{coefficient}
 use Rattle.eps_quotient.proofs.CoreTests.{one_by_degree, one_by_first}
 use Rattle.eps_quotient.proofs.pair.is_one.Goals as goal
 

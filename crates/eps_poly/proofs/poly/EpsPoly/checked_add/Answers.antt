@@ -1,6 +1,6 @@
-use Rattle.std.proofs.Common.{◌<◌, ◌≤◌, sym, ◌∙◌, ap₂, arith, ◌+ℤ◌}
+use Rattle.std.proofs.Common.{sym, ◌∙◌, ap₂, arith, ◌+ℤ◌}
 use Rattle.field_core.specs.Sized.{sized}
-use Rattle.eps_poly.specs.Written.{degree, sized_sum}
+use Rattle.eps_poly.specs.Written.{sized_sum}
 use Rattle.eps_poly.proofs.Coefficients.{filled_none, filled_more, filled_rest}
 use Rattle.eps_poly.proofs.SizedLists.{list_from_filled, list_from_refused}
 use Rattle.eps_poly.proofs.SumLaws.{sum_is_exact, sum_past}

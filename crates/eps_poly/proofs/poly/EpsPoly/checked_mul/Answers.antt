@@ -1,6 +1,6 @@
-use Rattle.std.proofs.Common.{◌≡◌, ◌≤◌, ◌<◌, ◌+◌, ◌∙◌, sym, arith, ℕ, Some}
-use Rattle.eps_poly.specs.Written.{degree, written_coefficient, sized_product}
-use Rattle.eps_poly.proofs.Coefficients.{Filled, filled_none, filled_more, filled_rest}
+use Rattle.std.proofs.Common.{◌≡◌, ◌≤◌, ◌+◌, ◌∙◌, sym, arith, Some}
+use Rattle.eps_poly.specs.Written.{degree, sized_product}
+use Rattle.eps_poly.proofs.Coefficients.{filled_none, filled_more, filled_rest}
 use Rattle.eps_poly.proofs.SizedLists.{list_from_filled, list_from_refused}
 use Rattle.eps_poly.proofs.ProductLaws.{product_from_list, product_past, product_is_exact, coefficient_whole, coefficient_past}
 use Rattle.eps_poly.proofs.poly.EpsPoly.checked_mul.Goals as goal

@@ -1,4 +1,4 @@
-use Rattle.std.proofs.Common.{rules, FitsSigned, to_z, pos, subst, ◌≡◌, ◌+◌, ◌-◌, ◌∙◌, sym, ap, arith, int_div, length, ℕ, ℤ}
+use Rattle.std.proofs.Common.{rules, FitsSigned, to_z, pos, subst, ◌≡◌, ◌+◌, ◌-◌, ◌∙◌, sym, ap, arith, int_div, ℕ, ℤ}
 use Rattle.std.specs.Int.{w128}
 use Rattle.std.proofs.lemmas.Int.{to_z-of_z}
 use Rattle.field_core.specs.Polynomial.{coefficient}

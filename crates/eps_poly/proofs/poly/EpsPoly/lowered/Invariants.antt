@@ -1,4 +1,4 @@
-use Rattle.std.proofs.Common.{◌≡◌, ◌≤◌, ◌+◌, ◌-◌, int_div}
+use Rattle.std.proofs.Common.{◌≡◌, ◌+◌, ◌-◌, int_div}
 use Rattle.field_core.specs.Polynomial.{coefficient}
 use Rattle.eps_poly.proofs.Coefficients.{Filled}
 use Rattle.eps_poly.proofs.poly.EpsPoly.lowered.Given as goal

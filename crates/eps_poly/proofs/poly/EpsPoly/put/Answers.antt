@@ -1,4 +1,4 @@
-use Rattle.std.proofs.Common.{◌<◌, ◌^◌, ◌∙◌, ap, rules, FitsSigned, set, unsigned_abs}
+use Rattle.std.proofs.Common.{◌<◌, ◌^◌, ap, rules, FitsSigned, set, unsigned_abs}
 use Rattle.std.specs.Int.{w128}
 use Rattle.std.proofs.lemmas.Int.{to_z-of_z}
 use Rattle.eps_poly.proofs.Validity.{set_valid}

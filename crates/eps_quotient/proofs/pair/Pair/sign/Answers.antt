@@ -3,7 +3,7 @@ use Rattle.std.specs.Int.{w128}
 use Rattle.std.proofs.lemmas.Int.{to_z-of_z}
 use Rattle.field_core.specs.Kind.{sign_of}
 use Rattle.field_core.specs.Polynomial.{int_sign}
-use Rattle.eps_quotient.proofs.Signs.{cmp_zero}
+use Rattle.field_core.proofs.Wholes.{cmp_zero}
 use Rattle.eps_quotient.proofs.pair.Pair.sign.Goals as goal
 
 pub returns : goal.returns

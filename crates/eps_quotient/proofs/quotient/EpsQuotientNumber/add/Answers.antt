@@ -1,7 +1,6 @@
 use Rattle.std.proofs.Common.{◌∙◌, ap, sym}
 use Rattle.std.specs.Option.{option_map}
 use Rattle.field_core.specs.declared.place.Op.TheVariants.{Add}
-use Rattle.eps_quotient.specs.Quotients.{written_sum}
 use Rattle.eps_quotient.specs.View.{pair_parts, quotient_parts}
 use Rattle.eps_quotient.specs.Laws.Exact.{quotients_are_exact}
 use Rattle.eps_quotient.proofs.Stored.{stored_if}

@@ -4,7 +4,7 @@ use Rattle.std.proofs.lemmas.Int.{to_z-of_z}
 use Rattle.field_core.specs.Kind.{sign_of}
 use Rattle.field_core.specs.Polynomial.{int_sign}
 use Rattle.field_core.specs.Laws.FractionLaws.{lowest-constant}
-use Rattle.fraction.proofs.Signs.{cmp_zero}
+use Rattle.field_core.proofs.Wholes.{cmp_zero}
 use Rattle.fraction.proofs.fraction.FractionNumber.sign.Goals as goal
 
 pub returns : goal.returns

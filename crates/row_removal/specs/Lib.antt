@@ -1,0 +1,9 @@
+pub mod StoredRow
+pub mod Clearing
+pub mod StoredRows
+pub mod RowRemoval
+pub mod Proper
+pub mod Gathering
+pub mod RowNetView
+pub mod RowsOpen
+pub mod Laws

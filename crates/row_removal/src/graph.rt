@@ -1,0 +1,239 @@
+//! A weighted graph in rows, what is read of it, and the one after a removal.
+ghost use Rattle.std.specs.Prelude.{◌≡◌, length, replicate, All, IfOk};
+ghost use Rattle.field_core.specs.Polynomial.{IsNonZero};
+ghost use Rattle.eps_quotient.specs.Lowering.{norm};
+ghost use Rattle.eps_quotient.specs.View.{quotient_parts};
+ghost use Rattle.row_removal.specs.StoredRow.{zero_row};
+
+use crate::new_rows::{write_rows, write_weights};
+use crate::row::Row;
+use eps_poly::EpsPoly;
+use eps_quotient::EpsQuotient;
+use field_core::{NoMemory, Number, Whole, Wide};
+use std::alloc::Global;
+use std::marker::Model;
+
+/// The quotient of two polynomials, the second not 0.
+fn quotient(above: &EpsPoly, below: &EpsPoly) -> EpsQuotient
+    requires { IsNonZero below.now }
+    ensures { quotient_parts result ≡ norm above.now below.now }
+{
+    match EpsQuotient::new(above, below) {
+        Some(quotient) => quotient,
+        None => unreachable!(),
+    }
+}
+
+/// So many rows of so many zeros over 1.
+fn zero_rows(alloc: Global, count: usize) -> Result<Vec<Row>, NoMemory>
+    ensures { IfOk result (λ rows. rows.items ≡ replicate count (zero_row count)) }
+{
+    let mut rows = Vec::new(alloc);
+    for _ in 0..count {
+        rows.push(Row::zeros(alloc, count)?)?;
+    }
+    Ok(rows)
+}
+
+/// Takes the numbers of as many rows of the same length.
+fn copy_rows(rows: &mut [Row], other: &[Row], count: usize)
+    requires length { length rows.old ≡ length other.now }
+    requires rows { All (λ r. length r.numerators ≡ count) rows.old }
+    requires other { All (λ r. length r.numerators ≡ count) other.now }
+    ensures { rows.new ≡ other.now }
+{
+    for l in 0..rows.len() {
+        rows[l].copy_from(&other[l]);
+    }
+}
+
+/// A weighted graph in rows: which hypotheses are still in, the row of their weights, and the row of edges from each.
+#[derive(Drop)]
+pub struct RowGraph {
+    live: Vec<bool>,
+    weights: Row,
+    edges: Vec<Row>,
+    last: EpsPoly,
+}
+
+impl Model for RowGraph {
+    ghost use Rattle.row_removal.specs.StoredRows.{StoredRows};
+
+    ghost Value = { StoredRows };
+
+    ghost view = { λ g. record { live = g.live.items; weights = g.weights; edges = g.edges.items; last = g.last } };
+}
+
+#[tactic(auto, unfolding(crate::specs::StoredRows::rows_graph, crate::specs::StoredRows::row_at, removal::specs::StoredGraph::is_live, removal::specs::WrittenRemoval::is_gone))]
+impl RowGraph {
+    ghost use Rattle.std.specs.Prelude.{◌≡◌, ◌<◌, ◌≤◌};
+    ghost use Rattle.removal.specs.StoredGraph.{is_live};
+    ghost use Rattle.removal.specs.WrittenRemoval.{is_gone};
+    ghost use Rattle.row_removal.specs.Proper.{AreProperRows};
+    ghost use Rattle.row_removal.specs.StoredRow.{numerator_at};
+    ghost use Rattle.row_removal.specs.StoredRows.{rows_size, rows_graph, row_at};
+
+    /// The number of hypotheses, those removed among them.
+    pub fn size(&self) -> usize
+        ensures { result ≡ rows_size self.now }
+    {
+        self.live.len()
+    }
+
+    /// Whether `k` is still in.
+    pub fn is_live(&self, k: usize) -> bool
+        requires { k < rows_size self.now }
+        ensures { result ≡ is_live (rows_graph self.now) k }
+    {
+        self.live[k]
+    }
+
+    /// Whether `k` isn't in after the removal of `j`.
+    pub fn is_gone(&self, j: usize, k: usize) -> bool
+        requires { k < rows_size self.now }
+        ensures { result ≡ is_gone (rows_graph self.now) j k }
+    {
+        !self.live[k] || k == j
+    }
+
+    /// The numerator of the weight of `k`.
+    pub fn weight_numerator(&self, k: usize) -> &EpsPoly
+        requires proper { AreProperRows self.now }
+        requires k { k < rows_size self.now }
+        ensures { result.now ≡ numerator_at self.now.weights k }
+    {
+        self.weights.numerator(k)
+    }
+
+    /// The denominator of the weights.
+    pub fn weight_denominator(&self) -> &EpsPoly
+        ensures { result.now ≡ self.now.weights.denominator }
+    {
+        self.weights.denominator()
+    }
+
+    /// The numerator of the edge from `l` to `k`.
+    pub fn numerator(&self, l: usize, k: usize) -> &EpsPoly
+        requires proper { AreProperRows self.now }
+        requires l { l < rows_size self.now }
+        requires k { k < rows_size self.now }
+        ensures { result.now ≡ numerator_at (row_at self.now l) k }
+    {
+        self.edges[l].numerator(k)
+    }
+
+    /// The denominator of the row of edges from `l`.
+    pub fn denominator(&self, l: usize) -> &EpsPoly
+        requires proper { AreProperRows self.now }
+        requires l { l < rows_size self.now }
+        ensures { result.now ≡ (row_at self.now l).denominator }
+    {
+        self.edges[l].denominator()
+    }
+
+    /// The denominator that the row of the last removed hypothesis had, or 1.
+    pub fn last(&self) -> &EpsPoly
+        ensures { result.now ≡ self.now.last }
+    {
+        &self.last
+    }
+}
+
+#[tactic(auto, unfolding(crate::specs::StoredRows::zero_rows))]
+impl RowGraph {
+    ghost use Rattle.std.specs.Prelude.{◌≡◌, IfOk};
+    ghost use Rattle.row_removal.specs.Proper.{AreProperRows, HasRoom};
+    ghost use Rattle.row_removal.specs.StoredRows.{rows_size, zero_rows};
+
+    /// So many hypotheses, all in, with no weights and no edges.
+    pub fn zeros(alloc: Global, count: usize) -> Result<RowGraph, NoMemory>
+        ensures { IfOk result (λ g. g ≡ zero_rows count) }
+    {
+        let live = vec![in alloc; true; count]?;
+        let weights = Row::zeros(alloc, count)?;
+        let edges = zero_rows(alloc, count)?;
+        Ok(RowGraph {
+            live,
+            weights,
+            edges,
+            last: EpsPoly::monomial(Whole::new(1), 0),
+        })
+    }
+
+    /// Takes the marks and rows of a graph of the same size.
+    pub fn copy_from(&mut self, other: &RowGraph)
+        requires room { HasRoom (rows_size other.now) self.old }
+        requires other { HasRoom (rows_size other.now) other.now }
+        ensures { self.new ≡ other.now }
+    {
+        self.live.copy_from_slice(&other.live);
+        self.weights.copy_from(&other.weights);
+        copy_rows(&mut self.edges, &other.edges, other.live.len());
+        self.last = other.last;
+    }
+}
+
+#[tactic(auto, using(crate::specs::Laws::RowGraphs::weight_seen, crate::specs::Laws::RowGraphs::edge_seen, crate::specs::Laws::RowGraphs::loop_seen, crate::specs::Laws::RowPasses::row_some))]
+impl RowGraph {
+    ghost use Rattle.std.specs.Prelude.{◌≡◌, ◌<◌};
+    ghost use Rattle.removal.specs.StoredGraph.{weight, edge};
+    ghost use Rattle.eps_quotient.specs.Quotients.{quotients};
+    ghost use Rattle.eps_quotient.specs.View.{quotient_parts};
+    ghost use Rattle.row_removal.specs.Proper.{AreProperRows};
+    ghost use Rattle.row_removal.specs.StoredRows.{rows_size, rows_graph};
+
+    /// The weight of `k`.
+    pub fn weight(&self, k: usize) -> EpsQuotient
+        requires proper { AreProperRows self.now }
+        requires k { k < rows_size self.now }
+        ensures { quotient_parts result ≡ weight quotients (rows_graph self.now) k }
+    {
+        quotient(self.weight_numerator(k), self.weight_denominator())
+    }
+
+    /// The edge from `l` to `k`, 0 where they are equal.
+    pub fn edge(&self, l: usize, k: usize) -> EpsQuotient
+        requires proper { AreProperRows self.now }
+        requires l { l < rows_size self.now }
+        requires k { k < rows_size self.now }
+        ensures { quotient_parts result ≡ edge quotients (rows_graph self.now) l k }
+    {
+        if l == k {
+            return EpsQuotient::zero();
+        }
+        quotient(self.numerator(l, k), self.denominator(l))
+    }
+}
+
+#[tactic(auto, using(crate::specs::Laws::RowLive::row_live), unfolding(crate::specs::RowRemoval::row_removal))]
+impl RowGraph {
+    ghost use Rattle.std.specs.Prelude.{◌≡◌, true, length};
+    ghost use Rattle.field_core.specs.Kind.{ok_map};
+    ghost use Rattle.removal.specs.StoredGraph.{is_live};
+    ghost use Rattle.row_removal.specs.Proper.{AreProperRows, HasRoom};
+    ghost use Rattle.row_removal.specs.StoredRows.{rows_size, rows_graph};
+    ghost use Rattle.row_removal.specs.RowRemoval.{row_removal};
+
+    /// Writes the rows after the removal of `j` into `next`. `spare` is room for quotients.
+    pub fn write_removal(
+        &self,
+        j: usize,
+        next: &mut RowGraph,
+        spare: &mut Row,
+    ) -> Result<(), Wide>
+        requires proper { AreProperRows self.now }
+        requires live { is_live (rows_graph self.now) j ≡ true }
+        requires room { HasRoom (rows_size self.now) next.old }
+        requires spare { length spare.old.numerators ≡ rows_size self.now }
+        ensures value { ok_map (λ _. next.new) result ≡ row_removal self.now j }
+        ensures room { HasRoom (rows_size self.now) next.new }
+        ensures spare { length spare.new.numerators ≡ rows_size self.now }
+    {
+        write_weights(self, j, &mut next.weights, spare)?;
+        write_rows(self, j, &mut next.edges, spare)?;
+        next.live.copy_from_slice(&self.live);
+        next.live[j] = false;
+        next.last = *self.denominator(j);
+        Ok(())
+    }
+}

@@ -1,0 +1,102 @@
+//! A graph in rows from which hypotheses are removed.
+ghost use Rattle.std.specs.Prelude.{◌≡◌, true, length};
+ghost use Rattle.removal.specs.ByValue.{IsSound, sound_is_fact};
+ghost use Rattle.eps_quotient.specs.Quotients.{quotients};
+ghost use Rattle.row_removal.specs.StoredRows.{rows_size, rows_graph};
+ghost use Rattle.row_removal.specs.Proper.{AreProperRows, HasRoom, proper_is_fact};
+
+use crate::graph::RowGraph;
+use crate::row::Row;
+use eps_quotient::EpsQuotient;
+use field_core::{Number, Ratio, Wide};
+use removal::Remover;
+
+/// A graph of quotients in epsilon in rows, and room for the one after the next removal.
+///
+/// Both stand from the start, so no removal takes memory.
+#[derive(Drop)]
+pub struct RowNet {
+    present: RowGraph,
+    next: RowGraph,
+    spare: Row,
+    is_prepared: bool,
+    ghost proper: { AreProperRows present } by { Prim.hlevel proper_is_fact },
+    ghost sound: { IsSound quotients (rows_graph present) } by { Prim.hlevel sound_is_fact },
+    ghost next_proper: { is_prepared ≡ true → AreProperRows next } by { Prim.hlevel proper_is_fact },
+    ghost next_sound: { is_prepared ≡ true → IsSound quotients (rows_graph next) } by { Prim.hlevel sound_is_fact },
+    ghost room: { HasRoom (rows_size present) next },
+    ghost spare_room: { length spare.numerators ≡ rows_size present },
+}
+
+#[tactic(auto, using(crate::specs::Laws::RowLive::row_live), unfolding(crate::specs::RowNetView::present_rows, crate::specs::RowNetView::prepared_rows, crate::specs::StoredRows::rows_graph))]
+impl Remover for RowNet {
+    ghost use Rattle.row_removal.specs.StoredRows.{StoredRows, rows_graph};
+    ghost use Rattle.row_removal.specs.RowRemoval.{row_removal};
+    ghost use Rattle.row_removal.specs.Proper.{AreProperRows};
+    ghost use Rattle.row_removal.specs.RowNetView.{present_rows, prepared_rows, row_net_sound, row_net_proper};
+    ghost use Rattle.row_removal.specs.Laws.RowsExact.{rows_remove_exactly};
+
+    type Value = EpsQuotient;
+
+    ghost State = { StoredRows };
+
+    ghost graph = { rows_graph };
+
+    ghost IsProper = { AreProperRows };
+
+    ghost removal = { row_removal };
+
+    ghost present = { present_rows };
+
+    ghost prepared = { prepared_rows };
+
+    fn size(&self) -> usize {
+        self.present.size()
+    }
+
+    fn is_live(&self, k: usize) -> bool {
+        self.present.is_live(k)
+    }
+
+    fn weight(&self, k: usize) -> EpsQuotient {
+        self.present.weight(k)
+    }
+
+    fn edge(&self, l: usize, k: usize) -> EpsQuotient {
+        self.present.edge(l, k)
+    }
+
+    fn prepare(&mut self, j: usize) -> Result<(), Wide> {
+        self.is_prepared = false;
+        self.present
+            .write_removal(j, &mut self.next, &mut self.spare)?;
+        self.is_prepared = true;
+        Ok(())
+    }
+
+    fn prepared_limit(&self, k: usize) -> Ratio {
+        self.next.weight(k).limit()
+    }
+
+    fn commit(&mut self) {
+        std::mem::swap(&mut self.present, &mut self.next);
+        self.is_prepared = false;
+    }
+
+    fn remove(&mut self, j: usize) -> Result<(), Wide> {
+        self.prepare(j)?;
+        self.commit();
+        Ok(())
+    }
+
+    fn set_to(&mut self, other: &RowNet) {
+        self.present.copy_from(&other.present);
+        self.is_prepared = false;
+    }
+
+    ghost sound = { row_net_sound };
+
+    ghost proper = { row_net_proper };
+
+    ghost exact = { rows_remove_exactly };
+}

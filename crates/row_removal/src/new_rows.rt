@@ -1,0 +1,212 @@
+//! The rows after the removal of a hypothesis.
+ghost use Rattle.std.specs.Prelude.{◌≡◌, ◌<◌, ℤ, List, length, All};
+ghost use Rattle.field_core.specs.Kind.{ok_map};
+ghost use Rattle.field_core.specs.Steps.{each_below};
+ghost use Rattle.row_removal.specs.Proper.{AreProperRows};
+ghost use Rattle.row_removal.specs.StoredRows.{rows_size};
+ghost use Rattle.row_removal.specs.RowRemoval.{difference_of_products, new_denominator, new_numerator, new_row, new_scale, new_weight, new_weights, sum_of_products};
+
+use crate::graph::RowGraph;
+use crate::row::Row;
+use eps_poly::EpsPoly;
+use field_core::{Place, Wide, try_fill};
+
+/// `x e + y z`, at one place.
+#[tactic(auto, unfolding(crate::specs::RowRemoval::sum_of_products))]
+fn sum_of_products(
+    place: Place,
+    x: &EpsPoly,
+    e: &EpsPoly,
+    y: &EpsPoly,
+    z: &EpsPoly,
+) -> Result<EpsPoly, Wide>
+    ensures { result ≡ sum_of_products place x.now e.now y.now z.now }
+{
+    let left = x.mul(e).map_err(|wide| wide.at(place))?;
+    let right = y.mul(z).map_err(|wide| wide.at(place))?;
+    left.add(&right).map_err(|wide| wide.at(place))
+}
+
+/// `x e - y z`, at one place.
+#[tactic(auto, unfolding(crate::specs::RowRemoval::difference_of_products))]
+fn difference_of_products(
+    place: Place,
+    x: &EpsPoly,
+    e: &EpsPoly,
+    y: &EpsPoly,
+    z: &EpsPoly,
+) -> Result<EpsPoly, Wide>
+    ensures { result ≡ difference_of_products place x.now e.now y.now z.now }
+{
+    let left = x.mul(e).map_err(|wide| wide.at(place))?;
+    let right = y.mul(z).map_err(|wide| wide.at(place))?;
+    left.sub(&right).map_err(|wide| wide.at(place))
+}
+
+/// The numerator of the weight of `l` after the removal of `j`.
+#[tactic(auto, unfolding(crate::specs::RowRemoval::new_weight))]
+fn new_weight(graph: &RowGraph, j: usize, l: usize) -> Result<EpsPoly, Wide>
+    requires proper { AreProperRows graph.now }
+    requires j { j < rows_size graph.now }
+    requires l { l < rows_size graph.now }
+    ensures { result ≡ new_weight graph.now j l }
+{
+    if graph.is_gone(j, l) {
+        return Ok(EpsPoly::zero());
+    }
+    sum_of_products(
+        Place::Weight(l),
+        graph.weight_numerator(l),
+        graph.denominator(j),
+        graph.weight_numerator(j),
+        graph.numerator(j, l),
+    )
+}
+
+/// The denominator of the weights after the removal of `j`.
+#[tactic(auto, unfolding(crate::specs::RowRemoval::new_scale))]
+fn new_scale(graph: &RowGraph, j: usize) -> Result<EpsPoly, Wide>
+    requires proper { AreProperRows graph.now }
+    requires j { j < rows_size graph.now }
+    ensures { result ≡ new_scale graph.now j }
+{
+    let place = Place::Weight(j);
+    let scale = graph.weight_denominator().mul(graph.denominator(j));
+    scale.map_err(|wide| wide.at(place))
+}
+
+/// The denominator of the row of `l` after the removal of `j`, or 0.
+#[tactic(auto, unfolding(crate::specs::RowRemoval::new_denominator))]
+fn new_denominator(graph: &RowGraph, j: usize, l: usize) -> Result<EpsPoly, Wide>
+    requires proper { AreProperRows graph.now }
+    requires j { j < rows_size graph.now }
+    requires l { l < rows_size graph.now }
+    ensures { result ≡ new_denominator graph.now j l }
+{
+    difference_of_products(
+        Place::Loss(l),
+        graph.denominator(l),
+        graph.denominator(j),
+        graph.numerator(l, j),
+        graph.numerator(j, l),
+    )
+}
+
+/// The numerator of the edge from `l` to `k` after the removal of `j`.
+#[tactic(auto, unfolding(crate::specs::RowRemoval::new_numerator))]
+fn new_numerator(graph: &RowGraph, j: usize, l: usize, k: usize) -> Result<EpsPoly, Wide>
+    requires proper { AreProperRows graph.now }
+    requires j { j < rows_size graph.now }
+    requires l { l < rows_size graph.now }
+    requires k { k < rows_size graph.now }
+    ensures { result ≡ new_numerator graph.now j l k }
+{
+    if graph.is_gone(j, k) || k == l {
+        return Ok(EpsPoly::zero());
+    }
+    sum_of_products(
+        Place::Edge(l, k),
+        graph.numerator(l, k),
+        graph.denominator(j),
+        graph.numerator(l, j),
+        graph.numerator(j, k),
+    )
+}
+
+/// Writes the numerators of the weights after the removal of `j`.
+fn write_weight_numerators(graph: &RowGraph, j: usize, next: &mut [EpsPoly]) -> Result<(), Wide>
+    requires proper { AreProperRows graph.now }
+    requires j { j < rows_size graph.now }
+    requires room { length next.old ≡ rows_size graph.now }
+    ensures { ok_map (λ _. next.new) result ≡ each_below (rows_size graph.now) (new_weight graph.now j) }
+{
+    try_fill(next, |l| new_weight(graph, j, l))
+}
+
+/// Writes the numerators of the edges from `l` after the removal of `j`.
+fn write_numerators(graph: &RowGraph, j: usize, l: usize, next: &mut [EpsPoly]) -> Result<(), Wide>
+    requires proper { AreProperRows graph.now }
+    requires j { j < rows_size graph.now }
+    requires l { l < rows_size graph.now }
+    requires room { length next.old ≡ rows_size graph.now }
+    ensures { ok_map (λ _. next.new) result ≡ each_below (rows_size graph.now) (new_numerator graph.now j l) }
+{
+    try_fill(next, |k| new_numerator(graph, j, l, k))
+}
+
+/// Writes the row of weights after the removal of `j`. `spare` is room for quotients.
+#[tactic(auto, unfolding(crate::specs::RowRemoval::new_weights))]
+pub fn write_weights(
+    graph: &RowGraph,
+    j: usize,
+    next: &mut Row,
+    spare: &mut Row,
+) -> Result<(), Wide>
+    requires proper { AreProperRows graph.now }
+    requires j { j < rows_size graph.now }
+    requires room { length next.old.numerators ≡ rows_size graph.now }
+    requires spare { length spare.old.numerators ≡ rows_size graph.now }
+    ensures value { ok_map (λ _. next.new) result ≡ new_weights graph.now j }
+    ensures room { length next.new.numerators ≡ rows_size graph.now }
+    ensures spare { length spare.new.numerators ≡ rows_size graph.now }
+{
+    write_weight_numerators(graph, j, &mut next.numerators)?;
+    next.denominator = new_scale(graph, j)?;
+    next.clear(graph.last(), spare);
+    Ok(())
+}
+
+/// Writes the row of edges from `l` after the removal of `j`. `spare` is room for quotients.
+#[tactic(auto, unfolding(crate::specs::RowRemoval::new_row, crate::specs::RowRemoval::row_over))]
+fn write_row(
+    graph: &RowGraph,
+    j: usize,
+    l: usize,
+    next: &mut Row,
+    spare: &mut Row,
+) -> Result<(), Wide>
+    requires proper { AreProperRows graph.now }
+    requires j { j < rows_size graph.now }
+    requires l { l < rows_size graph.now }
+    requires room { length next.old.numerators ≡ rows_size graph.now }
+    requires spare { length spare.old.numerators ≡ rows_size graph.now }
+    ensures value { ok_map (λ _. next.new) result ≡ new_row graph.now j l }
+    ensures room { length next.new.numerators ≡ rows_size graph.now }
+    ensures spare { length spare.new.numerators ≡ rows_size graph.now }
+{
+    if graph.is_gone(j, l) {
+        next.put_zeros();
+        return Ok(());
+    }
+    let denominator = new_denominator(graph, j, l)?;
+    if denominator.is_zero() {
+        next.put_zeros();
+        return Ok(());
+    }
+    write_numerators(graph, j, l, &mut next.numerators)?;
+    next.denominator = denominator;
+    next.clear(graph.last(), spare);
+    Ok(())
+}
+
+/// Writes all rows of edges after the removal of `j`. `spare` is room for quotients.
+pub fn write_rows(
+    graph: &RowGraph,
+    j: usize,
+    next: &mut [Row],
+    spare: &mut Row,
+) -> Result<(), Wide>
+    requires proper { AreProperRows graph.now }
+    requires j { j < rows_size graph.now }
+    requires count { length next.old ≡ rows_size graph.now }
+    requires room { All (λ r. length r.numerators ≡ rows_size graph.now) next.old }
+    requires spare { length spare.old.numerators ≡ rows_size graph.now }
+    ensures value { ok_map (λ _. next.new) result ≡ each_below (rows_size graph.now) (new_row graph.now j) }
+    ensures room { All (λ r. length r.numerators ≡ rows_size graph.now) next.new }
+    ensures spare { length spare.new.numerators ≡ rows_size graph.now }
+{
+    for l in 0..graph.size() {
+        write_row(graph, j, l, &mut next[l], spare)?;
+    }
+    Ok(())
+}
