@@ -82,10 +82,6 @@ pub content_of-components : (d : Draft) → (content_of d).components ≡ map (t
 unfolding content_of
 content_of-components d = refl
 
-pub content_of-inputs : (d : Draft) → (content_of d).inputs ≡ inputs_given d.p
-unfolding content_of
-content_of-inputs d = refl
-
 -- ---- the first fault, from those of the earlier and the later rows
 
 pub early_is : (d : Draft) (f : CaseFault) → early_fault d ≡ Some f → case_fault d ≡ Some f

@@ -29,6 +29,7 @@ pub mod NoFaults
 pub mod OrderExistence
 pub mod OtherLevels
 pub mod PassTests
+pub mod Places
 pub mod PlainEntries
 pub mod PriorityOrders
 pub mod RejectionOrders

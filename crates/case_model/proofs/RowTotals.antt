@@ -1,5 +1,5 @@
 -- The sums of rows of entries.
-use Rattle.std.proofs.Common.{◌≡◌, refl, sym, ap, ◌∙◌, ℕ, zero, suc, ◌<◌, List, [], ◌∷◌, map, Some, arith}
+use Rattle.std.proofs.Common.{◌≡◌, sym, ap, ◌∙◌, ℕ, zero, suc, ◌<◌, List, [], ◌∷◌, map, Some, arith}
 use mathlib.Core.Path.{fun_ext}
 use Rattle.field_core.specs.Terms.{Terms}
 use Rattle.field_core.specs.View.{terms}
@@ -15,12 +15,7 @@ use Rattle.case_model.specs.Sums.{terms_at, ratio_at, number_at}
 use Rattle.case_model.specs.Entries.{power_of_epsilon, entry_value}
 use Rattle.case_model.specs.CaseFaults.{power_sum, written_row}
 use Rattle.case_model.proofs.ExactSums.{exact_sum}
-
-terms_at-map : (xs : List Ratio) (k : ℕ) → terms_at (map terms xs) k ≡ terms (ratio_at xs k)
-unfolding terms_at ratio_at
-terms_at-map [] k = refl
-terms_at-map (x ∷ xs) zero = refl
-terms_at-map (x ∷ xs) (suc k) = terms_at-map xs k
+use Rattle.case_model.proofs.Same.{terms_at-map}
 
 -- the parts of a written row
 record HasParts (m : ℕ) (row : ℕ → List Ratio) (s : List Terms) : Type 0 where

@@ -1,25 +1,13 @@
 -- Fractions of the same terms are the same.
-use Rattle.std.proofs.Common.{◌≡◌, ap, ap₂}
-use Rattle.std.proofs.Props.{props}
-use mathlib.Core.HLevel.{Σ_prop_path}
-use Rattle.field_core.specs.Terms.{Terms, IsReduced}
+use Rattle.std.proofs.Common.{◌≡◌, refl, ap, ap₂, ℕ, zero, suc, List, [], ◌∷◌, map}
+use Rattle.field_core.specs.Terms.{Terms}
 use Rattle.field_core.specs.View.{terms}
 use Rattle.field_core.specs.Kind.{Parts}
 use Rattle.field_core.specs.LimitParts.{first}
 use Rattle.field_core.specs.declared.ratio.Ratio.{Ratio}
 use Rattle.fraction.specs.Plain.{plain, single, fraction_parts}
-use Rattle.case_model.specs.Sums.{zero_terms, zero_ratio}
-
-reduced_is_fact : (t : Terms) → IsProp (IsReduced t)
-reduced_is_fact t = hlevel props
-
-abbrev with_fact : ((t : Terms) × IsReduced t) → Ratio
-with_fact p = record { num = p.0.num; den = p.0.den; valid = p.1 }
-
-pub same_ratio : (x y : Ratio) → terms x ≡ terms y → x ≡ y
-same_ratio x y e =
-    let both : ◌≡◌ {A = (t : Terms) × IsReduced t} (terms x, x.valid) (terms y, y.valid) = Σ_prop_path reduced_is_fact e in
-    ap with_fact both
+use Rattle.fraction.proofs.SameRatios.{same_ratio}
+use Rattle.case_model.specs.Sums.{zero_terms, zero_ratio, terms_at, ratio_at}
 
 pub from_single : (s t : Terms) → single s ≡ single t → s ≡ t
 from_single s t e = ap₂ (λ n d. record { num = n; den = d }) (ap (λ (p : Parts). first p.numerator) e) (ap (λ (p : Parts). first p.denominator) e)
@@ -27,3 +15,22 @@ from_single s t e = ap₂ (λ n d. record { num = n; den = d }) (ap (λ (p : Par
 -- a fraction stored as 0 is 0/1
 pub zero_of : (z : Ratio) → fraction_parts z ≡ plain.zero → z ≡ zero_ratio
 zero_of z e = same_ratio z zero_ratio (from_single (terms z) zero_terms e)
+
+-- ---- lists
+
+rest_same : {A : Type 0} (x y : A) (xs ys : List A) → x ∷ xs ≡ y ∷ ys → (x ≡ y) × (xs ≡ ys)
+rest_same x y xs ys e = (cc, cc)
+
+-- fractions of the same terms are the same, one by one
+pub same_ratios : (xs ys : List Ratio) → map terms xs ≡ map terms ys → xs ≡ ys
+same_ratios [] [] e = refl
+same_ratios [] (y ∷ ys) e = absurd (cc)
+same_ratios (x ∷ xs) [] e = absurd (cc)
+same_ratios (x ∷ xs) (y ∷ ys) e = let same = rest_same (terms x) (terms y) (map terms xs) (map terms ys) e in ap₂ ◌∷◌ (same_ratio x y same.0) (same_ratios xs ys same.1)
+
+-- the terms at a place are those of the fraction there
+pub terms_at-map : (xs : List Ratio) (k : ℕ) → terms_at (map terms xs) k ≡ terms (ratio_at xs k)
+unfolding terms_at ratio_at
+terms_at-map [] k = refl
+terms_at-map (x ∷ xs) zero = refl
+terms_at-map (x ∷ xs) (suc k) = terms_at-map xs k

@@ -4,17 +4,13 @@ use Rattle.std.specs.List.{list_all}
 use Rattle.std.specs.Char.{is_ascii_alphanumeric}
 use Rattle.field_core.specs.Number.{Number}
 use Rattle.field_core.specs.Arithmetic.{number_zero, number_one}
-use Rattle.field_core.specs.NumberField.{number_field}
+pub use Rattle.field_core.specs.Order.{at_most}
 use Rattle.field_core.specs.View.{terms}
 use Rattle.field_core.specs.declared.ratio.Ratio.{Ratio}
 use Rattle.fraction.specs.Tests.{is_within}
 use Rattle.fraction.specs.View.{number_of}
 use Rattle.case_model.specs.declared.draft.Draft.{Draft}
 use Rattle.case_model.specs.declared.draft_edge.DraftEdge.{DraftEdge}
-
--- x is at most y
-abbrev pub at_most : Number → Number → Bool
-at_most = number_field.at_most
 
 -- from 0 to 1
 abbrev pub is_unit : Number → Bool

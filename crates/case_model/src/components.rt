@@ -1,7 +1,7 @@
 //! The tests of the components of a draft.
 ghost use Rattle.std.specs.Prelude.{◌≡◌, ◌≤◌, ◌<◌, ◌==◌, length, get_or, true};
 ghost use Rattle.std.specs.List.{list_all};
-ghost use Rattle.case_model.specs.declared.draft_component.DraftComponent.{DraftComponent as Component};
+ghost use Rattle.case_model.specs.declared.draft_component.DraftComponent.{DraftComponent};
 ghost use Rattle.case_model.specs.Draft.{goes_between};
 ghost use Rattle.case_model.specs.CaseFaults.{◌or◌, first_of, components_fault, long_share, long_weight, long_edge, share_range, share_sum, shares_fault, weight_count, weights_fault, self_edge, repeated_edge, edges_fault};
 
@@ -107,7 +107,7 @@ fn repeated_edge(count: usize, components: &[DraftComponent], c: usize) -> Optio
     requires few { count ≤ 64 }
     requires ends { list_all (λ k. list_all (goes_between count) k.edges) components.now ≡ true }
     requires within { c < length components.now }
-    ensures { (d : Component) → result ≡ repeated_edge c (get_or components.now c d) }
+    ensures { (d : DraftComponent) → result ≡ repeated_edge c (get_or components.now c d) }
 {
     components[c].repeated_edge(c, count)
 }

@@ -1,6 +1,6 @@
 //! What a test finds first.
 ghost use Rattle.std.specs.Prelude.{◌≡◌, ◌<◌, ℕ, Option};
-ghost use Rattle.case_model.specs.declared.fault.CaseFault.{CaseFault as Fault};
+ghost use Rattle.case_model.specs.declared.fault.CaseFault.{CaseFault};
 ghost use Rattle.case_model.specs.CaseFaults.{first_of, first_below};
 
 use crate::CaseFault;
@@ -8,7 +8,7 @@ use crate::CaseFault;
 /// What a test finds first at the positions below a number.
 pub fn first_below<F: Fn(usize) -> Option<CaseFault>>(count: usize, test: F) -> Option<CaseFault>
     requires { (i : ℕ) → i < count → F.pre test i }
-    ensures { (row : ℕ → Option Fault) → ((i : ℕ) (r : Option Fault) → i < count → F.post test i r → r ≡ row i) → result ≡ first_below row count }
+    ensures { (row : ℕ → Option CaseFault) → ((i : ℕ) (r : Option CaseFault) → i < count → F.post test i r → r ≡ row i) → result ≡ first_below row count }
 {
     for i in 0..count {
         let fault = test(i);
@@ -25,7 +25,7 @@ pub fn first_fault<T, F: Fn(&T, usize) -> Option<CaseFault>>(
     test: F,
 ) -> Option<CaseFault>
     requires { F.IsAlwaysCallable test }
-    ensures { (row : ℕ → T → Option Fault) → ((x : _) (i : ℕ) (r : Option Fault) → F.post test x i r → r ≡ row i x.now) → result ≡ first_of row items.now }
+    ensures { (row : ℕ → T → Option CaseFault) → ((x : _) (i : ℕ) (r : Option CaseFault) → F.post test x i r → r ≡ row i x.now) → result ≡ first_of row items.now }
 {
     for i in 0..items.len() {
         let fault = test(&items[i], i);
