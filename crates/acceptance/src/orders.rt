@@ -100,7 +100,7 @@ fn any_order_of_requests_rejects_the_same(rt: HostRuntime) -> Result<(), Fail> {
     Ok(())
 }
 
-/// Two hypotheses that pass on nothing, and one that doesn't pass: the order of requests is that of the rejections.
+/// Two hypotheses that pass on nothing, and one that doesn't pass: the order of the calls is that of the rejections.
 const APART: &str = "alpha 0.05\nhypotheses H1 H2 H3\np 0.01 0.9 0.015\nweights 1/3 1/3 1/3\n";
 
 #[test]
