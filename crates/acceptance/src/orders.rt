@@ -87,7 +87,7 @@ const SIX: [[usize; 3]; 6] = [
 ];
 
 #[test]
-fn any_order_of_requests_rejects_the_same(rt: HostRuntime) -> Result<(), Fail> {
+fn any_order_of_calls_rejects_the_same(rt: HostRuntime) -> Result<(), Fail> {
     let alloc = rt.alloc();
     let case = case_of(&rt, alloc, HOLM);
     for order in SIX {
@@ -104,7 +104,7 @@ fn any_order_of_requests_rejects_the_same(rt: HostRuntime) -> Result<(), Fail> {
 const APART: &str = "alpha 0.05\nhypotheses H1 H2 H3\np 0.01 0.9 0.015\nweights 1/3 1/3 1/3\n";
 
 #[test]
-fn rejections_stand_in_the_order_of_requests(rt: HostRuntime) -> Result<(), Fail> {
+fn rejections_stand_in_the_order_of_calls(rt: HostRuntime) -> Result<(), Fail> {
     let alloc = rt.alloc();
     let case = case_of(&rt, alloc, APART);
     for (order, rejected) in [([0, 1, 2], [0, 2]), ([2, 1, 0], [2, 0])] {
