@@ -1,6 +1,7 @@
 -- Machines that read a text item by item, and how far a text goes in a language.
 use Rattle.std.specs.Prelude.{ℕ, ◌+◌, ◌≤◌, Bool, false, List, [], ◌∷◌, ◌++◌, length, take, Option, Some, None}
 
+-- the same from the state that a step leads to, if it leads to one
 abbrev pub accepts_then : {S : Type 0} → (S → Bool) → Option S → Bool
 accepts_then accepts None = false
 accepts_then accepts (Some state) = accepts state
@@ -10,6 +11,7 @@ unfoldable pub accepts : {X S : Type 0} → (S → X → Option S) → (S → Bo
 accepts step may_end [] state = may_end state
 accepts step may_end (x ∷ xs) state = accepts_then (accepts step may_end xs) (step state x)
 
+-- the same behind a step, if it leads to a state
 abbrev pub count_then : {S : Type 0} → (S → ℕ) → Option S → ℕ
 count_then count None = 0
 count_then count (Some state) = 1 + count state

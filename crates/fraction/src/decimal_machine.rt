@@ -27,7 +27,7 @@ pub enum DecimalPart {
 
 impl DecimalPart {
     /// What was read with a byte of this class more, or nothing where no decimal begins so.
-    pub(crate) fn with_class(self, class: Class) -> Option<DecimalPart>
+    pub(crate) fn step_class(self, class: Class) -> Option<DecimalPart>
         ensures { result ≡ decimal_step self class }
     {
         match (self, class) {
@@ -46,10 +46,10 @@ impl DecimalPart {
     }
 
     /// What was read with one byte more, or nothing where no decimal begins so.
-    pub fn with(self, byte: u8) -> Option<DecimalPart>
+    pub fn step(self, byte: u8) -> Option<DecimalPart>
         ensures { result ≡ decimal_byte self byte }
     {
-        self.with_class(class_of(byte))
+        self.step_class(class_of(byte))
     }
 
     /// A decimal may end here.
@@ -71,7 +71,7 @@ pub fn decimal_len(text: &[u8]) -> usize
 {
     let mut part = DecimalPart::Start;
     for at in 0..text.len() {
-        match part.with(text[at]) {
+        match part.step(text[at]) {
             Some(longer) => part = longer,
             None => return at,
         }

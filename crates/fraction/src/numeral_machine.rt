@@ -24,9 +24,9 @@ pub fn step(state: State, class: Class) -> Option<State>
 {
     match (state, class) {
         (State::Start, Class::Sign) => Some(State::Decimal(DecimalPart::Start)),
-        (State::Start, _) => DecimalPart::Start.with_class(class).map(State::Decimal),
+        (State::Start, _) => DecimalPart::Start.step_class(class).map(State::Decimal),
         (State::Decimal(DecimalPart::Whole), Class::Slash) => Some(State::Slash),
-        (State::Decimal(part), _) => part.with_class(class).map(State::Decimal),
+        (State::Decimal(part), _) => part.step_class(class).map(State::Decimal),
         (State::Slash | State::Under, Class::Digit) => Some(State::Under),
         (State::Slash | State::Under, _) => None,
     }
