@@ -1,7 +1,5 @@
 -- What a decimal is worth, by what is read of it.
-use Rattle.std.proofs.Common.{◌≡◌, ℕ, suc, ◌*◌, ◌^◌, ◌<◌, ◌++◌, Bool, true, false, List, [], length, ℤ, pos, negsuc, ◌-ℤ◌, ◌<ℤ◌, Option, Some, None, Result, Ok, Err, IfOk, IfErr, refl, sym, ap, subst, ◌∙◌, arith}
-use Rattle.std.proofs.lemmas.Int.{ints}
-use Rattle.std.specs.Str.Parse.{digits_value}
+use Rattle.std.proofs.Common.{◌≡◌, ℕ, Bool, true, false, List, [], pos, ◌<ℤ◌, Some, None, Result, Ok, Err, IfOk, IfErr, refl, sym, subst, ◌∙◌}
 use Rattle.std.specs.Option.{option_map}
 use Rattle.std.specs.Result.{result_ok}
 use Rattle.field_core.specs.Terms.{Terms}
@@ -10,7 +8,6 @@ use Rattle.fraction.specs.View.{terms_of}
 use Rattle.fraction.specs.declared.fault.NumberFault.{NumberFault}
 use Rattle.fraction.specs.declared.fault.NumberFault.TheVariants.{Empty, BadByte, ZeroDenominator, TooManyDigits}
 use Rattle.fraction.specs.declared.decimal_machine.DecimalPart.TheVariants as parts
-use Rattle.fraction.specs.Lowest.{lowest_terms}
 use Rattle.fraction.specs.Numeral.{Same, Body, Plain, Pointed, Pair, body_text, value_of, IsNumeral, HasZeroDenominator, HasTooManyDigits, IsNumeralOf, IsParseFault}
 use Rattle.fraction.specs.Decimals.{IsPair, Decimal, has_too_many_digits, decimal_value}
 use Rattle.fraction.proofs.DecimalTexts.{takes, takes_nil, decimal_taken}

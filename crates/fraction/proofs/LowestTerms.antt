@@ -1,6 +1,5 @@
 -- Quotients by the greatest common divisor.
 use Rattle.std.proofs.Common.{◌≡◌, ◌≢◌, ℕ, zero, suc, ◌-◌, ◌*◌, ◌/◌, ◌<◌, ◌≤◌, ◌^◌, ◌⊎◌, inl, inr, Bool, true, false, refl, sym, ap, ◌∙◌, arith, ℤ, pos, negsuc, neg_ℤ, ◌*ℤ◌, ◌<ℤ◌, unsigned_abs, FitsSigned, to_z, of_z, Result, Ok, Err}
-use Rattle.std.proofs.lemmas.Bool.{le-ltb}
 use Rattle.std.proofs.lemmas.Int.{ints, to_z-of_z}
 use Rattle.std.proofs.Math.Nat.{div-le_self, pos_of_dvd_of_pos, mul_comm, div-mul_cancel}
 use Rattle.std.proofs.Math.IntN.{*ℤ_comm}
@@ -17,7 +16,7 @@ use Rattle.fraction.specs.declared.fault.FractionFault.TheVariants.{ZeroDenomina
 use Rattle.fraction.specs.Numeral.{Same, with_sign}
 use Rattle.fraction.specs.Lowest.{lowest_of, differ, lowest_terms, HasWidePart, IsLowest}
 use Rattle.field_core.proofs.Wholes.{size_negated, size_positive, not_negative, neg_times}
-use Rattle.fraction.specs.Laws.Unique.{AreLowest, are_lowest, lowest_unique, same_through}
+use Rattle.fraction.specs.Laws.Unique.{AreLowest, lowest_from, lowest_unique, same_through}
 use Rattle.field_core.proofs.Divisors.{gcd_is}
 use Rattle.field_core.proofs.Coprime.{gcd_bounds, gcd_from_apart, quotients_apart, quotient_divides}
 
@@ -139,7 +138,7 @@ lowest_are n d some =
 -- the lowest terms of any quotient with the value of a fraction are that fraction
 pub lowest_any : (t : Terms) (n d : ℤ) → IsReduced t → pos 0 <ℤ d → Same t (record { num = n; den = d }) → lowest_terms n d ≡ t
 lowest_any t n d r some h =
-    lowest_unique (lowest_terms n d) t (lowest_are n d some) (are_lowest t r) (same_through (lowest_terms n d) t (record { num = n; den = d }) some (lowest_cross n d) h)
+    lowest_unique (lowest_terms n d) t (lowest_are n d some) (lowest_from t r) (same_through (lowest_terms n d) t (record { num = n; den = d }) some (lowest_cross n d) h)
 
 -- ---- what a quotient says
 

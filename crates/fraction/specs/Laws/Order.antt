@@ -1,16 +1,10 @@
 -- The order of fractions by value, and that it is one.
-use Rattle.std.proofs.Common.{◌≡◌, refl, sym, ap, ap₂, subst, ◌∙◌, ℤ, pos, ◌*ℤ◌, ◌<ℤ◌, Bool, true, false, ◌&&◌, unsigned_abs, ◌*◌, arith}
-use Rattle.std.proofs.lemmas.Int.{ints, unsigned_abs-mul}
-use Rattle.std.proofs.lemmas.Nat.Gcd.{dvd_antisymm}
-use Rattle.std.proofs.Math.Nat.{dvd-mul_left}
-use Rattle.std.specs.Int.{◌∣◌}
+use Rattle.std.proofs.Common.{◌≡◌, refl, sym, ap, ap₂, subst, ◌∙◌, ℤ, ◌*ℤ◌, Bool, true, false, ◌&&◌}
 use Rattle.std.specs.Cmp.{IsTotalOrder, IsPartialOrder, both_ways, Equal-is, partial_order_from_agreeing_total}
 use Rattle.std.specs.Ordering.{int_cmp, int_eq, is_eq, eq_by_cmp, as_partial_cmp}
 use Rattle.std.specs.declared.cmp.Ordering.{Ordering}
 use Rattle.std.specs.declared.cmp.Ordering.TheVariants.{Equal}
 use Rattle.std.proofs.lemmas.Cmp.{on_total, int_ranked, int_cmp_total, tied_itself}
-use Rattle.field_core.specs.Divisor.{gcd}
-use Rattle.field_core.specs.Terms.{Terms, IsReduced}
 use Rattle.field_core.specs.View.{terms}
 use Rattle.field_core.specs.Number.{Number}
 use Rattle.field_core.specs.Arithmetic.{number_compare}
@@ -18,10 +12,7 @@ use Rattle.field_core.specs.Fractions.{fraction}
 use Rattle.field_core.specs.Laws.FieldLaws.{number_is_field}
 use Rattle.field_core.specs.Laws.Effective.{fraction-compare, fraction-cross, positive_nonzero}
 use Rattle.field_core.specs.declared.ratio.Ratio.{Ratio}
-use Rattle.field_core.proofs.Coprime.{apart_from_gcd, divides_other}
-use Rattle.field_core.proofs.IntegerRing.{*ℤ_cancel}
-use Rattle.field_core.proofs.Wholes.{same_by_size}
-use Rattle.fraction.specs.Laws.Unique.{reduced_unique}
+pub use Rattle.fraction.specs.Laws.Unique.{AreLowest, lowest_unique, lowest_from, reduced_unique}
 
 -- ---- the order
 

@@ -8,7 +8,7 @@ use Rattle.field_core.specs.Terms.{Terms, IsReduced}
 use Rattle.fraction.specs.Written.{opposite, inverse, inverse_of}
 use Rattle.fraction.specs.Laws.CrossProducts.{sum_of, product_of}
 use Rattle.fraction.specs.Laws.Turned.{opposite_reduced, inverse_reduced}
-use Rattle.field_core.specs.Laws.Ring.{negate_multiply, multiply_negate, negate_negate}
+use Rattle.field_core.specs.Laws.Ring.{multiply_negate, negate_negate}
 use Rattle.field_core.specs.Laws.Integers.{integers, int_negate_multiply}
 use Rattle.field_core.specs.Number.{Number}
 use Rattle.field_core.specs.Arithmetic.{number_zero, number_one, number_negate, number_sign, ◌+ε◌, ◌*ε◌, ◌/ε◌, number_compare}

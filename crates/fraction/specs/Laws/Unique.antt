@@ -1,5 +1,5 @@
 -- One value has one pair of lowest terms.
-use Rattle.std.proofs.Common.{◌≡◌, ◌*◌, ℤ, pos, ◌*ℤ◌, ◌<ℤ◌, unsigned_abs, sym, ap, ap₂, subst, ◌∙◌}
+use Rattle.std.proofs.Common.{◌≡◌, ◌*◌, pos, ◌*ℤ◌, ◌<ℤ◌, unsigned_abs, sym, ap, ap₂, subst, ◌∙◌}
 use Rattle.std.specs.Int.{◌∣◌}
 use Rattle.std.proofs.lemmas.Int.{unsigned_abs-mul}
 use Rattle.std.proofs.lemmas.Nat.Gcd.{dvd_antisymm}
@@ -29,11 +29,11 @@ lowest_unique x y r s h =
     let num : x.num ≡ y.num = *ℤ_cancel x.num y.num x.den r.positive (subst (λ d. x.num *ℤ d ≡ y.num *ℤ x.den) (sym den) h) in
     ap₂ (λ n d. record { num = n; den = d }) num den
 
-pub are_lowest : (x : Terms) → IsReduced x → AreLowest x
-are_lowest x r = record { positive = r.positive; apart = r.reduced }
+pub lowest_from : (x : Terms) → IsReduced x → AreLowest x
+lowest_from x r = record { positive = r.positive; apart = r.reduced }
 
 pub reduced_unique : (x y : Terms) → IsReduced x → IsReduced y → Same x y → x ≡ y
-reduced_unique x y r s h = lowest_unique x y (are_lowest x r) (are_lowest y s) h
+reduced_unique x y r s h = lowest_unique x y (lowest_from x r) (lowest_from y s) h
 
 -- two values that are equal to a third
 pub same_through : (x y v : Terms) → pos 0 <ℤ v.den → Same x v → Same y v → Same x y
