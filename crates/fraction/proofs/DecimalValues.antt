@@ -1,8 +1,9 @@
 -- What a decimal is worth, by what is read of it.
-use Rattle.std.proofs.Common.{◌≡◌, ℕ, Bool, true, false, List, [], pos, ◌<ℤ◌, Some, None, Result, Ok, Err, IfOk, IfErr, refl, sym, subst, ◌∙◌}
+use Rattle.std.proofs.Common.{◌≡◌, ◌≢◌, ℕ, Bool, true, false, List, [], pos, Some, None, Result, Ok, Err, IfOk, IfErr, refl, sym, subst, ◌∙◌}
 use Rattle.std.specs.Option.{option_map}
 use Rattle.std.specs.Result.{result_ok}
 use Rattle.field_core.specs.Terms.{Terms}
+use Rattle.field_core.specs.Laws.Effective.{positive_nonzero}
 use Rattle.fraction.specs.declared.fraction.Fraction.{Fraction}
 use Rattle.fraction.specs.View.{terms_of}
 use Rattle.fraction.specs.declared.fault.NumberFault.{NumberFault}
@@ -40,13 +41,16 @@ no_zero (Plain whole e) n h = h
 no_zero (Pointed whole fraction e) n h = h
 no_zero (Pair over under) n h = n tt
 
-decimal_found : (d : Decimal) (text : List ℕ) (t : Terms) → text ≡ body_text d.body → IsNumeralOf text t → Some t ≡ decimal_value d
+-- its denominator isn't 0
+pub decimal_some : (d : Decimal) → (value_of None d.body).den ≢ pos 0
+decimal_some d = positive_nonzero (value_of None d.body).den (value_positive None d.body (no_zero d.body d.no_pair))
+
+pub decimal_found : (d : Decimal) (text : List ℕ) (t : Terms) → text ≡ body_text d.body → IsNumeralOf text t → Some t ≡ decimal_value d
 unfolding decimal_value
 decimal_found d text t e f =
     let g : IsNumeralOf (body_text d.body) t = subst (λ x. IsNumeralOf x t) e f in
     let v : Terms = value_of None d.body in
-    let some : pos 0 <ℤ v.den = value_positive None d.body (no_zero d.body d.no_pair) in
-    rw (few_digits d g.numeral g.within, lowest_any t v.num v.den g.lowest some (subst (Same t) (same_value d g.numeral) g.same)) refl
+    rw (few_digits d g.numeral g.within, lowest_any t v.num v.den g.lowest (decimal_some d) (subst (Same t) (same_value d g.numeral) g.same)) refl
 
 many_digits : (d : Decimal) (n : IsNumeral (body_text d.body)) → HasTooManyDigits n.body → decimal_value d ≡ None
 unfolding decimal_value

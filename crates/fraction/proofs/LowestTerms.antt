@@ -15,7 +15,7 @@ use Rattle.fraction.specs.declared.fault.FractionFault.{FractionFault}
 use Rattle.fraction.specs.declared.fault.FractionFault.TheVariants.{ZeroDenominator, TooWide}
 use Rattle.fraction.specs.Numeral.{Same, with_sign}
 use Rattle.fraction.specs.Lowest.{lowest_of, differ, lowest_terms, HasWidePart, IsLowest}
-use Rattle.field_core.proofs.Wholes.{size_negated, size_positive, not_negative, neg_times}
+use Rattle.field_core.proofs.Wholes.{size_negated, not_negative, neg_times}
 use Rattle.fraction.specs.Laws.Unique.{AreLowest, lowest_from, lowest_unique, same_through}
 use Rattle.field_core.proofs.Divisors.{gcd_is}
 use Rattle.field_core.proofs.Coprime.{gcd_bounds, gcd_from_apart, quotients_apart, quotient_divides}
@@ -126,17 +126,20 @@ lowest_cross n d =
     ∙ signed_cross (is_negative n) (is_negative d) _ _ (unsigned_abs n) (unsigned_abs d) (cross_divided (unsigned_abs n) (unsigned_abs d))
     ∙ ap (λ z. z *ℤ pos (unsigned_abs d / gcd (unsigned_abs n) (unsigned_abs d))) (sym (sign_is n))
 
-lowest_are : (n d : ℤ) → pos 0 <ℤ d → AreLowest (lowest_terms n d)
+size_some : (d : ℤ) → d ≢ pos 0 → 0 < unsigned_abs d
+size_some d h = omega (arith, ints, h)
+
+pub lowest_are : (n d : ℤ) → d ≢ pos 0 → AreLowest (lowest_terms n d)
 unfolding lowest_terms lowest_of
 lowest_are n d some =
-    let both = (divided (unsigned_abs n) (unsigned_abs d) (size_positive d some)).1 in
+    let both = (divided (unsigned_abs n) (unsigned_abs d) (size_some d some)).1 in
     record {
       positive = (let p = both.some in omega (arith, ints));
       apart = ap (λ k. gcd k (unsigned_abs d / gcd (unsigned_abs n) (unsigned_abs d))) (abs_sign (differ (is_negative n) (is_negative d)) (unsigned_abs n / gcd (unsigned_abs n) (unsigned_abs d))) ∙ both.apart;
     }
 
 -- the lowest terms of any quotient with the value of a fraction are that fraction
-pub lowest_any : (t : Terms) (n d : ℤ) → IsReduced t → pos 0 <ℤ d → Same t (record { num = n; den = d }) → lowest_terms n d ≡ t
+pub lowest_any : (t : Terms) (n d : ℤ) → IsReduced t → d ≢ pos 0 → Same t (record { num = n; den = d }) → lowest_terms n d ≡ t
 lowest_any t n d r some h =
     lowest_unique (lowest_terms n d) t (lowest_are n d some) (lowest_from t r) (same_through (lowest_terms n d) t (record { num = n; den = d }) some (lowest_cross n d) h)
 

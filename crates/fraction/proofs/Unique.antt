@@ -3,6 +3,7 @@ use Rattle.std.proofs.Common.{◌≡◌, ℕ, ◌⊎◌, inl, inr, List, [], ◌
 use Rattle.std.specs.Str.Parse.{digits_value}
 use Rattle.std.proofs.lemmas.Int.{ints}
 use Rattle.field_core.specs.Terms.{Terms}
+use Rattle.field_core.specs.Laws.Effective.{positive_nonzero}
 use Rattle.fraction.specs.declared.fault.NumberFault.{NumberFault}
 use Rattle.fraction.specs.declared.fault.NumberFault.TheVariants.{Empty, BadByte, ZeroDenominator, TooManyDigits}
 use Rattle.fraction.specs.Numeral.{AreDigits, sign_text, IsSign, is_minus, Exponent, exponent_text, IsExponent, exponent_of, Body, Plain, Pointed, Pair, body_text, IsBody, IsNumeral, over_power, value_of, HasZeroDenominator, HasTooManyDigits, IsNumeralOf, IsParseFault, Same}
@@ -92,7 +93,7 @@ value_positive s (Pair a b) h = let some : ¬ (digits_value 10 b ≡ 0) = h in o
 pub one_value : (text : List ℕ) (t u : Terms) → IsNumeralOf text t → IsNumeralOf text u → t ≡ u
 one_value text t u h k =
     let other : Same u (value_of h.numeral.sign h.numeral.body) = subst (λ v. Same u v) (value_unique text k.numeral h.numeral) k.same in
-    reduced_unique t u h.lowest k.lowest (same_through t u (value_of h.numeral.sign h.numeral.body) (value_positive h.numeral.sign h.numeral.body h.defined) h.same other)
+    reduced_unique t u h.lowest k.lowest (same_through t u (value_of h.numeral.sign h.numeral.body) (positive_nonzero _ (value_positive h.numeral.sign h.numeral.body h.defined)) h.same other)
 
 body_some : (body : Body) → IsBody body → ¬ (body_text body ≡ [])
 body_some (Plain [] e) h q = omega (arith, h.1)

@@ -1,8 +1,8 @@
 -- Decimals: numerals without a sign that are no pair, and what they are worth.
-use Rattle.std.specs.Prelude.{◌≡◌, ℕ, ◌-◌, ◌&&◌, ◌||◌, ◌++◌, Bool, List, length, nat_lt, int_lt, ℤ, pos, ◌-ℤ◌, Option, Some, None, if◌then◌else◌}
+use Rattle.std.specs.Prelude.{◌≡◌, ◌↔◌, ℕ, ◌-◌, ◌&&◌, ◌||◌, ◌++◌, Bool, true, List, length, nat_lt, int_lt, ℤ, pos, ◌-ℤ◌, Option, Some, None, if◌then◌else◌}
 use Rattle.field_core.specs.Terms.{Terms}
 use Rattle.fraction.specs.Lowest.{lowest_terms}
-use Rattle.fraction.specs.Numeral.{Body, Plain, Pointed, Pair, body_text, IsBody, exponent_of, without_leading_zeros, trailing_zeros, value_of}
+use Rattle.fraction.specs.Numeral.{Body, Plain, Pointed, Pair, body_text, IsBody, exponent_of, without_leading_zeros, trailing_zeros, value_of, HasTooManyDigits}
 
 -- two numbers with a slash between
 abbrev pub IsPair : Body → Type 0
@@ -40,3 +40,7 @@ unfoldable pub decimal_value : Decimal → Option Terms
 decimal_value d =
     if has_too_many_digits d.body then None
     else Some (lowest_terms (value_of None d.body).num (value_of None d.body).den)
+
+-- the test of a body's digits is the limit of numerals
+abbrev pub DecimalsHaveTheLimitOfNumerals : Type 0
+DecimalsHaveTheLimitOfNumerals = (body : Body) → (has_too_many_digits body ≡ true) ↔ HasTooManyDigits body

@@ -12,7 +12,7 @@ use Rattle.field_core.specs.Fractions.{fraction}
 use Rattle.field_core.specs.Laws.FieldLaws.{number_is_field}
 use Rattle.field_core.specs.Laws.Effective.{fraction-compare, fraction-cross, positive_nonzero}
 use Rattle.field_core.specs.declared.ratio.Ratio.{Ratio}
-pub use Rattle.fraction.specs.Laws.Unique.{AreLowest, lowest_unique, lowest_from, reduced_unique}
+use Rattle.fraction.specs.Laws.Unique.{reduced_unique}
 
 -- ---- the order
 
