@@ -11,7 +11,7 @@ use Rattle.field_core.specs.declared.ratio.Ratio.{Ratio}
 use Rattle.field_core.specs.NumberField.{number_field}
 use Rattle.field_core.specs.Sums.{sum_below}
 use mathlib.Core.Path.{fun_ext}
-use Rattle.edge_expression.proofs.RatioLists.{terms_of_at}
+use Rattle.case_model.proofs.Same.{terms_at-map}
 use Rattle.field_core.specs.Number.{Number as Value}
 use Rattle.field_core.specs.Epsilon.{epsilon}
 use Rattle.field_core.specs.Arithmetic.{number_zero, number_one, ◌+ε◌, ◌-ε◌, ◌*ε◌, ◌/ε◌}
@@ -30,15 +30,17 @@ use Rattle.case_model.specs.Sums.{number, terms_at, zero_terms}
 use Rattle.case_model.proofs.EntryOrder.{sum_of_five}
 use Rattle.edge_expression.specs.declared.fault.ExprFault.{ExprFault}
 use Rattle.edge_expression.specs.declared.fault.ExprFault.TheVariants.{DivisorNotNumber, ZeroDivisor, Degree, Part}
-use Rattle.edge_expression.specs.Expressions.{Decimal, Power, Sign, Plus, Minus, Expression, Sum, MoreTerms, NoTerm, AndTerm, Term, Product, MoreFactors, NoFactor, Times, Over, Beside, Factor, Number, Other, Further, Epsilon, Parens}
+use Rattle.edge_expression.specs.Expressions.{Power, Sign, Plus, Minus, Expression, Sum, MoreTerms, NoTerm, AndTerm, Term, Product, MoreFactors, NoFactor, Times, Over, Beside, Factor, Number, Other, Further, Epsilon, Parens}
 use Rattle.field_core.specs.Steps.{◌>>=◌}
 use Rattle.field_core.specs.Laws.Prefixes.{bind_ok}
-use Rattle.edge_expression.specs.EntryValues.{plain_entry, short, sum, difference, product, quotient, coefficients, joined, degree_within, degree, product_sum, times, over, has_too_many_digits, decimal_value, unit_at, power_value, epsilon_value, sign_or_plus, value, with_terms, term_value, with_factors, factor_value, further_value}
+use Rattle.edge_expression.specs.EntryValues.{plain_entry, short, sum, difference, product, quotient, coefficients, joined, degree_within, degree, product_sum, times, over, short_of, decimal_entry, unit_at, power_value, epsilon_value, sign_or_plus, value, with_terms, term_value, with_factors, factor_value, further_value}
 use Rattle.edge_expression.specs.ExpressionStatements.{moved, power_meant, meaning, and_terms, term_meaning, and_factors, factor_meaning, further_meaning}
 use Rattle.edge_expression.proofs.UnitEntries.{tabled}
 use Rattle.edge_expression.proofs.ShortNumbers.{IsNumber, short_number, sum_number, product_number, difference_number, quotient_number}
 use Rattle.edge_expression.proofs.ShortOperations.{some_number}
-use Rattle.edge_expression.proofs.DecimalValues.{IsOver, body_over}
+use Rattle.fraction.specs.Lowest.{lowest_terms}
+use Rattle.fraction.specs.Decimals.{Decimal, has_too_many_digits, decimal_value}
+use Rattle.fraction.proofs.DecimalValues.{decimal_some}
 
 -- ---- identities of numbers
 
@@ -315,19 +317,16 @@ over_meant x y z v w p q h =
 plain_meant : (t : Terms) (v : Value) → IsNumber t v → IsMeant (plain_entry t) v
 plain_meant t v h = as_meant (plain_entry t) _ v (constant_powers v epsilon) (of_five t zero_terms zero_terms zero_terms zero_terms v number_zero number_zero number_zero number_zero h zero_is zero_is zero_is zero_is)
 
-decimal_by : (b : Bool) (r : Result Terms ExprFault) (x : List Terms) → cond b (Err Part) (r >>= λ t. Ok (plain_entry t)) ≡ Ok x → (t : Terms) × ((r ≡ Ok t) × (plain_entry t ≡ x))
-decimal_by true r x h = absurd cc
-decimal_by false r x h = let b = bind_ok r (λ t. Ok (plain_entry t)) x h in (b.0, (b.1.0, same_ok (plain_entry b.0) x b.1.1))
+decimal_by : (b : Bool) (l : Terms) (x : List Terms) → decimal_entry (cond b None (Some l)) ≡ Ok x → (t : Terms) × ((short_of l ≡ Ok t) × (plain_entry t ≡ x))
+decimal_by true l x h = absurd cc
+decimal_by false l x h = let b = bind_ok (short_of l) (λ t. Ok (plain_entry t)) x h in (b.0, (b.1.0, same_ok (plain_entry b.0) x b.1.1))
 
-under_some : (v : Terms) → IsOver v → v.den ≢ pos 0
-under_some v o e = let d : pos o.under ≡ pos 0 = sym (ap (λ (t : Terms). t.den) o.is) ∙ e in let s = o.some in omega (arith, ints)
-
-decimal_meant : (d : Decimal) (x : List Terms) → decimal_value d ≡ Ok x → IsMeant x (fraction (value_of None d.body).num (value_of None d.body).den)
-unfolding decimal_value
+decimal_meant : (d : Decimal) (x : List Terms) → decimal_entry (decimal_value d) ≡ Ok x → IsMeant x (fraction (value_of None d.body).num (value_of None d.body).den)
+unfolding decimal_value short
 decimal_meant d x h =
     let v = value_of None d.body in
-    let t = decimal_by (has_too_many_digits d.body) (short v.num v.den) x h in
-    subst (λ l. IsMeant l (fraction v.num v.den)) t.1.1 (plain_meant t.0 (fraction v.num v.den) (short_number v.num v.den t.0 (under_some v (body_over d.body d.no_pair)) t.1.0))
+    let t = decimal_by (has_too_many_digits d.body) (lowest_terms v.num v.den) x h in
+    subst (λ l. IsMeant l (fraction v.num v.den)) t.1.1 (plain_meant t.0 (fraction v.num v.den) (short_number v.num v.den t.0 (decimal_some d) t.1.0))
 
 one_is : IsNumber (record { num = pos 1; den = pos 1 }) number_one
 unfolding stored_value
@@ -420,7 +419,7 @@ value_reduced e x h = (expression_meant e x h).reduced
 
 value_of_ratios : (x : List Ratio) → entry_value x ≡ terms_value (map terms x)
 unfolding entry_value terms_value
-value_of_ratios x = ap (sum_below number_field 5) (fun_ext (λ k. ap (λ t. number t *ε power_of_epsilon k) (sym (terms_of_at x k))))
+value_of_ratios x = ap (sum_below number_field 5) (fun_ext (λ k. ap (λ t. number t *ε power_of_epsilon k) (sym (terms_at-map x k))))
 
 -- an entry is the number that its expression means
 pub entry_is_meant : (e : Expression) (x : List Ratio) → value e ≡ Ok (map terms x) → entry_value x ≡ meaning e

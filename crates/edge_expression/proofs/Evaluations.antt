@@ -12,9 +12,10 @@ use Rattle.edge_expression.specs.declared.polynomial.Operation.{Operation}
 use Rattle.edge_expression.specs.declared.cursor.Head.{Head}
 use Rattle.edge_expression.specs.declared.cursor.Head.TheVariants as heads
 use Rattle.fraction.specs.Numeral.{body_text}
-use Rattle.edge_expression.specs.Expressions.{Decimal, Power, Sign, Plus, Minus, Expression, Sum, MoreTerms, NoTerm, AndTerm, Term, Product, MoreFactors, NoFactor, Number, Other, Epsilon, Parens, Token, CloseToken, expression_tokens, terms_tokens, term_tokens, factors_tokens, IsSpelt, Spells}
+use Rattle.fraction.specs.Decimals.{Decimal, decimal_value}
+use Rattle.edge_expression.specs.Expressions.{Power, Sign, Plus, Minus, Expression, Sum, MoreTerms, NoTerm, AndTerm, Term, Product, MoreFactors, NoFactor, Number, Other, Epsilon, Parens, Token, CloseToken, expression_tokens, terms_tokens, term_tokens, factors_tokens, IsSpelt, Spells}
 use Rattle.field_core.specs.Steps.{◌>>=◌}
-use Rattle.edge_expression.specs.EntryValues.{joined, sign_or_plus, value, with_terms, term_value, with_factors, factor_value, decimal_value, power_value, epsilon_value}
+use Rattle.edge_expression.specs.EntryValues.{joined, sign_or_plus, value, with_terms, term_value, with_factors, factor_value, decimal_entry, power_value, epsilon_value}
 use Rattle.edge_expression.specs.EntryView.{map_value, polynomial_terms, applied}
 use Rattle.edge_expression.specs.CursorView.{SignTaken, JointTaken, HeadTaken, PowerTaken, CloseTaken, EndsExpression, EndsTerm, Evaluates, IsHead, SumGives, ProductGives, FactorGives}
 use Rattle.text_lines.specs.Words.{after_blanks}
@@ -217,7 +218,7 @@ product_done entry old new product goes h t more ends x =
 
 -- ---- factors
 
-pub decimal_gives : (text : Bor (List ℕ)) (old : List ℕ) (r : Result Polynomial ExprFault) → ((d : Decimal) → text.now ≡ body_text d.body → map_value polynomial_terms r ≡ decimal_value d) → FactorGives (heads.Decimal text) old r old
+pub decimal_gives : (text : Bor (List ℕ)) (old : List ℕ) (r : Result Polynomial ExprFault) → ((d : Decimal) → text.now ≡ body_text d.body → map_value polynomial_terms r ≡ decimal_entry (decimal_value d)) → FactorGives (heads.Decimal text) old r old
 unfolding FactorGives IsHead
 decimal_gives text old r v (Number d) more ends h = (v d h.0 ∙ sym (decimal_factor d), λ _. h.1)
 decimal_gives text old r v (Other (Epsilon power)) more ends h = absurd h

@@ -3,7 +3,8 @@ use Rattle.std.proofs.Common.{◌≡◌, ℕ, ◌⊎◌, inl, inr, List, map, le
 use Rattle.field_core.specs.Terms.{Terms}
 use Rattle.field_core.specs.View.{terms}
 use Rattle.field_core.specs.declared.ratio.Ratio.{Ratio}
-use Rattle.edge_expression.proofs.RatioLists.{same_ratios, ratios_of}
+use Rattle.case_model.proofs.Same.{same_ratios}
+use Rattle.edge_expression.proofs.RatioLists.{ratios_of}
 use Rattle.edge_expression.proofs.EntryMeanings.{value_reduced}
 use Rattle.fraction.specs.Prefixes.{IsBadByte}
 use Rattle.edge_expression.specs.declared.fault.ExprFault.{ExprFault}

@@ -3,20 +3,20 @@ use Rattle.std.proofs.Common.{◌≡◌, ℕ, zero, suc, ◌+◌, ◌-◌, inl, 
 use Rattle.std.specs.Prelude.{IfOk, IfErr, IsOkAnd, nat_lt}
 use Rattle.field_core.specs.Terms.{Terms}
 use Rattle.fraction.specs.Lowest.{lowest_terms}
-use Rattle.fraction.specs.Numeral.{value_of}
 use Rattle.case_model.specs.declared.entry.Entry.{Entry}
 use Rattle.field_core.specs.View.{terms}
 use Rattle.field_core.specs.declared.ratio.Ratio.{Ratio}
-use Rattle.edge_expression.proofs.RatioLists.{same_ratios}
+use Rattle.case_model.proofs.Same.{same_ratios}
 use Rattle.edge_expression.specs.EntryValues.{is_short}
 use Rattle.fraction.specs.Tests.{is_zero}
 use Rattle.edge_expression.specs.EntryValues.{zero_coefficients}
 use Rattle.case_model.specs.Sums.{terms_at}
 use Rattle.edge_expression.specs.declared.fault.ExprFault.{ExprFault}
 use Rattle.edge_expression.specs.declared.fault.ExprFault.TheVariants.{BadByte, Depth, DivisorNotNumber, ZeroDivisor, Degree, Part}
-use Rattle.edge_expression.specs.Expressions.{Decimal, Power, Sign, Plus, Minus, Expression, Sum, MoreTerms, NoTerm, AndTerm, Term, Product, MoreFactors, NoFactor, Times, Over, Beside, Factor, Number, Other, Further, Epsilon, Parens, Spells, IsExpression}
+use Rattle.fraction.specs.Decimals.{Decimal, decimal_value}
+use Rattle.edge_expression.specs.Expressions.{Power, Sign, Plus, Minus, Expression, Sum, MoreTerms, NoTerm, AndTerm, Term, Product, MoreFactors, NoFactor, Times, Over, Beside, Factor, Number, Other, Further, Epsilon, Parens, Spells, IsExpression}
 use Rattle.field_core.specs.Steps.{◌>>=◌}
-use Rattle.edge_expression.specs.EntryValues.{short_of, short, product, coefficients, joined, degree, product_sum, times, over, has_too_many_digits, decimal_value, power_value, epsilon_value, sign_or_plus, value, with_terms, term_value, with_factors, factor_value, further_value}
+use Rattle.edge_expression.specs.EntryValues.{short_of, short, product, coefficients, joined, degree, product_sum, times, over, decimal_entry, power_value, epsilon_value, sign_or_plus, value, with_terms, term_value, with_factors, factor_value, further_value}
 use Rattle.edge_expression.specs.EntryView.{map_value}
 use Rattle.edge_expression.specs.EntryReading.{IsDeep, IsShallow, IsScanned, IsWorth, IsEntryText, IsExprFault}
 
@@ -76,9 +76,10 @@ fine_over : (x y : List Terms) → Fine (over x y)
 unfolding Fine over
 fine_over x y = fine_if (nat_lt 0 (degree y)) (Err DivisorNotNumber) _ tt (fine_if (is_zero (terms_at y 0)) (Err ZeroDivisor) _ tt (fine_coefficients _ (λ k. fine_short _ _)))
 
-fine_decimal : (d : Decimal) → Fine (decimal_value d)
-unfolding Fine decimal_value
-fine_decimal d = fine_if (has_too_many_digits d.body) (Err Part) _ tt (fine_bind (short (value_of None d.body).num (value_of None d.body).den) _ (fine_short _ _) (λ v. tt))
+fine_decimal : (value : Option Terms) → Fine (decimal_entry value)
+unfolding Fine
+fine_decimal None = tt
+fine_decimal (Some t) = fine_bind (short_of t) _ (fine_short_of t) (λ x. tt)
 
 fine_power : (n : ℕ) → Fine (power_value n)
 unfolding Fine power_value
@@ -108,7 +109,7 @@ mutual
   fine_factors p (Beside factor others) = fine_bind (further_value factor) _ (fine_further factor) (λ x. fine_bind (times p x) _ (fine_times p x) (λ l. fine_factors l others))
 
   fine_factor : (f : Factor) → Fine (factor_value f)
-  fine_factor (Number d) = fine_decimal d
+  fine_factor (Number d) = fine_decimal (decimal_value d)
   fine_factor (Other further) = fine_further further
 
   fine_further : (f : Further) → Fine (further_value f)

@@ -1,26 +1,20 @@
 -- What is left of an edge expression, as contracts of the evaluator's parts see it.
 use Rattle.std.specs.Prelude.{◌≡◌, ◌≢◌, ℕ, ◌+◌, ◌%◌, ◌⊎◌, true, List, [], ◌∷◌, Option, Some, None, Result, is_ok, length, drop, take, min}
-use Rattle.field_core.proofs.Longest.{count}
 use Rattle.fraction.specs.Numeral.{body_text}
+use Rattle.fraction.specs.DecimalMachine.{decimal_length}
 use Rattle.field_core.specs.Terms.{Terms}
 use Rattle.text_lines.specs.Words.{after_blanks}
 use Rattle.edge_expression.specs.declared.fault.ExprFault.{ExprFault}
-use Rattle.edge_expression.specs.declared.byte_machine.Part.TheVariants as parts
 use Rattle.edge_expression.specs.declared.polynomial.Polynomial.{Polynomial}
 use Rattle.edge_expression.specs.declared.polynomial.Operation.{Operation}
 use Rattle.edge_expression.specs.declared.polynomial.Operation.TheVariants as operations
 use Rattle.edge_expression.specs.declared.cursor.Head.{Head}
 use Rattle.edge_expression.specs.declared.cursor.Head.TheVariants as heads
-use Rattle.edge_expression.specs.ByteMachine.{decimal_byte}
 use Rattle.edge_expression.specs.Expressions.{Expression, Term, Factor, Number, Other, Epsilon, Parens, Token, DecimalToken, CaretToken, PowerToken, SignToken, CloseToken, power_tokens, expression_tokens, term_tokens, IsSpelt}
 use Rattle.edge_expression.specs.EntryValues.{value, term_value, factor_value}
 use Rattle.edge_expression.specs.EntryView.{map_value, polynomial_terms}
 
 -- ---- bytes
-
--- how many bytes of a text may begin a decimal
-unfoldable pub decimal_length : List ℕ → ℕ
-decimal_length text = count decimal_byte text parts.Start
 
 -- the text doesn't begin with this byte
 abbrev pub IsOtherThan : ℕ → List ℕ → Type 0

@@ -3,12 +3,12 @@ use Rattle.std.specs.Prelude.{ℕ, zero, suc, ◌-◌, ◌+◌, ◌^◌, ◌||�
 use Rattle.field_core.specs.Terms.{Terms}
 use Rattle.field_core.specs.Steps.{◌>>=◌}
 use Rattle.fraction.specs.Lowest.{lowest_terms}
-use Rattle.fraction.specs.Numeral.{Body, Plain, Pointed, Pair, exponent_of, without_leading_zeros, trailing_zeros, value_of}
+use Rattle.fraction.specs.Decimals.{decimal_value}
 use Rattle.case_model.specs.Sums.{zero_terms, terms_at}
 use Rattle.fraction.specs.Tests.{is_zero, is_within}
 use Rattle.edge_expression.specs.declared.fault.ExprFault.{ExprFault}
 use Rattle.edge_expression.specs.declared.fault.ExprFault.TheVariants.{DivisorNotNumber, ZeroDivisor, Degree, Part}
-use Rattle.edge_expression.specs.Expressions.{Decimal, Power, Sign, Plus, Minus, Expression, Sum, MoreTerms, NoTerm, AndTerm, Term, Product, MoreFactors, NoFactor, Times, Over, Beside, Factor, Number, Other, Further, Epsilon, Parens}
+use Rattle.edge_expression.specs.Expressions.{Power, Sign, Plus, Minus, Expression, Sum, MoreTerms, NoTerm, AndTerm, Term, Product, MoreFactors, NoFactor, Times, Over, Beside, Factor, Number, Other, Further, Epsilon, Parens}
 
 -- ---- fractions
 
@@ -95,25 +95,10 @@ over x y =
 
 -- ---- literals
 
--- n digits, divided by ten to the s: they are more than 38, or reach more than 38 places behind the point, or are more than 38 together with the zeros up to the point
-abbrev pub passes_limit : ℕ → ℤ → Bool
-passes_limit n s = nat_lt 38 n || int_lt (pos 38) s || (int_lt s (pos 0) && int_lt (pos 38) (pos n -ℤ s))
-
--- The digits of a whole number without leading zeros, divided by ten to the s: it isn't 0, and passes the limit once its trailing zeros are dropped, each of which lowers s by 1.
-abbrev pub is_too_long : List ℕ → ℤ → Bool
-is_too_long digits s = nat_lt 0 (length digits) && passes_limit (length digits - trailing_zeros digits) (s -ℤ pos (trailing_zeros digits))
-
--- All digits before the exponent make one whole number, and s is the number of those behind the point less the exponent.
-unfoldable pub has_too_many_digits : Body → Bool
-has_too_many_digits (Plain whole exponent) = is_too_long (without_leading_zeros whole) (pos 0 -ℤ exponent_of exponent)
-has_too_many_digits (Pointed whole fraction exponent) = is_too_long (without_leading_zeros (whole ++ fraction)) (pos (length fraction) -ℤ exponent_of exponent)
-has_too_many_digits (Pair over under) = nat_lt 38 (length (without_leading_zeros over)) || nat_lt 38 (length (without_leading_zeros under))
-
--- the value of a decimal
-unfoldable pub decimal_value : Decimal → Result (List Terms) ExprFault
-decimal_value decimal =
-    if has_too_many_digits decimal.body then Err Part
-    else (short (value_of None decimal.body).num (value_of None decimal.body).den >>= λ value. Ok (plain_entry value))
+-- the entry of a decimal's value
+abbrev pub decimal_entry : Option Terms → Result (List Terms) ExprFault
+decimal_entry None = Err Part
+decimal_entry (Some value) = short_of value >>= λ x. Ok (plain_entry x)
 
 -- 1 for the power itself, and 0 for any other
 abbrev pub unit_at : ℕ → ℕ → Terms
@@ -175,7 +160,7 @@ unfoldable mutual
 
   -- the value of a factor
   pub factor_value : Factor → Result (List Terms) ExprFault
-  factor_value (Number decimal) = decimal_value decimal
+  factor_value (Number decimal) = decimal_entry (decimal_value decimal)
   factor_value (Other further) = further_value further
 
   -- the value of a factor that is no decimal

@@ -2,8 +2,9 @@
 ghost use Rattle.std.specs.Prelude.{◌≡◌, ◌≤◌, [], map, length, IfOk};
 ghost use Rattle.fraction.specs.Numeral.{body_text};
 ghost use Rattle.field_core.specs.View.{terms};
-ghost use Rattle.edge_expression.specs.Expressions.{Decimal, Expression, Spells};
-ghost use Rattle.edge_expression.specs.EntryValues.{decimal_value, value};
+ghost use Rattle.fraction.specs.Decimals.{Decimal, decimal_value};
+ghost use Rattle.edge_expression.specs.Expressions.{Expression, Spells};
+ghost use Rattle.edge_expression.specs.EntryValues.{decimal_entry, value};
 ghost use Rattle.edge_expression.specs.EntryView.{map_value, polynomial_terms};
 ghost use Rattle.edge_expression.specs.CursorView.{SumGives, ProductGives, FactorGives};
 
@@ -16,12 +17,11 @@ use fraction::Fraction;
 
 /// The value of a decimal.
 fn decimal(text: &[u8]) -> Result<Polynomial, ExprFault>
-    ensures { (d : Decimal) → text.now ≡ body_text d.body → map_value polynomial_terms result ≡ decimal_value d }
+    ensures { (d : Decimal) → text.now ≡ body_text d.body → map_value polynomial_terms result ≡ decimal_entry (decimal_value d) }
 {
-    match Fraction::parse(text) {
-        Ok(value) => Ok(Polynomial::constant(&Short::of(value)?)),
-        Err(_) => Err(ExprFault::Part),
-    }
+    let value = Fraction::parse_decimal(text).ok_or(ExprFault::Part)?;
+    let short = Short::of(value)?;
+    Ok(Polynomial::constant(&short))
 }
 
 /// The value of a sum, which the cursor takes.
