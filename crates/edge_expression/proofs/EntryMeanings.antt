@@ -25,15 +25,14 @@ use Rattle.fraction.specs.Numeral.{value_of}
 use Rattle.fraction.specs.Plain.{zero_reduced, one_reduced}
 use Rattle.case_model.specs.Entries.{power_of_epsilon, entry_value}
 use Rattle.fraction.specs.Tests.{is_zero}
-use Rattle.edge_expression.specs.EntryValues.{zero_coefficients}
+use Rattle.edge_expression.specs.EntryValues.{zero_coefficients, plain_entry, short, sum, difference, product, quotient, coefficients, joined, degree_within, degree, product_sum, times, over, short_of, decimal_entry, unit_at, power_value, epsilon_value, sign_or_plus, value, with_terms, term_value, with_factors, factor_value, further_value}
 use Rattle.case_model.specs.Sums.{number, terms_at, zero_terms}
 use Rattle.case_model.proofs.EntryOrder.{sum_of_five}
-use Rattle.edge_expression.specs.declared.fault.ExprFault.{ExprFault}
-use Rattle.edge_expression.specs.declared.fault.ExprFault.TheVariants.{DivisorNotNumber, ZeroDivisor, Degree, Part}
+use Rattle.edge_expression.specs.declared.value_fault.ValueFault.{ValueFault}
+use Rattle.edge_expression.specs.declared.value_fault.ValueFault.TheVariants.{DivisorNotNumber, ZeroDivisor, Degree, Part}
 use Rattle.edge_expression.specs.Expressions.{Power, Sign, Plus, Minus, Expression, Sum, MoreTerms, NoTerm, AndTerm, Term, Product, MoreFactors, NoFactor, Times, Over, Beside, Factor, Number, Other, Further, Epsilon, Parens}
 use Rattle.field_core.specs.Steps.{◌>>=◌}
 use Rattle.field_core.specs.Laws.Prefixes.{bind_ok}
-use Rattle.edge_expression.specs.EntryValues.{plain_entry, short, sum, difference, product, quotient, coefficients, joined, degree_within, degree, product_sum, times, over, short_of, decimal_entry, unit_at, power_value, epsilon_value, sign_or_plus, value, with_terms, term_value, with_factors, factor_value, further_value}
 use Rattle.edge_expression.specs.ExpressionStatements.{moved, power_meant, meaning, and_terms, term_meaning, and_factors, factor_meaning, further_meaning}
 use Rattle.edge_expression.proofs.UnitEntries.{tabled}
 use Rattle.edge_expression.proofs.ShortNumbers.{IsNumber, short_number, sum_number, product_number, difference_number, quotient_number}
@@ -138,7 +137,7 @@ of_five a b c d e u v w x y p q r s t = record { reduced = reduced_by a b c d e 
 -- ---- results
 
 -- the coefficients that make an entry
-record IsMade (f : ℕ → Result Terms ExprFault) (z : List Terms) : Type 0 where
+record IsMade (f : ℕ → Result Terms ValueFault) (z : List Terms) : Type 0 where
   a : Terms
   b : Terms
   c : Terms
@@ -151,10 +150,10 @@ record IsMade (f : ℕ → Result Terms ExprFault) (z : List Terms) : Type 0 whe
   at_4 : f 4 ≡ Ok e
   is : a ∷ b ∷ c ∷ d ∷ e ∷ [] ≡ z
 
-same_ok : (x y : List Terms) → Path (Result (List Terms) ExprFault) (Ok x) (Ok y) → x ≡ y
+same_ok : (x y : List Terms) → Path (Result (List Terms) ValueFault) (Ok x) (Ok y) → x ≡ y
 same_ok x y h = cc
 
-made : (f : ℕ → Result Terms ExprFault) (z : List Terms) → coefficients f ≡ Ok z → IsMade f z
+made : (f : ℕ → Result Terms ValueFault) (z : List Terms) → coefficients f ≡ Ok z → IsMade f z
 unfolding coefficients
 made f z h =
     let a = bind_ok (f 0) _ z h in
@@ -235,7 +234,7 @@ pair_none x y i j p q d s h k = elim (cases_lt (degree x) i) [
 
 -- ---- products
 
-same_terms : (x y : Terms) → Path (Result Terms ExprFault) (Ok x) (Ok y) → x ≡ y
+same_terms : (x y : Terms) → Path (Result Terms ValueFault) (Ok x) (Ok y) → x ≡ y
 same_terms x y h = cc
 
 zero_is : IsNumber zero_terms number_zero
@@ -277,7 +276,7 @@ all_of x y p q d =
     (pair_none x y 4 1 p q d (omega arith) (omega arith) (omega arith)) (pair_none x y 4 2 p q d (omega arith) (omega arith) (omega arith)) (pair_none x y 4 3 p q d (omega arith) (omega arith) (omega arith)) (pair_none x y 4 4 p q d (omega arith) (omega arith) (omega arith)) in
     all_are_low (value_at x) (value_at y) epsilon ∙ sym (ap (λ v. low +ε v) none ∙ add_none low) ∙ product_of a b c e f g h i j k epsilon ∙ ap₂ (λ v w. v *ε w) (sym (value_by_powers x)) (sym (value_by_powers y))
 
-low_degree : (b : Bool) (n : ℕ) (r : Result (List Terms) ExprFault) (z : List Terms) → nat_lt 4 n ≡ b → cond b (Err Degree) r ≡ Ok z → (n ≤ 4) × (r ≡ Ok z)
+low_degree : (b : Bool) (n : ℕ) (r : Result (List Terms) ValueFault) (z : List Terms) → nat_lt 4 n ≡ b → cond b (Err Degree) r ≡ Ok z → (n ≤ 4) × (r ≡ Ok z)
 low_degree true n r z e h = absurd cc
 low_degree false n r z e h = (ltb-false 4 n e, h)
 
@@ -291,7 +290,7 @@ times_meant x y z v w p q h =
 
 -- ---- quotients
 
-number_divisor : (b c : Bool) (n : ℕ) (r : Result (List Terms) ExprFault) (z : List Terms) → nat_lt 0 n ≡ b → cond b (Err DivisorNotNumber) (cond c (Err ZeroDivisor) r) ≡ Ok z → (n ≤ 0) × ((c ≡ false) × (r ≡ Ok z))
+number_divisor : (b c : Bool) (n : ℕ) (r : Result (List Terms) ValueFault) (z : List Terms) → nat_lt 0 n ≡ b → cond b (Err DivisorNotNumber) (cond c (Err ZeroDivisor) r) ≡ Ok z → (n ≤ 0) × ((c ≡ false) × (r ≡ Ok z))
 number_divisor true c n r z e h = absurd cc
 number_divisor false true n r z e h = absurd cc
 number_divisor false false n r z e h = (ltb-false 0 n e, (refl, h))

@@ -7,14 +7,13 @@ use Rattle.std.proofs.lemmas.Bool.Decides.{nat_tests}
 use Rattle.field_core.specs.Terms.{Terms}
 use Rattle.fraction.specs.Numeral.{body_text}
 use Rattle.fraction.proofs.Unique.{body_unique}
-use Rattle.edge_expression.specs.EntryValues.{zero_coefficients}
+use Rattle.edge_expression.specs.EntryValues.{zero_coefficients, joined, times, over, sign_or_plus, decimal_entry, epsilon_value, power_value, value, with_terms, term_value, with_factors, factor_value, further_value}
 use Rattle.fraction.specs.DecimalMachine.{decimal_length}
 use Rattle.text_lines.specs.Words.{after_blanks}
-use Rattle.edge_expression.specs.declared.fault.ExprFault.{ExprFault}
+use Rattle.edge_expression.specs.declared.value_fault.ValueFault.{ValueFault}
 use Rattle.fraction.specs.Decimals.{Decimal, decimal_value}
 use Rattle.edge_expression.specs.Expressions.{Power, Sign, Plus, Minus, Expression, Sum, MoreTerms, NoTerm, AndTerm, Term, Product, MoreFactors, NoFactor, Times, Over, Beside, Factor, Number, Other, Further, Epsilon, Parens, Token, DecimalToken, WordToken, CaretToken, PowerToken, SignToken, TimesToken, OverToken, OpenToken, CloseToken, sign_tokens, power_tokens, expression_tokens, terms_tokens, term_tokens, factors_tokens, factor_tokens, further_tokens, sign_byte, token_text, IsSpelt, Spells}
 use Rattle.field_core.specs.Steps.{◌>>=◌}
-use Rattle.edge_expression.specs.EntryValues.{joined, times, over, sign_or_plus, decimal_entry, epsilon_value, power_value, value, with_terms, term_value, with_factors, factor_value, further_value}
 use Rattle.edge_expression.specs.CursorView.{EndsExpression, EndsTerm, EndsFactor}
 use Rattle.fraction.proofs.DecimalLengths.{decimal_front}
 use Rattle.field_core.proofs.Heads.{heads}
@@ -104,16 +103,16 @@ signs_one (Some Minus) (Some Minus) x y m n t s r = (refl, behind_one (SignToken
 
 -- what is made of a value, with all further ones
 abbrev Then : Type 0
-Then = List Terms → Result (List Terms) ExprFault
+Then = List Terms → Result (List Terms) ValueFault
 
-sums_one : (r w : Result (List Terms) ExprFault) (a b : Sign) (x : List Terms) (f g : Then) → r ≡ w → a ≡ b → ((y : List Terms) → f y ≡ g y) → (r >>= λ y. joined a x y >>= λ z. f z) ≡ (w >>= λ y. joined b x y >>= λ z. g z)
-sums_one r w a b x f g e h k = ap₂ (λ v s. v >>= λ y. joined s x y >>= λ z. f z) e h ∙ ap (λ (q : List Terms → Result (List Terms) ExprFault). w >>= λ y. joined b x y >>= λ z. q z) (fun_ext k)
+sums_one : (r w : Result (List Terms) ValueFault) (a b : Sign) (x : List Terms) (f g : Then) → r ≡ w → a ≡ b → ((y : List Terms) → f y ≡ g y) → (r >>= λ y. joined a x y >>= λ z. f z) ≡ (w >>= λ y. joined b x y >>= λ z. g z)
+sums_one r w a b x f g e h k = ap₂ (λ v s. v >>= λ y. joined s x y >>= λ z. f z) e h ∙ ap (λ (q : List Terms → Result (List Terms) ValueFault). w >>= λ y. joined b x y >>= λ z. q z) (fun_ext k)
 
-products_one : (r w : Result (List Terms) ExprFault) (f g : Then) → r ≡ w → ((y : List Terms) → f y ≡ g y) → (r >>= λ y. f y) ≡ (w >>= λ y. g y)
-products_one r w f g e k = ap (λ v. v >>= λ y. f y) e ∙ ap (λ (q : List Terms → Result (List Terms) ExprFault). w >>= λ y. q y) (fun_ext k)
+products_one : (r w : Result (List Terms) ValueFault) (f g : Then) → r ≡ w → ((y : List Terms) → f y ≡ g y) → (r >>= λ y. f y) ≡ (w >>= λ y. g y)
+products_one r w f g e k = ap (λ v. v >>= λ y. f y) e ∙ ap (λ (q : List Terms → Result (List Terms) ValueFault). w >>= λ y. q y) (fun_ext k)
 
-factors_one : (r w : Result (List Terms) ExprFault) (op : List Terms → Then) (x : List Terms) (f g : Then) → r ≡ w → ((y : List Terms) → f y ≡ g y) → (r >>= λ y. op x y >>= λ z. f z) ≡ (w >>= λ y. op x y >>= λ z. g z)
-factors_one r w op x f g e k = ap (λ v. v >>= λ y. op x y >>= λ z. f z) e ∙ ap (λ (q : List Terms → Result (List Terms) ExprFault). w >>= λ y. op x y >>= λ z. q z) (fun_ext k)
+factors_one : (r w : Result (List Terms) ValueFault) (op : List Terms → Then) (x : List Terms) (f g : Then) → r ≡ w → ((y : List Terms) → f y ≡ g y) → (r >>= λ y. op x y >>= λ z. f z) ≡ (w >>= λ y. op x y >>= λ z. g z)
+factors_one r w op x f g e k = ap (λ v. v >>= λ y. op x y >>= λ z. f z) e ∙ ap (λ (q : List Terms → Result (List Terms) ValueFault). w >>= λ y. op x y >>= λ z. q z) (fun_ext k)
 
 -- further terms, from one sum on
 SameTerms : MoreTerms → MoreTerms → Type 0

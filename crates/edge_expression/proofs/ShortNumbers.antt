@@ -19,7 +19,7 @@ use Rattle.fraction.specs.Within.{IsWithin}
 use Rattle.fraction.specs.Lowest.{lowest_terms}
 use Rattle.fraction.proofs.LowestTerms.{lowest_are, lowest_cross}
 use Rattle.case_model.specs.Sums.{number}
-use Rattle.edge_expression.specs.declared.fault.ExprFault.TheVariants.{Part}
+use Rattle.edge_expression.specs.declared.value_fault.ValueFault.TheVariants.{Part}
 use Rattle.edge_expression.specs.EntryValues.{is_short, short_of, short, sum, difference, product, quotient}
 use Rattle.case_model.proofs.Holding.{both}
 

@@ -4,7 +4,7 @@ use Rattle.fraction.specs.Numeral.{body_text}
 use Rattle.fraction.specs.DecimalMachine.{decimal_length}
 use Rattle.field_core.specs.Terms.{Terms}
 use Rattle.text_lines.specs.Words.{after_blanks}
-use Rattle.edge_expression.specs.declared.fault.ExprFault.{ExprFault}
+use Rattle.edge_expression.specs.declared.value_fault.ValueFault.{ValueFault}
 use Rattle.edge_expression.specs.declared.polynomial.Polynomial.{Polynomial}
 use Rattle.edge_expression.specs.declared.polynomial.Operation.{Operation}
 use Rattle.edge_expression.specs.declared.polynomial.Operation.TheVariants as operations
@@ -103,7 +103,7 @@ EndsFactor ks = Unit {0}
 -- ---- what the evaluator gives
 
 -- The result is this worth, and where that is a value, what is left spells these tokens.
-abbrev pub Evaluates : Result Polynomial ExprFault → List ℕ → Result (List Terms) ExprFault → List Token → Type 0
+abbrev pub Evaluates : Result Polynomial ValueFault → List ℕ → Result (List Terms) ValueFault → List Token → Type 0
 Evaluates result left worth more = (map_value polynomial_terms result ≡ worth) × (is_ok result ≡ true → IsSpelt more left)
 
 -- behind this front, what is left spells the rest of the factor, and then these tokens
@@ -114,13 +114,13 @@ IsHead heads.Open rest (Other (Parens inner)) more = IsSpelt (expression_tokens 
 IsHead head rest factor more = ⊥
 
 -- on each expression, whatever follows it
-unfoldable pub SumGives : List ℕ → Result Polynomial ExprFault → List ℕ → Type 0
+unfoldable pub SumGives : List ℕ → Result Polynomial ValueFault → List ℕ → Type 0
 SumGives old result new = (e : Expression) (more : List Token) → EndsExpression more → IsSpelt (expression_tokens e more) old → Evaluates result new (value e) more
 
 -- on each term
-unfoldable pub ProductGives : List ℕ → Result Polynomial ExprFault → List ℕ → Type 0
+unfoldable pub ProductGives : List ℕ → Result Polynomial ValueFault → List ℕ → Type 0
 ProductGives old result new = (t : Term) (more : List Token) → EndsTerm more → IsSpelt (term_tokens t more) old → Evaluates result new (term_value t) more
 
 -- on each factor whose front is taken
-unfoldable pub FactorGives : Head → List ℕ → Result Polynomial ExprFault → List ℕ → Type 0
+unfoldable pub FactorGives : Head → List ℕ → Result Polynomial ValueFault → List ℕ → Type 0
 FactorGives head old result new = (f : Factor) (more : List Token) → EndsFactor more → IsHead head old f more → Evaluates result new (factor_value f) more
