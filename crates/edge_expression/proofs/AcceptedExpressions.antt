@@ -1,23 +1,26 @@
 -- The machine accepts each expression, and what it has read can always be completed.
-use Rattle.std.proofs.Common.{◌≡◌, ℕ, zero, suc, ◌+◌, Bool, true, false, List, [], ◌∷◌, ◌++◌, Option, Some, None, refl, sym, ap, ◌∙◌, inl, inr, arith}
+use Rattle.std.proofs.Common.{◌≡◌, ℕ, zero, suc, ◌+◌, Bool, true, false, List, [], ◌∷◌, ◌++◌, Option, Some, None, refl, sym, ap, ap₂, subst, ◌∙◌, ◌⊎◌, inl, inr, arith}
 use Rattle.std.proofs.lemmas.List.{append-nil}
 use Rattle.field_core.proofs.Longest.{accepts, accepts_then, count, stops_behind}
 use Rattle.fraction.specs.Prefixes.{IsBadByte}
 use Rattle.fraction.specs.Numeral.{body_text}
+use Rattle.fraction.specs.declared.decimal_machine.DecimalPart.{DecimalPart}
+use Rattle.fraction.specs.declared.decimal_machine.DecimalPart.TheVariants as parts
+use Rattle.fraction.specs.DecimalMachine.{class_of as decimal_class, decimal_byte, may_end as ends_decimal}
+use Rattle.fraction.specs.Decimals.{Decimal}
+use Rattle.fraction.proofs.DecimalTexts.{takes, takes_nil, takes_cons, decimal_taken}
+use Rattle.fraction.proofs.DecimalLengths.{completion as decimal_end, completes as decimal_ends}
 use Rattle.edge_expression.specs.declared.byte_class.Class.{Class}
 use Rattle.edge_expression.specs.declared.byte_class.Class.TheVariants as classes
-use Rattle.edge_expression.specs.declared.byte_machine.Part.{Part}
-use Rattle.edge_expression.specs.declared.byte_machine.Part.TheVariants as parts
 use Rattle.edge_expression.specs.declared.byte_machine.Letter.{Letter}
 use Rattle.edge_expression.specs.declared.byte_machine.Letter.TheVariants as letters
 use Rattle.edge_expression.specs.declared.byte_machine.State.{State}
 use Rattle.edge_expression.specs.declared.byte_machine.State.TheVariants as states
 use Rattle.edge_expression.specs.declared.byte_machine.Reached.{Reached}
-use Rattle.edge_expression.specs.ByteMachine.{class_of, decimal_step, is_decimal, next_letter, with_letter, further, at_operand, at_start, behind_factor, behind_parts, behind_part, behind_epsilon, behind_caret, next, opened, reached, step, ends, may_end, start}
-use Rattle.edge_expression.specs.Expressions.{Decimal, Power, Sign, Plus, Minus, Expression, Sum, MoreTerms, NoTerm, AndTerm, Term, Product, MoreFactors, NoFactor, Times, Over, Beside, Factor, Number, Other, Further, Epsilon, Parens, Token, DecimalToken, WordToken, CaretToken, PowerToken, SignToken, TimesToken, OverToken, OpenToken, CloseToken, sign_tokens, power_tokens, expression_tokens, terms_tokens, term_tokens, factors_tokens, factor_tokens, further_tokens, sign_byte, token_text, AreBlanks, IsSpelt, Spells, IsExpression}
-use Rattle.edge_expression.proofs.ByteClasses.{class_digit, class_blank, class_sign, class_joint, class_caret, class_open, class_close, class_backslash}
-use Rattle.edge_expression.proofs.DecimalTexts.{takes, takes_nil, takes_cons, decimal_taken}
-use Rattle.edge_expression.proofs.Machine.{reads, reads_nil, reads_cons, reads_by, behind, letter_opens, part_opens}
+use Rattle.edge_expression.specs.ByteMachine.{class_of, next_letter, with_letter, further, operand_parts, at_operand, start_or, at_start, behind_factor, behind_parts, behind_part, behind_epsilon, behind_caret, next, opened, reached, step, ends, may_end, start}
+use Rattle.edge_expression.specs.Expressions.{Power, Sign, Plus, Minus, Expression, Sum, MoreTerms, NoTerm, AndTerm, Term, Product, MoreFactors, NoFactor, Times, Over, Beside, Factor, Number, Other, Further, Epsilon, Parens, Token, DecimalToken, WordToken, CaretToken, PowerToken, SignToken, TimesToken, OverToken, OpenToken, CloseToken, sign_tokens, power_tokens, expression_tokens, terms_tokens, term_tokens, factors_tokens, factor_tokens, further_tokens, sign_byte, token_text, AreBlanks, IsSpelt, Spells, IsExpression}
+use Rattle.edge_expression.proofs.ByteClasses.{IsOf, class_is, class_digit, class_blank, class_sign, class_joint, class_caret, class_open, class_close, class_backslash}
+use Rattle.edge_expression.proofs.Machine.{reads, reads_nil, reads_cons, reads_by, behind, letter_opens, part_opens, ends_before}
 use Rattle.edge_expression.proofs.ReadExpressions.{is_expression}
 
 -- each text of these tokens is accepted from a state on
@@ -30,16 +33,20 @@ Accepts s n ks = (t : List ℕ) → IsSpelt ks t → reads t s n ≡ true
 class_by : (b : ℕ) (t : List ℕ) (s u : State) (n m : ℕ) (c : Class) (step_of : Class → Option State) → class_of b ≡ c → next s b ≡ step_of (class_of b) → step_of c ≡ Some u → opened c n ≡ Some m → reads (b ∷ t) s n ≡ reads t u m
 class_by b t s u n m c f e is g h = reads_by b t s u n m (is ∙ ap f e ∙ g) (ap (λ d. opened d n) e ∙ h)
 
+-- what holds of two bytes holds of each of the two
+either_of : (P : ℕ → Type 0) (m n b : ℕ) → P m → P n → (b ≡ m) ⊎ (b ≡ n) → P b
+either_of P m n b h k (inl e) = subst P (sym e) h
+either_of P m n b h k (inr e) = subst P (sym e) k
+
 -- a state in which blanks change nothing
 Stays : State → Type 0
-Stays s = (b : ℕ) → class_of b ≡ classes.Blank → next s b ≡ Some s
+Stays s = (b : ℕ) → (b ≡ 32) ⊎ (b ≡ 9) → next s b ≡ Some s
 
 blanks_stay : (s : State) (n : ℕ) (blanks t : List ℕ) → Stays s → AreBlanks blanks → reads (blanks ++ t) s n ≡ reads t s n
 unfolding Stays
 blanks_stay s n [] t h a = refl
 blanks_stay s n (b ∷ bs) t h a =
-    let c = class_blank b a.0 in
-    reads_by b (bs ++ t) s s n n (h b c) (ap (λ d. opened d n) c) ∙ blanks_stay s n bs t h a.1
+    reads_by b (bs ++ t) s s n n (h b a.0) (ap (λ d. opened d n) (class_blank b a.0)) ∙ blanks_stay s n bs t h a.1
 
 -- a token behind blanks
 token_by : (s : State) (n : ℕ) (k : Token) (ks : List Token) → Stays s → ((t : List ℕ) → IsSpelt ks t → reads (token_text k ++ t) s n ≡ true) → Accepts s n (k ∷ ks)
@@ -47,40 +54,45 @@ unfolding Accepts
 token_by s n k ks h f t x = ap (λ y. reads y s n) x.spelt ∙ blanks_stay s n x.blanks (token_text k ++ x.rest) h x.are_blanks ∙ f x.rest x.is_rest
 
 operand_stays : Stays states.Operand
-unfolding Stays
-operand_stays b e = ap at_operand e
+unfolding Stays class_of decimal_class
+operand_stays b = either_of (λ c. next states.Operand c ≡ Some states.Operand) 32 9 b refl refl
 
 start_stays : Stays states.Start
-unfolding Stays
-start_stays b e = ap at_start e
+unfolding Stays class_of
+start_stays b = either_of (λ c. next states.Start c ≡ Some states.Start) 32 9 b refl refl
 
 factor_stays : Stays states.Factor
 unfolding Stays
-factor_stays b e = ap behind_factor e
+factor_stays b e = ap behind_factor (class_blank b e)
 
 epsilon_stays : Stays states.Epsilon
 unfolding Stays
-epsilon_stays b e = ap behind_epsilon e
+epsilon_stays b e = ap behind_epsilon (class_blank b e)
 
 caret_stays : Stays states.Caret
 unfolding Stays
-caret_stays b e = ap behind_caret e
+caret_stays b e = ap behind_caret (class_blank b e)
 
 -- ---- states that go on at least as another one
 
 After : List ℕ → Option State → Option ℕ → Bool
 After t s m = accepts_then (accepts step may_end t) (reached s m)
 
-start_by : (t : List ℕ) (n : ℕ) (c : Class) → (reads t states.Operand n ≡ true → reads t states.Start n ≡ true) → After t (at_operand c) (opened c n) ≡ true → After t (at_start c) (opened c n) ≡ true
-unfolding After
-start_by t n classes.Blank r h = r h
-start_by t n classes.Sign r h = absurd cc
-start_by t n c r h = h
+-- no factor begins with a sign
+no_operand : (b : ℕ) → (b ≡ 43) ⊎ (b ≡ 45) → at_operand b ≡ None
+unfolding class_of decimal_class
+no_operand b = either_of (λ c. at_operand c ≡ None) 43 45 b refl refl
+
+start_by : (b : ℕ) (t : List ℕ) (n : ℕ) (c : Class) → IsOf c b → (reads t states.Operand n ≡ true → reads t states.Start n ≡ true) → After t (at_operand b) (opened c n) ≡ true → After t (start_or c (at_operand b)) (opened c n) ≡ true
+unfolding After Stays
+start_by b t n classes.Blank k r h = r (sym (ap (λ s. After t s (Some n)) (operand_stays b k)) ∙ h)
+start_by b t n classes.Sign k r h = let e : false ≡ true = sym (ap (λ s. After t s (Some n)) (no_operand b k)) ∙ h in absurd cc
+start_by b t n c k r h = h
 
 as_start : (t : List ℕ) (n : ℕ) → reads t states.Operand n ≡ true → reads t states.Start n ≡ true
 unfolding After
 as_start [] n h = let e : ends false n ≡ true = sym (reads_nil states.Operand n) ∙ h in absurd cc
-as_start (b ∷ t) n h = reads_cons b t states.Start n ∙ start_by t n (class_of b) (λ e. as_start t n e) (sym (reads_cons b t states.Operand n) ∙ h)
+as_start (b ∷ t) n h = reads_cons b t states.Start n ∙ start_by b t n (class_of b) (class_is b) (λ e. as_start t n e) (sym (reads_cons b t states.Operand n) ∙ h)
 
 epsilon_by : (t : List ℕ) (n : ℕ) (c : Class) → (reads t states.Factor n ≡ true → reads t states.Epsilon n ≡ true) → After t (behind_factor c) (opened c n) ≡ true → After t (behind_epsilon c) (opened c n) ≡ true
 unfolding After
@@ -93,47 +105,38 @@ unfolding After
 as_epsilon [] n h = reads_nil states.Epsilon n ∙ sym (reads_nil states.Factor n) ∙ h
 as_epsilon (b ∷ t) n h = reads_cons b t states.Epsilon n ∙ epsilon_by t n (class_of b) (λ e. as_epsilon t n e) (sym (reads_cons b t states.Factor n) ∙ h)
 
-part_by : (t : List ℕ) (n : ℕ) (p : Part) (c : Class) → is_decimal p ≡ true → After t (behind_factor c) (opened c n) ≡ true → After t (behind_part p c) (opened c n) ≡ true
+part_by : (t : List ℕ) (n : ℕ) (p : DecimalPart) (b : ℕ) (s : Option State) → ends_decimal p ≡ true → behind_factor (class_of b) ≡ s → After t s (opened (class_of b) n) ≡ true → After t (behind_part p b) (opened (class_of b) n) ≡ true
 unfolding After
-part_by t n p classes.Digit e h = absurd cc
-part_by t n p classes.Point e h = absurd cc
-part_by t n p classes.Mark e h = absurd cc
-part_by t n p classes.Caret e h = absurd cc
-part_by t n p classes.Other e h = absurd cc
-part_by t n parts.Whole c e h = h
-part_by t n parts.Fraction c e h = h
-part_by t n parts.Exponent c e h = h
-part_by t n p c e h = absurd cc
+part_by t n p b None e f h = absurd cc
+part_by t n p b (Some u) e f h =
+    let g : behind_part p b ≡ Some u = ap₂ (λ o x. behind_parts o x (class_of b)) (ends_before b u f p e) e ∙ f in
+    ap (λ x. After t x (opened (class_of b) n)) g ∙ h
 
-as_part : (t : List ℕ) (n : ℕ) (p : Part) → is_decimal p ≡ true → reads t states.Factor n ≡ true → reads t (states.Decimal p) n ≡ true
+as_part : (t : List ℕ) (n : ℕ) (p : DecimalPart) → ends_decimal p ≡ true → reads t states.Factor n ≡ true → reads t (states.Decimal p) n ≡ true
 unfolding After
 as_part [] n p e h = reads_nil (states.Decimal p) n ∙ ap (λ x. ends x n) e ∙ sym (reads_nil states.Factor n) ∙ h
-as_part (b ∷ t) n p e h = reads_cons b t (states.Decimal p) n ∙ part_by t n p (class_of b) e (sym (reads_cons b t states.Factor n) ∙ h)
+as_part (b ∷ t) n p e h = reads_cons b t (states.Decimal p) n ∙ part_by t n p b (behind_factor (class_of b)) e refl (sym (reads_cons b t states.Factor n) ∙ h)
 
 -- ---- decimals and the word
 
-rest_by : (x t : List ℕ) (n : ℕ) (p : Part) (o : Option Part) (c : Class) → decimal_step p c ≡ o → ((q : Part) → takes x q ≡ true → reads (x ++ t) (states.Decimal q) n ≡ true) → accepts_then (takes x) o ≡ true → After (x ++ t) (behind_parts o (is_decimal p) c) (opened c n) ≡ true
+-- with a byte more of a decimal
+goes_on : (x t : List ℕ) (n b : ℕ) (p : DecimalPart) (o : Option DecimalPart) (state_of : Option DecimalPart → Option State) → decimal_byte p b ≡ o → ((q : DecimalPart) → state_of (Some q) ≡ Some (states.Decimal q)) → ((q : DecimalPart) → takes x q ≡ true → reads (x ++ t) (states.Decimal q) n ≡ true) → accepts_then (takes x) o ≡ true → After (x ++ t) (state_of o) (opened (class_of b) n) ≡ true
 unfolding After
-rest_by x t n p None c e r h = absurd cc
-rest_by x t n p (Some q) c e r h = ap (λ m. accepts_then (accepts step may_end (x ++ t)) (reached (Some (states.Decimal q)) m)) (part_opens p q c n e) ∙ r q h
+goes_on x t n b p None state_of e f r h = absurd cc
+goes_on x t n b p (Some q) state_of e f r h = ap₂ (After (x ++ t)) (f q) (part_opens p q b n e) ∙ r q h
 
 -- what ends a decimal, and then what may stand behind a factor
-part_on : (x t : List ℕ) (n : ℕ) (p : Part) → takes x p ≡ true → reads t states.Factor n ≡ true → reads (x ++ t) (states.Decimal p) n ≡ true
+part_on : (x t : List ℕ) (n : ℕ) (p : DecimalPart) → takes x p ≡ true → reads t states.Factor n ≡ true → reads (x ++ t) (states.Decimal p) n ≡ true
 unfolding After
 part_on [] t n p h k = as_part t n p (sym (takes_nil p) ∙ h) k
 part_on (b ∷ x) t n p h k =
-    reads_cons b (x ++ t) (states.Decimal p) n ∙ rest_by x t n p (decimal_step p (class_of b)) (class_of b) refl (λ q e. part_on x t n q e k) (sym (takes_cons b x p) ∙ h)
-
-first_by : (x t : List ℕ) (n : ℕ) (c : Class) → ((q : Part) → takes x q ≡ true → reads (x ++ t) (states.Decimal q) n ≡ true) → accepts_then (takes x) (decimal_step parts.Start c) ≡ true → After (x ++ t) (at_operand c) (opened c n) ≡ true
-unfolding After
-first_by x t n classes.Digit r h = r parts.Whole h
-first_by x t n classes.Point r h = r parts.Point h
-first_by x t n c r h = absurd cc
+    reads_cons b (x ++ t) (states.Decimal p) n ∙ goes_on x t n b p (decimal_byte p b) (λ o. behind_parts o (ends_decimal p) (class_of b)) refl (λ q. refl) (λ q e. part_on x t n q e k) (sym (takes_cons b x p) ∙ h)
 
 decimal_on : (x t : List ℕ) (n : ℕ) → takes x parts.Start ≡ true → reads t states.Factor n ≡ true → reads (x ++ t) states.Operand n ≡ true
 unfolding After
 decimal_on [] t n h k = let e : false ≡ true = sym (takes_nil parts.Start) ∙ h in absurd cc
-decimal_on (b ∷ x) t n h k = reads_cons b (x ++ t) states.Operand n ∙ first_by x t n (class_of b) (λ q e. part_on x t n q e k) (sym (takes_cons b x parts.Start) ∙ h)
+decimal_on (b ∷ x) t n h k =
+    reads_cons b (x ++ t) states.Operand n ∙ goes_on x t n b parts.Start (decimal_byte parts.Start b) (λ o. operand_parts o (class_of b)) refl (λ q. refl) (λ q e. part_on x t n q e k) (sym (takes_cons b x parts.Start) ∙ h)
 
 letter_on : (l : Letter) (t : List ℕ) (n : ℕ) → reads (next_letter l ∷ t) (states.Word l) n ≡ reads t (with_letter l) n
 letter_on letters.Backslash t n = reads_by 101 t (states.Word letters.Backslash) (states.Word letters.E) n n refl (letter_opens letters.Backslash n)
@@ -176,7 +179,7 @@ sign_class Minus = class_sign 45 (inr refl)
 
 sign_at_start : (sign : Sign) (n : ℕ) (ks : List Token) → Accepts states.Operand n ks → Accepts states.Start n (SignToken sign ∷ ks)
 unfolding Accepts
-sign_at_start sign n ks h = token_by states.Start n (SignToken sign) ks start_stays (λ t x. class_by (sign_byte sign) t states.Start states.Operand n n classes.Sign at_start (sign_class sign) refl refl refl ∙ h t x)
+sign_at_start sign n ks h = token_by states.Start n (SignToken sign) ks start_stays (λ t x. class_by (sign_byte sign) t states.Start states.Operand n n classes.Sign (λ c. start_or c (at_operand (sign_byte sign))) (sign_class sign) refl refl refl ∙ h t x)
 
 sign_behind : (sign : Sign) (n : ℕ) (ks : List Token) → Accepts states.Operand n ks → Accepts states.Factor n (SignToken sign ∷ ks)
 unfolding Accepts
@@ -197,25 +200,25 @@ close_behind n ks h = token_by states.Factor (suc n) CloseToken ks factor_stays 
 -- where a parenthesis may open and the word may begin
 record Begins (s : State) : Type 0 where
   stays : Stays s
-  by : Class → Option State
-  by_is : (b : ℕ) → next s b ≡ by (class_of b)
-  opens : by classes.Open ≡ Some states.Start
-  words : by classes.Backslash ≡ Some (states.Word letters.Backslash)
+  opens : next s 40 ≡ Some states.Start
+  words : next s 92 ≡ Some (states.Word letters.Backslash)
 
 open_at : (s : State) (n : ℕ) (ks : List Token) → Begins s → Accepts states.Start (suc n) ks → Accepts s n (OpenToken ∷ ks)
 unfolding Accepts
-open_at s n ks f h = token_by s n OpenToken ks f.stays (λ t x. class_by 40 t s states.Start n (suc n) classes.Open f.by class_open (f.by_is 40) f.opens refl ∙ h t x)
+open_at s n ks f h = token_by s n OpenToken ks f.stays (λ t x. reads_by 40 t s states.Start n (suc n) f.opens (ap (λ d. opened d n) class_open) ∙ h t x)
 
 word_at : (s : State) (n : ℕ) (ks : List Token) → Begins s → Accepts states.Epsilon n ks → Accepts s n (WordToken ∷ ks)
 unfolding Accepts
 word_at s n ks f h =
-    token_by s n WordToken ks f.stays (λ t x. class_by 92 (behind letters.Backslash ++ t) s (states.Word letters.Backslash) n n classes.Backslash f.by class_backslash (f.by_is 92) f.words refl ∙ word_on letters.Backslash t n ∙ h t x)
+    token_by s n WordToken ks f.stays (λ t x. reads_by 92 (behind letters.Backslash ++ t) s (states.Word letters.Backslash) n n f.words (ap (λ d. opened d n) class_backslash) ∙ word_on letters.Backslash t n ∙ h t x)
 
 operand_begins : Begins states.Operand
-operand_begins = record { stays = operand_stays; by = at_operand; by_is = λ b. refl; opens = refl; words = refl }
+unfolding class_of decimal_class
+operand_begins = record { stays = operand_stays; opens = refl; words = refl }
 
 factor_begins : Begins states.Factor
-factor_begins = record { stays = factor_stays; by = behind_factor; by_is = λ b. refl; opens = refl; words = refl }
+unfolding class_of
+factor_begins = record { stays = factor_stays; opens = refl; words = refl }
 
 power_at : (power : Power) (n : ℕ) (ks : List Token) → Accepts states.Factor n ks → Accepts states.Caret n (PowerToken power ∷ ks)
 unfolding Accepts
@@ -289,43 +292,23 @@ closes (suc n) = class_by 41 (closers n) states.Factor states.Factor (suc n) n c
 zero_class : class_of 48 ≡ classes.Digit
 zero_class = class_digit 48 (omega arith) (omega arith)
 
--- a decimal that is begun, with its end
-part_end : Part → List ℕ
-part_end parts.Whole = []
-part_end parts.Fraction = []
-part_end parts.Exponent = []
-part_end p = 48 ∷ []
-
-ended_by : (p q : Part) → decimal_step p classes.Digit ≡ Some q → is_decimal q ≡ true → takes (48 ∷ []) p ≡ true
-ended_by p q e f = takes_cons 48 [] p ∙ ap (λ c. accepts_then (takes []) (decimal_step p c)) zero_class ∙ ap (accepts_then (takes [])) e ∙ takes_nil q ∙ f
-
-part_ends : (p : Part) → takes (part_end p) p ≡ true
-unfolding part_end
-part_ends parts.Start = ended_by parts.Start parts.Whole refl refl
-part_ends parts.Whole = takes_nil parts.Whole
-part_ends parts.Point = ended_by parts.Point parts.Fraction refl refl
-part_ends parts.Fraction = takes_nil parts.Fraction
-part_ends parts.Mark = ended_by parts.Mark parts.Exponent refl refl
-part_ends parts.MarkSigned = ended_by parts.MarkSigned parts.Exponent refl refl
-part_ends parts.Exponent = takes_nil parts.Exponent
-
 completion_by : State → ℕ → List ℕ
-completion_by states.Start n = 48 ∷ closers n
-completion_by states.Operand n = 48 ∷ closers n
-completion_by (states.Decimal p) n = part_end p ++ closers n
+completion_by states.Start n = decimal_end parts.Start ++ closers n
+completion_by states.Operand n = decimal_end parts.Start ++ closers n
+completion_by (states.Decimal p) n = decimal_end p ++ closers n
 completion_by (states.Word l) n = behind l ++ closers n
 completion_by states.Epsilon n = closers n
 completion_by states.Caret n = 48 ∷ closers n
 completion_by states.Factor n = closers n
 
-operand_completes : (n : ℕ) → reads (48 ∷ closers n) states.Operand n ≡ true
-operand_completes n = decimal_on (48 ∷ []) (closers n) n (ended_by parts.Start parts.Whole refl refl) (closes n)
+operand_completes : (n : ℕ) → reads (decimal_end parts.Start ++ closers n) states.Operand n ≡ true
+operand_completes n = decimal_on (decimal_end parts.Start) (closers n) n (decimal_ends parts.Start) (closes n)
 
 completed : (s : State) (n : ℕ) → reads (completion_by s n) s n ≡ true
 unfolding completion_by
-completed states.Start n = as_start (48 ∷ closers n) n (operand_completes n)
+completed states.Start n = as_start (decimal_end parts.Start ++ closers n) n (operand_completes n)
 completed states.Operand n = operand_completes n
-completed (states.Decimal p) n = part_on (part_end p) (closers n) n p (part_ends p) (closes n)
+completed (states.Decimal p) n = part_on (decimal_end p) (closers n) n p (decimal_ends p) (closes n)
 completed (states.Word l) n = word_on l (closers n) n ∙ as_epsilon (closers n) n (closes n)
 completed states.Epsilon n = as_epsilon (closers n) n (closes n)
 completed states.Caret n = class_by 48 (closers n) states.Caret states.Factor n n classes.Digit behind_caret zero_class refl refl refl ∙ closes n

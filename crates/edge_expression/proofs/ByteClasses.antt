@@ -7,12 +7,10 @@ use Rattle.text_lines.specs.Words.{is_blank}
 use Rattle.fraction.proofs.Classes.{either, digit_in, digit_test}
 use Rattle.edge_expression.specs.declared.byte_class.Class.{Class}
 use Rattle.edge_expression.specs.declared.byte_class.Class.TheVariants as classes
-use Rattle.edge_expression.specs.ByteMachine.{mark_of, class_of}
+use Rattle.edge_expression.specs.ByteMachine.{class_of}
 
 abbrev pub IsOf : Class → ℕ → Type 0
 IsOf classes.Digit b = (48 ≤ b) × (b ≤ 57)
-IsOf classes.Point b = b ≡ 46
-IsOf classes.Mark b = (b ≡ 101) ⊎ (b ≡ 69)
 IsOf classes.Sign b = (b ≡ 43) ⊎ (b ≡ 45)
 IsOf classes.Joint b = (b ≡ 42) ⊎ (b ≡ 47)
 IsOf classes.Caret b = b ≡ 94
@@ -22,17 +20,6 @@ IsOf classes.Backslash b = b ≡ 92
 IsOf classes.Blank b = (b ≡ 32) ⊎ (b ≡ 9)
 IsOf classes.Other b = (b ≢ 40) × (b ≢ 41)
 
-mark_is : (b : ℕ) → IsOf (mark_of b) b
-unfolding mark_of
-mark_is b =
-    let P : Class → Type 0 = λ c. IsOf c b in
-    cond_both (eqb b 46) classes.Point _ P (λ e. eqb-true b 46 e) (λ _.
-    cond_both (eqb b 101 || eqb b 69) classes.Mark _ P (λ e. either b 101 69 e) (λ _.
-    cond_both (eqb b 94) classes.Caret _ P (λ e. eqb-true b 94 e) (λ _.
-    cond_both (eqb b 40) classes.Open _ P (λ e. eqb-true b 40 e) (λ opens.
-    cond_both (eqb b 41) classes.Close _ P (λ e. eqb-true b 41 e) (λ closes.
-    cond_both (eqb b 92) classes.Backslash classes.Other P (λ e. eqb-true b 92 e) (λ _. (eqb-false b 40 opens, eqb-false b 41 closes)))))))
-
 pub class_is : (b : ℕ) → IsOf (class_of b) b
 unfolding class_of
 class_is b =
@@ -40,7 +27,13 @@ class_is b =
     cond_both (is_ascii_digit b) classes.Digit _ P (λ e. digit_in b e) (λ _.
     cond_both (is_blank b) classes.Blank _ P (λ e. either b 32 9 e) (λ _.
     cond_both (eqb b 43 || eqb b 45) classes.Sign _ P (λ e. either b 43 45 e) (λ _.
-    cond_both (eqb b 42 || eqb b 47) classes.Joint (mark_of b) P (λ e. either b 42 47 e) (λ _. mark_is b))))
+    cond_both (eqb b 42 || eqb b 47) classes.Joint _ P (λ e. either b 42 47 e) (λ _.
+    cond_both (eqb b 94) classes.Caret _ P (λ e. eqb-true b 94 e) (λ _.
+    cond_both (eqb b 40) classes.Open _ P (λ e. eqb-true b 40 e) (λ opens.
+    cond_both (eqb b 41) classes.Close _ P (λ e. eqb-true b 41 e) (λ closes.
+    cond_both (eqb b 92) classes.Backslash classes.Other P (λ e. eqb-true b 92 e) (λ _. (eqb-false b 40 opens, eqb-false b 41 closes)))))))))
+
+-- ---- bytes of classes
 
 pub class_digit : (b : ℕ) → 48 ≤ b → b ≤ 57 → class_of b ≡ classes.Digit
 unfolding class_of
@@ -61,27 +54,18 @@ unfolding class_of
 class_joint b (inl e) = rw e refl
 class_joint b (inr e) = rw e refl
 
-pub class_mark : (b : ℕ) → (b ≡ 101) ⊎ (b ≡ 69) → class_of b ≡ classes.Mark
-unfolding class_of mark_of
-class_mark b (inl e) = rw e refl
-class_mark b (inr e) = rw e refl
-
-pub class_point : class_of 46 ≡ classes.Point
-unfolding class_of mark_of
-class_point = refl
-
 pub class_caret : class_of 94 ≡ classes.Caret
-unfolding class_of mark_of
+unfolding class_of
 class_caret = refl
 
 pub class_open : class_of 40 ≡ classes.Open
-unfolding class_of mark_of
+unfolding class_of
 class_open = refl
 
 pub class_close : class_of 41 ≡ classes.Close
-unfolding class_of mark_of
+unfolding class_of
 class_close = refl
 
 pub class_backslash : class_of 92 ≡ classes.Backslash
-unfolding class_of mark_of
+unfolding class_of
 class_backslash = refl

@@ -5,7 +5,7 @@ use Rattle.field_core.specs.Terms.{Terms}
 use Rattle.case_model.specs.Sums.{terms_at, zero_terms}
 use Rattle.fraction.specs.Tests.{is_zero}
 use Rattle.std.proofs.lemmas.List.{get_or-map}
-use Rattle.edge_expression.specs.declared.fault.ExprFault.{ExprFault}
+use Rattle.edge_expression.specs.declared.value_fault.ValueFault.{ValueFault}
 use Rattle.edge_expression.specs.declared.short.Short.{Short}
 use Rattle.edge_expression.specs.EntryView.{short_terms}
 use Rattle.field_core.specs.Steps.{◌>>=◌}
@@ -35,10 +35,10 @@ degree_least (suc n) x e = absurd (omega arith)
 
 -- ---- sums of products
 
-abbrev pub held : Short → Result Terms ExprFault
+abbrev pub held : Short → Result Terms ValueFault
 held x = Ok (short_terms x)
 
-abbrev pub fails : ExprFault → Result Terms ExprFault
+abbrev pub fails : ValueFault → Result Terms ValueFault
 fails f = Err f
 
 pub product_none : (x y : List Terms) (k : ℕ) → product_sum x y k 0 ≡ Ok zero_terms
@@ -57,11 +57,11 @@ pub product_more : (x y : List Terms) (k i : ℕ) (s p a b : Terms) → product_
 product_more x y k i s p a b h e f g = ap (product_sum x y k) (next i) ∙ product_next x y k i ∙ rw (h, e, f, g) refl
 
 -- a product that is refused
-pub product_refused : (x y : List Terms) (k i : ℕ) (s a b : Terms) (f : ExprFault) → product_sum x y k i ≡ Ok s → terms_at x i ≡ a → terms_at y (k - i) ≡ b → product a b ≡ Err f → product_sum x y k (i + 1) ≡ Err f
+pub product_refused : (x y : List Terms) (k i : ℕ) (s a b : Terms) (f : ValueFault) → product_sum x y k i ≡ Ok s → terms_at x i ≡ a → terms_at y (k - i) ≡ b → product a b ≡ Err f → product_sum x y k (i + 1) ≡ Err f
 product_refused x y k i s a b f h e g r = ap (product_sum x y k) (next i) ∙ product_next x y k i ∙ rw (h, e, g, r) refl
 
 -- a fault stays
-pub product_stops : (x y : List Terms) (k i n : ℕ) (f : ExprFault) → i + 1 ≤ n → product_sum x y k (i + 1) ≡ Err f → product_sum x y k n ≡ Err f
+pub product_stops : (x y : List Terms) (k i n : ℕ) (f : ValueFault) → i + 1 ≤ n → product_sum x y k (i + 1) ≡ Err f → product_sum x y k n ≡ Err f
 product_stops x y k i zero f h e = absurd (omega arith)
 product_stops x y k i (suc n) f h e = elim (cases_lt i n) [
   | inl lt ↦ product_next x y k n ∙ rw (product_stops x y k i n f (omega (arith, lt)) e) refl

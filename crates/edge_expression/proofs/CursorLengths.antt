@@ -1,11 +1,12 @@
 -- How much is left of what a cursor takes from.
 use Rattle.std.proofs.Common.{◌≡◌, ℕ, ◌+◌, ◌*◌, ◌≤◌, ◌<◌, inl, inr, List, [], ◌∷◌, length, drop, min, Option, Some, None, ap, subst, arith, length-drop}
+use Rattle.fraction.specs.DecimalMachine.{decimal_length}
 use Rattle.text_lines.specs.Words.{after_blanks}
 use Rattle.edge_expression.specs.declared.polynomial.Operation.{Operation}
 use Rattle.edge_expression.specs.declared.polynomial.Operation.TheVariants as operations
 use Rattle.edge_expression.specs.declared.cursor.Head.{Head}
 use Rattle.edge_expression.specs.declared.cursor.Head.TheVariants as heads
-use Rattle.edge_expression.specs.CursorView.{SignTaken, MayBeBeside, JointTaken, BeginsWord, decimal_length, IsOtherThan, HeadTaken, PowerTaken, CloseTaken, head_weight}
+use Rattle.edge_expression.specs.CursorView.{SignTaken, MayBeBeside, JointTaken, BeginsWord, IsOtherThan, HeadTaken, PowerTaken, CloseTaken, head_weight}
 use Rattle.edge_expression.proofs.SpeltTokens.{after_length}
 
 byte_shorter : (b : ℕ) (old new : List ℕ) → after_blanks old ≡ b ∷ new → length new < length old

@@ -18,11 +18,10 @@ use Rattle.fraction.specs.Numeral.{with_sign}
 use Rattle.fraction.specs.Spelling.{spelling, IsSpellingByte}
 use Rattle.fraction.proofs.ReadBack.{spelling_bytes}
 use Rattle.fraction.specs.Tests.{is_zero, is_one, absolute}
-use Rattle.edge_expression.specs.EntryValues.{zero_coefficients}
+use Rattle.edge_expression.specs.EntryValues.{zero_coefficients, joined, sign_or_plus, value, with_terms, term_value}
 use Rattle.case_model.specs.Sums.{terms_at, zero_terms}
 use Rattle.edge_expression.specs.Expressions.{Sign, Plus, Minus, Expression, Sum, MoreTerms, NoTerm, AndTerm, Term, Token, SignToken, expression_tokens, terms_tokens, term_tokens, token_text, IsSpelt, Spells}
 use Rattle.field_core.specs.Steps.{◌>>=◌}
-use Rattle.edge_expression.specs.EntryValues.{joined, sign_or_plus, value, with_terms, term_value}
 use Rattle.edge_expression.specs.EntryTexts.{power_text, factor_text, joint_text, joined_term, term_text, terms_text, are_zero_below, coefficients_text, entry_text}
 use Rattle.edge_expression.specs.EntryReading.{open_with, open_behind, IsShallow, IsEntryText}
 use Rattle.edge_expression.proofs.UnitOperations.{IsShortTerms, zero_short, zero_is}

@@ -11,7 +11,7 @@ use Rattle.field_core.specs.declared.ratio.Ratio.{Ratio}
 use Rattle.field_core.specs.NumberField.{number_field}
 use Rattle.field_core.specs.Sums.{sum_below}
 use mathlib.Core.Path.{fun_ext}
-use Rattle.edge_expression.proofs.RatioLists.{terms_of_at}
+use Rattle.case_model.proofs.Same.{terms_at-map}
 use Rattle.field_core.specs.Number.{Number as Value}
 use Rattle.field_core.specs.Epsilon.{epsilon}
 use Rattle.field_core.specs.Arithmetic.{number_zero, number_one, ◌+ε◌, ◌-ε◌, ◌*ε◌, ◌/ε◌}
@@ -25,20 +25,21 @@ use Rattle.fraction.specs.Numeral.{value_of}
 use Rattle.fraction.specs.Plain.{zero_reduced, one_reduced}
 use Rattle.case_model.specs.Entries.{power_of_epsilon, entry_value}
 use Rattle.fraction.specs.Tests.{is_zero}
-use Rattle.edge_expression.specs.EntryValues.{zero_coefficients}
+use Rattle.edge_expression.specs.EntryValues.{zero_coefficients, plain_entry, short, sum, difference, product, quotient, coefficients, joined, degree_within, degree, product_sum, times, over, short_of, decimal_entry, unit_at, power_value, epsilon_value, sign_or_plus, value, with_terms, term_value, with_factors, factor_value, further_value}
 use Rattle.case_model.specs.Sums.{number, terms_at, zero_terms}
 use Rattle.case_model.proofs.EntryOrder.{sum_of_five}
-use Rattle.edge_expression.specs.declared.fault.ExprFault.{ExprFault}
-use Rattle.edge_expression.specs.declared.fault.ExprFault.TheVariants.{DivisorNotNumber, ZeroDivisor, Degree, Part}
-use Rattle.edge_expression.specs.Expressions.{Decimal, Power, Sign, Plus, Minus, Expression, Sum, MoreTerms, NoTerm, AndTerm, Term, Product, MoreFactors, NoFactor, Times, Over, Beside, Factor, Number, Other, Further, Epsilon, Parens}
+use Rattle.edge_expression.specs.declared.value_fault.ValueFault.{ValueFault}
+use Rattle.edge_expression.specs.declared.value_fault.ValueFault.TheVariants.{DivisorNotNumber, ZeroDivisor, Degree, Part}
+use Rattle.edge_expression.specs.Expressions.{Power, Sign, Plus, Minus, Expression, Sum, MoreTerms, NoTerm, AndTerm, Term, Product, MoreFactors, NoFactor, Times, Over, Beside, Factor, Number, Other, Further, Epsilon, Parens}
 use Rattle.field_core.specs.Steps.{◌>>=◌}
 use Rattle.field_core.specs.Laws.Prefixes.{bind_ok}
-use Rattle.edge_expression.specs.EntryValues.{plain_entry, short, sum, difference, product, quotient, coefficients, joined, degree_within, degree, product_sum, times, over, has_too_many_digits, decimal_value, unit_at, power_value, epsilon_value, sign_or_plus, value, with_terms, term_value, with_factors, factor_value, further_value}
 use Rattle.edge_expression.specs.ExpressionStatements.{moved, power_meant, meaning, and_terms, term_meaning, and_factors, factor_meaning, further_meaning}
 use Rattle.edge_expression.proofs.UnitEntries.{tabled}
 use Rattle.edge_expression.proofs.ShortNumbers.{IsNumber, short_number, sum_number, product_number, difference_number, quotient_number}
 use Rattle.edge_expression.proofs.ShortOperations.{some_number}
-use Rattle.edge_expression.proofs.DecimalValues.{IsOver, body_over}
+use Rattle.fraction.specs.Lowest.{lowest_terms}
+use Rattle.fraction.specs.Decimals.{Decimal, has_too_many_digits, decimal_value}
+use Rattle.fraction.proofs.DecimalValues.{decimal_some}
 
 -- ---- identities of numbers
 
@@ -136,7 +137,7 @@ of_five a b c d e u v w x y p q r s t = record { reduced = reduced_by a b c d e 
 -- ---- results
 
 -- the coefficients that make an entry
-record IsMade (f : ℕ → Result Terms ExprFault) (z : List Terms) : Type 0 where
+record IsMade (f : ℕ → Result Terms ValueFault) (z : List Terms) : Type 0 where
   a : Terms
   b : Terms
   c : Terms
@@ -149,10 +150,10 @@ record IsMade (f : ℕ → Result Terms ExprFault) (z : List Terms) : Type 0 whe
   at_4 : f 4 ≡ Ok e
   is : a ∷ b ∷ c ∷ d ∷ e ∷ [] ≡ z
 
-same_ok : (x y : List Terms) → Path (Result (List Terms) ExprFault) (Ok x) (Ok y) → x ≡ y
+same_ok : (x y : List Terms) → Path (Result (List Terms) ValueFault) (Ok x) (Ok y) → x ≡ y
 same_ok x y h = cc
 
-made : (f : ℕ → Result Terms ExprFault) (z : List Terms) → coefficients f ≡ Ok z → IsMade f z
+made : (f : ℕ → Result Terms ValueFault) (z : List Terms) → coefficients f ≡ Ok z → IsMade f z
 unfolding coefficients
 made f z h =
     let a = bind_ok (f 0) _ z h in
@@ -233,7 +234,7 @@ pair_none x y i j p q d s h k = elim (cases_lt (degree x) i) [
 
 -- ---- products
 
-same_terms : (x y : Terms) → Path (Result Terms ExprFault) (Ok x) (Ok y) → x ≡ y
+same_terms : (x y : Terms) → Path (Result Terms ValueFault) (Ok x) (Ok y) → x ≡ y
 same_terms x y h = cc
 
 zero_is : IsNumber zero_terms number_zero
@@ -275,7 +276,7 @@ all_of x y p q d =
     (pair_none x y 4 1 p q d (omega arith) (omega arith) (omega arith)) (pair_none x y 4 2 p q d (omega arith) (omega arith) (omega arith)) (pair_none x y 4 3 p q d (omega arith) (omega arith) (omega arith)) (pair_none x y 4 4 p q d (omega arith) (omega arith) (omega arith)) in
     all_are_low (value_at x) (value_at y) epsilon ∙ sym (ap (λ v. low +ε v) none ∙ add_none low) ∙ product_of a b c e f g h i j k epsilon ∙ ap₂ (λ v w. v *ε w) (sym (value_by_powers x)) (sym (value_by_powers y))
 
-low_degree : (b : Bool) (n : ℕ) (r : Result (List Terms) ExprFault) (z : List Terms) → nat_lt 4 n ≡ b → cond b (Err Degree) r ≡ Ok z → (n ≤ 4) × (r ≡ Ok z)
+low_degree : (b : Bool) (n : ℕ) (r : Result (List Terms) ValueFault) (z : List Terms) → nat_lt 4 n ≡ b → cond b (Err Degree) r ≡ Ok z → (n ≤ 4) × (r ≡ Ok z)
 low_degree true n r z e h = absurd cc
 low_degree false n r z e h = (ltb-false 4 n e, h)
 
@@ -289,7 +290,7 @@ times_meant x y z v w p q h =
 
 -- ---- quotients
 
-number_divisor : (b c : Bool) (n : ℕ) (r : Result (List Terms) ExprFault) (z : List Terms) → nat_lt 0 n ≡ b → cond b (Err DivisorNotNumber) (cond c (Err ZeroDivisor) r) ≡ Ok z → (n ≤ 0) × ((c ≡ false) × (r ≡ Ok z))
+number_divisor : (b c : Bool) (n : ℕ) (r : Result (List Terms) ValueFault) (z : List Terms) → nat_lt 0 n ≡ b → cond b (Err DivisorNotNumber) (cond c (Err ZeroDivisor) r) ≡ Ok z → (n ≤ 0) × ((c ≡ false) × (r ≡ Ok z))
 number_divisor true c n r z e h = absurd cc
 number_divisor false true n r z e h = absurd cc
 number_divisor false false n r z e h = (ltb-false 0 n e, (refl, h))
@@ -315,19 +316,16 @@ over_meant x y z v w p q h =
 plain_meant : (t : Terms) (v : Value) → IsNumber t v → IsMeant (plain_entry t) v
 plain_meant t v h = as_meant (plain_entry t) _ v (constant_powers v epsilon) (of_five t zero_terms zero_terms zero_terms zero_terms v number_zero number_zero number_zero number_zero h zero_is zero_is zero_is zero_is)
 
-decimal_by : (b : Bool) (r : Result Terms ExprFault) (x : List Terms) → cond b (Err Part) (r >>= λ t. Ok (plain_entry t)) ≡ Ok x → (t : Terms) × ((r ≡ Ok t) × (plain_entry t ≡ x))
-decimal_by true r x h = absurd cc
-decimal_by false r x h = let b = bind_ok r (λ t. Ok (plain_entry t)) x h in (b.0, (b.1.0, same_ok (plain_entry b.0) x b.1.1))
+decimal_by : (b : Bool) (l : Terms) (x : List Terms) → decimal_entry (cond b None (Some l)) ≡ Ok x → (t : Terms) × ((short_of l ≡ Ok t) × (plain_entry t ≡ x))
+decimal_by true l x h = absurd cc
+decimal_by false l x h = let b = bind_ok (short_of l) (λ t. Ok (plain_entry t)) x h in (b.0, (b.1.0, same_ok (plain_entry b.0) x b.1.1))
 
-under_some : (v : Terms) → IsOver v → v.den ≢ pos 0
-under_some v o e = let d : pos o.under ≡ pos 0 = sym (ap (λ (t : Terms). t.den) o.is) ∙ e in let s = o.some in omega (arith, ints)
-
-decimal_meant : (d : Decimal) (x : List Terms) → decimal_value d ≡ Ok x → IsMeant x (fraction (value_of None d.body).num (value_of None d.body).den)
-unfolding decimal_value
+decimal_meant : (d : Decimal) (x : List Terms) → decimal_entry (decimal_value d) ≡ Ok x → IsMeant x (fraction (value_of None d.body).num (value_of None d.body).den)
+unfolding decimal_value short
 decimal_meant d x h =
     let v = value_of None d.body in
-    let t = decimal_by (has_too_many_digits d.body) (short v.num v.den) x h in
-    subst (λ l. IsMeant l (fraction v.num v.den)) t.1.1 (plain_meant t.0 (fraction v.num v.den) (short_number v.num v.den t.0 (under_some v (body_over d.body d.no_pair)) t.1.0))
+    let t = decimal_by (has_too_many_digits d.body) (lowest_terms v.num v.den) x h in
+    subst (λ l. IsMeant l (fraction v.num v.den)) t.1.1 (plain_meant t.0 (fraction v.num v.den) (short_number v.num v.den t.0 (decimal_some d) t.1.0))
 
 one_is : IsNumber (record { num = pos 1; den = pos 1 }) number_one
 unfolding stored_value
@@ -420,7 +418,7 @@ value_reduced e x h = (expression_meant e x h).reduced
 
 value_of_ratios : (x : List Ratio) → entry_value x ≡ terms_value (map terms x)
 unfolding entry_value terms_value
-value_of_ratios x = ap (sum_below number_field 5) (fun_ext (λ k. ap (λ t. number t *ε power_of_epsilon k) (sym (terms_of_at x k))))
+value_of_ratios x = ap (sum_below number_field 5) (fun_ext (λ k. ap (λ t. number t *ε power_of_epsilon k) (sym (terms_at-map x k))))
 
 -- an entry is the number that its expression means
 pub entry_is_meant : (e : Expression) (x : List Ratio) → value e ≡ Ok (map terms x) → entry_value x ≡ meaning e

@@ -5,7 +5,7 @@ use Rattle.std.specs.Fmt.{decimal}
 use Rattle.std.specs.Int.{is_negative}
 use Rattle.std.specs.Str.Parse.{AllDigits}
 use Rattle.std.proofs.lemmas.Bool.{le-ltb, le-leb, eqb-true, eqb-false, cases_Bool}
-use Rattle.std.proofs.lemmas.Bool.Decides.{nat_tests}
+use Rattle.std.proofs.lemmas.Bool.Decides.{nat_tests, Decides-int_eq}
 use Rattle.std.proofs.lemmas.Fmt.{decimal_is_IsNumeral_wide}
 use Rattle.std.proofs.lemmas.Str.Parse.{digit_from_value}
 use Rattle.std.proofs.lemmas.Int.{ints}
@@ -16,16 +16,16 @@ use Rattle.fraction.specs.Numeral.{AreDigits, Plain, body_text, IsNumeralOf}
 use Rattle.field_core.specs.Texts.{fraction_text}
 use Rattle.fraction.specs.Spelling.{spelling}
 use Rattle.fraction.proofs.ReadBack.{digits_from, read_back}
-use Rattle.edge_expression.specs.EntryValues.{is_short}
-use Rattle.edge_expression.specs.Expressions.{Decimal, Power, Term, Product, MoreFactors, NoFactor, Times, Over, Factor, Number, Other, Further, Epsilon, Token, DecimalToken, WordToken, CaretToken, PowerToken, TimesToken, OverToken, term_tokens, factors_tokens, factor_tokens, token_text, IsSpelt}
+use Rattle.edge_expression.specs.EntryValues.{is_short, plain_entry, short_of, times, over, decimal_entry, power_value, epsilon_value, term_value, with_factors, factor_value}
+use Rattle.fraction.specs.Decimals.{Decimal, decimal_value}
+use Rattle.fraction.proofs.DecimalValues.{decimal_found}
+use Rattle.edge_expression.specs.Expressions.{Power, Term, Product, MoreFactors, NoFactor, Times, Over, Factor, Number, Other, Further, Epsilon, Token, DecimalToken, WordToken, CaretToken, PowerToken, TimesToken, OverToken, term_tokens, factors_tokens, factor_tokens, token_text, IsSpelt}
 use Rattle.field_core.specs.Steps.{◌>>=◌}
-use Rattle.edge_expression.specs.EntryValues.{plain_entry, short_of, times, over, decimal_value, power_value, epsilon_value, term_value, with_factors, factor_value}
 use Rattle.std.specs.Ordering.{int_eq}
-use Rattle.std.proofs.lemmas.Bool.Decides.{Decides-int_eq}
 use Rattle.case_model.proofs.Holding.{both}
 use Rattle.fraction.specs.Tests.{is_one}
 use Rattle.edge_expression.specs.EntryTexts.{power_text, factor_text, term_text}
-use Rattle.edge_expression.proofs.DecimalValues.{decimal_factor, epsilon_factor, decimal_found}
+use Rattle.edge_expression.proofs.DecimalValues.{decimal_factor, epsilon_factor}
 use Rattle.edge_expression.proofs.UnitOperations.{IsShortTerms, one_terms}
 use Rattle.edge_expression.proofs.UnitEntries.{tabled, single, power_is, times_power, over_parts}
 
@@ -66,8 +66,8 @@ number_read : (n : ℕ) → n ≤ 10 ^ 18 → IsNumeralOf (decimal n) (number_of
 unfolding number_of
 number_read n h = subst (λ x. IsNumeralOf x (number_of n)) (number_spelling n) (read_back (number_of n) (number_reduced n h) (omega (arith, h)) (omega arith))
 
-whole_value : (n : ℕ) (h : n ≤ 10 ^ 18) → decimal_value (whole n h) ≡ Ok (plain_entry (number_of n))
-whole_value n h = decimal_found (whole n h) (decimal n) (number_of n) (sym (whole_text n h)) (number_read n h) ∙ short_here (number_of n) (number_short n h)
+whole_value : (n : ℕ) (h : n ≤ 10 ^ 18) → decimal_entry (decimal_value (whole n h)) ≡ Ok (plain_entry (number_of n))
+whole_value n h = ap decimal_entry (sym (decimal_found (whole n h) (decimal n) (number_of n) (sym (whole_text n h)) (number_read n h))) ∙ short_here (number_of n) (number_short n h)
 
 -- ---- tokens one behind the other
 

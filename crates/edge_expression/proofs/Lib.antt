@@ -2,15 +2,11 @@ pub mod AcceptedExpressions
 pub mod ByteClasses
 pub mod Coefficients
 pub mod CursorLengths
-pub mod DecimalLengths
-pub mod DecimalLimits
-pub mod DecimalTexts
 pub mod DecimalValues
 pub mod EntriesReadBack
 pub mod EntryMeanings
 pub mod EntryTerms
 pub mod Evaluations
-pub mod LowestTerms
 pub mod Machine
 pub mod OneEntry
 pub mod OneValue

@@ -7,24 +7,20 @@ use Rattle.std.proofs.lemmas.Bool.Decides.{nat_tests}
 use Rattle.field_core.specs.Terms.{Terms}
 use Rattle.fraction.specs.Numeral.{body_text}
 use Rattle.fraction.proofs.Unique.{body_unique}
-use Rattle.edge_expression.specs.EntryValues.{zero_coefficients}
+use Rattle.edge_expression.specs.EntryValues.{zero_coefficients, joined, times, over, sign_or_plus, decimal_entry, epsilon_value, power_value, value, with_terms, term_value, with_factors, factor_value, further_value}
+use Rattle.fraction.specs.DecimalMachine.{decimal_length}
 use Rattle.text_lines.specs.Words.{after_blanks}
-use Rattle.edge_expression.specs.declared.fault.ExprFault.{ExprFault}
-use Rattle.edge_expression.specs.Expressions.{Decimal, Power, Sign, Plus, Minus, Expression, Sum, MoreTerms, NoTerm, AndTerm, Term, Product, MoreFactors, NoFactor, Times, Over, Beside, Factor, Number, Other, Further, Epsilon, Parens, Token, DecimalToken, WordToken, CaretToken, PowerToken, SignToken, TimesToken, OverToken, OpenToken, CloseToken, sign_tokens, power_tokens, expression_tokens, terms_tokens, term_tokens, factors_tokens, factor_tokens, further_tokens, sign_byte, token_text, IsSpelt, Spells}
+use Rattle.edge_expression.specs.declared.value_fault.ValueFault.{ValueFault}
+use Rattle.fraction.specs.Decimals.{Decimal, decimal_value}
+use Rattle.edge_expression.specs.Expressions.{Power, Sign, Plus, Minus, Expression, Sum, MoreTerms, NoTerm, AndTerm, Term, Product, MoreFactors, NoFactor, Times, Over, Beside, Factor, Number, Other, Further, Epsilon, Parens, Token, DecimalToken, WordToken, CaretToken, PowerToken, SignToken, TimesToken, OverToken, OpenToken, CloseToken, sign_tokens, power_tokens, expression_tokens, terms_tokens, term_tokens, factors_tokens, factor_tokens, further_tokens, sign_byte, token_text, IsSpelt, Spells}
 use Rattle.field_core.specs.Steps.{◌>>=◌}
-use Rattle.edge_expression.specs.EntryValues.{joined, times, over, sign_or_plus, decimal_value, epsilon_value, power_value, value, with_terms, term_value, with_factors, factor_value, further_value}
-use Rattle.edge_expression.specs.CursorView.{decimal_length, EndsExpression, EndsTerm, EndsFactor}
-use Rattle.edge_expression.proofs.DecimalLengths.{decimal_front}
-use Rattle.edge_expression.proofs.SpeltTokens.{IsFirst, front, leads, all_blank, stops}
+use Rattle.edge_expression.specs.CursorView.{EndsExpression, EndsTerm, EndsFactor}
+use Rattle.fraction.proofs.DecimalLengths.{decimal_front}
+use Rattle.field_core.proofs.Heads.{heads}
+use Rattle.edge_expression.proofs.SpeltTokens.{front, stops, mark, begin, same_begin, no_sign, no_joint, no_caret, term_no_sign, begin_further, not_further}
 use Rattle.edge_expression.proofs.TakenTokens.{terms_end, factors_end}
 
 -- ---- lists
-
-same_rest : (b c : ℕ) (x y : List ℕ) → b ∷ x ≡ c ∷ y → x ≡ y
-same_rest b c x y e = cc
-
-same_first : (b c : ℕ) (x y : List ℕ) → b ∷ x ≡ c ∷ y → b ≡ c
-same_first b c x y e = cc
 
 -- two fronts of one length are the same
 fronts_same : (x y a b : List ℕ) → length x ≡ length y → x ++ a ≡ y ++ b → (x ≡ y) × (a ≡ b)
@@ -32,118 +28,9 @@ fronts_same [] [] a b n e = (refl, e)
 fronts_same [] (d ∷ y) a b n e = absurd (omega (arith, n))
 fronts_same (c ∷ x) [] a b n e = absurd (omega (arith, n))
 fronts_same (c ∷ x) (d ∷ y) a b n e =
-    let more = fronts_same x y a b (omega (arith, n)) (same_rest c d (x ++ a) (y ++ b) e) in
-    (ap₂ (λ h (t : List ℕ). h ∷ t) (same_first c d (x ++ a) (y ++ b) e) more.0, more.1)
-
--- ---- first bytes of tokens
-
--- the first byte of a token, and 48 for each digit and for a point
-mark : Token → ℕ
-mark (DecimalToken d) = 48
-mark WordToken = 92
-mark CaretToken = 94
-mark (PowerToken p) = 48
-mark (SignToken sign) = sign_byte sign
-mark TimesToken = 42
-mark OverToken = 47
-mark OpenToken = 40
-mark CloseToken = 41
-
--- that of the first token, and 0 where there is none
-begin : List Token → ℕ
-begin [] = 0
-begin (k ∷ ks) = mark k
-
-mark_of : ℕ → ℕ
-mark_of b = if is_ascii_digit b || (b == 46) then 48 else b
-
-digit_mark : (b : ℕ) → 48 ≤ b → b ≤ 57 → mark_of b ≡ 48
-unfolding mark_of
-digit_mark b h k = let d : is_ascii_digit b ≡ true = grind (arith, nat_tests) in rw d refl
-
-mark_is : (k : Token) (b : ℕ) → IsFirst k b → mark_of b ≡ mark k
-unfolding mark mark_of
-mark_is (DecimalToken d) b (inl h) = digit_mark b h.0 h.1
-mark_is (DecimalToken d) b (inr h) = rw h refl
-mark_is WordToken b h = rw h refl
-mark_is CaretToken b h = rw h refl
-mark_is (PowerToken p) b h = digit_mark b h.0 h.1
-mark_is (SignToken Plus) b h = rw h refl
-mark_is (SignToken Minus) b h = rw h refl
-mark_is TimesToken b h = rw h refl
-mark_is OverToken b h = rw h refl
-mark_is OpenToken b h = rw h refl
-mark_is CloseToken b h = rw h refl
-
-text_mark : List ℕ → ℕ
-text_mark [] = 0
-text_mark (b ∷ bs) = mark_of b
-
-text_begins : (ks : List Token) (t : List ℕ) → IsSpelt ks t → text_mark (after_blanks t) ≡ begin ks
-unfolding text_mark begin
-text_begins [] t s = ap text_mark (all_blank t s)
-text_begins (k ∷ ks) t s = let l = leads k ks t s in ap text_mark l.after ∙ mark_is k l.byte l.is
-
--- tokens that one text spells begin with one byte
-same_begin : (ks js : List Token) (t : List ℕ) → IsSpelt ks t → IsSpelt js t → begin ks ≡ begin js
-same_begin ks js t s r = sym (text_begins ks t s) ∙ text_begins js t r
-
--- an expression ends before no sign
-no_sign : (m : List Token) (sign : Sign) → EndsExpression m → begin m ≡ sign_byte sign → ⊥
-unfolding begin mark
-no_sign [] Plus h e = omega (arith, e)
-no_sign [] Minus h e = omega (arith, e)
-no_sign (CloseToken ∷ ks) Plus h e = omega (arith, e)
-no_sign (CloseToken ∷ ks) Minus h e = omega (arith, e)
-no_sign (k ∷ ks) sign h e = absurd h
-
--- these bytes begin further factors
-IsJoint : ℕ → Type 0
-IsJoint b = (b ≡ 42) ⊎ ((b ≡ 47) ⊎ ((b ≡ 92) ⊎ (b ≡ 40)))
-
-joint_is : (b c : ℕ) → IsJoint b → c ≡ b → (c ≢ 0) × (c ≢ 41) × (c ≢ 43) × (c ≢ 45)
-unfolding IsJoint
-joint_is b c (inl h) e = (λ f. omega (arith, h, e, f), λ f. omega (arith, h, e, f), λ f. omega (arith, h, e, f), λ f. omega (arith, h, e, f))
-joint_is b c (inr (inl h)) e = (λ f. omega (arith, h, e, f), λ f. omega (arith, h, e, f), λ f. omega (arith, h, e, f), λ f. omega (arith, h, e, f))
-joint_is b c (inr (inr (inl h))) e = (λ f. omega (arith, h, e, f), λ f. omega (arith, h, e, f), λ f. omega (arith, h, e, f), λ f. omega (arith, h, e, f))
-joint_is b c (inr (inr (inr h))) e = (λ f. omega (arith, h, e, f), λ f. omega (arith, h, e, f), λ f. omega (arith, h, e, f), λ f. omega (arith, h, e, f))
-
--- a term ends before none of them
-no_joint : (m : List Token) (b : ℕ) → EndsTerm m → IsJoint b → begin m ≡ b → ⊥
-unfolding begin mark
-no_joint [] b h j e = (joint_is b 0 j e).0 refl
-no_joint (CloseToken ∷ ks) b h j e = (joint_is b 41 j e).1 refl
-no_joint (SignToken Plus ∷ ks) b h j e = (joint_is b 43 j e).2 refl
-no_joint (SignToken Minus ∷ ks) b h j e = (joint_is b 45 j e).3 refl
-no_joint (k ∷ ks) b h j e = absurd h
-
--- a factor ends before no caret
-no_caret : (m : List Token) → EndsFactor m → begin m ≡ 94 → ⊥
-unfolding begin mark
-no_caret [] h e = omega (arith, e)
-no_caret (DecimalToken d ∷ ks) h e = h
-no_caret (WordToken ∷ ks) h e = omega (arith, e)
-no_caret (CaretToken ∷ ks) h e = h
-no_caret (PowerToken p ∷ ks) h e = h
-no_caret (SignToken Plus ∷ ks) h e = omega (arith, e)
-no_caret (SignToken Minus ∷ ks) h e = omega (arith, e)
-no_caret (TimesToken ∷ ks) h e = omega (arith, e)
-no_caret (OverToken ∷ ks) h e = omega (arith, e)
-no_caret (OpenToken ∷ ks) h e = omega (arith, e)
-no_caret (CloseToken ∷ ks) h e = omega (arith, e)
-
--- no term begins with a sign
-factor_no_sign : (f : Factor) (more : List Token) (sign : Sign) → begin (factor_tokens f more) ≡ sign_byte sign → ⊥
-unfolding begin mark
-factor_no_sign (Number d) more Plus e = omega (arith, e)
-factor_no_sign (Number d) more Minus e = omega (arith, e)
-factor_no_sign (Other (Epsilon power)) more Plus e = omega (arith, e)
-factor_no_sign (Other (Epsilon power)) more Minus e = omega (arith, e)
-factor_no_sign (Other (Parens inner)) more Plus e = omega (arith, e)
-factor_no_sign (Other (Parens inner)) more Minus e = omega (arith, e)
-
-term_no_sign : (t : Term) (more : List Token) (sign : Sign) → begin (term_tokens t more) ≡ sign_byte sign → ⊥
-term_no_sign (Product first others) more sign e = factor_no_sign first (factors_tokens others more) sign e
+    let h = heads c d (x ++ a) (y ++ b) e in
+    let more = fronts_same x y a b (omega (arith, n)) h.1 in
+    (ap₂ (λ k (t : List ℕ). k ∷ t) h.0 more.0, more.1)
 
 -- ---- one token
 
@@ -180,7 +67,7 @@ decimals_one d e ks js t h k s r =
     (same_decimal d e (same_body (body_text d.body) d e refl same.0), record { text = f.rest; first = f.spelt; second = subst (IsSpelt js) (sym same.1) g.spelt })
 
 power_by : (p q : Power) → token_text (PowerToken p) ≡ token_text (PowerToken q) → p.power ≡ q.power
-power_by p q e = let n : 48 + p.power ≡ 48 + q.power = same_first (48 + p.power) (48 + q.power) [] [] e in omega (arith, n)
+power_by p q e = omega (arith, (heads (48 + p.power) (48 + q.power) [] [] e).0)
 
 -- two powers are one
 powers_one : (p q : Power) (ks js : List Token) (t : List ℕ) → IsSpelt (PowerToken p ∷ ks) t → IsSpelt (PowerToken q ∷ js) t → (p.power ≡ q.power) × BothSpelt ks js
@@ -216,16 +103,16 @@ signs_one (Some Minus) (Some Minus) x y m n t s r = (refl, behind_one (SignToken
 
 -- what is made of a value, with all further ones
 abbrev Then : Type 0
-Then = List Terms → Result (List Terms) ExprFault
+Then = List Terms → Result (List Terms) ValueFault
 
-sums_one : (r w : Result (List Terms) ExprFault) (a b : Sign) (x : List Terms) (f g : Then) → r ≡ w → a ≡ b → ((y : List Terms) → f y ≡ g y) → (r >>= λ y. joined a x y >>= λ z. f z) ≡ (w >>= λ y. joined b x y >>= λ z. g z)
-sums_one r w a b x f g e h k = ap₂ (λ v s. v >>= λ y. joined s x y >>= λ z. f z) e h ∙ ap (λ (q : List Terms → Result (List Terms) ExprFault). w >>= λ y. joined b x y >>= λ z. q z) (fun_ext k)
+sums_one : (r w : Result (List Terms) ValueFault) (a b : Sign) (x : List Terms) (f g : Then) → r ≡ w → a ≡ b → ((y : List Terms) → f y ≡ g y) → (r >>= λ y. joined a x y >>= λ z. f z) ≡ (w >>= λ y. joined b x y >>= λ z. g z)
+sums_one r w a b x f g e h k = ap₂ (λ v s. v >>= λ y. joined s x y >>= λ z. f z) e h ∙ ap (λ (q : List Terms → Result (List Terms) ValueFault). w >>= λ y. joined b x y >>= λ z. q z) (fun_ext k)
 
-products_one : (r w : Result (List Terms) ExprFault) (f g : Then) → r ≡ w → ((y : List Terms) → f y ≡ g y) → (r >>= λ y. f y) ≡ (w >>= λ y. g y)
-products_one r w f g e k = ap (λ v. v >>= λ y. f y) e ∙ ap (λ (q : List Terms → Result (List Terms) ExprFault). w >>= λ y. q y) (fun_ext k)
+products_one : (r w : Result (List Terms) ValueFault) (f g : Then) → r ≡ w → ((y : List Terms) → f y ≡ g y) → (r >>= λ y. f y) ≡ (w >>= λ y. g y)
+products_one r w f g e k = ap (λ v. v >>= λ y. f y) e ∙ ap (λ (q : List Terms → Result (List Terms) ValueFault). w >>= λ y. q y) (fun_ext k)
 
-factors_one : (r w : Result (List Terms) ExprFault) (op : List Terms → Then) (x : List Terms) (f g : Then) → r ≡ w → ((y : List Terms) → f y ≡ g y) → (r >>= λ y. op x y >>= λ z. f z) ≡ (w >>= λ y. op x y >>= λ z. g z)
-factors_one r w op x f g e k = ap (λ v. v >>= λ y. op x y >>= λ z. f z) e ∙ ap (λ (q : List Terms → Result (List Terms) ExprFault). w >>= λ y. op x y >>= λ z. q z) (fun_ext k)
+factors_one : (r w : Result (List Terms) ValueFault) (op : List Terms → Then) (x : List Terms) (f g : Then) → r ≡ w → ((y : List Terms) → f y ≡ g y) → (r >>= λ y. op x y >>= λ z. f z) ≡ (w >>= λ y. op x y >>= λ z. g z)
+factors_one r w op x f g e k = ap (λ v. v >>= λ y. op x y >>= λ z. f z) e ∙ ap (λ (q : List Terms → Result (List Terms) ValueFault). w >>= λ y. op x y >>= λ z. q z) (fun_ext k)
 
 -- further terms, from one sum on
 SameTerms : MoreTerms → MoreTerms → Type 0
@@ -260,7 +147,7 @@ beside_by f g fs gs e k s = factors_one (further_value f) (further_value g) time
 
 number_by : (d e : Decimal) → decimal_value d ≡ decimal_value e → factor_value (Number d) ≡ factor_value (Number e)
 unfolding factor_value
-number_by d e h = h
+number_by d e h = ap decimal_entry h
 
 other_by : (f g : Further) → further_value f ≡ further_value g → factor_value (Other f) ≡ factor_value (Other g)
 unfolding factor_value
@@ -282,28 +169,17 @@ same_factors_end : (m : List Token) → SameFactors NoFactor NoFactor
 unfolding SameFactors
 same_factors_end m x = refl
 
--- the bytes of further factors, each other than the next
-begin_further : (f : Further) (more : List Token) → (begin (further_tokens f more) ≡ 92) ⊎ (begin (further_tokens f more) ≡ 40)
-unfolding begin mark
-begin_further (Epsilon p) more = inl refl
-begin_further (Parens e) more = inr refl
-
--- none of these bytes begins a further factor that stands behind nothing
-not_further : (f : Further) (more : List Token) (b : ℕ) → b ≢ 92 → b ≢ 40 → begin (further_tokens f more) ≡ b → ⊥
-not_further f more b h k e = elim (begin_further f more) [ inl x ↦ h (sym e ∙ x) | inr x ↦ k (sym e ∙ x) ]
-
 further_joint : (f : Further) (more m : List Token) (t : List ℕ) → EndsTerm m → IsSpelt (further_tokens f more) t → IsSpelt m t → ⊥
-unfolding IsJoint
 further_joint f more m t h s r =
     let e = same_begin m (further_tokens f more) t r s in
     elim (begin_further f more) [ inl x ↦ no_joint m 92 h (inr (inr (inl refl))) (e ∙ x) | inr x ↦ no_joint m 40 h (inr (inr (inr refl))) (e ∙ x) ]
 
 times_joint : (f : Factor) (more m : List Token) (t : List ℕ) → EndsTerm m → IsSpelt (TimesToken ∷ factor_tokens f more) t → IsSpelt m t → ⊥
-unfolding IsJoint begin mark
+unfolding begin mark
 times_joint f more m t h s r = no_joint m 42 h (inl refl) (same_begin m (TimesToken ∷ factor_tokens f more) t r s)
 
 over_joint : (f : Factor) (more m : List Token) (t : List ℕ) → EndsTerm m → IsSpelt (OverToken ∷ factor_tokens f more) t → IsSpelt m t → ⊥
-unfolding IsJoint begin mark
+unfolding begin mark
 over_joint f more m t h s r = no_joint m 47 h (inr (inl refl)) (same_begin m (OverToken ∷ factor_tokens f more) t r s)
 
 times_not_over : (f g : Factor) (k j : List Token) (t : List ℕ) → IsSpelt (TimesToken ∷ factor_tokens f k) t → IsSpelt (OverToken ∷ factor_tokens g j) t → ⊥

@@ -1,28 +1,9 @@
 -- Lists of fractions by their terms.
-use Rattle.std.proofs.Common.{◌≡◌, ℕ, zero, suc, List, [], ◌∷◌, map, refl, ap, ap₂}
-use Rattle.std.specs.List.{AllByRecursion}
+use Rattle.std.proofs.Common.{◌≡◌, ℕ, zero, suc, List, [], ◌∷◌, map, refl, ap}
 use Rattle.field_core.specs.Terms.{Terms, IsReduced}
 use Rattle.field_core.specs.View.{terms}
 use Rattle.field_core.specs.declared.ratio.Ratio.{Ratio}
-use Rattle.field_core.proofs.Heads.{heads}
-use Rattle.fraction.proofs.SameRatios.{same_ratio}
-use Rattle.case_model.specs.Sums.{terms_at, ratio_at}
-
--- fractions of the same terms are the same
-pub same_ratios : (xs ys : List Ratio) → map terms xs ≡ map terms ys → xs ≡ ys
-same_ratios [] [] e = refl
-same_ratios [] (y ∷ ys) e = absurd (cc)
-same_ratios (x ∷ xs) [] e = absurd (cc)
-same_ratios (x ∷ xs) (y ∷ ys) e =
-    let h = heads (terms x) (terms y) (map terms xs) (map terms ys) e in
-    ap₂ (λ z zs. z ∷ zs) (same_ratio x y h.0) (same_ratios xs ys h.1)
-
--- the terms of the fraction at a place
-pub terms_of_at : (xs : List Ratio) (k : ℕ) → terms_at (map terms xs) k ≡ terms (ratio_at xs k)
-unfolding terms_at ratio_at
-terms_of_at [] k = refl
-terms_of_at (x ∷ xs) zero = refl
-terms_of_at (x ∷ xs) (suc k) = terms_of_at xs k
+use Rattle.case_model.specs.Sums.{terms_at}
 
 -- fractions of these terms
 pub record AreOf (ts : List Terms) : Type 0 where

@@ -2,18 +2,20 @@
 use Rattle.std.proofs.Common.{◌≡◌, ℕ, zero, suc, ◌+◌, ◌-◌, ◌≤◌, ◌⊎◌, Bool, true, false, cond, eqb, List, [], ◌∷◌, ◌++◌, Option, Some, None, refl, sym, ap, subst, ◌∙◌, inl, inr, arith}
 use Rattle.std.proofs.lemmas.Bool.{eqb-true}
 use Rattle.field_core.proofs.Longest.{accepts, accepts_then}
+use Rattle.fraction.specs.declared.decimal_machine.DecimalPart.{DecimalPart}
+use Rattle.fraction.specs.declared.decimal_machine.DecimalPart.TheVariants as parts
+use Rattle.fraction.specs.DecimalMachine.{decimal_byte, may_end as ends_decimal}
+use Rattle.fraction.specs.Decimals.{Decimal}
+use Rattle.fraction.proofs.DecimalTexts.{takes, takes_nil, takes_cons, is_decimal_text}
 use Rattle.edge_expression.specs.declared.byte_class.Class.{Class}
 use Rattle.edge_expression.specs.declared.byte_class.Class.TheVariants as classes
-use Rattle.edge_expression.specs.declared.byte_machine.Part.{Part}
-use Rattle.edge_expression.specs.declared.byte_machine.Part.TheVariants as parts
 use Rattle.edge_expression.specs.declared.byte_machine.Letter.{Letter}
 use Rattle.edge_expression.specs.declared.byte_machine.Letter.TheVariants as letters
 use Rattle.edge_expression.specs.declared.byte_machine.State.{State}
 use Rattle.edge_expression.specs.declared.byte_machine.State.TheVariants as states
-use Rattle.edge_expression.specs.ByteMachine.{class_of, decimal_step, is_decimal, next_letter, with_letter, at_operand, at_start, behind_factor, behind_parts, behind_epsilon, behind_caret, next, opened, reached, step, is_whole, ends, may_end, start}
-use Rattle.edge_expression.specs.Expressions.{Decimal, Power, Sign, Plus, Minus, Expression, Sum, MoreTerms, NoTerm, AndTerm, Product, MoreFactors, NoFactor, Times, Over, Beside, Factor, Number, Other, Further, Epsilon, Parens, Token, DecimalToken, WordToken, CaretToken, PowerToken, SignToken, TimesToken, OverToken, OpenToken, CloseToken, power_tokens, expression_tokens, terms_tokens, factors_tokens, factor_tokens, further_tokens, token_text, IsSpelt, Spells, IsExpression}
+use Rattle.edge_expression.specs.ByteMachine.{class_of, next_letter, with_letter, operand_parts, at_operand, start_or, behind_factor, behind_parts, behind_epsilon, behind_caret, next, opened, reached, step, is_whole, ends, may_end, start}
+use Rattle.edge_expression.specs.Expressions.{Power, Sign, Plus, Minus, Expression, Sum, MoreTerms, NoTerm, AndTerm, Product, MoreFactors, NoFactor, Times, Over, Beside, Factor, Number, Other, Further, Epsilon, Parens, Token, DecimalToken, WordToken, CaretToken, PowerToken, SignToken, TimesToken, OverToken, OpenToken, CloseToken, power_tokens, expression_tokens, terms_tokens, factors_tokens, factor_tokens, further_tokens, token_text, IsSpelt, Spells, IsExpression}
 use Rattle.edge_expression.proofs.ByteClasses.{IsOf, class_is}
-use Rattle.edge_expression.proofs.DecimalTexts.{takes, takes_nil, takes_cons, is_decimal_text}
 use Rattle.edge_expression.proofs.Machine.{reads, reads_nil, reads_cons, behind, letter_opens, part_opens}
 
 -- ---- tokens behind a place, where so many parentheses are open
@@ -133,7 +135,7 @@ record TextOf (P : List Token → Type 0) (t : List ℕ) : Type 0 where
   is : P tokens
 
 -- a text that ends a decimal, and then one of such tokens
-record PartOf (p : Part) (n : ℕ) (t : List ℕ) : Type 0 where
+record PartOf (p : DecimalPart) (n : ℕ) (t : List ℕ) : Type 0 where
   front : List ℕ
   rest : List ℕ
   spelt : t ≡ front ++ rest
@@ -193,7 +195,7 @@ digit_first n b t h k x =
     byte_first (BehindAt n) (PowerAt n) (PowerToken (digit_power b h k)) b (48 + (b - 48)) t e refl (power_first (digit_power b h k) n) x
 
 -- a decimal that begins with a byte
-decimal_first : (n b : ℕ) (t : List ℕ) (p : Part) → decimal_step parts.Start (class_of b) ≡ Some p → PartOf p n t → TextOf (FactorAt n) (b ∷ t)
+decimal_first : (n b : ℕ) (t : List ℕ) (p : DecimalPart) → decimal_byte parts.Start b ≡ Some p → PartOf p n t → TextOf (FactorAt n) (b ∷ t)
 decimal_first n b t p e x =
     let taken : takes (b ∷ x.front) parts.Start ≡ true = takes_cons b x.front parts.Start ∙ ap (accepts_then (takes x.front)) e ∙ x.taken in
     let d = is_decimal_text (b ∷ x.front) taken in
@@ -210,20 +212,30 @@ open_first n b t e x = byte_first (SumAt (suc n)) (FurtherAt n) OpenToken b 40 t
 After : List ℕ → Option State → Option ℕ → Type 0
 After t s m = accepts_then (accepts step may_end t) (reached s m) ≡ true
 
-operand_by : (n b : ℕ) (t : List ℕ) (c : Class) → class_of b ≡ c → IsOf c b → All t → After t (at_operand c) (opened c n) → TextOf (FactorAt n) (b ∷ t)
+-- with a byte more of a decimal
+part_goes : (n b : ℕ) (t : List ℕ) (p q : DecimalPart) → decimal_byte p b ≡ Some q → All t → After t (Some (states.Decimal q)) (opened (class_of b) n) → PartOf q n t
 unfolding All Means After
-operand_by n b t classes.Blank g k r h = behind_blank (FactorAt n) b t k (r states.Operand n h)
-operand_by n b t classes.Digit g k r h = decimal_first n b t parts.Whole (ap (decimal_step parts.Start) g) (r (states.Decimal parts.Whole) n h)
-operand_by n b t classes.Point g k r h = decimal_first n b t parts.Point (ap (decimal_step parts.Start) g) (r (states.Decimal parts.Point) n h)
-operand_by n b t classes.Backslash g k r h = changed (FurtherAt n) (FactorAt n) (b ∷ t) (as_factor n) (word_first n b t k (r (states.Word letters.Backslash) n h))
-operand_by n b t classes.Open g k r h = changed (FurtherAt n) (FactorAt n) (b ∷ t) (as_factor n) (open_first n b t k (r states.Start (suc n) h))
-operand_by n b t c g k r h = absurd cc
+part_goes n b t p q e r h = r (states.Decimal q) n (sym (ap (λ m. accepts_then (accepts step may_end t) (reached (Some (states.Decimal q)) m)) (part_opens p q b n e)) ∙ h)
 
-start_by : (n b : ℕ) (t : List ℕ) (c : Class) → class_of b ≡ c → IsOf c b → All t → After t (at_start c) (opened c n) → TextOf (SumAt n) (b ∷ t)
+operand_class : (n b : ℕ) (t : List ℕ) (c : Class) → IsOf c b → All t → After t (operand_parts None c) (opened c n) → TextOf (FactorAt n) (b ∷ t)
 unfolding All Means After
-start_by n b t classes.Blank g k r h = behind_blank (SumAt n) b t k (r states.Start n h)
-start_by n b t classes.Sign g k r h = sign_first (FactorAt n) (SumAt n) b t k (λ sign. signed_factor sign n) (r states.Operand n h)
-start_by n b t c g k r h = changed (FactorAt n) (SumAt n) (b ∷ t) (from_factor n) (operand_by n b t c g k r h)
+operand_class n b t classes.Blank k r h = behind_blank (FactorAt n) b t k (r states.Operand n h)
+operand_class n b t classes.Backslash k r h = changed (FurtherAt n) (FactorAt n) (b ∷ t) (as_factor n) (word_first n b t k (r (states.Word letters.Backslash) n h))
+operand_class n b t classes.Open k r h = changed (FurtherAt n) (FactorAt n) (b ∷ t) (as_factor n) (open_first n b t k (r states.Start (suc n) h))
+operand_class n b t c k r h = absurd cc
+
+operand_by : (n b : ℕ) (t : List ℕ) (o : Option DecimalPart) → decimal_byte parts.Start b ≡ o → All t → After t (operand_parts o (class_of b)) (opened (class_of b) n) → TextOf (FactorAt n) (b ∷ t)
+operand_by n b t (Some p) e r h = decimal_first n b t p e (part_goes n b t parts.Start p e r h)
+operand_by n b t None e r h = operand_class n b t (class_of b) (class_is b) r h
+
+operand_is : (n b : ℕ) (t : List ℕ) → All t → After t (at_operand b) (opened (class_of b) n) → TextOf (FactorAt n) (b ∷ t)
+operand_is n b t r h = operand_by n b t (decimal_byte parts.Start b) refl r h
+
+start_by : (n b : ℕ) (t : List ℕ) (c : Class) → IsOf c b → All t → (After t (at_operand b) (opened c n) → TextOf (FactorAt n) (b ∷ t)) → After t (start_or c (at_operand b)) (opened c n) → TextOf (SumAt n) (b ∷ t)
+unfolding All Means After
+start_by n b t classes.Blank k r f h = behind_blank (SumAt n) b t k (r states.Start n h)
+start_by n b t classes.Sign k r f h = sign_first (FactorAt n) (SumAt n) b t k (λ sign. signed_factor sign n) (r states.Operand n h)
+start_by n b t c k r f h = changed (FactorAt n) (SumAt n) (b ∷ t) (from_factor n) (f h)
 
 close_by : (n b : ℕ) (t : List ℕ) → b ≡ 41 → All t → After t (Some states.Factor) (opened classes.Close n) → TextOf (BehindAt n) (b ∷ t)
 unfolding All Means After
@@ -252,10 +264,10 @@ caret_by n b t classes.Blank k r h = behind_blank (PowerAt n) b t k (r states.Ca
 caret_by n b t classes.Digit k r h = digit_first n b t k.0 k.1 (r states.Factor n h)
 caret_by n b t c k r h = absurd cc
 
-part_by : (p : Part) (n b : ℕ) (t : List ℕ) (o : Option Part) (e : Bool) → decimal_step p (class_of b) ≡ o → is_decimal p ≡ e → All t → After t (behind_parts o e (class_of b)) (opened (class_of b) n) → PartOf p n (b ∷ t)
-unfolding All Means After
+part_by : (p : DecimalPart) (n b : ℕ) (t : List ℕ) (o : Option DecimalPart) (e : Bool) → decimal_byte p b ≡ o → ends_decimal p ≡ e → All t → After t (behind_parts o e (class_of b)) (opened (class_of b) n) → PartOf p n (b ∷ t)
+unfolding After
 part_by p n b t (Some q) e f g r h =
-    let x = r (states.Decimal q) n (sym (ap (λ m. accepts_then (accepts step may_end t) (reached (Some (states.Decimal q)) m)) (part_opens p q (class_of b) n f)) ∙ h) in
+    let x = part_goes n b t p q f r h in
     record { front = b ∷ x.front; rest = x.rest; spelt = ap (λ y. b ∷ y) x.spelt; taken = takes_cons b x.front p ∙ ap (accepts_then (takes x.front)) f ∙ x.taken; behind_is = x.behind_is }
 part_by p n b t None true f g r h = record { front = []; rest = b ∷ t; spelt = refl; taken = takes_nil p ∙ g; behind_is = factor_by n b t (class_of b) (class_is b) r h }
 part_by p n b t None false f g r h = absurd cc
@@ -280,9 +292,9 @@ word_by l n b t false e r h = absurd cc
 
 byte_by : (s : State) (n b : ℕ) (t : List ℕ) → All t → After t (next s b) (opened (class_of b) n) → Means s n (b ∷ t)
 unfolding Means
-byte_by states.Start n b t r h = start_by n b t (class_of b) refl (class_is b) r h
-byte_by states.Operand n b t r h = operand_by n b t (class_of b) refl (class_is b) r h
-byte_by (states.Decimal p) n b t r h = part_by p n b t (decimal_step p (class_of b)) (is_decimal p) refl refl r h
+byte_by states.Start n b t r h = start_by n b t (class_of b) (class_is b) r (operand_is n b t r) h
+byte_by states.Operand n b t r h = operand_is n b t r h
+byte_by (states.Decimal p) n b t r h = part_by p n b t (decimal_byte p b) (ends_decimal p) refl refl r h
 byte_by (states.Word l) n b t r h = word_by l n b t (eqb b (next_letter l)) refl r h
 byte_by states.Epsilon n b t r h = epsilon_by n b t (class_of b) (class_is b) r h
 byte_by states.Caret n b t r h = caret_by n b t (class_of b) (class_is b) r h
@@ -302,7 +314,7 @@ end_by : (s : State) (n : ℕ) → ends (is_whole s) n ≡ true → Means s n []
 unfolding Means
 end_by states.Start n h = absurd cc
 end_by states.Operand n h = absurd cc
-end_by (states.Decimal p) n h = none_open (λ m. PartOf p m []) (is_decimal p) n (λ e. record { front = []; rest = []; spelt = refl; taken = takes_nil p ∙ e; behind_is = nothing_left }) h
+end_by (states.Decimal p) n h = none_open (λ m. PartOf p m []) (ends_decimal p) n (λ e. record { front = []; rest = []; spelt = refl; taken = takes_nil p ∙ e; behind_is = nothing_left }) h
 end_by (states.Word l) n h = absurd cc
 end_by states.Epsilon n h = none_open (λ m. TextOf (EpsilonAt m) []) true n (λ e. changed (BehindAt 0) (EpsilonAt 0) [] (no_caret 0) nothing_left) h
 end_by states.Caret n h = absurd cc

@@ -4,7 +4,7 @@ use Rattle.std.specs.Prelude.{nat_lt, if◌then◌else◌}
 use Rattle.std.proofs.lemmas.Bool.{lt-ltb, le-ltb, ltb-true, ltb-false, cases_Bool}
 use Rattle.std.proofs.lemmas.Bool.Decides.{nat_tests}
 use Rattle.std.proofs.lemmas.List.{drop_more, drop_all}
-use Rattle.field_core.proofs.Longest.{accepts, accepts_then, count, count_then}
+use Rattle.field_core.specs.Longest.{accepts, accepts_then, count, count_then}
 use Rattle.fraction.specs.Prefixes.{IsBadByte}
 use Rattle.edge_expression.specs.declared.fault.ExprFault.{ExprFault}
 use Rattle.edge_expression.specs.declared.fault.ExprFault.TheVariants.{BadByte, Depth, DivisorNotNumber, ZeroDivisor, Degree, Part}
@@ -110,9 +110,6 @@ opens_by b n m classes.Open k e = let f : suc n ≡ m = cc in rw k (sym f)
 opens_by b zero m classes.Close k e = absurd cc
 opens_by b (suc n) m classes.Close k e = let f : n ≡ m = cc in rw k (omega (arith, f))
 opens_by b n m classes.Digit k e = let f : n ≡ m = cc in sym f ∙ open_other b n (λ g. omega (arith, k.0)) (λ g. omega (arith, k.0))
-opens_by b n m classes.Point k e = let f : n ≡ m = cc in sym f ∙ rw k refl
-opens_by b n m classes.Mark (inl k) e = let f : n ≡ m = cc in sym f ∙ rw k refl
-opens_by b n m classes.Mark (inr k) e = let f : n ≡ m = cc in sym f ∙ rw k refl
 opens_by b n m classes.Sign (inl k) e = let f : n ≡ m = cc in sym f ∙ rw k refl
 opens_by b n m classes.Sign (inr k) e = let f : n ≡ m = cc in sym f ∙ rw k refl
 opens_by b n m classes.Joint (inl k) e = let f : n ≡ m = cc in sym f ∙ rw k refl

@@ -14,15 +14,14 @@ use Rattle.field_core.specs.Laws.Order.{subtract_equal, divide_unique}
 use Rattle.field_core.specs.Laws.PolynomialLaws.{product_nonzero}
 use Rattle.field_core.specs.Laws.Effective.{positive_nonzero}
 use Rattle.field_core.proofs.IntegerRing.{ring}
-use Rattle.fraction.specs.Laws.Order.{AreLowest}
+use Rattle.fraction.specs.Laws.Unique.{AreLowest}
 use Rattle.fraction.specs.Within.{IsWithin}
 use Rattle.fraction.specs.Lowest.{lowest_terms}
-use Rattle.fraction.proofs.LowestTerms.{lowest_cross}
+use Rattle.fraction.proofs.LowestTerms.{lowest_are, lowest_cross}
 use Rattle.case_model.specs.Sums.{number}
-use Rattle.edge_expression.specs.declared.fault.ExprFault.TheVariants.{Part}
+use Rattle.edge_expression.specs.declared.value_fault.ValueFault.TheVariants.{Part}
 use Rattle.edge_expression.specs.EntryValues.{is_short, short_of, short, sum, difference, product, quotient}
 use Rattle.case_model.proofs.Holding.{both}
-use Rattle.edge_expression.proofs.LowestTerms.{are_lowest}
 
 -- in lowest terms, and this number
 pub record IsNumber (t : Terms) (v : Value) : Type 0 where
@@ -32,7 +31,7 @@ pub record IsNumber (t : Terms) (v : Value) : Type 0 where
 lowest_value : (n d : ℤ) → d ≢ pos 0 → number (lowest_terms n d) ≡ fraction n d
 lowest_value n d some =
     let low = lowest_terms n d in
-    fraction-equal low.num low.den n d (positive_nonzero low.den (are_lowest n d some).positive) some (lowest_cross n d)
+    fraction-equal low.num low.den n d (positive_nonzero low.den (lowest_are n d some).positive) some (lowest_cross n d)
 
 pub short_parts : (t : Terms) → is_short t ≡ true → IsWithin (10 ^ 18) t
 short_parts t s =
@@ -51,7 +50,7 @@ unfolding short short_of
 short_number n d t h e =
     let low = lowest_terms n d in
     let made = made_by (is_short low) t low e in
-    subst (λ u. IsNumber u (fraction n d)) made.1 (record { reduced = short_reduced low (are_lowest n d h) made.0; is = lowest_value n d h })
+    subst (λ u. IsNumber u (fraction n d)) made.1 (record { reduced = short_reduced low (lowest_are n d h) made.0; is = lowest_value n d h })
 
 -- ---- operations
 

@@ -14,7 +14,7 @@ use Rattle.field_core.specs.Kind.{ok_map, or_wide, is_zero as is_zero_stored}
 use Rattle.field_core.specs.Sized.{sized, gcd_of}
 use Rattle.field_core.specs.Terms.{Terms, IsReduced}
 use Rattle.field_core.specs.View.{terms}
-use Rattle.field_core.specs.Laws.Integers.{int_negate_multiply}
+use Rattle.field_core.specs.Laws.Integers.{int_negate_multiply, int_multiply_negate, int_negate_negate}
 use Rattle.field_core.specs.Laws.PolynomialLaws.{product_nonzero}
 use Rattle.field_core.specs.Laws.Effective.{positive_nonzero}
 use Rattle.field_core.proofs.Sized.{sized_small}
@@ -30,7 +30,7 @@ use Rattle.fraction.specs.Laws.Turned.{opposite_reduced, inverse_reduced}
 use Rattle.fraction.specs.Laws.WrittenLaws.{Makes, add_says, mul_says}
 use Rattle.edge_expression.specs.EntryValues.{is_short, short, short_of, sum, difference, product, quotient}
 use Rattle.edge_expression.specs.EntryView.{made_short}
-use Rattle.edge_expression.proofs.LowestTerms.{lowest_any, int_multiply_negate, turned_back}
+use Rattle.fraction.proofs.LowestTerms.{lowest_any}
 use Rattle.edge_expression.proofs.ShortNumbers.{short_parts}
 
 -- in lowest terms, with short parts
@@ -74,7 +74,10 @@ inverse_short y some q = record { reduced = inverse_reduced y q.reduced some; pa
 over_inverse : (z : Terms) (n d m e : ℤ) → Same z (product_of (record { num = n; den = d }) (inverse_of m e)) → Same z (record { num = n *ℤ e; den = d *ℤ m })
 over_inverse z n d (pos m) e h = h
 over_inverse z n d (negsuc m) e h =
-    ap (λ k. z.num *ℤ k) (int_multiply_negate d (pos (suc m))) ∙ turned_back z (n *ℤ e) (d *ℤ pos (suc m)) (h ∙ ap (λ k. k *ℤ z.den) (int_multiply_negate n e))
+    ap (λ k. z.num *ℤ k) (int_multiply_negate d (pos (suc m)))
+    ∙ int_multiply_negate z.num (d *ℤ pos (suc m))
+    ∙ ap neg_ℤ (h ∙ ap (λ k. k *ℤ z.den) (int_multiply_negate n e) ∙ int_negate_multiply (n *ℤ e) z.den)
+    ∙ int_negate_negate ((n *ℤ e) *ℤ z.den)
 
 quotient_lowest : (x y : Terms) → y.num ≢ pos 0 → IsShort x → IsShort y → written_mul x (inverse y) ≡ Some (lowest_terms (x.num *ℤ y.den) (x.den *ℤ y.num))
 unfolding inverse

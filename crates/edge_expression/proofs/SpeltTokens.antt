@@ -1,21 +1,29 @@
 -- The bytes with which spelt tokens begin.
 use Rattle.std.proofs.Common.{◌≡◌, ◌≢◌, ℕ, suc, ◌+◌, ◌≤◌, ◌⊎◌, true, false, inl, inr, List, [], ◌∷◌, ◌++◌, length, drop, None, refl, sym, ap, subst, ◌∙◌, arith, length-drop, eqb}
 use Rattle.std.specs.List.{prefix_len}
+use Rattle.std.specs.Prelude.{◌==◌, ◌||◌, if◌then◌else◌}
+use Rattle.std.specs.Char.{is_ascii_digit}
 use Rattle.std.proofs.lemmas.Bool.Decides.{nat_tests}
 use Rattle.std.proofs.lemmas.Bool.{cases_Bool, eqb-true, or_cases}
 use Rattle.field_core.proofs.Longest.{accepts_then}
 use Rattle.fraction.specs.Numeral.{body_text}
 use Rattle.text_lines.specs.Words.{is_blank, after_blanks}
-use Rattle.edge_expression.specs.declared.byte_class.Class.{Class}
-use Rattle.edge_expression.specs.declared.byte_class.Class.TheVariants as classes
-use Rattle.edge_expression.specs.declared.byte_machine.Part.{Part}
-use Rattle.edge_expression.specs.declared.byte_machine.Part.TheVariants as parts
-use Rattle.edge_expression.specs.ByteMachine.{class_of, decimal_step, is_decimal}
-use Rattle.edge_expression.specs.Expressions.{Decimal, Plus, Minus, Token, DecimalToken, WordToken, CaretToken, PowerToken, SignToken, TimesToken, OverToken, OpenToken, CloseToken, sign_byte, token_text, AreBlanks, IsSpelt}
-use Rattle.edge_expression.specs.CursorView.{EndsFactor}
-use Rattle.edge_expression.proofs.ByteClasses.{IsOf, class_is, class_blank, class_sign, class_joint, class_open, class_close, class_backslash}
-use Rattle.edge_expression.proofs.DecimalTexts.{takes, takes_nil, takes_cons, decimal_taken}
-use Rattle.edge_expression.proofs.DecimalLengths.{Stops}
+use Rattle.fraction.specs.declared.byte_class.Class.{Class as DecimalClass}
+use Rattle.fraction.specs.declared.byte_class.Class.TheVariants as decimals
+use Rattle.fraction.specs.declared.decimal_machine.DecimalPart.{DecimalPart}
+use Rattle.fraction.specs.declared.decimal_machine.DecimalPart.TheVariants as parts
+use Rattle.fraction.specs.DecimalMachine.{class_of as decimal_class, decimal_step, decimal_byte, may_end as ends_decimal}
+use Rattle.fraction.specs.Decimals.{Decimal}
+use Rattle.fraction.proofs.Classes.{IsOf as IsDecimalByte, class_is as decimal_class_is, either}
+use Rattle.fraction.proofs.DecimalTexts.{takes, takes_nil, takes_cons, decimal_taken}
+use Rattle.fraction.proofs.DecimalLengths.{Stops}
+use Rattle.edge_expression.specs.declared.byte_machine.State.TheVariants as states
+use Rattle.edge_expression.specs.ByteMachine.{class_of, behind_factor}
+use Rattle.edge_expression.specs.Expressions.{Sign, Plus, Minus, Expression, Term, Product, Factor, Number, Other, Further, Epsilon, Parens, Token, DecimalToken, WordToken, CaretToken, PowerToken, SignToken, TimesToken, OverToken, OpenToken, CloseToken, term_tokens, factors_tokens, factor_tokens, further_tokens, sign_byte, token_text, AreBlanks, IsSpelt}
+use Rattle.edge_expression.specs.CursorView.{EndsExpression, EndsTerm, EndsFactor}
+use Rattle.field_core.proofs.Heads.{heads}
+use Rattle.edge_expression.proofs.ByteClasses.{class_blank}
+use Rattle.edge_expression.proofs.Machine.{ends_before}
 
 -- ---- blanks
 
@@ -43,19 +51,19 @@ blank_is b (inl e) = rw e refl
 blank_is b (inr e) = rw e refl
 
 is_blank_byte : (b : ℕ) → is_blank b ≡ true → (b ≡ 32) ⊎ (b ≡ 9)
-is_blank_byte b h = elim (or_cases (eqb b 32) (eqb b 9) h) [ inl e ↦ inl (eqb-true b 32 e) | inr e ↦ inr (eqb-true b 9 e) ]
+is_blank_byte b h = either b 32 9 h
 
 behind_all : (blanks t : List ℕ) → AreBlanks blanks → after_blanks (blanks ++ t) ≡ after_blanks t
 behind_all [] t h = refl
 behind_all (b ∷ bs) t h = after_blank b (bs ++ t) (blank_is b h.0) ∙ behind_all bs t h.1
 
-pub all_blank : (t : List ℕ) → AreBlanks t → after_blanks t ≡ []
+all_blank : (t : List ℕ) → AreBlanks t → after_blanks t ≡ []
 all_blank [] h = after_nil
 all_blank (b ∷ t) h = after_blank b t (blank_is b h.0) ∙ all_blank t h.1
 
 -- ---- first bytes
 
-abbrev pub IsFirst : Token → ℕ → Type 0
+abbrev IsFirst : Token → ℕ → Type 0
 IsFirst (DecimalToken d) b = ((48 ≤ b) × (b ≤ 57)) ⊎ (b ≡ 46)
 IsFirst WordToken b = b ≡ 92
 IsFirst CaretToken b = b ≡ 94
@@ -73,14 +81,14 @@ record HasFirst (k : Token) : Type 0 where
   spelt : token_text k ≡ byte ∷ rest
   is : IsFirst k byte
 
-first_class : (b : ℕ) (x : List ℕ) (c : Class) → IsOf c b → accepts_then (takes x) (decimal_step parts.Start c) ≡ true → ((48 ≤ b) × (b ≤ 57)) ⊎ (b ≡ 46)
-first_class b x classes.Digit k h = inl k
-first_class b x classes.Point k h = inr k
+first_class : (b : ℕ) (x : List ℕ) (c : DecimalClass) → IsDecimalByte c b → accepts_then (takes x) (decimal_step parts.Start c) ≡ true → ((48 ≤ b) × (b ≤ 57)) ⊎ (b ≡ 46)
+first_class b x decimals.Digit k h = inl k
+first_class b x decimals.Point k h = inr k
 first_class b x c k h = absurd cc
 
 decimal_first : (d : Decimal) (text : List ℕ) → body_text d.body ≡ text → takes text parts.Start ≡ true → HasFirst (DecimalToken d)
 decimal_first d [] e h = let f : false ≡ true = sym (takes_nil parts.Start) ∙ h in absurd cc
-decimal_first d (b ∷ x) e h = record { byte = b; rest = x; spelt = e; is = first_class b x (class_of b) (class_is b) (sym (takes_cons b x parts.Start) ∙ h) }
+decimal_first d (b ∷ x) e h = record { byte = b; rest = x; spelt = e; is = first_class b x (decimal_class b) (decimal_class_is b) (sym (takes_cons b x parts.Start) ∙ h) }
 
 first_of : (k : Token) → HasFirst k
 first_of (DecimalToken d) = decimal_first d (body_text d.body) refl (decimal_taken d)
@@ -128,13 +136,13 @@ front k ks t s =
     }
 
 -- the text behind the blanks begins with the token's first byte
-pub record Leads (k : Token) (t : List ℕ) : Type 0 where
-  pub byte : ℕ
-  pub rest : List ℕ
-  pub after : after_blanks t ≡ byte ∷ rest
-  pub is : IsFirst k byte
+record Leads (k : Token) (t : List ℕ) : Type 0 where
+  byte : ℕ
+  rest : List ℕ
+  after : after_blanks t ≡ byte ∷ rest
+  is : IsFirst k byte
 
-pub leads : (k : Token) (ks : List Token) (t : List ℕ) → IsSpelt (k ∷ ks) t → Leads k t
+leads : (k : Token) (ks : List Token) (t : List ℕ) → IsSpelt (k ∷ ks) t → Leads k t
 leads k ks t s =
     let g = front k ks t s in
     let f = first_of k in
@@ -143,73 +151,158 @@ leads k ks t s =
 -- ---- what ends a decimal
 
 abbrev pub EndsDecimal : ℕ → Type 0
-EndsDecimal b = (p : Part) → is_decimal p ≡ true → decimal_step p (class_of b) ≡ None
-
-class_ends : (c : Class) → ((p : Part) → is_decimal p ≡ true → decimal_step p c ≡ None) → (b : ℕ) → class_of b ≡ c → EndsDecimal b
-class_ends c h b e p k = ap (decimal_step p) e ∙ h p k
-
-blank_ends : (p : Part) → is_decimal p ≡ true → decimal_step p classes.Blank ≡ None
-blank_ends parts.Whole h = refl
-blank_ends parts.Fraction h = refl
-blank_ends parts.Exponent h = refl
-blank_ends p h = absurd cc
-
-sign_ends : (p : Part) → is_decimal p ≡ true → decimal_step p classes.Sign ≡ None
-sign_ends parts.Whole h = refl
-sign_ends parts.Fraction h = refl
-sign_ends parts.Exponent h = refl
-sign_ends p h = absurd cc
-
-joint_ends : (p : Part) → is_decimal p ≡ true → decimal_step p classes.Joint ≡ None
-joint_ends parts.Whole h = refl
-joint_ends parts.Fraction h = refl
-joint_ends parts.Exponent h = refl
-joint_ends p h = absurd cc
-
-open_ends : (p : Part) → is_decimal p ≡ true → decimal_step p classes.Open ≡ None
-open_ends parts.Whole h = refl
-open_ends parts.Fraction h = refl
-open_ends parts.Exponent h = refl
-open_ends p h = absurd cc
-
-close_ends : (p : Part) → is_decimal p ≡ true → decimal_step p classes.Close ≡ None
-close_ends parts.Whole h = refl
-close_ends parts.Fraction h = refl
-close_ends parts.Exponent h = refl
-close_ends p h = absurd cc
-
-backslash_ends : (p : Part) → is_decimal p ≡ true → decimal_step p classes.Backslash ≡ None
-backslash_ends parts.Whole h = refl
-backslash_ends parts.Fraction h = refl
-backslash_ends parts.Exponent h = refl
-backslash_ends p h = absurd cc
+EndsDecimal b = (p : DecimalPart) → ends_decimal p ≡ true → decimal_byte p b ≡ None
 
 token_ends : (k : Token) (ks : List Token) (b : ℕ) → EndsFactor (k ∷ ks) → IsFirst k b → EndsDecimal b
+unfolding class_of
 token_ends (DecimalToken d) ks b e h = absurd e
-token_ends WordToken ks b e h = class_ends classes.Backslash backslash_ends b (ap class_of h ∙ class_backslash)
+token_ends WordToken ks b e h = subst EndsDecimal (sym h) (ends_before 92 _ refl)
 token_ends CaretToken ks b e h = absurd e
 token_ends (PowerToken p) ks b e h = absurd e
-token_ends (SignToken Plus) ks b e h = class_ends classes.Sign sign_ends b (class_sign b (inl h))
-token_ends (SignToken Minus) ks b e h = class_ends classes.Sign sign_ends b (class_sign b (inr h))
-token_ends TimesToken ks b e h = class_ends classes.Joint joint_ends b (class_joint b (inl h))
-token_ends OverToken ks b e h = class_ends classes.Joint joint_ends b (class_joint b (inr h))
-token_ends OpenToken ks b e h = class_ends classes.Open open_ends b (ap class_of h ∙ class_open)
-token_ends CloseToken ks b e h = class_ends classes.Close close_ends b (ap class_of h ∙ class_close)
+token_ends (SignToken Plus) ks b e h = subst EndsDecimal (sym h) (ends_before 43 _ refl)
+token_ends (SignToken Minus) ks b e h = subst EndsDecimal (sym h) (ends_before 45 _ refl)
+token_ends TimesToken ks b e h = subst EndsDecimal (sym h) (ends_before 42 _ refl)
+token_ends OverToken ks b e h = subst EndsDecimal (sym h) (ends_before 47 _ refl)
+token_ends OpenToken ks b e h = subst EndsDecimal (sym h) (ends_before 40 _ refl)
+token_ends CloseToken ks b e h = subst EndsDecimal (sym h) (ends_before 41 _ refl)
 
 blank_byte_ends : (b : ℕ) → is_blank b ≡ true → EndsDecimal b
-blank_byte_ends b h = class_ends classes.Blank blank_ends b (class_blank b (is_blank_byte b h))
-
-same_byte : (b c : ℕ) (x y : List ℕ) → b ∷ x ≡ c ∷ y → b ≡ c
-same_byte b c x y e = cc
+blank_byte_ends b h = ends_before b states.Factor (ap behind_factor (class_blank b (is_blank_byte b h)))
 
 after_ends : (b : ℕ) (t : List ℕ) (ks : List Token) → EndsFactor ks → IsSpelt ks (b ∷ t) → is_blank b ≡ false → EndsDecimal b
 after_ends b t [] e s h = let f : after_blanks (b ∷ t) ≡ [] = all_blank (b ∷ t) s in let g : b ∷ t ≡ [] = sym (after_other b t h) ∙ f in absurd cc
 after_ends b t (k ∷ ks) e s h =
     let l = leads k ks (b ∷ t) s in
-    let f : b ≡ l.byte = same_byte b l.byte t l.rest (sym (after_other b t h) ∙ l.after) in
+    let f : b ≡ l.byte = (heads b l.byte t l.rest (sym (after_other b t h) ∙ l.after)).0 in
     subst EndsDecimal (sym f) (token_ends k ks l.byte e l.is)
 
 -- no decimal goes on with tokens before which a factor may end
 pub stops : (t : List ℕ) (ks : List Token) → EndsFactor ks → IsSpelt ks t → Stops t
 stops [] ks e s = tt
 stops (b ∷ t) ks e s = elim (cases_Bool (is_blank b)) [ inl h ↦ blank_byte_ends b h | inr h ↦ after_ends b t ks e s h ]
+
+-- ---- first bytes of tokens
+
+-- the first byte of a token, and 48 for each digit and for a point
+unfoldable pub mark : Token → ℕ
+mark (DecimalToken d) = 48
+mark WordToken = 92
+mark CaretToken = 94
+mark (PowerToken p) = 48
+mark (SignToken sign) = sign_byte sign
+mark TimesToken = 42
+mark OverToken = 47
+mark OpenToken = 40
+mark CloseToken = 41
+
+-- that of the first token, and 0 where there is none
+unfoldable pub begin : List Token → ℕ
+begin [] = 0
+begin (k ∷ ks) = mark k
+
+-- the first byte of a token that begins with this byte
+unfoldable pub byte_mark : ℕ → ℕ
+byte_mark b = if is_ascii_digit b || (b == 46) then 48 else b
+
+digit_mark : (b : ℕ) → 48 ≤ b → b ≤ 57 → byte_mark b ≡ 48
+unfolding byte_mark
+digit_mark b h k = let d : is_ascii_digit b ≡ true = grind (arith, nat_tests) in rw d refl
+
+mark_is : (k : Token) (b : ℕ) → IsFirst k b → byte_mark b ≡ mark k
+unfolding mark byte_mark
+mark_is (DecimalToken d) b (inl h) = digit_mark b h.0 h.1
+mark_is (DecimalToken d) b (inr h) = rw h refl
+mark_is WordToken b h = rw h refl
+mark_is CaretToken b h = rw h refl
+mark_is (PowerToken p) b h = digit_mark b h.0 h.1
+mark_is (SignToken Plus) b h = rw h refl
+mark_is (SignToken Minus) b h = rw h refl
+mark_is TimesToken b h = rw h refl
+mark_is OverToken b h = rw h refl
+mark_is OpenToken b h = rw h refl
+mark_is CloseToken b h = rw h refl
+
+-- that of a text, and 0 where it is empty
+unfoldable pub text_mark : List ℕ → ℕ
+text_mark [] = 0
+text_mark (b ∷ bs) = byte_mark b
+
+pub text_begins : (ks : List Token) (t : List ℕ) → IsSpelt ks t → text_mark (after_blanks t) ≡ begin ks
+unfolding text_mark begin
+text_begins [] t s = ap text_mark (all_blank t s)
+text_begins (k ∷ ks) t s = let l = leads k ks t s in ap text_mark l.after ∙ mark_is k l.byte l.is
+
+-- tokens that one text spells begin with one byte
+pub same_begin : (ks js : List Token) (t : List ℕ) → IsSpelt ks t → IsSpelt js t → begin ks ≡ begin js
+same_begin ks js t s r = sym (text_begins ks t s) ∙ text_begins js t r
+
+-- a text that begins with this byte
+pub begins : (ks : List Token) (t : List ℕ) (b : ℕ) (x : List ℕ) → after_blanks t ≡ b ∷ x → IsSpelt ks t → begin ks ≡ byte_mark b
+unfolding text_mark
+begins ks t b x a s = sym (text_begins ks t s) ∙ ap text_mark a
+
+-- an expression ends before no sign
+pub no_sign : (m : List Token) (sign : Sign) → EndsExpression m → begin m ≡ sign_byte sign → ⊥
+unfolding begin mark
+no_sign [] Plus h e = omega (arith, e)
+no_sign [] Minus h e = omega (arith, e)
+no_sign (CloseToken ∷ ks) Plus h e = omega (arith, e)
+no_sign (CloseToken ∷ ks) Minus h e = omega (arith, e)
+no_sign (k ∷ ks) sign h e = absurd h
+
+-- these bytes begin further factors
+abbrev pub IsJoint : ℕ → Type 0
+IsJoint b = (b ≡ 42) ⊎ ((b ≡ 47) ⊎ ((b ≡ 92) ⊎ (b ≡ 40)))
+
+joint_is : (b c : ℕ) → IsJoint b → c ≡ b → (c ≢ 0) × (c ≢ 41) × (c ≢ 43) × (c ≢ 45)
+joint_is b c (inl h) e = (λ f. omega (arith, h, e, f), λ f. omega (arith, h, e, f), λ f. omega (arith, h, e, f), λ f. omega (arith, h, e, f))
+joint_is b c (inr (inl h)) e = (λ f. omega (arith, h, e, f), λ f. omega (arith, h, e, f), λ f. omega (arith, h, e, f), λ f. omega (arith, h, e, f))
+joint_is b c (inr (inr (inl h))) e = (λ f. omega (arith, h, e, f), λ f. omega (arith, h, e, f), λ f. omega (arith, h, e, f), λ f. omega (arith, h, e, f))
+joint_is b c (inr (inr (inr h))) e = (λ f. omega (arith, h, e, f), λ f. omega (arith, h, e, f), λ f. omega (arith, h, e, f), λ f. omega (arith, h, e, f))
+
+-- a term ends before none of them
+pub no_joint : (m : List Token) (b : ℕ) → EndsTerm m → IsJoint b → begin m ≡ b → ⊥
+unfolding begin mark
+no_joint [] b h j e = (joint_is b 0 j e).0 refl
+no_joint (CloseToken ∷ ks) b h j e = (joint_is b 41 j e).1 refl
+no_joint (SignToken Plus ∷ ks) b h j e = (joint_is b 43 j e).2 refl
+no_joint (SignToken Minus ∷ ks) b h j e = (joint_is b 45 j e).3 refl
+no_joint (k ∷ ks) b h j e = absurd h
+
+-- a factor ends before no caret
+pub no_caret : (m : List Token) → EndsFactor m → begin m ≡ 94 → ⊥
+unfolding begin mark
+no_caret [] h e = omega (arith, e)
+no_caret (DecimalToken d ∷ ks) h e = h
+no_caret (WordToken ∷ ks) h e = omega (arith, e)
+no_caret (CaretToken ∷ ks) h e = h
+no_caret (PowerToken p ∷ ks) h e = h
+no_caret (SignToken Plus ∷ ks) h e = omega (arith, e)
+no_caret (SignToken Minus ∷ ks) h e = omega (arith, e)
+no_caret (TimesToken ∷ ks) h e = omega (arith, e)
+no_caret (OverToken ∷ ks) h e = omega (arith, e)
+no_caret (OpenToken ∷ ks) h e = omega (arith, e)
+no_caret (CloseToken ∷ ks) h e = omega (arith, e)
+
+-- no term begins with a sign
+factor_no_sign : (f : Factor) (more : List Token) (sign : Sign) → begin (factor_tokens f more) ≡ sign_byte sign → ⊥
+unfolding begin mark
+factor_no_sign (Number d) more Plus e = omega (arith, e)
+factor_no_sign (Number d) more Minus e = omega (arith, e)
+factor_no_sign (Other (Epsilon power)) more Plus e = omega (arith, e)
+factor_no_sign (Other (Epsilon power)) more Minus e = omega (arith, e)
+factor_no_sign (Other (Parens inner)) more Plus e = omega (arith, e)
+factor_no_sign (Other (Parens inner)) more Minus e = omega (arith, e)
+
+pub term_no_sign : (t : Term) (more : List Token) (sign : Sign) → begin (term_tokens t more) ≡ sign_byte sign → ⊥
+term_no_sign (Product first others) more sign e = factor_no_sign first (factors_tokens others more) sign e
+
+-- the bytes of further factors, each other than the next
+pub begin_further : (f : Further) (more : List Token) → (begin (further_tokens f more) ≡ 92) ⊎ (begin (further_tokens f more) ≡ 40)
+unfolding begin mark
+begin_further (Epsilon p) more = inl refl
+begin_further (Parens e) more = inr refl
+
+-- none of these bytes begins a further factor that stands behind nothing
+pub not_further : (f : Further) (more : List Token) (b : ℕ) → b ≢ 92 → b ≢ 40 → begin (further_tokens f more) ≡ b → ⊥
+not_further f more b h k e = elim (begin_further f more) [ inl x ↦ h (sym e ∙ x) | inr x ↦ k (sym e ∙ x) ]

@@ -2,14 +2,13 @@
 use Rattle.std.proofs.Common.{◌≡◌, ℕ, zero, suc, ◌+◌, ◌-◌, ◌<◌, ◌≤◌, ◌⊎◌, inl, inr, Bool, true, false, cond, eqb, List, [], ◌∷◌, ℤ, pos, negsuc, neg_ℤ, ◌<ℤ◌, Result, Ok, refl, ap, ap₂, ◌∙◌, arith}
 use Rattle.std.specs.Prelude.{nat_lt, ◌==◌, if◌then◌else◌}
 use Rattle.std.proofs.lemmas.Bool.{le-ltb, cases_Bool, eqb-true, eqb-false}
-use Rattle.std.proofs.lemmas.Bool.Decides.{nat_tests}
+use Rattle.std.proofs.lemmas.Bool.Decides.{nat_tests, Decides-int_eq}
 use Rattle.field_core.specs.Terms.{Terms}
 use Rattle.std.proofs.lemmas.Int.{ints}
 use Rattle.std.specs.Ordering.{int_eq}
-use Rattle.std.proofs.lemmas.Bool.Decides.{Decides-int_eq}
 use Rattle.fraction.specs.Tests.{is_zero}
 use Rattle.case_model.specs.Sums.{terms_at, zero_terms}
-use Rattle.edge_expression.specs.declared.fault.ExprFault.{ExprFault}
+use Rattle.edge_expression.specs.declared.value_fault.ValueFault.{ValueFault}
 use Rattle.edge_expression.specs.Expressions.{Plus, Minus}
 use Rattle.field_core.specs.Steps.{◌>>=◌}
 use Rattle.edge_expression.specs.EntryValues.{plain_entry, sum, difference, product, quotient, coefficients, joined, degree_within, degree, product_sum, times, over, unit_at, power_value}
@@ -31,7 +30,7 @@ at_tabled f (suc (suc (suc (suc (suc k))))) h = absurd (omega arith)
 pub same_tabled : (f g : ℕ → Terms) → ((k : ℕ) → k < 5 → f k ≡ g k) → tabled f ≡ tabled g
 same_tabled f g h = rw (h 0 (omega arith), h 1 (omega arith), h 2 (omega arith), h 3 (omega arith), h 4 (omega arith)) refl
 
-pub coefficients_are : (f : ℕ → Result Terms ExprFault) (g : ℕ → Terms) → ((k : ℕ) → k < 5 → f k ≡ Ok (g k)) → coefficients f ≡ Ok (tabled g)
+pub coefficients_are : (f : ℕ → Result Terms ValueFault) (g : ℕ → Terms) → ((k : ℕ) → k < 5 → f k ≡ Ok (g k)) → coefficients f ≡ Ok (tabled g)
 unfolding coefficients
 coefficients_are f g h = rw (h 0 (omega arith), h 1 (omega arith), h 2 (omega arith), h 3 (omega arith), h 4 (omega arith)) refl
 

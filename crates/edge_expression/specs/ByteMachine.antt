@@ -2,62 +2,29 @@
 use Rattle.std.specs.Prelude.{ℕ, zero, suc, ◌||◌, Bool, true, false, Option, Some, None, ◌==◌, if◌then◌else◌}
 use Rattle.std.specs.Char.{is_ascii_digit}
 use Rattle.text_lines.specs.Words.{is_blank}
+use Rattle.fraction.specs.declared.decimal_machine.DecimalPart.{DecimalPart}
+use Rattle.fraction.specs.declared.decimal_machine.DecimalPart.TheVariants as parts
+use Rattle.fraction.specs.DecimalMachine.{decimal_byte, may_end as ends_decimal}
 use Rattle.edge_expression.specs.declared.byte_class.Class.{Class}
 use Rattle.edge_expression.specs.declared.byte_class.Class.TheVariants as classes
-use Rattle.edge_expression.specs.declared.byte_machine.Part.{Part}
-use Rattle.edge_expression.specs.declared.byte_machine.Part.TheVariants as parts
 use Rattle.edge_expression.specs.declared.byte_machine.Letter.{Letter}
 use Rattle.edge_expression.specs.declared.byte_machine.Letter.TheVariants as letters
 use Rattle.edge_expression.specs.declared.byte_machine.State.{State}
 use Rattle.edge_expression.specs.declared.byte_machine.State.TheVariants.{Start, Operand, Decimal, Word, Epsilon, Caret, Factor}
 use Rattle.edge_expression.specs.declared.byte_machine.Reached.{Reached}
 
--- what a byte may be that is no digit, no blank and no operation
-unfoldable pub mark_of : ℕ → Class
-mark_of b =
-    if b == 46 then classes.Point
-    else if (b == 101) || (b == 69) then classes.Mark
-    else if b == 94 then classes.Caret
-    else if b == 40 then classes.Open
-    else if b == 41 then classes.Close
-    else if b == 92 then classes.Backslash
-    else classes.Other
-
--- what a byte may be in an expression, but for the letters of `\epsilon`
+-- what a byte may be in an expression, but for what belongs to decimals and to the letters of `\epsilon`
 unfoldable pub class_of : ℕ → Class
 class_of b =
     if is_ascii_digit b then classes.Digit
     else if is_blank b then classes.Blank
     else if (b == 43) || (b == 45) then classes.Sign
     else if (b == 42) || (b == 47) then classes.Joint
-    else mark_of b
-
--- what was read of a decimal with one byte more, or nothing where no decimal begins so
-abbrev pub decimal_step : Part → Class → Option Part
-decimal_step parts.Start classes.Digit = Some parts.Whole
-decimal_step parts.Start classes.Point = Some parts.Point
-decimal_step parts.Whole classes.Digit = Some parts.Whole
-decimal_step parts.Whole classes.Point = Some parts.Fraction
-decimal_step parts.Whole classes.Mark = Some parts.Mark
-decimal_step parts.Point classes.Digit = Some parts.Fraction
-decimal_step parts.Fraction classes.Digit = Some parts.Fraction
-decimal_step parts.Fraction classes.Mark = Some parts.Mark
-decimal_step parts.Mark classes.Sign = Some parts.MarkSigned
-decimal_step parts.Mark classes.Digit = Some parts.Exponent
-decimal_step parts.MarkSigned classes.Digit = Some parts.Exponent
-decimal_step parts.Exponent classes.Digit = Some parts.Exponent
-decimal_step part class = None
-
--- the same of a byte
-abbrev pub decimal_byte : Part → ℕ → Option Part
-decimal_byte part b = decimal_step part (class_of b)
-
--- a decimal may end here
-abbrev pub is_decimal : Part → Bool
-is_decimal parts.Whole = true
-is_decimal parts.Fraction = true
-is_decimal parts.Exponent = true
-is_decimal part = false
+    else if b == 94 then classes.Caret
+    else if b == 40 then classes.Open
+    else if b == 41 then classes.Close
+    else if b == 92 then classes.Backslash
+    else classes.Other
 
 -- the byte behind a part of `\epsilon`
 abbrev pub next_letter : Letter → ℕ
@@ -85,18 +52,25 @@ further classes.Backslash = Some (Word letters.Backslash)
 further classes.Open = Some Start
 further class = None
 
+-- where a factor must follow, with what the byte begins of a decimal
+abbrev pub operand_parts : Option DecimalPart → Class → Option State
+operand_parts (Some part) class = Some (Decimal part)
+operand_parts None classes.Blank = Some Operand
+operand_parts None class = further class
+
 -- where a factor must follow
-abbrev pub at_operand : Class → Option State
-at_operand classes.Blank = Some Operand
-at_operand classes.Digit = Some (Decimal parts.Whole)
-at_operand classes.Point = Some (Decimal parts.Point)
-at_operand class = further class
+abbrev pub at_operand : ℕ → Option State
+at_operand b = operand_parts (decimal_byte parts.Start b) (class_of b)
+
+-- where a sum begins, with what may stand where a factor must follow
+abbrev pub start_or : Class → Option State → Option State
+start_or classes.Blank operand = Some Start
+start_or classes.Sign operand = Some Operand
+start_or class operand = operand
 
 -- where a sum begins
-abbrev pub at_start : Class → Option State
-at_start classes.Blank = Some Start
-at_start classes.Sign = Some Operand
-at_start class = at_operand class
+abbrev pub at_start : ℕ → Option State
+at_start b = start_or (class_of b) (at_operand b)
 
 -- behind a factor
 abbrev pub behind_factor : Class → Option State
@@ -107,14 +81,14 @@ behind_factor classes.Joint = Some Operand
 behind_factor class = further class
 
 -- behind part of a decimal, with one part more or none
-abbrev pub behind_parts : Option Part → Bool → Class → Option State
+abbrev pub behind_parts : Option DecimalPart → Bool → Class → Option State
 behind_parts (Some longer) ends class = Some (Decimal longer)
 behind_parts None true class = behind_factor class
 behind_parts None false class = None
 
 -- behind part of a decimal
-abbrev pub behind_part : Part → Class → Option State
-behind_part part class = behind_parts (decimal_step part class) (is_decimal part) class
+abbrev pub behind_part : DecimalPart → ℕ → Option State
+behind_part part b = behind_parts (decimal_byte part b) (ends_decimal part) (class_of b)
 
 -- behind `\epsilon`
 abbrev pub behind_epsilon : Class → Option State
@@ -134,9 +108,9 @@ behind_letter letter b = if b == next_letter letter then Some (with_letter lette
 
 -- what was read with one byte more, but for the parentheses that are open
 abbrev pub next : State → ℕ → Option State
-next Start b = at_start (class_of b)
-next Operand b = at_operand (class_of b)
-next (Decimal part) b = behind_part part (class_of b)
+next Start b = at_start b
+next Operand b = at_operand b
+next (Decimal part) b = behind_part part b
 next (Word letter) b = behind_letter letter b
 next Epsilon b = behind_epsilon (class_of b)
 next Caret b = behind_caret (class_of b)
@@ -163,7 +137,7 @@ step r b = reached (next r.state b) (opened (class_of b) r.depth)
 abbrev pub is_whole : State → Bool
 is_whole Factor = true
 is_whole Epsilon = true
-is_whole (Decimal part) = is_decimal part
+is_whole (Decimal part) = ends_decimal part
 is_whole state = false
 
 -- an expression may end in the state, with so many open parentheses

@@ -1,26 +1,20 @@
 -- What is left of an edge expression, as contracts of the evaluator's parts see it.
 use Rattle.std.specs.Prelude.{◌≡◌, ◌≢◌, ℕ, ◌+◌, ◌%◌, ◌⊎◌, true, List, [], ◌∷◌, Option, Some, None, Result, is_ok, length, drop, take, min}
-use Rattle.field_core.proofs.Longest.{count}
 use Rattle.fraction.specs.Numeral.{body_text}
+use Rattle.fraction.specs.DecimalMachine.{decimal_length}
 use Rattle.field_core.specs.Terms.{Terms}
 use Rattle.text_lines.specs.Words.{after_blanks}
-use Rattle.edge_expression.specs.declared.fault.ExprFault.{ExprFault}
-use Rattle.edge_expression.specs.declared.byte_machine.Part.TheVariants as parts
+use Rattle.edge_expression.specs.declared.value_fault.ValueFault.{ValueFault}
 use Rattle.edge_expression.specs.declared.polynomial.Polynomial.{Polynomial}
 use Rattle.edge_expression.specs.declared.polynomial.Operation.{Operation}
 use Rattle.edge_expression.specs.declared.polynomial.Operation.TheVariants as operations
 use Rattle.edge_expression.specs.declared.cursor.Head.{Head}
 use Rattle.edge_expression.specs.declared.cursor.Head.TheVariants as heads
-use Rattle.edge_expression.specs.ByteMachine.{decimal_byte}
 use Rattle.edge_expression.specs.Expressions.{Expression, Term, Factor, Number, Other, Epsilon, Parens, Token, DecimalToken, CaretToken, PowerToken, SignToken, CloseToken, power_tokens, expression_tokens, term_tokens, IsSpelt}
 use Rattle.edge_expression.specs.EntryValues.{value, term_value, factor_value}
 use Rattle.edge_expression.specs.EntryView.{map_value, polynomial_terms}
 
 -- ---- bytes
-
--- how many bytes of a text may begin a decimal
-unfoldable pub decimal_length : List ℕ → ℕ
-decimal_length text = count decimal_byte text parts.Start
 
 -- the text doesn't begin with this byte
 abbrev pub IsOtherThan : ℕ → List ℕ → Type 0
@@ -109,7 +103,7 @@ EndsFactor ks = Unit {0}
 -- ---- what the evaluator gives
 
 -- The result is this worth, and where that is a value, what is left spells these tokens.
-abbrev pub Evaluates : Result Polynomial ExprFault → List ℕ → Result (List Terms) ExprFault → List Token → Type 0
+abbrev pub Evaluates : Result Polynomial ValueFault → List ℕ → Result (List Terms) ValueFault → List Token → Type 0
 Evaluates result left worth more = (map_value polynomial_terms result ≡ worth) × (is_ok result ≡ true → IsSpelt more left)
 
 -- behind this front, what is left spells the rest of the factor, and then these tokens
@@ -120,13 +114,13 @@ IsHead heads.Open rest (Other (Parens inner)) more = IsSpelt (expression_tokens 
 IsHead head rest factor more = ⊥
 
 -- on each expression, whatever follows it
-unfoldable pub SumGives : List ℕ → Result Polynomial ExprFault → List ℕ → Type 0
+unfoldable pub SumGives : List ℕ → Result Polynomial ValueFault → List ℕ → Type 0
 SumGives old result new = (e : Expression) (more : List Token) → EndsExpression more → IsSpelt (expression_tokens e more) old → Evaluates result new (value e) more
 
 -- on each term
-unfoldable pub ProductGives : List ℕ → Result Polynomial ExprFault → List ℕ → Type 0
+unfoldable pub ProductGives : List ℕ → Result Polynomial ValueFault → List ℕ → Type 0
 ProductGives old result new = (t : Term) (more : List Token) → EndsTerm more → IsSpelt (term_tokens t more) old → Evaluates result new (term_value t) more
 
 -- on each factor whose front is taken
-unfoldable pub FactorGives : Head → List ℕ → Result Polynomial ExprFault → List ℕ → Type 0
+unfoldable pub FactorGives : Head → List ℕ → Result Polynomial ValueFault → List ℕ → Type 0
 FactorGives head old result new = (f : Factor) (more : List Token) → EndsFactor more → IsHead head old f more → Evaluates result new (factor_value f) more

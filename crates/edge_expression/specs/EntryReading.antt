@@ -6,6 +6,8 @@ use Rattle.field_core.specs.declared.ratio.Ratio.{Ratio}
 use Rattle.fraction.specs.Prefixes.{IsBadByte}
 use Rattle.edge_expression.specs.declared.fault.ExprFault.{ExprFault}
 use Rattle.edge_expression.specs.declared.fault.ExprFault.TheVariants.{BadByte, Depth, DivisorNotNumber, ZeroDivisor, Degree, Part}
+use Rattle.edge_expression.specs.declared.value_fault.ValueFault.{ValueFault}
+use Rattle.edge_expression.specs.declared.value_fault.ValueFault.TheVariants as values
 use Rattle.edge_expression.specs.Expressions.{Expression, IsExpression, Spells}
 use Rattle.edge_expression.specs.EntryValues.{value}
 
@@ -47,7 +49,7 @@ IsScanned text (Err Part) = ⊥
 -- ---- what a text gives
 
 -- The text is an expression with at most 32 open parentheses, and this is what it is worth.
-pub record IsWorth (text : List ℕ) (worth : Result (List Terms) ExprFault) : Type 0 where
+pub record IsWorth (text : List ℕ) (worth : Result (List Terms) ValueFault) : Type 0 where
   pub expression : Expression
   pub spells : Spells text expression
   pub shallow : IsShallow text (length text)
@@ -57,11 +59,18 @@ pub record IsWorth (text : List ℕ) (worth : Result (List Terms) ExprFault) : T
 abbrev pub IsEntryText : List ℕ → List Ratio → Type 0
 IsEntryText text entry = IsWorth text (Ok (map terms entry))
 
+-- why an expression has no value, as the fault of its text
+abbrev pub fault_of : ValueFault → ExprFault
+fault_of values.DivisorNotNumber = DivisorNotNumber
+fault_of values.ZeroDivisor = ZeroDivisor
+fault_of values.Degree = Degree
+fault_of values.Part = Part
+
 -- Why a text gives no entry. Its depth is looked at first, then its bytes, and then it is evaluated.
 unfoldable pub IsExprFault : List ℕ → ExprFault → Type 0
 IsExprFault text Depth = IsTooDeep text
 IsExprFault text (BadByte n) = IsBadByte IsExpression text n × IsShallow text n
-IsExprFault text DivisorNotNumber = IsWorth text (Err DivisorNotNumber)
-IsExprFault text ZeroDivisor = IsWorth text (Err ZeroDivisor)
-IsExprFault text Degree = IsWorth text (Err Degree)
-IsExprFault text Part = IsWorth text (Err Part)
+IsExprFault text DivisorNotNumber = IsWorth text (Err values.DivisorNotNumber)
+IsExprFault text ZeroDivisor = IsWorth text (Err values.ZeroDivisor)
+IsExprFault text Degree = IsWorth text (Err values.Degree)
+IsExprFault text Part = IsWorth text (Err values.Part)

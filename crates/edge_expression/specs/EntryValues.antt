@@ -3,12 +3,12 @@ use Rattle.std.specs.Prelude.{ℕ, zero, suc, ◌-◌, ◌+◌, ◌^◌, ◌||�
 use Rattle.field_core.specs.Terms.{Terms}
 use Rattle.field_core.specs.Steps.{◌>>=◌}
 use Rattle.fraction.specs.Lowest.{lowest_terms}
-use Rattle.fraction.specs.Numeral.{Body, Plain, Pointed, Pair, exponent_of, without_leading_zeros, trailing_zeros, value_of}
+use Rattle.fraction.specs.Decimals.{decimal_value}
 use Rattle.case_model.specs.Sums.{zero_terms, terms_at}
 use Rattle.fraction.specs.Tests.{is_zero, is_within}
-use Rattle.edge_expression.specs.declared.fault.ExprFault.{ExprFault}
-use Rattle.edge_expression.specs.declared.fault.ExprFault.TheVariants.{DivisorNotNumber, ZeroDivisor, Degree, Part}
-use Rattle.edge_expression.specs.Expressions.{Decimal, Power, Sign, Plus, Minus, Expression, Sum, MoreTerms, NoTerm, AndTerm, Term, Product, MoreFactors, NoFactor, Times, Over, Beside, Factor, Number, Other, Further, Epsilon, Parens}
+use Rattle.edge_expression.specs.declared.value_fault.ValueFault.{ValueFault}
+use Rattle.edge_expression.specs.declared.value_fault.ValueFault.TheVariants.{DivisorNotNumber, ZeroDivisor, Degree, Part}
+use Rattle.edge_expression.specs.Expressions.{Power, Sign, Plus, Minus, Expression, Sum, MoreTerms, NoTerm, AndTerm, Term, Product, MoreFactors, NoFactor, Times, Over, Beside, Factor, Number, Other, Further, Epsilon, Parens}
 
 -- ---- fractions
 
@@ -17,27 +17,27 @@ abbrev pub is_short : Terms → Bool
 is_short t = is_within (10 ^ 18) t
 
 -- a fraction, where neither part is above 10^18
-unfoldable pub short_of : Terms → Result Terms ExprFault
+unfoldable pub short_of : Terms → Result Terms ValueFault
 short_of t = if is_short t then Ok t else Err Part
 
 -- n/d in lowest terms, where neither part is above 10^18
-unfoldable pub short : ℤ → ℤ → Result Terms ExprFault
+unfoldable pub short : ℤ → ℤ → Result Terms ValueFault
 short n d = short_of (lowest_terms n d)
 
 -- the sum of two fractions
-abbrev pub sum : Terms → Terms → Result Terms ExprFault
+abbrev pub sum : Terms → Terms → Result Terms ValueFault
 sum x y = short (x.num *ℤ y.den +ℤ y.num *ℤ x.den) (x.den *ℤ y.den)
 
 -- their difference
-abbrev pub difference : Terms → Terms → Result Terms ExprFault
+abbrev pub difference : Terms → Terms → Result Terms ValueFault
 difference x y = short (x.num *ℤ y.den -ℤ y.num *ℤ x.den) (x.den *ℤ y.den)
 
 -- their product
-abbrev pub product : Terms → Terms → Result Terms ExprFault
+abbrev pub product : Terms → Terms → Result Terms ValueFault
 product x y = short (x.num *ℤ y.num) (x.den *ℤ y.den)
 
 -- their quotient
-abbrev pub quotient : Terms → Terms → Result Terms ExprFault
+abbrev pub quotient : Terms → Terms → Result Terms ValueFault
 quotient x y = short (x.num *ℤ y.den) (x.den *ℤ y.num)
 
 -- ---- entries
@@ -51,7 +51,7 @@ abbrev pub zero_coefficients : List Terms
 zero_coefficients = plain_entry zero_terms
 
 -- the coefficients of the powers from 0 to 4
-unfoldable pub coefficients : (ℕ → Result Terms ExprFault) → Result (List Terms) ExprFault
+unfoldable pub coefficients : (ℕ → Result Terms ValueFault) → Result (List Terms) ValueFault
 coefficients f = do
   constant ← f 0
   first ← f 1
@@ -61,7 +61,7 @@ coefficients f = do
   Ok (constant ∷ first ∷ second ∷ third ∷ fourth ∷ [])
 
 -- the sum or the difference of two entries
-unfoldable pub joined : Sign → List Terms → List Terms → Result (List Terms) ExprFault
+unfoldable pub joined : Sign → List Terms → List Terms → Result (List Terms) ValueFault
 joined Plus x y = coefficients (λ k. sum (terms_at x k) (terms_at y k))
 joined Minus x y = coefficients (λ k. difference (terms_at x k) (terms_at y k))
 
@@ -75,7 +75,7 @@ abbrev pub degree : List Terms → ℕ
 degree x = degree_within 4 x
 
 -- the sum of the first n products of coefficients that make power k, by ascending power of the first factor
-unfoldable pub product_sum : List Terms → List Terms → ℕ → ℕ → Result Terms ExprFault
+unfoldable pub product_sum : List Terms → List Terms → ℕ → ℕ → Result Terms ValueFault
 product_sum x y k zero = Ok zero_terms
 product_sum x y k (suc i) = do
   before ← product_sum x y k i
@@ -83,11 +83,11 @@ product_sum x y k (suc i) = do
   sum before next
 
 -- the product of two entries
-unfoldable pub times : List Terms → List Terms → Result (List Terms) ExprFault
+unfoldable pub times : List Terms → List Terms → Result (List Terms) ValueFault
 times x y = if nat_lt 4 (degree x + degree y) then Err Degree else coefficients (λ k. product_sum x y k (suc k))
 
 -- the quotient of two entries
-unfoldable pub over : List Terms → List Terms → Result (List Terms) ExprFault
+unfoldable pub over : List Terms → List Terms → Result (List Terms) ValueFault
 over x y =
     if nat_lt 0 (degree y) then Err DivisorNotNumber
     else if is_zero (terms_at y 0) then Err ZeroDivisor
@@ -95,36 +95,21 @@ over x y =
 
 -- ---- literals
 
--- n digits, divided by ten to the s: they are more than 38, or reach more than 38 places behind the point, or are more than 38 together with the zeros up to the point
-abbrev pub passes_limit : ℕ → ℤ → Bool
-passes_limit n s = nat_lt 38 n || int_lt (pos 38) s || (int_lt s (pos 0) && int_lt (pos 38) (pos n -ℤ s))
-
--- The digits of a whole number without leading zeros, divided by ten to the s: it isn't 0, and passes the limit once its trailing zeros are dropped, each of which lowers s by 1.
-abbrev pub is_too_long : List ℕ → ℤ → Bool
-is_too_long digits s = nat_lt 0 (length digits) && passes_limit (length digits - trailing_zeros digits) (s -ℤ pos (trailing_zeros digits))
-
--- All digits before the exponent make one whole number, and s is the number of those behind the point less the exponent.
-unfoldable pub has_too_many_digits : Body → Bool
-has_too_many_digits (Plain whole exponent) = is_too_long (without_leading_zeros whole) (pos 0 -ℤ exponent_of exponent)
-has_too_many_digits (Pointed whole fraction exponent) = is_too_long (without_leading_zeros (whole ++ fraction)) (pos (length fraction) -ℤ exponent_of exponent)
-has_too_many_digits (Pair over under) = nat_lt 38 (length (without_leading_zeros over)) || nat_lt 38 (length (without_leading_zeros under))
-
--- the value of a decimal
-unfoldable pub decimal_value : Decimal → Result (List Terms) ExprFault
-decimal_value decimal =
-    if has_too_many_digits decimal.body then Err Part
-    else (short (value_of None decimal.body).num (value_of None decimal.body).den >>= λ value. Ok (plain_entry value))
+-- the entry of a decimal's value
+abbrev pub decimal_entry : Option Terms → Result (List Terms) ValueFault
+decimal_entry None = Err Part
+decimal_entry (Some value) = short_of value >>= λ x. Ok (plain_entry x)
 
 -- 1 for the power itself, and 0 for any other
 abbrev pub unit_at : ℕ → ℕ → Terms
 unit_at power k = if k == power then record { num = pos 1; den = pos 1 } else zero_terms
 
 -- a power of epsilon
-unfoldable pub power_value : ℕ → Result (List Terms) ExprFault
+unfoldable pub power_value : ℕ → Result (List Terms) ValueFault
 power_value power = if nat_lt 4 power then Err Degree else coefficients (λ k. Ok (unit_at power k))
 
 -- epsilon, or its written power
-abbrev pub epsilon_value : Option Power → Result (List Terms) ExprFault
+abbrev pub epsilon_value : Option Power → Result (List Terms) ValueFault
 epsilon_value None = power_value 1
 epsilon_value (Some power) = power_value power.power
 
@@ -137,14 +122,14 @@ sign_or_plus (Some sign) = sign
 
 unfoldable mutual
   -- the value of an expression: the terms are added to 0 one after the other
-  pub value : Expression → Result (List Terms) ExprFault
+  pub value : Expression → Result (List Terms) ValueFault
   value (Sum sign first others) = do
     term ← term_value first
     sum ← joined (sign_or_plus sign) zero_coefficients term
     with_terms sum others
 
   -- a sum, and further terms added to it
-  pub with_terms : List Terms → MoreTerms → Result (List Terms) ExprFault
+  pub with_terms : List Terms → MoreTerms → Result (List Terms) ValueFault
   with_terms sum NoTerm = Ok sum
   with_terms sum (AndTerm sign term others) = do
     next ← term_value term
@@ -152,13 +137,13 @@ unfoldable mutual
     with_terms longer others
 
   -- the value of a term
-  pub term_value : Term → Result (List Terms) ExprFault
+  pub term_value : Term → Result (List Terms) ValueFault
   term_value (Product first others) = do
     factor ← factor_value first
     with_factors factor others
 
   -- a product, multiplied and divided by further factors
-  pub with_factors : List Terms → MoreFactors → Result (List Terms) ExprFault
+  pub with_factors : List Terms → MoreFactors → Result (List Terms) ValueFault
   with_factors product NoFactor = Ok product
   with_factors product (Times factor others) = do
     next ← factor_value factor
@@ -174,11 +159,11 @@ unfoldable mutual
     with_factors longer others
 
   -- the value of a factor
-  pub factor_value : Factor → Result (List Terms) ExprFault
-  factor_value (Number decimal) = decimal_value decimal
+  pub factor_value : Factor → Result (List Terms) ValueFault
+  factor_value (Number decimal) = decimal_entry (decimal_value decimal)
   factor_value (Other further) = further_value further
 
   -- the value of a factor that is no decimal
-  pub further_value : Further → Result (List Terms) ExprFault
+  pub further_value : Further → Result (List Terms) ValueFault
   further_value (Epsilon power) = epsilon_value power
   further_value (Parens inner) = value inner

@@ -3,8 +3,8 @@ use Rattle.std.specs.Prelude.{◌≡◌, ℕ, suc, false, List, map, Result, Ok,
 use Rattle.field_core.specs.Terms.{Terms}
 use Rattle.field_core.specs.View.{terms}
 use Rattle.field_core.specs.declared.place.TooWide.{TooWide}
-use Rattle.edge_expression.specs.declared.fault.ExprFault.{ExprFault}
-use Rattle.edge_expression.specs.declared.fault.ExprFault.TheVariants.{Part}
+use Rattle.edge_expression.specs.declared.value_fault.ValueFault.{ValueFault}
+use Rattle.edge_expression.specs.declared.value_fault.ValueFault.TheVariants.{Part}
 use Rattle.edge_expression.specs.declared.short.Short.{Short}
 use Rattle.edge_expression.specs.declared.polynomial.Polynomial.{Polynomial}
 use Rattle.edge_expression.specs.declared.polynomial.Operation.{Operation}
@@ -19,12 +19,12 @@ abbrev pub short_terms : Short → Terms
 short_terms x = terms x.value
 
 -- the value in such a form, or the same fault
-abbrev pub map_value : {A B : Type 0} → (A → B) → Result A ExprFault → Result B ExprFault
+abbrev pub map_value : {A B : Type 0} → (A → B) → Result A ValueFault → Result B ValueFault
 map_value f (Ok x) = Ok (f x)
 map_value f (Err fault) = Err fault
 
 -- what an operation made, where its parts are short
-abbrev pub made_short : Result Terms TooWide → Result Terms ExprFault
+abbrev pub made_short : Result Terms TooWide → Result Terms ValueFault
 made_short (Ok t) = short_of t
 made_short (Err e) = Err Part
 
@@ -33,14 +33,14 @@ abbrev pub polynomial_terms : Polynomial → List Terms
 polynomial_terms p = map short_terms p.coefficients
 
 -- the coefficient of a power that an operation makes
-abbrev pub coefficient : Operation → List Terms → List Terms → ℕ → Result Terms ExprFault
+abbrev pub coefficient : Operation → List Terms → List Terms → ℕ → Result Terms ValueFault
 coefficient Add x y k = sum (terms_at x k) (terms_at y k)
 coefficient Subtract x y k = difference (terms_at x k) (terms_at y k)
 coefficient Multiply x y k = product_sum x y k (suc k)
 coefficient Divide x y k = quotient (terms_at x k) (terms_at y 0)
 
 -- what an operation makes
-unfoldable pub applied : Operation → List Terms → List Terms → Result (List Terms) ExprFault
+unfoldable pub applied : Operation → List Terms → List Terms → Result (List Terms) ValueFault
 applied Add x y = joined Plus x y
 applied Subtract x y = joined Minus x y
 applied Multiply x y = times x y

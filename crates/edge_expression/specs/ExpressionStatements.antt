@@ -1,16 +1,16 @@
 -- What holds of edge expressions and of the texts of entries.
-use Rattle.std.specs.Prelude.{◌≡◌, ◌↔◌, true, List, map, length, Option, Some, None, Ok}
+use Rattle.std.specs.Prelude.{◌≡◌, true, List, map, length, Option, Some, None, Ok}
 use Rattle.std.specs.List.{list_all}
 use Rattle.field_core.specs.View.{terms}
 use Rattle.field_core.specs.declared.ratio.Ratio.{Ratio}
 use Rattle.field_core.specs.Number.{Number as Value}
 use Rattle.field_core.specs.Arithmetic.{number_zero, ◌+ε◌, ◌-ε◌, ◌*ε◌, ◌/ε◌}
 use Rattle.field_core.specs.Fractions.{fraction}
-use Rattle.fraction.specs.Numeral.{Body, value_of, HasTooManyDigits}
+use Rattle.fraction.specs.Numeral.{value_of}
 use Rattle.case_model.specs.Draft.{is_short}
 use Rattle.case_model.specs.Entries.{entry_value, power_of_epsilon}
 use Rattle.edge_expression.specs.Expressions.{Power, Sign, Plus, Minus, Expression, Sum, MoreTerms, NoTerm, AndTerm, Term, Product, MoreFactors, NoFactor, Times, Over, Beside, Factor, Number, Other, Further, Epsilon, Parens}
-use Rattle.edge_expression.specs.EntryValues.{sign_or_plus, has_too_many_digits, value}
+use Rattle.edge_expression.specs.EntryValues.{sign_or_plus, value}
 use Rattle.edge_expression.specs.EntryReading.{IsEntryText}
 use Rattle.edge_expression.specs.EntryTexts.{entry_text}
 
@@ -62,10 +62,6 @@ unfoldable mutual
 -- an entry is the number that the expression means
 abbrev pub EntriesAreMeant : Type 0
 EntriesAreMeant = (expression : Expression) (entry : List Ratio) → value expression ≡ Ok (map terms entry) → entry_value entry ≡ meaning expression
-
--- the limit of a decimal's digits is that of numerals
-abbrev pub DecimalsHaveTheLimitOfNumerals : Type 0
-DecimalsHaveTheLimitOfNumerals = (body : Body) → (has_too_many_digits body ≡ true) ↔ HasTooManyDigits body
 
 -- the text of an entry with parts of at most 10^18 is an expression of that entry
 abbrev pub EntryTextsReadBack : Type 0

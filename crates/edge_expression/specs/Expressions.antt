@@ -1,20 +1,9 @@
 -- Edge expressions: sums of products of decimals, powers of epsilon and expressions in parentheses, and how they are spelt.
 use Rattle.std.specs.Prelude.{◌≡◌, ℕ, ◌+◌, ◌<◌, ◌⊎◌, List, [], ◌∷◌, ◌++◌, Option, Some, None, codes}
-use Rattle.fraction.specs.Numeral.{Body, Plain, Pointed, Pair, body_text, IsBody}
+use Rattle.fraction.specs.Numeral.{body_text}
+use Rattle.fraction.specs.Decimals.{Decimal}
 
 -- ---- what they are made of
-
--- two numbers with a slash between
-abbrev pub IsPair : Body → Type 0
-IsPair (Plain whole exponent) = ⊥
-IsPair (Pointed whole fraction exponent) = ⊥
-IsPair (Pair over under) = Unit {0}
-
--- a decimal: a numeral without a sign that is no pair
-pub record Decimal : Type 0 where
-  pub body : Body
-  pub is_body : IsBody body
-  pub no_pair : ¬ IsPair body
 
 -- a power that is written: one digit
 pub record Power : Type 0 where

@@ -1,16 +1,13 @@
 //! The bytes of edge expressions.
 ghost use Rattle.std.specs.Prelude.{◌≡◌};
-ghost use Rattle.edge_expression.specs.ByteMachine.{class_of, mark_of};
+ghost use Rattle.edge_expression.specs.ByteMachine.{class_of};
 
 use text_lines::is_blank;
 
-/// What a byte may be in an edge expression, but for the letters of `\epsilon`.
+/// What a byte may be in an edge expression, but for what belongs to decimals and to the letters of `\epsilon`.
 #[derive(Clone, Copy)]
 pub enum Class {
     Digit,
-    Point,
-    /// The mark of an exponent.
-    Mark,
     Sign,
     /// What stands between two factors.
     Joint,
@@ -34,20 +31,6 @@ pub fn class_of(byte: u8) -> Class
         Class::Sign
     } else if byte == b'*' || byte == b'/' {
         Class::Joint
-    } else {
-        mark_of(byte)
-    }
-}
-
-/// The class of a byte that is no digit, no blank and no operation.
-#[tactic(auto, unfolding(crate::specs::ByteMachine::mark_of))]
-fn mark_of(byte: u8) -> Class
-    ensures { result ≡ mark_of byte }
-{
-    if byte == b'.' {
-        Class::Point
-    } else if byte == b'e' || byte == b'E' {
-        Class::Mark
     } else if byte == b'^' {
         Class::Caret
     } else if byte == b'(' {

@@ -1,50 +1,9 @@
 //! Edge expressions byte by byte.
 ghost use Rattle.std.specs.Prelude.{◌≡◌, ◌≤◌};
-ghost use Rattle.edge_expression.specs.ByteMachine.{decimal_step, is_decimal, next_letter, with_letter, further, at_operand, at_start, behind_factor, behind_part, behind_epsilon, behind_caret, behind_letter, next, opened, step, is_whole, may_end};
+ghost use Rattle.edge_expression.specs.ByteMachine.{next_letter, with_letter, further, at_operand, at_start, behind_factor, behind_part, behind_epsilon, behind_caret, behind_letter, next, opened, step, is_whole, may_end};
 
 use crate::byte_class::{Class, class_of};
-
-/// What was read of a decimal.
-#[derive(Clone, Copy)]
-pub enum Part {
-    /// Nothing.
-    Start,
-    /// Digits.
-    Whole,
-    /// A point with no digit before it.
-    Point,
-    /// A point, with a digit before or behind it.
-    Fraction,
-    /// The mark of the exponent.
-    Mark,
-    /// The sign of the exponent.
-    MarkSigned,
-    /// Digits of the exponent.
-    Exponent,
-}
-
-/// What was read of a decimal with one byte more, or nothing where no decimal begins so.
-pub fn decimal_step(part: Part, class: Class) -> Option<Part>
-    ensures { result ≡ decimal_step part class }
-{
-    match (part, class) {
-        (Part::Start | Part::Whole, Class::Digit) => Some(Part::Whole),
-        (Part::Start, Class::Point) => Some(Part::Point),
-        (Part::Whole, Class::Point) => Some(Part::Fraction),
-        (Part::Point | Part::Fraction, Class::Digit) => Some(Part::Fraction),
-        (Part::Whole | Part::Fraction, Class::Mark) => Some(Part::Mark),
-        (Part::Mark, Class::Sign) => Some(Part::MarkSigned),
-        (Part::Mark | Part::MarkSigned | Part::Exponent, Class::Digit) => Some(Part::Exponent),
-        _ => None,
-    }
-}
-
-/// A decimal may end here.
-pub fn is_decimal(part: Part) -> bool
-    ensures { result ≡ is_decimal part }
-{
-    matches!(part, Part::Whole | Part::Fraction | Part::Exponent)
-}
+use fraction::DecimalPart;
 
 /// The last byte that was read of `\epsilon`.
 #[derive(Clone, Copy)]
@@ -66,7 +25,7 @@ pub enum State {
     /// What a factor must follow.
     Operand,
     /// Part of a decimal.
-    Decimal(Part),
+    Decimal(DecimalPart),
     /// Part of the word `\epsilon`.
     Word(Letter),
     /// The word `\epsilon`.
@@ -126,25 +85,24 @@ fn further(class: Class) -> Option<State>
 }
 
 /// What was read with a byte where a factor must follow.
-fn at_operand(class: Class) -> Option<State>
-    ensures { result ≡ at_operand class }
+fn at_operand(byte: u8) -> Option<State>
+    ensures { result ≡ at_operand byte }
 {
-    match class {
-        Class::Blank => Some(State::Operand),
-        Class::Digit => Some(State::Decimal(Part::Whole)),
-        Class::Point => Some(State::Decimal(Part::Point)),
-        _ => further(class),
+    match (DecimalPart::Start.step(byte), class_of(byte)) {
+        (Some(part), _) => Some(State::Decimal(part)),
+        (None, Class::Blank) => Some(State::Operand),
+        (None, class) => further(class),
     }
 }
 
 /// What was read with a byte where a sum begins.
-fn at_start(class: Class) -> Option<State>
-    ensures { result ≡ at_start class }
+fn at_start(byte: u8) -> Option<State>
+    ensures { result ≡ at_start byte }
 {
-    match class {
+    match class_of(byte) {
         Class::Blank => Some(State::Start),
         Class::Sign => Some(State::Operand),
-        _ => at_operand(class),
+        _ => at_operand(byte),
     }
 }
 
@@ -160,18 +118,13 @@ fn behind_factor(class: Class) -> Option<State>
 }
 
 /// What was read with a byte behind part of a decimal.
-fn behind_part(part: Part, class: Class) -> Option<State>
-    ensures { result ≡ behind_part part class }
+fn behind_part(part: DecimalPart, byte: u8) -> Option<State>
+    ensures { result ≡ behind_part part byte }
 {
-    match decimal_step(part, class) {
+    match part.step(byte) {
         Some(longer) => Some(State::Decimal(longer)),
-        None => {
-            if is_decimal(part) {
-                behind_factor(class)
-            } else {
-                None
-            }
-        }
+        None if part.may_end() => behind_factor(class_of(byte)),
+        None => None,
     }
 }
 
@@ -212,15 +165,14 @@ fn behind_letter(letter: Letter, byte: u8) -> Option<State>
 fn next(state: State, byte: u8) -> Option<State>
     ensures { result ≡ next state byte }
 {
-    let class = class_of(byte);
     match state {
-        State::Start => at_start(class),
-        State::Operand => at_operand(class),
-        State::Decimal(part) => behind_part(part, class),
+        State::Start => at_start(byte),
+        State::Operand => at_operand(byte),
+        State::Decimal(part) => behind_part(part, byte),
         State::Word(letter) => behind_letter(letter, byte),
-        State::Epsilon => behind_epsilon(class),
-        State::Caret => behind_caret(class),
-        State::Factor => behind_factor(class),
+        State::Epsilon => behind_epsilon(class_of(byte)),
+        State::Caret => behind_caret(class_of(byte)),
+        State::Factor => behind_factor(class_of(byte)),
     }
 }
 
@@ -253,7 +205,7 @@ fn is_whole(state: State) -> bool
 {
     match state {
         State::Factor | State::Epsilon => true,
-        State::Decimal(part) => is_decimal(part),
+        State::Decimal(part) => part.may_end(),
         _ => false,
     }
 }

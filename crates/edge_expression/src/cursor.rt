@@ -1,12 +1,11 @@
 //! What is left of an edge expression, token by token. Each call takes the blanks before what it takes.
-ghost use Rattle.std.specs.Prelude.{◌≡◌, ◌≤◌, [], ◌∷◌, length, MatchOption};
+ghost use Rattle.std.specs.Prelude.{◌≡◌, [], ◌∷◌, MatchOption};
 ghost use Rattle.std.specs.Bool.{MatchBool};
 ghost use Rattle.text_lines.specs.Words.{after_blanks};
-ghost use Rattle.edge_expression.specs.CursorView.{decimal_length, IsOtherThan, SignTaken, JointTaken, HeadTaken, PowerTaken, CloseTaken};
+ghost use Rattle.edge_expression.specs.CursorView.{IsOtherThan, SignTaken, JointTaken, HeadTaken, PowerTaken, CloseTaken};
 
-use crate::byte_class::class_of;
-use crate::byte_machine::{Part, decimal_step};
 use crate::polynomial::Operation;
+use fraction::decimal_len;
 use text_lines::after_blanks;
 
 /// What is left of an edge expression.
@@ -24,21 +23,6 @@ pub enum Head<'a> {
     Epsilon,
     /// An opening parenthesis.
     Open,
-}
-
-/// How many bytes of a text may begin a decimal.
-fn decimal_len(text: &[u8]) -> usize
-    ensures value { result ≡ decimal_length text.now }
-    ensures within { result ≤ length text.now }
-{
-    let mut part = Part::Start;
-    for at in 0..text.len() {
-        match decimal_step(part, class_of(text[at])) {
-            Some(longer) => part = longer,
-            None => return at,
-        }
-    }
-    text.len()
 }
 
 impl<'a> Cursor<'a> {

@@ -2,31 +2,31 @@
 ghost use Rattle.std.specs.Prelude.{◌≡◌, ◌≤◌, [], map, length, IfOk};
 ghost use Rattle.fraction.specs.Numeral.{body_text};
 ghost use Rattle.field_core.specs.View.{terms};
-ghost use Rattle.edge_expression.specs.Expressions.{Decimal, Expression, Spells};
-ghost use Rattle.edge_expression.specs.EntryValues.{decimal_value, value};
+ghost use Rattle.fraction.specs.Decimals.{Decimal, decimal_value};
+ghost use Rattle.edge_expression.specs.Expressions.{Expression, Spells};
+ghost use Rattle.edge_expression.specs.EntryValues.{decimal_entry, value};
 ghost use Rattle.edge_expression.specs.EntryView.{map_value, polynomial_terms};
 ghost use Rattle.edge_expression.specs.CursorView.{SumGives, ProductGives, FactorGives};
 
-use crate::ExprFault;
 use crate::cursor::{Cursor, Head};
 use crate::polynomial::{Operation, Polynomial};
 use crate::short::Short;
+use crate::value_fault::ValueFault;
 use case_model::Entry;
 use fraction::Fraction;
 
 /// The value of a decimal.
-fn decimal(text: &[u8]) -> Result<Polynomial, ExprFault>
-    ensures { (d : Decimal) → text.now ≡ body_text d.body → map_value polynomial_terms result ≡ decimal_value d }
+fn decimal(text: &[u8]) -> Result<Polynomial, ValueFault>
+    ensures { (d : Decimal) → text.now ≡ body_text d.body → map_value polynomial_terms result ≡ decimal_entry (decimal_value d) }
 {
-    match Fraction::parse(text) {
-        Ok(value) => Ok(Polynomial::constant(&Short::of(value)?)),
-        Err(_) => Err(ExprFault::Part),
-    }
+    let value = Fraction::parse_decimal(text).ok_or(ValueFault::Part)?;
+    let short = Short::of(value)?;
+    Ok(Polynomial::constant(&short))
 }
 
 /// The value of a sum, which the cursor takes.
 #[cycle(evaluate)]
-fn sum(cursor: &mut Cursor) -> Result<Polynomial, ExprFault>
+fn sum(cursor: &mut Cursor) -> Result<Polynomial, ValueFault>
     ensures value { SumGives cursor.old.rest.now result cursor.new.rest.now }
     ensures shorter { IfOk result (λ _. length cursor.new.rest.now ≤ length cursor.old.rest.now) }
 {
@@ -42,7 +42,7 @@ fn sum(cursor: &mut Cursor) -> Result<Polynomial, ExprFault>
 
 /// The value of a product, which the cursor takes.
 #[cycle(evaluate)]
-fn product(cursor: &mut Cursor) -> Result<Polynomial, ExprFault>
+fn product(cursor: &mut Cursor) -> Result<Polynomial, ValueFault>
     ensures value { ProductGives cursor.old.rest.now result cursor.new.rest.now }
     ensures shorter { IfOk result (λ _. length cursor.new.rest.now ≤ length cursor.old.rest.now) }
 {
@@ -58,7 +58,7 @@ fn product(cursor: &mut Cursor) -> Result<Polynomial, ExprFault>
 
 /// The value of a factor, whose front is taken and whose rest the cursor takes.
 #[cycle(evaluate)]
-fn factor(cursor: &mut Cursor, head: Head) -> Result<Polynomial, ExprFault>
+fn factor(cursor: &mut Cursor, head: Head) -> Result<Polynomial, ValueFault>
     ensures value { FactorGives head.entry cursor.old.rest.now result cursor.new.rest.now }
     ensures shorter { IfOk result (λ _. length cursor.new.rest.now ≤ length cursor.old.rest.now) }
 {
@@ -74,7 +74,7 @@ fn factor(cursor: &mut Cursor, head: Head) -> Result<Polynomial, ExprFault>
 }
 
 /// What an edge expression is worth.
-pub fn worth(text: &[u8]) -> Result<Entry, ExprFault>
+pub fn worth(text: &[u8]) -> Result<Entry, ValueFault>
     ensures { (e : Expression) → Spells text.now e → map_value (map terms) result ≡ value e }
 {
     let mut cursor = Cursor::new(text);

@@ -1,17 +1,11 @@
 //! Laws of edge expressions: what they mean, and that the texts of entries are expressions of these entries.
-ghost use Rattle.edge_expression.specs.ExpressionStatements.{EntriesAreMeant, DecimalsHaveTheLimitOfNumerals, EntryTextsReadBack};
+ghost use Rattle.edge_expression.specs.ExpressionStatements.{EntriesAreMeant, EntryTextsReadBack};
 
 /// An entry is the number that its expression means: the sum, the product and the quotient of numbers and of powers of
 /// epsilon.
 #[tactic(auto, using(crate::proofs::EntryMeanings::entry_is_meant))]
 pub fn entries_are_meant()
     ensures { EntriesAreMeant }
-{}
-
-/// The limit of a decimal's digits is that of numerals.
-#[tactic(auto, using(crate::proofs::DecimalLimits::decides_too_many))]
-pub fn decimals_have_the_limit_of_numerals()
-    ensures { DecimalsHaveTheLimitOfNumerals }
 {}
 
 /// The text of an entry with parts of at most 10^18 is an expression of that entry.

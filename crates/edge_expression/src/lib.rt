@@ -12,6 +12,7 @@ mod printing;
 mod reading;
 mod scan;
 mod short;
+mod value_fault;
 
 pub use fault::ExprFault;
 pub use printing::print_entry;

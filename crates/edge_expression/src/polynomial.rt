@@ -7,8 +7,8 @@ ghost use Rattle.case_model.specs.Sums.{terms_at};
 ghost use Rattle.edge_expression.specs.EntryView.{short_terms, map_value, polynomial_terms, coefficient, applied, CanDivide};
 ghost use Rattle.edge_expression.specs.EntryValues.{plain_entry, degree, product_sum, unit_at, power_value, coefficients, times, over};
 
-use crate::ExprFault;
 use crate::short::Short;
+use crate::value_fault::ValueFault;
 use case_model::Entry;
 
 /// The greatest power of an entry.
@@ -59,11 +59,11 @@ impl Polynomial {
 
     /// A power of epsilon.
     #[tactic(auto, unfolding(crate::specs::EntryValues::power_value, crate::specs::EntryValues::coefficients))]
-    pub fn power(power: usize) -> Result<Polynomial, ExprFault>
+    pub fn power(power: usize) -> Result<Polynomial, ValueFault>
         ensures { map_value polynomial_terms result ≡ power_value power }
     {
         if power > GREATEST {
-            return Err(ExprFault::Degree);
+            return Err(ValueFault::Degree);
         }
         Ok(Polynomial::of([
             unit_at(power, 0),
@@ -109,32 +109,32 @@ impl Polynomial {
 
     /// The product with another one.
     #[tactic(auto, unfolding(crate::specs::EntryValues::times))]
-    fn times(&self, other: &Polynomial) -> Result<Polynomial, ExprFault>
+    fn times(&self, other: &Polynomial) -> Result<Polynomial, ValueFault>
         ensures { map_value polynomial_terms result ≡ times (polynomial_terms self.now) (polynomial_terms other.now) }
     {
         if self.degree() + other.degree() > GREATEST {
-            return Err(ExprFault::Degree);
+            return Err(ValueFault::Degree);
         }
         coefficients(Operation::Multiply, self, other)
     }
 
     /// The quotient by another one, which must be a number other than 0.
     #[tactic(auto, unfolding(crate::specs::EntryValues::over))]
-    fn over(&self, other: &Polynomial) -> Result<Polynomial, ExprFault>
+    fn over(&self, other: &Polynomial) -> Result<Polynomial, ValueFault>
         ensures { map_value polynomial_terms result ≡ over (polynomial_terms self.now) (polynomial_terms other.now) }
     {
         if other.degree() > 0 {
-            return Err(ExprFault::DivisorNotNumber);
+            return Err(ValueFault::DivisorNotNumber);
         }
         if other.coefficient(0).is_zero() {
-            return Err(ExprFault::ZeroDivisor);
+            return Err(ValueFault::ZeroDivisor);
         }
         coefficients(Operation::Divide, self, other)
     }
 
     /// The polynomial, added to 0 or taken away from it.
     #[tactic(auto, unfolding(crate::specs::EntryView::applied))]
-    pub fn signed(&self, sign: Operation) -> Result<Polynomial, ExprFault>
+    pub fn signed(&self, sign: Operation) -> Result<Polynomial, ValueFault>
         ensures { map_value polynomial_terms result ≡ applied sign zero_coefficients (polynomial_terms self.now) }
     {
         match sign {
@@ -148,7 +148,7 @@ impl Polynomial {
 
     /// The polynomial with another one added, taken away, multiplied or divided.
     #[tactic(auto, unfolding(crate::specs::EntryView::applied, crate::specs::EntryValues::joined))]
-    pub fn apply(&self, operation: Operation, other: &Polynomial) -> Result<Polynomial, ExprFault>
+    pub fn apply(&self, operation: Operation, other: &Polynomial) -> Result<Polynomial, ValueFault>
         ensures { map_value polynomial_terms result ≡ applied operation (polynomial_terms self.now) (polynomial_terms other.now) }
     {
         match operation {
@@ -171,7 +171,7 @@ fn unit_at(power: usize, at: usize) -> Short
 }
 
 /// The sum of the products that make a power, by ascending power of the first factor.
-fn product_sum(x: &Polynomial, y: &Polynomial, power: usize) -> Result<Short, ExprFault>
+fn product_sum(x: &Polynomial, y: &Polynomial, power: usize) -> Result<Short, ValueFault>
     requires { power ≤ 4 }
     ensures { map_value short_terms result ≡ product_sum (polynomial_terms x.now) (polynomial_terms y.now) power (suc power) }
 {
@@ -189,7 +189,7 @@ fn coefficient(
     x: &Polynomial,
     y: &Polynomial,
     power: usize,
-) -> Result<Short, ExprFault>
+) -> Result<Short, ValueFault>
     requires within { power ≤ 4 }
     requires divisor { CanDivide operation (polynomial_terms y.now) }
     ensures { map_value short_terms result ≡ coefficient operation (polynomial_terms x.now) (polynomial_terms y.now) power }
@@ -208,7 +208,7 @@ fn coefficients(
     operation: Operation,
     x: &Polynomial,
     y: &Polynomial,
-) -> Result<Polynomial, ExprFault>
+) -> Result<Polynomial, ValueFault>
     requires { CanDivide operation (polynomial_terms y.now) }
     ensures { map_value polynomial_terms result ≡ coefficients (coefficient operation (polynomial_terms x.now) (polynomial_terms y.now)) }
 {

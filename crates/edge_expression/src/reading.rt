@@ -22,5 +22,6 @@ pub fn read_entry(text: &[u8]) -> Result<Entry, ExprFault>
     ensures fault { IfErr result (IsExprFault text.now) }
 {
     scan(text)?;
-    worth(text)
+    let entry = worth(text)?;
+    Ok(entry)
 }

@@ -4,7 +4,7 @@ ghost use Rattle.field_core.specs.Kind.{ok_map};
 ghost use Rattle.field_core.specs.View.{terms};
 ghost use Rattle.edge_expression.specs.EntryValues.{is_short};
 
-use crate::ExprFault;
+use crate::value_fault::ValueFault;
 use field_core::{Number, Ratio, TooWide};
 use fraction::Fraction;
 
@@ -44,23 +44,23 @@ impl Short {
 
     /// The same fraction, where its parts are short.
     #[tactic(auto, unfolding(crate::specs::EntryValues::short_of))]
-    pub fn of(value: Fraction) -> Result<Short, ExprFault>
+    pub fn of(value: Fraction) -> Result<Short, ValueFault>
         ensures { map_value short_terms result ≡ short_of (terms value) }
     {
         if value.is_within(LARGEST) {
             Ok(Short { value })
         } else {
-            Err(ExprFault::Part)
+            Err(ValueFault::Part)
         }
     }
 
     /// What an operation made, where its parts are short.
-    fn made(made: Result<Fraction, TooWide>) -> Result<Short, ExprFault>
+    fn made(made: Result<Fraction, TooWide>) -> Result<Short, ValueFault>
         ensures { map_value short_terms result ≡ made_short (ok_map terms made) }
     {
         match made {
             Ok(value) => Short::of(value),
-            Err(_) => Err(ExprFault::Part),
+            Err(_) => Err(ValueFault::Part),
         }
     }
 
@@ -70,25 +70,25 @@ impl Short {
         self.value.is_zero()
     }
 
-    pub fn add(&self, other: &Short) -> Result<Short, ExprFault>
+    pub fn add(&self, other: &Short) -> Result<Short, ValueFault>
         ensures { map_value short_terms result ≡ sum (short_terms self.now) (short_terms other.now) }
     {
         Short::made(self.value.add(&other.value))
     }
 
-    pub fn subtract(&self, other: &Short) -> Result<Short, ExprFault>
+    pub fn subtract(&self, other: &Short) -> Result<Short, ValueFault>
         ensures { map_value short_terms result ≡ difference (short_terms self.now) (short_terms other.now) }
     {
         Short::made(self.value.sub(&other.value))
     }
 
-    pub fn multiply(&self, other: &Short) -> Result<Short, ExprFault>
+    pub fn multiply(&self, other: &Short) -> Result<Short, ValueFault>
         ensures { map_value short_terms result ≡ product (short_terms self.now) (short_terms other.now) }
     {
         Short::made(self.value.mul(&other.value))
     }
 
-    pub fn divide(&self, other: &Short) -> Result<Short, ExprFault>
+    pub fn divide(&self, other: &Short) -> Result<Short, ValueFault>
         requires { is_zero (short_terms other.now) ≡ false }
         ensures { map_value short_terms result ≡ quotient (short_terms self.now) (short_terms other.now) }
     {

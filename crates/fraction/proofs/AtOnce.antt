@@ -1,5 +1,5 @@
 -- Written operations with 0, which need no step.
-use Rattle.std.proofs.Common.{◌≡◌, ℕ, zero, suc, ◌*◌, ◌/◌, ◌<◌, ◌^◌, ℤ, pos, negsuc, ◌+ℤ◌, ◌*ℤ◌, ◌<ℤ◌, unsigned_abs, int_div, neg_ℤ, Option, Some, refl, sym, ◌∙◌, ap, ap₂, subst, arith, inr, inl, lit<}
+use Rattle.std.proofs.Common.{◌≡◌, ℕ, suc, ◌/◌, ◌<◌, ◌^◌, ℤ, pos, negsuc, ◌+ℤ◌, ◌*ℤ◌, ◌<ℤ◌, unsigned_abs, int_div, neg_ℤ, Some, refl, sym, ◌∙◌, ap, arith, inl, lit<}
 use Rattle.std.proofs.lemmas.Int.{ints}
 use Rattle.std.proofs.Math.IntN.{*ℤ_comm}
 use Rattle.std.proofs.Math.Nat.{div-one, zero-div, div_self}
@@ -7,7 +7,7 @@ use Rattle.field_core.specs.Divisor.{gcd}
 use Rattle.field_core.specs.Terms.{Terms, IsReduced}
 use Rattle.fraction.specs.declared.short.ShortRatio.{ShortRatio}
 use Rattle.fraction.specs.Short.{short_terms}
-use Rattle.field_core.specs.Sized.{sized, gcd_of}
+use Rattle.field_core.specs.Sized.{gcd_of}
 use Rattle.field_core.proofs.Sized.{sized_small}
 use Rattle.field_core.proofs.Stein.{gcd_of_zero, gcd_by_one, gcd_with_one}
 use Rattle.fraction.specs.Written.{written_mul, written_add}

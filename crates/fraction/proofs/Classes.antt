@@ -3,9 +3,9 @@ use Rattle.std.proofs.Common.{◌≡◌, ℕ, ◌≤◌, ◌⊎◌, ◌||◌, tr
 use Rattle.std.specs.Char.{is_ascii_digit}
 use Rattle.std.proofs.lemmas.Bool.{cond_both, or_cases, eqb-true}
 use Rattle.std.proofs.lemmas.Bool.Decides.{nat_tests}
-use Rattle.fraction.specs.declared.machine.Class.{Class}
-use Rattle.fraction.specs.declared.machine.Class.TheVariants as classes
-use Rattle.fraction.specs.Machine.{class_of}
+use Rattle.fraction.specs.declared.byte_class.Class.{Class}
+use Rattle.fraction.specs.declared.byte_class.Class.TheVariants as classes
+use Rattle.fraction.specs.DecimalMachine.{class_of}
 
 abbrev pub IsOf : Class → ℕ → Type 0
 IsOf classes.Digit b = (48 ≤ b) × (b ≤ 57)

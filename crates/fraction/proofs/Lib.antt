@@ -3,6 +3,10 @@ pub mod AtOnce
 pub mod Bodies
 pub mod Classes
 pub mod Cut
+pub mod DecimalLengths
+pub mod DecimalLimits
+pub mod DecimalTexts
+pub mod DecimalValues
 pub mod DigitNumbers
 pub mod LowestTerms
 pub mod Numerals

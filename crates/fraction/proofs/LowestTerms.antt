@@ -1,22 +1,22 @@
 -- Quotients by the greatest common divisor.
-use Rattle.std.proofs.Common.{◌≡◌, ◌≢◌, ℕ, zero, suc, ◌-◌, ◌*◌, ◌/◌, ◌<◌, ◌≤◌, ◌^◌, ◌⊎◌, inl, inr, Bool, true, false, refl, sym, ap, ◌∙◌, arith, ℤ, pos, negsuc, neg_ℤ, ◌*ℤ◌, unsigned_abs, FitsSigned, to_z, of_z, Result, Ok, Err}
-use Rattle.std.proofs.lemmas.Bool.{le-ltb}
+use Rattle.std.proofs.Common.{◌≡◌, ◌≢◌, ℕ, zero, suc, ◌-◌, ◌*◌, ◌/◌, ◌<◌, ◌≤◌, ◌^◌, ◌⊎◌, inl, inr, Bool, true, false, refl, sym, ap, ◌∙◌, arith, ℤ, pos, negsuc, neg_ℤ, ◌*ℤ◌, ◌<ℤ◌, unsigned_abs, FitsSigned, to_z, of_z, Result, Ok, Err}
 use Rattle.std.proofs.lemmas.Int.{ints, to_z-of_z}
 use Rattle.std.proofs.Math.Nat.{div-le_self, pos_of_dvd_of_pos, mul_comm, div-mul_cancel}
 use Rattle.std.proofs.Math.IntN.{*ℤ_comm}
 use Rattle.std.specs.Int.{w128, is_negative}
 use mathlib.Core.Bool.{not, beq}
 use Rattle.field_core.specs.Divisor.{gcd}
-use Rattle.field_core.specs.Terms.{Terms}
+use Rattle.field_core.specs.Terms.{Terms, IsReduced}
 use Rattle.field_core.specs.Fractions.{fraction}
 use Rattle.field_core.specs.Laws.FractionLaws.{fraction-equal}
 use Rattle.field_core.specs.View.{terms}
 use Rattle.field_core.specs.declared.ratio.Ratio.{Ratio}
 use Rattle.fraction.specs.declared.fault.FractionFault.{FractionFault}
 use Rattle.fraction.specs.declared.fault.FractionFault.TheVariants.{ZeroDenominator, TooWide}
-use Rattle.fraction.specs.Numeral.{with_sign}
+use Rattle.fraction.specs.Numeral.{Same, with_sign}
 use Rattle.fraction.specs.Lowest.{lowest_of, differ, lowest_terms, HasWidePart, IsLowest}
 use Rattle.field_core.proofs.Wholes.{size_negated, not_negative, neg_times}
+use Rattle.fraction.specs.Laws.Unique.{AreLowest, lowest_from, lowest_unique, same_through}
 use Rattle.field_core.proofs.Divisors.{gcd_is}
 use Rattle.field_core.proofs.Coprime.{gcd_bounds, gcd_from_apart, quotients_apart, quotient_divides}
 
@@ -125,6 +125,23 @@ lowest_cross n d =
     ap (λ z. with_sign (differ (is_negative n) (is_negative d)) (unsigned_abs n / gcd (unsigned_abs n) (unsigned_abs d)) *ℤ z) (sign_is d)
     ∙ signed_cross (is_negative n) (is_negative d) _ _ (unsigned_abs n) (unsigned_abs d) (cross_divided (unsigned_abs n) (unsigned_abs d))
     ∙ ap (λ z. z *ℤ pos (unsigned_abs d / gcd (unsigned_abs n) (unsigned_abs d))) (sym (sign_is n))
+
+size_some : (d : ℤ) → d ≢ pos 0 → 0 < unsigned_abs d
+size_some d h = omega (arith, ints, h)
+
+pub lowest_are : (n d : ℤ) → d ≢ pos 0 → AreLowest (lowest_terms n d)
+unfolding lowest_terms lowest_of
+lowest_are n d some =
+    let both = (divided (unsigned_abs n) (unsigned_abs d) (size_some d some)).1 in
+    record {
+      positive = (let p = both.some in omega (arith, ints));
+      apart = ap (λ k. gcd k (unsigned_abs d / gcd (unsigned_abs n) (unsigned_abs d))) (abs_sign (differ (is_negative n) (is_negative d)) (unsigned_abs n / gcd (unsigned_abs n) (unsigned_abs d))) ∙ both.apart;
+    }
+
+-- the lowest terms of any quotient with the value of a fraction are that fraction
+pub lowest_any : (t : Terms) (n d : ℤ) → IsReduced t → d ≢ pos 0 → Same t (record { num = n; den = d }) → lowest_terms n d ≡ t
+lowest_any t n d r some h =
+    lowest_unique (lowest_terms n d) t (lowest_are n d some) (lowest_from t r) (same_through (lowest_terms n d) t (record { num = n; den = d }) some (lowest_cross n d) h)
 
 -- ---- what a quotient says
 

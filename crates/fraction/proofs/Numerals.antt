@@ -7,7 +7,7 @@ use Rattle.field_core.specs.Terms.{Terms, IsReduced}
 use Rattle.field_core.specs.Kind.{ok_map}
 use Rattle.fraction.specs.declared.fault.NumberFault.{NumberFault}
 use Rattle.fraction.specs.declared.fault.NumberFault.TheVariants.{Empty, BadByte, ZeroDenominator, TooManyDigits}
-use Rattle.fraction.specs.declared.machine.State.TheVariants.{Start}
+use Rattle.fraction.specs.declared.numeral_machine.State.TheVariants.{Start}
 use Rattle.fraction.specs.declared.size.Size.{Size}
 use Rattle.fraction.specs.Numeral.{AreDigits, exponent_of, Body, Plain, Pointed, Pair, IsBody, is_minus, without_leading_zeros, trailing_zeros, PassesLimit, IsTooLong, IsNumeral, IsNumeralOf, IsParseFault}
 use Rattle.fraction.specs.Checking.{IsChecked}

@@ -7,7 +7,7 @@ use Rattle.field_core.specs.View.{terms}
 use Rattle.field_core.specs.Laws.Effective.{positive_nonzero, fraction-cross}
 use Rattle.field_core.specs.declared.ratio.Ratio.{Ratio}
 use Rattle.fraction.specs.View.{number_of}
-use Rattle.fraction.specs.Laws.Order.{reduced_unique}
+use Rattle.fraction.specs.Laws.Unique.{reduced_unique}
 
 reduced_is_fact : (t : Terms) → IsProp (IsReduced t)
 reduced_is_fact t = hlevel props

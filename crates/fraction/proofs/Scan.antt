@@ -3,13 +3,16 @@ use Rattle.std.proofs.Common.{◌≡◌, ℕ, ◌+◌, ◌<◌, ◌≤◌, true,
 use Rattle.std.proofs.lemmas.List.{drop_more, drop_all}
 use Rattle.field_core.proofs.Longest.{accepts_then, count, count_then, count_nil, count_cons, stops_behind}
 use Rattle.fraction.specs.declared.fault.NumberFault.TheVariants.{Empty, BadByte}
-use Rattle.fraction.specs.declared.machine.State.{State}
-use Rattle.fraction.specs.declared.machine.State.TheVariants.{Start, Signed, Whole, Point, Fraction, Mark, MarkSigned, Exponent, Slash, Under}
-use Rattle.fraction.specs.Machine.{class_of, step, byte_step, is_final}
+use Rattle.fraction.specs.declared.numeral_machine.State.{State}
+use Rattle.fraction.specs.declared.numeral_machine.State.TheVariants.{Start, Decimal, Slash, Under}
+use Rattle.fraction.specs.DecimalMachine.{class_of}
+use Rattle.fraction.specs.NumeralMachine.{step, byte_step, is_final}
 use Rattle.fraction.specs.Numeral.{IsNumeral}
 use Rattle.fraction.specs.Prefixes.{IsBadByte}
 use Rattle.fraction.specs.Checking.{IsChecked}
-use Rattle.fraction.proofs.Accepted.{reads, reads_nil, reads_cons, accepted}
+use Rattle.fraction.specs.declared.decimal_machine.DecimalPart.TheVariants as parts
+use Rattle.fraction.proofs.DecimalLengths.{completion, completes}
+use Rattle.fraction.proofs.Accepted.{reads, reads_nil, reads_cons, goes_on, accepted}
 use Rattle.fraction.proofs.Read.{is_numeral}
 
 -- how many bytes of t may follow in a state
@@ -35,32 +38,24 @@ pub reached_end : (text : List ℕ) (n : ℕ) (s : State) → length text ≤ n 
 reached_end text n s h = ap (λ (x : List ℕ). reached x s) (drop_all n text h) ∙ count_nil byte_step is_final s
 
 -- how a numeral may end of which so much was read
-completion : State → List ℕ
-completion Whole = []
-completion Fraction = []
-completion Exponent = []
-completion Under = []
-completion state = 48 ∷ []
+completion_from : State → List ℕ
+completion_from (Decimal part) = completion part
+completion_from Under = []
+completion_from state = 48 ∷ []
 
 digit_completes : (s : State) → accepts_then (reads []) (step s (class_of 48)) ≡ true → reads (48 ∷ []) s ≡ true
 digit_completes s h = reads_cons 48 [] s ∙ h
 
-completes : (s : State) → reads (completion s) s ≡ true
-unfolding completion class_of
-completes Start = digit_completes Start (reads_nil Whole)
-completes Signed = digit_completes Signed (reads_nil Whole)
-completes Whole = reads_nil Whole
-completes Point = digit_completes Point (reads_nil Fraction)
-completes Fraction = reads_nil Fraction
-completes Mark = digit_completes Mark (reads_nil Exponent)
-completes MarkSigned = digit_completes MarkSigned (reads_nil Exponent)
-completes Exponent = reads_nil Exponent
-completes Slash = digit_completes Slash (reads_nil Under)
-completes Under = reads_nil Under
+completes_from : (s : State) → reads (completion_from s) s ≡ true
+unfolding completion_from class_of
+completes_from Start = digit_completes Start (reads_nil (Decimal parts.Whole))
+completes_from (Decimal part) = goes_on (completion part) part (completes part)
+completes_from Slash = digit_completes Slash (reads_nil Under)
+completes_from Under = reads_nil Under
 
 bad_byte : (t : List ℕ) → reads t Start ≡ false → IsBadByte IsNumeral t (reached t Start)
 bad_byte t h =
-    let l = stops_behind byte_step is_final completion completes IsNumeral Start accepted is_numeral t in
+    let l = stops_behind byte_step is_final completion_from completes_from IsNumeral Start accepted is_numeral t in
     record {
       refused = λ n. let e = sym (accepted t n) ∙ h in cc;
       within = l.within;

@@ -1,28 +1,18 @@
 -- A text has at most one reading.
-use Rattle.std.proofs.Common.{◌≡◌, ℕ, ◌⊎◌, inl, inr, List, [], ◌∷◌, ◌++◌, length, ℤ, pos, negsuc, ◌*ℤ◌, ◌-ℤ◌, ◌<ℤ◌, Option, Some, None, refl, sym, ap, ap₂, subst, ◌∙◌, arith}
+use Rattle.std.proofs.Common.{◌≡◌, ℕ, ◌⊎◌, inl, inr, List, [], ◌∷◌, ◌++◌, length, ℤ, pos, negsuc, ◌-ℤ◌, ◌<ℤ◌, Option, Some, None, refl, sym, ap, ap₂, subst, ◌∙◌, arith}
 use Rattle.std.specs.Str.Parse.{digits_value}
 use Rattle.std.proofs.lemmas.Int.{ints}
 use Rattle.field_core.specs.Terms.{Terms}
-use Rattle.field_core.proofs.IntegerRing.{ring, *ℤ_cancel}
+use Rattle.field_core.specs.Laws.Effective.{positive_nonzero}
 use Rattle.fraction.specs.declared.fault.NumberFault.{NumberFault}
 use Rattle.fraction.specs.declared.fault.NumberFault.TheVariants.{Empty, BadByte, ZeroDenominator, TooManyDigits}
 use Rattle.fraction.specs.Numeral.{AreDigits, sign_text, IsSign, is_minus, Exponent, exponent_text, IsExponent, exponent_of, Body, Plain, Pointed, Pair, body_text, IsBody, IsNumeral, over_power, value_of, HasZeroDenominator, HasTooManyDigits, IsNumeralOf, IsParseFault, Same}
 use Rattle.field_core.proofs.Heads.{heads}
-use Rattle.fraction.specs.Laws.Order.{reduced_unique}
+use Rattle.fraction.specs.Laws.Unique.{reduced_unique, same_through}
 use Rattle.fraction.specs.Prefixes.{IsBadByte}
 use Rattle.fraction.proofs.Cut.{front_of, rest_of, cut_at, body_cut, exponent_no_digit, exponent_apart}
 use Rattle.fraction.proofs.DigitNumbers.{power_some}
 use Rattle.fraction.proofs.SignedTexts.{numeral_split}
-
--- ---- fractions in lowest terms
-
--- two values that are equal to a third
-pub same_through : (x y v : Terms) → pos 0 <ℤ v.den → Same x v → Same y v → Same x y
-same_through x y v some h k =
-    let left : (x.num *ℤ y.den) *ℤ v.den ≡ (x.num *ℤ v.den) *ℤ y.den = simp ring in
-    let right : (y.num *ℤ x.den) *ℤ v.den ≡ (y.num *ℤ v.den) *ℤ x.den = simp ring in
-    let middle : (v.num *ℤ x.den) *ℤ y.den ≡ (v.num *ℤ y.den) *ℤ x.den = simp ring in
-    *ℤ_cancel (x.num *ℤ y.den) (y.num *ℤ x.den) v.den some (left ∙ ap (λ z. z *ℤ y.den) h ∙ middle ∙ sym (ap (λ z. z *ℤ x.den) k) ∙ sym right)
 
 -- ---- the parts of a text
 
@@ -94,7 +84,7 @@ power_positive : (n : ℤ) (s : ℤ) → pos 0 <ℤ (over_power n s).den
 power_positive n (pos s) = let p = power_some s in omega (arith, ints)
 power_positive n (negsuc s) = omega (arith, ints)
 
-value_positive : (s : Option ℕ) (b : Body) → ¬ HasZeroDenominator b → pos 0 <ℤ (value_of s b).den
+pub value_positive : (s : Option ℕ) (b : Body) → ¬ HasZeroDenominator b → pos 0 <ℤ (value_of s b).den
 unfolding value_of HasZeroDenominator
 value_positive s (Plain a e) h = power_positive _ (pos 0 -ℤ exponent_of e)
 value_positive s (Pointed a b e) h = power_positive _ (pos (length b) -ℤ exponent_of e)
@@ -103,7 +93,7 @@ value_positive s (Pair a b) h = let some : ¬ (digits_value 10 b ≡ 0) = h in o
 pub one_value : (text : List ℕ) (t u : Terms) → IsNumeralOf text t → IsNumeralOf text u → t ≡ u
 one_value text t u h k =
     let other : Same u (value_of h.numeral.sign h.numeral.body) = subst (λ v. Same u v) (value_unique text k.numeral h.numeral) k.same in
-    reduced_unique t u h.lowest k.lowest (same_through t u (value_of h.numeral.sign h.numeral.body) (value_positive h.numeral.sign h.numeral.body h.defined) h.same other)
+    reduced_unique t u h.lowest k.lowest (same_through t u (value_of h.numeral.sign h.numeral.body) (positive_nonzero _ (value_positive h.numeral.sign h.numeral.body h.defined)) h.same other)
 
 body_some : (body : Body) → IsBody body → ¬ (body_text body ≡ [])
 body_some (Plain [] e) h q = omega (arith, h.1)

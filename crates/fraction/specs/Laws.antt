@@ -6,4 +6,5 @@ pub mod PlainLaws
 pub mod PlainLimits
 pub mod Reduced
 pub mod Turned
+pub mod Unique
 pub mod WrittenLaws

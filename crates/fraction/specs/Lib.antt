@@ -1,8 +1,10 @@
 pub mod Checking
+pub mod DecimalMachine
+pub mod Decimals
 pub mod Laws
 pub mod Lowest
-pub mod Machine
 pub mod Numeral
+pub mod NumeralMachine
 pub mod Plain
 pub mod Prefixes
 pub mod Reading

@@ -1,7 +1,9 @@
+//! Whether a text is a numeral.
 ghost use Rattle.fraction.specs.Checking.{IsChecked};
 
 use crate::NumberFault;
-use crate::machine::{State, class_of, is_final, step};
+use crate::byte_class::class_of;
+use crate::numeral_machine::{State, is_final, step};
 
 /// Whether a text is a numeral, or else why not.
 pub fn check(text: &[u8]) -> Result<(), NumberFault>

@@ -1,3 +1,4 @@
+//! Why there is no fraction.
 /// Why two whole numbers make no fraction.
 #[derive(Clone, Copy, PartialEq, Eq, Debug)]
 pub enum FractionFault {

@@ -1,3 +1,4 @@
+//! Fractions, as a kind of numbers.
 ghost use Rattle.std.specs.Prelude.{◌≡◌};
 ghost use Rattle.fraction.specs.Plain.{plain, IsFraction, fraction_parts, fraction_stored};
 ghost use Rattle.fraction.specs.Laws.PlainLaws.{plain_is_exact};
@@ -146,7 +147,9 @@ impl Fraction {
     ghost use Rattle.field_core.specs.View.{terms};
     ghost use Rattle.fraction.specs.View.{terms_of, number_of};
     ghost use Rattle.fraction.specs.Lowest.{lowest_terms, HasWidePart};
-    ghost use Rattle.fraction.specs.Numeral.{IsNumeralOf, IsParseFault};
+    ghost use Rattle.std.specs.Option.{option_map};
+    ghost use Rattle.fraction.specs.Decimals.{Decimal, decimal_value};
+    ghost use Rattle.fraction.specs.Numeral.{IsNumeralOf, IsParseFault, body_text};
     ghost use Rattle.fraction.specs.Spelling.{spelling};
     ghost use Rattle.fraction.specs.Tests.{is_zero, is_one, is_within, absolute};
 
@@ -171,6 +174,13 @@ impl Fraction {
     {
         let ratio = read(text)?;
         Ok(Fraction { ratio })
+    }
+
+    /// The value of a text that is a decimal, or nothing where it has too many digits.
+    pub fn parse_decimal(text: &[u8]) -> Option<Fraction>
+        ensures { (d : Decimal) → text.now ≡ body_text d.body → option_map terms_of result ≡ decimal_value d }
+    {
+        Fraction::parse(text).ok()
     }
 
     /// Appends the fraction as a text: `n` where the denominator is 1, else `n/d`. Where memory runs out, `out` stays as it

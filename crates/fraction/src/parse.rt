@@ -1,3 +1,4 @@
+//! The reading of a numeral.
 ghost use Rattle.fraction.specs.Reading.{IsRead};
 
 use crate::NumberFault;

@@ -1,3 +1,4 @@
+//! Powers of ten, by their exponents.
 ghost use Rattle.std.specs.Prelude.{◌≤◌, ◌^◌};
 
 /// How many times a number is multiplied by ten, and how many times it is divided.

@@ -1,5 +1,5 @@
 use crate::vectors::{ADD, COMPARE, DIV, MUL, SUB, Terms};
-use crate::{Fraction, FractionFault, NumberFault};
+use crate::{Fraction, FractionFault, NumberFault, decimal_len};
 use field_core::{List, Number, TooWide};
 use std::cmp::Ordering;
 use std::test::Fail;
@@ -318,5 +318,18 @@ fn a_fraction_is_a_number(rt: HostRuntime) -> Result<(), Fail> {
     assert_eq!(rt; terms(&Fraction::one()), (1, 1));
     assert_eq!(rt; half.sign(), Ordering::Greater);
     assert_eq!(rt; terms(&Fraction::of(half.ratio())), (1, 2));
+    Ok(())
+}
+
+#[test]
+fn decimals_end_where_no_decimal_goes_on(rt: HostRuntime) -> Result<(), Fail> {
+    assert_eq!(rt; decimal_len(b"1.5e+2x"), 6);
+    assert_eq!(rt; decimal_len(b"12/7"), 2);
+    assert_eq!(rt; decimal_len(b"-1"), 0);
+    assert_eq!(rt;
+        Fraction::parse_decimal(b"1.5e1"),
+        Fraction::new(15, 1).ok()
+    );
+    assert_eq!(rt; Fraction::parse_decimal(b"1e38"), None);
     Ok(())
 }

@@ -1,16 +1,10 @@
 -- The order of fractions by value, and that it is one.
-use Rattle.std.proofs.Common.{◌≡◌, refl, sym, ap, ap₂, subst, ◌∙◌, ℤ, pos, ◌*ℤ◌, ◌<ℤ◌, Bool, true, false, ◌&&◌, unsigned_abs, ◌*◌, arith}
-use Rattle.std.proofs.lemmas.Int.{ints, unsigned_abs-mul}
-use Rattle.std.proofs.lemmas.Nat.Gcd.{dvd_antisymm}
-use Rattle.std.proofs.Math.Nat.{dvd-mul_left}
-use Rattle.std.specs.Int.{◌∣◌}
+use Rattle.std.proofs.Common.{◌≡◌, refl, sym, ap, ap₂, subst, ◌∙◌, ℤ, ◌*ℤ◌, Bool, true, false, ◌&&◌}
 use Rattle.std.specs.Cmp.{IsTotalOrder, IsPartialOrder, both_ways, Equal-is, partial_order_from_agreeing_total}
 use Rattle.std.specs.Ordering.{int_cmp, int_eq, is_eq, eq_by_cmp, as_partial_cmp}
 use Rattle.std.specs.declared.cmp.Ordering.{Ordering}
 use Rattle.std.specs.declared.cmp.Ordering.TheVariants.{Equal}
 use Rattle.std.proofs.lemmas.Cmp.{on_total, int_ranked, int_cmp_total, tied_itself}
-use Rattle.field_core.specs.Divisor.{gcd}
-use Rattle.field_core.specs.Terms.{Terms, IsReduced}
 use Rattle.field_core.specs.View.{terms}
 use Rattle.field_core.specs.Number.{Number}
 use Rattle.field_core.specs.Arithmetic.{number_compare}
@@ -18,36 +12,7 @@ use Rattle.field_core.specs.Fractions.{fraction}
 use Rattle.field_core.specs.Laws.FieldLaws.{number_is_field}
 use Rattle.field_core.specs.Laws.Effective.{fraction-compare, fraction-cross, positive_nonzero}
 use Rattle.field_core.specs.declared.ratio.Ratio.{Ratio}
-use Rattle.field_core.proofs.Coprime.{apart_from_gcd, divides_other}
-use Rattle.field_core.proofs.IntegerRing.{*ℤ_cancel}
-use Rattle.field_core.proofs.Wholes.{same_by_size}
-use Rattle.fraction.specs.Numeral.{Same}
-
--- ---- one value has one pair of lowest terms
-
--- lowest terms of any size
-pub record AreLowest (x : Terms) : Type 0 where
-  pub positive : pos 0 <ℤ x.den
-  pub apart : gcd (unsigned_abs x.num) (unsigned_abs x.den) ≡ 1
-
-abs_cross : (x y : Terms) → Same x y → unsigned_abs x.num * unsigned_abs y.den ≡ unsigned_abs y.num * unsigned_abs x.den
-abs_cross x y h = sym (unsigned_abs-mul x.num y.den) ∙ ap unsigned_abs h ∙ unsigned_abs-mul y.num x.den
-
-den_divides : (x y : Terms) → AreLowest x → Same x y → unsigned_abs x.den ∣ unsigned_abs y.den
-den_divides x y r h =
-    divides_other (unsigned_abs x.den) (unsigned_abs x.num) (unsigned_abs y.den) (apart_from_gcd (unsigned_abs x.num) (unsigned_abs x.den) r.apart) (subst (λ n. unsigned_abs x.den ∣ n) (sym (abs_cross x y h)) (dvd-mul_left (unsigned_abs x.den) (unsigned_abs y.num)))
-
-pub lowest_unique : (x y : Terms) → AreLowest x → AreLowest y → Same x y → x ≡ y
-lowest_unique x y r s h =
-    let den : x.den ≡ y.den = same_by_size x.den y.den r.positive s.positive (dvd_antisymm (den_divides x y r h) (den_divides y x s (sym h))) in
-    let num : x.num ≡ y.num = *ℤ_cancel x.num y.num x.den r.positive (subst (λ d. x.num *ℤ d ≡ y.num *ℤ x.den) (sym den) h) in
-    ap₂ (λ n d. record { num = n; den = d }) num den
-
-pub lowest_from : (x : Terms) → IsReduced x → AreLowest x
-lowest_from x r = record { positive = r.positive; apart = r.reduced }
-
-pub reduced_unique : (x y : Terms) → IsReduced x → IsReduced y → Same x y → x ≡ y
-reduced_unique x y r s h = lowest_unique x y (lowest_from x r) (lowest_from y s) h
+use Rattle.fraction.specs.Laws.Unique.{reduced_unique}
 
 -- ---- the order
 

@@ -8,8 +8,7 @@ use Rattle.field_core.specs.Terms.{Terms, IsReduced}
 use Rattle.fraction.specs.Written.{opposite, inverse, inverse_of}
 use Rattle.fraction.specs.Laws.CrossProducts.{sum_of, product_of}
 use Rattle.fraction.specs.Laws.Turned.{opposite_reduced, inverse_reduced}
-use Rattle.field_core.specs.Laws.Ring.{negate_multiply, multiply_negate, negate_negate}
-use Rattle.field_core.specs.Laws.Integers.{integers, int_negate_multiply}
+use Rattle.field_core.specs.Laws.Integers.{integers, int_negate_multiply, int_multiply_negate, int_negate_negate}
 use Rattle.field_core.specs.Number.{Number}
 use Rattle.field_core.specs.Arithmetic.{number_zero, number_one, number_negate, number_sign, ◌+ε◌, ◌*ε◌, ◌/ε◌, number_compare}
 use Rattle.field_core.specs.Laws.PolynomialLaws.{nonzero-one, int_sign-scale, positive_in}
@@ -49,14 +48,6 @@ opposite_value y r = sym (fraction-negate y.num y.den (some y r))
 one_is : fraction (pos 1) (pos 1) ≡ number_one
 unfolding number_one
 one_is = quotient-pair (pos 1 ∷ []) (pos 1 ∷ []) nonzero-one
-
-int_multiply_negate : (a b : ℤ) → a *ℤ neg_ℤ b ≡ neg_ℤ (a *ℤ b)
-unfolding integers
-int_multiply_negate = multiply_negate integers
-
-int_negate_negate : (a : ℤ) → neg_ℤ (neg_ℤ a) ≡ a
-unfolding integers
-int_negate_negate = negate_negate integers
 
 one_right : (a : ℤ) → a *ℤ pos 1 ≡ a
 unfolding integers

@@ -1,7 +1,7 @@
-use Rattle.std.proofs.Common.{◌≡◌, ℕ, zero, suc, ◌+◌, ◌*◌, ◌/◌, ◌<◌, ◌^◌, refl, arith, ℤ, pos, negsuc, ◌+ℤ◌, ◌*ℤ◌, ◌<ℤ◌, unsigned_abs, Some, int_div, inl, inr, neg_ℤ, ◌⊎◌}
+use Rattle.std.proofs.Common.{◌≡◌, ℕ, suc, ◌+◌, ◌*◌, ◌/◌, ◌<◌, refl, arith, ℤ, pos, negsuc, ◌+ℤ◌, ◌*ℤ◌, unsigned_abs, Some, int_div, inl, inr, ◌⊎◌}
 use Rattle.std.proofs.lemmas.Bool.{cases_lt}
 use Rattle.std.proofs.lemmas.Nat.Gcd.{dvd_refl, dvd_trans}
-use Rattle.std.proofs.Math.Nat.{pos_of_dvd_of_pos, dvd-mul_left_of_dvd, mul-div_assoc, div-mul_cancel, div-le_self, dvd-add_iff_left, dvd-add}
+use Rattle.std.proofs.Math.Nat.{dvd-mul_left_of_dvd, mul-div_assoc, div-mul_cancel, div-le_self, dvd-add_iff_left, dvd-add}
 use Rattle.std.proofs.Math.IntN.{+ℤ_comm}
 use Rattle.field_core.proofs.Sized.{sized_says}
 use Rattle.field_core.proofs.Wholes.{size_quotient, size_positive, quotient_positive}

@@ -1,7 +1,7 @@
-use Rattle.std.proofs.Common.{Ok, map}
+use Rattle.std.proofs.Common.{Ok, ap, map}
 use Rattle.field_core.specs.View.{terms}
 use Rattle.std.proofs.lemmas.Result.{err_from_is_err_and}
-use Rattle.edge_expression.proofs.ReadEntries.{worth_passes, scan_fault, found, fault, only}
+use Rattle.edge_expression.proofs.ReadEntries.{worth_passes, scan_fault, found, fault, only, none}
 use Rattle.edge_expression.proofs.reading.read_entry.Goals as goal
 
 pub returns-in_err-scan-clause-only : goal.returns-in_err-scan-clause-only
@@ -12,11 +12,16 @@ returns-in_err-scan-clause-fault c =
     let p = err_from_is_err_and c.from_residual.result c.from_residual.ensures.1 in
     rw (p.1, p.2) (scan_fault c.args.text.now c.in_err-scan.field-0.0 c.in_err-scan.ensures)
 
+pub returns-in_err-entry-clause-only : goal.returns-in_err-entry-clause-only
+returns-in_err-entry-clause-only c e h = absurd (none c.args.text.now c.in_err-entry.field-0.0 c.in_err-entry.ensures e h)
+
+pub returns-in_err-entry-clause-fault : goal.returns-in_err-entry-clause-fault
+returns-in_err-entry-clause-fault c =
+    let p = err_from_is_err_and c.from_residual-in_err-entry.result c.from_residual-in_err-entry.ensures.1 in
+    rw (p.1, p.2) (fault c.args.text.now c.in_err-entry.field-0.0 c.in_ok-scan.ensures c.in_err-entry.ensures)
+
 pub returns-clause-found : goal.returns-clause-found
-returns-clause-found c = found c.args.text.now c.worth.result c.in_ok-scan.ensures c.worth.ensures
+returns-clause-found c = found c.args.text.now c.in_ok-entry.entry c.in_ok-scan.ensures c.in_ok-entry.ensures
 
 pub returns-clause-only : goal.returns-clause-only
-returns-clause-only c = only c.args.text.now c.worth.result c.worth.ensures
-
-pub returns-clause-fault : goal.returns-clause-fault
-returns-clause-fault c = fault c.args.text.now c.worth.result c.in_ok-scan.ensures c.worth.ensures
+returns-clause-only c e h = ap Ok (only c.args.text.now c.in_ok-entry.entry c.in_ok-entry.ensures e h)

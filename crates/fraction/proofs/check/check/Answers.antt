@@ -1,7 +1,8 @@
 use Rattle.std.proofs.Common.{◌≡◌, ◌<◌, ◌∙◌, sym, get_or, length, None, Some, false, arith}
 use Rattle.std.proofs.lemmas.Bool.{eqb-true, eqb-false}
-use Rattle.fraction.specs.declared.machine.State.TheVariants.{Start}
-use Rattle.fraction.specs.Machine.{class_of, step}
+use Rattle.fraction.specs.declared.numeral_machine.State.TheVariants.{Start}
+use Rattle.fraction.specs.DecimalMachine.{class_of}
+use Rattle.fraction.specs.NumeralMachine.{step}
 use Rattle.fraction.proofs.Accepted.{reads}
 use Rattle.fraction.proofs.Scan.{reached, reads_on, reached_on, reads_off, reached_off, reads_end, reached_end, checked_empty, checked_numeral, checked_bad}
 use Rattle.fraction.proofs.check.check.Goals as goal

@@ -1,5 +1,5 @@
 use Rattle.std.proofs.Common.{◌≡◌, ◌+◌, drop}
-use Rattle.fraction.specs.declared.machine.State.TheVariants.{Start}
+use Rattle.fraction.specs.declared.numeral_machine.State.TheVariants.{Start}
 use Rattle.fraction.proofs.Accepted.{reads}
 use Rattle.fraction.proofs.Scan.{reached}
 use Rattle.fraction.proofs.check.check.Given as goal

@@ -3,52 +3,52 @@ use Rattle.std.proofs.Common.{◌≡◌, ℕ, ◌+◌, ◌<◌, ◌≤◌, ◌�
 use Rattle.std.proofs.lemmas.List.{append-nil}
 use Rattle.field_core.proofs.Longest.{accepts, accepts_then, accepts_nil, accepts_cons}
 use Rattle.fraction.specs.Numeral.{AreDigits, sign_text, IsSign, Exponent, exponent_text, IsExponent, Body, Plain, Pointed, Pair, body_text, IsBody}
-use Rattle.edge_expression.specs.declared.byte_class.Class.{Class}
-use Rattle.edge_expression.specs.declared.byte_class.Class.TheVariants as classes
-use Rattle.edge_expression.specs.declared.byte_machine.Part.{Part}
-use Rattle.edge_expression.specs.declared.byte_machine.Part.TheVariants as parts
-use Rattle.edge_expression.specs.ByteMachine.{class_of, decimal_step, decimal_byte, is_decimal}
-use Rattle.edge_expression.specs.Expressions.{IsPair, Decimal}
-use Rattle.edge_expression.proofs.ByteClasses.{IsOf, class_is, class_digit, class_sign, class_mark, class_point}
+use Rattle.fraction.specs.declared.byte_class.Class.{Class}
+use Rattle.fraction.specs.declared.byte_class.Class.TheVariants as classes
+use Rattle.fraction.specs.declared.decimal_machine.DecimalPart.{DecimalPart}
+use Rattle.fraction.specs.declared.decimal_machine.DecimalPart.TheVariants as parts
+use Rattle.fraction.specs.DecimalMachine.{class_of, decimal_step, decimal_byte, may_end}
+use Rattle.fraction.specs.Decimals.{IsPair, Decimal, IsDecimal}
+use Rattle.fraction.proofs.Classes.{IsOf, class_is, class_digit, class_sign, class_mark, class_point}
 
 -- the bytes t may follow a part of a decimal, and end it
-abbrev pub takes : List ℕ → Part → Bool
-takes t p = accepts decimal_byte is_decimal t p
+abbrev pub takes : List ℕ → DecimalPart → Bool
+takes t p = accepts decimal_byte may_end t p
 
-pub takes_nil : (p : Part) → takes [] p ≡ is_decimal p
-takes_nil p = accepts_nil decimal_byte is_decimal p
+pub takes_nil : (p : DecimalPart) → takes [] p ≡ may_end p
+takes_nil p = accepts_nil decimal_byte may_end p
 
-pub takes_cons : (b : ℕ) (t : List ℕ) (p : Part) → takes (b ∷ t) p ≡ accepts_then (takes t) (decimal_step p (class_of b))
-takes_cons b t p = accepts_cons decimal_byte is_decimal b t p
+pub takes_cons : (b : ℕ) (t : List ℕ) (p : DecimalPart) → takes (b ∷ t) p ≡ accepts_then (takes t) (decimal_step p (class_of b))
+takes_cons b t p = accepts_cons decimal_byte may_end b t p
 
 -- ---- each decimal is taken
 
-takes_by : (b : ℕ) (t : List ℕ) (p q : Part) (c : Class) → class_of b ≡ c → decimal_step p c ≡ Some q → takes (b ∷ t) p ≡ takes t q
+takes_by : (b : ℕ) (t : List ℕ) (p q : DecimalPart) (c : Class) → class_of b ≡ c → decimal_step p c ≡ Some q → takes (b ∷ t) p ≡ takes t q
 takes_by b t p q c e f = takes_cons b t p ∙ rw (e, f) refl
 
-digits_stay : (ds t : List ℕ) (p : Part) → AreDigits ds → decimal_step p classes.Digit ≡ Some p → takes (ds ++ t) p ≡ takes t p
+digits_stay : (ds t : List ℕ) (p : DecimalPart) → AreDigits ds → decimal_step p classes.Digit ≡ Some p → takes (ds ++ t) p ≡ takes t p
 digits_stay [] t p h e = refl
 digits_stay (d ∷ ds) t p h e = takes_by d (ds ++ t) p p classes.Digit (class_digit d h.0 h.1) e ∙ digits_stay ds t p h.2 e
 
-digits_enter : (ds t : List ℕ) (p q : Part) → AreDigits ds → 0 < length ds → decimal_step p classes.Digit ≡ Some q → decimal_step q classes.Digit ≡ Some q → takes (ds ++ t) p ≡ takes t q
+digits_enter : (ds t : List ℕ) (p q : DecimalPart) → AreDigits ds → 0 < length ds → decimal_step p classes.Digit ≡ Some q → decimal_step q classes.Digit ≡ Some q → takes (ds ++ t) p ≡ takes t q
 digits_enter [] t p q h n e f = absurd (omega arith)
 digits_enter (d ∷ ds) t p q h n e f = takes_by d (ds ++ t) p q classes.Digit (class_digit d h.0 h.1) e ∙ digits_stay ds t q h.2 f
 
-all_digits : (ds : List ℕ) (p q : Part) → AreDigits ds → 0 < length ds → decimal_step p classes.Digit ≡ Some q → decimal_step q classes.Digit ≡ Some q → is_decimal q ≡ true → takes ds p ≡ true
+all_digits : (ds : List ℕ) (p q : DecimalPart) → AreDigits ds → 0 < length ds → decimal_step p classes.Digit ≡ Some q → decimal_step q classes.Digit ≡ Some q → may_end q ≡ true → takes ds p ≡ true
 all_digits ds p q h n e f end = ap (λ (x : List ℕ). takes x p) (sym (append-nil ds)) ∙ digits_enter ds [] p q h n e f ∙ takes_nil q ∙ end
 
 signed_taken : (sign : Option ℕ) (ds : List ℕ) → IsSign sign → AreDigits ds → 0 < length ds → takes (sign_text sign ++ ds) parts.Mark ≡ true
 signed_taken None ds h d n = all_digits ds parts.Mark parts.Exponent d n refl refl refl
 signed_taken (Some b) ds h d n = takes_by b ds parts.Mark parts.MarkSigned classes.Sign (class_sign b h) refl ∙ all_digits ds parts.MarkSigned parts.Exponent d n refl refl refl
 
-exponent_taken : (e : Option Exponent) (p : Part) → IsExponent e → is_decimal p ≡ true → decimal_step p classes.Mark ≡ Some parts.Mark → takes (exponent_text e) p ≡ true
+exponent_taken : (e : Option Exponent) (p : DecimalPart) → IsExponent e → may_end p ≡ true → decimal_step p classes.Mark ≡ Some parts.Mark → takes (exponent_text e) p ≡ true
 exponent_taken None p h f m = takes_nil p ∙ f
 exponent_taken (Some e) p h f m = takes_by e.mark (sign_text e.sign ++ e.digits) p parts.Mark classes.Mark (class_mark e.mark h.0) m ∙ signed_taken e.sign e.digits h.1 h.2 h.3
 
 fraction_taken : (ds : List ℕ) (e : Option Exponent) → AreDigits ds → IsExponent e → takes (ds ++ exponent_text e) parts.Fraction ≡ true
 fraction_taken ds e h k = digits_stay ds (exponent_text e) parts.Fraction h refl ∙ exponent_taken e parts.Fraction k refl refl
 
-body_taken : (body : Body) → IsBody body → ¬ IsPair body → takes (body_text body) parts.Start ≡ true
+pub body_taken : (body : Body) → IsBody body → ¬ IsPair body → takes (body_text body) parts.Start ≡ true
 body_taken (Plain whole e) h n = digits_enter whole (exponent_text e) parts.Start parts.Whole h.0 h.1 refl refl ∙ exponent_taken e parts.Whole h.2 refl refl
 body_taken (Pointed [] ds e) h n =
     takes_by 46 (ds ++ exponent_text e) parts.Start parts.Point classes.Point class_point refl ∙ digits_enter ds (exponent_text e) parts.Point parts.Fraction h.1 (omega (arith, h.2)) refl refl ∙ exponent_taken e parts.Fraction h.3 refl refl
@@ -62,7 +62,7 @@ decimal_taken d = body_taken d.body d.is_body d.no_pair
 
 -- ---- what is taken is a decimal
 
-none_taken : (p : Part) → is_decimal p ≡ false → takes [] p ≡ true → ⊥
+none_taken : (p : DecimalPart) → may_end p ≡ false → takes [] p ≡ true → ⊥
 none_taken p f h = let e = sym f ∙ sym (takes_nil p) ∙ h in cc
 
 exponent_by : (b : ℕ) (t : List ℕ) (c : Class) → IsOf c b → (takes t parts.Exponent ≡ true → AreDigits t) → accepts_then (takes t) (decimal_step parts.Exponent c) ≡ true → AreDigits (b ∷ t)
@@ -117,11 +117,6 @@ fraction_by b t c k r h = absurd cc
 fraction : (t : List ℕ) → takes t parts.Fraction ≡ true → IsBehind t
 fraction [] h = record { digits = []; exponent = None; are = tt; is = tt; spelt = refl }
 fraction (b ∷ t) h = fraction_by b t (class_of b) (class_is b) (λ e. fraction t e) (sym (takes_cons b t parts.Fraction) ∙ h)
-
--- the text of a decimal
-pub record IsDecimal (t : List ℕ) : Type 0 where
-  pub decimal : Decimal
-  pub spelt : t ≡ body_text decimal.body
 
 pointed : (whole ds : List ℕ) (e : Option Exponent) → AreDigits whole → AreDigits ds → 0 < length whole + length ds → IsExponent e → Decimal
 pointed whole ds e w d n k = record { body = Pointed whole ds e; is_body = (w, d, n, k); no_pair = λ x. x }

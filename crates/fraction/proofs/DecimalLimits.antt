@@ -5,7 +5,7 @@ use Rattle.std.specs.Bool.{Decides}
 use Rattle.std.proofs.lemmas.Int.{ints}
 use Rattle.std.proofs.lemmas.Bool.Decides.{Decides-ltb, Decides-and, Decides-or, Decides-like}
 use Rattle.fraction.specs.Numeral.{Body, Plain, Pointed, Pair, exponent_of, without_leading_zeros, trailing_zeros, PassesLimit, IsTooLong, HasTooManyDigits}
-use Rattle.edge_expression.specs.EntryValues.{passes_limit, is_too_long, has_too_many_digits}
+use Rattle.fraction.specs.Decimals.{passes_limit, is_too_long, has_too_many_digits}
 
 below_by : (a b : ℤ) (t : Bool) → int_lt a b ≡ t → a <ℤ b → t ≡ true
 below_by a b true e h = refl

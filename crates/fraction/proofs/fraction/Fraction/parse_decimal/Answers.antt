@@ -1,0 +1,8 @@
+use Rattle.std.proofs.Common.{◌∙◌, ap}
+use Rattle.std.specs.Option.{option_map}
+use Rattle.fraction.specs.View.{terms_of}
+use Rattle.fraction.proofs.DecimalValues.{decimal_read}
+use Rattle.fraction.proofs.fraction.Fraction.parse_decimal.Goals as goal
+
+pub returns : goal.returns
+returns c d e = ap (option_map terms_of) c.ok.ensures.value ∙ decimal_read d c.args.text.now c.parse.result e c.parse.ensures.found c.parse.ensures.fault
