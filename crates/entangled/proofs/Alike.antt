@@ -3,8 +3,8 @@ use Rattle.std.proofs.Common.{◌≡◌, ◌≢◌, refl, sym, ap, subst, ◌∙
 use Rattle.std.proofs.lemmas.List.{get_or-map, length-map}
 use Rattle.std.proofs.lemmas.List.Elements.{All-head}
 use Rattle.std.specs.List.{All}
+use Rattle.case_model.proofs.Places.{mapped_item}
 use Rattle.removal.specs.StoredGraph.{StoredGraph, size as graph_size, is_live, AreAllLive}
-use Rattle.entangled.proofs.Mapped.{mapped_item}
 use Rattle.entangled.specs.Bundled.{states_size, is_live_by, AreAlike}
 
 -- what holds of all items of a mapped list holds of what is mapped

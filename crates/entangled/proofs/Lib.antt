@@ -13,7 +13,7 @@ pub mod ExactProducts
 pub mod Gathered
 pub mod LevelValues
 pub mod LoadSteps
-pub mod Mapped
+pub mod LoadedConstants
 pub mod Products
 pub mod Pushes
 pub mod RemovedTogether

@@ -8,10 +8,10 @@ ghost use Rattle.entangled.specs.Opening.{Opens};
 use crate::loading::{bundle, nets};
 use crate::{Bundle, OpenFault};
 use case_model::Case;
-use eps_quotient::EpsQuotient;
 use field_core::WideAt;
 use fraction::Fraction;
 use removal::Net;
+use row_removal::RowNet;
 use std::alloc::Global;
 
 /// The nets of a case.
@@ -19,8 +19,8 @@ use std::alloc::Global;
 pub enum CaseNet {
     /// Those of a plain case, in which no edge has a coefficient other than 0 above power 0.
     Plain(Bundle<Net<Fraction>>),
-    /// Those of any other case.
-    Eps(Bundle<Net<EpsQuotient>>),
+    /// Those of any other case, in rows over one denominator.
+    Eps(Bundle<RowNet>),
 }
 
 /// The bundle of a plain case.
@@ -35,7 +35,7 @@ fn plain_bundle(alloc: Global, case: &Case) -> Result<Bundle<Net<Fraction>>, Ope
 
 /// The bundle of a case with epsilon.
 #[tactic(auto, unfolding(crate::specs::CaseRun::opening_in))]
-fn eps_bundle(alloc: Global, case: &Case) -> Result<Bundle<Net<EpsQuotient>>, OpenFault>
+fn eps_bundle(alloc: Global, case: &Case) -> Result<Bundle<RowNet>, OpenFault>
     ensures { Opens bundled result (opening_in in_quotients (content case.now)) }
 {
     let nets = nets(alloc, case)?;
@@ -53,8 +53,9 @@ impl CaseNet {
     ghost use Rattle.entangled.specs.CaseRun.{case_opening, case_numbers, case_size, is_live_in_case, case_level, case_share, case_shares, case_removal};
     ghost use Rattle.entangled.specs.Opening.{Opens};
 
-    /// The nets of a case, with all hypotheses in: of fractions where the case is plain, and of quotients in epsilon where it
-    /// isn't. There each edge is loaded as the written polynomial of its coefficients.
+    /// The nets of a case, with all hypotheses in: of fractions where the case is plain, and of rows of quotients in epsilon
+    /// where it isn't. There each edge is loaded as the written polynomial of its coefficients, and then the rows of each
+    /// component are gathered.
     ///
     /// Unless memory runs out, it is `OpenFault::Wide` exactly where the written opening is undefined.
     #[tactic(auto, unfolding(crate::specs::CaseNetView::case_state), using(crate::proofs::CaseNumbers::plain_opening, crate::proofs::CaseNumbers::other_opening))]
@@ -115,6 +116,7 @@ impl CaseNet {
             CaseNet::Eps(bundle) => bundle.remove(j),
         }
     }
+
     /// Makes these nets those of `other`, which are of the same numbers, with the same size and equal shares.
     pub fn set_to(&mut self, other: &CaseNet)
         requires numbers { case_numbers (case_state self.old) ≡ case_numbers (case_state other.now) }

@@ -4,15 +4,15 @@ ghost use Rattle.field_core.specs.Steps.{in_component};
 ghost use Rattle.case_numbers.specs.Numbers.{Numbers};
 ghost use Rattle.removal.specs.StoredGraph.{IsSquare, all_live};
 ghost use Rattle.removal.specs.ByValue.{IsSound};
-ghost use Rattle.removal.specs.NetView.{present_of};
 ghost use Rattle.entangled.specs.Opening.{Opens};
-ghost use Rattle.entangled.specs.States.{state_in, gathered_in};
+ghost use Rattle.entangled.specs.States.{state_in, gathered_in, CanGather};
 
 use crate::OpenFault;
 use case_numbers::CaseNumber;
 use eps_quotient::EpsQuotient;
 use fraction::Fraction;
 use removal::Net;
+use row_removal::{RowNet, RowOpen};
 use std::alloc::Global;
 
 /// A net that a component of a case is run in.
@@ -26,7 +26,8 @@ pub trait ComponentNet: Drop {
     ghost state: { Self → state_in numbers };
 
     /// All hypotheses are in, with these weights and edges, and nothing is prepared. There are at most 64 hypotheses, a
-    /// weight and a row of edges for each, and they are a valid graph. A refusal is told at the component.
+    /// weight and a row of edges for each, they are a valid graph, and quotients are over constants. A refusal is told at the
+    /// component.
     fn open(
         alloc: Global,
         component: usize,
@@ -35,6 +36,7 @@ pub trait ComponentNet: Drop {
     ) -> Result<Self, OpenFault>
         requires square { IsSquare (length weights.now) (length weights.now) (length edges.now) }
         requires sound { IsSound Self.Value.kind (all_live (map Self.Value.parts weights.now) (map Self.Value.parts edges.now)) }
+        requires constants { CanGather numbers (all_live (map Self.Value.parts weights.now) (map Self.Value.parts edges.now)) }
         ensures { Opens state result (in_component component (gathered_in numbers (all_live (map Self.Value.parts weights.now) (map Self.Value.parts edges.now)))) };
 
     /// Its values are those numbers.
@@ -44,6 +46,7 @@ pub trait ComponentNet: Drop {
 impl ComponentNet for Net<Fraction> {
     ghost use Rattle.std.specs.Prelude.{refl};
     ghost use Rattle.case_numbers.specs.Numbers.{in_fractions};
+    ghost use Rattle.removal.specs.NetView.{present_of};
 
     type Value = Fraction;
 
@@ -63,23 +66,28 @@ impl ComponentNet for Net<Fraction> {
     ghost numbers_are = { refl };
 }
 
-impl ComponentNet for Net<EpsQuotient> {
+impl ComponentNet for RowNet {
     ghost use Rattle.std.specs.Prelude.{refl};
     ghost use Rattle.case_numbers.specs.Numbers.{in_quotients};
+    ghost use Rattle.row_removal.specs.RowNetView.{present_rows};
 
     type Value = EpsQuotient;
 
     ghost numbers = { in_quotients };
 
-    ghost state = { present_of };
+    ghost state = { present_rows };
 
     fn open(
         alloc: Global,
-        _: usize,
+        component: usize,
         weights: &[EpsQuotient],
         edges: &[EpsQuotient],
-    ) -> Result<Net<EpsQuotient>, OpenFault> {
-        Ok(Net::try_new(alloc, weights, edges)?)
+    ) -> Result<RowNet, OpenFault> {
+        match RowNet::try_new(alloc, weights, edges) {
+            Ok(net) => Ok(net),
+            Err(RowOpen::Wide(wide)) => Err(OpenFault::Wide(wide.in_component(component))),
+            Err(RowOpen::NoMemory) => Err(OpenFault::NoMemory),
+        }
     }
 
     ghost numbers_are = { refl };

@@ -22,7 +22,7 @@ use std::alloc::Global;
 
 /// The weights of a component.
 #[tactic(auto, using(crate::proofs::Pushes::pushed, crate::proofs::Pushes::pushed_all))]
-fn weights<F: CaseNumber>(alloc: Global, case: &Case, c: usize) -> Result<List<F>, NoMemory>
+pub fn weights<F: CaseNumber>(alloc: Global, case: &Case, c: usize) -> Result<List<F>, NoMemory>
     requires { c < length (content case.now).components }
     ensures { IfOk result (λ ws. map F.parts ws ≡ map (loaded_weight F.numbers) (component_at (content case.now).components c).weights) }
 {
@@ -56,7 +56,7 @@ fn write_edges<F: CaseNumber>(table: &[Entry], size: usize, edges: &mut [F]) -> 
 
 /// The edges of a component, row by row. It is `OpenFault::Wide` exactly where one is undefined, unless memory runs out.
 #[tactic(auto, using(std::proofs::lemmas::List::with_items_is))]
-fn edges<F: CaseNumber>(alloc: Global, case: &Case, c: usize) -> Result<Vec<F>, OpenFault>
+pub fn edges<F: CaseNumber>(alloc: Global, case: &Case, c: usize) -> Result<Vec<F>, OpenFault>
     requires { c < length (content case.now).components }
     ensures { Opens (λ es. map F.parts es.items) result (in_component c (loaded_edges F.numbers (length (content case.now).names) (component_at (content case.now).components c).edges)) }
 {
@@ -68,7 +68,7 @@ fn edges<F: CaseNumber>(alloc: Global, case: &Case, c: usize) -> Result<Vec<F>, 
 
 /// The net of a component.
 #[tactic(auto, using(crate::proofs::LoadSteps::state_refused))]
-fn net<N: ComponentNet>(alloc: Global, case: &Case, c: usize) -> Result<N, OpenFault>
+pub fn net<N: ComponentNet>(alloc: Global, case: &Case, c: usize) -> Result<N, OpenFault>
     requires numbers { CanRunIn N.numbers (content case.now) }
     requires component { c < length (content case.now).components }
     ensures { Opens N.state result (state_at N.numbers (length (content case.now).names) (content case.now).components c) }

@@ -11,6 +11,7 @@ use Rattle.removal.specs.StoredGraph.{StoredGraph, IsSquare, size, weight, all_l
 use Rattle.removal.specs.ByValue.{AreStored}
 use Rattle.removal.specs.Laws.Seen.{edge_apart, edge_itself}
 use Rattle.removal.proofs.Opening.{size-all_live}
+use Rattle.removal.proofs.Loops.{last}
 use Rattle.eps_poly.specs.Polynomials.{IsConstant}
 use Rattle.eps_poly.proofs.SumLaws.{sized_inside}
 use Rattle.eps_quotient.specs.Lowering.{zero_quotient}
@@ -22,9 +23,6 @@ use Rattle.eps_quotient.specs.declared.quotient.EpsQuotient.{EpsQuotient}
 use Rattle.row_removal.specs.Gathering.{HasConstants, given, with_denominator, common_below}
 use Rattle.row_removal.specs.GivenView.{graph_given}
 use Rattle.row_removal.specs.Laws.GatheringLaws.{next_is}
-
-last : (l n : ℕ) → l < suc n → (l ≡ n) ⊎ (l < n)
-last l n h = grind arith
 
 module _ (ws es : List EpsQuotient) where
   pub size_given : size (graph_given ws es) ≡ length ws

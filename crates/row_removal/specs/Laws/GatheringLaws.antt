@@ -21,6 +21,7 @@ use Rattle.field_core.specs.Sized.{sized, gcd_of}
 use Rattle.field_core.specs.Steps.{at, each_below, ◌>>=◌}
 use Rattle.removal.specs.StoredGraph.{StoredGraph, size, weight, edge}
 use Rattle.removal.specs.ByValue.{AreStored}
+use Rattle.removal.proofs.Loops.{last}
 use Rattle.field_core.specs.Laws.Prefixes.{bind_ok, at_ok, ok_same, each_length, each_get}
 use Rattle.eps_poly.specs.Polynomials.{IsPolynomial, IsConstant, zero_polynomial, monomial}
 use Rattle.eps_poly.specs.Factors.{from_factors}
@@ -41,9 +42,6 @@ use Rattle.row_removal.specs.StoredRow.{StoredRow, zero_row, numerator_at, row_v
 use Rattle.row_removal.specs.StoredRows.{StoredRows, row_at}
 use Rattle.row_removal.specs.Proper.{AreProperRows}
 use Rattle.row_removal.specs.Gathering.{HasConstants, place_of, given, given_below, with_denominator, common_below, gathered_numerator, gathered_row, gathered}
-
-last : (l n : ℕ) → l < suc n → (l ≡ n) ⊎ (l < n)
-last l n h = grind arith
 
 -- ---- constants
 

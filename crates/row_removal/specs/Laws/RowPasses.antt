@@ -12,8 +12,6 @@ use Rattle.field_core.specs.Kind.{is_zero_integer}
 use Rattle.field_core.specs.Number.{Number}
 use Rattle.field_core.specs.Arithmetic.{number_zero, number_one, ◌+ε◌, ◌-ε◌, ◌*ε◌, ◌/ε◌}
 use Rattle.field_core.specs.Fractions.{quotient}
-use Rattle.field_core.specs.Laws.Order.{number_divide_is, number_multiply_zero}
-use Rattle.field_core.specs.Laws.NumberLaws.{number_invert_zero}
 use Rattle.field_core.specs.Laws.PolynomialLaws.{nonzero-multiply}
 use Rattle.field_core.specs.Polynomial.{lowest, Same, poly_add, poly_negate, IsNonZero}
 use Rattle.field_core.specs.Steps.{at, each_below, ◌>>=◌}
@@ -33,6 +31,7 @@ use Rattle.row_removal.specs.StoredRows.{StoredRows, rows_size, rows_graph, row_
 use Rattle.row_removal.specs.Clearing.{cleared}
 use Rattle.row_removal.specs.RowRemoval.{sum_of_products, difference_of_products, below, above, new_weight, new_scale, new_weights, new_denominator, new_numerator, row_over, new_row, row_removal}
 use Rattle.row_removal.specs.Proper.{AreProperRows}
+use Rattle.removal.specs.Laws.WrittenValues.{divide_zero}
 use Rattle.row_removal.specs.Laws.ClearingLaws.{HasValues, numerator_is, each_is, cleared_values}
 use Rattle.row_removal.specs.Laws.RowNumbers.{merged_value, edge_over, loss_none}
 
@@ -78,9 +77,6 @@ zero_row_proper m = record {
 zero_row_value : (m k : ℕ) → k < m → row_value (zero_row m) k ≡ number_zero
 unfolding zero_row numerator_at
 zero_row_value m k h = ap (λ n. quotient n one_polynomial) (get_or-replicate m k zero_polynomial zero_polynomial h) ∙ zero_value zero_polynomial one_polynomial one_some zero_lowest
-
-divide_zero : (x : Number) → x /ε number_zero ≡ number_zero
-divide_zero x = number_divide_is x number_zero ∙ ap (λ v. x *ε v) number_invert_zero ∙ number_multiply_zero x
 
 module _ (s : StoredRows) (j : ℕ) (P : AreProperRows s) (j_in : j < rows_size s) where
   pub row_proper : (l : ℕ) → l < rows_size s → IsProperRow (rows_size s) (row_at s l)

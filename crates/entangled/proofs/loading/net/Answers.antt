@@ -27,6 +27,11 @@ open-requires-clause-sound g c =
     let o = net_opening g.N.Value.Number.parts _ c.args.case.now c.args.c _ _ g.met.N.ComponentNet.numbers_are g.met.N.Value.CaseNumber.kind_is c.requires.numbers c.requires.component _ _ (ap (map g.N.Value.Number.parts) c.as_slice.ensures ∙ c.in_ok-weights.ensures) (c.in_ok-edges.ensures ∙ ap (λ xs. Ok (map g.N.Value.Number.parts xs)) (sym c.deref.ensures.value)) in
     o.sound
 
+pub open-requires-clause-constants : goal.open-requires-clause-constants
+open-requires-clause-constants g c =
+    let o = net_opening g.N.Value.Number.parts _ c.args.case.now c.args.c _ _ g.met.N.ComponentNet.numbers_are g.met.N.Value.CaseNumber.kind_is c.requires.numbers c.requires.component _ _ (ap (map g.N.Value.Number.parts) c.as_slice.ensures ∙ c.in_ok-weights.ensures) (c.in_ok-edges.ensures ∙ ap (λ xs. Ok (map g.N.Value.Number.parts xs)) (sym c.deref.ensures.value)) in
+    o.gathers
+
 pub returns : goal.returns
 returns g c =
     let o = net_opening g.N.Value.Number.parts _ c.args.case.now c.args.c _ _ g.met.N.ComponentNet.numbers_are g.met.N.Value.CaseNumber.kind_is c.requires.numbers c.requires.component _ _ (ap (map g.N.Value.Number.parts) c.as_slice.ensures ∙ c.in_ok-weights.ensures) (c.in_ok-edges.ensures ∙ ap (λ xs. Ok (map g.N.Value.Number.parts xs)) (sym c.deref.ensures.value)) in
