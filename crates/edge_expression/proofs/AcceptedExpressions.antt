@@ -1,5 +1,6 @@
 -- The machine accepts each expression, and what it has read can always be completed.
-use Rattle.std.proofs.Common.{◌≡◌, ℕ, zero, suc, ◌+◌, Bool, true, false, List, [], ◌∷◌, ◌++◌, Option, Some, None, refl, sym, ap, ap₂, subst, ◌∙◌, ◌⊎◌, inl, inr, arith}
+use Rattle.std.proofs.Common.{◌≡◌, ℕ, zero, suc, ◌+◌, Bool, true, false, cond, eqb, List, [], ◌∷◌, ◌++◌, Option, Some, None, refl, sym, ap, ap₂, subst, ◌∙◌, ◌⊎◌, inl, inr, arith}
+use Rattle.std.proofs.lemmas.Bool.Decides.{nat_tests}
 use Rattle.std.proofs.lemmas.List.{append-nil}
 use Rattle.field_core.proofs.Longest.{accepts, accepts_then, count, stops_behind}
 use Rattle.fraction.specs.Prefixes.{IsBadByte}
@@ -8,6 +9,7 @@ use Rattle.fraction.specs.declared.decimal_machine.DecimalPart.{DecimalPart}
 use Rattle.fraction.specs.declared.decimal_machine.DecimalPart.TheVariants as parts
 use Rattle.fraction.specs.DecimalMachine.{class_of as decimal_class, decimal_byte, may_end as ends_decimal}
 use Rattle.fraction.specs.Decimals.{Decimal}
+use Rattle.fraction.proofs.Classes.{digit_test}
 use Rattle.fraction.proofs.DecimalTexts.{takes, takes_nil, takes_cons, decimal_taken}
 use Rattle.fraction.proofs.DecimalLengths.{completion as decimal_end, completes as decimal_ends}
 use Rattle.edge_expression.specs.declared.byte_class.Class.{Class}
@@ -19,7 +21,7 @@ use Rattle.edge_expression.specs.declared.byte_machine.State.TheVariants as stat
 use Rattle.edge_expression.specs.declared.byte_machine.Reached.{Reached}
 use Rattle.edge_expression.specs.ByteMachine.{class_of, next_letter, with_letter, further, operand_parts, at_operand, start_or, at_start, behind_factor, behind_parts, behind_part, behind_epsilon, behind_caret, next, opened, reached, step, ends, may_end, start}
 use Rattle.edge_expression.specs.Expressions.{Power, Sign, Plus, Minus, Expression, Sum, MoreTerms, NoTerm, AndTerm, Term, Product, MoreFactors, NoFactor, Times, Over, Beside, Factor, Number, Other, Further, Epsilon, Parens, Token, DecimalToken, WordToken, CaretToken, PowerToken, SignToken, TimesToken, OverToken, OpenToken, CloseToken, sign_tokens, power_tokens, expression_tokens, terms_tokens, term_tokens, factors_tokens, factor_tokens, further_tokens, sign_byte, token_text, AreBlanks, IsSpelt, Spells, IsExpression}
-use Rattle.edge_expression.proofs.ByteClasses.{IsOf, class_is, class_digit, class_blank, class_sign, class_joint, class_caret, class_open, class_close, class_backslash}
+use Rattle.edge_expression.proofs.ByteClasses.{IsOf, class_is, either_of, class_digit, class_blank}
 use Rattle.edge_expression.proofs.Machine.{reads, reads_nil, reads_cons, reads_by, behind, letter_opens, part_opens, ends_before}
 use Rattle.edge_expression.proofs.ReadExpressions.{is_expression}
 
@@ -28,15 +30,6 @@ Accepts : State → ℕ → List Token → Type 0
 Accepts s n ks = (t : List ℕ) → IsSpelt ks t → reads t s n ≡ true
 
 -- ---- single bytes
-
--- what a byte of a class makes of a state
-class_by : (b : ℕ) (t : List ℕ) (s u : State) (n m : ℕ) (c : Class) (step_of : Class → Option State) → class_of b ≡ c → next s b ≡ step_of (class_of b) → step_of c ≡ Some u → opened c n ≡ Some m → reads (b ∷ t) s n ≡ reads t u m
-class_by b t s u n m c f e is g h = reads_by b t s u n m (is ∙ ap f e ∙ g) (ap (λ d. opened d n) e ∙ h)
-
--- what holds of two bytes holds of each of the two
-either_of : (P : ℕ → Type 0) (m n b : ℕ) → P m → P n → (b ≡ m) ⊎ (b ≡ n) → P b
-either_of P m n b h k (inl e) = subst P (sym e) h
-either_of P m n b h k (inr e) = subst P (sym e) k
 
 -- a state in which blanks change nothing
 Stays : State → Type 0
@@ -83,7 +76,8 @@ no_operand : (b : ℕ) → (b ≡ 43) ⊎ (b ≡ 45) → at_operand b ≡ None
 unfolding class_of decimal_class
 no_operand b = either_of (λ c. at_operand c ≡ None) 43 45 b refl refl
 
-start_by : (b : ℕ) (t : List ℕ) (n : ℕ) (c : Class) → IsOf c b → (reads t states.Operand n ≡ true → reads t states.Start n ≡ true) → After t (at_operand b) (opened c n) ≡ true → After t (start_or c (at_operand b)) (opened c n) ≡ true
+start_by : (b : ℕ) (t : List ℕ) (n : ℕ) (c : Class) → IsOf c b → (reads t states.Operand n ≡ true → reads t states.Start n ≡ true)
+    → After t (at_operand b) (opened c n) ≡ true → After t (start_or c (at_operand b)) (opened c n) ≡ true
 unfolding After Stays
 start_by b t n classes.Blank k r h = r (sym (ap (λ s. After t s (Some n)) (operand_stays b k)) ∙ h)
 start_by b t n classes.Sign k r h = let e : false ≡ true = sym (ap (λ s. After t s (Some n)) (no_operand b k)) ∙ h in absurd cc
@@ -92,7 +86,8 @@ start_by b t n c k r h = h
 as_start : (t : List ℕ) (n : ℕ) → reads t states.Operand n ≡ true → reads t states.Start n ≡ true
 unfolding After
 as_start [] n h = let e : ends false n ≡ true = sym (reads_nil states.Operand n) ∙ h in absurd cc
-as_start (b ∷ t) n h = reads_cons b t states.Start n ∙ start_by b t n (class_of b) (class_is b) (λ e. as_start t n e) (sym (reads_cons b t states.Operand n) ∙ h)
+as_start (b ∷ t) n h = reads_cons b t states.Start n ∙ start_by b t n (class_of b) (class_is b) (λ e. as_start t n e)
+    (sym (reads_cons b t states.Operand n) ∙ h)
 
 epsilon_by : (t : List ℕ) (n : ℕ) (c : Class) → (reads t states.Factor n ≡ true → reads t states.Epsilon n ≡ true) → After t (behind_factor c) (opened c n) ≡ true → After t (behind_epsilon c) (opened c n) ≡ true
 unfolding After
@@ -105,7 +100,8 @@ unfolding After
 as_epsilon [] n h = reads_nil states.Epsilon n ∙ sym (reads_nil states.Factor n) ∙ h
 as_epsilon (b ∷ t) n h = reads_cons b t states.Epsilon n ∙ epsilon_by t n (class_of b) (λ e. as_epsilon t n e) (sym (reads_cons b t states.Factor n) ∙ h)
 
-part_by : (t : List ℕ) (n : ℕ) (p : DecimalPart) (b : ℕ) (s : Option State) → ends_decimal p ≡ true → behind_factor (class_of b) ≡ s → After t s (opened (class_of b) n) ≡ true → After t (behind_part p b) (opened (class_of b) n) ≡ true
+part_by : (t : List ℕ) (n : ℕ) (p : DecimalPart) (b : ℕ) (s : Option State) → ends_decimal p ≡ true → behind_factor (class_of b) ≡ s
+    → After t s (opened (class_of b) n) ≡ true → After t (behind_part p b) (opened (class_of b) n) ≡ true
 unfolding After
 part_by t n p b None e f h = absurd cc
 part_by t n p b (Some u) e f h =
@@ -115,37 +111,42 @@ part_by t n p b (Some u) e f h =
 as_part : (t : List ℕ) (n : ℕ) (p : DecimalPart) → ends_decimal p ≡ true → reads t states.Factor n ≡ true → reads t (states.Decimal p) n ≡ true
 unfolding After
 as_part [] n p e h = reads_nil (states.Decimal p) n ∙ ap (λ x. ends x n) e ∙ sym (reads_nil states.Factor n) ∙ h
-as_part (b ∷ t) n p e h = reads_cons b t (states.Decimal p) n ∙ part_by t n p b (behind_factor (class_of b)) e refl (sym (reads_cons b t states.Factor n) ∙ h)
+as_part (b ∷ t) n p e h = reads_cons b t (states.Decimal p) n
+    ∙ part_by t n p b (behind_factor (class_of b)) e refl (sym (reads_cons b t states.Factor n) ∙ h)
 
 -- ---- decimals and the word
 
 -- with a byte more of a decimal
-goes_on : (x t : List ℕ) (n b : ℕ) (p : DecimalPart) (o : Option DecimalPart) (state_of : Option DecimalPart → Option State) → decimal_byte p b ≡ o → ((q : DecimalPart) → state_of (Some q) ≡ Some (states.Decimal q)) → ((q : DecimalPart) → takes x q ≡ true → reads (x ++ t) (states.Decimal q) n ≡ true) → accepts_then (takes x) o ≡ true → After (x ++ t) (state_of o) (opened (class_of b) n) ≡ true
+goes_on : (x t : List ℕ) (n b : ℕ) (p : DecimalPart) (o : Option DecimalPart) (state_of : Option DecimalPart → Option State) → decimal_byte p b ≡ o
+    → ((q : DecimalPart) → state_of (Some q) ≡ Some (states.Decimal q))
+    → ((q : DecimalPart) → takes x q ≡ true → reads (x ++ t) (states.Decimal q) n ≡ true) → accepts_then (takes x) o ≡ true
+    → After (x ++ t) (state_of o) (opened (class_of b) n) ≡ true
 unfolding After
 goes_on x t n b p None state_of e f r h = absurd cc
 goes_on x t n b p (Some q) state_of e f r h = ap₂ (After (x ++ t)) (f q) (part_opens p q b n e) ∙ r q h
 
 -- what ends a decimal, and then what may stand behind a factor
-part_on : (x t : List ℕ) (n : ℕ) (p : DecimalPart) → takes x p ≡ true → reads t states.Factor n ≡ true → reads (x ++ t) (states.Decimal p) n ≡ true
+part_on : (x t : List ℕ) (n : ℕ) (p : DecimalPart) → takes x p ≡ true → reads t states.Factor n ≡ true
+    → reads (x ++ t) (states.Decimal p) n ≡ true
 unfolding After
 part_on [] t n p h k = as_part t n p (sym (takes_nil p) ∙ h) k
 part_on (b ∷ x) t n p h k =
-    reads_cons b (x ++ t) (states.Decimal p) n ∙ goes_on x t n b p (decimal_byte p b) (λ o. behind_parts o (ends_decimal p) (class_of b)) refl (λ q. refl) (λ q e. part_on x t n q e k) (sym (takes_cons b x p) ∙ h)
+    reads_cons b (x ++ t) (states.Decimal p) n ∙ goes_on x t n b p (decimal_byte p b) (λ o. behind_parts o (ends_decimal p) (class_of b)) refl (λ q. refl)
+    (λ q e. part_on x t n q e k) (sym (takes_cons b x p) ∙ h)
 
 decimal_on : (x t : List ℕ) (n : ℕ) → takes x parts.Start ≡ true → reads t states.Factor n ≡ true → reads (x ++ t) states.Operand n ≡ true
 unfolding After
 decimal_on [] t n h k = let e : false ≡ true = sym (takes_nil parts.Start) ∙ h in absurd cc
 decimal_on (b ∷ x) t n h k =
-    reads_cons b (x ++ t) states.Operand n ∙ goes_on x t n b parts.Start (decimal_byte parts.Start b) (λ o. operand_parts o (class_of b)) refl (λ q. refl) (λ q e. part_on x t n q e k) (sym (takes_cons b x parts.Start) ∙ h)
+    reads_cons b (x ++ t) states.Operand n ∙ goes_on x t n b parts.Start (decimal_byte parts.Start b) (λ o. operand_parts o (class_of b)) refl (λ q. refl)
+    (λ q e. part_on x t n q e k) (sym (takes_cons b x parts.Start) ∙ h)
+
+same_byte : (n : ℕ) → eqb n n ≡ true
+same_byte n = grind (arith, nat_tests)
 
 letter_on : (l : Letter) (t : List ℕ) (n : ℕ) → reads (next_letter l ∷ t) (states.Word l) n ≡ reads t (with_letter l) n
-letter_on letters.Backslash t n = reads_by 101 t (states.Word letters.Backslash) (states.Word letters.E) n n refl (letter_opens letters.Backslash n)
-letter_on letters.E t n = reads_by 112 t (states.Word letters.E) (states.Word letters.P) n n refl (letter_opens letters.E n)
-letter_on letters.P t n = reads_by 115 t (states.Word letters.P) (states.Word letters.S) n n refl (letter_opens letters.P n)
-letter_on letters.S t n = reads_by 105 t (states.Word letters.S) (states.Word letters.I) n n refl (letter_opens letters.S n)
-letter_on letters.I t n = reads_by 108 t (states.Word letters.I) (states.Word letters.L) n n refl (letter_opens letters.I n)
-letter_on letters.L t n = reads_by 111 t (states.Word letters.L) (states.Word letters.O) n n refl (letter_opens letters.L n)
-letter_on letters.O t n = reads_by 110 t (states.Word letters.O) states.Epsilon n n refl (letter_opens letters.O n)
+letter_on l t n = reads_by (next_letter l) t (states.Word l) (with_letter l) n n (ap (λ b. cond b (Some (with_letter l)) None) (same_byte (next_letter l)))
+    (letter_opens l n)
 
 o_on : (t : List ℕ) (n : ℕ) → reads (behind letters.O ++ t) (states.Word letters.O) n ≡ reads t states.Epsilon n
 o_on t n = letter_on letters.O t n
@@ -174,28 +175,34 @@ word_on letters.Backslash t n = letter_on letters.Backslash (behind letters.E ++
 -- ---- tokens
 
 sign_class : (sign : Sign) → class_of (sign_byte sign) ≡ classes.Sign
-sign_class Plus = class_sign 43 (inl refl)
-sign_class Minus = class_sign 45 (inr refl)
+unfolding class_of
+sign_class Plus = refl
+sign_class Minus = refl
 
 sign_at_start : (sign : Sign) (n : ℕ) (ks : List Token) → Accepts states.Operand n ks → Accepts states.Start n (SignToken sign ∷ ks)
 unfolding Accepts
-sign_at_start sign n ks h = token_by states.Start n (SignToken sign) ks start_stays (λ t x. class_by (sign_byte sign) t states.Start states.Operand n n classes.Sign (λ c. start_or c (at_operand (sign_byte sign))) (sign_class sign) refl refl refl ∙ h t x)
+sign_at_start sign n ks h =
+    token_by states.Start n (SignToken sign) ks start_stays (λ t x. reads_by (sign_byte sign) t states.Start states.Operand n n
+    (ap (λ c. start_or c (at_operand (sign_byte sign))) (sign_class sign)) (ap (λ c. opened c n) (sign_class sign)) ∙ h t x)
 
 sign_behind : (sign : Sign) (n : ℕ) (ks : List Token) → Accepts states.Operand n ks → Accepts states.Factor n (SignToken sign ∷ ks)
 unfolding Accepts
-sign_behind sign n ks h = token_by states.Factor n (SignToken sign) ks factor_stays (λ t x. class_by (sign_byte sign) t states.Factor states.Operand n n classes.Sign behind_factor (sign_class sign) refl refl refl ∙ h t x)
+sign_behind sign n ks h = token_by states.Factor n (SignToken sign) ks factor_stays
+    (λ t x. reads_by (sign_byte sign) t states.Factor states.Operand n n (ap behind_factor (sign_class sign)) (ap (λ c. opened c n) (sign_class sign))
+    ∙ h t x)
 
 times_behind : (n : ℕ) (ks : List Token) → Accepts states.Operand n ks → Accepts states.Factor n (TimesToken ∷ ks)
-unfolding Accepts
-times_behind n ks h = token_by states.Factor n TimesToken ks factor_stays (λ t x. class_by 42 t states.Factor states.Operand n n classes.Joint behind_factor (class_joint 42 (inl refl)) refl refl refl ∙ h t x)
+unfolding Accepts class_of
+times_behind n ks h = token_by states.Factor n TimesToken ks factor_stays (λ t x. reads_by 42 t states.Factor states.Operand n n refl refl ∙ h t x)
 
 over_behind : (n : ℕ) (ks : List Token) → Accepts states.Operand n ks → Accepts states.Factor n (OverToken ∷ ks)
-unfolding Accepts
-over_behind n ks h = token_by states.Factor n OverToken ks factor_stays (λ t x. class_by 47 t states.Factor states.Operand n n classes.Joint behind_factor (class_joint 47 (inr refl)) refl refl refl ∙ h t x)
+unfolding Accepts class_of
+over_behind n ks h = token_by states.Factor n OverToken ks factor_stays (λ t x. reads_by 47 t states.Factor states.Operand n n refl refl ∙ h t x)
 
 close_behind : (n : ℕ) (ks : List Token) → Accepts states.Factor n ks → Accepts states.Factor (suc n) (CloseToken ∷ ks)
-unfolding Accepts
-close_behind n ks h = token_by states.Factor (suc n) CloseToken ks factor_stays (λ t x. class_by 41 t states.Factor states.Factor (suc n) n classes.Close behind_factor class_close refl refl refl ∙ h t x)
+unfolding Accepts class_of
+close_behind n ks h = token_by states.Factor (suc n) CloseToken ks factor_stays
+    (λ t x. reads_by 41 t states.Factor states.Factor (suc n) n refl refl ∙ h t x)
 
 -- where a parenthesis may open and the word may begin
 record Begins (s : State) : Type 0 where
@@ -204,13 +211,14 @@ record Begins (s : State) : Type 0 where
   words : next s 92 ≡ Some (states.Word letters.Backslash)
 
 open_at : (s : State) (n : ℕ) (ks : List Token) → Begins s → Accepts states.Start (suc n) ks → Accepts s n (OpenToken ∷ ks)
-unfolding Accepts
-open_at s n ks f h = token_by s n OpenToken ks f.stays (λ t x. reads_by 40 t s states.Start n (suc n) f.opens (ap (λ d. opened d n) class_open) ∙ h t x)
+unfolding Accepts class_of
+open_at s n ks f h = token_by s n OpenToken ks f.stays (λ t x. reads_by 40 t s states.Start n (suc n) f.opens refl ∙ h t x)
 
 word_at : (s : State) (n : ℕ) (ks : List Token) → Begins s → Accepts states.Epsilon n ks → Accepts s n (WordToken ∷ ks)
-unfolding Accepts
+unfolding Accepts class_of
 word_at s n ks f h =
-    token_by s n WordToken ks f.stays (λ t x. reads_by 92 (behind letters.Backslash ++ t) s (states.Word letters.Backslash) n n f.words (ap (λ d. opened d n) class_backslash) ∙ word_on letters.Backslash t n ∙ h t x)
+    token_by s n WordToken ks f.stays (λ t x. reads_by 92 (behind letters.Backslash ++ t) s (states.Word letters.Backslash) n n f.words refl
+    ∙ word_on letters.Backslash t n ∙ h t x)
 
 operand_begins : Begins states.Operand
 unfolding class_of decimal_class
@@ -223,12 +231,13 @@ factor_begins = record { stays = factor_stays; opens = refl; words = refl }
 power_at : (power : Power) (n : ℕ) (ks : List Token) → Accepts states.Factor n ks → Accepts states.Caret n (PowerToken power ∷ ks)
 unfolding Accepts
 power_at power n ks h =
-    let c = class_digit (48 + power.power) (omega arith) (omega (arith, power.digit)) in
-    token_by states.Caret n (PowerToken power) ks caret_stays (λ t x. class_by (48 + power.power) t states.Caret states.Factor n n classes.Digit behind_caret c refl refl refl ∙ h t x)
+    let c = class_digit (48 + power.power) (digit_test (48 + power.power) (omega arith) (omega (arith, power.digit))) in
+    token_by states.Caret n (PowerToken power) ks caret_stays
+    (λ t x. reads_by (48 + power.power) t states.Caret states.Factor n n (ap behind_caret c) (ap (λ d. opened d n) c) ∙ h t x)
 
 caret_at : (n : ℕ) (ks : List Token) → Accepts states.Caret n ks → Accepts states.Epsilon n (CaretToken ∷ ks)
-unfolding Accepts
-caret_at n ks h = token_by states.Epsilon n CaretToken ks epsilon_stays (λ t x. class_by 94 t states.Epsilon states.Caret n n classes.Caret behind_epsilon class_caret refl refl refl ∙ h t x)
+unfolding Accepts class_of
+caret_at n ks h = token_by states.Epsilon n CaretToken ks epsilon_stays (λ t x. reads_by 94 t states.Epsilon states.Caret n n refl refl ∙ h t x)
 
 powers_at : (power : Option Power) (n : ℕ) (ks : List Token) → Accepts states.Factor n ks → Accepts states.Epsilon n (power_tokens power ks)
 unfolding Accepts
@@ -285,12 +294,9 @@ closers zero = []
 closers (suc n) = 41 ∷ closers n
 
 closes : (n : ℕ) → reads (closers n) states.Factor n ≡ true
-unfolding closers
+unfolding closers class_of
 closes zero = reads_nil states.Factor 0
-closes (suc n) = class_by 41 (closers n) states.Factor states.Factor (suc n) n classes.Close behind_factor class_close refl refl refl ∙ closes n
-
-zero_class : class_of 48 ≡ classes.Digit
-zero_class = class_digit 48 (omega arith) (omega arith)
+closes (suc n) = reads_by 41 (closers n) states.Factor states.Factor (suc n) n refl refl ∙ closes n
 
 completion_by : State → ℕ → List ℕ
 completion_by states.Start n = decimal_end parts.Start ++ closers n
@@ -305,13 +311,13 @@ operand_completes : (n : ℕ) → reads (decimal_end parts.Start ++ closers n) s
 operand_completes n = decimal_on (decimal_end parts.Start) (closers n) n (decimal_ends parts.Start) (closes n)
 
 completed : (s : State) (n : ℕ) → reads (completion_by s n) s n ≡ true
-unfolding completion_by
+unfolding completion_by class_of
 completed states.Start n = as_start (decimal_end parts.Start ++ closers n) n (operand_completes n)
 completed states.Operand n = operand_completes n
 completed (states.Decimal p) n = part_on (decimal_end p) (closers n) n p (decimal_ends p) (closes n)
 completed (states.Word l) n = word_on l (closers n) n ∙ as_epsilon (closers n) n (closes n)
 completed states.Epsilon n = as_epsilon (closers n) n (closes n)
-completed states.Caret n = class_by 48 (closers n) states.Caret states.Factor n n classes.Digit behind_caret zero_class refl refl refl ∙ closes n
+completed states.Caret n = reads_by 48 (closers n) states.Caret states.Factor n n refl refl ∙ closes n
 completed states.Factor n = closes n
 
 completion : Reached → List ℕ

@@ -1,10 +1,10 @@
 -- What a byte of a class is.
-use Rattle.std.proofs.Common.{◌≡◌, ◌≢◌, ℕ, ◌≤◌, ◌⊎◌, ◌||◌, true, eqb, refl, inl, inr, arith}
+use Rattle.std.proofs.Common.{◌≡◌, ◌≢◌, ℕ, ◌≤◌, ◌⊎◌, ◌||◌, true, eqb, refl, sym, subst, inl, inr}
 use Rattle.std.specs.Char.{is_ascii_digit}
 use Rattle.std.proofs.lemmas.Bool.{cond_both, or_cases, eqb-true, eqb-false}
 use Rattle.std.proofs.lemmas.Bool.Decides.{nat_tests}
 use Rattle.text_lines.specs.Words.{is_blank}
-use Rattle.fraction.proofs.Classes.{either, digit_in, digit_test}
+use Rattle.fraction.proofs.Classes.{either, digit_in}
 use Rattle.edge_expression.specs.declared.byte_class.Class.{Class}
 use Rattle.edge_expression.specs.declared.byte_class.Class.TheVariants as classes
 use Rattle.edge_expression.specs.ByteMachine.{class_of}
@@ -35,37 +35,19 @@ class_is b =
 
 -- ---- bytes of classes
 
-pub class_digit : (b : ℕ) → 48 ≤ b → b ≤ 57 → class_of b ≡ classes.Digit
+-- what holds of two bytes holds of each of the two
+pub either_of : (P : ℕ → Type 0) (m n b : ℕ) → P m → P n → (b ≡ m) ⊎ (b ≡ n) → P b
+either_of P m n b h k (inl e) = subst P (sym e) h
+either_of P m n b h k (inr e) = subst P (sym e) k
+
+pub class_digit : (b : ℕ) → is_ascii_digit b ≡ true → class_of b ≡ classes.Digit
 unfolding class_of
-class_digit b h k = rw (digit_test b h k) refl
+class_digit b h = rw h refl
 
 pub class_blank : (b : ℕ) → (b ≡ 32) ⊎ (b ≡ 9) → class_of b ≡ classes.Blank
 unfolding class_of
-class_blank b (inl e) = rw e refl
-class_blank b (inr e) = rw e refl
+class_blank b = either_of (λ c. class_of c ≡ classes.Blank) 32 9 b refl refl
 
 pub class_sign : (b : ℕ) → (b ≡ 43) ⊎ (b ≡ 45) → class_of b ≡ classes.Sign
 unfolding class_of
-class_sign b (inl e) = rw e refl
-class_sign b (inr e) = rw e refl
-
-pub class_joint : (b : ℕ) → (b ≡ 42) ⊎ (b ≡ 47) → class_of b ≡ classes.Joint
-unfolding class_of
-class_joint b (inl e) = rw e refl
-class_joint b (inr e) = rw e refl
-
-pub class_caret : class_of 94 ≡ classes.Caret
-unfolding class_of
-class_caret = refl
-
-pub class_open : class_of 40 ≡ classes.Open
-unfolding class_of
-class_open = refl
-
-pub class_close : class_of 41 ≡ classes.Close
-unfolding class_of
-class_close = refl
-
-pub class_backslash : class_of 92 ≡ classes.Backslash
-unfolding class_of
-class_backslash = refl
+class_sign b = either_of (λ c. class_of c ≡ classes.Sign) 43 45 b refl refl

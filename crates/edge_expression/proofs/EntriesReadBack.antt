@@ -1,5 +1,5 @@
 -- The text of an entry is an expression of that entry.
-use Rattle.std.proofs.Common.{◌≡◌, ◌≢◌, ℕ, zero, suc, ◌+◌, ◌^◌, ◌<◌, ◌≤◌, inl, inr, Bool, true, false, cond, eqb, List, [], ◌∷◌, ◌++◌, map, length, take, ℤ, pos, neg_ℤ, unsigned_abs, Option, Some, None, Ok, refl, sym, ap, subst, ◌∙◌, append_assoc, arith}
+use Rattle.std.proofs.Common.{◌≡◌, ◌≢◌, ℕ, zero, suc, ◌+◌, ◌^◌, ◌<◌, ◌≤◌, inl, inr, Bool, true, false, cond, eqb, List, [], ◌∷◌, ◌++◌, map, length, take, ℤ, pos, neg_ℤ, unsigned_abs, Option, Some, None, Ok, refl, sym, ap, ap₂, subst, ◌∙◌, append_assoc, arith}
 use Rattle.std.specs.Prelude.{codes, nat_lt, nat_le, ◌==◌, ◌&&◌, if◌then◌else◌}
 use Rattle.std.specs.Int.{is_negative}
 use Rattle.std.specs.List.{AllByRecursion, list_all}
@@ -10,6 +10,7 @@ use Rattle.std.proofs.lemmas.Fmt.{decimal_digit}
 use Rattle.field_core.specs.View.{terms}
 use Rattle.field_core.specs.declared.ratio.Ratio.{Ratio}
 use Rattle.std.proofs.lemmas.List.{length-map}
+use Rattle.std.proofs.lemmas.List.Folds.{list_all-append}
 use Rattle.case_model.specs.Draft.{is_short}
 use Rattle.case_model.proofs.Holding.{both}
 use Rattle.field_core.specs.Terms.{Terms, IsReduced}
@@ -281,93 +282,75 @@ whole_by e false s h = subst (λ x. IsWhole e x (tabled (upto e 5))) (sym (text_
 
 -- ---- no parenthesis
 
-NoOpen : List ℕ → Type 0
-NoOpen [] = Unit {0}
-NoOpen (b ∷ bs) = (b ≢ 40) × NoOpen bs
+abbrev is_other : ℕ → Bool
+is_other b = if b == 40 then false else true
+
+-- no parenthesis opens in a text
+abbrev NoOpen : List ℕ → Type 0
+NoOpen t = list_all is_other t ≡ true
 
 no_open_both : (x y : List ℕ) → NoOpen x → NoOpen y → NoOpen (x ++ y)
-unfolding NoOpen
-no_open_both [] y h k = k
-no_open_both (b ∷ x) y h k = (h.0, no_open_both x y h.1 k)
+no_open_both x y h k = list_all-append is_other x y ∙ ap₂ (λ c d. c && d) h k
 
-open_none : (b : ℕ) → b ≢ 40 → open_with b 0 ≡ 0
-open_none b h = grind (arith, nat_tests)
+open_none : (b : ℕ) → is_other b ≡ true → open_with b 0 ≡ 0
+open_none b h = let other : b ≢ 40 = λ e. (let f : false ≡ true = rw e at h in no_true f) in grind (arith, nat_tests)
 
 none_open : (t : List ℕ) (k : ℕ) → NoOpen t → open_behind 0 (take k t) ≡ 0
-unfolding NoOpen
 none_open t zero h = refl
 none_open [] (suc k) h = refl
-none_open (b ∷ t) (suc k) h = ap (λ n. open_behind n (take k t)) (open_none b h.0) ∙ none_open t k h.1
+none_open (b ∷ t) (suc k) h = let w = both (is_other b) (list_all is_other t) h in ap (λ n. open_behind n (take k t)) (open_none b w.left)
+    ∙ none_open t k w.right
 
 shallow : (t : List ℕ) (n : ℕ) → NoOpen t → IsShallow t n
 shallow t n h k l = omega (arith, none_open t (suc k) h)
 
-spelling_byte : (b : ℕ) → IsSpellingByte b → b ≢ 40
-spelling_byte b (inl h) = λ e. omega (arith, h.0)
-spelling_byte b (inr (inl h)) = λ e. omega (arith, h)
-spelling_byte b (inr (inr h)) = λ e. omega (arith, h)
+number_byte : (b : ℕ) → 41 ≤ b → is_other b ≡ true
+number_byte b h = let e : eqb b 40 ≡ false = grind (arith, nat_tests) in ap (λ c. cond c false true) e
+
+spelling_byte : (b : ℕ) → IsSpellingByte b → is_other b ≡ true
+spelling_byte b (inl h) = number_byte b (omega (arith, h.0))
+spelling_byte b (inr (inl h)) = rw h refl
+spelling_byte b (inr (inr h)) = rw h refl
 
 spelling_open : (x : List ℕ) → AllByRecursion IsSpellingByte x → NoOpen x
-unfolding NoOpen
-spelling_open [] h = tt
-spelling_open (b ∷ x) h = (spelling_byte b h.0, spelling_open x h.1)
+spelling_open [] h = refl
+spelling_open (b ∷ x) h = ap₂ (λ c d. c && d) (spelling_byte b h.0) (spelling_open x h.1)
 
 open_if : (b : Bool) (x y : List ℕ) → NoOpen x → NoOpen y → NoOpen (cond b x y)
 open_if true x y h k = h
 open_if false x y h k = k
 
-word_open : NoOpen (codes "\\epsilon")
-unfolding NoOpen
-word_open = (λ e. omega (arith, e), (λ e. omega (arith, e), (λ e. omega (arith, e), (λ e. omega (arith, e), (λ e. omega (arith, e), (λ e. omega (arith, e), (λ e. omega (arith, e), (λ e. omega (arith, e), tt))))))))
-
-caret_open : (p : ℕ) → NoOpen (codes "^" ++ ((48 + p) ∷ []))
-unfolding NoOpen
-caret_open p = (λ e. omega (arith, e), (λ e. omega (arith, e), tt))
-
-power_if : (b : Bool) (p : ℕ) → NoOpen (cond b (codes "\\epsilon") (codes "\\epsilon^" ++ ((48 + p) ∷ [])))
-power_if true p = word_open
-power_if false p = no_open_both (codes "\\epsilon") (codes "^" ++ ((48 + p) ∷ [])) word_open (caret_open p)
-
-star_open : NoOpen (codes "*")
-unfolding NoOpen
-star_open = (λ e. omega (arith, e), tt)
-
-number_open : (t : Terms) → IsReduced t → NoOpen (spelling t)
-number_open t r = spelling_open (spelling t) (spelling_bytes t r)
-
-factor_if : (b : Bool) (t : Terms) → IsReduced t → NoOpen (cond b [] (spelling t ++ codes "*"))
-unfolding NoOpen
-factor_if true t r = tt
-factor_if false t r = no_open_both (spelling t) (codes "*") (number_open t r) star_open
-
-term_if : (b : Bool) (p : ℕ) (t : Terms) → IsReduced t → NoOpen (cond b (spelling t) (factor_text t ++ power_text p))
-term_if true p t r = number_open t r
-term_if false p t r = no_open_both (factor_text t) (power_text p) (factor_if (is_one t) t r) (power_if (eqb p 1) p)
+power_open : (p : ℕ) → NoOpen (power_text p)
+power_open p = open_if (eqb p 1) (codes "\\epsilon") (codes "\\epsilon^" ++ ((48 + p) ∷ [])) refl
+    (no_open_both (codes "\\epsilon^") ((48 + p) ∷ []) refl (ap (λ c. c && true) (number_byte (48 + p) (omega arith))))
 
 term_open : (p : ℕ) (t : Terms) → IsReduced t → NoOpen (term_text p t)
 unfolding term_text
-term_open p t r = term_if (eqb p 0) p t r
+term_open p t r =
+    let number = spelling_open (spelling t) (spelling_bytes t r) in
+    open_if (eqb p 0) (spelling t) (factor_text t ++ power_text p) number
+    (no_open_both (factor_text t) (power_text p) (open_if (is_one t) [] (spelling t ++ codes "*") refl (no_open_both (spelling t) (codes "*") number refl))
+    (power_open p))
 
 joint_open : (f b : Bool) → NoOpen (joint_text f b)
-unfolding NoOpen
-joint_open true true = (λ e. omega (arith, e), tt)
-joint_open false true = (λ e. omega (arith, e), tt)
-joint_open true false = tt
-joint_open false false = (λ e. omega (arith, e), tt)
+joint_open true true = refl
+joint_open false true = refl
+joint_open true false = refl
+joint_open false false = refl
 
 joined_open : (f : Bool) (p : ℕ) (t : Terms) → IsShortTerms t → NoOpen (joined_term f p t)
 unfolding joined_term
 joined_open f p t s = no_open_both (joint_text f (is_negative t.num)) (term_text p (absolute t)) (joint_open f (is_negative t.num)) (term_open p (absolute t) (subst IsReduced (size_of t s) (size_short t s).0))
 
 terms_open : (f : Bool) (p n : ℕ) (e : List Terms) → AreShort e → NoOpen (terms_text f p n e)
-unfolding terms_text AreShort NoOpen
-terms_open f p zero e s = tt
+unfolding terms_text AreShort
+terms_open f p zero e s = refl
 terms_open f p (suc n) e s =
     open_if (is_zero (terms_at e p)) (terms_text f (suc p) n e) (joined_term f p (terms_at e p) ++ terms_text false (suc p) n e) (terms_open f (suc p) n e s) (no_open_both (joined_term f p (terms_at e p)) (terms_text false (suc p) n e) (joined_open f p (terms_at e p) (s p)) (terms_open false (suc p) n e s))
 
 entry_open : (e : List Terms) → AreShort e → NoOpen (coefficients_text e)
-unfolding coefficients_text NoOpen
-entry_open e s = open_if (are_zero_below 5 e) (codes "0") (terms_text true 0 5 e) (λ x. omega (arith, x), tt) (terms_open true 0 5 e s)
+unfolding coefficients_text
+entry_open e s = open_if (are_zero_below 5 e) (codes "0") (terms_text true 0 5 e) refl (terms_open true 0 5 e s)
 
 -- ---- an entry by its coefficients
 

@@ -136,32 +136,21 @@ of_five a b c d e u v w x y p q r s t = record { reduced = reduced_by a b c d e 
 
 -- ---- results
 
--- the coefficients that make an entry
-record IsMade (f : ℕ → Result Terms ValueFault) (z : List Terms) : Type 0 where
-  a : Terms
-  b : Terms
-  c : Terms
-  d : Terms
-  e : Terms
-  at_0 : f 0 ≡ Ok a
-  at_1 : f 1 ≡ Ok b
-  at_2 : f 2 ≡ Ok c
-  at_3 : f 3 ≡ Ok d
-  at_4 : f 4 ≡ Ok e
-  is : a ∷ b ∷ c ∷ d ∷ e ∷ [] ≡ z
-
 same_ok : (x y : List Terms) → Path (Result (List Terms) ValueFault) (Ok x) (Ok y) → x ≡ y
 same_ok x y h = cc
 
-made : (f : ℕ → Result Terms ValueFault) (z : List Terms) → coefficients f ≡ Ok z → IsMade f z
+-- coefficients that are these numbers, where all are made
+all_meant : (f : ℕ → Result Terms ValueFault) (g : ℕ → Value) (z : List Terms) → coefficients f ≡ Ok z
+    → ((k : ℕ) (t : Terms) → f k ≡ Ok t → IsNumber t (g k)) → IsMeant z (by_powers (g 0) (g 1) (g 2) (g 3) (g 4) epsilon)
 unfolding coefficients
-made f z h =
+all_meant f g z h is =
     let a = bind_ok (f 0) _ z h in
     let b = bind_ok (f 1) _ z a.1.1 in
     let c = bind_ok (f 2) _ z b.1.1 in
     let d = bind_ok (f 3) _ z c.1.1 in
     let e = bind_ok (f 4) _ z d.1.1 in
-    record { a = a.0; b = b.0; c = c.0; d = d.0; e = e.0; at_0 = a.1.0; at_1 = b.1.0; at_2 = c.1.0; at_3 = d.1.0; at_4 = e.1.0; is = same_ok (a.0 ∷ b.0 ∷ c.0 ∷ d.0 ∷ e.0 ∷ []) z e.1.1 }
+    let n = of_five a.0 b.0 c.0 d.0 e.0 (g 0) (g 1) (g 2) (g 3) (g 4) (is 0 a.0 a.1.0) (is 1 b.0 b.1.0) (is 2 c.0 c.1.0) (is 3 d.0 d.1.0) (is 4 e.0 e.1.0) in
+    subst (λ l. IsMeant l (by_powers (g 0) (g 1) (g 2) (g 3) (g 4) epsilon)) (same_ok (a.0 ∷ b.0 ∷ c.0 ∷ d.0 ∷ e.0 ∷ []) z e.1.1) n
 
 -- ---- sums and differences
 
@@ -181,22 +170,18 @@ constant_powers : (a x : Value) → by_powers a number_zero number_zero number_z
 unfolding by_powers
 constant_powers a x = five_first a (x *ε number_one) (x *ε (x *ε number_one)) (x *ε (x *ε (x *ε number_one))) (x *ε (x *ε (x *ε (x *ε number_one))))
 
-sum_at : (x y : List Terms) (k : ℕ) (t : Terms) → ((j : ℕ) → IsReduced (terms_at x j)) → ((j : ℕ) → IsReduced (terms_at y j)) → sum (terms_at x k) (terms_at y k) ≡ Ok t → IsNumber t (value_at x k +ε value_at y k)
-sum_at x y k t p q e = sum_number (terms_at x k) (terms_at y k) t (p k).positive (q k).positive e
-
-difference_at : (x y : List Terms) (k : ℕ) (t : Terms) → ((j : ℕ) → IsReduced (terms_at x j)) → ((j : ℕ) → IsReduced (terms_at y j)) → difference (terms_at x k) (terms_at y k) ≡ Ok t → IsNumber t (value_at x k -ε value_at y k)
-difference_at x y k t p q e = difference_number (terms_at x k) (terms_at y k) t (p k).positive (q k).positive e
-
 joined_meant : (sign : Sign) (x y z : List Terms) (v w : Value) → IsMeant x v → IsMeant y w → joined sign x y ≡ Ok z → IsMeant z (moved sign v w)
 unfolding joined
 joined_meant Plus x y z v w p q h =
-    let m = made _ z h in
-    let n = of_five m.a m.b m.c m.d m.e _ _ _ _ _ (sum_at x y 0 m.a p.reduced q.reduced m.at_0) (sum_at x y 1 m.b p.reduced q.reduced m.at_1) (sum_at x y 2 m.c p.reduced q.reduced m.at_2) (sum_at x y 3 m.d p.reduced q.reduced m.at_3) (sum_at x y 4 m.e p.reduced q.reduced m.at_4) in
-    subst (λ l. IsMeant l (v +ε w)) m.is (as_meant _ _ (v +ε w) (plus_powers _ _ _ _ _ _ _ _ _ _ epsilon ∙ ap₂ (λ a b. a +ε b) (sym (value_by_powers x) ∙ p.is) (sym (value_by_powers y) ∙ q.is)) n)
+    let n = all_meant (λ k. sum (terms_at x k) (terms_at y k)) (λ k. value_at x k +ε value_at y k) z h
+    (λ k t e. sum_number (terms_at x k) (terms_at y k) t (p.reduced k).positive (q.reduced k).positive e) in
+    as_meant z _ (v +ε w) (plus_powers _ _ _ _ _ _ _ _ _ _ epsilon
+    ∙ ap₂ (λ a b. a +ε b) (sym (value_by_powers x) ∙ p.is) (sym (value_by_powers y) ∙ q.is)) n
 joined_meant Minus x y z v w p q h =
-    let m = made _ z h in
-    let n = of_five m.a m.b m.c m.d m.e _ _ _ _ _ (difference_at x y 0 m.a p.reduced q.reduced m.at_0) (difference_at x y 1 m.b p.reduced q.reduced m.at_1) (difference_at x y 2 m.c p.reduced q.reduced m.at_2) (difference_at x y 3 m.d p.reduced q.reduced m.at_3) (difference_at x y 4 m.e p.reduced q.reduced m.at_4) in
-    subst (λ l. IsMeant l (v -ε w)) m.is (as_meant _ _ (v -ε w) (minus_powers _ _ _ _ _ _ _ _ _ _ epsilon ∙ ap₂ (λ a b. a -ε b) (sym (value_by_powers x) ∙ p.is) (sym (value_by_powers y) ∙ q.is)) n)
+    let n = all_meant (λ k. difference (terms_at x k) (terms_at y k)) (λ k. value_at x k -ε value_at y k) z h
+    (λ k t e. difference_number (terms_at x k) (terms_at y k) t (p.reduced k).positive (q.reduced k).positive e) in
+    as_meant z _ (v -ε w) (minus_powers _ _ _ _ _ _ _ _ _ _ epsilon
+    ∙ ap₂ (λ a b. a -ε b) (sym (value_by_powers x) ∙ p.is) (sym (value_by_powers y) ∙ q.is)) n
 
 -- ---- coefficients above the degree
 
@@ -284,9 +269,9 @@ times_meant : (x y z : List Terms) (v w : Value) → IsMeant x v → IsMeant y w
 unfolding times all_products
 times_meant x y z v w p q h =
     let l = low_degree (nat_lt 4 (degree x + degree y)) (degree x + degree y) (coefficients (λ k. product_sum x y k (suc k))) z refl h in
-    let m = made _ z l.1 in
-    let n = of_five m.a m.b m.c m.d m.e _ _ _ _ _ (products_at x y 0 1 m.a p.reduced q.reduced m.at_0) (products_at x y 1 2 m.b p.reduced q.reduced m.at_1) (products_at x y 2 3 m.c p.reduced q.reduced m.at_2) (products_at x y 3 4 m.d p.reduced q.reduced m.at_3) (products_at x y 4 5 m.e p.reduced q.reduced m.at_4) in
-    subst (λ t. IsMeant t (v *ε w)) m.is (as_meant _ _ (v *ε w) (all_of x y p.reduced q.reduced l.0 ∙ ap₂ (λ a b. a *ε b) p.is q.is) n)
+    let n = all_meant (λ k. product_sum x y k (suc k)) (λ k. products (value_at x) (value_at y) k (suc k)) z l.1
+    (λ k t e. products_at x y k (suc k) t p.reduced q.reduced e) in
+    as_meant z _ (v *ε w) (all_of x y p.reduced q.reduced l.0 ∙ ap₂ (λ a b. a *ε b) p.is q.is) n
 
 -- ---- quotients
 
@@ -299,28 +284,27 @@ divisor_is : (y : List Terms) → ((j : ℕ) → IsReduced (terms_at y j)) → d
 divisor_is y q d =
     value_by_powers y ∙ rw (none_above y 1 q (omega (arith, d)) (omega arith), none_above y 2 q (omega (arith, d)) (omega arith), none_above y 3 q (omega (arith, d)) (omega arith), none_above y 4 q (omega (arith, d)) (omega arith)) (constant_powers (value_at y 0) epsilon)
 
-quotient_at : (x y : List Terms) (k : ℕ) (t : Terms) → ((j : ℕ) → IsReduced (terms_at x j)) → ((j : ℕ) → IsReduced (terms_at y j)) → is_zero (terms_at y 0) ≡ false → quotient (terms_at x k) (terms_at y 0) ≡ Ok t → IsNumber t (value_at x k /ε value_at y 0)
-quotient_at x y k t p q s e = quotient_number (terms_at x k) (terms_at y 0) t (p k).positive (q 0).positive (some_number (terms_at y 0).num s) e
-
 over_meant : (x y z : List Terms) (v w : Value) → IsMeant x v → IsMeant y w → over x y ≡ Ok z → IsMeant z (v /ε w)
 unfolding over
 over_meant x y z v w p q h =
     let l = number_divisor (nat_lt 0 (degree y)) (is_zero (terms_at y 0)) (degree y) (coefficients (λ k. quotient (terms_at x k) (terms_at y 0))) z refl h in
-    let m = made _ z l.1.1 in
-    let s = l.1.0 in
-    let n = of_five m.a m.b m.c m.d m.e _ _ _ _ _ (quotient_at x y 0 m.a p.reduced q.reduced s m.at_0) (quotient_at x y 1 m.b p.reduced q.reduced s m.at_1) (quotient_at x y 2 m.c p.reduced q.reduced s m.at_2) (quotient_at x y 3 m.d p.reduced q.reduced s m.at_3) (quotient_at x y 4 m.e p.reduced q.reduced s m.at_4) in
-    subst (λ t. IsMeant t (v /ε w)) m.is (as_meant _ _ (v /ε w) (over_powers _ _ _ _ _ (value_at y 0) epsilon ∙ ap₂ (λ a b. a /ε b) (sym (value_by_powers x) ∙ p.is) (sym (divisor_is y q.reduced l.0) ∙ q.is)) n)
+    let n = all_meant (λ k. quotient (terms_at x k) (terms_at y 0)) (λ k. value_at x k /ε value_at y 0) z l.1.1
+    (λ k t e. quotient_number (terms_at x k) (terms_at y 0) t (p.reduced k).positive (q.reduced 0).positive (some_number (terms_at y 0).num l.1.0) e) in
+    as_meant z _ (v /ε w) (over_powers _ _ _ _ _ (value_at y 0) epsilon
+    ∙ ap₂ (λ a b. a /ε b) (sym (value_by_powers x) ∙ p.is) (sym (divisor_is y q.reduced l.0) ∙ q.is)) n
 
 -- ---- literals
 
 plain_meant : (t : Terms) (v : Value) → IsNumber t v → IsMeant (plain_entry t) v
 plain_meant t v h = as_meant (plain_entry t) _ v (constant_powers v epsilon) (of_five t zero_terms zero_terms zero_terms zero_terms v number_zero number_zero number_zero number_zero h zero_is zero_is zero_is zero_is)
 
-decimal_by : (b : Bool) (l : Terms) (x : List Terms) → decimal_entry (cond b None (Some l)) ≡ Ok x → (t : Terms) × ((short_of l ≡ Ok t) × (plain_entry t ≡ x))
+decimal_by : (b : Bool) (l : Terms) (x : List Terms) → decimal_entry (cond b None (Some l)) ≡ Ok x
+    → (t : Terms) × ((short_of l ≡ Ok t) × (plain_entry t ≡ x))
 decimal_by true l x h = absurd cc
 decimal_by false l x h = let b = bind_ok (short_of l) (λ t. Ok (plain_entry t)) x h in (b.0, (b.1.0, same_ok (plain_entry b.0) x b.1.1))
 
-decimal_meant : (d : Decimal) (x : List Terms) → decimal_entry (decimal_value d) ≡ Ok x → IsMeant x (fraction (value_of None d.body).num (value_of None d.body).den)
+decimal_meant : (d : Decimal) (x : List Terms) → decimal_entry (decimal_value d) ≡ Ok x
+    → IsMeant x (fraction (value_of None d.body).num (value_of None d.body).den)
 unfolding decimal_value short
 decimal_meant d x h =
     let v = value_of None d.body in

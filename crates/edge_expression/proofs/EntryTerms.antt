@@ -67,7 +67,8 @@ unfolding number_of
 number_read n h = subst (λ x. IsNumeralOf x (number_of n)) (number_spelling n) (read_back (number_of n) (number_reduced n h) (omega (arith, h)) (omega arith))
 
 whole_value : (n : ℕ) (h : n ≤ 10 ^ 18) → decimal_entry (decimal_value (whole n h)) ≡ Ok (plain_entry (number_of n))
-whole_value n h = ap decimal_entry (sym (decimal_found (whole n h) (decimal n) (number_of n) (sym (whole_text n h)) (number_read n h))) ∙ short_here (number_of n) (number_short n h)
+whole_value n h = ap decimal_entry (sym (decimal_found (whole n h) (decimal n) (number_of n) (sym (whole_text n h)) (number_read n h)))
+    ∙ short_here (number_of n) (number_short n h)
 
 -- ---- tokens one behind the other
 

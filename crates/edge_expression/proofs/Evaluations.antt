@@ -217,7 +217,9 @@ product_done entry old new product goes h t more ends x =
 
 -- ---- factors
 
-pub decimal_gives : (text : Bor (List ℕ)) (old : List ℕ) (r : Result Polynomial ValueFault) → ((d : Decimal) → text.now ≡ body_text d.body → map_value polynomial_terms r ≡ decimal_entry (decimal_value d)) → FactorGives (heads.Decimal text) old r old
+pub decimal_gives : (text : Bor (List ℕ)) (old : List ℕ) (r : Result Polynomial ValueFault)
+    → ((d : Decimal) → text.now ≡ body_text d.body → map_value polynomial_terms r ≡ decimal_entry (decimal_value d))
+    → FactorGives (heads.Decimal text) old r old
 unfolding FactorGives IsHead
 decimal_gives text old r v (Number d) more ends h = (v d h.0 ∙ sym (decimal_factor d), λ _. h.1)
 decimal_gives text old r v (Other (Epsilon power)) more ends h = absurd h

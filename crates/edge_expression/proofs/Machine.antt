@@ -6,7 +6,7 @@ use Rattle.fraction.specs.declared.byte_class.Class.TheVariants as decimals
 use Rattle.fraction.specs.declared.decimal_machine.DecimalPart.{DecimalPart}
 use Rattle.fraction.specs.declared.decimal_machine.DecimalPart.TheVariants as parts
 use Rattle.fraction.specs.DecimalMachine.{class_of as decimal_class, decimal_step, decimal_byte, may_end as ends_decimal}
-use Rattle.fraction.proofs.Classes.{IsOf as IsDecimalByte, class_is as decimal_class_is}
+use Rattle.fraction.proofs.Classes.{IsOf as IsDecimalByte, class_is as decimal_class_is, digit_test}
 use Rattle.edge_expression.specs.declared.byte_machine.Letter.{Letter}
 use Rattle.edge_expression.specs.declared.byte_machine.Letter.TheVariants as letters
 use Rattle.edge_expression.specs.declared.byte_machine.State.{State}
@@ -57,7 +57,7 @@ letter_opens letters.O n = refl
 -- nor is a byte with which a decimal goes on
 opens_by : (p q : DecimalPart) (b n : ℕ) (c : DecimalClass) → IsDecimalByte c b → decimal_step p c ≡ Some q → opened (class_of b) n ≡ Some n
 unfolding class_of
-opens_by p q b n decimals.Digit k e = ap (λ d. opened d n) (class_digit b k.0 k.1)
+opens_by p q b n decimals.Digit k e = ap (λ d. opened d n) (class_digit b (digit_test b k.0 k.1))
 opens_by p q b n decimals.Sign k e = ap (λ d. opened d n) (class_sign b k)
 opens_by p q b n decimals.Point k e = rw k refl
 opens_by p q b n decimals.Mark (inl k) e = rw k refl
@@ -74,9 +74,10 @@ pub part_opens : (p q : DecimalPart) (b n : ℕ) → decimal_byte p b ≡ Some q
 part_opens p q b n e = opens_by p q b n (decimal_class b) (decimal_class_is b) e
 
 -- a byte with which a decimal goes on that may end doesn't stand behind a factor
-none_behind : (p q : DecimalPart) (b : ℕ) (c : DecimalClass) → IsDecimalByte c b → ends_decimal p ≡ true → decimal_step p c ≡ Some q → behind_factor (class_of b) ≡ None
+none_behind : (p q : DecimalPart) (b : ℕ) (c : DecimalClass) → IsDecimalByte c b → ends_decimal p ≡ true → decimal_step p c ≡ Some q
+    → behind_factor (class_of b) ≡ None
 unfolding class_of
-none_behind p q b decimals.Digit k e f = ap behind_factor (class_digit b k.0 k.1)
+none_behind p q b decimals.Digit k e f = ap behind_factor (class_digit b (digit_test b k.0 k.1))
 none_behind p q b decimals.Point k e f = rw k refl
 none_behind p q b decimals.Mark (inl k) e f = rw k refl
 none_behind p q b decimals.Mark (inr k) e f = rw k refl
@@ -85,10 +86,12 @@ none_behind parts.Fraction q b c k e f = absurd cc
 none_behind parts.Exponent q b c k e f = absurd cc
 none_behind p q b c k e f = absurd cc
 
-ends_by : (b : ℕ) (u : State) (p : DecimalPart) (o : Option DecimalPart) → behind_factor (class_of b) ≡ Some u → ends_decimal p ≡ true → decimal_byte p b ≡ o → o ≡ None
+ends_by : (b : ℕ) (u : State) (p : DecimalPart) (o : Option DecimalPart) → behind_factor (class_of b) ≡ Some u → ends_decimal p ≡ true
+    → decimal_byte p b ≡ o → o ≡ None
 ends_by b u p None e k f = refl
 ends_by b u p (Some q) e k f = let g = none_behind p q b (decimal_class b) (decimal_class_is b) k f in absurd cc
 
 -- a decimal ends before what may stand behind a factor
-pub ends_before : (b : ℕ) (u : State) → behind_factor (class_of b) ≡ Some u → (p : DecimalPart) → ends_decimal p ≡ true → decimal_byte p b ≡ None
+pub ends_before : (b : ℕ) (u : State) → behind_factor (class_of b) ≡ Some u → (p : DecimalPart) → ends_decimal p ≡ true
+    → decimal_byte p b ≡ None
 ends_before b u e p k = ends_by b u p (decimal_byte p b) e k refl

@@ -74,7 +74,8 @@ pub entry_not_fault : (text : List ℕ) (e : List Ratio) (f : ExprFault) → IsE
 unfolding IsExprFault ok_worth err_worth
 entry_not_fault text e Depth h k = worth_not_deep text (Ok (map terms e)) h k
 entry_not_fault text e (BadByte n) h k = worth_not_bad text (Ok (map terms e)) n h k.0
-entry_not_fault text e DivisorNotNumber h k = ok_not_err (map terms e) values.DivisorNotNumber (one_worth text (Ok (map terms e)) (Err values.DivisorNotNumber) h k)
+entry_not_fault text e DivisorNotNumber h k = ok_not_err (map terms e) values.DivisorNotNumber
+    (one_worth text (Ok (map terms e)) (Err values.DivisorNotNumber) h k)
 entry_not_fault text e ZeroDivisor h k = ok_not_err (map terms e) values.ZeroDivisor (one_worth text (Ok (map terms e)) (Err values.ZeroDivisor) h k)
 entry_not_fault text e Degree h k = ok_not_err (map terms e) values.Degree (one_worth text (Ok (map terms e)) (Err values.Degree) h k)
 entry_not_fault text e Part h k = ok_not_err (map terms e) values.Part (one_worth text (Ok (map terms e)) (Err values.Part) h k)
@@ -120,8 +121,10 @@ one_expr_fault text Part g h k = worth_once text values.Part g h k
 abbrev HasOne : List ℕ → Type 0
 HasOne text = ((e : List Ratio) × IsEntryText text e) ⊎ ((f : ExprFault) × IsExprFault text f)
 
-by_value : (text : List ℕ) (e : Expression) (r : Result (List Terms) ValueFault) → Spells text e → IsShallow text (length text) → value e ≡ r → HasOne text
-by_value text e (Ok x) s h v = let xs = ratios_of x (value_reduced e x v) in inl (xs.ratios, record { expression = e; spells = s; shallow = h; worth_is = v ∙ ap Ok (sym xs.are) })
+by_value : (text : List ℕ) (e : Expression) (r : Result (List Terms) ValueFault) → Spells text e → IsShallow text (length text) → value e ≡ r
+    → HasOne text
+by_value text e (Ok x) s h v = let xs = ratios_of x (value_reduced e x v) in inl
+    (xs.ratios, record { expression = e; spells = s; shallow = h; worth_is = v ∙ ap Ok (sym xs.are) })
 by_value text e (Err f) s h v = inr (fault_of f, worth_fault text f (record { expression = e; spells = s; shallow = h; worth_is = v }))
 
 by_scan : (text : List ℕ) (r : Result (Unit {0}) ExprFault) → IsScanned text r → HasOne text

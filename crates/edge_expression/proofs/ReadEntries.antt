@@ -56,20 +56,24 @@ worth_fault text values.ZeroDivisor w = w
 worth_fault text values.Degree w = w
 worth_fault text values.Part w = w
 
-pub found : (text : List ℕ) (x : Entry) → IsScanned text (Ok tt) → ((e : Expression) → Spells text e → map_value (map terms) (Ok x) ≡ value e) → IsEntryText text x
+pub found : (text : List ℕ) (x : Entry) → IsScanned text (Ok tt) → ((e : Expression) → Spells text e → map_value (map terms) (Ok x) ≡ value e)
+    → IsEntryText text x
 found text x s h = worth_of text (Ok (map terms x)) s h
 
-pub fault : (text : List ℕ) (f : ValueFault) → IsScanned text (Ok tt) → ((e : Expression) → Spells text e → map_value {A = Entry} (map terms) (Err f) ≡ value e) → IsExprFault text (fault_of f)
+pub fault : (text : List ℕ) (f : ValueFault) → IsScanned text (Ok tt)
+    → ((e : Expression) → Spells text e → map_value {A = Entry} (map terms) (Err f) ≡ value e) → IsExprFault text (fault_of f)
 fault text f s h = worth_fault text f (worth_of text (Err f) s h)
 
 same_worth : (x y : List Terms) → Path (Result (List Terms) ValueFault) (Ok x) (Ok y) → x ≡ y
 same_worth x y e = cc
 
-pub only : (text : List ℕ) (x : Entry) → ((e : Expression) → Spells text e → map_value (map terms) (Ok x) ≡ value e) → (e : List Ratio) → IsEntryText text e → x ≡ e
+pub only : (text : List ℕ) (x : Entry) → ((e : Expression) → Spells text e → map_value (map terms) (Ok x) ≡ value e) → (e : List Ratio)
+    → IsEntryText text e → x ≡ e
 only text x h e w = same_ratios x e (same_worth (map terms x) (map terms e) (h w.expression w.spells ∙ w.worth_is))
 
 no_worth : (f : ValueFault) (x : List Terms) → Path (Result (List Terms) ValueFault) (Err f) (Ok x) → ⊥
 no_worth f x e = cc
 
-pub none : (text : List ℕ) (f : ValueFault) → ((e : Expression) → Spells text e → map_value {A = Entry} (map terms) (Err f) ≡ value e) → (e : List Ratio) → IsEntryText text e → ⊥
+pub none : (text : List ℕ) (f : ValueFault) → ((e : Expression) → Spells text e → map_value {A = Entry} (map terms) (Err f) ≡ value e)
+    → (e : List Ratio) → IsEntryText text e → ⊥
 none text f h e w = no_worth f (map terms e) (h w.expression w.spells ∙ w.worth_is)

@@ -213,25 +213,30 @@ After : List ℕ → Option State → Option ℕ → Type 0
 After t s m = accepts_then (accepts step may_end t) (reached s m) ≡ true
 
 -- with a byte more of a decimal
-part_goes : (n b : ℕ) (t : List ℕ) (p q : DecimalPart) → decimal_byte p b ≡ Some q → All t → After t (Some (states.Decimal q)) (opened (class_of b) n) → PartOf q n t
+part_goes : (n b : ℕ) (t : List ℕ) (p q : DecimalPart) → decimal_byte p b ≡ Some q → All t
+    → After t (Some (states.Decimal q)) (opened (class_of b) n) → PartOf q n t
 unfolding All Means After
-part_goes n b t p q e r h = r (states.Decimal q) n (sym (ap (λ m. accepts_then (accepts step may_end t) (reached (Some (states.Decimal q)) m)) (part_opens p q b n e)) ∙ h)
+part_goes n b t p q e r h = r (states.Decimal q) n (sym (ap (λ m. accepts_then (accepts step may_end t) (reached (Some (states.Decimal q)) m))
+    (part_opens p q b n e)) ∙ h)
 
 operand_class : (n b : ℕ) (t : List ℕ) (c : Class) → IsOf c b → All t → After t (operand_parts None c) (opened c n) → TextOf (FactorAt n) (b ∷ t)
 unfolding All Means After
 operand_class n b t classes.Blank k r h = behind_blank (FactorAt n) b t k (r states.Operand n h)
-operand_class n b t classes.Backslash k r h = changed (FurtherAt n) (FactorAt n) (b ∷ t) (as_factor n) (word_first n b t k (r (states.Word letters.Backslash) n h))
+operand_class n b t classes.Backslash k r h = changed (FurtherAt n) (FactorAt n) (b ∷ t) (as_factor n)
+    (word_first n b t k (r (states.Word letters.Backslash) n h))
 operand_class n b t classes.Open k r h = changed (FurtherAt n) (FactorAt n) (b ∷ t) (as_factor n) (open_first n b t k (r states.Start (suc n) h))
 operand_class n b t c k r h = absurd cc
 
-operand_by : (n b : ℕ) (t : List ℕ) (o : Option DecimalPart) → decimal_byte parts.Start b ≡ o → All t → After t (operand_parts o (class_of b)) (opened (class_of b) n) → TextOf (FactorAt n) (b ∷ t)
+operand_by : (n b : ℕ) (t : List ℕ) (o : Option DecimalPart) → decimal_byte parts.Start b ≡ o → All t
+    → After t (operand_parts o (class_of b)) (opened (class_of b) n) → TextOf (FactorAt n) (b ∷ t)
 operand_by n b t (Some p) e r h = decimal_first n b t p e (part_goes n b t parts.Start p e r h)
 operand_by n b t None e r h = operand_class n b t (class_of b) (class_is b) r h
 
 operand_is : (n b : ℕ) (t : List ℕ) → All t → After t (at_operand b) (opened (class_of b) n) → TextOf (FactorAt n) (b ∷ t)
 operand_is n b t r h = operand_by n b t (decimal_byte parts.Start b) refl r h
 
-start_by : (n b : ℕ) (t : List ℕ) (c : Class) → IsOf c b → All t → (After t (at_operand b) (opened c n) → TextOf (FactorAt n) (b ∷ t)) → After t (start_or c (at_operand b)) (opened c n) → TextOf (SumAt n) (b ∷ t)
+start_by : (n b : ℕ) (t : List ℕ) (c : Class) → IsOf c b → All t → (After t (at_operand b) (opened c n) → TextOf (FactorAt n) (b ∷ t))
+    → After t (start_or c (at_operand b)) (opened c n) → TextOf (SumAt n) (b ∷ t)
 unfolding All Means After
 start_by n b t classes.Blank k r f h = behind_blank (SumAt n) b t k (r states.Start n h)
 start_by n b t classes.Sign k r f h = sign_first (FactorAt n) (SumAt n) b t k (λ sign. signed_factor sign n) (r states.Operand n h)
@@ -264,7 +269,8 @@ caret_by n b t classes.Blank k r h = behind_blank (PowerAt n) b t k (r states.Ca
 caret_by n b t classes.Digit k r h = digit_first n b t k.0 k.1 (r states.Factor n h)
 caret_by n b t c k r h = absurd cc
 
-part_by : (p : DecimalPart) (n b : ℕ) (t : List ℕ) (o : Option DecimalPart) (e : Bool) → decimal_byte p b ≡ o → ends_decimal p ≡ e → All t → After t (behind_parts o e (class_of b)) (opened (class_of b) n) → PartOf p n (b ∷ t)
+part_by : (p : DecimalPart) (n b : ℕ) (t : List ℕ) (o : Option DecimalPart) (e : Bool) → decimal_byte p b ≡ o → ends_decimal p ≡ e → All t
+    → After t (behind_parts o e (class_of b)) (opened (class_of b) n) → PartOf p n (b ∷ t)
 unfolding After
 part_by p n b t (Some q) e f g r h =
     let x = part_goes n b t p q f r h in
@@ -314,7 +320,8 @@ end_by : (s : State) (n : ℕ) → ends (is_whole s) n ≡ true → Means s n []
 unfolding Means
 end_by states.Start n h = absurd cc
 end_by states.Operand n h = absurd cc
-end_by (states.Decimal p) n h = none_open (λ m. PartOf p m []) (ends_decimal p) n (λ e. record { front = []; rest = []; spelt = refl; taken = takes_nil p ∙ e; behind_is = nothing_left }) h
+end_by (states.Decimal p) n h = none_open (λ m. PartOf p m []) (ends_decimal p) n
+    (λ e. record { front = []; rest = []; spelt = refl; taken = takes_nil p ∙ e; behind_is = nothing_left }) h
 end_by (states.Word l) n h = absurd cc
 end_by states.Epsilon n h = none_open (λ m. TextOf (EpsilonAt m) []) true n (λ e. changed (BehindAt 0) (EpsilonAt 0) [] (no_caret 0) nothing_left) h
 end_by states.Caret n h = absurd cc

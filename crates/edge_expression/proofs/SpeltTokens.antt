@@ -81,14 +81,21 @@ record HasFirst (k : Token) : Type 0 where
   spelt : token_text k ≡ byte ∷ rest
   is : IsFirst k byte
 
-first_class : (b : ℕ) (x : List ℕ) (c : DecimalClass) → IsDecimalByte c b → accepts_then (takes x) (decimal_step parts.Start c) ≡ true → ((48 ≤ b) × (b ≤ 57)) ⊎ (b ≡ 46)
+first_class : (b : ℕ) (x : List ℕ) (c : DecimalClass) → IsDecimalByte c b → accepts_then (takes x) (decimal_step parts.Start c) ≡ true
+    → ((48 ≤ b) × (b ≤ 57)) ⊎ (b ≡ 46)
 first_class b x decimals.Digit k h = inl k
 first_class b x decimals.Point k h = inr k
 first_class b x c k h = absurd cc
 
 decimal_first : (d : Decimal) (text : List ℕ) → body_text d.body ≡ text → takes text parts.Start ≡ true → HasFirst (DecimalToken d)
 decimal_first d [] e h = let f : false ≡ true = sym (takes_nil parts.Start) ∙ h in absurd cc
-decimal_first d (b ∷ x) e h = record { byte = b; rest = x; spelt = e; is = first_class b x (decimal_class b) (decimal_class_is b) (sym (takes_cons b x parts.Start) ∙ h) }
+decimal_first d (b ∷ x) e h = record {
+  byte = b;
+  rest = x;
+  spelt = e;
+  is = first_class b x (decimal_class b) (decimal_class_is b)
+      (sym (takes_cons b x parts.Start) ∙ h);
+}
 
 first_of : (k : Token) → HasFirst k
 first_of (DecimalToken d) = decimal_first d (body_text d.body) refl (decimal_taken d)

@@ -56,12 +56,18 @@ unfolding byte_mark
 sign_mark Plus = refl
 sign_mark Minus = refl
 
-sign_begins : (ks : List Token) (sign : Sign) (old new : List ℕ) → after_blanks old ≡ sign_byte sign ∷ new → IsSpelt ks old → begin ks ≡ sign_byte sign
+sign_begins : (ks : List Token) (sign : Sign) (old new : List ℕ) → after_blanks old ≡ sign_byte sign ∷ new → IsSpelt ks old
+    → begin ks ≡ sign_byte sign
 sign_begins ks sign old new a s = begins ks old (sign_byte sign) new a s ∙ sign_mark sign
 
-sign_taken : (a b : Sign) (ks : List Token) (old new : List ℕ) → after_blanks old ≡ sign_byte a ∷ new → IsSpelt (SignToken b ∷ ks) old → (a ≡ b) × IsSpelt ks new
+sign_taken : (a b : Sign) (ks : List Token) (old new : List ℕ) → after_blanks old ≡ sign_byte a ∷ new → IsSpelt (SignToken b ∷ ks) old
+    → (a ≡ b) × IsSpelt ks new
 unfolding begin mark
-sign_taken a b ks old new e s = (same_sign a b (sign_begins (SignToken b ∷ ks) a old new e s), one_taken (SignToken b) ks old new (sign_byte a) (sign_byte b) refl s e)
+sign_taken a b ks old new e s = (
+  same_sign a b (sign_begins (SignToken b ∷ ks) a old new e s),
+  one_taken (SignToken b) ks old new (sign_byte a) (sign_byte b)
+      refl s e,
+)
 
 no_sign_here : (sign : Sign) (ks : List Token) (old : List ℕ) → NoSign (after_blanks old) → IsSpelt (SignToken sign ∷ ks) old → ⊥
 no_sign_here Plus ks old h s = (subst NoSign (front (SignToken Plus) ks old s).after h).0 refl
@@ -75,7 +81,8 @@ first_operation (Some op) = op
 pub first_sign : (taken : Option Operation) (sign : Option Sign) (t : Term) (more : List Token) (old new : List ℕ) → SignTaken taken old new → IsSpelt (sign_tokens sign (term_tokens t more)) old → (first_operation taken ≡ sign_operation (sign_or_plus sign)) × IsSpelt (term_tokens t more) new
 first_sign None None t more old new h s = (refl, subst (IsSpelt (term_tokens t more)) (sym h.1) s)
 first_sign None (Some sign) t more old new h s = absurd (no_sign_here sign (term_tokens t more) old h.0 s)
-first_sign (Some op) None t more old new h s = let g = signed op old new h in absurd (term_no_sign t more g.sign (sign_begins (term_tokens t more) g.sign old new g.after s))
+first_sign (Some op) None t more old new h s = let g = signed op old new h in absurd
+    (term_no_sign t more g.sign (sign_begins (term_tokens t more) g.sign old new g.after s))
 first_sign (Some op) (Some sign) t more old new h s =
     let g = signed op old new h in
     let x = sign_taken g.sign sign (term_tokens t more) old new g.after s in
@@ -152,15 +159,21 @@ star_next : (fs : MoreFactors) (more : List Token) (old new : List ℕ) → Ends
 unfolding begin mark byte_mark
 star_next NoFactor more old new e a s = absurd (no_joint more 42 e (inl refl) (begins more old 42 new a s))
 star_next (Times factor others) more old new e a s = times_next factor others more new (one_taken TimesToken (factor_tokens factor (factors_tokens others more)) old new 42 42 refl s a)
-star_next (Over factor others) more old new e a s = absurd (let b : 47 ≡ 42 = begins (OverToken ∷ factor_tokens factor (factors_tokens others more)) old 42 new a s in omega (arith, b))
-star_next (Beside further others) more old new e a s = absurd (not_further further (factors_tokens others more) 42 (λ x. omega (arith, x)) (λ x. omega (arith, x)) (begins (further_tokens further (factors_tokens others more)) old 42 new a s))
+star_next (Over factor others) more old new e a s = absurd (let b : 47 ≡ 42 = begins (OverToken ∷ factor_tokens factor (factors_tokens others more)) old 42
+    new a s in omega (arith, b))
+star_next (Beside further others) more old new e a s = absurd
+    (not_further further (factors_tokens others more) 42 (λ x. omega (arith, x)) (λ x. omega (arith, x))
+    (begins (further_tokens further (factors_tokens others more)) old 42 new a s))
 
 slash_next : (fs : MoreFactors) (more : List Token) (old new : List ℕ) → EndsTerm more → after_blanks old ≡ 47 ∷ new → IsSpelt (factors_tokens fs more) old → NextFactor operations.Divide fs more new
 unfolding begin mark byte_mark
 slash_next NoFactor more old new e a s = absurd (no_joint more 47 e (inr (inl refl)) (begins more old 47 new a s))
-slash_next (Times factor others) more old new e a s = absurd (let b : 42 ≡ 47 = begins (TimesToken ∷ factor_tokens factor (factors_tokens others more)) old 47 new a s in omega (arith, b))
+slash_next (Times factor others) more old new e a s = absurd (let b : 42 ≡ 47 = begins (TimesToken ∷ factor_tokens factor (factors_tokens others more)) old
+    47 new a s in omega (arith, b))
 slash_next (Over factor others) more old new e a s = over_next factor others more new (one_taken OverToken (factor_tokens factor (factors_tokens others more)) old new 47 47 refl s a)
-slash_next (Beside further others) more old new e a s = absurd (not_further further (factors_tokens others more) 47 (λ x. omega (arith, x)) (λ x. omega (arith, x)) (begins (further_tokens further (factors_tokens others more)) old 47 new a s))
+slash_next (Beside further others) more old new e a s = absurd
+    (not_further further (factors_tokens others more) 47 (λ x. omega (arith, x)) (λ x. omega (arith, x))
+    (begins (further_tokens further (factors_tokens others more)) old 47 new a s))
 
 -- what the first byte of a further factor is and isn't
 further_byte : (b : ℕ) → (b ≡ 40) ⊎ (b ≡ 92) → IsJoint (byte_mark b) × (42 ≢ byte_mark b) × (47 ≢ byte_mark b)
@@ -171,8 +184,10 @@ further_byte b (inr h) = rw h (inr (inr (inl refl)), λ e. omega (arith, e), λ 
 beside_by : (fs : MoreFactors) (more : List Token) (old : List ℕ) (b : ℕ) (x : List ℕ) → EndsTerm more → (b ≡ 40) ⊎ (b ≡ 92) → after_blanks old ≡ b ∷ x → IsSpelt (factors_tokens fs more) old → NextFactor operations.Multiply fs more old
 unfolding begin mark
 beside_by NoFactor more old b x e h a s = absurd (no_joint more (byte_mark b) e (further_byte b h).0 (begins more old b x a s))
-beside_by (Times factor others) more old b x e h a s = absurd ((further_byte b h).1 (begins (TimesToken ∷ factor_tokens factor (factors_tokens others more)) old b x a s))
-beside_by (Over factor others) more old b x e h a s = absurd ((further_byte b h).2 (begins (OverToken ∷ factor_tokens factor (factors_tokens others more)) old b x a s))
+beside_by (Times factor others) more old b x e h a s = absurd
+    ((further_byte b h).1 (begins (TimesToken ∷ factor_tokens factor (factors_tokens others more)) old b x a s))
+beside_by (Over factor others) more old b x e h a s = absurd ((further_byte b h).2
+    (begins (OverToken ∷ factor_tokens factor (factors_tokens others more)) old b x a s))
 beside_by (Beside further others) more old b x e h a s = beside_next further others more old s
 
 may_begin : (old text : List ℕ) → after_blanks old ≡ text → MayBeBeside text → (b : ℕ) × (x : List ℕ) × (after_blanks old ≡ b ∷ x) × ((b ≡ 40) ⊎ (b ≡ 92))
@@ -190,10 +205,14 @@ next_factor operations.Divide fs more old new e h s = slash_next fs more old new
 
 pub no_factor : (fs : MoreFactors) (more : List Token) (old : List ℕ) → NoJoint (after_blanks old) → IsSpelt (factors_tokens fs more) old → fs ≡ NoFactor
 no_factor NoFactor more old h s = refl
-no_factor (Times factor others) more old h s = absurd ((subst NoJoint (front TimesToken (factor_tokens factor (factors_tokens others more)) old s).after h).0 refl)
-no_factor (Over factor others) more old h s = absurd ((subst NoJoint (front OverToken (factor_tokens factor (factors_tokens others more)) old s).after h).1 refl)
-no_factor (Beside (Epsilon power) others) more old h s = absurd ((subst NoJoint (front WordToken (power_tokens power (factors_tokens others more)) old s).after h).3 refl)
-no_factor (Beside (Parens inner) others) more old h s = absurd ((subst NoJoint (front OpenToken (expression_tokens inner (CloseToken ∷ factors_tokens others more)) old s).after h).2 refl)
+no_factor (Times factor others) more old h s = absurd ((subst NoJoint (front TimesToken (factor_tokens factor (factors_tokens others more)) old s).after h).0
+    refl)
+no_factor (Over factor others) more old h s = absurd ((subst NoJoint (front OverToken (factor_tokens factor (factors_tokens others more)) old s).after h).1
+    refl)
+no_factor (Beside (Epsilon power) others) more old h s = absurd
+    ((subst NoJoint (front WordToken (power_tokens power (factors_tokens others more)) old s).after h).3 refl)
+no_factor (Beside (Parens inner) others) more old h s = absurd
+    ((subst NoJoint (front OpenToken (expression_tokens inner (CloseToken ∷ factors_tokens others more)) old s).after h).2 refl)
 
 -- ---- fronts of factors
 
@@ -220,15 +239,24 @@ word_head (Number d) more old new b e s = let c : 48 ≡ 92 = word_begins (Decim
 word_head (Other (Epsilon power)) more old new b e s =
     let f = front WordToken (power_tokens power more) old s in
     subst (IsSpelt (power_tokens power more)) (sym (e ∙ ap (λ (x : List ℕ). drop (min (length x) 8) x) f.after ∙ word_drop f.rest)) f.spelt
-word_head (Other (Parens inner)) more old new b e s = let c : 40 ≡ 92 = word_begins (OpenToken ∷ expression_tokens inner (CloseToken ∷ more)) old b s in omega (arith, c)
+word_head (Other (Parens inner)) more old new b e s = let c : 40 ≡ 92 = word_begins (OpenToken ∷ expression_tokens inner (CloseToken ∷ more)) old b s in
+    omega (arith, c)
 
 decimal_head : (f : Factor) (more : List Token) (old new text : List ℕ) → EndsFactor more → IsOtherThan 40 (after_blanks old) → IsOtherThan 92 (after_blanks old) → text ≡ take (decimal_length (after_blanks old)) (after_blanks old) → new ≡ drop (decimal_length (after_blanks old)) (after_blanks old) → IsSpelt (factor_tokens f more) old → (d : Decimal) × (f ≡ Number d) × (text ≡ body_text d.body) × IsSpelt more new
 decimal_head (Number d) more old new text e h i t n s =
     let f = front (DecimalToken d) more old s in
-    let long : decimal_length (after_blanks old) ≡ length (body_text d.body) = ap decimal_length f.after ∙ decimal_front d f.rest (stops f.rest more e f.spelt) in
-    (d, refl, t ∙ ap (take (decimal_length (after_blanks old))) f.after ∙ take_at (body_text d.body) f.rest _ (sym long), subst (IsSpelt more) (sym (n ∙ ap (drop (decimal_length (after_blanks old))) f.after ∙ drop_at (body_text d.body) f.rest _ (sym long))) f.spelt)
-decimal_head (Other (Epsilon power)) more old new text e h i t n s = absurd ((subst (IsOtherThan 92) (front WordToken (power_tokens power more) old s).after i) refl)
-decimal_head (Other (Parens inner)) more old new text e h i t n s = absurd ((subst (IsOtherThan 40) (front OpenToken (expression_tokens inner (CloseToken ∷ more)) old s).after h) refl)
+    let long : decimal_length (after_blanks old) ≡ length (body_text d.body) = ap decimal_length f.after ∙ decimal_front d f.rest (stops f.rest more e f.spelt) in (
+      d,
+      refl,
+      t ∙ ap (take (decimal_length (after_blanks old))) f.after
+          ∙ take_at (body_text d.body) f.rest _ (sym long),
+      subst (IsSpelt more)
+          (sym (n ∙ ap (drop (decimal_length (after_blanks old))) f.after ∙ drop_at (body_text d.body) f.rest _ (sym long))) f.spelt,
+    )
+decimal_head (Other (Epsilon power)) more old new text e h i t n s = absurd
+    ((subst (IsOtherThan 92) (front WordToken (power_tokens power more) old s).after i) refl)
+decimal_head (Other (Parens inner)) more old new text e h i t n s = absurd
+    ((subst (IsOtherThan 40) (front OpenToken (expression_tokens inner (CloseToken ∷ more)) old s).after h) refl)
 
 pub head_is : (head : Head) (f : Factor) (more : List Token) (old new : List ℕ) → EndsFactor more → HeadTaken head (after_blanks old) new → IsSpelt (factor_tokens f more) old → IsHead head new f more
 unfolding IsHead

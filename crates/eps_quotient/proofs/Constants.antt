@@ -36,7 +36,7 @@ apart k h e = omega arith
 pub monomial_constant : (c : ℤ) → IsConstant (monomial c 0)
 monomial_constant c k h = monomial-other c 0 k (apart k h)
 
-constant_same : (p : List ℤ) → IsConstant p → Same p (coefficient p 0 ∷ [])
+pub constant_same : (p : List ℤ) → IsConstant p → Same p (coefficient p 0 ∷ [])
 unfolding coefficient
 constant_same p h zero = refl
 constant_same p h (suc k) = h (suc k) (omega arith)

@@ -35,7 +35,7 @@ use Rattle.eps_quotient.specs.Quotients.{written_sum}
 use Rattle.eps_quotient.specs.Stored.{IsQuotient}
 use Rattle.eps_quotient.specs.Laws.Exact.{quotients_are_exact, zero_stored}
 use Rattle.eps_quotient.specs.Laws.Cuts.{monomial_some, monomial_held, monomial_core, one_core}
-use Rattle.eps_quotient.specs.Laws.LimitTerms.{lowest_first}
+use Rattle.field_core.specs.Laws.LimitLaws.{lowest-first}
 use Rattle.eps_quotient.specs.Laws.Multiples.{monomial-factors, monomial-at, monomial-other, front-same, one_same, gcd_nothing, content-same, content-factors}
 use Rattle.eps_quotient.specs.Laws.QuotientLaws.{quotient-same, multiply-one, same_trans}
 
@@ -114,7 +114,7 @@ term_stored k t low r =
     record {
       above = monomial_held t.num k low r.num_size;
       below = monomial_held t.den 0 (omega arith) r.den_size;
-      positive = ap int_sign (lowest_first (monomial t.den 0) nonzero ∙ first) ∙ positive_in t.den r.positive;
+      positive = ap int_sign (lowest-first (monomial t.den 0) nonzero ∙ first) ∙ positive_in t.den r.positive;
       zero_over_one = λ e. ap (λ d. monomial d 0) (zero_den t.num t.den (zero_number t.num k low e) r.positive r.reduced);
       no_power = λ z. nonzero z.1;
       no_content = ap₂ gcd (content-monomial t.num k low) (content-monomial t.den 0 (omega arith)) ∙ r.reduced;

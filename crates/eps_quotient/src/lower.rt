@@ -39,7 +39,7 @@ fn have_one_core(a: &EpsPoly, b: &EpsPoly) -> bool
 }
 
 /// The quotient without common content and common powers of epsilon.
-#[tactic(auto, unfolding(crate::specs::Lowering::without_powers))]
+#[tactic(auto, unfolding(crate::specs::Lowering::without_powers), using(crate::specs::Laws::Cuts::order_within))]
 fn without_powers(a: &EpsPoly, b: &EpsPoly, power: usize) -> Pair
     requires a { IsNonZero a.now }
     requires b { IsNonZero b.now }
@@ -55,7 +55,7 @@ fn without_powers(a: &EpsPoly, b: &EpsPoly, power: usize) -> Pair
 }
 
 /// The same where both cores are replaced by 1.
-#[tactic(auto, unfolding(crate::specs::Lowering::without_cores))]
+#[tactic(auto, unfolding(crate::specs::Lowering::without_cores), using(crate::specs::Laws::Cuts::order_within))]
 fn without_cores(a: &EpsPoly, b: &EpsPoly, power: usize) -> Pair
     requires a { IsNonZero a.now }
     requires b { IsNonZero b.now }

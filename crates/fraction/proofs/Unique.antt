@@ -93,7 +93,8 @@ value_positive s (Pair a b) h = let some : ¬ (digits_value 10 b ≡ 0) = h in o
 pub one_value : (text : List ℕ) (t u : Terms) → IsNumeralOf text t → IsNumeralOf text u → t ≡ u
 one_value text t u h k =
     let other : Same u (value_of h.numeral.sign h.numeral.body) = subst (λ v. Same u v) (value_unique text k.numeral h.numeral) k.same in
-    reduced_unique t u h.lowest k.lowest (same_through t u (value_of h.numeral.sign h.numeral.body) (positive_nonzero _ (value_positive h.numeral.sign h.numeral.body h.defined)) h.same other)
+    reduced_unique t u h.lowest k.lowest (same_through t u (value_of h.numeral.sign h.numeral.body)
+    (positive_nonzero _ (value_positive h.numeral.sign h.numeral.body h.defined)) h.same other)
 
 body_some : (body : Body) → IsBody body → ¬ (body_text body ≡ [])
 body_some (Plain [] e) h q = omega (arith, h.1)

@@ -8,14 +8,14 @@ use Rattle.field_core.specs.Divisor.{gcd}
 use Rattle.field_core.specs.Sized.{gcd_of}
 use Rattle.field_core.specs.Terms.{IsReduced}
 use Rattle.field_core.specs.Polynomial.{coefficient, poly_add, poly_negate, lowest, int_sign, IsNonZero}
-use Rattle.field_core.specs.Laws.PolynomialLaws.{coefficient-add, coefficient-negate, or_else_first, positive_out}
+use Rattle.field_core.specs.Laws.PolynomialLaws.{coefficient-add, coefficient-negate, positive_out}
 use Rattle.field_core.specs.Arithmetic.{number_one, number_sign, ◌+ε◌, ◌-ε◌}
 use Rattle.field_core.specs.LimitRatio.{limit_ratio}
 use Rattle.field_core.specs.Limit.{limit}
 use Rattle.field_core.specs.LimitParts.{first, limit_terms, IsUnit}
 use Rattle.field_core.specs.Fractions.{quotient, fraction}
 use Rattle.field_core.specs.Laws.LimitRespects.{first_other}
-use Rattle.field_core.specs.Laws.LimitLaws.{limit-quotient}
+use Rattle.field_core.specs.Laws.LimitLaws.{limit-quotient, lowest-first}
 use Rattle.field_core.specs.Laws.NumberFieldLaws.{at_most_out}
 use Rattle.field_core.specs.Laws.Order.{nonneg_in, number_subtract_is}
 use Rattle.field_core.specs.Laws.FractionLaws.{quotient-negate, fraction-equal}
@@ -31,11 +31,6 @@ pub first_is : (p : List ℤ) → first p ≡ coefficient p 0
 unfolding coefficient
 first_is [] = refl
 first_is (c ∷ p) = refl
-
-pub lowest_first : (p : List ℤ) → ¬ (coefficient p 0 ≡ pos 0) → lowest p ≡ coefficient p 0
-unfolding lowest coefficient
-lowest_first [] h = absurd (h refl)
-lowest_first (c ∷ p) h = or_else_first c (lowest p) h
 
 -- ---- what lies from 0 to 1 has a coefficient of power 0 below, where it has one above or below
 
@@ -59,12 +54,13 @@ pub first_below : (n d : List ℤ) → IsNonZero d → int_sign (lowest d) ≡ G
 first_below n d h up some unit z =
     let c = coefficient n 0 in
     let other : ¬ (c ≡ pos 0) = λ e. some (e, z) in
-    let above : ¬ (int_sign c ≡ Less) = λ e. nonneg_in (quotient n d) (at_most_out _ _ unit.low) (sign_value n d up h ∙ ap int_sign (lowest_first n other) ∙ e) in
+    let above : ¬ (int_sign c ≡ Less) = λ e. nonneg_in (quotient n d) (at_most_out _ _ unit.low)
+        (sign_value n d up h ∙ ap int_sign (lowest-first n other) ∙ e) in
     let head : coefficient (poly_add d (poly_negate n)) 0 ≡ pos 0 +ℤ neg_ℤ c =
     coefficient-add d (poly_negate n) 0 ∙ ap₂ ◌+ℤ◌ z (coefficient-negate n 0) in
     (at_most_out _ _ unit.high).at_most
     (ap number_sign (one_less n d h) ∙ sign_value (poly_add d (poly_negate n)) d up h
-    ∙ ap int_sign (lowest_first (poly_add d (poly_negate n)) (λ e. other_nonzero c other (sym head ∙ e)) ∙ head) ∙ signs_apart c other above)
+    ∙ ap int_sign (lowest-first (poly_add d (poly_negate n)) (λ e. other_nonzero c other (sym head ∙ e)) ∙ head) ∙ signs_apart c other above)
 
 -- ---- lowest terms
 
@@ -102,7 +98,7 @@ ratio_at n [] h = absurd (h refl)
 ratio_at n (c ∷ d) h = first_other c _ _ h
 
 pub first_above : (d : List ℤ) → int_sign (lowest d) ≡ Greater → ¬ (coefficient d 0 ≡ pos 0) → pos 0 <ℤ coefficient d 0
-first_above d up h = positive_out (coefficient d 0) (ap int_sign (sym (lowest_first d h)) ∙ up)
+first_above d up h = positive_out (coefficient d 0) (ap int_sign (sym (lowest-first d h)) ∙ up)
 
 -- the terms, by the coefficients of power 0
 pub limit_terms-first : (n d : List ℤ) → limit_terms (record { numerator = n; denominator = d })

@@ -10,16 +10,24 @@ loop-power-init c = nothing_printed c.args.out.now (map terms c.args.entry.now)
 
 pub loop-power-preserved-then-is_zero : goal.loop-power-preserved-then-is_zero
 loop-power-preserved-then-is_zero c =
-    next_zero c.args.out.now c.loop-power.out c.loop-power.is_first c.loop-power.power (map terms c.args.entry.now) c.loop-power.invariant c.loop-power-test.true (ap is_zero (sym (ap terms c.coefficient-coefficient.ensures ∙ sym (terms_at-map c.args.entry.now c.loop-power.power))) ∙ sym c.is_zero.ensures ∙ c.if-is_zero.true)
+    next_zero c.args.out.now c.loop-power.out c.loop-power.is_first c.loop-power.power (map terms c.args.entry.now) c.loop-power.invariant
+    c.loop-power-test.true (ap is_zero (sym (ap terms c.coefficient-coefficient.ensures ∙ sym (terms_at-map c.args.entry.now c.loop-power.power)))
+    ∙ sym c.is_zero.ensures ∙ c.if-is_zero.true)
 
 pub loop-power-preserved : goal.loop-power-preserved
 loop-power-preserved c =
-    next_some c.args.out.now c.loop-power.out c.put_joined.new.out c.loop-power.is_first c.loop-power.power (terms c.coefficient-coefficient.result) (map terms c.args.entry.now) c.loop-power.invariant c.loop-power-test.true (ap terms c.coefficient-coefficient.ensures ∙ sym (terms_at-map c.args.entry.now c.loop-power.power)) (sym c.is_zero.ensures ∙ c.if-is_zero.false) c.in_ok-put_joined.ensures.put
+    next_some c.args.out.now c.loop-power.out c.put_joined.new.out c.loop-power.is_first c.loop-power.power (terms c.coefficient-coefficient.result)
+    (map terms c.args.entry.now) c.loop-power.invariant c.loop-power-test.true
+    (ap terms c.coefficient-coefficient.ensures ∙ sym (terms_at-map c.args.entry.now c.loop-power.power)) (sym c.is_zero.ensures ∙ c.if-is_zero.false)
+    c.in_ok-put_joined.ensures.put
 
 pub returns-in_err-put_joined-clause-begun : goal.returns-in_err-put_joined-clause-begun
 returns-in_err-put_joined-clause-begun c =
     on_err c.from_residual.result _
-    (begun_some c.args.out.now c.loop-power.out c.put_joined.new.out c.loop-power.is_first c.loop-power.power (terms c.coefficient-coefficient.result) (map terms c.args.entry.now) c.loop-power.invariant c.loop-power-test.true (ap terms c.coefficient-coefficient.ensures ∙ sym (terms_at-map c.args.entry.now c.loop-power.power)) (sym c.is_zero.ensures ∙ c.if-is_zero.false) c.in_err-put_joined.ensures.begun)
+    (begun_some c.args.out.now c.loop-power.out c.put_joined.new.out c.loop-power.is_first c.loop-power.power (terms c.coefficient-coefficient.result)
+    (map terms c.args.entry.now) c.loop-power.invariant c.loop-power-test.true
+    (ap terms c.coefficient-coefficient.ensures ∙ sym (terms_at-map c.args.entry.now c.loop-power.power)) (sym c.is_zero.ensures ∙ c.if-is_zero.false)
+    c.in_err-put_joined.ensures.begun)
 
 pub returns-then-is_first-clause-printed : goal.returns-then-is_first-clause-printed
 returns-then-is_first-clause-printed c =

@@ -1,16 +1,9 @@
-use Rattle.std.proofs.Common.{◌∙◌, ap₂, arith, ◌-◌, int_div}
+use Rattle.std.proofs.Common.{◌∙◌, ap₂, ◌-◌, int_div}
 use Rattle.eps_poly.specs.Polynomials.{monomial}
 use Rattle.eps_quotient.specs.Lowering.{without_cores}
-use Rattle.eps_quotient.specs.Laws.Cuts.{order_within}
 use Rattle.eps_quotient.specs.Laws.LowerLaws.{without_cores_some}
 use Rattle.eps_quotient.proofs.Stored.{some_list}
 use Rattle.eps_quotient.proofs.lower.without_cores.Goals as goal
-
-pub monomial-requires : goal.monomial-requires
-monomial-requires c = let low = order_within c.args.a.now c.order.ensures.polynomial.count c.requires.a in omega arith
-
-pub monomial-requires-2 : goal.monomial-requires-2
-monomial-requires-2 c = let low = order_within c.args.b.now c.requires.held.count c.requires.b in omega arith
 
 pub invariant_of-result : goal.invariant_of-result
 unfolding without_cores

@@ -1,16 +1,9 @@
-use Rattle.std.proofs.Common.{◌∙◌, ap₂, arith}
+use Rattle.std.proofs.Common.{◌∙◌, ap₂}
 use Rattle.eps_poly.specs.Factors.{lowered}
 use Rattle.eps_quotient.specs.Lowering.{without_powers}
-use Rattle.eps_quotient.specs.Laws.Cuts.{order_within}
 use Rattle.eps_quotient.specs.Laws.LowerLaws.{without_powers_some}
 use Rattle.eps_quotient.proofs.Stored.{some_list}
 use Rattle.eps_quotient.proofs.lower.without_powers.Goals as goal
-
-pub lowered-requires-clause-power : goal.lowered-requires-clause-power
-lowered-requires-clause-power c = let low = order_within c.args.b.now c.requires.held.count c.requires.b in omega arith
-
-pub lowered-requires-2-clause-power : goal.lowered-requires-2-clause-power
-lowered-requires-2-clause-power c = let low = order_within c.args.b.now c.requires.held.count c.requires.b in omega arith
 
 pub invariant_of-result : goal.invariant_of-result
 unfolding without_powers
