@@ -5,6 +5,8 @@ full-64.txt    64 hypotheses of weight 1/64, with an edge of 1/63 from each to e
 parallel-N.txt improved parallel gatekeeping with N primary and N secondary hypotheses: each primary one has weight 1/N
                and passes 1/N to each secondary one; each secondary one passes (1-\\epsilon)/(N-1) to each other
                secondary one, and \\epsilon to one primary one; all are rejected
+quarter-N.txt  N hypotheses of weight 1/N in two halves: each passes 1/N to each other one of its half, and each of the first
+               half \\epsilon/N to each of the second; all are rejected
 lines-N.txt    N MiB of comments, blank lines and edge lines, behind a case whose last lines they are
 """
 import sys
@@ -34,6 +36,18 @@ def improved_parallel(count):
     return "\n".join(lines) + "\n"
 
 
+def quarter(count):
+    names = [f"H{i + 1}" for i in range(count)]
+    half = count // 2
+    lines = ["alpha 0.05", "hypotheses " + " ".join(names)]
+    lines.append("p " + " ".join(f"{i + 1}/100000" for i in range(count)))
+    lines.append("weights " + " ".join([f"1/{count}"] * count))
+    lines += [f"edge {a} {b} 1/{count}" for a in names[:half] for b in names[:half] if a != b]
+    lines += [f"edge {a} {b} 1/{count}*\\epsilon" for a in names[:half] for b in names[half:]]
+    lines += [f"edge {a} {b} 1/{count}" for a in names[half:] for b in names[half:] if a != b]
+    return "\n".join(lines) + "\n"
+
+
 def padded(size):
     """A case of 64 hypotheses: its edges, with a comment and a blank line behind each, and comments up to the size."""
     head, *edges = full(64).split("\nedge ")
@@ -48,6 +62,9 @@ with open(f"{folder}/full-64.txt", "w") as file:
 for count in (8, 32):
     with open(f"{folder}/parallel-{count}.txt", "w") as file:
         file.write(improved_parallel(count))
+for count in (16, 32, 64):
+    with open(f"{folder}/quarter-{count}.txt", "w") as file:
+        file.write(quarter(count))
 for mib in (1, 2, 4):
     with open(f"{folder}/lines-{mib}.txt", "w") as file:
         file.write(padded(mib * MIB))

@@ -10,7 +10,7 @@ g++ -O2 -o "$out/decide" "$here/decide.cpp"
 "$here/../welungad" test <"$here/../examples/two-hypotheses.txt" >/dev/null
 program=$here/../crates/welungad/out/welungad
 plain='full-64 lines-1 lines-2 lines-4'
-all="$plain parallel-8 parallel-32"
+all="$plain parallel-8 parallel-32 quarter-16 quarter-32 quarter-64"
 
 # the least of five times, in microseconds
 least() {

@@ -669,7 +669,7 @@ const WEIGHTS_AND_P_VALUES: [Row; 25] = [
 ];
 
 /// Edges that no case has, and sums and runs that are too wide.
-const EDGES: [Row; 19] = [
+const EDGES: [Row; 20] = [
     (
         "alpha 0.05\nhypotheses H1 H2\np 0 0\nweights 1 0\nedge H1 H1 1/2\n",
         3,
@@ -758,6 +758,12 @@ const EDGES: [Row; 19] = [
         "alpha 0.05\nhypotheses H1 H2\np 0 0\nweights 1 0\nedge H1 H2 1/1000000000000000000 + 1/999999999999999999*\\epsilon + 1/999999999999999997*\\epsilon^2\n",
         5,
         "too wide: step 0: component 1 edge H1 H2 add\n",
+    ),
+    // The denominators of a row have no common factor; the third would make the common one a number near 10^54.
+    (
+        "alpha 0.05\nhypotheses H1 H2 H3 H4\np 0.9 0.9 0.9 0.9\nweights 1 0 0 0\nedge H1 H2 1/1000000000000000000\nedge H1 H3 1/999999999999999999\nedge H1 H4 1/999999999999999997*\\epsilon\n",
+        5,
+        "too wide: step 0: component 1 edge H1 H4 mul\n",
     ),
     // The run meets the wide removal only where it comes so far.
     (

@@ -1,4 +1,4 @@
--- The graphs that the tests remove from are valid.
+-- The graph that the tests remove from is valid.
 use Rattle.std.proofs.Common.{◌≡◌, ◌≢◌, refl, sym, ap, ap₂, ◌∙◌, ℕ, zero, suc, ◌+◌, ◌*◌, ◌==◌, ◌<◌, Bool, true, false, if◌then◌else◌, List, [], ◌∷◌, ℤ, pos, negsuc, map, get_or, length, replicate, All, ◌&&◌, not, arith}
 use Rattle.std.proofs.lemmas.List.{length-map}
 use Rattle.std.proofs.lemmas.List.Elements.{All-head, All-tail}
@@ -145,7 +145,7 @@ has_constants ws es h g = record {
   edges = λ l k i u. either_constant es g (l == k) (l * size (graph_given ws es) + k);
 }
 
--- ---- the two graphs
+-- ---- the graph
 
 -- a fraction, and a fraction times epsilon
 abbrev Entry : Type 0
@@ -181,16 +181,6 @@ gatekeeping_edges =
     ∷ small (pos 1) ∷ none ∷ none ∷ rest
     ∷ none ∷ small (pos 1) ∷ rest ∷ none ∷ []
 
-abbrev unrelated_weights : List Entry
-unrelated_weights = part (pos 1) ∷ none ∷ none ∷ none ∷ []
-
-abbrev unrelated_edges : List Entry
-unrelated_edges =
-    none ∷ part (pos 1000000000000000000) ∷ part (pos 999999999999999999) ∷ small (pos 999999999999999997)
-    ∷ none ∷ none ∷ none ∷ none
-    ∷ none ∷ none ∷ none ∷ none
-    ∷ none ∷ none ∷ none ∷ none ∷ []
-
 gatekeeping_read : (reads gatekeeping_weights ≡ shows gatekeeping_weights) × (reads gatekeeping_edges ≡ shows gatekeeping_edges)
 unfolding lowest_terms lowest_of gcd
 gatekeeping_read =
@@ -200,29 +190,12 @@ gatekeeping_read =
     let r = entry_value (pos 1) (pos 1) (negsuc 0) (pos 1) in
     (rw (n, h) refl, rw (n, h, s, r) refl)
 
-unrelated_read : (reads unrelated_weights ≡ shows unrelated_weights) × (reads unrelated_edges ≡ shows unrelated_edges)
-unfolding lowest_terms lowest_of gcd
-unrelated_read =
-    let n = entry_value (pos 0) (pos 1) (pos 0) (pos 1) in
-    let o = entry_value (pos 1) (pos 1) (pos 0) (pos 1) in
-    let s = entry_value (pos 1) (pos 1000000000000000000) (pos 0) (pos 1) in
-    let t = entry_value (pos 1) (pos 999999999999999999) (pos 0) (pos 1) in
-    let f = entry_value (pos 0) (pos 1) (pos 1) (pos 999999999999999997) in
-    (rw (n, o) refl, rw (n, s, t, f) refl)
-
 gatekeeping_test : is_valid_test 4 (graph_shown 4 (shows gatekeeping_weights) (shows gatekeeping_edges)) ≡ true
 unfolding sum_below shown_by number_field number_sign lift₁ lift₂ ◌+ε◌ ◌*ε◌ number_negate pair_add pair_multiply pair_negate pair_sign poly_add poly_negate poly_multiply poly_scale lowest or_else int_sign number_zero number_one
 gatekeeping_test = refl
-
-unrelated_test : is_valid_test 4 (graph_shown 4 (shows unrelated_weights) (shows unrelated_edges)) ≡ true
-unfolding sum_below shown_by number_field number_sign lift₁ lift₂ ◌+ε◌ ◌*ε◌ number_negate pair_add pair_multiply pair_negate pair_sign poly_add poly_negate poly_multiply poly_scale lowest or_else int_sign number_zero number_one
-unrelated_test = refl
 
 counted : (xs : List EpsQuotient) (ns : List Number) → map number_of xs ≡ ns → length xs ≡ length ns
 counted xs ns e = sym (length-map xs number_of) ∙ ap length e
 
 pub gatekeeping_sound : (ws es : List EpsQuotient) → map number_of ws ≡ reads gatekeeping_weights → map number_of es ≡ reads gatekeeping_edges → IsSound quotients (graph_given ws es)
 gatekeeping_sound ws es e f = sound_by_values ws es 4 _ _ (counted ws _ e) (e ∙ gatekeeping_read.0) (f ∙ gatekeeping_read.1) gatekeeping_test
-
-pub unrelated_sound : (ws es : List EpsQuotient) → map number_of ws ≡ reads unrelated_weights → map number_of es ≡ reads unrelated_edges → IsSound quotients (graph_given ws es)
-unrelated_sound ws es e f = sound_by_values ws es 4 _ _ (counted ws _ e) (e ∙ unrelated_read.0) (f ∙ unrelated_read.1) unrelated_test

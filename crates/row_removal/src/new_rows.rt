@@ -190,6 +190,7 @@ fn write_row(
 }
 
 /// Writes all rows of edges after the removal of `j`. `spare` is room for quotients.
+#[tactic(auto, using(field_core::proofs::Fills::filled_to))]
 pub fn write_rows(graph: &RowGraph, j: usize, next: &mut [Row], spare: &mut Row) -> Result<(), Wide>
     requires proper { AreProperRows graph.now }
     requires j { j < rows_size graph.now }

@@ -5,10 +5,11 @@ ghost use Rattle.eps_poly.specs.Polynomials.{IsConstant};
 ghost use Rattle.eps_quotient.specs.Polynomials.{polynomial_value};
 ghost use Rattle.eps_quotient.specs.View.{number_of, quotient_parts};
 
-use crate::{RowNet, RowOpen};
+use crate::RowNet;
+use crate::row::Row;
 use eps_poly::EpsPoly;
 use eps_quotient::EpsQuotient;
-use field_core::{Op, Place, Ratio, Wide};
+use field_core::{Ratio, TooWide, Wide};
 use fraction::Fraction;
 use removal::Remover;
 use std::alloc::Global;
@@ -75,33 +76,12 @@ fn gatekeeping(alloc: Global) -> Result<RowNet, Fail> {
     Ok(RowNet::try_new(alloc, &weights, &edges)?)
 }
 
-/// Why the rows of four hypotheses aren't opened, if they aren't. The edges from the first have no common factor below.
-fn unrelated(alloc: Global) -> Result<Option<RowOpen>, Fail> {
-    let none = ((0, 1), (0, 1));
-    let second = ((1, 1_000_000_000_000_000_000), (0, 1));
-    let third = ((1, 999_999_999_999_999_999), (0, 1));
-    let fourth = ((0, 1), (1, 999_999_999_999_999_997));
-    let weights = numbers(alloc, &[((1, 1), (0, 1)), none, none, none])?;
-    let edges = [
-        none, second, third, fourth, none, none, none, none, none, none, none, none, none, none,
-        none, none,
-    ];
-    let edges = numbers(alloc, &edges)?;
-    Ok(RowNet::try_new(alloc, &weights, &edges).err())
-}
-
 fn low(p: &EpsPoly) -> [i128; 3] {
     [p.coefficient(0), p.coefficient(1), p.coefficient(2)]
 }
 
 fn shown(x: &EpsQuotient) -> Terms {
     (low(&x.numerator()), low(&x.denominator()))
-}
-
-fn remove<R: Remover>(rt: &impl Abort, net: &mut R, j: usize) -> Result<(), Wide> {
-    assert!(rt; j < net.size());
-    assert!(rt; net.is_live(j));
-    net.remove(j)
 }
 
 /// The weight of each hypothesis, none where it was removed.
@@ -118,6 +98,20 @@ fn expect_weights<R: Remover<Value = EpsQuotient>>(
             assert_eq!(rt; Some(shown(&net.weight(k))), *entry, "weight of {k}");
         }
     }
+}
+
+/// Removes `j`, which leaves these weights.
+fn expect_removal<R: Remover<Value = EpsQuotient>>(
+    rt: &impl Abort,
+    net: &mut R,
+    j: usize,
+    wanted: &[Option<Terms>],
+) -> Result<(), Wide> {
+    assert!(rt; j < net.size());
+    assert!(rt; net.is_live(j));
+    net.remove(j)?;
+    expect_weights(rt, net, wanted);
+    Ok(())
 }
 
 /// These edges from one live hypothesis to another.
@@ -144,8 +138,12 @@ fn improved_gatekeeping_passes_all_weight_on(rt: HostRuntime) -> Result<(), Fail
         &net,
         &[(0, 0, NONE), (2, 0, epsilon), (2, 3, rest), (3, 1, epsilon)],
     );
-    remove(&rt, &mut net, 0)?;
-    expect_weights(&rt, &net, &[None, Some(HALF), Some(QUARTER), Some(QUARTER)]);
+    expect_removal(
+        &rt,
+        &mut net,
+        0,
+        &[None, Some(HALF), Some(QUARTER), Some(QUARTER)],
+    )?;
     // (1 - e + e/2) / (1 - e/2) is 1
     expect_edges(
         &rt,
@@ -159,22 +157,10 @@ fn improved_gatekeeping_passes_all_weight_on(rt: HostRuntime) -> Result<(), Fail
             (3, 2, rest),
         ],
     );
-    remove(&rt, &mut net, 2)?;
-    expect_weights(&rt, &net, &[None, Some(HALF), None, Some(HALF)]);
+    expect_removal(&rt, &mut net, 2, &[None, Some(HALF), None, Some(HALF)])?;
     // e / (1 - (1 - e)) is 1
     expect_edges(&rt, &net, &[(1, 3, ONE), (3, 1, ONE)]);
-    remove(&rt, &mut net, 3)?;
-    expect_weights(&rt, &net, &[None, Some(ONE), None, None]);
-    Ok(())
-}
-
-#[test]
-fn rows_without_a_common_denominator_are_not_opened(rt: HostRuntime) -> Result<(), Fail> {
-    let wide = Wide {
-        place: Place::Edge(0, 3),
-        op: Op::Mul,
-    };
-    assert_eq!(rt; unrelated(rt.alloc())?, Some(RowOpen::Wide(wide)));
+    expect_removal(&rt, &mut net, 3, &[None, Some(ONE), None, None])?;
     Ok(())
 }
 
@@ -182,11 +168,75 @@ fn rows_without_a_common_denominator_are_not_opened(rt: HostRuntime) -> Result<(
 fn a_net_is_set_to_another(rt: HostRuntime) -> Result<(), Fail> {
     let mut net = gatekeeping(rt.alloc())?;
     let start = gatekeeping(rt.alloc())?;
-    remove(&rt, &mut net, 0)?;
+    expect_removal(
+        &rt,
+        &mut net,
+        0,
+        &[None, Some(HALF), Some(QUARTER), Some(QUARTER)],
+    )?;
     assert_eq!(rt; net.size(), start.size());
     net.set_to(&start);
     expect_weights(&rt, &net, &[Some(HALF), Some(HALF), Some(NONE), Some(NONE)]);
-    remove(&rt, &mut net, 1)?;
-    expect_weights(&rt, &net, &[Some(HALF), None, Some(QUARTER), Some(QUARTER)]);
+    expect_removal(
+        &rt,
+        &mut net,
+        1,
+        &[Some(HALF), None, Some(QUARTER), Some(QUARTER)],
+    )?;
     Ok(())
+}
+
+fn polynomial(coefficients: [i128; 3]) -> Result<EpsPoly, TooWide> {
+    let [alone, first, second] = coefficients;
+    EpsPoly::zero()
+        .with(0, alone)?
+        .with(1, first)?
+        .with(2, second)
+}
+
+/// A row of two numerators over a denominator, given in this order, is cleared with the last denominator.
+fn expect_cleared(
+    rt: &impl Abort,
+    alloc: Global,
+    row: [[i128; 3]; 3],
+    last: [i128; 3],
+    wanted: [[i128; 3]; 3],
+) -> Result<(), Fail> {
+    let mut spare = Row::zeros(alloc, 2)?;
+    let numerators = [polynomial(row[0])?, polynomial(row[1])?];
+    let mut row = Row {
+        numerators: Vec::from_slice(alloc, &numerators)?,
+        denominator: polynomial(row[2])?,
+    };
+    let last = polynomial(last)?;
+    assert!(rt; !row.denominator().is_zero() && !last.is_zero());
+    assert!(rt; spare.numerators.len() == row.numerators.len());
+    row.clear(&last, &mut spare);
+    let cleared = [
+        low(row.numerator(0)),
+        low(row.numerator(1)),
+        low(row.denominator()),
+    ];
+    assert_eq!(rt; cleared, wanted);
+    Ok(())
+}
+
+#[test]
+fn a_row_is_divided_where_all_of_it_can_be(rt: HostRuntime) -> Result<(), Fail> {
+    // 2 - 2e, 1 - e^2 and 3 - 3e by 1 - e, the core of 5e - 5e^2
+    expect_cleared(
+        &rt,
+        rt.alloc(),
+        [[2, -2, 0], [1, 0, -1], [3, -3, 0]],
+        [0, 5, -5],
+        [[2, 0, 0], [1, 1, 0], [3, 0, 0]],
+    )?;
+    // 1 - e doesn't divide 4e^2, so only 2 and e are taken out
+    expect_cleared(
+        &rt,
+        rt.alloc(),
+        [[0, 2, -2], [0, 0, 4], [0, 6, -6]],
+        [1, -1, 0],
+        [[1, -1, 0], [0, 2, 0], [3, -3, 0]],
+    )
 }
