@@ -9,6 +9,8 @@ pub mod ClosedTestLaws
 pub mod ClosedTests
 pub mod Comparisons
 pub mod Consonance
+pub mod DraftTests
+pub mod DraftValidity
 pub mod EntryOrder
 pub mod EntryTests
 pub mod ExactSums
@@ -32,6 +34,7 @@ pub mod PassTests
 pub mod Places
 pub mod PlainEntries
 pub mod PriorityOrders
+pub mod Products
 pub mod RejectionOrders
 pub mod RowTotals
 pub mod Same

@@ -30,4 +30,5 @@ pub mod Tables
 pub mod TextbookGraphs
 pub mod TextbookRules
 pub mod TextbookStatements
+pub mod ValidDraft
 pub mod Validity

@@ -2,7 +2,7 @@
 use Rattle.std.specs.Prelude.{ℕ, Bool, List, [], get_or}
 use Rattle.fraction.specs.View.{number_of}
 use Rattle.field_core.specs.Number.{Number}
-use Rattle.case_model.specs.declared.draft.Arrival.{Arrival}
+use Rattle.case_model.specs.declared.draft_stages.Arrival.{Arrival}
 use Rattle.case_model.specs.declared.inputs.Inputs.{Inputs}
 use Rattle.case_model.specs.declared.inputs.Inputs.TheVariants.{Bare, Single, Staged}
 use Rattle.case_model.specs.declared.spend.Spend.{Spend}

@@ -4,7 +4,7 @@ use Rattle.std.specs.List.{Contains}
 use Rattle.field_core.specs.Number.{Number}
 use Rattle.field_core.specs.Order.{◌≤ε◌, IsPositive}
 use Rattle.fraction.specs.View.{number_of}
-use Rattle.case_model.specs.declared.draft.Arrival.{Arrival}
+use Rattle.case_model.specs.declared.draft_stages.Arrival.{Arrival}
 use Rattle.case_model.specs.declared.spend.Spend.{Spend}
 use Rattle.case_model.specs.EntangledGraph.{EntangledGraph}
 use Rattle.case_model.specs.ClosedTest.{IsLegalBy, IsLocallyRejectedBy, IsRejectedBy}
