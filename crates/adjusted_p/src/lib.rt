@@ -4,6 +4,8 @@
 mod adjusted;
 mod fault;
 pub mod laws;
+#[cfg(test)]
+mod tests;
 
 pub use adjusted::{Adjusted, adjust};
 pub use fault::AdjustFault;

@@ -1,6 +1,6 @@
-use Rattle.std.proofs.Common.{◌≡◌, ◌-◌, length}
+use Rattle.std.proofs.Common.{◌≡◌, length}
 use Rattle.case_model.specs.Content.{Content}
-use Rattle.sequential.specs.Trials.{IsTrialOf}
+use Rattle.sequential.specs.Trials.{IsTrialOf, number_left}
 use Rattle.sequential.specs.TrialView.{trial}
 use Rattle.adjusted_p.specs.AdjustedLists.{one_ratio}
 use Rattle.adjusted_p.specs.Adjusting.{IsAdjustingSoFar}
@@ -13,4 +13,4 @@ invariant-loop-next l = record {
 }
 
 abbrev pub decreases-loop-next : goal.decreases-loop-next
-decreases-loop-next l = length (trial l.current).p_values - length (trial l.current).rejected
+decreases-loop-next l = number_left (trial l.current)
