@@ -64,14 +64,14 @@ fn each_take_can_fail(rt: HostRuntime) -> Result<(), Fail> {
     Ok(())
 }
 
-/// The answer has 83 bytes: 16 puts of 5, and one of 3.
-const PUTS: usize = 17;
+/// The answer has 119 bytes: 23 puts of 5, and one of 4.
+const PUTS: usize = 24;
 
 #[test]
 fn each_put_can_fail(rt: HostRuntime) -> Result<(), Fail> {
     let alloc = rt.alloc();
     let answer = TIE_DECIDED.as_bytes();
-    assert_eq!(rt; answer.len(), 83);
+    assert_eq!(rt; answer.len(), 119);
     for before in 0..PUTS {
         let held = &answer[..5 * before];
         expect_end(&rt, alloc, tie(0, before as u64 + 1, 7, held))?;
@@ -129,7 +129,7 @@ fn each_put_of_a_refusal_can_fail(rt: HostRuntime) -> Result<(), Fail> {
     Ok(())
 }
 
-const CAPS: [usize; 9] = [1, 2, 3, 57, 58, 59, 82, 83, 84];
+const CAPS: [usize; 9] = [1, 2, 3, 57, 58, 59, 118, 119, 120];
 
 #[test]
 fn short_takes_and_puts_change_nothing(rt: HostRuntime) -> Result<(), Fail> {
@@ -150,9 +150,9 @@ fn short_takes_and_puts_change_nothing(rt: HostRuntime) -> Result<(), Fail> {
 const ROOMS: [(usize, u8, usize); 5] = [
     (0, 7, 0),
     (12, 7, 12),
-    (82, 7, 82),
-    (83, 0, 83),
-    (84, 0, 83),
+    (118, 7, 118),
+    (119, 0, 119),
+    (120, 0, 119),
 ];
 
 #[test]

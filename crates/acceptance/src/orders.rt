@@ -1,25 +1,10 @@
 //! Rejections asked for in any order, and decisions by each priority.
-ghost use Rattle.std.specs.Prelude.{◌≡◌, true};
-ghost use Rattle.case_model.specs.CaseView.{content};
-ghost use Rattle.sequential.specs.TrialAnswers.{IsSingle};
-ghost use Rattle.std.specs.Prelude.{IsTrue};
-
-use case_model::{Case, Inputs};
+use case_model::Case;
 use edge_text::read_text;
-use sequential::{Decision, Priority, StepLine, Trial, decide};
+use sequential::{Decision, Priority, StepLine, Trial, decide, is_single};
 use std::alloc::Global;
 use std::process::Abort;
 use std::test::Fail;
-
-/// Whether there is a p-value for each hypothesis.
-fn is_single(case: &Case) -> bool
-    ensures { IsTrue result → IsSingle (content case.now).inputs }
-{
-    match case.inputs() {
-        Inputs::Single(_) => true,
-        _ => false,
-    }
-}
 
 fn case_of(rt: &impl Abort, alloc: Global, text: &str) -> Case {
     match read_text(alloc, text.as_bytes()) {

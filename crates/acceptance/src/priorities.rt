@@ -16,6 +16,11 @@ const BY_FIRST: &str = "alpha 1/25\n\
     step 4 H4 p 1/100 weight 1/2\n\
     kept H5 p 0 weight 0\n\
     rejected H1 H2 H3 H4\n\
+    adjusted H1 1/25\n\
+    adjusted H2 1/50\n\
+    adjusted H3 1/50\n\
+    adjusted H4 1/25\n\
+    adjusted H5 1 not reached\n\
     end\n";
 
 /// From the last position on.
@@ -26,6 +31,11 @@ const BY_LAST: &str = "alpha 1/25\n\
     step 4 H1 p 1/100 weight 1/2\n\
     kept H5 p 0 weight 0\n\
     rejected H1 H2 H3 H4\n\
+    adjusted H1 1/25\n\
+    adjusted H2 1/50\n\
+    adjusted H3 1/50\n\
+    adjusted H4 1/25\n\
+    adjusted H5 1 not reached\n\
     end\n";
 
 /// By the least p-value over weight: 1/50 for H2 and H3, 1/25 for H1 and H4. The first of equals comes first.
@@ -36,6 +46,11 @@ const BY_RATIO: &str = "alpha 1/25\n\
     step 4 H4 p 1/100 weight 1/2\n\
     kept H5 p 0 weight 0\n\
     rejected H1 H2 H3 H4\n\
+    adjusted H1 1/25\n\
+    adjusted H2 1/50\n\
+    adjusted H3 1/50\n\
+    adjusted H4 1/25\n\
+    adjusted H5 1 not reached\n\
     end\n";
 
 const PRIORITIES: [(&[&str], &str); 4] = [

@@ -669,7 +669,7 @@ const WEIGHTS_AND_P_VALUES: [Row; 25] = [
 ];
 
 /// Edges that no case has, and sums and runs that are too wide.
-const EDGES: [Row; 20] = [
+const EDGES: [Row; 22] = [
     (
         "alpha 0.05\nhypotheses H1 H2\np 0 0\nweights 1 0\nedge H1 H1 1/2\n",
         3,
@@ -770,6 +770,19 @@ const EDGES: [Row; 20] = [
         "alpha 0.05\nhypotheses H1 H2 H3 H4\np 0 0 0 0\nweights 0 0 1 0\nedge H3 H4 1/1000000000000000000\nedge H4 H1 1/999999999999999999\nedge H1 H2 1/999999999999999997\n",
         5,
         "too wide: step 3: component 1 weight of H2 mul\n",
+    ),
+    // The decision is defined: it rejects nothing, and writes no ratio. The ratio is 10^30 - 11 over 10^30 divided by
+    // 1 over 10^12 - 11, which has a numerator near 10^42 in lowest terms.
+    (
+        "alpha 0.05\nhypotheses H1\np 0.999999999999999999999999999989\nweights 1/999999999989\n",
+        5,
+        "too wide: adjusted step 1: component 1 ratio of H1 div\n",
+    ),
+    // A step writes all ratios before it takes the least, which is 1/50, of H1.
+    (
+        "alpha 0.05\nhypotheses H1 H2\np 0.01 0.999999999999999999999999999989\nweights 1/2 1/999999999989\n",
+        5,
+        "too wide: adjusted step 1: component 1 ratio of H2 div\n",
     ),
     (
         "alpha 0.05\nhypotheses H1 H2\np 1e-31 2\nweights 2 -1\nedge H1 H1 2\n",

@@ -10,22 +10,13 @@ pub const TIE: &str = "alpha 0.05\nhypotheses H1 H2\np 0.025 0.026\nweights 1/2 
 
 /// What is printed of it.
 pub const TIE_DECIDED: &str =
-    "alpha 1/20\nstep 1 H1 p 1/40 weight 1/2\nkept H2 p 13/500 weight 1/2\nrejected H1\nend\n";
+    "alpha 1/20\nstep 1 H1 p 1/40 weight 1/2\nkept H2 p 13/500 weight 1/2\nrejected H1\nadjusted H1 1/20\nadjusted H2 13/250\nend\n";
 
 /// A list of these items.
 pub fn list_of<T: Copy>(alloc: Global, items: &[T]) -> Result<List<T>, NoMemory> {
     let mut list = List::new(alloc);
     list.append(items)?;
     Ok(list)
-}
-
-/// These words, as the program is given them.
-fn words_of(alloc: Global, words: &[&str]) -> Result<Vec<String>, NoMemory> {
-    let mut copies = Vec::new(alloc);
-    for word in words {
-        copies.push(String::from_str(alloc, word)?)?;
-    }
-    Ok(copies)
 }
 
 /// Runs the program, and answers the status. The other source, which no command of these tests reads, fails at its first take.
@@ -35,9 +26,12 @@ pub fn status_of<S: Source, W: Sink>(
     case: &mut S,
     out: &mut W,
 ) -> Result<u8, NoMemory> {
-    let words = words_of(alloc, words)?;
+    let mut given = Vec::new(alloc);
+    for word in words {
+        given.push(String::from_str(alloc, word)?)?;
+    }
     let mut proof = FailingSource::new(List::new(alloc), 1, list_of(alloc, &[1])?);
-    Ok(run(alloc, words.as_slice(), case, &mut proof, out))
+    Ok(run(alloc, given.as_slice(), case, &mut proof, out))
 }
 
 /// A run of the command `test` over these bytes, of which the label tells, ends with this status and prints this.

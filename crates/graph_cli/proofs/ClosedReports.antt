@@ -19,6 +19,8 @@ use Rattle.sequential.specs.declared.decision.Decision.{Decision}
 use Rattle.sequential.specs.Decisions.{hypotheses, IsDecision}
 use Rattle.sequential.specs.declared.priority.Priority.{Priority}
 use Rattle.sequential.proofs.DecisionLaws.{decision_decides}
+use Rattle.adjusted_p.specs.declared.adjusted.Adjusted.{Adjusted}
+use Rattle.adjusted_p.specs.AdjustedLists.{AreAdjusted}
 use Rattle.report.specs.TestReport.{is_rejected, test_report}
 use Rattle.graph_cli.specs.Accepted.{grammar}
 use Rattle.graph_cli.specs.Commands.{call_of, case_call, on_case as answers_on_case}
@@ -40,11 +42,14 @@ faultless_content d f = ∣ (record { draft = d; content_is = refl; faultless = 
 not_done : (s : Status) (cause : Cause) → s ≡ Refused cause → s ≡ Done → ⊥
 not_done s cause e f = cc
 
-reported : (c : Content) (priority : Priority) (d : Decision) (text : List ℕ) → IsValidContent c → IsDecision c priority d → text ≡ test_report c d → ReportsClosedTest c text
-reported c priority d text v h e = record {
+reported : (c : Content) (priority : Priority) (d : Decision) (xs : List Adjusted) (text : List ℕ) → IsValidContent c → IsDecision c priority d → AreAdjusted c xs → text ≡ test_report c d xs
+    → ReportsClosedTest c text
+reported c priority d xs text v h k e = record {
   decision = d;
+  adjusted = xs;
   text_is = e;
   named = λ j. let r = decision_decides c priority d v j h in (λ (x : is_rejected d.steps j ≡ true). r.0 (sym (named_listed d.steps j) ∙ x), λ x. named_listed d.steps j ∙ r.1 x);
+  values = k;
 }
 
 pub reports_closed_test : ReportsAreOfTheClosedTest
@@ -61,5 +66,5 @@ reports_closed_test words form priority case proof a asks (inl h) z =
       draft = draft;
       says = subst (λ xs. (grammar form xs).Gives draft) bytes_are read.1;
       faultless = read.2.0;
-      reports = subst (λ c. ReportsClosedTest c a.text) content_is (reported gives.0 priority gives.2.1.0 a.text (subst IsValidContent (sym content_is) (faultless_content draft read.2.0)) gives.2.1.1 (ap (λ (x : Answer). x.text) gives.2.1.2));
+      reports = subst (λ c. ReportsClosedTest c a.text) content_is (reported gives.0 priority gives.2.0 gives.2.2.0 a.text (subst IsValidContent (sym content_is) (faultless_content draft read.2.0)) gives.2.1.1 gives.2.2.1.1 (ap (λ (x : Answer). x.text) gives.2.2.2));
     }

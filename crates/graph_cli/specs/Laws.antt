@@ -9,6 +9,8 @@ use Rattle.case_model.specs.declared.draft.Draft.{Draft}
 use Rattle.command_words.specs.Asked.{Written, on_case}
 use Rattle.command_words.specs.declared.command.CaseTask.TheVariants.{Test}
 use Rattle.report.specs.TestReport.{is_rejected, test_report}
+use Rattle.adjusted_p.specs.declared.adjusted.Adjusted.{Adjusted}
+use Rattle.adjusted_p.specs.AdjustedLists.{AreAdjusted}
 use Rattle.sequential.specs.declared.decision.Decision.{Decision}
 use Rattle.sequential.specs.declared.priority.Priority.{Priority}
 use Rattle.graph_cli.specs.Accepted.{grammar}
@@ -18,11 +20,13 @@ use Rattle.graph_cli.specs.Outcome.{AskFor, outcome}
 abbrev pub HasOneAnswer : Type 0
 HasOneAnswer = (words : List (List ℕ)) (case proof : List ℕ) (a b : Answer) → IsAnswerOf (outcome words (Some case) (Some proof)) a → IsAnswerOf (outcome words (Some case) (Some proof)) b → a ≡ b
 
--- the text is the report of a decision, whose line `rejected` names exactly the hypotheses that the closed test rejects
+-- the text is the report of a decision, whose line `rejected` names exactly the hypotheses that the closed test rejects, and of the adjusted values, the least levels at which it rejects them
 pub record ReportsClosedTest (c : Content) (text : List ℕ) : Type 0 where
   pub decision : Decision
-  pub text_is : text ≡ test_report c decision
+  pub adjusted : List Adjusted
+  pub text_is : text ≡ test_report c decision adjusted
   pub named : (j : ℕ) → (is_rejected decision.steps j ≡ true) ↔ IsRejectedIn c j
+  pub values : AreAdjusted c adjusted
 
 -- the bytes say, in a form, a draft without a fault, and the text reports the closed test on its case
 pub record ReportsCase (form : Written) (bytes text : List ℕ) : Type 0 where

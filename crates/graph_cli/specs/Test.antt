@@ -1,22 +1,36 @@
 -- What `test` answers.
-use Rattle.std.specs.Prelude.{◌≡◌, ℕ}
+use Rattle.std.specs.Prelude.{◌≡◌, ℕ, List}
 use Rattle.field_core.specs.declared.place.WideAt.{WideAt}
 use Rattle.answers.specs.declared.answer.Answer.{Answer}
 use Rattle.answers.specs.declared.refusal.Refusal.{Refusal}
 use Rattle.answers.specs.Lines.{done}
-use Rattle.answers.specs.Stages.{Stage}
+use Rattle.answers.specs.Stages.{Stage, and_then, only}
 use Rattle.case_model.specs.Content.{Content}
 use Rattle.refusals.specs.WideRefusal.{wide_refusal}
-use Rattle.refusals.specs.declared.wide.When.TheVariants.{Step}
+use Rattle.refusals.specs.declared.wide.When.TheVariants.{Step, AdjustedStep}
 use Rattle.report.specs.TestReport.{test_report}
 use Rattle.sequential.specs.declared.decision.Decision.{Decision}
 use Rattle.sequential.specs.Decisions.{IsDecision}
 use Rattle.sequential.specs.WideDecisions.{IsWideDecision}
 use Rattle.sequential.specs.declared.priority.Priority.{Priority}
+use Rattle.adjusted_p.specs.declared.adjusted.Adjusted.{Adjusted}
+use Rattle.adjusted_p.specs.AdjustedLists.{AreAdjusted}
+use Rattle.adjusted_p.specs.WrittenRun.{IsWideAdjusting}
 
--- the written run is defined, and the text is the report of the decision; or the run's first operation that is undefined
-unfoldable pub test_stage : Priority → Content → Stage Refusal Answer
-test_stage priority c = record {
-  Gives = λ a. ((step : ℕ) (wide : WideAt) → ¬ IsWideDecision c priority step wide) × ((decision : Decision) × IsDecision c priority decision × (a ≡ done (test_report c decision)));
+-- the decision on a case, whose written run is defined; or the run's first operation that is undefined
+abbrev pub decided : Priority → Content → Stage Refusal Decision
+decided priority c = record {
+  Gives = λ decision. ((step : ℕ) (wide : WideAt) → ¬ IsWideDecision c priority step wide) × IsDecision c priority decision;
   Refuses = λ r. (step : ℕ) × (wide : WideAt) × IsWideDecision c priority step wide × (r ≡ wide_refusal c.names (Step step) wide);
 }
+
+-- the adjusted values of a case, whose written run is defined; or the run's first operation that is undefined
+abbrev pub adjusted : Content → Stage Refusal (List Adjusted)
+adjusted c = record {
+  Gives = λ values. ((step : ℕ) (wide : WideAt) → ¬ IsWideAdjusting c step wide) × AreAdjusted c values;
+  Refuses = λ r. (step : ℕ) × (wide : WideAt) × IsWideAdjusting c step wide × (r ≡ wide_refusal c.names (AdjustedStep step) wide);
+}
+
+-- the decision, then the adjusted values, and the report of both
+unfoldable pub test_stage : Priority → Content → Stage Refusal Answer
+test_stage priority c = and_then (decided priority c) (λ decision. and_then (adjusted c) (λ values. only (done (test_report c decision values))))

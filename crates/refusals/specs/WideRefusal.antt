@@ -9,7 +9,7 @@ use Rattle.field_core.specs.declared.place.WideAt.{WideAt}
 use Rattle.answers.specs.declared.refusal.Refusal.{Refusal}
 use Rattle.answers.specs.declared.cause.Cause.TheVariants.{TooWide}
 use Rattle.refusals.specs.declared.wide.When.{When}
-use Rattle.refusals.specs.declared.wide.When.TheVariants.{Reading, Step}
+use Rattle.refusals.specs.declared.wide.When.TheVariants.{Reading, Step, AdjustedStep}
 use Rattle.answers.specs.Lines.{line}
 use Rattle.refusals.specs.LinePieces.{counted, name_at, two_names}
 
@@ -17,6 +17,7 @@ use Rattle.refusals.specs.LinePieces.{counted, name_at, two_names}
 unfoldable pub when_words : When → List ℕ
 when_words Reading = codes "reading"
 when_words (Step n) = codes "step " ++ decimal n
+when_words (AdjustedStep n) = codes "adjusted step " ++ decimal n
 
 -- what an operation is for
 unfoldable pub place_words : List (List ℕ) → Place → List ℕ

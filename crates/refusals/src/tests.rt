@@ -228,11 +228,13 @@ const WIDE: [(usize, Place, Op, &str); 14] = [
 ];
 
 /// How a line begins.
-const BEGINNINGS: [(When, &str); 4] = [
+const BEGINNINGS: [(When, &str); 6] = [
     (When::Reading, "too wide: reading: "),
     (When::Step(0), "too wide: step 0: "),
     (When::Step(3), "too wide: step 3: "),
     (When::Step(64), "too wide: step 64: "),
+    (When::AdjustedStep(0), "too wide: adjusted step 0: "),
+    (When::AdjustedStep(12), "too wide: adjusted step 12: "),
 ];
 
 /// An answer is this status, and the two texts in turn.

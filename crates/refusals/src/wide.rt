@@ -7,11 +7,13 @@ use answers::{Cause, Refusal};
 use field_core::{List, NoMemory, Op, Place, Text, WideAt};
 use std::alloc::Global;
 
-/// When an operation is written: for a sum of the case, or in a step of a run, from 1; step 0 is its opening.
+/// When an operation is written: for a sum of the case, in a step of the decision, or in a step of the run of adjusted
+/// values. Steps count from 1; step 0 is the opening.
 #[derive(Clone, Copy, PartialEq, Eq, Debug)]
 pub enum When {
     Reading,
     Step(usize),
+    AdjustedStep(usize),
 }
 
 /// Appends when an operation is written.
@@ -22,6 +24,7 @@ fn put_when(text: &mut List<u8>, when: When) -> Result<(), NoMemory>
     match when {
         When::Reading => text.append(b"reading"),
         When::Step(n) => put_counting(text, b"step ", n as u128),
+        When::AdjustedStep(n) => put_counting(text, b"adjusted step ", n as u128),
     }
 }
 

@@ -1,4 +1,4 @@
--- What the command `test` prints of a case and the decision on it.
+-- What the command `test` prints of a case, the decision on it and its adjusted values.
 use Rattle.std.specs.Prelude.{ℕ, ◌+◌, ◌<◌, ◌==◌, Bool, List, [], ◌∷◌, ◌++◌, length, get_or, codes, if◌then◌else◌}
 use Rattle.std.specs.Fmt.{decimal}
 use Rattle.std.specs.List.{All, flat_map, list_any, range_with_len}
@@ -12,6 +12,7 @@ use Rattle.case_model.specs.Content.{Content}
 use Rattle.case_model.specs.Sums.{ratio_at}
 use Rattle.sequential.specs.declared.decision.StepLine.{StepLine}
 use Rattle.sequential.specs.declared.decision.Decision.{Decision}
+use Rattle.adjusted_p.specs.declared.adjusted.Adjusted.{Adjusted}
 
 -- each line is of a hypothesis of the case
 abbrev pub AreOfCase : Content → List StepLine → Type 0
@@ -60,7 +61,20 @@ name_if_rejected case steps j = if is_rejected steps j then spaced_name case j e
 unfoldable pub rejected_line : Content → List StepLine → List ℕ
 rejected_line case steps = line (codes "rejected" ++ flat_map (name_if_rejected case steps) (range_with_len 0 (length case.names)))
 
--- the level, the steps, the hypotheses that are kept, the names of those that are rejected, and the last line
-unfoldable pub test_report : Content → Decision → List ℕ
-test_report case decision =
-    alpha_line case ++ step_lines case 1 decision.steps ++ flat_map (kept_line case) decision.kept ++ rejected_line case decision.steps ++ line (codes "end")
+-- what is printed behind a value: nothing where it is reached
+abbrev pub reached_words : Bool → List ℕ
+reached_words reached = if reached then [] else codes " not reached"
+
+-- the line of the adjusted value of the hypothesis at a position
+unfoldable pub adjusted_line : Content → ℕ → Adjusted → List ℕ
+adjusted_line case j x = line (codes "adjusted" ++ spaced_name case j ++ codes " " ++ spelling (terms x.value) ++ reached_words x.reached)
+
+-- the lines of adjusted values in their order, of which the first is that of this position
+abbrev pub adjusted_lines : Content → ℕ → List Adjusted → List ℕ
+adjusted_lines case j [] = []
+adjusted_lines case j (x ∷ xs) = adjusted_line case j x ++ adjusted_lines case (j + 1) xs
+
+-- the level, the steps, the hypotheses that are kept, the names of those that are rejected, the adjusted values, and the last line
+unfoldable pub test_report : Content → Decision → List Adjusted → List ℕ
+test_report case decision adjusted =
+    alpha_line case ++ step_lines case 1 decision.steps ++ flat_map (kept_line case) decision.kept ++ rejected_line case decision.steps ++ adjusted_lines case 0 adjusted ++ line (codes "end")

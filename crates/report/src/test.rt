@@ -4,8 +4,9 @@ ghost use Rattle.std.specs.List.{flat_map, list_any, range_with_len};
 ghost use Rattle.case_model.specs.CaseView.{content};
 ghost use Rattle.case_model.specs.Sums.{ratio_at};
 ghost use Rattle.sequential.specs.TrialAnswers.{IsSingle};
-ghost use Rattle.report.specs.TestReport.{AreOfCase, p_values, figures, spaced_name, alpha_line, step_line, step_lines, kept_line, name_if_rejected, rejected_line, test_report};
+ghost use Rattle.report.specs.TestReport.{AreOfCase, p_values, figures, spaced_name, alpha_line, step_line, step_lines, kept_line, name_if_rejected, rejected_line, reached_words, adjusted_line, adjusted_lines, test_report};
 
+use adjusted_p::Adjusted;
 use case_model::{Case, Inputs};
 use field_core::{List, NoMemory};
 use fraction::Fraction;
@@ -154,23 +155,70 @@ fn put_rejected(text: &mut List<u8>, case: &Case, steps: &[StepLine]) -> Result<
     text.push(b'\n')
 }
 
-/// What the command `test` prints: the level, the steps of the decision, the hypotheses that it keeps, and the names of
-/// those that it rejects.
+/// Appends that a value isn't reached, where it isn't.
+fn put_reached(text: &mut List<u8>, reached: bool) -> Result<(), NoMemory>
+    ensures { OnOk result (text.new ≡ text.old ++ reached_words reached) }
+{
+    if reached {
+        return Ok(());
+    }
+    text.append(b" not reached")
+}
+
+/// Appends the adjusted value of the hypothesis at a position.
+#[tactic(auto, unfolding(crate::specs::TestReport::adjusted_line))]
+fn put_adjusted_line(
+    text: &mut List<u8>,
+    case: &Case,
+    j: usize,
+    adjusted: &Adjusted,
+) -> Result<(), NoMemory>
+    requires { j < length (content case.now).names }
+    ensures { OnOk result (text.new ≡ text.old ++ adjusted_line (content case.now) j adjusted.now) }
+{
+    text.append(b"adjusted")?;
+    put_name(text, case, j)?;
+    text.push(b' ')?;
+    adjusted.value.print(text)?;
+    put_reached(text, adjusted.reached)?;
+    text.push(b'\n')
+}
+
+/// Appends the adjusted values, one for each hypothesis.
+fn put_adjusted(text: &mut List<u8>, case: &Case, values: &[Adjusted]) -> Result<(), NoMemory>
+    requires { length values.now ≡ length (content case.now).names }
+    ensures { OnOk result (text.new ≡ text.old ++ adjusted_lines (content case.now) 0 values.now) }
+{
+    for (j, adjusted) in values.iter().enumerate() {
+        put_adjusted_line(text, case, j, adjusted)?;
+    }
+    Ok(())
+}
+
+/// What the command `test` prints: the level, the steps of the decision, the hypotheses that it keeps, the names of those
+/// that it rejects, and the adjusted values.
 ///
-/// Each hypothesis of the decision must be one of the case, which must have a p-value for each hypothesis. `NoMemory` where
-/// memory runs out.
+/// Each hypothesis of the decision must be one of the case, which must have a p-value for each hypothesis, and there must
+/// be an adjusted value for each. `NoMemory` where memory runs out.
 #[tactic(auto, unfolding(crate::specs::TestReport::test_report))]
-pub fn test_text(alloc: Global, case: &Case, decision: &Decision) -> Result<List<u8>, NoMemory>
+pub fn test_text(
+    alloc: Global,
+    case: &Case,
+    decision: &Decision,
+    adjusted: &[Adjusted],
+) -> Result<List<u8>, NoMemory>
     requires single { IsSingle (content case.now).inputs }
     requires steps { AreOfCase (content case.now) decision.now.steps }
     requires kept { AreOfCase (content case.now) decision.now.kept }
-    ensures { IfOk result (λ text. text ≡ test_report (content case.now) decision.now) }
+    requires adjusted { length adjusted.now ≡ length (content case.now).names }
+    ensures { IfOk result (λ text. text ≡ test_report (content case.now) decision.now adjusted.now) }
 {
     let mut text = List::new(alloc);
     put_alpha(&mut text, case)?;
     put_steps(&mut text, case, decision.steps.as_slice())?;
     put_kept(&mut text, case, decision.kept.as_slice())?;
     put_rejected(&mut text, case, decision.steps.as_slice())?;
+    put_adjusted(&mut text, case, adjusted)?;
     text.append(b"end\n")?;
     Ok(text)
 }

@@ -3,27 +3,29 @@ ghost use Rattle.std.specs.Prelude.{◌≡◌, true, None, IfOk, IsTrue, map, na
 ghost use Rattle.std.specs.List.{list_all};
 ghost use Rattle.case_model.specs.Draft.{have_known_ends, have_known_arrivals};
 ghost use Rattle.case_model.specs.CaseView.{content};
-ghost use Rattle.sequential.specs.TrialAnswers.{IsSingle};
 ghost use Rattle.report.specs.TestReport.{AreOfCase};
 
 use crate::test_text;
-use case_model::{Case, Draft, DraftComponent, Inputs};
+use adjusted_p::Adjusted;
+use case_model::{Case, Draft, DraftComponent};
 use field_core::{List, NoMemory, Number, Text};
 use fraction::{Fraction, FractionFault};
-use sequential::{Decision, StepLine};
+use sequential::{Decision, StepLine, is_single};
 use std::alloc::Global;
 use std::process::Abort;
 use std::test::Fail;
 
 type Terms = (i128, i128);
 
-/// A level, hypotheses with their p-values, the lines of a decision, and what is printed.
+/// A level, hypotheses with their p-values, the lines of a decision, the adjusted values, each with whether it is reached,
+/// and what is printed.
 #[derive(Clone, Copy)]
 struct Row {
     alpha: Terms,
     hypotheses: &'static [(&'static str, Terms)],
     steps: &'static [(usize, Terms)],
     kept: &'static [(usize, Terms)],
+    adjusted: &'static [(Terms, bool)],
     text: &'static str,
 }
 
@@ -33,11 +35,15 @@ const ALL_REJECTED: Row = Row {
     hypotheses: &[("H1", (1, 100)), ("H2", (1, 200)), ("H3", (1, 50))],
     steps: &[(1, (1, 3)), (0, (1, 2)), (2, (1, 1))],
     kept: &[],
+    adjusted: &[((1, 50), true), ((3, 200), true), ((1, 50), true)],
     text: "alpha 1/40\n\
         step 1 H2 p 1/200 weight 1/3\n\
         step 2 H1 p 1/100 weight 1/2\n\
         step 3 H3 p 1/50 weight 1\n\
         rejected H1 H2 H3\n\
+        adjusted H1 1/50\n\
+        adjusted H2 3/200\n\
+        adjusted H3 1/50\n\
         end\n",
 };
 
@@ -46,7 +52,8 @@ const NONE_REJECTED: Row = Row {
     hypotheses: &[("H1", (1, 1))],
     steps: &[],
     kept: &[(0, (1, 1))],
-    text: "alpha 1/20\nkept H1 p 1 weight 1\nrejected\nend\n",
+    adjusted: &[((1, 1), true)],
+    text: "alpha 1/20\nkept H1 p 1 weight 1\nrejected\nadjusted H1 1\nend\n",
 };
 
 const ONE_OF_TWO: Row = Row {
@@ -54,10 +61,13 @@ const ONE_OF_TWO: Row = Row {
     hypotheses: &[("H1", (1, 40)), ("H2", (13, 500))],
     steps: &[(0, (1, 2))],
     kept: &[(1, (1, 2))],
+    adjusted: &[((1, 20), true), ((13, 250), true)],
     text: "alpha 1/20\n\
         step 1 H1 p 1/40 weight 1/2\n\
         kept H2 p 13/500 weight 1/2\n\
         rejected H1\n\
+        adjusted H1 1/20\n\
+        adjusted H2 13/250\n\
         end\n",
 };
 
@@ -72,12 +82,22 @@ const THREE_OF_FOUR: Row = Row {
     ],
     steps: &[(0, (1, 2)), (2, (1, 4)), (3, (1, 2))],
     kept: &[(1, (1, 2))],
+    adjusted: &[
+        ((1, 25), true),
+        ((2, 25), true),
+        ((1, 25), true),
+        ((1, 25), true),
+    ],
     text: "alpha 1/20\n\
         step 1 H1 p 1/50 weight 1/2\n\
         step 2 H3 p 1/100 weight 1/4\n\
         step 3 H4 p 1/50 weight 1/2\n\
         kept H2 p 1/25 weight 1/2\n\
         rejected H1 H3 H4\n\
+        adjusted H1 1/25\n\
+        adjusted H2 2/25\n\
+        adjusted H3 1/25\n\
+        adjusted H4 1/25\n\
         end\n",
 };
 
@@ -90,11 +110,15 @@ const TWO_KEPT: Row = Row {
     ],
     steps: &[(0, (1, 1))],
     kept: &[(1, (1, 1)), (2, (0, 1))],
+    adjusted: &[((1, 100), true), ((9, 10), true), ((1, 1), false)],
     text: "alpha 1/20\n\
         step 1 dose-high p 1/100 weight 1\n\
         kept dose.low p 9/10 weight 1\n\
         kept late_end p 0 weight 0\n\
         rejected dose-high\n\
+        adjusted dose-high 1/100\n\
+        adjusted dose.low 9/10\n\
+        adjusted late_end 1 not reached\n\
         end\n",
 };
 
@@ -128,6 +152,19 @@ const ELEVEN_STEPS: Row = Row {
         (0, (1, 1)),
     ],
     kept: &[],
+    adjusted: &[
+        ((0, 1), true),
+        ((0, 1), true),
+        ((0, 1), true),
+        ((0, 1), true),
+        ((0, 1), true),
+        ((0, 1), true),
+        ((0, 1), true),
+        ((0, 1), true),
+        ((0, 1), true),
+        ((0, 1), true),
+        ((0, 1), true),
+    ],
     text: "alpha 1\n\
         step 1 K p 0 weight 1/11\n\
         step 2 J p 0 weight 1/10\n\
@@ -141,6 +178,17 @@ const ELEVEN_STEPS: Row = Row {
         step 10 B p 0 weight 1/2\n\
         step 11 A p 0 weight 1\n\
         rejected A B C D E F G H I J K\n\
+        adjusted A 0\n\
+        adjusted B 0\n\
+        adjusted C 0\n\
+        adjusted D 0\n\
+        adjusted E 0\n\
+        adjusted F 0\n\
+        adjusted G 0\n\
+        adjusted H 0\n\
+        adjusted I 0\n\
+        adjusted J 0\n\
+        adjusted K 0\n\
         end\n",
 };
 
@@ -155,6 +203,15 @@ fn lines(alloc: Global, all: &[(usize, Terms)]) -> Result<List<StepLine>, Fail> 
         lines.push(StepLine { hypothesis, weight })?;
     }
     Ok(lines)
+}
+
+fn values(alloc: Global, all: &[(Terms, bool)]) -> Result<List<Adjusted>, Fail> {
+    let mut values = List::new(alloc);
+    for &(value, reached) in all {
+        let value = fraction(value)?;
+        values.push(Adjusted { value, reached })?;
+    }
+    Ok(values)
 }
 
 fn names(alloc: Global, hypotheses: &[(&str, Terms)]) -> Result<List<Text>, NoMemory> {
@@ -222,12 +279,6 @@ fn case(alloc: Global, row: &Row) -> Result<Case, Fail> {
     }
 }
 
-fn is_single(case: &Case) -> bool
-    ensures { IsTrue result → IsSingle (content case.now).inputs }
-{
-    matches!(case.inputs(), Inputs::Single(_))
-}
-
 /// Whether each line is of one of so many hypotheses.
 fn are_below(lines: &[StepLine], count: usize) -> bool
     ensures { result ≡ list_all (λ line. nat_lt line.hypothesis count) lines.now }
@@ -250,7 +301,9 @@ fn expect(rt: &impl Abort, alloc: Global, row: &Row) -> Result<(), Fail> {
     assert!(rt; is_single(&case));
     assert!(rt; are_of_case(&case, decision.steps.as_slice()));
     assert!(rt; are_of_case(&case, decision.kept.as_slice()));
-    let text = test_text(alloc, &case, &decision)?;
+    let values = values(alloc, row.adjusted)?;
+    assert!(rt; values.len() == case.size());
+    let text = test_text(alloc, &case, &decision, values.as_slice())?;
     assert_eq!(rt; text.as_slice(), row.text.as_bytes(), "{}", row.text);
     Ok(())
 }

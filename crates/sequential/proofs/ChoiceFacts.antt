@@ -1,5 +1,5 @@
 -- From the choices by the present state to those of the priorities.
-use Rattle.std.proofs.Common.{◌≡◌, sym, ap, ap₂, ◌∙◌, subst, ℕ, ◌<◌, true, length, Option, Some, None, Result, Ok, Err, IfOk, OnOk, MatchOption}
+use Rattle.std.proofs.Common.{◌≡◌, refl, sym, ap, ap₂, ◌∙◌, subst, ℕ, ◌<◌, true, length, Option, Some, None, MatchOption}
 use Rattle.std.specs.Option.{option_map}
 use Rattle.field_core.specs.Terms.{Terms, IsReduced}
 use Rattle.field_core.specs.View.{terms}
@@ -7,11 +7,9 @@ use Rattle.field_core.specs.Number.{Number}
 use Rattle.field_core.specs.Arithmetic.{◌/ε◌}
 use Rattle.field_core.specs.Order.{◌≤ε◌, IsPositive}
 use Rattle.field_core.specs.Laws.AtMostLaws.{at_most_equal}
-use Rattle.field_core.specs.declared.place.WideAt.{WideAt}
 use Rattle.field_core.specs.declared.place.Op.TheVariants.{Div}
 use Rattle.fraction.specs.Plain.{single as single_parts}
 use Rattle.fraction.specs.Laws.PlainLaws.{plain_is_exact}
-use Rattle.fraction.specs.View.{number_of}
 use Rattle.case_model.specs.Sums.{number, number_at, ratio_at}
 use Rattle.case_model.specs.Content.{Content, entangled}
 use Rattle.case_model.specs.LegalOrder.{IsRatio, IsLeastRatio}
@@ -22,6 +20,7 @@ use Rattle.entangled.specs.CaseRun.{is_live_in_case, case_level}
 use Rattle.sequential.specs.Trials.{TrialContent, IsTrialOf, IsLegalNow, remaining}
 use Rattle.sequential.specs.WideDecisions.{HasWrittenRatio, IsWrittenRatio, AreDefinedBelow, written_ratio}
 use Rattle.sequential.specs.Choices.{MayRejectNone, IsFirstToReject, IsLastToReject, HasLeastRatioBelow, IsChoice, IsLegalChoice, no_ratio, not_legal}
+use Rattle.sequential.specs.declared.candidate.Candidate.{Candidate}
 use Rattle.sequential.specs.declared.priority.Priority.TheVariants.{First, Last, Ratio}
 use Rattle.entangled.proofs.CaseLevels.{case_lowest}
 use Rattle.sequential.proofs.RatioFacts.{level_divides}
@@ -76,24 +75,24 @@ module _ (c : Content) (t : TrialContent) (T : IsTrialOf c t) where
   unfolding entangled
   has_place k q R = subst (λ n. k < n) (sym (p_values_are c t T).count) R.member.below
 
-  written_least : AreDefinedBelow (length t.p_values) t.p_values t.state → (j : ℕ) (q : Terms) → HasLeastRatioBelow (length t.p_values) t.p_values t.state j q → IsLeastRatio (entangled c) (number_at t.p_values) (remaining t) j
-  written_least defined j q L = record {
-    ratio = number q;
-    is_ratio = written_is_ratio j q L.below L.ratio;
-    least = λ k r R. let W = ratio_is_written defined k r R in subst (λ x. number q ≤ε x) W.2 (L.least k W.0 (has_place k r R) W.1);
-    first = λ k h R. let W = ratio_is_written defined k (number q) R in L.first k W.0 h W.1 (at_most_equal (number W.0) (number q) W.2);
-  }
+  -- the least written ratio is the least ratio
+  pub least_with : AreDefinedBelow (length t.p_values) t.p_values t.state → (j : ℕ) (q : Terms) → HasLeastRatioBelow (length t.p_values) t.p_values t.state j q → (L : IsLeastRatio (entangled c) (number_at t.p_values) (remaining t) j) × (L.ratio ≡ number q)
+  least_with defined j q L = (
+    record {
+      ratio = number q;
+      is_ratio = written_is_ratio j q L.below L.ratio;
+      least = λ k r R. let W = ratio_is_written defined k r R in subst (λ x. number q ≤ε x) W.2 (L.least k W.0 (has_place k r R) W.1);
+      first = λ k h R. let W = ratio_is_written defined k (number q) R in L.first k W.0 h W.1 (at_most_equal (number W.0) (number q) W.2);
+    },
+    refl,
+  )
 
-  pub ratio_choice : (o : Option ℕ) → IsLegalChoice t o → AreDefinedBelow (length t.p_values) t.p_values t.state → IsChoice c t Ratio o
-  ratio_choice (Some j) L defined = record { least = written_least defined j L.ratio L.least; legal = may_legal c t T j L.legal }
+  -- the choice by the least ratio, where it is defined
+  pub ratio_choice : (o : Option Candidate) → IsLegalChoice t o → AreDefinedBelow (length t.p_values) t.p_values t.state → IsChoice c t Ratio (option_map (λ x. x.hypothesis) o)
+  ratio_choice (Some x) L defined = record { least = (least_with defined x.hypothesis (terms x.ratio) L.least).0; legal = may_legal c t T x.hypothesis L.legal }
   ratio_choice None none defined = λ k L. elim none [
     | no_ratio n ↦ n k (has_place k L.least.ratio L.least.is_ratio) (ratio_is_written defined k L.least.ratio L.least.is_ratio).1.written
     | not_legal j q M n ↦
-        let e : k ≡ j = least_unique (entangled c) (number_at t.p_values) (remaining t) k j L.least (written_least defined j q M) in
+        let e : k ≡ j = least_unique (entangled c) (number_at t.p_values) (remaining t) k j L.least (least_with defined j q M).0 in
         n (legal_may c t T j (subst (IsLegalNow c t) e L.legal))
   ]
-
--- the choice by the least ratio, where it is defined
-pub ratio_choices : (t : TrialContent) (r : Result (Option ℕ) WideAt) → IfOk r (IsLegalChoice t) → OnOk r (AreDefinedBelow (length t.p_values) t.p_values t.state) → IfOk r (λ o. (c : Content) → IsTrialOf c t → IsChoice c t Ratio o)
-ratio_choices t (Ok o) h defined = λ c T. ratio_choice c t T o h defined
-ratio_choices t (Err w) h defined = tt

@@ -6,6 +6,7 @@ pub mod Decisions
 pub mod WideDecisions
 pub mod Choices
 pub mod DecisionRuns
+pub mod RatioSteps
 pub mod OpeningFault
 pub mod DefinedRuns
 pub mod DecisionStatements

@@ -10,7 +10,7 @@ mod priority;
 mod tests;
 mod trial;
 
-pub use decision::{Decision, StepLine, decide};
+pub use decision::{Decision, RatioStep, StepLine, decide};
 pub use fault::{DecideFault, RejectFault};
 pub use priority::Priority;
-pub use trial::Trial;
+pub use trial::{Trial, is_single};

@@ -3,25 +3,26 @@ ghost use Rattle.std.specs.Prelude.{IfOk, IfErr};
 ghost use Rattle.answers.specs.Halts.{HaltsBy};
 ghost use Rattle.case_model.specs.CaseView.{content};
 ghost use Rattle.graph_cli.specs.Accepted.{IsOfKind};
-ghost use Rattle.graph_cli.specs.Test.{test_stage};
+ghost use Rattle.graph_cli.specs.Test.{decided, adjusted, test_stage};
 ghost use Rattle.graph_cli.specs.declared.kind.Kind.TheVariants.{Single};
 
+use adjusted_p::{AdjustFault, Adjusted, adjust};
 use answers::{Answer, Halt};
 use case_model::Case;
+use field_core::List;
 use refusals::{When, wide_refusal};
 use report::test_text;
-use sequential::{DecideFault, Priority, decide};
+use sequential::{DecideFault, Decision, Priority, decide};
 use std::alloc::Global;
 
-/// What `test` answers to a case.
-#[tactic(auto, unfolding(crate::specs::Test::test_stage))]
-pub fn test_answer(alloc: Global, case: &Case, priority: Priority) -> Result<Answer, Halt>
+/// The decision on a case.
+fn decided(alloc: Global, case: &Case, priority: Priority) -> Result<Decision, Halt>
     requires { IsOfKind Single (content case.now).inputs }
-    ensures given { IfOk result (test_stage priority (content case.now)).Gives }
-    ensures refused { IfErr result (HaltsBy (test_stage priority (content case.now)).Refuses) }
+    ensures given { IfOk result (decided priority (content case.now)).Gives }
+    ensures refused { IfErr result (HaltsBy (decided priority (content case.now)).Refuses) }
 {
     match decide(alloc, case, priority) {
-        Ok(decision) => Ok(Answer::done(test_text(alloc, case, &decision)?)),
+        Ok(decision) => Ok(decision),
         Err(DecideFault::Wide(step, wide)) => Err(Halt::Refused(wide_refusal(
             alloc,
             case.names(),
@@ -30,4 +31,34 @@ pub fn test_answer(alloc: Global, case: &Case, priority: Priority) -> Result<Ans
         )?)),
         Err(DecideFault::NoMemory) => Err(Halt::NoMemory),
     }
+}
+
+/// The adjusted values of a case.
+fn adjusted(alloc: Global, case: &Case) -> Result<List<Adjusted>, Halt>
+    requires { IsOfKind Single (content case.now).inputs }
+    ensures given { IfOk result (adjusted (content case.now)).Gives }
+    ensures refused { IfErr result (HaltsBy (adjusted (content case.now)).Refuses) }
+{
+    match adjust(alloc, case) {
+        Ok(values) => Ok(values),
+        Err(AdjustFault::Wide(step, wide)) => Err(Halt::Refused(wide_refusal(
+            alloc,
+            case.names(),
+            When::AdjustedStep(step),
+            &wide,
+        )?)),
+        Err(AdjustFault::NoMemory) => Err(Halt::NoMemory),
+    }
+}
+
+/// What `test` answers to a case: the decision comes first, then the adjusted values.
+#[tactic(auto, unfolding(crate::specs::Test::test_stage))]
+pub fn test_answer(alloc: Global, case: &Case, priority: Priority) -> Result<Answer, Halt>
+    requires { IsOfKind Single (content case.now).inputs }
+    ensures given { IfOk result (test_stage priority (content case.now)).Gives }
+    ensures refused { IfErr result (HaltsBy (test_stage priority (content case.now)).Refuses) }
+{
+    let decision = decided(alloc, case, priority)?;
+    let values = adjusted(alloc, case)?;
+    Ok(Answer::done(test_text(alloc, case, &decision, values.as_slice())?))
 }

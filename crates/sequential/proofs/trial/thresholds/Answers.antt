@@ -1,4 +1,4 @@
-use Rattle.std.proofs.Common.{◌≡◌, sym, ap, subst, ◌∙◌, ℕ, ◌<◌, ◌+◌, length, arith}
+use Rattle.std.proofs.Common.{◌≡◌, sym, ap, subst, ◌∙◌, ℕ, ◌<◌, ◌+◌, length}
 use Rattle.std.proofs.lemmas.List.{length-append}
 use Rattle.field_core.specs.Arithmetic.{◌*ε◌}
 use Rattle.fraction.specs.View.{number_of}
