@@ -92,17 +92,17 @@ module _ (p : ℕ → Number) where
   inserted_ordered k (j ∷ js) below o = elim (true_or_false (at_most (p j) (p k))) [
     | inl t ↦ subst (IsByPValue p) (sym (inserted_behind k j js t)) (
       λ i l. elim (of_inserted k js i l) [
-        | inl e ↦ subst (Precedes p j) (sym e) record { least = t; tie = λ _. below j (listed_here j js) }
+        | inl e ↦ subst (Precedes p j) (sym e) record { not_above = t; tie = λ _. below j (listed_here j js) }
         | inr q ↦ o.0 i q
       ],
       inserted_ordered k js (λ i l. below i (listed_later j i js l)) o.1,
     )
     | inr f ↦ subst (IsByPValue p) (sym (inserted_before k j js f)) (
       λ i l. elim (here_or_later j i js l) [
-        | inl e ↦ subst (Precedes p k) (sym e) record { least = above j k f; tie = λ h. absurd (true_not_false (sym h ∙ f)) }
+        | inl e ↦ subst (Precedes p k) (sym e) record { not_above = above j k f; tie = λ h. absurd (true_not_false (sym h ∙ f)) }
         | inr q ↦ record {
-          least = at_most_trans (p k) (p j) (p i) (above j k f) (o.0 i q).least;
-          tie = λ h. absurd (true_not_false (sym (at_most_trans (p j) (p i) (p k) (o.0 i q).least h) ∙ f));
+          not_above = at_most_trans (p k) (p j) (p i) (above j k f) (o.0 i q).not_above;
+          tie = λ h. absurd (true_not_false (sym (at_most_trans (p j) (p i) (p k) (o.0 i q).not_above h) ∙ f));
         }
       ],
       o,

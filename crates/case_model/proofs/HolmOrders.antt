@@ -1,5 +1,5 @@
 -- What Holm's rule rejects, by ascending p-value, is a complete legal order on Holm's graph.
-use Rattle.std.proofs.Common.{◌≡◌, ◌↔◌, inl, inr, refl, sym, ap, ◌∙◌, subst, ℕ, suc, arith, Bool, true, false, cond, List, [], ◌∷◌, length, pos, ◌-ℤ◌}
+use Rattle.std.proofs.Common.{◌≡◌, ◌↔◌, inl, inr, refl, sym, ap, ◌∙◌, subst, ℕ, suc, arith, Bool, true, false, cond, if◌then◌else◌, List, [], ◌∷◌, length, pos, ◌-ℤ◌}
 use Rattle.std.proofs.lemmas.Int.{ints}
 use Rattle.field_core.specs.Number.{Number}
 use Rattle.field_core.specs.Arithmetic.{number_zero, ◌*ε◌}
@@ -15,7 +15,7 @@ use Rattle.case_model.specs.EntangledGraph.{EntangledGraph, IsValidEntangled}
 use Rattle.case_model.specs.IntersectionWeight.{IsIntersectionWeight}
 use Rattle.case_model.specs.ClosedTest.{Passes, IsLegal, IsRejected}
 use Rattle.case_model.specs.LegalOrder.{IsListed, IsRunBy}
-use Rattle.case_model.specs.TextbookRules.{IsByPValue, by_p_value, stepped_down, IsHolmRejected}
+use Rattle.case_model.specs.TextbookRules.{IsByPValue, by_p_value}
 use Rattle.case_model.specs.TextbookGraphs.{equal_graph, IsHolmGraph}
 use Rattle.case_model.proofs.ClosedTestLaws.{legal_passes, passes_legal, complete_decides}
 use Rattle.case_model.proofs.RejectionOrders.{listed_here, listed_later, here_or_later}
@@ -36,20 +36,22 @@ equal_start m = record {
 }
 
 module _ (p : ℕ → Number) (level : Number) where
-  small : ℕ → List ℕ → Bool
-  small j js = at_most (p j) (one_over (length (j ∷ js)) *ε level)
+  -- the first ones of a list, as long as the p-value is at most the level over the number of those that are left
+  unfoldable pub stepped_down : List ℕ → List ℕ
+  stepped_down [] = []
+  stepped_down (j ∷ js) = if at_most (p j) (one_over (length (j ∷ js)) *ε level) then j ∷ stepped_down js else []
 
-  pub down_none : stepped_down p level [] ≡ []
+  pub down_none : stepped_down [] ≡ []
   unfolding stepped_down
   down_none = refl
 
-  pub down_on : (j : ℕ) (js : List ℕ) → at_most (p j) (one_over (length (j ∷ js)) *ε level) ≡ true → stepped_down p level (j ∷ js) ≡ j ∷ stepped_down p level js
+  pub down_on : (j : ℕ) (js : List ℕ) → at_most (p j) (one_over (length (j ∷ js)) *ε level) ≡ true → stepped_down (j ∷ js) ≡ j ∷ stepped_down js
   unfolding stepped_down
-  down_on j js t = ap (λ b. cond b (j ∷ stepped_down p level js) []) t
+  down_on j js t = ap (λ b. cond b (j ∷ stepped_down js) []) t
 
-  pub down_stop : (j : ℕ) (js : List ℕ) → at_most (p j) (one_over (length (j ∷ js)) *ε level) ≡ false → stepped_down p level (j ∷ js) ≡ []
+  pub down_stop : (j : ℕ) (js : List ℕ) → at_most (p j) (one_over (length (j ∷ js)) *ε level) ≡ false → stepped_down (j ∷ js) ≡ []
   unfolding stepped_down
-  down_stop j js f = ap (λ b. cond b (j ∷ stepped_down p level js) []) f
+  down_stop j js f = ap (λ b. cond b (j ∷ stepped_down js) []) f
 
   module _ (E : EntangledGraph) (V : IsValidEntangled E) (A : IsHolmGraph E) where
     -- each of the `r` members of a set has the weight 1/r
@@ -77,7 +79,7 @@ module _ (p : ℕ → Number) (level : Number) where
       size = let e = size_dropped E.hypotheses j I (R.each j (listed_here j js)) in let s : size_of E.hypotheses I ≡ suc (length js) = R.size in omega (arith, e, s);
     }
 
-    step_run : (js : List ℕ) (I : ℕ → Bool) → Remain js I → IsRunBy (IsLegal E p level) I (stepped_down p level js)
+    step_run : (js : List ℕ) (I : ℕ → Bool) → Remain js I → IsRunBy (IsLegal E p level) I (stepped_down js)
     step_run [] I R = subst (IsRunBy (IsLegal E p level) I) (sym down_none) record { order = tt; complete = λ k h. absurd (nothing k (R.all k h.member)) }
       where
         nothing : (k : ℕ) → ¬ IsListed [] k
@@ -94,7 +96,7 @@ module _ (p : ℕ → Number) (level : Number) where
         least : (k : ℕ) → IsListed (j ∷ js) k → p j ≤ε p k
         least k l = elim (here_or_later j k js l) [
           | inl e ↦ subst (λ a. p j ≤ε p a) (sym e) (number_field.le_refl (p j))
-          | inr q ↦ (R.ordered.0 k q).least
+          | inr q ↦ (R.ordered.0 k q).not_above
         ]
 
         none : at_most (p j) (one_over (length (j ∷ js)) *ε level) ≡ false → (k : ℕ) → ¬ IsLegal E p level I k
@@ -111,8 +113,9 @@ module _ (p : ℕ → Number) (level : Number) where
       size = size_whole E.hypotheses ∙ sym (by_p_value_length p E.hypotheses);
     }
 
-    pub holm_decides : number_zero ≤ε level → (j : ℕ) → IsRejected E p level j ↔ IsHolmRejected p level E.hypotheses j
-    holm_decides n j =
+    -- the closed test rejects just these
+    pub stepped_decides : number_zero ≤ε level → (j : ℕ) → IsRejected E p level j ↔ IsListed (stepped_down (by_p_value p E.hypotheses)) j
+    stepped_decides n j =
         let run = step_run (by_p_value p E.hypotheses) whole all_remain in
-        let D = complete_decides E p level V n (stepped_down p level (by_p_value p E.hypotheses)) run.order run.complete j in
+        let D = complete_decides E p level V n (stepped_down (by_p_value p E.hypotheses)) run.order run.complete j in
         (D.1, D.0)

@@ -1,6 +1,6 @@
 -- Textbook rules for several hypotheses, without a graph: Holm (Holm 1979), fixed sequence (Maurer, Hothorn and Lehmacher 1995) and fallback (Wiens 2003).
 -- The hypotheses are the positions below `n`, with p-values `p`; `level` is the level alpha of the whole test.
-use Rattle.std.specs.Prelude.{ℕ, zero, suc, ◌<◌, ◌≤◌, Bool, not, ◌&&◌, if◌then◌else◌, List, [], ◌∷◌, length, get_or, ◌-◌}
+use Rattle.std.specs.Prelude.{ℕ, zero, suc, ◌<◌, ◌≤◌, Bool, not, ◌&&◌, if◌then◌else◌, List, [], ◌∷◌, get_or, take, ◌-◌}
 use Rattle.field_core.specs.Number.{Number}
 use Rattle.field_core.specs.Arithmetic.{number_zero, ◌+ε◌, ◌*ε◌}
 use Rattle.field_core.specs.Order.{◌≤ε◌, at_most}
@@ -17,7 +17,7 @@ module _ (p : ℕ → Number) where
 
   -- `j` comes before `k` in the order of the p-values, ties by position
   pub record Precedes (j k : ℕ) : Type 0 where
-    pub least : p j ≤ε p k
+    pub not_above : p j ≤ε p k
     pub tie : p k ≤ε p j → j < k
 
   -- each one of a list comes before all that stand behind it
@@ -38,12 +38,12 @@ module _ (p : ℕ → Number) where
   module _ (level : Number) where
     -- ---- fallback
 
-    -- what a hypothesis may spend: its own weight, and what the one before it had, where that was rejected
+    -- the fraction of the level that a hypothesis is tested at: its own weight, and what the one before it had, where that was rejected
     unfoldable pub fallback_weight : (ℕ → Number) → ℕ → Number
     fallback_weight w zero = w zero
     fallback_weight w (suc i) = if does_pass (p i) (fallback_weight w i) level then w (suc i) +ε fallback_weight w i else w (suc i)
 
-    -- the fallback rule rejects `j`: its p-value passes at what it may spend
+    -- the fallback rule rejects `j`: its p-value passes at this fraction
     pub record IsFallbackRejected (n : ℕ) (w : ℕ → Number) (j : ℕ) : Type 0 where
       pub below : j < n
       pub passes : Passes (p j) (fallback_weight w j) level
@@ -57,15 +57,6 @@ module _ (p : ℕ → Number) where
 
     -- ---- Holm
 
-    -- the first ones of a list, as long as the p-value is at most the level over the number of those that are left
-    unfoldable pub stepped_down : List ℕ → List ℕ
-    stepped_down [] = []
-    stepped_down (j ∷ js) = if at_most (p j) (one_over (length (j ∷ js)) *ε level) then j ∷ stepped_down js else []
-
-    -- Holm's rule rejects `j`: it is among the first by ascending p-value that are rejected one after the other
-    abbrev pub IsHolmRejected : ℕ → ℕ → Type 0
-    IsHolmRejected n j = IsListed (stepped_down (by_p_value n)) j
-
     -- The `i`-th by ascending p-value of `n` hypotheses, counted from 0, has a p-value of at most the level over `n - i`.
     abbrev pub IsSmallAt : ℕ → ℕ → Type 0
     IsSmallAt n i = p (get_or (by_p_value n) i 0) ≤ε (one_over (n - i) *ε level)
@@ -75,3 +66,9 @@ module _ (p : ℕ → Number) where
       pub within : r ≤ n
       pub each : (i : ℕ) → i < r → IsSmallAt n i
       pub next : r < n → ¬ IsSmallAt n r
+
+    -- Holm's rule rejects `j`: it is among the first by ascending p-value, as many as Holm's number tells.
+    pub record IsHolmRejected (n j : ℕ) : Type 0 where
+      pub number : ℕ
+      pub is_number : IsHolmNumber n number
+      pub among : IsListed (take number (by_p_value n)) j

@@ -1,5 +1,5 @@
 -- The closed test on the graphs of textbook rules, as contracts name it: it rejects just what the rule rejects.
-use Rattle.std.specs.Prelude.{◌≡◌, ◌<◌, ◌↔◌, ℕ, length, take}
+use Rattle.std.specs.Prelude.{◌≡◌, ◌<◌, ◌↔◌, ℕ, length}
 use Rattle.field_core.specs.Number.{Number}
 use Rattle.field_core.specs.Arithmetic.{number_zero, number_one}
 use Rattle.field_core.specs.Order.{◌≤ε◌}
@@ -10,7 +10,7 @@ use Rattle.field_core.specs.LimitParts.{IsUnit}
 use Rattle.case_model.specs.EntangledGraph.{EntangledGraph, IsValidEntangled}
 use Rattle.case_model.specs.ClosedTest.{IsRejected}
 use Rattle.case_model.specs.LegalOrder.{IsListed}
-use Rattle.case_model.specs.TextbookRules.{by_p_value, IsByPValue, stepped_down, IsHolmNumber, IsFallbackRejected, IsSequenceRejected, IsHolmRejected}
+use Rattle.case_model.specs.TextbookRules.{by_p_value, IsByPValue, IsHolmNumber, IsFallbackRejected, IsSequenceRejected, IsHolmRejected}
 use Rattle.case_model.specs.TextbookGraphs.{IsFallbackGraph, IsSequenceGraph, IsHolmGraph}
 
 -- The list by ascending p-value has just the positions below `n`, and is in the order of the p-values, ties by position.
@@ -18,9 +18,10 @@ abbrev pub PositionsAreAscending : Type 0
 PositionsAreAscending =
     (p : ℕ → Number) (n : ℕ) → ((j : ℕ) → IsListed (by_p_value p n) j ↔ j < n) × (length (by_p_value p n) ≡ n) × IsByPValue p (by_p_value p n)
 
--- Holm's rule rejects the first ones by ascending p-value, as many as Holm's number tells.
-abbrev pub HolmRejectsTheFirst : Type 0
-HolmRejectsTheFirst = (p : ℕ → Number) (level : Number) (n r : ℕ) → IsHolmNumber p level n r → stepped_down p level (by_p_value p n) ≡ take r (by_p_value p n)
+-- There is just one Holm number.
+abbrev pub HasOneHolmNumber : Type 0
+HasOneHolmNumber =
+    (p : ℕ → Number) (level : Number) (n : ℕ) → (r : ℕ) × IsHolmNumber p level n r × ((s : ℕ) → IsHolmNumber p level n s → s ≡ r)
 
 -- On the fallback graph of weights without epsilon, the closed test is the fallback rule.
 abbrev pub FallbackGraphsDecideAsFallback : Type 0

@@ -1,6 +1,6 @@
 //! The closed test on the graphs of textbook rules.
 
-ghost use Rattle.case_model.specs.TextbookStatements.{PositionsAreAscending, HolmRejectsTheFirst, FallbackGraphsDecideAsFallback, SequenceGraphsDecideAsSequence, HolmGraphsDecideAsHolm, FallbackGraphsAreValid, HolmGraphsAreValid};
+ghost use Rattle.case_model.specs.TextbookStatements.{PositionsAreAscending, HasOneHolmNumber, FallbackGraphsDecideAsFallback, SequenceGraphsDecideAsSequence, HolmGraphsDecideAsHolm, FallbackGraphsAreValid, HolmGraphsAreValid};
 
 /// On the graphs of Holm, of the fixed sequence and of fallback, the closed test rejects just what the rule rejects, at each
 /// level from 0 to 1.
@@ -16,9 +16,9 @@ pub fn textbook_graphs_are_valid()
     ensures holm { HolmGraphsAreValid }
 {}
 
-/// Holm's rule rejects the first ones by ascending p-value, as many as have a p-value of at most the level over the number
-/// of those that are left.
-pub fn holm_rejects_the_first()
+/// The positions by ascending p-value are all positions, in this order, ties by position; and there is just one number of
+/// them that Holm's rule rejects.
+pub fn holm_numbers_exist()
     ensures order { PositionsAreAscending }
-    ensures first { HolmRejectsTheFirst }
+    ensures number { HasOneHolmNumber }
 {}

@@ -1,6 +1,6 @@
 use Rattle.case_model.proofs.FallbackOrders.{fallback_decides}
 use Rattle.case_model.proofs.SequenceOrders.{sequence_decides}
-use Rattle.case_model.proofs.HolmOrders.{holm_decides}
+use Rattle.case_model.proofs.HolmNumbers.{holm_decides}
 use Rattle.case_model.proofs.laws.rules.textbook_graphs_decide_as_rules.Goals as goal
 
 pub returns-clause-fallback : goal.returns-clause-fallback
