@@ -1,7 +1,8 @@
 -- A row of tests finds nothing exactly where it finds nothing at any place.
-use Rattle.std.proofs.Common.{◌≡◌, ◌≢◌, ◌⊎◌, inl, inr, refl, sym, ap, ap₂, ◌∙◌, ℕ, zero, suc, ◌+◌, ◌-◌, ◌<◌, ◌≤◌, List, [], ◌∷◌, length, take, get_or, slice_get, Bool, true, false, not, ◌&&◌, ◌||◌, Option, Some, None, Result, Ok, Err, arith}
-use Rattle.std.proofs.lemmas.Option.{slice_get_within, get_or_from_slice_get, slice_get-get_or}
+use Rattle.std.proofs.Common.{◌≡◌, ◌≢◌, ◌⊎◌, inl, inr, refl, sym, ap, ap₂, ◌∙◌, ℕ, zero, suc, ◌+◌, ◌-◌, ◌<◌, ◌≤◌, List, [], ◌∷◌, length, take, get_or, slice_get, map, is_some, Bool, true, false, not, ◌&&◌, ◌||◌, Option, Some, None, Result, Ok, Err, arith}
+use Rattle.std.proofs.lemmas.Option.{slice_get_within, get_or_from_slice_get, slice_get-map}
 use Rattle.std.specs.List.{list_all, list_any}
+use Rattle.std.specs.Option.{option_map}
 use Rattle.field_core.specs.Number.{Number}
 use Rattle.field_core.specs.Order.{at_most}
 use Rattle.field_core.specs.declared.place.WideAt.{WideAt}
@@ -101,3 +102,33 @@ can_write (Err e) value bound above h = absurd (cc)
 pub within_bound : {A : Type 0} (r : Result A WideAt) (value bound : Number) (above : CaseFault) → ((e : WideAt) → r ≢ Err e) → at_most value bound ≡ true → bound_fault r value bound above ≡ None
 within_bound (Ok s) value bound above w h = unless_true (at_most value bound) above h
 within_bound (Err e) value bound above w h = absurd (w e refl)
+
+-- ---- tests of mapped lists
+
+from_mapped_none : {A B : Type 0} (row : ℕ → B → Option CaseFault) (f : A → B) (i : ℕ) (xs : List A) → ((n : ℕ) (x : A) → slice_get xs n ≡ Some x → row (i + n) (f x) ≡ None) → first_from row i (map f xs) ≡ None
+unfolding first_from
+from_mapped_none row f i [] h = refl
+from_mapped_none row f i (x ∷ xs) h =
+    let here : i ≡ i + 0 = omega arith in
+    let next : (n : ℕ) → i + 1 + n ≡ i + suc n = λ n. omega arith in
+    none_or (row i (f x)) (first_from row (i + 1) (map f xs)) (ap (λ k. row k (f x)) here ∙ h 0 x refl) (from_mapped_none row f (i + 1) xs (λ n y e. ap (λ k. row k (f y)) (next n) ∙ h (suc n) y e))
+
+pub mapped_none : {A B : Type 0} (row : ℕ → B → Option CaseFault) (f : A → B) (xs : List A) → ((n : ℕ) (x : A) → slice_get xs n ≡ Some x → row n (f x) ≡ None) → first_of row (map f xs) ≡ None
+mapped_none row f xs h = from_mapped_none row f 0 xs (λ n x e. let same : 0 + n ≡ n = omega arith in ap (λ k. row k (f x)) same ∙ h n x e)
+
+pub none_mapped : {A B : Type 0} (row : ℕ → B → Option CaseFault) (f : A → B) (xs : List A) → first_of row (map f xs) ≡ None → (n : ℕ) (x : A) → slice_get xs n ≡ Some x → row n (f x) ≡ None
+none_mapped row f xs h n x e = none_each row (map f xs) h n (f x) (slice_get-map f xs n ∙ ap (option_map f) e)
+
+-- ---- given p-values
+
+pub some_given : {A : Type 0} (ps : List (Option A)) (i : ℕ) (p : A) → slice_get ps i ≡ Some (Some p) → list_any is_some ps ≡ true
+some_given [] zero p e = absurd (let q : Path (Option (Option _)) None (Some (Some p)) = e in cc)
+some_given [] (suc i) p e = absurd (let q : Path (Option (Option _)) None (Some (Some p)) = e in cc)
+some_given (None ∷ ps) zero p e = absurd (let q : Path (Option (Option _)) (Some None) (Some (Some p)) = e in cc)
+some_given (None ∷ ps) (suc i) p e = some_given ps i p e
+some_given (Some x ∷ ps) i p e = refl
+
+pub given_at : {A : Type 0} (ps : List (Option A)) → list_any is_some ps ≡ true → (i : ℕ) × (p : A) × (slice_get ps i ≡ Some (Some p))
+given_at [] h = absurd (cc)
+given_at (None ∷ ps) h = let r = given_at ps h in (suc r.0, r.1, r.2)
+given_at (Some x ∷ ps) h = (0, x, refl)

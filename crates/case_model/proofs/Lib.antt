@@ -18,6 +18,7 @@ pub mod ExampleOrders
 pub mod ExampleTests
 pub mod FallbackOrders
 pub mod Faultless
+pub mod FaultlessDrafts
 pub mod FirstFaults
 pub mod Holding
 pub mod HolmNumbers
@@ -41,6 +42,8 @@ pub mod Same
 pub mod SequenceOrders
 pub mod SingleInputs
 pub mod SpendLevels
+pub mod SpendsRise
+pub mod StageValidity
 pub mod StagedTests
 pub mod SumSteps
 pub mod TablePlaces

@@ -104,7 +104,7 @@ good_some : (p : Ratio) → is_good (Some p) ≡ true → is_p_value p ≡ true
 unfolding is_good
 good_some p h = h
 
-inputs_none : (d : Draft) → case_fault d ≡ None → Neither (p_values_fault (length d.names) d.p) (option_and_then (stages_fault (length d.names) d.alpha) d.stages)
+pub inputs_none : (d : Draft) → case_fault d ≡ None → Neither (p_values_fault (length d.names) d.p) (option_and_then (stages_fault (length d.names) d.alpha) d.stages)
 unfolding late_fault
 inputs_none d h = neither (p_values_fault (length d.names) d.p) _ (neither (mixed d.stages d.p) _ (neither (rows_fault (length d.names) (content_of d).components) _ (late_none d h)).second).second
 
@@ -164,11 +164,11 @@ pub record HasShape (c : Content) : Type 0 where
   pub edges : (k : ℕ) → k < length c.components → length (component_at c.components k).edges ≡ length c.names * length c.names
   pub p_values : IfSingle c.inputs (ArePValues (length c.names))
 
-few_ks : (ks : List DraftComponent) → components_fault ks ≡ None → length ks ≤ 8
+pub few_ks : (ks : List DraftComponent) → components_fault ks ≡ None → length ks ≤ 8
 unfolding components_fault too_many_components
 few_ks ks h = grind (arith, nat_tests, no_when (nat_lt 8 (length ks)) _ (neither (no_component ks) (too_many_components ks) h).second)
 
-some_ks : (ks : List DraftComponent) → components_fault ks ≡ None → 0 < length ks
+pub some_ks : (ks : List DraftComponent) → components_fault ks ≡ None → 0 < length ks
 unfolding components_fault no_component
 some_ks ks h = grind (arith, nat_tests, no_when (length ks == 0) _ (neither (no_component ks) (too_many_components ks) h).first)
 

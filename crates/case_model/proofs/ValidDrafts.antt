@@ -52,7 +52,7 @@ unfolding total_fault
 total_at_most ts c place above h = no_sum_fault _ _ above h
 
 module _ (d : Draft) (h : case_fault d ≡ None) where
-  start : GoodStart d
+  pub start : GoodStart d
   start = good_start d (early_none d h)
 
   parts : Neither (long_alpha d.alpha) (long_share d.components or first_of long_weight d.components or first_of long_edge d.components or long_p_value d.p or option_and_then long_stage_part d.stages)
@@ -75,7 +75,7 @@ module _ (d : Draft) (h : case_fault d ≡ None) where
   pub long_p_values : Neither (long_p_value d.p) (option_and_then long_stage_part d.stages)
   long_p_values = neither (long_p_value d.p) _ long_edges.second
 
-  shares : Neither (share_range d.components) (share_sum d.components)
+  pub shares : Neither (share_range d.components) (share_sum d.components)
   unfolding shares_fault
   shares = neither (share_range d.components) (share_sum d.components) start.shares
 
@@ -83,14 +83,14 @@ module _ (d : Draft) (h : case_fault d ≡ None) where
   unfolding weights_fault
   weights = neither (weight_count (length d.names) d.components) _ start.weights
 
-  sums : Neither (first_of weight_range d.components) (first_of weight_sum d.components)
+  pub sums : Neither (first_of weight_range d.components) (first_of weight_sum d.components)
   sums = neither (first_of weight_range d.components) (first_of weight_sum d.components) weights.second
 
   loops : Neither (first_of self_edge d.components) (first_of repeated_edge d.components or first_of edge_range d.components)
   unfolding edges_fault
   loops = neither (first_of self_edge d.components) _ start.edges
 
-  edges : Neither (first_of repeated_edge d.components) (first_of edge_range d.components)
+  pub edges : Neither (first_of repeated_edge d.components) (first_of edge_range d.components)
   edges = neither (first_of repeated_edge d.components) (first_of edge_range d.components) loops.second
 
   -- the shares sum to at most 1

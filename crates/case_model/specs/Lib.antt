@@ -12,6 +12,7 @@ pub mod ClosedTestStatements
 pub mod Content
 pub mod DiscoveryBound
 pub mod Draft
+pub mod DraftStatements
 pub mod EntangledGraph
 pub mod Entries
 pub mod IntersectionStatements
