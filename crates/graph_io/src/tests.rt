@@ -3,20 +3,13 @@ use crate::{
     Failed, FailingSink, FailingSource, MemorySink, MemorySource, ReadEnd, Sink, StdSink,
     StdSource, read_all, write_all,
 };
-use field_core::{List, NoMemory};
-use std::alloc::Global;
+use field_core::List;
 use std::test::Fail;
-
-fn list_of<T: Copy>(alloc: Global, items: &[T]) -> Result<List<T>, NoMemory> {
-    let mut list = List::new(alloc);
-    list.append(items)?;
-    Ok(list)
-}
 
 #[test]
 fn reads_to_the_end(rt: HostRuntime) -> Result<(), Fail> {
     let alloc = rt.alloc();
-    let mut source = MemorySource::new(list_of(alloc, b"alpha 1/40")?);
+    let mut source = MemorySource::new(List::of(b"alpha 1/40".to_vec(alloc)?));
     let read = read_all(alloc, &mut source, 10)?;
     assert_eq!(rt; read.as_slice(), b"alpha 1/40".as_slice());
     Ok(())
@@ -25,7 +18,11 @@ fn reads_to_the_end(rt: HostRuntime) -> Result<(), Fail> {
 #[test]
 fn reads_over_short_takes(rt: HostRuntime) -> Result<(), Fail> {
     let alloc = rt.alloc();
-    let mut source = FailingSource::new(list_of(alloc, b"alpha 1/40")?, 4, List::new(alloc));
+    let mut source = FailingSource::new(
+        List::of(b"alpha 1/40".to_vec(alloc)?),
+        4,
+        List::new(alloc),
+    );
     let read = read_all(alloc, &mut source, 4_194_304)?;
     assert_eq!(rt; read.as_slice(), b"alpha 1/40".as_slice());
     Ok(())
@@ -34,8 +31,8 @@ fn reads_over_short_takes(rt: HostRuntime) -> Result<(), Fail> {
 #[test]
 fn stops_at_a_fault(rt: HostRuntime) -> Result<(), Fail> {
     let alloc = rt.alloc();
-    let fails = list_of(alloc, &[2])?;
-    let mut source = FailingSource::new(list_of(alloc, b"alpha 1/40")?, 4, fails);
+    let fails = List::of([2].to_vec(alloc)?);
+    let mut source = FailingSource::new(List::of(b"alpha 1/40".to_vec(alloc)?), 4, fails);
     assert_eq!(rt;
         read_all(alloc, &mut source, 10).err(),
         Some(ReadEnd::Fault)
@@ -48,7 +45,7 @@ fn stops_at_a_fault(rt: HostRuntime) -> Result<(), Fail> {
 #[test]
 fn refuses_too_many_bytes(rt: HostRuntime) -> Result<(), Fail> {
     let alloc = rt.alloc();
-    let mut source = MemorySource::new(list_of(alloc, b"alpha 1/40")?);
+    let mut source = MemorySource::new(List::of(b"alpha 1/40".to_vec(alloc)?));
     assert_eq!(rt;
         read_all(alloc, &mut source, 6).err(),
         Some(ReadEnd::TooLong(7))
@@ -73,7 +70,7 @@ fn writes_what_fits(rt: HostRuntime) -> Result<(), Fail> {
 #[test]
 fn keeps_what_came_before_a_fault(rt: HostRuntime) -> Result<(), Fail> {
     let alloc = rt.alloc();
-    let mut sink = FailingSink::new(alloc, 5, list_of(alloc, &[2])?)?;
+    let mut sink = FailingSink::new(alloc, 5, List::of([2].to_vec(alloc)?))?;
     assert_eq!(rt; write_all(&mut sink, b"reject H1"), Err(Failed));
     assert_eq!(rt; sink.held(), b"rejec".as_slice());
     write_all(&mut sink, b"t H1")?;
