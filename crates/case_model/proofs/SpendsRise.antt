@@ -50,14 +50,17 @@ rising_steps t [] low h n = tt
 rising_steps t (s ∷ ss) low h n = (h s refl, rising_steps t ss (stage_number s.levels t) (λ x e. n 0 s x refl e) (λ i a b e f. let next : suc i + 1 ≡ suc (i + 1) = omega arith in n (suc i) a b e (ap (slice_get (s ∷ ss)) next ∙ f)))
 
 pub rising_spend : (count : ℕ) (alpha : Ratio) (s : Spend) (t : ℕ) → IsValidSpend count alpha s → IsRisingSpend s t
-rising_spend count alpha (Shares fs) t v = at_place IsNonneg zero_nonneg fs v.nonneg (t - 1)
-rising_spend count alpha (Table ss) t v =
-    rising_steps t ss number_zero (λ s e. at_place IsNonneg zero_nonneg s.levels (v.nonneg 0 s e) (t - 1))
-    (λ i a b e f. next_level a.levels b.levels (t - 1) (v.as_many i a e ∙ sym (v.as_many (i + 1) b f)) (v.rising i a b e f (t - 1)))
+rising_spend count alpha (Shares fs) zero v = at_most_refl number_zero
+rising_spend count alpha (Shares fs) (suc t) v = at_place IsNonneg zero_nonneg fs v.nonneg t
+rising_spend count alpha (Table ss) zero v = rising_steps zero ss number_zero (λ s e. at_most_refl number_zero) (λ i a b e f. at_most_refl number_zero)
+rising_spend count alpha (Table ss) (suc t) v =
+    rising_steps (suc t) ss number_zero (λ s e. at_place IsNonneg zero_nonneg s.levels (v.nonneg 0 s e) t)
+    (λ i a b e f. next_level a.levels b.levels t (v.as_many i a e ∙ sym (v.as_many (i + 1) b f)) (v.rising i a b e f t))
 
 nothing_spent : (k t : ℕ) → IsRisingSpend (spend_at [] k) t
 unfolding ratio_at
-nothing_spent k t = zero_nonneg
+nothing_spent k zero = at_most_refl number_zero
+nothing_spent k (suc t) = zero_nonneg
 
 rising_at : (count : ℕ) (alpha : Ratio) (spends : List Spend) → Each spends (IsValidSpend count alpha) → (k t : ℕ) → IsRisingSpend (spend_at spends k) t
 rising_at count alpha [] h k t = nothing_spent k t

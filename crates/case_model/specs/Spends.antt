@@ -1,5 +1,5 @@
 -- The level of a stage at a weight, by what a hypothesis spends at the stages (this project's own).
-use Rattle.std.specs.Prelude.{◌≡◌, ◌++◌, ◌-◌, ℕ, List, [], ◌∷◌, Option, None}
+use Rattle.std.specs.Prelude.{◌≡◌, ◌++◌, ℕ, zero, suc, List, [], ◌∷◌, Option, None}
 use Rattle.std.specs.Bool.{then_some}
 use Rattle.std.specs.List.{Contains}
 use Rattle.std.specs.Option.{option_or, option_map_or}
@@ -13,9 +13,10 @@ use Rattle.case_model.specs.declared.spend.Spend.{Spend}
 use Rattle.case_model.specs.declared.spend.Spend.TheVariants.{Shares, Table}
 use Rattle.case_model.specs.declared.spend_step.SpendStep.{SpendStep}
 
--- the number of a stage, counted from 1; 0 past the last one
+-- the number of a stage, counted from 1; 0 past the last one, and at 0, where there is no stage
 abbrev pub stage_number : List Ratio → ℕ → Number
-stage_number xs t = number_at xs (t - 1)
+stage_number xs zero = number_zero
+stage_number xs (suc t) = number_at xs t
 
 -- the last step whose `from` is at most a weight, if there is one
 unfoldable pub last_step : List SpendStep → Number → Option SpendStep
