@@ -15,7 +15,7 @@ use Rattle.field_core.proofs.UnitLimits.{zero_is}
 use Rattle.field_core.proofs.RemovalLaws.{same_or_not}
 use Rattle.field_core.proofs.SumLaws.{sum_congr, unit_same, unit_other}
 use Rattle.case_model.specs.EntangledGraph.{EntangledGraph, IsValidEntangled}
-use Rattle.case_model.specs.TextbookGraphs.{IsAlone, chain_graph, equal_graph, IsFallbackGraph, IsHolmGraph}
+use Rattle.case_model.specs.TextbookGraphs.{IsAlone, chain_graph, first_alone, equal_graph, IsFallbackGraph, IsSequenceGraph, IsHolmGraph}
 use Rattle.case_model.proofs.AloneGraphs.{one_term, only_first}
 use Rattle.field_core.proofs.Positions.{test_same, test_other}
 use Rattle.case_model.proofs.HolmOrders.{less_one}
@@ -49,6 +49,26 @@ fallback_valid E w A nonneg total =
       | inl e ↦ rw (test_same k (suc i) e) (sym (ap (unit number_field (suc i)) e ∙ unit_same number_field (suc i) ∙ field_one))
       | inr n ↦ rw (test_other k (suc i) n) (sym (unit_other number_field (suc i) k (λ x. n (sym x)) ∙ field_zero))
     ]
+
+-- ---- the fixed sequence
+
+plus_nothing : (x : Number) → x +ε number_zero ≡ x
+plus_nothing x = simp number_laws
+
+all_first : (n : ℕ) → sum_below number_field (suc n) first_alone ≡ number_one
+all_first zero = one_term first_alone
+all_first (suc n) = sum_last (suc n) first_alone ∙ plus_nothing (sum_below number_field (suc n) first_alone) ∙ all_first n
+
+first_total : (n : ℕ) → sum_below number_field n first_alone ≤ε number_one
+first_total zero = subst (λ z. z ≤ε number_one) (sym (sum_nothing first_alone)) zero_at_most_one
+first_total (suc n) = at_most_equal _ _ (all_first n)
+
+first_nonneg : (i : ℕ) → number_zero ≤ε first_alone i
+first_nonneg zero = zero_at_most_one
+first_nonneg (suc i) = at_most_refl number_zero
+
+pub sequence_valid : (E : EntangledGraph) → IsSequenceGraph E → IsValidEntangled E
+sequence_valid E A = fallback_valid E first_alone A (λ i _. first_nonneg i) (first_total E.hypotheses)
 
 -- ---- Holm's graph
 

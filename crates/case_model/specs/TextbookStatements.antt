@@ -48,6 +48,10 @@ FallbackGraphsAreValid =
     (E : EntangledGraph) (w : ℕ → Number) → IsFallbackGraph w E → ((i : ℕ) → i < E.hypotheses → number_zero ≤ε w i)
     → sum_below number_field E.hypotheses w ≤ε number_one → IsValidEntangled E
 
+-- The graph of the fixed sequence is valid.
+abbrev pub SequenceGraphsAreValid : Type 0
+SequenceGraphsAreValid = (E : EntangledGraph) → IsSequenceGraph E → IsValidEntangled E
+
 -- Holm's graph is valid.
 abbrev pub HolmGraphsAreValid : Type 0
 HolmGraphsAreValid = (E : EntangledGraph) → 0 < E.hypotheses → IsHolmGraph E → IsValidEntangled E

@@ -1,6 +1,6 @@
 //! The closed test on the graphs of textbook rules.
 
-ghost use Rattle.case_model.specs.TextbookStatements.{PositionsAreAscending, HasOneHolmNumber, FallbackGraphsDecideAsFallback, SequenceGraphsDecideAsSequence, HolmGraphsDecideAsHolm, FallbackGraphsAreValid, HolmGraphsAreValid};
+ghost use Rattle.case_model.specs.TextbookStatements.{PositionsAreAscending, HasOneHolmNumber, FallbackGraphsDecideAsFallback, SequenceGraphsDecideAsSequence, HolmGraphsDecideAsHolm, FallbackGraphsAreValid, SequenceGraphsAreValid, HolmGraphsAreValid};
 
 /// On the graphs of Holm, of the fixed sequence and of fallback, the closed test rejects just what the rule rejects, at each
 /// level from 0 to 1.
@@ -10,9 +10,10 @@ pub fn textbook_graphs_decide_as_rules()
     ensures holm { HolmGraphsDecideAsHolm }
 {}
 
-/// Graphs with the weights of fallback, and those of Holm, are valid.
+/// Graphs with the weights of fallback, that of the fixed sequence and that of Holm are valid.
 pub fn textbook_graphs_are_valid()
     ensures fallback { FallbackGraphsAreValid }
+    ensures sequence { SequenceGraphsAreValid }
     ensures holm { HolmGraphsAreValid }
 {}
 
