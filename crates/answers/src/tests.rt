@@ -7,12 +7,6 @@ use std::alloc::Global;
 use std::process::Abort;
 use std::test::Fail;
 
-fn list_of<T: Copy>(alloc: Global, items: &[T]) -> Result<List<T>, NoMemory> {
-    let mut list = List::new(alloc);
-    list.append(items)?;
-    Ok(list)
-}
-
 #[test]
 fn too_many_bytes(rt: HostRuntime) -> Result<(), Fail> {
     let refusal = bytes_refusal(rt.alloc(), b"", 4_194_305)?;
@@ -32,12 +26,16 @@ fn too_many_bytes(rt: HostRuntime) -> Result<(), Fail> {
 #[test]
 fn a_whole_input(rt: HostRuntime) -> Result<(), Fail> {
     let alloc = rt.alloc();
-    let mut source = MemorySource::new(list_of(alloc, b"alpha 1\n")?);
+    let mut source = MemorySource::new(List::of(b"alpha 1\n".to_vec(alloc)?));
     match take_whole(alloc, b"", &mut source) {
         Ok(bytes) => assert_eq!(rt; bytes.as_slice(), b"alpha 1\n".as_slice()),
         Err(_) => panic!(rt; "not taken"),
     }
-    let mut failing = FailingSource::new(list_of(alloc, b"alpha 1\n")?, 4, list_of(alloc, &[2])?);
+    let mut failing = FailingSource::new(
+        List::of(b"alpha 1\n".to_vec(alloc)?),
+        4,
+        List::of([2].to_vec(alloc)?),
+    );
     match take_whole(alloc, b"", &mut failing) {
         Err(Stop::ReadFault) => Ok(()),
         _ => panic!(rt; "no fault"),
@@ -60,11 +58,11 @@ fn expect(
 #[test]
 fn each_outcome_is_put(rt: HostRuntime) -> Result<(), Fail> {
     let alloc = rt.alloc();
-    let done = Ok(Answer::done(list_of(alloc, b"end\n")?));
+    let done = Ok(Answer::done(List::of(b"end\n".to_vec(alloc)?)));
     expect(&rt, alloc, &done, (0, b"end\n"))?;
     let no = Ok(Answer {
         status: Status::No,
-        text: list_of(alloc, b"no\n")?,
+        text: List::of(b"no\n".to_vec(alloc)?),
     });
     expect(&rt, alloc, &no, (1, b"no\n"))?;
     let causes = [
@@ -74,7 +72,7 @@ fn each_outcome_is_put(rt: HostRuntime) -> Result<(), Fail> {
         (Cause::TooWide, 5),
     ];
     for (cause, status) in causes {
-        let refusal = Refusal::of_line(cause, list_of(alloc, b"why")?)?;
+        let refusal = Refusal::of_line(cause, List::of(b"why".to_vec(alloc)?))?;
         expect(&rt, alloc, &Err(Stop::Refused(refusal)), (status, b"why\n"))?;
     }
     expect(&rt, alloc, &Err(Stop::ReadFault), (6, b"read fault\n"))?;
