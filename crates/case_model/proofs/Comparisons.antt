@@ -71,6 +71,12 @@ greater Less = refl
 greater Equal = refl
 greater Greater = refl
 
+pub below_is : (x y : Ratio) → is_lt (int_cmp (x.num *ℤ y.den) (y.num *ℤ x.den)) ≡ not (at_most (number_of y) (number_of x))
+below_is x y = less _ ∙ ap not (ge_is x y)
+
+pub above_is : (x y : Ratio) → is_gt (int_cmp (x.num *ℤ y.den) (y.num *ℤ x.den)) ≡ not (at_most (number_of x) (number_of y))
+above_is x y = greater _ ∙ ap not (le_is x y)
+
 pub zero_is : (z : Ratio) → fraction_parts z ≡ plain.zero → number_of z ≡ number_zero
 unfolding value_of
 zero_is z e = ap value_of e ∙ plain_is_exact.zero_value
@@ -101,3 +107,6 @@ sign_is x = ap int_sign (lowest-constant x.num)
 
 -- tests against 0 and 1
 pub ruleset zero_and_one = (below_zero_is, at_least_zero_is, above_zero_is, at_most_one_is)
+
+-- tests against other fractions
+pub ruleset orders = (below_is, above_is)

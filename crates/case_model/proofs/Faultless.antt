@@ -3,6 +3,7 @@ use Rattle.std.proofs.Common.{◌≡◌, refl, sym, ap, ap₂, ◌∙◌, ℕ, �
 use Rattle.std.proofs.lemmas.Bool.Decides.{nat_tests}
 use Rattle.std.proofs.lemmas.List.FromFn.{length-map-range_with_len}
 use Rattle.std.specs.List.{list_all}
+use Rattle.std.specs.Option.{option_map_or}
 use Rattle.field_core.specs.declared.ratio.Ratio.{Ratio}
 use Rattle.case_model.specs.declared.fault.CaseFault.{CaseFault}
 use Rattle.case_model.specs.declared.draft.Draft.{Draft}
@@ -10,7 +11,8 @@ use Rattle.case_model.specs.declared.draft_component.DraftComponent.{DraftCompon
 use Rattle.case_model.specs.declared.draft_edge.DraftEdge.{DraftEdge}
 use Rattle.case_model.specs.declared.component.Component.{Component}
 use Rattle.case_model.specs.declared.inputs.Inputs.{Inputs}
-use Rattle.case_model.specs.Content.{Content, content_of, table_of, tabled, inputs_given}
+use Rattle.case_model.specs.Draft.{arrives_among, have_known_arrivals}
+use Rattle.case_model.specs.Content.{Content, content_of, table_of, tabled, inputs_of}
 use Rattle.case_model.specs.CaseFaults.{◌or◌, names_fault, no_hypothesis, too_many, name_form, duplicate_name, components_fault, part_too_long, alpha_range, shares_fault, weights_fault, edges_fault, fault_before_edges, early_fault, late_fault, case_fault}
 use Rattle.case_model.specs.Tables.{are_tables}
 use Rattle.case_model.proofs.NoFaults.{neither, no_when}
@@ -88,13 +90,18 @@ pub early_is : (d : Draft) (f : CaseFault) → early_fault d ≡ Some f → case
 unfolding case_fault
 early_is d f e = first_of_two (early_fault d) _ f e
 
-pub late_is : (d : Draft) (m : ℕ) (ps : List (Option Ratio)) (r : Option CaseFault) → early_fault d ≡ None → m ≡ length d.names → ps ≡ d.p → late_fault m d.stages ps (map (tabled m) d.components) ≡ r → case_fault d ≡ r
+pub late_is : (d : Draft) (m : ℕ) (ps : List (Option Ratio)) (r : Option CaseFault) → early_fault d ≡ None → m ≡ length d.names → ps ≡ d.p → late_fault m d.alpha d.stages ps (map (tabled m) d.components) ≡ r → case_fault d ≡ r
 unfolding case_fault content_of
-late_is d m ps r e many same h = second_of_two (early_fault d) _ r e (sym (ap₂ (λ m ps. late_fault m d.stages ps (map (tabled m) d.components)) many same) ∙ h)
+late_is d m ps r e many same h = second_of_two (early_fault d) _ r e (sym (ap₂ (λ m ps. late_fault m d.alpha d.stages ps (map (tabled m) d.components)) many same) ∙ h)
 
 -- the content of a draft by its parts
-pub content_by_parts : (d : Draft) (m : ℕ) (ps : List (Option Ratio)) (ks : List Component) (inputs : Inputs) → m ≡ length d.names → ps ≡ d.p → ks ≡ map (tabled m) d.components → inputs ≡ inputs_given ps
+pub content_by_parts : (d : Draft) (m : ℕ) (ps : List (Option Ratio)) (ks : List Component) (inputs : Inputs) → m ≡ length d.names → ps ≡ d.p → ks ≡ map (tabled m) d.components → inputs ≡ inputs_of d.stages ps
     → ◌≡◌ {A = Content} (record { names = d.names; alpha = d.alpha; components = ks; inputs = inputs }) (content_of d)
 unfolding content_of
 content_by_parts d m ps ks inputs many same e h =
-    ap₂ (λ ks inputs. record { names = d.names; alpha = d.alpha; components = ks; inputs = inputs }) (e ∙ ap (λ m. map (tabled m) d.components) many) (h ∙ ap inputs_given same)
+    ap₂ (λ ks inputs. record { names = d.names; alpha = d.alpha; components = ks; inputs = inputs }) (e ∙ ap (λ m. map (tabled m) d.components) many) (h ∙ ap (inputs_of d.stages) same)
+
+-- where there are no stages, no p-value arrived
+pub no_arrivals : (d : Draft) → d.stages ≡ None → have_known_arrivals d ≡ true
+unfolding have_known_arrivals
+no_arrivals d e = ap (λ stages. option_map_or (λ s. list_all (arrives_among (length d.names)) s.arrivals) stages true) e

@@ -9,6 +9,8 @@ pub mod ClosedTestLaws
 pub mod ClosedTests
 pub mod Comparisons
 pub mod Consonance
+pub mod DraftTests
+pub mod DraftValidity
 pub mod EntryOrder
 pub mod EntryTests
 pub mod ExactSums
@@ -16,6 +18,7 @@ pub mod ExampleOrders
 pub mod ExampleTests
 pub mod FallbackOrders
 pub mod Faultless
+pub mod FaultlessDrafts
 pub mod FirstFaults
 pub mod Holding
 pub mod HolmNumbers
@@ -32,12 +35,15 @@ pub mod PassTests
 pub mod Places
 pub mod PlainEntries
 pub mod PriorityOrders
+pub mod Products
 pub mod RejectionOrders
 pub mod RowTotals
 pub mod Same
 pub mod SequenceOrders
 pub mod SingleInputs
 pub mod SpendLevels
+pub mod SpendsRise
+pub mod StageValidity
 pub mod StagedTests
 pub mod SumSteps
 pub mod TablePlaces

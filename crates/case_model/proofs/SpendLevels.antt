@@ -11,7 +11,7 @@ use Rattle.field_core.proofs.Live.{true_or_false, true_not_false}
 use Rattle.fraction.specs.View.{number_of}
 use Rattle.case_model.specs.declared.spend.Spend.{Spend}
 use Rattle.case_model.specs.declared.spend.Spend.TheVariants.{Shares, Table}
-use Rattle.case_model.specs.declared.spend.SpendStep.{SpendStep}
+use Rattle.case_model.specs.declared.spend_step.SpendStep.{SpendStep}
 use Rattle.case_model.specs.Spends.{stage_number, last_step, table_level, spend_level, IsRising, IsRisingSpend, IsLastStep}
 
 -- ---- tables

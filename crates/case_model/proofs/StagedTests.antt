@@ -6,7 +6,7 @@ use Rattle.field_core.specs.Arithmetic.{number_zero}
 use Rattle.field_core.specs.Order.{◌≤ε◌}
 use Rattle.field_core.specs.Laws.AtMostLaws.{at_most_trans, at_most_or_above, at_most-compare, positive-at_least, positive_or_not, positive-not_at_most}
 use Rattle.fraction.specs.View.{number_of}
-use Rattle.case_model.specs.declared.draft.Arrival.{Arrival}
+use Rattle.case_model.specs.declared.draft_stages.Arrival.{Arrival}
 use Rattle.case_model.specs.declared.spend.Spend.{Spend}
 use Rattle.case_model.specs.EntangledGraph.{EntangledGraph, IsValidEntangled}
 use Rattle.case_model.specs.Spends.{spend_level, IsRisingSpend}

@@ -6,6 +6,7 @@ use Rattle.field_core.specs.Terms.{Terms}
 use Rattle.field_core.specs.View.{terms}
 use Rattle.field_core.specs.Sized.{◌>>=◌}
 use Rattle.field_core.specs.Kind.{Parts, ok_map, or_wide}
+use Rattle.field_core.specs.declared.place.Op.{Op}
 use Rattle.field_core.specs.declared.place.Op.TheVariants.{Add}
 use Rattle.field_core.specs.declared.place.TooWide.{TooWide}
 use Rattle.field_core.specs.declared.ratio.Ratio.{Ratio}
@@ -21,11 +22,11 @@ unfolding ratio_at
 item_is xs i x h e = get_or_default xs i zero_ratio x h ∙ sym e
 
 -- a result of fractions by its terms, from its stored parts
-in_terms : (r : Result Ratio TooWide) (s : Option Terms) → ok_map fraction_parts r ≡ or_wide Add (option_map single s) → ok_map terms r ≡ or_wide Add s
-in_terms (Ok x) (Some t) e = let same : fraction_parts x ≡ single t = cc in ap Ok (from_single (terms x) t same)
-in_terms (Ok x) None e = absurd (cc)
-in_terms (Err f) (Some t) e = absurd (cc)
-in_terms (Err f) None e = cc
+pub in_terms : (op : Op) (r : Result Ratio TooWide) (s : Option Terms) → ok_map fraction_parts r ≡ or_wide op (option_map single s) → ok_map terms r ≡ or_wide op s
+in_terms op (Ok x) (Some t) e = let same : fraction_parts x ≡ single t = cc in ap Ok (from_single (terms x) t same)
+in_terms op (Ok x) None e = absurd (cc)
+in_terms op (Err f) (Some t) e = absurd (cc)
+in_terms op (Err f) None e = cc
 
 -- ---- steps
 
@@ -52,7 +53,7 @@ sum_none f z e = ap Some (sym (from_single (terms z) zero_terms e))
 
 module _ (f : ℕ → Ratio) (i : ℕ) (sum x : Ratio) (item : x ≡ f i) (before : written_sum i f ≡ Some (terms sum)) where
   sum_on : (r : Result Ratio TooWide) → ok_map fraction_parts r ≡ or_wide Add (plain.written Add (fraction_parts sum) (fraction_parts x)) → ok_map terms r ≡ or_wide Add (written_sum (i + 1) f)
-  sum_on r added = in_terms r (written_add (terms sum) (terms x)) added ∙ ap (or_wide Add) (ap (λ x. written_add (terms sum) (terms x)) item ∙ sym (sum_next i f (terms sum) before))
+  sum_on r added = in_terms Add r (written_add (terms sum) (terms x)) added ∙ ap (or_wide Add) (ap (λ x. written_add (terms sum) (terms x)) item ∙ sym (sum_next i f (terms sum) before))
 
   -- one item more
   pub sum_more : (s : Ratio) → Path (Result Parts TooWide) (Ok (fraction_parts s)) (or_wide Add (plain.written Add (fraction_parts sum) (fraction_parts x))) → written_sum (i + 1) f ≡ Some (terms s)

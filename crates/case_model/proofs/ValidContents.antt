@@ -7,6 +7,7 @@ use Rattle.std.proofs.Math.Logic.{∥∥₁_elim}
 use Rattle.std.proofs.lemmas.Bool.Decides.{nat_tests}
 use Rattle.std.proofs.lemmas.List.{length-map, get_or-map}
 use Rattle.std.specs.List.{list_all, list_any}
+use Rattle.std.specs.Option.{option_and_then}
 use Rattle.case_model.specs.declared.fault.CaseFault.TheVariants.{PMissing}
 use Rattle.field_core.specs.declared.ratio.Ratio.{Ratio}
 use Rattle.field_core.specs.Arithmetic.{number_zero, number_one}
@@ -19,17 +20,18 @@ use Rattle.case_model.specs.EntangledGraph.{EntangledGraph, IsValidEntangled}
 use Rattle.fraction.specs.View.{number_of}
 use Rattle.case_model.specs.Sums.{ratio_at, number_at, zero_ratio}
 use Rattle.case_model.specs.declared.draft.Draft.{Draft}
+use Rattle.case_model.specs.declared.draft_stages.DraftStages.{DraftStages}
 use Rattle.case_model.specs.declared.draft_component.DraftComponent.{DraftComponent}
 use Rattle.case_model.specs.declared.inputs.Inputs.{Inputs}
 use Rattle.case_model.specs.declared.inputs.Inputs.TheVariants.{Bare, Single, Staged}
 use Rattle.case_model.specs.Draft.{at_most, is_unit, is_level, is_p_value, is_short_p_value, ArePValues}
-use Rattle.case_model.specs.Content.{Content, content_of, tabled, graph_of, given, inputs_given, IfSingle, component_at, empty_component, entangled}
-use Rattle.case_model.specs.CaseFaults.{◌or◌, ◌when◌, first_of, case_fault, late_fault, rows_fault, mixed, p_count, p_missing, p_range, p_values_fault, is_outside, is_long_p_value, long_p_value, no_hypothesis, no_component, too_many_components, components_fault}
+use Rattle.case_model.specs.Content.{Content, content_of, tabled, graph_of, given, inputs_of, IfSingle, component_at, empty_component, entangled}
+use Rattle.case_model.specs.CaseFaults.{stages_fault, ◌or◌, ◌when◌, first_of, case_fault, late_fault, rows_fault, mixed, p_count, p_missing, p_range, p_values_fault, is_outside, is_long_p_value, long_p_value, no_hypothesis, no_component, too_many_components, components_fault}
 use Rattle.case_model.specs.Validity.{IsValidContent}
 use Rattle.case_model.proofs.Holding.{both}
 use Rattle.case_model.proofs.NoFaults.{Neither, neither, no_when, not_false, not_true, none_passes}
 use Rattle.case_model.proofs.Faultless.{good_start, good_names, few_names, length-table_of, content_of-components}
-use Rattle.case_model.proofs.ValidDrafts.{early_none, late_none, GoodComponent, good_component, share_total, level, long_edges}
+use Rattle.case_model.proofs.ValidDrafts.{early_none, late_none, GoodComponent, good_component, share_total, level, long_p_values}
 use Rattle.case_model.proofs.ValidGraphs.{valid_graph}
 
 -- ---- components
@@ -102,14 +104,14 @@ good_some : (p : Ratio) → is_good (Some p) ≡ true → is_p_value p ≡ true
 unfolding is_good
 good_some p h = h
 
-p_values_none : (d : Draft) → case_fault d ≡ None → p_values_fault (length d.names) d.p ≡ None
+pub inputs_none : (d : Draft) → case_fault d ≡ None → Neither (p_values_fault (length d.names) d.p) (option_and_then (stages_fault (length d.names) d.alpha) d.stages)
 unfolding late_fault
-p_values_none d h = (neither (mixed d.stages d.p) (p_values_fault (length d.names) d.p) (neither (rows_fault (length d.names) (content_of d).components) _ (late_none d h)).second).second
+inputs_none d h = neither (p_values_fault (length d.names) d.p) _ (neither (mixed d.stages d.p) _ (neither (rows_fault (length d.names) (content_of d).components) _ (late_none d h)).second).second
 
 module _ (d : Draft) (h : case_fault d ≡ None) where
   counted : Neither (p_count (length d.names) d.p) (p_missing d.p or p_range d.p)
   unfolding p_values_fault
-  counted = neither (p_count (length d.names) d.p) _ (p_values_none d h)
+  counted = neither (p_count (length d.names) d.p) _ (inputs_none d h).first
 
   ranged : Neither (p_missing d.p) (p_range d.p)
   ranged = neither (p_missing d.p) (p_range d.p) counted.second
@@ -118,7 +120,7 @@ module _ (d : Draft) (h : case_fault d ≡ None) where
   unfolding long_p_value p_range
   good_p_values =
       given_each is_p_value is_good good_some d.p
-      (each_with (λ p. not (is_long_p_value p)) (λ p. not (is_outside p)) is_good good_from d.p (none_passes is_long_p_value _ 0 d.p (long_edges d h).second) (none_passes is_outside _ 0 d.p ranged.second))
+      (each_with (λ p. not (is_long_p_value p)) (λ p. not (is_outside p)) is_good good_from d.p (none_passes is_long_p_value _ 0 d.p (long_p_values d h).first) (none_passes is_outside _ 0 d.p ranged.second))
 
   some_places : list_any is_some d.p ≡ true → ¬ (length d.p ≡ 0)
   some_places some none = no_places d.p some none
@@ -139,12 +141,16 @@ module _ (d : Draft) (h : case_fault d ≡ None) where
       same_count n m h e = grind (arith, nat_tests)
 
   -- where p-values are given, there is a good one for each hypothesis
-  pub good_inputs : IfSingle (inputs_given d.p) (ArePValues (length d.names))
-  good_inputs = by_test (list_any is_some d.p) refl
+  pub good_inputs : IfSingle (inputs_of d.stages d.p) (ArePValues (length d.names))
+  good_inputs = by_stages d.stages
     where
       by_test : (b : Bool) → list_any is_some d.p ≡ b → IfSingle (cond b (Single (given d.p)) Bare) (ArePValues (length d.names))
       by_test true e = record { count = count_given e; each = good_p_values }
       by_test false e = tt
+
+      by_stages : (stages : Option DraftStages) → IfSingle (inputs_of stages d.p) (ArePValues (length d.names))
+      by_stages None = by_test (list_any is_some d.p) refl
+      by_stages (Some s) = tt
 
 -- ---- the shape of a content
 
@@ -158,11 +164,11 @@ pub record HasShape (c : Content) : Type 0 where
   pub edges : (k : ℕ) → k < length c.components → length (component_at c.components k).edges ≡ length c.names * length c.names
   pub p_values : IfSingle c.inputs (ArePValues (length c.names))
 
-few_ks : (ks : List DraftComponent) → components_fault ks ≡ None → length ks ≤ 8
+pub few_ks : (ks : List DraftComponent) → components_fault ks ≡ None → length ks ≤ 8
 unfolding components_fault too_many_components
 few_ks ks h = grind (arith, nat_tests, no_when (nat_lt 8 (length ks)) _ (neither (no_component ks) (too_many_components ks) h).second)
 
-some_ks : (ks : List DraftComponent) → components_fault ks ≡ None → 0 < length ks
+pub some_ks : (ks : List DraftComponent) → components_fault ks ≡ None → 0 < length ks
 unfolding components_fault no_component
 some_ks ks h = grind (arith, nat_tests, no_when (length ks == 0) _ (neither (no_component ks) (too_many_components ks) h).first)
 

@@ -3,6 +3,7 @@ use Rattle.std.proofs.Common.{◌≡◌, sym, ap, ◌∙◌, ℕ, ◌==◌, ◌<
 use Rattle.std.proofs.lemmas.Bool.Decides.{nat_tests}
 use Rattle.std.proofs.lemmas.List.{length-map, get_or-map}
 use Rattle.std.specs.List.{list_all}
+use Rattle.std.specs.Option.{option_and_then}
 use Rattle.field_core.specs.declared.ratio.Ratio.{Ratio}
 use Rattle.field_core.specs.Arithmetic.{number_zero, number_one}
 use Rattle.field_core.specs.NumberField.{number_field}
@@ -15,7 +16,7 @@ use Rattle.case_model.specs.declared.draft.Draft.{Draft}
 use Rattle.case_model.specs.declared.draft_component.DraftComponent.{DraftComponent}
 use Rattle.case_model.specs.Draft.{at_most, is_unit, is_short, is_level, is_short_level, is_level_range}
 use Rattle.case_model.specs.Content.{content_of, table_of, tabled}
-use Rattle.case_model.specs.CaseFaults.{◌or◌, case_fault, early_fault, late_fault, part_too_long, long_alpha, long_share, long_weight, long_edge, long_p_value, alpha_range, share_range, share_sum, shares_fault, total_fault, weight_count, weight_range, weight_sum, weights_fault, is_self_edge, self_edge, repeated_edge, edge_range, edges_fault, row_sum, component_rows, rows_fault, first_of}
+use Rattle.case_model.specs.CaseFaults.{◌or◌, case_fault, early_fault, late_fault, part_too_long, long_alpha, long_share, long_weight, long_edge, long_p_value, long_stage_part, alpha_range, share_range, share_sum, shares_fault, total_fault, weight_count, weight_range, weight_sum, weights_fault, is_self_edge, self_edge, repeated_edge, edge_range, edges_fault, row_sum, component_rows, rows_fault, first_of}
 use Rattle.case_model.proofs.Holding.{all_at}
 use Rattle.case_model.proofs.NoFaults.{Neither, neither, no_unless, none_passes, all_pass, no_first, no_below, no_sum_fault}
 use Rattle.case_model.proofs.Faultless.{GoodStart, good_start, content_of-components}
@@ -24,9 +25,9 @@ pub early_none : (d : Draft) → case_fault d ≡ None → early_fault d ≡ Non
 unfolding case_fault
 early_none d h = (neither (early_fault d) _ h).first
 
-pub late_none : (d : Draft) → case_fault d ≡ None → late_fault (length d.names) d.stages d.p (content_of d).components ≡ None
+pub late_none : (d : Draft) → case_fault d ≡ None → late_fault (length d.names) d.alpha d.stages d.p (content_of d).components ≡ None
 unfolding case_fault
-late_none d h = (neither (early_fault d) (late_fault (length d.names) d.stages d.p (content_of d).components) h).second
+late_none d h = (neither (early_fault d) (late_fault (length d.names) d.alpha d.stages d.p (content_of d).components) h).second
 
 pub rows_none : (d : Draft) → case_fault d ≡ None → rows_fault (length d.names) (content_of d).components ≡ None
 unfolding late_fault
@@ -51,10 +52,10 @@ unfolding total_fault
 total_at_most ts c place above h = no_sum_fault _ _ above h
 
 module _ (d : Draft) (h : case_fault d ≡ None) where
-  start : GoodStart d
+  pub start : GoodStart d
   start = good_start d (early_none d h)
 
-  parts : Neither (long_alpha d.alpha) (long_share d.components or first_of long_weight d.components or first_of long_edge d.components or long_p_value d.p)
+  parts : Neither (long_alpha d.alpha) (long_share d.components or first_of long_weight d.components or first_of long_edge d.components or long_p_value d.p or option_and_then long_stage_part d.stages)
   unfolding part_too_long
   parts = neither (long_alpha d.alpha) _ start.parts
 
@@ -62,16 +63,19 @@ module _ (d : Draft) (h : case_fault d ≡ None) where
   unfolding long_alpha alpha_range is_level
   level = ap (λ b. b && is_level_range d.alpha) (no_unless (is_short_level d.alpha) _ parts.first) ∙ no_unless (is_level_range d.alpha) _ start.alpha
 
-  long_shares : Neither (long_share d.components) (first_of long_weight d.components or first_of long_edge d.components or long_p_value d.p)
+  long_shares : Neither (long_share d.components) (first_of long_weight d.components or first_of long_edge d.components or long_p_value d.p or option_and_then long_stage_part d.stages)
   long_shares = neither (long_share d.components) _ parts.second
 
-  long_weights : Neither (first_of long_weight d.components) (first_of long_edge d.components or long_p_value d.p)
+  long_weights : Neither (first_of long_weight d.components) (first_of long_edge d.components or long_p_value d.p or option_and_then long_stage_part d.stages)
   long_weights = neither (first_of long_weight d.components) _ long_shares.second
 
-  pub long_edges : Neither (first_of long_edge d.components) (long_p_value d.p)
+  long_edges : Neither (first_of long_edge d.components) (long_p_value d.p or option_and_then long_stage_part d.stages)
   long_edges = neither (first_of long_edge d.components) _ long_weights.second
 
-  shares : Neither (share_range d.components) (share_sum d.components)
+  pub long_p_values : Neither (long_p_value d.p) (option_and_then long_stage_part d.stages)
+  long_p_values = neither (long_p_value d.p) _ long_edges.second
+
+  pub shares : Neither (share_range d.components) (share_sum d.components)
   unfolding shares_fault
   shares = neither (share_range d.components) (share_sum d.components) start.shares
 
@@ -79,14 +83,14 @@ module _ (d : Draft) (h : case_fault d ≡ None) where
   unfolding weights_fault
   weights = neither (weight_count (length d.names) d.components) _ start.weights
 
-  sums : Neither (first_of weight_range d.components) (first_of weight_sum d.components)
+  pub sums : Neither (first_of weight_range d.components) (first_of weight_sum d.components)
   sums = neither (first_of weight_range d.components) (first_of weight_sum d.components) weights.second
 
   loops : Neither (first_of self_edge d.components) (first_of repeated_edge d.components or first_of edge_range d.components)
   unfolding edges_fault
   loops = neither (first_of self_edge d.components) _ start.edges
 
-  edges : Neither (first_of repeated_edge d.components) (first_of edge_range d.components)
+  pub edges : Neither (first_of repeated_edge d.components) (first_of edge_range d.components)
   edges = neither (first_of repeated_edge d.components) (first_of edge_range d.components) loops.second
 
   -- the shares sum to at most 1

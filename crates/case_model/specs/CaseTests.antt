@@ -2,6 +2,8 @@
 use Rattle.std.specs.Prelude.{ℕ, Bool}
 use Rattle.field_core.specs.declared.ratio.Ratio.{Ratio}
 use Rattle.fraction.specs.View.{number_of}
+use Rattle.case_model.specs.declared.inputs.Inputs.{Inputs}
+use Rattle.case_model.specs.declared.inputs.Inputs.TheVariants.{Bare, Single, Staged}
 use Rattle.case_model.specs.Sums.{number_at}
 use Rattle.case_model.specs.ClosedTest.{IsClosedRejected}
 use Rattle.case_model.specs.DiscoveryBound.{IsBound}
@@ -19,3 +21,9 @@ IsAdjustedIn c j value reached = ForSingle c.inputs (λ ps. IsAdjusted (entangle
 -- the same case at the level `a`
 abbrev pub at_level : Content → Ratio → Content
 at_level c a = record { names = c.names; alpha = a; components = c.components; inputs = c.inputs }
+
+-- there are no stages
+abbrev pub IsUnstaged : Inputs → Type 0
+IsUnstaged Bare = Unit {0}
+IsUnstaged (Single ps) = Unit {0}
+IsUnstaged (Staged s) = ⊥

@@ -1,5 +1,5 @@
 -- What a case holds, the content that a draft stands for, and the entangled graph, the p-values and the level of a content.
-use Rattle.std.specs.Prelude.{ℕ, ◌*◌, ◌/◌, ◌%◌, Bool, List, [], Option, map, length, get_or, if◌then◌else◌, is_some}
+use Rattle.std.specs.Prelude.{ℕ, ◌*◌, ◌/◌, ◌%◌, Bool, List, [], Option, Some, None, map, length, get_or, if◌then◌else◌, is_some}
 use Rattle.std.specs.Option.{option_map_or}
 use Rattle.std.specs.List.{list_any, list_all, find, filter_map, range_with_len}
 use Rattle.field_core.specs.Number.{Number}
@@ -10,6 +10,8 @@ use Rattle.case_model.specs.declared.draft.Draft.{Draft}
 use Rattle.case_model.specs.declared.draft_component.DraftComponent.{DraftComponent}
 use Rattle.case_model.specs.declared.draft_edge.DraftEdge.{DraftEdge}
 use Rattle.case_model.specs.declared.component.Component.{Component}
+use Rattle.case_model.specs.declared.draft_stages.DraftStages.{DraftStages}
+use Rattle.case_model.specs.declared.inputs.Stages.{Stages}
 use Rattle.case_model.specs.declared.inputs.Inputs.{Inputs}
 use Rattle.case_model.specs.declared.inputs.Inputs.TheVariants.{Bare, Single, Staged}
 use Rattle.case_model.specs.Sums.{number_at, zero_ratio}
@@ -47,13 +49,22 @@ given ps = filter_map (λ p. p) ps
 abbrev pub inputs_given : List (Option Ratio) → Inputs
 inputs_given ps = if list_any is_some ps then Single (given ps) else Bare
 
--- the content of a draft without stages
+-- the stages of a draft, as a case holds them
+abbrev pub stages_of : DraftStages → Stages
+stages_of s = record { count = s.count; spend = s.spend; arrivals = s.arrivals }
+
+-- the stages, where there are some, and else the p-values that are given
+abbrev pub inputs_of : Option DraftStages → List (Option Ratio) → Inputs
+inputs_of None ps = inputs_given ps
+inputs_of (Some s) ps = Staged (stages_of s)
+
+-- the content of a draft
 unfoldable pub content_of : Draft → Content
 content_of d = record {
   names = d.names;
   alpha = d.alpha;
   components = map (tabled (length d.names)) d.components;
-  inputs = inputs_given d.p;
+  inputs = inputs_of d.stages d.p;
 }
 
 -- ---- the closed test of a content

@@ -1,6 +1,7 @@
 -- Tests of the parts of a draft.
-use Rattle.std.specs.Prelude.{◌≡◌, ◌==◌, ◌||◌, ◌&&◌, not, ◌^◌, ℕ, Bool, true, List, length, nat_lt, nat_le, unsigned_abs}
+use Rattle.std.specs.Prelude.{Option, ◌≡◌, ◌==◌, ◌||◌, ◌&&◌, not, ◌^◌, ℕ, Bool, true, List, length, nat_lt, nat_le, unsigned_abs}
 use Rattle.std.specs.List.{list_all}
+use Rattle.std.specs.Option.{option_map_or}
 use Rattle.std.specs.Char.{is_ascii_alphanumeric}
 use Rattle.field_core.specs.Number.{Number}
 use Rattle.field_core.specs.Arithmetic.{number_zero, number_one}
@@ -11,6 +12,7 @@ use Rattle.fraction.specs.Tests.{is_within}
 use Rattle.fraction.specs.View.{number_of}
 use Rattle.case_model.specs.declared.draft.Draft.{Draft}
 use Rattle.case_model.specs.declared.draft_edge.DraftEdge.{DraftEdge}
+use Rattle.case_model.specs.declared.draft_stages.Arrival.{Arrival}
 
 -- x is at most y
 abbrev pub at_most : Number → Number → Bool
@@ -68,3 +70,15 @@ goes_between m e = nat_lt e.from m && nat_lt e.to m
 -- each edge goes from a hypothesis to a hypothesis
 unfoldable pub have_known_ends : Draft → Bool
 have_known_ends d = list_all (λ k. list_all (goes_between (length d.names)) k.edges) d.components
+
+-- an arrival is of the hypothesis `i` at the stage `t`
+abbrev pub is_of : ℕ → ℕ → Arrival → Bool
+is_of i t a = a.hypothesis == i && a.stage == t
+
+-- an arrival is of one of `m` hypotheses
+abbrev pub arrives_among : ℕ → Arrival → Bool
+arrives_among m a = nat_lt a.hypothesis m
+
+-- each p-value that arrived is of a hypothesis
+unfoldable pub have_known_arrivals : Draft → Bool
+have_known_arrivals d = option_map_or (λ s. list_all (arrives_among (length d.names)) s.arrivals) d.stages true

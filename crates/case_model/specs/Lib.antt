@@ -12,6 +12,7 @@ pub mod ClosedTestStatements
 pub mod Content
 pub mod DiscoveryBound
 pub mod Draft
+pub mod DraftStatements
 pub mod EntangledGraph
 pub mod Entries
 pub mod IntersectionStatements
@@ -30,4 +31,5 @@ pub mod Tables
 pub mod TextbookGraphs
 pub mod TextbookRules
 pub mod TextbookStatements
+pub mod ValidDraft
 pub mod Validity

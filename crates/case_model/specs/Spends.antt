@@ -11,7 +11,7 @@ use Rattle.fraction.specs.View.{number_of}
 use Rattle.case_model.specs.Sums.{number_at}
 use Rattle.case_model.specs.declared.spend.Spend.{Spend}
 use Rattle.case_model.specs.declared.spend.Spend.TheVariants.{Shares, Table}
-use Rattle.case_model.specs.declared.spend.SpendStep.{SpendStep}
+use Rattle.case_model.specs.declared.spend_step.SpendStep.{SpendStep}
 
 -- the number of a stage, counted from 1; 0 past the last one
 abbrev pub stage_number : List Ratio → ℕ → Number

@@ -1,12 +1,16 @@
 -- The staged test of a case: what it rejects once some values have arrived.
-use Rattle.std.specs.Prelude.{ℕ, Bool, List, [], get_or}
+use Rattle.std.specs.Prelude.{ℕ, Bool, true, ◌&&◌, List, [], get_or}
+use Rattle.std.specs.List.{list_all}
+use Rattle.field_core.specs.Arithmetic.{number_zero}
+use Rattle.field_core.specs.Order.{at_most}
 use Rattle.fraction.specs.View.{number_of}
 use Rattle.field_core.specs.Number.{Number}
-use Rattle.case_model.specs.declared.draft.Arrival.{Arrival}
+use Rattle.case_model.specs.declared.draft_stages.Arrival.{Arrival}
 use Rattle.case_model.specs.declared.inputs.Inputs.{Inputs}
 use Rattle.case_model.specs.declared.inputs.Inputs.TheVariants.{Bare, Single, Staged}
 use Rattle.case_model.specs.declared.spend.Spend.{Spend}
-use Rattle.case_model.specs.declared.spend.Spend.TheVariants.{Shares}
+use Rattle.case_model.specs.declared.spend.Spend.TheVariants.{Shares, Table}
+use Rattle.case_model.specs.Draft.{is_short_level}
 use Rattle.case_model.specs.Content.{Content, entangled}
 use Rattle.case_model.specs.StagedTest.{MeetsAt, IsStagedLegal, IsStagedRejected, IsSettling}
 
@@ -23,6 +27,11 @@ spend_at spends k = get_or spends k (Shares [])
 -- what the hypothesis at a position spends
 abbrev pub spend_in : Content → ℕ → Spend
 spend_in c = spend_at (spends_in c.inputs)
+
+-- each fraction that is spent is at least 0 and has parts of at most 10,000
+abbrev pub has_short_fractions : Spend → Bool
+has_short_fractions (Shares fs) = list_all (λ f. is_short_level f && at_most number_zero (number_of f)) fs
+has_short_fractions (Table ss) = true
 
 -- how many stages there are
 abbrev pub stages_in : Inputs → ℕ

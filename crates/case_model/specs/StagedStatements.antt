@@ -6,9 +6,9 @@ use Rattle.field_core.specs.Arithmetic.{number_zero}
 use Rattle.field_core.specs.Order.{◌≤ε◌}
 use Rattle.field_core.specs.Sets.{whole}
 use Rattle.fraction.specs.View.{number_of}
-use Rattle.case_model.specs.declared.draft.Arrival.{Arrival}
+use Rattle.case_model.specs.declared.draft_stages.Arrival.{Arrival}
 use Rattle.case_model.specs.declared.spend.Spend.{Spend}
-use Rattle.case_model.specs.declared.spend.SpendStep.{SpendStep}
+use Rattle.case_model.specs.declared.spend_step.SpendStep.{SpendStep}
 use Rattle.case_model.specs.EntangledGraph.{EntangledGraph, IsValidEntangled}
 use Rattle.case_model.specs.ClosedTest.{IsMonotone}
 use Rattle.case_model.specs.LegalOrder.{IsListed}

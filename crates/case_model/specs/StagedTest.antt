@@ -4,18 +4,22 @@ use Rattle.std.specs.List.{Contains}
 use Rattle.field_core.specs.Number.{Number}
 use Rattle.field_core.specs.Order.{◌≤ε◌, IsPositive}
 use Rattle.fraction.specs.View.{number_of}
-use Rattle.case_model.specs.declared.draft.Arrival.{Arrival}
+use Rattle.case_model.specs.declared.draft_stages.Arrival.{Arrival}
 use Rattle.case_model.specs.declared.spend.Spend.{Spend}
 use Rattle.case_model.specs.EntangledGraph.{EntangledGraph}
 use Rattle.case_model.specs.ClosedTest.{IsLegalBy, IsLocallyRejectedBy, IsRejectedBy}
 use Rattle.case_model.specs.LegalOrder.{IsOrderBy, IsCompleteBy, IsRunBy, IsFirst}
 use Rattle.case_model.specs.Spends.{spend_level}
 
--- a p-value meets the level of a stage at a weight: the weight and the level are above 0, and it is at most the level
-pub record Meets (spend : Spend) (alpha : Number) (t : ℕ) (weight p : Number) : Type 0 where
+-- a p-value meets a level at a weight: the weight and the level are above 0, and it is at most the level
+pub record MeetsLevel (level weight p : Number) : Type 0 where
   pub positive : IsPositive weight
-  pub spent : IsPositive (spend_level spend alpha t weight)
-  pub small : p ≤ε spend_level spend alpha t weight
+  pub spent : IsPositive level
+  pub small : p ≤ε level
+
+-- a p-value meets the level of a stage at a weight
+abbrev pub Meets : Spend → Number → ℕ → Number → Number → Type 0
+Meets spend alpha t weight p = MeetsLevel (spend_level spend alpha t weight) weight p
 
 module _ (spend : ℕ → Spend) (alpha : Number) (values : List Arrival) where
   -- at a weight, `k` meets its level at the stage of a value that has arrived

@@ -1,9 +1,10 @@
 //! Drafts, and the cases that they make.
 ghost use Rattle.std.specs.Prelude.{◌≡◌, ◌≤◌, ◌⊎◌, true, None, Some, IfOk, OnOk, IfErr, length, map, Option};
 ghost use Rattle.std.specs.List.{list_all};
-ghost use Rattle.case_model.specs.Draft.{goes_between, have_known_ends};
-ghost use Rattle.case_model.specs.Content.{content_of, tabled, inputs_given};
-ghost use Rattle.case_model.specs.CaseFaults.{part_too_long, alpha_range, fault_before_edges, early_fault, late_fault, case_fault};
+ghost use Rattle.std.specs.Option.{option_and_then};
+ghost use Rattle.case_model.specs.Draft.{goes_between, have_known_ends, have_known_arrivals};
+ghost use Rattle.case_model.specs.Content.{content_of, tabled, inputs_of};
+ghost use Rattle.case_model.specs.CaseFaults.{mixed, long_stage_part, stages_fault, part_too_long, alpha_range, fault_before_edges, early_fault, late_fault, case_fault};
 ghost use Rattle.case_model.specs.CaseView.{content};
 ghost use Rattle.case_model.specs.Tables.{are_tables};
 ghost use Rattle.case_model.specs.declared.fault.CaseFault.TheVariants.{NoMemory as OutOfMemory};
@@ -14,26 +15,10 @@ use crate::fraction_tests::{is_level_range, is_short_level};
 use crate::names::names_fault;
 use crate::p_values::{long_p_value, p_values_fault};
 use crate::row_sums::rows_fault;
-use crate::{Case, CaseFault, Component, DraftComponent, Inputs, PartPlace, Refused, Spend};
+use crate::{Case, CaseFault, Component, DraftComponent, DraftStages, Inputs, PartPlace, Refused};
 use field_core::{List, Text};
 use fraction::Fraction;
 use std::alloc::Global;
-
-/// A p-value that arrived: of a hypothesis, by its position, at a stage, from 1.
-#[derive(Clone, Copy)]
-pub struct Arrival {
-    pub hypothesis: usize,
-    pub stage: usize,
-    pub p: Fraction,
-}
-
-/// The stages of a draft: how many there are, what each hypothesis spends at them, and the p-values that arrived.
-#[derive(Drop)]
-pub struct DraftStages {
-    pub count: u64,
-    pub spend: List<Spend>,
-    pub arrivals: List<Arrival>,
-}
 
 /// A case as it was read, which may have faults. `p` has no place, or one for each hypothesis; an empty place is a p-value
 /// that is missing, and where all are empty the case has no p-values.
@@ -58,12 +43,23 @@ impl Draft {
             .all(|component| component.has_known_ends(count))
     }
 
+    /// Whether each p-value that arrived is of a hypothesis.
+    #[tactic(auto, unfolding(crate::specs::Draft::have_known_arrivals))]
+    pub fn has_known_arrivals(&self) -> bool
+        ensures { result ≡ have_known_arrivals self.now }
+    {
+        match &self.stages {
+            Some(stages) => stages.has_known_arrivals(self.names.len()),
+            None => true,
+        }
+    }
+
     /// The case that the draft says, or the first fault that a row of `CaseFault` finds in it, or `NoMemory`. A refusal
-    /// hands back the draft's names; the rest is given up. Each edge goes from a hypothesis to a hypothesis, and there are no
-    /// stages.
+    /// hands back the draft's names; the rest is given up. Each edge goes from a hypothesis to a hypothesis, and each
+    /// p-value that arrived is of a hypothesis.
     pub fn finish(self, alloc: Global) -> Result<Case, Refused>
         requires ends { have_known_ends self ≡ true }
-        requires unstaged { self.stages ≡ None }
+        requires arrivals { have_known_arrivals self ≡ true }
         ensures case { IfOk result (λ c. content c ≡ content_of self) }
         ensures faultless { OnOk result (case_fault self ≡ None) }
         ensures fault { IfErr result (λ r. (r.fault ≡ OutOfMemory) ⊎ (case_fault self ≡ Some r.fault)) }
@@ -80,7 +76,7 @@ impl Draft {
         if let Some(fault) = early {
             return Err(Refused { names, fault });
         }
-        match Parts::made(alloc, names.len(), &stages, p.as_slice(), components) {
+        match Parts::made(alloc, names.len(), &alpha, stages, p.as_slice(), components) {
             Ok(parts) => Ok(Case::of(names, alpha, parts.components, parts.inputs)),
             Err(fault) => Err(Refused { names, fault }),
         }
@@ -121,6 +117,7 @@ impl Draft {
             .then_some(CaseFault::PartTooLong(PartPlace::Alpha))
             .or_else(|| long_part(self.components.as_slice()))
             .or_else(|| long_p_value(self.p.as_slice()))
+            .or_else(|| long_stage_part(&self.stages))
     }
 
     /// The level isn't above 0 and at most 1.
@@ -144,40 +141,70 @@ impl Parts {
     fn made(
         alloc: Global,
         count: usize,
-        stages: &Option<DraftStages>,
+        alpha: &Fraction,
+        stages: Option<DraftStages>,
         p: &[Option<Fraction>],
         components: List<DraftComponent>,
     ) -> Result<Parts, CaseFault>
         requires few { count ≤ 64 }
         requires ends { list_all (λ k. list_all (goes_between count) k.edges) components ≡ true }
         ensures components { IfOk result (λ parts. parts.components ≡ map (tabled count) components) }
-        ensures inputs { IfOk result (λ parts. parts.inputs ≡ inputs_given p.now) }
-        ensures faultless { OnOk result (late_fault count stages.now p.now (map (tabled count) components) ≡ None) }
-        ensures fault { IfErr result (λ fault. (fault ≡ OutOfMemory) ⊎ (late_fault count stages.now p.now (map (tabled count) components) ≡ Some fault)) }
+        ensures inputs { IfOk result (λ parts. parts.inputs ≡ inputs_of stages p.now) }
+        ensures faultless { OnOk result (late_fault count alpha.now stages p.now (map (tabled count) components) ≡ None) }
+        ensures fault { IfErr result (λ fault. (fault ≡ OutOfMemory) ⊎ (late_fault count alpha.now stages p.now (map (tabled count) components) ≡ Some fault)) }
     {
         let components = tabled(alloc, count, components)?;
-        if let Some(fault) = late_fault(count, stages, p, components.as_slice()) {
+        if let Some(fault) = late_fault(count, alpha, &stages, p, components.as_slice()) {
             return Err(fault);
         }
-        let inputs = Inputs::given(alloc, p)?;
+        let inputs = Inputs::of(alloc, stages, p)?;
         Ok(Parts { components, inputs })
     }
 }
 
-/// The first fault of the rows of edges and of the p-values.
-#[tactic(auto, unfolding(crate::specs::CaseFaults::late_fault, crate::specs::CaseFaults::mixed))]
+/// The first number of stages with a part above its limit.
+fn long_stage_part(stages: &Option<DraftStages>) -> Option<CaseFault>
+    ensures { result ≡ option_and_then long_stage_part stages.now }
+{
+    match stages {
+        Some(stages) => stages.long_part(),
+        None => None,
+    }
+}
+
+/// The first fault of the stages of so many hypotheses, where there are some.
+fn stages_fault(size: usize, alpha: &Fraction, stages: &Option<DraftStages>) -> Option<CaseFault>
+    ensures { result ≡ option_and_then (stages_fault size alpha.now) stages.now }
+{
+    match stages {
+        Some(stages) => stages.fault(size, alpha),
+        None => None,
+    }
+}
+
+/// There are stages and single p-values.
+#[tactic(auto, unfolding(crate::specs::CaseFaults::mixed))]
+fn mixed(stages: &Option<DraftStages>, p: &[Option<Fraction>]) -> Option<CaseFault>
+    ensures { result ≡ mixed stages.now p.now }
+{
+    (stages.is_some() && !p.is_empty()).then_some(CaseFault::Mixed)
+}
+
+/// The first fault of the rows of edges, of the p-values and of the stages.
+#[tactic(auto, unfolding(crate::specs::CaseFaults::late_fault))]
 fn late_fault(
     count: usize,
+    alpha: &Fraction,
     stages: &Option<DraftStages>,
     p: &[Option<Fraction>],
     components: &[Component],
 ) -> Option<CaseFault>
     requires few { count ≤ 64 }
     requires tables { are_tables count components.now ≡ true }
-    ensures { result ≡ late_fault count stages.now p.now components.now }
+    ensures { result ≡ late_fault count alpha.now stages.now p.now components.now }
 {
-    let has_both = stages.is_some() && !p.is_empty();
     rows_fault(count, components)
-        .or_else(|| has_both.then_some(CaseFault::Mixed))
+        .or_else(|| mixed(stages, p))
         .or_else(|| p_values_fault(count, p))
+        .or_else(|| stages_fault(count, alpha, stages))
 }

@@ -1,8 +1,7 @@
 //! Why drafts are refused.
 use field_core::{List, NoMemory, Text, WideAt};
 
-/// Where a number stands in a draft. Components, hypotheses and arrivals are named by their places, from 0, and stages
-/// from 1.
+/// Where a number stands in a draft. Components, hypotheses, stages, steps and arrivals are named by their places, from 0.
 #[derive(Clone, Copy, PartialEq, Eq, Debug)]
 pub enum PartPlace {
     Alpha,
@@ -16,14 +15,15 @@ pub enum PartPlace {
     P(usize),
     /// Of a hypothesis and a stage.
     Spend(usize, usize),
+    /// Of a hypothesis and a step of its table: the weight or a level of the step.
+    Step(usize, usize),
     /// By its place in the list.
     Arrival(usize),
 }
 
 /// Why a draft is refused. The rows are tested in this order, each for all components, hypotheses and places of a list,
-/// in ascending order, before the next; numbers with long parts in the order of `PartPlace`. The rows from `NoStage` to
-/// `ArrivalRange` aren't tested yet, since `finish` takes drafts without stages. Components are named by their places, and
-/// hypotheses by their positions, from 0.
+/// in ascending order, before the next; numbers with long parts in the order of `PartPlace`, and a table step by step.
+/// Components, hypotheses, stages, steps and arrivals are named by their places, from 0.
 #[derive(Clone, Copy, PartialEq, Eq, Debug)]
 pub enum CaseFault {
     /// There is no name.
@@ -38,8 +38,8 @@ pub enum CaseFault {
     NoComponent,
     /// There are this many components, more than 8.
     TooManyComponents(u64),
-    /// A part of a number passes its limit: 10,000 for the level, 10^30 for the denominator of a p-value, 10^18 for a
-    /// share, a weight or a coefficient of an edge.
+    /// A part of a number passes its limit: 10,000 for the level and a fraction that is spent, 10^30 for the denominator of
+    /// a p-value, 10^18 for a share, a weight, a coefficient of an edge, and the weight or a level of a step.
     PartTooLong(PartPlace),
     /// The level isn't above 0 and at most 1.
     AlphaRange,
@@ -73,11 +73,18 @@ pub enum CaseFault {
     NoStage,
     /// There are this many stages, more than 12.
     TooManyStages(u64),
-    /// A hypothesis hasn't just one fraction for each stage, or there is a list of fractions past the last hypothesis.
+    /// A hypothesis spends nothing, or its list hasn't just one fraction for each stage, or its table has no step, or a step
+    /// hasn't just one level for each stage; or something is spent past the last hypothesis, at this place.
     SpendCount(usize),
-    /// The fraction of a hypothesis at a stage is below 0.
+    /// The table of a hypothesis has this many steps, more than 32.
+    TooManySteps(usize, u64),
+    /// In the table of a hypothesis, the weight of a step isn't above 0, is above 1, or isn't above that of the step before.
+    StepOrder(usize, usize),
+    /// The fraction of a hypothesis at a stage is below 0; or its level there is below 0 in some step, or below that of the
+    /// step before.
     SpendRange(usize, usize),
-    /// The fractions of a hypothesis sum above 1.
+    /// The fractions of a hypothesis sum above 1; or the levels of some step sum above the weight of the step times the level
+    /// of the case.
     SpendSum(usize),
     /// The stage of an arrival isn't one of the stages.
     ArrivalStage(usize),
@@ -85,8 +92,8 @@ pub enum CaseFault {
     ArrivalRepeated(usize),
     /// The p-value of an arrival is below 0 or above 1.
     ArrivalRange(usize),
-    /// A part of a written sum of shares, weights, edges or fractions passes its size. It is found where the row tests
-    /// this sum, before the sum is compared with 1.
+    /// A part of a written sum of shares, weights, edges, fractions or levels, or of the weight of a step times the level
+    /// of the case, passes its size. It is found where the row tests this sum, before the sum is compared.
     Wide(WideAt),
     /// Memory ran out.
     NoMemory,

@@ -9,7 +9,13 @@ pub mod staged;
 ghost use Rattle.case_model.specs.CaseStatements.{EntangledGraphsAreValid};
 ghost use Rattle.case_model.specs.ClosedTestExamples.{HalvesAreValid, OnlyFirstHalfIsRejected, BothLinkedHalvesAreRejected, WeightZeroRejectsNothing, AlikeAreTakenByPosition, LeastRatioIsTakenFirst};
 ghost use Rattle.case_model.specs.ClosedTestStatements.{SetsAreRejectedByTheirSupersets, HypothesesAreRejectedByTheirSets, RejectionsStayAtGreaterLevels, LegalOrdersAreRejected, CompleteListsHaveAllRejected, CompleteOrdersDecide, CompleteOrdersAgree, FirstOrdersAreComplete, LastOrdersAreComplete, RatioOrdersAreComplete, FirstOrdersExist, LastOrdersExist, RatioOrdersExist, FirstOrdersAreUnique, LastOrdersAreUnique, RatioOrdersAreUnique};
+ghost use Rattle.case_model.specs.DraftStatements.{DraftsAreFaultlessWhereValid};
 ghost use Rattle.case_model.specs.IntersectionStatements.{IntersectionWeightsExist, IntersectionWeightsAreUnique, IntersectionWeightsAreUnit, IntersectionWeightsSumToOne, IntersectionWeightsAreLeftByRemovals, IntersectionWeightsAreMonotone};
+
+/// A draft has no fault exactly where it is valid and its sums can be written.
+pub fn faultless_drafts_are_valid()
+    ensures { DraftsAreFaultlessWhereValid }
+{}
 
 /// The entangled graph of a case is valid: weights, edges and shares aren't below 0, no hypothesis passes weight to
 /// itself, and the weights, each row of edges and the shares sum to at most 1.

@@ -7,6 +7,7 @@ mod components;
 mod draft;
 mod draft_component;
 mod draft_edge;
+mod draft_stages;
 mod entry;
 mod fault;
 mod first_faults;
@@ -21,13 +22,15 @@ mod row_sums;
 mod set_table;
 mod sets;
 mod spend;
+mod spend_step;
 mod sums;
 
 pub use case::Case;
 pub use component::Component;
-pub use draft::{Arrival, Draft, DraftStages};
+pub use draft::Draft;
 pub use draft_component::DraftComponent;
 pub use draft_edge::DraftEdge;
+pub use draft_stages::{Arrival, DraftStages};
 pub use entry::Entry;
 pub use fault::{CaseFault, PartPlace, Refused};
 pub use inputs::{Inputs, Stages};
@@ -35,7 +38,8 @@ pub use local_test::{least_weight, passes, passes_from};
 pub use name_index::NameIndex;
 pub use set_table::SetTable;
 pub use sets::{added, dropped, holds};
-pub use spend::{Spend, SpendStep};
+pub use spend::Spend;
+pub use spend_step::SpendStep;
 
 #[cfg(test)]
 mod samples;

@@ -1,13 +1,14 @@
-//! What hypotheses spend of their levels at the stages.
-use field_core::List;
-use fraction::Fraction;
+//! What hypotheses spend of their levels at the stages, and the tests of what one hypothesis spends.
+ghost use Rattle.std.specs.Prelude.{◌≡◌, ◌==◌, length};
+ghost use Rattle.std.specs.List.{list_all};
 
-/// A step of a table of levels: the weight from which it counts, and the level of each stage from there on.
-#[derive(Drop)]
-pub struct SpendStep {
-    pub from: Fraction,
-    pub levels: List<Fraction>,
-}
+use crate::first_faults::first_fault;
+use crate::fraction_tests::{is_below_zero, is_level_range, is_short_level};
+use crate::spend_step::{falling_level, is_later, weight_before};
+use crate::sums::total_fault;
+use crate::{CaseFault, PartPlace, SpendStep};
+use field_core::{List, Place};
+use fraction::Fraction;
 
 /// What a hypothesis spends at the stages: a fraction of its level at each, or a table that gives the levels by its weight.
 #[derive(Drop)]
@@ -16,4 +17,129 @@ pub enum Spend {
     Shares(List<Fraction>),
     /// Steps, by ascending weight.
     Table(List<SpendStep>),
+}
+
+impl Spend {
+    ghost use Rattle.std.specs.Prelude.{◌≡◌};
+    ghost use Rattle.case_model.specs.CaseFaults.{long_fraction, long_step, has_all_stages, too_many_steps, step_order, spend_range, spend_sum};
+
+    /// The first fraction with a part above 10,000.
+    #[tactic(auto, unfolding(crate::specs::CaseFaults::long_fraction))]
+    pub(crate) fn long_fraction(&self, i: usize) -> Option<CaseFault>
+        ensures { result ≡ long_fraction i self.now }
+    {
+        match self {
+            Spend::Shares(fractions) => first_fault(fractions.as_slice(), |fraction, t| {
+                (!is_short_level(fraction)).then_some(CaseFault::PartTooLong(PartPlace::Spend(
+                    i, t,
+                )))
+            }),
+            Spend::Table(_) => None,
+        }
+    }
+
+    /// The first step with a part above 10^18.
+    #[tactic(auto, unfolding(crate::specs::CaseFaults::long_step))]
+    pub(crate) fn long_step(&self, i: usize) -> Option<CaseFault>
+        ensures { result ≡ long_step i self.now }
+    {
+        match self {
+            Spend::Shares(_) => None,
+            Spend::Table(steps) => first_fault(steps.as_slice(), |step, n| {
+                (!step.is_short()).then_some(CaseFault::PartTooLong(PartPlace::Step(i, n)))
+            }),
+        }
+    }
+
+    /// Whether a list has so many fractions; or a table has a step, and each step so many levels.
+    pub(crate) fn has_all_stages(&self, count: u64) -> bool
+        ensures { result ≡ has_all_stages count self.now }
+    {
+        match self {
+            Spend::Shares(fractions) => fractions.len() as u64 == count,
+            Spend::Table(steps) => !steps.is_empty() && have_levels(steps.as_slice(), count),
+        }
+    }
+
+    /// The fault of the number of steps.
+    #[tactic(auto, unfolding(crate::specs::CaseFaults::too_many_steps))]
+    pub(crate) fn too_many_steps(&self, i: usize) -> Option<CaseFault>
+        ensures { result ≡ too_many_steps i self.now }
+    {
+        match self {
+            Spend::Shares(_) => None,
+            Spend::Table(steps) => {
+                let count = steps.len() as u64;
+                (count > 32).then_some(CaseFault::TooManySteps(i, count))
+            }
+        }
+    }
+
+    /// The first step whose weight isn't above 0, at most 1 and above that of the step before.
+    #[tactic(auto, unfolding(crate::specs::CaseFaults::step_order))]
+    pub(crate) fn step_order(&self, i: usize) -> Option<CaseFault>
+        ensures { result ≡ step_order i self.now }
+    {
+        match self {
+            Spend::Shares(_) => None,
+            Spend::Table(steps) => {
+                let steps = steps.as_slice();
+                first_fault(steps, |step, n| {
+                    let before = weight_before(steps, n);
+                    let in_order = is_level_range(&step.from) && is_later(before, &step.from);
+                    (!in_order).then_some(CaseFault::StepOrder(i, n))
+                })
+            }
+        }
+    }
+
+    /// The first fraction below 0; or the first level, step by step, that is below 0 or below that of the step before.
+    #[tactic(auto, unfolding(crate::specs::CaseFaults::spend_range))]
+    pub(crate) fn range_fault(&self, i: usize) -> Option<CaseFault>
+        ensures { result ≡ spend_range i self.now }
+    {
+        match self {
+            Spend::Shares(fractions) => first_fault(fractions.as_slice(), |fraction, t| {
+                is_below_zero(fraction).then_some(CaseFault::SpendRange(i, t))
+            }),
+            Spend::Table(steps) => {
+                let steps = steps.as_slice();
+                first_fault(
+                    steps,
+                    |step, n| falling_level(i, steps, n, step.levels.as_slice()),
+                )
+            }
+        }
+    }
+
+    /// The first fault of the sums: that of the fractions, or those of the steps.
+    #[tactic(auto, unfolding(crate::specs::CaseFaults::spend_sum, crate::specs::Sums::ratio_at), using(std::proofs::lemmas::List::get_or_default))]
+    pub(crate) fn sum_fault(&self, i: usize, alpha: &Fraction) -> Option<CaseFault>
+        ensures { result ≡ spend_sum alpha.now i self.now }
+    {
+        match self {
+            Spend::Shares(fractions) => {
+                let fractions = fractions.as_slice();
+                let above = CaseFault::SpendSum(i);
+                total_fault(
+                    fractions.len(),
+                    |t| fractions[t],
+                    0,
+                    Place::SpendSum(i),
+                    above,
+                )
+            }
+            Spend::Table(steps) => first_fault(
+                steps.as_slice(),
+                |step, _| step.sum_fault(i, alpha),
+            ),
+        }
+    }
+}
+
+/// Whether each step has so many levels.
+fn have_levels(steps: &[SpendStep], count: u64) -> bool
+    ensures { result ≡ list_all (λ s. length s.levels == count) steps.now }
+{
+    steps.iter().all(|step| step.levels.len() as u64 == count)
 }

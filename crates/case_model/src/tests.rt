@@ -94,7 +94,7 @@ fn draft_of(alloc: Global, sample: &Sample) -> Result<Draft, Fail> {
 
 fn finish(rt: &impl Abort, alloc: Global, draft: Draft) -> Result<Case, Refused> {
     assert!(rt; draft.has_known_ends());
-    assert!(rt; draft.stages.is_none());
+    assert!(rt; draft.has_known_arrivals());
     draft.finish(alloc)
 }
 

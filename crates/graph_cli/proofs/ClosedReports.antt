@@ -8,10 +8,12 @@ use Rattle.answers.specs.declared.cause.Cause.{Cause}
 use Rattle.answers.specs.declared.status.Status.{Status}
 use Rattle.answers.specs.declared.status.Status.TheVariants.{Done, Refused}
 use Rattle.case_model.specs.CaseFaults.{case_fault}
+use Rattle.case_model.specs.Draft.{have_known_arrivals}
 use Rattle.case_model.specs.Content.{Content, content_of}
 use Rattle.case_model.specs.declared.draft.Draft.{Draft}
 use Rattle.case_model.specs.Validity.{IsValidContent}
-use Rattle.command_words.specs.Asked.{on_case}
+use Rattle.case_model.proofs.Faultless.{no_arrivals}
+use Rattle.command_words.specs.Asked.{Written, text, csv, json, on_case}
 use Rattle.command_words.specs.declared.command.CaseTask.TheVariants.{Test}
 use Rattle.command_words.proofs.OneReading.{words_decided}
 use Rattle.sequential.specs.declared.decision.StepLine.{StepLine}
@@ -33,8 +35,14 @@ named_listed : (steps : List StepLine) (j : ℕ) → is_rejected steps j ≡ set
 unfolding is_rejected
 named_listed steps j = any_listed steps j
 
-faultless_content : (d : Draft) → case_fault d ≡ None → IsValidContent (content_of d)
-faultless_content d f = ∣ (record { draft = d; content_is = refl; faultless = f }) ∣₁
+-- what a form says has no p-values that arrived
+known_arrivals : (form : Written) (bytes : List ℕ) (d : Draft) → (grammar form bytes).Gives d → have_known_arrivals d ≡ true
+known_arrivals text bytes d t = no_arrivals d t.stages
+known_arrivals (csv alpha) bytes d t = absurd t
+known_arrivals json bytes d t = absurd t
+
+faultless_content : (d : Draft) → case_fault d ≡ None → have_known_arrivals d ≡ true → IsValidContent (content_of d)
+faultless_content d f known = ∣ (record { draft = d; content_is = refl; faultless = f; known_arrivals = known }) ∣₁
 
 -- a refusal isn't done
 not_done : (s : Status) (cause : Cause) → s ≡ Refused cause → s ≡ Done → ⊥
@@ -61,5 +69,5 @@ reports_closed_test words form priority case proof a asks (inl h) z =
       draft = draft;
       says = subst (λ xs. (grammar form xs).Gives draft) bytes_are read.1;
       faultless = read.2.0;
-      reports = subst (λ c. ReportsClosedTest c a.text) content_is (reported gives.0 priority gives.2.1.0 a.text (subst IsValidContent (sym content_is) (faultless_content draft read.2.0)) gives.2.1.1 (ap (λ (x : Answer). x.text) gives.2.1.2));
+      reports = subst (λ c. ReportsClosedTest c a.text) content_is (reported gives.0 priority gives.2.1.0 a.text (subst IsValidContent (sym content_is) (faultless_content draft read.2.0 (known_arrivals form _ draft read.1))) gives.2.1.1 (ap (λ (x : Answer). x.text) gives.2.1.2));
     }

@@ -2,9 +2,9 @@
 use Rattle.std.specs.Prelude.{ℕ, List, [], ◌++◌, codes}
 use Rattle.std.specs.Fmt.{decimal}
 use Rattle.case_model.specs.declared.fault.PartPlace.{PartPlace}
-use Rattle.case_model.specs.declared.fault.PartPlace.TheVariants.{Alpha, Share, Weight, Edge, P, Spend, Arrival}
+use Rattle.case_model.specs.declared.fault.PartPlace.TheVariants.{Alpha, Share, Weight, Edge, P, Spend, Step, Arrival}
 use Rattle.case_model.specs.declared.fault.CaseFault.{CaseFault}
-use Rattle.case_model.specs.declared.fault.CaseFault.TheVariants.{NoHypothesis, TooMany, NameForm, DuplicateName, NoComponent, TooManyComponents, PartTooLong, AlphaRange, ShareRange, ShareSum, WeightCount, WeightRange, WeightSum, SelfEdge, RepeatedEdge, EdgeRange, RowSum, Mixed, PCount, PMissing, PRange, NoStage, TooManyStages, SpendCount, SpendRange, SpendSum, ArrivalStage, ArrivalRepeated, ArrivalRange, Wide}
+use Rattle.case_model.specs.declared.fault.CaseFault.TheVariants.{NoHypothesis, TooMany, NameForm, DuplicateName, NoComponent, TooManyComponents, PartTooLong, AlphaRange, ShareRange, ShareSum, WeightCount, WeightRange, WeightSum, SelfEdge, RepeatedEdge, EdgeRange, RowSum, Mixed, PCount, PMissing, PRange, NoStage, TooManyStages, SpendCount, TooManySteps, StepOrder, SpendRange, SpendSum, ArrivalStage, ArrivalRepeated, ArrivalRange, Wide}
 use Rattle.answers.specs.declared.refusal.Refusal.{Refusal}
 use Rattle.refusals.specs.declared.wide.When.TheVariants.{Reading}
 use Rattle.refusals.specs.LinePieces.{counted, name_at, two_names, in_component, malformed_at, past_limit}
@@ -17,10 +17,11 @@ part_words names (Share c) = codes "share" ++ in_component c
 part_words names (Weight c i) = codes "weight of " ++ name_at names i ++ in_component c
 part_words names (Edge c i j) = codes "edge " ++ two_names names i j ++ in_component c
 part_words names (P i) = codes "p of " ++ name_at names i
-part_words names (Spend i t) = codes "spend of " ++ name_at names i ++ codes " stage " ++ decimal t
+part_words names (Spend i t) = codes "spend of " ++ name_at names i ++ codes " stage " ++ counted t
+part_words names (Step i n) = codes "step " ++ counted n ++ codes " of " ++ name_at names i
 part_words names (Arrival n) = codes "arrival " ++ counted n
 
--- what is wrong with a case that is malformed; hypotheses, components and arrivals are counted from 1
+-- what is wrong with a case that is malformed; hypotheses, components, stages, steps and arrivals are counted from 1
 unfoldable pub case_kind : List (List ℕ) → CaseFault → List ℕ
 case_kind names NoHypothesis = codes "no hypothesis"
 case_kind names (NameForm i) = codes "name " ++ counted i
@@ -42,7 +43,8 @@ case_kind names (PMissing i) = codes "p missing " ++ name_at names i
 case_kind names (PRange i) = codes "p of " ++ name_at names i
 case_kind names NoStage = codes "no stage"
 case_kind names (SpendCount i) = codes "spend count " ++ counted i
-case_kind names (SpendRange i t) = codes "spend of " ++ name_at names i ++ codes " stage " ++ decimal t
+case_kind names (StepOrder i n) = codes "step " ++ counted n ++ codes " of " ++ name_at names i
+case_kind names (SpendRange i t) = codes "spend of " ++ name_at names i ++ codes " stage " ++ counted t
 case_kind names (SpendSum i) = codes "spend sum of " ++ name_at names i
 case_kind names (ArrivalStage n) = codes "arrival " ++ counted n ++ codes " stage"
 case_kind names (ArrivalRepeated n) = codes "arrival " ++ counted n ++ codes " repeated"
@@ -54,6 +56,7 @@ unfoldable pub case_refusal : List (List ℕ) → CaseFault → Refusal
 case_refusal names (TooMany n) = past_limit (codes "hypotheses " ++ decimal n)
 case_refusal names (TooManyComponents n) = past_limit (codes "components " ++ decimal n)
 case_refusal names (TooManyStages n) = past_limit (codes "stages " ++ decimal n)
+case_refusal names (TooManySteps i n) = past_limit (codes "spend steps " ++ decimal n)
 case_refusal names (PartTooLong place) = past_limit (codes "case: part " ++ part_words names place)
 case_refusal names (Wide wide) = wide_refusal names Reading wide
 case_refusal names fault = malformed_at (codes "case") (case_kind names fault)

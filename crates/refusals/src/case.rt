@@ -50,12 +50,20 @@ fn put_between_in(
     put_in_component(text, c)
 }
 
-/// Appends the fraction of a hypothesis at a stage.
+/// Appends what a hypothesis spends at a stage.
 fn put_spend(text: &mut List<u8>, names: &[Text], i: usize, t: usize) -> Result<(), NoMemory>
-    ensures { OnOk result (text.new ≡ text.old ++ (codes "spend of " ++ name_at names.now i ++ codes " stage " ++ decimal t)) }
+    ensures { OnOk result (text.new ≡ text.old ++ (codes "spend of " ++ name_at names.now i ++ codes " stage " ++ counted t)) }
 {
     put_of(text, b"spend of ", names, i)?;
-    put_counting(text, b" stage ", t as u128)
+    put_at(text, b" stage ", t)
+}
+
+/// Appends a step of the table of a hypothesis.
+fn put_step(text: &mut List<u8>, names: &[Text], i: usize, n: usize) -> Result<(), NoMemory>
+    ensures { OnOk result (text.new ≡ text.old ++ (codes "step " ++ counted n ++ codes " of " ++ name_at names.now i)) }
+{
+    put_at(text, b"step ", n)?;
+    put_of(text, b" of ", names, i)
 }
 
 /// Appends an arrival, and words.
@@ -78,6 +86,7 @@ fn put_part(text: &mut List<u8>, names: &[Text], place: PartPlace) -> Result<(),
         PartPlace::Edge(c, i, j) => put_between_in(text, b"edge ", names, i, j, c),
         PartPlace::P(i) => put_of(text, b"p of ", names, i),
         PartPlace::Spend(i, t) => put_spend(text, names, i, t),
+        PartPlace::Step(i, n) => put_step(text, names, i, n),
         PartPlace::Arrival(n) => put_at(text, b"arrival ", n),
     }
 }
@@ -108,6 +117,7 @@ fn put_kind(text: &mut List<u8>, names: &[Text], fault: &CaseFault) -> Result<()
         CaseFault::PRange(i) => put_of(text, b"p of ", names, i),
         CaseFault::NoStage => text.append(b"no stage"),
         CaseFault::SpendCount(i) => put_at(text, b"spend count ", i),
+        CaseFault::StepOrder(i, n) => put_step(text, names, i, n),
         CaseFault::SpendRange(i, t) => put_spend(text, names, i, t),
         CaseFault::SpendSum(i) => put_of(text, b"spend sum of ", names, i),
         CaseFault::ArrivalStage(n) => put_arrival(text, n, b" stage"),
@@ -157,6 +167,7 @@ pub fn case_refusal(alloc: Global, names: &[Text], fault: &CaseFault) -> Result<
         CaseFault::TooMany(n) => too_many(alloc, b"hypotheses ", n),
         CaseFault::TooManyComponents(n) => too_many(alloc, b"components ", n),
         CaseFault::TooManyStages(n) => too_many(alloc, b"stages ", n),
+        CaseFault::TooManySteps(_, n) => too_many(alloc, b"spend steps ", n),
         CaseFault::PartTooLong(place) => too_long(alloc, names, place),
         CaseFault::Wide(wide) => wide_refusal(alloc, names, When::Reading, &wide),
         CaseFault::NoMemory => Err(NoMemory),

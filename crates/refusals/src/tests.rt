@@ -24,7 +24,7 @@ fn expect(rt: &impl Abort, answer: &Refusal, status: u8, text: &str) {
     assert_eq!(rt; answer.cause.code(), status, "{text}");
 }
 
-const MALFORMED: [(CaseFault, &str); 25] = [
+const MALFORMED: [(CaseFault, &str); 26] = [
     (CaseFault::NoHypothesis, "malformed: case: no hypothesis\n"),
     (CaseFault::NameForm(0), "malformed: case: name 1\n"),
     (
@@ -73,7 +73,11 @@ const MALFORMED: [(CaseFault, &str); 25] = [
     (CaseFault::NoStage, "malformed: case: no stage\n"),
     (CaseFault::SpendCount(3), "malformed: case: spend count 4\n"),
     (
-        CaseFault::SpendRange(2, 3),
+        CaseFault::StepOrder(0, 1),
+        "malformed: case: step 2 of H1\n",
+    ),
+    (
+        CaseFault::SpendRange(2, 2),
         "malformed: case: spend of dose-a stage 3\n",
     ),
     (CaseFault::SpendSum(0), "malformed: case: spend sum of H1\n"),
@@ -98,7 +102,7 @@ fn malformed_cases(rt: HostRuntime) -> Result<(), Fail> {
     Ok(())
 }
 
-const PAST_LIMITS: [(CaseFault, &str); 4] = [
+const PAST_LIMITS: [(CaseFault, &str); 5] = [
     (CaseFault::TooMany(65), "limit: hypotheses 65\n"),
     (
         CaseFault::TooMany(18446744073709551615),
@@ -106,10 +110,11 @@ const PAST_LIMITS: [(CaseFault, &str); 4] = [
     ),
     (CaseFault::TooManyComponents(9), "limit: components 9\n"),
     (CaseFault::TooManyStages(13), "limit: stages 13\n"),
+    (CaseFault::TooManySteps(1, 33), "limit: spend steps 33\n"),
 ];
 
 /// Past the third name a place stands for the name.
-const PARTS: [(PartPlace, &str); 14] = [
+const PARTS: [(PartPlace, &str); 15] = [
     (PartPlace::Alpha, "limit: case: part alpha\n"),
     (PartPlace::Share(1), "limit: case: part share component 2\n"),
     (
@@ -139,12 +144,16 @@ const PARTS: [(PartPlace, &str); 14] = [
         "limit: case: part p of 18446744073709551616\n",
     ),
     (
-        PartPlace::Spend(1, 2),
+        PartPlace::Spend(1, 1),
         "limit: case: part spend of H2 stage 2\n",
     ),
     (
-        PartPlace::Spend(5, 1),
+        PartPlace::Spend(5, 0),
         "limit: case: part spend of 6 stage 1\n",
+    ),
+    (
+        PartPlace::Step(2, 0),
+        "limit: case: part step 1 of dose-a\n",
     ),
     (PartPlace::Arrival(0), "limit: case: part arrival 1\n"),
     (PartPlace::Arrival(9), "limit: case: part arrival 10\n"),

@@ -1,7 +1,7 @@
 //! Reports written by hand.
 ghost use Rattle.std.specs.Prelude.{◌≡◌, true, None, IfOk, IsTrue, map, nat_lt};
 ghost use Rattle.std.specs.List.{list_all};
-ghost use Rattle.case_model.specs.Draft.{have_known_ends};
+ghost use Rattle.case_model.specs.Draft.{have_known_ends, have_known_arrivals};
 ghost use Rattle.case_model.specs.CaseView.{content};
 ghost use Rattle.sequential.specs.TrialAnswers.{IsSingle};
 ghost use Rattle.report.specs.TestReport.{AreOfCase};
@@ -183,7 +183,7 @@ fn no_weights(alloc: Global, count: usize) -> Result<List<Fraction>, NoMemory> {
 }
 
 /// A draft of one component, without edges.
-#[tactic(auto, unfolding(case_model::specs::Draft::have_known_ends))]
+#[tactic(auto, unfolding(case_model::specs::Draft::have_known_ends, case_model::specs::Draft::have_known_arrivals))]
 fn draft(
     alloc: Global,
     names: List<Text>,
@@ -192,7 +192,7 @@ fn draft(
     weights: List<Fraction>,
 ) -> Result<Draft, NoMemory>
     ensures ends { IfOk result (λ d. have_known_ends d ≡ true) }
-    ensures unstaged { IfOk result (λ d. d.stages ≡ None) }
+    ensures arrivals { IfOk result (λ d. have_known_arrivals d ≡ true) }
 {
     let mut components = List::new(alloc);
     components.push(DraftComponent {

@@ -16,7 +16,7 @@ pub fn least_levels_of_two_hypotheses()
     ensures never { WeightZeroIsNeverRejected }
 {}
 
-/// A case at another level is a case.
+/// A case without stages is a case at each other level.
 pub fn cases_are_valid_at_each_level()
     ensures { CasesAreValidAtEachLevel }
 {}

@@ -1,5 +1,7 @@
 use Rattle.std.proofs.Common.{ap, ◌∙◌, map, not, Some}
 use Rattle.field_core.specs.NumberField.{number_field}
+use Rattle.field_core.specs.Kind.{or_wide}
+use Rattle.field_core.specs.Arithmetic.{number_one}
 use Rattle.field_core.specs.Sums.{sum_below}
 use Rattle.field_core.specs.View.{terms}
 use Rattle.field_core.specs.declared.place.Op.TheVariants.{Add}
@@ -20,7 +22,7 @@ returns-in-Ok c =
     let row = entry_at m c.args.table.now c.args.i in
     let fault = RowSum c.args.c c.args.i in
     c.then_some.ensures ∙ ap (λ b. fault when not b) c.is_at_most_one.ensures
-    ∙ fault_written (written_row m row) (sum_below number_field m (λ j. entry_value (row j))) c.args.c (AtRowSum c.args.i) fault (map terms c.in-Ok.sum) (entry_value c.in-Ok.sum) c.in-Ok.ensures (exact_row m row c.in-Ok.sum (some_from Add (map terms c.in-Ok.sum) _ c.in-Ok.ensures))
+    ∙ fault_written (or_wide Add (written_row m row)) (sum_below number_field m (λ j. entry_value (row j))) number_one c.args.c (AtRowSum c.args.i) fault (map terms c.in-Ok.sum) (entry_value c.in-Ok.sum) c.in-Ok.ensures (exact_row m row c.in-Ok.sum (some_from Add (map terms c.in-Ok.sum) _ c.in-Ok.ensures))
 
 pub returns-in-Err : goal.returns-in-Err
 unfolding row_sum
@@ -28,4 +30,4 @@ returns-in-Err c =
     let m = c.args.count in
     let row = entry_at m c.args.table.now c.args.i in
     ap (λ w. Some (TooWideSum w)) (c.in_component.ensures ∙ ap (λ (w : Wide). record { component = c.args.c; place = w.place; op = w.op }) c.at.ensures)
-    ∙ fault_refused (written_row m row) (sum_below number_field m (λ j. entry_value (row j))) c.args.c (AtRowSum c.args.i) (RowSum c.args.c c.args.i) c.in-Err.wide c.in-Err.ensures
+    ∙ fault_refused (or_wide Add (written_row m row)) (sum_below number_field m (λ j. entry_value (row j))) number_one c.args.c (AtRowSum c.args.i) (RowSum c.args.c c.args.i) c.in-Err.wide c.in-Err.ensures

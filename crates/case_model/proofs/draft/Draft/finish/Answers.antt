@@ -28,6 +28,7 @@ of-requires c =
       draft = d;
       content_is = sym (content_by_parts d c.len.result c.as_slice.result.now parts.components parts.inputs c.len.ensures c.as_slice.ensures c.in-Ok.ensures.components c.in-Ok.ensures.inputs);
       faultless = late_is d c.len.result c.as_slice.result.now None (none_early ((goal.at.of-requires c).In_default)) c.len.ensures c.as_slice.ensures c.in-Ok.ensures.faultless;
+      known_arrivals = c.requires.arrivals;
     })
 
 pub returns-in-Ok-clause-case : goal.returns-in-Ok-clause-case

@@ -1,0 +1,17 @@
+-- The laws of drafts and of their spends, as contracts name them.
+use Rattle.std.specs.Prelude.{◌≡◌, ◌↔◌, ℕ, None}
+use Rattle.case_model.specs.declared.draft.Draft.{Draft}
+use Rattle.case_model.specs.CaseFaults.{case_fault}
+use Rattle.case_model.specs.Content.{Content}
+use Rattle.case_model.specs.Spends.{IsRisingSpend}
+use Rattle.case_model.specs.StagedCase.{spend_in}
+use Rattle.case_model.specs.ValidDraft.{IsValidDraft, HasWrittenSums}
+use Rattle.case_model.specs.Validity.{IsValidContent}
+
+-- A draft has no fault exactly where it is valid and its sums can be written.
+abbrev pub DraftsAreFaultlessWhereValid : Type 0
+DraftsAreFaultlessWhereValid = (d : Draft) → (case_fault d ≡ None) ↔ (IsValidDraft d × HasWrittenSums d)
+
+-- What is spent in a case isn't below 0, and doesn't fall from step to step.
+abbrev pub SpendsOfCasesRise : Type 0
+SpendsOfCasesRise = (c : Content) (k t : ℕ) → IsValidContent c → IsRisingSpend (spend_in c k) t

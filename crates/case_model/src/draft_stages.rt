@@ -1,0 +1,170 @@
+//! Stages of drafts, and their tests.
+ghost use Rattle.std.specs.Prelude.{◌≡◌, ◌<◌, length, get_or};
+ghost use Rattle.std.specs.List.{list_all, list_any};
+ghost use Rattle.case_model.specs.declared.draft_stages.Arrival.{Arrival};
+ghost use Rattle.case_model.specs.Draft.{is_of, arrives_among};
+ghost use Rattle.case_model.specs.CaseFaults.{◌or◌, first_of, long_arrival, spend_count, step_order, spend_range, spend_sum, spends_fault, arrival_stage, repeated_arrival, arrival_repeated, arrival_range, arrivals_fault};
+
+use crate::first_faults::{first_below, first_fault};
+use crate::fraction_tests::{is_short_p_value, is_unit};
+use crate::{CaseFault, PartPlace, Spend};
+use field_core::List;
+use fraction::Fraction;
+
+/// A p-value that arrived: of a hypothesis, by its position, at a stage, from 1.
+#[derive(Clone, Copy)]
+pub struct Arrival {
+    pub hypothesis: usize,
+    pub stage: usize,
+    pub p: Fraction,
+}
+
+/// The stages of a draft: how many there are, what each hypothesis spends at them, and the p-values that arrived.
+#[derive(Drop)]
+pub struct DraftStages {
+    pub count: u64,
+    pub spend: List<Spend>,
+    pub arrivals: List<Arrival>,
+}
+
+impl DraftStages {
+    ghost use Rattle.std.specs.Prelude.{◌≡◌};
+    ghost use Rattle.std.specs.List.{list_all};
+    ghost use Rattle.case_model.specs.Draft.{arrives_among};
+    ghost use Rattle.case_model.specs.CaseFaults.{long_stage_part, stages_fault};
+
+    /// Whether each p-value that arrived is of one of so many hypotheses.
+    pub(crate) fn has_known_arrivals(&self, count: usize) -> bool
+        ensures { result ≡ list_all (arrives_among count) self.now.arrivals }
+    {
+        self.arrivals
+            .iter()
+            .all(|arrival| arrival.hypothesis < count)
+    }
+
+    /// The first number with a part above its limit: a fraction, or else a number of a step, or else a p-value.
+    #[tactic(auto, unfolding(crate::specs::CaseFaults::long_stage_part))]
+    pub(crate) fn long_part(&self) -> Option<CaseFault>
+        ensures { result ≡ long_stage_part self.now }
+    {
+        let spends = self.spend.as_slice();
+        first_fault(spends, Spend::long_fraction)
+            .or_else(|| first_fault(spends, Spend::long_step))
+            .or_else(|| long_arrival(self.arrivals.as_slice()))
+    }
+
+    /// The first fault of the stages of so many hypotheses at the level `alpha`.
+    #[tactic(auto, unfolding(crate::specs::CaseFaults::stages_fault, crate::specs::CaseFaults::no_stage, crate::specs::CaseFaults::too_many_stages))]
+    pub(crate) fn fault(&self, size: usize, alpha: &Fraction) -> Option<CaseFault>
+        ensures { result ≡ stages_fault size alpha.now self.now }
+    {
+        let count = self.count;
+        (count == 0)
+            .then_some(CaseFault::NoStage)
+            .or_else(|| (count > 12).then_some(CaseFault::TooManyStages(count)))
+            .or_else(|| spends_fault(size, count, alpha, self.spend.as_slice()))
+            .or_else(|| arrivals_fault(count, self.arrivals.as_slice()))
+    }
+}
+
+/// The first p-value that arrived with a denominator above 10^30.
+#[tactic(auto, unfolding(crate::specs::CaseFaults::long_arrival))]
+fn long_arrival(arrivals: &[Arrival]) -> Option<CaseFault>
+    ensures { result ≡ long_arrival arrivals.now }
+{
+    first_fault(arrivals, |arrival, n| {
+        (!is_short_p_value(&arrival.p)).then_some(CaseFault::PartTooLong(PartPlace::Arrival(n)))
+    })
+}
+
+/// The first of so many hypotheses that doesn't spend at each of `count` stages, or the first place past them.
+#[tactic(auto, unfolding(crate::specs::CaseFaults::spend_count))]
+fn spend_count(size: usize, count: u64, spends: &[Spend]) -> Option<CaseFault>
+    ensures { result ≡ spend_count size count spends.now }
+{
+    first_fault(spends, |spend, i| {
+        (i >= size || !spend.has_all_stages(count)).then_some(CaseFault::SpendCount(i))
+    })
+    .or_else(|| (spends.len() < size).then_some(CaseFault::SpendCount(spends.len())))
+}
+
+/// The first fault of what so many hypotheses spend at `count` stages.
+#[tactic(auto, unfolding(crate::specs::CaseFaults::spends_fault))]
+fn spends_fault(size: usize, count: u64, alpha: &Fraction, spends: &[Spend]) -> Option<CaseFault>
+    ensures { result ≡ spends_fault size count alpha.now spends.now }
+{
+    spend_count(size, count, spends)
+        .or_else(|| first_fault(spends, Spend::too_many_steps))
+        .or_else(|| levels_fault(alpha, spends))
+}
+
+/// The first fault of the weights of steps, or else of what is spent at a stage, or else of the sums.
+fn levels_fault(alpha: &Fraction, spends: &[Spend]) -> Option<CaseFault>
+    ensures { result ≡ (first_of step_order spends.now or first_of spend_range spends.now or first_of (spend_sum alpha.now) spends.now) }
+{
+    first_fault(spends, Spend::step_order)
+        .or_else(|| first_fault(spends, Spend::range_fault))
+        .or_else(|| spend_sum(alpha, spends))
+}
+
+/// The first fault of the sums of what is spent.
+fn spend_sum(alpha: &Fraction, spends: &[Spend]) -> Option<CaseFault>
+    ensures { result ≡ first_of (spend_sum alpha.now) spends.now }
+{
+    first_fault(spends, |spend, i| spend.sum_fault(i, alpha))
+}
+
+/// The first arrival at what isn't one of so many stages.
+#[tactic(auto, unfolding(crate::specs::CaseFaults::arrival_stage))]
+fn arrival_stage(count: u64, arrivals: &[Arrival]) -> Option<CaseFault>
+    ensures { result ≡ arrival_stage count arrivals.now }
+{
+    first_fault(arrivals, |arrival, n| {
+        let known = arrival.stage >= 1 && arrival.stage as u64 <= count;
+        (!known).then_some(CaseFault::ArrivalStage(n))
+    })
+}
+
+/// Whether one of the arrivals is of a hypothesis at a stage.
+fn has(arrivals: &[Arrival], hypothesis: usize, stage: usize) -> bool
+    ensures { result ≡ list_any (is_of hypothesis stage) arrivals.now }
+{
+    arrivals.iter().any(|arrival| arrival.hypothesis == hypothesis && arrival.stage == stage)
+}
+
+/// The arrival at a place has the hypothesis and the stage of an earlier one.
+#[tactic(auto, using(std::proofs::lemmas::List::get_or_default))]
+fn repeated_arrival(arrivals: &[Arrival], n: usize) -> Option<CaseFault>
+    requires { n < length arrivals.now }
+    ensures { (d : Arrival) → result ≡ repeated_arrival arrivals.now n (get_or arrivals.now n d) }
+{
+    let arrival = &arrivals[n];
+    has(&arrivals[..n], arrival.hypothesis, arrival.stage).then_some(CaseFault::ArrivalRepeated(n))
+}
+
+/// The first arrival with the hypothesis and the stage of an earlier one.
+fn arrival_repeated(arrivals: &[Arrival]) -> Option<CaseFault>
+    ensures { result ≡ arrival_repeated arrivals.now }
+{
+    first_below(arrivals.len(), |n| repeated_arrival(arrivals, n))
+}
+
+/// The first p-value that arrived and isn't from 0 to 1.
+#[tactic(auto, unfolding(crate::specs::CaseFaults::arrival_range))]
+fn arrival_range(arrivals: &[Arrival]) -> Option<CaseFault>
+    ensures { result ≡ arrival_range arrivals.now }
+{
+    first_fault(arrivals, |arrival, n| {
+        (!is_unit(&arrival.p)).then_some(CaseFault::ArrivalRange(n))
+    })
+}
+
+/// The first fault of the p-values that arrived at so many stages.
+#[tactic(auto, unfolding(crate::specs::CaseFaults::arrivals_fault))]
+fn arrivals_fault(count: u64, arrivals: &[Arrival]) -> Option<CaseFault>
+    ensures { result ≡ arrivals_fault count arrivals.now }
+{
+    arrival_stage(count, arrivals)
+        .or_else(|| arrival_repeated(arrivals))
+        .or_else(|| arrival_range(arrivals))
+}

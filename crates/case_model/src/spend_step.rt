@@ -1,0 +1,137 @@
+//! Steps of tables of levels, and the tests of one table.
+ghost use Rattle.std.specs.Prelude.{◌≡◌};
+ghost use Rattle.std.specs.List.{list_all};
+ghost use Rattle.std.specs.Option.{option_map};
+ghost use Rattle.case_model.specs.Draft.{is_short};
+ghost use Rattle.case_model.specs.CaseFaults.{is_later, is_lower, level_of, step_before, falling_level};
+
+use crate::CaseFault;
+use crate::first_faults::first_fault;
+use crate::fraction_tests::{is_below_zero, is_short};
+use crate::sums::written_sum;
+use field_core::{List, Number, Place, TooWide};
+use fraction::Fraction;
+
+/// A step of a table of levels: the weight from which it counts, and the level of each stage from there on.
+#[derive(Drop)]
+pub struct SpendStep {
+    pub from: Fraction,
+    pub levels: List<Fraction>,
+}
+
+impl SpendStep {
+    ghost use Rattle.std.specs.Prelude.{◌≡◌, ◌&&◌, length};
+    ghost use Rattle.std.specs.List.{list_all};
+    ghost use Rattle.case_model.specs.Draft.{is_short};
+    ghost use Rattle.field_core.specs.declared.place.Op.TheVariants.{Add};
+    ghost use Rattle.field_core.specs.Kind.{ok_map, or_wide};
+    ghost use Rattle.field_core.specs.View.{terms};
+    ghost use Rattle.case_model.specs.Sums.{ratio_at, written_sum};
+    ghost use Rattle.case_model.specs.CaseFaults.{step_sum};
+
+    /// Whether the parts of its weight and of its levels are at most 10^18.
+    pub(crate) fn is_short(&self) -> bool
+        ensures { result ≡ (is_short self.now.from && list_all is_short self.now.levels) }
+    {
+        is_short(&self.from) && are_short(self.levels.as_slice())
+    }
+
+    /// The sum of its levels.
+    #[tactic(auto, unfolding(crate::specs::Sums::ratio_at), using(std::proofs::lemmas::List::get_or_default))]
+    fn sum(&self) -> Result<Fraction, TooWide>
+        ensures { ok_map terms result ≡ or_wide Add (written_sum (length self.now.levels) (ratio_at self.now.levels)) }
+    {
+        let levels = self.levels.as_slice();
+        written_sum(levels.len(), |t| levels[t])
+    }
+
+    /// The fault of the sum of its levels for a hypothesis: that it or the bound is too wide, or else that it is above the
+    /// bound, its weight times the level `alpha`.
+    #[tactic(auto, unfolding(crate::specs::CaseFaults::step_sum))]
+    pub(crate) fn sum_fault(&self, i: usize, alpha: &Fraction) -> Option<CaseFault>
+        ensures { result ≡ step_sum i alpha.now self.now }
+    {
+        let place = Place::SpendSum(i);
+        let sum = match self.sum() {
+            Ok(sum) => sum,
+            Err(wide) => return Some(CaseFault::Wide(wide.at(place).in_component(0))),
+        };
+        match self.from.mul(alpha) {
+            Ok(bound) => (sum > bound).then_some(CaseFault::SpendSum(i)),
+            Err(wide) => Some(CaseFault::Wide(wide.at(place).in_component(0))),
+        }
+    }
+}
+
+/// Whether the parts of each fraction are at most 10^18.
+fn are_short(fractions: &[Fraction]) -> bool
+    ensures { result ≡ list_all is_short fractions.now }
+{
+    fractions.iter().all(is_short)
+}
+
+/// The weight of the step before place `n`, if there is one.
+#[tactic(auto, unfolding(crate::specs::CaseFaults::step_before))]
+pub fn weight_before(steps: &[SpendStep], n: usize) -> Option<Fraction>
+    ensures { result ≡ option_map (λ s. s.from) (step_before steps.now n) }
+{
+    if n == 0 {
+        return None;
+    }
+    match steps.get(n - 1) {
+        Some(before) => Some(before.from),
+        None => None,
+    }
+}
+
+/// Whether a weight is above another one, if there is one.
+#[tactic(auto, using(crate::proofs::Comparisons::orders))]
+pub fn is_later(before: Option<Fraction>, from: &Fraction) -> bool
+    ensures { result ≡ is_later before from.now }
+{
+    match before {
+        Some(before) => *from > before,
+        None => true,
+    }
+}
+
+/// The level of a stage, counted from 0, in the step before place `n`, if there is one.
+#[tactic(auto, unfolding(crate::specs::CaseFaults::step_before))]
+fn level_before(steps: &[SpendStep], n: usize, t: usize) -> Option<Fraction>
+    ensures { result ≡ level_of (step_before steps.now n) t }
+{
+    if n == 0 {
+        return None;
+    }
+    match steps.get(n - 1) {
+        Some(before) => before.levels.as_slice().get(t).copied(),
+        None => None,
+    }
+}
+
+/// Whether a level is below another one, if there is one.
+#[tactic(auto, using(crate::proofs::Comparisons::orders))]
+fn is_lower(before: Option<Fraction>, level: &Fraction) -> bool
+    ensures { result ≡ is_lower before level.now }
+{
+    match before {
+        Some(before) => *level < before,
+        None => false,
+    }
+}
+
+/// The first level of the step at place `n` that is below 0, or below that of the step before.
+#[tactic(auto, unfolding(crate::specs::CaseFaults::falling_level))]
+pub fn falling_level(
+    i: usize,
+    steps: &[SpendStep],
+    n: usize,
+    levels: &[Fraction],
+) -> Option<CaseFault>
+    ensures { result ≡ falling_level i (step_before steps.now n) levels.now }
+{
+    first_fault(levels, |level, t| {
+        let falls = is_below_zero(level) || is_lower(level_before(steps, n, t), level);
+        falls.then_some(CaseFault::SpendRange(i, t))
+    })
+}
