@@ -18,7 +18,7 @@ lead_on place here next (line ∷ before) lines h k = (h.0, h.1, lead_on h.0 her
 pub words_append : (xs ys : List Row) → texts_in (xs ++ ys) ≡ texts_in xs ++ texts_in ys
 words_append xs ys = map-append (λ row. row.text) xs ys
 
-lead_rows : (place here next : Place) (before rows : List Row) → Lead place (texts_in before) here → Lead here (texts_in rows) next → Lead place (texts_in (before ++ rows)) next
+pub lead_rows : (place here next : Place) (before rows : List Row) → Lead place (texts_in before) here → Lead here (texts_in rows) next → Lead place (texts_in (before ++ rows)) next
 lead_rows place here next before rows h k = subst (λ ls. Lead place ls next) (sym (words_append before rows)) (lead_on place here next (texts_in before) (texts_in rows) h k)
 
 bad_behind : (place here : Place) (before rows : List Row) (n : ℕ) (kind : LineKind) → Lead place (texts_in before) here → IsBadLine here rows n kind → IsBadLine place (before ++ rows) n kind
@@ -67,6 +67,12 @@ fault_first place row rows lines end fault e f = subst (λ ls. IsFaultAt place l
 pub fault_ended : (place : Place) (lines : List Row) (end : ℕ) (fault : TextFault) → MustFollow place → (lines ≡ []) × (fault ≡ faults.Line end Ended) → IsFaultAt place lines end fault
 fault_ended place lines end fault must h =
     subst (λ ls. IsFaultAt place ls end fault) (sym h.0) (subst (λ f. IsFaultAt place [] end f) (sym h.1) (ended_here place end must))
+
+-- all lines may stand, and another must follow
+pub fault_unfinished : (place here : Place) (rows : List Row) (number end : ℕ) (fault : TextFault) → Lead place (texts_in rows) here → number ≡ end → IsOnLine number (λ kind. MustFollow here × (kind ≡ Ended)) fault → IsFaultAt place rows end fault
+fault_unfinished place here rows number end (faults.Line n kind) h e f = inr (record { here = here; lead = h; must = f.1.0; number_is = f.0 ∙ e; kind_is = f.1.1 })
+fault_unfinished place here rows number end (faults.Case refused) h e f = f
+fault_unfinished place here rows number end faults.NoMemory h e f = tt
 
 -- another fault at the same line
 pub other_kind : (number : ℕ) (P Q : LineKind → Type 0) (fault : TextFault) → ((kind : LineKind) → P kind → Q kind) → IsOnLine number P fault → IsOnLine number Q fault

@@ -1,6 +1,5 @@
--- Lines of words: what they begin with, and what they say.
-use Rattle.std.proofs.Common.{◌≡◌, ℕ, ◌<◌, inl, inr, List, [], ◌∷◌, length, refl, sym, ap₂, subst, ◌∙◌, arith}
-use Rattle.std.specs.Prelude.{codes}
+-- Words, and the numerals among them.
+use Rattle.std.proofs.Common.{◌≡◌, ℕ, ◌<◌, inl, inr, List, [], ◌∷◌, length, refl, ap₂, arith}
 use Rattle.std.specs.List.{AllZip}
 use Rattle.field_core.specs.declared.ratio.Ratio.{Ratio}
 use Rattle.field_core.specs.View.{terms}
@@ -8,7 +7,7 @@ use Rattle.fraction.proofs.SameRatios.{same_ratio}
 use Rattle.fraction.specs.Numeral.{IsParseFault}
 use Rattle.fraction.specs.declared.fault.NumberFault.{NumberFault}
 use Rattle.fraction.proofs.Unique.{one_value, one_fault, value_or_fault}
-use Rattle.edge_text.specs.Grammar.{Words, Says, IsNumbersLine, HasEnds}
+use Rattle.edge_text.specs.Grammar.{Words, Says}
 use Rattle.edge_text.specs.Faults.{IsFirstRefused}
 
 -- ---- words
@@ -18,29 +17,6 @@ heads x y xs ys e = cc
 
 pub tails : (x y : List ℕ) (xs ys : Words) → x ∷ xs ≡ y ∷ ys → xs ≡ ys
 tails x y xs ys e = cc
-
--- the word behind the keyword, where there is one
-pub one_word : (k x y : List ℕ) → k ∷ x ∷ [] ≡ k ∷ y ∷ [] → x ≡ y
-one_word k x y e = heads x y [] [] (tails k k _ _ e)
-
-second_words : (k a x : List ℕ) (ys xs : Words) → k ∷ a ∷ ys ≡ k ∷ x ∷ xs → a ≡ x
-second_words k a x ys xs e = heads _ _ _ _ (tails k k _ _ e)
-
-third_words : (k a b x y : List ℕ) (bs ys : Words) → k ∷ a ∷ b ∷ bs ≡ k ∷ x ∷ y ∷ ys → b ≡ y
-third_words k a b x y bs ys e = heads _ _ _ _ (tails _ _ _ _ (tails k k _ _ e))
-
--- the ends of an edge are those that its line has
-pub same_ends : (line from to a b : List ℕ) → HasEnds line from to → HasEnds line a b → (from ≡ a) × (to ≡ b)
-same_ends line from to a b h k =
-    let e = sym h.words ∙ k.words in
-    (second_words (codes "edge") from a _ _ e, third_words (codes "edge") from to a b _ _ e)
-
-first_bytes : (a b : ℕ) (xs ys : List ℕ) → a ∷ xs ≡ b ∷ ys → a ≡ b
-first_bytes a b xs ys e = cc
-
--- the one place where two keywords may stand
-pub keywords_differ : (xs ys : Words) → codes "p" ∷ xs ≡ codes "weights" ∷ ys → ⊥
-keywords_differ xs ys e = let k : ◌≡◌ {A = ℕ} 112 119 = first_bytes 112 119 [] (codes "eights") (heads (codes "p") (codes "weights") xs ys e) in omega arith
 
 -- ---- numerals
 
@@ -77,8 +53,3 @@ one_refused (w ∷ ws) f g (inl h) (inl k) = one_fault w f g h k
 one_refused (w ∷ ws) f g (inl h) (inr k) = absurd (says_no_fault w k.0.0 f k.0.1 h)
 one_refused (w ∷ ws) f g (inr h) (inl k) = absurd (says_no_fault w h.0.0 g h.0.1 k)
 one_refused (w ∷ ws) f g (inr h) (inr k) = one_refused ws f g h.1 k.1
-
-pub same_numbers : (keyword line : List ℕ) (xs ys : List Ratio) → IsNumbersLine keyword line xs → IsNumbersLine keyword line ys → xs ≡ ys
-same_numbers keyword line xs ys a b =
-    let e : a.numerals ≡ b.numerals = tails keyword keyword _ _ (sym a.words ∙ b.words) in
-    same_values b.numerals xs ys (subst (λ ns. AllZip Says ns xs) e a.each) b.each

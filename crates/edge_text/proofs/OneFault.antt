@@ -4,7 +4,7 @@ use Rattle.edge_text.specs.declared.fault.LineKind.{LineKind}
 use Rattle.edge_text.specs.declared.fault.LineKind.TheVariants.{Ended}
 use Rattle.text_lines.specs.Lines.{Row, texts_in}
 use Rattle.edge_text.specs.Faults.{Place, MustFollow, Stands, Lead, IsBad, IsFaultFrom}
-use Rattle.edge_text.proofs.LineFaults.{stands_not_bad, stands_once, bad_once}
+use Rattle.edge_text.proofs.Decisions.{stands_not_bad, stands_once, bad_once}
 
 -- the first fault of lines, by the first of them
 abbrev pub IsFaultBy : Place → List Row → ℕ → ℕ → LineKind → Type 0

@@ -1,5 +1,5 @@
 -- Texts that say a draft, and what becomes of it.
-use Rattle.std.proofs.Common.{◌≡◌, ◌≢◌, ◌⊎◌, inl, inr, ℕ, ◌&&◌, true, List, [], ◌∷◌, Some, refl, sym, ap, ap₂, subst, ◌∙◌, length}
+use Rattle.std.proofs.Common.{◌≡◌, ◌≢◌, ◌⊎◌, inl, inr, ℕ, Bool, ◌&&◌, true, List, [], ◌∷◌, Some, refl, sym, ap, ap₂, subst, ◌∙◌, length}
 use Rattle.std.specs.List.{AllZip, list_all}
 use Rattle.std.specs.Prelude.{nat_lt}
 use Rattle.std.specs.Str.{bytes_eq}
@@ -9,13 +9,14 @@ use Rattle.case_model.specs.declared.fault.Refused.{Refused}
 use Rattle.case_model.specs.declared.fault.CaseFault.TheVariants.{NoMemory as OutOfMemory}
 use Rattle.case_model.specs.declared.draft.Draft.{Draft}
 use Rattle.case_model.specs.CaseFaults.{case_fault}
+use Rattle.case_model.specs.declared.draft_component.DraftComponent.{DraftComponent}
 use Rattle.case_model.specs.declared.draft_edge.DraftEdge.{DraftEdge}
 use Rattle.case_model.specs.Draft.{have_known_ends}
 use Rattle.case_model.specs.Names.{position_of}
 use Rattle.edge_text.specs.declared.fault.TextFault.{TextFault}
 use Rattle.edge_text.specs.declared.fault.TextFault.TheVariants as faults
 use Rattle.text_lines.specs.Lines.{rows_of, end_of}
-use Rattle.edge_text.specs.Grammar.{IsEdgeLine, IsDocument, IsText}
+use Rattle.edge_text.specs.Grammar.{IsEdgeLine, IsSharedBlock, AreBlocks, IsDocument, IsText}
 use Rattle.edge_text.specs.Faults.{Alpha}
 use Rattle.edge_text.specs.Reading.{IsTextFault}
 use Rattle.edge_text.specs.View.{IsFaultAt}
@@ -30,12 +31,25 @@ known_edges names [] [] h = refl
 known_edges names [] (edge ∷ edges) h = absurd h
 known_edges names (line ∷ lines) [] h = absurd h
 known_edges names (line ∷ lines) (edge ∷ edges) h =
-    ap₂ (λ x y. x && y) (ap₂ (λ x y. x && y) (known names h.0.from edge.from h.0.from_is) (known names h.0.to edge.to h.0.to_is)) (known_edges names lines edges h.1)
+    ap₂ (λ x y. x && y) (ap₂ (λ x y. x && y) (known names h.0.are.from edge.from h.0.are.from_is) (known names h.0.are.to edge.to h.0.are.to_is)) (known_edges names lines edges h.1)
+
+-- whether the edges of a component go from a hypothesis to a hypothesis
+abbrev are_known : List (List ℕ) → DraftComponent → Bool
+are_known names k = list_all (λ e. nat_lt e.from (length names) && nat_lt e.to (length names)) k.edges
+
+known_blocks : (names : List (List ℕ)) (blocks : List (List (List ℕ))) (ks : List DraftComponent) → AllZip (IsSharedBlock names) blocks ks → list_all (are_known names) ks ≡ true
+known_blocks names [] [] h = refl
+known_blocks names [] (k ∷ ks) h = absurd h
+known_blocks names (b ∷ bs) [] h = absurd h
+known_blocks names (b ∷ bs) (k ∷ ks) h = ap₂ (λ x y. x && y) (known_edges names h.0.block.edge_lines k.edges h.0.block.edges) (known_blocks names bs ks h.1)
+
+known_components : (names : List (List ℕ)) (lines : List (List ℕ)) (ks : List DraftComponent) → AreBlocks names lines ks → list_all (are_known names) ks ≡ true
+known_components names lines ks (inl l) = ap (list_all (are_known names)) l.only ∙ ap (λ b. b && true) (known_edges names l.block.edge_lines l.component.edges l.block.edges)
+known_components names lines ks (inr s) = known_blocks names s.blocks ks s.are
 
 pub document_ends : (lines : List (List ℕ)) (draft : Draft) → IsDocument lines draft → have_known_ends draft ≡ true
 unfolding have_known_ends
-document_ends lines draft d =
-    ap (list_all (λ k. list_all (λ e. nat_lt e.from (length draft.names) && nat_lt e.to (length draft.names)) k.edges)) d.components ∙ ap (λ b. b && true) (known_edges draft.names d.edge_lines d.edges d.edges_are)
+document_ends lines draft d = known_components draft.names d.block_lines draft.components d.blocks
 
 -- ---- faults
 

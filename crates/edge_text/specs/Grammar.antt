@@ -1,6 +1,6 @@
 -- What lines say, and which lists of lines are documents.
-use Rattle.std.specs.Prelude.{◌≡◌, ◌<◌, ℕ, List, [], ◌∷◌, ◌++◌, Option, Some, None, map, length, codes, pos}
-use Rattle.std.specs.List.{AllZip}
+use Rattle.std.specs.Prelude.{◌≡◌, ◌<◌, ◌⊎◌, ℕ, List, [], ◌∷◌, ◌++◌, Option, Some, None, map, length, codes, pos}
+use Rattle.std.specs.List.{AllZip, flat_map}
 use Rattle.field_core.specs.declared.ratio.Ratio.{Ratio}
 use Rattle.field_core.specs.View.{terms}
 use Rattle.fraction.specs.Numeral.{IsNumeralOf}
@@ -21,45 +21,65 @@ Words = List (List ℕ)
 unfoldable pub Says : List ℕ → Ratio → Type 0
 Says word value = IsNumeralOf word (terms value)
 
--- `alpha` and a numeral of this value
-pub record IsAlphaLine (line : List ℕ) (value : Ratio) : Type 0 where
+-- the line has the keyword as its first word, and what stands behind it is such words
+pub record IsLineOf (keyword line : List ℕ) (Are : Words → Type 0) : Type 0 where
+  pub behind : Words
+  pub words : words_of line ≡ keyword ∷ behind
+  pub are : Are behind
+
+-- one numeral of this value
+pub record IsNumber (words : Words) (value : Ratio) : Type 0 where
   pub numeral : List ℕ
-  pub words : words_of line ≡ codes "alpha" ∷ numeral ∷ []
+  pub alone : words ≡ numeral ∷ []
   pub says : Says numeral value
 
--- `hypotheses` and these names, any number of them
-abbrev pub IsNamesLine : List ℕ → List (List ℕ) → Type 0
-IsNamesLine line names = words_of line ≡ codes "hypotheses" ∷ names
+-- numerals of these values, any number of them
+abbrev pub AreNumbers : Words → List Ratio → Type 0
+AreNumbers words values = AllZip Says words values
 
--- a keyword and numerals of these values, any number of them
-pub record IsNumbersLine (keyword : List ℕ) (line : List ℕ) (values : List Ratio) : Type 0 where
-  pub numerals : Words
-  pub words : words_of line ≡ keyword ∷ numerals
-  pub each : AllZip Says numerals values
-
--- `p` and numerals of these values, at least one
-pub record IsPLine (line : List ℕ) (values : List Ratio) : Type 0 where
-  pub numbers : IsNumbersLine (codes "p") line values
+-- numerals of these values, at least one
+pub record AreSomeNumbers (words : Words) (values : List Ratio) : Type 0 where
+  pub each : AreNumbers words values
   pub some : 0 < length values
 
--- `weights` and numerals of these values, any number of them
-abbrev pub IsWeightsLine : List ℕ → List Ratio → Type 0
-IsWeightsLine line values = IsNumbersLine (codes "weights") line values
-
--- `edge`, two names, and at least one further word
-pub record HasEnds (line from to : List ℕ) : Type 0 where
+-- these two words, and at least one more
+pub record HasThree (words : Words) (from to : List ℕ) : Type 0 where
   pub further : List ℕ
   pub others : Words
-  pub words : words_of line ≡ codes "edge" ∷ from ∷ to ∷ further ∷ others
+  pub words_are : words ≡ from ∷ to ∷ further ∷ others
 
--- `edge`, the names of its two ends, and an expression of its weight: all that stands behind the second name. Where a name stands for several hypotheses, it is the first.
-pub record IsEdgeLine (names : List (List ℕ)) (line : List ℕ) (edge : DraftEdge) : Type 0 where
+-- The names of the two ends of an edge, and an expression of its weight: all of the line that stands behind the second name. Where a name stands for several hypotheses, it is the first.
+pub record IsEdge (names : List (List ℕ)) (line : List ℕ) (words : Words) (edge : DraftEdge) : Type 0 where
   pub from : List ℕ
   pub to : List ℕ
-  pub ends : HasEnds line from to
+  pub ends : HasThree words from to
   pub from_is : position_of from names ≡ Some edge.from
   pub to_is : position_of to names ≡ Some edge.to
   pub says : IsEntryText (behind_words 3 line) edge.entry
+
+-- `alpha` and a numeral of this value
+abbrev pub IsAlphaLine : List ℕ → Ratio → Type 0
+IsAlphaLine line value = IsLineOf (codes "alpha") line (λ words. IsNumber words value)
+
+-- `hypotheses` and these names, any number of them
+abbrev pub IsNamesLine : List ℕ → List (List ℕ) → Type 0
+IsNamesLine line names = IsLineOf (codes "hypotheses") line (λ words. words ≡ names)
+
+-- `p` and numerals of these values, at least one
+abbrev pub IsPLine : List ℕ → List Ratio → Type 0
+IsPLine line values = IsLineOf (codes "p") line (λ words. AreSomeNumbers words values)
+
+-- `component` and a numeral of this value
+abbrev pub IsShareLine : List ℕ → Ratio → Type 0
+IsShareLine line value = IsLineOf (codes "component") line (λ words. IsNumber words value)
+
+-- `weights` and numerals of these values, any number of them
+abbrev pub IsWeightsLine : List ℕ → List Ratio → Type 0
+IsWeightsLine line values = IsLineOf (codes "weights") line (λ words. AreNumbers words values)
+
+-- `edge`, the names of its two ends, and an expression of its weight
+abbrev pub IsEdgeLine : List (List ℕ) → List ℕ → DraftEdge → Type 0
+IsEdgeLine names line edge = IsLineOf (codes "edge") line (λ words. IsEdge names line words edge)
 
 -- a line that may be left out
 abbrev pub optional : Option (List ℕ) → List (List ℕ)
@@ -75,26 +95,51 @@ GivesP (Some line) p = (values : List Ratio) × IsPLine line values × (p ≡ ma
 abbrev pub one : Ratio
 one = record { num = pos 1; den = pos 1; valid = one_reduced }
 
--- one component, of share 1
-abbrev pub one_component : List Ratio → List DraftEdge → List DraftComponent
-one_component weights edges = record { share = one; weights = weights; edges = edges } ∷ []
+-- The weights of a component, and its edges, any number of them.
+pub record IsBlock (names : List (List ℕ)) (lines : List (List ℕ)) (component : DraftComponent) : Type 0 where
+  pub weights_line : List ℕ
+  pub edge_lines : List (List ℕ)
+  pub spelt : lines ≡ weights_line ∷ edge_lines
+  pub weights : IsWeightsLine weights_line component.weights
+  pub edges : AllZip (IsEdgeLine names) edge_lines component.edges
 
--- The lines are, in this order, the level, the names, perhaps the p-values, the weights, and any number of edges, and they say this draft. It has one component and no stages.
+-- The share of a component, and then its block.
+pub record IsSharedBlock (names : List (List ℕ)) (lines : List (List ℕ)) (component : DraftComponent) : Type 0 where
+  pub share_line : List ℕ
+  pub block_lines : List (List ℕ)
+  pub spelt : lines ≡ share_line ∷ block_lines
+  pub share : IsShareLine share_line component.share
+  pub block : IsBlock names block_lines component
+
+-- A block without a share is the only one, and its share is 1.
+pub record IsLoneBlock (names : List (List ℕ)) (lines : List (List ℕ)) (components : List DraftComponent) : Type 0 where
+  pub component : DraftComponent
+  pub only : components ≡ component ∷ []
+  pub share_is : component.share ≡ one
+  pub block : IsBlock names lines component
+
+-- One block or more, each with its share.
+pub record AreSharedBlocks (names : List (List ℕ)) (lines : List (List ℕ)) (components : List DraftComponent) : Type 0 where
+  pub blocks : List (List (List ℕ))
+  pub spelt : lines ≡ flat_map (λ block. block) blocks
+  pub are : AllZip (IsSharedBlock names) blocks components
+  pub some : 0 < length components
+
+-- the blocks of the components
+abbrev pub AreBlocks : List (List ℕ) → List (List ℕ) → List DraftComponent → Type 0
+AreBlocks names lines components = IsLoneBlock names lines components ⊎ AreSharedBlocks names lines components
+
+-- The lines are, in this order, the level, the names, perhaps the p-values, and the blocks of the components, and they say this draft. It has no stages.
 pub record IsDocument (lines : List (List ℕ)) (draft : Draft) : Type 0 where
   pub alpha_line : List ℕ
   pub names_line : List ℕ
   pub p_line : Option (List ℕ)
-  pub weights_line : List ℕ
-  pub edge_lines : List (List ℕ)
-  pub spelt : lines ≡ alpha_line ∷ names_line ∷ optional p_line ++ weights_line ∷ edge_lines
+  pub block_lines : List (List ℕ)
+  pub spelt : lines ≡ alpha_line ∷ names_line ∷ optional p_line ++ block_lines
   pub alpha : IsAlphaLine alpha_line draft.alpha
   pub names : IsNamesLine names_line draft.names
   pub p : GivesP p_line draft.p
-  pub weights : List Ratio
-  pub weights_are : IsWeightsLine weights_line weights
-  pub edges : List DraftEdge
-  pub edges_are : AllZip (IsEdgeLine draft.names) edge_lines edges
-  pub components : draft.components ≡ one_component weights edges
+  pub blocks : AreBlocks draft.names block_lines draft.components
   pub stages : draft.stages ≡ None
 
 -- the lines of a text that aren't skipped are a document, and it says this draft

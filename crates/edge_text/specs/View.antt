@@ -1,27 +1,25 @@
 -- Words and faults as contracts of the reader's parts see them.
-use Rattle.std.specs.Prelude.{◌≡◌, ◌<◌, ◌⊎◌, ℕ, ◌+◌, List, [], ◌∷◌, ◌++◌, Option, Some, map, length}
-use Rattle.std.specs.List.{AllZip}
+use Rattle.std.specs.Prelude.{◌≡◌, ℕ, List, ◌∷◌, Option, Some, None, false, true, map}
 use Rattle.field_core.specs.declared.ratio.Ratio.{Ratio}
-use Rattle.fraction.specs.Numeral.{IsParseFault}
+use Rattle.case_model.specs.declared.draft.Draft.{Draft}
+use Rattle.case_model.specs.declared.draft_component.DraftComponent.{DraftComponent}
+use Rattle.case_model.specs.declared.draft_edge.DraftEdge.{DraftEdge}
 use Rattle.case_model.specs.declared.name_index.NameIndex.{NameIndex}
 use Rattle.case_model.specs.NameIndexView.{place_of}
 use Rattle.case_model.specs.Names.{position_of}
-use Rattle.case_model.specs.declared.draft_edge.DraftEdge.{DraftEdge}
 use Rattle.edge_text.specs.declared.fault.LineKind.{LineKind}
-use Rattle.edge_text.specs.declared.fault.LineKind.TheVariants.{Unexpected, Ended, WordCount, UnknownName, Number, Expr}
+use Rattle.edge_expression.specs.declared.fault.ExprFault.{ExprFault}
+use Rattle.edge_text.specs.declared.fault.LineKind.TheVariants.{Ended, Expr}
 use Rattle.edge_text.specs.declared.fault.TextFault.{TextFault}
 use Rattle.edge_text.specs.declared.fault.TextFault.TheVariants as faults
-use Rattle.text_lines.specs.Lines.{Row, lines_of, texts_in, kept_after}
-use Rattle.text_lines.specs.Words.{words_of}
+use Rattle.edge_text.specs.declared.reading.Next.{Next}
+use Rattle.edge_text.specs.declared.reading.Next.TheVariants as nexts
+use Rattle.edge_text.specs.declared.reading.Reading.{Reading}
+use Rattle.edge_text.specs.declared.reading.Said.{Said}
+use Rattle.text_lines.specs.Lines.{Row}
 use Rattle.edge_expression.specs.EntryReading.{IsEntryText, IsExprFault}
-use Rattle.edge_text.specs.Grammar.{Words, Says, IsWeightsLine, GivesP, optional}
-use Rattle.edge_text.specs.Faults.{Place, IsFirstRefused, IsUnknown, IsFaultFrom}
-
--- these two words, and at least one more
-pub record HasThree (words : Words) (from to : List ℕ) : Type 0 where
-  pub further : List ℕ
-  pub others : Words
-  pub words_are : words ≡ from ∷ to ∷ further ∷ others
+use Rattle.edge_text.specs.Grammar.{Words, AreSomeNumbers}
+use Rattle.edge_text.specs.Faults.{Place, Values, Block, Weights, Edges, named, Stands, IsBad, LeadsTo, IsWhole, MustFollow, IsFaultFrom}
 
 -- a fault of the line of this number, of such a kind, or want of memory
 abbrev pub IsOnLine : ℕ → (LineKind → Type 0) → TextFault → Type 0
@@ -29,63 +27,19 @@ IsOnLine number Bad (faults.Line n kind) = (n ≡ number) × Bad kind
 IsOnLine number Bad (faults.Case refused) = ⊥
 IsOnLine number Bad faults.NoMemory = Unit {0}
 
--- the word is no numeral that can be taken
-abbrev pub IsNumeralFault : List ℕ → LineKind → Type 0
-IsNumeralFault word Unexpected = ⊥
-IsNumeralFault word Ended = ⊥
-IsNumeralFault word WordCount = ⊥
-IsNumeralFault word UnknownName = ⊥
-IsNumeralFault word (Number fault) = IsParseFault word fault
-IsNumeralFault word (Expr fault) = ⊥
-
--- one of the words is no numeral that can be taken
-abbrev pub IsListFault : Words → LineKind → Type 0
-IsListFault words Unexpected = ⊥
-IsListFault words Ended = ⊥
-IsListFault words WordCount = ⊥
-IsListFault words UnknownName = ⊥
-IsListFault words (Number fault) = IsFirstRefused words fault
-IsListFault words (Expr fault) = ⊥
-
 -- the words are numerals of these p-values, at least one
-pub record AreGiven (words : Words) (p : List (Option Ratio)) : Type 0 where
-  pub values : List Ratio
-  pub each : AllZip Says words values
-  pub some : 0 < length values
-  pub p_is : p ≡ map Some values
-
--- there is no word, or one of the words is no numeral that can be taken
-abbrev pub IsGivenFault : Words → LineKind → Type 0
-IsGivenFault words Unexpected = ⊥
-IsGivenFault words Ended = ⊥
-IsGivenFault words WordCount = words ≡ []
-IsGivenFault words UnknownName = ⊥
-IsGivenFault words (Number fault) = IsFirstRefused words fault
-IsGivenFault words (Expr fault) = ⊥
+abbrev pub AreGiven : Words → List (Option Ratio) → Type 0
+AreGiven words p = (values : List Ratio) × AreSomeNumbers words values × (p ≡ map Some values)
 
 -- the text is no expression that can be taken
 abbrev pub IsEntryFault : List ℕ → LineKind → Type 0
-IsEntryFault text Unexpected = ⊥
-IsEntryFault text Ended = ⊥
-IsEntryFault text WordCount = ⊥
-IsEntryFault text UnknownName = ⊥
-IsEntryFault text (Number fault) = ⊥
-IsEntryFault text (Expr fault) = IsExprFault text fault
+IsEntryFault text kind = (fault : ExprFault) × IsExprFault text fault × (kind ≡ Expr fault)
 
 -- the edge between these two names, with the weight of an expression
 pub record IsEdgeOf (names : List (List ℕ)) (from to expression : List ℕ) (edge : DraftEdge) : Type 0 where
   pub from_is : position_of from names ≡ Some edge.from
   pub to_is : position_of to names ≡ Some edge.to
   pub says : IsEntryText expression edge.entry
-
--- a name is unknown, or the expression is refused
-abbrev pub IsEdgeOfFault : List (List ℕ) → List ℕ → List ℕ → List ℕ → LineKind → Type 0
-IsEdgeOfFault names from to expression Unexpected = ⊥
-IsEdgeOfFault names from to expression Ended = ⊥
-IsEdgeOfFault names from to expression WordCount = ⊥
-IsEdgeOfFault names from to expression UnknownName = IsUnknown names from ⊎ IsUnknown names to
-IsEdgeOfFault names from to expression (Number fault) = ⊥
-IsEdgeOfFault names from to expression (Expr fault) = ¬ IsUnknown names from × ¬ IsUnknown names to × IsExprFault expression fault
 
 -- the index of these names
 abbrev pub IsIndexOf : NameIndex → List (List ℕ) → Type 0
@@ -103,16 +57,52 @@ pub record TakesLine (old new : List Row) (Is : List ℕ → Type 0) : Type 0 wh
   pub taken : old ≡ line ∷ new
   pub is : Is line.text
 
--- some lines were taken, and they are such lines
-pub record TakesLines (old new : List Row) (Are : List (List ℕ) → Type 0) : Type 0 where
-  pub lines : List Row
-  pub taken : old ≡ lines ++ new
-  pub are : Are (texts_in lines)
+-- ---- what was read so far
 
--- perhaps a `p` line, and the weights
-pub record AreNumbersLines (lines : List (List ℕ)) (p : List (Option Ratio)) (weights : List Ratio) : Type 0 where
-  pub p_line : Option (List ℕ)
-  pub weights_line : List ℕ
-  pub spelt : lines ≡ optional p_line ++ weights_line ∷ []
-  pub p_is : GivesP p_line p
-  pub weights_are : IsWeightsLine weights_line weights
+-- the draft so far, behind this level and these names
+abbrev pub draft_so_far : Ratio → Words → Reading → Draft
+draft_so_far alpha names r = record { names = names; alpha = alpha; p = r.p; components = r.components; stages = None }
+
+-- what may stand next
+abbrev pub place_by : Next → Draft → DraftComponent → Place
+place_by nexts.Values draft component = Values draft
+place_by nexts.Block draft component = Block draft
+place_by nexts.Weights draft component = Weights draft component.share
+place_by nexts.Edge draft component = Edges false draft component
+place_by nexts.EdgeOrBlock draft component = Edges true draft component
+
+-- what may stand next, behind this level and these names
+abbrev pub place_at : Ratio → Words → Reading → Place
+place_at alpha names r = place_by r.next (draft_so_far alpha names r) r.component
+
+-- the line may stand where the old reading is, and the new one is behind it
+abbrev pub Reads : Reading → List ℕ → Reading → Type 0
+Reads old line new = (alpha : Ratio) → (names : Words) → Stands (place_at alpha names old) line (place_at alpha names new)
+
+-- the same, with the names of the index
+abbrev pub ReadsBy : NameIndex → Reading → List ℕ → Reading → Type 0
+ReadsBy index old line new = (alpha : Ratio) → (names : Words) → IsIndexOf index names → Stands (place_at alpha names old) line (place_at alpha names new)
+
+-- the line can't stand where the reading is
+abbrev pub Refuses : Reading → List ℕ → LineKind → Type 0
+Refuses old line kind = (alpha : Ratio) → (names : Words) → IsBad (place_at alpha names old) line kind
+
+-- the same, with the names of the index
+abbrev pub RefusesBy : NameIndex → Reading → List ℕ → LineKind → Type 0
+RefusesBy index old line kind = (alpha : Ratio) → (names : Words) → IsIndexOf index names → IsBad (place_at alpha names old) line kind
+
+-- the draft, where nothing is still to come
+abbrev pub draft_said : Ratio → Words → Said → Draft
+draft_said alpha names said = record { names = names; alpha = alpha; p = said.p; components = said.components; stages = None }
+
+-- a text may end where the reading is, and this was said
+abbrev pub IsSaid : Reading → Said → Type 0
+IsSaid r said = (alpha : Ratio) → (names : Words) → IsWhole (place_at alpha names r) (draft_said alpha names said)
+
+-- a line must follow where the reading is
+abbrev pub IsUnfinishedAt : Reading → LineKind → Type 0
+IsUnfinishedAt r kind = ((alpha : Ratio) → (names : Words) → MustFollow (place_at alpha names r)) × (kind ≡ Ended)
+
+-- these lines may stand, one behind the other, behind this level and the names, and this was said
+abbrev pub AreRead : List (List ℕ) → Words → Said → Type 0
+AreRead lines names said = (alpha : Ratio) → LeadsTo (Values (named alpha names)) lines (draft_said alpha names said)

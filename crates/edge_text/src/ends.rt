@@ -1,7 +1,7 @@
 //! The two ends of an edge, and its expression.
 ghost use Rattle.std.specs.Prelude.{◌≡◌, ◌<◌, length, IfSome, IfNone};
 ghost use Rattle.text_lines.specs.Words.{words_of, behind_words};
-ghost use Rattle.edge_text.specs.View.{HasThree};
+ghost use Rattle.edge_text.specs.Grammar.{HasThree};
 
 use text_lines::Words;
 

@@ -11,7 +11,7 @@ pub enum LineKind {
     Unexpected,
     /// The document ends where a line must follow.
     Ended,
-    /// `alpha` has not just one word behind it, `edge` fewer than three, or `p` none.
+    /// `alpha` or `component` has not just one word behind it, `edge` fewer than three, or `p` none.
     WordCount,
     /// A name isn't that of a hypothesis.
     UnknownName,

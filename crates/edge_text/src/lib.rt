@@ -6,6 +6,7 @@ mod ends;
 mod fault;
 pub mod laws;
 mod read;
+mod reading;
 mod rules;
 
 pub use edge_expression::{ExprFault, print_entry, read_entry};

@@ -10,11 +10,13 @@ use std::alloc::Global;
 
 /// The case that a text says, or the first line that can't stand in a text, or else the fault of the draft; or `NoMemory`.
 ///
-/// A text has the lines `alpha N`, `hypotheses NAME..`, perhaps `p N..` (one numeral or more), `weights N..`, and lines
-/// `edge NAME NAME EXPR`, in this order, where `N` is a numeral that `Fraction::parse` reads, and `EXPR`, all that stands
-/// behind the second name, an expression that `read_entry` reads. Words stand between runs of spaces and tabs. A line
-/// ends with a line feed, perhaps after a carriage return; the last one may lack its line feed. Lines of blanks, and
-/// lines whose first other byte is `#`, are skipped. The draft is looked at once the whole text is read.
+/// A text has the lines `alpha N`, `hypotheses NAME..`, perhaps `p N..` (one numeral or more), and then the blocks of the
+/// components: one that begins with `weights N..`, whose share is 1, or one or more that each begin with `component N`,
+/// the share, before `weights N..`. A block ends with lines `edge NAME NAME EXPR`, any number of them. `N` is a numeral
+/// that `Fraction::parse` reads, and `EXPR`, all that stands behind the second name, an expression that `read_entry`
+/// reads. Words stand between runs of spaces and tabs. A line ends with a line feed, perhaps after a carriage return; the
+/// last one may lack its line feed. Lines of blanks, and lines whose first other byte is `#`, are skipped. The draft is
+/// looked at once the whole text is read.
 pub fn read_text(alloc: Global, bytes: &[u8]) -> Result<Case, TextFault>
     ensures case { IfOk result (IsCaseOf bytes.now) }
     ensures fault { IfErr result (IsTextFault bytes.now) }

@@ -1,7 +1,7 @@
 //! Texts by hand: those with a line that can't stand, those whose drafts are refused, and those that say cases.
 use crate::vectors::{
-    CASES, ENDED, EXPRESSIONS, Edge, Held, NUMBERS, ORDER, REFUSED, RefusedText, Terms, UNEXPECTED,
-    UNKNOWN_NAMES, WORD_COUNTS,
+    CASES, ENDED, ENTANGLED, EXPRESSIONS, Edge, Held, HeldComponent, NUMBERS, ORDER, REFUSED,
+    RefusedText, Terms, UNEXPECTED, UNKNOWN_NAMES, WORD_COUNTS,
 };
 use crate::{LineKind, TextFault, read_text};
 use case_model::{Case, Entry, Inputs, Refused};
@@ -119,12 +119,12 @@ fn listed(edges: &[Edge], from: usize, to: usize) -> &'static [Terms] {
     }
 }
 
-/// A whole table of edges.
-fn expect_edges(rt: &impl Abort, case: &Case, edges: &[Edge]) {
-    assert!(rt; 0 < case.components());
+/// A whole table of edges of a component.
+fn expect_edges(rt: &impl Abort, case: &Case, c: usize, edges: &[Edge]) {
+    assert!(rt; c < case.components());
     for i in 0..case.size() {
         for j in 0..case.size() {
-            expect_entry(rt, case.edge(0, i, j), listed(edges, i, j));
+            expect_entry(rt, case.edge(c, i, j), listed(edges, i, j));
         }
     }
 }
@@ -161,7 +161,7 @@ fn expect_case(rt: &impl Abort, case: &Case, held: &Held) {
     assert_eq!(rt; case.components(), 1);
     assert_eq!(rt; case.share(0), Fraction::one());
     expect_hypotheses(rt, case, held);
-    expect_edges(rt, case, held.edges);
+    expect_edges(rt, case, 0, held.edges);
     expect_p(rt, case.inputs(), held.p);
 }
 
@@ -170,6 +170,30 @@ fn texts_say_cases(rt: HostRuntime) -> Result<(), Fail> {
     for (text, held) in CASES {
         let case = read_text(rt.alloc(), text.as_bytes()).ok().ok_or(text)?;
         expect_case(&rt, &case, &held);
+    }
+    Ok(())
+}
+
+/// A component of the case holds just this.
+fn expect_component(rt: &impl Abort, case: &Case, c: usize, held: &HeldComponent) {
+    assert!(rt; c < case.components());
+    assert_eq!(rt; case.size(), held.weights.len());
+    expect_fraction(rt, case.share(c), held.share);
+    for (i, weight) in held.weights.iter().enumerate() {
+        assert!(rt; i < case.size());
+        expect_fraction(rt, case.weight(c, i), *weight);
+    }
+    expect_edges(rt, case, c, held.edges);
+}
+
+#[test]
+fn texts_say_components(rt: HostRuntime) -> Result<(), Fail> {
+    for (text, components) in ENTANGLED {
+        let case = read_text(rt.alloc(), text.as_bytes()).ok().ok_or(text)?;
+        assert_eq!(&rt; case.components(), components.len());
+        for (c, held) in components.iter().enumerate() {
+            expect_component(&rt, &case, c, held);
+        }
     }
     Ok(())
 }

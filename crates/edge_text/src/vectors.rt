@@ -8,7 +8,7 @@ use fraction::NumberFault;
 pub type Faulty = (&'static str, usize, LineKind);
 
 /// Other first words, at each place.
-pub const UNEXPECTED: [(&str, usize); 40] = [
+pub const UNEXPECTED: [(&str, usize); 47] = [
     // Where the level must stand.
     ("beta 0.05\n", 1),
     ("Alpha 0.05\n", 1),
@@ -35,12 +35,10 @@ pub const UNEXPECTED: [(&str, usize); 40] = [
     ("alpha 0.05\nhypotheses A B\np= 1/2 1/2\n", 3),
     ("alpha 0.05\nhypotheses A B\nweight 1/2 1/2\n", 3),
     ("alpha 0.05\nhypotheses A B\nedge A B 1\n", 3),
-    ("alpha 0.05\nhypotheses A B\ncomponent 1\n", 3),
     // Where the weights must stand.
     ("alpha 0.05\nhypotheses A B\np 1/2 1/2\np 1/2 1/2\n", 4),
     ("alpha 0.05\nhypotheses A B\np 1/2 1/2\nalpha 0.05\n", 4),
     ("alpha 0.05\nhypotheses A B\np 1/2 1/2\nedge A B 1\n", 4),
-    ("alpha 0.05\nhypotheses A B\np 1/2 1/2\ncomponent 1\n", 4),
     // Where an edge may stand, or nothing.
     (
         "alpha 0.05\nhypotheses A B\nweights 1/2 1/2\nalpha 0.05\n",
@@ -84,10 +82,37 @@ pub const UNEXPECTED: [(&str, usize); 40] = [
         "alpha 0.05\nhypotheses A B\nweights 1/2 1/2\nedge A B 1\nend",
         5,
     ),
+    // Where the weights of a component must stand.
+    ("alpha 0.05\nhypotheses A B\ncomponent 1\ncomponent 1\n", 4),
+    ("alpha 0.05\nhypotheses A B\ncomponent 1\nedge A B 1\n", 4),
+    ("alpha 0.05\nhypotheses A B\ncomponent 1\np 1/2 1/2\n", 4),
+    ("alpha 0.05\nhypotheses A B\ncomponent 1\nalpha 0.05\n", 4),
+    // Where an edge or the next block may stand.
+    (
+        "alpha 0.05\nhypotheses A B\ncomponent 1\nweights 1 0\nweights 1 0\n",
+        5,
+    ),
+    (
+        "alpha 0.05\nhypotheses A B\ncomponent 1\nweights 1 0\np 1/2 1/2\n",
+        5,
+    ),
+    (
+        "alpha 0.05\nhypotheses A B\ncomponent 1\nweights 1 0\nedge A B 1\nalpha 0.05\n",
+        6,
+    ),
+    (
+        "alpha 0.05\nhypotheses A B\ncomponent 1/2\nweights 1 0\ncomponent 1/2\nweights 0 1\nhypotheses A B\n",
+        7,
+    ),
+    // Where the only block has no share.
+    (
+        "alpha 0.05\nhypotheses A B\nweights 1 0\nedge A B 1\ncomponent 1\n",
+        5,
+    ),
 ];
 
 /// Texts that end where a line must follow.
-pub const ENDED: [(&str, usize); 20] = [
+pub const ENDED: [(&str, usize); 23] = [
     ("", 1),
     ("\n", 2),
     ("\n\n", 3),
@@ -111,10 +136,16 @@ pub const ENDED: [(&str, usize); 20] = [
         "alpha 0.05\nhypotheses A B\np 1/2 1/2\n# weights 1/2 1/2\n",
         5,
     ),
+    ("alpha 0.05\nhypotheses A B\ncomponent 1\n", 4),
+    ("alpha 0.05\nhypotheses A B\np 1/2 1/2\ncomponent 1\n", 5),
+    (
+        "alpha 0.05\nhypotheses A B\ncomponent 1/2\nweights 1 0\ncomponent 1/2\n",
+        6,
+    ),
 ];
 
 /// Lines of too few or too many words.
-pub const WORD_COUNTS: [(&str, usize); 18] = [
+pub const WORD_COUNTS: [(&str, usize); 22] = [
     ("alpha", 1),
     ("alpha\n", 1),
     ("alpha \t \r\n", 1),
@@ -148,10 +179,23 @@ pub const WORD_COUNTS: [(&str, usize); 18] = [
         "alpha 0.05\nhypotheses A B\nweights 1/2 1/2\nedge A B 1/2\nedge B A\n",
         5,
     ),
+    ("alpha 0.05\nhypotheses A B\ncomponent\n", 3),
+    (
+        "alpha 0.05\nhypotheses A B\np 1/2 1/2\ncomponent 1/2 1/2\n",
+        4,
+    ),
+    (
+        "alpha 0.05\nhypotheses A B\ncomponent 1/2\nweights 1 0\ncomponent\n",
+        5,
+    ),
+    (
+        "alpha 0.05\nhypotheses A B\ncomponent 1\nweights 1 0\nedge A B\n",
+        5,
+    ),
 ];
 
 /// Edges with a name that no hypothesis has.
-pub const UNKNOWN_NAMES: [(&str, usize); 13] = [
+pub const UNKNOWN_NAMES: [(&str, usize); 14] = [
     (
         "alpha 0.05\nhypotheses H1 H2\nweights 1/2 1/2\nedge H3 H2 1\n",
         4,
@@ -201,10 +245,14 @@ pub const UNKNOWN_NAMES: [(&str, usize); 13] = [
         "alpha 0.05\nhypotheses H1 H2\nweights 1/2 1/2\nedge H1 (H2) 1\n",
         4,
     ),
+    (
+        "alpha 0.05\nhypotheses A B\ncomponent 1/2\nweights 1 0\ncomponent 1/2\nweights 0 1\nedge B C 1\n",
+        7,
+    ),
 ];
 
 /// Lines with a numeral that is refused.
-pub const NUMBERS: [(&str, usize, NumberFault); 15] = [
+pub const NUMBERS: [(&str, usize, NumberFault); 19] = [
     ("alpha x\n", 1, NumberFault::BadByte(0)),
     ("alpha 0,05\n", 1, NumberFault::BadByte(1)),
     ("alpha 1/\n", 1, NumberFault::BadByte(2)),
@@ -251,6 +299,26 @@ pub const NUMBERS: [(&str, usize, NumberFault); 15] = [
         "alpha 0.05\nhypotheses A B\nweights 1/123456789012345678901234567890123456789\n",
         3,
         NumberFault::TooManyDigits,
+    ),
+    (
+        "alpha 0.05\nhypotheses A B\ncomponent x\n",
+        3,
+        NumberFault::BadByte(0),
+    ),
+    (
+        "alpha 0.05\nhypotheses A B\ncomponent 1/0\n",
+        3,
+        NumberFault::ZeroDenominator,
+    ),
+    (
+        "alpha 0.05\nhypotheses A B\ncomponent 1\nweights 1 x\n",
+        4,
+        NumberFault::BadByte(0),
+    ),
+    (
+        "alpha 0.05\nhypotheses A B\ncomponent 1\nweights 1 0\ncomponent 1/\n",
+        5,
+        NumberFault::BadByte(2),
     ),
 ];
 
@@ -832,5 +900,63 @@ pub const CASES: [(&str, Held); 19] = [
             weights: &[(1, 1), (0, 1)],
             edges: &[(0, 1, &[(1, 1)])],
         },
+    ),
+];
+
+/// What a component holds: its share, its weights and its edges.
+#[derive(Clone, Copy)]
+pub struct HeldComponent {
+    pub share: Terms,
+    pub weights: &'static [Terms],
+    pub edges: &'static [Edge],
+}
+
+/// Texts with shares, and the components that they say.
+pub const ENTANGLED: [(&str, &[HeldComponent]); 3] = [
+    // Each edge belongs to the block in which it stands.
+    (
+        "alpha 0.05\nhypotheses H1 H2\np 0.02 0.04\ncomponent 1/2\nweights 1 0\nedge H1 H2 1\ncomponent 1/2\nweights 0 1\nedge H2 H1 1\n",
+        &[
+            HeldComponent {
+                share: (1, 2),
+                weights: &[(1, 1), (0, 1)],
+                edges: &[(0, 1, &[(1, 1)])],
+            },
+            HeldComponent {
+                share: (1, 2),
+                weights: &[(0, 1), (1, 1)],
+                edges: &[(1, 0, &[(1, 1)])],
+            },
+        ],
+    ),
+    // One block with a share, which may be less than 1.
+    (
+        "alpha 0.05\nhypotheses A B\ncomponent 0.25\nweights 1/2 1/3\nedge A B 1/2\n",
+        &[HeldComponent {
+            share: (1, 4),
+            weights: &[(1, 2), (1, 3)],
+            edges: &[(0, 1, &[(1, 2)])],
+        }],
+    ),
+    // Blocks without edges, in their order.
+    (
+        "alpha 0.05\nhypotheses A B\ncomponent 1/2\nweights 1 0\ncomponent 1/3\nweights 0 1\ncomponent 1/6\nweights 1/2 1/2\nedge B A 1\n",
+        &[
+            HeldComponent {
+                share: (1, 2),
+                weights: &[(1, 1), (0, 1)],
+                edges: &[],
+            },
+            HeldComponent {
+                share: (1, 3),
+                weights: &[(0, 1), (1, 1)],
+                edges: &[],
+            },
+            HeldComponent {
+                share: (1, 6),
+                weights: &[(1, 2), (1, 2)],
+                edges: &[(1, 0, &[(1, 1)])],
+            },
+        ],
     ),
 ];

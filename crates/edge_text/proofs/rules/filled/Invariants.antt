@@ -1,5 +1,4 @@
 use Rattle.std.proofs.Common.{◌≡◌, map, take, Some}
-use Rattle.std.specs.Option.{option_map}
 use Rattle.edge_text.proofs.rules.filled.Given as goal
 
 abbrev pub invariant-loop-value : goal.invariant-loop-value

@@ -1,4 +1,3 @@
-use Rattle.std.proofs.Common.{map}
 use Rattle.text_lines.specs.Words.{words_of}
 use Rattle.edge_text.proofs.Numerals.{AreRead}
 use Rattle.edge_text.proofs.rules.numbers.Given as goal
