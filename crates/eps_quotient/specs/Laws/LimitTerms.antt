@@ -55,7 +55,7 @@ first_below n d h up some unit z =
     let c = coefficient n 0 in
     let other : ¬ (c ≡ pos 0) = λ e. some (e, z) in
     let above : ¬ (int_sign c ≡ Less) = λ e. nonneg_in (quotient n d) (at_most_out _ _ unit.low)
-        (sign_value n d up h ∙ ap int_sign (lowest-first n other) ∙ e) in
+    (sign_value n d up h ∙ ap int_sign (lowest-first n other) ∙ e) in
     let head : coefficient (poly_add d (poly_negate n)) 0 ≡ pos 0 +ℤ neg_ℤ c =
     coefficient-add d (poly_negate n) 0 ∙ ap₂ ◌+ℤ◌ z (coefficient-negate n 0) in
     (at_most_out _ _ unit.high).at_most

@@ -28,7 +28,7 @@ pub lowest_unique : (x y : Terms) → AreLowest x → AreLowest y → Same x y �
 lowest_unique x y r s h =
     let den : x.den ≡ y.den = same_by_size x.den y.den r.positive s.positive (dvd_antisymm (den_divides x y r h) (den_divides y x s (sym h))) in
     let num : x.num ≡ y.num = *ℤ_cancel x.num y.num x.den (positive_nonzero x.den r.positive) (subst (λ d. x.num *ℤ d ≡ y.num *ℤ x.den) (sym den) h)
-        in
+    in
     ap₂ (λ n d. record { num = n; den = d }) num den
 
 pub lowest_from : (x : Terms) → IsReduced x → AreLowest x
