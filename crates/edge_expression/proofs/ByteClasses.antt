@@ -1,8 +1,7 @@
 -- What a byte of a class is.
 use Rattle.std.proofs.Common.{◌≡◌, ◌≢◌, ℕ, ◌≤◌, ◌⊎◌, ◌||◌, true, eqb, refl, sym, subst, inl, inr}
 use Rattle.std.specs.Char.{is_ascii_digit}
-use Rattle.std.proofs.lemmas.Bool.{cond_both, or_cases, eqb-true, eqb-false}
-use Rattle.std.proofs.lemmas.Bool.Decides.{nat_tests}
+use Rattle.std.proofs.lemmas.Bool.{cond_both, eqb-true, eqb-false}
 use Rattle.text_lines.specs.Words.{is_blank}
 use Rattle.fraction.proofs.Classes.{either, digit_in}
 use Rattle.edge_expression.specs.declared.byte_class.Class.{Class}

@@ -1,7 +1,5 @@
 -- The entries of decimals and of powers.
-use Rattle.std.proofs.Common.{◌≡◌, List, Option, Some, Ok, Err, refl}
-use Rattle.field_core.specs.Steps.{◌>>=◌}
-use Rattle.field_core.specs.Terms.{Terms}
+use Rattle.std.proofs.Common.{◌≡◌, Option, refl}
 use Rattle.fraction.specs.Decimals.{Decimal, decimal_value}
 use Rattle.edge_expression.specs.Expressions.{Power, Number, Other, Epsilon}
 use Rattle.edge_expression.specs.EntryValues.{decimal_entry, epsilon_value, factor_value}

@@ -1,22 +1,19 @@
 -- Terms of the texts of entries, as terms of expressions.
-use Rattle.std.proofs.Common.{◌≡◌, ℕ, zero, suc, ◌+◌, ◌^◌, ◌<◌, ◌≤◌, inl, inr, Bool, true, false, cond, eqb, List, [], ◌∷◌, ◌++◌, pos, Option, Some, None, Ok, refl, sym, ap, ap₂, subst, ◌∙◌, append_assoc, arith, lit<}
-use Rattle.std.specs.Prelude.{codes, ◌&&◌}
+use Rattle.std.proofs.Common.{◌≡◌, ℕ, zero, suc, ◌+◌, ◌^◌, ◌<◌, ◌≤◌, inl, inr, Bool, true, false, cond, eqb, List, [], ◌∷◌, ◌++◌, pos, Some, None, Ok, refl, sym, ap, ap₂, subst, ◌∙◌, append_assoc, arith, lit<}
+use Rattle.std.specs.Prelude.{codes}
 use Rattle.std.specs.Fmt.{decimal}
-use Rattle.std.specs.Int.{is_negative}
-use Rattle.std.specs.Str.Parse.{AllDigits}
-use Rattle.std.proofs.lemmas.Bool.{le-ltb, le-leb, eqb-true, eqb-false, cases_Bool}
+use Rattle.std.proofs.lemmas.Bool.{le-leb, eqb-true, eqb-false, cases_Bool}
 use Rattle.std.proofs.lemmas.Bool.Decides.{nat_tests, Decides-int_eq}
 use Rattle.std.proofs.lemmas.Fmt.{decimal_is_IsNumeral_wide}
-use Rattle.std.proofs.lemmas.Str.Parse.{digit_from_value}
 use Rattle.std.proofs.lemmas.Int.{ints}
 use Rattle.std.proofs.lemmas.List.{append-nil}
 use Rattle.field_core.specs.Divisor.{gcd}
 use Rattle.field_core.specs.Terms.{Terms, IsReduced}
-use Rattle.fraction.specs.Numeral.{AreDigits, Plain, body_text, IsNumeralOf}
+use Rattle.fraction.specs.Numeral.{Plain, body_text, IsNumeralOf}
 use Rattle.field_core.specs.Texts.{fraction_text}
 use Rattle.fraction.specs.Spelling.{spelling}
 use Rattle.fraction.proofs.ReadBack.{digits_from, read_back}
-use Rattle.edge_expression.specs.EntryValues.{is_short, plain_entry, short_of, times, over, decimal_entry, power_value, epsilon_value, term_value, with_factors, factor_value}
+use Rattle.edge_expression.specs.EntryValues.{is_short, plain_entry, short_of, times, over, decimal_entry, power_value, term_value, with_factors, factor_value}
 use Rattle.fraction.specs.Decimals.{Decimal, decimal_value}
 use Rattle.fraction.proofs.DecimalValues.{decimal_found}
 use Rattle.edge_expression.specs.Expressions.{Power, Term, Product, MoreFactors, NoFactor, Times, Over, Factor, Number, Other, Further, Epsilon, Token, DecimalToken, WordToken, CaretToken, PowerToken, TimesToken, OverToken, term_tokens, factors_tokens, factor_tokens, token_text, IsSpelt}

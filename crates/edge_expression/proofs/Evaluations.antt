@@ -5,7 +5,7 @@ use Rattle.std.specs.Option.{unwrap_or}
 use Rattle.edge_expression.specs.declared.polynomial.Operation.TheVariants as operations
 use Rattle.std.specs.Borrow.{Bor}
 use Rattle.field_core.specs.Terms.{Terms}
-use Rattle.edge_expression.specs.EntryValues.{zero_coefficients, joined, sign_or_plus, value, with_terms, term_value, with_factors, factor_value, decimal_entry, power_value, epsilon_value}
+use Rattle.edge_expression.specs.EntryValues.{zero_coefficients, joined, sign_or_plus, value, with_terms, term_value, with_factors, factor_value, decimal_entry, power_value}
 use Rattle.edge_expression.specs.declared.value_fault.ValueFault.{ValueFault}
 use Rattle.edge_expression.specs.declared.polynomial.Polynomial.{Polynomial}
 use Rattle.edge_expression.specs.declared.polynomial.Operation.{Operation}
@@ -13,7 +13,7 @@ use Rattle.edge_expression.specs.declared.cursor.Head.{Head}
 use Rattle.edge_expression.specs.declared.cursor.Head.TheVariants as heads
 use Rattle.fraction.specs.Numeral.{body_text}
 use Rattle.fraction.specs.Decimals.{Decimal, decimal_value}
-use Rattle.edge_expression.specs.Expressions.{Power, Sign, Plus, Minus, Expression, Sum, MoreTerms, NoTerm, AndTerm, Term, Product, MoreFactors, NoFactor, Number, Other, Epsilon, Parens, Token, CloseToken, expression_tokens, terms_tokens, term_tokens, factors_tokens, IsSpelt, Spells}
+use Rattle.edge_expression.specs.Expressions.{Sign, Plus, Minus, Expression, Sum, MoreTerms, NoTerm, AndTerm, Term, Product, MoreFactors, NoFactor, Number, Other, Epsilon, Parens, Token, CloseToken, expression_tokens, terms_tokens, term_tokens, factors_tokens, IsSpelt, Spells}
 use Rattle.field_core.specs.Steps.{◌>>=◌}
 use Rattle.edge_expression.specs.EntryView.{map_value, polynomial_terms, applied}
 use Rattle.edge_expression.specs.CursorView.{SignTaken, JointTaken, HeadTaken, PowerTaken, CloseTaken, EndsExpression, EndsTerm, Evaluates, IsHead, SumGives, ProductGives, FactorGives}

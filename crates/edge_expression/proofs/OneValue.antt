@@ -1,18 +1,14 @@
 -- All expressions that one text spells have one value.
 use mathlib.Core.Path.{fun_ext}
-use Rattle.std.proofs.Common.{◌≡◌, ◌≢◌, ℕ, ◌+◌, ◌≤◌, ◌⊎◌, ◌||◌, true, inl, inr, List, [], ◌∷◌, ◌++◌, length, Option, Some, None, Result, refl, sym, ap, ap₂, subst, ◌∙◌, arith}
-use Rattle.std.specs.Prelude.{◌==◌, if◌then◌else◌}
-use Rattle.std.specs.Char.{is_ascii_digit}
-use Rattle.std.proofs.lemmas.Bool.Decides.{nat_tests}
+use Rattle.std.proofs.Common.{◌≡◌, ℕ, ◌+◌, inl, inr, List, [], ◌∷◌, ◌++◌, length, Option, Some, None, Result, refl, sym, ap, ap₂, subst, ◌∙◌, arith}
 use Rattle.field_core.specs.Terms.{Terms}
 use Rattle.fraction.specs.Numeral.{body_text}
 use Rattle.fraction.proofs.Unique.{body_unique}
 use Rattle.edge_expression.specs.EntryValues.{zero_coefficients, joined, times, over, sign_or_plus, decimal_entry, epsilon_value, power_value, value, with_terms, term_value, with_factors, factor_value, further_value}
 use Rattle.fraction.specs.DecimalMachine.{decimal_length}
-use Rattle.text_lines.specs.Words.{after_blanks}
 use Rattle.edge_expression.specs.declared.value_fault.ValueFault.{ValueFault}
 use Rattle.fraction.specs.Decimals.{Decimal, decimal_value}
-use Rattle.edge_expression.specs.Expressions.{Power, Sign, Plus, Minus, Expression, Sum, MoreTerms, NoTerm, AndTerm, Term, Product, MoreFactors, NoFactor, Times, Over, Beside, Factor, Number, Other, Further, Epsilon, Parens, Token, DecimalToken, WordToken, CaretToken, PowerToken, SignToken, TimesToken, OverToken, OpenToken, CloseToken, sign_tokens, power_tokens, expression_tokens, terms_tokens, term_tokens, factors_tokens, factor_tokens, further_tokens, sign_byte, token_text, IsSpelt, Spells}
+use Rattle.edge_expression.specs.Expressions.{Power, Sign, Plus, Minus, Expression, Sum, MoreTerms, NoTerm, AndTerm, Term, Product, MoreFactors, NoFactor, Times, Over, Beside, Factor, Number, Other, Further, Epsilon, Parens, Token, DecimalToken, WordToken, CaretToken, PowerToken, SignToken, TimesToken, OverToken, OpenToken, CloseToken, sign_tokens, power_tokens, expression_tokens, terms_tokens, term_tokens, factors_tokens, factor_tokens, further_tokens, token_text, IsSpelt, Spells}
 use Rattle.field_core.specs.Steps.{◌>>=◌}
 use Rattle.edge_expression.specs.CursorView.{EndsExpression, EndsTerm, EndsFactor}
 use Rattle.fraction.proofs.DecimalLengths.{decimal_front}

@@ -1,23 +1,19 @@
 -- Operations on fractions with short parts are never too wide, and give the lowest terms.
-use Rattle.std.proofs.Common.{◌≡◌, ◌≢◌, ℕ, zero, suc, ◌*◌, ◌/◌, ◌^◌, ◌<◌, ◌≤◌, true, false, ℤ, pos, negsuc, neg_ℤ, ◌+ℤ◌, ◌-ℤ◌, ◌*ℤ◌, unsigned_abs, int_div, Option, Some, None, Result, Ok, Err, refl, sym, ap, ◌∙◌, arith, lit<}
+use Rattle.std.proofs.Common.{◌≡◌, ◌≢◌, zero, suc, ◌^◌, true, false, ℤ, pos, negsuc, neg_ℤ, ◌+ℤ◌, ◌-ℤ◌, ◌*ℤ◌, Option, Some, Result, Ok, Err, refl, sym, ap, ◌∙◌, arith, lit<}
 use Rattle.std.specs.Option.{option_map}
 use Rattle.std.specs.Ordering.{int_eq}
 use Rattle.std.proofs.lemmas.Bool.Decides.{Decides-int_eq}
-use Rattle.std.proofs.lemmas.Int.{ints, unsigned_abs-mul}
-use Rattle.std.proofs.Math.Nat.{div-le_self, mul-le-mul}
+use Rattle.std.proofs.lemmas.Int.{ints}
 use Rattle.field_core.specs.declared.place.Op.{Op}
 use Rattle.field_core.specs.declared.place.Op.TheVariants.{Add, Sub, Mul, Div}
 use Rattle.field_core.specs.declared.place.TooWide.{TooWide}
 use Rattle.field_core.specs.declared.ratio.Ratio.{Ratio}
-use Rattle.field_core.specs.Divisor.{gcd}
 use Rattle.field_core.specs.Kind.{ok_map, or_wide, is_zero as is_zero_stored}
-use Rattle.field_core.specs.Sized.{sized, gcd_of}
 use Rattle.field_core.specs.Terms.{Terms, IsReduced}
 use Rattle.field_core.specs.View.{terms}
 use Rattle.field_core.specs.Laws.Integers.{int_negate_multiply, int_multiply_negate, int_negate_negate}
 use Rattle.field_core.specs.Laws.PolynomialLaws.{product_nonzero}
 use Rattle.field_core.specs.Laws.Effective.{positive_nonzero}
-use Rattle.field_core.proofs.Sized.{sized_small}
 use Rattle.fraction.specs.Lowest.{lowest_terms}
 use Rattle.fraction.specs.Numeral.{Same}
 use Rattle.fraction.specs.Plain.{single, pair_of, fraction_parts}
@@ -25,9 +21,9 @@ use Rattle.fraction.specs.Tests.{is_zero}
 use Rattle.fraction.specs.Within.{IsWithin}
 use Rattle.fraction.proofs.ShortTerms.{operation_within, opposite_within, inverse_within}
 use Rattle.fraction.specs.Written.{written_add, written_mul, opposite, inverse, inverse_of}
-use Rattle.fraction.specs.Laws.CrossProducts.{sum_of, product_of}
+use Rattle.fraction.specs.Laws.CrossProducts.{product_of}
 use Rattle.fraction.specs.Laws.Turned.{opposite_reduced, inverse_reduced}
-use Rattle.fraction.specs.Laws.WrittenLaws.{Makes, add_says, mul_says}
+use Rattle.fraction.specs.Laws.WrittenLaws.{add_says, mul_says}
 use Rattle.edge_expression.specs.EntryValues.{is_short, short, short_of, sum, difference, product, quotient}
 use Rattle.edge_expression.specs.EntryView.{made_short}
 use Rattle.fraction.proofs.LowestTerms.{lowest_any}

@@ -5,7 +5,7 @@ use Rattle.case_model.specs.Sums.{terms_at, zero_terms}
 use Rattle.edge_expression.specs.declared.short.Short.{Short}
 use Rattle.edge_expression.specs.Expressions.{Plus}
 use Rattle.edge_expression.specs.EntryView.{short_terms}
-use Rattle.edge_expression.specs.EntryValues.{zero_coefficients, sum, coefficients, joined}
+use Rattle.edge_expression.specs.EntryValues.{zero_coefficients, sum, joined}
 use Rattle.edge_expression.proofs.UnitOperations.{IsShortTerms, zero_short, sum_zero_left}
 use Rattle.edge_expression.proofs.UnitEntries.{tabled, coefficients_are}
 

@@ -1,10 +1,10 @@
 -- The bytes with which spelt tokens begin.
-use Rattle.std.proofs.Common.{◌≡◌, ◌≢◌, ℕ, suc, ◌+◌, ◌≤◌, ◌⊎◌, true, false, inl, inr, List, [], ◌∷◌, ◌++◌, length, drop, None, refl, sym, ap, subst, ◌∙◌, arith, length-drop, eqb}
+use Rattle.std.proofs.Common.{◌≡◌, ◌≢◌, ℕ, suc, ◌+◌, ◌≤◌, ◌⊎◌, true, false, inl, inr, List, [], ◌∷◌, ◌++◌, length, drop, None, refl, sym, ap, subst, ◌∙◌, arith, length-drop}
 use Rattle.std.specs.List.{prefix_len}
 use Rattle.std.specs.Prelude.{◌==◌, ◌||◌, if◌then◌else◌}
 use Rattle.std.specs.Char.{is_ascii_digit}
 use Rattle.std.proofs.lemmas.Bool.Decides.{nat_tests}
-use Rattle.std.proofs.lemmas.Bool.{cases_Bool, eqb-true, or_cases}
+use Rattle.std.proofs.lemmas.Bool.{cases_Bool}
 use Rattle.field_core.proofs.Longest.{accepts_then}
 use Rattle.fraction.specs.Numeral.{body_text}
 use Rattle.text_lines.specs.Words.{is_blank, after_blanks}
@@ -19,7 +19,7 @@ use Rattle.fraction.proofs.DecimalTexts.{takes, takes_nil, takes_cons, decimal_t
 use Rattle.fraction.proofs.DecimalLengths.{Stops}
 use Rattle.edge_expression.specs.declared.byte_machine.State.TheVariants as states
 use Rattle.edge_expression.specs.ByteMachine.{class_of, behind_factor}
-use Rattle.edge_expression.specs.Expressions.{Sign, Plus, Minus, Expression, Term, Product, Factor, Number, Other, Further, Epsilon, Parens, Token, DecimalToken, WordToken, CaretToken, PowerToken, SignToken, TimesToken, OverToken, OpenToken, CloseToken, term_tokens, factors_tokens, factor_tokens, further_tokens, sign_byte, token_text, AreBlanks, IsSpelt}
+use Rattle.edge_expression.specs.Expressions.{Sign, Plus, Minus, Term, Product, Factor, Number, Other, Further, Epsilon, Parens, Token, DecimalToken, WordToken, CaretToken, PowerToken, SignToken, TimesToken, OverToken, OpenToken, CloseToken, term_tokens, factors_tokens, factor_tokens, further_tokens, sign_byte, token_text, AreBlanks, IsSpelt}
 use Rattle.edge_expression.specs.CursorView.{EndsExpression, EndsTerm, EndsFactor}
 use Rattle.field_core.proofs.Heads.{heads}
 use Rattle.edge_expression.proofs.ByteClasses.{class_blank}

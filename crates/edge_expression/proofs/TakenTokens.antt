@@ -1,5 +1,5 @@
 -- What a cursor takes of spelt tokens.
-use Rattle.std.proofs.Common.{◌≡◌, ◌≢◌, ℕ, ◌+◌, ◌%◌, ◌≤◌, ◌<◌, ◌⊎◌, inl, inr, List, [], ◌∷◌, ◌++◌, length, drop, take, min, Option, Some, None, refl, sym, ap, ap₂, subst, ◌∙◌, arith, length-append}
+use Rattle.std.proofs.Common.{◌≡◌, ◌≢◌, ℕ, ◌+◌, ◌%◌, ◌<◌, ◌⊎◌, inl, inr, List, [], ◌∷◌, ◌++◌, length, drop, take, min, Option, Some, None, refl, sym, ap, subst, ◌∙◌, arith, length-append}
 use Rattle.std.proofs.lemmas.List.{take_at, drop_at}
 use Rattle.field_core.specs.Terms.{Terms}
 use Rattle.fraction.specs.Numeral.{body_text}
@@ -10,7 +10,7 @@ use Rattle.edge_expression.specs.declared.polynomial.Operation.TheVariants as op
 use Rattle.edge_expression.specs.declared.cursor.Head.{Head}
 use Rattle.edge_expression.specs.declared.cursor.Head.TheVariants as heads
 use Rattle.fraction.specs.Decimals.{Decimal}
-use Rattle.edge_expression.specs.Expressions.{Power, Sign, Plus, Minus, MoreTerms, NoTerm, AndTerm, Term, Product, MoreFactors, NoFactor, Times, Over, Beside, Factor, Number, Other, Further, Epsilon, Parens, Token, DecimalToken, WordToken, CaretToken, PowerToken, SignToken, TimesToken, OverToken, OpenToken, CloseToken, sign_tokens, power_tokens, expression_tokens, terms_tokens, term_tokens, factors_tokens, factor_tokens, further_tokens, sign_byte, token_text, IsSpelt}
+use Rattle.edge_expression.specs.Expressions.{Power, Sign, Plus, Minus, MoreTerms, NoTerm, AndTerm, Term, MoreFactors, NoFactor, Times, Over, Beside, Factor, Number, Other, Further, Epsilon, Parens, Token, DecimalToken, WordToken, CaretToken, PowerToken, SignToken, TimesToken, OverToken, OpenToken, CloseToken, sign_tokens, power_tokens, expression_tokens, terms_tokens, term_tokens, factors_tokens, factor_tokens, further_tokens, sign_byte, token_text, IsSpelt}
 use Rattle.field_core.specs.Steps.{◌>>=◌}
 use Rattle.edge_expression.specs.EntryValues.{sign_or_plus, power_value, epsilon_value, with_factors, factor_value}
 use Rattle.edge_expression.specs.EntryView.{applied}

@@ -1,5 +1,5 @@
 -- What edge expressions are worth: entries, by their five coefficients of ascending power, or the first fault from left to right.
-use Rattle.std.specs.Prelude.{ℕ, zero, suc, ◌-◌, ◌+◌, ◌^◌, ◌||◌, ◌&&◌, ◌==◌, Bool, List, [], ◌∷◌, ◌++◌, length, pos, ℤ, ◌+ℤ◌, ◌-ℤ◌, ◌*ℤ◌, Option, Some, None, Result, Ok, Err, nat_lt, int_lt, if◌then◌else◌}
+use Rattle.std.specs.Prelude.{ℕ, zero, suc, ◌-◌, ◌+◌, ◌^◌, ◌==◌, Bool, List, [], ◌∷◌, pos, ℤ, ◌+ℤ◌, ◌-ℤ◌, ◌*ℤ◌, Option, Some, None, Result, Ok, Err, nat_lt, if◌then◌else◌}
 use Rattle.field_core.specs.Terms.{Terms}
 use Rattle.field_core.specs.Steps.{◌>>=◌}
 use Rattle.fraction.specs.Lowest.{lowest_terms}

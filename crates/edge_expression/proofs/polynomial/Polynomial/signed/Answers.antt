@@ -1,5 +1,4 @@
-use Rattle.std.proofs.Common.{◌≡◌, ◌<◌, List, Ok, Result, refl, sym, ap, ◌∙◌, length, map, [], ◌∷◌, rules, arith}
-use Rattle.field_core.specs.Terms.{Terms}
+use Rattle.std.proofs.Common.{◌≡◌, Ok, sym, ap, ◌∙◌, map, [], ◌∷◌, rules, arith}
 use Rattle.case_model.specs.Sums.{terms_at}
 use Rattle.edge_expression.specs.declared.polynomial.Operation.{Operation}
 use Rattle.edge_expression.specs.EntryView.{short_terms, polynomial_terms, applied}
