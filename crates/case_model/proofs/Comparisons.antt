@@ -109,4 +109,4 @@ sign_is x = ap int_sign (lowest-constant x.num)
 pub ruleset zero_and_one = (below_zero_is, at_least_zero_is, above_zero_is, at_most_one_is)
 
 -- tests against other fractions
-pub ruleset orders = (below_is, above_is)
+pub ruleset orders = (below_is, above_is, le_is)

@@ -43,6 +43,7 @@ pub mod SequenceOrders
 pub mod SingleInputs
 pub mod SpendLevels
 pub mod SpendsRise
+pub mod StageLevels
 pub mod StageValidity
 pub mod StagedTests
 pub mod SumSteps

@@ -1,4 +1,4 @@
--- What is spent in a case isn't below 0, and doesn't fall from step to step.
+-- What is spent in a case isn't below 0, and doesn't fall from step to step; and its fractions have short parts.
 use Rattle.std.proofs.Common.{◌≡◌, refl, sym, ap, subst, ◌∙◌, ℕ, zero, suc, ◌+◌, ◌-◌, ◌<◌, List, [], ◌∷◌, length, get_or, slice_get, Bool, true, false, cond, Option, Some, None, is_some, inl, inr, arith}
 use mathlib.Core.Bool.{Bool-set}
 use Rattle.std.proofs.Math.Logic.{∥∥₁_elim}
@@ -20,10 +20,12 @@ use Rattle.case_model.specs.Sums.{zero_ratio, ratio_at, number_at}
 use Rattle.case_model.specs.Content.{Content, content_of, inputs_of, given}
 use Rattle.case_model.specs.CaseFaults.{case_fault}
 use Rattle.case_model.specs.Spends.{stage_number, IsRising, IsRisingSpend}
-use Rattle.case_model.specs.StagedCase.{spends_in, spend_at, spend_in}
+use Rattle.case_model.specs.StagedCase.{has_short_fractions, spends_in, spend_at, spend_in}
 use Rattle.case_model.specs.ValidDraft.{Each, EachNext, IsNonneg, IsValidSpend}
 use Rattle.case_model.specs.Validity.{IsValidContent}
+use Rattle.case_model.specs.Draft.{is_short_level}
 use Rattle.case_model.proofs.Comparisons.{zero_is}
+use Rattle.case_model.proofs.DraftTests.{each_all}
 use Rattle.case_model.proofs.FaultlessDrafts.{valid_draft}
 
 -- what holds of 0 and of each fraction of a list holds at each place
@@ -89,3 +91,29 @@ IsRisingSpend-prop (Table ss) t = IsRising-prop t number_zero ss
 
 pub spends_rise : (c : Content) (k t : ℕ) → IsValidContent c → IsRisingSpend (spend_in c k) t
 spends_rise c k t v = ∥∥₁_elim v (IsRisingSpend-prop (spend_in c k) t) (λ f. subst (λ c. IsRisingSpend (spend_in c k) t) f.content_is (rising_inputs f.draft f.faultless k t))
+
+-- ---- short fractions
+
+short_spend : (count : ℕ) (alpha : Ratio) (s : Spend) → IsValidSpend count alpha s → has_short_fractions s ≡ true
+short_spend count alpha (Shares fs) v = each_all is_short_level fs v.short
+short_spend count alpha (Table ss) v = refl
+
+short_at : (count : ℕ) (alpha : Ratio) (spends : List Spend) → Each spends (IsValidSpend count alpha) → (k : ℕ) → has_short_fractions (spend_at spends k) ≡ true
+short_at count alpha [] h k = refl
+short_at count alpha (s ∷ spends) h zero = short_spend count alpha s (h 0 s refl)
+short_at count alpha (s ∷ spends) h (suc k) = short_at count alpha spends (λ n x e. h (suc n) x e) k
+
+short_inputs : (d : Draft) → case_fault d ≡ None → (k : ℕ) → has_short_fractions (spend_in (content_of d) k) ≡ true
+unfolding content_of
+short_inputs d h k = by_stages d.stages refl
+  where
+    by_test : (b : Bool) → has_short_fractions (spend_at (spends_in (cond b (Single (given d.p)) Bare)) k) ≡ true
+    by_test true = refl
+    by_test false = refl
+
+    by_stages : (o : Option DraftStages) → d.stages ≡ o → has_short_fractions (spend_at (spends_in (inputs_of o d.p)) k) ≡ true
+    by_stages None e = by_test (list_any is_some d.p)
+    by_stages (Some s) e = short_at s.count d.alpha s.spend ((valid_draft d h).stages s e).spends k
+
+pub spends_short : (c : Content) (k : ℕ) → IsValidContent c → has_short_fractions (spend_in c k) ≡ true
+spends_short c k v = ∥∥₁_elim v (hlevel Bool-set) (λ f. subst (λ c. has_short_fractions (spend_in c k) ≡ true) f.content_is (short_inputs f.draft f.faultless k))

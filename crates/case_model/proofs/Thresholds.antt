@@ -1,4 +1,4 @@
-use Rattle.std.proofs.Common.{◌≡◌, refl, sym, ap, ap₂, subst₂, ◌∙◌, ℕ, zero, suc, ◌*◌, ◌/◌, ◌^◌, ◌<◌, ◌≤◌, inl, inr, ℤ, pos, negsuc, neg_ℤ, ◌*ℤ◌, ◌≤ℤ◌, unsigned_abs, int_div, Some, None, Bool, true, false, not, arith, lit<, nat_le, ◌&&◌}
+use Rattle.std.proofs.Common.{◌≡◌, refl, sym, ap, ap₂, subst, subst₂, ◌∙◌, ℕ, zero, suc, ◌*◌, ◌/◌, ◌^◌, ◌<◌, ◌≤◌, inl, inr, ℤ, pos, negsuc, neg_ℤ, ◌*ℤ◌, ◌≤ℤ◌, unsigned_abs, int_div, Some, None, Bool, true, false, not, arith, lit<, nat_le, ◌&&◌}
 use Rattle.std.proofs.lemmas.Int.{ints, unsigned_abs-mul}
 use Rattle.std.proofs.lemmas.Bool.Decides.{nat_tests}
 use Rattle.std.proofs.Math.Nat.{div-le_self, mul-le-mul_left, mul-le-mul_right}
@@ -65,13 +65,42 @@ product_size a b c d h k =
     let right : c * b ≤ c * d = mul-le-mul_left c k in
     omega arith
 
+part_size : (u v : ℤ) (g h a b : ℕ) → unsigned_abs u ≤ a → unsigned_abs v ≤ b → unsigned_abs (int_div u (pos g) *ℤ int_div v (pos h)) ≤ a * b
+part_size u v g h a b p q = rw (unsigned_abs-mul (int_div u (pos g)) (int_div v (pos h))) (product_size _ _ a b (let s = quotient_size u g in omega arith) (let s = quotient_size v h in omega arith))
+
 fits : (u v : ℤ) (g h a b : ℕ) → unsigned_abs u ≤ a → unsigned_abs v ≤ b → a * b < 2 ^ 127 → sized (int_div u (pos g) *ℤ int_div v (pos h)) ≡ Some (int_div u (pos g) *ℤ int_div v (pos h))
 fits u v g h a b p q small =
-    let size : unsigned_abs (int_div u (pos g) *ℤ int_div v (pos h)) ≤ a * b = rw (unsigned_abs-mul (int_div u (pos g)) (int_div v (pos h))) (product_size _ _ a b (let s = quotient_size u g in omega arith) (let s = quotient_size v h in omega arith)) in
+    let size = part_size u v g h a b p q in
     sized_small _ (omega arith)
 
+-- what is known of a number with small parts
+pub record IsShort (t : Terms) (limit : ℕ) : Type 0 where
+  pub num : unsigned_abs t.num ≤ limit
+  pub den : unsigned_abs t.den ≤ limit
+
+pub short_within : (t : Terms) (limit : ℕ) → is_within limit t ≡ true → IsShort t limit
+short_within t limit h = let b = both (nat_le (unsigned_abs t.num) limit) (nat_le (unsigned_abs t.den) limit) h in record { num = grind (arith, nat_tests, b.left); den = grind (arith, nat_tests, b.right) }
+
+pub within_short : (t : Terms) (limit : ℕ) → IsShort t limit → is_within limit t ≡ true
+within_short t limit s =
+    let a : nat_le (unsigned_abs t.num) limit ≡ true = (let q = s.num in grind (arith, nat_tests)) in
+    let b : nat_le (unsigned_abs t.den) limit ≡ true = (let q = s.den in grind (arith, nat_tests)) in
+    ap (λ x. x && nat_le (unsigned_abs t.den) limit) a ∙ b
+
+-- the parts of a product of small parts
+pub product_short : (x y z : Terms) (a b : ℕ) → IsShort x a → IsShort y b → a * b < 2 ^ 127 → written_mul x y ≡ Some z → IsShort z (a * b)
+unfolding written_mul
+product_short x y z a b p q small h =
+    let g = gcd (unsigned_abs x.num) (unsigned_abs y.den) in
+    let k = gcd (unsigned_abs y.num) (unsigned_abs x.den) in
+    let top = fits x.num y.num g k a b p.num q.num small in
+    let low = fits x.den y.den k g a b p.den q.den small in
+    let same = rw (top, low) at h in
+    let e : record { num = int_div x.num (pos g) *ℤ int_div y.num (pos k); den = int_div x.den (pos k) *ℤ int_div y.den (pos g) } ≡ z = cc in
+    subst (λ t. IsShort t (a * b)) e (record { num = part_size x.num y.num g k a b p.num q.num; den = part_size x.den y.den k g a b p.den q.den })
+
 -- a product of small parts is never too wide
-product_fits : (x y : Terms) (a b : ℕ) → unsigned_abs x.num ≤ a → unsigned_abs x.den ≤ a → unsigned_abs y.num ≤ b → unsigned_abs y.den ≤ b → a * b < 2 ^ 127 → written_mul x y ≡ None → ⊥
+pub product_fits : (x y : Terms) (a b : ℕ) → unsigned_abs x.num ≤ a → unsigned_abs x.den ≤ a → unsigned_abs y.num ≤ b → unsigned_abs y.den ≤ b → a * b < 2 ^ 127 → written_mul x y ≡ None → ⊥
 unfolding written_mul
 product_fits x y a b xn xd yn yd small h =
     let top = fits x.num y.num (gcd (unsigned_abs x.num) (unsigned_abs y.den)) (gcd (unsigned_abs y.num) (unsigned_abs x.den)) a b xn yn small in
@@ -79,7 +108,7 @@ product_fits x y a b xn xd yn yd small h =
     let e' = rw (top, low) at h in
     cc
 
-inverse_size : (n d : ℤ) (b : ℕ) → unsigned_abs n ≤ b → unsigned_abs d ≤ b → (unsigned_abs (inverse_of n d).num ≤ b) × (unsigned_abs (inverse_of n d).den ≤ b)
+pub inverse_size : (n d : ℤ) (b : ℕ) → unsigned_abs n ≤ b → unsigned_abs d ≤ b → (unsigned_abs (inverse_of n d).num ≤ b) × (unsigned_abs (inverse_of n d).den ≤ b)
 inverse_size (pos n) d b h k = (k, h)
 inverse_size (negsuc n) d b h k = (same d k, h)
   where
@@ -89,11 +118,7 @@ inverse_size (negsuc n) d b h k = (same d k, h)
     same (negsuc n) k = k
 
 -- what is known of a p-value and a level
-record IsShort (t : Terms) (limit : ℕ) : Type 0 where
-  num : unsigned_abs t.num ≤ limit
-  den : unsigned_abs t.den ≤ limit
-
-p_short : (x : Ratio) → is_p_value x ≡ true → IsShort (terms x) (10 ^ 30)
+pub p_short : (x : Ratio) → is_p_value x ≡ true → IsShort (terms x) (10 ^ 30)
 unfolding is_p_value
 p_short x h =
     let b = both (nat_le (unsigned_abs x.den) (10 ^ 30)) (is_unit (number_of x)) h in
@@ -101,8 +126,8 @@ p_short x h =
     let num = unit_parts x b.right in
     record { num = omega arith; den = den }
 
-record IsLevel (x : Ratio) : Type 0 where
-  short : IsShort (terms x) 10000
+pub record IsLevel (x : Ratio) : Type 0 where
+  pub short : IsShort (terms x) 10000
   positive : at_most (number_of x) number_zero ≡ false
   high : at_most (number_of x) number_one ≡ true
 
@@ -110,7 +135,7 @@ not_false : (b : Bool) → not b ≡ true → b ≡ false
 not_false false h = refl
 not_false true h = absurd (cc)
 
-level_of : (x : Ratio) → is_level x ≡ true → IsLevel x
+pub level_of : (x : Ratio) → is_level x ≡ true → IsLevel x
 unfolding is_level
 level_of x h =
     let a = both (is_within 10000 (terms x)) (not (at_most (number_of x) number_zero) && at_most (number_of x) number_one) h in
@@ -128,27 +153,35 @@ level_nonzero a k e =
     let q : true ≡ false = sym nothing_below ∙ ap (λ z. at_most z number_zero) (sym e) ∙ p in
     cc
 
-pub level_stored_nonzero : (a : Ratio) → is_level a ≡ true → is_zero (fraction_parts a) ≡ false
-level_stored_nonzero a k = elim (true_or_false (is_zero (fraction_parts a))) [
-  | inl z ↦ absurd (level_nonzero a k (sym (value_single (terms a)) ∙ plain_is_exact.is_null (fraction_parts a) (fraction_stored a) z))
+pub stored_nonzero : (a : Ratio) → ¬ (number_of a ≡ number_zero) → is_zero (fraction_parts a) ≡ false
+stored_nonzero a some = elim (true_or_false (is_zero (fraction_parts a))) [
+  | inl z ↦ absurd (some (sym (value_single (terms a)) ∙ plain_is_exact.is_null (fraction_parts a) (fraction_stored a) z))
   | inr n ↦ n
 ]
 
--- a p-value over a level always fits
-pub threshold_fits : (p a : Ratio) → is_p_value p ≡ true → is_level a ≡ true → plain.written Div (fraction_parts p) (fraction_parts a) ≡ None → ⊥
+pub level_stored_nonzero : (a : Ratio) → is_level a ≡ true → is_zero (fraction_parts a) ≡ false
+level_stored_nonzero a k = stored_nonzero a (level_nonzero a k)
+
+-- a p-value over a number with small parts always fits
+pub quotient_fits : (p a : Ratio) (limit : ℕ) → is_p_value p ≡ true → IsShort (terms a) limit → 10 ^ 30 * limit < 2 ^ 127 → plain.written Div (fraction_parts p) (fraction_parts a) ≡ None → ⊥
 unfolding inverse
-threshold_fits p a h k w =
+quotient_fits p a limit h l small w =
     let s = p_short p h in
-    let l = (level_of a k).short in
-    let i = inverse_size a.num a.den 10000 l.num l.den in
-    product_fits (terms p) (inverse (terms a)) (10 ^ 30) 10000 s.num s.den i.0 i.1 (lit< tt) (nothing_mapped single _ w)
+    let i = inverse_size a.num a.den limit l.num l.den in
+    product_fits (terms p) (inverse (terms a)) (10 ^ 30) limit s.num s.den i.0 i.1 small (nothing_mapped single _ w)
+
+pub threshold_fits : (p a : Ratio) → is_p_value p ≡ true → is_level a ≡ true → plain.written Div (fraction_parts p) (fraction_parts a) ≡ None → ⊥
+threshold_fits p a h k w = quotient_fits p a 10000 h (level_of a k).short (lit< tt) w
 
 -- the threshold times the level is the p-value
-pub threshold_times : (p a t : Ratio) → is_level a ≡ true → plain.written Div (fraction_parts p) (fraction_parts a) ≡ Some (fraction_parts t) → number_of t *ε number_of a ≡ number_of p
-threshold_times p a t k e =
-    let quotient = plain_is_exact.exact Div (fraction_parts p) (fraction_parts a) (fraction_parts t) (fraction_stored p) (fraction_stored a) (level_stored_nonzero a k) e in
+pub quotient_times : (p a t : Ratio) → ¬ (number_of a ≡ number_zero) → plain.written Div (fraction_parts p) (fraction_parts a) ≡ Some (fraction_parts t) → number_of t *ε number_of a ≡ number_of p
+quotient_times p a t some e =
+    let quotient = plain_is_exact.exact Div (fraction_parts p) (fraction_parts a) (fraction_parts t) (fraction_stored p) (fraction_stored a) (stored_nonzero a some) e in
     ap (λ z. z *ε number_of a) (sym (value_single (terms t)) ∙ quotient ∙ ap₂ ◌/ε◌ (value_single (terms p)) (value_single (terms a)))
-    ∙ divide_multiply (number_of p) (number_of a) (level_nonzero a k)
+    ∙ divide_multiply (number_of p) (number_of a) some
+
+pub threshold_times : (p a t : Ratio) → is_level a ≡ true → plain.written Div (fraction_parts p) (fraction_parts a) ≡ Some (fraction_parts t) → number_of t *ε number_of a ≡ number_of p
+threshold_times p a t k e = quotient_times p a t (level_nonzero a k) e
 
 level_nonneg : (a : Ratio) → is_level a ≡ true → AtMost number_field number_field.𝟘 (number_of a)
 level_nonneg a k = elim (number_field.le_total number_field.𝟘 (number_of a)) [
@@ -157,10 +190,10 @@ level_nonneg a k = elim (number_field.le_total number_field.𝟘 (number_of a)) 
 ]
 
 -- a threshold is at most a weight exactly where the p-value is at most weight times level
-below_threshold : (p a t w : Number) → t *ε a ≡ p → AtMost number_field number_field.𝟘 a → at_most t w ≡ true → at_most p (w *ε a) ≡ true
+pub below_threshold : (p a t w : Number) → t *ε a ≡ p → AtMost number_field number_field.𝟘 a → at_most t w ≡ true → at_most p (w *ε a) ≡ true
 below_threshold p a t w e n h = subst₂ (λ x y. at_most x y ≡ true) (field_product t a ∙ e) (field_product w a) (mul_le_right number_field t w a n h)
 
-above_threshold : (p a t w : Number) → t *ε a ≡ p → AtMost number_field number_field.𝟘 a → ¬ (a ≡ number_field.𝟘) → at_most p (w *ε a) ≡ true → at_most t w ≡ true
+pub above_threshold : (p a t w : Number) → t *ε a ≡ p → AtMost number_field number_field.𝟘 a → ¬ (a ≡ number_field.𝟘) → at_most p (w *ε a) ≡ true → at_most t w ≡ true
 above_threshold p a t w e n some h =
     let turned : (x : Number) → number_field.◌⊗◌ a x ≡ x *ε a = λ x. number_field.mul_comm a x ∙ field_product x a in
     mul_le_cancel number_field a t w n some (subst₂ (λ x y. at_most x y ≡ true) (sym (turned t ∙ e)) (sym (turned w)) h)

@@ -1,10 +1,10 @@
 -- The laws of drafts and of their spends, as contracts name them.
-use Rattle.std.specs.Prelude.{◌≡◌, ◌↔◌, ℕ, None}
+use Rattle.std.specs.Prelude.{◌≡◌, ◌↔◌, ℕ, true, None}
 use Rattle.case_model.specs.declared.draft.Draft.{Draft}
 use Rattle.case_model.specs.CaseFaults.{case_fault}
 use Rattle.case_model.specs.Content.{Content}
 use Rattle.case_model.specs.Spends.{IsRisingSpend}
-use Rattle.case_model.specs.StagedCase.{spend_in}
+use Rattle.case_model.specs.StagedCase.{has_short_fractions, spend_in}
 use Rattle.case_model.specs.ValidDraft.{IsValidDraft, HasWrittenSums}
 use Rattle.case_model.specs.Validity.{IsValidContent}
 
@@ -15,3 +15,7 @@ DraftsAreFaultlessWhereValid = (d : Draft) → (case_fault d ≡ None) ↔ (IsVa
 -- What is spent in a case isn't below 0, and doesn't fall from step to step.
 abbrev pub SpendsOfCasesRise : Type 0
 SpendsOfCasesRise = (c : Content) (k t : ℕ) → IsValidContent c → IsRisingSpend (spend_in c k) t
+
+-- The fractions that are spent in a case have parts of at most 10,000.
+abbrev pub FractionsOfCasesAreShort : Type 0
+FractionsOfCasesAreShort = (c : Content) (k : ℕ) → IsValidContent c → has_short_fractions (spend_in c k) ≡ true

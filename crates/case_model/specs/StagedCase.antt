@@ -1,8 +1,6 @@
 -- The staged test of a case: what it rejects once some values have arrived.
-use Rattle.std.specs.Prelude.{ℕ, Bool, true, ◌&&◌, List, [], get_or}
+use Rattle.std.specs.Prelude.{ℕ, Bool, true, List, [], get_or}
 use Rattle.std.specs.List.{list_all}
-use Rattle.field_core.specs.Arithmetic.{number_zero}
-use Rattle.field_core.specs.Order.{at_most}
 use Rattle.fraction.specs.View.{number_of}
 use Rattle.field_core.specs.Number.{Number}
 use Rattle.case_model.specs.declared.draft_stages.Arrival.{Arrival}
@@ -28,9 +26,9 @@ spend_at spends k = get_or spends k (Shares [])
 abbrev pub spend_in : Content → ℕ → Spend
 spend_in c = spend_at (spends_in c.inputs)
 
--- each fraction that is spent is at least 0 and has parts of at most 10,000
+-- each fraction that is spent has parts of at most 10,000
 abbrev pub has_short_fractions : Spend → Bool
-has_short_fractions (Shares fs) = list_all (λ f. is_short_level f && at_most number_zero (number_of f)) fs
+has_short_fractions (Shares fs) = list_all is_short_level fs
 has_short_fractions (Table ss) = true
 
 -- how many stages there are

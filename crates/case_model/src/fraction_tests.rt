@@ -1,7 +1,8 @@
 //! Tests of fractions: their signs and ranges, and how long their parts are.
-ghost use Rattle.std.specs.Prelude.{◌≡◌};
+ghost use Rattle.std.specs.Prelude.{◌≡◌, not};
+ghost use Rattle.field_core.specs.Arithmetic.{number_zero};
 ghost use Rattle.fraction.specs.View.{number_of};
-ghost use Rattle.case_model.specs.Draft.{is_unit, is_short_level, is_short, is_short_p_value, is_level_range};
+ghost use Rattle.case_model.specs.Draft.{at_most, is_unit, is_short_level, is_short, is_short_p_value, is_level_range};
 ghost use Rattle.case_model.specs.CaseFaults.{is_below_zero};
 
 use field_core::Number;
@@ -13,6 +14,22 @@ pub fn is_below_zero(x: &Fraction) -> bool
     ensures { result ≡ is_below_zero x.now }
 {
     *x < Fraction::zero()
+}
+
+/// Whether `x` is above 0.
+#[tactic(auto, using(crate::proofs::Comparisons::zero_and_one))]
+pub fn is_above_zero(x: &Fraction) -> bool
+    ensures { result ≡ not (at_most (number_of x.now) number_zero) }
+{
+    *x > Fraction::zero()
+}
+
+/// Whether `x` is at most `y`.
+#[tactic(auto, using(crate::proofs::Comparisons::orders))]
+pub fn is_at_most(x: &Fraction, y: &Fraction) -> bool
+    ensures { result ≡ at_most (number_of x.now) (number_of y.now) }
+{
+    *x <= *y
 }
 
 /// Whether `x` is from 0 to 1.

@@ -23,6 +23,7 @@ mod set_table;
 mod sets;
 mod spend;
 mod spend_step;
+mod stage_levels;
 mod sums;
 
 pub use case::Case;

@@ -4,11 +4,13 @@ ghost use Rattle.std.specs.List.{list_all};
 
 use crate::first_faults::first_fault;
 use crate::fraction_tests::{is_below_zero, is_level_range, is_short_level};
-use crate::spend_step::{falling_level, is_later, weight_before};
+use crate::spend_step::{copied, falling_level, is_later, weight_before};
+use crate::stage_levels::{at_stage, meets_fraction, meets_level, table_level};
 use crate::sums::total_fault;
 use crate::{CaseFault, PartPlace, SpendStep};
-use field_core::{List, Place};
+use field_core::{List, NoMemory, Place};
 use fraction::Fraction;
+use std::alloc::Global;
 
 /// What a hypothesis spends at the stages: a fraction of its level at each, or a table that gives the levels by its weight.
 #[derive(Drop)]
@@ -20,8 +22,44 @@ pub enum Spend {
 }
 
 impl Spend {
-    ghost use Rattle.std.specs.Prelude.{◌≡◌};
+    ghost use Rattle.std.specs.Prelude.{◌≡◌, ◌≤◌, ◌↔◌, IsTrue, IfOk, true};
+    ghost use Rattle.fraction.specs.View.{number_of};
+    ghost use Rattle.case_model.specs.Draft.{is_level, is_p_value};
+    ghost use Rattle.case_model.specs.StagedCase.{has_short_fractions};
+    ghost use Rattle.case_model.specs.StagedTest.{Meets};
     ghost use Rattle.case_model.specs.CaseFaults.{long_fraction, long_step, has_all_stages, too_many_steps, step_order, spend_range, spend_sum};
+
+    /// A spend with the same content, or `NoMemory`.
+    pub fn copy(&self, alloc: Global) -> Result<Spend, NoMemory>
+        ensures { IfOk result (λ spend. spend ≡ self.now) }
+    {
+        match self {
+            Spend::Shares(fractions) => Ok(Spend::Shares(copied(alloc, fractions.as_slice())?)),
+            Spend::Table(steps) => Ok(Spend::Table(SpendStep::copied(alloc, steps.as_slice())?)),
+        }
+    }
+
+    /// Whether a p-value meets the level of a stage, from 1, at a weight: the weight and the level are above 0, and the
+    /// p-value is at most the level. The spend and the level `alpha` are those of a case; `p` is from 0 to 1 with a
+    /// denominator of at most 10^30.
+    pub fn meets(&self, alpha: &Fraction, t: usize, weight: &Fraction, p: &Fraction) -> bool
+        requires spend { has_short_fractions self.now ≡ true }
+        requires alpha { is_level alpha.now ≡ true }
+        requires stage { 1 ≤ t }
+        requires p { is_p_value p.now ≡ true }
+        ensures { IsTrue result ↔ Meets self.now (number_of alpha.now) t (number_of weight.now) (number_of p.now) }
+    {
+        match self {
+            Spend::Shares(fractions) => match at_stage(fractions.as_slice(), t) {
+                Some(fraction) => meets_fraction(&fraction, alpha, weight, p),
+                None => false,
+            },
+            Spend::Table(steps) => match table_level(steps.as_slice(), t, weight) {
+                Some(level) => meets_level(&level, weight, p),
+                None => false,
+            },
+        }
+    }
 
     /// The first fraction with a part above 10,000.
     #[tactic(auto, unfolding(crate::specs::CaseFaults::long_fraction))]

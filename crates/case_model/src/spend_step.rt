@@ -1,5 +1,5 @@
 //! Steps of tables of levels, and the tests of one table.
-ghost use Rattle.std.specs.Prelude.{◌≡◌};
+ghost use Rattle.std.specs.Prelude.{◌≡◌, IfOk};
 ghost use Rattle.std.specs.List.{list_all};
 ghost use Rattle.std.specs.Option.{option_map};
 ghost use Rattle.case_model.specs.Draft.{is_short};
@@ -9,8 +9,9 @@ use crate::CaseFault;
 use crate::first_faults::first_fault;
 use crate::fraction_tests::{is_below_zero, is_short};
 use crate::sums::written_sum;
-use field_core::{List, Number, Place, TooWide};
+use field_core::{List, NoMemory, Number, Place, TooWide};
 use fraction::Fraction;
+use std::alloc::Global;
 
 /// A step of a table of levels: the weight from which it counts, and the level of each stage from there on.
 #[derive(Drop)]
@@ -20,7 +21,7 @@ pub struct SpendStep {
 }
 
 impl SpendStep {
-    ghost use Rattle.std.specs.Prelude.{◌≡◌, ◌&&◌, length};
+    ghost use Rattle.std.specs.Prelude.{◌≡◌, ◌&&◌, length, IfOk};
     ghost use Rattle.std.specs.List.{list_all};
     ghost use Rattle.case_model.specs.Draft.{is_short};
     ghost use Rattle.field_core.specs.declared.place.Op.TheVariants.{Add};
@@ -28,6 +29,27 @@ impl SpendStep {
     ghost use Rattle.field_core.specs.View.{terms};
     ghost use Rattle.case_model.specs.Sums.{ratio_at, written_sum};
     ghost use Rattle.case_model.specs.CaseFaults.{step_sum};
+
+    /// A step with the same content, or `NoMemory`.
+    fn copy(&self, alloc: Global) -> Result<SpendStep, NoMemory>
+        ensures { IfOk result (λ step. step ≡ self.now) }
+    {
+        Ok(SpendStep {
+            from: self.from,
+            levels: copied(alloc, self.levels.as_slice())?,
+        })
+    }
+
+    /// The same steps, or `NoMemory`.
+    pub(crate) fn copied(alloc: Global, steps: &[SpendStep]) -> Result<List<SpendStep>, NoMemory>
+        ensures { IfOk result (λ copies. copies ≡ steps.now) }
+    {
+        let mut all = List::new(alloc);
+        for n in 0..steps.len() {
+            all.push(steps[n].copy(alloc)?)?;
+        }
+        Ok(all)
+    }
 
     /// Whether the parts of its weight and of its levels are at most 10^18.
     pub(crate) fn is_short(&self) -> bool
@@ -61,6 +83,13 @@ impl SpendStep {
             Err(wide) => Some(CaseFault::Wide(wide.at(place).in_component(0))),
         }
     }
+}
+
+/// The same fractions, or `NoMemory`.
+pub fn copied(alloc: Global, fractions: &[Fraction]) -> Result<List<Fraction>, NoMemory>
+    ensures { IfOk result (λ copies. copies ≡ fractions.now) }
+{
+    Ok(List::of(fractions.to_vec(alloc)?))
 }
 
 /// Whether the parts of each fraction are at most 10^18.

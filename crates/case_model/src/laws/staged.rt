@@ -1,12 +1,13 @@
 //! Laws of what hypotheses spend at stages, and of the staged test.
 
-ghost use Rattle.case_model.specs.DraftStatements.{SpendsOfCasesRise};
+ghost use Rattle.case_model.specs.DraftStatements.{SpendsOfCasesRise, FractionsOfCasesAreShort};
 ghost use Rattle.case_model.specs.StagedStatements.{SpendLevelsAreNondecreasing, LastStepsAreReached, TwoStepsGiveTheirLevels, StagedTestsAreMonotone, ArrivalsKeepWhatIsLegal, StagedOrdersDecide, SettlingsExist, SettlingsAreUnique};
 
-/// What is spent in a case isn't below 0, and doesn't fall from step to step.
-#[tactic(auto, using(crate::proofs::SpendsRise::spends_rise))]
+/// What is spent in a case isn't below 0, and doesn't fall from step to step; fractions have parts of at most 10,000.
+#[tactic(auto, using(crate::proofs::SpendsRise::spends_rise, crate::proofs::SpendsRise::spends_short))]
 pub fn spends_of_cases_rise()
-    ensures { SpendsOfCasesRise }
+    ensures rise { SpendsOfCasesRise }
+    ensures short { FractionsOfCasesAreShort }
 {}
 
 /// The level of a stage doesn't fall as the weight grows; in a table it is that of the last step that the weight reaches.
