@@ -5,7 +5,7 @@ use crate::vectors::{
 };
 use crate::{LineKind, TextFault, read_text};
 use case_model::{Case, Entry, Inputs, Refused};
-use field_core::{Number, Text};
+use field_core::Number;
 use fraction::Fraction;
 use std::alloc::Global;
 use std::process::Abort;
@@ -72,19 +72,15 @@ fn the_first_fault_counts(rt: HostRuntime) {
 
 // ---- drafts that are refused
 
-fn expect_names(rt: &impl Abort, names: &[Text], wanted: &[&str]) {
-    assert_eq!(rt; names.len(), wanted.len());
-    for (name, wanted) in names.iter().zip(wanted) {
-        assert_eq!(rt; name.as_bytes(), wanted.as_bytes());
-    }
-}
-
 /// Each line stands, and the draft is refused for its fault, with its names.
 fn expect_refused(rt: &impl Abort, alloc: Global, refused: &RefusedText) {
     match read_text(alloc, refused.text.as_bytes()) {
         Err(TextFault::Case(Refused { names, fault })) => {
             assert_eq!(rt; fault, refused.fault, "{}", refused.text);
-            expect_names(rt, names.as_slice(), refused.names);
+            assert_eq!(rt; names.len(), refused.names.len(), "{}", refused.text);
+            for (name, wanted) in names.iter().zip(refused.names) {
+                assert_eq!(rt; name.as_bytes(), wanted.as_bytes(), "{}", refused.text);
+            }
         }
         _ => assert!(rt; false, "{}", refused.text),
     }
@@ -111,20 +107,14 @@ fn expect_entry(rt: &impl Abort, entry: &Entry, weight: &[Terms]) {
     }
 }
 
-/// The weight of the edge with these ends, 0 where it isn't listed.
-fn listed(edges: &[Edge], from: usize, to: usize) -> &'static [Terms] {
-    match edges.iter().find(|edge| edge.0 == from && edge.1 == to) {
-        Some(edge) => edge.2,
-        None => &[],
-    }
-}
-
-/// A whole table of edges of a component.
+/// A whole table of edges of a component, with 0 where none is listed.
 fn expect_edges(rt: &impl Abort, case: &Case, c: usize, edges: &[Edge]) {
     assert!(rt; c < case.components());
     for i in 0..case.size() {
         for j in 0..case.size() {
-            expect_entry(rt, case.edge(c, i, j), listed(edges, i, j));
+            let listed = edges.iter().find(|edge| (edge.0, edge.1) == (i, j));
+            let weight = listed.map(|edge| edge.2).unwrap_or_default();
+            expect_entry(rt, case.edge(c, i, j), weight);
         }
     }
 }
