@@ -44,6 +44,7 @@ pub mod SingleInputs
 pub mod SpendLevels
 pub mod SpendsRise
 pub mod StageLevels
+pub mod StageShapes
 pub mod StageValidity
 pub mod StagedTests
 pub mod SumSteps

@@ -1,25 +1,13 @@
--- Fractions of the same terms are the same.
+-- Terms and fractions by their stored parts, alone and in lists.
 use Rattle.std.proofs.Common.{◌≡◌, refl, ap, ap₂, ℕ, zero, suc, List, [], ◌∷◌, map}
-use Rattle.std.proofs.Props.{props}
-use mathlib.Core.HLevel.{Σ_prop_path}
-use Rattle.field_core.specs.Terms.{Terms, IsReduced}
+use Rattle.field_core.specs.Terms.{Terms}
 use Rattle.field_core.specs.View.{terms}
 use Rattle.field_core.specs.Kind.{Parts}
 use Rattle.field_core.specs.LimitParts.{first}
 use Rattle.field_core.specs.declared.ratio.Ratio.{Ratio}
+use Rattle.fraction.proofs.SameRatios.{same_ratio}
 use Rattle.fraction.specs.Plain.{plain, single, fraction_parts}
 use Rattle.case_model.specs.Sums.{zero_terms, zero_ratio, terms_at, ratio_at}
-
-reduced_is_fact : (t : Terms) → IsProp (IsReduced t)
-reduced_is_fact t = hlevel props
-
-abbrev with_fact : ((t : Terms) × IsReduced t) → Ratio
-with_fact p = record { num = p.0.num; den = p.0.den; valid = p.1 }
-
-pub same_ratio : (x y : Ratio) → terms x ≡ terms y → x ≡ y
-same_ratio x y e =
-    let both : ◌≡◌ {A = (t : Terms) × IsReduced t} (terms x, x.valid) (terms y, y.valid) = Σ_prop_path reduced_is_fact e in
-    ap with_fact both
 
 pub from_single : (s t : Terms) → single s ≡ single t → s ≡ t
 from_single s t e = ap₂ (λ n d. record { num = n; den = d }) (ap (λ (p : Parts). first p.numerator) e) (ap (λ (p : Parts). first p.denominator) e)

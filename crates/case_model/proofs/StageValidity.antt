@@ -22,8 +22,8 @@ use Rattle.case_model.specs.declared.spend_step.SpendStep.{SpendStep}
 use Rattle.case_model.specs.declared.fault.CaseFault.{CaseFault}
 use Rattle.case_model.specs.declared.fault.CaseFault.TheVariants.{PartTooLong, SpendCount, StepOrder, SpendRange, ArrivalStage, ArrivalRepeated, ArrivalRange}
 use Rattle.case_model.specs.declared.fault.PartPlace.TheVariants.{Spend as SpendPart, Step, Arrival as ArrivalPart}
-use Rattle.case_model.specs.Draft.{is_unit, is_short, is_short_level, is_short_p_value, is_level_range, is_of}
-use Rattle.case_model.specs.CaseFaults.{◌or◌, ◌when◌, first_of, is_below_zero, bound_fault, long_fraction, long_step, long_arrival, long_stage_part, no_stage, too_many_stages, has_all_stages, spend_count, too_many_steps, step_before, is_later, step_order, is_lower, level_of, falling_level, spend_range, sum_and_bound_fault, step_sum, spend_sum, spends_fault, is_stage, arrival_stage, repeated_arrival, arrival_repeated, arrival_range, arrivals_fault, stages_fault}
+use Rattle.case_model.specs.Draft.{is_unit, is_short, is_short_level, is_short_p_value, is_level_range, is_of, is_stage}
+use Rattle.case_model.specs.CaseFaults.{◌or◌, ◌when◌, first_of, is_below_zero, bound_fault, long_fraction, long_step, long_arrival, long_stage_part, no_stage, too_many_stages, has_all_stages, spend_count, too_many_steps, step_before, is_later, step_order, is_lower, level_of, falling_level, spend_range, sum_and_bound_fault, step_sum, spend_sum, spends_fault, arrival_stage, repeated_arrival, arrival_repeated, arrival_range, arrivals_fault, stages_fault}
 use Rattle.case_model.specs.ValidDraft.{Each, IsNonneg, SumsTo, AreValidShares, IsValidTable, IsValidSpend, AreValidStages, CanSum, CanSumSpend}
 use Rattle.case_model.proofs.Holding.{Both, both}
 use Rattle.case_model.proofs.NoFaults.{neither, no_when, no_unless, not_false}
@@ -179,7 +179,7 @@ same_place a b = Decides-and (a.hypothesis == b.hypothesis) (a.stage == b.stage)
 stage_within : (count t : ℕ) → is_stage count t ≡ true → (1 ≤ t) × (t ≤ count)
 stage_within count t h = let b = both (nat_le 1 t) (nat_le t count) h in (grind (arith, nat_tests, b.left), grind (arith, nat_tests, b.right))
 
-within_stage : (count t : ℕ) → 1 ≤ t → t ≤ count → is_stage count t ≡ true
+pub within_stage : (count t : ℕ) → 1 ≤ t → t ≤ count → is_stage count t ≡ true
 within_stage count t h k = all_of (nat_le 1 t) (nat_le t count) (grind (arith, nat_tests)) (grind (arith, nat_tests))
 
 module _ (m : ℕ) (alpha : Ratio) (s : DraftStages) where

@@ -24,7 +24,7 @@ use Rattle.field_core.proofs.Chains.{chain_valid}
 use Rattle.field_core.proofs.EqualShares.{equal_valid}
 use Rattle.field_core.specs.Graph.{Graph}
 
-low : (x : Number) → number_zero ≤ε x → AtMost number_field number_field.𝟘 x
+pub low : (x : Number) → number_zero ≤ε x → AtMost number_field number_field.𝟘 x
 low x h = subst (λ z. z ≤ε x) (sym field_zero) h
 
 high : (x : Number) → x ≤ε number_one → AtMost number_field x number_field.𝟙

@@ -33,7 +33,7 @@ use Rattle.case_model.specs.declared.draft_edge.DraftEdge.{DraftEdge}
 use Rattle.case_model.specs.declared.component.Component.{Component}
 use Rattle.case_model.specs.Sums.{ratio_at, number_at, written_sum}
 use Rattle.case_model.specs.Entries.{entry_value, entry_at, is_zero_entry}
-use Rattle.case_model.specs.Draft.{at_most, is_unit, is_name, is_short_level, is_short, is_short_p_value, is_level_range, has_ends, is_of}
+use Rattle.case_model.specs.Draft.{at_most, is_unit, is_name, is_short_level, is_short, is_short_p_value, is_level_range, has_ends, is_of, is_stage}
 use Rattle.case_model.specs.Content.{content_of}
 
 -- ---- first faults
@@ -366,10 +366,6 @@ unfoldable pub spends_fault : ℕ → ℕ → Ratio → List Spend → Option Ca
 spends_fault m count alpha spends = spend_count m count spends or first_of too_many_steps spends or first_of step_order spends or first_of spend_range spends or first_of (spend_sum alpha) spends
 
 -- ---- the p-values that arrived
-
--- one of so many stages, counted from 1
-abbrev pub is_stage : ℕ → ℕ → Bool
-is_stage count t = nat_le 1 t && nat_le t count
 
 -- the first arrival at what is no stage
 unfoldable pub arrival_stage : ℕ → List Arrival → Option CaseFault

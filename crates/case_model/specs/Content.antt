@@ -1,5 +1,5 @@
 -- What a case holds, the content that a draft stands for, and the entangled graph, the p-values and the level of a content.
-use Rattle.std.specs.Prelude.{ℕ, ◌*◌, ◌/◌, ◌%◌, Bool, List, [], Option, Some, None, map, length, get_or, if◌then◌else◌, is_some}
+use Rattle.std.specs.Prelude.{◌≡◌, ◌≤◌, ◌&&◌, true, ℕ, ◌*◌, ◌/◌, ◌%◌, Bool, List, [], Option, Some, None, map, length, get_or, if◌then◌else◌, is_some}
 use Rattle.std.specs.Option.{option_map_or}
 use Rattle.std.specs.List.{list_any, list_all, find, filter_map, range_with_len}
 use Rattle.field_core.specs.Number.{Number}
@@ -11,12 +11,13 @@ use Rattle.case_model.specs.declared.draft_component.DraftComponent.{DraftCompon
 use Rattle.case_model.specs.declared.draft_edge.DraftEdge.{DraftEdge}
 use Rattle.case_model.specs.declared.component.Component.{Component}
 use Rattle.case_model.specs.declared.draft_stages.DraftStages.{DraftStages}
+use Rattle.case_model.specs.declared.draft_stages.Arrival.{Arrival}
 use Rattle.case_model.specs.declared.inputs.Stages.{Stages}
 use Rattle.case_model.specs.declared.inputs.Inputs.{Inputs}
 use Rattle.case_model.specs.declared.inputs.Inputs.TheVariants.{Bare, Single, Staged}
 use Rattle.case_model.specs.Sums.{number_at, zero_ratio}
 use Rattle.case_model.specs.Entries.{entry_value, entry_at, no_edge, is_plain_entry}
-use Rattle.case_model.specs.Draft.{has_ends}
+use Rattle.case_model.specs.Draft.{has_ends, arrives_among, is_stage, is_p_value}
 use Rattle.case_model.specs.EntangledGraph.{EntangledGraph}
 use Rattle.case_model.specs.ClosedTest.{IsRejected}
 
@@ -95,6 +96,23 @@ abbrev pub IfSingle : Inputs → (List Ratio → Type 0) → Type 0
 IfSingle (Single ps) P = P ps
 IfSingle Bare P = Unit {0}
 IfSingle (Staged s) P = Unit {0}
+
+-- an arrival is of one of `m` hypotheses at one of so many stages, counted from 1, and its p-value is from 0 to 1 with a denominator of at most 10^30
+abbrev pub is_arrival : ℕ → ℕ → Arrival → Bool
+is_arrival m count a = arrives_among m a && is_stage count a.stage && is_p_value a.p
+
+-- the stages of a case of `m` hypotheses
+pub record AreStages (m : ℕ) (s : Stages) : Type 0 where
+  pub some : 1 ≤ s.count
+  pub few : s.count ≤ 12
+  pub spends : length s.spend ≡ m
+  pub arrivals : list_all (is_arrival m s.count) s.arrivals ≡ true
+
+-- a fact of stages, where there are some
+abbrev pub IfStaged : Inputs → (Stages → Type 0) → Type 0
+IfStaged (Staged s) P = P s
+IfStaged Bare P = Unit {0}
+IfStaged (Single ps) P = Unit {0}
 
 -- a fact of single p-values; it doesn't hold where there are none, or stages
 abbrev pub ForSingle : Inputs → (List Ratio → Type 0) → Type 0

@@ -21,7 +21,7 @@ impl Case {
     ghost use Rattle.case_model.specs.Sums.{ratio_at};
     ghost use Rattle.case_model.specs.Entries.{entry_at};
     ghost use Rattle.case_model.specs.Draft.{is_level, ArePValues};
-    ghost use Rattle.case_model.specs.Content.{component_at, IfSingle, is_plain};
+    ghost use Rattle.case_model.specs.Content.{component_at, IfSingle, IfStaged, AreStages, is_plain};
     ghost use Rattle.case_model.specs.Names.{position_of};
     ghost use Rattle.case_model.specs.Validity.{IsValidContent};
     ghost use Rattle.case_model.specs.CaseView.{content};
@@ -138,10 +138,12 @@ impl Case {
         self.component(c).edges.as_slice()
     }
 
-    /// The p-values. Where there are single ones, there is one for each hypothesis, from 0 to 1.
+    /// The p-values. Where there are single ones, there is one for each hypothesis, from 0 to 1. Where there are stages, there
+    /// are 1 to 12, each hypothesis spends at them, and each arrival is of a hypothesis and one of the stages.
     pub fn inputs(&self) -> &Inputs
         ensures inputs { result.now ≡ (content self.now).inputs }
         ensures p_values { IfSingle result.now (ArePValues (length (content self.now).names)) }
+        ensures stages { IfStaged result.now (AreStages (length (content self.now).names)) }
     {
         &self.inputs
     }

@@ -45,6 +45,10 @@ pub use spend_step::SpendStep;
 #[cfg(test)]
 mod samples;
 #[cfg(test)]
+mod stage_samples;
+#[cfg(test)]
+mod stage_tests;
+#[cfg(test)]
 mod tests;
 #[cfg(test)]
 mod vectors;

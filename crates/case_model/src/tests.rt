@@ -12,11 +12,11 @@ use std::test::Fail;
 
 // ---- drafts of samples
 
-fn fraction(terms: Terms) -> Result<Fraction, FractionFault> {
+pub fn fraction(terms: Terms) -> Result<Fraction, FractionFault> {
     Fraction::new(terms.0, terms.1)
 }
 
-fn fractions(alloc: Global, all: &[Terms]) -> Result<List<Fraction>, Fail> {
+pub fn fractions(alloc: Global, all: &[Terms]) -> Result<List<Fraction>, Fail> {
     let mut list = List::new(alloc);
     for terms in all {
         list.push(fraction(*terms)?)?;
@@ -24,7 +24,7 @@ fn fractions(alloc: Global, all: &[Terms]) -> Result<List<Fraction>, Fail> {
     Ok(list)
 }
 
-fn p_values(alloc: Global, all: &[Option<Terms>]) -> Result<List<Option<Fraction>>, Fail> {
+pub fn p_values(alloc: Global, all: &[Option<Terms>]) -> Result<List<Option<Fraction>>, Fail> {
     let mut list = List::new(alloc);
     for p in all {
         let p = match p {
@@ -80,7 +80,7 @@ fn draft_components(alloc: Global, parts: &[Part]) -> Result<List<DraftComponent
     Ok(list)
 }
 
-fn draft_of(alloc: Global, sample: &Sample) -> Result<Draft, Fail> {
+pub fn draft_of(alloc: Global, sample: &Sample) -> Result<Draft, Fail> {
     Ok(Draft {
         names: texts(alloc, sample.names)?,
         alpha: fraction(sample.alpha)?,
@@ -92,7 +92,7 @@ fn draft_of(alloc: Global, sample: &Sample) -> Result<Draft, Fail> {
 
 // ---- finished drafts
 
-fn finish(rt: &impl Abort, alloc: Global, draft: Draft) -> Result<Case, Refused> {
+pub fn finish(rt: &impl Abort, alloc: Global, draft: Draft) -> Result<Case, Refused> {
     assert!(rt; draft.has_known_ends());
     assert!(rt; draft.has_known_arrivals());
     draft.finish(alloc)
@@ -229,7 +229,7 @@ fn the_first_fault_counts(rt: HostRuntime) -> Result<(), Fail> {
 // ---- cases
 
 /// The fraction has these terms.
-fn expect_fraction(rt: &impl Abort, found: Fraction, terms: Terms) {
+pub fn expect_fraction(rt: &impl Abort, found: Fraction, terms: Terms) {
     assert_eq!(rt; Some(found), fraction(terms).ok());
 }
 
