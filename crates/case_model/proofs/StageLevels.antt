@@ -1,5 +1,5 @@
 -- The levels of stages: when a p-value meets them, and the last step that a weight reaches.
-use Rattle.std.proofs.Common.{◌≡◌, refl, sym, ap, subst, ◌∙◌, ℕ, zero, suc, ◌-◌, inl, inr, List, [], ◌∷◌, drop, length, slice_get, Bool, true, false, not, ◌&&◌, Option, Some, None, arith}
+use Rattle.std.proofs.Common.{◌≡◌, refl, sym, ap, subst, ◌∙◌, ℕ, zero, suc, ◌-◌, ◌≤◌, inl, inr, List, [], ◌∷◌, drop, length, slice_get, Bool, true, false, not, ◌&&◌, Option, Some, None, arith}
 use Rattle.std.proofs.Math.Seq.{drop-length}
 use Rattle.std.proofs.lemmas.Option.{get_or_from_slice_get}
 use Rattle.field_core.proofs.Live.{true_not_false}
@@ -109,14 +109,19 @@ no_item [] i e = zero_is zero_ratio refl
 no_item (x ∷ xs) zero e = absurd (let q : Path (Option Ratio) None (Some x) = e in cc)
 no_item (x ∷ xs) (suc i) e = no_item xs i e
 
-module _ (s : Spend) (alpha : Number) (t : ℕ) (u : Number) where
+-- a stage is counted from 1
+stage_at : (xs : List Ratio) (t : ℕ) → 1 ≤ t → stage_number xs t ≡ number_at xs (t - 1)
+stage_at xs zero h = absurd (omega (arith, h))
+stage_at xs (suc t) h = let e : t ≡ suc t - 1 = omega arith in ap (number_at xs) e
+
+module _ (s : Spend) (alpha : Number) (t : ℕ) (from_one : 1 ≤ t) (u : Number) where
   pub shares_level : (fs : List Ratio) (x : Ratio) → s ≡ Shares fs → Some x ≡ slice_get fs (t - 1) → (number_of x *ε u) *ε alpha ≡ spend_level s alpha t u
   unfolding spend_level
-  shares_level fs x is e = sym (ap (λ s. spend_level s alpha t u) is ∙ ap (λ n. (n *ε u) *ε alpha) (item_at fs (t - 1) x e))
+  shares_level fs x is e = sym (ap (λ s. spend_level s alpha t u) is ∙ ap (λ n. (n *ε u) *ε alpha) (stage_at fs t from_one ∙ item_at fs (t - 1) x e))
 
   pub no_share : (fs : List Ratio) → s ≡ Shares fs → None ≡ slice_get fs (t - 1) → spend_level s alpha t u ≡ number_zero
   unfolding spend_level
-  no_share fs is e = let nothing : (number_zero *ε u) *ε alpha ≡ number_zero = simp number_laws in ap (λ s. spend_level s alpha t u) is ∙ ap (λ n. (n *ε u) *ε alpha) (no_item fs (t - 1) e) ∙ nothing
+  no_share fs is e = let nothing : (number_zero *ε u) *ε alpha ≡ number_zero = simp number_laws in ap (λ s. spend_level s alpha t u) is ∙ ap (λ n. (n *ε u) *ε alpha) (stage_at fs t from_one ∙ no_item fs (t - 1) e) ∙ nothing
 
   pub step_level : (ss : List SpendStep) (x : Ratio) → s ≡ Table ss → Some x ≡ option_and_then (λ s. slice_get s.levels (t - 1)) (last_step ss u) → number_of x ≡ spend_level s alpha t u
   unfolding spend_level
@@ -124,7 +129,7 @@ module _ (s : Spend) (alpha : Number) (t : ℕ) (u : Number) where
     where
       go : (o : Option SpendStep) → Some x ≡ option_and_then (λ s. slice_get s.levels (t - 1)) o → number_of x ≡ option_map_or (λ s. stage_number s.levels t) o number_zero
       go None e = absurd (let q : Path (Option Ratio) (Some x) None = e in cc)
-      go (Some y) e = sym (item_at y.levels (t - 1) x e)
+      go (Some y) e = sym (stage_at y.levels t from_one ∙ item_at y.levels (t - 1) x e)
 
   pub no_step : (ss : List SpendStep) → s ≡ Table ss → None ≡ option_and_then (λ s. slice_get s.levels (t - 1)) (last_step ss u) → spend_level s alpha t u ≡ number_zero
   unfolding spend_level
@@ -132,4 +137,4 @@ module _ (s : Spend) (alpha : Number) (t : ℕ) (u : Number) where
     where
       go : (o : Option SpendStep) → None ≡ option_and_then (λ s. slice_get s.levels (t - 1)) o → option_map_or (λ s. stage_number s.levels t) o number_zero ≡ number_zero
       go None e = refl
-      go (Some y) e = no_item y.levels (t - 1) e
+      go (Some y) e = stage_at y.levels t from_one ∙ no_item y.levels (t - 1) e
