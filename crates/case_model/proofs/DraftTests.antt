@@ -1,5 +1,5 @@
 -- A row of tests finds nothing exactly where it finds nothing at any place.
-use Rattle.std.proofs.Common.{◌≡◌, ◌≢◌, ◌⊎◌, inl, inr, refl, sym, ap, ap₂, ◌∙◌, ℕ, zero, suc, ◌+◌, ◌-◌, ◌<◌, ◌≤◌, List, [], ◌∷◌, length, take, get_or, slice_get, map, is_some, Bool, true, false, not, ◌&&◌, ◌||◌, Option, Some, None, Result, Ok, Err, arith}
+use Rattle.std.proofs.Common.{◌≡◌, ◌≢◌, refl, sym, ap, ◌∙◌, ℕ, zero, suc, ◌+◌, ◌<◌, List, [], ◌∷◌, take, slice_get, map, is_some, Bool, true, false, not, ◌&&◌, ◌||◌, Option, Some, None, Result, Ok, Err, arith}
 use Rattle.std.proofs.lemmas.Option.{slice_get_within, get_or_from_slice_get, slice_get-map}
 use Rattle.std.specs.List.{list_all, list_any}
 use Rattle.std.specs.Option.{option_map}
@@ -8,8 +8,8 @@ use Rattle.field_core.specs.Order.{at_most}
 use Rattle.field_core.specs.declared.place.WideAt.{WideAt}
 use Rattle.case_model.specs.declared.fault.CaseFault.{CaseFault}
 use Rattle.case_model.specs.CaseFaults.{◌or◌, ◌when◌, first_from, first_of, first_below, bound_fault}
-use Rattle.case_model.specs.ValidDraft.{Each, EachTwo}
-use Rattle.case_model.proofs.NoFaults.{neither, no_when, no_unless, not_false, no_first, no_below}
+use Rattle.case_model.specs.ValidDraft.{Each}
+use Rattle.case_model.proofs.NoFaults.{no_unless, no_first}
 use Rattle.case_model.proofs.Holding.{both}
 
 pub none_or : (a b : Option CaseFault) → a ≡ None → b ≡ None → (a or b) ≡ None

@@ -1,20 +1,16 @@
 -- A draft has no fault exactly where it is valid and its written sums are defined.
-use Rattle.std.proofs.Common.{◌≡◌, ◌≢◌, ◌⊎◌, inl, inr, refl, sym, ap, ap₂, subst, ◌∙◌, ℕ, zero, suc, ◌+◌, ◌-◌, ◌<◌, ◌≤◌, ◌==◌, List, [], ◌∷◌, length, map, take, get_or, slice_get, nat_lt, nat_le, Bool, true, false, not, ◌&&◌, ◌||◌, Option, Some, None, Result, Ok, Err, is_some, is_none, if◌then◌else◌, arith}
+use Rattle.std.proofs.Common.{◌≡◌, ◌≢◌, ◌⊎◌, inl, inr, refl, sym, ap, subst, ◌∙◌, ℕ, ◌<◌, ◌==◌, List, length, map, take, slice_get, nat_lt, Bool, true, false, not, ◌&&◌, ◌||◌, Option, Some, None, Err, is_some, is_none, if◌then◌else◌, arith}
 use Rattle.std.proofs.lemmas.Bool.Decides.{nat_tests, Decides-eqb, Decides-and, not_from_Decides, eqb_tells}
 use Rattle.std.proofs.lemmas.Option.{slice_get_within, get_or_from_slice_get}
 use Rattle.std.proofs.lemmas.Slice.Eq.{bytes_eq-Decides}
 use Rattle.std.specs.Bool.{Decides}
 use Rattle.std.specs.List.{list_all, list_any}
-use Rattle.std.specs.Option.{option_and_then}
 use Rattle.std.specs.Str.{bytes_eq}
 use Rattle.field_core.proofs.Live.{true_or_false, true_not_false}
-use Rattle.field_core.specs.Arithmetic.{number_zero, number_one, ◌*ε◌}
+use Rattle.field_core.specs.Arithmetic.{number_zero, number_one}
 use Rattle.field_core.specs.Number.{Number}
-use Rattle.field_core.specs.NumberField.{number_field}
 use Rattle.field_core.specs.Order.{◌≤ε◌, at_most}
 use Rattle.field_core.specs.Steps.{at, in_component}
-use Rattle.field_core.specs.Sums.{sum_below}
-use Rattle.field_core.specs.View.{terms}
 use Rattle.field_core.specs.declared.place.Op.{Op}
 use Rattle.field_core.specs.declared.place.Place.{Place}
 use Rattle.field_core.specs.declared.place.WideAt.{WideAt}
@@ -23,23 +19,20 @@ use Rattle.fraction.specs.View.{number_of}
 use Rattle.case_model.specs.declared.draft.Draft.{Draft}
 use Rattle.case_model.specs.declared.draft_component.DraftComponent.{DraftComponent}
 use Rattle.case_model.specs.declared.draft_edge.DraftEdge.{DraftEdge}
-use Rattle.case_model.specs.declared.draft_stages.DraftStages.{DraftStages}
-use Rattle.case_model.specs.declared.draft_stages.Arrival.{Arrival}
 use Rattle.case_model.specs.declared.fault.CaseFault.{CaseFault}
-use Rattle.case_model.specs.declared.fault.CaseFault.TheVariants.{NameForm, DuplicateName, PartTooLong, ShareRange, WeightCount, WeightRange, SelfEdge, RepeatedEdge, EdgeRange, RowSum, PMissing, PRange, ArrivalRepeated}
+use Rattle.case_model.specs.declared.fault.CaseFault.TheVariants.{NameForm, DuplicateName, PartTooLong, ShareRange, WeightCount, WeightRange, SelfEdge, RepeatedEdge, EdgeRange, RowSum, PMissing, PRange}
 use Rattle.case_model.specs.declared.fault.PartPlace.TheVariants.{Share, Weight, Edge, P}
 use Rattle.case_model.specs.Content.{table_of, tabled}
 use Rattle.std.proofs.Math.Bool.{and-false}
-use Rattle.case_model.specs.Sums.{ratio_at, number_at, written_sum}
 use Rattle.case_model.specs.Entries.{entry_value, entry_at, is_zero_entry}
-use Rattle.case_model.specs.Draft.{is_name, is_unit, is_short, is_short_level, is_short_p_value, is_level_range, has_ends, is_of}
-use Rattle.case_model.specs.CaseFaults.{◌or◌, ◌when◌, first_of, no_hypothesis, too_many, name_form, repeated_name, duplicate_name, names_fault, total_fault, is_self_edge, self_edge, repeated_edge, edge_range, edges_fault, long_share, long_weight, long_edge, long_p_value, is_long_p_value, share_range, share_sum, shares_fault, weight_count, weight_range, weight_sum, weights_fault, written_row, row_sum, component_rows, rows_fault, p_count, p_missing, p_range, is_outside, p_values_fault, case_fault}
-use Rattle.case_model.specs.ValidDraft.{Each, EachTwo, EachNext, IsNonneg, IsUnit, IsAboveZero, SumsTo, AreValidNames, IsValidComponent, AreValidPlaces, IsValidDraft, HasWrittenSums, CanSum}
+use Rattle.case_model.specs.Draft.{is_name, is_unit, is_short, is_short_p_value, is_level_range, has_ends}
+use Rattle.case_model.specs.CaseFaults.{◌or◌, ◌when◌, first_of, no_hypothesis, too_many, name_form, duplicate_name, names_fault, total_fault, is_self_edge, self_edge, repeated_edge, edge_range, edges_fault, long_share, long_weight, long_edge, long_p_value, is_long_p_value, share_range, share_sum, shares_fault, weight_count, weight_range, weight_sum, weights_fault, written_row, row_sum, component_rows, rows_fault, p_count, p_missing, p_range, is_outside, p_values_fault, case_fault}
+use Rattle.case_model.specs.ValidDraft.{Each, EachTwo, IsAboveZero, SumsTo, AreValidNames, IsValidComponent, AreValidPlaces, IsValidDraft, HasWrittenSums, CanSum}
 use Rattle.case_model.proofs.NoFaults.{neither, no_when, not_false, no_below}
 use Rattle.case_model.proofs.Holding.{both}
 use Rattle.case_model.proofs.ValidDrafts.{GoodComponent, good_component, edges, rows_none}
 use Rattle.case_model.proofs.Faultless.{good_names, content_of-components}
-use Rattle.case_model.proofs.DraftTests.{mapped_none, none_mapped, some_given, given_at, none_or, when_false, unless_true, each_none, none_each, below_each, passing, none_failing, all_each, each_all, none_before, before_none, can_write, within_bound}
+use Rattle.case_model.proofs.DraftTests.{mapped_none, none_mapped, some_given, given_at, none_or, when_false, each_none, none_each, below_each, passing, none_failing, all_each, each_all, none_before, before_none, can_write, within_bound}
 
 pub false_from : {P : Type 0} (r : Bool) → Decides r P → ¬ P → r ≡ false
 false_from r d n = elim (true_or_false r) [ inl t ↦ absurd (n (d.0 t)) | inr f ↦ f ]

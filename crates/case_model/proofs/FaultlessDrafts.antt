@@ -1,16 +1,14 @@
 -- A draft has no fault exactly where it is valid and its written sums are defined.
-use Rattle.std.proofs.Common.{◌≡◌, refl, sym, ap, ◌∙◌, ℕ, ◌==◌, ◌<◌, ◌≤◌, List, length, map, nat_lt, Bool, true, false, not, ◌&&◌, Option, Some, None, is_some, arith}
+use Rattle.std.proofs.Common.{◌≡◌, refl, sym, ap, ◌∙◌, ℕ, ◌==◌, length, map, nat_lt, false, not, ◌&&◌, Option, Some, None, is_some, arith}
 use Rattle.std.proofs.lemmas.Bool.Decides.{nat_tests, Decides-eqb}
 use Rattle.std.specs.Option.{option_and_then}
-use Rattle.field_core.specs.declared.ratio.Ratio.{Ratio}
 use Rattle.case_model.specs.declared.draft.Draft.{Draft}
 use Rattle.case_model.specs.declared.draft_stages.DraftStages.{DraftStages}
-use Rattle.case_model.specs.declared.draft_component.DraftComponent.{DraftComponent}
 use Rattle.case_model.specs.declared.fault.CaseFault.{CaseFault}
 use Rattle.case_model.specs.declared.fault.CaseFault.TheVariants.{Mixed}
 use Rattle.case_model.specs.Draft.{is_short_level, is_level_range, is_level}
 use Rattle.case_model.specs.Content.{content_of, tabled}
-use Rattle.case_model.specs.CaseFaults.{◌or◌, ◌when◌, first_of, names_fault, no_component, too_many_components, components_fault, part_too_long, long_alpha, long_share, long_weight, long_edge, long_p_value, long_stage_part, alpha_range, share_sum, shares_fault, weight_sum, weights_fault, edges_fault, rows_fault, mixed, p_values_fault, stages_fault, fault_before_edges, early_fault, late_fault, case_fault}
+use Rattle.case_model.specs.CaseFaults.{first_of, names_fault, no_component, too_many_components, components_fault, part_too_long, long_alpha, long_share, long_weight, long_edge, long_p_value, long_stage_part, alpha_range, share_sum, shares_fault, weight_sum, weights_fault, edges_fault, rows_fault, mixed, p_values_fault, stages_fault, fault_before_edges, early_fault, late_fault, case_fault}
 use Rattle.case_model.specs.ValidDraft.{IsValidDraft, HasWrittenSums}
 use Rattle.case_model.proofs.Holding.{both}
 use Rattle.case_model.proofs.NoFaults.{neither, no_when, not_false}

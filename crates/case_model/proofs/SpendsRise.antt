@@ -1,8 +1,7 @@
 -- What is spent in a case isn't below 0, and doesn't fall from step to step; and its fractions have short parts.
-use Rattle.std.proofs.Common.{◌≡◌, refl, sym, ap, subst, ◌∙◌, ℕ, zero, suc, ◌+◌, ◌-◌, ◌<◌, List, [], ◌∷◌, length, get_or, slice_get, Bool, true, false, cond, Option, Some, None, is_some, inl, inr, arith}
+use Rattle.std.proofs.Common.{◌≡◌, refl, sym, ap, subst, ◌∙◌, ℕ, zero, suc, ◌+◌, ◌-◌, List, [], ◌∷◌, length, slice_get, Bool, true, false, cond, Option, Some, None, is_some, arith}
 use mathlib.Core.Bool.{Bool-set}
 use Rattle.std.proofs.Math.Logic.{∥∥₁_elim}
-use Rattle.std.proofs.lemmas.Option.{slice_get_cases, get_or_from_slice_get}
 use Rattle.std.specs.List.{list_any}
 use Rattle.field_core.specs.Arithmetic.{number_zero}
 use Rattle.field_core.specs.Number.{Number}

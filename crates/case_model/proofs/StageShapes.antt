@@ -1,5 +1,5 @@
 -- What is known of the stages of a case.
-use Rattle.std.proofs.Common.{◌≡◌, refl, sym, ap, subst, ◌∙◌, ℕ, zero, suc, List, [], ◌∷◌, length, slice_get, nat_lt, nat_le, Bool, true, false, ◌&&◌, Option, Some, None, is_some, cond}
+use Rattle.std.proofs.Common.{◌≡◌, refl, sym, ap, subst, ◌∙◌, ℕ, length, Bool, true, false, ◌&&◌, Option, Some, None, is_some, cond}
 use mathlib.Core.Bool.{Bool-set}
 use native.Mathlib.Nat.{ℕ_set}
 use native.Mathlib.Bridge.{le_prop}
@@ -10,11 +10,10 @@ use Rattle.field_core.specs.declared.ratio.Ratio.{Ratio}
 use Rattle.fraction.specs.View.{number_of}
 use Rattle.case_model.specs.declared.draft.Draft.{Draft}
 use Rattle.case_model.specs.declared.draft_stages.DraftStages.{DraftStages}
-use Rattle.case_model.specs.declared.draft_stages.Arrival.{Arrival}
 use Rattle.case_model.specs.declared.inputs.Stages.{Stages}
 use Rattle.case_model.specs.declared.inputs.Inputs.{Inputs}
 use Rattle.case_model.specs.declared.inputs.Inputs.TheVariants.{Bare, Single, Staged}
-use Rattle.case_model.specs.Draft.{arrives_among, have_known_arrivals, is_unit, is_short_p_value, is_p_value, is_stage}
+use Rattle.case_model.specs.Draft.{arrives_among, have_known_arrivals, is_short_p_value, is_p_value, is_stage}
 use Rattle.case_model.specs.Content.{Content, content_of, inputs_of, given, stages_of, is_arrival, AreStages, IfStaged}
 use Rattle.case_model.specs.CaseFaults.{case_fault}
 use Rattle.case_model.specs.ValidDraft.{AreValidStages}

@@ -1,12 +1,12 @@
 -- The stages of a draft have no fault exactly where they are valid and their written sums are defined.
-use Rattle.std.proofs.Common.{◌≡◌, ◌≢◌, ◌⊎◌, inl, inr, refl, sym, ap, subst, ◌∙◌, ℕ, zero, suc, ◌+◌, ◌-◌, ◌<◌, ◌≤◌, ◌==◌, List, length, take, slice_get, nat_lt, nat_le, Bool, true, false, not, ◌&&◌, ◌||◌, Option, Some, None, Result, Ok, Err, if◌then◌else◌, arith}
+use Rattle.std.proofs.Common.{◌≡◌, ◌≢◌, ◌⊎◌, inl, inr, refl, sym, ap, ◌∙◌, ℕ, zero, suc, ◌+◌, ◌-◌, ◌≤◌, ◌==◌, List, length, slice_get, nat_lt, nat_le, true, false, not, ◌&&◌, ◌||◌, Option, Some, None, Result, Ok, Err, if◌then◌else◌, arith}
 use Rattle.std.proofs.lemmas.Bool.Decides.{nat_tests, Decides-eqb, Decides-and}
 use Rattle.std.proofs.lemmas.Option.{slice_get_within, slice_get_cases}
 use Rattle.std.specs.Bool.{Decides}
-use Rattle.std.specs.List.{list_all, list_any}
-use Rattle.std.specs.Option.{option_map, option_and_then}
+use Rattle.std.specs.List.{list_all}
+use Rattle.std.specs.Option.{option_map}
 use Rattle.field_core.proofs.Live.{true_not_false}
-use Rattle.field_core.specs.Arithmetic.{number_zero, number_one, ◌*ε◌}
+use Rattle.field_core.specs.Arithmetic.{number_zero, ◌*ε◌}
 use Rattle.field_core.specs.Number.{Number}
 use Rattle.field_core.specs.Order.{◌≤ε◌, at_most}
 use Rattle.field_core.specs.View.{terms}
@@ -23,8 +23,8 @@ use Rattle.case_model.specs.declared.fault.CaseFault.{CaseFault}
 use Rattle.case_model.specs.declared.fault.CaseFault.TheVariants.{PartTooLong, SpendCount, StepOrder, SpendRange, ArrivalStage, ArrivalRepeated, ArrivalRange}
 use Rattle.case_model.specs.declared.fault.PartPlace.TheVariants.{Spend as SpendPart, Step, Arrival as ArrivalPart}
 use Rattle.case_model.specs.Draft.{is_unit, is_short, is_short_level, is_short_p_value, is_level_range, is_of, is_stage}
-use Rattle.case_model.specs.CaseFaults.{◌or◌, ◌when◌, first_of, is_below_zero, bound_fault, long_fraction, long_step, long_arrival, long_stage_part, no_stage, too_many_stages, has_all_stages, spend_count, too_many_steps, step_before, is_later, step_order, is_lower, level_of, falling_level, spend_range, sum_and_bound_fault, step_sum, spend_sum, spends_fault, arrival_stage, repeated_arrival, arrival_repeated, arrival_range, arrivals_fault, stages_fault}
-use Rattle.case_model.specs.ValidDraft.{Each, IsNonneg, SumsTo, AreValidShares, IsValidTable, IsValidSpend, AreValidStages, CanSum, CanSumSpend}
+use Rattle.case_model.specs.CaseFaults.{◌when◌, first_of, is_below_zero, long_fraction, long_step, long_arrival, long_stage_part, no_stage, too_many_stages, has_all_stages, spend_count, too_many_steps, step_before, is_later, step_order, is_lower, level_of, falling_level, spend_range, sum_and_bound_fault, step_sum, spend_sum, spends_fault, arrival_stage, arrival_repeated, arrival_range, arrivals_fault, stages_fault}
+use Rattle.case_model.specs.ValidDraft.{Each, SumsTo, AreValidShares, IsValidTable, IsValidSpend, AreValidStages, CanSum, CanSumSpend}
 use Rattle.case_model.proofs.Holding.{Both, both}
 use Rattle.case_model.proofs.NoFaults.{neither, no_when, no_unless, not_false}
 use Rattle.case_model.proofs.DraftTests.{none_or, when_false, unless_true, each_none, none_each, passing, none_failing, all_each, each_all, can_write, within_bound}

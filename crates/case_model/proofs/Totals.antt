@@ -1,5 +1,5 @@
 -- The faults of written sums.
-use Rattle.std.proofs.Common.{◌≡◌, ap, ◌∙◌, ℕ, Option, Some, Result, Ok, Err, not}
+use Rattle.std.proofs.Common.{◌≡◌, ap, ◌∙◌, ℕ, Some, Result, Ok, Err, not}
 use Rattle.field_core.specs.Number.{Number}
 use Rattle.field_core.specs.Steps.{placed, in_component}
 use Rattle.field_core.specs.declared.place.Place.{Place}

@@ -1,5 +1,5 @@
 -- Tests of the parts of a draft.
-use Rattle.std.specs.Prelude.{Option, ◌≡◌, ◌==◌, ◌||◌, ◌&&◌, not, ◌^◌, ℕ, Bool, true, List, length, nat_lt, nat_le, unsigned_abs}
+use Rattle.std.specs.Prelude.{◌≡◌, ◌==◌, ◌||◌, ◌&&◌, not, ◌^◌, ℕ, Bool, true, List, length, nat_lt, nat_le, unsigned_abs}
 use Rattle.std.specs.List.{list_all}
 use Rattle.std.specs.Option.{option_map_or}
 use Rattle.std.specs.Char.{is_ascii_alphanumeric}

@@ -11,9 +11,7 @@ use Rattle.fraction.specs.View.{number_of}
 use Rattle.fraction.specs.Written.{written_mul}
 use Rattle.case_model.specs.declared.draft.Draft.{Draft}
 use Rattle.case_model.specs.declared.draft_component.DraftComponent.{DraftComponent}
-use Rattle.case_model.specs.declared.draft_edge.DraftEdge.{DraftEdge}
 use Rattle.case_model.specs.declared.draft_stages.DraftStages.{DraftStages}
-use Rattle.case_model.specs.declared.draft_stages.Arrival.{Arrival}
 use Rattle.case_model.specs.declared.spend.Spend.{Spend}
 use Rattle.case_model.specs.declared.spend.Spend.TheVariants.{Shares, Table}
 use Rattle.case_model.specs.declared.spend_step.SpendStep.{SpendStep}

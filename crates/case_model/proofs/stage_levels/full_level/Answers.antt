@@ -1,4 +1,4 @@
-use Rattle.std.proofs.Common.{◌≡◌, lit<, Ok, Err, Result}
+use Rattle.std.proofs.Common.{lit<, Ok, Err, Result}
 use Rattle.field_core.specs.Kind.{or_wide}
 use Rattle.field_core.specs.Terms.{Terms}
 use Rattle.field_core.specs.View.{terms}
@@ -6,7 +6,7 @@ use Rattle.field_core.specs.declared.place.Op.TheVariants.{Mul}
 use Rattle.field_core.specs.declared.place.TooWide.{TooWide}
 use Rattle.fraction.specs.Written.{written_mul}
 use Rattle.case_model.proofs.Products.{product_in_terms, product_value}
-use Rattle.case_model.proofs.Thresholds.{IsShort, level_of, short_within, within_short, product_short, product_fits}
+use Rattle.case_model.proofs.Thresholds.{level_of, short_within, within_short, product_short, product_fits}
 use Rattle.case_model.proofs.Wide.{some_from, none_from}
 use Rattle.case_model.proofs.stage_levels.full_level.Goals as goal
 

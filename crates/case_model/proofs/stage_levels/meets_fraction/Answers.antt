@@ -1,7 +1,5 @@
-use Rattle.std.proofs.Common.{◌≡◌, sym, ap, ◌∙◌, not, true, false}
+use Rattle.std.proofs.Common.{sym, ◌∙◌}
 use Rattle.field_core.proofs.Live.{true_not_false}
-use Rattle.field_core.specs.Order.{at_most}
-use Rattle.field_core.specs.Arithmetic.{number_zero}
 use Rattle.fraction.specs.View.{number_of}
 use Rattle.case_model.proofs.StageLevels.{at_positive, none_spent, spent_tested}
 use Rattle.case_model.proofs.stage_levels.meets_fraction.Goals as goal

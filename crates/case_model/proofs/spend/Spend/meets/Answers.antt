@@ -1,4 +1,4 @@
-use Rattle.std.proofs.Common.{◌≡◌, sym, ap, subst, ◌∙◌, ◌-◌, slice_get, Option, Some, None, true}
+use Rattle.std.proofs.Common.{sym, ap, subst, ◌∙◌, ◌-◌}
 use Rattle.std.specs.Bool.{IsTrue}
 use Rattle.fraction.specs.View.{number_of}
 use Rattle.case_model.specs.declared.spend.Spend.TheVariants.{Shares, Table}

@@ -1,4 +1,4 @@
-use Rattle.std.proofs.Common.{◌≡◌, ap, ◌∙◌, not, length, Some, Ok, Err, Result}
+use Rattle.std.proofs.Common.{ap, ◌∙◌, not, length, Some, Ok, Err, Result}
 use Rattle.field_core.specs.Order.{at_most}
 use Rattle.field_core.specs.Arithmetic.{◌*ε◌}
 use Rattle.field_core.specs.Kind.{or_wide}
@@ -14,7 +14,7 @@ use Rattle.field_core.specs.declared.place.Wide.{Wide}
 use Rattle.fraction.specs.View.{number_of}
 use Rattle.fraction.specs.Written.{written_mul}
 use Rattle.case_model.specs.declared.fault.CaseFault.TheVariants.{SpendSum, Wide as TooWideSum}
-use Rattle.case_model.specs.Sums.{ratio_at, number_at, written_sum}
+use Rattle.case_model.specs.Sums.{ratio_at, number_at}
 use Rattle.case_model.specs.CaseFaults.{◌when◌, sum_and_bound_fault, step_sum}
 use Rattle.case_model.proofs.Comparisons.{above_is}
 use Rattle.case_model.proofs.ExactSums.{exact_sum}
