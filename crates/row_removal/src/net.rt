@@ -14,9 +14,10 @@ use field_core::{Number, Ratio, Wide};
 use removal::Remover;
 use std::alloc::Global;
 
-/// A graph of quotients in epsilon in rows, and room for the one after the next removal.
+/// A graph of quotients in epsilon in rows, room for the one after the next removal, and a spare row for the quotients of a
+/// clearing.
 ///
-/// Both stand from the start, so no removal takes memory.
+/// All stand from the start, so no removal takes memory.
 #[derive(Drop)]
 pub struct RowNet {
     present: RowGraph,

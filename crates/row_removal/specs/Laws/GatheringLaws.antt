@@ -37,6 +37,7 @@ use Rattle.eps_quotient.specs.Laws.Cuts.{monomial_held, monomial_some}
 use Rattle.eps_quotient.specs.Laws.Exact.{quotients_are_exact, some_below}
 use Rattle.eps_quotient.specs.Laws.LowerLaws.{one_some, one_held, zero_lowest}
 use Rattle.eps_quotient.specs.Laws.Multiples.{monomial-at, monomial-other, monomial-multiply, factors-at}
+use Rattle.eps_quotient.proofs.Constants.{constant_same}
 use Rattle.eps_quotient.specs.Laws.QuotientLaws.{same_trans, quotient-cancel, zero_value}
 use Rattle.row_removal.specs.StoredRow.{StoredRow, zero_row, numerator_at, row_value, IsProperRow}
 use Rattle.row_removal.specs.StoredRows.{StoredRows, row_at}
@@ -44,11 +45,6 @@ use Rattle.row_removal.specs.Proper.{AreProperRows}
 use Rattle.row_removal.specs.Gathering.{HasConstants, place_of, given, given_below, with_denominator, common_below, gathered_numerator, gathered_row, gathered}
 
 -- ---- constants
-
-constant_same : (p : List ℤ) → IsConstant p → Same p (coefficient p 0 ∷ [])
-unfolding coefficient
-constant_same p h zero = refl
-constant_same p h (suc k) = h (suc k) (omega arith)
 
 -- the constant of the denominator of a stored quotient is positive
 pub below_positive : (x : Parts) → IsQuotient x → IsConstant x.denominator → pos 0 <ℤ coefficient x.denominator 0
