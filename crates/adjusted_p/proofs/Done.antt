@@ -67,11 +67,14 @@ module _ (c : Content) (old new : TrialContent) (a : Ratio) (one : a ≡ one_rat
   started : IsTrialOf (at_level c one_ratio) old
   started = subst (λ b. IsTrialOf (at_level c b) old) one start
 
-  pub values_are : (r : Result (List Adjusted) AdjustFault) → IfOk r (λ xs. (k : Content) → IsTrialOf k old → k.alpha ≡ one_ratio → IsAdjustingRun k new xs) → IfOk r (AreAdjusted c)
+  pub values_are : (r : Result (List Adjusted) AdjustFault)
+      → IfOk r (λ xs. (k : Content) → IsTrialOf k old → k.alpha ≡ one_ratio → IsAdjustingRun k new xs) → IfOk r (AreAdjusted c)
   values_are (Ok xs) h = run_adjusted c new xs (h (at_level c one_ratio) started refl)
   values_are (Err e) h = tt
 
-  pub none_wide : (r : Result (List Adjusted) AdjustFault) → IfOk r (λ xs. (k : Content) → IsTrialOf k old → k.alpha ≡ one_ratio → IsAdjustingRun k new xs) → OnOk r ((n : ℕ) (w : WideAt) → ¬ IsWideAdjusting c n w)
+  pub none_wide : (r : Result (List Adjusted) AdjustFault)
+      → IfOk r (λ xs. (k : Content) → IsTrialOf k old → k.alpha ≡ one_ratio → IsAdjustingRun k new xs)
+      → OnOk r ((n : ℕ) (w : WideAt) → ¬ IsWideAdjusting c n w)
   none_wide (Ok xs) h = run_not_wide c new xs (h (at_level c one_ratio) started refl)
   none_wide (Err e) h = tt
 
@@ -83,6 +86,7 @@ module _ (c : Content) (old new : TrialContent) (a : Ratio) (one : a ≡ one_rat
   fault_is (Wide n w) h = wide_in n w h
   fault_is NoMemory h = tt
 
-  pub faults_are : (r : Result (List Adjusted) AdjustFault) → IfErr r (λ e. (k : Content) → IsTrialOf k old → k.alpha ≡ one_ratio → IsRunFault k e) → IfErr r (IsAdjustFault c)
+  pub faults_are : (r : Result (List Adjusted) AdjustFault) → IfErr r (λ e. (k : Content) → IsTrialOf k old → k.alpha ≡ one_ratio → IsRunFault k e)
+      → IfErr r (IsAdjustFault c)
   faults_are (Ok xs) h = tt
   faults_are (Err e) h = fault_is e (h (at_level c one_ratio) started refl)

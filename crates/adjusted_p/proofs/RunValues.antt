@@ -67,14 +67,16 @@ module _ (E : EntangledGraph) (p : ℕ → Number) where
     ]
 
     -- where there is no ratio of at most 1, nothing is legal at a level of at most 1
-    none_legal : IsValidEntangled E → a ≤ε number_one → (I : ℕ → Bool) → ((j : ℕ) → ¬ IsLeastToOne E p I j) → (k : ℕ) → ¬ IsLegal E p a I k
+    none_legal : IsValidEntangled E → a ≤ε number_one → (I : ℕ → Bool) → ((j : ℕ) → ¬ IsLeastToOne E p I j) → (k : ℕ)
+        → ¬ IsLegal E p a I k
     none_legal V high I none k h =
         let r = legal_ratio E p I a k h in
         let l = least_exists E p I V k r.0 r.1 in
         none l.0 (record { least = l.1; small = at_most_trans _ a number_one (at_most_trans _ r.0 a (l.1.least k r.0 r.1) r.2) high })
 
     -- and it is complete
-    leading_complete : IsValidEntangled E → a ≤ε number_one → (xs : List ValueStep) (I : ℕ → Bool) (before : Number) → before ≤ε a → AreValueSteps E p I before xs
+    leading_complete : IsValidEntangled E → a ≤ε number_one → (xs : List ValueStep) (I : ℕ → Bool) (before : Number) → before ≤ε a
+        → AreValueSteps E p I before xs
         → ((j : ℕ) → ¬ IsLeastToOne E p (left_after I (removed_ones xs)) j) → IsComplete E p a I (leading a xs)
     unfolding leading
     leading_complete V high [] I before low S end = none_legal V high I end
@@ -106,14 +108,16 @@ module _ (E : EntangledGraph) (p : ℕ → Number) where
     ]
 
     -- the values of later steps aren't below that of an earlier one
-    later_above : (xs : List ValueStep) (I : ℕ → Bool) (before : Number) → AreValueSteps E p I before xs → HaveValues xs → (j : ℕ) → IsListed (removed_ones xs) j → before ≤ε number_of (T j).value
+    later_above : (xs : List ValueStep) (I : ℕ → Bool) (before : Number) → AreValueSteps E p I before xs → HaveValues xs → (j : ℕ)
+        → IsListed (removed_ones xs) j → before ≤ε number_of (T j).value
     later_above [] I before S H j l = absurd (cc)
     later_above (x ∷ xs) I before S H j l = elim (here_or_later x.hypothesis j (removed_ones xs) l) [
       | inl e ↦ subst (λ v. before ≤ε number_of v) (sym (value_at x j e H.0)) S.0.greater.above_first
       | inr k ↦ at_most_trans before (number_of x.value) _ S.0.greater.above_first (later_above xs (dropping x.hypothesis I) (number_of x.value) S.1 H.1 j k)
     ]
 
-    at_most_one : (xs : List ValueStep) (I : ℕ → Bool) (before : Number) → before ≤ε number_one → AreValueSteps E p I before xs → HaveValues xs → (j : ℕ) → IsListed (removed_ones xs) j → number_of (T j).value ≤ε number_one
+    at_most_one : (xs : List ValueStep) (I : ℕ → Bool) (before : Number) → before ≤ε number_one → AreValueSteps E p I before xs → HaveValues xs
+        → (j : ℕ) → IsListed (removed_ones xs) j → number_of (T j).value ≤ε number_one
     at_most_one [] I before low S H j l = absurd (cc)
     at_most_one (x ∷ xs) I before low S H j l = elim (here_or_later x.hypothesis j (removed_ones xs) l) [
       | inl e ↦ subst (λ v. number_of v ≤ε number_one) (sym (value_at x j e H.0)) (small I before x S.0 low)
@@ -121,7 +125,8 @@ module _ (E : EntangledGraph) (p : ℕ → Number) where
     ]
 
     -- the leading ones are those whose values are at most the level
-    leading_in : (a : Number) (xs : List ValueStep) → HaveValues xs → (j : ℕ) → IsListed (leading a xs) j → IsListed (removed_ones xs) j × (number_of (T j).value ≤ε a)
+    leading_in : (a : Number) (xs : List ValueStep) → HaveValues xs → (j : ℕ) → IsListed (leading a xs) j
+        → IsListed (removed_ones xs) j × (number_of (T j).value ≤ε a)
     unfolding leading
     leading_in a [] H j l = absurd (cc)
     leading_in a (x ∷ xs) H j l = elim (true_or_false (is_up_to a x)) [
@@ -135,7 +140,8 @@ module _ (E : EntangledGraph) (p : ℕ → Number) where
         none : ¬ IsListed [] j
         none h = cc
 
-    in_leading : (a : Number) (xs : List ValueStep) (I : ℕ → Bool) (before : Number) → AreValueSteps E p I before xs → HaveValues xs → (j : ℕ) → IsListed (removed_ones xs) j → number_of (T j).value ≤ε a → IsListed (leading a xs) j
+    in_leading : (a : Number) (xs : List ValueStep) (I : ℕ → Bool) (before : Number) → AreValueSteps E p I before xs → HaveValues xs → (j : ℕ)
+        → IsListed (removed_ones xs) j → number_of (T j).value ≤ε a → IsListed (leading a xs) j
     unfolding leading
     in_leading a [] I before S H j l u = absurd (cc)
     in_leading a (x ∷ xs) I before S H j l u = elim (here_or_later x.hypothesis j (removed_ones xs) l) [

@@ -41,12 +41,14 @@ last_next : (b : Number) (xs : List ValueStep) (x : ValueStep) → last_value b 
 last_next b [] x = refl
 last_next b (y ∷ xs) x = last_next (number_of y.value) xs x
 
-values_next : (E : EntangledGraph) (p : ℕ → Number) (I : ℕ → Bool) (b : Number) (xs : List ValueStep) (x : ValueStep) → AreValueSteps E p I b xs → IsValueStep E p (left_after I (removed_ones xs)) (last_value b xs) x → AreValueSteps E p I b (xs ++ x ∷ [])
+values_next : (E : EntangledGraph) (p : ℕ → Number) (I : ℕ → Bool) (b : Number) (xs : List ValueStep) (x : ValueStep) → AreValueSteps E p I b xs
+    → IsValueStep E p (left_after I (removed_ones xs)) (last_value b xs) x → AreValueSteps E p I b (xs ++ x ∷ [])
 values_next E p I b [] x S X = (X, tt)
 values_next E p I b (y ∷ xs) x S X = (S.0, values_next E p (dropping y.hypothesis I) (number_of y.value) xs x S.1 X)
 
 module _ (T U : ℕ → Adjusted) (j : ℕ) (v : Ratio) (here : U j ≡ reached_at v) (other : (i : ℕ) → i ≢ j → U i ≡ T i) where
-  valued_next : (xs : List ValueStep) → ¬ IsListed (removed_ones xs) j → AllByRecursion (λ x. T x.hypothesis ≡ reached_at x.value) xs → AllByRecursion (λ x. U x.hypothesis ≡ reached_at x.value) (xs ++ record { hypothesis = j; value = v } ∷ [])
+  valued_next : (xs : List ValueStep) → ¬ IsListed (removed_ones xs) j → AllByRecursion (λ x. T x.hypothesis ≡ reached_at x.value) xs
+      → AllByRecursion (λ x. U x.hypothesis ≡ reached_at x.value) (xs ++ record { hypothesis = j; value = v } ∷ [])
   valued_next [] n H = (here, tt)
   valued_next (x ∷ xs) n H = (
     other x.hypothesis (λ e. n (subst (λ i. IsListed (x.hypothesis ∷ removed_ones xs) i) e (listed_here x.hypothesis (removed_ones xs)))) ∙ H.0,
@@ -81,7 +83,8 @@ module _ (c : Content) (level : c.alpha ≡ one_ratio) where
   at_one t T = ap number_of (sym T.alpha ∙ level) ∙ one_is
 
   -- the step of a least ratio that is legal
-  value_step : (old : TrialContent) (before v : Ratio) (x : RatioStep) (xs : List ValueStep) → IsTrialOf c old → IsChoiceDefined ByRatio old.p_values old.state → MayReject old x.line.hypothesis
+  value_step : (old : TrialContent) (before v : Ratio) (x : RatioStep) (xs : List ValueStep) → IsTrialOf c old
+      → IsChoiceDefined ByRatio old.p_values old.state → MayReject old x.line.hypothesis
       → HasLeastRatioBelow (length old.p_values) old.p_values old.state x.line.hypothesis (terms x.ratio) → last_value number_zero xs ≡ number_of before → IsGreater (number_of before) (number_of x.ratio) (number_of v)
       → IsValueStep (entangled c) (number_at old.p_values) (left_after whole old.rejected) (last_value number_zero xs) (record { hypothesis = x.line.hypothesis; value = v })
   value_step old before v x xs T defined legal least last G =
@@ -94,7 +97,8 @@ module _ (c : Content) (level : c.alpha ≡ one_ratio) where
         greater = subst₂ (λ b r. IsGreater b r (number_of v)) (sym last) (sym L.1) G;
       }
 
-  pub adjusting_step : (old new : TrialContent) (before v : Ratio) (table : List Adjusted) (x : RatioStep) → IsAdjustingSoFar c old before table → IsStepByRatio old new x → IsGreater (number_of before) (number_of x.ratio) (number_of v)
+  pub adjusting_step : (old new : TrialContent) (before v : Ratio) (table : List Adjusted) (x : RatioStep) → IsAdjustingSoFar c old before table
+      → IsStepByRatio old new x → IsGreater (number_of before) (number_of x.ratio) (number_of v)
       → IsAdjustingSoFar c new v (set table x.line.hypothesis (reached_at v))
   adjusting_step old new before v table x S X G =
       let T : IsTrialOf c old = S.run.is_trial in
@@ -119,7 +123,8 @@ module _ (c : Content) (level : c.alpha ≡ one_ratio) where
         last = last_next number_zero S.steps here;
       }
 
-  pub adjusting_end : (old new : TrialContent) (before : Ratio) (table : List Adjusted) → IsAdjustingSoFar c old before table → IsEndOf ByRatio old new → IsAdjustingRun c new table
+  pub adjusting_end : (old new : TrialContent) (before : Ratio) (table : List Adjusted) → IsAdjustingSoFar c old before table → IsEndOf ByRatio old new
+      → IsAdjustingRun c new table
   adjusting_end old new before table S N = subst (λ t. IsAdjustingRun c t table) (sym N.same) (record {
     lines = S.lines;
     run = run_end c ByRatio S.lines old old S.run (record { choice = N.choice; same = refl; defined = N.defined });
@@ -134,7 +139,8 @@ none_at zero j = refl
 none_at (suc n) zero = refl
 none_at (suc n) (suc j) = none_at n j
 
-pub adjusting_start : (c : Content) (t : TrialContent) (before : Ratio) (n : ℕ) (table : List Adjusted) → IsTrialOf c t → t.rejected ≡ [] → number_of before ≡ number_zero → table ≡ replicate n not_reached → n ≡ length t.p_values → IsAdjustingSoFar c t before table
+pub adjusting_start : (c : Content) (t : TrialContent) (before : Ratio) (n : ℕ) (table : List Adjusted) → IsTrialOf c t → t.rejected ≡ []
+    → number_of before ≡ number_zero → table ≡ replicate n not_reached → n ≡ length t.p_values → IsAdjustingSoFar c t before table
 adjusting_start c t before n table T none z e m = record {
   lines = [];
   run = run_start c ByRatio t T none;
@@ -150,7 +156,8 @@ adjusting_start c t before n table T none z e m = record {
 
 -- ---- a fault
 
-pub adjusting_fault : (c : Content) (t : TrialContent) (before : Ratio) (table : List Adjusted) (w : WideAt) (n : ℕ) → IsAdjustingSoFar c t before table → IsStepFault ByRatio t w → n ≡ length t.rejected → IsWideDecision c ByRatio (n + 1) w
+pub adjusting_fault : (c : Content) (t : TrialContent) (before : Ratio) (table : List Adjusted) (w : WideAt) (n : ℕ) → IsAdjustingSoFar c t before table
+    → IsStepFault ByRatio t w → n ≡ length t.rejected → IsWideDecision c ByRatio (n + 1) w
 adjusting_fault c t before table w n S F e =
     let many : length (hypotheses S.lines) ≡ length S.lines = simp length-map in
     subst (λ k. IsWideDecision c ByRatio (k + 1) w) (sym many ∙ ap length S.run.listed ∙ sym e) (run_fault c ByRatio S.lines t w S.run F)

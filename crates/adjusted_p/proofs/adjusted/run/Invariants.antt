@@ -13,4 +13,4 @@ invariant-loop-next l = record {
 }
 
 abbrev pub decreases-loop-next : goal.decreases-loop-next
-decreases-loop-next l = number_left (trial l.current)
+decreases-loop-next l = let t = trial l.current in number_left t
