@@ -1,17 +1,23 @@
 -- Documents are what lines lead to.
-use Rattle.std.proofs.Common.{◌≡◌, ◌<◌, ℕ, inl, inr, Bool, true, false, List, [], ◌∷◌, ◌++◌, length, Option, Some, None, map, refl, sym, ap, subst, ◌∙◌, arith, append_assoc}
+use Rattle.edge_text.specs.Faults.{NamedNumbers, AreNamedNumbers, StagesWord, SpendWord, TableWord, ArriveWord, first_of, Spends, Steps, with_stages, with_spend, step_of}
+use Rattle.std.proofs.Common.{◌≡◌, ◌<◌, ℕ, inl, inr, Bool, true, false, List, [], ◌∷◌, ◌++◌, length, Option, Some, None, map, refl, sym, ap, subst, ◌∙◌, arith, append_assoc, drop, ◌||◌, if◌then◌else◌}
 use Rattle.std.specs.Prelude.{codes}
 use Rattle.std.specs.List.{AllZip, flat_map}
+use Rattle.std.specs.Str.{bytes_eq}
 use Rattle.std.proofs.lemmas.List.{append-nil}
 use Rattle.field_core.specs.declared.ratio.Ratio.{Ratio}
 use Rattle.case_model.specs.declared.draft.Draft.{Draft}
 use Rattle.case_model.specs.declared.draft_component.DraftComponent.{DraftComponent}
 use Rattle.case_model.specs.declared.draft_edge.DraftEdge.{DraftEdge}
+use Rattle.case_model.specs.declared.draft_stages.DraftStages.{DraftStages}
+use Rattle.case_model.specs.declared.spend.Spend.TheVariants.{Table}
+use Rattle.case_model.specs.declared.spend_step.SpendStep.{SpendStep}
 use Rattle.text_lines.specs.Words.{words_of}
-use Rattle.edge_text.specs.Grammar.{Words, IsLineOf, IsNumber, IsPLine, IsShareLine, IsWeightsLine, IsEdgeLine, optional, GivesP, one, IsBlock, IsSharedBlock, AreBlocks, IsDocument}
+use Rattle.edge_text.specs.Grammar.{Words, IsLineOf, IsNumber, IsPLine, IsShareLine, IsWeightsLine, IsEdgeLine, optional, GivesP, one, IsBlock, IsSharedBlock, AreBlocks, MayHaveStages, IsDocument}
 use Rattle.edge_text.specs.Faults.{Keyword, AlphaWord, NamesWord, PWord, ShareWord, WeightsWord, EdgeWord, word_of, Place, Alpha, Names, Values, Block, Weights, Edges, named, with_p, with_component, weighted, with_edge, Leads, Stands, Lead, IsWhole, LeadsTo}
 use Rattle.edge_text.proofs.Leads.{lead_on}
 use Rattle.edge_text.proofs.Decisions.{stands_once}
+use Rattle.edge_text.proofs.StageLeads.{same_name, name_itself, among_second, moved, step_said, SpendsFrom, StepsFrom, StagesFrom, spends_end, steps_closed, steps_end, no_step, spend_apart, arrive_apart, stages_line, spend_line, table_line, table_more, table_next, arrive_line, stages_lead}
 
 -- ---- leads
 
@@ -35,6 +41,8 @@ lead_split place (x ∷ xs) ys next h =
 
 pub whole_once : (place : Place) (d e : Draft) → IsWhole place d → IsWhole place e → d ≡ e
 whole_once (Edges shared b k) d e h g = h ∙ sym g
+whole_once (Spends b s []) d e h g = h ∙ sym g
+whole_once (Steps b s steps name []) d e h g = h ∙ sym g
 whole_once place d e h g = absurd h
 
 -- ---- parts of drafts
@@ -90,22 +98,34 @@ shared_lead place d lines k opens b =
 next_opens : (d : Draft) (k : DraftComponent) → Opens (Edges true d k) (with_component d k)
 next_opens d k line share s = (ShareWord, refl, record { behind = s.behind; words = s.words; are = (share, s.are, refl) })
 
-blocks_lead : (place : Place) (d : Draft) (blocks : List (List (List ℕ))) (k : DraftComponent) (ks : List DraftComponent) → Opens place d → AllZip (IsSharedBlock d.names) blocks (k ∷ ks) → LeadsTo place (flat_map (λ block. block) blocks) (with_components d (k ∷ ks))
+-- Lines lead to the edges of a last component, with which the draft is this.
+record LeadsToEdges (place : Place) (lines : List (List ℕ)) (draft : Draft) : Type 0 where
+  shared : Bool
+  behind : Draft
+  component : DraftComponent
+  lead : Lead place lines (Edges shared behind component)
+  is : with_component behind component ≡ draft
+
+blocks_lead : (place : Place) (d : Draft) (blocks : List (List (List ℕ))) (k : DraftComponent) (ks : List DraftComponent) → Opens place d → AllZip (IsSharedBlock d.names) blocks (k ∷ ks) → LeadsToEdges place (flat_map (λ block. block) blocks) (with_components d (k ∷ ks))
 blocks_lead place d [] k ks opens h = absurd h
 blocks_lead place d (b ∷ []) k [] opens h =
     record {
-      next = Edges true d k;
+      shared = true;
+      behind = d;
+      component = k;
       lead = subst (λ ls. Lead place ls (Edges true d k)) (sym (append-nil b)) (shared_lead place d b k opens h.0);
-      whole = refl;
+      is = refl;
     }
 blocks_lead place d (b ∷ c ∷ blocks) k [] opens h = absurd (h.1)
 blocks_lead place d (b ∷ []) k (j ∷ ks) opens h = absurd (h.1)
 blocks_lead place d (b ∷ c ∷ blocks) k (j ∷ ks) opens h =
     let more = blocks_lead (Edges true d k) (with_component d k) (c ∷ blocks) j ks (next_opens d k) h.1 in
     record {
-      next = more.next;
-      lead = lead_on place (Edges true d k) more.next b (flat_map (λ block. block) (c ∷ blocks)) (shared_lead place d b k opens h.0) more.lead;
-      whole = subst (IsWhole more.next) (component_first d k (j ∷ ks)) more.whole;
+      shared = more.shared;
+      behind = more.behind;
+      component = more.component;
+      lead = lead_on place (Edges true d k) (Edges more.shared more.behind more.component) b (flat_map (λ block. block) (c ∷ blocks)) (shared_lead place d b k opens h.0) more.lead;
+      is = more.is ∙ component_first d k (j ∷ ks);
     }
 
 -- where a first block may stand: behind the p-values, or in their place
@@ -121,51 +141,69 @@ lone_stands : (bare : Bool) (d : Draft) (line : List ℕ) (weights : List Ratio)
 lone_stands true d line weights w = (WeightsWord, refl, record { behind = w.behind; words = w.words; are = (weights, w.are, refl) })
 lone_stands false d line weights w = (WeightsWord, refl, record { behind = w.behind; words = w.words; are = (weights, w.are, refl) })
 
-lone_lead : (bare : Bool) (d : Draft) (lines : List (List ℕ)) (k : DraftComponent) → k.share ≡ one → IsBlock d.names lines k → LeadsTo (first bare d) lines (with_components d (k ∷ []))
+lone_lead : (bare : Bool) (d : Draft) (lines : List (List ℕ)) (k : DraftComponent) → k.share ≡ one → IsBlock d.names lines k → LeadsToEdges (first bare d) lines (with_components d (k ∷ []))
 lone_lead bare d lines k s b =
     record {
-      next = Edges false d (with_edges (weighted one k.weights) k.edges);
+      shared = false;
+      behind = d;
+      component = with_edges (weighted one k.weights) k.edges;
       lead =
           subst (λ ls. Lead (first bare d) ls (Edges false d (with_edges (weighted one k.weights) k.edges))) (sym b.spelt) (
             Edges false d (weighted one k.weights),
             lone_stands bare d b.weights_line k.weights b.weights,
             edges_lead false d (weighted one k.weights) b.edge_lines k.edges b.edges,
           );
-      whole = ap (λ x. with_component d (record { share = x; weights = k.weights; edges = k.edges })) s;
+      is = ap (λ x. with_component d (record { share = x; weights = k.weights; edges = k.edges })) (sym s);
     }
 
-some_lead : (place : Place) (d : Draft) (blocks : List (List (List ℕ))) (ks : List DraftComponent) → Opens place d → AllZip (IsSharedBlock d.names) blocks ks → 0 < length ks → LeadsTo place (flat_map (λ block. block) blocks) (with_components d ks)
+some_lead : (place : Place) (d : Draft) (blocks : List (List (List ℕ))) (ks : List DraftComponent) → Opens place d → AllZip (IsSharedBlock d.names) blocks ks → 0 < length ks → LeadsToEdges place (flat_map (λ block. block) blocks) (with_components d ks)
 some_lead place d blocks [] opens h n = absurd (let few : 0 < length {A = DraftComponent} [] = n in omega arith)
 some_lead place d blocks (k ∷ ks) opens h n = blocks_lead place d blocks k ks opens h
 
-first_lead : (bare : Bool) (d : Draft) (lines : List (List ℕ)) (ks : List DraftComponent) → AreBlocks d.names lines ks → LeadsTo (first bare d) lines (with_components d ks)
-first_lead bare d lines ks (inl l) = subst (λ cs. LeadsTo (first bare d) lines (with_components d cs)) (sym l.only) (lone_lead bare d lines l.component l.share_is l.block)
-first_lead bare d lines ks (inr s) = subst (λ ls. LeadsTo (first bare d) ls (with_components d ks)) (sym s.spelt) (some_lead (first bare d) d s.blocks ks (first_opens bare d) s.are s.some)
+first_lead : (bare : Bool) (d : Draft) (lines : List (List ℕ)) (ks : List DraftComponent) → AreBlocks d.names lines ks → LeadsToEdges (first bare d) lines (with_components d ks)
+first_lead bare d lines ks (inl l) = subst (λ cs. LeadsToEdges (first bare d) lines (with_components d cs)) (sym l.only) (lone_lead bare d lines l.component l.share_is l.block)
+first_lead bare d lines ks (inr s) = subst (λ ls. LeadsToEdges (first bare d) ls (with_components d ks)) (sym s.spelt) (some_lead (first bare d) d s.blocks ks (first_opens bare d) s.are s.some)
 
-values_lead : (d : Draft) (start : Draft) (p_line : Option (List ℕ)) (lines : List (List ℕ)) → start ≡ named d.alpha d.names → GivesP p_line d.p → AreBlocks d.names lines d.components → d.stages ≡ None → LeadsTo (Values start) (optional p_line ++ lines) d
-values_lead d start None lines e g b s =
-    subst (λ from. LeadsTo (Values from) lines d) (sym e)
-    (subst (LeadsTo (Values (named d.alpha d.names)) lines) (draft_by (with_components (named d.alpha d.names) d.components) d refl refl (sym g) refl (sym s)) (first_lead true (named d.alpha d.names) lines d.components b))
-values_lead d start (Some line) lines e g b s =
+-- the draft without its stages
+abbrev unstaged : Draft → Draft
+unstaged d = record { names = d.names; alpha = d.alpha; p = d.p; components = d.components; stages = None }
+
+values_lead : (d : Draft) (p_line : Option (List ℕ)) (lines : List (List ℕ)) → GivesP p_line d.p → AreBlocks d.names lines d.components → LeadsToEdges (Values (named d.alpha d.names)) (optional p_line ++ lines) (unstaged d)
+values_lead d None lines g b = subst (LeadsToEdges (Values (named d.alpha d.names)) lines) (draft_by (with_components (named d.alpha d.names) d.components) (unstaged d) refl refl (sym g) refl refl) (first_lead true (named d.alpha d.names) lines d.components b)
+values_lead d (Some line) lines g b =
     let behind = with_p (named d.alpha d.names) g.0 in
-    let more = subst (LeadsTo (Block behind) lines) (draft_by (with_components behind d.components) d refl refl (sym g.2) refl (sym s)) (first_lead false behind lines d.components b) in
-    subst (λ from. LeadsTo (Values from) (line ∷ lines) d) (sym e)
-    (record {
-      next = more.next;
+    let more = subst (LeadsToEdges (Block behind) lines) (draft_by (with_components behind d.components) (unstaged d) refl refl (sym g.2) refl refl) (first_lead false behind lines d.components b) in
+    record {
+      shared = more.shared;
+      behind = more.behind;
+      component = more.component;
       lead = (Block behind, (PWord, refl, record { behind = g.1.behind; words = g.1.words; are = (g.0, g.1.are, refl) }), more.lead);
-      whole = more.whole;
-    })
+      is = more.is;
+    }
+
+-- perhaps the stages, behind the last component
+may_stages_lead : (shared : Bool) (behind : Draft) (k : DraftComponent) (d : Draft) (lines : List (List ℕ)) (stages : Option DraftStages) → with_component behind k ≡ unstaged d → d.stages ≡ stages → MayHaveStages d.names lines stages → LeadsTo (Edges shared behind k) lines d
+may_stages_lead shared behind k d lines None is e h =
+    subst (λ ls. LeadsTo (Edges shared behind k) ls d) (sym h) (record { next = Edges shared behind k; lead = refl; whole = draft_by d (unstaged d) refl refl refl refl e ∙ sym is })
+may_stages_lead shared behind k d lines (Some stages) is e h =
+    moved (Edges shared behind k) lines (with_stages (unstaged d) stages) d (draft_by (with_stages (unstaged d) stages) d refl refl refl refl (sym e)) (stages_lead shared behind k (unstaged d) lines stages is h)
 
 pub document_leads : (lines : List (List ℕ)) (d : Draft) → IsDocument lines d → LeadsTo Alpha lines d
 document_leads lines d h =
-    let more = values_lead d (named d.alpha d.names) h.p_line h.block_lines refl h.p h.blocks h.stages in
+    let blocks = values_lead d h.p_line h.block_lines h.p h.blocks in
+    let more = may_stages_lead blocks.shared blocks.behind blocks.component d h.stage_lines d.stages blocks.is refl h.stages in
     subst (λ ls. LeadsTo Alpha ls d) (sym h.spelt)
     (record {
       next = more.next;
       lead = (
         Names d.alpha,
         (AlphaWord, refl, record { behind = h.alpha.behind; words = h.alpha.words; are = (d.alpha, h.alpha.are, refl) }),
-        (Values (named d.alpha d.names), (NamesWord, refl, record { behind = h.names.behind; words = h.names.words; are = (d.names, h.names.are, refl) }), more.lead),
+        (
+          Values (named d.alpha d.names),
+          (NamesWord, refl, record { behind = h.names.behind; words = h.names.words; are = (d.names, h.names.are, refl) }),
+          subst (λ ls. Lead (Values (named d.alpha d.names)) ls more.next) (append_assoc (optional h.p_line) h.block_lines h.stage_lines)
+              (lead_on (Values (named d.alpha d.names)) (Edges blocks.shared blocks.behind blocks.component) more.next (optional h.p_line ++ h.block_lines) h.stage_lines blocks.lead more.lead),
+        ),
       );
       whole = more.whole;
     })
@@ -180,14 +218,18 @@ record SharedFrom (d : Draft) (k : DraftComponent) (lines : List (List ℕ)) (dr
   blocks : List (List (List ℕ))
   components : List DraftComponent
   are : AllZip (IsSharedBlock d.names) blocks components
-  spelt : lines ≡ edge_lines ++ flat_map (λ block. block) blocks
-  whole : draft ≡ with_components d (with_edges k edges ∷ components)
+  stage_lines : List (List ℕ)
+  spelt : lines ≡ edge_lines ++ (flat_map (λ block. block) blocks ++ stage_lines)
+  stages : StagesFrom (with_components d (with_edges k edges ∷ components)) stage_lines draft
 
 -- edges alone
 record LoneFrom (d : Draft) (k : DraftComponent) (lines : List (List ℕ)) (draft : Draft) : Type 0 where
+  edge_lines : List (List ℕ)
   edges : List DraftEdge
-  are : AllZip (IsEdgeLine d.names) lines edges
-  whole : draft ≡ with_component d (with_edges k edges)
+  are : AllZip (IsEdgeLine d.names) edge_lines edges
+  stage_lines : List (List ℕ)
+  spelt : lines ≡ edge_lines ++ stage_lines
+  stages : StagesFrom (with_component d (with_edges k edges)) stage_lines draft
 
 -- a block behind its share, and then blocks with shares
 record WeightsFrom (d : Draft) (share : Ratio) (lines : List (List ℕ)) (draft : Draft) : Type 0 where
@@ -198,23 +240,27 @@ record WeightsFrom (d : Draft) (share : Ratio) (lines : List (List ℕ)) (draft 
   blocks : List (List (List ℕ))
   components : List DraftComponent
   are : AllZip (IsSharedBlock d.names) blocks components
-  spelt : lines ≡ block_lines ++ flat_map (λ block. block) blocks
-  whole : draft ≡ with_components d (component ∷ components)
+  stage_lines : List (List ℕ)
+  spelt : lines ≡ block_lines ++ (flat_map (λ block. block) blocks ++ stage_lines)
+  stages : StagesFrom (with_components d (component ∷ components)) stage_lines draft
 
 -- the blocks
 record BlocksFrom (d : Draft) (lines : List (List ℕ)) (draft : Draft) : Type 0 where
   components : List DraftComponent
-  are : AreBlocks d.names lines components
-  whole : draft ≡ with_components d components
+  block_lines : List (List ℕ)
+  are : AreBlocks d.names block_lines components
+  stage_lines : List (List ℕ)
+  spelt : lines ≡ block_lines ++ stage_lines
+  stages : StagesFrom (with_components d components) stage_lines draft
 
 -- the p-values and the blocks
 record ValuesFrom (d : Draft) (lines : List (List ℕ)) (draft : Draft) : Type 0 where
   p_line : Option (List ℕ)
   p : List (Option Ratio)
   given : GivesP p_line p
-  block_lines : List (List ℕ)
-  spelt : lines ≡ optional p_line ++ block_lines
-  blocks : BlocksFrom (record { names = d.names; alpha = d.alpha; p = p; components = d.components; stages = d.stages }) block_lines draft
+  rest : List (List ℕ)
+  spelt : lines ≡ optional p_line ++ rest
+  blocks : BlocksFrom (record { names = d.names; alpha = d.alpha; p = p; components = d.components; stages = d.stages }) rest draft
 
 -- the names, and what stands behind them
 record NamesFrom (alpha : Ratio) (lines : List (List ℕ)) (draft : Draft) : Type 0 where
@@ -234,13 +280,26 @@ From (Block d) lines draft = BlocksFrom d lines draft
 From (Weights d share) lines draft = WeightsFrom d share lines draft
 From (Edges true d k) lines draft = SharedFrom d k lines draft
 From (Edges false d k) lines draft = LoneFrom d k lines draft
+From (Spends d s left) lines draft = SpendsFrom d s left lines draft
+From (Steps d s steps name left) lines draft = StepsFrom d s steps name left lines draft
+
+-- the stages, or nothing, behind the last component
+shared_stages : (d : Draft) (k : DraftComponent) (lines : List (List ℕ)) (draft : Draft) → StagesFrom (with_component d k) lines draft → SharedFrom d k lines draft
+shared_stages d k lines draft f = record { edge_lines = []; edges = []; edges_are = tt; blocks = []; components = []; are = tt; stage_lines = lines; spelt = refl; stages = subst (λ c. StagesFrom (with_component d c) lines draft) (sym (no_edges k)) f }
+
+lone_stages : (d : Draft) (k : DraftComponent) (lines : List (List ℕ)) (draft : Draft) → StagesFrom (with_component d k) lines draft → LoneFrom d k lines draft
+lone_stages d k lines draft f = record { edge_lines = []; edges = []; are = tt; stage_lines = lines; spelt = refl; stages = subst (λ c. StagesFrom (with_component d c) lines draft) (sym (no_edges k)) f }
 
 edges_end : (shared : Bool) (d : Draft) (k : DraftComponent) (draft : Draft) → draft ≡ with_component d k → From (Edges shared d k) [] draft
-edges_end true d k draft w = record { edge_lines = []; edges = []; edges_are = tt; blocks = []; components = []; are = tt; spelt = refl; whole = w ∙ ap (with_component d) (sym (no_edges k)) }
-edges_end false d k draft w = record { edges = []; are = tt; whole = w ∙ ap (with_component d) (sym (no_edges k)) }
+edges_end true d k draft w = shared_stages d k [] draft (inl (refl, w))
+edges_end false d k draft w = lone_stages d k [] draft (inl (refl, w))
 
 from_end : (place : Place) (draft : Draft) → IsWhole place draft → From place [] draft
 from_end (Edges shared d k) draft w = edges_end shared d k draft w
+from_end (Spends d s []) draft w = spends_end d s draft w
+from_end (Spends d s (name ∷ left)) draft w = absurd w
+from_end (Steps d s steps name []) draft w = steps_end d s steps name draft w
+from_end (Steps d s steps name (other ∷ left)) draft w = absurd w
 from_end Alpha draft w = absurd w
 from_end (Names alpha) draft w = absurd w
 from_end (Values d) draft w = absurd w
@@ -256,15 +315,19 @@ edge_shared d k edge line lines draft e f = record {
   blocks = f.blocks;
   components = f.components;
   are = f.are;
+  stage_lines = f.stage_lines;
   spelt = ap (λ ls. line ∷ ls) f.spelt;
-  whole = f.whole ∙ ap (λ c. with_components d (c ∷ f.components)) (edge_first k edge f.edges);
+  stages = subst (λ c. StagesFrom (with_components d (c ∷ f.components)) f.stage_lines draft) (edge_first k edge f.edges) f.stages;
 }
 
 edge_lone : (d : Draft) (k : DraftComponent) (edge : DraftEdge) (line : List ℕ) (lines : List (List ℕ)) (draft : Draft) → IsEdgeLine d.names line edge → LoneFrom d (with_edge k edge) lines draft → LoneFrom d k (line ∷ lines) draft
 edge_lone d k edge line lines draft e f = record {
+  edge_lines = line ∷ f.edge_lines;
   edges = edge ∷ f.edges;
   are = (e, f.are);
-  whole = f.whole ∙ ap (with_component d) (edge_first k edge f.edges);
+  stage_lines = f.stage_lines;
+  spelt = ap (λ ls. line ∷ ls) f.spelt;
+  stages = subst (λ c. StagesFrom (with_component d c) f.stage_lines draft) (edge_first k edge f.edges) f.stages;
 }
 
 -- the weights of a component with a share
@@ -277,8 +340,9 @@ weights_shared d share weights line lines draft w f = record {
   blocks = f.blocks;
   components = f.components;
   are = f.are;
+  stage_lines = f.stage_lines;
   spelt = ap (λ ls. line ∷ ls) f.spelt;
-  whole = f.whole;
+  stages = f.stages;
 }
 
 -- a share, and the blocks from there on
@@ -287,8 +351,9 @@ record OpenedFrom (d : Draft) (lines : List (List ℕ)) (draft : Draft) : Type 0
   component : DraftComponent
   components : List DraftComponent
   are : AllZip (IsSharedBlock d.names) blocks (component ∷ components)
-  spelt : lines ≡ flat_map (λ block. block) blocks
-  whole : draft ≡ with_components d (component ∷ components)
+  stage_lines : List (List ℕ)
+  spelt : lines ≡ flat_map (λ block. block) blocks ++ stage_lines
+  stages : StagesFrom (with_components d (component ∷ components)) stage_lines draft
 
 opened : (d : Draft) (share : Ratio) (line : List ℕ) (lines : List (List ℕ)) (draft : Draft) → IsShareLine line share → WeightsFrom d share lines draft → OpenedFrom d (line ∷ lines) draft
 opened d share line lines draft s f = record {
@@ -296,12 +361,20 @@ opened d share line lines draft s f = record {
   component = f.component;
   components = f.components;
   are = (record { share_line = line; block_lines = f.block_lines; spelt = refl; share = subst (IsShareLine line) (sym f.share_is) s; block = f.block }, f.are);
-  spelt = ap (λ ls. line ∷ ls) f.spelt;
-  whole = f.whole;
+  stage_lines = f.stage_lines;
+  spelt = ap (λ ls. line ∷ ls) (f.spelt ∙ sym (append_assoc f.block_lines (flat_map (λ block. block) f.blocks) f.stage_lines));
+  stages = f.stages;
 }
 
 blocks_opened : (d : Draft) (lines : List (List ℕ)) (draft : Draft) → OpenedFrom d lines draft → BlocksFrom d lines draft
-blocks_opened d lines draft f = record { components = f.component ∷ f.components; are = inr (record { blocks = f.blocks; spelt = f.spelt; are = f.are; some = omega arith }); whole = f.whole }
+blocks_opened d lines draft f = record {
+  components = f.component ∷ f.components;
+  block_lines = flat_map (λ block. block) f.blocks;
+  are = inr (record { blocks = f.blocks; spelt = refl; are = f.are; some = omega arith });
+  stage_lines = f.stage_lines;
+  spelt = f.spelt;
+  stages = f.stages;
+}
 
 next_opened : (d : Draft) (k : DraftComponent) (lines : List (List ℕ)) (draft : Draft) → OpenedFrom (with_component d k) lines draft → SharedFrom d k lines draft
 next_opened d k lines draft f = record {
@@ -311,8 +384,9 @@ next_opened d k lines draft f = record {
   blocks = f.blocks;
   components = f.component ∷ f.components;
   are = f.are;
+  stage_lines = f.stage_lines;
   spelt = f.spelt;
-  whole = f.whole ∙ component_first d k (f.component ∷ f.components) ∙ ap (λ c. with_components d (c ∷ f.component ∷ f.components)) (sym (no_edges k));
+  stages = subst (λ e. StagesFrom e f.stage_lines draft) (component_first d k (f.component ∷ f.components) ∙ ap (λ c. with_components d (c ∷ f.component ∷ f.components)) (sym (no_edges k))) f.stages;
 }
 
 -- a lone block
@@ -321,35 +395,55 @@ blocks_lone d weights line lines draft w f =
     let component : DraftComponent = record { share = one; weights = weights; edges = f.edges } in
     record {
       components = component ∷ [];
-      are = inl (record { component = component; only = refl; share_is = refl; block = record { weights_line = line; edge_lines = lines; spelt = refl; weights = w; edges = f.are } });
-      whole = f.whole;
+      block_lines = line ∷ f.edge_lines;
+      are = inl (record { component = component; only = refl; share_is = refl; block = record { weights_line = line; edge_lines = f.edge_lines; spelt = refl; weights = w; edges = f.are } });
+      stage_lines = f.stage_lines;
+      spelt = ap (λ ls. line ∷ ls) f.spelt;
+      stages = f.stages;
     }
 
 -- no p-values
 values_bare : (d : Draft) (lines : List (List ℕ)) (draft : Draft) → BlocksFrom d lines draft → d.p ≡ [] → ValuesFrom d lines draft
-values_bare d lines draft f e = record { p_line = None; p = d.p; given = e; block_lines = lines; spelt = refl; blocks = f }
+values_bare d lines draft f e = record { p_line = None; p = d.p; given = e; rest = lines; spelt = refl; blocks = f }
 
 values_given : (d : Draft) (values : List Ratio) (line : List ℕ) (lines : List (List ℕ)) (draft : Draft) → IsPLine line values → BlocksFrom (with_p d values) lines draft → ValuesFrom d (line ∷ lines) draft
-values_given d values line lines draft p f = record { p_line = Some line; p = map Some values; given = (values, p, refl); block_lines = lines; spelt = refl; blocks = f }
+values_given d values line lines draft p f = record { p_line = Some line; p = map Some values; given = (values, p, refl); rest = lines; spelt = refl; blocks = f }
+
+-- the stages of a document, where the draft has none before
+said_stages : (d : Draft) (lines : List (List ℕ)) (draft : Draft) → d.stages ≡ None → StagesFrom d lines draft → (stages : Option DraftStages) × MayHaveStages d.names lines stages × (draft ≡ record { names = d.names; alpha = d.alpha; p = d.p; components = d.components; stages = stages })
+said_stages d lines draft n (inl f) = (None, f.0, f.1 ∙ draft_by d (unstaged d) refl refl refl refl n)
+said_stages d lines draft n (inr f) = (Some f.0, f.1, f.2)
 
 document_from : (alpha : Ratio) (line : List ℕ) (lines : List (List ℕ)) (draft : Draft) → IsLineOf (codes "alpha") line (λ words. IsNumber words alpha) → NamesFrom alpha lines draft → IsDocument (line ∷ lines) draft
 document_from alpha line lines draft a f =
     let values = f.values in
     let blocks = values.blocks in
-    let whole : draft ≡ record { names = f.names; alpha = alpha; p = values.p; components = blocks.components; stages = None } = blocks.whole in
-    subst (IsDocument (line ∷ lines)) (sym whole)
+    let d : Draft = record { names = f.names; alpha = alpha; p = values.p; components = blocks.components; stages = None } in
+    let stages = said_stages d blocks.stage_lines draft refl blocks.stages in
+    subst (IsDocument (line ∷ lines)) (sym stages.2)
     (record {
       alpha_line = line;
       names_line = f.names_line;
       p_line = values.p_line;
-      block_lines = values.block_lines;
-      spelt = ap (λ ls. line ∷ ls) (f.spelt ∙ ap (λ ls. f.names_line ∷ ls) values.spelt);
+      block_lines = blocks.block_lines;
+      stage_lines = blocks.stage_lines;
+      spelt = ap (λ ls. line ∷ ls) (f.spelt ∙ ap (λ ls. f.names_line ∷ ls) (values.spelt ∙ ap (λ ls. optional values.p_line ++ ls) blocks.spelt));
       alpha = a;
       names = f.names_are;
       p = values.given;
       blocks = blocks.are;
-      stages = refl;
+      stages = stages.1;
     })
+
+-- a step, where the table of this name is open
+step_by : (d : Draft) (s : DraftStages) (steps : List SpendStep) (name : List ℕ) (left : List (List ℕ)) (said : NamedNumbers) (line : List ℕ) (words : Words) (lines : List (List ℕ)) (draft : Draft) (b : Bool) → bytes_eq said.name name ≡ b → words_of line ≡ codes "table" ∷ words → AreNamedNumbers (name ∷ first_of left) 1 words said
+    → From (if b then Steps d s (steps ++ step_of said ∷ []) name left else Steps d (with_spend s (Table steps)) (step_of said ∷ []) said.name (drop 1 left)) lines draft → StepsFrom d s steps name left (line ∷ lines) draft
+step_by d s steps name left said line words lines draft true e is h f = table_more d s steps name left (step_of said) line lines draft (step_said name words line said (name ∷ first_of left) is h (same_name said.name name e)) f
+step_by d s steps name [] said line words lines draft false e is h f = absurd (let t : bytes_eq said.name name || false ≡ true = h.name_is in let u : false || false ≡ true = subst (λ x. x || false ≡ true) e t in let v : false ≡ true = u in cc)
+step_by d s steps name (m ∷ left) said line words lines draft false e is h f =
+    let one : said.name ≡ m = among_second said.name name m e h.name_is in
+    let apart : ¬ (m ≡ name) = (λ x. let t : bytes_eq said.name name ≡ true = subst (λ y. bytes_eq said.name y ≡ true) (one ∙ x) (name_itself said.name) in let u : true ≡ false = sym t ∙ e in cc) in
+    table_next d s steps name m left (step_of said) line lines draft apart (step_said m words line said (name ∷ m ∷ []) is h one) (subst (λ x. StepsFrom d (with_spend s (Table steps)) (step_of said ∷ []) x left lines draft) one f)
 
 from_keyword : (place : Place) (k : Keyword) (line : List ℕ) (words : Words) (behind : Place) (lines : List (List ℕ)) (draft : Draft) → words_of line ≡ word_of k ∷ words → Leads place k line words behind → From behind lines draft → From place (line ∷ lines) draft
 from_keyword Alpha AlphaWord line words behind lines draft is h f = document_from h.0 line lines draft (record { behind = words; words = is; are = h.1 }) (subst (λ p. From p lines draft) h.2 f)
@@ -366,6 +460,18 @@ from_keyword (Edges true d k) EdgeWord line words behind lines draft is h f = ed
 from_keyword (Edges false d k) EdgeWord line words behind lines draft is h f = edge_lone d k h.0 line lines draft (record { behind = words; words = is; are = h.1 }) (subst (λ p. From p lines draft) h.2 f)
 from_keyword (Edges true d k) ShareWord line words behind lines draft is h f =
     next_opened d k (line ∷ lines) draft (opened (with_component d k) h.0 line lines draft (record { behind = words; words = is; are = h.1 }) (subst (λ p. From p lines draft) h.2 f))
+from_keyword (Edges true d k) StagesWord line words behind lines draft is h f =
+    shared_stages d k (line ∷ lines) draft (stages_line (with_component d k) h.0 line lines draft (record { behind = words; words = is; are = h.1 }) (subst (λ p. From p lines draft) h.2 f))
+from_keyword (Edges false d k) StagesWord line words behind lines draft is h f =
+    lone_stages d k (line ∷ lines) draft (stages_line (with_component d k) h.0 line lines draft (record { behind = words; words = is; are = h.1 }) (subst (λ p. From p lines draft) h.2 f))
+from_keyword (Spends d s (name ∷ left)) SpendWord line words behind lines draft is h f = spend_line d s name left h.0 line words lines draft is h.1 (subst (λ p. From p lines draft) h.2 f)
+from_keyword (Spends d s (name ∷ left)) TableWord line words behind lines draft is h f = table_line d s name left h.0 line words lines draft is h.1 (subst (λ p. From p lines draft) h.2 f)
+from_keyword (Spends d s []) ArriveWord line words behind lines draft is h f = arrive_line d s h.0 line lines draft (record { behind = words; words = is; are = h.1 }) (subst (λ p. From p lines draft) h.2 f)
+from_keyword (Steps d s steps name (other ∷ left)) SpendWord line words behind lines draft is h f =
+    steps_closed d s steps name (other ∷ left) (line ∷ lines) draft (no_step name SpendWord line words lines is spend_apart) (spend_line d (with_spend s (Table steps)) other left h.0 line words lines draft is h.1 (subst (λ p. From p lines draft) h.2 f))
+from_keyword (Steps d s steps name []) ArriveWord line words behind lines draft is h f =
+    steps_closed d s steps name [] (line ∷ lines) draft (no_step name ArriveWord line words lines is arrive_apart) (arrive_line d (with_spend s (Table steps)) h.0 line lines draft (record { behind = words; words = is; are = h.1 }) (subst (λ p. From p lines draft) h.2 f))
+from_keyword (Steps d s steps name left) TableWord line words behind lines draft is h f = step_by d s steps name left h.0 line words lines draft (bytes_eq h.0.name name) refl is h.1 (subst (λ p. From p lines draft) h.2 f)
 from_keyword place k line words behind lines draft is h f = absurd h
 
 from : (place : Place) (lines : List (List ℕ)) (next : Place) (draft : Draft) → Lead place lines next → IsWhole next draft → From place lines draft

@@ -1,22 +1,29 @@
 -- Lines that may stand begin some document, and all lines lead to where one may end or have a first fault.
+use Rattle.edge_text.specs.Grammar.{Words}
 use Rattle.std.proofs.Common.{◌≡◌, ℕ, ◌⊎◌, inl, inr, true, false, List, [], ◌∷◌, ◌++◌, refl, subst, arith}
 use Rattle.std.specs.Prelude.{codes}
 use Rattle.std.specs.Fmt.{digits}
+use Rattle.std.specs.List.{AllByRecursion}
 use Rattle.field_core.specs.declared.ratio.Ratio.{Ratio}
 use Rattle.fraction.specs.Plain.{zero_reduced}
 use Rattle.fraction.specs.Spelling.{spelling}
 use Rattle.fraction.proofs.ReadBack.{read_back}
 use Rattle.case_model.specs.declared.draft.Draft.{Draft}
+use Rattle.case_model.specs.declared.draft_stages.DraftStages.{DraftStages}
+use Rattle.case_model.specs.declared.spend.Spend.TheVariants.{Table}
+use Rattle.case_model.specs.declared.spend_step.SpendStep.{SpendStep}
 use Rattle.case_model.specs.Sums.{zero_terms, zero_ratio}
 use Rattle.edge_text.specs.declared.fault.LineKind.{LineKind}
 use Rattle.edge_text.specs.declared.fault.LineKind.TheVariants.{Ended}
 use Rattle.text_lines.specs.Lines.{Row, texts_in}
 use Rattle.text_lines.specs.Words.{words_of}
 use Rattle.edge_text.specs.Grammar.{Says, one, IsDocument}
-use Rattle.edge_text.specs.Faults.{AlphaWord, NamesWord, WeightsWord, Place, Alpha, Names, Values, Block, Weights, Edges, named, with_component, weighted, Stands, Lead, IsWhole, LeadsTo, MustFollow}
+use Rattle.edge_text.specs.Faults.{NamedNumbers, AreNamedNumbers, AlphaWord, NamesWord, WeightsWord, SpendWord, Place, Alpha, Names, Values, Block, Weights, Edges, Spends, Steps, named, with_component, weighted, with_stages, with_spend, shares_of, Stands, Lead, IsWhole, LeadsTo, MustFollow}
 use Rattle.edge_text.specs.TextStatements.{BeginDocument}
 use Rattle.edge_text.proofs.Leads.{lead_on}
 use Rattle.edge_text.proofs.Decisions.{stands_or_bad}
+use Rattle.edge_text.proofs.NameWords.{IsNameWord, zero_line, zero_line_words, HasNameWords, lead_words}
+use Rattle.edge_text.proofs.StageLeads.{one_among}
 use Rattle.edge_text.proofs.DocumentLeads.{lead_split, document_leads, lead_says}
 use Rattle.edge_text.proofs.OneFault.{IsFaultBy}
 
@@ -76,20 +83,43 @@ names_rest alpha = one_more (Names alpha) (Values (named alpha [])) (codes "hypo
 alpha_rest : Rest Alpha
 alpha_rest = one_more Alpha (Names zero_ratio) (codes "alpha 0") (AlphaWord, refl, record { behind = codes "0" ∷ []; words = alpha_said; are = (zero_ratio, record { numeral = codes "0"; alone = refl; says = zero_said }, refl) }) (names_rest zero_ratio)
 
-rest_of : (place : Place) → Rest place
-rest_of Alpha = alpha_rest
-rest_of (Names alpha) = names_rest alpha
-rest_of (Values d) = values_rest d
-rest_of (Block d) = block_rest d
-rest_of (Weights d share) = weights_rest d share
-rest_of (Edges shared d k) = edges_rest (Edges shared d k) (with_component d k) refl
+-- the fraction 0 of a name
+zero_named : List ℕ → NamedNumbers
+zero_named name = record { name = name; first = zero_ratio; others = [] }
+
+zero_are : (name : List ℕ) → AreNamedNumbers (name ∷ []) 0 (name ∷ codes "0" ∷ []) (zero_named name)
+unfolding zero_named
+zero_are name = record { numerals = codes "0" ∷ []; words_are = refl; name_is = one_among name; each = (zero_said, tt); enough = omega arith }
+
+spends_rest : (d : Draft) (s : DraftStages) (left : Words) → AllByRecursion IsNameWord left → Rest (Spends d s left)
+spends_rest d s [] n = edges_rest (Spends d s []) (with_stages d s) refl
+spends_rest d s (name ∷ left) n =
+    let next : Place = Spends d (with_spend s (shares_of (zero_named name))) left in
+    one_more (Spends d s (name ∷ left)) next (zero_line name) (SpendWord, refl, record { behind = name ∷ codes "0" ∷ []; words = zero_line_words name n.0; are = (zero_named name, zero_are name, refl) }) (spends_rest d (with_spend s (shares_of (zero_named name))) left n.1)
+
+steps_rest : (d : Draft) (s : DraftStages) (steps : List SpendStep) (name : List ℕ) (left : Words) → AllByRecursion IsNameWord left → Rest (Steps d s steps name left)
+steps_rest d s steps name [] n = edges_rest (Steps d s steps name []) (with_stages d (with_spend s (Table steps))) refl
+steps_rest d s steps name (other ∷ left) n =
+    let next : Place = Spends d (with_spend (with_spend s (Table steps)) (shares_of (zero_named other))) left in
+    one_more (Steps d s steps name (other ∷ left)) next (zero_line other) (SpendWord, refl, record { behind = other ∷ codes "0" ∷ []; words = zero_line_words other n.0; are = (zero_named other, zero_are other, refl) })
+    (spends_rest d (with_spend (with_spend s (Table steps)) (shares_of (zero_named other))) left n.1)
+
+rest_of : (place : Place) → HasNameWords place → Rest place
+rest_of Alpha n = alpha_rest
+rest_of (Names alpha) n = names_rest alpha
+rest_of (Values d) n = values_rest d
+rest_of (Block d) n = block_rest d
+rest_of (Weights d share) n = weights_rest d share
+rest_of (Edges shared d k) n = edges_rest (Edges shared d k) (with_component d k) refl
+rest_of (Spends d s left) n = spends_rest d s left n
+rest_of (Steps d s steps name left) n = steps_rest d s steps name left n
 
 begin_by : (lines more : List (List ℕ)) (draft : Draft) → IsDocument (lines ++ more) draft → BeginDocument lines
 begin_by lines more draft is = record { more = more; draft = draft; is = is }
 
 pub lead_begins : (lines : List (List ℕ)) (here : Place) → Lead Alpha lines here → BeginDocument lines
 lead_begins lines here h =
-    let rest = rest_of here in
+    let rest = rest_of here (lead_words Alpha lines here h tt) in
     begin_by lines rest.lines rest.draft (lead_says (lines ++ rest.lines) rest.draft (record { next = rest.to.next; lead = lead_on Alpha here rest.to.next lines rest.lines h rest.to.lead; whole = rest.to.whole }))
 
 -- ---- and what a document begins with leads somewhere
@@ -112,6 +142,10 @@ none_left (Names alpha) end = inr (end, Ended, (tt, refl, refl))
 none_left (Values d) end = inr (end, Ended, (tt, refl, refl))
 none_left (Block d) end = inr (end, Ended, (tt, refl, refl))
 none_left (Weights d share) end = inr (end, Ended, (tt, refl, refl))
+none_left (Spends d s []) end = inl (with_stages d s, record { next = Spends d s []; lead = refl; whole = refl })
+none_left (Spends d s (name ∷ left)) end = inr (end, Ended, (tt, refl, refl))
+none_left (Steps d s steps name []) end = inl (with_stages d (with_spend s (Table steps)), record { next = Steps d s steps name []; lead = refl; whole = refl })
+none_left (Steps d s steps name (other ∷ left)) end = inr (end, Ended, (tt, refl, refl))
 none_left (Edges shared d k) end = inl (with_component d k, record { next = Edges shared d k; lead = refl; whole = refl })
 
 ends_behind : (place : Place) (row : Row) (rows : List Row) (end : ℕ) (next : Place) → Stands place row.text next → Ends next rows end → Ends place (row ∷ rows) end
@@ -134,8 +168,14 @@ whole_or_must (Names alpha) = inr tt
 whole_or_must (Values d) = inr tt
 whole_or_must (Block d) = inr tt
 whole_or_must (Weights d share) = inr tt
+whole_or_must (Spends d s []) = inl (with_stages d s, refl)
+whole_or_must (Spends d s (name ∷ left)) = inr tt
+whole_or_must (Steps d s steps name []) = inl (with_stages d (with_spend s (Table steps)), refl)
+whole_or_must (Steps d s steps name (other ∷ left)) = inr tt
 whole_or_must (Edges shared d k) = inl (with_component d k, refl)
 
 pub whole_not_must : (place : Place) (draft : Draft) → IsWhole place draft → MustFollow place → ⊥
 whole_not_must (Edges shared d k) draft w m = m
+whole_not_must (Spends d s []) draft w m = m
+whole_not_must (Steps d s steps name []) draft w m = m
 whole_not_must place draft w m = w

@@ -11,7 +11,12 @@ use Rattle.case_model.specs.declared.draft.Draft.{Draft}
 use Rattle.case_model.specs.CaseFaults.{case_fault}
 use Rattle.case_model.specs.declared.draft_component.DraftComponent.{DraftComponent}
 use Rattle.case_model.specs.declared.draft_edge.DraftEdge.{DraftEdge}
-use Rattle.case_model.specs.Draft.{have_known_ends}
+use Rattle.std.specs.Option.{option_map_or}
+use Rattle.std.proofs.Common.{Option, None}
+use Rattle.case_model.specs.declared.draft_stages.Arrival.{Arrival}
+use Rattle.case_model.specs.declared.draft_stages.DraftStages.{DraftStages}
+use Rattle.case_model.specs.Draft.{have_known_ends, have_known_arrivals, arrives_among}
+use Rattle.edge_text.specs.Grammar.{IsArriveLine, MayHaveStages}
 use Rattle.case_model.specs.Names.{position_of}
 use Rattle.edge_text.specs.declared.fault.TextFault.{TextFault}
 use Rattle.edge_text.specs.declared.fault.TextFault.TheVariants as faults
@@ -50,6 +55,20 @@ known_components names lines ks (inr s) = known_blocks names s.blocks ks s.are
 pub document_ends : (lines : List (List ℕ)) (draft : Draft) → IsDocument lines draft → have_known_ends draft ≡ true
 unfolding have_known_ends
 document_ends lines draft d = known_components draft.names d.block_lines draft.components d.blocks
+
+known_arrivals : (names : List (List ℕ)) (lines : List (List ℕ)) (arrivals : List Arrival) → AllZip (IsArriveLine names) lines arrivals → list_all (arrives_among (length names)) arrivals ≡ true
+known_arrivals names [] [] h = refl
+known_arrivals names [] (a ∷ more) h = absurd h
+known_arrivals names (line ∷ lines) [] h = absurd h
+known_arrivals names (line ∷ lines) (a ∷ more) h = ap₂ (λ x y. x && y) (known names h.0.are.name a.hypothesis h.0.are.name_is) (known_arrivals names lines more h.1)
+
+stages_arrivals : (names : List (List ℕ)) (lines : List (List ℕ)) (stages : Option DraftStages) → MayHaveStages names lines stages → option_map_or (λ s. list_all (arrives_among (length names)) s.arrivals) stages true ≡ true
+stages_arrivals names lines None h = refl
+stages_arrivals names lines (Some stages) h = known_arrivals names h.arrive_lines stages.arrivals h.arrivals
+
+pub document_arrivals : (lines : List (List ℕ)) (draft : Draft) → IsDocument lines draft → have_known_arrivals draft ≡ true
+unfolding have_known_arrivals
+document_arrivals lines draft d = stages_arrivals draft.names d.stage_lines draft.stages d.stages
 
 -- ---- faults
 

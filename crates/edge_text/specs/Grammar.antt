@@ -1,13 +1,19 @@
 -- What lines say, and which lists of lines are documents.
-use Rattle.std.specs.Prelude.{◌≡◌, ◌<◌, ◌⊎◌, ℕ, List, [], ◌∷◌, ◌++◌, Option, Some, None, map, length, codes, pos}
+use Rattle.std.specs.Prelude.{◌≡◌, ◌<◌, ◌≤◌, ◌⊎◌, ℕ, List, [], ◌∷◌, ◌++◌, Option, Some, None, map, length, codes, pos}
 use Rattle.std.specs.List.{AllZip, flat_map}
+use Rattle.std.specs.Str.Parse.{digits_value}
 use Rattle.field_core.specs.declared.ratio.Ratio.{Ratio}
 use Rattle.field_core.specs.View.{terms}
-use Rattle.fraction.specs.Numeral.{IsNumeralOf}
+use Rattle.fraction.specs.Numeral.{IsNumeralOf, AreDigits}
 use Rattle.fraction.specs.Plain.{one_reduced}
 use Rattle.case_model.specs.declared.draft.Draft.{Draft}
 use Rattle.case_model.specs.declared.draft_component.DraftComponent.{DraftComponent}
 use Rattle.case_model.specs.declared.draft_edge.DraftEdge.{DraftEdge}
+use Rattle.case_model.specs.declared.draft_stages.DraftStages.{DraftStages}
+use Rattle.case_model.specs.declared.draft_stages.Arrival.{Arrival}
+use Rattle.case_model.specs.declared.spend.Spend.{Spend}
+use Rattle.case_model.specs.declared.spend.Spend.TheVariants.{Shares, Table}
+use Rattle.case_model.specs.declared.spend_step.SpendStep.{SpendStep}
 use Rattle.case_model.specs.Names.{position_of}
 use Rattle.text_lines.specs.Lines.{rows_of, texts_in}
 use Rattle.text_lines.specs.Words.{words_of, behind_words}
@@ -81,6 +87,59 @@ IsWeightsLine line values = IsLineOf (codes "weights") line (λ words. AreNumber
 abbrev pub IsEdgeLine : List (List ℕ) → List ℕ → DraftEdge → Type 0
 IsEdgeLine names line edge = IsLineOf (codes "edge") line (λ words. IsEdge names line words edge)
 
+-- 1 to 9 digits that write this number
+pub record IsWholeNumber (word : List ℕ) (number : ℕ) : Type 0 where
+  pub digits : AreDigits word
+  pub some : 0 < length word
+  pub few : length word ≤ 9
+  pub writes : number ≡ digits_value 10 word
+
+-- one such number
+pub record IsCount (words : Words) (count : ℕ) : Type 0 where
+  pub word : List ℕ
+  pub alone : words ≡ word ∷ []
+  pub is : IsWholeNumber word count
+
+-- a name and numerals of these fractions, at least one
+pub record AreShares (name : List ℕ) (words : Words) (shares : List Ratio) : Type 0 where
+  pub numerals : Words
+  pub words_are : words ≡ name ∷ numerals
+  pub each : AreNumbers numerals shares
+  pub some : 0 < length shares
+
+-- a name and the numerals of a step of a table: from where it counts, and its levels, at least one
+pub record IsStep (name : List ℕ) (words : Words) (step : SpendStep) : Type 0 where
+  pub numerals : Words
+  pub words_are : words ≡ name ∷ numerals
+  pub each : AreNumbers numerals (step.from ∷ step.levels)
+  pub some : 0 < length step.levels
+
+-- a name, the number of a stage, and the numeral of a p-value; where a name stands for several hypotheses, it is the first
+pub record IsArrival (names : List (List ℕ)) (words : Words) (arrival : Arrival) : Type 0 where
+  pub name : List ℕ
+  pub stage : List ℕ
+  pub numeral : List ℕ
+  pub words_are : words ≡ name ∷ stage ∷ numeral ∷ []
+  pub name_is : position_of name names ≡ Some arrival.hypothesis
+  pub stage_is : IsWholeNumber stage arrival.stage
+  pub says : Says numeral arrival.p
+
+-- `stages` and their number
+abbrev pub IsStagesLine : List ℕ → ℕ → Type 0
+IsStagesLine line count = IsLineOf (codes "stages") line (λ words. IsCount words count)
+
+-- `spend`, this name, and what its hypothesis spends of its level at each stage
+abbrev pub IsSpendLine : List ℕ → List ℕ → List Ratio → Type 0
+IsSpendLine name line shares = IsLineOf (codes "spend") line (λ words. AreShares name words shares)
+
+-- `table`, this name, and a step of the table of its hypothesis
+abbrev pub IsTableLine : List ℕ → List ℕ → SpendStep → Type 0
+IsTableLine name line step = IsLineOf (codes "table") line (λ words. IsStep name words step)
+
+-- `arrive` and a p-value that arrived
+abbrev pub IsArriveLine : List (List ℕ) → List ℕ → Arrival → Type 0
+IsArriveLine names line arrival = IsLineOf (codes "arrive") line (λ words. IsArrival names words arrival)
+
 -- a line that may be left out
 abbrev pub optional : Option (List ℕ) → List (List ℕ)
 optional None = []
@@ -129,18 +188,56 @@ pub record AreSharedBlocks (names : List (List ℕ)) (lines : List (List ℕ)) (
 abbrev pub AreBlocks : List (List ℕ) → List (List ℕ) → List DraftComponent → Type 0
 AreBlocks names lines components = IsLoneBlock names lines components ⊎ AreSharedBlocks names lines components
 
--- The lines are, in this order, the level, the names, perhaps the p-values, and the blocks of the components, and they say this draft. It has no stages.
+-- the lines of what the hypothesis of this name spends: one line of shares, or the lines of the steps of a table, one or more
+abbrev pub AreSpendLines : List ℕ → List (List ℕ) → Spend → Type 0
+AreSpendLines name lines (Shares shares) = (line : List ℕ) × (lines ≡ line ∷ []) × IsSpendLine name line shares
+AreSpendLines name lines (Table steps) = AllZip (IsTableLine name) lines steps × (0 < length steps)
+
+-- no line of the table of this name is the first of these lines
+abbrev pub IsNoStep : List ℕ → List (List ℕ) → Type 0
+IsNoStep name lines = (line : List ℕ) → (rest : List (List ℕ)) → (step : SpendStep) → lines ≡ line ∷ rest → ¬ IsTableLine name line step
+
+-- a table is all lines that say its steps, up to the first other line
+abbrev pub EndsBefore : List ℕ → Spend → List (List ℕ) → Type 0
+EndsBefore name (Shares shares) lines = Unit {0}
+EndsBefore name (Table steps) lines = IsNoStep name lines
+
+-- for each hypothesis, in their order, the lines of what it spends; other lines stand behind them
+abbrev pub AreSpends : List (List ℕ) → List (List ℕ) → List Spend → List (List ℕ) → Type 0
+AreSpends [] lines [] others = lines ≡ others
+AreSpends [] lines (spend ∷ spends) others = ⊥
+AreSpends (name ∷ names) lines [] others = ⊥
+AreSpends (name ∷ names) lines (spend ∷ spends) others =
+    (run : List (List ℕ)) × (rest : List (List ℕ)) × (lines ≡ run ++ rest) × AreSpendLines name run spend × EndsBefore name spend rest × AreSpends names rest spends others
+
+-- The number of the stages, what each hypothesis spends at them, and the p-values that arrived, in their order.
+pub record AreStages (names : List (List ℕ)) (lines : List (List ℕ)) (stages : DraftStages) : Type 0 where
+  pub count_line : List ℕ
+  pub spend_lines : List (List ℕ)
+  pub arrive_lines : List (List ℕ)
+  pub spelt : lines ≡ count_line ∷ spend_lines
+  pub count : IsStagesLine count_line stages.count
+  pub spends : AreSpends names spend_lines stages.spend arrive_lines
+  pub arrivals : AllZip (IsArriveLine names) arrive_lines stages.arrivals
+
+-- the stages, or no lines
+abbrev pub MayHaveStages : List (List ℕ) → List (List ℕ) → Option DraftStages → Type 0
+MayHaveStages names lines None = lines ≡ []
+MayHaveStages names lines (Some stages) = AreStages names lines stages
+
+-- The lines are, in this order, the level, the names, perhaps the p-values, the blocks of the components, and perhaps the stages, and they say this draft.
 pub record IsDocument (lines : List (List ℕ)) (draft : Draft) : Type 0 where
   pub alpha_line : List ℕ
   pub names_line : List ℕ
   pub p_line : Option (List ℕ)
   pub block_lines : List (List ℕ)
-  pub spelt : lines ≡ alpha_line ∷ names_line ∷ optional p_line ++ block_lines
+  pub stage_lines : List (List ℕ)
+  pub spelt : lines ≡ alpha_line ∷ names_line ∷ optional p_line ++ (block_lines ++ stage_lines)
   pub alpha : IsAlphaLine alpha_line draft.alpha
   pub names : IsNamesLine names_line draft.names
   pub p : GivesP p_line draft.p
   pub blocks : AreBlocks draft.names block_lines draft.components
-  pub stages : draft.stages ≡ None
+  pub stages : MayHaveStages draft.names stage_lines draft.stages
 
 -- the lines of a text that aren't skipped are a document, and it says this draft
 abbrev pub IsText : List ℕ → Draft → Type 0

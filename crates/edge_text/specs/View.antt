@@ -1,9 +1,11 @@
 -- Words and faults as contracts of the reader's parts see them.
-use Rattle.std.specs.Prelude.{◌≡◌, ℕ, List, ◌∷◌, Option, Some, None, false, true, map}
+use Rattle.std.specs.Prelude.{◌⊎◌, ◌≡◌, ℕ, List, ◌∷◌, Option, Some, None, false, true, map, length, ◌<◌, codes}
 use Rattle.field_core.specs.declared.ratio.Ratio.{Ratio}
 use Rattle.case_model.specs.declared.draft.Draft.{Draft}
 use Rattle.case_model.specs.declared.draft_component.DraftComponent.{DraftComponent}
 use Rattle.case_model.specs.declared.draft_edge.DraftEdge.{DraftEdge}
+use Rattle.case_model.specs.declared.draft_stages.DraftStages.{DraftStages}
+use Rattle.case_model.specs.declared.spend_step.SpendStep.{SpendStep}
 use Rattle.case_model.specs.declared.name_index.NameIndex.{NameIndex}
 use Rattle.case_model.specs.NameIndexView.{place_of}
 use Rattle.case_model.specs.Names.{position_of}
@@ -17,9 +19,10 @@ use Rattle.edge_text.specs.declared.reading.Next.TheVariants as nexts
 use Rattle.edge_text.specs.declared.reading.Reading.{Reading}
 use Rattle.edge_text.specs.declared.reading.Said.{Said}
 use Rattle.text_lines.specs.Lines.{Row}
+use Rattle.text_lines.specs.Words.{words_of}
 use Rattle.edge_expression.specs.EntryReading.{IsEntryText, IsExprFault}
 use Rattle.edge_text.specs.Grammar.{Words, AreSomeNumbers}
-use Rattle.edge_text.specs.Faults.{Place, Values, Block, Weights, Edges, named, Stands, IsBad, LeadsTo, IsWhole, MustFollow, IsFaultFrom}
+use Rattle.edge_text.specs.Faults.{NamedNumbers, AreNamedNumbers, step_of, Place, Values, Block, Weights, Edges, Spends, Steps, named, Stands, IsBad, LeadsTo, IsWhole, MustFollow, IsFaultFrom}
 
 -- a fault of the line of this number, of such a kind, or want of memory
 abbrev pub IsOnLine : ℕ → (LineKind → Type 0) → TextFault → Type 0
@@ -30,6 +33,30 @@ IsOnLine number Bad faults.NoMemory = Unit {0}
 -- the words are numerals of these p-values, at least one
 abbrev pub AreGiven : Words → List (Option Ratio) → Type 0
 AreGiven words p = (values : List Ratio) × AreSomeNumbers words values × (p ≡ map Some values)
+
+-- this name, and these words behind it, at least one
+pub record HasShares (words : Words) (name : List ℕ) (numerals : Words) : Type 0 where
+  pub words_are : words ≡ name ∷ numerals
+  pub some : 0 < length numerals
+
+-- this name, this word, and these words behind it, at least one
+pub record HasStep (words : Words) (name from : List ℕ) (levels : Words) : Type 0 where
+  pub words_are : words ≡ name ∷ from ∷ levels
+  pub some : 0 < length levels
+
+-- the words are a name that may stand here and these fractions
+abbrev pub SayShares : List (List ℕ) → Words → List Ratio → Type 0
+SayShares names words shares = (said : NamedNumbers) × AreNamedNumbers names 0 words said × (shares ≡ said.first ∷ said.others)
+
+-- the words are a name that may stand here and this step
+abbrev pub SayStep : List (List ℕ) → Words → SpendStep → Type 0
+SayStep names words step = (said : NamedNumbers) × AreNamedNumbers names 1 words said × (step ≡ step_of said)
+
+-- the line begins with another word than a table's, or is one of another name, with enough words
+abbrev pub IsBehindTable : List ℕ → List ℕ → Type 0
+IsBehindTable name line =
+    ((words : Words) → ¬ (words_of line ≡ codes "table" ∷ words))
+    ⊎ ((other : List ℕ) × (numerals : Words) × (words_of line ≡ codes "table" ∷ other ∷ numerals) × (1 < length numerals) × ¬ (other ≡ name))
 
 -- the text is no expression that can be taken
 abbrev pub IsEntryFault : List ℕ → LineKind → Type 0
@@ -64,36 +91,38 @@ abbrev pub draft_so_far : Ratio → Words → Reading → Draft
 draft_so_far alpha names r = record { names = names; alpha = alpha; p = r.p; components = r.components; stages = None }
 
 -- what may stand next
-abbrev pub place_by : Next → Draft → DraftComponent → Place
-place_by nexts.Values draft component = Values draft
-place_by nexts.Block draft component = Block draft
-place_by nexts.Weights draft component = Weights draft component.share
-place_by nexts.Edge draft component = Edges false draft component
-place_by nexts.EdgeOrBlock draft component = Edges true draft component
+abbrev pub place_by : Next → Draft → DraftComponent → DraftStages → List SpendStep → List ℕ → List (List ℕ) → Place
+place_by nexts.Values draft component stages steps name left = Values draft
+place_by nexts.Block draft component stages steps name left = Block draft
+place_by nexts.Weights draft component stages steps name left = Weights draft component.share
+place_by nexts.Edge draft component stages steps name left = Edges false draft component
+place_by nexts.EdgeOrBlock draft component stages steps name left = Edges true draft component
+place_by nexts.Spend draft component stages steps name left = Spends draft stages left
+place_by nexts.Step draft component stages steps name left = Steps draft stages steps name left
 
 -- what may stand next, behind this level and these names
 abbrev pub place_at : Ratio → Words → Reading → Place
-place_at alpha names r = place_by r.next (draft_so_far alpha names r) r.component
+place_at alpha names r = place_by r.next (draft_so_far alpha names r) r.component r.stages r.steps r.name.now r.left.now
 
 -- the line may stand where the old reading is, and the new one is behind it
 abbrev pub Reads : Reading → List ℕ → Reading → Type 0
 Reads old line new = (alpha : Ratio) → (names : Words) → Stands (place_at alpha names old) line (place_at alpha names new)
 
 -- the same, with the names of the index
-abbrev pub ReadsBy : NameIndex → Reading → List ℕ → Reading → Type 0
-ReadsBy index old line new = (alpha : Ratio) → (names : Words) → IsIndexOf index names → Stands (place_at alpha names old) line (place_at alpha names new)
+abbrev pub ReadsBy : NameIndex → Words → Reading → List ℕ → Reading → Type 0
+ReadsBy index names old line new = (alpha : Ratio) → IsIndexOf index names → Stands (place_at alpha names old) line (place_at alpha names new)
 
 -- the line can't stand where the reading is
 abbrev pub Refuses : Reading → List ℕ → LineKind → Type 0
 Refuses old line kind = (alpha : Ratio) → (names : Words) → IsBad (place_at alpha names old) line kind
 
 -- the same, with the names of the index
-abbrev pub RefusesBy : NameIndex → Reading → List ℕ → LineKind → Type 0
-RefusesBy index old line kind = (alpha : Ratio) → (names : Words) → IsIndexOf index names → IsBad (place_at alpha names old) line kind
+abbrev pub RefusesBy : NameIndex → Words → Reading → List ℕ → LineKind → Type 0
+RefusesBy index names old line kind = (alpha : Ratio) → IsIndexOf index names → IsBad (place_at alpha names old) line kind
 
 -- the draft, where nothing is still to come
 abbrev pub draft_said : Ratio → Words → Said → Draft
-draft_said alpha names said = record { names = names; alpha = alpha; p = said.p; components = said.components; stages = None }
+draft_said alpha names said = record { names = names; alpha = alpha; p = said.p; components = said.components; stages = said.stages }
 
 -- a text may end where the reading is, and this was said
 abbrev pub IsSaid : Reading → Said → Type 0

@@ -65,7 +65,7 @@ fn behind_names(alloc: Global, lines: &mut Lines, names: &[Text]) -> Result<Said
     let index = NameIndex::build(alloc, names)?;
     let mut reading = Reading::new(alloc);
     while let Some(line) = lines.next() {
-        reading.line(alloc, &index, &line)?;
+        reading.line(alloc, names, &index, &line)?;
     }
     reading.said(lines.next_number())
 }
@@ -78,12 +78,16 @@ pub fn draft(alloc: Global, bytes: &[u8]) -> Result<Draft, TextFault>
     let mut lines = Lines::new(bytes);
     let alpha = alpha(&mut lines)?;
     let names = names(alloc, &mut lines)?;
-    let Said { p, components } = behind_names(alloc, &mut lines, names.as_slice())?;
+    let Said {
+        p,
+        components,
+        stages,
+    } = behind_names(alloc, &mut lines, names.as_slice())?;
     Ok(Draft {
         names,
         alpha,
         p,
         components,
-        stages: None,
+        stages,
     })
 }

@@ -7,14 +7,17 @@ use fraction::NumberFault;
 /// from left to right.
 #[derive(Clone, Copy, PartialEq, Eq, Debug)]
 pub enum LineKind {
-    /// The first word isn't one that may stand here.
+    /// The first word isn't one that may stand here, or the name of a spend or of a table isn't.
     Unexpected,
     /// The document ends where a line must follow.
     Ended,
-    /// `alpha` or `component` has not just one word behind it, `edge` fewer than three, or `p` none.
+    /// `alpha`, `component` or `stages` has not just one word behind it, `arrive` not three, `edge` or `table` fewer than
+    /// three, `spend` fewer than two, or `p` none.
     WordCount,
     /// A name isn't that of a hypothesis.
     UnknownName,
+    /// A whole number isn't 1 to 9 digits.
+    Whole,
     /// A numeral is refused.
     Number(NumberFault),
     /// The expression of an edge is refused.

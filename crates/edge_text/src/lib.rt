@@ -8,6 +8,8 @@ pub mod laws;
 mod read;
 mod reading;
 mod rules;
+mod spend_words;
+mod whole;
 
 pub use edge_expression::{ExprFault, print_entry, read_entry};
 pub use fault::{LineKind, TextFault};

@@ -2,14 +2,16 @@
 ghost use Rattle.std.specs.Prelude.{◌≡◌, ℕ, List as Seq, [], ◌∷◌, Some, map, IfOk, IfErr};
 ghost use Rattle.std.specs.Option.{option_map};
 ghost use Rattle.edge_expression.specs.EntryReading.{IsEntryText};
-ghost use Rattle.edge_text.specs.Grammar.{Says, IsNumber, AreNumbers, IsEdge};
-ghost use Rattle.edge_text.specs.Faults.{IsNumeralFault, IsNumberFault, IsNumbersFault, IsSomeNumbersFault, IsEndsFault, IsEdgeFault};
+ghost use Rattle.edge_text.specs.Grammar.{Says, IsNumber, AreNumbers, IsEdge, IsWholeNumber, IsCount, IsArrival};
+ghost use Rattle.edge_text.specs.Faults.{IsNumeralFault, IsNumberFault, IsNumbersFault, IsSomeNumbersFault, IsEndsFault, IsEdgeFault, IsWholeFault, IsCountFault, IsNamedFault, IsArrivalFault};
 ghost use Rattle.text_lines.specs.Words.{words_of, behind_word};
-ghost use Rattle.edge_text.specs.View.{IsOnLine, AreGiven, IsEntryFault, IsIndexOf, IsEdgeOf};
+ghost use Rattle.edge_text.specs.View.{IsOnLine, SayShares, SayStep, AreGiven, IsEntryFault, IsIndexOf, IsEdgeOf};
 
 use crate::ends::Ends;
+use crate::spend_words::{SharesWords, StepWords};
+use crate::whole::whole_number;
 use crate::{LineKind, TextFault, read_entry};
-use case_model::{DraftEdge, Entry, NameIndex};
+use case_model::{Arrival, DraftEdge, Entry, NameIndex, SpendStep};
 use field_core::{List, NoMemory, Text};
 use fraction::Fraction;
 use std::alloc::Global;
@@ -17,7 +19,7 @@ use text_lines::{Line, Words};
 
 /// The value of a numeral on a line.
 #[tactic(auto, unfolding(crate::specs::Grammar::Says))]
-fn numeral(line: &Line, word: &[u8]) -> Result<Fraction, TextFault>
+pub fn numeral(line: &Line, word: &[u8]) -> Result<Fraction, TextFault>
     ensures found { IfOk result (Says word.now) }
     ensures fault { IfErr result (IsOnLine line.now.number (IsNumeralFault word.now)) }
 {
@@ -118,4 +120,80 @@ pub fn edge(line: &Line, words: Words, index: &NameIndex) -> Result<DraftEdge, T
         return Err(TextFault::Line(line.number, LineKind::WordCount));
     };
     edge_of(line, index, ends)
+}
+
+/// A whole number on a line.
+fn whole(line: &Line, word: &[u8]) -> Result<u64, TextFault>
+    ensures found { IfOk result (IsWholeNumber word.now) }
+    ensures fault { IfErr result (IsOnLine line.now.number (IsWholeFault word.now)) }
+{
+    match whole_number(word) {
+        Some(number) => Ok(number),
+        None => Err(TextFault::Line(line.number, LineKind::Whole)),
+    }
+}
+
+/// The one whole number behind the first word of a line.
+#[tactic(auto, using(text_lines::proofs::Keywords::word_found, text_lines::proofs::Keywords::words_counted))]
+pub fn count(line: &Line, words: Words) -> Result<u64, TextFault>
+    ensures found { IfOk result (IsCount (words_of words.entry)) }
+    ensures fault { IfErr result (IsOnLine line.now.number (IsCountFault (words_of words.entry))) }
+{
+    let Some(digits) = words.one() else {
+        return Err(TextFault::Line(line.number, LineKind::WordCount));
+    };
+    whole(line, digits)
+}
+
+/// The fractions behind this name.
+pub fn shares(
+    alloc: Global,
+    line: &Line,
+    words: Words,
+    name: &[u8],
+) -> Result<List<Fraction>, TextFault>
+    ensures found { IfOk result (SayShares (name.now ∷ []) (words_of words.entry)) }
+    ensures fault { IfErr result (IsOnLine line.now.number (IsNamedFault (name.now ∷ []) 0 (words_of words.entry))) }
+{
+    let Some(words) = SharesWords::of(words) else {
+        return Err(TextFault::Line(line.number, LineKind::WordCount));
+    };
+    if words.name != name {
+        return Err(TextFault::Line(line.number, LineKind::Unexpected));
+    }
+    numbers(alloc, line, Words::new(words.shares))
+}
+
+/// The step of a table behind this name.
+pub fn step(alloc: Global, line: &Line, words: Words, name: &[u8]) -> Result<SpendStep, TextFault>
+    ensures found { IfOk result (SayStep (name.now ∷ []) (words_of words.entry)) }
+    ensures fault { IfErr result (IsOnLine line.now.number (IsNamedFault (name.now ∷ []) 1 (words_of words.entry))) }
+{
+    let Some(words) = StepWords::of(words) else {
+        return Err(TextFault::Line(line.number, LineKind::WordCount));
+    };
+    if words.name != name {
+        return Err(TextFault::Line(line.number, LineKind::Unexpected));
+    }
+    words.step(alloc, line)
+}
+
+/// The p-value that arrived, of one of the indexed hypotheses.
+pub fn arrival(line: &Line, words: Words, index: &NameIndex) -> Result<Arrival, TextFault>
+    ensures found { IfOk result (λ a. (names : Seq (Seq ℕ)) → IsIndexOf index.now names → IsArrival names (words_of words.entry) a) }
+    ensures fault { IfErr result (IsOnLine line.now.number (λ kind. (names : Seq (Seq ℕ)) → IsIndexOf index.now names → IsArrivalFault names (words_of words.entry) kind)) }
+{
+    let Some((name, stage, p)) = words.three() else {
+        return Err(TextFault::Line(line.number, LineKind::WordCount));
+    };
+    let Some(hypothesis) = index.position(name) else {
+        return Err(TextFault::Line(line.number, LineKind::UnknownName));
+    };
+    let stage = whole(line, stage)? as usize;
+    let p = numeral(line, p)?;
+    Ok(Arrival {
+        hypothesis,
+        stage,
+        p,
+    })
 }

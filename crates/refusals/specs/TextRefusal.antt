@@ -4,7 +4,7 @@ use Rattle.std.specs.Fmt.{decimal}
 use Rattle.fraction.specs.declared.fault.NumberFault.{NumberFault}
 use Rattle.fraction.specs.declared.fault.NumberFault.TheVariants.{Empty, BadByte, ZeroDenominator, TooManyDigits}
 use Rattle.edge_text.specs.declared.fault.LineKind.{LineKind}
-use Rattle.edge_text.specs.declared.fault.LineKind.TheVariants.{Unexpected, Ended, WordCount, UnknownName, Number, Expr}
+use Rattle.edge_text.specs.declared.fault.LineKind.TheVariants.{Unexpected, Ended, WordCount, UnknownName, Whole, Number, Expr}
 use Rattle.edge_expression.specs.declared.fault.ExprFault.{ExprFault}
 use Rattle.edge_expression.specs.declared.fault.ExprFault.TheVariants.{Depth, DivisorNotNumber, ZeroDivisor, Degree, Part}
 use Rattle.edge_expression.specs.declared.fault.ExprFault.TheVariants as expressions
@@ -39,6 +39,7 @@ line_refusal n Unexpected = malformed_at (at_line n) (codes "unexpected")
 line_refusal n Ended = malformed_at (at_line n) (codes "ended")
 line_refusal n WordCount = malformed_at (at_line n) (codes "words")
 line_refusal n UnknownName = malformed_at (at_line n) (codes "unknown name")
+line_refusal n Whole = malformed_at (at_line n) (codes "whole number")
 line_refusal n (Number fault) = number_refusal (at_line n) fault
 line_refusal n (Expr fault) = expression_refusal (at_line n) fault
 

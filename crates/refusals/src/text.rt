@@ -80,6 +80,7 @@ pub fn line_refusal(alloc: Global, line: usize, kind: LineKind) -> Result<Refusa
         LineKind::Ended => malformed_at(alloc, place, b"ended"),
         LineKind::WordCount => malformed_at(alloc, place, b"words"),
         LineKind::UnknownName => malformed_at(alloc, place, b"unknown name"),
+        LineKind::Whole => malformed_at(alloc, place, b"whole number"),
         LineKind::Number(fault) => number_refusal(alloc, place, fault),
         LineKind::Expr(fault) => expression_refusal(alloc, place, fault),
     }

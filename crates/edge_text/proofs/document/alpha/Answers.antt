@@ -6,7 +6,7 @@ use Rattle.text_lines.specs.View.{row}
 use Rattle.text_lines.specs.Words.{words_of}
 use Rattle.text_lines.proofs.Keywords.{keyword_found, keyword_missing}
 use Rattle.edge_text.specs.Faults.{Alpha, AlphaWord, IsNumberFault, IsBad}
-use Rattle.edge_text.proofs.Leads.{fault_first, other_kind}
+use Rattle.edge_text.proofs.Leads.{fault_first, fault_ended, handed_on, other_kind}
 use Rattle.edge_text.proofs.Readings.{alpha_unexpected, rest_refused}
 use Rattle.edge_text.proofs.document.alpha.Goals as goal
 
@@ -24,3 +24,6 @@ returns-clause-fault c =
     fault_first Alpha (row line) _ (rows_left c.args.lines.now) (end_at c.args.lines.now) fault c.in_ok-line.ensures.found
     (other_kind line.number (IsNumberFault words) (IsBad Alpha line.text.now) fault (λ kind b. rest_refused Alpha AlphaWord line.text.now words kind refl (keyword_found (codes "alpha") (words_of line.text.now) words c.in-Some.ensures.words) b) f)
     ) c.number.ensures.fault
+
+pub returns-in_err-line-clause-fault : goal.returns-in_err-line-clause-fault
+returns-in_err-line-clause-fault c = handed_on c.from_residual.result _ _ c.from_residual.ensures.1 (fault_ended Alpha (rows_left c.args.lines.now) (end_at c.args.lines.now) _ tt c.in_err-line.ensures.fault)

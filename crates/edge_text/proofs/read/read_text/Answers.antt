@@ -1,7 +1,6 @@
-use Rattle.case_model.proofs.Faultless.{no_arrivals}
 use Rattle.text_lines.specs.Lines.{rows_of, texts_in}
 use Rattle.edge_text.proofs.Leads.{handed_on}
-use Rattle.edge_text.proofs.Texts.{document_ends, line_fault, draft_fault}
+use Rattle.edge_text.proofs.Texts.{document_ends, document_arrivals, line_fault, draft_fault}
 use Rattle.edge_text.proofs.read.read_text.Goals as goal
 
 pub returns-in_err-draft-clause-fault : goal.returns-in_err-draft-clause-fault
@@ -12,7 +11,7 @@ pub finish-requires-clause-ends : goal.finish-requires-clause-ends
 finish-requires-clause-ends c = document_ends (texts_in (rows_of c.args.bytes.now)) c.in_ok-draft.field-0 c.in_ok-draft.ensures.found
 
 pub finish-requires-clause-arrivals : goal.finish-requires-clause-arrivals
-finish-requires-clause-arrivals c = no_arrivals c.in_ok-draft.field-0 c.in_ok-draft.ensures.found.stages
+finish-requires-clause-arrivals c = document_arrivals (texts_in (rows_of c.args.bytes.now)) c.in_ok-draft.field-0 c.in_ok-draft.ensures.found
 
 pub returns-in-Err-clause-fault : goal.returns-in-Err-clause-fault
 returns-in-Err-clause-fault c = draft_fault c.args.bytes.now c.in_ok-draft.field-0 c.in-Err.refused c.text_fault.result c.in_ok-draft.ensures.found c.in-Err.ensures.fault c.in-Err.ensures.names c.text_fault.ensures

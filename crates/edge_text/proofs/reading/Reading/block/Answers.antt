@@ -7,7 +7,7 @@ use Rattle.text_lines.specs.Words.{words_of}
 use Rattle.text_lines.proofs.Keywords.{keyword_found}
 use Rattle.edge_text.specs.declared.reading.Next.TheVariants.{Block}
 use Rattle.edge_text.specs.Grammar.{one}
-use Rattle.edge_text.specs.Faults.{WeightsWord, IsNumbersFault}
+use Rattle.edge_text.specs.Faults.{ShareWord, WeightsWord, IsNumberFault, IsNumbersFault}
 use Rattle.edge_text.proofs.Readings.{joined₄, joined₅, block_share, block_weights, refused_by}
 use Rattle.edge_text.proofs.reading.Reading.block.Goals as goal
 
@@ -32,3 +32,9 @@ returns-clause-fault c =
     IfErr-weaker c.weigh.result _ _ (λ fault f.
     refused_by c.args.self.now line words c.args.line.now.number fault Block WeightsWord (IsNumbersFault words) c.requires (keyword_found (codes "weights") (words_of line) words c.in-Some-behind.ensures.words) (λ d k. refl) (λ d k kind b. b) f
     ) c.weigh.ensures.fault
+
+pub returns-in-Some-clause-fault : goal.returns-in-Some-clause-fault
+returns-in-Some-clause-fault c =
+    let line = c.args.line.now.text.now in
+    let words = words_of c.in-Some.words in
+    IfErr-weaker c.share.result _ _ (λ fault f. refused_by c.args.self.now line words c.args.line.now.number fault Block ShareWord (IsNumberFault words) c.requires (keyword_found (codes "component") (words_of line) words c.in-Some.ensures.words) (λ d k. refl) (λ d k kind b. b) f) c.share.ensures.fault

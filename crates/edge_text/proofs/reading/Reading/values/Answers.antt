@@ -7,8 +7,8 @@ use Rattle.text_lines.specs.Words.{words_of}
 use Rattle.text_lines.proofs.Keywords.{keyword_found}
 use Rattle.edge_text.specs.declared.reading.Next.TheVariants.{Values}
 use Rattle.edge_text.specs.Grammar.{one}
-use Rattle.edge_text.specs.Faults.{WeightsWord, IsNumbersFault}
-use Rattle.edge_text.proofs.Readings.{joined₄, joined₅, values_share, values_weights, refused_by}
+use Rattle.edge_text.specs.Faults.{PWord, ShareWord, WeightsWord, IsNumberFault, IsNumbersFault, IsSomeNumbersFault}
+use Rattle.edge_text.proofs.Readings.{joined₃, p_read, joined₄, joined₅, values_share, values_weights, refused_by}
 use Rattle.edge_text.proofs.reading.Reading.values.Goals as goal
 
 pub returns-in-Some-behind-clause-stands : goal.returns-in-Some-behind-clause-stands
@@ -32,3 +32,21 @@ returns-clause-fault c =
     IfErr-weaker c.weigh.result _ _ (λ fault f.
     refused_by c.args.self.now line words c.args.line.now.number fault Values WeightsWord (IsNumbersFault words) c.requires (keyword_found (codes "weights") (words_of line) words c.in-Some-behind-2.ensures.words) (λ d k. refl) (λ d k kind b. b) f
     ) c.weigh.ensures.fault
+
+pub returns-in-Some-clause-stands : goal.returns-in-Some-clause-stands
+returns-in-Some-clause-stands c =
+    let line = c.args.line.now.text.now in
+    let words = words_of c.in-Some.words in
+    joined₃ c.given.result _ _ _ _ (p_read c.args.self.now c.given.new.self line words c.requires (keyword_found (codes "p") (words_of line) words c.in-Some.ensures.words)) c.given.ensures.given c.given.ensures.next c.given.ensures.components
+
+pub returns-in-Some-clause-fault : goal.returns-in-Some-clause-fault
+returns-in-Some-clause-fault c =
+    let line = c.args.line.now.text.now in
+    let words = words_of c.in-Some.words in
+    IfErr-weaker c.given.result _ _ (λ fault f. refused_by c.args.self.now line words c.args.line.now.number fault Values PWord (IsSomeNumbersFault words) c.requires (keyword_found (codes "p") (words_of line) words c.in-Some.ensures.words) (λ d k. refl) (λ d k kind b. b) f) c.given.ensures.fault
+
+pub returns-in-Some-behind-clause-fault : goal.returns-in-Some-behind-clause-fault
+returns-in-Some-behind-clause-fault c =
+    let line = c.args.line.now.text.now in
+    let words = words_of c.in-Some-behind.words in
+    IfErr-weaker c.share.result _ _ (λ fault f. refused_by c.args.self.now line words c.args.line.now.number fault Values ShareWord (IsNumberFault words) c.requires (keyword_found (codes "component") (words_of line) words c.in-Some-behind.ensures.words) (λ d k. refl) (λ d k kind b. b) f) c.share.ensures.fault
