@@ -12,7 +12,8 @@ use Rattle.case_model.specs.Draft.{have_known_arrivals}
 use Rattle.case_model.specs.Content.{Content, content_of}
 use Rattle.case_model.specs.declared.draft.Draft.{Draft}
 use Rattle.case_model.specs.Validity.{IsValidContent}
-use Rattle.case_model.proofs.Faultless.{no_arrivals}
+use Rattle.text_lines.specs.Lines.{rows_of, texts_in}
+use Rattle.edge_text.proofs.Texts.{document_arrivals}
 use Rattle.command_words.specs.Asked.{Written, text, csv, json, on_case}
 use Rattle.command_words.specs.declared.command.CaseTask.TheVariants.{Test}
 use Rattle.command_words.proofs.OneReading.{words_decided}
@@ -37,9 +38,9 @@ named_listed : (steps : List StepLine) (j : ℕ) → is_rejected steps j ≡ set
 unfolding is_rejected
 named_listed steps j = any_listed steps j
 
--- what a form says has no p-values that arrived
+-- of what a form says, each p-value that arrived is of a hypothesis
 known_arrivals : (form : Written) (bytes : List ℕ) (d : Draft) → (grammar form bytes).Gives d → have_known_arrivals d ≡ true
-known_arrivals text bytes d t = no_arrivals d t.stages
+known_arrivals text bytes d t = document_arrivals (texts_in (rows_of bytes)) d t
 known_arrivals (csv alpha) bytes d t = absurd t
 known_arrivals json bytes d t = absurd t
 
