@@ -94,6 +94,25 @@ const EXPRESSIONS: [(&str, &str); 4] = [
     ),
 ];
 
+/// Several graphs over one set of hypotheses.
+const ENTANGLED: [(&str, &str); 3] = [
+    // Each has half of the level by one graph, and all of it once the other is rejected.
+    (
+        "alpha 0.05\nhypotheses H1 H2\np 0.02 0.04\ncomponent 1/2\nweights 1 0\nedge H1 H2 1\ncomponent 1/2\nweights 0 1\nedge H2 H1 1\n",
+        "alpha 1/20\nstep 1 H1 p 1/50 weight 1/2\nstep 2 H2 p 1/25 weight 1\nrejected H1 H2\nadjusted H1 1/25\nadjusted H2 1/25\nend\n",
+    ),
+    // Shares may sum to less than 1.
+    (
+        "alpha 0.05\nhypotheses H1\np 0\ncomponent 1/2\nweights 1\n",
+        "alpha 1/20\nstep 1 H1 p 0 weight 1/2\nrejected H1\nadjusted H1 0\nend\n",
+    ),
+    // Limits are taken in each graph, and then the shares: H3 has an epsilon by the first, and 1 by the second.
+    (
+        "alpha 0.05\nhypotheses H1 H2 H3\np 0.025 0.025 0.025\ncomponent 1/2\nweights 1 0 0\nedge H1 H2 1-\\epsilon\nedge H1 H3 \\epsilon\ncomponent 1/2\nweights 0 0 1\n",
+        "alpha 1/20\nstep 1 H1 p 1/40 weight 1/2\nstep 2 H2 p 1/40 weight 1/2\nstep 3 H3 p 1/40 weight 1/2\nrejected H1 H2 H3\nadjusted H1 1/20\nadjusted H2 1/20\nadjusted H3 1/20\nend\n",
+    ),
+];
+
 #[test]
 fn known_procedures_are_decided(rt: HostRuntime) -> Result<(), Fail> {
     expect_decided(&rt, rt.alloc(), &PROCEDURES)?;
@@ -109,5 +128,11 @@ fn edges_may_be_expressions(rt: HostRuntime) -> Result<(), Fail> {
 #[test]
 fn weight_comes_over_merged_edges(rt: HostRuntime) -> Result<(), Fail> {
     expect_decided(&rt, rt.alloc(), &MERGED)?;
+    Ok(())
+}
+
+#[test]
+fn several_graphs_are_decided(rt: HostRuntime) -> Result<(), Fail> {
+    expect_decided(&rt, rt.alloc(), &ENTANGLED)?;
     Ok(())
 }

@@ -109,17 +109,28 @@ const ORDER: [Row; 24] = [
     ),
 ];
 
-/// First words of lines that come later in the history of the form.
-const LATER: [Row; 4] = [
+/// Lines of components and of stages.
+const BLOCKS_AND_STAGES: [Row; 13] = [
     (
-        "alpha 0.05\nhypotheses H1\np 0\ncomponent 1/2\nweights 1\n",
+        "alpha 0.05\nhypotheses H1\np 0\ncomponent\nweights 1\n",
         3,
-        "malformed: line 4: unexpected\n",
+        "malformed: line 4: words\n",
     ),
     (
-        "alpha 0.05\nhypotheses H1\nweights 1\nstages 2\n",
+        "alpha 0.05\nhypotheses H1\np 0\ncomponent 1\nedge H1 H1 0\n",
         3,
-        "malformed: line 4: unexpected\n",
+        "malformed: line 5: unexpected\n",
+    ),
+    // A block without a share is the only one.
+    (
+        "alpha 0.05\nhypotheses H1\np 0\nweights 1\ncomponent 1/2\nweights 1\n",
+        3,
+        "malformed: line 5: unexpected\n",
+    ),
+    (
+        "alpha 0.05\nhypotheses H1\np 0\ncomponent 2/3\nweights 1\ncomponent 1/2\nweights 1\n",
+        3,
+        "malformed: case: share sum\n",
     ),
     (
         "alpha 0.05\nhypotheses H1\nweights 1\nspend H1 1\n",
@@ -130,6 +141,45 @@ const LATER: [Row; 4] = [
         "alpha 0.05\nhypotheses H1\nweights 1\narrive H1 1 0.01\n",
         3,
         "malformed: line 4: unexpected\n",
+    ),
+    (
+        "alpha 0.05\nhypotheses H1\nweights 1\nstages 2\n",
+        3,
+        "malformed: line 5: ended\n",
+    ),
+    (
+        "alpha 0.05\nhypotheses H1\nweights 1\nstages 1/2\nspend H1 1\n",
+        3,
+        "malformed: line 4: whole number\n",
+    ),
+    // `test` needs a p-value for each hypothesis.
+    (
+        "alpha 0.05\nhypotheses H1 H2\nweights 1/2 1/2\nedge H1 H2 1\nedge H2 H1 1\nstages 2\ntable H1 1/2 0.01 0.015\ntable H1 1 0.02 0.03\nspend H2 1/2 1/2\narrive H1 1 0.02\narrive H2 1 0.012\n",
+        3,
+        "malformed: kind\n",
+    ),
+    // A level below that of the step before.
+    (
+        "alpha 0.05\nhypotheses H1 H2\nweights 1/2 1/2\nstages 2\ntable H1 1/2 0.01 0.015\ntable H1 1 0.005 0.03\nspend H2 1/2 1/2\n",
+        3,
+        "malformed: case: spend of H1 stage 1\n",
+    ),
+    // A step that begins where the one before does.
+    (
+        "alpha 0.05\nhypotheses H1 H2\nweights 1/2 1/2\nstages 2\ntable H1 1/2 0.01 0.015\ntable H1 1/2 0.02 0.03\nspend H2 1/2 1/2\n",
+        3,
+        "malformed: case: step 2 of H1\n",
+    ),
+    // The levels of the second step sum to 3/50, above 1 times 1/20.
+    (
+        "alpha 0.05\nhypotheses H1 H2\nweights 1/2 1/2\nstages 2\ntable H1 1/2 0.01 0.015\ntable H1 1 0.03 0.03\nspend H2 1/2 1/2\n",
+        3,
+        "malformed: case: spend sum of H1\n",
+    ),
+    (
+        "alpha 0.05\nhypotheses H1 H2\nweights 1/2 1/2\nstages 2\nspend H2 1/2 1/2\nspend H1 1/2 1/2\n",
+        3,
+        "malformed: line 5: unexpected\n",
     ),
 ];
 
@@ -804,7 +854,7 @@ fn expect_refused(rt: &impl Abort, alloc: Global, rows: &[Row]) -> Result<(), No
 fn lines_are_refused(rt: HostRuntime) -> Result<(), Fail> {
     let alloc = rt.alloc();
     expect_refused(&rt, alloc, &ORDER)?;
-    expect_refused(&rt, alloc, &LATER)?;
+    expect_refused(&rt, alloc, &BLOCKS_AND_STAGES)?;
     expect_refused(&rt, alloc, &WORDS)?;
     expect_refused(&rt, alloc, &NUMERALS)?;
     expect_refused(&rt, alloc, &EXPRESSIONS)?;
