@@ -12,7 +12,9 @@ use std::alloc::Global;
 ///
 /// A text has the lines `alpha N`, `hypotheses NAME..`, perhaps `p N..` (one numeral or more), and then the blocks of the
 /// components: one that begins with `weights N..`, whose share is 1, or one or more that each begin with `component N`,
-/// the share, before `weights N..`. A block ends with lines `edge NAME NAME EXPR`, any number of them. `N` is a numeral
+/// the share, before `weights N..`. A block ends with lines `edge NAME NAME EXPR`, any number of them. Behind the blocks
+/// there may be `stages K`, then for each hypothesis in order one line `spend NAME N..` or one or more lines
+/// `table NAME N N..`, and then lines `arrive NAME K N`, any number of them. `K` is 1 to 9 digits. `N` is a numeral
 /// that `Fraction::parse` reads, and `EXPR`, all that stands behind the second name, an expression that `read_entry`
 /// reads. Words stand between runs of spaces and tabs. A line ends with a line feed, perhaps after a carriage return; the
 /// last one may lack its line feed. Lines of blanks, and lines whose first other byte is `#`, are skipped. The draft is

@@ -155,13 +155,13 @@ pub fn shares(
     ensures found { IfOk result (SayShares (name.now ∷ []) (words_of words.entry)) }
     ensures fault { IfErr result (IsOnLine line.now.number (IsNamedFault (name.now ∷ []) 0 (words_of words.entry))) }
 {
-    let Some(words) = SharesWords::of(words) else {
+    let Some(found) = SharesWords::of(words) else {
         return Err(TextFault::Line(line.number, LineKind::WordCount));
     };
-    if words.name != name {
+    if found.name != name {
         return Err(TextFault::Line(line.number, LineKind::Unexpected));
     }
-    numbers(alloc, line, Words::new(words.shares))
+    numbers(alloc, line, Words::new(found.shares))
 }
 
 /// The step of a table behind this name.

@@ -1,11 +1,13 @@
 //! Texts by hand: those with a line that can't stand, those whose drafts are refused, and those that say cases.
+use crate::document::draft;
 use crate::vectors::{
-    CASES, ENDED, ENTANGLED, EXPRESSIONS, Edge, Held, HeldComponent, NUMBERS, ORDER, REFUSED,
-    RefusedText, Terms, UNEXPECTED, UNKNOWN_NAMES, WORD_COUNTS,
+    CASES, ENDED, ENTANGLED, EXPRESSIONS, Edge, Held, HeldComponent, HeldSpend, HeldStages,
+    NUMBERS, ORDER, REFUSED, RefusedText, STAGED, Terms, UNEXPECTED, UNKNOWN_NAMES, WHOLE,
+    WORD_COUNTS,
 };
 use crate::{LineKind, TextFault, read_text};
-use case_model::{Case, Entry, Inputs, Refused};
-use field_core::Number;
+use case_model::{Case, DraftStages, Entry, Inputs, Refused, Spend, SpendStep};
+use field_core::{Number, Text};
 use fraction::Fraction;
 use std::alloc::Global;
 use std::process::Abort;
@@ -47,6 +49,11 @@ fn words_are_counted(rt: HostRuntime) {
 #[test]
 fn ends_of_edges_are_hypotheses(rt: HostRuntime) {
     expect_line_faults(&rt, rt.alloc(), &UNKNOWN_NAMES, LineKind::UnknownName);
+}
+
+#[test]
+fn whole_numbers_are_refused(rt: HostRuntime) {
+    expect_line_faults(&rt, rt.alloc(), &WHOLE, LineKind::Whole);
 }
 
 #[test]
@@ -183,6 +190,66 @@ fn texts_say_components(rt: HostRuntime) -> Result<(), Fail> {
         assert_eq!(&rt; case.components(), components.len());
         for (c, held) in components.iter().enumerate() {
             expect_component(&rt, &case, c, held);
+        }
+    }
+    Ok(())
+}
+
+// ---- stages
+
+/// These numbers, in their order.
+fn expect_fractions(rt: &impl Abort, found: &[Fraction], wanted: &[Terms]) {
+    assert_eq!(rt; found.len(), wanted.len());
+    for (found, wanted) in found.iter().zip(wanted) {
+        expect_fraction(rt, *found, *wanted);
+    }
+}
+
+/// These steps, in their order.
+fn expect_steps(rt: &impl Abort, found: &[SpendStep], wanted: &[(Terms, &[Terms])]) {
+    assert_eq!(rt; found.len(), wanted.len());
+    for (found, (from, levels)) in found.iter().zip(wanted) {
+        expect_fraction(rt, found.from, *from);
+        expect_fractions(rt, found.levels.as_slice(), levels);
+    }
+}
+
+/// This spend.
+fn expect_spend(rt: &impl Abort, found: &Spend, wanted: &HeldSpend) {
+    match found {
+        Spend::Shares(shares) => match wanted {
+            HeldSpend::Shares(wanted) => expect_fractions(rt, shares.as_slice(), wanted),
+            HeldSpend::Table(_) => assert!(rt; false),
+        },
+        Spend::Table(steps) => match wanted {
+            HeldSpend::Table(wanted) => expect_steps(rt, steps.as_slice(), wanted),
+            HeldSpend::Shares(_) => assert!(rt; false),
+        },
+    }
+}
+
+/// The stages of a draft hold just this.
+fn expect_stages(rt: &impl Abort, found: &DraftStages, wanted: &HeldStages) {
+    assert_eq!(rt; found.count, wanted.count);
+    assert_eq!(rt; found.spend.len(), wanted.spend.len());
+    for (found, wanted) in found.spend.iter().zip(wanted.spend) {
+        expect_spend(rt, found, wanted);
+    }
+    assert_eq!(rt; found.arrivals.len(), wanted.arrivals.len());
+    for (found, (hypothesis, stage, p)) in found.arrivals.iter().zip(wanted.arrivals) {
+        assert_eq!(rt; found.hypothesis, *hypothesis);
+        assert_eq!(rt; found.stage, *stage);
+        expect_fraction(rt, found.p, *p);
+    }
+}
+
+#[test]
+fn texts_say_stages(rt: HostRuntime) -> Result<(), Fail> {
+    for (text, wanted) in STAGED {
+        let draft = draft(rt.alloc(), text.as_bytes()).ok().ok_or(text)?;
+        match &draft.stages {
+            Some(found) => expect_stages(&rt, found, &wanted),
+            None => assert!(&rt; false, "{text}"),
         }
     }
     Ok(())

@@ -8,7 +8,7 @@ use fraction::NumberFault;
 pub type Faulty = (&'static str, usize, LineKind);
 
 /// Other first words, at each place.
-pub const UNEXPECTED: [(&str, usize); 47] = [
+pub const UNEXPECTED: [(&str, usize); 65] = [
     // Where the level must stand.
     ("beta 0.05\n", 1),
     ("Alpha 0.05\n", 1),
@@ -65,7 +65,6 @@ pub const UNEXPECTED: [(&str, usize); 47] = [
         "alpha 0.05\nhypotheses A B\nweights 1/2 1/2\ncomponent 1\n",
         4,
     ),
-    ("alpha 0.05\nhypotheses A B\nweights 1/2 1/2\nstages 1\n", 4),
     (
         "alpha 0.05\nhypotheses A B\nweights 1/2 1/2\nedge A B 1\nspend A 1\n",
         5,
@@ -109,10 +108,90 @@ pub const UNEXPECTED: [(&str, usize); 47] = [
         "alpha 0.05\nhypotheses A B\nweights 1 0\nedge A B 1\ncomponent 1\n",
         5,
     ),
+    // Where stages have no number yet.
+    (
+        "alpha 0.05\nhypotheses A B\nweights 1/2 1/2\nspend A 1\n",
+        4,
+    ),
+    (
+        "alpha 0.05\nhypotheses A B\nweights 1/2 1/2\ntable A 1 0.01\n",
+        4,
+    ),
+    (
+        "alpha 0.05\nhypotheses A B\nweights 1/2 1/2\narrive A 1 0.01\n",
+        4,
+    ),
+    // Where what a hypothesis spends must stand.
+    (
+        "alpha 0.05\nhypotheses A B\nweights 1/2 1/2\nstages 1\nstages 1\n",
+        5,
+    ),
+    (
+        "alpha 0.05\nhypotheses A B\nweights 1/2 1/2\nstages 1\narrive A 1 0.01\n",
+        5,
+    ),
+    (
+        "alpha 0.05\nhypotheses A B\nweights 1/2 1/2\nstages 1\nedge A B 1\n",
+        5,
+    ),
+    (
+        "alpha 0.05\nhypotheses A B\nweights 1/2 1/2\nstages 1\nspend B 1\n",
+        5,
+    ),
+    (
+        "alpha 0.05\nhypotheses A B\nweights 1/2 1/2\nstages 1\ntable B 1 0.01\n",
+        5,
+    ),
+    (
+        "alpha 0.05\nhypotheses A B\nweights 1/2 1/2\nstages 1\nspend A 1\nspend A 1\n",
+        6,
+    ),
+    (
+        "alpha 0.05\nhypotheses A B\nweights 1/2 1/2\nstages 1\nspend A 1\narrive A 1 0.01\n",
+        6,
+    ),
+    // Where a table may go on.
+    (
+        "alpha 0.05\nhypotheses A B\nweights 1/2 1/2\nstages 1\ntable A 1 0.01\nspend A 1\n",
+        6,
+    ),
+    (
+        "alpha 0.05\nhypotheses A B\nweights 1/2 1/2\nstages 1\ntable A 1 0.01\ntable C 1 0.01\n",
+        6,
+    ),
+    (
+        "alpha 0.05\nhypotheses A B\nweights 1/2 1/2\nstages 1\ntable A 1 0.01\narrive A 1 0.01\n",
+        6,
+    ),
+    (
+        "alpha 0.05\nhypotheses A B\nweights 1/2 1/2\nstages 1\nspend A 1\ntable B 1 0.01\ntable A 1 0.01\n",
+        7,
+    ),
+    (
+        "alpha 0.05\nhypotheses A B\nweights 1/2 1/2\nstages 1\nspend A 1\ntable B 1 0.01\nspend A 1\n",
+        7,
+    ),
+    // Where a p-value that arrived may stand, or nothing.
+    (
+        "alpha 0.05\nhypotheses A B\nweights 1/2 1/2\nstages 1\nspend A 1\nspend B 1\nspend A 1\n",
+        7,
+    ),
+    (
+        "alpha 0.05\nhypotheses A B\nweights 1/2 1/2\nstages 1\nspend A 1\nspend B 1\ntable B 1 0.01\n",
+        7,
+    ),
+    (
+        "alpha 0.05\nhypotheses A B\nweights 1/2 1/2\nstages 1\nspend A 1\nspend B 1\narrive A 1 0.01\nstages 1\n",
+        8,
+    ),
+    (
+        "alpha 0.05\nhypotheses A B\nweights 1/2 1/2\nstages 1\nspend A 1\ntable B 1 0.01\narrive A 1 0.01\ntable B 1 0.02\n",
+        8,
+    ),
 ];
 
 /// Texts that end where a line must follow.
-pub const ENDED: [(&str, usize); 23] = [
+pub const ENDED: [(&str, usize); 28] = [
     ("", 1),
     ("\n", 2),
     ("\n\n", 3),
@@ -142,10 +221,27 @@ pub const ENDED: [(&str, usize); 23] = [
         "alpha 0.05\nhypotheses A B\ncomponent 1/2\nweights 1 0\ncomponent 1/2\n",
         6,
     ),
+    ("alpha 0.05\nhypotheses A B\nweights 1/2 1/2\nstages 1\n", 5),
+    (
+        "alpha 0.05\nhypotheses A B\nweights 1/2 1/2\nstages 1\nspend A 1\n",
+        6,
+    ),
+    (
+        "alpha 0.05\nhypotheses A B\nweights 1/2 1/2\nstages 1\ntable A 1 0.01\n",
+        6,
+    ),
+    (
+        "alpha 0.05\nhypotheses A B\nweights 1/2 1/2\nedge A B 1\nstages 2\ntable A 1/2 0.01 0.01\ntable A 1 0.02 0.02\n",
+        8,
+    ),
+    (
+        "alpha 0.05\nhypotheses A A\nweights 1/2 1/2\nstages 1\ntable A 1/2 0.01\ntable A 1 0.01\n",
+        7,
+    ),
 ];
 
 /// Lines of too few or too many words.
-pub const WORD_COUNTS: [(&str, usize); 22] = [
+pub const WORD_COUNTS: [(&str, usize); 30] = [
     ("alpha", 1),
     ("alpha\n", 1),
     ("alpha \t \r\n", 1),
@@ -192,10 +288,39 @@ pub const WORD_COUNTS: [(&str, usize); 22] = [
         "alpha 0.05\nhypotheses A B\ncomponent 1\nweights 1 0\nedge A B\n",
         5,
     ),
+    ("alpha 0.05\nhypotheses A B\nweights 1/2 1/2\nstages\n", 4),
+    (
+        "alpha 0.05\nhypotheses A B\nweights 1/2 1/2\nstages 1 2\n",
+        4,
+    ),
+    (
+        "alpha 0.05\nhypotheses A B\nweights 1/2 1/2\nstages 1\nspend\n",
+        5,
+    ),
+    (
+        "alpha 0.05\nhypotheses A B\nweights 1/2 1/2\nstages 1\nspend B\n",
+        5,
+    ),
+    (
+        "alpha 0.05\nhypotheses A B\nweights 1/2 1/2\nstages 1\ntable B 1\n",
+        5,
+    ),
+    (
+        "alpha 0.05\nhypotheses A B\nweights 1/2 1/2\nstages 1\ntable A 1 0.01\ntable C 1\n",
+        6,
+    ),
+    (
+        "alpha 0.05\nhypotheses A B\nweights 1/2 1/2\nstages 1\nspend A 1\nspend B 1\narrive C x\n",
+        7,
+    ),
+    (
+        "alpha 0.05\nhypotheses A B\nweights 1/2 1/2\nstages 1\nspend A 1\nspend B 1\narrive A 1 0.01 0.02\n",
+        7,
+    ),
 ];
 
 /// Edges with a name that no hypothesis has.
-pub const UNKNOWN_NAMES: [(&str, usize); 14] = [
+pub const UNKNOWN_NAMES: [(&str, usize); 15] = [
     (
         "alpha 0.05\nhypotheses H1 H2\nweights 1/2 1/2\nedge H3 H2 1\n",
         4,
@@ -249,10 +374,14 @@ pub const UNKNOWN_NAMES: [(&str, usize); 14] = [
         "alpha 0.05\nhypotheses A B\ncomponent 1/2\nweights 1 0\ncomponent 1/2\nweights 0 1\nedge B C 1\n",
         7,
     ),
+    (
+        "alpha 0.05\nhypotheses A B\nweights 1/2 1/2\nstages 1\nspend A 1\nspend B 1\narrive C x y\n",
+        7,
+    ),
 ];
 
 /// Lines with a numeral that is refused.
-pub const NUMBERS: [(&str, usize, NumberFault); 19] = [
+pub const NUMBERS: [(&str, usize, NumberFault); 24] = [
     ("alpha x\n", 1, NumberFault::BadByte(0)),
     ("alpha 0,05\n", 1, NumberFault::BadByte(1)),
     ("alpha 1/\n", 1, NumberFault::BadByte(2)),
@@ -319,6 +448,31 @@ pub const NUMBERS: [(&str, usize, NumberFault); 19] = [
         "alpha 0.05\nhypotheses A B\ncomponent 1\nweights 1 0\ncomponent 1/\n",
         5,
         NumberFault::BadByte(2),
+    ),
+    (
+        "alpha 0.05\nhypotheses A B\nweights 1/2 1/2\nstages 1\nspend A 1 x\n",
+        5,
+        NumberFault::BadByte(0),
+    ),
+    (
+        "alpha 0.05\nhypotheses A B\nweights 1/2 1/2\nstages 1\ntable A x 0.01\n",
+        5,
+        NumberFault::BadByte(0),
+    ),
+    (
+        "alpha 0.05\nhypotheses A B\nweights 1/2 1/2\nstages 1\ntable A 1 1/0 x\n",
+        5,
+        NumberFault::ZeroDenominator,
+    ),
+    (
+        "alpha 0.05\nhypotheses A B\nweights 1/2 1/2\nstages 1\ntable A 1 0.01\ntable A 1 1/\n",
+        6,
+        NumberFault::BadByte(2),
+    ),
+    (
+        "alpha 0.05\nhypotheses A B\nweights 1/2 1/2\nstages 1\nspend A 1\nspend B 1\narrive A 1 y\n",
+        7,
+        NumberFault::BadByte(0),
     ),
 ];
 
@@ -564,8 +718,8 @@ pub const ORDER: [Faulty; 27] = [
     ),
     (
         "alpha 0.05\nhypotheses ? ?\nweights 1 1\nstages 1\n",
-        4,
-        LineKind::Unexpected,
+        5,
+        LineKind::Ended,
     ),
 ];
 
@@ -958,5 +1112,106 @@ pub const ENTANGLED: [(&str, &[HeldComponent]); 3] = [
                 edges: &[(1, 0, &[(1, 1)])],
             },
         ],
+    ),
+];
+
+/// Where a whole number of 1 to 9 digits must stand.
+pub const WHOLE: [(&str, usize); 7] = [
+    ("alpha 0.05\nhypotheses A B\nweights 1/2 1/2\nstages x\n", 4),
+    (
+        "alpha 0.05\nhypotheses A B\nweights 1/2 1/2\nstages +1\n",
+        4,
+    ),
+    (
+        "alpha 0.05\nhypotheses A B\nweights 1/2 1/2\nstages 1.0\n",
+        4,
+    ),
+    (
+        "alpha 0.05\nhypotheses A B\nweights 1/2 1/2\nstages 1234567890\n",
+        4,
+    ),
+    (
+        "alpha 0.05\nhypotheses A B\nweights 1/2 1/2\nstages 1\nspend A 1\nspend B 1\narrive A x y\n",
+        7,
+    ),
+    (
+        "alpha 0.05\nhypotheses A B\nweights 1/2 1/2\nstages 1\nspend A 1\nspend B 1\narrive A 1/1 0.01\n",
+        7,
+    ),
+    (
+        "alpha 0.05\nhypotheses A B\nweights 1/2 1/2\nstages 1\nspend A 1\nspend B 1\narrive A 0000000001 0.01\n",
+        7,
+    ),
+];
+
+/// What a hypothesis spends: fractions, or the steps of a table with their levels.
+#[derive(Clone, Copy)]
+pub enum HeldSpend {
+    Shares(&'static [Terms]),
+    Table(&'static [(Terms, &'static [Terms])]),
+}
+
+/// What the stages of a draft hold. Each arrival has the position of its hypothesis, its stage and its p-value.
+#[derive(Clone, Copy)]
+pub struct HeldStages {
+    pub count: u64,
+    pub spend: &'static [HeldSpend],
+    pub arrivals: &'static [(usize, usize, Terms)],
+}
+
+/// Texts with stages, and what they say of them.
+pub const STAGED: [(&str, HeldStages); 4] = [
+    // Arrivals keep their order.
+    (
+        "alpha 0.05\nhypotheses H1 H2\nweights 1/2 1/2\nedge H1 H2 1\nedge H2 H1 1\nstages 2\nspend H1 1/2 1/2\nspend H2 1/3 2/3\narrive H1 1 0.02\narrive H2 1 0.03\narrive H1 2 0.01\narrive H2 2 0.02\n",
+        HeldStages {
+            count: 2,
+            spend: &[
+                HeldSpend::Shares(&[(1, 2), (1, 2)]),
+                HeldSpend::Shares(&[(1, 3), (2, 3)]),
+            ],
+            arrivals: &[
+                (0, 1, (1, 50)),
+                (1, 1, (3, 100)),
+                (0, 2, (1, 100)),
+                (1, 2, (1, 50)),
+            ],
+        },
+    ),
+    // A table is all lines of its name.
+    (
+        "alpha 0.05\nhypotheses H1 H2\nweights 1/2 1/2\nedge H1 H2 1\nedge H2 H1 1\nstages 2\ntable H1 1/2 0.01 0.015\ntable H1 1 0.02 0.03\nspend H2 1/2 1/2\narrive H1 1 0.02\narrive H2 1 0.012\n",
+        HeldStages {
+            count: 2,
+            spend: &[
+                HeldSpend::Table(&[
+                    ((1, 2), &[(1, 100), (3, 200)]),
+                    ((1, 1), &[(1, 50), (3, 100)]),
+                ]),
+                HeldSpend::Shares(&[(1, 2), (1, 2)]),
+            ],
+            arrivals: &[(0, 1, (1, 50)), (1, 1, (3, 250))],
+        },
+    ),
+    // A table may end the text, behind another, and numbers of levels aren't looked at.
+    (
+        "alpha 0.05\nhypotheses A B\ncomponent 1\nweights 1 0\nstages 000000003\ntable A 1 0.01\ntable B 1/2 0.01 0.02 0.03 0.04",
+        HeldStages {
+            count: 3,
+            spend: &[
+                HeldSpend::Table(&[((1, 1), &[(1, 100)])]),
+                HeldSpend::Table(&[((1, 2), &[(1, 100), (1, 50), (3, 100), (1, 25)])]),
+            ],
+            arrivals: &[],
+        },
+    ),
+    // No hypotheses, and no spend.
+    (
+        "alpha 0.05\nhypotheses\nweights\nstages 0\n",
+        HeldStages {
+            count: 0,
+            spend: &[],
+            arrivals: &[],
+        },
     ),
 ];

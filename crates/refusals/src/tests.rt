@@ -291,7 +291,7 @@ fn too_wide_sums_of_cases(rt: HostRuntime) -> Result<(), Fail> {
     Ok(())
 }
 
-const LINES: [(usize, LineKind, u8, &str); 14] = [
+const LINES: [(usize, LineKind, u8, &str); 15] = [
     (
         1,
         LineKind::Unexpected,
@@ -306,6 +306,7 @@ const LINES: [(usize, LineKind, u8, &str); 14] = [
         3,
         "malformed: line 5: unknown name\n",
     ),
+    (6, LineKind::Whole, 3, "malformed: line 6: whole number\n"),
     (
         3,
         LineKind::Number(NumberFault::Empty),
