@@ -7,7 +7,7 @@ use crate::vectors::{
 };
 use crate::{LineKind, TextFault, read_text};
 use case_model::{Case, DraftStages, Entry, Inputs, Refused, Spend, SpendStep};
-use field_core::{Number, Text};
+use field_core::Number;
 use fraction::Fraction;
 use std::alloc::Global;
 use std::process::Abort;
