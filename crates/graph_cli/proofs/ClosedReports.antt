@@ -12,7 +12,6 @@ use Rattle.case_model.specs.Draft.{have_known_arrivals}
 use Rattle.case_model.specs.Content.{Content, content_of}
 use Rattle.case_model.specs.declared.draft.Draft.{Draft}
 use Rattle.case_model.specs.Validity.{IsValidContent}
-use Rattle.text_lines.specs.Lines.{rows_of, texts_in}
 use Rattle.edge_text.proofs.Texts.{document_arrivals}
 use Rattle.command_words.specs.Asked.{Written, text, csv, json, on_case}
 use Rattle.command_words.specs.declared.command.CaseTask.TheVariants.{Test}
@@ -40,7 +39,7 @@ named_listed steps j = any_listed steps j
 
 -- of what a form says, each p-value that arrived is of a hypothesis
 known_arrivals : (form : Written) (bytes : List ℕ) (d : Draft) → (grammar form bytes).Gives d → have_known_arrivals d ≡ true
-known_arrivals text bytes d t = document_arrivals (texts_in (rows_of bytes)) d t
+known_arrivals text bytes d t = document_arrivals _ d t
 known_arrivals (csv alpha) bytes d t = absurd t
 known_arrivals json bytes d t = absurd t
 
