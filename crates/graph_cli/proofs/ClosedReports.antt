@@ -50,9 +50,9 @@ faultless_content d f known = ∣ (record { draft = d; content_is = refl; faultl
 not_done : (s : Status) (cause : Cause) → s ≡ Refused cause → s ≡ Done → ⊥
 not_done s cause e f = cc
 
-reported : (c : Content) (priority : Priority) (d : Decision) (xs : List Adjusted) (text : List ℕ) → IsValidContent c → IsDecision c priority d → AreAdjusted c xs → text ≡ test_report c d xs
-    → ReportsClosedTest c text
-reported c priority d xs text v h k e = record {
+reported : (c : Content) (priority : Priority) (d : Decision) (xs : List Adjusted) (printed : List ℕ) → IsValidContent c → IsDecision c priority d → AreAdjusted c xs → printed ≡ test_report c d xs
+    → ReportsClosedTest c printed
+reported c priority d xs printed v h k e = record {
   decision = d;
   adjusted = xs;
   text_is = e;
