@@ -1,3 +1,4 @@
+//! Why there are no adjusted values.
 use entangled::OpenFault;
 use field_core::{NoMemory, WideAt};
 

@@ -1,3 +1,4 @@
+//! Why an expression has no value.
 use crate::ExprFault;
 
 /// Why an expression has no value.
