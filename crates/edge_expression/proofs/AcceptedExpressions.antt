@@ -42,7 +42,8 @@ blanks_stay s n (b ∷ bs) t h a =
     reads_by b (bs ++ t) s s n n (h b a.0) (ap (λ d. opened d n) (class_blank b a.0)) ∙ blanks_stay s n bs t h a.1
 
 -- a token behind blanks
-token_by : (s : State) (n : ℕ) (k : Token) (ks : List Token) → Stays s → ((t : List ℕ) → IsSpelt ks t → reads (token_text k ++ t) s n ≡ true) → Accepts s n (k ∷ ks)
+token_by : (s : State) (n : ℕ) (k : Token) (ks : List Token) → Stays s
+    → ((t : List ℕ) → IsSpelt ks t → reads (token_text k ++ t) s n ≡ true) → Accepts s n (k ∷ ks)
 unfolding Accepts
 token_by s n k ks h f t x = ap (λ y. reads y s n) x.spelt ∙ blanks_stay s n x.blanks (token_text k ++ x.rest) h x.are_blanks ∙ f x.rest x.is_rest
 
@@ -89,7 +90,8 @@ as_start [] n h = let e : ends false n ≡ true = sym (reads_nil states.Operand 
 as_start (b ∷ t) n h = reads_cons b t states.Start n ∙ start_by b t n (class_of b) (class_is b) (λ e. as_start t n e)
     (sym (reads_cons b t states.Operand n) ∙ h)
 
-epsilon_by : (t : List ℕ) (n : ℕ) (c : Class) → (reads t states.Factor n ≡ true → reads t states.Epsilon n ≡ true) → After t (behind_factor c) (opened c n) ≡ true → After t (behind_epsilon c) (opened c n) ≡ true
+epsilon_by : (t : List ℕ) (n : ℕ) (c : Class) → (reads t states.Factor n ≡ true → reads t states.Epsilon n ≡ true)
+    → After t (behind_factor c) (opened c n) ≡ true → After t (behind_epsilon c) (opened c n) ≡ true
 unfolding After
 epsilon_by t n classes.Blank r h = r h
 epsilon_by t n classes.Caret r h = absurd cc
@@ -257,28 +259,37 @@ signs_at (Some sign) n ks h = sign_at_start sign n ks h
 
 mutual
   expression_accepted : (e : Expression) (n : ℕ) (more : List Token) → Accepts states.Factor n more → Accepts states.Start n (expression_tokens e more)
-  expression_accepted (Sum sign first others) n more h = signs_at sign n (term_tokens first (terms_tokens others more)) (term_accepted first n (terms_tokens others more) (terms_accepted others n more h))
+  expression_accepted (Sum sign first others) n more h =
+      signs_at sign n (term_tokens first (terms_tokens others more)) (term_accepted first n (terms_tokens others more) (terms_accepted others n more h))
 
   terms_accepted : (ts : MoreTerms) (n : ℕ) (more : List Token) → Accepts states.Factor n more → Accepts states.Factor n (terms_tokens ts more)
   terms_accepted NoTerm n more h = h
-  terms_accepted (AndTerm sign term others) n more h = sign_behind sign n (term_tokens term (terms_tokens others more)) (term_accepted term n (terms_tokens others more) (terms_accepted others n more h))
+  terms_accepted (AndTerm sign term others) n more h =
+      sign_behind sign n (term_tokens term (terms_tokens others more)) (term_accepted term n (terms_tokens others more) (terms_accepted others n more h))
 
   term_accepted : (t : Term) (n : ℕ) (more : List Token) → Accepts states.Factor n more → Accepts states.Operand n (term_tokens t more)
   term_accepted (Product first others) n more h = factor_accepted first n (factors_tokens others more) (factors_accepted others n more h)
 
   factors_accepted : (fs : MoreFactors) (n : ℕ) (more : List Token) → Accepts states.Factor n more → Accepts states.Factor n (factors_tokens fs more)
   factors_accepted NoFactor n more h = h
-  factors_accepted (Times factor others) n more h = times_behind n (factor_tokens factor (factors_tokens others more)) (factor_accepted factor n (factors_tokens others more) (factors_accepted others n more h))
-  factors_accepted (Over divisor others) n more h = over_behind n (factor_tokens divisor (factors_tokens others more)) (factor_accepted divisor n (factors_tokens others more) (factors_accepted others n more h))
-  factors_accepted (Beside factor others) n more h = further_accepted factor states.Factor n (factors_tokens others more) factor_begins (factors_accepted others n more h)
+  factors_accepted (Times factor others) n more h =
+      times_behind n (factor_tokens factor (factors_tokens others more))
+      (factor_accepted factor n (factors_tokens others more) (factors_accepted others n more h))
+  factors_accepted (Over divisor others) n more h =
+      over_behind n (factor_tokens divisor (factors_tokens others more))
+      (factor_accepted divisor n (factors_tokens others more) (factors_accepted others n more h))
+  factors_accepted (Beside factor others) n more h =
+      further_accepted factor states.Factor n (factors_tokens others more) factor_begins (factors_accepted others n more h)
 
   factor_accepted : (f : Factor) (n : ℕ) (more : List Token) → Accepts states.Factor n more → Accepts states.Operand n (factor_tokens f more)
   factor_accepted (Number decimal) n more h = decimal_at decimal n more h
   factor_accepted (Other further) n more h = further_accepted further states.Operand n more operand_begins h
 
-  further_accepted : (f : Further) (s : State) (n : ℕ) (more : List Token) → Begins s → Accepts states.Factor n more → Accepts s n (further_tokens f more)
+  further_accepted : (f : Further) (s : State) (n : ℕ) (more : List Token) → Begins s → Accepts states.Factor n more
+      → Accepts s n (further_tokens f more)
   further_accepted (Epsilon power) s n more b h = word_at s n (power_tokens power more) b (powers_at power n more h)
-  further_accepted (Parens inner) s n more b h = open_at s n (expression_tokens inner (CloseToken ∷ more)) b (expression_accepted inner (suc n) (CloseToken ∷ more) (close_behind n more h))
+  further_accepted (Parens inner) s n more b h =
+      open_at s n (expression_tokens inner (CloseToken ∷ more)) b (expression_accepted inner (suc n) (CloseToken ∷ more) (close_behind n more h))
 
 blanks_end : (t : List ℕ) → AreBlanks t → reads t states.Factor 0 ≡ true
 blanks_end t h = ap (λ x. reads x states.Factor 0) (sym (append-nil t)) ∙ blanks_stay states.Factor 0 t [] factor_stays h ∙ reads_nil states.Factor 0

@@ -45,7 +45,8 @@ pub product_none : (x y : List Terms) (k : ℕ) → product_sum x y k 0 ≡ Ok z
 unfolding product_sum
 product_none x y k = refl
 
-product_next : (x y : List Terms) (k i : ℕ) → product_sum x y k (suc i) ≡ (product_sum x y k i >>= λ s. product (terms_at x i) (terms_at y (k - i)) >>= λ p. sum s p)
+product_next : (x y : List Terms) (k i : ℕ)
+    → product_sum x y k (suc i) ≡ (product_sum x y k i >>= λ s. product (terms_at x i) (terms_at y (k - i)) >>= λ p. sum s p)
 unfolding product_sum
 product_next x y k i = refl
 
@@ -53,11 +54,13 @@ next : (n : ℕ) → n + 1 ≡ suc n
 next n = omega arith
 
 -- with a product more
-pub product_more : (x y : List Terms) (k i : ℕ) (s p a b : Terms) → product_sum x y k i ≡ Ok s → terms_at x i ≡ a → terms_at y (k - i) ≡ b → product a b ≡ Ok p → product_sum x y k (i + 1) ≡ sum s p
+pub product_more : (x y : List Terms) (k i : ℕ) (s p a b : Terms) → product_sum x y k i ≡ Ok s → terms_at x i ≡ a
+    → terms_at y (k - i) ≡ b → product a b ≡ Ok p → product_sum x y k (i + 1) ≡ sum s p
 product_more x y k i s p a b h e f g = ap (product_sum x y k) (next i) ∙ product_next x y k i ∙ rw (h, e, f, g) refl
 
 -- a product that is refused
-pub product_refused : (x y : List Terms) (k i : ℕ) (s a b : Terms) (f : ValueFault) → product_sum x y k i ≡ Ok s → terms_at x i ≡ a → terms_at y (k - i) ≡ b → product a b ≡ Err f → product_sum x y k (i + 1) ≡ Err f
+pub product_refused : (x y : List Terms) (k i : ℕ) (s a b : Terms) (f : ValueFault) → product_sum x y k i ≡ Ok s → terms_at x i ≡ a
+    → terms_at y (k - i) ≡ b → product a b ≡ Err f → product_sum x y k (i + 1) ≡ Err f
 product_refused x y k i s a b f h e g r = ap (product_sum x y k) (next i) ∙ product_next x y k i ∙ rw (h, e, g, r) refl
 
 -- a fault stays

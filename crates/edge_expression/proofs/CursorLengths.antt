@@ -45,15 +45,18 @@ beside_shorter heads.Epsilon old new m h =
     omega (arith, ap length h.1, length-drop (min (length (after_blanks old)) 8) (after_blanks old), some_word (after_blanks old) h.0, after_length old)
 beside_shorter (heads.Decimal text) old new m h = absurd (no_decimal (after_blanks old) m h.0 h.1)
 
-pub joint_shorter : (op : Operation) (head : Head) (old mid new : List ℕ) → JointTaken (Some op) old mid → HeadTaken head (after_blanks mid) new → length new < length old
+pub joint_shorter : (op : Operation) (head : Head) (old mid new : List ℕ) → JointTaken (Some op) old mid → HeadTaken head (after_blanks mid) new
+    → length new < length old
 joint_shorter operations.Add head old mid new j h = absurd j
 joint_shorter operations.Subtract head old mid new j h = absurd j
 joint_shorter operations.Multiply head old mid new (inl e) h = omega (arith, byte_shorter 42 old mid e, head_smaller head mid new h)
-joint_shorter operations.Multiply head old mid new (inr e) h = beside_shorter head old new e.0 (subst (λ (x : List ℕ). HeadTaken head (after_blanks x) new) e.1 h)
+joint_shorter operations.Multiply head old mid new (inr e) h =
+    beside_shorter head old new e.0 (subst (λ (x : List ℕ). HeadTaken head (after_blanks x) new) e.1 h)
 joint_shorter operations.Divide head old mid new j h = omega (arith, byte_shorter 47 old mid j, head_smaller head mid new h)
 
 -- with a joint more, no more calls are to come
-pub joint_smaller : (op : Operation) (head : Head) (old mid new : List ℕ) → JointTaken (Some op) old mid → HeadTaken head (after_blanks mid) new → 4 * length new + head_weight head ≤ 4 * length old
+pub joint_smaller : (op : Operation) (head : Head) (old mid new : List ℕ) → JointTaken (Some op) old mid → HeadTaken head (after_blanks mid) new
+    → 4 * length new + head_weight head ≤ 4 * length old
 joint_smaller operations.Add head old mid new j h = absurd j
 joint_smaller operations.Subtract head old mid new j h = absurd j
 joint_smaller operations.Multiply head old mid new (inl e) h = omega (arith, byte_shorter 42 old mid e, head_smaller head mid new h)

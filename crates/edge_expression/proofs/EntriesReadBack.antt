@@ -90,7 +90,8 @@ den_within : (t : Terms) → IsShortTerms t → unsigned_abs t.den ≤ 10 ^ 18
 den_within t s = (short_parts t s.1).den
 
 coefficient_term : (p : ℕ) (t : Terms) → p ≤ 4 → IsShortTerms t → IsTerm p (absolute t)
-coefficient_term p t h s = subst (IsTerm p) (size_of t s) (term_of p (unsigned_abs t.num) (unsigned_abs t.den) h (num_within t s) (den_within t s) (size_short t s))
+coefficient_term p t h s =
+    subst (IsTerm p) (size_of t s) (term_of p (unsigned_abs t.num) (unsigned_abs t.den) h (num_within t s) (den_within t s) (size_short t s))
 
 -- ---- a term more
 
@@ -107,7 +108,8 @@ above_is z h = sign_is z ∙ ap (λ b. with_sign b (unsigned_abs z)) h
 without_is : (t : Terms) → is_negative t.num ≡ false → absolute t ≡ t
 without_is t h = ap (λ z. record { num = z; den = t.den }) (sym (above_is t.num h))
 
-join_by : (e : List Terms) (p : ℕ) (b : Bool) → is_negative (terms_at e p).num ≡ b → AreShort e → joined (sign_if b) (tabled (upto e p)) (tabled (single p (absolute (terms_at e p)))) ≡ Ok (tabled (upto e (suc p)))
+join_by : (e : List Terms) (p : ℕ) (b : Bool) → is_negative (terms_at e p).num ≡ b → AreShort e
+    → joined (sign_if b) (tabled (upto e p)) (tabled (single p (absolute (terms_at e p)))) ≡ Ok (tabled (upto e (suc p)))
 unfolding AreShort sign_if
 join_by e p true n s =
     let t : Terms = terms_at e p in
@@ -127,7 +129,8 @@ none_text : (f : Bool) (p : ℕ) (e : List Terms) → terms_text f p zero e ≡ 
 unfolding terms_text
 none_text f p e = refl
 
-next_text : (f : Bool) (p n : ℕ) (e : List Terms) (b : Bool) → is_zero (terms_at e p) ≡ b → terms_text f p (suc n) e ≡ cond b (terms_text f (suc p) n e) (joined_term f p (terms_at e p) ++ terms_text false (suc p) n e)
+next_text : (f : Bool) (p n : ℕ) (e : List Terms) (b : Bool) → is_zero (terms_at e p) ≡ b
+    → terms_text f p (suc n) e ≡ cond b (terms_text f (suc p) n e) (joined_term f p (terms_at e p) ++ terms_text false (suc p) n e)
 unfolding terms_text
 next_text f p n e b h = ap (λ c. cond c (terms_text f (suc p) n e) (joined_term f p (terms_at e p) ++ terms_text false (suc p) n e)) h
 
@@ -135,7 +138,8 @@ no_more : (v : List Terms) → with_terms v NoTerm ≡ Ok v
 unfolding with_terms
 no_more v = refl
 
-and_more : (v : List Terms) (sign : Sign) (t : Term) (ts : MoreTerms) → with_terms v (AndTerm sign t ts) ≡ (term_value t >>= λ x. joined sign v x >>= λ l. with_terms l ts)
+and_more : (v : List Terms) (sign : Sign) (t : Term) (ts : MoreTerms)
+    → with_terms v (AndTerm sign t ts) ≡ (term_value t >>= λ x. joined sign v x >>= λ l. with_terms l ts)
 unfolding with_terms
 and_more v sign t ts = refl
 
@@ -151,18 +155,24 @@ joined_is : (f : Bool) (p : ℕ) (t : Terms) (b : Bool) → is_negative t.num �
 unfolding joined_term
 joined_is f p t b h = ap (λ c. joint_text f c ++ term_text p (absolute t)) h
 
-piece_text : (f : Bool) (p n : ℕ) (e : List Terms) (b : Bool) → is_zero (terms_at e p) ≡ false → is_negative (terms_at e p).num ≡ b → terms_text f p (suc n) e ≡ joint_text f b ++ (term_text p (absolute (terms_at e p)) ++ terms_text false (suc p) n e)
+piece_text : (f : Bool) (p n : ℕ) (e : List Terms) (b : Bool) → is_zero (terms_at e p) ≡ false → is_negative (terms_at e p).num ≡ b
+    → terms_text f p (suc n) e ≡ joint_text f b ++ (term_text p (absolute (terms_at e p)) ++ terms_text false (suc p) n e)
 piece_text f p n e b z h =
     next_text f p n e false z ∙ ap (λ (y : List ℕ). y ++ terms_text false (suc p) n e) (joined_is f p (terms_at e p) b h) ∙ append_assoc (joint_text f b) (term_text p (absolute (terms_at e p))) (terms_text false (suc p) n e)
 
-more_term : (e : List Terms) (p n : ℕ) (b : Bool) → AreShort e → p ≤ 4 → is_zero (terms_at e p) ≡ false → is_negative (terms_at e p).num ≡ b → IsMore e (suc p) n → IsMore e p (suc n)
+more_term : (e : List Terms) (p n : ℕ) (b : Bool) → AreShort e → p ≤ 4 → is_zero (terms_at e p) ≡ false
+    → is_negative (terms_at e p).num ≡ b → IsMore e (suc p) n → IsMore e p (suc n)
 unfolding AreShort
 more_term e p n b s h z neg m =
     let t = coefficient_term p (terms_at e p) h (s p) in
     let rest : List ℕ = terms_text false (suc p) n e in
     record {
       terms = AndTerm (sign_if b) t.term m.terms;
-      spelt = lead (SignToken (sign_if b)) (term_tokens t.term (terms_tokens m.terms [])) (terms_text false p (suc n) e) (term_text p (absolute (terms_at e p)) ++ rest) (piece_text false p n e b z neg ∙ ap (λ (y : List ℕ). y ++ (term_text p (absolute (terms_at e p)) ++ rest)) (sign_text_is b)) (t.spelt (terms_tokens m.terms []) rest m.spelt);
+      spelt =
+          lead (SignToken (sign_if b)) (term_tokens t.term (terms_tokens m.terms [])) (terms_text false p (suc n) e)
+          (term_text p (absolute (terms_at e p)) ++ rest)
+          (piece_text false p n e b z neg ∙ ap (λ (y : List ℕ). y ++ (term_text p (absolute (terms_at e p)) ++ rest)) (sign_text_is b))
+          (t.spelt (terms_tokens m.terms []) rest m.spelt);
       worth = and_more (tabled (upto e p)) (sign_if b) t.term m.terms ∙ rw (t.worth, join_by e p b neg s) m.worth;
     }
 
@@ -202,27 +212,37 @@ unfolding first_sign sign_if
 first_sign_is true = refl
 first_sign_is false = refl
 
-first_spelt : (b : Bool) (t : Term) (ks : List Token) (x : List ℕ) → IsSpelt (term_tokens t ks) x → (ts : MoreTerms) → ks ≡ terms_tokens ts [] → IsSpelt (expression_tokens (Sum (first_sign b) t ts) []) (joint_text true b ++ x)
+first_spelt : (b : Bool) (t : Term) (ks : List Token) (x : List ℕ) → IsSpelt (term_tokens t ks) x → (ts : MoreTerms)
+    → ks ≡ terms_tokens ts [] → IsSpelt (expression_tokens (Sum (first_sign b) t ts) []) (joint_text true b ++ x)
 unfolding first_sign
-first_spelt true t ks x s ts e = subst (λ k. IsSpelt (SignToken Minus ∷ term_tokens t k) (45 ∷ x)) e (lead (SignToken Minus) (term_tokens t ks) (45 ∷ x) x refl s)
+first_spelt true t ks x s ts e =
+    subst (λ k. IsSpelt (SignToken Minus ∷ term_tokens t k) (45 ∷ x)) e (lead (SignToken Minus) (term_tokens t ks) (45 ∷ x) x refl s)
 first_spelt false t ks x s ts e = subst (λ k. IsSpelt (term_tokens t k) x) e s
 
-sum_is : (sign : Option Sign) (t : Term) (ts : MoreTerms) → value (Sum sign t ts) ≡ (term_value t >>= λ x. joined (sign_or_plus sign) zero_coefficients x >>= λ s. with_terms s ts)
+sum_is : (sign : Option Sign) (t : Term) (ts : MoreTerms)
+    → value (Sum sign t ts) ≡ (term_value t >>= λ x. joined (sign_or_plus sign) zero_coefficients x >>= λ s. with_terms s ts)
 unfolding value
 sum_is sign t ts = refl
 
-first_term : (e : List Terms) (p n : ℕ) (b : Bool) → AreShort e → p ≤ 4 → is_zero (terms_at e p) ≡ false → is_negative (terms_at e p).num ≡ b → zero_coefficients ≡ tabled (upto e p) → IsMore e (suc p) n → IsWhole e (terms_text true p (suc n) e) (tabled (upto e 5))
+first_term : (e : List Terms) (p n : ℕ) (b : Bool) → AreShort e → p ≤ 4 → is_zero (terms_at e p) ≡ false
+    → is_negative (terms_at e p).num ≡ b → zero_coefficients ≡ tabled (upto e p) → IsMore e (suc p) n
+    → IsWhole e (terms_text true p (suc n) e) (tabled (upto e 5))
 unfolding AreShort Spells
 first_term e p n b s h z neg start m =
     let t = coefficient_term p (terms_at e p) h (s p) in
     let rest : List ℕ = terms_text false (suc p) n e in
     record {
       expression = Sum (first_sign b) t.term m.terms;
-      spells = subst (IsSpelt (expression_tokens (Sum (first_sign b) t.term m.terms) [])) (sym (piece_text true p n e b z neg)) (first_spelt b t.term (terms_tokens m.terms []) (term_text p (absolute (terms_at e p)) ++ rest) (t.spelt (terms_tokens m.terms []) rest m.spelt) m.terms refl);
+      spells =
+          subst (IsSpelt (expression_tokens (Sum (first_sign b) t.term m.terms) [])) (sym (piece_text true p n e b z neg))
+          (first_spelt b t.term (terms_tokens m.terms []) (term_text p (absolute (terms_at e p)) ++ rest) (t.spelt (terms_tokens m.terms []) rest m.spelt) m.terms refl);
       worth = sum_is (first_sign b) t.term m.terms ∙ rw (t.worth, first_sign_is b, start, join_by e p b neg s) m.worth;
     }
 
-pub at_first : (e : List Terms) (p n : ℕ) (b : Bool) → AreShort e → p + suc n ≡ 5 → is_zero (terms_at e p) ≡ b → zero_coefficients ≡ tabled (upto e p) → (zero_coefficients ≡ tabled (upto e (suc p)) → IsWhole e (terms_text true (suc p) n e) (tabled (upto e 5))) → IsWhole e (terms_text true p (suc n) e) (tabled (upto e 5))
+pub at_first : (e : List Terms) (p n : ℕ) (b : Bool) → AreShort e → p + suc n ≡ 5 → is_zero (terms_at e p) ≡ b
+    → zero_coefficients ≡ tabled (upto e p)
+    → (zero_coefficients ≡ tabled (upto e (suc p)) → IsWhole e (terms_text true (suc p) n e) (tabled (upto e 5)))
+    → IsWhole e (terms_text true p (suc n) e) (tabled (upto e 5))
 unfolding AreShort
 at_first e p n true s h z start r =
     let none : terms_at e p ≡ zero_terms = zero_is (terms_at e p) (s p).0 z in
@@ -232,16 +252,21 @@ at_first e p n false s h z start r = first_term e p n (is_negative (terms_at e p
 -- ---- an entry without terms
 
 zero_upto : (e : List Terms) (k : ℕ) → zero_coefficients ≡ tabled (upto e 5) → k < 5 → terms_at e k ≡ zero_terms
-zero_upto e k h l = sym (ap (λ b. cond b (terms_at e k) zero_terms) (lt-ltb k 5 l)) ∙ sym (at_tabled (upto e 5) k l) ∙ ap (λ x. terms_at x k) (sym h) ∙ at_tabled (λ j. zero_terms) k l
+zero_upto e k h l =
+    sym (ap (λ b. cond b (terms_at e k) zero_terms) (lt-ltb k 5 l)) ∙ sym (at_tabled (upto e 5) k l) ∙ ap (λ x. terms_at x k) (sym h)
+    ∙ at_tabled (λ j. zero_terms) k l
 
 all_zero : (e : List Terms) → zero_coefficients ≡ tabled (upto e 5) → are_zero_below 5 e ≡ true
 unfolding are_zero_below
-all_zero e h = rw (zero_upto e 0 h (omega arith), zero_upto e 1 h (omega arith), zero_upto e 2 h (omega arith), zero_upto e 3 h (omega arith), zero_upto e 4 h (omega arith)) refl
+all_zero e h =
+    rw
+    (zero_upto e 0 h (omega arith), zero_upto e 1 h (omega arith), zero_upto e 2 h (omega arith), zero_upto e 3 h (omega arith), zero_upto e 4 h (omega arith)) refl
 
 no_true : false ≡ true → ⊥
 no_true e = cc
 
-whole_from : (e : List Terms) (n p : ℕ) → AreShort e → p + n ≡ 5 → are_zero_below 5 e ≡ false → zero_coefficients ≡ tabled (upto e p) → IsWhole e (terms_text true p n e) (tabled (upto e 5))
+whole_from : (e : List Terms) (n p : ℕ) → AreShort e → p + n ≡ 5 → are_zero_below 5 e ≡ false → zero_coefficients ≡ tabled (upto e p)
+    → IsWhole e (terms_text true p n e) (tabled (upto e 5))
 whole_from e zero p s h some start =
     let last : p ≡ 5 = omega (arith, h) in
     absurd (no_true (sym some ∙ all_zero e (start ∙ ap (λ q. tabled (upto e q)) last)))
@@ -270,14 +295,17 @@ nought e =
 -- an entry whose coefficients are all 0
 zero_entry : (e : List Terms) → AreShort e → are_zero_below 5 e ≡ true → zero_coefficients ≡ tabled (upto e 5)
 unfolding AreShort
-zero_entry e s h = same_tabled (λ k. zero_terms) (upto e 5) (λ k l. sym (ap (λ b. cond b (terms_at e k) zero_terms) (lt-ltb k 5 l) ∙ zero_is (terms_at e k) (s k).0 (zero_at 5 k e l h)))
+zero_entry e s h =
+    same_tabled (λ k. zero_terms) (upto e 5)
+    (λ k l. sym (ap (λ b. cond b (terms_at e k) zero_terms) (lt-ltb k 5 l) ∙ zero_is (terms_at e k) (s k).0 (zero_at 5 k e l h)))
 
 text_if : (e : List Terms) (b : Bool) → are_zero_below 5 e ≡ b → coefficients_text e ≡ cond b (codes "0") (terms_text true 0 5 e)
 unfolding coefficients_text
 text_if e b h = ap (λ c. cond c (codes "0") (terms_text true 0 5 e)) h
 
 whole_by : (e : List Terms) (b : Bool) → AreShort e → are_zero_below 5 e ≡ b → IsWhole e (coefficients_text e) (tabled (upto e 5))
-whole_by e true s h = subst (λ v. IsWhole e (coefficients_text e) v) (zero_entry e s h) (subst (λ x. IsWhole e x zero_coefficients) (sym (text_if e true h)) (nought e))
+whole_by e true s h =
+    subst (λ v. IsWhole e (coefficients_text e) v) (zero_entry e s h) (subst (λ x. IsWhole e x zero_coefficients) (sym (text_if e true h)) (nought e))
 whole_by e false s h = subst (λ x. IsWhole e x (tabled (upto e 5))) (sym (text_if e false h)) (whole_from e 5 0 s (omega arith) h refl)
 
 -- ---- no parenthesis
@@ -340,7 +368,9 @@ joint_open false false = refl
 
 joined_open : (f : Bool) (p : ℕ) (t : Terms) → IsShortTerms t → NoOpen (joined_term f p t)
 unfolding joined_term
-joined_open f p t s = no_open_both (joint_text f (is_negative t.num)) (term_text p (absolute t)) (joint_open f (is_negative t.num)) (term_open p (absolute t) (subst IsReduced (size_of t s) (size_short t s).0))
+joined_open f p t s =
+    no_open_both (joint_text f (is_negative t.num)) (term_text p (absolute t)) (joint_open f (is_negative t.num))
+    (term_open p (absolute t) (subst IsReduced (size_of t s) (size_short t s).0))
 
 terms_open : (f : Bool) (p n : ℕ) (e : List Terms) → AreShort e → NoOpen (terms_text f p n e)
 unfolding terms_text AreShort

@@ -45,11 +45,13 @@ use Rattle.fraction.proofs.DecimalValues.{decimal_some}
 unfoldable pub five : (a b c d e p q r s t : Value) → Value
 five a b c d e p q r s t = number_zero +ε a *ε p +ε b *ε q +ε c *ε r +ε d *ε s +ε e *ε t
 
-five_sums : (a b c d e f g h i j p q r s t : Value) → five (a +ε f) (b +ε g) (c +ε h) (d +ε i) (e +ε j) p q r s t ≡ five a b c d e p q r s t +ε five f g h i j p q r s t
+five_sums : (a b c d e f g h i j p q r s t : Value)
+    → five (a +ε f) (b +ε g) (c +ε h) (d +ε i) (e +ε j) p q r s t ≡ five a b c d e p q r s t +ε five f g h i j p q r s t
 unfolding five
 five_sums a b c d e f g h i j p q r s t = simp number_laws
 
-five_differences : (a b c d e f g h i j p q r s t : Value) → five (a -ε f) (b -ε g) (c -ε h) (d -ε i) (e -ε j) p q r s t ≡ five a b c d e p q r s t -ε five f g h i j p q r s t
+five_differences : (a b c d e f g h i j p q r s t : Value)
+    → five (a -ε f) (b -ε g) (c -ε h) (d -ε i) (e -ε j) p q r s t ≡ five a b c d e p q r s t -ε five f g h i j p q r s t
 unfolding five
 five_differences a b c d e f g h i j p q r s t = simp number_laws
 
@@ -63,7 +65,8 @@ five_first a q r s t = simp number_laws
 
 -- with the powers of a number
 unfoldable pub by_powers : (a b c d e x : Value) → Value
-by_powers a b c d e x = five a b c d e number_one (x *ε number_one) (x *ε (x *ε number_one)) (x *ε (x *ε (x *ε number_one))) (x *ε (x *ε (x *ε (x *ε number_one))))
+by_powers a b c d e x =
+    five a b c d e number_one (x *ε number_one) (x *ε (x *ε number_one)) (x *ε (x *ε (x *ε number_one))) (x *ε (x *ε (x *ε (x *ε number_one))))
 
 -- the sum of the first n products of coefficients that make power k
 unfoldable pub products : (ℕ → Value) → (ℕ → Value) → ℕ → ℕ → Value
@@ -75,22 +78,39 @@ all_products f g x = by_powers (products f g 0 1) (products f g 1 2) (products f
 
 -- what the products of coefficients past power 4 add
 unfoldable pub past : (a b c d e f g h i j x : Value) → Value
-past a b c d e f g h i j x = number_zero +ε (b *ε j) *ε (x *ε (x *ε (x *ε (x *ε (x *ε number_one))))) +ε (c *ε i) *ε (x *ε (x *ε (x *ε (x *ε (x *ε number_one))))) +ε (c *ε j) *ε (x *ε (x *ε (x *ε (x *ε (x *ε (x *ε number_one)))))) +ε (d *ε h) *ε (x *ε (x *ε (x *ε (x *ε (x *ε number_one))))) +ε (d *ε i) *ε (x *ε (x *ε (x *ε (x *ε (x *ε (x *ε number_one)))))) +ε (d *ε j) *ε (x *ε (x *ε (x *ε (x *ε (x *ε (x *ε (x *ε number_one))))))) +ε (e *ε g) *ε (x *ε (x *ε (x *ε (x *ε (x *ε number_one))))) +ε (e *ε h) *ε (x *ε (x *ε (x *ε (x *ε (x *ε (x *ε number_one)))))) +ε (e *ε i) *ε (x *ε (x *ε (x *ε (x *ε (x *ε (x *ε (x *ε number_one))))))) +ε (e *ε j) *ε (x *ε (x *ε (x *ε (x *ε (x *ε (x *ε (x *ε (x *ε number_one))))))))
+past a b c d e f g h i j x =
+    number_zero +ε (b *ε j) *ε (x *ε (x *ε (x *ε (x *ε (x *ε number_one))))) +ε (c *ε i) *ε
+    (x *ε (x *ε (x *ε (x *ε (x *ε number_one))))) +ε (c *ε j) *ε (x *ε (x *ε (x *ε (x *ε (x *ε (x *ε number_one)))))) +ε
+    (d *ε h) *ε (x *ε (x *ε (x *ε (x *ε (x *ε number_one))))) +ε (d *ε i) *ε
+    (x *ε (x *ε (x *ε (x *ε (x *ε (x *ε number_one)))))) +ε (d *ε j) *ε
+    (x *ε (x *ε (x *ε (x *ε (x *ε (x *ε (x *ε number_one))))))) +ε (e *ε g) *ε (x *ε (x *ε (x *ε (x *ε (x *ε number_one))))) +ε
+    (e *ε h) *ε (x *ε (x *ε (x *ε (x *ε (x *ε (x *ε number_one)))))) +ε (e *ε i) *ε
+    (x *ε (x *ε (x *ε (x *ε (x *ε (x *ε (x *ε number_one))))))) +ε (e *ε j) *ε
+    (x *ε (x *ε (x *ε (x *ε (x *ε (x *ε (x *ε (x *ε number_one))))))))
 
 unfoldable pub low_products : (a b c d e f g h i j x : Value) → Value
-low_products a b c d e f g h i j x = number_zero +ε (number_zero +ε a *ε f) *ε number_one +ε ((number_zero +ε a *ε g) +ε b *ε f) *ε (x *ε number_one) +ε (((number_zero +ε a *ε h) +ε b *ε g) +ε c *ε f) *ε (x *ε (x *ε number_one)) +ε ((((number_zero +ε a *ε i) +ε b *ε h) +ε c *ε g) +ε d *ε f) *ε (x *ε (x *ε (x *ε number_one))) +ε (((((number_zero +ε a *ε j) +ε b *ε i) +ε c *ε h) +ε d *ε g) +ε e *ε f) *ε (x *ε (x *ε (x *ε (x *ε number_one))))
+low_products a b c d e f g h i j x =
+    number_zero +ε (number_zero +ε a *ε f) *ε number_one +ε ((number_zero +ε a *ε g) +ε b *ε f) *ε (x *ε number_one) +ε
+    (((number_zero +ε a *ε h) +ε b *ε g) +ε c *ε f) *ε (x *ε (x *ε number_one)) +ε
+    ((((number_zero +ε a *ε i) +ε b *ε h) +ε c *ε g) +ε d *ε f) *ε (x *ε (x *ε (x *ε number_one))) +ε
+    (((((number_zero +ε a *ε j) +ε b *ε i) +ε c *ε h) +ε d *ε g) +ε e *ε f) *ε (x *ε (x *ε (x *ε (x *ε number_one))))
 
-product_by : (a b c d e f g h i j x : Value) → (number_zero +ε (number_zero +ε a *ε f) *ε number_one +ε ((number_zero +ε a *ε g) +ε b *ε f) *ε (x *ε number_one) +ε (((number_zero +ε a *ε h) +ε b *ε g) +ε c *ε f) *ε (x *ε (x *ε number_one)) +ε ((((number_zero +ε a *ε i) +ε b *ε h) +ε c *ε g) +ε d *ε f) *ε (x *ε (x *ε (x *ε number_one))) +ε (((((number_zero +ε a *ε j) +ε b *ε i) +ε c *ε h) +ε d *ε g) +ε e *ε f) *ε (x *ε (x *ε (x *ε (x *ε number_one))))) +ε (number_zero +ε (b *ε j) *ε (x *ε (x *ε (x *ε (x *ε (x *ε number_one))))) +ε (c *ε i) *ε (x *ε (x *ε (x *ε (x *ε (x *ε number_one))))) +ε (c *ε j) *ε (x *ε (x *ε (x *ε (x *ε (x *ε (x *ε number_one)))))) +ε (d *ε h) *ε (x *ε (x *ε (x *ε (x *ε (x *ε number_one))))) +ε (d *ε i) *ε (x *ε (x *ε (x *ε (x *ε (x *ε (x *ε number_one)))))) +ε (d *ε j) *ε (x *ε (x *ε (x *ε (x *ε (x *ε (x *ε (x *ε number_one))))))) +ε (e *ε g) *ε (x *ε (x *ε (x *ε (x *ε (x *ε number_one))))) +ε (e *ε h) *ε (x *ε (x *ε (x *ε (x *ε (x *ε (x *ε number_one)))))) +ε (e *ε i) *ε (x *ε (x *ε (x *ε (x *ε (x *ε (x *ε (x *ε number_one))))))) +ε (e *ε j) *ε (x *ε (x *ε (x *ε (x *ε (x *ε (x *ε (x *ε (x *ε number_one))))))))) ≡ (number_zero +ε a *ε number_one +ε b *ε (x *ε number_one) +ε c *ε (x *ε (x *ε number_one)) +ε d *ε (x *ε (x *ε (x *ε number_one))) +ε e *ε (x *ε (x *ε (x *ε (x *ε number_one))))) *ε (number_zero +ε f *ε number_one +ε g *ε (x *ε number_one) +ε h *ε (x *ε (x *ε number_one)) +ε i *ε (x *ε (x *ε (x *ε number_one))) +ε j *ε (x *ε (x *ε (x *ε (x *ε number_one)))))
+product_by : (a b c d e f g h i j x : Value)
+    → (number_zero +ε (number_zero +ε a *ε f) *ε number_one +ε ((number_zero +ε a *ε g) +ε b *ε f) *ε (x *ε number_one) +ε (((number_zero +ε a *ε h) +ε b *ε g) +ε c *ε f) *ε (x *ε (x *ε number_one)) +ε ((((number_zero +ε a *ε i) +ε b *ε h) +ε c *ε g) +ε d *ε f) *ε (x *ε (x *ε (x *ε number_one))) +ε (((((number_zero +ε a *ε j) +ε b *ε i) +ε c *ε h) +ε d *ε g) +ε e *ε f) *ε (x *ε (x *ε (x *ε (x *ε number_one))))) +ε (number_zero +ε (b *ε j) *ε (x *ε (x *ε (x *ε (x *ε (x *ε number_one))))) +ε (c *ε i) *ε (x *ε (x *ε (x *ε (x *ε (x *ε number_one))))) +ε (c *ε j) *ε (x *ε (x *ε (x *ε (x *ε (x *ε (x *ε number_one)))))) +ε (d *ε h) *ε (x *ε (x *ε (x *ε (x *ε (x *ε number_one))))) +ε (d *ε i) *ε (x *ε (x *ε (x *ε (x *ε (x *ε (x *ε number_one)))))) +ε (d *ε j) *ε (x *ε (x *ε (x *ε (x *ε (x *ε (x *ε (x *ε number_one))))))) +ε (e *ε g) *ε (x *ε (x *ε (x *ε (x *ε (x *ε number_one))))) +ε (e *ε h) *ε (x *ε (x *ε (x *ε (x *ε (x *ε (x *ε number_one)))))) +ε (e *ε i) *ε (x *ε (x *ε (x *ε (x *ε (x *ε (x *ε (x *ε number_one))))))) +ε (e *ε j) *ε (x *ε (x *ε (x *ε (x *ε (x *ε (x *ε (x *ε (x *ε number_one))))))))) ≡ (number_zero +ε a *ε number_one +ε b *ε (x *ε number_one) +ε c *ε (x *ε (x *ε number_one)) +ε d *ε (x *ε (x *ε (x *ε number_one))) +ε e *ε (x *ε (x *ε (x *ε (x *ε number_one))))) *ε (number_zero +ε f *ε number_one +ε g *ε (x *ε number_one) +ε h *ε (x *ε (x *ε number_one)) +ε i *ε (x *ε (x *ε (x *ε number_one))) +ε j *ε (x *ε (x *ε (x *ε (x *ε number_one)))))
 product_by a b c d e f g h i j x = simp number_laws
 
-pub product_of : (a b c d e f g h i j x : Value) → low_products a b c d e f g h i j x +ε past a b c d e f g h i j x ≡ by_powers a b c d e x *ε by_powers f g h i j x
+pub product_of : (a b c d e f g h i j x : Value)
+    → low_products a b c d e f g h i j x +ε past a b c d e f g h i j x ≡ by_powers a b c d e x *ε by_powers f g h i j x
 unfolding low_products past by_powers five
 product_of a b c d e f g h i j x = product_by a b c d e f g h i j x
 
-zeros : (p q r s t u v w x y : Value) → number_zero +ε number_zero *ε p +ε number_zero *ε q +ε number_zero *ε r +ε number_zero *ε s +ε number_zero *ε t +ε number_zero *ε u +ε number_zero *ε v +ε number_zero *ε w +ε number_zero *ε x +ε number_zero *ε y ≡ number_zero
+zeros : (p q r s t u v w x y : Value)
+    → number_zero +ε number_zero *ε p +ε number_zero *ε q +ε number_zero *ε r +ε number_zero *ε s +ε number_zero *ε t +ε number_zero *ε u +ε number_zero *ε v +ε number_zero *ε w +ε number_zero *ε x +ε number_zero *ε y ≡ number_zero
 zeros p q r s t u v w x y = simp number_laws
 
-past_none : (a b c d e f g h i j x : Value) → b *ε j ≡ number_zero → c *ε i ≡ number_zero → c *ε j ≡ number_zero → d *ε h ≡ number_zero → d *ε i ≡ number_zero → d *ε j ≡ number_zero → e *ε g ≡ number_zero → e *ε h ≡ number_zero → e *ε i ≡ number_zero → e *ε j ≡ number_zero → past a b c d e f g h i j x ≡ number_zero
+past_none : (a b c d e f g h i j x : Value) → b *ε j ≡ number_zero → c *ε i ≡ number_zero → c *ε j ≡ number_zero
+    → d *ε h ≡ number_zero → d *ε i ≡ number_zero → d *ε j ≡ number_zero → e *ε g ≡ number_zero → e *ε h ≡ number_zero
+    → e *ε i ≡ number_zero → e *ε j ≡ number_zero → past a b c d e f g h i j x ≡ number_zero
 unfolding past
 past_none a b c d e f g h i j x e1 e2 e3 e4 e5 e6 e7 e8 e9 e10 = rw (e1, e2, e3, e4, e5, e6, e7, e8, e9, e10) (zeros _ _ _ _ _ _ _ _ _ _)
 
@@ -116,7 +136,8 @@ value_by_powers x = sum_of_five (λ k. value_at x k *ε power_of_epsilon k)
 as_meant : (x : List Terms) (v w : Value) → v ≡ w → IsMeant x v → IsMeant x w
 as_meant x v w e h = record { reduced = h.reduced; is = h.is ∙ e }
 
-reduced_by : (a b c d e : Terms) → IsReduced a → IsReduced b → IsReduced c → IsReduced d → IsReduced e → (k : ℕ) → IsReduced (terms_at (a ∷ b ∷ c ∷ d ∷ e ∷ []) k)
+reduced_by : (a b c d e : Terms) → IsReduced a → IsReduced b → IsReduced c → IsReduced d → IsReduced e → (k : ℕ)
+    → IsReduced (terms_at (a ∷ b ∷ c ∷ d ∷ e ∷ []) k)
 unfolding terms_at
 reduced_by a b c d e p q r s t zero = p
 reduced_by a b c d e p q r s t (suc zero) = q
@@ -125,11 +146,13 @@ reduced_by a b c d e p q r s t (suc (suc (suc zero))) = s
 reduced_by a b c d e p q r s t (suc (suc (suc (suc zero)))) = t
 reduced_by a b c d e p q r s t (suc (suc (suc (suc (suc k))))) = zero_reduced
 
-value_of_list : (a b c d e : Terms) → terms_value (a ∷ b ∷ c ∷ d ∷ e ∷ []) ≡ by_powers (number a) (number b) (number c) (number d) (number e) epsilon
+value_of_list : (a b c d e : Terms)
+    → terms_value (a ∷ b ∷ c ∷ d ∷ e ∷ []) ≡ by_powers (number a) (number b) (number c) (number d) (number e) epsilon
 unfolding terms_at
 value_of_list a b c d e = value_by_powers (a ∷ b ∷ c ∷ d ∷ e ∷ [])
 
-of_five : (a b c d e : Terms) (u v w x y : Value) → IsNumber a u → IsNumber b v → IsNumber c w → IsNumber d x → IsNumber e y → IsMeant (a ∷ b ∷ c ∷ d ∷ e ∷ []) (by_powers u v w x y epsilon)
+of_five : (a b c d e : Terms) (u v w x y : Value) → IsNumber a u → IsNumber b v → IsNumber c w → IsNumber d x → IsNumber e y
+    → IsMeant (a ∷ b ∷ c ∷ d ∷ e ∷ []) (by_powers u v w x y epsilon)
 of_five a b c d e u v w x y p q r s t = record { reduced = reduced_by a b c d e p.reduced q.reduced r.reduced s.reduced t.reduced; is = value_of_list a b c d e ∙ rw (p.is, q.is, r.is, s.is, t.is) refl }
 
 -- ---- results
@@ -152,17 +175,25 @@ all_meant f g z h is =
 
 -- ---- sums and differences
 
-plus_powers : (a b c d e f g h i j x : Value) → by_powers (a +ε f) (b +ε g) (c +ε h) (d +ε i) (e +ε j) x ≡ by_powers a b c d e x +ε by_powers f g h i j x
+plus_powers : (a b c d e f g h i j x : Value)
+    → by_powers (a +ε f) (b +ε g) (c +ε h) (d +ε i) (e +ε j) x ≡ by_powers a b c d e x +ε by_powers f g h i j x
 unfolding by_powers
-plus_powers a b c d e f g h i j x = five_sums a b c d e f g h i j number_one (x *ε number_one) (x *ε (x *ε number_one)) (x *ε (x *ε (x *ε number_one))) (x *ε (x *ε (x *ε (x *ε number_one))))
+plus_powers a b c d e f g h i j x =
+    five_sums a b c d e f g h i j number_one (x *ε number_one) (x *ε (x *ε number_one)) (x *ε (x *ε (x *ε number_one)))
+    (x *ε (x *ε (x *ε (x *ε number_one))))
 
-minus_powers : (a b c d e f g h i j x : Value) → by_powers (a -ε f) (b -ε g) (c -ε h) (d -ε i) (e -ε j) x ≡ by_powers a b c d e x -ε by_powers f g h i j x
+minus_powers : (a b c d e f g h i j x : Value)
+    → by_powers (a -ε f) (b -ε g) (c -ε h) (d -ε i) (e -ε j) x ≡ by_powers a b c d e x -ε by_powers f g h i j x
 unfolding by_powers
-minus_powers a b c d e f g h i j x = five_differences a b c d e f g h i j number_one (x *ε number_one) (x *ε (x *ε number_one)) (x *ε (x *ε (x *ε number_one))) (x *ε (x *ε (x *ε (x *ε number_one))))
+minus_powers a b c d e f g h i j x =
+    five_differences a b c d e f g h i j number_one (x *ε number_one) (x *ε (x *ε number_one)) (x *ε (x *ε (x *ε number_one)))
+    (x *ε (x *ε (x *ε (x *ε number_one))))
 
 over_powers : (a b c d e y x : Value) → by_powers (a /ε y) (b /ε y) (c /ε y) (d /ε y) (e /ε y) x ≡ by_powers a b c d e x /ε y
 unfolding by_powers
-over_powers a b c d e y x = five_quotients a b c d e y number_one (x *ε number_one) (x *ε (x *ε number_one)) (x *ε (x *ε (x *ε number_one))) (x *ε (x *ε (x *ε (x *ε number_one))))
+over_powers a b c d e y x =
+    five_quotients a b c d e y number_one (x *ε number_one) (x *ε (x *ε number_one)) (x *ε (x *ε (x *ε number_one)))
+    (x *ε (x *ε (x *ε (x *ε number_one))))
 
 constant_powers : (a x : Value) → by_powers a number_zero number_zero number_zero number_zero x ≡ a
 unfolding by_powers
@@ -209,7 +240,8 @@ zero_times x = simp number_laws
 times_zero : (x : Value) → x *ε number_zero ≡ number_zero
 times_zero x = simp number_laws
 
-pair_none : (x y : List Terms) (i j : ℕ) → ((k : ℕ) → IsReduced (terms_at x k)) → ((k : ℕ) → IsReduced (terms_at y k)) → degree x + degree y ≤ 4 → 4 < i + j → i ≤ 4 → j ≤ 4 → value_at x i *ε value_at y j ≡ number_zero
+pair_none : (x y : List Terms) (i j : ℕ) → ((k : ℕ) → IsReduced (terms_at x k)) → ((k : ℕ) → IsReduced (terms_at y k))
+    → degree x + degree y ≤ 4 → 4 < i + j → i ≤ 4 → j ≤ 4 → value_at x i *ε value_at y j ≡ number_zero
 pair_none x y i j p q d s h k = elim (cases_lt (degree x) i) [
   | inl lt ↦ ap (λ v. v *ε value_at y j) (none_above x i p lt h) ∙ zero_times (value_at y j)
   | inr ge ↦ ap (λ v. value_at x i *ε v) (none_above y j q (omega (arith, d, s, ge)) k) ∙ times_zero (value_at x i)
@@ -223,7 +255,8 @@ same_terms x y h = cc
 zero_is : IsNumber zero_terms number_zero
 zero_is = record { reduced = zero_reduced; is = fraction-zero (pos 1) (λ e. omega (arith, ints)) }
 
-pub products_at : (x y : List Terms) (k n : ℕ) (t : Terms) → ((j : ℕ) → IsReduced (terms_at x j)) → ((j : ℕ) → IsReduced (terms_at y j)) → product_sum x y k n ≡ Ok t → IsNumber t (products (value_at x) (value_at y) k n)
+pub products_at : (x y : List Terms) (k n : ℕ) (t : Terms) → ((j : ℕ) → IsReduced (terms_at x j)) → ((j : ℕ) → IsReduced (terms_at y j))
+    → product_sum x y k n ≡ Ok t → IsNumber t (products (value_at x) (value_at y) k n)
 unfolding product_sum products
 products_at x y k zero t p q h = subst (λ u. IsNumber u number_zero) (same_terms zero_terms t h) zero_is
 products_at x y k (suc n) t p q h =
@@ -241,7 +274,8 @@ all_are_low f g x = refl
 add_none : (x : Value) → x +ε number_zero ≡ x
 add_none x = simp number_laws
 
-all_of : (x y : List Terms) → ((j : ℕ) → IsReduced (terms_at x j)) → ((j : ℕ) → IsReduced (terms_at y j)) → degree x + degree y ≤ 4 → all_products (value_at x) (value_at y) epsilon ≡ terms_value x *ε terms_value y
+all_of : (x y : List Terms) → ((j : ℕ) → IsReduced (terms_at x j)) → ((j : ℕ) → IsReduced (terms_at y j)) → degree x + degree y ≤ 4
+    → all_products (value_at x) (value_at y) epsilon ≡ terms_value x *ε terms_value y
 all_of x y p q d =
     let a = value_at x 0 in
     let b = value_at x 1 in
@@ -259,7 +293,8 @@ all_of x y p q d =
     (pair_none x y 4 1 p q d (omega arith) (omega arith) (omega arith)) (pair_none x y 4 2 p q d (omega arith) (omega arith) (omega arith)) (pair_none x y 4 3 p q d (omega arith) (omega arith) (omega arith)) (pair_none x y 4 4 p q d (omega arith) (omega arith) (omega arith)) in
     all_are_low (value_at x) (value_at y) epsilon ∙ sym (ap (λ v. low +ε v) none ∙ add_none low) ∙ product_of a b c e f g h i j k epsilon ∙ ap₂ (λ v w. v *ε w) (sym (value_by_powers x)) (sym (value_by_powers y))
 
-low_degree : (b : Bool) (n : ℕ) (r : Result (List Terms) ValueFault) (z : List Terms) → nat_lt 4 n ≡ b → cond b (Err Degree) r ≡ Ok z → (n ≤ 4) × (r ≡ Ok z)
+low_degree : (b : Bool) (n : ℕ) (r : Result (List Terms) ValueFault) (z : List Terms) → nat_lt 4 n ≡ b → cond b (Err Degree) r ≡ Ok z
+    → (n ≤ 4) × (r ≡ Ok z)
 low_degree true n r z e h = absurd cc
 low_degree false n r z e h = (ltb-false 4 n e, h)
 
@@ -273,7 +308,8 @@ times_meant x y z v w p q h =
 
 -- ---- quotients
 
-number_divisor : (b c : Bool) (n : ℕ) (r : Result (List Terms) ValueFault) (z : List Terms) → nat_lt 0 n ≡ b → cond b (Err DivisorNotNumber) (cond c (Err ZeroDivisor) r) ≡ Ok z → (n ≤ 0) × ((c ≡ false) × (r ≡ Ok z))
+number_divisor : (b c : Bool) (n : ℕ) (r : Result (List Terms) ValueFault) (z : List Terms) → nat_lt 0 n ≡ b
+    → cond b (Err DivisorNotNumber) (cond c (Err ZeroDivisor) r) ≡ Ok z → (n ≤ 0) × ((c ≡ false) × (r ≡ Ok z))
 number_divisor true c n r z e h = absurd cc
 number_divisor false true n r z e h = absurd cc
 number_divisor false false n r z e h = (ltb-false 0 n e, (refl, h))
@@ -294,7 +330,9 @@ over_meant x y z v w p q h =
 -- ---- literals
 
 plain_meant : (t : Terms) (v : Value) → IsNumber t v → IsMeant (plain_entry t) v
-plain_meant t v h = as_meant (plain_entry t) _ v (constant_powers v epsilon) (of_five t zero_terms zero_terms zero_terms zero_terms v number_zero number_zero number_zero number_zero h zero_is zero_is zero_is zero_is)
+plain_meant t v h =
+    as_meant (plain_entry t) _ v (constant_powers v epsilon)
+    (of_five t zero_terms zero_terms zero_terms zero_terms v number_zero number_zero number_zero number_zero h zero_is zero_is zero_is zero_is)
 
 decimal_by : (b : Bool) (l : Terms) (x : List Terms) → decimal_entry (cond b None (Some l)) ≡ Ok x
     → (t : Terms) × ((short_of l ≡ Ok t) × (plain_entry t ≡ x))
@@ -333,11 +371,17 @@ power_4 p q r s t = simp number_laws
 
 unit_meant : (p : ℕ) → p ≤ 4 → IsMeant (tabled (unit_at p)) (power_of_epsilon p)
 unfolding power_of_epsilon by_powers five
-unit_meant zero h = as_meant _ _ number_one (epsilon_0 epsilon) (of_five _ _ _ _ _ number_one number_zero number_zero number_zero number_zero one_is zero_is zero_is zero_is zero_is)
-unit_meant (suc zero) h = as_meant _ _ _ (power_1 _ _ _ _ _) (of_five _ _ _ _ _ number_zero number_one number_zero number_zero number_zero zero_is one_is zero_is zero_is zero_is)
-unit_meant (suc (suc zero)) h = as_meant _ _ _ (power_2 _ _ _ _ _) (of_five _ _ _ _ _ number_zero number_zero number_one number_zero number_zero zero_is zero_is one_is zero_is zero_is)
-unit_meant (suc (suc (suc zero))) h = as_meant _ _ _ (power_3 _ _ _ _ _) (of_five _ _ _ _ _ number_zero number_zero number_zero number_one number_zero zero_is zero_is zero_is one_is zero_is)
-unit_meant (suc (suc (suc (suc zero)))) h = as_meant _ _ _ (power_4 _ _ _ _ _) (of_five _ _ _ _ _ number_zero number_zero number_zero number_zero number_one zero_is zero_is zero_is zero_is one_is)
+unit_meant zero h =
+    as_meant _ _ number_one (epsilon_0 epsilon)
+    (of_five _ _ _ _ _ number_one number_zero number_zero number_zero number_zero one_is zero_is zero_is zero_is zero_is)
+unit_meant (suc zero) h =
+    as_meant _ _ _ (power_1 _ _ _ _ _) (of_five _ _ _ _ _ number_zero number_one number_zero number_zero number_zero zero_is one_is zero_is zero_is zero_is)
+unit_meant (suc (suc zero)) h =
+    as_meant _ _ _ (power_2 _ _ _ _ _) (of_five _ _ _ _ _ number_zero number_zero number_one number_zero number_zero zero_is zero_is one_is zero_is zero_is)
+unit_meant (suc (suc (suc zero))) h =
+    as_meant _ _ _ (power_3 _ _ _ _ _) (of_five _ _ _ _ _ number_zero number_zero number_zero number_one number_zero zero_is zero_is zero_is one_is zero_is)
+unit_meant (suc (suc (suc (suc zero)))) h =
+    as_meant _ _ _ (power_4 _ _ _ _ _) (of_five _ _ _ _ _ number_zero number_zero number_zero number_zero number_one zero_is zero_is zero_is zero_is one_is)
 unit_meant (suc (suc (suc (suc (suc p))))) h = absurd (omega arith)
 
 power_meaning : (p : ℕ) (x : List Terms) → power_value p ≡ Ok x → IsMeant x (power_of_epsilon p)
@@ -371,7 +415,8 @@ mutual
   term_meant : (t : Term) (x : List Terms) → term_value t ≡ Ok x → IsMeant x (term_meaning t)
   term_meant (Product first others) x h = let f = bind_ok (factor_value first) _ x h in factors_meant others f.0 (factor_meaning first) x (factor_meant first f.0 f.1.0) f.1.1
 
-  factors_meant : (fs : MoreFactors) (p : List Terms) (v : Value) (x : List Terms) → IsMeant p v → with_factors p fs ≡ Ok x → IsMeant x (and_factors v fs)
+  factors_meant : (fs : MoreFactors) (p : List Terms) (v : Value) (x : List Terms) → IsMeant p v → with_factors p fs ≡ Ok x
+      → IsMeant x (and_factors v fs)
   factors_meant NoFactor p v x m h = subst (λ l. IsMeant l v) (same_ok p x h) m
   factors_meant (Times factor others) p v x m h =
       let f = bind_ok (factor_value factor) _ x h in

@@ -84,17 +84,20 @@ over_of m d = record { num = pos m; den = pos d }
 record IsFront (text : List ℕ) (c : Terms) : Type 0 where
   first : Factor
   before : MoreFactors → MoreFactors
-  spelt : (fs : MoreFactors) (more : List Token) (x : List ℕ) → IsSpelt (factors_tokens fs more) x → IsSpelt (factor_tokens first (factors_tokens (before fs) more)) (text ++ x)
+  spelt : (fs : MoreFactors) (more : List Token) (x : List ℕ) → IsSpelt (factors_tokens fs more) x
+      → IsSpelt (factor_tokens first (factors_tokens (before fs) more)) (text ++ x)
   worth : (fs : MoreFactors) → (factor_value first >>= λ v. with_factors v (before fs)) ≡ with_factors (plain_entry c) fs
 
-alone_worth : (n : ℕ) (h : n ≤ 10 ^ 18) (fs : MoreFactors) → (factor_value (Number (whole n h)) >>= λ v. with_factors v fs) ≡ with_factors (plain_entry (number_of n)) fs
+alone_worth : (n : ℕ) (h : n ≤ 10 ^ 18) (fs : MoreFactors)
+    → (factor_value (Number (whole n h)) >>= λ v. with_factors v fs) ≡ with_factors (plain_entry (number_of n)) fs
 alone_worth n h fs = rw (decimal_factor (whole n h), whole_value n h) refl
 
 over_next : (v : List Terms) (f : Factor) (fs : MoreFactors) → with_factors v (Over f fs) ≡ (factor_value f >>= λ x. over v x >>= λ l. with_factors l fs)
 unfolding with_factors
 over_next v f fs = refl
 
-times_next : (v : List Terms) (f : Factor) (fs : MoreFactors) → with_factors v (Times f fs) ≡ (factor_value f >>= λ x. times v x >>= λ l. with_factors l fs)
+times_next : (v : List Terms) (f : Factor) (fs : MoreFactors)
+    → with_factors v (Times f fs) ≡ (factor_value f >>= λ x. times v x >>= λ l. with_factors l fs)
 unfolding with_factors
 times_next v f fs = refl
 
@@ -106,18 +109,24 @@ over_is : (m d : ℕ) → IsShortTerms (over_of m d) → over (plain_entry (numb
 unfolding number_of
 over_is m d s = over_parts (over_of m d) s
 
-pair_worth : (m d : ℕ) (h : m ≤ 10 ^ 18) (k : d ≤ 10 ^ 18) (fs : MoreFactors) → IsShortTerms (over_of m d) → (factor_value (Number (whole m h)) >>= λ v. with_factors v (Over (Number (whole d k)) fs)) ≡ with_factors (plain_entry (over_of m d)) fs
-pair_worth m d h k fs s = rw (decimal_factor (whole m h), whole_value m h, over_next (plain_entry (number_of m)) (Number (whole d k)) fs, decimal_factor (whole d k), whole_value d k, over_is m d s) refl
+pair_worth : (m d : ℕ) (h : m ≤ 10 ^ 18) (k : d ≤ 10 ^ 18) (fs : MoreFactors) → IsShortTerms (over_of m d)
+    → (factor_value (Number (whole m h)) >>= λ v. with_factors v (Over (Number (whole d k)) fs)) ≡ with_factors (plain_entry (over_of m d)) fs
+pair_worth m d h k fs s =
+    rw
+    (decimal_factor (whole m h), whole_value m h, over_next (plain_entry (number_of m)) (Number (whole d k)) fs, decimal_factor (whole d k), whole_value d k, over_is m d s) refl
 
-ap_spelt : (ks : List Token) (m : ℕ) (h : m ≤ 10 ^ 18) (x : List ℕ) → IsSpelt ks x → IsSpelt (DecimalToken (whole m h) ∷ ks) ((decimal m ++ []) ++ x)
+ap_spelt : (ks : List Token) (m : ℕ) (h : m ≤ 10 ^ 18) (x : List ℕ) → IsSpelt ks x
+    → IsSpelt (DecimalToken (whole m h) ∷ ks) ((decimal m ++ []) ++ x)
 ap_spelt ks m h x t = subst (λ y. IsSpelt (DecimalToken (whole m h) ∷ ks) (y ++ x)) (sym (append-nil (decimal m))) (whole_first m h ks x t)
 
-pair_spelt : (m d : ℕ) (h : m ≤ 10 ^ 18) (k : d ≤ 10 ^ 18) (ks : List Token) (x : List ℕ) → IsSpelt ks x → IsSpelt (DecimalToken (whole m h) ∷ OverToken ∷ DecimalToken (whole d k) ∷ ks) ((decimal m ++ 47 ∷ decimal d) ++ x)
+pair_spelt : (m d : ℕ) (h : m ≤ 10 ^ 18) (k : d ≤ 10 ^ 18) (ks : List Token) (x : List ℕ) → IsSpelt ks x
+    → IsSpelt (DecimalToken (whole m h) ∷ OverToken ∷ DecimalToken (whole d k) ∷ ks) ((decimal m ++ 47 ∷ decimal d) ++ x)
 pair_spelt m d h k ks x t =
     subst (IsSpelt (DecimalToken (whole m h) ∷ OverToken ∷ DecimalToken (whole d k) ∷ ks)) (sym (append_assoc (decimal m) (47 ∷ decimal d) x))
     (whole_first m h (OverToken ∷ DecimalToken (whole d k) ∷ ks) (47 ∷ (decimal d ++ x)) (lead OverToken (DecimalToken (whole d k) ∷ ks) (47 ∷ (decimal d ++ x)) (decimal d ++ x) refl (whole_first d k ks x t)))
 
-front_by : (m d : ℕ) (b : Bool) → eqb d 1 ≡ b → (h : m ≤ 10 ^ 18) (k : d ≤ 10 ^ 18) → IsShortTerms (over_of m d) → IsFront (decimal m ++ cond b [] (47 ∷ decimal d)) (over_of m d)
+front_by : (m d : ℕ) (b : Bool) → eqb d 1 ≡ b → (h : m ≤ 10 ^ 18) (k : d ≤ 10 ^ 18) → IsShortTerms (over_of m d)
+    → IsFront (decimal m ++ cond b [] (47 ∷ decimal d)) (over_of m d)
 unfolding number_of
 front_by m d true e h k s =
     let one : d ≡ 1 = eqb-true d 1 e in
@@ -164,7 +173,8 @@ text_by p b e = ap (λ c. cond c (codes "\\epsilon") (codes "\\epsilon^" ++ ((48
 first_spelt : (p : ℕ) → eqb p 1 ≡ true → (more : List Token) (x : List ℕ) → IsSpelt more x → IsSpelt (WordToken ∷ more) (power_text p ++ x)
 first_spelt p e more x t = lead WordToken more (power_text p ++ x) x (ap (λ (y : List ℕ). y ++ x) (text_by p true e)) t
 
-other_spelt : (p : ℕ) (h : p ≤ 4) → eqb p 1 ≡ false → (more : List Token) (x : List ℕ) → IsSpelt more x → IsSpelt (WordToken ∷ CaretToken ∷ PowerToken (power_of p h) ∷ more) (power_text p ++ x)
+other_spelt : (p : ℕ) (h : p ≤ 4) → eqb p 1 ≡ false → (more : List Token) (x : List ℕ) → IsSpelt more x
+    → IsSpelt (WordToken ∷ CaretToken ∷ PowerToken (power_of p h) ∷ more) (power_text p ++ x)
 unfolding power_of
 other_spelt p h e more x t =
     let inner : IsSpelt (PowerToken (power_of p h) ∷ more) ((48 + p) ∷ x) = lead (PowerToken (power_of p h)) more ((48 + p) ∷ x) x refl t in
@@ -222,31 +232,41 @@ unit_term p m d some h one =
     record {
       term = Product (Other w.further) NoFactor;
       spelt = λ more x t. subst (λ y. IsSpelt (factor_tokens (Other w.further) more) (y ++ x)) (sym text) (w.spelt more x t);
-      worth = term_is (Other w.further) NoFactor ∙ rw (w.worth, no_next (tabled (single p one_terms))) (ap (λ t. Ok (tabled (single p t))) (sym (both_ones m d one)));
+      worth =
+          term_is (Other w.further) NoFactor
+          ∙ rw (w.worth, no_next (tabled (single p one_terms))) (ap (λ t. Ok (tabled (single p t))) (sym (both_ones m d one)));
     }
 
-times_worth : (p : ℕ) (c : Terms) (further : Further) → p ≤ 4 → IsShortTerms c → factor_value (Other further) ≡ Ok (tabled (single p one_terms)) → with_factors (plain_entry c) (Times (Other further) NoFactor) ≡ Ok (tabled (single p c))
+times_worth : (p : ℕ) (c : Terms) (further : Further) → p ≤ 4 → IsShortTerms c
+    → factor_value (Other further) ≡ Ok (tabled (single p one_terms))
+    → with_factors (plain_entry c) (Times (Other further) NoFactor) ≡ Ok (tabled (single p c))
 times_worth p c further h s e = times_next (plain_entry c) (Other further) NoFactor ∙ rw (e, times_power c p h s) (no_next (tabled (single p c)))
 
-star_spelt : (p : ℕ) (f : IsPower p) (more : List Token) (x : List ℕ) → IsSpelt more x → IsSpelt (TimesToken ∷ factor_tokens (Other f.further) more) (42 ∷ (power_text p ++ x))
+star_spelt : (p : ℕ) (f : IsPower p) (more : List Token) (x : List ℕ) → IsSpelt more x
+    → IsSpelt (TimesToken ∷ factor_tokens (Other f.further) more) (42 ∷ (power_text p ++ x))
 star_spelt p f more x t = lead TimesToken (factor_tokens (Other f.further) more) (42 ∷ (power_text p ++ x)) (power_text p ++ x) refl (f.spelt more x t)
 
-product_text : (p m d : ℕ) (x : List ℕ) → 0 < p → is_one (over_of m d) ≡ false → term_text p (over_of m d) ++ x ≡ spelling (over_of m d) ++ 42 ∷ (power_text p ++ x)
+product_text : (p m d : ℕ) (x : List ℕ) → 0 < p → is_one (over_of m d) ≡ false
+    → term_text p (over_of m d) ++ x ≡ spelling (over_of m d) ++ 42 ∷ (power_text p ++ x)
 product_text p m d x some other =
     let t : Terms = over_of m d in
     ap (λ (y : List ℕ). y ++ x) (power_term_text p t some ∙ ap (λ (y : List ℕ). y ++ power_text p) (factor_by m d false other) ∙ append_assoc (spelling t) (codes "*") (power_text p)) ∙ append_assoc (spelling t) (42 ∷ power_text p) x
 
-product_term : (p m d : ℕ) → 0 < p → p ≤ 4 → m ≤ 10 ^ 18 → d ≤ 10 ^ 18 → IsShortTerms (over_of m d) → is_one (over_of m d) ≡ false → IsTerm p (over_of m d)
+product_term : (p m d : ℕ) → 0 < p → p ≤ 4 → m ≤ 10 ^ 18 → d ≤ 10 ^ 18 → IsShortTerms (over_of m d)
+    → is_one (over_of m d) ≡ false → IsTerm p (over_of m d)
 product_term p m d some h i k s other =
     let w = power p h in
     let f = front m d i k s in
     record {
       term = Product f.first (f.before (Times (Other w.further) NoFactor));
       spelt = λ more x t. subst (IsSpelt (factor_tokens f.first (factors_tokens (f.before (Times (Other w.further) NoFactor)) more))) (sym (product_text p m d x some other)) (f.spelt (Times (Other w.further) NoFactor) more (42 ∷ (power_text p ++ x)) (star_spelt p w more x t));
-      worth = term_is f.first (f.before (Times (Other w.further) NoFactor)) ∙ f.worth (Times (Other w.further) NoFactor) ∙ times_worth p (over_of m d) w.further h s w.worth;
+      worth =
+          term_is f.first (f.before (Times (Other w.further) NoFactor)) ∙ f.worth (Times (Other w.further) NoFactor)
+          ∙ times_worth p (over_of m d) w.further h s w.worth;
     }
 
-term_by : (p m d : ℕ) → 0 < p → p ≤ 4 → m ≤ 10 ^ 18 → d ≤ 10 ^ 18 → IsShortTerms (over_of m d) → (b : Bool) → is_one (over_of m d) ≡ b → IsTerm p (over_of m d)
+term_by : (p m d : ℕ) → 0 < p → p ≤ 4 → m ≤ 10 ^ 18 → d ≤ 10 ^ 18 → IsShortTerms (over_of m d) → (b : Bool)
+    → is_one (over_of m d) ≡ b → IsTerm p (over_of m d)
 term_by p m d some h i k s true e = unit_term p m d some h e
 term_by p m d some h i k s false e = product_term p m d some h i k s e
 

@@ -25,12 +25,14 @@ pub reads_nil : (s : State) (n : ℕ) → reads [] s n ≡ ends (is_whole s) n
 unfolding may_end
 reads_nil s n = accepts_nil step may_end (at s n)
 
-pub reads_cons : (b : ℕ) (t : List ℕ) (s : State) (n : ℕ) → reads (b ∷ t) s n ≡ accepts_then (accepts step may_end t) (reached (next s b) (opened (class_of b) n))
+pub reads_cons : (b : ℕ) (t : List ℕ) (s : State) (n : ℕ)
+    → reads (b ∷ t) s n ≡ accepts_then (accepts step may_end t) (reached (next s b) (opened (class_of b) n))
 unfolding step
 reads_cons b t s n = accepts_cons step may_end b t (at s n)
 
 -- a byte of a class is read, and may open or close
-pub reads_by : (b : ℕ) (t : List ℕ) (s u : State) (n m : ℕ) → next s b ≡ Some u → opened (class_of b) n ≡ Some m → reads (b ∷ t) s n ≡ reads t u m
+pub reads_by : (b : ℕ) (t : List ℕ) (s u : State) (n m : ℕ) → next s b ≡ Some u → opened (class_of b) n ≡ Some m
+    → reads (b ∷ t) s n ≡ reads t u m
 reads_by b t s u n m e f = reads_cons b t s n ∙ rw (e, f) refl
 
 -- the letters of `\epsilon` that follow

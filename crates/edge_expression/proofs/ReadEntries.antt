@@ -45,7 +45,8 @@ scan_fault text Part s = absurd s
 
 -- ---- what evaluation tells
 
-worth_of : (text : List ℕ) (w : Result (List Terms) ValueFault) → IsScanned text (Ok tt) → ((e : Expression) → Spells text e → w ≡ value e) → IsWorth text w
+worth_of : (text : List ℕ) (w : Result (List Terms) ValueFault) → IsScanned text (Ok tt)
+    → ((e : Expression) → Spells text e → w ≡ value e) → IsWorth text w
 unfolding IsScanned
 worth_of text w s h = record { expression = s.0.expression; spells = s.0.spells; shallow = s.1; worth_is = sym (h s.0.expression s.0.spells) }
 

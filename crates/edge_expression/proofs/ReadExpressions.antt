@@ -23,7 +23,8 @@ use Rattle.edge_expression.proofs.Machine.{reads, reads_nil, reads_cons, behind,
 -- nothing, or else the parenthesis that closes, and what stands behind it
 Closed : ℕ → List Token → Type 0
 Closed zero ks = ks ≡ []
-Closed (suc n) ks = (fs : MoreFactors) × (ts : MoreTerms) × (rest : List Token) × (ks ≡ CloseToken ∷ factors_tokens fs (terms_tokens ts rest)) × Closed n rest
+Closed (suc n) ks =
+    (fs : MoreFactors) × (ts : MoreTerms) × (rest : List Token) × (ks ≡ CloseToken ∷ factors_tokens fs (terms_tokens ts rest)) × Closed n rest
 
 -- further factors and terms
 record BehindAt (n : ℕ) (ks : List Token) : Type 0 where
@@ -171,13 +172,16 @@ behind_blank : (P : List Token → Type 0) (b : ℕ) (t : List ℕ) → (b ≡ 3
 behind_blank P b t h x = record { tokens = x.tokens; spelt = spelt_blank x.tokens b t h x.spelt; is = x.is }
 
 -- a token, and then such a text
-token_first : (P Q : List Token → Type 0) (k : Token) (text t : List ℕ) → text ≡ token_text k ++ t → ((ks : List Token) → P ks → Q (k ∷ ks)) → TextOf P t → TextOf Q text
+token_first : (P Q : List Token → Type 0) (k : Token) (text t : List ℕ) → text ≡ token_text k ++ t
+    → ((ks : List Token) → P ks → Q (k ∷ ks)) → TextOf P t → TextOf Q text
 token_first P Q k text t e f x = record { tokens = k ∷ x.tokens; spelt = record { blanks = []; rest = t; are_blanks = tt; spelt = e; is_rest = x.spelt }; is = f x.tokens x.is }
 
-byte_first : (P Q : List Token → Type 0) (k : Token) (b c : ℕ) (t : List ℕ) → b ≡ c → token_text k ≡ c ∷ [] → ((ks : List Token) → P ks → Q (k ∷ ks)) → TextOf P t → TextOf Q (b ∷ t)
+byte_first : (P Q : List Token → Type 0) (k : Token) (b c : ℕ) (t : List ℕ) → b ≡ c → token_text k ≡ c ∷ []
+    → ((ks : List Token) → P ks → Q (k ∷ ks)) → TextOf P t → TextOf Q (b ∷ t)
 byte_first P Q k b c t e g f x = token_first P Q k (b ∷ t) t (ap (λ d. d ∷ t) e ∙ ap (λ (y : List ℕ). y ++ t) (sym g)) f x
 
-sign_first : (P Q : List Token → Type 0) (b : ℕ) (t : List ℕ) → (b ≡ 43) ⊎ (b ≡ 45) → ((sign : Sign) (ks : List Token) → P ks → Q (SignToken sign ∷ ks)) → TextOf P t → TextOf Q (b ∷ t)
+sign_first : (P Q : List Token → Type 0) (b : ℕ) (t : List ℕ) → (b ≡ 43) ⊎ (b ≡ 45)
+    → ((sign : Sign) (ks : List Token) → P ks → Q (SignToken sign ∷ ks)) → TextOf P t → TextOf Q (b ∷ t)
 sign_first P Q b t (inl e) f x = byte_first P Q (SignToken Plus) b 43 t e refl (f Plus) x
 sign_first P Q b t (inr e) f x = byte_first P Q (SignToken Minus) b 45 t e refl (f Minus) x
 
@@ -202,7 +206,8 @@ decimal_first n b t p e x =
     token_first (BehindAt n) (FactorAt n) (DecimalToken d.decimal) (b ∷ t) x.rest (ap (λ y. b ∷ y) x.spelt ∙ ap (λ (y : List ℕ). y ++ x.rest) d.spelt) (number_first d.decimal n) x.behind_is
 
 word_first : (n b : ℕ) (t : List ℕ) → b ≡ 92 → WordOf letters.Backslash n t → TextOf (FurtherAt n) (b ∷ t)
-word_first n b t e x = token_first (EpsilonAt n) (FurtherAt n) WordToken (b ∷ t) x.rest (ap (λ c. c ∷ t) e ∙ ap (λ y. 92 ∷ y) x.spelt) (epsilon_first n) x.behind_is
+word_first n b t e x =
+    token_first (EpsilonAt n) (FurtherAt n) WordToken (b ∷ t) x.rest (ap (λ c. c ∷ t) e ∙ ap (λ y. 92 ∷ y) x.spelt) (epsilon_first n) x.behind_is
 
 open_first : (n b : ℕ) (t : List ℕ) → b ≡ 40 → TextOf (SumAt (suc n)) t → TextOf (FurtherAt n) (b ∷ t)
 open_first n b t e x = byte_first (SumAt (suc n)) (FurtherAt n) OpenToken b 40 t e refl (parens_first n) x
@@ -253,7 +258,8 @@ factor_by n b t classes.Blank k r h = behind_blank (BehindAt n) b t k (r states.
 factor_by n b t classes.Sign k r h = sign_first (FactorAt n) (BehindAt n) b t k (λ sign. next_term sign n) (r states.Operand n h)
 factor_by n b t classes.Joint k r h = joint_first n b t k (r states.Operand n h)
 factor_by n b t classes.Close k r h = close_by n b t k r h
-factor_by n b t classes.Backslash k r h = changed (FurtherAt n) (BehindAt n) (b ∷ t) (next_beside n) (word_first n b t k (r (states.Word letters.Backslash) n h))
+factor_by n b t classes.Backslash k r h =
+    changed (FurtherAt n) (BehindAt n) (b ∷ t) (next_beside n) (word_first n b t k (r (states.Word letters.Backslash) n h))
 factor_by n b t classes.Open k r h = changed (FurtherAt n) (BehindAt n) (b ∷ t) (next_beside n) (open_first n b t k (r states.Start (suc n) h))
 factor_by n b t c k r h = absurd cc
 
@@ -288,7 +294,8 @@ letter_by letters.I n t r h = let x = r (states.Word letters.L) n h in record { 
 letter_by letters.L n t r h = let x = r (states.Word letters.O) n h in record { rest = x.rest; spelt = ap (λ y. 111 ∷ y) x.spelt; behind_is = x.behind_is }
 letter_by letters.O n t r h = record { rest = t; spelt = refl; behind_is = r states.Epsilon n h }
 
-word_by : (l : Letter) (n b : ℕ) (t : List ℕ) (x : Bool) → eqb b (next_letter l) ≡ x → All t → After t (cond x (Some (with_letter l)) None) (opened (class_of b) n) → WordOf l n (b ∷ t)
+word_by : (l : Letter) (n b : ℕ) (t : List ℕ) (x : Bool) → eqb b (next_letter l) ≡ x → All t
+    → After t (cond x (Some (with_letter l)) None) (opened (class_of b) n) → WordOf l n (b ∷ t)
 unfolding After
 word_by l n b t true e r h =
     let is : b ≡ next_letter l = eqb-true b (next_letter l) e in

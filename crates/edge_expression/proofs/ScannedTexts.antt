@@ -28,19 +28,23 @@ unfoldable pub scanned : ℕ → List ℕ → Reached → Result (Unit {0}) Expr
 scanned n [] s = if may_end s then Ok tt else Err (BadByte n)
 scanned n (b ∷ bs) s = scan_then n (scanned (n + 1) bs) (step s b)
 
-pub scan_none : (text : List ℕ) (i : ℕ) (s : Reached) → i < length text → step s (get_or text i 0) ≡ None → scanned i (drop i text) s ≡ Err (BadByte i)
+pub scan_none : (text : List ℕ) (i : ℕ) (s : Reached) → i < length text → step s (get_or text i 0) ≡ None
+    → scanned i (drop i text) s ≡ Err (BadByte i)
 unfolding scanned
 scan_none text i s lt e = ap (λ (x : List ℕ). scanned i x s) (drop_more text i 0 lt) ∙ rw e refl
 
-pub scan_deep : (text : List ℕ) (i : ℕ) (s u : Reached) → i < length text → step s (get_or text i 0) ≡ Some u → 32 < u.depth → scanned i (drop i text) s ≡ Err Depth
+pub scan_deep : (text : List ℕ) (i : ℕ) (s u : Reached) → i < length text → step s (get_or text i 0) ≡ Some u → 32 < u.depth
+    → scanned i (drop i text) s ≡ Err Depth
 unfolding scanned
 scan_deep text i s u lt e h = ap (λ (x : List ℕ). scanned i x s) (drop_more text i 0 lt) ∙ rw (e, lt-ltb 32 u.depth h) refl
 
-pub scan_on : (text : List ℕ) (i : ℕ) (s u : Reached) → i < length text → step s (get_or text i 0) ≡ Some u → u.depth ≤ 32 → scanned i (drop i text) s ≡ scanned (i + 1) (drop (i + 1) text) u
+pub scan_on : (text : List ℕ) (i : ℕ) (s u : Reached) → i < length text → step s (get_or text i 0) ≡ Some u → u.depth ≤ 32
+    → scanned i (drop i text) s ≡ scanned (i + 1) (drop (i + 1) text) u
 unfolding scanned
 scan_on text i s u lt e h = ap (λ (x : List ℕ). scanned i x s) (drop_more text i 0 lt) ∙ rw (e, le-ltb 32 u.depth h) refl
 
-pub scan_end : (text : List ℕ) (i : ℕ) (s : Reached) (b : Bool) → length text ≤ i → may_end s ≡ b → scanned i (drop i text) s ≡ cond b (Ok tt) (Err (BadByte i))
+pub scan_end : (text : List ℕ) (i : ℕ) (s : Reached) (b : Bool) → length text ≤ i → may_end s ≡ b
+    → scanned i (drop i text) s ≡ cond b (Ok tt) (Err (BadByte i))
 unfolding scanned
 scan_end text i s b h e = rw (drop_all i text h, e) refl
 
@@ -79,7 +83,8 @@ deep_more : (d b c : ℕ) (bs : List ℕ) → Deep (open_with b d) bs c → Deep
 unfolding Deep
 deep_more d b c bs h = (suc h.0, omega (arith, h.1), h.2)
 
-right_more : (d b n c : ℕ) (bs : List ℕ) (a : Bool) (r : Result (Unit {0}) ExprFault) → open_with b d ≤ 32 → AllRight (open_with b d) (n + 1) bs c a r → AllRight d n (b ∷ bs) (1 + c) a r
+right_more : (d b n c : ℕ) (bs : List ℕ) (a : Bool) (r : Result (Unit {0}) ExprFault) → open_with b d ≤ 32
+    → AllRight (open_with b d) (n + 1) bs c a r → AllRight d n (b ∷ bs) (1 + c) a r
 unfolding AllRight
 right_more d b n c bs a (Ok x) one h = (h.0, shallow_more d b c bs one h.1)
 right_more d b n c bs a (Err (BadByte m)) one h = (h.0, omega (arith, h.1), shallow_more d b c bs one h.2)
@@ -89,13 +94,17 @@ right_more d b n c bs a (Err ZeroDivisor) one h = h
 right_more d b n c bs a (Err Degree) one h = h
 right_more d b n c bs a (Err Part) one h = h
 
-right_by : (d b n : ℕ) (bs : List ℕ) (deep : Bool) (u : Reached) → ltb 32 u.depth ≡ deep → u.depth ≡ open_with b d → AllRight u.depth (n + 1) bs (count step bs u) (accepts step may_end bs u) (scanned (n + 1) bs u) → AllRight d n (b ∷ bs) (1 + count step bs u) (accepts step may_end bs u) (cond deep (Err Depth) (scanned (n + 1) bs u))
+right_by : (d b n : ℕ) (bs : List ℕ) (deep : Bool) (u : Reached) → ltb 32 u.depth ≡ deep → u.depth ≡ open_with b d
+    → AllRight u.depth (n + 1) bs (count step bs u) (accepts step may_end bs u) (scanned (n + 1) bs u)
+    → AllRight d n (b ∷ bs) (1 + count step bs u) (accepts step may_end bs u) (cond deep (Err Depth) (scanned (n + 1) bs u))
 unfolding AllRight Deep
 right_by d b n bs true u t e h = (0, omega arith, omega (arith, ltb-true 32 u.depth t, e))
 right_by d b n bs false u t e h =
     right_more d b n (count step bs u) bs (accepts step may_end bs u) (scanned (n + 1) bs u) (omega (arith, ltb-false 32 u.depth t, e)) (subst (λ x. AllRight x (n + 1) bs (count step bs u) (accepts step may_end bs u) (scanned (n + 1) bs u)) e h)
 
-right_step : (d b n : ℕ) (bs : List ℕ) (o : Option Reached) → ((u : Reached) → o ≡ Some u → u.depth ≡ open_with b d) → ((u : Reached) → AllRight u.depth (n + 1) bs (count step bs u) (accepts step may_end bs u) (scanned (n + 1) bs u)) → AllRight d n (b ∷ bs) (count_then (count step bs) o) (accepts_then (accepts step may_end bs) o) (scan_then n (scanned (n + 1) bs) o)
+right_step : (d b n : ℕ) (bs : List ℕ) (o : Option Reached) → ((u : Reached) → o ≡ Some u → u.depth ≡ open_with b d)
+    → ((u : Reached) → AllRight u.depth (n + 1) bs (count step bs u) (accepts step may_end bs u) (scanned (n + 1) bs u))
+    → AllRight d n (b ∷ bs) (count_then (count step bs) o) (accepts_then (accepts step may_end bs) o) (scan_then n (scanned (n + 1) bs) o)
 unfolding AllRight Shallow
 right_step d b n bs None opens r = (refl, omega arith, λ k h. absurd (omega arith))
 right_step d b n bs (Some u) opens r = right_by d b n bs (ltb 32 u.depth) u refl (opens u refl) (r u)
@@ -120,7 +129,8 @@ opens_by b n m classes.Blank (inl k) e = let f : n ≡ m = cc in sym f ∙ rw k 
 opens_by b n m classes.Blank (inr k) e = let f : n ≡ m = cc in sym f ∙ rw k refl
 opens_by b n m classes.Other k e = let f : n ≡ m = cc in sym f ∙ open_other b n k.0 k.1
 
-opens_both : (b n : ℕ) (s : Option State) (m : Option ℕ) (u : Reached) → ((k : ℕ) → m ≡ Some k → k ≡ open_with b n) → reached s m ≡ Some u → u.depth ≡ open_with b n
+opens_both : (b n : ℕ) (s : Option State) (m : Option ℕ) (u : Reached) → ((k : ℕ) → m ≡ Some k → k ≡ open_with b n)
+    → reached s m ≡ Some u → u.depth ≡ open_with b n
 opens_both b n None m u h e = absurd cc
 opens_both b n (Some s) None u h e = absurd cc
 opens_both b n (Some s) (Some k) u h e = let f : k ≡ u.depth = cc in sym f ∙ h k refl
@@ -135,7 +145,8 @@ right n [] s = right_end s.depth n (may_end s)
 right n (b ∷ bs) s = right_step s.depth b n bs (step s b) (λ u e. opens b s u e) (λ u. right (n + 1) bs u)
 
 -- what is accepted is read to its end
-whole_by : (t : List ℕ) (o : Option Reached) → ((u : Reached) → accepts step may_end t u ≡ true → count step t u ≡ length t) → accepts_then (accepts step may_end t) o ≡ true → count_then (count step t) o ≡ suc (length t)
+whole_by : (t : List ℕ) (o : Option Reached) → ((u : Reached) → accepts step may_end t u ≡ true → count step t u ≡ length t)
+    → accepts_then (accepts step may_end t) o ≡ true → count_then (count step t) o ≡ suc (length t)
 whole_by t None r e = absurd cc
 whole_by t (Some u) r e = omega (arith, r u e)
 

@@ -94,7 +94,8 @@ sign_some (negsuc n) h e = absurd cc
 pub number_some : (n d : ℤ) → n ≢ pos 0 → d ≢ pos 0 → fraction n d ≡ number_zero → ⊥
 number_some n d h k e = sign_some (n *ℤ d) (product_nonzero n d h k) (sym (fraction-sign n d k) ∙ ap number_sign e ∙ number_sign_zero)
 
-pub quotient_number : (x y t : Terms) → pos 0 <ℤ x.den → pos 0 <ℤ y.den → y.num ≢ pos 0 → quotient x y ≡ Ok t → IsNumber t (number x /ε number y)
+pub quotient_number : (x y t : Terms) → pos 0 <ℤ x.den → pos 0 <ℤ y.den → y.num ≢ pos 0 → quotient x y ≡ Ok t
+    → IsNumber t (number x /ε number y)
 quotient_number x y t h k some e =
     let under : x.den *ℤ y.num ≢ pos 0 = product_nonzero x.den y.num (positive_nonzero x.den h) some in
     let z = fraction (x.num *ℤ y.den) (x.den *ℤ y.num) in

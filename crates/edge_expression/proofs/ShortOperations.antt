@@ -58,7 +58,8 @@ opposite_short y q = record { reduced = opposite_reduced y q.reduced; parts = op
 minus : (a b : ℤ) → a +ℤ neg_ℤ b ≡ a -ℤ b
 minus a b = omega (arith, ints)
 
-difference_lowest : (x y : Terms) → IsShort x → IsShort y → written_add x (opposite y) ≡ Some (lowest_terms (x.num *ℤ y.den -ℤ y.num *ℤ x.den) (x.den *ℤ y.den))
+difference_lowest : (x y : Terms) → IsShort x → IsShort y
+    → written_add x (opposite y) ≡ Some (lowest_terms (x.num *ℤ y.den -ℤ y.num *ℤ x.den) (x.den *ℤ y.den))
 unfolding opposite
 difference_lowest x y p q =
     sum_lowest x (opposite y) p (opposite_short y q) ∙ ap (λ n. Some (lowest_terms n (x.den *ℤ y.den))) (ap (λ z. x.num *ℤ y.den +ℤ z) (int_negate_multiply y.num x.den) ∙ minus (x.num *ℤ y.den) (y.num *ℤ x.den))
@@ -67,7 +68,8 @@ inverse_short : (y : Terms) → y.num ≢ pos 0 → IsShort y → IsShort (inver
 inverse_short y some q = record { reduced = inverse_reduced y q.reduced some; parts = inverse_within (10 ^ 18) y q.parts }
 
 -- a product with an inverse has the value of the quotient
-over_inverse : (z : Terms) (n d m e : ℤ) → Same z (product_of (record { num = n; den = d }) (inverse_of m e)) → Same z (record { num = n *ℤ e; den = d *ℤ m })
+over_inverse : (z : Terms) (n d m e : ℤ) → Same z (product_of (record { num = n; den = d }) (inverse_of m e))
+    → Same z (record { num = n *ℤ e; den = d *ℤ m })
 over_inverse z n d (pos m) e h = h
 over_inverse z n d (negsuc m) e h =
     ap (λ k. z.num *ℤ k) (int_multiply_negate d (pos (suc m)))
@@ -75,7 +77,8 @@ over_inverse z n d (negsuc m) e h =
     ∙ ap neg_ℤ (h ∙ ap (λ k. k *ℤ z.den) (int_multiply_negate n e) ∙ int_negate_multiply (n *ℤ e) z.den)
     ∙ int_negate_negate ((n *ℤ e) *ℤ z.den)
 
-quotient_lowest : (x y : Terms) → y.num ≢ pos 0 → IsShort x → IsShort y → written_mul x (inverse y) ≡ Some (lowest_terms (x.num *ℤ y.den) (x.den *ℤ y.num))
+quotient_lowest : (x y : Terms) → y.num ≢ pos 0 → IsShort x → IsShort y
+    → written_mul x (inverse y) ≡ Some (lowest_terms (x.num *ℤ y.den) (x.den *ℤ y.num))
 unfolding inverse
 quotient_lowest x y some p q =
     let i = inverse_short y some q in
@@ -85,19 +88,26 @@ quotient_lowest x y some p q =
 
 -- ---- what the operations of the program answer
 
-answered : (op : Op) (r : Result Ratio TooWide) (w : Option Terms) (t : Terms) → ok_map fraction_parts r ≡ or_wide op (option_map single w) → w ≡ Some t → made_short (ok_map terms r) ≡ short_of t
+answered : (op : Op) (r : Result Ratio TooWide) (w : Option Terms) (t : Terms) → ok_map fraction_parts r ≡ or_wide op (option_map single w)
+    → w ≡ Some t → made_short (ok_map terms r) ≡ short_of t
 answered op (Ok x) w t e h = let g : fraction_parts x ≡ single t = (let k : Path (Result _ TooWide) (Ok (fraction_parts x)) (Ok (single t)) = e ∙ ap (λ v. or_wide op (option_map single v)) h in cc) in ap (λ p. short_of (pair_of p)) g
 answered op (Err f) w t e h = let k : Path (Result _ TooWide) (Err f) (Ok (single t)) = e ∙ ap (λ v. or_wide op (option_map single v)) h in absurd (cc)
 
-pub sum_made : (x y : Ratio) (r : Result Ratio TooWide) → is_short (terms x) ≡ true → is_short (terms y) ≡ true → ok_map fraction_parts r ≡ or_wide Add (option_map single (written_add (terms x) (terms y))) → made_short (ok_map terms r) ≡ sum (terms x) (terms y)
+pub sum_made : (x y : Ratio) (r : Result Ratio TooWide) → is_short (terms x) ≡ true → is_short (terms y) ≡ true
+    → ok_map fraction_parts r ≡ or_wide Add (option_map single (written_add (terms x) (terms y)))
+    → made_short (ok_map terms r) ≡ sum (terms x) (terms y)
 unfolding short
 sum_made x y r s t e = answered Add r _ _ e (sum_lowest (terms x) (terms y) (is_short_of x s) (is_short_of y t))
 
-pub difference_made : (x y : Ratio) (r : Result Ratio TooWide) → is_short (terms x) ≡ true → is_short (terms y) ≡ true → ok_map fraction_parts r ≡ or_wide Sub (option_map single (written_add (terms x) (opposite (terms y)))) → made_short (ok_map terms r) ≡ difference (terms x) (terms y)
+pub difference_made : (x y : Ratio) (r : Result Ratio TooWide) → is_short (terms x) ≡ true → is_short (terms y) ≡ true
+    → ok_map fraction_parts r ≡ or_wide Sub (option_map single (written_add (terms x) (opposite (terms y))))
+    → made_short (ok_map terms r) ≡ difference (terms x) (terms y)
 unfolding short
 difference_made x y r s t e = answered Sub r _ _ e (difference_lowest (terms x) (terms y) (is_short_of x s) (is_short_of y t))
 
-pub product_made : (x y : Ratio) (r : Result Ratio TooWide) → is_short (terms x) ≡ true → is_short (terms y) ≡ true → ok_map fraction_parts r ≡ or_wide Mul (option_map single (written_mul (terms x) (terms y))) → made_short (ok_map terms r) ≡ product (terms x) (terms y)
+pub product_made : (x y : Ratio) (r : Result Ratio TooWide) → is_short (terms x) ≡ true → is_short (terms y) ≡ true
+    → ok_map fraction_parts r ≡ or_wide Mul (option_map single (written_mul (terms x) (terms y)))
+    → made_short (ok_map terms r) ≡ product (terms x) (terms y)
 unfolding short
 product_made x y r s t e = answered Mul r _ _ e (product_lowest (terms x) (terms y) (is_short_of x s) (is_short_of y t))
 
@@ -111,6 +121,8 @@ stored_some (pos zero) d h = absurd (cc)
 stored_some (pos (suc n)) d h = refl
 stored_some (negsuc n) d h = refl
 
-pub quotient_made : (x y : Ratio) (r : Result Ratio TooWide) → is_short (terms x) ≡ true → is_short (terms y) ≡ true → is_zero (terms y) ≡ false → ok_map fraction_parts r ≡ or_wide Div (option_map single (written_mul (terms x) (inverse (terms y)))) → made_short (ok_map terms r) ≡ quotient (terms x) (terms y)
+pub quotient_made : (x y : Ratio) (r : Result Ratio TooWide) → is_short (terms x) ≡ true → is_short (terms y) ≡ true
+    → is_zero (terms y) ≡ false → ok_map fraction_parts r ≡ or_wide Div (option_map single (written_mul (terms x) (inverse (terms y))))
+    → made_short (ok_map terms r) ≡ quotient (terms x) (terms y)
 unfolding short
 quotient_made x y r s t some e = answered Div r _ _ e (quotient_lowest (terms x) (terms y) (some_number y.num some) (is_short_of x s) (is_short_of y t))

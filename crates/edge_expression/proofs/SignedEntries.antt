@@ -35,7 +35,8 @@ all_five (a ∷ b ∷ c ∷ d ∷ []) h = absurd (omega arith)
 all_five (a ∷ b ∷ c ∷ d ∷ e ∷ []) h = refl
 all_five (a ∷ b ∷ c ∷ d ∷ e ∷ f ∷ xs) h = absurd (omega arith)
 
-pub by_items : (x : List Terms) (a b c d e : Terms) → terms_at x 0 ≡ a → terms_at x 1 ≡ b → terms_at x 2 ≡ c → terms_at x 3 ≡ d → terms_at x 4 ≡ e → a ∷ b ∷ c ∷ d ∷ e ∷ [] ≡ tabled (terms_at x)
+pub by_items : (x : List Terms) (a b c d e : Terms) → terms_at x 0 ≡ a → terms_at x 1 ≡ b → terms_at x 2 ≡ c → terms_at x 3 ≡ d
+    → terms_at x 4 ≡ e → a ∷ b ∷ c ∷ d ∷ e ∷ [] ≡ tabled (terms_at x)
 by_items x a b c d e p q r s t = rw (p, q, r, s, t) refl
 
 pub zero_plus : (xs : List Short) → joined Plus zero_coefficients (map short_terms xs) ≡ Ok (tabled (terms_at (map short_terms xs)))

@@ -138,7 +138,9 @@ front k ks t s =
     let whole : token_text k ++ s.rest ≡ f.byte ∷ (f.rest ++ s.rest) = ap (λ (x : List ℕ). x ++ s.rest) f.spelt in
     record {
       rest = s.rest;
-      after = ap after_blanks s.spelt ∙ behind_all s.blanks (token_text k ++ s.rest) s.are_blanks ∙ ap after_blanks whole ∙ after_other f.byte (f.rest ++ s.rest) (no_blank k f.byte f.is) ∙ sym whole;
+      after =
+          ap after_blanks s.spelt ∙ behind_all s.blanks (token_text k ++ s.rest) s.are_blanks ∙ ap after_blanks whole
+          ∙ after_other f.byte (f.rest ++ s.rest) (no_blank k f.byte f.is) ∙ sym whole;
       spelt = s.is_rest;
     }
 

@@ -30,7 +30,8 @@ at_tabled f (suc (suc (suc (suc (suc k))))) h = absurd (omega arith)
 pub same_tabled : (f g : ℕ → Terms) → ((k : ℕ) → k < 5 → f k ≡ g k) → tabled f ≡ tabled g
 same_tabled f g h = rw (h 0 (omega arith), h 1 (omega arith), h 2 (omega arith), h 3 (omega arith), h 4 (omega arith)) refl
 
-pub coefficients_are : (f : ℕ → Result Terms ValueFault) (g : ℕ → Terms) → ((k : ℕ) → k < 5 → f k ≡ Ok (g k)) → coefficients f ≡ Ok (tabled g)
+pub coefficients_are : (f : ℕ → Result Terms ValueFault) (g : ℕ → Terms) → ((k : ℕ) → k < 5 → f k ≡ Ok (g k))
+    → coefficients f ≡ Ok (tabled g)
 unfolding coefficients
 coefficients_are f g h = rw (h 0 (omega arith), h 1 (omega arith), h 2 (omega arith), h 3 (omega arith), h 4 (omega arith)) refl
 
@@ -72,11 +73,13 @@ sum_begun x y k = refl
 sum_start : (x y : List Terms) (k : ℕ) → product_sum x y k 1 ≡ (product (terms_at x 0) (terms_at y k) >>= λ p. sum zero_terms p)
 sum_start x y k = let e : k - 0 ≡ k = omega arith in sum_begun x y k ∙ ap (λ j. product (terms_at x 0) (terms_at y j) >>= λ p. sum zero_terms p) e
 
-sum_next : (x y : List Terms) (k i : ℕ) → product_sum x y k (suc (suc i)) ≡ (product_sum x y k (suc i) >>= λ s. product (terms_at x (suc i)) (terms_at y (k - suc i)) >>= λ p. sum s p)
+sum_next : (x y : List Terms) (k i : ℕ)
+    → product_sum x y k (suc (suc i)) ≡ (product_sum x y k (suc i) >>= λ s. product (terms_at x (suc i)) (terms_at y (k - suc i)) >>= λ p. sum s p)
 unfolding product_sum
 sum_next x y k i = refl
 
-plain_sum : (c d : Terms) (y : List Terms) (k i : ℕ) → ((j : ℕ) → IsShortTerms (terms_at y j)) → IsShortTerms d → product c (terms_at y k) ≡ Ok d → product_sum (plain_entry c) y k (suc i) ≡ Ok d
+plain_sum : (c d : Terms) (y : List Terms) (k i : ℕ) → ((j : ℕ) → IsShortTerms (terms_at y j)) → IsShortTerms d
+    → product c (terms_at y k) ≡ Ok d → product_sum (plain_entry c) y k (suc i) ≡ Ok d
 plain_sum c d y k zero s short e = sum_start (plain_entry c) y k ∙ rw (plain_first c, e) (sum_zero_left d short)
 plain_sum c d y k (suc i) s short e =
     let none : product (terms_at (plain_entry c) (suc i)) (terms_at y (k - suc i)) ≡ Ok zero_terms = ap (λ x. product x (terms_at y (k - suc i))) (plain_behind c i) ∙ product_zero_left (terms_at y (k - suc i)) (s (k - suc i)) in
@@ -103,11 +106,13 @@ product_if : (b : Bool) (c : Terms) → IsShortTerms c → product c (cond b one
 product_if true c s = product_one_right c s
 product_if false c s = product_zero_right c s
 
-plus_if : (k p : ℕ) (b : Bool) → eqb k p ≡ b → (f : ℕ → Terms) (t : Terms) → ((j : ℕ) → IsShortTerms (f j)) → IsShortTerms t → f p ≡ zero_terms → sum (f k) (cond b t zero_terms) ≡ Ok (cond b t (f k))
+plus_if : (k p : ℕ) (b : Bool) → eqb k p ≡ b → (f : ℕ → Terms) (t : Terms) → ((j : ℕ) → IsShortTerms (f j)) → IsShortTerms t
+    → f p ≡ zero_terms → sum (f k) (cond b t zero_terms) ≡ Ok (cond b t (f k))
 plus_if k p true x f t h s e = let same : k ≡ p = eqb-true k p x in ap (λ y. sum y t) (ap f same ∙ e) ∙ sum_zero_left t s
 plus_if k p false x f t h s e = sum_zero_right (f k) (h k)
 
-minus_if : (k p : ℕ) (b : Bool) → eqb k p ≡ b → (f : ℕ → Terms) (t c : Terms) → ((j : ℕ) → IsShortTerms (f j)) → IsShortTerms c → c.num ≡ neg_ℤ t.num → c.den ≡ t.den → f p ≡ zero_terms → difference (f k) (cond b t zero_terms) ≡ Ok (cond b c (f k))
+minus_if : (k p : ℕ) (b : Bool) → eqb k p ≡ b → (f : ℕ → Terms) (t c : Terms) → ((j : ℕ) → IsShortTerms (f j)) → IsShortTerms c
+    → c.num ≡ neg_ℤ t.num → c.den ≡ t.den → f p ≡ zero_terms → difference (f k) (cond b t zero_terms) ≡ Ok (cond b c (f k))
 minus_if k p true x f t c h s n d e = let same : k ≡ p = eqb-true k p x in ap (λ y. difference y t) (ap f same ∙ e) ∙ difference_zero_left t c s n d
 minus_if k p false x f t c h s n d e = difference_zero_right (f k) (h k)
 
@@ -118,10 +123,14 @@ number_at : Terms → ℕ → Terms
 number_at t zero = t
 number_at t (suc k) = zero_terms
 
-parts_at : (t : Terms) (k : ℕ) → IsShortTerms t → k < 5 → quotient (terms_at (plain_entry (record { num = t.num; den = pos 1 })) k) (terms_at (plain_entry (record { num = t.den; den = pos 1 })) 0) ≡ Ok (number_at t k)
+parts_at : (t : Terms) (k : ℕ) → IsShortTerms t → k < 5
+    → quotient (terms_at (plain_entry (record { num = t.num; den = pos 1 })) k) (terms_at (plain_entry (record { num = t.den; den = pos 1 })) 0) ≡ Ok (number_at t k)
 unfolding number_at
-parts_at t zero s l = ap₂ quotient (plain_first (record { num = t.num; den = pos 1 })) (plain_first (record { num = t.den; den = pos 1 })) ∙ quotient_parts t s
-parts_at t (suc k) s l = ap₂ quotient (plain_behind (record { num = t.num; den = pos 1 }) k) (plain_first (record { num = t.den; den = pos 1 })) ∙ quotient_zero t.den s.0.positive
+parts_at t zero s l =
+    ap₂ quotient (plain_first (record { num = t.num; den = pos 1 })) (plain_first (record { num = t.den; den = pos 1 })) ∙ quotient_parts t s
+parts_at t (suc k) s l =
+    ap₂ quotient (plain_behind (record { num = t.num; den = pos 1 }) k) (plain_first (record { num = t.den; den = pos 1 }))
+    ∙ quotient_zero t.den s.0.positive
 
 single_short : (p : ℕ) (t : Terms) (k : ℕ) → IsShortTerms t → IsShortTerms (single p t k)
 single_short p t k s = short_if (eqb k p) t s
@@ -153,7 +162,8 @@ degree_number : (t : Terms) → nat_lt 0 (degree (plain_entry t)) ≡ false
 degree_number t = ap (nat_lt 0) (degree_plain t)
 
 -- the quotient of the parts of a fraction
-pub over_parts : (t : Terms) → IsShortTerms t → over (plain_entry (record { num = t.num; den = pos 1 })) (plain_entry (record { num = t.den; den = pos 1 })) ≡ Ok (plain_entry t)
+pub over_parts : (t : Terms) → IsShortTerms t
+    → over (plain_entry (record { num = t.num; den = pos 1 })) (plain_entry (record { num = t.den; den = pos 1 })) ≡ Ok (plain_entry t)
 unfolding over number_at
 over_parts t s =
     let d : Terms = record { num = t.den; den = pos 1 } in
@@ -163,13 +173,15 @@ over_parts t s =
 
 -- ---- sums with a single coefficient
 
-pub joined_plus : (f : ℕ → Terms) (p : ℕ) (t : Terms) → ((k : ℕ) → IsShortTerms (f k)) → IsShortTerms t → f p ≡ zero_terms → joined Plus (tabled f) (tabled (single p t)) ≡ Ok (tabled (λ k. if k == p then t else f k))
+pub joined_plus : (f : ℕ → Terms) (p : ℕ) (t : Terms) → ((k : ℕ) → IsShortTerms (f k)) → IsShortTerms t → f p ≡ zero_terms
+    → joined Plus (tabled f) (tabled (single p t)) ≡ Ok (tabled (λ k. if k == p then t else f k))
 unfolding joined
 joined_plus f p t h s e =
     coefficients_are (λ k. sum (terms_at (tabled f) k) (terms_at (tabled (single p t)) k)) (λ k. if k == p then t else f k)
     (λ k l. ap₂ sum (at_tabled f k l) (at_tabled (single p t) k l) ∙ plus_if k p (eqb k p) refl f t h s e)
 
-pub joined_minus : (f : ℕ → Terms) (p : ℕ) (t c : Terms) → ((k : ℕ) → IsShortTerms (f k)) → IsShortTerms c → c.num ≡ neg_ℤ t.num → c.den ≡ t.den → f p ≡ zero_terms → joined Minus (tabled f) (tabled (single p t)) ≡ Ok (tabled (λ k. if k == p then c else f k))
+pub joined_minus : (f : ℕ → Terms) (p : ℕ) (t c : Terms) → ((k : ℕ) → IsShortTerms (f k)) → IsShortTerms c → c.num ≡ neg_ℤ t.num
+    → c.den ≡ t.den → f p ≡ zero_terms → joined Minus (tabled f) (tabled (single p t)) ≡ Ok (tabled (λ k. if k == p then c else f k))
 unfolding joined
 joined_minus f p t c h s n d e =
     coefficients_are (λ k. difference (terms_at (tabled f) k) (terms_at (tabled (single p t)) k)) (λ k. if k == p then c else f k)

@@ -76,7 +76,8 @@ zero_minus (negsuc n) = omega (arith, ints)
 
 -- 0 less a fraction is its opposite
 pub difference_zero_left : (t c : Terms) → IsShortTerms c → c.num ≡ neg_ℤ t.num → c.den ≡ t.den → difference zero_terms t ≡ Ok c
-difference_zero_left t c s n d = ap₂ short (ap₂ ◌-ℤ◌ (zero_left t.den) (one_right t.num) ∙ zero_minus t.num ∙ sym n) (one_left t.den ∙ sym d) ∙ short_self c s
+difference_zero_left t c s n d =
+    ap₂ short (ap₂ ◌-ℤ◌ (zero_left t.den) (one_right t.num) ∙ zero_minus t.num ∙ sym n) (one_left t.den ∙ sym d) ∙ short_self c s
 
 pub product_one_right : (t : Terms) → IsShortTerms t → product t one_terms ≡ Ok t
 product_one_right t s = ap₂ short (one_right t.num) (one_right t.den) ∙ short_self t s
