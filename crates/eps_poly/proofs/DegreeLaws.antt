@@ -1,9 +1,11 @@
 -- The degree of a polynomial.
-use Rattle.std.proofs.Common.{◌≡◌, ◌≢◌, ℕ, zero, suc, ◌-◌, ◌<◌, ◌≤◌, List, [], ◌∷◌, refl, sym, ◌∙◌, ap, arith, ℤ, pos, negsuc, inl, inr}
+use Rattle.std.proofs.Common.{◌≡◌, ◌≢◌, ℕ, zero, suc, ◌+◌, ◌-◌, ◌<◌, ◌≤◌, List, [], ◌∷◌, length, refl, sym, ◌∙◌, ap, arith, ℤ, pos, negsuc, inl, inr}
 use Rattle.std.proofs.lemmas.Bool.{cases_lt}
 use Rattle.field_core.specs.Polynomial.{coefficient, Same, IsNonZero}
 use Rattle.eps_poly.specs.Factors.{order}
 use Rattle.eps_poly.specs.Written.{counted, count_to_last, degree}
+use Rattle.eps_poly.specs.Polynomials.{zero_polynomial}
+use Rattle.eps_poly.proofs.Coefficients.{coefficient-past, coefficient-zero}
 use Rattle.eps_poly.proofs.OrderLaws.{coefficient-order}
 
 counted_least : (c : ℤ) (n : ℕ) → n ≤ counted c n
@@ -34,7 +36,7 @@ counted_next (pos (suc c)) n k h = omega arith
 counted_next (negsuc c) n k h = omega arith
 
 -- above the last coefficient that isn't 0 there are zeros
-coefficient-above : (p : List ℤ) (k : ℕ) → count_to_last p ≤ k → coefficient p k ≡ pos 0
+pub coefficient-above : (p : List ℤ) (k : ℕ) → count_to_last p ≤ k → coefficient p k ≡ pos 0
 unfolding coefficient count_to_last
 coefficient-above [] k h = refl
 coefficient-above (c ∷ p) zero h = counted_none c (count_to_last p) (omega arith)
@@ -63,6 +65,22 @@ count_at_least p n some = elim (cases_lt n (count_to_last p)) [
   | inl l ↦ l
   | inr l ↦ absurd (some (coefficient-above p n l))
 ]
+
+pub count_within : (p : List ℤ) → count_to_last p ≤ length p
+count_within p = count_at_most p (length p) (λ k h. coefficient-past p k h)
+
+pub count_none : (p : List ℤ) → ((k : ℕ) → coefficient p k ≡ pos 0) → 0 ≡ count_to_last p
+count_none p h = let high = count_at_most p 0 (λ k l. h k) in omega arith
+
+pub count_zero : 0 ≡ count_to_last zero_polynomial
+count_zero = count_none zero_polynomial coefficient-zero
+
+-- a coefficient that isn't 0, with zeros above
+pub count_is : (p : List ℤ) (n : ℕ) → coefficient p n ≢ pos 0 → ((k : ℕ) → n < k → coefficient p k ≡ pos 0) → n + 1 ≡ count_to_last p
+count_is p n some h =
+    let high = count_at_most p (suc n) h in
+    let low = count_at_least p n some in
+    omega arith
 
 pub coefficient-above_degree : (p : List ℤ) (k : ℕ) → degree p < k → coefficient p k ≡ pos 0
 unfolding degree

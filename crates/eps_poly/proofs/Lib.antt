@@ -4,6 +4,7 @@ pub mod ContentLaws
 pub mod DegreeLaws
 pub mod ExactLaws
 pub mod FactorLaws
+pub mod InPlace
 pub mod IntegerQuotients
 pub mod OrderLaws
 pub mod ProductLaws

@@ -6,7 +6,6 @@ use Rattle.field_core.specs.Polynomial.{coefficient}
 use Rattle.field_core.specs.Sized.{◌>>=◌}
 use Rattle.field_core.specs.Laws.PolynomialLaws.{coefficient-index}
 use Rattle.eps_poly.specs.Written.{sized_list}
-use Rattle.eps_poly.proofs.Coefficients.{Filled}
 
 -- one more value
 list_next : (n : ℕ) (value : ℕ → Option ℤ) (xs : List ℤ) (c : ℤ) → sized_list n value ≡ Some xs → value n ≡ Some c → sized_list (suc n) value ≡ Some (xs ++ c ∷ [])
@@ -43,17 +42,15 @@ list_refused zero n value h = ap (λ k. sized_list k value) (omega arith) ∙ h
 list_refused (suc m) n value h = ap (λ k. sized_list k value) (omega arith) ∙ list_stays (m + n) value (list_refused m n value h)
 
 -- all 33 are there
-pub list_from_filled : (value : ℕ → Option ℤ) (xs : List ℤ) (n : ℕ) → 33 ≤ n → Filled (λ k c. value k ≡ Some c) xs n → sized_list 33 value ≡ Some xs
-list_from_filled value xs n h f =
-    let all = f.count in
-    list_front 33 value xs (omega arith) (λ k l. f.front k (omega arith)) ∙ ap Some (take_all 33 xs (omega arith))
+pub list_from_all : (value : ℕ → Option ℤ) (xs : List ℤ) → length xs ≡ 33 → ((k : ℕ) → value k ≡ Some (coefficient xs k)) → sized_list 33 value ≡ Some xs
+list_from_all value xs count h =
+    list_front 33 value xs (omega arith) (λ k l. h k) ∙ ap Some (take_all 33 xs (omega arith))
 
 -- the value that comes next is refused
-pub list_from_refused : (value : ℕ → Option ℤ) (xs : List ℤ) (n : ℕ) → n < 33 → Filled (λ k c. value k ≡ Some c) xs n → value n ≡ None → sized_list 33 value ≡ None
-list_from_refused value xs n h f refused =
-    let all = f.count in
+pub list_from_refused : (value : ℕ → Option ℤ) (xs : List ℤ) (n : ℕ) → n < 33 → length xs ≡ 33 → ((k : ℕ) → k < n → value k ≡ Some (coefficient xs k)) → value n ≡ None → sized_list 33 value ≡ None
+list_from_refused value xs n h count front refused =
     let gap : (33 - suc n) + suc n ≡ 33 = omega arith in
-    let stopped = list_stops n value (take n xs) (list_front n value xs (omega arith) f.front) refused in
+    let stopped = list_stops n value (take n xs) (list_front n value xs (omega arith) front) refused in
     rw gap at (list_refused (33 - suc n) (suc n) value stopped)
 
 -- what a step that isn't refused gave the next one

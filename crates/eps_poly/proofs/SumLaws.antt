@@ -1,15 +1,15 @@
 -- What a sum that isn't refused is.
-use Rattle.std.proofs.Common.{lit<, pos, ◌≡◌, ℕ, ◌<◌, ◌^◌, List, length, sym, ◌∙◌, ap₂, arith, ℤ, ◌+ℤ◌, unsigned_abs, inl, inr, Option, Some}
+use Rattle.std.proofs.Common.{pos, ◌≡◌, ℕ, ◌<◌, ◌^◌, List, length, sym, ◌∙◌, ap₂, arith, ℤ, ◌+ℤ◌, unsigned_abs, inl, inr, Option, Some}
 use Rattle.std.proofs.lemmas.Bool.{cases_lt}
 use Rattle.std.proofs.lemmas.Int.{ints}
 use Rattle.field_core.specs.Polynomial.{coefficient, Same, poly_add}
 use Rattle.field_core.specs.Sized.{sized}
 use Rattle.field_core.specs.Laws.PolynomialLaws.{coefficient-add}
+use lib.IntN.{+ℤ_idr}
 use Rattle.field_core.proofs.Sized.{sized_small, sized_large}
 use Rattle.eps_poly.specs.Polynomials.{IsPolynomial}
-use Rattle.eps_poly.specs.Written.{degree, sized_list, sized_sum}
+use Rattle.eps_poly.specs.Written.{sized_list, sized_sum}
 use Rattle.eps_poly.proofs.Coefficients.{coefficient-past}
-use Rattle.eps_poly.proofs.DegreeLaws.{coefficient-above_degree}
 use Rattle.eps_poly.proofs.SizedLists.{list_values, ok_inside}
 
 -- a written part that isn't refused
@@ -19,9 +19,9 @@ sized_inside z c e = elim (cases_lt (unsigned_abs z) (2 ^ 127)) [
   | inr h ↦ let wide = sized_large z h in cc
 ]
 
--- past both degrees nothing is added
-pub sum_past : (p q : List ℤ) (k : ℕ) → degree p < k → degree q < k → sized (coefficient p k +ℤ coefficient q k) ≡ Some (pos 0)
-sum_past p q k h l = rw (coefficient-above_degree p k h, coefficient-above_degree q k l) (sized_small (pos 0) (lit< tt))
+-- a coefficient to which 0 is added stays
+pub sum_alone : (p q : List ℤ) (k : ℕ) → IsPolynomial p → coefficient q k ≡ pos 0 → sized (coefficient p k +ℤ coefficient q k) ≡ Some (coefficient p k)
+sum_alone p q k v none = rw (none, +ℤ_idr (coefficient p k)) (sized_small (coefficient p k) (v.sizes k))
 
 -- 33 values of at most 2^127 - 1 in size are a polynomial
 pub values_polynomial : (value : ℕ → Option ℤ) (r : List ℤ) → ((k : ℕ) (c : ℤ) → value k ≡ Some c → unsigned_abs c < 2 ^ 127) → sized_list 33 value ≡ Some r → IsPolynomial r

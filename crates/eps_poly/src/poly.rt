@@ -2,14 +2,14 @@
 ghost use Rattle.std.specs.Prelude.{◌≡◌, ◌≢◌, ◌↔◌, ◌≤◌, ◌<◌, ◌^◌, ◌<ℤ◌, ℤ, pos, List, slice_set, IfOk, IfSome, IfNone, IsSomeAnd, IsTrue, Some};
 ghost use Rattle.std.specs.List.{list_all};
 ghost use Rattle.std.specs.Option.{option_map};
-ghost use Rattle.field_core.specs.Kind.{is_zero_integer, or_wide};
+ghost use Rattle.field_core.specs.Kind.{is_zero_integer, ok_map, or_wide};
 ghost use Rattle.field_core.specs.Polynomial.{coefficient, lowest, poly_add, poly_multiply, poly_negate, IsNonZero, Same};
 ghost use Rattle.field_core.specs.Sized.{sized};
 ghost use Rattle.field_core.specs.declared.place.Op.TheVariants.{Add, Sub, Mul};
 ghost use Rattle.eps_poly.specs.ExactQuotients.{exact_quotient};
 ghost use Rattle.eps_poly.specs.Factors.{content, core, factor, low_order, lowered, order, turned_as};
 ghost use Rattle.eps_poly.specs.Polynomials.{monomial, zero_polynomial, IsPolynomial};
-ghost use Rattle.eps_poly.specs.Written.{degree, sized_product, sized_sum};
+ghost use Rattle.eps_poly.specs.Written.{count_to_last, degree, sized_product, sized_sum};
 
 use crate::numbers::{is_below_zero, is_zero, size};
 use crate::products::part_of_product;
@@ -21,22 +21,51 @@ use std::marker::Model;
 pub const COUNT: usize = 33;
 
 /// A polynomial in epsilon with whole coefficients: one of at most 2^127 - 1 in size for each of the powers 0 to 32.
-#[derive(Clone, Copy, PartialEq, Eq, Debug)]
+///
+/// It knows how many of them there are up to the last that isn't 0, so no call looks at the zeros above.
+#[derive(Clone, Copy, Debug)]
 pub struct EpsPoly {
+    used: usize,
     entries: [i128; COUNT],
 }
 
 impl Model for EpsPoly {
-    ghost use Rattle.std.specs.Prelude.{List, ℤ};
+    ghost use Rattle.std.specs.Prelude.{◌≡◌, List, ℤ};
+    ghost use Rattle.std.proofs.Common.{ap, sym};
     ghost use Rattle.eps_poly.specs.Polynomials.{IsPolynomial};
+    ghost use Rattle.eps_poly.specs.Written.{count_to_last};
 
     ghost Value = { List ℤ };
 
     ghost view = { λ p. p.entries };
 
-    ghost invariant = { λ p. IsPolynomial p.entries };
+    ghost invariant = { λ p. IsPolynomial p.entries × (p.used ≡ count_to_last p.entries) };
 
-    ghost inverse = { λ p. record { entries = p } };
+    ghost inverse = { λ p. record { used = count_to_last p; entries = p } };
+
+    ghost inverse_ok = { λ p h. ap (λ n. record { used = n; entries = p.entries }) (sym h.1) };
+}
+
+impl PartialEq for EpsPoly {
+    ghost use Rattle.std.specs.Cmp.Lexicographic.{pointwise, lists_per};
+    ghost use Rattle.std.specs.Ordering.{int_eq};
+    ghost use Rattle.std.specs.Cmp.{partial_equiv_from_equiv};
+    ghost use Rattle.std.proofs.lemmas.Cmp.{int_eq_equiv};
+
+    ghost eq = { pointwise int_eq };
+
+    ghost laws = { lists_per (partial_equiv_from_equiv int_eq_equiv) };
+
+    fn eq(&self, other: &EpsPoly) -> bool {
+        self.entries == other.entries
+    }
+}
+
+impl Eq for EpsPoly {
+    ghost use Rattle.std.specs.Cmp.Lexicographic.{lists_equiv};
+    ghost use Rattle.std.proofs.lemmas.Cmp.{int_eq_equiv};
+
+    ghost laws = { lists_equiv int_eq_equiv };
 }
 
 impl EpsPoly {
@@ -45,6 +74,7 @@ impl EpsPoly {
         ensures { result ≡ zero_polynomial }
     {
         EpsPoly {
+            used: 0,
             entries: [0; COUNT],
         }
     }
@@ -84,7 +114,52 @@ impl EpsPoly {
         requires { power ≤ 32 }
         ensures { self.new ≡ slice_set self.old power c }
     {
+        let used = self.used_with(power, c);
         self.entries[power] = c.value();
+        self.used = used;
+    }
+
+    /// One coefficient of this polynomial where that of `power` is `c`.
+    fn whole_with(&self, power: usize, c: Whole, at: usize) -> Whole
+        requires power { power ≤ 32 }
+        requires at { at ≤ 32 }
+        ensures { result ≡ coefficient (slice_set self.now power c) at }
+    {
+        // a look at the field tells that it is a polynomial
+        let _ = &self.entries;
+        if at == power { c } else { self.whole(at) }
+    }
+
+    /// How many coefficients there are up to the last that isn't 0, where that of `power` is `c`.
+    fn used_with(&self, power: usize, c: Whole) -> usize
+        requires { power ≤ 32 }
+        ensures { result ≡ count_to_last (slice_set self.now power c) }
+    {
+        for at in (0..self.used().max(power + 1)).rev() {
+            if !is_zero(self.whole_with(power, c, at)) {
+                return at + 1;
+            }
+        }
+        0
+    }
+
+    /// How many coefficients there are up to the last that isn't 0.
+    fn used(&self) -> usize
+        ensures value { result ≡ count_to_last self.now }
+        ensures within { result ≤ 33 }
+        ensures polynomial { IsPolynomial self.now }
+    {
+        self.used
+    }
+
+    /// Becomes the polynomial 0.
+    pub fn clear(&mut self)
+        ensures { self.new ≡ zero_polynomial }
+    {
+        let end = self.used();
+        for power in 0..end {
+            self.put(power, Whole::new(0));
+        }
     }
 
     /// One coefficient; `power` is at most 32.
@@ -109,14 +184,7 @@ impl EpsPoly {
         ensures within { result ≤ 32 }
         ensures polynomial { IsPolynomial self.now }
     {
-        // a look at the field tells that it is a polynomial
-        let _ = &self.entries;
-        for power in (0..COUNT).rev() {
-            if !is_zero(self.whole(power)) {
-                return power;
-            }
-        }
-        0
+        self.used().saturating_sub(1)
     }
 
     /// How many coefficients of 0 come first: the least power with a coefficient that isn't 0, or 33.
@@ -125,9 +193,8 @@ impl EpsPoly {
         ensures within { result ≤ 33 }
         ensures polynomial { IsPolynomial self.now }
     {
-        // a look at the field tells that it is a polynomial
-        let _ = &self.entries;
-        for power in 0..COUNT {
+        let end = self.used();
+        for power in 0..end {
             if !is_zero(self.whole(power)) {
                 return power;
             }
@@ -233,6 +300,33 @@ impl EpsPoly {
         lowered
     }
 
+    /// Keeps the coefficients from a power on, each divided by a number above 0, without remainders; `power` is at most 32.
+    pub fn lower(&mut self, power: usize, by: Whole)
+        requires power { power ≤ 32 }
+        requires by { pos 0 <ℤ by }
+        ensures { self.new ≡ lowered power by self.old }
+    {
+        if power > 0 {
+            *self = self.lowered(power, by);
+        } else {
+            self.divide(by);
+        }
+    }
+
+    /// Divides each coefficient by a number above 0, without remainders.
+    fn divide(&mut self, by: Whole)
+        requires { pos 0 <ℤ by }
+        ensures { self.new ≡ lowered 0 by self.old }
+    {
+        let end = self.used();
+        if by.value() == 1 {
+            return;
+        }
+        for power in 0..end {
+            self.put(power, self.whole(power).over(by));
+        }
+    }
+
     /// The opposite.
     pub fn negate(&self) -> EpsPoly
         ensures { result ≡ poly_negate self.now }
@@ -274,12 +368,10 @@ impl EpsPoly {
         ensures written { result ≡ sized_sum self.now other.now }
         ensures exact { IfSome result (λ r. Same r (poly_add self.now other.now)) }
     {
-        let mut sum = EpsPoly::zero();
-        for power in 0..self.degree().max(other.degree()) + 1 {
-            let left = self.whole(power);
-            let right = other.whole(power);
-            sum.put(power, left.checked_add(right)?);
-        }
+        // the numbers of their coefficients tell that they are polynomials
+        let _ = (self.used(), other.used());
+        let mut sum = *self;
+        sum.write_sum(other)?;
         Some(sum)
     }
 
@@ -288,17 +380,57 @@ impl EpsPoly {
         ensures written { result ≡ sized_product self.now other.now }
         ensures exact { IfSome result (λ r. Same r (poly_multiply self.now other.now)) }
     {
-        let above = self.degree();
-        let below = other.degree();
+        let mut product = EpsPoly::zero();
+        product.write_product(self, other)?;
+        Some(product)
+    }
+
+    /// Adds another polynomial to this one, or is `TooWide` exactly where the written sum has a part past its size; then what
+    /// was written before stays.
+    pub fn add_assign(&mut self, other: &EpsPoly) -> Result<(), TooWide>
+        ensures { ok_map (λ _. self.new) result ≡ or_wide Add (sized_sum self.old other.now) }
+    {
+        self.write_sum(other).ok_or(TooWide { op: Op::Add })
+    }
+
+    /// Becomes the product of two polynomials, or is `TooWide` exactly where the written product has a part past its size or a
+    /// degree above 32; then what was written before stays.
+    pub fn put_product(&mut self, left: &EpsPoly, right: &EpsPoly) -> Result<(), TooWide>
+        ensures { ok_map (λ _. self.new) result ≡ or_wide Mul (sized_product left.now right.now) }
+    {
+        self.write_product(left, right)
+            .ok_or(TooWide { op: Op::Mul })
+    }
+
+    /// Writes the sum with another polynomial.
+    fn write_sum(&mut self, other: &EpsPoly) -> Option<()>
+        ensures { option_map (λ _. self.new) result ≡ sized_sum self.old other.now }
+    {
+        // the number of its coefficients tells that it is a polynomial
+        let _ = self.used();
+        for power in 0..other.used() {
+            let left = self.whole(power);
+            let right = other.whole(power);
+            self.put(power, left.checked_add(right)?);
+        }
+        Some(())
+    }
+
+    /// Writes the product of two polynomials.
+    fn write_product(&mut self, left: &EpsPoly, right: &EpsPoly) -> Option<()>
+        ensures { option_map (λ _. self.new) result ≡ sized_product left.now right.now }
+    {
+        let above = left.degree();
+        let below = right.degree();
         if above + below >= COUNT {
             return None;
         }
-        let mut product = EpsPoly::zero();
-        for power in 0..above + below + 1 {
+        let end = self.used();
+        for power in 0..end.max(above + below + 1) {
             let count = power.min(above) + 1;
-            product.put(power, part_of_product(self, other, power, count)?);
+            self.put(power, part_of_product(left, right, power, count)?);
         }
-        Some(product)
+        Some(())
     }
 
     /// The polynomial `q` whose written product with `by` is this polynomial, or `None` exactly where there is none.

@@ -150,6 +150,34 @@ fn polynomials_have_factors(rt: HostRuntime) -> Result<(), Fail> {
 }
 
 #[test]
+fn polynomials_change_in_place(rt: HostRuntime) -> Result<(), Fail> {
+    let mut p = EpsPoly::zero().with(7, 5)?;
+    p.put_product(&poly(&[1, 2])?, &poly(&[3, -1])?)?;
+    assert!(rt; has(&p, &[3, 5, -2]));
+    assert_eq!(rt; p.degree(), 2);
+    p.add_assign(&poly(&[-3, 1, 2])?)?;
+    assert!(rt; has(&p, &[0, 6]));
+    assert_eq!(rt; p.degree(), 1);
+    p.lower(1, Whole::new(2));
+    assert!(rt; has(&p, &[3]));
+    p.lower(0, Whole::new(3));
+    assert!(rt; has(&p, &[1]));
+    p.put(0, Whole::new(0));
+    assert!(rt; p.is_zero());
+    assert_eq!(rt; p.order(), 33);
+    p.add_assign(&poly(&[0, 0, MOST])?)?;
+    assert!(rt; has(&p, &[0, 0, MOST]));
+    let sum = p.add_assign(&poly(&[0, 0, 1])?);
+    assert_eq!(rt; sum, Err(TooWide { op: Op::Add }));
+    let power = EpsPoly::monomial(Whole::new(1), 17);
+    let product = p.put_product(&power, &power);
+    assert_eq!(rt; product, Err(TooWide { op: Op::Mul }));
+    p.clear();
+    assert_eq!(rt; p, EpsPoly::zero());
+    Ok(())
+}
+
+#[test]
 fn polynomials_are_compared(rt: HostRuntime) -> Result<(), Fail> {
     let p = poly(&[0, -6, 9])?;
     assert_eq!(rt; p, poly(&[0, -6, 9])?);

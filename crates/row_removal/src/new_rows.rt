@@ -9,22 +9,24 @@ ghost use Rattle.row_removal.specs.RowRemoval.{difference_of_products, new_denom
 use crate::graph::RowGraph;
 use crate::row::Row;
 use eps_poly::EpsPoly;
-use field_core::{Place, Wide, try_fill};
+use field_core::{Place, Wide};
 
-/// `x e + y z`, at one place.
+/// Writes `x e + y z`, at one place. `spare` is room for a product.
 #[tactic(auto, unfolding(crate::specs::RowRemoval::sum_of_products))]
-fn sum_of_products(
+fn write_sum_of_products(
     place: Place,
     x: &EpsPoly,
     e: &EpsPoly,
     y: &EpsPoly,
     z: &EpsPoly,
-) -> Result<EpsPoly, Wide>
-    ensures { result ≡ sum_of_products place x.now e.now y.now z.now }
+    next: &mut EpsPoly,
+    spare: &mut EpsPoly,
+) -> Result<(), Wide>
+    ensures { ok_map (λ _. next.new) result ≡ sum_of_products place x.now e.now y.now z.now }
 {
-    let left = x.mul(e).map_err(|wide| wide.at(place))?;
-    let right = y.mul(z).map_err(|wide| wide.at(place))?;
-    left.add(&right).map_err(|wide| wide.at(place))
+    next.put_product(x, e).map_err(|wide| wide.at(place))?;
+    spare.put_product(y, z).map_err(|wide| wide.at(place))?;
+    next.add_assign(spare).map_err(|wide| wide.at(place))
 }
 
 /// `x e - y z`, at one place.
@@ -43,23 +45,32 @@ fn difference_of_products(
     left.sub(&right).map_err(|wide| wide.at(place))
 }
 
-/// The numerator of the weight of `l` after the removal of `j`.
+/// Writes the numerator of the weight of `l` after the removal of `j`. `spare` is room for a product.
 #[tactic(auto, unfolding(crate::specs::RowRemoval::new_weight))]
-fn new_weight(graph: &RowGraph, j: usize, l: usize) -> Result<EpsPoly, Wide>
+fn write_weight(
+    graph: &RowGraph,
+    j: usize,
+    l: usize,
+    next: &mut EpsPoly,
+    spare: &mut EpsPoly,
+) -> Result<(), Wide>
     requires proper { AreProperRows graph.now }
     requires j { j < rows_size graph.now }
     requires l { l < rows_size graph.now }
-    ensures { result ≡ new_weight graph.now j l }
+    ensures { ok_map (λ _. next.new) result ≡ new_weight graph.now j l }
 {
     if graph.is_gone(j, l) {
-        return Ok(EpsPoly::zero());
+        next.clear();
+        return Ok(());
     }
-    sum_of_products(
+    write_sum_of_products(
         Place::Weight(l),
         graph.weight_numerator(l),
         graph.denominator(j),
         graph.weight_numerator(j),
         graph.numerator(j, l),
+        next,
+        spare,
     )
 }
 
@@ -92,49 +103,78 @@ fn new_denominator(graph: &RowGraph, j: usize, l: usize) -> Result<EpsPoly, Wide
     )
 }
 
-/// The numerator of the edge from `l` to `k` after the removal of `j`.
+/// Writes the numerator of the edge from `l` to `k` after the removal of `j`. `spare` is room for a product.
 #[tactic(auto, unfolding(crate::specs::RowRemoval::new_numerator))]
-fn new_numerator(graph: &RowGraph, j: usize, l: usize, k: usize) -> Result<EpsPoly, Wide>
+fn write_numerator(
+    graph: &RowGraph,
+    j: usize,
+    l: usize,
+    k: usize,
+    next: &mut EpsPoly,
+    spare: &mut EpsPoly,
+) -> Result<(), Wide>
     requires proper { AreProperRows graph.now }
     requires j { j < rows_size graph.now }
     requires l { l < rows_size graph.now }
     requires k { k < rows_size graph.now }
-    ensures { result ≡ new_numerator graph.now j l k }
+    ensures { ok_map (λ _. next.new) result ≡ new_numerator graph.now j l k }
 {
     if graph.is_gone(j, k) || k == l {
-        return Ok(EpsPoly::zero());
+        next.clear();
+        return Ok(());
     }
-    sum_of_products(
+    write_sum_of_products(
         Place::Edge(l, k),
         graph.numerator(l, k),
         graph.denominator(j),
         graph.numerator(l, j),
         graph.numerator(j, k),
+        next,
+        spare,
     )
 }
 
-/// Writes the numerators of the weights after the removal of `j`.
-fn write_weight_numerators(graph: &RowGraph, j: usize, next: &mut [EpsPoly]) -> Result<(), Wide>
+/// Writes the numerators of the weights after the removal of `j`. `spare` is room for a product.
+#[tactic(auto, using(field_core::proofs::Fills::filled_to))]
+fn write_weight_numerators(
+    graph: &RowGraph,
+    j: usize,
+    next: &mut [EpsPoly],
+    spare: &mut EpsPoly,
+) -> Result<(), Wide>
     requires proper { AreProperRows graph.now }
     requires j { j < rows_size graph.now }
     requires room { length next.old ≡ rows_size graph.now }
     ensures { ok_map (λ _. next.new) result ≡ each_below (rows_size graph.now) (new_weight graph.now j) }
 {
-    try_fill(next, |l| new_weight(graph, j, l))
+    for l in 0..graph.size() {
+        write_weight(graph, j, l, &mut next[l], spare)?;
+    }
+    Ok(())
 }
 
-/// Writes the numerators of the edges from `l` after the removal of `j`.
-fn write_numerators(graph: &RowGraph, j: usize, l: usize, next: &mut [EpsPoly]) -> Result<(), Wide>
+/// Writes the numerators of the edges from `l` after the removal of `j`. `spare` is room for a product.
+#[tactic(auto, using(field_core::proofs::Fills::filled_to))]
+fn write_numerators(
+    graph: &RowGraph,
+    j: usize,
+    l: usize,
+    next: &mut [EpsPoly],
+    spare: &mut EpsPoly,
+) -> Result<(), Wide>
     requires proper { AreProperRows graph.now }
     requires j { j < rows_size graph.now }
     requires l { l < rows_size graph.now }
     requires room { length next.old ≡ rows_size graph.now }
     ensures { ok_map (λ _. next.new) result ≡ each_below (rows_size graph.now) (new_numerator graph.now j l) }
 {
-    try_fill(next, |k| new_numerator(graph, j, l, k))
+    for k in 0..graph.size() {
+        write_numerator(graph, j, l, k, &mut next[k], spare)?;
+    }
+    Ok(())
 }
 
-/// Writes the row of weights after the removal of `j`. `spare` is room for quotients.
+/// Writes the row of weights after the removal of `j`. `spare` is room for products and quotients.
 #[tactic(auto, unfolding(crate::specs::RowRemoval::new_weights))]
 pub fn write_weights(
     graph: &RowGraph,
@@ -150,13 +190,13 @@ pub fn write_weights(
     ensures room { length next.new.numerators ≡ rows_size graph.now }
     ensures spare { length spare.new.numerators ≡ rows_size graph.now }
 {
-    write_weight_numerators(graph, j, &mut next.numerators)?;
+    write_weight_numerators(graph, j, &mut next.numerators, &mut spare.denominator)?;
     next.denominator = new_scale(graph, j)?;
     next.clear(graph.last(), spare);
     Ok(())
 }
 
-/// Writes the row of edges from `l` after the removal of `j`. `spare` is room for quotients.
+/// Writes the row of edges from `l` after the removal of `j`. `spare` is room for products and quotients.
 #[tactic(auto, unfolding(crate::specs::RowRemoval::new_row, crate::specs::RowRemoval::row_over))]
 fn write_row(
     graph: &RowGraph,
@@ -183,13 +223,13 @@ fn write_row(
         next.put_zeros();
         return Ok(());
     }
-    write_numerators(graph, j, l, &mut next.numerators)?;
+    write_numerators(graph, j, l, &mut next.numerators, &mut spare.denominator)?;
     next.denominator = denominator;
     next.clear(graph.last(), spare);
     Ok(())
 }
 
-/// Writes all rows of edges after the removal of `j`. `spare` is room for quotients.
+/// Writes all rows of edges after the removal of `j`. `spare` is room for products and quotients.
 #[tactic(auto, using(field_core::proofs::Fills::filled_to))]
 pub fn write_rows(graph: &RowGraph, j: usize, next: &mut [Row], spare: &mut Row) -> Result<(), Wide>
     requires proper { AreProperRows graph.now }

@@ -1,9 +1,9 @@
 //! Numerators over one denominator.
-ghost use Rattle.std.specs.Prelude.{◌≡◌, ◌<◌, ◌≤◌, ◌^◌, ◌<ℤ◌, IfOk, Some, None, if◌then◌else◌, length, map, pos};
+ghost use Rattle.std.specs.Prelude.{◌≡◌, ◌<◌, ◌≤◌, ◌^◌, ◌<ℤ◌, IfOk, Some, None, if◌then◌else◌, length, map, pos, replicate};
 ghost use Rattle.std.specs.Option.{ok_or};
 ghost use Rattle.field_core.specs.Polynomial.{IsNonZero};
 ghost use Rattle.eps_poly.specs.ExactQuotients.{exact_quotient};
-ghost use Rattle.eps_poly.specs.Polynomials.{IsPolynomial};
+ghost use Rattle.eps_poly.specs.Polynomials.{IsPolynomial, zero_polynomial};
 ghost use Rattle.row_removal.specs.StoredRow.{IsProperRow, numerator_at, zero_row};
 ghost use Rattle.eps_poly.specs.Factors.{lowered};
 ghost use Rattle.row_removal.specs.Clearing.{cleared, divided_row, lowered_row, map_all, row_content, row_order};
@@ -20,7 +20,16 @@ fn lower_all(power: usize, by: Whole, numerators: &mut [EpsPoly])
     ensures { numerators.new ≡ map (lowered power by) numerators.old }
 {
     for k in 0..numerators.len() {
-        numerators[k] = numerators[k].lowered(power, by);
+        numerators[k].lower(power, by);
+    }
+}
+
+/// Makes each 0.
+fn clear_all(numerators: &mut [EpsPoly])
+    ensures { numerators.new ≡ replicate (length numerators.old) zero_polynomial }
+{
+    for k in 0..numerators.len() {
+        numerators[k].clear();
     }
 }
 
@@ -65,7 +74,7 @@ impl Row {
         ensures zeros { self.new ≡ zero_row (length self.old.numerators) }
         ensures room { length self.new.numerators ≡ length self.old.numerators }
     {
-        self.numerators.fill(EpsPoly::zero());
+        clear_all(&mut self.numerators);
         self.denominator = EpsPoly::monomial(Whole::new(1), 0);
     }
 }
@@ -160,7 +169,7 @@ impl Row {
         let power = self.order();
         let content = Whole::new(self.content() as i128);
         lower_all(power, content, &mut self.numerators);
-        self.denominator = self.denominator.lowered(power, content);
+        self.denominator.lower(power, content);
     }
 
     /// Clears the row: if each polynomial has an exact quotient by the core of `last`, it becomes that, and then all are divided

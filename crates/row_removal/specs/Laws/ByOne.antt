@@ -13,7 +13,7 @@ use Rattle.eps_poly.proofs.Coefficients.{coefficient-past}
 use Rattle.eps_poly.proofs.DegreeLaws.{degree_at_most}
 use Rattle.eps_poly.proofs.ExactLaws.{quotient_only}
 use Rattle.eps_poly.proofs.ProductLaws.{coefficient_next, coefficient_none, coefficient_zero, product_from_list}
-use Rattle.eps_poly.proofs.SizedLists.{list_from_filled}
+use Rattle.eps_poly.proofs.SizedLists.{list_from_all}
 use Rattle.eps_quotient.specs.Lowering.{one_polynomial}
 use Rattle.eps_quotient.specs.Laws.LowerLaws.{one_some}
 use Rattle.eps_quotient.specs.Laws.Multiples.{monomial-at, monomial-other}
@@ -59,11 +59,7 @@ low p P =
 by_one : (p : List ℤ) → IsPolynomial p → sized_product p one_polynomial ≡ Some p
 by_one p P =
     product_from_list p one_polynomial (low p P)
-    ∙ list_from_filled (λ k. written_coefficient p one_polynomial k (k + 1)) p 33 (omega arith) (record {
-      count = P.count;
-      front = λ k h. at_power p k P;
-      rest = λ k h. coefficient-past p k (omega (arith, P.count));
-    })
+    ∙ list_from_all (λ k. written_coefficient p one_polynomial k (k + 1)) p P.count (λ k. at_power p k P)
 
 -- the exact quotient by 1
 quotient_by_one : (p : List ℤ) → IsPolynomial p → exact_quotient p one_polynomial ≡ Some p

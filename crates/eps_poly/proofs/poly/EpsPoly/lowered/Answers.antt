@@ -14,7 +14,7 @@ pub returns-then-value-eq1 : goal.returns-then-value-eq1
 returns-then-value-eq1 c =
     let fits : FitsSigned w128 c.value.result = search rules in
     let one : c.args.by ≡ pos 1 = sym c.value.ensures.value ∙ sym (to_z-of_z w128 c.value.result fits) ∙ ap (to_z w128) c.if-value-eq1.true in
-    rw (c.if-power-eq0.true, one) (c.self.view_is ∙ sym (lowered_same c.args.self.now (subst IsPolynomial c.self.view_is c.self.invariant)))
+    rw (c.if-power-eq0.true, one) (c.self.view_is ∙ sym (lowered_same c.args.self.now (subst IsPolynomial c.self.view_is c.self.invariant.0)))
 
 pub loop-from-init : goal.loop-from-init
 loop-from-init c = let none : c.args.power - c.args.power ≡ 0 = omega arith in rw none (filled_none _ _ c.zero-lowered.ensures)

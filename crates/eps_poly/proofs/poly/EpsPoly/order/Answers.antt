@@ -1,8 +1,8 @@
-use Rattle.std.proofs.Common.{◌≡◌, ◌∙◌, sym, subst, pos, arith, inl, inr}
-use Rattle.std.proofs.lemmas.Bool.{cases_eq}
+use Rattle.std.proofs.Common.{◌≡◌, ◌∙◌, ℕ, sym, pos, arith, inl, inr}
+use Rattle.std.proofs.lemmas.Bool.{cases_eq, cases_lt}
 use Rattle.field_core.specs.Polynomial.{coefficient}
-use Rattle.eps_poly.specs.Polynomials.{IsPolynomial}
 use Rattle.eps_poly.proofs.Coefficients.{is_zero_true, is_zero_false}
+use Rattle.eps_poly.proofs.DegreeLaws.{coefficient-above}
 use Rattle.eps_poly.proofs.OrderLaws.{order_is, order_none}
 use Rattle.eps_poly.proofs.poly.EpsPoly.order.Goals as goal
 
@@ -25,6 +25,12 @@ returns-then-not-is_zero-clause-value c =
 pub returns-clause-value : goal.returns-clause-value
 returns-clause-value c =
     let done = c.loop-power-test.false in
-    let held = subst IsPolynomial c.self.view_is c.self.invariant in
-    let long = held.count in
-    sym (order_none c.args.self.now (λ k h. c.loop-power.invariant k (omega arith)) ∙ long)
+    let long = c.used-end.ensures.polynomial.count in
+    let same = c.used-end.ensures.value in
+    sym (order_none c.args.self.now (λ k h. all k) ∙ long)
+  where
+    all : (k : ℕ) → coefficient c.args.self.now k ≡ pos 0
+    all k = elim (cases_lt k c.loop-power.power) [
+      | inl l ↦ c.loop-power.invariant k l
+      | inr l ↦ let done = c.loop-power-test.false in let same = c.used-end.ensures.value in coefficient-above c.args.self.now k (omega arith)
+    ]

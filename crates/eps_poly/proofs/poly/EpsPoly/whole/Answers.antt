@@ -12,12 +12,12 @@ entry_small p k valid h = let count = valid.count in rw (← coefficient-index p
 
 pub new-requires : goal.new-requires
 new-requires c =
-    let small = entry_small c.self.inside.entries c.args.power c.self.invariant c.requires in
+    let small = entry_small c.self.inside.entries c.args.power c.self.invariant.0 c.requires in
     rw (to_z-of_z w128 (get_or c.self.inside.entries c.args.power (pos 0)) (fits_from_small _ small)) small
 
 pub returns : goal.returns
 returns c =
-    let small = entry_small c.self.inside.entries c.args.power c.self.invariant c.requires in
+    let small = entry_small c.self.inside.entries c.args.power c.self.invariant.0 c.requires in
     c.new.ensures ∙ to_z-of_z w128 (get_or c.self.inside.entries c.args.power (pos 0)) (fits_from_small _ small)
-    ∙ sym (coefficient-index c.self.inside.entries c.args.power (pos 0) (omega (arith, c.requires, c.self.invariant.count)))
+    ∙ sym (coefficient-index c.self.inside.entries c.args.power (pos 0) (omega (arith, c.requires, c.self.invariant.0.count)))
     ∙ ap (λ p. coefficient p c.args.power) c.self.view_is
