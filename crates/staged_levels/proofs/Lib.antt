@@ -1,0 +1,4 @@
+pub mod Arrivals
+pub mod Calls
+pub mod Settlings
+pub mod StudyFacts

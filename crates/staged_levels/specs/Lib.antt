@@ -1,0 +1,3 @@
+pub mod Studies
+pub mod StudyCalls
+pub mod StudyStatements

@@ -1,0 +1,55 @@
+-- The laws of studies, over every list of calls, as contracts name them.
+use Rattle.std.specs.Prelude.{◌≡◌, ◌++◌, ◌↔◌, ℕ, List}
+use Rattle.std.specs.List.{Contains}
+use Rattle.field_core.specs.Sets.{whole}
+use Rattle.case_model.specs.declared.draft_stages.Arrival.{Arrival}
+use Rattle.case_model.specs.Content.{Content}
+use Rattle.case_model.specs.LegalOrder.{IsListed, IsOrderBy}
+use Rattle.case_model.specs.StagedCase.{IsStagedLegalIn, IsStagedRejectedIn}
+use Rattle.staged_levels.specs.declared.event.Settled.{Settled}
+use Rattle.staged_levels.specs.Studies.{StudyState, positions_of, IsStudyOf, IsSettled}
+use Rattle.staged_levels.specs.StudyCalls.{Answered, Settles, AreCalls, AreCallsFromOpening, arrivals_in}
+
+-- Calls on a study of a case leave a study of it, whatever they ask for and whatever they answer.
+abbrev pub CallsLeaveStudies : Type 0
+CallsLeaveStudies = (c : Content) (old new : StudyState) (es : List Answered) → IsStudyOf c old → AreCalls c old es new → IsStudyOf c new
+
+-- The values are those of the accepted arrivals.
+abbrev pub ValuesAreAccepted : Type 0
+ValuesAreAccepted = (c : Content) (es : List Answered) (s : StudyState) → AreCallsFromOpening c es s → s.values ≡ arrivals_in es
+
+-- Calls only append to the rejections: nothing is taken back.
+abbrev pub RejectionsStay : Type 0
+RejectionsStay = (c : Content) (old new : StudyState) (es : List Answered) → AreCalls c old es new → (more : List Settled) × (new.rejected ≡ old.rejected ++ more)
+
+-- The rejections are a legal order on the values that have arrived.
+abbrev pub StudiesHaveLegalOrders : Type 0
+StudiesHaveLegalOrders = (c : Content) (s : StudyState) → IsStudyOf c s → IsOrderBy (IsStagedLegalIn c s.values) whole (positions_of s.rejected)
+
+-- The staged closed test on these values rejects each of them.
+abbrev pub StudiesRejectByTheStagedTest : Type 0
+StudiesRejectByTheStagedTest = (c : Content) (s : StudyState) (j : ℕ) → IsStudyOf c s → IsListed (positions_of s.rejected) j → IsStagedRejectedIn c s.values j
+
+-- Once a study is settled, they are exactly those that it rejects.
+abbrev pub SettledStudiesDecide : Type 0
+SettledStudiesDecide = (c : Content) (s : StudyState) (j : ℕ) → IsStudyOf c s → IsSettled c s → IsListed (positions_of s.rejected) j ↔ IsStagedRejectedIn c s.values j
+
+-- the same values have arrived, in whatever order
+abbrev pub HaveSameValues : StudyState → StudyState → Type 0
+HaveSameValues s t = (a : Arrival) → Contains s.values a ↔ Contains t.values a
+
+-- Two settled studies of one case with the same values have rejected the same hypotheses.
+abbrev pub SettledStudiesAgree : Type 0
+SettledStudiesAgree =
+    (c : Content) (s t : StudyState) (j : ℕ) → IsStudyOf c s → IsStudyOf c t → IsSettled c s → IsSettled c t → HaveSameValues s t
+    → IsListed (positions_of s.rejected) j ↔ IsListed (positions_of t.rejected) j
+
+-- So, whatever calls were made since the opening: once a study is settled, the rejections are those of the staged closed test on the accepted arrivals.
+abbrev pub SettlingDecides : Type 0
+SettlingDecides =
+    (c : Content) (es : List Answered) (s : StudyState) (j : ℕ) → AreCallsFromOpening c es s → IsSettled c s
+    → IsListed (positions_of s.rejected) j ↔ IsStagedRejectedIn c (arrivals_in es) j
+
+-- A study has one settling at most: the same rejections in the same order, with the same stages and weights.
+abbrev pub SettlingsOfStudiesAreUnique : Type 0
+SettlingsOfStudiesAreUnique = (c : Content) (old s t : StudyState) → Settles c old s → Settles c old t → s ≡ t
