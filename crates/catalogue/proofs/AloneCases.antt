@@ -1,5 +1,5 @@
 -- The case of a named graph has just this graph, and these p-values.
-use Rattle.std.proofs.Common.{◌≡◌, refl, ap, ◌∙◌, sym, subst, ℕ, ◌+◌, ◌<◌, List, [], ◌∷◌, length, map, Option, Some, None, Ok, Err, Result, true, pos, arith}
+use Rattle.std.proofs.Common.{◌≡◌, refl, ap, ◌∙◌, subst, ℕ, ◌<◌, List, [], ◌∷◌, length, map, Option, Some, None, Ok, true, arith}
 use Rattle.std.proofs.lemmas.List.FromFn.{length-map-range_with_len, get_or-map-range_with_len}
 use Rattle.std.specs.List.{range_with_len}
 use Rattle.field_core.specs.Number.{Number}
@@ -12,15 +12,13 @@ use Rattle.fraction.specs.Laws.PlainLaws.{plain_is_exact}
 use Rattle.case_model.specs.declared.draft.Draft.{Draft}
 use Rattle.case_model.specs.declared.fault.CaseFault.{CaseFault}
 use Rattle.case_model.specs.declared.inputs.Inputs.TheVariants.{Single}
-use Rattle.case_model.specs.Sums.{ratio_at, zero_ratio, number_at}
+use Rattle.case_model.specs.Sums.{ratio_at, zero_ratio}
 use Rattle.case_model.specs.Entries.{entry_value, is_plain_entry, no_edge}
 use Rattle.case_model.specs.CaseFaults.{case_fault}
 use Rattle.case_model.specs.Content.{Content, content_of, entangled, given}
-use Rattle.case_model.specs.EntangledGraph.{EntangledGraph}
 use Rattle.case_model.specs.TextbookGraphs.{IsAlone}
 use Rattle.case_model.proofs.PlainEntries.{plain_entry_value}
 use Rattle.case_model.proofs.ValidGraphs.{entry_at-table_of, number-zero}
-use Rattle.catalogue.specs.declared.fault.CatalogueFault.{CatalogueFault}
 use Rattle.catalogue.specs.Quotients.{one_ratio}
 use Rattle.catalogue.specs.NamedGraphs.{constant}
 use Rattle.catalogue.specs.WeightedGraphs.{WeightedGraph, name_of, edges_of, draft_of}

@@ -1,5 +1,5 @@
 -- Draws, one after the other.
-use Rattle.std.proofs.Common.{◌≡◌, refl, sym, ap, ◌∙◌, ℕ, suc, ◌+◌, ◌*◌, ◌^◌, ◌%◌, pos, arith}
+use Rattle.std.proofs.Common.{◌≡◌, refl, ap, ◌∙◌, ℕ, suc, ◌+◌, ◌%◌, pos, arith}
 use Rattle.catalogue.specs.Quotients.{quotient}
 use Rattle.catalogue.specs.Samples.{next_number, drawn_from, number_after, draw, p_value_of, named_by}
 

@@ -1,5 +1,5 @@
 -- The edge of a draft between two hypotheses is that of the graph.
-use Rattle.std.proofs.Common.{◌≡◌, ◌≢◌, refl, ap, ap₂, ◌∙◌, sym, inl, inr, ℕ, zero, suc, ◌+◌, ◌==◌, ◌<◌, ◌≤◌, cond, List, [], ◌∷◌, ◌++◌, Bool, true, false, ◌&&◌, Option, Some, None, arith}
+use Rattle.std.proofs.Common.{◌≡◌, ◌≢◌, refl, ap, ap₂, ◌∙◌, inl, inr, ℕ, zero, suc, ◌+◌, ◌==◌, ◌<◌, ◌≤◌, cond, List, Bool, true, false, ◌&&◌, Option, Some, None, arith}
 use Rattle.std.proofs.lemmas.Bool.Decides.{nat_tests}
 use Rattle.std.proofs.lemmas.List.Folds.{find-append}
 use Rattle.std.specs.List.{find, flat_map, range_with_len}
@@ -29,11 +29,11 @@ find_block test f a zero k h g others = absurd (omega arith)
 find_block test f a (suc n) k h g others =
     find-append test (f a) (flat_map f (range_with_len (a + 1) n)) ∙ elim (true_or_false (a == k)) [
       | inl t ↦ (
-        let e : a ≡ k = grind (arith, nat_tests) in
-        ap (option_or (find test (f a))) (find_none test f (a + 1) n (λ i b. others i (omega arith))) ∙ or_none (find test (f a)) ∙ ap (λ i. find test (f i)) e)
+          let e : a ≡ k = grind (arith, nat_tests) in
+          ap (option_or (find test (f a))) (find_none test f (a + 1) n (λ i b. others i (omega arith))) ∙ or_none (find test (f a)) ∙ ap (λ i. find test (f i)) e)
       | inr t ↦ (
-        let e : a ≢ k = grind (arith, nat_tests) in
-        ap (λ r. option_or r (find test (flat_map f (range_with_len (a + 1) n)))) (others a e) ∙ find_block test f (a + 1) n k (omega arith) (omega arith) others)
+          let e : a ≢ k = grind (arith, nat_tests) in
+          ap (λ r. option_or r (find test (flat_map f (range_with_len (a + 1) n)))) (others a e) ∙ find_block test f (a + 1) n k (omega arith) (omega arith) others)
     ]
 
 -- ---- edges
@@ -79,5 +79,5 @@ unfolding edge_between edges_of edges_from
 graph_edge G i k h g =
     ap (λ r. option_map_or (λ (e : DraftEdge). e.entry) r no_edge)
     (find_block (has_ends i k) (edges_from G) 0 G.size i (omega arith) (omega arith) (λ a d. find_none (has_ends i k) (edge_in G a) 0 G.size (λ j b. other_from i k a j (G.edge a j) d))
-     ∙ find_block (has_ends i k) (edge_in G i) 0 G.size k (omega arith) (omega arith) (λ j d. other_to i k j (G.edge i j) d))
+    ∙ find_block (has_ends i k) (edge_in G i) 0 G.size k (omega arith) (omega arith) (λ j d. other_to i k j (G.edge i j) d))
     ∙ the_edge i k (G.edge i k)

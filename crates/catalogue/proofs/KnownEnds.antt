@@ -1,10 +1,8 @@
 -- The edges of named graphs go between their hypotheses.
-use Rattle.std.proofs.Common.{◌≡◌, refl, ap, ap₂, ◌∙◌, subst, sym, ℕ, zero, suc, ◌+◌, ◌<◌, List, [], ◌∷◌, ◌++◌, length, map, Bool, true, false, ◌&&◌, nat_lt, Option, Some, None, arith}
+use Rattle.std.proofs.Common.{◌≡◌, refl, ap, ap₂, ◌∙◌, ℕ, zero, suc, ◌+◌, ◌<◌, List, [], ◌∷◌, ◌++◌, length, Bool, true, ◌&&◌, Option, Some, None, arith}
 use Rattle.std.proofs.lemmas.Bool.Decides.{nat_tests}
-use Rattle.std.proofs.lemmas.List.{length-map}
 use Rattle.std.proofs.lemmas.List.FromFn.{length-map-range_with_len}
 use Rattle.std.specs.List.{list_all, flat_map, range_with_len}
-use Rattle.case_model.specs.declared.draft_edge.DraftEdge.{DraftEdge}
 use Rattle.case_model.proofs.Holding.{both}
 use Rattle.case_model.specs.Draft.{goes_between, have_known_ends, have_known_arrivals}
 use Rattle.field_core.specs.declared.ratio.Ratio.{Ratio}

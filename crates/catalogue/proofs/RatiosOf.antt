@@ -1,5 +1,5 @@
 -- Quotients in lowest terms.
-use Rattle.std.proofs.Common.{◌≡◌, ◌≢◌, refl, sym, ap, ◌∙◌, inl, inr, ◌⊎◌, ℕ, ◌^◌, ◌<◌, ◌≤◌, ◌/◌, Bool, true, false, ℤ, pos, ◌<ℤ◌, unsigned_abs, Result, Err, ◌↔◌, arith, lit<}
+use Rattle.std.proofs.Common.{◌≡◌, ◌≢◌, refl, sym, ap, ◌∙◌, inl, inr, ℕ, ◌^◌, ◌<◌, ◌/◌, Bool, true, false, ℤ, pos, unsigned_abs, Result, Err, ◌↔◌, arith, lit<}
 use Rattle.std.proofs.lemmas.Int.{ints}
 use Rattle.std.proofs.lemmas.Bool.Decides.{nat_tests}
 use Rattle.std.specs.Int.{is_negative}
@@ -9,7 +9,6 @@ use Rattle.field_core.specs.View.{terms}
 use Rattle.field_core.specs.declared.ratio.Ratio.{Ratio}
 use Rattle.fraction.specs.declared.fault.FractionFault.{FractionFault}
 use Rattle.fraction.specs.declared.fault.FractionFault.TheVariants.{ZeroDenominator, TooWide}
-use Rattle.fraction.specs.Numeral.{with_sign}
 use Rattle.fraction.specs.Lowest.{lowest_of, differ, lowest_terms, HasWidePart}
 use Rattle.fraction.specs.Plain.{plain, fraction_parts}
 use Rattle.fraction.proofs.SameRatios.{same_ratio}

@@ -1,11 +1,10 @@
 -- The cases of Holm's graph, of the fixed sequence and of fallback decide as these rules.
-use Rattle.std.proofs.Common.{◌≡◌, ◌≢◌, ◌↔◌, refl, ap, ◌∙◌, sym, subst, ℕ, zero, suc, ◌-◌, ◌^◌, ◌==◌, ◌<◌, ◌≤◌, cond, List, [], length, Bool, true, false, Option, Some, None, Ok, pos, ◌-ℤ◌, arith, lit<}
+use Rattle.std.proofs.Common.{◌≡◌, ◌≢◌, ◌↔◌, refl, ap, ◌∙◌, sym, subst, ℕ, zero, suc, ◌-◌, ◌^◌, ◌==◌, ◌<◌, ◌≤◌, cond, List, [], length, Bool, true, false, Some, None, Ok, pos, ◌-ℤ◌, arith, lit<}
 use Rattle.std.specs.Prelude.{if◌then◌else◌}
 use Rattle.std.proofs.lemmas.Int.{ints}
 use Rattle.std.proofs.lemmas.Bool.Decides.{nat_tests}
-use Rattle.field_core.specs.Number.{Number}
 use Rattle.field_core.specs.Arithmetic.{number_zero, number_one}
-use Rattle.field_core.specs.Fractions.{fraction, one_over}
+use Rattle.field_core.specs.Fractions.{fraction}
 use Rattle.field_core.specs.Limit.{limit}
 use Rattle.field_core.specs.Order.{◌≤ε◌}
 use Rattle.field_core.specs.Laws.LimitLaws.{limit-fraction}
@@ -27,13 +26,13 @@ use Rattle.case_model.proofs.Thresholds.{good_level}
 use Rattle.case_model.proofs.ValidContents.{valid_entangled, shape_of_draft}
 use Rattle.case_model.proofs.ValidGraphs.{number-zero}
 use Rattle.catalogue.specs.Quotients.{one_ratio}
-use Rattle.catalogue.specs.NamedGraphs.{constant, part, holm_graph, sequence_graph, fallback_graph, next_edge}
+use Rattle.catalogue.specs.NamedGraphs.{constant, part, holm_graph, sequence_graph, fallback_graph}
 use Rattle.catalogue.specs.WeightedGraphs.{WeightedGraph, draft_of}
 use Rattle.catalogue.specs.Makings.{made}
 use Rattle.catalogue.specs.TextbookCases.{DecidesAsHolm, DecidesAsSequence, DecidesAsFallback}
 use Rattle.catalogue.proofs.RatiosOf.{part_value}
 use Rattle.catalogue.proofs.FoundEdges.{entry_or, entry_or-none, entry_or-some}
-use Rattle.catalogue.proofs.AloneCases.{number_of-one, constant_value, no_edge_value, as_many, alone, inputs_are, IsMade, is_made}
+use Rattle.catalogue.proofs.AloneCases.{number_of-one, constant_value, no_edge_value, as_many, alone, inputs_are, is_made}
 
 -- ---- edges by their values
 
@@ -110,7 +109,7 @@ holm_rule n m alpha ps c same some few h given =
     let size : E.hypotheses ≡ n = as_many (holm_graph n) alpha ps in
     let law : (j : ℕ) → IsRejected E (number_at ps) (number_of alpha) j ↔ IsHolmRejected (number_at ps) (number_of alpha) m j
     = λ j. subst (λ k. IsRejected E (number_at ps) (number_of alpha) j ↔ IsHolmRejected (number_at ps) (number_of alpha) k j) (size ∙ same)
-        (holm_decides (number_at ps) (number_of alpha) E (valid (holm_graph n) alpha ps M.faultless) (subst (λ k. IsAlone (equal_graph k) E) (sym size) (holm_is n alpha ps some few)) (low (holm_graph n) alpha ps M.faultless) j) in
+    (holm_decides (number_at ps) (number_of alpha) E (valid (holm_graph n) alpha ps M.faultless) (subst (λ k. IsAlone (equal_graph k) E) (sym size) (holm_is n alpha ps some few)) (low (holm_graph n) alpha ps M.faultless) j) in
     subst (λ k. (j : ℕ) → IsRejectedIn k j ↔ IsHolmRejected (number_at ps) (number_of alpha) m j) M.content (decides (holm_graph n) alpha ps M.faultless (IsHolmRejected (number_at ps) (number_of alpha) m) given law)
 
 pub sequence_rule : (n m : ℕ) (alpha : Ratio) (ps : List Ratio) (c : Content) → n ≡ m → made (draft_of (sequence_graph n) alpha ps) ≡ Ok c → DecidesAsSequence m alpha ps c
@@ -121,7 +120,7 @@ sequence_rule n m alpha ps c same h given =
     let size : E.hypotheses ≡ n = as_many (sequence_graph n) alpha ps in
     let law : (j : ℕ) → IsRejected E (number_at ps) (number_of alpha) j ↔ IsSequenceRejected (number_at ps) (number_of alpha) m j
     = λ j. subst (λ k. IsRejected E (number_at ps) (number_of alpha) j ↔ IsSequenceRejected (number_at ps) (number_of alpha) k j) (size ∙ same)
-        (sequence_decides (number_at ps) (number_of alpha) E (valid (sequence_graph n) alpha ps M.faultless) (sequence_is n alpha ps) (low (sequence_graph n) alpha ps M.faultless) j) in
+    (sequence_decides (number_at ps) (number_of alpha) E (valid (sequence_graph n) alpha ps M.faultless) (sequence_is n alpha ps) (low (sequence_graph n) alpha ps M.faultless) j) in
     subst (λ k. (j : ℕ) → IsRejectedIn k j ↔ IsSequenceRejected (number_at ps) (number_of alpha) m j) M.content (decides (sequence_graph n) alpha ps M.faultless (IsSequenceRejected (number_at ps) (number_of alpha) m) given law)
 
 pub fallback_rule : (ws : List Ratio) (alpha : Ratio) (ps : List Ratio) (c : Content) → made (draft_of (fallback_graph ws) alpha ps) ≡ Ok c → DecidesAsFallback ws alpha ps c
@@ -132,7 +131,7 @@ fallback_rule ws alpha ps c h given =
     let size : E.hypotheses ≡ length ws = as_many (fallback_graph ws) alpha ps in
     let law : (j : ℕ) → IsRejected E (number_at ps) (number_of alpha) j ↔ IsFallbackRejected (number_at ps) (number_of alpha) (length ws) (number_at ws) j
     = λ j. subst (λ k. IsRejected E (number_at ps) (number_of alpha) j ↔ IsFallbackRejected (number_at ps) (number_of alpha) k (number_at ws) j) size
-        (fallback_decides (number_at ps) (number_of alpha) (number_at ws) E (valid (fallback_graph ws) alpha ps M.faultless) (fallback_is ws alpha ps) (λ i b. fallback_plain ws i) (low (fallback_graph ws) alpha ps M.faultless) j) in
+    (fallback_decides (number_at ps) (number_of alpha) (number_at ws) E (valid (fallback_graph ws) alpha ps M.faultless) (fallback_is ws alpha ps) (λ i b. fallback_plain ws i) (low (fallback_graph ws) alpha ps M.faultless) j) in
     subst (λ k. (j : ℕ) → IsRejectedIn k j ↔ IsFallbackRejected (number_at ps) (number_of alpha) (length ws) (number_at ws) j) M.content (decides (fallback_graph ws) alpha ps M.faultless (IsFallbackRejected (number_at ps) (number_of alpha) (length ws) (number_at ws)) given law)
 
 -- ---- what is made has these graphs

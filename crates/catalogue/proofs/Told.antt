@@ -1,5 +1,5 @@
 -- The fault of a draft, as the catalogue tells it.
-use Rattle.std.proofs.Common.{◌≡◌, sym, ap, ◌∙◌, inl, inr, ◌⊎◌, Option, Some, None, Err}
+use Rattle.std.proofs.Common.{◌≡◌, sym, ap, ◌∙◌, inl, inr, ◌⊎◌, Some, Err}
 use Rattle.case_model.specs.declared.draft.Draft.{Draft}
 use Rattle.case_model.specs.declared.fault.CaseFault.{CaseFault}
 use Rattle.case_model.specs.declared.fault.CaseFault.TheVariants.{NoMemory as NoRoom}

@@ -9,7 +9,7 @@ use Rattle.catalogue.specs.declared.fault.CatalogueFault.{CatalogueFault}
 use Rattle.catalogue.specs.declared.fault.CatalogueFault.TheVariants.{Seed, Case as OfCase}
 use Rattle.catalogue.specs.Quotients.{quotient}
 use Rattle.catalogue.specs.Sizes.{size_fault, sizes_fault}
-use Rattle.catalogue.specs.WeightedGraphs.{WeightedGraph, draft_of}
+use Rattle.catalogue.specs.WeightedGraphs.{draft_of}
 use Rattle.catalogue.specs.NamedGraphs.{holm_graph, sequence_graph, fallback_graph, parallel_graph, improved_graph}
 use Rattle.catalogue.specs.Samples.{sample_graph, sample_p_values}
 

@@ -1,5 +1,5 @@
 -- The graphs that have names. Hypotheses are named by their positions, from 0.
-use Rattle.std.specs.Prelude.{ℕ, suc, ◌+◌, ◌-◌, ◌%◌, ◌==◌, ◌||◌, List, [], ◌∷◌, Option, Some, None, length, pos, negsuc, nat_lt, if◌then◌else◌}
+use Rattle.std.specs.Prelude.{ℕ, suc, ◌+◌, ◌-◌, ◌%◌, ◌==◌, List, [], ◌∷◌, Option, Some, None, length, pos, negsuc, nat_lt, if◌then◌else◌}
 use Rattle.field_core.specs.declared.ratio.Ratio.{Ratio}
 use Rattle.case_model.specs.Sums.{zero_ratio, ratio_at}
 use Rattle.catalogue.specs.Quotients.{one_ratio, quotient}

@@ -1,5 +1,5 @@
 -- Quotients of whole numbers, as fractions in lowest terms.
-use Rattle.std.specs.Prelude.{◌≡◌, refl, ℕ, ◌^◌, ◌<◌, ◌&&◌, ◌==◌, Bool, true, false, ℤ, pos, ◌<ℤ◌, nat_lt, unsigned_abs}
+use Rattle.std.specs.Prelude.{◌≡◌, refl, ℕ, ◌^◌, ◌<◌, ◌&&◌, ◌==◌, Bool, true, false, ℤ, pos, nat_lt, unsigned_abs}
 use Rattle.std.proofs.Common.{arith}
 use Rattle.std.proofs.lemmas.Int.{ints}
 use Rattle.std.proofs.lemmas.Bool.Decides.{nat_tests}
