@@ -1,0 +1,4 @@
+pub mod Places
+pub mod Vectors
+pub mod Duals
+pub mod GoodSteps
