@@ -2,3 +2,10 @@ pub mod Places
 pub mod Vectors
 pub mod Duals
 pub mod GoodSteps
+pub mod Tells
+pub mod WrittenSums
+pub mod CheckedSums
+pub mod CheckedSteps
+pub mod CheckedKeeps
+pub mod WholeCheck
+pub mod CaseChecked
