@@ -12,7 +12,8 @@ use Rattle.field_core.specs.declared.place.TooWide.{TooWide}
 use Rattle.field_core.specs.declared.ratio.Ratio.{Ratio}
 use Rattle.fraction.specs.Plain.{IsFraction}
 use Rattle.fraction.specs.View.{number_of}
-use Rattle.case_model.specs.declared.inputs.Inputs.TheVariants.{Single}
+use Rattle.case_model.specs.declared.inputs.Inputs.{Inputs}
+use Rattle.case_model.specs.declared.inputs.Inputs.TheVariants.{Bare, Single, Staged}
 use Rattle.case_model.specs.Sums.{ratio_at, number_at}
 use Rattle.case_model.specs.Entries.{entry_at, entry_value, no_edge}
 use Rattle.case_model.specs.Content.{Content, component_at, entangled, ForSingle, IsRejectedIn}
@@ -30,7 +31,7 @@ use Rattle.evidence_check.specs.EvidenceParts.{StepParts, KeepParts, step_values
 use Rattle.evidence_check.specs.CheckSteps.{written_at, numbered, all_below}
 use Rattle.evidence_check.specs.WrittenCheck.{written_check}
 use Rattle.evidence_check.specs.CheckStatements.{IsLoaded, AreStoredSteps, evidence_values}
-use Rattle.evidence_check.specs.CaseCheck.{given_or, written_edge, AllLoad, loaded_case, edge_load, all_loads, check_in, case_check, AreStepsOf, values_in, MeetsIn}
+use Rattle.evidence_check.specs.CaseCheck.{p_values_of, IsSingle, given_or, written_edge, AllLoad, loaded_case, edge_load, row_load, component_load, all_loads, check_in, case_check, AreStepsOf, values_in, MeetsIn}
 use Rattle.evidence_check.proofs.GoodSteps.{listed_rejected, kept_decides}
 use Rattle.evidence_check.proofs.Tells.{Tells, TellsAt, tells_bind_at, numbered_tells, all_tells_or}
 use Rattle.evidence_check.proofs.WholeCheck.{check_tells}
@@ -42,29 +43,29 @@ read_tells k place (Err e) Bad = record { ok = λ u h. absurd (cc); bad = λ rea
 
 -- ---- loading
 
-module _ (K : Kind) (n : Numbers) (c : Content) where
+module _ (n : Numbers) (c : Content) where
   IsLoadedEdge : ℕ → ℕ → ℕ → Type 0
-  IsLoadedEdge k l j = (x : Parts) × (written_edge K n c k l j ≡ Ok x)
+  IsLoadedEdge k l j = (x : Parts) × (written_edge n c k l j ≡ Ok x)
 
-  load_tells : (k l j : ℕ) (Bad : Type 0) → Tells (edge_load K n c k l j) (λ _. IsLoadedEdge k l j) Bad
+  load_tells : (k l j : ℕ) (Bad : Type 0) → Tells (edge_load n c k l j) (λ _. IsLoadedEdge k l j) Bad
   unfolding edge_load IsLoadedEdge
-  load_tells k l j Bad = read_tells k (Edge l j) (written_edge K n c k l j) Bad
+  load_tells k l j Bad = read_tells k (Edge l j) (written_edge n c k l j) Bad
 
-  each_load_tells : (Bad : Type 0) → Tells (all_loads K n c) (λ _. (k : ℕ) → k < length c.components → (l : ℕ) → l < length c.names → (j : ℕ) → j < length c.names → IsLoadedEdge k l j) Bad
-  unfolding all_loads
+  each_load_tells : (Bad : Type 0) → Tells (all_loads n c) (λ _. (k : ℕ) → k < length c.components → (l : ℕ) → l < length c.names → (j : ℕ) → j < length c.names → IsLoadedEdge k l j) Bad
+  unfolding all_loads component_load row_load
   each_load_tells Bad =
       all_tells_or (length c.components) _ (λ k. (l : ℕ) → l < length c.names → (j : ℕ) → j < length c.names → IsLoadedEdge k l j) Bad
       (λ k p. all_tells_or (length c.names) _ (λ l. (j : ℕ) → j < length c.names → IsLoadedEdge k l j) Bad
-      (λ l q. all_tells_or (length c.names) (edge_load K n c k l) (IsLoadedEdge k l) Bad (λ j r. load_tells k l j Bad)))
+      (λ l q. all_tells_or (length c.names) (edge_load n c k l) (IsLoadedEdge k l) Bad (λ j r. load_tells k l j Bad)))
 
   -- where all edges are loaded, each can be
-  pub loads_done : all_loads K n c ≡ Ok tt → AllLoad K n c
+  pub loads_done : all_loads n c ≡ Ok tt → AllLoad n c
   unfolding IsLoadedEdge
   loads_done h k l j p q r = (each_load_tells (Unit {0})).ok tt h k p l q j r
 
 -- a case that is loaded has the values of its graph
-module _ (c : Content) (V : IsValidContent c) (n : Numbers) (P : CanRunIn n c) (ps : List Ratio) (A : AllLoad (kind_of n) n c) where
-  edge_holds : (k l j : ℕ) → k < length c.components → l < length c.names → j < length c.names → Gives (IsStoredIn n) (given_or (kind_of n).zero (written_edge (kind_of n) n c k l j)) (entry_value (entry_at (length c.names) (component_at c.components k).edges l j))
+module _ (c : Content) (V : IsValidContent c) (n : Numbers) (P : CanRunIn n c) (A : AllLoad n c) where
+  edge_holds : (k l j : ℕ) → k < length c.components → l < length c.names → j < length c.names → Gives (IsStoredIn n) (given_or (kind_of n).zero (written_edge n c k l j)) (entry_value (entry_at (length c.names) (component_at c.components k).edges l j))
   unfolding written_edge entry_at
   edge_holds k l j p q r =
       let a = A k l j p q r in
@@ -72,7 +73,7 @@ module _ (c : Content) (V : IsValidContent c) (n : Numbers) (P : CanRunIn n c) (
       let H = edge_loaded n (entry_at (length c.names) (component_at c.components k).edges l j) a.0 (can_load n c P k p (l * length c.names + j) (place (length c.names) (component_at c.components k) C l j q r)) a.1 in
       subst (λ x. Gives (IsStoredIn n) x (entry_value (entry_at (length c.names) (component_at c.components k).edges l j))) (sym (ap (given_or (kind_of n).zero) a.1)) (record { stored = H.stored; value = H.value })
 
-  pub is_loaded : IsLoaded (IsStoredIn n) (loaded_case (kind_of n) n c ps) (entangled c)
+  pub is_loaded : IsLoaded (IsStoredIn n) (loaded_case (kind_of n) n c) (entangled c)
   unfolding entangled loaded_case
   is_loaded = record {
     components = refl;
@@ -81,24 +82,34 @@ module _ (c : Content) (V : IsValidContent c) (n : Numbers) (P : CanRunIn n c) (
     edge = edge_holds;
   }
 
-module _ (c : Content) (ps : List Ratio) (V : IsValidContent c) where
+module _ (c : Content) (V : IsValidContent c) where
   same_m : (m : ℕ) → m ≡ length c.names → m ≡ (entangled c).hypotheses
   unfolding entangled
   same_m m e = e
 
-  rest_tells : (steps : List StepParts) (keeps : List KeepParts) → AreStepsOf c steps keeps → AllLoad (kind_of (numbers_of c)) (numbers_of c) c
-      → TellsAt (written_check (kind_of (numbers_of c)) (loaded_case (kind_of (numbers_of c)) (numbers_of c) c ps) steps keeps) (λ _. MeetsIn c ps steps keeps) (¬ MeetsIn c ps steps keeps)
+  rest_tells : (steps : List StepParts) (keeps : List KeepParts) → AreStepsOf c steps keeps → AllLoad (numbers_of c) c
+      → TellsAt (written_check (kind_of (numbers_of c)) (loaded_case (kind_of (numbers_of c)) (numbers_of c) c) steps keeps) (λ _. MeetsIn c steps keeps) (¬ MeetsIn c steps keeps)
   unfolding loaded_case
   rest_tells steps keeps S loaded =
-      check_tells (kind_of (numbers_of c)) (IsStoredIn (numbers_of c)) (exact_in (numbers_of c)) (loaded_case (kind_of (numbers_of c)) (numbers_of c) c ps) (entangled c) (valid_content c V) (is_loaded c V (numbers_of c) (can_run c) ps loaded) steps keeps
+      check_tells (kind_of (numbers_of c)) (IsStoredIn (numbers_of c)) (exact_in (numbers_of c)) (loaded_case (kind_of (numbers_of c)) (numbers_of c) c) (entangled c) (valid_content c V) (is_loaded c V (numbers_of c) (can_run c) loaded) steps keeps
       (subst (λ m. AreStoredSteps (kind_of (numbers_of c)) (IsStoredIn (numbers_of c)) m steps keeps) (same_m (length c.names) refl) S)
 
-  pub case_tells : (steps : List StepParts) (keeps : List KeepParts) → AreStepsOf c steps keeps → TellsAt (case_check c ps steps keeps) (λ _. MeetsIn c ps steps keeps) (¬ MeetsIn c ps steps keeps)
+  pub case_tells : (steps : List StepParts) (keeps : List KeepParts) → AreStepsOf c steps keeps → TellsAt (case_check c steps keeps) (λ _. MeetsIn c steps keeps) (¬ MeetsIn c steps keeps)
   unfolding case_check check_in
   case_tells steps keeps S =
-      tells_bind_at _ (λ _. written_check (kind_of (numbers_of c)) (loaded_case (kind_of (numbers_of c)) (numbers_of c) c ps) steps keeps) (λ _. AllLoad (kind_of (numbers_of c)) (numbers_of c) c) _ (¬ MeetsIn c ps steps keeps)
-      (numbered_tells 0 (all_loads (kind_of (numbers_of c)) (numbers_of c) c) _ _ (record { ok = λ u h. loads_done (kind_of (numbers_of c)) (numbers_of c) c h; bad = λ reason h. (each_load_tells (kind_of (numbers_of c)) (numbers_of c) c (¬ MeetsIn c ps steps keeps)).bad reason h }))
+      tells_bind_at _ (λ _. written_check (kind_of (numbers_of c)) (loaded_case (kind_of (numbers_of c)) (numbers_of c) c) steps keeps) (λ _. AllLoad (numbers_of c) c) _ (¬ MeetsIn c steps keeps)
+      (numbered_tells 0 (all_loads (numbers_of c) c) _ _ (record { ok = λ u h. loads_done (numbers_of c) c h; bad = λ reason h. (each_load_tells (numbers_of c) c (¬ MeetsIn c steps keeps)).bad reason h }))
       (λ _ loaded. rest_tells steps keeps S loaded)
+
+in_inputs : (P : List Ratio → Type 0) (i : Inputs) → IsSingle i → P (p_values_of i) → ForSingle i P
+in_inputs P (Single ps) s h = h
+in_inputs P Bare s h = absurd s
+in_inputs P (Staged t) s h = absurd s
+
+out_of_inputs : (P : List Ratio → Type 0) (i : Inputs) → ForSingle i P → P (p_values_of i)
+out_of_inputs P (Single ps) h = h
+out_of_inputs P Bare h = absurd h
+out_of_inputs P (Staged t) h = absurd h
 
 same_size : (c : Content) → length c.names ≡ (entangled c).hypotheses
 unfolding entangled
@@ -108,28 +119,28 @@ listed_names : (K : Kind) (steps : List StepParts) → listed (map (step_values 
 listed_names K [] = refl
 listed_names K (s ∷ steps) = ap (λ js. s.hypothesis ∷ js) (listed_names K steps)
 
-module _ (c : Content) (ps : List Ratio) (V : IsValidContent c) (inputs : c.inputs ≡ Single ps) (steps : List StepParts) (keeps : List KeepParts) (S : AreStepsOf c steps keeps) (ok : case_check c ps steps keeps ≡ Ok tt) where
-  meets : MeetsIn c ps steps keeps
-  meets = (case_tells c ps V steps keeps S).ok tt ok
+module _ (c : Content) (V : IsValidContent c) (inputs : IsSingle c.inputs) (steps : List StepParts) (keeps : List KeepParts) (S : AreStepsOf c steps keeps) (ok : case_check c steps keeps ≡ Ok tt) where
+  meets : MeetsIn c steps keeps
+  meets = (case_tells c V steps keeps S).ok tt ok
 
   low : number_zero ≤ε number_of c.alpha
   low = subst (λ z. z ≤ε number_of c.alpha) field_zero (good_level c.alpha (shape c V).level).nonneg
 
-  in_case : (j : ℕ) → IsRejected (entangled c) (number_at ps) (number_of c.alpha) j → IsRejectedIn c j
-  in_case j r = subst (λ i. ForSingle i (λ ps. IsRejected (entangled c) (number_at ps) (number_of c.alpha) j)) (sym inputs) r
+  in_case : (j : ℕ) → IsRejected (entangled c) (number_at (p_values_of c.inputs)) (number_of c.alpha) j → IsRejectedIn c j
+  in_case j r = in_inputs (λ ps. IsRejected (entangled c) (number_at ps) (number_of c.alpha) j) c.inputs inputs r
 
-  out_of_case : (j : ℕ) → IsRejectedIn c j → IsRejected (entangled c) (number_at ps) (number_of c.alpha) j
-  out_of_case j r = subst (λ i. ForSingle i (λ ps. IsRejected (entangled c) (number_at ps) (number_of c.alpha) j)) inputs r
+  out_of_case : (j : ℕ) → IsRejectedIn c j → IsRejected (entangled c) (number_at (p_values_of c.inputs)) (number_of c.alpha) j
+  out_of_case j r = out_of_inputs (λ ps. IsRejected (entangled c) (number_at ps) (number_of c.alpha) j) c.inputs r
 
   names : listed (map (step_values (kind_of (numbers_of c))) steps) ≡ map (λ s. s.hypothesis) steps
   names = listed_names (kind_of (numbers_of c)) steps
 
   pub case_rejected : (j : ℕ) → IsListed (map (λ s. s.hypothesis) steps) j → IsRejectedIn c j
-  case_rejected j l = in_case j (listed_rejected (entangled c) (valid_content c V) (number_at ps) (number_of c.alpha) low _ meets j (subst (λ js. IsListed js j) (sym names) l))
+  case_rejected j l = in_case j (listed_rejected (entangled c) (valid_content c V) (number_at (p_values_of c.inputs)) (number_of c.alpha) low _ meets j (subst (λ js. IsListed js j) (sym names) l))
 
   pub case_decides : KeepsOthers (length c.names) (values_in c steps keeps) → (j : ℕ) → IsListed (map (λ s. s.hypothesis) steps) j ↔ IsRejectedIn c j
   case_decides all j =
-      let d = kept_decides (entangled c) (valid_content c V) (number_at ps) (number_of c.alpha) low _ meets (others_there all) j in
+      let d = kept_decides (entangled c) (valid_content c V) (number_at (p_values_of c.inputs)) (number_of c.alpha) low _ meets (others_there all) j in
       (λ l. in_case j (d.0 (subst (λ js. IsListed js j) (sym names) l)), λ r. subst (λ js. IsListed js j) names (d.1 (out_of_case j r)))
     where
       others_there : KeepsOthers (length c.names) (values_in c steps keeps) → KeepsOthers (entangled c).hypotheses (values_in c steps keeps)

@@ -22,12 +22,12 @@ use Rattle.evidence_check.specs.Evidence.{at_place, leaving, allowed, shared, Is
 use Rattle.evidence_check.specs.EvidenceParts.{KeepParts, part_at, keep_values}
 use Rattle.evidence_check.specs.CheckSteps.{demand, written_at, all_below}
 use Rattle.evidence_check.specs.declared.verdict.Reason.TheVariants.{NegativeExit, ShortExit, AboveOne, Legal}
-use Rattle.evidence_check.specs.WrittenCheck.{Loaded, shared_sum, leaving_sum, exit_check, allowed_sum, allowed_limit, keep_check}
+use Rattle.evidence_check.specs.WrittenCheck.{Loaded, level_by, leaving_sum, exit_check, allowed_sum, allowed_limit, keep_check}
 use Rattle.evidence_check.specs.CheckStatements.{IsLoaded}
 use Rattle.evidence_check.proofs.Duals.{allowed_low}
 use Rattle.evidence_check.proofs.Tells.{Tells, tells_bind, tells_ok, tells_if, demand_tells, written_tells, all_tells, AreEach, each_tells}
 use Rattle.evidence_check.proofs.WrittenSums.{true_false, not_in, sign_tells, compared}
-use Rattle.evidence_check.proofs.CheckedSums.{limit_gives, shared_tells, leave_tells, allow_tells}
+use Rattle.evidence_check.proofs.CheckedSums.{limit_gives, level_tells, leave_tells, allow_tells}
 use Rattle.evidence_check.proofs.CheckedSteps.{within, back}
 
 module _ (K : Kind) (IsStored : Parts → Type 0) (X : IsExact K IsStored) (L : Loaded) (E : EntangledGraph) (V : IsValidEntangled E) (D : IsLoaded IsStored L E) (js : List ℕ) (o : IsOrder E.hypotheses whole js) where
@@ -103,22 +103,16 @@ module _ (K : Kind) (IsStored : Parts → Type 0) (X : IsExact K IsStored) (L : 
     abbrev AllBounded : Type 0
     AllBounded = (c : ℕ) → c < L.components → allowing c ≤ε number_one
 
-    abbrev IsLimit : ℕ → Parts → Type 0
-    IsLimit c s = Gives IsFraction s (limit (allowing c)) × (allowing c ≤ε number_one)
-
-    limits_tell : AllExits → Tells (each_below L.components (λ c. allowed_limit K L js (part_at K x.exits c) x.hypothesis c)) (AreEach L.components IsLimit) (¬ AllBounded)
-    limits_tell exits =
-        each_tells L.components (λ c. allowed_limit K L js (part_at K x.exits c) x.hypothesis c) IsLimit (¬ AllBounded)
+    allowing_tells : AllExits → Tells (level_by L x.hypothesis (λ c. allowed_limit K L js (part_at K x.exits c) x.hypothesis c)) (λ t. Gives IsFraction t (shared E allowing) × AllBounded) (¬ AllBounded)
+    allowing_tells exits =
+        level_tells K IsStored X L E V D x.hypothesis (λ c. allowed_limit K L js (part_at K x.exits c) x.hypothesis c) (λ c. limit (allowing c)) (λ c. allowing c ≤ε number_one) (¬ AllBounded)
         (λ c q. tells_if (allowed_limit K L js (part_at K x.exits c) x.hypothesis c) _ _ _ _ (λ _ g. g) (λ b all. b (all c q))
         (limit_tells c (in_graph c q) x.hypothesis x_in (part_at K x.exits c) (value c) (H_gives c) (λ r p. (exits c q r p).0)))
 
-    only_limits : (limits : List Parts) → AreEach L.components IsLimit limits → AreEach L.components (λ c s. Gives IsFraction s (limit (allowing c))) limits
-    only_limits limits S = record { count = S.count; each = λ c d p. (S.each c d p).0 }
-
-    made : AllExits → (limits : List Parts) → AreEach L.components IsLimit limits → (level : Parts) → Gives IsFraction level (shared E allowing) → does_pass (L.p x.hypothesis) (value_of level) L.alpha ≡ false → Good
-    made exits limits S level T fails = record {
+    made : AllExits → AllBounded → (level : Parts) → Gives IsFraction level (shared E allowing) → does_pass (L.p x.hypothesis) (value_of level) L.alpha ≡ false → Good
+    made exits bounded level T fails = record {
       below = x_in;
-      exits = λ c q. let r = back K IsStored X L E V D c q in record { nonneg = λ e p. (exits c r e p).0; above = λ e p. (exits c r e p).1; bounded = (S.each c K.zero r).1 };
+      exits = λ c q. let r = back K IsStored X L E V D c q in record { nonneg = λ e p. (exits c r e p).0; above = λ e p. (exits c r e p).1; bounded = bounded c r };
       fails = subst (λ u. ¬ Passes (L.p x.hypothesis) u L.alpha) T.value (λ passes. true_false _ (pass_tested _ _ _ passes) fails);
     }
 
@@ -128,13 +122,11 @@ module _ (K : Kind) (IsStored : Parts → Type 0) (X : IsExact K IsStored) (L : 
         tells_bind (all_below L.components (λ c. all_below (length js) (exit_check K L js (part_at K x.exits c) x.hypothesis c))) _ (λ _. AllExits) _ (¬ Good)
         (tells_if (all_below L.components (λ c. all_below (length js) (exit_check K L js (part_at K x.exits c) x.hypothesis c))) _ _ _ _ (λ _ g. g)
         (λ b g. b (λ c q r h. ((g.exits c (in_graph c q)).nonneg r h, (g.exits c (in_graph c q)).above r h))) all_exits_tell)
-        (λ _ exits. tells_bind (each_below L.components (λ c. allowed_limit K L js (part_at K x.exits c) x.hypothesis c)) _ (AreEach L.components IsLimit) _ (¬ Good)
-        (tells_if (each_below L.components (λ c. allowed_limit K L js (part_at K x.exits c) x.hypothesis c)) _ _ _ _ (λ _ g. g) (λ b g. b (λ c q. (g.exits c (in_graph c q)).bounded)) (limits_tell exits))
-        (λ limits S. tells_bind (shared_sum K L x.hypothesis limits) _ (λ t. Gives IsFraction t (shared E allowing)) _ (¬ Good)
-        (shared_tells K IsStored X L E V D x.hypothesis limits (λ c. limit (allowing c)) (¬ Good) (only_limits limits S))
+        (λ _ exits. tells_bind (level_by L x.hypothesis (λ c. allowed_limit K L js (part_at K x.exits c) x.hypothesis c)) _ (λ t. Gives IsFraction t (shared E allowing) × AllBounded) _ (¬ Good)
+        (tells_if (level_by L x.hypothesis (λ c. allowed_limit K L js (part_at K x.exits c) x.hypothesis c)) _ _ _ _ (λ _ g. g) (λ b g. b (λ c q. (g.exits c (in_graph c q)).bounded)) (allowing_tells exits))
         (λ level T. demand_tells (not (does_pass (L.p x.hypothesis) (value_of level) L.alpha)) Legal Good
-        (λ h. made exits limits S level T (not_in _ h))
-        (λ h g. g.fails (subst (λ u. Passes (L.p x.hypothesis) u L.alpha) T.value (tested_pass _ _ _ (not_true _ h)))))))
+        (λ h. made exits T.1 level T.0 (not_in _ h))
+        (λ h g. g.fails (subst (λ u. Passes (L.p x.hypothesis) u L.alpha) T.0.value (tested_pass _ _ _ (not_true _ h))))))
       where
         not_true : (b : Bool) → not b ≡ false → b ≡ true
         not_true true h = refl

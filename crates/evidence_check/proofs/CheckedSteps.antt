@@ -26,12 +26,12 @@ use Rattle.evidence_check.specs.EvidenceParts.{StepParts, part_at, step_values}
 use Rattle.evidence_check.specs.CheckSteps.{demand, written_at, all_below}
 use Rattle.evidence_check.specs.declared.verdict.Reason.TheVariants.{Repeated, Negative, Exceeds, NoLevel, AboveLevel}
 use Rattle.evidence_check.specs.declared.event.Event.{Event}
-use Rattle.evidence_check.specs.WrittenCheck.{Loaded, is_above_zero, shared_sum, brought_sum, flow_check, level_limit, step_check}
+use Rattle.evidence_check.specs.WrittenCheck.{Loaded, is_above_zero, level_by, brought_sum, flow_check, level_limit, step_check}
 use Rattle.evidence_check.specs.CheckStatements.{IsLoaded}
 use Rattle.evidence_check.proofs.Duals.{brought_unit}
 use Rattle.evidence_check.proofs.Tells.{Tells, tells_bind, tells_ok, tells_if, tells_map, demand_tells, written_tells, all_tells, AreEach, each_tells}
 use Rattle.evidence_check.proofs.WrittenSums.{true_false, not_in, positive_test, test_positive, sign_tells, compared}
-use Rattle.evidence_check.proofs.CheckedSums.{limit_gives, shared_tells, here, bring_tells}
+use Rattle.evidence_check.proofs.CheckedSums.{limit_gives, level_tells, here, bring_tells}
 
 module _ (K : Kind) (IsStored : Parts → Type 0) (X : IsExact K IsStored) (L : Loaded) (E : EntangledGraph) (V : IsValidEntangled E) (D : IsLoaded IsStored L E) where
   pub within : (c : ℕ) → c < L.components → c < E.components
@@ -101,10 +101,12 @@ module _ (K : Kind) (IsStored : Parts → Type 0) (X : IsExact K IsStored) (L : 
           all_tells L.components (λ c. all_below (length js) (flow_check K L js (part_at K s.flows c) c)) (λ c. AreFlows (E.graph c) js (λ e. value_of (part_at K s.flows c e)))
           (λ c q. flows_tell c (within c q) (part_at K s.flows c) (value c) (Y_gives c))
 
-      limits_tell : (new : set_of js s.hypothesis ≡ false) (flows : AllFlows) (Bad : Type 0) → Tells (each_below L.components (λ c. level_limit K L js (part_at K s.flows c) s.hypothesis c)) (AreEach L.components (λ c x. Gives IsFraction x (limit (bringing c)))) Bad
-      limits_tell new flows Bad =
-          each_tells L.components (λ c. level_limit K L js (part_at K s.flows c) s.hypothesis c) (λ c x. Gives IsFraction x (limit (bringing c))) Bad
-          (λ c q. limit_tells c (within c q) (part_at K s.flows c) (value c) (Y_gives c) s.hypothesis Bad s_in new (flows c q))
+      bringing_tells : (new : set_of js s.hypothesis ≡ false) (flows : AllFlows) (Bad : Type 0) → Tells (level_by L s.hypothesis (λ c. level_limit K L js (part_at K s.flows c) s.hypothesis c)) (λ t. Gives IsFraction t (shared E bringing)) Bad
+      bringing_tells new flows Bad =
+          tells_if (level_by L s.hypothesis (λ c. level_limit K L js (part_at K s.flows c) s.hypothesis c)) _ _ _ _ (λ t g. g.0) (λ b. b)
+          (level_tells K IsStored X L E V D s.hypothesis (λ c. level_limit K L js (part_at K s.flows c) s.hypothesis c) (λ c. limit (bringing c)) (λ _. Unit {0}) Bad
+          (λ c q. tells_if (level_limit K L js (part_at K s.flows c) s.hypothesis c) _ _ _ _ (λ x g. (g, tt)) (λ b. b)
+          (limit_tells c (within c q) (part_at K s.flows c) (value c) (Y_gives c) s.hypothesis Bad s_in new (flows c q))))
 
       pub step_tells : Tells (step_check K L js s) (λ _. Good) (¬ Good)
       unfolding step_check
@@ -114,10 +116,8 @@ module _ (K : Kind) (IsStored : Parts → Type 0) (X : IsExact K IsStored) (L : 
           (demand_tells (not (set_of js s.hypothesis)) Repeated (set_of js s.hypothesis ≡ false) (λ h. not_in (set_of js s.hypothesis) h) (λ h e. true_false _ (ap not e) h)))
           (λ _ new. tells_bind (all_below L.components (λ c. all_below (length js) (flow_check K L js (part_at K s.flows c) c))) _ (λ _. AllFlows) _ (¬ Good)
           (tells_if (all_below L.components (λ c. all_below (length js) (flow_check K L js (part_at K s.flows c) c))) _ _ _ _ (λ _ g. g) (λ b g. b (λ c q. g.flows c (within c q))) all_flows_tell)
-          (λ _ flows. tells_bind (each_below L.components (λ c. level_limit K L js (part_at K s.flows c) s.hypothesis c)) _ (AreEach L.components (λ c x. Gives IsFraction x (limit (bringing c)))) _ (¬ Good)
-          (limits_tell new flows (¬ Good))
-          (λ limits S. tells_bind (shared_sum K L s.hypothesis limits) _ (λ t. Gives IsFraction t (shared E bringing)) _ (¬ Good)
-          (shared_tells K IsStored X L E V D s.hypothesis limits (λ c. limit (bringing c)) (¬ Good) S)
+          (λ _ flows. tells_bind (level_by L s.hypothesis (λ c. level_limit K L js (part_at K s.flows c) s.hypothesis c)) _ (λ t. Gives IsFraction t (shared E bringing)) _ (¬ Good)
+          (bringing_tells new flows (¬ Good))
           (λ level T. tells_bind (demand (is_above_zero (value_of level)) NoLevel) _ (λ _. IsPositive (value_of level)) _ (¬ Good)
           (tells_if (demand (is_above_zero (value_of level)) NoLevel) _ _ _ _ (λ _ g. g) (λ b g. b (subst IsPositive (sym T.value) g.passes.positive))
           (demand_tells (is_above_zero (value_of level)) NoLevel (IsPositive (value_of level)) (positive_test (value_of level)) (test_positive (value_of level))))
@@ -129,4 +129,4 @@ module _ (K : Kind) (IsStored : Parts → Type 0) (X : IsExact K IsStored) (L : 
             passes = subst (λ u. Passes (L.p s.hypothesis) u L.alpha) T.value passes;
           })
           (λ b g. b (subst (λ u. Passes (L.p s.hypothesis) u L.alpha) (sym T.value) g.passes))
-          (demand_tells (does_pass (L.p s.hypothesis) (value_of level) L.alpha) AboveLevel (Passes (L.p s.hypothesis) (value_of level) L.alpha) (tested_pass _ _ _) (λ h g. true_false _ (pass_tested _ _ _ g) h)))))))
+          (demand_tells (does_pass (L.p s.hypothesis) (value_of level) L.alpha) AboveLevel (Passes (L.p s.hypothesis) (value_of level) L.alpha) (tested_pass _ _ _) (λ h g. true_false _ (pass_tested _ _ _ g) h))))))

@@ -1,5 +1,5 @@
 -- The sums of the written check by value.
-use Rattle.std.proofs.Common.{◌≡◌, sym, ap, subst, ◌∙◌, ℕ, ◌<◌, List, length, get_or, arith}
+use Rattle.std.proofs.Common.{◌≡◌, sym, ap, subst, ◌∙◌, ℕ, ◌<◌, List, Result, length, get_or, arith}
 use Rattle.field_core.specs.declared.place.Place.{Place}
 use Rattle.field_core.specs.declared.place.Place.TheVariants.{Level, Exit}
 use Rattle.field_core.specs.Number.{Number}
@@ -12,16 +12,19 @@ use Rattle.field_core.specs.Sets.{whole}
 use Rattle.field_core.specs.Runs.{IsOrder}
 use Rattle.field_core.specs.Kind.{Parts, Kind}
 use Rattle.field_core.specs.Exact.{IsExact, Gives, value_of}
+use Rattle.field_core.specs.Steps.{each_below}
+use Rattle.evidence_check.specs.declared.event.Event.{Event}
 use Rattle.field_core.specs.Laws.NumberLaws.{number_add_comm, number_add_zero}
 use Rattle.fraction.specs.Plain.{plain, single, IsFraction}
 use Rattle.fraction.specs.Laws.PlainLaws.{plain_is_exact}
 use Rattle.case_model.specs.EntangledGraph.{EntangledGraph, IsValidEntangled}
 use Rattle.case_model.proofs.ExactSums.{stored_single, value_single}
 use Rattle.evidence_check.specs.Evidence.{at_place, brought, leaving, allowed}
-use Rattle.evidence_check.specs.WrittenCheck.{Loaded, shared_sum, brought_sum, leaving_sum, allowed_sum}
+use Rattle.evidence_check.specs.EvidenceParts.{numbers_at}
+use Rattle.evidence_check.specs.WrittenCheck.{Loaded, shared_sum, level_by, brought_sum, leaving_sum, allowed_sum}
 use Rattle.evidence_check.specs.CheckStatements.{IsLoaded}
 use Rattle.evidence_check.proofs.Places.{place_below}
-use Rattle.evidence_check.proofs.Tells.{Tells, tells_if, AreEach}
+use Rattle.evidence_check.proofs.Tells.{Tells, tells_bind, tells_if, AreEach, each_tells}
 use Rattle.evidence_check.proofs.WrittenSums.{added_tells}
 
 zero_first : (x : Number) → number_zero +ε x ≡ x
@@ -37,14 +40,24 @@ module _ (K : Kind) (IsStored : Parts → Type 0) (X : IsExact K IsStored) where
   module _ (L : Loaded) (E : EntangledGraph) (V : IsValidEntangled E) (D : IsLoaded IsStored L E) where
     -- shared sums
     pub shared_tells : (k : ℕ) (limits : List Parts) (v : ℕ → Number) (Bad : Type 0) → AreEach L.components (λ c x. Gives IsFraction x (v c)) limits
-        → Tells (shared_sum K L k limits) (λ t. Gives IsFraction t (sum_below number_field E.components (λ c. E.share c *ε v c))) Bad
-    unfolding shared_sum
+        → Tells (shared_sum L k limits) (λ t. Gives IsFraction t (sum_below number_field E.components (λ c. E.share c *ε v c))) Bad
+    unfolding shared_sum numbers_at
     shared_tells k limits v Bad S =
-        tells_if (shared_sum K L k limits) _ _ _ _ (λ t G. subst (Gives IsFraction t) (zero_first _ ∙ ap (λ n. sum_below number_field n (λ c. E.share c *ε v c)) D.components) G) (λ b. b)
-        (added_tells plain IsFraction plain_is_exact (λ c. c) (Level k) plain.zero L.share (λ c. get_or limits c plain.zero) number_zero E.share v L.components Bad
+        tells_if (shared_sum L k limits) _ _ _ _ (λ t G. subst (Gives IsFraction t) (zero_first _ ∙ ap (λ n. sum_below number_field n (λ c. E.share c *ε v c)) D.components) G) (λ b. b)
+        (added_tells plain IsFraction plain_is_exact (λ c. c) (Level k) plain.zero L.share (numbers_at plain limits) number_zero E.share v L.components Bad
         (record { stored = plain_is_exact.zero_stored; value = plain_is_exact.zero_value })
         (λ c p. D.share c (subst (λ n. c < n) D.components p))
         (λ c p. S.each c plain.zero p))
+
+    -- levels, where each limit is found with what is said of its component
+    pub level_tells : (k : ℕ) (f : ℕ → Result Parts Event) (v : ℕ → Number) (P : ℕ → Type 0) (Bad : Type 0) → ((c : ℕ) → c < L.components → Tells (f c) (λ x. Gives IsFraction x (v c) × P c) Bad)
+        → Tells (level_by L k f) (λ t. Gives IsFraction t (sum_below number_field E.components (λ c. E.share c *ε v c)) × ((c : ℕ) → c < L.components → P c)) Bad
+    unfolding level_by
+    level_tells k f v P Bad each =
+        tells_bind (each_below L.components f) (λ limits. shared_sum L k limits) (AreEach L.components (λ c x. Gives IsFraction x (v c) × P c)) _ Bad
+        (each_tells L.components f (λ c x. Gives IsFraction x (v c) × P c) Bad each)
+        (λ limits S. tells_if (shared_sum L k limits) _ _ _ _ (λ t G. (G, λ c p. (S.each c plain.zero p).1)) (λ b. b)
+        (shared_tells k limits v Bad (record { count = S.count; each = λ c d p. (S.each c d p).0 })))
 
     module _ (js : List ℕ) (o : IsOrder E.hypotheses whole js) where
       pub here : (r : ℕ) → r < length js → at_place js r < E.hypotheses

@@ -9,3 +9,9 @@ pub mod CheckedSteps
 pub mod CheckedKeeps
 pub mod WholeCheck
 pub mod CaseChecked
+pub mod AllSteps
+pub mod AddedSteps
+pub mod PValues
+pub mod LoadSteps
+pub mod Hypotheses
+pub mod SumAnswers

@@ -1,5 +1,5 @@
 -- The written check of evidence: its tests and its written operations, in their order (this project's own).
-use Rattle.std.specs.Prelude.{ℕ, zero, suc, ◌+◌, ◌++◌, not, Bool, List, [], ◌∷◌, Result, Ok, length, get_or}
+use Rattle.std.specs.Prelude.{ℕ, zero, suc, ◌+◌, ◌++◌, not, Bool, List, [], ◌∷◌, Result, Ok, length}
 use Rattle.std.specs.Ordering.{is_le}
 use Rattle.field_core.specs.declared.place.Op.TheVariants.{Add, Mul}
 use Rattle.field_core.specs.declared.place.Place.{Place}
@@ -16,7 +16,7 @@ use Rattle.fraction.specs.Plain.{plain, single}
 use Rattle.case_model.specs.Draft.{at_most}
 use Rattle.case_model.specs.TextbookRules.{does_pass}
 use Rattle.evidence_check.specs.Evidence.{at_place}
-use Rattle.evidence_check.specs.EvidenceParts.{StepParts, KeepParts, part_at}
+use Rattle.evidence_check.specs.EvidenceParts.{StepParts, KeepParts, numbers_at, part_at}
 use Rattle.evidence_check.specs.CheckSteps.{demand, written_at, numbered, all_below}
 use Rattle.evidence_check.specs.declared.verdict.Reason.TheVariants.{Repeated, Negative, Exceeds, NoLevel, AboveLevel, NegativeExit, ShortExit, AboveOne, Legal}
 use Rattle.evidence_check.specs.declared.event.Event.{Event}
@@ -49,11 +49,17 @@ module _ (K : Kind) where
     sum ← added component place start f g n
     with_product (component n) place sum (f n) (g n)
 
-module _ (K : Kind) (L : Loaded) where
-  -- the level of `k`: the sum, over the components, of the share times the limit there, as fractions
-  unfoldable pub shared_sum : ℕ → List Parts → Result Parts Event
-  shared_sum k limits = added plain (λ c. c) (Level k) plain.zero L.share (λ c. get_or limits c plain.zero) L.components
+-- the sum, over the components, of the share times the limit there, as fractions
+unfoldable pub shared_sum : Loaded → ℕ → List Parts → Result Parts Event
+shared_sum L k limits = added plain (λ c. c) (Level k) plain.zero L.share (numbers_at plain limits) L.components
 
+-- the level of `k` by the limits that `f` gives in the components, once all are there
+unfoldable pub level_by : Loaded → ℕ → (ℕ → Result Parts Event) → Result Parts Event
+level_by L k f = do
+  limits ← each_below L.components f
+  shared_sum L k limits
+
+module _ (K : Kind) (L : Loaded) where
   module _ (js : List ℕ) where
     -- ---- a step after steps of these hypotheses
 
@@ -77,8 +83,7 @@ module _ (K : Kind) (L : Loaded) where
     step_check s = do
       _ ← demand (not (set_of js s.hypothesis)) Repeated
       _ ← all_below L.components (λ c. all_below (length js) (flow_check (part_at K s.flows c) c))
-      limits ← each_below L.components (λ c. level_limit (part_at K s.flows c) s.hypothesis c)
-      level ← shared_sum s.hypothesis limits
+      level ← level_by L s.hypothesis (λ c. level_limit (part_at K s.flows c) s.hypothesis c)
       _ ← demand (is_above_zero (value_of level)) NoLevel
       demand (does_pass (L.p s.hypothesis) (value_of level) L.alpha) AboveLevel
 
@@ -111,8 +116,7 @@ module _ (K : Kind) (L : Loaded) where
     unfoldable pub keep_check : KeepParts → Result (Unit {0}) Event
     keep_check x = do
       _ ← all_below L.components (λ c. all_below (length js) (exit_check (part_at K x.exits c) x.hypothesis c))
-      limits ← each_below L.components (λ c. allowed_limit (part_at K x.exits c) x.hypothesis c)
-      level ← shared_sum x.hypothesis limits
+      level ← level_by L x.hypothesis (λ c. allowed_limit (part_at K x.exits c) x.hypothesis c)
       demand (not (does_pass (L.p x.hypothesis) (value_of level) L.alpha)) Legal
 
   -- ---- the whole check
