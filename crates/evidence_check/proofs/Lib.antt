@@ -1,0 +1,17 @@
+pub mod Places
+pub mod Vectors
+pub mod Duals
+pub mod GoodSteps
+pub mod Tells
+pub mod WrittenSums
+pub mod CheckedSums
+pub mod CheckedSteps
+pub mod CheckedKeeps
+pub mod WholeCheck
+pub mod CaseChecked
+pub mod AllSteps
+pub mod AddedSteps
+pub mod PValues
+pub mod LoadSteps
+pub mod Hypotheses
+pub mod SumAnswers

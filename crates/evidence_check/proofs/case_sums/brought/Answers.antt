@@ -1,0 +1,7 @@
+use Rattle.std.proofs.Common.{rules}
+use Rattle.evidence_check.proofs.Hypotheses.{as_many}
+use Rattle.evidence_check.proofs.SumAnswers.{brought_is}
+use Rattle.evidence_check.proofs.case_sums.brought.Goals as goal
+
+pub returns : goal.returns
+returns g c = brought_is _ _ _ _ _ _ _ _ _ (as_many c.args.earlier.now) _ c.weight.ensures (c.added.ensures _ _ (λ e v b p. search rules) (λ e v b p. search rules))

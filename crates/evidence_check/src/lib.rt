@@ -1,0 +1,13 @@
+//! Evidence for the rejections of a case, and its checker, which removes no hypothesis.
+#![tactic(auto)]
+
+mod case_sums;
+mod event;
+mod evidence;
+pub mod laws;
+mod loading;
+mod sums;
+mod verdict;
+
+pub use evidence::{Evidence, KeepProof, ProofStep, Steps};
+pub use verdict::{CheckWide, Reason, Verdict};

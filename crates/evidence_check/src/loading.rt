@@ -1,0 +1,108 @@
+//! The numbers of a case as evidence is checked with them.
+ghost use Rattle.std.specs.Prelude.{◌≡◌, ◌<◌, length, true};
+ghost use Rattle.field_core.specs.Kind.{Parts};
+ghost use Rattle.fraction.specs.View.{number_of};
+ghost use Rattle.case_model.specs.Draft.{is_p_value};
+ghost use Rattle.case_model.specs.Sums.{number_at};
+ghost use Rattle.case_model.specs.CaseView.{content};
+ghost use Rattle.case_numbers.specs.Numbers.{IsStoredIn};
+ghost use Rattle.evidence_check.specs.CaseCheck.{IsSingle, p_values_of, loaded_case, edge_load, row_load, component_load, all_loads};
+
+use crate::event::Event;
+use crate::sums::{all_below, placed};
+use case_model::{Case, Inputs};
+use case_numbers::CaseNumber;
+use eps_quotient::EpsQuotient;
+use field_core::Place;
+use fraction::Fraction;
+
+/// Numbers that evidence is checked in.
+pub trait EvidenceNumber: CaseNumber {
+    /// What a case is loaded in is what they store.
+    ghost stored_is: { (x : Parts) → IsStoredIn Self.numbers x → Self.IsStored x };
+}
+
+impl EvidenceNumber for Fraction {
+    ghost stored_is = { λ x h. h };
+}
+
+impl EvidenceNumber for EpsQuotient {
+    ghost stored_is = { λ x h. h };
+}
+
+/// The weight of a hypothesis in a component.
+#[tactic(auto, unfolding(crate::specs::CaseCheck::loaded_case))]
+pub fn weight<F: CaseNumber>(case: &Case, c: usize, k: usize) -> F
+    requires c { c < length (content case.now).components }
+    requires k { k < length (content case.now).names }
+    ensures { F.parts result ≡ (loaded_case F.kind F.numbers (content case.now)).weight c k }
+{
+    F::weight(&case.weight(c, k))
+}
+
+/// The edge from a hypothesis to a hypothesis in a component; 0 where it can't be loaded.
+#[tactic(auto, unfolding(crate::specs::CaseCheck::loaded_case, crate::specs::CaseCheck::written_edge))]
+pub fn edge<F: CaseNumber>(case: &Case, c: usize, l: usize, k: usize) -> F
+    requires c { c < length (content case.now).components }
+    requires l { l < length (content case.now).names }
+    requires k { k < length (content case.now).names }
+    ensures { F.parts result ≡ (loaded_case F.kind F.numbers (content case.now)).edge c l k }
+{
+    match F::edge(case.edge(c, l, k)) {
+        Ok(edge) => edge,
+        Err(_) => F::zero(),
+    }
+}
+
+/// The p-value of a hypothesis.
+#[tactic(auto, unfolding(case_model::specs::Sums::ratio_at), using(crate::proofs::PValues::p_at))]
+pub fn p_value(case: &Case, k: usize) -> Fraction
+    requires single { IsSingle (content case.now).inputs }
+    requires k { k < length (content case.now).names }
+    ensures value { number_of result ≡ number_at (p_values_of (content case.now).inputs) k }
+    ensures range { is_p_value result ≡ true }
+{
+    match case.inputs() {
+        Inputs::Single(p_values) => p_values.as_slice()[k],
+        _ => unreachable!(),
+    }
+}
+
+/// Whether an edge can be loaded.
+#[tactic(auto, unfolding(crate::specs::CaseCheck::edge_load, crate::specs::CaseCheck::written_edge))]
+fn load_edge<F: CaseNumber>(case: &Case, c: usize, l: usize, k: usize) -> Result<(), Event>
+    requires c { c < length (content case.now).components }
+    requires l { l < length (content case.now).names }
+    requires k { k < length (content case.now).names }
+    ensures { result ≡ edge_load F.numbers (content case.now) c l k }
+{
+    placed(c, Place::Edge(l, k), F::edge(case.edge(c, l, k)))?;
+    Ok(())
+}
+
+/// Whether the edges from `l` in a component can be loaded.
+#[tactic(auto, unfolding(crate::specs::CaseCheck::row_load))]
+fn load_row<F: CaseNumber>(case: &Case, c: usize, l: usize) -> Result<(), Event>
+    requires c { c < length (content case.now).components }
+    requires l { l < length (content case.now).names }
+    ensures { result ≡ row_load F.numbers (content case.now) c l }
+{
+    all_below(case.size(), |k| load_edge::<F>(case, c, l, k))
+}
+
+/// Whether the edges of a component can be loaded.
+#[tactic(auto, unfolding(crate::specs::CaseCheck::component_load))]
+fn load_component<F: CaseNumber>(case: &Case, c: usize) -> Result<(), Event>
+    requires c { c < length (content case.now).components }
+    ensures { result ≡ component_load F.numbers (content case.now) c }
+{
+    all_below(case.size(), |l| load_row::<F>(case, c, l))
+}
+
+/// Whether all edges can be loaded.
+#[tactic(auto, unfolding(crate::specs::CaseCheck::all_loads))]
+pub fn load<F: CaseNumber>(case: &Case) -> Result<(), Event>
+    ensures { result ≡ all_loads F.numbers (content case.now) }
+{
+    all_below(case.components(), |c| load_component::<F>(case, c))
+}
