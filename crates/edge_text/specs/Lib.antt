@@ -1,3 +1,5 @@
+pub mod CanonicalStatements
+pub mod CanonicalText
 pub mod Faults
 pub mod Grammar
 pub mod Reading

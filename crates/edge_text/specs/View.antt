@@ -1,5 +1,5 @@
 -- Words and faults as contracts of the reader's parts see them.
-use Rattle.std.specs.Prelude.{◌⊎◌, ◌≡◌, ℕ, List, ◌∷◌, Option, Some, None, false, true, map, length, ◌<◌, codes}
+use Rattle.std.specs.Prelude.{◌⊎◌, ◌≡◌, ℕ, List, [], ◌∷◌, ◌++◌, Option, Some, None, false, true, map, length, ◌<◌, codes}
 use Rattle.field_core.specs.declared.ratio.Ratio.{Ratio}
 use Rattle.case_model.specs.declared.draft.Draft.{Draft}
 use Rattle.case_model.specs.declared.draft_component.DraftComponent.{DraftComponent}
@@ -20,6 +20,7 @@ use Rattle.edge_text.specs.declared.reading.Reading.{Reading}
 use Rattle.edge_text.specs.declared.reading.Said.{Said}
 use Rattle.text_lines.specs.Lines.{Row}
 use Rattle.text_lines.specs.Words.{words_of}
+use Rattle.text_lines.specs.Spelling.{line_spelt}
 use Rattle.edge_expression.specs.EntryReading.{IsEntryText, IsExprFault}
 use Rattle.edge_text.specs.Grammar.{Words, AreSomeNumbers}
 use Rattle.edge_text.specs.Faults.{NamedNumbers, AreNamedNumbers, step_of, Place, Values, Block, Weights, Edges, Spends, Steps, named, Stands, IsBad, LeadsTo, IsWhole, MustFollow, IsFaultFrom}
@@ -135,3 +136,9 @@ IsUnfinishedAt r kind = ((alpha : Ratio) → (names : Words) → MustFollow (pla
 -- these lines may stand, one behind the other, behind this level and the names, and this was said
 abbrev pub AreRead : List (List ℕ) → Words → Said → Type 0
 AreRead lines names said = (alpha : Ratio) → LeadsTo (Values (named alpha names)) lines (draft_said alpha names said)
+
+-- ---- texts that are written
+
+-- a line of these words, and its end
+abbrev pub line_of : Words → List ℕ
+line_of words = line_spelt words ++ 10 ∷ []

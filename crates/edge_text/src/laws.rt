@@ -1,4 +1,5 @@
-//! Laws of texts: each says one draft, or has one first fault.
+//! Laws of texts: each says one draft, or has one first fault; and canonical texts say their cases.
+ghost use Rattle.edge_text.specs.CanonicalStatements.{CanonicalTextsReadBack, CanonicalTextsTellCasesApart, CanonicalTextsAreCanonical};
 ghost use Rattle.edge_text.specs.TextStatements.{TextsSayOneDraft, TextsHaveOneFault, TextsSayOrFail, TextsDontSayAndFail, FirstFaultsEndDocuments, WhereNoneGoesOnIsFault, UnfinishedTextsEnd, TextsHaveOneCase, TextsHaveOneRefusal, FaultsArentRefusals, CasesHaveNoFault};
 
 /// A text says at most one draft.
@@ -31,4 +32,12 @@ pub fn texts_have_one_reading()
     ensures refusal { TextsHaveOneRefusal }
     ensures line { FaultsArentRefusals }
     ensures apart { CasesHaveNoFault }
+{}
+
+/// The canonical text of a case says that case. Cases of another content have another one, and the case that is read of a
+/// canonical text has that canonical text.
+pub fn canonical_texts_read_back()
+    ensures back { CanonicalTextsReadBack }
+    ensures apart { CanonicalTextsTellCasesApart }
+    ensures again { CanonicalTextsAreCanonical }
 {}

@@ -1,0 +1,141 @@
+-- The canonical text of a case: one spelling for each case.
+use Rattle.std.specs.Prelude.{ℕ, ◌+◌, ◌/◌, ◌%◌, ◌==◌, ◌&&◌, Bool, List, [], ◌∷◌, ◌++◌, map, length, get_or, codes, if◌then◌else◌}
+use Rattle.std.specs.Fmt.{decimal}
+use Rattle.std.specs.List.{flat_map, list_all}
+use Rattle.field_core.specs.declared.ratio.Ratio.{Ratio}
+use Rattle.field_core.specs.View.{terms}
+use Rattle.fraction.specs.Spelling.{spelling}
+use Rattle.fraction.specs.Tests.{is_zero, is_one}
+use Rattle.case_model.specs.declared.component.Component.{Component}
+use Rattle.case_model.specs.declared.draft_stages.Arrival.{Arrival}
+use Rattle.case_model.specs.declared.inputs.Inputs.{Inputs}
+use Rattle.case_model.specs.declared.inputs.Inputs.TheVariants.{Bare, Single, Staged}
+use Rattle.case_model.specs.declared.inputs.Stages.{Stages}
+use Rattle.case_model.specs.declared.spend.Spend.{Spend}
+use Rattle.case_model.specs.declared.spend.Spend.TheVariants.{Shares, Table}
+use Rattle.case_model.specs.declared.spend_step.SpendStep.{SpendStep}
+use Rattle.case_model.specs.Content.{Content}
+use Rattle.case_model.specs.Sums.{ratio_at}
+use Rattle.edge_expression.specs.EntryTexts.{entry_text}
+use Rattle.text_lines.specs.Spelling.{text_of}
+use Rattle.edge_text.specs.Grammar.{Words}
+
+-- ---- the words of single lines
+
+-- a number, in lowest terms
+abbrev pub number_word : Ratio → List ℕ
+number_word x = spelling (terms x)
+
+-- the name of the hypothesis at a position
+abbrev pub name_at : List (List ℕ) → ℕ → List ℕ
+name_at names i = get_or names i []
+
+-- the level
+abbrev pub alpha_words : Ratio → Words
+alpha_words alpha = codes "alpha" ∷ number_word alpha ∷ []
+
+-- the names
+abbrev pub names_words : List (List ℕ) → Words
+names_words names = codes "hypotheses" ∷ names
+
+-- the p-values
+abbrev pub p_words : List Ratio → Words
+p_words ps = codes "p" ∷ map number_word ps
+
+-- the share of a component
+abbrev pub share_words : Ratio → Words
+share_words share = codes "component" ∷ number_word share ∷ []
+
+-- its weights
+abbrev pub weights_words : List Ratio → Words
+weights_words weights = codes "weights" ∷ map number_word weights
+
+-- the edge from `i` to `j`
+abbrev pub edge_words : List (List ℕ) → ℕ → ℕ → List Ratio → Words
+edge_words names i j entry = codes "edge" ∷ name_at names i ∷ name_at names j ∷ entry_text entry ∷ []
+
+-- how many stages there are
+abbrev pub stages_words : ℕ → Words
+stages_words count = codes "stages" ∷ decimal count ∷ []
+
+-- the fractions that a hypothesis spends
+abbrev pub spend_words : List ℕ → List Ratio → Words
+spend_words name fractions = codes "spend" ∷ name ∷ map number_word fractions
+
+-- a step of the table of a hypothesis
+abbrev pub table_words : List ℕ → SpendStep → Words
+table_words name step = codes "table" ∷ name ∷ number_word step.from ∷ map number_word step.levels
+
+-- a p-value that arrived
+abbrev pub arrive_words : List (List ℕ) → Arrival → Words
+arrive_words names a = codes "arrive" ∷ name_at names a.hypothesis ∷ decimal a.stage ∷ number_word a.p ∷ []
+
+-- ---- the lines of a case, each by its words
+
+-- the coefficient of a power of epsilon is 0
+abbrev pub is_zero_at : List Ratio → ℕ → Bool
+is_zero_at entry power = is_zero (terms (ratio_at entry power))
+
+-- each coefficient of an edge is 0
+unfoldable pub is_absent : List Ratio → Bool
+is_absent entry = is_zero_at entry 0 && is_zero_at entry 1 && is_zero_at entry 2 && is_zero_at entry 3 && is_zero_at entry 4
+
+-- the edge at a place of a table, row by row: place `i * m + j` of `m` rows and columns has the edge from `i` to `j`; nothing where it is 0
+unfoldable pub edge_lines : List (List ℕ) → ℕ → List Ratio → List Words
+edge_lines names place entry = if is_absent entry then [] else edge_words names (place / length names) (place % length names) entry ∷ []
+
+-- the edges of a table that aren't 0, in its order, so by ascending first and then second end; the first entry has this place
+abbrev pub table_lines : List (List ℕ) → ℕ → List (List Ratio) → List Words
+table_lines names place [] = []
+table_lines names place (entry ∷ entries) = edge_lines names place entry ++ table_lines names (place + 1) entries
+
+-- there is one component, and its share is 1
+unfoldable pub is_alone : List Component → Bool
+is_alone ks = length ks == 1 && list_all (λ k. is_one (terms k.share)) ks
+
+-- the share of a component, which isn't written of one that is alone
+abbrev pub share_lines : Bool → Ratio → List Words
+share_lines alone share = if alone then [] else share_words share ∷ []
+
+-- a component: its share, its weights and its edges
+unfoldable pub block_lines : List (List ℕ) → Bool → Component → List Words
+block_lines names alone k = share_lines alone k.share ++ weights_words k.weights ∷ table_lines names 0 k.edges
+
+-- the components
+unfoldable pub blocks_lines : List (List ℕ) → List Component → List Words
+blocks_lines names ks = flat_map (block_lines names (is_alone ks)) ks
+
+-- what a hypothesis spends: one line of fractions, or a line for each step of a table, be there one or more
+unfoldable pub spend_lines : List ℕ → Spend → List Words
+spend_lines name (Shares fractions) = spend_words name fractions ∷ []
+spend_lines name (Table steps) = map (table_words name) steps
+
+-- what hypotheses spend, in their order
+abbrev pub spends_lines : List (List ℕ) → List Spend → List Words
+spends_lines [] spends = []
+spends_lines (name ∷ names) [] = []
+spends_lines (name ∷ names) (spend ∷ spends) = spend_lines name spend ++ spends_lines names spends
+
+-- the stages; the p-values that arrived keep their order
+unfoldable pub stages_lines : List (List ℕ) → Stages → List Words
+stages_lines names s = stages_words s.count ∷ spends_lines names s.spend ++ map (arrive_words names) s.arrivals
+
+-- the p-values of hypotheses, where there are some
+abbrev pub p_lines : Inputs → List Words
+p_lines Bare = []
+p_lines (Single ps) = p_words ps ∷ []
+p_lines (Staged s) = []
+
+-- the stages, where there are some
+abbrev pub late_lines : List (List ℕ) → Inputs → List Words
+late_lines names Bare = []
+late_lines names (Single ps) = []
+late_lines names (Staged s) = stages_lines names s
+
+-- the lines of a case
+unfoldable pub canonical_lines : Content → List Words
+canonical_lines c = alpha_words c.alpha ∷ names_words c.names ∷ p_lines c.inputs ++ (blocks_lines c.names c.components ++ late_lines c.names c.inputs)
+
+-- one blank between words, and a line feed behind each line
+unfoldable pub canonical_text : Content → List ℕ
+canonical_text c = text_of (canonical_lines c)
