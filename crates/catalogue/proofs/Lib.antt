@@ -4,5 +4,6 @@ pub mod FoundEdges
 pub mod KnownEnds
 pub mod Lists
 pub mod RatiosOf
+pub mod SampleInputs
 pub mod Textbooks
 pub mod Told

@@ -18,6 +18,10 @@ pub record WeightedGraph : Type 0 where
 abbrev pub name_of : ℕ → List ℕ
 name_of i = 72 ∷ decimal (i + 1)
 
+-- the names of so many hypotheses
+abbrev pub names_of : ℕ → List (List ℕ)
+names_of n = map name_of (range_with_len 0 n)
+
 -- an edge of a draft, where there is one
 abbrev pub edge_with : ℕ → ℕ → Option (List Ratio) → List DraftEdge
 edge_with i j None = []
@@ -41,7 +45,7 @@ component_of G = record { share = one_ratio; weights = map G.weight (range_with_
 -- the draft of a graph over the hypotheses H1, H2 and so on, at a level, with these p-values
 unfoldable pub draft_of : WeightedGraph → Ratio → List Ratio → Draft
 draft_of G alpha ps = record {
-  names = map name_of (range_with_len 0 G.size);
+  names = names_of G.size;
   alpha = alpha;
   p = map Some ps;
   components = component_of G ∷ [];

@@ -2,7 +2,7 @@
 ghost use Rattle.std.specs.Prelude.{◌≡◌, ◌<◌, ◌+◌, ◌++◌, ◌⊎◌, map, length, Some, IfOk, IfErr, OnOk, Ok, Err};
 ghost use Rattle.std.specs.List.{flat_map, range_with_len};
 ghost use Rattle.case_model.specs.CaseView.{content};
-ghost use Rattle.catalogue.specs.WeightedGraphs.{name_of, edge_in, edges_from, edges_of, draft_of};
+ghost use Rattle.catalogue.specs.WeightedGraphs.{name_of, names_of, edge_in, edges_from, edges_of, draft_of};
 ghost use Rattle.catalogue.specs.Makings.{made};
 ghost use Rattle.catalogue.specs.declared.fault.CatalogueFault.TheVariants.{NoMemory as OutOfMemory};
 
@@ -24,9 +24,9 @@ fn name(alloc: Global, i: usize) -> Result<Text, NoMemory>
     Text::copy(alloc, bytes.as_slice())
 }
 
-/// The names of so many hypotheses.
-fn names(alloc: Global, count: usize) -> Result<List<Text>, NoMemory>
-    ensures { IfOk result (λ names. names ≡ map name_of (range_with_len 0 count)) }
+/// The names of so many hypotheses: `H1`, `H2` and so on.
+pub fn names(alloc: Global, count: usize) -> Result<List<Text>, NoMemory>
+    ensures { IfOk result (λ names. names ≡ names_of count) }
 {
     let mut names = List::new(alloc);
     for i in 0..count {

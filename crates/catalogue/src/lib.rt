@@ -13,6 +13,7 @@ mod sample_case;
 mod sizes;
 
 pub use chains::{fallback, fixed_sequence};
+pub use draft::names;
 pub use equal::holm;
 pub use fault::CatalogueFault;
 pub use gates::{improved_parallel, parallel};

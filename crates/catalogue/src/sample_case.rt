@@ -1,6 +1,7 @@
 //! Samples.
 ghost use Rattle.std.specs.Prelude.{◌≡◌, ◌≤◌, ◌<◌, ◌+◌, ◌⊎◌, ℕ, IfOk, IfErr, Ok, Err};
 ghost use Rattle.case_model.specs.CaseView.{content};
+ghost use Rattle.case_model.specs.declared.inputs.Inputs.TheVariants.{Single};
 ghost use Rattle.catalogue.specs.Samples.{number_after, named_by, next_number, drawn_from, sample_p_values, sample_ends};
 ghost use Rattle.catalogue.specs.Makings.{sample_case};
 ghost use Rattle.catalogue.specs.declared.fault.CatalogueFault.TheVariants.{NoMemory as OutOfMemory};
@@ -106,6 +107,7 @@ fn ends(
 pub fn sample(alloc: Global, n: u64, seed: u64) -> Result<Case, CatalogueFault>
     ensures case { IfOk result (λ c. sample_case n seed ≡ Ok (content c)) }
     ensures fault { IfErr result (λ fault. (fault ≡ OutOfMemory) ⊎ (sample_case n seed ≡ Err fault)) }
+    ensures p_values { IfOk result (λ c. (content c).inputs ≡ Single (sample_p_values n seed)) }
 {
     let size = size_of(n)?;
     if seed >= SEEDS {

@@ -1,0 +1,7 @@
+pub mod BundleRuns
+pub mod CaseRuns
+pub mod ChainRuns
+pub mod HolmRuns
+pub mod NeverWide
+pub mod ShortRemovals
+pub mod ShortRuns

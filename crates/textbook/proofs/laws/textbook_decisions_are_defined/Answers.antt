@@ -1,0 +1,8 @@
+use Rattle.textbook.proofs.NeverWide.{holm_decisions, fallback_decisions}
+use Rattle.textbook.proofs.laws.textbook_decisions_are_defined.Goals as goal
+
+pub returns-clause-holm : goal.returns-clause-holm
+returns-clause-holm c = holm_decisions
+
+pub returns-clause-fallback : goal.returns-clause-fallback
+returns-clause-fallback c = fallback_decisions

@@ -1,0 +1,24 @@
+-- Written runs of decisions on the graphs of textbook rules.
+use Rattle.std.specs.Prelude.{◌≡◌, ◌<◌, ◌≤◌, ℕ, suc, pos, true, length}
+use Rattle.field_core.specs.Fractions.{fraction}
+use Rattle.field_core.specs.declared.place.WideAt.{WideAt}
+use Rattle.case_model.specs.Content.{Content, entangled, is_plain}
+use Rattle.case_model.specs.TextbookGraphs.{IsHolmGraph, IsFallbackGraph}
+use Rattle.case_model.specs.Validity.{IsValidContent}
+use Rattle.sequential.specs.WideDecisions.{IsWideDecision}
+use Rattle.sequential.specs.declared.priority.Priority.TheVariants.{First, Last}
+use Rattle.textbook.specs.TextbookRuns.{total}
+
+-- By neither of the priorities `first` and `last` is an operation of the decision undefined.
+abbrev pub IsNeverWide : Content → Type 0
+IsNeverWide c = (n : ℕ) (w : WideAt) → ¬ IsWideDecision c First n w × ¬ IsWideDecision c Last n w
+
+-- Cases of Holm's graph are never too wide.
+abbrev pub HolmDecisionsAreDefined : Type 0
+HolmDecisionsAreDefined = (c : Content) → IsValidContent c → is_plain c ≡ true → IsHolmGraph (entangled c) → IsNeverWide c
+
+-- Cases of a chain whose weights have a common denominator of at most 100,000,000 are never too wide.
+abbrev pub FallbackDecisionsAreDefined : Type 0
+FallbackDecisionsAreDefined =
+    (c : Content) (a : ℕ → ℕ) (d : ℕ) → IsValidContent c → is_plain c ≡ true → d < 100000000 → total a (length c.names) ≤ suc d
+    → IsFallbackGraph (λ i. fraction (pos (a i)) (pos (suc d))) (entangled c) → IsNeverWide c

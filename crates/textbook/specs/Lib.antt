@@ -1,0 +1,2 @@
+pub mod DefinedDecisions
+pub mod TextbookRuns

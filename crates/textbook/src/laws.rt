@@ -1,0 +1,16 @@
+//! Laws of written runs on the graphs of textbook rules. Each function states laws, and does nothing.
+
+ghost use Rattle.textbook.specs.TextbookRuns.{HolmRemovalsAreDefined, FallbackRemovalsAreDefined};
+ghost use Rattle.textbook.specs.DefinedDecisions.{HolmDecisionsAreDefined, FallbackDecisionsAreDefined};
+
+/// On the graphs of Holm's rule and of the fallback rule no removal is refused, in whatever order, and no level.
+pub fn textbook_removals_are_defined()
+    ensures holm { HolmRemovalsAreDefined }
+    ensures fallback { FallbackRemovalsAreDefined }
+{}
+
+/// On cases of these graphs no decision by the priority `first` or `last` is too wide.
+pub fn textbook_decisions_are_defined()
+    ensures holm { HolmDecisionsAreDefined }
+    ensures fallback { FallbackDecisionsAreDefined }
+{}
