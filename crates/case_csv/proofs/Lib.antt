@@ -1,0 +1,6 @@
+pub mod CellFacts
+pub mod CsvFaults
+pub mod Drafts
+pub mod RecordsLeft
+pub mod RowCells
+pub mod RowsRead

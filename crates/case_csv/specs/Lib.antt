@@ -1,0 +1,5 @@
+pub mod Faults
+pub mod Reading
+pub mod Records
+pub mod Table
+pub mod View
