@@ -1,0 +1,90 @@
+ghost use Rattle.std.specs.Prelude.{◌≡◌, ◌≢◌, ◌⊎◌, true, IfOk, IfErr, length};
+ghost use Rattle.case_model.specs.Draft.{have_known_ends, have_known_arrivals};
+ghost use Rattle.case_model.specs.declared.fault.CaseFault.TheVariants.{NoMemory as OutOfMemory};
+ghost use Rattle.case_csv.specs.Reading.{IsCaseOf, IsCsvFault};
+ghost use Rattle.case_csv.specs.Table.{cells_of};
+ghost use Rattle.case_csv.specs.Faults.{IsFirstFault};
+ghost use Rattle.case_csv.specs.View.{IsOfRows, IsKeptDraft, one_component};
+ghost use Rattle.case_csv.specs.declared.fault.CsvFault.TheVariants as faults;
+
+use crate::cells::width;
+use crate::records::{next, open};
+use crate::rows::{header, rows};
+use crate::table::Table;
+use crate::{CsvFault, RowKind};
+use case_model::{Case, CaseFault, Draft, DraftComponent, Refused};
+use csv::ByteRecord;
+use field_core::{List, NoMemory, Number, Text};
+use fraction::Fraction;
+use std::alloc::Global;
+
+/// The case that CSV says at a level, or the first record that can't stand, or else the fault of the draft; or `NoMemory`.
+///
+/// The first record is the header: a cell that is empty or `hypothesis`, then `weight`, `p` and the names. Each further
+/// record is a row: a name of the header, in its order, a weight and a p-value, which are numerals that `Fraction::parse`
+/// reads, and for each hypothesis an expression that `read_entry` reads, the weight of the edge to it. A cell of a p-value
+/// that is empty or `NA` is a p-value that isn't given, and a zero from a hypothesis to itself is no edge. Spaces and tabs
+/// around a field are ignored. There is one component, of share 1. The draft is looked at once the records are read.
+pub fn read_csv(alloc: Global, bytes: &[u8], alpha: Fraction) -> Result<Case, CsvFault>
+    ensures case { IfOk result (IsCaseOf bytes.now alpha) }
+    ensures fault { IfErr result (IsCsvFault bytes.now alpha) }
+{
+    match draft(alloc, bytes, alpha)?.finish(alloc) {
+        Ok(case) => Ok(case),
+        Err(refused) => Err(csv_fault(refused)),
+    }
+}
+
+/// The draft that CSV says at a level; where it has more than 64 names, its edges are left out.
+fn draft(alloc: Global, bytes: &[u8], alpha: Fraction) -> Result<Draft, CsvFault>
+    ensures found { IfOk result (IsKeptDraft (cells_of bytes.now) alpha) }
+    ensures ends { IfOk result (λ d. have_known_ends d ≡ true) }
+    ensures arrivals { IfOk result (λ d. have_known_arrivals d ≡ true) }
+    ensures fault { IfErr result (IsOfRows (IsFirstFault (cells_of bytes.now))) }
+{
+    let mut records = open(alloc, bytes);
+    let mut record = ByteRecord::new(alloc);
+    let found = next(&mut records, &mut record)?;
+    if !found {
+        return Err(CsvFault::Row(1, 1, RowKind::NoHeader));
+    }
+    let names = header(alloc, &record)?;
+    let columns = width(&record);
+    let table = rows(alloc, &mut records, &mut record, names.as_slice(), columns)?;
+    Ok(one_component(alloc, alpha, names, table)?)
+}
+
+/// The draft of a table.
+fn one_component(
+    alloc: Global,
+    alpha: Fraction,
+    names: List<Text>,
+    table: Table,
+) -> Result<Draft, NoMemory>
+    ensures { IfOk result (λ d. d ≡ one_component alpha names table) }
+{
+    let Table { weights, p, edges } = table;
+    let mut components = List::new(alloc);
+    components.push(DraftComponent {
+        share: Fraction::one(),
+        weights,
+        edges,
+    })?;
+    Ok(Draft {
+        names,
+        alpha,
+        p,
+        components,
+        stages: None,
+    })
+}
+
+/// The fault of CSV whose draft gives no case.
+fn csv_fault(refused: Refused) -> CsvFault
+    ensures { ((refused.fault ≡ OutOfMemory) × (result ≡ faults.NoMemory)) ⊎ ((refused.fault ≢ OutOfMemory) × (result ≡ faults.Case refused)) }
+{
+    match refused.fault {
+        CaseFault::NoMemory => CsvFault::NoMemory,
+        _ => CsvFault::Case(refused),
+    }
+}
