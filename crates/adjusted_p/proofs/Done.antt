@@ -45,7 +45,9 @@ module _ (c : Content) (t : TrialContent) (xs : List Adjusted) (R : IsAdjustingR
   done : AreRunValues (entangled (at_level c one_ratio)) (number_at t.p_values) whole number_zero R.steps
   done = record {
     steps = R.are_steps.values;
-    end = subst (λ js. (j : ℕ) → ¬ IsLeastToOne (entangled (at_level c one_ratio)) (number_at t.p_values) (left_after whole js) j) (sym R.are_steps.removed) no_ratio;
+    end =
+        subst (λ js. (j : ℕ) → ¬ IsLeastToOne (entangled (at_level c one_ratio)) (number_at t.p_values) (left_after whole js) j)
+        (sym R.are_steps.removed) no_ratio;
   }
 
   each_value : (j : ℕ) → IsAdjustedIn c j (adjusted_at xs j).value (adjusted_at xs j).reached

@@ -26,4 +26,6 @@ one_short = refl
 
 pub one_level : is_level one_ratio ≡ true
 unfolding is_level
-one_level = ap₂ (λ a b. a && b) one_short (ap (λ z. not (at_most z number_zero) && at_most z number_one) one_is ∙ ap₂ (λ a b. not a && b) one_above (at_most_refl number_one))
+one_level =
+    ap₂ (λ a b. a && b) one_short
+    (ap (λ z. not (at_most z number_zero) && at_most z number_one) one_is ∙ ap₂ (λ a b. not a && b) one_above (at_most_refl number_one))

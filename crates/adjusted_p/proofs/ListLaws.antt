@@ -43,11 +43,14 @@ same_lists (x ∷ xs) (y ∷ ys) e h = ap₂ (λ b bs. b ∷ bs) (h 0 (omega ari
 
 same_value : (c : Content) (x y : Adjusted) (j : ℕ) → ForSingle c.inputs (λ ps. IsAdjusted (entangled c) (number_at ps) j x.value x.reached)
     → ForSingle c.inputs (λ ps. IsAdjusted (entangled c) (number_at ps) j y.value y.reached) → x ≡ y
-same_value c x y j = for_both (λ ps. IsAdjusted (entangled c) (number_at ps) j x.value x.reached) (λ ps. IsAdjusted (entangled c) (number_at ps) j y.value y.reached) (x ≡ y)
+same_value c x y j =
+    for_both (λ ps. IsAdjusted (entangled c) (number_at ps) j x.value x.reached) (λ ps. IsAdjusted (entangled c) (number_at ps) j y.value y.reached) (x ≡ y)
     (λ ps a b. let e = adjusted_unique (entangled c) (number_at ps) j x.value y.value x.reached y.reached a b in ap₂ (λ v r. record { value = v; reached = r }) e.0 e.1) c.inputs
 
 pub lists_unique : (c : Content) (xs ys : List Adjusted) → AreAdjusted c xs → AreAdjusted c ys → xs ≡ ys
-lists_unique c xs ys A B = same_lists xs ys (A.count ∙ sym B.count) (λ j h. let l = subst (λ n. j < n) A.count h in same_value c (adjusted_at xs j) (adjusted_at ys j) j (A.each j l) (B.each j l))
+lists_unique c xs ys A B =
+    same_lists xs ys (A.count ∙ sym B.count)
+    (λ j h. let l = subst (λ n. j < n) A.count h in same_value c (adjusted_at xs j) (adjusted_at ys j) j (A.each j l) (B.each j l))
 
 -- ---- the written run
 

@@ -164,7 +164,9 @@ module _ (E : EntangledGraph) (p : ℕ → Number) where
       -- at each level from 0 to 1 the closed test rejects just those whose values are at most the level
       table_decides : (j : ℕ) → Decides E p j (T j).value (T j).reached
       table_decides j a u =
-          let D = complete_decides E p a V u.low (leading a xs) (leading_legal a xs whole number_zero R.steps) (leading_complete a V u.high xs whole number_zero u.low R.steps R.end) j in (
+          let D =
+          complete_decides E p a V u.low (leading a xs) (leading_legal a xs whole number_zero R.steps)
+          (leading_complete a V u.high xs whole number_zero u.low R.steps R.end) j in (
             λ r. let h = leading_in a xs table.valued j (D.1 r) in (listed_reached xs table.valued j h.0, h.1),
             λ h. D.0 (in_leading a xs whole number_zero R.steps table.valued j (reached_listed j h.0) h.1),
           )
@@ -175,7 +177,8 @@ module _ (E : EntangledGraph) (p : ℕ → Number) where
       table_in_range : (j : ℕ) → IsInRange (T j).value (T j).reached
       table_in_range j = record {
         unit = elim (true_or_false (T j).reached) [
-          | inl t ↦ let l = reached_listed j t in record { low = later_above xs whole number_zero R.steps table.valued j l; high = at_most_one xs whole number_zero zero_at_most_one R.steps table.valued j l }
+          | inl t ↦ let l =
+              reached_listed j t in record { low = later_above xs whole number_zero R.steps table.valued j l; high = at_most_one xs whole number_zero zero_at_most_one R.steps table.valued j l }
           | inr f ↦ subst IsUnit (sym (value_one j f)) one_unit
         ];
         one = value_one j;

@@ -91,7 +91,9 @@ module _ (c : Content) (level : c.alpha ≡ one_ratio) where
       let j = x.line.hypothesis in
       let L = least_with c old T defined j (terms x.ratio) least in
       let q = L.0.ratio in
-      let small = legal_at_most (entangled c) (number_at old.p_values) (left_after whole old.rejected) (number_of old.alpha) j q L.0.is_ratio (may_legal c old T j legal) in
+      let small =
+      legal_at_most (entangled c) (number_at old.p_values) (left_after whole old.rejected) (number_of old.alpha) j q L.0.is_ratio
+      (may_legal c old T j legal) in
       record {
         next = record { least = L.0; small = subst (λ z. q ≤ε z) (at_one old T) small };
         greater = subst₂ (λ b r. IsGreater b r (number_of v)) (sym last) (sym L.1) G;
@@ -117,7 +119,10 @@ module _ (c : Content) (level : c.alpha ≡ one_ratio) where
           removed = map-append (λ y. y.hypothesis) S.steps (here ∷ []) ∙ ap (λ js. js ++ j ∷ []) A.removed ∙ sym X.step.next.rejected;
           values = subst (λ ps. AreValueSteps E (number_at ps) whole number_zero (S.steps ++ here ∷ [])) (sym X.step.next.p_values)
               (values_next E (number_at old.p_values) whole number_zero S.steps here A.values (subst (λ js. IsValueStep E (number_at old.p_values) (left_after whole js) (last_value number_zero S.steps) here) (sym A.removed) next));
-          is_table = table_next (adjusted_at table) (adjusted_at (set table j (reached_at v))) j v (get_or-set_same table j (reached_at v) not_reached within) (λ i n. get_or-set_other table j i (reached_at v) not_reached n) S.steps A.is_table fresh;
+          is_table =
+              table_next (adjusted_at table) (adjusted_at (set table j (reached_at v))) j v
+              (get_or-set_same table j (reached_at v) not_reached within)
+              (λ i n. get_or-set_other table j i (reached_at v) not_reached n) S.steps A.is_table fresh;
           count = length-set table j (reached_at v) ∙ A.count ∙ ap length (sym X.step.next.p_values);
         };
         last = last_next number_zero S.steps here;
