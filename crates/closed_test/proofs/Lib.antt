@@ -1,0 +1,6 @@
+pub mod LargerSets
+pub mod LeftLists
+pub mod Openings
+pub mod SetSteps
+pub mod SetTables
+pub mod SetAnswers

@@ -1,0 +1,10 @@
+pub mod Paths
+pub mod SetRuns
+pub mod SetWeights
+pub mod SetTests
+pub mod ClosedFaults
+pub mod PathView
+pub mod WeightsView
+pub mod ClosedView
+pub mod Walks
+pub mod Passing

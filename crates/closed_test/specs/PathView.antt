@@ -1,0 +1,12 @@
+-- The way through all sets as contracts see it. (No public contract cites this.)
+use Rattle.std.specs.Prelude.{ℕ, List}
+use Rattle.closed_test.specs.Paths.{IsLeftOutOf}
+use Rattle.closed_test.specs.declared.path.Path.{Path}
+
+-- what its set leaves out, ascending
+abbrev pub left_of : Path → List ℕ
+left_of p = p.left.items
+
+-- its set leaves out its list
+abbrev pub IsPath : Path → Type 0
+IsPath p = IsLeftOutOf p.size p.set p.left.items

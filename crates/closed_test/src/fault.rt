@@ -1,0 +1,36 @@
+//! Why there is no table of all sets.
+use field_core::{NoMemory, WideAt};
+use std::alloc::AllocError;
+
+/// Why there is no table of all sets.
+#[derive(Clone, Copy, PartialEq, Eq, Debug)]
+pub enum ClosedFault {
+    /// There are so many hypotheses, more than 16.
+    TooMany(u64),
+    /// The first set, in the order of sets, whose run is undefined, and the first operation of the run that is.
+    Wide(u32, WideAt),
+    /// Memory ran out.
+    NoMemory,
+}
+
+impl From<NoMemory> for ClosedFault {
+    ghost use Rattle.std.specs.Prelude.{◌≡◌};
+    ghost use Rattle.closed_test.specs.declared.fault.ClosedFault.TheVariants.{NoMemory as OutOfMemory};
+
+    ghost from_gives = { λ _ fault. fault ≡ OutOfMemory };
+
+    fn from(_: NoMemory) -> ClosedFault {
+        ClosedFault::NoMemory
+    }
+}
+
+impl From<AllocError> for ClosedFault {
+    ghost use Rattle.std.specs.Prelude.{◌≡◌};
+    ghost use Rattle.closed_test.specs.declared.fault.ClosedFault.TheVariants.{NoMemory as OutOfMemory};
+
+    ghost from_gives = { λ _ fault. fault ≡ OutOfMemory };
+
+    fn from(_: AllocError) -> ClosedFault {
+        ClosedFault::NoMemory
+    }
+}

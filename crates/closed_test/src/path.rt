@@ -1,0 +1,115 @@
+//! The way through all sets in their order: a set, and the list of the hypotheses that it leaves out.
+ghost use Rattle.std.specs.Prelude.{◌<◌, ◌≤◌, vec_capacity};
+
+use case_model::{added, dropped};
+use field_core::NoMemory;
+use std::alloc::Global;
+
+/// A set of some hypotheses, of which there are at most 16, and the list of those that it leaves out, ascending.
+#[derive(Drop)]
+pub struct Path {
+    size: usize,
+    set: u32,
+    left: Vec<usize>,
+    ghost some: { 0 < size },
+    ghost few: { size ≤ 16 },
+    ghost room: { size ≤ vec_capacity left },
+}
+
+impl Path {
+    ghost use Rattle.std.specs.Prelude.{◌≡◌, ◌<◌, ◌≤◌, ◌++◌, [], ◌∷◌, length, IfOk, MatchOption};
+    ghost use Rattle.field_core.specs.OrderOfSets.{IsAscending, IsListStep, IsLastList};
+    ghost use Rattle.closed_test.specs.Paths.{number_without};
+    ghost use Rattle.closed_test.specs.PathView.{left_of, IsPath};
+
+    /// The first set, that of all hypotheses.
+    pub fn new(alloc: Global, size: usize) -> Result<Path, NoMemory>
+        requires some { 0 < size }
+        requires few { size ≤ 16 }
+        ensures size { IfOk result (λ p. p.size ≡ size) }
+        ensures path { IfOk result IsPath }
+        ensures left { IfOk result (λ p. left_of p ≡ []) }
+    {
+        let left = Vec::with_capacity(alloc, size)?;
+        let sets: u32 = 1 << size;
+        Ok(Path {
+            size,
+            set: sets - 1,
+            left,
+        })
+    }
+
+    /// The set.
+    pub fn set(&self) -> u32
+        requires { IsPath self.now }
+        ensures { result ≡ number_without self.now.size (left_of self.now) }
+    {
+        self.set
+    }
+
+    /// How many hypotheses the set leaves out.
+    pub fn depth(&self) -> usize
+        ensures { result ≡ length (left_of self.now) }
+    {
+        self.left.len()
+    }
+
+    /// Leaves out `k` too, which comes after all that are left out.
+    fn leave_out(&mut self, k: usize)
+        requires path { IsPath self.old }
+        requires after { IsAscending self.old.size 0 (left_of self.old ++ k ∷ []) }
+        ensures size { self.new.size ≡ self.old.size }
+        ensures path { IsPath self.new }
+        ensures left { left_of self.new ≡ left_of self.old ++ k ∷ [] }
+    {
+        self.set = dropped(self.set, k);
+        self.left.push_reserved(k);
+    }
+
+    /// Takes back the last that is left out; `None` where nothing is.
+    fn take_back(&mut self) -> Option<usize>
+        requires { IsPath self.old }
+        ensures size { self.new.size ≡ self.old.size }
+        ensures path { IsPath self.new }
+        ensures left { MatchOption result (left_of self.old ≡ []) (λ k. left_of self.old ≡ left_of self.new ++ k ∷ []) }
+        ensures none { MatchOption result (left_of self.new ≡ []) (λ k. length (left_of self.new) < length (left_of self.old)) }
+    {
+        match self.left.pop() {
+            None => None,
+            Some(last) => {
+                self.set = added(self.set, last);
+                Some(last)
+            }
+        }
+    }
+
+    /// Goes to the next set, and gives the last hypothesis that it leaves out; all others that it leaves out begin what was
+    /// left out before. `None` after the last set; the path is then of no use.
+    pub fn step(&mut self) -> Option<usize>
+        requires { IsPath self.old }
+        ensures size { self.new.size ≡ self.old.size }
+        ensures path { IsPath self.new }
+        ensures step { MatchOption result (IsLastList self.old.size (left_of self.old)) (IsListStep self.old.size (left_of self.old) (left_of self.new)) }
+    {
+        match self.take_back() {
+            None => {
+                self.leave_out(0);
+                Some(0)
+            }
+            Some(last) => {
+                if last + 1 < self.size {
+                    self.leave_out(last);
+                    self.leave_out(last + 1);
+                    return Some(last + 1);
+                }
+                match self.take_back() {
+                    None => None,
+                    Some(before) => {
+                        self.leave_out(before + 1);
+                        Some(before + 1)
+                    }
+                }
+            }
+        }
+    }
+}
