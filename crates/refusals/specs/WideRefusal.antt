@@ -9,7 +9,7 @@ use Rattle.field_core.specs.declared.place.WideAt.{WideAt}
 use Rattle.answers.specs.declared.refusal.Refusal.{Refusal}
 use Rattle.answers.specs.declared.cause.Cause.TheVariants.{TooWide}
 use Rattle.refusals.specs.declared.wide.When.{When}
-use Rattle.refusals.specs.declared.wide.When.TheVariants.{Reading, Step, AdjustedStep}
+use Rattle.refusals.specs.declared.wide.When.TheVariants.{Reading, Step, AdjustedStep, Opening, Arrival}
 use Rattle.answers.specs.Lines.{line}
 use Rattle.refusals.specs.LinePieces.{counted, name_at, two_names}
 
@@ -18,6 +18,8 @@ unfoldable pub when_words : When → List ℕ
 when_words Reading = codes "reading"
 when_words (Step n) = codes "step " ++ decimal n
 when_words (AdjustedStep n) = codes "adjusted step " ++ decimal n
+when_words Opening = codes "opening"
+when_words (Arrival n) = codes "arrival " ++ decimal n
 
 -- what an operation is for
 unfoldable pub place_words : List (List ℕ) → Place → List ℕ

@@ -7,13 +7,16 @@ use answers::{Cause, Refusal};
 use field_core::{List, NoMemory, Op, Place, Text, WideAt};
 use std::alloc::Global;
 
-/// When an operation is written: for a sum of the case, in a step of the decision, or in a step of the run of adjusted
-/// values. Steps count from 1; step 0 is the opening.
+/// When an operation is written: for a sum of the case, in a step of the decision, in a step of the run of adjusted values, in
+/// the opening of a study, or in the settling after an arrival. Steps count from 1, and step 0 is the opening; arrivals count
+/// from 1.
 #[derive(Clone, Copy, PartialEq, Eq, Debug)]
 pub enum When {
     Reading,
     Step(usize),
     AdjustedStep(usize),
+    Opening,
+    Arrival(usize),
 }
 
 /// Appends when an operation is written.
@@ -25,6 +28,8 @@ fn put_when(text: &mut List<u8>, when: When) -> Result<(), NoMemory>
         When::Reading => text.append(b"reading"),
         When::Step(n) => put_counting(text, b"step ", n as u128),
         When::AdjustedStep(n) => put_counting(text, b"adjusted step ", n as u128),
+        When::Opening => text.append(b"opening"),
+        When::Arrival(n) => put_counting(text, b"arrival ", n as u128),
     }
 }
 

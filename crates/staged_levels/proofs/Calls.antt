@@ -6,7 +6,7 @@ use Rattle.case_model.specs.LegalOrder.{IsListed, IsFirst}
 use Rattle.case_model.specs.StagedCase.{IsStagedLegalIn, IsStagedRejectedIn}
 use Rattle.staged_levels.specs.declared.event.Settled.{Settled}
 use Rattle.staged_levels.specs.Studies.{StudyState, start, positions_of, remaining, IsStudyOf, IsSettled}
-use Rattle.staged_levels.specs.StudyCalls.{StudyCall, arrive, reject, settle, Answered, IsRejection, AreFirstRejections, IsCall, AreCalls, AreCallsFromOpening, arrival_in, arrivals_in}
+use Rattle.staged_levels.specs.StudyCalls.{StudyCall, arrive, reject, settle, Answered, IsRejection, AreFirstRejections, Settles, IsCall, AreCalls, AreCallsFromOpening, arrival_in, arrivals_in}
 use Rattle.staged_levels.proofs.StudyFacts.{arrival_leaves, rejection_leaves, study_decides}
 
 -- ---- studies stay studies
@@ -56,6 +56,10 @@ call_appends c old new (reject k) true h = one c old new k h
 call_appends c old new (reject k) false h = none old new (ap (λ s. s.rejected) h)
 call_appends c old new settle true h = first_append c old new h.hypotheses h.rejections
 call_appends c old new settle false h = first_append c old new h.0 h.1
+
+pub settle_appends : (c : Content) (old new : StudyState) → Settles c old new → (more : List Settled) × (new.rejected ≡ old.rejected ++ more)
+unfolding Appends
+settle_appends c old new h = first_append c old new h.hypotheses h.rejections
 
 calls_append : (c : Content) (old new : StudyState) (es : List Answered) → AreCalls c old es new → Appends old new
 calls_append c old new [] e = none old new (ap (λ s. s.rejected) e)

@@ -1,4 +1,11 @@
+pub mod AnyStudy
 pub mod Arrivals
 pub mod Calls
+pub mod CaseArrivals
+pub mod LookLaws
+pub mod LookSteps
 pub mod Settlings
+pub mod StateFacts
 pub mod StudyFacts
+pub mod Turns
+pub mod Values
