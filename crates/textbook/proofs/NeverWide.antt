@@ -1,5 +1,5 @@
 -- Decisions on the graphs of textbook rules are never too wide.
-use Rattle.std.proofs.Common.{◌≡◌, refl, sym, ap, ◌∙◌, subst, inl, inr, ℕ, zero, suc, ◌≤◌, pos, Bool, true, List, [], ◌∷◌, ◌++◌, length, Result, Ok, Err}
+use Rattle.std.proofs.Common.{◌≡◌, refl, sym, ap, ◌∙◌, subst, inl, inr, ℕ, zero, suc, ◌≤◌, arith, pos, Bool, true, List, [], ◌∷◌, ◌++◌, length, Result, Ok, Err}
 use Rattle.field_core.specs.Fractions.{fraction}
 use Rattle.field_core.specs.Sets.{IsIn, dropping, whole}
 use Rattle.field_core.specs.Runs.{IsOrder, left_after}
@@ -12,7 +12,7 @@ use Rattle.case_model.specs.Sums.{number_at}
 use Rattle.case_model.specs.Content.{Content, entangled, is_plain}
 use Rattle.case_model.specs.ClosedTest.{IsLegal}
 use Rattle.case_model.specs.LegalOrder.{IsOrderBy}
-use Rattle.case_model.specs.TextbookGraphs.{IsAlone, equal_graph, chain_graph, IsHolmGraph, IsFallbackGraph}
+use Rattle.case_model.specs.TextbookGraphs.{IsAlone, equal_graph, chain_graph, first_alone, IsHolmGraph, IsSequenceGraph, IsFallbackGraph}
 use Rattle.case_model.specs.Validity.{IsValidContent}
 use Rattle.case_model.proofs.SingleInputs.{for_single}
 use Rattle.removal.specs.InTurn.{removed_in_turn}
@@ -25,8 +25,9 @@ use Rattle.sequential.specs.WideDecisions.{IsWideStep, IsWideRemoval, IsWideDeci
 use Rattle.sequential.specs.declared.priority.Priority.{Priority}
 use Rattle.sequential.specs.declared.priority.Priority.TheVariants.{First, Last}
 use Rattle.field_core.specs.Laws.Prefixes.{bind_ok}
+use Rattle.field_core.proofs.UnitLimits.{zero_is, one_is}
 use Rattle.textbook.specs.TextbookRuns.{Stores, IsNeverRefusedAlone, total}
-use Rattle.textbook.specs.DefinedDecisions.{IsNeverWide, HolmDecisionsAreDefined, FallbackDecisionsAreDefined}
+use Rattle.textbook.specs.DefinedDecisions.{IsNeverWide, HolmDecisionsAreDefined, SequenceDecisionsAreDefined, FallbackDecisionsAreDefined}
 use Rattle.textbook.proofs.ShortRemovals.{IsDefined}
 use Rattle.textbook.proofs.CaseRuns.{net, net_stores, net_size, case_defined}
 use Rattle.textbook.proofs.HolmRuns.{holm_removals}
@@ -92,9 +93,9 @@ module _ (c : Content) (D : (js : List ℕ) → IsOrder (length c.names) whole j
   pub never_wide : IsNeverWide c
   never_wide zero w = (no_opening w, no_opening w)
   never_wide (suc k) w = (
-      for_single (λ ps. IsWideStep c ps First k w) (λ i. ⊥) (λ ps h. first_step k w ps h) c.inputs,
-      for_single (λ ps. IsWideStep c ps Last k w) (λ i. ⊥) (λ ps h. last_step k w ps h) c.inputs,
-    )
+    for_single (λ ps. IsWideStep c ps First k w) (λ i. ⊥) (λ ps h. first_step k w ps h) c.inputs,
+    for_single (λ ps. IsWideStep c ps Last k w) (λ i. ⊥) (λ ps h. last_step k w ps h) c.inputs,
+  )
 
 pub holm_decisions : HolmDecisionsAreDefined
 holm_decisions c V P A =
@@ -109,3 +110,29 @@ fallback_decisions c a d V P small sum A =
     let S = (net c V P G A).0 in
     let whole_sum = subst (λ n. total a n ≤ suc d) (sym (net_size c V P G A)) sum in
     never_wide c (case_defined c V P G A (fallback_removals S a d small whole_sum (net_stores c V P G A)).1)
+
+-- ---- the fixed sequence is a chain of the weights 1, 0 and so on
+
+first_part : ℕ → ℕ
+first_part zero = 1
+first_part (suc i) = 0
+
+first_weight : (i : ℕ) → first_alone i ≡ fraction (pos (first_part i)) (pos 1)
+unfolding first_part
+first_weight zero = one_is
+first_weight (suc i) = zero_is
+
+all_one : (n : ℕ) → total first_part (suc n) ≡ 1
+unfolding total first_part
+all_one zero = refl
+all_one (suc n) = let e = all_one n in omega (arith, e)
+
+at_most_one : (n : ℕ) → total first_part n ≤ 1
+unfolding total
+at_most_one zero = omega arith
+at_most_one (suc n) = let e = all_one n in omega (arith, e)
+
+pub sequence_decisions : SequenceDecisionsAreDefined
+sequence_decisions c V P A =
+    fallback_decisions c first_part 0 V P (omega arith) (at_most_one (length c.names))
+    (record { one = A.one; share = A.share; weight = λ i b. A.weight i b ∙ first_weight i; edge = A.edge })

@@ -3,7 +3,7 @@ use Rattle.std.specs.Prelude.{◌≡◌, ◌<◌, ◌≤◌, ℕ, suc, pos, true
 use Rattle.field_core.specs.Fractions.{fraction}
 use Rattle.field_core.specs.declared.place.WideAt.{WideAt}
 use Rattle.case_model.specs.Content.{Content, entangled, is_plain}
-use Rattle.case_model.specs.TextbookGraphs.{IsHolmGraph, IsFallbackGraph}
+use Rattle.case_model.specs.TextbookGraphs.{IsHolmGraph, IsSequenceGraph, IsFallbackGraph}
 use Rattle.case_model.specs.Validity.{IsValidContent}
 use Rattle.sequential.specs.WideDecisions.{IsWideDecision}
 use Rattle.sequential.specs.declared.priority.Priority.TheVariants.{First, Last}
@@ -22,3 +22,7 @@ abbrev pub FallbackDecisionsAreDefined : Type 0
 FallbackDecisionsAreDefined =
     (c : Content) (a : ℕ → ℕ) (d : ℕ) → IsValidContent c → is_plain c ≡ true → d < 100000000 → total a (length c.names) ≤ suc d
     → IsFallbackGraph (λ i. fraction (pos (a i)) (pos (suc d))) (entangled c) → IsNeverWide c
+
+-- Cases of the fixed sequence are never too wide.
+abbrev pub SequenceDecisionsAreDefined : Type 0
+SequenceDecisionsAreDefined = (c : Content) → IsValidContent c → is_plain c ≡ true → IsSequenceGraph (entangled c) → IsNeverWide c

@@ -1,7 +1,7 @@
 //! Laws of written runs on the graphs of textbook rules. Each function states laws, and does nothing.
 
 ghost use Rattle.textbook.specs.TextbookRuns.{HolmRemovalsAreDefined, FallbackRemovalsAreDefined};
-ghost use Rattle.textbook.specs.DefinedDecisions.{HolmDecisionsAreDefined, FallbackDecisionsAreDefined};
+ghost use Rattle.textbook.specs.DefinedDecisions.{HolmDecisionsAreDefined, SequenceDecisionsAreDefined, FallbackDecisionsAreDefined};
 
 /// On the graphs of Holm's rule and of the fallback rule no removal is refused, in whatever order, and no level.
 pub fn textbook_removals_are_defined()
@@ -12,5 +12,6 @@ pub fn textbook_removals_are_defined()
 /// On cases of these graphs no decision by the priority `first` or `last` is too wide.
 pub fn textbook_decisions_are_defined()
     ensures holm { HolmDecisionsAreDefined }
+    ensures sequence { SequenceDecisionsAreDefined }
     ensures fallback { FallbackDecisionsAreDefined }
 {}
