@@ -1,5 +1,5 @@
 -- The canonical text of a case says that case, and tells it apart from others.
-use Rattle.std.proofs.Common.{◌≡◌, refl, sym, ap, subst, ◌∙◌, ℕ, ◌*◌, ◌<◌, ◌≤◌, ◌==◌, ◌&&◌, List, length, map, get_or, nat_lt, nat_le, Bool, true, Some, arith}
+use Rattle.std.proofs.Common.{◌≡◌, refl, sym, ap, subst, ◌∙◌, ℕ, ◌*◌, ◌<◌, ◌≤◌, ◌==◌, ◌&&◌, length, get_or, nat_le, true, Some, arith}
 use Rattle.std.specs.Prelude.{slice_get}
 use Rattle.std.specs.List.{list_all}
 use Rattle.std.specs.Option.{option_map}
@@ -9,12 +9,10 @@ use Rattle.field_core.specs.declared.ratio.Ratio.{Ratio}
 use Rattle.fraction.specs.View.{number_of}
 use Rattle.case_model.specs.declared.case.Case.{Case}
 use Rattle.case_model.specs.declared.component.Component.{Component}
-use Rattle.case_model.specs.declared.draft_component.DraftComponent.{DraftComponent}
 use Rattle.case_model.specs.declared.draft_stages.DraftStages.{DraftStages}
 use Rattle.case_model.specs.declared.draft_stages.Arrival.{Arrival}
 use Rattle.case_model.specs.declared.inputs.Inputs.{Inputs}
 use Rattle.case_model.specs.declared.inputs.Inputs.TheVariants.{Bare, Single, Staged}
-use Rattle.case_model.specs.declared.inputs.Stages.{Stages}
 use Rattle.case_model.specs.declared.spend.Spend.{Spend}
 use Rattle.case_model.specs.declared.spend.Spend.TheVariants.{Shares, Table}
 use Rattle.case_model.specs.CaseView.{content}
@@ -35,9 +33,9 @@ use Rattle.edge_text.proofs.OneReading.{one_case}
 use Rattle.edge_text.proofs.CanonicalDrafts.{edges_from, untabled, stages_in, draft_of, five, SomeValues, content_back}
 use Rattle.edge_text.proofs.CanonicalValidity.{canonical_faultless, edges_each}
 use Rattle.edge_text.proofs.CanonicalWords.{IsSaid, short_said, level_said, p_value_said, name_is_word}
-use Rattle.edge_text.proofs.CanonicalLines.{distinct, IsEntry}
+use Rattle.edge_text.proofs.CanonicalLines.{distinct}
 use Rattle.edge_text.proofs.CanonicalStages.{IsSpendSaid, IsArrivalSaid}
-use Rattle.edge_text.proofs.CanonicalDocuments.{IsComponentSaid, AreStagesSaid, AreInputsSaid, IsContentSaid, canonical_says}
+use Rattle.edge_text.proofs.CanonicalDocuments.{IsComponentSaid, AreInputsSaid, IsContentSaid, canonical_says}
 
 p_said : (x : Ratio) → is_p_value x ≡ true → IsSaid x
 unfolding is_p_value

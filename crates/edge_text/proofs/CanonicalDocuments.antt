@@ -1,47 +1,27 @@
 -- The canonical text of a case says that case.
-use Rattle.std.proofs.Common.{◌≡◌, refl, sym, ap, ap₂, subst, ◌∙◌, ℕ, zero, suc, ◌+◌, ◌*◌, ◌<◌, ◌≤◌, ◌==◌, ◌&&◌, inl, inr, List, [], ◌∷◌, ◌++◌, length, map, Bool, true, false, Option, Some, None, pos, arith}
-use Rattle.std.specs.Prelude.{codes, slice_get}
+use Rattle.std.proofs.Common.{◌≡◌, refl, sym, ap, ap₂, subst, ◌∙◌, ℕ, suc, ◌*◌, ◌<◌, ◌≤◌, ◌==◌, inl, inr, List, [], ◌∷◌, ◌++◌, length, map, Bool, true, false, Option, Some, None, pos, arith}
+use Rattle.std.specs.Prelude.{codes}
 use Rattle.std.specs.List.{AllByRecursion, AllZip, flat_map, list_all}
 use Rattle.std.specs.Fmt.{decimal}
 use Rattle.std.proofs.lemmas.Bool.Decides.{nat_tests, Decides-int_eq}
 use Rattle.std.proofs.lemmas.List.{map-append, length-map}
-use Rattle.std.proofs.lemmas.Option.{slice_get-map}
 use Rattle.field_core.specs.View.{terms}
 use Rattle.field_core.specs.declared.ratio.Ratio.{Ratio}
 use Rattle.fraction.specs.Tests.{is_one}
-use Rattle.fraction.specs.View.{number_of}
 use Rattle.fraction.proofs.SameRatios.{same_ratio}
-use Rattle.case_model.specs.declared.case.Case.{Case}
 use Rattle.case_model.specs.declared.component.Component.{Component}
-use Rattle.case_model.specs.declared.draft_component.DraftComponent.{DraftComponent}
-use Rattle.case_model.specs.declared.draft_stages.Arrival.{Arrival}
-use Rattle.case_model.specs.declared.draft_stages.DraftStages.{DraftStages}
 use Rattle.case_model.specs.declared.inputs.Inputs.{Inputs}
 use Rattle.case_model.specs.declared.inputs.Inputs.TheVariants.{Bare, Single, Staged}
 use Rattle.case_model.specs.declared.inputs.Stages.{Stages}
-use Rattle.case_model.specs.declared.spend.Spend.{Spend}
-use Rattle.case_model.specs.declared.spend.Spend.TheVariants.{Shares, Table}
-use Rattle.case_model.specs.Draft.{is_name, is_short, is_short_p_value, is_p_value, is_unit, is_stage, arrives_among, ArePValues}
-use Rattle.case_model.specs.CaseFaults.{case_fault}
-use Rattle.case_model.specs.CaseView.{content}
-use Rattle.case_model.specs.Content.{Content, content_of, component_at, IfSingle, IfStaged, AreStages as AreStagesOf, is_arrival}
-use Rattle.case_model.specs.ValidDraft.{Each, EachTwo, IsValidComponent, AreValidStages, IsValidSpend, IsValidDraft}
-use Rattle.case_model.specs.Validity.{IsValidContent}
-use Rattle.case_model.proofs.Holding.{both, all_at}
-use Rattle.case_model.proofs.DraftTests.{all_each, each_all}
-use Rattle.case_model.proofs.FaultlessDrafts.{valid_draft}
-use Rattle.case_model.proofs.StageShapes.{stage_shape}
-use Rattle.case_model.proofs.ValidContents.{HasShape, shape}
-use Rattle.text_lines.specs.Lines.{rows_of, texts_in}
-use Rattle.text_lines.specs.Spelling.{line_spelt, text_of, IsWord, IsLine}
-use Rattle.edge_text.specs.Grammar.{Words, IsNumber, AreNumbers, AreSomeNumbers, IsCount, IsBlock, IsSharedBlock, IsLoneBlock, AreSharedBlocks, AreBlocks, AreStages, MayHaveStages, GivesP, optional, one, IsDocument, IsText}
-use Rattle.edge_text.specs.Reading.{IsCaseOf}
+use Rattle.case_model.specs.Content.{Content}
+use Rattle.case_model.specs.ValidDraft.{Each}
+use Rattle.case_model.proofs.Holding.{both}
+use Rattle.text_lines.specs.Spelling.{line_spelt, IsWord, IsLine}
+use Rattle.edge_text.specs.Grammar.{Words, IsNumber, AreNumbers, AreSomeNumbers, IsCount, IsBlock, IsSharedBlock, IsLoneBlock, AreBlocks, AreStages, MayHaveStages, GivesP, optional, one, IsDocument, IsText}
 use Rattle.edge_text.specs.CanonicalText.{number_word, alpha_words, names_words, p_words, share_words, weights_words, stages_words, arrive_words, table_lines, is_alone, block_lines, blocks_lines, spends_lines, stages_lines, p_lines, late_lines, canonical_lines, canonical_text}
-use Rattle.edge_text.specs.CanonicalStatements.{has_coefficients}
-use Rattle.edge_text.proofs.CanonicalDrafts.{edges_from, untabled, p_of, stages_in, draft_of, five, SomeValues, content_back}
-use Rattle.edge_text.proofs.CanonicalValidity.{canonical_faultless, each_map, edges_each}
-use Rattle.edge_text.proofs.CanonicalWords.{IsSaid, short_said, level_said, p_value_said, zip_map, number_is_word, numbers_are_words, name_is_word, whole_is, whole_is_word}
-use Rattle.edge_text.proofs.CanonicalLines.{keyed, line_is, all_append, all_flat, texts_spelt, AreDistinct, distinct, IsEntry, edges_lines, edges_said}
+use Rattle.edge_text.proofs.CanonicalDrafts.{edges_from, untabled, p_of, stages_in, draft_of}
+use Rattle.edge_text.proofs.CanonicalWords.{IsSaid, zip_map, number_is_word, numbers_are_words, whole_is, whole_is_word}
+use Rattle.edge_text.proofs.CanonicalLines.{keyed, line_is, all_append, all_flat, texts_spelt, AreDistinct, IsEntry, edges_lines, edges_said}
 use Rattle.edge_text.proofs.CanonicalStages.{IsSpendSaid, IsArrivalSaid, spends_lines_are, spends_said, arrive_lines_are, arrivals_said, arrivals_other}
 
 -- what stages of `m` hypotheses need so that they are read back

@@ -1,11 +1,11 @@
 -- The draft that the canonical text of a case says, and that it has the content of the case.
-use Rattle.std.proofs.Common.{◌≡◌, ◌≢◌, refl, sym, ap, ap₂, subst, ◌∙◌, ℕ, zero, suc, ◌+◌, ◌*◌, ◌/◌, ◌%◌, ◌<◌, ◌≤◌, ◌==◌, ◌&&◌, inl, inr, List, [], ◌∷◌, length, map, get_or, Bool, true, false, if◌then◌else◌, Option, Some, None, is_some, pos, arith}
+use Rattle.std.proofs.Common.{◌≡◌, ◌≢◌, refl, sym, ap, ap₂, subst, ◌∙◌, ℕ, zero, suc, ◌+◌, ◌*◌, ◌/◌, ◌%◌, ◌<◌, ◌==◌, inl, inr, List, [], ◌∷◌, length, map, get_or, Bool, true, false, Option, Some, None, pos, arith}
 use Rattle.std.proofs.lemmas.Bool.{cases_Bool}
 use Rattle.std.proofs.lemmas.Bool.Decides.{nat_tests, Decides-int_eq}
 use Rattle.std.proofs.lemmas.List.{same_lists, get_or_default}
 use Rattle.std.proofs.lemmas.List.FromFn.{length-map-range_with_len, get_or-map-range_with_len}
-use Rattle.std.specs.List.{list_all, list_any, range_with_len}
-use Rattle.std.specs.Prelude.{unsigned_abs, ℤ, ◌<ℤ◌}
+use Rattle.std.specs.List.{list_all, range_with_len}
+use Rattle.std.specs.Prelude.{unsigned_abs, ◌<ℤ◌}
 use Rattle.std.proofs.lemmas.Int.{ints}
 use Rattle.field_core.proofs.Stein.{gcd_of_zero}
 use Rattle.field_core.specs.Terms.{Terms, IsReduced}
@@ -13,7 +13,7 @@ use Rattle.field_core.specs.View.{terms}
 use Rattle.field_core.specs.declared.ratio.Ratio.{Ratio}
 use Rattle.fraction.specs.Tests.{is_zero}
 use Rattle.fraction.proofs.SameRatios.{same_ratio}
-use Rattle.case_model.specs.Sums.{zero_ratio, zero_terms, ratio_at}
+use Rattle.case_model.specs.Sums.{zero_ratio, ratio_at}
 use Rattle.case_model.specs.declared.component.Component.{Component}
 use Rattle.case_model.specs.declared.draft.Draft.{Draft}
 use Rattle.case_model.specs.declared.draft_component.DraftComponent.{DraftComponent}
@@ -26,7 +26,7 @@ use Rattle.case_model.specs.Entries.{no_edge}
 use Rattle.case_model.specs.Content.{Content, content_of, edge_between, table_of, tabled, given, inputs_of}
 use Rattle.case_model.proofs.Holding.{both}
 use Rattle.edge_text.specs.CanonicalText.{is_absent}
-use Rattle.edge_text.specs.CanonicalStatements.{has_coefficients, HasCoefficients}
+use Rattle.edge_text.specs.CanonicalStatements.{has_coefficients}
 
 -- ---- the draft
 

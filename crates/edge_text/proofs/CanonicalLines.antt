@@ -1,45 +1,28 @@
 -- The lines of canonical texts, and the document that they are.
-use Rattle.std.proofs.Common.{◌≡◌, ◌≢◌, refl, sym, ap, ap₂, subst, ◌∙◌, ℕ, zero, suc, ◌+◌, ◌*◌, ◌/◌, ◌%◌, ◌<◌, ◌≤◌, ◌⊎◌, ◌==◌, ◌&&◌, inl, inr, List, [], ◌∷◌, ◌++◌, length, map, get_or, Bool, true, false, cond, eqb, Option, Some, None, arith, append_assoc}
-use Rattle.std.specs.Prelude.{codes, if◌then◌else◌, slice_get}
-use Rattle.std.specs.Fmt.{decimal}
-use Rattle.std.specs.List.{AllByRecursion, AllZip, flat_map, list_all, position, position_from}
+use Rattle.std.proofs.Common.{◌≡◌, ◌≢◌, refl, sym, ap, subst, ◌∙◌, ℕ, zero, suc, ◌+◌, ◌*◌, ◌/◌, ◌%◌, ◌<◌, ◌≤◌, ◌==◌, inl, inr, List, [], ◌∷◌, ◌++◌, length, map, get_or, Bool, true, false, Some, arith}
+use Rattle.std.specs.Prelude.{codes, if◌then◌else◌}
+use Rattle.std.specs.List.{AllByRecursion, AllZip, flat_map, list_all, position_from}
 use Rattle.std.specs.Str.{bytes_eq}
 use Rattle.std.proofs.lemmas.Bool.{cases_Bool}
-use Rattle.std.proofs.lemmas.Bool.Decides.{nat_tests, Decides-int_eq}
+use Rattle.std.proofs.lemmas.Bool.Decides.{nat_tests}
 use Rattle.std.proofs.lemmas.Iterator.Adapters.{position_from-zero}
-use Rattle.std.proofs.lemmas.List.{map-append}
 use Rattle.std.proofs.lemmas.Option.{slice_get-get_or}
 use Rattle.std.proofs.lemmas.Slice.Eq.{bytes_eq-Decides}
-use Rattle.field_core.specs.View.{terms}
 use Rattle.field_core.specs.declared.ratio.Ratio.{Ratio}
-use Rattle.fraction.specs.Tests.{is_one}
-use Rattle.fraction.proofs.SameRatios.{same_ratio}
-use Rattle.case_model.specs.declared.component.Component.{Component}
-use Rattle.case_model.specs.declared.draft_component.DraftComponent.{DraftComponent}
-use Rattle.case_model.specs.declared.draft_edge.DraftEdge.{DraftEdge}
-use Rattle.case_model.specs.declared.draft_stages.Arrival.{Arrival}
-use Rattle.case_model.specs.declared.inputs.Inputs.{Inputs}
-use Rattle.case_model.specs.declared.inputs.Inputs.TheVariants.{Bare, Single, Staged}
-use Rattle.case_model.specs.declared.inputs.Stages.{Stages}
-use Rattle.case_model.specs.declared.spend.Spend.{Spend}
-use Rattle.case_model.specs.declared.spend.Spend.TheVariants.{Shares, Table}
-use Rattle.case_model.specs.declared.spend_step.SpendStep.{SpendStep}
 use Rattle.case_model.specs.Draft.{is_short}
-use Rattle.case_model.specs.Entries.{no_edge}
 use Rattle.case_model.specs.Names.{position_of}
 use Rattle.case_model.specs.ValidDraft.{Each, EachTwo}
-use Rattle.case_model.proofs.Holding.{both}
-use Rattle.text_lines.specs.Spelling.{spaced, line_spelt, text_of, IsNoComment, IsWord, IsLine, numbered}
+use Rattle.text_lines.specs.Spelling.{line_spelt, text_of, IsWord, IsLine, numbered}
 use Rattle.text_lines.specs.Lines.{rows_of, texts_in}
-use Rattle.text_lines.specs.Words.{words_of, behind_word, behind_words}
+use Rattle.text_lines.specs.Words.{behind_words}
 use Rattle.text_lines.proofs.Spelt.{words_of_line, rows_of_text, behind_spelt, behind_blank}
 use Rattle.edge_expression.specs.EntryReading.{IsEntryText}
 use Rattle.edge_expression.specs.EntryTexts.{entry_text}
 use Rattle.edge_expression.proofs.EntriesReadBack.{entry_reads_back}
-use Rattle.edge_text.specs.Grammar.{Words, IsLineOf, IsNumber, AreNumbers, HasThree, IsEdge, IsEdgeLine, IsBlock, IsSharedBlock, one}
-use Rattle.edge_text.specs.CanonicalText.{number_word, name_at, share_words, weights_words, edge_words, is_absent, edge_lines, table_lines, block_lines}
-use Rattle.edge_text.proofs.CanonicalDrafts.{edge_at, before, edges_from, untabled}
-use Rattle.edge_text.proofs.CanonicalWords.{is_high, high_word, number_is_word, IsSaid, short_said, zip_map, all_map, numbers_are_words, entry_is_word, blank_entry}
+use Rattle.edge_text.specs.Grammar.{Words, IsLineOf, IsEdge, IsEdgeLine}
+use Rattle.edge_text.specs.CanonicalText.{name_at, edge_words, is_absent, edge_lines, table_lines}
+use Rattle.edge_text.proofs.CanonicalDrafts.{edge_at, before, edges_from}
+use Rattle.edge_text.proofs.CanonicalWords.{is_high, high_word, entry_is_word, blank_entry}
 
 -- ---- lines by their words
 

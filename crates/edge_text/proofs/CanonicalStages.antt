@@ -1,6 +1,6 @@
 -- The lines of stages in canonical texts.
-use Rattle.std.proofs.Common.{◌≡◌, ◌≢◌, refl, sym, ap, ap₂, subst, ◌∙◌, ℕ, zero, suc, ◌+◌, ◌<◌, ◌≤◌, inl, inr, List, [], ◌∷◌, ◌++◌, length, map, Bool, true, false, arith, append_assoc}
-use Rattle.std.specs.Prelude.{codes, slice_get}
+use Rattle.std.proofs.Common.{◌≡◌, ◌≢◌, refl, sym, ap, subst, ◌∙◌, ℕ, suc, ◌<◌, ◌≤◌, List, [], ◌∷◌, ◌++◌, length, map, true, false, arith, append_assoc}
+use Rattle.std.specs.Prelude.{codes}
 use Rattle.std.specs.Fmt.{decimal}
 use Rattle.std.specs.List.{AllByRecursion, AllZip}
 use Rattle.std.proofs.lemmas.List.{map-append}
@@ -10,13 +10,12 @@ use Rattle.case_model.specs.declared.draft_stages.Arrival.{Arrival}
 use Rattle.case_model.specs.declared.spend.Spend.{Spend}
 use Rattle.case_model.specs.declared.spend.Spend.TheVariants.{Shares, Table}
 use Rattle.case_model.specs.declared.spend_step.SpendStep.{SpendStep}
-use Rattle.case_model.specs.ValidDraft.{Each, IsValidSpend}
+use Rattle.case_model.specs.ValidDraft.{Each}
 use Rattle.text_lines.specs.Spelling.{line_spelt, IsWord, IsLine}
-use Rattle.text_lines.specs.Words.{words_of}
 use Rattle.text_lines.proofs.Spelt.{words_of_line}
-use Rattle.edge_text.specs.Grammar.{Words, AreNumbers, IsCount, IsArrival, AreShares, IsStep, IsSpendLine, IsTableLine, IsArriveLine, AreSpendLines, IsNoStep, EndsBefore, AreSpends}
-use Rattle.edge_text.specs.CanonicalText.{number_word, name_at, stages_words, spend_words, table_words, arrive_words, spend_lines, spends_lines}
-use Rattle.edge_text.proofs.CanonicalWords.{IsSaid, short_said, level_said, zip_map, all_map, number_is_word, numbers_are_words, whole_is, whole_is_word}
+use Rattle.edge_text.specs.Grammar.{Words, IsArrival, AreShares, IsStep, IsTableLine, IsArriveLine, AreSpendLines, IsNoStep, EndsBefore, AreSpends}
+use Rattle.edge_text.specs.CanonicalText.{number_word, name_at, spend_words, table_words, arrive_words, spend_lines, spends_lines}
+use Rattle.edge_text.proofs.CanonicalWords.{IsSaid, zip_map, all_map, number_is_word, numbers_are_words, whole_is, whole_is_word}
 use Rattle.edge_text.proofs.CanonicalLines.{keyed, line_is, all_append, AreDistinct, place_of_name, name_word}
 
 -- ---- what hypotheses spend

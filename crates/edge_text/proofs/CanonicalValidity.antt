@@ -1,13 +1,12 @@
 -- The draft that the canonical text of a case says has no fault.
-use Rattle.std.proofs.Common.{◌≡◌, ◌≢◌, ◌⊎◌, refl, sym, ap, ap₂, subst, ◌∙◌, ℕ, zero, suc, ◌+◌, ◌*◌, ◌/◌, ◌%◌, ◌<◌, ◌≤◌, ◌==◌, ◌&&◌, inl, inr, List, [], ◌∷◌, length, map, get_or, slice_get, Bool, true, false, if◌then◌else◌, Option, Some, None, is_some, is_none, arith}
+use Rattle.std.proofs.Common.{◌≡◌, ◌≢◌, refl, sym, ap, ap₂, subst, ◌∙◌, ℕ, zero, suc, ◌+◌, ◌*◌, ◌/◌, ◌%◌, ◌<◌, ◌≤◌, ◌==◌, inl, inr, List, [], ◌∷◌, length, map, get_or, slice_get, Bool, true, false, if◌then◌else◌, Option, Some, None, is_some, is_none, arith}
 use mathlib.Core.Bool.{Bool-set}
 use Rattle.std.proofs.Math.Logic.{∥∥₁_elim}
-use Rattle.std.proofs.lemmas.Bool.{cases_Bool}
 use Rattle.std.proofs.lemmas.Bool.Decides.{nat_tests}
 use Rattle.std.proofs.lemmas.List.{length-map}
 use Rattle.std.proofs.lemmas.List.FromFn.{get_or-map-range_with_len}
 use Rattle.std.proofs.lemmas.Option.{slice_get-map}
-use Rattle.std.specs.List.{find, list_all, list_any, range_with_len}
+use Rattle.std.specs.List.{find, list_all, list_any}
 use Rattle.std.specs.Option.{option_map, option_map_or}
 use Rattle.field_core.specs.Arithmetic.{number_one}
 use Rattle.field_core.specs.NumberField.{number_field}
@@ -15,7 +14,6 @@ use Rattle.field_core.specs.Order.{◌≤ε◌}
 use Rattle.field_core.specs.Sums.{sum_below}
 use Rattle.field_core.specs.declared.ratio.Ratio.{Ratio}
 use Rattle.fraction.specs.View.{number_of}
-use Rattle.case_model.specs.declared.component.Component.{Component}
 use Rattle.case_model.specs.declared.draft.Draft.{Draft}
 use Rattle.case_model.specs.declared.draft_component.DraftComponent.{DraftComponent}
 use Rattle.case_model.specs.declared.draft_edge.DraftEdge.{DraftEdge}
@@ -26,7 +24,7 @@ use Rattle.case_model.specs.Draft.{has_ends, is_short_p_value, is_p_value, is_un
 use Rattle.case_model.specs.Entries.{no_edge, entry_at, entry_value}
 use Rattle.case_model.specs.Content.{Content, content_of, edge_between, table_of, tabled, given, inputs_of, IfSingle}
 use Rattle.case_model.specs.CaseFaults.{case_fault, written_row}
-use Rattle.case_model.specs.ValidDraft.{Each, EachTwo, SumsTo, CanSum, CanSumSpend, IsValidComponent, AreValidPlaces, AreValidStages, IsValidDraft, HasWrittenSums}
+use Rattle.case_model.specs.ValidDraft.{Each, EachTwo, SumsTo, CanSum, IsValidComponent, AreValidPlaces, IsValidDraft, HasWrittenSums}
 use Rattle.case_model.specs.Validity.{IsValidContent}
 use Rattle.case_model.proofs.Holding.{both}
 use Rattle.case_model.proofs.Faultless.{length-table_of}

@@ -1,12 +1,10 @@
 -- The words of canonical texts: that they are words, and what they say.
-use Rattle.std.proofs.Common.{◌≡◌, ◌≢◌, refl, sym, ap, ap₂, subst, ◌∙◌, ℕ, zero, suc, ◌+◌, ◌^◌, ◌<◌, ◌≤◌, ◌⊎◌, ◌&&◌, ◌||◌, ◌==◌, inl, inr, List, [], ◌∷◌, ◌++◌, length, map, take, Bool, true, false, cond, eqb, nat_lt, nat_le, ℤ, pos, ◌*ℤ◌, ◌≤ℤ◌, unsigned_abs, Option, Some, None, arith, lit<}
-use Rattle.std.specs.Prelude.{codes, if◌then◌else◌}
+use Rattle.std.proofs.Common.{◌≡◌, refl, sym, ap, ap₂, ◌∙◌, ℕ, zero, suc, ◌+◌, ◌^◌, ◌<◌, ◌≤◌, ◌⊎◌, ◌&&◌, inl, inr, List, [], ◌∷◌, ◌++◌, length, map, Bool, true, false, cond, eqb, nat_lt, nat_le, ℤ, pos, ◌*ℤ◌, ◌≤ℤ◌, unsigned_abs, arith, lit<}
+use Rattle.std.specs.Prelude.{codes}
 use Rattle.std.specs.Fmt.{decimal}
 use Rattle.std.specs.Int.{is_negative}
 use Rattle.std.specs.List.{AllByRecursion, AllZip, list_all}
 use Rattle.std.specs.Ordering.{is_le, int_cmp}
-use Rattle.std.specs.Str.Parse.{digits_value}
-use Rattle.std.specs.Char.{is_ascii_alphanumeric}
 use Rattle.std.proofs.lemmas.Bool.Decides.{nat_tests}
 use Rattle.std.proofs.lemmas.Fmt.{decimal_is_IsNumeral_wide, length-decimal-le_wide}
 use Rattle.std.proofs.lemmas.Int.{ints}
@@ -22,16 +20,15 @@ use Rattle.fraction.specs.Tests.{is_zero, is_one, is_within, absolute}
 use Rattle.fraction.specs.View.{number_of}
 use Rattle.fraction.proofs.ReadBack.{digits_from, read_back, spelling_bytes, spelling_some}
 use Rattle.case_model.specs.Draft.{at_most, is_name, is_name_byte, is_short, is_short_level, is_short_p_value, is_unit}
-use Rattle.case_model.specs.Sums.{terms_at, zero_terms, zero_ratio}
+use Rattle.case_model.specs.Sums.{terms_at, zero_ratio}
 use Rattle.case_model.specs.ValidDraft.{Each}
 use Rattle.case_model.proofs.Comparisons.{le_is, zero_is, one_is}
 use Rattle.case_model.proofs.Holding.{both}
 use Rattle.text_lines.specs.Spelling.{IsPlain, IsWord}
-use Rattle.edge_expression.specs.EntryReading.{open_with, open_behind, IsShallow, IsWorth, IsEntryText}
+use Rattle.edge_expression.specs.EntryReading.{IsShallow, IsEntryText}
 use Rattle.edge_expression.specs.EntryTexts.{power_text, factor_text, joint_text, joined_term, term_text, terms_text, are_zero_below, coefficients_text, entry_text}
-use Rattle.edge_expression.specs.Expressions.{Token, AreBlanks, IsTokenThen, IsSpelt, Spells, Expression, expression_tokens}
-use Rattle.edge_expression.proofs.EntriesReadBack.{entry_reads_back}
-use Rattle.edge_text.specs.Grammar.{Words, Says, IsWholeNumber}
+use Rattle.edge_expression.specs.Expressions.{Token, IsSpelt, Spells, Expression, expression_tokens}
+use Rattle.edge_text.specs.Grammar.{Says, IsWholeNumber}
 use Rattle.edge_text.specs.CanonicalText.{number_word}
 
 -- ---- bytes

@@ -10,7 +10,7 @@ use Rattle.case_model.specs.Draft.{arrives_among, is_p_value, is_stage}
 use Rattle.case_model.specs.declared.component.Component.{Component}
 use Rattle.case_model.specs.Content.{Content, is_arrival}
 use Rattle.case_model.proofs.Holding.{both}
-use Rattle.text_lines.specs.Spelling.{line_spelt, text_of}
+use Rattle.text_lines.specs.Spelling.{text_of}
 use Rattle.edge_text.specs.Grammar.{Words}
 use Rattle.edge_text.specs.CanonicalText.{alpha_words, names_words, share_words, weights_words, edge_words, is_absent, edge_lines, table_lines, share_lines, block_lines, blocks_lines, spend_lines, spends_lines, p_lines, late_lines, canonical_lines, canonical_text}
 use Rattle.edge_text.specs.View.{line_of}

@@ -1,5 +1,5 @@
 -- What holds of canonical texts.
-use Rattle.std.specs.Prelude.{◌≡◌, ◌==◌, ℕ, Bool, true, List, length}
+use Rattle.std.specs.Prelude.{◌≡◌, ◌==◌, Bool, true, length}
 use Rattle.std.specs.List.{list_all}
 use Rattle.case_model.specs.declared.case.Case.{Case}
 use Rattle.case_model.specs.CaseView.{content}

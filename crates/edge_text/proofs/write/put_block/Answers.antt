@@ -1,4 +1,4 @@
-use Rattle.std.proofs.Common.{◌≡◌, ◌∙◌, ◌++◌, sym, ap, ap₂}
+use Rattle.std.proofs.Common.{◌∙◌, ◌++◌, sym, ap, ap₂}
 use Rattle.std.proofs.lemmas.Result.{on_ok_weaker}
 use Rattle.case_model.specs.Content.{component_at}
 use Rattle.text_lines.specs.Spelling.{text_of}
