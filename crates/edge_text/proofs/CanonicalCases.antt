@@ -1,5 +1,5 @@
 -- The canonical text of a case says that case, and tells it apart from others.
-use Rattle.std.proofs.Common.{◌≡◌, refl, sym, ap, subst, ◌∙◌, ℕ, ◌*◌, ◌<◌, ◌≤◌, ◌==◌, ◌&&◌, List, length, map, get_or, nat_lt, nat_le, Bool, true, Some, arith}
+use Rattle.std.proofs.Common.{◌≡◌, refl, sym, ap, subst, ◌∙◌, ℕ, ◌*◌, ◌<◌, ◌≤◌, ◌==◌, ◌&&◌, length, get_or, nat_le, true, Some, arith}
 use Rattle.std.specs.Prelude.{slice_get}
 use Rattle.std.specs.List.{list_all}
 use Rattle.std.specs.Option.{option_map}
@@ -9,12 +9,10 @@ use Rattle.field_core.specs.declared.ratio.Ratio.{Ratio}
 use Rattle.fraction.specs.View.{number_of}
 use Rattle.case_model.specs.declared.case.Case.{Case}
 use Rattle.case_model.specs.declared.component.Component.{Component}
-use Rattle.case_model.specs.declared.draft_component.DraftComponent.{DraftComponent}
 use Rattle.case_model.specs.declared.draft_stages.DraftStages.{DraftStages}
 use Rattle.case_model.specs.declared.draft_stages.Arrival.{Arrival}
 use Rattle.case_model.specs.declared.inputs.Inputs.{Inputs}
 use Rattle.case_model.specs.declared.inputs.Inputs.TheVariants.{Bare, Single, Staged}
-use Rattle.case_model.specs.declared.inputs.Stages.{Stages}
 use Rattle.case_model.specs.declared.spend.Spend.{Spend}
 use Rattle.case_model.specs.declared.spend.Spend.TheVariants.{Shares, Table}
 use Rattle.case_model.specs.CaseView.{content}
@@ -35,9 +33,9 @@ use Rattle.edge_text.proofs.OneReading.{one_case}
 use Rattle.edge_text.proofs.CanonicalDrafts.{edges_from, untabled, stages_in, draft_of, five, SomeValues, content_back}
 use Rattle.edge_text.proofs.CanonicalValidity.{canonical_faultless, edges_each}
 use Rattle.edge_text.proofs.CanonicalWords.{IsSaid, short_said, level_said, p_value_said, name_is_word}
-use Rattle.edge_text.proofs.CanonicalLines.{distinct, IsEntry}
+use Rattle.edge_text.proofs.CanonicalLines.{distinct}
 use Rattle.edge_text.proofs.CanonicalStages.{IsSpendSaid, IsArrivalSaid}
-use Rattle.edge_text.proofs.CanonicalDocuments.{IsComponentSaid, AreStagesSaid, AreInputsSaid, IsContentSaid, canonical_says}
+use Rattle.edge_text.proofs.CanonicalDocuments.{IsComponentSaid, AreInputsSaid, IsContentSaid, canonical_says}
 
 p_said : (x : Ratio) → is_p_value x ≡ true → IsSaid x
 unfolding is_p_value
@@ -45,8 +43,11 @@ p_said x h = let w = both (is_short_p_value x) (is_unit (number_of x)) h in p_va
 
 spend_said : (count : ℕ) (alpha : Ratio) (spend : Spend) → 1 ≤ count → IsValidSpend count alpha spend → IsSpendSaid spend
 spend_said count alpha (Shares fs) some v = let n : length fs ≡ count = v.as_many in (omega arith, λ i x e. level_said x (v.short i x e))
-spend_said count alpha (Table ss) some v =
-    (v.some, λ i s e. let n : length s.levels ≡ count = v.as_many i s e in (short_said s.from (v.short_from i s e), omega arith, λ j x f. short_said x (v.short_levels i s e j x f)))
+spend_said count alpha (Table ss) some v = (
+  v.some,
+  λ i s e. let n : length s.levels ≡ count = v.as_many i s e in
+      (short_said s.from (v.short_from i s e), omega arith, λ j x f. short_said x (v.short_levels i s e j x f)),
+)
 
 arrival_said : (m count : ℕ) (a : Arrival) → count ≤ 12 → is_arrival m count a ≡ true → IsArrivalSaid m a
 arrival_said m count a few h =
@@ -79,9 +80,11 @@ module _ (c : Content) (v : IsValidContent c) (h : has_coefficients c ≡ true) 
 
   component_said : (i : ℕ) (k : Component) → slice_get c.components i ≡ Some k → IsComponentSaid m k
   component_said i k e =
-      let w : IsValidComponent m (untabled m k) = valid.components i (untabled m k) (slice_get-map (untabled m) c.components i ∙ ap (option_map (untabled m)) e) in
+      let w : IsValidComponent m (untabled m k) = valid.components i (untabled m k)
+      (slice_get-map (untabled m) c.components i ∙ ap (option_map (untabled m)) e) in
       let fives : Each (edges_from m 0 k.edges) (λ e. length e.entry ≡ 5) =
-      edges_each (λ e. length e.entry ≡ 5) m 0 k.edges (λ n q s l a. let t : five (get_or k.edges n no_edge) ≡ true = all_at five k.edges n no_edge (five_is i k e) l in grind (arith, nat_tests)) in
+      edges_each (λ e. length e.entry ≡ 5) m 0 k.edges
+      (λ n q s l a. let t : five (get_or k.edges n no_edge) ≡ true = all_at five k.edges n no_edge (five_is i k e) l in grind (arith, nat_tests)) in
       record {
         share = short_said k.share w.short_share;
         weights = λ n x q. short_said x (w.short_weights n x q);
@@ -89,9 +92,11 @@ module _ (c : Content) (v : IsValidContent c) (h : has_coefficients c ≡ true) 
         entries = λ n x q. record { five = fives n x q; short = each_all is_short x.entry (w.short_edges n x q) };
       }
 
-  inputs_said : (i : Inputs) → IfSingle i (ArePValues m) → IfStaged i (AreStages m) → ((s : DraftStages) → stages_in i ≡ Some s → AreValidStages m c.alpha s) → AreInputsSaid c.names i
+  inputs_said : (i : Inputs) → IfSingle i (ArePValues m) → IfStaged i (AreStages m)
+      → ((s : DraftStages) → stages_in i ≡ Some s → AreValidStages m c.alpha s) → AreInputsSaid c.names i
   inputs_said Bare p s w = tt
-  inputs_said (Single ps) p s w = let n : length ps ≡ m = p.count in let some : 0 < m = shaped.some in (omega arith, λ i x e. p_said x (all_each is_p_value ps p.each i x e))
+  inputs_said (Single ps) p s w = let n : length ps ≡ m = p.count in let some : 0 < m =
+      shaped.some in (omega arith, λ i x e. p_said x (all_each is_p_value ps p.each i x e))
   inputs_said (Staged s) p t w =
       let u = w (record { count = s.count; spend = s.spend; arrivals = s.arrivals }) refl in
       record {
@@ -118,7 +123,8 @@ module _ (c : Content) (v : IsValidContent c) (h : has_coefficients c ≡ true) 
 
   same_content : content_of (draft_of c) ≡ c
   same_content = content_back c shaped.some
-      (each_all (λ k. length k.edges == m * m) c.components (λ i k e. let n : length k.edges ≡ m * m = size_is i k e in grind (arith, nat_tests))) h (some_values c.inputs shaped.p_values)
+      (each_all (λ k. length k.edges == m * m) c.components (λ i k e. let n : length k.edges ≡ m * m = size_is i k e in grind (arith, nat_tests)))
+      h (some_values c.inputs shaped.p_values)
 
 pub canonical_reads_back : (case : Case) → HasCoefficients case → IsCaseOf (canonical_text (content case)) case
 canonical_reads_back case h =
@@ -130,8 +136,10 @@ canonical_reads_back case h =
       content_is = sym (same_content c case.valid h);
     }
 
-pub canonical_apart : (a b : Case) → HasCoefficients a → HasCoefficients b → canonical_text (content a) ≡ canonical_text (content b) → content a ≡ content b
+pub canonical_apart : (a b : Case) → HasCoefficients a → HasCoefficients b → canonical_text (content a) ≡ canonical_text (content b)
+    → content a ≡ content b
 canonical_apart a b h k e = one_case (canonical_text (content b)) a b (subst (λ t. IsCaseOf t a) e (canonical_reads_back a h)) (canonical_reads_back b k)
 
-pub canonical_again : (a b : Case) → HasCoefficients a → IsCaseOf (canonical_text (content a)) b → canonical_text (content b) ≡ canonical_text (content a)
+pub canonical_again : (a b : Case) → HasCoefficients a → IsCaseOf (canonical_text (content a)) b
+    → canonical_text (content b) ≡ canonical_text (content a)
 canonical_again a b h k = ap canonical_text (one_case (canonical_text (content a)) b a k (canonical_reads_back a h))

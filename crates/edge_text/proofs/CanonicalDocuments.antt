@@ -1,47 +1,27 @@
 -- The canonical text of a case says that case.
-use Rattle.std.proofs.Common.{◌≡◌, refl, sym, ap, ap₂, subst, ◌∙◌, ℕ, zero, suc, ◌+◌, ◌*◌, ◌<◌, ◌≤◌, ◌==◌, ◌&&◌, inl, inr, List, [], ◌∷◌, ◌++◌, length, map, Bool, true, false, Option, Some, None, pos, arith}
-use Rattle.std.specs.Prelude.{codes, slice_get}
+use Rattle.std.proofs.Common.{append-nil, ◌≡◌, refl, sym, ap, ap₂, subst, ◌∙◌, ℕ, suc, ◌*◌, ◌<◌, ◌≤◌, ◌==◌, inl, inr, List, [], ◌∷◌, ◌++◌, length, map, Bool, true, false, Option, Some, None, pos, arith}
+use Rattle.std.specs.Prelude.{codes}
 use Rattle.std.specs.List.{AllByRecursion, AllZip, flat_map, list_all}
 use Rattle.std.specs.Fmt.{decimal}
 use Rattle.std.proofs.lemmas.Bool.Decides.{nat_tests, Decides-int_eq}
 use Rattle.std.proofs.lemmas.List.{map-append, length-map}
-use Rattle.std.proofs.lemmas.Option.{slice_get-map}
 use Rattle.field_core.specs.View.{terms}
 use Rattle.field_core.specs.declared.ratio.Ratio.{Ratio}
 use Rattle.fraction.specs.Tests.{is_one}
-use Rattle.fraction.specs.View.{number_of}
 use Rattle.fraction.proofs.SameRatios.{same_ratio}
-use Rattle.case_model.specs.declared.case.Case.{Case}
 use Rattle.case_model.specs.declared.component.Component.{Component}
-use Rattle.case_model.specs.declared.draft_component.DraftComponent.{DraftComponent}
-use Rattle.case_model.specs.declared.draft_stages.Arrival.{Arrival}
-use Rattle.case_model.specs.declared.draft_stages.DraftStages.{DraftStages}
 use Rattle.case_model.specs.declared.inputs.Inputs.{Inputs}
 use Rattle.case_model.specs.declared.inputs.Inputs.TheVariants.{Bare, Single, Staged}
 use Rattle.case_model.specs.declared.inputs.Stages.{Stages}
-use Rattle.case_model.specs.declared.spend.Spend.{Spend}
-use Rattle.case_model.specs.declared.spend.Spend.TheVariants.{Shares, Table}
-use Rattle.case_model.specs.Draft.{is_name, is_short, is_short_p_value, is_p_value, is_unit, is_stage, arrives_among, ArePValues}
-use Rattle.case_model.specs.CaseFaults.{case_fault}
-use Rattle.case_model.specs.CaseView.{content}
-use Rattle.case_model.specs.Content.{Content, content_of, component_at, IfSingle, IfStaged, AreStages as AreStagesOf, is_arrival}
-use Rattle.case_model.specs.ValidDraft.{Each, EachTwo, IsValidComponent, AreValidStages, IsValidSpend, IsValidDraft}
-use Rattle.case_model.specs.Validity.{IsValidContent}
-use Rattle.case_model.proofs.Holding.{both, all_at}
-use Rattle.case_model.proofs.DraftTests.{all_each, each_all}
-use Rattle.case_model.proofs.FaultlessDrafts.{valid_draft}
-use Rattle.case_model.proofs.StageShapes.{stage_shape}
-use Rattle.case_model.proofs.ValidContents.{HasShape, shape}
-use Rattle.text_lines.specs.Lines.{rows_of, texts_in}
-use Rattle.text_lines.specs.Spelling.{line_spelt, text_of, IsWord, IsLine}
-use Rattle.edge_text.specs.Grammar.{Words, IsNumber, AreNumbers, AreSomeNumbers, IsCount, IsBlock, IsSharedBlock, IsLoneBlock, AreSharedBlocks, AreBlocks, AreStages, MayHaveStages, GivesP, optional, one, IsDocument, IsText}
-use Rattle.edge_text.specs.Reading.{IsCaseOf}
+use Rattle.case_model.specs.Content.{Content}
+use Rattle.case_model.specs.ValidDraft.{Each}
+use Rattle.case_model.proofs.Holding.{both}
+use Rattle.text_lines.specs.Spelling.{line_spelt, IsWord, IsLine}
+use Rattle.edge_text.specs.Grammar.{Words, IsNumber, AreNumbers, AreSomeNumbers, IsCount, IsBlock, IsSharedBlock, IsLoneBlock, AreBlocks, AreStages, MayHaveStages, GivesP, optional, one, IsDocument, IsText}
 use Rattle.edge_text.specs.CanonicalText.{number_word, alpha_words, names_words, p_words, share_words, weights_words, stages_words, arrive_words, table_lines, is_alone, block_lines, blocks_lines, spends_lines, stages_lines, p_lines, late_lines, canonical_lines, canonical_text}
-use Rattle.edge_text.specs.CanonicalStatements.{has_coefficients}
-use Rattle.edge_text.proofs.CanonicalDrafts.{edges_from, untabled, p_of, stages_in, draft_of, five, SomeValues, content_back}
-use Rattle.edge_text.proofs.CanonicalValidity.{canonical_faultless, each_map, edges_each}
-use Rattle.edge_text.proofs.CanonicalWords.{IsSaid, short_said, level_said, p_value_said, zip_map, number_is_word, numbers_are_words, name_is_word, whole_is, whole_is_word}
-use Rattle.edge_text.proofs.CanonicalLines.{keyed, line_is, all_append, all_flat, texts_spelt, AreDistinct, distinct, IsEntry, edges_lines, edges_said}
+use Rattle.edge_text.proofs.CanonicalDrafts.{edges_from, untabled, p_of, stages_in, draft_of}
+use Rattle.edge_text.proofs.CanonicalWords.{IsSaid, zip_map, number_is_word, numbers_are_words, whole_is, whole_is_word}
+use Rattle.edge_text.proofs.CanonicalLines.{each_holds, keyed, line_is, all_append, all_flat, texts_spelt, AreDistinct, IsEntry, edges_lines, edges_said}
 use Rattle.edge_text.proofs.CanonicalStages.{IsSpendSaid, IsArrivalSaid, spends_lines_are, spends_said, arrive_lines_are, arrivals_said, arrivals_other}
 
 -- what stages of `m` hypotheses need so that they are read back
@@ -80,12 +60,14 @@ module _ (names : List (List ℕ)) (words : Each names IsWord) (apart : AreDisti
   block_are true k h = (weights_line k.weights, edges_lines names words apart 0 k.edges (omega (arith, h.size)))
   block_are false k h = (share_line k.share, (weights_line k.weights, edges_lines names words apart 0 k.edges (omega (arith, h.size))))
 
-  block_said : (k : Component) → IsComponentSaid m k → IsBlock names (map line_spelt (weights_words k.weights ∷ table_lines names 0 k.edges)) (untabled m k)
+  block_said : (k : Component) → IsComponentSaid m k
+      → IsBlock names (map line_spelt (weights_words k.weights ∷ table_lines names 0 k.edges)) (untabled m k)
   block_said k h = record {
     weights_line = line_spelt (weights_words k.weights);
     edge_lines = map line_spelt (table_lines names 0 k.edges);
     spelt = refl;
-    weights = line_is (codes "weights") (map number_word k.weights) (λ words. AreNumbers words k.weights) (weights_line k.weights) (zip_map _ number_word k.weights h.weights);
+    weights = line_is (codes "weights") (map number_word k.weights) (λ words. AreNumbers words k.weights) (weights_line k.weights)
+        (zip_map _ number_word k.weights h.weights);
     edges = edges_said names words apart 0 k.edges (omega (arith, h.size)) h.entries;
   }
 
@@ -95,7 +77,8 @@ module _ (names : List (List ℕ)) (words : Each names IsWord) (apart : AreDisti
     share_line = line_spelt (share_words k.share);
     block_lines = map line_spelt (weights_words k.weights ∷ table_lines names 0 k.edges);
     spelt = refl;
-    share = line_is (codes "component") (number_word k.share ∷ []) (λ words. IsNumber words k.share) (share_line k.share) (record { numeral = number_word k.share; alone = refl; says = h.share });
+    share = line_is (codes "component") (number_word k.share ∷ []) (λ words. IsNumber words k.share) (share_line k.share)
+        (record { numeral = number_word k.share; alone = refl; says = h.share });
     block = block_said k h;
   }
 
@@ -103,33 +86,35 @@ module _ (names : List (List ℕ)) (words : Each names IsWord) (apart : AreDisti
   unfolding blocks_lines
   blocks_are ks h = all_flat IsLine (block_lines names (is_alone ks)) ks (λ i k e. block_are (is_alone ks) k (h i k e))
 
-  flat_said : (ks : List Component) → map line_spelt (flat_map (block_lines names false) ks) ≡ flat_map (λ block. block) (map (λ k. map line_spelt (block_lines names false k)) ks)
+  flat_said : (ks : List Component) → map line_spelt (flat_map (block_lines names false) ks) ≡ flat_map (λ block. block)
+      (map (λ k. map line_spelt (block_lines names false k)) ks)
   flat_said [] = refl
-  flat_said (k ∷ ks) = map-append line_spelt (block_lines names false k) (flat_map (block_lines names false) ks) ∙ ap (λ (xs : List (List ℕ)). map line_spelt (block_lines names false k) ++ xs) (flat_said ks)
+  flat_said (k ∷ ks) = map-append line_spelt (block_lines names false k) (flat_map (block_lines names false) ks)
+      ∙ ap (λ (xs : List (List ℕ)). map line_spelt (block_lines names false k) ++ xs) (flat_said ks)
 
-  shared_each : (ks : List Component) → Each ks (IsComponentSaid m) → AllZip (IsSharedBlock names) (map (λ k. map line_spelt (block_lines names false k)) ks) (map (untabled m) ks)
+  shared_each : (ks : List Component) → Each ks (IsComponentSaid m)
+      → AllZip (IsSharedBlock names) (map (λ k. map line_spelt (block_lines names false k)) ks) (map (untabled m) ks)
   shared_each [] h = tt
   shared_each (k ∷ ks) h = (shared_said k (h 0 k refl), shared_each ks (λ i x e. h (suc i) x e))
 
-  alone_said : (ks : List Component) → is_alone ks ≡ true → Each ks (IsComponentSaid m) → IsLoneBlock names (map line_spelt (flat_map (block_lines names true) ks)) (map (untabled m) ks)
+  alone_said : (ks : List Component) → is_alone ks ≡ true → Each ks (IsComponentSaid m)
+      → IsLoneBlock names (map line_spelt (flat_map (block_lines names true) ks)) (map (untabled m) ks)
   unfolding is_alone block_lines
   alone_said [] a h = absurd (cc)
   alone_said (k ∷ []) a h = record {
     component = untabled m k;
     only = refl;
     share_is = one_is k.share (both (is_one (terms k.share)) true (both true _ a).right).left;
-    block = subst (λ lines. IsBlock names (map line_spelt lines) (untabled m k)) (sym (last (weights_words k.weights ∷ table_lines names 0 k.edges))) (block_said k (h 0 k refl));
+    block = subst (λ lines. IsBlock names (map line_spelt lines) (untabled m k))
+        (sym (append-nil (weights_words k.weights ∷ table_lines names 0 k.edges))) (block_said k (h 0 k refl));
   }
-    where
-      last : (lines : List Words) → lines ++ [] ≡ lines
-      last [] = refl
-      last (line ∷ lines) = ap (λ (ls : List Words). line ∷ ls) (last lines)
   alone_said (k ∷ l ∷ ks) a h =
       let t = both (length (k ∷ l ∷ ks) == 1) (list_all (λ k. is_one (terms k.share)) (k ∷ l ∷ ks)) a in
       let n : length (k ∷ l ∷ ks) ≡ 1 = grind (arith, nat_tests, t.left) in
       absurd (omega arith)
 
-  pub blocks_said : (ks : List Component) → 0 < length ks → Each ks (IsComponentSaid m) → AreBlocks names (map line_spelt (blocks_lines names ks)) (map (untabled m) ks)
+  pub blocks_said : (ks : List Component) → 0 < length ks → Each ks (IsComponentSaid m)
+      → AreBlocks names (map line_spelt (blocks_lines names ks)) (map (untabled m) ks)
   unfolding blocks_lines
   blocks_said ks some h = by_test (is_alone ks) refl
     where
@@ -144,10 +129,6 @@ module _ (names : List (List ℕ)) (words : Each names IsWord) (apart : AreDisti
 
   -- ---- stages
 
-  each_word : (ns : List (List ℕ)) → Each ns IsWord → AllByRecursion IsWord ns
-  each_word [] h = tt
-  each_word (n ∷ ns) h = (h 0 n refl, each_word ns (λ i x e. h (suc i) x e))
-
   count_line : (n : ℕ) → n ≤ 12 → IsLine (stages_words n)
   count_line n h = keyed _ _ (decimal n ∷ []) refl refl (whole_is_word n h, tt)
 
@@ -155,18 +136,23 @@ module _ (names : List (List ℕ)) (words : Each names IsWord) (apart : AreDisti
   unfolding stages_lines
   stages_are s h = (
     count_line s.count h.count,
-    all_append IsLine (spends_lines names s.spend) (map (arrive_words names) s.arrivals) (spends_lines_are names s.spend (each_word names words)) (arrive_lines_are names words s.arrivals h.arrivals),
+    all_append IsLine (spends_lines names s.spend) (map (arrive_words names) s.arrivals) (spends_lines_are names s.spend (each_holds IsWord names words))
+        (arrive_lines_are names words s.arrivals h.arrivals),
   )
 
-  pub stages_said : (s : Stages) → AreStagesSaid m s → AreStages names (map line_spelt (stages_lines names s)) (record { count = s.count; spend = s.spend; arrivals = s.arrivals })
+  pub stages_said : (s : Stages) → AreStagesSaid m s
+      → AreStages names (map line_spelt (stages_lines names s)) (record { count = s.count; spend = s.spend; arrivals = s.arrivals })
   unfolding stages_lines
   stages_said s h = record {
     count_line = line_spelt (stages_words s.count);
     spend_lines = map line_spelt (spends_lines names s.spend) ++ map line_spelt (map (arrive_words names) s.arrivals);
     arrive_lines = map line_spelt (map (arrive_words names) s.arrivals);
-    spelt = ap (λ (xs : List (List ℕ)). line_spelt (stages_words s.count) ∷ xs) (map-append line_spelt (spends_lines names s.spend) (map (arrive_words names) s.arrivals));
-    count = line_is (codes "stages") (decimal s.count ∷ []) (λ words. IsCount words s.count) (count_line s.count h.count) (record { word = decimal s.count; alone = refl; is = whole_is s.count h.count });
-    spends = spends_said names s.spend (map line_spelt (map (arrive_words names) s.arrivals)) (each_word names words) apart h.as_many h.spends (λ name. arrivals_other names words name s.arrivals h.arrivals);
+    spelt = ap (λ (xs : List (List ℕ)). line_spelt (stages_words s.count) ∷ xs)
+        (map-append line_spelt (spends_lines names s.spend) (map (arrive_words names) s.arrivals));
+    count = line_is (codes "stages") (decimal s.count ∷ []) (λ words. IsCount words s.count) (count_line s.count h.count)
+        (record { word = decimal s.count; alone = refl; is = whole_is s.count h.count });
+    spends = spends_said names s.spend (map line_spelt (map (arrive_words names) s.arrivals)) (each_holds IsWord names words) apart h.as_many h.spends
+        (λ name. arrivals_other names words name s.arrivals h.arrivals);
     arrivals = arrivals_said names words apart s.arrivals h.arrivals;
   }
 
@@ -200,15 +186,22 @@ p_optional (Staged s) = refl
 p_said : (names : List (List ℕ)) (i : Inputs) → AreInputsSaid names i → GivesP (p_line_of i) (p_of i)
 unfolding p_line_of
 p_said names Bare h = refl
-p_said names (Single ps) h = (ps, line_is (codes "p") (map number_word ps) (λ words. AreSomeNumbers words ps) (p_line ps) (record { each = zip_map _ number_word ps h.1; some = h.0 }), refl)
+p_said names (Single ps) h = (
+  ps,
+  line_is (codes "p") (map number_word ps) (λ words. AreSomeNumbers words ps) (p_line ps)
+      (record { each = zip_map _ number_word ps h.1; some = h.0 }),
+  refl,
+)
 p_said names (Staged s) h = refl
 
-late_are : (names : List (List ℕ)) → Each names IsWord → AreDistinct names → (i : Inputs) → AreInputsSaid names i → AllByRecursion IsLine (late_lines names i)
+late_are : (names : List (List ℕ)) → Each names IsWord → AreDistinct names → (i : Inputs) → AreInputsSaid names i
+    → AllByRecursion IsLine (late_lines names i)
 late_are names w a Bare h = tt
 late_are names w a (Single ps) h = tt
 late_are names w a (Staged s) h = stages_are names w a s h
 
-late_said : (names : List (List ℕ)) → Each names IsWord → AreDistinct names → (i : Inputs) → AreInputsSaid names i → MayHaveStages names (map line_spelt (late_lines names i)) (stages_in i)
+late_said : (names : List (List ℕ)) → Each names IsWord → AreDistinct names → (i : Inputs) → AreInputsSaid names i
+    → MayHaveStages names (map line_spelt (late_lines names i)) (stages_in i)
 late_said names w a Bare h = refl
 late_said names w a (Single ps) h = refl
 late_said names w a (Staged s) h = stages_said names w a s h
@@ -224,28 +217,26 @@ pub record IsContentSaid (c : Content) : Type 0 where
   pub components : Each c.components (IsComponentSaid (length c.names))
   pub inputs : AreInputsSaid c.names c.inputs
 
-each_words : (ns : List (List ℕ)) → Each ns IsWord → AllByRecursion IsWord ns
-each_words [] h = tt
-each_words (n ∷ ns) h = (h 0 n refl, each_words ns (λ i x e. h (suc i) x e))
-
 module _ (c : Content) (h : IsContentSaid c) where
   alpha_line : IsLine (alpha_words c.alpha)
   alpha_line = keyed _ _ (number_word c.alpha ∷ []) refl refl (number_is_word c.alpha, tt)
 
   names_line : IsLine (names_words c.names)
-  names_line = keyed _ _ c.names refl refl (each_words c.names h.words)
+  names_line = keyed _ _ c.names refl refl (each_holds IsWord c.names h.words)
 
   lines_are : AllByRecursion IsLine (canonical_lines c)
   unfolding canonical_lines
   lines_are =
-      let rest = all_append IsLine (blocks_lines c.names c.components) (late_lines c.names c.inputs) (blocks_are c.names h.words h.apart c.components h.components) (late_are c.names h.words h.apart c.inputs h.inputs) in
+      let rest = all_append IsLine (blocks_lines c.names c.components) (late_lines c.names c.inputs)
+      (blocks_are c.names h.words h.apart c.components h.components) (late_are c.names h.words h.apart c.inputs h.inputs) in
       (alpha_line, (names_line, all_append IsLine (p_lines c.inputs) (blocks_lines c.names c.components ++ late_lines c.names c.inputs) (p_are c.inputs) rest))
 
   parts : map line_spelt (p_lines c.inputs ++ (blocks_lines c.names c.components ++ late_lines c.names c.inputs))
       ≡ optional (p_line_of c.inputs) ++ (map line_spelt (blocks_lines c.names c.components) ++ map line_spelt (late_lines c.names c.inputs))
   parts =
       map-append line_spelt (p_lines c.inputs) (blocks_lines c.names c.components ++ late_lines c.names c.inputs)
-      ∙ ap₂ (λ (xs ys : List (List ℕ)). xs ++ ys) (p_optional c.inputs) (map-append line_spelt (blocks_lines c.names c.components) (late_lines c.names c.inputs))
+      ∙ ap₂ (λ (xs ys : List (List ℕ)). xs ++ ys) (p_optional c.inputs)
+      (map-append line_spelt (blocks_lines c.names c.components) (late_lines c.names c.inputs))
 
   document : IsDocument (map line_spelt (canonical_lines c)) (draft_of c)
   unfolding canonical_lines
@@ -256,7 +247,8 @@ module _ (c : Content) (h : IsContentSaid c) where
     block_lines = map line_spelt (blocks_lines c.names c.components);
     stage_lines = map line_spelt (late_lines c.names c.inputs);
     spelt = ap (λ (xs : List (List ℕ)). line_spelt (alpha_words c.alpha) ∷ line_spelt (names_words c.names) ∷ xs) parts;
-    alpha = line_is (codes "alpha") (number_word c.alpha ∷ []) (λ words. IsNumber words c.alpha) alpha_line (record { numeral = number_word c.alpha; alone = refl; says = h.alpha });
+    alpha = line_is (codes "alpha") (number_word c.alpha ∷ []) (λ words. IsNumber words c.alpha) alpha_line
+        (record { numeral = number_word c.alpha; alone = refl; says = h.alpha });
     names = line_is (codes "hypotheses") c.names (λ words. words ≡ c.names) names_line refl;
     p = p_said c.names c.inputs h.inputs;
     blocks = blocks_said c.names h.words h.apart c.components h.some h.components;

@@ -1,11 +1,11 @@
 -- The draft that the canonical text of a case says, and that it has the content of the case.
-use Rattle.std.proofs.Common.{◌≡◌, ◌≢◌, refl, sym, ap, ap₂, subst, ◌∙◌, ℕ, zero, suc, ◌+◌, ◌*◌, ◌/◌, ◌%◌, ◌<◌, ◌≤◌, ◌==◌, ◌&&◌, inl, inr, List, [], ◌∷◌, length, map, get_or, Bool, true, false, if◌then◌else◌, Option, Some, None, is_some, pos, arith}
+use Rattle.std.proofs.Common.{◌≡◌, ◌≢◌, refl, sym, ap, ap₂, subst, ◌∙◌, ℕ, zero, suc, ◌+◌, ◌*◌, ◌/◌, ◌%◌, ◌<◌, ◌==◌, inl, inr, List, [], ◌∷◌, length, map, get_or, Bool, true, false, Option, Some, None, pos, arith}
 use Rattle.std.proofs.lemmas.Bool.{cases_Bool}
 use Rattle.std.proofs.lemmas.Bool.Decides.{nat_tests, Decides-int_eq}
 use Rattle.std.proofs.lemmas.List.{same_lists, get_or_default}
 use Rattle.std.proofs.lemmas.List.FromFn.{length-map-range_with_len, get_or-map-range_with_len}
-use Rattle.std.specs.List.{list_all, list_any, range_with_len}
-use Rattle.std.specs.Prelude.{unsigned_abs, ℤ, ◌<ℤ◌}
+use Rattle.std.specs.List.{list_all, range_with_len}
+use Rattle.std.specs.Prelude.{unsigned_abs, ◌<ℤ◌}
 use Rattle.std.proofs.lemmas.Int.{ints}
 use Rattle.field_core.proofs.Stein.{gcd_of_zero}
 use Rattle.field_core.specs.Terms.{Terms, IsReduced}
@@ -13,7 +13,7 @@ use Rattle.field_core.specs.View.{terms}
 use Rattle.field_core.specs.declared.ratio.Ratio.{Ratio}
 use Rattle.fraction.specs.Tests.{is_zero}
 use Rattle.fraction.proofs.SameRatios.{same_ratio}
-use Rattle.case_model.specs.Sums.{zero_ratio, zero_terms, ratio_at}
+use Rattle.case_model.specs.Sums.{zero_ratio, ratio_at}
 use Rattle.case_model.specs.declared.component.Component.{Component}
 use Rattle.case_model.specs.declared.draft.Draft.{Draft}
 use Rattle.case_model.specs.declared.draft_component.DraftComponent.{DraftComponent}
@@ -26,7 +26,7 @@ use Rattle.case_model.specs.Entries.{no_edge}
 use Rattle.case_model.specs.Content.{Content, content_of, edge_between, table_of, tabled, given, inputs_of}
 use Rattle.case_model.proofs.Holding.{both}
 use Rattle.edge_text.specs.CanonicalText.{is_absent}
-use Rattle.edge_text.specs.CanonicalStatements.{has_coefficients, HasCoefficients}
+use Rattle.edge_text.specs.CanonicalStatements.{has_coefficients}
 
 -- ---- the draft
 
@@ -58,7 +58,13 @@ stages_in (Single ps) = None
 stages_in (Staged s) = Some (record { count = s.count; spend = s.spend; arrivals = s.arrivals })
 
 abbrev pub draft_of : Content → Draft
-draft_of c = record { names = c.names; alpha = c.alpha; p = p_of c.inputs; components = map (untabled (length c.names)) c.components; stages = stages_in c.inputs }
+draft_of c = record {
+  names = c.names;
+  alpha = c.alpha;
+  p = p_of c.inputs;
+  components = map (untabled (length c.names)) c.components;
+  stages = stages_in c.inputs;
+}
 
 -- ---- an absent edge is none
 
@@ -113,11 +119,13 @@ module _ (m : ℕ) (some : 0 < m) where
   unfolding edge_between
   found_first p e es = rw (same_ends p e) refl
 
-  found_later : (p k : ℕ) (e : List Ratio) (es : List DraftEdge) → p ≢ k → edge_between (edge_at m p e ∷ es) (k / m) (k % m) ≡ edge_between es (k / m) (k % m)
+  found_later : (p k : ℕ) (e : List Ratio) (es : List DraftEdge) → p ≢ k
+      → edge_between (edge_at m p e ∷ es) (k / m) (k % m) ≡ edge_between es (k / m) (k % m)
   unfolding edge_between
   found_later p k e es n = rw (other_ends p k e n) refl
 
-  found_before : (b : Bool) (p k : ℕ) (e : List Ratio) (es : List DraftEdge) → p ≢ k → edge_between (before b (edge_at m p e) es) (k / m) (k % m) ≡ edge_between es (k / m) (k % m)
+  found_before : (b : Bool) (p k : ℕ) (e : List Ratio) (es : List DraftEdge) → p ≢ k
+      → edge_between (before b (edge_at m p e) es) (k / m) (k % m) ≡ edge_between es (k / m) (k % m)
   found_before true p k e es n = refl
   found_before false p k e es n = found_later p k e es n
 
@@ -132,11 +140,13 @@ module _ (m : ℕ) (some : 0 < m) where
       let other : p ≢ k = λ q. omega arith in
       found_before (is_absent e) p k e (edges_from m (p + 1) es) other ∙ beyond (p + 1) k es next
 
-  here : (b : Bool) (p : ℕ) (e : List Ratio) (es : List (List Ratio)) → is_absent e ≡ b → length e ≡ 5 → edge_between (before b (edge_at m p e) (edges_from m (p + 1) es)) (p / m) (p % m) ≡ e
+  here : (b : Bool) (p : ℕ) (e : List Ratio) (es : List (List Ratio)) → is_absent e ≡ b → length e ≡ 5
+      → edge_between (before b (edge_at m p e) (edges_from m (p + 1) es)) (p / m) (p % m) ≡ e
   here true p e es h l = let next : p < p + 1 = omega arith in beyond (p + 1) p es next ∙ sym (absent_is e l h)
   here false p e es h l = found_first p e (edges_from m (p + 1) es)
 
-  found : (p n k : ℕ) (es : List (List Ratio)) → p + n ≡ k → list_all five es ≡ true → edge_between (edges_from m p es) (k / m) (k % m) ≡ get_or es n no_edge
+  found : (p n k : ℕ) (es : List (List Ratio)) → p + n ≡ k → list_all five es ≡ true
+      → edge_between (edges_from m p es) (k / m) (k % m) ≡ get_or es n no_edge
   found p n k [] e h = none_found k
   found p zero k (x ∷ es) e h =
       let at : p ≡ k = omega arith in
@@ -150,7 +160,8 @@ module _ (m : ℕ) (some : 0 < m) where
   pub table_back : (table : List (List Ratio)) → length table ≡ m * m → list_all five table ≡ true → table_of m (edges_from m 0 table) ≡ table
   unfolding table_of
   table_back table l h =
-      same_lists (map (λ k. edge_between (edges_from m 0 table) (k / m) (k % m)) (range_with_len 0 (m * m))) table (length-map-range_with_len _ 0 (m * m) ∙ sym l) at
+      same_lists (map (λ k. edge_between (edges_from m 0 table) (k / m) (k % m)) (range_with_len 0 (m * m))) table
+      (length-map-range_with_len _ 0 (m * m) ∙ sym l) at
     where
       at : (k : ℕ) (d : List Ratio) → k < length (map (λ k. edge_between (edges_from m 0 table) (k / m) (k % m)) (range_with_len 0 (m * m)))
           → get_or (map (λ k. edge_between (edges_from m 0 table) (k / m) (k % m)) (range_with_len 0 (m * m))) k d ≡ get_or table k d
@@ -162,13 +173,15 @@ module _ (m : ℕ) (some : 0 < m) where
 
 -- ---- the content of the draft
 
-tables_back : (m : ℕ) → 0 < m → (ks : List Component) → list_all (λ k. length k.edges == m * m) ks ≡ true → list_all (λ k. list_all five k.edges) ks ≡ true → map (tabled m) (map (untabled m) ks) ≡ ks
+tables_back : (m : ℕ) → 0 < m → (ks : List Component) → list_all (λ k. length k.edges == m * m) ks ≡ true
+    → list_all (λ k. list_all five k.edges) ks ≡ true → map (tabled m) (map (untabled m) ks) ≡ ks
 tables_back m some [] h g = refl
 tables_back m some (k ∷ ks) h g =
     let a = both (length k.edges == m * m) (list_all (λ k. length k.edges == m * m) ks) h in
     let b = both (list_all five k.edges) (list_all (λ k. list_all five k.edges) ks) g in
     let size : length k.edges ≡ m * m = grind (arith, nat_tests, a.left) in
-    ap₂ ◌∷◌ (ap (λ es. record { share = k.share; weights = k.weights; edges = es }) (table_back m some k.edges size b.left)) (tables_back m some ks a.right b.right)
+    ap₂ ◌∷◌ (ap (λ es. record { share = k.share; weights = k.weights; edges = es }) (table_back m some k.edges size b.left))
+    (tables_back m some ks a.right b.right)
 
 given_back : (ps : List Ratio) → given (map Some ps) ≡ ps
 unfolding given
@@ -193,4 +206,5 @@ pub content_back : (c : Content) → 0 < length c.names → list_all (λ k. leng
     → has_coefficients c ≡ true → SomeValues c.inputs → content_of (draft_of c) ≡ c
 unfolding content_of has_coefficients
 content_back c some tables five v =
-    ap₂ (λ ks i. record { names = c.names; alpha = c.alpha; components = ks; inputs = i }) (tables_back (length c.names) some c.components tables five) (inputs_back c.inputs v)
+    ap₂ (λ ks i. record { names = c.names; alpha = c.alpha; components = ks; inputs = i })
+    (tables_back (length c.names) some c.components tables five) (inputs_back c.inputs v)

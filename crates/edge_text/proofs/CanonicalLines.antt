@@ -1,64 +1,50 @@
 -- The lines of canonical texts, and the document that they are.
-use Rattle.std.proofs.Common.{◌≡◌, ◌≢◌, refl, sym, ap, ap₂, subst, ◌∙◌, ℕ, zero, suc, ◌+◌, ◌*◌, ◌/◌, ◌%◌, ◌<◌, ◌≤◌, ◌⊎◌, ◌==◌, ◌&&◌, inl, inr, List, [], ◌∷◌, ◌++◌, length, map, get_or, Bool, true, false, cond, eqb, Option, Some, None, arith, append_assoc}
-use Rattle.std.specs.Prelude.{codes, if◌then◌else◌, slice_get}
-use Rattle.std.specs.Fmt.{decimal}
-use Rattle.std.specs.List.{AllByRecursion, AllZip, flat_map, list_all, position, position_from}
+use Rattle.std.proofs.Common.{append-nil, ◌≡◌, ◌≢◌, refl, sym, ap, subst, ◌∙◌, ℕ, zero, suc, ◌+◌, ◌*◌, ◌/◌, ◌%◌, ◌<◌, ◌≤◌, ◌==◌, inl, inr, List, [], ◌∷◌, ◌++◌, length, map, get_or, Bool, true, false, Some, arith}
+use Rattle.std.specs.Prelude.{codes, if◌then◌else◌}
+use Rattle.std.specs.List.{AllByRecursion, AllZip, flat_map, list_all, position_from}
 use Rattle.std.specs.Str.{bytes_eq}
 use Rattle.std.proofs.lemmas.Bool.{cases_Bool}
-use Rattle.std.proofs.lemmas.Bool.Decides.{nat_tests, Decides-int_eq}
+use Rattle.std.proofs.lemmas.Bool.Decides.{nat_tests}
 use Rattle.std.proofs.lemmas.Iterator.Adapters.{position_from-zero}
-use Rattle.std.proofs.lemmas.List.{map-append}
 use Rattle.std.proofs.lemmas.Option.{slice_get-get_or}
 use Rattle.std.proofs.lemmas.Slice.Eq.{bytes_eq-Decides}
-use Rattle.field_core.specs.View.{terms}
 use Rattle.field_core.specs.declared.ratio.Ratio.{Ratio}
-use Rattle.fraction.specs.Tests.{is_one}
-use Rattle.fraction.proofs.SameRatios.{same_ratio}
-use Rattle.case_model.specs.declared.component.Component.{Component}
-use Rattle.case_model.specs.declared.draft_component.DraftComponent.{DraftComponent}
-use Rattle.case_model.specs.declared.draft_edge.DraftEdge.{DraftEdge}
-use Rattle.case_model.specs.declared.draft_stages.Arrival.{Arrival}
-use Rattle.case_model.specs.declared.inputs.Inputs.{Inputs}
-use Rattle.case_model.specs.declared.inputs.Inputs.TheVariants.{Bare, Single, Staged}
-use Rattle.case_model.specs.declared.inputs.Stages.{Stages}
-use Rattle.case_model.specs.declared.spend.Spend.{Spend}
-use Rattle.case_model.specs.declared.spend.Spend.TheVariants.{Shares, Table}
-use Rattle.case_model.specs.declared.spend_step.SpendStep.{SpendStep}
 use Rattle.case_model.specs.Draft.{is_short}
-use Rattle.case_model.specs.Entries.{no_edge}
 use Rattle.case_model.specs.Names.{position_of}
 use Rattle.case_model.specs.ValidDraft.{Each, EachTwo}
-use Rattle.case_model.proofs.Holding.{both}
-use Rattle.text_lines.specs.Spelling.{spaced, line_spelt, text_of, IsNoComment, IsWord, IsLine, numbered}
+use Rattle.text_lines.specs.Spelling.{line_spelt, text_of, IsWord, IsLine, numbered}
 use Rattle.text_lines.specs.Lines.{rows_of, texts_in}
-use Rattle.text_lines.specs.Words.{words_of, behind_word, behind_words}
+use Rattle.text_lines.specs.Words.{behind_words}
 use Rattle.text_lines.proofs.Spelt.{words_of_line, rows_of_text, behind_spelt, behind_blank}
 use Rattle.edge_expression.specs.EntryReading.{IsEntryText}
 use Rattle.edge_expression.specs.EntryTexts.{entry_text}
 use Rattle.edge_expression.proofs.EntriesReadBack.{entry_reads_back}
-use Rattle.edge_text.specs.Grammar.{Words, IsLineOf, IsNumber, AreNumbers, HasThree, IsEdge, IsEdgeLine, IsBlock, IsSharedBlock, one}
-use Rattle.edge_text.specs.CanonicalText.{number_word, name_at, share_words, weights_words, edge_words, is_absent, edge_lines, table_lines, block_lines}
-use Rattle.edge_text.proofs.CanonicalDrafts.{edge_at, before, edges_from, untabled}
-use Rattle.edge_text.proofs.CanonicalWords.{is_high, high_word, number_is_word, IsSaid, short_said, zip_map, all_map, numbers_are_words, entry_is_word, blank_entry}
+use Rattle.edge_text.specs.Grammar.{Words, IsLineOf, IsEdge, IsEdgeLine}
+use Rattle.edge_text.specs.CanonicalText.{name_at, edge_words, is_absent, edge_lines, table_lines}
+use Rattle.edge_text.proofs.CanonicalDrafts.{edge_at, before, edges_from}
+use Rattle.edge_text.proofs.CanonicalWords.{is_high, high_word, entry_is_word, blank_entry}
 
 -- ---- lines by their words
 
 -- a line that begins with a keyword
-pub keyed : (b : ℕ) (bs : List ℕ) (words : Words) → (b == 35) ≡ false → list_all is_high (b ∷ bs) ≡ true → AllByRecursion IsWord words → IsLine ((b ∷ bs) ∷ words)
+pub keyed : (b : ℕ) (bs : List ℕ) (words : Words) → (b == 35) ≡ false → list_all is_high (b ∷ bs) ≡ true → AllByRecursion IsWord words
+    → IsLine ((b ∷ bs) ∷ words)
 keyed b bs words e h w = (no_comment, high_word (b ∷ bs) (omega arith) h, w)
   where
     no_comment : b ≢ 35
     no_comment q = grind (arith, nat_tests)
 
 -- it says what its words say
-pub line_is : (keyword : List ℕ) (words : Words) (Are : Words → Type 0) → IsLine (keyword ∷ words) → Are words → IsLineOf keyword (line_spelt (keyword ∷ words)) Are
+pub line_is : (keyword : List ℕ) (words : Words) (Are : Words → Type 0) → IsLine (keyword ∷ words) → Are words
+    → IsLineOf keyword (line_spelt (keyword ∷ words)) Are
 line_is keyword words Are h a = record { behind = words; words = words_of_line (keyword ∷ words) (h.1, h.2); are = a }
 
 pub all_append : {A : Type 0} (P : A → Type 0) (xs ys : List A) → AllByRecursion P xs → AllByRecursion P ys → AllByRecursion P (xs ++ ys)
 all_append P [] ys h k = k
 all_append P (x ∷ xs) ys h k = (h.0, all_append P xs ys h.1 k)
 
-pub all_flat : {A B : Type 0} (P : B → Type 0) (f : A → List B) (xs : List A) → Each xs (λ x. AllByRecursion P (f x)) → AllByRecursion P (flat_map f xs)
+pub all_flat : {A B : Type 0} (P : B → Type 0) (f : A → List B) (xs : List A) → Each xs (λ x. AllByRecursion P (f x))
+    → AllByRecursion P (flat_map f xs)
 all_flat P f [] h = tt
 all_flat P f (x ∷ xs) h = all_append P (f x) (flat_map f xs) (h 0 x refl) (all_flat P f xs (λ n y e. h (suc n) y e))
 
@@ -77,13 +63,16 @@ abbrev pub AreDistinct : List (List ℕ) → Type 0
 AreDistinct [] = Unit {0}
 AreDistinct (name ∷ names) = AllByRecursion (λ other. ¬ (name ≡ other)) names × AreDistinct names
 
-all_each : {A : Type 0} (P : A → Type 0) (xs : List A) → Each xs P → AllByRecursion P xs
-all_each P [] h = tt
-all_each P (x ∷ xs) h = (h 0 x refl, all_each P xs (λ n y e. h (suc n) y e))
+pub each_holds : {A : Type 0} (P : A → Type 0) (xs : List A) → Each xs P → AllByRecursion P xs
+each_holds P [] h = tt
+each_holds P (x ∷ xs) h = (h 0 x refl, each_holds P xs (λ n y e. h (suc n) y e))
 
 pub distinct : (names : List (List ℕ)) → EachTwo names (λ a b. ¬ (a ≡ b)) → AreDistinct names
 distinct [] h = tt
-distinct (name ∷ names) h = (all_each (λ other. ¬ (name ≡ other)) names (λ j y e. h 0 (suc j) name y (omega arith) refl e), distinct names (λ i j x y l e f. h (suc i) (suc j) x y (omega arith) e f))
+distinct (name ∷ names) h = (
+  each_holds (λ other. ¬ (name ≡ other)) names (λ j y e. h 0 (suc j) name y (omega arith) refl e),
+  distinct names (λ i j x y l e f. h (suc i) (suc j) x y (omega arith) e f),
+)
 
 same_name : (name : List ℕ) → bytes_eq name name ≡ true
 same_name name = (bytes_eq-Decides name name).1 refl
@@ -91,12 +80,14 @@ same_name name = (bytes_eq-Decides name name).1 refl
 other_name : (a b : List ℕ) → ¬ (a ≡ b) → bytes_eq a b ≡ false
 other_name a b n = elim (cases_Bool (bytes_eq a b)) [ inl t ↦ absurd (n ((bytes_eq-Decides a b).0 t)) | inr f ↦ f ]
 
-name_apart : (name : List ℕ) (names : List (List ℕ)) (i : ℕ) → AllByRecursion (λ other. ¬ (name ≡ other)) names → i < length names → ¬ (get_or names i [] ≡ name)
+name_apart : (name : List ℕ) (names : List (List ℕ)) (i : ℕ) → AllByRecursion (λ other. ¬ (name ≡ other)) names → i < length names
+    → ¬ (get_or names i [] ≡ name)
 name_apart name [] i h l e = absurd (omega arith)
 name_apart name (other ∷ names) zero h l e = h.0 (sym e)
 name_apart name (other ∷ names) (suc i) h l e = name_apart name names i h.1 (omega arith) e
 
-place_from : (p : ℕ) (names : List (List ℕ)) (i q : ℕ) → AreDistinct names → i < length names → p + i ≡ q → position_from (bytes_eq (get_or names i [])) p names ≡ Some q
+place_from : (p : ℕ) (names : List (List ℕ)) (i q : ℕ) → AreDistinct names → i < length names → p + i ≡ q
+    → position_from (bytes_eq (get_or names i [])) p names ≡ Some q
 place_from p [] i q h l e = absurd (omega arith)
 place_from p (name ∷ names) zero q h l e =
     let s : p ≡ q = omega arith in
@@ -104,7 +95,8 @@ place_from p (name ∷ names) zero q h l e =
 place_from p (name ∷ names) (suc i) q h l e =
     let w : i < length names = omega arith in
     let s : p + 1 + i ≡ q = omega arith in
-    ap (λ b. if b then Some p else position_from (bytes_eq (get_or names i [])) (p + 1) names) (other_name (get_or names i []) name (name_apart name names i h.0 w)) ∙ place_from (p + 1) names i q h.1 w s
+    ap (λ b. if b then Some p else position_from (bytes_eq (get_or names i [])) (p + 1) names)
+    (other_name (get_or names i []) name (name_apart name names i h.0 w)) ∙ place_from (p + 1) names i q h.1 w s
 
 -- the position of a name
 pub place_of_name : (names : List (List ℕ)) (i : ℕ) → AreDistinct names → i < length names → position_of (name_at names i) names ≡ Some i
@@ -121,10 +113,6 @@ behind_three a b c t ha hb hc =
     ∙ ap (behind_words 1) (behind_blank (b ++ 32 ∷ (c ++ 32 ∷ (t ++ []))) ∙ behind_spelt b (c ++ 32 ∷ (t ++ [])) hb)
     ∙ behind_blank (c ++ 32 ∷ (t ++ [])) ∙ behind_spelt c (t ++ []) hc
 
-nothing_behind : (t : List ℕ) → t ++ [] ≡ t
-nothing_behind [] = refl
-nothing_behind (b ∷ t) = ap (λ x. b ∷ x) (nothing_behind t)
-
 edge_word : IsWord (codes "edge")
 edge_word = high_word (codes "edge") (omega arith) refl
 
@@ -135,18 +123,29 @@ pub record IsEntry (e : List Ratio) : Type 0 where
 
 module _ (names : List (List ℕ)) (words : Each names IsWord) (apart : AreDistinct names) where
   pub edge_line : (i j : ℕ) (e : List Ratio) → i < length names → j < length names → IsLine (edge_words names i j e)
-  edge_line i j e hi hj = keyed _ _ (name_at names i ∷ name_at names j ∷ entry_text e ∷ []) refl refl (name_word names i words hi, (name_word names j words hj, (entry_is_word e, tt)))
+  edge_line i j e hi hj = keyed _ _ (name_at names i ∷ name_at names j ∷ entry_text e ∷ []) refl refl
+      (name_word names i words hi, (name_word names j words hj, (entry_is_word e, tt)))
 
-  edge_said : (i j : ℕ) (e : List Ratio) → i < length names → j < length names → IsEntry e → IsEdgeLine names (line_spelt (edge_words names i j e)) (record { from = i; to = j; entry = e })
+  edge_said : (i j : ℕ) (e : List Ratio) → i < length names → j < length names → IsEntry e
+      → IsEdgeLine names (line_spelt (edge_words names i j e)) (record { from = i; to = j; entry = e })
   edge_said i j e hi hj h =
       let a = name_at names i in
       let b = name_at names j in
       let line = line_spelt (edge_words names i j e) in
       let w : Words = a ∷ b ∷ entry_text e ∷ [] in
       let says : IsEntryText (behind_words 3 line) e =
-      subst (λ t. IsEntryText t e) (sym (behind_three (codes "edge") a b (entry_text e) edge_word (name_word names i words hi) (name_word names j words hj) ∙ ap (λ t. 32 ∷ t) (nothing_behind (entry_text e)))) (blank_entry (entry_text e) e (entry_reads_back e h.five h.short)) in
+      subst (λ t. IsEntryText t e) (sym (behind_three (codes "edge") a b (entry_text e) edge_word (name_word names i words hi)
+      (name_word names j words hj) ∙ ap (λ t. 32 ∷ t) (append-nil (entry_text e))))
+      (blank_entry (entry_text e) e (entry_reads_back e h.five h.short)) in
       line_is (codes "edge") w (λ words. IsEdge names line words (record { from = i; to = j; entry = e })) (edge_line i j e hi hj)
-      (record { from = a; to = b; ends = record { further = entry_text e; others = []; words_are = refl }; from_is = place_of_name names i apart hi; to_is = place_of_name names j apart hj; says = says })
+      (record {
+        from = a;
+        to = b;
+        ends = record { further = entry_text e; others = []; words_are = refl };
+        from_is = place_of_name names i apart hi;
+        to_is = place_of_name names j apart hj;
+        says = says;
+      })
 
   abbrev m : ℕ
   m = length names
@@ -160,20 +159,25 @@ module _ (names : List (List ℕ)) (words : Each names IsWord) (apart : AreDisti
   pub edges_lines : (p : ℕ) (table : List (List Ratio)) → p + length table ≤ m * m → AllByRecursion IsLine (table_lines names p table)
   unfolding edge_lines
   edges_lines p [] h = tt
-  edges_lines p (e ∷ es) h = all_append IsLine (edge_lines names p e) (table_lines names (p + 1) es) (by_test (is_absent e)) (edges_lines (p + 1) es (omega arith))
+  edges_lines p (e ∷ es) h = all_append IsLine (edge_lines names p e) (table_lines names (p + 1) es) (by_test (is_absent e))
+      (edges_lines (p + 1) es (omega arith))
     where
       by_test : (b : Bool) → AllByRecursion IsLine (if b then [] else edge_words names (p / m) (p % m) e ∷ [])
       by_test true = tt
       by_test false = let w : p < m * m = omega arith in (edge_line (p / m) (p % m) e (row_below p w) (column_below p w), tt)
 
-  pub edges_said : (p : ℕ) (table : List (List Ratio)) → p + length table ≤ m * m → Each (edges_from m p table) (λ e. IsEntry e.entry) → AllZip (IsEdgeLine names) (map line_spelt (table_lines names p table)) (edges_from m p table)
+  pub edges_said : (p : ℕ) (table : List (List Ratio)) → p + length table ≤ m * m → Each (edges_from m p table) (λ e. IsEntry e.entry)
+      → AllZip (IsEdgeLine names) (map line_spelt (table_lines names p table)) (edges_from m p table)
   unfolding edge_lines
   edges_said p [] h g = tt
   edges_said p (e ∷ es) h g = by_test (is_absent e) g (λ k. edges_said (p + 1) es (omega arith) k)
     where
       by_test : (b : Bool) → Each (before b (edge_at m p e) (edges_from m (p + 1) es)) (λ e. IsEntry e.entry)
-          → (Each (edges_from m (p + 1) es) (λ e. IsEntry e.entry) → AllZip (IsEdgeLine names) (map line_spelt (table_lines names (p + 1) es)) (edges_from m (p + 1) es))
-          → AllZip (IsEdgeLine names) (map line_spelt ((if b then [] else edge_words names (p / m) (p % m) e ∷ []) ++ table_lines names (p + 1) es)) (before b (edge_at m p e) (edges_from m (p + 1) es))
+          → (Each (edges_from m (p + 1) es) (λ e. IsEntry e.entry)
+          → AllZip (IsEdgeLine names) (map line_spelt (table_lines names (p + 1) es)) (edges_from m (p + 1) es))
+          → AllZip (IsEdgeLine names) (map line_spelt
+          ((if b then [] else edge_words names (p / m) (p % m) e ∷ []) ++ table_lines names (p + 1) es))
+          (before b (edge_at m p e) (edges_from m (p + 1) es))
       by_test true g rest = rest g
       by_test false g rest =
           let w : p < m * m = omega arith in

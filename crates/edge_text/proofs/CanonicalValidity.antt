@@ -1,13 +1,12 @@
 -- The draft that the canonical text of a case says has no fault.
-use Rattle.std.proofs.Common.{◌≡◌, ◌≢◌, ◌⊎◌, refl, sym, ap, ap₂, subst, ◌∙◌, ℕ, zero, suc, ◌+◌, ◌*◌, ◌/◌, ◌%◌, ◌<◌, ◌≤◌, ◌==◌, ◌&&◌, inl, inr, List, [], ◌∷◌, length, map, get_or, slice_get, Bool, true, false, if◌then◌else◌, Option, Some, None, is_some, is_none, arith}
+use Rattle.std.proofs.Common.{◌≡◌, ◌≢◌, refl, sym, ap, ap₂, subst, ◌∙◌, ℕ, zero, suc, ◌+◌, ◌*◌, ◌/◌, ◌%◌, ◌<◌, ◌≤◌, ◌==◌, inl, inr, List, [], ◌∷◌, length, map, get_or, slice_get, Bool, true, false, if◌then◌else◌, Option, Some, None, is_some, is_none, arith}
 use mathlib.Core.Bool.{Bool-set}
 use Rattle.std.proofs.Math.Logic.{∥∥₁_elim}
-use Rattle.std.proofs.lemmas.Bool.{cases_Bool}
 use Rattle.std.proofs.lemmas.Bool.Decides.{nat_tests}
 use Rattle.std.proofs.lemmas.List.{length-map}
 use Rattle.std.proofs.lemmas.List.FromFn.{get_or-map-range_with_len}
 use Rattle.std.proofs.lemmas.Option.{slice_get-map}
-use Rattle.std.specs.List.{find, list_all, list_any, range_with_len}
+use Rattle.std.specs.List.{find, list_all, list_any}
 use Rattle.std.specs.Option.{option_map, option_map_or}
 use Rattle.field_core.specs.Arithmetic.{number_one}
 use Rattle.field_core.specs.NumberField.{number_field}
@@ -15,7 +14,6 @@ use Rattle.field_core.specs.Order.{◌≤ε◌}
 use Rattle.field_core.specs.Sums.{sum_below}
 use Rattle.field_core.specs.declared.ratio.Ratio.{Ratio}
 use Rattle.fraction.specs.View.{number_of}
-use Rattle.case_model.specs.declared.component.Component.{Component}
 use Rattle.case_model.specs.declared.draft.Draft.{Draft}
 use Rattle.case_model.specs.declared.draft_component.DraftComponent.{DraftComponent}
 use Rattle.case_model.specs.declared.draft_edge.DraftEdge.{DraftEdge}
@@ -26,7 +24,7 @@ use Rattle.case_model.specs.Draft.{has_ends, is_short_p_value, is_p_value, is_un
 use Rattle.case_model.specs.Entries.{no_edge, entry_at, entry_value}
 use Rattle.case_model.specs.Content.{Content, content_of, edge_between, table_of, tabled, given, inputs_of, IfSingle}
 use Rattle.case_model.specs.CaseFaults.{case_fault, written_row}
-use Rattle.case_model.specs.ValidDraft.{Each, EachTwo, SumsTo, CanSum, CanSumSpend, IsValidComponent, AreValidPlaces, AreValidStages, IsValidDraft, HasWrittenSums}
+use Rattle.case_model.specs.ValidDraft.{Each, EachTwo, SumsTo, CanSum, IsValidComponent, AreValidPlaces, IsValidDraft, HasWrittenSums}
 use Rattle.case_model.specs.Validity.{IsValidContent}
 use Rattle.case_model.proofs.Holding.{both}
 use Rattle.case_model.proofs.Faultless.{length-table_of}
@@ -62,17 +60,20 @@ found_from : {A B : Type 0} (f : A → B) (o : Option A) (y : B) → option_map 
 found_from f None y e = absurd (let q : Path (Option _) None (Some y) = e in cc)
 found_from f (Some x) y e = (x, refl, some_same (f x) y e)
 
-mapped_from : {A B : Type 0} (f : A → B) (xs : List A) (i : ℕ) (y : B) → slice_get (map f xs) i ≡ Some y → (x : A) × (slice_get xs i ≡ Some x) × (f x ≡ y)
+mapped_from : {A B : Type 0} (f : A → B) (xs : List A) (i : ℕ) (y : B) → slice_get (map f xs) i ≡ Some y → (x : A)
+    × (slice_get xs i ≡ Some x) × (f x ≡ y)
 mapped_from f xs i y e = found_from f (slice_get xs i) y (sym (slice_get-map f xs i) ∙ e)
 
-pub each_map : {A B : Type 0} (f : A → B) (P : B → Type 0) (xs : List A) → ((i : ℕ) (x : A) → slice_get xs i ≡ Some x → P (f x)) → Each (map f xs) P
+pub each_map : {A B : Type 0} (f : A → B) (P : B → Type 0) (xs : List A) → ((i : ℕ) (x : A) → slice_get xs i ≡ Some x → P (f x))
+    → Each (map f xs) P
 each_map f P xs h i y e = let r = mapped_from f xs i y e in subst P r.2 (h i r.0 r.1)
 
 -- ---- edges of a table
 
 -- what holds of each edge of a table holds of those that aren't 0
 pub edges_each : (P : DraftEdge → Type 0) (m p : ℕ) (table : List (List Ratio))
-    → ((n q : ℕ) → p + n ≡ q → n < length table → is_absent (get_or table n no_edge) ≡ false → P (edge_at m q (get_or table n no_edge))) → Each (edges_from m p table) P
+    → ((n q : ℕ) → p + n ≡ q → n < length table → is_absent (get_or table n no_edge) ≡ false
+    → P (edge_at m q (get_or table n no_edge))) → Each (edges_from m p table) P
 edges_each P m p [] h = λ i x e. absurd (no_item i x e)
 edges_each P m p (e ∷ es) h = by_test (is_absent e) refl (edges_each P m (p + 1) es (λ n q s l a. h (suc n) q (omega arith) (omega arith) a))
   where
@@ -89,7 +90,8 @@ record IsListed (es : List DraftEdge) (e : DraftEdge) : Type 0 where
   place : ℕ
   there : slice_get es place ≡ Some e
 
-listed : (i j : ℕ) (es : List DraftEdge) → is_absent (edge_between es i j) ≡ false → IsListed es (record { from = i; to = j; entry = edge_between es i j })
+listed : (i j : ℕ) (es : List DraftEdge) → is_absent (edge_between es i j) ≡ false
+    → IsListed es (record { from = i; to = j; entry = edge_between es i j })
 unfolding edge_between
 listed i j [] h = let q : true ≡ false = sym nothing_absent ∙ h in absurd (cc)
 listed i j (e ∷ es) h = by_test (has_ends i j e) refl h (λ a. listed i j es a)
@@ -112,7 +114,8 @@ table_at m es q h = get_or-map-range_with_len (λ k. edge_between es (k / m) (k 
 kept_each : (P : DraftEdge → Type 0) (m : ℕ) (es : List DraftEdge) → Each es P → Each (edges_from m 0 (table_of m es)) P
 kept_each P m es h = edges_each P m 0 (table_of m es) here
   where
-    here : (n q : ℕ) → 0 + n ≡ q → n < length (table_of m es) → is_absent (get_or (table_of m es) n no_edge) ≡ false → P (edge_at m q (get_or (table_of m es) n no_edge))
+    here : (n q : ℕ) → 0 + n ≡ q → n < length (table_of m es) → is_absent (get_or (table_of m es) n no_edge) ≡ false
+        → P (edge_at m q (get_or (table_of m es) n no_edge))
     here n q s l a =
         let w : n < m * m = omega (arith, length-table_of m es) in
         let e = table_at m es n w in
@@ -137,17 +140,20 @@ once_each m p (e ∷ es) some = by_test (is_absent e) (once_each m (p + 1) es so
   where
     by_test : (b : Bool) → EachTwo (edges_from m (p + 1) es) AreApart → EachTwo (before b (edge_at m p e) (edges_from m (p + 1) es)) AreApart
     by_test true rest = rest
-    by_test false rest = two_cons AreApart (edge_at m p e) (edges_from m (p + 1) es) (edges_each (AreApart (edge_at m p e)) m (p + 1) es (λ n q s l a. apart m some p q (omega arith))) rest
+    by_test false rest = two_cons AreApart (edge_at m p e) (edges_from m (p + 1) es)
+        (edges_each (AreApart (edge_at m p e)) m (p + 1) es (λ n q s l a. apart m some p q (omega arith))) rest
 
 -- ---- components
 
 abbrev table_again : ℕ → DraftComponent → DraftComponent
 table_again m k = untabled m (tabled m k)
 
-same_table : (m : ℕ) (k : DraftComponent) → 0 < m → list_all five (table_of m k.edges) ≡ true → table_of m (table_again m k).edges ≡ table_of m k.edges
+same_table : (m : ℕ) (k : DraftComponent) → 0 < m → list_all five (table_of m k.edges) ≡ true
+    → table_of m (table_again m k).edges ≡ table_of m k.edges
 same_table m k some h = table_back m some (table_of m k.edges) (length-table_of m k.edges) h
 
-valid_again : (m : ℕ) (k : DraftComponent) → 0 < m → list_all five (table_of m k.edges) ≡ true → IsValidComponent m k → IsValidComponent m (table_again m k)
+valid_again : (m : ℕ) (k : DraftComponent) → 0 < m → list_all five (table_of m k.edges) ≡ true → IsValidComponent m k
+    → IsValidComponent m (table_again m k)
 valid_again m k some h v = record {
   short_share = v.short_share;
   share = v.share;
@@ -159,7 +165,8 @@ valid_again m k some h v = record {
   no_loop = kept_each _ m k.edges v.no_loop;
   once = once_each m 0 (table_of m k.edges) some;
   unit = kept_each _ m k.edges v.unit;
-  rows = subst (λ t. (i : ℕ) → i < m → sum_below number_field m (λ j. entry_value (entry_at m t i j)) ≤ε number_one) (sym (same_table m k some h)) v.rows;
+  rows = subst (λ t. (i : ℕ) → i < m → sum_below number_field m (λ j. entry_value (entry_at m t i j)) ≤ε number_one)
+      (sym (same_table m k some h)) v.rows;
 }
 
 same_shares : (m : ℕ) (ks : List DraftComponent) → map (λ k. k.share) (map (untabled m) (map (tabled m) ks)) ≡ map (λ k. k.share) ks
@@ -171,11 +178,14 @@ same_count m ks = length-map (map (tabled m) ks) (untabled m) ∙ length-map ks 
 
 -- what holds of components with their tables made again
 all_again : (m : ℕ) (P : DraftComponent → Type 0) (ks : List DraftComponent) → list_all (λ k. list_all five k.edges) (map (tabled m) ks) ≡ true
-    → ((i : ℕ) (k : DraftComponent) → slice_get ks i ≡ Some k → list_all five (table_of m k.edges) ≡ true → P (table_again m k)) → Each (map (untabled m) (map (tabled m) ks)) P
+    → ((i : ℕ) (k : DraftComponent) → slice_get ks i ≡ Some k → list_all five (table_of m k.edges) ≡ true → P (table_again m k))
+    → Each (map (untabled m) (map (tabled m) ks)) P
 all_again m P ks h f =
     each_map (untabled m) P (map (tabled m) ks) (λ i t e.
     let r = mapped_from (tabled m) ks i t e in
-    subst (λ t. P (untabled m t)) r.2 (f i r.0 r.1 (all_each (λ k. list_all five k.edges) (map (tabled m) ks) h i (tabled m r.0) (slice_get-map (tabled m) ks i ∙ ap (option_map (tabled m)) r.1))))
+    subst (λ t. P (untabled m t)) r.2 (f i r.0 r.1
+    (all_each (λ k. list_all five k.edges) (map (tabled m) ks) h i (tabled m r.0)
+    (slice_get-map (tabled m) ks i ∙ ap (option_map (tabled m)) r.1))))
 
 -- ---- p-values and stages
 
@@ -187,10 +197,21 @@ no_none ps i e = let r = mapped_from Some ps i None e in let q : Path (Option Ra
 
 valid_places : (m : ℕ) (i : Inputs) → IfSingle i (ArePValues m) → AreValidPlaces m (p_of i)
 unfolding is_p_value
-valid_places m Bare h = record { count = inl refl; all = λ i j p e f. absurd (no_item i (Some p) e); short = λ i p e. absurd (no_item i (Some p) e); unit = λ i p e. absurd (no_item i (Some p) e) }
-valid_places m (Staged s) h = record { count = inl refl; all = λ i j p e f. absurd (no_item i (Some p) e); short = λ i p e. absurd (no_item i (Some p) e); unit = λ i p e. absurd (no_item i (Some p) e) }
+valid_places m Bare h = record {
+  count = inl refl;
+  all = λ i j p e f. absurd (no_item i (Some p) e);
+  short = λ i p e. absurd (no_item i (Some p) e);
+  unit = λ i p e. absurd (no_item i (Some p) e);
+}
+valid_places m (Staged s) h = record {
+  count = inl refl;
+  all = λ i j p e f. absurd (no_item i (Some p) e);
+  short = λ i p e. absurd (no_item i (Some p) e);
+  unit = λ i p e. absurd (no_item i (Some p) e);
+}
 valid_places m (Single ps) h =
-    let here = λ (i : ℕ) (p : Ratio) (e : slice_get (map Some ps) i ≡ Some (Some p)). both (is_short_p_value p) (is_unit (number_of p)) (all_each is_p_value ps h.each i p (some_of ps i p e)) in
+    let here = λ (i : ℕ) (p : Ratio) (e : slice_get (map Some ps) i ≡ Some (Some p)). both (is_short_p_value p) (is_unit (number_of p))
+    (all_each is_p_value ps h.each i p (some_of ps i p e)) in
     record {
       count = inr (length-map ps Some ∙ h.count);
       all = λ i j p e f. no_none ps j f;

@@ -1,12 +1,10 @@
 -- The words of canonical texts: that they are words, and what they say.
-use Rattle.std.proofs.Common.{◌≡◌, ◌≢◌, refl, sym, ap, ap₂, subst, ◌∙◌, ℕ, zero, suc, ◌+◌, ◌^◌, ◌<◌, ◌≤◌, ◌⊎◌, ◌&&◌, ◌||◌, ◌==◌, inl, inr, List, [], ◌∷◌, ◌++◌, length, map, take, Bool, true, false, cond, eqb, nat_lt, nat_le, ℤ, pos, ◌*ℤ◌, ◌≤ℤ◌, unsigned_abs, Option, Some, None, arith, lit<}
-use Rattle.std.specs.Prelude.{codes, if◌then◌else◌}
+use Rattle.std.proofs.Common.{◌≡◌, refl, sym, ap, ap₂, ◌∙◌, ℕ, zero, suc, ◌+◌, ◌^◌, ◌<◌, ◌≤◌, ◌⊎◌, ◌&&◌, inl, inr, List, [], ◌∷◌, ◌++◌, length, map, Bool, true, false, cond, eqb, nat_lt, nat_le, ℤ, pos, ◌*ℤ◌, ◌≤ℤ◌, unsigned_abs, arith, lit<}
+use Rattle.std.specs.Prelude.{codes}
 use Rattle.std.specs.Fmt.{decimal}
 use Rattle.std.specs.Int.{is_negative}
 use Rattle.std.specs.List.{AllByRecursion, AllZip, list_all}
 use Rattle.std.specs.Ordering.{is_le, int_cmp}
-use Rattle.std.specs.Str.Parse.{digits_value}
-use Rattle.std.specs.Char.{is_ascii_alphanumeric}
 use Rattle.std.proofs.lemmas.Bool.Decides.{nat_tests}
 use Rattle.std.proofs.lemmas.Fmt.{decimal_is_IsNumeral_wide, length-decimal-le_wide}
 use Rattle.std.proofs.lemmas.Int.{ints}
@@ -22,16 +20,15 @@ use Rattle.fraction.specs.Tests.{is_zero, is_one, is_within, absolute}
 use Rattle.fraction.specs.View.{number_of}
 use Rattle.fraction.proofs.ReadBack.{digits_from, read_back, spelling_bytes, spelling_some}
 use Rattle.case_model.specs.Draft.{at_most, is_name, is_name_byte, is_short, is_short_level, is_short_p_value, is_unit}
-use Rattle.case_model.specs.Sums.{terms_at, zero_terms, zero_ratio}
+use Rattle.case_model.specs.Sums.{terms_at, zero_ratio}
 use Rattle.case_model.specs.ValidDraft.{Each}
 use Rattle.case_model.proofs.Comparisons.{le_is, zero_is, one_is}
 use Rattle.case_model.proofs.Holding.{both}
 use Rattle.text_lines.specs.Spelling.{IsPlain, IsWord}
-use Rattle.edge_expression.specs.EntryReading.{open_with, open_behind, IsShallow, IsWorth, IsEntryText}
+use Rattle.edge_expression.specs.EntryReading.{IsShallow, IsEntryText}
 use Rattle.edge_expression.specs.EntryTexts.{power_text, factor_text, joint_text, joined_term, term_text, terms_text, are_zero_below, coefficients_text, entry_text}
-use Rattle.edge_expression.specs.Expressions.{Token, AreBlanks, IsTokenThen, IsSpelt, Spells, Expression, expression_tokens}
-use Rattle.edge_expression.proofs.EntriesReadBack.{entry_reads_back}
-use Rattle.edge_text.specs.Grammar.{Words, Says, IsWholeNumber}
+use Rattle.edge_expression.specs.Expressions.{Token, IsSpelt, Spells, Expression, expression_tokens}
+use Rattle.edge_text.specs.Grammar.{Says, IsWholeNumber}
 use Rattle.edge_text.specs.CanonicalText.{number_word}
 
 -- ---- bytes
@@ -101,8 +98,10 @@ unit_parts : (x : Ratio) → is_unit (number_of x) ≡ true → unsigned_abs x.n
 unfolding one_ratio
 unit_parts x h =
     let b = both (at_most number_zero (number_of x)) (at_most (number_of x) number_one) h in
-    let low : (pos 0 *ℤ x.den) ≤ℤ (x.num *ℤ pos 1) = int_le _ _ (le_is zero_ratio x ∙ ap (λ z. at_most z (number_of x)) (zero_is zero_ratio refl) ∙ b.left) in
-    let high : (x.num *ℤ pos 1) ≤ℤ (pos 1 *ℤ x.den) = int_le _ _ (le_is x one_ratio ∙ ap (at_most (number_of x)) (one_is one_ratio refl) ∙ b.right) in
+    let low : (pos 0 *ℤ x.den) ≤ℤ (x.num *ℤ pos 1) =
+    int_le _ _ (le_is zero_ratio x ∙ ap (λ z. at_most z (number_of x)) (zero_is zero_ratio refl) ∙ b.left) in
+    let high : (x.num *ℤ pos 1) ≤ℤ (pos 1 *ℤ x.den) =
+    int_le _ _ (le_is x one_ratio ∙ ap (at_most (number_of x)) (one_is one_ratio refl) ∙ b.right) in
     let some = x.valid.positive in
     omega (arith, ints)
 
@@ -175,14 +174,16 @@ high_if false x y h k = k
 power_high : (p : ℕ) → AreHigh (power_text p)
 power_high p =
     let digit : 42 ≤ 48 + p = omega arith in
-    high_if (eqb p 1) (codes "\\epsilon") (codes "\\epsilon^" ++ ((48 + p) ∷ [])) refl (high_both (codes "\\epsilon^") ((48 + p) ∷ []) refl (ap (λ c. c && true) (high_by (48 + p) digit)))
+    high_if (eqb p 1) (codes "\\epsilon") (codes "\\epsilon^" ++ ((48 + p) ∷ [])) refl
+    (high_both (codes "\\epsilon^") ((48 + p) ∷ []) refl (ap (λ c. c && true) (high_by (48 + p) digit)))
 
 term_high : (p : ℕ) (t : Terms) → IsReduced t → AreHigh (term_text p t)
 unfolding term_text
 term_high p t r =
     let number = spelling_high (spelling t) (spelling_bytes t r) in
     high_if (eqb p 0) (spelling t) (factor_text t ++ power_text p) number
-    (high_both (factor_text t) (power_text p) (high_if (is_one t) [] (spelling t ++ codes "*") refl (high_both (spelling t) (codes "*") number refl)) (power_high p))
+    (high_both (factor_text t) (power_text p) (high_if (is_one t) [] (spelling t ++ codes "*") refl (high_both (spelling t) (codes "*") number refl))
+    (power_high p))
 
 joint_high : (f b : Bool) → AreHigh (joint_text f b)
 joint_high true true = refl
@@ -195,7 +196,8 @@ abs_reduced t r = record { positive = r.positive; num_size = r.num_size; den_siz
 
 joined_high : (f : Bool) (p : ℕ) (t : Terms) → IsReduced t → AreHigh (joined_term f p t)
 unfolding joined_term
-joined_high f p t r = high_both (joint_text f (is_negative t.num)) (term_text p (absolute t)) (joint_high f (is_negative t.num)) (term_high p (absolute t) (abs_reduced t r))
+joined_high f p t r = high_both (joint_text f (is_negative t.num)) (term_text p (absolute t)) (joint_high f (is_negative t.num))
+    (term_high p (absolute t) (abs_reduced t r))
 
 terms_high : (f : Bool) (p n : ℕ) (e : List Terms) → ((k : ℕ) → IsReduced (terms_at e k)) → AreHigh (terms_text f p n e)
 unfolding terms_text
@@ -212,13 +214,20 @@ each_reduced (x ∷ xs) (suc k) = each_reduced xs k
 
 entry_high : (xs : List Ratio) → AreHigh (entry_text xs)
 unfolding coefficients_text
-entry_high xs = high_if (are_zero_below 5 (map terms xs)) (codes "0") (terms_text true 0 5 (map terms xs)) refl (terms_high true 0 5 (map terms xs) (each_reduced xs))
+entry_high xs = high_if (are_zero_below 5 (map terms xs)) (codes "0") (terms_text true 0 5 (map terms xs)) refl
+    (terms_high true 0 5 (map terms xs) (each_reduced xs))
 
 -- ---- an entry behind a blank
 
 blank_spelt : (tokens : List Token) (text : List ℕ) → IsSpelt tokens text → IsSpelt tokens (32 ∷ text)
 blank_spelt [] text h = (inl refl, h)
-blank_spelt (token ∷ tokens) text h = record { blanks = 32 ∷ h.blanks; rest = h.rest; are_blanks = (inl refl, h.are_blanks); spelt = ap (λ t. 32 ∷ t) h.spelt; is_rest = h.is_rest }
+blank_spelt (token ∷ tokens) text h = record {
+  blanks = 32 ∷ h.blanks;
+  rest = h.rest;
+  are_blanks = (inl refl, h.are_blanks);
+  spelt = ap (λ t. 32 ∷ t) h.spelt;
+  is_rest = h.is_rest;
+}
 
 blank_spells : (text : List ℕ) (e : Expression) → Spells text e → Spells (32 ∷ text) e
 unfolding Spells
@@ -229,7 +238,12 @@ blank_shallow text h zero l = omega arith
 blank_shallow text h (suc k) l = h k (omega arith)
 
 pub blank_entry : (text : List ℕ) (e : List Ratio) → IsEntryText text e → IsEntryText (32 ∷ text) e
-blank_entry text e h = record { expression = h.expression; spells = blank_spells text h.expression h.spells; shallow = blank_shallow text h.shallow; worth_is = h.worth_is }
+blank_entry text e h = record {
+  expression = h.expression;
+  spells = blank_spells text h.expression h.spells;
+  shallow = blank_shallow text h.shallow;
+  worth_is = h.worth_is;
+}
 
 -- ---- the text of an entry has a byte
 
@@ -246,7 +260,8 @@ some_last [] y h = h
 some_last (b ∷ x) y h = omega arith
 
 power_some : (p : ℕ) → 0 < length (power_text p)
-power_some p = some_if (eqb p 1) (codes "\\epsilon") (codes "\\epsilon^" ++ ((48 + p) ∷ [])) (omega arith) (some_last (codes "\\epsilon^") ((48 + p) ∷ []) (omega arith))
+power_some p = some_if (eqb p 1) (codes "\\epsilon") (codes "\\epsilon^" ++ ((48 + p) ∷ [])) (omega arith)
+    (some_last (codes "\\epsilon^") ((48 + p) ∷ []) (omega arith))
 
 term_some : (p : ℕ) (t : Terms) → IsReduced t → 0 < length (term_text p t)
 unfolding term_text
@@ -260,17 +275,21 @@ here_or_later : (p k : ℕ) → p ≤ k → (p ≡ k) ⊎ (suc p ≤ k)
 here_or_later p k l = grind arith
 
 -- where nothing is written, the coefficients are 0
-none_written : (f : Bool) (p n : ℕ) (e : List Terms) → ((k : ℕ) → IsReduced (terms_at e k)) → length (terms_text f p n e) ≡ 0 → (k : ℕ) → p ≤ k → k < p + n → is_zero (terms_at e k) ≡ true
+none_written : (f : Bool) (p n : ℕ) (e : List Terms) → ((k : ℕ) → IsReduced (terms_at e k)) → length (terms_text f p n e) ≡ 0
+    → (k : ℕ) → p ≤ k → k < p + n → is_zero (terms_at e k) ≡ true
 unfolding terms_text
 none_written f p zero e r h k l g = absurd (omega arith)
 none_written f p (suc n) e r h k l g = by_test (is_zero (terms_at e p)) refl h (λ z s. none_written f (suc p) n e r z k s (omega arith))
   where
-    by_test : (b : Bool) → is_zero (terms_at e p) ≡ b → length (cond b (terms_text f (suc p) n e) (joined_term f p (terms_at e p) ++ terms_text false (suc p) n e)) ≡ 0 → (length (terms_text f (suc p) n e) ≡ 0 → suc p ≤ k → is_zero (terms_at e k) ≡ true) → is_zero (terms_at e k) ≡ true
+    by_test : (b : Bool) → is_zero (terms_at e p) ≡ b
+        → length (cond b (terms_text f (suc p) n e) (joined_term f p (terms_at e p) ++ terms_text false (suc p) n e)) ≡ 0
+        → (length (terms_text f (suc p) n e) ≡ 0 → suc p ≤ k → is_zero (terms_at e k) ≡ true) → is_zero (terms_at e k) ≡ true
     by_test true t z later = elim (here_or_later p k l) [
       | inl s ↦ ap (λ k. is_zero (terms_at e k)) (sym s) ∙ t
       | inr s ↦ later z s
     ]
-    by_test false t z later = let some = some_first (joined_term f p (terms_at e p)) (terms_text false (suc p) n e) (joined_some f p (terms_at e p) (r p)) in absurd (omega arith)
+    by_test false t z later = let some = some_first (joined_term f p (terms_at e p)) (terms_text false (suc p) n e)
+        (joined_some f p (terms_at e p) (r p)) in absurd (omega arith)
 
 all_zero : (n : ℕ) (e : List Terms) → ((k : ℕ) → k < n → is_zero (terms_at e k) ≡ true) → are_zero_below n e ≡ true
 unfolding are_zero_below

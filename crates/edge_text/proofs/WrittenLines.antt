@@ -10,7 +10,7 @@ use Rattle.case_model.specs.Draft.{arrives_among, is_p_value, is_stage}
 use Rattle.case_model.specs.declared.component.Component.{Component}
 use Rattle.case_model.specs.Content.{Content, is_arrival}
 use Rattle.case_model.proofs.Holding.{both}
-use Rattle.text_lines.specs.Spelling.{line_spelt, text_of}
+use Rattle.text_lines.specs.Spelling.{text_of}
 use Rattle.edge_text.specs.Grammar.{Words}
 use Rattle.edge_text.specs.CanonicalText.{alpha_words, names_words, share_words, weights_words, edge_words, is_absent, edge_lines, table_lines, share_lines, block_lines, blocks_lines, spend_lines, spends_lines, p_lines, late_lines, canonical_lines, canonical_text}
 use Rattle.edge_text.specs.View.{line_of}
@@ -55,14 +55,18 @@ lines_next f xs n x start text new h i e p =
     moved start text new (text_of (f x)) (text_of (flat_map f (drop (n + 1) xs))) (text_of (flat_map f (drop n xs))) e
     (ap (λ ys. text_of (flat_map f ys)) (drop_item xs n x h i) ∙ text_append (f x) (flat_map f (drop (n + 1) xs))) p
 
-pub edge_next : (names : List (List ℕ)) (table : List (List Ratio)) (n : ℕ) (x : List Ratio) (start text new : List ℕ) → n < length table → x ≡ get_or table n x
+pub edge_next : (names : List (List ℕ)) (table : List (List Ratio)) (n : ℕ) (x : List Ratio) (start text new : List ℕ) → n < length table
+    → x ≡ get_or table n x
     → text ++ text_of (table_lines names n (drop n table)) ≡ start → new ≡ text ++ text_of (edge_lines names n x)
     → new ++ text_of (table_lines names (n + 1) (drop (n + 1) table)) ≡ start
 edge_next names table n x start text new h i e p =
-    moved start text new (text_of (edge_lines names n x)) (text_of (table_lines names (n + 1) (drop (n + 1) table))) (text_of (table_lines names n (drop n table))) e
-    (ap (λ ys. text_of (table_lines names n ys)) (drop_item table n x h i) ∙ text_append (edge_lines names n x) (table_lines names (n + 1) (drop (n + 1) table))) p
+    moved start text new (text_of (edge_lines names n x)) (text_of (table_lines names (n + 1) (drop (n + 1) table)))
+    (text_of (table_lines names n (drop n table))) e
+    (ap (λ ys. text_of (table_lines names n ys)) (drop_item table n x h i)
+    ∙ text_append (edge_lines names n x) (table_lines names (n + 1) (drop (n + 1) table))) p
 
-pub spend_next : (names : List (List ℕ)) (spends : List Spend) (n : ℕ) (name : List ℕ) (spend : Spend) (start text new : List ℕ) → n < length names → n < length spends
+pub spend_next : (names : List (List ℕ)) (spends : List Spend) (n : ℕ) (name : List ℕ) (spend : Spend) (start text new : List ℕ)
+    → n < length names → n < length spends
     → name ≡ get_or names n name → spend ≡ get_or spends n spend
     → text ++ text_of (spends_lines (drop n names) (drop n spends)) ≡ start → new ≡ text ++ text_of (spend_lines name spend)
     → new ++ text_of (spends_lines (drop (n + 1) names) (drop (n + 1) spends)) ≡ start
@@ -77,10 +81,13 @@ spend_next names spends n name spend start text new h k i j e p =
 ended : (text rest start : List ℕ) → rest ≡ [] → text ++ rest ≡ start → text ≡ start
 ended text rest start n e = sym (append-nil text) ∙ ap (λ r. text ++ r) (sym n) ∙ e
 
-pub lines_end : {A : Type 0} (f : List A → List Words) → f [] ≡ [] → (xs : List A) (n : ℕ) (start text : List ℕ) → length xs ≤ n → text ++ text_of (f (drop n xs)) ≡ start → text ≡ start
-lines_end f z xs n start text h e = ended text (text_of (f (drop n xs))) start (ap (λ ys. text_of (f ys)) (drop_of_length-le xs h) ∙ ap text_of z ∙ text_none) e
+pub lines_end : {A : Type 0} (f : List A → List Words) → f [] ≡ [] → (xs : List A) (n : ℕ) (start text : List ℕ) → length xs ≤ n
+    → text ++ text_of (f (drop n xs)) ≡ start → text ≡ start
+lines_end f z xs n start text h e = ended text (text_of (f (drop n xs))) start
+    (ap (λ ys. text_of (f ys)) (drop_of_length-le xs h) ∙ ap text_of z ∙ text_none) e
 
-pub spends_end : (names : List (List ℕ)) (spends : List Spend) (n : ℕ) (start text : List ℕ) → length names ≤ n → text ++ text_of (spends_lines (drop n names) (drop n spends)) ≡ start → text ≡ start
+pub spends_end : (names : List (List ℕ)) (spends : List Spend) (n : ℕ) (start text : List ℕ) → length names ≤ n
+    → text ++ text_of (spends_lines (drop n names) (drop n spends)) ≡ start → text ≡ start
 spends_end names spends n start text h e = lines_end (λ xs. spends_lines xs (drop n spends)) refl names n start text h e
 
 -- ---- arrivals of hypotheses
@@ -102,7 +109,8 @@ three start text new a b c e n = n ∙ ap (λ t. t ++ c) e ∙ append_assoc (sta
 pub nothing : (text : List ℕ) → text ≡ text ++ text_of []
 nothing text = sym (append-nil text) ∙ ap (λ t. text ++ t) (sym text_none)
 
-pub edge_none : (names : List (List ℕ)) (place : ℕ) (entry : List Ratio) (text : List ℕ) → is_absent entry ≡ true → text ≡ text ++ text_of (edge_lines names place entry)
+pub edge_none : (names : List (List ℕ)) (place : ℕ) (entry : List Ratio) (text : List ℕ) → is_absent entry ≡ true
+    → text ≡ text ++ text_of (edge_lines names place entry)
 unfolding edge_lines
 edge_none names place entry text e =
     nothing text ∙ ap (λ b. text ++ text_of (if b then [] else edge_words names (place / length names) (place % length names) entry ∷ [])) (sym e)
@@ -123,14 +131,17 @@ share_some alone share e = sym (text_one (share_words share)) ∙ ap (λ b. text
 -- ---- components and cases
 
 pub block_text : (names : List (List ℕ)) (alone : Bool) (k : Component)
-    → text_of (block_lines names alone k) ≡ text_of (share_lines alone k.share) ++ (line_of (weights_words k.weights) ++ text_of (table_lines names 0 k.edges))
+    → text_of (block_lines names alone k) ≡ text_of
+    (share_lines alone k.share) ++ (line_of (weights_words k.weights) ++ text_of (table_lines names 0 k.edges))
 unfolding block_lines
 block_text names alone k =
     text_append (share_lines alone k.share) (weights_words k.weights ∷ table_lines names 0 k.edges)
     ∙ ap (λ t. text_of (share_lines alone k.share) ++ t) (text_cons (weights_words k.weights) (table_lines names 0 k.edges))
 
-pub whole_text : (c : Content) (t0 t1 t2 t3 t4 t5 : List ℕ) → t0 ≡ [] → t1 ≡ t0 ++ line_of (alpha_words c.alpha) → t2 ≡ t1 ++ line_of (names_words c.names)
-    → t3 ≡ t2 ++ text_of (p_lines c.inputs) → t4 ≡ t3 ++ text_of (blocks_lines c.names c.components) → t5 ≡ t4 ++ text_of (late_lines c.names c.inputs)
+pub whole_text : (c : Content) (t0 t1 t2 t3 t4 t5 : List ℕ) → t0 ≡ [] → t1 ≡ t0 ++ line_of (alpha_words c.alpha)
+    → t2 ≡ t1 ++ line_of (names_words c.names)
+    → t3 ≡ t2 ++ text_of (p_lines c.inputs) → t4 ≡ t3 ++ text_of (blocks_lines c.names c.components)
+    → t5 ≡ t4 ++ text_of (late_lines c.names c.inputs)
     → t5 ≡ canonical_text c
 unfolding canonical_text canonical_lines
 whole_text c t0 t1 t2 t3 t4 t5 e0 e1 e2 e3 e4 e5 =
@@ -143,7 +154,8 @@ whole_text c t0 t1 t2 t3 t4 t5 e0 e1 e2 e3 e4 e5 =
     let second : t2 ≡ a ++ n = e2 ∙ ap (λ t. t ++ n) first in
     let third : t3 ≡ (a ++ n) ++ p = e3 ∙ ap (λ t. t ++ p) second in
     let fourth : t4 ≡ (a ++ n) ++ (p ++ b) = e4 ∙ ap (λ t. t ++ b) third ∙ append_assoc (a ++ n) p b in
-    let fifth : t5 ≡ (a ++ n) ++ (p ++ (b ++ l)) = e5 ∙ ap (λ t. t ++ l) fourth ∙ append_assoc (a ++ n) (p ++ b) l ∙ ap (λ t. (a ++ n) ++ t) (append_assoc p b l) in
+    let fifth : t5 ≡ (a ++ n) ++ (p ++ (b ++ l)) = e5 ∙ ap (λ t. t ++ l) fourth ∙ append_assoc (a ++ n) (p ++ b) l
+    ∙ ap (λ t. (a ++ n) ++ t) (append_assoc p b l) in
     let rest : text_of (p_lines c.inputs ++ (blocks_lines c.names c.components ++ late_lines c.names c.inputs)) ≡ p ++ (b ++ l) =
     text_append (p_lines c.inputs) (blocks_lines c.names c.components ++ late_lines c.names c.inputs)
     ∙ ap (λ t. p ++ t) (text_append (blocks_lines c.names c.components) (late_lines c.names c.inputs)) in

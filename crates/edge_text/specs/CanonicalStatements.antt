@@ -1,5 +1,5 @@
 -- What holds of canonical texts.
-use Rattle.std.specs.Prelude.{◌≡◌, ◌==◌, ℕ, Bool, true, List, length}
+use Rattle.std.specs.Prelude.{◌≡◌, ◌==◌, Bool, true, length}
 use Rattle.std.specs.List.{list_all}
 use Rattle.case_model.specs.declared.case.Case.{Case}
 use Rattle.case_model.specs.CaseView.{content}
@@ -20,8 +20,10 @@ CanonicalTextsReadBack = (case : Case) → HasCoefficients case → IsCaseOf (ca
 
 -- cases of one canonical text have one content
 abbrev pub CanonicalTextsTellCasesApart : Type 0
-CanonicalTextsTellCasesApart = (a b : Case) → HasCoefficients a → HasCoefficients b → canonical_text (content a) ≡ canonical_text (content b) → content a ≡ content b
+CanonicalTextsTellCasesApart = (a b : Case) → HasCoefficients a → HasCoefficients b → canonical_text (content a) ≡ canonical_text (content b)
+    → content a ≡ content b
 
 -- the case that a canonical text says has that canonical text
 abbrev pub CanonicalTextsAreCanonical : Type 0
-CanonicalTextsAreCanonical = (a b : Case) → HasCoefficients a → IsCaseOf (canonical_text (content a)) b → canonical_text (content b) ≡ canonical_text (content a)
+CanonicalTextsAreCanonical = (a b : Case) → HasCoefficients a → IsCaseOf (canonical_text (content a)) b
+    → canonical_text (content b) ≡ canonical_text (content a)

@@ -12,6 +12,9 @@ use Rattle.text_lines.specs.Lines.{Row, rows_of, texts_in, end_of}
 use Rattle.edge_text.specs.Grammar.{IsDocument, IsText}
 use Rattle.edge_text.specs.Faults.{IsFirstFault}
 use Rattle.edge_text.specs.Reading.{IsCaseOf, IsRefusedText, IsTextFault}
+use Rattle.edge_expression.specs.EntryReading.{IsEntryText, IsExprFault}
+use Rattle.edge_expression.specs.declared.fault.ExprFault.{ExprFault}
+use Rattle.field_core.specs.declared.ratio.Ratio.{Ratio}
 
 -- a text says at most one draft
 abbrev pub TextsSayOneDraft : Type 0
@@ -79,3 +82,21 @@ FaultsArentRefusals = (bytes : List ℕ) (n : ℕ) (kind : LineKind) (refused : 
 -- where a text says a case, only memory can be wanting
 abbrev pub CasesHaveNoFault : Type 0
 CasesHaveNoFault = (bytes : List ℕ) (c : Case) (fault : TextFault) → IsCaseOf bytes c → IsTextFault bytes fault → fault ≡ faults.NoMemory
+
+-- ---- expressions
+
+-- a text is an expression of an entry, or has a fault
+abbrev pub TextsHaveEntriesOrFaults : Type 0
+TextsHaveEntriesOrFaults = (text : List ℕ) → ((entry : List Ratio) × IsEntryText text entry) ⊎ ((fault : ExprFault) × IsExprFault text fault)
+
+-- of one entry at most
+abbrev pub TextsHaveOneEntry : Type 0
+TextsHaveOneEntry = (text : List ℕ) (e f : List Ratio) → IsEntryText text e → IsEntryText text f → e ≡ f
+
+-- it has one fault at most
+abbrev pub TextsHaveOneExprFault : Type 0
+TextsHaveOneExprFault = (text : List ℕ) (f g : ExprFault) → IsExprFault text f → IsExprFault text g → f ≡ g
+
+-- a text of an entry has no fault
+abbrev pub EntriesHaveNoFault : Type 0
+EntriesHaveNoFault = (text : List ℕ) (entry : List Ratio) (fault : ExprFault) → IsEntryText text entry → ¬ IsExprFault text fault

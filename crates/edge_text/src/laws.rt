@@ -1,6 +1,6 @@
 //! Laws of texts: each says one draft, or has one first fault; and canonical texts say their cases.
 ghost use Rattle.edge_text.specs.CanonicalStatements.{CanonicalTextsReadBack, CanonicalTextsTellCasesApart, CanonicalTextsAreCanonical};
-ghost use Rattle.edge_text.specs.TextStatements.{TextsSayOneDraft, TextsHaveOneFault, TextsSayOrFail, TextsDontSayAndFail, FirstFaultsEndDocuments, WhereNoneGoesOnIsFault, UnfinishedTextsEnd, TextsHaveOneCase, TextsHaveOneRefusal, FaultsArentRefusals, CasesHaveNoFault};
+ghost use Rattle.edge_text.specs.TextStatements.{TextsSayOneDraft, TextsHaveOneFault, TextsSayOrFail, TextsDontSayAndFail, FirstFaultsEndDocuments, WhereNoneGoesOnIsFault, UnfinishedTextsEnd, TextsHaveOneCase, TextsHaveOneRefusal, FaultsArentRefusals, CasesHaveNoFault, TextsHaveEntriesOrFaults, TextsHaveOneEntry, TextsHaveOneExprFault, EntriesHaveNoFault};
 
 /// A text says at most one draft.
 pub fn texts_say_one_draft()
@@ -40,4 +40,12 @@ pub fn canonical_texts_read_back()
     ensures back { CanonicalTextsReadBack }
     ensures apart { CanonicalTextsTellCasesApart }
     ensures again { CanonicalTextsAreCanonical }
+{}
+
+/// A text is an expression of one entry, or has one fault, and not both.
+pub fn expressions_are_decided()
+    ensures each { TextsHaveEntriesOrFaults }
+    ensures entry { TextsHaveOneEntry }
+    ensures fault { TextsHaveOneExprFault }
+    ensures apart { EntriesHaveNoFault }
 {}

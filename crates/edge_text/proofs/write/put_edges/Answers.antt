@@ -6,7 +6,8 @@ use Rattle.edge_text.proofs.write.put_edges.Goals as goal
 pub loop-place-preserved : goal.loop-place-preserved
 loop-place-preserved c =
     let below : c.loop-place.place < length c.args.table.now = omega arith in
-    edge_next c.args.names.now c.args.table.now c.loop-place.place c.index-table-place.result _ c.loop-place.text c.put_edge_if_any.new.text below c.index-table-place.is c.loop-place.invariant c.in_ok-put_edge_if_any.ensures
+    edge_next c.args.names.now c.args.table.now c.loop-place.place c.index-table-place.result _ c.loop-place.text c.put_edge_if_any.new.text below
+    c.index-table-place.is c.loop-place.invariant c.in_ok-put_edge_if_any.ensures
 
 pub returns : goal.returns
 returns c =

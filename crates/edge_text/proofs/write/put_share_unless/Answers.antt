@@ -7,4 +7,5 @@ pub returns-then-alone : goal.returns-then-alone
 returns-then-alone c = share_none c.args.alone c.args.share.now c.args.text.now c.if-alone.true
 
 pub returns : goal.returns
-returns c = on_ok_weaker c.put_share.result (λ e. e ∙ ap (λ t. c.args.text.now ++ t) (share_some c.args.alone c.args.share.now c.if-alone.false)) c.put_share.ensures
+returns c = on_ok_weaker c.put_share.result (λ e. e ∙ ap (λ t. c.args.text.now ++ t) (share_some c.args.alone c.args.share.now c.if-alone.false))
+    c.put_share.ensures

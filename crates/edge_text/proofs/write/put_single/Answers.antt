@@ -7,7 +7,9 @@ use Rattle.edge_text.proofs.write.put_single.Goals as goal
 
 pub returns-in-Single : goal.returns-in-Single
 returns-in-Single c =
-    rw c.in-Single.is (on_ok_weaker c.put_p_values.result (λ e. e ∙ ap (λ t. c.args.text.now ++ t) (sym (text_one (p_words c.as_slice.result.now)) ∙ ap (λ ps. text_of (p_words ps ∷ [])) c.as_slice.ensures)) c.put_p_values.ensures)
+    rw c.in-Single.is (on_ok_weaker c.put_p_values.result
+    (λ e. e ∙ ap (λ t. c.args.text.now ++ t)
+    (sym (text_one (p_words c.as_slice.result.now)) ∙ ap (λ ps. text_of (p_words ps ∷ [])) c.as_slice.ensures)) c.put_p_values.ensures)
 
 pub returns-in-Bare : goal.returns-in-Bare
 returns-in-Bare c = rw c.in-Bare.is (nothing c.args.text.now)

@@ -8,7 +8,8 @@ use Rattle.edge_text.proofs.write.write_text.Goals as goal
 
 pub returns : goal.returns
 returns c =
-    whole_text (content c.args.case.now) c.new-text.result c.put_alpha.new.text c.put_hypotheses.new.text c.put_single.new.text c.put_blocks.new.text c.put_staged.new.text c.new-text.ensures
+    whole_text (content c.args.case.now) c.new-text.result c.put_alpha.new.text c.put_hypotheses.new.text c.put_single.new.text c.put_blocks.new.text
+    c.put_staged.new.text c.new-text.ensures
     (c.in_ok-put_alpha.ensures ∙ ap (λ x. c.new-text.result ++ line_of (alpha_words x)) c.alpha.ensures.alpha)
     (c.in_ok-put_hypotheses.ensures ∙ ap (λ ns. c.put_alpha.new.text ++ line_of (names_words ns)) c.names.ensures)
     (c.in_ok-put_single.ensures ∙ ap (λ i. c.put_hypotheses.new.text ++ text_of (p_lines i)) c.inputs.ensures.inputs)

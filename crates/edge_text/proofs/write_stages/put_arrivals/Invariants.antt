@@ -5,4 +5,5 @@ use Rattle.edge_text.proofs.write_stages.put_arrivals.Given as goal
 
 -- what is put, with the arrivals that are left, is all
 abbrev pub invariant-loop-arrival : goal.invariant-loop-arrival
-invariant-loop-arrival l = l.text ++ text_of (map (arrive_words l.names) (drop l.arrival-index l.arrivals)) ≡ l.fn.text ++ text_of (map (arrive_words l.names) l.arrivals)
+invariant-loop-arrival l = l.text ++ text_of (map (arrive_words l.names) (drop l.arrival-index l.arrivals)) ≡ l.fn.text ++ text_of
+    (map (arrive_words l.names) l.arrivals)

@@ -8,4 +8,7 @@ use Rattle.edge_text.proofs.write_stages.put_spend.Goals as goal
 pub returns-in-Shares : goal.returns-in-Shares
 unfolding spend_lines
 returns-in-Shares c =
-    rw c.in-Shares.is (on_ok_weaker c.put_fractions.result (λ e. e ∙ ap (λ t. c.args.text.now ++ t) (sym (text_one (spend_words c.args.name.now c.as_slice.result.now)) ∙ ap (λ fs. text_of (spend_words c.args.name.now fs ∷ [])) c.as_slice.ensures)) c.put_fractions.ensures)
+    rw c.in-Shares.is (on_ok_weaker c.put_fractions.result
+    (λ e. e ∙ ap (λ t. c.args.text.now ++ t)
+    (sym (text_one (spend_words c.args.name.now c.as_slice.result.now))
+    ∙ ap (λ fs. text_of (spend_words c.args.name.now fs ∷ [])) c.as_slice.ensures)) c.put_fractions.ensures)

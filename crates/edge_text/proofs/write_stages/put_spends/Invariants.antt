@@ -5,4 +5,5 @@ use Rattle.edge_text.proofs.write_stages.put_spends.Given as goal
 
 -- what is put, with the spends that are left, is all
 abbrev pub invariant-loop-i : goal.invariant-loop-i
-invariant-loop-i l = l.text ++ text_of (spends_lines (drop l.i l.names) (drop l.i l.stages.spend)) ≡ l.fn.text ++ text_of (spends_lines l.names l.stages.spend)
+invariant-loop-i l = l.text ++ text_of (spends_lines (drop l.i l.names) (drop l.i l.stages.spend)) ≡ l.fn.text ++ text_of
+    (spends_lines l.names l.stages.spend)
