@@ -67,13 +67,17 @@ module _ (n : Numbers) (c : Content) where
   unfoldable pub all_loads : Result (Unit {0}) Event
   all_loads = all_below (length c.components) component_load
 
+-- the share of a component
+abbrev pub share_in : Content → ℕ → Parts
+share_in c k = single (terms (component_at c.components k).share)
+
 -- (and these are of this kind)
 module _ (K : Kind) (n : Numbers) (c : Content) where
   -- the case as it is loaded; what can't be loaded is 0
   unfoldable pub loaded_case : Loaded
   loaded_case = record {
     components = length c.components;
-    share = λ k. single (terms (component_at c.components k).share);
+    share = share_in c;
     weight = λ k i. loaded_weight n (ratio_at (component_at c.components k).weights i);
     edge = λ k l j. given_or K.zero (written_edge n c k l j);
     p = number_at (p_values_of c.inputs);

@@ -5,7 +5,12 @@ mod case_sums;
 mod event;
 mod evidence;
 pub mod laws;
+mod exits;
+mod flows;
+mod keep;
+mod level;
 mod loading;
+mod step;
 mod sums;
 mod verdict;
 
