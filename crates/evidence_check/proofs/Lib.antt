@@ -21,3 +21,4 @@ pub mod ExitAnswers
 pub mod CaseLimits
 pub mod StepAnswers
 pub mod LimitAnswers
+pub mod StepsAnswers

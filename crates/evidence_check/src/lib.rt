@@ -2,6 +2,7 @@
 #![tactic(auto)]
 
 mod case_sums;
+mod check;
 mod event;
 mod evidence;
 pub mod laws;
