@@ -1,13 +1,14 @@
 -- The written check of a keep by value.
 use Rattle.std.proofs.Common.{◌≡◌, refl, sym, ap, subst, ◌∙◌, ℕ, ◌<◌, Bool, true, false, not, List, length, Ok}
 use Rattle.std.specs.Ordering.{is_le}
+use Rattle.std.specs.declared.cmp.Ordering.{Ordering}
 use Rattle.field_core.specs.declared.place.Place.TheVariants.{Level, Exit}
 use Rattle.field_core.specs.Number.{Number}
 use Rattle.field_core.specs.Arithmetic.{number_zero, number_one}
 use Rattle.field_core.specs.Order.{◌≤ε◌}
 use Rattle.field_core.specs.Field.{not_less}
 use Rattle.field_core.specs.Limit.{limit}
-use Rattle.field_core.specs.LimitParts.{limit_terms}
+use Rattle.field_core.specs.LimitParts.{IsUnit, limit_terms}
 use Rattle.field_core.specs.Sets.{whole}
 use Rattle.field_core.specs.Runs.{IsOrder}
 use Rattle.field_core.specs.Kind.{Parts, Kind, sign_of}
@@ -76,6 +77,14 @@ module _ (K : Kind) (IsStored : Parts → Type 0) (X : IsExact K IsStored) (L : 
         (demand_tells (is_le order) (AboveOne c) (allowed (E.graph c) js v k ≤ε number_one) (λ g. sym t ∙ g) (λ g f. true_false _ f (sym t ∙ g)))
         (λ _ high. tells_ok (single (limit_terms sum)) _ _ (limit_gives K IsStored X sum _ S (record { low = above; high = high }), high))))
 
+    -- what exits allow that isn't above 1 is from 0 to 1
+    pub allowed_unit : ((r : ℕ) → r < length js → number_zero ≤ε v r) → (sum : Parts) (by : Ordering) → allowed_sum K L js h k c ≡ Ok sum → written_at c (Level k) (K.compare sum K.one) ≡ Ok by → is_le by ≡ true → IsUnit (value_of sum)
+    allowed_unit low sum by s w le =
+        let S = (allow_tells K IsStored X L E V D js o c q k K_in h v H (Unit {0})).ok sum s in
+        let e = (written_tells c (Level k) (K.compare sum K.one) (Unit {0})).ok by w in
+        let t = compared K IsStored X sum K.one (allowed (E.graph c) js v k) number_one by S (record { stored = X.one_stored; value = X.one_value }) e in
+        subst IsUnit (sym S.value) (record { low = allowed_low E.hypotheses (E.graph c) (V.graph c q) js o v k K_in low; high = sym t ∙ le })
+
   -- ---- a keep
 
   module _ (x : KeepParts) (x_in : x.hypothesis < E.hypotheses) (H : (c e : ℕ) → IsStored (part_at K x.exits c e)) where
@@ -94,7 +103,7 @@ module _ (K : Kind) (IsStored : Parts → Type 0) (X : IsExact K IsStored) (L : 
     abbrev AllExits : Type 0
     AllExits = (c : ℕ) → c < L.components → (r : ℕ) → r < length js → (number_zero ≤ε value c r) × (leaving (E.graph c) js (λ e. value_of (part_at K x.exits c e)) x.hypothesis (at_place js r) ≤ε value c r)
 
-    all_exits_tell : Tells (all_below L.components (λ c. all_below (length js) (exit_check K L js (part_at K x.exits c) x.hypothesis c))) (λ _. AllExits) (¬ AllExits)
+    pub all_exits_tell : Tells (all_below L.components (λ c. all_below (length js) (exit_check K L js (part_at K x.exits c) x.hypothesis c))) (λ _. AllExits) (¬ AllExits)
     all_exits_tell =
         all_tells L.components (λ c. all_below (length js) (exit_check K L js (part_at K x.exits c) x.hypothesis c))
         (λ c. (r : ℕ) → r < length js → (number_zero ≤ε value c r) × (leaving (E.graph c) js (λ e. value_of (part_at K x.exits c e)) x.hypothesis (at_place js r) ≤ε value c r))

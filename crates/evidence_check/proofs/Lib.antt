@@ -15,3 +15,10 @@ pub mod PValues
 pub mod LoadSteps
 pub mod Hypotheses
 pub mod SumAnswers
+pub mod FlowAnswers
+pub mod LevelAnswers
+pub mod ExitAnswers
+pub mod CaseLimits
+pub mod StepAnswers
+pub mod LimitAnswers
+pub mod StepsAnswers

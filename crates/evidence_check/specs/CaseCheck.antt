@@ -20,8 +20,11 @@ use Rattle.evidence_check.specs.Evidence.{EvidenceValues, MeetsConditions, Keeps
 use Rattle.evidence_check.specs.EvidenceParts.{StepParts, KeepParts}
 use Rattle.evidence_check.specs.declared.event.Event.{Event}
 use Rattle.evidence_check.specs.declared.event.EventAt.{EventAt}
-use Rattle.evidence_check.specs.declared.event.Event.TheVariants.{Broken}
+use Rattle.evidence_check.specs.declared.event.Event.TheVariants.{Broken, Undefined}
 use Rattle.evidence_check.specs.declared.verdict.Reason.{Reason}
+use Rattle.evidence_check.specs.declared.verdict.Verdict.{Verdict}
+use Rattle.evidence_check.specs.declared.verdict.Verdict.TheVariants.{Yes, No}
+use Rattle.evidence_check.specs.declared.verdict.CheckWide.{CheckWide}
 use Rattle.evidence_check.specs.CheckSteps.{written_at, numbered, all_below}
 use Rattle.evidence_check.specs.WrittenCheck.{Loaded, written_check}
 use Rattle.evidence_check.specs.CheckStatements.{AreStoredSteps, evidence_values}
@@ -67,13 +70,17 @@ module _ (n : Numbers) (c : Content) where
   unfoldable pub all_loads : Result (Unit {0}) Event
   all_loads = all_below (length c.components) component_load
 
+-- the share of a component
+abbrev pub share_in : Content → ℕ → Parts
+share_in c k = single (terms (component_at c.components k).share)
+
 -- (and these are of this kind)
 module _ (K : Kind) (n : Numbers) (c : Content) where
   -- the case as it is loaded; what can't be loaded is 0
   unfoldable pub loaded_case : Loaded
   loaded_case = record {
     components = length c.components;
-    share = λ k. single (terms (component_at c.components k).share);
+    share = share_in c;
     weight = λ k i. loaded_weight n (ratio_at (component_at c.components k).weights i);
     edge = λ k l j. given_or K.zero (written_edge n c k l j);
     p = number_at (p_values_of c.inputs);
@@ -89,6 +96,16 @@ module _ (K : Kind) (n : Numbers) (c : Content) where
 -- the check of a case
 unfoldable pub case_check : Content → List StepParts → List KeepParts → Result (Unit {0}) EventAt
 case_check c = check_in (kind_of (numbers_of c)) (numbers_of c) c
+
+-- what a check answers that ended at this step or keep
+abbrev pub verdict_by : ℕ → Event → Result Verdict CheckWide
+verdict_by n (Broken reason) = Ok (No n reason)
+verdict_by n (Undefined w) = Err (record { step = n; at = w })
+
+-- what a check that ended so answers
+unfoldable pub verdict_of : Result (Unit {0}) EventAt → Result Verdict CheckWide
+verdict_of (Ok u) = Ok Yes
+verdict_of (Err e) = verdict_by e.number e.event
 
 -- steps and keeps of hypotheses of a case, with numbers as the case stores them
 abbrev pub AreStepsOf : Content → List StepParts → List KeepParts → Type 0

@@ -2,10 +2,16 @@
 #![tactic(auto)]
 
 mod case_sums;
+mod check;
 mod event;
 mod evidence;
 pub mod laws;
+mod exits;
+mod flows;
+mod keep;
+mod level;
 mod loading;
+mod step;
 mod sums;
 mod verdict;
 

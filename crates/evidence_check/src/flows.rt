@@ -1,0 +1,67 @@
+//! Flows of steps.
+ghost use Rattle.std.specs.Prelude.{◌≡◌, ◌<◌, ℕ, All, map, length, get_or, []};
+ghost use Rattle.field_core.specs.Sets.{whole};
+ghost use Rattle.field_core.specs.Runs.{IsOrder};
+ghost use Rattle.case_model.specs.CaseView.{content};
+ghost use Rattle.evidence_check.specs.CheckSteps.{all_below};
+ghost use Rattle.evidence_check.specs.EvidenceParts.{numbers_at, part_at, AreFull};
+ghost use Rattle.evidence_check.specs.EvidenceView.{hypotheses_of};
+ghost use Rattle.evidence_check.specs.WrittenCheck.{flow_check};
+ghost use Rattle.evidence_check.specs.CaseCheck.{loaded_case};
+
+use crate::case_sums::{brought, hypothesis, number};
+use crate::event::Event;
+use crate::sums::{all_below, demand, is_nonnegative, placed};
+use crate::{ProofStep, Reason};
+use case_model::Case;
+use case_numbers::CaseNumber;
+use field_core::{List, Number, Place};
+
+/// In a component, the conditions on the flow through the hypothesis of an earlier step.
+#[tactic(auto, unfolding(crate::specs::WrittenCheck::flow_check))]
+fn flow<F: CaseNumber>(
+    case: &Case,
+    earlier: &[ProofStep<F>],
+    c: usize,
+    flows: &[F],
+    r: usize,
+) -> Result<(), Event>
+    requires c { c < length (content case.now).components }
+    requires r { r < length earlier.now }
+    requires count { length flows.now ≡ length earlier.now }
+    requires order { IsOrder (length (content case.now).names) whole (hypotheses_of earlier.now) }
+    ensures { result ≡ flow_check F.kind (loaded_case F.kind F.numbers (content case.now)) (hypotheses_of earlier.now) (numbers_at F.kind (map F.parts flows.now)) c r }
+{
+    let flow = number(flows, r);
+    demand(is_nonnegative(&flow), Reason::Negative(c, r))?;
+    let at = hypothesis(earlier, r);
+    let place = Place::Bound(at);
+    let sum = brought(case, place, earlier, c, flows, at)?;
+    let order = placed(c, place, flow.compare(&sum))?;
+    demand(order.is_le(), Reason::Exceeds(c, r))
+}
+
+/// The numbers of a component.
+pub fn in_component<F: Number>(lists: &List<List<F>>, c: usize) -> &[F]
+    requires { c < length lists.now }
+    ensures numbers { map F.parts result.now ≡ get_or (map (map F.parts) lists.now) c [] }
+    ensures count { (n : ℕ) → All (λ ys. length ys ≡ n) (map (map F.parts) lists.now) → length result.now ≡ n }
+{
+    lists.as_slice()[c].as_slice()
+}
+
+/// In a component, the conditions on the flows through the hypotheses of earlier steps.
+pub fn flows<F: CaseNumber>(
+    case: &Case,
+    earlier: &[ProofStep<F>],
+    lists: &List<List<F>>,
+    c: usize,
+) -> Result<(), Event>
+    requires c { c < length (content case.now).components }
+    requires full { AreFull (length (content case.now).components) (length earlier.now) (map (map F.parts) lists.now) }
+    requires order { IsOrder (length (content case.now).names) whole (hypotheses_of earlier.now) }
+    ensures { result ≡ all_below (length (hypotheses_of earlier.now)) (flow_check F.kind (loaded_case F.kind F.numbers (content case.now)) (hypotheses_of earlier.now) (part_at F.kind (map (map F.parts) lists.now) c) c) }
+{
+    let flows = in_component(lists, c);
+    all_below(earlier.len(), |r| flow(case, earlier, c, flows, r))
+}
