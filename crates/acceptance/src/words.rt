@@ -258,6 +258,9 @@ fn words_are_refused_before_the_case_is_read(rt: HostRuntime) -> Result<(), Fail
     Ok(())
 }
 
+/// What is printed where CSV is asked for, and the text isn't.
+const NO_HEADER: &str = "malformed: row 1 column 1: header\n";
+
 /// What is printed where a form isn't read yet.
 const UNREAD: &str = "malformed: form\n";
 
@@ -281,8 +284,8 @@ const ACCEPTED: [(&[&str], u8, &str); 17] = [
     ),
     (&["test", "--form", "json"], 3, UNREAD),
     (&["test", "--form=json", "--priority=last"], 3, UNREAD),
-    (&["test", "--form", "csv", "--alpha", "0.05"], 3, UNREAD),
-    (&["test", "--alpha=1/20", "--form=csv"], 3, UNREAD),
+    (&["test", "--form", "csv", "--alpha", "0.05"], 3, NO_HEADER),
+    (&["test", "--alpha=1/20", "--form=csv"], 3, NO_HEADER),
     (
         &[
             "test",
@@ -293,12 +296,12 @@ const ACCEPTED: [(&[&str], u8, &str); 17] = [
             "5e-2",
         ],
         3,
-        UNREAD,
+        NO_HEADER,
     ),
-    (&["test", "--alpha", "-3", "--form", "csv"], 3, UNREAD),
-    (&["test", "--form=csv", "--alpha=+007"], 3, UNREAD),
-    (&["test", "--form=csv", "--alpha=.5"], 3, UNREAD),
-    (&["test", "--form=csv", "--alpha", "1."], 3, UNREAD),
+    (&["test", "--alpha", "-3", "--form", "csv"], 3, NO_HEADER),
+    (&["test", "--form=csv", "--alpha=+007"], 3, NO_HEADER),
+    (&["test", "--form=csv", "--alpha=.5"], 3, NO_HEADER),
+    (&["test", "--form=csv", "--alpha", "1."], 3, NO_HEADER),
 ];
 
 #[test]

@@ -1,5 +1,5 @@
 -- The stages that commands have in common are decided.
-use Rattle.std.proofs.Common.{◌≡◌, sym, ap, ap₂, ◌∙◌, ℕ, List, Some, None, arith}
+use Rattle.std.proofs.Common.{◌≡◌, refl, subst, sym, ap, ap₂, ◌∙◌, ℕ, List, Some, None, arith}
 use Rattle.std.specs.declared.option.Option.{Option}
 use Rattle.answers.specs.Stages.{IsDecided}
 use Rattle.answers.proofs.Decided.{then_decided, within_decided}
@@ -9,11 +9,24 @@ use Rattle.case_model.specs.Content.{Content}
 use Rattle.case_model.specs.declared.draft.Draft.{Draft}
 use Rattle.command_words.specs.Asked.{Written, text, csv, json}
 use Rattle.edge_text.proofs.TextLaws.{one_draft, one_first_fault, not_both}
+use Rattle.field_core.specs.View.{terms}
+use Rattle.field_core.specs.declared.ratio.Ratio.{Ratio}
+use Rattle.fraction.proofs.SameRatios.{same_ratio}
+use Rattle.case_csv.specs.Table.{Cells, cells_of, IsTable}
+use Rattle.case_csv.specs.declared.fault.RowKind.{RowKind}
+use Rattle.case_csv.proofs.OneTable as tables
 use Rattle.refusals.specs.CaseRefusal.{case_refusal}
+use Rattle.refusals.specs.CellRefusal.{cell_refusal}
 use Rattle.refusals.specs.TextRefusal.{line_refusal}
 use Rattle.graph_cli.specs.Accepted.{grammar, faultless, of_kind, of_size, suitable, accepted}
 use Rattle.graph_cli.specs.declared.kind.Kind.{Kind}
 use Rattle.graph_cli.specs.declared.needs.Needs.{Needs}
+
+csv_draft : (records : List Cells) (x y : Ratio) (d e : Draft) → terms x ≡ terms y → IsTable records x d → IsTable records y e → d ≡ e
+csv_draft records x y d e same h k = tables.one_draft records y d e (subst (λ z. IsTable records z d) (same_ratio x y same) h) k
+
+same_cell : (row line column place : ℕ) (j k : RowKind) → row ≡ line → column ≡ place → j ≡ k → cell_refusal row column j ≡ cell_refusal line place k
+same_cell row line column place j k e f g = rw (e, f, g) refl
 
 grammar_decided : (form : Written) (bytes : List ℕ) → IsDecided (grammar form bytes)
 grammar_decided text bytes = record {
@@ -21,7 +34,11 @@ grammar_decided text bytes = record {
   one_refusal = λ r q h k. let e = one_first_fault bytes h.0 k.0 h.1 k.1 h.2 k.2 in h.3 ∙ ap₂ line_refusal e.0 e.1 ∙ sym k.3;
   not_both = λ d r h k. not_both bytes d k.0 k.1 h k.2;
 }
-grammar_decided (csv alpha) bytes = record { one = λ d e h k. absurd h; one_refusal = λ r q h k. h ∙ sym k; not_both = λ d r h k. h }
+grammar_decided (csv alpha) bytes = record {
+  one = λ d e h k. csv_draft (cells_of bytes) h.0 k.0 d e (h.1 ∙ sym k.1) h.2 k.2;
+  one_refusal = λ r q h k. let e = tables.one_first_fault (cells_of bytes) h.0 k.0 h.1 k.1 h.2 k.2 h.3 k.3 in h.4 ∙ same_cell h.0 k.0 h.1 k.1 h.2 k.2 e.0 e.1 e.2 ∙ sym k.4;
+  not_both = λ d r h k. tables.not_both (cells_of bytes) h.0 d k.0 k.1 k.2 h.2 k.3;
+}
 grammar_decided json bytes = record { one = λ d e h k. absurd h; one_refusal = λ r q h k. h ∙ sym k; not_both = λ d r h k. h }
 
 same_fault : (o : Option CaseFault) (x y : CaseFault) → o ≡ Some x → o ≡ Some y → x ≡ y

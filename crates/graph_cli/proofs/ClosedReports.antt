@@ -13,6 +13,8 @@ use Rattle.case_model.specs.Content.{Content, content_of}
 use Rattle.case_model.specs.declared.draft.Draft.{Draft}
 use Rattle.case_model.specs.Validity.{IsValidContent}
 use Rattle.edge_text.proofs.Texts.{document_arrivals}
+use Rattle.case_csv.specs.Table.{cells_of}
+use Rattle.case_csv.proofs.OneTable.{no_arrivals}
 use Rattle.command_words.specs.Asked.{Written, text, csv, json, on_case}
 use Rattle.command_words.specs.declared.command.CaseTask.TheVariants.{Test}
 use Rattle.command_words.proofs.OneReading.{words_decided}
@@ -40,7 +42,7 @@ named_listed steps j = any_listed steps j
 -- of what a form says, each p-value that arrived is of a hypothesis
 known_arrivals : (form : Written) (bytes : List ℕ) (d : Draft) → (grammar form bytes).Gives d → have_known_arrivals d ≡ true
 known_arrivals text bytes d t = document_arrivals _ d t
-known_arrivals (csv alpha) bytes d t = absurd t
+known_arrivals (csv alpha) bytes d t = no_arrivals (cells_of bytes) t.0 d t.2
 known_arrivals json bytes d t = absurd t
 
 faultless_content : (d : Draft) → case_fault d ≡ None → have_known_arrivals d ≡ true → IsValidContent (content_of d)

@@ -12,20 +12,29 @@ use Rattle.command_words.specs.Asked.{Written, text, csv, json}
 use Rattle.edge_text.specs.Grammar.{IsText}
 use Rattle.edge_text.specs.Faults.{IsFirstFault}
 use Rattle.edge_text.specs.declared.fault.LineKind.{LineKind}
+use Rattle.field_core.specs.View.{terms}
+use Rattle.field_core.specs.declared.ratio.Ratio.{Ratio}
+use Rattle.case_csv.specs.Table.{cells_of, IsTable}
+use Rattle.case_csv.specs.Faults.{IsFirstFault as IsFirstBadCell}
+use Rattle.case_csv.specs.declared.fault.RowKind.{RowKind}
 use Rattle.refusals.specs.CaseRefusal.{case_refusal}
+use Rattle.refusals.specs.CellRefusal.{cell_refusal}
 use Rattle.refusals.specs.NeedRefusal.{kind_refusal, closure_refusal}
 use Rattle.refusals.specs.TextRefusal.{line_refusal, form_refusal}
 use Rattle.graph_cli.specs.declared.kind.Kind.{Kind}
 use Rattle.graph_cli.specs.declared.kind.Kind.TheVariants.{Any, Single, Staged}
 use Rattle.graph_cli.specs.declared.needs.Needs.{Needs}
 
--- the draft that bytes say in a form, or the first place where they can't stand; sheets and JSON aren't read yet
+-- the draft that bytes say in a form, or the first place where they can't stand; JSON isn't read yet
 abbrev pub grammar : Written → List ℕ → Stage Refusal Draft
 grammar text bytes = record {
   Gives = λ d. IsText bytes d;
   Refuses = λ r. (n : ℕ) × (kind : LineKind) × IsFirstFault bytes n kind × (r ≡ line_refusal n kind);
 }
-grammar (csv alpha) bytes = record { Gives = λ d. ⊥; Refuses = λ r. r ≡ form_refusal }
+grammar (csv alpha) bytes = record {
+  Gives = λ d. (level : Ratio) × (terms level ≡ alpha) × IsTable (cells_of bytes) level d;
+  Refuses = λ r. (row : ℕ) × (column : ℕ) × (kind : RowKind) × IsFirstBadCell (cells_of bytes) row column kind × (r ≡ cell_refusal row column kind);
+}
 grammar json bytes = record { Gives = λ d. ⊥; Refuses = λ r. r ≡ form_refusal }
 
 -- the case of a draft, or its first fault

@@ -4,18 +4,23 @@ ghost use Rattle.std.specs.Io.KnownBytes.{IsAtEnd};
 ghost use Rattle.graph_io.specs.Causes.{Rose};
 ghost use Rattle.answers.specs.Halts.{HaltsBy, StopsBy, IfAnswered};
 ghost use Rattle.case_model.specs.CaseView.{content};
-ghost use Rattle.command_words.specs.Asked.{written, text};
+ghost use Rattle.command_words.specs.Asked.{written, text, csv};
+ghost use Rattle.command_words.specs.Levels.{level_of};
 ghost use Rattle.graph_cli.specs.Accepted.{case_in, of_kind, of_size, suitable, accepted};
 ghost use Rattle.std.specs.Prelude.{◌≡◌};
 
 use crate::kind::Kind;
 use crate::needs::Needs;
 use answers::{Halt, Stop, take_whole};
+use case_csv::{CsvFault, read_csv};
 use case_model::Case;
 use command_words::CaseForm;
 use edge_text::{TextFault, read_text};
+use fraction::Fraction;
 use graph_io::Source;
-use refusals::{case_refusal, closure_refusal, form_refusal, kind_refusal, line_refusal};
+use refusals::{
+    case_refusal, cell_refusal, closure_refusal, form_refusal, kind_refusal, line_refusal,
+};
 use std::alloc::Global;
 
 /// The case that a text says.
@@ -35,14 +40,34 @@ fn text_case(alloc: Global, bytes: &[u8]) -> Result<Case, Halt>
     }
 }
 
-/// The case that bytes say in a form. Sheets and JSON aren't read yet.
+/// The case that CSV says at a level.
+fn csv_case(alloc: Global, alpha: Fraction, bytes: &[u8]) -> Result<Case, Halt>
+    ensures given { IfOk result (λ case. (case_in (csv (level_of alpha)) bytes.now).Gives (content case)) }
+    ensures refused { IfErr result (HaltsBy (case_in (csv (level_of alpha)) bytes.now).Refuses) }
+{
+    match read_csv(alloc, bytes, alpha) {
+        Ok(case) => Ok(case),
+        Err(CsvFault::Row(row, column, kind)) => {
+            Err(Halt::Refused(cell_refusal(alloc, row, column, kind)?))
+        }
+        Err(CsvFault::Case(refused)) => Err(Halt::Refused(case_refusal(
+            alloc,
+            refused.names.as_slice(),
+            &refused.fault,
+        )?)),
+        Err(CsvFault::NoMemory) => Err(Halt::NoMemory),
+    }
+}
+
+/// The case that bytes say in a form. JSON isn't read yet.
 fn read_case(alloc: Global, form: &CaseForm, bytes: &[u8]) -> Result<Case, Halt>
     ensures given { IfOk result (λ case. (case_in (written form.now) bytes.now).Gives (content case)) }
     ensures refused { IfErr result (HaltsBy (case_in (written form.now) bytes.now).Refuses) }
 {
     match form {
         CaseForm::Text => text_case(alloc, bytes),
-        CaseForm::Csv(_) | CaseForm::Json => Err(Halt::Refused(form_refusal(alloc)?)),
+        CaseForm::Csv(alpha) => csv_case(alloc, *alpha, bytes),
+        CaseForm::Json => Err(Halt::Refused(form_refusal(alloc)?)),
     }
 }
 

@@ -12,7 +12,7 @@ use std::alloc::Global;
 
 /// The refusal of what is malformed at a place.
 #[tactic(auto, unfolding(crate::specs::LinePieces::malformed_at))]
-fn malformed_at(alloc: Global, place: &[u8], kind: &[u8]) -> Result<Refusal, NoMemory>
+pub fn malformed_at(alloc: Global, place: &[u8], kind: &[u8]) -> Result<Refusal, NoMemory>
     ensures { IfOk result (λ refusal. refusal ≡ malformed_at place.now kind.now) }
 {
     let mut text = malformed(alloc, place)?;
@@ -34,7 +34,7 @@ fn limit_at(alloc: Global, place: &[u8], quantity: &[u8]) -> Result<Refusal, NoM
 
 /// The refusal of a numeral at a place that is refused.
 #[tactic(auto, unfolding(crate::specs::TextRefusal::number_refusal))]
-fn number_refusal(alloc: Global, place: &[u8], fault: NumberFault) -> Result<Refusal, NoMemory>
+pub fn number_refusal(alloc: Global, place: &[u8], fault: NumberFault) -> Result<Refusal, NoMemory>
     ensures { IfOk result (λ refusal. refusal ≡ number_refusal place.now fault) }
 {
     match fault {
@@ -46,7 +46,11 @@ fn number_refusal(alloc: Global, place: &[u8], fault: NumberFault) -> Result<Ref
 
 /// The refusal of an expression at a place that is refused.
 #[tactic(auto, unfolding(crate::specs::TextRefusal::expression_refusal))]
-fn expression_refusal(alloc: Global, place: &[u8], fault: ExprFault) -> Result<Refusal, NoMemory>
+pub fn expression_refusal(
+    alloc: Global,
+    place: &[u8],
+    fault: ExprFault,
+) -> Result<Refusal, NoMemory>
     ensures { IfOk result (λ refusal. refusal ≡ expression_refusal place.now fault) }
 {
     match fault {
