@@ -115,7 +115,7 @@ same_size : (c : Content) → length c.names ≡ (entangled c).hypotheses
 unfolding entangled
 same_size c = refl
 
-listed_names : (K : Kind) (steps : List StepParts) → listed (map (step_values K) steps) ≡ map (λ s. s.hypothesis) steps
+pub listed_names : (K : Kind) (steps : List StepParts) → listed (map (step_values K) steps) ≡ map (λ s. s.hypothesis) steps
 listed_names K [] = refl
 listed_names K (s ∷ steps) = ap (λ js. s.hypothesis ∷ js) (listed_names K steps)
 

@@ -22,3 +22,4 @@ pub mod CaseLimits
 pub mod StepAnswers
 pub mod LimitAnswers
 pub mod StepsAnswers
+pub mod CheckAnswers

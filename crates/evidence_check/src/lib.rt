@@ -2,7 +2,7 @@
 #![tactic(auto)]
 
 mod case_sums;
-mod check;
+mod checker;
 mod event;
 mod evidence;
 pub mod laws;
@@ -15,5 +15,6 @@ mod step;
 mod sums;
 mod verdict;
 
+pub use checker::check;
 pub use evidence::{Evidence, KeepProof, ProofStep, Steps};
 pub use verdict::{CheckWide, Reason, Verdict};

@@ -3,7 +3,7 @@ use Rattle.case_model.specs.CaseView.{content}
 use Rattle.evidence_check.specs.EvidenceView.{hypotheses_of}
 use Rattle.evidence_check.specs.CaseCheck.{loaded_case}
 use Rattle.evidence_check.proofs.StepsAnswers.{Kept}
-use Rattle.evidence_check.proofs.check.keeps.Given as goal
+use Rattle.evidence_check.proofs.checker.keeps.Given as goal
 
 abbrev pub invariant-loop-x : goal.invariant-loop-x
 invariant-loop-x g l =

@@ -1,7 +1,7 @@
 use Rattle.std.proofs.Common.{rules, ◌≡◌, ◌∙◌, ◌+◌, sym, ap, length, Err, arith}
 use Rattle.evidence_check.specs.CheckSteps.{numbered}
 use Rattle.evidence_check.proofs.StepsAnswers.{keeps_start, keep_fits, keep_known, keeps_stop, keeps_next, keeps_end}
-use Rattle.evidence_check.proofs.check.keeps.Goals as goal
+use Rattle.evidence_check.proofs.checker.keeps.Goals as goal
 
 pub loop-x-init : goal.loop-x-init
 loop-x-init g c = keeps_start g.F.Number.parts g.F.Number.kind _ _ _ _ _ _ c.args.keeps.now c.requires.fit

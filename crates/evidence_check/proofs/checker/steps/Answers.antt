@@ -3,7 +3,7 @@ use Rattle.field_core.specs.Kind.{ok_map}
 use Rattle.evidence_check.specs.EvidenceView.{hypotheses_of}
 use Rattle.evidence_check.specs.CheckSteps.{numbered}
 use Rattle.evidence_check.proofs.StepsAnswers.{steps_start, step_full, step_known, steps_stop, steps_next, steps_end, order_end}
-use Rattle.evidence_check.proofs.check.steps.Goals as goal
+use Rattle.evidence_check.proofs.checker.steps.Goals as goal
 
 pub loop-s-init : goal.loop-s-init
 loop-s-init g c = steps_start g.F.Number.parts g.F.Number.kind _ _ _ c.args.steps.now c.requires.fit

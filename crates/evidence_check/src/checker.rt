@@ -1,0 +1,128 @@
+//! The checker.
+ghost use Rattle.std.specs.Prelude.{◌≡◌, ◌<◌, ◌↔◌, ℕ, [], map, length, Ok, IfOk, All};
+ghost use Rattle.field_core.specs.Kind.{ok_map};
+ghost use Rattle.field_core.specs.Sets.{whole};
+ghost use Rattle.field_core.specs.Runs.{IsOrder};
+ghost use Rattle.case_model.specs.CaseView.{content};
+ghost use Rattle.case_model.specs.Content.{entangled, IsRejectedIn};
+ghost use Rattle.case_model.specs.LegalOrder.{IsListed};
+ghost use Rattle.case_numbers.specs.Numbers.{CanRunIn};
+ghost use Rattle.evidence_check.specs.EvidenceParts.{FlowsFit, ExitsFit, FitsSize};
+ghost use Rattle.evidence_check.specs.EvidenceView.{hypotheses_of, step_parts, keep_parts, version_of, steps_of, keeps_of, IsEvidenceFor};
+ghost use Rattle.evidence_check.specs.CheckSteps.{numbered};
+ghost use Rattle.evidence_check.specs.WrittenCheck.{steps_check, keeps_check};
+ghost use Rattle.evidence_check.specs.CheckStatements.{IsLoaded};
+ghost use Rattle.evidence_check.specs.CaseCheck.{IsSingle, loaded_case, check_in, case_check, verdict_of, MeetsIn};
+ghost use Rattle.evidence_check.specs.declared.verdict.Reason.{Reason as Broken};
+ghost use Rattle.evidence_check.specs.declared.verdict.Verdict.TheVariants.{Yes, No};
+
+use crate::event::{Event, EventAt};
+use crate::keep::keep;
+use crate::loading::{EvidenceNumber, load};
+use crate::step::step;
+use crate::{CheckWide, Evidence, KeepProof, ProofStep, Steps, Verdict};
+use case_model::Case;
+use case_numbers::CaseNumber;
+
+/// An event with the number of its step or keep.
+#[tactic(auto, unfolding(crate::specs::CheckSteps::numbered))]
+fn numbered(number: usize, checked: Result<(), Event>) -> Result<(), EventAt>
+    ensures { result ≡ numbered number checked }
+{
+    match checked {
+        Ok(()) => Ok(()),
+        Err(event) => Err(EventAt { number, event }),
+    }
+}
+
+/// What a check that ended so answers.
+#[tactic(auto, unfolding(crate::specs::CaseCheck::verdict_of))]
+pub fn verdict(checked: Result<(), EventAt>) -> Result<Verdict, CheckWide>
+    ensures { result ≡ verdict_of checked }
+{
+    match checked {
+        Ok(()) => Ok(Verdict::Yes),
+        Err(EventAt { number, event }) => match event {
+            Event::Broken(reason) => Ok(Verdict::No(number, reason)),
+            Event::Undefined(at) => Err(CheckWide { step: number, at }),
+        },
+    }
+}
+
+/// The conditions on all steps, in their order. Where they are met, the steps are of distinct hypotheses.
+pub fn steps<F: CaseNumber>(case: &Case, steps: &[ProofStep<F>]) -> Result<(), EventAt>
+    requires single { IsSingle (content case.now).inputs }
+    requires below { All (λ s. s.hypothesis < length (content case.now).names) (map (step_parts F.parts) steps.now) }
+    requires fit { FlowsFit (length (content case.now).components) 0 (map (step_parts F.parts) steps.now) }
+    requires loaded { IsLoaded F.IsStored (loaded_case F.kind F.numbers (content case.now)) (entangled (content case.now)) }
+    ensures checked { ok_map (λ u. hypotheses_of steps.now) result ≡ steps_check F.kind (loaded_case F.kind F.numbers (content case.now)) [] (map (step_parts F.parts) steps.now) }
+    ensures order { IfOk result (λ u. IsOrder (length (content case.now).names) whole (hypotheses_of steps.now)) }
+{
+    for s in 0..steps.len() {
+        numbered(s + 1, step(case, &steps[..s], &steps[s]))?;
+    }
+    Ok(())
+}
+
+/// The conditions on all keeps, in their order, after so many steps.
+pub fn keeps<F: CaseNumber>(
+    case: &Case,
+    steps: &[ProofStep<F>],
+    keeps: &[KeepProof<F>],
+) -> Result<(), EventAt>
+    requires single { IsSingle (content case.now).inputs }
+    requires below { All (λ x. x.hypothesis < length (content case.now).names) (map (keep_parts F.parts) keeps.now) }
+    requires fit { ExitsFit (length (content case.now).components) (length steps.now) (map (keep_parts F.parts) keeps.now) }
+    requires order { IsOrder (length (content case.now).names) whole (hypotheses_of steps.now) }
+    requires loaded { IsLoaded F.IsStored (loaded_case F.kind F.numbers (content case.now)) (entangled (content case.now)) }
+    ensures { result ≡ keeps_check F.kind (loaded_case F.kind F.numbers (content case.now)) (hypotheses_of steps.now) (length steps.now) (map (keep_parts F.parts) keeps.now) }
+{
+    for x in 0..keeps.len() {
+        numbered(steps.len() + x + 1, keep(case, steps, &keeps[x]))?;
+    }
+    Ok(())
+}
+
+/// The whole check of evidence, in these numbers. The loading of the case is step 0.
+fn checked<F: EvidenceNumber>(case: &Case, proof: &Steps<F>) -> Result<(), EventAt>
+    requires single { IsSingle (content case.now).inputs }
+    requires runs { CanRunIn F.numbers (content case.now) }
+    requires size { FitsSize (length (content case.now).names) (length (content case.now).components) (map (step_parts F.parts) proof.now.steps) (map (keep_parts F.parts) proof.now.keeps) }
+    ensures { result ≡ check_in F.kind F.numbers (content case.now) (map (step_parts F.parts) proof.now.steps) (map (keep_parts F.parts) proof.now.keeps) }
+{
+    let listed = proof.steps.as_slice();
+    let kept = proof.keeps.as_slice();
+    numbered(0, load::<F>(case))?;
+    steps(case, listed)?;
+    keeps(case, listed, kept)
+}
+
+/// The whole check of evidence for a case.
+fn checked_for(case: &Case, proof: &Evidence) -> Result<(), EventAt>
+    requires single { IsSingle (content case.now).inputs }
+    requires fits { IsEvidenceFor (content case.now) proof.now }
+    ensures { result ≡ case_check (content case.now) (steps_of proof.now) (keeps_of proof.now) }
+{
+    match proof {
+        Evidence::Plain(proof) => checked(case, proof),
+        Evidence::Eps(proof) => checked(case, proof),
+    }
+}
+
+/// Whether evidence meets its conditions for a case that has a p-value for each hypothesis.
+///
+/// The conditions are tried in their order: those on each step, and then those on each keep. It is `Verdict::No` exactly
+/// where a broken condition comes first, `CheckWide` exactly where a written operation does that is undefined, and
+/// `Verdict::Yes` exactly where neither comes. A yes implies that the closed test rejects each hypothesis of a step, and
+/// in version 2 that it rejects no other. The call takes no memory and removes nothing.
+pub fn check(case: &Case, proof: &Evidence) -> Result<Verdict, CheckWide>
+    requires single { IsSingle (content case.now).inputs }
+    requires fits { IsEvidenceFor (content case.now) proof.now }
+    ensures answer { result ≡ verdict_of (case_check (content case.now) (steps_of proof.now) (keeps_of proof.now)) }
+    ensures yes { result ≡ Ok Yes → MeetsIn (content case.now) (steps_of proof.now) (keeps_of proof.now) }
+    ensures no { (n : ℕ) (reason : Broken) → result ≡ Ok (No n reason) → ¬ MeetsIn (content case.now) (steps_of proof.now) (keeps_of proof.now) }
+    ensures rejected { result ≡ Ok Yes → (j : ℕ) → IsListed (map (λ s. s.hypothesis) (steps_of proof.now)) j → IsRejectedIn (content case.now) j }
+    ensures all { result ≡ Ok Yes → version_of proof.now ≡ 2 → (j : ℕ) → IsListed (map (λ s. s.hypothesis) (steps_of proof.now)) j ↔ IsRejectedIn (content case.now) j }
+{
+    verdict(checked_for(case, proof))
+}
