@@ -1,6 +1,5 @@
 pub mod Asked
 pub mod Choices
-pub mod Counts
 pub mod Given
 pub mod Laws
 pub mod Levels

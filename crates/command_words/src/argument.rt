@@ -6,8 +6,6 @@ pub(crate) enum Argument {
     Form,
     Alpha,
     Priority,
-    Size,
-    Seed,
 }
 
 impl Argument {
@@ -24,8 +22,6 @@ impl Argument {
             b"form" => Some(Argument::Form),
             b"alpha" => Some(Argument::Alpha),
             b"priority" => Some(Argument::Priority),
-            b"size" => Some(Argument::Size),
-            b"seed" => Some(Argument::Seed),
             _ => None,
         }
     }

@@ -4,7 +4,6 @@
 mod argument;
 mod choice;
 mod command;
-mod count;
 mod form;
 mod given;
 pub mod laws;

@@ -7,7 +7,6 @@ use crate::form::Form;
 #[derive(Clone, Copy, PartialEq, Eq, Debug)]
 pub(crate) enum Verb {
     Test,
-    Sample,
     Help,
 }
 
@@ -23,7 +22,6 @@ impl Verb {
     {
         match name {
             b"test" => Some(Verb::Test),
-            b"sample" => Some(Verb::Sample),
             b"help" => Some(Verb::Help),
             _ => None,
         }
@@ -36,7 +34,6 @@ impl Verb {
     {
         match self {
             Verb::Test => &[Argument::Form, Argument::Alpha, Argument::Priority],
-            Verb::Sample => &[Argument::Size, Argument::Seed],
             Verb::Help => &[],
         }
     }
@@ -48,7 +45,7 @@ impl Verb {
     {
         match self {
             Verb::Test => &[Form::Text, Form::Csv, Form::Json],
-            Verb::Sample | Verb::Help => &[],
+            Verb::Help => &[],
         }
     }
 
