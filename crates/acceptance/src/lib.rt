@@ -2,6 +2,8 @@
 #![tactic(auto)]
 
 #[cfg(test)]
+mod canon;
+#[cfg(test)]
 mod decided;
 #[cfg(test)]
 mod devices;

@@ -10,7 +10,7 @@ use std::test::Fail;
 type Row<'a> = (&'a [&'a str], &'a str);
 
 /// No command stands first.
-const NO_COMMAND: [Row; 21] = [
+const NO_COMMAND: [Row; 20] = [
     (&[], "usage: word 1\n"),
     (&[""], "usage: word 1\n"),
     (&["tests"], "usage: word 1\n"),
@@ -29,7 +29,6 @@ const NO_COMMAND: [Row; 21] = [
     (&["evidence"], "usage: word 1\n"),
     (&["check", "proof.txt"], "usage: word 1\n"),
     (&["stages", "--form", "csv"], "usage: word 1\n"),
-    (&["canon", "--to", "json"], "usage: word 1\n"),
     (&["catalogue", "holm", "--size", "3"], "usage: word 1\n"),
     (&["sample", "--size", "2", "--seed", "1"], "usage: word 1\n"),
     (&["study", "looks.txt"], "usage: word 1\n"),
@@ -58,7 +57,7 @@ const BARE: [Row; 14] = [
 ];
 
 /// An option that the command doesn't take.
-const UNKNOWN_OPTIONS: [Row; 19] = [
+const UNKNOWN_OPTIONS: [Row; 20] = [
     (&["test", "--x", "y"], "usage: word 2\n"),
     (&["test", "--"], "usage: word 2\n"),
     (&["test", "--="], "usage: word 2\n"),
@@ -81,10 +80,11 @@ const UNKNOWN_OPTIONS: [Row; 19] = [
     (&["help", "--form=text"], "usage: word 2\n"),
     (&["help", "--alpha", "1"], "usage: word 2\n"),
     (&["help", "--help"], "usage: word 2\n"),
+    (&["canon", "--priority", "first"], "usage: word 2\n"),
 ];
 
 /// A value that is unknown. The word behind the name of an option is its value, whatever it begins with.
-const UNKNOWN_VALUES: [Row; 21] = [
+const UNKNOWN_VALUES: [Row; 23] = [
     (&["test", "--form", "xml"], "usage: word 3\n"),
     (&["test", "--form=xml"], "usage: word 2\n"),
     (&["test", "--form", "Text"], "usage: word 3\n"),
@@ -125,10 +125,12 @@ const UNKNOWN_VALUES: [Row; 21] = [
         &["test", "--priority", "last", "--form=xml"],
         "usage: word 4\n",
     ),
+    (&["canon", "--to", "xml"], "usage: word 3\n"),
+    (&["canon", "--form=text", "--to=Text"], "usage: word 3\n"),
 ];
 
 /// No word stands where a value must.
-const MISSING_VALUES: [Row; 7] = [
+const MISSING_VALUES: [Row; 8] = [
     (&["test", "--form"], "usage: word 3\n"),
     (&["test", "--priority"], "usage: word 3\n"),
     (&["test", "--alpha"], "usage: word 3\n"),
@@ -136,10 +138,11 @@ const MISSING_VALUES: [Row; 7] = [
     (&["test", "--form=text", "--priority"], "usage: word 4\n"),
     (&["test", "--form", "csv", "--alpha"], "usage: word 5\n"),
     (&["help", "--form"], "usage: word 2\n"),
+    (&["canon", "--to"], "usage: word 3\n"),
 ];
 
 /// An option comes again. The second name fails, whatever its value is.
-const TWICE: [Row; 8] = [
+const TWICE: [Row; 9] = [
     (
         &["test", "--form", "text", "--form", "text"],
         "usage: word 4\n",
@@ -160,10 +163,11 @@ const TWICE: [Row; 8] = [
         &["test", "--form", "csv", "--alpha", "1", "--form", "text"],
         "usage: word 6\n",
     ),
+    (&["canon", "--to=text", "--to", "csv"], "usage: word 3\n"),
 ];
 
 /// A sheet needs its level, which is missing behind the last word.
-const MISSING: [Row; 5] = [
+const MISSING: [Row; 6] = [
     (&["test", "--form", "csv"], "usage: word 4\n"),
     (&["test", "--form=csv"], "usage: word 3\n"),
     (
@@ -178,10 +182,14 @@ const MISSING: [Row; 5] = [
         &["test", "--form", "csv", "--priority=ratio"],
         "usage: word 5\n",
     ),
+    (
+        &["canon", "--to", "csv", "--form", "csv"],
+        "usage: word 6\n",
+    ),
 ];
 
 /// The other forms say their level.
-const FORBIDDEN: [Row; 9] = [
+const FORBIDDEN: [Row; 10] = [
     (&["test", "--alpha", "0.05"], "usage: word 2\n"),
     (&["test", "--alpha=0.05"], "usage: word 2\n"),
     (
@@ -217,6 +225,7 @@ const FORBIDDEN: [Row; 9] = [
         ],
         "usage: word 2\n",
     ),
+    (&["canon", "--to=csv", "--alpha", "0.05"], "usage: word 3\n"),
 ];
 
 /// The words are refused. The first take of the case is to fail, and it isn't made by the run.
@@ -261,11 +270,14 @@ fn words_are_refused_before_the_case_is_read(rt: HostRuntime) -> Result<(), Fail
 /// What is printed where CSV is asked for, and the text isn't.
 const NO_HEADER: &str = "malformed: row 1 column 1: header\n";
 
-/// What is printed where a form isn't read yet.
+/// What `canon` prints of the tie.
+const TIE_CANONICAL: &str = "alpha 1/20\nhypotheses H1 H2\np 1/40 13/500\nweights 1/2 1/2\n";
+
+/// What is printed where a form isn't read or written yet.
 const UNREAD: &str = "malformed: form\n";
 
 /// Words that are accepted, the status, and what is printed of the tie.
-const ACCEPTED: [(&[&str], u8, &str); 17] = [
+const ACCEPTED: [(&[&str], u8, &str); 21] = [
     (&["test"], 0, TIE_DECIDED),
     (&["test", "--form", "text"], 0, TIE_DECIDED),
     (&["test", "--form=text"], 0, TIE_DECIDED),
@@ -302,6 +314,10 @@ const ACCEPTED: [(&[&str], u8, &str); 17] = [
     (&["test", "--form=csv", "--alpha=+007"], 3, NO_HEADER),
     (&["test", "--form=csv", "--alpha=.5"], 3, NO_HEADER),
     (&["test", "--form=csv", "--alpha", "1."], 3, NO_HEADER),
+    (&["canon"], 0, TIE_CANONICAL),
+    (&["canon", "--to", "text", "--form=text"], 0, TIE_CANONICAL),
+    (&["canon", "--to=json"], 3, UNREAD),
+    (&["canon", "--form", "csv", "--alpha", "0.05"], 3, NO_HEADER),
 ];
 
 #[test]
@@ -319,7 +335,8 @@ fn words_are_accepted(rt: HostRuntime) -> Result<(), Fail> {
 }
 
 /// The lines of the commands that run.
-const HELP: &str = "test [--form F] [--alpha N] [--priority P]\nhelp\nend\n";
+const HELP: &str =
+    "test [--form F] [--alpha N] [--priority P]\ncanon [--form F] [--alpha N] [--to F]\nhelp\nend\n";
 
 /// No byte of the case is taken.
 #[test]

@@ -25,6 +25,7 @@ one_value : (verb : Verb) (argument : Argument) (v w : Value argument) (text : L
 one_value verb arguments.Form v w text h k = one_form v w (sym h.1 ∙ k.1)
 one_value verb arguments.Alpha v w text h k = one_level text v w h k
 one_value verb arguments.Priority v w text h k = one_priority v w (sym h ∙ k)
+one_value verb arguments.To v w text h k = one_form v w (sym h ∙ k)
 
 one_choice : (verb : Verb) (c d : Chosen) (text : List ℕ) → c.argument ≡ d.argument → IsSpelled verb c text → IsSpelled verb d text → c ≡ d
 one_choice verb c d text e h k =

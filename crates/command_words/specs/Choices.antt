@@ -15,6 +15,7 @@ abbrev pub Value : Argument → Type 0
 Value arguments.Form = Form
 Value arguments.Alpha = Level
 Value arguments.Priority = Priority
+Value arguments.To = Form
 
 -- An argument with its value.
 pub record Chosen : Type 0 where
@@ -25,12 +26,14 @@ abbrev pub chosen : Choice → Chosen
 chosen (choices.Form form) = record { argument = arguments.Form; value = form }
 chosen (choices.Alpha alpha) = record { argument = arguments.Alpha; value = level_of alpha }
 chosen (choices.Priority priority) = record { argument = arguments.Priority; value = priority }
+chosen (choices.To form) = record { argument = arguments.To; value = form }
 
 -- a command knows the text of a value
 abbrev pub Spells : Verb → (argument : Argument) → Value argument → List ℕ → Type 0
 Spells verb arguments.Form form text = Contains (forms_of verb) form × (text ≡ form_name form)
 Spells verb arguments.Alpha alpha text = IsLevel text alpha
 Spells verb arguments.Priority priority text = text ≡ priority_name priority
+Spells verb arguments.To form text = text ≡ form_name form
 
 abbrev pub IsSpelled : Verb → Chosen → List ℕ → Type 0
 IsSpelled verb choice text = Spells verb choice.argument choice.value text

@@ -22,24 +22,27 @@ pub record GivenContent : Type 0 where
   pub alpha : Option Level
   pub alpha_word : ℕ
   pub priority : Option Priority
+  pub to : Option Form
 
 abbrev pub given_content : Given → GivenContent
-given_content g = record { form = g.form; alpha = option_map level_of g.alpha; alpha_word = g.alpha_word; priority = g.priority }
+given_content g = record { form = g.form; alpha = option_map level_of g.alpha; alpha_word = g.alpha_word; priority = g.priority; to = g.to }
 
 abbrev pub nothing : GivenContent
-nothing = record { form = None; alpha = None; alpha_word = 0; priority = None }
+nothing = record { form = None; alpha = None; alpha_word = 0; priority = None; to = None }
 
 -- an argument was given
 abbrev pub is_given : GivenContent → Argument → Bool
 is_given g arguments.Form = is_some g.form
 is_given g arguments.Alpha = is_some g.alpha
 is_given g arguments.Priority = is_some g.priority
+is_given g arguments.To = is_some g.to
 
 -- the same, and a value whose first word stands at a place, from 0
 abbrev pub with_value : ℕ → GivenContent → (argument : Argument) → Value argument → GivenContent
 with_value at g arguments.Form form = record g { form = Some form }
 with_value at g arguments.Alpha alpha = record g { alpha = Some alpha; alpha_word = at + 1 }
 with_value at g arguments.Priority priority = record g { priority = Some priority }
+with_value at g arguments.To form = record g { to = Some form }
 
 abbrev pub with_chosen : ℕ → GivenContent → Chosen → GivenContent
 with_chosen at g choice = with_value at g choice.argument choice.value
@@ -73,6 +76,7 @@ on_case g task = option_map (λ form. task_on_case form task) (written_of g)
 -- what a command asks for; nothing, where something is missing
 abbrev pub asked_of : Verb → GivenContent → Option Asked
 asked_of verbs.Test g = on_case g (tasks.Test (priority_or_first g.priority))
+asked_of verbs.Canon g = on_case g (tasks.Canon (form_or_text g.to))
 asked_of verbs.Help g = Some help
 
 -- ---- what the others forbid

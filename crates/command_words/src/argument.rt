@@ -6,6 +6,7 @@ pub(crate) enum Argument {
     Form,
     Alpha,
     Priority,
+    To,
 }
 
 impl Argument {
@@ -22,6 +23,7 @@ impl Argument {
             b"form" => Some(Argument::Form),
             b"alpha" => Some(Argument::Alpha),
             b"priority" => Some(Argument::Priority),
+            b"to" => Some(Argument::To),
             _ => None,
         }
     }

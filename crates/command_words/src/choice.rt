@@ -17,6 +17,7 @@ pub(crate) enum Choice {
     Form(Form),
     Alpha(Fraction),
     Priority(Priority),
+    To(Form),
 }
 
 /// The priority of a name.
@@ -61,6 +62,7 @@ impl Choice {
             Argument::Form => Some(Choice::Form(form_read(verb, text)?)),
             Argument::Alpha => Some(Choice::Alpha(level_spelt(text)?)),
             Argument::Priority => Some(Choice::Priority(priority_named(text)?)),
+            Argument::To => Some(Choice::To(Form::named(text)?)),
         }
     }
 }

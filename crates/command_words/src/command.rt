@@ -1,13 +1,14 @@
 //! Commands.
 ghost use Rattle.std.specs.Prelude.{◌≡◌};
 
-use crate::form::CaseForm;
+use crate::form::{CaseForm, Form};
 use sequential::Priority;
 
 /// What is to be done with a case alone.
 #[derive(Clone, Copy, PartialEq, Eq, Debug)]
 pub enum CaseTask {
     Test(Priority),
+    Canon(Form),
 }
 
 /// What is to be done.

@@ -15,6 +15,7 @@ pub(crate) struct Given {
     alpha: Option<Fraction>,
     alpha_word: usize,
     priority: Option<Priority>,
+    to: Option<Form>,
 }
 
 impl Given {
@@ -32,6 +33,7 @@ impl Given {
             alpha: None,
             alpha_word: 0,
             priority: None,
+            to: None,
         }
     }
 
@@ -43,6 +45,7 @@ impl Given {
             Argument::Form => self.form.is_some(),
             Argument::Alpha => self.alpha.is_some(),
             Argument::Priority => self.priority.is_some(),
+            Argument::To => self.to.is_some(),
         }
     }
 
@@ -59,6 +62,7 @@ impl Given {
                 given.alpha_word = at + 1;
             }
             Choice::Priority(priority) => given.priority = Some(priority),
+            Choice::To(form) => given.to = Some(form),
         }
         given
     }
@@ -90,6 +94,7 @@ impl Given {
     {
         match verb {
             Verb::Test => self.on_case(CaseTask::Test(self.priority.unwrap_or(Priority::First))),
+            Verb::Canon => self.on_case(CaseTask::Canon(self.to.unwrap_or(Form::Text))),
             Verb::Help => Some(Command::Help),
         }
     }

@@ -14,5 +14,5 @@ mod verb;
 mod word;
 
 pub use command::{CaseTask, Command};
-pub use form::CaseForm;
+pub use form::{CaseForm, Form};
 pub use reading::read_words;

@@ -7,6 +7,7 @@ use crate::form::Form;
 #[derive(Clone, Copy, PartialEq, Eq, Debug)]
 pub(crate) enum Verb {
     Test,
+    Canon,
     Help,
 }
 
@@ -22,6 +23,7 @@ impl Verb {
     {
         match name {
             b"test" => Some(Verb::Test),
+            b"canon" => Some(Verb::Canon),
             b"help" => Some(Verb::Help),
             _ => None,
         }
@@ -34,6 +36,7 @@ impl Verb {
     {
         match self {
             Verb::Test => &[Argument::Form, Argument::Alpha, Argument::Priority],
+            Verb::Canon => &[Argument::Form, Argument::Alpha, Argument::To],
             Verb::Help => &[],
         }
     }
@@ -45,6 +48,7 @@ impl Verb {
     {
         match self {
             Verb::Test => &[Form::Text, Form::Csv, Form::Json],
+            Verb::Canon => &[Form::Text, Form::Csv, Form::Json],
             Verb::Help => &[],
         }
     }

@@ -1,5 +1,5 @@
 -- Each command is decided.
-use Rattle.std.proofs.Common.{ℕ, List, Some}
+use Rattle.std.proofs.Common.{sym, ◌∙◌, ℕ, List, Some}
 use Rattle.answers.specs.Stages.{IsDecided}
 use Rattle.answers.proofs.Decided.{then_decided, only_decided}
 use Rattle.case_model.specs.Content.{Content}
@@ -7,6 +7,9 @@ use Rattle.command_words.specs.Asked.{Asked, on_case as task_on_case, help}
 use Rattle.command_words.specs.declared.command.CaseTask.{CaseTask}
 use Rattle.command_words.specs.declared.command.CaseTask.TheVariants as tasks
 use Rattle.graph_cli.specs.Commands.{on_case, needs_of, case_call, call_of}
+use Rattle.command_words.specs.declared.form.Form.{Form}
+use Rattle.command_words.specs.declared.form.Form.TheVariants as forms
+use Rattle.graph_cli.specs.Canon.{unwritten, canon_stage}
 use Rattle.graph_cli.specs.Help.{help_stage}
 use Rattle.graph_cli.proofs.AcceptedCases.{accepted_decided}
 use Rattle.graph_cli.proofs.TestAnswers.{test_decided}
@@ -15,9 +18,19 @@ help_decided : IsDecided help_stage
 unfolding help_stage
 help_decided = only_decided _
 
+unwritten_decided : IsDecided unwritten
+unwritten_decided = record { one = λ a b h k. absurd h; one_refusal = λ r q h k. h ∙ sym k; not_both = λ a r h k. h }
+
+canon_decided : (form : Form) (c : Content) → IsDecided (canon_stage form c)
+unfolding canon_stage
+canon_decided forms.Text c = only_decided _
+canon_decided forms.Csv c = unwritten_decided
+canon_decided forms.Json c = unwritten_decided
+
 task_decided : (task : CaseTask) (c : Content) → IsDecided (on_case task c)
 unfolding on_case
 task_decided (tasks.Test priority) c = test_decided priority c
+task_decided (tasks.Canon form) c = canon_decided form c
 
 pub call_decided : (command : Asked) (case proof : List ℕ) → IsDecided (call_of command (Some case) (Some proof))
 unfolding call_of case_call

@@ -1,4 +1,5 @@
 pub mod Accepted
+pub mod Canon
 pub mod Commands
 pub mod Help
 pub mod Laws

@@ -8,10 +8,12 @@ ghost use Rattle.command_words.specs.Asked.{asked, written};
 ghost use Rattle.graph_cli.specs.Accepted.{IsOfKind};
 ghost use Rattle.graph_cli.specs.Commands.{needs_of, on_case, case_call, call_of, TakesCase, TakesProof, CallFault};
 
+mod canon;
 mod help;
 mod test;
 
 use crate::accepted::accepted_case;
+use crate::commands::canon::canon_answer;
 use crate::commands::help::help_answer;
 use crate::commands::test::test_answer;
 use crate::kind::Kind;
@@ -29,6 +31,7 @@ fn needs_of(task: CaseTask) -> Needs
 {
     match task {
         CaseTask::Test(_) => Needs::new(Kind::Single, 64),
+        CaseTask::Canon(_) => Needs::new(Kind::Any, 64),
     }
 }
 
@@ -41,6 +44,7 @@ fn case_answer(alloc: Global, task: CaseTask, case: &Case) -> Result<Answer, Hal
 {
     match task {
         CaseTask::Test(priority) => test_answer(alloc, case, priority),
+        CaseTask::Canon(form) => canon_answer(alloc, case, form),
     }
 }
 

@@ -9,3 +9,6 @@ returns-in-Alpha c = rw c.in-Alpha.is refl
 
 pub returns-in-Priority : goal.returns-in-Priority
 returns-in-Priority c = rw c.in-Priority.is refl
+
+pub returns-in-To : goal.returns-in-To
+returns-in-To c = rw c.in-To.is refl
