@@ -18,7 +18,6 @@ use case_model::Case;
 use case_numbers::CaseNumber;
 use field_core::{Number, Place};
 
-
 /// The hypothesis of a step; where the steps are of distinct hypotheses, it is one of them.
 #[tactic(auto, unfolding(crate::specs::Evidence::at_place))]
 pub fn hypothesis<F>(steps: &[ProofStep<F>], e: usize) -> usize
@@ -40,13 +39,7 @@ fn weight_of<F: CaseNumber>(case: &Case, steps: &[ProofStep<F>], c: usize, e: us
 }
 
 /// The edge from the hypothesis of a step to `k` in a component.
-fn edge_from<F: CaseNumber>(
-    case: &Case,
-    steps: &[ProofStep<F>],
-    c: usize,
-    e: usize,
-    k: usize,
-) -> F
+fn edge_from<F: CaseNumber>(case: &Case, steps: &[ProofStep<F>], c: usize, e: usize, k: usize) -> F
     requires c { c < length (content case.now).components }
     requires e { e < length steps.now }
     requires k { k < length (content case.now).names }
@@ -57,13 +50,7 @@ fn edge_from<F: CaseNumber>(
 }
 
 /// The edge from `l` to the hypothesis of a step in a component.
-fn edge_to<F: CaseNumber>(
-    case: &Case,
-    steps: &[ProofStep<F>],
-    c: usize,
-    l: usize,
-    e: usize,
-) -> F
+fn edge_to<F: CaseNumber>(case: &Case, steps: &[ProofStep<F>], c: usize, l: usize, e: usize) -> F
     requires c { c < length (content case.now).components }
     requires l { l < length (content case.now).names }
     requires e { e < length steps.now }

@@ -12,8 +12,8 @@ ghost use Rattle.evidence_check.specs.CaseCheck.{IsSingle, loaded_case};
 ghost use Rattle.evidence_check.specs.declared.event.Event.{Event as Ended};
 
 use crate::case_sums::number;
-use crate::loading::p_value;
 use crate::event::Event;
+use crate::loading::p_value;
 use crate::sums::with_product;
 use case_model::{Case, passes};
 use field_core::{Number, Place, try_fill};

@@ -44,11 +44,7 @@ pub fn is_nonnegative<F: Number>(x: &F) -> bool
 
 /// A written operation, in a component and at a place.
 #[tactic(auto, unfolding(crate::specs::CheckSteps::written_at))]
-pub fn placed<A>(
-    component: usize,
-    place: Place,
-    written: Result<A, TooWide>,
-) -> Result<A, Event>
+pub fn placed<A>(component: usize, place: Place, written: Result<A, TooWide>) -> Result<A, Event>
     ensures { result ≡ written_at component place written }
 {
     match written {

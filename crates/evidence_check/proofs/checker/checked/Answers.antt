@@ -30,7 +30,7 @@ pub returns-in_err-steps : goal.returns-in_err-steps
 returns-in_err-steps g c =
     let e : c.from_residual-in_err-steps.result ≡ Err c.in_err-steps.field-0.0 = search rules in
     e ∙ sym (sym (same_check g.F.Number.parts (length (content c.args.case.now).names) (length (content c.args.case.now).components) _ _ _ _ c.as_slice-listed.ensures c.as_slice-kept.ensures g.F.Number.kind g.F.CaseNumber.numbers (content c.args.case.now))
-      ∙ steps_refused _ _ _ _ _ _ (ap (numbered 0) (sym c.load.ensures) ∙ sym c.numbered.ensures ∙ c.in_ok-numbered.was) _ (sym c.steps.ensures.checked ∙ ap (ok_map (λ u. hypotheses_of c.as_slice-listed.result.now)) c.in_err-steps.was))
+    ∙ steps_refused _ _ _ _ _ _ (ap (numbered 0) (sym c.load.ensures) ∙ sym c.numbered.ensures ∙ c.in_ok-numbered.was) _ (sym c.steps.ensures.checked ∙ ap (ok_map (λ u. hypotheses_of c.as_slice-listed.result.now)) c.in_err-steps.was))
 
 pub keeps-requires-clause-below : goal.keeps-requires-clause-below
 keeps-requires-clause-below g c = (resized g.F.Number.parts (length (content c.args.case.now).names) (length (content c.args.case.now).components) _ _ _ _ c.as_slice-listed.ensures c.as_slice-kept.ensures c.requires.size).keeps_below
@@ -49,6 +49,6 @@ pub returns : goal.returns
 returns g c =
     c.keeps.ensures
     ∙ ap (λ n. keeps_check g.F.Number.kind (loaded_case g.F.Number.kind g.F.CaseNumber.numbers (content c.args.case.now)) (hypotheses_of c.as_slice-listed.result.now) n (map (keep_parts g.F.Number.parts) c.as_slice-kept.result.now))
-      (sym (same_count g.F.Number.parts 0 0 c.as_slice-listed.result.now c.as_slice-listed.result.now c.as_slice-kept.result.now c.as_slice-kept.result.now refl refl))
+    (sym (same_count g.F.Number.parts 0 0 c.as_slice-listed.result.now c.as_slice-listed.result.now c.as_slice-kept.result.now c.as_slice-kept.result.now refl refl))
     ∙ sym (check_done _ _ _ _ _ _ (ap (numbered 0) (sym c.load.ensures) ∙ sym c.numbered.ensures ∙ c.in_ok-numbered.was) _ (sym c.steps.ensures.checked ∙ ap (ok_map (λ u. hypotheses_of c.as_slice-listed.result.now)) c.in_ok-steps.was))
     ∙ same_check g.F.Number.parts (length (content c.args.case.now).names) (length (content c.args.case.now).components) _ _ _ _ c.as_slice-listed.ensures c.as_slice-kept.ensures g.F.Number.kind g.F.CaseNumber.numbers (content c.args.case.now)

@@ -16,7 +16,7 @@ pub returns-in_err-numbered : goal.returns-in_err-numbered
 returns-in_err-numbered g c =
     let e : c.from_residual.result ≡ Err c.in_err-numbered.field-0.0 = search rules in
     e ∙ sym (keeps_stop g.F.Number.parts g.F.Number.kind _ _ _ _ _ _ c.args.keeps.now c.loop-x.x _ c.loop-x-test.true c.index-keeps-x.is c.loop-x.invariant _
-      (ap (numbered (length c.args.steps.now + c.loop-x.x + 1)) (sym c.keep.ensures) ∙ sym c.numbered.ensures ∙ c.in_err-numbered.was))
+    (ap (numbered (length c.args.steps.now + c.loop-x.x + 1)) (sym c.keep.ensures) ∙ sym c.numbered.ensures ∙ c.in_err-numbered.was))
 
 pub loop-x-preserved : goal.loop-x-preserved
 loop-x-preserved g c =

@@ -17,8 +17,8 @@ returns-in_err-sum c = λ K n.
     let e : c.from_residual.result ≡ Err c.in_err-sum.field-0.0 = search rules in
     ap (ok_map fraction_parts) (e ∙ sym c.in_err-sum.was)
     ∙ added_stops plain (λ c. c) (Level c.args.k) plain.zero (share_in (content c.args.case.now)) (numbers_at plain (map fraction_parts c.args.limits.now)) fraction_parts c.loop-c.c (fraction_parts c.loop-c.sum)
-      (fraction_parts c.share.result) (fraction_parts c.number.result) c.with_product.result c.loop-c.invariant (ap fraction_parts c.share.ensures) c.number.ensures c.with_product.ensures _ c.in_err-sum.field-0.0
-      (omega (arith, c.loop-c-test.true, c.requires)) c.in_err-sum.was
+    (fraction_parts c.share.result) (fraction_parts c.number.result) c.with_product.result c.loop-c.invariant (ap fraction_parts c.share.ensures) c.number.ensures c.with_product.ensures _ c.in_err-sum.field-0.0
+    (omega (arith, c.loop-c-test.true, c.requires)) c.in_err-sum.was
     ∙ shared_is K n (content c.args.case.now) c.args.k (map fraction_parts c.args.limits.now)
 
 pub loop-c-preserved : goal.loop-c-preserved
