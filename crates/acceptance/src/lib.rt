@@ -16,6 +16,10 @@ mod refused;
 #[cfg(test)]
 mod runs;
 #[cfg(test)]
+mod stages;
+#[cfg(test)]
+mod studies;
+#[cfg(test)]
 mod too_long;
 #[cfg(test)]
 mod words;

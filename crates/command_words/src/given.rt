@@ -90,6 +90,7 @@ impl Given {
     {
         match verb {
             Verb::Test => self.on_case(CaseTask::Test(self.priority.unwrap_or(Priority::First))),
+            Verb::Stages => self.on_case(CaseTask::Stages),
             Verb::Help => Some(Command::Help),
         }
     }

@@ -7,6 +7,7 @@ use crate::form::Form;
 #[derive(Clone, Copy, PartialEq, Eq, Debug)]
 pub(crate) enum Verb {
     Test,
+    Stages,
     Help,
 }
 
@@ -22,6 +23,7 @@ impl Verb {
     {
         match name {
             b"test" => Some(Verb::Test),
+            b"stages" => Some(Verb::Stages),
             b"help" => Some(Verb::Help),
             _ => None,
         }
@@ -34,6 +36,7 @@ impl Verb {
     {
         match self {
             Verb::Test => &[Argument::Form, Argument::Alpha, Argument::Priority],
+            Verb::Stages => &[Argument::Form],
             Verb::Help => &[],
         }
     }
@@ -45,6 +48,7 @@ impl Verb {
     {
         match self {
             Verb::Test => &[Form::Text, Form::Csv, Form::Json],
+            Verb::Stages => &[Form::Text, Form::Json],
             Verb::Help => &[],
         }
     }

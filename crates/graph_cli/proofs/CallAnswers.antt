@@ -9,6 +9,7 @@ use Rattle.command_words.specs.declared.command.CaseTask.TheVariants as tasks
 use Rattle.graph_cli.specs.Commands.{on_case, needs_of, case_call, call_of}
 use Rattle.graph_cli.specs.Help.{help_stage}
 use Rattle.graph_cli.proofs.AcceptedCases.{accepted_decided}
+use Rattle.graph_cli.proofs.StagesAnswers.{stages_decided}
 use Rattle.graph_cli.proofs.TestAnswers.{test_decided}
 
 help_decided : IsDecided help_stage
@@ -18,6 +19,7 @@ help_decided = only_decided _
 task_decided : (task : CaseTask) (c : Content) → IsDecided (on_case task c)
 unfolding on_case
 task_decided (tasks.Test priority) c = test_decided priority c
+task_decided tasks.Stages c = stages_decided c
 
 pub call_decided : (command : Asked) (case proof : List ℕ) → IsDecided (call_of command (Some case) (Some proof))
 unfolding call_of case_call

@@ -9,10 +9,12 @@ ghost use Rattle.graph_cli.specs.Accepted.{IsOfKind};
 ghost use Rattle.graph_cli.specs.Commands.{needs_of, on_case, case_call, call_of, TakesCase, TakesProof, CallFault};
 
 mod help;
+mod stages;
 mod test;
 
 use crate::accepted::accepted_case;
 use crate::commands::help::help_answer;
+use crate::commands::stages::stages_answer;
 use crate::commands::test::test_answer;
 use crate::kind::Kind;
 use crate::needs::Needs;
@@ -29,6 +31,7 @@ fn needs_of(task: CaseTask) -> Needs
 {
     match task {
         CaseTask::Test(_) => Needs::new(Kind::Single, 64),
+        CaseTask::Stages => Needs::new(Kind::Staged, 64),
     }
 }
 
@@ -41,6 +44,7 @@ fn case_answer(alloc: Global, task: CaseTask, case: &Case) -> Result<Answer, Hal
 {
     match task {
         CaseTask::Test(priority) => test_answer(alloc, case, priority),
+        CaseTask::Stages => stages_answer(alloc, case),
     }
 }
 
