@@ -20,6 +20,10 @@ mod runs;
 #[cfg(test)]
 mod sheets;
 #[cfg(test)]
+mod stages;
+#[cfg(test)]
+mod studies;
+#[cfg(test)]
 mod too_long;
 #[cfg(test)]
 mod words;

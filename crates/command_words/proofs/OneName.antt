@@ -15,11 +15,14 @@ use Rattle.sequential.specs.declared.priority.Priority.TheVariants.{First, Last,
 -- ---- commands
 
 abbrev verb_of : List ℕ → Verb
-verb_of name = if bytes_eq name (codes "test") then verbs.Test else if bytes_eq name (codes "canon") then verbs.Canon else verbs.Help
+verb_of name =
+    if bytes_eq name (codes "test") then verbs.Test else if bytes_eq name (codes "stages") then verbs.Stages
+    else if bytes_eq name (codes "canon") then verbs.Canon else verbs.Help
 
 verb_back : (v : Verb) → verb_of (verb_name v) ≡ v
 unfolding verb_name
 verb_back verbs.Test = refl
+verb_back verbs.Stages = refl
 verb_back verbs.Canon = refl
 verb_back verbs.Help = refl
 

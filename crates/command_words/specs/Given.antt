@@ -76,6 +76,7 @@ on_case g task = option_map (λ form. task_on_case form task) (written_of g)
 -- what a command asks for; nothing, where something is missing
 abbrev pub asked_of : Verb → GivenContent → Option Asked
 asked_of verbs.Test g = on_case g (tasks.Test (priority_or_first g.priority))
+asked_of verbs.Stages g = on_case g tasks.Stages
 asked_of verbs.Canon g = on_case g (tasks.Canon (form_or_text g.to))
 asked_of verbs.Help g = Some help
 

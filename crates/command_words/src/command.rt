@@ -8,6 +8,7 @@ use sequential::Priority;
 #[derive(Clone, Copy, PartialEq, Eq, Debug)]
 pub enum CaseTask {
     Test(Priority),
+    Stages,
     Canon(Form),
 }
 

@@ -94,6 +94,7 @@ impl Given {
     {
         match verb {
             Verb::Test => self.on_case(CaseTask::Test(self.priority.unwrap_or(Priority::First))),
+            Verb::Stages => self.on_case(CaseTask::Stages),
             Verb::Canon => self.on_case(CaseTask::Canon(self.to.unwrap_or(Form::Text))),
             Verb::Help => Some(Command::Help),
         }

@@ -52,6 +52,12 @@ fn words_give_values(rt: HostRuntime) -> Result<(), Fail> {
     expect(
         &rt,
         alloc,
+        &["stages", "--form=json"],
+        Some((CaseTask::Stages, None)),
+    )?;
+    expect(
+        &rt,
+        alloc,
         &["test", "--form=json", "--priority", "last"],
         Some((last, None)),
     )?;

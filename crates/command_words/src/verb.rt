@@ -7,6 +7,7 @@ use crate::form::Form;
 #[derive(Clone, Copy, PartialEq, Eq, Debug)]
 pub(crate) enum Verb {
     Test,
+    Stages,
     Canon,
     Help,
 }
@@ -23,6 +24,7 @@ impl Verb {
     {
         match name {
             b"test" => Some(Verb::Test),
+            b"stages" => Some(Verb::Stages),
             b"canon" => Some(Verb::Canon),
             b"help" => Some(Verb::Help),
             _ => None,
@@ -36,6 +38,7 @@ impl Verb {
     {
         match self {
             Verb::Test => &[Argument::Form, Argument::Alpha, Argument::Priority],
+            Verb::Stages => &[Argument::Form],
             Verb::Canon => &[Argument::Form, Argument::Alpha, Argument::To],
             Verb::Help => &[],
         }
@@ -48,6 +51,7 @@ impl Verb {
     {
         match self {
             Verb::Test => &[Form::Text, Form::Csv, Form::Json],
+            Verb::Stages => &[Form::Text, Form::Json],
             Verb::Canon => &[Form::Text, Form::Csv, Form::Json],
             Verb::Help => &[],
         }

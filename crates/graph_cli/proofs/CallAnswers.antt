@@ -12,6 +12,7 @@ use Rattle.command_words.specs.declared.form.Form.TheVariants as forms
 use Rattle.graph_cli.specs.Canon.{unwritten, canon_stage}
 use Rattle.graph_cli.specs.Help.{help_stage}
 use Rattle.graph_cli.proofs.AcceptedCases.{accepted_decided}
+use Rattle.graph_cli.proofs.StagesAnswers.{stages_decided}
 use Rattle.graph_cli.proofs.TestAnswers.{test_decided}
 
 help_decided : IsDecided help_stage
@@ -30,6 +31,7 @@ canon_decided forms.Json c = unwritten_decided
 task_decided : (task : CaseTask) (c : Content) → IsDecided (on_case task c)
 unfolding on_case
 task_decided (tasks.Test priority) c = test_decided priority c
+task_decided tasks.Stages c = stages_decided c
 task_decided (tasks.Canon form) c = canon_decided form c
 
 pub call_decided : (command : Asked) (case proof : List ℕ) → IsDecided (call_of command (Some case) (Some proof))

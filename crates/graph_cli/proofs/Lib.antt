@@ -4,4 +4,5 @@ pub mod ClosedReports
 pub mod HandedOn
 pub mod OneAnswer
 pub mod SourcesRead
+pub mod StagesAnswers
 pub mod TestAnswers

@@ -10,18 +10,21 @@ use Rattle.command_words.specs.declared.command.CaseTask.TheVariants as tasks
 use Rattle.graph_cli.specs.Accepted.{accepted}
 use Rattle.graph_cli.specs.Canon.{canon_stage}
 use Rattle.graph_cli.specs.Help.{help_stage}
+use Rattle.graph_cli.specs.Stages.{stages_stage}
 use Rattle.graph_cli.specs.Test.{test_stage}
-use Rattle.graph_cli.specs.declared.kind.Kind.TheVariants.{Any, Single}
+use Rattle.graph_cli.specs.declared.kind.Kind.TheVariants.{Any, Single, Staged}
 use Rattle.graph_cli.specs.declared.needs.Needs.{Needs}
 
 -- what a task needs of its case
 unfoldable pub needs_of : CaseTask → Needs
 needs_of (tasks.Test priority) = record { kind = Single; most = 64 }
+needs_of tasks.Stages = record { kind = Staged; most = 64 }
 needs_of (tasks.Canon form) = record { kind = Any; most = 64 }
 
 -- what a task answers to a case that it can take
 unfoldable pub on_case : CaseTask → Content → Stage Refusal Answer
 on_case (tasks.Test priority) c = test_stage priority c
+on_case tasks.Stages c = stages_stage c
 on_case (tasks.Canon form) c = canon_stage form c
 
 -- a task on a case alone

@@ -4,4 +4,5 @@ pub mod Commands
 pub mod Help
 pub mod Laws
 pub mod Outcome
+pub mod Stages
 pub mod Test

@@ -2,8 +2,10 @@
 #![tactic(auto)]
 
 pub mod laws;
+mod stages;
 mod test;
 #[cfg(test)]
 mod tests;
 
+pub use stages::stages_text;
 pub use test::test_text;
