@@ -16,6 +16,8 @@ mod refused;
 #[cfg(test)]
 mod runs;
 #[cfg(test)]
+mod samples;
+#[cfg(test)]
 mod too_long;
 #[cfg(test)]
 mod words;

@@ -10,7 +10,7 @@ use std::test::Fail;
 type Row<'a> = (&'a [&'a str], &'a str);
 
 /// No command stands first.
-const NO_COMMAND: [Row; 21] = [
+const NO_COMMAND: [Row; 20] = [
     (&[], "usage: word 1\n"),
     (&[""], "usage: word 1\n"),
     (&["tests"], "usage: word 1\n"),
@@ -31,7 +31,6 @@ const NO_COMMAND: [Row; 21] = [
     (&["stages", "--form", "csv"], "usage: word 1\n"),
     (&["canon", "--to", "json"], "usage: word 1\n"),
     (&["catalogue", "holm", "--size", "3"], "usage: word 1\n"),
-    (&["sample", "--size", "2", "--seed", "1"], "usage: word 1\n"),
     (&["study", "looks.txt"], "usage: word 1\n"),
 ];
 
@@ -316,7 +315,8 @@ fn words_are_accepted(rt: HostRuntime) -> Result<(), Fail> {
 }
 
 /// The lines of the commands that run.
-const HELP: &str = "test [--form F] [--alpha N] [--priority P]\nhelp\nend\n";
+const HELP: &str =
+    "test [--form F] [--alpha N] [--priority P]\nsample --size N --seed N\nhelp\nend\n";
 
 /// No byte of the case is taken.
 #[test]

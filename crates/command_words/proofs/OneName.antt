@@ -15,11 +15,12 @@ use Rattle.sequential.specs.declared.priority.Priority.TheVariants.{First, Last,
 -- ---- commands
 
 abbrev verb_of : List ℕ → Verb
-verb_of name = if bytes_eq name (codes "test") then verbs.Test else verbs.Help
+verb_of name = if bytes_eq name (codes "test") then verbs.Test else if bytes_eq name (codes "sample") then verbs.Sample else verbs.Help
 
 verb_back : (v : Verb) → verb_of (verb_name v) ≡ v
 unfolding verb_name
 verb_back verbs.Test = refl
+verb_back verbs.Sample = refl
 verb_back verbs.Help = refl
 
 pub one_verb : (v w : Verb) → verb_name v ≡ verb_name w → v ≡ w
@@ -28,13 +29,15 @@ one_verb v w e = sym (verb_back v) ∙ (ap verb_of e ∙ verb_back w)
 -- ---- arguments
 
 abbrev argument_of : List ℕ → Argument
-argument_of name = if bytes_eq name (codes "form") then arguments.Form else if bytes_eq name (codes "alpha") then arguments.Alpha else arguments.Priority
+argument_of name = if bytes_eq name (codes "form") then arguments.Form else if bytes_eq name (codes "alpha") then arguments.Alpha else if bytes_eq name (codes "priority") then arguments.Priority else if bytes_eq name (codes "size") then arguments.Size else arguments.Seed
 
 argument_back : (a : Argument) → argument_of (argument_name a) ≡ a
 unfolding argument_name
 argument_back arguments.Form = refl
 argument_back arguments.Alpha = refl
 argument_back arguments.Priority = refl
+argument_back arguments.Size = refl
+argument_back arguments.Seed = refl
 
 pub one_argument : (a b : Argument) → argument_name a ≡ argument_name b → a ≡ b
 one_argument a b e = sym (argument_back a) ∙ (ap argument_of e ∙ argument_back b)

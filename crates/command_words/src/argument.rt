@@ -6,6 +6,8 @@ pub(crate) enum Argument {
     Form,
     Alpha,
     Priority,
+    Size,
+    Seed,
 }
 
 impl Argument {
@@ -22,6 +24,8 @@ impl Argument {
             b"form" => Some(Argument::Form),
             b"alpha" => Some(Argument::Alpha),
             b"priority" => Some(Argument::Priority),
+            b"size" => Some(Argument::Size),
+            b"seed" => Some(Argument::Seed),
             _ => None,
         }
     }

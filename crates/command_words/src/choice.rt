@@ -6,6 +6,7 @@ ghost use Rattle.command_words.specs.Table.{priority_name};
 ghost use Rattle.command_words.specs.declared.argument.Argument.TheVariants as arguments;
 
 use crate::argument::Argument;
+use crate::count::count_spelt;
 use crate::form::Form;
 use crate::verb::Verb;
 use fraction::Fraction;
@@ -17,6 +18,8 @@ pub(crate) enum Choice {
     Form(Form),
     Alpha(Fraction),
     Priority(Priority),
+    Size(u64),
+    Seed(u64),
 }
 
 /// The priority of a name.
@@ -61,6 +64,8 @@ impl Choice {
             Argument::Form => Some(Choice::Form(form_read(verb, text)?)),
             Argument::Alpha => Some(Choice::Alpha(level_spelt(text)?)),
             Argument::Priority => Some(Choice::Priority(priority_named(text)?)),
+            Argument::Size => Some(Choice::Size(count_spelt(text)?)),
+            Argument::Seed => Some(Choice::Seed(count_spelt(text)?)),
         }
     }
 }

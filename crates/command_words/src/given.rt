@@ -15,6 +15,8 @@ pub(crate) struct Given {
     alpha: Option<Fraction>,
     alpha_word: usize,
     priority: Option<Priority>,
+    size: Option<u64>,
+    seed: Option<u64>,
 }
 
 impl Given {
@@ -22,7 +24,7 @@ impl Given {
     ghost use Rattle.std.specs.Option.{option_map};
     ghost use Rattle.command_words.specs.Asked.{asked, written};
     ghost use Rattle.command_words.specs.Choices.{chosen};
-    ghost use Rattle.command_words.specs.Given.{given_content, is_given, nothing, with_chosen, written_of, on_case, asked_of, forbidden_word};
+    ghost use Rattle.command_words.specs.Given.{given_content, is_given, nothing, with_chosen, written_of, on_case, sample_of, asked_of, forbidden_word};
 
     pub(crate) fn new() -> Given
         ensures { given_content result ≡ nothing }
@@ -32,6 +34,8 @@ impl Given {
             alpha: None,
             alpha_word: 0,
             priority: None,
+            size: None,
+            seed: None,
         }
     }
 
@@ -43,6 +47,8 @@ impl Given {
             Argument::Form => self.form.is_some(),
             Argument::Alpha => self.alpha.is_some(),
             Argument::Priority => self.priority.is_some(),
+            Argument::Size => self.size.is_some(),
+            Argument::Seed => self.seed.is_some(),
         }
     }
 
@@ -59,6 +65,8 @@ impl Given {
                 given.alpha_word = at + 1;
             }
             Choice::Priority(priority) => given.priority = Some(priority),
+            Choice::Size(size) => given.size = Some(size),
+            Choice::Seed(seed) => given.seed = Some(seed),
         }
         given
     }
@@ -84,12 +92,23 @@ impl Given {
         Some(Command::OnCase(form, task))
     }
 
+    /// A sample; `None` where something is missing.
+    #[tactic(auto, unfolding(crate::specs::Given::sample_of))]
+    fn sample(&self) -> Option<Command>
+        ensures { option_map asked result ≡ sample_of (given_content self.now) }
+    {
+        let size = self.size?;
+        let seed = self.seed?;
+        Some(Command::Sample { size, seed })
+    }
+
     /// What a command asks for with these arguments; `None` where something is missing.
     pub(crate) fn command(&self, verb: Verb) -> Option<Command>
         ensures { option_map asked result ≡ asked_of verb (given_content self.now) }
     {
         match verb {
             Verb::Test => self.on_case(CaseTask::Test(self.priority.unwrap_or(Priority::First))),
+            Verb::Sample => self.sample(),
             Verb::Help => Some(Command::Help),
         }
     }

@@ -7,6 +7,7 @@ use crate::form::Form;
 #[derive(Clone, Copy, PartialEq, Eq, Debug)]
 pub(crate) enum Verb {
     Test,
+    Sample,
     Help,
 }
 
@@ -22,6 +23,7 @@ impl Verb {
     {
         match name {
             b"test" => Some(Verb::Test),
+            b"sample" => Some(Verb::Sample),
             b"help" => Some(Verb::Help),
             _ => None,
         }
@@ -34,6 +36,7 @@ impl Verb {
     {
         match self {
             Verb::Test => &[Argument::Form, Argument::Alpha, Argument::Priority],
+            Verb::Sample => &[Argument::Size, Argument::Seed],
             Verb::Help => &[],
         }
     }
@@ -45,7 +48,7 @@ impl Verb {
     {
         match self {
             Verb::Test => &[Form::Text, Form::Csv, Form::Json],
-            Verb::Help => &[],
+            Verb::Sample | Verb::Help => &[],
         }
     }
 

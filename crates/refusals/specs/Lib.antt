@@ -1,4 +1,5 @@
 pub mod CaseRefusal
+pub mod CatalogueRefusal
 pub mod LinePieces
 pub mod NeedRefusal
 pub mod TextRefusal

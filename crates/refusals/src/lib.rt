@@ -2,6 +2,7 @@
 #![tactic(auto)]
 
 mod case;
+mod catalogue;
 mod needs;
 mod pieces;
 #[cfg(test)]
@@ -11,6 +12,7 @@ mod wide;
 mod words;
 
 pub use case::case_refusal;
+pub use catalogue::{seed_refusal, size_refusal};
 pub use needs::{closure_refusal, kind_refusal};
 pub use text::{form_refusal, line_refusal};
 pub use wide::{When, wide_refusal};

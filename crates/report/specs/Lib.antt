@@ -1,2 +1,3 @@
 pub mod ReportStatements
+pub mod SampleReport
 pub mod TestReport

@@ -2,8 +2,10 @@
 #![tactic(auto)]
 
 pub mod laws;
+mod sample;
 mod test;
 #[cfg(test)]
 mod tests;
 
+pub use sample::sample_text;
 pub use test::test_text;

@@ -13,6 +13,7 @@ pub fn help_answer(alloc: Global) -> Result<Answer, NoMemory>
 {
     let mut text = List::new(alloc);
     text.append(b"test [--form F] [--alpha N] [--priority P]\n")?;
+    text.append(b"sample --size N --seed N\n")?;
     text.append(b"help\nend\n")?;
     Ok(Answer::done(text))
 }

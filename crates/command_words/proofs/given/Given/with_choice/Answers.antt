@@ -9,3 +9,9 @@ returns-in-Alpha c = rw c.in-Alpha.is refl
 
 pub returns-in-Priority : goal.returns-in-Priority
 returns-in-Priority c = rw c.in-Priority.is refl
+
+pub returns-in-Size : goal.returns-in-Size
+returns-in-Size c = rw c.in-Size.is refl
+
+pub returns-in-Seed : goal.returns-in-Seed
+returns-in-Seed c = rw c.in-Seed.is refl
