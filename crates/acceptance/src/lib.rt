@@ -18,6 +18,8 @@ mod refused;
 #[cfg(test)]
 mod runs;
 #[cfg(test)]
+mod samples;
+#[cfg(test)]
 mod sheets;
 #[cfg(test)]
 mod stages;

@@ -10,7 +10,7 @@ use std::test::Fail;
 type Row<'a> = (&'a [&'a str], &'a str);
 
 /// No command stands first.
-const NO_COMMAND: [Row; 19] = [
+const NO_COMMAND: [Row; 18] = [
     (&[], "usage: word 1\n"),
     (&[""], "usage: word 1\n"),
     (&["tests"], "usage: word 1\n"),
@@ -29,7 +29,6 @@ const NO_COMMAND: [Row; 19] = [
     (&["evidence"], "usage: word 1\n"),
     (&["check", "proof.txt"], "usage: word 1\n"),
     (&["catalogue", "holm", "--size", "3"], "usage: word 1\n"),
-    (&["sample", "--size", "2", "--seed", "1"], "usage: word 1\n"),
     (&["study", "looks.txt"], "usage: word 1\n"),
 ];
 
@@ -341,7 +340,7 @@ fn words_are_accepted(rt: HostRuntime) -> Result<(), Fail> {
 }
 
 /// The lines of the commands that run.
-const HELP: &str = "test [--form F] [--alpha N] [--priority P]\nstages [--form F]\ncanon [--form F] [--alpha N] [--to F]\nhelp\nend\n";
+const HELP: &str = "test [--form F] [--alpha N] [--priority P]\nstages [--form F]\ncanon [--form F] [--alpha N] [--to F]\nsample --size N --seed N\nhelp\nend\n";
 
 /// No byte of the case is taken.
 #[test]

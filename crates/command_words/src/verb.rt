@@ -9,6 +9,7 @@ pub(crate) enum Verb {
     Test,
     Stages,
     Canon,
+    Sample,
     Help,
 }
 
@@ -26,6 +27,7 @@ impl Verb {
             b"test" => Some(Verb::Test),
             b"stages" => Some(Verb::Stages),
             b"canon" => Some(Verb::Canon),
+            b"sample" => Some(Verb::Sample),
             b"help" => Some(Verb::Help),
             _ => None,
         }
@@ -40,6 +42,7 @@ impl Verb {
             Verb::Test => &[Argument::Form, Argument::Alpha, Argument::Priority],
             Verb::Stages => &[Argument::Form],
             Verb::Canon => &[Argument::Form, Argument::Alpha, Argument::To],
+            Verb::Sample => &[Argument::Size, Argument::Seed],
             Verb::Help => &[],
         }
     }
@@ -53,7 +56,7 @@ impl Verb {
             Verb::Test => &[Form::Text, Form::Csv, Form::Json],
             Verb::Stages => &[Form::Text, Form::Json],
             Verb::Canon => &[Form::Text, Form::Csv, Form::Json],
-            Verb::Help => &[],
+            Verb::Sample | Verb::Help => &[],
         }
     }
 

@@ -11,6 +11,7 @@ help_text =
     line (codes "test [--form F] [--alpha N] [--priority P]") ++
     line (codes "stages [--form F]") ++
     line (codes "canon [--form F] [--alpha N] [--to F]") ++
+    line (codes "sample --size N --seed N") ++
     line (codes "help") ++
     line (codes "end")
 

@@ -11,12 +11,15 @@ ghost use Rattle.graph_cli.specs.Commands.{needs_of, on_case, case_call, call_of
 mod canon;
 mod help;
 mod stages;
+mod made;
+mod sample;
 mod test;
 
 use crate::accepted::accepted_case;
 use crate::commands::canon::canon_answer;
 use crate::commands::help::help_answer;
 use crate::commands::stages::stages_answer;
+use crate::commands::sample::sample_answer;
 use crate::commands::test::test_answer;
 use crate::kind::Kind;
 use crate::needs::Needs;
@@ -96,6 +99,7 @@ pub fn call<S: Source, T: Source>(
 {
     match command {
         Command::OnCase(form, task) => case_call(alloc, form, *task, case),
+        Command::Sample { size, seed } => Ok(sample_answer(alloc, *size, *seed)?),
         Command::Help => Ok(help_answer(alloc)?),
     }
 }

@@ -3,6 +3,7 @@
 
 mod case;
 mod cell;
+mod catalogue;
 mod needs;
 mod pieces;
 #[cfg(test)]
@@ -13,6 +14,7 @@ mod words;
 
 pub use case::case_refusal;
 pub use cell::cell_refusal;
+pub use catalogue::{seed_refusal, size_refusal};
 pub use needs::{closure_refusal, kind_refusal};
 pub use text::{form_refusal, line_refusal};
 pub use wide::{When, wide_refusal};

@@ -147,7 +147,11 @@ fn put_rejected_names(text: &mut List<u8>, case: &Case, steps: &[StepLine]) -> R
 
 /// Appends the line of the hypotheses that are rejected.
 #[tactic(auto, unfolding(crate::specs::TestReport::rejected_line))]
-fn put_rejected(text: &mut List<u8>, case: &Case, steps: &[StepLine]) -> Result<(), NoMemory>
+pub(crate) fn put_rejected(
+    text: &mut List<u8>,
+    case: &Case,
+    steps: &[StepLine],
+) -> Result<(), NoMemory>
     ensures { OnOk result (text.new ≡ text.old ++ rejected_line (content case.now) steps.now) }
 {
     text.append(b"rejected")?;

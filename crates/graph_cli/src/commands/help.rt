@@ -15,6 +15,7 @@ pub fn help_answer(alloc: Global) -> Result<Answer, NoMemory>
     text.append(b"test [--form F] [--alpha N] [--priority P]\n")?;
     text.append(b"stages [--form F]\n")?;
     text.append(b"canon [--form F] [--alpha N] [--to F]\n")?;
+    text.append(b"sample --size N --seed N\n")?;
     text.append(b"help\nend\n")?;
     Ok(Answer::done(text))
 }
