@@ -340,7 +340,8 @@ fn words_are_accepted(rt: HostRuntime) -> Result<(), Fail> {
 }
 
 /// The lines of the commands that run.
-const HELP: &str = "test [--form F] [--alpha N] [--priority P]\nstages [--form F]\ncanon [--form F] [--alpha N] [--to F]\nsample --size N --seed N\nhelp\nend\n";
+const HELP: &str =
+    "test [--form F] [--alpha N] [--priority P]\nstages [--form F]\ncanon [--form F] [--alpha N] [--to F]\nsample --size N --seed N\nhelp\nend\n";
 
 /// No byte of the case is taken.
 #[test]

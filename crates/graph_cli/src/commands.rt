@@ -10,16 +10,16 @@ ghost use Rattle.graph_cli.specs.Commands.{needs_of, on_case, case_call, call_of
 
 mod canon;
 mod help;
-mod stages;
 mod made;
 mod sample;
+mod stages;
 mod test;
 
 use crate::accepted::accepted_case;
 use crate::commands::canon::canon_answer;
 use crate::commands::help::help_answer;
-use crate::commands::stages::stages_answer;
 use crate::commands::sample::sample_answer;
+use crate::commands::stages::stages_answer;
 use crate::commands::test::test_answer;
 use crate::kind::Kind;
 use crate::needs::Needs;

@@ -2,8 +2,8 @@
 #![tactic(auto)]
 
 mod case;
-mod cell;
 mod catalogue;
+mod cell;
 mod needs;
 mod pieces;
 #[cfg(test)]
@@ -13,8 +13,8 @@ mod wide;
 mod words;
 
 pub use case::case_refusal;
-pub use cell::cell_refusal;
 pub use catalogue::{seed_refusal, size_refusal};
+pub use cell::cell_refusal;
 pub use needs::{closure_refusal, kind_refusal};
 pub use text::{form_refusal, line_refusal};
 pub use wide::{When, wide_refusal};

@@ -2,12 +2,12 @@
 #![tactic(auto)]
 
 pub mod laws;
-mod stages;
 mod sample;
+mod stages;
 mod test;
 #[cfg(test)]
 mod tests;
 
-pub use stages::stages_text;
 pub use sample::sample_text;
+pub use stages::stages_text;
 pub use test::test_text;
