@@ -18,7 +18,13 @@ mod refused;
 #[cfg(test)]
 mod runs;
 #[cfg(test)]
+mod samples;
+#[cfg(test)]
 mod sheets;
+#[cfg(test)]
+mod stages;
+#[cfg(test)]
+mod studies;
 #[cfg(test)]
 mod too_long;
 #[cfg(test)]

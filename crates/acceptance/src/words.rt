@@ -10,7 +10,7 @@ use std::test::Fail;
 type Row<'a> = (&'a [&'a str], &'a str);
 
 /// No command stands first.
-const NO_COMMAND: [Row; 20] = [
+const NO_COMMAND: [Row; 18] = [
     (&[], "usage: word 1\n"),
     (&[""], "usage: word 1\n"),
     (&["tests"], "usage: word 1\n"),
@@ -28,9 +28,7 @@ const NO_COMMAND: [Row; 20] = [
     (&["bounds", "--form", "text"], "usage: word 1\n"),
     (&["evidence"], "usage: word 1\n"),
     (&["check", "proof.txt"], "usage: word 1\n"),
-    (&["stages", "--form", "csv"], "usage: word 1\n"),
     (&["catalogue", "holm", "--size", "3"], "usage: word 1\n"),
-    (&["sample", "--size", "2", "--seed", "1"], "usage: word 1\n"),
     (&["study", "looks.txt"], "usage: word 1\n"),
 ];
 
@@ -57,7 +55,12 @@ const BARE: [Row; 14] = [
 ];
 
 /// An option that the command doesn't take.
-const UNKNOWN_OPTIONS: [Row; 20] = [
+const UNKNOWN_OPTIONS: [Row; 22] = [
+    (&["stages", "--alpha", "0.05"], "usage: word 2\n"),
+    (
+        &["stages", "--form=text", "--priority=last"],
+        "usage: word 3\n",
+    ),
     (&["test", "--x", "y"], "usage: word 2\n"),
     (&["test", "--"], "usage: word 2\n"),
     (&["test", "--="], "usage: word 2\n"),
@@ -84,7 +87,9 @@ const UNKNOWN_OPTIONS: [Row; 20] = [
 ];
 
 /// A value that is unknown. The word behind the name of an option is its value, whatever it begins with.
-const UNKNOWN_VALUES: [Row; 23] = [
+const UNKNOWN_VALUES: [Row; 25] = [
+    (&["stages", "--form", "csv"], "usage: word 3\n"),
+    (&["stages", "--form=csv"], "usage: word 2\n"),
     (&["test", "--form", "xml"], "usage: word 3\n"),
     (&["test", "--form=xml"], "usage: word 2\n"),
     (&["test", "--form", "Text"], "usage: word 3\n"),
@@ -336,7 +341,7 @@ fn words_are_accepted(rt: HostRuntime) -> Result<(), Fail> {
 
 /// The lines of the commands that run.
 const HELP: &str =
-    "test [--form F] [--alpha N] [--priority P]\ncanon [--form F] [--alpha N] [--to F]\nhelp\nend\n";
+    "test [--form F] [--alpha N] [--priority P]\nstages [--form F]\ncanon [--form F] [--alpha N] [--to F]\nsample --size N --seed N\nhelp\nend\n";
 
 /// No byte of the case is taken.
 #[test]

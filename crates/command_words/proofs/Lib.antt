@@ -1,4 +1,5 @@
 pub mod Beginnings
+pub mod CountTexts
 pub mod EqualsSigns
 pub mod LevelTexts
 pub mod OneName

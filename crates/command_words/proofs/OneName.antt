@@ -15,12 +15,16 @@ use Rattle.sequential.specs.declared.priority.Priority.TheVariants.{First, Last,
 -- ---- commands
 
 abbrev verb_of : List ℕ → Verb
-verb_of name = if bytes_eq name (codes "test") then verbs.Test else if bytes_eq name (codes "canon") then verbs.Canon else verbs.Help
+verb_of name =
+    if bytes_eq name (codes "test") then verbs.Test else if bytes_eq name (codes "stages") then verbs.Stages
+    else if bytes_eq name (codes "canon") then verbs.Canon else if bytes_eq name (codes "sample") then verbs.Sample else verbs.Help
 
 verb_back : (v : Verb) → verb_of (verb_name v) ≡ v
 unfolding verb_name
 verb_back verbs.Test = refl
+verb_back verbs.Stages = refl
 verb_back verbs.Canon = refl
+verb_back verbs.Sample = refl
 verb_back verbs.Help = refl
 
 pub one_verb : (v w : Verb) → verb_name v ≡ verb_name w → v ≡ w
@@ -29,7 +33,10 @@ one_verb v w e = sym (verb_back v) ∙ (ap verb_of e ∙ verb_back w)
 -- ---- arguments
 
 abbrev argument_of : List ℕ → Argument
-argument_of name = if bytes_eq name (codes "form") then arguments.Form else if bytes_eq name (codes "alpha") then arguments.Alpha else if bytes_eq name (codes "priority") then arguments.Priority else arguments.To
+argument_of name =
+    if bytes_eq name (codes "form") then arguments.Form else if bytes_eq name (codes "alpha") then arguments.Alpha
+    else if bytes_eq name (codes "priority") then arguments.Priority else if bytes_eq name (codes "to") then arguments.To
+    else if bytes_eq name (codes "size") then arguments.Size else arguments.Seed
 
 argument_back : (a : Argument) → argument_of (argument_name a) ≡ a
 unfolding argument_name
@@ -37,6 +44,8 @@ argument_back arguments.Form = refl
 argument_back arguments.Alpha = refl
 argument_back arguments.Priority = refl
 argument_back arguments.To = refl
+argument_back arguments.Size = refl
+argument_back arguments.Seed = refl
 
 pub one_argument : (a b : Argument) → argument_name a ≡ argument_name b → a ≡ b
 one_argument a b e = sym (argument_back a) ∙ (ap argument_of e ∙ argument_back b)

@@ -14,6 +14,7 @@ use Rattle.command_words.specs.Words.{Piece, joined, apart, bare, spelled, MaySt
 use Rattle.command_words.specs.declared.argument.Argument.{Argument}
 use Rattle.command_words.specs.declared.argument.Argument.TheVariants as arguments
 use Rattle.command_words.specs.declared.verb.Verb.{Verb}
+use Rattle.command_words.proofs.CountTexts.{one_count}
 use Rattle.command_words.proofs.EqualsSigns.{no_equals, one_name, argument_is_name}
 use Rattle.command_words.proofs.LevelTexts.{one_level}
 use Rattle.command_words.proofs.OneName.{one_verb, one_argument, one_form, one_priority}
@@ -26,6 +27,8 @@ one_value verb arguments.Form v w text h k = one_form v w (sym h.1 ∙ k.1)
 one_value verb arguments.Alpha v w text h k = one_level text v w h k
 one_value verb arguments.Priority v w text h k = one_priority v w (sym h ∙ k)
 one_value verb arguments.To v w text h k = one_form v w (sym h ∙ k)
+one_value verb arguments.Size v w text h k = one_count text v w h k
+one_value verb arguments.Seed v w text h k = one_count text v w h k
 
 one_choice : (verb : Verb) (c d : Chosen) (text : List ℕ) → c.argument ≡ d.argument → IsSpelled verb c text → IsSpelled verb d text → c ≡ d
 one_choice verb c d text e h k =

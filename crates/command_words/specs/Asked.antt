@@ -16,6 +16,7 @@ pub data Written : Type 0 where
 -- what is to be done
 pub data Asked : Type 0 where
   on_case : Written → CaseTask → Asked
+  sample : (size seed : ℕ) → Asked
   help : Asked
 
 abbrev pub written : CaseForm → Written
@@ -25,9 +26,11 @@ written forms.Json = json
 
 abbrev pub asked : Command → Asked
 asked (commands.OnCase form task) = on_case (written form) task
+asked (commands.Sample size seed) = sample size seed
 asked commands.Help = help
 
 -- the place, from 0, of the word that names the file of a proof
 unfoldable pub file_of : Asked → Option ℕ
 file_of (on_case form task) = None
+file_of (sample size seed) = None
 file_of help = None

@@ -1,5 +1,6 @@
 -- Arguments with their values.
 use Rattle.std.specs.Prelude.{◌≡◌, ℕ, List, Contains}
+use Rattle.command_words.specs.Counts.{IsCount}
 use Rattle.command_words.specs.Levels.{Level, level_of, IsLevel}
 use Rattle.command_words.specs.Table.{forms_of, form_name, priority_name}
 use Rattle.command_words.specs.declared.argument.Argument.{Argument}
@@ -16,6 +17,8 @@ Value arguments.Form = Form
 Value arguments.Alpha = Level
 Value arguments.Priority = Priority
 Value arguments.To = Form
+Value arguments.Size = ℕ
+Value arguments.Seed = ℕ
 
 -- An argument with its value.
 pub record Chosen : Type 0 where
@@ -27,6 +30,8 @@ chosen (choices.Form form) = record { argument = arguments.Form; value = form }
 chosen (choices.Alpha alpha) = record { argument = arguments.Alpha; value = level_of alpha }
 chosen (choices.Priority priority) = record { argument = arguments.Priority; value = priority }
 chosen (choices.To form) = record { argument = arguments.To; value = form }
+chosen (choices.Size size) = record { argument = arguments.Size; value = size }
+chosen (choices.Seed seed) = record { argument = arguments.Seed; value = seed }
 
 -- a command knows the text of a value
 abbrev pub Spells : Verb → (argument : Argument) → Value argument → List ℕ → Type 0
@@ -34,6 +39,8 @@ Spells verb arguments.Form form text = Contains (forms_of verb) form × (text �
 Spells verb arguments.Alpha alpha text = IsLevel text alpha
 Spells verb arguments.Priority priority text = text ≡ priority_name priority
 Spells verb arguments.To form text = text ≡ form_name form
+Spells verb arguments.Size size text = IsCount text size
+Spells verb arguments.Seed seed text = IsCount text seed
 
 abbrev pub IsSpelled : Verb → Chosen → List ℕ → Type 0
 IsSpelled verb choice text = Spells verb choice.argument choice.value text

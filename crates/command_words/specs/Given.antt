@@ -1,7 +1,7 @@
 -- What the arguments say.
 use Rattle.std.specs.Prelude.{ℕ, ◌+◌, Bool, Option, Some, None, is_some}
 use Rattle.std.specs.Option.{option_map}
-use Rattle.command_words.specs.Asked.{Asked, Written, text, csv, json, on_case as task_on_case, help}
+use Rattle.command_words.specs.Asked.{Asked, Written, text, csv, json, on_case as task_on_case, sample, help}
 use Rattle.command_words.specs.Choices.{Value, Chosen}
 use Rattle.command_words.specs.Levels.{Level, level_of}
 use Rattle.command_words.specs.declared.argument.Argument.{Argument}
@@ -23,12 +23,22 @@ pub record GivenContent : Type 0 where
   pub alpha_word : ℕ
   pub priority : Option Priority
   pub to : Option Form
+  pub size : Option ℕ
+  pub seed : Option ℕ
 
 abbrev pub given_content : Given → GivenContent
-given_content g = record { form = g.form; alpha = option_map level_of g.alpha; alpha_word = g.alpha_word; priority = g.priority; to = g.to }
+given_content g = record {
+  form = g.form;
+  alpha = option_map level_of g.alpha;
+  alpha_word = g.alpha_word;
+  priority = g.priority;
+  to = g.to;
+  size = g.size;
+  seed = g.seed;
+}
 
 abbrev pub nothing : GivenContent
-nothing = record { form = None; alpha = None; alpha_word = 0; priority = None; to = None }
+nothing = record { form = None; alpha = None; alpha_word = 0; priority = None; to = None; size = None; seed = None }
 
 -- an argument was given
 abbrev pub is_given : GivenContent → Argument → Bool
@@ -36,6 +46,8 @@ is_given g arguments.Form = is_some g.form
 is_given g arguments.Alpha = is_some g.alpha
 is_given g arguments.Priority = is_some g.priority
 is_given g arguments.To = is_some g.to
+is_given g arguments.Size = is_some g.size
+is_given g arguments.Seed = is_some g.seed
 
 -- the same, and a value whose first word stands at a place, from 0
 abbrev pub with_value : ℕ → GivenContent → (argument : Argument) → Value argument → GivenContent
@@ -43,6 +55,8 @@ with_value at g arguments.Form form = record g { form = Some form }
 with_value at g arguments.Alpha alpha = record g { alpha = Some alpha; alpha_word = at + 1 }
 with_value at g arguments.Priority priority = record g { priority = Some priority }
 with_value at g arguments.To form = record g { to = Some form }
+with_value at g arguments.Size size = record g { size = Some size }
+with_value at g arguments.Seed seed = record g { seed = Some seed }
 
 abbrev pub with_chosen : ℕ → GivenContent → Chosen → GivenContent
 with_chosen at g choice = with_value at g choice.argument choice.value
@@ -73,10 +87,21 @@ priority_or_first (Some priority) = priority
 unfoldable pub on_case : GivenContent → CaseTask → Option Asked
 on_case g task = option_map (λ form. task_on_case form task) (written_of g)
 
+-- a sample needs its size and its seed
+abbrev pub sample_by : Option ℕ → Option ℕ → Option Asked
+sample_by (Some size) (Some seed) = Some (sample size seed)
+sample_by (Some size) None = None
+sample_by None seed = None
+
+unfoldable pub sample_of : GivenContent → Option Asked
+sample_of g = sample_by g.size g.seed
+
 -- what a command asks for; nothing, where something is missing
 abbrev pub asked_of : Verb → GivenContent → Option Asked
 asked_of verbs.Test g = on_case g (tasks.Test (priority_or_first g.priority))
+asked_of verbs.Stages g = on_case g tasks.Stages
 asked_of verbs.Canon g = on_case g (tasks.Canon (form_or_text g.to))
+asked_of verbs.Sample g = sample_of g
 asked_of verbs.Help g = Some help
 
 -- ---- what the others forbid

@@ -1,5 +1,6 @@
 pub mod Asked
 pub mod Choices
+pub mod Counts
 pub mod Given
 pub mod Laws
 pub mod Levels

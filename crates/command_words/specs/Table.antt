@@ -13,13 +13,17 @@ use Rattle.sequential.specs.declared.priority.Priority.TheVariants.{First, Last,
 
 unfoldable pub verb_name : Verb → List ℕ
 verb_name verbs.Test = codes "test"
+verb_name verbs.Stages = codes "stages"
 verb_name verbs.Canon = codes "canon"
+verb_name verbs.Sample = codes "sample"
 verb_name verbs.Help = codes "help"
 
 -- the options that a command takes
 unfoldable pub options_of : Verb → List Argument
 options_of verbs.Test = arguments.Form ∷ arguments.Alpha ∷ arguments.Priority ∷ []
+options_of verbs.Stages = arguments.Form ∷ []
 options_of verbs.Canon = arguments.Form ∷ arguments.Alpha ∷ arguments.To ∷ []
+options_of verbs.Sample = arguments.Size ∷ arguments.Seed ∷ []
 options_of verbs.Help = []
 
 -- what a word without a name gives, where a command takes one; none does yet
@@ -29,7 +33,9 @@ operand_of verb = None
 -- the forms in which a command reads its case
 unfoldable pub forms_of : Verb → List Form
 forms_of verbs.Test = Text ∷ Csv ∷ Json ∷ []
+forms_of verbs.Stages = Text ∷ Json ∷ []
 forms_of verbs.Canon = Text ∷ Csv ∷ Json ∷ []
+forms_of verbs.Sample = []
 forms_of verbs.Help = []
 
 -- ---- arguments
@@ -39,6 +45,8 @@ argument_name arguments.Form = codes "form"
 argument_name arguments.Alpha = codes "alpha"
 argument_name arguments.Priority = codes "priority"
 argument_name arguments.To = codes "to"
+argument_name arguments.Size = codes "size"
+argument_name arguments.Seed = codes "seed"
 
 -- ---- values
 

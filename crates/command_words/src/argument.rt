@@ -7,6 +7,8 @@ pub(crate) enum Argument {
     Alpha,
     Priority,
     To,
+    Size,
+    Seed,
 }
 
 impl Argument {
@@ -24,6 +26,8 @@ impl Argument {
             b"alpha" => Some(Argument::Alpha),
             b"priority" => Some(Argument::Priority),
             b"to" => Some(Argument::To),
+            b"size" => Some(Argument::Size),
+            b"seed" => Some(Argument::Seed),
             _ => None,
         }
     }

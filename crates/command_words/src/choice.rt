@@ -6,6 +6,7 @@ ghost use Rattle.command_words.specs.Table.{priority_name};
 ghost use Rattle.command_words.specs.declared.argument.Argument.TheVariants as arguments;
 
 use crate::argument::Argument;
+use crate::count::count_spelt;
 use crate::form::Form;
 use crate::verb::Verb;
 use fraction::Fraction;
@@ -18,6 +19,8 @@ pub(crate) enum Choice {
     Alpha(Fraction),
     Priority(Priority),
     To(Form),
+    Size(u64),
+    Seed(u64),
 }
 
 /// The priority of a name.
@@ -63,6 +66,8 @@ impl Choice {
             Argument::Alpha => Some(Choice::Alpha(level_spelt(text)?)),
             Argument::Priority => Some(Choice::Priority(priority_named(text)?)),
             Argument::To => Some(Choice::To(Form::named(text)?)),
+            Argument::Size => Some(Choice::Size(count_spelt(text)?)),
+            Argument::Seed => Some(Choice::Seed(count_spelt(text)?)),
         }
     }
 }

@@ -8,6 +8,7 @@ use sequential::Priority;
 #[derive(Clone, Copy, PartialEq, Eq, Debug)]
 pub enum CaseTask {
     Test(Priority),
+    Stages,
     Canon(Form),
 }
 
@@ -15,6 +16,8 @@ pub enum CaseTask {
 #[derive(Clone, Copy)]
 pub enum Command {
     OnCase(CaseForm, CaseTask),
+    /// A sample of a size, from a seed.
+    Sample { size: u64, seed: u64 },
     Help,
 }
 
@@ -27,7 +30,7 @@ impl Command {
         ensures { result ≡ file_of (asked self.now) }
     {
         match self {
-            Command::OnCase(_, _) | Command::Help => None,
+            Command::OnCase(_, _) | Command::Sample { .. } | Command::Help => None,
         }
     }
 }

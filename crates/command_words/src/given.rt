@@ -16,6 +16,8 @@ pub(crate) struct Given {
     alpha_word: usize,
     priority: Option<Priority>,
     to: Option<Form>,
+    size: Option<u64>,
+    seed: Option<u64>,
 }
 
 impl Given {
@@ -23,7 +25,7 @@ impl Given {
     ghost use Rattle.std.specs.Option.{option_map};
     ghost use Rattle.command_words.specs.Asked.{asked, written};
     ghost use Rattle.command_words.specs.Choices.{chosen};
-    ghost use Rattle.command_words.specs.Given.{given_content, is_given, nothing, with_chosen, written_of, on_case, asked_of, forbidden_word};
+    ghost use Rattle.command_words.specs.Given.{given_content, is_given, nothing, with_chosen, written_of, on_case, sample_of, asked_of, forbidden_word};
 
     pub(crate) fn new() -> Given
         ensures { given_content result ≡ nothing }
@@ -34,6 +36,8 @@ impl Given {
             alpha_word: 0,
             priority: None,
             to: None,
+            size: None,
+            seed: None,
         }
     }
 
@@ -46,6 +50,8 @@ impl Given {
             Argument::Alpha => self.alpha.is_some(),
             Argument::Priority => self.priority.is_some(),
             Argument::To => self.to.is_some(),
+            Argument::Size => self.size.is_some(),
+            Argument::Seed => self.seed.is_some(),
         }
     }
 
@@ -63,6 +69,8 @@ impl Given {
             }
             Choice::Priority(priority) => given.priority = Some(priority),
             Choice::To(form) => given.to = Some(form),
+            Choice::Size(size) => given.size = Some(size),
+            Choice::Seed(seed) => given.seed = Some(seed),
         }
         given
     }
@@ -88,13 +96,25 @@ impl Given {
         Some(Command::OnCase(form, task))
     }
 
+    /// A sample; `None` where something is missing.
+    #[tactic(auto, unfolding(crate::specs::Given::sample_of))]
+    fn sample(&self) -> Option<Command>
+        ensures { option_map asked result ≡ sample_of (given_content self.now) }
+    {
+        let size = self.size?;
+        let seed = self.seed?;
+        Some(Command::Sample { size, seed })
+    }
+
     /// What a command asks for with these arguments; `None` where something is missing.
     pub(crate) fn command(&self, verb: Verb) -> Option<Command>
         ensures { option_map asked result ≡ asked_of verb (given_content self.now) }
     {
         match verb {
             Verb::Test => self.on_case(CaseTask::Test(self.priority.unwrap_or(Priority::First))),
+            Verb::Stages => self.on_case(CaseTask::Stages),
             Verb::Canon => self.on_case(CaseTask::Canon(self.to.unwrap_or(Form::Text))),
+            Verb::Sample => self.sample(),
             Verb::Help => Some(Command::Help),
         }
     }

@@ -4,6 +4,7 @@
 mod argument;
 mod choice;
 mod command;
+mod count;
 mod form;
 mod given;
 pub mod laws;

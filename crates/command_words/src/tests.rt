@@ -23,7 +23,7 @@ fn on_case(command: &Command) -> Option<(CaseTask, Option<(i128, i128)>)> {
             Some((*task, Some((alpha.num(), alpha.den()))))
         }
         Command::OnCase(_, task) => Some((*task, None)),
-        Command::Help => None,
+        Command::Sample { .. } | Command::Help => None,
     }
 }
 
@@ -49,6 +49,12 @@ fn words_give_values(rt: HostRuntime) -> Result<(), Fail> {
     let ratio = CaseTask::Test(Priority::Ratio);
     expect(&rt, alloc, &["help"], None)?;
     expect(&rt, alloc, &["test"], Some((first, None)))?;
+    expect(
+        &rt,
+        alloc,
+        &["stages", "--form=json"],
+        Some((CaseTask::Stages, None)),
+    )?;
     expect(
         &rt,
         alloc,
@@ -99,5 +105,35 @@ fn words_fail_at_a_word(rt: HostRuntime) -> Result<(), Fail> {
     for (words, number) in rows {
         assert_eq!(rt; failing_word(alloc, words)?, Some(number));
     }
+    Ok(())
+}
+
+/// The size and the seed of a sample.
+fn sample_of(alloc: Global, words: &[&str]) -> Result<Option<(u64, u64)>, NoMemory> {
+    let words = words_of(alloc, words)?;
+    match read_words(words.as_slice()) {
+        Ok(Command::Sample { size, seed }) => Ok(Some((size, seed))),
+        _ => Ok(None),
+    }
+}
+
+#[test]
+fn samples_have_sizes_and_seeds(rt: HostRuntime) -> Result<(), Fail> {
+    let alloc = rt.alloc();
+    let least = sample_of(
+        alloc,
+        &["sample", "--seed=0", "--size", "00000000000000000064"],
+    )?;
+    assert_eq!(rt; least, Some((64, 0)));
+    let greatest = sample_of(
+        alloc,
+        &["sample", "--size=1", "--seed=18446744073709551615"],
+    )?;
+    assert_eq!(rt; greatest, Some((1, u64::MAX)));
+    let above = sample_of(
+        alloc,
+        &["sample", "--size=1", "--seed=18446744073709551616"],
+    )?;
+    assert_eq!(rt; above, None);
     Ok(())
 }

@@ -7,7 +7,9 @@ use crate::form::Form;
 #[derive(Clone, Copy, PartialEq, Eq, Debug)]
 pub(crate) enum Verb {
     Test,
+    Stages,
     Canon,
+    Sample,
     Help,
 }
 
@@ -23,7 +25,9 @@ impl Verb {
     {
         match name {
             b"test" => Some(Verb::Test),
+            b"stages" => Some(Verb::Stages),
             b"canon" => Some(Verb::Canon),
+            b"sample" => Some(Verb::Sample),
             b"help" => Some(Verb::Help),
             _ => None,
         }
@@ -36,7 +40,9 @@ impl Verb {
     {
         match self {
             Verb::Test => &[Argument::Form, Argument::Alpha, Argument::Priority],
+            Verb::Stages => &[Argument::Form],
             Verb::Canon => &[Argument::Form, Argument::Alpha, Argument::To],
+            Verb::Sample => &[Argument::Size, Argument::Seed],
             Verb::Help => &[],
         }
     }
@@ -48,8 +54,9 @@ impl Verb {
     {
         match self {
             Verb::Test => &[Form::Text, Form::Csv, Form::Json],
+            Verb::Stages => &[Form::Text, Form::Json],
             Verb::Canon => &[Form::Text, Form::Csv, Form::Json],
-            Verb::Help => &[],
+            Verb::Sample | Verb::Help => &[],
         }
     }
 

@@ -3,7 +3,7 @@ use Rattle.std.proofs.Common.{sym, ◌∙◌, ℕ, List, Some}
 use Rattle.answers.specs.Stages.{IsDecided}
 use Rattle.answers.proofs.Decided.{then_decided, only_decided}
 use Rattle.case_model.specs.Content.{Content}
-use Rattle.command_words.specs.Asked.{Asked, on_case as task_on_case, help}
+use Rattle.command_words.specs.Asked.{Asked, on_case as task_on_case, sample, help}
 use Rattle.command_words.specs.declared.command.CaseTask.{CaseTask}
 use Rattle.command_words.specs.declared.command.CaseTask.TheVariants as tasks
 use Rattle.graph_cli.specs.Commands.{on_case, needs_of, case_call, call_of}
@@ -12,6 +12,8 @@ use Rattle.command_words.specs.declared.form.Form.TheVariants as forms
 use Rattle.graph_cli.specs.Canon.{unwritten, canon_stage}
 use Rattle.graph_cli.specs.Help.{help_stage}
 use Rattle.graph_cli.proofs.AcceptedCases.{accepted_decided}
+use Rattle.graph_cli.proofs.StagesAnswers.{stages_decided}
+use Rattle.graph_cli.proofs.SampleAnswers.{sample_decided}
 use Rattle.graph_cli.proofs.TestAnswers.{test_decided}
 
 help_decided : IsDecided help_stage
@@ -30,9 +32,11 @@ canon_decided forms.Json c = unwritten_decided
 task_decided : (task : CaseTask) (c : Content) → IsDecided (on_case task c)
 unfolding on_case
 task_decided (tasks.Test priority) c = test_decided priority c
+task_decided tasks.Stages c = stages_decided c
 task_decided (tasks.Canon form) c = canon_decided form c
 
 pub call_decided : (command : Asked) (case proof : List ℕ) → IsDecided (call_of command (Some case) (Some proof))
 unfolding call_of case_call
 call_decided (task_on_case form task) case proof = then_decided _ _ (accepted_decided form (needs_of task) case) (task_decided task)
+call_decided (sample size seed) case proof = sample_decided size seed
 call_decided help case proof = help_decided

@@ -2,6 +2,9 @@ pub mod AcceptedCases
 pub mod CallAnswers
 pub mod ClosedReports
 pub mod HandedOn
+pub mod MadeAnswers
 pub mod OneAnswer
+pub mod SampleAnswers
 pub mod SourcesRead
+pub mod StagesAnswers
 pub mod TestAnswers

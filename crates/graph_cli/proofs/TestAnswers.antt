@@ -11,7 +11,7 @@ use Rattle.refusals.specs.declared.wide.When.TheVariants.{Step, AdjustedStep}
 use Rattle.refusals.specs.WideRefusal.{wide_refusal}
 use Rattle.graph_cli.specs.Test.{decided, adjusted, test_stage}
 
-decision_decided : (priority : Priority) (c : Content) → IsDecided (decided priority c)
+pub decision_decided : (priority : Priority) (c : Content) → IsDecided (decided priority c)
 decision_decided priority c = record {
   one = λ d e h k. decision_unique c priority d e h.1 k.1;
   one_refusal = λ r q h k. let e = wide_unique c priority h.0 k.0 h.1 k.1 h.2 k.2 in h.3 ∙ ap₂ (λ i x. wide_refusal c.names (Step i) x) e.0 e.1 ∙ sym k.3;

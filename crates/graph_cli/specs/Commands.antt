@@ -4,24 +4,28 @@ use Rattle.answers.specs.declared.answer.Answer.{Answer}
 use Rattle.answers.specs.declared.refusal.Refusal.{Refusal}
 use Rattle.answers.specs.Stages.{Stage, and_then}
 use Rattle.case_model.specs.Content.{Content}
-use Rattle.command_words.specs.Asked.{Written, Asked, on_case as task_on_case, help}
+use Rattle.command_words.specs.Asked.{Written, Asked, on_case as task_on_case, sample, help}
 use Rattle.command_words.specs.declared.command.CaseTask.{CaseTask}
 use Rattle.command_words.specs.declared.command.CaseTask.TheVariants as tasks
 use Rattle.graph_cli.specs.Accepted.{accepted}
 use Rattle.graph_cli.specs.Canon.{canon_stage}
 use Rattle.graph_cli.specs.Help.{help_stage}
+use Rattle.graph_cli.specs.Stages.{stages_stage}
+use Rattle.graph_cli.specs.Sample.{sample_stage}
 use Rattle.graph_cli.specs.Test.{test_stage}
-use Rattle.graph_cli.specs.declared.kind.Kind.TheVariants.{Any, Single}
+use Rattle.graph_cli.specs.declared.kind.Kind.TheVariants.{Any, Single, Staged}
 use Rattle.graph_cli.specs.declared.needs.Needs.{Needs}
 
 -- what a task needs of its case
 unfoldable pub needs_of : CaseTask → Needs
 needs_of (tasks.Test priority) = record { kind = Single; most = 64 }
+needs_of tasks.Stages = record { kind = Staged; most = 64 }
 needs_of (tasks.Canon form) = record { kind = Any; most = 64 }
 
 -- what a task answers to a case that it can take
 unfoldable pub on_case : CaseTask → Content → Stage Refusal Answer
 on_case (tasks.Test priority) c = test_stage priority c
+on_case tasks.Stages c = stages_stage c
 on_case (tasks.Canon form) c = canon_stage form c
 
 -- a task on a case alone
@@ -31,16 +35,19 @@ case_call form task case = and_then (accepted form (needs_of task) case) (on_cas
 -- what a command answers to a case and a proof
 unfoldable pub call_of : Asked → Option (List ℕ) → Option (List ℕ) → Stage Refusal Answer
 call_of (task_on_case form task) case proof = case_call form task case
+call_of (sample size seed) case proof = sample_stage size seed
 call_of help case proof = help_stage
 
 -- a command reads a case
 unfoldable pub TakesCase : Asked → Type 0
 TakesCase (task_on_case form task) = Unit {0}
+TakesCase (sample size seed) = ⊥
 TakesCase help = ⊥
 
 -- a command reads a proof, behind a case that it can take
 unfoldable pub TakesProof : Asked → Option (List ℕ) → Type 0
 TakesProof (task_on_case form task) case = ⊥
+TakesProof (sample size seed) case = ⊥
 TakesProof help case = ⊥
 
 -- a source that a command reads had a fault

@@ -9,7 +9,9 @@ use Rattle.answers.specs.Stages.{Stage, only}
 abbrev pub help_text : List ℕ
 help_text =
     line (codes "test [--form F] [--alpha N] [--priority P]") ++
+    line (codes "stages [--form F]") ++
     line (codes "canon [--form F] [--alpha N] [--to F]") ++
+    line (codes "sample --size N --seed N") ++
     line (codes "help") ++
     line (codes "end")
 

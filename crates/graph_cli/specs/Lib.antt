@@ -1,7 +1,10 @@
 pub mod Accepted
 pub mod Canon
+pub mod Catalogue
 pub mod Commands
 pub mod Help
 pub mod Laws
 pub mod Outcome
+pub mod Stages
+pub mod Sample
 pub mod Test

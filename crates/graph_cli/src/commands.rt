@@ -10,11 +10,16 @@ ghost use Rattle.graph_cli.specs.Commands.{needs_of, on_case, case_call, call_of
 
 mod canon;
 mod help;
+mod made;
+mod sample;
+mod stages;
 mod test;
 
 use crate::accepted::accepted_case;
 use crate::commands::canon::canon_answer;
 use crate::commands::help::help_answer;
+use crate::commands::sample::sample_answer;
+use crate::commands::stages::stages_answer;
 use crate::commands::test::test_answer;
 use crate::kind::Kind;
 use crate::needs::Needs;
@@ -31,6 +36,7 @@ fn needs_of(task: CaseTask) -> Needs
 {
     match task {
         CaseTask::Test(_) => Needs::new(Kind::Single, 64),
+        CaseTask::Stages => Needs::new(Kind::Staged, 64),
         CaseTask::Canon(_) => Needs::new(Kind::Any, 64),
     }
 }
@@ -44,6 +50,7 @@ fn case_answer(alloc: Global, task: CaseTask, case: &Case) -> Result<Answer, Hal
 {
     match task {
         CaseTask::Test(priority) => test_answer(alloc, case, priority),
+        CaseTask::Stages => stages_answer(alloc, case),
         CaseTask::Canon(form) => canon_answer(alloc, case, form),
     }
 }
@@ -92,6 +99,7 @@ pub fn call<S: Source, T: Source>(
 {
     match command {
         Command::OnCase(form, task) => case_call(alloc, form, *task, case),
+        Command::Sample { size, seed } => Ok(sample_answer(alloc, *size, *seed)?),
         Command::Help => Ok(help_answer(alloc)?),
     }
 }

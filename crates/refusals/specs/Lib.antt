@@ -1,5 +1,6 @@
 pub mod CaseRefusal
 pub mod CellRefusal
+pub mod CatalogueRefusal
 pub mod LinePieces
 pub mod NeedRefusal
 pub mod TextRefusal

@@ -1,2 +1,4 @@
 pub mod Lines
+pub mod LooksOfCase
 pub mod OfCase
+pub mod StageLines

@@ -1,2 +1,4 @@
 pub mod ReportStatements
+pub mod StagesReport
+pub mod SampleReport
 pub mod TestReport

@@ -26,7 +26,7 @@ fn p_value(case: &Case, j: usize) -> Fraction
 }
 
 /// Appends a space and the name of the hypothesis at a position.
-fn put_name(text: &mut List<u8>, case: &Case, j: usize) -> Result<(), NoMemory>
+pub(crate) fn put_name(text: &mut List<u8>, case: &Case, j: usize) -> Result<(), NoMemory>
     requires { j < length (content case.now).names }
     ensures { OnOk result (text.new ≡ text.old ++ spaced_name (content case.now) j) }
 {
@@ -50,7 +50,7 @@ fn put_figures(text: &mut List<u8>, case: &Case, step: &StepLine) -> Result<(), 
 
 /// Appends the level.
 #[tactic(auto, unfolding(crate::specs::TestReport::alpha_line))]
-fn put_alpha(text: &mut List<u8>, case: &Case) -> Result<(), NoMemory>
+pub(crate) fn put_alpha(text: &mut List<u8>, case: &Case) -> Result<(), NoMemory>
     ensures { OnOk result (text.new ≡ text.old ++ alpha_line (content case.now)) }
 {
     text.append(b"alpha ")?;
@@ -147,7 +147,11 @@ fn put_rejected_names(text: &mut List<u8>, case: &Case, steps: &[StepLine]) -> R
 
 /// Appends the line of the hypotheses that are rejected.
 #[tactic(auto, unfolding(crate::specs::TestReport::rejected_line))]
-fn put_rejected(text: &mut List<u8>, case: &Case, steps: &[StepLine]) -> Result<(), NoMemory>
+pub(crate) fn put_rejected(
+    text: &mut List<u8>,
+    case: &Case,
+    steps: &[StepLine],
+) -> Result<(), NoMemory>
     ensures { OnOk result (text.new ≡ text.old ++ rejected_line (content case.now) steps.now) }
 {
     text.append(b"rejected")?;

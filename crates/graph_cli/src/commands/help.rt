@@ -13,7 +13,9 @@ pub fn help_answer(alloc: Global) -> Result<Answer, NoMemory>
 {
     let mut text = List::new(alloc);
     text.append(b"test [--form F] [--alpha N] [--priority P]\n")?;
+    text.append(b"stages [--form F]\n")?;
     text.append(b"canon [--form F] [--alpha N] [--to F]\n")?;
+    text.append(b"sample --size N --seed N\n")?;
     text.append(b"help\nend\n")?;
     Ok(Answer::done(text))
 }

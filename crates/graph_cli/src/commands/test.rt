@@ -16,7 +16,7 @@ use sequential::{DecideFault, Decision, Priority, decide};
 use std::alloc::Global;
 
 /// The decision on a case.
-fn decided(alloc: Global, case: &Case, priority: Priority) -> Result<Decision, Halt>
+pub fn decided(alloc: Global, case: &Case, priority: Priority) -> Result<Decision, Halt>
     requires { IsOfKind Single (content case.now).inputs }
     ensures given { IfOk result (decided priority (content case.now)).Gives }
     ensures refused { IfErr result (HaltsBy (decided priority (content case.now)).Refuses) }

@@ -12,3 +12,9 @@ returns-in-Priority c = rw c.in-Priority.is refl
 
 pub returns-in-To : goal.returns-in-To
 returns-in-To c = rw c.in-To.is refl
+
+pub returns-in-Size : goal.returns-in-Size
+returns-in-Size c = rw c.in-Size.is refl
+
+pub returns-in-Seed : goal.returns-in-Seed
+returns-in-Seed c = rw c.in-Seed.is refl

@@ -1,0 +1,24 @@
+//! What isn't made of sizes and seeds.
+ghost use Rattle.std.specs.Prelude.{IfOk};
+ghost use Rattle.graph_cli.specs.Catalogue.{IsToldAs};
+
+use answers::Refusal;
+use catalogue::{CatalogueFault, names};
+use field_core::NoMemory;
+use refusals::{case_refusal, seed_refusal, size_refusal};
+use std::alloc::Global;
+
+/// The refusal of a fault of a case of so many hypotheses.
+pub fn fault_refusal(alloc: Global, size: u64, fault: &CatalogueFault) -> Result<Refusal, NoMemory>
+    ensures { IfOk result (IsToldAs size fault.now) }
+{
+    match fault {
+        CatalogueFault::Size(n) => size_refusal(alloc, *n),
+        CatalogueFault::Seed(n) => seed_refusal(alloc, *n),
+        CatalogueFault::Case(fault) => {
+            let names = names(alloc, size as usize)?;
+            case_refusal(alloc, names.as_slice(), fault)
+        }
+        CatalogueFault::NoMemory => Err(NoMemory),
+    }
+}

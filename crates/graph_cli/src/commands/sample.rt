@@ -1,0 +1,41 @@
+//! The command `sample`.
+ghost use Rattle.std.specs.Prelude.{IfOk, IfErr};
+ghost use Rattle.answers.specs.Halts.{HaltsBy};
+ghost use Rattle.case_model.specs.CaseView.{content};
+ghost use Rattle.catalogue.specs.Makings.{sample_case};
+ghost use Rattle.graph_cli.specs.Accepted.{IsOfKind};
+ghost use Rattle.graph_cli.specs.Catalogue.{made_of};
+ghost use Rattle.graph_cli.specs.Sample.{sample_stage};
+ghost use Rattle.graph_cli.specs.declared.kind.Kind.TheVariants.{Single};
+
+use crate::commands::made::fault_refusal;
+use crate::commands::test::decided;
+use answers::{Answer, Halt};
+use case_model::Case;
+use catalogue::sample;
+use report::sample_text;
+use sequential::Priority;
+use std::alloc::Global;
+
+/// The sample of a size and a seed.
+fn sampled(alloc: Global, size: u64, seed: u64) -> Result<Case, Halt>
+    ensures given { IfOk result (λ case. (made_of size (sample_case size seed)).Gives (content case)) }
+    ensures single { IfOk result (λ case. IsOfKind Single (content case).inputs) }
+    ensures refused { IfErr result (HaltsBy (made_of size (sample_case size seed)).Refuses) }
+{
+    match sample(alloc, size, seed) {
+        Ok(case) => Ok(case),
+        Err(fault) => Err(Halt::Refused(fault_refusal(alloc, size, &fault)?)),
+    }
+}
+
+/// What `sample` answers: a sample is made, and decided with the priority `first`.
+#[tactic(auto, unfolding(crate::specs::Sample::sample_stage))]
+pub fn sample_answer(alloc: Global, size: u64, seed: u64) -> Result<Answer, Halt>
+    ensures given { IfOk result (sample_stage size seed).Gives }
+    ensures refused { IfErr result (HaltsBy (sample_stage size seed).Refuses) }
+{
+    let case = sampled(alloc, size, seed)?;
+    let decision = decided(alloc, &case, Priority::First)?;
+    Ok(Answer::done(sample_text(alloc, &case, seed, &decision)?))
+}

@@ -1,0 +1,50 @@
+-- What the command `stages` prints of a case and the looks at it.
+use Rattle.std.specs.Prelude.{ℕ, ◌<◌, ◌==◌, Bool, List, [], ◌∷◌, ◌++◌, length, codes, if◌then◌else◌}
+use Rattle.std.specs.Fmt.{decimal}
+use Rattle.std.specs.List.{All, flat_map, list_any, range_with_len}
+use Rattle.answers.specs.Lines.{line}
+use Rattle.field_core.specs.View.{terms}
+use Rattle.fraction.specs.Spelling.{spelling}
+use Rattle.case_model.specs.declared.draft_stages.Arrival.{Arrival}
+use Rattle.case_model.specs.Content.{Content}
+use Rattle.staged_levels.specs.declared.event.Settled.{Settled}
+use Rattle.staged_levels.specs.Looks.{arrivals_of}
+use Rattle.report.specs.TestReport.{spaced_name, alpha_line}
+
+-- each rejection is of a hypothesis of the case
+abbrev pub AreRejectionsOf : Content → List Settled → Type 0
+AreRejectionsOf case look = All (λ r. r.hypothesis < length case.names) look
+
+-- the line of an arrival: the hypothesis, the stage and the p-value
+unfoldable pub arrive_line : Content → Arrival → List ℕ
+arrive_line case a = line (codes "arrive" ++ spaced_name case a.hypothesis ++ codes " " ++ decimal a.stage ++ codes " " ++ spelling (terms a.p))
+
+-- the line of a rejection: the hypothesis, the stage and the weight
+unfoldable pub reject_line : Content → Settled → List ℕ
+reject_line case r = line (codes "reject" ++ spaced_name case r.hypothesis ++ codes " stage " ++ decimal r.stage ++ codes " weight " ++ spelling (terms r.weight))
+
+-- an arrival, and the rejections that it brings
+unfoldable pub look_lines : Content → Arrival → List Settled → List ℕ
+look_lines case a look = arrive_line case a ++ flat_map (reject_line case) look
+
+-- the arrivals in their order, each with its rejections
+abbrev pub looks_lines : Content → List Arrival → List (List Settled) → List ℕ
+looks_lines case [] looks = []
+looks_lines case (a ∷ more) [] = []
+looks_lines case (a ∷ more) (look ∷ looks) = look_lines case a look ++ looks_lines case more looks
+
+-- the hypothesis at a position is rejected in some look
+unfoldable pub is_settled : List (List Settled) → ℕ → Bool
+is_settled looks j = list_any (λ look. list_any (λ r. r.hypothesis == j) look) looks
+
+-- a space and the name of the hypothesis at a position, where it is rejected; else nothing
+abbrev pub name_if_settled : Content → List (List Settled) → ℕ → List ℕ
+name_if_settled case looks j = if is_settled looks j then spaced_name case j else []
+
+-- the line of the names of the hypotheses that are rejected, by ascending position
+unfoldable pub settled_line : Content → List (List Settled) → List ℕ
+settled_line case looks = line (codes "rejected" ++ flat_map (name_if_settled case looks) (range_with_len 0 (length case.names)))
+
+-- the level, the arrivals with the rejections that they bring, the names of the hypotheses that are rejected, and the last line
+unfoldable pub stages_report : Content → List (List Settled) → List ℕ
+stages_report case looks = alpha_line case ++ looks_lines case (arrivals_of case.inputs) looks ++ settled_line case looks ++ line (codes "end")
