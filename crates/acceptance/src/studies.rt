@@ -1,4 +1,7 @@
 //! Events of studies in any order: what each answers, and what it leaves.
+ghost use Rattle.std.specs.Prelude.{◌≡◌, IfOk};
+ghost use Rattle.staged_levels.specs.StudyAnswers.{hypothesis_of};
+
 use case_model::Case;
 use edge_text::read_text;
 use fraction::{Fraction, FractionFault};
@@ -69,7 +72,10 @@ const ROWS: [Row; 21] = [
     ((2, 1, NO_P), Ok(())),
 ];
 
-fn event((hypothesis, stage, p): (usize, usize, (i128, i128))) -> Result<Event, FractionFault> {
+/// The event of a row.
+fn event(hypothesis: usize, stage: usize, p: (i128, i128)) -> Result<Event, FractionFault>
+    ensures { IfOk result (λ event. hypothesis_of event ≡ hypothesis) }
+{
     if stage == REJECT {
         return Ok(Event::Reject(hypothesis));
     }
@@ -95,7 +101,7 @@ fn each_event_is_answered(rt: HostRuntime) -> Result<(), Fail> {
     for (given, wanted) in ROWS {
         let before = study.settled().len();
         assert!(rt; given.0 < study.size());
-        let answered = study.step(event(given)?);
+        let answered = study.step(event(given.0, given.1, given.2)?);
         assert!(rt; answered == wanted, "{}", given.0);
         let rejected = usize::from(given.1 == REJECT && wanted.is_ok());
         assert!(rt; before <= 3 && study.settled().len() == before + rejected);
@@ -116,7 +122,7 @@ fn rejections_stay_where_a_settling_breaks_off(rt: HostRuntime) -> Result<(), Fa
     let mut study = opened(&rt, alloc, &case);
     for hypothesis in [0, 1, 2] {
         assert!(rt; hypothesis < study.size());
-        assert!(rt; study.step(event((hypothesis, 1, NO_P))?).is_ok());
+        assert!(rt; study.step(event(hypothesis, 1, NO_P)?).is_ok());
     }
     assert!(rt; study.settle().is_err());
     assert_eq!(rt; study.settled().len(), 2);
