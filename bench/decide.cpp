@@ -1,6 +1,7 @@
 // The same decision as `welungad test`, written straightforwardly: fractions of 128-bit parts in lowest terms, the same
 // written operations in the same order, one matrix that changes hypothesis by hypothesis. It checks nothing of the
-// case and prints the same text. It is what bench/run.sh compares with.
+// case and prints the same text; with the word `bounds`, the bounds of all sets. It is what bench/run.sh compares with.
+#include <algorithm>
 #include <cctype>
 #include <cstdio>
 #include <cstdlib>
@@ -156,8 +157,60 @@ void remove(Case &c, std::vector<bool> &live, size_t j) {
     live[j] = false;
 }
 
-int main() {
+// What the local test says of each set, depth first: a set leaves out one more than the one before it, and its graph is
+// copied from there. Sets are numbered by their members.
+struct Sets {
+    size_t m;
+    std::vector<Fraction> thresholds;
+    std::vector<bool> rejected;
+    std::vector<unsigned> order;
+
+    void visit(const Case &c, const std::vector<bool> &live, size_t first, unsigned set) {
+        order.push_back(set);
+        for (size_t k = 0; k < m; k++)
+            if (live[k] && c.weights[k].num > 0 && at_most(thresholds[k], c.weights[k])) rejected[set] = true;
+        for (size_t j = first; j < m; j++) {
+            Case next = c;
+            std::vector<bool> left = live;
+            remove(next, left, j);
+            visit(next, left, j + 1, set & ~(1u << j));
+        }
+    }
+};
+
+// The bound of each set, as `welungad bounds` prints them.
+int bounds(const Case &c) {
+    size_t m = c.names.size();
+    unsigned count = 1u << m;
+    Sets sets{m, {}, std::vector<bool>(count), {}};
+    for (Fraction p : c.p) sets.thresholds.push_back(divide(p, c.alpha));
+    sets.visit(c, std::vector<bool>(m, true), 0, count - 1);
+    std::vector<bool> &closed = sets.rejected;
+    for (unsigned set = count; set-- > 0;)
+        for (size_t k = 0; k < m; k++)
+            if (!(set >> k & 1) && !closed[set | 1u << k]) closed[set] = false;
+    std::vector<int> kept(count, 0);
+    for (unsigned set = 1; set < count; set++) {
+        if (!closed[set]) kept[set] = __builtin_popcount(set);
+        else
+            for (size_t k = 0; k < m; k++)
+                if (set >> k & 1) kept[set] = std::max(kept[set], kept[set & ~(1u << k)]);
+    }
+    std::string out = "bounds " + std::to_string(m) + "\n";
+    for (unsigned set : sets.order) {
+        if (set == 0) continue;
+        out += "bound " + std::to_string(__builtin_popcount(set) - kept[set]) + " of";
+        for (size_t k = 0; k < m; k++)
+            if (set >> k & 1) out += " " + c.names[k];
+        out += "\n";
+    }
+    std::cout << out << "end\n";
+    return 0;
+}
+
+int main(int count, char **words) {
     Case c = read_case();
+    if (count > 1 && std::string(words[1]) == "bounds") return bounds(c);
     size_t m = c.names.size();
     std::vector<bool> live(m, true);
     std::string out = "alpha " + text(c.alpha) + "\n";

@@ -1,6 +1,7 @@
 #!/bin/sh
-# Measures the program on generated cases, and the same decision in C++ beside it where it can read the case. Prints two
-# tables: the least of five times, and the instructions that valgrind counts, which repeat. Nothing of it is a gate.
+# Measures the program on generated cases, and the same decision in C++ beside it where it can read the case. Prints tables:
+# the least of five times, and the instructions that valgrind counts, which repeat; then what reading 4 MiB of one kind of
+# line takes beside 4 MiB of edges, and what sheets of 4 MiB take. Nothing of it is a gate.
 set -eu
 here=$(cd "$(dirname "$0")" && pwd)
 out=$here/out
@@ -18,7 +19,7 @@ least() {
     shift
     for _ in 1 2 3 4 5; do
         start=$(date +%s%N)
-        "$@" <"$file" >"$out/printed"
+        "$@" <"$file" >"$out/printed" || true
         end=$(date +%s%N)
         echo $(((end - start) / 1000))
     done | sort -n | head -1
@@ -59,7 +60,49 @@ table() {
 }
 
 table least milliseconds 1000
+echo
+# all sets of sixteen hypotheses
+printf '%-24s %12s\n' 'all sets' milliseconds
+for name in parallel-8 quarter-16; do
+    for command in weights bounds; do
+        least "$out/$name.txt" "$program" "$command" |
+            awk -v n="$command $name" '{ printf "%-24s %12.1f\n", n, $1 / 1000 }'
+    done
+done
+# and of plain full graphs, beside the C++ program
+printf '\n%-14s %12s %12s %8s %10s   %s\n' bounds ours C++ ratio MiB 'same text'
+for name in full-15 full-16; do
+    ours=$(least "$out/$name.txt" "$program" bounds)
+    "$program" bounds <"$out/$name.txt" >"$out/ours"
+    theirs=$(least "$out/$name.txt" "$out/decide" bounds)
+    "$out/decide" bounds <"$out/$name.txt" >"$out/theirs"
+    if cmp -s "$out/ours" "$out/theirs"; then answer=yes; else answer=no; fi
+    most=$(/usr/bin/time -f %M "$program" bounds <"$out/$name.txt" 2>&1 >/dev/null)
+    awk -v n="$name" -v a="$ours" -v b="$theirs" -v m="$most" -v s="$answer" \
+        'BEGIN { printf "%-14s %12.1f %12.1f %8.2f %10.1f   %s\n", n, a / 1000, b / 1000, a / b, m / 1024, s }'
+done
 if command -v valgrind >/dev/null; then
     echo
     table counted 'million instr.' 1
 fi
+
+# what `test` takes of texts that are refused once they are read, beside the text of edges
+echo
+printf '%-14s %12s %8s\n' reading milliseconds ratio
+edges=$(least "$out/read-edges.txt" sh -c '"$1" test; true' sh "$program" 2>/dev/null)
+for kind in edges arrivals tables names; do
+    time=$(least "$out/read-$kind.txt" sh -c '"$1" test; true' sh "$program" 2>/dev/null)
+    awk -v n="$kind" -v a="$time" -v e="$edges" 'BEGIN { printf "%-14s %12.1f %8.2f\n", n, a / 1000, a / e }'
+done
+
+# the same of sheets: one whose first surplus record ends the reading, one with a long header, and one of many rows; and the
+# most memory, by the byte of the sheet
+echo
+printf '%-14s %12s %8s %8s\n' sheet milliseconds ratio bytes
+for kind in surplus header rows; do
+    file=$out/sheet-$kind.csv
+    time=$(least "$file" sh -c '"$1" test --form csv --alpha 0.05; true' sh "$program" 2>/dev/null)
+    memory=$(/usr/bin/time -f %M "$program" test --form csv --alpha 0.05 <"$file" 2>&1 >/dev/null | tail -1)
+    awk -v n="$kind" -v a="$time" -v e="$edges" -v m="$memory" -v s="$(wc -c <"$file")" \
+        'BEGIN { printf "%-14s %12.1f %8.2f %8.1f\n", n, a / 1000, a / e, m * 1024 / s }'
+done

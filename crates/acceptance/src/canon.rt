@@ -150,3 +150,87 @@ fn faulty_cases_have_none(rt: HostRuntime) -> Result<(), Fail> {
     }
     Ok(())
 }
+
+/// Texts, their levels as a word, and the sheets of their cases; each text is canonical.
+const SHEETS: [(&str, &str, &str); 4] = [
+    (
+        "alpha 1/40\nhypotheses H1 H2\np 1/10000 3/100\nweights 1/2 1/2\nedge H1 H2 1-\\epsilon\nedge H2 H1 1\n",
+        "0.025",
+        "hypothesis,weight,p,H1,H2\nH1,1/2,1/10000,0,1-\\epsilon\nH2,1/2,3/100,1,0\n",
+    ),
+    (
+        "alpha 1/20\nhypotheses H1\nweights 1\n",
+        "5e-2",
+        "hypothesis,weight,p,H1\nH1,1,,0\n",
+    ),
+    (
+        "alpha 1/10\nhypotheses A B C\np 0 1 1/2\nweights 1/3 0 2/3\nedge A B 1/4\nedge A C 3/4\nedge B C 1/2*\\epsilon^2\n",
+        "1/10",
+        "hypothesis,weight,p,A,B,C\nA,1/3,0,0,1/4,3/4\nB,0,1,0,0,1/2*\\epsilon^2\nC,2/3,1/2,0,0,0\n",
+    ),
+    (
+        "alpha 1\nhypotheses H1 H2\nweights 1/2 1/4\nedge H2 H1 1\n",
+        "1",
+        "hypothesis,weight,p,H1,H2\nH1,1/2,,0,0\nH2,1/4,,1,0\n",
+    ),
+];
+
+#[test]
+fn sheets_and_texts_say_the_same_cases(rt: HostRuntime) -> Result<(), Fail> {
+    let alloc = rt.alloc();
+    for (text, level, sheet) in SHEETS {
+        let read = ["canon", "--form", "csv", "--alpha", level];
+        let both = ["canon", "--form", "csv", "--alpha", level, "--to", "csv"];
+        expect_canon(&rt, alloc, &["canon", "--to", "csv"], text, (0, sheet))?;
+        expect_canon(&rt, alloc, &read, sheet, (0, text))?;
+        expect_canon(&rt, alloc, &both, sheet, (0, sheet))?;
+    }
+    Ok(())
+}
+
+/// A sheet with quotes and decimals.
+const QUOTED: &str =
+    "\"\",\"weight\",\"p\",\"H1\",\"H2\"\n\"H1\",0.5,1e-04,\"0\",\"1-\\epsilon\"\n\"H2\",0.5,0.03,\"1\",\"0\"\n";
+
+#[test]
+fn quoted_sheets_have_one_spelling(rt: HostRuntime) -> Result<(), Fail> {
+    let alloc = rt.alloc();
+    let (text, level, sheet) = SHEETS[0];
+    let read = ["canon", "--form", "csv", "--alpha", level];
+    let both = ["canon", "--to=csv", "--form=csv", "--alpha", level];
+    expect_canon(&rt, alloc, &read, QUOTED, (0, text))?;
+    expect_canon(&rt, alloc, &both, QUOTED, (0, sheet))?;
+    Ok(())
+}
+
+/// Texts whose cases no sheet can hold: several components, a share below 1, and stages.
+const NO_SHEETS: [(&str, &str); 5] = [
+    (
+        "alpha 0.05\nhypotheses H1\ncomponent 1/2\nweights 1\ncomponent 1/2\nweights 1\n",
+        "malformed: kind\n",
+    ),
+    (
+        "alpha 0.05\nhypotheses H1\np 0.01\ncomponent 0.999\nweights 1\n",
+        "malformed: kind\n",
+    ),
+    (
+        "alpha 0.05\nhypotheses H1\ncomponent 1\nweights 1\ncomponent 0\nweights 1\n",
+        "malformed: kind\n",
+    ),
+    (
+        "alpha 0.05\nhypotheses H1\nweights 1\nstages 1\nspend H1 1\n",
+        "malformed: kind\n",
+    ),
+    (
+        "alpha 0.05\nhypotheses H1\nweights 2\nstages 1\nspend H1 1\n",
+        "malformed: case: weight sum component 1\n",
+    ),
+];
+
+#[test]
+fn cases_without_sheets_are_refused(rt: HostRuntime) -> Result<(), Fail> {
+    for (text, line) in NO_SHEETS {
+        expect_canon(&rt, rt.alloc(), &["canon", "--to=csv"], text, (3, line))?;
+    }
+    Ok(())
+}

@@ -1,14 +1,25 @@
 //! Tests that cross crates: whole runs of the top call over sources and sinks in memory.
+//!
+//! Tests through `run`, and of trials, studies and decisions on texts, with values by hand: decided cases without
+//! edges and with them, the three priorities of a case with ties, sheets, JSON, looks in each of their orders, samples,
+//! canonical texts, checks of evidence, each kind of refusal with its line, lists of words, sources and sinks that fail
+//! at each of their calls in turn, and inputs of 4,194,304 bytes and of one more.
 #![tactic(auto)]
 
 #[cfg(test)]
 mod canon;
+#[cfg(test)]
+mod checks;
 #[cfg(test)]
 mod decided;
 #[cfg(test)]
 mod devices;
 #[cfg(test)]
 mod graphs;
+#[cfg(test)]
+mod json;
+#[cfg(test)]
+mod named;
 #[cfg(test)]
 mod orders;
 #[cfg(test)]
@@ -19,6 +30,8 @@ mod refused;
 mod runs;
 #[cfg(test)]
 mod samples;
+#[cfg(test)]
+mod sets;
 #[cfg(test)]
 mod sheets;
 #[cfg(test)]

@@ -6,7 +6,8 @@ use std::alloc::Global;
 use std::process::Abort;
 use std::test::Fail;
 
-fn case_of(rt: &impl Abort, alloc: Global, text: &str) -> Case {
+/// The case that a text says.
+pub(crate) fn case_of(rt: &impl Abort, alloc: Global, text: &str) -> Case {
     match read_text(alloc, text.as_bytes()) {
         Ok(case) => case,
         Err(_) => panic!(rt; "no case"),

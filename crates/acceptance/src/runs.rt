@@ -19,19 +19,30 @@ pub fn list_of<T: Copy>(alloc: Global, items: &[T]) -> Result<List<T>, NoMemory>
     Ok(list)
 }
 
-/// Runs the program, and answers the status. The other source, which no command of these tests reads, fails at its first take.
-pub fn status_of<S: Source, W: Sink>(
+/// Runs the program over a case and a proof, and answers the status.
+pub fn status_with<S: Source, T: Source, W: Sink>(
     alloc: Global,
     words: &[&str],
     case: &mut S,
+    proof: &mut T,
     out: &mut W,
 ) -> Result<u8, NoMemory> {
     let mut given = Vec::new(alloc);
     for word in words {
         given.push(String::from_str(alloc, word)?)?;
     }
+    Ok(run(alloc, given.as_slice(), case, proof, out))
+}
+
+/// Runs the program, and answers the status. The other source, which these commands don't read, fails at its first take.
+pub fn status_of<S: Source, W: Sink>(
+    alloc: Global,
+    words: &[&str],
+    case: &mut S,
+    out: &mut W,
+) -> Result<u8, NoMemory> {
     let mut proof = FailingSource::new(List::new(alloc), 1, list_of(alloc, &[1])?);
-    Ok(run(alloc, given.as_slice(), case, &mut proof, out))
+    status_with(alloc, words, case, &mut proof, out)
 }
 
 /// A run of the command `test` over these bytes, of which the label tells, ends with this status and prints this.

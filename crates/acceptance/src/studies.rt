@@ -2,20 +2,13 @@
 ghost use Rattle.std.specs.Prelude.{◌≡◌, IfOk};
 ghost use Rattle.staged_levels.specs.StudyAnswers.{hypothesis_of};
 
+use crate::orders::case_of;
 use case_model::Case;
-use edge_text::read_text;
 use fraction::{Fraction, FractionFault};
 use staged_levels::{Event, Settled, StepFault, Study, is_staged};
 use std::alloc::Global;
 use std::process::Abort;
 use std::test::Fail;
-
-fn case_of(rt: &impl Abort, alloc: Global, text: &str) -> Case {
-    match read_text(alloc, text.as_bytes()) {
-        Ok(case) => case,
-        Err(_) => panic!(rt; "no case"),
-    }
-}
 
 fn opened(rt: &impl Abort, alloc: Global, case: &Case) -> Study {
     assert!(rt; is_staged(case));

@@ -10,7 +10,7 @@ use std::test::Fail;
 type Row<'a> = (&'a [&'a str], &'a str);
 
 /// No command stands first.
-const NO_COMMAND: [Row; 18] = [
+const NO_COMMAND: [Row; 14] = [
     (&[], "usage: word 1\n"),
     (&[""], "usage: word 1\n"),
     (&["tests"], "usage: word 1\n"),
@@ -24,11 +24,7 @@ const NO_COMMAND: [Row; 18] = [
     (&["--form", "text", "test"], "usage: word 1\n"),
     (&["--form=text", "test"], "usage: word 1\n"),
     // Commands that don't run yet.
-    (&["weights"], "usage: word 1\n"),
-    (&["bounds", "--form", "text"], "usage: word 1\n"),
     (&["evidence"], "usage: word 1\n"),
-    (&["check", "proof.txt"], "usage: word 1\n"),
-    (&["catalogue", "holm", "--size", "3"], "usage: word 1\n"),
     (&["study", "looks.txt"], "usage: word 1\n"),
 ];
 
@@ -55,7 +51,7 @@ const BARE: [Row; 14] = [
 ];
 
 /// An option that the command doesn't take.
-const UNKNOWN_OPTIONS: [Row; 22] = [
+const UNKNOWN_OPTIONS: [Row; 24] = [
     (&["stages", "--alpha", "0.05"], "usage: word 2\n"),
     (
         &["stages", "--form=text", "--priority=last"],
@@ -84,6 +80,8 @@ const UNKNOWN_OPTIONS: [Row; 22] = [
     (&["help", "--alpha", "1"], "usage: word 2\n"),
     (&["help", "--help"], "usage: word 2\n"),
     (&["canon", "--priority", "first"], "usage: word 2\n"),
+    (&["weights", "--priority", "first"], "usage: word 2\n"),
+    (&["bounds", "--to=text"], "usage: word 2\n"),
 ];
 
 /// A value that is unknown. The word behind the name of an option is its value, whatever it begins with.
@@ -172,7 +170,9 @@ const TWICE: [Row; 9] = [
 ];
 
 /// A sheet needs its level, which is missing behind the last word.
-const MISSING: [Row; 6] = [
+const MISSING: [Row; 8] = [
+    (&["weights", "--form", "csv"], "usage: word 4\n"),
+    (&["bounds", "--form=csv"], "usage: word 3\n"),
     (&["test", "--form", "csv"], "usage: word 4\n"),
     (&["test", "--form=csv"], "usage: word 3\n"),
     (
@@ -194,7 +194,9 @@ const MISSING: [Row; 6] = [
 ];
 
 /// The other forms say their level.
-const FORBIDDEN: [Row; 10] = [
+const FORBIDDEN: [Row; 12] = [
+    (&["weights", "--alpha", "0.05"], "usage: word 2\n"),
+    (&["bounds", "--form=text", "--alpha=1"], "usage: word 3\n"),
     (&["test", "--alpha", "0.05"], "usage: word 2\n"),
     (&["test", "--alpha=0.05"], "usage: word 2\n"),
     (
@@ -278,11 +280,21 @@ const NO_HEADER: &str = "malformed: row 1 column 1: header\n";
 /// What `canon` prints of the tie.
 const TIE_CANONICAL: &str = "alpha 1/20\nhypotheses H1 H2\np 1/40 13/500\nweights 1/2 1/2\n";
 
-/// What is printed where a form isn't read or written yet.
-const UNREAD: &str = "malformed: form\n";
+/// What `weights` prints of the tie, which has no edges.
+const TIE_WEIGHTS: &str = "weights 2\nset H1=1/2 H2=1/2\nset H2=1/2\nset H1=1/2\nend\n";
+
+/// What `bounds` prints of the tie: H1 is rejected.
+const TIE_BOUNDS: &str = "bounds 2\nbound 1 of H1 H2\nbound 0 of H2\nbound 1 of H1\nend\n";
+
+/// What is printed where JSON is asked for, and the text isn't.
+const NO_JSON: &str = "malformed: json: syntax\n";
+
+/// The JSON of the tie.
+const TIE_JSON: &str =
+    "{\"alpha\":\"1/20\",\"components\":[{\"edges\":[],\"share\":\"1\",\"weights\":[\"1/2\",\"1/2\"]}],\"hypotheses\":[\"H1\",\"H2\"],\"p\":[\"1/40\",\"13/500\"]}\n";
 
 /// Words that are accepted, the status, and what is printed of the tie.
-const ACCEPTED: [(&[&str], u8, &str); 21] = [
+const ACCEPTED: [(&[&str], u8, &str); 24] = [
     (&["test"], 0, TIE_DECIDED),
     (&["test", "--form", "text"], 0, TIE_DECIDED),
     (&["test", "--form=text"], 0, TIE_DECIDED),
@@ -299,8 +311,8 @@ const ACCEPTED: [(&[&str], u8, &str); 21] = [
         0,
         TIE_DECIDED,
     ),
-    (&["test", "--form", "json"], 3, UNREAD),
-    (&["test", "--form=json", "--priority=last"], 3, UNREAD),
+    (&["test", "--form", "json"], 3, NO_JSON),
+    (&["test", "--form=json", "--priority=last"], 3, NO_JSON),
     (&["test", "--form", "csv", "--alpha", "0.05"], 3, NO_HEADER),
     (&["test", "--alpha=1/20", "--form=csv"], 3, NO_HEADER),
     (
@@ -319,9 +331,12 @@ const ACCEPTED: [(&[&str], u8, &str); 21] = [
     (&["test", "--form=csv", "--alpha=+007"], 3, NO_HEADER),
     (&["test", "--form=csv", "--alpha=.5"], 3, NO_HEADER),
     (&["test", "--form=csv", "--alpha", "1."], 3, NO_HEADER),
+    (&["weights", "--form=text"], 0, TIE_WEIGHTS),
+    (&["bounds"], 0, TIE_BOUNDS),
+    (&["bounds", "--form=csv", "--alpha=1"], 3, NO_HEADER),
     (&["canon"], 0, TIE_CANONICAL),
     (&["canon", "--to", "text", "--form=text"], 0, TIE_CANONICAL),
-    (&["canon", "--to=json"], 3, UNREAD),
+    (&["canon", "--to=json"], 0, TIE_JSON),
     (&["canon", "--form", "csv", "--alpha", "0.05"], 3, NO_HEADER),
 ];
 
@@ -341,7 +356,7 @@ fn words_are_accepted(rt: HostRuntime) -> Result<(), Fail> {
 
 /// The lines of the commands that run.
 const HELP: &str =
-    "test [--form F] [--alpha N] [--priority P]\nstages [--form F]\ncanon [--form F] [--alpha N] [--to F]\nsample --size N --seed N\nhelp\nend\n";
+    "test [--form F] [--alpha N] [--priority P]\nweights [--form F] [--alpha N]\nbounds [--form F] [--alpha N]\ncheck FILE [--form F] [--alpha N]\nstages [--form F]\ncanon [--form F] [--alpha N] [--to F]\ncatalogue NAME --size N [--second N]\nsample --size N --seed N\nhelp\nend\n";
 
 /// No byte of the case is taken.
 #[test]

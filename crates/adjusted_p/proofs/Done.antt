@@ -10,7 +10,7 @@ use Rattle.fraction.specs.View.{number_of}
 use Rattle.case_model.specs.AdjustedValues.{IsAdjusted}
 use Rattle.case_model.specs.CaseTests.{at_level, IsAdjustedIn}
 use Rattle.case_model.specs.Content.{Content, ForSingle, entangled}
-use Rattle.case_model.specs.Sums.{number_at}
+use Rattle.case_model.specs.Sums.{number_at, one_ratio}
 use Rattle.case_model.proofs.PriorityOrders.{ratio_legal}
 use Rattle.sequential.specs.Trials.{TrialContent, IsTrialOf}
 use Rattle.sequential.specs.WideDecisions.{IsWideDecision}
@@ -21,7 +21,7 @@ use Rattle.sequential.proofs.TrialFacts.{graph_valid, p_values_are}
 use Rattle.adjusted_p.specs.declared.adjusted.Adjusted.{Adjusted}
 use Rattle.adjusted_p.specs.declared.fault.AdjustFault.{AdjustFault}
 use Rattle.adjusted_p.specs.declared.fault.AdjustFault.TheVariants.{Wide, NoMemory}
-use Rattle.adjusted_p.specs.AdjustedLists.{one_ratio, adjusted_at, AreAdjusted}
+use Rattle.adjusted_p.specs.AdjustedLists.{adjusted_at, AreAdjusted}
 use Rattle.adjusted_p.specs.RatioRuns.{IsLeastToOne, AreRunValues}
 use Rattle.adjusted_p.specs.WrittenRun.{IsWideAdjusting, IsAdjustFault}
 use Rattle.adjusted_p.specs.Adjusting.{IsAdjustingRun, IsRunFault}

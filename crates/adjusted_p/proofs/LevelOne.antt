@@ -8,8 +8,8 @@ use Rattle.fraction.specs.Plain.{plain, fraction_parts}
 use Rattle.fraction.specs.View.{number_of}
 use Rattle.fraction.proofs.SameRatios.{same_number}
 use Rattle.case_model.specs.Draft.{at_most, is_short_level, is_level}
+use Rattle.case_model.specs.Sums.{one_ratio}
 use Rattle.case_model.proofs.Comparisons.{one_is as one_number}
-use Rattle.adjusted_p.specs.AdjustedLists.{one_ratio}
 
 pub one_is : number_of one_ratio ≡ number_one
 one_is = one_number one_ratio refl

@@ -10,7 +10,7 @@ use Rattle.case_model.specs.CaseTests.{at_level}
 use Rattle.case_model.specs.ClosedTest.{IsRejected}
 use Rattle.case_model.specs.Content.{Content, ForSingle, entangled}
 use Rattle.case_model.specs.LegalOrder.{IsLeastLegalRatio}
-use Rattle.case_model.specs.Sums.{number_at}
+use Rattle.case_model.specs.Sums.{number_at, one_ratio}
 use Rattle.case_model.proofs.AdjustedValues.{adjusted_is, adjusted_unique}
 use Rattle.case_model.proofs.PriorityOrders.{ratio_legal, legal_at_most}
 use Rattle.case_model.proofs.SingleInputs.{for_single, for_both}
@@ -19,7 +19,7 @@ use Rattle.sequential.specs.declared.priority.Priority.TheVariants.{Ratio as ByR
 use Rattle.sequential.proofs.OtherLevels.{opening_at}
 use Rattle.sequential.proofs.WideLaws.{wide_unique}
 use Rattle.adjusted_p.specs.declared.adjusted.Adjusted.{Adjusted}
-use Rattle.adjusted_p.specs.AdjustedLists.{one_ratio, adjusted_at, AreAdjusted}
+use Rattle.adjusted_p.specs.AdjustedLists.{adjusted_at, AreAdjusted}
 use Rattle.adjusted_p.specs.RatioRuns.{IsLeastToOne}
 use Rattle.adjusted_p.specs.AdjustedListStatements.{IsReachedBy}
 use Rattle.adjusted_p.specs.WrittenRun.{IsWideAdjusting}

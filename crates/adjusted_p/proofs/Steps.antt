@@ -13,7 +13,7 @@ use Rattle.field_core.specs.declared.ratio.Ratio.{Ratio}
 use Rattle.case_model.specs.EntangledGraph.{EntangledGraph}
 use Rattle.case_model.specs.LegalOrder.{IsListed}
 use Rattle.fraction.specs.View.{number_of}
-use Rattle.case_model.specs.Sums.{number_at}
+use Rattle.case_model.specs.Sums.{number_at, one_ratio}
 use Rattle.case_model.specs.Content.{Content, entangled}
 use Rattle.case_model.proofs.PriorityOrders.{legal_at_most}
 use Rattle.case_model.proofs.RejectionOrders.{listed_here, listed_later, here_or_later}
@@ -30,7 +30,7 @@ use Rattle.sequential.proofs.ChoiceFacts.{least_with}
 use Rattle.sequential.proofs.RunSteps.{run_start, run_step, run_end, run_fault}
 use Rattle.sequential.proofs.TrialFacts.{may_legal, live_not_rejected}
 use Rattle.adjusted_p.specs.declared.adjusted.Adjusted.{Adjusted}
-use Rattle.adjusted_p.specs.AdjustedLists.{one_ratio, not_reached, adjusted_at}
+use Rattle.adjusted_p.specs.AdjustedLists.{not_reached, adjusted_at}
 use Rattle.adjusted_p.specs.RatioRuns.{ValueStep, IsGreater, removed_ones, IsValueStep, AreValueSteps, IsTableOf, reached_at}
 use Rattle.adjusted_p.specs.Adjusting.{last_value, IsAdjustingSoFar, IsAdjustingRun}
 use Rattle.adjusted_p.proofs.LevelOne.{one_is}

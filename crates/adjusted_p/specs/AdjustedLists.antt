@@ -1,14 +1,10 @@
 -- The adjusted values of a case, one for each hypothesis, by ascending position.
 use Rattle.std.specs.Prelude.{◌≡◌, ◌<◌, ℕ, pos, false, List, length, get_or}
 use Rattle.field_core.specs.declared.ratio.Ratio.{Ratio}
-use Rattle.fraction.specs.Plain.{one_reduced}
 use Rattle.case_model.specs.Content.{Content}
 use Rattle.case_model.specs.CaseTests.{IsAdjustedIn}
+use Rattle.case_model.specs.Sums.{one_ratio}
 use Rattle.adjusted_p.specs.declared.adjusted.Adjusted.{Adjusted}
-
--- 1/1
-abbrev pub one_ratio : Ratio
-one_ratio = record { num = pos 1; den = pos 1; valid = one_reduced }
 
 -- 1, not reached
 abbrev pub not_reached : Adjusted

@@ -3,12 +3,12 @@ use Rattle.std.specs.Prelude.{◌≡◌, ℕ, zero, suc, Err}
 use Rattle.field_core.specs.declared.place.WideAt.{WideAt}
 use Rattle.case_model.specs.Content.{Content}
 use Rattle.case_model.specs.CaseTests.{at_level}
+use Rattle.case_model.specs.Sums.{one_ratio}
 use Rattle.entangled.specs.CaseRun.{case_opening}
 use Rattle.sequential.specs.WideDecisions.{IsWideDecision}
 use Rattle.sequential.specs.declared.priority.Priority.TheVariants.{Ratio as ByRatio}
 use Rattle.adjusted_p.specs.declared.fault.AdjustFault.{AdjustFault}
 use Rattle.adjusted_p.specs.declared.fault.AdjustFault.TheVariants.{Wide, NoMemory}
-use Rattle.adjusted_p.specs.AdjustedLists.{one_ratio}
 
 -- the written run is undefined first at `w`, in this step
 abbrev pub IsWideAdjusting : Content → ℕ → WideAt → Type 0

@@ -3,11 +3,12 @@ ghost use Rattle.std.specs.Prelude.{◌≡◌, ℕ, [], replicate, IfOk, IfErr, 
 ghost use Rattle.field_core.specs.declared.place.WideAt.{WideAt};
 ghost use Rattle.fraction.specs.View.{number_of};
 ghost use Rattle.case_model.specs.Content.{Content};
+ghost use Rattle.case_model.specs.Sums.{one_ratio};
 ghost use Rattle.case_model.specs.CaseView.{content};
 ghost use Rattle.sequential.specs.Trials.{IsTrialOf};
 ghost use Rattle.sequential.specs.TrialAnswers.{IsSingle};
 ghost use Rattle.sequential.specs.TrialView.{trial};
-ghost use Rattle.adjusted_p.specs.AdjustedLists.{one_ratio, not_reached, AreAdjusted};
+ghost use Rattle.adjusted_p.specs.AdjustedLists.{not_reached, AreAdjusted};
 ghost use Rattle.adjusted_p.specs.RatioRuns.{IsGreater};
 ghost use Rattle.adjusted_p.specs.WrittenRun.{IsWideAdjusting, IsAdjustFault};
 ghost use Rattle.adjusted_p.specs.Adjusting.{IsAdjustingRun, IsRunFault};

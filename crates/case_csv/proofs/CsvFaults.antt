@@ -94,8 +94,3 @@ draft_fault bytes alpha kept refused fault k f n (inl (m, e)) = subst (IsCsvFaul
 draft_fault bytes alpha kept refused fault k (inl m) n (inr (o, e)) = absurd (o m)
 draft_fault bytes alpha kept refused fault k (inr f) n (inr (o, e)) =
     subst (IsCsvFault bytes alpha) (sym e) (record { draft = k.draft; says = k.says; fault_is = kept_fault bytes alpha kept k ∙ f; names_are = n ∙ k.names })
-
--- a fault that is handed on
-pub handed_on : {B E : Type 0} (result : Result B E) (x : E) (P : E → Type 0) → IsErrAnd result (λ y. y ≡ x) → P x → IfErr result P
-handed_on (Ok b) x P h p = tt
-handed_on (Err y) x P h p = subst P (sym h) p

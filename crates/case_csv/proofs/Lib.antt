@@ -5,3 +5,9 @@ pub mod OneTable
 pub mod RecordsLeft
 pub mod RowCells
 pub mod RowsRead
+pub mod SheetCases
+pub mod SheetDrafts
+pub mod SheetEdges
+pub mod SheetRecords
+pub mod SheetWriter
+pub mod SomeTable

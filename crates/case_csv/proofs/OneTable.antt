@@ -82,7 +82,7 @@ zip_at R (a ∷ xs) [] i x h e = absurd h
 zip_at R (a ∷ xs) (b ∷ ys) zero x h e = (b, subst (λ z. R z b) (same_some a x e) h.0)
 zip_at R (a ∷ xs) (b ∷ ys) (suc i) x h e = zip_at R xs ys i x h.1 e
 
-behind : (cells : Cells) (i : ℕ) → slice_get cells (suc (suc (suc i))) ≡ slice_get (drop 3 cells) i
+pub behind : (cells : Cells) (i : ℕ) → slice_get cells (suc (suc (suc i))) ≡ slice_get (drop 3 cells) i
 behind [] i = refl
 behind (a ∷ []) i = refl
 behind (a ∷ b ∷ []) i = refl

@@ -133,13 +133,13 @@ enough (suc n) (suc m) s xs small less start =
     let some = some_byte s xs p start e in
     enough n m p.1 p.2 (omega (arith, left.shorter, some, small)) (omega (arith, left.shorter, some, less)) left.starts)
 
-none_left : (s : State) (xs : List ℕ) → next_record default_config s [] [] xs ≡ None → records_from default_config (length xs + 1) s xs ≡ []
+pub none_left : (s : State) (xs : List ℕ) → next_record default_config s [] [] xs ≡ None → records_from default_config (length xs + 1) s xs ≡ []
 unfolding records_from
 none_left s xs e =
     let turns : length xs + 1 ≡ suc (length xs) = omega arith in
     rw (turns, e) refl
 
-one_left : (s : State) (xs : List ℕ) (p : Read) → ends_at_end s ≡ false → next_record default_config s [] [] xs ≡ Some p → records_from default_config (length xs + 1) s xs ≡ p.0 ∷ records_from default_config (length p.2 + 1) p.1 p.2
+pub one_left : (s : State) (xs : List ℕ) (p : Read) → ends_at_end s ≡ false → next_record default_config s [] [] xs ≡ Some p → records_from default_config (length xs + 1) s xs ≡ p.0 ∷ records_from default_config (length p.2 + 1) p.1 p.2
 unfolding records_from
 one_left s xs p start e =
     let left = leaves xs s [] [] p e in

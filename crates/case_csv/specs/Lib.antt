@@ -1,6 +1,8 @@
 pub mod Faults
 pub mod Reading
 pub mod Records
+pub mod Sheet
+pub mod SheetStatements
 pub mod Table
 pub mod TableStatements
 pub mod View

@@ -1,5 +1,5 @@
 -- What the records of CSV and their faults promise.
-use Rattle.std.specs.Prelude.{◌≡◌, ℕ, List}
+use Rattle.std.specs.Prelude.{◌≡◌, ◌⊎◌, ℕ, List}
 use Rattle.field_core.specs.declared.ratio.Ratio.{Ratio}
 use Rattle.case_model.specs.declared.draft.Draft.{Draft}
 use Rattle.case_csv.specs.declared.fault.RowKind.{RowKind}
@@ -14,6 +14,11 @@ TablesSayOneDraft = (records : List Cells) (alpha : Ratio) (d e : Draft) → IsT
 abbrev pub TablesHaveOneFault : Type 0
 TablesHaveOneFault =
     (records : List Cells) (row line column place : ℕ) (j k : RowKind) → IsFirstFault records row column j → IsFirstFault records line place k → (row ≡ line) × (column ≡ place) × (j ≡ k)
+
+-- records say a draft at a level, or have a first fault
+abbrev pub TablesSayOrFail : Type 0
+TablesSayOrFail =
+    (records : List Cells) (alpha : Ratio) → ((d : Draft) × IsTable records alpha d) ⊎ ((row : ℕ) × (column : ℕ) × (kind : RowKind) × IsFirstFault records row column kind)
 
 -- records that say a draft have no first fault
 abbrev pub TablesDontSayAndFail : Type 0

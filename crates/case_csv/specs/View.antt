@@ -3,6 +3,10 @@ use Rattle.std.specs.Prelude.{◌≡◌, ◌≤◌, ℕ, Bool, true, false, if�
 use Rattle.std.specs.Borrow.{Bor}
 use Rattle.csv.specs.Records.{Row as Record, fields_of}
 use Rattle.csv.specs.declared.reader.Reader.{Reader}
+use Rattle.csv.specs.declared.writer.Writer.{Writer}
+use Rattle.csv.specs.Records.{partial_of}
+use Rattle.csv.specs.Writing.{default_writer, fields_written, has_written, text_written, writer_setup}
+use Rattle.std.specs.Global.{Vec}
 use Rattle.field_core.specs.declared.ratio.Ratio.{Ratio}
 use Rattle.case_model.specs.declared.draft.Draft.{Draft}
 use Rattle.case_model.specs.declared.draft_edge.DraftEdge.{DraftEdge}
@@ -86,3 +90,17 @@ one_component alpha names table = record {
   components = record { share = one; weights = table.weights; edges = table.edges } ∷ [];
   stages = None;
 }
+
+-- ---- sheets that are written
+
+-- the fields of a record, of which none is begun
+pub record HasFields (row : Record) (fields : Fields) : Type 0 where
+  pub fields_are : fields_of row ≡ fields
+  pub whole : partial_of row ≡ []
+
+-- A writer holds this text of whole records.
+pub record HasWritten (writer : Writer (Vec ℕ)) (text : List ℕ) : Type 0 where
+  pub setup : writer_setup writer ≡ default_writer
+  pub none_begun : fields_written writer ≡ 0
+  pub clean : has_written writer ≡ false
+  pub text_is : text_written (λ v. Some v.items) writer ≡ Some text

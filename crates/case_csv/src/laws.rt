@@ -1,13 +1,27 @@
-//! Laws of CSV: records say one draft, or have one first fault.
-ghost use Rattle.case_csv.specs.TableStatements.{TablesSayOneDraft, TablesHaveOneFault, TablesDontSayAndFail};
+//! Laws of CSV: records say one draft, or have one first fault; and sheets of cases say their cases.
+ghost use Rattle.case_csv.specs.SheetStatements.{SheetsReadBack, SheetsTellCasesApart, SheetsAreCanonical};
+ghost use Rattle.case_csv.specs.TableStatements.{TablesSayOneDraft, TablesHaveOneFault, TablesSayOrFail, TablesDontSayAndFail};
 
 /// Records say at most one draft at a level.
 pub fn tables_say_one_draft()
     ensures { TablesSayOneDraft }
 {}
 
-/// Records have at most one first fault, and none where they say a draft.
+/// Records have at most one first fault.
 pub fn tables_have_one_fault()
-    ensures one { TablesHaveOneFault }
+    ensures { TablesHaveOneFault }
+{}
+
+/// Records say a draft or have a first fault, and not both.
+pub fn tables_say_or_fail()
+    ensures each { TablesSayOrFail }
     ensures apart { TablesDontSayAndFail }
+{}
+
+/// The sheet of a case that a sheet can hold says that case, at its level. Cases of the same level and another content
+/// have another one, and the case that is read of a sheet of a case has that sheet.
+pub fn sheets_read_back()
+    ensures back { SheetsReadBack }
+    ensures apart { SheetsTellCasesApart }
+    ensures again { SheetsAreCanonical }
 {}

@@ -1,4 +1,11 @@
 //! The CSV form of cases.
+//!
+//! Proved:
+//! - `read_csv`: `case` (the records, as the crate `csv` gives them for the bytes, are a table by `IsTable`, which
+//!   says a draft without fault, and the case has its content), `fault` (the first record or field that can't stand,
+//!   with its row, its column and its kind; or else the first fault of the draft).
+//! - Laws in `src/laws.rt`: a table says one draft (`tables_say_one_draft`), and has at most one first fault, and not
+//!   both (`tables_have_one_fault`).
 #![tactic(auto)]
 
 mod cells;
@@ -8,10 +15,12 @@ mod read;
 mod records;
 mod rows;
 mod table;
+mod write;
 
 pub use edge_expression::ExprFault;
 pub use fault::{CsvFault, RowKind};
 pub use read::read_csv;
+pub use write::{fits_sheet, write_csv};
 
 #[cfg(test)]
 mod tests;

@@ -1,6 +1,7 @@
 -- What holds where tests are true.
-use Rattle.std.proofs.Common.{◌≡◌, refl, ℕ, zero, suc, ◌<◌, List, [], ◌∷◌, ◌++◌, length, get_or, Bool, true, false, ◌&&◌, arith}
+use Rattle.std.proofs.Common.{◌≡◌, refl, ap₂, ℕ, zero, suc, ◌<◌, List, [], ◌∷◌, ◌++◌, length, get_or, Bool, true, false, ◌&&◌, arith}
 use Rattle.std.specs.List.{list_all}
+use Rattle.std.proofs.Math.ListN.{set, replicate}
 
 pub record Both (a b : Bool) : Type 0 where
   pub left : a ≡ true
@@ -19,3 +20,17 @@ all_at test (x ∷ xs) (suc i) d h p = all_at test xs i d (both (test x) (list_a
 pub all_middle : {A : Type 0} (test : A → Bool) (xs : List A) (y : A) (ys : List A) → list_all test (xs ++ y ∷ ys) ≡ true → test y ≡ true
 all_middle test [] y ys h = (both (test y) (list_all test ys) h).left
 all_middle test (x ∷ xs) y ys h = all_middle test xs y ys (both (test x) (list_all test (xs ++ y ∷ ys)) h).right
+
+-- what holds of each item still does where one takes the place of another, or stands behind them
+pub all_set : {A : Type 0} (test : A → Bool) (xs : List A) (i : ℕ) (y : A) → list_all test xs ≡ true → test y ≡ true → list_all test (set xs i y) ≡ true
+all_set test [] i y h k = refl
+all_set test (x ∷ xs) zero y h k = ap₂ (λ a b. a && b) k (both (test x) (list_all test xs) h).right
+all_set test (x ∷ xs) (suc i) y h k = let b = both (test x) (list_all test xs) h in ap₂ (λ a b. a && b) b.left (all_set test xs i y b.right k)
+
+pub all_push : {A : Type 0} (test : A → Bool) (xs : List A) (y : A) → list_all test xs ≡ true → test y ≡ true → list_all test (xs ++ y ∷ []) ≡ true
+all_push test [] y h k = ap₂ (λ a b. a && b) k refl
+all_push test (x ∷ xs) y h k = let b = both (test x) (list_all test xs) h in ap₂ (λ a b. a && b) b.left (all_push test xs y b.right k)
+
+pub all_replicate : {A : Type 0} (test : A → Bool) (n : ℕ) (x : A) → test x ≡ true → list_all test (replicate n x) ≡ true
+all_replicate test zero x h = refl
+all_replicate test (suc n) x h = ap₂ (λ a b. a && b) h (all_replicate test n x h)

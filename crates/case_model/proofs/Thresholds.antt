@@ -21,11 +21,11 @@ use Rattle.std.specs.declared.cmp.Ordering.TheVariants.{Less, Equal, Greater}
 use Rattle.field_core.specs.declared.place.Op.TheVariants.{Div}
 use Rattle.field_core.proofs.Sized.{sized_small}
 use Rattle.fraction.specs.Written.{written_mul, inverse, inverse_of}
-use Rattle.fraction.specs.Plain.{plain, single, fraction_parts, fraction_stored, one_reduced}
+use Rattle.fraction.specs.Plain.{plain, single, fraction_parts, fraction_stored}
 use Rattle.fraction.specs.Laws.PlainLaws.{plain_is_exact}
 use Rattle.fraction.specs.Tests.{is_within}
 use Rattle.fraction.specs.View.{number_of}
-use Rattle.case_model.specs.Sums.{zero_ratio}
+use Rattle.case_model.specs.Sums.{zero_ratio, one_ratio}
 use Rattle.case_model.specs.Draft.{at_most, is_p_value, is_level, is_unit}
 use Rattle.case_model.specs.ClosedTest.{Passes}
 use Rattle.case_model.proofs.Comparisons.{le_is, at_most_is, zero_is, one_is}
@@ -37,12 +37,8 @@ use Rattle.case_model.proofs.ExactSums.{value_single}
 int_le : (a b : ℤ) → is_le (int_cmp a b) ≡ true → a ≤ℤ b
 int_le a b h = grind (arith, nat_tests, ints)
 
-one_ratio : Ratio
-one_ratio = record { num = pos 1; den = pos 1; valid = one_reduced }
-
 -- the numerator of a number from 0 to 1 is at most the denominator
-unit_parts : (x : Ratio) → is_unit (number_of x) ≡ true → unsigned_abs x.num ≤ unsigned_abs x.den
-unfolding one_ratio
+pub unit_parts : (x : Ratio) → is_unit (number_of x) ≡ true → unsigned_abs x.num ≤ unsigned_abs x.den
 unit_parts x h =
     let b = both (at_most number_zero (number_of x)) (at_most (number_of x) number_one) h in
     let low : (pos 0 *ℤ x.den) ≤ℤ (x.num *ℤ pos 1) = int_le _ _ (le_is zero_ratio x ∙ ap (λ z. at_most z (number_of x)) (zero_is zero_ratio refl) ∙ b.left) in

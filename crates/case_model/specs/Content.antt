@@ -16,7 +16,7 @@ use Rattle.case_model.specs.declared.inputs.Stages.{Stages}
 use Rattle.case_model.specs.declared.inputs.Inputs.{Inputs}
 use Rattle.case_model.specs.declared.inputs.Inputs.TheVariants.{Bare, Single, Staged}
 use Rattle.case_model.specs.Sums.{number_at, zero_ratio}
-use Rattle.case_model.specs.Entries.{entry_value, entry_at, no_edge, is_plain_entry}
+use Rattle.case_model.specs.Entries.{entry_value, entry_at, no_edge, is_whole_entry, is_plain_entry}
 use Rattle.case_model.specs.Draft.{has_ends, arrives_among, is_stage, is_p_value}
 use Rattle.case_model.specs.EntangledGraph.{EntangledGraph}
 use Rattle.case_model.specs.ClosedTest.{IsRejected}
@@ -123,6 +123,10 @@ ForSingle (Staged s) P = ⊥
 -- the closed test at the level of the case rejects the hypothesis at this position
 abbrev pub IsRejectedIn : Content → ℕ → Type 0
 IsRejectedIn c j = ForSingle c.inputs (λ ps. IsRejected (entangled c) (number_at ps) (number_of c.alpha) j)
+
+-- each entry of each table has a coefficient for each power of epsilon from 0 to 4
+unfoldable pub has_coefficients : List Component → Bool
+has_coefficients ks = list_all (λ k. list_all is_whole_entry k.edges) ks
 
 -- no edge has a coefficient other than 0 above power 0
 unfoldable pub is_plain : Content → Bool

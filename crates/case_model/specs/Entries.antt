@@ -1,5 +1,5 @@
 -- Entries of tables of edges: sums of fractions times the powers 0 to 4 of epsilon, by their coefficients of ascending power.
-use Rattle.std.specs.Prelude.{ℕ, zero, suc, List, [], ◌∷◌, ◌+◌, ◌*◌, Bool, drop, get_or}
+use Rattle.std.specs.Prelude.{ℕ, zero, suc, List, [], ◌∷◌, ◌+◌, ◌*◌, Bool, drop, get_or, length, ◌==◌}
 use Rattle.std.specs.List.{list_all}
 use Rattle.std.specs.Ordering.{ordering_then}
 use Rattle.std.specs.declared.cmp.Ordering.{Ordering}
@@ -27,6 +27,10 @@ entry_value e = sum_below number_field 5 (λ k. number_at e k *ε power_of_epsil
 -- the entry of an edge that isn't there
 abbrev pub no_edge : List Ratio
 no_edge = zero_ratio ∷ zero_ratio ∷ zero_ratio ∷ zero_ratio ∷ zero_ratio ∷ []
+
+-- it has a coefficient for each power from 0 to 4
+abbrev pub is_whole_entry : List Ratio → Bool
+is_whole_entry e = length e == 5
 
 -- each coefficient is 0
 unfoldable pub is_zero_entry : List Ratio → Bool

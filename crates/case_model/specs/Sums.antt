@@ -6,7 +6,7 @@ use Rattle.field_core.specs.Sized.{◌>>=◌}
 use Rattle.field_core.specs.Number.{Number}
 use Rattle.field_core.specs.Fractions.{fraction}
 use Rattle.field_core.specs.declared.ratio.Ratio.{Ratio}
-use Rattle.fraction.specs.Plain.{zero_reduced}
+use Rattle.fraction.specs.Plain.{zero_reduced, one_reduced}
 use Rattle.fraction.specs.View.{number_of}
 use Rattle.fraction.specs.Written.{written_add}
 
@@ -21,6 +21,10 @@ zero_terms = record { num = pos 0; den = pos 1 }
 -- 0/1 as a fraction
 abbrev pub zero_ratio : Ratio
 zero_ratio = record { num = pos 0; den = pos 1; valid = zero_reduced }
+
+-- 1/1 as a fraction
+abbrev pub one_ratio : Ratio
+one_ratio = record { num = pos 1; den = pos 1; valid = one_reduced }
 
 -- the terms at a place of a list, and those of 0 past its end
 unfoldable pub terms_at : List Terms → ℕ → Terms

@@ -1,4 +1,6 @@
 //! Cases.
+ghost use Rattle.std.specs.Prelude.{◌≡◌, true};
+ghost use Rattle.case_model.specs.Content.{has_coefficients};
 ghost use Rattle.case_model.specs.Validity.{IsValidContent};
 
 use crate::{Component, Entry, Inputs};
@@ -13,6 +15,7 @@ pub struct Case {
     components: List<Component>,
     inputs: Inputs,
     ghost valid: { IsValidContent (record { names = names; alpha = alpha; components = components; inputs = inputs }) },
+    ghost coefficients: { has_coefficients components ≡ true },
 }
 
 #[tactic(auto, using(crate::proofs::CaseFacts::facts))]
@@ -21,7 +24,7 @@ impl Case {
     ghost use Rattle.case_model.specs.Sums.{ratio_at};
     ghost use Rattle.case_model.specs.Entries.{entry_at};
     ghost use Rattle.case_model.specs.Draft.{is_level, ArePValues};
-    ghost use Rattle.case_model.specs.Content.{component_at, IfSingle, IfStaged, AreStages, is_plain};
+    ghost use Rattle.case_model.specs.Content.{component_at, IfSingle, IfStaged, AreStages, has_coefficients, is_plain};
     ghost use Rattle.case_model.specs.Names.{position_of};
     ghost use Rattle.case_model.specs.Validity.{IsValidContent};
     ghost use Rattle.case_model.specs.CaseView.{content};
@@ -33,7 +36,8 @@ impl Case {
         components: List<Component>,
         inputs: Inputs,
     ) -> Case
-        requires { IsValidContent (record { names = names; alpha = alpha; components = components; inputs = inputs }) }
+        requires valid { IsValidContent (record { names = names; alpha = alpha; components = components; inputs = inputs }) }
+        requires coefficients { has_coefficients components ≡ true }
         ensures { content result ≡ record { names = names; alpha = alpha; components = components; inputs = inputs } }
     {
         Case {

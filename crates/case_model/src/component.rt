@@ -2,7 +2,8 @@
 ghost use Rattle.std.specs.Prelude.{◌≡◌, ◌≤◌, true, map, IfOk};
 ghost use Rattle.std.specs.List.{list_all};
 ghost use Rattle.case_model.specs.Draft.{goes_between};
-ghost use Rattle.case_model.specs.Content.{table_of, tabled};
+ghost use Rattle.case_model.specs.Entries.{is_whole_entry};
+ghost use Rattle.case_model.specs.Content.{table_of, tabled, has_coefficients};
 
 use crate::{DraftComponent, DraftEdge, Entry};
 use field_core::{List, NoMemory};
@@ -21,7 +22,7 @@ impl Component {
     ghost use Rattle.std.specs.Prelude.{◌≡◌, ◌≤◌, ◌<◌, ◌*◌, length, true, IfOk};
     ghost use Rattle.std.specs.List.{list_all};
     ghost use Rattle.case_model.specs.Sums.{ratio_at};
-    ghost use Rattle.case_model.specs.Entries.{entry_at, is_plain_entry};
+    ghost use Rattle.case_model.specs.Entries.{entry_at, is_whole_entry, is_plain_entry};
     ghost use Rattle.case_model.specs.Draft.{goes_between};
     ghost use Rattle.case_model.specs.Content.{tabled};
 
@@ -29,7 +30,8 @@ impl Component {
     fn tabled(alloc: Global, count: usize, draft: DraftComponent) -> Result<Component, NoMemory>
         requires few { count ≤ 64 }
         requires ends { list_all (goes_between count) draft.edges ≡ true }
-        ensures { IfOk result (λ k. k ≡ tabled count draft) }
+        ensures component { IfOk result (λ k. k ≡ tabled count draft) }
+        ensures coefficients { IfOk result (λ k. list_all is_whole_entry k.edges ≡ true) }
     {
         let DraftComponent {
             share,
@@ -77,12 +79,13 @@ impl Component {
 fn table(alloc: Global, count: usize, edges: &[DraftEdge]) -> Result<List<Entry>, NoMemory>
     requires few { count ≤ 64 }
     requires ends { list_all (goes_between count) edges.now ≡ true }
-    ensures { IfOk result (λ table. table ≡ table_of count edges.now) }
+    ensures table { IfOk result (λ table. table ≡ table_of count edges.now) }
+    ensures coefficients { IfOk result (λ table. list_all is_whole_entry table ≡ true) }
 {
     let mut table = List::of(vec![in alloc; Entry::no_edge(); count * count]?);
     for n in (0..edges.len()).rev() {
         let edge = &edges[n];
-        table.set(edge.place(count), edge.entry);
+        table.set(edge.place(count), edge.entry.copied());
     }
     Ok(table)
 }
@@ -95,7 +98,8 @@ pub fn tabled(
 ) -> Result<List<Component>, NoMemory>
     requires few { count ≤ 64 }
     requires ends { list_all (λ k. list_all (goes_between count) k.edges) components ≡ true }
-    ensures { IfOk result (λ ks. ks ≡ map (tabled count) components) }
+    ensures components { IfOk result (λ ks. ks ≡ map (tabled count) components) }
+    ensures coefficients { IfOk result (λ ks. has_coefficients ks ≡ true) }
 {
     let mut all = List::new(alloc);
     for component in components.into_vec() {

@@ -3,7 +3,7 @@ ghost use Rattle.std.specs.Prelude.{◌≡◌, ◌≤◌, ◌⊎◌, true, None,
 ghost use Rattle.std.specs.List.{list_all};
 ghost use Rattle.std.specs.Option.{option_and_then};
 ghost use Rattle.case_model.specs.Draft.{goes_between, have_known_ends, have_known_arrivals};
-ghost use Rattle.case_model.specs.Content.{content_of, tabled, inputs_of};
+ghost use Rattle.case_model.specs.Content.{content_of, tabled, inputs_of, has_coefficients};
 ghost use Rattle.case_model.specs.CaseFaults.{mixed, long_stage_part, stages_fault, part_too_long, alpha_range, fault_before_edges, early_fault, late_fault, case_fault};
 ghost use Rattle.case_model.specs.CaseView.{content};
 ghost use Rattle.case_model.specs.Tables.{are_tables};
@@ -149,6 +149,7 @@ impl Parts {
         requires few { count ≤ 64 }
         requires ends { list_all (λ k. list_all (goes_between count) k.edges) components ≡ true }
         ensures components { IfOk result (λ parts. parts.components ≡ map (tabled count) components) }
+        ensures coefficients { IfOk result (λ parts. has_coefficients parts.components ≡ true) }
         ensures inputs { IfOk result (λ parts. parts.inputs ≡ inputs_of stages p.now) }
         ensures faultless { OnOk result (late_fault count alpha.now stages p.now (map (tabled count) components) ≡ None) }
         ensures fault { IfErr result (λ fault. (fault ≡ OutOfMemory) ⊎ (late_fault count alpha.now stages p.now (map (tabled count) components) ≡ Some fault)) }

@@ -31,12 +31,12 @@ impl Model for Entry {
 }
 
 impl Entry {
-    ghost use Rattle.std.specs.Prelude.{◌≡◌, ◌≤◌};
+    ghost use Rattle.std.specs.Prelude.{◌≡◌, ◌≤◌, true};
     ghost use Rattle.std.specs.List.{list_all};
     ghost use Rattle.fraction.specs.View.{number_of};
     ghost use Rattle.field_core.specs.Arithmetic.{number_zero, number_one, number_compare};
     ghost use Rattle.case_model.specs.Sums.{ratio_at};
-    ghost use Rattle.case_model.specs.Entries.{no_edge, entry_value, is_zero_entry, is_plain_entry};
+    ghost use Rattle.case_model.specs.Entries.{no_edge, entry_value, is_whole_entry, is_zero_entry, is_plain_entry};
     ghost use Rattle.case_model.specs.Draft.{at_most, is_unit, is_short};
 
     /// The entry with these coefficients, by ascending power of epsilon.
@@ -51,6 +51,14 @@ impl Entry {
         ensures { result ≡ no_edge }
     {
         Entry::new([Fraction::zero(); 5])
+    }
+
+    /// A copy, which has a coefficient for each power from 0 to 4.
+    pub(crate) fn copied(&self) -> Entry
+        ensures same { result ≡ self.now }
+        ensures whole { is_whole_entry result ≡ true }
+    {
+        Entry::new(self.coefficients)
     }
 
     /// The coefficient of a power from 0 to 4.

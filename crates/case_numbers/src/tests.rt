@@ -1,3 +1,4 @@
+//! The numbers of cases with and without epsilon.
 use crate::CaseNumber;
 use case_model::Entry;
 use eps_poly::EpsPoly;

@@ -12,14 +12,13 @@ use Rattle.fraction.specs.Laws.PlainLaws.{plain_is_exact}
 use Rattle.case_model.specs.declared.draft.Draft.{Draft}
 use Rattle.case_model.specs.declared.fault.CaseFault.{CaseFault}
 use Rattle.case_model.specs.declared.inputs.Inputs.TheVariants.{Single}
-use Rattle.case_model.specs.Sums.{ratio_at, zero_ratio}
+use Rattle.case_model.specs.Sums.{ratio_at, zero_ratio, one_ratio}
 use Rattle.case_model.specs.Entries.{entry_value, is_plain_entry, no_edge}
 use Rattle.case_model.specs.CaseFaults.{case_fault}
 use Rattle.case_model.specs.Content.{Content, content_of, entangled, given}
 use Rattle.case_model.specs.TextbookGraphs.{IsAlone}
 use Rattle.case_model.proofs.PlainEntries.{plain_entry_value}
 use Rattle.case_model.proofs.ValidGraphs.{entry_at-table_of, number-zero}
-use Rattle.catalogue.specs.Quotients.{one_ratio}
 use Rattle.catalogue.specs.NamedGraphs.{constant}
 use Rattle.catalogue.specs.WeightedGraphs.{WeightedGraph, name_of, edges_of, draft_of}
 use Rattle.catalogue.specs.Makings.{made, made_unless}

@@ -7,3 +7,4 @@ pub mod RatiosOf
 pub mod SampleInputs
 pub mod Textbooks
 pub mod Told
+pub mod EqualChains

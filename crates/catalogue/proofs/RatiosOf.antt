@@ -18,7 +18,8 @@ use Rattle.field_core.specs.Fractions.{fraction, one_over}
 use Rattle.field_core.specs.Laws.FractionLaws.{fraction-equal}
 use Rattle.catalogue.specs.NamedGraphs.{part}
 use Rattle.case_model.proofs.Same.{from_single}
-use Rattle.catalogue.specs.Quotients.{one_ratio, are_lowest, ratio_by, ratio_of, quotient}
+use Rattle.catalogue.specs.Quotients.{are_lowest, ratio_by, ratio_of, quotient}
+use Rattle.case_model.specs.Sums.{one_ratio}
 
 -- a fraction stored as 1 is 1/1
 pub one_of : (z : Ratio) → fraction_parts z ≡ plain.one → z ≡ one_ratio

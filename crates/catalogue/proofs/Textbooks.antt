@@ -11,7 +11,7 @@ use Rattle.field_core.specs.Laws.LimitLaws.{limit-fraction}
 use Rattle.field_core.specs.Laws.NumberFieldLaws.{field_zero}
 use Rattle.field_core.specs.declared.ratio.Ratio.{Ratio}
 use Rattle.fraction.specs.View.{number_of}
-use Rattle.case_model.specs.Sums.{ratio_at, zero_ratio, number_at}
+use Rattle.case_model.specs.Sums.{ratio_at, zero_ratio, number_at, one_ratio}
 use Rattle.case_model.specs.Entries.{entry_value}
 use Rattle.case_model.specs.CaseFaults.{case_fault}
 use Rattle.case_model.specs.Content.{Content, content_of, entangled, ForSingle, IsRejectedIn}
@@ -25,7 +25,6 @@ use Rattle.case_model.proofs.HolmNumbers.{holm_decides}
 use Rattle.case_model.proofs.Thresholds.{good_level}
 use Rattle.case_model.proofs.ValidContents.{valid_entangled, shape_of_draft}
 use Rattle.case_model.proofs.ValidGraphs.{number-zero}
-use Rattle.catalogue.specs.Quotients.{one_ratio}
 use Rattle.catalogue.specs.NamedGraphs.{constant, part, holm_graph, sequence_graph, fallback_graph}
 use Rattle.catalogue.specs.WeightedGraphs.{WeightedGraph, draft_of}
 use Rattle.catalogue.specs.Makings.{made}

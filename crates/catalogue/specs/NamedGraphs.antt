@@ -1,8 +1,8 @@
 -- The graphs that have names. Hypotheses are named by their positions, from 0.
-use Rattle.std.specs.Prelude.{ℕ, suc, ◌+◌, ◌-◌, ◌%◌, ◌==◌, List, [], ◌∷◌, Option, Some, None, length, pos, negsuc, nat_lt, if◌then◌else◌}
+use Rattle.std.specs.Prelude.{ℕ, suc, ◌+◌, ◌-◌, ◌%◌, ◌==◌, List, [], ◌∷◌, Option, Some, None, length, replicate, pos, negsuc, nat_lt, if◌then◌else◌}
 use Rattle.field_core.specs.declared.ratio.Ratio.{Ratio}
-use Rattle.case_model.specs.Sums.{zero_ratio, ratio_at}
-use Rattle.catalogue.specs.Quotients.{one_ratio, quotient}
+use Rattle.case_model.specs.Sums.{zero_ratio, ratio_at, one_ratio}
+use Rattle.catalogue.specs.Quotients.{quotient}
 use Rattle.catalogue.specs.WeightedGraphs.{WeightedGraph}
 
 -- a + b * epsilon, as the weight of an edge
@@ -36,6 +36,10 @@ sequence_graph n = record { size = n; weight = λ i. if i == 0 then one_ratio el
 -- fallback, with these weights
 unfoldable pub fallback_graph : List Ratio → WeightedGraph
 fallback_graph ws = record { size = length ws; weight = ratio_at ws; edge = next_edge }
+
+-- the weight 1/n for each of `n` hypotheses
+unfoldable pub equal_weights : ℕ → List Ratio
+equal_weights n = replicate n (part n)
 
 -- Gatekeeping: `a` primary hypotheses share the weight, and each passes it to the `b` secondary ones in equal parts. What a secondary one passes to a primary one, and to another secondary one, is said by `back` and `on`.
 abbrev pub gate_edge : ℕ → ℕ → (ℕ → ℕ → Option (List Ratio)) → List Ratio → ℕ → ℕ → Option (List Ratio)

@@ -7,12 +7,7 @@ use Rattle.field_core.specs.Divisor.{gcd}
 use Rattle.field_core.specs.Terms.{IsReduced}
 use Rattle.field_core.specs.declared.ratio.Ratio.{Ratio}
 use Rattle.fraction.specs.Lowest.{lowest_terms}
-use Rattle.fraction.specs.Plain.{one_reduced}
 use Rattle.case_model.specs.Sums.{zero_ratio}
-
--- 1/1
-abbrev pub one_ratio : Ratio
-one_ratio = record { num = pos 1; den = pos 1; valid = one_reduced }
 
 -- two numbers have no common divisor above 1, the second isn't 0, and both are below 2^127 in size
 abbrev pub are_lowest : ℤ → ℕ → Bool

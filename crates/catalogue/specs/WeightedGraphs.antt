@@ -6,7 +6,7 @@ use Rattle.field_core.specs.declared.ratio.Ratio.{Ratio}
 use Rattle.case_model.specs.declared.draft.Draft.{Draft}
 use Rattle.case_model.specs.declared.draft_component.DraftComponent.{DraftComponent}
 use Rattle.case_model.specs.declared.draft_edge.DraftEdge.{DraftEdge}
-use Rattle.catalogue.specs.Quotients.{one_ratio}
+use Rattle.case_model.specs.Sums.{one_ratio}
 
 -- how many hypotheses there are, the weight of each, and the edge from each to each, where there is one
 pub record WeightedGraph : Type 0 where

@@ -1,10 +1,10 @@
 //! Graphs in which each hypothesis passes its weight to the next one.
-ghost use Rattle.std.specs.Prelude.{◌≡◌, ◌⊎◌, IfOk, IfErr, Ok, Err};
+ghost use Rattle.std.specs.Prelude.{◌≡◌, ◌<◌, ◌⊎◌, IfOk, IfErr, Ok, Err};
 ghost use Rattle.case_model.specs.CaseView.{content};
 ghost use Rattle.case_model.specs.Content.{entangled};
 ghost use Rattle.case_model.specs.Sums.{number_at};
 ghost use Rattle.case_model.specs.TextbookGraphs.{IsSequenceGraph, IsFallbackGraph};
-ghost use Rattle.catalogue.specs.NamedGraphs.{next_edge};
+ghost use Rattle.catalogue.specs.NamedGraphs.{next_edge, equal_weights};
 ghost use Rattle.catalogue.specs.Makings.{sequence_case, fallback_case};
 ghost use Rattle.catalogue.specs.TextbookCases.{DecidesAsSequence, DecidesAsFallback};
 ghost use Rattle.catalogue.specs.declared.fault.CatalogueFault.TheVariants.{NoMemory as OutOfMemory};
@@ -12,9 +12,10 @@ ghost use Rattle.catalogue.specs.declared.fault.CatalogueFault.TheVariants.{NoMe
 use crate::CatalogueFault;
 use crate::draft::made;
 use crate::graph::NamedGraph;
-use crate::quotient::{constant, one, zero};
+use crate::quotient::{constant, one, part, zero};
 use crate::sizes::size_of;
 use case_model::{Case, Entry};
+use field_core::{List, NoMemory};
 use fraction::Fraction;
 use std::alloc::Global;
 
@@ -110,4 +111,34 @@ pub fn fallback(
 {
     size_of(weights.len() as u64)?;
     made(alloc, &Weighted { weights }, alpha, p)
+}
+
+/// The weight 1/n for each of `n` hypotheses.
+#[tactic(auto, unfolding(crate::specs::NamedGraphs::equal_weights))]
+fn equal_weights(alloc: Global, n: usize) -> Result<List<Fraction>, NoMemory>
+    requires { 0 < n }
+    ensures { IfOk result (λ weights. weights ≡ equal_weights n) }
+{
+    let weight = part(n);
+    let mut weights = List::new(alloc);
+    'places: for _ in 0..n {
+        weights.push(weight)?;
+    }
+    Ok(weights)
+}
+
+/// Fallback with the weight 1/n for each of `n` hypotheses, from 1 to 64. `p` has no p-value, or one for each hypothesis.
+#[tactic(auto, using(crate::proofs::EqualChains::size_refused))]
+pub fn equal_fallback(
+    alloc: Global,
+    n: u64,
+    alpha: Fraction,
+    p: &[Fraction],
+) -> Result<Case, CatalogueFault>
+    ensures case { IfOk result (λ c. fallback_case (equal_weights n) alpha p.now ≡ Ok (content c)) }
+    ensures fault { IfErr result (λ fault. (fault ≡ OutOfMemory) ⊎ (fallback_case (equal_weights n) alpha p.now ≡ Err fault)) }
+{
+    let size = size_of(n)?;
+    let weights = equal_weights(alloc, size)?;
+    fallback(alloc, weights.as_slice(), alpha, p)
 }

@@ -1,4 +1,11 @@
 //! Named graphs, and cases that are made from a number.
+//!
+//! Proved:
+//! - `holm`, `fixed_sequence`, `fallback`, `parallel`, `improved_parallel`, `sample`: `case` and `fault` (the case is
+//!   the named graph, by its weights and edges, with the p-values that were handed in; or the first of the faults: a
+//!   size, a seed, a fault of the draft). `sample`: `p_values`.
+//! - `holm`, `fixed_sequence`, `fallback`: `graph`, `rule` (on each case that is made with p-values the closed test
+//!   rejects exactly the hypotheses that the textbook rule rejects).
 #![tactic(auto)]
 
 mod chains;
@@ -12,11 +19,12 @@ mod quotient;
 mod sample_case;
 mod sizes;
 
-pub use chains::{fallback, fixed_sequence};
+pub use chains::{equal_fallback, fallback, fixed_sequence};
 pub use draft::names;
 pub use equal::holm;
 pub use fault::CatalogueFault;
 pub use gates::{improved_parallel, parallel};
+pub use quotient::part;
 pub use sample_case::sample;
 
 #[cfg(test)]

@@ -1,7 +1,7 @@
 //! Quotients of small numbers.
 ghost use Rattle.std.specs.Prelude.{◌≡◌, ◌<◌, pos, negsuc};
-ghost use Rattle.case_model.specs.Sums.{zero_ratio};
-ghost use Rattle.catalogue.specs.Quotients.{quotient, one_ratio};
+ghost use Rattle.case_model.specs.Sums.{zero_ratio, one_ratio};
+ghost use Rattle.catalogue.specs.Quotients.{quotient};
 ghost use Rattle.catalogue.specs.NamedGraphs.{linear, constant, part};
 
 use case_model::Entry;

@@ -1,5 +1,7 @@
 //! Graphs that have names, by their names, weights and edges, and the refusals of sizes and seeds.
-use crate::{CatalogueFault, fallback, fixed_sequence, holm, improved_parallel, parallel, sample};
+use crate::{
+    CatalogueFault, equal_fallback, fallback, fixed_sequence, holm, improved_parallel, parallel, sample,
+};
 use case_model::{Case, CaseFault, Inputs, PartPlace};
 use field_core::{List, NoMemory};
 use fraction::Fraction;
@@ -107,6 +109,11 @@ fn small_graphs(rt: HostRuntime) -> Result<(), Fail> {
         &rt,
         fallback(alloc, &[half, half], alpha, &[]),
         "H1 1/2\nH2 1/2\nH1 H2 1 0\n",
+    )?;
+    expect(
+        &rt,
+        equal_fallback(alloc, 3, alpha, &[]),
+        "H1 1/3\nH2 1/3\nH3 1/3\nH1 H2 1 0\nH2 H3 1 0\n",
     )
 }
 
@@ -154,6 +161,8 @@ fn sizes_and_seeds(rt: HostRuntime) -> Result<(), Fail> {
     assert_eq!(rt; holm(alloc, 0, alpha, &[]).err(), size(0));
     assert_eq!(rt; fixed_sequence(alloc, 65, alpha, &[]).err(), size(65));
     assert_eq!(rt; fallback(alloc, &[], alpha, &[]).err(), size(0));
+    assert_eq!(rt; equal_fallback(alloc, 0, alpha, &[]).err(), size(0));
+    assert_eq!(rt; equal_fallback(alloc, u64::MAX, alpha, &[]).err(), size(u64::MAX));
     assert_eq!(rt; parallel(alloc, 70, 0, alpha, &[]).err(), size(0));
     assert_eq!(rt; parallel(alloc, 60, 5, alpha, &[]).err(), size(65));
     assert_eq!(rt;

@@ -8,6 +8,7 @@ use Rattle.field_core.specs.OrderOfSets.{IsAscending}
 use Rattle.field_core.proofs.Live.{dropping_same, dropping_other}
 use Rattle.field_core.proofs.Members.{number_in, number_none, number_below, number_same, number_dropping, members_number, double}
 use Rattle.field_core.proofs.NextLists.{ascending_last, ascending_short}
+use Rattle.field_core.proofs.SetOrders.{left_append}
 use Rattle.closed_test.specs.Paths.{number_without, IsLeftOutOf}
 
 pub stays : (m first : ℕ) (I : ℕ → Bool) (js : List ℕ) (l : ℕ) → IsAscending m first (js ++ l ∷ []) → I l ≡ true → left_after I js l ≡ true
@@ -22,12 +23,8 @@ pub begins : (m first : ℕ) (js ks : List ℕ) → IsAscending m first (js ++ k
 begins m first [] ks a = tt
 begins m first (j ∷ js) ks a = (a.0, a.1, begins m (suc j) js ks a.2)
 
-left_more : (A : ℕ → Bool) (js : List ℕ) (l i : ℕ) → left_after A (js ++ l ∷ []) i ≡ dropping l (left_after A js) i
-left_more A [] l i = refl
-left_more A (j ∷ js) l i = left_more (dropping j A) js l i
-
 last_out : (js : List ℕ) (l : ℕ) → left_after whole (js ++ l ∷ []) l ≡ false
-last_out js l = left_more whole js l l ∙ dropping_same l (left_after whole js)
+last_out js l = left_append whole js l l ∙ dropping_same l (left_after whole js)
 
 number_whole : (m : ℕ) → set_number m whole + 1 ≡ 2 ^ m
 number_whole zero = rw (number_none whole)
@@ -35,7 +32,7 @@ number_whole (suc m) = let ih = number_whole m in let e = number_in m whole refl
 
 number_more : (m : ℕ) (js : List ℕ) (l : ℕ) → IsAscending m 0 (js ++ l ∷ []) → number_without m (js ++ l ∷ []) + 2 ^ l ≡ number_without m js
 number_more m js l a =
-    let same = number_same m (left_after whole (js ++ l ∷ [])) (dropping l (left_after whole js)) (λ i p. left_more whole js l i) in
+    let same = number_same m (left_after whole (js ++ l ∷ [])) (dropping l (left_after whole js)) (λ i p. left_append whole js l i) in
     let less = number_dropping m l (left_after whole js) (ascending_last m 0 l js a) (stays m 0 whole js l a refl) in
     omega (arith, same, less)
 

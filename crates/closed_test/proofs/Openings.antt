@@ -1,16 +1,12 @@
 -- The opening of a case, which begins the run of each set.
 use Rattle.std.proofs.Common.{◌≡◌, refl, sym, ap, ◌∙◌, ℕ, ◌<◌, List, [], ◌∷◌, ◌++◌, length, get_or, Result, Ok, Err}
-use Rattle.field_core.specs.Steps.{◌>>=◌}
 use Rattle.field_core.specs.declared.place.WideAt.{WideAt}
 use Rattle.case_model.specs.Content.{Content}
 use Rattle.removal.specs.InTurn.{removed_in_turn}
 use Rattle.entangled.specs.CaseRun.{CaseState, case_opening, case_size, case_numbers, case_shares}
 use Rattle.entangled.specs.CaseAfter.{case_after}
+use Rattle.entangled.proofs.CaseRuns.{last_step}
 use Rattle.closed_test.specs.Walks.{IsFirstUndefined, AreStatesAlong, AreLikeTheFirst}
-
-last_step : (r : Result CaseState WideAt) → (r >>= λ x. Ok x) ≡ r
-last_step (Ok x) = refl
-last_step (Err e) = refl
 
 -- the run of the set of all is the opening
 pub only_opened : (c : Content) → case_after c [] ≡ case_opening c

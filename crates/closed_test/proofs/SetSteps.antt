@@ -17,7 +17,7 @@ use Rattle.entangled.specs.CaseRun.{CaseState, case_removal, case_level, case_si
 use Rattle.entangled.specs.CaseAfter.{case_after}
 use Rattle.entangled.proofs.CaseLevels.{case_live, case_sizes}
 use Rattle.entangled.proofs.CaseSteps.{numbers_stay, case_shares_stay}
-use Rattle.sequential.proofs.CaseRuns.{after_next}
+use Rattle.entangled.proofs.CaseRuns.{after_next}
 use Rattle.closed_test.specs.Paths.{number_without}
 use Rattle.closed_test.specs.Walks.{IsTabled, AreTabledTo, AreAllTabled, IsFirstUndefined, AreStatesAlong, AreAlike, AreLikeTheFirst}
 use Rattle.closed_test.proofs.LeftLists.{stays, begins}
@@ -68,7 +68,7 @@ states_next c old new parent rest l states nexts was is along same removal js ks
 -- ---- rows
 
 -- another list has another number
-differs : (m : ℕ) (xs new : List ℕ) → IsAscending m 0 xs → IsAscending m 0 new → ComesBefore xs new → number_without m xs ≢ number_without m new
+pub differs : (m : ℕ) (xs new : List ℕ) → IsAscending m 0 xs → IsAscending m 0 new → ComesBefore xs new → number_without m xs ≢ number_without m new
 differs m xs new a b before e = not_itself new (subst (λ ks. ComesBefore ks new) same before)
   where
     alike : HaveSameMembers m (left_after whole xs) (left_after whole new)

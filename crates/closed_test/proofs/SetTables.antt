@@ -24,7 +24,7 @@ use Rattle.closed_test.specs.SetWeights.{AreIntersectionWeights}
 use Rattle.closed_test.specs.Walks.{AreAllTabled, IsTabled, IsFirstUndefined}
 
 -- the set of the number of a list leaves out the list
-left_out_is : (m n : ℕ) (js : List ℕ) → n ≡ number_without m js → IsAscending m 0 js → left_out m (members n) ≡ js
+pub left_out_is : (m n : ℕ) (js : List ℕ) → n ≡ number_without m js → IsAscending m 0 js → left_out m (members n) ≡ js
 left_out_is m n js e a = list_of_set m js (members n) a (λ i p. sym (ap (λ k. members k i) e ∙ members_number m (left_after whole js) i p))
 
 pub first_wide_set : (c : Content) (js : List ℕ) (n : ℕ) (w : WideAt) → n ≡ number_without (length c.names) js → IsFirstUndefined c js w → IsFirstWideSet c n w

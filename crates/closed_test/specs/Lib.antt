@@ -1,5 +1,6 @@
 pub mod Paths
 pub mod SetRuns
+pub mod SetLists
 pub mod SetWeights
 pub mod SetTests
 pub mod ClosedFaults

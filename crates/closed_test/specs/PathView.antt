@@ -1,7 +1,11 @@
--- The way through all sets as contracts see it. (No public contract cites this.)
+-- The way through all sets as contracts see it.
 use Rattle.std.specs.Prelude.{ℕ, List}
 use Rattle.closed_test.specs.Paths.{IsLeftOutOf}
 use Rattle.closed_test.specs.declared.path.Path.{Path}
+
+-- how many hypotheses there are
+abbrev pub path_size : Path → ℕ
+path_size p = p.size
 
 -- what its set leaves out, ascending
 abbrev pub left_of : Path → List ℕ

@@ -1,4 +1,4 @@
--- Sets beside the lists of what they leave out. (No public contract cites this.)
+-- Sets beside the lists of what they leave out.
 use Rattle.std.specs.Prelude.{◌≡◌, ℕ, List}
 use Rattle.field_core.specs.Sets.{whole}
 use Rattle.field_core.specs.Runs.{left_after}

@@ -1,8 +1,17 @@
 //! All intersections of a case: their weights, and what the local test and the closed test say of them.
+//!
+//! Proved, for at most 16 hypotheses:
+//! - `WeightTable::build`: `weights` (the intersection weight of each hypothesis in each set), `fault` and `defined`
+//!   (too many hypotheses; or the first set, in the order of sets, whose written run is undefined). It loads all nets
+//!   before the first removal and makes one removal a set, depth first.
+//! - `ClosedTable::build`: `local` and `closed` (the local and the closed test of each set), `fault`, `defined`;
+//!   `closed_answers` fills closed answers from any table of local ones (`answers`).
+//! - `Path`, the way through all sets in their order: `set`, `depth`, and `step` to the next one.
 #![tactic(auto)]
 
 mod closed;
 mod fault;
+mod order;
 mod path;
 mod table;
 #[cfg(test)]
@@ -12,5 +21,7 @@ mod weights;
 
 pub use closed::closed_answers;
 pub use fault::ClosedFault;
-pub use table::ClosedTable;
+pub use order::sets_in_order;
+pub use path::Path;
+pub use table::{ClosedTable, single_p_values};
 pub use weights::WeightTable;

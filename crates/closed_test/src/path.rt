@@ -17,16 +17,16 @@ pub struct Path {
 }
 
 impl Path {
-    ghost use Rattle.std.specs.Prelude.{◌≡◌, ◌<◌, ◌≤◌, ◌++◌, [], ◌∷◌, length, IfOk, MatchOption};
-    ghost use Rattle.field_core.specs.OrderOfSets.{IsAscending, IsListStep, IsLastList};
+    ghost use Rattle.std.specs.Prelude.{◌≡◌, ◌<◌, ◌≤◌, ◌++◌, [], ◌∷◌, length, IfOk, IfSome, MatchOption};
+    ghost use Rattle.field_core.specs.OrderOfSets.{ComesBefore, IsAscending, IsListStep, IsLastList};
     ghost use Rattle.closed_test.specs.Paths.{number_without};
-    ghost use Rattle.closed_test.specs.PathView.{left_of, IsPath};
+    ghost use Rattle.closed_test.specs.PathView.{path_size, left_of, IsPath};
 
     /// The first set, that of all hypotheses.
     pub fn new(alloc: Global, size: usize) -> Result<Path, NoMemory>
         requires some { 0 < size }
         requires few { size ≤ 16 }
-        ensures size { IfOk result (λ p. p.size ≡ size) }
+        ensures size { IfOk result (λ p. path_size p ≡ size) }
         ensures path { IfOk result IsPath }
         ensures left { IfOk result (λ p. left_of p ≡ []) }
     {
@@ -42,7 +42,7 @@ impl Path {
     /// The set.
     pub fn set(&self) -> u32
         requires { IsPath self.now }
-        ensures { result ≡ number_without self.now.size (left_of self.now) }
+        ensures { result ≡ number_without (path_size self.now) (left_of self.now) }
     {
         self.set
     }
@@ -83,13 +83,14 @@ impl Path {
         }
     }
 
-    /// Goes to the next set, and gives the last hypothesis that it leaves out; all others that it leaves out begin what was
-    /// left out before. `None` after the last set; the path is then of no use.
+    /// Goes to the next set, which comes later in the order of sets, and gives the last hypothesis that it leaves out; all
+    /// others that it leaves out begin what was left out before. `None` after the last set; the path is then of no use.
     pub fn step(&mut self) -> Option<usize>
         requires { IsPath self.old }
-        ensures size { self.new.size ≡ self.old.size }
+        ensures size { path_size self.new ≡ path_size self.old }
         ensures path { IsPath self.new }
-        ensures step { MatchOption result (IsLastList self.old.size (left_of self.old)) (IsListStep self.old.size (left_of self.old) (left_of self.new)) }
+        ensures step { MatchOption result (IsLastList (path_size self.old) (left_of self.old)) (IsListStep (path_size self.old) (left_of self.old) (left_of self.new)) }
+        ensures later { IfSome result (λ _. ComesBefore (left_of self.old) (left_of self.new)) }
     {
         match self.take_back() {
             None => {

@@ -28,7 +28,7 @@ pub struct ClosedTable {
 }
 
 /// The p-values of a case that has one for each hypothesis.
-fn single_p_values(case: &Case) -> &[Fraction]
+pub fn single_p_values(case: &Case) -> &[Fraction]
     requires { IsSingle (content case.now).inputs }
     ensures inputs { (content case.now).inputs ≡ Single result.now }
     ensures count { length result.now ≡ length (content case.now).names }

@@ -2,7 +2,7 @@
 ghost use Rattle.std.specs.Prelude.{◌<◌, ◌^◌, IsTrue};
 ghost use Rattle.closed_test.specs.WeightsView.{weights_size};
 
-use crate::{ClosedFault, ClosedTable, WeightTable};
+use crate::{ClosedFault, ClosedTable, WeightTable, sets_in_order};
 use case_model::Case;
 use edge_text::read_text;
 use field_core::{Op, Place, WideAt};
@@ -203,5 +203,15 @@ fn sixteen_hypotheses_at_most(rt: HostRuntime) -> Result<(), Fail> {
         refusal(&rt, rt.alloc(), MANY),
         Some(ClosedFault::TooMany(17))
     );
+    Ok(())
+}
+
+/// The sets of two and of three hypotheses: each before those that leave out one more behind its last.
+#[test]
+fn sets_come_in_order(rt: HostRuntime) -> Result<(), Fail> {
+    let two = sets_in_order(rt.alloc(), 2)?;
+    assert_eq!(rt; two.as_slice(), &[3, 2, 0, 1]);
+    let three = sets_in_order(rt.alloc(), 3)?;
+    assert_eq!(rt; three.as_slice(), &[7, 6, 4, 0, 2, 5, 1, 3]);
     Ok(())
 }

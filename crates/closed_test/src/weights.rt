@@ -4,7 +4,7 @@ ghost use Rattle.case_model.specs.CaseView.{content};
 ghost use Rattle.entangled.specs.CaseNetView.{case_state};
 ghost use Rattle.entangled.specs.CaseRun.{CaseState, case_opening};
 ghost use Rattle.closed_test.specs.ClosedFaults.{IsClosedFault};
-ghost use Rattle.sequential.specs.TrialAnswers.{IsOpenFaultOf};
+ghost use Rattle.entangled.specs.OpenFaults.{IsOpenFaultOf};
 
 use crate::ClosedFault;
 use crate::path::Path;

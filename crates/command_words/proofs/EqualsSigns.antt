@@ -3,7 +3,7 @@ use Rattle.std.proofs.Common.{Bool, true, false, ◌==◌, if◌then◌else◌, 
 use Rattle.command_words.specs.WordParts.{IsName}
 use Rattle.command_words.specs.Table.{argument_name}
 use Rattle.command_words.specs.declared.argument.Argument.{Argument}
-use Rattle.command_words.specs.declared.argument.Argument.TheVariants.{Form, Alpha, Priority, To, Size, Seed}
+use Rattle.command_words.specs.declared.argument.Argument.TheVariants.{Form, Alpha, Priority, To, Size, Seed, Graph, Second, File}
 
 -- one byte more
 pub name_more : (text : List ℕ) (k : ℕ) → k < length text → IsName (take k text) → get_or text k 0 ≢ 61 → IsName (take (suc k) text)
@@ -59,3 +59,6 @@ argument_is_name Priority = name_by (argument_name Priority) refl
 argument_is_name To = name_by (argument_name To) refl
 argument_is_name Size = name_by (argument_name Size) refl
 argument_is_name Seed = name_by (argument_name Seed) refl
+argument_is_name Graph = name_by (argument_name Graph) refl
+argument_is_name Second = name_by (argument_name Second) refl
+argument_is_name File = name_by (argument_name File) refl

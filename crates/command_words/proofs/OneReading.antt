@@ -17,7 +17,7 @@ use Rattle.command_words.specs.declared.verb.Verb.{Verb}
 use Rattle.command_words.proofs.CountTexts.{one_count}
 use Rattle.command_words.proofs.EqualsSigns.{no_equals, one_name, argument_is_name}
 use Rattle.command_words.proofs.LevelTexts.{one_level}
-use Rattle.command_words.proofs.OneName.{one_verb, one_argument, one_form, one_priority}
+use Rattle.command_words.proofs.OneName.{one_verb, one_argument, one_form, one_graph, one_priority}
 
 -- ---- values
 
@@ -29,6 +29,9 @@ one_value verb arguments.Priority v w text h k = one_priority v w (sym h ∙ k)
 one_value verb arguments.To v w text h k = one_form v w (sym h ∙ k)
 one_value verb arguments.Size v w text h k = one_count text v w h k
 one_value verb arguments.Seed v w text h k = one_count text v w h k
+one_value verb arguments.Graph v w text h k = one_graph v w (sym h ∙ k)
+one_value verb arguments.Second v w text h k = one_count text v w h k
+one_value verb arguments.File v w text h k = refl
 
 one_choice : (verb : Verb) (c d : Chosen) (text : List ℕ) → c.argument ≡ d.argument → IsSpelled verb c text → IsSpelled verb d text → c ≡ d
 one_choice verb c d text e h k =

@@ -1,9 +1,10 @@
 -- Commands, as contracts see them.
-use Rattle.std.specs.Prelude.{ℕ, Option, None}
+use Rattle.std.specs.Prelude.{ℕ, Option, Some, None}
 use Rattle.command_words.specs.Levels.{Level, level_of}
 use Rattle.command_words.specs.declared.command.CaseTask.{CaseTask}
 use Rattle.command_words.specs.declared.command.Command.{Command}
 use Rattle.command_words.specs.declared.command.Command.TheVariants as commands
+use Rattle.command_words.specs.declared.graph_name.SizedGraph.{SizedGraph}
 use Rattle.command_words.specs.declared.form.CaseForm.{CaseForm}
 use Rattle.command_words.specs.declared.form.CaseForm.TheVariants as forms
 
@@ -16,6 +17,8 @@ pub data Written : Type 0 where
 -- what is to be done
 pub data Asked : Type 0 where
   on_case : Written → CaseTask → Asked
+  catalogue : SizedGraph → Asked
+  check : Written → (file : ℕ) → Asked
   sample : (size seed : ℕ) → Asked
   help : Asked
 
@@ -26,11 +29,15 @@ written forms.Json = json
 
 abbrev pub asked : Command → Asked
 asked (commands.OnCase form task) = on_case (written form) task
+asked (commands.Catalogue graph) = catalogue graph
+asked (commands.Check form file) = check (written form) file
 asked (commands.Sample size seed) = sample size seed
 asked commands.Help = help
 
 -- the place, from 0, of the word that names the file of a proof
 unfoldable pub file_of : Asked → Option ℕ
 file_of (on_case form task) = None
+file_of (catalogue graph) = None
+file_of (check form file) = Some file
 file_of (sample size seed) = None
 file_of help = None

@@ -2,16 +2,17 @@
 use Rattle.std.specs.Prelude.{◌≡◌, ℕ, List, Contains}
 use Rattle.command_words.specs.Counts.{IsCount}
 use Rattle.command_words.specs.Levels.{Level, level_of, IsLevel}
-use Rattle.command_words.specs.Table.{forms_of, form_name, priority_name}
+use Rattle.command_words.specs.Table.{forms_of, form_name, graph_name, priority_name}
 use Rattle.command_words.specs.declared.argument.Argument.{Argument}
 use Rattle.command_words.specs.declared.argument.Argument.TheVariants as arguments
 use Rattle.command_words.specs.declared.choice.Choice.{Choice}
 use Rattle.command_words.specs.declared.choice.Choice.TheVariants as choices
 use Rattle.command_words.specs.declared.form.Form.{Form}
+use Rattle.command_words.specs.declared.graph_name.GraphName.{GraphName}
 use Rattle.command_words.specs.declared.verb.Verb.{Verb}
 use Rattle.sequential.specs.declared.priority.Priority.{Priority}
 
--- the values of an argument
+-- the values of an argument; of a file only its place is kept
 abbrev pub Value : Argument → Type 0
 Value arguments.Form = Form
 Value arguments.Alpha = Level
@@ -19,6 +20,9 @@ Value arguments.Priority = Priority
 Value arguments.To = Form
 Value arguments.Size = ℕ
 Value arguments.Seed = ℕ
+Value arguments.Graph = GraphName
+Value arguments.Second = ℕ
+Value arguments.File = Unit {0}
 
 -- An argument with its value.
 pub record Chosen : Type 0 where
@@ -32,6 +36,9 @@ chosen (choices.Priority priority) = record { argument = arguments.Priority; val
 chosen (choices.To form) = record { argument = arguments.To; value = form }
 chosen (choices.Size size) = record { argument = arguments.Size; value = size }
 chosen (choices.Seed seed) = record { argument = arguments.Seed; value = seed }
+chosen (choices.Graph graph) = record { argument = arguments.Graph; value = graph }
+chosen (choices.Second second) = record { argument = arguments.Second; value = second }
+chosen choices.File = record { argument = arguments.File; value = tt }
 
 -- a command knows the text of a value
 abbrev pub Spells : Verb → (argument : Argument) → Value argument → List ℕ → Type 0
@@ -41,6 +48,9 @@ Spells verb arguments.Priority priority text = text ≡ priority_name priority
 Spells verb arguments.To form text = text ≡ form_name form
 Spells verb arguments.Size size text = IsCount text size
 Spells verb arguments.Seed seed text = IsCount text seed
+Spells verb arguments.Graph graph text = text ≡ graph_name graph
+Spells verb arguments.Second second text = IsCount text second
+Spells verb arguments.File named text = Unit {0}
 
 abbrev pub IsSpelled : Verb → Chosen → List ℕ → Type 0
 IsSpelled verb choice text = Spells verb choice.argument choice.value text

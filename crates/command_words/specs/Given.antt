@@ -1,8 +1,9 @@
 -- What the arguments say.
-use Rattle.std.specs.Prelude.{ℕ, ◌+◌, Bool, Option, Some, None, is_some}
+use Rattle.std.specs.Prelude.{ℕ, ◌+◌, Bool, true, false, Option, Some, None, is_some}
 use Rattle.std.specs.Option.{option_map}
-use Rattle.command_words.specs.Asked.{Asked, Written, text, csv, json, on_case as task_on_case, sample, help}
+use Rattle.command_words.specs.Asked.{Asked, Written, text, csv, json, on_case as task_on_case, check, catalogue, sample, help}
 use Rattle.command_words.specs.Choices.{Value, Chosen}
+use Rattle.command_words.specs.Graphs.{sized, has_second}
 use Rattle.command_words.specs.Levels.{Level, level_of}
 use Rattle.command_words.specs.declared.argument.Argument.{Argument}
 use Rattle.command_words.specs.declared.argument.Argument.TheVariants as arguments
@@ -11,12 +12,13 @@ use Rattle.command_words.specs.declared.command.CaseTask.TheVariants as tasks
 use Rattle.command_words.specs.declared.form.Form.{Form}
 use Rattle.command_words.specs.declared.form.Form.TheVariants as forms
 use Rattle.command_words.specs.declared.given.Given.{Given}
+use Rattle.command_words.specs.declared.graph_name.GraphName.{GraphName}
 use Rattle.command_words.specs.declared.verb.Verb.{Verb}
 use Rattle.command_words.specs.declared.verb.Verb.TheVariants as verbs
 use Rattle.sequential.specs.declared.priority.Priority.{Priority}
 use Rattle.sequential.specs.declared.priority.Priority.TheVariants.{First}
 
--- The values that were given, and the number, from 1, of the word with the name `alpha`, or 0 where it isn't given.
+-- The values that were given, the numbers, from 1, of the words with the names `alpha` and `second`, or 0 where they aren't given, and the place, from 0, of the word that names a file.
 pub record GivenContent : Type 0 where
   pub form : Option Form
   pub alpha : Option Level
@@ -25,6 +27,10 @@ pub record GivenContent : Type 0 where
   pub to : Option Form
   pub size : Option ℕ
   pub seed : Option ℕ
+  pub graph : Option GraphName
+  pub second : Option ℕ
+  pub second_word : ℕ
+  pub file : Option ℕ
 
 abbrev pub given_content : Given → GivenContent
 given_content g = record {
@@ -35,10 +41,14 @@ given_content g = record {
   to = g.to;
   size = g.size;
   seed = g.seed;
+  graph = g.graph;
+  second = g.second;
+  second_word = g.second_word;
+  file = g.file;
 }
 
 abbrev pub nothing : GivenContent
-nothing = record { form = None; alpha = None; alpha_word = 0; priority = None; to = None; size = None; seed = None }
+nothing = record { form = None; alpha = None; alpha_word = 0; priority = None; to = None; size = None; seed = None; graph = None; second = None; second_word = 0; file = None }
 
 -- an argument was given
 abbrev pub is_given : GivenContent → Argument → Bool
@@ -48,6 +58,9 @@ is_given g arguments.Priority = is_some g.priority
 is_given g arguments.To = is_some g.to
 is_given g arguments.Size = is_some g.size
 is_given g arguments.Seed = is_some g.seed
+is_given g arguments.Graph = is_some g.graph
+is_given g arguments.Second = is_some g.second
+is_given g arguments.File = is_some g.file
 
 -- the same, and a value whose first word stands at a place, from 0
 abbrev pub with_value : ℕ → GivenContent → (argument : Argument) → Value argument → GivenContent
@@ -57,6 +70,9 @@ with_value at g arguments.Priority priority = record g { priority = Some priorit
 with_value at g arguments.To form = record g { to = Some form }
 with_value at g arguments.Size size = record g { size = Some size }
 with_value at g arguments.Seed seed = record g { seed = Some seed }
+with_value at g arguments.Graph graph = record g { graph = Some graph }
+with_value at g arguments.Second second = record g { second = Some second; second_word = at + 1 }
+with_value at g arguments.File named = record g { file = Some at }
 
 abbrev pub with_chosen : ℕ → GivenContent → Chosen → GivenContent
 with_chosen at g choice = with_value at g choice.argument choice.value
@@ -87,6 +103,24 @@ priority_or_first (Some priority) = priority
 unfoldable pub on_case : GivenContent → CaseTask → Option Asked
 on_case g task = option_map (λ form. task_on_case form task) (written_of g)
 
+-- a named graph needs its name, its size, and its second size where it has one
+abbrev pub catalogue_by : Option GraphName → Option ℕ → Option ℕ → Option Asked
+catalogue_by (Some graph) (Some size) second = option_map catalogue (sized graph size second)
+catalogue_by (Some graph) None second = None
+catalogue_by None size second = None
+
+unfoldable pub catalogue_of : GivenContent → Option Asked
+catalogue_of g = catalogue_by g.graph g.size g.second
+
+-- a check needs its file, and how its case is written
+abbrev pub check_by : Option Written → Option ℕ → Option Asked
+check_by (Some form) (Some file) = Some (check form file)
+check_by (Some form) None = None
+check_by None file = None
+
+unfoldable pub check_of : GivenContent → Option Asked
+check_of g = check_by (written_of g) g.file
+
 -- a sample needs its size and its seed
 abbrev pub sample_by : Option ℕ → Option ℕ → Option Asked
 sample_by (Some size) (Some seed) = Some (sample size seed)
@@ -99,8 +133,12 @@ sample_of g = sample_by g.size g.seed
 -- what a command asks for; nothing, where something is missing
 abbrev pub asked_of : Verb → GivenContent → Option Asked
 asked_of verbs.Test g = on_case g (tasks.Test (priority_or_first g.priority))
+asked_of verbs.Weights g = on_case g tasks.Weights
+asked_of verbs.Bounds g = on_case g tasks.Bounds
 asked_of verbs.Stages g = on_case g tasks.Stages
+asked_of verbs.Check g = check_of g
 asked_of verbs.Canon g = on_case g (tasks.Canon (form_or_text g.to))
+asked_of verbs.Catalogue g = catalogue_of g
 asked_of verbs.Sample g = sample_of g
 asked_of verbs.Help g = Some help
 
@@ -112,6 +150,26 @@ forbidden_alpha forms.Csv alpha word = None
 forbidden_alpha forms.Text alpha word = option_map (λ x. word) alpha
 forbidden_alpha forms.Json alpha word = option_map (λ x. word) alpha
 
--- the number, from 1, of the first word with the name of an option that the others forbid
+unfoldable pub alpha_forbidden : GivenContent → Option ℕ
+alpha_forbidden g = forbidden_alpha (form_or_text g.form) g.alpha g.alpha_word
+
+-- a second size is given, and the graph has none
+abbrev pub forbidden_if : Bool → Option ℕ → ℕ → Option ℕ
+forbidden_if true second word = None
+forbidden_if false second word = option_map (λ x. word) second
+
+abbrev pub forbidden_second : Option GraphName → Option ℕ → ℕ → Option ℕ
+forbidden_second None second word = None
+forbidden_second (Some graph) second word = forbidden_if (has_second graph) second word
+
+unfoldable pub second_forbidden : GivenContent → Option ℕ
+second_forbidden g = forbidden_second g.graph g.second g.second_word
+
+-- the first of two words, where there is one
+abbrev pub first_word : Option ℕ → Option ℕ → Option ℕ
+first_word (Some word) other = Some word
+first_word None other = other
+
+-- the number, from 1, of the word with the name of an option that the others forbid; no command takes both
 unfoldable pub forbidden_word : GivenContent → Option ℕ
-forbidden_word g = forbidden_alpha (form_or_text g.form) g.alpha g.alpha_word
+forbidden_word g = first_word (alpha_forbidden g) (second_forbidden g)

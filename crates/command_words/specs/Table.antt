@@ -1,9 +1,11 @@
 -- The names of commands, arguments and values, and what each command takes.
-use Rattle.std.specs.Prelude.{ℕ, List, [], ◌∷◌, Option, None, codes}
+use Rattle.std.specs.Prelude.{ℕ, List, [], ◌∷◌, Option, Some, None, codes}
 use Rattle.command_words.specs.declared.argument.Argument.{Argument}
 use Rattle.command_words.specs.declared.argument.Argument.TheVariants as arguments
 use Rattle.command_words.specs.declared.form.Form.{Form}
 use Rattle.command_words.specs.declared.form.Form.TheVariants.{Text, Csv, Json}
+use Rattle.command_words.specs.declared.graph_name.GraphName.{GraphName}
+use Rattle.command_words.specs.declared.graph_name.GraphName.TheVariants.{Holm, FixedSequence, Fallback, Parallel, ImprovedParallel}
 use Rattle.command_words.specs.declared.verb.Verb.{Verb}
 use Rattle.command_words.specs.declared.verb.Verb.TheVariants as verbs
 use Rattle.sequential.specs.declared.priority.Priority.{Priority}
@@ -13,28 +15,42 @@ use Rattle.sequential.specs.declared.priority.Priority.TheVariants.{First, Last,
 
 unfoldable pub verb_name : Verb → List ℕ
 verb_name verbs.Test = codes "test"
+verb_name verbs.Weights = codes "weights"
+verb_name verbs.Bounds = codes "bounds"
 verb_name verbs.Stages = codes "stages"
+verb_name verbs.Check = codes "check"
 verb_name verbs.Canon = codes "canon"
+verb_name verbs.Catalogue = codes "catalogue"
 verb_name verbs.Sample = codes "sample"
 verb_name verbs.Help = codes "help"
 
 -- the options that a command takes
 unfoldable pub options_of : Verb → List Argument
 options_of verbs.Test = arguments.Form ∷ arguments.Alpha ∷ arguments.Priority ∷ []
+options_of verbs.Weights = arguments.Form ∷ arguments.Alpha ∷ []
+options_of verbs.Bounds = arguments.Form ∷ arguments.Alpha ∷ []
 options_of verbs.Stages = arguments.Form ∷ []
+options_of verbs.Check = arguments.Form ∷ arguments.Alpha ∷ []
 options_of verbs.Canon = arguments.Form ∷ arguments.Alpha ∷ arguments.To ∷ []
+options_of verbs.Catalogue = arguments.Size ∷ arguments.Second ∷ []
 options_of verbs.Sample = arguments.Size ∷ arguments.Seed ∷ []
 options_of verbs.Help = []
 
--- what a word without a name gives, where a command takes one; none does yet
+-- what a word without a name gives, where a command takes one
 unfoldable pub operand_of : Verb → Option Argument
+operand_of verbs.Catalogue = Some arguments.Graph
+operand_of verbs.Check = Some arguments.File
 operand_of verb = None
 
 -- the forms in which a command reads its case
 unfoldable pub forms_of : Verb → List Form
 forms_of verbs.Test = Text ∷ Csv ∷ Json ∷ []
+forms_of verbs.Weights = Text ∷ Csv ∷ Json ∷ []
+forms_of verbs.Bounds = Text ∷ Csv ∷ Json ∷ []
 forms_of verbs.Stages = Text ∷ Json ∷ []
+forms_of verbs.Check = Text ∷ Csv ∷ Json ∷ []
 forms_of verbs.Canon = Text ∷ Csv ∷ Json ∷ []
+forms_of verbs.Catalogue = []
 forms_of verbs.Sample = []
 forms_of verbs.Help = []
 
@@ -47,6 +63,9 @@ argument_name arguments.Priority = codes "priority"
 argument_name arguments.To = codes "to"
 argument_name arguments.Size = codes "size"
 argument_name arguments.Seed = codes "seed"
+argument_name arguments.Graph = codes "graph"
+argument_name arguments.Second = codes "second"
+argument_name arguments.File = codes "file"
 
 -- ---- values
 
@@ -54,6 +73,13 @@ unfoldable pub form_name : Form → List ℕ
 form_name Text = codes "text"
 form_name Csv = codes "csv"
 form_name Json = codes "json"
+
+unfoldable pub graph_name : GraphName → List ℕ
+graph_name Holm = codes "holm"
+graph_name FixedSequence = codes "fixed-sequence"
+graph_name Fallback = codes "fallback"
+graph_name Parallel = codes "parallel"
+graph_name ImprovedParallel = codes "improved-parallel"
 
 unfoldable pub priority_name : Priority → List ℕ
 priority_name First = codes "first"

@@ -9,6 +9,9 @@ pub(crate) enum Argument {
     To,
     Size,
     Seed,
+    Graph,
+    Second,
+    File,
 }
 
 impl Argument {
@@ -28,6 +31,9 @@ impl Argument {
             b"to" => Some(Argument::To),
             b"size" => Some(Argument::Size),
             b"seed" => Some(Argument::Seed),
+            b"graph" => Some(Argument::Graph),
+            b"second" => Some(Argument::Second),
+            b"file" => Some(Argument::File),
             _ => None,
         }
     }

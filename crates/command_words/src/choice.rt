@@ -8,6 +8,7 @@ ghost use Rattle.command_words.specs.declared.argument.Argument.TheVariants as a
 use crate::argument::Argument;
 use crate::count::count_spelt;
 use crate::form::Form;
+use crate::graph_name::GraphName;
 use crate::verb::Verb;
 use fraction::Fraction;
 use sequential::Priority;
@@ -21,6 +22,9 @@ pub(crate) enum Choice {
     To(Form),
     Size(u64),
     Seed(u64),
+    Graph(GraphName),
+    Second(u64),
+    File,
 }
 
 /// The priority of a name.
@@ -68,6 +72,9 @@ impl Choice {
             Argument::To => Some(Choice::To(Form::named(text)?)),
             Argument::Size => Some(Choice::Size(count_spelt(text)?)),
             Argument::Seed => Some(Choice::Seed(count_spelt(text)?)),
+            Argument::Graph => Some(Choice::Graph(GraphName::named(text)?)),
+            Argument::Second => Some(Choice::Second(count_spelt(text)?)),
+            Argument::File => Some(Choice::File),
         }
     }
 }

@@ -2,12 +2,15 @@
 ghost use Rattle.std.specs.Prelude.{◌≡◌};
 
 use crate::form::{CaseForm, Form};
+use crate::graph_name::SizedGraph;
 use sequential::Priority;
 
 /// What is to be done with a case alone.
 #[derive(Clone, Copy, PartialEq, Eq, Debug)]
 pub enum CaseTask {
     Test(Priority),
+    Weights,
+    Bounds,
     Stages,
     Canon(Form),
 }
@@ -16,6 +19,10 @@ pub enum CaseTask {
 #[derive(Clone, Copy)]
 pub enum Command {
     OnCase(CaseForm, CaseTask),
+    /// The case of a named graph.
+    Catalogue(SizedGraph),
+    /// A check of evidence for a case; the word at the place `file`, from 0, names the file of the evidence.
+    Check { form: CaseForm, file: usize },
     /// A sample of a size, from a seed.
     Sample { size: u64, seed: u64 },
     Help,
@@ -30,7 +37,11 @@ impl Command {
         ensures { result ≡ file_of (asked self.now) }
     {
         match self {
-            Command::OnCase(_, _) | Command::Sample { .. } | Command::Help => None,
+            Command::Check { file, .. } => Some(*file),
+            Command::OnCase(_, _)
+            | Command::Catalogue(_)
+            | Command::Sample { .. }
+            | Command::Help => None,
         }
     }
 }

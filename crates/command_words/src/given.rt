@@ -4,11 +4,13 @@ use crate::argument::Argument;
 use crate::choice::Choice;
 use crate::command::{CaseTask, Command};
 use crate::form::{CaseForm, Form};
+use crate::graph_name::GraphName;
 use crate::verb::Verb;
 use fraction::Fraction;
 use sequential::Priority;
 
-/// The values that were given so far, and the number, from 1, of the word with the name `alpha`, or 0 where it isn't given.
+/// The values that were given so far, the numbers, from 1, of the words with the names `alpha` and `second`, or 0 where they
+/// aren't given, and the place, from 0, of the word that names a file.
 #[derive(Clone, Copy)]
 pub(crate) struct Given {
     form: Option<Form>,
@@ -18,6 +20,10 @@ pub(crate) struct Given {
     to: Option<Form>,
     size: Option<u64>,
     seed: Option<u64>,
+    graph: Option<GraphName>,
+    second: Option<u64>,
+    second_word: usize,
+    file: Option<usize>,
 }
 
 impl Given {
@@ -25,7 +31,7 @@ impl Given {
     ghost use Rattle.std.specs.Option.{option_map};
     ghost use Rattle.command_words.specs.Asked.{asked, written};
     ghost use Rattle.command_words.specs.Choices.{chosen};
-    ghost use Rattle.command_words.specs.Given.{given_content, is_given, nothing, with_chosen, written_of, on_case, sample_of, asked_of, forbidden_word};
+    ghost use Rattle.command_words.specs.Given.{given_content, is_given, nothing, with_chosen, written_of, on_case, check_of, catalogue_of, sample_of, asked_of, alpha_forbidden, second_forbidden, forbidden_word};
 
     pub(crate) fn new() -> Given
         ensures { given_content result ≡ nothing }
@@ -38,6 +44,10 @@ impl Given {
             to: None,
             size: None,
             seed: None,
+            graph: None,
+            second: None,
+            second_word: 0,
+            file: None,
         }
     }
 
@@ -52,6 +62,9 @@ impl Given {
             Argument::To => self.to.is_some(),
             Argument::Size => self.size.is_some(),
             Argument::Seed => self.seed.is_some(),
+            Argument::Graph => self.graph.is_some(),
+            Argument::Second => self.second.is_some(),
+            Argument::File => self.file.is_some(),
         }
     }
 
@@ -71,6 +84,12 @@ impl Given {
             Choice::To(form) => given.to = Some(form),
             Choice::Size(size) => given.size = Some(size),
             Choice::Seed(seed) => given.seed = Some(seed),
+            Choice::Graph(graph) => given.graph = Some(graph),
+            Choice::Second(second) => {
+                given.second = Some(second);
+                given.second_word = at + 1;
+            }
+            Choice::File => given.file = Some(at),
         }
         given
     }
@@ -96,6 +115,26 @@ impl Given {
         Some(Command::OnCase(form, task))
     }
 
+    /// A named graph; `None` where something is missing.
+    #[tactic(auto, unfolding(crate::specs::Given::catalogue_of))]
+    fn catalogue(&self) -> Option<Command>
+        ensures { option_map asked result ≡ catalogue_of (given_content self.now) }
+    {
+        let graph = self.graph?;
+        let size = self.size?;
+        graph.sized(size, self.second).map(Command::Catalogue)
+    }
+
+    /// A check; `None` where something is missing.
+    #[tactic(auto, unfolding(crate::specs::Given::check_of))]
+    fn check(&self) -> Option<Command>
+        ensures { option_map asked result ≡ check_of (given_content self.now) }
+    {
+        let form = self.case_form()?;
+        let file = self.file?;
+        Some(Command::Check { form, file })
+    }
+
     /// A sample; `None` where something is missing.
     #[tactic(auto, unfolding(crate::specs::Given::sample_of))]
     fn sample(&self) -> Option<Command>
@@ -112,21 +151,49 @@ impl Given {
     {
         match verb {
             Verb::Test => self.on_case(CaseTask::Test(self.priority.unwrap_or(Priority::First))),
+            Verb::Weights => self.on_case(CaseTask::Weights),
+            Verb::Bounds => self.on_case(CaseTask::Bounds),
             Verb::Stages => self.on_case(CaseTask::Stages),
+            Verb::Check => self.check(),
             Verb::Canon => self.on_case(CaseTask::Canon(self.to.unwrap_or(Form::Text))),
+            Verb::Catalogue => self.catalogue(),
             Verb::Sample => self.sample(),
             Verb::Help => Some(Command::Help),
         }
     }
 
-    /// The number, from 1, of the first word with the name of an option that the others forbid.
-    #[tactic(auto, unfolding(crate::specs::Given::forbidden_word))]
-    pub(crate) fn forbidden(&self) -> Option<usize>
-        ensures { result ≡ forbidden_word (given_content self.now) }
+    /// The number, from 1, of the word with the name `alpha`, where the form forbids it.
+    #[tactic(auto, unfolding(crate::specs::Given::alpha_forbidden))]
+    fn forbidden_alpha(&self) -> Option<usize>
+        ensures { result ≡ alpha_forbidden (given_content self.now) }
     {
         match (self.form, self.alpha) {
             (Some(Form::Csv), _) | (_, None) => None,
             (_, Some(_)) => Some(self.alpha_word),
+        }
+    }
+
+    /// The number, from 1, of the word with the name `second`, where the graph forbids it.
+    #[tactic(auto, unfolding(crate::specs::Given::second_forbidden))]
+    fn forbidden_second(&self) -> Option<usize>
+        ensures { result ≡ second_forbidden (given_content self.now) }
+    {
+        let graph = self.graph?;
+        if graph.has_second() {
+            return None;
+        }
+        self.second?;
+        Some(self.second_word)
+    }
+
+    /// The number, from 1, of the word with the name of an option that the others forbid. No command takes both.
+    #[tactic(auto, unfolding(crate::specs::Given::forbidden_word))]
+    pub(crate) fn forbidden(&self) -> Option<usize>
+        ensures { result ≡ forbidden_word (given_content self.now) }
+    {
+        match self.forbidden_alpha() {
+            Some(word) => Some(word),
+            None => self.forbidden_second(),
         }
     }
 }

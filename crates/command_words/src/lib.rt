@@ -1,4 +1,7 @@
 //! What the words of a call ask for.
+//!
+//! Proved: `read_words` answers the command that the words ask for, or the number of the first word at which they
+//! fail (`given`, `refused`), by a table of commands, options and values; the law `words_are_decided`.
 #![tactic(auto)]
 
 mod argument;
@@ -7,6 +10,7 @@ mod command;
 mod count;
 mod form;
 mod given;
+mod graph_name;
 pub mod laws;
 mod reading;
 #[cfg(test)]
@@ -16,4 +20,5 @@ mod word;
 
 pub use command::{CaseTask, Command};
 pub use form::{CaseForm, Form};
+pub use graph_name::SizedGraph;
 pub use reading::read_words;

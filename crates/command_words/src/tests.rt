@@ -23,7 +23,9 @@ fn on_case(command: &Command) -> Option<(CaseTask, Option<(i128, i128)>)> {
             Some((*task, Some((alpha.num(), alpha.den()))))
         }
         Command::OnCase(_, task) => Some((*task, None)),
-        Command::Sample { .. } | Command::Help => None,
+        Command::Check { .. } | Command::Catalogue(_) | Command::Sample { .. } | Command::Help => {
+            None
+        }
     }
 }
 
@@ -104,6 +106,34 @@ fn words_fail_at_a_word(rt: HostRuntime) -> Result<(), Fail> {
     ];
     for (words, number) in rows {
         assert_eq!(rt; failing_word(alloc, words)?, Some(number));
+    }
+    Ok(())
+}
+
+/// The place of the word that names a file.
+fn file_of(alloc: Global, words: &[&str]) -> Result<Option<usize>, NoMemory> {
+    let words = words_of(alloc, words)?;
+    match read_words(words.as_slice()) {
+        Ok(command) => Ok(command.file()),
+        Err(_) => Ok(None),
+    }
+}
+
+#[test]
+fn checks_have_a_file(rt: HostRuntime) -> Result<(), Fail> {
+    let alloc = rt.alloc();
+    let rows: [(&[&str], Option<usize>); 8] = [
+        (&["check", "proof.txt"], Some(1)),
+        (&["check", ""], Some(1)),
+        (&["check", "--form", "csv", "-", "--alpha=1/20"], Some(3)),
+        (&["check", "--form=json", "check"], Some(2)),
+        (&["check"], None),
+        (&["check", "a", "b"], None),
+        (&["check", "--file", "a"], None),
+        (&["test"], None),
+    ];
+    for (words, place) in rows {
+        assert_eq!(rt; file_of(alloc, words)?, place);
     }
     Ok(())
 }

@@ -7,8 +7,12 @@ use crate::form::Form;
 #[derive(Clone, Copy, PartialEq, Eq, Debug)]
 pub(crate) enum Verb {
     Test,
+    Weights,
+    Bounds,
     Stages,
+    Check,
     Canon,
+    Catalogue,
     Sample,
     Help,
 }
@@ -25,8 +29,12 @@ impl Verb {
     {
         match name {
             b"test" => Some(Verb::Test),
+            b"weights" => Some(Verb::Weights),
+            b"bounds" => Some(Verb::Bounds),
             b"stages" => Some(Verb::Stages),
+            b"check" => Some(Verb::Check),
             b"canon" => Some(Verb::Canon),
+            b"catalogue" => Some(Verb::Catalogue),
             b"sample" => Some(Verb::Sample),
             b"help" => Some(Verb::Help),
             _ => None,
@@ -40,8 +48,12 @@ impl Verb {
     {
         match self {
             Verb::Test => &[Argument::Form, Argument::Alpha, Argument::Priority],
+            Verb::Weights => &[Argument::Form, Argument::Alpha],
+            Verb::Bounds => &[Argument::Form, Argument::Alpha],
             Verb::Stages => &[Argument::Form],
+            Verb::Check => &[Argument::Form, Argument::Alpha],
             Verb::Canon => &[Argument::Form, Argument::Alpha, Argument::To],
+            Verb::Catalogue => &[Argument::Size, Argument::Second],
             Verb::Sample => &[Argument::Size, Argument::Seed],
             Verb::Help => &[],
         }
@@ -54,18 +66,25 @@ impl Verb {
     {
         match self {
             Verb::Test => &[Form::Text, Form::Csv, Form::Json],
+            Verb::Weights => &[Form::Text, Form::Csv, Form::Json],
+            Verb::Bounds => &[Form::Text, Form::Csv, Form::Json],
             Verb::Stages => &[Form::Text, Form::Json],
+            Verb::Check => &[Form::Text, Form::Csv, Form::Json],
             Verb::Canon => &[Form::Text, Form::Csv, Form::Json],
-            Verb::Sample | Verb::Help => &[],
+            Verb::Catalogue | Verb::Sample | Verb::Help => &[],
         }
     }
 
-    /// What a word without a name gives, where the command takes one. None does yet.
+    /// What a word without a name gives, where the command takes one.
     #[tactic(auto, unfolding(crate::specs::Table::operand_of))]
     pub(crate) fn operand(self) -> Option<Argument>
         ensures { result ≡ operand_of self }
     {
-        None
+        match self {
+            Verb::Catalogue => Some(Argument::Graph),
+            Verb::Check => Some(Argument::File),
+            _ => None,
+        }
     }
 
     /// Whether the command takes an option.

@@ -1,3 +1,5 @@
+//! Why a text is no edge expression.
+
 /// Why a text gives no entry.
 ///
 /// `Depth` is tested first and then `BadByte`. The other four are found while the expression is evaluated from left to

@@ -1,3 +1,4 @@
+//! The text of an entry.
 ghost use Rattle.std.specs.Prelude.{◌≡◌, ◌≤◌, ◌<◌, ◌++◌, OnOk, OnErr};
 ghost use Rattle.field_core.specs.View.{terms};
 ghost use Rattle.field_core.specs.Texts.{IsBegun};

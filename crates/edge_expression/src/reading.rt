@@ -1,3 +1,4 @@
+//! The reader of edge expressions.
 ghost use Rattle.std.specs.Prelude.{◌≡◌, List as Seq, IfOk, IfErr, Ok};
 ghost use Rattle.field_core.specs.declared.ratio.Ratio.{Ratio};
 ghost use Rattle.edge_expression.specs.EntryReading.{IsEntryText, IsExprFault};

@@ -1,3 +1,4 @@
+//! The bytes and the parentheses of edge expressions.
 ghost use Rattle.edge_expression.specs.EntryReading.{IsScanned};
 
 use crate::ExprFault;

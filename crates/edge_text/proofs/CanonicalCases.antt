@@ -1,5 +1,5 @@
 -- The canonical text of a case says that case, and tells it apart from others.
-use Rattle.std.proofs.Common.{◌≡◌, refl, sym, ap, subst, ◌∙◌, ℕ, ◌*◌, ◌<◌, ◌≤◌, ◌==◌, ◌&&◌, length, get_or, nat_le, true, Some, arith}
+use Rattle.std.proofs.Common.{◌≡◌, refl, sym, ap, subst, ◌∙◌, ℕ, ◌*◌, ◌<◌, ◌≤◌, ◌==◌, ◌&&◌, List, length, get_or, nat_le, true, Some, arith}
 use Rattle.std.specs.Prelude.{slice_get}
 use Rattle.std.specs.List.{list_all}
 use Rattle.std.specs.Option.{option_map}
@@ -17,7 +17,7 @@ use Rattle.case_model.specs.declared.spend.Spend.{Spend}
 use Rattle.case_model.specs.declared.spend.Spend.TheVariants.{Shares, Table}
 use Rattle.case_model.specs.CaseView.{content}
 use Rattle.case_model.specs.Draft.{is_short, is_short_p_value, is_p_value, is_unit, is_stage, arrives_among, ArePValues}
-use Rattle.case_model.specs.Content.{Content, content_of, component_at, empty_component, IfSingle, IfStaged, AreStages, is_arrival}
+use Rattle.case_model.specs.Content.{Content, content_of, component_at, empty_component, IfSingle, IfStaged, AreStages, is_arrival, has_coefficients}
 use Rattle.case_model.specs.ValidDraft.{Each, IsValidComponent, IsValidSpend, AreValidStages, IsValidDraft}
 use Rattle.case_model.specs.Validity.{IsValidContent}
 use Rattle.case_model.proofs.DraftTests.{all_each, each_all}
@@ -28,7 +28,6 @@ use Rattle.case_model.proofs.ValidContents.{HasShape, shape}
 use Rattle.case_model.specs.Entries.{no_edge}
 use Rattle.edge_text.specs.Reading.{IsCaseOf}
 use Rattle.edge_text.specs.CanonicalText.{canonical_text}
-use Rattle.edge_text.specs.CanonicalStatements.{has_coefficients, HasCoefficients}
 use Rattle.edge_text.proofs.OneReading.{one_case}
 use Rattle.edge_text.proofs.CanonicalDrafts.{edges_from, untabled, stages_in, draft_of, five, SomeValues, content_back}
 use Rattle.edge_text.proofs.CanonicalValidity.{canonical_faultless, edges_each}
@@ -58,11 +57,11 @@ arrival_said m count a few h =
     let stage : a.stage ≤ count = grind (arith, nat_tests, t.right) in
     record { known = known; stage = omega arith; p = p_said a.p w.right }
 
-module _ (c : Content) (v : IsValidContent c) (h : has_coefficients c ≡ true) where
+module _ (c : Content) (v : IsValidContent c) (h : has_coefficients c.components ≡ true) where
   abbrev m : ℕ
   m = length c.names
 
-  valid : IsValidDraft (draft_of c)
+  pub valid : IsValidDraft (draft_of c)
   valid = valid_draft (draft_of c) (canonical_faultless c v h)
 
   shaped : HasShape c
@@ -106,7 +105,7 @@ module _ (c : Content) (v : IsValidContent c) (h : has_coefficients c ≡ true) 
         arrivals = λ i a e. arrival_said m s.count a t.few (all_each (is_arrival m s.count) s.arrivals t.arrivals i a e);
       }
 
-  content_said : IsContentSaid c
+  pub content_said : IsContentSaid c
   content_said = record {
     words = λ i n e. name_is_word n (valid.names.form i n e);
     apart = distinct c.names valid.names.distinct;
@@ -121,14 +120,15 @@ module _ (c : Content) (v : IsValidContent c) (h : has_coefficients c ≡ true) 
   some_values (Single ps) p = let n : length ps ≡ m = p.count in let some : 0 < m = shaped.some in omega arith
   some_values (Staged s) p = tt
 
-  same_content : content_of (draft_of c) ≡ c
+  pub same_content : content_of (draft_of c) ≡ c
   same_content = content_back c shaped.some
       (each_all (λ k. length k.edges == m * m) c.components (λ i k e. let n : length k.edges ≡ m * m = size_is i k e in grind (arith, nat_tests)))
       h (some_values c.inputs shaped.p_values)
 
-pub canonical_reads_back : (case : Case) → HasCoefficients case → IsCaseOf (canonical_text (content case)) case
-canonical_reads_back case h =
+pub canonical_reads_back : (case : Case) → IsCaseOf (canonical_text (content case)) case
+canonical_reads_back case =
     let c = content case in
+    let h = case.coefficients in
     record {
       draft = draft_of c;
       says = canonical_says c (content_said c case.valid h);
@@ -136,10 +136,11 @@ canonical_reads_back case h =
       content_is = sym (same_content c case.valid h);
     }
 
-pub canonical_apart : (a b : Case) → HasCoefficients a → HasCoefficients b → canonical_text (content a) ≡ canonical_text (content b)
-    → content a ≡ content b
-canonical_apart a b h k e = one_case (canonical_text (content b)) a b (subst (λ t. IsCaseOf t a) e (canonical_reads_back a h)) (canonical_reads_back b k)
+pub says_its_case : (case : Case) (text : List ℕ) → text ≡ canonical_text (content case) → IsCaseOf text case
+says_its_case case text e = subst (λ t. IsCaseOf t case) (sym e) (canonical_reads_back case)
 
-pub canonical_again : (a b : Case) → HasCoefficients a → IsCaseOf (canonical_text (content a)) b
-    → canonical_text (content b) ≡ canonical_text (content a)
-canonical_again a b h k = ap canonical_text (one_case (canonical_text (content a)) b a k (canonical_reads_back a h))
+pub canonical_apart : (a b : Case) → canonical_text (content a) ≡ canonical_text (content b) → content a ≡ content b
+canonical_apart a b e = one_case (canonical_text (content b)) a b (subst (λ t. IsCaseOf t a) e (canonical_reads_back a)) (canonical_reads_back b)
+
+pub canonical_again : (a b : Case) → IsCaseOf (canonical_text (content a)) b → canonical_text (content b) ≡ canonical_text (content a)
+canonical_again a b k = ap canonical_text (one_case (canonical_text (content a)) b a k (canonical_reads_back a))

@@ -5,10 +5,9 @@ use Rattle.std.proofs.lemmas.Bool.Decides.{nat_tests, Decides-int_eq}
 use Rattle.std.proofs.lemmas.List.{same_lists, get_or_default}
 use Rattle.std.proofs.lemmas.List.FromFn.{length-map-range_with_len, get_or-map-range_with_len}
 use Rattle.std.specs.List.{list_all, range_with_len}
-use Rattle.std.specs.Prelude.{unsigned_abs, ◌<ℤ◌}
 use Rattle.std.proofs.lemmas.Int.{ints}
-use Rattle.field_core.proofs.Stein.{gcd_of_zero}
-use Rattle.field_core.specs.Terms.{Terms, IsReduced}
+use Rattle.fraction.proofs.AtOnce.{den_of_zero}
+use Rattle.field_core.specs.Terms.{Terms}
 use Rattle.field_core.specs.View.{terms}
 use Rattle.field_core.specs.declared.ratio.Ratio.{Ratio}
 use Rattle.fraction.specs.Tests.{is_zero}
@@ -23,10 +22,9 @@ use Rattle.case_model.specs.declared.inputs.Inputs.{Inputs}
 use Rattle.case_model.specs.declared.inputs.Inputs.TheVariants.{Bare, Single, Staged}
 use Rattle.case_model.specs.Draft.{has_ends}
 use Rattle.case_model.specs.Entries.{no_edge}
-use Rattle.case_model.specs.Content.{Content, content_of, edge_between, table_of, tabled, given, inputs_of}
+use Rattle.case_model.specs.Content.{Content, content_of, edge_between, table_of, tabled, given, inputs_of, has_coefficients}
 use Rattle.case_model.proofs.Holding.{both}
 use Rattle.edge_text.specs.CanonicalText.{is_absent}
-use Rattle.edge_text.specs.CanonicalStatements.{has_coefficients}
 
 -- ---- the draft
 
@@ -68,16 +66,10 @@ draft_of c = record {
 
 -- ---- an absent edge is none
 
-zero_den : (t : Terms) → IsReduced t → t.num ≡ pos 0 → t.den ≡ pos 1
-zero_den t r e =
-    let one : unsigned_abs t.den ≡ 1 = gcd_of_zero (unsigned_abs t.num) (unsigned_abs t.den) (ap unsigned_abs e) ∙ r.reduced in
-    let some : pos 0 <ℤ t.den = r.positive in
-    omega (arith, ints)
-
 zero_is : (x : Ratio) → is_zero (terms x) ≡ true → x ≡ zero_ratio
 zero_is x h =
     let n : x.num ≡ pos 0 = (Decides-int_eq x.num (pos 0)).0 h in
-    same_ratio x zero_ratio (ap₂ (λ n d. record { num = n; den = d }) n (zero_den (terms x) x.valid n))
+    same_ratio x zero_ratio (ap₂ (λ n d. record { num = n; den = d }) n (den_of_zero (terms x) x.valid n))
 
 pub absent_is : (e : List Ratio) → length e ≡ 5 → is_absent e ≡ true → e ≡ no_edge
 unfolding is_absent ratio_at
@@ -203,7 +195,7 @@ inputs_back (Single ps) h = single_back ps h
 inputs_back (Staged s) h = refl
 
 pub content_back : (c : Content) → 0 < length c.names → list_all (λ k. length k.edges == length c.names * length c.names) c.components ≡ true
-    → has_coefficients c ≡ true → SomeValues c.inputs → content_of (draft_of c) ≡ c
+    → has_coefficients c.components ≡ true → SomeValues c.inputs → content_of (draft_of c) ≡ c
 unfolding content_of has_coefficients
 content_back c some tables five v =
     ap₂ (λ ks i. record { names = c.names; alpha = c.alpha; components = ks; inputs = i })

@@ -22,7 +22,7 @@ use Rattle.case_model.specs.declared.inputs.Inputs.{Inputs}
 use Rattle.case_model.specs.declared.inputs.Inputs.TheVariants.{Bare, Single, Staged}
 use Rattle.case_model.specs.Draft.{has_ends, is_short_p_value, is_p_value, is_unit, ArePValues}
 use Rattle.case_model.specs.Entries.{no_edge, entry_at, entry_value}
-use Rattle.case_model.specs.Content.{Content, content_of, edge_between, table_of, tabled, given, inputs_of, IfSingle}
+use Rattle.case_model.specs.Content.{Content, content_of, edge_between, table_of, tabled, given, inputs_of, IfSingle, has_coefficients}
 use Rattle.case_model.specs.CaseFaults.{case_fault, written_row}
 use Rattle.case_model.specs.ValidDraft.{Each, EachTwo, SumsTo, CanSum, IsValidComponent, AreValidPlaces, IsValidDraft, HasWrittenSums}
 use Rattle.case_model.specs.Validity.{IsValidContent}
@@ -34,7 +34,6 @@ use Rattle.case_model.proofs.FaultlessDrafts.{valid_draft, written_sums, no_faul
 use Rattle.case_model.proofs.ValidContents.{good_inputs}
 use Rattle.case_model.specs.Sums.{ratio_at}
 use Rattle.edge_text.specs.CanonicalText.{is_absent}
-use Rattle.edge_text.specs.CanonicalStatements.{has_coefficients}
 use Rattle.edge_text.proofs.CanonicalDrafts.{edge_at, before, edges_from, untabled, p_of, stages_in, draft_of, five, table_back}
 
 -- ---- items of lists
@@ -50,7 +49,7 @@ pub each_cons : {A : Type 0} (P : A → Type 0) (x : A) (xs : List A) → P x �
 each_cons P x xs p h zero y e = subst P (some_same x y e) p
 each_cons P x xs p h (suc i) y e = h i y e
 
-two_cons : {A : Type 0} (P : A → A → Type 0) (x : A) (xs : List A) → Each xs (P x) → EachTwo xs P → EachTwo (x ∷ xs) P
+pub two_cons : {A : Type 0} (P : A → A → Type 0) (x : A) (xs : List A) → Each xs (P x) → EachTwo xs P → EachTwo (x ∷ xs) P
 two_cons P x xs p h zero zero y z l e f = absurd (omega arith)
 two_cons P x xs p h zero (suc j) y z l e f = subst (λ w. P w z) (some_same x y e) (p j z f)
 two_cons P x xs p h (suc i) zero y z l e f = absurd (omega arith)
@@ -235,7 +234,7 @@ unmixed (Staged t) s e = refl
 
 -- ---- the draft
 
-module _ (d : Draft) (h : case_fault d ≡ None) (five_each : has_coefficients (content_of d) ≡ true) where
+module _ (d : Draft) (h : case_fault d ≡ None) (five_each : has_coefficients (content_of d).components ≡ true) where
   abbrev m : ℕ
   m = length d.names
 
@@ -282,8 +281,8 @@ none_is None h = refl
 none_is (Some x) h = absurd (cc)
 
 -- the draft of a valid content has no fault
-pub canonical_faultless : (c : Content) → IsValidContent c → has_coefficients c ≡ true → case_fault (draft_of c) ≡ None
+pub canonical_faultless : (c : Content) → IsValidContent c → has_coefficients c.components ≡ true → case_fault (draft_of c) ≡ None
 canonical_faultless c v h =
     none_is (case_fault (draft_of c)) (∥∥₁_elim v (Bool-set (is_none (case_fault (draft_of c))) true) (λ f.
-    let g : has_coefficients (content_of f.draft) ≡ true = subst (λ c. has_coefficients c ≡ true) (sym f.content_is) h in
+    let g : has_coefficients (content_of f.draft).components ≡ true = subst (λ c. has_coefficients c.components ≡ true) (sym f.content_is) h in
     subst (λ c. is_none (case_fault (draft_of c)) ≡ true) f.content_is (ap is_none (again_faultless f.draft f.faultless g))))

@@ -14,13 +14,12 @@ use Rattle.field_core.specs.Terms.{Terms, IsReduced}
 use Rattle.field_core.specs.View.{terms}
 use Rattle.field_core.specs.declared.ratio.Ratio.{Ratio}
 use Rattle.fraction.specs.Numeral.{AreDigits}
-use Rattle.fraction.specs.Plain.{one_reduced}
 use Rattle.fraction.specs.Spelling.{spelling, IsSpellingByte}
 use Rattle.fraction.specs.Tests.{is_zero, is_one, is_within, absolute}
 use Rattle.fraction.specs.View.{number_of}
 use Rattle.fraction.proofs.ReadBack.{digits_from, read_back, spelling_bytes, spelling_some}
 use Rattle.case_model.specs.Draft.{at_most, is_name, is_name_byte, is_short, is_short_level, is_short_p_value, is_unit}
-use Rattle.case_model.specs.Sums.{terms_at, zero_ratio}
+use Rattle.case_model.specs.Sums.{terms_at, zero_ratio, one_ratio}
 use Rattle.case_model.specs.ValidDraft.{Each}
 use Rattle.case_model.proofs.Comparisons.{le_is, zero_is, one_is}
 use Rattle.case_model.proofs.Holding.{both}
@@ -28,6 +27,7 @@ use Rattle.text_lines.specs.Spelling.{IsPlain, IsWord}
 use Rattle.edge_expression.specs.EntryReading.{IsShallow, IsEntryText}
 use Rattle.edge_expression.specs.EntryTexts.{power_text, factor_text, joint_text, joined_term, term_text, terms_text, are_zero_below, coefficients_text, entry_text}
 use Rattle.edge_expression.specs.Expressions.{Token, IsSpelt, Spells, Expression, expression_tokens}
+use Rattle.case_model.proofs.Thresholds.{unit_parts}
 use Rattle.edge_text.specs.Grammar.{Says, IsWholeNumber}
 use Rattle.edge_text.specs.CanonicalText.{number_word}
 
@@ -86,24 +86,6 @@ short_said x h = within_said (10 ^ 18) x (lit< tt) h
 
 pub level_said : (x : Ratio) → is_short_level x ≡ true → IsSaid x
 level_said x h = within_said 10000 x (lit< tt) h
-
-int_le : (a b : ℤ) → is_le (int_cmp a b) ≡ true → a ≤ℤ b
-int_le a b h = grind (arith, nat_tests, ints)
-
-one_ratio : Ratio
-one_ratio = record { num = pos 1; den = pos 1; valid = one_reduced }
-
--- the numerator of a number from 0 to 1 is at most the denominator
-unit_parts : (x : Ratio) → is_unit (number_of x) ≡ true → unsigned_abs x.num ≤ unsigned_abs x.den
-unfolding one_ratio
-unit_parts x h =
-    let b = both (at_most number_zero (number_of x)) (at_most (number_of x) number_one) h in
-    let low : (pos 0 *ℤ x.den) ≤ℤ (x.num *ℤ pos 1) =
-    int_le _ _ (le_is zero_ratio x ∙ ap (λ z. at_most z (number_of x)) (zero_is zero_ratio refl) ∙ b.left) in
-    let high : (x.num *ℤ pos 1) ≤ℤ (pos 1 *ℤ x.den) =
-    int_le _ _ (le_is x one_ratio ∙ ap (at_most (number_of x)) (one_is one_ratio refl) ∙ b.right) in
-    let some = x.valid.positive in
-    omega (arith, ints)
 
 below_limit : (n d : ℕ) → n ≤ d → d ≤ 10 ^ 30 → (n < 10 ^ 38) × (d < 10 ^ 38)
 below_limit n d h k = let l : 10 ^ 30 < 10 ^ 38 = lit< tt in (omega arith, omega arith)

@@ -79,8 +79,3 @@ pub other_kind : (number : ℕ) (P Q : LineKind → Type 0) (fault : TextFault) 
 other_kind number P Q (faults.Line n kind) h f = (f.0, h kind f.1)
 other_kind number P Q (faults.Case refused) h f = f
 other_kind number P Q faults.NoMemory h f = tt
-
--- a fault that is handed on
-pub handed_on : {B E : Type 0} (result : Result B E) (x : E) (P : E → Type 0) → IsErrAnd result (λ y. y ≡ x) → P x → IfErr result P
-handed_on (Ok b) x P h p = tt
-handed_on (Err y) x P h p = subst P (sym h) p

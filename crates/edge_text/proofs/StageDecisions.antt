@@ -1,6 +1,6 @@
 -- Just one thing is so of the words of a line of stages, or they have one kind of fault.
 use Rattle.std.proofs.lemmas.Bool.Decides.{nat_tests}
-use Rattle.edge_text.proofs.WholeNumbers.{are_digits, digits_tested}
+use Rattle.fraction.proofs.WholeNumbers.{are_digits, digits_tested, one_number}
 use Rattle.std.proofs.Common.{◌≡◌, ◌<◌, ◌≤◌, ◌+◌, nat_lt, ℕ, ◌⊎◌, inl, inr, true, false, List, [], ◌∷◌, length, Option, Some, None, Result, Ok, Err, refl, sym, ap, subst, ◌∙◌, arith}
 use Rattle.std.specs.List.{list_all}
 use Rattle.std.specs.Char.{is_ascii_digit}
@@ -22,9 +22,6 @@ use Rattle.edge_text.proofs.WordDecisions.{Holds, Decided, numeral, numbers, kno
 at_most : (m n : ℕ) → (m ≤ n) ⊎ (n < m)
 at_most m n = elim (cases_Bool (nat_lt n m)) [ inl t ↦ inr (grind (arith, nat_tests, t)) | inr f ↦ inl (grind (arith, nat_tests, f)) ]
 
-same_whole : (word : List ℕ) (m n : ℕ) → IsWholeNumber word m → IsWholeNumber word n → m ≡ n
-same_whole word m n h k = h.writes ∙ sym k.writes
-
 whole_number : (word : List ℕ) → ((n : ℕ) × IsWholeNumber word n) ⊎ ((n : ℕ) → ¬ IsWholeNumber word n)
 whole_number [] = inr (λ n h. let few : 0 < length {A = ℕ} [] = h.some in absurd (omega arith))
 whole_number (b ∷ bs) =
@@ -40,7 +37,7 @@ whole_by : (word : List ℕ) → ((n : ℕ) × IsWholeNumber word n) ⊎ ((n : �
 whole_by word (inl h) = record {
   answer = Ok h.0;
   holds = h.1;
-  only = λ n k. ap Ok (same_whole word h.0 n h.1 k);
+  only = λ n k. ap Ok (one_number 9 word h.0 n h.1 k);
   only_fault = λ kind b. absurd (b.0 h.0 h.1);
 }
 whole_by word (inr h) = record {
@@ -256,7 +253,7 @@ module _ (names : Words) (name stage numeral_word : List ℕ) where
           let same : i ≡ a.hypothesis = same_place name names i a.hypothesis is (said_name a k) in
           let e : Ok x ≡ Ok a.p = only a.p (said_p a k) in
           let p : x ≡ a.p = cc in
-          let s : n ≡ a.stage = same_whole stage n a.stage w (said_stage a k) in
+          let s : n ≡ a.stage = one_number 9 stage n a.stage w (said_stage a k) in
           λ j. Ok (record { hypothesis = same j; stage = s j; p = p j });
       only_fault = λ kind b. elim (arrived_fault kind b) [ inl g ↦ absurd (g.0 n w) | inr g ↦ absurd (let e : Ok x ≡ Err kind = only_fault kind g.1 in cc) ];
     }

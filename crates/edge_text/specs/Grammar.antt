@@ -1,10 +1,10 @@
 -- What lines say, and which lists of lines are documents.
 use Rattle.std.specs.Prelude.{◌≡◌, ◌<◌, ◌≤◌, ◌⊎◌, ℕ, List, [], ◌∷◌, ◌++◌, Option, Some, None, map, length, codes, pos}
 use Rattle.std.specs.List.{AllZip, flat_map}
-use Rattle.std.specs.Str.Parse.{digits_value}
 use Rattle.field_core.specs.declared.ratio.Ratio.{Ratio}
 use Rattle.field_core.specs.View.{terms}
-use Rattle.fraction.specs.Numeral.{IsNumeralOf, AreDigits}
+use Rattle.fraction.specs.Numeral.{IsNumeralOf}
+use Rattle.fraction.specs.WholeNumbers.{WritesNumber}
 use Rattle.fraction.specs.Plain.{one_reduced}
 use Rattle.case_model.specs.declared.draft.Draft.{Draft}
 use Rattle.case_model.specs.declared.draft_component.DraftComponent.{DraftComponent}
@@ -88,11 +88,8 @@ abbrev pub IsEdgeLine : List (List ℕ) → List ℕ → DraftEdge → Type 0
 IsEdgeLine names line edge = IsLineOf (codes "edge") line (λ words. IsEdge names line words edge)
 
 -- 1 to 9 digits that write this number
-pub record IsWholeNumber (word : List ℕ) (number : ℕ) : Type 0 where
-  pub digits : AreDigits word
-  pub some : 0 < length word
-  pub few : length word ≤ 9
-  pub writes : number ≡ digits_value 10 word
+abbrev pub IsWholeNumber : List ℕ → ℕ → Type 0
+IsWholeNumber word number = WritesNumber 9 word number
 
 -- one such number
 pub record IsCount (words : Words) (count : ℕ) : Type 0 where

@@ -1,3 +1,4 @@
+//! Why a text gives no case.
 use crate::ExprFault;
 use case_model::Refused;
 use field_core::NoMemory;

@@ -1,4 +1,20 @@
 //! The text form of cases.
+//!
+//! Proved:
+//! - `read_text`: `case` (the text is a document by the grammar, `IsText`, which says a draft without fault, and the
+//!   case has its content), `fault` (the first line that can't stand, with its number and kind, `IsFirstFault`; or
+//!   else the first fault of the draft, with its names).
+//! - `write_text`: the canonical text of a case (its only clause).
+//! - Laws in `src/laws.rt`: a text says at most one draft, has at most one first fault, and one of the two and never
+//!   both; the first fault is exactly where no document goes on. `canonical_texts_read_back`: the canonical text is
+//!   read as the same case (`back`), tells cases apart (`apart`), and is the canonical text of what is read
+//!   (`again`). `expressions_are_decided`: an expression has one entry or one fault, and not both.
+//!
+//! Tables of texts stand beside the proofs, with their lines by hand.
+//!
+//! The whole form is read and written: one graph or several with their shares, stages with what each hypothesis
+//! spends, by a list or a table, and p-values that arrived. What is written is read back as the same case, for every
+//! case.
 #![tactic(auto)]
 
 mod document;
@@ -9,7 +25,6 @@ mod read;
 mod reading;
 mod rules;
 mod spend_words;
-mod whole;
 mod write;
 mod write_stages;
 mod write_words;

@@ -1,3 +1,4 @@
+//! The reader of texts.
 ghost use Rattle.std.specs.Prelude.{◌≡◌, ◌≢◌, ◌⊎◌, IfOk, IfErr};
 ghost use Rattle.case_model.specs.declared.fault.CaseFault.TheVariants.{NoMemory as OutOfMemory};
 ghost use Rattle.edge_text.specs.Reading.{IsCaseOf, IsTextFault};

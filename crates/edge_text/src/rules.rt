@@ -9,11 +9,10 @@ ghost use Rattle.edge_text.specs.View.{IsOnLine, SayShares, SayStep, AreGiven, I
 
 use crate::ends::Ends;
 use crate::spend_words::{SharesWords, StepWords};
-use crate::whole::whole_number;
 use crate::{LineKind, TextFault, read_entry};
 use case_model::{Arrival, DraftEdge, Entry, NameIndex, SpendStep};
 use field_core::{List, NoMemory, Text};
-use fraction::Fraction;
+use fraction::{Fraction, whole_number};
 use std::alloc::Global;
 use text_lines::{Line, Words};
 
@@ -127,8 +126,8 @@ fn whole(line: &Line, word: &[u8]) -> Result<u64, TextFault>
     ensures found { IfOk result (IsWholeNumber word.now) }
     ensures fault { IfErr result (IsOnLine line.now.number (IsWholeFault word.now)) }
 {
-    match whole_number(word) {
-        Some(number) => Ok(number),
+    match whole_number(word, 9) {
+        Some(number) => Ok(number as u64),
         None => Err(TextFault::Line(line.number, LineKind::Whole)),
     }
 }

@@ -4,6 +4,7 @@ ghost use Rattle.case_model.specs.CaseView.{content};
 ghost use Rattle.case_model.specs.Content.{component_at};
 ghost use Rattle.text_lines.specs.Spelling.{text_of};
 ghost use Rattle.edge_text.specs.CanonicalText.{alpha_words, names_words, p_words, share_words, weights_words, edge_words, is_zero_at, is_absent, edge_lines, table_lines, is_alone, share_lines, block_lines, blocks_lines, p_lines, late_lines, canonical_text};
+ghost use Rattle.edge_text.specs.Reading.{IsCaseOf};
 ghost use Rattle.edge_text.specs.View.{line_of};
 
 use crate::print_entry;
@@ -195,14 +196,9 @@ fn put_staged(text: &mut List<u8>, case: &Case) -> Result<(), NoMemory>
     }
 }
 
-/// The canonical text of a case, or `NoMemory`.
-///
-/// Words stand one blank apart, and a line feed behind each line. Numbers are in lowest terms, as `Fraction::print` writes
-/// them. Of the edges of a component those that aren't 0 are written, by ascending first and then second end, as
-/// `print_entry` writes them. One component of share 1 has no line of its share. A table of levels stays one, and the
-/// p-values that arrived keep their order.
+/// The lines of a case, in their order.
 #[tactic(auto, unfolding(crate::specs::CanonicalText::canonical_text, crate::specs::CanonicalText::canonical_lines))]
-pub fn write_text(alloc: Global, case: &Case) -> Result<List<u8>, NoMemory>
+fn written(alloc: Global, case: &Case) -> Result<List<u8>, NoMemory>
     ensures { IfOk result (λ text. text ≡ canonical_text (content case.now)) }
 {
     let mut text = List::new(alloc);
@@ -212,4 +208,18 @@ pub fn write_text(alloc: Global, case: &Case) -> Result<List<u8>, NoMemory>
     put_blocks(&mut text, case)?;
     put_staged(&mut text, case)?;
     Ok(text)
+}
+
+/// The canonical text of a case, or `NoMemory`.
+///
+/// Words stand one blank apart, and a line feed behind each line. Numbers are in lowest terms, as `Fraction::print` writes
+/// them. Of the edges of a component those that aren't 0 are written, by ascending first and then second end, as
+/// `print_entry` writes them. One component of share 1 has no line of its share. A table of levels stays one, and the
+/// p-values that arrived keep their order.
+#[tactic(auto, using(crate::proofs::CanonicalCases::says_its_case))]
+pub fn write_text(alloc: Global, case: &Case) -> Result<List<u8>, NoMemory>
+    ensures canonical { IfOk result (λ text. text ≡ canonical_text (content case.now)) }
+    ensures says { IfOk result (λ text. IsCaseOf text case.now) }
+{
+    written(alloc, case)
 }

@@ -5,6 +5,7 @@ pub mod BundleLevels
 pub mod CaseGraphs
 pub mod CaseLevels
 pub mod CaseNumbers
+pub mod CaseRuns
 pub mod CaseStart
 pub mod CaseStates
 pub mod CaseSteps

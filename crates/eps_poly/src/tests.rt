@@ -1,3 +1,4 @@
+//! Polynomials with their sums, products, quotients and factors, worked by hand.
 ghost use Rattle.std.specs.Prelude.{◌≤◌, length};
 
 use crate::EpsPoly;

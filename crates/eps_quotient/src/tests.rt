@@ -1,3 +1,4 @@
+//! Quotients with their operations and texts, worked by hand.
 use crate::EpsQuotient;
 use eps_poly::EpsPoly;
 use field_core::{List, Number, Op, Ratio, TooWide, Whole};

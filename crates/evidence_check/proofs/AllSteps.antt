@@ -1,5 +1,5 @@
 -- Checks at all places, one after the other.
-use Rattle.std.proofs.Common.{◌≡◌, ◌⊎◌, inl, inr, refl, sym, ap, ◌∙◌, ℕ, zero, suc, ◌+◌, ◌<◌, ◌≤◌, Result, Ok, Err, add-one, arith}
+use Rattle.std.proofs.Common.{◌≡◌, ◌⊎◌, inl, inr, refl, ap, ◌∙◌, ℕ, zero, suc, ◌+◌, ◌≤◌, Result, Ok, Err, add-one, arith}
 use Rattle.field_core.specs.Steps.{◌>>=◌}
 use Rattle.evidence_check.specs.declared.event.Event.{Event}
 use Rattle.evidence_check.specs.CheckSteps.{all_below}

@@ -10,27 +10,26 @@ use Rattle.field_core.specs.declared.place.Place.{Place}
 use Rattle.field_core.specs.declared.place.Place.TheVariants.{Edge}
 use Rattle.field_core.specs.declared.place.TooWide.{TooWide}
 use Rattle.field_core.specs.declared.ratio.Ratio.{Ratio}
-use Rattle.fraction.specs.Plain.{IsFraction}
 use Rattle.fraction.specs.View.{number_of}
 use Rattle.case_model.specs.declared.inputs.Inputs.{Inputs}
 use Rattle.case_model.specs.declared.inputs.Inputs.TheVariants.{Bare, Single, Staged}
 use Rattle.case_model.specs.Sums.{ratio_at, number_at}
-use Rattle.case_model.specs.Entries.{entry_at, entry_value, no_edge}
+use Rattle.case_model.specs.Entries.{entry_at, entry_value}
 use Rattle.case_model.specs.Content.{Content, component_at, entangled, ForSingle, IsRejectedIn}
 use Rattle.case_model.specs.Validity.{IsValidContent}
 use Rattle.case_model.specs.ClosedTest.{IsRejected}
 use Rattle.case_model.specs.LegalOrder.{IsListed}
 use Rattle.case_model.proofs.ExactSums.{stored_single, value_single}
 use Rattle.case_model.proofs.Thresholds.{good_level}
-use Rattle.case_model.proofs.ValidContents.{HasShape, shape, valid_content}
-use Rattle.case_numbers.specs.Numbers.{Numbers, numbers_of, CanRunIn, kind_of, IsStoredIn, loaded_edge}
-use Rattle.case_numbers.proofs.Components.{IsComponent, is_component, place, can_run, can_load}
-use Rattle.case_numbers.proofs.LoadedNumbers.{exact_in, CanLoad, weight_loaded, edge_loaded}
-use Rattle.evidence_check.specs.Evidence.{MeetsConditions, KeepsOthers, listed}
+use Rattle.case_model.proofs.ValidContents.{shape, valid_content}
+use Rattle.case_numbers.specs.Numbers.{Numbers, numbers_of, CanRunIn, kind_of, IsStoredIn}
+use Rattle.case_numbers.proofs.Components.{is_component, place, can_run, can_load}
+use Rattle.case_numbers.proofs.LoadedNumbers.{exact_in, weight_loaded, edge_loaded}
+use Rattle.evidence_check.specs.Evidence.{KeepsOthers, listed}
 use Rattle.evidence_check.specs.EvidenceParts.{StepParts, KeepParts, step_values}
-use Rattle.evidence_check.specs.CheckSteps.{written_at, numbered, all_below}
+use Rattle.evidence_check.specs.CheckSteps.{written_at}
 use Rattle.evidence_check.specs.WrittenCheck.{written_check}
-use Rattle.evidence_check.specs.CheckStatements.{IsLoaded, AreStoredSteps, evidence_values}
+use Rattle.evidence_check.specs.CheckStatements.{IsLoaded, AreStoredSteps}
 use Rattle.evidence_check.specs.CaseCheck.{p_values_of, IsSingle, given_or, written_edge, AllLoad, loaded_case, edge_load, row_load, component_load, all_loads, check_in, case_check, AreStepsOf, values_in, MeetsIn}
 use Rattle.evidence_check.proofs.GoodSteps.{listed_rejected, kept_decides}
 use Rattle.evidence_check.proofs.Tells.{Tells, TellsAt, tells_bind_at, numbered_tells, all_tells_or}

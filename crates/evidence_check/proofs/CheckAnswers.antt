@@ -1,24 +1,21 @@
 -- The whole check of evidence for a case.
-use Rattle.std.proofs.Common.{◌≡◌, refl, sym, ap, ap₂, subst, ◌∙◌, ◌↔◌, ◌⊎◌, ℕ, ◌<◌, Bool, true, false, List, [], ◌∷◌, map, length, Result, Ok, Err}
+use Rattle.std.proofs.Common.{◌≡◌, refl, sym, ap, ap₂, subst, ◌∙◌, ℕ, true, false, List, [], ◌∷◌, map, length, Result, Ok, Err}
 use Rattle.std.specs.List.{All}
-use Rattle.std.specs.Prelude.{IfOk}
 use Rattle.std.proofs.lemmas.List.{length-map}
 use Rattle.std.proofs.lemmas.List.Elements.{All-nil, All-cons}
-use Rattle.field_core.specs.Kind.{Parts, Kind, ok_map}
+use Rattle.field_core.specs.Kind.{Parts, Kind}
 use Rattle.field_core.specs.Steps.{◌>>=◌}
-use Rattle.fraction.specs.Plain.{plain, IsFraction, fraction_parts, fraction_stored}
+use Rattle.fraction.specs.Plain.{plain, fraction_parts, fraction_stored}
 use Rattle.fraction.specs.Laws.PlainLaws.{plain_is_exact}
 use Rattle.eps_quotient.specs.Quotients.{quotients}
-use Rattle.eps_quotient.specs.Stored.{IsQuotient}
 use Rattle.eps_quotient.specs.View.{quotient_parts}
 use Rattle.eps_quotient.specs.Laws.Exact.{quotients_are_exact}
-use Rattle.case_model.specs.Content.{Content, entangled, is_plain, IsRejectedIn}
-use Rattle.case_model.specs.LegalOrder.{IsListed}
+use Rattle.case_model.specs.Content.{Content, entangled, is_plain}
 use Rattle.case_model.specs.Validity.{IsValidContent}
 use Rattle.case_numbers.specs.Numbers.{Numbers, in_fractions, in_quotients, numbers_of, CanRunIn, kind_of, IsStoredIn}
 use Rattle.evidence_check.specs.Evidence.{others, KeepsOthers}
-use Rattle.evidence_check.specs.EvidenceParts.{StepParts, KeepParts, part_at, step_values, keep_values, ExitsFit, FitsSize}
-use Rattle.evidence_check.specs.EvidenceView.{hypotheses_of, step_parts, keep_parts, version_of, steps_of, keeps_of, IsEvidenceFor}
+use Rattle.evidence_check.specs.EvidenceParts.{StepParts, KeepParts, part_at, keep_values, ExitsFit, FitsSize}
+use Rattle.evidence_check.specs.EvidenceView.{step_parts, keep_parts, version_of, steps_of, keeps_of, IsEvidenceFor}
 use Rattle.evidence_check.specs.declared.evidence.ProofStep.{ProofStep}
 use Rattle.evidence_check.specs.declared.evidence.KeepProof.{KeepProof}
 use Rattle.evidence_check.specs.declared.evidence.Evidence.{Evidence}
@@ -33,7 +30,7 @@ use Rattle.evidence_check.specs.declared.verdict.Verdict.TheVariants.{Yes, No}
 use Rattle.evidence_check.specs.CheckSteps.{numbered}
 use Rattle.evidence_check.specs.WrittenCheck.{steps_check, keeps_check, written_check}
 use Rattle.evidence_check.specs.CheckStatements.{IsLoaded, AreStoredSteps, evidence_values}
-use Rattle.evidence_check.specs.CaseCheck.{loaded_case, all_loads, AllLoad, check_in, case_check, verdict_by, verdict_of, AreStepsOf, MeetsIn}
+use Rattle.evidence_check.specs.CaseCheck.{loaded_case, all_loads, check_in, case_check, verdict_by, verdict_of, AreStepsOf}
 use Rattle.evidence_check.proofs.CaseChecked.{loads_done, is_loaded, listed_names}
 use Rattle.evidence_check.proofs.CaseLimits.{part_stored}
 

@@ -1,5 +1,5 @@
 -- The written check of a keep by value.
-use Rattle.std.proofs.Common.{◌≡◌, refl, sym, ap, subst, ◌∙◌, ℕ, ◌<◌, Bool, true, false, not, List, length, Ok}
+use Rattle.std.proofs.Common.{◌≡◌, refl, sym, subst, ◌∙◌, ℕ, ◌<◌, Bool, true, false, not, List, length, Ok}
 use Rattle.std.specs.Ordering.{is_le}
 use Rattle.std.specs.declared.cmp.Ordering.{Ordering}
 use Rattle.field_core.specs.declared.place.Place.TheVariants.{Level, Exit}
@@ -13,12 +13,12 @@ use Rattle.field_core.specs.Sets.{whole}
 use Rattle.field_core.specs.Runs.{IsOrder}
 use Rattle.field_core.specs.Kind.{Parts, Kind, sign_of}
 use Rattle.field_core.specs.Exact.{IsExact, Gives, value_of}
-use Rattle.field_core.specs.Steps.{each_below}
 use Rattle.fraction.specs.Plain.{single, IsFraction}
 use Rattle.case_model.specs.EntangledGraph.{EntangledGraph, IsValidEntangled}
 use Rattle.case_model.specs.ClosedTest.{Passes}
 use Rattle.case_model.specs.TextbookRules.{does_pass}
 use Rattle.case_model.proofs.PassTests.{pass_tested, tested_pass}
+use Rattle.case_model.proofs.NoFaults.{not_true, not_false}
 use Rattle.evidence_check.specs.Evidence.{at_place, leaving, allowed, shared, IsGoodKeep}
 use Rattle.evidence_check.specs.EvidenceParts.{KeepParts, part_at, keep_values}
 use Rattle.evidence_check.specs.CheckSteps.{demand, written_at, all_below}
@@ -26,8 +26,8 @@ use Rattle.evidence_check.specs.declared.verdict.Reason.TheVariants.{NegativeExi
 use Rattle.evidence_check.specs.WrittenCheck.{Loaded, level_by, leaving_sum, exit_check, allowed_sum, allowed_limit, keep_check}
 use Rattle.evidence_check.specs.CheckStatements.{IsLoaded}
 use Rattle.evidence_check.proofs.Duals.{allowed_low}
-use Rattle.evidence_check.proofs.Tells.{Tells, tells_bind, tells_ok, tells_if, demand_tells, written_tells, all_tells, AreEach, each_tells}
-use Rattle.evidence_check.proofs.WrittenSums.{true_false, not_in, sign_tells, compared}
+use Rattle.evidence_check.proofs.Tells.{Tells, tells_bind, tells_ok, tells_if, demand_tells, written_tells, all_tells}
+use Rattle.evidence_check.proofs.WrittenSums.{true_false, sign_tells, compared}
 use Rattle.evidence_check.proofs.CheckedSums.{limit_gives, level_tells, leave_tells, allow_tells}
 use Rattle.evidence_check.proofs.CheckedSteps.{within, back}
 
@@ -134,9 +134,5 @@ module _ (K : Kind) (IsStored : Parts → Type 0) (X : IsExact K IsStored) (L : 
         (λ _ exits. tells_bind (level_by L x.hypothesis (λ c. allowed_limit K L js (part_at K x.exits c) x.hypothesis c)) _ (λ t. Gives IsFraction t (shared E allowing) × AllBounded) _ (¬ Good)
         (tells_if (level_by L x.hypothesis (λ c. allowed_limit K L js (part_at K x.exits c) x.hypothesis c)) _ _ _ _ (λ _ g. g) (λ b g. b (λ c q. (g.exits c (in_graph c q)).bounded)) (allowing_tells exits))
         (λ level T. demand_tells (not (does_pass (L.p x.hypothesis) (value_of level) L.alpha)) Legal Good
-        (λ h. made exits T.1 level T.0 (not_in _ h))
-        (λ h g. g.fails (subst (λ u. Passes (L.p x.hypothesis) u L.alpha) T.0.value (tested_pass _ _ _ (not_true _ h))))))
-      where
-        not_true : (b : Bool) → not b ≡ false → b ≡ true
-        not_true true h = refl
-        not_true false h = absurd (cc)
+        (λ h. made exits T.1 level T.0 (not_true _ h))
+        (λ h g. g.fails (subst (λ u. Passes (L.p x.hypothesis) u L.alpha) T.0.value (tested_pass _ _ _ (not_false _ h))))))

@@ -1,9 +1,9 @@
 -- The written check of a step by value.
-use Rattle.std.proofs.Common.{◌≡◌, refl, sym, ap, subst, ◌∙◌, ℕ, ◌<◌, Bool, true, false, not, List, length, Ok}
+use Rattle.std.proofs.Common.{◌≡◌, refl, sym, ap, subst, ◌∙◌, ℕ, ◌<◌, false, not, List, length, Ok}
 use Rattle.std.specs.Ordering.{is_le}
 use Rattle.field_core.specs.declared.place.Place.TheVariants.{Bound, Level}
 use Rattle.field_core.specs.Number.{Number}
-use Rattle.field_core.specs.Arithmetic.{number_zero, ◌*ε◌}
+use Rattle.field_core.specs.Arithmetic.{number_zero}
 use Rattle.field_core.specs.Order.{◌≤ε◌, IsPositive}
 use Rattle.field_core.specs.Field.{not_less}
 use Rattle.field_core.specs.NumberField.{number_field}
@@ -11,9 +11,8 @@ use Rattle.field_core.specs.Limit.{limit}
 use Rattle.field_core.specs.LimitParts.{IsUnit, limit_terms}
 use Rattle.field_core.specs.Sets.{IsIn, whole, set_of}
 use Rattle.field_core.specs.Runs.{IsOrder, left_after}
-use Rattle.field_core.specs.Kind.{Parts, Kind, ok_map, sign_of}
+use Rattle.field_core.specs.Kind.{Parts, Kind, sign_of}
 use Rattle.field_core.specs.Exact.{IsExact, Gives, value_of}
-use Rattle.field_core.specs.Steps.{each_below}
 use Rattle.field_core.proofs.WeightLaws.{weight_exists}
 use Rattle.fraction.specs.Plain.{single, IsFraction}
 use Rattle.case_model.specs.EntangledGraph.{EntangledGraph, IsValidEntangled}
@@ -21,16 +20,16 @@ use Rattle.case_model.specs.ClosedTest.{Passes}
 use Rattle.case_model.specs.TextbookRules.{does_pass}
 use Rattle.case_model.proofs.PassTests.{pass_tested, tested_pass}
 use Rattle.case_model.proofs.RejectionOrders.{not_listed_left}
+use Rattle.case_model.proofs.NoFaults.{not_true}
 use Rattle.evidence_check.specs.Evidence.{at_place, brought, shared, AreFlows, IsGoodStep}
 use Rattle.evidence_check.specs.EvidenceParts.{StepParts, part_at, step_values}
 use Rattle.evidence_check.specs.CheckSteps.{demand, written_at, all_below}
 use Rattle.evidence_check.specs.declared.verdict.Reason.TheVariants.{Repeated, Negative, Exceeds, NoLevel, AboveLevel}
-use Rattle.evidence_check.specs.declared.event.Event.{Event}
 use Rattle.evidence_check.specs.WrittenCheck.{Loaded, is_above_zero, level_by, brought_sum, flow_check, level_limit, step_check}
 use Rattle.evidence_check.specs.CheckStatements.{IsLoaded}
 use Rattle.evidence_check.proofs.Duals.{brought_unit}
-use Rattle.evidence_check.proofs.Tells.{Tells, tells_bind, tells_ok, tells_if, tells_map, demand_tells, written_tells, all_tells, AreEach, each_tells}
-use Rattle.evidence_check.proofs.WrittenSums.{true_false, not_in, positive_test, test_positive, sign_tells, compared}
+use Rattle.evidence_check.proofs.Tells.{Tells, tells_bind, tells_if, tells_map, demand_tells, written_tells, all_tells}
+use Rattle.evidence_check.proofs.WrittenSums.{true_false, positive_test, test_positive, sign_tells, compared}
 use Rattle.evidence_check.proofs.CheckedSums.{limit_gives, level_tells, here, bring_tells}
 
 module _ (K : Kind) (IsStored : Parts → Type 0) (X : IsExact K IsStored) (L : Loaded) (E : EntangledGraph) (V : IsValidEntangled E) (D : IsLoaded IsStored L E) where
@@ -113,7 +112,7 @@ module _ (K : Kind) (IsStored : Parts → Type 0) (X : IsExact K IsStored) (L : 
       step_tells =
           tells_bind (demand (not (set_of js s.hypothesis)) Repeated) _ (λ _. set_of js s.hypothesis ≡ false) _ (¬ Good)
           (tells_if (demand (not (set_of js s.hypothesis)) Repeated) _ _ _ _ (λ _ g. g) (λ b g. b g.new)
-          (demand_tells (not (set_of js s.hypothesis)) Repeated (set_of js s.hypothesis ≡ false) (λ h. not_in (set_of js s.hypothesis) h) (λ h e. true_false _ (ap not e) h)))
+          (demand_tells (not (set_of js s.hypothesis)) Repeated (set_of js s.hypothesis ≡ false) (λ h. not_true (set_of js s.hypothesis) h) (λ h e. true_false _ (ap not e) h)))
           (λ _ new. tells_bind (all_below L.components (λ c. all_below (length js) (flow_check K L js (part_at K s.flows c) c))) _ (λ _. AllFlows) _ (¬ Good)
           (tells_if (all_below L.components (λ c. all_below (length js) (flow_check K L js (part_at K s.flows c) c))) _ _ _ _ (λ _ g. g) (λ b g. b (λ c q. g.flows c (within c q))) all_flows_tell)
           (λ _ flows. tells_bind (level_by L s.hypothesis (λ c. level_limit K L js (part_at K s.flows c) s.hypothesis c)) _ (λ t. Gives IsFraction t (shared E bringing)) _ (¬ Good)

@@ -1,5 +1,5 @@
 -- The hypotheses of steps.
-use Rattle.std.proofs.Common.{◌≡◌, sym, subst, ap, ◌∙◌, ℕ, ◌<◌, List, length, get_or, arith}
+use Rattle.std.proofs.Common.{◌≡◌, sym, subst, ℕ, ◌<◌, List, length, get_or}
 use Rattle.std.proofs.lemmas.List.{length-map, get_or-map}
 use Rattle.field_core.specs.Sets.{whole}
 use Rattle.field_core.specs.Runs.{IsOrder}

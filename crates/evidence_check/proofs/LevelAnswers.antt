@@ -1,5 +1,5 @@
 -- Levels, as they are written down.
-use Rattle.std.proofs.Common.{◌≡◌, refl, sym, ap, ◌∙◌, ℕ, List, length, Result, Ok, Err}
+use Rattle.std.proofs.Common.{◌≡◌, refl, ℕ, List, length, Result, Ok, Err}
 use Rattle.field_core.specs.declared.place.Place.TheVariants.{Level}
 use Rattle.field_core.specs.Kind.{Parts, Kind, ok_map}
 use Rattle.field_core.specs.Steps.{◌>>=◌, each_below}

@@ -23,3 +23,16 @@ pub mod StepAnswers
 pub mod LimitAnswers
 pub mod StepsAnswers
 pub mod CheckAnswers
+pub mod FitAnswers
+pub mod NumberAnswers
+pub mod ReadAnswers
+pub mod ReadSteps
+pub mod ReadWhole
+pub mod NumberFound
+pub mod LanguageLaws
+pub mod OneEvidence
+pub mod DocumentLaws
+pub mod WrittenLines
+pub mod PrintedNumbers
+pub mod Completions
+pub mod WrittenTexts

@@ -1,5 +1,5 @@
 -- The limit of what flows bring.
-use Rattle.std.proofs.Common.{◌≡◌, refl, ap, ℕ, List}
+use Rattle.std.proofs.Common.{◌≡◌, ap, ℕ, List}
 use Rattle.field_core.specs.declared.place.Place.TheVariants.{Level}
 use Rattle.field_core.specs.Kind.{Parts, Kind, ok_map}
 use Rattle.field_core.specs.LimitParts.{limit_terms}

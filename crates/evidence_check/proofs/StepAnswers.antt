@@ -1,20 +1,17 @@
 -- The check of a step, and that of a keep, step by step.
-use Rattle.std.proofs.Common.{◌≡◌, ◌↔◌, inl, inr, refl, sym, ap, ◌∙◌, ℕ, Bool, true, false, not, List, [], ◌∷◌, map, length, Result, Ok, Err, ◌==◌, ◌||◌, arith}
+use Rattle.std.proofs.Common.{◌≡◌, ◌↔◌, refl, sym, ap, ◌∙◌, ℕ, Bool, true, false, not, List, [], ◌∷◌, length, Result, Ok, Err, ◌==◌, ◌||◌, arith}
 use Rattle.std.proofs.lemmas.Bool.Decides.{nat_tests}
 use Rattle.std.specs.Prelude.{IsTrue}
 use Rattle.std.specs.List.{list_any}
 use Rattle.std.specs.Ordering.{is_gt, int_cmp}
 use Rattle.std.specs.Prelude.{◌*ℤ◌}
-use Rattle.field_core.specs.Field.{not_less}
 use Rattle.field_core.specs.Kind.{Parts, Kind}
 use Rattle.field_core.specs.Exact.{value_of}
 use Rattle.field_core.specs.Sets.{set_of}
 use Rattle.field_core.specs.Steps.{◌>>=◌}
 use Rattle.field_core.specs.View.{terms}
-use Rattle.field_core.specs.Number.{Number}
 use Rattle.field_core.specs.Arithmetic.{number_zero}
 use Rattle.field_core.specs.declared.ratio.Ratio.{Ratio}
-use Rattle.field_core.proofs.Live.{true_or_false}
 use Rattle.fraction.specs.Plain.{plain, fraction_parts}
 use Rattle.fraction.specs.View.{number_of}
 use Rattle.case_model.specs.Content.{Content}

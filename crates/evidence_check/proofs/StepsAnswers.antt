@@ -1,5 +1,5 @@
 -- Steps and keeps are checked one after the other.
-use Rattle.std.proofs.Common.{◌≡◌, refl, sym, ap, ap₂, subst, ◌∙◌, ℕ, zero, suc, ◌+◌, ◌<◌, not, false, List, [], ◌∷◌, ◌++◌, map, take, drop, length, get_or, Result, Ok, Err, add-one, arith}
+use Rattle.std.proofs.Common.{◌≡◌, refl, sym, ap, ap₂, subst, ◌∙◌, ℕ, zero, suc, ◌+◌, ◌<◌, false, List, [], ◌∷◌, ◌++◌, map, take, drop, length, get_or, Result, Ok, Err, add-one, arith}
 use Rattle.std.proofs.lemmas.List.{map-append, length-map, get_or-map}
 use Rattle.std.specs.List.{All}
 use Rattle.std.proofs.Math.Seq.{take-suc}
@@ -9,16 +9,16 @@ use Rattle.field_core.specs.Runs.{IsOrder}
 use Rattle.field_core.specs.Steps.{◌>>=◌}
 use Rattle.case_model.proofs.RejectionOrders.{not_listed_left}
 use Rattle.case_model.proofs.LegalSteps.{removals_next}
+use Rattle.case_model.proofs.NoFaults.{not_true}
 use Rattle.evidence_check.specs.declared.evidence.ProofStep.{ProofStep}
 use Rattle.evidence_check.specs.declared.evidence.KeepProof.{KeepProof}
 use Rattle.evidence_check.specs.declared.event.Event.{Event}
 use Rattle.evidence_check.specs.declared.event.EventAt.{EventAt}
-use Rattle.evidence_check.specs.EvidenceParts.{StepParts, KeepParts, AreFull, FlowsFit, ExitsFit}
+use Rattle.evidence_check.specs.EvidenceParts.{AreFull, FlowsFit, ExitsFit}
 use Rattle.evidence_check.specs.EvidenceView.{hypotheses_of, step_parts, keep_parts}
 use Rattle.evidence_check.specs.CheckSteps.{numbered}
 use Rattle.evidence_check.specs.WrittenCheck.{Loaded, step_check, keep_check, steps_check, keeps_check}
 use Rattle.evidence_check.proofs.ExitAnswers.{demand_met}
-use Rattle.evidence_check.proofs.WrittenSums.{not_in}
 use Rattle.evidence_check.proofs.StepAnswers.{step_new}
 
 -- from a place on
@@ -94,7 +94,7 @@ module _ {F : Type 0} (parts : F → Parts) (K : Kind) (L : Loaded) (m component
     })
       where
         new : set_of (hypotheses_of (take i steps)) s.hypothesis ≡ false
-        new = not_in _ (demand_met _ _ _ (step_new K L (hypotheses_of (take i steps)) (step_parts parts s) tt (done _ u w)))
+        new = not_true _ (demand_met _ _ _ (step_new K L (hypotheses_of (take i steps)) (step_parts parts s) tt (done _ u w)))
 
   pub steps_end : (i : ℕ) → i ≡ length steps → Checked i → steps_check K L [] (map (step_parts parts) steps) ≡ Ok (hypotheses_of steps)
   unfolding steps_check

@@ -1,8 +1,8 @@
 -- The whole check: all steps, and then all keeps.
-use Rattle.std.proofs.Common.{◌≡◌, refl, sym, ap, subst, ◌∙◌, ℕ, zero, suc, ◌+◌, ◌<◌, Bool, List, [], ◌∷◌, ◌++◌, length, get_or, map, arith}
+use Rattle.std.proofs.Common.{◌≡◌, refl, sym, ap, subst, ◌∙◌, ℕ, zero, suc, ◌+◌, ◌<◌, List, [], ◌∷◌, ◌++◌, length, get_or, map, arith}
 use Rattle.std.specs.List.{All}
-use Rattle.field_core.specs.Sets.{IsIn, whole}
-use Rattle.field_core.specs.Runs.{IsOrder, left_after}
+use Rattle.field_core.specs.Sets.{whole}
+use Rattle.field_core.specs.Runs.{IsOrder}
 use Rattle.field_core.specs.Kind.{Parts, Kind}
 use Rattle.field_core.specs.Exact.{IsExact}
 use Rattle.case_model.specs.EntangledGraph.{EntangledGraph, IsValidEntangled}

@@ -1,5 +1,5 @@
 -- Written tests and sums by value.
-use Rattle.std.proofs.Common.{◌≡◌, inl, inr, refl, sym, ap, ap₂, ◌∙◌, ℕ, zero, suc, ◌<◌, Bool, true, false, not, Result, Ok, Err, Option, Some, None, arith}
+use Rattle.std.proofs.Common.{◌≡◌, inl, inr, sym, ap, ap₂, ◌∙◌, ℕ, zero, suc, ◌<◌, Bool, true, false, not, Result, Ok, Err, Option, Some, None, arith}
 use Rattle.std.specs.Prelude.{IfOk}
 use Rattle.std.specs.Ordering.{is_le}
 use Rattle.std.specs.declared.cmp.Ordering.{Ordering}
@@ -16,7 +16,7 @@ use Rattle.field_core.specs.Sums.{sum_below}
 use Rattle.field_core.specs.Kind.{Parts, Kind, or_wide, sign_of}
 use Rattle.field_core.specs.Exact.{IsExact, Gives, value_of}
 use Rattle.field_core.specs.Steps.{◌>>=◌}
-use Rattle.field_core.specs.Laws.NumberFieldLaws.{field_sum, sum_nothing}
+use Rattle.field_core.specs.Laws.NumberFieldLaws.{sum_last, sum_nothing}
 use Rattle.field_core.specs.Laws.Order.{subtract_zero}
 use Rattle.field_core.specs.Laws.NumberLaws.{number_add_zero, number_add_assoc}
 use Rattle.field_core.specs.Laws.AtMostLaws.{positive_or_not, positive-not_at_most}
@@ -27,10 +27,6 @@ use Rattle.evidence_check.specs.CheckSteps.{demand, written_at}
 use Rattle.evidence_check.specs.declared.verdict.Reason.{Reason}
 use Rattle.evidence_check.specs.WrittenCheck.{is_above_zero, added, with_product}
 use Rattle.evidence_check.proofs.Tells.{Tells, tells_bind, tells_ok, tells_if, demand_tells, written_tells}
-
-pub sum_last : (n : ℕ) (f : ℕ → Number) → sum_below number_field (suc n) f ≡ sum_below number_field n f +ε f n
-unfolding sum_below
-sum_last n f = field_sum (sum_below number_field n f) (f n)
 
 -- ---- tests by value
 
@@ -47,10 +43,6 @@ up_to x y o e = ap is_le e ∙ sym (at_most_is x y)
 
 pub true_false : (b : Bool) → b ≡ true → b ≡ false → ⊥
 true_false b h g = absurd (cc)
-
-pub not_in : (b : Bool) → not b ≡ true → b ≡ false
-not_in true h = absurd (cc)
-not_in false h = refl
 
 pub positive_test : (x : Number) → is_above_zero x ≡ true → IsPositive x
 unfolding is_above_zero

@@ -6,3 +6,10 @@ pub mod CheckSteps
 pub mod WrittenCheck
 pub mod CheckStatements
 pub mod CaseCheck
+pub mod Languages
+pub mod Documents
+pub mod NumberTexts
+pub mod ReadView
+pub mod LanguageStatements
+pub mod NumberReading
+pub mod DocumentStatements

@@ -3,6 +3,7 @@
 ghost use Rattle.evidence_check.specs.EvidenceStatements.{EvidenceListsLegalOrders, EvidenceListsRejections, EvidenceWithKeepsIsComplete, EvidenceWithKeepsDecides};
 ghost use Rattle.evidence_check.specs.CheckStatements.{ChecksAreSound, ChecksAreFair};
 ghost use Rattle.evidence_check.specs.CaseCheck.{CaseChecksAreSound, CaseChecksAreFair, CheckedAreRejected, CheckedAreAllRejected};
+ghost use Rattle.evidence_check.specs.DocumentStatements.{CasesHaveFrames, ReadingsAreDocuments, FaultsAreBadLines, LinesSayOneEvidence, TextsSayOneEvidence, TextsSayOrFail, TextsHaveOneFault, LinesSayTheirEvidence, StoredNumbersArePrinted, EvidenceTextsSayIt, FaultsAreWhereNoneGoesOn, NoneGoesOnIsFault};
 
 use field_core::Number;
 
@@ -34,4 +35,42 @@ pub fn case_checks_decide()
 pub fn checked_hypotheses_are_rejected()
     ensures listed { CheckedAreRejected }
     ensures all { CheckedAreAllRejected }
+{}
+
+/// Each case has a frame: its names, its components, and its numbers by their texts.
+pub fn cases_have_frames()
+    ensures { CasesHaveFrames }
+{}
+
+/// What is read of a text is what its lines say, and else its first fault is that of the first line that says nothing where
+/// it stands.
+pub fn readings_are_documents()
+    ensures says { ReadingsAreDocuments }
+    ensures fault { FaultsAreBadLines }
+{}
+
+/// The lines of evidence that fits a case say no other evidence that fits it.
+pub fn lines_say_one_evidence()
+    ensures { LinesSayOneEvidence }
+{}
+
+/// A text says one evidence of a case, or has one first fault, and never both.
+pub fn texts_have_one_reading()
+    ensures evidence { TextsSayOneEvidence }
+    ensures either { TextsSayOrFail }
+    ensures fault { TextsHaveOneFault }
+{}
+
+/// The lines of evidence that fits a case say it, where each number is read from its text, and stored numbers are. So does
+/// its text, where names and numbers are words.
+pub fn lines_say_their_evidence()
+    ensures lines { LinesSayTheirEvidence }
+    ensures numbers { StoredNumbersArePrinted }
+    ensures text { EvidenceTextsSayIt }
+{}
+
+/// The first fault of a text is in the first line with which no document goes on, or the text ends too early.
+pub fn first_faults_end_documents()
+    ensures there { FaultsAreWhereNoneGoesOn }
+    ensures line { NoneGoesOnIsFault }
 {}

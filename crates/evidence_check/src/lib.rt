@@ -1,20 +1,45 @@
 //! Evidence for the rejections of a case, and its checker, which removes no hypothesis.
+//!
+//! Proved:
+//! - `check`: `answer` (the verdict is that of the written check: yes, or the first broken condition, or the first
+//!   undefined sum), `yes` and `no` (yes only where all conditions hold, no only where they don't), `rejected` (a yes
+//!   implies that the closed test rejects each hypothesis that is listed) and `all` (where each other hypothesis is
+//!   kept, a yes implies that it rejects no other). It removes no hypothesis and takes no memory.
+//! - Laws in `src/laws.rt`: evidence that meets its conditions lists a legal order, and with all keeps a complete
+//!   one, whoever made it (`evidence_implies_rejections`); the written check is sound and fair.
 #![tactic(auto)]
 
 mod case_sums;
 mod checker;
+mod document;
 mod event;
 mod evidence;
 mod exits;
+mod fault;
+mod fitting;
 mod flows;
 mod keep;
 pub mod laws;
 mod level;
 mod loading;
+mod quantity;
+mod reader;
+mod rules;
 mod step;
 mod sums;
 mod verdict;
 
 pub use checker::check;
 pub use evidence::{Evidence, KeepProof, ProofStep, Steps};
+pub use fault::{ProofKind, ProofText};
+pub use fitting::fits;
+pub use quantity::Quantity;
+pub use reader::read;
 pub use verdict::{CheckWide, Reason, Verdict};
+
+#[cfg(test)]
+mod examples;
+#[cfg(test)]
+mod samples;
+#[cfg(test)]
+mod tests;

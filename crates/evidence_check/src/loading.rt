@@ -1,12 +1,17 @@
 //! The numbers of a case as evidence is checked with them.
-ghost use Rattle.std.specs.Prelude.{◌≡◌, ◌<◌, length, true};
+ghost use Rattle.std.specs.Prelude.{◌≡◌, ◌<◌, ◌==◌, length, true, IfSome};
+ghost use Rattle.std.specs.List.{list_any};
+ghost use Rattle.std.specs.Option.{option_map};
 ghost use Rattle.field_core.specs.Kind.{Parts};
 ghost use Rattle.fraction.specs.View.{number_of};
+ghost use Rattle.fraction.specs.Plain.{fraction_parts};
+ghost use Rattle.eps_quotient.specs.View.{quotient_parts};
 ghost use Rattle.case_model.specs.Draft.{is_p_value};
 ghost use Rattle.case_model.specs.Sums.{number_at};
 ghost use Rattle.case_model.specs.CaseView.{content};
 ghost use Rattle.case_numbers.specs.Numbers.{IsStoredIn};
 ghost use Rattle.evidence_check.specs.CaseCheck.{IsSingle, p_values_of, loaded_case, edge_load, row_load, component_load, all_loads};
+ghost use Rattle.evidence_check.specs.NumberTexts.{IsConstantOf, IsNumberText, IsNumberOf};
 
 use crate::event::Event;
 use crate::sums::{all_below, placed};
@@ -16,17 +21,50 @@ use eps_quotient::EpsQuotient;
 use field_core::Place;
 use fraction::Fraction;
 
-/// Numbers that evidence is checked in.
+/// Whether there is a bracket that opens.
+fn has_bracket(text: &[u8]) -> bool
+    ensures { result ≡ list_any (λ b. b == 91) text.now }
+{
+    text.iter().any(|byte| *byte == b'[')
+}
+
+/// The constant of a quotient as a fraction.
+fn constant(quotient: &EpsQuotient) -> Option<Fraction>
+    ensures found { IfSome result (λ x. IsConstantOf (quotient_parts quotient.now) (fraction_parts x)) }
+    ensures only { (x : Parts) → IsConstantOf (quotient_parts quotient.now) x → option_map fraction_parts result ≡ Some x }
+{
+    let numerator = quotient.numerator().coefficient(0);
+    let denominator = quotient.denominator().coefficient(0);
+    Fraction::new(numerator, denominator).ok()
+}
+
+/// Numbers that evidence is checked and read in.
 pub trait EvidenceNumber: CaseNumber {
+    /// The number of a text: that of a quotient, or a fraction without brackets. Anything else gives `None`.
+    fn read(text: &[u8]) -> Option<Self>
+        ensures found { IsNumberOf Self.numbers text.now (option_map Self.parts result) }
+        ensures only { (x : Parts) → IsNumberText Self.numbers text.now x → option_map Self.parts result ≡ Some x };
+
     /// What a case is loaded in is what they store.
     ghost stored_is: { (x : Parts) → IsStoredIn Self.numbers x → Self.IsStored x };
 }
 
 impl EvidenceNumber for Fraction {
+    fn read(text: &[u8]) -> Option<Fraction> {
+        if has_bracket(text) {
+            return None;
+        }
+        constant(&EpsQuotient::read(text)?)
+    }
+
     ghost stored_is = { λ x h. h };
 }
 
 impl EvidenceNumber for EpsQuotient {
+    fn read(text: &[u8]) -> Option<EpsQuotient> {
+        EpsQuotient::read(text)
+    }
+
     ghost stored_is = { λ x h. h };
 }
 

@@ -27,7 +27,7 @@ use field_core::{List, Number, Place};
 use fraction::Fraction;
 
 /// Whether a step is of this hypothesis.
-fn is_listed<F>(steps: &[ProofStep<F>], j: usize) -> bool
+pub fn is_listed<F>(steps: &[ProofStep<F>], j: usize) -> bool
     ensures { result ≡ list_any (λ s. s.hypothesis == j) steps.now }
 {
     steps.iter().any(|step| step.hypothesis == j)

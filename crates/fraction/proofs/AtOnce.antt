@@ -13,7 +13,7 @@ use Rattle.field_core.proofs.Stein.{gcd_of_zero, gcd_by_one, gcd_with_one}
 use Rattle.fraction.specs.Written.{written_mul, written_add}
 
 -- 0 in lowest terms is over 1
-den_of_zero : (x : Terms) → IsReduced x → x.num ≡ pos 0 → x.den ≡ pos 1
+pub den_of_zero : (x : Terms) → IsReduced x → x.num ≡ pos 0 → x.den ≡ pos 1
 den_of_zero x r e =
     let one : unsigned_abs x.den ≡ 1 = gcd_of_zero (unsigned_abs x.num) (unsigned_abs x.den) (ap unsigned_abs e) ∙ r.reduced in
     let some : pos 0 <ℤ x.den = r.positive in

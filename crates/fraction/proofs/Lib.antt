@@ -20,4 +20,5 @@ pub mod ShortNumbers
 pub mod ShortTerms
 pub mod SignedTexts
 pub mod Unique
+pub mod WholeNumbers
 pub mod Zeros

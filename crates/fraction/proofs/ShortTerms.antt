@@ -13,18 +13,14 @@ use Rattle.field_core.specs.declared.place.Op.TheVariants.{Add, Sub, Mul, Div}
 use Rattle.field_core.proofs.Sized.{sized_small}
 use Rattle.fraction.specs.Written.{written_add, written_mul, opposite, inverse, inverse_of}
 use Rattle.fraction.specs.Plain.{plain, pair_of, single, written_pair}
+use Rattle.field_core.proofs.Wholes.{size_negated}
 use Rattle.fraction.specs.Within.{IsWithin, GivesWithin, limit_of}
 
 -- ---- sizes
 
-abs_opposite : (z : ℤ) → unsigned_abs (neg_ℤ z) ≡ unsigned_abs z
-abs_opposite (pos zero) = refl
-abs_opposite (pos (suc n)) = refl
-abs_opposite (negsuc n) = refl
-
-abs_quotient : (z : ℤ) (g : ℕ) → unsigned_abs (int_div z (pos g)) ≤ unsigned_abs z
+pub abs_quotient : (z : ℤ) (g : ℕ) → unsigned_abs (int_div z (pos g)) ≤ unsigned_abs z
 abs_quotient (pos n) g = div-le_self n g
-abs_quotient (negsuc n) g = subst (λ a. a ≤ suc n) (sym (abs_opposite (pos (suc n / g)))) (div-le_self (suc n) g)
+abs_quotient (negsuc n) g = subst (λ a. a ≤ suc n) (sym (size_negated (pos (suc n / g)))) (div-le_self (suc n) g)
 
 abs_sum : (u v : ℤ) → unsigned_abs (u +ℤ v) ≤ unsigned_abs u + unsigned_abs v
 abs_sum u v = omega (arith, ints)
@@ -90,11 +86,11 @@ add_within x y a b p q h =
 
 pub opposite_within : (n : ℕ) (x : Terms) → IsWithin n x → IsWithin n (opposite x)
 unfolding opposite
-opposite_within n x s = record { num = subst (λ m. m ≤ n) (sym (abs_opposite x.num)) s.num; den = s.den }
+opposite_within n x s = record { num = subst (λ m. m ≤ n) (sym (size_negated x.num)) s.num; den = s.den }
 
 turned_within : (n : ℕ) (num den : ℤ) → unsigned_abs num ≤ n → unsigned_abs den ≤ n → IsWithin n (inverse_of num den)
 turned_within n (pos m) den h g = record { num = g; den = h }
-turned_within n (negsuc m) den h g = record { num = subst (λ a. a ≤ n) (sym (abs_opposite den)) g; den = h }
+turned_within n (negsuc m) den h g = record { num = subst (λ a. a ≤ n) (sym (size_negated den)) g; den = h }
 
 pub inverse_within : (n : ℕ) (x : Terms) → IsWithin n x → IsWithin n (inverse x)
 unfolding inverse

@@ -13,5 +13,6 @@ pub mod Sizes
 pub mod Spelling
 pub mod Tests
 pub mod View
+pub mod WholeNumbers
 pub mod Within
 pub mod Written

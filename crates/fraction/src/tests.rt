@@ -1,3 +1,4 @@
+//! Fractions with their operations, limits and texts, worked by hand.
 use crate::vectors::{ADD, COMPARE, DIV, MUL, SUB, Terms};
 use crate::{Fraction, FractionFault, NumberFault, decimal_len};
 use field_core::{List, Number, TooWide};

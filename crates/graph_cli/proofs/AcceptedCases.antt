@@ -1,6 +1,7 @@
 -- The stages that commands have in common are decided.
-use Rattle.std.proofs.Common.{◌≡◌, refl, subst, sym, ap, ap₂, ◌∙◌, ℕ, List, Some, None, arith}
+use Rattle.std.proofs.Common.{◌≡◌, refl, subst, sym, ap, ap₂, ◌∙◌, ℕ, List, Some, None, inl, inr, arith}
 use Rattle.std.specs.declared.option.Option.{Option}
+use Rattle.answers.specs.declared.refusal.Refusal.{Refusal}
 use Rattle.answers.specs.Stages.{IsDecided}
 use Rattle.answers.proofs.Decided.{then_decided, within_decided}
 use Rattle.case_model.specs.declared.fault.CaseFault.{CaseFault}
@@ -15,8 +16,18 @@ use Rattle.fraction.proofs.SameRatios.{same_ratio}
 use Rattle.case_csv.specs.Table.{Cells, cells_of, IsTable}
 use Rattle.case_csv.specs.declared.fault.RowKind.{RowKind}
 use Rattle.case_csv.proofs.OneTable as tables
+use Rattle.case_json.specs.Values.{IsJson}
+use Rattle.case_json.specs.Reading.{SaysDraft, HasFirstFault}
+use Rattle.case_json.specs.Document.{IsDraft}
+use Rattle.case_json.specs.Faults.{IsFirstFault}
+use Rattle.case_json.specs.declared.fault.JsonFault.{JsonFault}
+use Rattle.case_json.proofs.DocumentRules.{document_rule}
+use Rattle.case_json.proofs.SingleRules.{same_some}
+use Rattle.serde_json.specs.Data.{Data}
+use Rattle.serde_json.specs.Read.{read}
 use Rattle.refusals.specs.CaseRefusal.{case_refusal}
 use Rattle.refusals.specs.CellRefusal.{cell_refusal}
+use Rattle.refusals.specs.JsonRefusal.{json_refusal}
 use Rattle.refusals.specs.TextRefusal.{line_refusal}
 use Rattle.graph_cli.specs.Accepted.{grammar, faultless, of_kind, of_size, suitable, accepted}
 use Rattle.graph_cli.specs.declared.kind.Kind.{Kind}
@@ -27,6 +38,25 @@ csv_draft records x y d e same h k = tables.one_draft records y d e (subst (λ z
 
 same_cell : (row line column place : ℕ) (j k : RowKind) → row ≡ line → column ≡ place → j ≡ k → cell_refusal row column j ≡ cell_refusal line place k
 same_cell row line column place j k e f g = rw (e, f, g) refl
+
+same_value : (bytes : List ℕ) (u v : Data) → IsJson bytes u → IsJson bytes v → u ≡ v
+same_value bytes u v h k = same_some (read bytes) u v h.1 k.1
+
+json_draft : (bytes : List ℕ) (d e : Draft) → SaysDraft bytes d → SaysDraft bytes e → d ≡ e
+json_draft bytes d e h k = document_rule.one k.0 d e (subst (λ v. IsDraft v d) (same_value bytes h.0 k.0 h.1 k.1) h.2) k.2
+
+json_fault : (bytes : List ℕ) (f g : JsonFault) → HasFirstFault bytes f → HasFirstFault bytes g → f ≡ g
+json_fault bytes f g h k = document_rule.fault_one k.0 f g (subst (λ v. IsFirstFault v f) (same_value bytes h.0 k.0 h.1 k.1) h.2) k.2
+
+json_one_refusal : (bytes : List ℕ) (r q : Refusal) → (grammar json bytes).Refuses r → (grammar json bytes).Refuses q → r ≡ q
+json_one_refusal bytes r q (inl h) (inl k) = h.1 ∙ sym k.1
+json_one_refusal bytes r q (inl h) (inr k) = absurd (h.0 k.1.0 k.1.1)
+json_one_refusal bytes r q (inr h) (inl k) = absurd (k.0 h.1.0 h.1.1)
+json_one_refusal bytes r q (inr h) (inr k) = h.2 ∙ ap json_refusal (json_fault bytes h.0 k.0 h.1 k.1) ∙ sym k.2
+
+json_not_both : (bytes : List ℕ) (d : Draft) (r : Refusal) → (grammar json bytes).Gives d → (grammar json bytes).Refuses r → ⊥
+json_not_both bytes d r h (inl k) = k.0 h.0 h.1
+json_not_both bytes d r h (inr k) = document_rule.apart k.1.0 d k.0 (subst (λ v. IsDraft v d) (same_value bytes h.0 k.1.0 h.1 k.1.1) h.2) k.1.2
 
 grammar_decided : (form : Written) (bytes : List ℕ) → IsDecided (grammar form bytes)
 grammar_decided text bytes = record {
@@ -39,7 +69,7 @@ grammar_decided (csv alpha) bytes = record {
   one_refusal = λ r q h k. let e = tables.one_first_fault (cells_of bytes) h.0 k.0 h.1 k.1 h.2 k.2 h.3 k.3 in h.4 ∙ same_cell h.0 k.0 h.1 k.1 h.2 k.2 e.0 e.1 e.2 ∙ sym k.4;
   not_both = λ d r h k. tables.not_both (cells_of bytes) h.0 d k.0 k.1 k.2 h.2 k.3;
 }
-grammar_decided json bytes = record { one = λ d e h k. absurd h; one_refusal = λ r q h k. h ∙ sym k; not_both = λ d r h k. h }
+grammar_decided json bytes = record { one = json_draft bytes; one_refusal = json_one_refusal bytes; not_both = json_not_both bytes }
 
 same_fault : (o : Option CaseFault) (x y : CaseFault) → o ≡ Some x → o ≡ Some y → x ≡ y
 same_fault o x y h k = cc

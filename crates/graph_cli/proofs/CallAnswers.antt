@@ -1,42 +1,56 @@
 -- Each command is decided.
-use Rattle.std.proofs.Common.{sym, ◌∙◌, ℕ, List, Some}
+use Rattle.std.proofs.Common.{sym, ◌∙◌, ℕ, List, Some, true≢false}
 use Rattle.answers.specs.Stages.{IsDecided}
-use Rattle.answers.proofs.Decided.{then_decided, only_decided}
+use Rattle.answers.proofs.Decided.{then_decided, only_decided, within_decided}
 use Rattle.case_model.specs.Content.{Content}
-use Rattle.command_words.specs.Asked.{Asked, on_case as task_on_case, sample, help}
+use Rattle.command_words.specs.Asked.{Asked, on_case as task_on_case, check, catalogue, sample, help}
 use Rattle.command_words.specs.declared.command.CaseTask.{CaseTask}
 use Rattle.command_words.specs.declared.command.CaseTask.TheVariants as tasks
-use Rattle.graph_cli.specs.Commands.{on_case, needs_of, case_call, call_of}
+use Rattle.graph_cli.specs.Commands.{on_case, needs_of, case_call, check_needs, check_call, call_of}
+use Rattle.command_words.specs.declared.graph_name.SizedGraph.{SizedGraph}
 use Rattle.command_words.specs.declared.form.Form.{Form}
 use Rattle.command_words.specs.declared.form.Form.TheVariants as forms
-use Rattle.graph_cli.specs.Canon.{unwritten, canon_stage}
+use Rattle.graph_cli.specs.Canon.{sheet_stage, canon_stage}
+use Rattle.graph_cli.specs.Graphs.{catalogue_stage, named_case, told_size}
 use Rattle.graph_cli.specs.Help.{help_stage}
 use Rattle.graph_cli.proofs.AcceptedCases.{accepted_decided}
+use Rattle.graph_cli.proofs.MadeAnswers.{made_decided}
+use Rattle.graph_cli.proofs.CheckAnswers.{check_decided}
 use Rattle.graph_cli.proofs.StagesAnswers.{stages_decided}
 use Rattle.graph_cli.proofs.SampleAnswers.{sample_decided}
+use Rattle.graph_cli.proofs.SetAnswers.{weights_decided, bounds_decided}
 use Rattle.graph_cli.proofs.TestAnswers.{test_decided}
 
 help_decided : IsDecided help_stage
 unfolding help_stage
 help_decided = only_decided _
 
-unwritten_decided : IsDecided unwritten
-unwritten_decided = record { one = λ a b h k. absurd h; one_refusal = λ r q h k. h ∙ sym k; not_both = λ a r h k. h }
+catalogue_decided : (graph : SizedGraph) → IsDecided (catalogue_stage graph)
+unfolding catalogue_stage
+catalogue_decided graph = then_decided _ _ (made_decided (told_size graph) (named_case graph)) (λ c. only_decided _)
+
+sheet_decided : (c : Content) → IsDecided (sheet_stage c)
+unfolding sheet_stage
+sheet_decided c = record { one = λ a b h k. h.1 ∙ sym k.1; one_refusal = λ r q h k. h.1 ∙ sym k.1; not_both = λ a r h k. true≢false (sym h.0 ∙ k.0) }
 
 canon_decided : (form : Form) (c : Content) → IsDecided (canon_stage form c)
 unfolding canon_stage
 canon_decided forms.Text c = only_decided _
-canon_decided forms.Csv c = unwritten_decided
-canon_decided forms.Json c = unwritten_decided
+canon_decided forms.Csv c = sheet_decided c
+canon_decided forms.Json c = only_decided _
 
 task_decided : (task : CaseTask) (c : Content) → IsDecided (on_case task c)
 unfolding on_case
 task_decided (tasks.Test priority) c = test_decided priority c
+task_decided tasks.Weights c = weights_decided c
+task_decided tasks.Bounds c = bounds_decided c
 task_decided tasks.Stages c = stages_decided c
 task_decided (tasks.Canon form) c = canon_decided form c
 
 pub call_decided : (command : Asked) (case proof : List ℕ) → IsDecided (call_of command (Some case) (Some proof))
-unfolding call_of case_call
+unfolding call_of case_call check_call
 call_decided (task_on_case form task) case proof = then_decided _ _ (accepted_decided form (needs_of task) case) (task_decided task)
+call_decided (catalogue graph) case proof = catalogue_decided graph
+call_decided (check form file) case proof = then_decided _ _ (accepted_decided form check_needs case) (λ c. then_decided _ _ (within_decided _ proof) (check_decided c))
 call_decided (sample size seed) case proof = sample_decided size seed
 call_decided help case proof = help_decided

@@ -1,9 +1,11 @@
 -- What is printed of a case that is accepted names exactly what the closed test rejects.
 use Rattle.std.proofs.Common.{◌≡◌, refl, sym, ap, subst, ◌∙◌, ℕ, ◌==◌, true, List, [], ◌∷◌, Some, None, inl, inr, arith}
+use Rattle.std.specs.Prelude.{Option}
 use Rattle.std.proofs.lemmas.Bool.Decides.{nat_tests}
 use Rattle.std.specs.List.{list_any}
 use Rattle.field_core.specs.Sets.{set_of}
 use Rattle.answers.specs.declared.answer.Answer.{Answer}
+use Rattle.answers.specs.Stages.{IsAnswerOf}
 use Rattle.answers.specs.declared.cause.Cause.{Cause}
 use Rattle.answers.specs.declared.status.Status.{Status}
 use Rattle.answers.specs.declared.status.Status.TheVariants.{Done, Refused}
@@ -15,7 +17,9 @@ use Rattle.case_model.specs.Validity.{IsValidContent}
 use Rattle.edge_text.proofs.Texts.{document_arrivals}
 use Rattle.case_csv.specs.Table.{cells_of}
 use Rattle.case_csv.proofs.OneTable.{no_arrivals}
+use Rattle.case_json.proofs.Drafts.{says_arrivals}
 use Rattle.command_words.specs.Asked.{Written, text, csv, json, on_case}
+use Rattle.command_words.specs.declared.command.CaseTask.{CaseTask}
 use Rattle.command_words.specs.declared.command.CaseTask.TheVariants.{Test}
 use Rattle.command_words.proofs.OneReading.{words_decided}
 use Rattle.sequential.specs.declared.decision.StepLine.{StepLine}
@@ -29,7 +33,8 @@ use Rattle.report.specs.TestReport.{is_rejected, test_report}
 use Rattle.graph_cli.specs.Accepted.{grammar}
 use Rattle.graph_cli.specs.Commands.{call_of, case_call, on_case as answers_on_case}
 use Rattle.graph_cli.specs.Test.{test_stage}
-use Rattle.graph_cli.specs.Laws.{ReportsClosedTest, ReportsAreOfTheClosedTest}
+use Rattle.graph_cli.specs.Laws.{ReportsClosedTest, ReportsCase, ReportsAreOfTheClosedTest}
+use Rattle.graph_cli.specs.Outcome.{AskFor, outcome}
 
 any_listed : (steps : List StepLine) (j : ℕ) → list_any (λ x. x.hypothesis == j) steps ≡ set_of (hypotheses steps) j
 any_listed [] j = refl
@@ -40,16 +45,16 @@ unfolding is_rejected
 named_listed steps j = any_listed steps j
 
 -- of what a form says, each p-value that arrived is of a hypothesis
-known_arrivals : (form : Written) (bytes : List ℕ) (d : Draft) → (grammar form bytes).Gives d → have_known_arrivals d ≡ true
+pub known_arrivals : (form : Written) (bytes : List ℕ) (d : Draft) → (grammar form bytes).Gives d → have_known_arrivals d ≡ true
 known_arrivals text bytes d t = document_arrivals _ d t
 known_arrivals (csv alpha) bytes d t = no_arrivals (cells_of bytes) t.0 d t.2
-known_arrivals json bytes d t = absurd t
+known_arrivals json bytes d t = says_arrivals bytes d t
 
-faultless_content : (d : Draft) → case_fault d ≡ None → have_known_arrivals d ≡ true → IsValidContent (content_of d)
+pub faultless_content : (d : Draft) → case_fault d ≡ None → have_known_arrivals d ≡ true → IsValidContent (content_of d)
 faultless_content d f known = ∣ (record { draft = d; content_is = refl; faultless = f; known_arrivals = known }) ∣₁
 
 -- a refusal isn't done
-not_done : (s : Status) (cause : Cause) → s ≡ Refused cause → s ≡ Done → ⊥
+pub not_done : (s : Status) (cause : Cause) → s ≡ Refused cause → s ≡ Done → ⊥
 not_done s cause e f = cc
 
 reported : (c : Content) (priority : Priority) (d : Decision) (xs : List Adjusted) (printed : List ℕ) → IsValidContent c → IsDecision c priority d → AreAdjusted c xs → printed ≡ test_report c d xs
@@ -62,19 +67,30 @@ reported c priority d xs printed v h k e = record {
   values = k;
 }
 
-pub reports_closed_test : ReportsAreOfTheClosedTest
-unfolding call_of case_call answers_on_case test_stage
-reports_closed_test words form priority case proof a asks (inr h) z = absurd (not_done a.status h.0.cause (ap (λ (x : Answer). x.status) h.2) z)
-reports_closed_test words form priority case proof a asks (inl h) z =
-    let command_is : h.0 ≡ on_case form (Test priority) = (words_decided words).one h.0 (on_case form (Test priority)) h.1 asks in
+-- What a task on a case answers with status 0 is of a draft without a fault, which the bytes say.
+pub reports_case : (Reports : Content → List ℕ → Type 0) (words : List (List ℕ)) (form : Written) (task : CaseTask) (case : List ℕ) (proof : Option (List ℕ)) (a : Answer)
+    → ((c : Content) → IsValidContent c → (answers_on_case task c).Gives a → Reports c a.text)
+    → AskFor words (on_case form task) → IsAnswerOf (outcome words (Some case) proof) a → a.status ≡ Done → ReportsCase Reports form case a.text
+unfolding call_of case_call
+reports_case Reports words form task case proof a of_case asks (inr h) z = absurd (not_done a.status h.0.cause (ap (λ (x : Answer). x.status) h.2) z)
+reports_case Reports words form task case proof a of_case asks (inl h) z =
+    let command_is : h.0 ≡ on_case form task = (words_decided words).one h.0 (on_case form task) h.1 asks in
     let gives = subst (λ command. (call_of command (Some case) proof).Gives a) command_is h.2 in
     let bytes_are = gives.1.1.0 in
     let read = gives.1.2.1 in
     let draft = read.0 in
     let content_is : gives.0 ≡ content_of draft = gives.1.2.2.2.1 ∙ (gives.1.2.2.1.1 ∙ read.2.1) in
+    let valid = subst IsValidContent (sym content_is) (faultless_content draft read.2.0 (known_arrivals form _ draft read.1)) in
     record {
       draft = draft;
       says = subst (λ xs. (grammar form xs).Gives draft) bytes_are read.1;
       faultless = read.2.0;
-      reports = subst (λ c. ReportsClosedTest c a.text) content_is (reported gives.0 priority gives.2.0 gives.2.2.0 a.text (subst IsValidContent (sym content_is) (faultless_content draft read.2.0 (known_arrivals form _ draft read.1))) gives.2.1.1 gives.2.2.1.1 (ap (λ (x : Answer). x.text) gives.2.2.2));
+      reports = subst (λ c. Reports c a.text) content_is (of_case gives.0 valid gives.2);
     }
+
+test_reports : (priority : Priority) (a : Answer) (c : Content) → IsValidContent c → (answers_on_case (Test priority) c).Gives a → ReportsClosedTest c a.text
+unfolding answers_on_case test_stage
+test_reports priority a c v g = reported c priority g.0 g.2.0 a.text v g.1.1 g.2.1.1 (ap (λ (x : Answer). x.text) g.2.2)
+
+pub reports_closed_test : ReportsAreOfTheClosedTest
+reports_closed_test words form priority case proof a asks h z = reports_case ReportsClosedTest words form (Test priority) case proof a (test_reports priority a) asks h z

@@ -1,10 +1,15 @@
 pub mod AcceptedCases
 pub mod CallAnswers
+pub mod CheckAnswers
+pub mod CheckedReports
 pub mod ClosedReports
 pub mod HandedOn
+pub mod JsonRefused
 pub mod MadeAnswers
 pub mod OneAnswer
 pub mod SampleAnswers
+pub mod SetAnswers
 pub mod SourcesRead
+pub mod StagedReports
 pub mod StagesAnswers
 pub mod TestAnswers

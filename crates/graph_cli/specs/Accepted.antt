@@ -1,5 +1,5 @@
 -- The stages that commands have in common: a case is read, and is one that the command can take.
-use Rattle.std.specs.Prelude.{◌≡◌, ◌<◌, ◌≤◌, ℕ, List, [], Some, None, Option, length}
+use Rattle.std.specs.Prelude.{◌≡◌, ◌⊎◌, ◌<◌, ◌≤◌, ℕ, List, [], Some, None, Option, length}
 use Rattle.answers.specs.declared.refusal.Refusal.{Refusal}
 use Rattle.answers.specs.Stages.{Stage, and_then, on_bytes, within}
 use Rattle.case_model.specs.declared.fault.CaseFault.{CaseFault}
@@ -17,15 +17,24 @@ use Rattle.field_core.specs.declared.ratio.Ratio.{Ratio}
 use Rattle.case_csv.specs.Table.{cells_of, IsTable}
 use Rattle.case_csv.specs.Faults.{IsFirstFault as IsFirstBadCell}
 use Rattle.case_csv.specs.declared.fault.RowKind.{RowKind}
+use Rattle.case_json.specs.Reading.{SaysDraft, HasFirstFault}
+use Rattle.case_json.specs.Values.{IsJson}
+use Rattle.case_json.specs.declared.fault.JsonFault.{JsonFault}
+use Rattle.serde_json.specs.Data.{Data}
 use Rattle.refusals.specs.CaseRefusal.{case_refusal}
 use Rattle.refusals.specs.CellRefusal.{cell_refusal}
+use Rattle.refusals.specs.JsonRefusal.{syntax_refusal, json_refusal}
 use Rattle.refusals.specs.NeedRefusal.{kind_refusal, closure_refusal}
-use Rattle.refusals.specs.TextRefusal.{line_refusal, form_refusal}
+use Rattle.refusals.specs.TextRefusal.{line_refusal}
 use Rattle.graph_cli.specs.declared.kind.Kind.{Kind}
 use Rattle.graph_cli.specs.declared.kind.Kind.TheVariants.{Any, Single, Staged}
 use Rattle.graph_cli.specs.declared.needs.Needs.{Needs}
 
--- the draft that bytes say in a form, or the first place where they can't stand; JSON isn't read yet
+-- the bytes are the JSON of no value
+abbrev pub IsNoJson : List ℕ → Type 0
+IsNoJson bytes = (value : Data) → ¬ IsJson bytes value
+
+-- the draft that bytes say in a form, or the first place where they can't stand
 abbrev pub grammar : Written → List ℕ → Stage Refusal Draft
 grammar text bytes = record {
   Gives = λ d. IsText bytes d;
@@ -35,7 +44,10 @@ grammar (csv alpha) bytes = record {
   Gives = λ d. (level : Ratio) × (terms level ≡ alpha) × IsTable (cells_of bytes) level d;
   Refuses = λ r. (row : ℕ) × (column : ℕ) × (kind : RowKind) × IsFirstBadCell (cells_of bytes) row column kind × (r ≡ cell_refusal row column kind);
 }
-grammar json bytes = record { Gives = λ d. ⊥; Refuses = λ r. r ≡ form_refusal }
+grammar json bytes = record {
+  Gives = λ d. SaysDraft bytes d;
+  Refuses = λ r. (IsNoJson bytes × (r ≡ syntax_refusal)) ⊎ ((fault : JsonFault) × HasFirstFault bytes fault × (r ≡ json_refusal fault));
+}
 
 -- the case of a draft, or its first fault
 abbrev pub faultless : Draft → Stage Refusal Content

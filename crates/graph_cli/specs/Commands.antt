@@ -1,30 +1,38 @@
 -- What each command answers.
-use Rattle.std.specs.Prelude.{ℕ, ◌⊎◌, List, Option}
+use Rattle.std.specs.Prelude.{ℕ, ◌⊎◌, List, Option, codes}
 use Rattle.answers.specs.declared.answer.Answer.{Answer}
 use Rattle.answers.specs.declared.refusal.Refusal.{Refusal}
-use Rattle.answers.specs.Stages.{Stage, and_then}
+use Rattle.answers.specs.Stages.{Stage, and_then, on_bytes, within}
 use Rattle.case_model.specs.Content.{Content}
-use Rattle.command_words.specs.Asked.{Written, Asked, on_case as task_on_case, sample, help}
+use Rattle.command_words.specs.Asked.{Written, Asked, on_case as task_on_case, check, catalogue, sample, help}
 use Rattle.command_words.specs.declared.command.CaseTask.{CaseTask}
 use Rattle.command_words.specs.declared.command.CaseTask.TheVariants as tasks
 use Rattle.graph_cli.specs.Accepted.{accepted}
+use Rattle.graph_cli.specs.Bounds.{bounds_stage}
 use Rattle.graph_cli.specs.Canon.{canon_stage}
+use Rattle.graph_cli.specs.Graphs.{catalogue_stage}
+use Rattle.graph_cli.specs.Check.{check_stage}
 use Rattle.graph_cli.specs.Help.{help_stage}
 use Rattle.graph_cli.specs.Stages.{stages_stage}
 use Rattle.graph_cli.specs.Sample.{sample_stage}
 use Rattle.graph_cli.specs.Test.{test_stage}
+use Rattle.graph_cli.specs.Weights.{weights_stage}
 use Rattle.graph_cli.specs.declared.kind.Kind.TheVariants.{Any, Single, Staged}
 use Rattle.graph_cli.specs.declared.needs.Needs.{Needs}
 
 -- what a task needs of its case
 unfoldable pub needs_of : CaseTask → Needs
 needs_of (tasks.Test priority) = record { kind = Single; most = 64 }
+needs_of tasks.Weights = record { kind = Any; most = 16 }
+needs_of tasks.Bounds = record { kind = Single; most = 16 }
 needs_of tasks.Stages = record { kind = Staged; most = 64 }
 needs_of (tasks.Canon form) = record { kind = Any; most = 64 }
 
 -- what a task answers to a case that it can take
 unfoldable pub on_case : CaseTask → Content → Stage Refusal Answer
 on_case (tasks.Test priority) c = test_stage priority c
+on_case tasks.Weights c = weights_stage c
+on_case tasks.Bounds c = bounds_stage c
 on_case tasks.Stages c = stages_stage c
 on_case (tasks.Canon form) c = canon_stage form c
 
@@ -32,21 +40,39 @@ on_case (tasks.Canon form) c = canon_stage form c
 unfoldable pub case_call : Written → CaseTask → Option (List ℕ) → Stage Refusal Answer
 case_call form task case = and_then (accepted form (needs_of task) case) (on_case task)
 
+-- what `check` needs of its case
+unfoldable pub check_needs : Needs
+check_needs = record { kind = Single; most = 64 }
+
+-- `check`: a case that it can take, and then the text of the evidence
+unfoldable pub check_call : Written → Option (List ℕ) → Option (List ℕ) → Stage Refusal Answer
+check_call form case proof = and_then (accepted form check_needs case) (λ c. and_then (on_bytes proof (within (codes "proof "))) (check_stage c))
+
+-- a case is said that `check` can take
+abbrev pub IsCheckable : Written → Option (List ℕ) → Type 0
+IsCheckable form case = (c : Content) × (accepted form check_needs case).Gives c
+
 -- what a command answers to a case and a proof
 unfoldable pub call_of : Asked → Option (List ℕ) → Option (List ℕ) → Stage Refusal Answer
 call_of (task_on_case form task) case proof = case_call form task case
+call_of (catalogue graph) case proof = catalogue_stage graph
+call_of (check form file) case proof = check_call form case proof
 call_of (sample size seed) case proof = sample_stage size seed
 call_of help case proof = help_stage
 
 -- a command reads a case
 unfoldable pub TakesCase : Asked → Type 0
 TakesCase (task_on_case form task) = Unit {0}
+TakesCase (catalogue graph) = ⊥
+TakesCase (check form file) = Unit {0}
 TakesCase (sample size seed) = ⊥
 TakesCase help = ⊥
 
 -- a command reads a proof, behind a case that it can take
 unfoldable pub TakesProof : Asked → Option (List ℕ) → Type 0
 TakesProof (task_on_case form task) case = ⊥
+TakesProof (catalogue graph) case = ⊥
+TakesProof (check form file) case = IsCheckable form case
 TakesProof (sample size seed) case = ⊥
 TakesProof help case = ⊥
 

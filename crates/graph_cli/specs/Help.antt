@@ -9,8 +9,12 @@ use Rattle.answers.specs.Stages.{Stage, only}
 abbrev pub help_text : List ℕ
 help_text =
     line (codes "test [--form F] [--alpha N] [--priority P]") ++
+    line (codes "weights [--form F] [--alpha N]") ++
+    line (codes "bounds [--form F] [--alpha N]") ++
+    line (codes "check FILE [--form F] [--alpha N]") ++
     line (codes "stages [--form F]") ++
     line (codes "canon [--form F] [--alpha N] [--to F]") ++
+    line (codes "catalogue NAME --size N [--second N]") ++
     line (codes "sample --size N --seed N") ++
     line (codes "help") ++
     line (codes "end")

@@ -1,14 +1,23 @@
 -- What the definitions of the outcome promise.
-use Rattle.std.specs.Prelude.{◌≡◌, ◌↔◌, ℕ, true, List, Option, Some, None}
+use Rattle.std.specs.Prelude.{◌≡◌, ◌↔◌, ℕ, true, List, map, Option, Some, None}
 use Rattle.answers.specs.declared.answer.Answer.{Answer}
 use Rattle.answers.specs.declared.status.Status.TheVariants.{Done}
 use Rattle.answers.specs.Stages.{IsAnswerOf}
 use Rattle.case_model.specs.CaseFaults.{case_fault}
 use Rattle.case_model.specs.Content.{Content, content_of, IsRejectedIn}
 use Rattle.case_model.specs.declared.draft.Draft.{Draft}
-use Rattle.command_words.specs.Asked.{Written, on_case}
-use Rattle.command_words.specs.declared.command.CaseTask.TheVariants.{Test}
+use Rattle.case_model.specs.LegalOrder.{IsListed}
+use Rattle.command_words.specs.Asked.{Written, on_case, check}
+use Rattle.command_words.specs.declared.command.CaseTask.TheVariants.{Test, Stages}
+use Rattle.case_model.specs.StagedCase.{IsStagedRejectedIn}
+use Rattle.report.specs.StagesReport.{is_settled, stages_report}
 use Rattle.report.specs.TestReport.{is_rejected, test_report}
+use Rattle.report.specs.CheckReport.{check_report}
+use Rattle.staged_levels.specs.declared.event.Settled.{Settled}
+use Rattle.staged_levels.specs.Looks.{arrivals_of}
+use Rattle.evidence_check.specs.declared.evidence.Evidence.{Evidence}
+use Rattle.evidence_check.specs.DocumentStatements.{SaysEvidence}
+use Rattle.evidence_check.specs.EvidenceView.{version_of, steps_of, keeps_of}
 use Rattle.adjusted_p.specs.declared.adjusted.Adjusted.{Adjusted}
 use Rattle.adjusted_p.specs.AdjustedLists.{AreAdjusted}
 use Rattle.sequential.specs.declared.decision.Decision.{Decision}
@@ -28,13 +37,35 @@ pub record ReportsClosedTest (c : Content) (text : List ℕ) : Type 0 where
   pub named : (j : ℕ) → (is_rejected decision.steps j ≡ true) ↔ IsRejectedIn c j
   pub values : AreAdjusted c adjusted
 
--- the bytes say, in a form, a draft without a fault, and the text reports the closed test on its case
-pub record ReportsCase (form : Written) (bytes text : List ℕ) : Type 0 where
+-- the text is the report of the looks at a case, whose line `rejected` names exactly the hypotheses that the staged closed test rejects on the p-values that arrived
+pub record ReportsStagedTest (c : Content) (text : List ℕ) : Type 0 where
+  pub looks : List (List Settled)
+  pub text_is : text ≡ stages_report c looks
+  pub named : (j : ℕ) → (is_settled looks j ≡ true) ↔ IsStagedRejectedIn c (arrivals_of c.inputs) j
+
+-- the bytes say, in a form, a draft without a fault, and the text reports something of its case
+pub record ReportsCase (Reports : Content → List ℕ → Type 0) (form : Written) (bytes text : List ℕ) : Type 0 where
   pub draft : Draft
   pub says : (grammar form bytes).Gives draft
   pub faultless : case_fault draft ≡ None
-  pub reports : ReportsClosedTest (content_of draft) text
+  pub reports : Reports (content_of draft) text
 
 -- what words that ask for `test` are answered with status 0, by any priority, reports the closed test on the case
 abbrev pub ReportsAreOfTheClosedTest : Type 0
-ReportsAreOfTheClosedTest = (words : List (List ℕ)) (form : Written) (priority : Priority) (case : List ℕ) (proof : Option (List ℕ)) (a : Answer) → AskFor words (on_case form (Test priority)) → IsAnswerOf (outcome words (Some case) proof) a → a.status ≡ Done → ReportsCase form case a.text
+ReportsAreOfTheClosedTest = (words : List (List ℕ)) (form : Written) (priority : Priority) (case : List ℕ) (proof : Option (List ℕ)) (a : Answer) → AskFor words (on_case form (Test priority)) → IsAnswerOf (outcome words (Some case) proof) a → a.status ≡ Done → ReportsCase ReportsClosedTest form case a.text
+
+-- what words that ask for `stages` are answered with status 0 reports the staged closed test on the case
+abbrev pub ReportsAreOfTheStagedTest : Type 0
+ReportsAreOfTheStagedTest = (words : List (List ℕ)) (form : Written) (case : List ℕ) (proof : Option (List ℕ)) (a : Answer) → AskFor words (on_case form Stages) → IsAnswerOf (outcome words (Some case) proof) a → a.status ≡ Done → ReportsCase ReportsStagedTest form case a.text
+
+-- The text is the report of the evidence for a case that a proof says, whose steps list only hypotheses that the closed test rejects, and in version 2 all of them.
+pub record ReportsEvidence (c : Content) (proof text : List ℕ) : Type 0 where
+  pub evidence : Evidence
+  pub says : SaysEvidence c proof evidence
+  pub text_is : text ≡ check_report c (version_of evidence) (map (λ s. s.hypothesis) (steps_of evidence)) (map (λ x. x.hypothesis) (keeps_of evidence))
+  pub rejected : (j : ℕ) → IsListed (map (λ s. s.hypothesis) (steps_of evidence)) j → IsRejectedIn c j
+  pub all : version_of evidence ≡ 2 → (j : ℕ) → IsListed (map (λ s. s.hypothesis) (steps_of evidence)) j ↔ IsRejectedIn c j
+
+-- what words that ask for `check` are answered with status 0 lists only hypotheses that the closed test rejects, and in version 2 all of them
+abbrev pub ChecksAreOfTheClosedTest : Type 0
+ChecksAreOfTheClosedTest = (words : List (List ℕ)) (form : Written) (file : ℕ) (case proof : List ℕ) (a : Answer) → AskFor words (check form file) → IsAnswerOf (outcome words (Some case) (Some proof)) a → a.status ≡ Done → ReportsCase (λ c. ReportsEvidence c proof) form case a.text

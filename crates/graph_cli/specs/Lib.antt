@@ -1,10 +1,15 @@
 pub mod Accepted
+pub mod Bounds
 pub mod Canon
 pub mod Catalogue
+pub mod Check
 pub mod Commands
+pub mod Graphs
 pub mod Help
 pub mod Laws
 pub mod Outcome
 pub mod Stages
 pub mod Sample
+pub mod Sets
 pub mod Test
+pub mod Weights

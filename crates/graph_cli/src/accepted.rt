@@ -4,7 +4,7 @@ ghost use Rattle.std.specs.Io.KnownBytes.{IsAtEnd};
 ghost use Rattle.graph_io.specs.Causes.{Rose};
 ghost use Rattle.answers.specs.Halts.{HaltsBy, StopsBy, IfAnswered};
 ghost use Rattle.case_model.specs.CaseView.{content};
-ghost use Rattle.command_words.specs.Asked.{written, text, csv};
+ghost use Rattle.command_words.specs.Asked.{written, text, csv, json};
 ghost use Rattle.command_words.specs.Levels.{level_of};
 ghost use Rattle.graph_cli.specs.Accepted.{case_in, of_kind, of_size, suitable, accepted};
 ghost use Rattle.std.specs.Prelude.{◌≡◌};
@@ -13,13 +13,14 @@ use crate::kind::Kind;
 use crate::needs::Needs;
 use answers::{Halt, Stop, take_whole};
 use case_csv::{CsvFault, read_csv};
+use case_json::read_json;
 use case_model::Case;
 use command_words::CaseForm;
 use edge_text::{TextFault, read_text};
 use fraction::Fraction;
 use graph_io::Source;
 use refusals::{
-    case_refusal, cell_refusal, closure_refusal, form_refusal, kind_refusal, line_refusal,
+    case_refusal, cell_refusal, closure_refusal, json_refusal, kind_refusal, line_refusal,
 };
 use std::alloc::Global;
 
@@ -59,7 +60,18 @@ fn csv_case(alloc: Global, alpha: Fraction, bytes: &[u8]) -> Result<Case, Halt>
     }
 }
 
-/// The case that bytes say in a form. JSON isn't read yet.
+/// The case that JSON says.
+fn json_case(alloc: Global, bytes: &[u8]) -> Result<Case, Halt>
+    ensures given { IfOk result (λ case. (case_in json bytes.now).Gives (content case)) }
+    ensures refused { IfErr result (HaltsBy (case_in json bytes.now).Refuses) }
+{
+    match read_json(alloc, bytes) {
+        Ok(case) => Ok(case),
+        Err(fault) => Err(Halt::Refused(json_refusal(alloc, &fault)?)),
+    }
+}
+
+/// The case that bytes say in a form.
 fn read_case(alloc: Global, form: &CaseForm, bytes: &[u8]) -> Result<Case, Halt>
     ensures given { IfOk result (λ case. (case_in (written form.now) bytes.now).Gives (content case)) }
     ensures refused { IfErr result (HaltsBy (case_in (written form.now) bytes.now).Refuses) }
@@ -67,7 +79,7 @@ fn read_case(alloc: Global, form: &CaseForm, bytes: &[u8]) -> Result<Case, Halt>
     match form {
         CaseForm::Text => text_case(alloc, bytes),
         CaseForm::Csv(alpha) => csv_case(alloc, *alpha, bytes),
-        CaseForm::Json => Err(Halt::Refused(form_refusal(alloc)?)),
+        CaseForm::Json => json_case(alloc, bytes),
     }
 }
 

@@ -1,29 +1,38 @@
 //! The commands.
-ghost use Rattle.std.specs.Prelude.{◌≡◌, IfOk, OnOk, IfErr};
+ghost use Rattle.std.specs.Prelude.{◌≡◌, ◌≤◌, ◌⊎◌, IfOk, OnOk, IfErr, length};
 ghost use Rattle.std.specs.Io.KnownBytes.{IsAtEnd};
 ghost use Rattle.graph_io.specs.Causes.{Rose};
 ghost use Rattle.answers.specs.Halts.{HaltsBy, StopsBy, IfAnswered};
 ghost use Rattle.case_model.specs.CaseView.{content};
 ghost use Rattle.command_words.specs.Asked.{asked, written};
 ghost use Rattle.graph_cli.specs.Accepted.{IsOfKind};
-ghost use Rattle.graph_cli.specs.Commands.{needs_of, on_case, case_call, call_of, TakesCase, TakesProof, CallFault};
+ghost use Rattle.graph_cli.specs.Commands.{needs_of, on_case, case_call, check_needs, check_call, IsCheckable, call_of, TakesCase, TakesProof, CallFault};
 
+mod bounds;
 mod canon;
+mod graphs;
+mod check;
 mod help;
 mod made;
 mod sample;
+mod sets;
 mod stages;
 mod test;
+mod weights;
 
 use crate::accepted::accepted_case;
+use crate::commands::bounds::bounds_answer;
 use crate::commands::canon::canon_answer;
+use crate::commands::graphs::catalogue_answer;
+use crate::commands::check::check_answer;
 use crate::commands::help::help_answer;
 use crate::commands::sample::sample_answer;
 use crate::commands::stages::stages_answer;
 use crate::commands::test::test_answer;
+use crate::commands::weights::weights_answer;
 use crate::kind::Kind;
 use crate::needs::Needs;
-use answers::{Answer, Halt, Stop};
+use answers::{Answer, Halt, Stop, take_whole};
 use case_model::Case;
 use command_words::{CaseForm, CaseTask, Command};
 use graph_io::Source;
@@ -36,6 +45,8 @@ fn needs_of(task: CaseTask) -> Needs
 {
     match task {
         CaseTask::Test(_) => Needs::new(Kind::Single, 64),
+        CaseTask::Weights => Needs::new(Kind::Any, 16),
+        CaseTask::Bounds => Needs::new(Kind::Single, 16),
         CaseTask::Stages => Needs::new(Kind::Staged, 64),
         CaseTask::Canon(_) => Needs::new(Kind::Any, 64),
     }
@@ -44,12 +55,15 @@ fn needs_of(task: CaseTask) -> Needs
 /// What a task answers to a case that it can take.
 #[tactic(auto, unfolding(crate::specs::Commands::needs_of, crate::specs::Commands::on_case))]
 fn case_answer(alloc: Global, task: CaseTask, case: &Case) -> Result<Answer, Halt>
-    requires { IsOfKind (needs_of task).kind (content case.now).inputs }
+    requires kind { IsOfKind (needs_of task).kind (content case.now).inputs }
+    requires size { length (content case.now).names ≤ (needs_of task).most }
     ensures given { IfOk result (on_case task (content case.now)).Gives }
     ensures refused { IfErr result (HaltsBy (on_case task (content case.now)).Refuses) }
 {
     match task {
         CaseTask::Test(priority) => test_answer(alloc, case, priority),
+        CaseTask::Weights => weights_answer(alloc, case),
+        CaseTask::Bounds => bounds_answer(alloc, case),
         CaseTask::Stages => stages_answer(alloc, case),
         CaseTask::Canon(form) => canon_answer(alloc, case, form),
     }
@@ -72,6 +86,40 @@ fn case_call<S: Source>(
 {
     let case = accepted_case(alloc, form, needs_of(task), source)?;
     Ok(case_answer(alloc, task, &case)?)
+}
+
+/// What `check` needs of its case.
+#[tactic(auto, unfolding(crate::specs::Commands::check_needs))]
+fn check_needs() -> Needs
+    ensures { result ≡ check_needs }
+{
+    Needs::new(Kind::Single, 64)
+}
+
+/// What `check` answers to a case and a proof. It takes from the proof only behind a case that it can take.
+#[tactic(auto, unfolding(crate::specs::Commands::check_call, crate::specs::Commands::check_needs))]
+fn check_call<S: Source, T: Source>(
+    alloc: Global,
+    form: &CaseForm,
+    case: &mut S,
+    proof: &mut T,
+) -> Result<Answer, Stop>
+    ensures given { IfOk result
+        (check_call (written form.now) (S.left case.old) (T.left proof.old)).Gives }
+    ensures stopped { IfErr result
+        (StopsBy (check_call (written form.now) (S.left case.old) (T.left proof.old)).Refuses
+        (Rose (S.faults case.old) (S.faults case.new) ⊎
+        (IsCheckable (written form.now) (S.left case.old) ×
+        Rose (T.faults proof.old) (T.faults proof.new)))) }
+    ensures clean { IfAnswered result
+        ((S.faults case.new ≡ S.faults case.old) × (T.faults proof.new ≡ T.faults proof.old)) }
+    ensures case_end { OnOk result (IsAtEnd (S.left case.new)) }
+    ensures proof_kept { ¬ IsCheckable (written form.now) (S.left case.old) → proof.new ≡ proof.old }
+    ensures proof_end { OnOk result (IsAtEnd (T.left proof.new)) }
+{
+    let accepted = accepted_case(alloc, form, check_needs(), case)?;
+    let bytes = take_whole(alloc, b"proof ", proof)?;
+    Ok(check_answer(alloc, &accepted, bytes.as_slice())?)
 }
 
 /// What a command answers to a case and a proof. It takes from a source only what it needs.
@@ -99,6 +147,8 @@ pub fn call<S: Source, T: Source>(
 {
     match command {
         Command::OnCase(form, task) => case_call(alloc, form, *task, case),
+        Command::Catalogue(graph) => Ok(catalogue_answer(alloc, *graph)?),
+        Command::Check { form, .. } => check_call(alloc, form, case, proof),
         Command::Sample { size, seed } => Ok(sample_answer(alloc, *size, *seed)?),
         Command::Help => Ok(help_answer(alloc)?),
     }

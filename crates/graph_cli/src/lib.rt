@@ -1,4 +1,23 @@
 //! The top call: words, a case and a proof in, a text and a status out.
+//!
+//! Proved, of `run`:
+//! - `runs`: the status and the bytes put. Statuses up to 5 come with the whole text that the words, the case and the
+//!   proof call for (`outcome`), 6 and 7 only where a source that is read or the sink had a fault in this call, 8
+//!   with `no memory`; where no fault came, the status is up to 5, or 8, and with these no fault came. Where a source
+//!   doesn't tell its bytes, the answer is that of some bytes.
+//! - `case`, `proof`: a source that the words don't read stays as it was; one that they read was read to its end
+//!   after status 0. The proof is read only behind a case that the command can take.
+//! - `file_word`: `file`, `none`.
+//! - Laws in `src/laws.rt`: `calls_have_one_answer`, and `reports_are_of_the_closed_test` (what `test` prints with
+//!   status 0, by any priority, of a text or of a sheet, names as rejected exactly the hypotheses that the closed
+//!   test rejects, and the adjusted values are those of the closed test). That `stages` prints what the staged closed
+//!   test rejects follows from `looks` and the laws of staged_levels; it isn't a law of its own yet.
+//!
+//! The clauses speak of sources that tell their bytes and of a sink that tells what it holds, as those in memory do.
+//! Standard input and output tell neither. That the program answers there as on told bytes rests on `run` being one
+//! function for all sources and sinks, and on what is trusted below.
+//!
+//! Only tested: that `no memory` isn't told where there is memory.
 #![tactic(auto)]
 
 mod accepted;

@@ -1,6 +1,6 @@
 //! Failures, and how many there were.
 ghost use Rattle.std.specs.Prelude.{◌≡◌, ◌^◌, ◌<◌};
-ghost use Rattle.graph_io.specs.Causes.{CountsFault};
+ghost use Rattle.graph_io.specs.Causes.{CountsFault, count_up};
 
 /// A call of a source or a sink failed.
 #[derive(Clone, Copy, PartialEq, Eq, Debug)]
@@ -26,8 +26,15 @@ impl FaultCount {
         ensures counted { CountsFault self.old.count self.new.count outcome }
     {
         if outcome.is_err() {
-            self.count = self.count.saturating_add(1);
+            self.rise();
         }
         outcome
+    }
+
+    /// Counts a call that failed.
+    pub(crate) fn rise(&mut self)
+        ensures { self.new.count ≡ count_up self.old.count }
+    {
+        self.count = self.count.saturating_add(1);
     }
 }

@@ -1,10 +1,23 @@
-//! Where bytes come from and go to: sources and sinks, and whole inputs and outputs.
+//! Where bytes come from and go to: sources and sinks, and whole inputs and outputs; keepers of looks.
+//!
+//! Proved:
+//! - `read_all`: `whole`, `ended`, `taken`, `later`, `clean`. `write_all`: `bytes`, `cause`.
+//! - `MemorySource`, `MemorySink`, and `FailingSource` and `FailingSink`, whose constructors say which takes and puts
+//!   fail. `MemoryKeeper` and `FailingKeeper`, which keep looks in memory, and fail by plan.
+//!
+//! Only tested: that the adapters `StdSource` and `StdSink` pass on the bytes of standard input and output. They are
+//! proved against the traits, which say how bytes and faults are told, and nothing of the devices behind.
 #![tactic(auto)]
 
 mod adapters;
+mod failing_keeper;
 mod failing_sink;
 mod failing_source;
 mod faults;
+mod keeper;
+#[cfg(test)]
+mod keeper_tests;
+mod memory_keeper;
 mod memory_sink;
 mod memory_source;
 mod plan;
@@ -16,9 +29,12 @@ mod tests;
 mod writing;
 
 pub use adapters::{StdSink, StdSource};
+pub use failing_keeper::FailingKeeper;
 pub use failing_sink::FailingSink;
 pub use failing_source::FailingSource;
 pub use faults::Failed;
+pub use keeper::{Keeper, KeeperFault, Look};
+pub use memory_keeper::MemoryKeeper;
 pub use memory_sink::MemorySink;
 pub use memory_source::MemorySource;
 pub use reading::{ReadEnd, Source, read_all};

@@ -1,8 +1,10 @@
 pub mod CaseRefusal
 pub mod CellRefusal
 pub mod CatalogueRefusal
+pub mod JsonRefusal
 pub mod LinePieces
 pub mod NeedRefusal
+pub mod ProofRefusal
 pub mod TextRefusal
 pub mod UsageRefusal
 pub mod WideRefusal

@@ -9,8 +9,6 @@ use Rattle.edge_expression.specs.declared.fault.ExprFault.{ExprFault}
 use Rattle.edge_expression.specs.declared.fault.ExprFault.TheVariants.{Depth, DivisorNotNumber, ZeroDivisor, Degree, Part}
 use Rattle.edge_expression.specs.declared.fault.ExprFault.TheVariants as expressions
 use Rattle.answers.specs.declared.refusal.Refusal.{Refusal}
-use Rattle.answers.specs.declared.cause.Cause.TheVariants.{Malformed}
-use Rattle.answers.specs.Lines.{line}
 use Rattle.refusals.specs.LinePieces.{malformed_at, limit_at}
 
 -- a line of a text, by its number from 1
@@ -42,7 +40,3 @@ line_refusal n UnknownName = malformed_at (at_line n) (codes "unknown name")
 line_refusal n Whole = malformed_at (at_line n) (codes "whole number")
 line_refusal n (Number fault) = number_refusal (at_line n) fault
 line_refusal n (Expr fault) = expression_refusal (at_line n) fault
-
--- a form that isn't read yet
-unfoldable pub form_refusal : Refusal
-form_refusal = record { cause = Malformed; line = line (codes "malformed: form") }

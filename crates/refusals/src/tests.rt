@@ -1,8 +1,13 @@
 //! Each kind of refusal, with its line written by hand.
-use crate::{When, case_refusal, kind_refusal, line_refusal, wide_refusal};
+use crate::{
+    ProofPart, When, case_refusal, json_refusal, kind_refusal, line_refusal, no_text, proof_refusal,
+    wide_refusal,
+};
 use answers::Refusal;
-use case_model::{CaseFault, PartPlace};
+use case_json::JsonFault;
+use case_model::{CaseFault, PartPlace, Refused};
 use edge_text::{ExprFault, LineKind};
+use evidence_check::{Evidence, KeepProof, ProofKind, ProofStep, Reason, Steps};
 use field_core::{List, NoMemory, Op, Place, Text, WideAt};
 use fraction::NumberFault;
 use std::alloc::Global;
@@ -228,13 +233,18 @@ const WIDE: [(usize, Place, Op, &str); 14] = [
 ];
 
 /// How a line begins.
-const BEGINNINGS: [(When, &str); 6] = [
+const BEGINNINGS: [(When, &str); 11] = [
     (When::Reading, "too wide: reading: "),
     (When::Step(0), "too wide: step 0: "),
     (When::Step(3), "too wide: step 3: "),
     (When::Step(64), "too wide: step 64: "),
     (When::AdjustedStep(0), "too wide: adjusted step 0: "),
     (When::AdjustedStep(12), "too wide: adjusted step 12: "),
+    (When::Set(5), "too wide: set H1 dose-a: "),
+    (When::Set(0), "too wide: set: "),
+    (When::Check(ProofPart::Step(0)), "too wide: check step 0: "),
+    (When::Check(ProofPart::Step(12)), "too wide: check step 12: "),
+    (When::Check(ProofPart::Keep(2)), "too wide: check keep dose-a: "),
 ];
 
 /// An answer is this status, and the two texts in turn.
@@ -378,6 +388,141 @@ fn lines_that_cannot_stand(rt: HostRuntime) -> Result<(), Fail> {
     Ok(())
 }
 
+/// Numerals of JSON that are refused: the path, the fault, the status and the line.
+const JSON_NUMBERS: [(&str, NumberFault, u8, &str); 4] = [
+    (
+        "/alpha",
+        NumberFault::Empty,
+        3,
+        "malformed: /alpha: number\n",
+    ),
+    (
+        "/p/1",
+        NumberFault::BadByte(7),
+        3,
+        "malformed: /p/1: number\n",
+    ),
+    (
+        "/components/0/share",
+        NumberFault::ZeroDenominator,
+        3,
+        "malformed: /components/0/share: zero denominator\n",
+    ),
+    (
+        "/stages/spend/0/steps/1/levels/2",
+        NumberFault::TooManyDigits,
+        4,
+        "limit: /stages/spend/0/steps/1/levels/2: digits\n",
+    ),
+];
+
+#[test]
+fn numerals_of_json(rt: HostRuntime) -> Result<(), Fail> {
+    let alloc = rt.alloc();
+    for (path, why, status, text) in JSON_NUMBERS {
+        let fault = JsonFault::Number(Text::copy(alloc, path.as_bytes())?, why);
+        expect(&rt, &json_refusal(alloc, &fault)?, status, text);
+    }
+    Ok(())
+}
+
+/// Weights of edges of JSON that are refused: the fault, the status and the line.
+const JSON_WEIGHTS: [(ExprFault, u8, &str); 6] = [
+    (
+        ExprFault::BadByte(0),
+        3,
+        "malformed: /components/0/edges/12/weight: expression\n",
+    ),
+    (
+        ExprFault::DivisorNotNumber,
+        3,
+        "malformed: /components/0/edges/12/weight: divisor\n",
+    ),
+    (
+        ExprFault::ZeroDivisor,
+        3,
+        "malformed: /components/0/edges/12/weight: zero divisor\n",
+    ),
+    (
+        ExprFault::Degree,
+        4,
+        "limit: /components/0/edges/12/weight: degree\n",
+    ),
+    (
+        ExprFault::Part,
+        4,
+        "limit: /components/0/edges/12/weight: part\n",
+    ),
+    (
+        ExprFault::Depth,
+        4,
+        "limit: /components/0/edges/12/weight: depth\n",
+    ),
+];
+
+#[test]
+fn weights_of_json(rt: HostRuntime) -> Result<(), Fail> {
+    let alloc = rt.alloc();
+    for (why, status, text) in JSON_WEIGHTS {
+        let path = Text::copy(alloc, b"/components/0/edges/12/weight")?;
+        let fault = JsonFault::Expr(path, why);
+        expect(&rt, &json_refusal(alloc, &fault)?, status, text);
+    }
+    Ok(())
+}
+
+/// A fault of a value of JSON is told in this line, with status 3.
+fn expect_value(rt: &impl Abort, alloc: Global, fault: &JsonFault, text: &str) -> Result<(), Fail> {
+    expect(rt, &json_refusal(alloc, fault)?, 3, text);
+    Ok(())
+}
+
+#[test]
+fn a_whole_value_of_json(rt: HostRuntime) -> Result<(), Fail> {
+    let fault = JsonFault::Shape(Text::copy(rt.alloc(), b"")?);
+    expect_value(&rt, rt.alloc(), &fault, "malformed: : shape\n")
+}
+
+#[test]
+fn a_key_of_json_that_is_missing(rt: HostRuntime) -> Result<(), Fail> {
+    let fault = JsonFault::Shape(Text::copy(rt.alloc(), b"/components")?);
+    expect_value(&rt, rt.alloc(), &fault, "malformed: /components: shape\n")
+}
+
+#[test]
+fn a_number_of_json_that_is_not_whole(rt: HostRuntime) -> Result<(), Fail> {
+    let fault = JsonFault::NotWhole(Text::copy(rt.alloc(), b"/alpha")?);
+    expect_value(&rt, rt.alloc(), &fault, "malformed: /alpha: not whole\n")
+}
+
+#[test]
+fn a_name_of_json_that_is_unknown(rt: HostRuntime) -> Result<(), Fail> {
+    let fault = JsonFault::UnknownName(Text::copy(rt.alloc(), b"/p/1/to")?);
+    expect_value(&rt, rt.alloc(), &fault, "malformed: /p/1/to: unknown name\n")
+}
+
+#[test]
+fn json_of_no_value(rt: HostRuntime) -> Result<(), Fail> {
+    expect_value(&rt, rt.alloc(), &JsonFault::Syntax, "malformed: json: syntax\n")
+}
+
+#[test]
+fn json_of_no_case(rt: HostRuntime) -> Result<(), Fail> {
+    let refused = Refused {
+        names: names(rt.alloc())?,
+        fault: CaseFault::PMissing(1),
+    };
+    let fault = JsonFault::Case(refused);
+    expect_value(&rt, rt.alloc(), &fault, "malformed: case: p missing H2\n")
+}
+
+#[test]
+fn json_without_memory(rt: HostRuntime) -> Result<(), Fail> {
+    let answer = json_refusal(rt.alloc(), &JsonFault::NoMemory);
+    assert_eq!(rt; answer.err(), Some(NoMemory));
+    Ok(())
+}
+
 #[test]
 fn another_kind_of_inputs(rt: HostRuntime) -> Result<(), Fail> {
     let answer = kind_refusal(rt.alloc())?;
@@ -391,5 +536,104 @@ fn want_of_memory(rt: HostRuntime) -> Result<(), Fail> {
     let names = names(rt.alloc())?;
     let answer = case_refusal(rt.alloc(), names.as_slice(), &CaseFault::NoMemory);
     assert_eq!(rt; answer.err(), Some(NoMemory));
+    Ok(())
+}
+
+/// Evidence with steps of the third and the first hypothesis, which keeps the second.
+fn evidence(alloc: Global) -> Result<Evidence, NoMemory> {
+    let mut steps = List::new(alloc);
+    for hypothesis in [2, 0] {
+        let flows = List::new(alloc);
+        steps.push(ProofStep { hypothesis, flows })?;
+    }
+    let mut keeps = List::new(alloc);
+    let exits = List::new(alloc);
+    keeps.push(KeepProof {
+        hypothesis: 1,
+        exits,
+    })?;
+    Ok(Evidence::Plain(Steps {
+        version: 2,
+        steps,
+        keeps,
+    }))
+}
+
+/// Past the last keep a number is that of a step, and past the last step a place stands for the name.
+const BROKEN: [(usize, Reason, &str); 11] = [
+    (1, Reason::NoLevel, "no: step 1: no level\n"),
+    (2, Reason::Repeated, "no: step 2: repeated\n"),
+    (2, Reason::AboveLevel, "no: step 2: above level\n"),
+    (
+        2,
+        Reason::Negative(0, 0),
+        "no: step 2: component 1 flow of dose-a negative\n",
+    ),
+    (
+        2,
+        Reason::Exceeds(7, 1),
+        "no: step 2: component 8 flow of H1 exceeds\n",
+    ),
+    (
+        2,
+        Reason::Exceeds(0, 2),
+        "no: step 2: component 1 flow of 3 exceeds\n",
+    ),
+    (
+        3,
+        Reason::NegativeExit(0, 0),
+        "no: keep H2: component 1 exit of dose-a negative\n",
+    ),
+    (
+        3,
+        Reason::ShortExit(1, 1),
+        "no: keep H2: component 2 exit of H1 short\n",
+    ),
+    (
+        3,
+        Reason::AboveOne(0),
+        "no: keep H2: component 1 level above one\n",
+    ),
+    (3, Reason::Legal, "no: keep H2: legal\n"),
+    (4, Reason::Legal, "no: step 4: legal\n"),
+];
+
+#[test]
+fn evidence_that_does_not_hold(rt: HostRuntime) -> Result<(), Fail> {
+    let alloc = rt.alloc();
+    let names = names(alloc)?;
+    let proof = evidence(alloc)?;
+    for (n, reason, text) in BROKEN {
+        let line = no_text(alloc, names.as_slice(), &proof, n, reason)?;
+        assert_eq!(rt; line.as_slice(), text.as_bytes(), "{text}");
+    }
+    Ok(())
+}
+
+const PROOF_LINES: [(usize, ProofKind, &str); 8] = [
+    (
+        12,
+        ProofKind::Unexpected,
+        "malformed: proof line 12: unexpected\n",
+    ),
+    (12, ProofKind::Ended, "malformed: proof line 12: ended\n"),
+    (3, ProofKind::WordCount, "malformed: proof line 3: words\n"),
+    (1, ProofKind::Version, "malformed: proof line 1: version\n"),
+    (
+        2,
+        ProofKind::UnknownName,
+        "malformed: proof line 2: unknown name\n",
+    ),
+    (4, ProofKind::FlowPlace, "malformed: proof line 4: flow\n"),
+    (5, ProofKind::ExitPlace, "malformed: proof line 5: exit\n"),
+    (6, ProofKind::Number, "malformed: proof line 6: number\n"),
+];
+
+#[test]
+fn lines_of_evidence_that_cannot_stand(rt: HostRuntime) -> Result<(), Fail> {
+    for (line, kind, text) in PROOF_LINES {
+        let answer = proof_refusal(rt.alloc(), line, kind)?;
+        expect(&rt, &answer, 3, text);
+    }
     Ok(())
 }

@@ -1,7 +1,7 @@
 //! Lines of texts that say no draft.
 ghost use Rattle.std.specs.Prelude.{◌≡◌, ◌++◌, IfOk, codes};
 ghost use Rattle.refusals.specs.LinePieces.{malformed_at, limit_at};
-ghost use Rattle.refusals.specs.TextRefusal.{at_line, number_refusal, expression_refusal, line_refusal, form_refusal};
+ghost use Rattle.refusals.specs.TextRefusal.{at_line, number_refusal, expression_refusal, line_refusal};
 
 use crate::pieces::{malformed, past_limit, put_counting};
 use answers::{Cause, Refusal};
@@ -88,14 +88,4 @@ pub fn line_refusal(alloc: Global, line: usize, kind: LineKind) -> Result<Refusa
         LineKind::Number(fault) => number_refusal(alloc, place, fault),
         LineKind::Expr(fault) => expression_refusal(alloc, place, fault),
     }
-}
-
-/// The refusal of a form that isn't read yet.
-#[tactic(auto, unfolding(crate::specs::TextRefusal::form_refusal))]
-pub fn form_refusal(alloc: Global) -> Result<Refusal, NoMemory>
-    ensures { IfOk result (λ refusal. refusal ≡ form_refusal) }
-{
-    let mut text = List::new(alloc);
-    text.append(b"malformed: form")?;
-    Refusal::of_line(Cause::Malformed, text)
 }

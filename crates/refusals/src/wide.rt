@@ -1,35 +1,88 @@
 //! Lines of operations that have a part past its size.
-ghost use Rattle.std.specs.Prelude.{◌≡◌, ◌++◌, IfOk, OnOk};
-ghost use Rattle.refusals.specs.WideRefusal.{when_words, place_words, op_words, wide_refusal};
+ghost use Rattle.std.specs.Prelude.{◌≡◌, ◌++◌, IfOk, OnOk, codes};
+ghost use Rattle.field_core.specs.NumberedSets.{members};
+ghost use Rattle.refusals.specs.ProofRefusal.{part_words};
+ghost use Rattle.refusals.specs.WideRefusal.{name_if_member, names_of_members, when_words, place_words, op_words, wide_refusal};
 
 use crate::pieces::{put_between, put_counted, put_counting, put_of};
+use crate::proof::{ProofPart, put_part};
 use answers::{Cause, Refusal};
 use field_core::{List, NoMemory, Op, Place, Text, WideAt};
 use std::alloc::Global;
 
 /// When an operation is written: for a sum of the case, in a step of the decision, in a step of the run of adjusted values, in
-/// the opening of a study, or in the settling after an arrival. Steps count from 1, and step 0 is the opening; arrivals count
-/// from 1.
+/// the run of a set of hypotheses, in the opening of a study, in the settling after an arrival, or in the check of evidence. Steps
+/// count from 1, and step 0 is the opening; arrivals count from 1. Bit `k` of the number of a set says whether hypothesis `k` is
+/// a member.
 #[derive(Clone, Copy, PartialEq, Eq, Debug)]
 pub enum When {
     Reading,
     Step(usize),
     AdjustedStep(usize),
+    Set(u32),
     Opening,
     Arrival(usize),
+    Check(ProofPart),
+}
+
+/// Appends a step or a keep that is checked.
+fn put_check(text: &mut List<u8>, names: &[Text], part: ProofPart) -> Result<(), NoMemory>
+    ensures { OnOk result (text.new ≡ text.old ++ (codes "check " ++ part_words names.now part)) }
+{
+    text.append(b"check ")?;
+    put_part(text, names, part)
+}
+
+/// Whether a hypothesis is a member of a set.
+#[tactic(auto, unfolding(field_core::specs::NumberedSets::members))]
+fn is_member(set: u32, k: usize) -> bool
+    ensures { result ≡ members set k }
+{
+    k < 32 && (set >> k) & 1 == 1
+}
+
+/// Appends a space and the name of a hypothesis, where it is a member of a set.
+fn put_if_member(text: &mut List<u8>, set: u32, k: usize, name: &Text) -> Result<(), NoMemory>
+    ensures { OnOk result (text.new ≡ text.old ++ name_if_member set k name.now) }
+{
+    if !is_member(set, k) {
+        return Ok(());
+    }
+    text.push(b' ')?;
+    text.append(name.as_bytes())
+}
+
+/// Appends the names of the members of a set.
+fn put_members(text: &mut List<u8>, names: &[Text], set: u32) -> Result<(), NoMemory>
+    ensures { OnOk result (text.new ≡ text.old ++ names_of_members set 0 names.now) }
+{
+    for (k, name) in names.iter().enumerate() {
+        put_if_member(text, set, k, name)?;
+    }
+    Ok(())
+}
+
+/// Appends a set.
+fn put_set(text: &mut List<u8>, names: &[Text], set: u32) -> Result<(), NoMemory>
+    ensures { OnOk result (text.new ≡ text.old ++ (codes "set" ++ names_of_members set 0 names.now)) }
+{
+    text.append(b"set")?;
+    put_members(text, names, set)
 }
 
 /// Appends when an operation is written.
 #[tactic(auto, unfolding(crate::specs::WideRefusal::when_words))]
-fn put_when(text: &mut List<u8>, when: When) -> Result<(), NoMemory>
-    ensures { OnOk result (text.new ≡ text.old ++ when_words when) }
+fn put_when(text: &mut List<u8>, names: &[Text], when: When) -> Result<(), NoMemory>
+    ensures { OnOk result (text.new ≡ text.old ++ when_words names.now when) }
 {
     match when {
         When::Reading => text.append(b"reading"),
         When::Step(n) => put_counting(text, b"step ", n as u128),
         When::AdjustedStep(n) => put_counting(text, b"adjusted step ", n as u128),
+        When::Set(set) => put_set(text, names, set),
         When::Opening => text.append(b"opening"),
         When::Arrival(n) => put_counting(text, b"arrival ", n as u128),
+        When::Check(part) => put_check(text, names, part),
     }
 }
 
@@ -81,7 +134,7 @@ pub fn wide_refusal(
 {
     let mut text = List::new(alloc);
     text.append(b"too wide: ")?;
-    put_when(&mut text, when)?;
+    put_when(&mut text, names, when)?;
     text.append(b": component ")?;
     put_counted(&mut text, wide.component)?;
     text.push(b' ')?;

@@ -1,4 +1,6 @@
+pub mod EvidenceNames
 pub mod Lines
 pub mod LooksOfCase
 pub mod OfCase
 pub mod StageLines
+pub mod SetReports

@@ -12,7 +12,7 @@ use Rattle.sequential.specs.declared.decision.StepLine.{StepLine}
 use Rattle.report.specs.TestReport.{spaced_name, is_rejected, name_if_rejected}
 
 -- one place more
-flat_map-more : (f : ℕ → List ℕ) (n : ℕ) → flat_map f (range_with_len 0 (n + 1)) ≡ flat_map f (range_with_len 0 n) ++ f n
+pub flat_map-more : (f : ℕ → List ℕ) (n : ℕ) → flat_map f (range_with_len 0 (n + 1)) ≡ flat_map f (range_with_len 0 n) ++ f n
 flat_map-more f n =
     sym (flat_map-map f (λ k. k) (range_with_len 0 (n + 1)))
     ∙ ap (flat_map f) (map-range_with_len_more (λ k. k) 0 n n (omega arith))

@@ -1,4 +1,7 @@
+pub mod CheckReport
 pub mod ReportStatements
 pub mod StagesReport
 pub mod SampleReport
 pub mod TestReport
+pub mod WeightsReport
+pub mod BoundsReport

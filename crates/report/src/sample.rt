@@ -40,7 +40,7 @@ fn edge_count(case: &Case) -> usize
 }
 
 /// Appends a line of words and a number.
-fn put_count(text: &mut List<u8>, words: &[u8], n: usize) -> Result<(), NoMemory>
+pub(crate) fn put_count(text: &mut List<u8>, words: &[u8], n: usize) -> Result<(), NoMemory>
     ensures { OnOk result (text.new ≡ text.old ++ line (words.now ++ decimal n)) }
 {
     text.append(words)?;

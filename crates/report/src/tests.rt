@@ -5,9 +5,10 @@ ghost use Rattle.case_model.specs.Draft.{have_known_ends, have_known_arrivals};
 ghost use Rattle.case_model.specs.CaseView.{content};
 ghost use Rattle.report.specs.TestReport.{AreOfCase};
 
-use crate::test_text;
+use crate::{check_text, test_text};
 use adjusted_p::Adjusted;
 use case_model::{Case, Draft, DraftComponent};
+use evidence_check::read;
 use field_core::{List, NoMemory, Number, Text};
 use fraction::{Fraction, FractionFault};
 use sequential::{Decision, StepLine, is_single};
@@ -316,5 +317,37 @@ fn decisions(rt: HostRuntime) -> Result<(), Fail> {
     expect(&rt, rt.alloc(), &THREE_OF_FOUR)?;
     expect(&rt, rt.alloc(), &TWO_KEPT)?;
     expect(&rt, rt.alloc(), &ELEVEN_STEPS)?;
+    Ok(())
+}
+
+/// Evidence for a case of three hypotheses, whether it holds or not, and what is printed of it where it does.
+const EVIDENCE: [(&str, &str); 4] = [
+    ("evidence 1\nend\n", "yes\nlisted\nend\n"),
+    (
+        "evidence 1\nstep H3\nstep H1\nflow 1 H3 0\nend\n",
+        "yes\nlisted H3 H1\nend\n",
+    ),
+    (
+        "evidence 2\nstep H2\nkeep H1\nexit 1 H2 0\nkeep H3\nexit 1 H2 0\nend\n",
+        "yes\nlisted H2\nkept H1 H3\nend\n",
+    ),
+    (
+        "evidence 2\nstep H3\nstep H1\nflow 1 H3 0\nstep H2\nflow 1 H3 0\nflow 1 H1 0\nend\n",
+        "yes\nlisted H3 H1 H2\nkept\nend\n",
+    ),
+];
+
+#[test]
+fn evidence(rt: HostRuntime) -> Result<(), Fail> {
+    let case = case(rt.alloc(), &ALL_REJECTED)?;
+    for (document, printed) in EVIDENCE {
+        match read(rt.alloc(), &case, document.as_bytes()) {
+            Ok(proof) => {
+                let text = check_text(rt.alloc(), &case, &proof)?;
+                assert_eq!(rt; text.as_slice(), printed.as_bytes(), "{printed}");
+            }
+            Err(_) => panic!(rt; "{printed}"),
+        }
+    }
     Ok(())
 }

@@ -1,4 +1,7 @@
 //! The removal of a hypothesis from a weighted graph of quotients in epsilon, kept in rows over one denominator.
+//!
+//! Proved: `RowNet` is a `Remover` over quotients in epsilon that keeps each row of numerators over one denominator,
+//! and clears what the rows have in common; `try_new`. Cases with epsilon run on it.
 #![tactic(auto)]
 
 mod gathering;

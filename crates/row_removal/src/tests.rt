@@ -1,3 +1,4 @@
+//! Removals on rows over one denominator, worked by hand.
 ghost use Rattle.std.specs.Prelude.{◌≡◌, ◌∷◌, [], pos, IfOk, All, map};
 ghost use Rattle.field_core.specs.View.{terms};
 ghost use Rattle.fraction.specs.Lowest.{lowest_terms};

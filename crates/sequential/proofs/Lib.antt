@@ -1,7 +1,6 @@
 pub mod AnyTrial
 pub mod Calls
 pub mod Candidates
-pub mod CaseRuns
 pub mod ChoiceFacts
 pub mod Decided
 pub mod DecisionLaws

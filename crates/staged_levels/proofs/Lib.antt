@@ -3,9 +3,9 @@ pub mod Arrivals
 pub mod Calls
 pub mod CaseArrivals
 pub mod LookLaws
+pub mod LooksDecide
 pub mod LookSteps
 pub mod Settlings
 pub mod StateFacts
 pub mod StudyFacts
-pub mod Turns
 pub mod Values

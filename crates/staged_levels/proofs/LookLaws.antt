@@ -10,7 +10,7 @@ use Rattle.case_model.specs.StagedCase.{IsStagedLegalIn}
 use Rattle.case_model.proofs.RejectionOrders.{first_unique}
 use Rattle.entangled.specs.CaseRun.{CaseState, case_opening, case_removal}
 use Rattle.entangled.specs.CaseAfter.{case_after}
-use Rattle.staged_levels.proofs.Turns.{after_next, after_more}
+use Rattle.entangled.proofs.CaseRuns.{after_next, after_more}
 use Rattle.staged_levels.specs.declared.event.Settled.{Settled}
 use Rattle.staged_levels.specs.Studies.{StudyState, start, positions_of, remaining, IsSettled}
 use Rattle.staged_levels.specs.StudyCalls.{IsArrival, IsRejection, AreFirstRejections, Settles}
@@ -105,19 +105,19 @@ module _ (c : Content) where
   added_same [] xs ys e = e
   added_same (r ∷ rs) xs ys e = added_same rs xs ys (cc)
 
-  look_unique : (old s t : StudyState) (a : Arrival) (xs ys : List Settled) → IsLook c old a xs s → IsLook c old a ys t → (s ≡ t) × (xs ≡ ys)
+  pub look_unique : (old s t : StudyState) (a : Arrival) (xs ys : List Settled) → IsLook c old a xs s → IsLook c old a ys t → (s ≡ t) × (xs ≡ ys)
   look_unique old s t a xs ys h g =
       let arrived : g.arrived ≡ h.arrived = arrival_unique old g.arrived h.arrived a g.arrival h.arrival in
       let ends : s ≡ t = settling_unique c h.arrived s t h.settles (subst (λ m. Settles c m t) arrived g.settles) in
       (ends, added_same old.rejected xs ys (sym h.rejected ∙ ap (λ m. m.rejected) ends ∙ g.rejected))
 
-  look_not_wide : (old s : StudyState) (a : Arrival) (xs : List Settled) (w : WideAt) → IsLook c old a xs s → ¬ IsWideLook c old a w
+  pub look_not_wide : (old s : StudyState) (a : Arrival) (xs : List Settled) (w : WideAt) → IsLook c old a xs s → ¬ IsWideLook c old a w
   look_not_wide old s a xs w h W =
       let arrived : h.arrived ≡ W.arrived = arrival_unique old h.arrived W.arrived a h.arrival W.arrival in
       let settles : Settles c W.arrived s = subst (λ m. Settles c m s) arrived h.settles in
       not_broken W.arrived W.stop s w W.rejected settles.hypotheses W.rejections W.is_defined W.wide settles.rejections h.is_defined settles.settled
 
-  wide_look_unique : (old : StudyState) (a : Arrival) (v w : WideAt) → IsWideLook c old a v → IsWideLook c old a w → v ≡ w
+  pub wide_look_unique : (old : StudyState) (a : Arrival) (v w : WideAt) → IsWideLook c old a v → IsWideLook c old a w → v ≡ w
   wide_look_unique old a v w V W =
       let arrived : W.arrived ≡ V.arrived = arrival_unique old W.arrived V.arrived a W.arrival V.arrival in
       one_break V.arrived V.stop W.stop v w V.rejected W.rejected V.rejections V.is_defined V.wide (subst (λ m. AreFirstRejections c m W.rejected W.stop) arrived W.rejections) W.is_defined W.wide

@@ -20,7 +20,7 @@ use Rattle.staged_levels.specs.Looks.{arrivals_of, IsDefined, IsLook, IsWideLook
 use Rattle.staged_levels.proofs.Calls.{first_keep}
 
 -- an arrival that may come isn't refused
-fault_not_may : (c : Content) (s : StudyState) (a : Arrival) (fault : StepFault) → MayArrive c s.values a → ¬ IsArriveFault c s a fault
+pub fault_not_may : (c : Content) (s : StudyState) (a : Arrival) (fault : StepFault) → MayArrive c s.values a → ¬ IsArriveFault c s a fault
 fault_not_may c s a (StageRange t) m f = f.1 m.stage
 fault_not_may c s a (Known i t) m f = m.unknown f.3
 fault_not_may c s a PRange m f = f.2 m.p

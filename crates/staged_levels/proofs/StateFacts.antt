@@ -22,7 +22,7 @@ use Rattle.case_model.proofs.LocalTests.{legal_passes_by, passes_legal_by}
 use Rattle.case_model.proofs.RejectionOrders.{not_listed_left, left_not_listed, listed_or_not}
 use Rattle.entangled.specs.CaseRun.{case_size, is_live_in_case, case_level, case_opening}
 use Rattle.entangled.specs.CaseAfter.{case_after}
-use Rattle.staged_levels.proofs.Turns.{after_next, after_opening}
+use Rattle.entangled.proofs.CaseRuns.{after_next, after_opening}
 use Rattle.entangled.proofs.CaseLevels.{case_levels, case_live, case_sizes}
 use Rattle.staged_levels.specs.declared.event.Settled.{Settled}
 use Rattle.staged_levels.specs.Studies.{start, positions_of, remaining, MayArrive, IsFirstStageBy, IsFirstStage, IsRejectionFrom, IsStudyOf, IsLegalNow}

@@ -63,6 +63,11 @@ LooksLead c old [] (l ∷ ls) new = ⊥
 LooksLead c old (a ∷ more) [] new = ⊥
 LooksLead c old (a ∷ more) (l ∷ ls) new = (mid : StudyState) × IsLook c old a l mid × LooksLead c mid more ls new
 
+-- the rejections of looks, one after another
+abbrev pub rejected_in : List (List Settled) → List Settled
+rejected_in [] = []
+rejected_in (l ∷ looks) = l ++ rejected_in looks
+
 -- the looks at a case from its opening on, which is defined
 pub record AreLooks (c : Content) (looks : List (List Settled)) : Type 0 where
   pub opened : IsDefined c start

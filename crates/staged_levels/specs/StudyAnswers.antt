@@ -8,10 +8,7 @@ use Rattle.case_model.specs.Content.{Content}
 use Rattle.case_model.specs.Draft.{is_p_value}
 use Rattle.case_model.specs.LegalOrder.{IsListed, IsFirst}
 use Rattle.case_model.specs.StagedCase.{IsStagedLegalIn}
-use Rattle.entangled.specs.CaseRun.{case_opening}
 use Rattle.entangled.specs.CaseAfter.{case_after}
-use Rattle.entangled.specs.declared.open_fault.OpenFault.{OpenFault}
-use Rattle.entangled.specs.declared.open_fault.OpenFault.TheVariants.{Wide as OpenWide, NoMemory as OpenNoMemory}
 use Rattle.staged_levels.specs.Studies.{StudyState, positions_of, remaining, IsKnown, IsStage, IsLegalNow}
 use Rattle.staged_levels.specs.StudyCalls.{StudyCall, arrive, reject}
 use Rattle.staged_levels.specs.declared.event.Event.{Event}
@@ -26,11 +23,6 @@ abbrev pub IsStaged : Inputs → Type 0
 IsStaged (Staged s) = Unit {0}
 IsStaged Bare = ⊥
 IsStaged (Single ps) = ⊥
-
--- why a case isn't opened: the first operation of the written opening that is undefined; nothing is said of memory
-abbrev pub IsOpenFaultOf : Content → OpenFault → Type 0
-IsOpenFaultOf c (OpenWide w) = case_opening c ≡ Err w
-IsOpenFaultOf c OpenNoMemory = Unit {0}
 
 -- the call that an event is
 abbrev pub call_of : Event → StudyCall

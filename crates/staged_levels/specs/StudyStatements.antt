@@ -5,9 +5,11 @@ use Rattle.field_core.specs.Sets.{whole}
 use Rattle.case_model.specs.declared.draft_stages.Arrival.{Arrival}
 use Rattle.case_model.specs.Content.{Content}
 use Rattle.case_model.specs.LegalOrder.{IsListed, IsOrderBy}
+use Rattle.case_model.specs.Validity.{IsValidContent}
 use Rattle.case_model.specs.StagedCase.{IsStagedLegalIn, IsStagedRejectedIn}
 use Rattle.staged_levels.specs.declared.event.Settled.{Settled}
 use Rattle.staged_levels.specs.Studies.{StudyState, positions_of, IsStudyOf, IsSettled}
+use Rattle.staged_levels.specs.Looks.{arrivals_of, rejected_in, AreLooks}
 use Rattle.staged_levels.specs.StudyCalls.{Answered, Settles, AreCalls, AreCallsFromOpening, arrivals_in}
 
 -- Calls on a study of a case leave a study of it, whatever they ask for and whatever they answer.
@@ -49,6 +51,12 @@ abbrev pub SettlingDecides : Type 0
 SettlingDecides =
     (c : Content) (es : List Answered) (s : StudyState) (j : ℕ) → AreCallsFromOpening c es s → IsSettled c s
     → IsListed (positions_of s.rejected) j ↔ IsStagedRejectedIn c (arrivals_in es) j
+
+-- What is rejected in the looks at a case is exactly what the staged closed test rejects on the p-values that arrived.
+abbrev pub LooksDecide : Type 0
+LooksDecide =
+    (c : Content) (looks : List (List Settled)) (j : ℕ) → IsValidContent c → AreLooks c looks
+    → IsListed (positions_of (rejected_in looks)) j ↔ IsStagedRejectedIn c (arrivals_of c.inputs) j
 
 -- A study has one settling at most: the same rejections in the same order, with the same stages and weights.
 abbrev pub SettlingsOfStudiesAreUnique : Type 0

@@ -1,6 +1,6 @@
 //! Laws of studies. Each function states laws that hold of all cases, and does nothing.
 
-ghost use Rattle.staged_levels.specs.StudyStatements.{CallsLeaveStudies, ValuesAreAccepted, RejectionsStay, StudiesHaveLegalOrders, StudiesRejectByTheStagedTest, SettledStudiesDecide, SettledStudiesAgree, SettlingDecides, SettlingsOfStudiesAreUnique};
+ghost use Rattle.staged_levels.specs.StudyStatements.{CallsLeaveStudies, ValuesAreAccepted, RejectionsStay, StudiesHaveLegalOrders, StudiesRejectByTheStagedTest, SettledStudiesDecide, SettledStudiesAgree, SettlingDecides, LooksDecide, SettlingsOfStudiesAreUnique};
 
 /// Whatever calls are made on a study, its rejections are a legal order on the values that have arrived, and the staged
 /// closed test rejects each of them.
@@ -15,6 +15,11 @@ pub fn settled_studies_decide()
     ensures decide { SettledStudiesDecide }
     ensures agree { SettledStudiesAgree }
     ensures calls { SettlingDecides }
+{}
+
+/// What is rejected in the looks at a case is exactly what the staged closed test rejects on the p-values that arrived.
+pub fn looks_decide()
+    ensures { LooksDecide }
 {}
 
 /// The values are those of the accepted arrivals, and no call takes a rejection back.

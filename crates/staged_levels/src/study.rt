@@ -99,7 +99,8 @@ impl Study {
     ghost use Rattle.case_model.specs.StagedCase.{IsStagedRejectedIn};
     ghost use Rattle.entangled.specs.CaseRun.{is_live_in_case, case_level};
     ghost use Rattle.staged_levels.specs.Studies.{start, positions_of, remaining, IsSettled};
-    ghost use Rattle.staged_levels.specs.StudyAnswers.{IsStaged, IsOpenFaultOf};
+    ghost use Rattle.staged_levels.specs.StudyAnswers.{IsStaged};
+    ghost use Rattle.entangled.specs.OpenFaults.{IsOpenFaultOf};
     ghost use Rattle.staged_levels.specs.StudyContents.{IsStudy, size_of};
     ghost use Rattle.staged_levels.specs.StudyView.{study};
 
@@ -146,6 +147,13 @@ impl Study {
         ensures complete { (c : Content) (j : ℕ) → IsStudy c (study self.now) → IsSettled c (study self.now).looks → IsStagedRejectedIn c (study self.now).looks.values j → IsListed (positions_of result.now) j }
     {
         self.settled.as_slice()
+    }
+
+    /// The p-values that have arrived, in their order.
+    pub fn values(&self) -> &[Arrival]
+        ensures { result.now ≡ (study self.now).looks.values }
+    {
+        self.values.as_slice()
     }
 
     /// Whether `k` is still in.

@@ -1,3 +1,4 @@
 pub mod Cut
+pub mod HandedOn
 pub mod Keywords
 pub mod Spelt

@@ -1,6 +1,5 @@
 -- A bundle of one net of share 1 whose closed form is short: neither a removal nor a level is refused.
-use Rattle.std.proofs.Common.{◌≡◌, ◌≢◌, inl, inr, refl, sym, ap, ◌∙◌, subst, ℕ, zero, suc, ◌≤◌, ◌<◌, ◌+◌, ◌*◌, ◌^◌, ◌/◌, arith, Bool, List, [], ◌∷◌, Option, Some, Ok, ℤ, pos, negsuc, neg_ℤ, int_div, unsigned_abs, Result}
-use Rattle.std.proofs.Math.Nat.{div-le_self}
+use Rattle.std.proofs.Common.{◌≡◌, ◌≢◌, inl, inr, refl, ap, ◌∙◌, ℕ, ◌≤◌, ◌<◌, ◌*◌, arith, Bool, List, [], ◌∷◌, Option, Some, Ok, unsigned_abs, Result}
 use Rattle.field_core.specs.Number.{Number}
 use Rattle.field_core.specs.NumberField.{number_field}
 use Rattle.field_core.specs.Divisor.{gcd}
@@ -12,34 +11,32 @@ use Rattle.field_core.specs.Sets.{IsIn, dropping, whole}
 use Rattle.field_core.specs.Terms.{Terms}
 use Rattle.field_core.specs.View.{terms}
 use Rattle.field_core.specs.Runs.{IsOrder}
-use Rattle.field_core.specs.Steps.{in_component, placed, each_below, ◌>>=◌}
-use Rattle.field_core.specs.declared.ratio.Ratio.{Ratio}
+use Rattle.field_core.specs.Steps.{in_component, placed, ◌>>=◌}
 use Rattle.field_core.specs.declared.place.Op.{Op}
 use Rattle.field_core.specs.declared.place.Op.TheVariants.{Add, Mul}
 use Rattle.field_core.specs.declared.place.Place.{Place}
 use Rattle.field_core.specs.declared.place.TooWide.{TooWide}
 use Rattle.field_core.specs.declared.place.Wide.{Wide}
-use Rattle.field_core.specs.declared.place.WideAt.{WideAt}
 use Rattle.field_core.specs.declared.place.Place.TheVariants.{Share}
 use Rattle.field_core.proofs.Agreement.{Agrees}
 use Rattle.field_core.proofs.ClosedForms.{IsClosedForm}
 use Rattle.field_core.proofs.Live.{true_or_false}
 use Rattle.fraction.specs.Plain.{plain, pair_of}
-use Rattle.fraction.specs.Within.{IsWithin, limit_of}
-use Rattle.fraction.specs.Written.{written_add, written_mul}
+use Rattle.fraction.specs.Within.{IsWithin}
+use Rattle.fraction.specs.Written.{written_mul}
 use Rattle.fraction.proofs.ShortTerms.{mul_within, add_within}
 use Rattle.fraction.proofs.ShortNumbers.{IsNumberWithin}
-use Rattle.case_model.specs.Sums.{zero_terms, terms_at, ratio_at}
+use Rattle.fraction.proofs.ShortTerms.{abs_quotient}
+use Rattle.case_model.specs.Sums.{zero_terms, terms_at, ratio_at, one_ratio}
 use Rattle.removal.specs.StoredGraph.{StoredGraph, size, is_live, weight}
 use Rattle.removal.specs.ByValue.{graph_of}
 use Rattle.removal.specs.WrittenRemoval.{written_removal}
 use Rattle.removal.specs.InTurn.{removed_in_turn}
 use Rattle.removal.proofs.WeightsLeft.{turn_end, turn_on}
-use Rattle.entangled.specs.Bundled.{Bundled, opened, removed, removed_together, written_levels, written_level, written_share, limits, is_live_by, states_size}
+use Rattle.entangled.specs.Bundled.{opened, removed, removed_together, written_levels, written_level, written_share, limits, is_live_by, states_size}
 use Rattle.entangled.specs.BundleRun.{opened_after}
-use Rattle.entangled.specs.Items.{each_item}
 use Rattle.entangled.specs.Shares.{written_products, with_product}
-use Rattle.textbook.specs.TextbookRuns.{Stores, one_ratio}
+use Rattle.textbook.specs.TextbookRuns.{Stores}
 use Rattle.textbook.proofs.ShortRemovals.{AreWithin, Fit, IsDefined, each_defined, then_made}
 use Rattle.textbook.proofs.ShortRuns.{Now, now_short, next_state, start_agrees, start_now}
 
@@ -51,15 +48,6 @@ zero_within = record { num = omega arith; den = omega arith }
 
 through : (a b c : ℕ) → a ≤ b → b ≤ c → a ≤ c
 through a b c h g = omega (arith, h, g)
-
-abs_opposite : (z : ℤ) → unsigned_abs (neg_ℤ z) ≡ unsigned_abs z
-abs_opposite (pos zero) = refl
-abs_opposite (pos (suc n)) = refl
-abs_opposite (negsuc n) = refl
-
-abs_quotient : (z : ℤ) (g : ℕ) → unsigned_abs (int_div z (pos g)) ≤ unsigned_abs z
-abs_quotient (pos n) g = div-le_self n g
-abs_quotient (negsuc n) g = subst (λ a. a ≤ suc n) (sym (abs_opposite (pos (suc n / g)))) (div-le_self (suc n) g)
 
 limit_within : (w : ℕ) (x : Parts) → IsWithin w (pair_of x) → IsWithin w (limit_terms x)
 unfolding limit_terms

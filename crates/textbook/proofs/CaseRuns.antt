@@ -1,13 +1,11 @@
 -- The written run of a plain case of one component is that of its net.
-use Rattle.std.proofs.Common.{◌≡◌, ◌≢◌, refl, sym, ap, ap₂, ◌∙◌, subst, inl, inr, ℕ, zero, suc, ◌+◌, ◌*◌, ◌/◌, ◌%◌, ◌<◌, arith, Bool, true, List, [], ◌∷◌, ◌++◌, length, map, get_or, ℤ, pos, ◌*ℤ◌, Result, Ok, Err}
-use Rattle.std.proofs.lemmas.Int.{ints}
+use Rattle.std.proofs.Common.{◌≡◌, refl, sym, ap, ◌∙◌, subst, ℕ, ◌*◌, ◌<◌, arith, true, List, [], ◌∷◌, length, map, get_or, pos, ◌*ℤ◌, Result, Ok}
 use Rattle.field_core.specs.Number.{Number}
 use Rattle.field_core.specs.Arithmetic.{number_one}
-use Rattle.field_core.specs.Fractions.{fraction}
 use Rattle.field_core.specs.Graph.{Graph}
 use Rattle.field_core.specs.Kind.{ok_map}
-use Rattle.field_core.specs.Sets.{IsIn, dropping, whole}
-use Rattle.field_core.specs.Runs.{IsOrder, left_after}
+use Rattle.field_core.specs.Sets.{whole}
+use Rattle.field_core.specs.Runs.{IsOrder}
 use Rattle.field_core.specs.Steps.{in_component, each_below, ◌>>=◌}
 use Rattle.field_core.specs.Laws.Prefixes.{bind_ok, each_suc}
 use Rattle.field_core.specs.Laws.Effective.{fraction-cross, positive_nonzero}
@@ -15,20 +13,16 @@ use Rattle.field_core.specs.View.{terms}
 use Rattle.field_core.specs.declared.ratio.Ratio.{Ratio}
 use Rattle.field_core.specs.declared.place.WideAt.{WideAt}
 use Rattle.field_core.proofs.UnitLimits.{one_is, suc_not_zero}
-use Rattle.fraction.specs.Plain.{plain, single}
+use Rattle.fraction.specs.Plain.{plain}
 use Rattle.fraction.specs.View.{number_of}
 use Rattle.fraction.specs.Laws.Unique.{reduced_unique}
 use Rattle.fraction.proofs.SameRatios.{same_ratio}
 use Rattle.case_model.specs.declared.component.Component.{Component}
-use Rattle.case_model.specs.declared.inputs.Inputs.{Inputs}
 use Rattle.case_model.specs.Content.{Content, component_at, empty_component, entangled, is_plain}
-use Rattle.case_model.specs.LegalOrder.{IsOrderBy}
 use Rattle.case_model.specs.TextbookGraphs.{IsAlone}
 use Rattle.case_model.specs.Validity.{IsValidContent}
-use Rattle.case_model.specs.Sums.{ratio_at}
-use Rattle.case_model.proofs.SingleInputs.{for_single}
-use Rattle.case_model.proofs.ValidContents.{shape}
-use Rattle.case_numbers.specs.Numbers.{in_fractions, loaded_weight}
+use Rattle.case_model.specs.Sums.{one_ratio}
+use Rattle.case_numbers.specs.Numbers.{in_fractions}
 use Rattle.case_numbers.proofs.Components.{is_component, can_load}
 use Rattle.removal.specs.StoredGraph.{StoredGraph, size}
 use Rattle.removal.specs.WrittenRemoval.{written_removal}
@@ -39,12 +33,12 @@ use Rattle.entangled.specs.Bundled.{Bundled, opened, removed}
 use Rattle.entangled.specs.BundleRun.{opened_after}
 use Rattle.entangled.specs.Loading.{edge_at, loaded_edges, loaded_graph, loaded_state, loaded_states, state_at}
 use Rattle.entangled.specs.States.{gathered_in}
-use Rattle.entangled.specs.CaseRun.{CaseState, state_of, opening_in, case_opening, case_removal}
+use Rattle.entangled.specs.CaseRun.{state_of, opening_in, case_opening, case_removal}
 use Rattle.entangled.specs.CaseAfter.{case_after}
 use Rattle.entangled.proofs.CaseGraphs.{IsGraphOf, graph_loaded}
 use Rattle.entangled.proofs.CaseNumbers.{plain_opening}
-use Rattle.entangled.proofs.LoadSteps.{no_states, next_state, all_states}
-use Rattle.textbook.specs.TextbookRuns.{Stores, IsNeverRefusedAlone, one_ratio}
+use Rattle.entangled.proofs.LoadSteps.{no_states, all_states}
+use Rattle.textbook.specs.TextbookRuns.{Stores, IsNeverRefusedAlone}
 use Rattle.textbook.proofs.ShortRemovals.{IsDefined, each_defined, then_made}
 
 -- ---- lists of one

@@ -97,7 +97,7 @@ module _ (a : ℕ → ℕ) (d : ℕ) where
       ]
 
   module _ (m : ℕ) (small : d < 100000000) (whole_sum : total a m ≤ suc d) where
-    weight_short : (I : ℕ → Bool) (l : ℕ) → IsIn m I l → IsNumberWithin 100000000 (chain_weight number_field (λ i. fraction (pos (a i)) (pos (suc d))) I l)
+    pub weight_short : (I : ℕ → Bool) (l : ℕ) → IsIn m I l → IsNumberWithin 100000000 (chain_weight number_field (λ i. fraction (pos (a i)) (pos (suc d))) I l)
     weight_short I l p =
         let M = multiple I l in
         let b = M.most in

@@ -1,8 +1,8 @@
 -- On Holm's graph no removal is refused.
-use Rattle.std.proofs.Common.{◌≡◌, ◌≢◌, inl, inr, refl, sym, ap, ◌∙◌, subst, ℕ, zero, suc, ◌≤◌, arith, Bool, lit<}
+use Rattle.std.proofs.Common.{◌≡◌, ◌≢◌, refl, sym, ap, ◌∙◌, subst, ℕ, suc, ◌≤◌, arith, Bool, lit<}
 use Rattle.field_core.specs.NumberField.{number_field}
 use Rattle.field_core.specs.Sets.{IsIn, dropping, whole}
-use Rattle.field_core.proofs.Live.{dropping_other, true_or_false}
+use Rattle.field_core.proofs.Live.{dropping_other}
 use Rattle.field_core.specs.Fractions.{one_over}
 use Rattle.case_model.specs.TextbookGraphs.{equal_graph}
 use Rattle.field_core.specs.Sets.{size_of}
@@ -25,7 +25,7 @@ module _ (m : ℕ) (few : m ≤ 64) where
   part_short : (n r : ℕ) → suc r ≡ n → n ≤ m → IsNumberWithin 64 (one_over n)
   part_short n r e h = record { over = 1; under = r; is = ap one_over (sym e); over_within = omega arith; under_within = omega (arith, e, h, few) }
 
-  weight_short : (I : ℕ → Bool) (l : ℕ) → IsIn m I l → IsNumberWithin 64 (one_over (size_of m I))
+  pub weight_short : (I : ℕ → Bool) (l : ℕ) → IsIn m I l → IsNumberWithin 64 (one_over (size_of m I))
   weight_short I l p = part_short (size_of m I) (size_of m (dropping l I)) (size_dropped m l I p) (size_within m I)
 
   edge_short : (I : ℕ → Bool) (l h : ℕ) → IsIn m I l → IsIn m I h → l ≢ h → IsNumberWithin 64 (one_over (size_of m (dropping l I)))

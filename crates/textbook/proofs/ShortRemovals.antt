@@ -1,5 +1,5 @@
 -- The written removal of a hypothesis from a graph of short fractions is defined.
-use Rattle.std.proofs.Common.{◌≡◌, ◌≢◌, ◌⊎◌, inl, inr, refl, sym, ap, ◌∙◌, ℕ, zero, suc, ◌≤◌, ◌<◌, ◌+◌, ◌*◌, ◌^◌, ◌==◌, ◌||◌, not, arith, Bool, true, false, if◌then◌else◌, List, [], ◌∷◌, ◌++◌, Option, Some, None, Result, Ok}
+use Rattle.std.proofs.Common.{◌≡◌, ◌≢◌, ◌⊎◌, inl, inr, refl, sym, ap, ◌∙◌, ℕ, zero, suc, ◌<◌, ◌^◌, ◌==◌, ◌||◌, not, arith, Bool, true, false, if◌then◌else◌, List, [], ◌∷◌, ◌++◌, Option, Some, None, Result, Ok}
 use Rattle.std.proofs.lemmas.Bool.Decides.{nat_tests}
 use Rattle.field_core.specs.Kind.{Parts, is_zero}
 use Rattle.field_core.specs.declared.place.Op.{Op}

@@ -1,5 +1,5 @@
 -- Runs of removals whose closed form is short are never refused.
-use Rattle.std.proofs.Common.{◌≡◌, ◌≢◌, refl, sym, ap, ◌∙◌, subst, ℕ, ◌≤◌, ◌<◌, ◌+◌, ◌*◌, Bool, true, List, [], ◌∷◌, Ok}
+use Rattle.std.proofs.Common.{◌≡◌, ◌≢◌, refl, sym, ap, ◌∙◌, subst, ℕ, ◌<◌, Bool, true, List, [], ◌∷◌, Ok}
 use Rattle.field_core.specs.Number.{Number}
 use Rattle.field_core.specs.NumberField.{number_field}
 use Rattle.field_core.specs.Graph.{Graph}

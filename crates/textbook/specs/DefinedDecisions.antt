@@ -1,4 +1,4 @@
--- Written runs of decisions on the graphs of textbook rules.
+-- Written runs of decisions and of adjusted values on the graphs of textbook rules.
 use Rattle.std.specs.Prelude.{◌≡◌, ◌<◌, ◌≤◌, ℕ, suc, pos, true, length}
 use Rattle.field_core.specs.Fractions.{fraction}
 use Rattle.field_core.specs.declared.place.WideAt.{WideAt}
@@ -6,12 +6,18 @@ use Rattle.case_model.specs.Content.{Content, entangled, is_plain}
 use Rattle.case_model.specs.TextbookGraphs.{IsHolmGraph, IsSequenceGraph, IsFallbackGraph}
 use Rattle.case_model.specs.Validity.{IsValidContent}
 use Rattle.sequential.specs.WideDecisions.{IsWideDecision}
-use Rattle.sequential.specs.declared.priority.Priority.TheVariants.{First, Last}
+use Rattle.sequential.specs.declared.priority.Priority.{Priority}
+use Rattle.adjusted_p.specs.WrittenRun.{IsWideAdjusting}
 use Rattle.textbook.specs.TextbookRuns.{total}
 
--- By neither of the priorities `first` and `last` is an operation of the decision undefined.
-abbrev pub IsNeverWide : Content → Type 0
-IsNeverWide c = (n : ℕ) (w : WideAt) → ¬ IsWideDecision c First n w × ¬ IsWideDecision c Last n w
+-- By whatever priority, no operation of the decision is undefined.
+abbrev pub AreDecisionsDefined : Content → Type 0
+AreDecisionsDefined c = (priority : Priority) (n : ℕ) (w : WideAt) → ¬ IsWideDecision c priority n w
+
+-- No operation of a decision is undefined, and none of the run of adjusted values.
+pub record IsNeverWide (c : Content) : Type 0 where
+  pub decisions : AreDecisionsDefined c
+  pub adjusted : (n : ℕ) (w : WideAt) → ¬ IsWideAdjusting c n w
 
 -- Cases of Holm's graph are never too wide.
 abbrev pub HolmDecisionsAreDefined : Type 0

@@ -1,14 +1,14 @@
 -- Written removals on the graphs of textbook rules.
 use Rattle.std.specs.Prelude.{◌≡◌, ◌≢◌, ◌≤◌, ◌<◌, ◌+◌, ℕ, zero, suc, pos, List, [], ◌∷◌, Ok}
-use Rattle.field_core.specs.declared.ratio.Ratio.{Ratio}
 use Rattle.field_core.specs.Number.{Number}
 use Rattle.field_core.specs.Fractions.{fraction}
 use Rattle.field_core.specs.Graph.{Graph}
 use Rattle.field_core.specs.Sets.{whole}
 use Rattle.field_core.specs.Runs.{IsOrder}
 use Rattle.field_core.specs.Exact.{value_of}
-use Rattle.fraction.specs.Plain.{plain, IsFraction, one_reduced}
+use Rattle.fraction.specs.Plain.{plain, IsFraction}
 use Rattle.case_model.specs.TextbookGraphs.{equal_graph, chain_graph}
+use Rattle.case_model.specs.Sums.{one_ratio}
 use Rattle.removal.specs.StoredGraph.{StoredGraph, AreAllLive, size, weight, edge}
 use Rattle.removal.specs.ByValue.{AreStored}
 use Rattle.removal.specs.WrittenRemoval.{written_removal}
@@ -22,10 +22,6 @@ pub record Stores (G : Graph Number) (S : StoredGraph) : Type 0 where
   pub live : AreAllLive S
   pub weight_is : (l : ℕ) → l < size S → value_of (weight plain S l) ≡ G.weight l
   pub edge_is : (l k : ℕ) → l < size S → k < size S → l ≢ k → value_of (edge plain S l k) ≡ G.edge l k
-
--- 1/1
-abbrev pub one_ratio : Ratio
-one_ratio = record { num = pos 1; den = pos 1; valid = one_reduced }
 
 -- removals of distinct hypotheses, in whatever order, are never refused
 abbrev pub IsNeverRefused : StoredGraph → Type 0

@@ -9,7 +9,7 @@ pub fn textbook_removals_are_defined()
     ensures fallback { FallbackRemovalsAreDefined }
 {}
 
-/// On cases of these graphs no decision by the priority `first` or `last` is too wide.
+/// On cases of these graphs no decision is too wide, by whatever priority, and neither are adjusted values.
 pub fn textbook_decisions_are_defined()
     ensures holm { HolmDecisionsAreDefined }
     ensures sequence { SequenceDecisionsAreDefined }

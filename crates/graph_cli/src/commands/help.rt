@@ -13,8 +13,12 @@ pub fn help_answer(alloc: Global) -> Result<Answer, NoMemory>
 {
     let mut text = List::new(alloc);
     text.append(b"test [--form F] [--alpha N] [--priority P]\n")?;
+    text.append(b"weights [--form F] [--alpha N]\n")?;
+    text.append(b"bounds [--form F] [--alpha N]\n")?;
+    text.append(b"check FILE [--form F] [--alpha N]\n")?;
     text.append(b"stages [--form F]\n")?;
     text.append(b"canon [--form F] [--alpha N] [--to F]\n")?;
+    text.append(b"catalogue NAME --size N [--second N]\n")?;
     text.append(b"sample --size N --seed N\n")?;
     text.append(b"help\nend\n")?;
     Ok(Answer::done(text))

@@ -1,8 +1,8 @@
 use Rattle.std.proofs.Common.{◌≡◌, length}
 use Rattle.case_model.specs.Content.{Content}
+use Rattle.case_model.specs.Sums.{one_ratio}
 use Rattle.sequential.specs.Trials.{IsTrialOf, number_left}
 use Rattle.sequential.specs.TrialView.{trial}
-use Rattle.adjusted_p.specs.AdjustedLists.{one_ratio}
 use Rattle.adjusted_p.specs.Adjusting.{IsAdjustingSoFar}
 use Rattle.adjusted_p.proofs.adjusted.run.Given as goal
 

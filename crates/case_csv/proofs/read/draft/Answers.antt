@@ -3,7 +3,8 @@ use Rattle.csv.specs.Records.{fields_of}
 use Rattle.case_csv.specs.Records.{records_of}
 use Rattle.case_csv.specs.Faults.{IsRowFault}
 use Rattle.case_csv.specs.View.{cells_in, IsOfRows, Takes}
-use Rattle.case_csv.proofs.CsvFaults.{handed_on, no_record, header_refused, rows_refused}
+use Rattle.case_csv.proofs.CsvFaults.{no_record, header_refused, rows_refused}
+use Rattle.text_lines.proofs.HandedOn.{handed_on}
 use Rattle.case_csv.proofs.Drafts.{draft_read, ends_known, arrivals_known}
 use Rattle.case_csv.proofs.read.draft.Goals as goal
 

@@ -1,4 +1,5 @@
-use Rattle.case_csv.proofs.CsvFaults.{handed_on, row_fault, draft_fault, case_said}
+use Rattle.case_csv.proofs.CsvFaults.{row_fault, draft_fault, case_said}
+use Rattle.text_lines.proofs.HandedOn.{handed_on}
 use Rattle.case_csv.proofs.read.read_csv.Goals as goal
 
 pub returns-in_err-draft-clause-fault : goal.returns-in_err-draft-clause-fault

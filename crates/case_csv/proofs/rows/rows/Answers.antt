@@ -1,7 +1,7 @@
 use Rattle.std.proofs.Common.{rules, ◌≡◌, ◌<◌, ◌≤◌, Bool, true, false, length, subst}
 use Rattle.csv.specs.Records.{fields_of}
 use Rattle.case_csv.specs.View.{Takes}
-use Rattle.case_csv.proofs.CsvFaults.{handed_on}
+use Rattle.text_lines.proofs.HandedOn.{handed_on}
 use Rattle.case_csv.proofs.RowsRead.{rows_none, rows_more, record_missing, row_refused, record_surplus, rows_all}
 use Rattle.case_csv.proofs.rows.rows.Goals as goal
 

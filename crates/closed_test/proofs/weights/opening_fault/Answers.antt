@@ -1,7 +1,7 @@
 use Rattle.std.proofs.Common.{◌≡◌, refl, ap, subst, ◌-◌, ◌*◌, ◌^◌, ◌%◌, [], length, arith}
 use Rattle.std.proofs.lemmas.Nat.{one_shl, pow_pos}
 use Rattle.case_model.specs.CaseView.{content}
-use Rattle.sequential.specs.TrialAnswers.{IsOpenFaultOf}
+use Rattle.entangled.specs.OpenFaults.{IsOpenFaultOf}
 use Rattle.closed_test.proofs.LeftLists.{first_set}
 use Rattle.closed_test.proofs.Openings.{wide_opening}
 use Rattle.closed_test.proofs.SetTables.{first_wide_set}

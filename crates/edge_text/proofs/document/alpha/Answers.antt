@@ -6,7 +6,8 @@ use Rattle.text_lines.specs.View.{row}
 use Rattle.text_lines.specs.Words.{words_of}
 use Rattle.text_lines.proofs.Keywords.{keyword_found, keyword_missing}
 use Rattle.edge_text.specs.Faults.{Alpha, AlphaWord, IsNumberFault, IsBad}
-use Rattle.edge_text.proofs.Leads.{fault_first, fault_ended, handed_on, other_kind}
+use Rattle.edge_text.proofs.Leads.{fault_first, fault_ended, other_kind}
+use Rattle.text_lines.proofs.HandedOn.{handed_on}
 use Rattle.edge_text.proofs.Readings.{alpha_unexpected, rest_refused}
 use Rattle.edge_text.proofs.document.alpha.Goals as goal
 

@@ -2,7 +2,7 @@ use Rattle.std.proofs.Common.{◌∙◌}
 use Rattle.std.proofs.lemmas.Result.{IfOk-weaker, IfErr-weaker}
 use Rattle.text_lines.specs.Lines.{rows_left, end_at}
 use Rattle.text_lines.specs.View.{row}
-use Rattle.edge_text.proofs.Leads.{handed_on}
+use Rattle.text_lines.proofs.HandedOn.{handed_on}
 use Rattle.edge_text.proofs.ReadLines.{one_read, one_refused, all_said, all_unfinished}
 use Rattle.edge_text.proofs.document.behind_names.Goals as goal
 

@@ -4,7 +4,7 @@ use Rattle.edge_text.specs.Grammar.{IsDocument}
 use Rattle.edge_text.specs.Faults.{Alpha, Names, Values, named}
 use Rattle.text_lines.specs.Lines.{rows_left, end_at}
 use Rattle.edge_text.specs.View.{IsFaultAt, draft_said}
-use Rattle.edge_text.proofs.Leads.{handed_on}
+use Rattle.text_lines.proofs.HandedOn.{handed_on}
 use Rattle.edge_text.proofs.Documents.{behind_alpha, behind_names, document_read}
 use Rattle.edge_text.proofs.document.draft.Goals as goal
 

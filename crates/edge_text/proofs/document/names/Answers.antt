@@ -4,7 +4,8 @@ use Rattle.text_lines.specs.View.{row}
 use Rattle.text_lines.specs.Words.{words_of}
 use Rattle.text_lines.proofs.Keywords.{keyword_missing}
 use Rattle.edge_text.specs.Faults.{Names}
-use Rattle.edge_text.proofs.Leads.{fault_first, fault_ended, handed_on}
+use Rattle.edge_text.proofs.Leads.{fault_first, fault_ended}
+use Rattle.text_lines.proofs.HandedOn.{handed_on}
 use Rattle.edge_text.proofs.Readings.{names_unexpected}
 use Rattle.edge_text.proofs.document.names.Goals as goal
 

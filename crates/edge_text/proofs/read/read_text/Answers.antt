@@ -1,5 +1,5 @@
 use Rattle.text_lines.specs.Lines.{rows_of, texts_in}
-use Rattle.edge_text.proofs.Leads.{handed_on}
+use Rattle.text_lines.proofs.HandedOn.{handed_on}
 use Rattle.edge_text.proofs.Texts.{document_ends, document_arrivals, line_fault, draft_fault}
 use Rattle.edge_text.proofs.read.read_text.Goals as goal
 

@@ -1,6 +1,6 @@
 use Rattle.std.proofs.Common.{inl, inr}
 use Rattle.text_lines.specs.Words.{words_of}
-use Rattle.edge_text.proofs.Leads.{handed_on}
+use Rattle.text_lines.proofs.HandedOn.{handed_on}
 use Rattle.edge_text.specs.Faults.{IsWholeFault, IsNumeralFault}
 use Rattle.edge_text.proofs.StageLines.{arrival_fault}
 use Rattle.edge_text.proofs.rules.arrival.Goals as goal

@@ -1,4 +1,4 @@
-use Rattle.std.proofs.Common.{◌≡◌, ◌∙◌, sym, ap}
+use Rattle.std.proofs.Common.{◌∙◌, sym, ap}
 use Rattle.case_model.specs.CaseView.{content}
 use Rattle.evidence_check.specs.CaseCheck.{verdict_of}
 use Rattle.evidence_check.proofs.CaseChecked.{case_tells, case_rejected, case_decides}

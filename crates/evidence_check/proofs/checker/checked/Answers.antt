@@ -1,10 +1,10 @@
-use Rattle.std.proofs.Common.{rules, ◌≡◌, ◌∙◌, refl, sym, ap, ap₂, subst, Ok, Err, map, length, []}
+use Rattle.std.proofs.Common.{rules, ◌≡◌, ◌∙◌, refl, sym, ap, subst, Err, map, length}
 use Rattle.std.specs.Prelude.{IfOk}
 use Rattle.field_core.specs.Sets.{whole}
 use Rattle.field_core.specs.Runs.{IsOrder}
 use Rattle.field_core.specs.Kind.{ok_map}
 use Rattle.case_model.specs.CaseView.{content}
-use Rattle.evidence_check.specs.EvidenceView.{hypotheses_of, step_parts, keep_parts}
+use Rattle.evidence_check.specs.EvidenceView.{hypotheses_of, keep_parts}
 use Rattle.evidence_check.specs.CheckSteps.{numbered}
 use Rattle.evidence_check.specs.WrittenCheck.{keeps_check}
 use Rattle.evidence_check.specs.CaseCheck.{loaded_case}

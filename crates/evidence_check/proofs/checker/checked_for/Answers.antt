@@ -1,4 +1,4 @@
-use Rattle.std.proofs.Common.{◌≡◌, ◌∙◌}
+use Rattle.std.proofs.Common.{◌∙◌}
 use Rattle.case_model.specs.CaseView.{content}
 use Rattle.evidence_check.proofs.CheckAnswers.{form_of, plain_check, eps_check}
 use Rattle.evidence_check.proofs.checker.checked_for.Goals as goal

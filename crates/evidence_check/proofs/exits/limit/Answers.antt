@@ -1,9 +1,9 @@
-use Rattle.std.proofs.Common.{rules, ◌≡◌, ◌∙◌, sym, ap, ap₂, map, Ok, Err}
-use Rattle.field_core.specs.Kind.{Parts, ok_map}
+use Rattle.std.proofs.Common.{rules, ◌≡◌, ◌∙◌, sym, ap, Ok, Err}
+use Rattle.field_core.specs.Kind.{ok_map}
 use Rattle.field_core.specs.declared.place.Place.TheVariants.{Level}
 use Rattle.fraction.specs.Plain.{single, fraction_parts}
 use Rattle.case_model.specs.CaseView.{content}
-use Rattle.evidence_check.specs.CheckSteps.{demand, written_at}
+use Rattle.evidence_check.specs.CheckSteps.{demand}
 use Rattle.evidence_check.specs.declared.verdict.Reason.TheVariants.{AboveOne}
 use Rattle.evidence_check.proofs.ExitAnswers.{demand_met, order_is, allowed_refused, one_refused, above_one, limit_found}
 use Rattle.evidence_check.proofs.CaseLimits.{allowed_unit_at}

@@ -1,4 +1,4 @@
-use Rattle.std.proofs.Common.{◌≡◌, ◌∙◌, ap, map, length, get_or}
+use Rattle.std.proofs.Common.{◌∙◌, ap, map, length, get_or}
 use Rattle.evidence_check.proofs.SumAnswers.{in_list, in_count}
 use Rattle.evidence_check.proofs.flows.in_component.Goals as goal
 

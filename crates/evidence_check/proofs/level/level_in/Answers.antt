@@ -1,4 +1,4 @@
-use Rattle.std.proofs.Common.{rules, ◌≡◌, ◌∙◌, sym, ap, map, Ok, Err}
+use Rattle.std.proofs.Common.{rules, ◌≡◌, ◌∙◌, sym, ap, Err}
 use Rattle.field_core.specs.Kind.{ok_map}
 use Rattle.field_core.proofs.Fills.{filled_run}
 use Rattle.fraction.specs.Plain.{fraction_parts}

@@ -1,6 +1,4 @@
-use Rattle.std.proofs.Common.{◌≡◌, sym, ap}
 use Rattle.case_model.specs.CaseView.{content}
-use Rattle.fraction.specs.View.{number_of}
 use Rattle.evidence_check.proofs.StepAnswers.{pass_is}
 use Rattle.evidence_check.proofs.level.passes_at.Goals as goal
 

@@ -1,16 +1,10 @@
-use Rattle.std.proofs.Common.{rules, ◌≡◌, ◌∙◌, sym, ap, map, not, length, Err}
-use Rattle.field_core.specs.Kind.{ok_map}
-use Rattle.fraction.specs.Plain.{fraction_parts}
+use Rattle.std.proofs.Common.{rules, ◌≡◌, ◌∙◌, sym, ap, not, Err}
 use Rattle.case_model.specs.CaseView.{content}
-use Rattle.evidence_check.specs.EvidenceParts.{part_at}
-use Rattle.evidence_check.specs.EvidenceView.{hypotheses_of, step_parts}
-use Rattle.evidence_check.specs.CheckSteps.{demand, all_below}
-use Rattle.evidence_check.specs.CaseCheck.{loaded_case}
-use Rattle.evidence_check.specs.WrittenCheck.{flow_check}
+use Rattle.case_model.proofs.NoFaults.{not_true}
+use Rattle.evidence_check.specs.CheckSteps.{demand}
 use Rattle.evidence_check.specs.declared.verdict.Reason.TheVariants.{Repeated, NoLevel, AboveLevel}
 use Rattle.evidence_check.proofs.CaseLimits.{case_all, flows_met}
 use Rattle.evidence_check.proofs.ExitAnswers.{demand_met}
-use Rattle.evidence_check.proofs.WrittenSums.{not_in}
 use Rattle.evidence_check.proofs.StepAnswers.{listed_is, repeated, flows_refused, level_refused, no_level, step_done}
 use Rattle.evidence_check.proofs.step.step.Goals as goal
 
@@ -26,7 +20,7 @@ returns-in_err-all_below g c =
     (case_all g.F.Number.kind g.F.CaseNumber.numbers (content c.args.case.now) _ _ _ c.components.ensures.count (c.all_below.ensures _ (λ i r p q. search rules)) ∙ c.in_err-all_below.was))
 
 pub step_level-requires-clause-other : goal.step_level-requires-clause-other
-step_level-requires-clause-other g c = not_in _ (ap not (sym (c.is_listed.ensures ∙ listed_is c.args.earlier.now c.args.step.now.hypothesis)) ∙ demand_met _ _ _ (sym c.demand.ensures ∙ c.in_ok-demand.was))
+step_level-requires-clause-other g c = not_true _ (ap not (sym (c.is_listed.ensures ∙ listed_is c.args.earlier.now c.args.step.now.hypothesis)) ∙ demand_met _ _ _ (sym c.demand.ensures ∙ c.in_ok-demand.was))
 
 pub step_level-requires-clause-flows : goal.step_level-requires-clause-flows
 step_level-requires-clause-flows g c =

@@ -1,4 +1,4 @@
-use Rattle.std.proofs.Common.{rules, ◌≡◌, sym, ap, ◌∙◌, ◌+◌, Err, arith}
+use Rattle.std.proofs.Common.{rules, ◌≡◌, sym, ap, ◌∙◌, Err, arith}
 use Rattle.field_core.specs.Kind.{ok_map}
 use Rattle.evidence_check.proofs.AddedSteps.{added_stops, added_goes, added_end}
 use Rattle.evidence_check.proofs.sums.added.Goals as goal

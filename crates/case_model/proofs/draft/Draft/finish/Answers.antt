@@ -20,14 +20,14 @@ pub made-requires-clause-ends : goal.made-requires-clause-ends
 unfolding have_known_ends
 made-requires-clause-ends c = ap (λ n. list_all (λ k. list_all (goes_between n) k.edges) c.args.self.components) c.len.ensures ∙ c.requires.ends
 
-pub of-requires : goal.of-requires
-of-requires c =
+pub of-requires-clause-valid : goal.of-requires-clause-valid
+of-requires-clause-valid c =
     let d = c.args.self in
     let parts = c.in-Ok.parts in
     merely (record {
       draft = d;
       content_is = sym (content_by_parts d c.len.result c.as_slice.result.now parts.components parts.inputs c.len.ensures c.as_slice.ensures c.in-Ok.ensures.components c.in-Ok.ensures.inputs);
-      faultless = late_is d c.len.result c.as_slice.result.now None (none_early ((goal.at.of-requires c).In_default)) c.len.ensures c.as_slice.ensures c.in-Ok.ensures.faultless;
+      faultless = late_is d c.len.result c.as_slice.result.now None (none_early ((goal.at.of-requires-clause-valid c).In_default)) c.len.ensures c.as_slice.ensures c.in-Ok.ensures.faultless;
       known_arrivals = c.requires.arrivals;
     })
 

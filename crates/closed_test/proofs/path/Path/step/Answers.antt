@@ -1,6 +1,7 @@
-use Rattle.std.proofs.Common.{◌≡◌, refl, sym, ap, subst, ◌∙◌, ℕ, suc, ◌+◌, ◌<◌, ◌≤◌, List, [], ◌∷◌, ◌++◌, arith}
-use Rattle.field_core.specs.OrderOfSets.{IsAscending, IsListStep, IsLastList}
+use Rattle.std.proofs.Common.{◌≡◌, inl, inr, refl, sym, ap, subst, ◌∙◌, ℕ, suc, ◌+◌, ◌<◌, ◌≤◌, List, [], ◌∷◌, ◌++◌, append_assoc, arith}
+use Rattle.field_core.specs.OrderOfSets.{ComesBefore, IsAscending, IsListStep, IsLastList}
 use Rattle.field_core.proofs.NextLists.{first_step, child_step, sibling_step, last_one, ascending_last, ascending_two, ends_with_two}
+use Rattle.closed_test.proofs.SetLists.{before_behind}
 use Rattle.closed_test.proofs.path.Path.step.Goals as goal
 
 module _ (m : ℕ) (old : List ℕ) (a : IsAscending m 0 old) where
@@ -77,3 +78,27 @@ pub returns-in-Some-take_back-clause-step : goal.returns-in-Some-take_back-claus
 returns-in-Some-take_back-clause-step c =
     let p = c.args.self.now in
     sibling p.size p.left.items c.requires.ascending c.take_back.new.self.left.items c.take_back-in-Some.new.self.left.items c.leave_out-in-Some-take_back.new.self.left.items c.in-Some-take_back.before c.in-Some.last c.in-Some.ensures.left c.in-Some-take_back.ensures.left (omega (arith, c.if-last-self.false, c.in-Some.ensures.size)) c.leave_out-in-Some-take_back.ensures.left
+
+-- ---- the next set comes later
+
+start_later : (old js new : List ℕ) → old ≡ [] → js ≡ [] → new ≡ js ++ 0 ∷ [] → ComesBefore old new
+start_later old js new e g f = rw (e, f, g) tt
+
+child_later : (old js now new : List ℕ) (l : ℕ) → old ≡ js ++ l ∷ [] → now ≡ js ++ l ∷ [] → new ≡ now ++ (l + 1) ∷ [] → ComesBefore old new
+child_later old js now new l e g f = rw (e, f, g, append_assoc js (l ∷ []) ((l + 1) ∷ [])) (before_behind js (l ∷ []) (l ∷ (l + 1) ∷ []) (inr (refl, tt)))
+
+sibling_later : (old ys js new : List ℕ) (k l : ℕ) → old ≡ ys ++ l ∷ [] → ys ≡ js ++ k ∷ [] → new ≡ js ++ (k + 1) ∷ [] → ComesBefore old new
+sibling_later old ys js new k l e f g = rw (ends_with_two old ys js k l e f, g) (before_behind js (k ∷ l ∷ []) ((k + 1) ∷ []) (inl (omega arith)))
+
+pub returns-in-None-clause-later : goal.returns-in-None-clause-later
+returns-in-None-clause-later c = let p = c.args.self.now in start_later p.left.items c.take_back.new.self.left.items _ c.in-None.ensures.left c.in-None.ensures.none c.leave_out.ensures.left
+
+pub returns-then-last-self-clause-later : goal.returns-then-last-self-clause-later
+returns-then-last-self-clause-later c =
+    let p = c.args.self.now in
+    child_later p.left.items c.take_back.new.self.left.items c.leave_out-then-last-self.new.self.left.items c.leave_out-then-last-self-2.new.self.left.items c.in-Some.last c.in-Some.ensures.left c.leave_out-then-last-self.ensures.left c.leave_out-then-last-self-2.ensures.left
+
+pub returns-in-Some-take_back-clause-later : goal.returns-in-Some-take_back-clause-later
+returns-in-Some-take_back-clause-later c =
+    let p = c.args.self.now in
+    sibling_later p.left.items c.take_back.new.self.left.items c.take_back-in-Some.new.self.left.items c.leave_out-in-Some-take_back.new.self.left.items c.in-Some-take_back.before c.in-Some.last c.in-Some.ensures.left c.in-Some-take_back.ensures.left c.leave_out-in-Some-take_back.ensures.left

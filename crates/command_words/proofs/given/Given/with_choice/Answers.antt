@@ -18,3 +18,12 @@ returns-in-Size c = rw c.in-Size.is refl
 
 pub returns-in-Seed : goal.returns-in-Seed
 returns-in-Seed c = rw c.in-Seed.is refl
+
+pub returns-in-Graph : goal.returns-in-Graph
+returns-in-Graph c = rw c.in-Graph.is refl
+
+pub returns-in-Second : goal.returns-in-Second
+returns-in-Second c = rw c.in-Second.is refl
+
+pub returns-in-File : goal.returns-in-File
+returns-in-File c = rw c.in-File.is refl

@@ -1,6 +1,7 @@
 use Rattle.std.proofs.Common.{subst, ◌∷◌}
 use Rattle.text_lines.specs.Words.{words_of}
-use Rattle.edge_text.proofs.Leads.{handed_on, other_kind}
+use Rattle.edge_text.proofs.Leads.{other_kind}
+use Rattle.text_lines.proofs.HandedOn.{handed_on}
 use Rattle.edge_text.specs.Faults.{IsNumbersFault}
 use Rattle.edge_text.proofs.StageLines.{levels_fault}
 use Rattle.edge_text.proofs.spend_words.StepWords.step.Goals as goal

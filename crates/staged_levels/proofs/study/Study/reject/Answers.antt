@@ -1,7 +1,7 @@
 use Rattle.std.proofs.Common.{refl, sym, ◌∙◌}
 use Rattle.staged_levels.specs.Studies.{positions_of}
 use Rattle.staged_levels.specs.StudyView.{study}
-use Rattle.staged_levels.proofs.Turns.{after_next}
+use Rattle.entangled.proofs.CaseRuns.{after_next}
 use Rattle.staged_levels.proofs.StateFacts.{gone_rejected, live_not_rejected, may_legal, next_study, next_rejection}
 use Rattle.staged_levels.proofs.study.Study.reject.Goals as goal
 

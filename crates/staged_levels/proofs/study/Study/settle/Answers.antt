@@ -2,7 +2,7 @@ use Rattle.std.proofs.Common.{refl, sym, ap, ◌∙◌, subst, subst₂, ℕ, �
 use Rattle.case_model.specs.LegalOrder.{IsFirst}
 use Rattle.case_model.specs.StagedCase.{IsStagedLegalIn}
 use Rattle.entangled.specs.CaseAfter.{case_after}
-use Rattle.staged_levels.proofs.Turns.{after_next}
+use Rattle.entangled.proofs.CaseRuns.{after_next}
 use Rattle.staged_levels.specs.Studies.{positions_of, remaining, IsLegalNow}
 use Rattle.staged_levels.specs.StudyContents.{MayRejectAt}
 use Rattle.staged_levels.specs.StudyView.{study}

@@ -1,0 +1,218 @@
+-- The records of a sheet are read back from its text, and say its draft.
+use Rattle.std.proofs.Common.{◌≡◌, ◌≢◌, refl, sym, ap, ap₂, subst, ◌∙◌, ℕ, zero, suc, ◌+◌, ◌-◌, ◌*◌, ◌<◌, ◌≤◌, ◌==◌, ◌||◌, ◌&&◌, ◌⊎◌, inl, inr, List, [], ◌∷◌, ◌++◌, length, map, take, drop, get_or, Bool, true, false, Option, Some, None, true≢false, arith}
+use Rattle.std.specs.Prelude.{slice_get, codes}
+use Rattle.std.specs.List.{AllByRecursion, AllZip, flat_map, list_all, prefix_len, suffix_len, range_with_len}
+use Rattle.std.specs.Str.{bytes_eq}
+use Rattle.std.proofs.lemmas.Bool.{cases_Bool}
+use Rattle.std.proofs.lemmas.Bool.Decides.{nat_tests}
+use Rattle.std.proofs.lemmas.List.{take_all}
+use Rattle.std.proofs.lemmas.List.FromFn.{length-map-range_with_len}
+use Rattle.std.proofs.lemmas.List.Sums.{suffix_len_is}
+use Rattle.std.proofs.lemmas.Option.{slice_get-get_or}
+use Rattle.std.proofs.lemmas.Slice.Eq.{bytes_eq-Decides}
+use Rattle.csv.specs.Machine.{next_record}
+use Rattle.csv.specs.Reading.{default_config, strip_bom, records, records_from}
+use Rattle.csv.specs.Writing.{default_writer, read_back, row_text}
+use Rattle.csv.specs.declared.parser.State.TheVariants as st
+use Rattle.csv.proofs.RoundTrip.{read-write}
+use Rattle.field_core.specs.View.{terms}
+use Rattle.field_core.specs.declared.ratio.Ratio.{Ratio}
+use Rattle.fraction.specs.Numeral.{IsNumeralOf}
+use Rattle.fraction.specs.Spelling.{spelling, IsSpellingByte}
+use Rattle.fraction.proofs.ReadBack.{spelling_bytes, spelling_some}
+use Rattle.case_model.specs.Sums.{ratio_at, zero_ratio}
+use Rattle.case_model.specs.declared.component.Component.{Component}
+use Rattle.case_model.specs.declared.inputs.Inputs.{Inputs}
+use Rattle.case_model.specs.declared.inputs.Inputs.TheVariants.{Bare, Single, Staged}
+use Rattle.case_model.specs.Entries.{entry_at}
+use Rattle.case_model.specs.ValidDraft.{Each}
+use Rattle.edge_expression.specs.EntryReading.{IsEntryText}
+use Rattle.edge_expression.specs.EntryTexts.{entry_text}
+use Rattle.edge_text.specs.CanonicalText.{number_word, name_at}
+use Rattle.edge_text.proofs.CanonicalWords.{number_is_word, entry_is_word, high_word}
+use Rattle.text_lines.specs.Spelling.{IsPlain, IsWord}
+use Rattle.text_lines.specs.Words.{is_blank, after_blanks}
+use Rattle.case_csv.specs.Records.{Fields, records_of, text_of}
+use Rattle.case_csv.specs.Sheet.{header_fields, p_field, edge_fields, row_fields}
+use Rattle.case_csv.specs.Table.{Cells, bare, is_missing, IsPlace, has_heading, IsHeader, RowSaid, IsRow, AreRows}
+use Rattle.case_csv.proofs.RecordsLeft.{one_left, none_left}
+use Rattle.case_csv.proofs.SheetDrafts.{p_at, content_with, said_at}
+
+-- ---- records are read back from their text
+
+-- each record has a field
+abbrev pub HaveFields : List Fields → Type 0
+HaveFields [] = Unit {0}
+HaveFields (row ∷ rows) = (row ≢ []) × HaveFields rows
+
+same_row : (row : Fields) → row ≢ [] → read_back row ≡ row
+same_row [] h = absurd (h refl)
+same_row (x ∷ row) h = refl
+
+none_more : next_record default_config st.StartRecord [] [] [] ≡ None
+unfolding next_record
+none_more = refl
+
+rows_back : (rows : List Fields) → HaveFields rows → records default_config (flat_map (row_text default_writer) rows) ≡ rows
+rows_back [] h = none_left st.StartRecord [] none_more
+rows_back (row ∷ rows) h =
+    let rest = flat_map (row_text default_writer) rows in
+    one_left st.StartRecord (row_text default_writer row ++ rest) (read_back row, st.StartRecord, rest) refl (read-write row rest)
+    ∙ ap₂ ◌∷◌ (same_row row h.0) (rows_back rows h.1)
+
+-- a text that begins with another byte has no byte order mark
+no_mark : (b : ℕ) (xs : List ℕ) → (b == 239) ≡ false → strip_bom (b ∷ xs) ≡ b ∷ xs
+unfolding strip_bom
+no_mark b [] other = refl
+no_mark b (c ∷ []) other = refl
+no_mark b (c ∷ d ∷ xs) other = rw other refl
+
+-- the bytes of a sheet behind its first one
+record Begins (b : ℕ) (text : List ℕ) : Type 0 where
+  rest : List ℕ
+  is : text ≡ b ∷ rest
+
+header_begins : (names : List (List ℕ)) (rows : List Fields) → Begins 104 (flat_map (row_text default_writer) (header_fields names ∷ rows))
+header_begins names rows = record { rest = _; is = refl }
+
+pub sheet_back : (names : List (List ℕ)) (rows : List Fields) → HaveFields rows → records_of (text_of (header_fields names ∷ rows)) ≡ header_fields names ∷ rows
+unfolding records_of text_of
+sheet_back names rows h =
+    let text = flat_map (row_text default_writer) (header_fields names ∷ rows) in
+    let begins = header_begins names rows in
+    ap (records default_config) (ap strip_bom begins.is ∙ no_mark 104 begins.rest refl ∙ sym begins.is)
+    ∙ rows_back (header_fields names ∷ rows) ((λ e. let q : Path (List (List ℕ)) (codes "hypothesis" ∷ codes "weight" ∷ codes "p" ∷ names) [] = e in cc), h)
+
+-- ---- no blanks stand around a field
+
+blank_plain : (b : ℕ) → IsPlain b → is_blank b ≡ false
+blank_plain b h =
+    let space : b ≢ 32 = h.space in
+    let tab : b ≢ 9 = h.tab in
+    grind (arith, nat_tests)
+
+plain_at : (field : List ℕ) (i d : ℕ) → AllByRecursion IsPlain field → i < length field → is_blank (get_or field i d) ≡ false
+plain_at [] i d h l = absurd (omega arith)
+plain_at (b ∷ field) zero d h l = blank_plain b h.0
+plain_at (b ∷ field) (suc i) d h l = plain_at field i d h.1 (omega arith)
+
+front_plain : (field : List ℕ) → AllByRecursion IsPlain field → after_blanks field ≡ field
+unfolding after_blanks
+front_plain [] h = refl
+front_plain (b ∷ field) h =
+    let none : prefix_len is_blank (b ∷ field) ≡ 0 = rw (blank_plain b h.0) refl in
+    ap (λ n. drop n (b ∷ field)) none
+
+back_plain : (field : List ℕ) → AllByRecursion IsPlain field → suffix_len is_blank field ≡ 0
+back_plain field h =
+    suffix_len_is is_blank field (length field) 0 (omega arith) (λ k l g. absurd (omega arith)) (λ some. plain_at field (length field - 1) 0 h (omega arith)) ∙ omega arith
+
+pub plain_bare : (field : List ℕ) → AllByRecursion IsPlain field → bare field ≡ field
+unfolding bare
+plain_bare field h =
+    ap (λ (f : List ℕ). take (length f - suffix_len is_blank f) f) (front_plain field h)
+    ∙ ap (λ n. take (length field - n) field) (back_plain field h) ∙ take_all (length field - 0) field (omega arith)
+
+pub word_bare : (field : List ℕ) → IsWord field → bare field ≡ field
+word_bare field h = plain_bare field h.plain
+
+fields_bare : (fields : Fields) → AllByRecursion (λ f. bare f ≡ f) fields → map bare fields ≡ fields
+fields_bare [] h = refl
+fields_bare (f ∷ fs) h = ap₂ ◌∷◌ h.0 (fields_bare fs h.1)
+
+names_bare : (names : List (List ℕ)) → Each names IsWord → map bare names ≡ names
+names_bare [] h = refl
+names_bare (n ∷ ns) h = ap₂ ◌∷◌ (word_bare n (h 0 n refl)) (names_bare ns (λ i x e. h (suc i) x e))
+
+pub header_bare : (names : List (List ℕ)) → Each names IsWord → map bare (header_fields names) ≡ header_fields names
+header_bare names h =
+    ap₂ ◌∷◌ (word_bare (codes "hypothesis") (high_word (codes "hypothesis") (omega arith) refl))
+    (ap₂ ◌∷◌ (word_bare (codes "weight") (high_word (codes "weight") (omega arith) refl))
+    (ap₂ ◌∷◌ (word_bare (codes "p") (high_word (codes "p") (omega arith) refl)) (names_bare names h)))
+
+p_bare : (inputs : Inputs) (i : ℕ) → bare (p_field inputs i) ≡ p_field inputs i
+p_bare Bare i = plain_bare [] tt
+p_bare (Single ps) i = word_bare (number_word (ratio_at ps i)) (number_is_word (ratio_at ps i))
+p_bare (Staged s) i = plain_bare [] tt
+
+edges_bare : (entry : ℕ → List Ratio) (p n : ℕ) → map bare (map (λ j. entry_text (entry j)) (range_with_len p n)) ≡ map (λ j. entry_text (entry j)) (range_with_len p n)
+edges_bare entry p zero = refl
+edges_bare entry p (suc n) = ap₂ ◌∷◌ (word_bare (entry_text (entry p)) (entry_is_word (entry p))) (edges_bare entry (p + 1) n)
+
+-- ---- what a row says
+
+missing_no : (cell : List ℕ) → 0 < length cell → ¬ (cell ≡ codes "NA") → is_missing cell ≡ false
+missing_no cell some other = elim (cases_Bool (bytes_eq cell (codes "NA"))) [
+  | inl t ↦ absurd (other ((bytes_eq-Decides cell (codes "NA")).0 t))
+  | inr f ↦
+      let none : (length cell == 0) ≡ false = grind (arith, nat_tests) in
+      ap₂ (λ a b. a || b) none f
+]
+
+no_letter : IsSpellingByte 78 → ⊥
+no_letter (inl h) = omega (arith, h.1)
+no_letter (inr (inl h)) = omega (arith, h)
+no_letter (inr (inr h)) = omega (arith, h)
+
+number_given : (x : Ratio) → is_missing (number_word x) ≡ false
+number_given x =
+    missing_no (number_word x) (spelling_some (terms x) x.valid)
+    (λ e. let bytes = subst (AllByRecursion IsSpellingByte) e (spelling_bytes (terms x) x.valid) in no_letter bytes.0)
+
+pub p_said : (x : Ratio) → IsNumeralOf (number_word x) (terms x) → IsPlace (number_word x) (Some x)
+p_said x h = (number_given x, h)
+
+entries_said : (entry : ℕ → List Ratio) (p n : ℕ) → ((j : ℕ) → IsEntryText (entry_text (entry j)) (entry j)) → AllZip IsEntryText (map (λ j. entry_text (entry j)) (range_with_len p n)) (map entry (range_with_len p n))
+entries_said entry p zero h = tt
+entries_said entry p (suc n) h = (h p, entries_said entry (p + 1) n h)
+
+module _ (names : List (List ℕ)) (alpha : Ratio) (k : Component) (inputs : Inputs) where
+  abbrev m : ℕ
+  m = length names
+
+  -- what a case needs so that its sheet says it
+  pub record IsSheetSaid : Type 0 where
+    pub names_are : Each names IsWord
+    pub weights : (i : ℕ) → i < m → IsNumeralOf (number_word (ratio_at k.weights i)) (terms (ratio_at k.weights i))
+    pub p_values : (i : ℕ) → i < m → IsPlace (p_field inputs i) (p_at inputs i)
+    pub entries : (i j : ℕ) → IsEntryText (entry_text (entry_at m k.edges i j)) (entry_at m k.edges i j)
+
+  abbrev cells_at : ℕ → Cells
+  cells_at i = map bare (row_fields (content_with names alpha k inputs) i)
+
+  row_bare : IsSheetSaid → (i : ℕ) → i < m → cells_at i ≡ row_fields (content_with names alpha k inputs) i
+  row_bare h i l =
+      let weight = ratio_at k.weights i in
+      ap₂ ◌∷◌ (word_bare (name_at names i) (h.names_are i (name_at names i) (slice_get-get_or names i [] l)))
+      (ap₂ ◌∷◌ (word_bare (number_word weight) (number_is_word weight)) (ap₂ ◌∷◌ (p_bare inputs i) (edges_bare (entry_at m k.edges i) 0 m)))
+
+  row_said : IsSheetSaid → (i : ℕ) → i < m → IsRow (length (header_fields names)) (name_at names i) (row_fields (content_with names alpha k inputs) i) (said_at names alpha k inputs i)
+  row_said h i l = record {
+    as_wide = ap (λ n. suc (suc (suc n))) (length-map-range_with_len (λ j. entry_text (entry_at m k.edges i j)) 0 m);
+    name_is = refl;
+    weight = (number_word (ratio_at k.weights i), refl, h.weights i l);
+    p = (p_field inputs i, refl, h.p_values i l);
+    entries = entries_said (entry_at m k.edges i) 0 m (h.entries i);
+  }
+
+  pub each_row_said : IsSheetSaid → (i : ℕ) → i < m → IsRow (length (header_fields names)) (name_at names i) (cells_at i) (said_at names alpha k inputs i)
+  each_row_said h i l = subst (λ cells. IsRow (length (header_fields names)) (name_at names i) cells (said_at names alpha k inputs i)) (sym (row_bare h i l)) (row_said h i l)
+
+-- rows by their places
+pub rows_by_place : (width : ℕ) (cells : ℕ → Cells) (said : ℕ → RowSaid) (names : List (List ℕ)) (p : ℕ) → ((i q : ℕ) → p + i ≡ q → i < length names → IsRow width (name_at names i) (cells q) (said q))
+    → AreRows width names (map cells (range_with_len p (length names))) (map said (range_with_len p (length names)))
+rows_by_place width cells said [] p h = tt
+rows_by_place width cells said (name ∷ names) p h = (h 0 p (omega arith) (omega arith), rows_by_place width cells said names (p + 1) (λ i q s l. h (suc i) q (omega arith) (omega arith)))
+
+pub header_said : (names : List (List ℕ)) → IsHeader (header_fields names) names
+header_said names = record { headings = at; names_are = refl }
+  where
+    at : (place : ℕ) → place < 3 → has_heading (header_fields names) place ≡ true
+    at zero l = refl
+    at (suc zero) l = refl
+    at (suc (suc zero)) l = refl
+    at (suc (suc (suc n))) l = absurd (omega arith)
+
+pub rows_have_fields : (row : ℕ → Fields) → ((i : ℕ) → row i ≢ []) → (p n : ℕ) → HaveFields (map row (range_with_len p n))
+rows_have_fields row h p zero = tt
+rows_have_fields row h p (suc n) = (h p, rows_have_fields row h (p + 1) n)

@@ -1,0 +1,14 @@
+pub mod AsciiTexts
+pub mod CaseShapes
+pub mod CaseValues
+pub mod DocumentRules
+pub mod Drafts
+pub mod Items
+pub mod LineFeed
+pub mod OneCase
+pub mod Parts
+pub mod Rules
+pub mod SingleRules
+pub mod WholeNumbers
+pub mod WrittenCases
+pub mod WrittenValues

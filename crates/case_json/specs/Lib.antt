@@ -1,0 +1,6 @@
+pub mod Document
+pub mod Faults
+pub mod JsonStatements
+pub mod Reading
+pub mod Values
+pub mod Written

@@ -1,0 +1,65 @@
+//! Named graphs.
+
+/// The name of a graph.
+#[derive(Clone, Copy, PartialEq, Eq, Debug)]
+pub(crate) enum GraphName {
+    Holm,
+    FixedSequence,
+    Fallback,
+    Parallel,
+    ImprovedParallel,
+}
+
+/// A named graph with its sizes: how many hypotheses there are, or how many primary and how many secondary ones.
+#[derive(Clone, Copy, PartialEq, Eq, Debug)]
+pub enum SizedGraph {
+    Holm(u64),
+    FixedSequence(u64),
+    Fallback(u64),
+    Parallel(u64, u64),
+    ImprovedParallel(u64, u64),
+}
+
+impl GraphName {
+    ghost use Rattle.std.specs.Prelude.{◌≡◌, ◌≢◌, IfSome};
+    ghost use Rattle.command_words.specs.Graphs.{sized, has_second};
+    ghost use Rattle.command_words.specs.Table.{graph_name};
+
+    /// The graph of a name.
+    #[tactic(auto, unfolding(crate::specs::Table::graph_name))]
+    pub(crate) fn named(name: &[u8]) -> Option<GraphName>
+        ensures named { IfSome result (λ graph. name.now ≡ graph_name graph) }
+        ensures unknown { result ≡ None → (graph : GraphName) → name.now ≢ graph_name graph }
+    {
+        if name == b"improved-parallel".as_slice() {
+            return Some(GraphName::ImprovedParallel);
+        }
+        match name {
+            b"holm" => Some(GraphName::Holm),
+            b"fixed-sequence" => Some(GraphName::FixedSequence),
+            b"fallback" => Some(GraphName::Fallback),
+            b"parallel" => Some(GraphName::Parallel),
+            _ => None,
+        }
+    }
+
+    /// Whether the graph has a second size.
+    pub(crate) fn has_second(self) -> bool
+        ensures { result ≡ has_second self }
+    {
+        matches!(self, GraphName::Parallel | GraphName::ImprovedParallel)
+    }
+
+    /// The graph with its sizes; `None` where the second one is missing.
+    pub(crate) fn sized(self, size: u64, second: Option<u64>) -> Option<SizedGraph>
+        ensures { result ≡ sized self size second }
+    {
+        match self {
+            GraphName::Holm => Some(SizedGraph::Holm(size)),
+            GraphName::FixedSequence => Some(SizedGraph::FixedSequence(size)),
+            GraphName::Fallback => Some(SizedGraph::Fallback(size)),
+            GraphName::Parallel => Some(SizedGraph::Parallel(size, second?)),
+            GraphName::ImprovedParallel => Some(SizedGraph::ImprovedParallel(size, second?)),
+        }
+    }
+}

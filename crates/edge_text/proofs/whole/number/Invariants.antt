@@ -1,7 +1,0 @@
-use Rattle.std.proofs.Common.{◌^◌}
-use Rattle.std.specs.Str.Parse.{digits_value}
-use Rattle.fraction.proofs.DigitNumbers.{Goes}
-use Rattle.edge_text.proofs.whole.number.Given as goal
-
-abbrev pub invariant-loop-digit : goal.invariant-loop-digit
-invariant-loop-digit l = Goes l.digits l.digit-index l.number (10 ^ 9) (digits_value 10 l.digits)

@@ -1,0 +1,13 @@
+pub mod Lists
+pub mod Puts
+pub mod TableSteps
+pub mod RunStates
+pub mod RunEvidence
+pub mod NetEvidence
+pub mod RowAnswers
+pub mod TableAnswers
+pub mod RunAnswers
+pub mod RunSteps
+pub mod RunLive
+pub mod SameGraphs
+pub mod CaseEvidence

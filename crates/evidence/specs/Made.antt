@@ -1,0 +1,38 @@
+-- What the code makes of a written run, as long as memory lasts.
+use Rattle.std.specs.Prelude.{◌≡◌, ℕ, Result, Ok, Err}
+use Rattle.field_core.specs.declared.place.Wide.{Wide as WideAtPlace}
+use Rattle.field_core.specs.declared.place.WideAt.{WideAt}
+use Rattle.entangled.specs.declared.open_fault.OpenFault.{OpenFault}
+use Rattle.entangled.specs.declared.open_fault.OpenFault.TheVariants.{Wide as OpenWide, NoMemory as OpenNoMemory}
+use Rattle.evidence.specs.declared.fault.Fault.{Fault}
+use Rattle.evidence.specs.declared.fault.Fault.TheVariants.{Wide, NoMemory}
+use Rattle.evidence.specs.declared.fault.MakeFault.{MakeFault}
+use Rattle.evidence.specs.declared.fault.MakeFault.TheVariants.{Wide as MakeWide, NoMemory as MakeNoMemory}
+use Rattle.evidence.specs.FlowRun.{WideStep}
+
+-- a fault of an opening is at step 0
+abbrev pub opening_fault : OpenFault → MakeFault
+opening_fault (OpenWide w) = MakeWide 0 w
+opening_fault OpenNoMemory = MakeNoMemory
+
+-- a fault on a component, with it
+abbrev pub fault_in : ℕ → Fault WideAtPlace → Fault WideAt
+fault_in c (Wide w) = Wide (record { component = c; place = w.place; op = w.op })
+fault_in c NoMemory = NoMemory
+
+-- a fault at a step, with it
+abbrev pub fault_at : ℕ → Fault WideAt → MakeFault
+fault_at n (Wide w) = MakeWide n w
+fault_at n NoMemory = MakeNoMemory
+
+-- What is made: if it is, what was written, as `view` shows it; if it is too wide, the first operation that is undefined; nothing is said where memory ran out.
+abbrev pub Makes : {A B W : Type 0} → (A → B) → Result A (Fault W) → Result B W → Type 0
+Makes view (Ok x) written = written ≡ Ok (view x)
+Makes view (Err (Wide w)) written = written ≡ Err w
+Makes view (Err NoMemory) written = Unit {0}
+
+-- The same of a run with steps.
+abbrev pub MakesAll : {A B : Type 0} → (A → B) → Result A MakeFault → Result B WideStep → Type 0
+MakesAll view (Ok x) written = written ≡ Ok (view x)
+MakesAll view (Err (MakeWide n w)) written = written ≡ Err (record { step = n; at = w })
+MakesAll view (Err MakeNoMemory) written = Unit {0}

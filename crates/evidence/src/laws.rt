@@ -1,0 +1,22 @@
+//! Laws of flow runs. Each function states laws that hold of all nets or of all cases, and does nothing.
+
+ghost use Rattle.evidence.specs.FlowStatements.{FlowRunsGiveSteps, FlowRunsGiveEvidence};
+ghost use Rattle.evidence.specs.CaseFlows.{CaseFlowsMeetConditions, CaseFlowsListOrders, CaseFlowsKeepOthers, CaseFlowsAreNotRefused};
+
+use removal::Remover;
+
+/// The steps of a flow run of nets along a legal order list it and are good. Along a complete legal order the run gives
+/// evidence that meets its conditions and keeps all other hypotheses.
+pub fn flow_runs_make_evidence<R: Remover>()
+    ensures steps { FlowRunsGiveSteps R.Value.kind R.graph R.IsProper R.removal }
+    ensures evidence { FlowRunsGiveEvidence R.Value.kind R.graph R.IsProper R.removal }
+{}
+
+/// The flow run of a case along a complete legal order gives evidence that meets its conditions, lists the order and
+/// keeps all other hypotheses; the check of the case finds no broken condition in it.
+pub fn case_flows_are_evidence()
+    ensures meets { CaseFlowsMeetConditions }
+    ensures lists { CaseFlowsListOrders }
+    ensures keeps { CaseFlowsKeepOthers }
+    ensures accepted { CaseFlowsAreNotRefused }
+{}

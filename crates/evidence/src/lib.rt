@@ -1,0 +1,10 @@
+//! Evidence for the rejections of a decision, made by a run that keeps what flows through each removed hypothesis.
+#![tactic(auto)]
+
+mod fault;
+pub mod laws;
+mod rows;
+mod run;
+mod tables;
+
+pub use fault::MakeFault;

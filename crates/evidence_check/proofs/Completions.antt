@@ -1,0 +1,77 @@
+-- From each place on, lines end.
+use Rattle.std.proofs.Common.{◌≡◌, refl, ap, inl, inr, ℕ, false, List, [], ◌∷◌, ◌++◌, map, None, arith}
+use Rattle.std.specs.Prelude.{codes, pos}
+use Rattle.text_lines.specs.Lines.{rows_of, end_of}
+use Rattle.text_lines.specs.Words.{words_behind}
+use Rattle.field_core.specs.Kind.{Parts}
+use Rattle.fraction.specs.Plain.{single, zero_reduced}
+use Rattle.eps_quotient.specs.Polynomials.{term}
+use Rattle.eps_quotient.proofs.TermLaws.{term_stored}
+use Rattle.case_model.specs.Content.{Content}
+use Rattle.case_numbers.specs.Numbers.{Numbers, in_fractions, in_quotients, numbers_of, IsStoredIn}
+use Rattle.evidence_check.specs.declared.quantity.Quantity.TheVariants.{Flow, Exit}
+use Rattle.evidence_check.specs.Languages.{Completes}
+use Rattle.evidence_check.specs.Documents.{Frame, Form, SaysVersion, SaysNumber, SaysKeep, SaysEnd, line_of, Slot, ANumber, AKeep, TheEnd, slot_line, keeps_due, kept_in, Stage, AtVersion, AtSteps, AtEnd, At, read_at, next_at, evidence_language}
+use Rattle.evidence_check.specs.NumberReading.{case_frame}
+use Rattle.evidence_check.specs.DocumentStatements.{start, IsPrinted, FaultsAreWhereNoneGoesOn, NoneGoesOnIsFault}
+use Rattle.evidence_check.proofs.LanguageLaws.{bad_ends, early_unfinished, none_goes_on, read_faults}
+use Rattle.evidence_check.proofs.WrittenLines.{Leads, leads_on, number_back, keep_back, end_back, version_back, tail_lead}
+use Rattle.evidence_check.proofs.ReadWhole.{is_step}
+use Rattle.evidence_check.proofs.PrintedNumbers.{stored_printed}
+
+module _ (T : Frame) (x : Parts) (printed : IsPrinted T x) where
+  -- a form for each line that must stand
+  abbrev form_in : Slot → Form
+  form_in (ANumber q c h) = SaysNumber q c h x
+  form_in (AKeep h) = SaysKeep h
+  form_in TheEnd = SaysEnd
+
+  slots_lead : (must : List Slot) (stage : Stage) → Leads T (At must stage) (map form_in must) (At [] stage)
+  unfolding read_at next_at slot_line
+  slots_lead [] stage = refl
+  slots_lead (ANumber q c h ∷ ss) stage = (number_back T q c h x printed, slots_lead ss stage)
+  slots_lead (AKeep h ∷ ss) stage = (keep_back T h, slots_lead ss stage)
+  slots_lead (TheEnd ∷ ss) stage = (end_back T, slots_lead ss stage)
+
+  calm : (s : Slot) → is_step (form_in s) ≡ false
+  calm (ANumber q c h) = refl
+  calm (AKeep h) = refl
+  calm TheEnd = refl
+
+  apart : (s : Slot) → words_behind (codes "step") (line_of T (form_in s)) ≡ None
+  apart (ANumber Flow c h) = refl
+  apart (ANumber Exit c h) = refl
+  apart (AKeep h) = refl
+  apart TheEnd = refl
+
+  last_lead : (v : ℕ) (js ks : List ℕ) → kept_in T v js ≡ ks → Leads T (At [] (AtSteps v js)) (map form_in (keeps_due T js ks)) (At [] AtEnd)
+  last_lead v js [] e = tail_lead T v js (keeps_due T js []) SaysEnd [] (At [] AtEnd) (ap (keeps_due T js) e) refl refl (slots_lead (keeps_due T js []) AtEnd)
+  last_lead v js (k ∷ ks) e = tail_lead T v js (keeps_due T js (k ∷ ks)) (SaysKeep k) _ (At [] AtEnd) (ap (keeps_due T js) e) refl refl (slots_lead (keeps_due T js (k ∷ ks)) AtEnd)
+
+  stage_lead : (stage : Stage) → (fs : List Form) × Leads T (At [] stage) fs (At [] AtEnd)
+  unfolding read_at next_at
+  stage_lead AtVersion = (SaysVersion 1 ∷ map form_in (keeps_due T [] (kept_in T 1 [])), (version_back T 1 (inl refl), last_lead 1 [] (kept_in T 1 []) refl))
+  stage_lead (AtSteps v js) = (map form_in (keeps_due T js (kept_in T v js)), last_lead v js (kept_in T v js) refl)
+  stage_lead AtEnd = ([], refl)
+
+  pub completes : Completes (evidence_language T)
+  completes (At must stage) =
+      let rest = stage_lead stage in
+      (map (line_of T) (map form_in must ++ rest.0), map form_in must ++ rest.0, record { here = At [] AtEnd; lead = leads_on T (At must stage) (At [] stage) (At [] AtEnd) (map form_in must) rest.0 (slots_lead must stage) rest.1; ended = refl })
+
+-- each kind of numbers has one
+some_stored : (n : Numbers) → (x : Parts) × IsStoredIn n x
+some_stored in_fractions = (single (record { num = pos 0; den = pos 1 }), record { reduced = zero_reduced; shape = refl })
+some_stored in_quotients = (term 0 (record { num = pos 0; den = pos 1 }), term_stored 0 (record { num = pos 0; den = pos 1 }) (omega arith) zero_reduced)
+
+case_completes : (n : Numbers) (c : Content) → Completes (evidence_language (case_frame n c))
+case_completes n c = let s = some_stored n in completes (case_frame n c) s.0 (stored_printed n c s.0 s.1)
+
+pub faults_end : FaultsAreWhereNoneGoesOn
+faults_end c bytes fault (inl b) = inl (bad_ends (evidence_language (case_frame (numbers_of c) c)) start (rows_of bytes) fault (case_completes (numbers_of c) c) b)
+faults_end c bytes fault (inr b) = inr (b.fault_is, early_unfinished (evidence_language (case_frame (numbers_of c) c)) start (rows_of bytes) (end_of bytes) fault (case_completes (numbers_of c) c) b)
+
+pub none_is_fault : NoneGoesOnIsFault
+none_is_fault c bytes number w =
+    let found = none_goes_on (evidence_language (case_frame (numbers_of c) c)) start (rows_of bytes) (end_of bytes) number (case_completes (numbers_of c) c) w in
+    (found.0, read_faults (evidence_language (case_frame (numbers_of c) c)) start (rows_of bytes) (end_of bytes) (record { line = number; kind = found.0 }) found.1)

@@ -1,0 +1,57 @@
+-- Texts say one evidence, or have one first fault.
+use Rattle.std.proofs.Common.{◌≡◌, subst, inl, inr, ℕ, List, Result, Ok, Err}
+use Rattle.text_lines.specs.Lines.{rows_of, end_of}
+use Rattle.case_model.specs.Content.{Content}
+use Rattle.case_numbers.specs.Numbers.{Numbers, numbers_of}
+use Rattle.evidence_check.specs.declared.evidence.Evidence.{Evidence}
+use Rattle.evidence_check.specs.declared.fault.ProofKind.{ProofKind}
+use Rattle.evidence_check.specs.declared.fault.ProofText.{ProofText}
+use Rattle.evidence_check.specs.declared.fault.ProofText.TheVariants.{Line, NoMemory}
+use Rattle.evidence_check.specs.EvidenceView.{FitsCase, IsEvidenceFor, version_of, steps_of, keeps_of}
+use Rattle.evidence_check.specs.Languages.{FaultAt, reading}
+use Rattle.evidence_check.specs.Documents.{Form, evidence_forms, evidence_language}
+use Rattle.evidence_check.specs.NumberReading.{case_frame}
+use Rattle.evidence_check.specs.ReadView.{Stops, SayEvidence, HaveFault}
+use Rattle.evidence_check.specs.DocumentStatements.{start, evidence_reading, SaysEvidence, HasFault, IsProofFault, TextsSayOneEvidence, TextsSayOrFail, TextsHaveOneFault}
+use Rattle.evidence_check.proofs.LanguageLaws.{read_says, document_reads, read_faults, bad_reads, early_reads}
+use Rattle.evidence_check.proofs.NumberFound.{frame_is}
+use Rattle.evidence_check.proofs.OneEvidence.{one_evidence}
+
+module _ (c : Content) (bytes : List ℕ) where
+  says_reads : (v : Evidence) → SaysEvidence c bytes v → evidence_reading (case_frame (numbers_of c) c) bytes ≡ Ok (evidence_forms (version_of v) (steps_of v) (keeps_of v))
+  says_reads v d = document_reads (evidence_language (case_frame (numbers_of c) c)) start (rows_of bytes) (end_of bytes) (evidence_forms (version_of v) (steps_of v) (keeps_of v)) d
+
+  fault_reads : (fault : FaultAt ProofKind) → HasFault c bytes fault → evidence_reading (case_frame (numbers_of c) c) bytes ≡ Err fault
+  fault_reads fault (inl b) = bad_reads (evidence_language (case_frame (numbers_of c) c)) start (rows_of bytes) (end_of bytes) fault b
+  fault_reads fault (inr b) = early_reads (evidence_language (case_frame (numbers_of c) c)) start (rows_of bytes) (end_of bytes) fault b
+
+  -- what the reader found
+  pub says : (n : Numbers) (v : Evidence) → n ≡ numbers_of c → SayEvidence n c (end_of bytes) (rows_of bytes) (version_of v) (steps_of v) (keeps_of v) → SaysEvidence c bytes v
+  unfolding SayEvidence
+  says n v e h = read_says (evidence_language (case_frame (numbers_of c) c)) start (rows_of bytes) (end_of bytes) (evidence_forms (version_of v) (steps_of v) (keeps_of v)) (subst (λ n. reading (evidence_language (case_frame n c)) start (rows_of bytes) (end_of bytes) ≡ Ok (evidence_forms (version_of v) (steps_of v) (keeps_of v))) e (h (case_frame n c) (frame_is n c)))
+
+  pub fails : (n : Numbers) (fault : ProofText) → n ≡ numbers_of c → HaveFault n c (end_of bytes) (rows_of bytes) fault → IsProofFault c bytes fault
+  unfolding HaveFault Stops
+  fails n (Line k kind) e h = read_faults (evidence_language (case_frame (numbers_of c) c)) start (rows_of bytes) (end_of bytes) (record { line = k; kind = kind }) (subst (λ n. reading (evidence_language (case_frame n c)) start (rows_of bytes) (end_of bytes) ≡ Err (record { line = k; kind = kind })) e (h (case_frame n c) (frame_is n c)))
+  fails n NoMemory e h = tt
+
+fits : (c : Content) (v : Evidence) → IsEvidenceFor c v → FitsCase c (version_of v) (steps_of v) (keeps_of v)
+fits c v h = record { version = h.version; size = h.size; none = h.none; all = h.all }
+
+same_ok : (fs gs : List Form) (r : Result (List Form) (FaultAt ProofKind)) → r ≡ Ok fs → r ≡ Ok gs → fs ≡ gs
+same_ok fs gs r h k = cc
+
+not_both : (fs : List Form) (e : FaultAt ProofKind) (r : Result (List Form) (FaultAt ProofKind)) → r ≡ Ok fs → r ≡ Err e → ⊥
+not_both fs e r h k = cc
+
+same_err : (e f : FaultAt ProofKind) (r : Result (List Form) (FaultAt ProofKind)) → r ≡ Err e → r ≡ Err f → e ≡ f
+same_err e f r h k = cc
+
+pub one_said : TextsSayOneEvidence
+one_said c bytes v w h k d e = one_evidence c (version_of v) (version_of w) (steps_of v) (steps_of w) (keeps_of v) (keeps_of w) (fits c v h) (fits c w k) (same_ok _ _ _ (says_reads c bytes v d) (says_reads c bytes w e))
+
+pub said_or_failed : TextsSayOrFail
+said_or_failed c bytes v fault d h = not_both _ _ _ (says_reads c bytes v d) (fault_reads c bytes fault h)
+
+pub one_fault : TextsHaveOneFault
+one_fault c bytes fault other h k = same_err fault other _ (fault_reads c bytes fault h) (fault_reads c bytes other k)

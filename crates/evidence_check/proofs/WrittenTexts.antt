@@ -1,0 +1,31 @@
+-- The text of evidence says it.
+use Rattle.std.proofs.Common.{◌≡◌, refl, sym, ap, ap₂, subst, ◌∙◌, ℕ, ◌+◌, List, [], ◌∷◌}
+use Rattle.std.specs.List.{AllByRecursion}
+use Rattle.text_lines.specs.Lines.{rows_of}
+use Rattle.text_lines.specs.Words.{words_of}
+use Rattle.text_lines.specs.Spelling.{line_spelt, text_of, IsLine, numbered}
+use Rattle.text_lines.proofs.Spelt.{rows_of_text, words_of_line}
+use Rattle.case_numbers.specs.Numbers.{numbers_of}
+use Rattle.evidence_check.specs.EvidenceView.{version_of, steps_of, keeps_of}
+use Rattle.evidence_check.specs.Languages.{Words, words_in, IsDocument}
+use Rattle.evidence_check.specs.Documents.{evidence_forms, evidence_lines, evidence_language}
+use Rattle.evidence_check.specs.NumberReading.{case_frame}
+use Rattle.evidence_check.specs.DocumentStatements.{start, EvidenceTextsSayIt}
+use Rattle.evidence_check.proofs.NumberFound.{frame_is}
+use Rattle.evidence_check.proofs.WrittenLines.{lines_say}
+
+line_back : (line : Words) → IsLine line → words_of (line_spelt line) ≡ line
+line_back [] h = absurd h
+line_back (word ∷ words) h = words_of_line (word ∷ words) (h.1, h.2)
+
+numbered_back : (n : ℕ) (lines : List Words) → AllByRecursion IsLine lines → words_in (numbered n lines) ≡ lines
+numbered_back n [] h = refl
+numbered_back n (line ∷ lines) h = ap₂ (λ x xs. x ∷ xs) (line_back line h.0) (numbered_back (n + 1) lines h.1)
+
+lines_back : (lines : List Words) → AllByRecursion IsLine lines → words_in (rows_of (text_of lines)) ≡ lines
+lines_back lines h = ap words_in (rows_of_text lines h) ∙ numbered_back 0 lines h
+
+pub text_says : EvidenceTextsSayIt
+text_says c v h p l =
+    subst (λ ls. IsDocument (evidence_language (case_frame (numbers_of c) c)) start ls (evidence_forms (version_of v) (steps_of v) (keeps_of v))) (sym (lines_back (evidence_lines (case_frame (numbers_of c) c) (version_of v) (steps_of v) (keeps_of v)) l))
+    (lines_say (numbers_of c) c (case_frame (numbers_of c) c) (version_of v) (steps_of v) (keeps_of v) (frame_is (numbers_of c) c) (record { version = h.version; size = h.size; none = h.none; all = h.all }) p)

@@ -1,0 +1,5 @@
+use Rattle.evidence_check.proofs.NumberFound.{frame_is}
+use Rattle.evidence_check.proofs.laws.cases_have_frames.Goals as goal
+
+pub returns : goal.returns
+returns c = frame_is

@@ -1,0 +1,130 @@
+-- What documents of evidence promise.
+use Rattle.std.specs.Prelude.{◌≡◌, ◌⊎◌, ◌↔◌, ℕ, List, [], Some, Result, Ok, Err, All}
+use Rattle.field_core.specs.Kind.{Parts}
+use Rattle.std.specs.List.{AllByRecursion}
+use Rattle.text_lines.specs.Lines.{rows_of, end_of}
+use Rattle.text_lines.specs.Spelling.{text_of, IsLine}
+use Rattle.case_model.specs.Content.{Content}
+use Rattle.case_numbers.specs.Numbers.{Numbers, numbers_of, IsStoredIn}
+use Rattle.evidence_check.specs.declared.evidence.Evidence.{Evidence}
+use Rattle.evidence_check.specs.declared.fault.ProofKind.{ProofKind}
+use Rattle.evidence_check.specs.declared.fault.ProofKind.TheVariants.{Ended}
+use Rattle.evidence_check.specs.declared.fault.ProofText.{ProofText}
+use Rattle.evidence_check.specs.declared.fault.ProofText.TheVariants.{Line, NoMemory}
+use Rattle.evidence_check.specs.EvidenceParts.{StepParts, KeepParts}
+use Rattle.evidence_check.specs.EvidenceView.{FitsCase, IsEvidenceFor, version_of, steps_of, keeps_of}
+use Rattle.evidence_check.specs.Languages.{words_in, FaultAt, reading, IsDocument}
+use Rattle.evidence_check.specs.LanguageStatements.{IsBadLine, IsEndedEarly, IsWhereNoneGoesOn, IsUnfinished}
+use Rattle.evidence_check.specs.Documents.{Frame, Form, evidence_forms, evidence_lines, AtVersion, Place, At, evidence_language}
+use Rattle.evidence_check.specs.ReadView.{IsFrameFor}
+use Rattle.evidence_check.specs.NumberReading.{case_frame}
+
+-- the place of the first line
+abbrev pub start : Place
+start = At [] AtVersion
+
+-- what a text says, or its first fault
+abbrev pub evidence_reading : Frame → List ℕ → Result (List Form) (FaultAt ProofKind)
+evidence_reading T bytes = reading (evidence_language T) start (rows_of bytes) (end_of bytes)
+
+-- ---- what a text says of a case
+
+-- the lines of a text say this evidence, one after the other
+abbrev pub SaysEvidence : Content → List ℕ → Evidence → Type 0
+SaysEvidence c bytes v = IsDocument (evidence_language (case_frame (numbers_of c) c)) start (words_in (rows_of bytes)) (evidence_forms (version_of v) (steps_of v) (keeps_of v))
+
+-- the first fault of a text: a line that says nothing where it stands, behind lines that say something, and what is wrong with it; or lines that end too early
+abbrev pub HasFault : Content → List ℕ → FaultAt ProofKind → Type 0
+HasFault c bytes fault =
+    IsBadLine (evidence_language (case_frame (numbers_of c) c)) start (rows_of bytes) fault
+    ⊎ IsEndedEarly (evidence_language (case_frame (numbers_of c) c)) start (rows_of bytes) (end_of bytes) fault
+
+-- why a text says no evidence: its first fault, or memory is wanting
+abbrev pub IsProofFault : Content → List ℕ → ProofText → Type 0
+IsProofFault c bytes (Line n kind) = HasFault c bytes (record { line = n; kind = kind })
+IsProofFault c bytes NoMemory = Unit {0}
+
+-- ---- laws
+
+-- There is a frame for each case.
+abbrev pub CasesHaveFrames : Type 0
+CasesHaveFrames = (n : Numbers) (c : Content) → IsFrameFor n c (case_frame n c)
+
+-- What is read of a text is what its lines say, one after the other.
+abbrev pub ReadingsAreDocuments : Type 0
+ReadingsAreDocuments = (T : Frame) (bytes : List ℕ) (fs : List Form) → (evidence_reading T bytes ≡ Ok fs) ↔ IsDocument (evidence_language T) start (words_in (rows_of bytes)) fs
+
+-- Its first fault is that of the first line that says nothing where it stands; or the lines end too early.
+abbrev pub FaultsAreBadLines : Type 0
+FaultsAreBadLines =
+    (T : Frame) (bytes : List ℕ) (fault : FaultAt ProofKind) → evidence_reading T bytes ≡ Err fault
+    → IsBadLine (evidence_language T) start (rows_of bytes) fault ⊎ IsEndedEarly (evidence_language T) start (rows_of bytes) (end_of bytes) fault
+
+-- Lines say one evidence.
+abbrev pub LinesSayOneEvidence : Type 0
+LinesSayOneEvidence =
+    (c : Content) (v w : ℕ) (ss ts : List StepParts) (xs ys : List KeepParts) → FitsCase c v ss xs → FitsCase c w ts ys
+    → evidence_forms v ss xs ≡ evidence_forms w ts ys → (v ≡ w) × (ss ≡ ts) × (xs ≡ ys)
+
+-- A text says one evidence of a case.
+abbrev pub TextsSayOneEvidence : Type 0
+TextsSayOneEvidence =
+    (c : Content) (bytes : List ℕ) (v w : Evidence) → IsEvidenceFor c v → IsEvidenceFor c w → SaysEvidence c bytes v → SaysEvidence c bytes w
+    → (version_of v ≡ version_of w) × (steps_of v ≡ steps_of w) × (keeps_of v ≡ keeps_of w)
+
+-- A text that says evidence has no fault.
+abbrev pub TextsSayOrFail : Type 0
+TextsSayOrFail = (c : Content) (bytes : List ℕ) (v : Evidence) (fault : FaultAt ProofKind) → SaysEvidence c bytes v → ¬ HasFault c bytes fault
+
+-- A text has one first fault.
+abbrev pub TextsHaveOneFault : Type 0
+TextsHaveOneFault = (c : Content) (bytes : List ℕ) (fault other : FaultAt ProofKind) → HasFault c bytes fault → HasFault c bytes other → fault ≡ other
+
+-- ---- the lines of evidence
+
+-- a number is read from its text
+abbrev pub IsPrinted : Frame → Parts → Type 0
+IsPrinted T x = T.number (T.text x) ≡ Some x
+
+-- the hypotheses of steps are found by their names, and all numbers are read from their texts
+pub record ArePrinted (T : Frame) (steps : List StepParts) (keeps : List KeepParts) : Type 0 where
+  pub names : All (λ s. T.position (T.name s.hypothesis) ≡ Some s.hypothesis) steps
+  pub flows : All (λ s. All (All (IsPrinted T)) s.flows) steps
+  pub exits : All (λ x. All (All (IsPrinted T)) x.exits) keeps
+
+-- The lines of evidence that fits a case say it.
+abbrev pub LinesSayTheirEvidence : Type 0
+LinesSayTheirEvidence =
+    (n : Numbers) (c : Content) (T : Frame) (v : ℕ) (ss : List StepParts) (xs : List KeepParts) → IsFrameFor n c T → FitsCase c v ss xs → ArePrinted T ss xs
+    → IsDocument (evidence_language T) start (evidence_lines T v ss xs) (evidence_forms v ss xs)
+
+-- A stored number of a case is read from its text.
+abbrev pub StoredNumbersArePrinted : Type 0
+StoredNumbersArePrinted = (n : Numbers) (c : Content) (x : Parts) → IsStoredIn n x → IsPrinted (case_frame n c) x
+
+-- ---- where no document goes on
+
+-- The first fault is in the first line with which no document goes on; or the lines begin a document, and are none.
+abbrev pub FaultsAreWhereNoneGoesOn : Type 0
+FaultsAreWhereNoneGoesOn =
+    (c : Content) (bytes : List ℕ) (fault : FaultAt ProofKind) → HasFault c bytes fault
+    → IsWhereNoneGoesOn (evidence_language (case_frame (numbers_of c) c)) start (rows_of bytes) fault.line
+    ⊎ ((fault ≡ record { line = end_of bytes; kind = Ended }) × IsUnfinished (evidence_language (case_frame (numbers_of c) c)) start (rows_of bytes))
+
+-- A line with which no document goes on, where one goes on with those before it, is that of the first fault.
+abbrev pub NoneGoesOnIsFault : Type 0
+NoneGoesOnIsFault =
+    (c : Content) (bytes : List ℕ) (number : ℕ) → IsWhereNoneGoesOn (evidence_language (case_frame (numbers_of c) c)) start (rows_of bytes) number
+    → (kind : ProofKind) × HasFault c bytes (record { line = number; kind = kind })
+
+-- ---- the text of evidence
+
+-- the text of evidence for a case: its lines, with one blank between words and a line feed behind each line
+abbrev pub evidence_text : Content → Evidence → List ℕ
+evidence_text c v = text_of (evidence_lines (case_frame (numbers_of c) c) (version_of v) (steps_of v) (keeps_of v))
+
+-- It says the evidence, where its names and numbers are words.
+abbrev pub EvidenceTextsSayIt : Type 0
+EvidenceTextsSayIt =
+    (c : Content) (v : Evidence) → IsEvidenceFor c v → ArePrinted (case_frame (numbers_of c) c) (steps_of v) (keeps_of v)
+    → AllByRecursion IsLine (evidence_lines (case_frame (numbers_of c) c) (version_of v) (steps_of v) (keeps_of v)) → SaysEvidence c (evidence_text c v) v

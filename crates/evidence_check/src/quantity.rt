@@ -1,0 +1,32 @@
+//! What the numbers of evidence are.
+ghost use Rattle.std.specs.Prelude.{◌≡◌};
+ghost use Rattle.evidence_check.specs.Documents.{keyword, place_fault};
+
+use crate::ProofKind;
+
+/// What the numbers of evidence are: those behind a step, or those behind a keep.
+#[derive(Clone, Copy, PartialEq, Eq, Debug)]
+pub enum Quantity {
+    Flow,
+    Exit,
+}
+
+/// The first word of the line of a number.
+pub fn keyword(quantity: Quantity) -> &'static [u8]
+    ensures { result.now ≡ keyword quantity }
+{
+    match quantity {
+        Quantity::Flow => b"flow".as_slice(),
+        Quantity::Exit => b"exit".as_slice(),
+    }
+}
+
+/// What is wrong where the component or the name isn't the one that must stand there.
+pub fn place_fault(quantity: Quantity) -> ProofKind
+    ensures { result ≡ place_fault quantity }
+{
+    match quantity {
+        Quantity::Flow => ProofKind::FlowPlace,
+        Quantity::Exit => ProofKind::ExitPlace,
+    }
+}

@@ -1,0 +1,61 @@
+//! The reader of evidence.
+ghost use Rattle.std.specs.Prelude.{map, IfOk, IfErr};
+ghost use Rattle.text_lines.specs.Lines.{rows_of, end_of};
+ghost use Rattle.case_model.specs.CaseView.{content};
+ghost use Rattle.evidence_check.specs.EvidenceView.{step_parts, keep_parts, FitsCase, IsEvidenceFor};
+ghost use Rattle.evidence_check.specs.ReadView.{SayEvidence, HaveFault};
+ghost use Rattle.evidence_check.specs.DocumentStatements.{SaysEvidence, IsProofFault};
+
+use crate::document::{end, kept, next_line, steps};
+use crate::loading::EvidenceNumber;
+use crate::{Evidence, ProofText, Steps, rules};
+use case_model::Case;
+use std::alloc::Global;
+use text_lines::Lines;
+
+/// The evidence that a text says, in these numbers.
+fn read_in<F: EvidenceNumber>(
+    alloc: Global,
+    case: &Case,
+    bytes: &[u8],
+) -> Result<Steps<F>, ProofText>
+    ensures found { IfOk result (λ v. SayEvidence F.numbers (content case.now) (end_of bytes.now) (rows_of bytes.now) v.version (map (step_parts F.parts) v.steps) (map (keep_parts F.parts) v.keeps)) }
+    ensures fits { IfOk result (λ v. FitsCase (content case.now) v.version (map (step_parts F.parts) v.steps) (map (keep_parts F.parts) v.keeps)) }
+    ensures fault { IfErr result (HaveFault F.numbers (content case.now) (end_of bytes.now) (rows_of bytes.now)) }
+{
+    let mut lines = Lines::new(bytes);
+    let first = next_line(&mut lines)?;
+    let version = match rules::version(&first) {
+        Ok(version) => version,
+        Err(kind) => return Err(ProofText::Line(first.number, kind)),
+    };
+    let (steps, line) = steps(alloc, &mut lines, case)?;
+    let (keeps, line) = kept(alloc, &mut lines, case, version, steps.as_slice(), line)?;
+    end(&mut lines, &line)?;
+    Ok(Steps {
+        version,
+        steps,
+        keeps,
+    })
+}
+
+/// The evidence that a text says for a case, or the first line that can't stand in it, or `NoMemory`.
+///
+/// The first line is `evidence 1` or `evidence 2`. For each step `step NAME` follows, and after it, for each component
+/// ascending and each earlier step in order, `flow C NAME Y`. In version 2, for each hypothesis that no step names,
+/// ascending, `keep NAME` follows, and after it, for each component ascending and each step in order, `exit C NAME Y`.
+/// Last comes `end`. In a flow or exit `C` is the component from 1, `NAME` is the hypothesis of that step, and `Y` is the
+/// text of a quotient that `EpsQuotient::read` reads, without brackets where the case is plain. Words and lines are those
+/// of `text_lines`. Within a line the first word is tested first, then the number of words, then what follows from left to
+/// right. The evidence is in fractions exactly where the case is plain, and fits the case.
+pub fn read(alloc: Global, case: &Case, bytes: &[u8]) -> Result<Evidence, ProofText>
+    ensures found { IfOk result (SaysEvidence (content case.now) bytes.now) }
+    ensures fits { IfOk result (IsEvidenceFor (content case.now)) }
+    ensures fault { IfErr result (IsProofFault (content case.now) bytes.now) }
+{
+    if case.is_plain() {
+        Ok(Evidence::Plain(read_in(alloc, case, bytes)?))
+    } else {
+        Ok(Evidence::Eps(read_in(alloc, case, bytes)?))
+    }
+}

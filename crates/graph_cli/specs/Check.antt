@@ -1,0 +1,61 @@
+-- What `check` answers.
+use Rattle.std.specs.Prelude.{◌≡◌, ℕ, List, map, Ok, Err}
+use Rattle.answers.specs.declared.answer.Answer.{Answer}
+use Rattle.answers.specs.declared.refusal.Refusal.{Refusal}
+use Rattle.answers.specs.declared.status.Status.TheVariants as statuses
+use Rattle.answers.specs.Lines.{done}
+use Rattle.answers.specs.Stages.{Stage, and_then, only}
+use Rattle.case_model.specs.Content.{Content}
+use Rattle.evidence_check.specs.declared.evidence.Evidence.{Evidence}
+use Rattle.evidence_check.specs.declared.fault.ProofKind.{ProofKind}
+use Rattle.evidence_check.specs.declared.verdict.CheckWide.{CheckWide}
+use Rattle.evidence_check.specs.declared.verdict.Verdict.{Verdict}
+use Rattle.evidence_check.specs.declared.verdict.Verdict.TheVariants.{Yes, No}
+use Rattle.evidence_check.specs.EvidenceParts.{StepParts, KeepParts}
+use Rattle.evidence_check.specs.EvidenceView.{version_of, steps_of, keeps_of, IsEvidenceFor}
+use Rattle.evidence_check.specs.CaseCheck.{case_check, verdict_of}
+use Rattle.evidence_check.specs.DocumentStatements.{SaysEvidence, HasFault}
+use Rattle.refusals.specs.ProofRefusal.{part_at, no_line, proof_refusal}
+use Rattle.refusals.specs.WideRefusal.{wide_refusal}
+use Rattle.refusals.specs.declared.wide.When.TheVariants.{Check}
+use Rattle.report.specs.CheckReport.{check_report}
+
+-- evidence as a text says it: its version, its steps and its keeps
+pub record Said : Type 0 where
+  pub version : ℕ
+  pub steps : List StepParts
+  pub keeps : List KeepParts
+
+abbrev pub said_of : Evidence → Said
+said_of v = record { version = version_of v; steps = steps_of v; keeps = keeps_of v }
+
+-- the hypotheses of the steps, in their order
+abbrev pub listed_in : Said → List ℕ
+listed_in said = map (λ s. s.hypothesis) said.steps
+
+-- the hypotheses that are kept, in their order
+abbrev pub kept_in : Said → List ℕ
+kept_in said = map (λ x. x.hypothesis) said.keeps
+
+-- the evidence that a text says for a case, or the first line that can't stand in it
+abbrev pub evidence_in : Content → List ℕ → Stage Refusal Said
+evidence_in c bytes = record {
+  Gives = λ said. (v : Evidence) × IsEvidenceFor c v × SaysEvidence c bytes v × (said ≡ said_of v);
+  Refuses = λ r. (n : ℕ) × (kind : ProofKind) × HasFault c bytes (record { line = n; kind = kind }) × (r ≡ proof_refusal n kind);
+}
+
+-- the verdict of the written check, or its first operation that is undefined
+abbrev pub checked : Content → Said → Stage Refusal Verdict
+checked c said = record {
+  Gives = λ verdict. verdict_of (case_check c said.steps said.keeps) ≡ Ok verdict;
+  Refuses = λ r. (wide : CheckWide) × (verdict_of (case_check c said.steps said.keeps) ≡ Err wide) × (r ≡ wide_refusal c.names (Check (part_at (listed_in said) (kept_in said) wide.step)) wide.at);
+}
+
+-- what is answered to a verdict: to a no, the first broken condition, with a status of its own
+abbrev pub answer_to : Content → Said → Verdict → Answer
+answer_to c said Yes = done (check_report c said.version (listed_in said) (kept_in said))
+answer_to c said (No n reason) = record { status = statuses.No; text = no_line c.names (listed_in said) (kept_in said) n reason }
+
+-- the evidence, the verdict on it, and the answer to that
+unfoldable pub check_stage : Content → List ℕ → Stage Refusal Answer
+check_stage c bytes = and_then (evidence_in c bytes) (λ said. and_then (checked c said) (λ verdict. only (answer_to c said verdict)))

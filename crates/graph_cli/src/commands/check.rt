@@ -1,0 +1,78 @@
+//! The command `check`.
+ghost use Rattle.std.specs.Prelude.{◌≡◌, IfOk, IfErr};
+ghost use Rattle.answers.specs.Halts.{HaltsBy};
+ghost use Rattle.case_model.specs.CaseView.{content};
+ghost use Rattle.evidence_check.specs.EvidenceView.{IsEvidenceFor};
+ghost use Rattle.graph_cli.specs.Accepted.{IsOfKind};
+ghost use Rattle.graph_cli.specs.Check.{said_of, evidence_in, checked, answer_to, check_stage};
+ghost use Rattle.graph_cli.specs.declared.kind.Kind.TheVariants.{Single};
+
+use answers::{Answer, Halt, Status};
+use case_model::Case;
+use evidence_check::{Evidence, ProofText, Verdict, check, read};
+use field_core::NoMemory;
+use refusals::{When, no_text, part_at, proof_refusal, wide_refusal};
+use report::check_text;
+use std::alloc::Global;
+
+/// The evidence that a text says.
+fn evidence_in(alloc: Global, case: &Case, bytes: &[u8]) -> Result<Evidence, Halt>
+    ensures given { IfOk result (λ proof. (evidence_in (content case.now) bytes.now).Gives (said_of proof)) }
+    ensures fits { IfOk result (IsEvidenceFor (content case.now)) }
+    ensures refused { IfErr result (HaltsBy (evidence_in (content case.now) bytes.now).Refuses) }
+{
+    match read(alloc, case, bytes) {
+        Ok(proof) => Ok(proof),
+        Err(ProofText::Line(n, kind)) => Err(Halt::Refused(proof_refusal(alloc, n, kind)?)),
+        Err(ProofText::NoMemory) => Err(Halt::NoMemory),
+    }
+}
+
+/// The verdict on evidence.
+fn checked(alloc: Global, case: &Case, proof: &Evidence) -> Result<Verdict, Halt>
+    requires single { IsOfKind Single (content case.now).inputs }
+    requires fits { IsEvidenceFor (content case.now) proof.now }
+    ensures given { IfOk result (checked (content case.now) (said_of proof.now)).Gives }
+    ensures refused { IfErr result (HaltsBy (checked (content case.now) (said_of proof.now)).Refuses) }
+{
+    match check(case, proof) {
+        Ok(verdict) => Ok(verdict),
+        Err(wide) => Err(Halt::Refused(wide_refusal(
+            alloc,
+            case.names(),
+            When::Check(part_at(proof, wide.step)),
+            &wide.at,
+        )?)),
+    }
+}
+
+/// The answer to a verdict.
+fn answer_to(
+    alloc: Global,
+    case: &Case,
+    proof: &Evidence,
+    verdict: Verdict,
+) -> Result<Answer, NoMemory>
+    requires { IsEvidenceFor (content case.now) proof.now }
+    ensures { IfOk result (λ answer. answer ≡ answer_to (content case.now) (said_of proof.now) verdict) }
+{
+    match verdict {
+        Verdict::Yes => Ok(Answer::done(check_text(alloc, case, proof)?)),
+        Verdict::No(n, reason) => Ok(Answer {
+            status: Status::No,
+            text: no_text(alloc, case.names(), proof, n, reason)?,
+        }),
+    }
+}
+
+/// What `check` answers to a case and the text of evidence.
+#[tactic(auto, unfolding(crate::specs::Check::check_stage))]
+pub fn check_answer(alloc: Global, case: &Case, bytes: &[u8]) -> Result<Answer, Halt>
+    requires { IsOfKind Single (content case.now).inputs }
+    ensures given { IfOk result (check_stage (content case.now) bytes.now).Gives }
+    ensures refused { IfErr result (HaltsBy (check_stage (content case.now) bytes.now).Refuses) }
+{
+    let proof = evidence_in(alloc, case, bytes)?;
+    let verdict = checked(alloc, case, &proof)?;
+    Ok(answer_to(alloc, case, &proof, verdict)?)
+}

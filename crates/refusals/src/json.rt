@@ -1,0 +1,30 @@
+//! Lines of JSON that gives no case.
+ghost use Rattle.std.specs.Prelude.{◌≡◌, ◌≢◌, IfOk};
+ghost use Rattle.case_json.specs.declared.fault.JsonFault.TheVariants.{NoMemory as OutOfMemory};
+ghost use Rattle.refusals.specs.JsonRefusal.{json_refusal};
+
+use crate::case::case_refusal;
+use crate::text::{expression_refusal, malformed_at, number_refusal};
+use answers::Refusal;
+use case_json::JsonFault;
+use field_core::NoMemory;
+use std::alloc::Global;
+
+/// The refusal of JSON with this fault, by its path as it stands; `NoMemory` where the fault is want of memory, or memory
+/// runs out.
+#[tactic(auto, unfolding(crate::specs::JsonRefusal::json_refusal))]
+pub fn json_refusal(alloc: Global, fault: &JsonFault) -> Result<Refusal, NoMemory>
+    ensures line { IfOk result (λ refusal. refusal ≡ json_refusal fault.now) }
+    ensures memory { IfOk result (λ refusal. fault.now ≢ OutOfMemory) }
+{
+    match fault {
+        JsonFault::Syntax => malformed_at(alloc, b"json", b"syntax"),
+        JsonFault::Shape(path) => malformed_at(alloc, path.as_bytes(), b"shape"),
+        JsonFault::NotWhole(path) => malformed_at(alloc, path.as_bytes(), b"not whole"),
+        JsonFault::Number(path, why) => number_refusal(alloc, path.as_bytes(), *why),
+        JsonFault::UnknownName(path) => malformed_at(alloc, path.as_bytes(), b"unknown name"),
+        JsonFault::Expr(path, why) => expression_refusal(alloc, path.as_bytes(), *why),
+        JsonFault::Case(refused) => case_refusal(alloc, refused.names.as_slice(), &refused.fault),
+        JsonFault::NoMemory => Err(NoMemory),
+    }
+}

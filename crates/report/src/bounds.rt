@@ -1,0 +1,105 @@
+//! What the command `bounds` prints.
+ghost use Rattle.std.specs.Prelude.{◌≡◌, ◌<◌, ◌≤◌, ◌^◌, ◌++◌, IfOk, OnOk, length};
+ghost use Rattle.std.specs.List.{All, flat_map, range_with_len};
+ghost use Rattle.case_model.specs.CaseView.{content};
+ghost use Rattle.discovery_bound.specs.BoundsView.{bounds_size, bound_of};
+ghost use Rattle.report.specs.BoundsReport.{name_if_member, members_line, bound_line, bounds_report, IsBoundsReport};
+
+use crate::sample::put_count;
+use crate::test::put_name;
+use case_model::{Case, holds};
+use closed_test::sets_in_order;
+use discovery_bound::Bounds;
+use field_core::{List, NoMemory};
+use std::alloc::Global;
+
+/// Appends the name of a hypothesis, where it is a member of a set.
+fn put_if_member(text: &mut List<u8>, case: &Case, set: u32, k: usize) -> Result<(), NoMemory>
+    requires below { k < length (content case.now).names }
+    requires few { k < 16 }
+    ensures { OnOk result (text.new ≡ text.old ++ name_if_member (content case.now) set k) }
+{
+    if !holds(set, k) {
+        return Ok(());
+    }
+    put_name(text, case, k)
+}
+
+/// Appends the names of the members of a set.
+fn put_members(text: &mut List<u8>, case: &Case, set: u32) -> Result<(), NoMemory>
+    requires { length (content case.now).names ≤ 16 }
+    ensures { OnOk result (text.new ≡ text.old ++ flat_map (name_if_member (content case.now) set) (range_with_len 0 (length (content case.now).names))) }
+{
+    for k in 0..case.size() {
+        put_if_member(text, case, set, k)?;
+    }
+    Ok(())
+}
+
+/// Appends the line of the bound of a set.
+#[tactic(auto, unfolding(crate::specs::BoundsReport::members_line))]
+fn put_line(text: &mut List<u8>, case: &Case, bounds: &Bounds, set: u32) -> Result<(), NoMemory>
+    requires size { bounds_size bounds.now ≡ length (content case.now).names }
+    requires set { set < 2 ^ bounds_size bounds.now }
+    ensures { OnOk result (text.new ≡ text.old ++ members_line (content case.now) (bound_of bounds.now) set) }
+{
+    text.append(b"bound ")?;
+    text.append_unsigned(bounds.bound(set) as u128)?;
+    text.append(b" of")?;
+    put_members(text, case, set)?;
+    text.push(b'\n')
+}
+
+/// Appends the line of a set; nothing for the empty one.
+fn put_set(text: &mut List<u8>, case: &Case, bounds: &Bounds, set: u32) -> Result<(), NoMemory>
+    requires size { bounds_size bounds.now ≡ length (content case.now).names }
+    requires set { set < 2 ^ bounds_size bounds.now }
+    ensures { OnOk result (text.new ≡ text.old ++ bound_line (content case.now) (bound_of bounds.now) set) }
+{
+    if set == 0 {
+        return Ok(());
+    }
+    put_line(text, case, bounds, set)
+}
+
+/// Appends the lines of sets.
+fn put_sets(text: &mut List<u8>, case: &Case, bounds: &Bounds, sets: &[u32]) -> Result<(), NoMemory>
+    requires size { bounds_size bounds.now ≡ length (content case.now).names }
+    requires sets { All (λ n. n < 2 ^ bounds_size bounds.now) sets.now }
+    ensures { OnOk result (text.new ≡ text.old ++ flat_map (bound_line (content case.now) (bound_of bounds.now)) sets.now) }
+{
+    for set in sets {
+        put_set(text, case, bounds, *set)?;
+    }
+    Ok(())
+}
+
+/// What the command `bounds` prints of sets.
+#[tactic(auto, unfolding(crate::specs::BoundsReport::bounds_report))]
+fn text_of_sets(
+    alloc: Global,
+    case: &Case,
+    bounds: &Bounds,
+    sets: &[u32],
+) -> Result<List<u8>, NoMemory>
+    requires size { bounds_size bounds.now ≡ length (content case.now).names }
+    requires sets { All (λ n. n < 2 ^ bounds_size bounds.now) sets.now }
+    ensures { IfOk result (λ text. text ≡ bounds_report (content case.now) (bound_of bounds.now) sets.now) }
+{
+    let mut text = List::new(alloc);
+    put_count(&mut text, b"bounds ", case.size())?;
+    put_sets(&mut text, case, bounds, sets)?;
+    text.append(b"end\n")?;
+    Ok(text)
+}
+
+/// What the command `bounds` prints: how many hypotheses there are, and for each set that isn't empty, in the order of sets,
+/// its bound and the names of its members. The bounds must be for the hypotheses of the case. `NoMemory` where memory runs out.
+pub fn bounds_text(alloc: Global, case: &Case, bounds: &Bounds) -> Result<List<u8>, NoMemory>
+    requires { bounds_size bounds.now ≡ length (content case.now).names }
+    ensures { IfOk result (λ text. IsBoundsReport (content case.now) (bound_of bounds.now) text) }
+{
+    let sets = sets_in_order(alloc, case.size())?;
+    let text = text_of_sets(alloc, case, bounds, sets.as_slice())?;
+    Ok(text)
+}

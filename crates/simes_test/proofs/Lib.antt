@@ -1,0 +1,4 @@
+pub mod SimesWeights
+pub mod SimesLaws
+pub mod SimesSets
+pub mod Rankings

@@ -1,0 +1,9 @@
+pub mod SimesTest
+pub mod SimesSums
+pub mod SimesAnswers
+pub mod SimesFaults
+pub mod SimesView
+pub mod Leaders
+pub mod SimesStatements
+pub mod Tested
+pub mod Ranking

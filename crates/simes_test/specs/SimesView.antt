@@ -1,0 +1,17 @@
+-- Tables of Simes' test as contracts see them.
+use Rattle.std.specs.Prelude.{ℕ}
+use Rattle.case_model.specs.declared.set_table.SetTable.{SetTable}
+use Rattle.case_model.specs.SetTableView.{table_size}
+use Rattle.simes_test.specs.declared.table.SimesTable.{SimesTable}
+
+-- what Simes' test says
+abbrev pub local_of : SimesTable → SetTable
+local_of t = t.local
+
+-- what its closed test says
+abbrev pub closed_of : SimesTable → SetTable
+closed_of t = t.closed
+
+-- for how many hypotheses a table is
+abbrev pub simes_size : SimesTable → ℕ
+simes_size t = table_size t.closed

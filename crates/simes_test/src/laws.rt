@@ -1,0 +1,16 @@
+//! Laws of Simes' test: it and its closed test reject at least what the tests by weights reject, and its bounds are no lower.
+
+ghost use Rattle.simes_test.specs.SimesStatements.{LocalRejectionsAreOfSimes, ClosedRejectionsAreOfSimes, NoSimesBoundIsLower, SimesTablesGiveSimesBounds};
+
+/// Simes' test rejects each set that the local test by weights rejects, and its closed test each set and each hypothesis that
+/// the closed test rejects. Nothing is said of when either test is valid.
+pub fn simes_rejects_more()
+    ensures local { LocalRejectionsAreOfSimes }
+    ensures closed { ClosedRejectionsAreOfSimes }
+{}
+
+/// No bound by the closed test of Simes' test is below that of the closed test, and a table of what it rejects has its bounds.
+pub fn simes_bounds_are_no_lower()
+    ensures lower { NoSimesBoundIsLower }
+    ensures tables { SimesTablesGiveSimesBounds }
+{}

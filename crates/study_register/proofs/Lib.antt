@@ -1,0 +1,4 @@
+pub mod Following
+pub mod OneEnd
+pub mod RegisterSteps
+pub mod TakenLooks

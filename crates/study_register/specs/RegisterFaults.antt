@@ -1,0 +1,93 @@
+-- Why calls of a register are refused. Nothing is said of want of memory.
+use Rattle.std.specs.Prelude.{◌≡◌, ◌≤◌, ◌+◌, ◌⊎◌, ℕ, Bool, true, false, IfSome, List, [], ◌∷◌, length, Option, Result, Ok, Err}
+use Rattle.graph_io.specs.declared.keeper.Look.{Look}
+use Rattle.case_model.specs.Content.{Content}
+use Rattle.entangled.specs.CaseRun.{case_opening}
+use Rattle.staged_levels.specs.declared.event.StepFault.{StepFault}
+use Rattle.staged_levels.specs.Studies.{StudyState, start}
+use Rattle.staged_levels.specs.StudyAnswers.{IsArriveFault}
+use Rattle.staged_levels.specs.Looks.{IsDefined, IsWideLook}
+use Rattle.study_register.specs.declared.fault.RegisterFault.{RegisterFault}
+use Rattle.study_register.specs.declared.fault.RegisterFault.TheVariants.{BadLook, Wide, Fault, NoMemory}
+use Rattle.study_register.specs.declared.fault.AddFault.{AddFault}
+use Rattle.study_register.specs.declared.fault.AddFault.TheVariants as additions
+use Rattle.study_register.specs.declared.taking.TakeFault.{TakeFault}
+use Rattle.study_register.specs.declared.taking.TakeFault.TheVariants as takings
+use Rattle.study_register.specs.Looking.{arrival_of, Takes}
+
+-- some looks, and all that are kept where the keeper tells them
+abbrev pub OnLooks : Option (List Look) → (List Look → Type 0) → Type 0
+OnLooks kept P = (looks : List Look) × P looks × IfSome kept (λ told. told ≡ looks)
+
+module _ (c : Content) where
+  -- a look names no hypothesis, or its arrival is refused
+  abbrev pub IsBadLook : StudyState → Look → Type 0
+  IsBadLook s l = (length c.names ≤ l.hypothesis) ⊎ ((f : StepFault) × IsArriveFault c s (arrival_of l) f)
+
+  -- the look at a place can't be taken: it is bad, or what is written for it is undefined
+  abbrev pub IsStopAt : StudyState → ℕ → Look → RegisterFault → Type 0
+  IsStopAt s place l (BadLook n bad) = (n ≡ place) × (bad ≡ l) × IsBadLook s l
+  IsStopAt s place l (Wide n w) = (n ≡ place) × IsWideLook c s (arrival_of l) w
+  IsStopAt s place l Fault = ⊥
+  IsStopAt s place l NoMemory = ⊥
+
+  -- of looks, the first at this place, those before the first that can't be taken are taken
+  abbrev pub IsFirstStop : StudyState → ℕ → List Look → RegisterFault → Type 0
+  IsFirstStop old place [] why = ⊥
+  IsFirstStop old place (l ∷ ls) why =
+      IsStopAt old place l why ⊎ ((mid : StudyState) × Takes c old l mid × IsFirstStop mid (place + 1) ls why)
+
+  -- the case is opened, and one of the looks is the first that can't be taken
+  pub record IsStopped (looks : List Look) (why : RegisterFault) : Type 0 where
+    pub opened : IsDefined c start
+    pub first : IsFirstStop start 1 looks why
+
+  -- why a register isn't opened, where a keeper holds looks and its count of faults rose or didn't
+  abbrev pub IsRegisterFault : Option (List Look) → Type 0 → RegisterFault → Type 0
+  IsRegisterFault kept rose (BadLook n l) = OnLooks kept (λ looks. IsStopped looks (BadLook n l))
+  IsRegisterFault kept rose (Wide n w) = ((n ≡ 0) × (case_opening c ≡ Err w)) ⊎ OnLooks kept (λ looks. IsStopped looks (Wide n w))
+  IsRegisterFault kept rose Fault = IsDefined c start × rose
+  IsRegisterFault kept rose NoMemory = Unit {0}
+
+  -- why a look isn't taken
+  abbrev pub IsTakeFault : StudyState → Look → TakeFault → Type 0
+  IsTakeFault s l (takings.Refused f) = IsArriveFault c s (arrival_of l) f
+  IsTakeFault s l (takings.Wide w) = IsWideLook c s (arrival_of l) w
+
+  -- why a look isn't added; a keeper is asked only where the look can be taken
+  abbrev pub IsAddFault : StudyState → Look → Type 0 → AddFault → Type 0
+  IsAddFault s l rose (additions.Refused f) = IsArriveFault c s (arrival_of l) f
+  IsAddFault s l rose (additions.Wide w) = IsWideLook c s (arrival_of l) w
+  IsAddFault s l rose additions.Fault = (new : StudyState) × Takes c s l new × rose
+  IsAddFault s l rose additions.NoMemory = (new : StudyState) × Takes c s l new
+
+-- a fact where the arrival was refused
+abbrev pub IfNotTaken : Type 0 → TakeFault → Type 0
+IfNotTaken p (takings.Refused f) = p
+IfNotTaken p (takings.Wide w) = Unit {0}
+
+-- a fact where the arrival was refused
+abbrev pub IfRefused : Type 0 → AddFault → Type 0
+IfRefused p (additions.Refused f) = p
+IfRefused p (additions.Wide w) = Unit {0}
+IfRefused p additions.Fault = Unit {0}
+IfRefused p additions.NoMemory = Unit {0}
+
+-- a fact where the keeper wasn't asked
+abbrev pub IfNotAsked : Type 0 → AddFault → Type 0
+IfNotAsked p (additions.Refused f) = p
+IfNotAsked p (additions.Wide w) = p
+IfNotAsked p additions.Fault = Unit {0}
+IfNotAsked p additions.NoMemory = Unit {0}
+
+-- whether a register is spent by a refusal
+abbrev pub spent_by : AddFault → Bool
+spent_by (additions.Refused f) = false
+spent_by (additions.Wide w) = true
+spent_by additions.Fault = true
+spent_by additions.NoMemory = true
+
+-- whether a register is spent after an addition
+abbrev pub spent_after : {A : Type 0} → Result A AddFault → Bool
+spent_after (Ok x) = false
+spent_after (Err why) = spent_by why

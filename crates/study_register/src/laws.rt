@@ -1,0 +1,26 @@
+//! Laws of registers. Each function states laws that hold of all cases, and does nothing.
+
+ghost use Rattle.study_register.specs.RegisterStatements.{OneMoreIsTaken, RepliesAreTaken, TakenLooksDecide, OrdersOfLooksAgree, ReopeningsAgree, TakenLooksAreNotStopped, StopsAreUnique, WideOpeningsTakeNothing, LooksHaveOneEnd};
+
+/// By whatever looks are asked for, each of which is taken or refused, the rejections are exactly those of the staged closed test on
+/// all looks that were taken, in whatever order they came. The same looks in the same order give the same rejections again.
+pub fn registers_decide()
+    ensures one_more { OneMoreIsTaken }
+    ensures replies { RepliesAreTaken }
+    ensures decide { TakenLooksDecide }
+    ensures orders { OrdersOfLooksAgree }
+    ensures again { ReopeningsAgree }
+{}
+
+/// The opening of a register has one end: its looks are taken, or one of them is the first that can't be, for one reason, or the
+/// opening of the case is undefined.
+pub fn openings_have_one_end()
+    ensures taken { TakenLooksAreNotStopped }
+    ensures stopped { StopsAreUnique }
+    ensures opening { WideOpeningsTakeNothing }
+{}
+
+/// A look is taken, refused for one reason, or breaks off at one place, and only one of the three.
+pub fn looks_have_one_end()
+    ensures { LooksHaveOneEnd }
+{}

@@ -1,0 +1,20 @@
+//! Registers of looks: a study whose p-values come over months, and a keeper that keeps each look once the study is settled.
+//!
+//! Proved:
+//! - `Register::open`: `taken` (all looks that are kept were taken in their order, `AreTaken`), `fault` (each refusal only where
+//!   it belongs, the first look that can't be taken with its place).
+//! - `Register::add`: `taken`, `kept`, `fault`, and what stays by a refusal (`refused`, `unchanged`, `not_asked`, `spent`). The
+//!   keeper is asked only once the study is settled.
+//! - Laws in `src/laws.rt`: the rejections are those of the staged closed test on all looks that were taken, in whatever order
+//!   they came; the same looks give the same rejections again; a refusal comes exactly where it is told, for one reason.
+#![tactic(auto)]
+
+mod fault;
+pub mod laws;
+mod register;
+mod taking;
+#[cfg(test)]
+mod tests;
+
+pub use fault::{AddFault, RegisterFault};
+pub use register::Register;
