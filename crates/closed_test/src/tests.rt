@@ -210,8 +210,8 @@ fn sixteen_hypotheses_at_most(rt: HostRuntime) -> Result<(), Fail> {
 #[test]
 fn sets_come_in_order(rt: HostRuntime) -> Result<(), Fail> {
     let two = sets_in_order(rt.alloc(), 2)?;
-    assert_eq!(rt; two.as_slice(), &[3, 2, 0, 1]);
+    assert_eq!(rt; two.as_slice(), [3, 2, 0, 1].as_slice());
     let three = sets_in_order(rt.alloc(), 3)?;
-    assert_eq!(rt; three.as_slice(), &[7, 6, 4, 0, 2, 5, 1, 3]);
+    assert_eq!(rt; three.as_slice(), [7, 6, 4, 0, 2, 5, 1, 3].as_slice());
     Ok(())
 }
