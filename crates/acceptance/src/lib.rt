@@ -35,6 +35,8 @@ mod sets;
 #[cfg(test)]
 mod sheets;
 #[cfg(test)]
+mod simes;
+#[cfg(test)]
 mod stages;
 #[cfg(test)]
 mod studies;

@@ -19,6 +19,7 @@ use Rattle.graph_cli.proofs.CheckAnswers.{check_decided}
 use Rattle.graph_cli.proofs.StagesAnswers.{stages_decided}
 use Rattle.graph_cli.proofs.SampleAnswers.{sample_decided}
 use Rattle.graph_cli.proofs.SetAnswers.{weights_decided, bounds_decided}
+use Rattle.graph_cli.proofs.SimesCalls.{simes_decided}
 use Rattle.graph_cli.proofs.TestAnswers.{test_decided}
 
 help_decided : IsDecided help_stage
@@ -44,6 +45,7 @@ unfolding on_case
 task_decided (tasks.Test priority) c = test_decided priority c
 task_decided tasks.Weights c = weights_decided c
 task_decided tasks.Bounds c = bounds_decided c
+task_decided tasks.Simes c = simes_decided c
 task_decided tasks.Stages c = stages_decided c
 task_decided (tasks.Canon form) c = canon_decided form c
 

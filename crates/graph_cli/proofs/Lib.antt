@@ -9,6 +9,7 @@ pub mod MadeAnswers
 pub mod OneAnswer
 pub mod SampleAnswers
 pub mod SetAnswers
+pub mod SimesCalls
 pub mod SourcesRead
 pub mod StagedReports
 pub mod StagesAnswers

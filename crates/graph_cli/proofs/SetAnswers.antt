@@ -28,10 +28,10 @@ use Rattle.graph_cli.specs.Weights.{ReportsWeights, weighed, weights_stage}
 
 -- ---- sets that are too wide
 
-one_wide_set : (c : Content) (r q : Refusal) → IsWideSet c r → IsWideSet c q → r ≡ q
+pub one_wide_set : (c : Content) (r q : Refusal) → IsWideSet c r → IsWideSet c q → r ≡ q
 one_wide_set c r q h k = let e = first_wide_unique c h.0 k.0 h.1 k.1 h.2 k.2 in h.3 ∙ ap₂ (λ n w. wide_refusal c.names (Set n) w) e.0 e.1 ∙ sym k.3
 
-none_wide : (c : Content) (r : Refusal) → AreRunsDefined c → IsWideSet c r → ⊥
+pub none_wide : (c : Content) (r : Refusal) → AreRunsDefined c → IsWideSet c r → ⊥
 none_wide c r d k = defined_not_wide c k.0 k.1 d k.2
 
 -- ---- weights

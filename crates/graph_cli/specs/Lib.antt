@@ -11,5 +11,6 @@ pub mod Outcome
 pub mod Stages
 pub mod Sample
 pub mod Sets
+pub mod Simes
 pub mod Test
 pub mod Weights

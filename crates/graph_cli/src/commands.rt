@@ -16,6 +16,7 @@ mod help;
 mod made;
 mod sample;
 mod sets;
+mod simes;
 mod stages;
 mod test;
 mod weights;
@@ -27,6 +28,7 @@ use crate::commands::check::check_answer;
 use crate::commands::graphs::catalogue_answer;
 use crate::commands::help::help_answer;
 use crate::commands::sample::sample_answer;
+use crate::commands::simes::simes_answer;
 use crate::commands::stages::stages_answer;
 use crate::commands::test::test_answer;
 use crate::commands::weights::weights_answer;
@@ -47,6 +49,7 @@ fn needs_of(task: CaseTask) -> Needs
         CaseTask::Test(_) => Needs::new(Kind::Single, 64),
         CaseTask::Weights => Needs::new(Kind::Any, 16),
         CaseTask::Bounds => Needs::new(Kind::Single, 16),
+        CaseTask::Simes => Needs::new(Kind::Single, 16),
         CaseTask::Stages => Needs::new(Kind::Staged, 64),
         CaseTask::Canon(_) => Needs::new(Kind::Any, 64),
     }
@@ -64,6 +67,7 @@ fn case_answer(alloc: Global, task: CaseTask, case: &Case) -> Result<Answer, Hal
         CaseTask::Test(priority) => test_answer(alloc, case, priority),
         CaseTask::Weights => weights_answer(alloc, case),
         CaseTask::Bounds => bounds_answer(alloc, case),
+        CaseTask::Simes => simes_answer(alloc, case),
         CaseTask::Stages => stages_answer(alloc, case),
         CaseTask::Canon(form) => canon_answer(alloc, case, form),
     }

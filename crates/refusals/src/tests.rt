@@ -233,7 +233,7 @@ const WIDE: [(usize, Place, Op, &str); 14] = [
 ];
 
 /// How a line begins.
-const BEGINNINGS: [(When, &str); 11] = [
+const BEGINNINGS: [(When, &str); 12] = [
     (When::Reading, "too wide: reading: "),
     (When::Step(0), "too wide: step 0: "),
     (When::Step(3), "too wide: step 3: "),
@@ -242,6 +242,7 @@ const BEGINNINGS: [(When, &str); 11] = [
     (When::AdjustedStep(12), "too wide: adjusted step 12: "),
     (When::Set(5), "too wide: set H1 dose-a: "),
     (When::Set(0), "too wide: set: "),
+    (When::SimesSet(5), "too wide: simes set H1 dose-a: "),
     (When::Check(ProofPart::Step(0)), "too wide: check step 0: "),
     (
         When::Check(ProofPart::Step(12)),

@@ -11,15 +11,16 @@ use field_core::{List, NoMemory, Op, Place, Text, WideAt};
 use std::alloc::Global;
 
 /// When an operation is written: for a sum of the case, in a step of the decision, in a step of the run of adjusted values, in
-/// the run of a set of hypotheses, in the opening of a study, in the settling after an arrival, or in the check of evidence. Steps
-/// count from 1, and step 0 is the opening; arrivals count from 1. Bit `k` of the number of a set says whether hypothesis `k` is
-/// a member.
+/// the run of a set of hypotheses, in Simes' test of a set, in the opening of a study, in the settling after an arrival, or in
+/// the check of evidence. Steps count from 1, and step 0 is the opening; arrivals count from 1. Bit `k` of the number of a set
+/// says whether hypothesis `k` is a member.
 #[derive(Clone, Copy, PartialEq, Eq, Debug)]
 pub enum When {
     Reading,
     Step(usize),
     AdjustedStep(usize),
     Set(u32),
+    SimesSet(u32),
     Opening,
     Arrival(usize),
     Check(ProofPart),
@@ -62,11 +63,11 @@ fn put_members(text: &mut List<u8>, names: &[Text], set: u32) -> Result<(), NoMe
     Ok(())
 }
 
-/// Appends a set.
-fn put_set(text: &mut List<u8>, names: &[Text], set: u32) -> Result<(), NoMemory>
-    ensures { OnOk result (text.new ≡ text.old ++ (codes "set" ++ names_of_members set 0 names.now)) }
+/// Appends words and a set.
+fn put_set(text: &mut List<u8>, names: &[Text], words: &[u8], set: u32) -> Result<(), NoMemory>
+    ensures { OnOk result (text.new ≡ text.old ++ (words.now ++ names_of_members set 0 names.now)) }
 {
-    text.append(b"set")?;
+    text.append(words)?;
     put_members(text, names, set)
 }
 
@@ -79,7 +80,8 @@ fn put_when(text: &mut List<u8>, names: &[Text], when: When) -> Result<(), NoMem
         When::Reading => text.append(b"reading"),
         When::Step(n) => put_counting(text, b"step ", n as u128),
         When::AdjustedStep(n) => put_counting(text, b"adjusted step ", n as u128),
-        When::Set(set) => put_set(text, names, set),
+        When::Set(set) => put_set(text, names, b"set", set),
+        When::SimesSet(set) => put_set(text, names, b"simes set", set),
         When::Opening => text.append(b"opening"),
         When::Arrival(n) => put_counting(text, b"arrival ", n as u128),
         When::Check(part) => put_check(text, names, part),

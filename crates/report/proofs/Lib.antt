@@ -4,3 +4,4 @@ pub mod LooksOfCase
 pub mod OfCase
 pub mod StageLines
 pub mod SetReports
+pub mod FirstSets

@@ -1,17 +1,21 @@
--- The reports of all sets of a case, by the same weights or bounds, are the same.
-use Rattle.std.proofs.Common.{◌≡◌, refl, sym, ap, ap₂, subst, ◌∙◌, ℕ, zero, suc, ◌+◌, ◌^◌, ◌==◌, ◌<◌, Bool, true, false, List, [], ◌∷◌, ◌++◌, length, arith}
+-- The reports of all sets of a case, by the same weights or bounds, or the same answers and leaders, are the same.
+use Rattle.std.proofs.Common.{◌≡◌, refl, sym, ap, ap₂, subst, ◌∙◌, ℕ, zero, suc, ◌+◌, ◌^◌, ◌==◌, ◌<◌, Bool, true, false, List, [], ◌∷◌, ◌++◌, length, take, arith}
 use Rattle.std.specs.Prelude.{codes, if◌then◌else◌}
 use Rattle.std.specs.Fmt.{decimal}
 use Rattle.std.specs.List.{All, flat_map, range_with_len}
 use Rattle.std.proofs.lemmas.List.Elements.{All-head, All-tail}
 use Rattle.answers.specs.Lines.{line}
 use Rattle.field_core.specs.NumberedSets.{members}
-use Rattle.field_core.specs.Sets.{IsIn}
+use Rattle.field_core.specs.Sets.{IsIn, set_of}
 use Rattle.field_core.specs.declared.ratio.Ratio.{Ratio}
+use Rattle.field_core.proofs.Members.{number_below}
+use Rattle.case_model.specs.ClosedTest.{only}
 use Rattle.case_model.specs.Content.{Content}
 use Rattle.closed_test.proofs.SetLists.{sets_unique}
 use Rattle.report.specs.WeightsReport.{member_weight, weight_if_member, members_line as weights_line, set_line, weights_report, IsWeightsReport}
 use Rattle.report.specs.BoundsReport.{name_if_member, members_line as bounds_line, bound_line, bounds_report, IsBoundsReport}
+use Rattle.report.specs.SimesReport.{first_set, top_line, top_lines, set_alone, name_if_alone, alone_line, simes_report, IsSimesReport}
+use Rattle.report.specs.TestReport.{spaced_name}
 use Rattle.report.proofs.Lines.{flat_map-more}
 
 -- ---- pieces that are the same, one by one
@@ -63,3 +67,35 @@ module _ (c : Content) (bound other : ℕ → ℕ) (agree : (n : ℕ) → n < 2 
       let sets : T.0 ≡ A.0 = sets_unique (length c.names) T.0 A.0 T.1 A.1 in
       let lines = each_item (λ n. n < 2 ^ length c.names) (bound_line c bound) (bound_line c other) T.0 T.1.sets_of bound_same in
       T.2 ∙ ap (λ xs. line (codes "bounds " ++ decimal (length c.names)) ++ xs ++ line (codes "end")) (lines ∙ ap (flat_map (bound_line c other)) sets) ∙ sym A.2
+
+-- ---- Simes' test
+
+-- the report, of its three parts
+abbrev in_parts : Content → List ℕ → List ℕ → List ℕ → List ℕ
+in_parts c sets tops rejected = line (codes "simes " ++ decimal (length c.names)) ++ sets ++ tops ++ rejected ++ line (codes "end")
+
+same_parts : (c : Content) (sets more tops others rejected again : List ℕ) → sets ≡ more → tops ≡ others → rejected ≡ again → in_parts c sets tops rejected ≡ in_parts c more others again
+same_parts c sets more tops others rejected again e f g = ap (λ x. in_parts c x tops rejected) e ∙ ap (λ x. in_parts c more x rejected) f ∙ ap (λ x. in_parts c more others x) g
+
+module _ (c : Content) (bound other : ℕ → ℕ) (agree : (n : ℕ) → n < 2 ^ length c.names → bound n ≡ other n) (closed again : ℕ → Bool) (told : (n : ℕ) → n < 2 ^ length c.names → closed n ≡ again n) where
+  top_same : (js : List ℕ) (k : ℕ) → top_line c bound js k ≡ top_line c other js k
+  unfolding top_line
+  top_same js k = ap (λ b. line (codes "top " ++ decimal k ++ codes " bound " ++ decimal b)) (agree (first_set c js k) (number_below (length c.names) (set_of (take k js))))
+
+  alone_same : (j : ℕ) → name_if_alone c closed j ≡ name_if_alone c again j
+  alone_same j = ap (λ b. if b then spaced_name c j else []) (told (set_alone c j) (number_below (length c.names) (only j)))
+
+  rejected_same : alone_line c closed ≡ alone_line c again
+  unfolding alone_line
+  rejected_same = ap (λ xs. line (codes "rejected" ++ xs)) (each_place (name_if_alone c closed) (name_if_alone c again) (length c.names) (λ j q. alone_same j))
+
+  pub one_simes_report : (js ks : List ℕ) → js ≡ ks → (text more : List ℕ) → IsSimesReport c bound closed js text → IsSimesReport c other again ks more → text ≡ more
+  unfolding simes_report
+  one_simes_report js ks e text more T A =
+      let sets : T.0 ≡ A.0 = sets_unique (length c.names) T.0 A.0 T.1 A.1 in
+      let lines = each_item (λ n. n < 2 ^ length c.names) (bound_line c bound) (bound_line c other) T.0 T.1.sets_of (bound_same c bound other agree) in
+      let tops = each_place (λ k. top_line c bound js (k + 1)) (λ k. top_line c other js (k + 1)) (length js) (λ k q. top_same js (k + 1)) in
+      T.2
+      ∙ same_parts c (flat_map (bound_line c bound) T.0) (flat_map (bound_line c other) A.0) (top_lines c bound js) (top_lines c other ks) (alone_line c closed) (alone_line c again)
+      (lines ∙ ap (flat_map (bound_line c other)) sets) (tops ∙ ap (top_lines c other) e) rejected_same
+      ∙ sym A.2

@@ -5,3 +5,4 @@ pub mod SampleReport
 pub mod TestReport
 pub mod WeightsReport
 pub mod BoundsReport
+pub mod SimesReport

@@ -63,7 +63,12 @@ fn put_set(text: &mut List<u8>, case: &Case, bounds: &Bounds, set: u32) -> Resul
 }
 
 /// Appends the lines of sets.
-fn put_sets(text: &mut List<u8>, case: &Case, bounds: &Bounds, sets: &[u32]) -> Result<(), NoMemory>
+pub(crate) fn put_sets(
+    text: &mut List<u8>,
+    case: &Case,
+    bounds: &Bounds,
+    sets: &[u32],
+) -> Result<(), NoMemory>
     requires size { bounds_size bounds.now ≡ length (content case.now).names }
     requires sets { All (λ n. n < 2 ^ bounds_size bounds.now) sets.now }
     ensures { OnOk result (text.new ≡ text.old ++ flat_map (bound_line (content case.now) (bound_of bounds.now)) sets.now) }

@@ -2,14 +2,16 @@
 //!
 //! Proved: `test_text`, `stages_text`, `sample_text` and `check_text`, which give exactly the text of a decision on a case
 //! with its adjusted values (`test_report`), of looks (`stages_report`), of a sample (`sample_report`) and of evidence that
-//! holds (`check_report`), and the laws that each line of a decision, and each rejection of a look, is of a hypothesis of
-//! its case.
+//! holds (`check_report`); `weights_text`, `bounds_text` and `simes_text`, which give that of all sets in their order
+//! (`weights_report`, `bounds_report`, `simes_report`); and the laws that each line of a decision, and each rejection of a
+//! look, is of a hypothesis of its case.
 #![tactic(auto)]
 
 mod bounds;
 mod check;
 pub mod laws;
 mod sample;
+mod simes;
 mod stages;
 mod test;
 #[cfg(test)]
@@ -19,6 +21,7 @@ mod weights;
 pub use bounds::bounds_text;
 pub use check::check_text;
 pub use sample::sample_text;
+pub use simes::simes_text;
 pub use stages::stages_text;
 pub use test::test_text;
 pub use weights::weights_text;

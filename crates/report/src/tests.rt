@@ -5,9 +5,10 @@ ghost use Rattle.case_model.specs.Draft.{have_known_ends, have_known_arrivals};
 ghost use Rattle.case_model.specs.CaseView.{content};
 ghost use Rattle.report.specs.TestReport.{AreOfCase};
 
-use crate::{check_text, test_text};
+use crate::{check_text, simes_text, test_text};
 use adjusted_p::Adjusted;
-use case_model::{Case, Draft, DraftComponent};
+use case_model::{Case, Draft, DraftComponent, SetTable};
+use discovery_bound::Bounds;
 use evidence_check::read;
 use field_core::{List, NoMemory, Number, Text};
 use fraction::{Fraction, FractionFault};
@@ -349,5 +350,22 @@ fn evidence(rt: HostRuntime) -> Result<(), Fail> {
             Err(_) => panic!(rt; "{printed}"),
         }
     }
+    Ok(())
+}
+
+/// The sets of both and of the second alone are rejected, and the second is the first leader.
+const SECOND_REJECTED: &str =
+    "simes 2\nbound 1 of H1 H2\nbound 1 of H2\nbound 0 of H1\ntop 1 bound 1\ntop 2 bound 1\nrejected H2\nend\n";
+
+#[test]
+fn simes(rt: HostRuntime) -> Result<(), Fail> {
+    let case = case(rt.alloc(), &ONE_OF_TWO)?;
+    let mut closed = SetTable::new(rt.alloc(), 2)?;
+    closed.put(2, true);
+    closed.put(3, true);
+    let bounds = Bounds::build(rt.alloc(), 2, &closed)?;
+    assert!(rt; case.size() == 2);
+    let text = simes_text(rt.alloc(), &case, &bounds, &closed, &[1, 0])?;
+    assert_eq!(rt; text.as_slice(), SECOND_REJECTED.as_bytes());
     Ok(())
 }

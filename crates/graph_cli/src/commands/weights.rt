@@ -16,7 +16,7 @@ use report::weights_text;
 use std::alloc::Global;
 
 /// The weights of all sets of a case.
-fn weighed(alloc: Global, case: &Case) -> Result<WeightTable, Halt>
+pub fn weighed(alloc: Global, case: &Case) -> Result<WeightTable, Halt>
     requires { length (content case.now).names ≤ 16 }
     ensures size { IfOk result (λ t. weights_size t ≡ length (content case.now).names) }
     ensures weights { IfOk result (λ t. AreIntersectionWeights (content case.now) (weight_at t)) }
