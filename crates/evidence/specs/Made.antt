@@ -8,7 +8,9 @@ use Rattle.evidence.specs.declared.fault.Fault.{Fault}
 use Rattle.evidence.specs.declared.fault.Fault.TheVariants.{Wide, NoMemory}
 use Rattle.evidence.specs.declared.fault.MakeFault.{MakeFault}
 use Rattle.evidence.specs.declared.fault.MakeFault.TheVariants.{Wide as MakeWide, NoMemory as MakeNoMemory}
-use Rattle.evidence.specs.FlowRun.{WideStep}
+use Rattle.evidence_check.specs.declared.evidence.Evidence.{Evidence}
+use Rattle.evidence_check.specs.EvidenceView.{steps_of, keeps_of}
+use Rattle.evidence.specs.FlowRun.{WideStep, WrittenEvidence}
 
 -- a fault of an opening is at step 0
 abbrev pub opening_fault : OpenFault → MakeFault
@@ -36,3 +38,7 @@ abbrev pub MakesAll : {A B : Type 0} → (A → B) → Result A MakeFault → Re
 MakesAll view (Ok x) written = written ≡ Ok (view x)
 MakesAll view (Err (MakeWide n w)) written = written ≡ Err (record { step = n; at = w })
 MakesAll view (Err MakeNoMemory) written = Unit {0}
+
+-- steps and keeps of evidence, with their numbers as they are stored
+abbrev pub written_evidence : Evidence → WrittenEvidence
+written_evidence v = record { steps = steps_of v; keeps = keeps_of v }

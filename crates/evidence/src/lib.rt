@@ -3,8 +3,10 @@
 
 mod fault;
 pub mod laws;
+mod make;
 mod rows;
 mod run;
 mod tables;
 
 pub use fault::MakeFault;
+pub use make::make;
