@@ -10,3 +10,6 @@ mod tables;
 
 pub use fault::MakeFault;
 pub use make::make;
+
+#[cfg(test)]
+mod tests;
