@@ -1,5 +1,5 @@
 -- The evidence that is made of a case.
-use Rattle.std.proofs.Common.{◌≡◌, inr, refl, sym, ap, subst, ◌∙◌, ℕ, true, false, List, [], ◌∷◌, Result, Ok, Err, IfOk, length, map}
+use Rattle.std.proofs.Common.{◌≡◌, inr, refl, sym, ap, subst, ◌∙◌, ℕ, true, false, List, [], ◌∷◌, Result, Ok, Err, IfOk, length, map, arith}
 use Rattle.field_core.specs.declared.place.WideAt.{WideAt}
 use Rattle.field_core.specs.Number.{Number}
 use Rattle.field_core.specs.Kind.{Kind, ok_map}
@@ -129,7 +129,7 @@ module _ (c : Content) (V : IsValidContent c) (js : List ℕ) (o : IsCompleteOrd
     }
       where
         other_version : (n : ℕ) → n ≡ 1 → n ≡ 2 → ⊥
-        other_version n e f = cc
+        other_version n e f = omega arith
 
   pub made_lists : (r : Result Evidence MakeFault) → MakesAll written_evidence r (case_flows c js) → IfOk r (λ v. map (λ s. s.hypothesis) (steps_of v) ≡ js)
   made_lists (Ok v) m = lists v m

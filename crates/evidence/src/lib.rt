@@ -3,13 +3,13 @@
 
 mod fault;
 pub mod laws;
-mod make;
+mod maker;
 mod rows;
 mod run;
 mod tables;
 
 pub use fault::MakeFault;
-pub use make::make;
+pub use maker::make;
 
 #[cfg(test)]
 mod tests;

@@ -1,4 +1,8 @@
 //! Evidence by hand, made of decisions.
+ghost use Rattle.std.specs.Prelude.{IfOk};
+ghost use Rattle.case_model.specs.CaseView.{content};
+ghost use Rattle.evidence_check.specs.EvidenceView.{IsEvidenceFor};
+
 use crate::laws::decisions_are_complete_orders;
 use crate::{MakeFault, make};
 use case_model::Case;
@@ -49,7 +53,9 @@ fn said(rt: &impl Abort, alloc: Global, text: &str) -> Case {
 }
 
 /// The evidence for the decision on a case.
-fn made(rt: &impl Abort, alloc: Global, case: &Case) -> Result<Evidence, MakeFault> {
+fn made(rt: &impl Abort, alloc: Global, case: &Case) -> Result<Evidence, MakeFault>
+    ensures { IfOk result (IsEvidenceFor (content case.now)) }
+{
     assert!(rt; is_single(case));
     let Ok(decision) = decide(alloc, case, Priority::First) else {
         panic!(rt; "no decision");
@@ -141,8 +147,11 @@ fn long_visits_are_too_wide(rt: HostRuntime) {
 
 /// What the checker says of the evidence for the decision on a case.
 fn checked(rt: &impl Abort, alloc: Global, case: &Case) -> Option<Result<Verdict, CheckWide>> {
-    let made = made(rt, alloc, case).ok()?;
-    Some(check(case, &made))
+    assert!(rt; is_single(case));
+    match made(rt, alloc, case) {
+        Ok(made) => Some(check(case, &made)),
+        Err(_) => None,
+    }
 }
 
 #[test]

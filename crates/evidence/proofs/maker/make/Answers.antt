@@ -1,6 +1,3 @@
 use Rattle.case_model.specs.CaseView.{content}
 use Rattle.evidence.proofs.MakeAnswers.{made_lists, made_keeps, made_meets, made_fits}
-use Rattle.evidence.proofs.make.make.Goals as goal
-
-pub returns-clause-made : goal.returns-clause-made
-returns-clause-made c = ?
+use Rattle.evidence.proofs.maker.make.Goals as goal
