@@ -5,6 +5,7 @@ use Rattle.std.specs.List.{All}
 use Rattle.std.proofs.lemmas.List.{get_or-map}
 use Rattle.std.proofs.lemmas.List.Elements.{All-get_or}
 use Rattle.std.proofs.lemmas.Option.{get_or_from_slice_get}
+use Rattle.std.proofs.lemmas.Bool.Decides.{nat_tests}
 use Rattle.field_core.specs.declared.place.Wide.{Wide}
 use Rattle.field_core.specs.declared.place.WideAt.{WideAt}
 use Rattle.field_core.specs.Kind.{Parts, Kind}
@@ -129,7 +130,10 @@ all_fault v u MakeNoMemory part whole m h = tt
 -- a list that isn't empty has an item
 some_is : (ks : List ℕ) → not (length ks == 0) ≡ has_some ks
 some_is [] = refl
-some_is (k ∷ ks) = refl
+some_is (k ∷ ks) = ap not (not_none (length ks))
+  where
+    not_none : (n : ℕ) → (suc n == 0) ≡ false
+    not_none n = grind (arith, nat_tests)
 
 module _ {S : Type 0} (K : Kind) (graph : S → StoredGraph) (removal : S → ℕ → Result S Wide) (b : Bundled S) (js ks : List ℕ) (e : ks ≡ others (size graph b) js) (is_kept : Bool) (i : is_kept ≡ not (length ks == 0)) where
   same_run : flow_run K graph removal (has_some (others (size graph b) js)) [] js (opening_state K graph b) ≡ flow_run K graph removal is_kept [] js (opening_state K graph b)
