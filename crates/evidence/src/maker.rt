@@ -22,7 +22,7 @@ use sequential::{Decision, StepLine};
 use std::alloc::Global;
 
 /// The hypotheses of lines, in their order.
-#[tactic(auto, using(entangled::proofs::Pushes::pushed, entangled::proofs::Pushes::pushed_all))]
+#[tactic(auto, using(std::proofs::lemmas::List::map_push, std::proofs::lemmas::List::take_more, std::proofs::lemmas::List::take_all))]
 fn hypotheses(alloc: Global, lines: &[StepLine]) -> Result<List<usize>, NoMemory>
     ensures { IfOk result (λ js. js ≡ hypotheses lines.now) }
 {
