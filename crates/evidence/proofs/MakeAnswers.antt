@@ -1,5 +1,5 @@
 -- The evidence that is made of a case.
-use Rattle.std.proofs.Common.{◌≡◌, inr, refl, sym, ap, subst, ◌∙◌, ℕ, true, false, List, [], ◌∷◌, Result, Ok, Err, IfOk, length, map, arith}
+use Rattle.std.proofs.Common.{◌≡◌, inr, refl, sym, ap, subst, ◌∙◌, ℕ, List, [], ◌∷◌, Result, Ok, Err, IfOk, length, map, arith}
 use Rattle.field_core.specs.declared.place.WideAt.{WideAt}
 use Rattle.field_core.specs.Number.{Number}
 use Rattle.field_core.specs.Kind.{Kind, ok_map}
@@ -29,14 +29,14 @@ use Rattle.sequential.specs.Decisions.{IsNext, IsDecision, IsDecisionWith, hypot
 use Rattle.sequential.specs.declared.decision.Decision.{Decision}
 use Rattle.sequential.specs.declared.priority.Priority.{Priority}
 use Rattle.sequential.specs.declared.priority.Priority.TheVariants.{First, Last, Ratio}
-use Rattle.evidence_check.specs.Evidence.{others, kept, listed}
-use Rattle.evidence_check.specs.EvidenceParts.{KeepParts, keep_values, step_values}
+use Rattle.evidence_check.specs.Evidence.{others, kept}
+use Rattle.evidence_check.specs.EvidenceParts.{KeepParts, keep_values}
 use Rattle.evidence_check.specs.EvidenceView.{version_of, steps_of, keeps_of, IsFormOf, IsEvidenceFor}
 use Rattle.evidence_check.specs.CaseCheck.{p_values_of, MeetsIn}
 use Rattle.evidence_check.specs.declared.evidence.Evidence.{Evidence}
 use Rattle.evidence_check.specs.declared.evidence.Evidence.TheVariants.{Plain, Eps}
 use Rattle.evidence_check.proofs.CaseChecked.{listed_names}
-use Rattle.evidence.specs.FlowRun.{WideStep, WrittenEvidence, at_step, evidence_run}
+use Rattle.evidence.specs.FlowRun.{at_step, evidence_run}
 use Rattle.evidence.specs.CaseFlows.{IsCompleteOrder, case_flows, flows_in, AreOpened, flows_from, has_fractions}
 use Rattle.evidence.specs.Made.{MakesAll, written_evidence, opening_fault}
 use Rattle.evidence.specs.declared.fault.MakeFault.{MakeFault}

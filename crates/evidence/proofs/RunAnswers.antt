@@ -1,7 +1,6 @@
 -- What is recorded of the tables, and the nets of a bundle.
-use Rattle.std.proofs.Common.{◌≡◌, refl, sym, ap, ap₂, ◌∙◌, ℕ, zero, suc, ◌+◌, ◌<◌, ◌==◌, Bool, true, false, not, List, [], ◌∷◌, map, length, get_or, Option, Some, Result, Ok, Err, arith}
+use Rattle.std.proofs.Common.{◌≡◌, refl, sym, ap, ap₂, ◌∙◌, ℕ, suc, ◌+◌, ◌<◌, ◌==◌, Bool, true, false, not, List, [], ◌∷◌, map, length, get_or, Some, Result, Ok, Err, arith}
 use Rattle.std.specs.Prelude.{slice_get}
-use Rattle.std.specs.List.{All}
 use Rattle.std.proofs.lemmas.List.{get_or-map}
 use Rattle.std.proofs.lemmas.List.Elements.{All-get_or}
 use Rattle.std.proofs.lemmas.Option.{get_or_from_slice_get}
@@ -14,7 +13,7 @@ use Rattle.field_core.proofs.Fills.{each_fault}
 use Rattle.removal.specs.StoredGraph.{StoredGraph, is_live}
 use Rattle.entangled.specs.Bundled.{Bundled, IsBundle, size, removed, is_live as is_live_in}
 use Rattle.evidence_check.specs.Evidence.{others}
-use Rattle.evidence_check.specs.EvidenceParts.{StepParts, KeepParts, numbers_at}
+use Rattle.evidence_check.specs.EvidenceParts.{KeepParts, numbers_at}
 use Rattle.evidence.specs.FlowTables.{Tables, row, if_wanted, new_tables}
 use Rattle.evidence.specs.FlowRun.{WideStep, RunState, FlowRun, at_step, has_some, recorded, kept_exits, all_tables, flow_step, flow_run, opening_state, evidence_run, graph_at, tables_at, no_graph, no_tables}
 use Rattle.evidence.specs.TablesView.{tables_of}

@@ -1,6 +1,6 @@
 use Rattle.std.proofs.Common.{◌≡◌, ◌∙◌, sym, subst, Err, rules}
 use Rattle.case_model.specs.CaseView.{content}
-use Rattle.entangled.specs.CaseNetView.{case_state, is_of_fractions}
+use Rattle.entangled.specs.CaseNetView.{is_of_fractions}
 use Rattle.evidence_check.specs.EvidenceView.{IsFormOf}
 use Rattle.evidence.specs.CaseFlows.{has_fractions}
 use Rattle.evidence.specs.Made.{MakesAll, written_evidence, opening_fault}

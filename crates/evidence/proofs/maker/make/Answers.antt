@@ -1,4 +1,4 @@
-use Rattle.std.proofs.Common.{◌≡◌, ◌∙◌, sym, ap, subst}
+use Rattle.std.proofs.Common.{◌∙◌, sym, ap, subst}
 use Rattle.case_model.specs.CaseView.{content}
 use Rattle.sequential.specs.Decisions.{hypotheses}
 use Rattle.evidence.specs.CaseFlows.{IsCompleteOrder, case_flows}
