@@ -11,3 +11,4 @@ pub mod RunSteps
 pub mod RunLive
 pub mod SameGraphs
 pub mod CaseEvidence
+pub mod MakeAnswers

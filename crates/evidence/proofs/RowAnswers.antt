@@ -1,7 +1,7 @@
 -- Rows of the code, as they are stored.
 use Rattle.std.proofs.Common.{◌≡◌, refl, sym, ap, ap₂, ◌∙◌, ℕ, zero, suc, ◌+◌, List, [], ◌∷◌, ◌++◌, map, get_or, set, replicate, length, add-one, zero-add, add-zero, arith}
 use Rattle.std.proofs.Math.ListN.{get_or-map}
-use Rattle.std.proofs.lemmas.List.{map-append, map_push, map-set, replicate_more}
+use Rattle.std.proofs.lemmas.List.{map_push, map-set}
 use Rattle.std.specs.List.{range_with_len}
 use Rattle.field_core.specs.Kind.{Parts}
 use Rattle.evidence.specs.FlowTables.{row}

@@ -1,15 +1,14 @@
 -- The loop of a run, step by step.
-use Rattle.std.proofs.Common.{◌≡◌, ◌⊎◌, inl, inr, add-one, refl, sym, ap, subst, ◌∙◌, ℕ, zero, suc, ◌+◌, ◌<◌, ◌≤◌, ◌==◌, Bool, true, false, not, List, [], ◌∷◌, ◌++◌, Result, Ok, Err, length, get_or, map, take, drop, arith}
+use Rattle.std.proofs.Common.{◌≡◌, ◌⊎◌, inl, inr, add-one, refl, sym, ap, ◌∙◌, ℕ, zero, suc, ◌+◌, ◌<◌, ◌≤◌, ◌==◌, Bool, true, false, not, List, [], ◌∷◌, ◌++◌, Result, Ok, Err, length, get_or, take, drop, arith}
 use Rattle.std.proofs.lemmas.List.{take_more, append_assoc}
 use Rattle.std.proofs.lemmas.Bool.Decides.{nat_tests}
 use Rattle.evidence_check.proofs.StepsAnswers.{drop_here, drop_end}
 use Rattle.field_core.specs.declared.place.Wide.{Wide}
 use Rattle.field_core.specs.Kind.{Kind, ok_map}
 use Rattle.field_core.specs.Steps.{◌>>=◌}
-use Rattle.field_core.specs.Sets.{IsIn, dropping, whole}
+use Rattle.field_core.specs.Sets.{IsIn, dropping}
 use Rattle.field_core.specs.Runs.{IsOrder, left_after}
 use Rattle.removal.specs.StoredGraph.{StoredGraph}
-use Rattle.entangled.specs.Bundled.{Bundled}
 use Rattle.evidence_check.specs.EvidenceParts.{StepParts}
 use Rattle.evidence.specs.FlowRun.{WideStep, RunState, FlowRun, has_some, recorded, flow_step, flow_run}
 

@@ -1,7 +1,7 @@
 //! Laws of flow runs. Each function states laws that hold of all nets or of all cases, and does nothing.
 
 ghost use Rattle.evidence.specs.FlowStatements.{FlowRunsGiveSteps, FlowRunsGiveEvidence};
-ghost use Rattle.evidence.specs.CaseFlows.{CaseFlowsMeetConditions, CaseFlowsListOrders, CaseFlowsKeepOthers, CaseFlowsAreNotRefused};
+ghost use Rattle.evidence.specs.CaseFlows.{CaseFlowsMeetConditions, CaseFlowsListOrders, CaseFlowsKeepOthers, CaseFlowsAreNotRefused, DecisionsAreCompleteOrders};
 
 use removal::Remover;
 
@@ -19,4 +19,9 @@ pub fn case_flows_are_evidence()
     ensures lists { CaseFlowsListOrders }
     ensures keeps { CaseFlowsKeepOthers }
     ensures accepted { CaseFlowsAreNotRefused }
+{}
+
+/// The steps of a decision are a complete legal order of the case, as `make` asks, whatever the priority.
+pub fn decisions_are_complete_orders()
+    ensures { DecisionsAreCompleteOrders }
 {}

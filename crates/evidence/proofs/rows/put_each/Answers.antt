@@ -1,4 +1,4 @@
-use Rattle.std.proofs.Common.{rules, ◌≡◌, ◌∙◌, refl, sym, ap, map, get_or, Ok, Err, arith}
+use Rattle.std.proofs.Common.{rules, ◌≡◌, ◌∙◌, refl, sym, ap, map, Ok, Err, arith}
 use Rattle.std.proofs.lemmas.List.{map-set}
 use Rattle.field_core.specs.Kind.{ok_map}
 use Rattle.evidence.proofs.Puts.{put_nil, put_next, put_stops}

@@ -1,4 +1,4 @@
-use Rattle.std.proofs.Common.{rules, ◌≡◌, ◌∙◌, ◌<◌, sym, ap, ap₂, length, arith}
+use Rattle.std.proofs.Common.{◌∙◌, ◌<◌, sym, ap, ap₂, length, arith}
 use Rattle.entangled.specs.BundleView.{bundled}
 use Rattle.evidence.specs.FlowTables.{new_tables}
 use Rattle.evidence.specs.TablesView.{tables_of}

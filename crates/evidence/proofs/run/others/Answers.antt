@@ -1,5 +1,4 @@
-use Rattle.std.proofs.Common.{◌≡◌, ◌∙◌, refl, sym, ap, ◌++◌, ◌∷◌, [], not}
-use Rattle.evidence_check.specs.Evidence.{others}
+use Rattle.std.proofs.Common.{◌∙◌, sym, ap, ◌++◌, ◌∷◌, [], not}
 use Rattle.evidence.proofs.Lists.{others_none, others_more, others_same, any_listed}
 use Rattle.evidence.proofs.run.others.Goals as goal
 use Rattle.evidence.proofs.run.others.Goals.{then-is_missing+in_ok-push, else-is_missing}

@@ -1,4 +1,4 @@
-use Rattle.std.proofs.Common.{rules, ◌≡◌, ◌∙◌, ◌<◌, ◌+◌, ◌==◌, refl, sym, ap, ap₂, [], map, take, get_or, length, Err, arith}
+use Rattle.std.proofs.Common.{rules, ◌≡◌, ◌∙◌, ◌<◌, ◌+◌, ◌==◌, refl, sym, ap, ap₂, map, take, get_or, length, Err, arith}
 use Rattle.std.proofs.lemmas.List.{length-map, length-replicate, map_push}
 use Rattle.entangled.specs.BundleView.{bundled}
 use Rattle.evidence_check.specs.EvidenceView.{step_parts}

@@ -1,4 +1,4 @@
-use Rattle.std.proofs.Common.{rules, ◌≡◌, ◌∙◌, refl, sym, ap, map}
+use Rattle.std.proofs.Common.{◌∙◌, refl, sym, ap, map}
 use Rattle.field_core.specs.Kind.{ok_map}
 use Rattle.entangled.specs.BundleView.{bundled}
 use Rattle.evidence.specs.TablesView.{tables_of}

@@ -1,4 +1,4 @@
-use Rattle.std.proofs.Common.{rules, ◌≡◌, ◌∙◌, sym, ap, ap₂, map, set, Ok, Err}
+use Rattle.std.proofs.Common.{rules, ◌≡◌, ◌∙◌, sym, ap, map, set, Ok, Err}
 use Rattle.field_core.specs.Kind.{ok_map}
 use Rattle.evidence.specs.declared.fault.Fault.TheVariants.{Wide}
 use Rattle.evidence.specs.FlowTables.{put_each, new_exit}

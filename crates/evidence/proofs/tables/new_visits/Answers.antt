@@ -1,4 +1,4 @@
-use Rattle.std.proofs.Common.{◌≡◌, ◌∙◌, sym, ap, map, Ok}
+use Rattle.std.proofs.Common.{◌∙◌, sym, ap, map, Ok}
 use Rattle.std.specs.Option.{option_map}
 use Rattle.field_core.specs.Kind.{ok_map}
 use Rattle.evidence.proofs.RowAnswers.{row_is, zeros_for}

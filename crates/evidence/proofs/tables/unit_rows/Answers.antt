@@ -1,4 +1,4 @@
-use Rattle.std.proofs.Common.{◌≡◌, ◌∙◌, ◌++◌, [], ◌∷◌, sym, ap, ap₂, map, set, replicate}
+use Rattle.std.proofs.Common.{◌∙◌, ◌++◌, [], ◌∷◌, sym, ap, ap₂, map, set, replicate}
 use Rattle.std.proofs.lemmas.List.{map_push}
 use Rattle.evidence.proofs.RowAnswers.{range_more, put_seen}
 use Rattle.evidence.proofs.tables.unit_rows.Goals as goal
