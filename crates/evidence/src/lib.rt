@@ -6,5 +6,10 @@ pub mod laws;
 mod rows;
 mod run;
 mod tables;
+mod writer;
 
 pub use fault::MakeFault;
+pub use writer::write;
+
+#[cfg(test)]
+mod written_tests;
