@@ -8,13 +8,16 @@ use std::process::Abort;
 use std::test::Fail;
 
 /// Two families of two hypotheses, with edges in epsilon.
-const FAMILIES: &str = "alpha 0.05\nhypotheses H1 H2 H3 H4\np 0.02 0.04 0.01 0.02\nweights 1/2 1/2 0 0\nedge H1 H3 1/2\nedge H1 H4 1/2\nedge H2 H3 1/2\nedge H2 H4 1/2\nedge H3 H1 \\epsilon\nedge H3 H4 1-\\epsilon\nedge H4 H2 \\epsilon\nedge H4 H3 1-\\epsilon\n";
+const FAMILIES: &str =
+    "alpha 0.05\nhypotheses H1 H2 H3 H4\np 0.02 0.04 0.01 0.02\nweights 1/2 1/2 0 0\nedge H1 H3 1/2\nedge H1 H4 1/2\nedge H2 H3 1/2\nedge H2 H4 1/2\nedge H3 H1 \\epsilon\nedge H3 H4 1-\\epsilon\nedge H4 H2 \\epsilon\nedge H4 H3 1-\\epsilon\n";
 
 /// Three hypotheses in a fixed order.
-const SEQUENCE: &str = "alpha 0.025\nhypotheses H1 H2 H3\np 0.01 0.03 0.001\nweights 1 0 0\nedge H1 H2 1\nedge H2 H3 1\n";
+const SEQUENCE: &str =
+    "alpha 0.025\nhypotheses H1 H2 H3\np 0.01 0.03 0.001\nweights 1 0 0\nedge H1 H2 1\nedge H2 H3 1\n";
 
 /// The product of the edges on the way to the last hypothesis has a denominator near 10^54.
-const LONG: &str = "alpha 0.05\nhypotheses H1 H2 H3 H4\np 0 0 0 0\nweights 1 0 0 0\nedge H1 H2 1/1000000000000000000\nedge H2 H3 1/999999999999999999\nedge H3 H4 1/999999999999999997\n";
+const LONG: &str =
+    "alpha 0.05\nhypotheses H1 H2 H3 H4\np 0 0 0 0\nweights 1 0 0 0\nedge H1 H2 1/1000000000000000000\nedge H2 H3 1/999999999999999999\nedge H3 H4 1/999999999999999997\n";
 
 /// A case, a proof, the status and what is printed.
 type Row<'a> = (&'a str, &'a str, u8, &'a str);
@@ -95,8 +98,18 @@ const TAMPERED: [Row; 8] = [
 /// Proofs that aren't read or can't be checked, and cases that come before them.
 const REFUSED: [Row; 9] = [
     (SEQUENCE, "", 3, "malformed: proof line 1: ended\n"),
-    (SEQUENCE, "evidence 3\nend\n", 3, "malformed: proof line 1: version\n"),
-    (SEQUENCE, "evidence 1\nstep H9\nend\n", 3, "malformed: proof line 2: unknown name\n"),
+    (
+        SEQUENCE,
+        "evidence 3\nend\n",
+        3,
+        "malformed: proof line 1: version\n",
+    ),
+    (
+        SEQUENCE,
+        "evidence 1\nstep H9\nend\n",
+        3,
+        "malformed: proof line 2: unknown name\n",
+    ),
     (
         FAMILIES,
         "evidence 2\nstep H1\nstep H3\nflow 1 H1 1/2\nstep H4\nflow 1 H1 [1]/[2,-1]\nflow 1 H3 [1]/[4,-2]\nstep H2\nflow 1 H1 1\nflow 1 H3 [1]/[0,2]\nflow 1 H4 [1]/[0,2]\n",
@@ -116,8 +129,18 @@ const REFUSED: [Row; 9] = [
         "too wide: check step 4: component 1 level of H4 mul\n",
     ),
     ("", "evidence 3\n", 3, "malformed: line 1: ended\n"),
-    ("alpha 2\nhypotheses H1\np 0\nweights 1\n", "evidence 3\n", 3, "malformed: case: alpha\n"),
-    ("alpha 1/20\nhypotheses H1\nweights 1\n", "evidence 3\n", 3, "malformed: kind\n"),
+    (
+        "alpha 2\nhypotheses H1\np 0\nweights 1\n",
+        "evidence 3\n",
+        3,
+        "malformed: case: alpha\n",
+    ),
+    (
+        "alpha 1/20\nhypotheses H1\nweights 1\n",
+        "evidence 3\n",
+        3,
+        "malformed: kind\n",
+    ),
 ];
 
 /// A check of a proof from a source ends with this status and prints this.
@@ -169,7 +192,11 @@ fn a_missing_proof(rt: HostRuntime) -> Result<(), Fail> {
     let rows = [
         (SEQUENCE, 6, "read fault\n"),
         ("", 3, "malformed: line 1: ended\n"),
-        ("alpha 1/20\nhypotheses H1\nweights 1\n", 3, "malformed: kind\n"),
+        (
+            "alpha 1/20\nhypotheses H1\nweights 1\n",
+            3,
+            "malformed: kind\n",
+        ),
     ];
     for (case, status, printed) in rows {
         let mut proof = FailingSource::new(List::new(alloc), 1, list_of(alloc, &[1])?);
@@ -207,7 +234,10 @@ fn place_of(alloc: Global, words: &[&str]) -> Result<Option<usize>, NoMemory> {
 fn the_word_of_a_proof(rt: HostRuntime) -> Result<(), Fail> {
     let alloc = rt.alloc();
     assert_eq!(rt; place_of(alloc, &["check", "proof"])?, Some(1));
-    assert_eq!(rt; place_of(alloc, &["check", "--form", "text", "proof"])?, Some(3));
+    assert_eq!(rt;
+        place_of(alloc, &["check", "--form", "text", "proof"])?,
+        Some(3)
+    );
     assert_eq!(rt; place_of(alloc, &["check"])?, None);
     assert_eq!(rt; place_of(alloc, &["test"])?, None);
     Ok(())

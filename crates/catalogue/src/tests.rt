@@ -1,6 +1,7 @@
 //! Graphs that have names, by their names, weights and edges, and the refusals of sizes and seeds.
 use crate::{
-    CatalogueFault, equal_fallback, fallback, fixed_sequence, holm, improved_parallel, parallel, sample,
+    CatalogueFault, equal_fallback, fallback, fixed_sequence, holm, improved_parallel, parallel,
+    sample,
 };
 use case_model::{Case, CaseFault, Inputs, PartPlace};
 use field_core::{List, NoMemory};
@@ -162,7 +163,10 @@ fn sizes_and_seeds(rt: HostRuntime) -> Result<(), Fail> {
     assert_eq!(rt; fixed_sequence(alloc, 65, alpha, &[]).err(), size(65));
     assert_eq!(rt; fallback(alloc, &[], alpha, &[]).err(), size(0));
     assert_eq!(rt; equal_fallback(alloc, 0, alpha, &[]).err(), size(0));
-    assert_eq!(rt; equal_fallback(alloc, u64::MAX, alpha, &[]).err(), size(u64::MAX));
+    assert_eq!(rt;
+        equal_fallback(alloc, u64::MAX, alpha, &[]).err(),
+        size(u64::MAX)
+    );
     assert_eq!(rt; parallel(alloc, 70, 0, alpha, &[]).err(), size(0));
     assert_eq!(rt; parallel(alloc, 60, 5, alpha, &[]).err(), size(65));
     assert_eq!(rt;

@@ -15,3 +15,4 @@ pub mod WriterAnswers
 pub mod NumberWords
 pub mod CaseNames
 pub mod EvidenceSaid
+pub mod MakeAnswers

@@ -1,20 +1,22 @@
 -- What is recorded of the tables, and the nets of a bundle.
-use Rattle.std.proofs.Common.{◌≡◌, refl, sym, ap, ap₂, ◌∙◌, ℕ, zero, suc, ◌+◌, ◌<◌, Bool, true, false, not, List, [], ◌∷◌, map, length, get_or, Option, Some, Result, Ok, Err, arith}
+use Rattle.std.proofs.Common.{◌≡◌, refl, sym, ap, ap₂, ◌∙◌, ℕ, zero, suc, ◌+◌, ◌<◌, ◌==◌, Bool, true, false, not, List, [], ◌∷◌, map, length, get_or, Option, Some, Result, Ok, Err, arith}
 use Rattle.std.specs.Prelude.{slice_get}
 use Rattle.std.specs.List.{All}
 use Rattle.std.proofs.lemmas.List.{get_or-map}
 use Rattle.std.proofs.lemmas.List.Elements.{All-get_or}
 use Rattle.std.proofs.lemmas.Option.{get_or_from_slice_get}
+use Rattle.std.proofs.lemmas.Bool.Decides.{nat_tests}
 use Rattle.field_core.specs.declared.place.Wide.{Wide}
 use Rattle.field_core.specs.declared.place.WideAt.{WideAt}
 use Rattle.field_core.specs.Kind.{Parts, Kind}
 use Rattle.field_core.specs.Steps.{◌>>=◌, in_component, each_below}
 use Rattle.field_core.proofs.Fills.{each_fault}
 use Rattle.removal.specs.StoredGraph.{StoredGraph, is_live}
-use Rattle.entangled.specs.Bundled.{Bundled, IsBundle, removed, is_live as is_live_in}
+use Rattle.entangled.specs.Bundled.{Bundled, IsBundle, size, removed, is_live as is_live_in}
+use Rattle.evidence_check.specs.Evidence.{others}
 use Rattle.evidence_check.specs.EvidenceParts.{StepParts, KeepParts, numbers_at}
 use Rattle.evidence.specs.FlowTables.{Tables, row, if_wanted, new_tables}
-use Rattle.evidence.specs.FlowRun.{WideStep, RunState, at_step, recorded, kept_exits, all_tables, flow_step, graph_at, tables_at, no_graph, no_tables}
+use Rattle.evidence.specs.FlowRun.{WideStep, RunState, FlowRun, at_step, has_some, recorded, kept_exits, all_tables, flow_step, flow_run, opening_state, evidence_run, graph_at, tables_at, no_graph, no_tables}
 use Rattle.evidence.specs.TablesView.{tables_of}
 use Rattle.evidence.specs.declared.tables.Tables.{Tables as KeptTables}
 use Rattle.evidence.specs.declared.fault.Fault.{Fault}
@@ -122,3 +124,30 @@ module _ {S : Type 0} (K : Kind) (graph : S → StoredGraph) (removal : S → �
 pub all_fault : {A B C D : Type 0} (v : A → B) (u : C → D) (f : MakeFault) (part : Result B WideStep) (whole : Result D WideStep) → MakesAll v (Err f) part → ((w : WideStep) → part ≡ Err w → whole ≡ Err w) → MakesAll u (Err f) whole
 all_fault v u (MakeWide n w) part whole m h = h _ m
 all_fault v u MakeNoMemory part whole m h = tt
+
+-- ---- the evidence of nets
+
+-- a list that isn't empty has an item
+some_is : (ks : List ℕ) → not (length ks == 0) ≡ has_some ks
+some_is [] = refl
+some_is (k ∷ ks) = ap not (not_none (length ks))
+  where
+    not_none : (n : ℕ) → (suc n == 0) ≡ false
+    not_none n = grind (arith, nat_tests)
+
+module _ {S : Type 0} (K : Kind) (graph : S → StoredGraph) (removal : S → ℕ → Result S Wide) (b : Bundled S) (js ks : List ℕ) (e : ks ≡ others (size graph b) js) (is_kept : Bool) (i : is_kept ≡ not (length ks == 0)) where
+  same_run : flow_run K graph removal (has_some (others (size graph b) js)) [] js (opening_state K graph b) ≡ flow_run K graph removal is_kept [] js (opening_state K graph b)
+  same_run = ap (λ w. flow_run K graph removal w [] js (opening_state K graph b)) (sym (i ∙ some_is ks ∙ ap has_some e))
+
+  -- a run that is refused
+  pub evidence_refused : (w : WideStep) → flow_run K graph removal is_kept [] js (opening_state K graph b) ≡ Err w → evidence_run K graph removal b js ≡ Err w
+  unfolding evidence_run
+  evidence_refused w h = ap (λ q. q >>= λ r. Ok (record { steps = r.steps; keeps = map (kept_exits K r.tables js) (others (size graph b) js) })) (same_run ∙ h)
+
+  -- a run that is finished, and the keeps after it
+  pub evidence_done : (r : FlowRun) (xs : List KeepParts) → flow_run K graph removal is_kept [] js (opening_state K graph b) ≡ Ok r → xs ≡ map (kept_exits K r.tables js) ks
+      → evidence_run K graph removal b js ≡ Ok (record { steps = r.steps; keeps = xs })
+  unfolding evidence_run
+  evidence_done r xs h f =
+      ap (λ q. q >>= λ r. Ok (record { steps = r.steps; keeps = map (kept_exits K r.tables js) (others (size graph b) js) })) (same_run ∙ h)
+      ∙ ap (λ zs. Ok (record { steps = r.steps; keeps = zs })) (sym (f ∙ ap (map (kept_exits K r.tables js)) e))

@@ -1,5 +1,5 @@
 -- The written flow run of a case, and the evidence that it gives.
-use Rattle.std.specs.Prelude.{◌≡◌, ℕ, List, Result, Err, map, length}
+use Rattle.std.specs.Prelude.{◌≡◌, ℕ, Bool, true, false, List, Result, Err, map, length}
 use Rattle.field_core.specs.Sets.{whole}
 use Rattle.field_core.specs.Steps.{◌>>=◌}
 use Rattle.fraction.specs.View.{number_of}
@@ -8,13 +8,19 @@ use Rattle.case_model.specs.Content.{Content, entangled}
 use Rattle.case_model.specs.Validity.{IsValidContent}
 use Rattle.case_model.specs.LegalOrder.{IsLegalOrder, IsComplete}
 use Rattle.case_numbers.specs.Numbers.{Numbers, numbers_of, kind_of}
-use Rattle.entangled.specs.States.{graph_in, removal_in}
-use Rattle.entangled.specs.CaseRun.{opening_in}
+use Rattle.entangled.specs.States.{graph_in, IsProperIn, removal_in}
+use Rattle.entangled.specs.CaseRun.{CaseState, state_of, opening_in}
 use Rattle.evidence_check.specs.Evidence.{KeepsOthers}
 use Rattle.evidence_check.specs.CaseCheck.{p_values_of, values_in, MeetsIn, AreStepsOf, case_check}
 use Rattle.evidence_check.specs.declared.verdict.Reason.{Reason}
 use Rattle.evidence_check.specs.declared.event.Event.TheVariants.{Broken}
+use Rattle.evidence_check.specs.declared.evidence.Evidence.{Evidence}
+use Rattle.evidence_check.specs.declared.evidence.Evidence.TheVariants.{Plain, Eps}
+use Rattle.sequential.specs.Decisions.{IsDecision, hypotheses}
+use Rattle.sequential.specs.declared.decision.Decision.{Decision}
+use Rattle.sequential.specs.declared.priority.Priority.{Priority}
 use Rattle.evidence.specs.FlowRun.{WideStep, WrittenEvidence, at_step, evidence_run}
+use Rattle.evidence.specs.FlowStatements.{IsOpened}
 use Rattle.std.specs.Prelude.{Ok}
 
 -- a complete legal order of a case: each hypothesis is legal where it stands, and none is legal after the last
@@ -31,6 +37,23 @@ flows_in n c js = do
 -- The written flow run of a case along a list of hypotheses.
 unfoldable pub case_flows : Content → List ℕ → Result WrittenEvidence WideStep
 case_flows c = flows_in (numbers_of c) c
+
+-- The nets of a case are as they are opened.
+abbrev pub AreOpened : CaseState → Type 0
+AreOpened (state_of n b) = IsOpened (kind_of n) (graph_in n) (IsProperIn n) b
+
+-- The written run of the nets of a case, as they are opened, along a list of hypotheses.
+abbrev pub flows_from : CaseState → List ℕ → Result WrittenEvidence WideStep
+flows_from (state_of n b) js = evidence_run (kind_of n) (graph_in n) (removal_in n) b js
+
+-- whether evidence is in fractions
+abbrev pub has_fractions : Evidence → Bool
+has_fractions (Plain v) = true
+has_fractions (Eps v) = false
+
+-- The decision on a case lists a complete legal order of it, whatever the priority.
+abbrev pub DecisionsAreCompleteOrders : Type 0
+DecisionsAreCompleteOrders = (c : Content) (priority : Priority) (d : Decision) → IsValidContent c → IsDecision c priority d → IsCompleteOrder c (hypotheses d.steps)
 
 -- The flow run of a case along a complete legal order gives evidence that meets the conditions.
 abbrev pub CaseFlowsMeetConditions : Type 0

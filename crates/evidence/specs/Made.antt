@@ -1,5 +1,5 @@
 -- What the code makes of a written run, as long as memory lasts.
-use Rattle.std.specs.Prelude.{◌≡◌, ℕ, Result, Ok, Err}
+use Rattle.std.specs.Prelude.{◌≡◌, ℕ, map, Result, Ok, Err}
 use Rattle.field_core.specs.declared.place.Wide.{Wide as WideAtPlace}
 use Rattle.field_core.specs.declared.place.WideAt.{WideAt}
 use Rattle.entangled.specs.declared.open_fault.OpenFault.{OpenFault}
@@ -8,7 +8,11 @@ use Rattle.evidence.specs.declared.fault.Fault.{Fault}
 use Rattle.evidence.specs.declared.fault.Fault.TheVariants.{Wide, NoMemory}
 use Rattle.evidence.specs.declared.fault.MakeFault.{MakeFault}
 use Rattle.evidence.specs.declared.fault.MakeFault.TheVariants.{Wide as MakeWide, NoMemory as MakeNoMemory}
-use Rattle.evidence.specs.FlowRun.{WideStep}
+use Rattle.field_core.specs.Kind.{Parts}
+use Rattle.evidence_check.specs.declared.evidence.Steps.{Steps}
+use Rattle.evidence_check.specs.declared.evidence.Evidence.{Evidence}
+use Rattle.evidence_check.specs.EvidenceView.{step_parts, keep_parts, steps_of, keeps_of}
+use Rattle.evidence.specs.FlowRun.{WideStep, WrittenEvidence}
 
 -- a fault of an opening is at step 0
 abbrev pub opening_fault : OpenFault → MakeFault
@@ -36,3 +40,11 @@ abbrev pub MakesAll : {A B : Type 0} → (A → B) → Result A MakeFault → Re
 MakesAll view (Ok x) written = written ≡ Ok (view x)
 MakesAll view (Err (MakeWide n w)) written = written ≡ Err (record { step = n; at = w })
 MakesAll view (Err MakeNoMemory) written = Unit {0}
+
+-- steps and keeps, with their numbers as they are stored
+abbrev pub written_steps : {F : Type 0} → (F → Parts) → Steps F → WrittenEvidence
+written_steps parts v = record { steps = map (step_parts parts) v.steps; keeps = map (keep_parts parts) v.keeps }
+
+-- those of evidence
+abbrev pub written_evidence : Evidence → WrittenEvidence
+written_evidence v = record { steps = steps_of v; keeps = keeps_of v }

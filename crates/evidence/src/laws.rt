@@ -1,7 +1,7 @@
 //! Laws of flow runs. Each function states laws that hold of all nets or of all cases, and does nothing.
 
 ghost use Rattle.evidence.specs.FlowStatements.{FlowRunsGiveSteps, FlowRunsGiveEvidence};
-ghost use Rattle.evidence.specs.CaseFlows.{CaseFlowsMeetConditions, CaseFlowsListOrders, CaseFlowsKeepOthers, CaseFlowsAreNotRefused};
+ghost use Rattle.evidence.specs.CaseFlows.{CaseFlowsMeetConditions, CaseFlowsListOrders, CaseFlowsKeepOthers, CaseFlowsAreNotRefused, DecisionsAreCompleteOrders};
 ghost use Rattle.evidence.specs.EvidenceText.{EvidenceTextsSayTheirs, EvidenceTextsSayNoOther, EvidenceTextsHaveNoFault, EvidenceTextsTellApart};
 
 use removal::Remover;
@@ -29,4 +29,9 @@ pub fn evidence_texts_are_read_back()
     ensures no_other { EvidenceTextsSayNoOther }
     ensures no_fault { EvidenceTextsHaveNoFault }
     ensures apart { EvidenceTextsTellApart }
+{}
+
+/// The steps of a decision are a complete legal order of the case, as `make` asks, whatever the priority.
+pub fn decisions_are_complete_orders()
+    ensures { DecisionsAreCompleteOrders }
 {}

@@ -10,16 +10,16 @@ ghost use Rattle.evidence_check.specs.Evidence.{others};
 ghost use Rattle.evidence_check.specs.EvidenceParts.{numbers_at};
 ghost use Rattle.evidence_check.specs.EvidenceView.{step_parts, keep_parts};
 ghost use Rattle.evidence.specs.FlowTables.{new_tables};
-ghost use Rattle.evidence.specs.FlowRun.{graph_at, tables_at, recorded, kept_exits, all_tables, flow_step, flow_run, opening_state};
+ghost use Rattle.evidence.specs.FlowRun.{graph_at, tables_at, recorded, kept_exits, all_tables, flow_step, flow_run, opening_state, evidence_run};
 ghost use Rattle.evidence.specs.FlowStatements.{IsOpened};
 ghost use Rattle.evidence.specs.TablesView.{tables_of};
-ghost use Rattle.evidence.specs.Made.{Makes, MakesAll};
+ghost use Rattle.evidence.specs.Made.{Makes, MakesAll, written_steps};
 
 use crate::fault::{Fault, MakeFault};
 use crate::rows::{number, row};
 use crate::tables::{Tables, first_tables, tables_after};
 use entangled::Bundle;
-use evidence_check::{KeepProof, ProofStep};
+use evidence_check::{KeepProof, ProofStep, Steps};
 use field_core::{List, NoMemory, Number, WideAt};
 use removal::Remover;
 use std::alloc::Global;
@@ -243,4 +243,26 @@ fn keeps<F: Number>(
         keeps.push(kept(alloc, tables, steps, k)?)?;
     }
     Ok(keeps)
+}
+
+/// The evidence of nets as they are opened, along a list of distinct hypotheses: the steps in this order, and then all
+/// other hypotheses, which are kept. It is of version 2.
+pub fn evidence<R: Remover>(
+    alloc: Global,
+    bundle: &mut Bundle<R>,
+    hypotheses: &[usize],
+) -> Result<Steps<R::Value>, MakeFault>
+    requires opened { IsOpened R.Value.kind R.graph R.IsProper (bundled bundle.old) }
+    requires order { IsOrder (size R.graph (bundled bundle.old)) whole hypotheses.now }
+    ensures made { MakesAll (written_steps R.Value.parts) result (evidence_run R.Value.kind R.graph R.removal (bundled bundle.old) hypotheses.now) }
+    ensures version { IfOk result (λ v. v.version ≡ 2) }
+{
+    let others = others(alloc, bundle.size(), hypotheses)?;
+    let FinishedRun { steps, tables } = run(alloc, bundle, hypotheses, !others.is_empty())?;
+    let keeps = keeps(alloc, tables.as_slice(), hypotheses, others.as_slice())?;
+    Ok(Steps {
+        version: 2,
+        steps,
+        keeps,
+    })
 }

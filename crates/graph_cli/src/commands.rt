@@ -10,8 +10,8 @@ ghost use Rattle.graph_cli.specs.Commands.{needs_of, on_case, case_call, check_n
 
 mod bounds;
 mod canon;
-mod graphs;
 mod check;
+mod graphs;
 mod help;
 mod made;
 mod sample;
@@ -23,8 +23,8 @@ mod weights;
 use crate::accepted::accepted_case;
 use crate::commands::bounds::bounds_answer;
 use crate::commands::canon::canon_answer;
-use crate::commands::graphs::catalogue_answer;
 use crate::commands::check::check_answer;
+use crate::commands::graphs::catalogue_answer;
 use crate::commands::help::help_answer;
 use crate::commands::sample::sample_answer;
 use crate::commands::stages::stages_answer;

@@ -1,7 +1,7 @@
 //! Each kind of refusal, with its line written by hand.
 use crate::{
-    ProofPart, When, case_refusal, json_refusal, kind_refusal, line_refusal, no_text, proof_refusal,
-    wide_refusal,
+    ProofPart, When, case_refusal, json_refusal, kind_refusal, line_refusal, no_text,
+    proof_refusal, wide_refusal,
 };
 use answers::Refusal;
 use case_json::JsonFault;
@@ -243,8 +243,14 @@ const BEGINNINGS: [(When, &str); 11] = [
     (When::Set(5), "too wide: set H1 dose-a: "),
     (When::Set(0), "too wide: set: "),
     (When::Check(ProofPart::Step(0)), "too wide: check step 0: "),
-    (When::Check(ProofPart::Step(12)), "too wide: check step 12: "),
-    (When::Check(ProofPart::Keep(2)), "too wide: check keep dose-a: "),
+    (
+        When::Check(ProofPart::Step(12)),
+        "too wide: check step 12: ",
+    ),
+    (
+        When::Check(ProofPart::Keep(2)),
+        "too wide: check keep dose-a: ",
+    ),
 ];
 
 /// An answer is this status, and the two texts in turn.
@@ -498,12 +504,22 @@ fn a_number_of_json_that_is_not_whole(rt: HostRuntime) -> Result<(), Fail> {
 #[test]
 fn a_name_of_json_that_is_unknown(rt: HostRuntime) -> Result<(), Fail> {
     let fault = JsonFault::UnknownName(Text::copy(rt.alloc(), b"/p/1/to")?);
-    expect_value(&rt, rt.alloc(), &fault, "malformed: /p/1/to: unknown name\n")
+    expect_value(
+        &rt,
+        rt.alloc(),
+        &fault,
+        "malformed: /p/1/to: unknown name\n",
+    )
 }
 
 #[test]
 fn json_of_no_value(rt: HostRuntime) -> Result<(), Fail> {
-    expect_value(&rt, rt.alloc(), &JsonFault::Syntax, "malformed: json: syntax\n")
+    expect_value(
+        &rt,
+        rt.alloc(),
+        &JsonFault::Syntax,
+        "malformed: json: syntax\n",
+    )
 }
 
 #[test]
