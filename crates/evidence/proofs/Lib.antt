@@ -11,4 +11,8 @@ pub mod RunSteps
 pub mod RunLive
 pub mod SameGraphs
 pub mod CaseEvidence
+pub mod WriterAnswers
+pub mod NumberWords
+pub mod CaseNames
+pub mod EvidenceSaid
 pub mod MakeAnswers

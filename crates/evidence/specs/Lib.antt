@@ -4,3 +4,4 @@ pub mod FlowStatements
 pub mod CaseFlows
 pub mod TablesView
 pub mod Made
+pub mod EvidenceText

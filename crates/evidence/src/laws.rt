@@ -2,6 +2,7 @@
 
 ghost use Rattle.evidence.specs.FlowStatements.{FlowRunsGiveSteps, FlowRunsGiveEvidence};
 ghost use Rattle.evidence.specs.CaseFlows.{CaseFlowsMeetConditions, CaseFlowsListOrders, CaseFlowsKeepOthers, CaseFlowsAreNotRefused, DecisionsAreCompleteOrders};
+ghost use Rattle.evidence.specs.EvidenceText.{EvidenceTextsSayTheirs, EvidenceTextsSayNoOther, EvidenceTextsHaveNoFault, EvidenceTextsTellApart};
 
 use removal::Remover;
 
@@ -19,6 +20,15 @@ pub fn case_flows_are_evidence()
     ensures lists { CaseFlowsListOrders }
     ensures keeps { CaseFlowsKeepOthers }
     ensures accepted { CaseFlowsAreNotRefused }
+{}
+
+/// The text of evidence for a case says this evidence and no other, and has no fault: so it is read back as it was written.
+/// Evidence of one text is the same.
+pub fn evidence_texts_are_read_back()
+    ensures says { EvidenceTextsSayTheirs }
+    ensures no_other { EvidenceTextsSayNoOther }
+    ensures no_fault { EvidenceTextsHaveNoFault }
+    ensures apart { EvidenceTextsTellApart }
 {}
 
 /// The steps of a decision are a complete legal order of the case, as `make` asks, whatever the priority.

@@ -15,9 +15,13 @@ mod maker;
 mod rows;
 mod run;
 mod tables;
+mod writer;
 
 pub use fault::MakeFault;
 pub use maker::make;
+pub use writer::write;
 
 #[cfg(test)]
 mod tests;
+#[cfg(test)]
+mod written_tests;
