@@ -1,5 +1,6 @@
-//! Why rows weren't read.
+//! Why rows weren't read, and why a file was refused.
 use field_core::NoMemory;
+use sqlite::{Error, ErrorCode};
 
 /// Why rows gave no looks.
 #[derive(Clone, Copy, PartialEq, Eq, Debug)]
@@ -18,5 +19,38 @@ impl From<NoMemory> for RowsFault {
 
     fn from(_: NoMemory) -> RowsFault {
         RowsFault::NoMemory
+    }
+}
+
+/// Why a file wasn't opened, gave no looks, or took none.
+#[derive(Clone, Copy, PartialEq, Eq, Debug)]
+pub enum FileFault {
+    /// The file, a statement or a row was refused.
+    Refused,
+    /// Memory ran out.
+    NoMemory,
+}
+
+impl From<NoMemory> for FileFault {
+    fn from(_: NoMemory) -> FileFault {
+        FileFault::NoMemory
+    }
+}
+
+impl From<Error> for FileFault {
+    fn from(error: Error) -> FileFault {
+        match error {
+            Error::SqliteFailure(ErrorCode::OutOfMemory) => FileFault::NoMemory,
+            _ => FileFault::Refused,
+        }
+    }
+}
+
+impl From<RowsFault> for FileFault {
+    fn from(fault: RowsFault) -> FileFault {
+        match fault {
+            RowsFault::Bad(_) => FileFault::Refused,
+            RowsFault::NoMemory => FileFault::NoMemory,
+        }
     }
 }

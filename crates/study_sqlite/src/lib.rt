@@ -14,13 +14,19 @@
 #![tactic(auto)]
 
 mod fault;
+mod keeper;
+#[cfg(test)]
+mod keeper_tests;
 pub mod laws;
 mod printed;
 mod row;
 mod rows;
+mod table;
 #[cfg(test)]
 mod tests;
 
-pub use fault::RowsFault;
+pub use fault::{FileFault, RowsFault};
+pub use keeper::SqliteKeeper;
 pub use row::{LookRow, from_row, to_row};
 pub use rows::read_rows;
+pub use table::FileConnection;

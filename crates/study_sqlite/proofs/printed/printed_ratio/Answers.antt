@@ -1,7 +1,6 @@
-use Rattle.std.proofs.Common.{rules, ◌≡◌, FitsSigned, Some, Option, sym, ◌∙◌}
+use Rattle.std.proofs.Common.{rules, FitsSigned, ◌∙◌}
 use Rattle.std.specs.Int.{w128}
 use Rattle.field_core.specs.View.{terms}
-use Rattle.fraction.specs.Spelling.{spelling}
 use Rattle.study_sqlite.proofs.PrintedRatios.{spelt, num_fits, den_fits, found_text, read_terms}
 use Rattle.study_sqlite.proofs.printed.printed_ratio.Goals as goal
 

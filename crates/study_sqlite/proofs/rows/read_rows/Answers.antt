@@ -1,4 +1,4 @@
-use Rattle.std.proofs.Common.{arith, ◌≡◌, ◌++◌, ◌∷◌, []}
+use Rattle.std.proofs.Common.{arith}
 use Rattle.study_sqlite.proofs.RowFacts.{first_bad, read_more}
 use Rattle.study_sqlite.proofs.rows.read_rows.Goals as goal
 
