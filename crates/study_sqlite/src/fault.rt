@@ -32,12 +32,22 @@ pub enum FileFault {
 }
 
 impl From<NoMemory> for FileFault {
+    ghost use Rattle.std.specs.Prelude.{◌≡◌};
+    ghost use Rattle.study_sqlite.specs.declared.fault.FileFault.TheVariants.{NoMemory};
+
+    ghost from_gives = { λ _ fault. fault ≡ NoMemory };
+
     fn from(_: NoMemory) -> FileFault {
         FileFault::NoMemory
     }
 }
 
 impl From<Error> for FileFault {
+    ghost use Rattle.std.specs.Prelude.{◌≡◌};
+    ghost use Rattle.study_sqlite.specs.FileFaults.{fault_of_error};
+
+    ghost from_gives = { λ error fault. fault ≡ fault_of_error error };
+
     fn from(error: Error) -> FileFault {
         match error {
             Error::SqliteFailure(ErrorCode::OutOfMemory) => FileFault::NoMemory,
@@ -47,6 +57,11 @@ impl From<Error> for FileFault {
 }
 
 impl From<RowsFault> for FileFault {
+    ghost use Rattle.std.specs.Prelude.{◌≡◌};
+    ghost use Rattle.study_sqlite.specs.FileFaults.{fault_of_rows};
+
+    ghost from_gives = { λ bad fault. fault ≡ fault_of_rows bad };
+
     fn from(fault: RowsFault) -> FileFault {
         match fault {
             RowsFault::Bad(_) => FileFault::Refused,

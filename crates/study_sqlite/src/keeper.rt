@@ -7,7 +7,7 @@ use field_core::List;
 use graph_io::{Keeper, KeeperFault, Look};
 use std::alloc::Global;
 
-/// Looks in a file. They aren't told; each refused statement and each row that can't be read is counted.
+/// Looks in a file. They aren't told; each call that meets a refused statement, or a row that is that of no look, is counted.
 #[derive(Drop)]
 pub struct SqliteKeeper {
     connection: FileConnection,
