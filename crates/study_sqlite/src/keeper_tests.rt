@@ -1,17 +1,19 @@
 //! A keeper over files that the tests make.
-use crate::{FileFault, SqliteKeeper, table};
-use field_core::{List, Ratio};
+use crate::{FileConnection, FileFault, SqliteKeeper, table};
+use field_core::List;
+use fraction::Fraction;
 use graph_io::{Keeper, KeeperFault, Look};
+use std::alloc::Global;
 use std::fs;
 use std::test::Fail;
 
 /// A p-value of 1/50 of a hypothesis at a stage.
-fn look(hypothesis: u32, stage: u32) -> Look {
-    Look {
+fn look(hypothesis: u32, stage: u32) -> Result<Look, Fail> {
+    Ok(Look {
         hypothesis,
         stage,
-        p: Ratio::new(1, 50),
-    }
+        p: Fraction::new(1, 50)?.ratio(),
+    })
 }
 
 /// A new folder, whatever stood there.
@@ -21,20 +23,44 @@ fn new_folder(rt: &HostRuntime, folder: &str) -> Result<(), Fail> {
     Ok(())
 }
 
+/// The looks of a list behind which a keeper of a file puts its own.
+fn looks_behind(
+    alloc: Global,
+    path: &str,
+    rt: &HostRuntime,
+    before: Look,
+) -> Result<(Result<(), KeeperFault>, List<Look>), Fail> {
+    let mut keeper = SqliteKeeper::open(rt, path)?;
+    let mut looks = List::of([before].to_vec(alloc)?);
+    let loaded = keeper.load(alloc, &mut looks);
+    Ok((loaded, looks))
+}
+
+/// Puts looks into a file, and answers the outcome of the last.
+fn put(
+    alloc: Global,
+    path: &str,
+    rt: &HostRuntime,
+    first: &Look,
+    second: &Look,
+) -> Result<Result<(), KeeperFault>, Fail> {
+    let mut keeper = SqliteKeeper::open(rt, path)?;
+    keeper.append(alloc, first)?;
+    Ok(keeper.append(alloc, second))
+}
+
 #[test]
 fn looks_are_kept_in_their_order(rt: HostRuntime) -> Result<(), Fail> {
     let alloc = rt.alloc();
     new_folder(&rt, "kept_test")?;
-    let mut one = SqliteKeeper::open(&rt, "kept_test/looks.db")?;
-    one.append(alloc, &look(3, 2))?;
-    one.append(alloc, &look(0, 1))?;
-    drop(one);
-    let mut two = SqliteKeeper::open(&rt, "kept_test/looks.db")?;
-    let mut looks = List::of([look(9, 9)].to_vec(alloc)?);
-    two.load(alloc, &mut looks)?;
-    let wanted = [look(9, 9), look(3, 2), look(0, 1)];
+    assert_eq!(rt;
+        put(alloc, "kept_test/looks.db", &rt, &look(3, 2)?, &look(0, 1)?)?,
+        Ok(())
+    );
+    let (loaded, looks) = looks_behind(alloc, "kept_test/looks.db", &rt, look(9, 9)?)?;
+    assert_eq!(rt; loaded, Ok(()));
+    let wanted = [look(9, 9)?, look(3, 2)?, look(0, 1)?];
     assert_eq!(rt; looks.as_slice(), wanted.as_slice());
-    drop(two);
     fs::remove_dir_all(&rt, "kept_test")?;
     Ok(())
 }
@@ -43,13 +69,11 @@ fn looks_are_kept_in_their_order(rt: HostRuntime) -> Result<(), Fail> {
 fn a_look_is_kept_once(rt: HostRuntime) -> Result<(), Fail> {
     let alloc = rt.alloc();
     new_folder(&rt, "once_test")?;
-    let mut keeper = SqliteKeeper::open(&rt, "once_test/looks.db")?;
-    keeper.append(alloc, &look(0, 1))?;
-    assert_eq!(rt; keeper.append(alloc, &look(0, 1)), Err(KeeperFault::Fault));
-    let mut looks = List::new(alloc);
-    keeper.load(alloc, &mut looks)?;
-    assert_eq!(rt; looks.as_slice(), [look(0, 1)].as_slice());
-    drop(keeper);
+    let again = put(alloc, "once_test/looks.db", &rt, &look(0, 1)?, &look(0, 1)?)?;
+    assert_eq!(rt; again, Err(KeeperFault::Fault));
+    let (_, looks) = looks_behind(alloc, "once_test/looks.db", &rt, look(9, 9)?)?;
+    let wanted = [look(9, 9)?, look(0, 1)?];
+    assert_eq!(rt; looks.as_slice(), wanted.as_slice());
     fs::remove_dir_all(&rt, "once_test")?;
     Ok(())
 }
@@ -85,7 +109,23 @@ fn a_locked_file_is_refused(rt: HostRuntime) -> Result<(), Fail> {
     Ok(())
 }
 
-/// Loads from a new file in which one row has these values, as SQL writes them; a look of the list stands there before.
+fn execute(connection: &mut FileConnection, statement: &str) -> Result<(), FileFault> {
+    connection.execute(statement, &[])?;
+    Ok(())
+}
+
+/// Makes a file in which one row has these values, as SQL writes them.
+fn write_row(alloc: Global, path: &str, rt: &HostRuntime, values: &str) -> Result<(), Fail> {
+    let statement = format!(in alloc;
+        "INSERT INTO looks (hypothesis, stage, p) VALUES ({values})"
+    )?;
+    let mut connection = table::open(rt, path)?;
+    table::make(&mut connection)?;
+    execute(&mut connection, &statement)?;
+    Ok(())
+}
+
+/// Loads from such a file behind a look; answers the outcome, and how many looks there are then.
 fn load_row(
     rt: &HostRuntime,
     folder: &str,
@@ -94,16 +134,8 @@ fn load_row(
     let alloc = rt.alloc();
     new_folder(rt, folder)?;
     let path = format!(in alloc; "{folder}/looks.db")?;
-    let mut connection = table::open(rt, &path)?;
-    table::make(&mut connection)?;
-    let insertion = format!(in alloc;
-        "INSERT INTO looks (hypothesis, stage, p) VALUES ({values})"
-    )?;
-    connection.execute(&insertion, &[])?;
-    let mut keeper = SqliteKeeper::new(connection);
-    let mut looks = List::of([look(9, 9)].to_vec(alloc)?);
-    let loaded = keeper.load(alloc, &mut looks);
-    drop(keeper);
+    write_row(alloc, &path, rt, values)?;
+    let (loaded, looks) = looks_behind(alloc, &path, rt, look(9, 9)?)?;
     fs::remove_dir_all(rt, folder)?;
     Ok((loaded, looks.len()))
 }
