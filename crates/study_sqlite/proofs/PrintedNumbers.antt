@@ -11,7 +11,8 @@ use Rattle.std.proofs.lemmas.Str.Ascii.{IsAscii-cons}
 use Rattle.std.proofs.lemmas.Str.Parse.{numerals_by_value, tells_digits, parse_signed_minus, parse_signed_digits}
 
 -- the number that was printed is read
-pub parse_printed : {E : Type 0} (z : ℤ) (bs : List ℕ) (r : Result ℤ E) → FitsSigned w128 z → bs ≡ signed_decimal z → ParsesSigned w128 10 bs r → r ≡ Ok z
+pub parse_printed : {E : Type 0} (z : ℤ) (bs : List ℕ) (r : Result ℤ E)
+    → FitsSigned w128 z → bs ≡ signed_decimal z → ParsesSigned w128 10 bs r → r ≡ Ok z
 parse_printed (pos n) bs r fits is h =
     let k = decimal_is_IsNumeral_wide n (omega (arith, fits.sfits)) in
     let read = parse_signed_digits (numerals_by_value _ tells_digits) w128 (decimal n) r (subst (λ l. ParsesSigned w128 10 l r) is h) k.0.1 in

@@ -38,7 +38,9 @@ den_fits x = fits_signed_from_abs w128 x.den x.valid.den_size
 fraction_ascii : (n d : ℤ) → FitsSigned w128 n → FitsSigned w128 d → IsAscii (fraction_text n d)
 fraction_ascii n d f g =
     cond_both (int_eq d (pos 1)) (signed_decimal n) (signed_decimal n ++ 47 ∷ signed_decimal d) IsAscii
-    (λ e. printed_ascii n f) (λ e. IsAscii-append (signed_decimal n) (47 ∷ signed_decimal d) (printed_ascii n f) (IsAscii-cons 47 (signed_decimal d) (omega arith) (printed_ascii d g)))
+    (λ e. printed_ascii n f)
+    (λ e. IsAscii-append (signed_decimal n) (47 ∷ signed_decimal d) (printed_ascii n f)
+    (IsAscii-cons 47 (signed_decimal d) (omega arith) (printed_ascii d g)))
 
 pub printed_text : (x : Ratio) (text : List ℕ) → text ≡ spelling (terms x) → IsUtf8 text
 printed_text x text is = IsUtf8-from_ascii text (subst IsAscii (sym (is ∙ spelt (terms x))) (fraction_ascii x.num x.den (num_fits x) (den_fits x)))
@@ -59,7 +61,8 @@ one_number (pos m) (pos n) f g e = ap pos (one_size m n (omega (arith, f.sfits))
 one_number (pos m) (negsuc n) f g e = absurd (no_minus m (decimal (suc n)) (omega (arith, f.sfits)) e)
 one_number (negsuc m) (pos n) f g e = absurd (no_minus n (decimal (suc m)) (omega (arith, g.sfits)) (sym e))
 one_number (negsuc m) (negsuc n) f g e =
-    let same : suc m ≡ suc n = one_size (suc m) (suc n) (omega (arith, f.sfits)) (omega (arith, g.sfits)) (heads 45 45 (decimal (suc m)) (decimal (suc n)) e).1 in
+    let rest = (heads 45 45 (decimal (suc m)) (decimal (suc n)) e).1 in
+    let same : suc m ≡ suc n = one_size (suc m) (suc n) (omega (arith, f.sfits)) (omega (arith, g.sfits)) rest in
     let less : m ≡ n = omega arith in
     ap negsuc less
 
@@ -73,7 +76,8 @@ one_text x y e =
     elim (one_or_not x.den) [
       | inl one ↦ (let both = whole_only y.num y.den (signed_decimal x.num) (number_plain x.num (num_fits x)) (sym (whole_form x.num x.den one) ∙ e) in
           same_parts x y (one_number x.num y.num (num_fits x) (num_fits y) both.1) (one ∙ sym both.0))
-      | inr other ↦ (let both = pair_only y.num y.den (signed_decimal x.num) (signed_decimal x.den) (num_fits y) (number_plain x.num (num_fits x)) (sym (pair_form x.num x.den other) ∙ e) in
+      | inr other ↦ (let both = pair_only y.num y.den (signed_decimal x.num) (signed_decimal x.den) (num_fits y)
+          (number_plain x.num (num_fits x)) (sym (pair_form x.num x.den other) ∙ e) in
           same_parts x y (one_number x.num y.num (num_fits x) (num_fits y) both.1) (one_number x.den y.den (den_fits x) (den_fits y) both.2))
     ]
 
@@ -90,7 +94,8 @@ second_of : Option (ℤ × ℤ) → ℤ → ℤ
 second_of None z = z
 second_of (Some p) z = p.1
 
-pub held_terms : (n d : ℤ) → FitsSigned w128 n → FitsSigned w128 d → ◌≡◌ {A = Terms} (record { num = to_z w128 (of_z w128 n); den = to_z w128 (of_z w128 d) }) (record { num = n; den = d })
+pub held_terms : (n d : ℤ) → FitsSigned w128 n → FitsSigned w128 d
+    → ◌≡◌ {A = Terms} (record { num = to_z w128 (of_z w128 n); den = to_z w128 (of_z w128 d) }) (record { num = n; den = d })
 held_terms n d f g = ap₂ (λ a b. record { num = a; den = b }) (to_z-of_z w128 n f) (to_z-of_z w128 d g)
 
 found_by : (n d : ℤ) (x : Ratio) (text : List ℕ) → FitsSigned w128 n → FitsSigned w128 d → text ≡ fraction_text n d
@@ -103,7 +108,8 @@ found_text n d None text f g is h = tt
 found_text n d (Some x) text f g is h = found_by n d x text f g is h
 
 -- the parts of a printed fraction are those that were read
-pub read_terms : (n d : ℤ) (x : Ratio) → ◌≡◌ {A = Option (ℤ × ℤ)} (Some (n, d)) (Some (x.num, x.den)) → terms x ≡ record { num = to_z w128 (of_z w128 n); den = to_z w128 (of_z w128 d) }
+pub read_terms : (n d : ℤ) (x : Ratio) → ◌≡◌ {A = Option (ℤ × ℤ)} (Some (n, d)) (Some (x.num, x.den))
+    → terms x ≡ record { num = to_z w128 (of_z w128 n); den = to_z w128 (of_z w128 d) }
 unfolding first_of second_of
 read_terms n d x e =
     let num : n ≡ x.num = ap (λ o. first_of o x.num) e in

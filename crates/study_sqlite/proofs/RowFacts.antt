@@ -11,7 +11,8 @@ use Rattle.study_sqlite.proofs.PrintedRatios.{one_ratio}
 same_look : (first second : Look) → first.hypothesis ≡ second.hypothesis → first.stage ≡ second.stage → first.p ≡ second.p → first ≡ second
 same_look first second e f g = λ i. record { hypothesis = e i; stage = f i; p = g i }
 
-pub one_look : (hypothesis stage : ℤ) (p : List ℕ) (first second : Look) → IsRow hypothesis stage p first → IsRow hypothesis stage p second → first ≡ second
+pub one_look : (hypothesis stage : ℤ) (p : List ℕ) (first second : Look)
+    → IsRow hypothesis stage p first → IsRow hypothesis stage p second → first ≡ second
 one_look hypothesis stage p first second h k =
     let e : pos first.hypothesis ≡ pos second.hypothesis = sym h.hypothesis_is ∙ k.hypothesis_is in
     let f : pos first.stage ≡ pos second.stage = sym h.stage_is ∙ k.stage_is in
@@ -19,7 +20,8 @@ one_look hypothesis stage p first second h k =
 
 -- ---- one list of looks
 
-pub rows_more : (rows : List LookRow) (looks : List Look) (row : LookRow) (look : Look) → AreRows rows looks → IsRowOf row look → AreRows (rows ++ row ∷ []) (looks ++ look ∷ [])
+pub rows_more : (rows : List LookRow) (looks : List Look) (row : LookRow) (look : Look)
+    → AreRows rows looks → IsRowOf row look → AreRows (rows ++ row ∷ []) (looks ++ look ∷ [])
 rows_more [] [] row look h k = (k, tt)
 rows_more [] (l ∷ ls) row look h k = absurd h
 rows_more (r ∷ rs) [] row look h k = absurd h
@@ -31,7 +33,8 @@ one_reading [] [] (m ∷ ms) h k = absurd k
 one_reading [] (l ∷ ls) second h k = absurd h
 one_reading (r ∷ rs) [] second h k = absurd h
 one_reading (r ∷ rs) (l ∷ ls) [] h k = absurd k
-one_reading (r ∷ rs) (l ∷ ls) (m ∷ ms) h k = ap₂ (λ (a : Look) (b : List Look). a ∷ b) (one_look r.hypothesis r.stage r.p l m h.0 k.0) (one_reading rs ls ms h.1 k.1)
+one_reading (r ∷ rs) (l ∷ ls) (m ∷ ms) h k =
+    ap₂ (λ (a : Look) (b : List Look). a ∷ b) (one_look r.hypothesis r.stage r.p l m h.0 k.0) (one_reading rs ls ms h.1 k.1)
 
 -- ---- one first bad row
 
@@ -67,7 +70,8 @@ same_place (x ∷ b) (y ∷ c) after other row bad looks more e h k p q =
 
 pub one_place : (rows : List LookRow) (first second : ℕ) → IsFirstBad rows first → IsFirstBad rows second → first ≡ second
 one_place rows first second h k =
-    h.place_is ∙ ap (λ n. n + 1) (same_place h.before k.before h.after k.after h.row k.row h.looks k.looks (sym h.rows_are ∙ k.rows_are) h.good k.good h.bad k.bad) ∙ sym k.place_is
+    let same = same_place h.before k.before h.after k.after h.row k.row h.looks k.looks (sym h.rows_are ∙ k.rows_are) h.good k.good h.bad k.bad in
+    h.place_is ∙ ap (λ n. n + 1) same ∙ sym k.place_is
 
 -- ---- reading on
 
@@ -79,7 +83,10 @@ first_bad rows at row d looks less is good bad = record {
   row = row;
   after = drop (at + 1) rows;
   looks = looks;
-  rows_are = sym (take-append-drop (at + 1) rows) ∙ ap (λ xs. xs ++ drop (at + 1) rows) (take_more rows at d less ∙ ap (λ r. take at rows ++ r ∷ []) (sym is)) ∙ append_assoc (take at rows) (row ∷ []) (drop (at + 1) rows);
+  rows_are =
+      sym (take-append-drop (at + 1) rows)
+      ∙ ap (λ xs. xs ++ drop (at + 1) rows) (take_more rows at d less ∙ ap (λ r. take at rows ++ r ∷ []) (sym is))
+      ∙ append_assoc (take at rows) (row ∷ []) (drop (at + 1) rows);
   place_is = ap (λ n. n + 1) (sym (length-take-le at rows (omega (arith, less))));
   good = good;
   bad = bad;
@@ -90,4 +97,6 @@ pub read_more : (rows : List LookRow) (at : ℕ) (row d : LookRow) (looks more :
     → AreRows (take at rows) looks → IsRowOf row look → more ≡ looks ++ look ∷ [] → AreRows (take (at + 1) rows) more
 read_more rows at row d looks more look less is good found pushed =
     let taken : take at rows ++ row ∷ [] ≡ take (at + 1) rows = ap (λ r. take at rows ++ r ∷ []) is ∙ sym (take_more rows at d less) in
-    subst (λ ls. AreRows (take (at + 1) rows) ls) (sym pushed) (subst (λ rs. AreRows rs (looks ++ look ∷ [])) taken (rows_more (take at rows) looks row look good found))
+    let all : AreRows (take (at + 1) rows) (looks ++ look ∷ []) =
+    subst (λ rs. AreRows rs (looks ++ look ∷ [])) taken (rows_more (take at rows) looks row look good found) in
+    subst (λ ls. AreRows (take (at + 1) rows) ls) (sym pushed) all

@@ -62,7 +62,8 @@ whole_only n d over plain is =
     ]
 
 -- what is cut at a slash is a pair of printed numbers
-pub pair_only : (n d : ℤ) (over under : List ℕ) → FitsSigned w128 n → HasNoSlash over → over ++ 47 ∷ under ≡ fraction_text n d → (d ≡ pos 1 → ⊥) × (over ≡ signed_decimal n) × (under ≡ signed_decimal d)
+pub pair_only : (n d : ℤ) (over under : List ℕ) → FitsSigned w128 n → HasNoSlash over → over ++ 47 ∷ under ≡ fraction_text n d
+    → (d ≡ pos 1 → ⊥) × (over ≡ signed_decimal n) × (under ≡ signed_decimal d)
 pair_only n d over under fits plain is =
     elim (one_or_not d) [
       | inl e ↦ absurd (slash_within over under (subst HasNoSlash (sym (is ∙ whole_form n d e)) (number_plain n fits)))
@@ -79,8 +80,10 @@ front_only now n d text over (Some u) fits plain cut is = (pair_only n d over (n
 held : (m n : ℤ) → FitsSigned w128 n → Some m ≡ Some n → to_z w128 (of_z w128 m) ≡ n
 held m n fits e = let same : m ≡ n = cc in ap (λ z. to_z w128 (of_z w128 z)) same ∙ to_z-of_z w128 n fits
 
-pub whole_parts : (m n d : ℤ) → FitsSigned w128 n → Some m ≡ Some n → d ≡ pos 1 → ◌≡◌ {A = Option (ℤ × ℤ)} (Some (to_z w128 (of_z w128 m), pos 1)) (Some (n, d))
+pub whole_parts : (m n d : ℤ) → FitsSigned w128 n → Some m ≡ Some n → d ≡ pos 1
+    → ◌≡◌ {A = Option (ℤ × ℤ)} (Some (to_z w128 (of_z w128 m), pos 1)) (Some (n, d))
 whole_parts m n d fits e one = ap₂ (λ a b. Some (a, b)) (held m n fits e) (sym one)
 
-pub pair_parts : (m n c d : ℤ) → FitsSigned w128 n → FitsSigned w128 d → Some m ≡ Some n → Some c ≡ Some d → ◌≡◌ {A = Option (ℤ × ℤ)} (Some (to_z w128 (of_z w128 m), to_z w128 (of_z w128 c))) (Some (n, d))
+pub pair_parts : (m n c d : ℤ) → FitsSigned w128 n → FitsSigned w128 d → Some m ≡ Some n → Some c ≡ Some d
+    → ◌≡◌ {A = Option (ℤ × ℤ)} (Some (to_z w128 (of_z w128 m), to_z w128 (of_z w128 c))) (Some (n, d))
 pair_parts m n c d fits den e f = ap₂ (λ a b. Some (a, b)) (held m n fits e) (held c d den f)

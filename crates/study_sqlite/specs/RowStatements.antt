@@ -6,7 +6,9 @@ use Rattle.study_sqlite.specs.Rows.{IsRow, AreRows, IsFirstBad}
 
 -- no row is that of two looks
 abbrev pub RowsSayOneLook : Type 0
-RowsSayOneLook = (hypothesis stage : ℤ) (p : List ℕ) (first second : Look) → IsRow hypothesis stage p first → IsRow hypothesis stage p second → first ≡ second
+RowsSayOneLook =
+    (hypothesis stage : ℤ) (p : List ℕ) (first second : Look)
+    → IsRow hypothesis stage p first → IsRow hypothesis stage p second → first ≡ second
 
 -- no look has two rows
 abbrev pub LooksHaveOneRow : Type 0

@@ -4,7 +4,9 @@ use Rattle.study_sqlite.proofs.printed.printed_parts.Goals as goal
 
 pub returns-in_err-num-clause-only : goal.returns-in_err-num-clause-only
 returns-in_err-num-clause-only c n d fits den is =
-    let e = c.in_err-num.ensures.only n fits (front_only (λ u. u.now) n d c.args.text.now c.split_slash.result.0.now c.split_slash.result.1 fits c.split_slash.ensures.front c.split_slash.ensures.whole is) in
+    let front = front_only (λ u. u.now) n d c.args.text.now c.split_slash.result.0.now c.split_slash.result.1 fits
+    c.split_slash.ensures.front c.split_slash.ensures.whole is in
+    let e = c.in_err-num.ensures.only n fits front in
     absurd (cc)
 
 pub returns-in_err-printed_denominator-in-Some-clause-only :

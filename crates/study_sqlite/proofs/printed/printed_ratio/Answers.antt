@@ -16,4 +16,5 @@ returns-clause-found c =
 
 pub returns-clause-only : goal.returns-clause-only
 returns-clause-only c x is =
-    c.lowest_ratio.ensures.only x (read_terms c.in_ok-num.num c.in_ok-num.den x (c.in_ok-num.ensures.only x.num x.den (num_fits x) (den_fits x) (is ∙ spelt (terms x))))
+    let read = c.in_ok-num.ensures.only x.num x.den (num_fits x) (den_fits x) (is ∙ spelt (terms x)) in
+    c.lowest_ratio.ensures.only x (read_terms c.in_ok-num.num c.in_ok-num.den x read)
