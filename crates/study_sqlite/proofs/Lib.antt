@@ -1,0 +1,4 @@
+mod PrintedNumbers
+mod PrintedRatios
+mod RowFacts
+mod Slashes

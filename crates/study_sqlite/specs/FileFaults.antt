@@ -1,0 +1,18 @@
+-- What errors of statements and bad rows are to a file of looks.
+use Rattle.sqlite.specs.declared.error.Error.{Error}
+use Rattle.sqlite.specs.declared.error.Error.TheVariants.{SqliteFailure}
+use Rattle.sqlite.specs.declared.error.ErrorCode.TheVariants.{OutOfMemory}
+use Rattle.study_sqlite.specs.declared.fault.FileFault.{FileFault}
+use Rattle.study_sqlite.specs.declared.fault.FileFault.TheVariants as files
+use Rattle.study_sqlite.specs.declared.fault.RowsFault.{RowsFault}
+use Rattle.study_sqlite.specs.declared.fault.RowsFault.TheVariants as rows
+
+-- want of memory is told apart from all other errors
+abbrev pub fault_of_error : Error → FileFault
+fault_of_error (SqliteFailure OutOfMemory) = files.NoMemory
+fault_of_error error = files.Refused
+
+-- the same of rows
+abbrev pub fault_of_rows : RowsFault → FileFault
+fault_of_rows (rows.Bad place) = files.Refused
+fault_of_rows rows.NoMemory = files.NoMemory

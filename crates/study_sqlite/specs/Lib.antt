@@ -1,0 +1,5 @@
+pub mod Counting
+pub mod FileFaults
+pub mod Parts
+pub mod RowStatements
+pub mod Rows
