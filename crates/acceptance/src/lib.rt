@@ -3,7 +3,8 @@
 //! Tests through `run`, and of trials, studies and decisions on texts, with values by hand: decided cases without
 //! edges and with them, the three priorities of a case with ties, sheets, JSON, looks in each of their orders, samples,
 //! canonical texts, checks of evidence, each kind of refusal with its line, lists of words, sources and sinks that fail
-//! at each of their calls in turn, and inputs of 4,194,304 bytes and of one more.
+//! at each of their calls in turn, cases and proofs that break off at each byte, proofs with one line replaced, and
+//! quantities at their limits and one past them, inputs of 4,194,304 bytes among them.
 #![tactic(auto)]
 
 #[cfg(test)]
@@ -17,11 +18,17 @@ mod devices;
 #[cfg(test)]
 mod graphs;
 #[cfg(test)]
+mod hostile;
+#[cfg(test)]
 mod json;
+#[cfg(test)]
+mod limits;
 #[cfg(test)]
 mod named;
 #[cfg(test)]
 mod orders;
+#[cfg(test)]
+mod prefixes;
 #[cfg(test)]
 mod priorities;
 #[cfg(test)]
@@ -40,6 +47,8 @@ mod simes;
 mod stages;
 #[cfg(test)]
 mod studies;
+#[cfg(test)]
+mod tampered;
 #[cfg(test)]
 mod too_long;
 #[cfg(test)]

@@ -33,6 +33,8 @@ pub use read::read_json;
 pub use write::write_json;
 
 #[cfg(test)]
+mod places;
+#[cfg(test)]
 mod tests;
 #[cfg(test)]
 mod vectors;

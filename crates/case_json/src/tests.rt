@@ -2,7 +2,7 @@
 use crate::vectors::{
     CASES, NOT_WHOLE, NUMERALS, REFUSED, SHAPES, SYNTAX, UNKNOWN_NAMES, WEIGHTS, WRITTEN,
 };
-use crate::{ExprFault, JsonFault, read_json, write_json};
+use crate::{ExprFault, JsonFault, places, read_json, write_json};
 use fraction::NumberFault;
 use std::alloc::Global;
 use std::process::Abort;
@@ -91,16 +91,82 @@ fn drafts_that_are_refused(rt: HostRuntime) {
     expect_faults(&rt, rt.alloc(), &REFUSED, Kind::Case);
 }
 
-#[test]
-fn documents_that_say_cases(rt: HostRuntime) {
-    for (text, size, components) in &CASES {
-        match read_json(rt.alloc(), text.as_bytes()) {
+/// Each document says a case of so many hypotheses and components.
+fn expect_cases(rt: &impl Abort, alloc: Global, texts: &[(&str, usize, usize)]) {
+    for (text, size, components) in texts {
+        match read_json(alloc, text.as_bytes()) {
             Ok(case) => {
                 assert_eq!(rt; case.size(), *size, "{text}");
                 assert_eq!(rt; case.components(), *components, "{text}");
             }
             Err(_) => assert!(rt; false, "{text}"),
         }
+    }
+}
+
+#[test]
+fn documents_that_say_cases(rt: HostRuntime) {
+    expect_cases(&rt, rt.alloc(), &CASES);
+}
+
+#[test]
+fn spellings_that_say_cases(rt: HostRuntime) {
+    expect_cases(&rt, rt.alloc(), &places::CASES);
+}
+
+#[test]
+fn more_bytes_that_are_no_json(rt: HostRuntime) {
+    expect_faults(&rt, rt.alloc(), &places::SYNTAX, Kind::Syntax);
+}
+
+/// A text that isn't UTF-8.
+#[test]
+fn foreign_bytes_are_no_json(rt: HostRuntime) {
+    let read = read_json(rt.alloc(), b"{\"alpha\":\"\xff\"}");
+    assert!(rt; matches!(read, Err(JsonFault::Syntax)));
+}
+
+#[test]
+fn outer_values_of_the_wrong_kind(rt: HostRuntime) {
+    expect_faults(&rt, rt.alloc(), &places::OUTER_SHAPES, Kind::Shape);
+}
+
+#[test]
+fn components_of_the_wrong_kind(rt: HostRuntime) {
+    expect_faults(&rt, rt.alloc(), &places::COMPONENT_SHAPES, Kind::Shape);
+}
+
+#[test]
+fn stages_of_the_wrong_kind(rt: HostRuntime) {
+    expect_faults(&rt, rt.alloc(), &places::STAGE_SHAPES, Kind::Shape);
+}
+
+#[test]
+fn arrivals_of_the_wrong_kind(rt: HostRuntime) {
+    expect_faults(&rt, rt.alloc(), &places::ARRIVAL_SHAPES, Kind::Shape);
+}
+
+#[test]
+fn no_integers_of_64_bits(rt: HostRuntime) {
+    expect_faults(&rt, rt.alloc(), &places::NOT_WHOLE, Kind::NotWhole);
+}
+
+#[test]
+fn other_names(rt: HostRuntime) {
+    expect_faults(&rt, rt.alloc(), &places::UNKNOWN_NAMES, Kind::UnknownName);
+}
+
+#[test]
+fn numerals_in_each_place(rt: HostRuntime) {
+    for (text, at, why) in &places::NUMERALS {
+        expect_fault(&rt, rt.alloc(), text, at, Kind::Number(*why));
+    }
+}
+
+#[test]
+fn expressions_of_each_kind(rt: HostRuntime) {
+    for (text, at, why) in &places::WEIGHTS {
+        expect_fault(&rt, rt.alloc(), text, at, Kind::Expr(*why));
     }
 }
 
