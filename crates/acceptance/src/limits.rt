@@ -1,10 +1,8 @@
 //! Quantities at their limits, and one past them.
 use crate::runs::{TIE, TIE_DECIDED, expect_answer, list_of, repeated, status_of};
-use crate::sets::counted;
-use catalogue::{holm, sample};
+use catalogue::sample;
 use edge_text::write_text;
 use field_core::{List, NoMemory};
-use fraction::Fraction;
 use graph_io::{MemorySink, MemorySource};
 use std::alloc::Global;
 use std::process::Abort;
@@ -289,27 +287,6 @@ fn sixty_four_hypotheses_are_decided(rt: HostRuntime) -> Result<(), Fail> {
     );
     Ok(())
 }
-
-/// The text of Holm's graph over sixteen hypotheses whose p-values are 0.
-fn sixteen_zeros(alloc: Global) -> Result<List<u8>, Fail> {
-    let zero = Fraction::new(0, 1)?;
-    let case = holm(alloc, 16, Fraction::new(1, 20)?, &[zero; 16])?;
-    Ok(write_text(alloc, &case)?)
-}
-
-/// Of sixteen hypotheses that are all rejected, each bound is the size of its set. (A split text has an empty last line.)
-#[test]
-fn sixteen_hypotheses_have_bounds(rt: HostRuntime) -> Result<(), Fail> {
-    let alloc = rt.alloc();
-    let out = printed(&rt, alloc, &["bounds"], sixteen_zeros(alloc)?, 4_194_304)?;
-    assert!(rt; out.held().starts_with(SIXTEEN.as_bytes()));
-    assert_eq!(rt; counted(alloc, out.held())?, (65_538, 65_535));
-    Ok(())
-}
-
-/// The first two lines.
-const SIXTEEN: &str =
-    "bounds 16\nbound 16 of H1 H2 H3 H4 H5 H6 H7 H8 H9 H10 H11 H12 H13 H14 H15 H16\n";
 
 /// Seventeen hypotheses have too many intersections.
 const SEVENTEEN: &str =

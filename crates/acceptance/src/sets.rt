@@ -137,7 +137,7 @@ fn counts_its_names(alloc: Global, line: &[u8]) -> Result<bool, NoMemory> {
 }
 
 /// How many lines there are, and how many of them say that all of their hypotheses are discoveries.
-pub fn counted(alloc: Global, text: &[u8]) -> Result<(usize, usize), NoMemory> {
+fn counted(alloc: Global, text: &[u8]) -> Result<(usize, usize), NoMemory> {
     let mut lines: usize = 0;
     let mut bounds: usize = 0;
     for line in text.split(|byte| *byte == b'\n') {
