@@ -124,19 +124,178 @@ const REFUSED: [(&str, u8, &str); 16] = [
     ),
 ];
 
-#[test]
-fn json_is_refused(rt: HostRuntime) -> Result<(), Fail> {
-    let alloc = rt.alloc();
-    for (json, status, line) in REFUSED {
+/// A run of `test` over each document ends with its status and its line.
+fn expect_refused(
+    rt: &impl Abort,
+    alloc: Global,
+    rows: &[(&str, u8, &str)],
+) -> Result<(), NoMemory> {
+    for (json, status, line) in rows {
         let document = list_of(alloc, json.as_bytes())?;
         expect_printed(
-            &rt,
+            rt,
             alloc,
             &["test", "--form", "json"],
             document,
-            (status, line),
+            (*status, line),
         )?;
     }
+    Ok(())
+}
+
+#[test]
+fn json_is_refused(rt: HostRuntime) -> Result<(), Fail> {
+    expect_refused(&rt, rt.alloc(), &REFUSED)?;
+    Ok(())
+}
+
+/// JSON whose names, levels and graphs no case has.
+const GRAPHS: [(&str, u8, &str); 13] = [
+    (
+        "{\"alpha\":18446744073709551615,\"hypotheses\":[\"A\"],\"components\":[{\"weights\":[1],\"edges\":[]}]}",
+        4,
+        "limit: case: part alpha\n",
+    ),
+    (
+        "{\"alpha\":-1,\"hypotheses\":[\"A\"],\"components\":[{\"weights\":[1],\"edges\":[]}]}",
+        3,
+        "malformed: case: alpha\n",
+    ),
+    (
+        "{\"alpha\":1,\"hypotheses\":[],\"components\":[]}",
+        3,
+        "malformed: case: no hypothesis\n",
+    ),
+    (
+        "{\"alpha\":1,\"hypotheses\":[\"A\",\"B\",\"A\"],\"components\":[{\"weights\":[1],\"edges\":[]}]}",
+        3,
+        "malformed: case: duplicate name 3\n",
+    ),
+    (
+        "{\"alpha\":1,\"hypotheses\":[\"H 1\"],\"components\":[{\"weights\":[1],\"edges\":[]}]}",
+        3,
+        "malformed: case: name 1\n",
+    ),
+    (
+        "{\"alpha\":1,\"hypotheses\":[\"A\"],\"components\":[]}",
+        3,
+        "malformed: case: no component\n",
+    ),
+    (
+        "{\"alpha\":1,\"hypotheses\":[\"A\"],\"components\":[{\"weights\":[18446744073709551615],\"edges\":[]}]}",
+        4,
+        "limit: case: part weight of A component 1\n",
+    ),
+    (
+        "{\"alpha\":1,\"hypotheses\":[\"A\"],\"components\":[{\"share\":2,\"weights\":[1],\"edges\":[]}]}",
+        3,
+        "malformed: case: share sum\n",
+    ),
+    (
+        "{\"alpha\":1,\"hypotheses\":[\"A\"],\"components\":[{\"share\":-1,\"weights\":[1],\"edges\":[]}]}",
+        3,
+        "malformed: case: share component 1\n",
+    ),
+    (
+        "{\"alpha\":1,\"hypotheses\":[\"A\"],\"components\":[{\"weights\":[],\"edges\":[]}]}",
+        3,
+        "malformed: case: weight count component 1\n",
+    ),
+    (
+        "{\"alpha\":1,\"hypotheses\":[\"A\",\"B\"],\"components\":[{\"weights\":[1,0],\"edges\":[{\"from\":\"A\",\"to\":\"A\",\"weight\":1}]}]}",
+        3,
+        "malformed: case: self edge of A component 1\n",
+    ),
+    (
+        "{\"alpha\":1,\"hypotheses\":[\"A\",\"B\"],\"components\":[{\"weights\":[1,0],\"edges\":[{\"from\":\"A\",\"to\":\"B\",\"weight\":0},{\"from\":\"A\",\"to\":\"B\",\"weight\":\"1/2\"}]}]}",
+        3,
+        "malformed: case: repeated edge A B component 1\n",
+    ),
+    (
+        "{\"alpha\":1,\"hypotheses\":[\"A\",\"B\"],\"components\":[{\"weights\":[1,0],\"edges\":[{\"from\":\"A\",\"to\":\"B\",\"weight\":-1}]}]}",
+        3,
+        "malformed: case: edge A B component 1\n",
+    ),
+];
+
+#[test]
+fn json_of_no_graph_is_refused(rt: HostRuntime) -> Result<(), Fail> {
+    expect_refused(&rt, rt.alloc(), &GRAPHS)?;
+    Ok(())
+}
+
+/// JSON whose p-values, stages and arrivals no case has.
+const INPUTS: [(&str, u8, &str); 13] = [
+    (
+        "{\"alpha\":1,\"hypotheses\":[\"A\"],\"p\":[0,0],\"components\":[{\"weights\":[1],\"edges\":[]}]}",
+        3,
+        "malformed: case: p count 2\n",
+    ),
+    (
+        "{\"alpha\":1,\"hypotheses\":[\"A\"],\"p\":[-1],\"components\":[{\"weights\":[1],\"edges\":[]}]}",
+        3,
+        "malformed: case: p of A\n",
+    ),
+    (
+        "{\"alpha\":1,\"hypotheses\":[\"A\"],\"p\":[null],\"components\":[{\"weights\":[1],\"edges\":[]}],\"stages\":{\"count\":1,\"spend\":[[1]],\"arrivals\":[]}}",
+        3,
+        "malformed: case: mixed\n",
+    ),
+    (
+        "{\"alpha\":1,\"hypotheses\":[\"A\"],\"components\":[{\"weights\":[1],\"edges\":[]}],\"stages\":{\"count\":0,\"spend\":[[]],\"arrivals\":[]}}",
+        3,
+        "malformed: case: no stage\n",
+    ),
+    (
+        "{\"alpha\":1,\"hypotheses\":[\"A\"],\"components\":[{\"weights\":[1],\"edges\":[]}],\"stages\":{\"count\":18446744073709551615,\"spend\":[[]],\"arrivals\":[]}}",
+        4,
+        "limit: stages 18446744073709551615\n",
+    ),
+    (
+        "{\"alpha\":1,\"hypotheses\":[\"A\"],\"components\":[{\"weights\":[1],\"edges\":[]}],\"stages\":{\"count\":1,\"spend\":[],\"arrivals\":[]}}",
+        3,
+        "malformed: case: spend count 1\n",
+    ),
+    (
+        "{\"alpha\":1,\"hypotheses\":[\"A\"],\"components\":[{\"weights\":[1],\"edges\":[]}],\"stages\":{\"count\":1,\"spend\":[{\"steps\":[]}],\"arrivals\":[]}}",
+        3,
+        "malformed: case: spend count 1\n",
+    ),
+    (
+        "{\"alpha\":1,\"hypotheses\":[\"A\"],\"components\":[{\"weights\":[1],\"edges\":[]}],\"stages\":{\"count\":1,\"spend\":[[1],[1]],\"arrivals\":[]}}",
+        3,
+        "malformed: case: spend count 2\n",
+    ),
+    (
+        "{\"alpha\":1,\"hypotheses\":[\"A\"],\"components\":[{\"weights\":[1],\"edges\":[]}],\"stages\":{\"count\":1,\"spend\":[{\"steps\":[{\"from\":2,\"levels\":[0]}]}],\"arrivals\":[]}}",
+        3,
+        "malformed: case: step 1 of A\n",
+    ),
+    (
+        "{\"alpha\":1,\"hypotheses\":[\"A\"],\"components\":[{\"weights\":[1],\"edges\":[]}],\"stages\":{\"count\":1,\"spend\":[[1]],\"arrivals\":[{\"hypothesis\":\"A\",\"stage\":18446744073709551615,\"p\":0}]}}",
+        3,
+        "malformed: case: arrival 1 stage\n",
+    ),
+    (
+        "{\"alpha\":1,\"hypotheses\":[\"A\"],\"components\":[{\"weights\":[1],\"edges\":[]}],\"stages\":{\"count\":1,\"spend\":[[1]],\"arrivals\":[{\"hypothesis\":\"A\",\"stage\":0,\"p\":0}]}}",
+        3,
+        "malformed: case: arrival 1 stage\n",
+    ),
+    (
+        "{\"alpha\":1,\"hypotheses\":[\"A\"],\"components\":[{\"weights\":[1],\"edges\":[]}],\"stages\":{\"count\":1,\"spend\":[[1]],\"arrivals\":[{\"hypothesis\":\"A\",\"stage\":1,\"p\":0},{\"hypothesis\":\"A\",\"stage\":1,\"p\":1}]}}",
+        3,
+        "malformed: case: arrival 2 repeated\n",
+    ),
+    (
+        "{\"alpha\":1,\"hypotheses\":[\"A\"],\"components\":[{\"weights\":[1],\"edges\":[]}],\"stages\":{\"count\":1,\"spend\":[[1]],\"arrivals\":[{\"hypothesis\":\"A\",\"stage\":1,\"p\":2}]}}",
+        3,
+        "malformed: case: arrival 1 p\n",
+    ),
+];
+
+#[test]
+fn json_of_no_inputs_is_refused(rt: HostRuntime) -> Result<(), Fail> {
+    expect_refused(&rt, rt.alloc(), &INPUTS)?;
     Ok(())
 }
 

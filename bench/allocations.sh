@@ -1,0 +1,134 @@
+#!/bin/sh
+# Runs the program on worked cases with the first, the second, the third .. allocation refused and the others given, and then with
+# all refused from that one on. Each run has to end with status 8 and `no memory`, with status 8 and nothing where `main` found no
+# memory for its words or its file, or as the case ends with all the memory it asks for. Prints how often each came, and each run
+# that ends otherwise, with status 1 then. Stops a case after 2,000 runs or ten minutes. Nothing of it is a gate. Needs glibc and cc.
+#
+#     bench/allocations.sh [PROGRAM]
+#
+# (`rt try --fail-alloc N -- test` does one such run with every access checked, but builds the program anew for each N.)
+set -eu
+here=$(cd "$(dirname "$0")" && pwd)
+program=${1:-$here/../crates/welungad/out/welungad}
+examples=$here/../examples
+out=$here/out
+mkdir -p "$out"
+cc -shared -fPIC -O2 -o "$out/refuse.so" "$here/refuse.c"
+
+cat >"$out/looks.txt" <<'END'
+alpha 0.05
+hypotheses H1 H2
+weights 1/2 1/2
+edge H1 H2 1
+edge H2 H1 1
+stages 2
+spend H1 1/2 1/2
+spend H2 1/2 1/2
+arrive H1 1 0.02
+arrive H2 1 0.03
+arrive H1 2 0.01
+arrive H2 2 0.02
+END
+cat >"$out/proof.txt" <<'END'
+evidence 2
+step H1
+step H3
+flow 1 H1 1/2
+step H4
+flow 1 H1 [1]/[2,-1]
+flow 1 H3 [1]/[4,-2]
+step H2
+flow 1 H1 1
+flow 1 H3 [1]/[0,2]
+flow 1 H4 [1]/[0,2]
+end
+END
+cat >"$out/study.txt" <<'END'
+look H1 1 0.02
+look H2 1 0.03
+look H1 1 0.01
+show
+look H1 2 0.01
+look H2 2 0.02
+show
+END
+grep -v '^arrive ' "$out/looks.txt" >"$out/open.txt"
+echo '{"alpha":"0.025","hypotheses":["H1"],"p":["0.01"],"components":[{"weights":[1],"edges":[]}]}' >"$out/one.json"
+ended=0
+
+# one run: its number, `one` or `on`, the file and the words; the status is told behind the text
+ran() {
+    number=$1
+    kind=$2
+    file=$3
+    shift 3
+    if [ "$kind" = on ]; then export REFUSE_ON=1; else unset REFUSE_ON; fi
+    status=0
+    LD_PRELOAD=$out/refuse.so REFUSE_AT=$number REFUSE_COUNT=$out/count "$program" "$@" <"$file" >"$out/printed" 2>&1 ||
+        status=$?
+    echo "status $status" >>"$out/printed"
+}
+
+# what a run was: as the case, want of memory, want of memory with nothing printed, or something else
+kind_of() {
+    if cmp -s "$out/printed" "$out/wanted"; then
+        echo own
+    elif printf 'no memory\nstatus 8\n' | cmp -s - "$out/printed"; then
+        echo memory
+    elif printf 'status 8\n' | cmp -s - "$out/printed"; then
+        echo silent
+    else
+        echo other
+    fi
+}
+
+# all runs of a case
+tried() {
+    name=$1
+    file=$2
+    shift 2
+    ran 0 one "$file" "$@"
+    if ! grep -q '^status 0$' "$out/printed"; then
+        echo "$name: the program has no such command"
+        return 0
+    fi
+    mv "$out/printed" "$out/wanted"
+    count=$(cat "$out/count")
+    begun=$(date +%s)
+    for kind in one on; do
+        own=0 memory=0 silent=0 other=0 number=1
+        while [ "$number" -le "$count" ] && [ "$number" -le 2000 ] && [ $(($(date +%s) - begun)) -lt 600 ]; do
+            ran "$number" "$kind" "$file" "$@"
+            case $(kind_of) in
+            own) own=$((own + 1)) ;;
+            memory) memory=$((memory + 1)) ;;
+            silent) silent=$((silent + 1)) ;;
+            *)
+                other=$((other + 1))
+                ended=1
+                echo "$name: allocation $number ($kind) ends otherwise:"
+                head -c 400 "$out/printed"
+                ;;
+            esac
+            number=$((number + 1))
+        done
+        printf '%-12s %-4s %6d %6d %10d %7d %6d\n' "$name" "$kind" "$count" "$own" "$memory" "$silent" "$other"
+    done
+}
+
+printf '%-12s %-4s %6s %6s %10s %7s %6s\n' case '' asked own no-memory silent other
+tried holm "$examples/holm.txt" test
+tried improved "$examples/improved-gatekeeping.txt" test
+tried sheet "$examples/sheet.csv" canon --form csv --alpha 0.025
+tried sheet-csv "$examples/sheet.csv" canon --form csv --alpha 0.025 --to csv
+tried sheet-json "$examples/sheet.csv" canon --form csv --alpha 0.025 --to json
+tried json "$out/one.json" test --form json
+tried evidence "$examples/improved-gatekeeping.txt" evidence
+tried check "$examples/improved-gatekeeping.txt" check "$out/proof.txt"
+tried bounds "$examples/gatekeeping.txt" bounds
+tried sequence "$examples/fixed-sequence.txt" bounds
+tried weights "$examples/holm.txt" weights
+tried simes "$examples/gatekeeping.txt" simes
+tried stages "$out/looks.txt" stages
+tried study "$out/open.txt" study "$out/study.txt"
+exit $ended
