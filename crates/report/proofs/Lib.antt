@@ -3,4 +3,5 @@ pub mod Lines
 pub mod LooksOfCase
 pub mod OfCase
 pub mod StageLines
+pub mod StudyLines
 pub mod SetReports

@@ -3,7 +3,8 @@
 //! Proved: `test_text`, `stages_text`, `sample_text` and `check_text`, which give exactly the text of a decision on a case
 //! with its adjusted values (`test_report`), of looks (`stages_report`), of a sample (`sample_report`) and of evidence that
 //! holds (`check_report`), and the laws that each line of a decision, and each rejection of a look, is of a hypothesis of
-//! its case.
+//! its case. `opened_text`, `put_taken`, `put_refused` and `put_shown` put the pieces of what `study` prints
+//! (`study_report`), one behind the other.
 #![tactic(auto)]
 
 mod bounds;
@@ -11,6 +12,7 @@ mod check;
 pub mod laws;
 mod sample;
 mod stages;
+mod study;
 mod test;
 #[cfg(test)]
 mod tests;
@@ -20,5 +22,6 @@ pub use bounds::bounds_text;
 pub use check::check_text;
 pub use sample::sample_text;
 pub use stages::stages_text;
+pub use study::{opened_text, put_refused, put_shown, put_taken};
 pub use test::test_text;
 pub use weights::weights_text;
