@@ -5,6 +5,7 @@ pub mod JsonRefusal
 pub mod LinePieces
 pub mod NeedRefusal
 pub mod ProofRefusal
+pub mod RecordRefusal
 pub mod TextRefusal
 pub mod UsageRefusal
 pub mod WideRefusal

@@ -31,12 +31,24 @@ expression_refusal place Degree = limit_at place (codes "degree")
 expression_refusal place Part = limit_at place (codes "part")
 expression_refusal place Depth = limit_at place (codes "depth")
 
+-- a line at a place can't stand
+unfoldable pub placed_refusal : List ℕ → LineKind → Refusal
+placed_refusal place Unexpected = malformed_at place (codes "unexpected")
+placed_refusal place Ended = malformed_at place (codes "ended")
+placed_refusal place WordCount = malformed_at place (codes "words")
+placed_refusal place UnknownName = malformed_at place (codes "unknown name")
+placed_refusal place Whole = malformed_at place (codes "whole number")
+placed_refusal place (Number fault) = number_refusal place fault
+placed_refusal place (Expr fault) = expression_refusal place fault
+
 -- a line of a text can't stand
 unfoldable pub line_refusal : ℕ → LineKind → Refusal
-line_refusal n Unexpected = malformed_at (at_line n) (codes "unexpected")
-line_refusal n Ended = malformed_at (at_line n) (codes "ended")
-line_refusal n WordCount = malformed_at (at_line n) (codes "words")
-line_refusal n UnknownName = malformed_at (at_line n) (codes "unknown name")
-line_refusal n Whole = malformed_at (at_line n) (codes "whole number")
-line_refusal n (Number fault) = number_refusal (at_line n) fault
-line_refusal n (Expr fault) = expression_refusal (at_line n) fault
+line_refusal n kind = placed_refusal (at_line n) kind
+
+-- a line of the commands of a study, by its number from 1
+abbrev pub at_command : ℕ → List ℕ
+at_command n = codes "commands line " ++ decimal n
+
+-- a line of the commands of a study says none
+unfoldable pub commands_refusal : ℕ → LineKind → Refusal
+commands_refusal n kind = placed_refusal (at_command n) kind

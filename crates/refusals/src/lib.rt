@@ -10,6 +10,7 @@ mod json;
 mod needs;
 mod pieces;
 mod proof;
+mod record;
 #[cfg(test)]
 mod tests;
 mod text;
@@ -22,6 +23,7 @@ pub use cell::cell_refusal;
 pub use json::json_refusal;
 pub use needs::{closure_refusal, kind_refusal};
 pub use proof::{ProofPart, no_text, part_at, proof_refusal};
-pub use text::line_refusal;
+pub use record::record_refusal;
+pub use text::{commands_refusal, line_refusal};
 pub use wide::{When, wide_refusal};
 pub use words::usage;

@@ -1,7 +1,7 @@
 //! Each kind of refusal, with its line written by hand.
 use crate::{
-    ProofPart, When, case_refusal, json_refusal, kind_refusal, line_refusal, no_text,
-    proof_refusal, wide_refusal,
+    ProofPart, When, case_refusal, commands_refusal, json_refusal, kind_refusal, line_refusal,
+    no_text, proof_refusal, record_refusal, wide_refusal,
 };
 use answers::Refusal;
 use case_json::JsonFault;
@@ -233,7 +233,7 @@ const WIDE: [(usize, Place, Op, &str); 14] = [
 ];
 
 /// How a line begins.
-const BEGINNINGS: [(When, &str); 12] = [
+const BEGINNINGS: [(When, &str); 14] = [
     (When::Reading, "too wide: reading: "),
     (When::Step(0), "too wide: step 0: "),
     (When::Step(3), "too wide: step 3: "),
@@ -243,6 +243,8 @@ const BEGINNINGS: [(When, &str); 12] = [
     (When::Set(5), "too wide: set H1 dose-a: "),
     (When::Set(0), "too wide: set: "),
     (When::SimesSet(5), "too wide: simes set H1 dose-a: "),
+    (When::Look(0), "too wide: look 0: "),
+    (When::Look(12), "too wide: look 12: "),
     (When::Check(ProofPart::Step(0)), "too wide: check step 0: "),
     (
         When::Check(ProofPart::Step(12)),
@@ -392,6 +394,50 @@ fn lines_that_cannot_stand(rt: HostRuntime) -> Result<(), Fail> {
         let answer = line_refusal(rt.alloc(), line, kind)?;
         expect(&rt, &answer, status, text);
     }
+    Ok(())
+}
+
+/// Lines of commands: the number, the kind, the status and the line.
+const COMMANDS: [(usize, LineKind, u8, &str); 4] = [
+    (
+        1,
+        LineKind::WordCount,
+        3,
+        "malformed: commands line 1: words\n",
+    ),
+    (
+        12,
+        LineKind::UnknownName,
+        3,
+        "malformed: commands line 12: unknown name\n",
+    ),
+    (
+        3,
+        LineKind::Number(NumberFault::Empty),
+        3,
+        "malformed: commands line 3: number\n",
+    ),
+    (
+        100,
+        LineKind::Number(NumberFault::TooManyDigits),
+        4,
+        "limit: commands line 100: digits\n",
+    ),
+];
+
+#[test]
+fn lines_of_commands_that_cannot_stand(rt: HostRuntime) -> Result<(), Fail> {
+    for (line, kind, status, text) in COMMANDS {
+        let answer = commands_refusal(rt.alloc(), line, kind)?;
+        expect(&rt, &answer, status, text);
+    }
+    Ok(())
+}
+
+#[test]
+fn a_kept_look_that_cannot_be_taken(rt: HostRuntime) -> Result<(), Fail> {
+    let answer = record_refusal(rt.alloc(), 12)?;
+    expect(&rt, &answer, 3, "malformed: record 12\n");
     Ok(())
 }
 

@@ -1,7 +1,7 @@
 //! Lines of texts that say no draft.
 ghost use Rattle.std.specs.Prelude.{◌≡◌, ◌++◌, IfOk, codes};
 ghost use Rattle.refusals.specs.LinePieces.{malformed_at, limit_at};
-ghost use Rattle.refusals.specs.TextRefusal.{at_line, number_refusal, expression_refusal, line_refusal};
+ghost use Rattle.refusals.specs.TextRefusal.{at_line, at_command, number_refusal, expression_refusal, placed_refusal, line_refusal, commands_refusal};
 
 use crate::pieces::{malformed, past_limit, put_counting};
 use answers::{Cause, Refusal};
@@ -72,13 +72,20 @@ fn at_line(alloc: Global, line: usize) -> Result<List<u8>, NoMemory>
     Ok(place)
 }
 
-/// The refusal of a line of a text, by its number from 1, that can't stand.
-#[tactic(auto, unfolding(crate::specs::TextRefusal::line_refusal, crate::specs::LinePieces::past_limit, crate::specs::LinePieces::malformed_at, crate::specs::TextRefusal::number_refusal, crate::specs::TextRefusal::expression_refusal))]
-pub fn line_refusal(alloc: Global, line: usize, kind: LineKind) -> Result<Refusal, NoMemory>
-    ensures { IfOk result (λ refusal. refusal ≡ line_refusal line kind) }
+/// The place of a line of commands.
+fn at_command(alloc: Global, line: usize) -> Result<List<u8>, NoMemory>
+    ensures { IfOk result (λ place. place ≡ at_command line) }
 {
-    let place = at_line(alloc, line)?;
-    let place = place.as_slice();
+    let mut place = List::new(alloc);
+    put_counting(&mut place, b"commands line ", line as u128)?;
+    Ok(place)
+}
+
+/// The refusal of a line at a place that can't stand.
+#[tactic(auto, unfolding(crate::specs::TextRefusal::placed_refusal, crate::specs::LinePieces::past_limit, crate::specs::LinePieces::malformed_at, crate::specs::TextRefusal::number_refusal, crate::specs::TextRefusal::expression_refusal))]
+fn placed_refusal(alloc: Global, place: &[u8], kind: LineKind) -> Result<Refusal, NoMemory>
+    ensures { IfOk result (λ refusal. refusal ≡ placed_refusal place.now kind) }
+{
     match kind {
         LineKind::Unexpected => malformed_at(alloc, place, b"unexpected"),
         LineKind::Ended => malformed_at(alloc, place, b"ended"),
@@ -88,4 +95,22 @@ pub fn line_refusal(alloc: Global, line: usize, kind: LineKind) -> Result<Refusa
         LineKind::Number(fault) => number_refusal(alloc, place, fault),
         LineKind::Expr(fault) => expression_refusal(alloc, place, fault),
     }
+}
+
+/// The refusal of a line of a text, by its number from 1, that can't stand.
+#[tactic(auto, unfolding(crate::specs::TextRefusal::line_refusal))]
+pub fn line_refusal(alloc: Global, line: usize, kind: LineKind) -> Result<Refusal, NoMemory>
+    ensures { IfOk result (λ refusal. refusal ≡ line_refusal line kind) }
+{
+    let place = at_line(alloc, line)?;
+    placed_refusal(alloc, place.as_slice(), kind)
+}
+
+/// The refusal of a line of the commands of a study, by its number from 1, that says none.
+#[tactic(auto, unfolding(crate::specs::TextRefusal::commands_refusal))]
+pub fn commands_refusal(alloc: Global, line: usize, kind: LineKind) -> Result<Refusal, NoMemory>
+    ensures { IfOk result (λ refusal. refusal ≡ commands_refusal line kind) }
+{
+    let place = at_command(alloc, line)?;
+    placed_refusal(alloc, place.as_slice(), kind)
 }

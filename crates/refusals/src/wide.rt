@@ -11,9 +11,9 @@ use field_core::{List, NoMemory, Op, Place, Text, WideAt};
 use std::alloc::Global;
 
 /// When an operation is written: for a sum of the case, in a step of the decision, in a step of the run of adjusted values, in
-/// the run of a set of hypotheses, in Simes' test of a set, in the opening of a study, in the settling after an arrival, or in
-/// the check of evidence. Steps count from 1, and step 0 is the opening; arrivals count from 1. Bit `k` of the number of a set
-/// says whether hypothesis `k` is a member.
+/// the run of a set of hypotheses, in Simes' test of a set, in the opening of a study, in the settling after an arrival, in that
+/// after a look of a study whose looks are kept, or in the check of evidence. Steps and looks count from 1, and 0 is the opening;
+/// arrivals count from 1. Bit `k` of the number of a set says whether hypothesis `k` is a member.
 #[derive(Clone, Copy, PartialEq, Eq, Debug)]
 pub enum When {
     Reading,
@@ -23,6 +23,7 @@ pub enum When {
     SimesSet(u32),
     Opening,
     Arrival(usize),
+    Look(usize),
     Check(ProofPart),
 }
 
@@ -84,6 +85,7 @@ fn put_when(text: &mut List<u8>, names: &[Text], when: When) -> Result<(), NoMem
         When::SimesSet(set) => put_set(text, names, b"simes set", set),
         When::Opening => text.append(b"opening"),
         When::Arrival(n) => put_counting(text, b"arrival ", n as u128),
+        When::Look(n) => put_counting(text, b"look ", n as u128),
         When::Check(part) => put_check(text, names, part),
     }
 }

@@ -26,7 +26,7 @@ module _ (c : Content) where
       let rest = first_added h.1.0 new ks h.1.2 in
       (n.line ∷ rest.0, rest.1 ∙ ap (λ rs. rs ++ rest.0) n.rejected ∙ append_assoc old.rejected (n.line ∷ []) rest.0, All-cons (IsBelow (length c.names)) n.line rest.0 n.line_is.member.below rest.2)
 
-  look_below : (old new : StudyState) (a : Arrival) (added : List Settled) → IsLook c old a added new → AreRejectionsOf c added
+  pub look_below : (old new : StudyState) (a : Arrival) (added : List Settled) → IsLook c old a added new → AreRejectionsOf c added
   look_below old new a added h =
       let f = first_added h.arrived new h.settles.hypotheses h.settles.rejections in
       let same : added ≡ f.0 = added_same c old.rejected added f.0 (sym h.rejected ∙ f.1 ∙ ap (λ rs. rs ++ f.0) h.arrival.rejected) in

@@ -4,7 +4,8 @@
 //! with its adjusted values (`test_report`), of looks (`stages_report`), of a sample (`sample_report`) and of evidence that
 //! holds (`check_report`); `weights_text`, `bounds_text` and `simes_text`, which give that of all sets in their order
 //! (`weights_report`, `bounds_report`, `simes_report`); and the laws that each line of a decision, and each rejection of a
-//! look, is of a hypothesis of its case.
+//! look, is of a hypothesis of its case. `opened_text`, `put_taken`, `put_refused` and `put_shown` put the pieces of what
+//! `study` prints (`study_report`), one behind the other.
 #![tactic(auto)]
 
 mod bounds;
@@ -13,6 +14,7 @@ pub mod laws;
 mod sample;
 mod simes;
 mod stages;
+mod study;
 mod test;
 #[cfg(test)]
 mod tests;
@@ -23,5 +25,6 @@ pub use check::check_text;
 pub use sample::sample_text;
 pub use simes::simes_text;
 pub use stages::stages_text;
+pub use study::{opened_text, put_refused, put_shown, put_taken};
 pub use test::test_text;
 pub use weights::weights_text;

@@ -55,7 +55,11 @@ fn put_rejection(text: &mut List<u8>, case: &Case, rejection: &Settled) -> Resul
 }
 
 /// Appends the rejections of a look.
-fn put_rejections(text: &mut List<u8>, case: &Case, look: &[Settled]) -> Result<(), NoMemory>
+pub(crate) fn put_rejections(
+    text: &mut List<u8>,
+    case: &Case,
+    look: &[Settled],
+) -> Result<(), NoMemory>
     requires { AreRejectionsOf (content case.now) look.now }
     ensures { OnOk result (text.new ≡ text.old ++ flat_map (reject_line (content case.now)) look.now) }
 {
@@ -100,7 +104,7 @@ fn put_looks(
 }
 
 /// Whether the hypothesis at a position is rejected in a look.
-fn is_among(look: &[Settled], j: usize) -> bool
+pub(crate) fn is_among(look: &[Settled], j: usize) -> bool
     ensures { result ≡ list_any (λ r. r.hypothesis == j) look.now }
 {
     look.iter().any(|rejection| rejection.hypothesis == j)

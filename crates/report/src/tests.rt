@@ -5,14 +5,16 @@ ghost use Rattle.case_model.specs.Draft.{have_known_ends, have_known_arrivals};
 ghost use Rattle.case_model.specs.CaseView.{content};
 ghost use Rattle.report.specs.TestReport.{AreOfCase};
 
-use crate::{check_text, simes_text, test_text};
+use crate::{check_text, opened_text, put_refused, put_shown, put_taken, simes_text, test_text};
 use adjusted_p::Adjusted;
 use case_model::{Case, Draft, DraftComponent, SetTable};
 use discovery_bound::Bounds;
 use evidence_check::read;
 use field_core::{List, NoMemory, Number, Text};
 use fraction::{Fraction, FractionFault};
+use graph_io::Look;
 use sequential::{Decision, StepLine, is_single};
+use staged_levels::{Settled, StepFault};
 use std::alloc::Global;
 use std::process::Abort;
 use std::test::Fail;
@@ -367,5 +369,47 @@ fn simes(rt: HostRuntime) -> Result<(), Fail> {
     assert!(rt; case.size() == 2);
     let text = simes_text(rt.alloc(), &case, &bounds, &closed, &[1, 0])?;
     assert_eq!(rt; text.as_slice(), SECOND_REJECTED.as_bytes());
+    Ok(())
+}
+
+/// A rejection, of which only the hypothesis is printed.
+fn rejection(hypothesis: usize) -> Settled {
+    Settled {
+        hypothesis,
+        stage: 1,
+        weight: Fraction::one(),
+    }
+}
+
+#[test]
+fn replies(rt: HostRuntime) -> Result<(), Fail> {
+    let case = case(rt.alloc(), &ALL_REJECTED)?;
+    let mut text = opened_text(rt.alloc(), &case, 12)?;
+    put_refused(&mut text, 3, &StepFault::Known(0, 1))?;
+    put_refused(&mut text, 10, &StepFault::StageRange(0))?;
+    put_refused(&mut text, 11, &StepFault::PRange)?;
+    put_shown(&mut text, &case, 14, &[rejection(2), rejection(0)])?;
+    let printed = "alpha 1/40\nrecords 12\nrefused 3: known\nrefused 10: stage\nrefused 11: range\n\
+        show looks 14 rejected H1 H3\n";
+    assert_eq!(rt; text.as_slice(), printed.as_bytes());
+    Ok(())
+}
+
+#[test]
+fn a_look_without_rejections(rt: HostRuntime) -> Result<(), Fail> {
+    let case = case(rt.alloc(), &ALL_REJECTED)?;
+    let look = Look {
+        hypothesis: 1,
+        stage: 2,
+        p: fraction((3, 100))?.ratio(),
+    };
+    assert!(rt; 1 < case.size());
+    let mut text = List::new(rt.alloc());
+    put_taken(&mut text, &case, &look, &[])?;
+    put_shown(&mut text, &case, 1, &[])?;
+    assert_eq!(rt;
+        text.as_slice(),
+        b"look H2 2 3/100\nshow looks 1 rejected\n".as_slice()
+    );
     Ok(())
 }

@@ -16,7 +16,7 @@ use Rattle.study_register.specs.declared.fault.RegisterFault.{RegisterFault}
 use Rattle.study_register.specs.declared.fault.RegisterFault.TheVariants.{BadLook, Wide, Fault, NoMemory}
 use Rattle.study_register.specs.declared.fault.AddFault.{AddFault}
 use Rattle.study_register.specs.Looking.{Takes}
-use Rattle.study_register.specs.RegisterFaults.{IsFirstStop, IsStopped, IsRegisterFault, IsAddFault}
+use Rattle.study_register.specs.RegisterFaults.{IsFirstStop, IsStopped, IsRegisterFault, IsAddFault, IfLooksRefused}
 use Rattle.study_register.specs.RegisterView.{of_loading, of_appending}
 
 -- a fault that is handed on
@@ -52,3 +52,15 @@ appended_fault c s t l before now keepers.NoMemory T h = (t, T)
 -- where the appending fails
 pub appending_fault : (c : Content) (s t : StudyState) (l : Look) (before now : ℕ) (why : KeeperFault) (end : AddFault) → end ≡ of_appending why → Takes c s l t → CausedBy before now why → IsAddFault c s l (Rose before now) end
 appending_fault c s t l before now why end e T h = subst (IsAddFault c s l (Rose before now)) (sym e) (appended_fault c s t l before now why T h)
+
+-- a fact, also where something is refused
+pub refused_too : (p : Type 0) (why : RegisterFault) → p → IfLooksRefused p why
+refused_too p (BadLook n l) h = h
+refused_too p (Wide n w) h = h
+refused_too p Fault h = tt
+refused_too p NoMemory h = tt
+
+-- a loading refuses no look
+pub loading_refuses_none : (p : Type 0) (why : KeeperFault) → IfLooksRefused p (of_loading why)
+loading_refuses_none p keepers.Fault = tt
+loading_refuses_none p keepers.NoMemory = tt

@@ -67,7 +67,7 @@ module _ (c : Content) where
   follows_settled [] old new S h = subst (IsSettled c) (sym h) S
   follows_settled (l ∷ ls) old new S h = follows_settled ls h.0 new h.1.1.settles.settled h.2
 
-  follows_values : (ls : List Look) (old new : StudyState) → Follows c old ls new → new.values ≡ old.values ++ arrivals_of ls
+  pub follows_values : (ls : List Look) (old new : StudyState) → Follows c old ls new → new.values ≡ old.values ++ arrivals_of ls
   follows_values [] old new h = ap (λ s. s.values) h ∙ sym (append-nil old.values)
   follows_values (l ∷ ls) old new h =
       follows_values ls h.0 new h.2 ∙ ap (λ vs. vs ++ arrivals_of ls) (look_values c old h.0 (arrival_of l) h.1.0 h.1.1)

@@ -61,6 +61,13 @@ module _ (c : Content) where
   IsAddFault s l rose additions.Fault = (new : StudyState) × Takes c s l new × rose
   IsAddFault s l rose additions.NoMemory = (new : StudyState) × Takes c s l new
 
+-- a fact where the opening of the case or a look that is kept is refused
+abbrev pub IfLooksRefused : Type 0 → RegisterFault → Type 0
+IfLooksRefused p (BadLook n l) = p
+IfLooksRefused p (Wide n w) = p
+IfLooksRefused p Fault = Unit {0}
+IfLooksRefused p NoMemory = Unit {0}
+
 -- a fact where the arrival was refused
 abbrev pub IfNotTaken : Type 0 → TakeFault → Type 0
 IfNotTaken p (takings.Refused f) = p

@@ -1,5 +1,5 @@
 //! Registers of looks.
-ghost use Rattle.std.specs.Prelude.{◌≡◌, ◌<◌, ◌≤◌, OnOk, OnErr, IfOk, IfErr, false, length};
+ghost use Rattle.std.specs.Prelude.{◌≡◌, ◌<◌, ◌≤◌, ◌+◌, OnOk, OnErr, IfOk, IfErr, false, length};
 ghost use Rattle.graph_io.specs.Causes.{Rose};
 ghost use Rattle.graph_io.specs.Keeping.{with_look};
 ghost use Rattle.case_model.specs.Content.{Content};
@@ -7,7 +7,7 @@ ghost use Rattle.case_model.specs.CaseView.{content};
 ghost use Rattle.staged_levels.specs.StudyAnswers.{IsStaged};
 ghost use Rattle.staged_levels.specs.StudyContents.{IsStudy, size_of};
 ghost use Rattle.study_register.specs.Looking.{Takes, AreTaken};
-ghost use Rattle.study_register.specs.RegisterFaults.{OnLooks, IsRegisterFault, IsAddFault, IfRefused, IfNotAsked, spent_after};
+ghost use Rattle.study_register.specs.RegisterFaults.{OnLooks, IsRegisterFault, IsAddFault, IfLooksRefused, IfRefused, IfNotAsked, spent_after};
 
 use crate::taking::{TakeFault, follow, take};
 use crate::{AddFault, RegisterFault};
@@ -54,6 +54,7 @@ impl Register {
         ensures kept { K.looks keeper.new ≡ K.looks keeper.old }
         ensures later { K.faults keeper.old ≤ K.faults keeper.new }
         ensures counted { OnOk result (K.faults keeper.new ≡ K.faults keeper.old) }
+        ensures steady { IfErr result (IfLooksRefused (K.faults keeper.new ≡ K.faults keeper.old)) }
     {
         let mut study = Study::open(alloc, case)?;
         let mut looks = List::new(alloc);
@@ -84,6 +85,13 @@ impl Register {
         ensures { result ≡ length (looks_in self.now).values }
     {
         self.study.values().len()
+    }
+
+    /// The place, counted from 1, of the look that would arrive next.
+    pub fn next_place(&self) -> usize
+        ensures { result ≡ length (looks_in self.now).values + 1 }
+    {
+        self.study.values().len() + 1
     }
 
     /// The rejections in their order, each with its stage and its weight at its moment. Where these looks were taken, whatever their

@@ -3,9 +3,9 @@ use Rattle.graph_io.specs.Causes.{Rose}
 use Rattle.case_model.specs.CaseView.{content}
 use Rattle.staged_levels.specs.StudyView.{study}
 use Rattle.study_register.specs.Looking.{Follows}
-use Rattle.study_register.specs.RegisterFaults.{IsFirstStop, IsRegisterFault}
+use Rattle.study_register.specs.RegisterFaults.{IsFirstStop, IsRegisterFault, IfLooksRefused}
 use Rattle.study_register.specs.RegisterView.{of_loading}
-use Rattle.study_register.proofs.RegisterSteps.{handed_on, opened_defined, stopped_fault, loading_fault}
+use Rattle.study_register.proofs.RegisterSteps.{handed_on, opened_defined, stopped_fault, loading_fault, refused_too, loading_refuses_none}
 use Rattle.study_register.proofs.register.Register.open.Goals as goal
 
 pub returns-in_err-load-clause-fault : goal.returns-in_err-load-clause-fault
@@ -41,3 +41,13 @@ returns-clause-taken g c =
       },
       L.2,
     )
+
+pub returns-in_err-load-clause-steady : goal.returns-in_err-load-clause-steady
+returns-in_err-load-clause-steady g c =
+    let same = g.K.Keeper.faults c.load.new.self ≡ g.K.Keeper.faults c.args.keeper.now in
+    handed_on _ (IfLooksRefused same) (of_loading c.in_err-load.field-0.0) c.from_residual-in_err-load.ensures.1 (loading_refuses_none same c.in_err-load.field-0.0)
+
+pub returns-in_err-follow-clause-steady : goal.returns-in_err-follow-clause-steady
+returns-in_err-follow-clause-steady g c =
+    let same = g.K.Keeper.faults c.load.new.self ≡ g.K.Keeper.faults c.args.keeper.now in
+    handed_on _ (IfLooksRefused same) c.in_err-follow.field-0.0 c.from_residual-in_err-follow.ensures.1 (refused_too same c.in_err-follow.field-0.0 c.in_ok-load.ensures.cause.cause)

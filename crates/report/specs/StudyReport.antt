@@ -1,0 +1,74 @@
+-- What the command `study` prints of a case and its replies to commands.
+use Rattle.std.specs.Prelude.{ℕ, ◌<◌, ◌==◌, Bool, List, [], ◌∷◌, ◌++◌, length, codes, if◌then◌else◌}
+use Rattle.std.specs.Fmt.{decimal}
+use Rattle.std.specs.List.{flat_map, list_any, range_with_len}
+use Rattle.answers.specs.Lines.{line}
+use Rattle.field_core.specs.View.{terms}
+use Rattle.fraction.specs.Spelling.{spelling}
+use Rattle.graph_io.specs.declared.keeper.Look.{Look}
+use Rattle.case_model.specs.Content.{Content}
+use Rattle.staged_levels.specs.declared.event.Settled.{Settled}
+use Rattle.staged_levels.specs.declared.event.StepFault.{StepFault}
+use Rattle.staged_levels.specs.declared.event.StepFault.TheVariants.{Known, StageRange, PRange, Rejected, NotLegal, Wide}
+use Rattle.report.specs.TestReport.{spaced_name, alpha_line}
+use Rattle.report.specs.StagesReport.{reject_line}
+
+-- A reply to a command.
+pub data Reply : Type 0 where
+  -- a look was taken, and it brought these rejections
+  taken : (look : Look) (rejections : List Settled) → Reply
+  -- the command of this number, from 1, asked for a look that is refused
+  refused : (number : ℕ) (fault : StepFault) → Reply
+  -- so many looks have arrived, and these are rejected
+  shown : (looks : ℕ) (rejections : List Settled) → Reply
+
+-- the line of a look: the hypothesis, the stage and the p-value
+unfoldable pub look_line : Content → Look → List ℕ
+look_line case l = line (codes "look" ++ spaced_name case l.hypothesis ++ codes " " ++ decimal l.stage ++ codes " " ++ spelling (terms l.p))
+
+-- a look, and the rejections that it brings
+unfoldable pub taken_lines : Content → Look → List Settled → List ℕ
+taken_lines case l rejections = look_line case l ++ flat_map (reject_line case) rejections
+
+-- why an arrival is refused; nothing, where something else is
+abbrev pub refusal_word : StepFault → List ℕ
+refusal_word (StageRange t) = codes "stage"
+refusal_word (Known i t) = codes "known"
+refusal_word PRange = codes "range"
+refusal_word (Rejected i) = []
+refusal_word (NotLegal i) = []
+refusal_word (Wide w) = []
+
+-- the line of a look that is refused
+unfoldable pub refused_line : ℕ → StepFault → List ℕ
+refused_line number fault = line (codes "refused " ++ decimal number ++ codes ": " ++ refusal_word fault)
+
+-- the hypothesis at a position is one of those that are rejected
+unfoldable pub is_among : List Settled → ℕ → Bool
+is_among rejections j = list_any (λ r. r.hypothesis == j) rejections
+
+-- a space and the name of the hypothesis at a position, where it is rejected; else nothing
+abbrev pub name_if_among : Content → List Settled → ℕ → List ℕ
+name_if_among case rejections j = if is_among rejections j then spaced_name case j else []
+
+-- the names of the hypotheses that are rejected, by ascending position
+abbrev pub names_among : Content → List Settled → List ℕ
+names_among case rejections = flat_map (name_if_among case rejections) (range_with_len 0 (length case.names))
+
+-- the line of the number of looks and of the names of the hypotheses that are rejected
+unfoldable pub shown_line : Content → ℕ → List Settled → List ℕ
+shown_line case looks rejections = line (codes "show looks " ++ decimal looks ++ codes " rejected" ++ names_among case rejections)
+
+-- the lines of a reply
+abbrev pub reply_lines : Content → Reply → List ℕ
+reply_lines case (taken l rejections) = taken_lines case l rejections
+reply_lines case (refused number fault) = refused_line number fault
+reply_lines case (shown looks rejections) = shown_line case looks rejections
+
+-- the level, and the number of looks that were kept before
+unfoldable pub opened_lines : Content → ℕ → List ℕ
+opened_lines case records = alpha_line case ++ line (codes "records " ++ decimal records)
+
+-- the level, the number of looks that were kept before, the replies in their order, and the last line
+unfoldable pub study_report : Content → ℕ → List Reply → List ℕ
+study_report case records replies = opened_lines case records ++ flat_map (reply_lines case) replies ++ line (codes "end")

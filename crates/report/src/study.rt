@@ -1,0 +1,126 @@
+//! What the command `study` prints.
+ghost use Rattle.std.specs.Prelude.{◌≡◌, ◌==◌, ◌<◌, ◌++◌, IfOk, OnOk, length};
+ghost use Rattle.std.specs.List.{flat_map, list_any, range_with_len};
+ghost use Rattle.case_model.specs.CaseView.{content};
+ghost use Rattle.report.specs.StagesReport.{AreRejectionsOf};
+ghost use Rattle.report.specs.StudyReport.{look_line, taken_lines, refusal_word, refused_line, name_if_among, names_among, shown_line, opened_lines};
+
+use crate::stages::{is_among, put_rejections};
+use crate::test::{put_alpha, put_name};
+use case_model::Case;
+use field_core::{List, NoMemory};
+use fraction::Fraction;
+use graph_io::Look;
+use staged_levels::{Settled, StepFault};
+use std::alloc::Global;
+
+/// Appends a look.
+#[tactic(auto, unfolding(crate::specs::StudyReport::look_line))]
+fn put_look(text: &mut List<u8>, case: &Case, look: &Look) -> Result<(), NoMemory>
+    requires { look.now.hypothesis < length (content case.now).names }
+    ensures { OnOk result (text.new ≡ text.old ++ look_line (content case.now) look.now) }
+{
+    text.append(b"look")?;
+    put_name(text, case, look.hypothesis as usize)?;
+    text.append(b" ")?;
+    text.append_unsigned(look.stage as u128)?;
+    text.append(b" ")?;
+    Fraction::of(look.p).print(text)?;
+    text.push(b'\n')
+}
+
+/// Appends a look that was taken, and the rejections that it brings. `NoMemory` where memory runs out.
+#[tactic(auto, unfolding(crate::specs::StudyReport::taken_lines))]
+pub fn put_taken(
+    text: &mut List<u8>,
+    case: &Case,
+    look: &Look,
+    rejections: &[Settled],
+) -> Result<(), NoMemory>
+    requires below { look.now.hypothesis < length (content case.now).names }
+    requires rejections { AreRejectionsOf (content case.now) rejections.now }
+    ensures { OnOk result (text.new ≡ text.old ++ taken_lines (content case.now) look.now rejections.now) }
+{
+    put_look(text, case, look)?;
+    put_rejections(text, case, rejections)
+}
+
+/// Why an arrival is refused; nothing, where something else is.
+fn refusal_word(fault: &StepFault) -> &'static [u8]
+    ensures { result.now ≡ refusal_word fault.now }
+{
+    match fault {
+        StepFault::StageRange(_) => b"stage",
+        StepFault::Known(_, _) => b"known",
+        StepFault::PRange => b"range",
+        _ => b"",
+    }
+}
+
+/// Appends that the command of a number, from 1, asked for a look that is refused. `NoMemory` where memory runs out.
+#[tactic(auto, unfolding(crate::specs::StudyReport::refused_line))]
+pub fn put_refused(text: &mut List<u8>, number: usize, fault: &StepFault) -> Result<(), NoMemory>
+    ensures { OnOk result (text.new ≡ text.old ++ refused_line number fault.now) }
+{
+    text.append(b"refused ")?;
+    text.append_unsigned(number as u128)?;
+    text.append(b": ")?;
+    text.append(refusal_word(fault))?;
+    text.push(b'\n')
+}
+
+/// Appends the name of the hypothesis at a position, where it is rejected.
+fn put_if_among(
+    text: &mut List<u8>,
+    case: &Case,
+    rejections: &[Settled],
+    j: usize,
+) -> Result<(), NoMemory>
+    requires { j < length (content case.now).names }
+    ensures { OnOk result (text.new ≡ text.old ++ name_if_among (content case.now) rejections.now j) }
+{
+    if !is_among(rejections, j) {
+        return Ok(());
+    }
+    put_name(text, case, j)
+}
+
+/// Appends the names of the hypotheses that are rejected.
+fn put_names_among(text: &mut List<u8>, case: &Case, rejections: &[Settled]) -> Result<(), NoMemory>
+    ensures { OnOk result (text.new ≡ text.old ++ names_among (content case.now) rejections.now) }
+{
+    for j in 0..case.size() {
+        put_if_among(text, case, rejections, j)?;
+    }
+    Ok(())
+}
+
+/// Appends how many looks have arrived, and the names of the hypotheses that are rejected. `NoMemory` where memory runs out.
+#[tactic(auto, unfolding(crate::specs::StudyReport::shown_line))]
+pub fn put_shown(
+    text: &mut List<u8>,
+    case: &Case,
+    looks: usize,
+    rejections: &[Settled],
+) -> Result<(), NoMemory>
+    ensures { OnOk result (text.new ≡ text.old ++ shown_line (content case.now) looks rejections.now) }
+{
+    text.append(b"show looks ")?;
+    text.append_unsigned(looks as u128)?;
+    text.append(b" rejected")?;
+    put_names_among(text, case, rejections)?;
+    text.push(b'\n')
+}
+
+/// The lines before the replies: the level, and the number of looks that were kept before. `NoMemory` where memory runs out.
+#[tactic(auto, unfolding(crate::specs::StudyReport::opened_lines))]
+pub fn opened_text(alloc: Global, case: &Case, records: usize) -> Result<List<u8>, NoMemory>
+    ensures { IfOk result (λ text. text ≡ opened_lines (content case.now) records) }
+{
+    let mut text = List::new(alloc);
+    put_alpha(&mut text, case)?;
+    text.append(b"records ")?;
+    text.append_unsigned(records as u128)?;
+    text.push(b'\n')?;
+    Ok(text)
+}

@@ -1,0 +1,4 @@
+pub mod CommandDecisions
+pub mod CommandLaws
+pub mod CommandReads
+pub mod Looks

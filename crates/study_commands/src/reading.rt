@@ -1,0 +1,33 @@
+//! The reader of commands.
+ghost use Rattle.std.specs.Prelude.{IfOk, IfErr, length};
+ghost use Rattle.std.specs.List.{AllByRecursion};
+ghost use Rattle.case_model.specs.CaseView.{content};
+ghost use Rattle.study_commands.specs.CommandLines.{AreCommands, IsBelow};
+ghost use Rattle.study_commands.specs.CommandFaults.{IsCommandsFault};
+
+use crate::{CommandsFault, StudyCommand, rules};
+use case_model::Case;
+use field_core::List;
+use std::alloc::Global;
+use text_lines::Lines;
+
+/// The commands that a text says for a case, or the first line that says none, or `NoMemory`.
+///
+/// Words and lines are those of `text_lines`. A line is `look NAME K N`, the name of a hypothesis, the number of a stage in 1 to 9
+/// digits and a numeral, or `show`. Within a line the first word is tested first, then the number of words, then what follows
+/// from left to right.
+pub fn read_commands(
+    alloc: Global,
+    case: &Case,
+    bytes: &[u8],
+) -> Result<List<StudyCommand>, CommandsFault>
+    ensures found { IfOk result (AreCommands (content case.now).names bytes.now) }
+    ensures below { IfOk result (AllByRecursion (IsBelow (length (content case.now).names))) }
+    ensures fault { IfErr result (IsCommandsFault (content case.now).names bytes.now) }
+{
+    let mut commands = List::new(alloc);
+    for line in Lines::new(bytes) {
+        commands.push(rules::command(&line, case)?)?;
+    }
+    Ok(commands)
+}
