@@ -2,7 +2,7 @@
 //!
 //! Tests through `run`, and of trials, studies and decisions on texts, with values by hand: decided cases without
 //! edges and with them, the three priorities of a case with ties, sheets, JSON, looks in each of their orders, samples,
-//! canonical texts, checks of evidence, each kind of refusal with its line, lists of words, sources and sinks that fail
+//! canonical texts, evidence and its checks, each kind of refusal with its line, lists of words, sources and sinks that fail
 //! at each of their calls in turn, and inputs of 4,194,304 bytes and of one more.
 #![tactic(auto)]
 
@@ -14,6 +14,8 @@ mod checks;
 mod decided;
 #[cfg(test)]
 mod devices;
+#[cfg(test)]
+mod evidence;
 #[cfg(test)]
 mod graphs;
 #[cfg(test)]

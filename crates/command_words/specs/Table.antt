@@ -17,6 +17,7 @@ unfoldable pub verb_name : Verb → List ℕ
 verb_name verbs.Test = codes "test"
 verb_name verbs.Weights = codes "weights"
 verb_name verbs.Bounds = codes "bounds"
+verb_name verbs.Evidence = codes "evidence"
 verb_name verbs.Stages = codes "stages"
 verb_name verbs.Check = codes "check"
 verb_name verbs.Canon = codes "canon"
@@ -29,6 +30,7 @@ unfoldable pub options_of : Verb → List Argument
 options_of verbs.Test = arguments.Form ∷ arguments.Alpha ∷ arguments.Priority ∷ []
 options_of verbs.Weights = arguments.Form ∷ arguments.Alpha ∷ []
 options_of verbs.Bounds = arguments.Form ∷ arguments.Alpha ∷ []
+options_of verbs.Evidence = arguments.Form ∷ arguments.Alpha ∷ arguments.Priority ∷ []
 options_of verbs.Stages = arguments.Form ∷ []
 options_of verbs.Check = arguments.Form ∷ arguments.Alpha ∷ []
 options_of verbs.Canon = arguments.Form ∷ arguments.Alpha ∷ arguments.To ∷ []
@@ -47,6 +49,7 @@ unfoldable pub forms_of : Verb → List Form
 forms_of verbs.Test = Text ∷ Csv ∷ Json ∷ []
 forms_of verbs.Weights = Text ∷ Csv ∷ Json ∷ []
 forms_of verbs.Bounds = Text ∷ Csv ∷ Json ∷ []
+forms_of verbs.Evidence = Text ∷ Csv ∷ Json ∷ []
 forms_of verbs.Stages = Text ∷ Json ∷ []
 forms_of verbs.Check = Text ∷ Csv ∷ Json ∷ []
 forms_of verbs.Canon = Text ∷ Csv ∷ Json ∷ []

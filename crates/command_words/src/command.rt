@@ -11,6 +11,7 @@ pub enum CaseTask {
     Test(Priority),
     Weights,
     Bounds,
+    Evidence(Priority),
     Stages,
     Canon(Form),
 }

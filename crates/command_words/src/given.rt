@@ -153,6 +153,9 @@ impl Given {
             Verb::Test => self.on_case(CaseTask::Test(self.priority.unwrap_or(Priority::First))),
             Verb::Weights => self.on_case(CaseTask::Weights),
             Verb::Bounds => self.on_case(CaseTask::Bounds),
+            Verb::Evidence => {
+                self.on_case(CaseTask::Evidence(self.priority.unwrap_or(Priority::First)))
+            }
             Verb::Stages => self.on_case(CaseTask::Stages),
             Verb::Check => self.check(),
             Verb::Canon => self.on_case(CaseTask::Canon(self.to.unwrap_or(Form::Text))),

@@ -11,6 +11,7 @@ help_text =
     line (codes "test [--form F] [--alpha N] [--priority P]") ++
     line (codes "weights [--form F] [--alpha N]") ++
     line (codes "bounds [--form F] [--alpha N]") ++
+    line (codes "evidence [--form F] [--alpha N] [--priority P]") ++
     line (codes "check FILE [--form F] [--alpha N]") ++
     line (codes "stages [--form F]") ++
     line (codes "canon [--form F] [--alpha N] [--to F]") ++
