@@ -2,7 +2,7 @@
 //!
 //! Tests through `run`, and of trials, studies and decisions on texts, with values by hand: decided cases without
 //! edges and with them, the three priorities of a case with ties, sheets, JSON, looks in each of their orders, samples,
-//! canonical texts, checks of evidence, each kind of refusal with its line, lists of words, sources and sinks that fail
+//! canonical texts, evidence and its checks, each kind of refusal with its line, lists of words, sources and sinks that fail
 //! at each of their calls in turn, cases and proofs that break off at each byte, proofs with one line replaced, and
 //! quantities at their limits and one past them, inputs of 4,194,304 bytes among them.
 #![tactic(auto)]
@@ -15,6 +15,8 @@ mod checks;
 mod decided;
 #[cfg(test)]
 mod devices;
+#[cfg(test)]
+mod evidence;
 #[cfg(test)]
 mod graphs;
 #[cfg(test)]

@@ -22,6 +22,7 @@ verb_of name =
     else if bytes_eq name (codes "weights") then verbs.Weights
     else if bytes_eq name (codes "bounds") then verbs.Bounds
     else if bytes_eq name (codes "simes") then verbs.Simes
+    else if bytes_eq name (codes "evidence") then verbs.Evidence
     else if bytes_eq name (codes "catalogue") then verbs.Catalogue
     else if bytes_eq name (codes "check") then verbs.Check
     else if bytes_eq name (codes "canon") then verbs.Canon else if bytes_eq name (codes "sample") then verbs.Sample else verbs.Help
@@ -32,6 +33,7 @@ verb_back verbs.Test = refl
 verb_back verbs.Weights = refl
 verb_back verbs.Bounds = refl
 verb_back verbs.Simes = refl
+verb_back verbs.Evidence = refl
 verb_back verbs.Stages = refl
 verb_back verbs.Check = refl
 verb_back verbs.Canon = refl

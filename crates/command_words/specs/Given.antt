@@ -136,6 +136,7 @@ asked_of verbs.Test g = on_case g (tasks.Test (priority_or_first g.priority))
 asked_of verbs.Weights g = on_case g tasks.Weights
 asked_of verbs.Bounds g = on_case g tasks.Bounds
 asked_of verbs.Simes g = on_case g tasks.Simes
+asked_of verbs.Evidence g = on_case g (tasks.Evidence (priority_or_first g.priority))
 asked_of verbs.Stages g = on_case g tasks.Stages
 asked_of verbs.Check g = check_of g
 asked_of verbs.Canon g = on_case g (tasks.Canon (form_or_text g.to))

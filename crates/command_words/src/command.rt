@@ -12,6 +12,7 @@ pub enum CaseTask {
     Weights,
     Bounds,
     Simes,
+    Evidence(Priority),
     Stages,
     Canon(Form),
 }

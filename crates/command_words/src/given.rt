@@ -154,6 +154,9 @@ impl Given {
             Verb::Weights => self.on_case(CaseTask::Weights),
             Verb::Bounds => self.on_case(CaseTask::Bounds),
             Verb::Simes => self.on_case(CaseTask::Simes),
+            Verb::Evidence => {
+                self.on_case(CaseTask::Evidence(self.priority.unwrap_or(Priority::First)))
+            }
             Verb::Stages => self.on_case(CaseTask::Stages),
             Verb::Check => self.check(),
             Verb::Canon => self.on_case(CaseTask::Canon(self.to.unwrap_or(Form::Text))),

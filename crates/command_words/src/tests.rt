@@ -66,6 +66,12 @@ fn words_give_values(rt: HostRuntime) -> Result<(), Fail> {
     expect(
         &rt,
         alloc,
+        &["evidence", "--priority=ratio"],
+        Some((CaseTask::Evidence(Priority::Ratio), None)),
+    )?;
+    expect(
+        &rt,
+        alloc,
         &[
             "test",
             "--alpha",

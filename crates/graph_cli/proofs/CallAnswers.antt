@@ -16,6 +16,7 @@ use Rattle.graph_cli.specs.Help.{help_stage}
 use Rattle.graph_cli.proofs.AcceptedCases.{accepted_decided}
 use Rattle.graph_cli.proofs.MadeAnswers.{made_decided}
 use Rattle.graph_cli.proofs.CheckAnswers.{check_decided}
+use Rattle.graph_cli.proofs.EvidenceAnswers.{evidence_decided}
 use Rattle.graph_cli.proofs.StagesAnswers.{stages_decided}
 use Rattle.graph_cli.proofs.SampleAnswers.{sample_decided}
 use Rattle.graph_cli.proofs.SetAnswers.{weights_decided, bounds_decided}
@@ -46,6 +47,7 @@ task_decided (tasks.Test priority) c = test_decided priority c
 task_decided tasks.Weights c = weights_decided c
 task_decided tasks.Bounds c = bounds_decided c
 task_decided tasks.Simes c = simes_decided c
+task_decided (tasks.Evidence priority) c = evidence_decided priority c
 task_decided tasks.Stages c = stages_decided c
 task_decided (tasks.Canon form) c = canon_decided form c
 

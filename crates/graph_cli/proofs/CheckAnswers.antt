@@ -15,7 +15,7 @@ use Rattle.refusals.specs.WideRefusal.{wide_refusal}
 use Rattle.refusals.specs.declared.wide.When.TheVariants.{Check}
 use Rattle.graph_cli.specs.Check.{Said, said_of, listed_in, kept_in, evidence_in, checked, check_stage}
 
-same_said : (v w : ℕ) (ss ts : List StepParts) (xs ys : List KeepParts) → v ≡ w → ss ≡ ts → xs ≡ ys → Path Said (record { version = v; steps = ss; keeps = xs }) (record { version = w; steps = ts; keeps = ys })
+pub same_said : (v w : ℕ) (ss ts : List StepParts) (xs ys : List KeepParts) → v ≡ w → ss ≡ ts → xs ≡ ys → Path Said (record { version = v; steps = ss; keeps = xs }) (record { version = w; steps = ts; keeps = ys })
 same_said v w ss ts xs ys e f g = ap (λ n. record { version = n; steps = ss; keeps = xs }) e ∙ ap₂ (λ a b. record { version = w; steps = a; keeps = b }) f g
 
 evidence_decided : (c : Content) (bytes : List ℕ) → IsDecided (evidence_in c bytes)
@@ -28,7 +28,7 @@ evidence_decided c bytes = record {
 same_verdict : (r : Result Verdict CheckWide) (x y : Verdict) → r ≡ Ok x → r ≡ Ok y → x ≡ y
 same_verdict r x y h k = cc
 
-same_wide : (r : Result Verdict CheckWide) (x y : CheckWide) → r ≡ Err x → r ≡ Err y → x ≡ y
+pub same_wide : (r : Result Verdict CheckWide) (x y : CheckWide) → r ≡ Err x → r ≡ Err y → x ≡ y
 same_wide r x y h k = cc
 
 not_both : (r : Result Verdict CheckWide) (x : Verdict) (y : CheckWide) → r ≡ Ok x → r ≡ Err y → ⊥

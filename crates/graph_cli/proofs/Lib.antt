@@ -3,6 +3,8 @@ pub mod CallAnswers
 pub mod CheckAnswers
 pub mod CheckedReports
 pub mod ClosedReports
+pub mod EvidenceAnswers
+pub mod EvidenceReports
 pub mod HandedOn
 pub mod JsonRefused
 pub mod MadeAnswers

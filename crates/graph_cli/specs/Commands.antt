@@ -12,6 +12,7 @@ use Rattle.graph_cli.specs.Bounds.{bounds_stage}
 use Rattle.graph_cli.specs.Canon.{canon_stage}
 use Rattle.graph_cli.specs.Graphs.{catalogue_stage}
 use Rattle.graph_cli.specs.Check.{check_stage}
+use Rattle.graph_cli.specs.Evidence.{evidence_stage}
 use Rattle.graph_cli.specs.Help.{help_stage}
 use Rattle.graph_cli.specs.Stages.{stages_stage}
 use Rattle.graph_cli.specs.Sample.{sample_stage}
@@ -27,6 +28,7 @@ needs_of (tasks.Test priority) = record { kind = Single; most = 64 }
 needs_of tasks.Weights = record { kind = Any; most = 16 }
 needs_of tasks.Bounds = record { kind = Single; most = 16 }
 needs_of tasks.Simes = record { kind = Single; most = 16 }
+needs_of (tasks.Evidence priority) = record { kind = Single; most = 64 }
 needs_of tasks.Stages = record { kind = Staged; most = 64 }
 needs_of (tasks.Canon form) = record { kind = Any; most = 64 }
 
@@ -36,6 +38,7 @@ on_case (tasks.Test priority) c = test_stage priority c
 on_case tasks.Weights c = weights_stage c
 on_case tasks.Bounds c = bounds_stage c
 on_case tasks.Simes c = simes_stage c
+on_case (tasks.Evidence priority) c = evidence_stage priority c
 on_case tasks.Stages c = stages_stage c
 on_case (tasks.Canon form) c = canon_stage form c
 

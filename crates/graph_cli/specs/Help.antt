@@ -12,6 +12,7 @@ help_text =
     line (codes "weights [--form F] [--alpha N]") ++
     line (codes "bounds [--form F] [--alpha N]") ++
     line (codes "simes [--form F] [--alpha N]") ++
+    line (codes "evidence [--form F] [--alpha N] [--priority P]") ++
     line (codes "check FILE [--form F] [--alpha N]") ++
     line (codes "stages [--form F]") ++
     line (codes "canon [--form F] [--alpha N] [--to F]") ++

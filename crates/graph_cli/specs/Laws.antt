@@ -1,5 +1,5 @@
 -- What the definitions of the outcome promise.
-use Rattle.std.specs.Prelude.{◌≡◌, ◌↔◌, ℕ, true, List, map, Option, Some, None}
+use Rattle.std.specs.Prelude.{◌≡◌, ◌↔◌, ℕ, true, List, map, Option, Some, None, Ok}
 use Rattle.answers.specs.declared.answer.Answer.{Answer}
 use Rattle.answers.specs.declared.status.Status.TheVariants.{Done}
 use Rattle.answers.specs.Stages.{IsAnswerOf}
@@ -8,7 +8,7 @@ use Rattle.case_model.specs.Content.{Content, content_of, IsRejectedIn}
 use Rattle.case_model.specs.declared.draft.Draft.{Draft}
 use Rattle.case_model.specs.LegalOrder.{IsListed}
 use Rattle.command_words.specs.Asked.{Written, on_case, check}
-use Rattle.command_words.specs.declared.command.CaseTask.TheVariants.{Test, Stages}
+use Rattle.command_words.specs.declared.command.CaseTask.TheVariants.{Test, Stages, Evidence as EvidenceTask}
 use Rattle.case_model.specs.StagedCase.{IsStagedRejectedIn}
 use Rattle.report.specs.StagesReport.{is_settled, stages_report}
 use Rattle.report.specs.TestReport.{is_rejected, test_report}
@@ -17,7 +17,9 @@ use Rattle.staged_levels.specs.declared.event.Settled.{Settled}
 use Rattle.staged_levels.specs.Looks.{arrivals_of}
 use Rattle.evidence_check.specs.declared.evidence.Evidence.{Evidence}
 use Rattle.evidence_check.specs.DocumentStatements.{SaysEvidence}
-use Rattle.evidence_check.specs.EvidenceView.{version_of, steps_of, keeps_of}
+use Rattle.evidence_check.specs.EvidenceView.{version_of, steps_of, keeps_of, IsEvidenceFor}
+use Rattle.evidence_check.specs.CaseCheck.{case_check, verdict_of}
+use Rattle.evidence_check.specs.declared.verdict.Verdict.TheVariants.{Yes}
 use Rattle.adjusted_p.specs.declared.adjusted.Adjusted.{Adjusted}
 use Rattle.adjusted_p.specs.AdjustedLists.{AreAdjusted}
 use Rattle.sequential.specs.declared.decision.Decision.{Decision}
@@ -57,6 +59,19 @@ ReportsAreOfTheClosedTest = (words : List (List ℕ)) (form : Written) (priority
 -- what words that ask for `stages` are answered with status 0 reports the staged closed test on the case
 abbrev pub ReportsAreOfTheStagedTest : Type 0
 ReportsAreOfTheStagedTest = (words : List (List ℕ)) (form : Written) (case : List ℕ) (proof : Option (List ℕ)) (a : Answer) → AskFor words (on_case form Stages) → IsAnswerOf (outcome words (Some case) proof) a → a.status ≡ Done → ReportsCase ReportsStagedTest form case a.text
+
+-- The text is that of evidence of version 2 for a case, which `check` says yes to; its steps list exactly the hypotheses that the closed test rejects.
+pub record PrintsEvidence (c : Content) (text : List ℕ) : Type 0 where
+  pub evidence : Evidence
+  pub fits : IsEvidenceFor c evidence
+  pub says : SaysEvidence c text evidence
+  pub version : version_of evidence ≡ 2
+  pub holds : verdict_of (case_check c (steps_of evidence) (keeps_of evidence)) ≡ Ok Yes
+  pub named : (j : ℕ) → IsListed (map (λ s. s.hypothesis) (steps_of evidence)) j ↔ IsRejectedIn c j
+
+-- what words that ask for `evidence` are answered with status 0, by any priority, is such evidence of the case
+abbrev pub EvidenceIsOfTheClosedTest : Type 0
+EvidenceIsOfTheClosedTest = (words : List (List ℕ)) (form : Written) (priority : Priority) (case : List ℕ) (proof : Option (List ℕ)) (a : Answer) → AskFor words (on_case form (EvidenceTask priority)) → IsAnswerOf (outcome words (Some case) proof) a → a.status ≡ Done → ReportsCase PrintsEvidence form case a.text
 
 -- The text is the report of the evidence for a case that a proof says, whose steps list only hypotheses that the closed test rejects, and in version 2 all of them.
 pub record ReportsEvidence (c : Content) (proof text : List ℕ) : Type 0 where

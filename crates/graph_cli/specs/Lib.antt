@@ -4,6 +4,7 @@ pub mod Canon
 pub mod Catalogue
 pub mod Check
 pub mod Commands
+pub mod Evidence
 pub mod Graphs
 pub mod Help
 pub mod Laws

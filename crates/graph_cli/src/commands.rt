@@ -11,6 +11,7 @@ ghost use Rattle.graph_cli.specs.Commands.{needs_of, on_case, case_call, check_n
 mod bounds;
 mod canon;
 mod check;
+mod flows;
 mod graphs;
 mod help;
 mod made;
@@ -25,6 +26,7 @@ use crate::accepted::accepted_case;
 use crate::commands::bounds::bounds_answer;
 use crate::commands::canon::canon_answer;
 use crate::commands::check::check_answer;
+use crate::commands::flows::evidence_answer;
 use crate::commands::graphs::catalogue_answer;
 use crate::commands::help::help_answer;
 use crate::commands::sample::sample_answer;
@@ -50,6 +52,7 @@ fn needs_of(task: CaseTask) -> Needs
         CaseTask::Weights => Needs::new(Kind::Any, 16),
         CaseTask::Bounds => Needs::new(Kind::Single, 16),
         CaseTask::Simes => Needs::new(Kind::Single, 16),
+        CaseTask::Evidence(_) => Needs::new(Kind::Single, 64),
         CaseTask::Stages => Needs::new(Kind::Staged, 64),
         CaseTask::Canon(_) => Needs::new(Kind::Any, 64),
     }
@@ -68,6 +71,7 @@ fn case_answer(alloc: Global, task: CaseTask, case: &Case) -> Result<Answer, Hal
         CaseTask::Weights => weights_answer(alloc, case),
         CaseTask::Bounds => bounds_answer(alloc, case),
         CaseTask::Simes => simes_answer(alloc, case),
+        CaseTask::Evidence(priority) => evidence_answer(alloc, case, priority),
         CaseTask::Stages => stages_answer(alloc, case),
         CaseTask::Canon(form) => canon_answer(alloc, case, form),
     }

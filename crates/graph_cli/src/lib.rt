@@ -10,7 +10,9 @@
 //! - `file_word`: `file`, `none`.
 //! - Laws in `src/laws.rt`: `calls_have_one_answer`, and `reports_are_of_the_closed_test` (what `test` prints with
 //!   status 0, by any priority, of a text or of a sheet, names as rejected exactly the hypotheses that the closed
-//!   test rejects, and the adjusted values are those of the closed test). That `stages` prints what the staged closed
+//!   test rejects, and the adjusted values are those of the closed test), and `evidence_is_of_the_closed_test` (what
+//!   `evidence` prints with status 0 is evidence that `check` says yes to, and its steps list exactly the hypotheses that
+//!   the closed test rejects). That `stages` prints what the staged closed
 //!   test rejects follows from `looks` and the laws of staged_levels; it isn't a law of its own yet.
 //!
 //! The clauses speak of sources that tell their bytes and of a sink that tells what it holds, as those in memory do.

@@ -10,7 +10,7 @@ use Rattle.field_core.specs.declared.place.WideAt.{WideAt}
 use Rattle.answers.specs.declared.refusal.Refusal.{Refusal}
 use Rattle.answers.specs.declared.cause.Cause.TheVariants.{TooWide}
 use Rattle.refusals.specs.declared.wide.When.{When}
-use Rattle.refusals.specs.declared.wide.When.TheVariants.{Reading, Step, AdjustedStep, Set, SimesSet, Opening, Arrival, Look, Check}
+use Rattle.refusals.specs.declared.wide.When.TheVariants.{Reading, Step, AdjustedStep, EvidenceStep, Set, SimesSet, Opening, Arrival, Look, Check}
 use Rattle.answers.specs.Lines.{line}
 use Rattle.refusals.specs.LinePieces.{counted, name_at, two_names}
 use Rattle.refusals.specs.ProofRefusal.{part_words}
@@ -29,6 +29,7 @@ unfoldable pub when_words : List (List ℕ) → When → List ℕ
 when_words names Reading = codes "reading"
 when_words names (Step n) = codes "step " ++ decimal n
 when_words names (AdjustedStep n) = codes "adjusted step " ++ decimal n
+when_words names (EvidenceStep n) = codes "evidence step " ++ decimal n
 when_words names (Set n) = codes "set" ++ names_of_members n 0 names
 when_words names (SimesSet n) = codes "simes set" ++ names_of_members n 0 names
 when_words names Opening = codes "opening"

@@ -233,13 +233,14 @@ const WIDE: [(usize, Place, Op, &str); 14] = [
 ];
 
 /// How a line begins.
-const BEGINNINGS: [(When, &str); 14] = [
+const BEGINNINGS: [(When, &str); 15] = [
     (When::Reading, "too wide: reading: "),
     (When::Step(0), "too wide: step 0: "),
     (When::Step(3), "too wide: step 3: "),
     (When::Step(64), "too wide: step 64: "),
     (When::AdjustedStep(0), "too wide: adjusted step 0: "),
     (When::AdjustedStep(12), "too wide: adjusted step 12: "),
+    (When::EvidenceStep(2), "too wide: evidence step 2: "),
     (When::Set(5), "too wide: set H1 dose-a: "),
     (When::Set(0), "too wide: set: "),
     (When::SimesSet(5), "too wide: simes set H1 dose-a: "),

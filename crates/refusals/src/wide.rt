@@ -11,14 +11,15 @@ use field_core::{List, NoMemory, Op, Place, Text, WideAt};
 use std::alloc::Global;
 
 /// When an operation is written: for a sum of the case, in a step of the decision, in a step of the run of adjusted values, in
-/// the run of a set of hypotheses, in Simes' test of a set, in the opening of a study, in the settling after an arrival, in that
-/// after a look of a study whose looks are kept, or in the check of evidence. Steps and looks count from 1, and 0 is the opening;
-/// arrivals count from 1. Bit `k` of the number of a set says whether hypothesis `k` is a member.
+/// a step of the flow run, in the run of a set of hypotheses, in Simes' test of a set, in the opening of a study, in the settling
+/// after an arrival, in that after a look of a study whose looks are kept, or in the check of evidence. Steps and looks count from
+/// 1, and 0 is the opening; arrivals count from 1. Bit `k` of the number of a set says whether hypothesis `k` is a member.
 #[derive(Clone, Copy, PartialEq, Eq, Debug)]
 pub enum When {
     Reading,
     Step(usize),
     AdjustedStep(usize),
+    EvidenceStep(usize),
     Set(u32),
     SimesSet(u32),
     Opening,
@@ -81,6 +82,7 @@ fn put_when(text: &mut List<u8>, names: &[Text], when: When) -> Result<(), NoMem
         When::Reading => text.append(b"reading"),
         When::Step(n) => put_counting(text, b"step ", n as u128),
         When::AdjustedStep(n) => put_counting(text, b"adjusted step ", n as u128),
+        When::EvidenceStep(n) => put_counting(text, b"evidence step ", n as u128),
         When::Set(set) => put_set(text, names, b"set", set),
         When::SimesSet(set) => put_set(text, names, b"simes set", set),
         When::Opening => text.append(b"opening"),

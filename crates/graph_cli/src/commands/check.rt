@@ -29,7 +29,7 @@ fn evidence_in(alloc: Global, case: &Case, bytes: &[u8]) -> Result<Evidence, Hal
 }
 
 /// The verdict on evidence.
-fn checked(alloc: Global, case: &Case, proof: &Evidence) -> Result<Verdict, Halt>
+pub fn checked(alloc: Global, case: &Case, proof: &Evidence) -> Result<Verdict, Halt>
     requires single { IsOfKind Single (content case.now).inputs }
     requires fits { IsEvidenceFor (content case.now) proof.now }
     ensures given { IfOk result (checked (content case.now) (said_of proof.now)).Gives }

@@ -16,6 +16,7 @@ pub fn help_answer(alloc: Global) -> Result<Answer, NoMemory>
     text.append(b"weights [--form F] [--alpha N]\n")?;
     text.append(b"bounds [--form F] [--alpha N]\n")?;
     text.append(b"simes [--form F] [--alpha N]\n")?;
+    text.append(b"evidence [--form F] [--alpha N] [--priority P]\n")?;
     text.append(b"check FILE [--form F] [--alpha N]\n")?;
     text.append(b"stages [--form F]\n")?;
     text.append(b"canon [--form F] [--alpha N] [--to F]\n")?;

@@ -1,0 +1,75 @@
+//! The command `evidence`.
+ghost use Rattle.std.specs.Prelude.{IfOk, IfErr};
+ghost use Rattle.answers.specs.Halts.{HaltsBy};
+ghost use Rattle.case_model.specs.CaseView.{content};
+ghost use Rattle.evidence.specs.CaseFlows.{IsCompleteOrder};
+ghost use Rattle.graph_cli.specs.Accepted.{IsOfKind};
+ghost use Rattle.graph_cli.specs.Check.{said_of};
+ghost use Rattle.graph_cli.specs.Evidence.{IsFlowRun, flown, confirmed, evidence_stage};
+ghost use Rattle.graph_cli.specs.declared.kind.Kind.TheVariants.{Single};
+ghost use Rattle.sequential.specs.Decisions.{hypotheses};
+
+use crate::commands::check::checked;
+use crate::commands::test::decided;
+use answers::{Answer, Halt};
+use case_model::Case;
+use evidence::{MakeFault, make, write};
+use evidence_check::{Evidence, Verdict};
+use field_core::List;
+use refusals::{When, wide_refusal};
+use sequential::{Decision, Priority};
+use std::alloc::Global;
+
+/// The evidence of the flow run along the steps of a decision.
+fn flown(alloc: Global, case: &Case, decision: &Decision) -> Result<Evidence, Halt>
+    requires single { IsOfKind Single (content case.now).inputs }
+    requires order { IsCompleteOrder (content case.now) (hypotheses decision.now.steps) }
+    ensures run { IfOk result (IsFlowRun (content case.now) decision.now) }
+    ensures given { IfOk result (λ proof. (flown (content case.now) decision.now).Gives (said_of proof)) }
+    ensures refused { IfErr result (HaltsBy (flown (content case.now) decision.now).Refuses) }
+{
+    match make(alloc, case, decision) {
+        Ok(proof) => Ok(proof),
+        Err(MakeFault::Wide(step, wide)) => Err(Halt::Refused(wide_refusal(
+            alloc,
+            case.names(),
+            When::EvidenceStep(step),
+            &wide,
+        )?)),
+        Err(MakeFault::NoMemory) => Err(Halt::NoMemory),
+    }
+}
+
+/// The text of the evidence of a flow run, which `check` says yes to.
+fn confirmed(
+    alloc: Global,
+    case: &Case,
+    decision: &Decision,
+    proof: &Evidence,
+) -> Result<List<u8>, Halt>
+    requires single { IsOfKind Single (content case.now).inputs }
+    requires order { IsCompleteOrder (content case.now) (hypotheses decision.now.steps) }
+    requires run { IsFlowRun (content case.now) decision.now proof.now }
+    ensures given { IfOk result (confirmed (content case.now) (said_of proof.now)).Gives }
+    ensures refused { IfErr result (HaltsBy (confirmed (content case.now) (said_of proof.now)).Refuses) }
+{
+    let verdict = checked(alloc, case, proof)?;
+    match verdict {
+        Verdict::Yes => Ok(write(alloc, case, proof)?),
+        Verdict::No(_, _) => unreachable!(),
+    }
+}
+
+/// What `evidence` answers to a case: the decision comes first, then the flow run along its steps. What the run gives is
+/// printed only where `check` says yes to it.
+#[tactic(auto, unfolding(crate::specs::Evidence::evidence_stage))]
+pub fn evidence_answer(alloc: Global, case: &Case, priority: Priority) -> Result<Answer, Halt>
+    requires { IsOfKind Single (content case.now).inputs }
+    ensures given { IfOk result (evidence_stage priority (content case.now)).Gives }
+    ensures refused { IfErr result (HaltsBy (evidence_stage priority (content case.now)).Refuses) }
+{
+    let decision = decided(alloc, case, priority)?;
+    let proof = flown(alloc, case, &decision)?;
+    let text = confirmed(alloc, case, &decision, &proof)?;
+    Ok(Answer::done(text))
+}
