@@ -16,8 +16,6 @@ mod decided;
 #[cfg(test)]
 mod devices;
 #[cfg(test)]
-mod evidence;
-#[cfg(test)]
 mod graphs;
 #[cfg(test)]
 mod hostile;
@@ -25,6 +23,8 @@ mod hostile;
 mod json;
 #[cfg(test)]
 mod limits;
+#[cfg(test)]
+mod made_evidence;
 #[cfg(test)]
 mod named;
 #[cfg(test)]
