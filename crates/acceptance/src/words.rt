@@ -24,7 +24,7 @@ const NO_COMMAND: [Row; 14] = [
     (&["--form", "text", "test"], "usage: word 1\n"),
     (&["--form=text", "test"], "usage: word 1\n"),
     (&["evidences"], "usage: word 1\n"),
-    // Commands that don't run yet.
+    // No command of this call.
     (&["study", "looks.txt"], "usage: word 1\n"),
 ];
 

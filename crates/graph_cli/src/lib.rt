@@ -8,12 +8,13 @@
 //! - `case`, `proof`: a source that the words don't read stays as it was; one that they read was read to its end
 //!   after status 0. The proof is read only behind a case that the command can take.
 //! - `file_word`: `file`, `none`.
-//! - Laws in `src/laws.rt`: `calls_have_one_answer`, and `reports_are_of_the_closed_test` (what `test` prints with
-//!   status 0, by any priority, of a text or of a sheet, names as rejected exactly the hypotheses that the closed
-//!   test rejects, and the adjusted values are those of the closed test), and `evidence_is_of_the_closed_test` (what
-//!   `evidence` prints with status 0 is evidence that `check` says yes to, and its steps list exactly the hypotheses that
-//!   the closed test rejects). That `stages` prints what the staged closed
-//!   test rejects follows from `looks` and the laws of staged_levels; it isn't a law of its own yet.
+//! - Laws in `src/laws.rt`: `calls_have_one_answer`; `reports_are_of_the_closed_test` (what `test` prints with status 0,
+//!   by any priority, of a text, a sheet or JSON, names as rejected exactly the hypotheses that the closed test rejects,
+//!   and the adjusted values are those of the closed test); `reports_are_of_the_staged_test` (what `stages` prints with
+//!   status 0 names exactly those that the staged closed test rejects); `checks_are_of_the_closed_test` (where `check`
+//!   ends with status 0, the closed test rejects each hypothesis that is listed, and in version 2 no other);
+//!   `evidence_is_of_the_closed_test` (what `evidence` prints with status 0 is evidence that `check` says yes to, and its
+//!   steps list exactly the hypotheses that the closed test rejects).
 //!
 //! The clauses speak of sources that tell their bytes and of a sink that tells what it holds, as those in memory do.
 //! Standard input and output tell neither. That the program answers there as on told bytes rests on `run` being one
