@@ -44,6 +44,13 @@ const HOLM_WEIGHTS: &str =
 const SEQUENCE_BOUNDS: &str =
     "bounds 3\nbound 1 of H1 H2 H3\nbound 0 of H2 H3\nbound 0 of H3\nbound 0 of H2\nbound 1 of H1 H3\nbound 1 of H1\nbound 1 of H1 H2\nend\n";
 
+/// Two hypotheses that pass all to each other, and what `simes` prints of them.
+const PAIR: &str =
+    "alpha 0.05\nhypotheses H1 H2\np 0.04 0.05\nweights 1/2 1/2\nedge H1 H2 1\nedge H2 H1 1\n";
+
+const PAIR_SIMES: &str =
+    "simes 2\nbound 2 of H1 H2\nbound 1 of H2\nbound 1 of H1\ntop 1 bound 1\ntop 2 bound 2\nrejected H1 H2\nend\n";
+
 /// What `check` prints of the proof of two families.
 const PROOF_HOLDS: &str = "yes\nlisted H1 H3 H4 H2\nend\n";
 
@@ -51,12 +58,13 @@ const PROOF_HOLDS: &str = "yes\nlisted H1 H3 H4 H2\nend\n";
 type Run<'a> = (&'a [&'a str], &'a str, &'a str, &'a str);
 
 /// A run of each command that reads a case.
-const READING: [Run; 8] = [
+const READING: [Run; 9] = [
     (&["test"], HOLM, "", HOLM_DECIDED),
     (&["test", "--priority=ratio"], HOLM, "", HOLM_DECIDED),
     (&["test", "--form", "json"], ONE, "", ONE_DECIDED),
     (&["weights"], HOLM, "", HOLM_WEIGHTS),
     (&["bounds"], SEQUENCE, "", SEQUENCE_BOUNDS),
+    (&["simes"], PAIR, "", PAIR_SIMES),
     (&["check", "proof"], FAMILIES, PROOF, PROOF_HOLDS),
     (&["stages"], LOOKS, "", LOOKS_SETTLED),
     (
