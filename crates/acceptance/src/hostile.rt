@@ -54,17 +54,24 @@ const PAIR_SIMES: &str =
 /// What `check` prints of the proof of two families.
 const PROOF_HOLDS: &str = "yes\nlisted H1 H3 H4 H2\nend\n";
 
+/// Two hypotheses that pass all to each other, and the evidence for both: the second gets the half of the first.
+const EQUAL: &str =
+    "alpha 0.05\nhypotheses H1 H2\np 0.01 0.02\nweights 1/2 1/2\nedge H1 H2 1\nedge H2 H1 1\n";
+
+const EQUAL_EVIDENCE: &str = "evidence 2\nstep H1\nstep H2\nflow 1 H1 1/2\nend\n";
+
 /// Words, a case, a proof, and all that is printed.
 type Run<'a> = (&'a [&'a str], &'a str, &'a str, &'a str);
 
 /// A run of each command that reads a case.
-const READING: [Run; 9] = [
+const READING: [Run; 10] = [
     (&["test"], HOLM, "", HOLM_DECIDED),
     (&["test", "--priority=ratio"], HOLM, "", HOLM_DECIDED),
     (&["test", "--form", "json"], ONE, "", ONE_DECIDED),
     (&["weights"], HOLM, "", HOLM_WEIGHTS),
     (&["bounds"], SEQUENCE, "", SEQUENCE_BOUNDS),
     (&["simes"], PAIR, "", PAIR_SIMES),
+    (&["evidence"], EQUAL, "", EQUAL_EVIDENCE),
     (&["check", "proof"], FAMILIES, PROOF, PROOF_HOLDS),
     (&["stages"], LOOKS, "", LOOKS_SETTLED),
     (
