@@ -50,6 +50,8 @@ mod stages;
 #[cfg(test)]
 mod studies;
 #[cfg(test)]
+mod study;
+#[cfg(test)]
 mod tampered;
 #[cfg(test)]
 mod too_long;

@@ -356,7 +356,7 @@ fn words_are_accepted(rt: HostRuntime) -> Result<(), Fail> {
 
 /// The lines of the commands that run.
 pub const HELP: &str =
-    "test [--form F] [--alpha N] [--priority P]\nweights [--form F] [--alpha N]\nbounds [--form F] [--alpha N]\nsimes [--form F] [--alpha N]\nevidence [--form F] [--alpha N] [--priority P]\ncheck FILE [--form F] [--alpha N]\nstages [--form F]\ncanon [--form F] [--alpha N] [--to F]\ncatalogue NAME --size N [--second N]\nsample --size N --seed N\nhelp\nend\n";
+    "test [--form F] [--alpha N] [--priority P]\nweights [--form F] [--alpha N]\nbounds [--form F] [--alpha N]\nsimes [--form F] [--alpha N]\nevidence [--form F] [--alpha N] [--priority P]\ncheck FILE [--form F] [--alpha N]\nstages [--form F]\nstudy FILE [--form F] [--store PATH]\ncanon [--form F] [--alpha N] [--to F]\ncatalogue NAME --size N [--second N]\nsample --size N --seed N\nhelp\nend\n";
 
 /// No byte of the case is taken.
 #[test]

@@ -3,7 +3,7 @@ use Rattle.std.proofs.Common.{Bool, true, false, ◌==◌, if◌then◌else◌, 
 use Rattle.command_words.specs.WordParts.{IsName}
 use Rattle.command_words.specs.Table.{argument_name}
 use Rattle.command_words.specs.declared.argument.Argument.{Argument}
-use Rattle.command_words.specs.declared.argument.Argument.TheVariants.{Form, Alpha, Priority, To, Size, Seed, Graph, Second, File}
+use Rattle.command_words.specs.declared.argument.Argument.TheVariants.{Form, Alpha, Priority, To, Size, Seed, Graph, Second, File, Store}
 
 -- one byte more
 pub name_more : (text : List ℕ) (k : ℕ) → k < length text → IsName (take k text) → get_or text k 0 ≢ 61 → IsName (take (suc k) text)
@@ -62,3 +62,4 @@ argument_is_name Seed = name_by (argument_name Seed) refl
 argument_is_name Graph = name_by (argument_name Graph) refl
 argument_is_name Second = name_by (argument_name Second) refl
 argument_is_name File = name_by (argument_name File) refl
+argument_is_name Store = name_by (argument_name Store) refl

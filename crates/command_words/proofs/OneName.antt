@@ -25,7 +25,8 @@ verb_of name =
     else if bytes_eq name (codes "evidence") then verbs.Evidence
     else if bytes_eq name (codes "catalogue") then verbs.Catalogue
     else if bytes_eq name (codes "check") then verbs.Check
-    else if bytes_eq name (codes "canon") then verbs.Canon else if bytes_eq name (codes "sample") then verbs.Sample else verbs.Help
+    else if bytes_eq name (codes "canon") then verbs.Canon else if bytes_eq name (codes "sample") then verbs.Sample
+    else if bytes_eq name (codes "study") then verbs.Study else verbs.Help
 
 verb_back : (v : Verb) → verb_of (verb_name v) ≡ v
 unfolding verb_name
@@ -39,6 +40,7 @@ verb_back verbs.Check = refl
 verb_back verbs.Canon = refl
 verb_back verbs.Catalogue = refl
 verb_back verbs.Sample = refl
+verb_back verbs.Study = refl
 verb_back verbs.Help = refl
 
 pub one_verb : (v w : Verb) → verb_name v ≡ verb_name w → v ≡ w
@@ -53,7 +55,7 @@ argument_of name =
     else if bytes_eq name (codes "size") then arguments.Size
     else if bytes_eq name (codes "graph") then arguments.Graph
     else if bytes_eq name (codes "second") then arguments.Second
-    else if bytes_eq name (codes "file") then arguments.File else arguments.Seed
+    else if bytes_eq name (codes "file") then arguments.File else if bytes_eq name (codes "store") then arguments.Store else arguments.Seed
 
 argument_back : (a : Argument) → argument_of (argument_name a) ≡ a
 unfolding argument_name
@@ -66,6 +68,7 @@ argument_back arguments.Seed = refl
 argument_back arguments.Graph = refl
 argument_back arguments.Second = refl
 argument_back arguments.File = refl
+argument_back arguments.Store = refl
 
 pub one_argument : (a b : Argument) → argument_name a ≡ argument_name b → a ≡ b
 one_argument a b e = sym (argument_back a) ∙ (ap argument_of e ∙ argument_back b)

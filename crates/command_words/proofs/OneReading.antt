@@ -1,16 +1,16 @@
 -- Each stage of the reading of words is decided.
-use Rattle.std.proofs.Common.{◌≡◌, ◌⊎◌, ◌+◌, ℕ, List, [], ◌∷◌, ◌++◌, length, length-append, refl, sym, ap, ap₂, ◌∙◌, subst, inl, inr, Some, None, append_assoc}
+use Rattle.std.proofs.Common.{◌≡◌, ◌⊎◌, ◌+◌, ℕ, Bool, true, false, List, [], ◌∷◌, ◌++◌, length, length-append, refl, sym, ap, ap₂, ◌∙◌, subst, inl, inr, Some, None, append_assoc}
 use Rattle.std.specs.List.{flat_map}
 use Rattle.std.specs.declared.option.Option.{Option}
 use Rattle.answers.specs.Stages.{IsDecided}
 use Rattle.answers.proofs.Decided.{then_decided}
-use Rattle.command_words.specs.Asked.{Asked}
+use Rattle.command_words.specs.Asked.{Asked, StudyAsked}
 use Rattle.command_words.specs.Choices.{Value, Chosen, Spells, IsSpelled}
-use Rattle.command_words.specs.Given.{GivenContent, nothing, forbidden_word, asked_of}
-use Rattle.command_words.specs.Laws.{WordsAreDecided}
-use Rattle.command_words.specs.Table.{verb_name, argument_name, operand_of}
+use Rattle.command_words.specs.Given.{GivenContent, nothing, forbidden_word, asked_of, study_of}
+use Rattle.command_words.specs.Laws.{WordsAreDecided, StudyWordsAreDecided}
+use Rattle.command_words.specs.Table.{verb_name, keeps_looks, argument_name, operand_of}
 use Rattle.command_words.specs.WordParts.{opener, joined_word}
-use Rattle.command_words.specs.Words.{Piece, joined, apart, bare, spelled, MayStand, with_piece, Stand, Begin, IsBadFront, IsBadPiece, command_in, pieces_in, complete, allowed, asked_in}
+use Rattle.command_words.specs.Words.{Piece, joined, apart, bare, spelled, MayStand, with_piece, Stand, Begin, IsBadFront, IsBadPiece, command_in, pieces_in, complete, complete_study, allowed, asked_in, study_in}
 use Rattle.command_words.specs.declared.argument.Argument.{Argument}
 use Rattle.command_words.specs.declared.argument.Argument.TheVariants as arguments
 use Rattle.command_words.specs.declared.verb.Verb.{Verb}
@@ -32,6 +32,7 @@ one_value verb arguments.Seed v w text h k = one_count text v w h k
 one_value verb arguments.Graph v w text h k = one_graph v w (sym h ∙ k)
 one_value verb arguments.Second v w text h k = one_count text v w h k
 one_value verb arguments.File v w text h k = refl
+one_value verb arguments.Store v w text h k = refl
 
 one_choice : (verb : Verb) (c d : Chosen) (text : List ℕ) → c.argument ≡ d.argument → IsSpelled verb c text → IsSpelled verb d text → c ≡ d
 one_choice verb c d text e h k =
@@ -132,11 +133,11 @@ same_walk verb at g (p ∷ ps) (q ∷ qs) all other r s h k e f l =
 
 -- ---- stages
 
-command_decided : (words : List (List ℕ)) → IsDecided (command_in words)
-command_decided words = record {
+command_decided : (keeping : Bool) (words : List (List ℕ)) → IsDecided (command_in keeping words)
+command_decided keeping words = record {
   one = λ v w h k. first_verb v w h.0 k.0 (sym h.1 ∙ k.1);
   one_refusal = λ m n h k. h.1 ∙ sym k.1;
-  not_both = λ v n h k. k.0 v h.0 h.1;
+  not_both = λ v n h k. k.0 v h.0 h.2 h.1;
 } where
   first_verb : (v w : Verb) (xs ys : List (List ℕ)) → verb_name v ∷ xs ≡ verb_name w ∷ ys → v ≡ w
   first_verb v w xs ys e = one_verb v w cc
@@ -186,4 +187,27 @@ allowed_decided given asked = record {
 pub words_decided : WordsAreDecided
 unfolding asked_in
 words_decided words =
-    then_decided _ _ (command_decided words) (λ verb. then_decided _ _ (pieces_decided verb _) (λ given. then_decided _ _ (complete_decided verb _ given) (allowed_decided given)))
+    then_decided _ _ (command_decided false words) (λ verb. then_decided _ _ (pieces_decided verb _) (λ given. then_decided _ _ (complete_decided verb _ given) (allowed_decided given)))
+
+study_decided : (count : ℕ) (given : GivenContent) → IsDecided (complete_study count given)
+study_decided count given = record {
+  one = same_some (study_of given);
+  one_refusal = λ m n h k. h.1 ∙ sym k.1;
+  not_both = λ a n h k. no_some (study_of given) a k.0 h;
+}
+
+pub study_words_decided : StudyWordsAreDecided
+unfolding study_in
+study_words_decided words = then_decided _ _ (command_decided true words) (λ verb. then_decided _ _ (pieces_decided verb _) (study_decided _))
+
+-- words that ask for a command that keeps no looks don't ask a study for anything
+pub one_reader : (words : List (List ℕ)) (asked : Asked) (study : StudyAsked) → (asked_in words).Gives asked → ¬ (study_in words).Gives study
+unfolding asked_in study_in
+one_reader words asked study h k = apart h.0 k.0 h.1.0 k.1.0 (sym h.1.1 ∙ k.1.1) h.1.2 k.1.2
+  where
+    apart : (v w : Verb) (xs ys : List (List ℕ)) → verb_name v ∷ xs ≡ verb_name w ∷ ys → keeps_looks v ≡ false → ¬ (keeps_looks w ≡ true)
+    apart v w xs ys e f g = let same : v ≡ w = one_verb v w cc in let b : false ≡ true = sym f ∙ ap keeps_looks same ∙ g in cc
+
+-- a command that keeps looks otherwise than asked is none that is asked for
+pub not_kept : (words : List (List ℕ)) (v w : Verb) (xs ys : List (List ℕ)) (keeping : Bool) → words ≡ verb_name v ∷ xs → words ≡ verb_name w ∷ ys → keeps_looks w ≡ keeping → ¬ (keeps_looks v ≡ keeping) → ⊥
+not_kept words v w xs ys keeping h k keeps not = not (ap keeps_looks (one_verb v w (let e : verb_name v ∷ xs ≡ verb_name w ∷ ys = sym h ∙ k in cc)) ∙ keeps)

@@ -6,6 +6,7 @@ use Rattle.command_words.specs.declared.command.Command.{Command}
 use Rattle.command_words.specs.declared.command.Command.TheVariants as commands
 use Rattle.command_words.specs.declared.graph_name.SizedGraph.{SizedGraph}
 use Rattle.command_words.specs.declared.form.CaseForm.{CaseForm}
+use Rattle.command_words.specs.declared.command.StudyCall.{StudyCall}
 use Rattle.command_words.specs.declared.form.CaseForm.TheVariants as forms
 
 -- how a case is written; a sheet comes with its level
@@ -41,3 +42,12 @@ file_of (catalogue graph) = None
 file_of (check form file) = Some file
 file_of (sample size seed) = None
 file_of help = None
+
+-- What a study is to do: how its case is written, the place, from 0, of the word that names the file of its commands, and that of the first word of the option that names the file of its looks.
+pub record StudyAsked : Type 0 where
+  pub form : Written
+  pub file : ℕ
+  pub store : Option ℕ
+
+abbrev pub study_asked : StudyCall → StudyAsked
+study_asked call = record { form = written call.form; file = call.file; store = call.store }

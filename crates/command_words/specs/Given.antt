@@ -1,7 +1,7 @@
 -- What the arguments say.
 use Rattle.std.specs.Prelude.{ℕ, ◌+◌, Bool, true, false, Option, Some, None, is_some}
 use Rattle.std.specs.Option.{option_map}
-use Rattle.command_words.specs.Asked.{Asked, Written, text, csv, json, on_case as task_on_case, check, catalogue, sample, help}
+use Rattle.command_words.specs.Asked.{Asked, StudyAsked, Written, text, csv, json, on_case as task_on_case, check, catalogue, sample, help}
 use Rattle.command_words.specs.Choices.{Value, Chosen}
 use Rattle.command_words.specs.Graphs.{sized, has_second}
 use Rattle.command_words.specs.Levels.{Level, level_of}
@@ -18,7 +18,7 @@ use Rattle.command_words.specs.declared.verb.Verb.TheVariants as verbs
 use Rattle.sequential.specs.declared.priority.Priority.{Priority}
 use Rattle.sequential.specs.declared.priority.Priority.TheVariants.{First}
 
--- The values that were given, the numbers, from 1, of the words with the names `alpha` and `second`, or 0 where they aren't given, and the place, from 0, of the word that names a file.
+-- The values that were given, the numbers, from 1, of the words with the names `alpha` and `second`, or 0 where they aren't given, and the places, from 0, of the word that names a file and of the first word of the option `store`.
 pub record GivenContent : Type 0 where
   pub form : Option Form
   pub alpha : Option Level
@@ -31,6 +31,7 @@ pub record GivenContent : Type 0 where
   pub second : Option ℕ
   pub second_word : ℕ
   pub file : Option ℕ
+  pub store : Option ℕ
 
 abbrev pub given_content : Given → GivenContent
 given_content g = record {
@@ -45,10 +46,11 @@ given_content g = record {
   second = g.second;
   second_word = g.second_word;
   file = g.file;
+  store = g.store;
 }
 
 abbrev pub nothing : GivenContent
-nothing = record { form = None; alpha = None; alpha_word = 0; priority = None; to = None; size = None; seed = None; graph = None; second = None; second_word = 0; file = None }
+nothing = record { form = None; alpha = None; alpha_word = 0; priority = None; to = None; size = None; seed = None; graph = None; second = None; second_word = 0; file = None; store = None }
 
 -- an argument was given
 abbrev pub is_given : GivenContent → Argument → Bool
@@ -61,6 +63,7 @@ is_given g arguments.Seed = is_some g.seed
 is_given g arguments.Graph = is_some g.graph
 is_given g arguments.Second = is_some g.second
 is_given g arguments.File = is_some g.file
+is_given g arguments.Store = is_some g.store
 
 -- the same, and a value whose first word stands at a place, from 0
 abbrev pub with_value : ℕ → GivenContent → (argument : Argument) → Value argument → GivenContent
@@ -73,6 +76,7 @@ with_value at g arguments.Seed seed = record g { seed = Some seed }
 with_value at g arguments.Graph graph = record g { graph = Some graph }
 with_value at g arguments.Second second = record g { second = Some second; second_word = at + 1 }
 with_value at g arguments.File named = record g { file = Some at }
+with_value at g arguments.Store named = record g { store = Some at }
 
 abbrev pub with_chosen : ℕ → GivenContent → Chosen → GivenContent
 with_chosen at g choice = with_value at g choice.argument choice.value
@@ -130,7 +134,16 @@ sample_by None seed = None
 unfoldable pub sample_of : GivenContent → Option Asked
 sample_of g = sample_by g.size g.seed
 
--- what a command asks for; nothing, where something is missing
+-- a study needs its commands, and how its case is written
+abbrev pub study_by : Option Written → Option ℕ → Option ℕ → Option StudyAsked
+study_by (Some form) (Some file) store = Some (record { form = form; file = file; store = store })
+study_by (Some form) None store = None
+study_by None file store = None
+
+unfoldable pub study_of : GivenContent → Option StudyAsked
+study_of g = study_by (written_of g) g.file g.store
+
+-- what a command asks for that keeps no looks; nothing, where something is missing
 abbrev pub asked_of : Verb → GivenContent → Option Asked
 asked_of verbs.Test g = on_case g (tasks.Test (priority_or_first g.priority))
 asked_of verbs.Weights g = on_case g tasks.Weights
@@ -142,6 +155,7 @@ asked_of verbs.Check g = check_of g
 asked_of verbs.Canon g = on_case g (tasks.Canon (form_or_text g.to))
 asked_of verbs.Catalogue g = catalogue_of g
 asked_of verbs.Sample g = sample_of g
+asked_of verbs.Study g = None
 asked_of verbs.Help g = Some help
 
 -- ---- what the others forbid

@@ -1,5 +1,5 @@
 -- The names of commands, arguments and values, and what each command takes.
-use Rattle.std.specs.Prelude.{ℕ, List, [], ◌∷◌, Option, Some, None, codes}
+use Rattle.std.specs.Prelude.{ℕ, Bool, true, false, List, [], ◌∷◌, Option, Some, None, codes}
 use Rattle.command_words.specs.declared.argument.Argument.{Argument}
 use Rattle.command_words.specs.declared.argument.Argument.TheVariants as arguments
 use Rattle.command_words.specs.declared.form.Form.{Form}
@@ -24,7 +24,13 @@ verb_name verbs.Check = codes "check"
 verb_name verbs.Canon = codes "canon"
 verb_name verbs.Catalogue = codes "catalogue"
 verb_name verbs.Sample = codes "sample"
+verb_name verbs.Study = codes "study"
 verb_name verbs.Help = codes "help"
+
+-- the command takes looks that are kept from call to call, and is done by a top call of its own
+unfoldable pub keeps_looks : Verb → Bool
+keeps_looks verbs.Study = true
+keeps_looks verb = false
 
 -- the options that a command takes
 unfoldable pub options_of : Verb → List Argument
@@ -38,12 +44,14 @@ options_of verbs.Check = arguments.Form ∷ arguments.Alpha ∷ []
 options_of verbs.Canon = arguments.Form ∷ arguments.Alpha ∷ arguments.To ∷ []
 options_of verbs.Catalogue = arguments.Size ∷ arguments.Second ∷ []
 options_of verbs.Sample = arguments.Size ∷ arguments.Seed ∷ []
+options_of verbs.Study = arguments.Form ∷ arguments.Store ∷ []
 options_of verbs.Help = []
 
 -- what a word without a name gives, where a command takes one
 unfoldable pub operand_of : Verb → Option Argument
 operand_of verbs.Catalogue = Some arguments.Graph
 operand_of verbs.Check = Some arguments.File
+operand_of verbs.Study = Some arguments.File
 operand_of verb = None
 
 -- the forms in which a command reads its case
@@ -58,6 +66,7 @@ forms_of verbs.Check = Text ∷ Csv ∷ Json ∷ []
 forms_of verbs.Canon = Text ∷ Csv ∷ Json ∷ []
 forms_of verbs.Catalogue = []
 forms_of verbs.Sample = []
+forms_of verbs.Study = Text ∷ Json ∷ []
 forms_of verbs.Help = []
 
 -- ---- arguments
@@ -72,6 +81,7 @@ argument_name arguments.Seed = codes "seed"
 argument_name arguments.Graph = codes "graph"
 argument_name arguments.Second = codes "second"
 argument_name arguments.File = codes "file"
+argument_name arguments.Store = codes "store"
 
 -- ---- values
 

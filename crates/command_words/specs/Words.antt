@@ -1,11 +1,11 @@
 -- What lists of words ask for, and the number, from 1, of the first word at which their reading from left to right fails.
-use Rattle.std.specs.Prelude.{◌≡◌, ◌≢◌, ◌⊎◌, ℕ, ◌+◌, false, List, [], ◌∷◌, ◌++◌, length, drop, Some, None, Contains}
+use Rattle.std.specs.Prelude.{◌≡◌, ◌≢◌, ◌⊎◌, ℕ, ◌+◌, Bool, true, false, List, [], ◌∷◌, ◌++◌, length, drop, Some, None, Contains}
 use Rattle.std.specs.List.{flat_map}
 use Rattle.answers.specs.Stages.{Stage, and_then}
-use Rattle.command_words.specs.Asked.{Asked}
+use Rattle.command_words.specs.Asked.{Asked, StudyAsked}
 use Rattle.command_words.specs.Choices.{Value, Chosen, Spells, IsSpelled}
-use Rattle.command_words.specs.Given.{GivenContent, nothing, is_given, with_chosen, asked_of, forbidden_word}
-use Rattle.command_words.specs.Table.{verb_name, argument_name, options_of, operand_of}
+use Rattle.command_words.specs.Given.{GivenContent, nothing, is_given, with_chosen, asked_of, study_of, forbidden_word}
+use Rattle.command_words.specs.Table.{verb_name, keeps_looks, argument_name, options_of, operand_of}
 use Rattle.command_words.specs.WordParts.{opener, joined_word, IsBare}
 use Rattle.command_words.specs.declared.argument.Argument.{Argument}
 use Rattle.command_words.specs.declared.verb.Verb.{Verb}
@@ -99,11 +99,11 @@ pub record IsBadPiece (verb : Verb) (words : List (List ℕ)) (n : ℕ) : Type 0
 
 -- ---- the stages of the reading
 
--- the command that stands first
-abbrev pub command_in : List (List ℕ) → Stage ℕ Verb
-command_in words = record {
-  Gives = λ verb. (more : List (List ℕ)) × (words ≡ verb_name verb ∷ more);
-  Refuses = λ n. ((verb : Verb) (more : List (List ℕ)) → words ≢ verb_name verb ∷ more) × (n ≡ 1);
+-- the command that stands first, and keeps looks or doesn't
+abbrev pub command_in : Bool → List (List ℕ) → Stage ℕ Verb
+command_in keeping words = record {
+  Gives = λ verb. (more : List (List ℕ)) × (words ≡ verb_name verb ∷ more) × (keeps_looks verb ≡ keeping);
+  Refuses = λ n. ((verb : Verb) (more : List (List ℕ)) → keeps_looks verb ≡ keeping → words ≢ verb_name verb ∷ more) × (n ≡ 1);
 }
 
 -- what the pieces behind a command give
@@ -127,10 +127,22 @@ allowed given asked = record {
   Refuses = λ n. forbidden_word given ≡ Some n;
 }
 
--- what words ask for, or the first word at which their reading fails
+-- what a study asks for with what was given, where nothing is missing
+abbrev pub complete_study : ℕ → GivenContent → Stage ℕ StudyAsked
+complete_study count given = record {
+  Gives = λ asked. study_of given ≡ Some asked;
+  Refuses = λ n. (study_of given ≡ None) × (n ≡ count + 1);
+}
+
+-- what words ask a study for, or the first word at which their reading fails
+unfoldable pub study_in : List (List ℕ) → Stage ℕ StudyAsked
+study_in words =
+    and_then (command_in true words) (λ verb. and_then (pieces_in verb (drop 1 words)) (complete_study (length words)))
+
+-- what words ask for that keeps no looks, or the first word at which their reading fails
 unfoldable pub asked_in : List (List ℕ) → Stage ℕ Asked
 asked_in words =
-    and_then (command_in words) (λ verb. and_then (pieces_in verb (drop 1 words)) (λ given. and_then (complete verb (length words) given) (allowed given)))
+    and_then (command_in false words) (λ verb. and_then (pieces_in verb (drop 1 words)) (λ given. and_then (complete verb (length words) given) (allowed given)))
 
 -- ---- one step of the reading
 

@@ -12,6 +12,7 @@ pub(crate) enum Argument {
     Graph,
     Second,
     File,
+    Store,
 }
 
 impl Argument {
@@ -34,6 +35,7 @@ impl Argument {
             b"graph" => Some(Argument::Graph),
             b"second" => Some(Argument::Second),
             b"file" => Some(Argument::File),
+            b"store" => Some(Argument::Store),
             _ => None,
         }
     }

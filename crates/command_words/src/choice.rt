@@ -25,6 +25,7 @@ pub(crate) enum Choice {
     Graph(GraphName),
     Second(u64),
     File,
+    Store,
 }
 
 /// The priority of a name.
@@ -75,6 +76,7 @@ impl Choice {
             Argument::Graph => Some(Choice::Graph(GraphName::named(text)?)),
             Argument::Second => Some(Choice::Second(count_spelt(text)?)),
             Argument::File => Some(Choice::File),
+            Argument::Store => Some(Choice::Store),
         }
     }
 }

@@ -30,6 +30,15 @@ pub enum Command {
     Help,
 }
 
+/// What a study is to do: how its case is written, and the places, from 0, of the word that names the file of its commands, and of
+/// the first word of the option that names the file of its looks.
+#[derive(Clone, Copy)]
+pub struct StudyCall {
+    pub form: CaseForm,
+    pub file: usize,
+    pub store: Option<usize>,
+}
+
 impl Command {
     ghost use Rattle.command_words.specs.Asked.{asked, file_of};
 

@@ -2,7 +2,7 @@
 
 use crate::argument::Argument;
 use crate::choice::Choice;
-use crate::command::{CaseTask, Command};
+use crate::command::{CaseTask, Command, StudyCall};
 use crate::form::{CaseForm, Form};
 use crate::graph_name::GraphName;
 use crate::verb::Verb;
@@ -10,7 +10,7 @@ use fraction::Fraction;
 use sequential::Priority;
 
 /// The values that were given so far, the numbers, from 1, of the words with the names `alpha` and `second`, or 0 where they
-/// aren't given, and the place, from 0, of the word that names a file.
+/// aren't given, and the places, from 0, of the word that names a file and of the first word of the option `store`.
 #[derive(Clone, Copy)]
 pub(crate) struct Given {
     form: Option<Form>,
@@ -24,14 +24,15 @@ pub(crate) struct Given {
     second: Option<u64>,
     second_word: usize,
     file: Option<usize>,
+    store: Option<usize>,
 }
 
 impl Given {
     ghost use Rattle.std.specs.Prelude.{◌≡◌, ◌<◌, ◌^◌, ◌+◌};
     ghost use Rattle.std.specs.Option.{option_map};
-    ghost use Rattle.command_words.specs.Asked.{asked, written};
+    ghost use Rattle.command_words.specs.Asked.{asked, study_asked, written};
     ghost use Rattle.command_words.specs.Choices.{chosen};
-    ghost use Rattle.command_words.specs.Given.{given_content, is_given, nothing, with_chosen, written_of, on_case, check_of, catalogue_of, sample_of, asked_of, alpha_forbidden, second_forbidden, forbidden_word};
+    ghost use Rattle.command_words.specs.Given.{given_content, is_given, nothing, with_chosen, written_of, on_case, check_of, catalogue_of, sample_of, study_of, asked_of, alpha_forbidden, second_forbidden, forbidden_word};
 
     pub(crate) fn new() -> Given
         ensures { given_content result ≡ nothing }
@@ -48,6 +49,7 @@ impl Given {
             second: None,
             second_word: 0,
             file: None,
+            store: None,
         }
     }
 
@@ -65,6 +67,7 @@ impl Given {
             Argument::Graph => self.graph.is_some(),
             Argument::Second => self.second.is_some(),
             Argument::File => self.file.is_some(),
+            Argument::Store => self.store.is_some(),
         }
     }
 
@@ -90,6 +93,7 @@ impl Given {
                 given.second_word = at + 1;
             }
             Choice::File => given.file = Some(at),
+            Choice::Store => given.store = Some(at),
         }
         given
     }
@@ -145,7 +149,20 @@ impl Given {
         Some(Command::Sample { size, seed })
     }
 
-    /// What a command asks for with these arguments; `None` where something is missing.
+    /// What a study is to do; `None` where something is missing.
+    #[tactic(auto, unfolding(crate::specs::Given::study_of))]
+    pub(crate) fn study(&self) -> Option<StudyCall>
+        ensures { option_map study_asked result ≡ study_of (given_content self.now) }
+    {
+        let form = self.case_form()?;
+        Some(StudyCall {
+            form,
+            file: self.file?,
+            store: self.store,
+        })
+    }
+
+    /// What a command that keeps no looks asks for with these arguments; `None` where something is missing.
     pub(crate) fn command(&self, verb: Verb) -> Option<Command>
         ensures { option_map asked result ≡ asked_of verb (given_content self.now) }
     {
@@ -162,6 +179,7 @@ impl Given {
             Verb::Canon => self.on_case(CaseTask::Canon(self.to.unwrap_or(Form::Text))),
             Verb::Catalogue => self.catalogue(),
             Verb::Sample => self.sample(),
+            Verb::Study => None,
             Verb::Help => Some(Command::Help),
         }
     }

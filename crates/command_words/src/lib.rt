@@ -1,7 +1,8 @@
 //! What the words of a call ask for.
 //!
 //! Proved: `read_words` answers the command that the words ask for, or the number of the first word at which they
-//! fail (`given`, `refused`), by a table of commands, options and values; the law `words_are_decided`.
+//! fail (`given`, `refused`), by a table of commands, options and values; `read_study` does so for the command that keeps
+//! looks, which has a top call of its own; the law `words_are_decided`.
 #![tactic(auto)]
 
 mod argument;
@@ -18,7 +19,7 @@ mod tests;
 mod verb;
 mod word;
 
-pub use command::{CaseTask, Command};
+pub use command::{CaseTask, Command, StudyCall};
 pub use form::{CaseForm, Form};
 pub use graph_name::SizedGraph;
-pub use reading::read_words;
+pub use reading::{read_study, read_words};

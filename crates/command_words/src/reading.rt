@@ -1,15 +1,15 @@
 //! Reading the words from left to right.
 ghost use Rattle.std.specs.Prelude.{◌≡◌, ◌↔◌, ◌+◌, ◌<◌, ◌^◌, ◌∷◌, None, IfOk, IfErr, IfSome, IsTrue, [], map, drop, length, string_bytes};
-ghost use Rattle.command_words.specs.Asked.{asked};
+ghost use Rattle.command_words.specs.Asked.{asked, study_asked};
 ghost use Rattle.command_words.specs.Choices.{Chosen, chosen};
 ghost use Rattle.command_words.specs.Given.{given_content};
 ghost use Rattle.command_words.specs.Table.{argument_name};
 ghost use Rattle.command_words.specs.WordParts.{IsBare};
-ghost use Rattle.command_words.specs.Words.{bare, MayOpen, MayStand, IsStep, IsBadFront, command_in, pieces_in, asked_in};
+ghost use Rattle.command_words.specs.Words.{bare, MayOpen, MayStand, IsStep, IsBadFront, command_in, pieces_in, asked_in, study_in};
 
 use crate::argument::Argument;
 use crate::choice::Choice;
-use crate::command::Command;
+use crate::command::{Command, StudyCall};
 use crate::given::Given;
 use crate::verb::Verb;
 use crate::word::{Parts, parts_of};
@@ -115,24 +115,44 @@ fn pieces(verb: Verb, words: &[String]) -> Result<Given, usize>
     Ok(given)
 }
 
-/// The command that stands first.
-fn command_word(words: &[String]) -> Result<Verb, usize>
-    ensures given { IfOk result (command_in (map string_bytes words.now)).Gives }
-    ensures refused { IfErr result (command_in (map string_bytes words.now)).Refuses }
+/// The command that stands first, and keeps looks or doesn't.
+fn command_word(words: &[String], keeping: bool) -> Result<Verb, usize>
+    ensures given { IfOk result (command_in keeping (map string_bytes words.now)).Gives }
+    ensures refused { IfErr result (command_in keeping (map string_bytes words.now)).Refuses }
 {
     let Some(first) = words.first() else {
         return Err(1);
     };
-    Verb::named(first.as_bytes()).ok_or(1)
+    let Some(verb) = Verb::named(first.as_bytes()) else {
+        return Err(1);
+    };
+    if verb.keeps_looks() != keeping {
+        return Err(1);
+    }
+    Ok(verb)
 }
 
-/// What the words ask for; or the number, from 1, of the first word at which the reading fails.
+/// What the words ask a study for; or the number, from 1, of the first word at which the reading fails.
+#[tactic(auto, unfolding(crate::specs::Words::study_in))]
+pub fn read_study(words: &[String]) -> Result<StudyCall, usize>
+    ensures given { IfOk result (λ call. (study_in (map string_bytes words.now)).Gives (study_asked call)) }
+    ensures refused { IfErr result (study_in (map string_bytes words.now)).Refuses }
+{
+    let verb = command_word(words, true)?;
+    let given = pieces(verb, words)?;
+    match given.study() {
+        Some(call) => Ok(call),
+        None => Err(words.len() + 1),
+    }
+}
+
+/// What the words ask for, but of a study; or the number, from 1, of the first word at which the reading fails.
 #[tactic(auto, unfolding(crate::specs::Words::asked_in))]
 pub fn read_words(words: &[String]) -> Result<Command, usize>
     ensures given { IfOk result (λ command. (asked_in (map string_bytes words.now)).Gives (asked command)) }
     ensures refused { IfErr result (asked_in (map string_bytes words.now)).Refuses }
 {
-    let verb = command_word(words)?;
+    let verb = command_word(words, false)?;
     let given = pieces(verb, words)?;
     let Some(command) = given.command(verb) else {
         return Err(words.len() + 1);

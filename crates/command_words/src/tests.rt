@@ -1,5 +1,5 @@
 //! What words ask for, with the values that they give.
-use crate::{CaseForm, CaseTask, Command, read_words};
+use crate::{CaseForm, CaseTask, Command, read_study, read_words};
 use field_core::NoMemory;
 use sequential::Priority;
 use std::alloc::Global;
@@ -171,5 +171,61 @@ fn samples_have_sizes_and_seeds(rt: HostRuntime) -> Result<(), Fail> {
         &["sample", "--size=1", "--seed=18446744073709551616"],
     )?;
     assert_eq!(rt; above, None);
+    Ok(())
+}
+
+/// Whether the case of a study is JSON, and the places of its files; or the word at which the reading fails.
+fn study_of(
+    alloc: Global,
+    words: &[&str],
+) -> Result<Result<(bool, usize, Option<usize>), usize>, NoMemory> {
+    let words = words_of(alloc, words)?;
+    Ok(read_study(words.as_slice()).map(|call| (
+        matches!(&call.form, CaseForm::Json),
+        call.file,
+        call.store,
+    )))
+}
+
+#[test]
+fn studies_have_a_file(rt: HostRuntime) -> Result<(), Fail> {
+    let alloc = rt.alloc();
+    let rows: [(&[&str], (bool, usize, Option<usize>)); 4] = [
+        (&["study", "looks.txt"], (false, 1, None)),
+        (&["study", "--store", "a.db", "-"], (false, 3, Some(1))),
+        (
+            &["study", "a", "--store=", "--form=json"],
+            (true, 1, Some(2)),
+        ),
+        (&["study", "--form", "text", "study"], (false, 3, None)),
+    ];
+    for (words, wanted) in rows {
+        assert_eq!(rt; study_of(alloc, words)?, Ok(wanted));
+    }
+    Ok(())
+}
+
+#[test]
+fn words_of_studies_that_fail(rt: HostRuntime) -> Result<(), Fail> {
+    let alloc = rt.alloc();
+    let rows: [(&[&str], usize); 7] = [
+        (&[], 1),
+        (&["test"], 1),
+        (&["study"], 2),
+        (&["study", "a", "--form=csv"], 3),
+        (&["study", "a", "--alpha=1"], 3),
+        (&["study", "a", "--store", "b", "--store=c"], 5),
+        (&["study", "a", "--store"], 4),
+    ];
+    for (words, word) in rows {
+        assert_eq!(rt; study_of(alloc, words)?, Err(word));
+    }
+    Ok(())
+}
+
+#[test]
+fn a_study_is_no_other_command(rt: HostRuntime) -> Result<(), Fail> {
+    let words = words_of(rt.alloc(), &["study", "looks.txt"])?;
+    assert_eq!(rt; read_words(words.as_slice()).err(), Some(1));
     Ok(())
 }

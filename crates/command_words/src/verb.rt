@@ -16,12 +16,13 @@ pub(crate) enum Verb {
     Canon,
     Catalogue,
     Sample,
+    Study,
     Help,
 }
 
 impl Verb {
     ghost use Rattle.std.specs.Prelude.{◌≡◌, ◌≢◌, ◌↔◌, IfSome, IsTrue, Contains};
-    ghost use Rattle.command_words.specs.Table.{verb_name, options_of, operand_of, forms_of};
+    ghost use Rattle.command_words.specs.Table.{verb_name, keeps_looks, options_of, operand_of, forms_of};
 
     /// The command of a name.
     #[tactic(auto, unfolding(crate::specs::Table::verb_name))]
@@ -40,8 +41,20 @@ impl Verb {
             b"canon" => Some(Verb::Canon),
             b"catalogue" => Some(Verb::Catalogue),
             b"sample" => Some(Verb::Sample),
+            b"study" => Some(Verb::Study),
             b"help" => Some(Verb::Help),
             _ => None,
+        }
+    }
+
+    /// Whether the command takes looks that are kept from call to call.
+    #[tactic(auto, unfolding(crate::specs::Table::keeps_looks))]
+    pub(crate) fn keeps_looks(self) -> bool
+        ensures { result ≡ keeps_looks self }
+    {
+        match self {
+            Verb::Study => true,
+            _ => false,
         }
     }
 
@@ -61,6 +74,7 @@ impl Verb {
             Verb::Canon => &[Argument::Form, Argument::Alpha, Argument::To],
             Verb::Catalogue => &[Argument::Size, Argument::Second],
             Verb::Sample => &[Argument::Size, Argument::Seed],
+            Verb::Study => &[Argument::Form, Argument::Store],
             Verb::Help => &[],
         }
     }
@@ -79,6 +93,7 @@ impl Verb {
             Verb::Stages => &[Form::Text, Form::Json],
             Verb::Check => &[Form::Text, Form::Csv, Form::Json],
             Verb::Canon => &[Form::Text, Form::Csv, Form::Json],
+            Verb::Study => &[Form::Text, Form::Json],
             Verb::Catalogue | Verb::Sample | Verb::Help => &[],
         }
     }
@@ -90,7 +105,7 @@ impl Verb {
     {
         match self {
             Verb::Catalogue => Some(Argument::Graph),
-            Verb::Check => Some(Argument::File),
+            Verb::Check | Verb::Study => Some(Argument::File),
             _ => None,
         }
     }

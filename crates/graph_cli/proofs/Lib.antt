@@ -5,6 +5,7 @@ pub mod CheckedReports
 pub mod ClosedReports
 pub mod EvidenceAnswers
 pub mod EvidenceReports
+pub mod Files
 pub mod HandedOn
 pub mod JsonRefused
 pub mod MadeAnswers

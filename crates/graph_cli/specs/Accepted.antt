@@ -27,7 +27,7 @@ use Rattle.refusals.specs.JsonRefusal.{syntax_refusal, json_refusal}
 use Rattle.refusals.specs.NeedRefusal.{kind_refusal, closure_refusal}
 use Rattle.refusals.specs.TextRefusal.{line_refusal}
 use Rattle.graph_cli.specs.declared.kind.Kind.{Kind}
-use Rattle.graph_cli.specs.declared.kind.Kind.TheVariants.{Any, Single, Staged}
+use Rattle.graph_cli.specs.declared.kind.Kind.TheVariants.{Any, Single, Staged, Awaited}
 use Rattle.graph_cli.specs.declared.needs.Needs.{Needs}
 
 -- the bytes are the JSON of no value
@@ -69,6 +69,9 @@ IsOfKind Single (Stages stages) = ⊥
 IsOfKind Staged (Stages stages) = Unit {0}
 IsOfKind Staged NoValues = ⊥
 IsOfKind Staged (Values ps) = ⊥
+IsOfKind Awaited (Stages stages) = stages.arrivals ≡ []
+IsOfKind Awaited NoValues = ⊥
+IsOfKind Awaited (Values ps) = ⊥
 
 -- a case with p-values of a kind
 abbrev pub of_kind : Kind → Content → Stage Refusal Content

@@ -15,6 +15,7 @@ help_text =
     line (codes "evidence [--form F] [--alpha N] [--priority P]") ++
     line (codes "check FILE [--form F] [--alpha N]") ++
     line (codes "stages [--form F]") ++
+    line (codes "study FILE [--form F] [--store PATH]") ++
     line (codes "canon [--form F] [--alpha N] [--to F]") ++
     line (codes "catalogue NAME --size N [--second N]") ++
     line (codes "sample --size N --seed N") ++

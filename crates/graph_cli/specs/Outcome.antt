@@ -1,10 +1,10 @@
 -- What words, a case and a proof call for: the first stage that refuses decides.
-use Rattle.std.specs.Prelude.{ℕ, ◌⊎◌, List, Option}
+use Rattle.std.specs.Prelude.{◌≡◌, ℕ, ◌⊎◌, List, Option, Some}
 use Rattle.answers.specs.declared.answer.Answer.{Answer}
 use Rattle.answers.specs.declared.refusal.Refusal.{Refusal}
 use Rattle.answers.specs.Stages.{Stage, and_then, told_as}
-use Rattle.command_words.specs.Asked.{Asked}
-use Rattle.command_words.specs.Words.{asked_in}
+use Rattle.command_words.specs.Asked.{Asked, StudyAsked, file_of}
+use Rattle.command_words.specs.Words.{asked_in, study_in}
 use Rattle.refusals.specs.UsageRefusal.{usage}
 use Rattle.graph_cli.specs.Commands.{call_of, TakesCase, TakesProof}
 
@@ -15,6 +15,14 @@ outcome words case proof = and_then (told_as usage (asked_in words)) (λ command
 -- words are accepted, and ask for this
 abbrev pub AskFor : List (List ℕ) → Asked → Type 0
 AskFor words command = (asked_in words).Gives command
+
+-- words are accepted, and ask a study for this
+abbrev pub AskStudy : List (List ℕ) → StudyAsked → Type 0
+AskStudy words asked = (study_in words).Gives asked
+
+-- the word at this place, from 0, names the file of a proof, or that of the commands of a study
+abbrev pub NamesFile : List (List ℕ) → ℕ → Type 0
+NamesFile words place = ((command : Asked) × AskFor words command × (file_of command ≡ Some place)) ⊎ ((asked : StudyAsked) × AskStudy words asked × (asked.file ≡ place))
 
 -- the words ask for a command that reads a case
 abbrev pub ReadsCase : List (List ℕ) → Type 0

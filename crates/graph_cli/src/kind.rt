@@ -4,12 +4,14 @@ ghost use Rattle.case_model.specs.CaseView.{content};
 
 use case_model::{Case, Inputs};
 
-/// The p-values that a command needs: any or none, one for each hypothesis, or those of stages.
+/// The p-values that a command needs: any or none, one for each hypothesis, those of stages, or those of stages of which none has
+/// arrived.
 #[derive(Clone, Copy, PartialEq, Eq, Debug)]
 pub enum Kind {
     Any,
     Single,
     Staged,
+    Awaited,
 }
 
 impl Kind {
@@ -23,6 +25,7 @@ impl Kind {
             (Kind::Any, _) => true,
             (Kind::Single, Inputs::Single(_)) => true,
             (Kind::Staged, Inputs::Staged(_)) => true,
+            (Kind::Awaited, Inputs::Staged(stages)) => stages.arrivals().is_empty(),
             _ => false,
         }
     }

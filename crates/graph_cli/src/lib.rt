@@ -30,4 +30,7 @@ pub mod laws;
 mod needs;
 mod top;
 
+pub use accepted::accepted_case;
+pub use kind::Kind;
+pub use needs::Needs;
 pub use top::{file_word, run};

@@ -1,30 +1,30 @@
 //! The top call.
-ghost use Rattle.std.specs.Prelude.{◌≡◌, None, Some, IfOk, OnOk, IfErr, IfSome, map, string_bytes};
+ghost use Rattle.std.specs.Prelude.{◌≡◌, ℕ, None, IfOk, OnOk, IfErr, IfSome, map, string_bytes};
 ghost use Rattle.std.specs.Io.KnownBytes.{IsAtEnd};
 ghost use Rattle.graph_io.specs.Causes.{Rose};
 ghost use Rattle.answers.specs.Halts.{StopsBy, IfAnswered};
 ghost use Rattle.answers.specs.Runs.{Runs, Uses};
 ghost use Rattle.answers.specs.Stages.{IsAnswerOf};
-ghost use Rattle.command_words.specs.Asked.{Asked, file_of};
-ghost use Rattle.graph_cli.specs.Outcome.{AskFor, outcome, ReadsCase, ReadsProof, ReadRose};
+ghost use Rattle.graph_cli.specs.Outcome.{NamesFile, outcome, ReadsCase, ReadsProof, ReadRose};
 
 use crate::commands::call;
 use answers::{Answer, Stop, conclude};
-use command_words::read_words;
+use command_words::{read_study, read_words};
 use graph_io::{Sink, Source};
 use refusals::usage;
 use std::alloc::Global;
 
-/// The place, from 0, of the word that names the file of a proof.
+/// The place, from 0, of the word that names the file of a proof, or that of the commands of a study.
 pub fn file_word(words: &[String]) -> Option<usize>
-    ensures file { IfSome result (λ place. (command : Asked) ×
-        AskFor (map string_bytes words.now) command × (file_of command ≡ Some place)) }
-    ensures none { result ≡ None → (command : Asked) →
-        AskFor (map string_bytes words.now) command → file_of command ≡ None }
+    ensures file { IfSome result (NamesFile (map string_bytes words.now)) }
+    ensures none { result ≡ None → (place : ℕ) → ¬ NamesFile (map string_bytes words.now) place }
 {
     match read_words(words) {
         Ok(command) => command.file(),
-        Err(_) => None,
+        Err(_) => match read_study(words) {
+            Ok(call) => Some(call.file),
+            Err(_) => None,
+        },
     }
 }
 

@@ -19,6 +19,7 @@ pub fn help_answer(alloc: Global) -> Result<Answer, NoMemory>
     text.append(b"evidence [--form F] [--alpha N] [--priority P]\n")?;
     text.append(b"check FILE [--form F] [--alpha N]\n")?;
     text.append(b"stages [--form F]\n")?;
+    text.append(b"study FILE [--form F] [--store PATH]\n")?;
     text.append(b"canon [--form F] [--alpha N] [--to F]\n")?;
     text.append(b"catalogue NAME --size N [--second N]\n")?;
     text.append(b"sample --size N --seed N\n")?;

@@ -1,13 +1,11 @@
-use Rattle.std.proofs.Common.{sym, ap, ◌∙◌, map}
+use Rattle.std.proofs.Common.{sym, ◌∙◌, map, inl, inr}
 use Rattle.std.specs.Prelude.{string_bytes}
-use Rattle.command_words.specs.Asked.{asked, file_of}
-use Rattle.command_words.proofs.OneReading.{words_decided}
+use Rattle.command_words.specs.Asked.{asked, study_asked}
+use Rattle.graph_cli.proofs.Files.{no_file_by, file_by}
 use Rattle.graph_cli.proofs.top.file_word.Goals as goal
 
-pub returns-in-Ok-clause-none : goal.returns-in-Ok-clause-none
-returns-in-Ok-clause-none c =
-    λ e command asks. ap file_of ((words_decided (map string_bytes c.args.words.now)).one command (asked c.in-Ok.command) asks c.in-Ok.ensures.given) ∙ (sym c.file.ensures ∙ e)
+pub returns-in-Ok-clause-file : goal.returns-in-Ok-clause-file
+returns-in-Ok-clause-file c = file_by (map string_bytes c.args.words.now) (asked c.in-Ok.command) c.file.result c.in-Ok.ensures.given c.file.ensures
 
-pub returns-in-Err-clause-none : goal.returns-in-Err-clause-none
-returns-in-Err-clause-none c =
-    λ e command asks. absurd ((words_decided (map string_bytes c.args.words.now)).not_both command c.in-Err.field-0 asks c.in-Err.ensures.refused)
+pub returns-in-Ok-clause-none : goal.returns-in-Ok-clause-none
+returns-in-Ok-clause-none c = λ e place named. no_file_by (map string_bytes c.args.words.now) (asked c.in-Ok.command) place c.in-Ok.ensures.given (sym c.file.ensures ∙ e) named

@@ -27,3 +27,6 @@ returns-in-Second c = rw c.in-Second.is refl
 
 pub returns-in-File : goal.returns-in-File
 returns-in-File c = rw c.in-File.is refl
+
+pub returns-in-Store : goal.returns-in-Store
+returns-in-Store c = rw c.in-Store.is refl

@@ -1,0 +1,23 @@
+-- The files that words name.
+use Rattle.std.proofs.Common.{◌≡◌, ◌⊎◌, inl, inr, refl, sym, ap, ◌∙◌, subst, ℕ, Bool, true, false, List, ◌∷◌, Some, None}
+use Rattle.std.specs.Prelude.{IfSome}
+use Rattle.std.specs.declared.option.Option.{Option}
+use Rattle.command_words.specs.Asked.{Asked, StudyAsked, file_of}
+use Rattle.command_words.specs.Words.{asked_in, study_in}
+use Rattle.command_words.proofs.OneReading.{words_decided, one_reader}
+use Rattle.graph_cli.specs.Outcome.{AskFor, AskStudy, NamesFile}
+
+same_file : (o : Option ℕ) (i : ℕ) → o ≡ None → o ≡ Some i → ⊥
+same_file o i h k = cc
+
+-- the file of a command that is asked for
+pub file_by : (words : List (List ℕ)) (command : Asked) (place : Option ℕ) → AskFor words command → place ≡ file_of command → IfSome place (NamesFile words)
+file_by words command None asks e = tt
+file_by words command (Some place) asks e = inl (command, asks, sym e)
+
+-- a command that names no file is asked for
+pub no_file_by : (words : List (List ℕ)) (command : Asked) (place : ℕ) → AskFor words command → file_of command ≡ None → ¬ NamesFile words place
+no_file_by words command place asks none (inl h) =
+    let same : h.0 ≡ command = (words_decided words).one h.0 command h.1 asks in
+    same_file (file_of command) place none (subst (λ x. file_of x ≡ Some place) same h.2)
+no_file_by words command place asks none (inr h) = one_reader words command h.0 asks h.1

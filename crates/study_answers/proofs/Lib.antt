@@ -1,0 +1,7 @@
+pub mod Answering
+pub mod KeptLooks
+pub mod Looks
+pub mod OneEnd
+pub mod CommandsReplied
+pub mod StudyEndings
+pub mod StudyHalting

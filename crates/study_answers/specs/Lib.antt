@@ -1,0 +1,5 @@
+pub mod Replies
+pub mod StudyStages
+pub mod AnswerView
+pub mod StudyRuns
+pub mod StudyStatements

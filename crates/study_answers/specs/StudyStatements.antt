@@ -1,0 +1,45 @@
+-- The laws of studies whose looks are kept, over all kept looks and all commands, as contracts name them.
+use Rattle.std.specs.Prelude.{◌≡◌, ◌++◌, ◌↔◌, ◌⊎◌, ℕ, List, [], ◌∷◌}
+use Rattle.field_core.specs.declared.place.WideAt.{WideAt}
+use Rattle.graph_io.specs.declared.keeper.Look.{Look}
+use Rattle.answers.specs.declared.status.Status.TheVariants.{Done}
+use Rattle.answers.specs.Stages.{IsDecided}
+use Rattle.case_model.specs.Content.{Content}
+use Rattle.case_model.specs.LegalOrder.{IsListed}
+use Rattle.case_model.specs.StagedCase.{IsStagedRejectedIn}
+use Rattle.case_model.specs.Validity.{IsValidContent}
+use Rattle.report.specs.StudyReport.{Reply}
+use Rattle.staged_levels.specs.Studies.{StudyState, positions_of}
+use Rattle.study_commands.specs.declared.command.StudyCommand.{StudyCommand}
+use Rattle.study_register.specs.Looking.{arrivals_of, AreTaken}
+use Rattle.study_answers.specs.Replies.{looks_taken, AreReplies, IsFirstBreak, MayTake}
+use Rattle.study_answers.specs.StudyStages.{StudyEnd, study_stage}
+
+-- kept looks and commands have one end
+abbrev pub StudiesHaveOneEnd : Type 0
+StudiesHaveOneEnd = (c : Content) (commands : List StudyCommand) (looks : List Look) → IsDecided (study_stage c commands looks)
+
+-- The rejections of a state are those of the staged closed test on these looks, and whoever takes these looks again, in this order, comes to the same rejections in the same order, with the same stages and weights.
+pub record DecidesOn (c : Content) (looks : List Look) (s : StudyState) : Type 0 where
+  pub taken : AreTaken c looks s
+  pub named : (j : ℕ) → IsListed (positions_of s.rejected) j ↔ IsStagedRejectedIn c (arrivals_of looks) j
+  pub again : (t : StudyState) → AreTaken c looks t → t.rejected ≡ s.rejected
+
+-- By any commands, at each moment: what is rejected is what the staged closed test rejects on all looks that were kept and taken.
+abbrev pub RepliesDecide : Type 0
+RepliesDecide =
+    (c : Content) (commands : List StudyCommand) (looks : List Look) (replies : List Reply) (s t : StudyState) → IsValidContent c → AreTaken c looks s → AreReplies c 1 s commands replies t
+    → DecidesOn c (looks ++ looks_taken replies) t
+
+-- Where all commands are answered, the keeper's looks at the end decide.
+abbrev pub KeptLooksDecide : Type 0
+KeptLooksDecide =
+    (c : Content) (commands : List StudyCommand) (looks : List Look) (e : StudyEnd) → IsValidContent c → (study_stage c commands looks).Gives e → e.answer.status ≡ Done
+    → (s : StudyState) × DecidesOn c (looks ++ e.looks) s
+
+-- The looks that the commands before some place take are the first of those that all commands take, or that all take before one that breaks off.
+abbrev pub TakenLooksAreFirst : Type 0
+TakenLooksAreFirst =
+    (c : Content) (commands : List StudyCommand) (s : StudyState) (some all : List Look) → MayTake c 1 s commands some
+    → ((replies : List Reply) × (t : StudyState) × AreReplies c 1 s commands replies t × (all ≡ looks_taken replies)) ⊎ ((place : ℕ) × (w : WideAt) × IsFirstBreak c 1 s commands all place w)
+    → (more : List Look) × (all ≡ some ++ more)

@@ -1,0 +1,4 @@
+pub mod AskedStudies
+pub mod OneOutcome
+pub mod StorePlaces
+pub mod StoreValues

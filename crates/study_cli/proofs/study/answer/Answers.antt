@@ -1,0 +1,30 @@
+use Rattle.std.proofs.Common.{inl, inr, refl, map}
+use Rattle.std.specs.Prelude.{string_bytes}
+use Rattle.answers.specs.declared.refusal.Refusal.{Refusal}
+use Rattle.command_words.specs.Asked.{study_asked}
+use Rattle.study_answers.specs.StudyStages.{StudyEnd}
+use Rattle.study_answers.proofs.StudyHalting.{handed_on, no_room, stops_weaker, keeps_on}
+use Rattle.study_cli.proofs.AskedStudies.{rose_by}
+use Rattle.study_cli.proofs.study.answer.Goals as goal
+
+pub returns-in_err-usage-in-Err-clause-stopped : goal.returns-in_err-usage-in-Err-clause-stopped
+returns-in_err-usage-in-Err-clause-stopped g c = handed_on _ _ _ c.from_residual.ensures.1 (no_room _ _ _ _ _ _ refl (inl refl))
+
+pub returns-in-Ok-clause-given : goal.returns-in-Ok-clause-given
+returns-in-Ok-clause-given g c = keeps_on c.study_call.result _ _ _ _ (λ (e : StudyEnd) h. (study_asked c.in-Ok.call, c.in-Ok.ensures.given, h)) c.study_call.ensures.given
+
+pub returns-in-Ok-clause-stopped : goal.returns-in-Ok-clause-stopped
+returns-in-Ok-clause-stopped g c =
+    let asked = study_asked c.in-Ok.call in
+    let asks = c.in-Ok.ensures.given in
+    let words = map string_bytes c.args.words.now in
+    stops_weaker c.study_call.result _ _ _ _ _ _ _ _ _ (λ (r : Refusal) h. inr (asked, asks, h)) (λ f. rose_by words (g.S.Source.left c.args.case.now) asked _ _ asks f) (λ more h. inr (asked, asks, h)) c.study_call.ensures.stopped
+
+pub returns-in-Ok-clause-case_kept : goal.returns-in-Ok-clause-case_kept
+returns-in-Ok-clause-case_kept g c = λ none. absurd (none (study_asked c.in-Ok.call, c.in-Ok.ensures.given))
+
+pub returns-in-Ok-clause-commands_kept : goal.returns-in-Ok-clause-commands_kept
+returns-in-Ok-clause-commands_kept g c = λ none. c.study_call.ensures.commands_kept (λ s. none (study_asked c.in-Ok.call, c.in-Ok.ensures.given, s))
+
+pub returns-in-Ok-clause-keeper_kept : goal.returns-in-Ok-clause-keeper_kept
+returns-in-Ok-clause-keeper_kept g c = λ none. c.study_call.ensures.keeper_kept (λ s. none (study_asked c.in-Ok.call, c.in-Ok.ensures.given, s))

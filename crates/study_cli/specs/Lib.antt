@@ -1,0 +1,2 @@
+pub mod StudyLaws
+pub mod StudyOutcome

@@ -1,0 +1,94 @@
+-- What words, a case, commands and kept looks call for: the first stage that refuses decides.
+use Rattle.std.specs.Prelude.{◌≡◌, ◌⊎◌, ◌++◌, ℕ, List, [], ◌∷◌, Option, Some, length, codes}
+use Rattle.graph_io.specs.declared.keeper.Look.{Look}
+use Rattle.answers.specs.declared.refusal.Refusal.{Refusal}
+use Rattle.answers.specs.Stages.{Stage, and_then, told_as, on_bytes, within}
+use Rattle.case_model.specs.Content.{Content}
+use Rattle.command_words.specs.Asked.{StudyAsked}
+use Rattle.command_words.specs.WordParts.{opener, joined_word}
+use Rattle.command_words.specs.Words.{study_in}
+use Rattle.edge_text.specs.declared.fault.LineKind.{LineKind}
+use Rattle.refusals.specs.TextRefusal.{commands_refusal}
+use Rattle.refusals.specs.UsageRefusal.{usage}
+use Rattle.graph_cli.specs.Accepted.{accepted}
+use Rattle.graph_cli.specs.Outcome.{AskStudy}
+use Rattle.graph_cli.specs.declared.kind.Kind.TheVariants.{Awaited}
+use Rattle.graph_cli.specs.declared.needs.Needs.{Needs}
+use Rattle.study_commands.specs.CommandLines.{AreCommands}
+use Rattle.study_commands.specs.CommandFaults.{IsFirstFault}
+use Rattle.study_commands.specs.declared.command.StudyCommand.{StudyCommand}
+use Rattle.study_answers.specs.AnswerView.{MayKeep}
+use Rattle.study_answers.specs.StudyStages.{StudyEnd, study_stage, on_looks}
+
+-- what a study needs of its case: p-values of stages of which none has arrived
+unfoldable pub study_needs : Needs
+study_needs = record { kind = Awaited; most = 64 }
+
+-- the commands that a text says for a case, or the first line that says none
+abbrev pub commands_in : Content → List ℕ → Stage Refusal (List StudyCommand)
+commands_in c bytes = record {
+  Gives = λ commands. AreCommands c.names bytes commands;
+  Refuses = λ r. (n : ℕ) × (kind : LineKind) × IsFirstFault c.names bytes n kind × (r ≡ commands_refusal n kind);
+}
+
+-- the case that a study asks for, where it can take it
+abbrev pub case_of : StudyAsked → Option (List ℕ) → Stage Refusal Content
+case_of asked case = accepted asked.form study_needs case
+
+-- the commands that a source says for a case
+abbrev pub commands_of : Content → Option (List ℕ) → Stage Refusal (List StudyCommand)
+commands_of c commands = and_then (on_bytes commands (within (codes "commands "))) (commands_in c)
+
+-- the case, then the commands, then the kept looks and the replies
+unfoldable pub study_call : StudyAsked → Option (List ℕ) → Option (List ℕ) → Option (List Look) → Stage Refusal StudyEnd
+study_call asked case commands kept = and_then (case_of asked case) (λ c. and_then (commands_of c commands) (λ list. on_looks kept (study_stage c list)))
+
+-- the outcome of words, a case, commands and kept looks
+abbrev pub study_outcome : List (List ℕ) → Option (List ℕ) → Option (List ℕ) → Option (List Look) → Stage Refusal StudyEnd
+study_outcome words case commands kept = and_then (told_as usage (study_in words)) (λ asked. study_call asked case commands kept)
+
+-- a case is said that a study can take
+abbrev pub IsStudied : StudyAsked → Option (List ℕ) → Type 0
+IsStudied asked case = (c : Content) × (case_of asked case).Gives c
+
+-- besides, commands are said
+abbrev pub IsCommanded : StudyAsked → Option (List ℕ) → Option (List ℕ) → Type 0
+IsCommanded asked case commands = (c : Content) × (case_of asked case).Gives c × (list : List StudyCommand) × (commands_of c commands).Gives list
+
+-- besides, the looks that may be kept where the call breaks off
+abbrev pub MayBeKept : StudyAsked → Option (List ℕ) → Option (List ℕ) → Option (List Look) → List Look → Type 0
+MayBeKept asked case commands kept more =
+    (more ≡ []) ⊎ ((c : Content) × (case_of asked case).Gives c × (list : List StudyCommand) × (commands_of c commands).Gives list × MayKeep c list kept more)
+
+-- the words ask a study for something
+abbrev pub ReadsCase : List (List ℕ) → Type 0
+ReadsCase words = (asked : StudyAsked) × AskStudy words asked
+
+-- besides, nothing before the commands refuses
+abbrev pub ReadsCommands : List (List ℕ) → Option (List ℕ) → Type 0
+ReadsCommands words case = (asked : StudyAsked) × AskStudy words asked × IsStudied asked case
+
+-- besides, nothing before the kept looks refuses
+abbrev pub AsksKeeper : List (List ℕ) → Option (List ℕ) → Option (List ℕ) → Type 0
+AsksKeeper words case commands = (asked : StudyAsked) × AskStudy words asked × IsCommanded asked case commands
+
+-- a source that is read had a fault
+abbrev pub ReadRose : List (List ℕ) → Option (List ℕ) → Type 0 → Type 0 → Type 0
+ReadRose words case case_rose commands_rose = (ReadsCase words × case_rose) ⊎ (ReadsCommands words case × commands_rose)
+
+-- the looks that may be kept besides where a call with these words breaks off
+abbrev pub MayEnd : List (List ℕ) → Option (List ℕ) → Option (List ℕ) → Option (List Look) → List Look → Type 0
+MayEnd words case commands kept more = (more ≡ []) ⊎ ((asked : StudyAsked) × AskStudy words asked × MayBeKept asked case commands kept more)
+
+-- ---- the file of the looks
+
+-- At this place, from 0, the option `store` begins, in one word or two, and this is its value.
+pub record StoresAt (words : List (List ℕ)) (place : ℕ) (path : List ℕ) : Type 0 where
+  pub front : List (List ℕ)
+  pub rest : List (List ℕ)
+  pub place_is : place ≡ length front
+  pub words_are : (words ≡ front ++ joined_word (codes "store") path ∷ rest) ⊎ (words ≡ front ++ opener (codes "store") ∷ path ∷ rest)
+
+-- the words ask a study for something, and the option `store` is given with this value
+abbrev pub NamesStore : List (List ℕ) → List ℕ → Type 0
+NamesStore words path = (asked : StudyAsked) × AskStudy words asked × (place : ℕ) × (asked.store ≡ Some place) × StoresAt words place path

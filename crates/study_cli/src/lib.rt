@@ -1,0 +1,21 @@
+//! The top call of studies whose looks are kept: words, a case and commands in, a text and a status out, over a keeper.
+//!
+//! Proved, of `run_study`:
+//! - `runs`: the status, the bytes put and the looks that the keeper holds. Statuses up to 5 come with the whole text that the
+//!   words, the case, the commands and the kept looks call for (`study_outcome`), and with the looks that it keeps besides; 6, 7
+//!   and 9 only where a source that is read, the sink or the keeper had a fault in this call, 8 with `no memory`; with 6 no look is
+//!   kept besides, with 8 and 9 only looks that commands before some place take. Where no fault came, the status is up to 5, or 8,
+//!   and with these no fault came.
+//! - `case`, `commands`, `untouched`: a source that isn't read stays as it was, and one that is was read to its end after status 0.
+//!   The commands are read only behind a case that a study can take, and the keeper is asked only behind commands that are all
+//!   said.
+//! - `store_path`: `path`, `none`.
+//! - Law in `src/laws.rt`: `studies_have_one_outcome`.
+#![tactic(auto)]
+
+pub mod laws;
+mod store;
+mod study;
+
+pub use store::store_path;
+pub use study::run_study;

@@ -1,0 +1,156 @@
+//! The top call of studies.
+ghost use Rattle.std.specs.Prelude.{◌≡◌, ◌⊎◌, ◌≤◌, IfOk, OnOk, IfErr, map, string_bytes, length};
+ghost use Rattle.std.specs.List.{AllByRecursion};
+ghost use Rattle.std.specs.Io.KnownBytes.{IsAtEnd};
+ghost use Rattle.graph_io.specs.Causes.{Rose};
+ghost use Rattle.answers.specs.Halts.{HaltsBy};
+ghost use Rattle.answers.specs.Runs.{Uses};
+ghost use Rattle.case_model.specs.CaseView.{content};
+ghost use Rattle.command_words.specs.Asked.{study_asked};
+ghost use Rattle.study_commands.specs.CommandLines.{IsBelow};
+ghost use Rattle.study_answers.specs.AnswerView.{KeepWith, StopsStudy, IfAnswered};
+ghost use Rattle.study_answers.specs.StudyRuns.{IsEndOf, RunsStudy};
+ghost use Rattle.study_cli.specs.StudyOutcome.{study_needs, commands_in, study_call, study_outcome, IsStudied, IsCommanded, MayBeKept, ReadsCase, ReadsCommands, AsksKeeper, ReadRose, MayEnd};
+
+use answers::{Answer, Halt, Stop, take_whole};
+use case_model::Case;
+use command_words::{StudyCall, read_study};
+use field_core::List;
+use graph_cli::{Kind, Needs, accepted_case};
+use graph_io::{Keeper, Sink, Source};
+use refusals::{commands_refusal, usage};
+use std::alloc::Global;
+use study_answers::{StudyStop, conclude_study, study_answer};
+use study_commands::{CommandsFault, StudyCommand, read_commands};
+
+/// What a study needs of its case.
+#[tactic(auto, unfolding(crate::specs::StudyOutcome::study_needs))]
+fn study_needs() -> Needs
+    ensures { result ≡ study_needs }
+{
+    Needs::new(Kind::Awaited, 64)
+}
+
+/// The commands that a text says for a case.
+fn commands_in(alloc: Global, case: &Case, bytes: &[u8]) -> Result<List<StudyCommand>, Halt>
+    ensures given { IfOk result (commands_in (content case.now) bytes.now).Gives }
+    ensures below { IfOk result (AllByRecursion (IsBelow (length (content case.now).names))) }
+    ensures refused { IfErr result (HaltsBy (commands_in (content case.now) bytes.now).Refuses) }
+{
+    match read_commands(alloc, case, bytes) {
+        Ok(commands) => Ok(commands),
+        Err(CommandsFault::Line(n, kind)) => Err(Halt::Refused(commands_refusal(alloc, n, kind)?)),
+        Err(CommandsFault::NoMemory) => Err(Halt::NoMemory),
+    }
+}
+
+/// What a study answers to a case, commands and kept looks. It takes from the commands only behind a case that it can take, and
+/// asks the keeper only behind commands that are all said.
+#[tactic(auto, unfolding(crate::specs::StudyOutcome::study_call))]
+fn study_call<S: Source, T: Source, K: Keeper>(
+    alloc: Global,
+    call: &StudyCall,
+    case: &mut S,
+    commands: &mut T,
+    keeper: &mut K,
+) -> Result<Answer, StudyStop>
+    ensures given { IfOk result (KeepWith
+        (study_call (study_asked call.now) (S.left case.old) (T.left commands.old) (K.looks keeper.old)).Gives
+        (K.looks keeper.old) (K.looks keeper.new)) }
+    ensures stopped { IfErr result (StopsStudy
+        (study_call (study_asked call.now) (S.left case.old) (T.left commands.old) (K.looks keeper.old)).Refuses
+        (Rose (S.faults case.old) (S.faults case.new) ⊎
+        (IsStudied (study_asked call.now) (S.left case.old) × Rose (T.faults commands.old) (T.faults commands.new)))
+        (Rose (K.faults keeper.old) (K.faults keeper.new))
+        (MayBeKept (study_asked call.now) (S.left case.old) (T.left commands.old) (K.looks keeper.old))
+        (K.looks keeper.old) (K.looks keeper.new)) }
+    ensures clean { IfAnswered result
+        ((S.faults case.new ≡ S.faults case.old) × (T.faults commands.new ≡ T.faults commands.old) ×
+        (K.faults keeper.new ≡ K.faults keeper.old)) }
+    ensures case_end { OnOk result (IsAtEnd (S.left case.new)) }
+    ensures commands_kept { ¬ IsStudied (study_asked call.now) (S.left case.old) → commands.new ≡ commands.old }
+    ensures commands_end { OnOk result (IsAtEnd (T.left commands.new)) }
+    ensures keeper_kept { ¬ IsCommanded (study_asked call.now) (S.left case.old) (T.left commands.old) →
+        keeper.new ≡ keeper.old }
+{
+    let accepted = accepted_case(alloc, &call.form, study_needs(), case)?;
+    let bytes = take_whole(alloc, b"commands ", commands)?;
+    let list = commands_in(alloc, &accepted, bytes.as_slice())?;
+    study_answer(alloc, &accepted, keeper, list.as_slice())
+}
+
+/// What these words, this case, these commands and the looks of this keeper call for.
+fn answer<S: Source, T: Source, K: Keeper>(
+    alloc: Global,
+    words: &[String],
+    case: &mut S,
+    commands: &mut T,
+    keeper: &mut K,
+) -> Result<Answer, StudyStop>
+    ensures given { IfOk result (KeepWith
+        (study_outcome (map string_bytes words.now) (S.left case.old) (T.left commands.old) (K.looks keeper.old)).Gives
+        (K.looks keeper.old) (K.looks keeper.new)) }
+    ensures stopped { IfErr result (StopsStudy
+        (study_outcome (map string_bytes words.now) (S.left case.old) (T.left commands.old) (K.looks keeper.old)).Refuses
+        (ReadRose (map string_bytes words.now) (S.left case.old)
+        (Rose (S.faults case.old) (S.faults case.new)) (Rose (T.faults commands.old) (T.faults commands.new)))
+        (Rose (K.faults keeper.old) (K.faults keeper.new))
+        (MayEnd (map string_bytes words.now) (S.left case.old) (T.left commands.old) (K.looks keeper.old))
+        (K.looks keeper.old) (K.looks keeper.new)) }
+    ensures clean { IfAnswered result
+        ((S.faults case.new ≡ S.faults case.old) × (T.faults commands.new ≡ T.faults commands.old) ×
+        (K.faults keeper.new ≡ K.faults keeper.old)) }
+    ensures case_kept { ¬ ReadsCase (map string_bytes words.now) → case.new ≡ case.old }
+    ensures case_end { ReadsCase (map string_bytes words.now) → OnOk result (IsAtEnd (S.left case.new)) }
+    ensures commands_kept { ¬ ReadsCommands (map string_bytes words.now) (S.left case.old) →
+        commands.new ≡ commands.old }
+    ensures commands_end { ReadsCommands (map string_bytes words.now) (S.left case.old) →
+        OnOk result (IsAtEnd (T.left commands.new)) }
+    ensures keeper_kept { ¬ AsksKeeper (map string_bytes words.now) (S.left case.old) (T.left commands.old) →
+        keeper.new ≡ keeper.old }
+{
+    match read_study(words) {
+        Err(n) => Err(StudyStop::Stopped(Stop::Refused(usage(alloc, n)?))),
+        Ok(call) => study_call(alloc, &call, case, commands, keeper),
+    }
+}
+
+/// All that the program does where its first word is `study`. `words` are the words after the program's name, `case` is standard
+/// input, `commands` is the file that `file_word` names, `keeper` keeps the looks, and `out` gets the text of the answer, or one
+/// line that says why there is none. A source that isn't read stays as it was: `commands` is read only behind a case that a study
+/// can take, and `keeper` is asked only behind commands that are all said.
+///
+/// First the looks that are kept are taken in their order. Then each command is replied to: a look that is taken is kept, and
+/// one that is refused changes nothing.
+///
+/// Statuses: 0 done; 2 the words aren't accepted; 3 the case, the commands or a kept look are malformed, or the case has other
+/// p-values than those of stages of which none has arrived; 4 an input is past a limit; 5 a number of the case, of its opening or
+/// of the settling after a look is too wide; 6 a source that is read had a fault; 7 `out` had a fault; 8 memory ran out; 9 the
+/// keeper had a fault.
+pub fn run_study<S: Source, T: Source, K: Keeper, W: Sink>(
+    alloc: Global,
+    words: &[String],
+    case: &mut S,
+    commands: &mut T,
+    keeper: &mut K,
+    out: &mut W,
+) -> u8
+    ensures runs { RunsStudy
+        (IsEndOf (study_outcome (map string_bytes words.now) (S.left case.old) (T.left commands.old) (K.looks keeper.old)))
+        (MayEnd (map string_bytes words.now) (S.left case.old) (T.left commands.old) (K.looks keeper.old))
+        (ReadRose (map string_bytes words.now) (S.left case.old)
+        (Rose (S.faults case.old) (S.faults case.new)) (Rose (T.faults commands.old) (T.faults commands.new)))
+        (Rose (K.faults keeper.old) (K.faults keeper.new))
+        (Rose (W.faults out.old) (W.faults out.new))
+        (((S.faults case.new ≡ S.faults case.old) × (T.faults commands.new ≡ T.faults commands.old) ×
+        (K.faults keeper.new ≡ K.faults keeper.old)) × (W.faults out.new ≡ W.faults out.old))
+        (W.held out.old) (W.held out.new) (K.looks keeper.old) (K.looks keeper.new) result }
+    ensures case { Uses S.left (ReadsCase (map string_bytes words.now)) case.old case.new result }
+    ensures commands { Uses T.left (ReadsCommands (map string_bytes words.now) (S.left case.old))
+        commands.old commands.new result }
+    ensures untouched { ¬ AsksKeeper (map string_bytes words.now) (S.left case.old) (T.left commands.old) →
+        keeper.new ≡ keeper.old }
+{
+    let outcome = answer(alloc, words, case, commands, keeper);
+    conclude_study(out, outcome)
+}
