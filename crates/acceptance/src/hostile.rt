@@ -100,17 +100,17 @@ const READING_NOTHING: [Run; 3] = [
 ];
 
 /// How many takes of 4 bytes bring all of these, with the one that tells the end.
-fn takes_of(bytes: &[u8]) -> u64 {
+pub fn takes_of(bytes: &[u8]) -> u64 {
     (bytes.len() as u64 / 4).saturating_add(if bytes.len() % 4 == 0 { 1 } else { 2 })
 }
 
 /// How many puts of 5 bytes take all of these.
-fn puts_of(bytes: &[u8]) -> u64 {
+pub fn puts_of(bytes: &[u8]) -> u64 {
     (bytes.len() as u64 / 5).saturating_add(if bytes.len() % 5 == 0 { 0 } else { 1 })
 }
 
 /// The first so many pieces of 5 bytes.
-fn pieces(bytes: &[u8], count: u64) -> &[u8] {
+pub fn pieces(bytes: &[u8], count: u64) -> &[u8] {
     match bytes.get(..(count as usize).saturating_mul(5)) {
         Some(front) => front,
         None => bytes,

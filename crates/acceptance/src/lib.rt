@@ -16,6 +16,8 @@ mod decided;
 #[cfg(test)]
 mod devices;
 #[cfg(test)]
+mod failing_studies;
+#[cfg(test)]
 mod graphs;
 #[cfg(test)]
 mod hostile;

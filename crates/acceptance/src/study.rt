@@ -16,15 +16,15 @@ const TWO: &str =
     "alpha 0.05\nhypotheses H1 H2\nweights 1/2 1/2\nedge H1 H2 1\nedge H2 H1 1\nstages 2\nspend H1 1/2 1/2\nspend H2 1/2 1/2\n";
 
 /// Looks that are taken but for the third, and what they lead to.
-const LOOKS: &str =
+pub const LOOKS: &str =
     "look H1 1 0.02\nlook H2 1 0.03\nlook H1 1 0.01\nshow\nlook H1 2 0.01\nlook H2 2 0.02\nshow\n";
 
 /// What is printed of them.
-const LOOKED: &str =
+pub const LOOKED: &str =
     "alpha 1/20\nrecords 0\nlook H1 1 1/50\nlook H2 1 3/100\nrefused 3: known\nshow looks 2 rejected\nlook H1 2 1/100\nreject H1 stage 2 weight 1/2\nlook H2 2 1/50\nreject H2 stage 2 weight 1\nshow looks 4 rejected H1 H2\nend\n";
 
 /// Runs a study, and answers the status.
-fn status_with<S: Source, T: Source, K: Keeper, W: Sink>(
+pub fn status_with<S: Source, T: Source, K: Keeper, W: Sink>(
     alloc: Global,
     words: &[&str],
     (case, commands): (&mut S, &mut T),
