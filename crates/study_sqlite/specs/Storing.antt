@@ -1,5 +1,5 @@
 -- Where a keeper's looks are.
-use Rattle.std.specs.Prelude.{⊤, ⊥}
+use Rattle.std.specs.Prelude.{⊤}
 use Rattle.study_sqlite.specs.declared.keeper.SqliteKeeper.{SqliteKeeper}
 use Rattle.study_sqlite.specs.declared.storage.Storage.{Storage}
 use Rattle.study_sqlite.specs.declared.storage.Storage.TheVariants.{Unopened, Opened}

@@ -47,10 +47,8 @@ impl SqliteKeeper {
     /// Copies what the log beside the file holds into the file, where it was opened. Where that is refused, the log still
     /// holds it, and the next opening finds it there.
     pub fn close(self) -> Result<(), FileFault> {
-        match self.storage {
-            Storage::Unopened(_, _) => Ok(()),
-            Storage::Opened(connection) => table::close(connection),
-        }
+        let SqliteKeeper { storage, faults: _ } = self;
+        storage.close()
     }
 
     /// Counts a fault of the file, unless memory ran out.

@@ -33,4 +33,12 @@ impl Storage {
             Storage::Unopened(_, _) => unreachable!(),
         }
     }
+
+    /// Copies the log into the file where it is open, and closes both.
+    pub fn close(self) -> Result<(), FileFault> {
+        match self {
+            Storage::Opened(connection) => table::close(connection),
+            Storage::Unopened(_, _) => Ok(()),
+        }
+    }
 }
