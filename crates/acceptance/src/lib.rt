@@ -54,6 +54,8 @@ mod studies;
 #[cfg(test)]
 mod study;
 #[cfg(test)]
+mod study_files;
+#[cfg(test)]
 mod tampered;
 #[cfg(test)]
 mod too_long;

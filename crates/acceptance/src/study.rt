@@ -12,7 +12,7 @@ use std::test::Fail;
 use study_cli::run_study;
 
 /// At half the level each stage has 1/80, and at the whole level 1/40.
-const TWO: &str =
+pub const TWO: &str =
     "alpha 0.05\nhypotheses H1 H2\nweights 1/2 1/2\nedge H1 H2 1\nedge H2 H1 1\nstages 2\nspend H1 1/2 1/2\nspend H2 1/2 1/2\n";
 
 /// Looks that are taken but for the third, and what they lead to.
@@ -39,7 +39,7 @@ pub fn status_with<S: Source, T: Source, K: Keeper, W: Sink>(
 }
 
 /// A study of a case ends with this status, and prints this.
-fn expect<K: Keeper>(
+pub fn expect<K: Keeper>(
     rt: &impl Abort,
     alloc: Global,
     (case, commands): (&str, &str),

@@ -3,3 +3,4 @@ pub mod FileFaults
 pub mod Parts
 pub mod RowStatements
 pub mod Rows
+pub mod Storing

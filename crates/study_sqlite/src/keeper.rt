@@ -1,6 +1,7 @@
 //! A keeper in a file.
 ghost use Rattle.std.specs.Prelude.{◌≡◌, ◌<◌, ◌^◌, None, IfOk, OnOk, OnErr};
 
+use crate::storage::Storage;
 use crate::table::{self, FileConnection};
 use crate::{FileFault, read_rows, to_row};
 use field_core::List;
@@ -10,34 +11,49 @@ use std::alloc::Global;
 /// Looks in a file. They aren't told; each call that meets a refused statement, or a row that is that of no look, is counted.
 #[derive(Drop)]
 pub struct SqliteKeeper {
-    connection: FileConnection,
+    storage: Storage,
     faults: u64,
     ghost in_range: { faults < 2 ^ 64 },
 }
 
 impl SqliteKeeper {
     ghost use Rattle.study_sqlite.specs.Counting.{fault_count, IsCounted};
+    ghost use Rattle.study_sqlite.specs.Storing.{storage_of};
+    ghost use Rattle.study_sqlite.specs.declared.storage.Storage.TheVariants.{Unopened, Opened};
 
     /// A keeper over this connection.
     pub fn new(connection: FileConnection) -> SqliteKeeper
-        ensures { fault_count result ≡ 0 }
+        ensures storage { storage_of result ≡ Opened connection }
+        ensures faults { fault_count result ≡ 0 }
     {
         SqliteKeeper {
-            connection,
+            storage: Storage::Opened(connection),
             faults: 0,
         }
     }
 
-    /// A keeper over the file at this path, which is made where it isn't there.
-    pub fn open(rt: &HostRuntime, path: &str) -> Result<SqliteKeeper, FileFault>
-        ensures { IfOk result (λ keeper. fault_count keeper ≡ 0) }
+    /// A keeper over the file at this path. The first call opens it, and makes it where it isn't there; until then nothing is
+    /// read of it or written to it.
+    pub fn at(rt: &HostRuntime, path: String) -> SqliteKeeper
+        ensures storage { storage_of result ≡ Unopened rt.now path }
+        ensures faults { fault_count result ≡ 0 }
     {
-        Ok(SqliteKeeper::new(table::open(rt, path)?))
+        SqliteKeeper {
+            storage: Storage::Unopened(*rt, path),
+            faults: 0,
+        }
+    }
+
+    /// Copies what the log beside the file holds into the file, where it was opened. Where that is refused, the log still
+    /// holds it, and the next opening finds it there.
+    pub fn close(self) -> Result<(), FileFault> {
+        let SqliteKeeper { storage, faults: _ } = self;
+        storage.close()
     }
 
     /// Counts a fault of the file, unless memory ran out.
     fn counted(&mut self, fault: FileFault) -> KeeperFault
-        ensures { IsCounted (fault_count self.old) (fault_count self.new) result }
+        ensures { IsCounted (fault_count self.old) (fault_count self.new) fault result }
     {
         match fault {
             FileFault::Refused => {
@@ -52,8 +68,9 @@ impl SqliteKeeper {
     fn kept(&mut self, alloc: Global) -> Result<List<Look>, FileFault>
         ensures { fault_count self.new ≡ fault_count self.old }
     {
-        table::make(&mut self.connection)?;
-        let rows = table::rows(alloc, &mut self.connection)?;
+        let connection = self.storage.connection()?;
+        table::make(connection)?;
+        let rows = table::rows(alloc, connection)?;
         Ok(read_rows(alloc, rows.as_slice())?)
     }
 
@@ -61,9 +78,10 @@ impl SqliteKeeper {
     fn put(&mut self, alloc: Global, look: &Look) -> Result<(), FileFault>
         ensures { fault_count self.new ≡ fault_count self.old }
     {
-        table::make(&mut self.connection)?;
+        let connection = self.storage.connection()?;
+        table::make(connection)?;
         let row = to_row(alloc, look)?;
-        table::put(&mut self.connection, &row)
+        table::put(connection, &row)
     }
 }
 

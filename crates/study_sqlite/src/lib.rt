@@ -21,6 +21,7 @@ pub mod laws;
 mod printed;
 mod row;
 mod rows;
+mod storage;
 mod table;
 #[cfg(test)]
 mod tests;

@@ -59,3 +59,9 @@ pub fn put(connection: &mut FileConnection, row: &LookRow) -> Result<(), FileFau
     )?;
     Ok(())
 }
+
+/// Copies the log into the file, and closes both.
+pub fn close(connection: FileConnection) -> Result<(), FileFault> {
+    connection.close()?;
+    Ok(())
+}
