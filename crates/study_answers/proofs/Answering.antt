@@ -23,7 +23,7 @@ use Rattle.study_commands.specs.declared.command.StudyCommand.{StudyCommand}
 use Rattle.study_register.specs.declared.fault.RegisterFault.{RegisterFault}
 use Rattle.study_register.specs.declared.fault.RegisterFault.TheVariants.{BadLook, Wide, Fault, NoMemory}
 use Rattle.study_register.specs.Looking.{arrival_of, arrivals_of, AreTaken}
-use Rattle.study_register.specs.RegisterFaults.{OnLooks, IsRegisterFault}
+use Rattle.study_register.specs.RegisterFaults.{OnLooks, IsRegisterFault, IfLooksRefused}
 use Rattle.study_register.proofs.TakenLooks.{follows_values}
 use Rattle.study_answers.specs.Replies.{looks_taken, AreReplies, IsFirstBreak, MayTake}
 use Rattle.answers.specs.declared.stop.Stop.TheVariants.{Refused, ReadFault, NoMemory as OutOfMemory}
@@ -49,16 +49,32 @@ module _ {A : Type 0} (s : List Look → Stage Refusal A) (looks : List Look) wh
 -- ---- the kept looks
 
 module _ (c : Content) (kept : Option (List Look)) (rose : Type 0) where
-  pub bad_look_refused : (n : ℕ) (l : Look) (r : Refusal) → IsRegisterFault c kept rose (BadLook n l) → r ≡ record_refusal n → (on_looks kept (opened c)).Refuses r
+  bad_look_refused : (n : ℕ) (l : Look) (r : Refusal) → IsRegisterFault c kept rose (BadLook n l) → r ≡ record_refusal n → (on_looks kept (opened c)).Refuses r
   bad_look_refused n l r h e = refuses_on (opened c) h.0 kept r h.2 (BadLook n l, h.1, e)
+
+  pub bad_look_told : (why : RegisterFault) (n : ℕ) (l : Look) (r : Refusal) → why ≡ BadLook n l → IsRegisterFault c kept rose why → r ≡ record_refusal n → (on_looks kept (opened c)).Refuses r
+  bad_look_told why n l r is h e = bad_look_refused n l r (subst (IsRegisterFault c kept rose) is h) e
 
   wide_opening_told : (looks : Option (List Look)) (n : ℕ) (w : WideAt) (r : Refusal) → (n ≡ 0) × (case_opening c ≡ Err w) → r ≡ wide_refusal c.names (AfterLook n) w → (on_looks looks (opened c)).Refuses r
   wide_opening_told None n w r h e = ([], (Wide n w, inl h, e))
   wide_opening_told (Some looks) n w r h e = (Wide n w, inl h, e)
 
-  pub wide_look_refused : (n : ℕ) (w : WideAt) (r : Refusal) → IsRegisterFault c kept rose (Wide n w) → r ≡ wide_refusal c.names (AfterLook n) w → (on_looks kept (opened c)).Refuses r
+  wide_look_refused : (n : ℕ) (w : WideAt) (r : Refusal) → IsRegisterFault c kept rose (Wide n w) → r ≡ wide_refusal c.names (AfterLook n) w → (on_looks kept (opened c)).Refuses r
   wide_look_refused n w r (inl h) e = wide_opening_told kept n w r h e
   wide_look_refused n w r (inr h) e = refuses_on (opened c) h.0 kept r h.2 (Wide n w, inr h.1, e)
+
+  pub wide_look_told : (why : RegisterFault) (n : ℕ) (w : WideAt) (r : Refusal) → why ≡ Wide n w → IsRegisterFault c kept rose why → r ≡ wide_refusal c.names (AfterLook n) w → (on_looks kept (opened c)).Refuses r
+  wide_look_told why n w r is h e = wide_look_refused n w r (subst (IsRegisterFault c kept rose) is h) e
+
+-- nothing failed where kept looks are refused
+pub clean_by_look : (P : Type 0) (why : RegisterFault) (n : ℕ) (l : Look) → why ≡ BadLook n l → IfLooksRefused P why → P
+clean_by_look P why n l is h = subst (IfLooksRefused P) is h
+
+pub clean_by_wide : (P : Type 0) (why : RegisterFault) (n : ℕ) (w : WideAt) → why ≡ Wide n w → IfLooksRefused P why → P
+clean_by_wide P why n w is h = subst (IfLooksRefused P) is h
+
+pub rose_by : (c : Content) (kept : Option (List Look)) (rose : Type 0) (why : RegisterFault) → why ≡ Fault → IsRegisterFault c kept rose why → rose
+rose_by c kept rose why is h = (subst (IsRegisterFault c kept rose) is h).1
 
 -- a refusal of the opening is one of the study
 pub opening_refuses : (c : Content) (commands : List StudyCommand) (kept : Option (List Look)) (r : Refusal) → (on_looks kept (opened c)).Refuses r → (on_looks kept (study_stage c commands)).Refuses r
@@ -100,10 +116,7 @@ module _ (c : Content) (commands : List StudyCommand) (looks : List Look) (s : S
         replies = a.replies;
         end = t;
         are = a.are;
-        answer_is = d ∙ ap done (
-            ap (λ x. x ++ line (codes "end")) (a.text_is ∙ ap (λ x. x ++ flat_map (reply_lines c) a.replies) (e ∙ ap (opened_lines c) (count ∙ records_counted c looks s T)))
-            ∙ append_assoc (opened_lines c (length looks)) (flat_map (reply_lines c) a.replies) (line (codes "end"))
-            );
+        answer_is = d ∙ ap (λ x. done (x ++ line (codes "end"))) (a.text_is ∙ ap (λ x. x ++ flat_map (reply_lines c) a.replies) (e ∙ ap (opened_lines c) (count ∙ records_counted c looks s T)));
         looks_are = refl;
       }),
     );

@@ -1,4 +1,4 @@
-use Rattle.std.proofs.Common.{ap, ◌∙◌}
+use Rattle.std.proofs.Common.{◌∙◌, ap₂}
 use Rattle.answers.specs.Lines.{refused}
 use Rattle.case_model.specs.CaseView.{content}
 use Rattle.refusals.specs.WideRefusal.{wide_refusal}
@@ -51,7 +51,7 @@ returns-in-Err-Wide-clause-given g c =
     let e = c.in-Err-Wide in
     let s = looks_in r.register in
     break_answered k commands kept _ _ r.ensures.kept s r.ensures.taken e.place e.wide _ (first_broken k s commands _ _ _ e.field-0 e.place e.wide e.field-0-is e.ensures.stopped)
-    (c.in_ok-broken_off-in-Err-Wide.ensures ∙ ap (λ w. refused (wide_refusal k.names (AfterLook e.place) w)) e.wide-is)
+    (c.in_ok-broken_off-in-Err-Wide.ensures ∙ ap₂ (λ n w. refused (wide_refusal k.names (AfterLook n) w)) e.place-is e.wide-is)
 
 pub returns-in-Err-Wide-clause-clean : goal.returns-in-Err-Wide-clause-clean
 returns-in-Err-Wide-clause-clean g c = let e = c.in-Err-Wide in broken_by e.field-0 e.place e.wide _ e.field-0-is e.ensures.broken ∙ c.in_ok-register.ensures.clean
