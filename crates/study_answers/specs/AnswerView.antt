@@ -9,7 +9,8 @@ use Rattle.answers.specs.Stages.{Stage}
 use Rattle.answers.specs.declared.stop.Stop.TheVariants.{Refused, ReadFault, NoMemory as OutOfMemory}
 use Rattle.case_model.specs.Content.{Content}
 use Rattle.report.specs.StudyReport.{Reply, reply_lines}
-use Rattle.staged_levels.specs.Studies.{StudyState}
+use Rattle.staged_levels.specs.Looks.{IsDefined}
+use Rattle.staged_levels.specs.Studies.{StudyState, start}
 use Rattle.study_commands.specs.declared.command.StudyCommand.{StudyCommand}
 use Rattle.study_register.specs.Looking.{AreTaken}
 use Rattle.study_answers.specs.declared.replying.CommandStop.{CommandStop}
@@ -66,9 +67,9 @@ pub record KeepWith (Gives : StudyEnd → Type 0) (kept held : Option (List Look
 pub record MayTakeBehind (c : Content) (commands : List StudyCommand) (kept : Option (List Look)) (more : List Look) : Type 0 where
   pub looks : List Look
   pub told : IfSome kept (λ them. them ≡ looks)
-  pub start : StudyState
-  pub opened : AreTaken c looks start
-  pub may : MayTake c 1 start commands more
+  pub first : StudyState
+  pub opened : AreTaken c looks first
+  pub may : MayTake c 1 first commands more
 
 -- the looks that may be kept besides where a call breaks off: none, or those that the commands before some place take
 abbrev pub MayKeep : Content → List StudyCommand → Option (List Look) → List Look → Type 0
@@ -89,9 +90,9 @@ IfAnswered (Err (Stopped ReadFault)) p = Unit {0}
 IfAnswered (Err (Stopped OutOfMemory)) p = Unit {0}
 IfAnswered (Err KeeperFault) p = Unit {0}
 
--- why the kept looks aren't taken, where a keeper holds looks and its count of faults rose or didn't
+-- why the kept looks aren't taken, where a keeper holds looks and its count of faults rose or didn't; it is asked only once the opening is defined
 abbrev pub StopsOpening : Content → Type 0 → Option (List Look) → StudyStop → Type 0
 StopsOpening c rose kept (Stopped (Refused r)) = (on_looks kept (opened c)).Refuses r
 StopsOpening c rose kept (Stopped ReadFault) = ⊥
 StopsOpening c rose kept (Stopped OutOfMemory) = Unit {0}
-StopsOpening c rose kept KeeperFault = rose
+StopsOpening c rose kept KeeperFault = IsDefined c start × rose

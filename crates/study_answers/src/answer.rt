@@ -6,6 +6,8 @@ ghost use Rattle.answers.specs.Lines.{line, done, refused};
 ghost use Rattle.case_model.specs.CaseView.{content};
 ghost use Rattle.refusals.specs.WideRefusal.{wide_refusal};
 ghost use Rattle.refusals.specs.declared.wide.When.TheVariants.{Look as AfterLook};
+ghost use Rattle.staged_levels.specs.Looks.{IsDefined};
+ghost use Rattle.staged_levels.specs.Studies.{start};
 ghost use Rattle.staged_levels.specs.StudyAnswers.{IsStaged};
 ghost use Rattle.staged_levels.specs.StudyContents.{IsStudy};
 ghost use Rattle.study_commands.specs.CommandLines.{IsBelow};
@@ -86,7 +88,7 @@ fn ended(text: List<u8>) -> Result<Answer, NoMemory>
 /// of the keeper.
 ///
 /// Unless memory runs out or the keeper fails, the kept looks are refused exactly where one can't be taken, and then none is kept
-/// besides. Where the settling after a look breaks off, the answer tells of that, and the looks before it stay kept.
+/// besides. The keeper is asked once the opening of the case is defined. Where the settling after a look breaks off, the answer tells of that, and the looks before it stay kept.
 pub fn study_answer<K: Keeper>(
     alloc: Global,
     case: &Case,
@@ -96,7 +98,7 @@ pub fn study_answer<K: Keeper>(
     requires staged { IsStaged (content case.now).inputs }
     requires below { AllByRecursion (IsBelow (length (content case.now).names)) commands.now }
     ensures given { IfOk result (KeepWith (on_looks (K.looks keeper.old) (study_stage (content case.now) commands.now)).Gives (K.looks keeper.old) (K.looks keeper.new)) }
-    ensures stopped { IfErr result (StopsStudy (on_looks (K.looks keeper.old) (study_stage (content case.now) commands.now)).Refuses ⊥ (Rose (K.faults keeper.old) (K.faults keeper.new)) (MayKeep (content case.now) commands.now (K.looks keeper.old)) (K.looks keeper.old) (K.looks keeper.new)) }
+    ensures stopped { IfErr result (StopsStudy (on_looks (K.looks keeper.old) (study_stage (content case.now) commands.now)).Refuses ⊥ (IsDefined (content case.now) start × Rose (K.faults keeper.old) (K.faults keeper.new)) (MayKeep (content case.now) commands.now (K.looks keeper.old)) (K.looks keeper.old) (K.looks keeper.new)) }
     ensures later { K.faults keeper.old ≤ K.faults keeper.new }
     ensures clean { IfAnswered result (K.faults keeper.new ≡ K.faults keeper.old) }
 {
