@@ -18,7 +18,6 @@ use Rattle.refusals.specs.RecordRefusal.{record_refusal}
 use Rattle.refusals.specs.WideRefusal.{wide_refusal}
 use Rattle.refusals.specs.declared.wide.When.TheVariants.{Look as AfterLook}
 use Rattle.report.specs.StudyReport.{Reply, reply_lines, opened_lines, study_report}
-use Rattle.staged_levels.specs.Looks.{IsDefined}
 use Rattle.staged_levels.specs.Studies.{StudyState, start}
 use Rattle.study_commands.specs.declared.command.StudyCommand.{StudyCommand}
 use Rattle.study_register.specs.declared.fault.RegisterFault.{RegisterFault}
@@ -33,7 +32,7 @@ use Rattle.study_answers.specs.declared.replying.CommandStop.TheVariants as halt
 use Rattle.study_answers.specs.declared.stop.StudyStop.{StudyStop}
 use Rattle.study_answers.specs.declared.stop.StudyStop.TheVariants.{Stopped, KeeperFault}
 use Rattle.study_answers.specs.AnswerView.{with_looks, AreRepliedTo, HoldSome, KeepWith, MayTakeBehind, MayKeep, StopsCommands, StopsStudy, StopsOpening}
-use Rattle.study_answers.specs.StudyStages.{StudyEnd, IsOpeningFault, opened, study_stage, on_looks}
+use Rattle.study_answers.specs.StudyStages.{StudyEnd, HasOpening, IsOpeningFault, opened, study_stage, on_looks}
 use Rattle.study_answers.proofs.Looks.{with_none}
 
 -- ---- stages on told looks
@@ -74,7 +73,7 @@ clean_by_look P why n l is h = subst (IfLooksRefused P) is h
 pub clean_by_wide : (P : Type 0) (why : RegisterFault) (n : ℕ) (w : WideAt) → why ≡ Wide n w → IfLooksRefused P why → P
 clean_by_wide P why n w is h = subst (IfLooksRefused P) is h
 
-pub rose_by : (c : Content) (kept : Option (List Look)) (rose : Type 0) (why : RegisterFault) → why ≡ Fault → IsRegisterFault c kept rose why → IsDefined c start × rose
+pub rose_by : (c : Content) (kept : Option (List Look)) (rose : Type 0) (why : RegisterFault) → why ≡ Fault → IsRegisterFault c kept rose why → HasOpening c × rose
 rose_by c kept rose why is h = subst (IsRegisterFault c kept rose) is h
 
 -- a refusal of the opening is one of the study
@@ -135,7 +134,7 @@ module _ (c : Content) (commands : List StudyCommand) (looks : List Look) (s : S
 
   -- some looks of the commands may be kept
   pub some_kept : HoldSome (MayTake c 1 s commands) kept held → HoldSome (MayKeep c commands kept) kept held
-  some_kept h = record { more = h.more; may = inr (record { looks = looks; told = told; first = s; opened = T; may = h.may }); held_is = h.held_is }
+  some_kept h = record { more = h.more; may = inr (record { looks = looks; told = told; start = s; opened = T; may = h.may }); held_is = h.held_is }
 
 -- no look is kept besides
 pub none_kept : (c : Content) (commands : List StudyCommand) (kept held : Option (List Look)) → held ≡ kept → HoldSome (MayKeep c commands kept) kept held
@@ -143,7 +142,7 @@ none_kept c commands kept held e = record { more = []; may = inl refl; held_is =
 
 -- why kept looks aren't taken, as why the study gives no answer
 pub opening_stops : (c : Content) (commands : List StudyCommand) (kept held : Option (List Look)) (rose : Type 0) (stop : StudyStop) → held ≡ kept → StopsOpening c rose kept stop
-    → StopsStudy (on_looks kept (study_stage c commands)).Refuses ⊥ (IsDefined c start × rose) (MayKeep c commands kept) kept held stop
+    → StopsStudy (on_looks kept (study_stage c commands)).Refuses ⊥ (HasOpening c × rose) (MayKeep c commands kept) kept held stop
 opening_stops c commands kept held rose (Stopped (Refused r)) e h = (opening_refuses c commands kept r h, e)
 opening_stops c commands kept held rose (Stopped ReadFault) e h = absurd h
 opening_stops c commands kept held rose (Stopped OutOfMemory) e h = none_kept c commands kept held e

@@ -43,13 +43,13 @@ pub no_room : (Q : Refusal → Type 0) (g kr : Type 0) (May : List Look → Type
 no_room Q g kr May kept held e m = record { more = []; may = m; held_is = e ∙ sym (with_none kept) }
 
 -- a stop of a part that asks the keeper
-pub stops_weaker : {A : Type 0} (result : Result A StudyStop) (P Q : Refusal → Type 0) (f g kr : Type 0) (May Might : List Look → Type 0) (kept held : Option (List Look))
-    → ((r : Refusal) → P r → Q r) → (f → g) → ((more : List Look) → May more → Might more) → IfErr result (StopsStudy P f kr May kept held) → IfErr result (StopsStudy Q g kr Might kept held)
-stops_weaker (Ok x) P Q f g kr May Might kept held p q m h = tt
-stops_weaker (Err (Stopped (Refused r))) P Q f g kr May Might kept held p q m h = (p r h.0, h.1)
-stops_weaker (Err (Stopped ReadFault)) P Q f g kr May Might kept held p q m h = (q h.0, h.1)
-stops_weaker (Err (Stopped NoMemory)) P Q f g kr May Might kept held p q m h = record { more = h.more; may = m h.more h.may; held_is = h.held_is }
-stops_weaker (Err KeeperFault) P Q f g kr May Might kept held p q m h = (h.0, record { more = h.1.more; may = m h.1.more h.1.may; held_is = h.1.held_is })
+pub stops_weaker : {A : Type 0} (result : Result A StudyStop) (P Q : Refusal → Type 0) (f g kf kg : Type 0) (May Might : List Look → Type 0) (kept held : Option (List Look))
+    → ((r : Refusal) → P r → Q r) → (f → g) → (kf → kg) → ((more : List Look) → May more → Might more) → IfErr result (StopsStudy P f kf May kept held) → IfErr result (StopsStudy Q g kg Might kept held)
+stops_weaker (Ok x) P Q f g kf kg May Might kept held p q k m h = tt
+stops_weaker (Err (Stopped (Refused r))) P Q f g kf kg May Might kept held p q k m h = (p r h.0, h.1)
+stops_weaker (Err (Stopped ReadFault)) P Q f g kf kg May Might kept held p q k m h = (q h.0, h.1)
+stops_weaker (Err (Stopped NoMemory)) P Q f g kf kg May Might kept held p q k m h = record { more = h.more; may = m h.more h.may; held_is = h.held_is }
+stops_weaker (Err KeeperFault) P Q f g kf kg May Might kept held p q k m h = (k h.0, record { more = h.1.more; may = m h.1.more h.1.may; held_is = h.1.held_is })
 
 -- what a part gives
 pub keeps_on : (result : Result Answer StudyStop) (G H : StudyEnd → Type 0) (kept held : Option (List Look)) → ((e : StudyEnd) → G e → H e) → IfOk result (KeepWith G kept held) → IfOk result (KeepWith H kept held)

@@ -9,8 +9,7 @@ use Rattle.answers.specs.Stages.{Stage}
 use Rattle.answers.specs.declared.stop.Stop.TheVariants.{Refused, ReadFault, NoMemory as OutOfMemory}
 use Rattle.case_model.specs.Content.{Content}
 use Rattle.report.specs.StudyReport.{Reply, reply_lines}
-use Rattle.staged_levels.specs.Looks.{IsDefined}
-use Rattle.staged_levels.specs.Studies.{StudyState, start}
+use Rattle.staged_levels.specs.Studies.{StudyState}
 use Rattle.study_commands.specs.declared.command.StudyCommand.{StudyCommand}
 use Rattle.study_register.specs.Looking.{AreTaken}
 use Rattle.study_answers.specs.declared.replying.CommandStop.{CommandStop}
@@ -18,7 +17,7 @@ use Rattle.study_answers.specs.declared.replying.CommandStop.TheVariants.{Wide, 
 use Rattle.study_answers.specs.declared.stop.StudyStop.{StudyStop}
 use Rattle.study_answers.specs.declared.stop.StudyStop.TheVariants.{Stopped, KeeperFault}
 use Rattle.study_answers.specs.Replies.{taken_in, looks_taken, IsReply, AreReplies, IsBreak, IsFirstBreak, MayTake}
-use Rattle.study_answers.specs.StudyStages.{StudyEnd, opened, on_looks}
+use Rattle.study_answers.specs.StudyStages.{StudyEnd, HasOpening, opened, on_looks}
 
 -- the looks of a keeper with more behind them, where it tells its looks
 abbrev pub with_looks : Option (List Look) → List Look → Option (List Look)
@@ -67,9 +66,9 @@ pub record KeepWith (Gives : StudyEnd → Type 0) (kept held : Option (List Look
 pub record MayTakeBehind (c : Content) (commands : List StudyCommand) (kept : Option (List Look)) (more : List Look) : Type 0 where
   pub looks : List Look
   pub told : IfSome kept (λ them. them ≡ looks)
-  pub first : StudyState
-  pub opened : AreTaken c looks first
-  pub may : MayTake c 1 first commands more
+  pub start : StudyState
+  pub opened : AreTaken c looks start
+  pub may : MayTake c 1 start commands more
 
 -- the looks that may be kept besides where a call breaks off: none, or those that the commands before some place take
 abbrev pub MayKeep : Content → List StudyCommand → Option (List Look) → List Look → Type 0
@@ -95,4 +94,4 @@ abbrev pub StopsOpening : Content → Type 0 → Option (List Look) → StudySto
 StopsOpening c rose kept (Stopped (Refused r)) = (on_looks kept (opened c)).Refuses r
 StopsOpening c rose kept (Stopped ReadFault) = ⊥
 StopsOpening c rose kept (Stopped OutOfMemory) = Unit {0}
-StopsOpening c rose kept KeeperFault = IsDefined c start × rose
+StopsOpening c rose kept KeeperFault = HasOpening c × rose

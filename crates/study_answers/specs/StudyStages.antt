@@ -12,7 +12,8 @@ use Rattle.refusals.specs.RecordRefusal.{record_refusal}
 use Rattle.refusals.specs.WideRefusal.{wide_refusal}
 use Rattle.refusals.specs.declared.wide.When.TheVariants.{Look as AfterLook}
 use Rattle.report.specs.StudyReport.{Reply, study_report}
-use Rattle.staged_levels.specs.Studies.{StudyState}
+use Rattle.staged_levels.specs.Looks.{IsDefined}
+use Rattle.staged_levels.specs.Studies.{StudyState, start}
 use Rattle.study_commands.specs.declared.command.StudyCommand.{StudyCommand}
 use Rattle.study_register.specs.declared.fault.RegisterFault.{RegisterFault}
 use Rattle.study_register.specs.declared.fault.RegisterFault.TheVariants.{BadLook, Wide, Fault, NoMemory}
@@ -67,6 +68,10 @@ answering c records commands s = record {
   Gives = λ e. AreAllAnswered c records commands s e ⊎ IsBrokenOff c commands s e;
   Refuses = λ r. ⊥;
 }
+
+-- the opening of the case is defined
+abbrev pub HasOpening : Content → Type 0
+HasOpening c = IsDefined c start
 
 -- the kept looks, and then the commands
 unfoldable pub study_stage : Content → List StudyCommand → List Look → Stage Refusal StudyEnd

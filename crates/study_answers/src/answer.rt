@@ -6,8 +6,6 @@ ghost use Rattle.answers.specs.Lines.{line, done, refused};
 ghost use Rattle.case_model.specs.CaseView.{content};
 ghost use Rattle.refusals.specs.WideRefusal.{wide_refusal};
 ghost use Rattle.refusals.specs.declared.wide.When.TheVariants.{Look as AfterLook};
-ghost use Rattle.staged_levels.specs.Looks.{IsDefined};
-ghost use Rattle.staged_levels.specs.Studies.{start};
 ghost use Rattle.staged_levels.specs.StudyAnswers.{IsStaged};
 ghost use Rattle.staged_levels.specs.StudyContents.{IsStudy};
 ghost use Rattle.study_commands.specs.CommandLines.{IsBelow};
@@ -15,7 +13,7 @@ ghost use Rattle.study_register.specs.Looking.{AreTaken};
 ghost use Rattle.study_register.specs.RegisterFaults.{OnLooks};
 ghost use Rattle.study_register.specs.RegisterView.{study_in, looks_in, is_spent};
 ghost use Rattle.study_answers.specs.AnswerView.{KeepWith, MayKeep, StopsStudy, StopsOpening, IfAnswered};
-ghost use Rattle.study_answers.specs.StudyStages.{study_stage, on_looks};
+ghost use Rattle.study_answers.specs.StudyStages.{HasOpening, study_stage, on_looks};
 
 use crate::StudyStop;
 use crate::replying::{CommandStop, replies};
@@ -98,7 +96,7 @@ pub fn study_answer<K: Keeper>(
     requires staged { IsStaged (content case.now).inputs }
     requires below { AllByRecursion (IsBelow (length (content case.now).names)) commands.now }
     ensures given { IfOk result (KeepWith (on_looks (K.looks keeper.old) (study_stage (content case.now) commands.now)).Gives (K.looks keeper.old) (K.looks keeper.new)) }
-    ensures stopped { IfErr result (StopsStudy (on_looks (K.looks keeper.old) (study_stage (content case.now) commands.now)).Refuses ⊥ (IsDefined (content case.now) start × Rose (K.faults keeper.old) (K.faults keeper.new)) (MayKeep (content case.now) commands.now (K.looks keeper.old)) (K.looks keeper.old) (K.looks keeper.new)) }
+    ensures stopped { IfErr result (StopsStudy (on_looks (K.looks keeper.old) (study_stage (content case.now) commands.now)).Refuses ⊥ (HasOpening (content case.now) × Rose (K.faults keeper.old) (K.faults keeper.new)) (MayKeep (content case.now) commands.now (K.looks keeper.old)) (K.looks keeper.old) (K.looks keeper.new)) }
     ensures later { K.faults keeper.old ≤ K.faults keeper.new }
     ensures clean { IfAnswered result (K.faults keeper.new ≡ K.faults keeper.old) }
 {

@@ -115,10 +115,13 @@ store_stands words asked place h e =
     let all : words ≡ verb_name verb ∷ flat_map spelled begin.pieces = h.1.1 ∙ ap (λ ws. verb_name verb ∷ ws) (sym (ap (drop 1) h.1.1) ∙ behind) in
     elim (pieces_store verb 1 nothing given begin.pieces place begin.stand kept) [
       | inl k ↦ absurd (let none : None ≡ Some place = k in cc)
-      | inr s ↦ let place_is = s.place_is in (s.path, record {
-        front = verb_name verb ∷ s.front;
-        rest = s.rest;
-        place_is = omega (arith, place_is);
-        words_are = elim (s.words_are) [ | inl w ↦ inl (all ∙ ap (λ ws. verb_name verb ∷ ws) w) | inr w ↦ inr (all ∙ ap (λ ws. verb_name verb ∷ ws) w) ];
-      })
+      | inr s ↦ let place_is = s.place_is in (
+        s.path,
+        record {
+          front = verb_name verb ∷ s.front;
+          rest = s.rest;
+          place_is = omega (arith, place_is);
+          words_are = elim (s.words_are) [ inl w ↦ inl (all ∙ ap (λ ws. verb_name verb ∷ ws) w) | inr w ↦ inr (all ∙ ap (λ ws. verb_name verb ∷ ws) w) ];
+        },
+      )
     ]

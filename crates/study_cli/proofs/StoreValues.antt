@@ -55,7 +55,7 @@ module _ (words : List (List ℕ)) (place : ℕ) (path : List ℕ) (s : StoresAt
   ]
 
   pub some_word : ¬ (slice_get words place ≡ None)
-  some_word h = elim stands [ | inl k ↦ let e : None ≡ Some (joined_word (codes "store") path) = sym h ∙ k in cc | inr k ↦ let e : None ≡ Some (opener (codes "store")) = sym h ∙ k.0 in cc ]
+  some_word h = elim stands [ inl k ↦ let e : None ≡ Some (joined_word (codes "store") path) = sym h ∙ k in cc | inr k ↦ let e : None ≡ Some (opener (codes "store")) = sym h ∙ k.0 in cc ]
 
   pub some_value : (word : List ℕ) → slice_get words place ≡ Some word → ((rest : List ℕ) → word ≢ codes "--store=" ++ rest) → ¬ (slice_get words (place + 1) ≡ None)
   some_value word h lacks b = elim stands [

@@ -18,7 +18,7 @@ use Rattle.study_commands.specs.CommandLines.{AreCommands}
 use Rattle.study_commands.specs.CommandFaults.{IsFirstFault}
 use Rattle.study_commands.specs.declared.command.StudyCommand.{StudyCommand}
 use Rattle.study_answers.specs.AnswerView.{MayKeep}
-use Rattle.study_answers.specs.StudyStages.{StudyEnd, study_stage, on_looks}
+use Rattle.study_answers.specs.StudyStages.{StudyEnd, HasOpening, study_stage, on_looks}
 
 -- what a study needs of its case: p-values of stages of which none has arrived
 unfoldable pub study_needs : Needs
@@ -60,6 +60,10 @@ abbrev pub MayBeKept : StudyAsked → Option (List ℕ) → Option (List ℕ) �
 MayBeKept asked case commands kept more =
     (more ≡ []) ⊎ ((c : Content) × (case_of asked case).Gives c × (list : List StudyCommand) × (commands_of c commands).Gives list × MayKeep c list kept more)
 
+-- besides, the opening of the case is defined
+abbrev pub IsOpened : StudyAsked → Option (List ℕ) → Option (List ℕ) → Type 0
+IsOpened asked case commands = (c : Content) × (case_of asked case).Gives c × (list : List StudyCommand) × (commands_of c commands).Gives list × HasOpening c
+
 -- the words ask a study for something
 abbrev pub ReadsCase : List (List ℕ) → Type 0
 ReadsCase words = (asked : StudyAsked) × AskStudy words asked
@@ -75,6 +79,10 @@ AsksKeeper words case commands = (asked : StudyAsked) × AskStudy words asked ×
 -- a source that is read had a fault
 abbrev pub ReadRose : List (List ℕ) → Option (List ℕ) → Type 0 → Type 0 → Type 0
 ReadRose words case case_rose commands_rose = (ReadsCase words × case_rose) ⊎ (ReadsCommands words case × commands_rose)
+
+-- the keeper is asked, behind a defined opening, and had a fault
+abbrev pub KeeperRose : List (List ℕ) → Option (List ℕ) → Option (List ℕ) → Type 0 → Type 0
+KeeperRose words case commands rose = (asked : StudyAsked) × AskStudy words asked × IsOpened asked case commands × rose
 
 -- the looks that may be kept besides where a call with these words breaks off
 abbrev pub MayEnd : List (List ℕ) → Option (List ℕ) → Option (List ℕ) → Option (List Look) → List Look → Type 0

@@ -10,7 +10,7 @@ ghost use Rattle.command_words.specs.Asked.{study_asked};
 ghost use Rattle.study_commands.specs.CommandLines.{IsBelow};
 ghost use Rattle.study_answers.specs.AnswerView.{KeepWith, StopsStudy, IfAnswered};
 ghost use Rattle.study_answers.specs.StudyRuns.{IsEndOf, RunsStudy};
-ghost use Rattle.study_cli.specs.StudyOutcome.{study_needs, commands_in, study_call, study_outcome, IsStudied, IsCommanded, MayBeKept, ReadsCase, ReadsCommands, AsksKeeper, ReadRose, MayEnd};
+ghost use Rattle.study_cli.specs.StudyOutcome.{study_needs, commands_in, study_call, study_outcome, IsStudied, IsCommanded, IsOpened, MayBeKept, ReadsCase, ReadsCommands, AsksKeeper, ReadRose, KeeperRose, MayEnd};
 
 use answers::{Answer, Halt, Stop, take_whole};
 use case_model::Case;
@@ -61,7 +61,7 @@ fn study_call<S: Source, T: Source, K: Keeper>(
         (study_call (study_asked call.now) (S.left case.old) (T.left commands.old) (K.looks keeper.old)).Refuses
         (Rose (S.faults case.old) (S.faults case.new) ⊎
         (IsStudied (study_asked call.now) (S.left case.old) × Rose (T.faults commands.old) (T.faults commands.new)))
-        (Rose (K.faults keeper.old) (K.faults keeper.new))
+        (IsOpened (study_asked call.now) (S.left case.old) (T.left commands.old) × Rose (K.faults keeper.old) (K.faults keeper.new))
         (MayBeKept (study_asked call.now) (S.left case.old) (T.left commands.old) (K.looks keeper.old))
         (K.looks keeper.old) (K.looks keeper.new)) }
     ensures clean { IfAnswered result
@@ -94,7 +94,8 @@ fn answer<S: Source, T: Source, K: Keeper>(
         (study_outcome (map string_bytes words.now) (S.left case.old) (T.left commands.old) (K.looks keeper.old)).Refuses
         (ReadRose (map string_bytes words.now) (S.left case.old)
         (Rose (S.faults case.old) (S.faults case.new)) (Rose (T.faults commands.old) (T.faults commands.new)))
-        (Rose (K.faults keeper.old) (K.faults keeper.new))
+        (KeeperRose (map string_bytes words.now) (S.left case.old) (T.left commands.old)
+        (Rose (K.faults keeper.old) (K.faults keeper.new)))
         (MayEnd (map string_bytes words.now) (S.left case.old) (T.left commands.old) (K.looks keeper.old))
         (K.looks keeper.old) (K.looks keeper.new)) }
     ensures clean { IfAnswered result
@@ -126,7 +127,7 @@ fn answer<S: Source, T: Source, K: Keeper>(
 /// Statuses: 0 done; 2 the words aren't accepted; 3 the case, the commands or a kept look are malformed, or the case has other
 /// p-values than those of stages of which none has arrived; 4 an input is past a limit; 5 a number of the case, of its opening or
 /// of the settling after a look is too wide; 6 a source that is read had a fault; 7 `out` had a fault; 8 memory ran out; 9 the
-/// keeper had a fault.
+/// keeper had a fault, behind a case whose opening is defined.
 pub fn run_study<S: Source, T: Source, K: Keeper, W: Sink>(
     alloc: Global,
     words: &[String],
@@ -140,7 +141,8 @@ pub fn run_study<S: Source, T: Source, K: Keeper, W: Sink>(
         (MayEnd (map string_bytes words.now) (S.left case.old) (T.left commands.old) (K.looks keeper.old))
         (ReadRose (map string_bytes words.now) (S.left case.old)
         (Rose (S.faults case.old) (S.faults case.new)) (Rose (T.faults commands.old) (T.faults commands.new)))
-        (Rose (K.faults keeper.old) (K.faults keeper.new))
+        (KeeperRose (map string_bytes words.now) (S.left case.old) (T.left commands.old)
+        (Rose (K.faults keeper.old) (K.faults keeper.new)))
         (Rose (W.faults out.old) (W.faults out.new))
         (((S.faults case.new ≡ S.faults case.old) × (T.faults commands.new ≡ T.faults commands.old) ×
         (K.faults keeper.new ≡ K.faults keeper.old)) × (W.faults out.new ≡ W.faults out.old))

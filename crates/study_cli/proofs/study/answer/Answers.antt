@@ -18,7 +18,8 @@ returns-in-Ok-clause-stopped g c =
     let asked = study_asked c.in-Ok.call in
     let asks = c.in-Ok.ensures.given in
     let words = map string_bytes c.args.words.now in
-    stops_weaker c.study_call.result _ _ _ _ _ _ _ _ _ (λ (r : Refusal) h. inr (asked, asks, h)) (λ f. rose_by words (g.S.Source.left c.args.case.now) asked _ _ asks f) (λ more h. inr (asked, asks, h)) c.study_call.ensures.stopped
+    stops_weaker c.study_call.result _ _ _ _ _ _ _ _ _ _ (λ (r : Refusal) h. inr (asked, asks, h)) (λ f. rose_by words (g.S.Source.left c.args.case.now) asked _ _ asks f) (λ k. (asked, asks, k))
+    (λ more h. inr (asked, asks, h)) c.study_call.ensures.stopped
 
 pub returns-in-Ok-clause-case_kept : goal.returns-in-Ok-clause-case_kept
 returns-in-Ok-clause-case_kept g c = λ none. absurd (none (study_asked c.in-Ok.call, c.in-Ok.ensures.given))

@@ -41,4 +41,5 @@ returns-clause-stopped g c =
     let case = content c.in_ok-accepted.accepted in
     let list = c.in_ok-list.list in
     let commands = (c.in_ok-bytes.bytes, c.in_ok-bytes.ensures.given, said) in
-    stops_weaker c.study_answer.result _ _ _ _ _ _ _ _ _ (λ (r : Refusal) h. inr (case, taken, inr (list, commands, rw c.as_slice-list.ensures at h))) (λ f. absurd f) (λ more h. inr (case, taken, list, commands, rw c.as_slice-list.ensures at h)) c.study_answer.ensures.stopped
+    stops_weaker c.study_answer.result _ _ _ _ _ _ _ _ _ _ (λ (r : Refusal) h. inr (case, taken, inr (list, commands, rw c.as_slice-list.ensures at h))) (λ f. absurd f) (λ k. ((case, taken, list, commands, k.0), k.1))
+    (λ more h. inr (case, taken, list, commands, rw c.as_slice-list.ensures at h)) c.study_answer.ensures.stopped
