@@ -1,11 +1,11 @@
 -- The files that words name.
-use Rattle.std.proofs.Common.{◌≡◌, ◌⊎◌, inl, inr, refl, sym, ap, ◌∙◌, subst, ℕ, Bool, true, false, List, ◌∷◌, Some, None}
+use Rattle.std.proofs.Common.{◌≡◌, inl, inr, sym, subst, ℕ, List, Some, None}
 use Rattle.std.specs.Prelude.{IfSome}
 use Rattle.std.specs.declared.option.Option.{Option}
-use Rattle.command_words.specs.Asked.{Asked, StudyAsked, file_of}
+use Rattle.command_words.specs.Asked.{Asked, file_of}
 use Rattle.command_words.specs.Words.{asked_in, study_in}
 use Rattle.command_words.proofs.OneReading.{words_decided, study_words_decided, one_reader}
-use Rattle.graph_cli.specs.Outcome.{AskFor, AskStudy, NamesFile}
+use Rattle.graph_cli.specs.Outcome.{AskFor, NamesFile}
 
 same_file : (o : Option ℕ) (i : ℕ) → o ≡ None → o ≡ Some i → ⊥
 same_file o i h k = cc
