@@ -1,5 +1,5 @@
 -- Named graphs with their sizes.
-use Rattle.std.specs.Prelude.{ℕ, Bool, true, false, Option, Some, None}
+use Rattle.std.specs.Prelude.{ℕ, Bool, true, false, Option, Some}
 use Rattle.std.specs.Option.{option_map}
 use Rattle.command_words.specs.declared.graph_name.GraphName.{GraphName}
 use Rattle.command_words.specs.declared.graph_name.GraphName.TheVariants as names

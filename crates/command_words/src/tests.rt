@@ -180,11 +180,10 @@ fn study_of(
     words: &[&str],
 ) -> Result<Result<(bool, usize, Option<usize>), usize>, NoMemory> {
     let words = words_of(alloc, words)?;
-    Ok(read_study(words.as_slice()).map(|call| (
-        matches!(&call.form, CaseForm::Json),
-        call.file,
-        call.store,
-    )))
+    match read_study(words.as_slice()) {
+        Ok(call) => Ok(Ok((matches!(&call.form, CaseForm::Json), call.file, call.store))),
+        Err(n) => Ok(Err(n)),
+    }
 }
 
 #[test]
@@ -226,6 +225,9 @@ fn words_of_studies_that_fail(rt: HostRuntime) -> Result<(), Fail> {
 #[test]
 fn a_study_is_no_other_command(rt: HostRuntime) -> Result<(), Fail> {
     let words = words_of(rt.alloc(), &["study", "looks.txt"])?;
-    assert_eq!(rt; read_words(words.as_slice()).err(), Some(1));
+    match read_words(words.as_slice()) {
+        Ok(_) => panic!(rt; "another command"),
+        Err(n) => assert_eq!(rt; n, 1),
+    }
     Ok(())
 }

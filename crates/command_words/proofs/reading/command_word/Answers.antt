@@ -1,7 +1,5 @@
-use Rattle.std.proofs.Common.{rules, ◌≡◌, ◌∷◌, sym, ap, ◌∙◌, refl, Bool, map}
+use Rattle.std.proofs.Common.{rules, ◌∷◌, sym, ap, ◌∙◌, refl, map}
 use Rattle.std.specs.Prelude.{string_bytes}
-use Rattle.command_words.specs.Table.{verb_name, keeps_looks}
-use Rattle.command_words.specs.declared.verb.Verb.{Verb}
 use Rattle.command_words.proofs.Beginnings.{rest_of, first_word}
 use Rattle.command_words.proofs.OneReading.{not_kept}
 use Rattle.command_words.proofs.reading.command_word.Goals as goal

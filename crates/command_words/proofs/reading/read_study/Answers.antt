@@ -1,4 +1,4 @@
-use Rattle.std.proofs.Common.{◌+◌, ap, sym, inl, inr}
+use Rattle.std.proofs.Common.{◌+◌, ap, sym, inr}
 use Rattle.std.specs.Prelude.{string_bytes}
 use Rattle.std.proofs.lemmas.List.{length-map}
 use Rattle.command_words.specs.Given.{given_content}

@@ -1,7 +1,7 @@
-use Rattle.std.proofs.Common.{sym, ◌∙◌, map, inl, inr}
+use Rattle.std.proofs.Common.{sym, ◌∙◌, map}
 use Rattle.std.specs.Prelude.{string_bytes}
-use Rattle.command_words.specs.Asked.{asked, study_asked}
-use Rattle.graph_cli.proofs.Files.{no_file_by, file_by}
+use Rattle.command_words.specs.Asked.{asked}
+use Rattle.graph_cli.proofs.Files.{no_file_by, no_file_read, file_by}
 use Rattle.graph_cli.proofs.top.file_word.Goals as goal
 
 pub returns-in-Ok-clause-file : goal.returns-in-Ok-clause-file
@@ -9,3 +9,6 @@ returns-in-Ok-clause-file c = file_by (map string_bytes c.args.words.now) (asked
 
 pub returns-in-Ok-clause-none : goal.returns-in-Ok-clause-none
 returns-in-Ok-clause-none c = λ e place named. no_file_by (map string_bytes c.args.words.now) (asked c.in-Ok.command) place c.in-Ok.ensures.given (sym c.file.ensures ∙ e) named
+
+pub returns-in-Err-read_study-clause-none : goal.returns-in-Err-read_study-clause-none
+returns-in-Err-read_study-clause-none c = λ e place. no_file_read (map string_bytes c.args.words.now) c.in-Err.field-0 c.in-Err-read_study.field-0 place c.in-Err.ensures.refused c.in-Err-read_study.ensures.refused
