@@ -1,12 +1,13 @@
 #!/usr/bin/env python3
 """Studies whose looks are kept in a file, by the built program.
 
-    bench/study.py [--program PATH] [--seconds S]
+    bench/study.py [--program PATH] [--seconds S] [--untimed]
 
 Holds the program to statuses, texts and files that were written down by hand: what is printed of looks and kept; which words,
 cases and commands leave no file; which files, locks and rows are refused; a hundred looks in mixed order, kept by two runs, beside
-one run in memory; a run that is killed. Then it times the opening of a file with all 768 looks of 64 hypotheses at 12 stages: more
-than S seconds (1 where it isn't said) is a finding. Prints each finding, and ends with status 1 where there is one.
+one run in memory; a run that is killed. Then, unless it is to be untimed, it times the opening of a file with all 768 looks of 64
+hypotheses at 12 stages: more than S seconds (1 where it isn't said) is a finding. Prints each finding, and ends with status 1
+where there is one.
 """
 import argparse
 import os
@@ -64,7 +65,7 @@ FAULT = (9, "keeper fault\n")
 
 def found(what):
     FINDINGS.append(what)
-    print(f"finding: {what}")
+    print(f"finding: {what}", flush=True)
 
 
 def run(words, case=TWO):
@@ -83,7 +84,7 @@ def study(commands, *words, case=TWO):
 
 def hold(what, got, wanted):
     if got != wanted:
-        found(f"{what}: {got!r} for {wanted!r}")
+        found(f"{what}: {repr(got)[:400]} for {repr(wanted)[:400]}")
 
 
 def anew():
@@ -297,24 +298,33 @@ def hold_hundred():
         found("nothing is rejected by one of two runs")
 
 
-def hold_killed(looks, case):
+def log_size():
+    """The size of the log beside the file."""
+    return os.path.getsize("looks.db-wal") if os.path.exists("looks.db-wal") else 0
+
+
+def hold_killed():
     """A run that is killed keeps the looks that it has taken, and they are the first ones."""
-    for wait in (0.05, 0.3, 1.0):
+    case = full(12, 12)
+    looks = mixed(12, 12, 35, lambda at: f"{2 * at + 1}/512")
+    for size in (1, 40_000, 400_000):
         anew()
         with open("looks.txt", "w", encoding="utf-8") as file:
             file.write(commands_of(looks))
         with open("case.txt", "w", encoding="utf-8") as file:
             file.write(case)
         with open("case.txt", encoding="utf-8") as file:
-            running = subprocess.Popen([PROGRAM, "study", "looks.txt", *STORE], stdin=file, stdout=subprocess.DEVNULL)
-            time.sleep(wait)
+            words = [PROGRAM, "study", "looks.txt", *STORE]
+            running = subprocess.Popen(words, stdin=file, stdout=subprocess.DEVNULL)
+            while running.poll() is None and log_size() < size:
+                time.sleep(0.001)
             running.send_signal(signal.SIGKILL)
             running.wait()
         status, text = study("show\n", *STORE, case=case)
-        count = len(kept()) if status == 0 else 0
-        hold(f"killed after {wait} s", (status, text.splitlines()[1:2]), (0, [f"records {count}"]))
-        hold(f"kept by a run killed after {wait} s", kept() if status == 0 else [], looks[:count])
-        print(f"killed after {wait} s: {count} looks kept")
+        rows = kept() if status == 0 else []
+        hold(f"killed at a log of {size}", (status, text.splitlines()[1:2]), (0, [f"records {len(rows)}"]))
+        hold(f"kept by a run killed at a log of {size}", rows, looks[: len(rows)])
+        print(f"killed at a log of {size} bytes: {len(rows)} looks of {len(looks)} kept", flush=True)
 
 
 def timed(action):
@@ -343,14 +353,13 @@ def hold_speed(most):
             hold(f"768 looks, {kind}", answer, wanted)
             times.append(seconds)
         alone, _ = timed(lambda: study(commands_of(looks) + "show\n", case=case))
-        print(f"768 looks, {kind}: opened in {min(times):.3f} s; taken in memory in {alone:.3f} s")
+        print(f"768 looks, {kind}: opened in {min(times):.3f} s; taken in memory in {alone:.3f} s", flush=True)
         if min(times) > most:
             found(f"768 looks, {kind}, take {min(times):.3f} s to open")
     anew()
     seconds, answer = timed(lambda: study(commands_of(looks) + "show\n", *STORE, case=case))
     hold("768 looks into a file", (answer[0], len(kept())), (0, 768))
     print(f"768 looks: kept in a file in {seconds:.3f} s")
-    hold_killed(mixed(64, 12, 385, kinds["none rejected"][0]), case)
 
 
 def main():
@@ -358,13 +367,15 @@ def main():
     words = argparse.ArgumentParser()
     words.add_argument("--program", default=PROGRAM)
     words.add_argument("--seconds", type=float, default=1)
+    words.add_argument("--untimed", action="store_true")
     given = words.parse_args()
     PROGRAM = os.path.abspath(given.program)
     with tempfile.TemporaryDirectory() as folder:
         os.chdir(folder)
-        for part in (hold_runs, hold_file_alone, hold_json, hold_no_file, hold_files, hold_locks, hold_rows, hold_hundred):
+        for part in (hold_runs, hold_file_alone, hold_json, hold_no_file, hold_files, hold_locks, hold_rows, hold_hundred, hold_killed):
             part()
-        hold_speed(given.seconds)
+        if not given.untimed:
+            hold_speed(given.seconds)
         os.chdir(HERE)
     print(f"{len(FINDINGS)} findings")
     sys.exit(1 if FINDINGS else 0)

@@ -148,7 +148,7 @@ fn a_closed_file_holds_its_looks(rt: HostRuntime) -> Result<(), Fail> {
 
 /// The look at a place of a hundred, of ten hypotheses at ten stages, in an order that is neither of them.
 fn mixed_look(at: u32) -> Result<Look, Fail> {
-    let place = at * 37 % 100;
+    let place = at.wrapping_mul(37) % 100;
     Ok(Look {
         hypothesis: place / 10,
         stage: place % 10 + 1,
