@@ -11,9 +11,9 @@ memory, since nothing promises that there is memory, so a test has to refuse it.
     --by NAME ..   only the tests of these crates, in this order (all that have tests)
     --list         only lists the functions
 
-On a copy of the repository each public function whose result has a want of memory among its errors, and each such method of
-a public trait that a type of the repository has, begins with a switch: `if wants::refused(N) { return Err(..); }`, where the
-crate `wants` stands for the copy alone. `rt try --test` builds the tests of a crate once, with everything below it; then its
+On a copy of the repository each public function whose result has a want of memory among its errors or is itself one of
+these errors, and each such method of a public trait that a type of the repository has, begins with a switch:
+`if wants::refused(N) { return Err(NoMemory); }`, where the crate `wants` stands for the copy alone. `rt try --test` builds the tests of a crate once, with everything below it; then its
 tests are run with one switch on after the other, those tests alone that come to it. A function is tried with the tests of
 its own crate first, then of the crates that use it, nearest first, `acceptance` last, until a test fails. Nothing is proved.
 
@@ -182,10 +182,11 @@ def body_of(text, at):
 
 
 def error_of(result):
-    """The error's type of a result, without its own parameters."""
-    found = re.match(r"->\s*Result<(.*)>\s*$", re.sub(r"\s+", " ", result).strip().replace("where", ""))
+    """The error's type of a result, without its own parameters, or the type of a fault that is the result itself."""
+    result = re.sub(r"\s+", " ", result).strip()
+    found = re.match(r"-> Result<(.*)>$", result)
     if not found:
-        return None
+        return result.removeprefix("-> ")
     inside, depth, last = found.group(1).rstrip(", "), 0, -1
     for place, letter in enumerate(inside):
         depth += letter in "<([{"
@@ -196,8 +197,10 @@ def error_of(result):
 
 
 class Function:
-    def __init__(self, crate, file, name, place, error):
-        self.crate, self.file, self.name, self.place, self.error = crate, file, name, place, error
+    """Where its body begins, what it would answer there, and why that isn't tried."""
+
+    def __init__(self, crate, file, name, place, answer):
+        self.crate, self.file, self.name, self.place, self.answer = crate, file, name, place, answer
         self.why = None
 
     def __str__(self):
@@ -228,9 +231,10 @@ def functions_of(crate, file, text, traits, wanted):
         result, body = body_of(text, skip_brackets(text, at))
         owner = [it for it in owners if it[0] < found.start() < it[1]]
         is_method = owner and owner[0][2] in traits
-        if body and (found.group(1) or is_method) and error_of(result) in wanted:
+        value = wanted.get(error_of(result or ""))
+        if body and (found.group(1) or is_method) and value:
             name = "::".join([it[3] for it in owner[:1]] + [found.group(2)])
-            yield Function(crate, file, name, body, error_of(result))
+            yield Function(crate, file, name, body, f"Err({value})" if "-> Result<" in result else value)
 
 
 def found_in(top):
@@ -244,7 +248,8 @@ def found_in(top):
     functions = []
     for file, (crate, text) in texts.items():
         functions += functions_of(crate, file, text, traits, wanted)
-    return functions, wanted, {file: text for file, (_, text) in texts.items()}
+    functions.sort(key=lambda it: not it.answer.startswith("Err("))
+    return functions, {file: text for file, (_, text) in texts.items()}
 
 
 # ---- the copy
@@ -253,20 +258,16 @@ def found_in(top):
 class Copy:
     def __init__(self, room):
         self.room, self.top, self.state, self.lock = room, f"{room}/repository", 0, threading.Lock()
-        self.functions, self.wanted, self.texts = found_in(TOP)
+        self.functions, self.texts = found_in(TOP)
         self.uses = {}
         for line in open(f"{TOP}/crates.txt", encoding="utf-8"):
             name, _, rest = line.partition("#")[0].partition(":")
             if name.strip():
                 self.uses[name.split()[0]] = rest.split()
-        if not os.path.isdir(self.top):
-            os.makedirs(self.top)
-            shutil.copytree(f"{TOP}/crates", f"{self.top}/crates", ignore=shutil.ignore_patterns("out", "must-fail"))
-        else:
-            for crate, _ in {crate: 0 for crate, _ in sources(TOP)}.items():
-                shutil.copytree(f"{TOP}/crates/{crate}/src", f"{self.top}/crates/{crate}/src", dirs_exist_ok=True)
+        shutil.rmtree(self.top, ignore_errors=True)
+        os.makedirs(f"{self.top}/.git")
+        shutil.copytree(f"{TOP}/crates", f"{self.top}/crates", ignore=shutil.ignore_patterns("out", "must-fail"))
         shutil.copy(f"{TOP}/HANDLES", self.top)
-        os.makedirs(f"{self.top}/.git", exist_ok=True)
         for name, text in (("src/lib.rt", LIBRARY), ("c/wants.c", CODE)):
             path = f"{self.top}/crates/wants/{name}"
             os.makedirs(os.path.dirname(path), exist_ok=True)
@@ -281,11 +282,10 @@ class Copy:
     def write(self):
         """Writes each file with its switches."""
         for file, text in self.texts.items():
-            for number, function in reversed(list(enumerate(self.functions))):
-                if function.file == file and not function.why:
-                    value = self.wanted[function.error]
-                    switch = f" if wants::refused({number}) {{ return Err({value}); }} "
-                    text = text[: function.place] + switch + text[function.place :]
+            own = [it for it in enumerate(self.functions) if it[1].file == file and not it[1].why]
+            for number, function in sorted(own, key=lambda it: -it[1].place):
+                switch = f" if wants::refused({number}) {{ return {function.answer}; }} "
+                text = text[: function.place] + switch + text[function.place :]
             with open(f"{self.top}/{file}.new", "w", encoding="utf-8") as it:
                 it.write(text)
             os.replace(f"{self.top}/{file}.new", f"{self.top}/{file}")
@@ -308,10 +308,10 @@ class Copy:
     def drop_refused(self, said):
         """Takes the switches out at which a build complains."""
         for file, line, why in re.findall(r"(?m)(crates/\S+?\.rt):(\d+)[^\n]*?(error\[[^\n]*)", said):
-            text = open(f"{self.top}/{file}", encoding="utf-8").read().split("\n")
-            found = re.search(r"wants::refused\((\d+)\)", text[int(line) - 1])
-            if found and not self.functions[int(found.group(1))].why:
-                self.functions[int(found.group(1))].why = why[:200]
+            lines = open(f"{self.top}/{file}", encoding="utf-8").read().split("\n")[: int(line)]
+            found = re.findall(r"wants::refused\((\d+)\)", "\n".join(lines))
+            if found and not self.functions[int(found[-1])].why:
+                self.functions[int(found[-1])].why = why[:200]
                 self.state += 1
         self.write()
 
@@ -350,6 +350,10 @@ class Tests:
             path = f"{self.room}/seen-{name}"
             bytes_ = open(path, "rb").read() if os.path.exists(path) else b""
             self.seen[name] = {place for place, byte in enumerate(bytes_) if byte}
+        # Where a test fails though no switch is on, its failing tells nothing.
+        never = len(self.copy.functions)
+        self.slow += [name for name in self.names if self.seen[name] and self.fails(name, never)]
+        self.names = [name for name in self.names if name not in self.slow]
         return ""
 
     def made(self):
@@ -476,7 +480,7 @@ def main():
     given = words.parse_args()
     if given.list:
         for function in found_in(TOP)[0]:
-            print(function, function.error)
+            print(function, function.answer)
         return 0
     room = os.path.abspath(given.room) if given.room else tempfile.mkdtemp(prefix="wants-")
     try:
