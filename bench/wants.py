@@ -13,9 +13,10 @@ memory, since nothing promises that there is memory, so a test has to refuse it.
 
 On a copy of the repository each public function whose result has a want of memory among its errors or is itself one of
 these errors, and each such method of a public trait that a type of the repository has, begins with a switch:
-`if wants::refused(N) { return Err(NoMemory); }`, where the crate `wants` stands for the copy alone. `rt try --test` builds the tests of a crate once, with everything below it; then its
-tests are run with one switch on after the other, those tests alone that come to it. A function is tried with the tests of
-its own crate first, then of the crates that use it, nearest first, `acceptance` last, until a test fails. Nothing is proved.
+`if wants::refused(N) { return Err(NoMemory); }`, where the crate `wants` stands in the copy alone. `rt try --test` builds
+the tests of a crate once, with everything below it; then they are run with one switch on after the other, those tests alone
+that come to it. A function is tried with the tests of its own crate first, then of `acceptance`, and then of the crates that
+use it, nearest first, until a test fails. Nothing is proved.
 
 Prints a line for each function, and counts for each crate at the end:
 
@@ -23,8 +24,8 @@ Prints a line for each function, and counts for each crate at the end:
     passes NAME (tests that come to it, or none)
     not compiled NAME: REASON
 
-Ends with status 1 where a function passes or is not compiled. Needs rt, cc, and about 40 seconds of a processor for each
-crate that has tests.
+and behind `#` what is built. Ends with status 1 where a function passes or is not compiled. Needs rt, cc and Linux, and 40 to
+90 seconds of two processors for each crate that has tests; `nice` is used.
 """
 import argparse
 import concurrent.futures
@@ -157,6 +158,16 @@ def skip_brackets(text, at):
         at += 1
 
 
+def skip_parameters(text, at):
+    """Past the type parameters and the parameters of a function whose name ends at a place."""
+    depth = 0
+    while depth or text[at] != "(":
+        depth += text[at] == "<"
+        depth -= text[at] == ">" and text[at - 1] != "-"
+        at += 1
+    return skip_brackets(text, at)
+
+
 def body_of(text, at):
     """The result's type, and the place behind the opening brace of the body, of the function whose parameters end there.
     No place: a method without body."""
@@ -227,8 +238,7 @@ def functions_of(crate, file, text, traits, wanted):
         kind = re.split(r"[\s<:]", kind.strip().lstrip("&"))[0]
         owners.append((found.start(), skip_brackets(text, found.end() - 1), re.split(r"[\s<]", trait)[0], kind))
     for found in re.finditer(r"(?m)^[ ]*(pub )?(?:const |unsafe )*fn (\w+)", text):
-        at = text.index("(", found.end())
-        result, body = body_of(text, skip_brackets(text, at))
+        result, body = body_of(text, skip_parameters(text, found.end()))
         owner = [it for it in owners if it[0] < found.start() < it[1]]
         is_method = owner and owner[0][2] in traits
         value = wanted.get(error_of(result or ""))
@@ -298,12 +308,12 @@ class Copy:
         )
 
     def users_of(self, crate):
-        """The crate, and those that use it, nearest first, `acceptance` last."""
+        """The crates with tests that use a crate, nearest first."""
         found, ring = [crate], [crate]
         while ring:
             ring = [it for it, below in self.uses.items() if it not in found and set(below) & set(ring)]
             found += ring
-        return sorted(found, key=lambda it: it == "acceptance")
+        return [it for it in found[1:] if it != "acceptance" and self.has_tests(it)]
 
     def drop_refused(self, said):
         """Takes the switches out at which a build complains."""
@@ -434,10 +444,8 @@ def tried(copy, tests, chosen, jobs):
 
     def answer(number):
         function, coming = copy.functions[number], []
-        if function.why:
-            return None
-        for crate in copy.users_of(function.crate):
-            if crate in tests:
+        for crate in [function.crate, "acceptance", *copy.users_of(function.crate)]:
+            if tests.get(crate) and not function.why:
                 test, came = tests[crate].refuses(number)
                 coming += [f"{crate}: {name}" for name in came]
                 if test:
@@ -448,23 +456,39 @@ def tried(copy, tests, chosen, jobs):
         return dict(zip(chosen, pool.map(answer, chosen)))
 
 
+def run(copy, chosen, by, jobs):
+    """The tests of the functions' own crates and of `acceptance`, and of the users of those that are still left then."""
+    tests = {}
+
+    def build(crates):
+        crates = [it for it in by or copy.uses if it in crates and it not in tests and copy.has_tests(it)]
+        with concurrent.futures.ThreadPoolExecutor(jobs) as pool:
+            tests.update(pool.map(lambda crate: built(copy, crate, chosen), crates))
+
+    build({copy.functions[it].crate for it in chosen} | {"acceptance"})
+    answers = tried(copy, tests, chosen, jobs)
+    left = [it for it, answer in answers.items() if not answer[0] and not copy.functions[it].why]
+    build({user for it in left for user in copy.users_of(copy.functions[it].crate)})
+    return {**answers, **tried(copy, tests, left, jobs)}, None in tests.values()
+
+
 def told(copy, answers):
     """Prints the lines and the counts."""
     counts, ended = {}, 0
     for number, answer in sorted(answers.items(), key=lambda it: str(copy.functions[it[0]])):
         function = copy.functions[number]
         count = counts.setdefault(function.crate, [0, 0, 0, 0, 0])
-        if answer is None:
+        if function.why:
             count[4] += 1
             print(f"not compiled {function}: {function.why}")
         elif answer[0]:
-            count[0 if answer[0] == function.crate else 2 if answer[0] == "acceptance" else 1] += 1
+            count[0 if answer[0] == function.crate else 1 if answer[0] == "acceptance" else 2] += 1
             print(f"refused {function} by {answer[0]} ({answer[1]})")
         else:
             count[3] += 1
             print(f"passes {function} ({', '.join(answer[1]) or 'none'})")
-        ended |= answer is None or not answer[0]
-    print(f"\n{'crate':<16} {'by its own':>10} {'by a user':>10} {'acceptance':>10} {'passes':>7} {'not compiled':>13}")
+        ended |= not answer[0]
+    print(f"\n{'crate':<16} {'by its own':>10} {'acceptance':>10} {'by a user':>10} {'passes':>7} {'not compiled':>13}")
     for crate, count in [*sorted(counts.items()), ("all", [sum(it) for it in zip(*counts.values())])]:
         print(f"{crate:<16} {count[0]:>10} {count[1]:>10} {count[2]:>10} {count[3]:>7} {count[4]:>13}")
     return ended
@@ -487,12 +511,8 @@ def main():
         os.makedirs(room, exist_ok=True)
         copy = Copy(room)
         chosen = [number for number, it in enumerate(copy.functions) if not given.of or it.crate in given.of]
-        users = {user for number in chosen for user in copy.users_of(copy.functions[number].crate)}
-        crates = [it for it in given.by or copy.uses if it in users and copy.has_tests(it)]
-        with concurrent.futures.ThreadPoolExecutor(given.jobs) as pool:
-            tests = dict(pool.map(lambda crate: built(copy, crate, chosen), crates))
-        whole = {crate: it for crate, it in tests.items() if it}
-        return told(copy, tried(copy, whole, chosen, given.jobs)) or len(whole) < len(tests)
+        answers, is_lacking = run(copy, chosen, given.by, given.jobs)
+        return told(copy, answers) or is_lacking
     finally:
         if not given.room:
             shutil.rmtree(room)
