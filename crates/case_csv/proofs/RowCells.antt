@@ -4,6 +4,7 @@ use Rattle.std.specs.Prelude.{slice_get}
 use Rattle.std.specs.List.{AllZip}
 use Rattle.std.proofs.lemmas.List.{take_more, take_all, length_push, append-nil}
 use Rattle.std.proofs.lemmas.Option.{slice_get_within, get_or_from_slice_get}
+use Rattle.std.proofs.lemmas.Slice.Zip.{all_zipped_more}
 use borrow.Author.Count.{below_more}
 use Rattle.field_core.specs.declared.ratio.Ratio.{Ratio}
 use Rattle.case_model.specs.declared.draft_edge.DraftEdge.{DraftEdge}
@@ -20,13 +21,6 @@ some_or d (Some x) = x
 
 pub same_some : {A : Type 0} (x y : A) → Some x ≡ Some y → x ≡ y
 same_some x y e = ap (some_or x) e
-
--- one more of both
-pub zip_push : {A B : Type 0} (R : A → B → Type 0) (xs : List A) (ys : List B) (x : A) (y : B) → AllZip R xs ys → R x y → AllZip R (xs ++ x ∷ []) (ys ++ y ∷ [])
-zip_push R [] [] x y h r = (r, tt)
-zip_push R [] (b ∷ ys) x y h r = absurd h
-zip_push R (a ∷ xs) [] x y h r = absurd h
-zip_push R (a ∷ xs) (b ∷ ys) x y h r = (h.0, zip_push R xs ys x y h.1 r)
 
 -- one more item is taken
 pub take_found : {A : Type 0} (xs : List A) (i : ℕ) (x : A) → slice_get xs i ≡ Some x → take (i + 1) xs ≡ take i xs ++ x ∷ []
@@ -101,7 +95,7 @@ pub entries_more : (cells : Cells) (from : ℕ) (keep : Bool) (old edges new : L
     → new ≡ edges ++ kept keep (edge_at from to entry) → EntriesRead cells from keep old new (to + 1)
 entries_more cells from keep old edges new to cell entry h there is put = record {
   entries = h.entries ++ entry ∷ [];
-  are = subst (λ t. AllZip IsEntryText t (h.entries ++ entry ∷ [])) (sym (take_found (drop 3 cells) to cell (sym (get_behind cells to) ∙ there))) (zip_push IsEntryText (take to (drop 3 cells)) h.entries cell entry h.are is);
+  are = subst (λ t. AllZip IsEntryText t (h.entries ++ entry ∷ [])) (sym (take_found (drop 3 cells) to cell (sym (get_behind cells to) ∙ there))) (all_zipped_more IsEntryText (take to (drop 3 cells)) h.entries cell entry h.are is);
   count = length_push h.entries entry ∙ ap (λ n. n + 1) h.count;
   edges = put ∙ ap (λ es. es ++ kept keep (edge_at from to entry)) h.edges ∙ append_assoc old (kept keep (row_edges from 0 h.entries)) (kept keep (edge_at from to entry))
       ∙ ap (λ es. old ++ es) (sym (ap (kept keep) (edges_more from 0 h.entries entry ∙ ap (λ n. row_edges from 0 h.entries ++ edge_at from n entry) (zero_more (length h.entries) ∙ h.count)) ∙ kept_append keep (row_edges from 0 h.entries) (edge_at from to entry)));

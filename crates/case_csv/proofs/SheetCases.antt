@@ -1,6 +1,5 @@
 -- The sheet of a case says that case at its level, and tells it apart from others.
-use Rattle.std.proofs.Common.{◌≡◌, ◌≢◌, refl, sym, ap, subst, ◌∙◌, ℕ, zero, suc, ◌+◌, ◌<◌, ◌==◌, ◌&&◌, not, List, [], ◌∷◌, length, map, get_or, Bool, true, false, None, true≢false, arith}
-use Rattle.std.specs.Prelude.{slice_get}
+use Rattle.std.proofs.Common.{◌≡◌, ◌≢◌, refl, sym, ap, subst, ◌∙◌, ℕ, ◌<◌, ◌==◌, not, List, [], ◌∷◌, length, map, get_or, true, false, true≢false, arith}
 use Rattle.std.specs.List.{list_all, range_with_len}
 use Rattle.std.proofs.lemmas.Bool.Decides.{nat_tests}
 use Rattle.std.proofs.lemmas.Option.{slice_get-get_or}
@@ -17,19 +16,17 @@ use Rattle.case_model.specs.declared.inputs.Inputs.TheVariants.{Bare, Single, St
 use Rattle.case_model.specs.CaseView.{content}
 use Rattle.case_model.specs.Content.{Content, content_of, IfSingle, has_coefficients}
 use Rattle.case_model.specs.Draft.{is_short, is_short_p_value, is_p_value, is_unit, ArePValues}
-use Rattle.case_model.specs.Entries.{entry_at, no_edge}
+use Rattle.case_model.specs.Entries.{entry_at}
 use Rattle.case_model.specs.Sums.{ratio_at, zero_ratio}
-use Rattle.case_model.specs.ValidDraft.{Each}
 use Rattle.case_model.specs.Validity.{IsValidContent}
 use Rattle.case_model.proofs.DraftTests.{all_each}
 use Rattle.case_model.proofs.Holding.{both}
-use Rattle.edge_expression.specs.EntryReading.{IsEntryText}
-use Rattle.edge_expression.specs.EntryTexts.{entry_text}
+use Rattle.case_model.proofs.NoFaults.{not_true}
 use Rattle.edge_expression.proofs.EntriesReadBack.{entry_reads_back}
 use Rattle.edge_text.specs.CanonicalText.{number_word, name_at, is_alone}
 use Rattle.edge_text.specs.Grammar.{Says}
 use Rattle.edge_text.proofs.CanonicalWords.{short_said, p_value_said, name_is_word}
-use Rattle.case_csv.specs.Records.{Fields, records_of, text_of}
+use Rattle.case_csv.specs.Records.{Fields}
 use Rattle.case_csv.specs.Reading.{IsCaseOf}
 use Rattle.case_csv.specs.Sheet.{are_staged, fits_sheet, header_fields, p_field, row_fields, sheet_text, sheet_fields}
 use Rattle.case_csv.specs.SheetStatements.{SheetsReadBack, SheetsTellCasesApart, SheetsAreCanonical}
@@ -112,15 +109,11 @@ back_by (k ∷ l ∷ ks) names alpha inputs case e v h a u =
     let one : length (k ∷ l ∷ ks) ≡ 1 = grind (arith, nat_tests, (both (length (k ∷ l ∷ ks) == 1) (list_all (λ k. is_one (terms k.share)) (k ∷ l ∷ ks)) a).left) in
     absurd (omega arith)
 
-unstaged_is : (b : Bool) → not b ≡ true → b ≡ false
-unstaged_is true h = absurd (true≢false (sym h))
-unstaged_is false h = refl
-
 pub sheets_read_back : SheetsReadBack
 unfolding fits_sheet
 sheets_read_back case fits =
     let w = both (is_alone case.components) (not (are_staged case.inputs)) fits in
-    back_by case.components case.names case.alpha case.inputs case refl case.valid case.coefficients w.left (unstaged_is (are_staged case.inputs) w.right)
+    back_by case.components case.names case.alpha case.inputs case refl case.valid case.coefficients w.left (not_true (are_staged case.inputs) w.right)
 
 pub says_its_case : (case : Case) (text : List ℕ) → fits_sheet (content case) ≡ true → text ≡ sheet_text (content case) → IsCaseOf text (content case).alpha case
 says_its_case case text fits e = subst (λ t. IsCaseOf t (content case).alpha case) (sym e) (sheets_read_back case fits)

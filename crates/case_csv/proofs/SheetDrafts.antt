@@ -1,5 +1,5 @@
 -- The draft that the sheet of a case says: it has no fault, and the content of the case.
-use Rattle.std.proofs.Common.{◌≡◌, ◌≢◌, ◌⊎◌, refl, sym, ap, ap₂, subst, ◌∙◌, ℕ, zero, suc, ◌+◌, ◌*◌, ◌/◌, ◌%◌, ◌<◌, ◌≤◌, ◌==◌, ◌&&◌, inl, inr, List, [], ◌∷◌, length, map, get_or, Bool, true, false, Option, Some, None, is_some, true≢false, pos, arith}
+use Rattle.std.proofs.Common.{◌≡◌, ◌≢◌, refl, sym, ap, ap₂, subst, ◌∙◌, ℕ, zero, suc, ◌+◌, ◌*◌, ◌/◌, ◌<◌, ◌≤◌, ◌==◌, ◌&&◌, inr, List, [], ◌∷◌, length, map, get_or, Bool, true, false, Option, Some, None, is_some, true≢false, pos, arith}
 use Rattle.std.specs.Prelude.{slice_get, if◌then◌else◌}
 use Rattle.std.specs.List.{list_all, list_any, range_with_len}
 use Rattle.std.proofs.lemmas.Bool.Decides.{nat_tests, Decides-int_eq}
@@ -36,9 +36,9 @@ use Rattle.case_model.proofs.Holding.{both}
 use Rattle.case_model.proofs.ValidContents.{HasShape, shape}
 use Rattle.case_model.proofs.ValidGraphs.{edge_unit}
 use Rattle.edge_text.specs.CanonicalText.{is_absent}
-use Rattle.edge_text.proofs.CanonicalDrafts.{before, edges_from, untabled, five, absent_is, table_back, SomeValues, content_back}
+use Rattle.edge_text.proofs.CanonicalDrafts.{before, edges_from, untabled, five, absent_is, table_back, content_back}
 use Rattle.edge_text.proofs.CanonicalDrafts as canonical
-use Rattle.edge_text.proofs.CanonicalValidity.{each_cons, canonical_faultless}
+use Rattle.edge_text.proofs.CanonicalValidity.{IsListed, each_cons, canonical_faultless}
 use Rattle.case_csv.specs.Sheet.{are_staged}
 use Rattle.case_csv.specs.Table.{RowSaid, is_zero_weight, table_edges, one, component_of, draft_of}
 use Rattle.case_csv.proofs.SheetEdges.{edge, said, rows_said, edges_each, edges_once, table_again}
@@ -88,10 +88,6 @@ no_edge_unit : (number_zero ≤ε entry_value no_edge) × (entry_value no_edge �
 no_edge_unit = subst (λ e. (number_zero ≤ε entry_value e) × (entry_value e ≤ε number_one)) nothing_between (unit_of (entry_value (edge_between [] 0 0)) (edge_unit [] 0 0 refl))
 
 -- ---- the edges of a table are edges of its draft, or 0
-
-record IsListed (es : List DraftEdge) (e : DraftEdge) : Type 0 where
-  place : ℕ
-  there : slice_get es place ≡ Some e
 
 listed : (m p n q : ℕ) (table : List (List Ratio)) → p + n ≡ q → n < length table → is_absent (get_or table n no_edge) ≡ false
     → IsListed (edges_from m p table) (canonical.edge_at m q (get_or table n no_edge))

@@ -1,5 +1,5 @@
 -- The edges that the rows of a sheet say, each at its two ends.
-use Rattle.std.proofs.Common.{◌≡◌, ◌≢◌, refl, sym, ap, ap₂, subst, ◌∙◌, ℕ, zero, suc, ◌+◌, ◌*◌, ◌/◌, ◌%◌, ◌<◌, ◌≤◌, ◌==◌, ◌&&◌, not, inl, inr, List, [], ◌∷◌, ◌++◌, append_assoc, length, map, get_or, Bool, true, false, Option, Some, None, true≢false, arith}
+use Rattle.std.proofs.Common.{◌≡◌, refl, sym, ap, ap₂, subst, ◌∙◌, ℕ, zero, suc, ◌+◌, ◌*◌, ◌/◌, ◌%◌, ◌<◌, ◌≤◌, ◌==◌, ◌&&◌, not, inl, inr, List, [], ◌∷◌, ◌++◌, append_assoc, length, map, get_or, Bool, true, false, Option, Some, None, arith}
 use Rattle.std.specs.Prelude.{if◌then◌else◌}
 use Rattle.std.specs.List.{list_all, range_with_len}
 use Rattle.std.proofs.lemmas.Bool.{cases_Bool}
@@ -14,6 +14,7 @@ use Rattle.case_model.specs.Draft.{has_ends}
 use Rattle.case_model.specs.Entries.{no_edge, entry_at}
 use Rattle.case_model.specs.ValidDraft.{Each, EachTwo}
 use Rattle.case_model.proofs.Holding.{both}
+use Rattle.case_model.proofs.NoFaults.{not_true}
 use Rattle.edge_text.proofs.CanonicalValidity.{each_cons, two_cons}
 use Rattle.case_csv.specs.Table.{RowSaid, is_zero_weight, edge_at, row_edges, table_edges}
 
@@ -60,10 +61,6 @@ other_ends i j from to entry n = elim (cases_Bool (has_ends i j (edge from to en
   | inr f ↦ f
 ]
 
-off : (b : Bool) → not b ≡ true → b ≡ false
-off true h = absurd (true≢false (sym h))
-off false h = refl
-
 none_append : (i j : ℕ) (xs ys : List DraftEdge) → has_none i j xs ≡ true → has_none i j ys ≡ true → has_none i j (xs ++ ys) ≡ true
 none_append i j xs ys h k = list_all-append (λ e. not (has_ends i j e)) xs ys ∙ ap₂ (λ a b. a && b) h k
 
@@ -109,7 +106,7 @@ passed : (i j : ℕ) (xs ys : List DraftEdge) → has_none i j xs ≡ true → e
 passed i j [] ys h = refl
 passed i j (x ∷ xs) ys h =
     let b = both (not (has_ends i j x)) (has_none i j xs) h in
-    found_later i j x (xs ++ ys) (off (has_ends i j x) b.left) ∙ passed i j xs ys b.right
+    found_later i j x (xs ++ ys) (not_true (has_ends i j x) b.left) ∙ passed i j xs ys b.right
 
 absent : (i j : ℕ) (es : List DraftEdge) → has_none i j es ≡ true → edge_between es i j ≡ no_edge
 absent i j es h = ap (λ fs. edge_between fs i j) (sym (append-nil es)) ∙ passed i j es [] h ∙ none_found i j

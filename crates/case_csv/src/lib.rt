@@ -4,8 +4,10 @@
 //! - `read_csv`: `case` (the records, as the crate `csv` gives them for the bytes, are a table by `IsTable`, which
 //!   says a draft without fault, and the case has its content), `fault` (the first record or field that can't stand,
 //!   with its row, its column and its kind; or else the first fault of the draft).
-//! - Laws in `src/laws.rt`: a table says one draft (`tables_say_one_draft`), and has at most one first fault, and not
-//!   both (`tables_have_one_fault`).
+//! - `write_csv`: the sheet of a case that has one (`sheet`, `says`).
+//! - Laws in `src/laws.rt`: a table says one draft (`tables_say_one_draft`), or has one first fault
+//!   (`tables_have_one_fault`), one of the two (`tables_say_or_fail`); what is written is read as the same case
+//!   (`sheets_read_back`).
 #![tactic(auto)]
 
 mod cells;

@@ -12,10 +12,11 @@ use Rattle.field_core.specs.declared.ratio.Ratio.{Ratio}
 use Rattle.fraction.specs.Spelling.{spelling, IsSpellingByte}
 use Rattle.fraction.specs.Tests.{is_zero, is_one, absolute}
 use Rattle.fraction.proofs.ReadBack.{spelling_bytes}
-use Rattle.case_model.specs.Sums.{zero_ratio, terms_at}
+use Rattle.case_model.specs.Sums.{terms_at}
 use Rattle.case_model.specs.Draft.{is_name, is_name_byte}
 use Rattle.case_model.proofs.Holding.{both}
 use Rattle.edge_expression.specs.EntryTexts.{power_text, factor_text, term_text, joint_text, joined_term, terms_text, are_zero_below, coefficients_text, entry_text}
+use Rattle.edge_text.proofs.CanonicalWords.{absolute_reduced, each_reduced}
 
 abbrev AreAscii : List ℕ → Type 0
 AreAscii x = are_ascii x ≡ true
@@ -75,9 +76,6 @@ joint_ascii false true = refl
 joint_ascii true false = refl
 joint_ascii false false = refl
 
-absolute_reduced : (t : Terms) → IsReduced t → IsReduced (absolute t)
-absolute_reduced t r = record { positive = r.positive; num_size = r.num_size; den_size = r.den_size; reduced = r.reduced }
-
 joined_ascii : (f : Bool) (p : ℕ) (t : Terms) → p ≤ 4 → IsReduced t → AreAscii (joined_term f p t)
 unfolding joined_term
 joined_ascii f p t few r = ascii_both (joint_text f (is_negative t.num)) (term_text p (absolute t)) (joint_ascii f (is_negative t.num)) (term_ascii p (absolute t) few (absolute_reduced t r))
@@ -90,12 +88,6 @@ terms_ascii f p (suc n) e few r =
     let here : p ≤ 4 = omega (arith, few) in
     ascii_if (is_zero (terms_at e p)) (terms_text f (suc p) n e) (joined_term f p (terms_at e p) ++ terms_text false (suc p) n e) (terms_ascii f (suc p) n e next r)
     (ascii_both (joined_term f p (terms_at e p)) (terms_text false (suc p) n e) (joined_ascii f p (terms_at e p) here (r p)) (terms_ascii false (suc p) n e next r))
-
-each_reduced : (xs : List Ratio) (k : ℕ) → IsReduced (terms_at (map terms xs) k)
-unfolding terms_at
-each_reduced [] k = zero_ratio.valid
-each_reduced (x ∷ xs) zero = x.valid
-each_reduced (x ∷ xs) (suc k) = each_reduced xs k
 
 entry_ascii : (xs : List Ratio) → AreAscii (entry_text xs)
 unfolding coefficients_text

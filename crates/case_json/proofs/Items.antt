@@ -3,6 +3,7 @@ use Rattle.std.proofs.Common.{◌≡◌, ◌∙◌, ◌∷◌, ◌++◌, [], ℕ
 use Rattle.std.specs.Fmt.{decimal}
 use Rattle.std.specs.List.{AllZip}
 use Rattle.std.proofs.lemmas.List.{take_more, take_all, drop_more, map-append, take-append-drop, length-map, length-take-le}
+use Rattle.std.proofs.lemmas.Slice.Zip.{all_zipped_more}
 use Rattle.serde_json.specs.Data.{Data}
 use Rattle.serde_json.specs.View.{view, items_view}
 use Rattle.serde_json.specs.declared.value.Value.{Value}
@@ -14,19 +15,12 @@ pub item_list_view : (values : List Value) → item_list (items_view values) ≡
 item_list_view [] = refl
 item_list_view (v ∷ values) = ap (λ more. view v ∷ more) (item_list_view values)
 
--- one more of both
-pub zip_push : {A B : Type 0} (R : A → B → Type 0) (xs : List A) (ys : List B) (x : A) (y : B) → AllZip R xs ys → R x y → AllZip R (xs ++ x ∷ []) (ys ++ y ∷ [])
-zip_push R [] [] x y h r = (r, tt)
-zip_push R [] (b ∷ ys) x y h r = absurd h
-zip_push R (a ∷ xs) [] x y h r = absurd h
-zip_push R (a ∷ xs) (b ∷ ys) x y h r = (h.0, zip_push R xs ys x y h.1 r)
-
 -- one more value says its part
 pub one_more : {A : Type 0} (Is : Data → A → Type 0) (values : List Value) (said : List A) (i : ℕ) (d : Value) (a : A) → i < length values → AllZip Is (map view (take i values)) said → Is (view (get_or values i d)) a
     → AllZip Is (map view (take (i + 1) values)) (said ++ a ∷ [])
 one_more Is values said i d a small before is =
     let e = ap (map view) (take_more values i d small) ∙ map-append view (take i values) (get_or values i d ∷ []) in
-    subst (λ t. AllZip Is t (said ++ a ∷ [])) (sym e) (zip_push Is (map view (take i values)) said (view (get_or values i d)) a before is)
+    subst (λ t. AllZip Is t (said ++ a ∷ [])) (sym e) (all_zipped_more Is (map view (take i values)) said (view (get_or values i d)) a before is)
 
 bad_in : {A : Type 0} (Is : Data → A → Type 0) (Bad : Data → JsonFault → Type 0) (values : List Value) (said : List A) (i : ℕ) (d : Value) (inner fault : JsonFault)
     → i < length values → AllZip Is (map view (take i values)) said → Bad (view (get_or values i d)) inner → fault ≡ under (decimal i) inner → IsBadItem Is Bad (map view values) fault

@@ -6,7 +6,6 @@ pub mod Drafts
 pub mod Items
 pub mod LineFeed
 pub mod OneCase
-pub mod Parts
 pub mod Rules
 pub mod SingleRules
 pub mod WholeNumbers

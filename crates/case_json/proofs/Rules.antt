@@ -3,6 +3,7 @@ use Rattle.std.proofs.Common.{◌≡◌, ◌∙◌, ◌∷◌, ◌++◌, ◌⊎�
 use Rattle.std.specs.Fmt.{decimal}
 use Rattle.std.specs.List.{AllZip}
 use Rattle.std.proofs.lemmas.Bool.{cases_Bool}
+use Rattle.std.proofs.lemmas.Slice.Zip.{all_zipped_more}
 use Rattle.std.specs.Ordering.{nat_cmp, match_ordering}
 use Rattle.std.specs.Cmp.Lexicographic.{slice_cmp}
 use Rattle.std.specs.declared.cmp.Ordering.{Ordering}
@@ -11,7 +12,6 @@ use Rattle.serde_json.specs.Data.{Data, null, boolean, number, string, array, ob
 use Rattle.serde_json.specs.Find.{get, get_member}
 use Rattle.case_json.specs.declared.fault.JsonFault.{JsonFault}
 use Rattle.case_json.specs.declared.fault.JsonFault.TheVariants as faults
-use Rattle.case_json.proofs.Items.{zip_push}
 use Rattle.case_json.specs.Values.{HoldsIntegers, ItemsHoldIntegers, MembersHoldIntegers, item_list, is_object_of, behind, under, Has, HasBad, MayHave, IsSome, IsBadAt, IsBadItem, KnownKeys, Then, AreItems, AreItemsFault}
 
 abbrev pub Says : Type 0 → Type 1
@@ -356,7 +356,7 @@ items_or Is Bad each done said [] held h = inl (said, subst (λ t. AllZip Is t s
 items_or Is Bad each done said (d ∷ ds) held h = elim (each d held.0) [
   | inl one ↦
       subst (λ t. ((xs : List _) × AllZip Is t xs) ⊎ ((f : JsonFault) × IsBadItem Is Bad t f)) (append_assoc done (d ∷ []) ds)
-      (items_or Is Bad each (done ++ d ∷ []) (said ++ one.0 ∷ []) ds held.1 (zip_push Is done said d one.0 h one.1))
+      (items_or Is Bad each (done ++ d ∷ []) (said ++ one.0 ∷ []) ds held.1 (all_zipped_more Is done said d one.0 h one.1))
   | inr failed ↦
       inr (
         under (decimal (length done)) failed.0,

@@ -1,5 +1,5 @@
 -- Lists of all sets in their order: how one is made, and that there is one.
-use Rattle.std.proofs.Common.{◌≡◌, ◌⊎◌, inl, inr, refl, sym, ap, subst, ◌∙◌, ℕ, zero, suc, ◌^◌, ◌<◌, List, [], ◌∷◌, ◌++◌, length, get_or, Result, Ok, Err, arith}
+use Rattle.std.proofs.Common.{◌≡◌, ◌⊎◌, inl, inr, refl, sym, ap, ap₂, subst, ◌∙◌, ℕ, zero, suc, ◌^◌, ◌<◌, List, [], ◌∷◌, ◌++◌, length, get_or, Result, Ok, Err, arith}
 use Rattle.std.specs.Prelude.{Contains}
 use Rattle.std.specs.List.{All, AllPairs}
 use Rattle.std.proofs.lemmas.List.Elements.{All-nil, All-cons, All-push, All-weaker, All-get_or, All-contains, Contains-append_left, Contains-push}
@@ -40,9 +40,6 @@ not_before_itself (j ∷ js) (inl p) = absurd (omega (arith, p))
 not_before_itself (j ∷ js) (inr p) = not_before_itself js p.1
 
 -- ---- a list in a strict order is known by its items
-
-cons : (x y : ℕ) (xs ys : List ℕ) → x ≡ y → xs ≡ ys → x ∷ xs ≡ y ∷ ys
-cons x y xs ys f g = cc
 
 first : (x : ℕ) (xs : List ℕ) → Contains (x ∷ xs) x
 first x xs = (0, omega arith, refl)
@@ -88,7 +85,7 @@ module _ (R : ℕ → ℕ → Type 0) (itself : (n : ℕ) → R n n → ⊥) (bo
   ordered_unique (x ∷ xs) [] a b to from = absurd (none x (to x (first x xs)))
   ordered_unique (x ∷ xs) (y ∷ ys) a b to from =
       let e = heads x y xs ys a b (to x (first x xs)) (from y (first y ys)) in
-      cons x y xs ys e (ordered_unique xs ys (rest_ordered x xs a) (rest_ordered y ys b) (λ n c. kept x y n xs ys e a c (to n (later x n xs c))) (λ n c. kept y x n ys xs (sym e) b c (from n (later y n ys c))))
+      ap₂ ◌∷◌ e (ordered_unique xs ys (rest_ordered x xs a) (rest_ordered y ys b) (λ n c. kept x y n xs ys e a c (to n (later x n xs c))) (λ n c. kept y x n ys xs (sym e) b c (from n (later y n ys c))))
 
 -- there is one list of all sets in their order
 pub sets_unique : (m : ℕ) (xs ys : List ℕ) → AreSetsInOrder m xs → AreSetsInOrder m ys → xs ≡ ys
@@ -170,7 +167,7 @@ before_or_behind [] (k ∷ ks) = inr (inl tt)
 before_or_behind (j ∷ js) [] = inr (inr tt)
 before_or_behind (j ∷ js) (k ∷ ks) = elim (compared j k) [
   | inl e ↦ elim (before_or_behind js ks) [
-    | inl f ↦ inl (cons j k js ks e f)
+    | inl f ↦ inl (ap₂ ◌∷◌ e f)
     | inr (inl b) ↦ inr (inl (inr (e, b)))
     | inr (inr b) ↦ inr (inr (inr (sym e, b)))
   ]

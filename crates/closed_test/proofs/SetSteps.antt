@@ -1,5 +1,5 @@
 -- A step of the walk through the sets.
-use Rattle.std.proofs.Common.{◌≡◌, ◌≢◌, ◌⊎◌, inl, inr, refl, sym, ap, subst, ◌∙◌, ℕ, suc, ◌+◌, ◌-◌, ◌<◌, ◌≤◌, arith, true, List, [], ◌∷◌, ◌++◌, append_assoc, length, length-append, get_or, Ok, Err}
+use Rattle.std.proofs.Common.{◌≡◌, ◌≢◌, ◌⊎◌, inl, inr, refl, sym, ap, ap₂, subst, ◌∙◌, ℕ, suc, ◌+◌, ◌-◌, ◌^◌, ◌<◌, ◌≤◌, arith, true, List, [], ◌∷◌, ◌++◌, append_assoc, length, length-append, get_or, Ok, Err}
 use Rattle.field_core.specs.declared.ratio.Ratio.{Ratio}
 use Rattle.field_core.specs.declared.place.WideAt.{WideAt}
 use Rattle.field_core.specs.View.{terms}
@@ -7,7 +7,7 @@ use Rattle.field_core.specs.Sets.{HaveSameMembers, whole}
 use Rattle.field_core.specs.Runs.{left_after}
 use Rattle.field_core.specs.NumberedSets.{members}
 use Rattle.field_core.specs.OrderOfSets.{ComesBefore, IsAscending, IsListStep, IsLastList}
-use Rattle.field_core.proofs.Members.{members_number}
+use Rattle.field_core.proofs.Members.{members_number, number_below}
 use Rattle.field_core.proofs.ListOrder.{not_itself}
 use Rattle.field_core.proofs.NextLists.{ascending_last, ascending_short}
 use Rattle.field_core.proofs.SetOrders.{ascending_order, one_list}
@@ -21,6 +21,10 @@ use Rattle.entangled.proofs.CaseRuns.{after_next}
 use Rattle.closed_test.specs.Paths.{number_without}
 use Rattle.closed_test.specs.Walks.{IsTabled, AreTabledTo, AreAllTabled, IsFirstUndefined, AreStatesAlong, AreAlike, AreLikeTheFirst}
 use Rattle.closed_test.proofs.LeftLists.{stays, begins}
+
+-- the number of a set is below that of all sets
+pub set_fits : (set size m t : ℕ) (left : List ℕ) → set ≡ number_without size left → size ≡ m → t ≡ m → set < 2 ^ t
+set_fits set size m t left e f g = rw (e, f, g) (number_below m (left_after whole left))
 
 -- ---- the position that a step removes is still in
 
@@ -43,12 +47,9 @@ beginning (j ∷ js) ks (p ∷ parent) l e =
     let head : p ≡ j = cc in
     let tail : parent ++ l ∷ [] ≡ js ++ ks = cc in
     elim (beginning js ks parent l tail) [
-      | inl x ↦ inl (x.0, cons p j parent (js ++ x.0) head x.1)
-      | inr f ↦ inr (cons j p js (parent ++ l ∷ []) (sym head) f)
+      | inl x ↦ inl (x.0, ap₂ ◌∷◌ head x.1)
+      | inr f ↦ inr (ap₂ ◌∷◌ (sym head) f)
     ]
-  where
-    cons : (x y : ℕ) (xs ys : List ℕ) → x ≡ y → xs ≡ ys → x ∷ xs ≡ y ∷ ys
-    cons x y xs ys f g = cc
 
 add_one : (n : ℕ) → n + 1 ≡ suc n
 add_one n = omega arith

@@ -6,6 +6,7 @@
 //!   before the first removal and makes one removal a set, depth first.
 //! - `ClosedTable::build`: `local` and `closed` (the local and the closed test of each set), `fault`, `defined`;
 //!   `closed_answers` fills closed answers from any table of local ones (`answers`).
+//! - `sets_in_order`: the numbers of all sets, in the order of the lists of what they leave out.
 //! - `Path`, the way through all sets in their order: `set`, `depth`, and `step` to the next one.
 #![tactic(auto)]
 

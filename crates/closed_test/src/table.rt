@@ -109,7 +109,7 @@ impl ClosedTable {
         })
     }
 
-    /// Whether the local test rejects a set; it doesn't reject the empty one.
+    /// Whether the local test rejects a set; a table that was built says no to the empty one.
     pub fn local(&self, set: u32) -> bool
         requires { set < 2 ^ weights_size (weights_of self.now) }
         ensures { result ≡ answer_of (local_of self.now) set }
@@ -117,7 +117,7 @@ impl ClosedTable {
         self.local.get(set)
     }
 
-    /// Whether the closed test rejects a set; it doesn't reject the empty one.
+    /// Whether the closed test rejects a set; a table that was built says no to the empty one.
     pub fn closed(&self, set: u32) -> bool
         requires { set < 2 ^ weights_size (weights_of self.now) }
         ensures { result ≡ answer_of (closed_of self.now) set }

@@ -85,9 +85,9 @@ unfolding is_absent ratio_at
 nothing_absent = refl
 
 -- an edge of a table that isn't 0 is one of the list from which it was made
-record IsListed (es : List DraftEdge) (e : DraftEdge) : Type 0 where
-  place : ℕ
-  there : slice_get es place ≡ Some e
+pub record IsListed (es : List DraftEdge) (e : DraftEdge) : Type 0 where
+  pub place : ℕ
+  pub there : slice_get es place ≡ Some e
 
 listed : (i j : ℕ) (es : List DraftEdge) → is_absent (edge_between es i j) ≡ false
     → IsListed es (record { from = i; to = j; entry = edge_between es i j })

@@ -1,15 +1,12 @@
 -- The words of canonical texts: that they are words, and what they say.
-use Rattle.std.proofs.Common.{◌≡◌, refl, sym, ap, ap₂, ◌∙◌, ℕ, zero, suc, ◌+◌, ◌^◌, ◌<◌, ◌≤◌, ◌⊎◌, ◌&&◌, inl, inr, List, [], ◌∷◌, ◌++◌, length, map, Bool, true, false, cond, eqb, nat_lt, nat_le, ℤ, pos, ◌*ℤ◌, ◌≤ℤ◌, unsigned_abs, arith, lit<}
+use Rattle.std.proofs.Common.{◌≡◌, refl, sym, ap, ap₂, ◌∙◌, ℕ, zero, suc, ◌+◌, ◌^◌, ◌<◌, ◌≤◌, ◌⊎◌, ◌&&◌, inl, inr, List, [], ◌∷◌, ◌++◌, length, map, Bool, true, false, cond, eqb, nat_lt, nat_le, unsigned_abs, arith, lit<}
 use Rattle.std.specs.Prelude.{codes}
 use Rattle.std.specs.Fmt.{decimal}
 use Rattle.std.specs.Int.{is_negative}
 use Rattle.std.specs.List.{AllByRecursion, AllZip, list_all}
-use Rattle.std.specs.Ordering.{is_le, int_cmp}
 use Rattle.std.proofs.lemmas.Bool.Decides.{nat_tests}
 use Rattle.std.proofs.lemmas.Fmt.{decimal_is_IsNumeral_wide, length-decimal-le_wide}
-use Rattle.std.proofs.lemmas.Int.{ints}
 use Rattle.std.proofs.lemmas.List.Folds.{list_all-append}
-use Rattle.field_core.specs.Arithmetic.{number_zero, number_one}
 use Rattle.field_core.specs.Terms.{Terms, IsReduced}
 use Rattle.field_core.specs.View.{terms}
 use Rattle.field_core.specs.declared.ratio.Ratio.{Ratio}
@@ -18,10 +15,9 @@ use Rattle.fraction.specs.Spelling.{spelling, IsSpellingByte}
 use Rattle.fraction.specs.Tests.{is_zero, is_one, is_within, absolute}
 use Rattle.fraction.specs.View.{number_of}
 use Rattle.fraction.proofs.ReadBack.{digits_from, read_back, spelling_bytes, spelling_some}
-use Rattle.case_model.specs.Draft.{at_most, is_name, is_name_byte, is_short, is_short_level, is_short_p_value, is_unit}
-use Rattle.case_model.specs.Sums.{terms_at, zero_ratio, one_ratio}
+use Rattle.case_model.specs.Draft.{is_name, is_name_byte, is_short, is_short_level, is_short_p_value, is_unit}
+use Rattle.case_model.specs.Sums.{terms_at, zero_ratio}
 use Rattle.case_model.specs.ValidDraft.{Each}
-use Rattle.case_model.proofs.Comparisons.{le_is, zero_is, one_is}
 use Rattle.case_model.proofs.Holding.{both}
 use Rattle.text_lines.specs.Spelling.{IsPlain, IsWord}
 use Rattle.edge_expression.specs.EntryReading.{IsShallow, IsEntryText}
@@ -143,10 +139,10 @@ whole_is_word n h = let w = whole_is n h in high_word (decimal n) w.some (digits
 
 -- ---- entries
 
-abbrev AreHigh : List ℕ → Type 0
+abbrev pub AreHigh : List ℕ → Type 0
 AreHigh x = list_all is_high x ≡ true
 
-high_both : (x y : List ℕ) → AreHigh x → AreHigh y → AreHigh (x ++ y)
+pub high_both : (x y : List ℕ) → AreHigh x → AreHigh y → AreHigh (x ++ y)
 high_both x y h k = list_all-append is_high x y ∙ ap₂ (λ c d. c && d) h k
 
 high_if : (b : Bool) (x y : List ℕ) → AreHigh x → AreHigh y → AreHigh (cond b x y)
@@ -173,13 +169,13 @@ joint_high false true = refl
 joint_high true false = refl
 joint_high false false = refl
 
-abs_reduced : (t : Terms) → IsReduced t → IsReduced (absolute t)
-abs_reduced t r = record { positive = r.positive; num_size = r.num_size; den_size = r.den_size; reduced = r.reduced }
+pub absolute_reduced : (t : Terms) → IsReduced t → IsReduced (absolute t)
+absolute_reduced t r = record { positive = r.positive; num_size = r.num_size; den_size = r.den_size; reduced = r.reduced }
 
 joined_high : (f : Bool) (p : ℕ) (t : Terms) → IsReduced t → AreHigh (joined_term f p t)
 unfolding joined_term
 joined_high f p t r = high_both (joint_text f (is_negative t.num)) (term_text p (absolute t)) (joint_high f (is_negative t.num))
-    (term_high p (absolute t) (abs_reduced t r))
+    (term_high p (absolute t) (absolute_reduced t r))
 
 terms_high : (f : Bool) (p n : ℕ) (e : List Terms) → ((k : ℕ) → IsReduced (terms_at e k)) → AreHigh (terms_text f p n e)
 unfolding terms_text
@@ -188,7 +184,7 @@ terms_high f p (suc n) e r =
     high_if (is_zero (terms_at e p)) (terms_text f (suc p) n e) (joined_term f p (terms_at e p) ++ terms_text false (suc p) n e) (terms_high f (suc p) n e r)
     (high_both (joined_term f p (terms_at e p)) (terms_text false (suc p) n e) (joined_high f p (terms_at e p) (r p)) (terms_high false (suc p) n e r))
 
-each_reduced : (xs : List Ratio) (k : ℕ) → IsReduced (terms_at (map terms xs) k)
+pub each_reduced : (xs : List Ratio) (k : ℕ) → IsReduced (terms_at (map terms xs) k)
 unfolding terms_at
 each_reduced [] k = zero_ratio.valid
 each_reduced (x ∷ xs) zero = x.valid
@@ -251,7 +247,7 @@ term_some p t r = some_if (eqb p 0) (spelling t) (factor_text t ++ power_text p)
 
 joined_some : (f : Bool) (p : ℕ) (t : Terms) → IsReduced t → 0 < length (joined_term f p t)
 unfolding joined_term
-joined_some f p t r = some_last (joint_text f (is_negative t.num)) (term_text p (absolute t)) (term_some p (absolute t) (abs_reduced t r))
+joined_some f p t r = some_last (joint_text f (is_negative t.num)) (term_text p (absolute t)) (term_some p (absolute t) (absolute_reduced t r))
 
 here_or_later : (p k : ℕ) → p ≤ k → (p ≡ k) ⊎ (suc p ≤ k)
 here_or_later p k l = grind arith

@@ -1,8 +1,9 @@
 -- Texts of lines, line by line.
-use Rattle.std.proofs.Common.{◌≡◌, refl, sym, ap, ap₂, ◌∙◌, ℕ, ◌+◌, ◌/◌, ◌%◌, ◌<◌, ◌≤◌, ◌&&◌, Bool, true, false, if◌then◌else◌, List, [], ◌∷◌, ◌++◌, length, map, get_or, drop, drop-cons, add-one, append_assoc, append-nil}
+use Rattle.std.proofs.Common.{◌≡◌, refl, sym, ap, ap₂, ◌∙◌, ℕ, ◌+◌, ◌/◌, ◌%◌, ◌<◌, ◌≤◌, ◌&&◌, Bool, true, false, if◌then◌else◌, List, [], ◌∷◌, ◌++◌, length, map, get_or, drop, append_assoc, append-nil}
 use Rattle.std.specs.List.{flat_map, list_all}
 use Rattle.std.proofs.Math.ListN.{drop_of_length-le}
 use Rattle.std.proofs.lemmas.Grind.{flat_map-append}
+use Rattle.std.proofs.lemmas.List.{drop_more}
 use Rattle.field_core.specs.declared.ratio.Ratio.{Ratio}
 use Rattle.case_model.specs.declared.draft_stages.Arrival.{Arrival}
 use Rattle.case_model.specs.declared.spend.Spend.{Spend}
@@ -32,16 +33,13 @@ text_one words = text_cons words [] ∙ ap (λ t. line_of words ++ t) text_none 
 
 -- ---- one item more
 
-drop_next : {A : Type 0} (xs : List A) (n : ℕ) (d : A) → n < length xs → drop n xs ≡ get_or xs n d ∷ drop (n + 1) xs
-drop_next xs n d h = rw (add-one, drop-cons xs n d) refl
-
 -- what is put in front of a rest
-moved : (start text new part rest whole : List ℕ) → text ++ whole ≡ start → whole ≡ part ++ rest → new ≡ text ++ part → new ++ rest ≡ start
+pub moved : (start text new part rest whole : List ℕ) → text ++ whole ≡ start → whole ≡ part ++ rest → new ≡ text ++ part → new ++ rest ≡ start
 moved start text new part rest whole e w n = ap (λ t. t ++ rest) n ∙ append_assoc text part rest ∙ ap (λ t. text ++ t) (sym w) ∙ e
 
 -- the item at a place is this one
-drop_item : {A : Type 0} (xs : List A) (n : ℕ) (x : A) → n < length xs → x ≡ get_or xs n x → drop n xs ≡ x ∷ drop (n + 1) xs
-drop_item xs n x h e = drop_next xs n x h ∙ ap (λ y. y ∷ drop (n + 1) xs) (sym e)
+pub drop_item : {A : Type 0} (xs : List A) (n : ℕ) (x : A) → n < length xs → x ≡ get_or xs n x → drop n xs ≡ x ∷ drop (n + 1) xs
+drop_item xs n x h e = drop_more xs n x h ∙ ap (λ y. y ∷ drop (n + 1) xs) (sym e)
 
 pub line_next : {A : Type 0} (f : A → Words) (xs : List A) (n : ℕ) (x : A) (start text new : List ℕ) → n < length xs → x ≡ get_or xs n x
     → text ++ text_of (map f (drop n xs)) ≡ start → new ≡ text ++ line_of (f x) → new ++ text_of (map f (drop (n + 1) xs)) ≡ start
@@ -78,7 +76,7 @@ spend_next names spends n name spend start text new h k i j e p =
 
 -- ---- no item more
 
-ended : (text rest start : List ℕ) → rest ≡ [] → text ++ rest ≡ start → text ≡ start
+pub ended : (text rest start : List ℕ) → rest ≡ [] → text ++ rest ≡ start → text ≡ start
 ended text rest start n e = sym (append-nil text) ∙ ap (λ r. text ++ r) (sym n) ∙ e
 
 pub lines_end : {A : Type 0} (f : List A → List Words) → f [] ≡ [] → (xs : List A) (n : ℕ) (start text : List ℕ) → length xs ≤ n

@@ -4,7 +4,7 @@
 //! - `read_text`: `case` (the text is a document by the grammar, `IsText`, which says a draft without fault, and the
 //!   case has its content), `fault` (the first line that can't stand, with its number and kind, `IsFirstFault`; or
 //!   else the first fault of the draft, with its names).
-//! - `write_text`: the canonical text of a case (its only clause).
+//! - `write_text`: the canonical text of a case (`canonical`, `says`).
 //! - Laws in `src/laws.rt`: a text says at most one draft, has at most one first fault, and one of the two and never
 //!   both; the first fault is exactly where no document goes on. `canonical_texts_read_back`: the canonical text is
 //!   read as the same case (`back`), tells cases apart (`apart`), and is the canonical text of what is read

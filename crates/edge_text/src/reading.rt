@@ -546,20 +546,15 @@ impl<'a> Reading<'a> {
                     stages: None,
                 })
             }
-            Next::Spend => {
-                if !left.is_empty() {
-                    return Err(TextFault::Line(end, LineKind::Ended));
-                }
-                Ok(Said {
-                    p,
-                    components,
-                    stages: Some(stages),
-                })
+            Next::Spend | Next::Step if !left.is_empty() => {
+                Err(TextFault::Line(end, LineKind::Ended))
             }
+            Next::Spend => Ok(Said {
+                p,
+                components,
+                stages: Some(stages),
+            }),
             Next::Step => {
-                if !left.is_empty() {
-                    return Err(TextFault::Line(end, LineKind::Ended));
-                }
                 stages.spend.push(Spend::Table(steps))?;
                 Ok(Said {
                     p,

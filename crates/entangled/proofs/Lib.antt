@@ -11,6 +11,7 @@ pub mod CaseStates
 pub mod CaseSteps
 pub mod EachNet
 pub mod ExactProducts
+pub mod FirstNets
 pub mod Gathered
 pub mod LevelValues
 pub mod LoadSteps

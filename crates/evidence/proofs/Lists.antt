@@ -1,10 +1,11 @@
 -- Lists of hypotheses that aren't listed, and what holds of each item of a list.
-use Rattle.std.proofs.Common.{◌≡◌, inl, inr, refl, sym, ap, ap₂, ◌∙◌, ◌==◌, ◌||◌, ◌++◌, subst, cond, append-nil, add-zero, zero-add, add-one, ℕ, zero, suc, ◌+◌, ◌<◌, Bool, true, false, not, List, [], ◌∷◌, length, get_or, map, arith}
+use Rattle.std.proofs.Common.{◌≡◌, inl, inr, refl, sym, ap, ap₂, ◌∙◌, ◌==◌, ◌||◌, ◌++◌, subst, cond, append-nil, ℕ, zero, suc, ◌+◌, ◌<◌, Bool, true, false, not, List, [], ◌∷◌, length, get_or, map, arith}
 use Rattle.std.specs.List.{All, filter, list_any, range_with_len}
-use Rattle.std.proofs.lemmas.List.Elements.{filter-append}
 use Rattle.std.proofs.lemmas.Bool.Decides.{nat_tests}
 use Rattle.field_core.specs.Sets.{set_of}
 use Rattle.field_core.proofs.Live.{true_or_false}
+use Rattle.case_model.proofs.NoFaults.{not_true}
+use Rattle.sequential.proofs.KeptLines.{next_listed}
 use Rattle.evidence_check.specs.Evidence.{others}
 use Rattle.evidence.specs.FlowRun.{has_some}
 
@@ -28,10 +29,6 @@ filtered q P a (suc n) each =
 pub others_each : (m : ℕ) (js : List ℕ) (P : ℕ → Type 0) → ((k : ℕ) → k < m → set_of js k ≡ false → P k) → All P (others m js)
 unfolding others
 others_each m js P each = filtered (λ k. not (set_of js k)) P 0 m (λ k h e. each k (omega arith) (not_true (set_of js k) e))
-  where
-    not_true : (b : Bool) → not b ≡ true → b ≡ false
-    not_true true e = absurd (cc)
-    not_true false e = refl
 
 pub all_mapped : {A B : Type 0} (f : A → B) (P : B → Type 0) (xs : List A) → All (λ x. P (f x)) xs → All P (map f xs)
 all_mapped f P [] h i d p = absurd (omega arith)
@@ -55,13 +52,9 @@ pub others_none : (js : List ℕ) → others 0 js ≡ []
 unfolding others
 others_none js = refl
 
-range_next : (a n j : ℕ) → a + n ≡ j → range_with_len a (suc n) ≡ range_with_len a n ++ j ∷ []
-range_next a zero j e = ap (λ x. x ∷ []) (sym (add-zero a) ∙ e)
-range_next a (suc n) j e = ap (λ xs. a ∷ xs) (range_next (a + 1) n j (omega arith))
-
 others_next : (js : List ℕ) (k : ℕ) → others (k + 1) js ≡ others k js ++ filter (λ i. not (set_of js i)) (k ∷ [])
 unfolding others
-others_next js k = ap (λ n. filter (λ i. not (set_of js i)) (range_with_len 0 n)) (add-one k) ∙ ap (filter (λ i. not (set_of js i))) (range_next 0 k k (zero-add k)) ∙ filter-append (λ i. not (set_of js i)) (range_with_len 0 k) (k ∷ [])
+others_next js k = next_listed (λ i. not (set_of js i)) k
 
 pub others_more : (js : List ℕ) (k : ℕ) → not (set_of js k) ≡ true → others (k + 1) js ≡ others k js ++ k ∷ []
 others_more js k h = others_next js k ∙ ap (λ b. others k js ++ cond b (k ∷ []) []) h

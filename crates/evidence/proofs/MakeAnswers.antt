@@ -1,7 +1,6 @@
 -- The evidence that is made of a case.
 use Rattle.std.proofs.Common.{◌≡◌, inr, refl, sym, ap, subst, ◌∙◌, ℕ, List, [], ◌∷◌, Result, Ok, Err, IfOk, length, map, arith}
 use Rattle.field_core.specs.declared.place.WideAt.{WideAt}
-use Rattle.field_core.specs.Number.{Number}
 use Rattle.field_core.specs.Kind.{Kind, ok_map}
 use Rattle.field_core.specs.Steps.{◌>>=◌}
 use Rattle.field_core.specs.Sets.{whole}
@@ -9,12 +8,10 @@ use Rattle.field_core.specs.Runs.{IsOrder}
 use Rattle.field_core.specs.Laws.Prefixes.{ok_same}
 use Rattle.fraction.specs.View.{number_of}
 use Rattle.case_model.specs.Sums.{number_at}
-use Rattle.case_model.specs.EntangledGraph.{EntangledGraph, IsValidEntangled}
 use Rattle.case_model.specs.Content.{Content, entangled, is_plain}
 use Rattle.case_model.specs.Validity.{IsValidContent}
-use Rattle.case_model.specs.LegalOrder.{IsRunBy, IsLegalOrder, IsComplete}
+use Rattle.case_model.specs.LegalOrder.{IsLegalOrder, IsComplete}
 use Rattle.case_model.proofs.SingleInputs.{for_single}
-use Rattle.case_model.proofs.PriorityOrders.{first_order, last_order, ratio_order}
 use Rattle.case_model.proofs.ValidContents.{valid_content}
 use Rattle.case_numbers.specs.Numbers.{Numbers, numbers_of, kind_of}
 use Rattle.case_numbers.proofs.Components.{can_run}
@@ -25,10 +22,10 @@ use Rattle.entangled.specs.CaseNetView.{case_state}
 use Rattle.entangled.specs.Opening.{Opens}
 use Rattle.entangled.specs.declared.open_fault.OpenFault.{OpenFault}
 use Rattle.entangled.specs.declared.open_fault.OpenFault.TheVariants.{Wide as OpenWide, NoMemory as OpenNoMemory}
-use Rattle.sequential.specs.Decisions.{IsNext, IsDecision, IsDecisionWith, hypotheses}
+use Rattle.sequential.specs.Decisions.{IsDecision, IsDecisionWith, hypotheses}
 use Rattle.sequential.specs.declared.decision.Decision.{Decision}
 use Rattle.sequential.specs.declared.priority.Priority.{Priority}
-use Rattle.sequential.specs.declared.priority.Priority.TheVariants.{First, Last, Ratio}
+use Rattle.sequential.proofs.DecisionLaws.{priority_order}
 use Rattle.evidence_check.specs.Evidence.{others, kept}
 use Rattle.evidence_check.specs.EvidenceParts.{KeepParts, keep_values}
 use Rattle.evidence_check.specs.EvidenceView.{version_of, steps_of, keeps_of, IsFormOf, IsEvidenceFor}
@@ -149,16 +146,10 @@ module _ (c : Content) (V : IsValidContent c) (js : List ℕ) (o : IsCompleteOrd
 
 -- ---- decisions
 
-complete_order : (E : EntangledGraph) (p : ℕ → Number) (level : Number) (priority : Priority) (js : List ℕ) → IsValidEntangled E → IsRunBy (IsNext E p level priority) whole js
-    → IsLegalOrder E p level whole js × IsComplete E p level whole js
-complete_order E p level First js V r = first_order E p level whole js r
-complete_order E p level Last js V r = last_order E p level whole js r
-complete_order E p level Ratio js V r = ratio_order E p level V whole js r
-
 -- the steps of a decision are a complete legal order
 pub decision_order : (c : Content) (priority : Priority) (d : Decision) → IsValidContent c → IsDecision c priority d → IsCompleteOrder c (hypotheses d.steps)
 decision_order c priority d V D =
     let o = for_single (λ ps. IsDecisionWith c ps priority d)
     (λ i. IsLegalOrder (entangled c) (number_at (p_values_of i)) (number_of c.alpha) whole (hypotheses d.steps) × IsComplete (entangled c) (number_at (p_values_of i)) (number_of c.alpha) whole (hypotheses d.steps))
-    (λ ps W. complete_order (entangled c) (number_at ps) (number_of c.alpha) priority (hypotheses d.steps) (valid_content c V) W.order) c.inputs D in
+    (λ ps W. priority_order (entangled c) (number_at ps) (number_of c.alpha) priority (hypotheses d.steps) (valid_content c V) W.order) c.inputs D in
     record { legal = o.0; complete = o.1 }

@@ -1,12 +1,11 @@
 -- The texts of numbers are words.
-use Rattle.std.proofs.Common.{◌≡◌, refl, ap₂, ◌∙◌, ℕ, zero, suc, ◌+◌, ◌^◌, ◌<◌, ◌≤◌, ◌==◌, ◌&&◌, Bool, true, false, if◌then◌else◌, List, [], ◌∷◌, ◌++◌, length, map, take, ℤ, pos, negsuc, unsigned_abs, arith}
+use Rattle.std.proofs.Common.{◌≡◌, refl, ap₂, ℕ, zero, suc, ◌+◌, ◌^◌, ◌<◌, ◌≤◌, ◌==◌, ◌&&◌, Bool, true, false, if◌then◌else◌, List, [], ◌∷◌, ◌++◌, length, map, take, ℤ, pos, negsuc, unsigned_abs, arith}
 use Rattle.std.specs.Fmt.{decimal, signed_decimal}
-use Rattle.std.specs.List.{join_with_byte, list_all}
+use Rattle.std.specs.List.{join_with_byte}
 use Rattle.std.specs.Ordering.{int_eq}
 use Rattle.std.specs.Str.Parse.{AllDigits}
 use Rattle.std.proofs.lemmas.Bool.Decides.{nat_tests}
 use Rattle.std.proofs.lemmas.Fmt.{decimal_is_IsNumeral_wide}
-use Rattle.std.proofs.lemmas.List.Folds.{list_all-append}
 use Rattle.std.proofs.lemmas.Str.Parse.{digit_from_value}
 use Rattle.field_core.specs.Kind.{Parts}
 use Rattle.field_core.specs.Polynomial.{coefficient}
@@ -19,15 +18,8 @@ use Rattle.eps_quotient.specs.Spelling.{polynomial_text, quotient_text}
 use Rattle.eps_quotient.specs.Stored.{IsQuotient}
 use Rattle.case_numbers.specs.Numbers.{Numbers, in_fractions, in_quotients, IsStoredIn}
 use Rattle.text_lines.specs.Spelling.{IsWord}
-use Rattle.edge_text.proofs.CanonicalWords.{is_high, high_word}
+use Rattle.edge_text.proofs.CanonicalWords.{is_high, high_word, AreHigh, high_both}
 use Rattle.evidence_check.specs.NumberTexts.{number_text}
-
--- each byte is above the blanks and the ends of lines
-abbrev AreHigh : List ℕ → Type 0
-AreHigh x = list_all is_high x ≡ true
-
-high_both : (x y : List ℕ) → AreHigh x → AreHigh y → AreHigh (x ++ y)
-high_both x y h k = list_all-append is_high x y ∙ ap₂ (λ c d. c && d) h k
 
 high_digit : (d : ℕ) → 48 ≤ d → is_high d ≡ true
 high_digit d h = grind (arith, nat_tests)

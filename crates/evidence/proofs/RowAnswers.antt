@@ -1,7 +1,8 @@
 -- Rows of the code, as they are stored.
-use Rattle.std.proofs.Common.{◌≡◌, refl, sym, ap, ap₂, ◌∙◌, ℕ, zero, suc, ◌+◌, List, [], ◌∷◌, ◌++◌, map, get_or, set, replicate, length, add-one, zero-add, add-zero, arith}
+use Rattle.std.proofs.Common.{◌≡◌, refl, sym, ap, ap₂, ◌∙◌, ℕ, zero, suc, ◌+◌, List, [], ◌∷◌, ◌++◌, map, get_or, set, replicate, length, zero-add}
 use Rattle.std.proofs.Math.ListN.{get_or-map}
-use Rattle.std.proofs.lemmas.List.{map_push, map-set}
+use Rattle.std.proofs.lemmas.List.{map-set}
+use Rattle.std.proofs.lemmas.List.FromFn.{map-range_with_len_more}
 use Rattle.std.specs.List.{range_with_len}
 use Rattle.field_core.specs.Kind.{Parts}
 use Rattle.evidence.specs.FlowTables.{row}
@@ -21,13 +22,9 @@ module _ {F : Type 0} (parts : F → Parts) where
   zeros_for z [] = refl
   zeros_for z (x ∷ xs) = ap (λ ys. z ∷ ys) (zeros_for z xs)
 
-range_next : (a n j : ℕ) → a + n ≡ j → range_with_len a (suc n) ≡ range_with_len a n ++ j ∷ []
-range_next a zero j e = ap (λ x. x ∷ []) (sym (add-zero a) ∙ e)
-range_next a (suc n) j e = ap (λ xs. a ∷ xs) (range_next (a + 1) n j (omega arith))
-
 -- one position more
 pub range_more : {A : Type 0} (f : ℕ → A) (n : ℕ) → map f (range_with_len 0 (n + 1)) ≡ map f (range_with_len 0 n) ++ f n ∷ []
-range_more f n = ap (λ k. map f (range_with_len 0 k)) (add-one n) ∙ ap (map f) (range_next 0 n n (zero-add n)) ∙ map_push f (range_with_len 0 n) n
+range_more f n = map-range_with_len_more f 0 n n (zero-add n)
 
 -- a number put in a row
 pub put_seen : {A B : Type 0} (f : A → B) (xs : List A) (r : ℕ) (x : A) → map f (set xs r x) ≡ set (map f xs) r (f x)

@@ -1,7 +1,6 @@
 -- A flow run along a legal order gives good steps, and one along a complete order good keeps.
-use Rattle.std.proofs.Common.{◌≡◌, inl, inr, refl, sym, ap, ap₂, subst, ◌∙◌, ℕ, suc, ◌+◌, ◌<◌, Bool, true, false, not, List, [], ◌∷◌, ◌++◌, Result, Ok, Err, length, get_or, map, replicate, arith}
+use Rattle.std.proofs.Common.{◌≡◌, inl, inr, refl, sym, ap, ap₂, subst, ◌∙◌, ℕ, ◌+◌, ◌<◌, Bool, true, false, not, List, [], ◌∷◌, ◌++◌, Result, Ok, Err, length, get_or, map, replicate}
 use Rattle.std.proofs.lemmas.List.{get_or-map, get_or-replicate, length-map, length-replicate}
-use Rattle.std.proofs.lemmas.List.Elements.{All-get_or}
 use Rattle.field_core.specs.declared.place.Wide.{Wide}
 use Rattle.field_core.specs.declared.place.WideAt.{WideAt}
 use Rattle.field_core.specs.declared.ratio.Ratio.{Ratio}
@@ -23,24 +22,24 @@ use Rattle.field_core.proofs.WeightLaws.{order_reached, order_weight}
 use Rattle.field_core.proofs.NumberWeights.{weight_unit}
 use Rattle.field_core.specs.Kind.{Parts, Kind}
 use Rattle.field_core.specs.Exact.{IsExact, value_of}
-use Rattle.case_model.specs.EntangledGraph.{EntangledGraph}
 use Rattle.case_model.specs.IntersectionWeight.{IsIntersectionWeight}
 use Rattle.case_model.specs.ClosedTest.{Passes, IsLegal}
 use Rattle.case_model.specs.LegalOrder.{IsLegalOrder, IsComplete}
 use Rattle.case_model.proofs.ClosedTestLaws.{legal_passes, passes_legal}
 use Rattle.case_model.proofs.RejectionOrders.{left_append, left_not_listed, not_listed_left, order_distinct}
 use Rattle.field_core.specs.Steps.{◌>>=◌}
-use Rattle.removal.specs.StoredGraph.{StoredGraph, size, AreAllLive}
-use Rattle.removal.specs.ByValue.{graph_of, IsSound}
+use Rattle.removal.specs.StoredGraph.{StoredGraph}
 use Rattle.removal.specs.Exactness.{RemovesExactly}
 use Rattle.removal.specs.InTurn.{removed_in_turn}
 use Rattle.field_core.specs.Laws.Prefixes.{bind_ok, ok_same, each_get, each_length}
-use Rattle.removal.proofs.WeightsLeft.{Stands, in_turn, turn_end, turn_first, turn_on, turn_none}
+use Rattle.removal.proofs.WeightsLeft.{in_turn, turn_end, turn_first, turn_on, turn_none}
 use Rattle.entangled.specs.Bundled.{Bundled, states_size, opened, removed}
-use Rattle.entangled.specs.BundleRun.{opened_after, AreReady, by_value, empty_graph}
+use Rattle.entangled.specs.BundleRun.{opened_after, AreReady, by_value}
 use Rattle.entangled.proofs.Steps.{in_component_ok}
 use Rattle.entangled.proofs.EachNet.{IsLater, run_says}
+use Rattle.entangled.proofs.FirstNets.{some_net, net_before, graph_before, AreFirst, first_nets}
 use Rattle.evidence_check.specs.Evidence.{at_place, brought, leaving, allowed, shared, listed, AreFlows, AreExits, IsGoodStep, AreGoodSteps, IsGoodKeep}
+use Rattle.evidence_check.proofs.Hypotheses.{one_longer}
 use Rattle.evidence_check.proofs.Places.{place_below, place_listed, order_in}
 use Rattle.evidence_check.proofs.Vectors.{back_dot, dot_back}
 use Rattle.evidence.specs.FlowTables.{Tables, row, if_wanted, first_tables}
@@ -75,10 +74,6 @@ recorded_full K n ts earlier j e = record {
   each = all_mapped _ (λ ys. length ys ≡ length earlier) ts (λ i d q. length-map earlier _);
 }
 
-one_more : (js : List ℕ) (j : ℕ) → length (js ++ j ∷ []) ≡ suc (length js)
-one_more [] j = refl
-one_more (i ∷ js) j = ap suc (one_more js j)
-
 recorded_for_is : (K : Kind) (ts : List Tables) (earlier : List ℕ) (j : ℕ) → (recorded K ts earlier j).hypothesis ≡ j
 unfolding recorded
 recorded_for_is K ts earlier j = refl
@@ -92,42 +87,17 @@ module _ {S : Type 0} (K : Kind) (IsStored : Parts → Type 0) (X : IsExact K Is
   abbrev pub m : ℕ
   m = states_size graph states
 
-  abbrev whole_graph : EntangledGraph
-  whole_graph = by_value K graph states shares
+  abbrev pub d : S
+  d = some_net K graph IsProper states shares R
 
-  pub first_of : (states : List S) → 0 < length states → S
-  first_of [] p = absurd (omega arith)
-  first_of (s ∷ ss) p = s
+  abbrev pub before : ℕ → S
+  before = net_before K graph IsProper states shares R
 
-  pub d : S
-  d = first_of states R.some
+  abbrev pub first_graph : ℕ → Graph Number
+  first_graph = graph_before K graph IsProper states shares R
 
-  unfoldable pub before : ℕ → S
-  before c = get_or states c d
-
-  unfoldable pub first_graph : ℕ → Graph Number
-  first_graph c = graph_of K (graph (before c))
-
-  graph_is : (c : ℕ) → c < length states → (by_value K graph states shares).graph c ≡ first_graph c
-  unfolding by_value first_graph before
-  graph_is c p = get_or-map (λ s. graph_of K (graph s)) states c d empty_graph p
-
-  of_size : (c : ℕ) → c < length states → size (graph (before c)) ≡ m
-  unfolding before
-  of_size c p = All-get_or (λ s. size (graph s) ≡ m) states c d p R.same_size
-
-  valid : (c : ℕ) → c < length states → IsValid number_field m (first_graph c)
-  unfolding before first_graph
-  valid c p = subst (λ n. IsValid number_field n (first_graph c)) (of_size c p) (All-get_or (λ s. IsSound K (graph s)) states c d p R.sound)
-
-  start : (c : ℕ) → c < length states → Stands K IsStored graph IsProper removal E m whole (first_graph c) (before c)
-  unfolding before first_graph
-  start c p = record {
-    proper = All-get_or IsProper states c d p R.proper;
-    same_size = of_size c p;
-    live = λ i q. All-get_or (λ s. AreAllLive (graph s)) states c d p R.live i (subst (λ n. i < n) (sym (of_size c p)) q);
-    value = refl;
-  }
+  first : AreFirst K graph IsProper states shares R IsStored removal E
+  first = first_nets K graph IsProper states shares R IsStored removal E
 
   -- ---- orders of removals
 
@@ -146,7 +116,7 @@ module _ {S : Type 0} (K : Kind) (IsStored : Parts → Type 0) (X : IsExact K Is
     unfolding by_value
     weight_is k i = record {
       weight = λ c. (after number_field ((by_value K graph states shares).graph c) earlier).weight k;
-      is_weight = λ c p. order_weight number_field m _ (subst (IsValid number_field m) (sym (graph_is c p)) (valid c p)) (left_after whole earlier) earlier k o (λ _ _. refl) i;
+      is_weight = λ c p. order_weight number_field m _ (subst (IsValid number_field m) (sym (first.graph_is c p)) (first.valid c p)) (left_after whole earlier) earlier k o (λ _ _. refl) i;
       sum = refl;
     }
 
@@ -186,7 +156,7 @@ module _ {S : Type 0} (K : Kind) (IsStored : Parts → Type 0) (X : IsExact K Is
           are_exits = record {
             nonneg = λ r h. subst (λ x. number_zero ≤ε x) (sym (exit_is r h)) (hold.exits.nonneg k (at_place earlier r) W);
             above = λ r h. at_most_equal _ _ (leaving_is (at_place earlier r) ∙ sym (hold.exits.solves k (at_place earlier r) W (gone (at_place earlier r) (gone_place r h))) ∙ sym (exit_is r h));
-            bounded = at_most_trans _ _ _ (at_most_equal _ _ allowed_now) (weight_unit m (first_graph c) (left_after whole earlier) k _ (valid c q) W (order_weight number_field m (first_graph c) (valid c q) (left_after whole earlier) earlier k o (λ _ _. refl) W)).high;
+            bounded = at_most_trans _ _ _ (at_most_equal _ _ allowed_now) (weight_unit m (first_graph c) (left_after whole earlier) k _ (first.valid c q) W (order_weight number_field m (first_graph c) (first.valid c q) (left_after whole earlier) earlier k o (λ _ _. refl) W)).high;
           }
             where
               gone_place : (r : ℕ) → r < length earlier → set_of earlier (at_place earlier r) ≡ true
@@ -196,13 +166,13 @@ module _ {S : Type 0} (K : Kind) (IsStored : Parts → Type 0) (X : IsExact K Is
         unfolding by_value kept_exits
         good_keep p level complete = record {
           below = W.below;
-          exits = λ c q. subst (λ A. AreExits A earlier k (value_at K (kept_exits K ts earlier k).exits c)) (sym (graph_is c q)) (are_exits c q);
+          exits = λ c q. subst (λ A. AreExits A earlier k (value_at K (kept_exits K ts earlier k).exits c)) (sym (first.graph_is c q)) (are_exits c q);
           fails = λ h. complete k (passes_legal (by_value K graph states shares) p level (left_after whole earlier) k _ W (weight_is k W) (subst (λ u. Passes (p k) u level) (sym (sum_congr number_field (length states) _ _ each)) h));
         }
           where
             each : (c : ℕ) → c < length states → (by_value K graph states shares).share c *ε limit ((after number_field ((by_value K graph states shares).graph c) earlier).weight k) ≡ (by_value K graph states shares).share c *ε limit (allowed ((by_value K graph states shares).graph c) earlier (value_at K (kept_exits K ts earlier k).exits c) k)
             each c q = ap (λ x. (by_value K graph states shares).share c *ε limit x) (
-                subst (λ A. (after number_field A earlier).weight k ≡ allowed A earlier (value_at K (kept_exits K ts earlier k).exits c) k) (sym (graph_is c q)) (sym (allowed_now c q)))
+                subst (λ A. (after number_field A earlier).weight k ≡ allowed A earlier (value_at K (kept_exits K ts earlier k).exits c) k) (sym (first.graph_is c q)) (sym (allowed_now c q)))
 
   module _ (is_kept : Bool) where
     -- the state of a run after the steps of `earlier`
@@ -218,15 +188,15 @@ module _ {S : Type 0} (K : Kind) (IsStored : Parts → Type 0) (X : IsExact K Is
       later = run_says K graph removal states shares earlier b T.reached
 
       shows : (c : ℕ) → c < length states → Shows K IsStored X m (left_after whole earlier) (after number_field (first_graph c) earlier) (graph_at (map graph b.states) c)
-      unfolding before
+      unfolding net_before
       shows c p =
-          let D = in_turn K IsStored graph IsProper removal E m earlier whole (first_graph c) (before c) (get_or b.states c d) (start c p) T.order (later.each c d p) in
+          let D = in_turn K IsStored graph IsProper removal E m earlier whole (first_graph c) (before c) (get_or b.states c d) (first.stands c p) T.order (later.each c d p) in
           let e = get_or-map graph b.states c d no_graph (subst (λ n. c < n) (sym later.as_many) p) in
           subst (Shows K IsStored X m (left_after whole earlier) (after number_field (first_graph c) earlier)) (sym e)
           (record { same_size = D.same_size; live = D.live; value = D.value; stored = E.stored (get_or b.states c d) D.proper })
 
       valid_now : (c : ℕ) → c < length states → IsValid number_field m (after number_field (first_graph c) earlier)
-      valid_now c p = (order_reached number_field m (first_graph c) (valid c p) earlier T.order).valid
+      valid_now c p = (order_reached number_field m (first_graph c) (first.valid c p) earlier T.order).valid
 
       module _ (p : ℕ → Number) (level : Number) (j : ℕ) (legal : IsLegal (by_value K graph states shares) p level (left_after whole earlier) j) where
         J : IsIn m (left_after whole earlier) j
@@ -273,14 +243,14 @@ module _ {S : Type 0} (K : Kind) (IsStored : Parts → Type 0) (X : IsExact K Is
         good_step = record {
           below = J.below;
           new = left_not_listed earlier whole j J.member;
-          flows = λ c q. subst (λ A. AreFlows A earlier (value_at K (recorded K ts earlier j).flows c)) (sym (graph_is c q)) (are_flows c q);
+          flows = λ c q. subst (λ A. AreFlows A earlier (value_at K (recorded K ts earlier j).flows c)) (sym (first.graph_is c q)) (are_flows c q);
           passes = subst (λ u. Passes (p j) u level) (sum_congr number_field (length states) _ _ each)
               (legal_passes (by_value K graph states shares) p level (left_after whole earlier) j _ legal (weight_is earlier T.order j J));
         }
           where
             each : (c : ℕ) → c < length states → (by_value K graph states shares).share c *ε limit ((after number_field ((by_value K graph states shares).graph c) earlier).weight j) ≡ (by_value K graph states shares).share c *ε limit (brought ((by_value K graph states shares).graph c) earlier (value_at K (recorded K ts earlier j).flows c) j)
             each c q = ap (λ x. (by_value K graph states shares).share c *ε limit x) (
-                subst (λ A. (after number_field A earlier).weight j ≡ brought A earlier (value_at K (recorded K ts earlier j).flows c) j) (sym (graph_is c q)) (sym (brought_now c q)))
+                subst (λ A. (after number_field A earlier).weight j ≡ brought A earlier (value_at K (recorded K ts earlier j).flows c) j) (sym (first.graph_is c q)) (sym (brought_now c q)))
 
     -- ---- the run
 
@@ -388,7 +358,7 @@ module _ {S : Type 0} (K : Kind) (IsStored : Parts → Type 0) (X : IsExact K Is
             lists = ap₂ (λ x xs. x ∷ xs) (recorded_for_is K s.tables earlier j) G.lists;
             good = (good_step earlier s.bundle s.tables T p level j o.0, subst (λ x. AreGoodSteps (by_value K graph states shares) p level (earlier ++ x ∷ []) (map (step_values K) a.rest.steps)) (sym (recorded_for_is K s.tables earlier j)) G.good);
             count = G.count;
-            fit = (recorded_full K (length states) s.tables earlier j T.count, subst (λ n. FlowsFit (length states) n a.rest.steps) (one_more earlier j) G.fit);
+            fit = (recorded_full K (length states) s.tables earlier j T.count, subst (λ n. FlowsFit (length states) n a.rest.steps) (one_longer earlier j) G.fit);
             exits = λ w c q. subst (λ I. HoldExits K IsStored X m (first_graph c) (left_after I (k ∷ js)) (after number_field (without number_field (after number_field (first_graph c) earlier) j) (k ∷ js)) (tables_at a.rest.tables c)) left (subst (λ A. HoldExits K IsStored X m (first_graph c) (left_after (left_after whole (earlier ++ j ∷ [])) (k ∷ js)) (after number_field A (k ∷ js)) (tables_at a.rest.tables c)) (after_append earlier (j ∷ []) (first_graph c)) (G.exits w c q));
           })
 
@@ -403,8 +373,8 @@ module _ {S : Type 0} (K : Kind) (IsStored : Parts → Type 0) (X : IsExact K Is
         order = tt;
         reached = ap (λ r. r >>= (λ v. removed_in_turn (removed K graph removal) v [])) h ∙ turn_end (removed K graph removal) b;
         count = length-replicate (length states) (first_tables K m);
-        flows = λ c q. subst (HoldFlows K IsStored X m (first_graph c) whole (first_graph c)) (sym (tables_first c q)) (first_flows K IsStored X m (first_graph c) (valid c q));
-        exits = λ _ c q. subst (HoldExits K IsStored X m (first_graph c) whole (first_graph c)) (sym (tables_first c q)) (first_exits K IsStored X m (first_graph c) (valid c q));
+        flows = λ c q. subst (HoldFlows K IsStored X m (first_graph c) whole (first_graph c)) (sym (tables_first c q)) (first_flows K IsStored X m (first_graph c) (first.valid c q));
+        exits = λ _ c q. subst (HoldExits K IsStored X m (first_graph c) whole (first_graph c)) (sym (tables_first c q)) (first_exits K IsStored X m (first_graph c) (first.valid c q));
       }
 
       pub whole_run : (js : List ℕ) (b : Bundled S) (r : FlowRun) → IsLegalOrder (by_value K graph states shares) p level whole js → opened K graph states shares ≡ Ok b

@@ -2,9 +2,8 @@
 use Rattle.std.proofs.Common.{◌≡◌, refl, sym, ap, ap₂, subst, ◌∙◌, ℕ, zero, suc, ◌+◌, ◌<◌, ◌≤◌, List, [], ◌∷◌, ◌++◌, map, length, get_or, take, drop, add-one, append_assoc, append-nil, arith}
 use Rattle.std.specs.List.{All}
 use Rattle.std.proofs.Math.ListN.{drop_of_length-le}
-use Rattle.std.proofs.lemmas.List.{drop_more, take_more, get_or-map, length-map}
+use Rattle.std.proofs.lemmas.List.{take_more, get_or-map, length-map}
 use Rattle.std.proofs.lemmas.List.Elements.{All-get_or, All-map, All-take}
-use Rattle.std.proofs.lemmas.Simd.{map-map}
 use Rattle.text_lines.specs.Spelling.{text_of}
 use Rattle.field_core.specs.Kind.{Parts}
 use Rattle.fraction.specs.Plain.{fraction_parts}
@@ -23,28 +22,19 @@ use Rattle.evidence_check.specs.EvidenceView.{hypotheses_of, step_parts, keep_pa
 use Rattle.evidence_check.specs.Documents.{Form, SaysVersion, SaysStep, SaysNumber, SaysKeep, SaysEnd, number_forms, list_forms, step_forms, keep_forms, evidence_forms, evidence_lines}
 use Rattle.evidence_check.specs.NumberReading.{case_frame}
 use Rattle.evidence_check.specs.DocumentStatements.{evidence_text}
+use Rattle.edge_text.proofs.WrittenLines.{drop_item, moved, ended}
 use Rattle.evidence_check.proofs.CheckAnswers.{form_of, fractions_of, quotients_of}
+use Rattle.evidence_check.proofs.Hypotheses.{same_hypotheses}
 use Rattle.evidence.specs.EvidenceText.{form_text, forms_text}
 
 -- ---- items of lists
 
--- the item at a place is this one
-pub drop_item : {A : Type 0} (xs : List A) (n : ℕ) (x : A) → n < length xs → x ≡ get_or xs n x → drop n xs ≡ x ∷ drop (n + 1) xs
-drop_item xs n x h e = drop_more xs n x h ∙ ap (λ y. y ∷ drop (n + 1) xs) (sym e)
-
--- it is so through a function
+-- the item at a place, through a function
 pub mapped_item : {A B : Type 0} (f : A → B) (xs : List A) (n : ℕ) (x : A) → n < length xs → x ≡ get_or xs n x → f x ≡ get_or (map f xs) n (f x)
 mapped_item f xs n x h e = ap f e ∙ sym (get_or-map f xs n x (f x) h)
 
 pub mapped_within : {A B : Type 0} (f : A → B) (xs : List A) (n : ℕ) → n < length xs → n < length (map f xs)
 mapped_within f xs n h = subst (λ k. n < k) (sym (length-map xs f)) h
-
--- what is put in front of a rest
-moved : (start text new part rest whole : List ℕ) → text ++ whole ≡ start → whole ≡ part ++ rest → new ≡ text ++ part → new ++ rest ≡ start
-moved start text new part rest whole e w n = ap (λ t. t ++ rest) n ∙ append_assoc text part rest ∙ ap (λ t. text ++ t) (sym w) ∙ e
-
-ended : (text rest start : List ℕ) → rest ≡ [] → text ++ rest ≡ start → text ≡ start
-ended text rest start n e = sym (append-nil text) ∙ ap (λ r. text ++ r) (sym n) ∙ e
 
 module _ (n : Numbers) (c : Content) where
   text_none : forms_text n c [] ≡ []
@@ -154,10 +144,6 @@ hypotheses_before steps i = taken (λ s. s.hypothesis) i steps
 
 pub known_before : {F : Type 0} (m : ℕ) (steps : List (ProofStep F)) (i : ℕ) → All (λ j. j < m) (hypotheses_of steps) → All (λ j. j < m) (hypotheses_of (take i steps))
 known_before m steps i h = subst (All (λ j. j < m)) (sym (hypotheses_before steps i)) (All-take (λ j. j < m) i (hypotheses_of steps) h)
-
--- the hypotheses of steps by their parts
-pub same_hypotheses : {F : Type 0} (parts : F → Parts) (steps : List (ProofStep F)) → hypotheses_of steps ≡ map (λ s. s.hypothesis) (map (step_parts parts) steps)
-same_hypotheses parts steps = sym (map-map (λ s. s.hypothesis) (step_parts parts) steps)
 
 -- the flows of the step at a place
 pub flows_at : (components m k : ℕ) (ss : List StepParts) (i : ℕ) (s : StepParts) → m + i ≡ k → FlowsFit components m ss → i < length ss → s ≡ get_or ss i s → AreFull components k s.flows

@@ -12,7 +12,7 @@ use Rattle.evidence_check.specs.Languages.{FaultAt, reading}
 use Rattle.evidence_check.specs.Documents.{Form, evidence_forms, evidence_language}
 use Rattle.evidence_check.specs.NumberReading.{case_frame}
 use Rattle.evidence_check.specs.ReadView.{Stops, SayEvidence, HaveFault}
-use Rattle.evidence_check.specs.DocumentStatements.{start, evidence_reading, SaysEvidence, HasFault, IsProofFault, TextsSayOneEvidence, TextsSayOrFail, TextsHaveOneFault}
+use Rattle.evidence_check.specs.DocumentStatements.{start, evidence_reading, SaysEvidence, HasFault, IsProofFault, TextsSayOneEvidence, TextsDontSayAndFail, TextsHaveOneFault}
 use Rattle.evidence_check.proofs.LanguageLaws.{read_says, document_reads, read_faults, bad_reads, early_reads}
 use Rattle.evidence_check.proofs.NumberFound.{frame_is}
 use Rattle.evidence_check.proofs.OneEvidence.{one_evidence}
@@ -50,7 +50,7 @@ same_err e f r h k = cc
 pub one_said : TextsSayOneEvidence
 one_said c bytes v w h k d e = one_evidence c (version_of v) (version_of w) (steps_of v) (steps_of w) (keeps_of v) (keeps_of w) (fits c v h) (fits c w k) (same_ok _ _ _ (says_reads c bytes v d) (says_reads c bytes w e))
 
-pub said_or_failed : TextsSayOrFail
+pub said_or_failed : TextsDontSayAndFail
 said_or_failed c bytes v fault d h = not_both _ _ _ (says_reads c bytes v d) (fault_reads c bytes fault h)
 
 pub one_fault : TextsHaveOneFault

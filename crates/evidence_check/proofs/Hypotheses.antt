@@ -1,11 +1,14 @@
--- The hypotheses of steps.
-use Rattle.std.proofs.Common.{◌≡◌, sym, subst, ℕ, ◌<◌, List, length, get_or}
-use Rattle.std.proofs.lemmas.List.{length-map, get_or-map}
+-- The hypotheses of steps and keeps.
+use Rattle.std.proofs.Common.{◌≡◌, sym, subst, ◌∙◌, ℕ, suc, ◌<◌, List, [], ◌∷◌, ◌++◌, length, map, get_or, add-one}
+use Rattle.std.proofs.lemmas.List.{length-map, length_push, get_or-map}
+use Rattle.std.proofs.lemmas.Simd.{map-map}
+use Rattle.field_core.specs.Kind.{Parts}
 use Rattle.field_core.specs.Sets.{whole}
 use Rattle.field_core.specs.Runs.{IsOrder}
 use Rattle.evidence_check.specs.Evidence.{at_place}
-use Rattle.evidence_check.specs.EvidenceView.{hypotheses_of}
+use Rattle.evidence_check.specs.EvidenceView.{hypotheses_of, step_parts, keep_parts}
 use Rattle.evidence_check.specs.declared.evidence.ProofStep.{ProofStep}
+use Rattle.evidence_check.specs.declared.evidence.KeepProof.{KeepProof}
 use Rattle.evidence_check.proofs.Places.{place_below}
 
 module _ {F : Type 0} (steps : List (ProofStep F)) (e : ℕ) (s : ProofStep F) (p : e < length steps) where
@@ -18,3 +21,14 @@ module _ {F : Type 0} (steps : List (ProofStep F)) (e : ℕ) (s : ProofStep F) (
 
 pub as_many : {F : Type 0} (steps : List (ProofStep F)) → length steps ≡ length (hypotheses_of steps)
 as_many steps = sym (length-map steps (λ s. s.hypothesis))
+
+-- one hypothesis more
+pub one_longer : {A : Type 0} (xs : List A) (x : A) → length (xs ++ x ∷ []) ≡ suc (length xs)
+one_longer xs x = length_push xs x ∙ add-one (length xs)
+
+-- the hypotheses are the same, whatever the numbers
+pub same_hypotheses : {F : Type 0} (parts : F → Parts) (steps : List (ProofStep F)) → hypotheses_of steps ≡ map (λ s. s.hypothesis) (map (step_parts parts) steps)
+same_hypotheses parts steps = sym (map-map (λ s. s.hypothesis) (step_parts parts) steps)
+
+pub same_kept : {F : Type 0} (parts : F → Parts) (keeps : List (KeepProof F)) → map (λ x. x.hypothesis) keeps ≡ map (λ x. x.hypothesis) (map (keep_parts parts) keeps)
+same_kept parts keeps = sym (map-map (λ x. x.hypothesis) (keep_parts parts) keeps)

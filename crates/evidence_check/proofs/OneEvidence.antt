@@ -9,6 +9,7 @@ use Rattle.evidence_check.specs.declared.quantity.Quantity.TheVariants.{Flow, Ex
 use Rattle.evidence_check.specs.EvidenceParts.{StepParts, KeepParts, AreFull, FlowsFit, ExitsFit}
 use Rattle.evidence_check.specs.Documents.{Form, SaysVersion, SaysStep, SaysNumber, SaysKeep, SaysEnd, number_forms, list_forms, step_forms, keep_forms}
 use Rattle.evidence_check.specs.DocumentStatements.{LinesSayOneEvidence}
+use Rattle.evidence_check.proofs.Hypotheses.{one_longer}
 
 first_same : (f g : Form) (fs gs : List Form) → f ∷ fs ≡ g ∷ gs → f ≡ g
 first_same f g fs gs e = cc
@@ -60,10 +61,6 @@ NoStepFirst (SaysNumber q c j x ∷ fs) = Unit {0}
 NoStepFirst (SaysKeep j ∷ fs) = Unit {0}
 NoStepFirst (SaysEnd ∷ fs) = Unit {0}
 
-more_steps : (js : List ℕ) (j : ℕ) → length (js ++ j ∷ []) ≡ suc (length js)
-more_steps [] j = refl
-more_steps (i ∷ js) j = ap suc (more_steps js j)
-
 step_is : (m : ℕ) (s : StepParts) → (h : ℕ) (xs : List (List Parts)) → s.hypothesis ≡ h → s.flows ≡ xs → s ≡ record { hypothesis = h; flows = xs }
 step_is m s h xs e f = ap₂ (λ h xs. record { hypothesis = h; flows = xs }) e f
 
@@ -75,7 +72,7 @@ steps_same m js (s ∷ ss) (t ∷ ts) A B h k a b e =
     let j : s.hypothesis ≡ t.hypothesis = step_same s.hypothesis t.hypothesis (first_same _ _ _ _ e) in
     let here = full_same Flow m js s.flows t.flows (step_forms (js ++ s.hypothesis ∷ []) ss ++ A) (step_forms (js ++ t.hypothesis ∷ []) ts ++ B) h.0 k.0
     (sym (append_assoc (list_forms Flow 0 js s.flows) (step_forms (js ++ s.hypothesis ∷ []) ss) A) ∙ rest_same _ _ _ _ e ∙ append_assoc (list_forms Flow 0 js t.flows) (step_forms (js ++ t.hypothesis ∷ []) ts) B) in
-    let more = steps_same m (js ++ s.hypothesis ∷ []) ss ts A B (subst (λ n. FlowsFit m n ss) (sym (more_steps js s.hypothesis)) h.1) (subst (λ n. FlowsFit m n ts) (sym (more_steps js s.hypothesis)) k.1) a b
+    let more = steps_same m (js ++ s.hypothesis ∷ []) ss ts A B (subst (λ n. FlowsFit m n ss) (sym (one_longer js s.hypothesis)) h.1) (subst (λ n. FlowsFit m n ts) (sym (one_longer js s.hypothesis)) k.1) a b
     (here.1 ∙ ap (λ i. step_forms (js ++ i ∷ []) ts ++ B) (sym j)) in
     (ap₂ (λ z zs. z ∷ zs) (step_is m s t.hypothesis t.flows j here.0) more.0, more.1)
 

@@ -1,6 +1,5 @@
 -- Lines are read one after the other.
 use Rattle.std.proofs.Common.{◌≡◌, refl, sym, ap, subst, ◌∙◌, ℕ, suc, ◌+◌, ◌-◌, ◌<◌, false, List, [], ◌∷◌, ◌++◌, map, length, get_or, take, drop, Some, Result, Ok, Err, append_assoc, add-one, arith}
-use Rattle.std.specs.Prelude.{IfErr, IsErrAnd}
 use Rattle.std.proofs.Common.{zero-add, length-append}
 use Rattle.std.proofs.lemmas.List.{drop_more, take_more, length-take, append-nil, get_or-map}
 use Rattle.std.specs.List.{All, slice_get}
@@ -83,11 +82,6 @@ module _ (T : Frame) (end : ℕ) where
 
   pub stops_due : (s : Slot) (ss : List Slot) (stage : Stage) (rows : List Row) (fault : ProofText) → rows ≡ [] → fault ≡ faults.Line end Ended → Stops T end (At (s ∷ ss) stage) rows fault
   stops_due s ss stage rows fault e f = subst (λ rs. Stops T end (At (s ∷ ss) stage) rs fault) (sym e) (subst (Stops T end (At (s ∷ ss) stage) []) (sym f) (stops_early (At (s ∷ ss) stage) refl))
-
--- a fault that is handed on
-pub handed_on : {B E : Type 0} (result : Result B E) (x : E) (P : E → Type 0) → IsErrAnd result (λ y. y ≡ x) → P x → IfErr result P
-handed_on (Ok b) x P h p = tt
-handed_on (Err y) x P h p = subst P (sym h) p
 
 -- the name of a hypothesis of the case
 pub frame_name : (n : Numbers) (c : Content) (T : Frame) → IsFrameFor n c T → (j : ℕ) (name : List ℕ) → j < length c.names → slice_get c.names j ≡ Some name → T.name j ≡ name

@@ -15,6 +15,7 @@ use Rattle.evidence_check.specs.EvidenceParts.{StepParts, KeepParts, AreFull, Fl
 use Rattle.evidence_check.specs.Languages.{Lead}
 use Rattle.evidence_check.specs.Documents.{Frame, Form, SaysVersion, SaysStep, SaysNumber, SaysKeep, SaysEnd, number_forms, list_forms, step_forms, keep_forms, line_of, step_said, version_line, number_line, keep_line, end_line, Slot, ANumber, slot_line, due, keeps_due, kept_in, tail, first_line, behind_first, Stage, AtSteps, AtEnd, Place, At, read_at, next_at, evidence_language}
 use Rattle.evidence_check.specs.DocumentStatements.{IsPrinted, LinesSayTheirEvidence}
+use Rattle.evidence_check.proofs.Hypotheses.{one_longer}
 use Rattle.evidence_check.proofs.LanguageLaws.{lead_on}
 use Rattle.evidence_check.proofs.ReadWhole.{is_step, next_no}
 
@@ -77,10 +78,6 @@ module _ (T : Frame) where
 
   -- ---- steps
 
-  more_steps : (js : List ℕ) (j : ℕ) → length (js ++ j ∷ []) ≡ suc (length js)
-  more_steps [] j = refl
-  more_steps (i ∷ js) j = ap suc (more_steps js j)
-
   steps_lead : (v : ℕ) (js : List ℕ) (ss : List StepParts) → FlowsFit T.components (length js) ss → All (λ s. T.position (T.name s.hypothesis) ≡ Some s.hypothesis) ss → All (λ s. All (All (IsPrinted T)) s.flows) ss
       → Leads (At [] (AtSteps v js)) (step_forms js ss) (At [] (AtSteps v (js ++ map (λ s. s.hypothesis) ss)))
   unfolding read_at next_at
@@ -91,7 +88,7 @@ module _ (T : Frame) where
         (subst (λ ms. Leads (At ms (AtSteps v (js ++ s.hypothesis ∷ []))) (list_forms Flow 0 js s.flows) (At [] (AtSteps v (js ++ s.hypothesis ∷ [])))) (append-nil (due Flow T.components 0 js))
         (full_lead Flow T.components js s.flows [] (AtSteps v (js ++ s.hypothesis ∷ [])) f.0 (All-head (λ s. All (All (IsPrinted T)) s.flows) s ss h)))
         (subst (λ is. Leads (At [] (AtSteps v (js ++ s.hypothesis ∷ []))) (step_forms (js ++ s.hypothesis ∷ []) ss) (At [] (AtSteps v is))) (append_assoc js (s.hypothesis ∷ []) (map (λ s. s.hypothesis) ss))
-        (steps_lead v (js ++ s.hypothesis ∷ []) ss (subst (λ n. FlowsFit T.components n ss) (sym (more_steps js s.hypothesis)) f.1) (All-tail (λ s. T.position (T.name s.hypothesis) ≡ Some s.hypothesis) s ss k) (All-tail (λ s. All (All (IsPrinted T)) s.flows) s ss h))),
+        (steps_lead v (js ++ s.hypothesis ∷ []) ss (subst (λ n. FlowsFit T.components n ss) (sym (one_longer js s.hypothesis)) f.1) (All-tail (λ s. T.position (T.name s.hypothesis) ≡ Some s.hypothesis) s ss k) (All-tail (λ s. All (All (IsPrinted T)) s.flows) s ss h))),
   )
 
   -- ---- keeps and the end

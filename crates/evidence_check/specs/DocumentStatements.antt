@@ -73,8 +73,8 @@ TextsSayOneEvidence =
     → (version_of v ≡ version_of w) × (steps_of v ≡ steps_of w) × (keeps_of v ≡ keeps_of w)
 
 -- A text that says evidence has no fault.
-abbrev pub TextsSayOrFail : Type 0
-TextsSayOrFail = (c : Content) (bytes : List ℕ) (v : Evidence) (fault : FaultAt ProofKind) → SaysEvidence c bytes v → ¬ HasFault c bytes fault
+abbrev pub TextsDontSayAndFail : Type 0
+TextsDontSayAndFail = (c : Content) (bytes : List ℕ) (v : Evidence) (fault : FaultAt ProofKind) → SaysEvidence c bytes v → ¬ HasFault c bytes fault
 
 -- A text has one first fault.
 abbrev pub TextsHaveOneFault : Type 0

@@ -3,7 +3,7 @@
 ghost use Rattle.evidence_check.specs.EvidenceStatements.{EvidenceListsLegalOrders, EvidenceListsRejections, EvidenceWithKeepsIsComplete, EvidenceWithKeepsDecides};
 ghost use Rattle.evidence_check.specs.CheckStatements.{ChecksAreSound, ChecksAreFair};
 ghost use Rattle.evidence_check.specs.CaseCheck.{CaseChecksAreSound, CaseChecksAreFair, CheckedAreRejected, CheckedAreAllRejected};
-ghost use Rattle.evidence_check.specs.DocumentStatements.{CasesHaveFrames, ReadingsAreDocuments, FaultsAreBadLines, LinesSayOneEvidence, TextsSayOneEvidence, TextsSayOrFail, TextsHaveOneFault, LinesSayTheirEvidence, StoredNumbersArePrinted, EvidenceTextsSayIt, FaultsAreWhereNoneGoesOn, NoneGoesOnIsFault};
+ghost use Rattle.evidence_check.specs.DocumentStatements.{CasesHaveFrames, ReadingsAreDocuments, FaultsAreBadLines, LinesSayOneEvidence, TextsSayOneEvidence, TextsDontSayAndFail, TextsHaveOneFault, LinesSayTheirEvidence, StoredNumbersArePrinted, EvidenceTextsSayIt, FaultsAreWhereNoneGoesOn, NoneGoesOnIsFault};
 
 use field_core::Number;
 
@@ -54,10 +54,10 @@ pub fn lines_say_one_evidence()
     ensures { LinesSayOneEvidence }
 {}
 
-/// A text says one evidence of a case, or has one first fault, and never both.
+/// A text says at most one evidence of a case, has at most one first fault, and never both.
 pub fn texts_have_one_reading()
     ensures evidence { TextsSayOneEvidence }
-    ensures either { TextsSayOrFail }
+    ensures either { TextsDontSayAndFail }
     ensures fault { TextsHaveOneFault }
 {}
 

@@ -44,7 +44,9 @@ reported : (c : Content) (v : Evidence) (bytes printed : List ℕ) → IsValidCo
     → printed ≡ check_report c (version_of v) (listed_in (said_of v)) (kept_in (said_of v)) → ReportsEvidence c bytes printed
 reported c v bytes printed V single fits says holds e = record {
   evidence = v;
+  fits = fits;
   says = says;
+  holds = holds;
   text_is = e;
   rejected = λ j. case_rejected c V single (steps_of v) (keeps_of v) (evidence_stored c v fits) (yes_is _ holds) j;
   all = λ two j. case_decides c V single (steps_of v) (keeps_of v) (evidence_stored c v fits) (yes_is _ holds) (keeps_others c v fits two) j;

@@ -73,10 +73,12 @@ pub record PrintsEvidence (c : Content) (text : List ℕ) : Type 0 where
 abbrev pub EvidenceIsOfTheClosedTest : Type 0
 EvidenceIsOfTheClosedTest = (words : List (List ℕ)) (form : Written) (priority : Priority) (case : List ℕ) (proof : Option (List ℕ)) (a : Answer) → AskFor words (on_case form (EvidenceTask priority)) → IsAnswerOf (outcome words (Some case) proof) a → a.status ≡ Done → ReportsCase PrintsEvidence form case a.text
 
--- The text is the report of the evidence for a case that a proof says, whose steps list only hypotheses that the closed test rejects, and in version 2 all of them.
+-- The text is the report of the evidence for a case that a proof says, to which the check says yes; its steps list only hypotheses that the closed test rejects, and in version 2 all of them.
 pub record ReportsEvidence (c : Content) (proof text : List ℕ) : Type 0 where
   pub evidence : Evidence
+  pub fits : IsEvidenceFor c evidence
   pub says : SaysEvidence c proof evidence
+  pub holds : verdict_of (case_check c (steps_of evidence) (keeps_of evidence)) ≡ Ok Yes
   pub text_is : text ≡ check_report c (version_of evidence) (map (λ s. s.hypothesis) (steps_of evidence)) (map (λ x. x.hypothesis) (keeps_of evidence))
   pub rejected : (j : ℕ) → IsListed (map (λ s. s.hypothesis) (steps_of evidence)) j → IsRejectedIn c j
   pub all : version_of evidence ≡ 2 → (j : ℕ) → IsListed (map (λ s. s.hypothesis) (steps_of evidence)) j ↔ IsRejectedIn c j

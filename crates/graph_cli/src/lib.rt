@@ -18,7 +18,7 @@
 //!
 //! The clauses speak of sources that tell their bytes and of a sink that tells what it holds, as those in memory do.
 //! Standard input and output tell neither. That the program answers there as on told bytes rests on `run` being one
-//! function for all sources and sinks, and on what is trusted below.
+//! function for all sources and sinks, and on the adapters, which make one call each.
 //!
 //! Only tested: that `no memory` isn't told where there is memory.
 #![tactic(auto)]

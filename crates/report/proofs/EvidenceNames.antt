@@ -1,5 +1,5 @@
 -- Names of the hypotheses of evidence.
-use Rattle.std.proofs.Common.{◌≡◌, refl, sym, ap, ap₂, subst, ◌∙◌, ℕ, ◌<◌, List, [], ◌∷◌, ◌++◌, map, length, Result}
+use Rattle.std.proofs.Common.{◌≡◌, sym, ap, ap₂, subst, ◌∙◌, ℕ, ◌<◌, List, ◌++◌, map, Result}
 use Rattle.std.specs.Prelude.{OnOk}
 use Rattle.std.specs.List.{All}
 use Rattle.std.proofs.Math.ListN.{get_or-map}
@@ -15,6 +15,7 @@ use Rattle.evidence_check.specs.declared.evidence.KeepProof.{KeepProof}
 use Rattle.evidence_check.specs.declared.evidence.Steps.{Steps}
 use Rattle.evidence_check.specs.EvidenceParts.{StepParts, KeepParts}
 use Rattle.evidence_check.specs.EvidenceView.{hypotheses_of, step_parts, keep_parts, version_of, steps_of, keeps_of}
+use Rattle.evidence_check.proofs.Hypotheses.{same_hypotheses, same_kept}
 use Rattle.report.specs.CheckReport.{listed_line, keeps_line}
 
 -- what holds of all that a function gives, of what it is given
@@ -27,15 +28,6 @@ steps_below m parts ss h = each_given (λ (s : StepParts). s.hypothesis < m) (st
 pub keeps_below : {F : Type 0} (m : ℕ) (parts : F → Parts) (xs : List (KeepProof F)) → All (λ x. x.hypothesis < m) (map (keep_parts parts) xs) → All (λ x. x.hypothesis < m) xs
 keeps_below m parts xs h = each_given (λ (x : KeepParts). x.hypothesis < m) (keep_parts parts) xs h
 
--- the hypotheses are the same, whatever the numbers
-listed_same : {F : Type 0} (parts : F → Parts) (ss : List (ProofStep F)) → hypotheses_of ss ≡ map (λ s. s.hypothesis) (map (step_parts parts) ss)
-listed_same parts [] = refl
-listed_same parts (s ∷ ss) = ap (λ js. s.hypothesis ∷ js) (listed_same parts ss)
-
-kept_same : {F : Type 0} (parts : F → Parts) (xs : List (KeepProof F)) → map (λ x. x.hypothesis) xs ≡ map (λ x. x.hypothesis) (map (keep_parts parts) xs)
-kept_same parts [] = refl
-kept_same parts (x ∷ xs) = ap (λ ks. x.hypothesis ∷ ks) (kept_same parts xs)
-
 -- the lines of the hypotheses of evidence
 abbrev evidence_lines : Content → Evidence → List ℕ
 evidence_lines case e = listed_line case (map (λ s. s.hypothesis) (steps_of e)) ++ keeps_line case (version_of e) (map (λ x. x.hypothesis) (keeps_of e))
@@ -47,7 +39,7 @@ put_as : {A E : Type 0} (r : Result A E) (new old xs ys : List ℕ) → xs ≡ y
 put_as r new old xs ys e h = subst (λ t. OnOk r (new ≡ old ++ t)) e h
 
 pub plain_put : {A E : Type 0} (r : Result A E) (new old : List ℕ) (case : Content) (v : Steps _) (e : Evidence) → e ≡ Plain v → OnOk r (new ≡ old ++ stored_lines case v) → OnOk r (new ≡ old ++ evidence_lines case e)
-plain_put r new old case v e is h = put_as r new old _ _ (ap₂ (λ js ks. listed_line case js ++ keeps_line case v.version ks) (listed_same fraction_parts v.steps) (kept_same fraction_parts v.keeps) ∙ ap (evidence_lines case) (sym is)) h
+plain_put r new old case v e is h = put_as r new old _ _ (ap₂ (λ js ks. listed_line case js ++ keeps_line case v.version ks) (same_hypotheses fraction_parts v.steps) (same_kept fraction_parts v.keeps) ∙ ap (evidence_lines case) (sym is)) h
 
 pub eps_put : {A E : Type 0} (r : Result A E) (new old : List ℕ) (case : Content) (v : Steps _) (e : Evidence) → e ≡ Eps v → OnOk r (new ≡ old ++ stored_lines case v) → OnOk r (new ≡ old ++ evidence_lines case e)
-eps_put r new old case v e is h = put_as r new old _ _ (ap₂ (λ js ks. listed_line case js ++ keeps_line case v.version ks) (listed_same quotient_parts v.steps) (kept_same quotient_parts v.keeps) ∙ ap (evidence_lines case) (sym is)) h
+eps_put r new old case v e is h = put_as r new old _ _ (ap₂ (λ js ks. listed_line case js ++ keeps_line case v.version ks) (same_hypotheses quotient_parts v.steps) (same_kept quotient_parts v.keeps) ∙ ap (evidence_lines case) (sym is)) h

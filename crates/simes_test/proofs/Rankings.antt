@@ -1,5 +1,5 @@
 -- A sorted list of hypotheses has each one once, by ascending p-value.
-use Rattle.std.proofs.Common.{◌≡◌, ◌≢◌, ◌⊎◌, inl, inr, refl, sym, ap, ◌∙◌, subst, ℕ, zero, suc, ◌+◌, ◌<◌, ◌≤◌, ◌==◌, ◌||◌, arith, Bool, true, false, not, cond, List, [], ◌∷◌, map, length, get_or}
+use Rattle.std.proofs.Common.{◌≡◌, ◌≢◌, ◌⊎◌, inl, inr, refl, sym, ap, ◌∙◌, subst, ℕ, zero, suc, ◌+◌, ◌<◌, ◌≤◌, ◌==◌, ◌||◌, arith, Bool, false, not, cond, List, [], ◌∷◌, map, length, get_or}
 use Rattle.std.specs.List.{list_any, sum_by, All, AllPairs, AllByRecursion, enumerate_from}
 use Rattle.std.specs.List.Sorted.{IsPermutation, IsSortedBy}
 use Rattle.std.specs.Ordering.{is_lt, is_gt, nat_cmp, ordering_then}
@@ -22,6 +22,7 @@ use Rattle.case_model.specs.Sums.{ratio_at, zero_ratio, number_at}
 use Rattle.case_model.specs.LegalOrder.{IsListed}
 use Rattle.case_model.specs.TextbookRules.{IsByPValue}
 use Rattle.case_model.proofs.Comparisons.{below_is, above_is}
+use Rattle.case_model.proofs.NoFaults.{not_false}
 use Rattle.case_model.proofs.RejectionOrders.{listed_here, listed_later, here_or_later}
 use Rattle.simes_test.specs.declared.ranking.Ranked.{Ranked}
 use Rattle.simes_test.specs.Leaders.{AreLeaders}
@@ -42,10 +43,6 @@ neither : (o : Ordering) → is_lt o ≡ false → is_gt o ≡ false → o ≡ E
 neither Less h g = absurd (cc)
 neither Equal h g = refl
 neither Greater h g = absurd (cc)
-
-not_true : (b : Bool) → not b ≡ false → b ≡ true
-not_true true h = refl
-not_true false h = absurd (cc)
 
 not_below : (i j : ℕ) → is_lt (nat_cmp j i) ≡ false → i ≤ j
 not_below i j h = grind (arith, nat_tests)
@@ -74,7 +71,7 @@ module _ (ps : List Ratio) where
       let two = then_not_less (by_value y.p_value x.p_value) (nat_cmp y.position x.position) h in
       let px : number_of x.p_value ≡ number_at ps x.position = ap number_of hx in
       let py : number_of y.p_value ≡ number_at ps y.position = ap number_of hy in
-      let below : number_of x.p_value ≤ε number_of y.p_value = not_true (at_most (number_of x.p_value) (number_of y.p_value)) (sym (below_is y.p_value x.p_value) ∙ two.0) in
+      let below : number_of x.p_value ≤ε number_of y.p_value = not_false (at_most (number_of x.p_value) (number_of y.p_value)) (sym (below_is y.p_value x.p_value) ∙ two.0) in
       record {
         not_above = subst (λ v. number_at ps x.position ≤ε v) py (subst (λ v. v ≤ε number_of y.p_value) px below);
         tie = λ t.

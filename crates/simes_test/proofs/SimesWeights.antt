@@ -17,6 +17,7 @@ use Rattle.case_model.specs.Content.{Content, entangled}
 use Rattle.case_model.specs.EntangledGraph.{EntangledGraph}
 use Rattle.case_model.specs.ClosedTest.{Passes}
 use Rattle.case_model.proofs.ExactSums.{has_zero, exact_sum}
+use Rattle.case_model.proofs.Holding.{both}
 use Rattle.case_model.proofs.IntersectionLaws.{intersection_unique, intersection_same}
 use Rattle.closed_test.specs.SetWeights.{AreIntersectionWeights}
 use Rattle.simes_test.specs.SimesTest.{is_up_to, IsSimesRejected}
@@ -25,13 +26,9 @@ use Rattle.simes_test.specs.Tested.{HasPassing, IsTested}
 
 -- ---- who counts
 
-first_of : (a b : Bool) → (a && b) ≡ true → a ≡ true
-first_of true b h = refl
-first_of false b h = absurd (cc)
-
 pub up_to_member : (p : ℕ → Number) (I : ℕ → Bool) (j i : ℕ) → is_up_to p I j i ≡ true → I i ≡ true
 unfolding is_up_to
-up_to_member p I j i h = first_of (I i) (at_most (p i) (p j)) h
+up_to_member p I j i h = (both (I i) (at_most (p i) (p j)) h).left
 
 pub up_to_same : (p : ℕ → Number) (I J : ℕ → Bool) (j i : ℕ) → I i ≡ J i → is_up_to p I j i ≡ is_up_to p J j i
 unfolding is_up_to

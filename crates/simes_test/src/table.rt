@@ -87,7 +87,7 @@ impl SimesTable {
         Ok(SimesTable { local, closed })
     }
 
-    /// Whether Simes' test rejects a set; it doesn't reject the empty one.
+    /// Whether Simes' test rejects a set; a table that was built says no to the empty one.
     pub fn local(&self, set: u32) -> bool
         requires { set < 2 ^ simes_size self.now }
         ensures { result ≡ answer_of (local_of self.now) set }
@@ -95,7 +95,7 @@ impl SimesTable {
         self.local.get(set)
     }
 
-    /// Whether its closed test rejects a set; it doesn't reject the empty one.
+    /// Whether its closed test rejects a set; a table that was built says no to the empty one.
     pub fn closed(&self, set: u32) -> bool
         requires { set < 2 ^ simes_size self.now }
         ensures { result ≡ answer_of (closed_of self.now) set }

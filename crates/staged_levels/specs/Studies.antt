@@ -76,7 +76,7 @@ pub record IsEarlierRejection (c : Content) (values : List Arrival) (I : ℕ →
   pub values_are : values ≡ before ++ later
   pub rejection : IsRejectionFrom c before I r
 
--- rejections one after another, from the set `I` on, each at its moment
+-- rejections one after another, from the set `I` on, each once some of the values had arrived
 abbrev pub AreRejections : Content → List Arrival → (ℕ → Bool) → List Settled → Type 0
 AreRejections c values I [] = Unit {0}
 AreRejections c values I (r ∷ rs) = IsEarlierRejection c values I r × AreRejections c values (dropping r.hypothesis I) rs

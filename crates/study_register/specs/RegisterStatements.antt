@@ -62,7 +62,7 @@ pub record IsNotOpened (c : Content) (w : WideAt) : Type 0 where
 abbrev pub WideOpeningsTakeNothing : Type 0
 WideOpeningsTakeNothing = (c : Content) (w : WideAt) → case_opening c ≡ Err w → IsNotOpened c w
 
--- A look is taken, refused for one reason, or breaks off at one place, and only one of the three.
+-- A look is taken, refused for one reason, or breaks off at one place, and no two of the three.
 pub record HasOneEnd (c : Content) (s : StudyState) (l : Look) : Type 0 where
   pub state : (t u : StudyState) → Takes c s l t → Takes c s l u → t ≡ u
   pub refusal : (f g : StepFault) → IsArriveFault c s (arrival_of l) f → IsArriveFault c s (arrival_of l) g → f ≡ g

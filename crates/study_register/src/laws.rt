@@ -12,15 +12,15 @@ pub fn registers_decide()
     ensures again { ReopeningsAgree }
 {}
 
-/// The opening of a register has one end: its looks are taken, or one of them is the first that can't be, for one reason, or the
-/// opening of the case is undefined.
+/// The opening of a register has at most one end: its looks are taken, or one of them is the first that can't be, for one reason,
+/// or the opening of the case is undefined.
 pub fn openings_have_one_end()
     ensures taken { TakenLooksAreNotStopped }
     ensures stopped { StopsAreUnique }
     ensures opening { WideOpeningsTakeNothing }
 {}
 
-/// A look is taken, refused for one reason, or breaks off at one place, and only one of the three.
+/// A look is taken, refused for one reason, or breaks off at one place, and no two of the three.
 pub fn looks_have_one_end()
     ensures { LooksHaveOneEnd }
 {}

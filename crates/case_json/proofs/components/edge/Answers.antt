@@ -1,8 +1,8 @@
 use Rattle.std.proofs.Common.{inl, inr}
 use Rattle.serde_json.specs.View.{view}
+use Rattle.text_lines.proofs.HandedOn.{handed_on}
 use Rattle.case_json.specs.Values.{OrMemory}
 use Rattle.case_json.specs.Faults.{IsEdgeFault}
-use Rattle.case_json.proofs.Parts.{handed_on}
 use Rattle.case_json.proofs.components.edge.Goals as goal
 
 pub returns-in_err-entry-clause-fault : goal.returns-in_err-entry-clause-fault

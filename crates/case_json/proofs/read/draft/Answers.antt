@@ -1,10 +1,10 @@
 use Rattle.std.proofs.Common.{inl, inr, sym, subst}
 use Rattle.std.specs.Prelude.{codes}
 use Rattle.serde_json.specs.View.{view}
+use Rattle.text_lines.proofs.HandedOn.{handed_on}
 use Rattle.case_json.specs.Values.{OrMemory, Has, AreItems}
 use Rattle.case_json.specs.Document.{IsText}
 use Rattle.case_json.specs.Faults.{IsFirstFault}
-use Rattle.case_json.proofs.Parts.{handed_on}
 use Rattle.case_json.proofs.read.draft.Goals as goal
 
 pub returns-in_err-names-clause-fault : goal.returns-in_err-names-clause-fault

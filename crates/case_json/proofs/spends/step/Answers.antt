@@ -1,8 +1,8 @@
 use Rattle.std.proofs.Common.{inl, inr}
 use Rattle.serde_json.specs.View.{view}
+use Rattle.text_lines.proofs.HandedOn.{handed_on}
 use Rattle.case_json.specs.Values.{OrMemory}
 use Rattle.case_json.specs.Faults.{IsStepFault}
-use Rattle.case_json.proofs.Parts.{handed_on}
 use Rattle.case_json.proofs.spends.step.Goals as goal
 
 pub returns-in_err-levels-clause-fault : goal.returns-in_err-levels-clause-fault

@@ -1,9 +1,6 @@
-use Rattle.std.proofs.Common.{◌≡◌, refl, sym, ap, subst, ◌∙◌, ℕ, suc, ◌-◌, ◌^◌, ◌<◌, ◌≤◌, List, [], length, map, get_or, Ok, arith}
+use Rattle.std.proofs.Common.{◌≡◌, refl, sym, ap, subst, ◌∙◌, ℕ, suc, ◌-◌, ◌<◌, ◌≤◌, List, [], length, map, get_or, Ok, arith}
 use Rattle.std.proofs.lemmas.List.{get_or-map}
-use Rattle.field_core.specs.Sets.{whole}
-use Rattle.field_core.specs.Runs.{left_after}
 use Rattle.field_core.specs.OrderOfSets.{IsAscending, IsListStep}
-use Rattle.field_core.proofs.Members.{number_below}
 use Rattle.case_model.specs.CaseView.{content}
 use Rattle.entangled.specs.declared.case_net.CaseNet.{CaseNet}
 use Rattle.entangled.specs.CaseNetView.{case_state}
@@ -13,15 +10,12 @@ use Rattle.entangled.proofs.CaseLevels.{case_sizes}
 use Rattle.closed_test.specs.Paths.{number_without}
 use Rattle.closed_test.specs.WeightsView.{weight_at}
 use Rattle.closed_test.specs.Walks.{AreStatesAlong}
-use Rattle.closed_test.proofs.SetSteps.{depth_is, one_deeper, short, row_of, tabled_start, step_both, step_live, step_states, step_run, step_size, step_alike, step_tabled, step_wide}
+use Rattle.closed_test.proofs.SetSteps.{set_fits, depth_is, one_deeper, short, row_of, tabled_start, step_both, step_live, step_states, step_run, step_size, step_alike, step_tabled, step_wide}
 use Rattle.closed_test.proofs.walk.walk.Goals as goal
 
 -- the state of a net at a place
 state_at : (nets : List CaseNet) (n : ℕ) (x : CaseNet) (d : CaseState) → n < length nets → case_state (get_or nets n x) ≡ get_or (map case_state nets) n d
 state_at nets n x d p = sym (get_or-map case_state nets n x d p)
-
-set_fits : (set size m t : ℕ) (left : List ℕ) → set ≡ number_without size left → size ≡ m → t ≡ m → set < 2 ^ t
-set_fits set size m t left e f g = rw (e, f, g) (number_below m (left_after whole left))
 
 number_at_size : (set size m : ℕ) (left : List ℕ) → set ≡ number_without size left → size ≡ m → set ≡ number_without m left
 number_at_size set size m left e f = e ∙ ap (λ n. number_without n left) f

@@ -7,8 +7,9 @@ use Rattle.evidence_check.specs.EvidenceView.{hypotheses_of, step_parts}
 use Rattle.evidence_check.specs.Documents.{SaysStep, list_forms}
 use Rattle.evidence_check.proofs.ReadAnswers.{known_at}
 use Rattle.evidence_check.proofs.StepsAnswers.{take_count}
+use Rattle.evidence_check.proofs.Hypotheses.{same_hypotheses}
 use Rattle.evidence.specs.EvidenceText.{forms_text}
-use Rattle.evidence.proofs.WriterAnswers.{mapped_item, mapped_within, hypotheses_before, known_before, same_hypotheses, flows_at, steps_next, steps_end}
+use Rattle.evidence.proofs.WriterAnswers.{mapped_item, mapped_within, hypotheses_before, known_before, flows_at, steps_next, steps_end}
 use Rattle.evidence.proofs.writer.put_steps.Goals as goal
 
 pub put_step-requires-clause-known : goal.put_step-requires-clause-known

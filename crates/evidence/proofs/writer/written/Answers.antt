@@ -3,8 +3,9 @@ use Rattle.std.specs.List.{All}
 use Rattle.case_model.specs.CaseView.{content}
 use Rattle.evidence_check.specs.EvidenceView.{hypotheses_of, step_parts, keep_parts}
 use Rattle.evidence_check.specs.Documents.{step_forms, keep_forms}
+use Rattle.evidence_check.proofs.Hypotheses.{same_hypotheses}
 use Rattle.evidence.specs.EvidenceText.{forms_text}
-use Rattle.evidence.proofs.WriterAnswers.{all_known, same_hypotheses, whole_text}
+use Rattle.evidence.proofs.WriterAnswers.{all_known, whole_text}
 use Rattle.evidence.proofs.writer.written.Goals as goal
 
 pub put_steps-requires-clause-known : goal.put_steps-requires-clause-known

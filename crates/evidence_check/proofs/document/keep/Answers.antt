@@ -1,9 +1,10 @@
 use Rattle.std.proofs.Common.{sym}
 use Rattle.text_lines.specs.Lines.{rows_left, end_at}
 use Rattle.text_lines.specs.View.{row}
+use Rattle.text_lines.proofs.HandedOn.{handed_on}
 use Rattle.case_model.specs.CaseView.{content}
 use Rattle.evidence_check.specs.EvidenceView.{hypotheses_of}
-use Rattle.evidence_check.proofs.ReadAnswers.{frame_name, handed_on}
+use Rattle.evidence_check.proofs.ReadAnswers.{frame_name}
 use Rattle.evidence_check.proofs.ReadSteps.{keep_read, keep_bad, keep_stops}
 use Rattle.evidence_check.proofs.document.keep.Goals as goal
 

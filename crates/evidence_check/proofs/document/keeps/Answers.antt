@@ -3,6 +3,7 @@ use Rattle.std.proofs.lemmas.List.{map-append}
 use Rattle.std.proofs.lemmas.Simd.{map-map}
 use Rattle.text_lines.specs.Lines.{rows_left, end_at}
 use Rattle.text_lines.specs.View.{row}
+use Rattle.text_lines.proofs.HandedOn.{handed_on}
 use Rattle.case_model.specs.CaseView.{content}
 use Rattle.evidence_check.specs.Evidence.{others}
 use Rattle.evidence_check.specs.EvidenceView.{hypotheses_of, keep_parts}
@@ -10,7 +11,6 @@ use Rattle.evidence_check.specs.ReadView.{rows_from, KeepRead, KeepsStop}
 use Rattle.evidence_check.specs.declared.fault.ProofKind.TheVariants.{Ended}
 use Rattle.evidence_check.specs.declared.fault.ProofText.TheVariants as faults
 use Rattle.evidence_check.proofs.StepAnswers.{listed_is}
-use Rattle.evidence_check.proofs.ReadAnswers.{handed_on}
 use Rattle.evidence_check.proofs.ReadSteps.{KeepsSoFar, keeps_memory, so_far_none, so_far_skip, so_far_next, so_far_stop, so_far_early, so_far_read, so_far_all}
 use Rattle.evidence_check.proofs.document.keeps.Goals as goal
 use Rattle.evidence_check.proofs.document.keeps.Goals.{then-not-is_listed+in_ok-keep+in_ok-push+in_ok-line, else-not-is_listed}

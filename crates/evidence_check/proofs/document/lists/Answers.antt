@@ -1,13 +1,14 @@
 use Rattle.std.proofs.Common.{◌≡◌, ◌∙◌, ℕ, ◌+◌, ◌<◌, ◌≤◌, refl, sym, ap, subst, [], ◌∷◌, map, length, arith}
 use Rattle.std.proofs.lemmas.List.{map-append, length-map}
 use Rattle.text_lines.specs.Lines.{rows_left, end_at}
+use Rattle.text_lines.proofs.HandedOn.{handed_on}
 use Rattle.case_model.specs.CaseView.{content}
 use Rattle.evidence_check.specs.EvidenceParts.{AreFull}
 use Rattle.evidence_check.specs.EvidenceView.{hypotheses_of}
 use Rattle.evidence_check.specs.ReadView.{NumbersRead, NumbersStop}
 use Rattle.evidence_check.specs.declared.fault.ProofText.TheVariants as faults
 use Rattle.evidence_check.proofs.Hypotheses.{as_many}
-use Rattle.evidence_check.proofs.ReadAnswers.{handed_on, ListsSoFar, lists_none, lists_next, lists_stop, lists_memory, lists_done}
+use Rattle.evidence_check.proofs.ReadAnswers.{ListsSoFar, lists_none, lists_next, lists_stop, lists_memory, lists_done}
 use Rattle.evidence_check.proofs.document.lists.Goals as goal
 
 pub loop-c-init : goal.loop-c-init

@@ -2,12 +2,13 @@ use Rattle.std.proofs.Common.{◌≡◌, ◌∙◌, ℕ, suc, ◌+◌, ◌<◌, 
 use Rattle.std.proofs.lemmas.List.{map-append}
 use Rattle.text_lines.specs.Lines.{rows_left, end_at}
 use Rattle.text_lines.specs.View.{row}
+use Rattle.text_lines.proofs.HandedOn.{handed_on}
 use Rattle.case_model.specs.CaseView.{content}
 use Rattle.evidence_check.specs.EvidenceView.{hypotheses_of}
 use Rattle.evidence_check.specs.declared.fault.ProofKind.TheVariants.{Ended}
 use Rattle.evidence_check.specs.declared.fault.ProofText.TheVariants as faults
 use Rattle.evidence_check.proofs.Hypotheses.{as_many}
-use Rattle.evidence_check.proofs.ReadAnswers.{frame_name, known_at, step_at, handed_on, NumbersSoFar, numbers_none, numbers_next, numbers_bad, numbers_early, numbers_memory, numbers_done}
+use Rattle.evidence_check.proofs.ReadAnswers.{frame_name, known_at, step_at, NumbersSoFar, numbers_none, numbers_next, numbers_bad, numbers_early, numbers_memory, numbers_done}
 use Rattle.evidence_check.proofs.document.numbers.Goals as goal
 
 pub loop-e-init : goal.loop-e-init

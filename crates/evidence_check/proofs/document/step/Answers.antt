@@ -1,9 +1,9 @@
 use Rattle.std.proofs.Common.{sym}
 use Rattle.text_lines.specs.Lines.{rows_left, end_at}
 use Rattle.text_lines.specs.View.{row}
+use Rattle.text_lines.proofs.HandedOn.{handed_on}
 use Rattle.case_model.specs.CaseView.{content}
 use Rattle.evidence_check.specs.EvidenceView.{hypotheses_of}
-use Rattle.evidence_check.proofs.ReadAnswers.{handed_on}
 use Rattle.evidence_check.proofs.ReadSteps.{step_read, step_bad, step_stops}
 use Rattle.evidence_check.proofs.document.step.Goals as goal
 

@@ -4,13 +4,13 @@ use Rattle.std.proofs.lemmas.List.{map-append, length-map}
 use Rattle.std.proofs.lemmas.List.Elements.{All-nil, All-push}
 use Rattle.std.proofs.lemmas.Simd.{map-map}
 use Rattle.text_lines.specs.Lines.{rows_left, end_at}
+use Rattle.text_lines.proofs.HandedOn.{handed_on}
 use Rattle.case_model.specs.CaseView.{content}
 use Rattle.evidence_check.specs.EvidenceParts.{AreFull, FlowsFit}
 use Rattle.evidence_check.specs.EvidenceView.{hypotheses_of, step_parts}
 use Rattle.evidence_check.specs.ReadView.{rows_from, StepRead, StepsRead, StepsStop}
 use Rattle.evidence_check.specs.declared.fault.ProofKind.TheVariants.{Ended}
 use Rattle.evidence_check.specs.declared.fault.ProofText.TheVariants as faults
-use Rattle.evidence_check.proofs.ReadAnswers.{handed_on}
 use Rattle.evidence_check.proofs.ReadSteps.{steps_none, steps_next, steps_stop, steps_memory, steps_early, flows_snoc}
 use Rattle.evidence_check.proofs.document.steps.Goals as goal
 

@@ -1,9 +1,9 @@
 use Rattle.std.proofs.Common.{◌∙◌, sym}
 use Rattle.case_model.specs.CaseView.{content}
 use Rattle.case_numbers.specs.Numbers.{in_fractions, in_quotients}
+use Rattle.text_lines.proofs.HandedOn.{handed_on}
 use Rattle.evidence_check.specs.declared.evidence.Evidence.TheVariants.{Plain, Eps}
 use Rattle.evidence_check.proofs.CheckAnswers.{fractions_of, quotients_of}
-use Rattle.evidence_check.proofs.ReadAnswers.{handed_on}
 use Rattle.evidence_check.proofs.DocumentLaws.{says, fails}
 use Rattle.evidence_check.proofs.reader.read.Goals as goal
 

@@ -2,13 +2,13 @@ use Rattle.std.proofs.Common.{◌∙◌, sym, ap, subst, map, length, [], ◌∷
 use Rattle.std.proofs.lemmas.Simd.{map-map}
 use Rattle.text_lines.specs.Lines.{rows_left, rows_of, end_of}
 use Rattle.text_lines.specs.View.{row}
+use Rattle.text_lines.proofs.HandedOn.{handed_on}
 use Rattle.case_model.specs.CaseView.{content}
 use Rattle.evidence_check.specs.EvidenceParts.{ExitsFit}
 use Rattle.evidence_check.specs.EvidenceView.{hypotheses_of, step_parts, keep_parts}
 use Rattle.evidence_check.specs.declared.fault.ProofKind.TheVariants.{Ended}
 use Rattle.evidence_check.specs.declared.fault.ProofText.TheVariants as faults
 use Rattle.evidence_check.specs.ReadView.{StepsRead, StepsStop, KeepsRead, KeepsStop, EndRead, EndStops, HaveFault, SayEvidence, kept_by}
-use Rattle.evidence_check.proofs.ReadAnswers.{handed_on}
 use Rattle.evidence_check.proofs.ReadWhole.{steps_fault, keeps_fault, end_fault, all_read, version_fault, no_first, read_fits}
 use Rattle.evidence_check.proofs.reader.read_in.Goals as goal
 

@@ -1,21 +1,16 @@
 use Rattle.std.proofs.Common.{◌≡◌, refl, sym, ap, subst, ◌∙◌, ℕ, ◌^◌, ◌<◌, Bool, List, length}
 use Rattle.field_core.specs.declared.ratio.Ratio.{Ratio}
-use Rattle.field_core.specs.Sets.{whole}
-use Rattle.field_core.specs.Runs.{left_after}
 use Rattle.field_core.specs.OrderOfSets.{IsAscending, IsListStep, IsLastList}
-use Rattle.field_core.proofs.Members.{number_below}
 use Rattle.case_model.specs.CaseView.{content}
 use Rattle.case_model.specs.SetTableView.{answer_of}
 use Rattle.closed_test.specs.Paths.{number_without}
 use Rattle.closed_test.specs.WeightsView.{weight_at}
 use Rattle.closed_test.proofs.SetAnswers.{of_single}
+use Rattle.closed_test.proofs.SetSteps.{set_fits}
 use Rattle.simes_test.specs.SimesSums.{IsFirstWideSum}
 use Rattle.simes_test.specs.Tested.{IsTested}
 use Rattle.simes_test.proofs.SimesSets.{tested_first, tested_next, all_tested, first_wide, answers_are, all_defined}
 use Rattle.simes_test.proofs.table.local_answers.Goals as goal
-
-set_fits : (set size m t : ℕ) (left : List ℕ) → set ≡ number_without size left → size ≡ m → t ≡ m → set < 2 ^ t
-set_fits set size m t left e f g = rw (e, f, g) (number_below m (left_after whole left))
 
 -- what is known of all sets, for as many hypotheses and at the level of the case
 tested_in : (ps : List Ratio) (weight : ℕ → ℕ → Ratio) (told : ℕ → Bool) (m k : ℕ) (alpha level : Ratio) → m ≡ k → alpha ≡ level
