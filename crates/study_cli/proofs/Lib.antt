@@ -1,4 +1,3 @@
 pub mod AskedStudies
 pub mod OneOutcome
-pub mod StorePlaces
 pub mod StoreValues

@@ -1,14 +1,26 @@
 use Rattle.std.proofs.Common.{inl, inr, refl, map}
 use Rattle.std.specs.Prelude.{string_bytes}
+use Rattle.graph_io.specs.Causes.{Rose}
 use Rattle.answers.specs.declared.refusal.Refusal.{Refusal}
 use Rattle.command_words.specs.Asked.{study_asked}
 use Rattle.study_answers.specs.StudyStages.{StudyEnd}
 use Rattle.study_answers.proofs.StudyHalting.{handed_on, no_room, stops_weaker, keeps_on}
+use Rattle.study_cli.specs.StudyOutcome.{study_outcome, ReadRose, MayEnd}
 use Rattle.study_cli.proofs.AskedStudies.{rose_by}
 use Rattle.study_cli.proofs.study.answer.Goals as goal
 
 pub returns-in_err-usage-in-Err-clause-stopped : goal.returns-in_err-usage-in-Err-clause-stopped
-returns-in_err-usage-in-Err-clause-stopped g c = handed_on _ _ _ c.from_residual.ensures.1 (no_room _ _ _ _ _ _ refl (inl refl))
+returns-in_err-usage-in-Err-clause-stopped g c =
+    let words = map string_bytes c.args.words.now in
+    let case = g.S.Source.left c.args.case.now in
+    let commands = g.T.Source.left c.args.commands.now in
+    let kept = g.K.Keeper.looks c.args.keeper.now in
+    let of_case = g.S.Source.faults c.args.case.now in
+    let of_commands = g.T.Source.faults c.args.commands.now in
+    let of_keeper = g.K.Keeper.faults c.args.keeper.now in
+    let rose = ReadRose words case (Rose of_case of_case) (Rose of_commands of_commands) in
+    handed_on _ _ _ c.from_residual.ensures.1
+    (no_room (study_outcome words case commands kept).Refuses rose (Rose of_keeper of_keeper) (MayEnd words case commands kept) kept kept refl (inl refl))
 
 pub returns-in-Ok-clause-given : goal.returns-in-Ok-clause-given
 returns-in-Ok-clause-given g c = keeps_on c.study_call.result _ _ _ _ (λ (e : StudyEnd) h. (study_asked c.in-Ok.call, c.in-Ok.ensures.given, h)) c.study_call.ensures.given
