@@ -2,7 +2,8 @@
 use Rattle.std.proofs.Common.{◌≡◌, ◌≢◌, ◌⊎◌, ◌+◌, ◌<◌, ◌≤◌, inl, inr, refl, sym, ap, ◌∙◌, subst, ℕ, suc, arith, List, [], ◌∷◌, ◌++◌, length, drop, map, slice_index_or, Bor}
 use Rattle.std.specs.Prelude.{IfSome, codes}
 use Rattle.std.specs.List.{slice_get}
-use Rattle.std.specs.Option.{option_map}
+use Rattle.std.specs.Option.{MatchOption, option_map}
+use Rattle.std.specs.Str.Pattern.{FindsTextPrefix, StripsPrefix}
 use Rattle.std.proofs.lemmas.Option.{slice_get-map, slice_get_past, slice_get_read}
 use Rattle.std.specs.declared.option.Option.{Option}
 use Rattle.std.specs.declared.option.Option.TheVariants.{Some, None}
@@ -10,9 +11,9 @@ use Rattle.command_words.specs.Asked.{StudyAsked}
 use Rattle.command_words.specs.WordParts.{opener, joined_word}
 use Rattle.command_words.specs.Words.{study_in}
 use Rattle.command_words.proofs.OneReading.{study_words_decided}
+use Rattle.command_words.proofs.StorePlaces.{same_place, store_stands}
 use Rattle.graph_cli.specs.Outcome.{AskStudy}
 use Rattle.study_cli.specs.StudyOutcome.{StoresAt, NamesStore}
-use Rattle.study_cli.proofs.StorePlaces.{same_place, store_stands}
 
 -- ---- what stands at the place
 
@@ -71,13 +72,48 @@ no_item f words place h = slice_get-map f words place ∙ ap (option_map f) (sli
 pub item_is : {X : Type 0} (f : X → List ℕ) (words : List X) (place : ℕ) (x : X) → place < length words → x ≡ slice_index_or words place x → slice_get (map f words) place ≡ Some (f x)
 item_is f words place x h e = slice_get-map f words place ∙ ap (option_map f) (slice_get_read words (length words) place x refl h e)
 
+-- what stands behind a text at the front
+pub stripped : (p s : List ℕ) (r : Option (Bor (List ℕ))) → MatchOption r (FindsTextPrefix p s None) (λ x. StripsPrefix (FindsTextPrefix p) s x.now)
+    → MatchOption r ((rest : List ℕ) → s ≢ p ++ rest) (λ x. s ≡ p ++ x.now)
+stripped p s None h = h
+stripped p s (Some x) h = h.1.1 ∙ ap (λ l. p ++ l) (sym h.2)
+
+-- ---- the value as the code finds it
+
+module _ {X : Type 0} (f : X → List ℕ) (words : List X) (place : ℕ) (other : List ℕ) (s : StoresAt (map f words) place other) where
+  -- there is no such place
+  pub no_first : ¬ (length words ≤ place)
+  no_first h = some_word (map f words) place other s (no_item f words place h)
+
+  module _ (x : X) (word : List ℕ) (within : place < length words) (at : x ≡ slice_index_or words place x) (said : word ≡ f x) where
+    word_is : slice_get (map f words) place ≡ Some word
+    word_is = item_is f words place x within at ∙ ap Some (sym said)
+
+    -- in the same word
+    pub value_joined : (rest : List ℕ) → word ≡ codes "--store=" ++ rest → rest ≡ other
+    value_joined rest e = joined_value (map f words) place other s rest (word_is ∙ ap Some e)
+
+    -- in the next word
+    pub value_apart : (y : X) (value : List ℕ) → ((rest : List ℕ) → word ≢ codes "--store=" ++ rest) → place + 1 < length words → y ≡ slice_index_or words (place + 1) y → value ≡ f y → value ≡ other
+    value_apart y value lacks h e k = apart_value (map f words) place other s word value word_is lacks (item_is f words (place + 1) y h e ∙ ap Some (sym k))
+
+    -- there is no next word
+    pub no_second : ((rest : List ℕ) → word ≢ codes "--store=" ++ rest) → ¬ (length words ≤ place + 1)
+    no_second lacks h = some_value (map f words) place other s word word_is lacks (no_item f words (place + 1) h)
+
 -- ---- the path that the words name
 
 module _ (words : List (List ℕ)) where
   module _ (asked : StudyAsked) (asks : AskStudy words asked) where
+    said_at : (place : ℕ) → asked.store ≡ Some place → (path : List ℕ) × StoresAt words place path
+    said_at place e =
+        let s = store_stands words asked place asks e in
+        let at = s.place_is in
+        (s.path, record { front = s.front; rest = s.rest; place_is = omega (arith, at); words_are = s.words_are })
+
     pub path_by : (place : ℕ) (r : Option (Bor (List ℕ))) → asked.store ≡ Some place → IfSome r (λ path. (other : List ℕ) → StoresAt words place other → path.now ≡ other) → IfSome r (λ path. NamesStore words path.now)
     path_by place None e h = tt
-    path_by place (Some path) e h = let at = store_stands words asked place asks e in (asked, asks, place, e, subst (StoresAt words place) (sym (h at.0 at.1)) at.1)
+    path_by place (Some path) e h = let at = said_at place e in (asked, asks, place, e, subst (StoresAt words place) (sym (h at.0 at.1)) at.1)
 
     pub no_path_by : (place : ℕ) (path : List ℕ) → asked.store ≡ Some place → ((other : List ℕ) → ¬ StoresAt words place other) → ¬ NamesStore words path
     no_path_by place path e none h =

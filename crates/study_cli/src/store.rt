@@ -9,8 +9,8 @@ fn value_at(words: &[String], place: usize) -> Option<&str>
     ensures value { IfSome result (λ path. (other : List ℕ) → StoresAt (map string_bytes words.now) place other → path.now ≡ other) }
     ensures none { result ≡ None → (other : List ℕ) → ¬ StoresAt (map string_bytes words.now) place other }
 {
-    let word = words.get(place)?.as_str();
-    match word.strip_prefix("--store=") {
+    let word = words.get(place)?;
+    match word.as_str().strip_prefix("--store=") {
         Some(path) => Some(path),
         None => {
             let value = words.get(place + 1)?;
@@ -25,7 +25,10 @@ pub fn store_path(words: &[String]) -> Option<&str>
     ensures none { result ≡ None → (path : List ℕ) → ¬ NamesStore (map string_bytes words.now) path }
 {
     match read_study(words) {
-        Ok(call) => value_at(words, call.store?),
+        Ok(call) => {
+            let place = call.store?;
+            value_at(words, place)
+        }
         Err(_) => None,
     }
 }

@@ -1,29 +1,27 @@
 -- Where the option of the file of the looks stands in the words of a study.
-use Rattle.std.proofs.Common.{◌≡◌, ◌⊎◌, ◌+◌, inl, inr, refl, sym, ap, ◌∙◌, subst, ℕ, suc, List, [], ◌∷◌, ◌++◌, length, drop, append-nil, append_assoc, length-append, arith}
+use Rattle.std.proofs.Common.{◌≡◌, ◌⊎◌, ◌+◌, inl, inr, refl, sym, ap, ◌∙◌, subst, ℕ, List, [], ◌∷◌, ◌++◌, length, drop, append-nil, append_assoc, length-append, arith}
 use Rattle.std.specs.Prelude.{codes}
 use Rattle.std.specs.List.{flat_map}
 use Rattle.std.specs.declared.option.Option.{Option}
 use Rattle.std.specs.declared.option.Option.TheVariants.{Some, None}
 use Rattle.command_words.specs.Asked.{StudyAsked, Written}
-use Rattle.command_words.specs.Choices.{Value, Chosen}
+use Rattle.command_words.specs.Choices.{Value}
 use Rattle.command_words.specs.Given.{GivenContent, nothing, with_value, written_of, study_by, study_of}
 use Rattle.command_words.specs.Table.{verb_name, argument_name, operand_of}
 use Rattle.command_words.specs.WordParts.{opener, joined_word}
-use Rattle.command_words.specs.Words.{Piece, joined, apart, bare, spelled, choice_of, MayStand, with_piece, Stand, Begin, study_in}
+use Rattle.command_words.specs.Words.{Piece, joined, apart, bare, spelled, MayStand, with_piece, Stand, study_in}
 use Rattle.command_words.specs.declared.argument.Argument.{Argument}
 use Rattle.command_words.specs.declared.argument.Argument.TheVariants as arguments
 use Rattle.command_words.specs.declared.verb.Verb.{Verb}
 use Rattle.command_words.specs.declared.verb.Verb.TheVariants as verbs
-use Rattle.graph_cli.specs.Outcome.{AskStudy}
-use Rattle.study_cli.specs.StudyOutcome.{StoresAt}
 
 -- in words from a place on, the option begins at this place, with this value
-record StoresFrom (at : ℕ) (words : List (List ℕ)) (place : ℕ) : Type 0 where
-  path : List ℕ
-  front : List (List ℕ)
-  rest : List (List ℕ)
-  place_is : place ≡ at + length front
-  words_are : (words ≡ front ++ joined_word (codes "store") path ∷ rest) ⊎ (words ≡ front ++ opener (codes "store") ∷ path ∷ rest)
+pub record StoresFrom (at : ℕ) (words : List (List ℕ)) (place : ℕ) : Type 0 where
+  pub path : List ℕ
+  pub front : List (List ℕ)
+  pub rest : List (List ℕ)
+  pub place_is : place ≡ at + length front
+  pub words_are : (words ≡ front ++ joined_word (codes "store") path ∷ rest) ⊎ (words ≡ front ++ opener (codes "store") ∷ path ∷ rest)
 
 pub same_place : (i j : ℕ) → Some i ≡ Some j → i ≡ j
 same_place i j e = cc
@@ -37,6 +35,8 @@ unfolding operand_of
 no_operand verbs.Test e = cc
 no_operand verbs.Weights e = cc
 no_operand verbs.Bounds e = cc
+no_operand verbs.Simes e = cc
+no_operand verbs.Evidence e = cc
 no_operand verbs.Stages e = cc
 no_operand verbs.Check e = cc
 no_operand verbs.Canon e = cc
@@ -104,7 +104,7 @@ study_store (Some form) (Some file) store asked e = sym (ap store_in e)
     store_in (Some x) = x.store
 
 -- the option stands where it is said to stand
-pub store_stands : (words : List (List ℕ)) (asked : StudyAsked) (place : ℕ) → AskStudy words asked → asked.store ≡ Some place → (path : List ℕ) × StoresAt words place path
+pub store_stands : (words : List (List ℕ)) (asked : StudyAsked) (place : ℕ) → (study_in words).Gives asked → asked.store ≡ Some place → StoresFrom 0 words place
 unfolding study_in study_of
 store_stands words asked place h e =
     let verb = h.0 in
@@ -115,13 +115,11 @@ store_stands words asked place h e =
     let all : words ≡ verb_name verb ∷ flat_map spelled begin.pieces = h.1.1 ∙ ap (λ ws. verb_name verb ∷ ws) (sym (ap (drop 1) h.1.1) ∙ behind) in
     elim (pieces_store verb 1 nothing given begin.pieces place begin.stand kept) [
       | inl k ↦ absurd (let none : None ≡ Some place = k in cc)
-      | inr s ↦ let place_is = s.place_is in (
-        s.path,
-        record {
-          front = verb_name verb ∷ s.front;
-          rest = s.rest;
-          place_is = omega (arith, place_is);
-          words_are = elim (s.words_are) [ inl w ↦ inl (all ∙ ap (λ ws. verb_name verb ∷ ws) w) | inr w ↦ inr (all ∙ ap (λ ws. verb_name verb ∷ ws) w) ];
-        },
-      )
+      | inr s ↦ let place_is = s.place_is in record {
+        path = s.path;
+        front = verb_name verb ∷ s.front;
+        rest = s.rest;
+        place_is = omega (arith, place_is);
+        words_are = elim (s.words_are) [ inl w ↦ inl (all ∙ ap (λ ws. verb_name verb ∷ ws) w) | inr w ↦ inr (all ∙ ap (λ ws. verb_name verb ∷ ws) w) ];
+      }
     ]
