@@ -120,6 +120,7 @@ OTHERS = {
     "NoMemory": "NoMemory",
     "AllocError": "AllocError",
     "Refused": "Refused { names: field_core::List::new(alloc), fault: crate::CaseFault::NoMemory }",
+    "StudyStop": "crate::StudyStop::Stopped(answers::Stop::NoMemory)",
 }
 
 
@@ -489,7 +490,7 @@ def told(copy, answers):
             print(f"passes {function} ({', '.join(answer[1]) or 'none'})")
         ended |= not answer[0]
     print(f"\n{'crate':<16} {'by its own':>10} {'acceptance':>10} {'by a user':>10} {'passes':>7} {'not compiled':>13}")
-    for crate, count in [*sorted(counts.items()), ("all", [sum(it) for it in zip(*counts.values())])]:
+    for crate, count in [*sorted(counts.items()), ("all", [sum(it) for it in zip([0] * 5, *counts.values())])]:
         print(f"{crate:<16} {count[0]:>10} {count[1]:>10} {count[2]:>10} {count[3]:>7} {count[4]:>13}")
     return ended
 
