@@ -1,5 +1,5 @@
 //! A source and a sink over std's readers and writers.
-ghost use Rattle.std.specs.Prelude.{◌≡◌, ◌<◌, length, IfOk};
+ghost use Rattle.std.specs.Prelude.{◌≡◌, ◌<◌, length, IfOk, Ok};
 ghost use Rattle.std.specs.Io.{ReadsAtMost, WritesAtMost};
 ghost use Rattle.std.specs.Io.KnownBytes.{ReadConsumes, WriteAppends};
 ghost use Rattle.graph_io.specs.Causes.{HasCause, CountsFault};
@@ -50,7 +50,7 @@ impl<R: Read> Source for StdSource<R> {
 }
 
 /// A writer as a sink. It tells what the writer tells, keeps no bytes, and counts the errors; that
-/// the writer takes nothing of a piece that isn't empty counts as one.
+/// the writer takes nothing of a piece that isn't empty counts as one. An empty piece is no fault.
 #[derive(Drop)]
 pub struct StdSink<W> {
     inner: W,
@@ -85,9 +85,15 @@ impl<W: Write> Sink for StdSink<W> {
         ensures cause { HasCause (write_faults self.old) (write_faults self.new) result }
 
         ensures counted { CountsFault (write_faults self.old) (write_faults self.new) result }
+
+        // An empty piece is put without asking the writer.
+        ensures empty { length bytes.now ≡ 0 → result ≡ Ok 0 }
     {
+        if bytes.is_empty() {
+            return Ok(0);
+        }
         let taken = match self.inner.write(bytes) {
-            Ok(count) if count > 0 || bytes.is_empty() => Ok(count),
+            Ok(count) if count > 0 => Ok(count),
             _ => Err(Failed),
         };
         self.faults.note(taken)
