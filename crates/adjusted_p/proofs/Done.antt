@@ -40,7 +40,12 @@ module _ (c : Content) (t : TrialContent) (xs : List Adjusted) (R : IsAdjustingR
   no_ratio : (j : ℕ) → ¬ IsLeastToOne (entangled (at_level c one_ratio)) (number_at t.p_values) (left_after whole t.rejected) j
   no_ratio j L =
       let high : L.least.ratio ≤ε number_of t.alpha = subst (λ z. L.least.ratio ≤ε z) (sym (ap number_of (sym T.alpha) ∙ one_is)) L.small in
-      R.run.complete j (record { least = L.least; legal = ratio_legal (entangled (at_level c one_ratio)) (number_at t.p_values) (left_after whole t.rejected) (number_of t.alpha) j L.least.ratio L.least.is_ratio high })
+      R.run.complete j (record {
+        least = L.least;
+        legal =
+            ratio_legal (entangled (at_level c one_ratio)) (number_at t.p_values) (left_after whole t.rejected)
+            (number_of t.alpha) j L.least.ratio L.least.is_ratio high;
+      })
 
   done : AreRunValues (entangled (at_level c one_ratio)) (number_at t.p_values) whole number_zero R.steps
   done = record {
@@ -54,7 +59,8 @@ module _ (c : Content) (t : TrialContent) (xs : List Adjusted) (R : IsAdjustingR
   each_value j =
       subst (λ i. ForSingle i (λ ps. IsAdjusted (entangled c) (number_at ps) j (adjusted_at xs j).value (adjusted_at xs j).reached)) (sym T.inputs)
       (subst (λ E. IsAdjusted E (number_at t.p_values) j (adjusted_at xs j).value (adjusted_at xs j).reached) (same_graph c one_ratio)
-      (table_adjusted (entangled (at_level c one_ratio)) (number_at t.p_values) (adjusted_at xs) (graph_valid (at_level c one_ratio) t T) R.steps done R.are_steps.is_table j))
+      (table_adjusted (entangled (at_level c one_ratio)) (number_at t.p_values) (adjusted_at xs)
+      (graph_valid (at_level c one_ratio) t T) R.steps done R.are_steps.is_table j))
 
   run_adjusted : AreAdjusted c xs
   run_adjusted = record { count = R.are_steps.count ∙ (p_values_are (at_level c one_ratio) t T).count; each = λ j h. each_value j }

@@ -30,7 +30,8 @@ pub values_decide : (c : Content) (xs : List Adjusted) (level : Number) (j : ℕ
     → ForSingle c.inputs (λ ps. IsRejected (entangled c) (number_at ps) level j ↔ IsReachedBy level (adjusted_at xs j))
 values_decide c xs level j A u h =
     let x = adjusted_at xs j in
-    for_single (λ ps. IsAdjusted (entangled c) (number_at ps) j x.value x.reached) (λ i. ForSingle i (λ ps. IsRejected (entangled c) (number_at ps) level j ↔ IsReachedBy level x))
+    for_single (λ ps. IsAdjusted (entangled c) (number_at ps) j x.value x.reached)
+    (λ i. ForSingle i (λ ps. IsRejected (entangled c) (number_at ps) level j ↔ IsReachedBy level x))
     (λ ps a. ((adjusted_is (entangled c) (number_at ps) j x.value x.reached).0 a).1 level u) c.inputs (A.each j h)
 
 -- ---- one list at most
@@ -45,7 +46,8 @@ same_value : (c : Content) (x y : Adjusted) (j : ℕ) → ForSingle c.inputs (λ
     → ForSingle c.inputs (λ ps. IsAdjusted (entangled c) (number_at ps) j y.value y.reached) → x ≡ y
 same_value c x y j =
     for_both (λ ps. IsAdjusted (entangled c) (number_at ps) j x.value x.reached) (λ ps. IsAdjusted (entangled c) (number_at ps) j y.value y.reached) (x ≡ y)
-    (λ ps a b. let e = adjusted_unique (entangled c) (number_at ps) j x.value y.value x.reached y.reached a b in ap₂ (λ v r. record { value = v; reached = r }) e.0 e.1) c.inputs
+    (λ ps a b. let e = adjusted_unique (entangled c) (number_at ps) j x.value y.value x.reached y.reached a b in ap₂
+    (λ v r. record { value = v; reached = r }) e.0 e.1) c.inputs
 
 pub lists_unique : (c : Content) (xs ys : List Adjusted) → AreAdjusted c xs → AreAdjusted c ys → xs ≡ ys
 lists_unique c xs ys A B =

@@ -88,7 +88,8 @@ module _ (E : EntangledGraph) (p : ℕ → Number) where
         up : (k : ℕ) → IsLegal E p a I k → number_of x.value ≤ε a
         up k h = elim S.0.greater.one_of [
           | inl e ↦ subst (λ v. v ≤ε a) (sym e) low
-          | inr e ↦ subst (λ v. v ≤ε a) (sym e) (legal_at_most E p I a x.hypothesis S.0.next.least.ratio S.0.next.least.is_ratio (least_legal E p I a x.hypothesis k S.0.next.least h))
+          | inr e ↦ subst (λ v. v ≤ε a) (sym e)
+              (legal_at_most E p I a x.hypothesis S.0.next.least.ratio S.0.next.least.is_ratio (least_legal E p I a x.hypothesis k S.0.next.least h))
         ]
 
   module _ (T : ℕ → Adjusted) where
@@ -131,7 +132,10 @@ module _ (E : EntangledGraph) (p : ℕ → Number) where
     leading_in a [] H j l = absurd (cc)
     leading_in a (x ∷ xs) H j l = elim (true_or_false (is_up_to a x)) [
       | inl t ↦ elim (here_or_later x.hypothesis j (leading a xs) (subst (λ js. IsListed js j) (leading_more a x xs t) l)) [
-        | inl e ↦ (subst (λ i. IsListed (x.hypothesis ∷ removed_ones xs) i) (sym e) (listed_here x.hypothesis (removed_ones xs)), subst (λ v. number_of v ≤ε a) (sym (value_at x j e H.0)) t)
+        | inl e ↦ (
+          subst (λ i. IsListed (x.hypothesis ∷ removed_ones xs) i) (sym e) (listed_here x.hypothesis (removed_ones xs)),
+          subst (λ v. number_of v ≤ε a) (sym (value_at x j e H.0)) t,
+        )
         | inr k ↦ let r = leading_in a xs H.1 j k in (listed_later x.hypothesis j (removed_ones xs) r.0, r.1)
       ]
       | inr f ↦ absurd (none (subst (λ js. IsListed js j) (leading_none a x xs f) l))
@@ -147,10 +151,13 @@ module _ (E : EntangledGraph) (p : ℕ → Number) where
     in_leading a (x ∷ xs) I before S H j l u = elim (here_or_later x.hypothesis j (removed_ones xs) l) [
       | inl e ↦
           let t : number_of x.value ≤ε a = subst (λ v. number_of v ≤ε a) (value_at x j e H.0) u in
-          subst (λ js. IsListed js j) (sym (leading_more a x xs t)) (subst (λ i. IsListed (x.hypothesis ∷ leading a xs) i) (sym e) (listed_here x.hypothesis (leading a xs)))
+          subst (λ js. IsListed js j) (sym (leading_more a x xs t))
+          (subst (λ i. IsListed (x.hypothesis ∷ leading a xs) i) (sym e) (listed_here x.hypothesis (leading a xs)))
       | inr k ↦
-          let t : number_of x.value ≤ε a = at_most_trans _ (number_of (T j).value) a (later_above xs (dropping x.hypothesis I) (number_of x.value) S.1 H.1 j k) u in
-          subst (λ js. IsListed js j) (sym (leading_more a x xs t)) (listed_later x.hypothesis j (leading a xs) (in_leading a xs (dropping x.hypothesis I) (number_of x.value) S.1 H.1 j k u))
+          let t : number_of x.value ≤ε a = at_most_trans _ (number_of (T j).value) a
+          (later_above xs (dropping x.hypothesis I) (number_of x.value) S.1 H.1 j k) u in
+          subst (λ js. IsListed js j) (sym (leading_more a x xs t))
+          (listed_later x.hypothesis j (leading a xs) (in_leading a xs (dropping x.hypothesis I) (number_of x.value) S.1 H.1 j k u))
     ]
 
     module _ (V : IsValidEntangled E) (xs : List ValueStep) (R : AreRunValues E p whole number_zero xs) (table : IsTableOf T xs) where
@@ -178,7 +185,10 @@ module _ (E : EntangledGraph) (p : ℕ → Number) where
       table_in_range j = record {
         unit = elim (true_or_false (T j).reached) [
           | inl t ↦ let l =
-              reached_listed j t in record { low = later_above xs whole number_zero R.steps table.valued j l; high = at_most_one xs whole number_zero zero_at_most_one R.steps table.valued j l }
+              reached_listed j t in record {
+                low = later_above xs whole number_zero R.steps table.valued j l;
+                high = at_most_one xs whole number_zero zero_at_most_one R.steps table.valued j l;
+              }
           | inr f ↦ subst IsUnit (sym (value_one j f)) one_unit
         ];
         one = value_one j;

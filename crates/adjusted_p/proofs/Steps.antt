@@ -1,5 +1,6 @@
 -- The run of adjusted values, step by step.
-use Rattle.std.proofs.Common.{◌≡◌, ◌≢◌, refl, sym, ap, ◌∙◌, subst, subst₂, inl, inr, ℕ, zero, suc, ◌+◌, ◌<◌, Bool, replicate, List, [], ◌∷◌, ◌++◌, length}
+use Rattle.std.proofs.Common.{◌≡◌, ◌≢◌, refl, sym, ap, ◌∙◌, subst, subst₂, inl, inr, ℕ, zero, suc, ◌+◌, ◌<◌, Bool, replicate}
+use Rattle.std.proofs.Common.{List, [], ◌∷◌, ◌++◌, length}
 use Rattle.std.proofs.Math.ListN.{set}
 use Rattle.std.proofs.lemmas.List.{map-append, get_or-set_same, get_or-set_other, length-set, length-map, length-replicate}
 use Rattle.std.specs.List.{AllByRecursion}
@@ -69,7 +70,8 @@ module _ (T U : ℕ → Adjusted) (j : ℕ) (v : Ratio) (here : U j ≡ reached_
   table_next : (xs : List ValueStep) → IsTableOf T xs → ¬ IsListed (removed_ones xs) j → IsTableOf U (xs ++ record { hypothesis = j; value = v } ∷ [])
   table_next xs A n = record {
     valued = valued_next xs n A.valued;
-    rest = λ i m. other i (λ e. m (subst (λ js. IsListed js i) (sym all) (subst (λ a. IsListed (removed_ones xs ++ j ∷ []) a) (sym e) (listed_last (removed_ones xs)))))
+    rest = λ i m. other i (λ e. m
+        (subst (λ js. IsListed js i) (sym all) (subst (λ a. IsListed (removed_ones xs ++ j ∷ []) a) (sym e) (listed_last (removed_ones xs)))))
         ∙ A.rest i (λ l. m (subst (λ js. IsListed js i) (sym all) (listed_before (removed_ones xs) i l)));
   }
     where
@@ -85,8 +87,10 @@ module _ (c : Content) (level : c.alpha ≡ one_ratio) where
   -- the step of a least ratio that is legal
   value_step : (old : TrialContent) (before v : Ratio) (x : RatioStep) (xs : List ValueStep) → IsTrialOf c old
       → IsChoiceDefined ByRatio old.p_values old.state → MayReject old x.line.hypothesis
-      → HasLeastRatioBelow (length old.p_values) old.p_values old.state x.line.hypothesis (terms x.ratio) → last_value number_zero xs ≡ number_of before → IsGreater (number_of before) (number_of x.ratio) (number_of v)
-      → IsValueStep (entangled c) (number_at old.p_values) (left_after whole old.rejected) (last_value number_zero xs) (record { hypothesis = x.line.hypothesis; value = v })
+      → HasLeastRatioBelow (length old.p_values) old.p_values old.state x.line.hypothesis (terms x.ratio) → last_value number_zero xs ≡ number_of before
+      → IsGreater (number_of before) (number_of x.ratio) (number_of v)
+      → IsValueStep (entangled c) (number_at old.p_values) (left_after whole old.rejected) (last_value number_zero xs)
+      (record { hypothesis = x.line.hypothesis; value = v })
   value_step old before v x xs T defined legal least last G =
       let j = x.line.hypothesis in
       let L = least_with c old T defined j (terms x.ratio) least in
@@ -110,7 +114,8 @@ module _ (c : Content) (level : c.alpha ≡ one_ratio) where
       let A = S.are_steps in
       let next = value_step old before v x S.steps T X.step.defined X.step.legal X.least S.last G in
       let within : j < length table = subst (λ n. j < n) (sym A.count) X.step.legal.below in
-      let fresh : ¬ IsListed (removed_ones S.steps) j = λ l. live_not_rejected c old T j X.step.legal.below X.step.legal.live (subst (λ js. IsListed js j) A.removed l) in
+      let fresh : ¬ IsListed (removed_ones S.steps) j =
+      λ l. live_not_rejected c old T j X.step.legal.below X.step.legal.live (subst (λ js. IsListed js j) A.removed l) in
       record {
         lines = S.lines ++ x.line ∷ [];
         run = run_step c ByRatio S.lines old new x.line S.run X.step;
@@ -118,7 +123,8 @@ module _ (c : Content) (level : c.alpha ≡ one_ratio) where
         are_steps = record {
           removed = map-append (λ y. y.hypothesis) S.steps (here ∷ []) ∙ ap (λ js. js ++ j ∷ []) A.removed ∙ sym X.step.next.rejected;
           values = subst (λ ps. AreValueSteps E (number_at ps) whole number_zero (S.steps ++ here ∷ [])) (sym X.step.next.p_values)
-              (values_next E (number_at old.p_values) whole number_zero S.steps here A.values (subst (λ js. IsValueStep E (number_at old.p_values) (left_after whole js) (last_value number_zero S.steps) here) (sym A.removed) next));
+              (values_next E (number_at old.p_values) whole number_zero S.steps here A.values
+              (subst (λ js. IsValueStep E (number_at old.p_values) (left_after whole js) (last_value number_zero S.steps) here) (sym A.removed) next));
           is_table =
               table_next (adjusted_at table) (adjusted_at (set table j (reached_at v))) j v
               (get_or-set_same table j (reached_at v) not_reached within)

@@ -33,7 +33,8 @@ abbrev Partial : (Answer → Type 0) → Type 0 → Option (List ℕ) → Option
 Partial Outcome rr old new = IsPut Outcome (AppendsPrefix old new) ⊎ ((rr × AppendsPrefix old new read_fault) ⊎ AppendsPrefix old new no_memory)
 
 -- the sink had a fault
-runs_failed : (Outcome : Answer → Type 0) (rr wr clean : Type 0) (old new : Option (List ℕ)) (result : ℕ) → result ≡ 7 → wr → Partial Outcome rr old new → Runs Outcome rr wr clean old new result
+runs_failed : (Outcome : Answer → Type 0) (rr wr clean : Type 0) (old new : Option (List ℕ)) (result : ℕ) → result ≡ 7 → wr
+    → Partial Outcome rr old new → Runs Outcome rr wr clean old new result
 runs_failed Outcome rr wr clean old new result e w p = record {
   done = λ h. absurd (omega arith);
   read = λ h. absurd (omega arith);
@@ -46,7 +47,8 @@ runs_failed Outcome rr wr clean old new result e w p = record {
 }
 
 -- an answer was put, or the sink had a fault
-runs_done : (Outcome : Answer → Type 0) (rr wr clean ws : Type 0) (old new : Option (List ℕ)) (result : ℕ) (a : Answer) → Outcome a → (ws → clean) → Finished wr ws old new a.text (status_code a.status) result → Runs Outcome rr wr clean old new result
+runs_done : (Outcome : Answer → Type 0) (rr wr clean ws : Type 0) (old new : Option (List ℕ)) (result : ℕ) (a : Answer) → Outcome a → (ws → clean)
+    → Finished wr ws old new a.text (status_code a.status) result → Runs Outcome rr wr clean old new result
 runs_done Outcome rr wr clean ws old new result a is r f =
     let low = status_low a.status in
     elim f [
@@ -64,7 +66,8 @@ runs_done Outcome rr wr clean ws old new result a is r f =
     ]
 
 -- a source had a fault
-runs_read : (Outcome : Answer → Type 0) (rr wr clean ws : Type 0) (old new : Option (List ℕ)) (result : ℕ) → rr → Finished wr ws old new read_fault 6 result → Runs Outcome rr wr clean old new result
+runs_read : (Outcome : Answer → Type 0) (rr wr clean ws : Type 0) (old new : Option (List ℕ)) (result : ℕ) → rr
+    → Finished wr ws old new read_fault 6 result → Runs Outcome rr wr clean old new result
 runs_read Outcome rr wr clean ws old new result cause f =
     elim f [
       | inl p ↦ let e = p.0 in record {
@@ -81,7 +84,8 @@ runs_read Outcome rr wr clean ws old new result cause f =
     ]
 
 -- memory ran out
-runs_memory : (Outcome : Answer → Type 0) (rr wr clean ws : Type 0) (old new : Option (List ℕ)) (result : ℕ) → Finished wr ws old new no_memory 8 result → Runs Outcome rr wr clean old new result
+runs_memory : (Outcome : Answer → Type 0) (rr wr clean ws : Type 0) (old new : Option (List ℕ)) (result : ℕ) → Finished wr ws old new no_memory 8 result
+    → Runs Outcome rr wr clean old new result
 runs_memory Outcome rr wr clean ws old new result f =
     elim f [
       | inl p ↦ let e = p.0 in record {
@@ -98,15 +102,22 @@ runs_memory Outcome rr wr clean ws old new result f =
     ]
 
 -- The whole clause of a top call that computes an outcome and concludes.
-pub runs_of : (s : Stage Refusal Answer) (rr wr rs ws : Type 0) (old new : Option (List ℕ)) (result : ℕ) (outcome : Result Answer Stop) → IfOk outcome s.Gives → IfErr outcome (StopsBy s.Refuses rr) → IfAnswered outcome rs → Concluded wr ws old new outcome result → Runs (IsAnswerOf s) rr wr (rs × ws) old new result
+pub runs_of : (s : Stage Refusal Answer) (rr wr rs ws : Type 0) (old new : Option (List ℕ)) (result : ℕ) (outcome : Result Answer Stop)
+    → IfOk outcome s.Gives → IfErr outcome (StopsBy s.Refuses rr) → IfAnswered outcome rs → Concluded wr ws old new outcome result
+    → Runs (IsAnswerOf s) rr wr (rs × ws) old new result
 runs_of s rr wr rs ws old new result (Ok a) given stopped r f = runs_done (IsAnswerOf s) rr wr (rs × ws) ws old new result a (inl given) (λ w. (r, w)) f
-runs_of s rr wr rs ws old new result (Err (Refused q)) given stopped r f = runs_done (IsAnswerOf s) rr wr (rs × ws) ws old new result (refused q) (inr (q, stopped, refl)) (λ w. (r, w)) f
+runs_of s rr wr rs ws old new result (Err (Refused q)) given stopped r f =
+    runs_done (IsAnswerOf s) rr wr (rs × ws) ws old new result (refused q) (inr (q, stopped, refl)) (λ w. (r, w)) f
 runs_of s rr wr rs ws old new result (Err ReadFault) given stopped r f = runs_read (IsAnswerOf s) rr wr (rs × ws) ws old new result stopped f
 runs_of s rr wr rs ws old new result (Err NoMemory) given stopped r f = runs_memory (IsAnswerOf s) rr wr (rs × ws) ws old new result f
 
 -- the status 0 comes only with an answer
-pub done_by : (rose same : Type 0) (old new : Option (List ℕ)) (outcome : Result Answer Stop) (result : ℕ) (P : Type 0) → OnOk outcome P → Concluded rose same old new outcome result → result ≡ 0 → P
+pub done_by : (rose same : Type 0) (old new : Option (List ℕ)) (outcome : Result Answer Stop) (result : ℕ) (P : Type 0) → OnOk outcome P
+    → Concluded rose same old new outcome result → result ≡ 0 → P
 done_by rose same old new (Ok a) result P p f z = p
-done_by rose same old new (Err (Refused r)) result P p f z = let low = cause_low r.cause in elim f [ inl x ↦ let e = x.0 in absurd (omega arith) | inr x ↦ let e = x.0 in absurd (omega arith) ]
-done_by rose same old new (Err ReadFault) result P p f z = elim f [ inl x ↦ let e = x.0 in absurd (omega arith) | inr x ↦ let e = x.0 in absurd (omega arith) ]
-done_by rose same old new (Err NoMemory) result P p f z = elim f [ inl x ↦ let e = x.0 in absurd (omega arith) | inr x ↦ let e = x.0 in absurd (omega arith) ]
+done_by rose same old new (Err (Refused r)) result P p f z = let low =
+    cause_low r.cause in elim f [ inl x ↦ let e = x.0 in absurd (omega arith) | inr x ↦ let e = x.0 in absurd (omega arith) ]
+done_by rose same old new (Err ReadFault) result P p f z =
+    elim f [ inl x ↦ let e = x.0 in absurd (omega arith) | inr x ↦ let e = x.0 in absurd (omega arith) ]
+done_by rose same old new (Err NoMemory) result P p f z =
+    elim f [ inl x ↦ let e = x.0 in absurd (omega arith) | inr x ↦ let e = x.0 in absurd (omega arith) ]

@@ -10,7 +10,8 @@ use Rattle.answers.specs.declared.stop.Stop.TheVariants.{Refused, ReadFault, NoM
 use Rattle.answers.specs.Halts.{HaltsBy, StopsBy, stop_of}
 
 -- a stop of a part is one of the whole
-pub stopped_by : (stop : Stop) (P Q : Refusal → Type 0) (f g : Type 0) → ((r : Refusal) → P r → Q r) → (f → g) → StopsBy P f stop → StopsBy Q g stop
+pub stopped_by : (stop : Stop) (P Q : Refusal → Type 0) (f g : Type 0) → ((r : Refusal) → P r → Q r) → (f → g) → StopsBy P f stop
+    → StopsBy Q g stop
 stopped_by (Refused r) P Q f g p q h = p r h
 stopped_by ReadFault P Q f g p q h = q h
 stopped_by NoMemory P Q f g p q h = h

@@ -1,5 +1,6 @@
 -- The records that a reader has still to give.
-use Rattle.std.proofs.Common.{◌≡◌, ◌==◌, ◌++◌, ◌∷◌, ◌∙◌, ◌<◌, ◌≤◌, ◌-◌, ◌+◌, ◌||◌, if◌then◌else◌, [], ℕ, suc, zero, List, Bool, Option, Some, None, refl, sym, ap, subst, true, false, inl, inr, length, arith, true≢false}
+use Rattle.std.proofs.Common.{◌≡◌, ◌==◌, ◌++◌, ◌∷◌, ◌∙◌, ◌<◌, ◌≤◌, ◌-◌, ◌+◌, ◌||◌, if◌then◌else◌, [], ℕ}
+use Rattle.std.proofs.Common.{suc, zero, List, Bool, Option, Some, None, refl, sym, ap, subst, true, false, inl, inr, length, arith, true≢false}
 use Rattle.std.proofs.lemmas.Bool.{cases_Bool}
 use Rattle.csv.specs.Machine.{Read, step, in_field, start_field, start_record, is_end, ends_at_end, next_record, fields_after, field_after, after_end}
 use Rattle.std.specs.Borrow.{Bor}
@@ -47,7 +48,8 @@ start_field_starts c h = elim (cases_Bool (c == 34)) [
 
 -- the first byte of a record doesn't end it
 abbrev first_step : Bool → Bool → Bool → ℕ → State × Action
-first_step ends quotes parts c = if ends then (st.StartRecord, act.Skip) else if quotes then (st.InQuoted, act.Skip) else if parts then (st.StartField, act.EndField) else if ends then (after_end term.CRLF c, act.EndRecord) else (st.InField, act.Copy)
+first_step ends quotes parts c = if ends then (st.StartRecord, act.Skip) else if quotes then (st.InQuoted, act.Skip) else if parts then
+    (st.StartField, act.EndField) else if ends then (after_end term.CRLF c, act.EndRecord) else (st.InField, act.Copy)
 
 first_test : (ends quotes parts : Bool) (c : ℕ) → is_end (first_step ends quotes parts c).1 ≡ false
 first_test true quotes parts c = refl
@@ -90,7 +92,8 @@ record Leaves (xs : List ℕ) (p : Read) : Type 0 where
   shorter : length p.2 ≤ length xs - 1
   starts : ends_at_end p.1 ≡ false
 
-leaves : (xs : List ℕ) (s : State) (fields : List (List ℕ)) (field : List ℕ) (p : Read) → next_record default_config s fields field xs ≡ Some p → Leaves xs p
+leaves : (xs : List ℕ) (s : State) (fields : List (List ℕ)) (field : List ℕ) (p : Read) → next_record default_config s fields field xs ≡ Some p
+    → Leaves xs p
 unfolding next_record
 leaves [] s fields field p e = elim (cases_Bool (ends_at_end s)) [
   | inl ends ↦
@@ -103,7 +106,8 @@ leaves (c ∷ rest) s fields field p e = elim (cases_Bool (is_end (step default_
       let same = same_some _ p (rw ends at e) in
       record { shorter = rw (sym same) (omega arith); starts = rw (sym same) (step_starts s c ends) }
   | inr goes ↦
-      let later = leaves rest (step default_config s c).0 (fields_after (step default_config s c).1 fields field) (field_after (step default_config s c).1 c field) p (rw goes at e) in
+      let later = leaves rest (step default_config s c).0 (fields_after (step default_config s c).1 fields field)
+      (field_after (step default_config s c).1 c field) p (rw goes at e) in
       record { shorter = omega (arith, later.shorter); starts = later.starts }
 ]
 
@@ -123,7 +127,8 @@ enough_by n m None h = refl
 enough_by n m (Some p) h = ap (λ rows. p.0 ∷ rows) (h p refl)
 
 -- turns that are enough give the same records
-enough : (n m : ℕ) (s : State) (xs : List ℕ) → length xs < n → length xs < m → ends_at_end s ≡ false → records_from default_config n s xs ≡ records_from default_config m s xs
+enough : (n m : ℕ) (s : State) (xs : List ℕ) → length xs < n → length xs < m → ends_at_end s ≡ false
+    → records_from default_config n s xs ≡ records_from default_config m s xs
 unfolding records_from
 enough zero m s xs small less start = absurd (omega (arith, small))
 enough (suc n) zero s xs small less start = absurd (omega (arith, less))
@@ -139,7 +144,8 @@ none_left s xs e =
     let turns : length xs + 1 ≡ suc (length xs) = omega arith in
     rw (turns, e) refl
 
-pub one_left : (s : State) (xs : List ℕ) (p : Read) → ends_at_end s ≡ false → next_record default_config s [] [] xs ≡ Some p → records_from default_config (length xs + 1) s xs ≡ p.0 ∷ records_from default_config (length p.2 + 1) p.1 p.2
+pub one_left : (s : State) (xs : List ℕ) (p : Read) → ends_at_end s ≡ false → next_record default_config s [] [] xs ≡ Some p
+    → records_from default_config (length xs + 1) s xs ≡ p.0 ∷ records_from default_config (length p.2 + 1) p.1 p.2
 unfolding records_from
 one_left s xs p start e =
     let left = leaves xs s [] [] p e in
@@ -157,14 +163,16 @@ reached_one : (s : State) (xs : List ℕ) (f : Fields) (s2 : State) (ys : List �
 unfolding Reached
 reached_one s xs f s2 ys (p, next, is, same) = (p, next, is, same.0, same.1)
 
-same_rest : (a b : Fields) (s t : State) (xs ys : List ℕ) → a ≡ b → s ≡ t → xs ≡ ys → b ∷ records_from default_config (length xs + 1) s xs ≡ a ∷ records_from default_config (length ys + 1) t ys
+same_rest : (a b : Fields) (s t : State) (xs ys : List ℕ) → a ≡ b → s ≡ t → xs ≡ ys
+    → b ∷ records_from default_config (length xs + 1) s xs ≡ a ∷ records_from default_config (length ys + 1) t ys
 same_rest a b s t xs ys e f g = rw (e, f, g) refl
 
 abbrev known : Bor (List ℕ) → Option (List ℕ)
 known s = Some s.now
 
 -- a new reader stands before all records
-pub at_start : (reader : Reader (Bor (List ℕ))) (bytes : List ℕ) → source_of known reader ≡ Some (strip_bom bytes) → reader.state ≡ st.StartRecord → reader.config ≡ default_config → reader.trim ≡ trims.None → Ready reader
+pub at_start : (reader : Reader (Bor (List ℕ))) (bytes : List ℕ) → source_of known reader ≡ Some (strip_bom bytes) → reader.state ≡ st.StartRecord
+    → reader.config ≡ default_config → reader.trim ≡ trims.None → Ready reader
     → StandsBefore reader (records_of bytes)
 unfolding records_of
 at_start reader bytes source state config trim ready = record {
@@ -178,9 +186,11 @@ at_start reader bytes source state config trim ready = record {
 }
 
 -- a read of a record takes the next one, if there is one
-pub taken : (old new : Reader (Bor (List ℕ))) (rest : List Fields) (found : Bool) (fields : Fields) → StandsBefore old rest → ReadRecord known old new found fields → new.first ≡ true → Takes found rest fields new
+pub taken : (old new : Reader (Bor (List ℕ))) (rest : List Fields) (found : Bool) (fields : Fields) → StandsBefore old rest
+    → ReadRecord known old new found fields → new.first ≡ true → Takes found rest fields new
 taken old new rest true fields stands read first =
-    let more = rows-more known old new fields default_config old.state stands.bytes stands.bytes [] stands.config stands.source (reached_none old.state stands.bytes) read in
+    let more = rows-more known old new fields default_config old.state stands.bytes stands.bytes [] stands.config stands.source
+    (reached_none old.state stands.bytes) read in
     let p = reached_one old.state stands.bytes fields new.state more.0 more.2 in
     let left = leaves stands.bytes old.state [] [] p.0 p.1 in
     let all = one_left old.state stands.bytes p.0 stands.start p.1 in (
@@ -196,4 +206,5 @@ taken old new rest true fields stands read first =
         rest_is = refl;
       },
     )
-taken old new rest false fields stands read first = stands.rest_is ∙ none_left old.state stands.bytes (rows-end known old new fields default_config stands.bytes stands.config stands.source read)
+taken old new rest false fields stands read first = stands.rest_is
+    ∙ none_left old.state stands.bytes (rows-end known old new fields default_config stands.bytes stands.config stands.source read)

@@ -1,5 +1,7 @@
 -- The draft that the sheet of a case says: it has no fault, and the content of the case.
-use Rattle.std.proofs.Common.{◌≡◌, ◌≢◌, refl, sym, ap, ap₂, subst, ◌∙◌, ℕ, zero, suc, ◌+◌, ◌*◌, ◌/◌, ◌<◌, ◌≤◌, ◌==◌, ◌&&◌, inr, List, [], ◌∷◌, length, map, get_or, Bool, true, false, Option, Some, None, is_some, true≢false, pos, arith}
+use Rattle.std.proofs.Common.{◌≡◌, ◌≢◌, refl, sym, ap, ap₂, subst, ◌∙◌, ℕ, zero, suc, ◌+◌, ◌*◌, ◌/◌, ◌<◌, ◌≤◌}
+use Rattle.std.proofs.Common.{◌==◌, ◌&&◌, inr, List, [], ◌∷◌, length, map, get_or, Bool, true, false, Option, Some, None, is_some, true≢false}
+use Rattle.std.proofs.Common.{pos, arith}
 use Rattle.std.specs.Prelude.{slice_get, if◌then◌else◌}
 use Rattle.std.specs.List.{list_all, list_any, range_with_len}
 use Rattle.std.proofs.lemmas.Bool.Decides.{nat_tests, Decides-int_eq}
@@ -61,7 +63,8 @@ turned true true true true true h = refl
 zeros_are_absent : (e : List Ratio) → is_zero_weight e ≡ true → is_absent e ≡ true
 unfolding is_absent
 zeros_are_absent e h =
-    turned (is_zero (terms (ratio_at e 0))) (is_zero (terms (ratio_at e 1))) (is_zero (terms (ratio_at e 2))) (is_zero (terms (ratio_at e 3))) (is_zero (terms (ratio_at e 4))) h
+    turned (is_zero (terms (ratio_at e 0))) (is_zero (terms (ratio_at e 1))) (is_zero (terms (ratio_at e 2))) (is_zero (terms (ratio_at e 3)))
+    (is_zero (terms (ratio_at e 4))) h
 
 five_or : (table : List (List Ratio)) (q : ℕ) → list_all five table ≡ true → length (get_or table q no_edge) ≡ 5
 five_or [] q h = refl
@@ -73,7 +76,8 @@ unfolding entry_at
 five_at m table i j h = five_or table (i * m + j) h
 
 -- an entry of zeros is no edge
-zeros : (m : ℕ) (table : List (List Ratio)) → list_all five table ≡ true → (i j : ℕ) → is_zero_weight (entry_at m table i j) ≡ true → entry_at m table i j ≡ no_edge
+zeros : (m : ℕ) (table : List (List Ratio)) → list_all five table ≡ true → (i j : ℕ) → is_zero_weight (entry_at m table i j) ≡ true
+    → entry_at m table i j ≡ no_edge
 zeros m table h i j z = absent_is (entry_at m table i j) (five_at m table i j h) (zeros_are_absent (entry_at m table i j) z)
 
 no_edge_zero : is_zero_entry no_edge ≡ true
@@ -85,7 +89,8 @@ unfolding edge_between
 nothing_between = refl
 
 no_edge_unit : (number_zero ≤ε entry_value no_edge) × (entry_value no_edge ≤ε number_one)
-no_edge_unit = subst (λ e. (number_zero ≤ε entry_value e) × (entry_value e ≤ε number_one)) nothing_between (unit_of (entry_value (edge_between [] 0 0)) (edge_unit [] 0 0 refl))
+no_edge_unit = subst (λ e. (number_zero ≤ε entry_value e) × (entry_value e ≤ε number_one)) nothing_between
+    (unit_of (entry_value (edge_between [] 0 0)) (edge_unit [] 0 0 refl))
 
 -- ---- the edges of a table are edges of its draft, or 0
 
@@ -98,12 +103,14 @@ listed m p zero q (x ∷ xs) s l a =
     (record { place = 0; there = ap (λ t. Some (canonical.edge_at m t x)) at })
 listed m p (suc n) q (x ∷ xs) s l a = by (is_absent x) (listed m (p + 1) n q xs (omega arith) (omega arith) a)
   where
-    by : (b : Bool) → IsListed (edges_from m (p + 1) xs) (canonical.edge_at m q (get_or xs n no_edge)) → IsListed (before b (canonical.edge_at m p x) (edges_from m (p + 1) xs)) (canonical.edge_at m q (get_or xs n no_edge))
+    by : (b : Bool) → IsListed (edges_from m (p + 1) xs) (canonical.edge_at m q (get_or xs n no_edge))
+        → IsListed (before b (canonical.edge_at m p x) (edges_from m (p + 1) xs)) (canonical.edge_at m q (get_or xs n no_edge))
     by true r = r
     by false r = record { place = suc r.place; there = r.there }
 
 -- what holds of the edges of a table that aren't 0, and of 0 at any ends, holds of each entry at its ends
-each_entry : (P : DraftEdge → Type 0) (m : ℕ) (table : List (List Ratio)) → length table ≡ m * m → list_all five table ≡ true → Each (edges_from m 0 table) P → ((i j : ℕ) → P (edge i j no_edge))
+each_entry : (P : DraftEdge → Type 0) (m : ℕ) (table : List (List Ratio)) → length table ≡ m * m → list_all five table ≡ true
+    → Each (edges_from m 0 table) P → ((i j : ℕ) → P (edge i j no_edge))
     → (i j : ℕ) → i < m → j < m → P (edge i j (entry_at m table i j))
 unfolding entry_at
 each_entry P m table size fives each none i j l g = by (is_absent (get_or table (i * m + j) no_edge)) refl
@@ -124,9 +131,11 @@ each_entry P m table size fives each none i j l g = by (is_absent (get_or table 
 
 places_back : (xs : List Ratio) → map (ratio_at xs) (range_with_len 0 (length xs)) ≡ xs
 unfolding ratio_at
-places_back xs = same_lists (map (λ i. get_or xs i zero_ratio) (range_with_len 0 (length xs))) xs (length-map-range_with_len (λ i. get_or xs i zero_ratio) 0 (length xs)) at
+places_back xs = same_lists (map (λ i. get_or xs i zero_ratio) (range_with_len 0 (length xs))) xs
+    (length-map-range_with_len (λ i. get_or xs i zero_ratio) 0 (length xs)) at
   where
-    at : (k : ℕ) (d : Ratio) → k < length (map (λ i. get_or xs i zero_ratio) (range_with_len 0 (length xs))) → get_or (map (λ i. get_or xs i zero_ratio) (range_with_len 0 (length xs))) k d ≡ get_or xs k d
+    at : (k : ℕ) (d : Ratio) → k < length (map (λ i. get_or xs i zero_ratio) (range_with_len 0 (length xs)))
+        → get_or (map (λ i. get_or xs i zero_ratio) (range_with_len 0 (length xs))) k d ≡ get_or xs k d
     at k d l =
         let n : k < length xs = omega (arith, length-map-range_with_len (λ i. get_or xs i zero_ratio) 0 (length xs)) in
         get_or-map-range_with_len (λ i. get_or xs i zero_ratio) 0 (length xs) k k d n (omega arith) ∙ get_or_default xs k zero_ratio d n
@@ -168,7 +177,8 @@ module _ (names : List (List ℕ)) (alpha : Ratio) (k : Component) (inputs : Inp
   abbrev pub sheet_draft : Draft
   sheet_draft = draft_of alpha names rows
 
-  module _ (v : IsValidContent content_with) (h : has_coefficients (k ∷ []) ≡ true) (share : is_one (terms k.share) ≡ true) (unstaged : are_staged inputs ≡ false) where
+  module _ (v : IsValidContent content_with) (h : has_coefficients (k ∷ []) ≡ true) (share : is_one (terms k.share) ≡ true)
+      (unstaged : are_staged inputs ≡ false) where
     faultless : case_fault (canonical.draft_of content_with) ≡ None
     faultless = canonical_faultless content_with v h
 
@@ -207,7 +217,8 @@ module _ (names : List (List ℕ)) (alpha : Ratio) (k : Component) (inputs : Inp
     component = valid.components 0 (untabled m k) refl
 
     of_each : (P : DraftEdge → Type 0) → Each (edges_from m 0 k.edges) P → ((i j : ℕ) → P (edge i j no_edge)) → Each (table_edges 0 rows) P
-    of_each P each none = edges_each m (ratio_at k.weights) (p_at inputs) (entry_at m k.edges) P (λ i j l g f. each_entry P m k.edges size fives each none i j l g)
+    of_each P each none = edges_each m (ratio_at k.weights) (p_at inputs) (entry_at m k.edges) P
+        (λ i j l g f. each_entry P m k.edges size fives each none i j l g)
 
     component_valid : IsValidComponent m (component_of rows)
     component_valid = record {
@@ -221,7 +232,8 @@ module _ (names : List (List ℕ)) (alpha : Ratio) (k : Component) (inputs : Inp
       no_loop = of_each (λ e. e.from ≡ e.to → is_zero_entry e.entry ≡ true) component.no_loop (λ i j q. no_edge_zero);
       once = edges_once m (ratio_at k.weights) (p_at inputs) (entry_at m k.edges);
       unit = of_each (λ e. (number_zero ≤ε entry_value e.entry) × (entry_value e.entry ≤ε number_one)) component.unit (λ i j. no_edge_unit);
-      rows = subst (λ t. (i : ℕ) → i < m → sum_below number_field m (λ j. entry_value (entry_at m t i j)) ≤ε number_one) (table_back m some k.edges size fives ∙ sym edges_again) component.rows;
+      rows = subst (λ t. (i : ℕ) → i < m → sum_below number_field m (λ j. entry_value (entry_at m t i j)) ≤ε number_one)
+          (table_back m some k.edges size fives ∙ sym edges_again) component.rows;
     }
 
     sheet_valid : AreValidPlaces m (map (λ row. row.p) rows) → IsValidDraft sheet_draft
@@ -231,7 +243,8 @@ module _ (names : List (List ℕ)) (alpha : Ratio) (k : Component) (inputs : Inp
       few = omega arith;
       short_level = valid.short_level;
       level = valid.level;
-      components = each_cons (IsValidComponent m) (component_of rows) [] component_valid (λ i x e. absurd (let q : Path (Option DraftComponent) None (Some x) = e in cc));
+      components = each_cons (IsValidComponent m) (component_of rows) [] component_valid
+          (λ i x e. absurd (let q : Path (Option DraftComponent) None (Some x) = e in cc));
       shares = subst (λ s. SumsTo (s ∷ []) number_one) same_share valid.shares;
       p_values = places;
       unmixed = λ s e. absurd (let q : Path (Option _) None (Some s) = e in cc);
@@ -241,9 +254,11 @@ module _ (names : List (List ℕ)) (alpha : Ratio) (k : Component) (inputs : Inp
     sheet_written : HasWrittenSums sheet_draft
     sheet_written = record {
       shares = subst (λ s. CanSum (s ∷ [])) same_share sums.shares;
-      weights = each_cons (λ k. CanSum k.weights) (component_of rows) [] (subst CanSum (sym weights_again) (sums.weights 0 (untabled m k) refl)) (λ i x e. absurd (let q : Path (Option DraftComponent) None (Some x) = e in cc));
+      weights = each_cons (λ k. CanSum k.weights) (component_of rows) [] (subst CanSum (sym weights_again) (sums.weights 0 (untabled m k) refl))
+          (λ i x e. absurd (let q : Path (Option DraftComponent) None (Some x) = e in cc));
       rows = each_cons (λ k. (i : ℕ) → i < m → written_row m (entry_at m (table_of m k.edges) i) ≢ None) (component_of rows) []
-          (subst (λ t. (i : ℕ) → i < m → written_row m (entry_at m t i) ≢ None) (table_back m some k.edges size fives ∙ sym edges_again) (sums.rows 0 (untabled m k) refl))
+          (subst (λ t. (i : ℕ) → i < m → written_row m (entry_at m t i) ≢ None) (table_back m some k.edges size fives ∙ sym edges_again)
+          (sums.rows 0 (untabled m k) refl))
           (λ i x e. absurd (let q : Path (Option DraftComponent) None (Some x) = e in cc));
       spends = λ s e. absurd (let q : Path (Option _) None (Some s) = e in cc);
     }
@@ -271,23 +286,27 @@ no_p_value : (p m : ℕ) → list_any is_some (map no_value (range_with_len p m)
 no_p_value p zero = refl
 no_p_value p (suc m) = no_p_value (p + 1) m
 
-single_places : (names : List (List ℕ)) (alpha : Ratio) (k : Component) (ps : List Ratio) → length ps ≡ length names → map (λ row. row.p) (rows names alpha k (Single ps)) ≡ map Some ps
+single_places : (names : List (List ℕ)) (alpha : Ratio) (k : Component) (ps : List Ratio) → length ps ≡ length names
+    → map (λ row. row.p) (rows names alpha k (Single ps)) ≡ map Some ps
 single_places names alpha k ps count =
     map-map (λ row. row.p) (said_at names alpha k (Single ps)) (range_with_len 0 (length names))
     ∙ sym (map-map Some (ratio_at ps) (range_with_len 0 (length names))) ∙ ap (map Some) (all_places ps (length names) count)
 
 module _ (names : List (List ℕ)) (alpha : Ratio) (k : Component) where
   -- the p-values of the rows are places of the case
-  places_valid : (inputs : Inputs) (v : IsValidContent (content_with names alpha k inputs)) → has_coefficients (k ∷ []) ≡ true → is_one (terms k.share) ≡ true → are_staged inputs ≡ false
+  places_valid : (inputs : Inputs) (v : IsValidContent (content_with names alpha k inputs)) → has_coefficients (k ∷ []) ≡ true
+      → is_one (terms k.share) ≡ true → are_staged inputs ≡ false
       → AreValidPlaces (length names) (map (λ row. row.p) (rows names alpha k inputs))
-  places_valid Bare v h s u = subst (AreValidPlaces (length names)) (sym (map-map (λ row. row.p) (said_at names alpha k Bare) (range_with_len 0 (length names)))) (no_p_values (length names))
+  places_valid Bare v h s u = subst (AreValidPlaces (length names))
+      (sym (map-map (λ row. row.p) (said_at names alpha k Bare) (range_with_len 0 (length names)))) (no_p_values (length names))
   places_valid (Single ps) v h s u =
       let ps_given : ArePValues (length names) ps = (shaped names alpha k (Single ps) v h s u).p_values in
       subst (AreValidPlaces (length names)) (sym (single_places names alpha k ps ps_given.count)) (valid names alpha k (Single ps) v h s u).p_values
   places_valid (Staged t) v h s u = absurd (true≢false u)
 
   -- they are the p-values of the case
-  inputs_again : (inputs : Inputs) (v : IsValidContent (content_with names alpha k inputs)) → has_coefficients (k ∷ []) ≡ true → is_one (terms k.share) ≡ true → are_staged inputs ≡ false
+  inputs_again : (inputs : Inputs) (v : IsValidContent (content_with names alpha k inputs)) → has_coefficients (k ∷ []) ≡ true
+      → is_one (terms k.share) ≡ true → are_staged inputs ≡ false
       → inputs_of None (map (λ row. row.p) (rows names alpha k inputs)) ≡ inputs
   unfolding content_of
   inputs_again Bare v h s u =
@@ -300,16 +319,19 @@ module _ (names : List (List ℕ)) (alpha : Ratio) (k : Component) where
       let tabled : ((length k.edges == length names * length names) && true) ≡ true = grind (arith, nat_tests) in
       let some : 0 < length names = shape.some in
       let values : 0 < length ps = omega (arith, ps_given.count) in
-      ap (inputs_of None) (single_places names alpha k ps ps_given.count) ∙ ap (λ (c : Content). c.inputs) (content_back (content_with names alpha k (Single ps)) some tabled h values)
+      ap (inputs_of None) (single_places names alpha k ps ps_given.count)
+      ∙ ap (λ (c : Content). c.inputs) (content_back (content_with names alpha k (Single ps)) some tabled h values)
   inputs_again (Staged t) v h s u = absurd (true≢false u)
 
   -- the draft has no fault
-  pub sheet_faultless : (inputs : Inputs) (v : IsValidContent (content_with names alpha k inputs)) → has_coefficients (k ∷ []) ≡ true → is_one (terms k.share) ≡ true → are_staged inputs ≡ false
+  pub sheet_faultless : (inputs : Inputs) (v : IsValidContent (content_with names alpha k inputs)) → has_coefficients (k ∷ []) ≡ true
+      → is_one (terms k.share) ≡ true → are_staged inputs ≡ false
       → case_fault (sheet_draft names alpha k inputs) ≡ None
   sheet_faultless inputs v h s u = faultless_with names alpha k inputs v h s u (places_valid inputs v h s u)
 
   -- it has the content of the case
-  pub sheet_content : (inputs : Inputs) (v : IsValidContent (content_with names alpha k inputs)) → has_coefficients (k ∷ []) ≡ true → is_one (terms k.share) ≡ true → are_staged inputs ≡ false
+  pub sheet_content : (inputs : Inputs) (v : IsValidContent (content_with names alpha k inputs)) → has_coefficients (k ∷ []) ≡ true
+      → is_one (terms k.share) ≡ true → are_staged inputs ≡ false
       → content_of (sheet_draft names alpha k inputs) ≡ content_with names alpha k inputs
   sheet_content inputs v h s u = content_by names alpha k inputs v h s u (inputs_again inputs v h s u)
 
@@ -321,11 +343,13 @@ pub record HasShortParts (names : List (List ℕ)) (k : Component) (inputs : Inp
   pub five : (i j : ℕ) → length (entry_at (length names) k.edges i j) ≡ 5
   pub edges : (i j : ℕ) → list_all is_short (entry_at (length names) k.edges i j) ≡ true
 
-short_or : (m p n : ℕ) (table : List (List Ratio)) → list_all five table ≡ true → Each (edges_from m p table) (λ e. Each e.entry (λ x. is_short x ≡ true)) → list_all is_short (get_or table n no_edge) ≡ true
+short_or : (m p n : ℕ) (table : List (List Ratio)) → list_all five table ≡ true
+    → Each (edges_from m p table) (λ e. Each e.entry (λ x. is_short x ≡ true)) → list_all is_short (get_or table n no_edge) ≡ true
 short_or m p n [] all_five h = refl
 short_or m p zero (x ∷ xs) all_five h = by (is_absent x) refl h
   where
-    by : (b : Bool) → is_absent x ≡ b → Each (before b (canonical.edge_at m p x) (edges_from m (p + 1) xs)) (λ e. Each e.entry (λ x. is_short x ≡ true)) → list_all is_short x ≡ true
+    by : (b : Bool) → is_absent x ≡ b → Each (before b (canonical.edge_at m p x) (edges_from m (p + 1) xs))
+        (λ e. Each e.entry (λ x. is_short x ≡ true)) → list_all is_short x ≡ true
     by true t g =
         let l : length x ≡ 5 = grind (arith, nat_tests, (both (five x) (list_all five xs) all_five).left) in
         ap (list_all is_short) (absent_is x l t)
@@ -333,11 +357,13 @@ short_or m p zero (x ∷ xs) all_five h = by (is_absent x) refl h
 short_or m p (suc n) (x ∷ xs) all_five h = by (is_absent x) h (λ g. short_or m (p + 1) n xs (both (five x) (list_all five xs) all_five).right g)
   where
     by : (b : Bool) → Each (before b (canonical.edge_at m p x) (edges_from m (p + 1) xs)) (λ e. Each e.entry (λ x. is_short x ≡ true))
-        → (Each (edges_from m (p + 1) xs) (λ e. Each e.entry (λ x. is_short x ≡ true)) → list_all is_short (get_or xs n no_edge) ≡ true) → list_all is_short (get_or xs n no_edge) ≡ true
+        → (Each (edges_from m (p + 1) xs) (λ e. Each e.entry (λ x. is_short x ≡ true)) → list_all is_short (get_or xs n no_edge) ≡ true)
+        → list_all is_short (get_or xs n no_edge) ≡ true
     by true g rest = rest g
     by false g rest = rest (λ i y e. g (suc i) y e)
 
-short_at : (m : ℕ) (table : List (List Ratio)) → list_all five table ≡ true → Each (edges_from m 0 table) (λ e. Each e.entry (λ x. is_short x ≡ true)) → (i j : ℕ) → list_all is_short (entry_at m table i j) ≡ true
+short_at : (m : ℕ) (table : List (List Ratio)) → list_all five table ≡ true
+    → Each (edges_from m 0 table) (λ e. Each e.entry (λ x. is_short x ≡ true)) → (i j : ℕ) → list_all is_short (entry_at m table i j) ≡ true
 unfolding entry_at
 short_at m table fives h i j = short_or m 0 (i * m + j) table fives h
 
@@ -345,7 +371,8 @@ weight_short : (xs : List Ratio) (i : ℕ) → i < length xs → Each xs (λ w. 
 unfolding ratio_at
 weight_short xs i l h = h i (get_or xs i zero_ratio) (slice_get-get_or xs i zero_ratio l)
 
-pub short_parts : (names : List (List ℕ)) (alpha : Ratio) (k : Component) (inputs : Inputs) → IsValidContent (content_with names alpha k inputs) → has_coefficients (k ∷ []) ≡ true → is_one (terms k.share) ≡ true → are_staged inputs ≡ false
+pub short_parts : (names : List (List ℕ)) (alpha : Ratio) (k : Component) (inputs : Inputs) → IsValidContent (content_with names alpha k inputs)
+    → has_coefficients (k ∷ []) ≡ true → is_one (terms k.share) ≡ true → are_staged inputs ≡ false
     → HasShortParts names k inputs
 short_parts names alpha k inputs v h s u =
     let draft = valid names alpha k inputs v h s u in

@@ -1,5 +1,7 @@
 -- The edges that the rows of a sheet say, each at its two ends.
-use Rattle.std.proofs.Common.{◌≡◌, refl, sym, ap, ap₂, subst, ◌∙◌, ℕ, zero, suc, ◌+◌, ◌*◌, ◌/◌, ◌%◌, ◌<◌, ◌≤◌, ◌==◌, ◌&&◌, not, inl, inr, List, [], ◌∷◌, ◌++◌, append_assoc, length, map, get_or, Bool, true, false, Option, Some, None, arith}
+use Rattle.std.proofs.Common.{◌≡◌, refl, sym, ap, ap₂, subst, ◌∙◌, ℕ, zero, suc, ◌+◌, ◌*◌, ◌/◌, ◌%◌, ◌<◌, ◌≤◌}
+use Rattle.std.proofs.Common.{◌==◌, ◌&&◌, not, inl, inr, List, [], ◌∷◌, ◌++◌, append_assoc, length, map, get_or, Bool, true, false, Option}
+use Rattle.std.proofs.Common.{Some, None, arith}
 use Rattle.std.specs.Prelude.{if◌then◌else◌}
 use Rattle.std.specs.List.{list_all, range_with_len}
 use Rattle.std.proofs.lemmas.Bool.{cases_Bool}
@@ -80,13 +82,15 @@ none_before : (i j from to : ℕ) (entries : List (List Ratio)) → j < to → h
 none_before i j from to [] l = refl
 none_before i j from to (e ∷ es) l =
     let next : j < to + 1 = omega arith in
-    none_append i j (edge_at from to e) (row_edges from (to + 1) es) (none_at i j from to e (λ q. let same : to ≡ j = q.1 in omega arith)) (none_before i j from (to + 1) es next)
+    none_append i j (edge_at from to e) (row_edges from (to + 1) es) (none_at i j from to e (λ q. let same : to ≡ j = q.1 in omega arith))
+    (none_before i j from (to + 1) es next)
 
 none_above : (i j from : ℕ) (rows : List RowSaid) → i < from → has_none i j (table_edges from rows) ≡ true
 none_above i j from [] l = refl
 none_above i j from (row ∷ rows) l =
     let next : i < from + 1 = omega arith in
-    none_append i j (row_edges from 0 row.entries) (table_edges (from + 1) rows) (none_in_row i j from 0 row.entries (λ q. omega arith)) (none_above i j (from + 1) rows next)
+    none_append i j (row_edges from 0 row.entries) (table_edges (from + 1) rows) (none_in_row i j from 0 row.entries (λ q. omega arith))
+    (none_above i j (from + 1) rows next)
 
 -- ---- the entry between two ends
 
@@ -127,7 +131,8 @@ module _ (m : ℕ) (weight : ℕ → Ratio) (p : ℕ → Option Ratio) (entry : 
   table_from from n = table_edges from (map said (range_with_len from n))
 
   -- what holds of each edge that isn't left out
-  row_each : (P : DraftEdge → Type 0) (from to n : ℕ) → ((j : ℕ) → to ≤ j → j < to + n → is_left_out from j (entry from j) ≡ false → P (edge from j (entry from j)))
+  row_each : (P : DraftEdge → Type 0) (from to n : ℕ)
+      → ((j : ℕ) → to ≤ j → j < to + n → is_left_out from j (entry from j) ≡ false → P (edge from j (entry from j)))
       → Each (row_from from to n) P
   row_each P from to zero h = λ i x e. absurd (let none : Path (Option DraftEdge) None (Some x) = e in cc)
   row_each P from to (suc n) h =
@@ -136,16 +141,19 @@ module _ (m : ℕ) (weight : ℕ → Ratio) (p : ℕ → Option Ratio) (entry : 
     where
       by : (b : Bool) → is_left_out from to (entry from to) ≡ b → Each (if b then [] else edge from to (entry from to) ∷ []) P
       by true t = λ i x e. absurd (let none : Path (Option DraftEdge) None (Some x) = e in cc)
-      by false t = each_cons P (edge from to (entry from to)) [] (h to (omega arith) (omega arith) t) (λ i x e. absurd (let none : Path (Option DraftEdge) None (Some x) = e in cc))
+      by false t = each_cons P (edge from to (entry from to)) [] (h to (omega arith) (omega arith) t)
+          (λ i x e. absurd (let none : Path (Option DraftEdge) None (Some x) = e in cc))
 
-  table_each : (P : DraftEdge → Type 0) (from n : ℕ) → ((i j : ℕ) → from ≤ i → i < from + n → j < m → is_left_out i j (entry i j) ≡ false → P (edge i j (entry i j)))
+  table_each : (P : DraftEdge → Type 0) (from n : ℕ)
+      → ((i j : ℕ) → from ≤ i → i < from + n → j < m → is_left_out i j (entry i j) ≡ false → P (edge i j (entry i j)))
       → Each (table_from from n) P
   table_each P from zero h = λ i x e. absurd (let none : Path (Option DraftEdge) None (Some x) = e in cc)
   table_each P from (suc n) h =
       each_append P (row_from from 0 m) (table_from (from + 1) n) (row_each P from 0 m (λ j l k f. h from j (omega arith) (omega arith) (omega arith) f))
       (table_each P (from + 1) n (λ i j l k g f. h i j (omega arith) (omega arith) g f))
 
-  pub edges_each : (P : DraftEdge → Type 0) → ((i j : ℕ) → i < m → j < m → is_left_out i j (entry i j) ≡ false → P (edge i j (entry i j))) → Each (table_edges 0 rows_said) P
+  pub edges_each : (P : DraftEdge → Type 0) → ((i j : ℕ) → i < m → j < m → is_left_out i j (entry i j) ≡ false → P (edge i j (entry i j)))
+      → Each (table_edges 0 rows_said) P
   edges_each P h = table_each P 0 m (λ i j l k g f. h i j (omega arith) g f)
 
   -- no two of them have the same ends
@@ -153,7 +161,8 @@ module _ (m : ℕ) (weight : ℕ → Ratio) (p : ℕ → Option Ratio) (entry : 
   row_once from to zero = λ i j x y l e f. absurd (let none : Path (Option DraftEdge) None (Some x) = e in cc)
   row_once from to (suc n) = by (is_left_out from to (entry from to)) (row_once from (to + 1) n)
     where
-      by : (b : Bool) → EachTwo (row_from from (to + 1) n) AreApart → EachTwo ((if b then [] else edge from to (entry from to) ∷ []) ++ row_from from (to + 1) n) AreApart
+      by : (b : Bool) → EachTwo (row_from from (to + 1) n) AreApart
+          → EachTwo ((if b then [] else edge from to (entry from to) ∷ []) ++ row_from from (to + 1) n) AreApart
       by true once = once
       by false once =
           two_cons AreApart (edge from to (entry from to)) (row_from from (to + 1) n)
@@ -171,24 +180,29 @@ module _ (m : ℕ) (weight : ℕ → Ratio) (p : ℕ → Option Ratio) (entry : 
 
   -- ---- the table of the edges, where an entry of zeros is no edge
   module _ (zeros : (i j : ℕ) → is_zero_weight (entry i j) ≡ true → entry i j ≡ no_edge) where
-    here : (from to : ℕ) (rest : List DraftEdge) → has_none from to rest ≡ true → edge_between (edge_at from to (entry from to) ++ rest) from to ≡ entry from to
+    here : (from to : ℕ) (rest : List DraftEdge) → has_none from to rest ≡ true
+        → edge_between (edge_at from to (entry from to) ++ rest) from to ≡ entry from to
     here from to rest h = by (is_left_out from to (entry from to)) refl
       where
-        by : (b : Bool) → is_left_out from to (entry from to) ≡ b → edge_between ((if b then [] else edge from to (entry from to) ∷ []) ++ rest) from to ≡ entry from to
+        by : (b : Bool) → is_left_out from to (entry from to) ≡ b
+            → edge_between ((if b then [] else edge from to (entry from to) ∷ []) ++ rest) from to ≡ entry from to
         by true t = absent from to rest h ∙ sym (zeros from to (both (from == to) (is_zero_weight (entry from to)) t).right)
         by false t = found_first from to (entry from to) rest
 
-    row_found : (from to n k j : ℕ) (ys : List DraftEdge) → to + k ≡ j → k < n → has_none from j ys ≡ true → edge_between (row_from from to n ++ ys) from j ≡ entry from j
+    row_found : (from to n k j : ℕ) (ys : List DraftEdge) → to + k ≡ j → k < n → has_none from j ys ≡ true
+        → edge_between (row_from from to n ++ ys) from j ≡ entry from j
     row_found from to zero k j ys s l h = absurd (omega arith)
     row_found from to (suc n) zero j ys s l h =
         let at : to ≡ j = omega arith in
         let next : j < to + 1 = omega arith in
         let none = none_append from j (row_from from (to + 1) n) ys (none_before from j from (to + 1) (map (entry from) (range_with_len (to + 1) n)) next) h in
         ap (λ es. edge_between es from j) (append_assoc (edge_at from to (entry from to)) (row_from from (to + 1) n) ys)
-        ∙ subst (λ t. edge_between (edge_at from t (entry from t) ++ (row_from from (to + 1) n ++ ys)) from j ≡ entry from j) (sym at) (here from j (row_from from (to + 1) n ++ ys) none)
+        ∙ subst (λ t. edge_between (edge_at from t (entry from t) ++ (row_from from (to + 1) n ++ ys)) from j ≡ entry from j) (sym at)
+        (here from j (row_from from (to + 1) n ++ ys) none)
     row_found from to (suc n) (suc k) j ys s l h =
         ap (λ es. edge_between es from j) (append_assoc (edge_at from to (entry from to)) (row_from from (to + 1) n) ys)
-        ∙ passed from j (edge_at from to (entry from to)) (row_from from (to + 1) n ++ ys) (none_at from j from to (entry from to) (λ q. let same : to ≡ j = q.1 in omega arith))
+        ∙ passed from j (edge_at from to (entry from to)) (row_from from (to + 1) n ++ ys)
+        (none_at from j from to (entry from to) (λ q. let same : to ≡ j = q.1 in omega arith))
         ∙ row_found from (to + 1) n k j ys (omega arith) (omega arith) h
 
     table_found : (from n k i j : ℕ) → from + k ≡ i → k < n → j < m → edge_between (table_from from n) i j ≡ entry i j
@@ -211,10 +225,12 @@ between m weight p table k = edge_between (table_edges 0 (rows_said m weight p (
 
 -- the table of the edges that the rows of a table say is that table
 pub table_again : (m : ℕ) (weight : ℕ → Ratio) (p : ℕ → Option Ratio) (table : List (List Ratio)) → 0 < m → length table ≡ m * m
-    → ((i j : ℕ) → is_zero_weight (entry_at m table i j) ≡ true → entry_at m table i j ≡ no_edge) → table_of m (table_edges 0 (rows_said m weight p (entry_at m table))) ≡ table
+    → ((i j : ℕ) → is_zero_weight (entry_at m table i j) ≡ true → entry_at m table i j ≡ no_edge)
+    → table_of m (table_edges 0 (rows_said m weight p (entry_at m table))) ≡ table
 unfolding table_of entry_at
 table_again m weight p table some size zeros =
-    same_lists (map (between m weight p table) (range_with_len 0 (m * m))) table (length-map-range_with_len (between m weight p table) 0 (m * m) ∙ sym size) at
+    same_lists (map (between m weight p table) (range_with_len 0 (m * m))) table
+    (length-map-range_with_len (between m weight p table) 0 (m * m) ∙ sym size) at
   where
     row_below : (k : ℕ) → k < m * m → k / m < m
     row_below k h = grind arith
@@ -225,7 +241,8 @@ table_again m weight p table some size zeros =
     place : (k : ℕ) → k / m * m + k % m ≡ k
     place k = omega arith
 
-    at : (k : ℕ) (d : List Ratio) → k < length (map (between m weight p table) (range_with_len 0 (m * m))) → get_or (map (between m weight p table) (range_with_len 0 (m * m))) k d ≡ get_or table k d
+    at : (k : ℕ) (d : List Ratio) → k < length (map (between m weight p table) (range_with_len 0 (m * m)))
+        → get_or (map (between m weight p table) (range_with_len 0 (m * m))) k d ≡ get_or table k d
     at k d l =
         let n : k < m * m = omega (arith, length-map-range_with_len (between m weight p table) 0 (m * m)) in
         let w : k < length table = omega (arith, size) in

@@ -1,5 +1,7 @@
 -- The records of a sheet are read back from its text, and say its draft.
-use Rattle.std.proofs.Common.{◌≡◌, ◌≢◌, refl, sym, ap, ap₂, subst, ◌∙◌, ℕ, zero, suc, ◌+◌, ◌-◌, ◌*◌, ◌<◌, ◌≤◌, ◌==◌, ◌||◌, ◌&&◌, ◌⊎◌, inl, inr, List, [], ◌∷◌, ◌++◌, length, map, take, drop, get_or, Bool, true, false, Option, Some, None, true≢false, arith}
+use Rattle.std.proofs.Common.{◌≡◌, ◌≢◌, refl, sym, ap, ap₂, subst, ◌∙◌, ℕ, zero, suc, ◌+◌, ◌-◌, ◌*◌, ◌<◌, ◌≤◌}
+use Rattle.std.proofs.Common.{◌==◌, ◌||◌, ◌&&◌, ◌⊎◌, inl, inr, List, [], ◌∷◌, ◌++◌, length, map, take, drop, get_or, Bool, true}
+use Rattle.std.proofs.Common.{false, Option, Some, None, true≢false, arith}
 use Rattle.std.specs.Prelude.{slice_get, codes}
 use Rattle.std.specs.List.{AllByRecursion, AllZip, flat_map, list_all, prefix_len, suffix_len, range_with_len}
 use Rattle.std.specs.Str.{bytes_eq}
@@ -75,13 +77,15 @@ record Begins (b : ℕ) (text : List ℕ) : Type 0 where
 header_begins : (names : List (List ℕ)) (rows : List Fields) → Begins 104 (flat_map (row_text default_writer) (header_fields names ∷ rows))
 header_begins names rows = record { rest = _; is = refl }
 
-pub sheet_back : (names : List (List ℕ)) (rows : List Fields) → HaveFields rows → records_of (text_of (header_fields names ∷ rows)) ≡ header_fields names ∷ rows
+pub sheet_back : (names : List (List ℕ)) (rows : List Fields) → HaveFields rows
+    → records_of (text_of (header_fields names ∷ rows)) ≡ header_fields names ∷ rows
 unfolding records_of text_of
 sheet_back names rows h =
     let text = flat_map (row_text default_writer) (header_fields names ∷ rows) in
     let begins = header_begins names rows in
     ap (records default_config) (ap strip_bom begins.is ∙ no_mark 104 begins.rest refl ∙ sym begins.is)
-    ∙ rows_back (header_fields names ∷ rows) ((λ e. let q : Path (List (List ℕ)) (codes "hypothesis" ∷ codes "weight" ∷ codes "p" ∷ names) [] = e in cc), h)
+    ∙ rows_back (header_fields names ∷ rows)
+    ((λ e. let q : Path (List (List ℕ)) (codes "hypothesis" ∷ codes "weight" ∷ codes "p" ∷ names) [] = e in cc), h)
 
 -- ---- no blanks stand around a field
 
@@ -105,7 +109,8 @@ front_plain (b ∷ field) h =
 
 back_plain : (field : List ℕ) → AllByRecursion IsPlain field → suffix_len is_blank field ≡ 0
 back_plain field h =
-    suffix_len_is is_blank field (length field) 0 (omega arith) (λ k l g. absurd (omega arith)) (λ some. plain_at field (length field - 1) 0 h (omega arith)) ∙ omega arith
+    suffix_len_is is_blank field (length field) 0 (omega arith) (λ k l g. absurd (omega arith)) (λ some. plain_at field (length field - 1) 0 h (omega arith))
+    ∙ omega arith
 
 pub plain_bare : (field : List ℕ) → AllByRecursion IsPlain field → bare field ≡ field
 unfolding bare
@@ -135,7 +140,8 @@ p_bare Bare i = plain_bare [] tt
 p_bare (Single ps) i = word_bare (number_word (ratio_at ps i)) (number_is_word (ratio_at ps i))
 p_bare (Staged s) i = plain_bare [] tt
 
-edges_bare : (entry : ℕ → List Ratio) (p n : ℕ) → map bare (map (λ j. entry_text (entry j)) (range_with_len p n)) ≡ map (λ j. entry_text (entry j)) (range_with_len p n)
+edges_bare : (entry : ℕ → List Ratio) (p n : ℕ) → map bare (map (λ j. entry_text (entry j)) (range_with_len p n)) ≡ map (λ j. entry_text (entry j))
+    (range_with_len p n)
 edges_bare entry p zero = refl
 edges_bare entry p (suc n) = ap₂ ◌∷◌ (word_bare (entry_text (entry p)) (entry_is_word (entry p))) (edges_bare entry (p + 1) n)
 
@@ -162,7 +168,8 @@ number_given x =
 pub p_said : (x : Ratio) → IsNumeralOf (number_word x) (terms x) → IsPlace (number_word x) (Some x)
 p_said x h = (number_given x, h)
 
-entries_said : (entry : ℕ → List Ratio) (p n : ℕ) → ((j : ℕ) → IsEntryText (entry_text (entry j)) (entry j)) → AllZip IsEntryText (map (λ j. entry_text (entry j)) (range_with_len p n)) (map entry (range_with_len p n))
+entries_said : (entry : ℕ → List Ratio) (p n : ℕ) → ((j : ℕ) → IsEntryText (entry_text (entry j)) (entry j))
+    → AllZip IsEntryText (map (λ j. entry_text (entry j)) (range_with_len p n)) (map entry (range_with_len p n))
 entries_said entry p zero h = tt
 entries_said entry p (suc n) h = (h p, entries_said entry (p + 1) n h)
 
@@ -186,7 +193,8 @@ module _ (names : List (List ℕ)) (alpha : Ratio) (k : Component) (inputs : Inp
       ap₂ ◌∷◌ (word_bare (name_at names i) (h.names_are i (name_at names i) (slice_get-get_or names i [] l)))
       (ap₂ ◌∷◌ (word_bare (number_word weight) (number_is_word weight)) (ap₂ ◌∷◌ (p_bare inputs i) (edges_bare (entry_at m k.edges i) 0 m)))
 
-  row_said : IsSheetSaid → (i : ℕ) → i < m → IsRow (length (header_fields names)) (name_at names i) (row_fields (content_with names alpha k inputs) i) (said_at names alpha k inputs i)
+  row_said : IsSheetSaid → (i : ℕ) → i < m → IsRow (length (header_fields names)) (name_at names i) (row_fields (content_with names alpha k inputs) i)
+      (said_at names alpha k inputs i)
   row_said h i l = record {
     as_wide = ap (λ n. suc (suc (suc n))) (length-map-range_with_len (λ j. entry_text (entry_at m k.edges i j)) 0 m);
     name_is = refl;
@@ -195,14 +203,18 @@ module _ (names : List (List ℕ)) (alpha : Ratio) (k : Component) (inputs : Inp
     entries = entries_said (entry_at m k.edges i) 0 m (h.entries i);
   }
 
-  pub each_row_said : IsSheetSaid → (i : ℕ) → i < m → IsRow (length (header_fields names)) (name_at names i) (cells_at i) (said_at names alpha k inputs i)
-  each_row_said h i l = subst (λ cells. IsRow (length (header_fields names)) (name_at names i) cells (said_at names alpha k inputs i)) (sym (row_bare h i l)) (row_said h i l)
+  pub each_row_said : IsSheetSaid → (i : ℕ) → i < m
+      → IsRow (length (header_fields names)) (name_at names i) (cells_at i) (said_at names alpha k inputs i)
+  each_row_said h i l = subst (λ cells. IsRow (length (header_fields names)) (name_at names i) cells (said_at names alpha k inputs i)) (sym (row_bare h i l))
+      (row_said h i l)
 
 -- rows by their places
-pub rows_by_place : (width : ℕ) (cells : ℕ → Cells) (said : ℕ → RowSaid) (names : List (List ℕ)) (p : ℕ) → ((i q : ℕ) → p + i ≡ q → i < length names → IsRow width (name_at names i) (cells q) (said q))
+pub rows_by_place : (width : ℕ) (cells : ℕ → Cells) (said : ℕ → RowSaid) (names : List (List ℕ)) (p : ℕ)
+    → ((i q : ℕ) → p + i ≡ q → i < length names → IsRow width (name_at names i) (cells q) (said q))
     → AreRows width names (map cells (range_with_len p (length names))) (map said (range_with_len p (length names)))
 rows_by_place width cells said [] p h = tt
-rows_by_place width cells said (name ∷ names) p h = (h 0 p (omega arith) (omega arith), rows_by_place width cells said names (p + 1) (λ i q s l. h (suc i) q (omega arith) (omega arith)))
+rows_by_place width cells said (name ∷ names) p h =
+    (h 0 p (omega arith) (omega arith), rows_by_place width cells said names (p + 1) (λ i q s l. h (suc i) q (omega arith) (omega arith)))
 
 pub header_said : (names : List (List ℕ)) → IsHeader (header_fields names) names
 header_said names = record { headings = at; names_are = refl }

@@ -1,5 +1,6 @@
 -- The records of a sheet and their text, one after the other.
-use Rattle.std.proofs.Common.{◌≡◌, ◌≢◌, refl, sym, ap, ap₂, subst, ◌∙◌, ℕ, ◌+◌, ◌<◌, ◌-◌, List, [], ◌∷◌, ◌++◌, append_assoc, length, map, get_or, false, Option, Some, None, arith}
+use Rattle.std.proofs.Common.{◌≡◌, ◌≢◌, refl, sym, ap, ap₂, subst, ◌∙◌, ℕ, ◌+◌, ◌<◌, ◌-◌, List, [], ◌∷◌, ◌++◌}
+use Rattle.std.proofs.Common.{append_assoc, length, map, get_or, false, Option, Some, None, arith}
 use Rattle.std.specs.List.{flat_map, range_with_len}
 use Rattle.std.proofs.lemmas.Grind.{flat_map-append}
 use Rattle.std.proofs.lemmas.List.{append-nil}
@@ -22,11 +23,13 @@ fields_put : (row : Record) (xs ys : Fields) → xs ≡ ys → HasFields row xs 
 fields_put row xs ys e h = record { fields_are = h.fields_are ∙ e; whole = h.whole }
 
 -- one field more behind those of the first places
-pub field_more : (row : Record) (old before : Fields) (f : ℕ → List ℕ) (n : ℕ) (field : List ℕ) → before ≡ old ++ map f (range_with_len 0 n) → field ≡ f n → HasFields row (before ++ field ∷ [])
+pub field_more : (row : Record) (old before : Fields) (f : ℕ → List ℕ) (n : ℕ) (field : List ℕ) → before ≡ old ++ map f (range_with_len 0 n)
+    → field ≡ f n → HasFields row (before ++ field ∷ [])
     → HasFields row (old ++ map f (range_with_len 0 (n + 1)))
 field_more row old before f n field b e h =
     fields_put row (before ++ field ∷ []) (old ++ map f (range_with_len 0 (n + 1)))
-    (ap₂ (λ xs x. xs ++ x ∷ []) b e ∙ append_assoc old (map f (range_with_len 0 n)) (f n ∷ []) ∙ ap (λ xs. old ++ xs) (sym (map-range_with_len_more f 0 n n (omega arith)))) h
+    (ap₂ (λ xs x. xs ++ x ∷ []) b e ∙ append_assoc old (map f (range_with_len 0 n)) (f n ∷ [])
+    ∙ ap (λ xs. old ++ xs) (sym (map-range_with_len_more f 0 n n (omega arith)))) h
 
 -- the text of a header alone
 pub header_text : (header : Fields) → [] ++ row_text default_writer header ≡ text_of (header ∷ [])
@@ -45,7 +48,8 @@ text_more header f n row e =
     ∙ ap (λ rs. flat_map (row_text default_writer) (header ∷ rs)) (sym (map-range_with_len_more f 0 n n (omega arith)))
 
 -- the p-value of a position
-pub single_field : (inputs given : Inputs) (ps xs : List Ratio) (m i : ℕ) (x : Ratio) → given ≡ inputs → given ≡ Single ps → IfSingle given (ArePValues m) → i < m → xs ≡ ps → x ≡ get_or xs i x
+pub single_field : (inputs given : Inputs) (ps xs : List Ratio) (m i : ℕ) (x : Ratio) → given ≡ inputs → given ≡ Single ps
+    → IfSingle given (ArePValues m) → i < m → xs ≡ ps → x ≡ get_or xs i x
     → number_word x ≡ p_field inputs i
 unfolding ratio_at
 single_field inputs given ps xs m i x same is h l all at =

@@ -1,5 +1,6 @@
 -- Records say a draft, or have a first fault.
-use Rattle.std.proofs.Common.{◌≡◌, ◌≢◌, ◌<◌, ◌≤◌, ◌+◌, ◌⊎◌, inl, inr, ◌∙◌, ℕ, zero, suc, Bool, true, false, List, [], ◌∷◌, ◌++◌, Option, Some, None, refl, sym, ap, subst, take, drop, length, get_or, arith, true≢false}
+use Rattle.std.proofs.Common.{◌≡◌, ◌≢◌, ◌<◌, ◌≤◌, ◌+◌, ◌⊎◌, inl, inr, ◌∙◌, ℕ, zero, suc, Bool, true, false, List, []}
+use Rattle.std.proofs.Common.{◌∷◌, ◌++◌, Option, Some, None, refl, sym, ap, subst, take, drop, length, get_or, arith, true≢false}
 use Rattle.std.specs.Prelude.{slice_get}
 use Rattle.std.specs.List.{AllZip}
 use Rattle.std.specs.Str.{bytes_eq}
@@ -39,7 +40,8 @@ weight_decided : (name cell : List ℕ) → ((x : Ratio) × IsNumeralOf cell (te
 weight_decided name cell (inl h) = inl h
 weight_decided name cell (inr f) = inr (Number f.0, (f.0, f.1, refl))
 
-p_decided : (name cell : List ℕ) (b : Bool) → is_missing cell ≡ b → ((x : Ratio) × IsNumeralOf cell (terms x)) ⊎ ((f : NumberFault) × IsParseFault cell f) → IsDecided name 2 cell
+p_decided : (name cell : List ℕ) (b : Bool) → is_missing cell ≡ b → ((x : Ratio) × IsNumeralOf cell (terms x))
+    ⊎ ((f : NumberFault) × IsParseFault cell f) → IsDecided name 2 cell
 p_decided name cell true m r = inl (None, m)
 p_decided name cell false m (inl h) = inl (Some h.0, (m, h.1))
 p_decided name cell false m (inr f) = inr (Number f.0, (m, (f.0, f.1, refl)))
@@ -63,9 +65,11 @@ cell_decided name (suc (suc (suc k))) cell = elim (entry_or_fault cell) [
 abbrev CellFails : List ℕ → Cells → Type 0
 CellFails name cells = (column : ℕ) × (kind : RowKind) × IsBadCell name cells column kind
 
-next_cell : (name : List ℕ) (cells : Cells) (n : ℕ) (cell : List ℕ) → slice_get cells n ≡ Some cell → AcceptsBelow name cells n → IsDecided name n cell → AcceptsBelow name cells (n + 1) ⊎ CellFails name cells
+next_cell : (name : List ℕ) (cells : Cells) (n : ℕ) (cell : List ℕ) → slice_get cells n ≡ Some cell → AcceptsBelow name cells n
+    → IsDecided name n cell → AcceptsBelow name cells (n + 1) ⊎ CellFails name cells
 next_cell name cells n cell there before (inl h) = inl (accepts_more name cells n cell before there h)
-next_cell name cells n cell there before (inr f) = inr (n + 1, f.0, record { place = n; cell = cell; there = there; before = before; bad = f.1; column_is = refl })
+next_cell name cells n cell there before (inr f) =
+    inr (n + 1, f.0, record { place = n; cell = cell; there = there; before = before; bad = f.1; column_is = refl })
 
 one_more : (n : ℕ) → n + 1 ≡ suc n
 one_more n = omega arith
@@ -80,14 +84,16 @@ below_decided name cells (suc n) l = elim (below_decided name cells n (omega ari
   | inr bad ↦ inr bad
 ]
 
-entries_of : (cells : Cells) → ((i : ℕ) (cell : List ℕ) → slice_get cells i ≡ Some cell → (entry : List Ratio) × IsEntryText cell entry) → (entries : List (List Ratio)) × AllZip IsEntryText cells entries
+entries_of : (cells : Cells) → ((i : ℕ) (cell : List ℕ) → slice_get cells i ≡ Some cell → (entry : List Ratio) × IsEntryText cell entry)
+    → (entries : List (List Ratio)) × AllZip IsEntryText cells entries
 entries_of [] h = ([], tt)
 entries_of (cell ∷ cells) h =
     let first = h 0 cell refl in
     let rest = entries_of cells (λ i c e. h (suc i) c e) in
     (first.0 ∷ rest.0, (first.1, rest.1))
 
-row_of : (width : ℕ) (name : List ℕ) (cells : Cells) → 3 ≤ length cells → length cells ≡ width → AcceptsBelow name cells (length cells) → (said : RowSaid) × IsRow width name cells said
+row_of : (width : ℕ) (name : List ℕ) (cells : Cells) → 3 ≤ length cells → length cells ≡ width → AcceptsBelow name cells (length cells)
+    → (said : RowSaid) × IsRow width name cells said
 row_of width name cells three wide all =
     let first = slice_get-get_or cells 0 [] (omega arith) in
     let second = slice_get-get_or cells 1 [] (omega arith) in
@@ -111,7 +117,8 @@ row_of width name cells three wide all =
 
 -- a row is one, or has a first bad cell
 abbrev RowIsDecided : ℕ → List ℕ → Cells → Type 0
-RowIsDecided width name cells = ((said : RowSaid) × IsRow width name cells said) ⊎ ((column : ℕ) × (kind : RowKind) × IsBadRow width name cells column kind)
+RowIsDecided width name cells = ((said : RowSaid) × IsRow width name cells said)
+    ⊎ ((column : ℕ) × (kind : RowKind) × IsBadRow width name cells column kind)
 
 row_decided : (width : ℕ) (name : List ℕ) (cells : Cells) → 3 ≤ width → RowIsDecided width name cells
 row_decided width name cells three = elim (same_or_not (length cells) width) [
@@ -131,7 +138,8 @@ abbrev RowsAreDecided : ℕ → List (List ℕ) → List Cells → Type 0
 RowsAreDecided width names records = ((said : List RowSaid) × AreRows width names records said) ⊎ RowsFail width names records
 
 -- a fault behind a row
-behind_row : (width : ℕ) (name : List ℕ) (names : List (List ℕ)) (cells : Cells) (records : List Cells) (said : RowSaid) → IsRow width name cells said → RowsFail width names records → RowsFail width (name ∷ names) (cells ∷ records)
+behind_row : (width : ℕ) (name : List ℕ) (names : List (List ℕ)) (cells : Cells) (records : List Cells) (said : RowSaid) → IsRow width name cells said
+    → RowsFail width names records → RowsFail width (name ∷ names) (cells ∷ records)
 behind_row width name names cells records said is (row, column, kind, inl b) = (
   row + 1,
   column,
@@ -179,7 +187,8 @@ behind_row width name names cells records said is (row, column, kind, inr (inr m
   })),
 )
 
-next_row : (width : ℕ) (name : List ℕ) (names : List (List ℕ)) (cells : Cells) (records : List Cells) → RowIsDecided width name cells → RowsAreDecided width names records → RowsAreDecided width (name ∷ names) (cells ∷ records)
+next_row : (width : ℕ) (name : List ℕ) (names : List (List ℕ)) (cells : Cells) (records : List Cells) → RowIsDecided width name cells
+    → RowsAreDecided width names records → RowsAreDecided width (name ∷ names) (cells ∷ records)
 next_row width name names cells records (inr bad) rest = inr (
   2,
   bad.0,
@@ -218,8 +227,10 @@ rows_decided width [] (cells ∷ records) three = inr (
     kind_is = refl;
   })),
 )
-rows_decided width (name ∷ names) [] three = inr (2, 1, Count, inr (inr (record { said = []; rows_are = tt; few = omega arith; row_is = refl; column_is = refl; kind_is = refl })))
-rows_decided width (name ∷ names) (cells ∷ records) three = next_row width name names cells records (row_decided width name cells three) (rows_decided width names records three)
+rows_decided width (name ∷ names) [] three =
+    inr (2, 1, Count, inr (inr (record { said = []; rows_are = tt; few = omega arith; row_is = refl; column_is = refl; kind_is = refl })))
+rows_decided width (name ∷ names) (cells ∷ records) three =
+    next_row width name names cells records (row_decided width name cells three) (rows_decided width names records three)
 
 -- ---- the header
 
@@ -232,7 +243,8 @@ three_wide (a ∷ b ∷ c ∷ cells) h = omega arith
 abbrev HeaderIsDecided : Cells → Type 0
 HeaderIsDecided header = IsHeader header (drop 3 header) ⊎ ((column : ℕ) × IsBadHeader header column)
 
-bad_heading : (header : Cells) (place : ℕ) → place < 3 → ((k : ℕ) → k < place → has_heading header k ≡ true) → has_heading header place ≡ false → HeaderIsDecided header
+bad_heading : (header : Cells) (place : ℕ) → place < 3 → ((k : ℕ) → k < place → has_heading header k ≡ true)
+    → has_heading header place ≡ false → HeaderIsDecided header
 bad_heading header place l before bad = inr (place + 1, record { place = place; within = l; before = before; bad = bad; column_is = refl })
 
 below_two : (header : Cells) → has_heading header 0 ≡ true → (k : ℕ) → k < 1 → has_heading header k ≡ true
@@ -244,7 +256,8 @@ below_three header h g zero l = h
 below_three header h g (suc zero) l = g
 below_three header h g (suc (suc k)) l = absurd (omega arith)
 
-below_four : (header : Cells) → has_heading header 0 ≡ true → has_heading header 1 ≡ true → has_heading header 2 ≡ true → (k : ℕ) → k < 3 → has_heading header k ≡ true
+below_four : (header : Cells) → has_heading header 0 ≡ true → has_heading header 1 ≡ true → has_heading header 2 ≡ true → (k : ℕ) → k < 3
+    → has_heading header k ≡ true
 below_four header h g f zero l = h
 below_four header h g f (suc zero) l = g
 below_four header h g f (suc (suc zero)) l = f
@@ -282,6 +295,12 @@ say_or_fail (header ∷ rest) alpha = elim (header_decided header) [
         draft_is = refl;
       },
     )
-    | inr fault ↦ inr (fault.0, fault.1, fault.2, inr (inr (record { header = header; rest = rest; names = drop 3 header; records_are = refl; header_is = is; fault = fault.3 })))
+    | inr fault ↦ inr (
+      fault.0,
+      fault.1,
+      fault.2,
+      inr
+          (inr (record { header = header; rest = rest; names = drop 3 header; records_are = refl; header_is = is; fault = fault.3 })),
+    )
   ]
 ]

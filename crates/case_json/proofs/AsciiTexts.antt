@@ -1,5 +1,6 @@
 -- The texts that are written for numbers, names and weights of edges are ASCII.
-use Rattle.std.proofs.Common.{◌≡◌, ◌≤◌, ◌<◌, ◌+◌, inl, inr, ℕ, zero, suc, Bool, true, false, cond, eqb, ◌&&◌, List, [], ◌∷◌, ◌++◌, refl, ap, ap₂, map, arith}
+use Rattle.std.proofs.Common.{◌≡◌, ◌≤◌, ◌<◌, ◌+◌, inl, inr, ℕ, zero, suc, Bool, true, false, cond, eqb, ◌&&◌, List, [], ◌∷◌}
+use Rattle.std.proofs.Common.{◌++◌, refl, ap, ap₂, map, arith}
 use Rattle.std.specs.Prelude.{codes, nat_lt, IsUtf8}
 use Rattle.std.specs.Int.{is_negative}
 use Rattle.std.specs.List.{AllByRecursion, list_all}
@@ -15,7 +16,8 @@ use Rattle.fraction.proofs.ReadBack.{spelling_bytes}
 use Rattle.case_model.specs.Sums.{terms_at}
 use Rattle.case_model.specs.Draft.{is_name, is_name_byte}
 use Rattle.case_model.proofs.Holding.{both}
-use Rattle.edge_expression.specs.EntryTexts.{power_text, factor_text, term_text, joint_text, joined_term, terms_text, are_zero_below, coefficients_text, entry_text}
+use Rattle.edge_expression.specs.EntryTexts.{power_text, factor_text, term_text, joint_text, joined_term, terms_text, are_zero_below, coefficients_text}
+use Rattle.edge_expression.specs.EntryTexts.{entry_text}
 use Rattle.edge_text.proofs.CanonicalWords.{absolute_reduced, each_reduced}
 
 abbrev AreAscii : List ℕ → Type 0
@@ -50,7 +52,8 @@ name_byte b h = let low : b < 128 = grind (arith, nat_tests) in lt-ltb b 128 low
 
 name_bytes : (name : List ℕ) → list_all is_name_byte name ≡ true → AreAscii name
 name_bytes [] h = refl
-name_bytes (b ∷ name) h = let w = both (is_name_byte b) (list_all is_name_byte name) h in ap₂ (λ c d. c && d) (name_byte b w.left) (name_bytes name w.right)
+name_bytes (b ∷ name) h = let w = both (is_name_byte b) (list_all is_name_byte name) h in ap₂ (λ c d. c && d) (name_byte b w.left)
+    (name_bytes name w.right)
 
 pub name_is_text : (name : List ℕ) → is_name name ≡ true → IsUtf8 name
 unfolding is_name
@@ -68,7 +71,8 @@ unfolding term_text
 term_ascii p t few r =
     let number = spelling_ascii t r in
     ascii_if (eqb p 0) (spelling t) (factor_text t ++ power_text p) number
-    (ascii_both (factor_text t) (power_text p) (ascii_if (is_one t) [] (spelling t ++ codes "*") refl (ascii_both (spelling t) (codes "*") number refl)) (power_ascii p few))
+    (ascii_both (factor_text t) (power_text p) (ascii_if (is_one t) [] (spelling t ++ codes "*") refl (ascii_both (spelling t) (codes "*") number refl))
+    (power_ascii p few))
 
 joint_ascii : (f b : Bool) → AreAscii (joint_text f b)
 joint_ascii true true = refl
@@ -78,7 +82,8 @@ joint_ascii false false = refl
 
 joined_ascii : (f : Bool) (p : ℕ) (t : Terms) → p ≤ 4 → IsReduced t → AreAscii (joined_term f p t)
 unfolding joined_term
-joined_ascii f p t few r = ascii_both (joint_text f (is_negative t.num)) (term_text p (absolute t)) (joint_ascii f (is_negative t.num)) (term_ascii p (absolute t) few (absolute_reduced t r))
+joined_ascii f p t few r = ascii_both (joint_text f (is_negative t.num)) (term_text p (absolute t)) (joint_ascii f (is_negative t.num))
+    (term_ascii p (absolute t) few (absolute_reduced t r))
 
 terms_ascii : (f : Bool) (p n : ℕ) (e : List Terms) → p + n ≤ 5 → ((k : ℕ) → IsReduced (terms_at e k)) → AreAscii (terms_text f p n e)
 unfolding terms_text
@@ -86,12 +91,15 @@ terms_ascii f p zero e few r = refl
 terms_ascii f p (suc n) e few r =
     let next : suc p + n ≤ 5 = omega (arith, few) in
     let here : p ≤ 4 = omega (arith, few) in
-    ascii_if (is_zero (terms_at e p)) (terms_text f (suc p) n e) (joined_term f p (terms_at e p) ++ terms_text false (suc p) n e) (terms_ascii f (suc p) n e next r)
-    (ascii_both (joined_term f p (terms_at e p)) (terms_text false (suc p) n e) (joined_ascii f p (terms_at e p) here (r p)) (terms_ascii false (suc p) n e next r))
+    ascii_if (is_zero (terms_at e p)) (terms_text f (suc p) n e) (joined_term f p (terms_at e p) ++ terms_text false (suc p) n e)
+    (terms_ascii f (suc p) n e next r)
+    (ascii_both (joined_term f p (terms_at e p)) (terms_text false (suc p) n e) (joined_ascii f p (terms_at e p) here (r p))
+    (terms_ascii false (suc p) n e next r))
 
 entry_ascii : (xs : List Ratio) → AreAscii (entry_text xs)
 unfolding coefficients_text
-entry_ascii xs = ascii_if (are_zero_below 5 (map terms xs)) (codes "0") (terms_text true 0 5 (map terms xs)) refl (terms_ascii true 0 5 (map terms xs) (omega arith) (each_reduced xs))
+entry_ascii xs = ascii_if (are_zero_below 5 (map terms xs)) (codes "0") (terms_text true 0 5 (map terms xs)) refl
+    (terms_ascii true 0 5 (map terms xs) (omega arith) (each_reduced xs))
 
 pub entry_is_text : (xs : List Ratio) → IsUtf8 (entry_text xs)
 entry_is_text xs = IsUtf8-are_ascii (entry_text xs) (entry_ascii xs)

@@ -12,9 +12,13 @@ use Rattle.case_model.specs.declared.spend_step.SpendStep.{SpendStep}
 use Rattle.serde_json.specs.Data.{null, boolean, number, string, array, object}
 use Rattle.case_json.specs.declared.fault.JsonFault.TheVariants.{Shape}
 use Rattle.case_json.specs.Values.{item_list, Has, MayHave, HasBad, IsBadAt, IsSome, AreItems, AreItemsFault}
-use Rattle.case_json.specs.Document.{IsNumber, IsPlace, IsCount, IsText, IsHypothesis, IsWeight, edge_keys, IsEdge, one, component_keys, IsComponent, step_keys, IsStep, table_keys, IsTable, IsSpend, arrival_keys, IsArrival, stages_keys, AreStages, document_keys, IsDraft}
-use Rattle.case_json.specs.Faults.{IsNumberFault, IsPlaceFault, IsCountFault, IsTextFault, IsHypothesisFault, IsWeightFault, IsEdgeFault, IsComponentFault, IsStepFault, IsTableFault, IsSpendFault, IsArrivalFault, AreStagesFault, IsFirstFault}
-use Rattle.case_json.proofs.Rules.{Says, Fails, SayOne, FailOne, AreApart, SayOrFail, HavePaths, IsRule, shape_path, at_rule, may_rule, some_rule, Both, FirstOf, both_rule, InObject, keys_rule, made_rule, items_hold, zip_one, items_apart, items_one, items_or, items_paths, array_rule}
+use Rattle.case_json.specs.Document.{IsNumber, IsPlace, IsCount, IsText, IsHypothesis, IsWeight, edge_keys, IsEdge, one, component_keys, IsComponent, step_keys}
+use Rattle.case_json.specs.Document.{IsStep, table_keys, IsTable, IsSpend, arrival_keys, IsArrival, stages_keys, AreStages, document_keys, IsDraft}
+use Rattle.case_json.specs.Faults.{IsNumberFault, IsPlaceFault, IsCountFault, IsTextFault, IsHypothesisFault, IsWeightFault, IsEdgeFault, IsComponentFault}
+use Rattle.case_json.specs.Faults.{IsStepFault, IsTableFault, IsSpendFault, IsArrivalFault, AreStagesFault, IsFirstFault}
+use Rattle.case_json.proofs.Rules.{Says, Fails, SayOne, FailOne, AreApart, SayOrFail, HavePaths, IsRule, shape_path, at_rule, may_rule, some_rule, Both}
+use Rattle.case_json.proofs.Rules.{FirstOf, both_rule, InObject, keys_rule, made_rule, items_hold, zip_one, items_apart, items_one, items_or, items_paths}
+use Rattle.case_json.proofs.Rules.{array_rule}
 use Rattle.case_json.proofs.SingleRules.{number_rule, place_rule, count_rule, text_rule, hypothesis_rule, weight_rule}
 
 -- ---- arrays of numbers
@@ -51,12 +55,15 @@ module _ (names : List (List ℕ)) where
 
   edge_parts : IsRule EdgeParts EdgePartsFault
   edge_parts =
-      both_rule From FromFault (λ _. Both To (λ _. Weight)) (λ _. FirstOf To ToFault (λ _. WeightFault)) (at_rule (IsHypothesis names) (IsHypothesisFault names) (hypothesis_rule names) (codes "from")) (λ _.
-      both_rule To ToFault (λ _. Weight) (λ _. WeightFault) (at_rule (IsHypothesis names) (IsHypothesisFault names) (hypothesis_rule names) (codes "to")) (λ _.
+      both_rule From FromFault (λ _. Both To (λ _. Weight)) (λ _. FirstOf To ToFault (λ _. WeightFault))
+      (at_rule (IsHypothesis names) (IsHypothesisFault names) (hypothesis_rule names) (codes "from")) (λ _.
+      both_rule To ToFault (λ _. Weight) (λ _. WeightFault) (at_rule (IsHypothesis names) (IsHypothesisFault names) (hypothesis_rule names) (codes "to"))
+      (λ _.
       at_rule IsWeight IsWeightFault weight_rule (codes "weight")))
 
   pub edge_rule : IsRule (IsEdge names) (IsEdgeFault names)
-  edge_rule = made_rule (InObject edge_keys EdgeParts EdgePartsFault edge_parts) (IsEdge names) (IsEdgeFault names) (keys_rule edge_keys EdgeParts EdgePartsFault edge_parts)
+  edge_rule = made_rule (InObject edge_keys EdgeParts EdgePartsFault edge_parts) (IsEdge names) (IsEdgeFault names)
+      (keys_rule edge_keys EdgeParts EdgePartsFault edge_parts)
       (λ p. record { from = p.0; to = p.1.0; entry = p.1.1 }) (λ e. (e.from, (e.to, e.entry))) (λ e. refl)
       (λ d p h. record { keys = h.0; from_is = h.1.0; to_is = h.1.1.0; weight_is = h.1.1.1 }) (λ d e h. (h.keys, (h.from_is, (h.to_is, h.weight_is))))
 
@@ -89,14 +96,19 @@ module _ (names : List (List ℕ)) where
 
   component_parts : IsRule ComponentParts ComponentPartsFault
   component_parts =
-      both_rule Share ShareFault (λ _. Both Weights (λ _. Edges)) (λ _. FirstOf Weights WeightsFault (λ _. EdgesFault)) (may_rule IsNumber IsNumberFault number_rule one (codes "share")) (λ _.
-      both_rule Weights WeightsFault (λ _. Edges) (λ _. EdgesFault) (at_rule (AreItems IsNumber) (AreItemsFault IsNumber IsNumberFault) numbers_rule (codes "weights")) (λ _.
-      at_rule (AreItems (IsEdge names)) (AreItemsFault (IsEdge names) (IsEdgeFault names)) (array_rule (IsEdge names) (IsEdgeFault names) (edge_rule names)) (codes "edges")))
+      both_rule Share ShareFault (λ _. Both Weights (λ _. Edges)) (λ _. FirstOf Weights WeightsFault (λ _. EdgesFault))
+      (may_rule IsNumber IsNumberFault number_rule one (codes "share")) (λ _.
+      both_rule Weights WeightsFault (λ _. Edges) (λ _. EdgesFault)
+      (at_rule (AreItems IsNumber) (AreItemsFault IsNumber IsNumberFault) numbers_rule (codes "weights")) (λ _.
+      at_rule (AreItems (IsEdge names)) (AreItemsFault (IsEdge names) (IsEdgeFault names)) (array_rule (IsEdge names) (IsEdgeFault names) (edge_rule names))
+      (codes "edges")))
 
   pub component_rule : IsRule (IsComponent names) (IsComponentFault names)
-  component_rule = made_rule (InObject component_keys ComponentParts ComponentPartsFault component_parts) (IsComponent names) (IsComponentFault names) (keys_rule component_keys ComponentParts ComponentPartsFault component_parts)
+  component_rule = made_rule (InObject component_keys ComponentParts ComponentPartsFault component_parts) (IsComponent names) (IsComponentFault names)
+      (keys_rule component_keys ComponentParts ComponentPartsFault component_parts)
       (λ p. record { share = p.0; weights = p.1.0; edges = p.1.1 }) (λ k. (k.share, (k.weights, k.edges))) (λ k. refl)
-      (λ d p h. record { keys = h.0; share_is = h.1.0; weights_are = h.1.1.0; edges_are = h.1.1.1 }) (λ d k h. (h.keys, (h.share_is, (h.weights_are, h.edges_are))))
+      (λ d p h. record { keys = h.0; share_is = h.1.0; weights_are = h.1.1.0; edges_are = h.1.1.1 })
+      (λ d k h. (h.keys, (h.share_is, (h.weights_are, h.edges_are))))
 
 -- ---- what hypotheses spend
 
@@ -220,12 +232,14 @@ module _ (names : List (List ℕ)) where
 
   arrival_parts : IsRule ArrivalParts ArrivalPartsFault
   arrival_parts =
-      both_rule Hypothesis HypothesisFault (λ _. Both Stage (λ _. P)) (λ _. FirstOf Stage StageFault (λ _. PFault)) (at_rule (IsHypothesis names) (IsHypothesisFault names) (hypothesis_rule names) (codes "hypothesis")) (λ _.
+      both_rule Hypothesis HypothesisFault (λ _. Both Stage (λ _. P)) (λ _. FirstOf Stage StageFault (λ _. PFault))
+      (at_rule (IsHypothesis names) (IsHypothesisFault names) (hypothesis_rule names) (codes "hypothesis")) (λ _.
       both_rule Stage StageFault (λ _. P) (λ _. PFault) (at_rule IsCount IsCountFault count_rule (codes "stage")) (λ _.
       at_rule IsNumber IsNumberFault number_rule (codes "p")))
 
   arrival_rule : IsRule (IsArrival names) (IsArrivalFault names)
-  arrival_rule = made_rule (InObject arrival_keys ArrivalParts ArrivalPartsFault arrival_parts) (IsArrival names) (IsArrivalFault names) (keys_rule arrival_keys ArrivalParts ArrivalPartsFault arrival_parts)
+  arrival_rule = made_rule (InObject arrival_keys ArrivalParts ArrivalPartsFault arrival_parts) (IsArrival names) (IsArrivalFault names)
+      (keys_rule arrival_keys ArrivalParts ArrivalPartsFault arrival_parts)
       (λ p. record { hypothesis = p.0; stage = p.1.0; p = p.1.1 }) (λ a. (a.hypothesis, (a.stage, a.p))) (λ a. refl)
       (λ d p h. record { keys = h.0; hypothesis_is = h.1.0; stage_is = h.1.1.0; p_is = h.1.1.1 }) (λ d a h. (h.keys, (h.hypothesis_is, (h.stage_is, h.p_is))))
 
@@ -255,14 +269,19 @@ module _ (names : List (List ℕ)) where
 
   stages_parts : IsRule StagesParts StagesPartsFault
   stages_parts =
-      both_rule Count CountFault (λ _. Both Spends (λ _. Arrivals)) (λ _. FirstOf Spends SpendsFault (λ _. ArrivalsFault)) (at_rule IsCount IsCountFault count_rule (codes "count")) (λ _.
-      both_rule Spends SpendsFault (λ _. Arrivals) (λ _. ArrivalsFault) (at_rule (AreItems IsSpend) (AreItemsFault IsSpend IsSpendFault) (array_rule IsSpend IsSpendFault spend_rule) (codes "spend")) (λ _.
-      at_rule (AreItems (IsArrival names)) (AreItemsFault (IsArrival names) (IsArrivalFault names)) (array_rule (IsArrival names) (IsArrivalFault names) arrival_rule) (codes "arrivals")))
+      both_rule Count CountFault (λ _. Both Spends (λ _. Arrivals)) (λ _. FirstOf Spends SpendsFault (λ _. ArrivalsFault))
+      (at_rule IsCount IsCountFault count_rule (codes "count")) (λ _.
+      both_rule Spends SpendsFault (λ _. Arrivals) (λ _. ArrivalsFault)
+      (at_rule (AreItems IsSpend) (AreItemsFault IsSpend IsSpendFault) (array_rule IsSpend IsSpendFault spend_rule) (codes "spend")) (λ _.
+      at_rule (AreItems (IsArrival names)) (AreItemsFault (IsArrival names) (IsArrivalFault names))
+      (array_rule (IsArrival names) (IsArrivalFault names) arrival_rule) (codes "arrivals")))
 
   stages_rule : IsRule (AreStages names) (AreStagesFault names)
-  stages_rule = made_rule (InObject stages_keys StagesParts StagesPartsFault stages_parts) (AreStages names) (AreStagesFault names) (keys_rule stages_keys StagesParts StagesPartsFault stages_parts)
+  stages_rule = made_rule (InObject stages_keys StagesParts StagesPartsFault stages_parts) (AreStages names) (AreStagesFault names)
+      (keys_rule stages_keys StagesParts StagesPartsFault stages_parts)
       (λ p. record { count = p.0; spend = p.1.0; arrivals = p.1.1 }) (λ s. (s.count, (s.spend, s.arrivals))) (λ s. refl)
-      (λ d p h. record { keys = h.0; count_is = h.1.0; spend_is = h.1.1.0; arrivals_are = h.1.1.1 }) (λ d s h. (h.keys, (h.count_is, (h.spend_is, h.arrivals_are))))
+      (λ d p h. record { keys = h.0; count_is = h.1.0; spend_is = h.1.1.0; arrivals_are = h.1.1.1 })
+      (λ d s h. (h.keys, (h.count_is, (h.spend_is, h.arrivals_are))))
 
 -- ---- the document
 
@@ -304,7 +323,9 @@ LaterFault names = FirstOf (Components names) (ComponentsFault names) (λ _. May
 
 later_parts : (names : List (List ℕ)) → IsRule (Later names) (LaterFault names)
 later_parts names =
-    both_rule (Components names) (ComponentsFault names) (λ _. MayStages names) (λ _. MayStagesFault names) (at_rule (AreItems (IsComponent names)) (AreItemsFault (IsComponent names) (IsComponentFault names)) (array_rule (IsComponent names) (IsComponentFault names) (component_rule names)) (codes "components")) (λ _.
+    both_rule (Components names) (ComponentsFault names) (λ _. MayStages names) (λ _. MayStagesFault names)
+    (at_rule (AreItems (IsComponent names)) (AreItemsFault (IsComponent names) (IsComponentFault names))
+    (array_rule (IsComponent names) (IsComponentFault names) (component_rule names)) (codes "components")) (λ _.
     may_rule (IsSome (AreStages names)) (AreStagesFault names) (some_rule (AreStages names) (AreStagesFault names) (stages_rule names)) None (codes "stages"))
 
 abbrev Behind : List (List ℕ) → Says (List (Option Ratio) × (List DraftComponent × Option DraftStages))
@@ -314,7 +335,8 @@ abbrev BehindFault : List (List ℕ) → Fails
 BehindFault names = FirstOf Places PlacesFault (λ _. LaterFault names)
 
 behind_parts : (names : List (List ℕ)) → IsRule (Behind names) (BehindFault names)
-behind_parts names = both_rule Places PlacesFault (λ _. Later names) (λ _. LaterFault names) (may_rule (AreItems IsPlace) (AreItemsFault IsPlace IsPlaceFault) (array_rule IsPlace IsPlaceFault place_rule) [] (codes "p")) (λ _. later_parts names)
+behind_parts names = both_rule Places PlacesFault (λ _. Later names) (λ _. LaterFault names)
+    (may_rule (AreItems IsPlace) (AreItemsFault IsPlace IsPlaceFault) (array_rule IsPlace IsPlaceFault place_rule) [] (codes "p")) (λ _. later_parts names)
 
 abbrev Parts : Says (Ratio × (List (List ℕ) × (List (Option Ratio) × (List DraftComponent × Option DraftStages))))
 Parts = Both Alpha (λ _. Both Names Behind)
@@ -324,10 +346,14 @@ PartsFault = FirstOf Alpha AlphaFault (λ _. FirstOf Names NamesFault BehindFaul
 
 parts : IsRule Parts PartsFault
 parts =
-    both_rule Alpha AlphaFault (λ _. Both Names Behind) (λ _. FirstOf Names NamesFault BehindFault) (at_rule IsNumber IsNumberFault number_rule (codes "alpha")) (λ _.
-    both_rule Names NamesFault Behind BehindFault (at_rule (AreItems IsText) (AreItemsFault IsText IsTextFault) (array_rule IsText IsTextFault text_rule) (codes "hypotheses")) behind_parts)
+    both_rule Alpha AlphaFault (λ _. Both Names Behind) (λ _. FirstOf Names NamesFault BehindFault)
+    (at_rule IsNumber IsNumberFault number_rule (codes "alpha")) (λ _.
+    both_rule Names NamesFault Behind BehindFault
+    (at_rule (AreItems IsText) (AreItemsFault IsText IsTextFault) (array_rule IsText IsTextFault text_rule) (codes "hypotheses")) behind_parts)
 
 pub document_rule : IsRule IsDraft IsFirstFault
 document_rule = made_rule (InObject document_keys Parts PartsFault parts) IsDraft IsFirstFault (keys_rule document_keys Parts PartsFault parts)
-    (λ p. record { names = p.1.0; alpha = p.0; p = p.1.1.0; components = p.1.1.1.0; stages = p.1.1.1.1 }) (λ d. (d.alpha, (d.names, (d.p, (d.components, d.stages))))) (λ d. refl)
-    (λ d p h. record { keys = h.0; alpha_is = h.1.0; names_are = h.1.1.0; p_is = h.1.1.1.0; components_are = h.1.1.1.1.0; stages_are = h.1.1.1.1.1 }) (λ d e h. (h.keys, (h.alpha_is, (h.names_are, (h.p_is, (h.components_are, h.stages_are))))))
+    (λ p. record { names = p.1.0; alpha = p.0; p = p.1.1.0; components = p.1.1.1.0; stages = p.1.1.1.1 })
+    (λ d. (d.alpha, (d.names, (d.p, (d.components, d.stages))))) (λ d. refl)
+    (λ d p h. record { keys = h.0; alpha_is = h.1.0; names_are = h.1.1.0; p_is = h.1.1.1.0; components_are = h.1.1.1.1.0; stages_are = h.1.1.1.1.1 })
+    (λ d e h. (h.keys, (h.alpha_is, (h.names_are, (h.p_is, (h.components_are, h.stages_are))))))

@@ -1,5 +1,6 @@
 -- A line feed behind the text of a value changes nothing of what is read.
-use Rattle.std.proofs.Common.{◌≡◌, ◌∙◌, ℕ, Bool, true, false, cond, ◌&&◌, ◌||◌, List, [], ◌∷◌, ◌++◌, Some, refl, sym, ap, ap₂, subst, append_assoc, append-nil}
+use Rattle.std.proofs.Common.{◌≡◌, ◌∙◌, ℕ, Bool, true, false, cond, ◌&&◌, ◌||◌, List, [], ◌∷◌, ◌++◌, Some, refl, sym, ap, ap₂}
+use Rattle.std.proofs.Common.{subst, append_assoc, append-nil}
 use Rattle.std.specs.Prelude.{IsUtf8}
 use Rattle.json.specs.Token.{Token, begin_object, end_object, begin_array, end_array, key, string, number, boolean, null, bad}
 use Rattle.json.specs.Word.{ends_word, word}
@@ -36,7 +37,8 @@ lex_quoted s r =
     let e = append_assoc (escape s) (34 ∷ []) r in
     ap (λ l. lex between (34 ∷ l)) e ∙ ap₂ (λ o l. token (string_token o) ∷ l) (content-escape s r) (lex-escape s r)
 
-lex_token : (t : Token) (r : List ℕ) → IsPrintable t → (ends t ≡ true → ends_word r ≡ true) → lex between (token_text t ++ r) ≡ token_lexemes t ++ lex between r
+lex_token : (t : Token) (r : List ℕ) → IsPrintable t → (ends t ≡ true → ends_word r ≡ true)
+    → lex between (token_text t ++ r) ≡ token_lexemes t ++ lex between r
 unfolding lex word
 lex_token begin_object r h ended = refl
 lex_token end_object r h ended = refl
@@ -90,7 +92,8 @@ lex_line c [] h = refl
 lex_line c (t ∷ ts) h =
     let gap = c && begins t in
     let rest = print_from (ends t) ts in
-    ap (lex between) (append_assoc (cond gap (44 ∷ []) []) (token_text t ++ rest) (10 ∷ []) ∙ ap (λ l. cond gap (44 ∷ []) [] ++ l) (append_assoc (token_text t) rest (10 ∷ [])))
+    ap (lex between) (append_assoc (cond gap (44 ∷ []) []) (token_text t ++ rest) (10 ∷ [])
+    ∙ ap (λ l. cond gap (44 ∷ []) [] ++ l) (append_assoc (token_text t) rest (10 ∷ [])))
     ∙ lex_separator gap (token_text t ++ (rest ++ 10 ∷ []))
     ∙ ap (λ l. cond gap (comma ∷ []) [] ++ l)
     (lex_token t (rest ++ 10 ∷ []) h.0 (λ e. ap (λ b. ends_word (print_from b ts ++ 10 ∷ [])) e ∙ value_ends_line ts)
@@ -116,12 +119,16 @@ mutual
   items_printable : (ds : values.Items) (ts : List Token) → ItemsFit ds → ArePrintable ts → ArePrintable (items_tokens (items_outline ds) ++ ts)
   items_printable values.no_items ts f h = (tt, h)
   items_printable (values.item d ds) ts f h =
-      subst ArePrintable (sym (append_assoc (json_tokens (outline d)) (items_tokens (items_outline ds)) ts)) (printable d (items_tokens (items_outline ds) ++ ts) f.0 (items_printable ds ts f.1 h))
+      subst ArePrintable (sym (append_assoc (json_tokens (outline d)) (items_tokens (items_outline ds)) ts))
+      (printable d (items_tokens (items_outline ds) ++ ts) f.0 (items_printable ds ts f.1 h))
 
   members_printable : (ms : values.Members) (ts : List Token) → MembersFit ms → ArePrintable ts → ArePrintable (members_tokens (members_outline ms) ++ ts)
   members_printable values.no_members ts f h = (tt, h)
-  members_printable (values.member k d ms) ts f h =
-      (tt, subst ArePrintable (sym (append_assoc (json_tokens (outline d)) (members_tokens (members_outline ms)) ts)) (printable d (members_tokens (members_outline ms) ++ ts) f.0 (members_printable ms ts f.1 h)))
+  members_printable (values.member k d ms) ts f h = (
+    tt,
+    subst ArePrintable (sym (append_assoc (json_tokens (outline d)) (members_tokens (members_outline ms)) ts))
+        (printable d (members_tokens (members_outline ms) ++ ts) f.0 (members_printable ms ts f.1 h)),
+  )
 
 no_tokens : ArePrintable []
 unfolding ArePrintable

@@ -1,5 +1,6 @@
 -- Rules of values: what they say, and their faults. Each law of a part is a law of the whole.
-use Rattle.std.proofs.Common.{◌≡◌, ◌∙◌, ◌∷◌, ◌++◌, ◌⊎◌, inl, inr, [], ℕ, List, Option, Some, None, true, refl, sym, ap, ap₂, subst, length, suc, append_assoc, append-nil, true≢false}
+use Rattle.std.proofs.Common.{◌≡◌, ◌∙◌, ◌∷◌, ◌++◌, ◌⊎◌, inl, inr, [], ℕ, List, Option, Some, None, true, refl, sym, ap, ap₂}
+use Rattle.std.proofs.Common.{subst, length, suc, append_assoc, append-nil, true≢false}
 use Rattle.std.specs.Fmt.{decimal}
 use Rattle.std.specs.List.{AllZip}
 use Rattle.std.proofs.lemmas.Bool.{cases_Bool}
@@ -12,7 +13,8 @@ use Rattle.serde_json.specs.Data.{Data, null, boolean, number, string, array, ob
 use Rattle.serde_json.specs.Find.{get, get_member}
 use Rattle.case_json.specs.declared.fault.JsonFault.{JsonFault}
 use Rattle.case_json.specs.declared.fault.JsonFault.TheVariants as faults
-use Rattle.case_json.specs.Values.{HoldsIntegers, ItemsHoldIntegers, MembersHoldIntegers, item_list, is_object_of, behind, under, Has, HasBad, MayHave, IsSome, IsBadAt, IsBadItem, KnownKeys, Then, AreItems, AreItemsFault}
+use Rattle.case_json.specs.Values.{HoldsIntegers, ItemsHoldIntegers, MembersHoldIntegers, item_list, is_object_of, behind, under, Has, HasBad, MayHave, IsSome}
+use Rattle.case_json.specs.Values.{IsBadAt, IsBadItem, KnownKeys, Then, AreItems, AreItemsFault}
 
 abbrev pub Says : Type 0 → Type 1
 Says A = Data → A → Type 0
@@ -85,7 +87,8 @@ same_part o d e h k = ap (part_of d) (sym h ∙ k)
 absent_part : (o : Option Data) (d : Data) → o ≡ None → o ≡ Some d → ⊥
 absent_part o d h k = cc (sym h ∙ k)
 
-found_holds : (o : Ordering) (found : Option Data) (d p : Data) → (found ≡ Some p → HoldsIntegers p) → HoldsIntegers d → match_ordering o found (Some d) found ≡ Some p → HoldsIntegers p
+found_holds : (o : Ordering) (found : Option Data) (d p : Data) → (found ≡ Some p → HoldsIntegers p) → HoldsIntegers d
+    → match_ordering o found (Some d) found ≡ Some p → HoldsIntegers p
 found_holds Less found d p rest h e = rest e
 found_holds Equal found d p rest h e = subst HoldsIntegers (same_part (Some d) d p refl e) h
 found_holds Greater found d p rest h e = rest e
@@ -123,13 +126,15 @@ bad_one Bad one key d e f (inl h) (inr k) = absurd (absent_part (get key d) k.pa
 bad_one Bad one key d e f (inr h) (inl k) = absurd (absent_part (get key d) h.part k.0 h.there)
 bad_one Bad one key d e f (inr h) (inr k) = has_bad_one Bad one key d e f h k
 
-part_or : {A : Type 0} (Is : Says A) (Bad : Fails) → SayOrFail Is Bad → (key : List ℕ) (d p : Data) → HoldsIntegers d → get key d ≡ Some p → ((a : A) × Has Is key d a) ⊎ ((f : JsonFault) × HasBad Bad key d f)
+part_or : {A : Type 0} (Is : Says A) (Bad : Fails) → SayOrFail Is Bad → (key : List ℕ) (d p : Data) → HoldsIntegers d → get key d ≡ Some p
+    → ((a : A) × Has Is key d a) ⊎ ((f : JsonFault) × HasBad Bad key d f)
 part_or Is Bad each key d p held h = elim (each p (part_holds key d p held h)) [
   | inl said ↦ inl (said.0, record { part = p; there = h; is = said.1 })
   | inr failed ↦ inr (under key failed.0, record { part = p; there = h; inner = failed.0; bad = failed.1; fault_is = refl })
 ]
 
-has_at : {A : Type 0} (Is : Says A) (Bad : Fails) → SayOrFail Is Bad → (key : List ℕ) (d : Data) → HoldsIntegers d → (o : Option Data) → get key d ≡ o → ((a : A) × Has Is key d a) ⊎ ((f : JsonFault) × IsBadAt Bad key d f)
+has_at : {A : Type 0} (Is : Says A) (Bad : Fails) → SayOrFail Is Bad → (key : List ℕ) (d : Data) → HoldsIntegers d → (o : Option Data)
+    → get key d ≡ o → ((a : A) × Has Is key d a) ⊎ ((f : JsonFault) × IsBadAt Bad key d f)
 has_at Is Bad each key d held None h = inr (faults.Shape (behind key []), inl (h, refl))
 has_at Is Bad each key d held (Some p) h = elim (part_or Is Bad each key d p held h) [ inl said ↦ inl said | inr failed ↦ inr (failed.0, inr failed.1) ]
 
@@ -160,9 +165,11 @@ may_apart : {A : Type 0} (Is : Says A) (Bad : Fails) → AreApart Is Bad → (ab
 may_apart Is Bad apart absent key d a f (inl h) k = absent_part (get key d) k.part h.0 k.there
 may_apart Is Bad apart absent key d a f (inr h) k = has_bad_apart Is Bad apart key d a f h k
 
-may_at : {A : Type 0} (Is : Says A) (Bad : Fails) → SayOrFail Is Bad → (absent : A) (key : List ℕ) (d : Data) → HoldsIntegers d → (o : Option Data) → get key d ≡ o → ((a : A) × MayHave Is absent key d a) ⊎ ((f : JsonFault) × HasBad Bad key d f)
+may_at : {A : Type 0} (Is : Says A) (Bad : Fails) → SayOrFail Is Bad → (absent : A) (key : List ℕ) (d : Data) → HoldsIntegers d → (o : Option Data)
+    → get key d ≡ o → ((a : A) × MayHave Is absent key d a) ⊎ ((f : JsonFault) × HasBad Bad key d f)
 may_at Is Bad each absent key d held None h = inl (absent, inl (h, refl))
-may_at Is Bad each absent key d held (Some p) h = elim (part_or Is Bad each key d p held h) [ inl said ↦ inl (said.0, inr said.1) | inr failed ↦ inr failed ]
+may_at Is Bad each absent key d held (Some p) h =
+    elim (part_or Is Bad each key d p held h) [ inl said ↦ inl (said.0, inr said.1) | inr failed ↦ inr failed ]
 
 -- the rule of a key that may be missing
 pub may_rule : {A : Type 0} (Is : Says A) (Bad : Fails) → IsRule Is Bad → (absent : A) (key : List ℕ) → IsRule (MayHave Is absent key) (HasBad Bad key)
@@ -203,7 +210,8 @@ Both IsA IsB d p = IsA d p.0 × IsB p.0 d p.1
 abbrev pub FirstOf : {A : Type 0} → Says A → Fails → (A → Fails) → Fails
 FirstOf IsA BadA BadB d = Then (BadA d) (IsA d) (λ a. BadB a d)
 
-module _ {A B : Type 0} (IsA : Says A) (BadA : Fails) (IsB : A → Says B) (BadB : A → Fails) (first : IsRule IsA BadA) (second : (a : A) → IsRule (IsB a) (BadB a)) where
+module _ {A B : Type 0} (IsA : Says A) (BadA : Fails) (IsB : A → Says B) (BadB : A → Fails) (first : IsRule IsA BadA)
+    (second : (a : A) → IsRule (IsB a) (BadB a)) where
   pair_by : (p q : A × B) → (e : p.0 ≡ q.0) → p.1 ≡ q.1 → p ≡ q
   pair_by p q e f = ap₂ (λ a b. (a, b)) e f
 
@@ -281,7 +289,8 @@ module _ {A : Type 0} (keys : List (List ℕ)) (Is : Says A) (Bad : Fails) (rule
   }
 
 -- a rule of the parts is a rule of what they make
-pub made_rule : {A B : Type 0} (Is : Says A) (Made : Says B) (Bad : Fails) → IsRule Is Bad → (make : A → B) (parts : B → A) → ((b : B) → make (parts b) ≡ b)
+pub made_rule : {A B : Type 0} (Is : Says A) (Made : Says B) (Bad : Fails) → IsRule Is Bad → (make : A → B) (parts : B → A)
+    → ((b : B) → make (parts b) ≡ b)
     → ((d : Data) (a : A) → Is d a → Made d (make a)) → ((d : Data) (b : B) → Made d b → Is d (parts b)) → IsRule Made Bad
 made_rule Is Made Bad rule make parts same forth back = record {
   one = λ d a b h k. sym (same a) ∙ ap make (rule.one d (parts a) (parts b) (back d a h) (back d b k)) ∙ same b;
@@ -311,13 +320,15 @@ zip_one Is one (d ∷ ds) (x ∷ xs) [] h k = absurd k
 zip_one Is one (d ∷ ds) (x ∷ xs) (y ∷ ys) h k = ap₂ (λ a b. a ∷ b) (one d x y h.0 k.0) (zip_one Is one ds xs ys h.1 k.1)
 
 -- a value among those that say their parts says its part
-zip_at : {A : Type 0} (Is : Says A) (before : List Data) (d : Data) (after : List Data) (xs : List A) → AllZip Is (before ++ d ∷ after) xs → (a : A) × Is d a
+zip_at : {A : Type 0} (Is : Says A) (before : List Data) (d : Data) (after : List Data) (xs : List A) → AllZip Is (before ++ d ∷ after) xs → (a : A)
+    × Is d a
 zip_at Is [] d after [] h = absurd h
 zip_at Is [] d after (x ∷ xs) h = (x, h.0)
 zip_at Is (e ∷ before) d after [] h = absurd h
 zip_at Is (e ∷ before) d after (x ∷ xs) h = zip_at Is before d after xs h.1
 
-pub items_apart : {A : Type 0} (Is : Says A) (Bad : Fails) → AreApart Is Bad → (ds : List Data) (xs : List A) (f : JsonFault) → AllZip Is ds xs → IsBadItem Is Bad ds f → ⊥
+pub items_apart : {A : Type 0} (Is : Says A) (Bad : Fails) → AreApart Is Bad → (ds : List Data) (xs : List A) (f : JsonFault) → AllZip Is ds xs
+    → IsBadItem Is Bad ds f → ⊥
 items_apart Is Bad apart ds xs f h k =
     let said = zip_at Is k.before k.part k.after xs (subst (λ t. AllZip Is t xs) k.values_are h) in
     apart k.part said.0 k.inner said.1 k.bad
@@ -331,26 +342,33 @@ tail_of [] = []
 tail_of (e ∷ ds) = ds
 
 -- the first faulty value stands at one place
-first_one : {A : Type 0} (Is : Says A) (Bad : Fails) → FailOne Bad → AreApart Is Bad → (before after more rest : List Data) (d e : Data) (xs ys : List A) (i j : JsonFault)
-    → before ++ d ∷ after ≡ more ++ e ∷ rest → AllZip Is before xs → AllZip Is more ys → Bad d i → Bad e j → (length before ≡ length more) × (i ≡ j)
+first_one : {A : Type 0} (Is : Says A) (Bad : Fails) → FailOne Bad → AreApart Is Bad
+    → (before after more rest : List Data) (d e : Data) (xs ys : List A) (i j : JsonFault)
+    → before ++ d ∷ after ≡ more ++ e ∷ rest → AllZip Is before xs → AllZip Is more ys → Bad d i → Bad e j → (length before ≡ length more)
+    × (i ≡ j)
 first_one Is Bad one apart [] after [] rest d e xs ys i j same h k b c = (refl, one e i j (subst (λ p. Bad p i) (ap (head_of d) same) b) c)
 first_one Is Bad one apart [] after (m ∷ more) rest d e xs [] i j same h k b c = absurd k
-first_one Is Bad one apart [] after (m ∷ more) rest d e xs (y ∷ ys) i j same h k b c = absurd (apart d y i (subst (λ p. Is p y) (sym (ap (head_of d) same)) k.0) b)
+first_one Is Bad one apart [] after (m ∷ more) rest d e xs (y ∷ ys) i j same h k b c =
+    absurd (apart d y i (subst (λ p. Is p y) (sym (ap (head_of d) same)) k.0) b)
 first_one Is Bad one apart (p ∷ before) after [] rest d e [] ys i j same h k b c = absurd h
-first_one Is Bad one apart (p ∷ before) after [] rest d e (x ∷ xs) ys i j same h k b c = absurd (apart e x j (subst (λ q. Is q x) (ap (head_of e) same) h.0) c)
+first_one Is Bad one apart (p ∷ before) after [] rest d e (x ∷ xs) ys i j same h k b c =
+    absurd (apart e x j (subst (λ q. Is q x) (ap (head_of e) same) h.0) c)
 first_one Is Bad one apart (p ∷ before) after (m ∷ more) rest d e [] ys i j same h k b c = absurd h
 first_one Is Bad one apart (p ∷ before) after (m ∷ more) rest d e (x ∷ xs) [] i j same h k b c = absurd k
 first_one Is Bad one apart (p ∷ before) after (m ∷ more) rest d e (x ∷ xs) (y ∷ ys) i j same h k b c =
     let later = first_one Is Bad one apart before after more rest d e xs ys i j (ap tail_of same) h.1 k.1 b c in
     (ap suc later.0, later.1)
 
-pub items_one : {A : Type 0} (Is : Says A) (Bad : Fails) → FailOne Bad → AreApart Is Bad → (ds : List Data) (e f : JsonFault) → IsBadItem Is Bad ds e → IsBadItem Is Bad ds f → e ≡ f
+pub items_one : {A : Type 0} (Is : Says A) (Bad : Fails) → FailOne Bad → AreApart Is Bad → (ds : List Data) (e f : JsonFault) → IsBadItem Is Bad ds e
+    → IsBadItem Is Bad ds f → e ≡ f
 items_one Is Bad one apart ds e f h k =
-    let first = first_one Is Bad one apart h.before h.after k.before k.after h.part k.part h.said k.said h.inner k.inner (sym h.values_are ∙ k.values_are) h.before_are k.before_are h.bad k.bad in
+    let first = first_one Is Bad one apart h.before h.after k.before k.after h.part k.part h.said k.said h.inner k.inner
+    (sym h.values_are ∙ k.values_are) h.before_are k.before_are h.bad k.bad in
     h.fault_is ∙ ap₂ (λ n i. under (decimal n) i) first.0 first.1 ∙ sym k.fault_is
 
 -- the values say their parts, or one is the first that is faulty
-pub items_or : {A : Type 0} (Is : Says A) (Bad : Fails) → SayOrFail Is Bad → (done : List Data) (said : List A) (ds : List Data) → EachHolds ds → AllZip Is done said
+pub items_or : {A : Type 0} (Is : Says A) (Bad : Fails) → SayOrFail Is Bad → (done : List Data) (said : List A) (ds : List Data) → EachHolds ds
+    → AllZip Is done said
     → ((xs : List A) × AllZip Is (done ++ ds) xs) ⊎ ((f : JsonFault) × IsBadItem Is Bad (done ++ ds) f)
 items_or Is Bad each done said [] held h = inl (said, subst (λ t. AllZip Is t said) (sym (append-nil done)) h)
 items_or Is Bad each done said (d ∷ ds) held h = elim (each d held.0) [

@@ -1,5 +1,6 @@
 -- The rules of single values: numbers, places of p-values, counts, texts, names and weights of edges.
-use Rattle.std.proofs.Common.{◌≡◌, ◌∙◌, ◌≤◌, ◌<◌, ◌^◌, ◌⊎◌, inl, inr, [], ◌∷◌, ℕ, ℤ, pos, List, Option, Some, None, refl, sym, ap, ap₂, subst, map, true≢false, arith}
+use Rattle.std.proofs.Common.{◌≡◌, ◌∙◌, ◌≤◌, ◌<◌, ◌^◌, ◌⊎◌, inl, inr, [], ◌∷◌, ℕ, ℤ, pos, List, Option, Some, None}
+use Rattle.std.proofs.Common.{refl, sym, ap, ap₂, subst, map, true≢false, arith}
 use Rattle.std.specs.Prelude.{unsigned_abs}
 use Rattle.std.proofs.lemmas.Bool.{cases_order}
 use Rattle.field_core.specs.Terms.{Terms, IsReduced}
@@ -70,7 +71,8 @@ held_size (unsigned n) z held e = subst (λ y. unsigned_abs y < 2 ^ 64) (same_so
 held_size (negative y) z held e = subst (λ x. unsigned_abs x < 2 ^ 64) (same_some (Some y) y z refl e) held
 held_size (float x) z held e = absurd (cc e)
 
-whole_or : (n : Num) → IsHeld n → (o : Option ℤ) → as_integer n ≡ o → ((a : Ratio) × IsNumber (number n) a) ⊎ ((f : JsonFault) × IsNumberFault (number n) f)
+whole_or : (n : Num) → IsHeld n → (o : Option ℤ) → as_integer n ≡ o → ((a : Ratio) × IsNumber (number n) a)
+    ⊎ ((f : JsonFault) × IsNumberFault (number n) f)
 whole_or n held None e = inr (NotWhole [], (e, refl))
 whole_or n held (Some z) e = inl (ratio_of (whole z) (whole_reduced z (held_size n z held e)), (z, e, refl))
 
@@ -129,7 +131,8 @@ place_apart (string s) a f h k = some_number_apart (string s) a f h k
 place_apart (array ds) a f h k = h
 place_apart (object ms) a f h k = h
 
-placed : (d : Data) → ((a : Ratio) × IsNumber d a) ⊎ ((f : JsonFault) × IsNumberFault d f) → ((p : Option Ratio) × IsSome IsNumber d p) ⊎ ((f : JsonFault) × IsNumberFault d f)
+placed : (d : Data) → ((a : Ratio) × IsNumber d a) ⊎ ((f : JsonFault) × IsNumberFault d f) → ((p : Option Ratio) × IsSome IsNumber d p)
+    ⊎ ((f : JsonFault) × IsNumberFault d f)
 placed d (inl said) = inl (Some said.0, said.1)
 placed d (inr failed) = inr failed
 
@@ -290,7 +293,8 @@ module _ (names : List (List ℕ)) where
   hypothesis_apart (array ds) a f h k = h
   hypothesis_apart (object ms) a f h k = h
 
-  named_or : (s : List ℕ) (o : Option ℕ) → position_of s names ≡ o → ((a : ℕ) × IsHypothesis names (string s) a) ⊎ ((f : JsonFault) × IsHypothesisFault names (string s) f)
+  named_or : (s : List ℕ) (o : Option ℕ) → position_of s names ≡ o → ((a : ℕ) × IsHypothesis names (string s) a)
+      ⊎ ((f : JsonFault) × IsHypothesisFault names (string s) f)
   named_or s None e = inr (UnknownName [], (e, refl))
   named_or s (Some i) e = inl (i, e)
 
@@ -311,7 +315,13 @@ module _ (names : List (List ℕ)) where
   hypothesis_paths (object ms) f h = shape_path [] f h
 
   pub hypothesis_rule : IsRule (IsHypothesis names) (IsHypothesisFault names)
-  hypothesis_rule = record { one = hypothesis_one; fault_one = hypothesis_fault_one; apart = hypothesis_apart; either = hypothesis_or; paths = hypothesis_paths }
+  hypothesis_rule = record {
+    one = hypothesis_one;
+    fault_one = hypothesis_fault_one;
+    apart = hypothesis_apart;
+    either = hypothesis_or;
+    paths = hypothesis_paths;
+  }
 
 -- ---- weights of edges
 
@@ -380,14 +390,16 @@ short_or_long n = elim (cases_order n (10 ^ 18)) [
   | inr (inr more) ↦ inr more
 ]
 
-whole_weight_or : (n : Num) → IsHeld n → (o : Option ℤ) → as_integer n ≡ o → ((a : List Ratio) × IsWeight (number n) a) ⊎ ((f : JsonFault) × IsWholeWeightFault o f)
+whole_weight_or : (n : Num) → IsHeld n → (o : Option ℤ) → as_integer n ≡ o → ((a : List Ratio) × IsWeight (number n) a)
+    ⊎ ((f : JsonFault) × IsWholeWeightFault o f)
 whole_weight_or n held None e = inr (NotWhole [], refl)
 whole_weight_or n held (Some z) e = elim (short_or_long (unsigned_abs z)) [
   | inl short ↦ inl (entry_of z (whole_reduced z (held_size n z held e)), (z, e, short, refl))
   | inr long ↦ inr (Expr [] Part, (long, refl))
 ]
 
-expression_or : (s : List ℕ) → ((e : List Ratio) × IsEntryText s e) ⊎ ((f : ExprFault) × IsExprFault s f) → ((a : List Ratio) × IsWeight (string s) a) ⊎ ((f : JsonFault) × IsWeightFault (string s) f)
+expression_or : (s : List ℕ) → ((e : List Ratio) × IsEntryText s e) ⊎ ((f : ExprFault) × IsExprFault s f)
+    → ((a : List Ratio) × IsWeight (string s) a) ⊎ ((f : JsonFault) × IsWeightFault (string s) f)
 expression_or s (inl said) = inl said
 expression_or s (inr failed) = inr (Expr [] failed.0, (failed.0, failed.1, refl))
 

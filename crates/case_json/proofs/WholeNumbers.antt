@@ -13,4 +13,9 @@ narrow : (n : ℕ) → n < 2 ^ 64 → n < 2 ^ 127
 narrow n small = omega (arith, small)
 
 pub whole_reduced : (z : ℤ) → unsigned_abs z < 2 ^ 64 → IsReduced (record { num = z; den = pos 1 })
-whole_reduced z small = record { positive = omega (arith, ints); num_size = narrow (unsigned_abs z) small; den_size = lit< tt; reduced = over_one (unsigned_abs z) }
+whole_reduced z small = record {
+  positive = omega (arith, ints);
+  num_size = narrow (unsigned_abs z) small;
+  den_size = lit< tt;
+  reduced = over_one (unsigned_abs z);
+}

@@ -37,6 +37,7 @@ says_case case bytes is = record {
 }
 
 -- bytes that are the JSON of the value of a case say the case
-pub written_says : {E : Type 0} (written : Result (List ℕ) E) (case : Case) → IfOk written (λ bytes. IsJson bytes (case_value (content case))) → IfOk written (λ bytes. IsCaseOf bytes case)
+pub written_says : {E : Type 0} (written : Result (List ℕ) E) (case : Case) → IfOk written (λ bytes. IsJson bytes (case_value (content case)))
+    → IfOk written (λ bytes. IsCaseOf bytes case)
 written_says (Ok bytes) case h = says_case case bytes h
 written_says (Err e) case h = tt

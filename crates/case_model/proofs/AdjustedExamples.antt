@@ -33,7 +33,8 @@ module _ (p : ℕ → Number) where
 
   -- and one that is rejected passes
   rejected_passing : (level : Number) (j : ℕ) → IsRejected two_halves p level j → Passes (p j) half level
-  rejected_passing level j r = subst (λ k. Passes (p k) half level) (in_only j l.hypothesis l.legal.member.member) (legal_passes two_halves p level (only j) l.hypothesis half l.legal (halves_weight (only j) l.hypothesis l.legal.member))
+  rejected_passing level j r = subst (λ k. Passes (p k) half level) (in_only j l.hypothesis l.legal.member.member)
+      (legal_passes two_halves p level (only j) l.hypothesis half l.legal (halves_weight (only j) l.hypothesis l.legal.member))
     where
       l : IsLocallyRejected two_halves p level (only j)
       l = r.each (only j) (λ i q e. e)
@@ -44,12 +45,17 @@ module _ (p : ℕ → Number) where
   twice j a b u e = record {
     unit = u;
     rejected = passing_rejected a j b (record { positive = half_positive; small = at_most_equal _ _ (sym e) });
-    least = λ level v r. mul_le_cancel number_field half a level (positive-at_least_zero half half_positive) (positive-nonzero half half_positive) (subst (λ z. z ≤ε (half *ε level)) (sym e) (rejected_passing level j r).small);
+    least = λ level v r. mul_le_cancel number_field half a level (positive-at_least_zero half half_positive) (positive-nonzero half half_positive)
+        (subst (λ z. z ≤ε (half *ε level)) (sym e) (rejected_passing level j r).small);
   }
 
 -- a fraction from 0 to 1
-between : (n d : ℕ) → fraction (pos 0) (pos 1) ≤ε fraction (pos n) (pos d) → fraction (pos n) (pos d) ≤ε fraction (pos 1) (pos 1) → IsUnit (fraction (pos n) (pos d))
-between n d low high = record { low = subst (λ z. z ≤ε fraction (pos n) (pos d)) (sym zero_is) low; high = subst (λ z. fraction (pos n) (pos d) ≤ε z) (sym one_is) high }
+between : (n d : ℕ) → fraction (pos 0) (pos 1) ≤ε fraction (pos n) (pos d) → fraction (pos n) (pos d) ≤ε fraction (pos 1) (pos 1)
+    → IsUnit (fraction (pos n) (pos d))
+between n d low high = record {
+  low = subst (λ z. z ≤ε fraction (pos n) (pos d)) (sym zero_is) low;
+  high = subst (λ z. fraction (pos n) (pos d) ≤ε z) (sym one_is) high;
+}
 
 twentieth_unit : IsUnit twentieth
 twentieth_unit = between 1 20
@@ -65,7 +71,10 @@ half_second : half *ε fraction (pos 13) (pos 250) ≡ fraction (pos 13) (pos 50
 half_second = fraction-multiply (pos 1) (pos 2) (pos 13) (pos 250) (suc_not_zero 1) (suc_not_zero 249)
 
 pub two_halves_least : LeastLevelsOfTwoHalves
-two_halves_least = (twice near_half 0 twentieth (omega arith) twentieth_unit half_twentieth, twice near_half 1 (fraction (pos 13) (pos 250)) (omega arith) second_unit half_second)
+two_halves_least = (
+  twice near_half 0 twentieth (omega arith) twentieth_unit half_twentieth,
+  twice near_half 1 (fraction (pos 13) (pos 250)) (omega arith) second_unit half_second,
+)
 
 pub never_without_weights : WeightZeroIsNeverRejected
 never_without_weights m j level u r = nothing_rejected m level j r

@@ -46,7 +46,12 @@ module _ (E : EntangledGraph) (p : ℕ → Number) (j : ℕ) where
   pub adjusted_unique : (x y : Ratio) (r s : Bool) → IsAdjusted E p j x r → IsAdjusted E p j y s → (x ≡ y) × (r ≡ s)
   adjusted_unique x y r s A B = elim (true_or_false r) [
     | inl t ↦ elim (true_or_false s) [
-      | inl u ↦ (same_number x y (at_most_antisymm _ _ ((A.least t).least _ (B.least u).unit (B.least u).rejected) ((B.least u).least _ (A.least t).unit (A.least t).rejected)), t ∙ sym u)
+      | inl u ↦ (
+        same_number x y
+            (at_most_antisymm _ _ ((A.least t).least _ (B.least u).unit (B.least u).rejected) ((B.least u).least _ (A.least t).unit (A.least t).rejected)),
+        t
+            ∙ sym u,
+      )
       | inr g ↦ absurd ((B.never g).0 _ (A.least t).unit (A.least t).rejected)
     ]
     | inr f ↦ elim (true_or_false s) [

@@ -31,16 +31,19 @@ module _ (E : EntangledGraph) (V : IsValidEntangled E) (G : Graph Number) (A : I
   pub alone_agrees : Agrees E.hypotheses whole (E.graph 0) G
   alone_agrees = record { weight = λ l p. A.weight l p.below; edge = λ l k p q _. A.edge l k p.below q.below }
 
-  pub only_weight : (I : ℕ → Bool) (k : ℕ) (x : Number) → IsComponentWeight number_field E.hypotheses (E.graph 0) I k x → IsIntersectionWeight E I k (limit x)
+  pub only_weight : (I : ℕ → Bool) (k : ℕ) (x : Number) → IsComponentWeight number_field E.hypotheses (E.graph 0) I k x
+      → IsIntersectionWeight E I k (limit x)
   only_weight I k x W = record {
     weight = λ _. x;
     is_weight = λ c h. subst (λ d. IsComponentWeight number_field E.hypotheses (E.graph d) I k x) (only_first E.components c A.one h) W;
-    sum = sym (ap (λ n. sum_below number_field n (λ c. E.share c *ε limit x)) A.one ∙ one_term (λ c. E.share c *ε limit x) ∙ ap (λ s. s *ε limit x) A.share ∙ number_one_multiply (limit x));
+    sum = sym (ap (λ n. sum_below number_field n (λ c. E.share c *ε limit x)) A.one ∙ one_term (λ c. E.share c *ε limit x)
+        ∙ ap (λ s. s *ε limit x) A.share ∙ number_one_multiply (limit x));
   }
 
   module _ (left : (ℕ → Bool) → Graph Number) (C : IsClosedForm number_field E.hypotheses left) (S : Agrees E.hypotheses whole G (left whole)) where
     left_weight : (I : ℕ → Bool) (k : ℕ) → IsIn E.hypotheses I k → IsComponentWeight number_field E.hypotheses (E.graph 0) I k ((left I).weight k)
-    left_weight = closed_weight number_field E.hypotheses left C (E.graph 0) (V.graph 0 first_counts) (agrees_on E.hypotheses whole (E.graph 0) G (left whole) alone_agrees S)
+    left_weight = closed_weight number_field E.hypotheses left C (E.graph 0) (V.graph 0 first_counts)
+        (agrees_on E.hypotheses whole (E.graph 0) G (left whole) alone_agrees S)
 
     pub left_unit : (I : ℕ → Bool) (k : ℕ) → IsIn E.hypotheses I k → IsUnit ((left I).weight k)
     left_unit I k q = weight_unit E.hypotheses (E.graph 0) I k ((left I).weight k) (V.graph 0 first_counts) q (left_weight I k q)

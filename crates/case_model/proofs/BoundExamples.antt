@@ -34,7 +34,8 @@ unfolding set_number
 both = refl
 
 without_one : (j : ℕ) → IsIn 2 whole j → IsBound 2 (SaysYes 2 only_both) (dropping j whole) 0
-without_one j q = two (λ j. IsBound 2 (SaysYes 2 only_both) (dropping j whole) 0) (kept (dropping 0 whole) without_first) (kept (dropping 1 whole) without_second) j q.below
+without_one j q = two (λ j. IsBound 2 (SaysYes 2 only_both) (dropping j whole) 0) (kept (dropping 0 whole) without_first)
+    (kept (dropping 1 whole) without_second) j q.below
 
 in_whole : IsIn 2 whole 0
 in_whole = record { below = omega arith; member = refl }

@@ -1,5 +1,6 @@
 -- The bound of a set from those of the sets with one member less.
-use Rattle.std.proofs.Common.{◌≡◌, ◌⊎◌, inl, inr, sym, ap, ◌∙◌, subst, ℕ, zero, suc, ◌+◌, ◌<◌, ◌≤◌, arith, Bool, false, ◌↔◌}
+use Rattle.std.proofs.Common.{◌≡◌, ◌⊎◌, inl, inr, sym, ap, ◌∙◌, subst, ℕ, zero, suc, ◌+◌, ◌<◌, ◌≤◌, arith, Bool, false}
+use Rattle.std.proofs.Common.{◌↔◌}
 use Rattle.field_core.specs.Sets.{IsIn, IsSubset, HaveSameMembers, dropping, size_of}
 use Rattle.field_core.specs.NumberedSets.{members, set_number}
 use Rattle.field_core.proofs.Live.{true_or_false, true_not_false, kept_before}
@@ -65,7 +66,8 @@ pub bound_at_most : (m : ℕ) (Rejected : (ℕ → Bool) → Type 0) (S : ℕ �
 bound_at_most m Rejected S b B = omega (arith, B.bound)
 
 -- two ways of rejection that agree on all sets have the same bounds
-pub bound_by : (m : ℕ) (P Q : (ℕ → Bool) → Type 0) → ((K : ℕ → Bool) → P K → Q K) → ((K : ℕ → Bool) → Q K → P K) → (S : ℕ → Bool) (b : ℕ) → IsBound m P S b → IsBound m Q S b
+pub bound_by : (m : ℕ) (P Q : (ℕ → Bool) → Type 0) → ((K : ℕ → Bool) → P K → Q K) → ((K : ℕ → Bool) → Q K → P K)
+    → (S : ℕ → Bool) (b : ℕ) → IsBound m P S b → IsBound m Q S b
 bound_by m P Q to from S b B = record {
   greatest = B.greatest;
   inside = B.inside;
@@ -87,7 +89,8 @@ one_bound m P S a b A B =
 
 -- ---- bounds exist
 
-module _ (m : ℕ) (Rejected : (ℕ → Bool) → Type 0) (same : (I J : ℕ → Bool) → HaveSameMembers m I J → Rejected I → Rejected J) (decide : (K : ℕ → Bool) → Rejected K ⊎ ¬ Rejected K) where
+module _ (m : ℕ) (Rejected : (ℕ → Bool) → Type 0) (same : (I J : ℕ → Bool) → HaveSameMembers m I J → Rejected I → Rejected J)
+    (decide : (K : ℕ → Bool) → Rejected K ⊎ ¬ Rejected K) where
   -- the least bound of the sets with one member less, of those below `n`
   pub record LeastBelow (S : ℕ → Bool) (n : ℕ) : Type 0 where
     pub taken : ℕ
@@ -96,7 +99,8 @@ module _ (m : ℕ) (Rejected : (ℕ → Bool) → Type 0) (same : (I J : ℕ →
     pub bound : IsBound m Rejected (dropping taken S) least
     pub each : (j : ℕ) → j < n → IsIn m S j → (b : ℕ) × (least ≤ b) × IsBound m Rejected (dropping j S) b
 
-  least_below : (S : ℕ → Bool) → ((j : ℕ) → IsIn m S j → (b : ℕ) × IsBound m Rejected (dropping j S) b) → (n : ℕ) → n ≤ m → ((j : ℕ) → j < n → ¬ IsIn m S j) ⊎ LeastBelow S n
+  least_below : (S : ℕ → Bool) → ((j : ℕ) → IsIn m S j → (b : ℕ) × IsBound m Rejected (dropping j S) b) → (n : ℕ) → n ≤ m
+      → ((j : ℕ) → j < n → ¬ IsIn m S j) ⊎ LeastBelow S n
   least_below S bounds zero h = inl (λ j q. absurd (omega arith))
   least_below S bounds (suc n) h = elim (true_or_false (S n)) [
     | inr f ↦ elim (least_below S bounds n (omega arith)) [
@@ -109,14 +113,16 @@ module _ (m : ℕ) (Rejected : (ℕ → Bool) → Type 0) (same : (I J : ℕ →
         each = λ j q p. elim (at_or_below j n q) [ inl e ↦ absurd (true_not_false (sym p.member ∙ ap S e ∙ f)) | inr b ↦ L.each j b p ];
       })
     ]
-    | inl t ↦ by_last (record { below = omega arith; member = t }) (bounds n (record { below = omega arith; member = t })) (least_below S bounds n (omega arith))
+    | inl t ↦ by_last (record { below = omega arith; member = t }) (bounds n (record { below = omega arith; member = t }))
+        (least_below S bounds n (omega arith))
   ]
     where
       not_last : S n ≡ false → (j : ℕ) → IsIn m S j → (j ≡ n) ⊎ (j < n) → ((i : ℕ) → i < n → ¬ IsIn m S i) → ⊥
       not_last f j p (inl e) none = true_not_false (sym p.member ∙ ap S e ∙ f)
       not_last f j p (inr b) none = none j b p
 
-      here : (p : IsIn m S n) (last : (b : ℕ) × IsBound m Rejected (dropping n S) b) → ((j : ℕ) → j < n → IsIn m S j → (b : ℕ) × (last.0 ≤ b) × IsBound m Rejected (dropping j S) b) → LeastBelow S (suc n)
+      here : (p : IsIn m S n) (last : (b : ℕ) × IsBound m Rejected (dropping n S) b)
+          → ((j : ℕ) → j < n → IsIn m S j → (b : ℕ) × (last.0 ≤ b) × IsBound m Rejected (dropping j S) b) → LeastBelow S (suc n)
       here p last before = record {
         taken = n;
         member = p;
@@ -128,7 +134,8 @@ module _ (m : ℕ) (Rejected : (ℕ → Bool) → Type 0) (same : (I J : ℕ →
         ];
       }
 
-      by_last : IsIn m S n → (last : (b : ℕ) × IsBound m Rejected (dropping n S) b) → ((j : ℕ) → j < n → ¬ IsIn m S j) ⊎ LeastBelow S n → ((j : ℕ) → j < suc n → ¬ IsIn m S j) ⊎ LeastBelow S (suc n)
+      by_last : IsIn m S n → (last : (b : ℕ) × IsBound m Rejected (dropping n S) b) → ((j : ℕ) → j < n → ¬ IsIn m S j) ⊎ LeastBelow S n
+          → ((j : ℕ) → j < suc n → ¬ IsIn m S j) ⊎ LeastBelow S (suc n)
       by_last p last (inl none) = inr (here p last (λ j b s. absurd (none j b s)))
       by_last p last (inr L) = elim (one_or_other last.0 L.least) [
         | inl less ↦ inr (here p last (λ j b s. let x = L.each j b s in (x.0, omega (arith, less, x.1), x.2)))
@@ -150,7 +157,8 @@ module _ (m : ℕ) (Rejected : (ℕ → Bool) → Type 0) (same : (I J : ℕ →
   no_size : (S : ℕ → Bool) → size_of m S ≤ 0 → (k : ℕ) → ¬ IsIn m S k
   no_size S h k q = let e = size_dropped m k S q in absurd (omega (arith, e, h))
 
-  from_least : (S : ℕ → Bool) → Rejected S → (k : ℕ) → IsIn m S k → ((j : ℕ) → j < m → ¬ IsIn m S j) ⊎ LeastBelow S m → (b : ℕ) × IsBound m Rejected S b
+  from_least : (S : ℕ → Bool) → Rejected S → (k : ℕ) → IsIn m S k → ((j : ℕ) → j < m → ¬ IsIn m S j) ⊎ LeastBelow S m → (b : ℕ)
+      × IsBound m Rejected S b
   from_least S r k q (inl none) = absurd (none k q.below q)
   from_least S r k q (inr L) = (L.least + 1, bound_next m Rejected same S L.taken L.least L.member r L.bound (λ j p. L.each j p.below p))
 
@@ -160,7 +168,8 @@ module _ (m : ℕ) (Rejected : (ℕ → Bool) → Type 0) (same : (I J : ℕ →
     | inl none ↦ (0, bound_none m Rejected same S (inl none))
     | inr x ↦ elim (decide S) [
       | inr kept ↦ (0, bound_none m Rejected same S (inr kept))
-      | inl r ↦ from_least S r x.0 x.1 (least_below S (λ j q. bound_within_size n (dropping j S) (let e = size_dropped m j S q in omega (arith, e, h))) m (omega arith))
+      | inl r ↦ from_least S r x.0 x.1
+          (least_below S (λ j q. bound_within_size n (dropping j S) (let e = size_dropped m j S q in omega (arith, e, h))) m (omega arith))
     ]
   ]
 
@@ -177,7 +186,8 @@ module _ (m : ℕ) (table : ℕ → Bool) where
   table_bound_exists = bound_exists m (SaysYes m table) (yes_same m table) yes_or_not
 
   -- a subset with more members than any that isn't rejected is rejected
-  pub large_rejected : (S : ℕ → Bool) (b : ℕ) → IsBound m (SaysYes m table) S b → (K : ℕ → Bool) → IsSubset m K S → size_of m S < b + size_of m K → SaysYes m table K
+  pub large_rejected : (S : ℕ → Bool) (b : ℕ) → IsBound m (SaysYes m table) S b → (K : ℕ → Bool) → IsSubset m K S
+      → size_of m S < b + size_of m K → SaysYes m table K
   large_rejected S b B K h large = elim (yes_or_not K) [
     | inl t ↦ t
     | inr n ↦ let e = B.is_greatest K h (inr n) in absurd (omega (arith, e, large, B.bound))

@@ -1,5 +1,6 @@
 -- The positions by ascending p-value.
-use Rattle.std.proofs.Common.{◌≡◌, ◌⊎◌, inl, inr, refl, sym, ap, ◌∙◌, subst, ℕ, zero, suc, ◌<◌, arith, true, false, cond, List, [], ◌∷◌, length}
+use Rattle.std.proofs.Common.{◌≡◌, ◌⊎◌, inl, inr, refl, sym, ap, ◌∙◌, subst, ℕ, zero, suc, ◌<◌, arith, true, false, cond, List, []}
+use Rattle.std.proofs.Common.{◌∷◌, length}
 use Rattle.field_core.specs.Number.{Number}
 use Rattle.field_core.specs.Order.{◌≤ε◌, at_most}
 use Rattle.field_core.specs.Laws.AtMostLaws.{at_most_trans, at_most_total}
@@ -48,7 +49,8 @@ module _ (p : ℕ → Number) where
   ]
 
   in_inserted : (k : ℕ) (js : List ℕ) (i : ℕ) → (i ≡ k) ⊎ IsListed js i → IsListed (inserted p k js) i
-  in_inserted k [] i h = subst (λ ks. IsListed ks i) (sym (inserted_none k)) (elim h [ inl e ↦ subst (λ a. IsListed (k ∷ []) a) (sym e) (listed_here k []) | inr l ↦ absurd (not_nothing i l) ])
+  in_inserted k [] i h = subst (λ ks. IsListed ks i) (sym (inserted_none k))
+      (elim h [ inl e ↦ subst (λ a. IsListed (k ∷ []) a) (sym e) (listed_here k []) | inr l ↦ absurd (not_nothing i l) ])
   in_inserted k (j ∷ js) i h = elim (true_or_false (at_most (p j) (p k))) [
     | inl t ↦ subst (λ ks. IsListed ks i) (sym (inserted_behind k j js t)) (elim h [
       | inl e ↦ listed_later j i (inserted p k js) (in_inserted k js i (inl e))
@@ -124,11 +126,13 @@ module _ (p : ℕ → Number) where
 
   pub by_p_value_all : (n i : ℕ) → i < n → IsListed (by_p_value p n) i
   by_p_value_all zero i h = absurd (omega (arith, h))
-  by_p_value_all (suc n) i h = subst (λ ks. IsListed ks i) (sym (by_p_value_next n)) (in_inserted n (by_p_value p n) i (elim (at_or_below i n h) [ inl e ↦ inl e | inr b ↦ inr (by_p_value_all n i b) ]))
+  by_p_value_all (suc n) i h = subst (λ ks. IsListed ks i) (sym (by_p_value_next n))
+      (in_inserted n (by_p_value p n) i (elim (at_or_below i n h) [ inl e ↦ inl e | inr b ↦ inr (by_p_value_all n i b) ]))
 
   pub by_p_value_distinct : (n : ℕ) → IsDistinct (by_p_value p n)
   by_p_value_distinct zero = subst IsDistinct (sym by_p_value_none) tt
-  by_p_value_distinct (suc n) = subst IsDistinct (sym (by_p_value_next n)) (inserted_distinct n (by_p_value p n) (λ l. let b : n < n = by_p_value_below n n l in absurd (omega (arith, b))) (by_p_value_distinct n))
+  by_p_value_distinct (suc n) = subst IsDistinct (sym (by_p_value_next n))
+      (inserted_distinct n (by_p_value p n) (λ l. let b : n < n = by_p_value_below n n l in absurd (omega (arith, b))) (by_p_value_distinct n))
 
   pub by_p_value_ordered : (n : ℕ) → IsByPValue p (by_p_value p n)
   by_p_value_ordered zero = subst (IsByPValue p) (sym by_p_value_none) tt

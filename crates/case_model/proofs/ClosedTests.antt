@@ -50,9 +50,11 @@ module _ (m : ℕ) (Local : (ℕ → Bool) → Type 0) where
   closed_same_by S T same = closed_larger_by S T (λ i q e. sym (same i q) ∙ e)
 
   -- (The local test doesn't tell sets with the same members apart, and a set that it rejects has a member.)
-  module _ (same : (I J : ℕ → Bool) → HaveSameMembers m I J → Local I → Local J) (some : (I : ℕ → Bool) → Local I → (k : ℕ) × IsIn m I k) where
+  module _ (same : (I J : ℕ → Bool) → HaveSameMembers m I J → Local I → Local J)
+      (some : (I : ℕ → Bool) → Local I → (k : ℕ) × IsIn m I k) where
     -- a set is rejected by the sets with one member more
-    by_larger : (S : ℕ → Bool) → Local S → ((k : ℕ) → k < m → S k ≡ false → IsClosedRejectedBy m Local (adding k S)) → IsClosedRejectedBy m Local S
+    by_larger : (S : ℕ → Bool) → Local S → ((k : ℕ) → k < m → S k ≡ false → IsClosedRejectedBy m Local (adding k S))
+        → IsClosedRejectedBy m Local S
     by_larger S l more = let k = some S l in record { some = k.0; member = k.1; each = each }
       where
         each : (I : ℕ → Bool) → IsSubset m S I → Local I
@@ -61,11 +63,13 @@ module _ (m : ℕ) (Local : (ℕ → Bool) → Type 0) where
           | inr x ↦ (more x.0 x.1.below x.2).each I (added_subset m x.0 S I h x.1.member)
         ]
 
-    pub rejected_next_by : (S : ℕ → Bool) → IsClosedRejectedBy m Local S ↔ (Local S × ((k : ℕ) → k < m → S k ≡ false → IsClosedRejectedBy m Local (adding k S)))
+    pub rejected_next_by : (S : ℕ → Bool) → IsClosedRejectedBy m Local S
+        ↔ (Local S × ((k : ℕ) → k < m → S k ≡ false → IsClosedRejectedBy m Local (adding k S)))
     rejected_next_by S = (λ r. (r.each S (λ i q e. e), λ k q f. closed_larger_by S (adding k S) (within_adding m k S) r), λ h. by_larger S h.0 h.1)
 
     -- what the local test says of all sets, the closed test says of what they hold
-    pub closed_of_by : (local : ℕ → Bool) → AnswersFor m Local local → (n : ℕ) → n < 2 ^ m → IsYesAbove m local n ↔ IsClosedRejectedBy m Local (members n)
+    pub closed_of_by : (local : ℕ → Bool) → AnswersFor m Local local → (n : ℕ) → n < 2 ^ m → IsYesAbove m local n
+        ↔ IsClosedRejectedBy m Local (members n)
     closed_of_by local answers n b = (to, λ r o there h. (answers o there).1 (r.each (members o) h))
       where
         to : IsYesAbove m local n → IsClosedRejectedBy m Local (members n)
@@ -74,4 +78,5 @@ module _ (m : ℕ) (Local : (ℕ → Bool) → Type 0) where
             each : (I : ℕ → Bool) → IsSubset m (members n) I → Local I
             each I h =
                 let s = members_number m I in
-                same (members (set_number m I)) I s ((answers (set_number m I) (number_below m I)).0 (above (set_number m I) (number_below m I) (λ i q e. s i q ∙ h i q e)))
+                same (members (set_number m I)) I s
+                ((answers (set_number m I) (number_below m I)).0 (above (set_number m I) (number_below m I) (λ i q e. s i q ∙ h i q e)))

@@ -35,10 +35,12 @@ pub at_most_is : (x y : Number) → number_field.at_most x y ≡ is_le (number_c
 at_most_is x y = by_difference x y ∙ ap not_less (number_is_field.compare_swap x y) ∙ reversed (number_compare x y)
 
 -- fractions compare by their cross products
-pub compare_terms : (x y : Terms) → pos 0 <ℤ x.den → pos 0 <ℤ y.den → int_cmp (x.num *ℤ y.den) (y.num *ℤ x.den) ≡ number_compare (number x) (number y)
+pub compare_terms : (x y : Terms) → pos 0 <ℤ x.den → pos 0 <ℤ y.den
+    → int_cmp (x.num *ℤ y.den) (y.num *ℤ x.den) ≡ number_compare (number x) (number y)
 compare_terms x y h g = sym (fraction-compare x.num x.den y.num y.den h g)
 
-pub at_most_terms : (x y : Terms) → pos 0 <ℤ x.den → pos 0 <ℤ y.den → is_le (int_cmp (x.num *ℤ y.den) (y.num *ℤ x.den)) ≡ number_field.at_most (number x) (number y)
+pub at_most_terms : (x y : Terms) → pos 0 <ℤ x.den → pos 0 <ℤ y.den
+    → is_le (int_cmp (x.num *ℤ y.den) (y.num *ℤ x.den)) ≡ number_field.at_most (number x) (number y)
 at_most_terms x y h g = ap is_le (compare_terms x y h g) ∙ sym (at_most_is (number x) (number y))
 
 turned : (o : Ordering) → is_le (ordering_reverse o) ≡ is_ge o
@@ -85,19 +87,24 @@ pub one_is : (z : Ratio) → fraction_parts z ≡ plain.one → number_of z ≡ 
 unfolding value_of
 one_is z e = ap value_of e ∙ plain_is_exact.one_value
 
-pub at_least_zero_is : (x z : Ratio) → fraction_parts z ≡ plain.zero → is_ge (int_cmp (x.num *ℤ z.den) (z.num *ℤ x.den)) ≡ at_most number_zero (number_of x)
+pub at_least_zero_is : (x z : Ratio) → fraction_parts z ≡ plain.zero
+    → is_ge (int_cmp (x.num *ℤ z.den) (z.num *ℤ x.den)) ≡ at_most number_zero (number_of x)
 at_least_zero_is x z e = ge_is x z ∙ ap (λ n. at_most n (number_of x)) (zero_is z e)
 
-pub below_zero_is : (x z : Ratio) → fraction_parts z ≡ plain.zero → is_lt (int_cmp (x.num *ℤ z.den) (z.num *ℤ x.den)) ≡ not (at_most number_zero (number_of x))
+pub below_zero_is : (x z : Ratio) → fraction_parts z ≡ plain.zero
+    → is_lt (int_cmp (x.num *ℤ z.den) (z.num *ℤ x.den)) ≡ not (at_most number_zero (number_of x))
 below_zero_is x z e = less _ ∙ ap not (at_least_zero_is x z e)
 
-pub above_zero_is : (x z : Ratio) → fraction_parts z ≡ plain.zero → is_gt (int_cmp (x.num *ℤ z.den) (z.num *ℤ x.den)) ≡ not (at_most (number_of x) number_zero)
+pub above_zero_is : (x z : Ratio) → fraction_parts z ≡ plain.zero
+    → is_gt (int_cmp (x.num *ℤ z.den) (z.num *ℤ x.den)) ≡ not (at_most (number_of x) number_zero)
 above_zero_is x z e = greater _ ∙ ap not (le_is x z ∙ ap (at_most (number_of x)) (zero_is z e))
 
-pub at_most_one_is : (x z : Ratio) → fraction_parts z ≡ plain.one → is_le (int_cmp (x.num *ℤ z.den) (z.num *ℤ x.den)) ≡ at_most (number_of x) number_one
+pub at_most_one_is : (x z : Ratio) → fraction_parts z ≡ plain.one
+    → is_le (int_cmp (x.num *ℤ z.den) (z.num *ℤ x.den)) ≡ at_most (number_of x) number_one
 at_most_one_is x z e = le_is x z ∙ ap (at_most (number_of x)) (one_is z e)
 
-pub above_one_is : (x z : Ratio) → fraction_parts z ≡ plain.one → is_gt (int_cmp (x.num *ℤ z.den) (z.num *ℤ x.den)) ≡ not (at_most (number_of x) number_one)
+pub above_one_is : (x z : Ratio) → fraction_parts z ≡ plain.one
+    → is_gt (int_cmp (x.num *ℤ z.den) (z.num *ℤ x.den)) ≡ not (at_most (number_of x) number_one)
 above_one_is x z e = greater _ ∙ ap not (at_most_one_is x z e)
 
 -- the sign of a fraction is that of its numerator

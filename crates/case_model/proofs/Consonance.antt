@@ -22,7 +22,8 @@ module _ (m : ℕ) (Rule : (ℕ → Bool) → ℕ → Type 0) where
       C.smaller I J k (λ i q e. same i q ∙ e) (record { below = p.below; member = sym (same k p.below) ∙ p.member }) r
 
   -- of each set that holds a hypothesis of an order, the rule allows one: the first of the order that is in it
-  pub listed_rejects : IsConsonant → (js : List ℕ) (I J : ℕ → Bool) → IsOrderBy Rule I js → IsSubset m J I → (j : ℕ) → IsIn m J j → IsListed js j → (k : ℕ) × Rule J k
+  pub listed_rejects : IsConsonant → (js : List ℕ) (I J : ℕ → Bool) → IsOrderBy Rule I js → IsSubset m J I → (j : ℕ) → IsIn m J j
+      → IsListed js j → (k : ℕ) × Rule J k
   listed_rejects C [] I J o sub j p h = absurd (cc)
   listed_rejects C (i ∷ js) I J o sub j p h = elim (true_or_false (J i)) [
     | inl t ↦ (i, C.smaller I J i sub (record { below = (C.inside I i o.0).below; member = t }) o.0)
@@ -33,7 +34,8 @@ module _ (m : ℕ) (Rule : (ℕ → Bool) → ℕ → Type 0) where
       later f = elim (here_or_later i j js h) [ inl e ↦ absurd (true_not_false (sym p.member ∙ ap J e ∙ f)) | inr l ↦ l ]
 
   -- where the rule allows none once those of a list are removed, the list has each hypothesis of whose sets it always allows one
-  pub all_listed : (js : List ℕ) → IsCompleteBy Rule whole js → (j : ℕ) → j < m → ((J : ℕ → Bool) → IsIn m J j → (k : ℕ) × Rule J k) → IsListed js j
+  pub all_listed : (js : List ℕ) → IsCompleteBy Rule whole js → (j : ℕ) → j < m → ((J : ℕ → Bool) → IsIn m J j → (k : ℕ) × Rule J k)
+      → IsListed js j
   all_listed js complete j q each = elim (listed_or_not js j) [
     | inl l ↦ l
     | inr n ↦ absurd (none (each (left_after whole js) (record { below = q; member = not_listed_left js whole j refl n })))

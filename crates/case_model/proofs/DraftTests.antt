@@ -1,5 +1,6 @@
 -- A row of tests finds nothing exactly where it finds nothing at any place.
-use Rattle.std.proofs.Common.{◌≡◌, ◌≢◌, refl, sym, ap, ◌∙◌, ℕ, zero, suc, ◌+◌, ◌<◌, List, [], ◌∷◌, take, slice_get, map, is_some, Bool, true, false, not, ◌&&◌, ◌||◌, Option, Some, None, Result, Ok, Err, arith}
+use Rattle.std.proofs.Common.{◌≡◌, ◌≢◌, refl, sym, ap, ◌∙◌, ℕ, zero, suc, ◌+◌, ◌<◌, List, [], ◌∷◌, take, slice_get, map}
+use Rattle.std.proofs.Common.{is_some, Bool, true, false, not, ◌&&◌, ◌||◌, Option, Some, None, Result, Ok, Err, arith}
 use Rattle.std.proofs.lemmas.Option.{slice_get_within, get_or_from_slice_get, slice_get-map}
 use Rattle.std.specs.List.{list_all, list_any}
 use Rattle.std.specs.Option.{option_map}
@@ -23,18 +24,22 @@ unless_true test f h = ap (λ b. f when not b) h
 
 -- ---- lists
 
-from_none : {A : Type 0} (row : ℕ → A → Option CaseFault) (i : ℕ) (xs : List A) → ((n : ℕ) (x : A) → slice_get xs n ≡ Some x → row (i + n) x ≡ None) → first_from row i xs ≡ None
+from_none : {A : Type 0} (row : ℕ → A → Option CaseFault) (i : ℕ) (xs : List A)
+    → ((n : ℕ) (x : A) → slice_get xs n ≡ Some x → row (i + n) x ≡ None) → first_from row i xs ≡ None
 unfolding first_from
 from_none row i [] h = refl
 from_none row i (x ∷ xs) h =
     let here : i ≡ i + 0 = omega arith in
     let next : (n : ℕ) → i + 1 + n ≡ i + suc n = λ n. omega arith in
-    none_or (row i x) (first_from row (i + 1) xs) (ap (λ k. row k x) here ∙ h 0 x refl) (from_none row (i + 1) xs (λ n y e. ap (λ k. row k y) (next n) ∙ h (suc n) y e))
+    none_or (row i x) (first_from row (i + 1) xs) (ap (λ k. row k x) here ∙ h 0 x refl)
+    (from_none row (i + 1) xs (λ n y e. ap (λ k. row k y) (next n) ∙ h (suc n) y e))
 
-pub each_none : {A : Type 0} (row : ℕ → A → Option CaseFault) (xs : List A) → ((n : ℕ) (x : A) → slice_get xs n ≡ Some x → row n x ≡ None) → first_of row xs ≡ None
+pub each_none : {A : Type 0} (row : ℕ → A → Option CaseFault) (xs : List A) → ((n : ℕ) (x : A) → slice_get xs n ≡ Some x → row n x ≡ None)
+    → first_of row xs ≡ None
 each_none row xs h = from_none row 0 xs (λ n x e. let same : 0 + n ≡ n = omega arith in ap (λ k. row k x) same ∙ h n x e)
 
-pub none_each : {A : Type 0} (row : ℕ → A → Option CaseFault) (xs : List A) → first_of row xs ≡ None → (n : ℕ) (x : A) → slice_get xs n ≡ Some x → row n x ≡ None
+pub none_each : {A : Type 0} (row : ℕ → A → Option CaseFault) (xs : List A) → first_of row xs ≡ None → (n : ℕ) (x : A)
+    → slice_get xs n ≡ Some x → row n x ≡ None
 none_each row xs h n x e = ap (row n) (sym (get_or_from_slice_get xs n x x e)) ∙ no_first row xs n x h (slice_get_within xs n x e)
 
 pub below_each : (row : ℕ → Option CaseFault) (m : ℕ) → ((i : ℕ) → i < m → row i ≡ None) → first_below row m ≡ None
@@ -70,7 +75,8 @@ each_all test (y ∷ ys) h = ap (λ b. b && list_all test ys) (h 0 y refl) ∙ e
 
 -- ---- items before a place
 
-pub none_before : {A : Type 0} (test : A → Bool) (xs : List A) (n : ℕ) → list_any test (take n xs) ≡ false → (i : ℕ) (x : A) → i < n → slice_get xs i ≡ Some x → test x ≡ false
+pub none_before : {A : Type 0} (test : A → Bool) (xs : List A) (n : ℕ) → list_any test (take n xs) ≡ false → (i : ℕ) (x : A) → i < n
+    → slice_get xs i ≡ Some x → test x ≡ false
 none_before test [] n h zero x k e = absurd (let q : Path (Option _) None (Some x) = e in cc)
 none_before test [] n h (suc i) x k e = absurd (let q : Path (Option _) None (Some x) = e in cc)
 none_before test (y ∷ ys) zero h i x k e = absurd (omega arith)
@@ -87,36 +93,44 @@ none_before test (y ∷ ys) (suc n) h (suc i) x k e = none_before test ys n (rig
     right_false true b h = absurd (cc)
     right_false false b h = h
 
-pub before_none : {A : Type 0} (test : A → Bool) (xs : List A) (n : ℕ) → ((i : ℕ) (x : A) → i < n → slice_get xs i ≡ Some x → test x ≡ false) → list_any test (take n xs) ≡ false
+pub before_none : {A : Type 0} (test : A → Bool) (xs : List A) (n : ℕ) → ((i : ℕ) (x : A) → i < n → slice_get xs i ≡ Some x → test x ≡ false)
+    → list_any test (take n xs) ≡ false
 before_none test [] zero h = refl
 before_none test [] (suc n) h = refl
 before_none test (y ∷ ys) zero h = refl
-before_none test (y ∷ ys) (suc n) h = ap (λ b. b || list_any test (take n ys)) (h 0 y (omega arith) refl) ∙ before_none test ys n (λ i x k e. h (suc i) x (omega arith) e)
+before_none test (y ∷ ys) (suc n) h = ap (λ b. b || list_any test (take n ys)) (h 0 y (omega arith) refl)
+    ∙ before_none test ys n (λ i x k e. h (suc i) x (omega arith) e)
 
 -- ---- written sums
 
-pub can_write : {A : Type 0} (r : Result A WideAt) (value bound : Number) (above : CaseFault) → bound_fault r value bound above ≡ None → ((e : WideAt) → r ≢ Err e) × (at_most value bound ≡ true)
+pub can_write : {A : Type 0} (r : Result A WideAt) (value bound : Number) (above : CaseFault) → bound_fault r value bound above ≡ None
+    → ((e : WideAt) → r ≢ Err e) × (at_most value bound ≡ true)
 can_write (Ok s) value bound above h = (λ e q. let p : Path (Result _ WideAt) (Ok s) (Err e) = q in cc, no_unless (at_most value bound) above h)
 can_write (Err e) value bound above h = absurd (cc)
 
-pub within_bound : {A : Type 0} (r : Result A WideAt) (value bound : Number) (above : CaseFault) → ((e : WideAt) → r ≢ Err e) → at_most value bound ≡ true → bound_fault r value bound above ≡ None
+pub within_bound : {A : Type 0} (r : Result A WideAt) (value bound : Number) (above : CaseFault) → ((e : WideAt) → r ≢ Err e)
+    → at_most value bound ≡ true → bound_fault r value bound above ≡ None
 within_bound (Ok s) value bound above w h = unless_true (at_most value bound) above h
 within_bound (Err e) value bound above w h = absurd (w e refl)
 
 -- ---- tests of mapped lists
 
-from_mapped_none : {A B : Type 0} (row : ℕ → B → Option CaseFault) (f : A → B) (i : ℕ) (xs : List A) → ((n : ℕ) (x : A) → slice_get xs n ≡ Some x → row (i + n) (f x) ≡ None) → first_from row i (map f xs) ≡ None
+from_mapped_none : {A B : Type 0} (row : ℕ → B → Option CaseFault) (f : A → B) (i : ℕ) (xs : List A)
+    → ((n : ℕ) (x : A) → slice_get xs n ≡ Some x → row (i + n) (f x) ≡ None) → first_from row i (map f xs) ≡ None
 unfolding first_from
 from_mapped_none row f i [] h = refl
 from_mapped_none row f i (x ∷ xs) h =
     let here : i ≡ i + 0 = omega arith in
     let next : (n : ℕ) → i + 1 + n ≡ i + suc n = λ n. omega arith in
-    none_or (row i (f x)) (first_from row (i + 1) (map f xs)) (ap (λ k. row k (f x)) here ∙ h 0 x refl) (from_mapped_none row f (i + 1) xs (λ n y e. ap (λ k. row k (f y)) (next n) ∙ h (suc n) y e))
+    none_or (row i (f x)) (first_from row (i + 1) (map f xs)) (ap (λ k. row k (f x)) here ∙ h 0 x refl)
+    (from_mapped_none row f (i + 1) xs (λ n y e. ap (λ k. row k (f y)) (next n) ∙ h (suc n) y e))
 
-pub mapped_none : {A B : Type 0} (row : ℕ → B → Option CaseFault) (f : A → B) (xs : List A) → ((n : ℕ) (x : A) → slice_get xs n ≡ Some x → row n (f x) ≡ None) → first_of row (map f xs) ≡ None
+pub mapped_none : {A B : Type 0} (row : ℕ → B → Option CaseFault) (f : A → B) (xs : List A)
+    → ((n : ℕ) (x : A) → slice_get xs n ≡ Some x → row n (f x) ≡ None) → first_of row (map f xs) ≡ None
 mapped_none row f xs h = from_mapped_none row f 0 xs (λ n x e. let same : 0 + n ≡ n = omega arith in ap (λ k. row k (f x)) same ∙ h n x e)
 
-pub none_mapped : {A B : Type 0} (row : ℕ → B → Option CaseFault) (f : A → B) (xs : List A) → first_of row (map f xs) ≡ None → (n : ℕ) (x : A) → slice_get xs n ≡ Some x → row n (f x) ≡ None
+pub none_mapped : {A B : Type 0} (row : ℕ → B → Option CaseFault) (f : A → B) (xs : List A) → first_of row (map f xs) ≡ None → (n : ℕ) (x : A)
+    → slice_get xs n ≡ Some x → row n (f x) ≡ None
 none_mapped row f xs h n x e = none_each row (map f xs) h n (f x) (slice_get-map f xs n ∙ ap (option_map f) e)
 
 -- ---- given p-values

@@ -30,14 +30,16 @@ pub record Has (t : Terms) (v : Number) : Type 0 where
   pub value : number t ≡ v
 
 -- a written operation that isn't refused is exact
-pub written_has : (op : Op) (x y z : Terms) (u v : Number) → MayTake op (single y) → Has x u → Has y v → written_pair op x y ≡ Some z → Has z (exact_result op u v)
+pub written_has : (op : Op) (x y z : Terms) (u v : Number) → MayTake op (single y) → Has x u → Has y v → written_pair op x y ≡ Some z
+    → Has z (exact_result op u v)
 written_has op x y z u v may p q e =
     let e' = ap (option_map single) e in
     let sx = stored_single x p.reduced in
     let sy = stored_single y q.reduced in
     record {
       reduced = (plain_is_exact.stored op (single x) (single y) (single z) sx sy may e').reduced;
-      value = sym (value_single z) ∙ plain_is_exact.exact op (single x) (single y) (single z) sx sy may e' ∙ ap₂ (exact_result op) (value_single x ∙ p.value) (value_single y ∙ q.value);
+      value = sym (value_single z) ∙ plain_is_exact.exact op (single x) (single y) (single z) sx sy may e'
+          ∙ ap₂ (exact_result op) (value_single x ∙ p.value) (value_single y ∙ q.value);
     }
 
 pub has_zero : Has zero_terms number_field.𝟘

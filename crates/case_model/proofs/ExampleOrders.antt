@@ -53,7 +53,11 @@ module _ (p : ℕ → Number) (passing : (k : ℕ) → k < 2 → Passes (p k) ha
     order = (
       record { allowed = legal whole 1 (in_whole 1 (omega arith)); greatest = λ k h l. let b : k < 2 = l.member.below in absurd (omega arith) },
       (
-        record { allowed = legal (dropping 1 whole) 0 (still_in 1 0 (omega arith) (omega arith)); greatest = λ k h l. let e : k ≡ 0 = other_left 1 0 k (omega arith) (omega arith) (omega arith) l.member in absurd (omega arith) },
+        record {
+          allowed = legal (dropping 1 whole) 0 (still_in 1 0 (omega arith) (omega arith));
+          greatest = λ k h l. let e : k ≡ 0 =
+              other_left 1 0 k (omega arith) (omega arith) (omega arith) l.member in absurd (omega arith);
+        },
         tt,
       ),
     );
@@ -84,7 +88,8 @@ module _ (p : ℕ → Number) (passing : (k : ℕ) → k < 2 → Passes (p k) ha
     taken = record {
       ratio = p j /ε half;
       is_ratio = ratio whole j (in_whole j jb);
-      least = λ l q r. subst (λ z. (p j /ε half) ≤ε z) (sym (ratio_is whole l q r)) (divided_order (p j) (p l) half half_positive (each l r.member.below));
+      least = λ l q r. subst (λ z. (p j /ε half) ≤ε z) (sym (ratio_is whole l q r))
+          (divided_order (p j) (p l) half half_positive (each l r.member.below));
       first = λ l h r. let e : l ≡ k = earlier l h in less (omega arith) (at_most_equal _ _ (ap p (sym e) ∙ same_p l r));
     }
 
@@ -101,7 +106,10 @@ module _ (p : ℕ → Number) (passing : (k : ℕ) → k < 2 → Passes (p k) ha
 
     pub ratio_then_other : IsRatioOrder two_halves p twentieth whole (j ∷ k ∷ [])
     ratio_then_other = record {
-      order = (record { least = taken; legal = legal whole j (in_whole j jb) }, (record { least = alone; legal = legal (dropping j whole) k (still_in j k kb (λ e. n (sym e))) }, tt));
+      order = (
+        record { least = taken; legal = legal whole j (in_whole j jb) },
+        (record { least = alone; legal = legal (dropping j whole) k (still_in j k kb (λ e. n (sym e))) }, tt),
+      );
       complete = λ l r. none_left j k l jb kb n r.legal.member;
     }
 
@@ -111,10 +119,12 @@ fortieth_passes : Passes fortieth half twentieth
 fortieth_passes = record { positive = half_positive; small = at_most_equal _ _ (sym half_twentieth) }
 
 fiftieth_below : fraction (pos 1) (pos 50) ≤ε fortieth
-fiftieth_below = at_most_less (fraction (pos 1) (pos 50)) fortieth (fraction-compare (pos 1) (pos 50) (pos 1) (pos 40) (omega (arith, ints)) (omega (arith, ints)))
+fiftieth_below = at_most_less (fraction (pos 1) (pos 50)) fortieth
+    (fraction-compare (pos 1) (pos 50) (pos 1) (pos 40) (omega (arith, ints)) (omega (arith, ints)))
 
 fortieth_above : ¬ (fortieth ≤ε fraction (pos 1) (pos 50))
-fortieth_above h = at_most-compare fortieth (fraction (pos 1) (pos 50)) h (fraction-compare (pos 1) (pos 40) (pos 1) (pos 50) (omega (arith, ints)) (omega (arith, ints)))
+fortieth_above h = at_most-compare fortieth (fraction (pos 1) (pos 50)) h
+    (fraction-compare (pos 1) (pos 40) (pos 1) (pos 50) (omega (arith, ints)) (omega (arith, ints)))
 
 fiftieth_passes : Passes (fraction (pos 1) (pos 50)) half twentieth
 fiftieth_passes = record { positive = half_positive; small = subst (λ z. fraction (pos 1) (pos 50) ≤ε z) (sym half_twentieth) fiftieth_below }
@@ -123,7 +133,8 @@ pub alike_by_position : AlikeAreTakenByPosition
 alike_by_position = (
   first_then_second (λ _. fortieth) (λ _ _. fortieth_passes),
   second_then_first (λ _. fortieth) (λ _ _. fortieth_passes),
-  ratio_then_other (λ _. fortieth) (λ _ _. fortieth_passes) 0 1 (omega arith) (omega arith) (omega arith) (at_most_refl fortieth) (λ h. absurd (omega arith)),
+  ratio_then_other (λ _. fortieth) (λ _ _. fortieth_passes) 0 1 (omega arith) (omega arith) (omega arith) (at_most_refl fortieth)
+      (λ h. absurd (omega arith)),
 )
 
 pub least_ratio_first : LeastRatioIsTakenFirst

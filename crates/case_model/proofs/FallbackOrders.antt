@@ -1,5 +1,6 @@
 -- What the fallback rule rejects, by ascending position, is a complete legal order on the fallback graph.
-use Rattle.std.proofs.Common.{◌≡◌, ◌↔◌, inl, inr, refl, sym, ap, ap₂, ◌∙◌, subst, ℕ, zero, suc, ◌<◌, ◌≤◌, ◌+◌, arith, Bool, true, false, not, cond, List, [], ◌∷◌}
+use Rattle.std.proofs.Common.{◌≡◌, ◌↔◌, inl, inr, refl, sym, ap, ap₂, ◌∙◌, subst, ℕ, zero, suc, ◌<◌, ◌≤◌, ◌+◌, arith, Bool}
+use Rattle.std.proofs.Common.{true, false, not, cond, List, [], ◌∷◌}
 use Rattle.field_core.specs.Number.{Number}
 use Rattle.field_core.specs.Arithmetic.{number_zero, number_one, ◌+ε◌}
 use Rattle.field_core.specs.Order.{◌≤ε◌}
@@ -38,8 +39,10 @@ chain_start m w = record { weight = λ l _. own l; edge = λ l k _ _ _. next l k
     next : (l k : ℕ) → (chain_graph w).edge l k ≡ chain_edge number_field whole l k
     next l zero = rw (test_other 0 (suc l) (omega arith)) (sym (edge_first number_field whole l ∙ field_zero))
     next l (suc k) = elim (same_or_not k l) [
-      | inl e ↦ rw (test_same (suc k) (suc l) (ap suc e)) (sym (edge_kept number_field whole l k refl ∙ ap (λ i. unit number_field l i) e ∙ unit_same number_field l ∙ field_one))
-      | inr n ↦ rw (test_other (suc k) (suc l) (omega arith)) (sym (edge_kept number_field whole l k refl ∙ unit_other number_field l k (λ x. n (sym x)) ∙ field_zero))
+      | inl e ↦ rw (test_same (suc k) (suc l) (ap suc e))
+          (sym (edge_kept number_field whole l k refl ∙ ap (λ i. unit number_field l i) e ∙ unit_same number_field l ∙ field_one))
+      | inr n ↦ rw (test_other (suc k) (suc l) (omega arith))
+          (sym (edge_kept number_field whole l k refl ∙ unit_other number_field l k (λ x. n (sym x)) ∙ field_zero))
     ]
 
 module _ (p : ℕ → Number) (level : Number) (w : ℕ → Number) where
@@ -92,7 +95,8 @@ module _ (p : ℕ → Number) (level : Number) (w : ℕ → Number) where
   tested_listed : (c i j : ℕ) → i ≤ j → j < i + c → test j ≡ true → IsListed (taken i c) j
   tested_listed zero i j l h t = absurd (omega arith)
   tested_listed (suc c) i j l h t = elim (same_or_not j i) [
-    | inl e ↦ ap (λ js. set_of js j) (taken_in i c (ap test (sym e) ∙ t)) ∙ subst (λ k. IsListed (i ∷ taken (suc i) c) k) (sym e) (listed_here i (taken (suc i) c))
+    | inl e ↦ ap (λ js. set_of js j) (taken_in i c (ap test (sym e) ∙ t))
+        ∙ subst (λ k. IsListed (i ∷ taken (suc i) c) k) (sym e) (listed_here i (taken (suc i) c))
     | inr n ↦ elim (true_or_false (test i)) [
       | inl s ↦ ap (λ js. set_of js j) (taken_in i c s) ∙ listed_later i j (taken (suc i) c) (tested_listed c (suc i) j (omega arith) (omega arith) t)
       | inr f ↦ ap (λ js. set_of js j) (taken_out i c f) ∙ tested_listed c (suc i) j (omega arith) (omega arith) t
@@ -106,18 +110,22 @@ module _ (p : ℕ → Number) (level : Number) (w : ℕ → Number) where
     own_finite i h =
         let G = V.graph 0 (first_counts E V (chain_graph w) A) in
         let low : number_zero ≤ε (E.graph 0).weight i = subst (λ z. z ≤ε (E.graph 0).weight i) field_zero (G.weight_nonneg i h) in
-        let high : (E.graph 0).weight i ≤ε number_one = subst (λ z. (E.graph 0).weight i ≤ε z) field_one (number_field.le_trans _ _ _ (term_le number_field E.hypotheses (E.graph 0).weight i G.weight_nonneg h) G.weight_total) in
+        let high : (E.graph 0).weight i ≤ε number_one = subst (λ z. (E.graph 0).weight i ≤ε z) field_one
+        (number_field.le_trans _ _ _ (term_le number_field E.hypotheses (E.graph 0).weight i G.weight_nonneg h) G.weight_total) in
         subst IsFinite (A.weight i h) (finite_between ((E.graph 0).weight i) (at_most_out number_zero _ low) (at_most_out _ number_one high))
 
     -- the weights that are left have no epsilon
-    left_plain : (I : ℕ → Bool) (k : ℕ) → k < E.hypotheses → IsFinite (chain_weight number_field w I k) × (limit (chain_weight number_field w I k) ≡ chain_weight number_field w I k)
+    left_plain : (I : ℕ → Bool) (k : ℕ) → k < E.hypotheses → IsFinite (chain_weight number_field w I k)
+        × (limit (chain_weight number_field w I k) ≡ chain_weight number_field w I k)
     left_plain I zero h = subst (λ x. IsFinite x × (limit x ≡ x)) (sym (weight_first number_field w I)) (own_finite 0 h, plain 0 h)
     left_plain I (suc k) h = elim (true_or_false (I k)) [
       | inl t ↦ subst (λ x. IsFinite x × (limit x ≡ x)) (sym (weight_kept number_field w I k t)) (own_finite (suc k) h, plain (suc k) h)
       | inr f ↦
           let before = left_plain I k (omega arith) in
-          subst (λ x. IsFinite x × (limit x ≡ x)) (sym (weight_passed number_field w I k f ∙ field_sum (w (suc k)) (chain_weight number_field w I k)))
-          (IsFinite-add (w (suc k)) (chain_weight number_field w I k) (own_finite (suc k) h) before.0, limit_add (w (suc k)) (chain_weight number_field w I k) (own_finite (suc k) h) before.0 ∙ ap₂ (λ x y. x +ε y) (plain (suc k) h) before.1)
+          subst (λ x. IsFinite x × (limit x ≡ x)) (sym (weight_passed number_field w I k f ∙ field_sum (w (suc k)) (chain_weight number_field w I k))) (
+            IsFinite-add (w (suc k)) (chain_weight number_field w I k) (own_finite (suc k) h) before.0,
+            limit_add (w (suc k)) (chain_weight number_field w I k) (own_finite (suc k) h) before.0 ∙ ap₂ (λ x y. x +ε y) (plain (suc k) h) before.1,
+          )
     ]
 
     chain_intersection : (I : ℕ → Bool) (k : ℕ) → IsIn E.hypotheses I k → IsIntersectionWeight E I k (chain_weight number_field w I k)
@@ -126,25 +134,30 @@ module _ (p : ℕ → Number) (level : Number) (w : ℕ → Number) where
         (left_intersection E V (chain_graph w) A (chain_left number_field w) (chain_closed number_field E.hypotheses w) (chain_start E.hypotheses w) I k q)
 
     -- where just those that the rule rejects are removed before `k`, it has what the rule gives it
-    spent_left : (I : ℕ → Bool) (k : ℕ) → ((i : ℕ) → i < k → I i ≡ not (test i)) → chain_weight number_field w I k ≡ fallback_weight p level w k
+    spent_left : (I : ℕ → Bool) (k : ℕ) → ((i : ℕ) → i < k → I i ≡ not (test i))
+        → chain_weight number_field w I k ≡ fallback_weight p level w k
     spent_left I zero before = weight_first number_field w I ∙ sym spent_first
     spent_left I (suc k) before = elim (true_or_false (test k)) [
-      | inl t ↦ weight_passed number_field w I k (before k (omega arith) ∙ ap not t) ∙ field_sum (w (suc k)) (chain_weight number_field w I k) ∙ ap (λ z. w (suc k) +ε z) (spent_left I k (λ i h. before i (omega arith))) ∙ sym (spent_passed k t)
+      | inl t ↦ weight_passed number_field w I k (before k (omega arith) ∙ ap not t) ∙ field_sum (w (suc k)) (chain_weight number_field w I k)
+          ∙ ap (λ z. w (suc k) +ε z) (spent_left I k (λ i h. before i (omega arith))) ∙ sym (spent_passed k t)
       | inr f ↦ weight_kept number_field w I k (before k (omega arith) ∙ ap not f) ∙ sym (spent_kept k f)
     ]
 
-    spent_intersection : (I : ℕ → Bool) (k : ℕ) → IsIn E.hypotheses I k → ((i : ℕ) → i < k → I i ≡ not (test i)) → IsIntersectionWeight E I k (fallback_weight p level w k)
+    spent_intersection : (I : ℕ → Bool) (k : ℕ) → IsIn E.hypotheses I k → ((i : ℕ) → i < k → I i ≡ not (test i))
+        → IsIntersectionWeight E I k (fallback_weight p level w k)
     spent_intersection I k q before = subst (λ x. IsIntersectionWeight E I k x) (spent_left I k before) (chain_intersection I k q)
 
     legal_tested : (I : ℕ → Bool) (k : ℕ) → ((i : ℕ) → i < k → I i ≡ not (test i)) → IsLegal E p level I k → test k ≡ true
     unfolding test
     legal_tested I k before h = pass_tested (p k) (fallback_weight p level w k) level (legal_passes E p level I k _ h (spent_intersection I k h.member before))
 
-    tested_legal : (I : ℕ → Bool) (k : ℕ) → IsIn E.hypotheses I k → ((i : ℕ) → i < k → I i ≡ not (test i)) → test k ≡ true → IsLegal E p level I k
+    tested_legal : (I : ℕ → Bool) (k : ℕ) → IsIn E.hypotheses I k → ((i : ℕ) → i < k → I i ≡ not (test i)) → test k ≡ true
+        → IsLegal E p level I k
     unfolding test
     tested_legal I k q before t = passes_legal E p level I k _ q (spent_intersection I k q before) (tested_pass (p k) (fallback_weight p level w k) level t)
 
-    run_from : (c i : ℕ) (I : ℕ → Bool) → i + c ≡ E.hypotheses → ((k : ℕ) → k < i → I k ≡ not (test k)) → ((k : ℕ) → i ≤ k → I k ≡ true) → IsRunBy (IsLegal E p level) I (taken i c)
+    run_from : (c i : ℕ) (I : ℕ → Bool) → i + c ≡ E.hypotheses → ((k : ℕ) → k < i → I k ≡ not (test k))
+        → ((k : ℕ) → i ≤ k → I k ≡ true) → IsRunBy (IsLegal E p level) I (taken i c)
     run_from zero i I e before behind = subst (IsRunBy (IsLegal E p level) I) (sym (taken_none i)) record { order = tt; complete = none }
       where
         none : (k : ℕ) → ¬ IsLegal E p level I k
@@ -153,10 +166,15 @@ module _ (p : ℕ → Number) (level : Number) (w : ℕ → Number) where
             true_not_false (sym h.member.member ∙ before k below ∙ ap not (legal_tested I k (λ j l. before j (omega (arith, below, l))) h))
     run_from (suc c) i I e before behind = elim (true_or_false (test i)) [
       | inl t ↦
-          let rest = run_from c (suc i) (dropping i I) (omega (arith, e)) (rejected t) (λ k l. dropping_other i I k (omega (arith, l)) ∙ behind k (omega (arith, l))) in
+          let rest = run_from c (suc i) (dropping i I) (omega (arith, e)) (rejected t)
+          (λ k l. dropping_other i I k (omega (arith, l)) ∙ behind k (omega (arith, l))) in
           subst (IsRunBy (IsLegal E p level) I) (sym (taken_in i c t))
-          record { order = (tested_legal I i (record { below = omega (arith, e); member = behind i (omega arith) }) before t, rest.order); complete = rest.complete }
-      | inr f ↦ subst (IsRunBy (IsLegal E p level) I) (sym (taken_out i c f)) (run_from c (suc i) I (omega (arith, e)) (kept f) (λ k l. behind k (omega (arith, l))))
+          record {
+            order = (tested_legal I i (record { below = omega (arith, e); member = behind i (omega arith) }) before t, rest.order);
+            complete = rest.complete;
+          }
+      | inr f ↦ subst (IsRunBy (IsLegal E p level) I) (sym (taken_out i c f))
+          (run_from c (suc i) I (omega (arith, e)) (kept f) (λ k l. behind k (omega (arith, l))))
     ]
       where
         rejected : test i ≡ true → (k : ℕ) → k < suc i → dropping i I k ≡ not (test k)
@@ -178,6 +196,7 @@ module _ (p : ℕ → Number) (level : Number) (w : ℕ → Number) where
     unfolding test
     fallback_decides n j =
         let D = complete_decides E p level V n (taken 0 E.hypotheses) fallback_run.order fallback_run.complete j in (
-          λ r. let t = listed_tested E.hypotheses 0 j (D.1 r) in record { below = omega (arith, t.0); passes = tested_pass (p j) (fallback_weight p level w j) level t.1 },
+          λ r. let t = listed_tested E.hypotheses 0 j (D.1 r) in
+              record { below = omega (arith, t.0); passes = tested_pass (p j) (fallback_weight p level w j) level t.1 },
           λ r. D.0 (tested_listed E.hypotheses 0 j (omega arith) (omega (arith, r.below)) (pass_tested (p j) (fallback_weight p level w j) level r.passes)),
         )

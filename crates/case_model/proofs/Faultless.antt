@@ -1,5 +1,6 @@
 -- What is known of a draft in which no row finds a fault.
-use Rattle.std.proofs.Common.{◌≡◌, refl, sym, ap, ap₂, ◌∙◌, ℕ, ◌*◌, ◌==◌, ◌≤◌, List, [], ◌∷◌, length, map, true, ◌&&◌, nat_lt, Option, Some, None, arith}
+use Rattle.std.proofs.Common.{◌≡◌, refl, sym, ap, ap₂, ◌∙◌, ℕ, ◌*◌, ◌==◌, ◌≤◌, List, [], ◌∷◌, length, map, true, ◌&&◌}
+use Rattle.std.proofs.Common.{nat_lt, Option, Some, None, arith}
 use Rattle.std.proofs.lemmas.Bool.Decides.{nat_tests}
 use Rattle.std.proofs.lemmas.List.FromFn.{length-map-range_with_len}
 use Rattle.std.specs.List.{list_all}
@@ -13,7 +14,8 @@ use Rattle.case_model.specs.declared.component.Component.{Component}
 use Rattle.case_model.specs.declared.inputs.Inputs.{Inputs}
 use Rattle.case_model.specs.Draft.{arrives_among, have_known_arrivals}
 use Rattle.case_model.specs.Content.{Content, content_of, table_of, tabled, inputs_of}
-use Rattle.case_model.specs.CaseFaults.{◌or◌, names_fault, no_hypothesis, too_many, name_form, duplicate_name, components_fault, part_too_long, alpha_range, shares_fault, weights_fault, edges_fault, fault_before_edges, early_fault, late_fault, case_fault}
+use Rattle.case_model.specs.CaseFaults.{◌or◌, names_fault, no_hypothesis, too_many, name_form, duplicate_name, components_fault, part_too_long, alpha_range}
+use Rattle.case_model.specs.CaseFaults.{shares_fault, weights_fault, edges_fault, fault_before_edges, early_fault, late_fault, case_fault}
 use Rattle.case_model.specs.Tables.{are_tables}
 use Rattle.case_model.proofs.NoFaults.{neither, no_when}
 
@@ -78,7 +80,8 @@ same_is a b e = grind (arith, nat_tests)
 pub are_tables-tabled : (m : ℕ) (ks : List DraftComponent) → are_tables m (map (tabled m) ks) ≡ true
 unfolding are_tables
 are_tables-tabled m [] = refl
-are_tables-tabled m (k ∷ ks) = ap (λ b. b && list_all (λ k. length k.edges == m * m) (map (tabled m) ks)) (same_is (length (table_of m k.edges)) (m * m) (length-table_of m k.edges)) ∙ are_tables-tabled m ks
+are_tables-tabled m (k ∷ ks) = ap (λ b. b && list_all (λ k. length k.edges == m * m) (map (tabled m) ks))
+    (same_is (length (table_of m k.edges)) (m * m) (length-table_of m k.edges)) ∙ are_tables-tabled m ks
 
 pub content_of-components : (d : Draft) → (content_of d).components ≡ map (tabled (length d.names)) d.components
 unfolding content_of
@@ -90,16 +93,20 @@ pub early_is : (d : Draft) (f : CaseFault) → early_fault d ≡ Some f → case
 unfolding case_fault
 early_is d f e = first_of_two (early_fault d) _ f e
 
-pub late_is : (d : Draft) (m : ℕ) (ps : List (Option Ratio)) (r : Option CaseFault) → early_fault d ≡ None → m ≡ length d.names → ps ≡ d.p → late_fault m d.alpha d.stages ps (map (tabled m) d.components) ≡ r → case_fault d ≡ r
+pub late_is : (d : Draft) (m : ℕ) (ps : List (Option Ratio)) (r : Option CaseFault) → early_fault d ≡ None → m ≡ length d.names → ps ≡ d.p
+    → late_fault m d.alpha d.stages ps (map (tabled m) d.components) ≡ r → case_fault d ≡ r
 unfolding case_fault content_of
-late_is d m ps r e many same h = second_of_two (early_fault d) _ r e (sym (ap₂ (λ m ps. late_fault m d.alpha d.stages ps (map (tabled m) d.components)) many same) ∙ h)
+late_is d m ps r e many same h = second_of_two (early_fault d) _ r e
+    (sym (ap₂ (λ m ps. late_fault m d.alpha d.stages ps (map (tabled m) d.components)) many same) ∙ h)
 
 -- the content of a draft by its parts
-pub content_by_parts : (d : Draft) (m : ℕ) (ps : List (Option Ratio)) (ks : List Component) (inputs : Inputs) → m ≡ length d.names → ps ≡ d.p → ks ≡ map (tabled m) d.components → inputs ≡ inputs_of d.stages ps
+pub content_by_parts : (d : Draft) (m : ℕ) (ps : List (Option Ratio)) (ks : List Component) (inputs : Inputs) → m ≡ length d.names → ps ≡ d.p
+    → ks ≡ map (tabled m) d.components → inputs ≡ inputs_of d.stages ps
     → ◌≡◌ {A = Content} (record { names = d.names; alpha = d.alpha; components = ks; inputs = inputs }) (content_of d)
 unfolding content_of
 content_by_parts d m ps ks inputs many same e h =
-    ap₂ (λ ks inputs. record { names = d.names; alpha = d.alpha; components = ks; inputs = inputs }) (e ∙ ap (λ m. map (tabled m) d.components) many) (h ∙ ap (inputs_of d.stages) same)
+    ap₂ (λ ks inputs. record { names = d.names; alpha = d.alpha; components = ks; inputs = inputs }) (e ∙ ap (λ m. map (tabled m) d.components) many)
+    (h ∙ ap (inputs_of d.stages) same)
 
 -- where there are no stages, no p-value arrived
 pub no_arrivals : (d : Draft) → d.stages ≡ None → have_known_arrivals d ≡ true

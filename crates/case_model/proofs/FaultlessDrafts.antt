@@ -8,7 +8,9 @@ use Rattle.case_model.specs.declared.fault.CaseFault.{CaseFault}
 use Rattle.case_model.specs.declared.fault.CaseFault.TheVariants.{Mixed}
 use Rattle.case_model.specs.Draft.{is_short_level, is_level_range, is_level}
 use Rattle.case_model.specs.Content.{content_of, tabled}
-use Rattle.case_model.specs.CaseFaults.{first_of, names_fault, no_component, too_many_components, components_fault, part_too_long, long_alpha, long_share, long_weight, long_edge, long_p_value, long_stage_part, alpha_range, share_sum, shares_fault, weight_sum, weights_fault, edges_fault, rows_fault, mixed, p_values_fault, stages_fault, fault_before_edges, early_fault, late_fault, case_fault}
+use Rattle.case_model.specs.CaseFaults.{first_of, names_fault, no_component, too_many_components, components_fault, part_too_long, long_alpha, long_share}
+use Rattle.case_model.specs.CaseFaults.{long_weight, long_edge, long_p_value, long_stage_part, alpha_range, share_sum, shares_fault, weight_sum, weights_fault}
+use Rattle.case_model.specs.CaseFaults.{edges_fault, rows_fault, mixed, p_values_fault, stages_fault, fault_before_edges, early_fault, late_fault, case_fault}
 use Rattle.case_model.specs.ValidDraft.{IsValidDraft, HasWrittenSums}
 use Rattle.case_model.proofs.Holding.{both}
 use Rattle.case_model.proofs.NoFaults.{neither, no_when, not_false}
@@ -16,14 +18,17 @@ use Rattle.case_model.proofs.Faultless.{content_of-components}
 use Rattle.case_model.proofs.ValidDrafts.{start, level, shares, share_total, sums, long_p_values, late_none}
 use Rattle.case_model.proofs.ValidContents.{some_ks, few_ks, inputs_none}
 use Rattle.case_model.proofs.DraftTests.{none_or, when_false, unless_true, none_each}
-use Rattle.case_model.proofs.DraftValidity.{false_from, above_zero, in_level_range, sum_good, names_valid, valid_names, components_valid, rows_written, places_valid, valid_places, short_shares, short_weights, short_edges, good_shares, good_weights, good_edges, good_rows}
+use Rattle.case_model.proofs.DraftValidity.{false_from, above_zero, in_level_range, sum_good, names_valid, valid_names, components_valid, rows_written}
+use Rattle.case_model.proofs.DraftValidity.{places_valid, valid_places, short_shares, short_weights, short_edges, good_shares, good_weights, good_edges}
+use Rattle.case_model.proofs.DraftValidity.{good_rows}
 use Rattle.case_model.proofs.StageValidity.{stages_valid, stages_sums, short_stages, good_stages}
 
 -- where there are stages, what is asked of them holds of them
 at_stages : (f : DraftStages → Option CaseFault) (o : Option DraftStages) (s : DraftStages) → option_and_then f o ≡ None → o ≡ Some s → f s ≡ None
 at_stages f o s h e = sym (ap (option_and_then f) e) ∙ h
 
-by_stages : (f : DraftStages → Option CaseFault) (o : Option DraftStages) → ((s : DraftStages) → o ≡ Some s → f s ≡ None) → option_and_then f o ≡ None
+by_stages : (f : DraftStages → Option CaseFault) (o : Option DraftStages) → ((s : DraftStages) → o ≡ Some s → f s ≡ None)
+    → option_and_then f o ≡ None
 by_stages f None h = refl
 by_stages f (Some s) h = h s refl
 
@@ -53,7 +58,8 @@ module _ (d : Draft) (h : case_fault d ≡ None) where
         shares = share_total d h;
         p_values = places_valid (length d.names) d.p (long_p_values d h).first (inputs_none d h).first;
         unmixed = λ s e. no_places d.stages (length d.p) s (no_when _ Mixed mixed_none) e;
-        stages = λ s e. stages_valid (length d.names) d.alpha s (at_stages long_stage_part d.stages s (long_p_values d h).second e) (at_stages (stages_fault (length d.names) d.alpha) d.stages s (inputs_none d h).second e);
+        stages = λ s e. stages_valid (length d.names) d.alpha s (at_stages long_stage_part d.stages s (long_p_values d h).second e)
+            (at_stages (stages_fault (length d.names) d.alpha) d.stages s (inputs_none d h).second e);
       }
 
   pub written_sums : HasWrittenSums d
@@ -62,7 +68,8 @@ module _ (d : Draft) (h : case_fault d ≡ None) where
     shares = (sum_good (map (λ k. k.share) d.components) 0 _ _ (shares d h).second).0;
     weights = λ c k e. (sum_good k.weights c _ _ (none_each weight_sum d.components (sums d h).second c k e)).0;
     rows = rows_written d h;
-    spends = λ s e. stages_sums (length d.names) d.alpha s (at_stages long_stage_part d.stages s (long_p_values d h).second e) (at_stages (stages_fault (length d.names) d.alpha) d.stages s (inputs_none d h).second e);
+    spends = λ s e. stages_sums (length d.names) d.alpha s (at_stages long_stage_part d.stages s (long_p_values d h).second e)
+        (at_stages (stages_fault (length d.names) d.alpha) d.stages s (inputs_none d h).second e);
   }
 
 module _ (d : Draft) (v : IsValidDraft d) (w : HasWrittenSums d) where
@@ -79,7 +86,9 @@ module _ (d : Draft) (v : IsValidDraft d) (w : HasWrittenSums d) where
   good_number : components_fault d.components ≡ None
   unfolding components_fault no_component too_many_components
   good_number =
-      none_or (no_component d.components) _ (when_false (length d.components == 0) _ (let q = v.some in false_from (length d.components == 0) (Decides-eqb (length d.components) 0) (λ e. omega arith)))
+      none_or (no_component d.components) _
+      (when_false (length d.components == 0) _
+      (let q = v.some in false_from (length d.components == 0) (Decides-eqb (length d.components) 0) (λ e. omega arith)))
       (when_false (nat_lt 8 (length d.components)) _ (let q = v.few in grind (arith, nat_tests)))
 
   good_level : alpha_range d.alpha ≡ None

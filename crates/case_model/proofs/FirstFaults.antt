@@ -1,5 +1,6 @@
 -- The first fault that a test finds, as a loop comes to it.
-use Rattle.std.proofs.Common.{◌≡◌, refl, sym, ap, ap₂, ◌∙◌, ℕ, zero, suc, ◌+◌, ◌-◌, ◌<◌, List, [], ◌∷◌, length, get_or, slice_get, Option, Some, None, is_some, true, false, arith}
+use Rattle.std.proofs.Common.{◌≡◌, refl, sym, ap, ap₂, ◌∙◌, ℕ, zero, suc, ◌+◌, ◌-◌, ◌<◌, List, [], ◌∷◌, length, get_or}
+use Rattle.std.proofs.Common.{slice_get, Option, Some, None, is_some, true, false, arith}
 use mathlib.Core.Path.{fun_ext}
 use Rattle.std.proofs.lemmas.Option.{slice_get_read, slice_get-get_or}
 use Rattle.std.specs.Option.{option_and_then}
@@ -28,7 +29,8 @@ stays row n (suc k) fault e =
     let same : n + suc k ≡ n + k + 1 = omega arith in
     ap (first_below row) same ∙ below_more row (n + k) ∙ ap (λ r. r or row (n + k)) (stays row n k fault e)
 
-below_found : (row : ℕ → Option CaseFault) (i n : ℕ) (fault : CaseFault) → i < n → first_below row i ≡ None → row i ≡ Some fault → first_below row n ≡ Some fault
+below_found : (row : ℕ → Option CaseFault) (i n : ℕ) (fault : CaseFault) → i < n → first_below row i ≡ None → row i ≡ Some fault
+    → first_below row n ≡ Some fault
 below_found row i n fault h before here =
     let same : n ≡ i + 1 + (n - (i + 1)) = omega arith in
     ap (first_below row) same ∙ stays row (i + 1) (n - (i + 1)) fault (below_more row i ∙ ap₂ ◌or◌ before here)
@@ -38,12 +40,14 @@ none_is None h = refl
 none_is (Some f) h = absurd (cc)
 
 -- what is found first is the answer
-pub below_answer : (row : ℕ → Option CaseFault) (i n : ℕ) (r : Option CaseFault) → i < n → first_below row i ≡ None → r ≡ row i → is_some r ≡ true → r ≡ first_below row n
+pub below_answer : (row : ℕ → Option CaseFault) (i n : ℕ) (r : Option CaseFault) → i < n → first_below row i ≡ None → r ≡ row i
+    → is_some r ≡ true → r ≡ first_below row n
 below_answer row i n None h before here some = absurd (cc)
 below_answer row i n (Some fault) h before here some = sym (below_found row i n fault h before (sym here))
 
 -- nothing is found at one position more
-pub below_silence : (row : ℕ → Option CaseFault) (i : ℕ) (r : Option CaseFault) → first_below row i ≡ None → r ≡ row i → is_some r ≡ false → first_below row (i + 1) ≡ None
+pub below_silence : (row : ℕ → Option CaseFault) (i : ℕ) (r : Option CaseFault) → first_below row i ≡ None → r ≡ row i → is_some r ≡ false
+    → first_below row (i + 1) ≡ None
 below_silence row i r before here none = below_more row i ∙ ap₂ ◌or◌ before (sym here ∙ none_is r none)
 
 -- ---- lists, by their places
@@ -57,15 +61,18 @@ below_head row (suc n) = ap (λ r. r or row (suc n)) (below_head row n) ∙ or_a
 pub found_at : {A : Type 0} → (ℕ → A → Option CaseFault) → List A → ℕ → Option CaseFault
 found_at row xs i = option_and_then (row i) (slice_get xs i)
 
-pub found_at-item : {A : Type 0} (row : ℕ → A → Option CaseFault) (xs : List A) (i : ℕ) (x : A) → i < length xs → x ≡ get_or xs i x → found_at row xs i ≡ row i x
+pub found_at-item : {A : Type 0} (row : ℕ → A → Option CaseFault) (xs : List A) (i : ℕ) (x : A) → i < length xs → x ≡ get_or xs i x
+    → found_at row xs i ≡ row i x
 unfolding found_at
 found_at-item row xs i x h e = ap (option_and_then (row i)) (slice_get_read xs (length xs) i x refl h e)
 
-pub found_at-get : {A : Type 0} (row : ℕ → A → Option CaseFault) (xs : List A) (i : ℕ) (d : A) → i < length xs → found_at row xs i ≡ row i (get_or xs i d)
+pub found_at-get : {A : Type 0} (row : ℕ → A → Option CaseFault) (xs : List A) (i : ℕ) (d : A) → i < length xs
+    → found_at row xs i ≡ row i (get_or xs i d)
 unfolding found_at
 found_at-get row xs i d h = ap (option_and_then (row i)) (slice_get-get_or xs i d h)
 
-first_from-below : {A : Type 0} (row : ℕ → A → Option CaseFault) (i : ℕ) (xs : List A) → first_from row i xs ≡ first_below (λ n. option_and_then (row (i + n)) (slice_get xs n)) (length xs)
+first_from-below : {A : Type 0} (row : ℕ → A → Option CaseFault) (i : ℕ) (xs : List A)
+    → first_from row i xs ≡ first_below (λ n. option_and_then (row (i + n)) (slice_get xs n)) (length xs)
 unfolding first_from
 first_from-below row i [] = sym (below_none (λ n. option_and_then (row (i + n)) (slice_get [] n)))
 first_from-below row i (x ∷ xs) =

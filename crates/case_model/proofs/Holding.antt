@@ -1,5 +1,6 @@
 -- What holds where tests are true.
-use Rattle.std.proofs.Common.{◌≡◌, refl, ap₂, ℕ, zero, suc, ◌<◌, List, [], ◌∷◌, ◌++◌, length, get_or, Bool, true, false, ◌&&◌, arith}
+use Rattle.std.proofs.Common.{◌≡◌, refl, ap₂, ℕ, zero, suc, ◌<◌, List, [], ◌∷◌, ◌++◌, length, get_or, Bool, true, false, ◌&&◌}
+use Rattle.std.proofs.Common.{arith}
 use Rattle.std.specs.List.{list_all}
 use Rattle.std.proofs.Math.ListN.{set, replicate}
 
@@ -22,12 +23,14 @@ all_middle test [] y ys h = (both (test y) (list_all test ys) h).left
 all_middle test (x ∷ xs) y ys h = all_middle test xs y ys (both (test x) (list_all test (xs ++ y ∷ ys)) h).right
 
 -- what holds of each item still does where one takes the place of another, or stands behind them
-pub all_set : {A : Type 0} (test : A → Bool) (xs : List A) (i : ℕ) (y : A) → list_all test xs ≡ true → test y ≡ true → list_all test (set xs i y) ≡ true
+pub all_set : {A : Type 0} (test : A → Bool) (xs : List A) (i : ℕ) (y : A) → list_all test xs ≡ true → test y ≡ true
+    → list_all test (set xs i y) ≡ true
 all_set test [] i y h k = refl
 all_set test (x ∷ xs) zero y h k = ap₂ (λ a b. a && b) k (both (test x) (list_all test xs) h).right
 all_set test (x ∷ xs) (suc i) y h k = let b = both (test x) (list_all test xs) h in ap₂ (λ a b. a && b) b.left (all_set test xs i y b.right k)
 
-pub all_push : {A : Type 0} (test : A → Bool) (xs : List A) (y : A) → list_all test xs ≡ true → test y ≡ true → list_all test (xs ++ y ∷ []) ≡ true
+pub all_push : {A : Type 0} (test : A → Bool) (xs : List A) (y : A) → list_all test xs ≡ true → test y ≡ true
+    → list_all test (xs ++ y ∷ []) ≡ true
 all_push test [] y h k = ap₂ (λ a b. a && b) k refl
 all_push test (x ∷ xs) y h k = let b = both (test x) (list_all test xs) h in ap₂ (λ a b. a && b) b.left (all_push test xs y b.right k)
 

@@ -1,5 +1,6 @@
 -- Holm's rule rejects as many as Holm's number tells.
-use Rattle.std.proofs.Common.{◌≡◌, ◌↔◌, inl, inr, sym, ap, ◌∙◌, subst, ℕ, zero, suc, ◌-◌, ◌<◌, ◌≤◌, arith, List, [], ◌∷◌, length, get_or, take, false}
+use Rattle.std.proofs.Common.{◌≡◌, ◌↔◌, inl, inr, sym, ap, ◌∙◌, subst, ℕ, zero, suc, ◌-◌, ◌<◌, ◌≤◌, arith, List, []}
+use Rattle.std.proofs.Common.{◌∷◌, length, get_or, take, false}
 use Rattle.field_core.specs.Number.{Number}
 use Rattle.field_core.specs.Arithmetic.{number_zero, ◌*ε◌}
 use Rattle.field_core.specs.Order.{◌≤ε◌, at_most}
@@ -24,19 +25,25 @@ module _ (p : ℕ → Number) (level : Number) where
   back : (j : ℕ) (js : List ℕ) (i : ℕ) → Small js i → Small (j ∷ js) (suc i)
   back j js i h = let e : length js - i ≡ suc (length js) - suc i = omega arith in rw e at h
 
-  as_many : (js : List ℕ) (r : ℕ) → r ≤ length js → ((i : ℕ) → i < r → Small js i) → (r < length js → ¬ Small js r) → stepped_down p level js ≡ take r js
+  as_many : (js : List ℕ) (r : ℕ) → r ≤ length js → ((i : ℕ) → i < r → Small js i) → (r < length js → ¬ Small js r)
+      → stepped_down p level js ≡ take r js
   as_many [] zero h each next = down_none p level
   as_many [] (suc r) h each next = absurd (omega arith)
   as_many (j ∷ js) zero h each next = elim (true_or_false (at_most (p j) (one_over (length (j ∷ js)) *ε level))) [
-    | inl t ↦ absurd (next (omega arith) (let e : suc (length js) ≡ suc (length js) - 0 = omega arith in subst (λ n. p j ≤ε (one_over n *ε level)) e t))
+    | inl t ↦ absurd (next (omega arith)
+        (let e : suc (length js) ≡ suc (length js) - 0 = omega arith in subst (λ n. p j ≤ε (one_over n *ε level)) e t))
     | inr f ↦ down_stop p level j js f
   ]
   as_many (j ∷ js) (suc r) h each next =
-      let first : p j ≤ε (one_over (suc (length js)) *ε level) = let e : suc (length js) - 0 ≡ suc (length js) = omega arith in subst (λ n. p j ≤ε (one_over n *ε level)) e (each 0 (omega arith)) in
-      down_on p level j js first ∙ ap (λ ks. j ∷ ks) (as_many js r (omega arith) (λ i b. further j js i (each (suc i) (omega arith))) (λ b s. next (omega arith) (back j js r s)))
+      let first : p j ≤ε (one_over (suc (length js)) *ε level) = let e : suc (length js) - 0 ≡ suc (length js) =
+      omega arith in subst (λ n. p j ≤ε (one_over n *ε level)) e (each 0 (omega arith)) in
+      down_on p level j js first
+      ∙ ap (λ ks. j ∷ ks) (as_many js r (omega arith) (λ i b. further j js i (each (suc i) (omega arith)))
+      (λ b s. next (omega arith) (back j js r s)))
 
   pub first_rejected : (n r : ℕ) → IsHolmNumber p level n r → stepped_down p level (by_p_value p n) ≡ take r (by_p_value p n)
-  first_rejected n r H = as_many (by_p_value p n) r (subst (λ k. r ≤ k) (sym count) H.within) (λ i b. subst (λ k. p (get_or (by_p_value p n) i 0) ≤ε (one_over (k - i) *ε level)) (sym count) (H.each i b))
+  first_rejected n r H = as_many (by_p_value p n) r (subst (λ k. r ≤ k) (sym count) H.within)
+      (λ i b. subst (λ k. p (get_or (by_p_value p n) i 0) ≤ε (one_over (k - i) *ε level)) (sym count) (H.each i b))
       (λ b s. H.next (subst (λ k. r < k) count b) (subst (λ k. p (get_or (by_p_value p n) r 0) ≤ε (one_over (k - r) *ε level)) count s))
     where
       count : length (by_p_value p n) ≡ n
@@ -66,7 +73,8 @@ module _ (p : ℕ → Number) (level : Number) where
   }
 
   counted : (js : List ℕ) → Counts js (length (stepped_down p level js))
-  counted [] = subst (λ ks. Counts [] (length ks)) (sym (down_none p level)) record { within = omega arith; each = λ i b. absurd (omega arith); next = λ b. absurd (omega arith) }
+  counted [] = subst (λ ks. Counts [] (length ks)) (sym (down_none p level))
+      record { within = omega arith; each = λ i b. absurd (omega arith); next = λ b. absurd (omega arith) }
   counted (j ∷ js) = elim (true_or_false (at_most (p j) (one_over (length (j ∷ js)) *ε level))) [
     | inl t ↦ subst (λ ks. Counts (j ∷ js) (length ks)) (sym (down_on p level j js t)) (counts_on j js _ t (counted js))
     | inr f ↦ subst (λ ks. Counts (j ∷ js) (length ks)) (sym (down_stop p level j js f)) (counts_stop j js f)
@@ -102,7 +110,8 @@ module _ (p : ℕ → Number) (level : Number) where
     λ h. subst (λ ks. IsListed ks j) (sym (first_rejected n h.number h.is_number)) h.among,
   )
 
-  pub holm_decides : (E : EntangledGraph) → IsValidEntangled E → IsHolmGraph E → number_zero ≤ε level → (j : ℕ) → IsRejected E p level j ↔ IsHolmRejected p level E.hypotheses j
+  pub holm_decides : (E : EntangledGraph) → IsValidEntangled E → IsHolmGraph E → number_zero ≤ε level → (j : ℕ) → IsRejected E p level j
+      ↔ IsHolmRejected p level E.hypotheses j
   holm_decides E V A n j =
       let S = stepped_decides p level E V A n j in
       let R = rejected_stepped E.hypotheses j in

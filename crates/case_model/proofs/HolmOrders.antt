@@ -1,5 +1,6 @@
 -- What Holm's rule rejects, by ascending p-value, is a complete legal order on Holm's graph.
-use Rattle.std.proofs.Common.{◌≡◌, ◌↔◌, inl, inr, refl, sym, ap, ◌∙◌, subst, ℕ, suc, arith, Bool, true, false, cond, if◌then◌else◌, List, [], ◌∷◌, length, pos, ◌-ℤ◌}
+use Rattle.std.proofs.Common.{◌≡◌, ◌↔◌, inl, inr, refl, sym, ap, ◌∙◌, subst, ℕ, suc, arith, Bool, true, false, cond, if◌then◌else◌}
+use Rattle.std.proofs.Common.{List, [], ◌∷◌, length, pos, ◌-ℤ◌}
 use Rattle.std.proofs.lemmas.Int.{ints}
 use Rattle.field_core.specs.Number.{Number}
 use Rattle.field_core.specs.Arithmetic.{number_zero, ◌*ε◌}
@@ -32,7 +33,8 @@ less_one m s e = omega (arith, ints, e)
 pub equal_start : (m : ℕ) → Agrees m whole (equal_graph m) (equal_left number_field one_over one_over_parts m whole)
 equal_start m = record {
   weight = λ l p. ap (λ n. fraction (pos 1) (pos n)) (sym (size_whole m));
-  edge = λ l k p q n. ap (λ b. cond b number_zero (fraction (pos 1) (pos m -ℤ pos 1))) (test_other l k n) ∙ ap (λ d. fraction (pos 1) d) (less_one m (size_of m (dropping l whole)) (size_dropped m l whole p ∙ size_whole m));
+  edge = λ l k p q n. ap (λ b. cond b number_zero (fraction (pos 1) (pos m -ℤ pos 1))) (test_other l k n)
+      ∙ ap (λ d. fraction (pos 1) d) (less_one m (size_of m (dropping l whole)) (size_dropped m l whole p ∙ size_whole m));
 }
 
 module _ (p : ℕ → Number) (level : Number) where
@@ -45,7 +47,8 @@ module _ (p : ℕ → Number) (level : Number) where
   unfolding stepped_down
   down_none = refl
 
-  pub down_on : (j : ℕ) (js : List ℕ) → at_most (p j) (one_over (length (j ∷ js)) *ε level) ≡ true → stepped_down (j ∷ js) ≡ j ∷ stepped_down js
+  pub down_on : (j : ℕ) (js : List ℕ) → at_most (p j) (one_over (length (j ∷ js)) *ε level) ≡ true
+      → stepped_down (j ∷ js) ≡ j ∷ stepped_down js
   unfolding stepped_down
   down_on j js t = ap (λ b. cond b (j ∷ stepped_down js) []) t
 
@@ -55,10 +58,12 @@ module _ (p : ℕ → Number) (level : Number) where
 
   module _ (E : EntangledGraph) (V : IsValidEntangled E) (A : IsHolmGraph E) where
     -- each of the `r` members of a set has the weight 1/r
-    pub equal_intersection : (I : ℕ → Bool) (k r : ℕ) → size_of E.hypotheses I ≡ suc r → IsIn E.hypotheses I k → IsIntersectionWeight E I k (one_over (suc r))
+    pub equal_intersection : (I : ℕ → Bool) (k r : ℕ) → size_of E.hypotheses I ≡ suc r → IsIn E.hypotheses I k
+        → IsIntersectionWeight E I k (one_over (suc r))
     equal_intersection I k r e q =
         subst (λ x. IsIntersectionWeight E I k x) (ap (λ n. limit (one_over n)) e ∙ one_over_plain r)
-        (left_intersection E V (equal_graph E.hypotheses) A (equal_left number_field one_over one_over_parts E.hypotheses) (equal_closed number_field one_over one_over_parts E.hypotheses) (equal_start E.hypotheses) I k q)
+        (left_intersection E V (equal_graph E.hypotheses) A (equal_left number_field one_over one_over_parts E.hypotheses)
+        (equal_closed number_field one_over one_over_parts E.hypotheses) (equal_start E.hypotheses) I k q)
 
     -- `I` has just the hypotheses of the list
     record Remain (js : List ℕ) (I : ℕ → Bool) : Type 0 where
@@ -76,7 +81,8 @@ module _ (p : ℕ → Number) (level : Number) where
       all = λ i q. elim (here_or_later j i js (R.all i (live_before j I q))) [ inl e ↦ absurd (live_other j I q e) | inr l ↦ l ];
       distinct = R.distinct.1;
       ordered = R.ordered.1;
-      size = let e = size_dropped E.hypotheses j I (R.each j (listed_here j js)) in let s : size_of E.hypotheses I ≡ suc (length js) = R.size in omega (arith, e, s);
+      size = let e = size_dropped E.hypotheses j I (R.each j (listed_here j js)) in let s : size_of E.hypotheses I ≡ suc (length js) =
+          R.size in omega (arith, e, s);
     }
 
     step_run : (js : List ℕ) (I : ℕ → Bool) → Remain js I → IsRunBy (IsLegal E p level) I (stepped_down js)
@@ -89,7 +95,14 @@ module _ (p : ℕ → Number) (level : Number) where
           let rest = step_run js (dropping j I) (next_remain j js I R) in
           let q : IsIn E.hypotheses I j = R.each j (listed_here j js) in
           subst (IsRunBy (IsLegal E p level) I) (sym (down_on j js t))
-          record { order = (passes_legal E p level I j (one_over (suc (length js))) q (equal_intersection I j (length js) R.size q) record { positive = one_over_positive (length js); small = t }, rest.order); complete = rest.complete }
+          record {
+            order = (
+              passes_legal E p level I j (one_over (suc (length js))) q
+                  (equal_intersection I j (length js) R.size q) record { positive = one_over_positive (length js); small = t },
+              rest.order,
+            );
+            complete = rest.complete;
+          }
       | inr f ↦ subst (IsRunBy (IsLegal E p level) I) (sym (down_stop j js f)) record { order = tt; complete = none f }
     ]
       where
@@ -101,7 +114,8 @@ module _ (p : ℕ → Number) (level : Number) where
 
         none : at_most (p j) (one_over (length (j ∷ js)) *ε level) ≡ false → (k : ℕ) → ¬ IsLegal E p level I k
         none f k h =
-            let passes : Passes (p k) (one_over (suc (length js))) level = legal_passes E p level I k (one_over (suc (length js))) h (equal_intersection I k (length js) R.size h.member) in
+            let passes : Passes (p k) (one_over (suc (length js))) level =
+            legal_passes E p level I k (one_over (suc (length js))) h (equal_intersection I k (length js) R.size h.member) in
             true_not_false (sym (at_most_trans (p j) (p k) (one_over (suc (length js)) *ε level) (least k (R.all k h.member)) passes.small) ∙ f)
 
     all_remain : Remain (by_p_value p E.hypotheses) whole

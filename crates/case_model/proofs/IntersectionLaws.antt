@@ -24,12 +24,18 @@ use Rattle.case_model.specs.IntersectionWeight.{IsIntersectionWeight}
 -- ---- sums of products with shares
 
 pub total_at_least_zero : (n : ℕ) (f : ℕ → Number) → ((i : ℕ) → i < n → number_zero ≤ε f i) → number_zero ≤ε sum_below number_field n f
-total_at_least_zero n f h = subst (λ z. z ≤ε sum_below number_field n f) field_zero (sum_nonneg number_field n f (λ i p. subst (λ z. z ≤ε f i) (sym field_zero) (h i p)))
+total_at_least_zero n f h = subst (λ z. z ≤ε sum_below number_field n f) field_zero
+    (sum_nonneg number_field n f (λ i p. subst (λ z. z ≤ε f i) (sym field_zero) (h i p)))
 
 -- shares that sum to at most 1, of what is at most 1
-pub shared_at_most_one : (n : ℕ) (share f : ℕ → Number) → ((i : ℕ) → i < n → number_zero ≤ε share i) → sum_below number_field n share ≤ε number_one → ((i : ℕ) → i < n → f i ≤ε number_one) → sum_below number_field n (λ i. share i *ε f i) ≤ε number_one
+pub shared_at_most_one : (n : ℕ) (share f : ℕ → Number) → ((i : ℕ) → i < n → number_zero ≤ε share i)
+    → sum_below number_field n share ≤ε number_one → ((i : ℕ) → i < n → f i ≤ε number_one)
+    → sum_below number_field n (λ i. share i *ε f i) ≤ε number_one
 shared_at_most_one n share f low total h =
-    at_most_trans _ (sum_below number_field n share) _ (sum_le number_field n (λ i. share i *ε f i) share (λ i p. subst (λ z. (share i *ε f i) ≤ε z) (number_multiply_one (share i)) (at_most_multiply_left (f i) number_one (share i) (low i p) (h i p)))) total
+    at_most_trans _ (sum_below number_field n share) _
+    (sum_le number_field n (λ i. share i *ε f i) share
+    (λ i p. subst (λ z. (share i *ε f i) ≤ε z) (number_multiply_one (share i)) (at_most_multiply_left (f i) number_one (share i) (low i p) (h i p))))
+    total
 
 -- ---- the weight of a hypothesis in a set
 
@@ -37,13 +43,17 @@ shared_at_most_one n share f low total h =
 unfoldable pub intersection_weight : EntangledGraph → (ℕ → Bool) → ℕ → Number
 intersection_weight E I k = sum_below number_field E.components (λ c. E.share c *ε limit (weight_in number_field E.hypotheses (E.graph c) I k))
 
-pub intersection_unique : (E : EntangledGraph) (I : ℕ → Bool) (k : ℕ) (u v : Number) → IsIntersectionWeight E I k u → IsIntersectionWeight E I k v → u ≡ v
+pub intersection_unique : (E : EntangledGraph) (I : ℕ → Bool) (k : ℕ) (u v : Number) → IsIntersectionWeight E I k u → IsIntersectionWeight E I k v
+    → u ≡ v
 intersection_unique E I k u v U W =
-    U.sum ∙ sum_congr number_field E.components (λ c. E.share c *ε limit (U.weight c)) (λ c. E.share c *ε limit (W.weight c)) (λ c p. ap (λ z. E.share c *ε limit z) (weight_unique number_field E.hypotheses (E.graph c) I k (U.weight c) (W.weight c) (U.is_weight c p) (W.is_weight c p)))
+    U.sum ∙ sum_congr number_field E.components (λ c. E.share c *ε limit (U.weight c)) (λ c. E.share c *ε limit (W.weight c))
+    (λ c p. ap (λ z. E.share c *ε limit z)
+    (weight_unique number_field E.hypotheses (E.graph c) I k (U.weight c) (W.weight c) (U.is_weight c p) (W.is_weight c p)))
     ∙ sym W.sum
 
 -- only the members of a set count
-pub intersection_same : (E : EntangledGraph) (I J : ℕ → Bool) (k : ℕ) (u : Number) → HaveSameMembers E.hypotheses I J → IsIntersectionWeight E I k u → IsIntersectionWeight E J k u
+pub intersection_same : (E : EntangledGraph) (I J : ℕ → Bool) (k : ℕ) (u : Number) → HaveSameMembers E.hypotheses I J → IsIntersectionWeight E I k u
+    → IsIntersectionWeight E J k u
 intersection_same E I J k u same U = record {
   weight = U.weight;
   is_weight = λ c p. weight_same number_field E.hypotheses (E.graph c) I J same k (U.weight c) (U.is_weight c p);
@@ -65,25 +75,34 @@ module _ (E : EntangledGraph) (V : IsValidEntangled E) where
   pub intersection_is : (I : ℕ → Bool) (k : ℕ) (u : Number) → IsIn E.hypotheses I k → IsIntersectionWeight E I k u → u ≡ intersection_weight E I k
   intersection_is I k u p U = intersection_unique E I k u _ U (intersection_weight_is I k p)
 
-  limits_unit : (I : ℕ → Bool) (k : ℕ) (u : Number) → IsIn E.hypotheses I k → (U : IsIntersectionWeight E I k u) → (c : ℕ) → c < E.components → IsUnit (limit (U.weight c))
+  limits_unit : (I : ℕ → Bool) (k : ℕ) (u : Number) → IsIn E.hypotheses I k → (U : IsIntersectionWeight E I k u) → (c : ℕ) → c < E.components
+      → IsUnit (limit (U.weight c))
   limits_unit I k u p U c q = limit_unit (U.weight c) (weight_unit E.hypotheses (E.graph c) I k (U.weight c) (V.graph c q) p (U.is_weight c q))
 
   pub intersection_unit : (I : ℕ → Bool) (k : ℕ) (u : Number) → IsIn E.hypotheses I k → IsIntersectionWeight E I k u → IsUnit u
   intersection_unit I k u p U = record {
-    low = subst (λ z. number_zero ≤ε z) (sym U.sum) (total_at_least_zero E.components (λ c. E.share c *ε limit (U.weight c)) (λ c q. at_least_zero_product (E.share c) (limit (U.weight c)) (V.share_nonneg c q) (limits_unit I k u p U c q).low));
-    high = subst (λ z. z ≤ε number_one) (sym U.sum) (shared_at_most_one E.components E.share (λ c. limit (U.weight c)) V.share_nonneg V.share_total (λ c q. (limits_unit I k u p U c q).high));
+    low = subst (λ z. number_zero ≤ε z) (sym U.sum)
+        (total_at_least_zero E.components (λ c. E.share c *ε limit (U.weight c))
+        (λ c q. at_least_zero_product (E.share c) (limit (U.weight c)) (V.share_nonneg c q) (limits_unit I k u p U c q).low));
+    high = subst (λ z. z ≤ε number_one) (sym U.sum)
+        (shared_at_most_one E.components E.share (λ c. limit (U.weight c)) V.share_nonneg V.share_total (λ c q. (limits_unit I k u p U c q).high));
   }
 
-  pub intersection_monotone : (I J : ℕ → Bool) (k : ℕ) (u v : Number) → IsSubset E.hypotheses J I → IsIn E.hypotheses J k → IsIntersectionWeight E I k u → IsIntersectionWeight E J k v → u ≤ε v
+  pub intersection_monotone : (I J : ℕ → Bool) (k : ℕ) (u v : Number) → IsSubset E.hypotheses J I → IsIn E.hypotheses J k
+      → IsIntersectionWeight E I k u → IsIntersectionWeight E J k v → u ≤ε v
   intersection_monotone I J k u v sub p U W =
       at_most_trans u _ v (at_most_equal _ _ U.sum)
-      (at_most_trans _ _ v (sum_le number_field E.components (λ c. E.share c *ε limit (U.weight c)) (λ c. E.share c *ε limit (W.weight c)) each) (at_most_equal _ _ (sym W.sum)))
+      (at_most_trans _ _ v (sum_le number_field E.components (λ c. E.share c *ε limit (U.weight c)) (λ c. E.share c *ε limit (W.weight c)) each)
+      (at_most_equal _ _ (sym W.sum)))
     where
       each : (c : ℕ) → c < E.components → (E.share c *ε limit (U.weight c)) ≤ε (E.share c *ε limit (W.weight c))
-      each c q = at_most_multiply_left _ _ (E.share c) (V.share_nonneg c q) (limit_monotone E.hypotheses (E.graph c) I J k (U.weight c) (W.weight c) (V.graph c q) sub p (U.is_weight c q) (W.is_weight c q))
+      each c q = at_most_multiply_left _ _ (E.share c) (V.share_nonneg c q)
+          (limit_monotone E.hypotheses (E.graph c) I J k (U.weight c) (W.weight c) (V.graph c q) sub p (U.is_weight c q) (W.is_weight c q))
 
   -- what the removals of all others leave, in each component in an order of its own
-  pub intersection_left : (I : ℕ → Bool) (js : ℕ → List ℕ) (k : ℕ) → ((c : ℕ) → c < E.components → IsOrder E.hypotheses whole (js c) × HaveSameMembers E.hypotheses (left_after whole (js c)) I) → IsIn E.hypotheses I k
+  pub intersection_left : (I : ℕ → Bool) (js : ℕ → List ℕ) (k : ℕ)
+      → ((c : ℕ) → c < E.components → IsOrder E.hypotheses whole (js c) × HaveSameMembers E.hypotheses (left_after whole (js c)) I)
+      → IsIn E.hypotheses I k
       → IsIntersectionWeight E I k (sum_below number_field E.components (λ c. E.share c *ε limit ((after number_field (E.graph c) (js c)).weight k)))
   intersection_left I js k o p = record {
     weight = λ c. (after number_field (E.graph c) (js c)).weight k;

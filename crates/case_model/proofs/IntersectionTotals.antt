@@ -29,10 +29,12 @@ use Rattle.case_model.proofs.IntersectionLaws.{total_at_least_zero, shared_at_mo
 -- ---- limits of sums
 
 pub finite_sum : (n : ℕ) (f : ℕ → Number) → ((i : ℕ) → i < n → IsFinite (f i)) → IsFinite (sum_below number_field n f)
-finite_sum zero f h = rw (sum_nothing f) (finite_between number_zero (at_most_out number_zero number_zero (at_most_refl number_zero)) (at_most_out number_zero number_one zero_at_most_one))
+finite_sum zero f h = rw (sum_nothing f)
+    (finite_between number_zero (at_most_out number_zero number_zero (at_most_refl number_zero)) (at_most_out number_zero number_one zero_at_most_one))
 finite_sum (suc n) f h = rw (sum_last n f) (IsFinite-add _ _ (finite_sum n f (λ i p. h i (omega arith))) (h n (omega arith)))
 
-pub limit_of_sum : (n : ℕ) (f : ℕ → Number) → ((i : ℕ) → i < n → IsFinite (f i)) → limit (sum_below number_field n f) ≡ sum_below number_field n (λ i. limit (f i))
+pub limit_of_sum : (n : ℕ) (f : ℕ → Number) → ((i : ℕ) → i < n → IsFinite (f i))
+    → limit (sum_below number_field n f) ≡ sum_below number_field n (λ i. limit (f i))
 limit_of_sum zero f h = ap limit (sum_nothing f) ∙ limit_zero ∙ sym (sum_nothing (λ i. limit (f i)))
 limit_of_sum (suc n) f h =
     ap limit (sum_last n f) ∙ limit_add _ _ (finite_sum n f (λ i p. h i (omega arith))) (h n (omega arith))
@@ -43,7 +45,9 @@ unit_finite x h = finite_between x (at_most_out number_zero x h.low) (at_most_ou
 
 -- ---- the weights of a set
 
-component_total : (m : ℕ) (G : Graph Number) (I : ℕ → Bool) (w : ℕ → Number) → IsValid number_field m G → ((k : ℕ) → IsIn m I k → IsComponentWeight number_field m G I k (w k)) → ((k : ℕ) → k < m → I k ≡ false → w k ≡ number_zero) → sum_below number_field m w ≤ε number_one
+component_total : (m : ℕ) (G : Graph Number) (I : ℕ → Bool) (w : ℕ → Number) → IsValid number_field m G
+    → ((k : ℕ) → IsIn m I k → IsComponentWeight number_field m G I k (w k)) → ((k : ℕ) → k < m → I k ≡ false → w k ≡ number_zero)
+    → sum_below number_field m w ≤ε number_one
 unfolding number_field
 component_total m G I w V = weights_total number_field m G V I w
 
@@ -64,18 +68,23 @@ zero_unit = record { low = at_most_refl number_zero; high = zero_at_most_one }
 
 member_unit : (m : ℕ) (G : Graph Number) (I : ℕ → Bool) (k : ℕ) → IsValid number_field m G → k < m → IsUnit (member_weight m G I k)
 member_unit m G I k V q = elim (true_or_false (I k)) [
-  | inl t ↦ subst IsUnit (sym (member_inside m G I k t)) (weight_unit m G I k _ V (record { below = q; member = t }) (weight_in_is number_field m G V I k (record { below = q; member = t })))
+  | inl t ↦ subst IsUnit (sym (member_inside m G I k t))
+      (weight_unit m G I k _ V (record { below = q; member = t }) (weight_in_is number_field m G V I k (record { below = q; member = t })))
   | inr f ↦ subst IsUnit (sym (member_outside m G I k f)) zero_unit
 ]
 
 -- the limits of the weights of a component sum to at most 1
-limit_total : (m : ℕ) (G : Graph Number) (I : ℕ → Bool) → IsValid number_field m G → sum_below number_field m (λ k. limit (member_weight m G I k)) ≤ε number_one
-limit_total m G I V = subst (λ z. z ≤ε number_one) (limit_of_sum m (member_weight m G I) (λ k q. unit_finite _ (member_unit m G I k V q))) (limit_unit _ total).high
+limit_total : (m : ℕ) (G : Graph Number) (I : ℕ → Bool) → IsValid number_field m G
+    → sum_below number_field m (λ k. limit (member_weight m G I k)) ≤ε number_one
+limit_total m G I V = subst (λ z. z ≤ε number_one) (limit_of_sum m (member_weight m G I) (λ k q. unit_finite _ (member_unit m G I k V q)))
+    (limit_unit _ total).high
   where
     total : IsUnit (sum_below number_field m (member_weight m G I))
     total = record {
       low = total_at_least_zero m (member_weight m G I) (λ k q. (member_unit m G I k V q).low);
-      high = component_total m G I (member_weight m G I) V (λ k p. subst (IsComponentWeight number_field m G I k) (sym (member_inside m G I k p.member)) (weight_in_is number_field m G V I k p)) (λ k q f. member_outside m G I k f);
+      high = component_total m G I (member_weight m G I) V
+          (λ k p. subst (IsComponentWeight number_field m G I k) (sym (member_inside m G I k p.member)) (weight_in_is number_field m G V I k p))
+          (λ k q f. member_outside m G I k f);
     }
 
 module _ (E : EntangledGraph) (V : IsValidEntangled E) (I : ℕ → Bool) where
@@ -89,16 +98,21 @@ module _ (E : EntangledGraph) (V : IsValidEntangled E) (I : ℕ → Bool) where
 
   outside_is : (k : ℕ) → I k ≡ false → sum_below number_field E.components (part_of k) ≡ number_zero
   unfolding part_of
-  outside_is k f = sum_congr number_field E.components _ (λ _. number_field.𝟘) (λ c q. ap (λ z. E.share c *ε limit z) (member_outside E.hypotheses (E.graph c) I k f) ∙ ap (λ z. E.share c *ε z) limit_zero ∙ number_multiply_zero (E.share c) ∙ sym field_zero) ∙ sum_zero number_field E.components ∙ field_zero
+  outside_is k f = sum_congr number_field E.components _ (λ _. number_field.𝟘)
+      (λ c q. ap (λ z. E.share c *ε limit z) (member_outside E.hypotheses (E.graph c) I k f) ∙ ap (λ z. E.share c *ε z) limit_zero
+      ∙ number_multiply_zero (E.share c) ∙ sym field_zero) ∙ sum_zero number_field E.components ∙ field_zero
 
-  scaled : (c : ℕ) → sum_below number_field E.hypotheses (λ k. part_of k c) ≡ E.share c *ε sum_below number_field E.hypotheses (λ k. limit (member_weight E.hypotheses (E.graph c) I k))
+  scaled : (c : ℕ) → sum_below number_field E.hypotheses (λ k. part_of k c) ≡ E.share c *ε sum_below number_field E.hypotheses
+      (λ k. limit (member_weight E.hypotheses (E.graph c) I k))
   unfolding number_field part_of
   scaled c = sum_scale number_field E.hypotheses (E.share c) (λ k. limit (member_weight E.hypotheses (E.graph c) I k))
 
-  pub intersection_total : (w : ℕ → Number) → ((k : ℕ) → IsIn E.hypotheses I k → IsIntersectionWeight E I k (w k)) → ((k : ℕ) → k < E.hypotheses → I k ≡ false → w k ≡ number_zero) → sum_below number_field E.hypotheses w ≤ε number_one
+  pub intersection_total : (w : ℕ → Number) → ((k : ℕ) → IsIn E.hypotheses I k → IsIntersectionWeight E I k (w k))
+      → ((k : ℕ) → k < E.hypotheses → I k ≡ false → w k ≡ number_zero) → sum_below number_field E.hypotheses w ≤ε number_one
   intersection_total w W zeros =
       subst (λ z. z ≤ε number_one) (sym whole_is)
-      (shared_at_most_one E.components E.share (λ c. sum_below number_field E.hypotheses (λ k. limit (member_weight E.hypotheses (E.graph c) I k))) V.share_nonneg V.share_total (λ c q. limit_total E.hypotheses (E.graph c) I (V.graph c q)))
+      (shared_at_most_one E.components E.share (λ c. sum_below number_field E.hypotheses (λ k. limit (member_weight E.hypotheses (E.graph c) I k)))
+      V.share_nonneg V.share_total (λ c q. limit_total E.hypotheses (E.graph c) I (V.graph c q)))
     where
       each : (k : ℕ) → k < E.hypotheses → w k ≡ sum_below number_field E.components (part_of k)
       each k q = elim (true_or_false (I k)) [
@@ -106,5 +120,7 @@ module _ (E : EntangledGraph) (V : IsValidEntangled E) (I : ℕ → Bool) where
         | inr f ↦ zeros k q f ∙ sym (outside_is k f)
       ]
 
-      whole_is : sum_below number_field E.hypotheses w ≡ sum_below number_field E.components (λ c. E.share c *ε sum_below number_field E.hypotheses (λ k. limit (member_weight E.hypotheses (E.graph c) I k)))
-      whole_is = sum_congr number_field E.hypotheses w (λ k. sum_below number_field E.components (part_of k)) each ∙ sum_swap number_field E.hypotheses E.components part_of ∙ ap (sum_below number_field E.components) (fun_ext scaled)
+      whole_is : sum_below number_field E.hypotheses w ≡ sum_below number_field E.components
+          (λ c. E.share c *ε sum_below number_field E.hypotheses (λ k. limit (member_weight E.hypotheses (E.graph c) I k)))
+      whole_is = sum_congr number_field E.hypotheses w (λ k. sum_below number_field E.components (part_of k)) each
+          ∙ sum_swap number_field E.hypotheses E.components part_of ∙ ap (sum_below number_field E.components) (fun_ext scaled)

@@ -1,5 +1,6 @@
 -- What it means that a row finds nothing.
-use Rattle.std.proofs.Common.{◌≡◌, refl, sym, ap, ◌∙◌, ℕ, zero, suc, ◌+◌, ◌<◌, ◌⊎◌, inl, inr, List, [], ◌∷◌, length, get_or, Bool, true, false, not, ◌&&◌, cond, Option, Some, None, Result, Ok, Err, arith}
+use Rattle.std.proofs.Common.{◌≡◌, refl, sym, ap, ◌∙◌, ℕ, zero, suc, ◌+◌, ◌<◌, ◌⊎◌, inl, inr, List, [], ◌∷◌, length, get_or}
+use Rattle.std.proofs.Common.{Bool, true, false, not, ◌&&◌, cond, Option, Some, None, Result, Ok, Err, arith}
 use Rattle.std.specs.List.{list_all, find}
 use Rattle.std.specs.Option.{option_map, MatchOption}
 use Rattle.std.specs.Bool.{⊤}
@@ -42,19 +43,23 @@ nothing_mapped f None h = refl
 nothing_mapped f (Some x) h = absurd (cc)
 
 -- nothing is found at any place
-pub none_at : {A : Type 0} (row : ℕ → A → Option CaseFault) (i : ℕ) (xs : List A) (n : ℕ) (d : A) → first_from row i xs ≡ None → n < length xs → row (i + n) (get_or xs n d) ≡ None
+pub none_at : {A : Type 0} (row : ℕ → A → Option CaseFault) (i : ℕ) (xs : List A) (n : ℕ) (d : A) → first_from row i xs ≡ None → n < length xs
+    → row (i + n) (get_or xs n d) ≡ None
 unfolding first_from
 none_at row i [] n d h p = absurd (omega arith)
-none_at row i (x ∷ xs) zero d h p = let same : i + zero ≡ i = omega arith in ap (λ k. row k x) same ∙ (neither (row i x) (first_from row (i + 1) xs) h).first
+none_at row i (x ∷ xs) zero d h p = let same : i + zero ≡ i = omega arith in ap (λ k. row k x) same
+    ∙ (neither (row i x) (first_from row (i + 1) xs) h).first
 none_at row i (x ∷ xs) (suc n) d h p =
     let same : i + suc n ≡ i + 1 + n = omega arith in
     ap (λ k. row k (get_or xs n d)) same ∙ none_at row (i + 1) xs n d (neither (row i x) (first_from row (i + 1) xs) h).second (omega arith)
 
-pub no_first : {A : Type 0} (row : ℕ → A → Option CaseFault) (xs : List A) (n : ℕ) (d : A) → first_of row xs ≡ None → n < length xs → row n (get_or xs n d) ≡ None
+pub no_first : {A : Type 0} (row : ℕ → A → Option CaseFault) (xs : List A) (n : ℕ) (d : A) → first_of row xs ≡ None → n < length xs
+    → row n (get_or xs n d) ≡ None
 no_first row xs n d h p = let same : 0 + n ≡ n = omega arith in ap (λ k. row k (get_or xs n d)) (sym same) ∙ none_at row 0 xs n d h p
 
 -- no item of a list passes a test whose fault is nowhere found
-pub none_passes : {A : Type 0} (test : A → Bool) (fault : ℕ → A → CaseFault) (i : ℕ) (xs : List A) → first_from (λ i x. fault i x when test x) i xs ≡ None → list_all (λ x. not (test x)) xs ≡ true
+pub none_passes : {A : Type 0} (test : A → Bool) (fault : ℕ → A → CaseFault) (i : ℕ) (xs : List A)
+    → first_from (λ i x. fault i x when test x) i xs ≡ None → list_all (λ x. not (test x)) xs ≡ true
 unfolding first_from
 none_passes test fault i [] h = refl
 none_passes test fault i (x ∷ xs) h =
@@ -62,7 +67,8 @@ none_passes test fault i (x ∷ xs) h =
     ap (λ b. not b && list_all (λ x. not (test x)) xs) (no_when (test x) (fault i x) both.first) ∙ none_passes test fault (i + 1) xs both.second
 
 -- and each passes one whose opposite is nowhere found
-pub all_pass : {A : Type 0} (test : A → Bool) (fault : ℕ → A → CaseFault) (i : ℕ) (xs : List A) → first_from (λ i x. fault i x when not (test x)) i xs ≡ None → list_all test xs ≡ true
+pub all_pass : {A : Type 0} (test : A → Bool) (fault : ℕ → A → CaseFault) (i : ℕ) (xs : List A)
+    → first_from (λ i x. fault i x when not (test x)) i xs ≡ None → list_all test xs ≡ true
 unfolding first_from
 all_pass test fault i [] h = refl
 all_pass test fault i (x ∷ xs) h =
@@ -80,7 +86,8 @@ no_below row (suc n) i h p =
     elim (at_or_below i n p) [ inl e ↦ ap row e ∙ both.second | inr g ↦ no_below row n i both.first g ]
 
 -- a sum without a fault is at most 1
-pub no_sum_fault : {A : Type 0} (r : Result A WideAt) (value : Number) (above : CaseFault) → sum_fault r value above ≡ None → at_most value number_one ≡ true
+pub no_sum_fault : {A : Type 0} (r : Result A WideAt) (value : Number) (above : CaseFault) → sum_fault r value above ≡ None
+    → at_most value number_one ≡ true
 no_sum_fault (Ok s) value above h = no_unless (at_most value number_one) above h
 no_sum_fault (Err e) value above h = absurd (cc)
 
@@ -89,7 +96,8 @@ pub record IsFound {A : Type 0} (p q : A → Bool) (x : A) : Type 0 where
   pub test : p x ≡ true
   pub each : q x ≡ true
 
-found_here : {A : Type 0} (p q : A → Bool) (x : A) (r : Option A) (b : Bool) → p x ≡ b → q x ≡ true → MatchOption r ⊤ (IsFound p q) → MatchOption (cond b (Some x) r) ⊤ (IsFound p q)
+found_here : {A : Type 0} (p q : A → Bool) (x : A) (r : Option A) (b : Bool) → p x ≡ b → q x ≡ true → MatchOption r ⊤ (IsFound p q)
+    → MatchOption (cond b (Some x) r) ⊤ (IsFound p q)
 found_here p q x r true e g rest = record { test = e; each = g }
 found_here p q x r false e g rest = rest
 

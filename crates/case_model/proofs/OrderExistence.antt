@@ -16,7 +16,8 @@ use Rattle.case_model.proofs.LocalTests.{legal_passes_by, passes_legal_by}
 use Rattle.case_model.proofs.PriorityOrders.{legal_ratio, least_exists, least_legal}
 
 module _ (m : ℕ) (Rule : (ℕ → Bool) → ℕ → Type 0) (inside : (I : ℕ → Bool) (k : ℕ) → Rule I k → IsIn m I k) where
-  run_within : ((I : ℕ → Bool) → ((j : ℕ) × Rule I j) ⊎ ((j : ℕ) → ¬ Rule I j)) → (n : ℕ) (I : ℕ → Bool) → size_of m I ≤ n → (js : List ℕ) × IsRunBy Rule I js
+  run_within : ((I : ℕ → Bool) → ((j : ℕ) × Rule I j) ⊎ ((j : ℕ) → ¬ Rule I j)) → (n : ℕ) (I : ℕ → Bool) → size_of m I ≤ n
+      → (js : List ℕ) × IsRunBy Rule I js
   run_within next zero I h = elim (next I) [
     | inl r ↦ absurd (let e = size_dropped m r.0 I (inside I r.0 r.1) in omega (arith, e))
     | inr none ↦ ([], record { order = tt; complete = none })
@@ -29,11 +30,13 @@ module _ (m : ℕ) (Rule : (ℕ → Bool) → ℕ → Type 0) (inside : (I : ℕ
     | inr none ↦ ([], record { order = tt; complete = none })
   ]
 
-  pub run_exists : ((I : ℕ → Bool) → ((j : ℕ) × Rule I j) ⊎ ((j : ℕ) → ¬ Rule I j)) → (I : ℕ → Bool) → (js : List ℕ) × IsRunBy Rule I js
+  pub run_exists : ((I : ℕ → Bool) → ((j : ℕ) × Rule I j) ⊎ ((j : ℕ) → ¬ Rule I j)) → (I : ℕ → Bool) → (js : List ℕ)
+      × IsRunBy Rule I js
   run_exists next I = run_within next (size_of m I) I (omega arith)
 
   -- the first, where each hypothesis is known to be allowed or not
-  first_below : (I : ℕ → Bool) → ((k : ℕ) → Rule I k ⊎ ¬ Rule I k) → (n : ℕ) → ((j : ℕ) × IsFirst Rule I j) ⊎ ((k : ℕ) → k < n → ¬ Rule I k)
+  first_below : (I : ℕ → Bool) → ((k : ℕ) → Rule I k ⊎ ¬ Rule I k) → (n : ℕ) → ((j : ℕ) × IsFirst Rule I j)
+      ⊎ ((k : ℕ) → k < n → ¬ Rule I k)
   first_below I decide zero = inr (λ k h. absurd (omega arith))
   first_below I decide (suc n) = elim (first_below I decide n) [
     | inl f ↦ inl f
@@ -43,11 +46,13 @@ module _ (m : ℕ) (Rule : (ℕ → Bool) → ℕ → Type 0) (inside : (I : ℕ
     ]
   ]
 
-  pub first_or_none : (I : ℕ → Bool) → ((k : ℕ) → Rule I k ⊎ ¬ Rule I k) → ((j : ℕ) × IsFirst Rule I j) ⊎ ((k : ℕ) → ¬ IsFirst Rule I k)
+  pub first_or_none : (I : ℕ → Bool) → ((k : ℕ) → Rule I k ⊎ ¬ Rule I k) → ((j : ℕ) × IsFirst Rule I j)
+      ⊎ ((k : ℕ) → ¬ IsFirst Rule I k)
   first_or_none I decide = elim (first_below I decide m) [ inl f ↦ inl f | inr none ↦ inr (λ k f. none k (inside I k f.allowed).below f.allowed) ]
 
   -- the last of the first `n`
-  last_below : (I : ℕ → Bool) → ((k : ℕ) → Rule I k ⊎ ¬ Rule I k) → (n : ℕ) → ((k : ℕ) → Rule I k → k < n) → ((j : ℕ) × IsLast Rule I j) ⊎ ((k : ℕ) → ¬ Rule I k)
+  last_below : (I : ℕ → Bool) → ((k : ℕ) → Rule I k ⊎ ¬ Rule I k) → (n : ℕ) → ((k : ℕ) → Rule I k → k < n)
+      → ((j : ℕ) × IsLast Rule I j) ⊎ ((k : ℕ) → ¬ Rule I k)
   last_below I decide zero below = inr (λ k r. let q : k < 0 = below k r in absurd (omega arith))
   last_below I decide (suc n) below = elim (decide n) [
     | inl r ↦ inl (n, record { allowed = r; greatest = λ k h s. let q : k < suc n = below k s in absurd (omega arith) })
@@ -86,7 +91,8 @@ module _ (E : EntangledGraph) (V : IsValidEntangled E) (Test : ℕ → Number �
       ]
 
   pub first_order_exists_by : (I : ℕ → Bool) → (js : List ℕ) × IsRunBy (IsFirst (IsLegalBy E Test)) I js
-  first_order_exists_by = run_exists E.hypotheses (IsFirst (IsLegalBy E Test)) (λ I k f. f.allowed.member) (λ I. first_or_none E.hypotheses (IsLegalBy E Test) (λ J k h. h.member) I (legal_or_not_by I))
+  first_order_exists_by = run_exists E.hypotheses (IsFirst (IsLegalBy E Test)) (λ I k f. f.allowed.member)
+      (λ I. first_or_none E.hypotheses (IsLegalBy E Test) (λ J k h. h.member) I (legal_or_not_by I))
 
 module _ (E : EntangledGraph) (V : IsValidEntangled E) (p : ℕ → Number) (level : Number) where
   pub legal_or_not : (I : ℕ → Bool) (k : ℕ) → IsLegal E p level I k ⊎ ¬ IsLegal E p level I k
@@ -112,7 +118,8 @@ module _ (E : EntangledGraph) (V : IsValidEntangled E) (p : ℕ → Number) (lev
   first_order_exists = first_order_exists_by E V (AtLevel p level) (λ j u. passes_or_not (p j) u level)
 
   pub last_order_exists : (I : ℕ → Bool) → (js : List ℕ) × IsLastOrder E p level I js
-  last_order_exists = run_exists E.hypotheses (IsLast (IsLegal E p level)) (λ I k f. f.allowed.member) (λ I. last_or_none E.hypotheses (IsLegal E p level) (λ J k h. h.member) I (legal_or_not I))
+  last_order_exists = run_exists E.hypotheses (IsLast (IsLegal E p level)) (λ I k f. f.allowed.member)
+      (λ I. last_or_none E.hypotheses (IsLegal E p level) (λ J k h. h.member) I (legal_or_not I))
 
   pub ratio_order_exists : (I : ℕ → Bool) → (js : List ℕ) × IsRatioOrder E p level I js
   ratio_order_exists = run_exists E.hypotheses (IsLeastLegalRatio E p level) (λ I k L. L.legal.member) next_or_none

@@ -7,7 +7,8 @@ use Rattle.case_model.specs.declared.draft_stages.DraftStages.{DraftStages}
 use Rattle.case_model.specs.declared.fault.CaseFault.{CaseFault}
 use Rattle.case_model.specs.Draft.{is_level, is_short_level, is_level_range, have_known_arrivals}
 use Rattle.case_model.specs.Content.{Content, content_of, inputs_of}
-use Rattle.case_model.specs.CaseFaults.{◌when◌, case_fault, fault_before_edges, early_fault, late_fault, part_too_long, long_alpha, alpha_range, names_fault, components_fault, shares_fault, weights_fault, edges_fault}
+use Rattle.case_model.specs.CaseFaults.{◌when◌, case_fault, fault_before_edges, early_fault, late_fault, part_too_long, long_alpha, alpha_range}
+use Rattle.case_model.specs.CaseFaults.{names_fault, components_fault, shares_fault, weights_fault, edges_fault}
 use Rattle.case_model.specs.Validity.{FaultlessDraft, IsValidContent}
 use Rattle.case_model.proofs.Holding.{both}
 use Rattle.case_model.proofs.NoFaults.{neither}
@@ -30,7 +31,8 @@ range_none : (a : Ratio) → is_level_range a ≡ true → alpha_range a ≡ Non
 unfolding alpha_range
 range_none a h = unless_passed (is_level_range a) _ h
 
-module _ (d : Draft) (h : case_fault d ≡ None) (unstaged : d.stages ≡ None) (a : Ratio) (short : long_alpha a ≡ None) (range : alpha_range a ≡ None) where
+module _ (d : Draft) (h : case_fault d ≡ None) (unstaged : d.stages ≡ None) (a : Ratio) (short : long_alpha a ≡ None)
+    (range : alpha_range a ≡ None) where
   parts_none : part_too_long (draft_at d a) ≡ None
   unfolding part_too_long
   parts_none = second_of_two (long_alpha a) _ None short (neither (long_alpha d.alpha) _ (good_start d (early_none d h)).parts).second

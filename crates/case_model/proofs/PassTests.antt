@@ -28,4 +28,5 @@ unfolding does_pass
 tested_pass x u level h = record { positive = positive; small = second_true (at_most u number_zero) (at_most x (u *ε level)) h }
   where
     positive : IsPositive u
-    positive = elim (positive_or_not u) [ inl q ↦ q | inr l ↦ absurd (true_not_false (sym l ∙ first_true (at_most u number_zero) (at_most x (u *ε level)) h)) ]
+    positive = elim (positive_or_not u)
+        [ inl q ↦ q | inr l ↦ absurd (true_not_false (sym l ∙ first_true (at_most u number_zero) (at_most x (u *ε level)) h)) ]

@@ -15,11 +15,13 @@ unfolding is_plain_entry ratio_at
 higher_zero [] k h = number-zero zero_ratio refl
 higher_zero (t ∷ ts) k h = zero_at ts k h
 
-constant : (a b c d e x y z w : Number) → b ≡ number_zero → c ≡ number_zero → d ≡ number_zero → e ≡ number_zero → number_zero +ε a *ε number_one +ε b *ε x +ε c *ε y +ε d *ε z +ε e *ε w ≡ a
+constant : (a b c d e x y z w : Number) → b ≡ number_zero → c ≡ number_zero → d ≡ number_zero → e ≡ number_zero
+    → number_zero +ε a *ε number_one +ε b *ε x +ε c *ε y +ε d *ε z +ε e *ε w ≡ a
 constant a b c d e x y z w p q r s = rw (p, q, r, s) (simp number_laws)
 
 pub plain_entry_value : (e : List Ratio) → is_plain_entry e ≡ true → entry_value e ≡ number_at e 0
 unfolding entry_value power_of_epsilon
 plain_entry_value e h =
     sum_of_five (λ k. number_at e k *ε power_of_epsilon k)
-    ∙ constant (number_at e 0) (number_at e 1) (number_at e 2) (number_at e 3) (number_at e 4) (power_of_epsilon 1) (power_of_epsilon 2) (power_of_epsilon 3) (power_of_epsilon 4) (higher_zero e 0 h) (higher_zero e 1 h) (higher_zero e 2 h) (higher_zero e 3 h)
+    ∙ constant (number_at e 0) (number_at e 1) (number_at e 2) (number_at e 3) (number_at e 4) (power_of_epsilon 1) (power_of_epsilon 2) (power_of_epsilon 3)
+    (power_of_epsilon 4) (higher_zero e 0 h) (higher_zero e 1 h) (higher_zero e 2 h) (higher_zero e 3 h)

@@ -5,7 +5,8 @@ use Rattle.field_core.specs.Arithmetic.{number_zero, ◌*ε◌, ◌/ε◌}
 use Rattle.field_core.specs.Order.{◌≤ε◌, IsPositive}
 use Rattle.field_core.specs.Sets.{IsIn}
 use Rattle.field_core.specs.Runs.{left_after}
-use Rattle.field_core.specs.Laws.AtMostLaws.{at_most_refl, at_most_equal, at_most_total, at_most_trans, at_most_antisymm, at_most_multiply_left, at_most_or_above, at_most-compare, positive_or_not, positive-not_at_most, positive-at_least_zero, positive-nonzero}
+use Rattle.field_core.specs.Laws.AtMostLaws.{at_most_refl, at_most_equal, at_most_total, at_most_trans, at_most_antisymm, at_most_multiply_left}
+use Rattle.field_core.specs.Laws.AtMostLaws.{at_most_or_above, at_most-compare, positive_or_not, positive-not_at_most, positive-at_least_zero, positive-nonzero}
 use Rattle.field_core.specs.NumberField.{number_field}
 use Rattle.field_core.specs.Laws.Order.{divide_multiply}
 use Rattle.field_core.specs.Laws.NumberLaws.{number_multiply_comm}
@@ -13,7 +14,8 @@ use Rattle.field_core.proofs.Orders.{mul_le_cancel}
 use Rattle.field_core.proofs.Live.{true_or_false, true_not_false}
 use Rattle.case_model.specs.EntangledGraph.{EntangledGraph, IsValidEntangled}
 use Rattle.case_model.specs.ClosedTest.{IsLegal}
-use Rattle.case_model.specs.LegalOrder.{IsFirst, IsLast, IsRatio, IsLeastRatio, IsLegalOrder, IsComplete, IsLeastLegalRatio, IsFirstOrder, IsLastOrder, IsRatioOrder}
+use Rattle.case_model.specs.LegalOrder.{IsFirst, IsLast, IsRatio, IsLeastRatio, IsLegalOrder, IsComplete, IsLeastLegalRatio, IsFirstOrder, IsLastOrder}
+use Rattle.case_model.specs.LegalOrder.{IsRatioOrder}
 use Rattle.case_model.proofs.IntersectionLaws.{intersection_unique, intersection_exists}
 use Rattle.case_model.proofs.RejectionOrders.{compared, below_or_not, at_or_below, order_by, run_unique, first_unique, last_unique, first_none, last_none}
 
@@ -51,8 +53,11 @@ module _ (E : EntangledGraph) (p : ℕ → Number) (I : ℕ → Bool) where
 
   -- a legal hypothesis has a ratio, which is at most the level
   pub legal_ratio : (level : Number) (k : ℕ) → IsLegal E p level I k → (q : Number) × IsRatio E p I k q × (q ≤ε level)
-  legal_ratio level k h =
-      (p k /ε h.weight, record { member = h.member; weight = h.weight; is_weight = h.is_weight; positive = h.passes.positive; ratio = refl }, ratio_at_most (p k) h.weight level h.passes.positive h.passes.small)
+  legal_ratio level k h = (
+    p k /ε h.weight,
+    record { member = h.member; weight = h.weight; is_weight = h.is_weight; positive = h.passes.positive; ratio = refl },
+    ratio_at_most (p k) h.weight level h.passes.positive h.passes.small,
+  )
 
   pub legal_at_most : (level : Number) (k : ℕ) (q : Number) → IsRatio E p I k q → IsLegal E p level I k → q ≤ε level
   legal_at_most level k q Q h = let r = legal_ratio level k h in subst (λ z. z ≤ε level) (ratio_unique k r.0 q r.1 Q) r.2
@@ -91,7 +96,8 @@ module _ (E : EntangledGraph) (p : ℕ → Number) (I : ℕ → Bool) where
         by_weight : IsIn E.hypotheses I k → ((q : Number) × IsRatio E p I k q) ⊎ ((q : Number) → ¬ IsRatio E p I k q)
         by_weight m = let W = intersection_exists E V I k m in elim (positive_or_not W.0) [
           | inl h ↦ inl (p k /ε W.0, record { member = m; weight = W.0; is_weight = W.1; positive = h; ratio = refl })
-          | inr n ↦ inr (λ q Q. positive-not_at_most Q.weight Q.positive (subst (λ z. z ≤ε number_zero) (intersection_unique E I k W.0 Q.weight W.1 Q.is_weight) n))
+          | inr n ↦ inr (λ q Q. positive-not_at_most Q.weight Q.positive
+              (subst (λ z. z ≤ε number_zero) (intersection_unique E I k W.0 Q.weight W.1 Q.is_weight) n))
         ]
 
     -- the least ratio of the positions below `n`
@@ -113,7 +119,8 @@ module _ (E : EntangledGraph) (p : ℕ → Number) (I : ℕ → Bool) where
     }
 
     -- `n` has a less one than all before it
-    taken : (n : ℕ) (q : Number) → IsRatio E p I n q → ((k : ℕ) (r : Number) → k < n → IsRatio E p I k r → ¬ (r ≤ε q)) → IsLeastBelow (suc n) n
+    taken : (n : ℕ) (q : Number) → IsRatio E p I n q → ((k : ℕ) (r : Number) → k < n → IsRatio E p I k r → ¬ (r ≤ε q))
+        → IsLeastBelow (suc n) n
     taken n q Q above = record {
       ratio = q;
       is_ratio = Q;
@@ -138,7 +145,8 @@ module _ (E : EntangledGraph) (p : ℕ → Number) (I : ℕ → Bool) where
       ]
     ]
       where
-        with_both : (n j : ℕ) → IsLeastBelow n j → (q : Number) → IsRatio E p I n q → ((j : ℕ) × IsLeastBelow (suc n) j) ⊎ ((k : ℕ) (q : Number) → k < suc n → ¬ IsRatio E p I k q)
+        with_both : (n j : ℕ) → IsLeastBelow n j → (q : Number) → IsRatio E p I n q → ((j : ℕ) × IsLeastBelow (suc n) j)
+            ⊎ ((k : ℕ) (q : Number) → k < suc n → ¬ IsRatio E p I k q)
         with_both n j L q Q = elim (at_most_or_above L.ratio q) [
           | inl up ↦ inl (j, kept n j L (λ r R. subst (λ z. L.ratio ≤ε z) (ratio_unique n q r Q R) up))
           | inr g ↦ inl (n, taken n q Q (λ k r h R u. at_most-compare L.ratio q (at_most_trans L.ratio r q (L.least k r h R) u) g))
@@ -165,12 +173,19 @@ module _ (E : EntangledGraph) (p : ℕ → Number) (level : Number) where
       none l.0 (record { least = l.1; legal = least_legal E p I level l.0 k l.1 h })
 
   pub first_order : (I : ℕ → Bool) (js : List ℕ) → IsFirstOrder E p level I js → IsLegalOrder E p level I js × IsComplete E p level I js
-  first_order I js r = (order_by (IsFirst (IsLegal E p level)) (IsLegal E p level) (λ J j f. f.allowed) js I r.order, first_none (IsLegal E p level) (left_after I js) r.complete)
+  first_order I js r = (
+    order_by (IsFirst (IsLegal E p level)) (IsLegal E p level) (λ J j f. f.allowed) js I r.order,
+    first_none (IsLegal E p level) (left_after I js) r.complete,
+  )
 
   pub last_order : (I : ℕ → Bool) (js : List ℕ) → IsLastOrder E p level I js → IsLegalOrder E p level I js × IsComplete E p level I js
-  last_order I js r = (order_by (IsLast (IsLegal E p level)) (IsLegal E p level) (λ J j f. f.allowed) js I r.order, last_none (IsLegal E p level) E.hypotheses (left_after I js) (λ j h. h.member.below) r.complete)
+  last_order I js r = (
+    order_by (IsLast (IsLegal E p level)) (IsLegal E p level) (λ J j f. f.allowed) js I r.order,
+    last_none (IsLegal E p level) E.hypotheses (left_after I js) (λ j h. h.member.below) r.complete,
+  )
 
-  pub ratio_order : IsValidEntangled E → (I : ℕ → Bool) (js : List ℕ) → IsRatioOrder E p level I js → IsLegalOrder E p level I js × IsComplete E p level I js
+  pub ratio_order : IsValidEntangled E → (I : ℕ → Bool) (js : List ℕ) → IsRatioOrder E p level I js → IsLegalOrder E p level I js
+      × IsComplete E p level I js
   ratio_order V I js r = (order_by (IsLeastLegalRatio E p level) (IsLegal E p level) (λ J j f. f.legal) js I r.order, next_none V (left_after I js) r.complete)
 
   pub first_order_unique : (I : ℕ → Bool) (js ks : List ℕ) → IsFirstOrder E p level I js → IsFirstOrder E p level I ks → js ≡ ks

@@ -15,11 +15,14 @@ use Rattle.case_model.proofs.SumSteps.{in_terms}
 use Rattle.case_model.proofs.Wide.{some_from}
 
 -- a product by its terms, from its stored parts
-pub product_in_terms : (x y : Ratio) (r : Result Ratio TooWide) → ok_map fraction_parts r ≡ or_wide Mul (plain.written Mul (fraction_parts x) (fraction_parts y)) → ok_map terms r ≡ or_wide Mul (written_mul (terms x) (terms y))
+pub product_in_terms : (x y : Ratio) (r : Result Ratio TooWide)
+    → ok_map fraction_parts r ≡ or_wide Mul (plain.written Mul (fraction_parts x) (fraction_parts y))
+    → ok_map terms r ≡ or_wide Mul (written_mul (terms x) (terms y))
 product_in_terms x y r e = in_terms Mul r (written_mul (terms x) (terms y)) e
 
 -- a product that isn't refused is exact
-pub product_value : (x y z : Ratio) → Path (Result Terms TooWide) (Ok (terms z)) (or_wide Mul (written_mul (terms x) (terms y))) → number_of z ≡ number_of x *ε number_of y
+pub product_value : (x y z : Ratio) → Path (Result Terms TooWide) (Ok (terms z)) (or_wide Mul (written_mul (terms x) (terms y)))
+    → number_of z ≡ number_of x *ε number_of y
 product_value x y z e =
     let has : (w : Ratio) → Has (terms w) (number_of w) = λ w. record { reduced = w.valid; value = refl } in
     (written_has Mul (terms x) (terms y) (terms z) (number_of x) (number_of y) tt (has x) (has y) (some_from Mul (terms z) _ e)).value

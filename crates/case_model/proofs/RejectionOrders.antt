@@ -1,5 +1,6 @@
 -- Orders of rejections by any rule.
-use Rattle.std.proofs.Common.{◌≡◌, ◌≢◌, ◌⊎◌, inl, inr, refl, sym, ap₂, ◌∙◌, subst, ℕ, zero, suc, ◌<◌, ◌≤◌, ◌+◌, arith, Bool, true, false, List, [], ◌∷◌, ◌++◌}
+use Rattle.std.proofs.Common.{◌≡◌, ◌≢◌, ◌⊎◌, inl, inr, refl, sym, ap₂, ◌∙◌, subst, ℕ, zero, suc, ◌<◌, ◌≤◌, ◌+◌, arith}
+use Rattle.std.proofs.Common.{Bool, true, false, List, [], ◌∷◌, ◌++◌}
 use Rattle.std.proofs.lemmas.Bool.Decides.{nat_tests}
 use Rattle.field_core.specs.Sets.{IsIn, dropping, set_of}
 use Rattle.field_core.specs.Runs.{IsOrder, left_after}
@@ -64,11 +65,13 @@ module _ (Rule : (ℕ → Bool) → ℕ → Type 0) where
   order_rest (j ∷ js) ks I o = order_rest js ks (dropping j I) o.1
 
   -- where a rule allows members alone, an order by it has distinct members
-  pub order_distinct : (m : ℕ) → ((I : ℕ → Bool) (j : ℕ) → Rule I j → IsIn m I j) → (js : List ℕ) (I : ℕ → Bool) → IsOrderBy Rule I js → IsOrder m I js
+  pub order_distinct : (m : ℕ) → ((I : ℕ → Bool) (j : ℕ) → Rule I j → IsIn m I j) → (js : List ℕ) (I : ℕ → Bool) → IsOrderBy Rule I js
+      → IsOrder m I js
   order_distinct m inside [] I o = tt
   order_distinct m inside (j ∷ js) I o = (inside I j o.0, order_distinct m inside js (dropping j I) o.1)
 
-  pub listed_in : (m : ℕ) → ((I : ℕ → Bool) (j : ℕ) → Rule I j → IsIn m I j) → (js : List ℕ) (I : ℕ → Bool) → IsOrderBy Rule I js → (i : ℕ) → IsListed js i → IsIn m I i
+  pub listed_in : (m : ℕ) → ((I : ℕ → Bool) (j : ℕ) → Rule I j → IsIn m I j) → (js : List ℕ) (I : ℕ → Bool) → IsOrderBy Rule I js
+      → (i : ℕ) → IsListed js i → IsIn m I i
   listed_in m inside [] I o i h = absurd (cc)
   listed_in m inside (j ∷ js) I o i h = elim (here_or_later j i js h) [
     | inl e ↦ subst (IsIn m I) (sym e) (inside I j o.0)
@@ -77,14 +80,16 @@ module _ (Rule : (ℕ → Bool) → ℕ → Type 0) where
 
   -- ---- rules that allow one hypothesis at most
 
-  pub run_unique : ((I : ℕ → Bool) (j k : ℕ) → Rule I j → Rule I k → j ≡ k) → (js ks : List ℕ) (I : ℕ → Bool) → IsRunBy Rule I js → IsRunBy Rule I ks → js ≡ ks
+  pub run_unique : ((I : ℕ → Bool) (j k : ℕ) → Rule I j → Rule I k → j ≡ k) → (js ks : List ℕ) (I : ℕ → Bool) → IsRunBy Rule I js
+      → IsRunBy Rule I ks → js ≡ ks
   run_unique one [] [] I r s = refl
   run_unique one [] (k ∷ ks) I r s = absurd (r.complete k s.order.0)
   run_unique one (j ∷ js) [] I r s = absurd (s.complete j r.order.0)
   run_unique one (j ∷ js) (k ∷ ks) I r s =
       let e : j ≡ k = one I j k r.order.0 s.order.0 in
       let s' : IsRunBy Rule (dropping k I) ks = record { order = s.order.1; complete = s.complete } in
-      ap₂ (λ a as'. a ∷ as') e (run_unique one js ks (dropping j I) (record { order = r.order.1; complete = r.complete }) (subst (λ a. IsRunBy Rule (dropping a I) ks) (sym e) s'))
+      ap₂ (λ a as'. a ∷ as') e (run_unique one js ks (dropping j I) (record { order = r.order.1; complete = r.complete })
+      (subst (λ a. IsRunBy Rule (dropping a I) ks) (sym e) s'))
 
   -- ---- the first and the last that a rule allows
 
@@ -109,7 +114,8 @@ module _ (Rule : (ℕ → Bool) → ℕ → Type 0) where
   first_none I none k = none_below I none (suc k) k (omega arith)
 
   -- where there is no last one below `m`, there is none
-  none_above : (m : ℕ) (I : ℕ → Bool) → ((j : ℕ) → Rule I j → j < m) → ((j : ℕ) → ¬ IsLast Rule I j) → (n k : ℕ) → m ≤ k + n → ¬ Rule I k
+  none_above : (m : ℕ) (I : ℕ → Bool) → ((j : ℕ) → Rule I j → j < m) → ((j : ℕ) → ¬ IsLast Rule I j) → (n k : ℕ) → m ≤ k + n
+      → ¬ Rule I k
   none_above m I below none zero k h = λ r. let q : k < m = below k r in absurd (omega arith)
   none_above m I below none (suc n) k h = λ r. none k (record { allowed = r; greatest = λ i q. none_above m I below none n i (omega arith) })
 
@@ -119,6 +125,7 @@ module _ (Rule : (ℕ → Bool) → ℕ → Type 0) where
 -- ---- from one rule to another
 
 module _ (Rule Other : (ℕ → Bool) → ℕ → Type 0) where
-  pub order_by : ((I : ℕ → Bool) (j : ℕ) → Rule I j → Other I j) → (js : List ℕ) (I : ℕ → Bool) → IsOrderBy Rule I js → IsOrderBy Other I js
+  pub order_by : ((I : ℕ → Bool) (j : ℕ) → Rule I j → Other I j) → (js : List ℕ) (I : ℕ → Bool) → IsOrderBy Rule I js
+      → IsOrderBy Other I js
   order_by so [] I o = tt
   order_by so (j ∷ js) I o = (so I j o.0, order_by so js (dropping j I) o.1)

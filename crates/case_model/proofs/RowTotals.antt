@@ -21,7 +21,8 @@ use Rattle.case_model.proofs.Same.{terms_at-map}
 record HasParts (m : ℕ) (row : ℕ → List Ratio) (s : List Terms) : Type 0 where
   part : (k : ℕ) → k < 5 → power_sum m row k ≡ Some (terms_at s k)
 
-five_parts : (m : ℕ) (row : ℕ → List Ratio) (a b c d e : Terms) → power_sum m row 0 ≡ Some a → power_sum m row 1 ≡ Some b → power_sum m row 2 ≡ Some c → power_sum m row 3 ≡ Some d → power_sum m row 4 ≡ Some e
+five_parts : (m : ℕ) (row : ℕ → List Ratio) (a b c d e : Terms) → power_sum m row 0 ≡ Some a → power_sum m row 1 ≡ Some b
+    → power_sum m row 2 ≡ Some c → power_sum m row 3 ≡ Some d → power_sum m row 4 ≡ Some e
     → (k : ℕ) → k < 5 → power_sum m row k ≡ Some (terms_at (a ∷ b ∷ c ∷ d ∷ e ∷ []) k)
 unfolding terms_at
 five_parts m row a b c d e pa pb pc pd pe zero h = pa
@@ -44,11 +45,13 @@ parts_of m row s w =
 
 -- ---- the value of a written row
 
-products : (n : ℕ) (f g : ℕ → Number) → sum_below number_field n (λ k. f k *ε g k) ≡ sum_below number_field n (λ k. number_field.◌⊗◌ (f k) (g k))
+products : (n : ℕ) (f g : ℕ → Number) → sum_below number_field n (λ k. f k *ε g k) ≡ sum_below number_field n
+    (λ k. number_field.◌⊗◌ (f k) (g k))
 products n f g = ap (sum_below number_field n) (fun_ext (λ k. sym (field_product (f k) (g k))))
 
 -- the values of the entries of a row sum to the sums of the powers, each times its power of epsilon
-sum_by_powers : (m : ℕ) (row : ℕ → List Ratio) → sum_below number_field m (λ j. entry_value (row j)) ≡ sum_below number_field 5 (λ k. sum_below number_field m (λ j. number_at (row j) k) *ε power_of_epsilon k)
+sum_by_powers : (m : ℕ) (row : ℕ → List Ratio) → sum_below number_field m (λ j. entry_value (row j)) ≡ sum_below number_field 5
+    (λ k. sum_below number_field m (λ j. number_at (row j) k) *ε power_of_epsilon k)
 unfolding entry_value
 sum_by_powers m row =
     ap (sum_below number_field m) (fun_ext (λ j. products 5 (number_at (row j)) power_of_epsilon))
@@ -57,11 +60,13 @@ sum_by_powers m row =
     ∙ sym (products 5 (λ k. sum_below number_field m (λ j. number_at (row j) k)) power_of_epsilon)
 
 -- a written row has the value of the sum
-pub exact_row : (m : ℕ) (row : ℕ → List Ratio) (e : List Ratio) → written_row m row ≡ Some (map terms e) → entry_value e ≡ sum_below number_field m (λ j. entry_value (row j))
+pub exact_row : (m : ℕ) (row : ℕ → List Ratio) (e : List Ratio) → written_row m row ≡ Some (map terms e)
+    → entry_value e ≡ sum_below number_field m (λ j. entry_value (row j))
 unfolding entry_value
 exact_row m row e w =
     let parts = parts_of m row (map terms e) w in
     let sum : (k : ℕ) → k < 5 → number_at e k ≡ sum_below number_field m (λ j. number_at (row j) k)
     = λ k h. (exact_sum m (λ j. ratio_at (row j) k) (terms (ratio_at e k)) (parts.part k h ∙ ap Some (terms_at-map e k))).value in
-    sum_congr number_field 5 (λ k. number_at e k *ε power_of_epsilon k) (λ k. sum_below number_field m (λ j. number_at (row j) k) *ε power_of_epsilon k) (λ k h. ap (λ x. x *ε power_of_epsilon k) (sum k h))
+    sum_congr number_field 5 (λ k. number_at e k *ε power_of_epsilon k) (λ k. sum_below number_field m (λ j. number_at (row j) k) *ε power_of_epsilon k)
+    (λ k h. ap (λ x. x *ε power_of_epsilon k) (sum k h))
     ∙ sym (sum_by_powers m row)

@@ -26,7 +26,8 @@ pub same_ratios : (xs ys : List Ratio) → map terms xs ≡ map terms ys → xs 
 same_ratios [] [] e = refl
 same_ratios [] (y ∷ ys) e = absurd (cc)
 same_ratios (x ∷ xs) [] e = absurd (cc)
-same_ratios (x ∷ xs) (y ∷ ys) e = let same = rest_same (terms x) (terms y) (map terms xs) (map terms ys) e in ap₂ ◌∷◌ (same_ratio x y same.0) (same_ratios xs ys same.1)
+same_ratios (x ∷ xs) (y ∷ ys) e = let same = rest_same (terms x) (terms y) (map terms xs) (map terms ys) e in ap₂ ◌∷◌ (same_ratio x y same.0)
+    (same_ratios xs ys same.1)
 
 -- the terms at a place are those of the fraction there
 pub terms_at-map : (xs : List Ratio) (k : ℕ) → terms_at (map terms xs) k ≡ terms (ratio_at xs k)

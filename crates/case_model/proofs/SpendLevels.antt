@@ -1,5 +1,6 @@
 -- The level of a stage doesn't fall as the weight grows, and in a table it is that of the last step that the weight reaches.
-use Rattle.std.proofs.Common.{◌≡◌, ◌⊎◌, inl, inr, refl, sym, ap, ◌∙◌, subst, ℕ, zero, suc, arith, true, false, List, [], ◌∷◌, Option, Some, None}
+use Rattle.std.proofs.Common.{◌≡◌, ◌⊎◌, inl, inr, refl, sym, ap, ◌∙◌, subst, ℕ, zero, suc, arith, true, false, List, [], ◌∷◌, Option}
+use Rattle.std.proofs.Common.{Some, None}
 use Rattle.std.specs.Bool.{then_some}
 use Rattle.std.specs.List.{Contains}
 use Rattle.std.specs.Option.{option_or, option_map_or}
@@ -20,19 +21,23 @@ use Rattle.case_model.specs.Spends.{stage_number, last_step, table_level, spend_
 reached : List SpendStep → ℕ → Number → Number → Number
 reached ss t u low = option_map_or (λ s. stage_number s.levels t) (last_step ss u) low
 
-reached_in : (s : SpendStep) (ss : List SpendStep) (t : ℕ) (u low : Number) → at_most (number_of s.from) u ≡ true → reached (s ∷ ss) t u low ≡ reached ss t u (stage_number s.levels t)
+reached_in : (s : SpendStep) (ss : List SpendStep) (t : ℕ) (u low : Number) → at_most (number_of s.from) u ≡ true
+    → reached (s ∷ ss) t u low ≡ reached ss t u (stage_number s.levels t)
 unfolding last_step reached
 reached_in s ss t u low h = go (last_step ss u)
   where
-    go : (o : Option SpendStep) → option_map_or (λ x. stage_number x.levels t) (option_or o (then_some (at_most (number_of s.from) u) s)) low ≡ option_map_or (λ x. stage_number x.levels t) o (stage_number s.levels t)
+    go : (o : Option SpendStep) → option_map_or (λ x. stage_number x.levels t) (option_or o (then_some (at_most (number_of s.from) u) s))
+        low ≡ option_map_or (λ x. stage_number x.levels t) o (stage_number s.levels t)
     go None = rw h
     go (Some x) = refl
 
-reached_out : (s : SpendStep) (ss : List SpendStep) (t : ℕ) (u low : Number) → at_most (number_of s.from) u ≡ false → reached (s ∷ ss) t u low ≡ reached ss t u low
+reached_out : (s : SpendStep) (ss : List SpendStep) (t : ℕ) (u low : Number) → at_most (number_of s.from) u ≡ false
+    → reached (s ∷ ss) t u low ≡ reached ss t u low
 unfolding last_step reached
 reached_out s ss t u low h = go (last_step ss u)
   where
-    go : (o : Option SpendStep) → option_map_or (λ x. stage_number x.levels t) (option_or o (then_some (at_most (number_of s.from) u) s)) low ≡ option_map_or (λ x. stage_number x.levels t) o low
+    go : (o : Option SpendStep) → option_map_or (λ x. stage_number x.levels t) (option_or o (then_some (at_most (number_of s.from) u) s))
+        low ≡ option_map_or (λ x. stage_number x.levels t) o low
     go None = rw h
     go (Some x) = refl
 
@@ -48,7 +53,8 @@ reached_up : (ss : List SpendStep) (t : ℕ) (u v a b : Number) → u ≤ε v �
 unfolding last_step reached
 reached_up [] t u v a b h k r = k
 reached_up (s ∷ ss) t u v a b h k r = elim (true_or_false (at_most (number_of s.from) u)) [
-  | inl x ↦ in_order (reached_in s ss t u a x) (reached_in s ss t v b (at_most_trans (number_of s.from) u v x h)) (reached_up ss t u v l l h (at_most_refl l) r.1)
+  | inl x ↦ in_order (reached_in s ss t u a x) (reached_in s ss t v b (at_most_trans (number_of s.from) u v x h))
+      (reached_up ss t u v l l h (at_most_refl l) r.1)
   | inr x ↦ elim (true_or_false (at_most (number_of s.from) v)) [
     | inl y ↦ in_order (reached_out s ss t u a x) (reached_in s ss t v b y) (reached_up ss t u v a l h (at_most_trans a b l k r.0) r.1)
     | inr y ↦ in_order (reached_out s ss t u a x) (reached_out s ss t v b y) (reached_up ss t u v a b h k (rising_next t b s ss r))
@@ -64,17 +70,21 @@ reached_up (s ∷ ss) t u v a b h k r = elim (true_or_false (at_most (number_of 
 -- ---- levels
 
 -- the level of a spend doesn't fall as the weight grows
-pub spend_level_up : (s : Spend) (alpha : Number) (t : ℕ) (u v : Number) → IsRisingSpend s t → number_zero ≤ε alpha → u ≤ε v → spend_level s alpha t u ≤ε spend_level s alpha t v
+pub spend_level_up : (s : Spend) (alpha : Number) (t : ℕ) (u v : Number) → IsRisingSpend s t → number_zero ≤ε alpha → u ≤ε v
+    → spend_level s alpha t u ≤ε spend_level s alpha t v
 unfolding spend_level reached
 spend_level_up (Shares fs) alpha t u v r n h = at_most_multiply _ _ alpha n (at_most_multiply_left u v (stage_number fs t) r h)
 spend_level_up (Table ss) alpha t u v r n h = reached_up ss t u v number_zero number_zero h (at_most_refl number_zero) r
 
 -- a stage at which no step has a level isn't above 0
-pub rising_past : (t : ℕ) (ss : List SpendStep) → ((s : SpendStep) → Contains ss s → stage_number s.levels t ≡ number_zero) → IsRising t number_zero ss
+pub rising_past : (t : ℕ) (ss : List SpendStep) → ((s : SpendStep) → Contains ss s → stage_number s.levels t ≡ number_zero)
+    → IsRising t number_zero ss
 rising_past t [] h = tt
 rising_past t (s ∷ ss) h =
-    let e = h s (zero, omega arith, refl) in
-    (subst (λ z. number_zero ≤ε z) (sym e) (at_most_refl number_zero), subst (λ z. IsRising t z ss) (sym e) (rising_past t ss (λ x k. h x (suc k.0, (let q = k.1 in omega (arith, q)), k.2))))
+    let e = h s (zero, omega arith, refl) in (
+      subst (λ z. number_zero ≤ε z) (sym e) (at_most_refl number_zero),
+      subst (λ z. IsRising t z ss) (sym e) (rising_past t ss (λ x k. h x (suc k.0, (let q = k.1 in omega (arith, q)), k.2))),
+    )
 
 -- ---- the step that counts
 
@@ -83,7 +93,8 @@ last_in : (s : SpendStep) (ss : List SpendStep) (u : Number) (x : SpendStep) →
 unfolding last_step
 last_in s ss u x e = ap (λ o. option_or o (then_some (at_most (number_of s.from) u) s)) e
 
-last_here : (s : SpendStep) (ss : List SpendStep) (u : Number) → last_step ss u ≡ None → last_step (s ∷ ss) u ≡ then_some (at_most (number_of s.from) u) s
+last_here : (s : SpendStep) (ss : List SpendStep) (u : Number) → last_step ss u ≡ None
+    → last_step (s ∷ ss) u ≡ then_some (at_most (number_of s.from) u) s
 unfolding last_step
 last_here s ss u e = ap (λ o. option_or o (then_some (at_most (number_of s.from) u) s)) e
 
@@ -109,7 +120,8 @@ none_reached (s ∷ ss) u h x c = elim (some_or_none (last_step ss u)) [
     some_not_none : (y : SpendStep) → Path (Option SpendStep) (Some y) None → ⊥
     some_not_none y e = cc
 
-    at_place : at_most (number_of s.from) u ≡ false → (Contains ss x → ¬ (number_of x.from ≤ε u)) → Contains (s ∷ ss) x → ¬ (number_of x.from ≤ε u)
+    at_place : at_most (number_of s.from) u ≡ false → (Contains ss x → ¬ (number_of x.from ≤ε u)) → Contains (s ∷ ss) x
+        → ¬ (number_of x.from ≤ε u)
     at_place f rest (zero, q, e) = λ t. true_not_false (sym t ∙ ap (λ y. at_most (number_of y.from) u) (sym e) ∙ f)
     at_place f rest (suc k, q, e) = rest (k, omega (arith, q), e)
 
@@ -137,7 +149,14 @@ last_reached (x ∷ xs) u s h = elim (some_or_none (last_step xs u)) [
     here : last_step xs u ≡ None → at_most (number_of x.from) u ≡ true → IsLastStep (x ∷ xs) u s
     here none t =
         let e : x ≡ s = inside (sym (last_here x xs u none ∙ ap (λ b. then_some b x) t) ∙ h) in
-        record { before = []; behind = xs; steps = ap (λ y. y ∷ xs) e; reached = ap (λ y. at_most (number_of y.from) u) (sym e) ∙ t; above = none_reached xs u none }
+        record {
+          before = [];
+          behind = xs;
+          steps = ap (λ y. y ∷ xs) e;
+          reached = ap (λ y. at_most (number_of y.from) u) (sym e)
+              ∙ t;
+          above = none_reached xs u none;
+        }
 
 -- ---- two steps
 
@@ -151,7 +170,8 @@ module _ (a b : SpendStep) (t : ℕ) (u : Number) where
   second_out : ¬ (number_of b.from ≤ε u) → last_step (b ∷ []) u ≡ None
   second_out n = last_here b [] u (last_none u) ∙ ap (λ x. then_some x b) (not_reached b n)
 
-  level_of : (o : Option SpendStep) → last_step (a ∷ b ∷ []) u ≡ o → table_level (a ∷ b ∷ []) t u ≡ option_map_or (λ s. stage_number s.levels t) o number_zero
+  level_of : (o : Option SpendStep) → last_step (a ∷ b ∷ []) u ≡ o
+      → table_level (a ∷ b ∷ []) t u ≡ option_map_or (λ s. stage_number s.levels t) o number_zero
   level_of o e = ap (λ x. option_map_or (λ s. stage_number s.levels t) x number_zero) e
 
   pub at_second : number_of b.from ≤ε u → table_level (a ∷ b ∷ []) t u ≡ stage_number b.levels t

@@ -1,5 +1,6 @@
 -- What is spent in a case isn't below 0, and doesn't fall from step to step; and its fractions have short parts.
-use Rattle.std.proofs.Common.{◌≡◌, refl, sym, ap, subst, ◌∙◌, ℕ, zero, suc, ◌+◌, ◌-◌, List, [], ◌∷◌, length, slice_get, Bool, true, false, cond, Option, Some, None, is_some, arith}
+use Rattle.std.proofs.Common.{◌≡◌, refl, sym, ap, subst, ◌∙◌, ℕ, zero, suc, ◌+◌, ◌-◌, List, [], ◌∷◌, length, slice_get, Bool, true}
+use Rattle.std.proofs.Common.{false, cond, Option, Some, None, is_some, arith}
 use mathlib.Core.Bool.{Bool-set}
 use Rattle.std.proofs.Math.Logic.{∥∥₁_elim}
 use Rattle.std.specs.List.{list_any}
@@ -38,7 +39,8 @@ zero_nonneg : number_zero ≤ε number_of zero_ratio
 zero_nonneg = ap (at_most number_zero) (zero_is zero_ratio refl) ∙ at_most_refl number_zero
 
 -- fractions at a place of two lists of the same length
-next_level : (xs ys : List Ratio) (i : ℕ) → length xs ≡ length ys → ((x y : Ratio) → slice_get xs i ≡ Some x → slice_get ys i ≡ Some y → number_of x ≤ε number_of y) → number_at xs i ≤ε number_at ys i
+next_level : (xs ys : List Ratio) (i : ℕ) → length xs ≡ length ys
+    → ((x y : Ratio) → slice_get xs i ≡ Some x → slice_get ys i ≡ Some y → number_of x ≤ε number_of y) → number_at xs i ≤ε number_at ys i
 unfolding ratio_at
 next_level [] [] i e h = at_most_refl (number_of zero_ratio)
 next_level [] (y ∷ ys) i e h = absurd (omega (arith, e))
@@ -46,9 +48,14 @@ next_level (x ∷ xs) [] i e h = absurd (omega (arith, e))
 next_level (x ∷ xs) (y ∷ ys) zero e h = h x y refl refl
 next_level (x ∷ xs) (y ∷ ys) (suc i) e h = next_level xs ys i (omega (arith, e)) h
 
-rising_steps : (t : ℕ) (ss : List SpendStep) (low : Number) → ((s : SpendStep) → slice_get ss 0 ≡ Some s → low ≤ε stage_number s.levels t) → EachNext ss (λ a b. stage_number a.levels t ≤ε stage_number b.levels t) → IsRising t low ss
+rising_steps : (t : ℕ) (ss : List SpendStep) (low : Number) → ((s : SpendStep) → slice_get ss 0 ≡ Some s → low ≤ε stage_number s.levels t)
+    → EachNext ss (λ a b. stage_number a.levels t ≤ε stage_number b.levels t) → IsRising t low ss
 rising_steps t [] low h n = tt
-rising_steps t (s ∷ ss) low h n = (h s refl, rising_steps t ss (stage_number s.levels t) (λ x e. n 0 s x refl e) (λ i a b e f. let next : suc i + 1 ≡ suc (i + 1) = omega arith in n (suc i) a b e (ap (slice_get (s ∷ ss)) next ∙ f)))
+rising_steps t (s ∷ ss) low h n = (
+  h s refl,
+  rising_steps t ss (stage_number s.levels t) (λ x e. n 0 s x refl e)
+      (λ i a b e f. let next : suc i + 1 ≡ suc (i + 1) = omega arith in n (suc i) a b e (ap (slice_get (s ∷ ss)) next ∙ f)),
+)
 
 pub rising_spend : (count : ℕ) (alpha : Ratio) (s : Spend) (t : ℕ) → IsValidSpend count alpha s → IsRisingSpend s t
 rising_spend count alpha (Shares fs) zero v = at_most_refl number_zero
@@ -63,7 +70,8 @@ unfolding ratio_at
 nothing_spent k zero = at_most_refl number_zero
 nothing_spent k (suc t) = zero_nonneg
 
-rising_at : (count : ℕ) (alpha : Ratio) (spends : List Spend) → Each spends (IsValidSpend count alpha) → (k t : ℕ) → IsRisingSpend (spend_at spends k) t
+rising_at : (count : ℕ) (alpha : Ratio) (spends : List Spend) → Each spends (IsValidSpend count alpha) → (k t : ℕ)
+    → IsRisingSpend (spend_at spends k) t
 rising_at count alpha [] h k t = nothing_spent k t
 rising_at count alpha (s ∷ spends) h zero t = rising_spend count alpha s t (h 0 s refl)
 rising_at count alpha (s ∷ spends) h (suc k) t = rising_at count alpha spends (λ n x e. h (suc n) x e) k t
@@ -89,7 +97,8 @@ IsRisingSpend-prop (Shares fs) t = hlevel Bool-set
 IsRisingSpend-prop (Table ss) t = IsRising-prop t number_zero ss
 
 pub spends_rise : (c : Content) (k t : ℕ) → IsValidContent c → IsRisingSpend (spend_in c k) t
-spends_rise c k t v = ∥∥₁_elim v (IsRisingSpend-prop (spend_in c k) t) (λ f. subst (λ c. IsRisingSpend (spend_in c k) t) f.content_is (rising_inputs f.draft f.faultless k t))
+spends_rise c k t v = ∥∥₁_elim v (IsRisingSpend-prop (spend_in c k) t)
+    (λ f. subst (λ c. IsRisingSpend (spend_in c k) t) f.content_is (rising_inputs f.draft f.faultless k t))
 
 -- ---- short fractions
 
@@ -97,7 +106,8 @@ short_spend : (count : ℕ) (alpha : Ratio) (s : Spend) → IsValidSpend count a
 short_spend count alpha (Shares fs) v = each_all is_short_level fs v.short
 short_spend count alpha (Table ss) v = refl
 
-short_at : (count : ℕ) (alpha : Ratio) (spends : List Spend) → Each spends (IsValidSpend count alpha) → (k : ℕ) → has_short_fractions (spend_at spends k) ≡ true
+short_at : (count : ℕ) (alpha : Ratio) (spends : List Spend) → Each spends (IsValidSpend count alpha) → (k : ℕ)
+    → has_short_fractions (spend_at spends k) ≡ true
 short_at count alpha [] h k = refl
 short_at count alpha (s ∷ spends) h zero = short_spend count alpha s (h 0 s refl)
 short_at count alpha (s ∷ spends) h (suc k) = short_at count alpha spends (λ n x e. h (suc n) x e) k
@@ -115,4 +125,5 @@ short_inputs d h k = by_stages d.stages refl
     by_stages (Some s) e = short_at s.count d.alpha s.spend ((valid_draft d h).stages s e).spends k
 
 pub spends_short : (c : Content) (k : ℕ) → IsValidContent c → has_short_fractions (spend_in c k) ≡ true
-spends_short c k v = ∥∥₁_elim v (hlevel Bool-set) (λ f. subst (λ c. has_short_fractions (spend_in c k) ≡ true) f.content_is (short_inputs f.draft f.faultless k))
+spends_short c k v = ∥∥₁_elim v (hlevel Bool-set)
+    (λ f. subst (λ c. has_short_fractions (spend_in c k) ≡ true) f.content_is (short_inputs f.draft f.faultless k))

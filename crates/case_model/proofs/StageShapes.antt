@@ -23,11 +23,13 @@ use Rattle.case_model.proofs.DraftValidity.{all_of, of_unit}
 use Rattle.case_model.proofs.StageValidity.{within_stage}
 use Rattle.case_model.proofs.FaultlessDrafts.{valid_draft}
 
-known_in : (d : Draft) (s : DraftStages) → have_known_arrivals d ≡ true → d.stages ≡ Some s → list_all (arrives_among (length d.names)) s.arrivals ≡ true
+known_in : (d : Draft) (s : DraftStages) → have_known_arrivals d ≡ true → d.stages ≡ Some s
+    → list_all (arrives_among (length d.names)) s.arrivals ≡ true
 unfolding have_known_arrivals
 known_in d s h e = sym (ap (λ o. option_map_or (λ (s : DraftStages). list_all (arrives_among (length d.names)) s.arrivals) o true) e) ∙ h
 
-are_stages : (m : ℕ) (alpha : Ratio) (s : DraftStages) → AreValidStages m alpha s → list_all (arrives_among m) s.arrivals ≡ true → AreStages m (stages_of s)
+are_stages : (m : ℕ) (alpha : Ratio) (s : DraftStages) → AreValidStages m alpha s → list_all (arrives_among m) s.arrivals ≡ true
+    → AreStages m (stages_of s)
 unfolding is_p_value
 are_stages m alpha s v known = record {
   some = v.some;
@@ -39,7 +41,8 @@ are_stages m alpha s v known = record {
       (all_of (is_short_p_value a.p) _ (v.short n a e) (of_unit (number_of a.p) (v.unit n a e))));
 }
 
-stages_in : (d : Draft) → case_fault d ≡ None → have_known_arrivals d ≡ true → IfStaged (content_of d).inputs (AreStages (length (content_of d).names))
+stages_in : (d : Draft) → case_fault d ≡ None → have_known_arrivals d ≡ true
+    → IfStaged (content_of d).inputs (AreStages (length (content_of d).names))
 unfolding content_of
 stages_in d h known = by_stages d.stages refl
   where
@@ -60,4 +63,5 @@ IfStaged-prop Bare P h = hlevel
 IfStaged-prop (Single ps) P h = hlevel
 
 pub stage_shape : (c : Content) → IsValidContent c → IfStaged c.inputs (AreStages (length c.names))
-stage_shape c v = ∥∥₁_elim v (IfStaged-prop c.inputs (AreStages (length c.names)) (AreStages-prop (length c.names))) (λ f. subst (λ c. IfStaged c.inputs (AreStages (length c.names))) f.content_is (stages_in f.draft f.faultless f.known_arrivals))
+stage_shape c v = ∥∥₁_elim v (IfStaged-prop c.inputs (AreStages (length c.names)) (AreStages-prop (length c.names)))
+    (λ f. subst (λ c. IfStaged c.inputs (AreStages (length c.names))) f.content_is (stages_in f.draft f.faultless f.known_arrivals))

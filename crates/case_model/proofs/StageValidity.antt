@@ -1,5 +1,7 @@
 -- The stages of a draft have no fault exactly where they are valid and their written sums are defined.
-use Rattle.std.proofs.Common.{◌≡◌, ◌≢◌, ◌⊎◌, inl, inr, refl, sym, ap, ◌∙◌, ℕ, zero, suc, ◌+◌, ◌-◌, ◌≤◌, ◌==◌, List, length, slice_get, nat_lt, nat_le, true, false, not, ◌&&◌, ◌||◌, Option, Some, None, Result, Ok, Err, if◌then◌else◌, arith}
+use Rattle.std.proofs.Common.{◌≡◌, ◌≢◌, ◌⊎◌, inl, inr, refl, sym, ap, ◌∙◌, ℕ, zero, suc, ◌+◌, ◌-◌, ◌≤◌, ◌==◌, List}
+use Rattle.std.proofs.Common.{length, slice_get, nat_lt, nat_le, true, false, not, ◌&&◌, ◌||◌, Option, Some, None, Result, Ok, Err, if◌then◌else◌}
+use Rattle.std.proofs.Common.{arith}
 use Rattle.std.proofs.lemmas.Bool.Decides.{nat_tests, Decides-eqb, Decides-and}
 use Rattle.std.proofs.lemmas.Option.{slice_get_within, slice_get_cases}
 use Rattle.std.specs.Bool.{Decides}
@@ -23,18 +25,24 @@ use Rattle.case_model.specs.declared.fault.CaseFault.{CaseFault}
 use Rattle.case_model.specs.declared.fault.CaseFault.TheVariants.{PartTooLong, SpendCount, StepOrder, SpendRange, ArrivalStage, ArrivalRepeated, ArrivalRange}
 use Rattle.case_model.specs.declared.fault.PartPlace.TheVariants.{Spend as SpendPart, Step, Arrival as ArrivalPart}
 use Rattle.case_model.specs.Draft.{is_unit, is_short, is_short_level, is_short_p_value, is_level_range, is_of, is_stage}
-use Rattle.case_model.specs.CaseFaults.{◌when◌, first_of, is_below_zero, long_fraction, long_step, long_arrival, long_stage_part, no_stage, too_many_stages, has_all_stages, spend_count, too_many_steps, step_before, is_later, step_order, is_lower, level_of, falling_level, spend_range, sum_and_bound_fault, step_sum, spend_sum, spends_fault, arrival_stage, arrival_repeated, arrival_range, arrivals_fault, stages_fault}
+use Rattle.case_model.specs.CaseFaults.{◌when◌, first_of, is_below_zero, long_fraction, long_step, long_arrival, long_stage_part, no_stage, too_many_stages}
+use Rattle.case_model.specs.CaseFaults.{has_all_stages, spend_count, too_many_steps, step_before, is_later, step_order, is_lower, level_of, falling_level}
+use Rattle.case_model.specs.CaseFaults.{spend_range, sum_and_bound_fault, step_sum, spend_sum, spends_fault, arrival_stage, arrival_repeated, arrival_range}
+use Rattle.case_model.specs.CaseFaults.{arrivals_fault, stages_fault}
 use Rattle.case_model.specs.ValidDraft.{Each, SumsTo, AreValidShares, IsValidTable, IsValidSpend, AreValidStages, CanSum, CanSumSpend}
 use Rattle.case_model.proofs.Holding.{Both, both}
 use Rattle.case_model.proofs.NoFaults.{neither, no_when, no_unless, not_false}
-use Rattle.case_model.proofs.DraftTests.{none_or, when_false, unless_true, each_none, none_each, passing, none_failing, all_each, each_all, can_write, within_bound}
-use Rattle.case_model.proofs.DraftValidity.{false_from, once, none_again, can_place, placed, sum_good, good_sum, all_of, not_both, neither_of, is_false, isnt_true, above_zero, in_level_range, unit_of, of_unit}
+use Rattle.case_model.proofs.DraftTests.{none_or, when_false, unless_true, each_none, none_each, passing, none_failing, all_each, each_all, can_write}
+use Rattle.case_model.proofs.DraftTests.{within_bound}
+use Rattle.case_model.proofs.DraftValidity.{false_from, once, none_again, can_place, placed, sum_good, good_sum, all_of, not_both, neither_of, is_false}
+use Rattle.case_model.proofs.DraftValidity.{isnt_true, above_zero, in_level_range, unit_of, of_unit}
 
 -- ---- what is spent
 
 two_next : (ss : List SpendStep) (n : ℕ) → step_before ss (n + 1) ≡ slice_get ss n
 unfolding step_before
-two_next ss n = let some : (n + 1 == 0) ≡ false = false_from (n + 1 == 0) (Decides-eqb (n + 1) 0) (λ e. omega arith) in let less : n + 1 - 1 ≡ n = omega arith in ap (λ b. if b then None else slice_get ss (n + 1 - 1)) some ∙ ap (slice_get ss) less
+two_next ss n = let some : (n + 1 == 0) ≡ false = false_from (n + 1 == 0) (Decides-eqb (n + 1) 0) (λ e. omega arith) in let less : n + 1 - 1 ≡ n =
+    omega arith in ap (λ b. if b then None else slice_get ss (n + 1 - 1)) some ∙ ap (slice_get ss) less
 
 before_none_or : (ss : List SpendStep) (n : ℕ) → (step_before ss n ≡ None) ⊎ ((k : ℕ) × (n ≡ k + 1) × (step_before ss n ≡ slice_get ss k))
 unfolding step_before
@@ -48,11 +56,14 @@ before_is ss n a e = elim (before_none_or ss n) [
   | inr k ↦ (k.0, k.1, sym k.2 ∙ e)
 ]
 
-later_of : (o : Option SpendStep) (x : Ratio) → ((a : SpendStep) → o ≡ Some a → ¬ (number_of x ≤ε number_of a.from)) → is_later (option_map (λ s. s.from) o) x ≡ true
+later_of : (o : Option SpendStep) (x : Ratio) → ((a : SpendStep) → o ≡ Some a → ¬ (number_of x ≤ε number_of a.from))
+    → is_later (option_map (λ s. s.from) o) x ≡ true
 later_of None x h = refl
 later_of (Some a) x h = is_false _ (h a refl)
 
-lower_of : (o : Option SpendStep) (t : ℕ) (x : Ratio) → ((a : SpendStep) (y : Ratio) → o ≡ Some a → slice_get a.levels t ≡ Some y → number_of y ≤ε number_of x) → is_lower (level_of o t) x ≡ false
+lower_of : (o : Option SpendStep) (t : ℕ) (x : Ratio)
+    → ((a : SpendStep) (y : Ratio) → o ≡ Some a → slice_get a.levels t ≡ Some y → number_of y ≤ε number_of x)
+    → is_lower (level_of o t) x ≡ false
 lower_of None t x h = refl
 lower_of (Some a) t x h = go (slice_get a.levels t) refl
   where
@@ -67,21 +78,25 @@ record BothWritten {A B : Type 0} (r : Result A WideAt) (q : Result B WideAt) (v
   second : (e : WideAt) → q ≢ Err e
   small : at_most value bound ≡ true
 
-both_written : {A B : Type 0} (r : Result A WideAt) (q : Result B WideAt) (value bound : Number) (above : CaseFault) → sum_and_bound_fault r q value bound above ≡ None → BothWritten r q value bound
+both_written : {A B : Type 0} (r : Result A WideAt) (q : Result B WideAt) (value bound : Number) (above : CaseFault)
+    → sum_and_bound_fault r q value bound above ≡ None → BothWritten r q value bound
 both_written (Ok s) q value bound above h =
     let b = can_write q value bound above h in
     record { first = λ e p. (let p' : Path (Result _ WideAt) (Ok s) (Err e) = p in cc); second = b.0; small = b.1 }
 both_written (Err e) q value bound above h = absurd (cc)
 
-written_both : {A B : Type 0} (r : Result A WideAt) (q : Result B WideAt) (value bound : Number) (above : CaseFault) → BothWritten r q value bound → sum_and_bound_fault r q value bound above ≡ None
+written_both : {A B : Type 0} (r : Result A WideAt) (q : Result B WideAt) (value bound : Number) (above : CaseFault) → BothWritten r q value bound
+    → sum_and_bound_fault r q value bound above ≡ None
 written_both (Ok s) q value bound above b = within_bound q value bound above b.second b.small
 written_both (Err e) q value bound above b = absurd (b.first e refl)
 
-step_good : (i : ℕ) (alpha : Ratio) (s : SpendStep) → step_sum i alpha s ≡ None → CanSum s.levels × (written_mul (terms s.from) (terms alpha) ≢ None) × SumsTo s.levels (number_of s.from *ε number_of alpha)
+step_good : (i : ℕ) (alpha : Ratio) (s : SpendStep) → step_sum i alpha s ≡ None → CanSum s.levels × (written_mul (terms s.from) (terms alpha) ≢ None)
+    × SumsTo s.levels (number_of s.from *ε number_of alpha)
 unfolding step_sum
 step_good i alpha s h = let b = both_written _ _ _ _ _ h in (can_place 0 _ _ _ b.first, can_place 0 _ _ _ b.second, b.small)
 
-good_step : (i : ℕ) (alpha : Ratio) (s : SpendStep) → CanSum s.levels → written_mul (terms s.from) (terms alpha) ≢ None → SumsTo s.levels (number_of s.from *ε number_of alpha) → step_sum i alpha s ≡ None
+good_step : (i : ℕ) (alpha : Ratio) (s : SpendStep) → CanSum s.levels → written_mul (terms s.from) (terms alpha) ≢ None
+    → SumsTo s.levels (number_of s.from *ε number_of alpha) → step_sum i alpha s ≡ None
 unfolding step_sum
 good_step i alpha s w p h = written_both _ _ _ _ _ (record { first = placed 0 _ _ _ w; second = placed 0 _ _ _ p; small = h })
 
@@ -103,10 +118,17 @@ module _ (count : ℕ) (alpha : Ratio) (i : ℕ) where
       let form = both (not (length ss == 0)) (list_all (λ s. length s.levels == count) ss) n.form in
       let parts : (k : ℕ) (s : SpendStep) → slice_get ss k ≡ Some s → Both (is_short s.from) (list_all is_short s.levels)
       = λ k s e. both _ _ (passing (λ s. is_short s.from && list_all is_short s.levels) (λ n _. PartTooLong (Step i n)) ss n.step k s e) in
-      let ordered : (k : ℕ) (s : SpendStep) → slice_get ss k ≡ Some s → Both (is_level_range s.from) (is_later (option_map (λ x. x.from) (step_before ss k)) s.from)
-      = λ k s e. both _ _ (no_unless _ (StepOrder i k) (none_each (λ n s. StepOrder i n when not (is_level_range s.from && is_later (option_map (λ x. x.from) (step_before ss n)) s.from)) ss n.order k s e)) in
-      let level : (k : ℕ) (s : SpendStep) → slice_get ss k ≡ Some s → (t : ℕ) (x : Ratio) → slice_get s.levels t ≡ Some x → (is_below_zero x ≡ false) × (is_lower (level_of (step_before ss k) t) x ≡ false)
-      = λ k s e t x q. neither_of _ _ (no_when _ (SpendRange i t) (none_each (λ t x. SpendRange i t when (is_below_zero x || is_lower (level_of (step_before ss k) t) x)) s.levels (none_each (λ n s. falling_level i (step_before ss n) s.levels) ss n.range k s e) t x q)) in
+      let ordered : (k : ℕ) (s : SpendStep) → slice_get ss k ≡ Some s
+      → Both (is_level_range s.from) (is_later (option_map (λ x. x.from) (step_before ss k)) s.from)
+      = λ k s e. both _ _ (no_unless _ (StepOrder i k)
+      (none_each (λ n s. StepOrder i n when not (is_level_range s.from && is_later (option_map (λ x. x.from) (step_before ss n)) s.from)) ss n.order k s
+      e)) in
+      let level : (k : ℕ) (s : SpendStep) → slice_get ss k ≡ Some s → (t : ℕ) (x : Ratio) → slice_get s.levels t ≡ Some x
+      → (is_below_zero x ≡ false) × (is_lower (level_of (step_before ss k) t) x ≡ false)
+      = λ k s e t x q. neither_of _ _
+      (no_when _ (SpendRange i t)
+      (none_each (λ t x. SpendRange i t when (is_below_zero x || is_lower (level_of (step_before ss k) t) x)) s.levels
+      (none_each (λ n s. falling_level i (step_before ss n) s.levels) ss n.range k s e) t x q)) in
       record {
         some = grind (arith, nat_tests, form.left);
         few = grind (arith, nat_tests, no_when (nat_lt 32 (length ss)) _ n.many);
@@ -114,9 +136,11 @@ module _ (count : ℕ) (alpha : Ratio) (i : ℕ) where
         short_from = λ k s e. (parts k s e).left;
         short_levels = λ k s e. all_each is_short s.levels (parts k s e).right;
         from = λ k s e. above_zero s.from (ordered k s e).left;
-        later = λ k a b e f. isnt_true _ (ap (λ o. is_later (option_map (λ x. x.from) o) b.from) (sym (two_next ss k ∙ e)) ∙ (ordered (k + 1) b f).right);
+        later = λ k a b e f. isnt_true _
+            (ap (λ o. is_later (option_map (λ x. x.from) o) b.from) (sym (two_next ss k ∙ e)) ∙ (ordered (k + 1) b f).right);
         nonneg = λ k s e t x q. not_false _ (level k s e t x q).0;
-        rising = λ k a b e f t x y q r. not_false _ (ap (λ o. is_lower o y) (sym (ap (λ o. level_of o t) (two_next ss k ∙ e) ∙ q)) ∙ (level (k + 1) b f t y r).1);
+        rising = λ k a b e f t x y q r. not_false _
+            (ap (λ o. is_lower o y) (sym (ap (λ o. level_of o t) (two_next ss k ∙ e) ∙ q)) ∙ (level (k + 1) b f t y r).1);
         bound = λ k s e. (step_good i alpha s (none_each (λ _ s. step_sum i alpha s) ss n.sum k s e)).2;
       }
 
@@ -157,9 +181,11 @@ module _ (count : ℕ) (alpha : Ratio) (i : ℕ) where
     sum = good_sum fs 0 _ _ w v.total;
   }
   valid_spend (Table ss) v w = record {
-    form = all_of (not (length ss == 0)) _ (ap not (let q = v.some in false_from (length ss == 0) (Decides-eqb (length ss) 0) (λ e. omega arith))) (each_all (λ s. length s.levels == count) ss (λ k s e. (Decides-eqb (length s.levels) count).1 (v.as_many k s e)));
+    form = all_of (not (length ss == 0)) _ (ap not (let q = v.some in false_from (length ss == 0) (Decides-eqb (length ss) 0) (λ e. omega arith)))
+        (each_all (λ s. length s.levels == count) ss (λ k s e. (Decides-eqb (length s.levels) count).1 (v.as_many k s e)));
     fraction = refl;
-    step = none_failing (λ s. is_short s.from && list_all is_short s.levels) (λ n _. PartTooLong (Step i n)) ss (λ k s e. all_of (is_short s.from) _ (v.short_from k s e) (each_all is_short s.levels (v.short_levels k s e)));
+    step = none_failing (λ s. is_short s.from && list_all is_short s.levels) (λ n _. PartTooLong (Step i n)) ss
+        (λ k s e. all_of (is_short s.from) _ (v.short_from k s e) (each_all is_short s.levels (v.short_levels k s e)));
     many = when_false (nat_lt 32 (length ss)) _ (let q = v.few in grind (arith, nat_tests));
     order = each_none (λ n s. StepOrder i n when not (is_level_range s.from && is_later (option_map (λ x. x.from) (step_before ss n)) s.from)) ss
         (λ k s e. unless_true _ _ (all_of (is_level_range s.from) _ (in_level_range s.from (v.from k s e))
@@ -215,7 +241,8 @@ module _ (m : ℕ) (alpha : Ratio) (s : DraftStages) where
         forms = f.first;
         missing = f.second;
         spends = λ i x k. record {
-          form = not_false _ (neither_of _ _ (no_when _ (SpendCount i) (none_each (λ i x. SpendCount i when (nat_le m i || not (has_all_stages s.count x))) s.spend f.first i x k))).1;
+          form = not_false _ (neither_of _ _
+              (no_when _ (SpendCount i) (none_each (λ i x. SpendCount i when (nat_le m i || not (has_all_stages s.count x))) s.spend f.first i x k))).1;
           fraction = none_each long_fraction s.spend la.first i x k;
           step = none_each long_step s.spend lb.first i x k;
           many = none_each too_many_steps s.spend g.first i x k;
@@ -233,7 +260,9 @@ module _ (m : ℕ) (alpha : Ratio) (s : DraftStages) where
   as_many n =
       let least : nat_lt (length s.spend) m ≡ false = no_when _ _ n.missing in
       elim (slice_get_cases s.spend m).1 [
-        | inl x ↦ absurd (true_not_false (sym (self_le m) ∙ (neither_of _ _ (no_when _ (SpendCount m) (none_each (λ i x. SpendCount i when (nat_le m i || not (has_all_stages s.count x))) s.spend n.forms m x.0 x.2))).0))
+        | inl x ↦ absurd (true_not_false
+            (sym (self_le m) ∙ (neither_of _ _
+            (no_when _ (SpendCount m) (none_each (λ i x. SpendCount i when (nat_le m i || not (has_all_stages s.count x))) s.spend n.forms m x.0 x.2))).0))
         | inr past ↦ grind (arith, nat_tests, past.0, least)
       ]
     where
@@ -250,7 +279,8 @@ module _ (m : ℕ) (alpha : Ratio) (s : DraftStages) where
         as_many = as_many n;
         spends = λ i x e. spend_valid s.count alpha i x (n.spends i x e);
         stage = λ k a e. stage_within s.count a.stage (passing (λ a. is_stage s.count a.stage) (λ n _. ArrivalStage n) s.arrivals n.stage k a e);
-        once = once (λ b a. is_of b.hypothesis b.stage a) (λ a b. (a.hypothesis ≡ b.hypothesis) × (a.stage ≡ b.stage)) same_place (λ n _. ArrivalRepeated n) s.arrivals n.again;
+        once = once (λ b a. is_of b.hypothesis b.stage a) (λ a b. (a.hypothesis ≡ b.hypothesis) × (a.stage ≡ b.stage)) same_place
+            (λ n _. ArrivalRepeated n) s.arrivals n.again;
         short = passing (λ a. is_short_p_value a.p) (λ n _. PartTooLong (ArrivalPart n)) s.arrivals n.long;
         unit = λ k a e. unit_of (number_of a.p) (passing (λ a. is_unit (number_of a.p)) (λ n _. ArrivalRange n) s.arrivals n.range k a e);
       }
@@ -274,15 +304,19 @@ module _ (m : ℕ) (alpha : Ratio) (s : DraftStages) where
     good_counts =
         none_or _ (SpendCount (length s.spend) when nat_lt (length s.spend) m)
         (each_none (λ i x. SpendCount i when (nat_le m i || not (has_all_stages s.count x))) s.spend
-        (λ i x e. when_false _ _ (not_both (nat_le m i) _ (let q = slice_get_within s.spend i x e in let p = v.as_many in grind (arith, nat_tests)) (ap not (spent i x e).form))))
+        (λ i x e. when_false _ _ (not_both (nat_le m i) _ (let q = slice_get_within s.spend i x e in let p = v.as_many in grind (arith, nat_tests))
+        (ap not (spent i x e).form))))
         (when_false (nat_lt (length s.spend) m) _ (let p = v.as_many in grind (arith, nat_tests)))
 
     good_arrivals : arrivals_fault s.count s.arrivals ≡ None
     unfolding arrivals_fault arrival_stage arrival_repeated arrival_range
     good_arrivals =
-        none_or (arrival_stage s.count s.arrivals) _ (none_failing (λ a. is_stage s.count a.stage) (λ n _. ArrivalStage n) s.arrivals (λ k a e. within_stage s.count a.stage (v.stage k a e).0 (v.stage k a e).1))
+        none_or (arrival_stage s.count s.arrivals) _
+        (none_failing (λ a. is_stage s.count a.stage) (λ n _. ArrivalStage n) s.arrivals
+        (λ k a e. within_stage s.count a.stage (v.stage k a e).0 (v.stage k a e).1))
         (none_or (arrival_repeated s.arrivals) (arrival_range s.arrivals)
-        (none_again (λ b a. is_of b.hypothesis b.stage a) (λ a b. (a.hypothesis ≡ b.hypothesis) × (a.stage ≡ b.stage)) same_place (λ n _. ArrivalRepeated n) s.arrivals v.once)
+        (none_again (λ b a. is_of b.hypothesis b.stage a) (λ a b. (a.hypothesis ≡ b.hypothesis) × (a.stage ≡ b.stage)) same_place
+        (λ n _. ArrivalRepeated n) s.arrivals v.once)
         (none_failing (λ a. is_unit (number_of a.p)) (λ n _. ArrivalRange n) s.arrivals (λ k a e. of_unit (number_of a.p) (v.unit k a e))))
 
     pub good_stages : stages_fault m alpha s ≡ None
@@ -294,5 +328,6 @@ module _ (m : ℕ) (alpha : Ratio) (s : DraftStages) where
         (none_or (spend_count m s.count s.spend) _ good_counts
         (none_or (first_of too_many_steps s.spend) _ (each_none too_many_steps s.spend (λ i x e. (spent i x e).many))
         (none_or (first_of step_order s.spend) _ (each_none step_order s.spend (λ i x e. (spent i x e).order))
-        (none_or (first_of spend_range s.spend) (first_of (spend_sum alpha) s.spend) (each_none spend_range s.spend (λ i x e. (spent i x e).range)) (each_none (spend_sum alpha) s.spend (λ i x e. (spent i x e).sum))))))
+        (none_or (first_of spend_range s.spend) (first_of (spend_sum alpha) s.spend) (each_none spend_range s.spend (λ i x e. (spent i x e).range))
+        (each_none (spend_sum alpha) s.spend (λ i x e. (spent i x e).sum))))))
         good_arrivals))

@@ -20,7 +20,8 @@ use Rattle.case_model.proofs.SpendLevels.{spend_level_up}
 
 -- ---- one stage
 
-pub meets_up : (s : Spend) (alpha : Number) (t : ℕ) (u v p : Number) → IsRisingSpend s t → number_zero ≤ε alpha → u ≤ε v → Meets s alpha t u p → Meets s alpha t v p
+pub meets_up : (s : Spend) (alpha : Number) (t : ℕ) (u v p : Number) → IsRisingSpend s t → number_zero ≤ε alpha → u ≤ε v → Meets s alpha t u p
+    → Meets s alpha t v p
 meets_up s alpha t u v p r n h m =
     let up = spend_level_up s alpha t u v r n h in
     record { positive = positive-at_least u v m.positive h; spent = positive-at_least _ _ m.spent up; small = at_most_trans p _ _ m.small up }
@@ -40,13 +41,24 @@ meets_or_not s alpha t u p = elim (positive_or_not u) [
 -- ---- the staged test
 
 module _ (spend : ℕ → Spend) (alpha : Number) where
-  pub staged_monotone : ((k t : ℕ) → IsRisingSpend (spend k) t) → number_zero ≤ε alpha → (values : List Arrival) → IsMonotone (AtStages spend alpha values)
+  pub staged_monotone : ((k t : ℕ) → IsRisingSpend (spend k) t) → number_zero ≤ε alpha → (values : List Arrival)
+      → IsMonotone (AtStages spend alpha values)
   staged_monotone r n values k u v h m =
-      record { arrival = m.arrival; at = record { arrived = m.at.arrived; hypothesis = m.at.hypothesis; meets = meets_up (spend k) alpha m.arrival.stage u v (number_of m.arrival.p) (r k m.arrival.stage) n h m.at.meets } }
+      record {
+        arrival = m.arrival;
+        at =
+            record {
+              arrived = m.at.arrived;
+              hypothesis = m.at.hypothesis;
+              meets = meets_up (spend k) alpha m.arrival.stage u v (number_of m.arrival.p) (r k m.arrival.stage) n h m.at.meets;
+            };
+      }
 
   -- what passes still passes once more values have arrived
-  pub staged_more : (old new : List Arrival) → ((a : Arrival) → Contains old a → Contains new a) → (k : ℕ) (u : Number) → AtStages spend alpha old k u → AtStages spend alpha new k u
-  staged_more old new more k u m = record { arrival = m.arrival; at = record { arrived = more m.arrival m.at.arrived; hypothesis = m.at.hypothesis; meets = m.at.meets } }
+  pub staged_more : (old new : List Arrival) → ((a : Arrival) → Contains old a → Contains new a) → (k : ℕ) (u : Number)
+      → AtStages spend alpha old k u → AtStages spend alpha new k u
+  staged_more old new more k u m =
+      record { arrival = m.arrival; at = record { arrived = more m.arrival m.at.arrived; hypothesis = m.at.hypothesis; meets = m.at.meets } }
 
 -- ---- settlings
 
@@ -78,8 +90,10 @@ module _ (spend : ℕ → Spend) (alpha : Number) where
       later : (m : AtStages spend alpha (a ∷ as') k u) → (a ≡ m.arrival → ⊥) → AtStages spend alpha as' k u
       later m n = record { arrival = m.arrival; at = record { arrived = further m.arrival m.at.arrived n; hypothesis = m.at.hypothesis; meets = m.at.meets } }
 
-  pub settling_exists : (values : List Arrival) (E : EntangledGraph) (I : ℕ → Bool) → IsValidEntangled E → (js : List ℕ) × IsSettling spend alpha values E I js
+  pub settling_exists : (values : List Arrival) (E : EntangledGraph) (I : ℕ → Bool) → IsValidEntangled E → (js : List ℕ)
+      × IsSettling spend alpha values E I js
   settling_exists values E I V = first_order_exists_by E V (AtStages spend alpha values) (at_stages_or_not values) I
 
-  pub settling_unique : (values : List Arrival) (E : EntangledGraph) (I : ℕ → Bool) (js ks : List ℕ) → IsSettling spend alpha values E I js → IsSettling spend alpha values E I ks → js ≡ ks
+  pub settling_unique : (values : List Arrival) (E : EntangledGraph) (I : ℕ → Bool) (js ks : List ℕ) → IsSettling spend alpha values E I js
+      → IsSettling spend alpha values E I ks → js ≡ ks
   settling_unique values E I js ks = run_unique (IsFirst (IsStagedLegal spend alpha values E)) (first_unique (IsStagedLegal spend alpha values E)) js ks I

@@ -1,5 +1,6 @@
 -- Written sums, item by item.
-use Rattle.std.proofs.Common.{◌≡◌, sym, ap, ◌∙◌, ℕ, zero, suc, ◌+◌, ◌<◌, ◌≤◌, List, length, get_or, Option, Some, None, Result, Ok, Err, arith, inl, inr, ◌⊎◌}
+use Rattle.std.proofs.Common.{◌≡◌, sym, ap, ◌∙◌, ℕ, zero, suc, ◌+◌, ◌<◌, ◌≤◌, List, length, get_or, Option, Some, None, Result, Ok}
+use Rattle.std.proofs.Common.{Err, arith, inl, inr, ◌⊎◌}
 use Rattle.std.proofs.lemmas.List.{get_or_default}
 use Rattle.std.specs.Option.{option_map}
 use Rattle.field_core.specs.Terms.{Terms}
@@ -22,7 +23,8 @@ unfolding ratio_at
 item_is xs i x h e = get_or_default xs i zero_ratio x h ∙ sym e
 
 -- a result of fractions by its terms, from its stored parts
-pub in_terms : (op : Op) (r : Result Ratio TooWide) (s : Option Terms) → ok_map fraction_parts r ≡ or_wide op (option_map single s) → ok_map terms r ≡ or_wide op s
+pub in_terms : (op : Op) (r : Result Ratio TooWide) (s : Option Terms) → ok_map fraction_parts r ≡ or_wide op (option_map single s)
+    → ok_map terms r ≡ or_wide op s
 in_terms op (Ok x) (Some t) e = let same : fraction_parts x ≡ single t = cc in ap Ok (from_single (terms x) t same)
 in_terms op (Ok x) None e = absurd (cc)
 in_terms op (Err f) (Some t) e = absurd (cc)
@@ -52,15 +54,19 @@ unfolding written_sum
 sum_none f z e = ap Some (sym (from_single (terms z) zero_terms e))
 
 module _ (f : ℕ → Ratio) (i : ℕ) (sum x : Ratio) (item : x ≡ f i) (before : written_sum i f ≡ Some (terms sum)) where
-  sum_on : (r : Result Ratio TooWide) → ok_map fraction_parts r ≡ or_wide Add (plain.written Add (fraction_parts sum) (fraction_parts x)) → ok_map terms r ≡ or_wide Add (written_sum (i + 1) f)
-  sum_on r added = in_terms Add r (written_add (terms sum) (terms x)) added ∙ ap (or_wide Add) (ap (λ x. written_add (terms sum) (terms x)) item ∙ sym (sum_next i f (terms sum) before))
+  sum_on : (r : Result Ratio TooWide) → ok_map fraction_parts r ≡ or_wide Add (plain.written Add (fraction_parts sum) (fraction_parts x))
+      → ok_map terms r ≡ or_wide Add (written_sum (i + 1) f)
+  sum_on r added = in_terms Add r (written_add (terms sum) (terms x)) added
+      ∙ ap (or_wide Add) (ap (λ x. written_add (terms sum) (terms x)) item ∙ sym (sum_next i f (terms sum) before))
 
   -- one item more
-  pub sum_more : (s : Ratio) → Path (Result Parts TooWide) (Ok (fraction_parts s)) (or_wide Add (plain.written Add (fraction_parts sum) (fraction_parts x))) → written_sum (i + 1) f ≡ Some (terms s)
+  pub sum_more : (s : Ratio) → Path (Result Parts TooWide) (Ok (fraction_parts s)) (or_wide Add (plain.written Add (fraction_parts sum) (fraction_parts x)))
+      → written_sum (i + 1) f ≡ Some (terms s)
   sum_more s added = some_from Add (terms s) (written_sum (i + 1) f) (sum_on (Ok s) added)
 
   -- a refused item refuses the sum
-  pub sum_stops : (e : TooWide) (n : ℕ) → i < n → Path (Result Parts TooWide) (Err e) (or_wide Add (plain.written Add (fraction_parts sum) (fraction_parts x))) → Path (Result Terms TooWide) (Err e) (or_wide Add (written_sum n f))
+  pub sum_stops : (e : TooWide) (n : ℕ) → i < n → Path (Result Parts TooWide) (Err e)
+      (or_wide Add (plain.written Add (fraction_parts sum) (fraction_parts x))) → Path (Result Terms TooWide) (Err e) (or_wide Add (written_sum n f))
   sum_stops e n below added =
       let stopped = sum_on (Err e) added in
       let none = none_from Add e (written_sum (i + 1) f) stopped in

@@ -1,5 +1,6 @@
 -- Places of edges in tables.
-use Rattle.std.proofs.Common.{◌≡◌, refl, sym, ap, ◌∙◌, ℕ, ◌+◌, ◌*◌, ◌/◌, ◌%◌, ◌==◌, ◌<◌, ◌≤◌, List, [], ◌∷◌, ◌++◌, length, get_or, Bool, true, false, ◌||◌, cond, Option, Some, arith, inl, inr, nat_lt}
+use Rattle.std.proofs.Common.{◌≡◌, refl, sym, ap, ◌∙◌, ℕ, ◌+◌, ◌*◌, ◌/◌, ◌%◌, ◌==◌, ◌<◌, ◌≤◌, List, [], ◌∷◌}
+use Rattle.std.proofs.Common.{◌++◌, length, get_or, Bool, true, false, ◌||◌, cond, Option, Some, arith, inl, inr, nat_lt}
 use Rattle.std.proofs.Math.ListN.{set}
 use Rattle.std.proofs.Math.Nat.{mul-le-mul_right}
 use Rattle.std.proofs.lemmas.Bool.Decides.{nat_tests}
@@ -51,19 +52,24 @@ module _ (m : ℕ) (e : DraftEdge) (ends : goes_between m e ≡ true) where
       omega arith
 
   -- what is written at the place of the edge is read there, and at no other place
-  pub set_place : {A : Type 0} (xs : List A) (x d : A) (k : ℕ) → e.from * m + e.to < length xs → get_or (set xs (e.from * m + e.to) x) k d ≡ cond (has_ends (k / m) (k % m) e) x (get_or xs k d)
+  pub set_place : {A : Type 0} (xs : List A) (x d : A) (k : ℕ) → e.from * m + e.to < length xs
+      → get_or (set xs (e.from * m + e.to) x) k d ≡ cond (has_ends (k / m) (k % m) e) x (get_or xs k d)
   set_place xs x d k within = elim (true_or_false (has_ends (k / m) (k % m) e)) [
-    | inl has ↦ ap (λ k. get_or (set xs (e.from * m + e.to) x) k d) (sym (off_place k has)) ∙ get_or-set_same xs (e.from * m + e.to) x d within ∙ sym (ap (λ b. cond b x (get_or xs k d)) has)
-    | inr other ↦ get_or-set_other xs (e.from * m + e.to) k x d (λ same. let e : true ≡ false = sym (at_place k (sym same)) ∙ other in cc) ∙ sym (ap (λ b. cond b x (get_or xs k d)) other)
+    | inl has ↦ ap (λ k. get_or (set xs (e.from * m + e.to) x) k d) (sym (off_place k has)) ∙ get_or-set_same xs (e.from * m + e.to) x d within
+        ∙ sym (ap (λ b. cond b x (get_or xs k d)) has)
+    | inr other ↦ get_or-set_other xs (e.from * m + e.to) k x d (λ same. let e : true ≡ false = sym (at_place k (sym same)) ∙ other in cc)
+        ∙ sym (ap (λ b. cond b x (get_or xs k d)) other)
   ]
 
 -- ---- tables
 
-found_entry : (b : Bool) (e : DraftEdge) (r : Option DraftEdge) → cond b e.entry (option_map_or (λ e. e.entry) r no_edge) ≡ option_map_or (λ e. e.entry) (cond b (Some e) r) no_edge
+found_entry : (b : Bool) (e : DraftEdge) (r : Option DraftEdge)
+    → cond b e.entry (option_map_or (λ e. e.entry) r no_edge) ≡ option_map_or (λ e. e.entry) (cond b (Some e) r) no_edge
 found_entry true e r = refl
 found_entry false e r = refl
 
-pub edge_between-more : (e : DraftEdge) (es : List DraftEdge) (i j : ℕ) → cond (has_ends i j e) e.entry (edge_between es i j) ≡ edge_between (e ∷ es) i j
+pub edge_between-more : (e : DraftEdge) (es : List DraftEdge) (i j : ℕ)
+    → cond (has_ends i j e) e.entry (edge_between es i j) ≡ edge_between (e ∷ es) i j
 unfolding edge_between
 edge_between-more e es i j = found_entry (has_ends i j e) e (find (has_ends i j) es)
 

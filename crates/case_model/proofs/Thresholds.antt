@@ -1,4 +1,6 @@
-use Rattle.std.proofs.Common.{◌≡◌, refl, sym, ap, ap₂, subst, subst₂, ◌∙◌, ℕ, zero, suc, ◌*◌, ◌/◌, ◌^◌, ◌<◌, ◌≤◌, inl, inr, ℤ, pos, negsuc, neg_ℤ, ◌*ℤ◌, ◌≤ℤ◌, unsigned_abs, int_div, Some, None, Bool, true, false, not, arith, lit<, nat_le, ◌&&◌}
+use Rattle.std.proofs.Common.{◌≡◌, refl, sym, ap, ap₂, subst, subst₂, ◌∙◌, ℕ, zero, suc, ◌*◌, ◌/◌, ◌^◌, ◌<◌, ◌≤◌, inl}
+use Rattle.std.proofs.Common.{inr, ℤ, pos, negsuc, neg_ℤ, ◌*ℤ◌, ◌≤ℤ◌, unsigned_abs, int_div, Some, None, Bool, true, false, not, arith, lit<}
+use Rattle.std.proofs.Common.{nat_le, ◌&&◌}
 use Rattle.std.proofs.lemmas.Int.{ints, unsigned_abs-mul}
 use Rattle.std.proofs.lemmas.Bool.Decides.{nat_tests}
 use Rattle.std.proofs.Math.Nat.{div-le_self, mul-le-mul_left, mul-le-mul_right}
@@ -41,8 +43,10 @@ int_le a b h = grind (arith, nat_tests, ints)
 pub unit_parts : (x : Ratio) → is_unit (number_of x) ≡ true → unsigned_abs x.num ≤ unsigned_abs x.den
 unit_parts x h =
     let b = both (at_most number_zero (number_of x)) (at_most (number_of x) number_one) h in
-    let low : (pos 0 *ℤ x.den) ≤ℤ (x.num *ℤ pos 1) = int_le _ _ (le_is zero_ratio x ∙ ap (λ z. at_most z (number_of x)) (zero_is zero_ratio refl) ∙ b.left) in
-    let high : (x.num *ℤ pos 1) ≤ℤ (pos 1 *ℤ x.den) = int_le _ _ (le_is x one_ratio ∙ ap (at_most (number_of x)) (one_is one_ratio refl) ∙ b.right) in
+    let low : (pos 0 *ℤ x.den) ≤ℤ (x.num *ℤ pos 1) = int_le _ _
+    (le_is zero_ratio x ∙ ap (λ z. at_most z (number_of x)) (zero_is zero_ratio refl) ∙ b.left) in
+    let high : (x.num *ℤ pos 1) ≤ℤ (pos 1 *ℤ x.den) =
+    int_le _ _ (le_is x one_ratio ∙ ap (at_most (number_of x)) (one_is one_ratio refl) ∙ b.right) in
     let some = x.valid.positive in
     omega (arith, ints)
 
@@ -62,9 +66,11 @@ product_size a b c d h k =
     omega arith
 
 part_size : (u v : ℤ) (g h a b : ℕ) → unsigned_abs u ≤ a → unsigned_abs v ≤ b → unsigned_abs (int_div u (pos g) *ℤ int_div v (pos h)) ≤ a * b
-part_size u v g h a b p q = rw (unsigned_abs-mul (int_div u (pos g)) (int_div v (pos h))) (product_size _ _ a b (let s = quotient_size u g in omega arith) (let s = quotient_size v h in omega arith))
+part_size u v g h a b p q = rw (unsigned_abs-mul (int_div u (pos g)) (int_div v (pos h)))
+    (product_size _ _ a b (let s = quotient_size u g in omega arith) (let s = quotient_size v h in omega arith))
 
-fits : (u v : ℤ) (g h a b : ℕ) → unsigned_abs u ≤ a → unsigned_abs v ≤ b → a * b < 2 ^ 127 → sized (int_div u (pos g) *ℤ int_div v (pos h)) ≡ Some (int_div u (pos g) *ℤ int_div v (pos h))
+fits : (u v : ℤ) (g h a b : ℕ) → unsigned_abs u ≤ a → unsigned_abs v ≤ b → a * b < 2 ^ 127
+    → sized (int_div u (pos g) *ℤ int_div v (pos h)) ≡ Some (int_div u (pos g) *ℤ int_div v (pos h))
 fits u v g h a b p q small =
     let size = part_size u v g h a b p q in
     sized_small _ (omega arith)
@@ -75,7 +81,8 @@ pub record IsShort (t : Terms) (limit : ℕ) : Type 0 where
   pub den : unsigned_abs t.den ≤ limit
 
 pub short_within : (t : Terms) (limit : ℕ) → is_within limit t ≡ true → IsShort t limit
-short_within t limit h = let b = both (nat_le (unsigned_abs t.num) limit) (nat_le (unsigned_abs t.den) limit) h in record { num = grind (arith, nat_tests, b.left); den = grind (arith, nat_tests, b.right) }
+short_within t limit h = let b = both (nat_le (unsigned_abs t.num) limit) (nat_le (unsigned_abs t.den) limit) h in
+    record { num = grind (arith, nat_tests, b.left); den = grind (arith, nat_tests, b.right) }
 
 pub within_short : (t : Terms) (limit : ℕ) → IsShort t limit → is_within limit t ≡ true
 within_short t limit s =
@@ -96,7 +103,8 @@ product_short x y z a b p q small h =
     subst (λ t. IsShort t (a * b)) e (record { num = part_size x.num y.num g k a b p.num q.num; den = part_size x.den y.den k g a b p.den q.den })
 
 -- a product of small parts is never too wide
-pub product_fits : (x y : Terms) (a b : ℕ) → unsigned_abs x.num ≤ a → unsigned_abs x.den ≤ a → unsigned_abs y.num ≤ b → unsigned_abs y.den ≤ b → a * b < 2 ^ 127 → written_mul x y ≡ None → ⊥
+pub product_fits : (x y : Terms) (a b : ℕ) → unsigned_abs x.num ≤ a → unsigned_abs x.den ≤ a → unsigned_abs y.num ≤ b → unsigned_abs y.den ≤ b
+    → a * b < 2 ^ 127 → written_mul x y ≡ None → ⊥
 unfolding written_mul
 product_fits x y a b xn xd yn yd small h =
     let top = fits x.num y.num (gcd (unsigned_abs x.num) (unsigned_abs y.den)) (gcd (unsigned_abs y.num) (unsigned_abs x.den)) a b xn yn small in
@@ -104,7 +112,8 @@ product_fits x y a b xn xd yn yd small h =
     let e' = rw (top, low) at h in
     cc
 
-pub inverse_size : (n d : ℤ) (b : ℕ) → unsigned_abs n ≤ b → unsigned_abs d ≤ b → (unsigned_abs (inverse_of n d).num ≤ b) × (unsigned_abs (inverse_of n d).den ≤ b)
+pub inverse_size : (n d : ℤ) (b : ℕ) → unsigned_abs n ≤ b → unsigned_abs d ≤ b → (unsigned_abs (inverse_of n d).num ≤ b)
+    × (unsigned_abs (inverse_of n d).den ≤ b)
 inverse_size (pos n) d b h k = (k, h)
 inverse_size (negsuc n) d b h k = (same d k, h)
   where
@@ -159,24 +168,29 @@ pub level_stored_nonzero : (a : Ratio) → is_level a ≡ true → is_zero (frac
 level_stored_nonzero a k = stored_nonzero a (level_nonzero a k)
 
 -- a p-value over a number with small parts always fits
-pub quotient_fits : (p a : Ratio) (limit : ℕ) → is_p_value p ≡ true → IsShort (terms a) limit → 10 ^ 30 * limit < 2 ^ 127 → plain.written Div (fraction_parts p) (fraction_parts a) ≡ None → ⊥
+pub quotient_fits : (p a : Ratio) (limit : ℕ) → is_p_value p ≡ true → IsShort (terms a) limit → 10 ^ 30 * limit < 2 ^ 127
+    → plain.written Div (fraction_parts p) (fraction_parts a) ≡ None → ⊥
 unfolding inverse
 quotient_fits p a limit h l small w =
     let s = p_short p h in
     let i = inverse_size a.num a.den limit l.num l.den in
     product_fits (terms p) (inverse (terms a)) (10 ^ 30) limit s.num s.den i.0 i.1 small (nothing_mapped single _ w)
 
-pub threshold_fits : (p a : Ratio) → is_p_value p ≡ true → is_level a ≡ true → plain.written Div (fraction_parts p) (fraction_parts a) ≡ None → ⊥
+pub threshold_fits : (p a : Ratio) → is_p_value p ≡ true → is_level a ≡ true → plain.written Div (fraction_parts p) (fraction_parts a) ≡ None
+    → ⊥
 threshold_fits p a h k w = quotient_fits p a 10000 h (level_of a k).short (lit< tt) w
 
 -- the threshold times the level is the p-value
-pub quotient_times : (p a t : Ratio) → ¬ (number_of a ≡ number_zero) → plain.written Div (fraction_parts p) (fraction_parts a) ≡ Some (fraction_parts t) → number_of t *ε number_of a ≡ number_of p
+pub quotient_times : (p a t : Ratio) → ¬ (number_of a ≡ number_zero)
+    → plain.written Div (fraction_parts p) (fraction_parts a) ≡ Some (fraction_parts t) → number_of t *ε number_of a ≡ number_of p
 quotient_times p a t some e =
-    let quotient = plain_is_exact.exact Div (fraction_parts p) (fraction_parts a) (fraction_parts t) (fraction_stored p) (fraction_stored a) (stored_nonzero a some) e in
+    let quotient = plain_is_exact.exact Div (fraction_parts p) (fraction_parts a) (fraction_parts t) (fraction_stored p) (fraction_stored a)
+    (stored_nonzero a some) e in
     ap (λ z. z *ε number_of a) (sym (value_single (terms t)) ∙ quotient ∙ ap₂ ◌/ε◌ (value_single (terms p)) (value_single (terms a)))
     ∙ divide_multiply (number_of p) (number_of a) some
 
-pub threshold_times : (p a t : Ratio) → is_level a ≡ true → plain.written Div (fraction_parts p) (fraction_parts a) ≡ Some (fraction_parts t) → number_of t *ε number_of a ≡ number_of p
+pub threshold_times : (p a t : Ratio) → is_level a ≡ true → plain.written Div (fraction_parts p) (fraction_parts a) ≡ Some (fraction_parts t)
+    → number_of t *ε number_of a ≡ number_of p
 threshold_times p a t k e = quotient_times p a t (level_nonzero a k) e
 
 level_nonneg : (a : Ratio) → is_level a ≡ true → AtMost number_field number_field.𝟘 (number_of a)
@@ -189,7 +203,8 @@ level_nonneg a k = elim (number_field.le_total number_field.𝟘 (number_of a)) 
 pub below_threshold : (p a t w : Number) → t *ε a ≡ p → AtMost number_field number_field.𝟘 a → at_most t w ≡ true → at_most p (w *ε a) ≡ true
 below_threshold p a t w e n h = subst₂ (λ x y. at_most x y ≡ true) (field_product t a ∙ e) (field_product w a) (mul_le_right number_field t w a n h)
 
-pub above_threshold : (p a t w : Number) → t *ε a ≡ p → AtMost number_field number_field.𝟘 a → ¬ (a ≡ number_field.𝟘) → at_most p (w *ε a) ≡ true → at_most t w ≡ true
+pub above_threshold : (p a t w : Number) → t *ε a ≡ p → AtMost number_field number_field.𝟘 a → ¬ (a ≡ number_field.𝟘)
+    → at_most p (w *ε a) ≡ true → at_most t w ≡ true
 above_threshold p a t w e n some h =
     let turned : (x : Number) → number_field.◌⊗◌ a x ≡ x *ε a = λ x. number_field.mul_comm a x ∙ field_product x a in
     mul_le_cancel number_field a t w n some (subst₂ (λ x y. at_most x y ≡ true) (sym (turned t ∙ e)) (sym (turned w)) h)
@@ -217,10 +232,15 @@ positive_out Equal h = absurd (cc)
 positive_out Greater h = refl
 
 -- a p-value passes at a weight above 0 exactly where the threshold is at most the weight
-pub passes_is : (p a t w : Ratio) → is_level a ≡ true → number_of t *ε number_of a ≡ number_of p → not (at_most (number_of w) number_zero) ≡ true → (at_most (number_of t) (number_of w) ≡ true → Passes (number_of p) (number_of w) (number_of a)) × (Passes (number_of p) (number_of w) (number_of a) → at_most (number_of t) (number_of w) ≡ true)
+pub passes_is : (p a t w : Ratio) → is_level a ≡ true → number_of t *ε number_of a ≡ number_of p → not (at_most (number_of w) number_zero) ≡ true
+    → (at_most (number_of t) (number_of w) ≡ true → Passes (number_of p) (number_of w) (number_of a))
+    × (Passes (number_of p) (number_of w) (number_of a) → at_most (number_of t) (number_of w) ≡ true)
 passes_is p a t w k times some =
     let level = good_level a k in (
-      λ h. record { positive = positive_in _ (ap not (sym (positive_is (number_of w))) ∙ some); small = below_threshold (number_of p) (number_of a) (number_of t) (number_of w) times level.nonneg h },
+      λ h. record {
+        positive = positive_in _ (ap not (sym (positive_is (number_of w))) ∙ some);
+        small = below_threshold (number_of p) (number_of a) (number_of t) (number_of w) times level.nonneg h;
+      },
       λ h. above_threshold (number_of p) (number_of a) (number_of t) (number_of w) times level.nonneg level.nonzero h.small,
     )
 

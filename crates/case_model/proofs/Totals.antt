@@ -11,9 +11,11 @@ use Rattle.case_model.specs.CaseFaults.{◌when◌, bound_fault}
 
 module _ {A : Type 0} (r : Result A TooWide) (value bound : Number) (c : ℕ) (place : Place) (above : CaseFault) where
   -- a sum that can be written is at fault where its value is above the bound
-  pub fault_written : (s : A) (v : Number) → Path (Result A TooWide) (Ok s) r → v ≡ value → (above when not (at_most v bound)) ≡ bound_fault (in_component c (placed place r)) value bound above
+  pub fault_written : (s : A) (v : Number) → Path (Result A TooWide) (Ok s) r → v ≡ value
+      → (above when not (at_most v bound)) ≡ bound_fault (in_component c (placed place r)) value bound above
   fault_written s v e same = ap (λ x. above when not (at_most x bound)) same ∙ ap (λ r. bound_fault (in_component c (placed place r)) value bound above) e
 
   -- and else where it is refused
-  pub fault_refused : (wide : TooWide) → Path (Result A TooWide) (Err wide) r → Some (Wide (record { component = c; place = place; op = wide.op })) ≡ bound_fault (in_component c (placed place r)) value bound above
+  pub fault_refused : (wide : TooWide) → Path (Result A TooWide) (Err wide) r
+      → Some (Wide (record { component = c; place = place; op = wide.op })) ≡ bound_fault (in_component c (placed place r)) value bound above
   fault_refused wide e = ap (λ r. bound_fault (in_component c (placed place r)) value bound above) e

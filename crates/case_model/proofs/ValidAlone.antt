@@ -33,11 +33,13 @@ high x h = subst (λ z. x ≤ε z) (sym field_one) h
 alone_is_valid : (E : EntangledGraph) (G : Graph Number) → IsAlone G E → IsValid number_field E.hypotheses (E.graph 0) → IsValidEntangled E
 alone_is_valid E G A V = record {
   graph = λ c h. subst (λ d. IsValid number_field E.hypotheses (E.graph d)) (only_first E.components c A.one h) V;
-  share_nonneg = λ c h. subst (λ d. number_zero ≤ε E.share d) (only_first E.components c A.one h) (subst (λ z. number_zero ≤ε z) (sym A.share) zero_at_most_one);
+  share_nonneg = λ c h. subst (λ d. number_zero ≤ε E.share d) (only_first E.components c A.one h)
+      (subst (λ z. number_zero ≤ε z) (sym A.share) zero_at_most_one);
   share_total = at_most_equal _ _ (ap (λ n. sum_below number_field n E.share) A.one ∙ one_term E.share ∙ A.share);
 }
 
-pub fallback_valid : (E : EntangledGraph) (w : ℕ → Number) → IsFallbackGraph w E → ((i : ℕ) → i < E.hypotheses → number_zero ≤ε w i) → sum_below number_field E.hypotheses w ≤ε number_one → IsValidEntangled E
+pub fallback_valid : (E : EntangledGraph) (w : ℕ → Number) → IsFallbackGraph w E → ((i : ℕ) → i < E.hypotheses → number_zero ≤ε w i)
+    → sum_below number_field E.hypotheses w ≤ε number_one → IsValidEntangled E
 fallback_valid E w A nonneg total =
     alone_is_valid E (chain_graph w) A (chain_valid number_field E.hypotheses (E.graph 0)
     (λ i p. low _ (subst (λ z. number_zero ≤ε z) (sym (A.weight i p)) (nonneg i p)))
@@ -80,7 +82,8 @@ once_more c x = simp number_laws
 
 as_often : (k : ℕ) (c : Number) → sum_below number_field k (λ _. c) ≡ c *ε fraction (pos k) (pos 1)
 as_often zero c = sum_nothing (λ _. c) ∙ nothing_times c ∙ ap (λ z. c *ε z) zero_is
-as_often (suc k) c = sum_last k (λ _. c) ∙ ap (λ z. z +ε c) (as_often k c) ∙ once_more c (fraction (pos k) (pos 1)) ∙ ap (λ z. c *ε z) (sym (next_count k))
+as_often (suc k) c = sum_last k (λ _. c) ∙ ap (λ z. z +ε c) (as_often k c) ∙ once_more c (fraction (pos k) (pos 1))
+    ∙ ap (λ z. c *ε z) (sym (next_count k))
 
 all_parts : (n : ℕ) → sum_below number_field (suc n) (λ _. one_over (suc n)) ≡ number_one
 all_parts n = as_often (suc n) (one_over (suc n)) ∙ times_count n
@@ -89,7 +92,8 @@ split_row : (e x : Number) → e *ε x ≡ number_one → e *ε (x +ε number_on
 split_row e x h = sym (once_more e x) ∙ ap (λ z. z +ε e) h
 
 one_too_many : (n : ℕ) → sum_below number_field (suc (suc n)) (λ _. one_over (suc n)) ≡ number_one +ε one_over (suc n)
-one_too_many n = as_often (suc (suc n)) (one_over (suc n)) ∙ ap (λ z. one_over (suc n) *ε z) (next_count (suc n)) ∙ split_row (one_over (suc n)) (fraction (pos (suc n)) (pos 1)) (times_count n)
+one_too_many n = as_often (suc (suc n)) (one_over (suc n)) ∙ ap (λ z. one_over (suc n) *ε z) (next_count (suc n))
+    ∙ split_row (one_over (suc n)) (fraction (pos (suc n)) (pos 1)) (times_count n)
 
 loop : (n i : ℕ) → (equal_graph n).edge i i ≡ number_zero
 loop n i = ap (λ b. cond b number_zero (fraction (pos 1) (pos n -ℤ pos 1))) (test_same i i refl)
@@ -105,8 +109,12 @@ holm_valid E A (suc zero) e some =
     (λ i p. A.edge i i (subst (λ n. i < n) e p) (subst (λ n. i < n) e p) ∙ loop E.hypotheses i ∙ sym field_zero)))
 holm_valid E A (suc (suc n)) e some =
     alone_is_valid E (equal_graph E.hypotheses) A (subst (λ n. IsValid number_field n (E.graph 0)) e
-    (equal_valid number_field (suc (suc n)) (one_over (suc (suc n))) (one_over (suc n)) (E.graph 0) (low _ (positive-at_least_zero _ (one_over_positive (suc n)))) (low _ (positive-at_least_zero _ (one_over_positive n)))
-    (all_parts (suc n) ∙ sym field_one) (λ _. one_too_many n ∙ sym (field_sum number_field.𝟙 (one_over (suc n)) ∙ ap (λ z. z +ε one_over (suc n)) field_one))
+    (equal_valid number_field (suc (suc n)) (one_over (suc (suc n))) (one_over (suc n)) (E.graph 0)
+    (low _ (positive-at_least_zero _ (one_over_positive (suc n)))) (low _ (positive-at_least_zero _ (one_over_positive n)))
+    (all_parts (suc n) ∙ sym field_one)
+    (λ _. one_too_many n ∙ sym (field_sum number_field.𝟙 (one_over (suc n)) ∙ ap (λ z. z +ε one_over (suc n)) field_one))
     (λ i p. A.weight i (subst (λ n. i < n) e p) ∙ ap one_over (sym e))
-    (λ i k p q d. A.edge i k (subst (λ n. i < n) e p) (subst (λ n. k < n) e q) ∙ ap (λ b. cond b number_zero (fraction (pos 1) (pos E.hypotheses -ℤ pos 1))) (test_other i k d) ∙ ap (λ z. fraction (pos 1) z) (less_one E.hypotheses (suc n) e))
+    (λ i k p q d. A.edge i k (subst (λ n. i < n) e p) (subst (λ n. k < n) e q)
+    ∙ ap (λ b. cond b number_zero (fraction (pos 1) (pos E.hypotheses -ℤ pos 1))) (test_other i k d)
+    ∙ ap (λ z. fraction (pos 1) z) (less_one E.hypotheses (suc n) e))
     (λ i p. A.edge i i (subst (λ n. i < n) e p) (subst (λ n. i < n) e p) ∙ loop E.hypotheses i ∙ sym field_zero)))

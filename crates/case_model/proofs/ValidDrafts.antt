@@ -16,7 +16,10 @@ use Rattle.case_model.specs.declared.draft.Draft.{Draft}
 use Rattle.case_model.specs.declared.draft_component.DraftComponent.{DraftComponent}
 use Rattle.case_model.specs.Draft.{at_most, is_unit, is_short, is_level, is_short_level, is_level_range}
 use Rattle.case_model.specs.Content.{content_of, table_of, tabled}
-use Rattle.case_model.specs.CaseFaults.{◌or◌, case_fault, early_fault, late_fault, part_too_long, long_alpha, long_share, long_weight, long_edge, long_p_value, long_stage_part, alpha_range, share_range, share_sum, shares_fault, total_fault, weight_count, weight_range, weight_sum, weights_fault, is_self_edge, self_edge, repeated_edge, edge_range, edges_fault, row_sum, component_rows, rows_fault, first_of}
+use Rattle.case_model.specs.CaseFaults.{◌or◌, case_fault, early_fault, late_fault, part_too_long, long_alpha, long_share, long_weight, long_edge}
+use Rattle.case_model.specs.CaseFaults.{long_p_value, long_stage_part, alpha_range, share_range, share_sum, shares_fault, total_fault, weight_count}
+use Rattle.case_model.specs.CaseFaults.{weight_range, weight_sum, weights_fault, is_self_edge, self_edge, repeated_edge, edge_range, edges_fault, row_sum}
+use Rattle.case_model.specs.CaseFaults.{component_rows, rows_fault, first_of}
 use Rattle.case_model.proofs.Holding.{all_at}
 use Rattle.case_model.proofs.NoFaults.{Neither, neither, no_unless, none_passes, all_pass, no_first, no_below, no_sum_fault}
 use Rattle.case_model.proofs.Faultless.{GoodStart, good_start, content_of-components}
@@ -47,7 +50,8 @@ pub record GoodComponent (m : ℕ) (k : DraftComponent) : Type 0 where
   pub range : list_all (λ e. is_unit (entry_value e.entry)) k.edges ≡ true
   pub rows : (i : ℕ) → i < m → at_most (sum_below number_field m (λ j. entry_value (entry_at m (table_of m k.edges) i j))) number_one ≡ true
 
-total_at_most : (ts : List Ratio) (c : ℕ) (place : _) (above : CaseFault) → total_fault ts c place above ≡ None → at_most (sum_below number_field (length ts) (number_at ts)) number_one ≡ true
+total_at_most : (ts : List Ratio) (c : ℕ) (place : _) (above : CaseFault) → total_fault ts c place above ≡ None
+    → at_most (sum_below number_field (length ts) (number_at ts)) number_one ≡ true
 unfolding total_fault
 total_at_most ts c place above h = no_sum_fault _ _ above h
 
@@ -55,7 +59,9 @@ module _ (d : Draft) (h : case_fault d ≡ None) where
   pub start : GoodStart d
   start = good_start d (early_none d h)
 
-  parts : Neither (long_alpha d.alpha) (long_share d.components or first_of long_weight d.components or first_of long_edge d.components or long_p_value d.p or option_and_then long_stage_part d.stages)
+  parts : Neither (long_alpha d.alpha)
+      (long_share d.components or first_of long_weight d.components or first_of long_edge d.components or long_p_value d.p or option_and_then long_stage_part
+      d.stages)
   unfolding part_too_long
   parts = neither (long_alpha d.alpha) _ start.parts
 
@@ -63,7 +69,8 @@ module _ (d : Draft) (h : case_fault d ≡ None) where
   unfolding long_alpha alpha_range is_level
   level = ap (λ b. b && is_level_range d.alpha) (no_unless (is_short_level d.alpha) _ parts.first) ∙ no_unless (is_level_range d.alpha) _ start.alpha
 
-  long_shares : Neither (long_share d.components) (first_of long_weight d.components or first_of long_edge d.components or long_p_value d.p or option_and_then long_stage_part d.stages)
+  long_shares : Neither (long_share d.components)
+      (first_of long_weight d.components or first_of long_edge d.components or long_p_value d.p or option_and_then long_stage_part d.stages)
   long_shares = neither (long_share d.components) _ parts.second
 
   long_weights : Neither (first_of long_weight d.components) (first_of long_edge d.components or long_p_value d.p or option_and_then long_stage_part d.stages)
@@ -94,7 +101,8 @@ module _ (d : Draft) (h : case_fault d ≡ None) where
   edges = neither (first_of repeated_edge d.components) (first_of edge_range d.components) loops.second
 
   -- the shares sum to at most 1
-  pub share_total : at_most (sum_below number_field (length (map (λ k. k.share) d.components)) (number_at (map (λ k. k.share) d.components))) number_one ≡ true
+  pub share_total : at_most (sum_below number_field (length (map (λ k. k.share) d.components)) (number_at (map (λ k. k.share) d.components)))
+      number_one ≡ true
   unfolding share_sum
   share_total = total_at_most (map (λ k. k.share) d.components) 0 _ _ shares.second
 
@@ -105,18 +113,23 @@ module _ (d : Draft) (h : case_fault d ≡ None) where
       let m = length d.names in
       let ks = d.components in
       let component = get_or ks c k in
-      let counted : (length component.weights == m) ≡ true = all_at (λ k. length k.weights == m) ks c k (all_pass (λ k. length k.weights == m) _ 0 ks weights.first) within in
-      let tabled_at : get_or (content_of d).components c (tabled m k) ≡ tabled m component = ap (λ ts. get_or ts c (tabled m k)) (content_of-components d) ∙ get_or-map (tabled m) ks c k (tabled m k) within in
+      let counted : (length component.weights == m) ≡ true =
+      all_at (λ k. length k.weights == m) ks c k (all_pass (λ k. length k.weights == m) _ 0 ks weights.first) within in
+      let tabled_at : get_or (content_of d).components c (tabled m k) ≡ tabled m component = ap (λ ts. get_or ts c (tabled m k)) (content_of-components d)
+      ∙ get_or-map (tabled m) ks c k (tabled m k) within in
       let inside : c < length (content_of d).components = rw (content_of-components d, length-map) within in
       record {
         count = grind (arith, nat_tests, counted);
         short_share = all_at (λ k. is_short k.share) ks c k (all_pass (λ k. is_short k.share) _ 0 ks long_shares.first) within;
-        share = all_at (λ k. at_most number_zero (number_of k.share)) ks c k (all_pass (λ k. at_most number_zero (number_of k.share)) _ 0 ks shares.first) within;
+        share = all_at (λ k. at_most number_zero (number_of k.share)) ks c k
+            (all_pass (λ k. at_most number_zero (number_of k.share)) _ 0 ks shares.first) within;
         short_weights = all_pass is_short _ 0 component.weights (no_first long_weight ks c k long_weights.first within);
         weights = all_pass (λ w. at_most number_zero (number_of w)) _ 0 component.weights (no_first weight_range ks c k sums.first within);
         total = total_at_most component.weights c _ _ (no_first weight_sum ks c k sums.second within);
         short_edges = all_pass (λ e. list_all is_short e.entry) _ 0 component.edges (no_first long_edge ks c k long_edges.first within);
         loops = none_passes is_self_edge _ 0 component.edges (no_first self_edge ks c k loops.first within);
         range = all_pass (λ e. is_unit (entry_value e.entry)) _ 0 component.edges (no_first edge_range ks c k edges.second within);
-        rows = λ i g. no_sum_fault _ _ _ (no_below (row_sum m c (table_of m component.edges)) m i (ap (component_rows m c) (sym tabled_at) ∙ no_first (component_rows m) (content_of d).components c (tabled m k) (rows_none d h) inside) g);
+        rows = λ i g. no_sum_fault _ _ _
+            (no_below (row_sum m c (table_of m component.edges)) m i
+            (ap (component_rows m c) (sym tabled_at) ∙ no_first (component_rows m) (content_of d).components c (tabled m k) (rows_none d h) inside) g);
       }

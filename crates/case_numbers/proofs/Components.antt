@@ -41,7 +41,8 @@ pub can_run : (c : Content) → CanRunIn (numbers_of c) c
 unfolding numbers_of
 can_run c = can_run_by c (is_plain c) refl
 
-plain_edges : (c : Content) → is_plain c ≡ true → (i : ℕ) → i < length c.components → list_all is_plain_entry (component_at c.components i).edges ≡ true
+plain_edges : (c : Content) → is_plain c ≡ true → (i : ℕ) → i < length c.components
+    → list_all is_plain_entry (component_at c.components i).edges ≡ true
 unfolding is_plain
 plain_edges c h i p = all_at (λ k. list_all is_plain_entry k.edges) c.components i empty_component h p
 

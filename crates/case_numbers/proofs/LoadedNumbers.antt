@@ -36,12 +36,14 @@ weight_loaded in_quotients x = record { stored = term_stored 0 (terms x) (omega 
 -- ---- the value of an entry is that of the polynomial of its coefficients
 
 by_powers : (a b c d e x : Number) → a +ε x *ε (b +ε x *ε (c +ε x *ε (d +ε x *ε (e +ε x *ε number_zero))))
-    ≡ number_zero +ε a *ε number_one +ε b *ε (x *ε number_one) +ε c *ε (x *ε (x *ε number_one)) +ε d *ε (x *ε (x *ε (x *ε number_one))) +ε e *ε (x *ε (x *ε (x *ε (x *ε number_one))))
+    ≡ number_zero +ε a *ε number_one +ε b *ε (x *ε number_one) +ε c *ε (x *ε (x *ε number_one)) +ε d *ε
+    (x *ε (x *ε (x *ε number_one))) +ε e *ε (x *ε (x *ε (x *ε (x *ε number_one))))
 by_powers a b c d e x = simp number_laws
 
 entry_polynomial : (e : List Ratio) → polynomial_value (map terms (five_coefficients e)) ≡ entry_value e
 unfolding polynomial_value entry_value power_of_epsilon
-entry_polynomial e = by_powers (number_at e 0) (number_at e 1) (number_at e 2) (number_at e 3) (number_at e 4) epsilon ∙ sym (sum_of_five (λ k. number_at e k *ε power_of_epsilon k))
+entry_polynomial e = by_powers (number_at e 0) (number_at e 1) (number_at e 2) (number_at e 3) (number_at e 4) epsilon
+    ∙ sym (sum_of_five (λ k. number_at e k *ε power_of_epsilon k))
 
 -- an edge can be loaded in quotients, and in fractions only if it is plain
 abbrev pub CanLoad : Numbers → List Ratio → Type 0
@@ -51,7 +53,8 @@ CanLoad in_quotients e = Unit {0}
 pub edge_loaded : (n : Numbers) (e : List Ratio) (x : Parts) → CanLoad n e → loaded_edge n e ≡ Ok x → Holds n x (entry_value e)
 edge_loaded in_fractions e x p h =
     let a = ratio_at e 0 in
-    subst (λ x. Holds in_fractions x (entry_value e)) (cc) (record { stored = stored_single (terms a) a.valid; value = value_single (terms a) ∙ sym (plain_entry_value e p) })
+    subst (λ x. Holds in_fractions x (entry_value e)) (cc)
+    (record { stored = stored_single (terms a) a.valid; value = value_single (terms a) ∙ sym (plain_entry_value e p) })
 edge_loaded in_quotients e x p h =
     let w = kept x _ (sym h) in
     let r = all_ratios (five_coefficients e) in

@@ -49,15 +49,20 @@ module _ (G : WeightedGraph) (alpha : Ratio) (ps : List Ratio) where
   unfolding entangled content_of draft_of
   as_many = length-map-range_with_len name_of 0 G.size
 
-  pub alone : (W : Graph Number) → ((i : ℕ) → i < G.size → number_of (G.weight i) ≡ W.weight i) → ((i k : ℕ) → i < G.size → k < G.size → entry_value (entry_or (G.edge i k)) ≡ W.edge i k) → IsAlone W (entangled (content_of (draft_of G alpha ps)))
+  pub alone : (W : Graph Number) → ((i : ℕ) → i < G.size → number_of (G.weight i) ≡ W.weight i)
+      → ((i k : ℕ) → i < G.size → k < G.size → entry_value (entry_or (G.edge i k)) ≡ W.edge i k)
+      → IsAlone W (entangled (content_of (draft_of G alpha ps)))
   unfolding entangled content_of draft_of ratio_at
   alone W weights edges =
-      let below : (i : ℕ) → i < length (map name_of (range_with_len 0 G.size)) → i < G.size = λ i h. subst (λ n. i < n) (length-map-range_with_len name_of 0 G.size) h in
+      let below : (i : ℕ) → i < length (map name_of (range_with_len 0 G.size))
+      → i < G.size = λ i h. subst (λ n. i < n) (length-map-range_with_len name_of 0 G.size) h in
       record {
         one = refl;
         share = number_of-one;
         weight = λ i h. ap number_of (get_or-map-range_with_len G.weight 0 G.size i i zero_ratio (below i h) (omega arith)) ∙ weights i (below i h);
-        edge = λ i k h g. ap entry_value (entry_at-table_of (length (map name_of (range_with_len 0 G.size))) (edges_of G) i k h g ∙ graph_edge G i k (below i h) (below k g)) ∙ edges i k (below i h) (below k g);
+        edge = λ i k h g. ap entry_value
+            (entry_at-table_of (length (map name_of (range_with_len 0 G.size))) (edges_of G) i k h g ∙ graph_edge G i k (below i h) (below k g))
+            ∙ edges i k (below i h) (below k g);
       }
 
 -- ---- p-values

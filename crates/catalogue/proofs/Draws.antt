@@ -20,9 +20,11 @@ pub drawn_next : (seed k x y d : ℕ) → x ≡ number_after seed k → y ≡ ne
 drawn_next seed k x y d h g e = e ∙ ap drawn_from (number_next seed k (suc k) x y (omega arith) h g)
 
 -- the p-value that a draw gives
-pub p_value_next : (seed k x y d : ℕ) → x ≡ number_after seed k → y ≡ next_number x → d ≡ drawn_from y → quotient (pos (d % 1000000)) 100000000 ≡ p_value_of seed k
+pub p_value_next : (seed k x y d : ℕ) → x ≡ number_after seed k → y ≡ next_number x → d ≡ drawn_from y
+    → quotient (pos (d % 1000000)) 100000000 ≡ p_value_of seed k
 p_value_next seed k x y d h g e = ap (λ n. quotient (pos (n % 1000000)) 100000000) (drawn_next seed k x y d h g e)
 
 -- the end that a draw names
-pub end_next : (n i seed k x y r : ℕ) → x ≡ number_after seed k → y ≡ next_number x → r ≡ named_by n i (drawn_from y) → r ≡ named_by n i (draw seed k)
+pub end_next : (n i seed k x y r : ℕ) → x ≡ number_after seed k → y ≡ next_number x → r ≡ named_by n i (drawn_from y)
+    → r ≡ named_by n i (draw seed k)
 end_next n i seed k x y r h g e = e ∙ ap (named_by n i) (drawn_next seed k x y (drawn_from y) h g refl)

@@ -12,6 +12,7 @@ count_is : (n : ℕ) → length (equal_weights n) ≡ n
 unfolding equal_weights
 count_is n = length-replicate n (part n)
 
-pub size_refused : (n : ℕ) (alpha : Ratio) (ps : List Ratio) (fault : CatalogueFault) → size_fault n ≡ Some fault → fallback_case (equal_weights n) alpha ps ≡ Err fault
+pub size_refused : (n : ℕ) (alpha : Ratio) (ps : List Ratio) (fault : CatalogueFault) → size_fault n ≡ Some fault
+    → fallback_case (equal_weights n) alpha ps ≡ Err fault
 unfolding fallback_case
 size_refused n alpha ps fault e = ap (λ o. behind o (made (draft_of (fallback_graph (equal_weights n)) alpha ps))) (ap size_fault (count_is n) ∙ e)

@@ -1,5 +1,6 @@
 -- The edge of a draft between two hypotheses is that of the graph.
-use Rattle.std.proofs.Common.{◌≡◌, ◌≢◌, refl, ap, ap₂, ◌∙◌, inl, inr, ℕ, zero, suc, ◌+◌, ◌==◌, ◌<◌, ◌≤◌, cond, List, Bool, true, false, ◌&&◌, Option, Some, None, arith}
+use Rattle.std.proofs.Common.{◌≡◌, ◌≢◌, refl, ap, ap₂, ◌∙◌, inl, inr, ℕ, zero, suc, ◌+◌, ◌==◌, ◌<◌, ◌≤◌, cond, List}
+use Rattle.std.proofs.Common.{Bool, true, false, ◌&&◌, Option, Some, None, arith}
 use Rattle.std.proofs.lemmas.Bool.Decides.{nat_tests}
 use Rattle.std.proofs.lemmas.List.Folds.{find-append}
 use Rattle.std.specs.List.{find, flat_map, range_with_len}
@@ -18,22 +19,26 @@ or_none : {A : Type 0} (r : Option A) → option_or r None ≡ r
 or_none None = refl
 or_none (Some x) = refl
 
-find_none : {A : Type 0} (test : A → Bool) (f : ℕ → List A) (a n : ℕ) → ((i : ℕ) → a ≤ i → find test (f i) ≡ None) → find test (flat_map f (range_with_len a n)) ≡ None
+find_none : {A : Type 0} (test : A → Bool) (f : ℕ → List A) (a n : ℕ) → ((i : ℕ) → a ≤ i → find test (f i) ≡ None)
+    → find test (flat_map f (range_with_len a n)) ≡ None
 find_none test f a zero none = refl
 find_none test f a (suc n) none =
     find-append test (f a) (flat_map f (range_with_len (a + 1) n))
     ∙ ap₂ option_or (none a (omega arith)) (find_none test f (a + 1) n (λ i h. none i (omega arith)))
 
-find_block : {A : Type 0} (test : A → Bool) (f : ℕ → List A) (a n k : ℕ) → a ≤ k → k < a + n → ((i : ℕ) → i ≢ k → find test (f i) ≡ None) → find test (flat_map f (range_with_len a n)) ≡ find test (f k)
+find_block : {A : Type 0} (test : A → Bool) (f : ℕ → List A) (a n k : ℕ) → a ≤ k → k < a + n
+    → ((i : ℕ) → i ≢ k → find test (f i) ≡ None) → find test (flat_map f (range_with_len a n)) ≡ find test (f k)
 find_block test f a zero k h g others = absurd (omega arith)
 find_block test f a (suc n) k h g others =
     find-append test (f a) (flat_map f (range_with_len (a + 1) n)) ∙ elim (true_or_false (a == k)) [
       | inl t ↦ (
           let e : a ≡ k = grind (arith, nat_tests) in
-          ap (option_or (find test (f a))) (find_none test f (a + 1) n (λ i b. others i (omega arith))) ∙ or_none (find test (f a)) ∙ ap (λ i. find test (f i)) e)
+          ap (option_or (find test (f a))) (find_none test f (a + 1) n (λ i b. others i (omega arith))) ∙ or_none (find test (f a))
+          ∙ ap (λ i. find test (f i)) e)
       | inr t ↦ (
           let e : a ≢ k = grind (arith, nat_tests) in
-          ap (λ r. option_or r (find test (flat_map f (range_with_len (a + 1) n)))) (others a e) ∙ find_block test f (a + 1) n k (omega arith) (omega arith) others)
+          ap (λ r. option_or r (find test (flat_map f (range_with_len (a + 1) n)))) (others a e)
+          ∙ find_block test f (a + 1) n k (omega arith) (omega arith) others)
     ]
 
 -- ---- edges
@@ -78,6 +83,7 @@ pub graph_edge : (G : WeightedGraph) (i k : ℕ) → i < G.size → k < G.size �
 unfolding edge_between edges_of edges_from
 graph_edge G i k h g =
     ap (λ r. option_map_or (λ (e : DraftEdge). e.entry) r no_edge)
-    (find_block (has_ends i k) (edges_from G) 0 G.size i (omega arith) (omega arith) (λ a d. find_none (has_ends i k) (edge_in G a) 0 G.size (λ j b. other_from i k a j (G.edge a j) d))
+    (find_block (has_ends i k) (edges_from G) 0 G.size i (omega arith) (omega arith)
+    (λ a d. find_none (has_ends i k) (edge_in G a) 0 G.size (λ j b. other_from i k a j (G.edge a j) d))
     ∙ find_block (has_ends i k) (edge_in G i) 0 G.size k (omega arith) (omega arith) (λ j d. other_to i k j (G.edge i j) d))
     ∙ the_edge i k (G.edge i k)

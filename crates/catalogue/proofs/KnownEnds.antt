@@ -1,5 +1,6 @@
 -- The edges of named graphs go between their hypotheses.
-use Rattle.std.proofs.Common.{◌≡◌, refl, ap, ap₂, ◌∙◌, ℕ, zero, suc, ◌+◌, ◌<◌, List, [], ◌∷◌, ◌++◌, length, Bool, true, ◌&&◌, Option, Some, None, arith}
+use Rattle.std.proofs.Common.{◌≡◌, refl, ap, ap₂, ◌∙◌, ℕ, zero, suc, ◌+◌, ◌<◌, List, [], ◌∷◌, ◌++◌, length, Bool, true}
+use Rattle.std.proofs.Common.{◌&&◌, Option, Some, None, arith}
 use Rattle.std.proofs.lemmas.Bool.Decides.{nat_tests}
 use Rattle.std.proofs.lemmas.List.FromFn.{length-map-range_with_len}
 use Rattle.std.specs.List.{list_all, flat_map, range_with_len}
@@ -15,9 +16,11 @@ all_append test (x ∷ xs) ys h k =
     ap₂ ◌&&◌ b.left (all_append test xs ys b.right k)
 
 -- what holds of what each of `n` places from `a` on gives, holds of all
-all_flat : {A : Type 0} (test : A → Bool) (f : ℕ → List A) (a n m : ℕ) → a + n ≡ m → ((i : ℕ) → i < m → list_all test (f i) ≡ true) → list_all test (flat_map f (range_with_len a n)) ≡ true
+all_flat : {A : Type 0} (test : A → Bool) (f : ℕ → List A) (a n m : ℕ) → a + n ≡ m → ((i : ℕ) → i < m → list_all test (f i) ≡ true)
+    → list_all test (flat_map f (range_with_len a n)) ≡ true
 all_flat test f a zero m e h = refl
-all_flat test f a (suc n) m e h = all_append test (f a) (flat_map f (range_with_len (a + 1) n)) (h a (omega arith)) (all_flat test f (a + 1) n m (omega arith) h)
+all_flat test f a (suc n) m e h = all_append test (f a) (flat_map f (range_with_len (a + 1) n)) (h a (omega arith))
+    (all_flat test f (a + 1) n m (omega arith) h)
 
 known_edge : (n i j : ℕ) (e : Option (List Ratio)) → i < n → j < n → list_all (goes_between n) (edge_with i j e) ≡ true
 known_edge n i j None h k = refl

@@ -1,5 +1,6 @@
 -- Quotients in lowest terms.
-use Rattle.std.proofs.Common.{◌≡◌, ◌≢◌, refl, sym, ap, ◌∙◌, inl, inr, ℕ, ◌^◌, ◌<◌, ◌/◌, Bool, true, false, ℤ, pos, unsigned_abs, Result, Err, ◌↔◌, arith, lit<}
+use Rattle.std.proofs.Common.{◌≡◌, ◌≢◌, refl, sym, ap, ◌∙◌, inl, inr, ℕ, ◌^◌, ◌<◌, ◌/◌, Bool, true, false, ℤ, pos}
+use Rattle.std.proofs.Common.{unsigned_abs, Result, Err, ◌↔◌, arith, lit<}
 use Rattle.std.proofs.lemmas.Int.{ints}
 use Rattle.std.proofs.lemmas.Bool.Decides.{nat_tests}
 use Rattle.std.specs.Int.{is_negative}
@@ -61,7 +62,8 @@ never_wide n d some short low =
     λ w. elim w [ inl h ↦ omega (arith, top, first, short, h) | inr h ↦ omega (arith, second, low, h) ]
 
 -- such a quotient is never refused
-pub no_fault : {A : Type 0} (n z w : ℤ) (d : ℕ) (r : Result A FractionFault) (f : FractionFault) → z ≡ n → w ≡ pos d → 0 < d → unsigned_abs n < 2 ^ 127 → d < 2 ^ 127 → r ≡ Err f
+pub no_fault : {A : Type 0} (n z w : ℤ) (d : ℕ) (r : Result A FractionFault) (f : FractionFault) → z ≡ n → w ≡ pos d → 0 < d
+    → unsigned_abs n < 2 ^ 127 → d < 2 ^ 127 → r ≡ Err f
     → ((r ≡ Err ZeroDenominator) ↔ (w ≡ pos 0)) → ((r ≡ Err TooWide) ↔ ((w ≢ pos 0) × HasWidePart (lowest_terms z w))) → ⊥
 no_fault n z w d r ZeroDenominator e g some short low h zero wide = let k : pos d ≡ pos 0 = sym g ∙ zero.0 h in omega (arith, ints, k)
 no_fault n z w d r TooWide e g some short low h zero wide = never_wide n d some short low (let k = (wide.0 h).1 in rw (e, g) at k)

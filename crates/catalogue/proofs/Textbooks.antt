@@ -1,5 +1,6 @@
 -- The cases of Holm's graph, of the fixed sequence and of fallback decide as these rules.
-use Rattle.std.proofs.Common.{◌≡◌, ◌≢◌, ◌↔◌, refl, ap, ◌∙◌, sym, subst, ℕ, zero, suc, ◌-◌, ◌^◌, ◌==◌, ◌<◌, ◌≤◌, cond, List, [], length, Bool, true, false, Some, None, Ok, pos, ◌-ℤ◌, arith, lit<}
+use Rattle.std.proofs.Common.{◌≡◌, ◌≢◌, ◌↔◌, refl, ap, ◌∙◌, sym, subst, ℕ, zero, suc, ◌-◌, ◌^◌, ◌==◌, ◌<◌, ◌≤◌}
+use Rattle.std.proofs.Common.{cond, List, [], length, Bool, true, false, Some, None, Ok, pos, ◌-ℤ◌, arith, lit<}
 use Rattle.std.specs.Prelude.{if◌then◌else◌}
 use Rattle.std.proofs.lemmas.Int.{ints}
 use Rattle.std.proofs.lemmas.Bool.Decides.{nat_tests}
@@ -48,7 +49,8 @@ next_value false = none_value
 one_less : (n : ℕ) → 0 < n → pos (n - 1) ≡ pos n -ℤ pos 1
 one_less n h = omega (arith, ints)
 
-holm_value : (n i j : ℕ) (b : Bool) → (i == j) ≡ b → i < n → j < n → n < 2 ^ 127 → entry_value (entry_or (cond b None (Some (constant (part (n - 1)))))) ≡ cond b number_zero (fraction (pos 1) (pos n -ℤ pos 1))
+holm_value : (n i j : ℕ) (b : Bool) → (i == j) ≡ b → i < n → j < n → n < 2 ^ 127
+    → entry_value (entry_or (cond b None (Some (constant (part (n - 1)))))) ≡ cond b number_zero (fraction (pos 1) (pos n -ℤ pos 1))
 holm_value n i j true e h g few = none_value
 holm_value n i j false e h g few =
     let d : i ≢ j = grind (arith, nat_tests) in
@@ -56,14 +58,16 @@ holm_value n i j false e h g few =
 
 first_value : (i : ℕ) → number_of (if i == 0 then one_ratio else zero_ratio) ≡ first_alone i
 first_value zero = number_of-one
-first_value (suc i) = let t : (suc i == 0) ≡ false = grind (arith, nat_tests) in ap (λ b. number_of (cond b one_ratio zero_ratio)) t ∙ number-zero zero_ratio refl
+first_value (suc i) = let t : (suc i == 0) ≡ false = grind (arith, nat_tests) in ap (λ b. number_of (cond b one_ratio zero_ratio)) t
+    ∙ number-zero zero_ratio refl
 
 -- ---- the graphs
 
 few_are_short : (n : ℕ) → n ≤ 64 → n < 2 ^ 127
 few_are_short n h = let k : 64 < 2 ^ 127 = lit< tt in omega (arith, h, k)
 
-pub holm_is : (n : ℕ) (alpha : Ratio) (ps : List Ratio) → 1 ≤ n → n ≤ 64 → IsAlone (equal_graph n) (entangled (content_of (draft_of (holm_graph n) alpha ps)))
+pub holm_is : (n : ℕ) (alpha : Ratio) (ps : List Ratio) → 1 ≤ n → n ≤ 64
+    → IsAlone (equal_graph n) (entangled (content_of (draft_of (holm_graph n) alpha ps)))
 unfolding holm_graph
 holm_is n alpha ps some few =
     let short = few_are_short n few in
@@ -73,7 +77,8 @@ pub sequence_is : (n : ℕ) (alpha : Ratio) (ps : List Ratio) → IsSequenceGrap
 unfolding sequence_graph
 sequence_is n alpha ps = alone (sequence_graph n) alpha ps (chain_graph first_alone) (λ i h. first_value i) (λ i k h g. next_value (k == suc i))
 
-pub fallback_is : (ws : List Ratio) (alpha : Ratio) (ps : List Ratio) → IsFallbackGraph (number_at ws) (entangled (content_of (draft_of (fallback_graph ws) alpha ps)))
+pub fallback_is : (ws : List Ratio) (alpha : Ratio) (ps : List Ratio)
+    → IsFallbackGraph (number_at ws) (entangled (content_of (draft_of (fallback_graph ws) alpha ps)))
 unfolding fallback_graph
 fallback_is ws alpha ps = alone (fallback_graph ws) alpha ps (chain_graph (number_at ws)) (λ i h. refl) (λ i k h g. next_value (k == suc i))
 
@@ -94,13 +99,16 @@ module _ (G : WeightedGraph) (alpha : Ratio) (ps : List Ratio) (faultless : case
   low = subst (λ z. z ≤ε number_of alpha) field_zero (good_level alpha (shape_of_draft (draft_of G alpha ps) faultless).level).nonneg
 
   -- what a rule decides on the graph, it decides on the case
-  decides : (Rejects : ℕ → Type 0) → ¬ (ps ≡ []) → ((j : ℕ) → IsRejected (entangled (content_of (draft_of G alpha ps))) (number_at ps) (number_of alpha) j ↔ Rejects j)
+  decides : (Rejects : ℕ → Type 0) → ¬ (ps ≡ [])
+      → ((j : ℕ) → IsRejected (entangled (content_of (draft_of G alpha ps))) (number_at ps) (number_of alpha) j ↔ Rejects j)
       → (j : ℕ) → IsRejectedIn (content_of (draft_of G alpha ps)) j ↔ Rejects j
   unfolding content_of draft_of
   decides Rejects some law j =
-      subst (λ i. ForSingle i (λ qs. IsRejected (entangled (content_of (draft_of G alpha ps))) (number_at qs) (number_of alpha) j) ↔ Rejects j) (sym (inputs_are G alpha ps some)) (law j)
+      subst (λ i. ForSingle i (λ qs. IsRejected (entangled (content_of (draft_of G alpha ps))) (number_at qs) (number_of alpha) j) ↔ Rejects j)
+      (sym (inputs_are G alpha ps some)) (law j)
 
-pub holm_rule : (n m : ℕ) (alpha : Ratio) (ps : List Ratio) (c : Content) → n ≡ m → 1 ≤ n → n ≤ 64 → made (draft_of (holm_graph n) alpha ps) ≡ Ok c → DecidesAsHolm m alpha ps c
+pub holm_rule : (n m : ℕ) (alpha : Ratio) (ps : List Ratio) (c : Content) → n ≡ m → 1 ≤ n → n ≤ 64
+    → made (draft_of (holm_graph n) alpha ps) ≡ Ok c → DecidesAsHolm m alpha ps c
 unfolding holm_graph
 holm_rule n m alpha ps c same some few h given =
     let M = is_made (draft_of (holm_graph n) alpha ps) c h in
@@ -108,10 +116,13 @@ holm_rule n m alpha ps c same some few h given =
     let size : E.hypotheses ≡ n = as_many (holm_graph n) alpha ps in
     let law : (j : ℕ) → IsRejected E (number_at ps) (number_of alpha) j ↔ IsHolmRejected (number_at ps) (number_of alpha) m j
     = λ j. subst (λ k. IsRejected E (number_at ps) (number_of alpha) j ↔ IsHolmRejected (number_at ps) (number_of alpha) k j) (size ∙ same)
-    (holm_decides (number_at ps) (number_of alpha) E (valid (holm_graph n) alpha ps M.faultless) (subst (λ k. IsAlone (equal_graph k) E) (sym size) (holm_is n alpha ps some few)) (low (holm_graph n) alpha ps M.faultless) j) in
-    subst (λ k. (j : ℕ) → IsRejectedIn k j ↔ IsHolmRejected (number_at ps) (number_of alpha) m j) M.content (decides (holm_graph n) alpha ps M.faultless (IsHolmRejected (number_at ps) (number_of alpha) m) given law)
+    (holm_decides (number_at ps) (number_of alpha) E (valid (holm_graph n) alpha ps M.faultless)
+    (subst (λ k. IsAlone (equal_graph k) E) (sym size) (holm_is n alpha ps some few)) (low (holm_graph n) alpha ps M.faultless) j) in
+    subst (λ k. (j : ℕ) → IsRejectedIn k j ↔ IsHolmRejected (number_at ps) (number_of alpha) m j) M.content
+    (decides (holm_graph n) alpha ps M.faultless (IsHolmRejected (number_at ps) (number_of alpha) m) given law)
 
-pub sequence_rule : (n m : ℕ) (alpha : Ratio) (ps : List Ratio) (c : Content) → n ≡ m → made (draft_of (sequence_graph n) alpha ps) ≡ Ok c → DecidesAsSequence m alpha ps c
+pub sequence_rule : (n m : ℕ) (alpha : Ratio) (ps : List Ratio) (c : Content) → n ≡ m → made (draft_of (sequence_graph n) alpha ps) ≡ Ok c
+    → DecidesAsSequence m alpha ps c
 unfolding sequence_graph
 sequence_rule n m alpha ps c same h given =
     let M = is_made (draft_of (sequence_graph n) alpha ps) c h in
@@ -119,10 +130,13 @@ sequence_rule n m alpha ps c same h given =
     let size : E.hypotheses ≡ n = as_many (sequence_graph n) alpha ps in
     let law : (j : ℕ) → IsRejected E (number_at ps) (number_of alpha) j ↔ IsSequenceRejected (number_at ps) (number_of alpha) m j
     = λ j. subst (λ k. IsRejected E (number_at ps) (number_of alpha) j ↔ IsSequenceRejected (number_at ps) (number_of alpha) k j) (size ∙ same)
-    (sequence_decides (number_at ps) (number_of alpha) E (valid (sequence_graph n) alpha ps M.faultless) (sequence_is n alpha ps) (low (sequence_graph n) alpha ps M.faultless) j) in
-    subst (λ k. (j : ℕ) → IsRejectedIn k j ↔ IsSequenceRejected (number_at ps) (number_of alpha) m j) M.content (decides (sequence_graph n) alpha ps M.faultless (IsSequenceRejected (number_at ps) (number_of alpha) m) given law)
+    (sequence_decides (number_at ps) (number_of alpha) E (valid (sequence_graph n) alpha ps M.faultless) (sequence_is n alpha ps)
+    (low (sequence_graph n) alpha ps M.faultless) j) in
+    subst (λ k. (j : ℕ) → IsRejectedIn k j ↔ IsSequenceRejected (number_at ps) (number_of alpha) m j) M.content
+    (decides (sequence_graph n) alpha ps M.faultless (IsSequenceRejected (number_at ps) (number_of alpha) m) given law)
 
-pub fallback_rule : (ws : List Ratio) (alpha : Ratio) (ps : List Ratio) (c : Content) → made (draft_of (fallback_graph ws) alpha ps) ≡ Ok c → DecidesAsFallback ws alpha ps c
+pub fallback_rule : (ws : List Ratio) (alpha : Ratio) (ps : List Ratio) (c : Content) → made (draft_of (fallback_graph ws) alpha ps) ≡ Ok c
+    → DecidesAsFallback ws alpha ps c
 unfolding fallback_graph
 fallback_rule ws alpha ps c h given =
     let M = is_made (draft_of (fallback_graph ws) alpha ps) c h in
@@ -130,20 +144,27 @@ fallback_rule ws alpha ps c h given =
     let size : E.hypotheses ≡ length ws = as_many (fallback_graph ws) alpha ps in
     let law : (j : ℕ) → IsRejected E (number_at ps) (number_of alpha) j ↔ IsFallbackRejected (number_at ps) (number_of alpha) (length ws) (number_at ws) j
     = λ j. subst (λ k. IsRejected E (number_at ps) (number_of alpha) j ↔ IsFallbackRejected (number_at ps) (number_of alpha) k (number_at ws) j) size
-    (fallback_decides (number_at ps) (number_of alpha) (number_at ws) E (valid (fallback_graph ws) alpha ps M.faultless) (fallback_is ws alpha ps) (λ i b. fallback_plain ws i) (low (fallback_graph ws) alpha ps M.faultless) j) in
-    subst (λ k. (j : ℕ) → IsRejectedIn k j ↔ IsFallbackRejected (number_at ps) (number_of alpha) (length ws) (number_at ws) j) M.content (decides (fallback_graph ws) alpha ps M.faultless (IsFallbackRejected (number_at ps) (number_of alpha) (length ws) (number_at ws)) given law)
+    (fallback_decides (number_at ps) (number_of alpha) (number_at ws) E (valid (fallback_graph ws) alpha ps M.faultless) (fallback_is ws alpha ps)
+    (λ i b. fallback_plain ws i) (low (fallback_graph ws) alpha ps M.faultless) j) in
+    subst (λ k. (j : ℕ) → IsRejectedIn k j ↔ IsFallbackRejected (number_at ps) (number_of alpha) (length ws) (number_at ws) j) M.content
+    (decides (fallback_graph ws) alpha ps M.faultless (IsFallbackRejected (number_at ps) (number_of alpha) (length ws) (number_at ws)) given law)
 
 -- ---- what is made has these graphs
 
-pub holm_made : (n : ℕ) (alpha : Ratio) (ps : List Ratio) (c : Content) → 1 ≤ n → n ≤ 64 → made (draft_of (holm_graph n) alpha ps) ≡ Ok c → IsHolmGraph (entangled c)
+pub holm_made : (n : ℕ) (alpha : Ratio) (ps : List Ratio) (c : Content) → 1 ≤ n → n ≤ 64 → made (draft_of (holm_graph n) alpha ps) ≡ Ok c
+    → IsHolmGraph (entangled c)
 unfolding holm_graph
 holm_made n alpha ps c some few h =
     let M = is_made (draft_of (holm_graph n) alpha ps) c h in
     let E = entangled (content_of (draft_of (holm_graph n) alpha ps)) in
-    subst (λ k. IsHolmGraph (entangled k)) M.content (subst (λ k. IsAlone (equal_graph k) E) (sym (as_many (holm_graph n) alpha ps)) (holm_is n alpha ps some few))
+    subst (λ k. IsHolmGraph (entangled k)) M.content
+    (subst (λ k. IsAlone (equal_graph k) E) (sym (as_many (holm_graph n) alpha ps)) (holm_is n alpha ps some few))
 
-pub sequence_made : (n : ℕ) (alpha : Ratio) (ps : List Ratio) (c : Content) → made (draft_of (sequence_graph n) alpha ps) ≡ Ok c → IsSequenceGraph (entangled c)
+pub sequence_made : (n : ℕ) (alpha : Ratio) (ps : List Ratio) (c : Content) → made (draft_of (sequence_graph n) alpha ps) ≡ Ok c
+    → IsSequenceGraph (entangled c)
 sequence_made n alpha ps c h = subst (λ k. IsSequenceGraph (entangled k)) (is_made (draft_of (sequence_graph n) alpha ps) c h).content (sequence_is n alpha ps)
 
-pub fallback_made : (ws : List Ratio) (alpha : Ratio) (ps : List Ratio) (c : Content) → made (draft_of (fallback_graph ws) alpha ps) ≡ Ok c → IsFallbackGraph (number_at ws) (entangled c)
-fallback_made ws alpha ps c h = subst (λ k. IsFallbackGraph (number_at ws) (entangled k)) (is_made (draft_of (fallback_graph ws) alpha ps) c h).content (fallback_is ws alpha ps)
+pub fallback_made : (ws : List Ratio) (alpha : Ratio) (ps : List Ratio) (c : Content) → made (draft_of (fallback_graph ws) alpha ps) ≡ Ok c
+    → IsFallbackGraph (number_at ws) (entangled c)
+fallback_made ws alpha ps c h = subst (λ k. IsFallbackGraph (number_at ws) (entangled k)) (is_made (draft_of (fallback_graph ws) alpha ps) c h).content
+    (fallback_is ws alpha ps)

@@ -13,8 +13,10 @@ module _ (m : ℕ) (local : ℕ → Bool) where
   pub yes_next : (n k : ℕ) → n < 2 ^ m → k < m → members n k ≡ false → IsYesAbove m local n → IsYesAbove m local (n + 2 ^ k)
   yes_next n k b q f above = yes_up n (n + 2 ^ k) (λ i r e. members_added m n k b q f i r ∙ within_adding m k (members n) i r e) above
 
-  pub yes_by_larger : (n : ℕ) → n < 2 ^ m → local n ≡ true → ((k : ℕ) → k < m → members n k ≡ false → IsYesAbove m local (n + 2 ^ k)) → IsYesAbove m local n
+  pub yes_by_larger : (n : ℕ) → n < 2 ^ m → local n ≡ true → ((k : ℕ) → k < m → members n k ≡ false → IsYesAbove m local (n + 2 ^ k))
+      → IsYesAbove m local n
   yes_by_larger n b l more o there h = elim (missing m (members n) (members o) h) [
     | inl same ↦ ap local (sym (same_number m n o b there same)) ∙ l
-    | inr x ↦ more x.0 x.1.below x.2 o there (λ i r e. added_subset m x.0 (members n) (members o) h x.1.member i r (sym (members_added m n x.0 b x.1.below x.2 i r) ∙ e))
+    | inr x ↦ more x.0 x.1.below x.2 o there
+        (λ i r e. added_subset m x.0 (members n) (members o) h x.1.member i r (sym (members_added m n x.0 b x.1.below x.2 i r) ∙ e))
   ]

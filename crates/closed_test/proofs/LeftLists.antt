@@ -1,5 +1,6 @@
 -- Ascending lists beside the numbers of the sets that leave them out.
-use Rattle.std.proofs.Common.{◌≡◌, refl, sym, ap, subst, ◌∙◌, ℕ, zero, suc, ◌+◌, ◌^◌, ◌<◌, ◌≤◌, arith, Bool, true, false, List, [], ◌∷◌, ◌++◌, length, length-append}
+use Rattle.std.proofs.Common.{◌≡◌, refl, sym, ap, subst, ◌∙◌, ℕ, zero, suc, ◌+◌, ◌^◌, ◌<◌, ◌≤◌, arith, Bool, true, false, List}
+use Rattle.std.proofs.Common.{[], ◌∷◌, ◌++◌, length, length-append}
 use Rattle.std.proofs.Math.Pow.{pow_mono}
 use Rattle.field_core.specs.Sets.{whole, dropping}
 use Rattle.field_core.specs.Runs.{left_after}
@@ -11,7 +12,8 @@ use Rattle.field_core.proofs.NextLists.{ascending_last, ascending_short}
 use Rattle.field_core.proofs.SetOrders.{left_append}
 use Rattle.closed_test.specs.Paths.{number_without, IsLeftOutOf}
 
-pub stays : (m first : ℕ) (I : ℕ → Bool) (js : List ℕ) (l : ℕ) → IsAscending m first (js ++ l ∷ []) → I l ≡ true → left_after I js l ≡ true
+pub stays : (m first : ℕ) (I : ℕ → Bool) (js : List ℕ) (l : ℕ) → IsAscending m first (js ++ l ∷ []) → I l ≡ true
+    → left_after I js l ≡ true
 stays m first I [] l a h = h
 stays m first I (j ∷ js) l a h = stays m (suc j) (dropping j I) js l a.2 (dropping_other j I l (omega (arith, above (suc j) js a.2)) ∙ h)
   where
@@ -39,7 +41,8 @@ number_more m js l a =
 -- ---- the first set, one more that is left out, and one taken back
 
 pub first_set : (m set : ℕ) → set + 1 ≡ 2 ^ m → (left : List ℕ) → left ≡ [] → IsLeftOutOf m set left
-first_set m set e left f = record { ascending = subst (IsAscending m 0) (sym f) tt; number = omega (arith, e, number_whole m) ∙ ap (number_without m) (sym f) }
+first_set m set e left f =
+    record { ascending = subst (IsAscending m 0) (sym f) tt; number = omega (arith, e, number_whole m) ∙ ap (number_without m) (sym f) }
 
 module _ (m set : ℕ) (left : List ℕ) (P : IsLeftOutOf m set left) where
   set_below : set < 2 ^ m
@@ -52,7 +55,8 @@ module _ (m set : ℕ) (left : List ℕ) (P : IsLeftOutOf m set left) where
   out_below k a = ascending_last m 0 k left a
 
   pub out_member : (k : ℕ) → IsAscending m 0 (left ++ k ∷ []) → members set k ≡ true
-  out_member k a = ap (λ n. members n k) P.number ∙ members_number m (left_after whole left) k (ascending_last m 0 k left a) ∙ stays m 0 whole left k a refl
+  out_member k a = ap (λ n. members n k) P.number ∙ members_number m (left_after whole left) k (ascending_last m 0 k left a)
+      ∙ stays m 0 whole left k a refl
 
   pub out_room : (k : ℕ) → IsAscending m 0 (left ++ k ∷ []) → length left < m
   out_room k a = let s = ascending_short m 0 (left ++ k ∷ []) a (omega arith) in omega (arith, s, length-append left (k ∷ []))
@@ -71,7 +75,8 @@ module _ (m set : ℕ) (left : List ℕ) (P : IsLeftOutOf m set left) where
     back_below = ascending_last m 0 k js back_ascending
 
     pub back_outside : members set k ≡ false
-    back_outside = ap (λ n. members n k) (P.number ∙ ap (number_without m) e) ∙ members_number m (left_after whole (js ++ k ∷ [])) k back_below ∙ last_out js k
+    back_outside = ap (λ n. members n k) (P.number ∙ ap (number_without m) e) ∙ members_number m (left_after whole (js ++ k ∷ [])) k back_below
+        ∙ last_out js k
 
     pub back_set : (r : ℕ) → r ≡ set + 2 ^ k → IsLeftOutOf m r js
     back_set r f = record {

@@ -22,7 +22,8 @@ nothing_before [] ks e = refl
 nothing_before (j ∷ js) ks e = absurd (cc)
 
 -- nets that are opened are those after nothing is removed
-pub opened_along : (c : Content) (states : List CaseState) (count : ℕ) → 0 < count → ((n : ℕ) (d : CaseState) → n < count → case_opening c ≡ Ok (get_or states n d)) → AreStatesAlong c [] states
+pub opened_along : (c : Content) (states : List CaseState) (count : ℕ) → 0 < count
+    → ((n : ℕ) (d : CaseState) → n < count → case_opening c ≡ Ok (get_or states n d)) → AreStatesAlong c [] states
 opened_along c states count some each js ks d e =
     let f = nothing_before js ks e in
     ap (case_after c) f ∙ only_opened c ∙ each 0 d some ∙ ap (λ xs. Ok (get_or states (length xs) d)) (sym f)
@@ -30,7 +31,8 @@ opened_along c states count some each js ks d e =
 one_opening : (r : Result CaseState WideAt) (s t : CaseState) → r ≡ Ok s → r ≡ Ok t → s ≡ t
 one_opening r s t h k = cc
 
-pub opened_alike : (c : Content) (states : List CaseState) (count : ℕ) → 0 < count → ((n : ℕ) (d : CaseState) → n < count → case_opening c ≡ Ok (get_or states n d)) → AreLikeTheFirst count states
+pub opened_alike : (c : Content) (states : List CaseState) (count : ℕ) → 0 < count
+    → ((n : ℕ) (d : CaseState) → n < count → case_opening c ≡ Ok (get_or states n d)) → AreLikeTheFirst count states
 opened_alike c states count some each n d h =
     let e = one_opening (case_opening c) (get_or states n d) (get_or states 0 d) (each n d h) (each 0 d some) in
     record { numbers = ap case_numbers e; size = ap case_size e; shares = ap case_shares e }

@@ -27,27 +27,34 @@ for_single P Q f Bare h = h
 for_single P Q f (Staged s) h = h
 
 module _ (c : Content) (ps : List Ratio) (weight : ℕ → ℕ → Ratio) (W : AreIntersectionWeights c weight) where
-  passing_rejected : (n : ℕ) → n < 2 ^ length c.names → HasPassing (length c.names) ps weight c.alpha n → IsLocallyRejected (entangled c) (number_at ps) (number_of c.alpha) (members n)
+  passing_rejected : (n : ℕ) → n < 2 ^ length c.names → HasPassing (length c.names) ps weight c.alpha n
+      → IsLocallyRejected (entangled c) (number_at ps) (number_of c.alpha) (members n)
   unfolding entangled
   passing_rejected n b h = record {
     hypothesis = h.hypothesis;
-    legal = passes_legal (entangled c) (number_at ps) (number_of c.alpha) (members n) h.hypothesis (number_of (weight n h.hypothesis)) h.member (W n h.hypothesis b h.member) h.passes;
+    legal = passes_legal (entangled c) (number_at ps) (number_of c.alpha) (members n) h.hypothesis (number_of (weight n h.hypothesis)) h.member
+        (W n h.hypothesis b h.member) h.passes;
   }
 
-  rejected_passing : (n : ℕ) → n < 2 ^ length c.names → IsLocallyRejected (entangled c) (number_at ps) (number_of c.alpha) (members n) → HasPassing (length c.names) ps weight c.alpha n
+  rejected_passing : (n : ℕ) → n < 2 ^ length c.names → IsLocallyRejected (entangled c) (number_at ps) (number_of c.alpha) (members n)
+      → HasPassing (length c.names) ps weight c.alpha n
   unfolding entangled
   rejected_passing n b r = record {
     hypothesis = r.hypothesis;
     member = r.legal.member;
-    passes = legal_passes (entangled c) (number_at ps) (number_of c.alpha) (members n) r.hypothesis (number_of (weight n r.hypothesis)) r.legal (W n r.hypothesis b r.legal.member);
+    passes = legal_passes (entangled c) (number_at ps) (number_of c.alpha) (members n) r.hypothesis (number_of (weight n r.hypothesis)) r.legal
+        (W n r.hypothesis b r.legal.member);
   }
 
-  pub local_answers_are : (table : ℕ → Bool) → c.inputs ≡ Single ps → ((n : ℕ) → n < 2 ^ length c.names → (table n ≡ true) ↔ HasPassing (length c.names) ps weight c.alpha n) → AreLocalAnswers c table
-  local_answers_are table inputs each = of_single (λ qs. AnswersFor (length c.names) (IsLocallyRejected (entangled c) (number_at qs) (number_of c.alpha)) table) c.inputs ps inputs
+  pub local_answers_are : (table : ℕ → Bool) → c.inputs ≡ Single ps
+      → ((n : ℕ) → n < 2 ^ length c.names → (table n ≡ true) ↔ HasPassing (length c.names) ps weight c.alpha n) → AreLocalAnswers c table
+  local_answers_are table inputs each =
+      of_single (λ qs. AnswersFor (length c.names) (IsLocallyRejected (entangled c) (number_at qs) (number_of c.alpha)) table) c.inputs ps inputs
       (λ n b. (λ t. passing_rejected n b ((each n b).0 t), λ r. (each n b).1 (rejected_passing n b r)))
 
 -- a table of any local test, and the table of its closed test; the local test doesn't tell sets with the same members apart, and a set that it rejects has a member
-pub closed_by : (m : ℕ) (Local : (ℕ → Bool) → Type 0) → ((I J : ℕ → Bool) → HaveSameMembers m I J → Local I → Local J) → ((I : ℕ → Bool) → Local I → (k : ℕ) × IsIn m I k)
+pub closed_by : (m : ℕ) (Local : (ℕ → Bool) → Type 0) → ((I J : ℕ → Bool) → HaveSameMembers m I J → Local I → Local J)
+    → ((I : ℕ → Bool) → Local I → (k : ℕ) × IsIn m I k)
     → (local closed : ℕ → Bool) → AreClosedFrom m local closed 0 → AnswersFor m Local local → AnswersFor m (IsClosedRejectedBy m Local) closed
 closed_by m Local same some local closed h answers n b =
     let f = h n (omega arith) b in
@@ -55,12 +62,14 @@ closed_by m Local same some local closed h answers n b =
     (λ t. g.0 (f.0 t), λ r. f.1 (g.1 r))
 
 closed_for : (c : Content) (local closed : ℕ → Bool) → AreClosedFrom (length c.names) local closed 0 → (ps : List Ratio)
-    → AnswersFor (length c.names) (IsLocallyRejected (entangled c) (number_at ps) (number_of c.alpha)) local → AnswersFor (length c.names) (IsClosedRejected (entangled c) (number_at ps) (number_of c.alpha)) closed
+    → AnswersFor (length c.names) (IsLocallyRejected (entangled c) (number_at ps) (number_of c.alpha)) local
+    → AnswersFor (length c.names) (IsClosedRejected (entangled c) (number_at ps) (number_of c.alpha)) closed
 unfolding entangled
 closed_for c local closed h ps =
     let E = entangled c in
     let test = AtLevel (number_at ps) (number_of c.alpha) in
     closed_by (length c.names) (IsLocallyRejected E (number_at ps) (number_of c.alpha)) (locally_same_by E test) (some_legal_by E test) local closed h
 
-pub closed_answers_are : (c : Content) (local closed : ℕ → Bool) → AreClosedFrom (length c.names) local closed 0 → AreLocalAnswers c local → AreClosedAnswers c closed
+pub closed_answers_are : (c : Content) (local closed : ℕ → Bool) → AreClosedFrom (length c.names) local closed 0 → AreLocalAnswers c local
+    → AreClosedAnswers c closed
 closed_answers_are c local closed h = for_single _ _ (closed_for c local closed h) c.inputs

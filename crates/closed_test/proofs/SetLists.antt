@@ -1,5 +1,6 @@
 -- Lists of all sets in their order: how one is made, and that there is one.
-use Rattle.std.proofs.Common.{◌≡◌, ◌⊎◌, inl, inr, refl, sym, ap, ap₂, subst, ◌∙◌, ℕ, zero, suc, ◌^◌, ◌<◌, List, [], ◌∷◌, ◌++◌, length, get_or, Result, Ok, Err, arith}
+use Rattle.std.proofs.Common.{◌≡◌, ◌⊎◌, inl, inr, refl, sym, ap, ap₂, subst, ◌∙◌, ℕ, zero, suc, ◌^◌, ◌<◌, List, [], ◌∷◌}
+use Rattle.std.proofs.Common.{◌++◌, length, get_or, Result, Ok, Err, arith}
 use Rattle.std.specs.Prelude.{Contains}
 use Rattle.std.specs.List.{All, AllPairs}
 use Rattle.std.proofs.lemmas.List.Elements.{All-nil, All-cons, All-push, All-weaker, All-get_or, All-contains, Contains-append_left, Contains-push}
@@ -79,20 +80,23 @@ module _ (R : ℕ → ℕ → Type 0) (itself : (n : ℕ) → R n n → ⊥) (bo
     | inr g ↦ g
   ]
 
-  ordered_unique : (xs ys : List ℕ) → AllPairs R xs → AllPairs R ys → ((n : ℕ) → Contains xs n → Contains ys n) → ((n : ℕ) → Contains ys n → Contains xs n) → xs ≡ ys
+  ordered_unique : (xs ys : List ℕ) → AllPairs R xs → AllPairs R ys → ((n : ℕ) → Contains xs n → Contains ys n)
+      → ((n : ℕ) → Contains ys n → Contains xs n) → xs ≡ ys
   ordered_unique [] [] a b to from = refl
   ordered_unique [] (y ∷ ys) a b to from = absurd (none y (from y (first y ys)))
   ordered_unique (x ∷ xs) [] a b to from = absurd (none x (to x (first x xs)))
   ordered_unique (x ∷ xs) (y ∷ ys) a b to from =
       let e = heads x y xs ys a b (to x (first x xs)) (from y (first y ys)) in
-      ap₂ ◌∷◌ e (ordered_unique xs ys (rest_ordered x xs a) (rest_ordered y ys b) (λ n c. kept x y n xs ys e a c (to n (later x n xs c))) (λ n c. kept y x n ys xs (sym e) b c (from n (later y n ys c))))
+      ap₂ ◌∷◌ e (ordered_unique xs ys (rest_ordered x xs a) (rest_ordered y ys b) (λ n c. kept x y n xs ys e a c (to n (later x n xs c)))
+      (λ n c. kept y x n ys xs (sym e) b c (from n (later y n ys c))))
 
 -- there is one list of all sets in their order
 pub sets_unique : (m : ℕ) (xs ys : List ℕ) → AreSetsInOrder m xs → AreSetsInOrder m ys → xs ≡ ys
 sets_unique m xs ys X Y =
     ordered_unique (IsEarlierSet m) (λ n. not_before_itself (left_out m (members n)))
     (λ n o p q. not_before_itself (left_out m (members n)) (before_both (left_out m (members n)) (left_out m (members o)) (left_out m (members n)) p q))
-    xs ys X.ordered Y.ordered (λ n c. Y.each n (All-contains (λ o. o < 2 ^ m) xs n X.sets_of c)) (λ n c. X.each n (All-contains (λ o. o < 2 ^ m) ys n Y.sets_of c))
+    xs ys X.ordered Y.ordered (λ n c. Y.each n (All-contains (λ o. o < 2 ^ m) xs n X.sets_of c))
+    (λ n c. X.each n (All-contains (λ o. o < 2 ^ m) ys n Y.sets_of c))
 
 -- ---- the list is made set by set
 
@@ -129,7 +133,8 @@ listed_first m n js sets e f g = rw (e, g) (record {
     only o p (inl b) = absurd b
     only o p (inr same) = (0, omega arith, number ∙ ap (number_without m) (sym same) ∙ number_out m o p)
 
-module _ (m n last : ℕ) (sets js ks : List ℕ) (L : AreListedTo m sets js) (step : IsListStep m js ks last) (behind : ComesBefore js ks) (e : n ≡ number_without m ks) where
+module _ (m n last : ℕ) (sets js ks : List ℕ) (L : AreListedTo m sets js) (step : IsListStep m js ks last) (behind : ComesBefore js ks)
+    (e : n ≡ number_without m ks) where
   out_is : left_out m (members n) ≡ ks
   out_is = left_out_is m n ks e step.next.ascending
 
@@ -142,12 +147,15 @@ module _ (m n last : ℕ) (sets js ks : List ℕ) (L : AreListedTo m sets js) (s
   found o p (inr f) = subst (Contains (sets ++ n ∷ [])) (e ∙ ap (number_without m) (sym f) ∙ number_out m o p) (Contains-push sets n)
 
   earlier : (k d : ℕ) → k < length sets → IsEarlierSet m (get_or sets k d) n
-  earlier k d p = subst (ComesBefore (left_out m (members (get_or sets k d)))) (sym out_is) (before_new _ (All-get_or (λ o. IsUpTo (left_out m (members o)) js) sets k d p L.up_to))
+  earlier k d p = subst (ComesBefore (left_out m (members (get_or sets k d)))) (sym out_is)
+      (before_new _ (All-get_or (λ o. IsUpTo (left_out m (members o)) js) sets k d p L.up_to))
 
   pub listed_next : (more : List ℕ) → more ≡ sets ++ n ∷ [] → AreListedTo m more ks
   listed_next more g = rw g (record {
     sets_of = All-push (λ o. o < 2 ^ m) sets n L.sets_of (is_set m n ks e);
-    up_to = All-push (λ o. IsUpTo (left_out m (members o)) ks) sets n (All-weaker (λ o. IsUpTo (left_out m (members o)) js) (λ o. IsUpTo (left_out m (members o)) ks) (λ o u. inl (before_new (left_out m (members o)) u)) sets L.up_to) (inr out_is);
+    up_to = All-push (λ o. IsUpTo (left_out m (members o)) ks) sets n
+        (All-weaker (λ o. IsUpTo (left_out m (members o)) js) (λ o. IsUpTo (left_out m (members o)) ks)
+        (λ o u. inl (before_new (left_out m (members o)) u)) sets L.up_to) (inr out_is);
     each = found;
     ordered = all_pairs_push (IsEarlierSet m) sets n L.ordered earlier;
   })

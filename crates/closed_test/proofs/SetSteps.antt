@@ -1,5 +1,6 @@
 -- A step of the walk through the sets.
-use Rattle.std.proofs.Common.{◌≡◌, ◌≢◌, ◌⊎◌, inl, inr, refl, sym, ap, ap₂, subst, ◌∙◌, ℕ, suc, ◌+◌, ◌-◌, ◌^◌, ◌<◌, ◌≤◌, arith, true, List, [], ◌∷◌, ◌++◌, append_assoc, length, length-append, get_or, Ok, Err}
+use Rattle.std.proofs.Common.{◌≡◌, ◌≢◌, ◌⊎◌, inl, inr, refl, sym, ap, ap₂, subst, ◌∙◌, ℕ, suc, ◌+◌, ◌-◌, ◌^◌, ◌<◌}
+use Rattle.std.proofs.Common.{◌≤◌, arith, true, List, [], ◌∷◌, ◌++◌, append_assoc, length, length-append, get_or, Ok, Err}
 use Rattle.field_core.specs.declared.ratio.Ratio.{Ratio}
 use Rattle.field_core.specs.declared.place.WideAt.{WideAt}
 use Rattle.field_core.specs.View.{terms}
@@ -28,15 +29,18 @@ set_fits set size m t left e f g = rw (e, f, g) (number_below m (left_after whol
 
 -- ---- the position that a step removes is still in
 
-live_at : (c : Content) → IsValidContent c → (parent : List ℕ) (l : ℕ) (s : CaseState) → IsAscending (length c.names) 0 (parent ++ l ∷ []) → case_after c parent ≡ Ok s → is_live_in_case s l ≡ true
+live_at : (c : Content) → IsValidContent c → (parent : List ℕ) (l : ℕ) (s : CaseState) → IsAscending (length c.names) 0 (parent ++ l ∷ [])
+    → case_after c parent ≡ Ok s → is_live_in_case s l ≡ true
 live_at c V parent l s a r =
-    case_live c parent s l V (ascending_order (length c.names) 0 whole parent (begins (length c.names) 0 parent (l ∷ []) a) (λ i p q. refl)) r (ascending_last (length c.names) 0 l parent a)
+    case_live c parent s l V (ascending_order (length c.names) 0 whole parent (begins (length c.names) 0 parent (l ∷ []) a) (λ i p q. refl)) r
+    (ascending_last (length c.names) 0 l parent a)
     ∙ stays (length c.names) 0 whole parent l a refl
 
 -- ---- the states along a list
 
 -- what begins `parent ++ l ∷ []` begins `parent`, or is all of it
-beginning : (js ks parent : List ℕ) (l : ℕ) → parent ++ l ∷ [] ≡ js ++ ks → ((rest : List ℕ) × (parent ≡ js ++ rest)) ⊎ (js ≡ parent ++ l ∷ [])
+beginning : (js ks parent : List ℕ) (l : ℕ) → parent ++ l ∷ [] ≡ js ++ ks → ((rest : List ℕ) × (parent ≡ js ++ rest))
+    ⊎ (js ≡ parent ++ l ∷ [])
 beginning [] ks parent l e = inl (parent, refl)
 beginning (j ∷ js) ks [] l e = inr (alone j l js ks (cc) (cc))
   where
@@ -63,13 +67,15 @@ states_next c old new parent rest l states nexts was is along same removal js ks
       along js (x.0 ++ rest) d (was ∙ ap (λ xs. xs ++ rest) x.1 ∙ append_assoc js x.0 rest) ∙ ap Ok (sym (same (length js) d long))
   | inr f ↦
       let long : length js ≡ suc (length parent) = ap length f ∙ length-append parent (l ∷ []) ∙ add_one (length parent) in
-      ap (case_after c) f ∙ after_next c parent (get_or states (length parent) d) l (along parent rest d was) ∙ removal d ∙ ap (λ n. Ok (get_or nexts n d)) (sym long)
+      ap (case_after c) f ∙ after_next c parent (get_or states (length parent) d) l (along parent rest d was) ∙ removal d
+      ∙ ap (λ n. Ok (get_or nexts n d)) (sym long)
 ]
 
 -- ---- rows
 
 -- another list has another number
-pub differs : (m : ℕ) (xs new : List ℕ) → IsAscending m 0 xs → IsAscending m 0 new → ComesBefore xs new → number_without m xs ≢ number_without m new
+pub differs : (m : ℕ) (xs new : List ℕ) → IsAscending m 0 xs → IsAscending m 0 new → ComesBefore xs new
+    → number_without m xs ≢ number_without m new
 differs m xs new a b before e = not_itself new (subst (λ ks. ComesBefore ks new) same before)
   where
     alike : HaveSameMembers m (left_after whole xs) (left_after whole new)
@@ -79,19 +85,22 @@ differs m xs new a b before e = not_itself new (subst (λ ks. ComesBefore ks new
     same = one_list m 0 whole xs new a b (λ i p q. refl) alike
 
 -- the row that is put has the levels of the members
-pub row_of : (c : Content) (weight : ℕ → ℕ → Ratio) (js : List ℕ) (s : CaseState) (set : ℕ) → IsValidContent c → IsAscending (length c.names) 0 js → case_after c js ≡ Ok s → set ≡ number_without (length c.names) js
+pub row_of : (c : Content) (weight : ℕ → ℕ → Ratio) (js : List ℕ) (s : CaseState) (set : ℕ) → IsValidContent c
+    → IsAscending (length c.names) 0 js → case_after c js ≡ Ok s → set ≡ number_without (length c.names) js
     → ((k : ℕ) → k < length c.names → is_live_in_case s k ≡ true → terms (weight set k) ≡ case_level s k) → IsTabled c weight js
 row_of c weight js s set V a run number row = record {
   state = s;
   run = run;
-  row = λ k p. ap (λ n. terms (weight n k)) (sym number) ∙ row k p.below (case_live c js s k V (ascending_order (length c.names) 0 whole js a (λ i q r. refl)) run p.below ∙ p.member);
+  row = λ k p. ap (λ n. terms (weight n k)) (sym number)
+      ∙ row k p.below (case_live c js s k V (ascending_order (length c.names) 0 whole js a (λ i q r. refl)) run p.below ∙ p.member);
 }
 
 pub tabled_start : (c : Content) (weight : ℕ → ℕ → Ratio) (js : List ℕ) → js ≡ [] → IsTabled c weight js → AreTabledTo c weight js
 tabled_start c weight js e t xs a (inl b) = absurd (subst (ComesBefore xs) e b)
 tabled_start c weight js e t xs a (inr f) = subst (IsTabled c weight) (sym f) t
 
-pub all_tabled : (c : Content) (weight : ℕ → ℕ → Ratio) (js : List ℕ) → AreTabledTo c weight js → IsLastList (length c.names) js → AreAllTabled c weight
+pub all_tabled : (c : Content) (weight : ℕ → ℕ → Ratio) (js : List ℕ) → AreTabledTo c weight js → IsLastList (length c.names) js
+    → AreAllTabled c weight
 all_tabled c weight js h last xs a = h xs a (last xs a)
 
 -- some state, that of the set of all
@@ -101,7 +110,8 @@ some_state c weight (j ∷ js) h = (h [] tt (inl tt)).state
 
 -- ---- all of a step
 
-module _ (c : Content) (V : IsValidContent c) (old new : List ℕ) (l : ℕ) (step : IsListStep (length c.names) old new l) (states : List CaseState) (along : AreStatesAlong c old states) where
+module _ (c : Content) (V : IsValidContent c) (old new : List ℕ) (l : ℕ) (step : IsListStep (length c.names) old new l) (states : List CaseState)
+    (along : AreStatesAlong c old states) where
   pub depth_is : (len : ℕ) → len ≡ length new → len - 1 ≡ length step.parent
   depth_is len e =
       let a : length new ≡ length step.parent + 1 = ap length step.is ∙ length-append step.parent (l ∷ []) in
@@ -119,16 +129,20 @@ module _ (c : Content) (V : IsValidContent c) (old new : List ℕ) (l : ℕ) (st
   reached depth e d = along step.parent step.rest d step.was ∙ ap (λ n. Ok (get_or states n d)) (sym e)
 
   pub step_live : (depth : ℕ) → depth ≡ length step.parent → (d : CaseState) → is_live_in_case (get_or states depth d) l ≡ true
-  step_live depth e d = live_at c V step.parent l (get_or states depth d) (subst (IsAscending (length c.names) 0) step.is step.next.ascending) (reached depth e d)
+  step_live depth e d = live_at c V step.parent l (get_or states depth d) (subst (IsAscending (length c.names) 0) step.is step.next.ascending)
+      (reached depth e d)
 
   -- the nets that are entered are like those from which they are entered
-  pub step_both : (depth : ℕ) → depth ≡ length step.parent → AreLikeTheFirst (length c.names + 1) states → (d : CaseState) → AreAlike (get_or states (suc depth) d) (get_or states depth d)
+  pub step_both : (depth : ℕ) → depth ≡ length step.parent → AreLikeTheFirst (length c.names + 1) states → (d : CaseState)
+      → AreAlike (get_or states (suc depth) d) (get_or states depth d)
   step_both depth at P d =
       let a = P (suc depth) d (omega (arith, at, short)) in
       let b = P depth d (omega (arith, at, short)) in
       record { numbers = a.numbers ∙ sym b.numbers; size = a.size ∙ sym b.size; shares = a.shares ∙ sym b.shares }
 
-  module _ (nexts : List CaseState) (depth : ℕ) (at : depth ≡ length step.parent) (others : (n : ℕ) (d : CaseState) → n ≢ suc depth → get_or nexts n d ≡ get_or states n d) (value : (d : CaseState) → Ok (get_or nexts (suc depth) d) ≡ case_removal (get_or states depth d) l) where
+  module _ (nexts : List CaseState) (depth : ℕ) (at : depth ≡ length step.parent)
+      (others : (n : ℕ) (d : CaseState) → n ≢ suc depth → get_or nexts n d ≡ get_or states n d)
+      (value : (d : CaseState) → Ok (get_or nexts (suc depth) d) ≡ case_removal (get_or states depth d) l) where
     pub step_states : AreStatesAlong c new nexts
     step_states = states_next c old new step.parent step.rest l states nexts step.was step.is along (λ n d h. others n d (omega (arith, at, h)))
         (λ d. ap (λ n. case_removal (get_or states n d) l) (sym at) ∙ sym (value d) ∙ ap (λ n. Ok (get_or nexts (suc n) d)) at)
@@ -137,7 +151,8 @@ module _ (c : Content) (V : IsValidContent c) (old new : List ℕ) (l : ℕ) (st
     step_run d = ap (case_after c) step.is ∙ after_next c step.parent (get_or states depth d) l (reached depth at d) ∙ sym (value d)
 
     pub step_size : (d : CaseState) → case_size (get_or nexts (suc depth) d) ≡ length c.names
-    step_size d = case_sizes c new (get_or nexts (suc depth) d) V (ascending_order (length c.names) 0 whole new step.next.ascending (λ i p q. refl)) (step_run d)
+    step_size d = case_sizes c new (get_or nexts (suc depth) d) V (ascending_order (length c.names) 0 whole new step.next.ascending (λ i p q. refl))
+        (step_run d)
 
     next_alike : (d : CaseState) → AreAlike (get_or states depth d) (get_or states 0 d) → AreAlike (get_or nexts (suc depth) d) (get_or nexts 0 d)
     next_alike d P =
@@ -157,7 +172,8 @@ module _ (c : Content) (V : IsValidContent c) (old new : List ℕ) (l : ℕ) (st
         same_or_not : (i k : ℕ) → (i ≡ k) ⊎ (i ≢ k)
         same_or_not i k = grind arith
 
-  pub step_tabled : (weight next : ℕ → ℕ → Ratio) (set : ℕ) → length c.names ≤ 16 → set ≡ number_without (length c.names) new → IsTabled c next new
+  pub step_tabled : (weight next : ℕ → ℕ → Ratio) (set : ℕ) → length c.names ≤ 16 → set ≡ number_without (length c.names) new
+      → IsTabled c next new
       → ((n k : ℕ) → k < 16 → n ≢ set → next n k ≡ weight n k) → AreTabledTo c weight old → AreTabledTo c next new
   step_tabled weight next set few number t others h xs a (inr e) = subst (IsTabled c next) (sym e) t
   step_tabled weight next set few number t others h xs a (inl b) =
@@ -169,7 +185,8 @@ module _ (c : Content) (V : IsValidContent c) (old new : List ℕ) (l : ℕ) (st
         row = λ k p. ap terms (others (number_without (length c.names) xs) k (omega (arith, p.below, few)) (λ e. other (e ∙ number))) ∙ T.row k p;
       }
 
-  pub step_wide : (weight : ℕ → ℕ → Ratio) (depth : ℕ) → depth ≡ length step.parent → (w : WideAt) → AreTabledTo c weight old → ((d : CaseState) → Err w ≡ case_removal (get_or states depth d) l) → IsFirstUndefined c new w
+  pub step_wide : (weight : ℕ → ℕ → Ratio) (depth : ℕ) → depth ≡ length step.parent → (w : WideAt) → AreTabledTo c weight old
+      → ((d : CaseState) → Err w ≡ case_removal (get_or states depth d) l) → IsFirstUndefined c new w
   step_wide weight depth at w h value =
       let d = some_state c weight old h in
       record {

@@ -27,7 +27,8 @@ use Rattle.closed_test.specs.Walks.{AreAllTabled, IsTabled, IsFirstUndefined}
 pub left_out_is : (m n : ℕ) (js : List ℕ) → n ≡ number_without m js → IsAscending m 0 js → left_out m (members n) ≡ js
 left_out_is m n js e a = list_of_set m js (members n) a (λ i p. sym (ap (λ k. members k i) e ∙ members_number m (left_after whole js) i p))
 
-pub first_wide_set : (c : Content) (js : List ℕ) (n : ℕ) (w : WideAt) → n ≡ number_without (length c.names) js → IsFirstUndefined c js w → IsFirstWideSet c n w
+pub first_wide_set : (c : Content) (js : List ℕ) (n : ℕ) (w : WideAt) → n ≡ number_without (length c.names) js → IsFirstUndefined c js w
+    → IsFirstWideSet c n w
 first_wide_set c js n w e F =
     let m = length c.names in
     let same = left_out_is m n js e F.ascending in
@@ -61,7 +62,8 @@ module _ (c : Content) (V : IsValidContent c) (weight : ℕ → ℕ → Ratio) (
     value_is = ap number (ap (λ i. terms (weight i k)) (sym number_is) ∙ T.row k inside)
 
     weight_is : IsIntersectionWeight (entangled c) (left_after whole js) k (number_of (weight n k))
-    weight_is = subst (IsIntersectionWeight (entangled c) (left_after whole js) k) (sym value_is) (case_levels c js T.state k V (out_order (length c.names) (members n)) T.run inside)
+    weight_is = subst (IsIntersectionWeight (entangled c) (left_after whole js) k) (sym value_is)
+        (case_levels c js T.state k V (out_order (length c.names) (members n)) T.run inside)
 
     pub weight_of_set : IsIntersectionWeight (entangled c) (members n) k (number_of (weight n k))
     unfolding entangled

@@ -1,5 +1,6 @@
 -- Names, and what stands behind them.
-use Rattle.std.proofs.Common.{Bool, true, false, ◌==◌, if◌then◌else◌, ◌≡◌, ◌≢◌, ◌<◌, ℕ, zero, suc, List, [], ◌∷◌, ◌++◌, length, take, drop, get_or, refl, ap, arith, subst}
+use Rattle.std.proofs.Common.{Bool, true, false, ◌==◌, if◌then◌else◌, ◌≡◌, ◌≢◌, ◌<◌, ℕ, zero, suc, List, [], ◌∷◌, ◌++◌}
+use Rattle.std.proofs.Common.{length, take, drop, get_or, refl, ap, arith, subst}
 use Rattle.command_words.specs.WordParts.{IsName}
 use Rattle.command_words.specs.Table.{argument_name}
 use Rattle.command_words.specs.declared.argument.Argument.{Argument}
@@ -22,7 +23,8 @@ pub one_name : (n m v w : List ℕ) → IsName n → IsName m → n ++ 61 ∷ v 
 one_name [] [] v w a b e = (refl, cc)
 one_name [] (y ∷ ys) v w a b e = absurd (b.0 cc)
 one_name (x ∷ xs) [] v w a b e = absurd (a.0 cc)
-one_name (x ∷ xs) (y ∷ ys) v w a b e = let t : xs ++ 61 ∷ v ≡ ys ++ 61 ∷ w = cc in let h = one_name xs ys v w a.1 b.1 t in let g : x ≡ y = cc in let u : xs ≡ ys = h.0 in (cc, h.1)
+one_name (x ∷ xs) (y ∷ ys) v w a b e = let t : xs ++ 61 ∷ v ≡ ys ++ 61 ∷ w = cc in let h = one_name xs ys v w a.1 b.1 t in let g : x ≡ y =
+    cc in let u : xs ≡ ys = h.0 in (cc, h.1)
 
 -- a name has no equals sign
 pub no_equals : (n m v : List ℕ) → IsName n → n ≡ m ++ 61 ∷ v → ⊥

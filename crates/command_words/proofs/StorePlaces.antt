@@ -1,5 +1,6 @@
 -- Where the option of the file of the looks stands in the words of a study.
-use Rattle.std.proofs.Common.{◌≡◌, ◌⊎◌, ◌+◌, inl, inr, refl, sym, ap, ◌∙◌, subst, ℕ, List, [], ◌∷◌, ◌++◌, length, drop, append-nil, append_assoc, length-append, arith}
+use Rattle.std.proofs.Common.{◌≡◌, ◌⊎◌, ◌+◌, inl, inr, refl, sym, ap, ◌∙◌, subst, ℕ, List, [], ◌∷◌, ◌++◌, length, drop}
+use Rattle.std.proofs.Common.{append-nil, append_assoc, length-append, arith}
 use Rattle.std.specs.Prelude.{codes}
 use Rattle.std.specs.List.{flat_map}
 use Rattle.std.specs.declared.option.Option.{Option}
@@ -46,7 +47,8 @@ no_operand verbs.Study e = cc
 no_operand verbs.Help e = cc
 
 -- a value gives the place of the option, or leaves it
-value_store : (at : ℕ) (g : GivenContent) (a : Argument) (v : Value a) (place : ℕ) → (with_value at g a v).store ≡ Some place → (g.store ≡ Some place) ⊎ ((a ≡ arguments.Store) × (place ≡ at))
+value_store : (at : ℕ) (g : GivenContent) (a : Argument) (v : Value a) (place : ℕ) → (with_value at g a v).store ≡ Some place
+    → (g.store ≡ Some place) ⊎ ((a ≡ arguments.Store) × (place ≡ at))
 value_store at g arguments.Form v place e = inl e
 value_store at g arguments.Alpha v place e = inl e
 value_store at g arguments.Priority v place e = inl e
@@ -58,21 +60,37 @@ value_store at g arguments.Second v place e = inl e
 value_store at g arguments.File v place e = inl e
 value_store at g arguments.Store v place e = inr (refl, sym (same_place at place e))
 
-piece_store : (verb : Verb) (at : ℕ) (g : GivenContent) (p : Piece) (words : List (List ℕ)) (place : ℕ) → MayStand verb g p → (with_piece at g p).store ≡ Some place → (g.store ≡ Some place) ⊎ StoresFrom at (spelled p ++ words) place
+piece_store : (verb : Verb) (at : ℕ) (g : GivenContent) (p : Piece) (words : List (List ℕ)) (place : ℕ) → MayStand verb g p
+    → (with_piece at g p).store ≡ Some place → (g.store ≡ Some place) ⊎ StoresFrom at (spelled p ++ words) place
 piece_store verb at g (joined choice text) words place m e = elim (value_store at g choice.argument choice.value place e) [
   | inl k ↦ inl k
-  | inr k ↦ let same = k.1 in inr (record { path = text; front = []; rest = words; place_is = omega (arith, same); words_are = inl (ap (λ n. joined_word n text ∷ words) (store_named choice.argument k.0)) })
+  | inr k ↦ let same = k.1 in inr
+      (record {
+        path = text;
+        front = [];
+        rest = words;
+        place_is = omega (arith, same);
+        words_are = inl (ap (λ n. joined_word n text ∷ words) (store_named choice.argument k.0));
+      })
 ]
 piece_store verb at g (apart choice text) words place m e = elim (value_store at g choice.argument choice.value place e) [
   | inl k ↦ inl k
-  | inr k ↦ let same = k.1 in inr (record { path = text; front = []; rest = words; place_is = omega (arith, same); words_are = inr (ap (λ n. opener n ∷ text ∷ words) (store_named choice.argument k.0)) })
+  | inr k ↦ let same = k.1 in inr
+      (record {
+        path = text;
+        front = [];
+        rest = words;
+        place_is = omega (arith, same);
+        words_are = inr (ap (λ n. opener n ∷ text ∷ words) (store_named choice.argument k.0));
+      })
 ]
 piece_store verb at g (bare choice text) words place m e = elim (value_store at g choice.argument choice.value place e) [
   | inl k ↦ inl k
   | inr k ↦ absurd (no_operand verb (m.0.0 ∙ ap Some k.0))
 ]
 
-behind_piece : (at : ℕ) (p : List (List ℕ)) (words : List (List ℕ)) (place : ℕ) → StoresFrom (at + length p) words place → StoresFrom at (p ++ words) place
+behind_piece : (at : ℕ) (p : List (List ℕ)) (words : List (List ℕ)) (place : ℕ) → StoresFrom (at + length p) words place
+    → StoresFrom at (p ++ words) place
 behind_piece at p words place s =
     let long = length-append p s.front in
     let place_is = s.place_is in
@@ -87,7 +105,8 @@ behind_piece at p words place s =
       ];
     }
 
-pieces_store : (verb : Verb) (at : ℕ) (g all : GivenContent) (ps : List Piece) (place : ℕ) → Stand verb at g ps all → all.store ≡ Some place → (g.store ≡ Some place) ⊎ StoresFrom at (flat_map spelled ps) place
+pieces_store : (verb : Verb) (at : ℕ) (g all : GivenContent) (ps : List Piece) (place : ℕ) → Stand verb at g ps all → all.store ≡ Some place
+    → (g.store ≡ Some place) ⊎ StoresFrom at (flat_map spelled ps) place
 pieces_store verb at g all [] place h e = inl (subst (λ x. x.store ≡ Some place) h e)
 pieces_store verb at g all (p ∷ ps) place h e = elim (pieces_store verb (at + length (spelled p)) (with_piece at g p) all ps place h.1 e) [
   | inl k ↦ piece_store verb at g p (flat_map spelled ps) place h.0 k
@@ -104,7 +123,8 @@ study_store (Some form) (Some file) store asked e = sym (ap store_in e)
     store_in (Some x) = x.store
 
 -- the option stands where it is said to stand
-pub store_stands : (words : List (List ℕ)) (asked : StudyAsked) (place : ℕ) → (study_in words).Gives asked → asked.store ≡ Some place → StoresFrom 0 words place
+pub store_stands : (words : List (List ℕ)) (asked : StudyAsked) (place : ℕ) → (study_in words).Gives asked → asked.store ≡ Some place
+    → StoresFrom 0 words place
 unfolding study_in study_of
 store_stands words asked place h e =
     let verb = h.0 in
@@ -120,6 +140,7 @@ store_stands words asked place h e =
         front = verb_name verb ∷ s.front;
         rest = s.rest;
         place_is = omega (arith, place_is);
-        words_are = elim (s.words_are) [ inl w ↦ inl (all ∙ ap (λ ws. verb_name verb ∷ ws) w) | inr w ↦ inr (all ∙ ap (λ ws. verb_name verb ∷ ws) w) ];
+        words_are = elim (s.words_are)
+            [ inl w ↦ inl (all ∙ ap (λ ws. verb_name verb ∷ ws) w) | inr w ↦ inr (all ∙ ap (λ ws. verb_name verb ∷ ws) w) ];
       }
     ]

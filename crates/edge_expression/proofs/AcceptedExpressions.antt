@@ -1,5 +1,6 @@
 -- The machine accepts each expression, and what it has read can always be completed.
-use Rattle.std.proofs.Common.{◌≡◌, ℕ, zero, suc, ◌+◌, Bool, true, false, cond, eqb, List, [], ◌∷◌, ◌++◌, Option, Some, None, refl, sym, ap, ap₂, ◌∙◌, ◌⊎◌, arith}
+use Rattle.std.proofs.Common.{◌≡◌, ℕ, zero, suc, ◌+◌, Bool, true, false, cond, eqb, List, [], ◌∷◌, ◌++◌, Option, Some, None, refl, sym}
+use Rattle.std.proofs.Common.{ap, ap₂, ◌∙◌, ◌⊎◌, arith}
 use Rattle.std.proofs.lemmas.Bool.Decides.{nat_tests}
 use Rattle.std.proofs.lemmas.List.{append-nil}
 use Rattle.field_core.proofs.Longest.{accepts, accepts_then, count, stops_behind}
@@ -19,8 +20,13 @@ use Rattle.edge_expression.specs.declared.byte_machine.Letter.TheVariants as let
 use Rattle.edge_expression.specs.declared.byte_machine.State.{State}
 use Rattle.edge_expression.specs.declared.byte_machine.State.TheVariants as states
 use Rattle.edge_expression.specs.declared.byte_machine.Reached.{Reached}
-use Rattle.edge_expression.specs.ByteMachine.{class_of, next_letter, with_letter, further, operand_parts, at_operand, start_or, behind_factor, behind_parts, behind_part, behind_epsilon, behind_caret, next, opened, reached, step, ends, may_end, start}
-use Rattle.edge_expression.specs.Expressions.{Power, Sign, Plus, Minus, Expression, Sum, MoreTerms, NoTerm, AndTerm, Term, Product, MoreFactors, NoFactor, Times, Over, Beside, Factor, Number, Other, Further, Epsilon, Parens, Token, DecimalToken, WordToken, CaretToken, PowerToken, SignToken, TimesToken, OverToken, OpenToken, CloseToken, sign_tokens, power_tokens, expression_tokens, terms_tokens, term_tokens, factors_tokens, factor_tokens, further_tokens, sign_byte, token_text, AreBlanks, IsSpelt, Spells, IsExpression}
+use Rattle.edge_expression.specs.ByteMachine.{class_of, next_letter, with_letter, further, operand_parts, at_operand, start_or, behind_factor, behind_parts}
+use Rattle.edge_expression.specs.ByteMachine.{behind_part, behind_epsilon, behind_caret, next, opened, reached, step, ends, may_end, start}
+use Rattle.edge_expression.specs.Expressions.{Power, Sign, Plus, Minus, Expression, Sum, MoreTerms, NoTerm, AndTerm, Term, Product, MoreFactors, NoFactor}
+use Rattle.edge_expression.specs.Expressions.{Times, Over, Beside, Factor, Number, Other, Further, Epsilon, Parens, Token, DecimalToken, WordToken, CaretToken}
+use Rattle.edge_expression.specs.Expressions.{PowerToken, SignToken, TimesToken, OverToken, OpenToken, CloseToken, sign_tokens, power_tokens, expression_tokens}
+use Rattle.edge_expression.specs.Expressions.{terms_tokens, term_tokens, factors_tokens, factor_tokens, further_tokens, sign_byte, token_text, AreBlanks}
+use Rattle.edge_expression.specs.Expressions.{IsSpelt, Spells, IsExpression}
 use Rattle.edge_expression.proofs.ByteClasses.{IsOf, class_is, either_of, class_digit, class_blank}
 use Rattle.edge_expression.proofs.Machine.{reads, reads_nil, reads_cons, reads_by, behind, letter_opens, part_opens, ends_before}
 use Rattle.edge_expression.proofs.ReadExpressions.{is_expression}

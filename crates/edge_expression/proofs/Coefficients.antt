@@ -1,5 +1,6 @@
 -- Coefficients of polynomials, one after the other.
-use Rattle.std.proofs.Common.{◌≡◌, refl, sym, ap, ◌∙◌, ℕ, zero, suc, ◌+◌, ◌-◌, ◌<◌, ◌≤◌, inl, inr, List, length, map, get_or, true, false, cond, Result, Ok, Err, arith}
+use Rattle.std.proofs.Common.{◌≡◌, refl, sym, ap, ◌∙◌, ℕ, zero, suc, ◌+◌, ◌-◌, ◌<◌, ◌≤◌, inl, inr, List, length, map, get_or}
+use Rattle.std.proofs.Common.{true, false, cond, Result, Ok, Err, arith}
 use Rattle.std.proofs.lemmas.Bool.{cases_lt}
 use Rattle.field_core.specs.Terms.{Terms}
 use Rattle.case_model.specs.Sums.{terms_at, zero_terms}
@@ -21,7 +22,8 @@ item_terms xs n x h e = get_or-map short_terms xs n x zero_terms h ∙ ap short_
 pub degree_down : (p : ℕ) (x : List Terms) → 0 < p → is_zero (terms_at x p) ≡ true → degree_within (p - 1) x ≡ degree_within p x
 unfolding degree_within
 degree_down zero x h e = absurd (omega arith)
-degree_down (suc n) x h e = let same : suc n - 1 ≡ n = omega arith in ap (λ k. degree_within k x) same ∙ sym (ap (λ b. cond b (degree_within n x) (suc n)) e)
+degree_down (suc n) x h e = let same : suc n - 1 ≡ n = omega arith in ap (λ k. degree_within k x) same
+    ∙ sym (ap (λ b. cond b (degree_within n x) (suc n)) e)
 
 pub degree_here : (p : ℕ) (x : List Terms) → is_zero (terms_at x p) ≡ false → degree_within p x ≡ p
 unfolding degree_within

@@ -1,5 +1,7 @@
 -- The text of an entry is an expression of that entry.
-use Rattle.std.proofs.Common.{◌≡◌, ◌≢◌, ℕ, zero, suc, ◌+◌, ◌^◌, ◌<◌, ◌≤◌, inl, inr, Bool, true, false, cond, eqb, List, [], ◌∷◌, ◌++◌, map, length, take, ℤ, pos, neg_ℤ, unsigned_abs, Option, Some, None, Ok, refl, sym, ap, ap₂, subst, ◌∙◌, append_assoc, arith}
+use Rattle.std.proofs.Common.{◌≡◌, ◌≢◌, ℕ, zero, suc, ◌+◌, ◌^◌, ◌<◌, ◌≤◌, inl, inr, Bool, true, false, cond, eqb, List, []}
+use Rattle.std.proofs.Common.{◌∷◌, ◌++◌, map, length, take, ℤ, pos, neg_ℤ, unsigned_abs, Option, Some, None, Ok, refl, sym, ap, ap₂, subst}
+use Rattle.std.proofs.Common.{◌∙◌, append_assoc, arith}
 use Rattle.std.specs.Prelude.{codes, nat_lt, ◌==◌, ◌&&◌, if◌then◌else◌}
 use Rattle.std.specs.Int.{is_negative}
 use Rattle.std.specs.List.{AllByRecursion, list_all}
@@ -21,9 +23,11 @@ use Rattle.fraction.proofs.ReadBack.{spelling_bytes}
 use Rattle.fraction.specs.Tests.{is_zero, is_one, absolute}
 use Rattle.edge_expression.specs.EntryValues.{zero_coefficients, joined, sign_or_plus, value, with_terms, term_value}
 use Rattle.case_model.specs.Sums.{terms_at, zero_terms}
-use Rattle.edge_expression.specs.Expressions.{Sign, Plus, Minus, Expression, Sum, MoreTerms, NoTerm, AndTerm, Term, Token, SignToken, expression_tokens, terms_tokens, term_tokens, token_text, IsSpelt, Spells}
+use Rattle.edge_expression.specs.Expressions.{Sign, Plus, Minus, Expression, Sum, MoreTerms, NoTerm, AndTerm, Term, Token, SignToken, expression_tokens}
+use Rattle.edge_expression.specs.Expressions.{terms_tokens, term_tokens, token_text, IsSpelt, Spells}
 use Rattle.field_core.specs.Steps.{◌>>=◌}
-use Rattle.edge_expression.specs.EntryTexts.{power_text, factor_text, joint_text, joined_term, term_text, terms_text, are_zero_below, coefficients_text, entry_text}
+use Rattle.edge_expression.specs.EntryTexts.{power_text, factor_text, joint_text, joined_term, term_text, terms_text, are_zero_below, coefficients_text}
+use Rattle.edge_expression.specs.EntryTexts.{entry_text}
 use Rattle.edge_expression.specs.EntryReading.{open_with, open_behind, IsShallow, IsEntryText}
 use Rattle.edge_expression.proofs.UnitOperations.{IsShortTerms, zero_short, zero_is}
 use Rattle.edge_expression.proofs.UnitEntries.{tabled, short_if, at_tabled, same_tabled, single, joined_plus, joined_minus}
@@ -76,7 +80,8 @@ upto_skip e p z = same_tabled (upto e p) (λ k. if k == p then terms_at e p else
 -- ---- a coefficient without its sign
 
 size_of : (t : Terms) → IsShortTerms t → over_of (unsigned_abs t.num) (unsigned_abs t.den) ≡ absolute t
-size_of t s = let p = s.0.positive in let d : pos (unsigned_abs t.den) ≡ t.den = omega (arith, ints) in ap (λ z. record { num = pos (unsigned_abs t.num); den = z }) d
+size_of t s = let p = s.0.positive in let d : pos (unsigned_abs t.den) ≡ t.den =
+    omega (arith, ints) in ap (λ z. record { num = pos (unsigned_abs t.num); den = z }) d
 
 size_short : (t : Terms) → IsShortTerms t → IsShortTerms (over_of (unsigned_abs t.num) (unsigned_abs t.den))
 size_short t s =
@@ -116,7 +121,8 @@ join_by e p true n s =
     joined_minus (upto e p) p (absolute t) t (λ k. upto_short e p k s) (s p) (below_is t.num n) refl (upto_here e p) ∙ ap Ok (upto_next e p)
 join_by e p false n s =
     let t : Terms = terms_at e p in
-    ap (λ u. joined Plus (tabled (upto e p)) (tabled (single p u))) (without_is t n) ∙ joined_plus (upto e p) p t (λ k. upto_short e p k s) (s p) (upto_here e p) ∙ ap Ok (upto_next e p)
+    ap (λ u. joined Plus (tabled (upto e p)) (tabled (single p u))) (without_is t n)
+    ∙ joined_plus (upto e p) p t (λ k. upto_short e p k s) (s p) (upto_here e p) ∙ ap Ok (upto_next e p)
 
 -- ---- further terms
 
@@ -158,7 +164,8 @@ joined_is f p t b h = ap (λ c. joint_text f c ++ term_text p (absolute t)) h
 piece_text : (f : Bool) (p n : ℕ) (e : List Terms) (b : Bool) → is_zero (terms_at e p) ≡ false → is_negative (terms_at e p).num ≡ b
     → terms_text f p (suc n) e ≡ joint_text f b ++ (term_text p (absolute (terms_at e p)) ++ terms_text false (suc p) n e)
 piece_text f p n e b z h =
-    next_text f p n e false z ∙ ap (λ (y : List ℕ). y ++ terms_text false (suc p) n e) (joined_is f p (terms_at e p) b h) ∙ append_assoc (joint_text f b) (term_text p (absolute (terms_at e p))) (terms_text false (suc p) n e)
+    next_text f p n e false z ∙ ap (λ (y : List ℕ). y ++ terms_text false (suc p) n e) (joined_is f p (terms_at e p) b h)
+    ∙ append_assoc (joint_text f b) (term_text p (absolute (terms_at e p))) (terms_text false (suc p) n e)
 
 more_term : (e : List Terms) (p n : ℕ) (b : Bool) → AreShort e → p ≤ 4 → is_zero (terms_at e p) ≡ false
     → is_negative (terms_at e p).num ≡ b → IsMore e (suc p) n → IsMore e p (suc n)
@@ -193,7 +200,12 @@ more_by e p n false s h z m = more_term e p n (is_negative (terms_at e p).num) s
 more : (e : List Terms) (n p : ℕ) → AreShort e → p + n ≡ 5 → IsMore e p n
 more e zero p s h =
     let last : p ≡ 5 = omega (arith, h) in
-    record { terms = NoTerm; spelt = subst (IsSpelt []) (sym (none_text false p e)) tt; worth = no_more (tabled (upto e p)) ∙ ap (λ q. Ok (tabled (upto e q))) last }
+    record {
+      terms = NoTerm;
+      spelt = subst (IsSpelt []) (sym (none_text false p e)) tt;
+      worth = no_more (tabled (upto e p))
+          ∙ ap (λ q. Ok (tabled (upto e q))) last;
+    }
 more e (suc n) p s h = more_by e p n (is_zero (terms_at e p)) s (omega (arith, h)) refl (more e n (suc p) s (omega (arith, h)))
 
 -- ---- the whole text
@@ -235,7 +247,8 @@ first_term e p n b s h z neg start m =
       expression = Sum (first_sign b) t.term m.terms;
       spells =
           subst (IsSpelt (expression_tokens (Sum (first_sign b) t.term m.terms) [])) (sym (piece_text true p n e b z neg))
-          (first_spelt b t.term (terms_tokens m.terms []) (term_text p (absolute (terms_at e p)) ++ rest) (t.spelt (terms_tokens m.terms []) rest m.spelt) m.terms refl);
+          (first_spelt b t.term (terms_tokens m.terms []) (term_text p (absolute (terms_at e p)) ++ rest)
+          (t.spelt (terms_tokens m.terms []) rest m.spelt) m.terms refl);
       worth = sum_is (first_sign b) t.term m.terms ∙ rw (t.worth, first_sign_is b, start, join_by e p b neg s) m.worth;
     }
 
@@ -260,7 +273,8 @@ all_zero : (e : List Terms) → zero_coefficients ≡ tabled (upto e 5) → are_
 unfolding are_zero_below
 all_zero e h =
     rw
-    (zero_upto e 0 h (omega arith), zero_upto e 1 h (omega arith), zero_upto e 2 h (omega arith), zero_upto e 3 h (omega arith), zero_upto e 4 h (omega arith)) refl
+    (zero_upto e 0 h (omega arith), zero_upto e 1 h (omega arith), zero_upto e 2 h (omega arith), zero_upto e 3 h (omega arith), zero_upto e 4 h (omega arith))
+    refl
 
 no_true : false ≡ true → ⊥
 no_true e = cc
@@ -376,7 +390,8 @@ terms_open : (f : Bool) (p n : ℕ) (e : List Terms) → AreShort e → NoOpen (
 unfolding terms_text AreShort
 terms_open f p zero e s = refl
 terms_open f p (suc n) e s =
-    open_if (is_zero (terms_at e p)) (terms_text f (suc p) n e) (joined_term f p (terms_at e p) ++ terms_text false (suc p) n e) (terms_open f (suc p) n e s) (no_open_both (joined_term f p (terms_at e p)) (terms_text false (suc p) n e) (joined_open f p (terms_at e p) (s p)) (terms_open false (suc p) n e s))
+    open_if (is_zero (terms_at e p)) (terms_text f (suc p) n e) (joined_term f p (terms_at e p) ++ terms_text false (suc p) n e) (terms_open f (suc p) n e s)
+    (no_open_both (joined_term f p (terms_at e p)) (terms_text false (suc p) n e) (joined_open f p (terms_at e p) (s p)) (terms_open false (suc p) n e s))
 
 entry_open : (e : List Terms) → AreShort e → NoOpen (coefficients_text e)
 unfolding coefficients_text
@@ -398,4 +413,10 @@ entry_reads_back xs h a =
     let e = map terms xs in
     let s = each_short xs a in
     let w = whole_by e (are_zero_below 5 e) s refl in
-    record { expression = w.expression; spells = w.spells; shallow = shallow (entry_text xs) (length (entry_text xs)) (entry_open e s); worth_is = w.worth ∙ ap Ok (five e (length-map xs terms ∙ h)) }
+    record {
+      expression = w.expression;
+      spells = w.spells;
+      shallow = shallow (entry_text xs) (length (entry_text xs)) (entry_open e s);
+      worth_is = w.worth
+          ∙ ap Ok (five e (length-map xs terms ∙ h));
+    }

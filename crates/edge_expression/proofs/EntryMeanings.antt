@@ -1,5 +1,6 @@
 -- An entry is the number that its expression means.
-use Rattle.std.proofs.Common.{◌≡◌, ℕ, zero, suc, ◌+◌, ◌-◌, ◌<◌, ◌≤◌, inl, inr, Bool, true, false, cond, List, [], ◌∷◌, map, pos, ◌<ℤ◌, Option, Some, None, Result, Ok, Err, refl, sym, ap, ap₂, subst, ◌∙◌, arith}
+use Rattle.std.proofs.Common.{◌≡◌, ℕ, zero, suc, ◌+◌, ◌-◌, ◌<◌, ◌≤◌, inl, inr, Bool, true, false, cond, List, [], ◌∷◌, map, pos}
+use Rattle.std.proofs.Common.{◌<ℤ◌, Option, Some, None, Result, Ok, Err, refl, sym, ap, ap₂, subst, ◌∙◌, arith}
 use Rattle.std.specs.Prelude.{nat_lt}
 use Rattle.std.proofs.lemmas.Bool.{ltb-false, cases_lt}
 use Rattle.std.proofs.lemmas.Int.{ints}
@@ -24,12 +25,15 @@ use Rattle.fraction.specs.Numeral.{value_of}
 use Rattle.fraction.specs.Plain.{zero_reduced, one_reduced}
 use Rattle.case_model.specs.Entries.{power_of_epsilon, entry_value}
 use Rattle.fraction.specs.Tests.{is_zero}
-use Rattle.edge_expression.specs.EntryValues.{zero_coefficients, plain_entry, short, sum, difference, product, quotient, coefficients, joined, degree_within, degree, product_sum, times, over, short_of, decimal_entry, unit_at, power_value, epsilon_value, sign_or_plus, value, with_terms, term_value, with_factors, factor_value, further_value}
+use Rattle.edge_expression.specs.EntryValues.{zero_coefficients, plain_entry, short, sum, difference, product, quotient, coefficients, joined, degree_within}
+use Rattle.edge_expression.specs.EntryValues.{degree, product_sum, times, over, short_of, decimal_entry, unit_at, power_value, epsilon_value, sign_or_plus}
+use Rattle.edge_expression.specs.EntryValues.{value, with_terms, term_value, with_factors, factor_value, further_value}
 use Rattle.case_model.specs.Sums.{number, terms_at, zero_terms}
 use Rattle.case_model.proofs.EntryOrder.{sum_of_five}
 use Rattle.edge_expression.specs.declared.value_fault.ValueFault.{ValueFault}
 use Rattle.edge_expression.specs.declared.value_fault.ValueFault.TheVariants.{DivisorNotNumber, ZeroDivisor, Degree}
-use Rattle.edge_expression.specs.Expressions.{Power, Sign, Plus, Minus, Expression, Sum, MoreTerms, NoTerm, AndTerm, Term, Product, MoreFactors, NoFactor, Times, Over, Beside, Factor, Number, Other, Further, Epsilon, Parens}
+use Rattle.edge_expression.specs.Expressions.{Power, Sign, Plus, Minus, Expression, Sum, MoreTerms, NoTerm, AndTerm, Term, Product, MoreFactors, NoFactor}
+use Rattle.edge_expression.specs.Expressions.{Times, Over, Beside, Factor, Number, Other, Further, Epsilon, Parens}
 use Rattle.field_core.specs.Laws.Prefixes.{bind_ok}
 use Rattle.edge_expression.specs.ExpressionStatements.{moved, power_meant, meaning, and_terms, term_meaning, and_factors, factor_meaning, further_meaning}
 use Rattle.edge_expression.proofs.UnitEntries.{tabled}
@@ -96,7 +100,20 @@ low_products a b c d e f g h i j x =
     (((((number_zero +ε a *ε j) +ε b *ε i) +ε c *ε h) +ε d *ε g) +ε e *ε f) *ε (x *ε (x *ε (x *ε (x *ε number_one))))
 
 product_by : (a b c d e f g h i j x : Value)
-    → (number_zero +ε (number_zero +ε a *ε f) *ε number_one +ε ((number_zero +ε a *ε g) +ε b *ε f) *ε (x *ε number_one) +ε (((number_zero +ε a *ε h) +ε b *ε g) +ε c *ε f) *ε (x *ε (x *ε number_one)) +ε ((((number_zero +ε a *ε i) +ε b *ε h) +ε c *ε g) +ε d *ε f) *ε (x *ε (x *ε (x *ε number_one))) +ε (((((number_zero +ε a *ε j) +ε b *ε i) +ε c *ε h) +ε d *ε g) +ε e *ε f) *ε (x *ε (x *ε (x *ε (x *ε number_one))))) +ε (number_zero +ε (b *ε j) *ε (x *ε (x *ε (x *ε (x *ε (x *ε number_one))))) +ε (c *ε i) *ε (x *ε (x *ε (x *ε (x *ε (x *ε number_one))))) +ε (c *ε j) *ε (x *ε (x *ε (x *ε (x *ε (x *ε (x *ε number_one)))))) +ε (d *ε h) *ε (x *ε (x *ε (x *ε (x *ε (x *ε number_one))))) +ε (d *ε i) *ε (x *ε (x *ε (x *ε (x *ε (x *ε (x *ε number_one)))))) +ε (d *ε j) *ε (x *ε (x *ε (x *ε (x *ε (x *ε (x *ε (x *ε number_one))))))) +ε (e *ε g) *ε (x *ε (x *ε (x *ε (x *ε (x *ε number_one))))) +ε (e *ε h) *ε (x *ε (x *ε (x *ε (x *ε (x *ε (x *ε number_one)))))) +ε (e *ε i) *ε (x *ε (x *ε (x *ε (x *ε (x *ε (x *ε (x *ε number_one))))))) +ε (e *ε j) *ε (x *ε (x *ε (x *ε (x *ε (x *ε (x *ε (x *ε (x *ε number_one))))))))) ≡ (number_zero +ε a *ε number_one +ε b *ε (x *ε number_one) +ε c *ε (x *ε (x *ε number_one)) +ε d *ε (x *ε (x *ε (x *ε number_one))) +ε e *ε (x *ε (x *ε (x *ε (x *ε number_one))))) *ε (number_zero +ε f *ε number_one +ε g *ε (x *ε number_one) +ε h *ε (x *ε (x *ε number_one)) +ε i *ε (x *ε (x *ε (x *ε number_one))) +ε j *ε (x *ε (x *ε (x *ε (x *ε number_one)))))
+    → (number_zero +ε (number_zero +ε a *ε f) *ε number_one +ε ((number_zero +ε a *ε g) +ε b *ε f) *ε (x *ε number_one) +ε
+    (((number_zero +ε a *ε h) +ε b *ε g) +ε c *ε f) *ε (x *ε (x *ε number_one)) +ε
+    ((((number_zero +ε a *ε i) +ε b *ε h) +ε c *ε g) +ε d *ε f) *ε (x *ε (x *ε (x *ε number_one))) +ε
+    (((((number_zero +ε a *ε j) +ε b *ε i) +ε c *ε h) +ε d *ε g) +ε e *ε f) *ε (x *ε (x *ε (x *ε (x *ε number_one))))) +ε
+    (number_zero +ε (b *ε j) *ε (x *ε (x *ε (x *ε (x *ε (x *ε number_one))))) +ε (c *ε i) *ε
+    (x *ε (x *ε (x *ε (x *ε (x *ε number_one))))) +ε (c *ε j) *ε (x *ε (x *ε (x *ε (x *ε (x *ε (x *ε number_one)))))) +ε (d *ε h) *ε
+    (x *ε (x *ε (x *ε (x *ε (x *ε number_one))))) +ε (d *ε i) *ε (x *ε (x *ε (x *ε (x *ε (x *ε (x *ε number_one)))))) +ε (d *ε j) *ε
+    (x *ε (x *ε (x *ε (x *ε (x *ε (x *ε (x *ε number_one))))))) +ε (e *ε g) *ε (x *ε (x *ε (x *ε (x *ε (x *ε number_one))))) +ε
+    (e *ε h) *ε (x *ε (x *ε (x *ε (x *ε (x *ε (x *ε number_one)))))) +ε (e *ε i) *ε
+    (x *ε (x *ε (x *ε (x *ε (x *ε (x *ε (x *ε number_one))))))) +ε (e *ε j) *ε
+    (x *ε (x *ε (x *ε (x *ε (x *ε (x *ε (x *ε (x *ε number_one))))))))) ≡ (number_zero +ε a *ε number_one +ε b *ε (x *ε number_one) +ε c *ε
+    (x *ε (x *ε number_one)) +ε d *ε (x *ε (x *ε (x *ε number_one))) +ε e *ε (x *ε (x *ε (x *ε (x *ε number_one))))) *ε
+    (number_zero +ε f *ε number_one +ε g *ε (x *ε number_one) +ε h *ε (x *ε (x *ε number_one)) +ε i *ε
+    (x *ε (x *ε (x *ε number_one))) +ε j *ε (x *ε (x *ε (x *ε (x *ε number_one)))))
 product_by a b c d e f g h i j x = simp number_laws
 
 pub product_of : (a b c d e f g h i j x : Value)
@@ -105,7 +122,8 @@ unfolding low_products past by_powers five
 product_of a b c d e f g h i j x = product_by a b c d e f g h i j x
 
 zeros : (p q r s t u v w x y : Value)
-    → number_zero +ε number_zero *ε p +ε number_zero *ε q +ε number_zero *ε r +ε number_zero *ε s +ε number_zero *ε t +ε number_zero *ε u +ε number_zero *ε v +ε number_zero *ε w +ε number_zero *ε x +ε number_zero *ε y ≡ number_zero
+    → number_zero +ε number_zero *ε p +ε number_zero *ε q +ε number_zero *ε r +ε number_zero *ε s +ε number_zero *ε t +ε number_zero *ε u +ε
+    number_zero *ε v +ε number_zero *ε w +ε number_zero *ε x +ε number_zero *ε y ≡ number_zero
 zeros p q r s t u v w x y = simp number_laws
 
 past_none : (a b c d e f g h i j x : Value) → b *ε j ≡ number_zero → c *ε i ≡ number_zero → c *ε j ≡ number_zero
@@ -153,7 +171,12 @@ value_of_list a b c d e = value_by_powers (a ∷ b ∷ c ∷ d ∷ e ∷ [])
 
 of_five : (a b c d e : Terms) (u v w x y : Value) → IsNumber a u → IsNumber b v → IsNumber c w → IsNumber d x → IsNumber e y
     → IsMeant (a ∷ b ∷ c ∷ d ∷ e ∷ []) (by_powers u v w x y epsilon)
-of_five a b c d e u v w x y p q r s t = record { reduced = reduced_by a b c d e p.reduced q.reduced r.reduced s.reduced t.reduced; is = value_of_list a b c d e ∙ rw (p.is, q.is, r.is, s.is, t.is) refl }
+of_five a b c d e u v w x y p q r s t =
+    record {
+      reduced = reduced_by a b c d e p.reduced q.reduced r.reduced s.reduced t.reduced;
+      is = value_of_list a b c d e
+          ∙ rw (p.is, q.is, r.is, s.is, t.is) refl;
+    }
 
 -- ---- results
 
@@ -288,10 +311,15 @@ all_of x y p q d =
     let j = value_at y 3 in
     let k = value_at y 4 in
     let low = low_products a b c e f g h i j k epsilon in
-    let none : past a b c e f g h i j k epsilon ≡ number_zero = past_none a b c e f g h i j k epsilon (pair_none x y 1 4 p q d (omega arith) (omega arith) (omega arith)) (pair_none x y 2 3 p q d (omega arith) (omega arith) (omega arith)) (pair_none x y 2 4 p q d (omega arith) (omega arith) (omega arith))
-    (pair_none x y 3 2 p q d (omega arith) (omega arith) (omega arith)) (pair_none x y 3 3 p q d (omega arith) (omega arith) (omega arith)) (pair_none x y 3 4 p q d (omega arith) (omega arith) (omega arith))
-    (pair_none x y 4 1 p q d (omega arith) (omega arith) (omega arith)) (pair_none x y 4 2 p q d (omega arith) (omega arith) (omega arith)) (pair_none x y 4 3 p q d (omega arith) (omega arith) (omega arith)) (pair_none x y 4 4 p q d (omega arith) (omega arith) (omega arith)) in
-    all_are_low (value_at x) (value_at y) epsilon ∙ sym (ap (λ v. low +ε v) none ∙ add_none low) ∙ product_of a b c e f g h i j k epsilon ∙ ap₂ (λ v w. v *ε w) (sym (value_by_powers x)) (sym (value_by_powers y))
+    let none : past a b c e f g h i j k epsilon ≡ number_zero =
+    past_none a b c e f g h i j k epsilon (pair_none x y 1 4 p q d (omega arith) (omega arith) (omega arith))
+    (pair_none x y 2 3 p q d (omega arith) (omega arith) (omega arith)) (pair_none x y 2 4 p q d (omega arith) (omega arith) (omega arith))
+    (pair_none x y 3 2 p q d (omega arith) (omega arith) (omega arith)) (pair_none x y 3 3 p q d (omega arith) (omega arith) (omega arith))
+    (pair_none x y 3 4 p q d (omega arith) (omega arith) (omega arith))
+    (pair_none x y 4 1 p q d (omega arith) (omega arith) (omega arith)) (pair_none x y 4 2 p q d (omega arith) (omega arith) (omega arith))
+    (pair_none x y 4 3 p q d (omega arith) (omega arith) (omega arith)) (pair_none x y 4 4 p q d (omega arith) (omega arith) (omega arith)) in
+    all_are_low (value_at x) (value_at y) epsilon ∙ sym (ap (λ v. low +ε v) none ∙ add_none low) ∙ product_of a b c e f g h i j k epsilon
+    ∙ ap₂ (λ v w. v *ε w) (sym (value_by_powers x)) (sym (value_by_powers y))
 
 low_degree : (b : Bool) (n : ℕ) (r : Result (List Terms) ValueFault) (z : List Terms) → nat_lt 4 n ≡ b → cond b (Err Degree) r ≡ Ok z
     → (n ≤ 4) × (r ≡ Ok z)
@@ -316,7 +344,12 @@ number_divisor false false n r z e h = (ltb-false 0 n e, (refl, h))
 
 divisor_is : (y : List Terms) → ((j : ℕ) → IsReduced (terms_at y j)) → degree y ≤ 0 → terms_value y ≡ value_at y 0
 divisor_is y q d =
-    value_by_powers y ∙ rw (none_above y 1 q (omega (arith, d)) (omega arith), none_above y 2 q (omega (arith, d)) (omega arith), none_above y 3 q (omega (arith, d)) (omega arith), none_above y 4 q (omega (arith, d)) (omega arith)) (constant_powers (value_at y 0) epsilon)
+    value_by_powers y ∙ rw (
+      none_above y 1 q (omega (arith, d)) (omega arith),
+      none_above y 2 q (omega (arith, d)) (omega arith),
+      none_above y 3 q (omega (arith, d)) (omega arith),
+      none_above y 4 q (omega (arith, d)) (omega arith),
+    ) (constant_powers (value_at y 0) epsilon)
 
 over_meant : (x y z : List Terms) (v w : Value) → IsMeant x v → IsMeant y w → over x y ≡ Ok z → IsMeant z (v /ε w)
 unfolding over
@@ -403,7 +436,8 @@ mutual
   expression_meant (Sum sign first others) x h =
       let t = bind_ok (term_value first) _ x h in
       let s = bind_ok (joined (sign_or_plus sign) zero_coefficients t.0) _ x t.1.1 in
-      terms_meant others s.0 (moved (sign_or_plus sign) number_zero (term_meaning first)) x (joined_meant (sign_or_plus sign) zero_coefficients t.0 s.0 number_zero (term_meaning first) zero_entry (term_meant first t.0 t.1.0) s.1.0) s.1.1
+      terms_meant others s.0 (moved (sign_or_plus sign) number_zero (term_meaning first)) x
+      (joined_meant (sign_or_plus sign) zero_coefficients t.0 s.0 number_zero (term_meaning first) zero_entry (term_meant first t.0 t.1.0) s.1.0) s.1.1
 
   terms_meant : (ts : MoreTerms) (s : List Terms) (v : Value) (x : List Terms) → IsMeant s v → with_terms s ts ≡ Ok x → IsMeant x (and_terms v ts)
   terms_meant NoTerm s v x m h = subst (λ l. IsMeant l v) (same_ok s x h) m
@@ -413,7 +447,8 @@ mutual
       terms_meant others l.0 (moved sign v (term_meaning term)) x (joined_meant sign s t.0 l.0 v (term_meaning term) m (term_meant term t.0 t.1.0) l.1.0) l.1.1
 
   term_meant : (t : Term) (x : List Terms) → term_value t ≡ Ok x → IsMeant x (term_meaning t)
-  term_meant (Product first others) x h = let f = bind_ok (factor_value first) _ x h in factors_meant others f.0 (factor_meaning first) x (factor_meant first f.0 f.1.0) f.1.1
+  term_meant (Product first others) x h = let f = bind_ok (factor_value first) _ x h in factors_meant others f.0 (factor_meaning first) x
+      (factor_meant first f.0 f.1.0) f.1.1
 
   factors_meant : (fs : MoreFactors) (p : List Terms) (v : Value) (x : List Terms) → IsMeant p v → with_factors p fs ≡ Ok x
       → IsMeant x (and_factors v fs)
@@ -429,7 +464,8 @@ mutual
   factors_meant (Beside factor others) p v x m h =
       let f = bind_ok (further_value factor) _ x h in
       let l = bind_ok (times p f.0) _ x f.1.1 in
-      factors_meant others l.0 (v *ε further_meaning factor) x (times_meant p f.0 l.0 v (further_meaning factor) m (further_meant factor f.0 f.1.0) l.1.0) l.1.1
+      factors_meant others l.0 (v *ε further_meaning factor) x
+      (times_meant p f.0 l.0 v (further_meaning factor) m (further_meant factor f.0 f.1.0) l.1.0) l.1.1
 
   factor_meant : (f : Factor) (x : List Terms) → factor_value f ≡ Ok x → IsMeant x (factor_meaning f)
   factor_meant (Number d) x h = decimal_meant d x h

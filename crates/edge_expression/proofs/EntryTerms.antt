@@ -1,5 +1,6 @@
 -- Terms of the texts of entries, as terms of expressions.
-use Rattle.std.proofs.Common.{◌≡◌, ℕ, zero, suc, ◌+◌, ◌^◌, ◌<◌, ◌≤◌, inl, inr, Bool, true, false, cond, eqb, List, [], ◌∷◌, ◌++◌, pos, Some, None, Ok, refl, sym, ap, ap₂, subst, ◌∙◌, append_assoc, arith, lit<}
+use Rattle.std.proofs.Common.{◌≡◌, ℕ, zero, suc, ◌+◌, ◌^◌, ◌<◌, ◌≤◌, inl, inr, Bool, true, false, cond, eqb, List, [], ◌∷◌}
+use Rattle.std.proofs.Common.{◌++◌, pos, Some, None, Ok, refl, sym, ap, ap₂, subst, ◌∙◌, append_assoc, arith, lit<}
 use Rattle.std.specs.Prelude.{codes}
 use Rattle.std.specs.Fmt.{decimal}
 use Rattle.std.proofs.lemmas.Bool.{le-leb, eqb-true, eqb-false, cases_Bool}
@@ -16,7 +17,9 @@ use Rattle.fraction.proofs.ReadBack.{digits_from, read_back}
 use Rattle.edge_expression.specs.EntryValues.{is_short, plain_entry, short_of, times, over, decimal_entry, power_value, term_value, with_factors, factor_value}
 use Rattle.fraction.specs.Decimals.{Decimal, decimal_value}
 use Rattle.fraction.proofs.DecimalValues.{decimal_found}
-use Rattle.edge_expression.specs.Expressions.{Power, Term, Product, MoreFactors, NoFactor, Times, Over, Factor, Number, Other, Further, Epsilon, Token, DecimalToken, WordToken, CaretToken, PowerToken, TimesToken, OverToken, term_tokens, factors_tokens, factor_tokens, token_text, IsSpelt}
+use Rattle.edge_expression.specs.Expressions.{Power, Term, Product, MoreFactors, NoFactor, Times, Over, Factor, Number, Other, Further, Epsilon, Token}
+use Rattle.edge_expression.specs.Expressions.{DecimalToken, WordToken, CaretToken, PowerToken, TimesToken, OverToken, term_tokens, factors_tokens}
+use Rattle.edge_expression.specs.Expressions.{factor_tokens, token_text, IsSpelt}
 use Rattle.field_core.specs.Steps.{◌>>=◌}
 use Rattle.std.specs.Ordering.{int_eq}
 use Rattle.case_model.proofs.Holding.{both}
@@ -30,7 +33,8 @@ use Rattle.edge_expression.proofs.UnitEntries.{tabled, single, power_is, times_p
 
 -- a number of at most 10^18 as a decimal
 whole : (n : ℕ) → n ≤ 10 ^ 18 → Decimal
-whole n h = let d = decimal_is_IsNumeral_wide n (omega (arith, h)) in record { body = Plain (decimal n) None; is_body = (digits_from (decimal n) d.0.1, d.0.0, tt); no_pair = λ x. x }
+whole n h = let d = decimal_is_IsNumeral_wide n (omega (arith, h)) in
+    record { body = Plain (decimal n) None; is_body = (digits_from (decimal n) d.0.1, d.0.0, tt); no_pair = λ x. x }
 
 whole_text : (n : ℕ) (h : n ≤ 10 ^ 18) → body_text (whole n h).body ≡ decimal n
 unfolding whole
@@ -112,8 +116,14 @@ over_is m d s = over_parts (over_of m d) s
 pair_worth : (m d : ℕ) (h : m ≤ 10 ^ 18) (k : d ≤ 10 ^ 18) (fs : MoreFactors) → IsShortTerms (over_of m d)
     → (factor_value (Number (whole m h)) >>= λ v. with_factors v (Over (Number (whole d k)) fs)) ≡ with_factors (plain_entry (over_of m d)) fs
 pair_worth m d h k fs s =
-    rw
-    (decimal_factor (whole m h), whole_value m h, over_next (plain_entry (number_of m)) (Number (whole d k)) fs, decimal_factor (whole d k), whole_value d k, over_is m d s) refl
+    rw (
+      decimal_factor (whole m h),
+      whole_value m h,
+      over_next (plain_entry (number_of m)) (Number (whole d k)) fs,
+      decimal_factor (whole d k),
+      whole_value d k,
+      over_is m d s,
+    ) refl
 
 ap_spelt : (ks : List Token) (m : ℕ) (h : m ≤ 10 ^ 18) (x : List ℕ) → IsSpelt ks x
     → IsSpelt (DecimalToken (whole m h) ∷ ks) ((decimal m ++ []) ++ x)
@@ -123,7 +133,8 @@ pair_spelt : (m d : ℕ) (h : m ≤ 10 ^ 18) (k : d ≤ 10 ^ 18) (ks : List Toke
     → IsSpelt (DecimalToken (whole m h) ∷ OverToken ∷ DecimalToken (whole d k) ∷ ks) ((decimal m ++ 47 ∷ decimal d) ++ x)
 pair_spelt m d h k ks x t =
     subst (IsSpelt (DecimalToken (whole m h) ∷ OverToken ∷ DecimalToken (whole d k) ∷ ks)) (sym (append_assoc (decimal m) (47 ∷ decimal d) x))
-    (whole_first m h (OverToken ∷ DecimalToken (whole d k) ∷ ks) (47 ∷ (decimal d ++ x)) (lead OverToken (DecimalToken (whole d k) ∷ ks) (47 ∷ (decimal d ++ x)) (decimal d ++ x) refl (whole_first d k ks x t)))
+    (whole_first m h (OverToken ∷ DecimalToken (whole d k) ∷ ks) (47 ∷ (decimal d ++ x))
+    (lead OverToken (DecimalToken (whole d k) ∷ ks) (47 ∷ (decimal d ++ x)) (decimal d ++ x) refl (whole_first d k ks x t)))
 
 front_by : (m d : ℕ) (b : Bool) → eqb d 1 ≡ b → (h : m ≤ 10 ^ 18) (k : d ≤ 10 ^ 18) → IsShortTerms (over_of m d)
     → IsFront (decimal m ++ cond b [] (47 ∷ decimal d)) (over_of m d)
@@ -178,15 +189,21 @@ other_spelt : (p : ℕ) (h : p ≤ 4) → eqb p 1 ≡ false → (more : List Tok
 unfolding power_of
 other_spelt p h e more x t =
     let inner : IsSpelt (PowerToken (power_of p h) ∷ more) ((48 + p) ∷ x) = lead (PowerToken (power_of p h)) more ((48 + p) ∷ x) x refl t in
-    let caret : IsSpelt (CaretToken ∷ PowerToken (power_of p h) ∷ more) (94 ∷ (48 + p) ∷ x) = lead CaretToken (PowerToken (power_of p h) ∷ more) (94 ∷ (48 + p) ∷ x) ((48 + p) ∷ x) refl inner in
-    lead WordToken (CaretToken ∷ PowerToken (power_of p h) ∷ more) (power_text p ++ x) (94 ∷ (48 + p) ∷ x) (ap (λ (y : List ℕ). y ++ x) (text_by p false e)) caret
+    let caret : IsSpelt (CaretToken ∷ PowerToken (power_of p h) ∷ more) (94 ∷ (48 + p) ∷ x) =
+    lead CaretToken (PowerToken (power_of p h) ∷ more) (94 ∷ (48 + p) ∷ x) ((48 + p) ∷ x) refl inner in
+    lead WordToken (CaretToken ∷ PowerToken (power_of p h) ∷ more) (power_text p ++ x) (94 ∷ (48 + p) ∷ x)
+    (ap (λ (y : List ℕ). y ++ x) (text_by p false e)) caret
 
 power_by : (p : ℕ) (b : Bool) → eqb p 1 ≡ b → p ≤ 4 → IsPower p
 unfolding power_of
 power_by p true e h =
     let one : p ≡ 1 = eqb-true p 1 e in
     record { further = Epsilon None; spelt = λ more x t. first_spelt p e more x t; worth = epsilon_factor None ∙ ap power_value (sym one) ∙ power_is p h }
-power_by p false e h = record { further = Epsilon (Some (power_of p h)); spelt = λ more x t. other_spelt p h e more x t; worth = epsilon_factor (Some (power_of p h)) ∙ power_is p h }
+power_by p false e h = record {
+  further = Epsilon (Some (power_of p h));
+  spelt = λ more x t. other_spelt p h e more x t;
+  worth = epsilon_factor (Some (power_of p h)) ∙ power_is p h;
+}
 
 power : (p : ℕ) → p ≤ 4 → IsPower p
 power p h = power_by p (eqb p 1) refl h
@@ -228,7 +245,8 @@ both_ones m d h =
 unit_term : (p m d : ℕ) → 0 < p → p ≤ 4 → is_one (over_of m d) ≡ true → IsTerm p (over_of m d)
 unit_term p m d some h one =
     let w = power p h in
-    let text : term_text p (over_of m d) ≡ power_text p = power_term_text p (over_of m d) some ∙ ap (λ (y : List ℕ). y ++ power_text p) (factor_by m d true one) in
+    let text : term_text p (over_of m d) ≡ power_text p = power_term_text p (over_of m d) some
+    ∙ ap (λ (y : List ℕ). y ++ power_text p) (factor_by m d true one) in
     record {
       term = Product (Other w.further) NoFactor;
       spelt = λ more x t. subst (λ y. IsSpelt (factor_tokens (Other w.further) more) (y ++ x)) (sym text) (w.spelt more x t);
@@ -250,7 +268,9 @@ product_text : (p m d : ℕ) (x : List ℕ) → 0 < p → is_one (over_of m d) �
     → term_text p (over_of m d) ++ x ≡ spelling (over_of m d) ++ 42 ∷ (power_text p ++ x)
 product_text p m d x some other =
     let t : Terms = over_of m d in
-    ap (λ (y : List ℕ). y ++ x) (power_term_text p t some ∙ ap (λ (y : List ℕ). y ++ power_text p) (factor_by m d false other) ∙ append_assoc (spelling t) (codes "*") (power_text p)) ∙ append_assoc (spelling t) (42 ∷ power_text p) x
+    ap (λ (y : List ℕ). y ++ x)
+    (power_term_text p t some ∙ ap (λ (y : List ℕ). y ++ power_text p) (factor_by m d false other)
+    ∙ append_assoc (spelling t) (codes "*") (power_text p)) ∙ append_assoc (spelling t) (42 ∷ power_text p) x
 
 product_term : (p m d : ℕ) → 0 < p → p ≤ 4 → m ≤ 10 ^ 18 → d ≤ 10 ^ 18 → IsShortTerms (over_of m d)
     → is_one (over_of m d) ≡ false → IsTerm p (over_of m d)
@@ -259,7 +279,8 @@ product_term p m d some h i k s other =
     let f = front m d i k s in
     record {
       term = Product f.first (f.before (Times (Other w.further) NoFactor));
-      spelt = λ more x t. subst (IsSpelt (factor_tokens f.first (factors_tokens (f.before (Times (Other w.further) NoFactor)) more))) (sym (product_text p m d x some other)) (f.spelt (Times (Other w.further) NoFactor) more (42 ∷ (power_text p ++ x)) (star_spelt p w more x t));
+      spelt = λ more x t. subst (IsSpelt (factor_tokens f.first (factors_tokens (f.before (Times (Other w.further) NoFactor)) more)))
+          (sym (product_text p m d x some other)) (f.spelt (Times (Other w.further) NoFactor) more (42 ∷ (power_text p ++ x)) (star_spelt p w more x t));
       worth =
           term_is f.first (f.before (Times (Other w.further) NoFactor)) ∙ f.worth (Times (Other w.further) NoFactor)
           ∙ times_worth p (over_of m d) w.further h s w.worth;

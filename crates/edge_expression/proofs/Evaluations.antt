@@ -5,7 +5,8 @@ use Rattle.std.specs.Option.{unwrap_or}
 use Rattle.edge_expression.specs.declared.polynomial.Operation.TheVariants as operations
 use Rattle.std.specs.Borrow.{Bor}
 use Rattle.field_core.specs.Terms.{Terms}
-use Rattle.edge_expression.specs.EntryValues.{zero_coefficients, joined, sign_or_plus, value, with_terms, term_value, with_factors, factor_value, decimal_entry, power_value}
+use Rattle.edge_expression.specs.EntryValues.{zero_coefficients, joined, sign_or_plus, value, with_terms, term_value, with_factors, factor_value, decimal_entry}
+use Rattle.edge_expression.specs.EntryValues.{power_value}
 use Rattle.edge_expression.specs.declared.value_fault.ValueFault.{ValueFault}
 use Rattle.edge_expression.specs.declared.polynomial.Polynomial.{Polynomial}
 use Rattle.edge_expression.specs.declared.polynomial.Operation.{Operation}
@@ -13,12 +14,16 @@ use Rattle.edge_expression.specs.declared.cursor.Head.{Head}
 use Rattle.edge_expression.specs.declared.cursor.Head.TheVariants as heads
 use Rattle.fraction.specs.Numeral.{body_text}
 use Rattle.fraction.specs.Decimals.{Decimal, decimal_value}
-use Rattle.edge_expression.specs.Expressions.{Sign, Plus, Minus, Expression, Sum, MoreTerms, NoTerm, AndTerm, Term, Product, MoreFactors, NoFactor, Number, Other, Epsilon, Parens, Token, CloseToken, expression_tokens, terms_tokens, term_tokens, factors_tokens, IsSpelt, Spells}
+use Rattle.edge_expression.specs.Expressions.{Sign, Plus, Minus, Expression, Sum, MoreTerms, NoTerm, AndTerm, Term, Product, MoreFactors, NoFactor, Number}
+use Rattle.edge_expression.specs.Expressions.{Other, Epsilon, Parens, Token, CloseToken, expression_tokens, terms_tokens, term_tokens, factors_tokens, IsSpelt}
+use Rattle.edge_expression.specs.Expressions.{Spells}
 use Rattle.field_core.specs.Steps.{◌>>=◌}
 use Rattle.edge_expression.specs.EntryView.{map_value, polynomial_terms, applied}
-use Rattle.edge_expression.specs.CursorView.{SignTaken, JointTaken, HeadTaken, PowerTaken, CloseTaken, EndsExpression, EndsTerm, Evaluates, IsHead, SumGives, ProductGives, FactorGives}
+use Rattle.edge_expression.specs.CursorView.{SignTaken, JointTaken, HeadTaken, PowerTaken, CloseTaken, EndsExpression, EndsTerm, Evaluates, IsHead, SumGives}
+use Rattle.edge_expression.specs.CursorView.{ProductGives, FactorGives}
 use Rattle.text_lines.specs.Words.{after_blanks}
-use Rattle.edge_expression.proofs.TakenTokens.{sign_operation, first_operation, first_sign, next_term, no_term, terms_end, factors_end, next_factor, no_factor, head_is, power_is, close_is}
+use Rattle.edge_expression.proofs.TakenTokens.{sign_operation, first_operation, first_sign, next_term, no_term, terms_end, factors_end, next_factor, no_factor}
+use Rattle.edge_expression.proofs.TakenTokens.{head_is, power_is, close_is}
 use Rattle.edge_expression.proofs.DecimalValues.{decimal_factor, epsilon_factor}
 
 -- ---- faults
@@ -83,7 +88,13 @@ unfolding SumGoes ProductGives value
 first_goes taken entry mid rest p s h gives a (Sum sign first others) more ends t =
     let x = first_sign taken sign first (terms_tokens others more) entry mid h t in
     let g = gives first (terms_tokens others more) (terms_end others more ends) x.1 in
-    record { others = others; spelt = g.1 refl; worth_is = sum_on (term_value first) (sign_or_plus sign) zero_coefficients (polynomial_terms p) s others g.0 (by_sign (first_operation taken) (sign_or_plus sign) zero_coefficients (polynomial_terms p) (Ok s) x.0 a) }
+    record {
+      others = others;
+      spelt = g.1 refl;
+      worth_is =
+          sum_on (term_value first) (sign_or_plus sign) zero_coefficients (polynomial_terms p) s others g.0
+          (by_sign (first_operation taken) (sign_or_plus sign) zero_coefficients (polynomial_terms p) (Ok s) x.0 a);
+    }
 
 pub first_refused : (taken : Option Operation) (entry mid rest new : List ℕ) (p : Polynomial) (f : ValueFault) (r : Result Polynomial ValueFault)
     → r ≡ Err f → SignTaken taken entry mid → ProductGives mid (Ok p) rest
@@ -92,7 +103,9 @@ unfolding SumGives ProductGives value
 first_refused taken entry mid rest new p f r is h gives a (Sum sign first others) more ends t =
     let x = first_sign taken sign first (terms_tokens others more) entry mid h t in
     let g = gives first (terms_tokens others more) (terms_end others more ends) x.1 in
-    err_gives f new more _ r is (sum_off (term_value first) (sign_or_plus sign) zero_coefficients (polynomial_terms p) others f g.0 (by_sign (first_operation taken) (sign_or_plus sign) zero_coefficients (polynomial_terms p) (Err f) x.0 a))
+    err_gives f new more _ r is
+    (sum_off (term_value first) (sign_or_plus sign) zero_coefficients (polynomial_terms p) others f g.0
+    (by_sign (first_operation taken) (sign_or_plus sign) zero_coefficients (polynomial_terms p) (Err f) x.0 a))
 
 pub first_fails : (taken : Option Operation) (entry mid rest new : List ℕ) (f : ValueFault) (r : Result Polynomial ValueFault) → r ≡ Err f
     → SignTaken taken entry mid → ProductGives mid (Err f) rest → SumGives entry r new
@@ -131,7 +144,9 @@ next_refused op entry old mid rest new sum p f r is goes h gives a e more ends t
     let l = goes e more ends t in
     let n = next_term op l.others more old mid ends h l.spelt in
     let g = gives n.term (terms_tokens n.others more) (terms_end n.others more ends) n.spelt in
-    err_gives f new more (value e) r is (l.worth_is ∙ ap (with_terms sum) n.are ∙ with_next sum n.sign n.term n.others ∙ sum_off (term_value n.term) n.sign sum (polynomial_terms p) n.others f g.0 (by_sign op n.sign sum (polynomial_terms p) (Err f) n.operation a))
+    err_gives f new more (value e) r is
+    (l.worth_is ∙ ap (with_terms sum) n.are ∙ with_next sum n.sign n.term n.others
+    ∙ sum_off (term_value n.term) n.sign sum (polynomial_terms p) n.others f g.0 (by_sign op n.sign sum (polynomial_terms p) (Err f) n.operation a))
 
 pub next_fails : (op : Operation) (entry old mid rest new : List ℕ) (sum : List Terms) (f : ValueFault) (r : Result Polynomial ValueFault)
     → r ≡ Err f → SumGoes entry old sum → SignTaken (Some op) old mid → ProductGives mid (Err f) rest → SumGives entry r new
@@ -140,7 +155,8 @@ next_fails op entry old mid rest new sum f r is goes h gives e more ends t =
     let l = goes e more ends t in
     let n = next_term op l.others more old mid ends h l.spelt in
     let g = gives n.term (terms_tokens n.others more) (terms_end n.others more ends) n.spelt in
-    err_gives f new more (value e) r is (l.worth_is ∙ ap (with_terms sum) n.are ∙ with_next sum n.sign n.term n.others ∙ sum_stop (term_value n.term) n.sign sum n.others f g.0)
+    err_gives f new more (value e) r is
+    (l.worth_is ∙ ap (with_terms sum) n.are ∙ with_next sum n.sign n.term n.others ∙ sum_stop (term_value n.term) n.sign sum n.others f g.0)
 
 with_none : (sum : List Terms) → with_terms sum NoTerm ≡ Ok sum
 unfolding with_terms
@@ -152,8 +168,10 @@ pub sum_done : (entry old new : List ℕ) (sum : Polynomial) → SumGoes entry o
 unfolding SumGoes SumGives
 sum_done entry old new sum goes h e more ends t =
     let l = goes e more ends t in
-    let n = no_term l.others more old h.0 l.spelt in
-    (sym (l.worth_is ∙ ap (with_terms (polynomial_terms sum)) n ∙ with_none (polynomial_terms sum)), λ _. subst (IsSpelt more) (sym h.1) (subst (λ ts. IsSpelt (terms_tokens ts more) old) n l.spelt))
+    let n = no_term l.others more old h.0 l.spelt in (
+      sym (l.worth_is ∙ ap (with_terms (polynomial_terms sum)) n ∙ with_none (polynomial_terms sum)),
+      λ _. subst (IsSpelt more) (sym h.1) (subst (λ ts. IsSpelt (terms_tokens ts more) old) n l.spelt),
+    )
 
 -- ---- products
 
@@ -211,9 +229,15 @@ factor_goes op head entry old mid front rest q s p goes j h gives a t more ends 
     let n = next_factor op l.others more old mid ends j l.spelt in
     let e = factors_end n.others more ends in
     let g = gives n.factor (factors_tokens n.others more) e (head_is head n.factor (factors_tokens n.others more) mid front e h n.spelt) in
-    record { others = n.others; spelt = g.1 refl; worth_is = l.worth_is ∙ n.worth q ∙ factor_on (factor_value n.factor) op q (polynomial_terms p) s n.others g.0 a }
+    record {
+      others = n.others;
+      spelt = g.1 refl;
+      worth_is = l.worth_is ∙ n.worth q
+          ∙ factor_on (factor_value n.factor) op q (polynomial_terms p) s n.others g.0 a;
+    }
 
-pub factor_refused : (op : Operation) (head : Head) (entry old mid front rest new : List ℕ) (q : List Terms) (p : Polynomial) (f : ValueFault) (r : Result Polynomial ValueFault)
+pub factor_refused : (op : Operation) (head : Head) (entry old mid front rest new : List ℕ) (q : List Terms) (p : Polynomial) (f : ValueFault)
+    (r : Result Polynomial ValueFault)
     → r ≡ Err f → ProductGoes entry old q → JointTaken (Some op) old mid → HeadTaken head (after_blanks mid) front
     → FactorGives head front (Ok p) rest → Err f ≡ applied op q (polynomial_terms p) → ProductGives entry r new
 unfolding ProductGoes ProductGives FactorGives
@@ -244,8 +268,10 @@ pub product_done : (entry old new : List ℕ) (product : Polynomial) → Product
 unfolding ProductGoes ProductGives
 product_done entry old new product goes h t more ends x =
     let l = goes t more ends x in
-    let n = no_factor l.others more old h.0 l.spelt in
-    (sym (l.worth_is ∙ ap (with_factors (polynomial_terms product)) n ∙ with_no_factor (polynomial_terms product)), λ _. subst (IsSpelt more) (sym h.1) (subst (λ fs. IsSpelt (factors_tokens fs more) old) n l.spelt))
+    let n = no_factor l.others more old h.0 l.spelt in (
+      sym (l.worth_is ∙ ap (with_factors (polynomial_terms product)) n ∙ with_no_factor (polynomial_terms product)),
+      λ _. subst (IsSpelt more) (sym h.1) (subst (λ fs. IsSpelt (factors_tokens fs more) old) n l.spelt),
+    )
 
 -- ---- factors
 
@@ -261,7 +287,8 @@ pub epsilon_gives : (n : ℕ) (old new : List ℕ) (r : Result Polynomial ValueF
     → map_value polynomial_terms r ≡ power_value n → FactorGives heads.Epsilon old r new
 unfolding FactorGives IsHead
 epsilon_gives n old new r taken v (Number d) more ends h = absurd h
-epsilon_gives n old new r taken v (Other (Epsilon power)) more ends h = let p = power_is n power more old new ends taken h in (v ∙ p.0 ∙ sym (epsilon_factor power), λ _. p.1)
+epsilon_gives n old new r taken v (Other (Epsilon power)) more ends h = let p =
+    power_is n power more old new ends taken h in (v ∙ p.0 ∙ sym (epsilon_factor power), λ _. p.1)
 epsilon_gives n old new r taken v (Other (Parens inner)) more ends h = absurd h
 
 parens_value_is : (inner : Expression) → factor_value (Other (Parens inner)) ≡ value inner

@@ -1,14 +1,19 @@
 -- All expressions that one text spells have one value.
 use mathlib.Core.Path.{fun_ext}
-use Rattle.std.proofs.Common.{◌≡◌, ℕ, ◌+◌, inl, inr, List, [], ◌∷◌, ◌++◌, length, Option, Some, None, Result, refl, sym, ap, ap₂, subst, ◌∙◌, arith}
+use Rattle.std.proofs.Common.{◌≡◌, ℕ, ◌+◌, inl, inr, List, [], ◌∷◌, ◌++◌, length, Option, Some, None, Result, refl, sym, ap, ap₂, subst}
+use Rattle.std.proofs.Common.{◌∙◌, arith}
 use Rattle.field_core.specs.Terms.{Terms}
 use Rattle.fraction.specs.Numeral.{body_text}
 use Rattle.fraction.proofs.Unique.{body_unique}
-use Rattle.edge_expression.specs.EntryValues.{zero_coefficients, joined, times, over, sign_or_plus, decimal_entry, epsilon_value, power_value, value, with_terms, term_value, with_factors, factor_value, further_value}
+use Rattle.edge_expression.specs.EntryValues.{zero_coefficients, joined, times, over, sign_or_plus, decimal_entry, epsilon_value, power_value, value}
+use Rattle.edge_expression.specs.EntryValues.{with_terms, term_value, with_factors, factor_value, further_value}
 use Rattle.fraction.specs.DecimalMachine.{decimal_length}
 use Rattle.edge_expression.specs.declared.value_fault.ValueFault.{ValueFault}
 use Rattle.fraction.specs.Decimals.{Decimal, decimal_value}
-use Rattle.edge_expression.specs.Expressions.{Power, Sign, Plus, Minus, Expression, Sum, MoreTerms, NoTerm, AndTerm, Term, Product, MoreFactors, NoFactor, Times, Over, Beside, Factor, Number, Other, Further, Epsilon, Parens, Token, DecimalToken, WordToken, CaretToken, PowerToken, SignToken, TimesToken, OverToken, OpenToken, CloseToken, sign_tokens, power_tokens, expression_tokens, terms_tokens, term_tokens, factors_tokens, factor_tokens, further_tokens, token_text, IsSpelt, Spells}
+use Rattle.edge_expression.specs.Expressions.{Power, Sign, Plus, Minus, Expression, Sum, MoreTerms, NoTerm, AndTerm, Term, Product, MoreFactors, NoFactor}
+use Rattle.edge_expression.specs.Expressions.{Times, Over, Beside, Factor, Number, Other, Further, Epsilon, Parens, Token, DecimalToken, WordToken, CaretToken}
+use Rattle.edge_expression.specs.Expressions.{PowerToken, SignToken, TimesToken, OverToken, OpenToken, CloseToken, sign_tokens, power_tokens, expression_tokens}
+use Rattle.edge_expression.specs.Expressions.{terms_tokens, term_tokens, factors_tokens, factor_tokens, further_tokens, token_text, IsSpelt, Spells}
 use Rattle.field_core.specs.Steps.{◌>>=◌}
 use Rattle.edge_expression.specs.CursorView.{EndsExpression, EndsTerm, EndsFactor}
 use Rattle.fraction.proofs.DecimalLengths.{decimal_front}
@@ -47,7 +52,8 @@ behind_one k ks js t s r =
 -- a decimal is a numeral, and one text is one numeral
 same_body : (text : List ℕ) (d e : Decimal) → text ≡ body_text d.body → text ≡ body_text e.body → d.body ≡ e.body
 same_body text d e p q =
-    body_unique text (record { sign = None; body = d.body; is_sign = tt; is_body = d.is_body; spelt = p }) (record { sign = None; body = e.body; is_sign = tt; is_body = e.is_body; spelt = q })
+    body_unique text (record { sign = None; body = d.body; is_sign = tt; is_body = d.is_body; spelt = p })
+    (record { sign = None; body = e.body; is_sign = tt; is_body = e.is_body; spelt = q })
 
 same_decimal : (d e : Decimal) → d.body ≡ e.body → decimal_value d ≡ decimal_value e
 unfolding decimal_value
@@ -62,8 +68,10 @@ decimals_one d e ks js t h k s r =
     let long =
     sym (decimal_front d f.rest (stops f.rest ks h f.spelt)) ∙ ap decimal_length (sym f.after ∙ g.after)
     ∙ decimal_front e g.rest (stops g.rest js k g.spelt) in
-    let same = fronts_same (body_text d.body) (body_text e.body) f.rest g.rest long (sym f.after ∙ g.after) in
-    (same_decimal d e (same_body (body_text d.body) d e refl same.0), record { text = f.rest; first = f.spelt; second = subst (IsSpelt js) (sym same.1) g.spelt })
+    let same = fronts_same (body_text d.body) (body_text e.body) f.rest g.rest long (sym f.after ∙ g.after) in (
+      same_decimal d e (same_body (body_text d.body) d e refl same.0),
+      record { text = f.rest; first = f.spelt; second = subst (IsSpelt js) (sym same.1) g.spelt },
+    )
 
 power_by : (p q : Power) → token_text (PowerToken p) ≡ token_text (PowerToken q) → p.power ≡ q.power
 power_by p q e = omega (arith, (heads (48 + p.power) (48 + q.power) [] [] e).0)
@@ -97,8 +105,10 @@ signs_one None None x y m n t s r = (refl, record { text = t; first = s; second 
 signs_one None (Some b) x y m n t s r = absurd (term_no_sign x m b (same_begin (term_tokens x m) (SignToken b ∷ term_tokens y n) t s r))
 signs_one (Some a) None x y m n t s r = absurd (term_no_sign y n a (same_begin (term_tokens y n) (SignToken a ∷ term_tokens x m) t r s))
 signs_one (Some Plus) (Some Plus) x y m n t s r = (refl, behind_one (SignToken Plus) (term_tokens x m) (term_tokens y n) t s r)
-signs_one (Some Plus) (Some Minus) x y m n t s r = let e : 43 ≡ 45 = same_begin (SignToken Plus ∷ term_tokens x m) (SignToken Minus ∷ term_tokens y n) t s r in absurd (omega (arith, e))
-signs_one (Some Minus) (Some Plus) x y m n t s r = let e : 45 ≡ 43 = same_begin (SignToken Minus ∷ term_tokens x m) (SignToken Plus ∷ term_tokens y n) t s r in absurd (omega (arith, e))
+signs_one (Some Plus) (Some Minus) x y m n t s r = let e : 43 ≡ 45 =
+    same_begin (SignToken Plus ∷ term_tokens x m) (SignToken Minus ∷ term_tokens y n) t s r in absurd (omega (arith, e))
+signs_one (Some Minus) (Some Plus) x y m n t s r = let e : 45 ≡ 43 =
+    same_begin (SignToken Minus ∷ term_tokens x m) (SignToken Plus ∷ term_tokens y n) t s r in absurd (omega (arith, e))
 signs_one (Some Minus) (Some Minus) x y m n t s r = (refl, behind_one (SignToken Minus) (term_tokens x m) (term_tokens y n) t s r)
 
 -- ---- trees

@@ -1,5 +1,6 @@
 -- The text of an entry, term by term.
-use Rattle.std.proofs.Common.{◌≡◌, ℕ, zero, suc, ◌+◌, ◌-◌, ◌<◌, Bool, true, false, cond, List, [], ◌++◌, refl, sym, ap, ◌∙◌, arith, append_assoc, inl, inr}
+use Rattle.std.proofs.Common.{◌≡◌, ℕ, zero, suc, ◌+◌, ◌-◌, ◌<◌, Bool, true, false, cond, List, [], ◌++◌, refl, sym, ap, ◌∙◌}
+use Rattle.std.proofs.Common.{arith, append_assoc, inl, inr}
 use Rattle.std.specs.Prelude.{codes, ◌&&◌, Result, Ok, Err, OnOk, OnErr}
 use Rattle.std.proofs.lemmas.List.{append-nil}
 use Rattle.std.proofs.lemmas.Bool.{cases_lt}
@@ -29,7 +30,8 @@ left : (p : ℕ) → p < 5 → 5 - p ≡ suc (5 - (p + 1))
 left p h = omega arith
 
 text_by : (f : Bool) (p : ℕ) (e : List Terms) → p < 5
-    → terms_text f p (5 - p) e ≡ cond (is_zero (terms_at e p)) (terms_text f (p + 1) (5 - (p + 1)) e) (joined_term f p (terms_at e p) ++ terms_text false (p + 1) (5 - (p + 1)) e)
+    → terms_text f p (5 - p) e ≡ cond (is_zero (terms_at e p)) (terms_text f (p + 1) (5 - (p + 1)) e)
+    (joined_term f p (terms_at e p) ++ terms_text false (p + 1) (5 - (p + 1)) e)
 unfolding terms_text
 text_by f p e h = ap (λ n. terms_text f p n e) (left p h) ∙ rw (next p) refl
 
@@ -91,7 +93,8 @@ unfolding are_zero_below
 zero_at zero p e h a = absurd (omega arith)
 zero_at (suc n) p e h a = elim (cases_lt p n) [
   | inl lt ↦ zero_at n p e lt (both (are_zero_below n e) (is_zero (terms_at e n)) a).left
-  | inr ge ↦ let same : p ≡ n = omega (arith, h, ge) in ap (λ k. is_zero (terms_at e k)) same ∙ (both (are_zero_below n e) (is_zero (terms_at e n)) a).right
+  | inr ge ↦ let same : p ≡ n = omega (arith, h, ge) in ap (λ k. is_zero (terms_at e k)) same
+      ∙ (both (are_zero_below n e) (is_zero (terms_at e n)) a).right
 ]
 
 some_entry : (e : List Terms) (p : ℕ) (b : Bool) → are_zero_below 5 e ≡ b → p < 5 → is_zero (terms_at e p) ≡ false

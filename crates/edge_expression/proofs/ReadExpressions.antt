@@ -1,5 +1,6 @@
 -- What the machine accepts is an expression.
-use Rattle.std.proofs.Common.{◌≡◌, ℕ, zero, suc, ◌+◌, ◌-◌, ◌≤◌, ◌⊎◌, Bool, true, false, cond, eqb, List, [], ◌∷◌, ◌++◌, Option, Some, None, refl, sym, ap, subst, ◌∙◌, inl, inr, arith}
+use Rattle.std.proofs.Common.{◌≡◌, ℕ, zero, suc, ◌+◌, ◌-◌, ◌≤◌, ◌⊎◌, Bool, true, false, cond, eqb, List, [], ◌∷◌, ◌++◌}
+use Rattle.std.proofs.Common.{Option, Some, None, refl, sym, ap, subst, ◌∙◌, inl, inr, arith}
 use Rattle.std.proofs.lemmas.Bool.{eqb-true}
 use Rattle.field_core.proofs.Longest.{accepts, accepts_then}
 use Rattle.fraction.specs.declared.decimal_machine.DecimalPart.{DecimalPart}
@@ -13,8 +14,12 @@ use Rattle.edge_expression.specs.declared.byte_machine.Letter.{Letter}
 use Rattle.edge_expression.specs.declared.byte_machine.Letter.TheVariants as letters
 use Rattle.edge_expression.specs.declared.byte_machine.State.{State}
 use Rattle.edge_expression.specs.declared.byte_machine.State.TheVariants as states
-use Rattle.edge_expression.specs.ByteMachine.{class_of, next_letter, with_letter, operand_parts, at_operand, start_or, behind_factor, behind_parts, behind_epsilon, behind_caret, next, opened, reached, step, is_whole, ends, may_end, start}
-use Rattle.edge_expression.specs.Expressions.{Power, Sign, Plus, Minus, Expression, Sum, MoreTerms, NoTerm, AndTerm, Product, MoreFactors, NoFactor, Times, Over, Beside, Factor, Number, Other, Further, Epsilon, Parens, Token, DecimalToken, WordToken, CaretToken, PowerToken, SignToken, TimesToken, OverToken, OpenToken, CloseToken, power_tokens, expression_tokens, terms_tokens, factors_tokens, factor_tokens, further_tokens, token_text, IsSpelt, Spells, IsExpression}
+use Rattle.edge_expression.specs.ByteMachine.{class_of, next_letter, with_letter, operand_parts, at_operand, start_or, behind_factor, behind_parts}
+use Rattle.edge_expression.specs.ByteMachine.{behind_epsilon, behind_caret, next, opened, reached, step, is_whole, ends, may_end, start}
+use Rattle.edge_expression.specs.Expressions.{Power, Sign, Plus, Minus, Expression, Sum, MoreTerms, NoTerm, AndTerm, Product, MoreFactors, NoFactor, Times}
+use Rattle.edge_expression.specs.Expressions.{Over, Beside, Factor, Number, Other, Further, Epsilon, Parens, Token, DecimalToken, WordToken, CaretToken}
+use Rattle.edge_expression.specs.Expressions.{PowerToken, SignToken, TimesToken, OverToken, OpenToken, CloseToken, power_tokens, expression_tokens}
+use Rattle.edge_expression.specs.Expressions.{terms_tokens, factors_tokens, factor_tokens, further_tokens, token_text, IsSpelt, Spells, IsExpression}
 use Rattle.edge_expression.proofs.ByteClasses.{IsOf, class_is}
 use Rattle.edge_expression.proofs.Machine.{reads, reads_nil, reads_cons, behind, letter_opens, part_opens}
 
@@ -70,26 +75,66 @@ record PowerAt (n : ℕ) (ks : List Token) : Type 0 where
   behind_is : BehindAt n more
 
 from_factor : (n : ℕ) (ks : List Token) → FactorAt n ks → SumAt n ks
-from_factor n ks f = let g = f.behind_is in record { expression = Sum None (Product f.factor g.factors) g.terms; more = g.rest; are = f.are ∙ ap (factor_tokens f.factor) g.are; closed = g.closed }
+from_factor n ks f = let g =
+    f.behind_is in record {
+      expression = Sum None (Product f.factor g.factors) g.terms;
+      more = g.rest;
+      are = f.are
+          ∙ ap (factor_tokens f.factor) g.are;
+      closed = g.closed;
+    }
 
 signed_factor : (sign : Sign) (n : ℕ) (ks : List Token) → FactorAt n ks → SumAt n (SignToken sign ∷ ks)
 signed_factor sign n ks f =
     let g = f.behind_is in
-    record { expression = Sum (Some sign) (Product f.factor g.factors) g.terms; more = g.rest; are = ap (λ x. SignToken sign ∷ x) (f.are ∙ ap (factor_tokens f.factor) g.are); closed = g.closed }
+    record {
+      expression = Sum (Some sign) (Product f.factor g.factors) g.terms;
+      more = g.rest;
+      are = ap (λ x. SignToken sign ∷ x) (f.are ∙ ap (factor_tokens f.factor) g.are);
+      closed = g.closed;
+    }
 
 next_term : (sign : Sign) (n : ℕ) (ks : List Token) → FactorAt n ks → BehindAt n (SignToken sign ∷ ks)
 next_term sign n ks f =
     let g = f.behind_is in
-    record { factors = NoFactor; terms = AndTerm sign (Product f.factor g.factors) g.terms; rest = g.rest; are = ap (λ x. SignToken sign ∷ x) (f.are ∙ ap (factor_tokens f.factor) g.are); closed = g.closed }
+    record {
+      factors = NoFactor;
+      terms = AndTerm sign (Product f.factor g.factors) g.terms;
+      rest = g.rest;
+      are = ap (λ x. SignToken sign ∷ x) (f.are ∙ ap (factor_tokens f.factor) g.are);
+      closed = g.closed;
+    }
 
 next_times : (n : ℕ) (ks : List Token) → FactorAt n ks → BehindAt n (TimesToken ∷ ks)
-next_times n ks f = let g = f.behind_is in record { factors = Times f.factor g.factors; terms = g.terms; rest = g.rest; are = ap (λ x. TimesToken ∷ x) (f.are ∙ ap (factor_tokens f.factor) g.are); closed = g.closed }
+next_times n ks f = let g =
+    f.behind_is in record {
+      factors = Times f.factor g.factors;
+      terms = g.terms;
+      rest = g.rest;
+      are = ap (λ x. TimesToken ∷ x) (f.are ∙ ap (factor_tokens f.factor) g.are);
+      closed = g.closed;
+    }
 
 next_over : (n : ℕ) (ks : List Token) → FactorAt n ks → BehindAt n (OverToken ∷ ks)
-next_over n ks f = let g = f.behind_is in record { factors = Over f.factor g.factors; terms = g.terms; rest = g.rest; are = ap (λ x. OverToken ∷ x) (f.are ∙ ap (factor_tokens f.factor) g.are); closed = g.closed }
+next_over n ks f = let g =
+    f.behind_is in record {
+      factors = Over f.factor g.factors;
+      terms = g.terms;
+      rest = g.rest;
+      are = ap (λ x. OverToken ∷ x) (f.are ∙ ap (factor_tokens f.factor) g.are);
+      closed = g.closed;
+    }
 
 next_beside : (n : ℕ) (ks : List Token) → FurtherAt n ks → BehindAt n ks
-next_beside n ks f = let g = f.behind_is in record { factors = Beside f.further g.factors; terms = g.terms; rest = g.rest; are = f.are ∙ ap (further_tokens f.further) g.are; closed = g.closed }
+next_beside n ks f = let g =
+    f.behind_is in record {
+      factors = Beside f.further g.factors;
+      terms = g.terms;
+      rest = g.rest;
+      are = f.are
+          ∙ ap (further_tokens f.further) g.are;
+      closed = g.closed;
+    }
 
 as_factor : (n : ℕ) (ks : List Token) → FurtherAt n ks → FactorAt n ks
 as_factor n ks f = record { factor = Other f.further; more = f.more; are = f.are; behind_is = f.behind_is }
@@ -113,7 +158,13 @@ parens_first n ks s =
 
 close_first : (n : ℕ) (ks : List Token) → BehindAt n ks → BehindAt (suc n) (CloseToken ∷ ks)
 unfolding Closed
-close_first n ks g = record { factors = NoFactor; terms = NoTerm; rest = CloseToken ∷ ks; are = refl; closed = (g.factors, g.terms, g.rest, ap (λ x. CloseToken ∷ x) g.are, g.closed) }
+close_first n ks g = record {
+  factors = NoFactor;
+  terms = NoTerm;
+  rest = CloseToken ∷ ks;
+  are = refl;
+  closed = (g.factors, g.terms, g.rest, ap (λ x. CloseToken ∷ x) g.are, g.closed);
+}
 
 caret_first : (n : ℕ) (ks : List Token) → PowerAt n ks → EpsilonAt n (CaretToken ∷ ks)
 caret_first n ks p = record { power = Some p.power; more = p.more; are = ap (λ x. CaretToken ∷ x) p.are; behind_is = p.behind_is }
@@ -166,7 +217,8 @@ changed P Q t f x = record { tokens = x.tokens; spelt = x.spelt; is = f x.tokens
 
 spelt_blank : (ks : List Token) (b : ℕ) (t : List ℕ) → (b ≡ 32) ⊎ (b ≡ 9) → IsSpelt ks t → IsSpelt ks (b ∷ t)
 spelt_blank [] b t h s = (h, s)
-spelt_blank (k ∷ ks) b t h s = record { blanks = b ∷ s.blanks; rest = s.rest; are_blanks = (h, s.are_blanks); spelt = ap (λ x. b ∷ x) s.spelt; is_rest = s.is_rest }
+spelt_blank (k ∷ ks) b t h s =
+    record { blanks = b ∷ s.blanks; rest = s.rest; are_blanks = (h, s.are_blanks); spelt = ap (λ x. b ∷ x) s.spelt; is_rest = s.is_rest }
 
 behind_blank : (P : List Token → Type 0) (b : ℕ) (t : List ℕ) → (b ≡ 32) ⊎ (b ≡ 9) → TextOf P t → TextOf P (b ∷ t)
 behind_blank P b t h x = record { tokens = x.tokens; spelt = spelt_blank x.tokens b t h x.spelt; is = x.is }
@@ -174,7 +226,8 @@ behind_blank P b t h x = record { tokens = x.tokens; spelt = spelt_blank x.token
 -- a token, and then such a text
 token_first : (P Q : List Token → Type 0) (k : Token) (text t : List ℕ) → text ≡ token_text k ++ t
     → ((ks : List Token) → P ks → Q (k ∷ ks)) → TextOf P t → TextOf Q text
-token_first P Q k text t e f x = record { tokens = k ∷ x.tokens; spelt = record { blanks = []; rest = t; are_blanks = tt; spelt = e; is_rest = x.spelt }; is = f x.tokens x.is }
+token_first P Q k text t e f x =
+    record { tokens = k ∷ x.tokens; spelt = record { blanks = []; rest = t; are_blanks = tt; spelt = e; is_rest = x.spelt }; is = f x.tokens x.is }
 
 byte_first : (P Q : List Token → Type 0) (k : Token) (b c : ℕ) (t : List ℕ) → b ≡ c → token_text k ≡ c ∷ []
     → ((ks : List Token) → P ks → Q (k ∷ ks)) → TextOf P t → TextOf Q (b ∷ t)
@@ -203,7 +256,8 @@ decimal_first : (n b : ℕ) (t : List ℕ) (p : DecimalPart) → decimal_byte pa
 decimal_first n b t p e x =
     let taken : takes (b ∷ x.front) parts.Start ≡ true = takes_cons b x.front parts.Start ∙ ap (accepts_then (takes x.front)) e ∙ x.taken in
     let d = is_decimal_text (b ∷ x.front) taken in
-    token_first (BehindAt n) (FactorAt n) (DecimalToken d.decimal) (b ∷ t) x.rest (ap (λ y. b ∷ y) x.spelt ∙ ap (λ (y : List ℕ). y ++ x.rest) d.spelt) (number_first d.decimal n) x.behind_is
+    token_first (BehindAt n) (FactorAt n) (DecimalToken d.decimal) (b ∷ t) x.rest (ap (λ y. b ∷ y) x.spelt ∙ ap (λ (y : List ℕ). y ++ x.rest) d.spelt)
+    (number_first d.decimal n) x.behind_is
 
 word_first : (n b : ℕ) (t : List ℕ) → b ≡ 92 → WordOf letters.Backslash n t → TextOf (FurtherAt n) (b ∷ t)
 word_first n b t e x =
@@ -280,13 +334,22 @@ part_by : (p : DecimalPart) (n b : ℕ) (t : List ℕ) (o : Option DecimalPart) 
 unfolding After
 part_by p n b t (Some q) e f g r h =
     let x = part_goes n b t p q f r h in
-    record { front = b ∷ x.front; rest = x.rest; spelt = ap (λ y. b ∷ y) x.spelt; taken = takes_cons b x.front p ∙ ap (accepts_then (takes x.front)) f ∙ x.taken; behind_is = x.behind_is }
-part_by p n b t None true f g r h = record { front = []; rest = b ∷ t; spelt = refl; taken = takes_nil p ∙ g; behind_is = factor_by n b t (class_of b) (class_is b) r h }
+    record {
+      front = b ∷ x.front;
+      rest = x.rest;
+      spelt = ap (λ y. b ∷ y) x.spelt;
+      taken = takes_cons b x.front p ∙ ap (accepts_then (takes x.front)) f
+          ∙ x.taken;
+      behind_is = x.behind_is;
+    }
+part_by p n b t None true f g r h =
+    record { front = []; rest = b ∷ t; spelt = refl; taken = takes_nil p ∙ g; behind_is = factor_by n b t (class_of b) (class_is b) r h }
 part_by p n b t None false f g r h = absurd cc
 
 letter_by : (l : Letter) (n : ℕ) (t : List ℕ) → All t → reads t (with_letter l) n ≡ true → WordOf l n (next_letter l ∷ t)
 unfolding All Means
-letter_by letters.Backslash n t r h = let x = r (states.Word letters.E) n h in record { rest = x.rest; spelt = ap (λ y. 101 ∷ y) x.spelt; behind_is = x.behind_is }
+letter_by letters.Backslash n t r h = let x = r (states.Word letters.E) n h in
+    record { rest = x.rest; spelt = ap (λ y. 101 ∷ y) x.spelt; behind_is = x.behind_is }
 letter_by letters.E n t r h = let x = r (states.Word letters.P) n h in record { rest = x.rest; spelt = ap (λ y. 112 ∷ y) x.spelt; behind_is = x.behind_is }
 letter_by letters.P n t r h = let x = r (states.Word letters.S) n h in record { rest = x.rest; spelt = ap (λ y. 115 ∷ y) x.spelt; behind_is = x.behind_is }
 letter_by letters.S n t r h = let x = r (states.Word letters.I) n h in record { rest = x.rest; spelt = ap (λ y. 105 ∷ y) x.spelt; behind_is = x.behind_is }
@@ -300,7 +363,8 @@ unfolding After
 word_by l n b t true e r h =
     let is : b ≡ next_letter l = eqb-true b (next_letter l) e in
     let opens : opened (class_of b) n ≡ Some n = ap (λ c. opened (class_of c) n) is ∙ letter_opens l n in
-    subst (λ c. WordOf l n (c ∷ t)) (sym is) (letter_by l n t r (sym (ap (λ m. accepts_then (accepts step may_end t) (reached (Some (with_letter l)) m)) opens) ∙ h))
+    subst (λ c. WordOf l n (c ∷ t)) (sym is)
+    (letter_by l n t r (sym (ap (λ m. accepts_then (accepts step may_end t) (reached (Some (with_letter l)) m)) opens) ∙ h))
 word_by l n b t false e r h = absurd cc
 
 byte_by : (s : State) (n b : ℕ) (t : List ℕ) → All t → After t (next s b) (opened (class_of b) n) → Means s n (b ∷ t)
@@ -341,7 +405,10 @@ means (b ∷ t) s n h = byte_by s n b t (means t) (sym (reads_cons b t s n) ∙ 
 
 from_sum : (t : List ℕ) → TextOf (SumAt 0) t → IsExpression t
 unfolding Closed Spells
-from_sum t x = record { expression = x.is.expression; spells = subst (λ ks. IsSpelt ks t) (x.is.are ∙ ap (expression_tokens x.is.expression) x.is.closed) x.spelt }
+from_sum t x = record {
+  expression = x.is.expression;
+  spells = subst (λ ks. IsSpelt ks t) (x.is.are ∙ ap (expression_tokens x.is.expression) x.is.closed) x.spelt;
+}
 
 pub is_expression : (t : List ℕ) → accepts step may_end t start ≡ true → IsExpression t
 unfolding All Means

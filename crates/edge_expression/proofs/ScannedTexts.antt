@@ -1,5 +1,6 @@
 -- A scan of an edge expression.
-use Rattle.std.proofs.Common.{◌≡◌, ◌≢◌, ℕ, zero, suc, ◌+◌, ◌<◌, ◌≤◌, Bool, true, false, cond, ltb, inl, inr, take, List, [], ◌∷◌, length, get_or, drop, Option, Some, None, Result, Ok, Err, refl, sym, ap, subst, ◌∙◌, arith}
+use Rattle.std.proofs.Common.{◌≡◌, ◌≢◌, ℕ, zero, suc, ◌+◌, ◌<◌, ◌≤◌, Bool, true, false, cond, ltb, inl, inr, take, List, []}
+use Rattle.std.proofs.Common.{◌∷◌, length, get_or, drop, Option, Some, None, Result, Ok, Err, refl, sym, ap, subst, ◌∙◌, arith}
 use Rattle.std.specs.Prelude.{nat_lt, if◌then◌else◌}
 use Rattle.std.proofs.lemmas.Bool.{lt-ltb, le-ltb, ltb-true, ltb-false, cases_Bool}
 use Rattle.std.proofs.lemmas.Bool.Decides.{nat_tests}
@@ -100,7 +101,8 @@ right_by : (d b n : ℕ) (bs : List ℕ) (deep : Bool) (u : Reached) → ltb 32 
 unfolding AllRight Deep
 right_by d b n bs true u t e h = (0, omega arith, omega (arith, ltb-true 32 u.depth t, e))
 right_by d b n bs false u t e h =
-    right_more d b n (count step bs u) bs (accepts step may_end bs u) (scanned (n + 1) bs u) (omega (arith, ltb-false 32 u.depth t, e)) (subst (λ x. AllRight x (n + 1) bs (count step bs u) (accepts step may_end bs u) (scanned (n + 1) bs u)) e h)
+    right_more d b n (count step bs u) bs (accepts step may_end bs u) (scanned (n + 1) bs u) (omega (arith, ltb-false 32 u.depth t, e))
+    (subst (λ x. AllRight x (n + 1) bs (count step bs u) (accepts step may_end bs u) (scanned (n + 1) bs u)) e h)
 
 right_step : (d b n : ℕ) (bs : List ℕ) (o : Option Reached) → ((u : Reached) → o ≡ Some u → u.depth ≡ open_with b d)
     → ((u : Reached) → AllRight u.depth (n + 1) bs (count step bs u) (accepts step may_end bs u) (scanned (n + 1) bs u))

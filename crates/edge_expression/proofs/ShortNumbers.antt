@@ -1,5 +1,6 @@
 -- The numbers that short fractions are.
-use Rattle.std.proofs.Common.{◌≡◌, ◌≢◌, zero, suc, ◌^◌, Bool, true, false, cond, nat_le, ℤ, pos, negsuc, ◌+ℤ◌, ◌-ℤ◌, ◌*ℤ◌, ◌<ℤ◌, unsigned_abs, Ok, Err, refl, sym, ap, subst, ◌∙◌, arith}
+use Rattle.std.proofs.Common.{◌≡◌, ◌≢◌, zero, suc, ◌^◌, Bool, true, false, cond, nat_le, ℤ, pos, negsuc, ◌+ℤ◌, ◌-ℤ◌, ◌*ℤ◌}
+use Rattle.std.proofs.Common.{◌<ℤ◌, unsigned_abs, Ok, Err, refl, sym, ap, subst, ◌∙◌, arith}
 use Rattle.std.specs.declared.cmp.Ordering.TheVariants.{Equal}
 use Rattle.std.proofs.lemmas.Int.{ints}
 use Rattle.std.proofs.lemmas.Bool.Decides.{nat_tests}
@@ -39,7 +40,8 @@ short_parts t s =
     record { num = grind (arith, nat_tests, b.left); den = grind (arith, nat_tests, b.right) }
 
 short_reduced : (t : Terms) → AreLowest t → is_short t ≡ true → IsReduced t
-short_reduced t low s = let p = short_parts t s in record { positive = low.positive; num_size = omega (arith, p.num); den_size = omega (arith, p.den); reduced = low.apart }
+short_reduced t low s = let p = short_parts t s in
+    record { positive = low.positive; num_size = omega (arith, p.num); den_size = omega (arith, p.den); reduced = low.apart }
 
 made_by : (b : Bool) (t l : Terms) → cond b (Ok l) (Err Part) ≡ Ok t → (b ≡ true) × (l ≡ t)
 made_by true t l h = (refl, (cc))
@@ -62,11 +64,13 @@ as_value t v w e h = record { reduced = h.reduced; is = h.is ∙ e }
 
 pub sum_number : (x y t : Terms) → pos 0 <ℤ x.den → pos 0 <ℤ y.den → sum x y ≡ Ok t → IsNumber t (number x +ε number y)
 sum_number x y t h k e =
-    as_value t _ _ (sym (fraction-add x.num x.den y.num y.den (positive_nonzero x.den h) (positive_nonzero y.den k))) (short_number _ _ t (product_some x.den y.den h k) e)
+    as_value t _ _ (sym (fraction-add x.num x.den y.num y.den (positive_nonzero x.den h) (positive_nonzero y.den k)))
+    (short_number _ _ t (product_some x.den y.den h k) e)
 
 pub product_number : (x y t : Terms) → pos 0 <ℤ x.den → pos 0 <ℤ y.den → product x y ≡ Ok t → IsNumber t (number x *ε number y)
 product_number x y t h k e =
-    as_value t _ _ (sym (fraction-multiply x.num x.den y.num y.den (positive_nonzero x.den h) (positive_nonzero y.den k))) (short_number _ _ t (product_some x.den y.den h k) e)
+    as_value t _ _ (sym (fraction-multiply x.num x.den y.num y.den (positive_nonzero x.den h) (positive_nonzero y.den k)))
+    (short_number _ _ t (product_some x.den y.den h k) e)
 
 back : (a b : ℤ) → (a -ℤ b) +ℤ b ≡ a
 back a b = omega (arith, ints)
@@ -82,7 +86,9 @@ difference_number x y t h k e =
     let c = x.num *ℤ y.den -ℤ y.num *ℤ x.den in
     let some = product_some x.den y.den h k in
     let whole : fraction c (x.den *ℤ y.den) +ε number y ≡ number x = fraction-add c (x.den *ℤ y.den) y.num y.den some (positive_nonzero y.den k)
-    ∙ fraction-equal (c *ℤ y.den +ℤ y.num *ℤ (x.den *ℤ y.den)) ((x.den *ℤ y.den) *ℤ y.den) x.num x.den (product_nonzero (x.den *ℤ y.den) y.den some (positive_nonzero y.den k)) (positive_nonzero x.den h) (difference_cross x.num x.den y.num y.den c (back (x.num *ℤ y.den) (y.num *ℤ x.den))) in
+    ∙ fraction-equal (c *ℤ y.den +ℤ y.num *ℤ (x.den *ℤ y.den)) ((x.den *ℤ y.den) *ℤ y.den) x.num x.den
+    (product_nonzero (x.den *ℤ y.den) y.den some (positive_nonzero y.den k)) (positive_nonzero x.den h)
+    (difference_cross x.num x.den y.num y.den c (back (x.num *ℤ y.den) (y.num *ℤ x.den))) in
     as_value t _ _ (sym ((subtract_equal (number x) (number y) (fraction c (x.den *ℤ y.den))).1 (sym whole))) (short_number _ _ t some e)
 
 sign_some : (z : ℤ) → z ≢ pos 0 → int_sign z ≡ Equal → ⊥
@@ -101,5 +107,6 @@ quotient_number x y t h k some e =
     let z = fraction (x.num *ℤ y.den) (x.den *ℤ y.num) in
     let cross : ((x.num *ℤ y.den) *ℤ y.num) *ℤ x.den ≡ x.num *ℤ ((x.den *ℤ y.num) *ℤ y.den) = simp ring in
     let whole : z *ε number y ≡ number x = fraction-multiply (x.num *ℤ y.den) (x.den *ℤ y.num) y.num y.den under (positive_nonzero y.den k)
-    ∙ fraction-equal ((x.num *ℤ y.den) *ℤ y.num) ((x.den *ℤ y.num) *ℤ y.den) x.num x.den (product_nonzero (x.den *ℤ y.num) y.den under (positive_nonzero y.den k)) (positive_nonzero x.den h) cross in
+    ∙ fraction-equal ((x.num *ℤ y.den) *ℤ y.num) ((x.den *ℤ y.num) *ℤ y.den) x.num x.den
+    (product_nonzero (x.den *ℤ y.num) y.den under (positive_nonzero y.den k)) (positive_nonzero x.den h) cross in
     as_value t _ _ (sym (divide_unique (number x) (number y) z (number_some y.num y.den some (positive_nonzero y.den k)) whole)) (short_number _ _ t under e)

@@ -1,5 +1,6 @@
 -- Operations on fractions with short parts are never too wide, and give the lowest terms.
-use Rattle.std.proofs.Common.{◌≡◌, ◌≢◌, zero, suc, ◌^◌, true, false, ℤ, pos, negsuc, neg_ℤ, ◌+ℤ◌, ◌-ℤ◌, ◌*ℤ◌, Option, Some, Result, Ok, Err, refl, sym, ap, ◌∙◌, arith, lit<}
+use Rattle.std.proofs.Common.{◌≡◌, ◌≢◌, zero, suc, ◌^◌, true, false, ℤ, pos, negsuc, neg_ℤ, ◌+ℤ◌, ◌-ℤ◌, ◌*ℤ◌, Option}
+use Rattle.std.proofs.Common.{Some, Result, Ok, Err, refl, sym, ap, ◌∙◌, arith, lit<}
 use Rattle.std.specs.Option.{option_map}
 use Rattle.std.specs.Ordering.{int_eq}
 use Rattle.std.proofs.lemmas.Bool.Decides.{Decides-int_eq}
@@ -62,7 +63,8 @@ difference_lowest : (x y : Terms) → IsShort x → IsShort y
     → written_add x (opposite y) ≡ Some (lowest_terms (x.num *ℤ y.den -ℤ y.num *ℤ x.den) (x.den *ℤ y.den))
 unfolding opposite
 difference_lowest x y p q =
-    sum_lowest x (opposite y) p (opposite_short y q) ∙ ap (λ n. Some (lowest_terms n (x.den *ℤ y.den))) (ap (λ z. x.num *ℤ y.den +ℤ z) (int_negate_multiply y.num x.den) ∙ minus (x.num *ℤ y.den) (y.num *ℤ x.den))
+    sum_lowest x (opposite y) p (opposite_short y q) ∙ ap (λ n. Some (lowest_terms n (x.den *ℤ y.den)))
+    (ap (λ z. x.num *ℤ y.den +ℤ z) (int_negate_multiply y.num x.den) ∙ minus (x.num *ℤ y.den) (y.num *ℤ x.den))
 
 inverse_short : (y : Terms) → y.num ≢ pos 0 → IsShort y → IsShort (inverse y)
 inverse_short y some q = record { reduced = inverse_reduced y q.reduced some; parts = inverse_within (10 ^ 18) y q.parts }
@@ -84,13 +86,16 @@ quotient_lowest x y some p q =
     let i = inverse_short y some q in
     let w = operation_within Mul x (inverse y) (10 ^ 18) (10 ^ 18) p.parts i.parts (lit< tt) in
     let m = mul_says x (inverse y) w.0 p.reduced i.reduced w.1 in
-    w.1 ∙ ap Some (sym (lowest_any w.0 (x.num *ℤ y.den) (x.den *ℤ y.num) m.reduced (product_nonzero x.den y.num (positive_nonzero x.den p.reduced.positive) some) (over_inverse w.0 x.num x.den y.num y.den m.same)))
+    w.1 ∙ ap Some (sym (lowest_any w.0 (x.num *ℤ y.den) (x.den *ℤ y.num) m.reduced
+    (product_nonzero x.den y.num (positive_nonzero x.den p.reduced.positive) some) (over_inverse w.0 x.num x.den y.num y.den m.same)))
 
 -- ---- what the operations of the program answer
 
 answered : (op : Op) (r : Result Ratio TooWide) (w : Option Terms) (t : Terms) → ok_map fraction_parts r ≡ or_wide op (option_map single w)
     → w ≡ Some t → made_short (ok_map terms r) ≡ short_of t
-answered op (Ok x) w t e h = let g : fraction_parts x ≡ single t = (let k : Path (Result _ TooWide) (Ok (fraction_parts x)) (Ok (single t)) = e ∙ ap (λ v. or_wide op (option_map single v)) h in cc) in ap (λ p. short_of (pair_of p)) g
+answered op (Ok x) w t e h = let g : fraction_parts x ≡ single t =
+    (let k : Path (Result _ TooWide) (Ok (fraction_parts x)) (Ok (single t)) = e ∙ ap (λ v. or_wide op (option_map single v)) h in cc) in ap
+    (λ p. short_of (pair_of p)) g
 answered op (Err f) w t e h = let k : Path (Result _ TooWide) (Err f) (Ok (single t)) = e ∙ ap (λ v. or_wide op (option_map single v)) h in absurd (cc)
 
 pub sum_made : (x y : Ratio) (r : Result Ratio TooWide) → is_short (terms x) ≡ true → is_short (terms y) ≡ true

@@ -43,4 +43,5 @@ pub zero_plus : (xs : List Short) → joined Plus zero_coefficients (map short_t
 unfolding joined
 zero_plus xs =
     let x = map short_terms xs in
-    coefficients_are (λ k. sum (terms_at zero_coefficients k) (terms_at x k)) (terms_at x) (λ k l. ap (λ z. sum z (terms_at x k)) (zero_at k) ∙ sum_zero_left (terms_at x k) (each_short xs k))
+    coefficients_are (λ k. sum (terms_at zero_coefficients k) (terms_at x k)) (terms_at x)
+    (λ k l. ap (λ z. sum z (terms_at x k)) (zero_at k) ∙ sum_zero_left (terms_at x k) (each_short xs k))

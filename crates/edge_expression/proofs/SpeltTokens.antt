@@ -1,5 +1,6 @@
 -- The bytes with which spelt tokens begin.
-use Rattle.std.proofs.Common.{◌≡◌, ◌≢◌, ℕ, suc, ◌+◌, ◌≤◌, ◌⊎◌, true, false, inl, inr, List, [], ◌∷◌, ◌++◌, length, drop, None, refl, sym, ap, subst, ◌∙◌, arith, length-drop}
+use Rattle.std.proofs.Common.{◌≡◌, ◌≢◌, ℕ, suc, ◌+◌, ◌≤◌, ◌⊎◌, true, false, inl, inr, List, [], ◌∷◌, ◌++◌, length, drop}
+use Rattle.std.proofs.Common.{None, refl, sym, ap, subst, ◌∙◌, arith, length-drop}
 use Rattle.std.specs.List.{prefix_len}
 use Rattle.std.specs.Prelude.{◌==◌, ◌||◌, if◌then◌else◌}
 use Rattle.std.specs.Char.{is_ascii_digit}
@@ -19,7 +20,9 @@ use Rattle.fraction.proofs.DecimalTexts.{takes, takes_nil, takes_cons, decimal_t
 use Rattle.fraction.proofs.DecimalLengths.{Stops}
 use Rattle.edge_expression.specs.declared.byte_machine.State.TheVariants as states
 use Rattle.edge_expression.specs.ByteMachine.{class_of, behind_factor}
-use Rattle.edge_expression.specs.Expressions.{Sign, Plus, Minus, Term, Product, Factor, Number, Other, Further, Epsilon, Parens, Token, DecimalToken, WordToken, CaretToken, PowerToken, SignToken, TimesToken, OverToken, OpenToken, CloseToken, term_tokens, factors_tokens, factor_tokens, further_tokens, sign_byte, token_text, AreBlanks, IsSpelt}
+use Rattle.edge_expression.specs.Expressions.{Sign, Plus, Minus, Term, Product, Factor, Number, Other, Further, Epsilon, Parens, Token, DecimalToken, WordToken}
+use Rattle.edge_expression.specs.Expressions.{CaretToken, PowerToken, SignToken, TimesToken, OverToken, OpenToken, CloseToken, term_tokens, factors_tokens}
+use Rattle.edge_expression.specs.Expressions.{factor_tokens, further_tokens, sign_byte, token_text, AreBlanks, IsSpelt}
 use Rattle.edge_expression.specs.CursorView.{EndsExpression, EndsTerm, EndsFactor}
 use Rattle.field_core.proofs.Heads.{heads}
 use Rattle.edge_expression.proofs.ByteClasses.{class_blank}

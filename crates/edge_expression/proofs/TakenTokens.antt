@@ -1,5 +1,6 @@
 -- What a cursor takes of spelt tokens.
-use Rattle.std.proofs.Common.{◌≡◌, ◌≢◌, ℕ, ◌+◌, ◌%◌, ◌<◌, ◌⊎◌, inl, inr, List, [], ◌∷◌, ◌++◌, length, drop, take, min, Option, Some, None, refl, sym, ap, subst, ◌∙◌, arith, length-append}
+use Rattle.std.proofs.Common.{◌≡◌, ◌≢◌, ℕ, ◌+◌, ◌%◌, ◌<◌, ◌⊎◌, inl, inr, List, [], ◌∷◌, ◌++◌, length, drop, take, min}
+use Rattle.std.proofs.Common.{Option, Some, None, refl, sym, ap, subst, ◌∙◌, arith, length-append}
 use Rattle.std.proofs.lemmas.List.{take_at, drop_at}
 use Rattle.field_core.specs.Terms.{Terms}
 use Rattle.fraction.specs.Numeral.{body_text}
@@ -10,14 +11,19 @@ use Rattle.edge_expression.specs.declared.polynomial.Operation.TheVariants as op
 use Rattle.edge_expression.specs.declared.cursor.Head.{Head}
 use Rattle.edge_expression.specs.declared.cursor.Head.TheVariants as heads
 use Rattle.fraction.specs.Decimals.{Decimal}
-use Rattle.edge_expression.specs.Expressions.{Power, Sign, Plus, Minus, MoreTerms, NoTerm, AndTerm, Term, MoreFactors, NoFactor, Times, Over, Beside, Factor, Number, Other, Further, Epsilon, Parens, Token, DecimalToken, WordToken, CaretToken, PowerToken, SignToken, TimesToken, OverToken, OpenToken, CloseToken, sign_tokens, power_tokens, expression_tokens, terms_tokens, term_tokens, factors_tokens, factor_tokens, further_tokens, sign_byte, token_text, IsSpelt}
+use Rattle.edge_expression.specs.Expressions.{Power, Sign, Plus, Minus, MoreTerms, NoTerm, AndTerm, Term, MoreFactors, NoFactor, Times, Over, Beside, Factor}
+use Rattle.edge_expression.specs.Expressions.{Number, Other, Further, Epsilon, Parens, Token, DecimalToken, WordToken, CaretToken, PowerToken, SignToken}
+use Rattle.edge_expression.specs.Expressions.{TimesToken, OverToken, OpenToken, CloseToken, sign_tokens, power_tokens, expression_tokens, terms_tokens}
+use Rattle.edge_expression.specs.Expressions.{term_tokens, factors_tokens, factor_tokens, further_tokens, sign_byte, token_text, IsSpelt}
 use Rattle.field_core.specs.Steps.{◌>>=◌}
 use Rattle.edge_expression.specs.EntryValues.{sign_or_plus, power_value, epsilon_value, with_factors, factor_value}
 use Rattle.edge_expression.specs.EntryView.{applied}
-use Rattle.edge_expression.specs.CursorView.{IsOtherThan, NoSign, SignTaken, MayBeBeside, NoJoint, JointTaken, BeginsWord, HeadTaken, PowerTaken, CloseTaken, EndsExpression, EndsTerm, EndsFactor, IsHead}
+use Rattle.edge_expression.specs.CursorView.{IsOtherThan, NoSign, SignTaken, MayBeBeside, NoJoint, JointTaken, BeginsWord, HeadTaken, PowerTaken, CloseTaken}
+use Rattle.edge_expression.specs.CursorView.{EndsExpression, EndsTerm, EndsFactor, IsHead}
 use Rattle.fraction.proofs.DecimalLengths.{decimal_front}
 use Rattle.field_core.proofs.Heads.{heads as heads_same}
-use Rattle.edge_expression.proofs.SpeltTokens.{front, stops, mark, begin, byte_mark, text_mark, text_begins, begins, no_sign, IsJoint, no_joint, no_caret, term_no_sign, not_further}
+use Rattle.edge_expression.proofs.SpeltTokens.{front, stops, mark, begin, byte_mark, text_mark, text_begins, begins, no_sign, IsJoint, no_joint, no_caret}
+use Rattle.edge_expression.proofs.SpeltTokens.{term_no_sign, not_further}
 
 -- a token of one byte that was taken
 one_taken : (k : Token) (ks : List Token) (t new : List ℕ) (b c : ℕ) → token_text k ≡ c ∷ [] → IsSpelt (k ∷ ks) t
@@ -241,7 +247,8 @@ word_begins : (ks : List Token) (t : List ℕ) → BeginsWord (after_blanks t) �
 word_begins ks t h s = sym (text_begins ks t s) ∙ word_mark (after_blanks t) h
 
 word_drop : (x : List ℕ) → drop (min (length (token_text WordToken ++ x)) 8) (token_text WordToken ++ x) ≡ x
-word_drop x = let n : min (length (token_text WordToken ++ x)) 8 ≡ 8 = omega (arith, length-append (token_text WordToken) x) in ap (λ k. drop k (token_text WordToken ++ x)) n
+word_drop x = let n : min (length (token_text WordToken ++ x)) 8 ≡ 8 =
+    omega (arith, length-append (token_text WordToken) x) in ap (λ k. drop k (token_text WordToken ++ x)) n
 
 open_head : (f : Factor) (more : List Token) (old new : List ℕ) → after_blanks old ≡ 40 ∷ new → IsSpelt (factor_tokens f more) old
     → IsHead heads.Open new f more
@@ -266,7 +273,8 @@ decimal_head : (f : Factor) (more : List Token) (old new text : List ℕ) → En
     × (f ≡ Number d) × (text ≡ body_text d.body) × IsSpelt more new
 decimal_head (Number d) more old new text e h i t n s =
     let f = front (DecimalToken d) more old s in
-    let long : decimal_length (after_blanks old) ≡ length (body_text d.body) = ap decimal_length f.after ∙ decimal_front d f.rest (stops f.rest more e f.spelt) in (
+    let long : decimal_length (after_blanks old) ≡ length (body_text d.body) = ap decimal_length f.after
+    ∙ decimal_front d f.rest (stops f.rest more e f.spelt) in (
       d,
       refl,
       t ∙ ap (take (decimal_length (after_blanks old))) f.after

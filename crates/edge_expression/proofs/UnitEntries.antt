@@ -1,5 +1,6 @@
 -- Operations of entries with a number, a power of epsilon or a single coefficient.
-use Rattle.std.proofs.Common.{◌≡◌, ℕ, zero, suc, ◌+◌, ◌-◌, ◌<◌, ◌≤◌, ◌⊎◌, inl, inr, Bool, true, false, cond, eqb, List, [], ◌∷◌, ℤ, pos, neg_ℤ, ◌<ℤ◌, Result, Ok, refl, ap, ap₂, ◌∙◌, arith}
+use Rattle.std.proofs.Common.{◌≡◌, ℕ, zero, suc, ◌+◌, ◌-◌, ◌<◌, ◌≤◌, ◌⊎◌, inl, inr, Bool, true, false, cond, eqb, List, []}
+use Rattle.std.proofs.Common.{◌∷◌, ℤ, pos, neg_ℤ, ◌<ℤ◌, Result, Ok, refl, ap, ap₂, ◌∙◌, arith}
 use Rattle.std.specs.Prelude.{nat_lt, ◌==◌, if◌then◌else◌}
 use Rattle.std.proofs.lemmas.Bool.{le-ltb, cases_Bool, eqb-true, eqb-false}
 use Rattle.std.proofs.lemmas.Bool.Decides.{nat_tests, Decides-int_eq}
@@ -11,8 +12,11 @@ use Rattle.case_model.specs.Sums.{terms_at, zero_terms}
 use Rattle.edge_expression.specs.declared.value_fault.ValueFault.{ValueFault}
 use Rattle.edge_expression.specs.Expressions.{Plus, Minus}
 use Rattle.field_core.specs.Steps.{◌>>=◌}
-use Rattle.edge_expression.specs.EntryValues.{plain_entry, sum, difference, product, quotient, coefficients, joined, degree_within, degree, product_sum, times, over, unit_at, power_value}
-use Rattle.edge_expression.proofs.UnitOperations.{IsShortTerms, one_terms, zero_short, one_short, sum_zero_left, sum_zero_right, difference_zero_left, difference_zero_right, product_one_right, product_zero_left, product_zero_right, quotient_parts, quotient_zero}
+use Rattle.edge_expression.specs.EntryValues.{plain_entry, sum, difference, product, quotient, coefficients, joined, degree_within, degree, product_sum, times}
+use Rattle.edge_expression.specs.EntryValues.{over, unit_at, power_value}
+use Rattle.edge_expression.proofs.UnitOperations.{IsShortTerms, one_terms, zero_short, one_short, sum_zero_left, sum_zero_right, difference_zero_left}
+use Rattle.edge_expression.proofs.UnitOperations.{difference_zero_right, product_one_right, product_zero_left, product_zero_right, quotient_parts}
+use Rattle.edge_expression.proofs.UnitOperations.{quotient_zero}
 
 -- the entry with these coefficients
 abbrev pub tabled : (ℕ → Terms) → List Terms
@@ -82,7 +86,8 @@ plain_sum : (c d : Terms) (y : List Terms) (k i : ℕ) → ((j : ℕ) → IsShor
     → product c (terms_at y k) ≡ Ok d → product_sum (plain_entry c) y k (suc i) ≡ Ok d
 plain_sum c d y k zero s short e = sum_start (plain_entry c) y k ∙ rw (plain_first c, e) (sum_zero_left d short)
 plain_sum c d y k (suc i) s short e =
-    let none : product (terms_at (plain_entry c) (suc i)) (terms_at y (k - suc i)) ≡ Ok zero_terms = ap (λ x. product x (terms_at y (k - suc i))) (plain_behind c i) ∙ product_zero_left (terms_at y (k - suc i)) (s (k - suc i)) in
+    let none : product (terms_at (plain_entry c) (suc i)) (terms_at y (k - suc i)) ≡ Ok zero_terms =
+    ap (λ x. product x (terms_at y (k - suc i))) (plain_behind c i) ∙ product_zero_left (terms_at y (k - suc i)) (s (k - suc i)) in
     sum_next (plain_entry c) y k i ∙ rw (plain_sum c d y k i s short e, none) (sum_zero_right d short)
 
 degree_plain : (c : Terms) → degree (plain_entry c) ≡ 0
@@ -117,14 +122,16 @@ minus_if k p true x f t c h s n d e = let same : k ≡ p = eqb-true k p x in ap 
 minus_if k p false x f t c h s n d e = difference_zero_right (f k) (h k)
 
 not_zero : (d : ℤ) → pos 0 <ℤ d → int_eq d (pos 0) ≡ false
-not_zero d h = elim (cases_Bool (int_eq d (pos 0))) [ inl t ↦ (let e : d ≡ pos 0 = (Decides-int_eq d (pos 0)).0 t in absurd (omega (arith, ints))) | inr f ↦ f ]
+not_zero d h = elim (cases_Bool (int_eq d (pos 0)))
+    [ inl t ↦ (let e : d ≡ pos 0 = (Decides-int_eq d (pos 0)).0 t in absurd (omega (arith, ints))) | inr f ↦ f ]
 
 number_at : Terms → ℕ → Terms
 number_at t zero = t
 number_at t (suc k) = zero_terms
 
 parts_at : (t : Terms) (k : ℕ) → IsShortTerms t → k < 5
-    → quotient (terms_at (plain_entry (record { num = t.num; den = pos 1 })) k) (terms_at (plain_entry (record { num = t.den; den = pos 1 })) 0) ≡ Ok (number_at t k)
+    → quotient (terms_at (plain_entry (record { num = t.num; den = pos 1 })) k) (terms_at (plain_entry (record { num = t.den; den = pos 1 })) 0) ≡ Ok
+    (number_at t k)
 unfolding number_at
 parts_at t zero s l =
     ap₂ quotient (plain_first (record { num = t.num; den = pos 1 })) (plain_first (record { num = t.den; den = pos 1 })) ∙ quotient_parts t s
@@ -154,7 +161,9 @@ times_power c p h s =
     let y : List Terms = tabled (single p one_terms) in
     let small : degree (plain_entry c) + degree y ≤ 4 = omega (arith, degree_plain c, degree_most 4 y) in
     rw (le-ltb 4 (degree (plain_entry c) + degree y) small)
-    (coefficients_are (λ k. product_sum (plain_entry c) y k (suc k)) (single p c) (λ k l. plain_sum c (single p c k) y k k (tabled_short (single p one_terms) (λ j. single_short p one_terms j one_short)) (single_short p c k s) (ap (product c) (at_tabled (single p one_terms) k l) ∙ product_single c p k s)))
+    (coefficients_are (λ k. product_sum (plain_entry c) y k (suc k)) (single p c)
+    (λ k l. plain_sum c (single p c k) y k k (tabled_short (single p one_terms) (λ j. single_short p one_terms j one_short)) (single_short p c k s)
+    (ap (product c) (at_tabled (single p one_terms) k l) ∙ product_single c p k s)))
 
 -- ---- quotients of numbers
 
@@ -169,7 +178,8 @@ over_parts t s =
     let d : Terms = record { num = t.den; den = pos 1 } in
     let n : Terms = record { num = t.num; den = pos 1 } in
     let some : is_zero (terms_at (plain_entry d) 0) ≡ false = ap is_zero (plain_first d) ∙ not_zero t.den s.0.positive in
-    rw (degree_number d, some) (coefficients_are (λ k. quotient (terms_at (plain_entry n) k) (terms_at (plain_entry d) 0)) (number_at t) (λ k l. parts_at t k s l))
+    rw (degree_number d, some)
+    (coefficients_are (λ k. quotient (terms_at (plain_entry n) k) (terms_at (plain_entry d) 0)) (number_at t) (λ k l. parts_at t k s l))
 
 -- ---- sums with a single coefficient
 

@@ -1,5 +1,6 @@
 -- Operations of fractions with 0 and 1.
-use Rattle.std.proofs.Common.{◌≡◌, true, ℤ, pos, negsuc, neg_ℤ, ◌+ℤ◌, ◌-ℤ◌, ◌*ℤ◌, ◌<ℤ◌, Ok, refl, sym, ap₂, ◌∙◌, arith}
+use Rattle.std.proofs.Common.{◌≡◌, true, ℤ, pos, negsuc, neg_ℤ, ◌+ℤ◌, ◌-ℤ◌, ◌*ℤ◌, ◌<ℤ◌, Ok, refl, sym, ap₂, ◌∙◌}
+use Rattle.std.proofs.Common.{arith}
 use Rattle.std.proofs.lemmas.Int.{ints}
 use Rattle.field_core.specs.Terms.{Terms, IsReduced}
 use Rattle.field_core.specs.Laws.Effective.{positive_nonzero}
@@ -98,4 +99,5 @@ quotient_zero d p = ap₂ short (one_right (pos 0)) (one_left d) ∙ nothing d p
 -- ---- a fraction that is 0
 
 pub zero_is : (t : Terms) → IsReduced t → is_zero t ≡ true → t ≡ zero_terms
-zero_is t r h = let n : t.num ≡ pos 0 = (Decides-int_eq t.num (pos 0)).0 h in reduced_unique t zero_terms r zero_reduced (one_right t.num ∙ n ∙ sym (zero_left t.den))
+zero_is t r h = let n : t.num ≡ pos 0 = (Decides-int_eq t.num (pos 0)).0 h in reduced_unique t zero_terms r zero_reduced
+    (one_right t.num ∙ n ∙ sym (zero_left t.den))

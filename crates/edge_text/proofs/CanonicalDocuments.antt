@@ -1,5 +1,6 @@
 -- The canonical text of a case says that case.
-use Rattle.std.proofs.Common.{append-nil, ◌≡◌, refl, sym, ap, ap₂, subst, ◌∙◌, ℕ, suc, ◌*◌, ◌<◌, ◌≤◌, ◌==◌, inl, inr, List, [], ◌∷◌, ◌++◌, length, map, Bool, true, false, Option, Some, None, pos, arith}
+use Rattle.std.proofs.Common.{append-nil, ◌≡◌, refl, sym, ap, ap₂, subst, ◌∙◌, ℕ, suc, ◌*◌, ◌<◌, ◌≤◌, ◌==◌, inl, inr, List}
+use Rattle.std.proofs.Common.{[], ◌∷◌, ◌++◌, length, map, Bool, true, false, Option, Some, None, pos, arith}
 use Rattle.std.specs.Prelude.{codes}
 use Rattle.std.specs.List.{AllByRecursion, AllZip, flat_map, list_all}
 use Rattle.std.specs.Fmt.{decimal}
@@ -17,8 +18,10 @@ use Rattle.case_model.specs.Content.{Content}
 use Rattle.case_model.specs.ValidDraft.{Each}
 use Rattle.case_model.proofs.Holding.{both}
 use Rattle.text_lines.specs.Spelling.{line_spelt, IsWord, IsLine}
-use Rattle.edge_text.specs.Grammar.{Words, IsNumber, AreNumbers, AreSomeNumbers, IsCount, IsBlock, IsSharedBlock, IsLoneBlock, AreBlocks, AreStages, MayHaveStages, GivesP, optional, one, IsDocument, IsText}
-use Rattle.edge_text.specs.CanonicalText.{number_word, alpha_words, names_words, p_words, share_words, weights_words, stages_words, arrive_words, table_lines, is_alone, block_lines, blocks_lines, spends_lines, stages_lines, p_lines, late_lines, canonical_lines, canonical_text}
+use Rattle.edge_text.specs.Grammar.{Words, IsNumber, AreNumbers, AreSomeNumbers, IsCount, IsBlock, IsSharedBlock, IsLoneBlock, AreBlocks, AreStages}
+use Rattle.edge_text.specs.Grammar.{MayHaveStages, GivesP, optional, one, IsDocument, IsText}
+use Rattle.edge_text.specs.CanonicalText.{number_word, alpha_words, names_words, p_words, share_words, weights_words, stages_words, arrive_words, table_lines}
+use Rattle.edge_text.specs.CanonicalText.{is_alone, block_lines, blocks_lines, spends_lines, stages_lines, p_lines, late_lines, canonical_lines, canonical_text}
 use Rattle.edge_text.proofs.CanonicalDrafts.{edges_from, untabled, p_of, stages_in, draft_of}
 use Rattle.edge_text.proofs.CanonicalWords.{IsSaid, zip_map, number_is_word, numbers_are_words, whole_is, whole_is_word}
 use Rattle.edge_text.proofs.CanonicalLines.{each_holds, keyed, line_is, all_append, all_flat, texts_spelt, AreDistinct, IsEntry, edges_lines, edges_said}

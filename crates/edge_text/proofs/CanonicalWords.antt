@@ -1,5 +1,6 @@
 -- The words of canonical texts: that they are words, and what they say.
-use Rattle.std.proofs.Common.{◌≡◌, refl, sym, ap, ap₂, ◌∙◌, ℕ, zero, suc, ◌+◌, ◌^◌, ◌<◌, ◌≤◌, ◌⊎◌, ◌&&◌, inl, inr, List, [], ◌∷◌, ◌++◌, length, map, Bool, true, false, cond, eqb, nat_lt, nat_le, unsigned_abs, arith, lit<}
+use Rattle.std.proofs.Common.{◌≡◌, refl, sym, ap, ap₂, ◌∙◌, ℕ, zero, suc, ◌+◌, ◌^◌, ◌<◌, ◌≤◌, ◌⊎◌, ◌&&◌, inl, inr}
+use Rattle.std.proofs.Common.{List, [], ◌∷◌, ◌++◌, length, map, Bool, true, false, cond, eqb, nat_lt, nat_le, unsigned_abs, arith, lit<}
 use Rattle.std.specs.Prelude.{codes}
 use Rattle.std.specs.Fmt.{decimal}
 use Rattle.std.specs.Int.{is_negative}
@@ -21,7 +22,8 @@ use Rattle.case_model.specs.ValidDraft.{Each}
 use Rattle.case_model.proofs.Holding.{both}
 use Rattle.text_lines.specs.Spelling.{IsPlain, IsWord}
 use Rattle.edge_expression.specs.EntryReading.{IsShallow, IsEntryText}
-use Rattle.edge_expression.specs.EntryTexts.{power_text, factor_text, joint_text, joined_term, term_text, terms_text, are_zero_below, coefficients_text, entry_text}
+use Rattle.edge_expression.specs.EntryTexts.{power_text, factor_text, joint_text, joined_term, term_text, terms_text, are_zero_below, coefficients_text}
+use Rattle.edge_expression.specs.EntryTexts.{entry_text}
 use Rattle.edge_expression.specs.Expressions.{Token, IsSpelt, Spells, Expression, expression_tokens}
 use Rattle.case_model.proofs.Thresholds.{unit_parts}
 use Rattle.edge_text.specs.Grammar.{Says, IsWholeNumber}

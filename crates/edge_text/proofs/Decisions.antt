@@ -1,5 +1,6 @@
 -- Each line may stand at a place, and one place comes behind it, or it has one kind of fault there.
-use Rattle.std.proofs.Common.{◌≡◌, ℕ, ◌⊎◌, inl, inr, true, false, List, [], ◌∷◌, Option, Some, None, Result, Ok, Err, refl, sym, ap, subst, ◌∙◌, if◌then◌else◌}
+use Rattle.std.proofs.Common.{◌≡◌, ℕ, ◌⊎◌, inl, inr, true, false, List, [], ◌∷◌, Option, Some, None, Result, Ok, Err, refl, sym, ap, subst}
+use Rattle.std.proofs.Common.{◌∙◌, if◌then◌else◌}
 use Rattle.std.specs.Prelude.{codes}
 use Rattle.std.specs.Str.{bytes_eq}
 use Rattle.std.proofs.lemmas.Bool.{cases_Bool}
@@ -9,7 +10,11 @@ use Rattle.edge_text.specs.declared.fault.LineKind.{LineKind}
 use Rattle.edge_text.specs.declared.fault.LineKind.TheVariants.{Unexpected, Ended, WordCount, UnknownName, Whole, Number, Expr}
 use Rattle.text_lines.specs.Words.{words_of, behind_words}
 use Rattle.edge_text.specs.Grammar.{Words, one}
-use Rattle.edge_text.specs.Faults.{IsNumberFault, IsNumbersFault, IsSomeNumbersFault, IsEndsFault, IsEdgeFault, IsWholeFault, IsCountFault, IsNamedFault, IsArrivedFault, IsArrivalFault, Keyword, AlphaWord, NamesWord, PWord, ShareWord, WeightsWord, EdgeWord, StagesWord, SpendWord, TableWord, ArriveWord, word_of, Place, Alpha, Names, Values, Block, Weights, Edges, Spends, Steps, names_at, first_of, due_at, tables_at, may, named as bare, with_p, with_component, weighted, with_edge, counted, with_spend, with_arrival, shares_of, step_of, behind_step, Leads, IsRestFault, Stands, IsOther, IsBad}
+use Rattle.edge_text.specs.Faults.{IsNumberFault, IsNumbersFault, IsSomeNumbersFault, IsEndsFault, IsEdgeFault, IsWholeFault, IsCountFault, IsNamedFault}
+use Rattle.edge_text.specs.Faults.{IsArrivedFault, IsArrivalFault, Keyword, AlphaWord, NamesWord, PWord, ShareWord, WeightsWord, EdgeWord, StagesWord}
+use Rattle.edge_text.specs.Faults.{SpendWord, TableWord, ArriveWord, word_of, Place, Alpha, Names, Values, Block, Weights, Edges, Spends, Steps, names_at}
+use Rattle.edge_text.specs.Faults.{first_of, due_at, tables_at, may, named as bare, with_p, with_component, weighted, with_edge, counted, with_spend}
+use Rattle.edge_text.specs.Faults.{with_arrival, shares_of, step_of, behind_step, Leads, IsRestFault, Stands, IsOther, IsBad}
 use Rattle.edge_text.proofs.WordDecisions.{Holds, Decided, is_once, fault_once, not_both, either, mapped, number, numbers, some_numbers, names_said, an_edge}
 use Rattle.edge_text.proofs.StageDecisions.{count, named, an_arrival}
 use Rattle.edge_text.proofs.LineWords.{heads, tails}
@@ -57,7 +62,9 @@ tested w k =
 abbrev IsNone : List ℕ → Type 0
 IsNone w = (k : Keyword) → ¬ (w ≡ word_of k)
 
-none_by : (w : List ℕ) → ¬ (w ≡ word_of AlphaWord) → ¬ (w ≡ word_of NamesWord) → ¬ (w ≡ word_of PWord) → ¬ (w ≡ word_of ShareWord) → ¬ (w ≡ word_of WeightsWord) → ¬ (w ≡ word_of EdgeWord) → ¬ (w ≡ word_of StagesWord) → ¬ (w ≡ word_of SpendWord) → ¬ (w ≡ word_of TableWord) → ¬ (w ≡ word_of ArriveWord) → IsNone w
+none_by : (w : List ℕ) → ¬ (w ≡ word_of AlphaWord) → ¬ (w ≡ word_of NamesWord) → ¬ (w ≡ word_of PWord) → ¬ (w ≡ word_of ShareWord)
+    → ¬ (w ≡ word_of WeightsWord) → ¬ (w ≡ word_of EdgeWord) → ¬ (w ≡ word_of StagesWord) → ¬ (w ≡ word_of SpendWord)
+    → ¬ (w ≡ word_of TableWord) → ¬ (w ≡ word_of ArriveWord) → IsNone w
 none_by w a b c d e f g h i j AlphaWord = a
 none_by w a b c d e f g h i j NamesWord = b
 none_by w a b c d e f g h i j PWord = c
@@ -115,7 +122,8 @@ keyword_or_none w =
 
 -- ---- lines
 
-rest_decided : (place : Place) (k : Keyword) (line : List ℕ) (words : Words) → may place k ≡ true → Decided (Leads place k line words) (IsRestFault place k line words)
+rest_decided : (place : Place) (k : Keyword) (line : List ℕ) (words : Words) → may place k ≡ true
+    → Decided (Leads place k line words) (IsRestFault place k line words)
 rest_decided Alpha AlphaWord line words m = mapped Names (number words)
 rest_decided (Names alpha) NamesWord line words m = mapped (λ names. Values (bare alpha names)) (names_said words)
 rest_decided (Values d) PWord line words m = mapped (λ values. Block (with_p d values)) (some_numbers words)
@@ -131,8 +139,10 @@ rest_decided (Spends d s (name ∷ left)) SpendWord line words m = mapped (λ sa
 rest_decided (Spends d s (name ∷ left)) TableWord line words m = mapped (λ said. Steps d s (step_of said ∷ []) name left) (named (name ∷ []) 1 words)
 rest_decided (Spends d s []) ArriveWord line words m = mapped (λ arrival. Spends d (with_arrival s arrival) []) (an_arrival d.names words)
 rest_decided (Steps d s steps name left) TableWord line words m = mapped (behind_step d s steps name left) (named (name ∷ first_of left) 1 words)
-rest_decided (Steps d s steps name (other ∷ left)) SpendWord line words m = mapped (λ said. Spends d (with_spend (with_spend s (Table steps)) (shares_of said)) left) (named (other ∷ []) 0 words)
-rest_decided (Steps d s steps name []) ArriveWord line words m = mapped (λ arrival. Spends d (with_arrival (with_spend s (Table steps)) arrival) []) (an_arrival d.names words)
+rest_decided (Steps d s steps name (other ∷ left)) SpendWord line words m =
+    mapped (λ said. Spends d (with_spend (with_spend s (Table steps)) (shares_of said)) left) (named (other ∷ []) 0 words)
+rest_decided (Steps d s steps name []) ArriveWord line words m =
+    mapped (λ arrival. Spends d (with_arrival (with_spend s (Table steps)) arrival) []) (an_arrival d.names words)
 rest_decided place k line words m = absurd (let e : false ≡ true = m in cc)
 
 -- a line that begins otherwise
@@ -145,15 +155,19 @@ other place line o = record {
 }
 
 -- a line that begins with this keyword
-module _ (place : Place) (k : Keyword) (line : List ℕ) (words : Words) (is : words_of line ≡ word_of k ∷ words) (m : may place k ≡ true) (d : Decided (Leads place k line words) (IsRestFault place k line words)) where
-  line_holds : (r : Result Place LineKind) → Holds (Leads place k line words) (IsRestFault place k line words) r → Holds (Stands place line) (IsBad place line) r
+module _ (place : Place) (k : Keyword) (line : List ℕ) (words : Words) (is : words_of line ≡ word_of k ∷ words) (m : may place k ≡ true)
+    (d : Decided (Leads place k line words) (IsRestFault place k line words)) where
+  line_holds : (r : Result Place LineKind) → Holds (Leads place k line words) (IsRestFault place k line words) r
+      → Holds (Stands place line) (IsBad place line) r
   line_holds (Ok next) h = (k, m, record { behind = words; words = is; are = h })
   line_holds (Err kind) h = inr (k, m, record { behind = words; words = is; are = h })
 
-  moved_lead : (next : Place) (j : Keyword) (behind : Words) → j ≡ k → behind ≡ words → Leads place j line behind next → Leads place k line words next
+  moved_lead : (next : Place) (j : Keyword) (behind : Words) → j ≡ k → behind ≡ words → Leads place j line behind next
+      → Leads place k line words next
   moved_lead next j behind e f h = subst (λ i. Leads place i line words next) e (subst (λ ws. Leads place j line ws next) f h)
 
-  moved_fault : (kind : LineKind) (j : Keyword) (behind : Words) → j ≡ k → behind ≡ words → IsRestFault place j line behind kind → IsRestFault place k line words kind
+  moved_fault : (kind : LineKind) (j : Keyword) (behind : Words) → j ≡ k → behind ≡ words → IsRestFault place j line behind kind
+      → IsRestFault place k line words kind
   moved_fault kind j behind e f h = subst (λ i. IsRestFault place i line words kind) e (subst (λ ws. IsRestFault place j line ws kind) f h)
 
   same_first : (j : Keyword) (behind : Words) → words_of line ≡ word_of j ∷ behind → (j ≡ k) × (behind ≡ words)
@@ -172,9 +186,12 @@ module _ (place : Place) (k : Keyword) (line : List ℕ) (words : Words) (is : w
     ];
   }
 
-begun_by : (place : Place) (k : Keyword) (line : List ℕ) (words : Words) → words_of line ≡ word_of k ∷ words → (may place k ≡ true) ⊎ (may place k ≡ false) → Decided (Stands place line) (IsBad place line)
+begun_by : (place : Place) (k : Keyword) (line : List ℕ) (words : Words) → words_of line ≡ word_of k ∷ words → (may place k ≡ true)
+    ⊎ (may place k ≡ false) → Decided (Stands place line) (IsBad place line)
 begun_by place k line words is (inl m) = keyword_line place k line words is m (rest_decided place k line words m)
-begun_by place k line words is (inr m) = other place line (λ j h behind e. let same = same_keyword j k (heads (word_of j) (word_of k) behind words (sym e ∙ is)) in let t : may place k ≡ true = subst (λ i. may place i ≡ true) same h in let f : true ≡ false = sym t ∙ m in cc)
+begun_by place k line words is (inr m) = other place line
+    (λ j h behind e. let same = same_keyword j k (heads (word_of j) (word_of k) behind words (sym e ∙ is)) in let t : may place k ≡ true =
+    subst (λ i. may place i ≡ true) same h in let f : true ≡ false = sym t ∙ m in cc)
 
 line_by : (place : Place) (line : List ℕ) (words : Words) → words_of line ≡ words → Decided (Stands place line) (IsBad place line)
 line_by place line [] is = other place line (λ j h behind e. let k : [] ≡ word_of j ∷ behind = sym is ∙ e in cc)

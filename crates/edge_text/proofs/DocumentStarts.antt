@@ -18,7 +18,9 @@ use Rattle.edge_text.specs.declared.fault.LineKind.TheVariants.{Ended}
 use Rattle.text_lines.specs.Lines.{Row, texts_in}
 use Rattle.text_lines.specs.Words.{words_of}
 use Rattle.edge_text.specs.Grammar.{Says, one, IsDocument}
-use Rattle.edge_text.specs.Faults.{NamedNumbers, AreNamedNumbers, AlphaWord, NamesWord, WeightsWord, SpendWord, Place, Alpha, Names, Values, Block, Weights, Edges, Spends, Steps, named, with_component, weighted, with_stages, with_spend, shares_of, Stands, Lead, IsWhole, LeadsTo, MustFollow}
+use Rattle.edge_text.specs.Faults.{NamedNumbers, AreNamedNumbers, AlphaWord, NamesWord, WeightsWord, SpendWord, Place, Alpha, Names, Values, Block, Weights}
+use Rattle.edge_text.specs.Faults.{Edges, Spends, Steps, named, with_component, weighted, with_stages, with_spend, shares_of, Stands, Lead, IsWhole, LeadsTo}
+use Rattle.edge_text.specs.Faults.{MustFollow}
 use Rattle.edge_text.specs.TextStatements.{BeginDocument}
 use Rattle.edge_text.proofs.Leads.{lead_on}
 use Rattle.edge_text.proofs.Decisions.{stands_or_bad}
@@ -57,7 +59,8 @@ alpha_said = refl
 
 -- a line, and then others
 one_more : (place next : Place) (line : List ℕ) → Stands place line next → Rest next → Rest place
-one_more place next line s r = record { lines = line ∷ r.lines; draft = r.draft; to = record { next = r.to.next; lead = (next, s, r.to.lead); whole = r.to.whole } }
+one_more place next line s r =
+    record { lines = line ∷ r.lines; draft = r.draft; to = record { next = r.to.next; lead = (next, s, r.to.lead); whole = r.to.whole } }
 
 edges_rest : (place : Place) (draft : Draft) → IsWhole place draft → Rest place
 edges_rest place draft w = record { lines = []; draft = draft; to = record { next = place; lead = refl; whole = w } }
@@ -65,23 +68,35 @@ edges_rest place draft w = record { lines = []; draft = draft; to = record { nex
 weights_rest : (d : Draft) (share : Ratio) → Rest (Weights d share)
 weights_rest d share =
     let next : Place = Edges true d (weighted share []) in
-    one_more (Weights d share) next (codes "weights") (WeightsWord, refl, record { behind = []; words = weights_said; are = ([], tt, refl) }) (edges_rest next (with_component d (weighted share [])) refl)
+    one_more (Weights d share) next (codes "weights") (WeightsWord, refl, record { behind = []; words = weights_said; are = ([], tt, refl) })
+    (edges_rest next (with_component d (weighted share [])) refl)
 
 block_rest : (d : Draft) → Rest (Block d)
 block_rest d =
     let next : Place = Edges false d (weighted one []) in
-    one_more (Block d) next (codes "weights") (WeightsWord, refl, record { behind = []; words = weights_said; are = ([], tt, refl) }) (edges_rest next (with_component d (weighted one [])) refl)
+    one_more (Block d) next (codes "weights") (WeightsWord, refl, record { behind = []; words = weights_said; are = ([], tt, refl) })
+    (edges_rest next (with_component d (weighted one [])) refl)
 
 values_rest : (d : Draft) → Rest (Values d)
 values_rest d =
     let next : Place = Edges false d (weighted one []) in
-    one_more (Values d) next (codes "weights") (WeightsWord, refl, record { behind = []; words = weights_said; are = ([], tt, refl) }) (edges_rest next (with_component d (weighted one [])) refl)
+    one_more (Values d) next (codes "weights") (WeightsWord, refl, record { behind = []; words = weights_said; are = ([], tt, refl) })
+    (edges_rest next (with_component d (weighted one [])) refl)
 
 names_rest : (alpha : Ratio) → Rest (Names alpha)
-names_rest alpha = one_more (Names alpha) (Values (named alpha [])) (codes "hypotheses") (NamesWord, refl, record { behind = []; words = names_said; are = ([], refl, refl) }) (values_rest (named alpha []))
+names_rest alpha = one_more (Names alpha) (Values (named alpha [])) (codes "hypotheses")
+    (NamesWord, refl, record { behind = []; words = names_said; are = ([], refl, refl) }) (values_rest (named alpha []))
 
 alpha_rest : Rest Alpha
-alpha_rest = one_more Alpha (Names zero_ratio) (codes "alpha 0") (AlphaWord, refl, record { behind = codes "0" ∷ []; words = alpha_said; are = (zero_ratio, record { numeral = codes "0"; alone = refl; says = zero_said }, refl) }) (names_rest zero_ratio)
+alpha_rest = one_more Alpha (Names zero_ratio) (codes "alpha 0") (
+  AlphaWord,
+  refl,
+  record {
+    behind = codes "0" ∷ [];
+    words = alpha_said;
+    are = (zero_ratio, record { numeral = codes "0"; alone = refl; says = zero_said }, refl);
+  },
+) (names_rest zero_ratio)
 
 -- the fraction 0 of a name
 zero_named : List ℕ → NamedNumbers
@@ -95,13 +110,17 @@ spends_rest : (d : Draft) (s : DraftStages) (left : Words) → AllByRecursion Is
 spends_rest d s [] n = edges_rest (Spends d s []) (with_stages d s) refl
 spends_rest d s (name ∷ left) n =
     let next : Place = Spends d (with_spend s (shares_of (zero_named name))) left in
-    one_more (Spends d s (name ∷ left)) next (zero_line name) (SpendWord, refl, record { behind = name ∷ codes "0" ∷ []; words = zero_line_words name n.0; are = (zero_named name, zero_are name, refl) }) (spends_rest d (with_spend s (shares_of (zero_named name))) left n.1)
+    one_more (Spends d s (name ∷ left)) next (zero_line name)
+    (SpendWord, refl, record { behind = name ∷ codes "0" ∷ []; words = zero_line_words name n.0; are = (zero_named name, zero_are name, refl) })
+    (spends_rest d (with_spend s (shares_of (zero_named name))) left n.1)
 
-steps_rest : (d : Draft) (s : DraftStages) (steps : List SpendStep) (name : List ℕ) (left : Words) → AllByRecursion IsNameWord left → Rest (Steps d s steps name left)
+steps_rest : (d : Draft) (s : DraftStages) (steps : List SpendStep) (name : List ℕ) (left : Words) → AllByRecursion IsNameWord left
+    → Rest (Steps d s steps name left)
 steps_rest d s steps name [] n = edges_rest (Steps d s steps name []) (with_stages d (with_spend s (Table steps))) refl
 steps_rest d s steps name (other ∷ left) n =
     let next : Place = Spends d (with_spend (with_spend s (Table steps)) (shares_of (zero_named other))) left in
-    one_more (Steps d s steps name (other ∷ left)) next (zero_line other) (SpendWord, refl, record { behind = other ∷ codes "0" ∷ []; words = zero_line_words other n.0; are = (zero_named other, zero_are other, refl) })
+    one_more (Steps d s steps name (other ∷ left)) next (zero_line other)
+    (SpendWord, refl, record { behind = other ∷ codes "0" ∷ []; words = zero_line_words other n.0; are = (zero_named other, zero_are other, refl) })
     (spends_rest d (with_spend (with_spend s (Table steps)) (shares_of (zero_named other))) left n.1)
 
 rest_of : (place : Place) → HasNameWords place → Rest place
@@ -120,7 +139,9 @@ begin_by lines more draft is = record { more = more; draft = draft; is = is }
 pub lead_begins : (lines : List (List ℕ)) (here : Place) → Lead Alpha lines here → BeginDocument lines
 lead_begins lines here h =
     let rest = rest_of here (lead_words Alpha lines here h tt) in
-    begin_by lines rest.lines rest.draft (lead_says (lines ++ rest.lines) rest.draft (record { next = rest.to.next; lead = lead_on Alpha here rest.to.next lines rest.lines h rest.to.lead; whole = rest.to.whole }))
+    begin_by lines rest.lines rest.draft
+    (lead_says (lines ++ rest.lines) rest.draft
+    (record { next = rest.to.next; lead = lead_on Alpha here rest.to.next lines rest.lines h rest.to.lead; whole = rest.to.whole }))
 
 -- ---- and what a document begins with leads somewhere
 
@@ -148,7 +169,8 @@ none_left (Steps d s steps name []) end = inl (with_stages d (with_spend s (Tabl
 none_left (Steps d s steps name (other ∷ left)) end = inr (end, Ended, (tt, refl, refl))
 none_left (Edges shared d k) end = inl (with_component d k, record { next = Edges shared d k; lead = refl; whole = refl })
 
-ends_behind : (place : Place) (row : Row) (rows : List Row) (end : ℕ) (next : Place) → Stands place row.text next → Ends next rows end → Ends place (row ∷ rows) end
+ends_behind : (place : Place) (row : Row) (rows : List Row) (end : ℕ) (next : Place) → Stands place row.text next → Ends next rows end
+    → Ends place (row ∷ rows) end
 ends_behind place row rows end next s (inl h) = inl (h.0, record { next = h.1.next; lead = (next, s, h.1.lead); whole = h.1.whole })
 ends_behind place row rows end next s (inr h) = inr (h.0, h.1, inr (next, s, h.2))
 

@@ -1,5 +1,6 @@
 -- Names in documents are words, and lines may name them.
-use Rattle.std.proofs.Common.{◌≡◌, ◌<◌, ℕ, inl, inr, Bool, true, false, List, [], ◌∷◌, ◌++◌, length, refl, sym, ap, subst, ◌∙◌, arith, drop, if◌then◌else◌}
+use Rattle.std.proofs.Common.{◌≡◌, ◌<◌, ℕ, inl, inr, Bool, true, false, List, [], ◌∷◌, ◌++◌, length, refl, sym, ap, subst, ◌∙◌}
+use Rattle.std.proofs.Common.{arith, drop, if◌then◌else◌}
 use Rattle.std.specs.Prelude.{codes}
 use Rattle.std.specs.List.{AllByRecursion, slice_split, onto_first, filter}
 use Rattle.std.specs.Str.{bytes_eq}
@@ -11,7 +12,8 @@ use Rattle.case_model.specs.declared.spend.Spend.TheVariants.{Table}
 use Rattle.case_model.specs.declared.spend_step.SpendStep.{SpendStep}
 use Rattle.text_lines.specs.Words.{words_of, is_blank, is_word}
 use Rattle.edge_text.specs.Grammar.{Words}
-use Rattle.edge_text.specs.Faults.{Keyword, AlphaWord, NamesWord, PWord, ShareWord, WeightsWord, EdgeWord, StagesWord, SpendWord, TableWord, ArriveWord, word_of, Place, Alpha, Names, Values, Block, Weights, Edges, Spends, Steps, with_spend, step_of, NamedNumbers, Leads, Lead}
+use Rattle.edge_text.specs.Faults.{Keyword, AlphaWord, NamesWord, PWord, ShareWord, WeightsWord, EdgeWord, StagesWord, SpendWord, TableWord, ArriveWord}
+use Rattle.edge_text.specs.Faults.{word_of, Place, Alpha, Names, Values, Block, Weights, Edges, Spends, Steps, with_spend, step_of, NamedNumbers, Leads, Lead}
 
 -- ---- words
 
@@ -32,7 +34,8 @@ pieces_plain [] = (tt, tt)
 pieces_plain (b ∷ line) =
     elim (cases_Bool (is_blank b)) [
       | inl t ↦ subst (AllByRecursion HasNoBlank) (sym (slice_split-cons_yes is_blank b line t)) (tt, pieces_plain line)
-      | inr f ↦ subst (AllByRecursion HasNoBlank) (sym (slice_split-cons_no is_blank b line f)) (first_piece b (slice_split is_blank line) f (pieces_plain line))
+      | inr f ↦ subst (AllByRecursion HasNoBlank) (sym (slice_split-cons_no is_blank b line f))
+          (first_piece b (slice_split is_blank line) f (pieces_plain line))
     ]
 
 kept : (pieces : Words) → AllByRecursion HasNoBlank pieces → AllByRecursion IsNameWord (filter is_word pieces)
@@ -90,14 +93,19 @@ HasNameWords (Steps d s steps name left) = AllByRecursion IsNameWord left
 behind_first : (word : List ℕ) (words line : Words) → line ≡ word ∷ words → AllByRecursion IsNameWord line → AllByRecursion IsNameWord words
 behind_first word words line e h = let k : AllByRecursion IsNameWord (word ∷ words) = subst (AllByRecursion IsNameWord) e h in k.1
 
-step_words : (d : Draft) (s : DraftStages) (steps : List SpendStep) (name : List ℕ) (left : Words) (said : NamedNumbers) (b : Bool) → AllByRecursion IsNameWord left → HasNameWords (if b then Steps d s (steps ++ step_of said ∷ []) name left else Steps d (with_spend s (Table steps)) (step_of said ∷ []) said.name (drop 1 left))
+step_words : (d : Draft) (s : DraftStages) (steps : List SpendStep) (name : List ℕ) (left : Words) (said : NamedNumbers) (b : Bool)
+    → AllByRecursion IsNameWord left
+    → HasNameWords (if b then Steps d s (steps ++ step_of said ∷ []) name left else Steps d (with_spend s (Table steps)) (step_of said ∷ []) said.name
+    (drop 1 left))
 step_words d s steps name left said true h = h
 step_words d s steps name [] said false h = tt
 step_words d s steps name (m ∷ left) said false h = h.1
 
-leads_words : (place : Place) (k : Keyword) (line : List ℕ) (words : Words) (next : Place) → words_of line ≡ word_of k ∷ words → Leads place k line words next → HasNameWords place → HasNameWords next
+leads_words : (place : Place) (k : Keyword) (line : List ℕ) (words : Words) (next : Place) → words_of line ≡ word_of k ∷ words
+    → Leads place k line words next → HasNameWords place → HasNameWords next
 leads_words Alpha AlphaWord line words next is h n = subst HasNameWords (sym h.2) tt
-leads_words (Names alpha) NamesWord line words next is h n = subst HasNameWords (sym h.2) (subst (AllByRecursion IsNameWord) h.1 (behind_first (codes "hypotheses") words (words_of line) is (words_are line)))
+leads_words (Names alpha) NamesWord line words next is h n =
+    subst HasNameWords (sym h.2) (subst (AllByRecursion IsNameWord) h.1 (behind_first (codes "hypotheses") words (words_of line) is (words_are line)))
 leads_words (Values d) PWord line words next is h n = subst HasNameWords (sym h.2) n
 leads_words (Values d) ShareWord line words next is h n = subst HasNameWords (sym h.2) n
 leads_words (Values d) WeightsWord line words next is h n = subst HasNameWords (sym h.2) n
@@ -110,7 +118,8 @@ leads_words (Edges shared d k) StagesWord line words next is h n = subst HasName
 leads_words (Spends d s (name ∷ left)) SpendWord line words next is h n = subst HasNameWords (sym h.2) n.1
 leads_words (Spends d s (name ∷ left)) TableWord line words next is h n = subst HasNameWords (sym h.2) n.1
 leads_words (Spends d s []) ArriveWord line words next is h n = subst HasNameWords (sym h.2) tt
-leads_words (Steps d s steps name left) TableWord line words next is h n = subst HasNameWords (sym h.2) (step_words d s steps name left h.0 (bytes_eq h.0.name name) n)
+leads_words (Steps d s steps name left) TableWord line words next is h n =
+    subst HasNameWords (sym h.2) (step_words d s steps name left h.0 (bytes_eq h.0.name name) n)
 leads_words (Steps d s steps name (other ∷ left)) SpendWord line words next is h n = subst HasNameWords (sym h.2) n.1
 leads_words (Steps d s steps name []) ArriveWord line words next is h n = subst HasNameWords (sym h.2) tt
 leads_words place k line words next is h n = absurd h

@@ -17,9 +17,11 @@ pub all_read : (words left : Words) (values : List Ratio) → left ≡ [] → Ar
 all_read words left values e r = subst (AllZip Says words) (append-nil values) (r.found [] (subst (λ ws. AllZip Says ws []) (sym e) tt))
 
 -- one word more
-pub one_read : (words left rest : Words) (values next : List Ratio) (word : List ℕ) (x : Ratio) → left ≡ word ∷ rest → next ≡ values ++ x ∷ [] → Says word x → AreRead words left values → AreRead words rest next
+pub one_read : (words left rest : Words) (values next : List Ratio) (word : List ℕ) (x : Ratio) → left ≡ word ∷ rest → next ≡ values ++ x ∷ []
+    → Says word x → AreRead words left values → AreRead words rest next
 one_read words left rest values next word x l n s r = record {
-  found = λ more h. subst (AllZip Says words) (sym (ap (λ xs. xs ++ more) n ∙ append_assoc values (x ∷ []) more)) (r.found (x ∷ more) (subst (λ ws. AllZip Says ws (x ∷ more)) (sym l) (s, h)));
+  found = λ more h. subst (AllZip Says words) (sym (ap (λ xs. xs ++ more) n ∙ append_assoc values (x ∷ []) more))
+      (r.found (x ∷ more) (subst (λ ws. AllZip Says ws (x ∷ more)) (sym l) (s, h)));
   fault = λ fault h. r.fault fault (subst (λ ws. IsFirstRefused ws fault) (sym l) (inr ((x, s), h)));
 }
 

@@ -29,5 +29,6 @@ some_fault o p fault e h k = let absent : None ≡ Some fault = sym h ∙ e ∙ 
 pub no_fault : CasesHaveNoFault
 unfolding IsTextFault
 no_fault bytes c (faults.Line n kind) h f = absurd (not_both bytes h.draft n kind h.says f)
-no_fault bytes c (faults.Case refused) h f = absurd (some_fault (case_fault h.draft) (case_fault f.draft) refused.fault (ap case_fault (one_draft bytes h.draft f.draft h.says f.says)) h.faultless f.fault_is)
+no_fault bytes c (faults.Case refused) h f = absurd
+    (some_fault (case_fault h.draft) (case_fault f.draft) refused.fault (ap case_fault (one_draft bytes h.draft f.draft h.says f.says)) h.faultless f.fault_is)
 no_fault bytes c faults.NoMemory h f = refl

@@ -1,7 +1,8 @@
 -- Just one thing is so of the words of a line of stages, or they have one kind of fault.
 use Rattle.std.proofs.lemmas.Bool.Decides.{nat_tests}
 use Rattle.fraction.proofs.WholeNumbers.{are_digits, digits_tested, one_number}
-use Rattle.std.proofs.Common.{◌≡◌, ◌<◌, ◌≤◌, ◌+◌, nat_lt, ℕ, ◌⊎◌, inl, inr, true, false, List, [], ◌∷◌, length, Option, Some, None, Result, Ok, Err, refl, sym, ap, subst, ◌∙◌, arith}
+use Rattle.std.proofs.Common.{◌≡◌, ◌<◌, ◌≤◌, ◌+◌, nat_lt, ℕ, ◌⊎◌, inl, inr, true, false, List, [], ◌∷◌, length, Option, Some}
+use Rattle.std.proofs.Common.{None, Result, Ok, Err, refl, sym, ap, subst, ◌∙◌, arith}
 use Rattle.std.specs.List.{list_all}
 use Rattle.std.specs.Char.{is_ascii_digit}
 use Rattle.std.specs.Str.Parse.{digits_value}
@@ -13,7 +14,8 @@ use Rattle.case_model.specs.Names.{position_of}
 use Rattle.edge_text.specs.declared.fault.LineKind.{LineKind}
 use Rattle.edge_text.specs.declared.fault.LineKind.TheVariants.{Unexpected, WordCount, UnknownName, Whole}
 use Rattle.edge_text.specs.Grammar.{Words, Says, AreNumbers, IsWholeNumber, IsCount, IsArrival}
-use Rattle.edge_text.specs.Faults.{IsNumeralFault, IsNumbersFault, IsUnknown, IsWholeFault, IsCountFault, is_among, NamedNumbers, AreNamedNumbers, IsNamedFault, IsArrivedFault, IsArrivalFault}
+use Rattle.edge_text.specs.Faults.{IsNumeralFault, IsNumbersFault, IsUnknown, IsWholeFault, IsCountFault, is_among, NamedNumbers, AreNamedNumbers, IsNamedFault}
+use Rattle.edge_text.specs.Faults.{IsArrivedFault, IsArrivalFault}
 use Rattle.edge_text.proofs.LineWords.{heads, tails}
 use Rattle.edge_text.proofs.WordDecisions.{Holds, Decided, numeral, numbers, known, same_place}
 
@@ -33,7 +35,8 @@ whole_number (b ∷ bs) =
       | inr d ↦ inr (λ n h. let t : true ≡ false = sym (digits_tested (b ∷ bs) h.digits) ∙ d in absurd (cc))
     ]
 
-whole_by : (word : List ℕ) → ((n : ℕ) × IsWholeNumber word n) ⊎ ((n : ℕ) → ¬ IsWholeNumber word n) → Decided (IsWholeNumber word) (IsWholeFault word)
+whole_by : (word : List ℕ) → ((n : ℕ) × IsWholeNumber word n) ⊎ ((n : ℕ) → ¬ IsWholeNumber word n)
+    → Decided (IsWholeNumber word) (IsWholeFault word)
 whole_by word (inl h) = record {
   answer = Ok h.0;
   holds = h.1;
@@ -53,7 +56,8 @@ whole word = whole_by word (whole_number word)
 one_word : (x y : List ℕ) → x ∷ [] ≡ y ∷ [] → x ≡ y
 one_word x y e = heads x y [] [] e
 
-count_holds : (word : List ℕ) (r : Result ℕ LineKind) → Holds (IsWholeNumber word) (IsWholeFault word) r → Holds (IsCount (word ∷ [])) (IsCountFault (word ∷ [])) r
+count_holds : (word : List ℕ) (r : Result ℕ LineKind) → Holds (IsWholeNumber word) (IsWholeFault word) r
+    → Holds (IsCount (word ∷ [])) (IsCountFault (word ∷ [])) r
 count_holds word (Ok n) h = record { word = word; alone = refl; is = h }
 count_holds word (Err kind) h = inr (word, refl, h)
 
@@ -83,7 +87,8 @@ count (a ∷ b ∷ words) = not_alone (a ∷ b ∷ words) (λ e. omega arith)
 
 -- ---- names and numbers
 
-few_named : (names : Words) (least : ℕ) (words : Words) → length words < least + 2 → Decided (AreNamedNumbers names least words) (IsNamedFault names least words)
+few_named : (names : Words) (least : ℕ) (words : Words) → length words < least + 2
+    → Decided (AreNamedNumbers names least words) (IsNamedFault names least words)
 few_named names least words n = record {
   answer = Err WordCount;
   holds = inl (n, refl);
@@ -92,7 +97,8 @@ few_named names least words n = record {
       let l : length (said.first ∷ said.others) ≡ length h.numerals = AllZip-long Says h.numerals (said.first ∷ said.others) h.each in
       omega (arith, e, l, h.enough, n)
       );
-  only_fault = λ kind b. elim b [ inl m ↦ ap Err (sym m.1) | inr m ↦ absurd (let e : length words ≡ length (m.0 ∷ m.1) = ap length m.2 in omega (arith, e, m.3, n)) ];
+  only_fault = λ kind b. elim b
+      [ inl m ↦ ap Err (sym m.1) | inr m ↦ absurd (let e : length words ≡ length (m.0 ∷ m.1) = ap length m.2 in omega (arith, e, m.3, n)) ];
 }
 
 same_said : (a b : NamedNumbers) → a.name ≡ b.name → b.first ∷ b.others ≡ a.first ∷ a.others → b ≡ a
@@ -138,11 +144,14 @@ module _ (names : Words) (least : ℕ) (name : List ℕ) (numerals : Words) (eno
   named_fault kind t (inr m) =
       let same = name_of m.0 m.1 m.2 in
       elim (m.4) [
-        | inl u ↦ absurd (let f : is_among name names ≡ false = subst (λ n. is_among n names ≡ false) same.0 u.0 in let e : true ≡ false = sym t ∙ f in cc)
+        | inl u ↦ absurd (let f : is_among name names ≡ false = subst (λ n. is_among n names ≡ false) same.0 u.0 in let e : true ≡ false = sym t
+            ∙ f in cc)
         | inr u ↦ subst (λ ns. IsNumbersFault ns kind) same.1 u.1
       ]
 
-  named_by : is_among name names ≡ true → (r : Result (List Ratio) LineKind) → Holds (AreNumbers numerals) (IsNumbersFault numerals) r → ((xs : List Ratio) → AreNumbers numerals xs → r ≡ Ok xs) → ((kind : LineKind) → IsNumbersFault numerals kind → r ≡ Err kind) → Decided (AreNamedNumbers names least (name ∷ numerals)) (IsNamedFault names least (name ∷ numerals))
+  named_by : is_among name names ≡ true → (r : Result (List Ratio) LineKind) → Holds (AreNumbers numerals) (IsNumbersFault numerals) r
+      → ((xs : List Ratio) → AreNumbers numerals xs → r ≡ Ok xs) → ((kind : LineKind) → IsNumbersFault numerals kind → r ≡ Err kind)
+      → Decided (AreNamedNumbers names least (name ∷ numerals)) (IsNamedFault names least (name ∷ numerals))
   named_by t (Ok []) h only only_fault = absurd (let l : length {A = Ratio} [] ≡ length numerals = AllZip-long Says numerals [] h in omega (arith, l, enough))
   named_by t (Ok (x ∷ xs)) h only only_fault =
       let l : length (x ∷ xs) ≡ length numerals = AllZip-long Says numerals (x ∷ xs) h in
@@ -150,14 +159,18 @@ module _ (names : Words) (least : ℕ) (name : List ℕ) (numerals : Words) (eno
         answer = Ok (record { name = name; first = x; others = xs });
         holds = record { numerals = numerals; words_are = refl; name_is = t; each = h; enough = omega (arith, l, enough) };
         only = λ said k. ap Ok (same_said said (record { name = name; first = x; others = xs }) (name_of said.name k.numerals k.words_are).0 (
-            let e : Ok (x ∷ xs) ≡ Ok (said.first ∷ said.others) = only (said.first ∷ said.others) (subst (λ ns. AreNumbers ns (said.first ∷ said.others)) (name_of said.name k.numerals k.words_are).1 k.each) in cc
+            let e : Ok (x ∷ xs) ≡ Ok (said.first ∷ said.others) =
+            only (said.first ∷ said.others)
+            (subst (λ ns. AreNumbers ns (said.first ∷ said.others)) (name_of said.name k.numerals k.words_are).1 k.each) in cc
             ));
         only_fault = λ kind b. absurd (let e : Ok (x ∷ xs) ≡ Err kind = only_fault kind (named_fault kind t b) in cc);
       }
   named_by t (Err j) h only only_fault = record {
     answer = Err j;
     holds = inr (name, numerals, refl, enough, inr (t, h));
-    only = λ said k. absurd (let e : Err j ≡ Ok (said.first ∷ said.others) = only (said.first ∷ said.others) (subst (λ ns. AreNumbers ns (said.first ∷ said.others)) (name_of said.name k.numerals k.words_are).1 k.each) in cc);
+    only = λ said k. absurd (let e : Err j ≡ Ok (said.first ∷ said.others) =
+        only (said.first ∷ said.others) (subst (λ ns. AreNumbers ns (said.first ∷ said.others)) (name_of said.name k.numerals k.words_are).1 k.each) in
+        cc);
     only_fault = λ kind b. let e : Err j ≡ Err kind = only_fault kind (named_fault kind t b) in let same : j ≡ kind = cc in ap Err same;
   }
 
@@ -245,7 +258,9 @@ module _ (names : Words) (name stage numeral_word : List ℕ) where
       only_fault = λ kind b. elim (arrived_fault kind b) [ inl g ↦ ap Err (f.1 ∙ sym g.1) | inr g ↦ absurd (f.0 g.0.0 g.0.1) ];
     }
 
-    arrival_by : (n : ℕ) → IsWholeNumber stage n → (r : Result Ratio LineKind) → Holds (Says numeral_word) (IsNumeralFault numeral_word) r → ((x : Ratio) → Says numeral_word x → r ≡ Ok x) → ((kind : LineKind) → IsNumeralFault numeral_word kind → r ≡ Err kind) → Decided Arrives Fails
+    arrival_by : (n : ℕ) → IsWholeNumber stage n → (r : Result Ratio LineKind) → Holds (Says numeral_word) (IsNumeralFault numeral_word) r
+        → ((x : Ratio) → Says numeral_word x → r ≡ Ok x) → ((kind : LineKind) → IsNumeralFault numeral_word kind → r ≡ Err kind)
+        → Decided Arrives Fails
     arrival_by n w (Ok x) h only only_fault = record {
       answer = Ok (record { hypothesis = i; stage = n; p = x });
       holds = record { name = name; stage = stage; numeral = numeral_word; words_are = refl; name_is = is; stage_is = w; says = h };
@@ -255,13 +270,15 @@ module _ (names : Words) (name stage numeral_word : List ℕ) where
           let p : x ≡ a.p = cc in
           let s : n ≡ a.stage = one_number 9 stage n a.stage w (said_stage a k) in
           λ j. Ok (record { hypothesis = same j; stage = s j; p = p j });
-      only_fault = λ kind b. elim (arrived_fault kind b) [ inl g ↦ absurd (g.0 n w) | inr g ↦ absurd (let e : Ok x ≡ Err kind = only_fault kind g.1 in cc) ];
+      only_fault = λ kind b. elim (arrived_fault kind b)
+          [ inl g ↦ absurd (g.0 n w) | inr g ↦ absurd (let e : Ok x ≡ Err kind = only_fault kind g.1 in cc) ];
     }
     arrival_by n w (Err j) h only only_fault = record {
       answer = Err j;
       holds = fails_by j (inr ((n, w), h));
       only = λ a k. absurd (let e : Err j ≡ Ok a.p = only a.p (said_p a k) in cc);
-      only_fault = λ kind b. elim (arrived_fault kind b) [ inl g ↦ absurd (g.0 n w) | inr g ↦ let e : Err j ≡ Err kind = only_fault kind g.1 in let same : j ≡ kind = cc in ap Err same ];
+      only_fault = λ kind b. elim (arrived_fault kind b)
+          [ inl g ↦ absurd (g.0 n w) | inr g ↦ let e : Err j ≡ Err kind = only_fault kind g.1 in let same : j ≡ kind = cc in ap Err same ];
     }
 
     arrival_known : Decided Arrives Fails

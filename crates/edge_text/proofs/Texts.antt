@@ -1,5 +1,6 @@
 -- Texts that say a draft, and what becomes of it.
-use Rattle.std.proofs.Common.{◌≡◌, ◌≢◌, ◌⊎◌, inl, inr, ℕ, Bool, ◌&&◌, true, List, [], ◌∷◌, Some, refl, sym, ap, ap₂, subst, ◌∙◌, length}
+use Rattle.std.proofs.Common.{◌≡◌, ◌≢◌, ◌⊎◌, inl, inr, ℕ, Bool, ◌&&◌, true, List, [], ◌∷◌, Some, refl, sym, ap, ap₂, subst}
+use Rattle.std.proofs.Common.{◌∙◌, length}
 use Rattle.std.specs.List.{AllZip, list_all}
 use Rattle.std.specs.Prelude.{nat_lt}
 use Rattle.std.specs.Str.{bytes_eq}
@@ -31,38 +32,47 @@ use Rattle.edge_text.specs.View.{IsFaultAt}
 known : (names : List (List ℕ)) (name : List ℕ) (i : ℕ) → position_of name names ≡ Some i → nat_lt i (length names) ≡ true
 known names name i e = lt-ltb i (length names) (position-Some (bytes_eq name) names i [] e).0
 
-known_edges : (names : List (List ℕ)) (lines : List (List ℕ)) (edges : List DraftEdge) → AllZip (IsEdgeLine names) lines edges → list_all (λ e. nat_lt e.from (length names) && nat_lt e.to (length names)) edges ≡ true
+known_edges : (names : List (List ℕ)) (lines : List (List ℕ)) (edges : List DraftEdge) → AllZip (IsEdgeLine names) lines edges
+    → list_all (λ e. nat_lt e.from (length names) && nat_lt e.to (length names)) edges ≡ true
 known_edges names [] [] h = refl
 known_edges names [] (edge ∷ edges) h = absurd h
 known_edges names (line ∷ lines) [] h = absurd h
 known_edges names (line ∷ lines) (edge ∷ edges) h =
-    ap₂ (λ x y. x && y) (ap₂ (λ x y. x && y) (known names h.0.are.from edge.from h.0.are.from_is) (known names h.0.are.to edge.to h.0.are.to_is)) (known_edges names lines edges h.1)
+    ap₂ (λ x y. x && y) (ap₂ (λ x y. x && y) (known names h.0.are.from edge.from h.0.are.from_is) (known names h.0.are.to edge.to h.0.are.to_is))
+    (known_edges names lines edges h.1)
 
 -- whether the edges of a component go from a hypothesis to a hypothesis
 abbrev are_known : List (List ℕ) → DraftComponent → Bool
 are_known names k = list_all (λ e. nat_lt e.from (length names) && nat_lt e.to (length names)) k.edges
 
-known_blocks : (names : List (List ℕ)) (blocks : List (List (List ℕ))) (ks : List DraftComponent) → AllZip (IsSharedBlock names) blocks ks → list_all (are_known names) ks ≡ true
+known_blocks : (names : List (List ℕ)) (blocks : List (List (List ℕ))) (ks : List DraftComponent) → AllZip (IsSharedBlock names) blocks ks
+    → list_all (are_known names) ks ≡ true
 known_blocks names [] [] h = refl
 known_blocks names [] (k ∷ ks) h = absurd h
 known_blocks names (b ∷ bs) [] h = absurd h
-known_blocks names (b ∷ bs) (k ∷ ks) h = ap₂ (λ x y. x && y) (known_edges names h.0.block.edge_lines k.edges h.0.block.edges) (known_blocks names bs ks h.1)
+known_blocks names (b ∷ bs) (k ∷ ks) h = ap₂ (λ x y. x && y) (known_edges names h.0.block.edge_lines k.edges h.0.block.edges)
+    (known_blocks names bs ks h.1)
 
-known_components : (names : List (List ℕ)) (lines : List (List ℕ)) (ks : List DraftComponent) → AreBlocks names lines ks → list_all (are_known names) ks ≡ true
-known_components names lines ks (inl l) = ap (list_all (are_known names)) l.only ∙ ap (λ b. b && true) (known_edges names l.block.edge_lines l.component.edges l.block.edges)
+known_components : (names : List (List ℕ)) (lines : List (List ℕ)) (ks : List DraftComponent) → AreBlocks names lines ks
+    → list_all (are_known names) ks ≡ true
+known_components names lines ks (inl l) = ap (list_all (are_known names)) l.only
+    ∙ ap (λ b. b && true) (known_edges names l.block.edge_lines l.component.edges l.block.edges)
 known_components names lines ks (inr s) = known_blocks names s.blocks ks s.are
 
 pub document_ends : (lines : List (List ℕ)) (draft : Draft) → IsDocument lines draft → have_known_ends draft ≡ true
 unfolding have_known_ends
 document_ends lines draft d = known_components draft.names d.block_lines draft.components d.blocks
 
-known_arrivals : (names : List (List ℕ)) (lines : List (List ℕ)) (arrivals : List Arrival) → AllZip (IsArriveLine names) lines arrivals → list_all (arrives_among (length names)) arrivals ≡ true
+known_arrivals : (names : List (List ℕ)) (lines : List (List ℕ)) (arrivals : List Arrival) → AllZip (IsArriveLine names) lines arrivals
+    → list_all (arrives_among (length names)) arrivals ≡ true
 known_arrivals names [] [] h = refl
 known_arrivals names [] (a ∷ more) h = absurd h
 known_arrivals names (line ∷ lines) [] h = absurd h
-known_arrivals names (line ∷ lines) (a ∷ more) h = ap₂ (λ x y. x && y) (known names h.0.are.name a.hypothesis h.0.are.name_is) (known_arrivals names lines more h.1)
+known_arrivals names (line ∷ lines) (a ∷ more) h =
+    ap₂ (λ x y. x && y) (known names h.0.are.name a.hypothesis h.0.are.name_is) (known_arrivals names lines more h.1)
 
-stages_arrivals : (names : List (List ℕ)) (lines : List (List ℕ)) (stages : Option DraftStages) → MayHaveStages names lines stages → option_map_or (λ s. list_all (arrives_among (length names)) s.arrivals) stages true ≡ true
+stages_arrivals : (names : List (List ℕ)) (lines : List (List ℕ)) (stages : Option DraftStages) → MayHaveStages names lines stages
+    → option_map_or (λ s. list_all (arrives_among (length names)) s.arrivals) stages true ≡ true
 stages_arrivals names lines None h = refl
 stages_arrivals names lines (Some stages) h = known_arrivals names h.arrive_lines stages.arrivals h.arrivals
 
@@ -80,9 +90,12 @@ line_fault bytes (faults.Case refused) f = absurd f
 line_fault bytes faults.NoMemory f = tt
 
 -- so is one of the draft
-pub draft_fault : (bytes : List ℕ) (draft : Draft) (refused : Refused) (fault : TextFault) → IsText bytes draft → (refused.fault ≡ OutOfMemory) ⊎ (case_fault draft ≡ Some refused.fault) → refused.names ≡ draft.names
-    → ((refused.fault ≡ OutOfMemory) × (fault ≡ faults.NoMemory)) ⊎ ((refused.fault ≢ OutOfMemory) × (fault ≡ faults.Case refused)) → IsTextFault bytes fault
+pub draft_fault : (bytes : List ℕ) (draft : Draft) (refused : Refused) (fault : TextFault) → IsText bytes draft → (refused.fault ≡ OutOfMemory)
+    ⊎ (case_fault draft ≡ Some refused.fault) → refused.names ≡ draft.names
+    → ((refused.fault ≡ OutOfMemory) × (fault ≡ faults.NoMemory)) ⊎ ((refused.fault ≢ OutOfMemory) × (fault ≡ faults.Case refused))
+    → IsTextFault bytes fault
 unfolding IsTextFault
 draft_fault bytes draft refused fault t f n (inl (m, e)) = subst (IsTextFault bytes) (sym e) tt
 draft_fault bytes draft refused fault t (inl m) n (inr (o, e)) = absurd (o m)
-draft_fault bytes draft refused fault t (inr f) n (inr (o, e)) = subst (IsTextFault bytes) (sym e) (record { draft = draft; says = t; fault_is = f; names_are = n })
+draft_fault bytes draft refused fault t (inr f) n (inr (o, e)) =
+    subst (IsTextFault bytes) (sym e) (record { draft = draft; says = t; fault_is = f; names_are = n })

@@ -1,5 +1,6 @@
 -- Just one thing is so of words behind a first word, or they have one kind of fault.
-use Rattle.std.proofs.Common.{◌≡◌, ◌<◌, ℕ, ◌⊎◌, inl, inr, List, [], ◌∷◌, length, Option, Some, None, Result, Ok, Err, refl, sym, ap, subst, ◌∙◌, arith}
+use Rattle.std.proofs.Common.{◌≡◌, ◌<◌, ℕ, ◌⊎◌, inl, inr, List, [], ◌∷◌, length, Option, Some, None, Result, Ok, Err, refl, sym, ap}
+use Rattle.std.proofs.Common.{subst, ◌∙◌, arith}
 use Rattle.std.specs.List.{AllZip}
 use Rattle.field_core.specs.declared.ratio.Ratio.{Ratio}
 use Rattle.fraction.specs.Numeral.{IsParseFault}
@@ -54,7 +55,8 @@ module _ {X Y : Type 0} {Is : X → Type 0} {Bad : LineKind → Type 0} (f : X �
   abbrev Made : Y → Type 0
   Made y = (x : X) × Is x × (y ≡ f x)
 
-  mapped_by : (r : Result X LineKind) → Holds Is Bad r → ((x : X) → Is x → r ≡ Ok x) → ((kind : LineKind) → Bad kind → r ≡ Err kind) → Decided Made Bad
+  mapped_by : (r : Result X LineKind) → Holds Is Bad r → ((x : X) → Is x → r ≡ Ok x) → ((kind : LineKind) → Bad kind → r ≡ Err kind)
+      → Decided Made Bad
   mapped_by (Ok x) h only only_fault = record {
     answer = Ok (f x);
     holds = (x, h, refl);
@@ -160,7 +162,8 @@ numbers_by words (inr h) = record {
 pub numbers : (words : Words) → Decided (AreNumbers words) (IsNumbersFault words)
 numbers words = numbers_by words (numerals_or_fault words)
 
-some_holds : (word : List ℕ) (words : Words) (r : Result (List Ratio) LineKind) → Holds (AreNumbers (word ∷ words)) (IsNumbersFault (word ∷ words)) r → Holds (AreSomeNumbers (word ∷ words)) (IsSomeNumbersFault (word ∷ words)) r
+some_holds : (word : List ℕ) (words : Words) (r : Result (List Ratio) LineKind) → Holds (AreNumbers (word ∷ words)) (IsNumbersFault (word ∷ words)) r
+    → Holds (AreSomeNumbers (word ∷ words)) (IsSomeNumbersFault (word ∷ words)) r
 some_holds word words (Ok []) h = absurd h
 some_holds word words (Ok (x ∷ xs)) h = record { each = h; some = omega arith }
 some_holds word words (Err kind) h = inr h
@@ -219,7 +222,8 @@ one_edge names line words d e a b =
     edge_by d e from to (one_entry (behind_words 3 line) d.entry e.entry a.says b.says)
 
 -- a name is unknown
-unknown_end : (names : Words) (line : List ℕ) (words : Words) (from to : List ℕ) → HasThree words from to → IsUnknown names from ⊎ IsUnknown names to → Decided (IsEdge names line words) (IsEdgeFault names line words)
+unknown_end : (names : Words) (line : List ℕ) (words : Words) (from to : List ℕ) → HasThree words from to → IsUnknown names from ⊎ IsUnknown names to
+    → Decided (IsEdge names line words) (IsEdgeFault names line words)
 unknown_end names line words from to h u = record {
   answer = Err UnknownName;
   holds = inr (from, to, h, inl (u, refl));
@@ -240,7 +244,8 @@ unknown_end names line words from to h u = record {
   ])
 
 -- both names are known
-both_known : (names : Words) (line : List ℕ) (words : Words) (from to a b : List ℕ) (i j : ℕ) → HasThree words from to → HasThree words a b → position_of from names ≡ Some i → position_of to names ≡ Some j → IsUnknown names a ⊎ IsUnknown names b → ⊥
+both_known : (names : Words) (line : List ℕ) (words : Words) (from to a b : List ℕ) (i j : ℕ) → HasThree words from to → HasThree words a b
+    → position_of from names ≡ Some i → position_of to names ≡ Some j → IsUnknown names a ⊎ IsUnknown names b → ⊥
 both_known names line words from to a b i j h k p q u =
     let same = same_three words a b from to k h in
     elim u [
@@ -248,7 +253,8 @@ both_known names line words from to a b i j h k p q u =
       | inr v ↦ known names to j q (subst (IsUnknown names) same.1 v)
     ]
 
-edge_said : (names : Words) (line : List ℕ) (words : Words) (edge : DraftEdge) → IsEdge names line words edge → Decided (IsEdge names line words) (IsEdgeFault names line words)
+edge_said : (names : Words) (line : List ℕ) (words : Words) (edge : DraftEdge) → IsEdge names line words edge
+    → Decided (IsEdge names line words) (IsEdgeFault names line words)
 edge_said names line words edge h = record {
   answer = Ok edge;
   holds = h;
@@ -262,7 +268,9 @@ edge_said names line words edge h = record {
   ]);
 }
 
-edge_refused : (names : Words) (line : List ℕ) (words : Words) (from to : List ℕ) (i j : ℕ) (fault : ExprFault) → HasThree words from to → position_of from names ≡ Some i → position_of to names ≡ Some j → IsExprFault (behind_words 3 line) fault → Decided (IsEdge names line words) (IsEdgeFault names line words)
+edge_refused : (names : Words) (line : List ℕ) (words : Words) (from to : List ℕ) (i j : ℕ) (fault : ExprFault) → HasThree words from to
+    → position_of from names ≡ Some i → position_of to names ≡ Some j → IsExprFault (behind_words 3 line) fault
+    → Decided (IsEdge names line words) (IsEdgeFault names line words)
 edge_refused names line words from to i j fault h p q f = record {
   answer = Err (Expr fault);
   holds = inr (from, to, h, inr ((λ u. known names from i p u), (λ u. known names to j q u), fault, f, refl));
@@ -276,12 +284,14 @@ edge_refused names line words from to i j fault h p q f = record {
   ];
 }
 
-ends_by : (names : Words) (line : List ℕ) (words : Words) (from to : List ℕ) (i j : Option ℕ) → HasThree words from to → position_of from names ≡ i → position_of to names ≡ j → Decided (IsEdge names line words) (IsEdgeFault names line words)
+ends_by : (names : Words) (line : List ℕ) (words : Words) (from to : List ℕ) (i j : Option ℕ) → HasThree words from to → position_of from names ≡ i
+    → position_of to names ≡ j → Decided (IsEdge names line words) (IsEdgeFault names line words)
 ends_by names line words from to None j h p q = unknown_end names line words from to h (inl p)
 ends_by names line words from to (Some i) None h p q = unknown_end names line words from to h (inr q)
 ends_by names line words from to (Some i) (Some j) h p q =
     elim (entry_or_fault (behind_words 3 line)) [
-      | inl x ↦ edge_said names line words (record { from = i; to = j; entry = x.0 }) (record { from = from; to = to; ends = h; from_is = p; to_is = q; says = x.1 })
+      | inl x ↦ edge_said names line words (record { from = i; to = j; entry = x.0 })
+          (record { from = from; to = to; ends = h; from_is = p; to_is = q; says = x.1 })
       | inr x ↦ edge_refused names line words from to i j x.0 h p q x.1
     ]
 
@@ -289,4 +299,5 @@ pub an_edge : (names : Words) (line : List ℕ) (words : Words) → Decided (IsE
 an_edge names line [] = few_words names line [] (omega arith)
 an_edge names line (a ∷ []) = few_words names line (a ∷ []) (omega arith)
 an_edge names line (a ∷ b ∷ []) = few_words names line (a ∷ b ∷ []) (omega arith)
-an_edge names line (a ∷ b ∷ c ∷ more) = ends_by names line (a ∷ b ∷ c ∷ more) a b (position_of a names) (position_of b names) (record { further = c; others = more; words_are = refl }) refl refl
+an_edge names line (a ∷ b ∷ c ∷ more) = ends_by names line (a ∷ b ∷ c ∷ more) a b (position_of a names) (position_of b names)
+    (record { further = c; others = more; words_are = refl }) refl refl

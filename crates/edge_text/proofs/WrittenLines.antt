@@ -1,5 +1,6 @@
 -- Texts of lines, line by line.
-use Rattle.std.proofs.Common.{◌≡◌, refl, sym, ap, ap₂, ◌∙◌, ℕ, ◌+◌, ◌/◌, ◌%◌, ◌<◌, ◌≤◌, ◌&&◌, Bool, true, false, if◌then◌else◌, List, [], ◌∷◌, ◌++◌, length, map, get_or, drop, append_assoc, append-nil}
+use Rattle.std.proofs.Common.{◌≡◌, refl, sym, ap, ap₂, ◌∙◌, ℕ, ◌+◌, ◌/◌, ◌%◌, ◌<◌, ◌≤◌, ◌&&◌, Bool, true, false}
+use Rattle.std.proofs.Common.{if◌then◌else◌, List, [], ◌∷◌, ◌++◌, length, map, get_or, drop, append_assoc, append-nil}
 use Rattle.std.specs.List.{flat_map, list_all}
 use Rattle.std.proofs.Math.ListN.{drop_of_length-le}
 use Rattle.std.proofs.lemmas.Grind.{flat_map-append}
@@ -13,7 +14,8 @@ use Rattle.case_model.specs.Content.{Content, is_arrival}
 use Rattle.case_model.proofs.Holding.{both}
 use Rattle.text_lines.specs.Spelling.{text_of}
 use Rattle.edge_text.specs.Grammar.{Words}
-use Rattle.edge_text.specs.CanonicalText.{alpha_words, names_words, share_words, weights_words, edge_words, is_absent, edge_lines, table_lines, share_lines, block_lines, blocks_lines, spend_lines, spends_lines, p_lines, late_lines, canonical_lines, canonical_text}
+use Rattle.edge_text.specs.CanonicalText.{alpha_words, names_words, share_words, weights_words, edge_words, is_absent, edge_lines, table_lines, share_lines}
+use Rattle.edge_text.specs.CanonicalText.{block_lines, blocks_lines, spend_lines, spends_lines, p_lines, late_lines, canonical_lines, canonical_text}
 use Rattle.edge_text.specs.View.{line_of}
 
 pub text_none : text_of [] ≡ []
@@ -34,7 +36,8 @@ text_one words = text_cons words [] ∙ ap (λ t. line_of words ++ t) text_none 
 -- ---- one item more
 
 -- what is put in front of a rest
-pub moved : (start text new part rest whole : List ℕ) → text ++ whole ≡ start → whole ≡ part ++ rest → new ≡ text ++ part → new ++ rest ≡ start
+pub moved : (start text new part rest whole : List ℕ) → text ++ whole ≡ start → whole ≡ part ++ rest → new ≡ text ++ part
+    → new ++ rest ≡ start
 moved start text new part rest whole e w n = ap (λ t. t ++ rest) n ∙ append_assoc text part rest ∙ ap (λ t. text ++ t) (sym w) ∙ e
 
 -- the item at a place is this one

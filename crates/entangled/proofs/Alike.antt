@@ -1,5 +1,6 @@
 -- Nets over one set of hypotheses.
-use Rattle.std.proofs.Common.{◌≡◌, ◌≢◌, refl, sym, ap, subst, ◌∙◌, ℕ, suc, zero, ◌<◌, List, [], ◌∷◌, length, map, get_or, true, false, Bool, arith}
+use Rattle.std.proofs.Common.{◌≡◌, ◌≢◌, refl, sym, ap, subst, ◌∙◌, ℕ, suc, zero, ◌<◌, List, [], ◌∷◌, length, map, get_or, true}
+use Rattle.std.proofs.Common.{false, Bool, arith}
 use Rattle.std.proofs.lemmas.List.{get_or-map, length-map}
 use Rattle.std.proofs.lemmas.List.Elements.{All-head}
 use Rattle.std.specs.List.{All}
@@ -13,10 +14,13 @@ all_from_map P f xs h n d b = subst P (get_or-map f xs n d (f d) b) (h n (f d) (
 
 module _ {S : Type 0} (graph : S → StoredGraph) where
   -- where each hypothesis is in, this one is in each net
-  pub live_in_each : {R : Type 0} (present : R → S) (nets : List R) (k : ℕ) → All (λ s. graph_size (graph s) ≡ states_size graph (map present nets)) (map present nets) → All (λ s. AreAllLive (graph s)) (map present nets) → k < states_size graph (map present nets) → All (λ n. is_live (graph (present n)) k ≡ true) nets
+  pub live_in_each : {R : Type 0} (present : R → S) (nets : List R) (k : ℕ)
+      → All (λ s. graph_size (graph s) ≡ states_size graph (map present nets)) (map present nets) → All (λ s. AreAllLive (graph s)) (map present nets)
+      → k < states_size graph (map present nets) → All (λ n. is_live (graph (present n)) k ≡ true) nets
   live_in_each present nets k size live b = all_from_map (λ s. is_live (graph s) k ≡ true) present nets (λ n d h. live n d h k (omega (arith, size n d h)))
 
-  pub live_by_each : {R : Type 0} (present : R → S) (nets : List R) (k : ℕ) → All (λ n. is_live (graph (present n)) k ≡ true) nets → k < states_size graph (map present nets) → is_live_by graph (map present nets) k ≡ true
+  pub live_by_each : {R : Type 0} (present : R → S) (nets : List R) (k : ℕ) → All (λ n. is_live (graph (present n)) k ≡ true) nets
+      → k < states_size graph (map present nets) → is_live_by graph (map present nets) k ≡ true
   unfolding is_live_by states_size
   live_by_each present [] k h b = absurd (omega arith)
   live_by_each present (n ∷ ns) k h b = All-head (λ n. is_live (graph (present n)) k ≡ true) n ns h
@@ -32,14 +36,19 @@ module _ {S : Type 0} (graph : S → StoredGraph) where
   live_at [] d k b = absurd (omega arith)
   live_at (s ∷ ss) d k b = refl
 
-  pub first_size : {R : Type 0} (present : R → S) (nets : List R) (n : R) → 0 < length nets → n ≡ get_or nets 0 n → states_size graph (map present nets) ≡ graph_size (graph (present n))
-  first_size present nets n b e = size_at (map present nets) (present n) (simp length-map b) ∙ ap (λ s. graph_size (graph s)) (mapped_item present nets 0 n (present n) b e)
+  pub first_size : {R : Type 0} (present : R → S) (nets : List R) (n : R) → 0 < length nets → n ≡ get_or nets 0 n
+      → states_size graph (map present nets) ≡ graph_size (graph (present n))
+  first_size present nets n b e = size_at (map present nets) (present n) (simp length-map b)
+      ∙ ap (λ s. graph_size (graph s)) (mapped_item present nets 0 n (present n) b e)
 
-  pub first_live : {R : Type 0} (present : R → S) (nets : List R) (n : R) (k : ℕ) → 0 < length nets → n ≡ get_or nets 0 n → is_live_by graph (map present nets) k ≡ is_live (graph (present n)) k
-  first_live present nets n k b e = live_at (map present nets) (present n) k (simp length-map b) ∙ ap (λ s. is_live (graph s) k) (mapped_item present nets 0 n (present n) b e)
+  pub first_live : {R : Type 0} (present : R → S) (nets : List R) (n : R) (k : ℕ) → 0 < length nets → n ≡ get_or nets 0 n
+      → is_live_by graph (map present nets) k ≡ is_live (graph (present n)) k
+  first_live present nets n k b e = live_at (map present nets) (present n) k (simp length-map b)
+      ∙ ap (λ s. is_live (graph s) k) (mapped_item present nets 0 n (present n) b e)
 
   -- one that is in is in each of nets that are alike
-  pub alike_live : (states : List S) (k : ℕ) → AreAlike graph states → is_live_by graph states k ≡ true → All (λ s. is_live (graph s) k ≡ true) states
+  pub alike_live : (states : List S) (k : ℕ) → AreAlike graph states → is_live_by graph states k ≡ true
+      → All (λ s. is_live (graph s) k ≡ true) states
   alike_live states k A h n d b = ap (λ f. f k) (A.live n d b) ∙ h
 
   size_by : (states : List S) (n : ℕ) → 0 < length states → All (λ s. graph_size (graph s) ≡ n) states → states_size graph states ≡ n
@@ -58,7 +67,8 @@ module _ {S : Type 0} (graph : S → StoredGraph) where
     pub size : states_size graph states ≡ n
     pub live : is_live_by graph states ≡ L
 
-  pub are_of : (states : List S) (n : ℕ) (L : ℕ → Bool) → 0 < length states → All (λ s. (graph_size (graph s) ≡ n) × (is_live (graph s) ≡ L)) states → AreOf n L states
+  pub are_of : (states : List S) (n : ℕ) (L : ℕ → Bool) → 0 < length states
+      → All (λ s. (graph_size (graph s) ≡ n) × (is_live (graph s) ≡ L)) states → AreOf n L states
   are_of states n L b h =
       let size = size_by states n b (λ k d p. (h k d p).0) in
       let live = live_by states L b (λ k d p. (h k d p).1) in

@@ -36,7 +36,8 @@ use Rattle.entangled.proofs.SameEntangled.{AreSame, weight_of_same}
 
 -- ---- the nets of a case
 
-module _ (c : Content) (V : IsValidContent c) (n : Numbers) (P : CanRunIn n c) (states : List (state_in n)) (O : loaded_states n (length c.names) c.components ≡ Ok states) where
+module _ (c : Content) (V : IsValidContent c) (n : Numbers) (P : CanRunIn n c) (states : List (state_in n))
+    (O : loaded_states n (length c.names) c.components ≡ Ok states) where
   abbrev m : ℕ
   m = length c.names
 
@@ -73,7 +74,8 @@ module _ (c : Content) (V : IsValidContent c) (n : Numbers) (P : CanRunIn n c) (
     sound = each_state (λ s. IsSound K (graph_in n s)) (λ i s g. g.graph.sound);
   }
 
-  graph_at : (i : ℕ) → i < length c.components → get_or (map (λ s. graph_of K (graph_in n s)) states) i empty_graph ≡ graph_of K (graph_in n (get_or states i (no_state n)))
+  graph_at : (i : ℕ) → i < length c.components → get_or (map (λ s. graph_of K (graph_in n s)) states) i empty_graph ≡ graph_of K
+      (graph_in n (get_or states i (no_state n)))
   graph_at i p = get_or-map (λ s. graph_of K (graph_in n s)) states i (no_state n) empty_graph (subst (λ n. i < n) (sym A.as_many) p)
 
   share_at : (i : ℕ) → number_at shares i ≡ number_of (component_at c.components i).share
@@ -94,23 +96,29 @@ module _ (c : Content) (V : IsValidContent c) (n : Numbers) (P : CanRunIn n c) (
   unfolding entangled
   within k p = p
 
-  module _ (js : List ℕ) (d : Bundled (state_in n)) (o : IsOrder m whole js) (run : opened_after K (graph_in n) (removal_in n) states shares js ≡ Ok d) where
+  module _ (js : List ℕ) (d : Bundled (state_in n)) (o : IsOrder m whole js)
+      (run : opened_after K (graph_in n) (removal_in n) states shares js ≡ Ok d) where
     order : IsOrder (states_size (graph_in n) states) whole js
     order = subst (λ n. IsOrder n whole js) (sym size_is) o
 
-    level_is : (k : ℕ) → IsIn m (left_after whole js) k → IsIntersectionWeight (entangled c) (left_after whole js) k (number (case_level (state_of n d) k))
+    level_is : (k : ℕ) → IsIn m (left_after whole js) k
+        → IsIntersectionWeight (entangled c) (left_after whole js) k (number (case_level (state_of n d) k))
     level_is k i =
         weight_of_same _ _ same (left_after whole js) k _ (within k i.below)
-        (levels_are_weights K (IsStoredIn n) (exact_in n) (graph_in n) (IsProperIn n) (removal_in n) (removal_exact n) states shares js d k ready order run (subst (λ n. IsIn n (left_after whole js) k) (sym size_is) i))
+        (levels_are_weights K (IsStoredIn n) (exact_in n) (graph_in n) (IsProperIn n) (removal_in n) (removal_exact n) states shares js d k ready order run
+        (subst (λ n. IsIn n (left_after whole js) k) (sym size_is) i))
 
     live_is : (k : ℕ) → k < m → is_live_in_case (state_of n d) k ≡ left_after whole js k
-    live_is k p = live_are_left K (IsStoredIn n) (exact_in n) (graph_in n) (IsProperIn n) (removal_in n) (removal_exact n) states shares js d k ready order run (subst (λ n. k < n) (sym size_is) p)
+    live_is k p = live_are_left K (IsStoredIn n) (exact_in n) (graph_in n) (IsProperIn n) (removal_in n) (removal_exact n) states shares js d k ready order run
+        (subst (λ n. k < n) (sym size_is) p)
 
     size_stays : case_size (state_of n d) ≡ m
-    size_stays = sizes_stay K (IsStoredIn n) (exact_in n) (graph_in n) (IsProperIn n) (removal_in n) (removal_exact n) states shares js d ready order run ∙ size_is
+    size_stays = sizes_stay K (IsStoredIn n) (exact_in n) (graph_in n) (IsProperIn n) (removal_in n) (removal_exact n) states shares js d ready order run
+        ∙ size_is
 
     is_lowest : (k : ℕ) → IsReduced (case_level (state_of n d) k)
-    is_lowest k = levels_are_lowest K (IsStoredIn n) (exact_in n) (graph_in n) (IsProperIn n) (removal_in n) (removal_exact n) states shares js d k ready order run
+    is_lowest k = levels_are_lowest K (IsStoredIn n) (exact_in n) (graph_in n) (IsProperIn n) (removal_in n)
+        (removal_exact n) states shares js d k ready order run
 
 -- ---- the laws
 
@@ -118,11 +126,14 @@ module _ (c : Content) (V : IsValidContent c) (js : List ℕ) (s : CaseState) (o
   R : IsRunOf c js s
   R = is_run c js s h
 
-  level_of_case : (k : ℕ) → IsIn (length c.names) (left_after whole js) k → IsIntersectionWeight (entangled c) (left_after whole js) k (number (case_level s k))
-  level_of_case k i = subst (λ s. IsIntersectionWeight (entangled c) (left_after whole js) k (number (case_level s k))) R.is (level_is c V (numbers_of c) (can_run c) R.states R.loaded js R.last o R.run k i)
+  level_of_case : (k : ℕ) → IsIn (length c.names) (left_after whole js) k
+      → IsIntersectionWeight (entangled c) (left_after whole js) k (number (case_level s k))
+  level_of_case k i = subst (λ s. IsIntersectionWeight (entangled c) (left_after whole js) k (number (case_level s k))) R.is
+      (level_is c V (numbers_of c) (can_run c) R.states R.loaded js R.last o R.run k i)
 
   live_in_case : (k : ℕ) → k < length c.names → is_live_in_case s k ≡ left_after whole js k
-  live_in_case k p = subst (λ s. is_live_in_case s k ≡ left_after whole js k) R.is (live_is c V (numbers_of c) (can_run c) R.states R.loaded js R.last o R.run k p)
+  live_in_case k p = subst (λ s. is_live_in_case s k ≡ left_after whole js k) R.is
+      (live_is c V (numbers_of c) (can_run c) R.states R.loaded js R.last o R.run k p)
 
   size_of_case : case_size s ≡ length c.names
   size_of_case = subst (λ s. case_size s ≡ length c.names) R.is (size_stays c V (numbers_of c) (can_run c) R.states R.loaded js R.last o R.run)

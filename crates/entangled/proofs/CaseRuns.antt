@@ -12,7 +12,8 @@ last_step (Ok x) = refl
 last_step (Err e) = refl
 
 -- a step that goes on to a good end, and on from there
-pub goes_on : (r : Result CaseState WideAt) (f g : CaseState → Result CaseState WideAt) (t : CaseState) (end : Result CaseState WideAt) → ((u : CaseState) → f u ≡ Ok t → g u ≡ end) → (r >>= f) ≡ Ok t → (r >>= g) ≡ end
+pub goes_on : (r : Result CaseState WideAt) (f g : CaseState → Result CaseState WideAt) (t : CaseState) (end : Result CaseState WideAt)
+    → ((u : CaseState) → f u ≡ Ok t → g u ≡ end) → (r >>= f) ≡ Ok t → (r >>= g) ≡ end
 goes_on (Ok u) f g t end step e = step u e
 goes_on (Err w) f g t end step e = absurd (cc)
 
@@ -20,15 +21,18 @@ goes_on (Err w) f g t end step e = absurd (cc)
 pub same_state : (r : Result CaseState WideAt) (s t : CaseState) → r ≡ Ok s → r ≡ Ok t → s ≡ t
 same_state r s t h k = cc
 
-turns_more : (js ks : List ℕ) (s t : CaseState) → removed_in_turn case_removal s js ≡ Ok t → removed_in_turn case_removal s (js ++ ks) ≡ removed_in_turn case_removal t ks
+turns_more : (js ks : List ℕ) (s t : CaseState) → removed_in_turn case_removal s js ≡ Ok t
+    → removed_in_turn case_removal s (js ++ ks) ≡ removed_in_turn case_removal t ks
 unfolding removed_in_turn
 turns_more [] ks s t h = ap (λ x. removed_in_turn case_removal x ks) (same_state (Ok s) s t refl h)
-turns_more (i ∷ js) ks s t h = goes_on (case_removal s i) (λ u. removed_in_turn case_removal u js) (λ u. removed_in_turn case_removal u (js ++ ks)) t (removed_in_turn case_removal t ks) (λ u e. turns_more js ks u t e) h
+turns_more (i ∷ js) ks s t h = goes_on (case_removal s i) (λ u. removed_in_turn case_removal u js) (λ u. removed_in_turn case_removal u (js ++ ks)) t
+    (removed_in_turn case_removal t ks) (λ u e. turns_more js ks u t e) h
 
 -- the removals of more
 pub after_more : (c : Content) (js ks : List ℕ) (s : CaseState) → case_after c js ≡ Ok s → case_after c (js ++ ks) ≡ removed_in_turn case_removal s ks
 unfolding case_after
-after_more c js ks s h = goes_on (case_opening c) (λ u. removed_in_turn case_removal u js) (λ u. removed_in_turn case_removal u (js ++ ks)) s (removed_in_turn case_removal s ks) (λ u e. turns_more js ks u s e) h
+after_more c js ks s h = goes_on (case_opening c) (λ u. removed_in_turn case_removal u js) (λ u. removed_in_turn case_removal u (js ++ ks)) s
+    (removed_in_turn case_removal s ks) (λ u e. turns_more js ks u s e) h
 
 one_turn : (s : CaseState) (j : ℕ) → removed_in_turn case_removal s (j ∷ []) ≡ case_removal s j
 unfolding removed_in_turn

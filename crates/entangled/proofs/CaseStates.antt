@@ -34,7 +34,8 @@ pub record IsStateOf (n : Numbers) (m : ℕ) (k : Component) (s : state_in n) : 
   pub graph : IsGraphOf n m k (graph_in n s)
   pub proper : IsProperIn n s
 
-rows_are : (m : ℕ) (k : Component) (G : StoredGraph) (s : StoredRows) → (I : IsGraphOf in_quotients m k G) → (C : HasConstants G) → AreGathered G I.stored C s → IsStateOf in_quotients m k s
+rows_are : (m : ℕ) (k : Component) (G : StoredGraph) (s : StoredRows) → (I : IsGraphOf in_quotients m k G) → (C : HasConstants G)
+    → AreGathered G I.stored C s → IsStateOf in_quotients m k s
 rows_are m k G s I C A = record {
   graph = record {
     size = graph_size G I.stored C s A ∙ I.size;
@@ -46,11 +47,13 @@ rows_are m k G s I C A = record {
   proper = A.proper;
 }
 
-gathered_is : (n : Numbers) (m : ℕ) (k : Component) (G : StoredGraph) (s : state_in n) → IsGraphOf n m k G → CanGather n G → gathered_in n G ≡ Ok s → IsStateOf n m k s
+gathered_is : (n : Numbers) (m : ℕ) (k : Component) (G : StoredGraph) (s : state_in n) → IsGraphOf n m k G → CanGather n G → gathered_in n G ≡ Ok s
+    → IsStateOf n m k s
 gathered_is in_fractions m k G s I C h = subst (IsStateOf in_fractions m k) (cc) (record { graph = I; proper = I.stored })
 gathered_is in_quotients m k G s I C h = rows_are m k G s I C (are_gathered G I.stored C s h)
 
-state_is : (n : Numbers) (m : ℕ) (k : Component) (s : state_in n) → IsComponent m k → CanLoadEach n k → loaded_state n m k ≡ Ok s → IsStateOf n m k s
+state_is : (n : Numbers) (m : ℕ) (k : Component) (s : state_in n) → IsComponent m k → CanLoadEach n k → loaded_state n m k ≡ Ok s
+    → IsStateOf n m k s
 unfolding loaded_state
 state_is n m k s C P h =
     let G = bind_ok (loaded_graph n m k) _ s h in
@@ -66,9 +69,11 @@ pub record AreStatesOf (n : Numbers) (c : Content) (states : List (state_in n)) 
   pub as_many : length states ≡ length c.components
   pub each : (i : ℕ) → i < length c.components → IsStateOf n (length c.names) (component_at c.components i) (get_or states i (no_state n))
 
-pub states_are : (n : Numbers) (c : Content) → IsValidContent c → CanRunIn n c → (states : List (state_in n)) → loaded_states n (length c.names) c.components ≡ Ok states → AreStatesOf n c states
+pub states_are : (n : Numbers) (c : Content) → IsValidContent c → CanRunIn n c → (states : List (state_in n))
+    → loaded_states n (length c.names) c.components ≡ Ok states → AreStatesOf n c states
 unfolding loaded_states state_at
 states_are n c V P states h = record {
   as_many = each_length (length c.components) (state_at n (length c.names) c.components) states h;
-  each = λ i p. state_is n (length c.names) (component_at c.components i) _ (is_component c V i p) (can_load n c P i p) (in_component_ok i _ _ (each_get (length c.components) (state_at n (length c.names) c.components) states h (no_state n) i p));
+  each = λ i p. state_is n (length c.names) (component_at c.components i) _ (is_component c V i p) (can_load n c P i p)
+      (in_component_ok i _ _ (each_get (length c.components) (state_at n (length c.names) c.components) states h (no_state n) i p));
 }

@@ -27,11 +27,13 @@ module _ (n : Numbers) where
   abbrev step : Bundled (state_in n) → ℕ → Result (Bundled (state_in n)) WideAt
   step = removed (kind_of n) (graph_in n) (removal_in n)
 
-  one_step : (b : Bundled (state_in n)) (j : ℕ) (s : CaseState) → case_removal (state_of n b) j ≡ Ok s → (d : Bundled (state_in n)) × ((step b j ≡ Ok d) × (state_of n d ≡ s))
+  one_step : (b : Bundled (state_in n)) (j : ℕ) (s : CaseState) → case_removal (state_of n b) j ≡ Ok s → (d : Bundled (state_in n))
+      × ((step b j ≡ Ok d) × (state_of n d ≡ s))
   unfolding case_removal
   one_step b j s h = mapped_ok (state_of n) (step b j) s h
 
-  in_turn : (js : List ℕ) (b : Bundled (state_in n)) (s : CaseState) → removed_in_turn case_removal (state_of n b) js ≡ Ok s → (d : Bundled (state_in n)) × ((removed_in_turn step b js ≡ Ok d) × (state_of n d ≡ s))
+  in_turn : (js : List ℕ) (b : Bundled (state_in n)) (s : CaseState) → removed_in_turn case_removal (state_of n b) js ≡ Ok s
+      → (d : Bundled (state_in n)) × ((removed_in_turn step b js ≡ Ok d) × (state_of n d ≡ s))
   in_turn [] b s h = (b, (turn_end step b, turn_none case_removal (state_of n b) s h))
   in_turn (j ∷ js) b s h =
       let r = turn_first case_removal (state_of n b) s j js h in
@@ -40,7 +42,8 @@ module _ (n : Numbers) where
       (rest.0, (turn_on step b d.0 rest.0 j js d.1.0 rest.1.0, rest.1.1))
 
 -- no removal changes the numbers and the shares
-shares_stay : {S : Type 0} (K : Kind) (graph : S → StoredGraph) (removal : S → ℕ → Result S Wide) (b d : Bundled S) (j : ℕ) → removed K graph removal b j ≡ Ok d → d.shares ≡ b.shares
+shares_stay : {S : Type 0} (K : Kind) (graph : S → StoredGraph) (removal : S → ℕ → Result S Wide) (b d : Bundled S) (j : ℕ)
+    → removed K graph removal b j ≡ Ok d → d.shares ≡ b.shares
 unfolding removed
 shares_stay K graph removal b d j h =
     let a = bind_ok (removed_together removal b.states j) _ d h in
@@ -64,7 +67,8 @@ pub record IsRunOf (c : Content) (js : List ℕ) (s : CaseState) : Type 0 where
   pub run : opened_after (kind_of (numbers_of c)) (graph_in (numbers_of c)) (removal_in (numbers_of c)) states (map (λ k. k.share) c.components) js ≡ Ok last
   pub is : state_of (numbers_of c) last ≡ s
 
-start : (c : Content) (s : CaseState) → case_opening c ≡ Ok s → (b : Bundled (state_in (numbers_of c))) × ((opening_in (numbers_of c) c ≡ Ok b) × (state_of (numbers_of c) b ≡ s))
+start : (c : Content) (s : CaseState) → case_opening c ≡ Ok s → (b : Bundled (state_in (numbers_of c)))
+    × ((opening_in (numbers_of c) c ≡ Ok b) × (state_of (numbers_of c) b ≡ s))
 unfolding case_opening
 start c s h = mapped_ok (state_of (numbers_of c)) (opening_in (numbers_of c) c) s h
 

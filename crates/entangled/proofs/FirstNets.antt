@@ -21,7 +21,8 @@ first_of : {S : Type 0} (states : List S) → 0 < length states → S
 first_of [] p = absurd (omega arith)
 first_of (s ∷ ss) p = s
 
-module _ {S : Type 0} (K : Kind) (graph : S → StoredGraph) (IsProper : S → Type 0) (states : List S) (shares : List Ratio) (R : AreReady K graph IsProper states shares) where
+module _ {S : Type 0} (K : Kind) (graph : S → StoredGraph) (IsProper : S → Type 0) (states : List S) (shares : List Ratio)
+    (R : AreReady K graph IsProper states shares) where
   -- a net to name where a place is past the end
   pub some_net : S
   some_net = first_of states R.some

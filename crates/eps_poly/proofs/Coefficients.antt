@@ -1,5 +1,6 @@
 -- Lists by their coefficients.
-use Rattle.std.proofs.Common.{◌≡◌, ◌≢◌, ℕ, zero, suc, ◌+◌, ◌<◌, ◌≤◌, List, [], ◌∷◌, length, drop, set, replicate, map, refl, sym, ◌∙◌, ap, arith, true, false, ℤ, pos, negsuc, inl, inr}
+use Rattle.std.proofs.Common.{◌≡◌, ◌≢◌, ℕ, zero, suc, ◌+◌, ◌<◌, ◌≤◌, List, [], ◌∷◌, length, drop, set, replicate, map, refl}
+use Rattle.std.proofs.Common.{sym, ◌∙◌, ap, arith, true, false, ℤ, pos, negsuc, inl, inr}
 use Rattle.std.specs.List.{range_with_len}
 use Rattle.std.proofs.lemmas.Bool.{cases_eq, cases_lt}
 use Rattle.std.proofs.lemmas.List.{same_lists, get_or-set_same, get_or-set_other, length-set, length-replicate, get_or-replicate}
@@ -39,7 +40,8 @@ coefficient-set_same p i c h =
 
 pub coefficient-set_other : (p : List ℤ) (i k : ℕ) (c : ℤ) → k ≢ i → coefficient (set p i c) k ≡ coefficient p k
 coefficient-set_other p i k c apart = elim (cases_lt k (length p)) [
-  | inl h ↦ coefficient-index (set p i c) k (pos 0) (omega (arith, length-set p i c)) ∙ get_or-set_other p i k c (pos 0) apart ∙ sym (coefficient-index p k (pos 0) h)
+  | inl h ↦ coefficient-index (set p i c) k (pos 0) (omega (arith, length-set p i c)) ∙ get_or-set_other p i k c (pos 0) apart
+      ∙ sym (coefficient-index p k (pos 0) h)
   | inr h ↦ coefficient-past (set p i c) k (omega (arith, length-set p i c)) ∙ sym (coefficient-past p k h)
 ]
 

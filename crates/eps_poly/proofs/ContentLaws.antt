@@ -1,5 +1,6 @@
 -- The greatest common divisor of coefficients.
-use Rattle.std.proofs.Common.{◌≡◌, ℕ, zero, suc, ◌+◌, ◌<◌, ◌≤◌, ◌^◌, List, [], ◌∷◌, length, sym, ◌∙◌, ap, arith, ℤ, pos, unsigned_abs, get_or, drop, ◌-◌, lit<}
+use Rattle.std.proofs.Common.{◌≡◌, ℕ, zero, suc, ◌+◌, ◌<◌, ◌≤◌, ◌^◌, List, [], ◌∷◌, length, sym, ◌∙◌, ap, arith, ℤ, pos}
+use Rattle.std.proofs.Common.{unsigned_abs, get_or, drop, ◌-◌, lit<}
 use lib.IntN.{ℤ_discrete}
 use Rattle.std.proofs.lemmas.List.{drop_more}
 use Rattle.std.specs.Int.{◌∣◌}
@@ -48,7 +49,8 @@ content_small p small = elim (ℤ_discrete (lowest p) (pos 0)) [
 pub content_end : (p : List ℤ) (n : ℕ) → ((k : ℕ) → n ≤ k → coefficient p k ≡ pos 0) → 0 ≡ content (drop n p)
 content_end p n none = sym (content_zeros (drop n p) (λ k. coefficient-drop p n k ∙ none (k + n) (omega arith)))
 
-pub content_more : (p : List ℤ) (n : ℕ) (size divisor result : ℕ) → 0 < n → n ≤ length p → divisor ≡ content (drop n p) → size ≡ unsigned_abs (coefficient p (n - 1)) → result ≡ gcd size divisor → result ≡ content (drop (n - 1) p)
+pub content_more : (p : List ℤ) (n : ℕ) (size divisor result : ℕ) → 0 < n → n ≤ length p → divisor ≡ content (drop n p)
+    → size ≡ unsigned_abs (coefficient p (n - 1)) → result ≡ gcd size divisor → result ≡ content (drop (n - 1) p)
 unfolding content
 content_more p n size divisor result some within d e f =
     let next : (n - 1) + 1 ≡ n = omega arith in

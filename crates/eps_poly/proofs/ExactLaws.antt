@@ -1,5 +1,7 @@
 -- The exact quotient is the polynomial whose written product with the divisor is the dividend, and there is at most one.
-use Rattle.std.proofs.Common.{◌≡◌, ◌≢◌, ℕ, zero, suc, ◌+◌, ◌-◌, ◌*◌, ◌^◌, ◌<◌, ◌≤◌, ◌⊎◌, inl, inr, List, [], ◌∷◌, ◌++◌, length, length-append, refl, sym, ◌∙◌, ap, ap₂, arith, ℤ, pos, ◌+ℤ◌, ◌*ℤ◌, neg_ℤ, unsigned_abs, int_div, Bool, true, false, if◌then◌else◌, Option, Some, None}
+use Rattle.std.proofs.Common.{◌≡◌, ◌≢◌, ℕ, zero, suc, ◌+◌, ◌-◌, ◌*◌, ◌^◌, ◌<◌, ◌≤◌, ◌⊎◌, inl, inr, List, []}
+use Rattle.std.proofs.Common.{◌∷◌, ◌++◌, length, length-append, refl, sym, ◌∙◌, ap, ap₂, arith, ℤ, pos, ◌+ℤ◌, ◌*ℤ◌, neg_ℤ}
+use Rattle.std.proofs.Common.{unsigned_abs, int_div, Bool, true, false, if◌then◌else◌, Option, Some, None}
 use Rattle.std.proofs.lemmas.Int.{ints, unsigned_abs-mul}
 use Rattle.std.proofs.lemmas.Bool.{cases_lt}
 use Rattle.std.proofs.Math.Nat.{mul-le-mul_left}
@@ -35,7 +37,8 @@ coefficient-last [] c (suc k) h = absurd (omega arith)
 coefficient-last (d ∷ q) c zero h = absurd (omega arith)
 coefficient-last (d ∷ q) c (suc k) h = coefficient-last q c k (omega arith)
 
-part-same : (p q by : List ℤ) (k n : ℕ) → ((i : ℕ) → i < n → coefficient p i ≡ coefficient q i) → product_part p by k n ≡ product_part q by k n
+part-same : (p q by : List ℤ) (k n : ℕ) → ((i : ℕ) → i < n → coefficient p i ≡ coefficient q i)
+    → product_part p by k n ≡ product_part q by k n
 unfolding product_part
 part-same p q by k zero h = refl
 part-same p q by k (suc n) h = ap₂ (λ a b. a +ℤ b *ℤ coefficient by (k - n)) (part-same p q by k n (λ i l. h i (omega arith))) (h n (omega arith))
@@ -54,7 +57,12 @@ module _ (p by : List ℤ) where
   length-front zero = refl
   length-front (suc n) =
       let q = quotient_front p by n in
-      omega (arith, length-front n, length-append q (int_div (coefficient p (length q + order by) +ℤ neg_ℤ (product_part q by (length q + order by) (length q))) (coefficient by (order by)) ∷ []))
+      omega (
+        arith,
+        length-front n,
+        length-append q (int_div (coefficient p (length q + order by) +ℤ neg_ℤ (product_part q by (length q + order by) (length q)))
+            (coefficient by (order by)) ∷ []),
+      )
 
   front_keeps : (n k : ℕ) → k < n → coefficient (quotient_front p by (suc n)) k ≡ coefficient (quotient_front p by n) k
   unfolding quotient_front
@@ -65,7 +73,8 @@ module _ (p by : List ℤ) where
   unfolding quotient_front
   front_last n =
       coefficient-last (quotient_front p by n) _ n (sym (length-front n))
-      ∙ ap (λ m. int_div (coefficient p (m + order by) +ℤ neg_ℤ (product_part (quotient_front p by n) by (m + order by) m)) (coefficient by (order by))) (length-front n)
+      ∙ ap (λ m. int_div (coefficient p (m + order by) +ℤ neg_ℤ (product_part (quotient_front p by n) by (m + order by) m)) (coefficient by (order by)))
+      (length-front n)
 
   module _ (q : List ℤ) (same : Same p (poly_multiply q by)) (some : IsNonZero by) where
     whole : (n : ℕ) → coefficient p (n + order by) ≡ product_part q by (n + order by) n +ℤ coefficient q n *ℤ coefficient by (order by)
@@ -74,7 +83,8 @@ module _ (p by : List ℤ) where
         let count : at + 1 ≡ order by + suc n = omega arith in
         let gap : at - n ≡ order by = omega arith in
         same at ∙ coefficient-multiply_part q by at ∙ ap (product_part q by at) count
-        ∙ part_more q by at (suc n) (order by) (λ i l u. product_zero (coefficient q i) (coefficient by (at - i)) (coefficient-below_order by (at - i) (omega arith)))
+        ∙ part_more q by at (suc n) (order by)
+        (λ i l u. product_zero (coefficient q i) (coefficient by (at - i)) (coefficient-below_order by (at - i) (omega arith)))
         ∙ part-next q by at n (order by) gap
 
     front_is : (n k : ℕ) → k < n → coefficient (quotient_front p by n) k ≡ coefficient q k
@@ -82,7 +92,8 @@ module _ (p by : List ℤ) where
     front_is (suc n) k h = elim (last k n h) [
       | inl e ↦ rw e (front_last n
           ∙ one_step (coefficient p (n + order by)) _ (coefficient q n) (coefficient by (order by)) (divisor_some by (order by) refl some)
-          (whole n ∙ ap (λ x. x +ℤ coefficient q n *ℤ coefficient by (order by)) (sym (part-same (quotient_front p by n) q by (n + order by) n (λ i l. front_is n i l)))))
+          (whole n ∙ ap (λ x. x +ℤ coefficient q n *ℤ coefficient by (order by))
+          (sym (part-same (quotient_front p by n) q by (n + order by) n (λ i l. front_is n i l)))))
       | inr l ↦ front_keeps n k l ∙ front_is n k l
     ]
 

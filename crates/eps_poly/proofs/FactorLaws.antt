@@ -1,10 +1,12 @@
 -- Polynomials and their factors.
-use Rattle.std.proofs.Common.{◌≡◌, ◌≢◌, ℕ, zero, suc, ◌+◌, ◌-◌, ◌*◌, ◌/◌, ◌<◌, ◌≤◌, List, ◌++◌, length, replicate, refl, sym, ◌∙◌, ap, subst, arith, ℤ, pos, negsuc, neg_ℤ, ◌*ℤ◌, ◌<ℤ◌, unsigned_abs, int_div, inl, inr}
+use Rattle.std.proofs.Common.{◌≡◌, ◌≢◌, ℕ, zero, suc, ◌+◌, ◌-◌, ◌*◌, ◌/◌, ◌<◌, ◌≤◌, List, ◌++◌, length, replicate}
+use Rattle.std.proofs.Common.{refl, sym, ◌∙◌, ap, subst, arith, ℤ, pos, negsuc, neg_ℤ, ◌*ℤ◌, ◌<ℤ◌, unsigned_abs, int_div, inl, inr}
 use Rattle.std.specs.Int.{◌∣◌}
 use Rattle.std.proofs.lemmas.Bool.{cases_lt}
 use Rattle.std.proofs.lemmas.Int.{ints, unsigned_abs-mul}
 use Rattle.std.proofs.lemmas.Nat.Gcd.{dvd_trans, dvd_refl, dvd-zero}
-use Rattle.std.proofs.Math.Nat.{zero-add, one-mul, mul-one, mul-div_cancel', dvd-mul_right, dvd_of_mul-dvd-mul_left, mul-dvd-mul_right, dvd_of_mul-dvd-mul_right, eq-one_of_dvd-one}
+use Rattle.std.proofs.Math.Nat.{zero-add, one-mul, mul-one, mul-div_cancel', dvd-mul_right, dvd_of_mul-dvd-mul_left, mul-dvd-mul_right}
+use Rattle.std.proofs.Math.Nat.{dvd_of_mul-dvd-mul_right, eq-one_of_dvd-one}
 use lib.IntN.{*ℤ-zero}
 use Rattle.std.proofs.Math.IntN.{*ℤ_comm}
 use Rattle.field_core.specs.Polynomial.{coefficient, Same, poly_negate, lowest, IsNonZero}
@@ -46,17 +48,20 @@ unfolding from_factors
 coefficient-factors c k i m p e =
     coefficient-scale c (replicate k (pos 0) ++ p) m ∙ ap (λ x. c *ℤ x) (raised_above k i m p e)
 
-pub coefficient-lowered : (k : ℕ) (by : ℤ) (p : List ℤ) (i : ℕ) → length p ≡ 33 → coefficient (lowered k by p) i ≡ int_div (coefficient p (i + k)) by
+pub coefficient-lowered : (k : ℕ) (by : ℤ) (p : List ℤ) (i : ℕ) → length p ≡ 33
+    → coefficient (lowered k by p) i ≡ int_div (coefficient p (i + k)) by
 unfolding lowered
 coefficient-lowered k by p i long =
     let value : ℕ → ℤ = λ j. int_div (coefficient p (j + k)) by in
     elim (cases_lt i 33) [
       | inl h ↦ coefficient-by_powers value i h
-      | inr h ↦ coefficient-past (by_powers value) i (omega (arith, length-by_powers value)) ∙ sym (ap (λ x. int_div x by) (coefficient-past p (i + k) (omega arith)) ∙ int_div-zero by)
+      | inr h ↦ coefficient-past (by_powers value) i (omega (arith, length-by_powers value))
+          ∙ sym (ap (λ x. int_div x by) (coefficient-past p (i + k) (omega arith)) ∙ int_div-zero by)
     ]
 
 -- what is lowered by a common divisor and a common power is that, times them
-pub lowered_factors : (k h : ℕ) (p : List ℤ) → length p ≡ 33 → h ∣ content p → k ≤ order p → Same p (from_factors (pos h) k (lowered k (pos h) p))
+pub lowered_factors : (k h : ℕ) (p : List ℤ) → length p ≡ 33 → h ∣ content p → k ≤ order p
+    → Same p (from_factors (pos h) k (lowered k (pos h) p))
 lowered_factors k h p long divides within i = elim (cases_lt i k) [
   | inl l ↦ coefficient-below_order p i (omega arith) ∙ sym (coefficient-factors_below (pos h) k i (lowered k (pos h) p) l)
   | inr l ↦ let back : (i - k) + k ≡ i = omega arith in
@@ -81,13 +86,17 @@ turned_size (pos n) p i = refl
 turned_size (negsuc n) p i = ap unsigned_abs (coefficient-negate p i) ∙ size_negated (coefficient p i)
 
 -- a coefficient of the core, times the content
-core_times : (s : ℤ) (p : List ℤ) (i : ℕ) → length p ≡ 33 → coefficient (lowered (order p) (pos (content p)) (turned_as s p)) i *ℤ pos (content p) ≡ coefficient (turned_as s p) (i + order p)
+core_times : (s : ℤ) (p : List ℤ) (i : ℕ) → length p ≡ 33
+    → coefficient (lowered (order p) (pos (content p)) (turned_as s p)) i *ℤ pos (content p) ≡ coefficient (turned_as s p) (i + order p)
 core_times s p i long =
     let t = turned_as s p in
-    let divides : content p ∣ unsigned_abs (coefficient t (i + order p)) = subst (λ n. content p ∣ n) (sym (turned_size s p (i + order p))) (content_divides p (i + order p)) in
-    ap (λ x. x *ℤ pos (content p)) (coefficient-lowered (order p) (pos (content p)) t i (length-turned s p ∙ long)) ∙ quotient_times (coefficient t (i + order p)) (content p) divides
+    let divides : content p ∣ unsigned_abs (coefficient t (i + order p)) =
+    subst (λ n. content p ∣ n) (sym (turned_size s p (i + order p))) (content_divides p (i + order p)) in
+    ap (λ x. x *ℤ pos (content p)) (coefficient-lowered (order p) (pos (content p)) t i (length-turned s p ∙ long))
+    ∙ quotient_times (coefficient t (i + order p)) (content p) divides
 
-signed_factors : (s : ℤ) (p : List ℤ) → length p ≡ 33 → Same p (from_factors (signed_as s (content p)) (order p) (lowered (order p) (pos (content p)) (turned_as s p)))
+signed_factors : (s : ℤ) (p : List ℤ) → length p ≡ 33
+    → Same p (from_factors (signed_as s (content p)) (order p) (lowered (order p) (pos (content p)) (turned_as s p)))
 signed_factors (pos n) p long i = lowered_factors (order p) (content p) p long (dvd_refl (content p)) (omega arith) i
 signed_factors (negsuc n) p long i =
     let k = order p in
@@ -97,7 +106,8 @@ signed_factors (negsuc n) p long i =
       | inl l ↦ coefficient-below_order p i l ∙ sym (coefficient-factors_below (neg_ℤ g) k i q l)
       | inr l ↦ let back : (i - k) + k ≡ i = omega arith in
           sym (coefficient-factors (neg_ℤ g) k (i - k) i q (sym back)
-          ∙ opposite_times g (coefficient q (i - k)) (coefficient p i) (core_times (negsuc n) p (i - k) long ∙ coefficient-negate p ((i - k) + k) ∙ ap (λ m. neg_ℤ (coefficient p m)) back))
+          ∙ opposite_times g (coefficient q (i - k)) (coefficient p i)
+          (core_times (negsuc n) p (i - k) long ∙ coefficient-negate p ((i - k) + k) ∙ ap (λ m. neg_ℤ (coefficient p m)) back))
     ]
 
 -- a polynomial is the product of its factors
@@ -136,7 +146,8 @@ pub core_is : (p : List ℤ) → length p ≡ 33 → IsNonZero p → IsCore (cor
 unfolding core
 core_is p long some = record {
   divisor = core_divisor (lowest p) p long some;
-  first = positive_part (coefficient (lowered (order p) (pos (content p)) (turned_as (lowest p) p)) 0) (content p) _ (core_times (lowest p) p 0 long) (rw zero-add (turned_first (lowest p) p some refl));
+  first = positive_part (coefficient (lowered (order p) (pos (content p)) (turned_as (lowest p) p)) 0) (content p) _ (core_times (lowest p) p 0 long)
+      (rw zero-add (turned_first (lowest p) p some refl));
 }
 
 -- the degree of the core is what is above the least power
@@ -148,9 +159,13 @@ degree-core p long some =
     let whole = core_factors p long in
     let first = (core_is p long some).first in
     let left : IsNonZero q = lowest_from_coefficient q 0 (λ none. absurd (let low : pos 0 <ℤ pos 0 = rw none at first in omega (arith, ints))) in
-    let factor_some : c ≢ pos 0 = λ none. some (sym (coefficient-order p) ∙ whole k ∙ coefficient-factors c k 0 k q (omega arith) ∙ rw none (omega (arith, ints))) in
-    let low = degree_at_least p (degree q + k) (λ none. product_nonzero c (coefficient q (degree q)) factor_some (coefficient-degree q left) (sym (whole (degree q + k) ∙ coefficient-factors c k (degree q) (degree q + k) q refl) ∙ none)) in
-    let high = degree_at_most p (degree q + k) (λ j h. whole j ∙ coefficient-factors c k (j - k) j q (omega arith) ∙ rw (coefficient-above_degree q (j - k) (omega arith)) (*ℤ-zero c)) in
+    let factor_some : c ≢ pos 0 =
+    λ none. some (sym (coefficient-order p) ∙ whole k ∙ coefficient-factors c k 0 k q (omega arith) ∙ rw none (omega (arith, ints))) in
+    let low = degree_at_least p (degree q + k)
+    (λ none. product_nonzero c (coefficient q (degree q)) factor_some (coefficient-degree q left)
+    (sym (whole (degree q + k) ∙ coefficient-factors c k (degree q) (degree q + k) q refl) ∙ none)) in
+    let high = degree_at_most p (degree q + k)
+    (λ j h. whole j ∙ coefficient-factors c k (j - k) j q (omega arith) ∙ rw (coefficient-above_degree q (j - k) (omega arith)) (*ℤ-zero c)) in
     omega arith
 
 -- ---- there is one way only
@@ -218,7 +233,8 @@ module _ (p q : List ℤ) (c : ℤ) (k : ℕ) (long : length p ≡ 33) (some : I
       let e = content p / n in
       let split : n * e ≡ content p = mul-div_cancel' n (content_greatest p n size_divides) in
       let each : (j : ℕ) → e ∣ unsigned_abs (coefficient q j) = λ j.
-      let size : unsigned_abs (coefficient p (j + k)) ≡ n * unsigned_abs (coefficient q j) = ap unsigned_abs (above j (j + k) refl) ∙ unsigned_abs-mul c (coefficient q j) in
+      let size : unsigned_abs (coefficient p (j + k)) ≡ n * unsigned_abs (coefficient q j) = ap unsigned_abs (above j (j + k) refl)
+      ∙ unsigned_abs-mul c (coefficient q j) in
       let all : n * e ∣ n * unsigned_abs (coefficient q j) = rw (split, ← size) (content_divides p (j + k)) in
       dvd_of_mul-dvd-mul_left e (size_some c number_some) all in
       let one : e ≡ 1 = eq-one_of_dvd-one (subst (λ m. e ∣ m) is.divisor (content_greatest q e each)) in

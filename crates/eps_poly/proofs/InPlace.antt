@@ -14,7 +14,8 @@ pub record Rewritten (P : ℕ → ℤ → Type 0) (before p : List ℤ) (n : ℕ
 pub rewritten_none : (P : ℕ → ℤ → Type 0) (p : List ℤ) → Rewritten P p p 0
 rewritten_none P p = record { count = refl; front = λ k h. absurd (omega arith); rest = λ k h. refl }
 
-pub rewritten_more : (P : ℕ → ℤ → Type 0) (before p : List ℤ) (n : ℕ) (c : ℤ) → n < length before → Rewritten P before p n → P n c → Rewritten P before (set p n c) (n + 1)
+pub rewritten_more : (P : ℕ → ℤ → Type 0) (before p : List ℤ) (n : ℕ) (c : ℤ) → n < length before → Rewritten P before p n → P n c
+    → Rewritten P before (set p n c) (n + 1)
 rewritten_more P before p n c room r here =
     let all = r.count in
     record {
@@ -27,7 +28,8 @@ rewritten_more P before p n c room r here =
     }
 
 -- what is as before is as P says too
-pub rewritten_all : (P : ℕ → ℤ → Type 0) (before p : List ℤ) (n : ℕ) → ((k : ℕ) → n ≤ k → P k (coefficient before k)) → Rewritten P before p n → (k : ℕ) → P k (coefficient p k)
+pub rewritten_all : (P : ℕ → ℤ → Type 0) (before p : List ℤ) (n : ℕ) → ((k : ℕ) → n ≤ k → P k (coefficient before k))
+    → Rewritten P before p n → (k : ℕ) → P k (coefficient p k)
 rewritten_all P before p n past r k = elim (cases_lt k n) [
   | inl l ↦ r.front k l
   | inr l ↦ rw (r.rest k l) (past k l)

@@ -1,5 +1,6 @@
 -- Quotients of whole numbers that leave no remainder.
-use Rattle.std.proofs.Common.{◌≡◌, ◌≢◌, zero, suc, ◌*◌, ◌/◌, ◌<◌, ◌≤◌, refl, sym, ◌∙◌, ap, arith, ℤ, pos, negsuc, ◌+ℤ◌, ◌*ℤ◌, neg_ℤ, unsigned_abs, int_div, int_rem, inl, inr}
+use Rattle.std.proofs.Common.{◌≡◌, ◌≢◌, zero, suc, ◌*◌, ◌/◌, ◌<◌, ◌≤◌, refl, sym, ◌∙◌, ap, arith, ℤ, pos, negsuc}
+use Rattle.std.proofs.Common.{◌+ℤ◌, ◌*ℤ◌, neg_ℤ, unsigned_abs, int_div, int_rem, inl, inr}
 use Rattle.std.proofs.lemmas.Bool.{cases_lt}
 use Rattle.std.proofs.lemmas.Int.{ints, quot-rem, rem_below, unsigned_abs-mul}
 use Rattle.std.proofs.Math.Nat.{mul-le-mul_right}
@@ -19,7 +20,8 @@ size_none (negsuc n) h = absurd (omega arith)
 -- a multiple that is smaller in size is 0
 small_multiple : (y d : ℤ) → unsigned_abs (y *ℤ d) < unsigned_abs d → y ≡ pos 0
 small_multiple y d h = elim (cases_lt 0 (unsigned_abs y)) [
-  | inl some ↦ let large : 1 * unsigned_abs d ≤ unsigned_abs y * unsigned_abs d = mul-le-mul_right (unsigned_abs d) some in let product = unsigned_abs-mul y d in absurd (omega arith)
+  | inl some ↦ let large : 1 * unsigned_abs d ≤ unsigned_abs y * unsigned_abs d = mul-le-mul_right (unsigned_abs d) some in let product =
+      unsigned_abs-mul y d in absurd (omega arith)
   | inr none ↦ size_none y (omega arith)
 ]
 
@@ -40,7 +42,8 @@ pub int_div_exact : (x d : ℤ) → d ≢ pos 0 → int_div (x *ℤ d) d ≡ x
 int_div_exact x d some =
     let q = int_div (x *ℤ d) d in
     let y = x +ℤ neg_ℤ q in
-    let is : y *ℤ d ≡ int_rem (x *ℤ d) d = left_over (y *ℤ d) (q *ℤ d) (x *ℤ d) (int_rem (x *ℤ d) d) (difference_times x q d) (quot-rem (x *ℤ d) d) in
+    let is : y *ℤ d ≡ int_rem (x *ℤ d) d = left_over (y *ℤ d) (q *ℤ d) (x *ℤ d) (int_rem (x *ℤ d) d) (difference_times x q d)
+    (quot-rem (x *ℤ d) d) in
     from_difference x q (small_multiple y d (rw is (rem_below (x *ℤ d) d (size_some d some))))
 
 pub int_rem_exact : (x d : ℤ) → d ≢ pos 0 → int_rem (x *ℤ d) d ≡ pos 0

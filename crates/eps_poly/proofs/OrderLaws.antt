@@ -1,5 +1,6 @@
 -- The least power with a coefficient that isn't 0.
-use Rattle.std.proofs.Common.{◌≡◌, ◌≢◌, ℕ, zero, suc, ◌<◌, ◌≤◌, true, false, List, [], ◌∷◌, length, refl, sym, ◌∙◌, arith, ℤ, pos, negsuc, inl, inr, Some, None, eqb, IsTrue, ◌↔◌}
+use Rattle.std.proofs.Common.{◌≡◌, ◌≢◌, ℕ, zero, suc, ◌<◌, ◌≤◌, true, false, List, [], ◌∷◌, length, refl, sym, ◌∙◌, arith}
+use Rattle.std.proofs.Common.{ℤ, pos, negsuc, inl, inr, Some, None, eqb, IsTrue, ◌↔◌}
 use Rattle.std.proofs.lemmas.Bool.{cases_lt, cases_eq}
 use Rattle.std.proofs.lemmas.Bool.Decides.{nat_tests}
 use Rattle.std.specs.List.{list_all}
@@ -108,6 +109,7 @@ zero_value p n count e = elim (cases_eq n 33) [
 
 pub zero_test : (p : List ℤ) (n : ℕ) → length p ≡ 33 → n ≡ order p → IsTrue (eqb n 33) ↔ (lowest p ≡ pos 0)
 zero_test p n count e =
-    let forward : IsTrue (eqb n 33) → lowest p ≡ pos 0 = λ test. let same : n ≡ 33 = grind (arith, nat_tests) in lowest_is_zero p (sym e ∙ same ∙ sym count) in
+    let forward : IsTrue (eqb n 33) → lowest p ≡ pos 0 = λ test. let same : n ≡ 33 = grind (arith, nat_tests) in lowest_is_zero p
+    (sym e ∙ same ∙ sym count) in
     let back : lowest p ≡ pos 0 → IsTrue (eqb n 33) = λ none. let same : n ≡ 33 = e ∙ order_at_end p none ∙ count in grind (arith, nat_tests) in
     (forward, back)

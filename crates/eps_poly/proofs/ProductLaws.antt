@@ -1,5 +1,6 @@
 -- What a product that isn't refused is.
-use Rattle.std.proofs.Common.{lit<, ◌≡◌, ℕ, zero, suc, ◌+◌, ◌-◌, ◌<◌, ◌≤◌, ◌^◌, List, refl, sym, ◌∙◌, ap, ap₂, arith, ℤ, pos, ◌+ℤ◌, ◌*ℤ◌, unsigned_abs, inl, inr, Option, Some, None, Bool, true, false, nat_le, if◌then◌else◌}
+use Rattle.std.proofs.Common.{lit<, ◌≡◌, ℕ, zero, suc, ◌+◌, ◌-◌, ◌<◌, ◌≤◌, ◌^◌, List, refl, sym, ◌∙◌, ap, ap₂, arith, ℤ}
+use Rattle.std.proofs.Common.{pos, ◌+ℤ◌, ◌*ℤ◌, unsigned_abs, inl, inr, Option, Some, None, Bool, true, false, nat_le, if◌then◌else◌}
 use mathlib.Core.Path.{fun_ext}
 use Rattle.std.proofs.lemmas.Bool.{cases_lt}
 use Rattle.std.proofs.lemmas.Bool.Decides.{nat_tests}
@@ -39,7 +40,8 @@ coefficient_step p q k n c e =
       sum = ap (λ x. sized (first.0 +ℤ x)) (sym same) ∙ second.2;
     }
 
-pub coefficient_next : (p q : List ℤ) (k n : ℕ) (c product : ℤ) (sum : Option ℤ) → written_coefficient p q k n ≡ Some c → sized (coefficient p n *ℤ coefficient q (k - n)) ≡ Some product → sized (c +ℤ product) ≡ sum → written_coefficient p q k (suc n) ≡ sum
+pub coefficient_next : (p q : List ℤ) (k n : ℕ) (c product : ℤ) (sum : Option ℤ) → written_coefficient p q k n ≡ Some c
+    → sized (coefficient p n *ℤ coefficient q (k - n)) ≡ Some product → sized (c +ℤ product) ≡ sum → written_coefficient p q k (suc n) ≡ sum
 unfolding written_coefficient
 coefficient_next p q k n c product sum e f g = rw (e, f) g
 
@@ -47,7 +49,8 @@ pub coefficient_none : (p q : List ℤ) (k : ℕ) → written_coefficient p q k 
 unfolding written_coefficient
 coefficient_none p q k = refl
 
-pub coefficient_product_refused : (p q : List ℤ) (k n : ℕ) (c : ℤ) → written_coefficient p q k n ≡ Some c → sized (coefficient p n *ℤ coefficient q (k - n)) ≡ None → written_coefficient p q k (suc n) ≡ None
+pub coefficient_product_refused : (p q : List ℤ) (k n : ℕ) (c : ℤ) → written_coefficient p q k n ≡ Some c
+    → sized (coefficient p n *ℤ coefficient q (k - n)) ≡ None → written_coefficient p q k (suc n) ≡ None
 unfolding written_coefficient
 coefficient_product_refused p q k n c h f = rw (h, f) refl
 
@@ -78,7 +81,8 @@ coefficient_small p q k zero c e =
 coefficient_small p q k (suc n) c e = let s = coefficient_step p q k n c e in (sized_inside _ c s.sum).1
 
 -- a product by 0 adds nothing
-pub coefficient_zero : (p q : List ℤ) (k n : ℕ) → coefficient p n *ℤ coefficient q (k - n) ≡ pos 0 → written_coefficient p q k (suc n) ≡ written_coefficient p q k n
+pub coefficient_zero : (p q : List ℤ) (k n : ℕ) → coefficient p n *ℤ coefficient q (k - n) ≡ pos 0
+    → written_coefficient p q k (suc n) ≡ written_coefficient p q k n
 coefficient_zero p q k n h = at (written_coefficient p q k n) refl
   where
     at : (r : Option ℤ) → written_coefficient p q k n ≡ r → written_coefficient p q k (suc n) ≡ written_coefficient p q k n
@@ -88,7 +92,8 @@ coefficient_zero p q k n h = at (written_coefficient p q k n) refl
         (ap sized (+ℤ_idr c) ∙ sized_small c (coefficient_small p q k n c e))
         ∙ sym e
 
-pub coefficient_zeros : (p q : List ℤ) (k n m : ℕ) → ((i : ℕ) → n ≤ i → coefficient p i *ℤ coefficient q (k - i) ≡ pos 0) → n ≤ m → written_coefficient p q k m ≡ written_coefficient p q k n
+pub coefficient_zeros : (p q : List ℤ) (k n m : ℕ) → ((i : ℕ) → n ≤ i → coefficient p i *ℤ coefficient q (k - i) ≡ pos 0) → n ≤ m
+    → written_coefficient p q k m ≡ written_coefficient p q k n
 coefficient_zeros p q k n m h l = ap (written_coefficient p q k) (omega arith) ∙ more (m - n)
   where
     more : (m : ℕ) → written_coefficient p q k (m + n) ≡ written_coefficient p q k n
@@ -130,7 +135,8 @@ product_polynomial p q r e =
     (sym (product_from_list p q w.degrees) ∙ e)
 
 -- products of which one factor is 0 add nothing
-pub part_none : (p q : List ℤ) (k n : ℕ) → ((i : ℕ) → i < n → coefficient p i *ℤ coefficient q (k - i) ≡ pos 0) → product_part p q k n ≡ pos 0
+pub part_none : (p q : List ℤ) (k n : ℕ) → ((i : ℕ) → i < n → coefficient p i *ℤ coefficient q (k - i) ≡ pos 0)
+    → product_part p q k n ≡ pos 0
 unfolding product_part
 part_none p q k zero h = refl
 part_none p q k (suc n) h = rw (part_none p q k n (λ i l. h i (omega arith)), h n (omega arith)) refl
@@ -142,7 +148,8 @@ past_degrees p q k i h = elim (cases_lt (degree p) i) [
 ]
 
 -- the first factor's coefficients above its degree add nothing
-pub coefficient_whole : (p q : List ℤ) (k n : ℕ) → n ≤ k + 1 → (n ≤ k → degree p < n) → written_coefficient p q k (k + 1) ≡ written_coefficient p q k n
+pub coefficient_whole : (p q : List ℤ) (k n : ℕ) → n ≤ k + 1 → (n ≤ k → degree p < n)
+    → written_coefficient p q k (k + 1) ≡ written_coefficient p q k n
 coefficient_whole p q k n within past = elim (cases_lt k n) [
   | inl l ↦ ap (written_coefficient p q k) (omega arith)
   | inr l ↦ coefficient_zeros p q k n (k + 1) (λ i h. let d = past l in rw (coefficient-above_degree p i (omega arith)) (omega (arith, ints))) within
@@ -160,12 +167,14 @@ product_is_exact p q r e k =
     let small = w.degrees in
     elim (cases_lt k 33) [
       | inl h ↦ coefficient_is p q k (k + 1) (coefficient r k) (w.values.each k h) ∙ sym (coefficient-multiply_part p q k)
-      | inr h ↦ coefficient-past r k (omega arith) ∙ sym (coefficient-multiply_part p q k ∙ part_none p q k (k + 1) (λ i l. past_degrees p q k i (omega arith)))
+      | inr h ↦ coefficient-past r k (omega arith) ∙ sym
+          (coefficient-multiply_part p q k ∙ part_none p q k (k + 1) (λ i l. past_degrees p q k i (omega arith)))
     ]
 
 -- ---- the same factors
 
-pub coefficient-same : (p p' q : List ℤ) (k n : ℕ) → ((i : ℕ) → i < n → coefficient p i ≡ coefficient p' i) → written_coefficient p q k n ≡ written_coefficient p' q k n
+pub coefficient-same : (p p' q : List ℤ) (k n : ℕ) → ((i : ℕ) → i < n → coefficient p i ≡ coefficient p' i)
+    → written_coefficient p q k n ≡ written_coefficient p' q k n
 unfolding written_coefficient
 coefficient-same p p' q k zero h = refl
 coefficient-same p p' q k (suc n) h =

@@ -1,5 +1,6 @@
 -- What a sum that isn't refused is.
-use Rattle.std.proofs.Common.{pos, ◌≡◌, ℕ, ◌<◌, ◌^◌, List, length, sym, ◌∙◌, ap₂, arith, ℤ, ◌+ℤ◌, unsigned_abs, inl, inr, Option, Some}
+use Rattle.std.proofs.Common.{pos, ◌≡◌, ℕ, ◌<◌, ◌^◌, List, length, sym, ◌∙◌, ap₂, arith, ℤ, ◌+ℤ◌, unsigned_abs, inl, inr}
+use Rattle.std.proofs.Common.{Option, Some}
 use Rattle.std.proofs.lemmas.Bool.{cases_lt}
 use Rattle.std.proofs.lemmas.Int.{ints}
 use Rattle.field_core.specs.Polynomial.{coefficient, Same, poly_add}
@@ -20,11 +21,13 @@ sized_inside z c e = elim (cases_lt (unsigned_abs z) (2 ^ 127)) [
 ]
 
 -- a coefficient to which 0 is added stays
-pub sum_alone : (p q : List ℤ) (k : ℕ) → IsPolynomial p → coefficient q k ≡ pos 0 → sized (coefficient p k +ℤ coefficient q k) ≡ Some (coefficient p k)
+pub sum_alone : (p q : List ℤ) (k : ℕ) → IsPolynomial p → coefficient q k ≡ pos 0
+    → sized (coefficient p k +ℤ coefficient q k) ≡ Some (coefficient p k)
 sum_alone p q k v none = rw (none, +ℤ_idr (coefficient p k)) (sized_small (coefficient p k) (v.sizes k))
 
 -- 33 values of at most 2^127 - 1 in size are a polynomial
-pub values_polynomial : (value : ℕ → Option ℤ) (r : List ℤ) → ((k : ℕ) (c : ℤ) → value k ≡ Some c → unsigned_abs c < 2 ^ 127) → sized_list 33 value ≡ Some r → IsPolynomial r
+pub values_polynomial : (value : ℕ → Option ℤ) (r : List ℤ) → ((k : ℕ) (c : ℤ) → value k ≡ Some c → unsigned_abs c < 2 ^ 127)
+    → sized_list 33 value ≡ Some r → IsPolynomial r
 values_polynomial value r small e =
     let v = list_values 33 value r e in
     let all = v.count in
@@ -48,5 +51,6 @@ sum_is_exact p q r long_p long_q e k =
     let all = v.count in
     elim (cases_lt k 33) [
       | inl h ↦ (sized_inside (coefficient p k +ℤ coefficient q k) (coefficient r k) (v.each k h)).0 ∙ sym (coefficient-add p q k)
-      | inr h ↦ coefficient-past r k (omega arith) ∙ sym (coefficient-add p q k ∙ ap₂ (λ a b. a +ℤ b) (coefficient-past p k (omega arith)) (coefficient-past q k (omega arith)))
+      | inr h ↦ coefficient-past r k (omega arith) ∙ sym
+          (coefficient-add p q k ∙ ap₂ (λ a b. a +ℤ b) (coefficient-past p k (omega arith)) (coefficient-past q k (omega arith)))
     ]

@@ -1,5 +1,6 @@
 -- Lists that are polynomials: 33 coefficients, each of at most 2^127 - 1 in size.
-use Rattle.std.proofs.Common.{◌≡◌, ℕ, suc, ◌+◌, ◌/◌, ◌<◌, ◌≤◌, ◌^◌, List, set, sym, ap, ◌∙◌, arith, lit<, ℤ, pos, negsuc, int_div, unsigned_abs, inl, inr}
+use Rattle.std.proofs.Common.{◌≡◌, ℕ, suc, ◌+◌, ◌/◌, ◌<◌, ◌≤◌, ◌^◌, List, set, sym, ap, ◌∙◌, arith, lit<, ℤ, pos, negsuc}
+use Rattle.std.proofs.Common.{int_div, unsigned_abs, inl, inr}
 use Rattle.std.proofs.lemmas.Bool.{cases_eq, cases_lt}
 use Rattle.std.proofs.lemmas.List.{length-set}
 use Rattle.std.proofs.Math.Nat.{div-le_self}
@@ -10,7 +11,8 @@ use Rattle.field_core.specs.Laws.Integers.{int_multiply_one}
 use Rattle.eps_poly.proofs.IntegerQuotients.{int_div_exact}
 use Rattle.eps_poly.specs.Polynomials.{IsPolynomial, by_powers, zero_polynomial}
 use Rattle.eps_poly.specs.Factors.{content, core, lowered, order, turned_as}
-use Rattle.eps_poly.proofs.Coefficients.{same_polynomials, coefficient-past, coefficient-set_same, coefficient-set_other, coefficient-zero, length-zero, length-negate, length-by_powers, coefficient-by_powers}
+use Rattle.eps_poly.proofs.Coefficients.{same_polynomials, coefficient-past, coefficient-set_same, coefficient-set_other, coefficient-zero, length-zero}
+use Rattle.eps_poly.proofs.Coefficients.{length-negate, length-by_powers, coefficient-by_powers}
 
 pub zero_valid : IsPolynomial zero_polynomial
 zero_valid = record { count = length-zero; sizes = λ k. rw (coefficient-zero k) (lit< tt) }
@@ -59,7 +61,8 @@ lowered_same p v =
     let value : ℕ → ℤ = λ i. int_div (coefficient p (i + 0)) (pos 1) in
     let all = length-by_powers value in
     same_polynomials (by_powers value) p (all ∙ sym v.count)
-    (λ k h. let same : k + 0 ≡ k = omega arith in coefficient-by_powers value k (omega arith) ∙ over_one (coefficient p (k + 0)) ∙ ap (coefficient p) same)
+    (λ k h. let same : k + 0 ≡ k = omega arith in coefficient-by_powers value k (omega arith) ∙ over_one (coefficient p (k + 0))
+    ∙ ap (coefficient p) same)
 
 turned_valid : (s : ℤ) (p : List ℤ) → IsPolynomial p → IsPolynomial (turned_as s p)
 turned_valid (pos n) p v = v

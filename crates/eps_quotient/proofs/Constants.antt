@@ -1,5 +1,6 @@
 -- The written polynomial of fractions is a quotient over a constant.
-use Rattle.std.proofs.Common.{◌≡◌, ◌≢◌, refl, sym, ap, ap₂, subst, ◌∙◌, ℕ, zero, suc, ◌+◌, ◌-◌, ◌<◌, ◌≤◌, List, [], ◌∷◌, length, ℤ, pos, neg_ℤ, ◌+ℤ◌, ◌*ℤ◌, int_div, Option, Some, arith}
+use Rattle.std.proofs.Common.{◌≡◌, ◌≢◌, refl, sym, ap, ap₂, subst, ◌∙◌, ℕ, zero, suc, ◌+◌, ◌-◌, ◌<◌, ◌≤◌, List, []}
+use Rattle.std.proofs.Common.{◌∷◌, length, ℤ, pos, neg_ℤ, ◌+ℤ◌, ◌*ℤ◌, int_div, Option, Some, arith}
 use Rattle.std.specs.List.{All, list_all}
 use Rattle.std.specs.Int.{is_negative}
 use lib.IntN.{+ℤ_idr, *ℤ-zero}
@@ -42,7 +43,8 @@ constant_same p h zero = refl
 constant_same p h (suc k) = h (suc k) (omega arith)
 
 order_constant : (p : List ℤ) → IsNonZero p → IsConstant p → order p ≡ 0
-order_constant p some h = order_is p 0 (λ k i. absurd (omega arith)) (λ e. some (lowest-same p _ (constant_same p h) ∙ lowest-constant (coefficient p 0) ∙ e))
+order_constant p some h = order_is p 0 (λ k i. absurd (omega arith))
+    (λ e. some (lowest-same p _ (constant_same p h) ∙ lowest-constant (coefficient p 0) ∙ e))
 
 lowered_constant : (k : ℕ) (by : ℤ) (p : List ℤ) → k ≡ 0 → length p ≡ 33 → IsConstant p → IsConstant (lowered k by p)
 lowered_constant k by p e long h i b = coefficient-lowered k by p i long ∙ ap (λ c. int_div c by) (h (i + k) (omega arith)) ∙ int_div-zero by
@@ -56,7 +58,8 @@ product_none p q k zero b h g = refl
 product_none p q k (suc n) b h g = ap₂ (λ x y. x +ℤ y) (product_none p q k n b h g) (nothing n) ∙ +ℤ_idr (pos 0)
   where
     nothing : (n : ℕ) → coefficient p n *ℤ coefficient q (k - n) ≡ pos 0
-    nothing zero = let e : k - 0 ≡ k = omega arith in ap (λ i. coefficient p 0 *ℤ coefficient q i) e ∙ ap (λ c. coefficient p 0 *ℤ c) (g k b) ∙ *ℤ-zero (coefficient p 0)
+    nothing zero = let e : k - 0 ≡ k = omega arith in ap (λ i. coefficient p 0 *ℤ coefficient q i) e ∙ ap (λ c. coefficient p 0 *ℤ c) (g k b)
+        ∙ *ℤ-zero (coefficient p 0)
     nothing (suc n) = ap (λ c. c *ℤ coefficient q (k - suc n)) (h (suc n) (omega arith)) ∙ zero-*ℤ (coefficient q (k - suc n))
 
 product_constant : (p q r : List ℤ) → sized_product p q ≡ Some r → IsConstant p → IsConstant q → IsConstant r
@@ -96,14 +99,16 @@ over_constant n m d held some h z e =
     let u = bind_some (sized_sum n m) _ z e in
     subst IsOverConstant (ok_inside (Some z) _ z (sym u.2) refl) (norm_constant u.0 d held some h)
 
-sum_constant : (x y : Parts) → IsQuotient x → IsQuotient y → IsOverConstant x → IsOverConstant y → GivesConstant (sum_of x y (lower x.denominator y.denominator))
+sum_constant : (x y : Parts) → IsQuotient x → IsQuotient y → IsOverConstant x → IsOverConstant y
+    → GivesConstant (sum_of x y (lower x.denominator y.denominator))
 unfolding GivesConstant sum_of
 sum_constant x y sx sy h g z e =
     let l = lower_is x.denominator y.denominator sx.below sy.below (some_below y sy) in
     let u = bind_some (sized_product x.numerator (lower x.denominator y.denominator).denominator) _ z e in
     let v = bind_some (sized_product y.numerator (lower x.denominator y.denominator).numerator) _ z u.2 in
     let d = bind_some (sized_product x.denominator (lower x.denominator y.denominator).denominator) _ z v.2 in
-    over_constant u.0 v.0 d.0 (product_polynomial _ _ _ d.1) (same_nonzero _ d.0 (same_sym d.0 _ (product_is_exact _ _ _ d.1)) (nonzero-multiply _ _ (some_below x sx) l.some))
+    over_constant u.0 v.0 d.0 (product_polynomial _ _ _ d.1)
+    (same_nonzero _ d.0 (same_sym d.0 _ (product_is_exact _ _ _ d.1)) (nonzero-multiply _ _ (some_below x sx) l.some))
     (product_constant _ _ _ d.1 h (lower_constant x.denominator y.denominator sy.below (some_below y sy) g)) z d.2
 
 written_constant : (x y : Parts) → IsQuotient x → IsQuotient y → IsOverConstant x → IsOverConstant y → GivesConstant (written_sum x y)
@@ -115,7 +120,8 @@ written_constant x y sx sy h g =
     (λ s. over_constant x.numerator y.numerator x.denominator sx.below (some_below x sx) h)
     (λ s. sum_constant x y sx sy h g)))
 
-from_constant : (k : ℕ) (sum : Parts) (ts : List Terms) (z : Parts) → k + length ts ≤ 33 → All IsReduced ts → IsQuotient sum → IsOverConstant sum → sum_from k sum ts ≡ Some z → IsOverConstant z
+from_constant : (k : ℕ) (sum : Parts) (ts : List Terms) (z : Parts) → k + length ts ≤ 33 → All IsReduced ts → IsQuotient sum → IsOverConstant sum
+    → sum_from k sum ts ≡ Some z → IsOverConstant z
 unfolding sum_from GivesConstant term
 from_constant k sum [] z b r s h e = given sum h z e
 from_constant k sum (t ∷ ts) z b r s h e =

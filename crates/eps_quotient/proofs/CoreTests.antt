@@ -40,7 +40,8 @@ not_same p q apart = at (is_same p q) refl
     at false e = refl
 
 -- two cores of other degrees
-pub cores_apart : (p q : List ℤ) → IsPolynomial p → IsPolynomial q → IsNonZero p → IsNonZero q → ¬ (degree p - order p ≡ degree q - order q) → is_same (core p) (core q) ≡ false
+pub cores_apart : (p q : List ℤ) → IsPolynomial p → IsPolynomial q → IsNonZero p → IsNonZero q → ¬ (degree p - order p ≡ degree q - order q)
+    → is_same (core p) (core q) ≡ false
 cores_apart p q kp kq hp hq apart = not_same (core p) (core q) (λ e.
     let same : degree (core p) ≡ degree (core q) = ap degree e in
     let first = degree-core p kp.count hp in
@@ -48,7 +49,8 @@ cores_apart p q kp kq hp hq apart = not_same (core p) (core q) (λ e.
     apart (omega arith))
 
 -- two powers
-pub cores_of_powers : (p q : List ℤ) → IsPolynomial p → IsPolynomial q → IsNonZero p → IsNonZero q → degree p ≡ order p → degree q ≡ order q → is_same (core p) (core q) ≡ true
+pub cores_of_powers : (p q : List ℤ) → IsPolynomial p → IsPolynomial q → IsNonZero p → IsNonZero q → degree p ≡ order p → degree q ≡ order q
+    → is_same (core p) (core q) ≡ true
 cores_of_powers p q kp kq hp hq e f = same_to (core p) (core q) (single_core p kp hp e ∙ sym (single_core q kq hq f))
 
 -- ---- the polynomial 1
@@ -71,4 +73,5 @@ one_by_degree p n held e first = elim (cases_eq n 0) [
 
 -- and isn't 1 with another coefficient of power 0
 pub one_by_first : (p : List ℤ) (n : ℕ) → ¬ (n ≡ 1) → (coefficient p 0 ≡ pos 1 → n ≡ 1) → (n == 1) ≡ is_same p one_polynomial
-one_by_first p n apart h = ne_eqb n 1 apart ∙ sym (not_same p one_polynomial (λ s. apart (h (ap (λ q. coefficient q 0) s ∙ monomial-at (pos 1) 0 (omega arith)))))
+one_by_first p n apart h = ne_eqb n 1 apart ∙ sym
+    (not_same p one_polynomial (λ s. apart (h (ap (λ q. coefficient q 0) s ∙ monomial-at (pos 1) 0 (omega arith)))))

@@ -1,5 +1,6 @@
 -- What is read of lists, fractions and whole texts is what the grammar says.
-use Rattle.std.proofs.Common.{◌≡◌, ◌≢◌, ℕ, suc, ◌<◌, ◌≤◌, ◌==◌, ◌&&◌, Bool, true, false, List, [], ◌∷◌, ◌++◌, length, refl, sym, ◌∙◌, ap, subst, arith, ℤ, Some, inl, inr, ◌⊎◌}
+use Rattle.std.proofs.Common.{◌≡◌, ◌≢◌, ℕ, suc, ◌<◌, ◌≤◌, ◌==◌, ◌&&◌, Bool, true, false, List, [], ◌∷◌, ◌++◌, length}
+use Rattle.std.proofs.Common.{refl, sym, ◌∙◌, ap, subst, arith, ℤ, Some, inl, inr, ◌⊎◌}
 use Rattle.std.specs.Char.{is_ascii_digit}
 use Rattle.std.specs.List.{All, list_all, slice_split, join_with_byte}
 use Rattle.std.proofs.lemmas.Bool.{ne_eqb}
@@ -52,7 +53,8 @@ minus_free byte mark false = free_none byte
 
 pub whole_free : (byte : ℕ) → IsMark byte → (text : List ℕ) (z : ℤ) → IsWhole text z → IsFree byte text
 whole_free byte mark text z is =
-    subst (IsFree byte) (sym is.spelt) (free_append byte (minus_text is.negative) is.digits (minus_free byte mark is.negative) (digits_free byte mark is.digits is.is_number.digits))
+    subst (IsFree byte) (sym is.spelt)
+    (free_append byte (minus_text is.negative) is.digits (minus_free byte mark is.negative) (digits_free byte mark is.digits is.is_number.digits))
 
 pub comma : IsMark 44
 comma = (inl (omega arith), λ e. absurd (omega arith))
@@ -65,7 +67,8 @@ bracket = (inr (omega arith), λ e. absurd (omega arith))
 
 -- ---- words with commas between them
 
-split_words : (words : List (List ℕ)) (cs : List ℤ) → AreWholes words cs → 0 < length words → slice_split (λ b. b == 44) (join_with_byte 44 words) ≡ words
+split_words : (words : List (List ℕ)) (cs : List ℤ) → AreWholes words cs → 0 < length words
+    → slice_split (λ b. b == 44) (join_with_byte 44 words) ≡ words
 split_words [] cs each some = absurd (omega arith)
 split_words (word ∷ []) [] each some = absurd each
 split_words (word ∷ []) (c ∷ cs) each some = slice_split_none (λ b. b == 44) word (whole_free 44 comma word c each.0)
@@ -102,7 +105,8 @@ tail_same a b xs ys e = cc
 
 pub list_only : (text inner : List ℕ) (p : List ℤ) → IsList text p → text ≡ 91 ∷ inner ++ 93 ∷ [] → polynomial_of inner ≡ Some p
 list_only text inner p is e =
-    let same : inner ≡ join_with_byte 44 is.words = append_cancel_right inner (join_with_byte 44 is.words) (93 ∷ []) (tail_same 91 91 _ _ (sym e ∙ is.spelt)) in
+    let same : inner ≡ join_with_byte 44 is.words = append_cancel_right inner (join_with_byte 44 is.words) (93 ∷ [])
+    (tail_same 91 91 _ _ (sym e ∙ is.spelt)) in
     let few : length is.numbers ≤ 33 = let n = same_count is.words is.numbers is.each in let f = is.few in omega arith in
     ap (λ t. filled 0 zero_polynomial (slice_split (λ b. b == 44) t)) same
     ∙ ap (filled 0 zero_polynomial) (split_words is.words is.numbers is.each is.some)
@@ -122,7 +126,8 @@ pub list_free : (text : List ℕ) (p : List ℤ) → IsList text p → IsFree 47
 list_free text p is =
     subst (IsFree 47) (sym is.spelt)
     (free_more 47 91 _ (λ e. absurd (omega arith))
-    (free_append 47 (join_with_byte 44 is.words) (93 ∷ []) (joined_free is.words is.numbers is.each) (free_more 47 93 [] (λ e. absurd (omega arith)) (free_none 47))))
+    (free_append 47 (join_with_byte 44 is.words) (93 ∷ []) (joined_free is.words is.numbers is.each)
+    (free_more 47 93 [] (λ e. absurd (omega arith)) (free_none 47))))
 
 -- a whole number is no list
 pub list_or_whole : (text : List ℕ) (z : ℤ) (p : List ℤ) → IsWhole text z → IsList text p → ⊥
@@ -137,11 +142,13 @@ first_same : (x y : List ℕ) (xs ys : List (List ℕ)) → x ∷ xs ≡ y ∷ y
 first_same x y xs ys e = cc
 
 -- a text is cut at its first slash in one way
-pub one_cut : (text front rest over under : List ℕ) → text ≡ front ++ 47 ∷ rest → IsFree 47 front → text ≡ over ++ 47 ∷ under → IsFree 47 over → (front ≡ over) × (rest ≡ under)
+pub one_cut : (text front rest over under : List ℕ) → text ≡ front ++ 47 ∷ rest → IsFree 47 front → text ≡ over ++ 47 ∷ under → IsFree 47 over
+    → (front ≡ over) × (rest ≡ under)
 one_cut text front rest over under e f g h =
     let same : front ≡ over =
     first_same front over _ _
-    (sym (slice_split_at (λ b. b == 47) front 47 rest f refl) ∙ ap (slice_split (λ b. b == 47)) (sym e ∙ g) ∙ slice_split_at (λ b. b == 47) over 47 under h refl) in
+    (sym (slice_split_at (λ b. b == 47) front 47 rest f refl) ∙ ap (slice_split (λ b. b == 47)) (sym e ∙ g)
+    ∙ slice_split_at (λ b. b == 47) over 47 under h refl) in
     (same, tail_same 47 47 rest under (append_cancel_left over (47 ∷ rest) (47 ∷ under) (ap (λ x. x ++ 47 ∷ rest) (sym same) ∙ sym e ∙ g)))
 
 slash_stands : (over under : List ℕ) → IsFree 47 (over ++ 47 ∷ under) → ⊥

@@ -28,7 +28,8 @@ inverse_one : inverse one_quotient ≡ one_quotient
 unfolding inverse
 inverse_one = norm_again one_quotient one_stored
 
-either_one : (t : Bool) (x : Parts) (r : Option Parts) → is_one x ≡ t → (if t then Some one_quotient else (if is_one one_quotient then Some x else r)) ≡ Some x
+either_one : (t : Bool) (x : Parts) (r : Option Parts) → is_one x ≡ t
+    → (if t then Some one_quotient else (if is_one one_quotient then Some x else r)) ≡ Some x
 either_one true x r e = ap Some (sym (one_is x e))
 either_one false x r e = rw one_test refl
 

@@ -1,5 +1,7 @@
 -- The text of a stored quotient reads back.
-use Rattle.std.proofs.Common.{◌≡◌, ℕ, zero, suc, ◌+◌, ◌<◌, ◌≤◌, ◌^◌, ◌==◌, ◌&&◌, Bool, true, false, List, [], ◌∷◌, ◌++◌, length, take, map, refl, sym, ◌∙◌, ap, subst, arith, lit<, ◌<ℤ◌, ℤ, pos, negsuc, unsigned_abs, inl, inr, if◌then◌else◌}
+use Rattle.std.proofs.Common.{◌≡◌, ℕ, zero, suc, ◌+◌, ◌<◌, ◌≤◌, ◌^◌, ◌==◌, ◌&&◌, Bool, true, false, List, [], ◌∷◌}
+use Rattle.std.proofs.Common.{◌++◌, length, take, map, refl, sym, ◌∙◌, ap, subst, arith, lit<, ◌<ℤ◌, ℤ, pos, negsuc, unsigned_abs, inl, inr}
+use Rattle.std.proofs.Common.{if◌then◌else◌}
 use Rattle.std.specs.Char.{is_ascii_digit}
 use Rattle.std.specs.Fmt.{decimal, signed_decimal}
 use Rattle.std.specs.List.{list_all}
@@ -119,12 +121,15 @@ positive_is (negsuc n) h = absurd (omega (arith, ints))
 
 -- ---- the forms
 
-constants_text : (x : Parts) → ((degree x.numerator == 0) && (degree x.denominator == 0)) ≡ true → quotient_text x ≡ fraction_text (coefficient x.numerator 0) (coefficient x.denominator 0)
+constants_text : (x : Parts) → ((degree x.numerator == 0) && (degree x.denominator == 0)) ≡ true
+    → quotient_text x ≡ fraction_text (coefficient x.numerator 0) (coefficient x.denominator 0)
 unfolding quotient_text
 constants_text x e = rw e refl
 
-constants_back : (x : Parts) → IsQuotient x → degree x.numerator ≡ 0 → degree x.denominator ≡ 0 → (t : Bool) → int_eq (coefficient x.denominator 0) (pos 1) ≡ t
-    → quotient_text x ≡ (if t then signed_decimal (coefficient x.numerator 0) else signed_decimal (coefficient x.numerator 0) ++ 47 ∷ signed_decimal (coefficient x.denominator 0))
+constants_back : (x : Parts) → IsQuotient x → degree x.numerator ≡ 0 → degree x.denominator ≡ 0 → (t : Bool)
+    → int_eq (coefficient x.denominator 0) (pos 1) ≡ t
+    → quotient_text x ≡ (if t then signed_decimal (coefficient x.numerator 0) else signed_decimal (coefficient x.numerator 0) ++ 47 ∷ signed_decimal
+    (coefficient x.denominator 0))
     → IsQuotientText (quotient_text x) x.numerator x.denominator
 constants_back x s e f true h text = record {
   polynomials = inl (record {
@@ -155,10 +160,12 @@ constants_back x s e f false h text =
       nonzero = some_below x s;
     }
 
-text_back : (x : Parts) → IsQuotient x → (t : Bool) → ((degree x.numerator == 0) && (degree x.denominator == 0)) ≡ t → IsQuotientText (quotient_text x) x.numerator x.denominator
+text_back : (x : Parts) → IsQuotient x → (t : Bool) → ((degree x.numerator == 0) && (degree x.denominator == 0)) ≡ t
+    → IsQuotientText (quotient_text x) x.numerator x.denominator
 text_back x s true h =
     let b = and_parts (degree x.numerator == 0) (degree x.denominator == 0) h in
-    constants_back x s (eqb-true (degree x.numerator) 0 b.0) (eqb-true (degree x.denominator) 0 b.1) (int_eq (coefficient x.denominator 0) (pos 1)) refl (constants_text x h)
+    constants_back x s (eqb-true (degree x.numerator) 0 b.0) (eqb-true (degree x.denominator) 0 b.1) (int_eq (coefficient x.denominator 0) (pos 1)) refl
+    (constants_text x h)
 text_back x s false h = record {
   polynomials = inr (record {
     over = polynomial_text x.numerator;

@@ -1,6 +1,7 @@
 -- Digits and words, one after the other.
 use Rattle.std.proofs.lemmas.Bool.{and_parts}
-use Rattle.std.proofs.Common.{◌≡◌, ℕ, zero, suc, ◌+◌, ◌-◌, ◌*◌, ◌<◌, ◌≤◌, ◌==◌, nat_le, min, Bool, true, false, if◌then◌else◌, List, [], ◌∷◌, ◌++◌, length, take, get_or, set, refl, ◌∙◌, ap, arith, ℤ, Some, None}
+use Rattle.std.proofs.Common.{◌≡◌, ℕ, zero, suc, ◌+◌, ◌-◌, ◌*◌, ◌<◌, ◌≤◌, ◌==◌, nat_le, min, Bool, true, false}
+use Rattle.std.proofs.Common.{if◌then◌else◌, List, [], ◌∷◌, ◌++◌, length, take, get_or, set, refl, ◌∙◌, ap, arith, ℤ, Some, None}
 use Rattle.std.specs.Char.{is_ascii_digit}
 use Rattle.std.specs.List.{All, list_all, slice_split}
 use Rattle.std.specs.Str.Parse.{digits_value}
@@ -24,7 +25,8 @@ digit_at (d ∷ ds) zero h l = digit_bounds d (and_parts (is_ascii_digit d) (lis
 digit_at (d ∷ ds) (suc i) h l = digit_at ds i (and_parts (is_ascii_digit d) (list_all is_ascii_digit ds) h).1 (omega arith)
 
 -- the number that digits write, cut at a bound, with one digit more
-pub size_more : (ds : List ℕ) (i size next most : ℕ) → list_all is_ascii_digit ds ≡ true → i < length ds → size ≡ min (digits_value 10 (take i ds)) most
+pub size_more : (ds : List ℕ) (i size next most : ℕ) → list_all is_ascii_digit ds ≡ true → i < length ds
+    → size ≡ min (digits_value 10 (take i ds)) most
     → next ≡ min (min (size * 10) most + (get_or ds i 0 - 48)) most → next ≡ min (digits_value 10 (take (i + 1) ds)) most
 size_more ds i size next most are l e f =
     let d = digit_at ds i are l in
@@ -37,7 +39,8 @@ size_more ds i size next most are l e f =
 pub last_word : (text : List ℕ) → All (λ b. (b == 44) ≡ false) text → slice_split (λ b. b == 44) text ≡ text ∷ []
 last_word text free = slice_split_none (λ b. b == 44) text free
 
-pub next_word : (text word more : List ℕ) → text ≡ word ++ 44 ∷ more → All (λ b. (b == 44) ≡ false) word → slice_split (λ b. b == 44) text ≡ word ∷ slice_split (λ b. b == 44) more
+pub next_word : (text word more : List ℕ) → text ≡ word ++ 44 ∷ more → All (λ b. (b == 44) ≡ false) word
+    → slice_split (λ b. b == 44) text ≡ word ∷ slice_split (λ b. b == 44) more
 next_word text word more e free = ap (slice_split (λ b. b == 44)) e ∙ slice_split_at (λ b. b == 44) word 44 more free refl
 
 pub word_refused : (k : ℕ) (p : List ℤ) (word : List ℕ) (words : List (List ℕ)) → whole_of word ≡ None → filled k p (word ∷ words) ≡ None
@@ -48,7 +51,8 @@ word_refused k p word words e = refused (nat_le k 32)
     refused true = ap (λ o. and_then o (λ c. filled (suc k) (set p k c) words)) e
     refused false = refl
 
-pub word_put : (k : ℕ) (p : List ℤ) (word : List ℕ) (words : List (List ℕ)) (c : ℤ) → k ≤ 32 → whole_of word ≡ Some c → filled k p (word ∷ words) ≡ filled (k + 1) (set p k c) words
+pub word_put : (k : ℕ) (p : List ℤ) (word : List ℕ) (words : List (List ℕ)) (c : ℤ) → k ≤ 32 → whole_of word ≡ Some c
+    → filled k p (word ∷ words) ≡ filled (k + 1) (set p k c) words
 unfolding filled
 word_put k p word words c h e =
     let low : nat_le k 32 ≡ true = grind (arith, nat_tests) in

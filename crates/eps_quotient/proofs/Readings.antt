@@ -1,5 +1,7 @@
 -- What is read is what the grammar says.
-use Rattle.std.proofs.Common.{◌≡◌, ℕ, zero, suc, ◌+◌, ◌<◌, ◌≤◌, ◌^◌, ◌==◌, ◌&&◌, nat_lt, nat_le, Bool, true, false, if◌then◌else◌, List, [], ◌∷◌, ◌++◌, length, set, refl, sym, ◌∙◌, ap, subst, arith, ℤ, pos, neg_ℤ, Option, Some, None, inl, inr}
+use Rattle.std.proofs.Common.{◌≡◌, ℕ, zero, suc, ◌+◌, ◌<◌, ◌≤◌, ◌^◌, ◌==◌, ◌&&◌, nat_lt, nat_le, Bool, true, false}
+use Rattle.std.proofs.Common.{if◌then◌else◌, List, [], ◌∷◌, ◌++◌, length, set, refl, sym, ◌∙◌, ap, subst, arith, ℤ, pos, neg_ℤ}
+use Rattle.std.proofs.Common.{Option, Some, None, inl, inr}
 use Rattle.std.specs.Char.{is_ascii_digit}
 use Rattle.std.specs.List.{list_all}
 use Rattle.std.specs.Str.Parse.{digits_value}
@@ -9,7 +11,8 @@ use Rattle.eps_quotient.proofs.ReadSteps.{digit_at, no_more_words, word_put}
 use Rattle.std.proofs.lemmas.List.{length-set}
 use Rattle.field_core.specs.Polynomial.{coefficient}
 use Rattle.eps_poly.specs.Polynomials.{zero_polynomial, by_powers}
-use Rattle.eps_poly.proofs.Coefficients.{same_polynomials, length-zero, coefficient-zero, length-by_powers, coefficient-by_powers, coefficient-past, coefficient-set_same, coefficient-set_other}
+use Rattle.eps_poly.proofs.Coefficients.{same_polynomials, length-zero, coefficient-zero, length-by_powers, coefficient-by_powers, coefficient-past}
+use Rattle.eps_poly.proofs.Coefficients.{coefficient-set_same, coefficient-set_other}
 use Rattle.eps_quotient.specs.Grammar.{IsNumber, IsWhole, minus_text, signed, AreWholes}
 use Rattle.eps_quotient.specs.Reading.{and_then, is_some_text, number_of, whole_of, filled}
 
@@ -45,7 +48,8 @@ small_from n m h = grind (arith, nat_tests)
 small_to : (n m : ℕ) → n < m → nat_lt n m ≡ true
 small_to n m h = grind (arith, nat_tests)
 
-found_when : (text : List ℕ) (z : ℤ) (t : Bool) → is_number_text text ≡ t → (if t then Some (pos (digits_value 10 text)) else None) ≡ Some z → (n : ℕ) × IsNumber text n × (z ≡ pos n)
+found_when : (text : List ℕ) (z : ℤ) (t : Bool) → is_number_text text ≡ t → (if t then Some (pos (digits_value 10 text)) else None) ≡ Some z
+    → (n : ℕ) × IsNumber text n × (z ≡ pos n)
 found_when text z true h e =
     let a = all_three (is_some_text text) (list_all is_ascii_digit text) (nat_lt (digits_value 10 text) (2 ^ 127)) h in
     (digits_value 10 text, record { some = some_length text a.0; digits = a.1; value = refl; size = small_from _ _ a.2 }, cc)
@@ -62,14 +66,16 @@ number_only text n is =
 
 -- ---- whole numbers
 
-opposite_found : (bs : List ℕ) (z : ℤ) (r : Option ℤ) → number_of bs ≡ r → and_then r (λ z. Some (neg_ℤ z)) ≡ Some z → (n : ℕ) × IsNumber bs n × (z ≡ neg_ℤ (pos n))
+opposite_found : (bs : List ℕ) (z : ℤ) (r : Option ℤ) → number_of bs ≡ r → and_then r (λ z. Some (neg_ℤ z)) ≡ Some z → (n : ℕ)
+    × IsNumber bs n × (z ≡ neg_ℤ (pos n))
 opposite_found bs z None h e = absurd (cc)
 opposite_found bs z (Some y) h e =
     let f = number_found bs y h in
     let i : neg_ℤ y ≡ z = cc in
     (f.0, f.1, sym i ∙ ap neg_ℤ f.2)
 
-whole_when : (b : ℕ) (bs : List ℕ) (z : ℤ) (t : Bool) → (b == 45) ≡ t → (if t then and_then (number_of bs) (λ z. Some (neg_ℤ z)) else number_of (b ∷ bs)) ≡ Some z → IsWhole (b ∷ bs) z
+whole_when : (b : ℕ) (bs : List ℕ) (z : ℤ) (t : Bool) → (b == 45) ≡ t
+    → (if t then and_then (number_of bs) (λ z. Some (neg_ℤ z)) else number_of (b ∷ bs)) ≡ Some z → IsWhole (b ∷ bs) z
 whole_when b bs z true h e =
     let f = opposite_found bs z (number_of bs) refl e in
     record { negative = true; digits = bs; number = f.0; is_number = f.1; spelt = ap (λ c. c ∷ bs) (eqb-true b 45 h); value = f.2 }
@@ -129,7 +135,8 @@ pub record IsFilled (k : ℕ) (p : List ℤ) (words : List (List ℕ)) (q : List
 low_from : (k m : ℕ) → nat_le k m ≡ true → k ≤ m
 low_from k m h = grind (arith, nat_tests)
 
-filled_when : (k : ℕ) (p : List ℤ) (word : List ℕ) (words : List (List ℕ)) (q : List ℤ) (t : Bool) (r : Option ℤ) → nat_le k 32 ≡ t → whole_of word ≡ r
+filled_when : (k : ℕ) (p : List ℤ) (word : List ℕ) (words : List (List ℕ)) (q : List ℤ) (t : Bool) (r : Option ℤ) → nat_le k 32 ≡ t
+    → whole_of word ≡ r
     → ((c : ℤ) → filled (suc k) (set p k c) words ≡ Some q → IsFilled (suc k) (set p k c) words q)
     → (if t then and_then r (λ c. filled (suc k) (set p k c) words) else None) ≡ Some q → IsFilled k p (word ∷ words) q
 unfolding overlay
@@ -151,7 +158,8 @@ filled_found k p [] q e = record { numbers = []; each = tt; room = λ h. absurd 
 filled_found k p (word ∷ words) q e =
     filled_when k p word words q (nat_le k 32) (whole_of word) refl refl (λ c f. filled_found (suc k) (set p k c) words q f) e
 
-pub filled_only : (k : ℕ) (p : List ℤ) (words : List (List ℕ)) (cs : List ℤ) → AreWholes words cs → k + length words ≤ 33 → filled k p words ≡ Some (overlay k p cs)
+pub filled_only : (k : ℕ) (p : List ℤ) (words : List (List ℕ)) (cs : List ℤ) → AreWholes words cs → k + length words ≤ 33
+    → filled k p words ≡ Some (overlay k p cs)
 filled_only k p [] [] each room = no_more_words k p ∙ ap Some (sym (overlay_none k p))
 filled_only k p [] (c ∷ cs) each room = absurd each
 filled_only k p (word ∷ words) [] each room = absurd each
@@ -172,11 +180,13 @@ unfolding overlay
 overlay_below k p [] j h = refl
 overlay_below k p (c ∷ cs) j h = overlay_below (suc k) (set p k c) cs j (omega arith) ∙ coefficient-set_other p k j c (λ e. absurd (omega arith))
 
-overlay_at : (k : ℕ) (p cs : List ℤ) (i : ℕ) → k + length cs ≤ length p → i < length cs → coefficient (overlay k p cs) (i + k) ≡ coefficient cs i
+overlay_at : (k : ℕ) (p cs : List ℤ) (i : ℕ) → k + length cs ≤ length p → i < length cs
+    → coefficient (overlay k p cs) (i + k) ≡ coefficient cs i
 unfolding overlay coefficient
 overlay_at k p [] i room h = absurd (omega arith)
 overlay_at k p (c ∷ cs) zero room h =
-    ap (coefficient (overlay (suc k) (set p k c) cs)) (same k) ∙ overlay_below (suc k) (set p k c) cs k (omega arith) ∙ coefficient-set_same p k c (omega arith)
+    ap (coefficient (overlay (suc k) (set p k c) cs)) (same k) ∙ overlay_below (suc k) (set p k c) cs k (omega arith)
+    ∙ coefficient-set_same p k c (omega arith)
   where
     same : (k : ℕ) → 0 + k ≡ k
     same k = omega arith
@@ -193,18 +203,22 @@ overlay_past k p (c ∷ cs) j h = overlay_past (suc k) (set p k c) cs j (omega a
 
 pub overlay_is : (cs : List ℤ) → length cs ≤ 33 → overlay 0 zero_polynomial cs ≡ by_powers (coefficient cs)
 overlay_is cs few =
-    same_polynomials (overlay 0 zero_polynomial cs) (by_powers (coefficient cs)) (length-overlay 0 zero_polynomial cs ∙ length-zero ∙ sym (length-by_powers (coefficient cs))) each
+    same_polynomials (overlay 0 zero_polynomial cs) (by_powers (coefficient cs))
+    (length-overlay 0 zero_polynomial cs ∙ length-zero ∙ sym (length-by_powers (coefficient cs))) each
   where
-    each : (j : ℕ) → j < length (overlay 0 zero_polynomial cs) → coefficient (overlay 0 zero_polynomial cs) j ≡ coefficient (by_powers (coefficient cs)) j
+    each : (j : ℕ) → j < length (overlay 0 zero_polynomial cs)
+        → coefficient (overlay 0 zero_polynomial cs) j ≡ coefficient (by_powers (coefficient cs)) j
     each j h =
         let long = length-overlay 0 zero_polynomial cs in
         let all = length-zero in
         let small : j < 33 = omega arith in
         elim (cases_lt j (length cs)) [
           | inl l ↦
-              ap (coefficient (overlay 0 zero_polynomial cs)) (sym (plus_zero j)) ∙ overlay_at 0 zero_polynomial cs j (omega arith) l ∙ sym (coefficient-by_powers (coefficient cs) j small)
+              ap (coefficient (overlay 0 zero_polynomial cs)) (sym (plus_zero j)) ∙ overlay_at 0 zero_polynomial cs j (omega arith) l
+              ∙ sym (coefficient-by_powers (coefficient cs) j small)
           | inr l ↦
-              overlay_past 0 zero_polynomial cs j (omega arith) ∙ coefficient-zero j ∙ sym (coefficient-by_powers (coefficient cs) j small ∙ coefficient-past cs j l)
+              overlay_past 0 zero_polynomial cs j (omega arith) ∙ coefficient-zero j
+              ∙ sym (coefficient-by_powers (coefficient cs) j small ∙ coefficient-past cs j l)
         ]
       where
         plus_zero : (j : ℕ) → j + 0 ≡ j

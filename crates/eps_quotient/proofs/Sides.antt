@@ -21,12 +21,14 @@ none_or_some x e = cc
 
 -- ---- a list
 
-pub list_reads : (text inner : List ℕ) (found : Option (List ℤ)) → text ≡ 91 ∷ inner ++ 93 ∷ [] → found ≡ polynomial_of inner → IsOnly (IsList text) found
+pub list_reads : (text inner : List ℕ) (found : Option (List ℤ)) → text ≡ 91 ∷ inner ++ 93 ∷ [] → found ≡ polynomial_of inner
+    → IsOnly (IsList text) found
 list_reads text inner found e f = reads found f
   where
     reads : (found : Option (List ℤ)) → found ≡ polynomial_of inner → IsOnly (IsList text) found
     reads None f = only_none (IsList text) (λ p is. none_or_some p (f ∙ list_only text inner p is e))
-    reads (Some p) f = only_some (IsList text) p (subst (λ t. IsList t p) (sym e) (list_found inner p (sym f))) (λ q is. inside_some p q (f ∙ list_only text inner q is e))
+    reads (Some p) f = only_some (IsList text) p (subst (λ t. IsList t p) (sym e) (list_found inner p (sym f)))
+        (λ q is. inside_some p q (f ∙ list_only text inner q is e))
 
 -- ---- two numbers
 
@@ -42,7 +44,8 @@ fraction_no_whole over under e = only_none (FractionOf over under) (λ x is. non
 pub fraction_no_number : (over under : List ℕ) → number_of under ≡ None → IsOnly (FractionOf over under) None
 fraction_no_number over under e = only_none (FractionOf over under) (λ x is. none_or_some (pos is.den) (sym e ∙ number_only under is.den is.is_number))
 
-pub fraction_reads : (over under : List ℕ) (z m : ℤ) (n d : List ℤ) → whole_of over ≡ Some z → number_of under ≡ Some m → n ≡ monomial z 0 → d ≡ monomial m 0
+pub fraction_reads : (over under : List ℕ) (z m : ℤ) (n d : List ℤ) → whole_of over ≡ Some z → number_of under ≡ Some m → n ≡ monomial z 0
+    → d ≡ monomial m 0
     → IsOnly (FractionOf over under) (Some (n, d))
 fraction_reads over under z m n d e f g h =
     let k = number_found under m f in
@@ -60,7 +63,8 @@ WholeOf text x = IsWholeText text x.0 x.1
 pub whole_none : (text : List ℕ) → whole_of text ≡ None → IsOnly (WholeOf text) None
 whole_none text e = only_none (WholeOf text) (λ x is. none_or_some is.number (sym e ∙ whole_only text is.number is.is_whole))
 
-pub whole_reads : (text : List ℕ) (z : ℤ) (n d : List ℤ) → whole_of text ≡ Some z → n ≡ monomial z 0 → d ≡ one_polynomial → IsOnly (WholeOf text) (Some (n, d))
+pub whole_reads : (text : List ℕ) (z : ℤ) (n d : List ℤ) → whole_of text ≡ Some z → n ≡ monomial z 0 → d ≡ one_polynomial
+    → IsOnly (WholeOf text) (Some (n, d))
 whole_reads text z n d e g h =
     only_some (WholeOf text) (n, d)
     (record { number = z; is_whole = whole_found text z e; above = g; below = h })
@@ -78,7 +82,8 @@ lists_no_first over under f = only_none (ListsOf over under) (λ x is. none_or_s
 pub lists_no_second : (over under : List ℕ) → IsOnly (IsList under) None → IsOnly (ListsOf over under) None
 lists_no_second over under f = only_none (ListsOf over under) (λ x is. none_or_some x.1 (f.only x.1 is.below))
 
-pub lists_read : (over under : List ℕ) (n d : List ℤ) → IsOnly (IsList over) (Some n) → IsOnly (IsList under) (Some d) → IsOnly (ListsOf over under) (Some (n, d))
+pub lists_read : (over under : List ℕ) (n d : List ℤ) → IsOnly (IsList over) (Some n) → IsOnly (IsList under) (Some d)
+    → IsOnly (ListsOf over under) (Some (n, d))
 lists_read over under n d f g =
     only_some (ListsOf over under) (n, d) (record { above = f.is; below = g.is })
     (λ y is. pair_same n d y.0 y.1 (inside_some n y.0 (f.only y.0 is.above)) (inside_some d y.1 (g.only y.1 is.below)))
@@ -96,7 +101,8 @@ sides_first over under x f =
       | inr is ↦ absurd (list_or_whole over f.is.num y.0 f.is.is_whole is.above)
     ])
 
-pub sides_second : (over under : List ℕ) (r : Option (List ℤ × List ℤ)) → IsOnly (FractionOf over under) None → IsOnly (ListsOf over under) r → IsOnly (SidesOf over under) r
+pub sides_second : (over under : List ℕ) (r : Option (List ℤ × List ℤ)) → IsOnly (FractionOf over under) None → IsOnly (ListsOf over under) r
+    → IsOnly (SidesOf over under) r
 sides_second over under None f g =
     only_none (SidesOf over under) (λ y s. elim s [ inl is ↦ none_or_some y (f.only y is) | inr is ↦ none_or_some y (g.only y is) ])
 sides_second over under (Some x) f g =
@@ -116,10 +122,12 @@ pub text_whole : (text : List ℕ) (r : Option (List ℤ × List ℤ)) → IsFre
 text_whole text None free f =
     only_none (PolynomialsOf text) (λ y s. elim s [ inl is ↦ none_or_some y (f.only y is) | inr is ↦ not_free text is.over is.under free is.spelt ])
 text_whole text (Some x) free f =
-    only_some (PolynomialsOf text) x (inl f.is) (λ y s. elim s [ inl is ↦ inside_some x y (f.only y is) | inr is ↦ absurd (not_free text is.over is.under free is.spelt) ])
+    only_some (PolynomialsOf text) x (inl f.is)
+    (λ y s. elim s [ inl is ↦ inside_some x y (f.only y is) | inr is ↦ absurd (not_free text is.over is.under free is.spelt) ])
 
 -- the sides of the first slash are those of the grammar
-same_sides : (text over under : List ℕ) (y : List ℤ × List ℤ) → text ≡ over ++ 47 ∷ under → IsFree 47 over → IsPairText text y.0 y.1 → SidesOf over under y
+same_sides : (text over under : List ℕ) (y : List ℤ × List ℤ) → text ≡ over ++ 47 ∷ under → IsFree 47 over → IsPairText text y.0 y.1
+    → SidesOf over under y
 same_sides text over under y e free is =
     let c = one_cut text over under is.over is.under e free is.spelt (side_free is.over is.under y.0 y.1 is.sides) in
     subst (λ o. AreSides o under y.0 y.1) (sym c.0) (subst (λ u. AreSides is.over u y.0 y.1) (sym c.1) is.sides)
@@ -128,7 +136,8 @@ whole_or_slash : (text over under : List ℕ) (n d : List ℤ) → text ≡ over
 whole_or_slash text over under n d e is = not_free text over under (whole_free 47 slash text is.number is.is_whole) e
 
 -- a text with a slash
-pub text_cut : (text over under : List ℕ) (r : Option (List ℤ × List ℤ)) → text ≡ over ++ 47 ∷ under → IsFree 47 over → IsOnly (SidesOf over under) r → IsOnly (PolynomialsOf text) r
+pub text_cut : (text over under : List ℕ) (r : Option (List ℤ × List ℤ)) → text ≡ over ++ 47 ∷ under → IsFree 47 over
+    → IsOnly (SidesOf over under) r → IsOnly (PolynomialsOf text) r
 text_cut text over under None e free f =
     only_none (PolynomialsOf text) (λ y s. elim s [
       | inl is ↦ whole_or_slash text over under y.0 y.1 e is

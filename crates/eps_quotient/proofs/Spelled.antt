@@ -1,5 +1,6 @@
 -- Texts that are written piece by piece.
-use Rattle.std.proofs.Common.{◌≡◌, ℕ, ◌+◌, ◌<◌, ◌==◌, false, ◌&&◌, if◌then◌else◌, List, [], ◌∷◌, ◌++◌, length, take, map, refl, sym, ◌∙◌, ap, arith, ℤ, pos, append_assoc}
+use Rattle.std.proofs.Common.{◌≡◌, ℕ, ◌+◌, ◌<◌, ◌==◌, false, ◌&&◌, if◌then◌else◌, List, [], ◌∷◌, ◌++◌, length, take}
+use Rattle.std.proofs.Common.{map, refl, sym, ◌∙◌, ap, arith, ℤ, pos, append_assoc}
 use Rattle.std.specs.Fmt.{signed_decimal}
 use Rattle.std.specs.List.{join_with_byte}
 use Rattle.std.proofs.lemmas.List.{take_more, map-append, append-nil, length-map, length-take-le}
@@ -24,7 +25,8 @@ joined_last : (x : List ℕ) (xs : List (List ℕ)) (y : List ℕ) → join_with
 joined_last x [] y = refl
 joined_last x (z ∷ xs) y = ap (λ t. x ++ 44 ∷ t) (joined_last z xs y) ∙ sym (append_assoc x (44 ∷ join_with_byte 44 (z ∷ xs)) (44 ∷ y))
 
-joined_end : (xs : List (List ℕ)) (y : List ℕ) (k : ℕ) → length xs ≡ k → join_with_byte 44 (xs ++ y ∷ []) ≡ join_with_byte 44 xs ++ (if k == 0 then y else 44 ∷ y)
+joined_end : (xs : List (List ℕ)) (y : List ℕ) (k : ℕ) → length xs ≡ k
+    → join_with_byte 44 (xs ++ y ∷ []) ≡ join_with_byte 44 xs ++ (if k == 0 then y else 44 ∷ y)
 joined_end [] y k e = rw (← e) refl
 joined_end (x ∷ xs) y k e = joined_last x xs y ∙ ap (λ t. join_with_byte 44 (x ∷ xs) ++ t) (sym (rw (ne_eqb k 0 (λ z. absurd (omega arith))) refl))
 
@@ -37,6 +39,7 @@ joined_more p k h =
 
 -- ---- the forms of a quotient's text
 
-pub lists_text : (x : Parts) → ((degree x.numerator == 0) && (degree x.denominator == 0)) ≡ false → quotient_text x ≡ polynomial_text x.numerator ++ 47 ∷ polynomial_text x.denominator
+pub lists_text : (x : Parts) → ((degree x.numerator == 0) && (degree x.denominator == 0)) ≡ false
+    → quotient_text x ≡ polynomial_text x.numerator ++ 47 ∷ polynomial_text x.denominator
 unfolding quotient_text
 lists_text x e = rw e refl

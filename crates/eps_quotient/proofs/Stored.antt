@@ -15,7 +15,8 @@ use Rattle.eps_quotient.specs.Laws.QuotientLaws.{same_sym, same_nonzero}
 pub stored_same : (x y : Parts) → x ≡ y → IsQuotient y → IsQuotient x
 stored_same x y e s = subst IsQuotient (sym e) s
 
-pub parts_same : (n d m e : List ℤ) → n ≡ m → d ≡ e → Path Parts (record { numerator = n; denominator = d }) (record { numerator = m; denominator = e })
+pub parts_same : (n d m e : List ℤ) → n ≡ m → d ≡ e
+    → Path Parts (record { numerator = n; denominator = d }) (record { numerator = m; denominator = e })
 parts_same n d m e f g = ap₂ (λ n d. record { numerator = n; denominator = d }) f g
 
 -- a product of two polynomials that aren't 0 isn't 0
@@ -26,7 +27,8 @@ pub some_list : (p q : List ℤ) → p ≡ q → IsNonZero q → IsNonZero p
 some_list p q e h z = h (ap lowest (sym e) ∙ z)
 
 -- the limit's terms, as they are computed
-pub terms_made : (n d : List ℤ) (num den g p q : ℤ) → num ≡ coefficient n 0 → den ≡ coefficient d 0 → g ≡ gcd_of num den → p ≡ int_div num g → q ≡ int_div den g
+pub terms_made : (n d : List ℤ) (num den g p q : ℤ) → num ≡ coefficient n 0 → den ≡ coefficient d 0 → g ≡ gcd_of num den → p ≡ int_div num g
+    → q ≡ int_div den g
     → Path Terms (record { num = p; den = q }) (limit_terms (record { numerator = n; denominator = d }))
 terms_made n d num den g p q e f h i j =
     let divisor : g ≡ gcd_of (coefficient n 0) (coefficient d 0) = h ∙ ap₂ gcd_of e f in

@@ -1,5 +1,7 @@
 -- Sums of terms of ascending power.
-use Rattle.std.proofs.Common.{◌≡◌, ℕ, zero, suc, ◌+◌, ◌<◌, ◌≤◌, List, [], ◌∷◌, length, drop, map, refl, sym, ◌∙◌, ap, ap₂, arith, ℤ, pos, negsuc, ◌*ℤ◌, ◌<ℤ◌, unsigned_abs, Option, Some, None, Result, Ok, Err, lit≤, get_or, ◌*◌, subst}
+use Rattle.std.proofs.Common.{◌≡◌, ℕ, zero, suc, ◌+◌, ◌<◌, ◌≤◌, List, [], ◌∷◌, length, drop, map, refl, sym, ◌∙◌, ap, ap₂}
+use Rattle.std.proofs.Common.{arith, ℤ, pos, negsuc, ◌*ℤ◌, ◌<ℤ◌, unsigned_abs, Option, Some, None, Result, Ok, Err, lit≤, get_or, ◌*◌}
+use Rattle.std.proofs.Common.{subst}
 use Rattle.std.proofs.lemmas.Int.{ints}
 use Rattle.field_core.specs.declared.place.Op.TheVariants.{Add}
 use Rattle.field_core.specs.declared.ratio.Ratio.{Ratio}
@@ -85,14 +87,16 @@ term_value : (k : ℕ) (t : Terms) → k ≤ 32 → IsReduced t → value_of (te
 unfolding term value_of
 term_value k t low r =
     let some = positive_nonzero t.den r.positive in
-    quotient-same _ _ (from_factors t.num k one_polynomial) (t.den ∷ []) (monomial_some t.den 0 (omega arith) some) (monomial-factors t.num k low) (constant_same t.den)
+    quotient-same _ _ (from_factors t.num k one_polynomial) (t.den ∷ []) (monomial_some t.den 0 (omega arith) some) (monomial-factors t.num k low)
+    (constant_same t.den)
     ∙ factors_value t.num k (t.den ∷ []) (constant_nonzero t.den some)
 
 -- ---- a term is stored
 
 content-monomial : (c : ℤ) (k : ℕ) → k ≤ 32 → content (monomial c k) ≡ unsigned_abs c
 content-monomial c k low =
-    content-same _ _ (monomial-factors c k low) ∙ content-factors c k one_polynomial ∙ ap (λ n. unsigned_abs c * n) one_core.divisor ∙ mul-one (unsigned_abs c)
+    content-same _ _ (monomial-factors c k low) ∙ content-factors c k one_polynomial ∙ ap (λ n. unsigned_abs c * n) one_core.divisor
+    ∙ mul-one (unsigned_abs c)
 
 one_of_size : (d : ℤ) → pos 0 <ℤ d → unsigned_abs d ≡ 1 → d ≡ pos 1
 one_of_size (pos n) h e = ap pos e
@@ -145,7 +149,8 @@ sum_value k sum z (t ∷ ts) room s r e =
     let st = term_stored k t low r.0 in
     let next = quotients_are_exact.stored Add sum (term k t) b.0 s st tt b.1 in
     sum_value (suc k) b.0 z ts more next r.1 b.2
-    ∙ ap (λ v. v +ε (epsilon *ε power k) *ε polynomial_value ts) (quotients_are_exact.exact Add sum (term k t) b.0 s st tt b.1 ∙ ap (λ v. value_of sum +ε v) (term_value k t low r.0))
+    ∙ ap (λ v. v +ε (epsilon *ε power k) *ε polynomial_value ts)
+    (quotients_are_exact.exact Add sum (term k t) b.0 s st tt b.1 ∙ ap (λ v. value_of sum +ε v) (term_value k t low r.0))
     ∙ one_more (value_of sum) (power k) (fraction t.num t.den) epsilon (polynomial_value ts)
 
 reduced_ratios : (xs : List Ratio) → AreReduced (map terms xs)
@@ -157,7 +162,8 @@ start_value : (v : Number) → number_zero +ε number_one *ε v ≡ v
 start_value v = simp number_laws
 
 -- the written sum of five terms has the value of their polynomial
-pub five_value : (xs : List Ratio) (z : Parts) → length xs ≡ 5 → written_polynomial (map terms xs) ≡ Some z → value_of z ≡ polynomial_value (map terms xs)
+pub five_value : (xs : List Ratio) (z : Parts) → length xs ≡ 5 → written_polynomial (map terms xs) ≡ Some z
+    → value_of z ≡ polynomial_value (map terms xs)
 unfolding power
 five_value xs z five e =
     sum_value 0 zero_quotient z (map terms xs) (rw (length-map, five) (lit≤ tt)) zero_stored (reduced_ratios xs) e
@@ -185,7 +191,8 @@ pub sum_end : (sum : Parts) (k : ℕ) (ts : List Terms) → length ts ≤ k → 
 unfolding sum_from
 sum_end sum k ts h = rw (drop_all k ts h) refl
 
-step_next : (sum next : Parts) (k : ℕ) (t : Terms) (ts : List Terms) → written_sum sum (term k t) ≡ Some next → sum_from k sum (t ∷ ts) ≡ sum_from (suc k) next ts
+step_next : (sum next : Parts) (k : ℕ) (t : Terms) (ts : List Terms) → written_sum sum (term k t) ≡ Some next
+    → sum_from k sum (t ∷ ts) ≡ sum_from (suc k) next ts
 unfolding sum_from
 step_next sum next k t ts f = rw f refl
 
@@ -218,7 +225,8 @@ unfolding AreReduced
 all_reduced [] r = tt
 all_reduced (t ∷ ts) r = (All-head IsReduced t ts r, all_reduced ts (All-tail IsReduced t ts r))
 
-sum_stored : (k : ℕ) (sum z : Parts) (ts : List Terms) → k + length ts ≤ 33 → IsQuotient sum → AreReduced ts → sum_from k sum ts ≡ Some z → IsQuotient z
+sum_stored : (k : ℕ) (sum z : Parts) (ts : List Terms) → k + length ts ≤ 33 → IsQuotient sum → AreReduced ts → sum_from k sum ts ≡ Some z
+    → IsQuotient z
 unfolding sum_from AreReduced
 sum_stored k sum z [] room s r e = subst IsQuotient (parts_inside sum z e) s
 sum_stored k sum z (t ∷ ts) room s r e =
@@ -231,7 +239,8 @@ pub polynomial_stored : (ts : List Terms) (z : Parts) → length ts ≤ 33 → A
 polynomial_stored ts z few r e = sum_stored 0 zero_quotient z ts (omega arith) zero_stored (all_reduced ts r) e
 
 -- and it has the value of the polynomial
-pub polynomial_is : (ts : List Terms) (z : Parts) → length ts ≤ 33 → All IsReduced ts → written_polynomial ts ≡ Some z → value_of z ≡ polynomial_value ts
+pub polynomial_is : (ts : List Terms) (z : Parts) → length ts ≤ 33 → All IsReduced ts → written_polynomial ts ≡ Some z
+    → value_of z ≡ polynomial_value ts
 unfolding power
 polynomial_is ts z few r e =
     sum_value 0 zero_quotient z ts (omega arith) zero_stored (all_reduced ts r) e

@@ -1,5 +1,6 @@
 -- The text of evidence says it, and nothing else.
-use Rattle.std.proofs.Common.{◌≡◌, sym, refl, subst, ℕ, suc, ◌+◌, ◌<◌, ◌≤◌, inl, inr, List, [], ◌∷◌, ◌++◌, length, map, get_or, Some, arith}
+use Rattle.std.proofs.Common.{◌≡◌, sym, refl, subst, ℕ, suc, ◌+◌, ◌<◌, ◌≤◌, inl, inr, List, [], ◌∷◌, ◌++◌, length, map, get_or}
+use Rattle.std.proofs.Common.{Some, arith}
 use Rattle.std.specs.Prelude.{◌⊎◌}
 use Rattle.std.specs.Fmt.{decimal}
 use Rattle.std.specs.List.{All, AllByRecursion}
@@ -23,7 +24,8 @@ use Rattle.evidence_check.specs.declared.quantity.Quantity.{Quantity}
 use Rattle.evidence_check.specs.declared.quantity.Quantity.TheVariants.{Flow, Exit}
 use Rattle.evidence_check.specs.EvidenceParts.{StepParts, KeepParts, FlowsFit, ExitsFit, FitsSize}
 use Rattle.evidence_check.specs.EvidenceView.{step_parts, keep_parts, version_of, steps_of, keeps_of, IsEvidenceFor}
-use Rattle.evidence_check.specs.Documents.{Form, SaysVersion, SaysStep, SaysNumber, SaysKeep, SaysEnd, number_forms, list_forms, step_forms, keep_forms, evidence_forms, evidence_lines, line_of}
+use Rattle.evidence_check.specs.Documents.{Form, SaysVersion, SaysStep, SaysNumber, SaysKeep, SaysEnd, number_forms, list_forms, step_forms, keep_forms}
+use Rattle.evidence_check.specs.Documents.{evidence_forms, evidence_lines, line_of}
 use Rattle.evidence_check.specs.NumberReading.{case_frame}
 use Rattle.evidence_check.specs.DocumentStatements.{IsPrinted, ArePrinted, SaysEvidence, evidence_text}
 use Rattle.evidence_check.proofs.CheckAnswers.{fractions_of, quotients_of}
@@ -55,8 +57,10 @@ module _ {F : Type 0} (n : Numbers) (parts : F → Parts) (each : (x : F) → Is
   }
 
 evidence_stored : (c : Content) (v : Evidence) → IsEvidenceFor c v → AreStored (numbers_of c) (steps_of v) (keeps_of v)
-evidence_stored c (Plain v) h = subst (λ n. AreStored n (steps_of (Plain v)) (keeps_of (Plain v))) (sym (fractions_of c h.form)) (all_stored in_fractions fraction_parts fraction_stored v.steps v.keeps)
-evidence_stored c (Eps v) h = subst (λ n. AreStored n (steps_of (Eps v)) (keeps_of (Eps v))) (sym (quotients_of c h.form)) (all_stored in_quotients quotient_parts (λ x. x.stored) v.steps v.keeps)
+evidence_stored c (Plain v) h = subst (λ n. AreStored n (steps_of (Plain v)) (keeps_of (Plain v))) (sym (fractions_of c h.form))
+    (all_stored in_fractions fraction_parts fraction_stored v.steps v.keeps)
+evidence_stored c (Eps v) h = subst (λ n. AreStored n (steps_of (Eps v)) (keeps_of (Eps v))) (sym (quotients_of c h.form))
+    (all_stored in_quotients quotient_parts (λ x. x.stored) v.steps v.keeps)
 
 -- ---- each line is one
 
@@ -73,15 +77,22 @@ module _ (n : Numbers) (c : Content) (words : Each c.names IsWord) (apart : AreD
   name_is j l = name_word c.names j words l
 
   number_is : (q : Quantity) (k j : ℕ) (x : Parts) → k < 8 → IsKnown j → IsStoredIn n x → SaidInLine (SaysNumber q k j x)
-  number_is Flow k j x l h s = keyed _ _ (decimal (k + 1) ∷ get_or c.names j [] ∷ (case_frame n c).text x ∷ []) refl refl (whole_is_word (k + 1) (omega arith), (name_is j h, (number_is_word n x s, tt)))
-  number_is Exit k j x l h s = keyed _ _ (decimal (k + 1) ∷ get_or c.names j [] ∷ (case_frame n c).text x ∷ []) refl refl (whole_is_word (k + 1) (omega arith), (name_is j h, (number_is_word n x s, tt)))
+  number_is Flow k j x l h s = keyed _ _ (decimal (k + 1) ∷ get_or c.names j [] ∷ (case_frame n c).text x ∷ []) refl refl
+      (whole_is_word (k + 1) (omega arith), (name_is j h, (number_is_word n x s, tt)))
+  number_is Exit k j x l h s = keyed _ _ (decimal (k + 1) ∷ get_or c.names j [] ∷ (case_frame n c).text x ∷ []) refl refl
+      (whole_is_word (k + 1) (omega arith), (name_is j h, (number_is_word n x s, tt)))
 
-  numbers_are : (q : Quantity) (k : ℕ) (js : List ℕ) (xs : List Parts) → k < 8 → All IsKnown js → All (IsStoredIn n) xs → AllByRecursion SaidInLine (number_forms q k js xs)
+  numbers_are : (q : Quantity) (k : ℕ) (js : List ℕ) (xs : List Parts) → k < 8 → All IsKnown js → All (IsStoredIn n) xs
+      → AllByRecursion SaidInLine (number_forms q k js xs)
   numbers_are q k [] xs l h s = tt
   numbers_are q k (j ∷ js) [] l h s = tt
-  numbers_are q k (j ∷ js) (x ∷ xs) l h s = (number_is q k j x l (All-head IsKnown j js h) (All-head (IsStoredIn n) x xs s), numbers_are q k js xs l (All-tail IsKnown j js h) (All-tail (IsStoredIn n) x xs s))
+  numbers_are q k (j ∷ js) (x ∷ xs) l h s = (
+    number_is q k j x l (All-head IsKnown j js h) (All-head (IsStoredIn n) x xs s),
+    numbers_are q k js xs l (All-tail IsKnown j js h) (All-tail (IsStoredIn n) x xs s),
+  )
 
-  lists_are : (q : Quantity) (k : ℕ) (js : List ℕ) (lists : List (List Parts)) → k + length lists ≤ 8 → All IsKnown js → All (All (IsStoredIn n)) lists → AllByRecursion SaidInLine (list_forms q k js lists)
+  lists_are : (q : Quantity) (k : ℕ) (js : List ℕ) (lists : List (List Parts)) → k + length lists ≤ 8 → All IsKnown js
+      → All (All (IsStoredIn n)) lists → AllByRecursion SaidInLine (list_forms q k js lists)
   lists_are q k js [] l h s = tt
   lists_are q k js (xs ∷ lists) l h s =
       all_append SaidInLine (number_forms q k js xs) (list_forms q (suc k) js lists)
@@ -104,7 +115,8 @@ module _ (n : Numbers) (c : Content) (words : Each c.names IsWord) (apart : AreD
   end_is : SaidInLine SaysEnd
   end_is = keyed _ _ [] refl refl tt
 
-  steps_are : (i : ℕ) (js : List ℕ) (ss : List StepParts) → All IsKnown js → All (λ s. IsKnown s.hypothesis) ss → FlowsFit (length c.components) i ss → All (λ s. All (All (IsStoredIn n)) s.flows) ss → AllByRecursion SaidInLine (step_forms js ss)
+  steps_are : (i : ℕ) (js : List ℕ) (ss : List StepParts) → All IsKnown js → All (λ s. IsKnown s.hypothesis) ss → FlowsFit (length c.components) i ss
+      → All (λ s. All (All (IsStoredIn n)) s.flows) ss → AllByRecursion SaidInLine (step_forms js ss)
   steps_are i js [] h k f s = tt
   steps_are i js (t ∷ ss) h k f s =
       let below = All-head (λ s. IsKnown s.hypothesis) t ss k in
@@ -112,10 +124,12 @@ module _ (n : Numbers) (c : Content) (words : Each c.names IsWord) (apart : AreD
         step_is t.hypothesis below,
         all_append SaidInLine (list_forms Flow 0 js t.flows) (step_forms (js ++ t.hypothesis ∷ []) ss)
             (lists_are Flow 0 js t.flows (omega arith) h (All-head (λ s. All (All (IsStoredIn n)) s.flows) t ss s))
-            (steps_are (suc i) (js ++ t.hypothesis ∷ []) ss (All-push IsKnown js t.hypothesis h below) (All-tail (λ s. IsKnown s.hypothesis) t ss k) f.1 (All-tail (λ s. All (All (IsStoredIn n)) s.flows) t ss s)),
+            (steps_are (suc i) (js ++ t.hypothesis ∷ []) ss (All-push IsKnown js t.hypothesis h below) (All-tail (λ s. IsKnown s.hypothesis) t ss k) f.1
+            (All-tail (λ s. All (All (IsStoredIn n)) s.flows) t ss s)),
       )
 
-  keeps_are : (i : ℕ) (js : List ℕ) (xs : List KeepParts) → All IsKnown js → All (λ x. IsKnown x.hypothesis) xs → ExitsFit (length c.components) i xs → All (λ x. All (All (IsStoredIn n)) x.exits) xs → AllByRecursion SaidInLine (keep_forms js xs)
+  keeps_are : (i : ℕ) (js : List ℕ) (xs : List KeepParts) → All IsKnown js → All (λ x. IsKnown x.hypothesis) xs → ExitsFit (length c.components) i xs
+      → All (λ x. All (All (IsStoredIn n)) x.exits) xs → AllByRecursion SaidInLine (keep_forms js xs)
   keeps_are i js [] h k f s = tt
   keeps_are i js (x ∷ xs) h k f s =
       let many : length x.exits ≡ length c.components = f.0.lists in (
@@ -129,7 +143,8 @@ module _ (n : Numbers) (c : Content) (words : Each c.names IsWord) (apart : AreD
   as_lines [] h = tt
   as_lines (f ∷ fs) h = (h.0, as_lines fs h.1)
 
-  module _ (v : ℕ) (ss : List StepParts) (xs : List KeepParts) (version : (v ≡ 1) ⊎ (v ≡ 2)) (size : FitsSize (length c.names) (length c.components) ss xs) (stored : AreStored n ss xs) where
+  module _ (v : ℕ) (ss : List StepParts) (xs : List KeepParts) (version : (v ≡ 1) ⊎ (v ≡ 2))
+      (size : FitsSize (length c.names) (length c.components) ss xs) (stored : AreStored n ss xs) where
     known : All IsKnown (map (λ s. s.hypothesis) ss)
     known = All-map IsKnown (λ s. s.hypothesis) ss size.steps_below
 
@@ -139,19 +154,24 @@ module _ (n : Numbers) (c : Content) (words : Each c.names IsWord) (apart : AreD
         as_lines (evidence_forms v ss xs) (
           version_is v version,
           all_append SaidInLine (step_forms [] ss ++ keep_forms js xs) (SaysEnd ∷ [])
-              (all_append SaidInLine (step_forms [] ss) (keep_forms js xs) (steps_are 0 [] ss (λ i d lt. absurd (omega arith)) size.steps_below size.flows stored.flows)
+              (all_append SaidInLine (step_forms [] ss) (keep_forms js xs)
+              (steps_are 0 [] ss (λ i d lt. absurd (omega arith)) size.steps_below size.flows stored.flows)
               (keeps_are (length ss) js xs known size.keeps_below size.exits stored.exits))
               (end_is, tt),
         )
 
     printed : (lists : List (List Parts)) → All (All (IsStoredIn n)) lists → All (All (IsPrinted (case_frame n c))) lists
-    printed lists = All-weaker (All (IsStoredIn n)) (All (IsPrinted (case_frame n c))) (λ ys. All-weaker (IsStoredIn n) (IsPrinted (case_frame n c)) (λ x. stored_printed n c x) ys) lists
+    printed lists = All-weaker (All (IsStoredIn n)) (All (IsPrinted (case_frame n c)))
+        (λ ys. All-weaker (IsStoredIn n) (IsPrinted (case_frame n c)) (λ x. stored_printed n c x) ys) lists
 
     all_printed : ArePrinted (case_frame n c) ss xs
     all_printed = record {
-      names = All-weaker (λ s. s.hypothesis < length c.names) (λ s. (case_frame n c).position ((case_frame n c).name s.hypothesis) ≡ Some s.hypothesis) (λ s l. place_of_name c.names s.hypothesis apart l) ss size.steps_below;
-      flows = All-weaker (λ s. All (All (IsStoredIn n)) s.flows) (λ s. All (All (IsPrinted (case_frame n c))) s.flows) (λ s h. printed s.flows h) ss stored.flows;
-      exits = All-weaker (λ x. All (All (IsStoredIn n)) x.exits) (λ x. All (All (IsPrinted (case_frame n c))) x.exits) (λ x h. printed x.exits h) xs stored.exits;
+      names = All-weaker (λ s. s.hypothesis < length c.names) (λ s. (case_frame n c).position ((case_frame n c).name s.hypothesis) ≡ Some s.hypothesis)
+          (λ s l. place_of_name c.names s.hypothesis apart l) ss size.steps_below;
+      flows = All-weaker (λ s. All (All (IsStoredIn n)) s.flows) (λ s. All (All (IsPrinted (case_frame n c))) s.flows)
+          (λ s h. printed s.flows h) ss stored.flows;
+      exits = All-weaker (λ x. All (All (IsStoredIn n)) x.exits) (λ x. All (All (IsPrinted (case_frame n c))) x.exits)
+          (λ x h. printed x.exits h) xs stored.exits;
     }
 
 -- ---- the text

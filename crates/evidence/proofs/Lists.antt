@@ -1,5 +1,6 @@
 -- Lists of hypotheses that aren't listed, and what holds of each item of a list.
-use Rattle.std.proofs.Common.{◌≡◌, inl, inr, refl, sym, ap, ap₂, ◌∙◌, ◌==◌, ◌||◌, ◌++◌, subst, cond, append-nil, ℕ, zero, suc, ◌+◌, ◌<◌, Bool, true, false, not, List, [], ◌∷◌, length, get_or, map, arith}
+use Rattle.std.proofs.Common.{◌≡◌, inl, inr, refl, sym, ap, ap₂, ◌∙◌, ◌==◌, ◌||◌, ◌++◌, subst, cond, append-nil, ℕ, zero, suc}
+use Rattle.std.proofs.Common.{◌+◌, ◌<◌, Bool, true, false, not, List, [], ◌∷◌, length, get_or, map, arith}
 use Rattle.std.specs.List.{All, filter, list_any, range_with_len}
 use Rattle.std.proofs.lemmas.Bool.Decides.{nat_tests}
 use Rattle.field_core.specs.Sets.{set_of}
@@ -15,7 +16,8 @@ filtered q P a zero each = λ i d p. absurd (omega arith)
 filtered q P a (suc n) each =
     let rest = filtered q P (a + 1) n (λ k h e. each k (omega arith) e) in
     elim (true_or_false (q a)) [
-      | inl t ↦ subst (λ b. All P (cond b (a ∷ filter q (range_with_len (a + 1) n)) (filter q (range_with_len (a + 1) n)))) (sym t) (more a (filter q (range_with_len (a + 1) n)) (each a (omega arith) t) rest)
+      | inl t ↦ subst (λ b. All P (cond b (a ∷ filter q (range_with_len (a + 1) n)) (filter q (range_with_len (a + 1) n)))) (sym t)
+          (more a (filter q (range_with_len (a + 1) n)) (each a (omega arith) t) rest)
       | inr f ↦ subst (λ b. All P (cond b (a ∷ filter q (range_with_len (a + 1) n)) (filter q (range_with_len (a + 1) n)))) (sym f) rest
     ]
   where

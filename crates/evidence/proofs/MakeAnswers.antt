@@ -50,7 +50,8 @@ refused n js (Err v) w h = ap (λ v. Err (record { step = 0; at = v })) (same_er
     same_error r v w h k = cc
 
 -- a refused opening is step 0 of the run
-pub opening_refused : (c : Content) (js : List ℕ) (f : OpenFault) → Opens case_state (Err f) (case_opening c) → MakesAll written_evidence (Err (opening_fault f)) (case_flows c js)
+pub opening_refused : (c : Content) (js : List ℕ) (f : OpenFault) → Opens case_state (Err f) (case_opening c)
+    → MakesAll written_evidence (Err (opening_fault f)) (case_flows c js)
 unfolding case_opening case_flows flows_in
 opening_refused c js (OpenWide w) h = refused (numbers_of c) js (opening_in (numbers_of c) c) w h
 opening_refused c js OpenNoMemory h = tt
@@ -65,11 +66,13 @@ pub flows_by : (c : Content) (js : List ℕ) (s : CaseState) → case_opening c 
 unfolding case_opening case_flows flows_in
 flows_by c js s h = run_from (numbers_of c) js (opening_in (numbers_of c) c) s h
 
-opened_by : (c : Content) → IsValidContent c → (r : Result (Bundled (state_in (numbers_of c))) WideAt) → opening_in (numbers_of c) c ≡ r → (s : CaseState) → ok_map (state_of (numbers_of c)) r ≡ Ok s
+opened_by : (c : Content) → IsValidContent c → (r : Result (Bundled (state_in (numbers_of c))) WideAt) → opening_in (numbers_of c) c ≡ r
+    → (s : CaseState) → ok_map (state_of (numbers_of c)) r ≡ Ok s
     → AreOpened s × (case_size s ≡ length c.names)
 opened_by c V (Ok b) e s h =
     let B = case_opening_is (numbers_of c) c b V (can_run c) e in
-    subst (λ t. AreOpened t × (case_size t ≡ length c.names)) (ok_same (ok_map {E = WideAt} (state_of (numbers_of c)) (Ok b)) (state_of (numbers_of c) b) s refl h) (B.opened, B.size)
+    subst (λ t. AreOpened t × (case_size t ≡ length c.names))
+    (ok_same (ok_map {E = WideAt} (state_of (numbers_of c)) (Ok b)) (state_of (numbers_of c) b) s refl h) (B.opened, B.size)
 opened_by c V (Err w) e s h = absurd (cc)
 
 case_opened : (c : Content) → IsValidContent c → (s : CaseState) → case_opening c ≡ Ok s → AreOpened s × (case_size s ≡ length c.names)
@@ -81,7 +84,8 @@ module _ (c : Content) (V : IsValidContent c) (s : CaseState) (h : case_opening 
   nets_opened = (case_opened c V s h).0
 
   pub nets_order : (js : List ℕ) → IsCompleteOrder c js → IsOrder (case_size s) whole js
-  nets_order js o = subst (λ m. IsOrder m whole js) (sym (case_opened c V s h).1) (case_order c V (number_at (p_values_of c.inputs)) (number_of c.alpha) js o.legal)
+  nets_order js o = subst (λ m. IsOrder m whole js) (sym (case_opened c V s h).1)
+      (case_order c V (number_at (p_values_of c.inputs)) (number_of c.alpha) js o.legal)
 
 -- evidence in fractions is that of a plain case
 pub form_is : (c : Content) (v : Evidence) → has_fractions v ≡ is_plain c → IsFormOf c v
@@ -102,7 +106,8 @@ module _ (c : Content) (V : IsValidContent c) (js : List ℕ) (o : IsCompleteOrd
   module _ (v : Evidence) (h : case_flows c js ≡ Ok (written_evidence v)) where
     lists : map (λ s. s.hypothesis) (steps_of v) ≡ js
     unfolding case_flows
-    lists = sym (listed_names (kind_of (numbers_of c)) (steps_of v)) ∙ flows_list c V (number_at (p_values_of c.inputs)) (number_of c.alpha) js o.legal (numbers_of c) (can_run c) (written_evidence v) h
+    lists = sym (listed_names (kind_of (numbers_of c)) (steps_of v))
+        ∙ flows_list c V (number_at (p_values_of c.inputs)) (number_of c.alpha) js o.legal (numbers_of c) (can_run c) (written_evidence v) h
 
     meets : MeetsIn c (steps_of v) (keeps_of v)
     unfolding case_flows
@@ -128,11 +133,13 @@ module _ (c : Content) (V : IsValidContent c) (js : List ℕ) (o : IsCompleteOrd
         other_version : (n : ℕ) → n ≡ 1 → n ≡ 2 → ⊥
         other_version n e f = omega arith
 
-  pub made_lists : (r : Result Evidence MakeFault) → MakesAll written_evidence r (case_flows c js) → IfOk r (λ v. map (λ s. s.hypothesis) (steps_of v) ≡ js)
+  pub made_lists : (r : Result Evidence MakeFault) → MakesAll written_evidence r (case_flows c js)
+      → IfOk r (λ v. map (λ s. s.hypothesis) (steps_of v) ≡ js)
   made_lists (Ok v) m = lists v m
   made_lists (Err f) m = tt
 
-  pub made_keeps : (r : Result Evidence MakeFault) → MakesAll written_evidence r (case_flows c js) → IfOk r (λ v. map (λ x. x.hypothesis) (keeps_of v) ≡ others (length c.names) js)
+  pub made_keeps : (r : Result Evidence MakeFault) → MakesAll written_evidence r (case_flows c js)
+      → IfOk r (λ v. map (λ x. x.hypothesis) (keeps_of v) ≡ others (length c.names) js)
   made_keeps (Ok v) m = keeps v m
   made_keeps (Err f) m = tt
 
@@ -140,16 +147,19 @@ module _ (c : Content) (V : IsValidContent c) (js : List ℕ) (o : IsCompleteOrd
   made_meets (Ok v) m = meets v m
   made_meets (Err f) m = tt
 
-  pub made_fits : (r : Result Evidence MakeFault) → MakesAll written_evidence r (case_flows c js) → IfOk r (IsFormOf c) → IfOk r (λ v. version_of v ≡ 2) → IfOk r (IsEvidenceFor c)
+  pub made_fits : (r : Result Evidence MakeFault) → MakesAll written_evidence r (case_flows c js) → IfOk r (IsFormOf c)
+      → IfOk r (λ v. version_of v ≡ 2) → IfOk r (IsEvidenceFor c)
   made_fits (Ok v) m f two = fits v m f two
   made_fits (Err e) m f two = tt
 
 -- ---- decisions
 
 -- the steps of a decision are a complete legal order
-pub decision_order : (c : Content) (priority : Priority) (d : Decision) → IsValidContent c → IsDecision c priority d → IsCompleteOrder c (hypotheses d.steps)
+pub decision_order : (c : Content) (priority : Priority) (d : Decision) → IsValidContent c → IsDecision c priority d
+    → IsCompleteOrder c (hypotheses d.steps)
 decision_order c priority d V D =
     let o = for_single (λ ps. IsDecisionWith c ps priority d)
-    (λ i. IsLegalOrder (entangled c) (number_at (p_values_of i)) (number_of c.alpha) whole (hypotheses d.steps) × IsComplete (entangled c) (number_at (p_values_of i)) (number_of c.alpha) whole (hypotheses d.steps))
+    (λ i. IsLegalOrder (entangled c) (number_at (p_values_of i)) (number_of c.alpha) whole (hypotheses d.steps)
+    × IsComplete (entangled c) (number_at (p_values_of i)) (number_of c.alpha) whole (hypotheses d.steps))
     (λ ps W. priority_order (entangled c) (number_at ps) (number_of c.alpha) priority (hypotheses d.steps) (valid_content c V) W.order) c.inputs D in
     record { legal = o.0; complete = o.1 }

@@ -1,5 +1,6 @@
 -- The flow run of nets gives evidence that meets its conditions.
-use Rattle.std.proofs.Common.{◌≡◌, inl, inr, refl, sym, ap, subst, ◌∙◌, ℕ, zero, suc, ◌<◌, true, false, List, [], ◌∷◌, Result, Ok, length, map, arith}
+use Rattle.std.proofs.Common.{◌≡◌, inl, inr, refl, sym, ap, subst, ◌∙◌, ℕ, zero, suc, ◌<◌, true, false, List, [], ◌∷◌, Result, Ok}
+use Rattle.std.proofs.Common.{length, map, arith}
 use Rattle.std.specs.List.{All}
 use Rattle.field_core.specs.declared.place.Wide.{Wide}
 use Rattle.field_core.specs.Number.{Number}
@@ -33,7 +34,8 @@ kept_names K ts js (k ∷ ks) = ap (λ xs. k ∷ xs) (kept_names K ts js ks)
 
 -- ---- sizes
 
-good_below : (K : Kind) (E : EntangledGraph) (p : ℕ → Number) (level : Number) (ss : List StepParts) (js : List ℕ) → AreGoodSteps E p level js (map (step_values K) ss) → All (λ s. s.hypothesis < E.hypotheses) ss
+good_below : (K : Kind) (E : EntangledGraph) (p : ℕ → Number) (level : Number) (ss : List StepParts) (js : List ℕ)
+    → AreGoodSteps E p level js (map (step_values K) ss) → All (λ s. s.hypothesis < E.hypotheses) ss
 good_below K E p level [] js G i d q = absurd (omega arith)
 good_below K E p level (s ∷ ss) js G zero d q = G.0.below
 good_below K E p level (s ∷ ss) js G (suc i) d q = good_below K E p level ss _ G.1 i d (omega arith)
@@ -56,8 +58,10 @@ kept_of : (K : Kind) (ts : List Tables) (js : List ℕ) (k : ℕ) → (kept_exit
 unfolding kept_exits
 kept_of K ts js k = refl
 
-module _ {S : Type 0} (K : Kind) (IsStored : Parts → Type 0) (X : IsExact K IsStored) (graph : S → StoredGraph) (IsProper : S → Type 0) (removal : S → ℕ → Result S Wide) (E : RemovesExactly K IsStored graph IsProper removal)
-    (b : Bundled S) (O : IsOpened K graph IsProper b) (p : ℕ → Number) (level : Number) (js : List ℕ) (o : IsLegalOrder (by_value K graph b.states b.shares) p level whole js) where
+module _ {S : Type 0} (K : Kind) (IsStored : Parts → Type 0) (X : IsExact K IsStored) (graph : S → StoredGraph) (IsProper : S → Type 0)
+    (removal : S → ℕ → Result S Wide) (E : RemovesExactly K IsStored graph IsProper removal)
+    (b : Bundled S) (O : IsOpened K graph IsProper b) (p : ℕ → Number) (level : Number) (js : List ℕ)
+    (o : IsLegalOrder (by_value K graph b.states b.shares) p level whole js) where
   abbrev ks : List ℕ
   ks = others (size graph b) js
 
@@ -69,23 +73,31 @@ module _ {S : Type 0} (K : Kind) (IsStored : Parts → Type 0) (X : IsExact K Is
     order = order_of K IsStored X graph IsProper removal E b.states b.shares O.ready (has_some (others (size graph b) js)) p level js o
 
     module _ (complete : IsComplete (by_value K graph b.states b.shares) p level whole js) where
-      keep_good : (k : ℕ) → k < size graph b → set_of js k ≡ false → has_some (others (size graph b) js) ≡ true → IsGoodKeep (by_value K graph b.states b.shares) p level js (keep_values K (kept_exits K r.tables js k))
+      keep_good : (k : ℕ) → k < size graph b → set_of js k ≡ false → has_some (others (size graph b) js) ≡ true
+          → IsGoodKeep (by_value K graph b.states b.shares) p level js (keep_values K (kept_exits K r.tables js k))
       keep_good k below f some =
-          good_keep K IsStored X graph IsProper removal E b.states b.shares O.ready js order r.tables gives.count (gives.exits some) k (record { below = below; member = not_listed_left js whole k refl f }) p level complete
+          good_keep K IsStored X graph IsProper removal E b.states b.shares O.ready js order r.tables gives.count (gives.exits some) k
+          (record { below = below; member = not_listed_left js whole k refl f }) p level complete
 
-      keeps_good : All (IsGoodKeep (by_value K graph b.states b.shares) p level js) (map (keep_values K) (map (kept_exits K r.tables js) (others (size graph b) js)))
+      keeps_good : All (IsGoodKeep (by_value K graph b.states b.shares) p level js)
+          (map (keep_values K) (map (kept_exits K r.tables js) (others (size graph b) js)))
       keeps_good = elim (true_or_false (has_some (others (size graph b) js))) [
-        | inr none ↦ subst (λ ks. All (IsGoodKeep (by_value K graph b.states b.shares) p level js) (map (keep_values K) (map (kept_exits K r.tables js) ks))) (sym (some_has (others (size graph b) js) none)) (λ i d q. absurd (omega arith))
+        | inr none ↦ subst (λ ks. All (IsGoodKeep (by_value K graph b.states b.shares) p level js) (map (keep_values K) (map (kept_exits K r.tables js) ks)))
+            (sym (some_has (others (size graph b) js) none)) (λ i d q. absurd (omega arith))
         | inl some ↦
             all_mapped (keep_values K) (IsGoodKeep (by_value K graph b.states b.shares) p level js) _
-            (all_mapped (kept_exits K r.tables js) (λ x. IsGoodKeep (by_value K graph b.states b.shares) p level js (keep_values K x)) (others (size graph b) js)
-            (others_each (size graph b) js (λ k. IsGoodKeep (by_value K graph b.states b.shares) p level js (keep_values K (kept_exits K r.tables js k))) (λ k below f. keep_good k below f some)))
+            (all_mapped (kept_exits K r.tables js) (λ x. IsGoodKeep (by_value K graph b.states b.shares) p level js (keep_values K x))
+            (others (size graph b) js)
+            (others_each (size graph b) js (λ k. IsGoodKeep (by_value K graph b.states b.shares) p level js (keep_values K (kept_exits K r.tables js k)))
+            (λ k below f. keep_good k below f some)))
       ]
 
-      meets : MeetsConditions (by_value K graph b.states b.shares) p level (evidence_values K r.steps (map (kept_exits K r.tables js) (others (size graph b) js)))
+      meets : MeetsConditions (by_value K graph b.states b.shares) p level
+          (evidence_values K r.steps (map (kept_exits K r.tables js) (others (size graph b) js)))
       meets = record {
         steps = gives.good;
-        keeps = subst (λ is. All (IsGoodKeep (by_value K graph b.states b.shares) p level is) (map (keep_values K) (map (kept_exits K r.tables js) (others (size graph b) js)))) (sym gives.lists) keeps_good;
+        keeps = subst (λ is. All (IsGoodKeep (by_value K graph b.states b.shares) p level is)
+            (map (keep_values K) (map (kept_exits K r.tables js) (others (size graph b) js)))) (sym gives.lists) keeps_good;
       }
 
       keeps_others : KeepsOthers (size graph b) (evidence_values K r.steps (map (kept_exits K r.tables js) (others (size graph b) js)))
@@ -98,8 +110,10 @@ module _ {S : Type 0} (K : Kind) (IsStored : Parts → Type 0) (X : IsExact K Is
       steps_below = good_below K (by_value K graph b.states b.shares) p level r.steps [] gives.good;
       flows = gives.fit;
       keeps_below = all_mapped (kept_exits K r.tables js) (λ x. x.hypothesis < size graph b) (others (size graph b) js)
-          (others_each (size graph b) js (λ k. (kept_exits K r.tables js k).hypothesis < size graph b) (λ k below f. subst (λ i. i < size graph b) (sym (kept_of K r.tables js k)) below));
-      exits = subst (λ n. ExitsFit (length b.states) n (map (kept_exits K r.tables js) (others (size graph b) js))) (sym (steps_length K r.steps js gives.lists)) (kept_fit K (length b.states) r.tables js (others (size graph b) js) gives.count);
+          (others_each (size graph b) js (λ k. (kept_exits K r.tables js k).hypothesis < size graph b)
+          (λ k below f. subst (λ i. i < size graph b) (sym (kept_of K r.tables js k)) below));
+      exits = subst (λ n. ExitsFit (length b.states) n (map (kept_exits K r.tables js) (others (size graph b) js)))
+          (sym (steps_length K r.steps js gives.lists)) (kept_fit K (length b.states) r.tables js (others (size graph b) js) gives.count);
     }
 
   -- the parts of a run
@@ -114,16 +128,20 @@ module _ {S : Type 0} (K : Kind) (IsStored : Parts → Type 0) (X : IsExact K Is
       let a = bind_ok (flow_run K graph removal (has_some (others (size graph b) js)) [] js (opening_state K graph b)) _ v h in
       record { run = a.0; flows = a.1.0; is = ok_same (Ok v) _ v (sym a.1.1) refl }
 
-  pub net_steps : (v : WrittenEvidence) → evidence_run K graph removal b js ≡ Ok v → (listed (map (step_values K) v.steps) ≡ js) × AreGoodSteps (by_value K graph b.states b.shares) p level [] (map (step_values K) v.steps)
+  pub net_steps : (v : WrittenEvidence) → evidence_run K graph removal b js ≡ Ok v → (listed (map (step_values K) v.steps) ≡ js)
+      × AreGoodSteps (by_value K graph b.states b.shares) p level [] (map (step_values K) v.steps)
   net_steps v h =
       let a = parts_of v h in
-      subst (λ w. (listed (map (step_values K) w.steps) ≡ js) × AreGoodSteps (by_value K graph b.states b.shares) p level [] (map (step_values K) w.steps)) a.is ((gives a.run a.flows).lists, (gives a.run a.flows).good)
+      subst (λ w. (listed (map (step_values K) w.steps) ≡ js) × AreGoodSteps (by_value K graph b.states b.shares) p level [] (map (step_values K) w.steps))
+      a.is ((gives a.run a.flows).lists, (gives a.run a.flows).good)
 
   pub net_evidence : IsComplete (by_value K graph b.states b.shares) p level whole js → (v : WrittenEvidence) → evidence_run K graph removal b js ≡ Ok v
-      → MeetsConditions (by_value K graph b.states b.shares) p level (evidence_values K v.steps v.keeps) × KeepsOthers (size graph b) (evidence_values K v.steps v.keeps)
+      → MeetsConditions (by_value K graph b.states b.shares) p level (evidence_values K v.steps v.keeps)
+      × KeepsOthers (size graph b) (evidence_values K v.steps v.keeps)
   net_evidence complete v h =
       let a = parts_of v h in
-      subst (λ w. MeetsConditions (by_value K graph b.states b.shares) p level (evidence_values K w.steps w.keeps) × KeepsOthers (size graph b) (evidence_values K w.steps w.keeps)) a.is (meets a.run a.flows complete, keeps_others a.run a.flows complete)
+      subst (λ w. MeetsConditions (by_value K graph b.states b.shares) p level (evidence_values K w.steps w.keeps)
+      × KeepsOthers (size graph b) (evidence_values K w.steps w.keeps)) a.is (meets a.run a.flows complete, keeps_others a.run a.flows complete)
 
   pub net_fits : (v : WrittenEvidence) → evidence_run K graph removal b js ≡ Ok v → FitsSize (size graph b) (length b.states) v.steps v.keeps
   net_fits v h = let a = parts_of v h in subst (λ w. FitsSize (size graph b) (length b.states) w.steps w.keeps) a.is (fits a.run a.flows)

@@ -1,5 +1,6 @@
 -- The texts of numbers are words.
-use Rattle.std.proofs.Common.{◌≡◌, refl, ap₂, ℕ, zero, suc, ◌+◌, ◌^◌, ◌<◌, ◌≤◌, ◌==◌, ◌&&◌, Bool, true, false, if◌then◌else◌, List, [], ◌∷◌, ◌++◌, length, map, take, ℤ, pos, negsuc, unsigned_abs, arith}
+use Rattle.std.proofs.Common.{◌≡◌, refl, ap₂, ℕ, zero, suc, ◌+◌, ◌^◌, ◌<◌, ◌≤◌, ◌==◌, ◌&&◌, Bool, true, false}
+use Rattle.std.proofs.Common.{if◌then◌else◌, List, [], ◌∷◌, ◌++◌, length, map, take, ℤ, pos, negsuc, unsigned_abs, arith}
 use Rattle.std.specs.Fmt.{decimal, signed_decimal}
 use Rattle.std.specs.List.{join_with_byte}
 use Rattle.std.specs.Ordering.{int_eq}
@@ -65,11 +66,13 @@ join_first : (x : List ℕ) (xs : List (List ℕ)) → AreHigh x → AreHigh (jo
 join_first x [] h k = h
 join_first x (y ∷ xs) h k = high_both x (44 ∷ join_with_byte 44 (y ∷ xs)) h k
 
-coefficients_high : (n : ℕ) (p : List ℤ) → ((k : ℕ) → unsigned_abs (coefficient p k) < 2 ^ 127) → AreHigh (join_with_byte 44 (map signed_decimal (take n p)))
+coefficients_high : (n : ℕ) (p : List ℤ) → ((k : ℕ) → unsigned_abs (coefficient p k) < 2 ^ 127)
+    → AreHigh (join_with_byte 44 (map signed_decimal (take n p)))
 unfolding coefficient
 coefficients_high zero p h = refl
 coefficients_high (suc n) [] h = refl
-coefficients_high (suc n) (c ∷ p) h = join_first (signed_decimal c) (map signed_decimal (take n p)) (whole_word c (h 0)).high (coefficients_high n p (λ k. h (suc k)))
+coefficients_high (suc n) (c ∷ p) h = join_first (signed_decimal c) (map signed_decimal (take n p)) (whole_word c (h 0)).high
+    (coefficients_high n p (λ k. h (suc k)))
 
 list_word : (x : List ℕ) → AreHigh x → AreWord (91 ∷ x ++ 93 ∷ [])
 list_word x h = record { some = omega arith; high = high_both x (93 ∷ []) h refl }
@@ -81,9 +84,12 @@ quotient_word : (x : Parts) → IsQuotient x → AreWord (quotient_text x)
 unfolding quotient_text
 quotient_word x q = by ((degree x.numerator == 0) && (degree x.denominator == 0))
   where
-    by : (b : Bool) → AreWord (if b then fraction_text (coefficient x.numerator 0) (coefficient x.denominator 0) else polynomial_text x.numerator ++ 47 ∷ polynomial_text x.denominator)
+    by : (b : Bool) → AreWord
+        (if b then fraction_text (coefficient x.numerator 0)
+        (coefficient x.denominator 0) else polynomial_text x.numerator ++ 47 ∷ polynomial_text x.denominator)
     by true = fraction_word (coefficient x.numerator 0) (coefficient x.denominator 0) (q.above.sizes 0) (q.below.sizes 0)
-    by false = joined (polynomial_text x.numerator) (polynomial_text x.denominator) (polynomial_word x.numerator q.above) (polynomial_word x.denominator q.below)
+    by false = joined (polynomial_text x.numerator) (polynomial_text x.denominator) (polynomial_word x.numerator q.above)
+        (polynomial_word x.denominator q.below)
 
 -- ---- the numbers of a case
 

@@ -1,5 +1,6 @@
 -- A flow run along a legal order gives good steps, and one along a complete order good keeps.
-use Rattle.std.proofs.Common.{◌≡◌, inl, inr, refl, sym, ap, ap₂, subst, ◌∙◌, ℕ, ◌+◌, ◌<◌, Bool, true, false, not, List, [], ◌∷◌, ◌++◌, Result, Ok, Err, length, get_or, map, replicate}
+use Rattle.std.proofs.Common.{◌≡◌, inl, inr, refl, sym, ap, ap₂, subst, ◌∙◌, ℕ, ◌+◌, ◌<◌, Bool, true, false, not, List, [], ◌∷◌}
+use Rattle.std.proofs.Common.{◌++◌, Result, Ok, Err, length, get_or, map, replicate}
 use Rattle.std.proofs.lemmas.List.{get_or-map, get_or-replicate, length-map, length-replicate}
 use Rattle.field_core.specs.declared.place.Wide.{Wide}
 use Rattle.field_core.specs.declared.place.WideAt.{WideAt}
@@ -43,7 +44,8 @@ use Rattle.evidence_check.proofs.Hypotheses.{one_longer}
 use Rattle.evidence_check.proofs.Places.{place_below, place_listed, order_in}
 use Rattle.evidence_check.proofs.Vectors.{back_dot, dot_back}
 use Rattle.evidence.specs.FlowTables.{Tables, row, if_wanted, first_tables}
-use Rattle.evidence.specs.FlowRun.{at_step, RunState, FlowRun, has_some, flow_step, no_graph, no_tables, graph_at, tables_at, recorded, kept_exits, all_tables, flow_run}
+use Rattle.evidence.specs.FlowRun.{at_step, RunState, FlowRun, has_some, flow_step, no_graph, no_tables, graph_at, tables_at, recorded, kept_exits, all_tables}
+use Rattle.evidence.specs.FlowRun.{flow_run}
 use Rattle.evidence_check.specs.EvidenceParts.{numbers_at, AreFull, FlowsFit, part_at, step_values, keep_values}
 use Rattle.evidence.proofs.Lists.{all_mapped}
 use Rattle.evidence.proofs.TableSteps.{Shows}
@@ -63,11 +65,14 @@ pub order_more : (m : ℕ) (js : List ℕ) (j : ℕ) (I : ℕ → Bool) → IsOr
 order_more m [] j I o p = (p, tt)
 order_more m (i ∷ js) j I o p = (o.0, order_more m js j (dropping i I) o.1 p)
 
-pub turn_next : {S E : Type 0} (removal : S → ℕ → Result S E) (js : List ℕ) (j : ℕ) (s t u : S) → removed_in_turn removal s js ≡ Ok t → removal t j ≡ Ok u → removed_in_turn removal s (js ++ j ∷ []) ≡ Ok u
+pub turn_next : {S E : Type 0} (removal : S → ℕ → Result S E) (js : List ℕ) (j : ℕ) (s t u : S) → removed_in_turn removal s js ≡ Ok t
+    → removal t j ≡ Ok u → removed_in_turn removal s (js ++ j ∷ []) ≡ Ok u
 turn_next removal [] j s t u h e = turn_on removal s u u j [] (ap (λ v. removal v j) (turn_none removal s t h) ∙ e) (turn_end removal u)
-turn_next removal (i ∷ js) j s t u h e = let a = turn_first removal s t i js h in turn_on removal s a.0 u i (js ++ j ∷ []) a.1.0 (turn_next removal js j a.0 t u a.1.1 e)
+turn_next removal (i ∷ js) j s t u h e = let a = turn_first removal s t i js h in turn_on removal s a.0 u i (js ++ j ∷ []) a.1.0
+    (turn_next removal js j a.0 t u a.1.1 e)
 
-recorded_full : (K : Kind) (n : ℕ) (ts : List Tables) (earlier : List ℕ) (j : ℕ) → length ts ≡ n → AreFull n (length earlier) (recorded K ts earlier j).flows
+recorded_full : (K : Kind) (n : ℕ) (ts : List Tables) (earlier : List ℕ) (j : ℕ) → length ts ≡ n
+    → AreFull n (length earlier) (recorded K ts earlier j).flows
 unfolding recorded
 recorded_full K n ts earlier j e = record {
   lists = length-map ts _ ∙ e;
@@ -82,7 +87,8 @@ pub at_step_ok : {A : Type 0} (n : ℕ) (r : Result A WideAt) (x : A) → at_ste
 at_step_ok n (Ok y) x h = cc
 at_step_ok n (Err e) x h = absurd (cc)
 
-module _ {S : Type 0} (K : Kind) (IsStored : Parts → Type 0) (X : IsExact K IsStored) (graph : S → StoredGraph) (IsProper : S → Type 0) (removal : S → ℕ → Result S Wide) (E : RemovesExactly K IsStored graph IsProper removal)
+module _ {S : Type 0} (K : Kind) (IsStored : Parts → Type 0) (X : IsExact K IsStored) (graph : S → StoredGraph) (IsProper : S → Type 0)
+    (removal : S → ℕ → Result S Wide) (E : RemovesExactly K IsStored graph IsProper removal)
     (states : List S) (shares : List Ratio) (R : AreReady K graph IsProper states shares) where
   abbrev pub m : ℕ
   m = states_size graph states
@@ -112,22 +118,29 @@ module _ {S : Type 0} (K : Kind) (IsStored : Parts → Type 0) (X : IsExact K Is
     rest_in r h = not_listed_left earlier whole r refl h
 
     -- the weight that is left, in an intersection
-    weight_is : (k : ℕ) → IsIn m (left_after whole earlier) k → IsIntersectionWeight (by_value K graph states shares) (left_after whole earlier) k (shared (by_value K graph states shares) (λ c. (after number_field ((by_value K graph states shares).graph c) earlier).weight k))
+    weight_is : (k : ℕ) → IsIn m (left_after whole earlier) k
+        → IsIntersectionWeight (by_value K graph states shares) (left_after whole earlier) k
+        (shared (by_value K graph states shares) (λ c. (after number_field ((by_value K graph states shares).graph c) earlier).weight k))
     unfolding by_value
     weight_is k i = record {
       weight = λ c. (after number_field ((by_value K graph states shares).graph c) earlier).weight k;
-      is_weight = λ c p. order_weight number_field m _ (subst (IsValid number_field m) (sym (first.graph_is c p)) (first.valid c p)) (left_after whole earlier) earlier k o (λ _ _. refl) i;
+      is_weight = λ c p. order_weight number_field m _ (subst (IsValid number_field m) (sym (first.graph_is c p)) (first.valid c p))
+          (left_after whole earlier) earlier k o (λ _ _. refl) i;
       sum = refl;
     }
 
     -- ---- the keeps after a run
 
-    module _ (ts : List Tables) (count : length ts ≡ length states) (holds : (c : ℕ) → c < length states → HoldExits K IsStored X m (first_graph c) (left_after whole earlier) (after number_field (first_graph c) earlier) (tables_at ts c)) where
+    module _ (ts : List Tables) (count : length ts ≡ length states)
+        (holds : (c : ℕ) → c < length states → HoldExits K IsStored X m (first_graph c) (left_after whole earlier)
+        (after number_field (first_graph c) earlier) (tables_at ts c)) where
       module _ (k : ℕ) (W : IsIn m (left_after whole earlier) k) where
-        exit_at : (c e : ℕ) → c < length states → e < length earlier → value_at K (kept_exits K ts earlier k).exits c e ≡ value_of (numbers_at K (row (tables_at ts c).exits k) (at_place earlier e))
+        exit_at : (c e : ℕ) → c < length states → e < length earlier
+            → value_at K (kept_exits K ts earlier k).exits c e ≡ value_of (numbers_at K (row (tables_at ts c).exits k) (at_place earlier e))
         unfolding kept_exits numbers_at at_place
         exit_at c e q r =
-            ap (λ xs. value_of (get_or xs e K.zero)) (get_or-map (λ t. map (λ i. get_or (row t.exits k) i K.zero) earlier) ts c no_tables [] (subst (λ n. c < n) (sym count) q))
+            ap (λ xs. value_of (get_or xs e K.zero))
+            (get_or-map (λ t. map (λ i. get_or (row t.exits k) i K.zero) earlier) ts c no_tables [] (subst (λ n. c < n) (sym count) q))
             ∙ ap value_of (get_or-map (λ i. get_or (row (tables_at ts c).exits k) i K.zero) earlier e 0 K.zero r)
 
         module _ (c : ℕ) (q : c < length states) where
@@ -137,13 +150,15 @@ module _ {S : Type 0} (K : Kind) (IsStored : Parts → Type 0) (X : IsExact K Is
           exit_is : (e : ℕ) → e < length earlier → value_at K (kept_exits K ts earlier k).exits c e ≡ hold.H k (at_place earlier e)
           exit_is e r = exit_at c e q r ∙ (hold.into k W).value (at_place earlier e)
 
-          leaving_is : (r : ℕ) → leaving (first_graph c) earlier (value_at K (kept_exits K ts earlier k).exits c) k r ≡ (first_graph c).edge r k +ε dot number_field m ((first_graph c).edge r) (hold.H k)
+          leaving_is : (r : ℕ) → leaving (first_graph c) earlier
+              (value_at K (kept_exits K ts earlier k).exits c) k r ≡ (first_graph c).edge r k +ε dot number_field m ((first_graph c).edge r) (hold.H k)
           unfolding leaving number_field
           leaving_is r = ap (λ s. (first_graph c).edge r k +ε s) (
               sum_congr number_field (length earlier) _ _ (λ e h. ap (λ v. (first_graph c).edge r (at_place earlier e) *ε v) (exit_is e h))
               ∙ sym (dot_back number_field m earlier whole o ((first_graph c).edge r) (hold.H k) (λ i _ n. hold.exits.elsewhere k i (rest_in i n))))
 
-          allowed_now : allowed (first_graph c) earlier (value_at K (kept_exits K ts earlier k).exits c) k ≡ (after number_field (first_graph c) earlier).weight k
+          allowed_now : allowed (first_graph c) earlier (value_at K (kept_exits K ts earlier k).exits c)
+              k ≡ (after number_field (first_graph c) earlier).weight k
           unfolding allowed number_field
           allowed_now =
               ap (λ s. (first_graph c).weight k +ε s) (
@@ -155,24 +170,33 @@ module _ {S : Type 0} (K : Kind) (IsStored : Parts → Type 0) (X : IsExact K Is
           unfolding number_field through
           are_exits = record {
             nonneg = λ r h. subst (λ x. number_zero ≤ε x) (sym (exit_is r h)) (hold.exits.nonneg k (at_place earlier r) W);
-            above = λ r h. at_most_equal _ _ (leaving_is (at_place earlier r) ∙ sym (hold.exits.solves k (at_place earlier r) W (gone (at_place earlier r) (gone_place r h))) ∙ sym (exit_is r h));
-            bounded = at_most_trans _ _ _ (at_most_equal _ _ allowed_now) (weight_unit m (first_graph c) (left_after whole earlier) k _ (first.valid c q) W (order_weight number_field m (first_graph c) (first.valid c q) (left_after whole earlier) earlier k o (λ _ _. refl) W)).high;
+            above = λ r h. at_most_equal _ _
+                (leaving_is (at_place earlier r) ∙ sym (hold.exits.solves k (at_place earlier r) W (gone (at_place earlier r) (gone_place r h)))
+                ∙ sym (exit_is r h));
+            bounded = at_most_trans _ _ _ (at_most_equal _ _ allowed_now)
+                (weight_unit m (first_graph c) (left_after whole earlier) k _ (first.valid c q) W
+                (order_weight number_field m (first_graph c) (first.valid c q) (left_after whole earlier) earlier k o (λ _ _. refl) W)).high;
           }
             where
               gone_place : (r : ℕ) → r < length earlier → set_of earlier (at_place earlier r) ≡ true
               gone_place r h = place_listed earlier r h
 
-        pub good_keep : (p : ℕ → Number) (level : Number) → IsComplete (by_value K graph states shares) p level whole earlier → IsGoodKeep (by_value K graph states shares) p level earlier (keep_values K (kept_exits K ts earlier k))
+        pub good_keep : (p : ℕ → Number) (level : Number) → IsComplete (by_value K graph states shares) p level whole earlier
+            → IsGoodKeep (by_value K graph states shares) p level earlier (keep_values K (kept_exits K ts earlier k))
         unfolding by_value kept_exits
         good_keep p level complete = record {
           below = W.below;
           exits = λ c q. subst (λ A. AreExits A earlier k (value_at K (kept_exits K ts earlier k).exits c)) (sym (first.graph_is c q)) (are_exits c q);
-          fails = λ h. complete k (passes_legal (by_value K graph states shares) p level (left_after whole earlier) k _ W (weight_is k W) (subst (λ u. Passes (p k) u level) (sym (sum_congr number_field (length states) _ _ each)) h));
+          fails = λ h. complete k (passes_legal (by_value K graph states shares) p level (left_after whole earlier) k _ W (weight_is k W)
+              (subst (λ u. Passes (p k) u level) (sym (sum_congr number_field (length states) _ _ each)) h));
         }
           where
-            each : (c : ℕ) → c < length states → (by_value K graph states shares).share c *ε limit ((after number_field ((by_value K graph states shares).graph c) earlier).weight k) ≡ (by_value K graph states shares).share c *ε limit (allowed ((by_value K graph states shares).graph c) earlier (value_at K (kept_exits K ts earlier k).exits c) k)
+            each : (c : ℕ) → c < length states → (by_value K graph states shares).share c *ε limit
+                ((after number_field ((by_value K graph states shares).graph c) earlier).weight k) ≡ (by_value K graph states shares).share c *ε limit
+                (allowed ((by_value K graph states shares).graph c) earlier (value_at K (kept_exits K ts earlier k).exits c) k)
             each c q = ap (λ x. (by_value K graph states shares).share c *ε limit x) (
-                subst (λ A. (after number_field A earlier).weight k ≡ allowed A earlier (value_at K (kept_exits K ts earlier k).exits c) k) (sym (first.graph_is c q)) (sym (allowed_now c q)))
+                subst (λ A. (after number_field A earlier).weight k ≡ allowed A earlier (value_at K (kept_exits K ts earlier k).exits c) k)
+                (sym (first.graph_is c q)) (sym (allowed_now c q)))
 
   module _ (is_kept : Bool) where
     -- the state of a run after the steps of `earlier`
@@ -180,17 +204,21 @@ module _ {S : Type 0} (K : Kind) (IsStored : Parts → Type 0) (X : IsExact K Is
       pub order : IsOrder m whole earlier
       pub reached : opened_after K graph removal states shares earlier ≡ Ok b
       pub count : length ts ≡ length states
-      pub flows : (c : ℕ) → c < length states → HoldFlows K IsStored X m (first_graph c) (left_after whole earlier) (after number_field (first_graph c) earlier) (tables_at ts c)
-      pub exits : is_kept ≡ true → (c : ℕ) → c < length states → HoldExits K IsStored X m (first_graph c) (left_after whole earlier) (after number_field (first_graph c) earlier) (tables_at ts c)
+      pub flows : (c : ℕ) → c < length states → HoldFlows K IsStored X m (first_graph c) (left_after whole earlier)
+          (after number_field (first_graph c) earlier) (tables_at ts c)
+      pub exits : is_kept ≡ true → (c : ℕ) → c < length states
+          → HoldExits K IsStored X m (first_graph c) (left_after whole earlier) (after number_field (first_graph c) earlier) (tables_at ts c)
 
     module _ (earlier : List ℕ) (b : Bundled S) (ts : List Tables) (T : IsAt earlier b ts) where
       later : IsLater K graph removal states shares earlier b
       later = run_says K graph removal states shares earlier b T.reached
 
-      shows : (c : ℕ) → c < length states → Shows K IsStored X m (left_after whole earlier) (after number_field (first_graph c) earlier) (graph_at (map graph b.states) c)
+      shows : (c : ℕ) → c < length states → Shows K IsStored X m (left_after whole earlier) (after number_field (first_graph c) earlier)
+          (graph_at (map graph b.states) c)
       unfolding net_before
       shows c p =
-          let D = in_turn K IsStored graph IsProper removal E m earlier whole (first_graph c) (before c) (get_or b.states c d) (first.stands c p) T.order (later.each c d p) in
+          let D = in_turn K IsStored graph IsProper removal E m earlier whole (first_graph c) (before c) (get_or b.states c d) (first.stands c p) T.order
+          (later.each c d p) in
           let e = get_or-map graph b.states c d no_graph (subst (λ n. c < n) (sym later.as_many) p) in
           subst (Shows K IsStored X m (left_after whole earlier) (after number_field (first_graph c) earlier)) (sym e)
           (record { same_size = D.same_size; live = D.live; value = D.value; stored = E.stored (get_or b.states c d) D.proper })
@@ -205,10 +233,12 @@ module _ {S : Type 0} (K : Kind) (IsStored : Parts → Type 0) (X : IsExact K Is
 
         -- ---- the step that is recorded
 
-        flow_at : (c e : ℕ) → c < length states → e < length earlier → value_at K (recorded K ts earlier j).flows c e ≡ value_of (numbers_at K (tables_at ts c).flows (at_place earlier e))
+        flow_at : (c e : ℕ) → c < length states → e < length earlier
+            → value_at K (recorded K ts earlier j).flows c e ≡ value_of (numbers_at K (tables_at ts c).flows (at_place earlier e))
         unfolding recorded numbers_at at_place
         flow_at c e q r =
-            ap (λ xs. value_of (get_or xs e K.zero)) (get_or-map (λ t. map (λ i. get_or t.flows i K.zero) earlier) ts c no_tables [] (subst (λ n. c < n) (sym T.count) q))
+            ap (λ xs. value_of (get_or xs e K.zero))
+            (get_or-map (λ t. map (λ i. get_or t.flows i K.zero) earlier) ts c no_tables [] (subst (λ n. c < n) (sym T.count) q))
             ∙ ap value_of (get_or-map (λ i. get_or (tables_at ts c).flows i K.zero) earlier e 0 K.zero r)
 
         module _ (c : ℕ) (q : c < length states) where
@@ -221,20 +251,26 @@ module _ {S : Type 0} (K : Kind) (IsStored : Parts → Type 0) (X : IsExact K Is
           flow_is : (e : ℕ) → e < length earlier → value_at K (recorded K ts earlier j).flows c e ≡ holds.y (at_place earlier e)
           flow_is e r = flow_at c e q r ∙ holds.through.value (at_place earlier e)
 
-          brought_is : (k : ℕ) → brought (first_graph c) earlier (value_at K (recorded K ts earlier j).flows c) k ≡ (first_graph c).weight k +ε dot number_field m holds.y (into number_field (first_graph c) k)
+          brought_is : (k : ℕ) → brought (first_graph c) earlier
+              (value_at K (recorded K ts earlier j).flows c) k ≡ (first_graph c).weight k +ε dot number_field m holds.y (into number_field (first_graph c) k)
           unfolding brought number_field
           brought_is k = ap (λ s. (first_graph c).weight k +ε s) (
               sum_congr number_field (length earlier) _ _ (λ e r. ap (λ v. v *ε (first_graph c).edge (at_place earlier e) k) (flow_is e r))
-              ∙ sym (back_dot number_field m earlier whole T.order holds.y (into number_field (first_graph c) k) (λ i _ n. holds.flows.elsewhere i (rest_in earlier T.order i n))))
+              ∙ sym (back_dot number_field m earlier whole T.order holds.y (into number_field (first_graph c) k)
+              (λ i _ n. holds.flows.elsewhere i (rest_in earlier T.order i n))))
 
           are_flows : AreFlows (first_graph c) earlier (value_at K (recorded K ts earlier j).flows c)
           unfolding number_field
           are_flows = record {
-            nonneg = λ r h. subst (λ x. number_zero ≤ε x) (sym (flow_is r h)) (holds.flows.flow.nonneg (at_place earlier r) (place_below m earlier whole T.order r h));
-            within = λ r h. at_most_trans _ _ _ (at_most_equal _ _ (flow_is r h)) (at_most_trans _ _ _ (holds.flows.flow.within (at_place earlier r) (place_below m earlier whole T.order r h)) (at_most_equal _ _ (sym (brought_is (at_place earlier r)))));
+            nonneg = λ r h. subst (λ x. number_zero ≤ε x) (sym (flow_is r h))
+                (holds.flows.flow.nonneg (at_place earlier r) (place_below m earlier whole T.order r h));
+            within = λ r h. at_most_trans _ _ _ (at_most_equal _ _ (flow_is r h))
+                (at_most_trans _ _ _ (holds.flows.flow.within (at_place earlier r) (place_below m earlier whole T.order r h))
+                (at_most_equal _ _ (sym (brought_is (at_place earlier r)))));
           }
 
-          brought_now : brought (first_graph c) earlier (value_at K (recorded K ts earlier j).flows c) j ≡ (after number_field (first_graph c) earlier).weight j
+          brought_now : brought (first_graph c) earlier (value_at K (recorded K ts earlier j).flows c) j ≡ (after number_field (first_graph c) earlier).weight
+              j
           unfolding number_field
           brought_now = brought_is j ∙ sym (holds.flows.weight j J)
 
@@ -248,9 +284,12 @@ module _ {S : Type 0} (K : Kind) (IsStored : Parts → Type 0) (X : IsExact K Is
               (legal_passes (by_value K graph states shares) p level (left_after whole earlier) j _ legal (weight_is earlier T.order j J));
         }
           where
-            each : (c : ℕ) → c < length states → (by_value K graph states shares).share c *ε limit ((after number_field ((by_value K graph states shares).graph c) earlier).weight j) ≡ (by_value K graph states shares).share c *ε limit (brought ((by_value K graph states shares).graph c) earlier (value_at K (recorded K ts earlier j).flows c) j)
+            each : (c : ℕ) → c < length states → (by_value K graph states shares).share c *ε limit
+                ((after number_field ((by_value K graph states shares).graph c) earlier).weight j) ≡ (by_value K graph states shares).share c *ε limit
+                (brought ((by_value K graph states shares).graph c) earlier (value_at K (recorded K ts earlier j).flows c) j)
             each c q = ap (λ x. (by_value K graph states shares).share c *ε limit x) (
-                subst (λ A. (after number_field A earlier).weight j ≡ brought A earlier (value_at K (recorded K ts earlier j).flows c) j) (sym (first.graph_is c q)) (sym (brought_now c q)))
+                subst (λ A. (after number_field A earlier).weight j ≡ brought A earlier (value_at K (recorded K ts earlier j).flows c) j)
+                (sym (first.graph_is c q)) (sym (brought_now c q)))
 
     -- ---- the run
 
@@ -260,25 +299,35 @@ module _ {S : Type 0} (K : Kind) (IsStored : Parts → Type 0) (X : IsExact K Is
       pub good : AreGoodSteps (by_value K graph states shares) p level earlier (map (step_values K) r.steps)
       pub count : length r.tables ≡ length states
       pub fit : FlowsFit (length states) (length earlier) r.steps
-      pub exits : is_kept ≡ true → (c : ℕ) → c < length states → HoldExits K IsStored X m (first_graph c) (left_after (left_after whole earlier) js) (after number_field (after number_field (first_graph c) earlier) js) (tables_at r.tables c)
+      pub exits : is_kept ≡ true → (c : ℕ) → c < length states
+          → HoldExits K IsStored X m (first_graph c) (left_after (left_after whole earlier) js)
+          (after number_field (after number_field (first_graph c) earlier) js) (tables_at r.tables c)
 
-    module _ (earlier : List ℕ) (b : Bundled S) (ts us : List Tables) (T : IsAt earlier b ts) (j : ℕ) (i : IsIn m (left_after whole earlier) j) (is_last : Bool) (h : all_tables K (map graph b.states) ts earlier j is_last is_kept ≡ Ok us) where
+    module _ (earlier : List ℕ) (b : Bundled S) (ts us : List Tables) (T : IsAt earlier b ts) (j : ℕ) (i : IsIn m (left_after whole earlier) j)
+        (is_last : Bool) (h : all_tables K (map graph b.states) ts earlier j is_last is_kept ≡ Ok us) where
       us_count : length us ≡ length states
       unfolding all_tables
       us_count = each_length (length ts) _ us h ∙ T.count
 
-      tables_step : (c : ℕ) → c < length states → StepsTo K IsStored X m (graph_at (map graph b.states) c) (tables_at ts c) (tables_at us c) earlier j is_last is_kept
+      tables_step : (c : ℕ) → c < length states → StepsTo K IsStored X m (graph_at (map graph b.states) c) (tables_at ts c) (tables_at us c) earlier j
+          is_last is_kept
       unfolding all_tables
       tables_step c q =
           steps_to K IsStored X m (graph_at (map graph b.states) c) (tables_at ts c) (tables_at us c) earlier j is_last is_kept
           (in_component_ok c _ _ (each_get (length ts) _ us h no_tables c (subst (λ n. c < n) (sym T.count) q)))
 
-      exits_then : is_kept ≡ true → (c : ℕ) → c < length states → HoldExits K IsStored X m (first_graph c) (dropping j (left_after whole earlier)) (without number_field (after number_field (first_graph c) earlier) j) (tables_at us c)
+      exits_then : is_kept ≡ true → (c : ℕ) → c < length states
+          → HoldExits K IsStored X m (first_graph c) (dropping j (left_after whole earlier))
+          (without number_field (after number_field (first_graph c) earlier) j) (tables_at us c)
       exits_then k c q =
-          exits_go_on K IsStored X m (graph_at (map graph b.states) c) (tables_at ts c) (tables_at us c) earlier j (first_graph c) (left_after whole earlier) (after number_field (first_graph c) earlier) (shows earlier b ts T c q) (valid_now earlier b ts T c q) i (below earlier T.order) (gone earlier T.order) (rest_in earlier T.order) is_last
-          (subst (λ w. StepsTo K IsStored X m (graph_at (map graph b.states) c) (tables_at ts c) (tables_at us c) earlier j is_last w) k (tables_step c q)) (T.exits k c q)
+          exits_go_on K IsStored X m (graph_at (map graph b.states) c) (tables_at ts c) (tables_at us c) earlier j (first_graph c) (left_after whole earlier)
+          (after number_field (first_graph c) earlier) (shows earlier b ts T c q) (valid_now earlier b ts T c q) i (below earlier T.order)
+          (gone earlier T.order) (rest_in earlier T.order) is_last
+          (subst (λ w. StepsTo K IsStored X m (graph_at (map graph b.states) c) (tables_at ts c) (tables_at us c) earlier j is_last w) k (tables_step c q))
+          (T.exits k c q)
 
-    module _ (earlier : List ℕ) (b e : Bundled S) (ts us : List Tables) (T : IsAt earlier b ts) (j : ℕ) (i : IsIn m (left_after whole earlier) j) (h : all_tables K (map graph b.states) ts earlier j false is_kept ≡ Ok us) (g : removed K graph removal b j ≡ Ok e) where
+    module _ (earlier : List ℕ) (b e : Bundled S) (ts us : List Tables) (T : IsAt earlier b ts) (j : ℕ) (i : IsIn m (left_after whole earlier) j)
+        (h : all_tables K (map graph b.states) ts earlier j false is_kept ≡ Ok us) (g : removed K graph removal b j ≡ Ok e) where
       left_is : left_after whole (earlier ++ j ∷ []) ≡ dropping j (left_after whole earlier)
       left_is = left_append earlier (j ∷ []) whole
 
@@ -289,16 +338,21 @@ module _ {S : Type 0} (K : Kind) (IsStored : Parts → Type 0) (X : IsExact K Is
       unfolding opened_after
       reached_next =
           let a = bind_ok (opened K graph states shares) _ b T.reached in
-          ap (λ r. r >>= (λ v. removed_in_turn (removed K graph removal) v (earlier ++ j ∷ []))) a.1.0 ∙ turn_next (removed K graph removal) earlier j a.0 b e a.1.1 g
+          ap (λ r. r >>= (λ v. removed_in_turn (removed K graph removal) v (earlier ++ j ∷ []))) a.1.0
+          ∙ turn_next (removed K graph removal) earlier j a.0 b e a.1.1 g
 
       pub goes_on : IsAt (earlier ++ j ∷ []) e us
       goes_on = record {
         order = order_more m earlier j whole T.order i;
         reached = reached_next;
         count = us_count earlier b ts us T j i false h;
-        flows = λ c q. subst (λ I. HoldFlows K IsStored X m (first_graph c) I (after number_field (first_graph c) (earlier ++ j ∷ [])) (tables_at us c)) (sym left_is) (subst (λ A. HoldFlows K IsStored X m (first_graph c) (dropping j (left_after whole earlier)) A (tables_at us c)) (sym (after_is c))
-            (flows_go_on K IsStored X m (graph_at (map graph b.states) c) (tables_at ts c) (tables_at us c) earlier j (first_graph c) (left_after whole earlier) (after number_field (first_graph c) earlier) (shows earlier b ts T c q) (valid_now earlier b ts T c q) i (below earlier T.order) (gone earlier T.order) (rest_in earlier T.order) is_kept (tables_step earlier b ts us T j i false h c q) (T.flows c q)));
-        exits = λ k c q. subst (λ I. HoldExits K IsStored X m (first_graph c) I (after number_field (first_graph c) (earlier ++ j ∷ [])) (tables_at us c)) (sym left_is) (subst (λ A. HoldExits K IsStored X m (first_graph c) (dropping j (left_after whole earlier)) A (tables_at us c)) (sym (after_is c))
+        flows = λ c q. subst (λ I. HoldFlows K IsStored X m (first_graph c) I (after number_field (first_graph c) (earlier ++ j ∷ [])) (tables_at us c))
+            (sym left_is) (subst (λ A. HoldFlows K IsStored X m (first_graph c) (dropping j (left_after whole earlier)) A (tables_at us c)) (sym (after_is c))
+            (flows_go_on K IsStored X m (graph_at (map graph b.states) c) (tables_at ts c) (tables_at us c) earlier j (first_graph c) (left_after whole earlier)
+            (after number_field (first_graph c) earlier) (shows earlier b ts T c q) (valid_now earlier b ts T c q) i (below earlier T.order)
+            (gone earlier T.order) (rest_in earlier T.order) is_kept (tables_step earlier b ts us T j i false h c q) (T.flows c q)));
+        exits = λ k c q. subst (λ I. HoldExits K IsStored X m (first_graph c) I (after number_field (first_graph c) (earlier ++ j ∷ [])) (tables_at us c))
+            (sym left_is) (subst (λ A. HoldExits K IsStored X m (first_graph c) (dropping j (left_after whole earlier)) A (tables_at us c)) (sym (after_is c))
             (exits_then earlier b ts us T j i false h k c q));
       }
 
@@ -307,7 +361,8 @@ module _ {S : Type 0} (K : Kind) (IsStored : Parts → Type 0) (X : IsExact K Is
       unfolding by_value
       in_set I j l = l.member
 
-      run_end : (earlier : List ℕ) (s : RunState S) (r : FlowRun) → flow_run K graph removal is_kept earlier [] s ≡ Ok r → r ≡ record { steps = []; tables = s.tables }
+      run_end : (earlier : List ℕ) (s : RunState S) (r : FlowRun) → flow_run K graph removal is_kept earlier [] s ≡ Ok r
+          → r ≡ record { steps = []; tables = s.tables }
       unfolding flow_run
       run_end earlier s r h = ok_same (Ok r) r _ refl (sym h)
 
@@ -320,11 +375,13 @@ module _ {S : Type 0} (K : Kind) (IsStored : Parts → Type 0) (X : IsExact K Is
         on : flow_run K graph removal is_kept (earlier ++ j ∷ []) js t ≡ Ok rest
         is : r ≡ record { steps = recorded K s.tables earlier j ∷ rest.steps; tables = rest.tables }
 
-      run_more : (earlier : List ℕ) (j : ℕ) (js : List ℕ) (s : RunState S) (r : FlowRun) → flow_run K graph removal is_kept earlier (j ∷ js) s ≡ Ok r → Goes earlier j js s r
+      run_more : (earlier : List ℕ) (j : ℕ) (js : List ℕ) (s : RunState S) (r : FlowRun)
+          → flow_run K graph removal is_kept earlier (j ∷ js) s ≡ Ok r → Goes earlier j js s r
       unfolding flow_run flow_step
       run_more earlier j js s r h =
           let a = bind_ok (flow_step K graph removal is_kept earlier j (not (has_some js)) s) _ r h in
-          let b = bind_ok (at_step (length earlier + 1) (all_tables K (map graph s.bundle.states) s.tables earlier j (not (has_some js)) is_kept)) _ a.0 a.1.0 in
+          let b = bind_ok (at_step (length earlier + 1) (all_tables K (map graph s.bundle.states) s.tables earlier j (not (has_some js)) is_kept)) _ a.0
+          a.1.0 in
           let c = bind_ok (at_step (length earlier + 1) (if_wanted (not (not (has_some js))) s.bundle (removed K graph removal s.bundle j))) _ a.0 b.1.1 in
           let e : record { bundle = c.0; tables = b.0 } ≡ a.0 = ok_same (Ok a.0) _ a.0 (sym c.1.1) refl in
           let f = bind_ok (flow_run K graph removal is_kept (earlier ++ j ∷ []) js a.0) _ r a.1.1 in
@@ -337,12 +394,16 @@ module _ {S : Type 0} (K : Kind) (IsStored : Parts → Type 0) (X : IsExact K Is
             is = ok_same (Ok r) r _ refl (sym f.1.1);
           }
 
-      pub run_gives : (js earlier : List ℕ) (s : RunState S) (r : FlowRun) → IsAt earlier s.bundle s.tables → IsLegalOrder (by_value K graph states shares) p level (left_after whole earlier) js → flow_run K graph removal is_kept earlier js s ≡ Ok r → Gives p level earlier js r
-      run_gives [] earlier s r T o h = subst (Gives p level earlier []) (sym (run_end earlier s r h)) (record { lists = refl; good = tt; count = T.count; fit = tt; exits = T.exits })
+      pub run_gives : (js earlier : List ℕ) (s : RunState S) (r : FlowRun) → IsAt earlier s.bundle s.tables
+          → IsLegalOrder (by_value K graph states shares) p level (left_after whole earlier) js → flow_run K graph removal is_kept earlier js s ≡ Ok r
+          → Gives p level earlier js r
+      run_gives [] earlier s r T o h = subst (Gives p level earlier []) (sym (run_end earlier s r h))
+          (record { lists = refl; good = tt; count = T.count; fit = tt; exits = T.exits })
       run_gives (j ∷ []) earlier s r T o h =
           let a = run_more earlier j [] s r h in
           let e = run_end (earlier ++ j ∷ []) a.t a.rest a.on in
-          subst (Gives p level earlier (j ∷ [])) (sym (a.is ∙ ap (λ q. record { steps = recorded K s.tables earlier j ∷ q.steps; tables = q.tables }) e)) (record {
+          subst (Gives p level earlier (j ∷ [])) (sym (a.is ∙ ap (λ q. record { steps = recorded K s.tables earlier j ∷ q.steps; tables = q.tables }) e))
+          (record {
             lists = ap (λ x. x ∷ []) (recorded_for_is K s.tables earlier j);
             good = (good_step earlier s.bundle s.tables T p level j o.0, tt);
             count = us_count earlier s.bundle s.tables a.t.tables T j (in_set _ j o.0) true a.tables;
@@ -353,13 +414,24 @@ module _ {S : Type 0} (K : Kind) (IsStored : Parts → Type 0) (X : IsExact K Is
           let a = run_more earlier j (k ∷ js) s r h in
           let on = goes_on earlier s.bundle a.t.bundle s.tables a.t.tables T j (in_set _ j o.0) a.tables a.net in
           let left = left_append earlier (j ∷ []) whole in
-          let G = run_gives (k ∷ js) (earlier ++ j ∷ []) a.t a.rest on (subst (λ I. IsLegalOrder (by_value K graph states shares) p level I (k ∷ js)) (sym left) o.1) a.on in
+          let G = run_gives (k ∷ js) (earlier ++ j ∷ []) a.t a.rest on
+          (subst (λ I. IsLegalOrder (by_value K graph states shares) p level I (k ∷ js)) (sym left) o.1) a.on in
           subst (Gives p level earlier (j ∷ k ∷ js)) (sym a.is) (record {
             lists = ap₂ (λ x xs. x ∷ xs) (recorded_for_is K s.tables earlier j) G.lists;
-            good = (good_step earlier s.bundle s.tables T p level j o.0, subst (λ x. AreGoodSteps (by_value K graph states shares) p level (earlier ++ x ∷ []) (map (step_values K) a.rest.steps)) (sym (recorded_for_is K s.tables earlier j)) G.good);
+            good = (
+              good_step earlier s.bundle s.tables T p level j o.0,
+              subst (λ x. AreGoodSteps (by_value K graph states shares) p level (earlier ++ x ∷ []) (map (step_values K) a.rest.steps))
+                  (sym (recorded_for_is K s.tables earlier j)) G.good,
+            );
             count = G.count;
-            fit = (recorded_full K (length states) s.tables earlier j T.count, subst (λ n. FlowsFit (length states) n a.rest.steps) (one_longer earlier j) G.fit);
-            exits = λ w c q. subst (λ I. HoldExits K IsStored X m (first_graph c) (left_after I (k ∷ js)) (after number_field (without number_field (after number_field (first_graph c) earlier) j) (k ∷ js)) (tables_at a.rest.tables c)) left (subst (λ A. HoldExits K IsStored X m (first_graph c) (left_after (left_after whole (earlier ++ j ∷ [])) (k ∷ js)) (after number_field A (k ∷ js)) (tables_at a.rest.tables c)) (after_append earlier (j ∷ []) (first_graph c)) (G.exits w c q));
+            fit = (
+              recorded_full K (length states) s.tables earlier j T.count,
+              subst (λ n. FlowsFit (length states) n a.rest.steps) (one_longer earlier j) G.fit,
+            );
+            exits = λ w c q. subst (λ I. HoldExits K IsStored X m (first_graph c) (left_after I (k ∷ js))
+                (after number_field (without number_field (after number_field (first_graph c) earlier) j) (k ∷ js)) (tables_at a.rest.tables c)) left
+                (subst (λ A. HoldExits K IsStored X m (first_graph c) (left_after (left_after whole (earlier ++ j ∷ [])) (k ∷ js))
+                (after number_field A (k ∷ js)) (tables_at a.rest.tables c)) (after_append earlier (j ∷ []) (first_graph c)) (G.exits w c q));
           })
 
       -- ---- from the opening on
@@ -373,12 +445,16 @@ module _ {S : Type 0} (K : Kind) (IsStored : Parts → Type 0) (X : IsExact K Is
         order = tt;
         reached = ap (λ r. r >>= (λ v. removed_in_turn (removed K graph removal) v [])) h ∙ turn_end (removed K graph removal) b;
         count = length-replicate (length states) (first_tables K m);
-        flows = λ c q. subst (HoldFlows K IsStored X m (first_graph c) whole (first_graph c)) (sym (tables_first c q)) (first_flows K IsStored X m (first_graph c) (first.valid c q));
-        exits = λ _ c q. subst (HoldExits K IsStored X m (first_graph c) whole (first_graph c)) (sym (tables_first c q)) (first_exits K IsStored X m (first_graph c) (first.valid c q));
+        flows = λ c q. subst (HoldFlows K IsStored X m (first_graph c) whole (first_graph c)) (sym (tables_first c q))
+            (first_flows K IsStored X m (first_graph c) (first.valid c q));
+        exits = λ _ c q. subst (HoldExits K IsStored X m (first_graph c) whole (first_graph c)) (sym (tables_first c q))
+            (first_exits K IsStored X m (first_graph c) (first.valid c q));
       }
 
-      pub whole_run : (js : List ℕ) (b : Bundled S) (r : FlowRun) → IsLegalOrder (by_value K graph states shares) p level whole js → opened K graph states shares ≡ Ok b
-          → flow_run K graph removal is_kept [] js (record { bundle = b; tables = replicate (length states) (first_tables K m) }) ≡ Ok r → Gives p level [] js r
+      pub whole_run : (js : List ℕ) (b : Bundled S) (r : FlowRun) → IsLegalOrder (by_value K graph states shares) p level whole js
+          → opened K graph states shares ≡ Ok b
+          → flow_run K graph removal is_kept [] js (record { bundle = b; tables = replicate (length states) (first_tables K m) }) ≡ Ok r
+          → Gives p level [] js r
       whole_run js b r o e h = run_gives js [] _ r (opens b e) o h
 
       pub order_of : (js : List ℕ) → IsLegalOrder (by_value K graph states shares) p level whole js → IsOrder m whole js

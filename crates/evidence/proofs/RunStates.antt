@@ -1,5 +1,6 @@
 -- The states of a flow run.
-use Rattle.std.proofs.Common.{◌≡◌, ◌≢◌, inl, inr, refl, sym, ap, subst, ◌∙◌, ℕ, zero, suc, ◌<◌, Bool, true, false, not, List, [], Result, Ok, get_or, set, length-set, replicate, arith}
+use Rattle.std.proofs.Common.{◌≡◌, ◌≢◌, inl, inr, refl, sym, ap, subst, ◌∙◌, ℕ, zero, suc, ◌<◌, Bool, true, false, not, List, []}
+use Rattle.std.proofs.Common.{Result, Ok, get_or, set, length-set, replicate, arith}
 use Rattle.std.proofs.lemmas.List.{get_or-set_same, get_or-set_other, get_or-replicate, length-replicate}
 use Rattle.std.proofs.lemmas.List.FromFn.{get_or-map-range_with_len}
 use Rattle.field_core.specs.declared.place.Wide.{Wide}
@@ -62,10 +63,16 @@ module _ (K : Kind) (IsStored : Parts → Type 0) (X : IsExact K IsStored) (m : 
 
   flows_start : (A : Graph Number) → IsValid number_field m A → Flows number_field m A whole A (λ _. number_field.𝟘) (unit number_field)
   flows_start A V = record {
-    flow = record { nonneg = λ r _. number_field.le_refl number_field.𝟘; within = λ r p. rw (zero_dot number_field m (into number_field A r), add_zero number_field (A.weight r)) (V.weight_nonneg r p) };
+    flow = record {
+      nonneg = λ r _. number_field.le_refl number_field.𝟘;
+      within = λ r p. rw (zero_dot number_field m (into number_field A r), add_zero number_field (A.weight r)) (V.weight_nonneg r p);
+    };
     elsewhere = λ r _. refl;
     weight = λ l p. rw (zero_dot number_field m (into number_field A l)) (sym (add_zero number_field (A.weight l)));
-    row_flow = λ l p. record { nonneg = λ r _. unit_nonneg number_field l r; within = λ r q. rw (unit_dot number_field m (into number_field A r) l p.below) (le_add number_field _ _ (V.edge_nonneg l r p.below q)) };
+    row_flow = λ l p. record {
+      nonneg = λ r _. unit_nonneg number_field l r;
+      within = λ r q. rw (unit_dot number_field m (into number_field A r) l p.below) (le_add number_field _ _ (V.edge_nonneg l r p.below q));
+    };
     row_elsewhere = λ l r _ h. unit_other number_field l r h;
     edge = λ l k p q h. sym (unit_dot number_field m (into number_field A k) l p.below);
   }
@@ -99,7 +106,8 @@ module _ (K : Kind) (IsStored : Parts → Type 0) (X : IsExact K IsStored) (m : 
   }
     where
       here : (r : ℕ) → r ≡ l → get_or (set (replicate m K.zero) l K.one) r K.zero ≡ K.one
-      here r e = ap (λ i. get_or (set (replicate m K.zero) l K.one) i K.zero) e ∙ get_or-set_same (replicate m K.zero) l K.one K.zero (subst (λ n. l < n) (sym (length-replicate m K.zero)) p)
+      here r e = ap (λ i. get_or (set (replicate m K.zero) l K.one) i K.zero) e
+          ∙ get_or-set_same (replicate m K.zero) l K.one K.zero (subst (λ n. l < n) (sym (length-replicate m K.zero)) p)
 
       elsewhere : (r : ℕ) → r ≢ l → get_or (set (replicate m K.zero) l K.one) r K.zero ≡ K.zero
       elsewhere r n = get_or-set_other (replicate m K.zero) l r K.one K.zero n ∙ zeros m r
@@ -111,7 +119,8 @@ module _ (K : Kind) (IsStored : Parts → Type 0) (X : IsExact K IsStored) (m : 
     z = unit number_field;
     flows = flows_start A V;
     through = zero_row;
-    sent = λ l p. subst (λ xs. HasRow K IsStored X m xs (unit number_field l)) (sym (get_or-map-range_with_len (λ l. set (replicate m K.zero) l K.one) 0 m l l [] p.below (omega arith))) (unit_row l p.below);
+    sent = λ l p. subst (λ xs. HasRow K IsStored X m xs (unit number_field l))
+        (sym (get_or-map-range_with_len (λ l. set (replicate m K.zero) l K.one) 0 m l l [] p.below (omega arith))) (unit_row l p.below);
   }
 
   pub first_exits : (A : Graph Number) → IsValid number_field m A → HoldExits A whole A (first_tables K m)
@@ -145,8 +154,10 @@ module _ (K : Kind) (IsStored : Parts → Type 0) (X : IsExact K IsStored) (m : 
         }
 
     module _ (A : Graph Number) (I : ℕ → Bool) (now : Graph Number) (S : Shows K IsStored X m I now G) (V : IsValid number_field m now) (J : IsIn m I j)
-        (below : (r : ℕ) → set_of earlier r ≡ true → r < m) (gone : (r : ℕ) → set_of earlier r ≡ true → I r ≡ false) (rest_in : (r : ℕ) → set_of earlier r ≡ false → I r ≡ true) where
-      row_given : (f : ℕ → Result (List Parts) Wide) (xs : List (List Parts)) (l : ℕ) → each_below (size G) f ≡ Ok xs → l < m → f l ≡ Ok (row xs l)
+        (below : (r : ℕ) → set_of earlier r ≡ true → r < m) (gone : (r : ℕ) → set_of earlier r ≡ true → I r ≡ false)
+        (rest_in : (r : ℕ) → set_of earlier r ≡ false → I r ≡ true) where
+      row_given : (f : ℕ → Result (List Parts) Wide) (xs : List (List Parts)) (l : ℕ) → each_below (size G) f ≡ Ok xs → l < m
+          → f l ≡ Ok (row xs l)
       row_given f xs l h p = each_get (size G) f xs h [] l (subst (λ n. l < n) (sym S.same_size) p)
 
       pub flows_go_on : (is_kept : Bool) → StepsTo false is_kept → HoldFlows A I now t → HoldFlows A (dropping j I) (without number_field now j) u
@@ -155,12 +166,14 @@ module _ (K : Kind) (IsStored : Parts → Type 0) (X : IsExact K IsStored) (m : 
         z = rows_after number_field F.z now j;
         flows = flows_step number_field m A I now F.y F.z F.flows V j J;
         through = flows_hold K IsStored X m I now G S t earlier j J below gone rest_in A F.y F.z F.flows F.through F.sent u.flows T.flows;
-        sent = λ l L. visits_hold K IsStored X m I now G S t earlier j J below gone rest_in A F.y F.z F.flows F.through F.sent l L (row u.visits l) (row_given (new_visits K G j earlier t.visits) u.visits l T.visits L.below);
+        sent = λ l L. visits_hold K IsStored X m I now G S t earlier j J below gone rest_in A F.y F.z F.flows F.through F.sent l L (row u.visits l)
+            (row_given (new_visits K G j earlier t.visits) u.visits l T.visits L.below);
       }
 
       pub exits_go_on : (is_last : Bool) → StepsTo is_last true → HoldExits A I now t → HoldExits A (dropping j I) (without number_field now j) u
       exits_go_on is_last T F = record {
         H = exits_after number_field F.H now j;
         exits = exits_step number_field m A I now F.H F.exits V j J;
-        into = λ k L. exits_hold K IsStored X m I now G S t earlier j J below gone rest_in A F.H F.exits F.into k L (row u.exits k) (row_given (new_exits K G j earlier t.exits) u.exits k T.exits L.below);
+        into = λ k L. exits_hold K IsStored X m I now G S t earlier j J below gone rest_in A F.H F.exits F.into k L (row u.exits k)
+            (row_given (new_exits K G j earlier t.exits) u.exits k T.exits L.below);
       }

@@ -1,5 +1,6 @@
 -- The loop of a run, step by step.
-use Rattle.std.proofs.Common.{◌≡◌, ◌⊎◌, inl, inr, add-one, refl, sym, ap, ◌∙◌, ℕ, zero, suc, ◌+◌, ◌<◌, ◌≤◌, ◌==◌, Bool, true, false, not, List, [], ◌∷◌, ◌++◌, Result, Ok, Err, length, get_or, take, drop, arith}
+use Rattle.std.proofs.Common.{◌≡◌, ◌⊎◌, inl, inr, add-one, refl, sym, ap, ◌∙◌, ℕ, zero, suc, ◌+◌, ◌<◌, ◌≤◌, ◌==◌, Bool}
+use Rattle.std.proofs.Common.{true, false, not, List, [], ◌∷◌, ◌++◌, Result, Ok, Err, length, get_or, take, drop, arith}
 use Rattle.std.proofs.lemmas.List.{take_more, append_assoc}
 use Rattle.std.proofs.lemmas.Bool.Decides.{nat_tests}
 use Rattle.evidence_check.proofs.StepsAnswers.{drop_here, drop_end}
@@ -49,13 +50,15 @@ more_behind js n p = elim (ended n (length js) p) [
 abbrev pub in_front : List StepParts → FlowRun → FlowRun
 in_front xs r = record { steps = xs ++ r.steps; tables = r.tables }
 
-in_front_more : {E : Type 0} (xs : List StepParts) (x : StepParts) (r : Result FlowRun E) → ok_map (in_front xs) (r >>= λ rest. Ok (record { steps = x ∷ rest.steps; tables = rest.tables })) ≡ ok_map (in_front (xs ++ x ∷ [])) r
+in_front_more : {E : Type 0} (xs : List StepParts) (x : StepParts) (r : Result FlowRun E)
+    → ok_map (in_front xs) (r >>= λ rest. Ok (record { steps = x ∷ rest.steps; tables = rest.tables })) ≡ ok_map (in_front (xs ++ x ∷ [])) r
 in_front_more xs x (Ok r) = ap (λ ss. Ok (record { steps = ss; tables = r.tables })) (sym (append_assoc xs (x ∷ []) r.steps))
 in_front_more xs x (Err e) = refl
 
 module _ {S : Type 0} (K : Kind) (graph : S → StoredGraph) (removal : S → ℕ → Result S Wide) (is_kept : Bool) where
   run_cons : (earlier : List ℕ) (j : ℕ) (js : List ℕ) (s : RunState S) → flow_run K graph removal is_kept earlier (j ∷ js) s
-      ≡ (flow_step K graph removal is_kept earlier j (not (has_some js)) s >>= λ t. flow_run K graph removal is_kept (earlier ++ j ∷ []) js t >>= λ rest. Ok (record { steps = recorded K s.tables earlier j ∷ rest.steps; tables = rest.tables }))
+      ≡ (flow_step K graph removal is_kept earlier j (not (has_some js)) s >>= λ t. flow_run K graph removal is_kept
+      (earlier ++ j ∷ []) js t >>= λ rest. Ok (record { steps = recorded K s.tables earlier j ∷ rest.steps; tables = rest.tables }))
   unfolding flow_run
   run_cons earlier j js s = refl
 
@@ -76,17 +79,23 @@ module _ {S : Type 0} (K : Kind) (graph : S → StoredGraph) (removal : S → �
           not_not true = refl
           not_not false = refl
 
-      here : rest_from n xs s ≡ ok_map (in_front xs) (flow_step K graph removal is_kept (take n js) (get_or js n 0) is_last s >>= λ t. flow_run K graph removal is_kept (take n js ++ get_or js n 0 ∷ []) (drop (n + 1) js) t
+      here : rest_from n xs s ≡ ok_map (in_front xs)
+          (flow_step K graph removal is_kept (take n js) (get_or js n 0) is_last s >>= λ t. flow_run K graph removal is_kept
+          (take n js ++ get_or js n 0 ∷ []) (drop (n + 1) js) t
           >>= λ rest. Ok (record { steps = recorded K s.tables (take n js) (get_or js n 0) ∷ rest.steps; tables = rest.tables }))
       here = rw (drop_at js n p, run_cons (take n js) (get_or js n 0) (drop (n + 1) js) s, last_is) refl
 
       -- a step that is done
-      pub step_done : (x : StepParts) (t : RunState S) → x ≡ recorded K s.tables (take n js) (get_or js n 0) → flow_step K graph removal is_kept (take n js) (get_or js n 0) is_last s ≡ Ok t
+      pub step_done : (x : StepParts) (t : RunState S) → x ≡ recorded K s.tables (take n js) (get_or js n 0)
+          → flow_step K graph removal is_kept (take n js) (get_or js n 0) is_last s ≡ Ok t
           → rest_from n xs s ≡ rest_from (n + 1) (xs ++ x ∷ []) t
       step_done x t e h =
           here
-          ∙ ap (λ r. ok_map (in_front xs) (r >>= λ t. flow_run K graph removal is_kept (take n js ++ get_or js n 0 ∷ []) (drop (n + 1) js) t >>= λ rest. Ok (record { steps = recorded K s.tables (take n js) (get_or js n 0) ∷ rest.steps; tables = rest.tables }))) h
-          ∙ in_front_more xs (recorded K s.tables (take n js) (get_or js n 0)) (flow_run K graph removal is_kept (take n js ++ get_or js n 0 ∷ []) (drop (n + 1) js) t)
+          ∙ ap (λ r. ok_map (in_front xs)
+          (r >>= λ t. flow_run K graph removal is_kept (take n js ++ get_or js n 0 ∷ []) (drop (n + 1) js) t >>= λ rest. Ok
+          (record { steps = recorded K s.tables (take n js) (get_or js n 0) ∷ rest.steps; tables = rest.tables }))) h
+          ∙ in_front_more xs (recorded K s.tables (take n js) (get_or js n 0))
+          (flow_run K graph removal is_kept (take n js ++ get_or js n 0 ∷ []) (drop (n + 1) js) t)
           ∙ ap (λ y. ok_map (in_front (xs ++ y ∷ [])) (flow_run K graph removal is_kept (take n js ++ get_or js n 0 ∷ []) (drop (n + 1) js) t)) (sym e)
           ∙ ap (λ ks. ok_map (in_front (xs ++ x ∷ [])) (flow_run K graph removal is_kept ks (drop (n + 1) js) t)) (sym (take_more js n 0 p))
 
@@ -94,11 +103,14 @@ module _ {S : Type 0} (K : Kind) (graph : S → StoredGraph) (removal : S → �
       pub step_refused : (w : WideStep) → flow_step K graph removal is_kept (take n js) (get_or js n 0) is_last s ≡ Err w → rest_from n xs s ≡ Err w
       step_refused w h =
           here
-          ∙ ap (λ r. ok_map (in_front xs) (r >>= λ t. flow_run K graph removal is_kept (take n js ++ get_or js n 0 ∷ []) (drop (n + 1) js) t >>= λ rest. Ok (record { steps = recorded K s.tables (take n js) (get_or js n 0) ∷ rest.steps; tables = rest.tables }))) h
+          ∙ ap (λ r. ok_map (in_front xs)
+          (r >>= λ t. flow_run K graph removal is_kept (take n js ++ get_or js n 0 ∷ []) (drop (n + 1) js) t >>= λ rest. Ok
+          (record { steps = recorded K s.tables (take n js) (get_or js n 0) ∷ rest.steps; tables = rest.tables }))) h
 
     -- nothing is left after the last step
     pub run_done : (n : ℕ) (xs : List StepParts) (s : RunState S) → n ≡ length js → rest_from n xs s ≡ Ok (record { steps = xs; tables = s.tables })
-    run_done n xs s e = rw (ap (λ k. drop k js) e ∙ drop_end js (length js) refl, run_nil (take n js) s) (ap (λ ss. Ok (record { steps = ss; tables = s.tables })) (none_behind xs))
+    run_done n xs s e = rw (ap (λ k. drop k js) e ∙ drop_end js (length js) refl, run_nil (take n js) s)
+        (ap (λ ss. Ok (record { steps = ss; tables = s.tables })) (none_behind xs))
       where
         none_behind : (ss : List StepParts) → ss ++ [] ≡ ss
         none_behind [] = refl

@@ -22,21 +22,25 @@ turned D E S = record {
   hypotheses = sym S.hypotheses;
   components = sym S.components;
   share = λ c p. sym (S.share c (subst (λ n. c < n) S.components p));
-  graph = λ c p. subst (λ n. SameBelow n (E.graph c) (D.graph c)) (sym S.hypotheses) (swapped number_field E.hypotheses (D.graph c) (E.graph c) (S.graph c (subst (λ n. c < n) S.components p)));
+  graph = λ c p. subst (λ n. SameBelow n (E.graph c) (D.graph c)) (sym S.hypotheses)
+      (swapped number_field E.hypotheses (D.graph c) (E.graph c) (S.graph c (subst (λ n. c < n) S.components p)));
 }
 
 module _ (m : ℕ) (A B : Graph Number) (S : SameBelow m A B) (js : List ℕ) (below : (e : ℕ) → e < length js → at_place js e < m) where
   brought_same : (y : ℕ → Number) (k : ℕ) → k < m → brought A js y k ≡ brought B js y k
   unfolding brought
-  brought_same y k p = ap₂ ◌+ε◌ (S.weight k p) (sum_congr number_field (length js) _ _ (λ e q. ap (λ v. y e *ε v) (S.edge (at_place js e) k (below e q) p)))
+  brought_same y k p = ap₂ ◌+ε◌ (S.weight k p)
+      (sum_congr number_field (length js) _ _ (λ e q. ap (λ v. y e *ε v) (S.edge (at_place js e) k (below e q) p)))
 
   leaving_same : (h : ℕ → Number) (k r : ℕ) → k < m → r < m → leaving A js h k r ≡ leaving B js h k r
   unfolding leaving
-  leaving_same h k r p q = ap₂ ◌+ε◌ (S.edge r k q p) (sum_congr number_field (length js) _ _ (λ e b. ap (λ v. v *ε h e) (S.edge r (at_place js e) q (below e b))))
+  leaving_same h k r p q = ap₂ ◌+ε◌ (S.edge r k q p)
+      (sum_congr number_field (length js) _ _ (λ e b. ap (λ v. v *ε h e) (S.edge r (at_place js e) q (below e b))))
 
   allowed_same : (h : ℕ → Number) (k : ℕ) → k < m → allowed A js h k ≡ allowed B js h k
   unfolding allowed
-  allowed_same h k p = ap₂ ◌+ε◌ (S.weight k p) (sum_congr number_field (length js) _ _ (λ e b. ap (λ v. v *ε h e) (S.weight (at_place js e) (below e b))))
+  allowed_same h k p = ap₂ ◌+ε◌ (S.weight k p)
+      (sum_congr number_field (length js) _ _ (λ e b. ap (λ v. v *ε h e) (S.weight (at_place js e) (below e b))))
 
   flows_same : (y : ℕ → Number) → AreFlows A js y → AreFlows B js y
   flows_same y F = record { nonneg = F.nonneg; within = λ r p. subst (λ v. y r ≤ε v) (brought_same y (at_place js r) (below r p)) (F.within r p) }
@@ -63,7 +67,8 @@ module _ (D E : EntangledGraph) (S : AreSame D E) (p : ℕ → Number) (level : 
   shared_same : (f g : ℕ → Number) → ((c : ℕ) → c < E.components → f c ≡ g c) → shared D f ≡ shared E g
   shared_same f g e =
       ap (λ n. sum_below number_field n (λ c. D.share c *ε limit (f c))) S.components
-      ∙ sum_congr number_field E.components (λ c. D.share c *ε limit (f c)) (λ c. E.share c *ε limit (g c)) (λ c q. ap₂ ◌*ε◌ (S.share c q) (ap limit (e c q)))
+      ∙ sum_congr number_field E.components (λ c. D.share c *ε limit (f c)) (λ c. E.share c *ε limit (g c))
+      (λ c q. ap₂ ◌*ε◌ (S.share c q) (ap limit (e c q)))
 
   module _ (js : List ℕ) (below : (e : ℕ) → e < length js → at_place js e < E.hypotheses) where
     pub step_same : (s : StepValues) → IsGoodStep D p level js s → IsGoodStep E p level js s
@@ -73,7 +78,8 @@ module _ (D E : EntangledGraph) (S : AreSame D E) (p : ℕ → Number) (level : 
           below = b;
           new = G.new;
           flows = λ c q. flows_same E.hypotheses (D.graph c) (E.graph c) (S.graph c q) js below (s.flow c) (G.flows c (back c q));
-          passes = subst (λ u. Passes (p s.hypothesis) u level) (shared_same _ _ (λ c q. brought_same E.hypotheses (D.graph c) (E.graph c) (S.graph c q) js below (s.flow c) s.hypothesis b)) G.passes;
+          passes = subst (λ u. Passes (p s.hypothesis) u level)
+              (shared_same _ _ (λ c q. brought_same E.hypotheses (D.graph c) (E.graph c) (S.graph c q) js below (s.flow c) s.hypothesis b)) G.passes;
         }
 
     pub keep_same : (x : KeepValues) → IsGoodKeep D p level js x → IsGoodKeep E p level js x
@@ -82,5 +88,6 @@ module _ (D E : EntangledGraph) (S : AreSame D E) (p : ℕ → Number) (level : 
         record {
           below = b;
           exits = λ c q. exits_same E.hypotheses (D.graph c) (E.graph c) (S.graph c q) js below x.hypothesis (x.exit c) b (G.exits c (back c q));
-          fails = subst (λ u. ¬ Passes (p x.hypothesis) u level) (shared_same _ _ (λ c q. allowed_same E.hypotheses (D.graph c) (E.graph c) (S.graph c q) js below (x.exit c) x.hypothesis b)) G.fails;
+          fails = subst (λ u. ¬ Passes (p x.hypothesis) u level)
+              (shared_same _ _ (λ c q. allowed_same E.hypotheses (D.graph c) (E.graph c) (S.graph c q) js below (x.exit c) x.hypothesis b)) G.fails;
         }

@@ -1,5 +1,6 @@
 -- The text of evidence is written piece by piece.
-use Rattle.std.proofs.Common.{◌≡◌, refl, sym, ap, ap₂, subst, ◌∙◌, ℕ, zero, suc, ◌+◌, ◌<◌, ◌≤◌, List, [], ◌∷◌, ◌++◌, map, length, get_or, take, drop, add-one, append_assoc, append-nil, arith}
+use Rattle.std.proofs.Common.{◌≡◌, refl, sym, ap, ap₂, subst, ◌∙◌, ℕ, zero, suc, ◌+◌, ◌<◌, ◌≤◌, List, [], ◌∷◌, ◌++◌}
+use Rattle.std.proofs.Common.{map, length, get_or, take, drop, add-one, append_assoc, append-nil, arith}
 use Rattle.std.specs.List.{All}
 use Rattle.std.proofs.Math.ListN.{drop_of_length-le}
 use Rattle.std.proofs.lemmas.List.{take_more, get_or-map, length-map}
@@ -19,7 +20,8 @@ use Rattle.evidence_check.specs.declared.evidence.ProofStep.{ProofStep}
 use Rattle.evidence_check.specs.declared.evidence.KeepProof.{KeepProof}
 use Rattle.evidence_check.specs.EvidenceParts.{StepParts, KeepParts, AreFull, FlowsFit, ExitsFit}
 use Rattle.evidence_check.specs.EvidenceView.{hypotheses_of, step_parts, keep_parts, FitsCase, IsEvidenceFor}
-use Rattle.evidence_check.specs.Documents.{Form, SaysVersion, SaysStep, SaysNumber, SaysKeep, SaysEnd, number_forms, list_forms, step_forms, keep_forms, evidence_forms, evidence_lines}
+use Rattle.evidence_check.specs.Documents.{Form, SaysVersion, SaysStep, SaysNumber, SaysKeep, SaysEnd, number_forms, list_forms, step_forms, keep_forms}
+use Rattle.evidence_check.specs.Documents.{evidence_forms, evidence_lines}
 use Rattle.evidence_check.specs.NumberReading.{case_frame}
 use Rattle.evidence_check.specs.DocumentStatements.{evidence_text}
 use Rattle.edge_text.proofs.WrittenLines.{drop_item, moved, ended}
@@ -48,7 +50,8 @@ module _ (n : Numbers) (c : Content) where
   text_append : (fs gs : List Form) → forms_text n c (fs ++ gs) ≡ forms_text n c fs ++ forms_text n c gs
   text_append [] gs = sym (ap (λ t. t ++ forms_text n c gs) text_none)
   text_append (f ∷ fs) gs =
-      text_cons f (fs ++ gs) ∙ ap (λ t. form_text n c f ++ t) (text_append fs gs) ∙ sym (append_assoc (form_text n c f) (forms_text n c fs) (forms_text n c gs))
+      text_cons f (fs ++ gs) ∙ ap (λ t. form_text n c f ++ t) (text_append fs gs)
+      ∙ sym (append_assoc (form_text n c f) (forms_text n c fs) (forms_text n c gs))
       ∙ ap (λ t. t ++ forms_text n c gs) (sym (text_cons f fs))
 
   -- ---- one more
@@ -57,61 +60,80 @@ module _ (n : Numbers) (c : Content) where
   forms_end : (fs : List Form) (start text : List ℕ) → fs ≡ [] → text ++ forms_text n c fs ≡ start → text ≡ start
   forms_end fs start text e h = ended text (forms_text n c fs) start (ap (forms_text n c) e ∙ text_none) h
 
-  pub numbers_next : (q : Quantity) (k : ℕ) (js : List ℕ) (xs : List Parts) (e h : ℕ) (x : Parts) (start text new : List ℕ) → e < length js → e < length xs → h ≡ get_or js e h → x ≡ get_or xs e x
+  pub numbers_next : (q : Quantity) (k : ℕ) (js : List ℕ) (xs : List Parts) (e h : ℕ) (x : Parts) (start text new : List ℕ) → e < length js
+      → e < length xs → h ≡ get_or js e h → x ≡ get_or xs e x
       → text ++ forms_text n c (number_forms q k (drop e js) (drop e xs)) ≡ start → new ≡ text ++ form_text n c (SaysNumber q k h x)
       → new ++ forms_text n c (number_forms q k (drop (e + 1) js) (drop (e + 1) xs)) ≡ start
   numbers_next q k js xs e h x start text new below within i d s put =
       let rest = number_forms q k (drop (e + 1) js) (drop (e + 1) xs) in
       moved start text new (form_text n c (SaysNumber q k h x)) (forms_text n c rest) (forms_text n c (number_forms q k (drop e js) (drop e xs))) s
-      (ap₂ (λ js xs. forms_text n c (number_forms q k js xs)) (drop_item js e h below i) (drop_item xs e x within d) ∙ text_cons (SaysNumber q k h x) rest) put
+      (ap₂ (λ js xs. forms_text n c (number_forms q k js xs)) (drop_item js e h below i) (drop_item xs e x within d) ∙ text_cons (SaysNumber q k h x) rest)
+      put
 
-  pub numbers_end : (q : Quantity) (k : ℕ) (js : List ℕ) (xs : List Parts) (e : ℕ) (start text : List ℕ) → length js ≤ e → text ++ forms_text n c (number_forms q k (drop e js) (drop e xs)) ≡ start → text ≡ start
-  numbers_end q k js xs e start text h s = forms_end (number_forms q k (drop e js) (drop e xs)) start text (ap (λ js. number_forms q k js (drop e xs)) (drop_of_length-le js h)) s
+  pub numbers_end : (q : Quantity) (k : ℕ) (js : List ℕ) (xs : List Parts) (e : ℕ) (start text : List ℕ) → length js ≤ e
+      → text ++ forms_text n c (number_forms q k (drop e js) (drop e xs)) ≡ start → text ≡ start
+  numbers_end q k js xs e start text h s = forms_end (number_forms q k (drop e js) (drop e xs)) start text
+      (ap (λ js. number_forms q k js (drop e xs)) (drop_of_length-le js h)) s
 
-  pub lists_next : (q : Quantity) (js : List ℕ) (lists : List (List Parts)) (k : ℕ) (xs : List Parts) (start text new : List ℕ) → k < length lists → xs ≡ get_or lists k xs
+  pub lists_next : (q : Quantity) (js : List ℕ) (lists : List (List Parts)) (k : ℕ) (xs : List Parts) (start text new : List ℕ) → k < length lists
+      → xs ≡ get_or lists k xs
       → text ++ forms_text n c (list_forms q k js (drop k lists)) ≡ start → new ≡ text ++ forms_text n c (number_forms q k js xs)
       → new ++ forms_text n c (list_forms q (k + 1) js (drop (k + 1) lists)) ≡ start
   lists_next q js lists k xs start text new h i s put =
       let rest = list_forms q (k + 1) js (drop (k + 1) lists) in
       moved start text new (forms_text n c (number_forms q k js xs)) (forms_text n c rest) (forms_text n c (list_forms q k js (drop k lists))) s
-      (ap (λ ls. forms_text n c (list_forms q k js ls)) (drop_item lists k xs h i) ∙ ap (λ k'. forms_text n c (number_forms q k js xs ++ list_forms q k' js (drop (k + 1) lists))) (sym (add-one k))
+      (ap (λ ls. forms_text n c (list_forms q k js ls)) (drop_item lists k xs h i)
+      ∙ ap (λ k'. forms_text n c (number_forms q k js xs ++ list_forms q k' js (drop (k + 1) lists))) (sym (add-one k))
       ∙ text_append (number_forms q k js xs) rest) put
 
-  pub lists_end : (q : Quantity) (js : List ℕ) (lists : List (List Parts)) (k : ℕ) (start text : List ℕ) → length lists ≤ k → text ++ forms_text n c (list_forms q k js (drop k lists)) ≡ start → text ≡ start
+  pub lists_end : (q : Quantity) (js : List ℕ) (lists : List (List Parts)) (k : ℕ) (start text : List ℕ) → length lists ≤ k
+      → text ++ forms_text n c (list_forms q k js (drop k lists)) ≡ start → text ≡ start
   lists_end q js lists k start text h s = forms_end (list_forms q k js (drop k lists)) start text (ap (list_forms q k js) (drop_of_length-le lists h)) s
 
   -- a line and then others
-  pub line_and : (f : Form) (fs : List Form) (start text new : List ℕ) → text ≡ start ++ form_text n c f → new ≡ text ++ forms_text n c fs → new ≡ start ++ forms_text n c (f ∷ fs)
-  line_and f fs start text new e d = d ∙ ap (λ t. t ++ forms_text n c fs) e ∙ append_assoc start (form_text n c f) (forms_text n c fs) ∙ ap (λ t. start ++ t) (sym (text_cons f fs))
+  pub line_and : (f : Form) (fs : List Form) (start text new : List ℕ) → text ≡ start ++ form_text n c f → new ≡ text ++ forms_text n c fs
+      → new ≡ start ++ forms_text n c (f ∷ fs)
+  line_and f fs start text new e d = d ∙ ap (λ t. t ++ forms_text n c fs) e ∙ append_assoc start (form_text n c f) (forms_text n c fs)
+      ∙ ap (λ t. start ++ t) (sym (text_cons f fs))
 
-  pub steps_next : (ss : List StepParts) (js : List ℕ) (i : ℕ) (s : StepParts) (start text new : List ℕ) → js ≡ map (λ s. s.hypothesis) ss → i < length ss → s ≡ get_or ss i s
-      → text ++ forms_text n c (step_forms (take i js) (drop i ss)) ≡ start → new ≡ text ++ forms_text n c (SaysStep s.hypothesis ∷ list_forms Flow 0 (take i js) s.flows)
+  pub steps_next : (ss : List StepParts) (js : List ℕ) (i : ℕ) (s : StepParts) (start text new : List ℕ) → js ≡ map (λ s. s.hypothesis) ss
+      → i < length ss → s ≡ get_or ss i s
+      → text ++ forms_text n c (step_forms (take i js) (drop i ss)) ≡ start
+      → new ≡ text ++ forms_text n c (SaysStep s.hypothesis ∷ list_forms Flow 0 (take i js) s.flows)
       → new ++ forms_text n c (step_forms (take (i + 1) js) (drop (i + 1) ss)) ≡ start
   steps_next ss js i s start text new e h d t put =
       let here = SaysStep s.hypothesis ∷ list_forms Flow 0 (take i js) s.flows in
       let item : s.hypothesis ≡ get_or js i s.hypothesis = mapped_item (λ s. s.hypothesis) ss i s h d ∙ ap (λ js. get_or js i s.hypothesis) (sym e) in
       let within : i < length js = subst (λ js. i < length js) (sym e) (mapped_within (λ s. s.hypothesis) ss i h) in
       let taken : take (i + 1) js ≡ take i js ++ s.hypothesis ∷ [] = take_more js i s.hypothesis within ∙ ap (λ j. take i js ++ j ∷ []) (sym item) in
-      moved start text new (forms_text n c here) (forms_text n c (step_forms (take (i + 1) js) (drop (i + 1) ss))) (forms_text n c (step_forms (take i js) (drop i ss))) t
-      (ap (λ ss. forms_text n c (step_forms (take i js) ss)) (drop_item ss i s h d) ∙ ap (λ is. forms_text n c (here ++ step_forms is (drop (i + 1) ss))) (sym taken) ∙ text_append here (step_forms (take (i + 1) js) (drop (i + 1) ss))) put
+      moved start text new (forms_text n c here) (forms_text n c (step_forms (take (i + 1) js) (drop (i + 1) ss)))
+      (forms_text n c (step_forms (take i js) (drop i ss))) t
+      (ap (λ ss. forms_text n c (step_forms (take i js) ss)) (drop_item ss i s h d)
+      ∙ ap (λ is. forms_text n c (here ++ step_forms is (drop (i + 1) ss))) (sym taken)
+      ∙ text_append here (step_forms (take (i + 1) js) (drop (i + 1) ss))) put
 
-  pub steps_end : (ss : List StepParts) (js : List ℕ) (i : ℕ) (start text : List ℕ) → length ss ≤ i → text ++ forms_text n c (step_forms (take i js) (drop i ss)) ≡ start → text ≡ start
+  pub steps_end : (ss : List StepParts) (js : List ℕ) (i : ℕ) (start text : List ℕ) → length ss ≤ i
+      → text ++ forms_text n c (step_forms (take i js) (drop i ss)) ≡ start → text ≡ start
   steps_end ss js i start text h s = forms_end (step_forms (take i js) (drop i ss)) start text (ap (step_forms (take i js)) (drop_of_length-le ss h)) s
 
   pub keeps_next : (js : List ℕ) (xs : List KeepParts) (i : ℕ) (x : KeepParts) (start text new : List ℕ) → i < length xs → x ≡ get_or xs i x
-      → text ++ forms_text n c (keep_forms js (drop i xs)) ≡ start → new ≡ text ++ forms_text n c (SaysKeep x.hypothesis ∷ list_forms Exit 0 js x.exits)
+      → text ++ forms_text n c (keep_forms js (drop i xs)) ≡ start
+      → new ≡ text ++ forms_text n c (SaysKeep x.hypothesis ∷ list_forms Exit 0 js x.exits)
       → new ++ forms_text n c (keep_forms js (drop (i + 1) xs)) ≡ start
   keeps_next js xs i x start text new h d t put =
       let here = SaysKeep x.hypothesis ∷ list_forms Exit 0 js x.exits in
       moved start text new (forms_text n c here) (forms_text n c (keep_forms js (drop (i + 1) xs))) (forms_text n c (keep_forms js (drop i xs))) t
       (ap (λ xs. forms_text n c (keep_forms js xs)) (drop_item xs i x h d) ∙ text_append here (keep_forms js (drop (i + 1) xs))) put
 
-  pub keeps_end : (js : List ℕ) (xs : List KeepParts) (i : ℕ) (start text : List ℕ) → length xs ≤ i → text ++ forms_text n c (keep_forms js (drop i xs)) ≡ start → text ≡ start
+  pub keeps_end : (js : List ℕ) (xs : List KeepParts) (i : ℕ) (start text : List ℕ) → length xs ≤ i
+      → text ++ forms_text n c (keep_forms js (drop i xs)) ≡ start → text ≡ start
   keeps_end js xs i start text h s = forms_end (keep_forms js (drop i xs)) start text (ap (keep_forms js) (drop_of_length-le xs h)) s
 
   -- the version, the steps, the keeps and the end
-  pub whole_text : (v : ℕ) (ss : List StepParts) (xs : List KeepParts) (t0 t1 t2 t3 t4 : List ℕ) → t0 ≡ [] → t1 ≡ t0 ++ form_text n c (SaysVersion v) → t2 ≡ t1 ++ forms_text n c (step_forms [] ss)
-      → t3 ≡ t2 ++ forms_text n c (keep_forms (map (λ s. s.hypothesis) ss) xs) → t4 ≡ t3 ++ form_text n c SaysEnd → t4 ≡ forms_text n c (evidence_forms v ss xs)
+  pub whole_text : (v : ℕ) (ss : List StepParts) (xs : List KeepParts) (t0 t1 t2 t3 t4 : List ℕ) → t0 ≡ []
+      → t1 ≡ t0 ++ form_text n c (SaysVersion v) → t2 ≡ t1 ++ forms_text n c (step_forms [] ss)
+      → t3 ≡ t2 ++ forms_text n c (keep_forms (map (λ s. s.hypothesis) ss) xs) → t4 ≡ t3 ++ form_text n c SaysEnd
+      → t4 ≡ forms_text n c (evidence_forms v ss xs)
   whole_text v ss xs t0 t1 t2 t3 t4 e0 e1 e2 e3 e4 =
       let a = form_text n c (SaysVersion v) in
       let s = forms_text n c (step_forms [] ss) in
@@ -123,15 +145,19 @@ module _ (n : Numbers) (c : Content) where
       let third : t3 ≡ (a ++ s) ++ k = e3 ∙ ap (λ t. t ++ k) second in
       let fourth : t4 ≡ (a ++ s) ++ (k ++ z) = e4 ∙ ap (λ t. t ++ z) third ∙ append_assoc (a ++ s) k z in
       let rest : forms_text n c ((step_forms [] ss ++ keep_forms (map (λ s. s.hypothesis) ss) xs) ++ SaysEnd ∷ []) ≡ (s ++ k) ++ z =
-      text_append (step_forms [] ss ++ keep_forms (map (λ s. s.hypothesis) ss) xs) (SaysEnd ∷ []) ∙ ap₂ (λ t u. t ++ u) (text_append (step_forms [] ss) (keep_forms (map (λ s. s.hypothesis) ss) xs)) last in
-      fourth ∙ append_assoc a s (k ++ z) ∙ ap (λ t. a ++ t) (sym (append_assoc s k z) ∙ sym rest) ∙ sym (text_cons (SaysVersion v) ((step_forms [] ss ++ keep_forms (map (λ s. s.hypothesis) ss) xs) ++ SaysEnd ∷ []))
+      text_append (step_forms [] ss ++ keep_forms (map (λ s. s.hypothesis) ss) xs) (SaysEnd ∷ [])
+      ∙ ap₂ (λ t u. t ++ u) (text_append (step_forms [] ss) (keep_forms (map (λ s. s.hypothesis) ss) xs)) last in
+      fourth ∙ append_assoc a s (k ++ z) ∙ ap (λ t. a ++ t) (sym (append_assoc s k z) ∙ sym rest)
+      ∙ sym (text_cons (SaysVersion v) ((step_forms [] ss ++ keep_forms (map (λ s. s.hypothesis) ss) xs) ++ SaysEnd ∷ []))
 
 -- ---- steps and keeps that fit
 
 -- the numbers of the component at a place
-pub count_at : {F : Type 0} (parts : F → Parts) (components n : ℕ) (lists : List (List F)) (k : ℕ) (xs : List F) → AreFull components n (map (map parts) lists) → k < length lists → xs ≡ get_or lists k xs → length xs ≡ n
+pub count_at : {F : Type 0} (parts : F → Parts) (components n : ℕ) (lists : List (List F)) (k : ℕ) (xs : List F)
+    → AreFull components n (map (map parts) lists) → k < length lists → xs ≡ get_or lists k xs → length xs ≡ n
 count_at parts components n lists k xs f h e =
-    sym (length-map xs parts) ∙ subst (λ ys. length ys ≡ n) (sym (mapped_item (map parts) lists k xs h e)) (All-get_or (λ ys. length ys ≡ n) (map (map parts) lists) k (map parts xs) (mapped_within (map parts) lists k h) f.each)
+    sym (length-map xs parts) ∙ subst (λ ys. length ys ≡ n) (sym (mapped_item (map parts) lists k xs h e))
+    (All-get_or (λ ys. length ys ≡ n) (map (map parts) lists) k (map parts xs) (mapped_within (map parts) lists k h) f.each)
 
 taken : {A B : Type 0} (f : A → B) (n : ℕ) (xs : List A) → map f (take n xs) ≡ take n (map f xs)
 taken f zero xs = refl
@@ -142,13 +168,16 @@ taken f (suc n) (x ∷ xs) = ap (λ ys. f x ∷ ys) (taken f n xs)
 pub hypotheses_before : {F : Type 0} (steps : List (ProofStep F)) (i : ℕ) → hypotheses_of (take i steps) ≡ take i (hypotheses_of steps)
 hypotheses_before steps i = taken (λ s. s.hypothesis) i steps
 
-pub known_before : {F : Type 0} (m : ℕ) (steps : List (ProofStep F)) (i : ℕ) → All (λ j. j < m) (hypotheses_of steps) → All (λ j. j < m) (hypotheses_of (take i steps))
+pub known_before : {F : Type 0} (m : ℕ) (steps : List (ProofStep F)) (i : ℕ) → All (λ j. j < m) (hypotheses_of steps)
+    → All (λ j. j < m) (hypotheses_of (take i steps))
 known_before m steps i h = subst (All (λ j. j < m)) (sym (hypotheses_before steps i)) (All-take (λ j. j < m) i (hypotheses_of steps) h)
 
 -- the flows of the step at a place
-pub flows_at : (components m k : ℕ) (ss : List StepParts) (i : ℕ) (s : StepParts) → m + i ≡ k → FlowsFit components m ss → i < length ss → s ≡ get_or ss i s → AreFull components k s.flows
+pub flows_at : (components m k : ℕ) (ss : List StepParts) (i : ℕ) (s : StepParts) → m + i ≡ k → FlowsFit components m ss → i < length ss
+    → s ≡ get_or ss i s → AreFull components k s.flows
 flows_at components m k [] i s n f h e = absurd (omega arith)
-flows_at components m k (t ∷ ss) zero s n f h e = subst (λ k. AreFull components k s.flows) (first m k n) (subst (λ t. AreFull components m t.flows) (sym e) f.0)
+flows_at components m k (t ∷ ss) zero s n f h e =
+    subst (λ k. AreFull components k s.flows) (first m k n) (subst (λ t. AreFull components m t.flows) (sym e) f.0)
   where
     first : (m k : ℕ) → m + 0 ≡ k → m ≡ k
     first m k n = omega (arith, n)
@@ -157,34 +186,48 @@ flows_at components m k (t ∷ ss) (suc i) s n f h e = flows_at components (suc 
     next : (m i k : ℕ) → m + suc i ≡ k → suc m + i ≡ k
     next m i k n = omega (arith, n)
 
-pub exits_at : (components m : ℕ) (xs : List KeepParts) (i : ℕ) (x : KeepParts) → ExitsFit components m xs → i < length xs → x ≡ get_or xs i x → AreFull components m x.exits
+pub exits_at : (components m : ℕ) (xs : List KeepParts) (i : ℕ) (x : KeepParts) → ExitsFit components m xs → i < length xs → x ≡ get_or xs i x
+    → AreFull components m x.exits
 exits_at components m [] i x f h e = absurd (omega arith)
 exits_at components m (y ∷ xs) zero x f h e = subst (λ y. AreFull components m y.exits) (sym e) f.0
 exits_at components m (y ∷ xs) (suc i) x f h e = exits_at components m xs i x f.1 (omega arith) e
 
 -- the hypothesis of the keep at a place
-pub kept_below : {F : Type 0} (parts : F → Parts) (m : ℕ) (keeps : List (KeepProof F)) (i : ℕ) (x : KeepProof F) → All (λ x. x.hypothesis < m) (map (keep_parts parts) keeps) → i < length keeps → x ≡ get_or keeps i x → x.hypothesis < m
+pub kept_below : {F : Type 0} (parts : F → Parts) (m : ℕ) (keeps : List (KeepProof F)) (i : ℕ) (x : KeepProof F)
+    → All (λ x. x.hypothesis < m) (map (keep_parts parts) keeps) → i < length keeps → x ≡ get_or keeps i x → x.hypothesis < m
 kept_below parts m keeps i x all h e =
-    subst (λ x. x.hypothesis < m) (sym (mapped_item (keep_parts parts) keeps i x h e)) (All-get_or (λ x. x.hypothesis < m) (map (keep_parts parts) keeps) i (keep_parts parts x) (mapped_within (keep_parts parts) keeps i h) all)
+    subst (λ x. x.hypothesis < m) (sym (mapped_item (keep_parts parts) keeps i x h e))
+    (All-get_or (λ x. x.hypothesis < m) (map (keep_parts parts) keeps) i (keep_parts parts x) (mapped_within (keep_parts parts) keeps i h) all)
 
-pub all_known : {F : Type 0} (parts : F → Parts) (m : ℕ) (steps : List (ProofStep F)) → All (λ s. s.hypothesis < m) (map (step_parts parts) steps) → All (λ j. j < m) (hypotheses_of steps)
-all_known parts m steps h = subst (All (λ j. j < m)) (sym (same_hypotheses parts steps)) (All-map (λ j. j < m) (λ s. s.hypothesis) (map (step_parts parts) steps) h)
+pub all_known : {F : Type 0} (parts : F → Parts) (m : ℕ) (steps : List (ProofStep F)) → All (λ s. s.hypothesis < m) (map (step_parts parts) steps)
+    → All (λ j. j < m) (hypotheses_of steps)
+all_known parts m steps h = subst (All (λ j. j < m)) (sym (same_hypotheses parts steps))
+    (All-map (λ j. j < m) (λ s. s.hypothesis) (map (step_parts parts) steps) h)
 
 -- ---- evidence in fractions, and in quotients
 
 module _ (c : Content) (e : Evidence) where
-  case_text : (n : Numbers) (v : ℕ) (ss : List StepParts) (xs : List KeepParts) → n ≡ numbers_of c → forms_text n c (evidence_forms v ss xs) ≡ text_of (evidence_lines (case_frame (numbers_of c) c) v ss xs)
+  case_text : (n : Numbers) (v : ℕ) (ss : List StepParts) (xs : List KeepParts) → n ≡ numbers_of c
+      → forms_text n c (evidence_forms v ss xs) ≡ text_of (evidence_lines (case_frame (numbers_of c) c) v ss xs)
   unfolding forms_text
   case_text n v ss xs h = ap (λ n. text_of (evidence_lines (case_frame n c) v ss xs)) h
 
-  pub plain_fits : (v : Steps _) → e ≡ Plain v → IsEvidenceFor c e → FitsCase c v.version (map (step_parts fraction_parts) v.steps) (map (keep_parts fraction_parts) v.keeps)
+  pub plain_fits : (v : Steps _) → e ≡ Plain v → IsEvidenceFor c e
+      → FitsCase c v.version (map (step_parts fraction_parts) v.steps) (map (keep_parts fraction_parts) v.keeps)
   plain_fits v h I = let J = form_of c e (Plain v) h I in record { version = J.version; size = J.size; none = J.none; all = J.all }
 
-  pub eps_fits : (v : Steps _) → e ≡ Eps v → IsEvidenceFor c e → FitsCase c v.version (map (step_parts quotient_parts) v.steps) (map (keep_parts quotient_parts) v.keeps)
+  pub eps_fits : (v : Steps _) → e ≡ Eps v → IsEvidenceFor c e
+      → FitsCase c v.version (map (step_parts quotient_parts) v.steps) (map (keep_parts quotient_parts) v.keeps)
   eps_fits v h I = let J = form_of c e (Eps v) h I in record { version = J.version; size = J.size; none = J.none; all = J.all }
 
-  pub plain_text : (v : Steps _) → e ≡ Plain v → IsEvidenceFor c e → forms_text in_fractions c (evidence_forms v.version (map (step_parts fraction_parts) v.steps) (map (keep_parts fraction_parts) v.keeps)) ≡ evidence_text c e
-  plain_text v h I = case_text in_fractions v.version (map (step_parts fraction_parts) v.steps) (map (keep_parts fraction_parts) v.keeps) (sym (fractions_of c (form_of c e (Plain v) h I).form)) ∙ ap (evidence_text c) (sym h)
+  pub plain_text : (v : Steps _) → e ≡ Plain v → IsEvidenceFor c e
+      → forms_text in_fractions c
+      (evidence_forms v.version (map (step_parts fraction_parts) v.steps) (map (keep_parts fraction_parts) v.keeps)) ≡ evidence_text c e
+  plain_text v h I = case_text in_fractions v.version (map (step_parts fraction_parts) v.steps) (map (keep_parts fraction_parts) v.keeps)
+      (sym (fractions_of c (form_of c e (Plain v) h I).form)) ∙ ap (evidence_text c) (sym h)
 
-  pub eps_text : (v : Steps _) → e ≡ Eps v → IsEvidenceFor c e → forms_text in_quotients c (evidence_forms v.version (map (step_parts quotient_parts) v.steps) (map (keep_parts quotient_parts) v.keeps)) ≡ evidence_text c e
-  eps_text v h I = case_text in_quotients v.version (map (step_parts quotient_parts) v.steps) (map (keep_parts quotient_parts) v.keeps) (sym (quotients_of c (form_of c e (Eps v) h I).form)) ∙ ap (evidence_text c) (sym h)
+  pub eps_text : (v : Steps _) → e ≡ Eps v → IsEvidenceFor c e
+      → forms_text in_quotients c
+      (evidence_forms v.version (map (step_parts quotient_parts) v.steps) (map (keep_parts quotient_parts) v.keeps)) ≡ evidence_text c e
+  eps_text v h I = case_text in_quotients v.version (map (step_parts quotient_parts) v.steps) (map (keep_parts quotient_parts) v.keeps)
+      (sym (quotients_of c (form_of c e (Eps v) h I).form)) ∙ ap (evidence_text c) (sym h)

@@ -30,12 +30,14 @@ use Rattle.evidence_check.specs.EvidenceParts.{StepParts, KeepParts, step_values
 use Rattle.evidence_check.specs.CheckSteps.{written_at}
 use Rattle.evidence_check.specs.WrittenCheck.{written_check}
 use Rattle.evidence_check.specs.CheckStatements.{IsLoaded, AreStoredSteps}
-use Rattle.evidence_check.specs.CaseCheck.{p_values_of, IsSingle, given_or, written_edge, AllLoad, loaded_case, edge_load, row_load, component_load, all_loads, check_in, case_check, AreStepsOf, values_in, MeetsIn}
+use Rattle.evidence_check.specs.CaseCheck.{p_values_of, IsSingle, given_or, written_edge, AllLoad, loaded_case, edge_load, row_load, component_load, all_loads}
+use Rattle.evidence_check.specs.CaseCheck.{check_in, case_check, AreStepsOf, values_in, MeetsIn}
 use Rattle.evidence_check.proofs.GoodSteps.{listed_rejected, kept_decides}
 use Rattle.evidence_check.proofs.Tells.{Tells, TellsAt, tells_bind_at, numbered_tells, all_tells_or}
 use Rattle.evidence_check.proofs.WholeCheck.{check_tells}
 
-read_tells : (k : ℕ) (place : Place) (r : Result Parts TooWide) (Bad : Type 0) → Tells (ok_map {B = Unit {0}} (λ _. tt) (written_at k place r)) (λ _. (x : Parts) × (r ≡ Ok x)) Bad
+read_tells : (k : ℕ) (place : Place) (r : Result Parts TooWide) (Bad : Type 0)
+    → Tells (ok_map {B = Unit {0}} (λ _. tt) (written_at k place r)) (λ _. (x : Parts) × (r ≡ Ok x)) Bad
 unfolding written_at
 read_tells k place (Ok x) Bad = record { ok = λ u h. (x, refl); bad = λ reason h. absurd (cc) }
 read_tells k place (Err e) Bad = record { ok = λ u h. absurd (cc); bad = λ reason h. absurd (cc) }
@@ -50,7 +52,8 @@ module _ (n : Numbers) (c : Content) where
   unfolding edge_load IsLoadedEdge
   load_tells k l j Bad = read_tells k (Edge l j) (written_edge n c k l j) Bad
 
-  each_load_tells : (Bad : Type 0) → Tells (all_loads n c) (λ _. (k : ℕ) → k < length c.components → (l : ℕ) → l < length c.names → (j : ℕ) → j < length c.names → IsLoadedEdge k l j) Bad
+  each_load_tells : (Bad : Type 0) → Tells (all_loads n c)
+      (λ _. (k : ℕ) → k < length c.components → (l : ℕ) → l < length c.names → (j : ℕ) → j < length c.names → IsLoadedEdge k l j) Bad
   unfolding all_loads component_load row_load
   each_load_tells Bad =
       all_tells_or (length c.components) _ (λ k. (l : ℕ) → l < length c.names → (j : ℕ) → j < length c.names → IsLoadedEdge k l j) Bad
@@ -64,13 +67,17 @@ module _ (n : Numbers) (c : Content) where
 
 -- a case that is loaded has the values of its graph
 module _ (c : Content) (V : IsValidContent c) (n : Numbers) (P : CanRunIn n c) (A : AllLoad n c) where
-  edge_holds : (k l j : ℕ) → k < length c.components → l < length c.names → j < length c.names → Gives (IsStoredIn n) (given_or (kind_of n).zero (written_edge n c k l j)) (entry_value (entry_at (length c.names) (component_at c.components k).edges l j))
+  edge_holds : (k l j : ℕ) → k < length c.components → l < length c.names → j < length c.names
+      → Gives (IsStoredIn n) (given_or (kind_of n).zero (written_edge n c k l j))
+      (entry_value (entry_at (length c.names) (component_at c.components k).edges l j))
   unfolding written_edge entry_at
   edge_holds k l j p q r =
       let a = A k l j p q r in
       let C = is_component c V k p in
-      let H = edge_loaded n (entry_at (length c.names) (component_at c.components k).edges l j) a.0 (can_load n c P k p (l * length c.names + j) (place (length c.names) (component_at c.components k) C l j q r)) a.1 in
-      subst (λ x. Gives (IsStoredIn n) x (entry_value (entry_at (length c.names) (component_at c.components k).edges l j))) (sym (ap (given_or (kind_of n).zero) a.1)) (record { stored = H.stored; value = H.value })
+      let H = edge_loaded n (entry_at (length c.names) (component_at c.components k).edges l j) a.0
+      (can_load n c P k p (l * length c.names + j) (place (length c.names) (component_at c.components k) C l j q r)) a.1 in
+      subst (λ x. Gives (IsStoredIn n) x (entry_value (entry_at (length c.names) (component_at c.components k).edges l j)))
+      (sym (ap (given_or (kind_of n).zero) a.1)) (record { stored = H.stored; value = H.value })
 
   pub is_loaded : IsLoaded (IsStoredIn n) (loaded_case (kind_of n) n c) (entangled c)
   unfolding entangled loaded_case
@@ -87,17 +94,25 @@ module _ (c : Content) (V : IsValidContent c) where
   same_m m e = e
 
   rest_tells : (steps : List StepParts) (keeps : List KeepParts) → AreStepsOf c steps keeps → AllLoad (numbers_of c) c
-      → TellsAt (written_check (kind_of (numbers_of c)) (loaded_case (kind_of (numbers_of c)) (numbers_of c) c) steps keeps) (λ _. MeetsIn c steps keeps) (¬ MeetsIn c steps keeps)
+      → TellsAt (written_check (kind_of (numbers_of c)) (loaded_case (kind_of (numbers_of c)) (numbers_of c) c) steps keeps) (λ _. MeetsIn c steps keeps)
+      (¬ MeetsIn c steps keeps)
   unfolding loaded_case
   rest_tells steps keeps S loaded =
-      check_tells (kind_of (numbers_of c)) (IsStoredIn (numbers_of c)) (exact_in (numbers_of c)) (loaded_case (kind_of (numbers_of c)) (numbers_of c) c) (entangled c) (valid_content c V) (is_loaded c V (numbers_of c) (can_run c) loaded) steps keeps
+      check_tells (kind_of (numbers_of c)) (IsStoredIn (numbers_of c)) (exact_in (numbers_of c)) (loaded_case (kind_of (numbers_of c)) (numbers_of c) c)
+      (entangled c) (valid_content c V) (is_loaded c V (numbers_of c) (can_run c) loaded) steps keeps
       (subst (λ m. AreStoredSteps (kind_of (numbers_of c)) (IsStoredIn (numbers_of c)) m steps keeps) (same_m (length c.names) refl) S)
 
-  pub case_tells : (steps : List StepParts) (keeps : List KeepParts) → AreStepsOf c steps keeps → TellsAt (case_check c steps keeps) (λ _. MeetsIn c steps keeps) (¬ MeetsIn c steps keeps)
+  pub case_tells : (steps : List StepParts) (keeps : List KeepParts) → AreStepsOf c steps keeps
+      → TellsAt (case_check c steps keeps) (λ _. MeetsIn c steps keeps) (¬ MeetsIn c steps keeps)
   unfolding case_check check_in
   case_tells steps keeps S =
-      tells_bind_at _ (λ _. written_check (kind_of (numbers_of c)) (loaded_case (kind_of (numbers_of c)) (numbers_of c) c) steps keeps) (λ _. AllLoad (numbers_of c) c) _ (¬ MeetsIn c steps keeps)
-      (numbered_tells 0 (all_loads (numbers_of c) c) _ _ (record { ok = λ u h. loads_done (numbers_of c) c h; bad = λ reason h. (each_load_tells (numbers_of c) c (¬ MeetsIn c steps keeps)).bad reason h }))
+      tells_bind_at _ (λ _. written_check (kind_of (numbers_of c)) (loaded_case (kind_of (numbers_of c)) (numbers_of c) c) steps keeps)
+      (λ _. AllLoad (numbers_of c) c) _ (¬ MeetsIn c steps keeps)
+      (numbered_tells 0 (all_loads (numbers_of c) c) _ _
+      (record {
+        ok = λ u h. loads_done (numbers_of c) c h;
+        bad = λ reason h. (each_load_tells (numbers_of c) c (¬ MeetsIn c steps keeps)).bad reason h;
+      }))
       (λ _ loaded. rest_tells steps keeps S loaded)
 
 in_inputs : (P : List Ratio → Type 0) (i : Inputs) → IsSingle i → P (p_values_of i) → ForSingle i P
@@ -118,7 +133,8 @@ pub listed_names : (K : Kind) (steps : List StepParts) → listed (map (step_val
 listed_names K [] = refl
 listed_names K (s ∷ steps) = ap (λ js. s.hypothesis ∷ js) (listed_names K steps)
 
-module _ (c : Content) (V : IsValidContent c) (inputs : IsSingle c.inputs) (steps : List StepParts) (keeps : List KeepParts) (S : AreStepsOf c steps keeps) (ok : case_check c steps keeps ≡ Ok tt) where
+module _ (c : Content) (V : IsValidContent c) (inputs : IsSingle c.inputs) (steps : List StepParts) (keeps : List KeepParts) (S : AreStepsOf c steps keeps)
+    (ok : case_check c steps keeps ≡ Ok tt) where
   meets : MeetsIn c steps keeps
   meets = (case_tells c V steps keeps S).ok tt ok
 
@@ -135,7 +151,9 @@ module _ (c : Content) (V : IsValidContent c) (inputs : IsSingle c.inputs) (step
   names = listed_names (kind_of (numbers_of c)) steps
 
   pub case_rejected : (j : ℕ) → IsListed (map (λ s. s.hypothesis) steps) j → IsRejectedIn c j
-  case_rejected j l = in_case j (listed_rejected (entangled c) (valid_content c V) (number_at (p_values_of c.inputs)) (number_of c.alpha) low _ meets j (subst (λ js. IsListed js j) (sym names) l))
+  case_rejected j l = in_case j
+      (listed_rejected (entangled c) (valid_content c V) (number_at (p_values_of c.inputs)) (number_of c.alpha) low _ meets j
+      (subst (λ js. IsListed js j) (sym names) l))
 
   pub case_decides : KeepsOthers (length c.names) (values_in c steps keeps) → (j : ℕ) → IsListed (map (λ s. s.hypothesis) steps) j ↔ IsRejectedIn c j
   case_decides all j =

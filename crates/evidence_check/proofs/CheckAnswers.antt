@@ -42,9 +42,12 @@ numbered_ok (Ok v) u w = refl
 numbered_ok (Err e) u w = absurd (cc)
 
 -- a case that was loaded has the values of its graph
-pub loaded_in : (K : Kind) (IsStored : Parts → Type 0) (n : Numbers) (c : Content) (V : IsValidContent c) → CanRunIn n c → K ≡ kind_of n → ((x : Parts) → IsStoredIn n x → IsStored x) → (u : Unit {0}) → numbered 0 (all_loads n c) ≡ Ok u → IsLoaded IsStored (loaded_case K n c) (entangled c)
+pub loaded_in : (K : Kind) (IsStored : Parts → Type 0) (n : Numbers) (c : Content) (V : IsValidContent c) → CanRunIn n c → K ≡ kind_of n
+    → ((x : Parts) → IsStoredIn n x → IsStored x) → (u : Unit {0}) → numbered 0 (all_loads n c) ≡ Ok u
+    → IsLoaded IsStored (loaded_case K n c) (entangled c)
 loaded_in K IsStored n c V P k stored u h =
-    let D = subst (λ K. IsLoaded (IsStoredIn n) (loaded_case K n c) (entangled c)) (sym k) (is_loaded c V n P (loads_done n c (numbered_ok (all_loads n c) u h))) in
+    let D = subst (λ K. IsLoaded (IsStoredIn n) (loaded_case K n c) (entangled c)) (sym k)
+    (is_loaded c V n P (loads_done n c (numbered_ok (all_loads n c) u h))) in
     record {
       components = D.components;
       share = D.share;
@@ -53,7 +56,9 @@ loaded_in K IsStored n c V P k stored u h =
     }
 
 module _ (K : Kind) (n : Numbers) (c : Content) (steps : List StepParts) (keeps : List KeepParts) where
-  check_in_is : check_in K n c steps keeps ≡ (numbered 0 (all_loads n c) >>= λ _. steps_check K (loaded_case K n c) [] steps >>= λ js. keeps_check K (loaded_case K n c) js (length steps) keeps)
+  check_in_is : check_in K n c steps
+      keeps ≡ (numbered 0 (all_loads n c) >>= λ _. steps_check K (loaded_case K n c) [] steps >>= λ js. keeps_check K (loaded_case K n c) js
+      (length steps) keeps)
   unfolding check_in written_check
   check_in_is = refl
 
@@ -64,17 +69,21 @@ module _ (K : Kind) (n : Numbers) (c : Content) (steps : List StepParts) (keeps 
     pub steps_refused : (e : EventAt) → steps_check K (loaded_case K n c) [] steps ≡ Err e → check_in K n c steps keeps ≡ Err e
     steps_refused e h = rw (check_in_is, l, h) refl
 
-    pub check_done : (js : List ℕ) → steps_check K (loaded_case K n c) [] steps ≡ Ok js → check_in K n c steps keeps ≡ keeps_check K (loaded_case K n c) js (length steps) keeps
+    pub check_done : (js : List ℕ) → steps_check K (loaded_case K n c) [] steps ≡ Ok js
+        → check_in K n c steps keeps ≡ keeps_check K (loaded_case K n c) js (length steps) keeps
     check_done js h = rw (check_in_is, l, h) refl
 
 module _ {F : Type 0} (parts : F → Parts) (m components : ℕ) (ss ts : List (ProofStep F)) (xs ys : List (KeepProof F)) (e : ss ≡ ts) (d : xs ≡ ys) where
-  pub resized : FitsSize m components (map (step_parts parts) ts) (map (keep_parts parts) ys) → FitsSize m components (map (step_parts parts) ss) (map (keep_parts parts) xs)
-  resized h = subst (λ ss. FitsSize m components (map (step_parts parts) ss) (map (keep_parts parts) xs)) (sym e) (subst (λ xs. FitsSize m components (map (step_parts parts) ts) (map (keep_parts parts) xs)) (sym d) h)
+  pub resized : FitsSize m components (map (step_parts parts) ts) (map (keep_parts parts) ys)
+      → FitsSize m components (map (step_parts parts) ss) (map (keep_parts parts) xs)
+  resized h = subst (λ ss. FitsSize m components (map (step_parts parts) ss) (map (keep_parts parts) xs)) (sym e)
+      (subst (λ xs. FitsSize m components (map (step_parts parts) ts) (map (keep_parts parts) xs)) (sym d) h)
 
   pub exits_fit : FitsSize m components (map (step_parts parts) ts) (map (keep_parts parts) ys) → ExitsFit components (length ss) (map (keep_parts parts) xs)
   exits_fit h = subst (λ n. ExitsFit components n (map (keep_parts parts) xs)) (length-map ss (step_parts parts)) (resized h).exits
 
-  pub same_check : (K : Kind) (n : Numbers) (c : Content) → check_in K n c (map (step_parts parts) ss) (map (keep_parts parts) xs) ≡ check_in K n c (map (step_parts parts) ts) (map (keep_parts parts) ys)
+  pub same_check : (K : Kind) (n : Numbers) (c : Content)
+      → check_in K n c (map (step_parts parts) ss) (map (keep_parts parts) xs) ≡ check_in K n c (map (step_parts parts) ts) (map (keep_parts parts) ys)
   same_check K n c = ap₂ (λ ss xs. check_in K n c (map (step_parts parts) ss) (map (keep_parts parts) xs)) e d
 
   pub same_count : length (map (step_parts parts) ss) ≡ length ss
@@ -91,17 +100,22 @@ module _ (c : Content) where
   unfolding numbers_of
   quotients_of h = rw h refl
 
-  case_check_is : (n : Numbers) → numbers_of c ≡ n → (steps : List StepParts) (keeps : List KeepParts) → check_in (kind_of n) n c steps keeps ≡ case_check c steps keeps
+  case_check_is : (n : Numbers) → numbers_of c ≡ n → (steps : List StepParts) (keeps : List KeepParts)
+      → check_in (kind_of n) n c steps keeps ≡ case_check c steps keeps
   unfolding case_check
   case_check_is n e steps keeps = ap (λ n. check_in (kind_of n) n c steps keeps) (sym e)
 
   pub form_of : (e f : Evidence) → e ≡ f → IsEvidenceFor c e → IsEvidenceFor c f
   form_of e f h I = subst (IsEvidenceFor c) h I
 
-  pub plain_check : (v : Steps _) (e : Evidence) → e ≡ Plain v → is_plain c ≡ true → check_in plain in_fractions c (map (step_parts fraction_parts) v.steps) (map (keep_parts fraction_parts) v.keeps) ≡ case_check c (steps_of e) (keeps_of e)
+  pub plain_check : (v : Steps _) (e : Evidence) → e ≡ Plain v → is_plain c ≡ true
+      → check_in plain in_fractions c (map (step_parts fraction_parts) v.steps) (map (keep_parts fraction_parts) v.keeps) ≡ case_check c (steps_of e)
+      (keeps_of e)
   plain_check v e h p = case_check_is in_fractions (fractions_of p) _ _ ∙ ap (λ e. case_check c (steps_of e) (keeps_of e)) (sym h)
 
-  pub eps_check : (v : Steps _) (e : Evidence) → e ≡ Eps v → is_plain c ≡ false → check_in quotients in_quotients c (map (step_parts quotient_parts) v.steps) (map (keep_parts quotient_parts) v.keeps) ≡ case_check c (steps_of e) (keeps_of e)
+  pub eps_check : (v : Steps _) (e : Evidence) → e ≡ Eps v → is_plain c ≡ false
+      → check_in quotients in_quotients c (map (step_parts quotient_parts) v.steps) (map (keep_parts quotient_parts) v.keeps) ≡ case_check c (steps_of e)
+      (keeps_of e)
   eps_check v e h p = case_check_is in_quotients (quotients_of p) _ _ ∙ ap (λ e. case_check c (steps_of e) (keeps_of e)) (sym h)
 
 -- what a yes and a no say of the check
@@ -114,7 +128,8 @@ unfolding verdict_of
 yes_is (Ok u) h = refl
 yes_is (Err e) h = absurd (no_yes e.number e.event h)
 
-event_is : (k : ℕ) (v : Event) (n : ℕ) (reason : Reason) → verdict_by k v ≡ Ok (No n reason) → Path EventAt (record { number = k; event = v }) (record { number = n; event = Broken reason })
+event_is : (k : ℕ) (v : Event) (n : ℕ) (reason : Reason) → verdict_by k v ≡ Ok (No n reason)
+    → Path EventAt (record { number = k; event = v }) (record { number = n; event = Broken reason })
 event_is k (Broken other) n reason h =
     let f : Path Verdict (No k other) (No n reason) = cc in
     let a : k ≡ n = cc in
@@ -122,7 +137,8 @@ event_is k (Broken other) n reason h =
     ap₂ (λ k r. record { number = k; event = Broken r }) a b
 event_is k (Undefined w) n reason h = absurd (cc)
 
-pub no_is : (r : Result (Unit {0}) EventAt) (n : ℕ) (reason : Reason) → verdict_of r ≡ Ok (No n reason) → r ≡ Err (record { number = n; event = Broken reason })
+pub no_is : (r : Result (Unit {0}) EventAt) (n : ℕ) (reason : Reason) → verdict_of r ≡ Ok (No n reason)
+    → r ≡ Err (record { number = n; event = Broken reason })
 unfolding verdict_of
 no_is (Ok u) n reason h = absurd (cc)
 no_is (Err e) n reason h = ap Err (event_is e.number e.event n reason h)
@@ -131,24 +147,36 @@ all_mapped : {A B : Type 0} (P : B → Type 0) (f : A → B) → ((x : A) → P 
 all_mapped P f h [] = All-nil P
 all_mapped P f h (x ∷ xs) = All-cons P (f x) (map f xs) (h x) (all_mapped P f h xs)
 
-stored_steps : {F : Type 0} (n : Numbers) (parts : F → Parts) → IsStoredIn n (kind_of n).zero → ((x : F) → IsStoredIn n (parts x)) → (m components : ℕ) (ss : List (ProofStep F)) (xs : List (KeepProof F)) → FitsSize m components (map (step_parts parts) ss) (map (keep_parts parts) xs)
+stored_steps : {F : Type 0} (n : Numbers) (parts : F → Parts) → IsStoredIn n (kind_of n).zero → ((x : F) → IsStoredIn n (parts x))
+    → (m components : ℕ) (ss : List (ProofStep F)) (xs : List (KeepProof F))
+    → FitsSize m components (map (step_parts parts) ss) (map (keep_parts parts) xs)
     → AreStoredSteps (kind_of n) (IsStoredIn n) m (map (step_parts parts) ss) (map (keep_parts parts) xs)
 stored_steps n parts zero each m components ss xs H = record {
   steps_below = H.steps_below;
-  steps_stored = all_mapped (λ s. (c e : ℕ) → IsStoredIn n (part_at (kind_of n) s.flows c e)) (step_parts parts) (λ s. part_stored (kind_of n) (IsStoredIn n) zero parts each s.flows) ss;
+  steps_stored = all_mapped (λ s. (c e : ℕ) → IsStoredIn n (part_at (kind_of n) s.flows c e)) (step_parts parts)
+      (λ s. part_stored (kind_of n) (IsStoredIn n) zero parts each s.flows) ss;
   keeps_below = H.keeps_below;
-  keeps_stored = all_mapped (λ x. (c e : ℕ) → IsStoredIn n (part_at (kind_of n) x.exits c e)) (keep_parts parts) (λ x. part_stored (kind_of n) (IsStoredIn n) zero parts each x.exits) xs;
+  keeps_stored = all_mapped (λ x. (c e : ℕ) → IsStoredIn n (part_at (kind_of n) x.exits c e)) (keep_parts parts)
+      (λ x. part_stored (kind_of n) (IsStoredIn n) zero parts each x.exits) xs;
 }
 
 -- evidence for a case is stored in its numbers
 pub evidence_stored : (c : Content) (e : Evidence) → IsEvidenceFor c e → AreStepsOf c (steps_of e) (keeps_of e)
-evidence_stored c (Plain v) I = subst (λ n. AreStoredSteps (kind_of n) (IsStoredIn n) (length c.names) (map (step_parts fraction_parts) v.steps) (map (keep_parts fraction_parts) v.keeps)) (sym (fractions_of c I.form)) (stored_steps in_fractions fraction_parts plain_is_exact.zero_stored fraction_stored (length c.names) (length c.components) v.steps v.keeps I.size)
-evidence_stored c (Eps v) I = subst (λ n. AreStoredSteps (kind_of n) (IsStoredIn n) (length c.names) (map (step_parts quotient_parts) v.steps) (map (keep_parts quotient_parts) v.keeps)) (sym (quotients_of c I.form)) (stored_steps in_quotients quotient_parts quotients_are_exact.zero_stored (λ x. x.stored) (length c.names) (length c.components) v.steps v.keeps I.size)
+evidence_stored c (Plain v) I =
+    subst (λ n. AreStoredSteps (kind_of n) (IsStoredIn n) (length c.names) (map (step_parts fraction_parts) v.steps) (map (keep_parts fraction_parts) v.keeps))
+    (sym (fractions_of c I.form))
+    (stored_steps in_fractions fraction_parts plain_is_exact.zero_stored fraction_stored (length c.names) (length c.components) v.steps v.keeps I.size)
+evidence_stored c (Eps v) I =
+    subst (λ n. AreStoredSteps (kind_of n) (IsStoredIn n) (length c.names) (map (step_parts quotient_parts) v.steps) (map (keep_parts quotient_parts) v.keeps))
+    (sym (quotients_of c I.form))
+    (stored_steps in_quotients quotient_parts quotients_are_exact.zero_stored (λ x. x.stored) (length c.names) (length c.components) v.steps v.keeps I.size)
 
 kept_names : (K : Kind) (keeps : List KeepParts) → map (λ x. x.hypothesis) (map (keep_values K) keeps) ≡ map (λ x. x.hypothesis) keeps
 kept_names K [] = refl
 kept_names K (x ∷ keeps) = ap (λ ks. x.hypothesis ∷ ks) (kept_names K keeps)
 
 -- evidence of version 2 keeps all others
-pub keeps_others : (c : Content) (e : Evidence) → IsEvidenceFor c e → version_of e ≡ 2 → KeepsOthers (length c.names) (evidence_values (kind_of (numbers_of c)) (steps_of e) (keeps_of e))
-keeps_others c e I two = kept_names (kind_of (numbers_of c)) (keeps_of e) ∙ I.all two ∙ ap (others (length c.names)) (sym (listed_names (kind_of (numbers_of c)) (steps_of e)))
+pub keeps_others : (c : Content) (e : Evidence) → IsEvidenceFor c e → version_of e ≡ 2
+    → KeepsOthers (length c.names) (evidence_values (kind_of (numbers_of c)) (steps_of e) (keeps_of e))
+keeps_others c e I two = kept_names (kind_of (numbers_of c)) (keeps_of e) ∙ I.all two
+    ∙ ap (others (length c.names)) (sym (listed_names (kind_of (numbers_of c)) (steps_of e)))

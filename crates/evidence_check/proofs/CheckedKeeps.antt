@@ -31,13 +31,15 @@ use Rattle.evidence_check.proofs.WrittenSums.{true_false, sign_tells, compared}
 use Rattle.evidence_check.proofs.CheckedSums.{limit_gives, level_tells, leave_tells, allow_tells}
 use Rattle.evidence_check.proofs.CheckedSteps.{within, back}
 
-module _ (K : Kind) (IsStored : Parts → Type 0) (X : IsExact K IsStored) (L : Loaded) (E : EntangledGraph) (V : IsValidEntangled E) (D : IsLoaded IsStored L E) (js : List ℕ) (o : IsOrder E.hypotheses whole js) where
+module _ (K : Kind) (IsStored : Parts → Type 0) (X : IsExact K IsStored) (L : Loaded) (E : EntangledGraph) (V : IsValidEntangled E)
+    (D : IsLoaded IsStored L E) (js : List ℕ) (o : IsOrder E.hypotheses whole js) where
   in_graph : (c : ℕ) → c < L.components → c < E.components
   in_graph = within K IsStored X L E V D
 
   -- ---- exits
 
-  module _ (c : ℕ) (q : c < E.components) (k : ℕ) (K_in : k < E.hypotheses) (h : ℕ → Parts) (v : ℕ → Number) (H : (e : ℕ) → Gives IsStored (h e) (v e)) where
+  module _ (c : ℕ) (q : c < E.components) (k : ℕ) (K_in : k < E.hypotheses) (h : ℕ → Parts) (v : ℕ → Number)
+      (H : (e : ℕ) → Gives IsStored (h e) (v e)) where
     abbrev ExitFits : ℕ → Type 0
     ExitFits r = (number_zero ≤ε v r) × (leaving (E.graph c) js v k (at_place js r) ≤ε v r)
 
@@ -46,7 +48,8 @@ module _ (K : Kind) (IsStored : Parts → Type 0) (X : IsExact K IsStored) (L : 
     exit_tells r p =
         let place = Exit (at_place js r) k in
         tells_bind (demand (not_less (sign_of (h r))) (NegativeExit c r)) _ (λ _. number_zero ≤ε v r) _ (¬ ExitFits r)
-        (tells_if (demand (not_less (sign_of (h r))) (NegativeExit c r)) _ _ _ _ (λ _ g. g) (λ b f. b f.0) (sign_tells K IsStored X (h r) (v r) (NegativeExit c r) (H r)))
+        (tells_if (demand (not_less (sign_of (h r))) (NegativeExit c r)) _ _ _ _ (λ _ g. g) (λ b f. b f.0)
+        (sign_tells K IsStored X (h r) (v r) (NegativeExit c r) (H r)))
         (λ _ low. tells_bind (leaving_sum K L js h k c r) _ (λ x. Gives IsStored x (leaving (E.graph c) js v k (at_place js r))) _ (¬ ExitFits r)
         (leave_tells K IsStored X L E V D js o c q k K_in h v H r (¬ ExitFits r) p)
         (λ sum S. tells_bind (written_at c place (K.compare sum (h r))) _ (λ order. K.compare sum (h r) ≡ Ok order) _ (¬ ExitFits r)
@@ -62,7 +65,9 @@ module _ (K : Kind) (IsStored : Parts → Type 0) (X : IsExact K IsStored) (L : 
     exits_tell = all_tells (length js) (exit_check K L js h k c) ExitFits exit_tells
 
     -- the limit of what exits allow, which is at most 1
-    limit_tells : ((r : ℕ) → r < length js → number_zero ≤ε v r) → Tells (allowed_limit K L js h k c) (λ x. Gives IsFraction x (limit (allowed (E.graph c) js v k)) × (allowed (E.graph c) js v k ≤ε number_one)) (¬ (allowed (E.graph c) js v k ≤ε number_one))
+    limit_tells : ((r : ℕ) → r < length js → number_zero ≤ε v r)
+        → Tells (allowed_limit K L js h k c) (λ x. Gives IsFraction x (limit (allowed (E.graph c) js v k)) × (allowed (E.graph c) js v k ≤ε number_one))
+        (¬ (allowed (E.graph c) js v k ≤ε number_one))
     unfolding allowed_limit
     limit_tells low =
         let a = allowed (E.graph c) js v k in
@@ -78,7 +83,8 @@ module _ (K : Kind) (IsStored : Parts → Type 0) (X : IsExact K IsStored) (L : 
         (λ _ high. tells_ok (single (limit_terms sum)) _ _ (limit_gives K IsStored X sum _ S (record { low = above; high = high }), high))))
 
     -- what exits allow that isn't above 1 is from 0 to 1
-    pub allowed_unit : ((r : ℕ) → r < length js → number_zero ≤ε v r) → (sum : Parts) (by : Ordering) → allowed_sum K L js h k c ≡ Ok sum → written_at c (Level k) (K.compare sum K.one) ≡ Ok by → is_le by ≡ true → IsUnit (value_of sum)
+    pub allowed_unit : ((r : ℕ) → r < length js → number_zero ≤ε v r) → (sum : Parts) (by : Ordering) → allowed_sum K L js h k c ≡ Ok sum
+        → written_at c (Level k) (K.compare sum K.one) ≡ Ok by → is_le by ≡ true → IsUnit (value_of sum)
     allowed_unit low sum by s w le =
         let S = (allow_tells K IsStored X L E V D js o c q k K_in h v H (Unit {0})).ok sum s in
         let e = (written_tells c (Level k) (K.compare sum K.one) (Unit {0})).ok by w in
@@ -101,38 +107,48 @@ module _ (K : Kind) (IsStored : Parts → Type 0) (X : IsExact K IsStored) (L : 
     allowing c = allowed (E.graph c) js (λ e. value_of (part_at K x.exits c e)) x.hypothesis
 
     abbrev AllExits : Type 0
-    AllExits = (c : ℕ) → c < L.components → (r : ℕ) → r < length js → (number_zero ≤ε value c r) × (leaving (E.graph c) js (λ e. value_of (part_at K x.exits c e)) x.hypothesis (at_place js r) ≤ε value c r)
+    AllExits = (c : ℕ) → c < L.components → (r : ℕ) → r < length js → (number_zero ≤ε value c r)
+        × (leaving (E.graph c) js (λ e. value_of (part_at K x.exits c e)) x.hypothesis (at_place js r) ≤ε value c r)
 
-    pub all_exits_tell : Tells (all_below L.components (λ c. all_below (length js) (exit_check K L js (part_at K x.exits c) x.hypothesis c))) (λ _. AllExits) (¬ AllExits)
+    pub all_exits_tell : Tells (all_below L.components (λ c. all_below (length js) (exit_check K L js (part_at K x.exits c) x.hypothesis c))) (λ _. AllExits)
+        (¬ AllExits)
     all_exits_tell =
         all_tells L.components (λ c. all_below (length js) (exit_check K L js (part_at K x.exits c) x.hypothesis c))
-        (λ c. (r : ℕ) → r < length js → (number_zero ≤ε value c r) × (leaving (E.graph c) js (λ e. value_of (part_at K x.exits c e)) x.hypothesis (at_place js r) ≤ε value c r))
+        (λ c. (r : ℕ) → r < length js → (number_zero ≤ε value c r)
+        × (leaving (E.graph c) js (λ e. value_of (part_at K x.exits c e)) x.hypothesis (at_place js r) ≤ε value c r))
         (λ c q. exits_tell c (in_graph c q) x.hypothesis x_in (part_at K x.exits c) (value c) (H_gives c))
 
     abbrev AllBounded : Type 0
     AllBounded = (c : ℕ) → c < L.components → allowing c ≤ε number_one
 
-    allowing_tells : AllExits → Tells (level_by L x.hypothesis (λ c. allowed_limit K L js (part_at K x.exits c) x.hypothesis c)) (λ t. Gives IsFraction t (shared E allowing) × AllBounded) (¬ AllBounded)
+    allowing_tells : AllExits → Tells (level_by L x.hypothesis (λ c. allowed_limit K L js (part_at K x.exits c) x.hypothesis c))
+        (λ t. Gives IsFraction t (shared E allowing) × AllBounded) (¬ AllBounded)
     allowing_tells exits =
-        level_tells K IsStored X L E V D x.hypothesis (λ c. allowed_limit K L js (part_at K x.exits c) x.hypothesis c) (λ c. limit (allowing c)) (λ c. allowing c ≤ε number_one) (¬ AllBounded)
+        level_tells K IsStored X L E V D x.hypothesis (λ c. allowed_limit K L js (part_at K x.exits c) x.hypothesis c) (λ c. limit (allowing c))
+        (λ c. allowing c ≤ε number_one) (¬ AllBounded)
         (λ c q. tells_if (allowed_limit K L js (part_at K x.exits c) x.hypothesis c) _ _ _ _ (λ _ g. g) (λ b all. b (all c q))
         (limit_tells c (in_graph c q) x.hypothesis x_in (part_at K x.exits c) (value c) (H_gives c) (λ r p. (exits c q r p).0)))
 
-    made : AllExits → AllBounded → (level : Parts) → Gives IsFraction level (shared E allowing) → does_pass (L.p x.hypothesis) (value_of level) L.alpha ≡ false → Good
+    made : AllExits → AllBounded → (level : Parts) → Gives IsFraction level (shared E allowing)
+        → does_pass (L.p x.hypothesis) (value_of level) L.alpha ≡ false → Good
     made exits bounded level T fails = record {
       below = x_in;
-      exits = λ c q. let r = back K IsStored X L E V D c q in record { nonneg = λ e p. (exits c r e p).0; above = λ e p. (exits c r e p).1; bounded = bounded c r };
+      exits = λ c q. let r = back K IsStored X L E V D c q in
+          record { nonneg = λ e p. (exits c r e p).0; above = λ e p. (exits c r e p).1; bounded = bounded c r };
       fails = subst (λ u. ¬ Passes (L.p x.hypothesis) u L.alpha) T.value (λ passes. true_false _ (pass_tested _ _ _ passes) fails);
     }
 
     pub keep_tells : Tells (keep_check K L js x) (λ _. Good) (¬ Good)
     unfolding keep_check
     keep_tells =
-        tells_bind (all_below L.components (λ c. all_below (length js) (exit_check K L js (part_at K x.exits c) x.hypothesis c))) _ (λ _. AllExits) _ (¬ Good)
+        tells_bind (all_below L.components (λ c. all_below (length js) (exit_check K L js (part_at K x.exits c) x.hypothesis c))) _ (λ _. AllExits) _
+        (¬ Good)
         (tells_if (all_below L.components (λ c. all_below (length js) (exit_check K L js (part_at K x.exits c) x.hypothesis c))) _ _ _ _ (λ _ g. g)
         (λ b g. b (λ c q r h. ((g.exits c (in_graph c q)).nonneg r h, (g.exits c (in_graph c q)).above r h))) all_exits_tell)
-        (λ _ exits. tells_bind (level_by L x.hypothesis (λ c. allowed_limit K L js (part_at K x.exits c) x.hypothesis c)) _ (λ t. Gives IsFraction t (shared E allowing) × AllBounded) _ (¬ Good)
-        (tells_if (level_by L x.hypothesis (λ c. allowed_limit K L js (part_at K x.exits c) x.hypothesis c)) _ _ _ _ (λ _ g. g) (λ b g. b (λ c q. (g.exits c (in_graph c q)).bounded)) (allowing_tells exits))
+        (λ _ exits. tells_bind (level_by L x.hypothesis (λ c. allowed_limit K L js (part_at K x.exits c) x.hypothesis c)) _
+        (λ t. Gives IsFraction t (shared E allowing) × AllBounded) _ (¬ Good)
+        (tells_if (level_by L x.hypothesis (λ c. allowed_limit K L js (part_at K x.exits c) x.hypothesis c)) _ _ _ _ (λ _ g. g)
+        (λ b g. b (λ c q. (g.exits c (in_graph c q)).bounded)) (allowing_tells exits))
         (λ level T. demand_tells (not (does_pass (L.p x.hypothesis) (value_of level) L.alpha)) Legal Good
         (λ h. made exits T.1 level T.0 (not_true _ h))
         (λ h g. g.fails (subst (λ u. Passes (L.p x.hypothesis) u L.alpha) T.0.value (tested_pass _ _ _ (not_false _ h))))))

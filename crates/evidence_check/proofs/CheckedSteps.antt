@@ -32,7 +32,8 @@ use Rattle.evidence_check.proofs.Tells.{Tells, tells_bind, tells_if, tells_map, 
 use Rattle.evidence_check.proofs.WrittenSums.{true_false, positive_test, test_positive, sign_tells, compared}
 use Rattle.evidence_check.proofs.CheckedSums.{limit_gives, level_tells, here, bring_tells}
 
-module _ (K : Kind) (IsStored : Parts → Type 0) (X : IsExact K IsStored) (L : Loaded) (E : EntangledGraph) (V : IsValidEntangled E) (D : IsLoaded IsStored L E) where
+module _ (K : Kind) (IsStored : Parts → Type 0) (X : IsExact K IsStored) (L : Loaded) (E : EntangledGraph) (V : IsValidEntangled E)
+    (D : IsLoaded IsStored L E) where
   pub within : (c : ℕ) → c < L.components → c < E.components
   within c q = subst (λ n. c < n) D.components q
 
@@ -51,8 +52,10 @@ module _ (K : Kind) (IsStored : Parts → Type 0) (X : IsExact K IsStored) (L : 
       flow_tells r p =
           let place = Bound (at_place js r) in
           tells_bind (demand (not_less (sign_of (y r))) (Negative c r)) _ (λ _. number_zero ≤ε v r) _ (¬ FlowFits r)
-          (tells_if (demand (not_less (sign_of (y r))) (Negative c r)) _ _ _ _ (λ _ g. g) (λ b f. b f.0) (sign_tells K IsStored X (y r) (v r) (Negative c r) (Y r)))
-          (λ _ low. tells_bind (brought_sum K L js place y (at_place js r) c) _ (λ x. Gives IsStored x (brought (E.graph c) js v (at_place js r))) _ (¬ FlowFits r)
+          (tells_if (demand (not_less (sign_of (y r))) (Negative c r)) _ _ _ _ (λ _ g. g) (λ b f. b f.0)
+          (sign_tells K IsStored X (y r) (v r) (Negative c r) (Y r)))
+          (λ _ low. tells_bind (brought_sum K L js place y (at_place js r) c) _ (λ x. Gives IsStored x (brought (E.graph c) js v (at_place js r))) _
+          (¬ FlowFits r)
           (bring_tells K IsStored X L E V D js o c q y v Y place (at_place js r) (¬ FlowFits r) (here K IsStored X L E V D js o r p))
           (λ sum S. tells_bind (written_at c place (K.compare (y r) sum)) _ (λ order. K.compare (y r) sum ≡ Ok order) _ (¬ FlowFits r)
           (written_tells c place (K.compare (y r) sum) (¬ FlowFits r))
@@ -62,7 +65,8 @@ module _ (K : Kind) (IsStored : Parts → Type 0) (X : IsExact K IsStored) (L : 
 
       pub flows_tell : Tells (all_below (length js) (flow_check K L js y c)) (λ _. AreFlows (E.graph c) js v) (¬ AreFlows (E.graph c) js v)
       flows_tell =
-          tells_if (all_below (length js) (flow_check K L js y c)) _ _ _ _ (λ _ all. record { nonneg = λ r p. (all r p).0; within = λ r p. (all r p).1 }) (λ b A. b (λ r p. (A.nonneg r p, A.within r p)))
+          tells_if (all_below (length js) (flow_check K L js y c)) _ _ _ _ (λ _ all. record { nonneg = λ r p. (all r p).0; within = λ r p. (all r p).1 })
+          (λ b A. b (λ r p. (A.nonneg r p, A.within r p)))
           (all_tells (length js) (flow_check K L js y c) FlowFits flow_tells)
 
       -- what flows bring to a hypothesis that isn't listed is from 0 to 1
@@ -72,10 +76,12 @@ module _ (K : Kind) (IsStored : Parts → Type 0) (X : IsExact K IsStored) (L : 
           let W = weight_exists number_field E.hypotheses (E.graph c) (V.graph c q) (left_after whole js) k i in
           brought_unit E.hypotheses (E.graph c) (V.graph c q) js o v k W.0 A i W.1
 
-      pub limit_tells : (k : ℕ) (Bad : Type 0) → k < E.hypotheses → set_of js k ≡ false → AreFlows (E.graph c) js v → Tells (level_limit K L js y k c) (λ x. Gives IsFraction x (limit (brought (E.graph c) js v k))) Bad
+      pub limit_tells : (k : ℕ) (Bad : Type 0) → k < E.hypotheses → set_of js k ≡ false → AreFlows (E.graph c) js v
+          → Tells (level_limit K L js y k c) (λ x. Gives IsFraction x (limit (brought (E.graph c) js v k))) Bad
       unfolding level_limit
       limit_tells k Bad p f A =
-          tells_map (λ x. single (limit_terms x)) (brought_sum K L js (Level k) y k c) _ _ Bad (λ x G. limit_gives K IsStored X x _ G (level_unit k p f A)) (bring_tells K IsStored X L E V D js o c q y v Y (Level k) k Bad p)
+          tells_map (λ x. single (limit_terms x)) (brought_sum K L js (Level k) y k c) _ _ Bad (λ x G. limit_gives K IsStored X x _ G (level_unit k p f A))
+          (bring_tells K IsStored X L E V D js o c q y v Y (Level k) k Bad p)
 
     -- ---- a step
 
@@ -95,15 +101,19 @@ module _ (K : Kind) (IsStored : Parts → Type 0) (X : IsExact K IsStored) (L : 
       abbrev AllFlows : Type 0
       AllFlows = (c : ℕ) → c < L.components → AreFlows (E.graph c) js (value c)
 
-      pub all_flows_tell : Tells (all_below L.components (λ c. all_below (length js) (flow_check K L js (part_at K s.flows c) c))) (λ _. AllFlows) (¬ AllFlows)
+      pub all_flows_tell : Tells (all_below L.components (λ c. all_below (length js) (flow_check K L js (part_at K s.flows c) c))) (λ _. AllFlows)
+          (¬ AllFlows)
       all_flows_tell =
-          all_tells L.components (λ c. all_below (length js) (flow_check K L js (part_at K s.flows c) c)) (λ c. AreFlows (E.graph c) js (λ e. value_of (part_at K s.flows c e)))
+          all_tells L.components (λ c. all_below (length js) (flow_check K L js (part_at K s.flows c) c))
+          (λ c. AreFlows (E.graph c) js (λ e. value_of (part_at K s.flows c e)))
           (λ c q. flows_tell c (within c q) (part_at K s.flows c) (value c) (Y_gives c))
 
-      bringing_tells : (new : set_of js s.hypothesis ≡ false) (flows : AllFlows) (Bad : Type 0) → Tells (level_by L s.hypothesis (λ c. level_limit K L js (part_at K s.flows c) s.hypothesis c)) (λ t. Gives IsFraction t (shared E bringing)) Bad
+      bringing_tells : (new : set_of js s.hypothesis ≡ false) (flows : AllFlows) (Bad : Type 0)
+          → Tells (level_by L s.hypothesis (λ c. level_limit K L js (part_at K s.flows c) s.hypothesis c)) (λ t. Gives IsFraction t (shared E bringing)) Bad
       bringing_tells new flows Bad =
           tells_if (level_by L s.hypothesis (λ c. level_limit K L js (part_at K s.flows c) s.hypothesis c)) _ _ _ _ (λ t g. g.0) (λ b. b)
-          (level_tells K IsStored X L E V D s.hypothesis (λ c. level_limit K L js (part_at K s.flows c) s.hypothesis c) (λ c. limit (bringing c)) (λ _. Unit {0}) Bad
+          (level_tells K IsStored X L E V D s.hypothesis (λ c. level_limit K L js (part_at K s.flows c) s.hypothesis c) (λ c. limit (bringing c))
+          (λ _. Unit {0}) Bad
           (λ c q. tells_if (level_limit K L js (part_at K s.flows c) s.hypothesis c) _ _ _ _ (λ x g. (g, tt)) (λ b. b)
           (limit_tells c (within c q) (part_at K s.flows c) (value c) (Y_gives c) s.hypothesis Bad s_in new (flows c q))))
 
@@ -112,14 +122,19 @@ module _ (K : Kind) (IsStored : Parts → Type 0) (X : IsExact K IsStored) (L : 
       step_tells =
           tells_bind (demand (not (set_of js s.hypothesis)) Repeated) _ (λ _. set_of js s.hypothesis ≡ false) _ (¬ Good)
           (tells_if (demand (not (set_of js s.hypothesis)) Repeated) _ _ _ _ (λ _ g. g) (λ b g. b g.new)
-          (demand_tells (not (set_of js s.hypothesis)) Repeated (set_of js s.hypothesis ≡ false) (λ h. not_true (set_of js s.hypothesis) h) (λ h e. true_false _ (ap not e) h)))
-          (λ _ new. tells_bind (all_below L.components (λ c. all_below (length js) (flow_check K L js (part_at K s.flows c) c))) _ (λ _. AllFlows) _ (¬ Good)
-          (tells_if (all_below L.components (λ c. all_below (length js) (flow_check K L js (part_at K s.flows c) c))) _ _ _ _ (λ _ g. g) (λ b g. b (λ c q. g.flows c (within c q))) all_flows_tell)
-          (λ _ flows. tells_bind (level_by L s.hypothesis (λ c. level_limit K L js (part_at K s.flows c) s.hypothesis c)) _ (λ t. Gives IsFraction t (shared E bringing)) _ (¬ Good)
+          (demand_tells (not (set_of js s.hypothesis)) Repeated (set_of js s.hypothesis ≡ false) (λ h. not_true (set_of js s.hypothesis) h)
+          (λ h e. true_false _ (ap not e) h)))
+          (λ _ new. tells_bind (all_below L.components (λ c. all_below (length js) (flow_check K L js (part_at K s.flows c) c))) _ (λ _. AllFlows) _
+          (¬ Good)
+          (tells_if (all_below L.components (λ c. all_below (length js) (flow_check K L js (part_at K s.flows c) c))) _ _ _ _ (λ _ g. g)
+          (λ b g. b (λ c q. g.flows c (within c q))) all_flows_tell)
+          (λ _ flows. tells_bind (level_by L s.hypothesis (λ c. level_limit K L js (part_at K s.flows c) s.hypothesis c)) _
+          (λ t. Gives IsFraction t (shared E bringing)) _ (¬ Good)
           (bringing_tells new flows (¬ Good))
           (λ level T. tells_bind (demand (is_above_zero (value_of level)) NoLevel) _ (λ _. IsPositive (value_of level)) _ (¬ Good)
           (tells_if (demand (is_above_zero (value_of level)) NoLevel) _ _ _ _ (λ _ g. g) (λ b g. b (subst IsPositive (sym T.value) g.passes.positive))
-          (demand_tells (is_above_zero (value_of level)) NoLevel (IsPositive (value_of level)) (positive_test (value_of level)) (test_positive (value_of level))))
+          (demand_tells (is_above_zero (value_of level)) NoLevel (IsPositive (value_of level)) (positive_test (value_of level))
+          (test_positive (value_of level))))
           (λ _ positive. tells_if (demand (does_pass (L.p s.hypothesis) (value_of level) L.alpha) AboveLevel) _ _ _ _
           (λ _ passes. record {
             below = s_in;
@@ -128,4 +143,5 @@ module _ (K : Kind) (IsStored : Parts → Type 0) (X : IsExact K IsStored) (L : 
             passes = subst (λ u. Passes (L.p s.hypothesis) u L.alpha) T.value passes;
           })
           (λ b g. b (subst (λ u. Passes (L.p s.hypothesis) u L.alpha) (sym T.value) g.passes))
-          (demand_tells (does_pass (L.p s.hypothesis) (value_of level) L.alpha) AboveLevel (Passes (L.p s.hypothesis) (value_of level) L.alpha) (tested_pass _ _ _) (λ h g. true_false _ (pass_tested _ _ _ g) h))))))
+          (demand_tells (does_pass (L.p s.hypothesis) (value_of level) L.alpha) AboveLevel (Passes (L.p s.hypothesis) (value_of level) L.alpha)
+          (tested_pass _ _ _) (λ h g. true_false _ (pass_tested _ _ _ g) h))))))

@@ -11,7 +11,8 @@ use Rattle.case_model.specs.Content.{Content}
 use Rattle.case_numbers.specs.Numbers.{Numbers, in_fractions, in_quotients, numbers_of, IsStoredIn}
 use Rattle.evidence_check.specs.declared.quantity.Quantity.TheVariants.{Flow, Exit}
 use Rattle.evidence_check.specs.Languages.{Completes}
-use Rattle.evidence_check.specs.Documents.{Frame, Form, SaysVersion, SaysNumber, SaysKeep, SaysEnd, line_of, Slot, ANumber, AKeep, TheEnd, slot_line, keeps_due, kept_in, Stage, AtVersion, AtSteps, AtEnd, At, read_at, next_at, evidence_language}
+use Rattle.evidence_check.specs.Documents.{Frame, Form, SaysVersion, SaysNumber, SaysKeep, SaysEnd, line_of, Slot, ANumber, AKeep, TheEnd, slot_line, keeps_due}
+use Rattle.evidence_check.specs.Documents.{kept_in, Stage, AtVersion, AtSteps, AtEnd, At, read_at, next_at, evidence_language}
 use Rattle.evidence_check.specs.NumberReading.{case_frame}
 use Rattle.evidence_check.specs.DocumentStatements.{start, IsPrinted, FaultsAreWhereNoneGoesOn, NoneGoesOnIsFault}
 use Rattle.evidence_check.proofs.LanguageLaws.{bad_ends, early_unfinished, none_goes_on, read_faults}
@@ -46,7 +47,8 @@ module _ (T : Frame) (x : Parts) (printed : IsPrinted T x) where
 
   last_lead : (v : ℕ) (js ks : List ℕ) → kept_in T v js ≡ ks → Leads T (At [] (AtSteps v js)) (map form_in (keeps_due T js ks)) (At [] AtEnd)
   last_lead v js [] e = tail_lead T v js (keeps_due T js []) SaysEnd [] (At [] AtEnd) (ap (keeps_due T js) e) refl refl (slots_lead (keeps_due T js []) AtEnd)
-  last_lead v js (k ∷ ks) e = tail_lead T v js (keeps_due T js (k ∷ ks)) (SaysKeep k) _ (At [] AtEnd) (ap (keeps_due T js) e) refl refl (slots_lead (keeps_due T js (k ∷ ks)) AtEnd)
+  last_lead v js (k ∷ ks) e = tail_lead T v js (keeps_due T js (k ∷ ks)) (SaysKeep k) _ (At [] AtEnd) (ap (keeps_due T js) e) refl refl
+      (slots_lead (keeps_due T js (k ∷ ks)) AtEnd)
 
   stage_lead : (stage : Stage) → (fs : List Form) × Leads T (At [] stage) fs (At [] AtEnd)
   unfolding read_at next_at
@@ -56,8 +58,15 @@ module _ (T : Frame) (x : Parts) (printed : IsPrinted T x) where
 
   pub completes : Completes (evidence_language T)
   completes (At must stage) =
-      let rest = stage_lead stage in
-      (map (line_of T) (map form_in must ++ rest.0), map form_in must ++ rest.0, record { here = At [] AtEnd; lead = leads_on T (At must stage) (At [] stage) (At [] AtEnd) (map form_in must) rest.0 (slots_lead must stage) rest.1; ended = refl })
+      let rest = stage_lead stage in (
+        map (line_of T) (map form_in must ++ rest.0),
+        map form_in must ++ rest.0,
+        record {
+          here = At [] AtEnd;
+          lead = leads_on T (At must stage) (At [] stage) (At [] AtEnd) (map form_in must) rest.0 (slots_lead must stage) rest.1;
+          ended = refl;
+        },
+      )
 
 -- each kind of numbers has one
 some_stored : (n : Numbers) → (x : Parts) × IsStoredIn n x
@@ -68,10 +77,20 @@ case_completes : (n : Numbers) (c : Content) → Completes (evidence_language (c
 case_completes n c = let s = some_stored n in completes (case_frame n c) s.0 (stored_printed n c s.0 s.1)
 
 pub faults_end : FaultsAreWhereNoneGoesOn
-faults_end c bytes fault (inl b) = inl (bad_ends (evidence_language (case_frame (numbers_of c) c)) start (rows_of bytes) fault (case_completes (numbers_of c) c) b)
-faults_end c bytes fault (inr b) = inr (b.fault_is, early_unfinished (evidence_language (case_frame (numbers_of c) c)) start (rows_of bytes) (end_of bytes) fault (case_completes (numbers_of c) c) b)
+faults_end c bytes fault (inl b) =
+    inl (bad_ends (evidence_language (case_frame (numbers_of c) c)) start (rows_of bytes) fault (case_completes (numbers_of c) c) b)
+faults_end c bytes fault (inr b) =
+    inr (
+      b.fault_is,
+      early_unfinished (evidence_language (case_frame (numbers_of c) c)) start (rows_of bytes) (end_of bytes) fault
+          (case_completes (numbers_of c) c) b,
+    )
 
 pub none_is_fault : NoneGoesOnIsFault
 none_is_fault c bytes number w =
-    let found = none_goes_on (evidence_language (case_frame (numbers_of c) c)) start (rows_of bytes) (end_of bytes) number (case_completes (numbers_of c) c) w in
-    (found.0, read_faults (evidence_language (case_frame (numbers_of c) c)) start (rows_of bytes) (end_of bytes) (record { line = number; kind = found.0 }) found.1)
+    let found = none_goes_on (evidence_language (case_frame (numbers_of c) c)) start (rows_of bytes) (end_of bytes) number
+    (case_completes (numbers_of c) c) w in (
+      found.0,
+      read_faults (evidence_language (case_frame (numbers_of c) c)) start (rows_of bytes) (end_of bytes)
+          (record { line = number; kind = found.0 }) found.1,
+    )

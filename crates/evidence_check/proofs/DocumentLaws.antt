@@ -12,27 +12,37 @@ use Rattle.evidence_check.specs.Languages.{FaultAt, reading}
 use Rattle.evidence_check.specs.Documents.{Form, evidence_forms, evidence_language}
 use Rattle.evidence_check.specs.NumberReading.{case_frame}
 use Rattle.evidence_check.specs.ReadView.{Stops, SayEvidence, HaveFault}
-use Rattle.evidence_check.specs.DocumentStatements.{start, evidence_reading, SaysEvidence, HasFault, IsProofFault, TextsSayOneEvidence, TextsDontSayAndFail, TextsHaveOneFault}
+use Rattle.evidence_check.specs.DocumentStatements.{start, evidence_reading, SaysEvidence, HasFault, IsProofFault, TextsSayOneEvidence, TextsDontSayAndFail}
+use Rattle.evidence_check.specs.DocumentStatements.{TextsHaveOneFault}
 use Rattle.evidence_check.proofs.LanguageLaws.{read_says, document_reads, read_faults, bad_reads, early_reads}
 use Rattle.evidence_check.proofs.NumberFound.{frame_is}
 use Rattle.evidence_check.proofs.OneEvidence.{one_evidence}
 
 module _ (c : Content) (bytes : List ℕ) where
-  says_reads : (v : Evidence) → SaysEvidence c bytes v → evidence_reading (case_frame (numbers_of c) c) bytes ≡ Ok (evidence_forms (version_of v) (steps_of v) (keeps_of v))
-  says_reads v d = document_reads (evidence_language (case_frame (numbers_of c) c)) start (rows_of bytes) (end_of bytes) (evidence_forms (version_of v) (steps_of v) (keeps_of v)) d
+  says_reads : (v : Evidence) → SaysEvidence c bytes v
+      → evidence_reading (case_frame (numbers_of c) c) bytes ≡ Ok (evidence_forms (version_of v) (steps_of v) (keeps_of v))
+  says_reads v d = document_reads (evidence_language (case_frame (numbers_of c) c)) start (rows_of bytes) (end_of bytes)
+      (evidence_forms (version_of v) (steps_of v) (keeps_of v)) d
 
   fault_reads : (fault : FaultAt ProofKind) → HasFault c bytes fault → evidence_reading (case_frame (numbers_of c) c) bytes ≡ Err fault
   fault_reads fault (inl b) = bad_reads (evidence_language (case_frame (numbers_of c) c)) start (rows_of bytes) (end_of bytes) fault b
   fault_reads fault (inr b) = early_reads (evidence_language (case_frame (numbers_of c) c)) start (rows_of bytes) (end_of bytes) fault b
 
   -- what the reader found
-  pub says : (n : Numbers) (v : Evidence) → n ≡ numbers_of c → SayEvidence n c (end_of bytes) (rows_of bytes) (version_of v) (steps_of v) (keeps_of v) → SaysEvidence c bytes v
+  pub says : (n : Numbers) (v : Evidence) → n ≡ numbers_of c → SayEvidence n c (end_of bytes) (rows_of bytes) (version_of v) (steps_of v) (keeps_of v)
+      → SaysEvidence c bytes v
   unfolding SayEvidence
-  says n v e h = read_says (evidence_language (case_frame (numbers_of c) c)) start (rows_of bytes) (end_of bytes) (evidence_forms (version_of v) (steps_of v) (keeps_of v)) (subst (λ n. reading (evidence_language (case_frame n c)) start (rows_of bytes) (end_of bytes) ≡ Ok (evidence_forms (version_of v) (steps_of v) (keeps_of v))) e (h (case_frame n c) (frame_is n c)))
+  says n v e h = read_says (evidence_language (case_frame (numbers_of c) c)) start (rows_of bytes) (end_of bytes)
+      (evidence_forms (version_of v) (steps_of v) (keeps_of v))
+      (subst (λ n. reading (evidence_language (case_frame n c)) start (rows_of bytes) (end_of bytes) ≡ Ok
+      (evidence_forms (version_of v) (steps_of v) (keeps_of v))) e (h (case_frame n c) (frame_is n c)))
 
   pub fails : (n : Numbers) (fault : ProofText) → n ≡ numbers_of c → HaveFault n c (end_of bytes) (rows_of bytes) fault → IsProofFault c bytes fault
   unfolding HaveFault Stops
-  fails n (Line k kind) e h = read_faults (evidence_language (case_frame (numbers_of c) c)) start (rows_of bytes) (end_of bytes) (record { line = k; kind = kind }) (subst (λ n. reading (evidence_language (case_frame n c)) start (rows_of bytes) (end_of bytes) ≡ Err (record { line = k; kind = kind })) e (h (case_frame n c) (frame_is n c)))
+  fails n (Line k kind) e h = read_faults (evidence_language (case_frame (numbers_of c) c)) start (rows_of bytes) (end_of bytes)
+      (record { line = k; kind = kind })
+      (subst (λ n. reading (evidence_language (case_frame n c)) start (rows_of bytes) (end_of bytes) ≡ Err (record { line = k; kind = kind })) e
+      (h (case_frame n c) (frame_is n c)))
   fails n NoMemory e h = tt
 
 fits : (c : Content) (v : Evidence) → IsEvidenceFor c v → FitsCase c (version_of v) (steps_of v) (keeps_of v)
@@ -48,7 +58,8 @@ same_err : (e f : FaultAt ProofKind) (r : Result (List Form) (FaultAt ProofKind)
 same_err e f r h k = cc
 
 pub one_said : TextsSayOneEvidence
-one_said c bytes v w h k d e = one_evidence c (version_of v) (version_of w) (steps_of v) (steps_of w) (keeps_of v) (keeps_of w) (fits c v h) (fits c w k) (same_ok _ _ _ (says_reads c bytes v d) (says_reads c bytes w e))
+one_said c bytes v w h k d e = one_evidence c (version_of v) (version_of w) (steps_of v) (steps_of w) (keeps_of v) (keeps_of w) (fits c v h) (fits c w k)
+    (same_ok _ _ _ (says_reads c bytes v d) (says_reads c bytes w e))
 
 pub said_or_failed : TextsDontSayAndFail
 said_or_failed c bytes v fault d h = not_both _ _ _ (says_reads c bytes v d) (fault_reads c bytes fault h)

@@ -25,11 +25,14 @@ demand_met true reason u h = refl
 demand_met false reason u h = absurd (cc)
 
 -- a comparison with 1
-pub order_is : (K : Kind) (s y : Parts) (c : ℕ) (place : Place) (r : Result Ordering TooWide) (q x : Result Ordering Event) → r ≡ K.compare s y → y ≡ K.one → q ≡ written_at c place r → q ≡ x → written_at c place (K.compare s K.one) ≡ x
+pub order_is : (K : Kind) (s y : Parts) (c : ℕ) (place : Place) (r : Result Ordering TooWide) (q x : Result Ordering Event) → r ≡ K.compare s y
+    → y ≡ K.one → q ≡ written_at c place r → q ≡ x → written_at c place (K.compare s K.one) ≡ x
 order_is K s y c place r q x a b d e = ap (written_at c place) (ap (K.compare s) (sym b) ∙ sym a) ∙ sym d ∙ e
 
 module _ (K : Kind) (L : Loaded) (js : List ℕ) (h : ℕ → Parts) (k c r : ℕ) where
-  exit_check_is : exit_check K L js h k c r ≡ (demand (not_less (sign_of (h r))) (NegativeExit c r) >>= λ _. leaving_sum K L js h k c r >>= λ sum. written_at c (Exit (at_place js r) k) (K.compare sum (h r)) >>= λ order. demand (is_le order) (ShortExit c r))
+  exit_check_is : exit_check K L js h k c
+      r ≡ (demand (not_less (sign_of (h r))) (NegativeExit c r) >>= λ _. leaving_sum K L js h k c r >>= λ sum. written_at c (Exit (at_place js r) k)
+      (K.compare sum (h r)) >>= λ order. demand (is_le order) (ShortExit c r))
   unfolding exit_check
   exit_check_is = refl
 
@@ -51,15 +54,20 @@ module _ (K : Kind) (L : Loaded) (js : List ℕ) (h : ℕ → Parts) (k c r : �
         pub exit_order_refused : (e : Event) → written_at c (Exit at k) (K.compare sum exit) ≡ Err e → exit_check K L js h k c r ≡ Err e
         exit_order_refused e g = rw (exit_check_is, ← tested, d, s, ← compared_is, g) refl
 
-        pub exit_done : (order : Ordering) → written_at c (Exit at k) (K.compare sum exit) ≡ Ok order → exit_check K L js h k c r ≡ demand (is_le order) (ShortExit c r)
+        pub exit_done : (order : Ordering) → written_at c (Exit at k) (K.compare sum exit) ≡ Ok order
+            → exit_check K L js h k c r ≡ demand (is_le order) (ShortExit c r)
         exit_done order g = rw (exit_check_is, ← tested, d, s, ← compared_is, g) refl
 
 -- as many exits as steps, and those of a component
-pub exits_are : (K : Kind) (L : Loaded) (js : List ℕ) (k c n : ℕ) (xs ys : List Parts) (r : Result (Unit {0}) Event) → n ≡ length js → xs ≡ ys → r ≡ all_below n (exit_check K L js (numbers_at K xs) k c) → r ≡ all_below (length js) (exit_check K L js (numbers_at K ys) k c)
-exits_are K L js k c n xs ys r m e h = h ∙ ap (λ n. all_below n (exit_check K L js (numbers_at K xs) k c)) m ∙ ap (λ xs. all_below (length js) (exit_check K L js (numbers_at K xs) k c)) e
+pub exits_are : (K : Kind) (L : Loaded) (js : List ℕ) (k c n : ℕ) (xs ys : List Parts) (r : Result (Unit {0}) Event) → n ≡ length js → xs ≡ ys
+    → r ≡ all_below n (exit_check K L js (numbers_at K xs) k c) → r ≡ all_below (length js) (exit_check K L js (numbers_at K ys) k c)
+exits_are K L js k c n xs ys r m e h = h ∙ ap (λ n. all_below n (exit_check K L js (numbers_at K xs) k c)) m
+    ∙ ap (λ xs. all_below (length js) (exit_check K L js (numbers_at K xs) k c)) e
 
 module _ (K : Kind) (L : Loaded) (js : List ℕ) (xs ys : List Parts) (same : xs ≡ ys) (k c : ℕ) where
-  limit_is : allowed_limit K L js (numbers_at K ys) k c ≡ (allowed_sum K L js (numbers_at K xs) k c >>= λ sum. written_at c (Level k) (K.compare sum K.one) >>= λ order. demand (is_le order) (AboveOne c) >>= λ _. Ok (single (limit_terms sum)))
+  limit_is : allowed_limit K L js (numbers_at K ys) k
+      c ≡ (allowed_sum K L js (numbers_at K xs) k c >>= λ sum. written_at c (Level k) (K.compare sum K.one) >>= λ order. demand (is_le order)
+      (AboveOne c) >>= λ _. Ok (single (limit_terms sum)))
   unfolding allowed_limit
   limit_is = ap (λ ys. allowed_limit K L js (numbers_at K ys) k c) (sym same)
 
@@ -74,5 +82,6 @@ module _ (K : Kind) (L : Loaded) (js : List ℕ) (xs ys : List Parts) (same : xs
       pub above_one : (e : Event) → demand (is_le order) (AboveOne c) ≡ Err e → allowed_limit K L js (numbers_at K ys) k c ≡ Err e
       above_one e g = rw (limit_is, s, o, g) refl
 
-      pub limit_found : (u : Unit {0}) → demand (is_le order) (AboveOne c) ≡ Ok u → allowed_limit K L js (numbers_at K ys) k c ≡ Ok (single (limit_terms sum))
+      pub limit_found : (u : Unit {0}) → demand (is_le order) (AboveOne c) ≡ Ok u
+          → allowed_limit K L js (numbers_at K ys) k c ≡ Ok (single (limit_terms sum))
       limit_found u g = rw (limit_is, s, o, g) refl

@@ -1,5 +1,6 @@
 -- Evidence fits a case, piece by piece.
-use Rattle.std.proofs.Common.{◌≡◌, ◌≢◌, inr, refl, sym, ap, subst, ◌∙◌, ℕ, suc, ◌+◌, ◌-◌, ◌<◌, ◌≤◌, Bool, true, false, not, List, [], ◌∷◌, map, drop, length, get_or, add-one, arith}
+use Rattle.std.proofs.Common.{◌≡◌, ◌≢◌, inr, refl, sym, ap, subst, ◌∙◌, ℕ, suc, ◌+◌, ◌-◌, ◌<◌, ◌≤◌, Bool, true, false}
+use Rattle.std.proofs.Common.{not, List, [], ◌∷◌, map, drop, length, get_or, add-one, arith}
 use Rattle.std.specs.Prelude.{◌==◌}
 use Rattle.std.specs.Bool.{Decides}
 use Rattle.std.specs.List.{All, filter, list_all, range_with_len}
@@ -21,20 +22,25 @@ use Rattle.evidence_check.proofs.StepsAnswers.{drop_here, drop_end}
 module _ {F : Type 0} (parts : F → Parts) where
   counted : (count : ℕ) (lists : List (List F)) → All (λ ys. length ys ≡ count) lists → All (λ ys. length ys ≡ count) (map (map parts) lists)
   counted count [] h = All-nil (λ ys. length ys ≡ count)
-  counted count (xs ∷ lists) h = All-cons (λ ys. length ys ≡ count) (map parts xs) (map (map parts) lists) (length-map xs parts ∙ All-head (λ ys. length ys ≡ count) xs lists h) (counted count lists (All-tail (λ ys. length ys ≡ count) xs lists h))
+  counted count (xs ∷ lists) h = All-cons (λ ys. length ys ≡ count) (map parts xs) (map (map parts) lists)
+      (length-map xs parts ∙ All-head (λ ys. length ys ≡ count) xs lists h) (counted count lists (All-tail (λ ys. length ys ≡ count) xs lists h))
 
   uncounted : (count : ℕ) (lists : List (List F)) → All (λ ys. length ys ≡ count) (map (map parts) lists) → All (λ ys. length ys ≡ count) lists
   uncounted count [] h = All-nil (λ ys. length ys ≡ count)
-  uncounted count (xs ∷ lists) h = All-cons (λ ys. length ys ≡ count) xs lists (sym (length-map xs parts) ∙ All-head (λ ys. length ys ≡ count) (map parts xs) (map (map parts) lists) h) (uncounted count lists (All-tail (λ ys. length ys ≡ count) (map parts xs) (map (map parts) lists) h))
+  uncounted count (xs ∷ lists) h = All-cons (λ ys. length ys ≡ count) xs lists
+      (sym (length-map xs parts) ∙ All-head (λ ys. length ys ≡ count) (map parts xs) (map (map parts) lists) h)
+      (uncounted count lists (All-tail (λ ys. length ys ≡ count) (map parts xs) (map (map parts) lists) h))
 
-  pub full_then : (components count : ℕ) (lists : List (List F)) (r : Bool) → length lists ≡ components → r ≡ list_all (λ ys. length ys == count) lists → Decides r (AreFull components count (map (map parts) lists))
+  pub full_then : (components count : ℕ) (lists : List (List F)) (r : Bool) → length lists ≡ components
+      → r ≡ list_all (λ ys. length ys == count) lists → Decides r (AreFull components count (map (map parts) lists))
   full_then components count lists r e f = (
     λ t. record { lists = length-map lists (map parts) ∙ e; each = counted count lists ((counts lists).0 (sym f ∙ t)) },
     λ h. f ∙ (counts lists).1 (uncounted count lists h.each),
   )
     where
       counts : (lists : List (List F)) → Decides (list_all (λ ys. length ys == count) lists) (All (λ ys. length ys ≡ count) lists)
-      counts = Decides-by_and (λ ys. length ys == count) (λ ys. length ys ≡ count) (list_all (λ ys. length ys == count)) (λ ys. Decides-eqb (length ys) count) refl (λ _ _. refl)
+      counts = Decides-by_and (λ ys. length ys == count) (λ ys. length ys ≡ count) (list_all (λ ys. length ys == count))
+          (λ ys. Decides-eqb (length ys) count) refl (λ _ _. refl)
 
   module _ (m components : ℕ) (steps : List (ProofStep F)) where
     -- the steps from a place on fit
@@ -61,13 +67,16 @@ module _ {F : Type 0} (parts : F → Parts) where
 
       joined : StepFits → StepsFit (suc i) → StepsFit i
       unfolding Fit
-      joined f r = subst Fit (sym here) (All-cons (λ s. s.hypothesis < m) (step_parts parts s) (map (step_parts parts) (drop (suc i) steps)) f.0 r.0, (f.1, r.1))
+      joined f r = subst Fit (sym here)
+          (All-cons (λ s. s.hypothesis < m) (step_parts parts s) (map (step_parts parts) (drop (suc i) steps)) f.0 r.0, (f.1, r.1))
 
       parted : StepsFit i → StepFits × StepsFit (suc i)
       unfolding Fit
       parted w =
-          let k : Fit (s ∷ drop (suc i) steps) = subst Fit here w in
-          ((All-head (λ s. s.hypothesis < m) (step_parts parts s) (map (step_parts parts) (drop (suc i) steps)) k.0, k.1.0), (All-tail (λ s. s.hypothesis < m) (step_parts parts s) (map (step_parts parts) (drop (suc i) steps)) k.0, k.1.1))
+          let k : Fit (s ∷ drop (suc i) steps) = subst Fit here w in (
+            (All-head (λ s. s.hypothesis < m) (step_parts parts s) (map (step_parts parts) (drop (suc i) steps)) k.0, k.1.0),
+            (All-tail (λ s. s.hypothesis < m) (step_parts parts s) (map (step_parts parts) (drop (suc i) steps)) k.0, k.1.1),
+          )
 
       pub steps_more : StepFits → StepsLeft (i + 1)
       steps_more f = subst StepsLeft (sym (add-one i)) (record { all = λ r. L.all (joined f r); rest = λ w. (parted (L.rest w)).1 })
@@ -76,7 +85,8 @@ module _ {F : Type 0} (parts : F → Parts) where
       steps_refused n w = n (parted (L.rest w)).0
 
     pub steps_all : (i : ℕ) → i ≡ length steps → StepsLeft i → StepsFit 0
-    steps_all i e L = L.all (subst (λ ss. All (λ s. s.hypothesis < m) (map (step_parts parts) ss) × FlowsFit components i (map (step_parts parts) ss)) (sym (drop_end steps i e)) (All-nil (λ s. s.hypothesis < m), tt))
+    steps_all i e L = L.all (subst (λ ss. All (λ s. s.hypothesis < m) (map (step_parts parts) ss) × FlowsFit components i (map (step_parts parts) ss))
+        (sym (drop_end steps i e)) (All-nil (λ s. s.hypothesis < m), tt))
 
   module _ (m components count : ℕ) (keeps : List (KeepProof F)) where
     -- the keeps from a place on fit
@@ -103,13 +113,16 @@ module _ {F : Type 0} (parts : F → Parts) where
 
       keep_joined : KeepFits → KeepsFit (suc i) → KeepsFit i
       unfolding KeepFit
-      keep_joined f r = subst KeepFit (sym keep_here) (All-cons (λ x. x.hypothesis < m) (keep_parts parts x) (map (keep_parts parts) (drop (suc i) keeps)) f.0 r.0, (f.1, r.1))
+      keep_joined f r = subst KeepFit (sym keep_here)
+          (All-cons (λ x. x.hypothesis < m) (keep_parts parts x) (map (keep_parts parts) (drop (suc i) keeps)) f.0 r.0, (f.1, r.1))
 
       keep_parted : KeepsFit i → KeepFits × KeepsFit (suc i)
       unfolding KeepFit
       keep_parted w =
-          let k : KeepFit (x ∷ drop (suc i) keeps) = subst KeepFit keep_here w in
-          ((All-head (λ x. x.hypothesis < m) (keep_parts parts x) (map (keep_parts parts) (drop (suc i) keeps)) k.0, k.1.0), (All-tail (λ x. x.hypothesis < m) (keep_parts parts x) (map (keep_parts parts) (drop (suc i) keeps)) k.0, k.1.1))
+          let k : KeepFit (x ∷ drop (suc i) keeps) = subst KeepFit keep_here w in (
+            (All-head (λ x. x.hypothesis < m) (keep_parts parts x) (map (keep_parts parts) (drop (suc i) keeps)) k.0, k.1.0),
+            (All-tail (λ x. x.hypothesis < m) (keep_parts parts x) (map (keep_parts parts) (drop (suc i) keeps)) k.0, k.1.1),
+          )
 
       pub keeps_more : KeepFits → KeepsLeft (i + 1)
       keeps_more f = subst KeepsLeft (sym (add-one i)) (record { all = λ r. L.all (keep_joined f r); rest = λ w. (keep_parted (L.rest w)).1 })
@@ -118,7 +131,8 @@ module _ {F : Type 0} (parts : F → Parts) where
       keeps_refused n w = n (keep_parted (L.rest w)).0
 
     pub keeps_all : (i : ℕ) → i ≡ length keeps → KeepsLeft i → KeepsFit 0
-    keeps_all i e L = L.all (subst (λ xs. All (λ x. x.hypothesis < m) (map (keep_parts parts) xs) × ExitsFit components count (map (keep_parts parts) xs)) (sym (drop_end keeps i e)) (All-nil (λ x. x.hypothesis < m), tt))
+    keeps_all i e L = L.all (subst (λ xs. All (λ x. x.hypothesis < m) (map (keep_parts parts) xs) × ExitsFit components count (map (keep_parts parts) xs))
+        (sym (drop_end keeps i e)) (All-nil (λ x. x.hypothesis < m), tt))
 
 -- the hypotheses of keeps
 abbrev pub kept_of : {F : Type 0} → List (KeepProof F) → List ℕ
@@ -182,7 +196,8 @@ module _ {F : Type 0} (m : ℕ) (js : List ℕ) (keeps : List (KeepProof F)) whe
       pub others_more : x.hypothesis ≡ k → OthersLeft (k + 1) (at + 1)
       others_more s = record {
         within = omega arith;
-        all = λ w. L.all (other_here ∙ ap (λ j. j ∷ kept_of (drop (suc at) keeps)) s ∙ ap (λ ks. k ∷ ks) (ap (λ i. kept_of (drop i keeps)) (sym (add-one at)) ∙ w) ∙ sym (listed_in m js k p e));
+        all = λ w. L.all (other_here ∙ ap (λ j. j ∷ kept_of (drop (suc at) keeps)) s
+            ∙ ap (λ ks. k ∷ ks) (ap (λ i. kept_of (drop i keeps)) (sym (add-one at)) ∙ w) ∙ sym (listed_in m js k p e));
         rest = λ w. ap (λ i. kept_of (drop i keeps)) (add-one at) ∙ same_tail _ _ _ _ (sym other_here ∙ L.rest w ∙ listed_in m js k p e);
       }
 
@@ -215,10 +230,18 @@ module _ {F : Type 0} (m : ℕ) (js : List ℕ) (keeps : List (KeepProof F)) whe
               le i xs l z = omega (arith, length-drop i xs)
 
 -- steps and keeps of version 2
-pub fits_two : {F : Type 0} (parts : F → Parts) (c : Content) (v : ℕ) (steps : List (ProofStep F)) (keeps : List (KeepProof F)) (r : Bool) → v ≡ 2 → FitsSize (length c.names) (length c.components) (map (step_parts parts) steps) (map (keep_parts parts) keeps)
-    → Decides r (kept_of keeps ≡ others (length c.names) (hypotheses_of steps)) → Decides r (FitsCase c v (map (step_parts parts) steps) (map (keep_parts parts) keeps))
+pub fits_two : {F : Type 0} (parts : F → Parts) (c : Content) (v : ℕ) (steps : List (ProofStep F)) (keeps : List (KeepProof F)) (r : Bool) → v ≡ 2
+    → FitsSize (length c.names) (length c.components) (map (step_parts parts) steps) (map (keep_parts parts) keeps)
+    → Decides r (kept_of keeps ≡ others (length c.names) (hypotheses_of steps))
+    → Decides r (FitsCase c v (map (step_parts parts) steps) (map (keep_parts parts) keeps))
 fits_two parts c v steps keeps r e size d = (
-  λ t. record { version = inr e; size = size; none = λ o. absurd (two (sym o ∙ e)); all = λ _. names ∙ d.0 t ∙ ap (others (length c.names)) (sym listed) },
+  λ t. record {
+    version = inr e;
+    size = size;
+    none = λ o. absurd (two (sym o ∙ e));
+    all = λ _. names ∙ d.0 t
+        ∙ ap (others (length c.names)) (sym listed);
+  },
   λ h. d.1 (sym names ∙ h.all e ∙ ap (others (length c.names)) listed),
 )
   where

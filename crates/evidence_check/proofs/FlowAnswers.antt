@@ -17,7 +17,9 @@ module _ (K : Kind) (L : Loaded) (js : List ℕ) (y : ℕ → Parts) (c r : ℕ)
   abbrev sum_at : ℕ → Result Parts Event
   sum_at at = brought_sum K L js (Bound at) y at c
 
-  flow_check_is : flow_check K L js y c r ≡ (demand (not_less (sign_of (y r))) (Negative c r) >>= λ _. sum_at (at_place js r) >>= λ sum. written_at c (Bound (at_place js r)) (K.compare (y r) sum) >>= λ order. demand (is_le order) (Exceeds c r))
+  flow_check_is : flow_check K L js y c
+      r ≡ (demand (not_less (sign_of (y r))) (Negative c r) >>= λ _. sum_at (at_place js r) >>= λ sum. written_at c (Bound (at_place js r))
+      (K.compare (y r) sum) >>= λ order. demand (is_le order) (Exceeds c r))
   unfolding flow_check
   flow_check_is = refl
 
@@ -42,9 +44,12 @@ module _ (K : Kind) (L : Loaded) (js : List ℕ) (y : ℕ → Parts) (c r : ℕ)
         pub order_refused : (e : Event) → written_at c (Bound at) (K.compare flow sum) ≡ Err e → flow_check K L js y c r ≡ Err e
         order_refused e h = rw (flow_check_is, ← tested, d, summed, ← compared_is, h) refl
 
-        pub flow_done : (order : Ordering) → written_at c (Bound at) (K.compare flow sum) ≡ Ok order → flow_check K L js y c r ≡ demand (is_le order) (Exceeds c r)
+        pub flow_done : (order : Ordering) → written_at c (Bound at) (K.compare flow sum) ≡ Ok order
+            → flow_check K L js y c r ≡ demand (is_le order) (Exceeds c r)
         flow_done order h = rw (flow_check_is, ← tested, d, summed, ← compared_is, h) refl
 
 -- as many flows as earlier steps, and those of a component
-pub flows_are : (K : Kind) (L : Loaded) (js : List ℕ) (c n : ℕ) (xs ys : List Parts) (r : Result (Unit {0}) Event) → n ≡ length js → xs ≡ ys → r ≡ all_below n (flow_check K L js (numbers_at K xs) c) → r ≡ all_below (length js) (flow_check K L js (numbers_at K ys) c)
-flows_are K L js c n xs ys r m e h = h ∙ ap (λ n. all_below n (flow_check K L js (numbers_at K xs) c)) m ∙ ap (λ xs. all_below (length js) (flow_check K L js (numbers_at K xs) c)) e
+pub flows_are : (K : Kind) (L : Loaded) (js : List ℕ) (c n : ℕ) (xs ys : List Parts) (r : Result (Unit {0}) Event) → n ≡ length js → xs ≡ ys
+    → r ≡ all_below n (flow_check K L js (numbers_at K xs) c) → r ≡ all_below (length js) (flow_check K L js (numbers_at K ys) c)
+flows_are K L js c n xs ys r m e h = h ∙ ap (λ n. all_below n (flow_check K L js (numbers_at K xs) c)) m
+    ∙ ap (λ xs. all_below (length js) (flow_check K L js (numbers_at K xs) c)) e

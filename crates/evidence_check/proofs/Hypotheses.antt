@@ -17,7 +17,8 @@ module _ {F : Type 0} (steps : List (ProofStep F)) (e : ℕ) (s : ProofStep F) (
   at_step = get_or-map (λ s. s.hypothesis) steps e s 0 p
 
   pub step_below : (m : ℕ) → IsOrder m whole (hypotheses_of steps) → (get_or steps e s).hypothesis < m
-  step_below m o = subst (λ j. j < m) at_step (place_below m (hypotheses_of steps) whole o e (subst (λ n. e < n) (sym (length-map steps (λ s. s.hypothesis))) p))
+  step_below m o = subst (λ j. j < m) at_step
+      (place_below m (hypotheses_of steps) whole o e (subst (λ n. e < n) (sym (length-map steps (λ s. s.hypothesis))) p))
 
 pub as_many : {F : Type 0} (steps : List (ProofStep F)) → length steps ≡ length (hypotheses_of steps)
 as_many steps = sym (length-map steps (λ s. s.hypothesis))
@@ -27,8 +28,10 @@ pub one_longer : {A : Type 0} (xs : List A) (x : A) → length (xs ++ x ∷ []) 
 one_longer xs x = length_push xs x ∙ add-one (length xs)
 
 -- the hypotheses are the same, whatever the numbers
-pub same_hypotheses : {F : Type 0} (parts : F → Parts) (steps : List (ProofStep F)) → hypotheses_of steps ≡ map (λ s. s.hypothesis) (map (step_parts parts) steps)
+pub same_hypotheses : {F : Type 0} (parts : F → Parts) (steps : List (ProofStep F))
+    → hypotheses_of steps ≡ map (λ s. s.hypothesis) (map (step_parts parts) steps)
 same_hypotheses parts steps = sym (map-map (λ s. s.hypothesis) (step_parts parts) steps)
 
-pub same_kept : {F : Type 0} (parts : F → Parts) (keeps : List (KeepProof F)) → map (λ x. x.hypothesis) keeps ≡ map (λ x. x.hypothesis) (map (keep_parts parts) keeps)
+pub same_kept : {F : Type 0} (parts : F → Parts) (keeps : List (KeepProof F))
+    → map (λ x. x.hypothesis) keeps ≡ map (λ x. x.hypothesis) (map (keep_parts parts) keeps)
 same_kept parts keeps = sym (map-map (λ x. x.hypothesis) (keep_parts parts) keeps)

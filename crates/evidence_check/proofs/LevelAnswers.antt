@@ -12,7 +12,8 @@ use Rattle.evidence_check.specs.WrittenCheck.{added, shared_sum, level_by}
 use Rattle.evidence_check.specs.CaseCheck.{share_in, loaded_case}
 
 module _ (K : Kind) (n : Numbers) (c : Content) (k : ℕ) where
-  pub shared_is : (limits : List Parts) → added plain (λ c. c) (Level k) plain.zero (share_in c) (numbers_at plain limits) (length c.components) ≡ shared_sum (loaded_case K n c) k limits
+  pub shared_is : (limits : List Parts) → added plain (λ c. c) (Level k) plain.zero (share_in c) (numbers_at plain limits)
+      (length c.components) ≡ shared_sum (loaded_case K n c) k limits
   unfolding shared_sum loaded_case
   shared_is limits = refl
 

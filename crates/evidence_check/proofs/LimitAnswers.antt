@@ -7,6 +7,7 @@ use Rattle.fraction.specs.Plain.{single}
 use Rattle.evidence_check.specs.EvidenceParts.{numbers_at}
 use Rattle.evidence_check.specs.WrittenCheck.{Loaded, brought_sum, level_limit}
 
-pub limit_is : (K : Kind) (L : Loaded) (js : List ℕ) (xs ys : List Parts) (same : xs ≡ ys) (k c : ℕ) → ok_map (λ x. single (limit_terms x)) (brought_sum K L js (Level k) (numbers_at K xs) k c) ≡ level_limit K L js (numbers_at K ys) k c
+pub limit_is : (K : Kind) (L : Loaded) (js : List ℕ) (xs ys : List Parts) (same : xs ≡ ys) (k c : ℕ)
+    → ok_map (λ x. single (limit_terms x)) (brought_sum K L js (Level k) (numbers_at K xs) k c) ≡ level_limit K L js (numbers_at K ys) k c
 unfolding level_limit
 limit_is K L js xs ys e k c = ap (λ ys. ok_map (λ x. single (limit_terms x)) (brought_sum K L js (Level k) (numbers_at K ys) k c)) e

@@ -11,7 +11,8 @@ use Rattle.evidence_check.specs.CheckSteps.{written_at}
 use Rattle.evidence_check.specs.CaseCheck.{written_edge, edge_load}
 use Rattle.evidence_check.proofs.AddedSteps.{written_map}
 
-module _ {F : Type 0} (v : F → Parts) (n : Numbers) (c : Content) (k l j : ℕ) (r : Result F TooWide) (e : ok_map v r ≡ loaded_edge n (entry_at (length c.names) (component_at c.components k).edges l j)) where
+module _ {F : Type 0} (v : F → Parts) (n : Numbers) (c : Content) (k l j : ℕ) (r : Result F TooWide)
+    (e : ok_map v r ≡ loaded_edge n (entry_at (length c.names) (component_at c.components k).edges l j)) where
   load_is : edge_load n c k l j ≡ ok_map (λ _. tt) (ok_map v (written_at k (Edge l j) r))
   unfolding edge_load written_edge
   load_is = ap (λ r. ok_map (λ _. tt) (written_at k (Edge l j) r)) (sym e) ∙ ap (ok_map (λ _. tt)) (sym (written_map v k (Edge l j) r))

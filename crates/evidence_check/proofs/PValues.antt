@@ -10,7 +10,8 @@ use Rattle.case_model.specs.Content.{IfSingle}
 use Rattle.case_model.specs.Sums.{zero_ratio, ratio_at, number_at}
 use Rattle.evidence_check.specs.CaseCheck.{p_values_of}
 
-pub p_at : (m : ℕ) (i r : Inputs) (ps qs : List Ratio) (k : ℕ) (x : Ratio) → r ≡ i → r ≡ Single ps → IfSingle r (ArePValues m) → qs ≡ ps → k < m → x ≡ get_or qs k x → number_of x ≡ number_at (p_values_of i) k
+pub p_at : (m : ℕ) (i r : Inputs) (ps qs : List Ratio) (k : ℕ) (x : Ratio) → r ≡ i → r ≡ Single ps → IfSingle r (ArePValues m) → qs ≡ ps
+    → k < m → x ≡ get_or qs k x → number_of x ≡ number_at (p_values_of i) k
 unfolding ratio_at
 p_at m i r ps qs k x e s v q p h =
     let A : ArePValues m ps = subst (λ r. IfSingle r (ArePValues m)) s v in

@@ -1,5 +1,6 @@
 -- Stored numbers are read from their texts.
-use Rattle.std.proofs.Common.{◌≡◌, ◌≢◌, refl, sym, ap, ap₂, subst, ◌∙◌, inl, inr, ℕ, Bool, true, false, List, [], ◌∷◌, Option, Some, None, arith}
+use Rattle.std.proofs.Common.{◌≡◌, ◌≢◌, refl, sym, ap, ap₂, subst, ◌∙◌, inl, inr, ℕ, Bool, true, false, List, [], ◌∷◌, Option, Some}
+use Rattle.std.proofs.Common.{None, arith}
 use Rattle.std.specs.Prelude.{◌==◌, ◌||◌, ℤ, pos}
 use Rattle.std.specs.List.{list_any, AllByRecursion}
 use Rattle.std.proofs.lemmas.Bool.Decides.{Decides-eqb}
@@ -65,7 +66,8 @@ module _ (x : Parts) (f : IsFraction x) where
   nonzero e = let p = f.reduced.positive in absurd (omega (arith, ints))
 
   lowest : lowest_terms (coefficient (monomial (pair_of x).num 0) 0) (coefficient (monomial (pair_of x).den 0) 0) ≡ pair_of x
-  lowest = ap₂ lowest_terms (num_at (pair_of x).num) (num_at (pair_of x).den) ∙ lowest_any (pair_of x) (pair_of x).num (pair_of x).den f.reduced nonzero refl
+  lowest = ap₂ lowest_terms (num_at (pair_of x).num) (num_at (pair_of x).den)
+      ∙ lowest_any (pair_of x) (pair_of x).num (pair_of x).den f.reduced nonzero refl
 
   short : ¬ HasWidePart (pair_of x)
   short (inl h) = let p = f.reduced.num_size in omega arith
@@ -83,7 +85,8 @@ module _ (x : Parts) (f : IsFraction x) where
   plain_text = record {
     no_bracket = no_bracket (spelling (pair_of x)) (spelling_bytes (pair_of x) f.reduced);
     quotient = term 0 (pair_of x);
-    says = subst (λ s. IsTextOf s (term 0 (pair_of x))) (term_text (pair_of x)) (text_of_quotient (term 0 (pair_of x)) (term_stored 0 (pair_of x) (omega arith) f.reduced));
+    says = subst (λ s. IsTextOf s (term 0 (pair_of x))) (term_text (pair_of x))
+        (text_of_quotient (term 0 (pair_of x)) (term_stored 0 (pair_of x) (omega arith) f.reduced));
     constant = constant;
   }
 
@@ -93,7 +96,9 @@ same_some x y r e f = cc
 -- a text has one fraction
 plain_once : (text : List ℕ) (x z : Parts) → IsPlainTextOf text x → IsPlainTextOf text z → z ≡ x
 plain_once text x z p q =
-    q.constant.lowest ∙ ap (λ y. single (lowest_terms (coefficient y.numerator 0) (coefficient y.denominator 0))) (same_some q.quotient p.quotient (quotient_in text) (quotient_once text q.quotient q.says) (quotient_once text p.quotient p.says)) ∙ sym p.constant.lowest
+    q.constant.lowest ∙ ap (λ y. single (lowest_terms (coefficient y.numerator 0) (coefficient y.denominator 0)))
+    (same_some q.quotient p.quotient (quotient_in text) (quotient_once text q.quotient q.says) (quotient_once text p.quotient p.says))
+    ∙ sym p.constant.lowest
 
 fraction_printed : (x : Parts) → IsFraction x → fraction_of_text (spelling (pair_of x)) ≡ Some x
 fraction_printed x f = by (fraction_of_text (spelling (pair_of x))) (plain_is (spelling (pair_of x)))

@@ -1,5 +1,6 @@
 -- The check of a step, and that of a keep, step by step.
-use Rattle.std.proofs.Common.{◌≡◌, ◌↔◌, refl, sym, ap, ◌∙◌, ℕ, Bool, true, false, not, List, [], ◌∷◌, length, Result, Ok, Err, ◌==◌, ◌||◌, arith}
+use Rattle.std.proofs.Common.{◌≡◌, ◌↔◌, refl, sym, ap, ◌∙◌, ℕ, Bool, true, false, not, List, [], ◌∷◌, length, Result, Ok, Err}
+use Rattle.std.proofs.Common.{◌==◌, ◌||◌, arith}
 use Rattle.std.proofs.lemmas.Bool.Decides.{nat_tests}
 use Rattle.std.specs.Prelude.{IsTrue}
 use Rattle.std.specs.List.{list_any}
@@ -39,9 +40,11 @@ same_number i j = grind (arith, nat_tests)
 
 pub listed_is : {F : Type 0} (steps : List (ProofStep F)) (j : ℕ) → list_any (λ s. s.hypothesis == j) steps ≡ set_of (hypotheses_of steps) j
 listed_is [] j = refl
-listed_is (s ∷ steps) j = ap (λ b. b || list_any (λ s. s.hypothesis == j) steps) (same_number s.hypothesis j) ∙ ap (λ b. (j == s.hypothesis) || b) (listed_is steps j)
+listed_is (s ∷ steps) j = ap (λ b. b || list_any (λ s. s.hypothesis == j) steps) (same_number s.hypothesis j)
+    ∙ ap (λ b. (j == s.hypothesis) || b) (listed_is steps j)
 
-pub above_is : (x z : Ratio) → fraction_parts z ≡ plain.zero → is_gt (int_cmp (x.num *ℤ z.den) (z.num *ℤ x.den)) ≡ is_above_zero (value_of (fraction_parts x))
+pub above_is : (x z : Ratio) → fraction_parts z ≡ plain.zero
+    → is_gt (int_cmp (x.num *ℤ z.den) (z.num *ℤ x.den)) ≡ is_above_zero (value_of (fraction_parts x))
 unfolding is_above_zero
 above_is x z e = above_zero_is x z e ∙ ap (λ v. not (at_most v number_zero)) (sym (value_single (terms x)))
 
@@ -50,12 +53,14 @@ same_test true d h k = sym (h refl)
 same_test false true h k = k refl
 same_test false false h k = refl
 
-pub pass_is : (K : Kind) (n : Numbers) (c : Content) (k : ℕ) (level : Ratio) (b : Bool) (p a : Ratio) → number_of p ≡ number_at (p_values_of c.inputs) k → a ≡ c.alpha → IsTrue b ↔ Passes (number_of p) (number_of level) (number_of a)
+pub pass_is : (K : Kind) (n : Numbers) (c : Content) (k : ℕ) (level : Ratio) (b : Bool) (p a : Ratio) → number_of p ≡ number_at (p_values_of c.inputs) k
+    → a ≡ c.alpha → IsTrue b ↔ Passes (number_of p) (number_of level) (number_of a)
     → b ≡ does_pass ((loaded_case K n c).p k) (value_of (fraction_parts level)) (loaded_case K n c).alpha
 unfolding loaded_case
 pass_is K n c k level b p a e f t =
     same_test b (does_pass (number_of p) (number_of level) (number_of a)) (λ h. pass_tested _ _ _ (t.0 h)) (λ h. t.1 (tested_pass _ _ _ h))
-    ∙ ap (λ x. does_pass x (number_of level) (number_of a)) e ∙ ap (λ v. does_pass (number_at (p_values_of c.inputs) k) v (number_of a)) (sym (value_single (terms level)))
+    ∙ ap (λ x. does_pass x (number_of level) (number_of a)) e
+    ∙ ap (λ v. does_pass (number_at (p_values_of c.inputs) k) v (number_of a)) (sym (value_single (terms level)))
     ∙ ap (λ a. does_pass (number_at (p_values_of c.inputs) k) (value_of (fraction_parts level)) (number_of a)) f
 
 -- ---- a step
@@ -67,7 +72,9 @@ module _ (K : Kind) (L : Loaded) (js : List ℕ) (s : StepParts) where
   abbrev pub level_there : Result Parts Event
   level_there = level_by L s.hypothesis (λ c. level_limit K L js (part_at K s.flows c) s.hypothesis c)
 
-  step_check_is : step_check K L js s ≡ (demand (not (set_of js s.hypothesis)) Repeated >>= λ _. all_flows >>= λ _. level_there >>= λ level. demand (is_above_zero (value_of level)) NoLevel >>= λ _. demand (does_pass (L.p s.hypothesis) (value_of level) L.alpha) AboveLevel)
+  step_check_is : step_check K L js
+      s ≡ (demand (not (set_of js s.hypothesis)) Repeated >>= λ _. all_flows >>= λ _. level_there >>= λ level. demand
+      (is_above_zero (value_of level)) NoLevel >>= λ _. demand (does_pass (L.p s.hypothesis) (value_of level) L.alpha) AboveLevel)
   unfolding step_check
   step_check_is = refl
 
@@ -94,7 +101,8 @@ module _ (K : Kind) (L : Loaded) (js : List ℕ) (s : StepParts) where
         pub no_level : (e : Event) → demand (is_above_zero (value_of level)) NoLevel ≡ Err e → step_check K L js s ≡ Err e
         no_level e h = rw (step_check_is, d, f, l, h) refl
 
-        pub step_done : (v : Unit {0}) → demand (is_above_zero (value_of level)) NoLevel ≡ Ok v → step_check K L js s ≡ demand (does_pass (L.p s.hypothesis) (value_of level) L.alpha) AboveLevel
+        pub step_done : (v : Unit {0}) → demand (is_above_zero (value_of level)) NoLevel ≡ Ok v
+            → step_check K L js s ≡ demand (does_pass (L.p s.hypothesis) (value_of level) L.alpha) AboveLevel
         step_done v h = rw (step_check_is, d, f, l, h) refl
 
 -- ---- a keep
@@ -106,7 +114,8 @@ module _ (K : Kind) (L : Loaded) (js : List ℕ) (x : KeepParts) where
   abbrev pub level_kept : Result Parts Event
   level_kept = level_by L x.hypothesis (λ c. allowed_limit K L js (part_at K x.exits c) x.hypothesis c)
 
-  keep_check_is : keep_check K L js x ≡ (all_exits >>= λ _. level_kept >>= λ level. demand (not (does_pass (L.p x.hypothesis) (value_of level) L.alpha)) Legal)
+  keep_check_is : keep_check K L js
+      x ≡ (all_exits >>= λ _. level_kept >>= λ level. demand (not (does_pass (L.p x.hypothesis) (value_of level) L.alpha)) Legal)
   unfolding keep_check
   keep_check_is = refl
 
@@ -117,5 +126,6 @@ module _ (K : Kind) (L : Loaded) (js : List ℕ) (x : KeepParts) where
     pub kept_refused : (e : Event) → level_kept ≡ Err e → keep_check K L js x ≡ Err e
     kept_refused e h = rw (keep_check_is, f, h) refl
 
-    pub keep_done : (level : Parts) → level_kept ≡ Ok level → keep_check K L js x ≡ demand (not (does_pass (L.p x.hypothesis) (value_of level) L.alpha)) Legal
+    pub keep_done : (level : Parts) → level_kept ≡ Ok level
+        → keep_check K L js x ≡ demand (not (does_pass (L.p x.hypothesis) (value_of level) L.alpha)) Legal
     keep_done level l = rw (keep_check_is, f, l) refl

@@ -1,5 +1,6 @@
 -- Steps and keeps are checked one after the other.
-use Rattle.std.proofs.Common.{◌≡◌, refl, sym, ap, ap₂, subst, ◌∙◌, ℕ, zero, suc, ◌+◌, ◌<◌, false, List, [], ◌∷◌, ◌++◌, map, take, drop, length, get_or, Result, Ok, Err, add-one, arith}
+use Rattle.std.proofs.Common.{◌≡◌, refl, sym, ap, ap₂, subst, ◌∙◌, ℕ, zero, suc, ◌+◌, ◌<◌, false, List, [], ◌∷◌, ◌++◌, map}
+use Rattle.std.proofs.Common.{take, drop, length, get_or, Result, Ok, Err, add-one, arith}
 use Rattle.std.proofs.lemmas.List.{map-append, length-map, get_or-map}
 use Rattle.std.specs.List.{All}
 use Rattle.std.proofs.Math.Seq.{take-suc}
@@ -65,31 +66,41 @@ module _ {F : Type 0} (parts : F → Parts) (K : Kind) (L : Loaded) (m component
     step_full = subst (λ n. AreFull components n (map (map parts) s.flows)) (sym (take_count steps i p)) step_fits.0
 
     pub step_known : All (λ s. s.hypothesis < m) (map (step_parts parts) steps) → s.hypothesis < m
-    step_known all = subst (λ s. s.hypothesis < m) (sym (ap (step_parts parts) h)) (subst (λ s. s.hypothesis < m) (get_or-map (step_parts parts) steps i s (step_parts parts s) p) (all i (step_parts parts s) (subst (λ n. i < n) (sym (length-map steps (step_parts parts))) p)))
+    step_known all = subst (λ s. s.hypothesis < m) (sym (ap (step_parts parts) h))
+        (subst (λ s. s.hypothesis < m) (get_or-map (step_parts parts) steps i s (step_parts parts s) p)
+        (all i (step_parts parts s) (subst (λ n. i < n) (sym (length-map steps (step_parts parts))) p)))
 
     many : length (hypotheses_of (take i steps)) ≡ i
     many = length-map (take i steps) (λ s. s.hypothesis) ∙ take_count steps i p
 
-    ahead_is : steps_check K L [] (map (step_parts parts) steps) ≡ (numbered (i + 1) (step_check K L (hypotheses_of (take i steps)) (step_parts parts s)) >>= λ _. steps_check K L (hypotheses_of (take i steps) ++ s.hypothesis ∷ []) (map (step_parts parts) (drop (suc i) steps)))
+    ahead_is : steps_check K L []
+        (map (step_parts parts) steps) ≡ (numbered (i + 1) (step_check K L (hypotheses_of (take i steps)) (step_parts parts s)) >>= λ _. steps_check K L
+        (hypotheses_of (take i steps) ++ s.hypothesis ∷ []) (map (step_parts parts) (drop (suc i) steps)))
     unfolding steps_check
     ahead_is = C.ahead ∙ ap (λ ss. steps_check K L (hypotheses_of (take i steps)) (map (step_parts parts) ss)) here
-        ∙ ap (λ n. numbered (n + 1) (step_check K L (hypotheses_of (take i steps)) (step_parts parts s)) >>= λ _. steps_check K L (hypotheses_of (take i steps) ++ s.hypothesis ∷ []) (map (step_parts parts) (drop (suc i) steps))) many
+        ∙ ap (λ n. numbered (n + 1) (step_check K L (hypotheses_of (take i steps)) (step_parts parts s)) >>= λ _. steps_check K L
+        (hypotheses_of (take i steps) ++ s.hypothesis ∷ []) (map (step_parts parts) (drop (suc i) steps))) many
 
-    pub steps_stop : (e : EventAt) → numbered (i + 1) (step_check K L (hypotheses_of (take i steps)) (step_parts parts s)) ≡ Err e → steps_check K L [] (map (step_parts parts) steps) ≡ Err e
+    pub steps_stop : (e : EventAt) → numbered (i + 1) (step_check K L (hypotheses_of (take i steps)) (step_parts parts s)) ≡ Err e
+        → steps_check K L [] (map (step_parts parts) steps) ≡ Err e
     steps_stop e w = rw (ahead_is, w) refl
 
     one_more : hypotheses_of (take (suc i) steps) ≡ hypotheses_of (take i steps) ++ s.hypothesis ∷ []
-    one_more = ap hypotheses_of (take-suc steps i s p) ∙ map-append (λ s. s.hypothesis) (take i steps) (get_or steps i s ∷ []) ∙ ap (λ s. hypotheses_of (take i steps) ++ s.hypothesis ∷ []) (sym h)
+    one_more = ap hypotheses_of (take-suc steps i s p) ∙ map-append (λ s. s.hypothesis) (take i steps) (get_or steps i s ∷ [])
+        ∙ ap (λ s. hypotheses_of (take i steps) ++ s.hypothesis ∷ []) (sym h)
 
     done : (r : Result (Unit {0}) Event) (u : Unit {0}) → numbered (i + 1) r ≡ Ok u → r ≡ Ok tt
     unfolding numbered
     done (Ok v) u w = refl
     done (Err e) u w = absurd (cc)
 
-    pub steps_next : (u : Unit {0}) → s.hypothesis < m → numbered (i + 1) (step_check K L (hypotheses_of (take i steps)) (step_parts parts s)) ≡ Ok u → Checked (i + 1)
+    pub steps_next : (u : Unit {0}) → s.hypothesis < m → numbered (i + 1) (step_check K L (hypotheses_of (take i steps)) (step_parts parts s)) ≡ Ok u
+        → Checked (i + 1)
     steps_next u below w = subst Checked (sym (add-one i)) (record {
       ahead = rw (ahead_is, w) (ap (λ js. steps_check K L js (map (step_parts parts) (drop (suc i) steps))) (sym one_more));
-      order = subst (IsOrder m whole) (sym one_more) (removals_next m (hypotheses_of (take i steps)) s.hypothesis whole C.order (record { below = below; member = not_listed_left (hypotheses_of (take i steps)) whole s.hypothesis refl new }));
+      order = subst (IsOrder m whole) (sym one_more)
+          (removals_next m (hypotheses_of (take i steps)) s.hypothesis whole C.order
+          (record { below = below; member = not_listed_left (hypotheses_of (take i steps)) whole s.hypothesis refl new }));
       fit = step_fits.1;
     })
       where
@@ -123,13 +134,18 @@ module _ {F : Type 0} (parts : F → Parts) (K : Kind) (L : Loaded) (js : List �
     keep_fits = subst (λ xs. ExitsFit components count (map (keep_parts parts) xs)) keep_here C.fit
 
     pub keep_known : All (λ x. x.hypothesis < m) (map (keep_parts parts) keeps) → x.hypothesis < m
-    keep_known all = subst (λ x. x.hypothesis < m) (sym (ap (keep_parts parts) h)) (subst (λ x. x.hypothesis < m) (get_or-map (keep_parts parts) keeps i x (keep_parts parts x) p) (all i (keep_parts parts x) (subst (λ n. i < n) (sym (length-map keeps (keep_parts parts))) p)))
+    keep_known all = subst (λ x. x.hypothesis < m) (sym (ap (keep_parts parts) h))
+        (subst (λ x. x.hypothesis < m) (get_or-map (keep_parts parts) keeps i x (keep_parts parts x) p)
+        (all i (keep_parts parts x) (subst (λ n. i < n) (sym (length-map keeps (keep_parts parts))) p)))
 
-    kept_is : keeps_check K L js n (map (keep_parts parts) keeps) ≡ (numbered (n + i + 1) (keep_check K L js (keep_parts parts x)) >>= λ _. keeps_check K L js (n + i + 1) (map (keep_parts parts) (drop (suc i) keeps)))
+    kept_is : keeps_check K L js n
+        (map (keep_parts parts) keeps) ≡ (numbered (n + i + 1) (keep_check K L js (keep_parts parts x)) >>= λ _. keeps_check K L js (n + i + 1)
+        (map (keep_parts parts) (drop (suc i) keeps)))
     unfolding keeps_check
     kept_is = C.ahead ∙ ap (λ xs. keeps_check K L js (n + i) (map (keep_parts parts) xs)) keep_here
 
-    pub keeps_stop : (e : EventAt) → numbered (n + i + 1) (keep_check K L js (keep_parts parts x)) ≡ Err e → keeps_check K L js n (map (keep_parts parts) keeps) ≡ Err e
+    pub keeps_stop : (e : EventAt) → numbered (n + i + 1) (keep_check K L js (keep_parts parts x)) ≡ Err e
+        → keeps_check K L js n (map (keep_parts parts) keeps) ≡ Err e
     keeps_stop e w = rw (kept_is, w) refl
 
     more : (n i : ℕ) → n + i + 1 ≡ n + suc i

@@ -9,12 +9,15 @@ use Rattle.evidence_check.specs.Evidence.{at_place}
 use Rattle.evidence_check.specs.declared.event.Event.{Event}
 use Rattle.evidence_check.specs.WrittenCheck.{Loaded, added, brought_sum, leaving_sum, allowed_sum}
 
-module _ (K : Kind) (L : Loaded) (js : List ℕ) (y : ℕ → Parts) (c k : ℕ) (r : Result Parts Event) (start : Parts) (n : ℕ) (many : n ≡ length js) where
-  pub brought_is : (place : Place) → start ≡ L.weight c k → r ≡ added K (λ _. c) place start y (λ e. L.edge c (at_place js e) k) n → r ≡ brought_sum K L js place y k c
+module _ (K : Kind) (L : Loaded) (js : List ℕ) (y : ℕ → Parts) (c k : ℕ) (r : Result Parts Event) (start : Parts) (n : ℕ)
+    (many : n ≡ length js) where
+  pub brought_is : (place : Place) → start ≡ L.weight c k → r ≡ added K (λ _. c) place start y (λ e. L.edge c (at_place js e) k) n
+      → r ≡ brought_sum K L js place y k c
   unfolding brought_sum
   brought_is place s h = h ∙ ap₂ (λ s n. added K (λ _. c) place s y (λ e. L.edge c (at_place js e) k) n) s many
 
-  pub leaving_is : (l e : ℕ) → l ≡ at_place js e → start ≡ L.edge c l k → r ≡ added K (λ _. c) (Exit l k) start (λ e. L.edge c l (at_place js e)) y n → r ≡ leaving_sum K L js y k c e
+  pub leaving_is : (l e : ℕ) → l ≡ at_place js e → start ≡ L.edge c l k
+      → r ≡ added K (λ _. c) (Exit l k) start (λ e. L.edge c l (at_place js e)) y n → r ≡ leaving_sum K L js y k c e
   unfolding leaving_sum
   leaving_is l e p s h =
       h ∙ ap₂ (λ s n. added K (λ _. c) (Exit l k) s (λ e. L.edge c l (at_place js e)) y n) s many

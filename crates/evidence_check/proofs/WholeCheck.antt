@@ -1,5 +1,6 @@
 -- The whole check: all steps, and then all keeps.
-use Rattle.std.proofs.Common.{◌≡◌, refl, sym, ap, subst, ◌∙◌, ℕ, zero, suc, ◌+◌, ◌<◌, List, [], ◌∷◌, ◌++◌, length, get_or, map, arith}
+use Rattle.std.proofs.Common.{◌≡◌, refl, sym, ap, subst, ◌∙◌, ℕ, zero, suc, ◌+◌, ◌<◌, List, [], ◌∷◌, ◌++◌, length, get_or, map}
+use Rattle.std.proofs.Common.{arith}
 use Rattle.std.specs.List.{All}
 use Rattle.field_core.specs.Sets.{whole}
 use Rattle.field_core.specs.Runs.{IsOrder}
@@ -41,7 +42,8 @@ all_both P x xs h g = at
     at zero d p = h
     at (suc i) d p = g i d (omega arith)
 
-module _ (K : Kind) (IsStored : Parts → Type 0) (X : IsExact K IsStored) (L : Loaded) (E : EntangledGraph) (V : IsValidEntangled E) (D : IsLoaded IsStored L E) where
+module _ (K : Kind) (IsStored : Parts → Type 0) (X : IsExact K IsStored) (L : Loaded) (E : EntangledGraph) (V : IsValidEntangled E)
+    (D : IsLoaded IsStored L E) where
   abbrev GoodSteps : List ℕ → List StepParts → Type 0
   GoodSteps js ss = AreGoodSteps E L.p L.alpha js (map (step_values K) ss)
 
@@ -54,33 +56,44 @@ module _ (K : Kind) (IsStored : Parts → Type 0) (X : IsExact K IsStored) (L : 
     order : IsOrder E.hypotheses whole ks
     is : ks ≡ js ++ listed (map (step_values K) ss)
 
-  steps_tell : (ss : List StepParts) (js : List ℕ) → IsOrder E.hypotheses whole js → All (λ s. s.hypothesis < E.hypotheses) ss → All (λ s. (c e : ℕ) → IsStored (part_at K s.flows c e)) ss → TellsAt (steps_check K L js ss) (After js ss) (¬ GoodSteps js ss)
+  steps_tell : (ss : List StepParts) (js : List ℕ) → IsOrder E.hypotheses whole js → All (λ s. s.hypothesis < E.hypotheses) ss
+      → All (λ s. (c e : ℕ) → IsStored (part_at K s.flows c e)) ss → TellsAt (steps_check K L js ss) (After js ss) (¬ GoodSteps js ss)
   unfolding steps_check
   steps_tell [] js o B S = tells_ok_at js _ _ (record { good = tt; order = o; is = sym (append_none js) })
   steps_tell (s ∷ ss) js o B S =
-      let T = step_tells K IsStored X L E V D js o s (all_first (λ s. s.hypothesis < E.hypotheses) s ss B) (all_first (λ s. (c e : ℕ) → IsStored (part_at K s.flows c e)) s ss S) in
-      tells_bind_at (numbered (length js + 1) (step_check K L js s)) _ (λ _. IsGoodStep E L.p L.alpha js (step_values K s)) (After js (s ∷ ss)) (¬ GoodSteps js (s ∷ ss))
-      (tells_if_at (numbered (length js + 1) (step_check K L js s)) _ _ _ _ (λ _ g. g) (λ b g. b g.0) (numbered_tells (length js + 1) (step_check K L js s) _ _ T))
+      let T = step_tells K IsStored X L E V D js o s (all_first (λ s. s.hypothesis < E.hypotheses) s ss B)
+      (all_first (λ s. (c e : ℕ) → IsStored (part_at K s.flows c e)) s ss S) in
+      tells_bind_at (numbered (length js + 1) (step_check K L js s)) _ (λ _. IsGoodStep E L.p L.alpha js (step_values K s)) (After js (s ∷ ss))
+      (¬ GoodSteps js (s ∷ ss))
+      (tells_if_at (numbered (length js + 1) (step_check K L js s)) _ _ _ _ (λ _ g. g) (λ b g. b g.0)
+      (numbered_tells (length js + 1) (step_check K L js s) _ _ T))
       (λ _ G. tells_if_at (steps_check K L (js ++ s.hypothesis ∷ []) ss) _ _ _ _
       (λ ks A. record { good = (G, A.good); order = A.order; is = A.is ∙ append_more js s.hypothesis (listed (map (step_values K) ss)) })
       (λ b g. b g.1)
-      (steps_tell ss (js ++ s.hypothesis ∷ []) (removals_next E.hypotheses js s.hypothesis whole o (record { below = G.below; member = not_listed_left js whole s.hypothesis refl G.new })) (all_rest (λ s. s.hypothesis < E.hypotheses) s ss B) (all_rest (λ s. (c e : ℕ) → IsStored (part_at K s.flows c e)) s ss S)))
+      (steps_tell ss (js ++ s.hypothesis ∷ [])
+      (removals_next E.hypotheses js s.hypothesis whole o (record { below = G.below; member = not_listed_left js whole s.hypothesis refl G.new }))
+      (all_rest (λ s. s.hypothesis < E.hypotheses) s ss B) (all_rest (λ s. (c e : ℕ) → IsStored (part_at K s.flows c e)) s ss S)))
 
-  keeps_tell : (xs : List KeepParts) (js : List ℕ) (n : ℕ) → IsOrder E.hypotheses whole js → All (λ x. x.hypothesis < E.hypotheses) xs → All (λ x. (c e : ℕ) → IsStored (part_at K x.exits c e)) xs → TellsAt (keeps_check K L js n xs) (λ _. GoodKeeps js xs) (¬ GoodKeeps js xs)
+  keeps_tell : (xs : List KeepParts) (js : List ℕ) (n : ℕ) → IsOrder E.hypotheses whole js → All (λ x. x.hypothesis < E.hypotheses) xs
+      → All (λ x. (c e : ℕ) → IsStored (part_at K x.exits c e)) xs → TellsAt (keeps_check K L js n xs) (λ _. GoodKeeps js xs) (¬ GoodKeeps js xs)
   unfolding keeps_check
   keeps_tell [] js n o B S = tells_ok_at tt _ _ (all_none _)
   keeps_tell (x ∷ xs) js n o B S =
       let P = IsGoodKeep E L.p L.alpha js in
-      let T = keep_tells K IsStored X L E V D js o x (all_first (λ x. x.hypothesis < E.hypotheses) x xs B) (all_first (λ x. (c e : ℕ) → IsStored (part_at K x.exits c e)) x xs S) in
+      let T = keep_tells K IsStored X L E V D js o x (all_first (λ x. x.hypothesis < E.hypotheses) x xs B)
+      (all_first (λ x. (c e : ℕ) → IsStored (part_at K x.exits c e)) x xs S) in
       tells_bind_at (numbered (n + 1) (keep_check K L js x)) _ (λ _. P (keep_values K x)) (λ _. GoodKeeps js (x ∷ xs)) (¬ GoodKeeps js (x ∷ xs))
-      (tells_if_at (numbered (n + 1) (keep_check K L js x)) _ _ _ _ (λ _ g. g) (λ b g. b (all_first P (keep_values K x) (map (keep_values K) xs) g)) (numbered_tells (n + 1) (keep_check K L js x) _ _ T))
+      (tells_if_at (numbered (n + 1) (keep_check K L js x)) _ _ _ _ (λ _ g. g) (λ b g. b (all_first P (keep_values K x) (map (keep_values K) xs) g))
+      (numbered_tells (n + 1) (keep_check K L js x) _ _ T))
       (λ _ G. tells_if_at (keeps_check K L js (n + 1) xs) _ _ _ _
       (λ _ A. all_both P (keep_values K x) (map (keep_values K) xs) G A)
       (λ b g. b (all_rest P (keep_values K x) (map (keep_values K) xs) g))
-      (keeps_tell xs js (n + 1) o (all_rest (λ x. x.hypothesis < E.hypotheses) x xs B) (all_rest (λ x. (c e : ℕ) → IsStored (part_at K x.exits c e)) x xs S)))
+      (keeps_tell xs js (n + 1) o (all_rest (λ x. x.hypothesis < E.hypotheses) x xs B)
+      (all_rest (λ x. (c e : ℕ) → IsStored (part_at K x.exits c e)) x xs S)))
 
   pub check_tells : (steps : List StepParts) (keeps : List KeepParts) → AreStoredSteps K IsStored E.hypotheses steps keeps
-      → TellsAt (written_check K L steps keeps) (λ _. MeetsConditions E L.p L.alpha (evidence_values K steps keeps)) (¬ MeetsConditions E L.p L.alpha (evidence_values K steps keeps))
+      → TellsAt (written_check K L steps keeps) (λ _. MeetsConditions E L.p L.alpha (evidence_values K steps keeps))
+      (¬ MeetsConditions E L.p L.alpha (evidence_values K steps keeps))
   unfolding written_check
   check_tells steps keeps S =
       let Meets = MeetsConditions E L.p L.alpha (evidence_values K steps keeps) in

@@ -1,5 +1,6 @@
 -- The lines of evidence say it.
-use Rattle.std.proofs.Common.{◌≡◌, refl, sym, ap, subst, ◌∙◌, ℕ, suc, ◌+◌, true, false, List, [], ◌∷◌, ◌++◌, map, length, Some, None, Ok, append_assoc, inl, inr, arith}
+use Rattle.std.proofs.Common.{◌≡◌, refl, sym, ap, subst, ◌∙◌, ℕ, suc, ◌+◌, true, false, List, [], ◌∷◌, ◌++◌, map, length, Some}
+use Rattle.std.proofs.Common.{None, Ok, append_assoc, inl, inr, arith}
 use Rattle.std.specs.Prelude.{◌⊎◌, codes}
 use Rattle.std.specs.Fmt.{decimal, digits}
 use Rattle.std.specs.Str.{bytes_eq}
@@ -13,7 +14,9 @@ use Rattle.evidence_check.specs.declared.quantity.Quantity.{Quantity}
 use Rattle.evidence_check.specs.declared.quantity.Quantity.TheVariants.{Flow, Exit}
 use Rattle.evidence_check.specs.EvidenceParts.{StepParts, KeepParts, AreFull, FlowsFit, ExitsFit}
 use Rattle.evidence_check.specs.Languages.{Lead}
-use Rattle.evidence_check.specs.Documents.{Frame, Form, SaysVersion, SaysStep, SaysNumber, SaysKeep, SaysEnd, number_forms, list_forms, step_forms, keep_forms, line_of, step_said, version_line, number_line, keep_line, end_line, Slot, ANumber, slot_line, due, keeps_due, kept_in, tail, first_line, behind_first, Stage, AtSteps, AtEnd, Place, At, read_at, next_at, evidence_language}
+use Rattle.evidence_check.specs.Documents.{Frame, Form, SaysVersion, SaysStep, SaysNumber, SaysKeep, SaysEnd, number_forms, list_forms, step_forms, keep_forms}
+use Rattle.evidence_check.specs.Documents.{line_of, step_said, version_line, number_line, keep_line, end_line, Slot, ANumber, slot_line, due, keeps_due}
+use Rattle.evidence_check.specs.Documents.{kept_in, tail, first_line, behind_first, Stage, AtSteps, AtEnd, Place, At, read_at, next_at, evidence_language}
 use Rattle.evidence_check.specs.DocumentStatements.{IsPrinted, LinesSayTheirEvidence}
 use Rattle.evidence_check.proofs.Hypotheses.{one_longer}
 use Rattle.evidence_check.proofs.LanguageLaws.{lead_on}
@@ -25,7 +28,8 @@ same_bytes xs = (bytes_eq-Decides xs xs).1 refl
 -- ---- each line is read back
 
 module _ (T : Frame) where
-  pub number_back : (q : Quantity) (c h : ℕ) (x : Parts) → IsPrinted T x → number_line T q c h (line_of T (SaysNumber q c h x)) ≡ Ok (SaysNumber q c h x)
+  pub number_back : (q : Quantity) (c h : ℕ) (x : Parts) → IsPrinted T x
+      → number_line T q c h (line_of T (SaysNumber q c h x)) ≡ Ok (SaysNumber q c h x)
   unfolding number_line
   number_back Flow c h x e = rw (same_bytes (decimal (c + 1)), same_bytes (T.name h), e) refl
   number_back Exit c h x e = rw (same_bytes (decimal (c + 1)), same_bytes (T.name h), e) refl
@@ -52,43 +56,58 @@ module _ (T : Frame) where
   Leads p fs q = Lead (evidence_language T) p (map (line_of T) fs) fs q
 
   pub leads_on : (p q r : Place) (fs gs : List Form) → Leads p fs q → Leads q gs r → Leads p (fs ++ gs) r
-  leads_on p q r fs gs h k = subst (λ ls. Lead (evidence_language T) p ls (fs ++ gs) r) (sym (map-append (line_of T) fs gs)) (lead_on (evidence_language T) p q r (map (line_of T) fs) (map (line_of T) gs) fs gs h k)
+  leads_on p q r fs gs h k = subst (λ ls. Lead (evidence_language T) p ls (fs ++ gs) r) (sym (map-append (line_of T) fs gs))
+      (lead_on (evidence_language T) p q r (map (line_of T) fs) (map (line_of T) gs) fs gs h k)
 
   -- ---- numbers
 
-  numbers_lead : (q : Quantity) (c : ℕ) (js : List ℕ) (xs : List Parts) (rest : List Slot) (stage : Stage) → length xs ≡ length js → All (IsPrinted T) xs → Leads (At (map (ANumber q c) js ++ rest) stage) (number_forms q c js xs) (At rest stage)
+  numbers_lead : (q : Quantity) (c : ℕ) (js : List ℕ) (xs : List Parts) (rest : List Slot) (stage : Stage) → length xs ≡ length js
+      → All (IsPrinted T) xs → Leads (At (map (ANumber q c) js ++ rest) stage) (number_forms q c js xs) (At rest stage)
   unfolding read_at next_at slot_line
   numbers_lead q c [] xs rest stage n h = refl
   numbers_lead q c (j ∷ js) [] rest stage n h = absurd (omega (arith, n))
-  numbers_lead q c (j ∷ js) (x ∷ xs) rest stage n h = (number_back q c j x (All-head (IsPrinted T) x xs h), numbers_lead q c js xs rest stage (omega (arith, n)) (All-tail (IsPrinted T) x xs h))
+  numbers_lead q c (j ∷ js) (x ∷ xs) rest stage n h =
+      (number_back q c j x (All-head (IsPrinted T) x xs h), numbers_lead q c js xs rest stage (omega (arith, n)) (All-tail (IsPrinted T) x xs h))
 
-  lists_lead : (q : Quantity) (c : ℕ) (js : List ℕ) (lists : List (List Parts)) (rest : List Slot) (stage : Stage) → All (λ xs. length xs ≡ length js) lists → All (All (IsPrinted T)) lists → Leads (At (due q (length lists) c js ++ rest) stage) (list_forms q c js lists) (At rest stage)
+  lists_lead : (q : Quantity) (c : ℕ) (js : List ℕ) (lists : List (List Parts)) (rest : List Slot) (stage : Stage)
+      → All (λ xs. length xs ≡ length js) lists → All (All (IsPrinted T)) lists
+      → Leads (At (due q (length lists) c js ++ rest) stage) (list_forms q c js lists) (At rest stage)
   lists_lead q c js [] rest stage n h = none rest stage
     where
       none : (rest : List Slot) (stage : Stage) → Leads (At rest stage) [] (At rest stage)
       none rest stage = refl
   lists_lead q c js (xs ∷ lists) rest stage n h =
-      subst (λ ss. Leads (At ss stage) (list_forms q c js (xs ∷ lists)) (At rest stage)) (sym (append_assoc (map (ANumber q c) js) (due q (length lists) (suc c) js) rest))
-      (leads_on (At (map (ANumber q c) js ++ (due q (length lists) (suc c) js ++ rest)) stage) (At (due q (length lists) (suc c) js ++ rest) stage) (At rest stage) (number_forms q c js xs) (list_forms q (suc c) js lists)
-      (numbers_lead q c js xs (due q (length lists) (suc c) js ++ rest) stage (All-head (λ xs. length xs ≡ length js) xs lists n) (All-head (All (IsPrinted T)) xs lists h))
+      subst (λ ss. Leads (At ss stage) (list_forms q c js (xs ∷ lists)) (At rest stage))
+      (sym (append_assoc (map (ANumber q c) js) (due q (length lists) (suc c) js) rest))
+      (leads_on (At (map (ANumber q c) js ++ (due q (length lists) (suc c) js ++ rest)) stage) (At (due q (length lists) (suc c) js ++ rest) stage)
+      (At rest stage) (number_forms q c js xs) (list_forms q (suc c) js lists)
+      (numbers_lead q c js xs (due q (length lists) (suc c) js ++ rest) stage (All-head (λ xs. length xs ≡ length js) xs lists n)
+      (All-head (All (IsPrinted T)) xs lists h))
       (lists_lead q (suc c) js lists rest stage (All-tail (λ xs. length xs ≡ length js) xs lists n) (All-tail (All (IsPrinted T)) xs lists h)))
 
-  full_lead : (q : Quantity) (m : ℕ) (js : List ℕ) (lists : List (List Parts)) (rest : List Slot) (stage : Stage) → AreFull m (length js) lists → All (All (IsPrinted T)) lists → Leads (At (due q m 0 js ++ rest) stage) (list_forms q 0 js lists) (At rest stage)
-  full_lead q m js lists rest stage f h = subst (λ m. Leads (At (due q m 0 js ++ rest) stage) (list_forms q 0 js lists) (At rest stage)) f.lists (lists_lead q 0 js lists rest stage f.each h)
+  full_lead : (q : Quantity) (m : ℕ) (js : List ℕ) (lists : List (List Parts)) (rest : List Slot) (stage : Stage) → AreFull m (length js) lists
+      → All (All (IsPrinted T)) lists → Leads (At (due q m 0 js ++ rest) stage) (list_forms q 0 js lists) (At rest stage)
+  full_lead q m js lists rest stage f h = subst (λ m. Leads (At (due q m 0 js ++ rest) stage) (list_forms q 0 js lists) (At rest stage)) f.lists
+      (lists_lead q 0 js lists rest stage f.each h)
 
   -- ---- steps
 
-  steps_lead : (v : ℕ) (js : List ℕ) (ss : List StepParts) → FlowsFit T.components (length js) ss → All (λ s. T.position (T.name s.hypothesis) ≡ Some s.hypothesis) ss → All (λ s. All (All (IsPrinted T)) s.flows) ss
+  steps_lead : (v : ℕ) (js : List ℕ) (ss : List StepParts) → FlowsFit T.components (length js) ss
+      → All (λ s. T.position (T.name s.hypothesis) ≡ Some s.hypothesis) ss → All (λ s. All (All (IsPrinted T)) s.flows) ss
       → Leads (At [] (AtSteps v js)) (step_forms js ss) (At [] (AtSteps v (js ++ map (λ s. s.hypothesis) ss)))
   unfolding read_at next_at
   steps_lead v js [] f k h = ap (λ js. At [] (AtSteps v js)) (append-nil js)
   steps_lead v js (s ∷ ss) f k h = (
     step_back s.hypothesis (All-head (λ s. T.position (T.name s.hypothesis) ≡ Some s.hypothesis) s ss k),
-    leads_on (At (due Flow T.components 0 js) (AtSteps v (js ++ s.hypothesis ∷ []))) (At [] (AtSteps v (js ++ s.hypothesis ∷ []))) (At [] (AtSteps v (js ++ s.hypothesis ∷ map (λ s. s.hypothesis) ss))) (list_forms Flow 0 js s.flows) (step_forms (js ++ s.hypothesis ∷ []) ss)
-        (subst (λ ms. Leads (At ms (AtSteps v (js ++ s.hypothesis ∷ []))) (list_forms Flow 0 js s.flows) (At [] (AtSteps v (js ++ s.hypothesis ∷ [])))) (append-nil (due Flow T.components 0 js))
+    leads_on (At (due Flow T.components 0 js) (AtSteps v (js ++ s.hypothesis ∷ []))) (At [] (AtSteps v (js ++ s.hypothesis ∷ [])))
+        (At [] (AtSteps v (js ++ s.hypothesis ∷ map (λ s. s.hypothesis) ss))) (list_forms Flow 0 js s.flows) (step_forms (js ++ s.hypothesis ∷ []) ss)
+        (subst (λ ms. Leads (At ms (AtSteps v (js ++ s.hypothesis ∷ []))) (list_forms Flow 0 js s.flows) (At [] (AtSteps v (js ++ s.hypothesis ∷ []))))
+        (append-nil (due Flow T.components 0 js))
         (full_lead Flow T.components js s.flows [] (AtSteps v (js ++ s.hypothesis ∷ [])) f.0 (All-head (λ s. All (All (IsPrinted T)) s.flows) s ss h)))
-        (subst (λ is. Leads (At [] (AtSteps v (js ++ s.hypothesis ∷ []))) (step_forms (js ++ s.hypothesis ∷ []) ss) (At [] (AtSteps v is))) (append_assoc js (s.hypothesis ∷ []) (map (λ s. s.hypothesis) ss))
-        (steps_lead v (js ++ s.hypothesis ∷ []) ss (subst (λ n. FlowsFit T.components n ss) (sym (one_longer js s.hypothesis)) f.1) (All-tail (λ s. T.position (T.name s.hypothesis) ≡ Some s.hypothesis) s ss k) (All-tail (λ s. All (All (IsPrinted T)) s.flows) s ss h))),
+        (subst (λ is. Leads (At [] (AtSteps v (js ++ s.hypothesis ∷ []))) (step_forms (js ++ s.hypothesis ∷ []) ss) (At [] (AtSteps v is)))
+        (append_assoc js (s.hypothesis ∷ []) (map (λ s. s.hypothesis) ss))
+        (steps_lead v (js ++ s.hypothesis ∷ []) ss (subst (λ n. FlowsFit T.components n ss) (sym (one_longer js s.hypothesis)) f.1)
+        (All-tail (λ s. T.position (T.name s.hypothesis) ≡ Some s.hypothesis) s ss k) (All-tail (λ s. All (All (IsPrinted T)) s.flows) s ss h))),
   )
 
   -- ---- keeps and the end
@@ -99,15 +118,19 @@ module _ (T : Frame) where
   keeps_lead js [] f h = (end_back, refl)
   keeps_lead js (x ∷ xs) f h = (
     keep_back x.hypothesis,
-    subst (λ fs. Leads (At (due Exit T.components 0 js ++ keeps_due T js (map (λ x. x.hypothesis) xs)) AtEnd) fs (At [] AtEnd)) (sym (append_assoc (list_forms Exit 0 js x.exits) (keep_forms js xs) (SaysEnd ∷ [])))
-        (leads_on (At (due Exit T.components 0 js ++ keeps_due T js (map (λ x. x.hypothesis) xs)) AtEnd) (At (keeps_due T js (map (λ x. x.hypothesis) xs)) AtEnd) (At [] AtEnd) (list_forms Exit 0 js x.exits) (keep_forms js xs ++ SaysEnd ∷ [])
-        (full_lead Exit T.components js x.exits (keeps_due T js (map (λ x. x.hypothesis) xs)) AtEnd f.0 (All-head (λ x. All (All (IsPrinted T)) x.exits) x xs h))
+    subst (λ fs. Leads (At (due Exit T.components 0 js ++ keeps_due T js (map (λ x. x.hypothesis) xs)) AtEnd) fs (At [] AtEnd))
+        (sym (append_assoc (list_forms Exit 0 js x.exits) (keep_forms js xs) (SaysEnd ∷ [])))
+        (leads_on (At (due Exit T.components 0 js ++ keeps_due T js (map (λ x. x.hypothesis) xs)) AtEnd)
+        (At (keeps_due T js (map (λ x. x.hypothesis) xs)) AtEnd) (At [] AtEnd) (list_forms Exit 0 js x.exits) (keep_forms js xs ++ SaysEnd ∷ [])
+        (full_lead Exit T.components js x.exits (keeps_due T js (map (λ x. x.hypothesis) xs)) AtEnd f.0
+        (All-head (λ x. All (All (IsPrinted T)) x.exits) x xs h))
         (keeps_lead js xs f.1 (All-tail (λ x. All (All (IsPrinted T)) x.exits) x xs h))),
   )
 
   -- ---- from the last step on
 
-  pub tail_lead : (v : ℕ) (js : List ℕ) (ss : List Slot) (f : Form) (fs : List Form) (here : Place) → tail T v js ≡ ss → is_step f ≡ false → words_behind (codes "step") (line_of T f) ≡ None → Leads (At ss AtEnd) (f ∷ fs) here → Leads (At [] (AtSteps v js)) (f ∷ fs) here
+  pub tail_lead : (v : ℕ) (js : List ℕ) (ss : List Slot) (f : Form) (fs : List Form) (here : Place) → tail T v js ≡ ss → is_step f ≡ false
+      → words_behind (codes "step") (line_of T f) ≡ None → Leads (At ss AtEnd) (f ∷ fs) here → Leads (At [] (AtSteps v js)) (f ∷ fs) here
   unfolding read_at next_at
   tail_lead v js [] f fs here e calm other h = absurd (cc)
   tail_lead v js (s ∷ ss) f fs here e calm other h = (
@@ -115,10 +138,12 @@ module _ (T : Frame) where
     subst (λ p. Leads p fs here) (sym (next_no T v js f calm ∙ ap (λ z. At (behind_first z) AtEnd) e)) h.1,
   )
 
-  end_lead : (v : ℕ) (js : List ℕ) (xs : List KeepParts) → kept_in T v js ≡ map (λ x. x.hypothesis) xs → ExitsFit T.components (length js) xs → All (λ x. All (All (IsPrinted T)) x.exits) xs
+  end_lead : (v : ℕ) (js : List ℕ) (xs : List KeepParts) → kept_in T v js ≡ map (λ x. x.hypothesis) xs → ExitsFit T.components (length js) xs
+      → All (λ x. All (All (IsPrinted T)) x.exits) xs
       → Leads (At [] (AtSteps v js)) (keep_forms js xs ++ SaysEnd ∷ []) (At [] AtEnd)
   end_lead v js [] e f h = tail_lead v js (keeps_due T js []) SaysEnd [] (At [] AtEnd) (ap (keeps_due T js) e) refl refl (keeps_lead js [] f h)
-  end_lead v js (x ∷ xs) e f h = tail_lead v js (keeps_due T js (map (λ x. x.hypothesis) (x ∷ xs))) (SaysKeep x.hypothesis) ((list_forms Exit 0 js x.exits ++ keep_forms js xs) ++ SaysEnd ∷ []) (At [] AtEnd) (ap (keeps_due T js) e) refl refl (keeps_lead js (x ∷ xs) f h)
+  end_lead v js (x ∷ xs) e f h = tail_lead v js (keeps_due T js (map (λ x. x.hypothesis) (x ∷ xs))) (SaysKeep x.hypothesis)
+      ((list_forms Exit 0 js x.exits ++ keep_forms js xs) ++ SaysEnd ∷ []) (At [] AtEnd) (ap (keeps_due T js) e) refl refl (keeps_lead js (x ∷ xs) f h)
 
 -- ---- the whole evidence
 
@@ -128,11 +153,14 @@ lines_say n c T v ss xs t h p = record {
   here = At [] AtEnd;
   lead = (
     version_back T v h.version,
-    subst (λ fs. Leads T (At [] (AtSteps v [])) fs (At [] AtEnd)) (sym (append_assoc (step_forms [] ss) (keep_forms (map (λ s. s.hypothesis) ss) xs) (SaysEnd ∷ [])))
-        (leads_on T (At [] (AtSteps v [])) (At [] (AtSteps v (map (λ s. s.hypothesis) ss))) (At [] AtEnd) (step_forms [] ss) (keep_forms (map (λ s. s.hypothesis) ss) xs ++ SaysEnd ∷ [])
+    subst (λ fs. Leads T (At [] (AtSteps v [])) fs (At [] AtEnd))
+        (sym (append_assoc (step_forms [] ss) (keep_forms (map (λ s. s.hypothesis) ss) xs) (SaysEnd ∷ [])))
+        (leads_on T (At [] (AtSteps v [])) (At [] (AtSteps v (map (λ s. s.hypothesis) ss))) (At [] AtEnd) (step_forms [] ss)
+        (keep_forms (map (λ s. s.hypothesis) ss) xs ++ SaysEnd ∷ [])
         (steps_lead T v [] ss (subst (λ m. FlowsFit m 0 ss) (sym t.components) h.size.flows) p.names p.flows)
         (end_lead T v (map (λ s. s.hypothesis) ss) xs (kept h.version)
-        (subst (λ m. ExitsFit m (length (map (λ s. s.hypothesis) ss)) xs) (sym t.components) (subst (λ k. ExitsFit (length c.components) k xs) (sym (length-map ss (λ s. s.hypothesis))) h.size.exits)) p.exits)),
+        (subst (λ m. ExitsFit m (length (map (λ s. s.hypothesis) ss)) xs) (sym t.components)
+        (subst (λ k. ExitsFit (length c.components) k xs) (sym (length-map ss (λ s. s.hypothesis))) h.size.exits)) p.exits)),
   );
   ended = refl;
 }

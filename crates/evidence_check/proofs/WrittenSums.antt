@@ -1,5 +1,6 @@
 -- Written tests and sums by value.
-use Rattle.std.proofs.Common.{◌≡◌, inl, inr, sym, ap, ap₂, ◌∙◌, ℕ, zero, suc, ◌<◌, Bool, true, false, not, Result, Ok, Err, Option, Some, None, arith}
+use Rattle.std.proofs.Common.{◌≡◌, inl, inr, sym, ap, ap₂, ◌∙◌, ℕ, zero, suc, ◌<◌, Bool, true, false, not, Result, Ok, Err, Option, Some}
+use Rattle.std.proofs.Common.{None, arith}
 use Rattle.std.specs.Prelude.{IfOk}
 use Rattle.std.specs.Ordering.{is_le}
 use Rattle.std.specs.declared.cmp.Ordering.{Ordering}
@@ -62,16 +63,20 @@ some_of_wide op None x h = absurd (cc)
 
 module _ (K : Kind) (IsStored : Parts → Type 0) (X : IsExact K IsStored) where
   -- a number that isn't below 0
-  pub sign_tells : (x : Parts) (v : Number) (reason : Reason) → Gives IsStored x v → Tells (demand (not_less (sign_of x)) reason) (λ _. number_zero ≤ε v) (¬ (number_zero ≤ε v))
+  pub sign_tells : (x : Parts) (v : Number) (reason : Reason) → Gives IsStored x v
+      → Tells (demand (not_less (sign_of x)) reason) (λ _. number_zero ≤ε v) (¬ (number_zero ≤ε v))
   sign_tells x v reason G =
       let e : sign_of x ≡ number_sign v = X.sign x G.stored ∙ ap number_sign G.value in
-      demand_tells (not_less (sign_of x)) reason (number_zero ≤ε v) (λ h. sign_low v (ap not_less (sym e) ∙ h)) (λ h low. true_false _ (ap not_less e ∙ low_sign v low) h)
+      demand_tells (not_less (sign_of x)) reason (number_zero ≤ε v) (λ h. sign_low v (ap not_less (sym e) ∙ h))
+      (λ h low. true_false _ (ap not_less e ∙ low_sign v low) h)
 
   -- a comparison that isn't refused
-  pub compared : (x y : Parts) (u v : Number) (o : Ordering) → Gives IsStored x u → Gives IsStored y v → K.compare x y ≡ Ok o → is_le o ≡ at_most u v
+  pub compared : (x y : Parts) (u v : Number) (o : Ordering) → Gives IsStored x u → Gives IsStored y v → K.compare x y ≡ Ok o
+      → is_le o ≡ at_most u v
   compared x y u v o G H e = up_to u v o (told (K.compare x y) o e (X.compare x y G.stored H.stored) ∙ ap₂ number_compare G.value H.value)
     where
-      told : (r : Result Ordering TooWide) (o : Ordering) → r ≡ Ok o → IfOk r (λ o. o ≡ number_compare (value_of x) (value_of y)) → o ≡ number_compare (value_of x) (value_of y)
+      told : (r : Result Ordering TooWide) (o : Ordering) → r ≡ Ok o → IfOk r (λ o. o ≡ number_compare (value_of x) (value_of y))
+          → o ≡ number_compare (value_of x) (value_of y)
       told (Ok q) o e h = let f : q ≡ o = cc in sym f ∙ h
       told (Err q) o e h = absurd (cc)
 
@@ -80,16 +85,19 @@ module _ (K : Kind) (IsStored : Parts → Type 0) (X : IsExact K IsStored) where
       → Gives IsStored start v → ((i : ℕ) → i < n → Gives IsStored (f i) (u i)) → ((i : ℕ) → i < n → Gives IsStored (g i) (w i))
       → Tells (added K component place start f g n) (λ x. Gives IsStored x (v +ε sum_below number_field n (λ i. u i *ε w i))) Bad
   unfolding added with_product
-  added_tells component place start f g v u w zero Bad S U W = tells_ok start _ _ (record { stored = S.stored; value = S.value ∙ sym (nothing v (λ i. u i *ε w i)) })
+  added_tells component place start f g v u w zero Bad S U W =
+      tells_ok start _ _ (record { stored = S.stored; value = S.value ∙ sym (nothing v (λ i. u i *ε w i)) })
     where
       nothing : (v : Number) (h : ℕ → Number) → v +ε sum_below number_field 0 h ≡ v
       nothing v h = ap (λ s. v +ε s) (sum_nothing h) ∙ number_add_zero v
   added_tells component place start f g v u w (suc n) Bad S U W =
       let c = component n in
-      tells_bind (added K component place start f g n) (λ sum. written_at c place (or_wide Mul (K.written Mul (f n) (g n))) >>= λ product. written_at c place (or_wide Add (K.written Add sum product)))
+      tells_bind (added K component place start f g n)
+      (λ sum. written_at c place (or_wide Mul (K.written Mul (f n) (g n))) >>= λ product. written_at c place (or_wide Add (K.written Add sum product)))
       (λ x. Gives IsStored x (v +ε sum_below number_field n (λ i. u i *ε w i))) _ Bad
       (added_tells component place start f g v u w n Bad S (λ i p. U i (omega arith)) (λ i p. W i (omega arith)))
-      (λ sum G. tells_bind (written_at c place (or_wide Mul (K.written Mul (f n) (g n)))) (λ product. written_at c place (or_wide Add (K.written Add sum product)))
+      (λ sum G. tells_bind (written_at c place (or_wide Mul (K.written Mul (f n) (g n))))
+      (λ product. written_at c place (or_wide Add (K.written Add sum product)))
       (λ x. or_wide Mul (K.written Mul (f n) (g n)) ≡ Ok x) _ Bad
       (written_tells c place (or_wide Mul (K.written Mul (f n) (g n))) Bad)
       (λ product d.
@@ -103,7 +111,8 @@ module _ (K : Kind) (IsStored : Parts → Type 0) (X : IsExact K IsStored) where
       let a = some_of_wide Add (K.written Add sum product) x d in
       record {
         stored = X.stored Add _ _ x G.stored s tt a;
-        value = X.exact Add _ _ x G.stored s tt a ∙ ap₂ ◌+ε◌ G.value m ∙ number_add_assoc v _ _ ∙ ap (λ t. v +ε t) (sym (sum_last n (λ i. u i *ε w i)));
+        value = X.exact Add _ _ x G.stored s tt a ∙ ap₂ ◌+ε◌ G.value m ∙ number_add_assoc v _ _
+            ∙ ap (λ t. v +ε t) (sym (sum_last n (λ i. u i *ε w i)));
       })
       (λ b. b)
       (written_tells c place (or_wide Add (K.written Add sum product)) Bad)))

@@ -27,5 +27,7 @@ lines_back lines h = ap words_in (rows_of_text lines h) ∙ numbered_back 0 line
 
 pub text_says : EvidenceTextsSayIt
 text_says c v h p l =
-    subst (λ ls. IsDocument (evidence_language (case_frame (numbers_of c) c)) start ls (evidence_forms (version_of v) (steps_of v) (keeps_of v))) (sym (lines_back (evidence_lines (case_frame (numbers_of c) c) (version_of v) (steps_of v) (keeps_of v)) l))
-    (lines_say (numbers_of c) c (case_frame (numbers_of c) c) (version_of v) (steps_of v) (keeps_of v) (frame_is (numbers_of c) c) (record { version = h.version; size = h.size; none = h.none; all = h.all }) p)
+    subst (λ ls. IsDocument (evidence_language (case_frame (numbers_of c) c)) start ls (evidence_forms (version_of v) (steps_of v) (keeps_of v)))
+    (sym (lines_back (evidence_lines (case_frame (numbers_of c) c) (version_of v) (steps_of v) (keeps_of v)) l))
+    (lines_say (numbers_of c) c (case_frame (numbers_of c) c) (version_of v) (steps_of v) (keeps_of v) (frame_is (numbers_of c) c)
+    (record { version = h.version; size = h.size; none = h.none; all = h.all }) p)

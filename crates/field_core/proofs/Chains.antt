@@ -1,5 +1,6 @@
 -- Chains: each hypothesis passes all its weight to the next one that remains.
-use Rattle.std.proofs.Common.{◌≡◌, ◌≢◌, ◌⊎◌, inl, inr, refl, sym, ap, ap₂, ◌∙◌, subst, ℕ, zero, suc, ◌<◌, ◌≤◌, arith, Bool, true, false, cond}
+use Rattle.std.proofs.Common.{◌≡◌, ◌≢◌, ◌⊎◌, inl, inr, refl, sym, ap, ap₂, ◌∙◌, subst, ℕ, zero, suc, ◌<◌, ◌≤◌, arith}
+use Rattle.std.proofs.Common.{Bool, true, false, cond}
 use Rattle.field_core.specs.Field.{OrderedField, AtMost}
 use Rattle.field_core.specs.Sums.{sum_below, unit}
 use Rattle.field_core.specs.Graph.{Graph, IsValid}
@@ -66,7 +67,8 @@ module _ {K : Type 0} (F : OrderedField K) where
   weight_same m w I J zero same h = weight_first w I ∙ sym (weight_first w J)
   weight_same m w I J (suc k) same h = elim (true_or_false (I k)) [
     | inl t ↦ weight_kept w I k t ∙ sym (weight_kept w J k (sym (same k (omega arith)) ∙ t))
-    | inr f ↦ weight_passed w I k f ∙ ap (λ z. w (suc k) ⊕ z) (weight_same m w I J k same (omega arith)) ∙ sym (weight_passed w J k (sym (same k (omega arith)) ∙ f))
+    | inr f ↦ weight_passed w I k f ∙ ap (λ z. w (suc k) ⊕ z) (weight_same m w I J k same (omega arith))
+        ∙ sym (weight_passed w J k (sym (same k (omega arith)) ∙ f))
   ]
 
   -- ---- bare algebra
@@ -82,7 +84,8 @@ module _ {K : Type 0} (F : OrderedField K) where
 
   module _ (I : ℕ → Bool) (j : ℕ) (live : I j ≡ true) where
     pub weight_dropped : (w : ℕ → K) (k : ℕ) → chain_weight w (dropping j I) k ≡ chain_weight w I k ⊕ chain_weight w I j ⊗ chain_edge I j k
-    weight_dropped w zero = weight_first w (dropping j I) ∙ sym (weight_first w I) ∙ no_part (chain_weight w I zero) (chain_weight w I j) ∙ ap (λ z. chain_weight w I zero ⊕ chain_weight w I j ⊗ z) (sym (edge_first I j))
+    weight_dropped w zero = weight_first w (dropping j I) ∙ sym (weight_first w I) ∙ no_part (chain_weight w I zero) (chain_weight w I j)
+        ∙ ap (λ z. chain_weight w I zero ⊕ chain_weight w I j ⊗ z) (sym (edge_first I j))
     weight_dropped w (suc k) = elim (same_or_not k j) [
       | inl e ↦ at_it w k e (weight_dropped w k)
       | inr n ↦ elim (true_or_false (I k)) [
@@ -109,7 +112,8 @@ module _ {K : Type 0} (F : OrderedField K) where
             ∙ ap₂ (λ y z. y ⊕ chain_weight w I j ⊗ z) (sym (weight_kept w I k t)) (sym (edge_kept I j k t ∙ one))
 
     pub edge_dropped : (l : ℕ) → l ≢ j → (k : ℕ) → chain_edge (dropping j I) l k ≡ chain_edge I l k ⊕ chain_edge I l j ⊗ chain_edge I j k
-    edge_dropped l h zero = edge_first (dropping j I) l ∙ sym (edge_first I l) ∙ no_part (chain_edge I l zero) (chain_edge I l j) ∙ ap (λ z. chain_edge I l zero ⊕ chain_edge I l j ⊗ z) (sym (edge_first I j))
+    edge_dropped l h zero = edge_first (dropping j I) l ∙ sym (edge_first I l) ∙ no_part (chain_edge I l zero) (chain_edge I l j)
+        ∙ ap (λ z. chain_edge I l zero ⊕ chain_edge I l j ⊗ z) (sym (edge_first I j))
     edge_dropped l h (suc k) = elim (same_or_not k j) [
       | inl e ↦ at_it k e (edge_dropped l h k)
       | inr n ↦ elim (true_or_false (I k)) [
@@ -180,11 +184,13 @@ module _ {K : Type 0} (F : OrderedField K) where
   unit_most zero j = eq_le F (sum_nothing (unit F j)) (zero_le_one F)
   unit_most (suc n) j = elim (below_or_not j (suc n)) [
     | inl h ↦ le_of_eq F _ _ (unit_total F (suc n) j h)
-    | inr h ↦ eq_le F (sum_congr F (suc n) (unit F j) (λ _. 𝟘) (λ i q. unit_other F j i (λ e. h (subst (λ a. a < suc n) (sym e) q))) ∙ sum_zero F (suc n)) (zero_le_one F)
+    | inr h ↦ eq_le F (sum_congr F (suc n) (unit F j) (λ _. 𝟘) (λ i q. unit_other F j i (λ e. h (subst (λ a. a < suc n) (sym e) q)))
+        ∙ sum_zero F (suc n)) (zero_le_one F)
   ]
 
   -- a graph in which each hypothesis passes all to the next one
-  pub chain_valid : (m : ℕ) (G : Graph K) → ((i : ℕ) → i < m → AtMost F 𝟘 (G.weight i)) → AtMost F (sum_below F m G.weight) 𝟙 → ((i k : ℕ) → i < m → k < m → G.edge i k ≡ unit F (suc i) k) → IsValid F m G
+  pub chain_valid : (m : ℕ) (G : Graph K) → ((i : ℕ) → i < m → AtMost F 𝟘 (G.weight i)) → AtMost F (sum_below F m G.weight) 𝟙
+      → ((i k : ℕ) → i < m → k < m → G.edge i k ≡ unit F (suc i) k) → IsValid F m G
   chain_valid m G low total edges = record {
     weight_nonneg = low;
     weight_total = total;

@@ -28,12 +28,14 @@ module _ {K : Type 0} (F : OrderedField K) where
   above_nothing : (y : K) → AtMost F 𝟘 y → (y ≡ 𝟘 → ⊥) → y ⊕ y ⊗ y ≡ 𝟘 → ⊥
   above_nothing y low n e = n (F.le_antisymm y 𝟘 (le_eq F (le_add F y (y ⊗ y) (F.mul_nonneg y y low low)) e) low)
 
-  pub next_edge : (y z : K) → AtMost F 𝟘 y → (y ≡ 𝟘 → ⊥) → y ⊕ y ⊗ z ≡ z → (y ⊕ y ⊗ y) ⊗ invert (𝟙 ⊕ negate (y ⊗ y)) ≡ z
+  pub next_edge : (y z : K) → AtMost F 𝟘 y → (y ≡ 𝟘 → ⊥) → y ⊕ y ⊗ z ≡ z
+      → (y ⊕ y ⊗ y) ⊗ invert (𝟙 ⊕ negate (y ⊗ y)) ≡ z
   next_edge y z low n g =
       let d : K = 𝟙 ⊕ negate (y ⊗ y) in
       let times : z ⊗ (𝟙 ⊕ negate (y ⊗ y)) ≡ y ⊕ y ⊗ y = times_left_over y z (negate (y ⊗ y)) (F.add_negate (y ⊗ y)) g in
       ap (λ a. a ⊗ invert (𝟙 ⊕ negate (y ⊗ y))) (sym times) ∙ mul_assoc F z (𝟙 ⊕ negate (y ⊗ y)) (invert (𝟙 ⊕ negate (y ⊗ y)))
-      ∙ ap (λ a. z ⊗ a) (F.mul_invert (𝟙 ⊕ negate (y ⊗ y)) (λ e. above_nothing y low n (sym times ∙ ap (λ a. z ⊗ a) e ∙ mul_zero F z))) ∙ mul_one F z
+      ∙ ap (λ a. z ⊗ a) (F.mul_invert (𝟙 ⊕ negate (y ⊗ y)) (λ e. above_nothing y low n (sym times ∙ ap (λ a. z ⊗ a) e ∙ mul_zero F z)))
+      ∙ mul_one F z
 
   -- ---- the closed form, of parts of which each is the next one less what it passes on
 
@@ -50,7 +52,8 @@ module _ {K : Type 0} (F : OrderedField K) where
     next_at : (a b n : ℕ) → a ≡ suc (suc n) → b ≡ suc n → part a ⊕ part a ⊗ part b ≡ part b
     next_at a b n e f = ap₂ (λ i k. part i ⊕ part i ⊗ part k) e f ∙ P.next n ∙ ap part (sym f)
 
-    edge_at : (a b c n : ℕ) → a ≡ suc (suc n) → b ≡ suc (suc n) → c ≡ suc n → (part a ⊕ part a ⊗ part b) ⊗ invert (𝟙 ⊕ negate (part a ⊗ part b)) ≡ part c
+    edge_at : (a b c n : ℕ) → a ≡ suc (suc n) → b ≡ suc (suc n) → c ≡ suc n
+        → (part a ⊕ part a ⊗ part b) ⊗ invert (𝟙 ⊕ negate (part a ⊗ part b)) ≡ part c
     edge_at a b c n e f g =
         ap₂ (λ i k. (part i ⊕ part i ⊗ part k) ⊗ invert (𝟙 ⊕ negate (part i ⊗ part k))) e f
         ∙ next_edge (part (suc (suc n))) (part (suc n)) (P.low (suc n)) (P.nonzero (suc n)) (P.next n) ∙ ap part (sym g)
@@ -68,21 +71,28 @@ module _ {K : Type 0} (F : OrderedField K) where
             weights l p =
                 let two_less : suc (size_of m (dropping l (dropping j I))) ≡ size_of m (dropping j I) = size_dropped m l (dropping j I) p in
                 weight_other F (equal_left I) j l (live_other j I p)
-                ∙ next_at (size_of m I) (size_of m (dropping j I)) (size_of m (dropping l (dropping j I))) (sym one_less ∙ ap suc (sym two_less)) (sym two_less)
+                ∙ next_at (size_of m I) (size_of m (dropping j I)) (size_of m (dropping l (dropping j I))) (sym one_less ∙ ap suc (sym two_less))
+                (sym two_less)
 
-            edges : (l k : ℕ) → IsIn m (dropping j I) l → IsIn m (dropping j I) k → l ≢ k → (without F (equal_left I) j).edge l k ≡ part (size_of m (dropping l (dropping j I)))
+            edges : (l k : ℕ) → IsIn m (dropping j I) l → IsIn m (dropping j I) k → l ≢ k
+                → (without F (equal_left I) j).edge l k ≡ part (size_of m (dropping l (dropping j I)))
             edges l k p q h =
                 let other : suc (size_of m (dropping l I)) ≡ size_of m I = size_dropped m l I (live_before j I p) in
                 let two_less : suc (size_of m (dropping l (dropping j I))) ≡ size_of m (dropping j I) = size_dropped m l (dropping j I) p in
-                let still : IsIn m (dropping l (dropping j I)) k = record { below = q.below; member = dropping_other l (dropping j I) k (λ e. h (sym e)) ∙ q.member } in
-                let three_less : suc (size_of m (dropping k (dropping l (dropping j I)))) ≡ size_of m (dropping l (dropping j I)) = size_dropped m k (dropping l (dropping j I)) still in
+                let still : IsIn m (dropping l (dropping j I)) k =
+                record { below = q.below; member = dropping_other l (dropping j I) k (λ e. h (sym e)) ∙ q.member } in
+                let three_less : suc (size_of m (dropping k (dropping l (dropping j I)))) ≡ size_of m (dropping l (dropping j I)) =
+                size_dropped m k (dropping l (dropping j I)) still in
                 edge_other F (equal_left I) j l k (live_other j I p) (live_other j I q) h
-                ∙ edge_at (size_of m (dropping l I)) (size_of m (dropping j I)) (size_of m (dropping l (dropping j I))) (size_of m (dropping k (dropping l (dropping j I))))
+                ∙ edge_at (size_of m (dropping l I)) (size_of m (dropping j I)) (size_of m (dropping l (dropping j I)))
+                (size_of m (dropping k (dropping l (dropping j I))))
                 (omega (arith, one_less, other, two_less, three_less)) (sym two_less ∙ ap suc (sym three_less)) (sym three_less)
 
   -- equal weights and equal edges that sum to 1
-  pub equal_valid : (m : ℕ) (w e : K) (G : Graph K) → AtMost F 𝟘 w → AtMost F 𝟘 e → sum_below F m (λ _. w) ≡ 𝟙 → (1 < m → sum_below F m (λ _. e) ≡ 𝟙 ⊕ e)
-      → ((i : ℕ) → i < m → G.weight i ≡ w) → ((i k : ℕ) → i < m → k < m → i ≢ k → G.edge i k ≡ e) → ((i : ℕ) → i < m → G.edge i i ≡ 𝟘) → IsValid F m G
+  pub equal_valid : (m : ℕ) (w e : K) (G : Graph K) → AtMost F 𝟘 w → AtMost F 𝟘 e → sum_below F m (λ _. w) ≡ 𝟙
+      → (1 < m → sum_below F m (λ _. e) ≡ 𝟙 ⊕ e)
+      → ((i : ℕ) → i < m → G.weight i ≡ w) → ((i k : ℕ) → i < m → k < m → i ≢ k → G.edge i k ≡ e)
+      → ((i : ℕ) → i < m → G.edge i i ≡ 𝟘) → IsValid F m G
   equal_valid m w e G low pass total rows weights edges loops = record {
     weight_nonneg = λ i p. subst (λ x. AtMost F 𝟘 x) (sym (weights i p)) low;
     weight_total = le_of_eq F _ _ (sum_congr F m G.weight (λ _. w) weights ∙ total);
@@ -108,7 +118,8 @@ module _ {K : Type 0} (F : OrderedField K) where
       row : (i : ℕ) → i < m → AtMost F (sum_below F m (G.edge i)) 𝟙
       row i p = elim (one_or_more m) [
         | inl h ↦ le_of_eq F _ _ (add_cancel F (sum_below F m (G.edge i)) 𝟙 e (whole_row i p ∙ rows h))
-        | inr h ↦ eq_le F (sum_congr F m (G.edge i) (λ _. 𝟘) (λ k q. ap (G.edge i) (only_one m i k h p q) ∙ loops i p) ∙ sum_zero F m) (zero_le_one F)
+        | inr h ↦ eq_le F (sum_congr F m (G.edge i) (λ _. 𝟘) (λ k q. ap (G.edge i) (only_one m i k h p q) ∙ loops i p) ∙ sum_zero F m)
+            (zero_le_one F)
       ]
         where
           one_or_more : (m : ℕ) → (1 < m) ⊎ (m ≤ 1)

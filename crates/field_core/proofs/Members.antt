@@ -1,5 +1,6 @@
 -- Sets as numbers: each set below `2 ^ m` has one, and members are added and taken by adding and taking a power of two.
-use Rattle.std.proofs.Common.{◌≡◌, inl, inr, refl, sym, ap, ◌∙◌, ℕ, zero, suc, ◌+◌, ◌-◌, ◌*◌, ◌^◌, ◌==◌, ◌<◌, ◌≤◌, arith, Bool, true, false, cond}
+use Rattle.std.proofs.Common.{◌≡◌, inl, inr, refl, sym, ap, ◌∙◌, ℕ, zero, suc, ◌+◌, ◌-◌, ◌*◌, ◌^◌, ◌==◌, ◌<◌, ◌≤◌}
+use Rattle.std.proofs.Common.{arith, Bool, true, false, cond}
 use Rattle.std.proofs.lemmas.Bool.Decides.{nat_tests}
 use Rattle.std.specs.Int.{bit_at}
 use Rattle.std.proofs.lemmas.Nat.{pow_pos}
@@ -91,7 +92,8 @@ same_bit a b p q e = grind (arith, nat_tests)
 
 -- a set has one number
 pub same_number : (m n o : ℕ) → n < 2 ^ m → o < 2 ^ m → HaveSameMembers m (members n) (members o) → n ≡ o
-same_number m n o p q h = same_from_bits_below m n o p q (λ i r. same_bit _ _ (bit_at-lt n i) (bit_at-lt o i) (sym (members_is n i) ∙ h i r ∙ members_is o i))
+same_number m n o p q h = same_from_bits_below m n o p q
+    (λ i r. same_bit _ _ (bit_at-lt n i) (bit_at-lt o i) (sym (members_is n i) ∙ h i r ∙ members_is o i))
 
 pub number_members : (m n : ℕ) → n < 2 ^ m → set_number m (members n) ≡ n
 number_members m n p = same_number m _ n (number_below m (members n)) p (members_number m (members n))
@@ -126,7 +128,8 @@ number_adding m k I p f =
 pub taken_number : (m n k : ℕ) → n < 2 ^ m → k < m → members n k ≡ true → set_number m (dropping k (members n)) + 2 ^ k ≡ n
 taken_number m n k p q t = number_dropping m k (members n) q t ∙ number_members m n p
 
-pub members_taken : (m n o k : ℕ) → n < 2 ^ m → k < m → members n k ≡ true → o + 2 ^ k ≡ n → HaveSameMembers m (members o) (dropping k (members n))
+pub members_taken : (m n o k : ℕ) → n < 2 ^ m → k < m → members n k ≡ true → o + 2 ^ k ≡ n
+    → HaveSameMembers m (members o) (dropping k (members n))
 members_taken m n o k p q t e =
     let a = taken_number m n k p q t in
     let b : o ≡ set_number m (dropping k (members n)) = omega (arith, a, e) in

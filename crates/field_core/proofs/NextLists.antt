@@ -1,5 +1,6 @@
 -- The next list in the order of sets.
-use Rattle.std.proofs.Common.{◌≡◌, ◌⊎◌, inl, inr, refl, sym, ap, subst, ◌∙◌, ℕ, suc, ◌+◌, ◌-◌, ◌^◌, ◌<◌, ◌≤◌, arith, cond, List, [], ◌∷◌, ◌++◌, length, Option, Some, None}
+use Rattle.std.proofs.Common.{◌≡◌, ◌⊎◌, inl, inr, refl, sym, ap, subst, ◌∙◌, ℕ, suc, ◌+◌, ◌-◌, ◌^◌, ◌<◌, ◌≤◌, arith}
+use Rattle.std.proofs.Common.{cond, List, [], ◌∷◌, ◌++◌, length, Option, Some, None}
 use Rattle.std.specs.Prelude.{nat_lt}
 use Rattle.std.proofs.lemmas.Bool.Decides.{nat_tests}
 use Rattle.std.proofs.lemmas.Nat.{pow_pos}
@@ -45,7 +46,8 @@ after_more m first j js = refl
 -- what the next list is, or that there is none
 abbrev Follows : ℕ → ℕ → List ℕ → Option (List ℕ) → Type 0
 Follows m first js (Some ks) =
-    IsAscending m first ks × ((xs : List ℕ) → IsAscending m first xs → ComesBefore xs ks → ComesBefore xs js ⊎ (xs ≡ js)) × (lists_after m first ks + 1 ≡ lists_after m first js)
+    IsAscending m first ks × ((xs : List ℕ) → IsAscending m first xs → ComesBefore xs ks → ComesBefore xs js ⊎ (xs ≡ js))
+    × (lists_after m first ks + 1 ≡ lists_after m first js)
 Follows m first js None = ((xs : List ℕ) → IsAscending m first xs → ComesBefore xs js ⊎ (xs ≡ js)) × (lists_after m first js ≡ 0)
 
 power_next : (m first : ℕ) → first < m → 2 ^ (m - first) ≡ 2 ^ (m - suc first) + 2 ^ (m - suc first)
@@ -67,7 +69,8 @@ after_any m first other j js = after_more m first j js ∙ sym (after_more m oth
 
 empty_follows : (m first : ℕ) → Follows m first [] (head_below m first)
 empty_follows m first = elim (below_or_above first m) [
-  | inl h ↦ rw (head_some m first h) ((omega arith, h, tt), before, omega (arith, after_any m first 0 first [], after_head m first h, after_empty m first, pow_pos (m - first)))
+  | inl h ↦ rw (head_some m first h)
+      ((omega arith, h, tt), before, omega (arith, after_any m first 0 first [], after_head m first h, after_empty m first, pow_pos (m - first)))
   | inr h ↦ rw (head_none m first h) (last h, omega (arith, after_empty m first, power_none m first h))
 ]
   where
@@ -87,7 +90,8 @@ same_head x j xs js e (inr f) = inr (cc)
 ascending_at : (m x j : ℕ) (xs : List ℕ) → x ≡ j → IsAscending m (suc x) xs → IsAscending m (suc j) xs
 ascending_at m x j xs e = subst (λ i. IsAscending m (suc i) xs) e
 
-more_follows : (m first j : ℕ) (js : List ℕ) (o : Option (List ℕ)) → first ≤ j → j < m → Follows m (suc j) js o → Follows m first (j ∷ js) (onto j (head_below m (suc j)) o)
+more_follows : (m first j : ℕ) (js : List ℕ) (o : Option (List ℕ)) → first ≤ j → j < m → Follows m (suc j) js o
+    → Follows m first (j ∷ js) (onto j (head_below m (suc j)) o)
 more_follows m first j js (Some ks) low high (a, before, r) = ((low, high, a), earlier, omega (arith, after_more m first j js, after_more m first j ks, r))
   where
     earlier : (xs : List ℕ) → IsAscending m first xs → ComesBefore xs (j ∷ ks) → ComesBefore xs (j ∷ js) ⊎ (xs ≡ j ∷ js)
@@ -95,7 +99,8 @@ more_follows m first j js (Some ks) low high (a, before, r) = ((low, high, a), e
     earlier (x ∷ xs) b (inl c) = inl (inl c)
     earlier (x ∷ xs) b (inr c) = same_head x j xs js c.0 (before xs (ascending_at m x j xs c.0 b.2) c.1)
 more_follows m first j js None low high (last, r) = elim (below_or_above (suc j) m) [
-  | inl h ↦ rw (head_some m (suc j) h) ((omega arith, h, tt), earlier, omega (arith, after_any m first 0 (suc j) [], after_head m (suc j) h, after_more m first j js, r, pow_pos (m - suc j)))
+  | inl h ↦ rw (head_some m (suc j) h)
+      ((omega arith, h, tt), earlier, omega (arith, after_any m first 0 (suc j) [], after_head m (suc j) h, after_more m first j js, r, pow_pos (m - suc j)))
   | inr h ↦ rw (head_none m (suc j) h) (all h, omega (arith, after_more m first j js, r, power_none m (suc j) h))
 ]
   where
@@ -134,7 +139,8 @@ next_sibling m first k l (j ∷ js) h g = rw (next_more m first j (js ++ k ∷ l
 
 -- ---- steps
 
-step_of : (m : ℕ) (old new : List ℕ) (last : ℕ) (parent rest : List ℕ) → IsAscending m 0 old → next_list m 0 old ≡ Some new → old ≡ parent ++ rest → new ≡ parent ++ last ∷ [] → IsListStep m old new last
+step_of : (m : ℕ) (old new : List ℕ) (last : ℕ) (parent rest : List ℕ) → IsAscending m 0 old → next_list m 0 old ≡ Some new
+    → old ≡ parent ++ rest → new ≡ parent ++ last ∷ [] → IsListStep m old new last
 step_of m old new last parent rest a e was is =
     let f = subst (Follows m 0 old) e (next_follows m 0 old a) in
     record { next = record { ascending = f.0; least = f.1 }; fewer = f.2; parent = parent; rest = rest; was = was; is = is }
@@ -150,10 +156,13 @@ no_more : (js : List ℕ) → js ≡ js ++ []
 no_more [] = refl
 no_more (j ∷ js) = ap (λ xs. j ∷ xs) (no_more js)
 
-pub child_step : (m l : ℕ) (js : List ℕ) → IsAscending m 0 (js ++ l ∷ []) → suc l < m → IsListStep m (js ++ l ∷ []) ((js ++ l ∷ []) ++ suc l ∷ []) (suc l)
-child_step m l js a h = step_of m (js ++ l ∷ []) _ (suc l) (js ++ l ∷ []) [] a (next_child m 0 l js h ∙ ap Some (two_more js l (suc l))) (no_more (js ++ l ∷ [])) refl
+pub child_step : (m l : ℕ) (js : List ℕ) → IsAscending m 0 (js ++ l ∷ []) → suc l < m
+    → IsListStep m (js ++ l ∷ []) ((js ++ l ∷ []) ++ suc l ∷ []) (suc l)
+child_step m l js a h = step_of m (js ++ l ∷ []) _ (suc l) (js ++ l ∷ []) [] a (next_child m 0 l js h ∙ ap Some (two_more js l (suc l)))
+    (no_more (js ++ l ∷ [])) refl
 
-pub sibling_step : (m k l : ℕ) (js : List ℕ) → IsAscending m 0 (js ++ k ∷ l ∷ []) → suc k < m → m ≤ suc l → IsListStep m (js ++ k ∷ l ∷ []) (js ++ suc k ∷ []) (suc k)
+pub sibling_step : (m k l : ℕ) (js : List ℕ) → IsAscending m 0 (js ++ k ∷ l ∷ []) → suc k < m → m ≤ suc l
+    → IsListStep m (js ++ k ∷ l ∷ []) (js ++ suc k ∷ []) (suc k)
 sibling_step m k l js a h g = step_of m (js ++ k ∷ l ∷ []) _ (suc k) js (k ∷ l ∷ []) a (next_sibling m 0 k l js h g) refl refl
 
 last_of : (m : ℕ) (old : List ℕ) → IsAscending m 0 old → next_list m 0 old ≡ None → IsLastList m old

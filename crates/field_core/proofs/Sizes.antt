@@ -1,5 +1,6 @@
 -- Sizes of sets, and what a subset misses.
-use Rattle.std.proofs.Common.{◌≡◌, ◌≢◌, ◌⊎◌, inl, inr, refl, sym, ap, ◌∙◌, ℕ, zero, suc, ◌+◌, ◌<◌, ◌≤◌, arith, Bool, true, false, cond}
+use Rattle.std.proofs.Common.{◌≡◌, ◌≢◌, ◌⊎◌, inl, inr, refl, sym, ap, ◌∙◌, ℕ, zero, suc, ◌+◌, ◌<◌, ◌≤◌, arith, Bool}
+use Rattle.std.proofs.Common.{true, false, cond}
 use Rattle.std.proofs.lemmas.Bool.Decides.{nat_tests}
 use Rattle.field_core.specs.Sets.{IsIn, IsSubset, HaveSameMembers, whole, dropping, adding, size_of}
 use Rattle.field_core.proofs.Live.{true_or_false, true_not_false, dropping_same, dropping_other}
@@ -89,7 +90,8 @@ size_dropped (suc m) k I p = elim (at_or_below k m p.below) [
 ]
 
 pub size_added : (m k : ℕ) (I : ℕ → Bool) → k < m → I k ≡ false → size_of m (adding k I) ≡ suc (size_of m I)
-size_added m k I p f = sym (size_dropped m k (adding k I) (record { below = p; member = adding_same k I })) ∙ ap suc (size_same m (dropping k (adding k I)) I (dropping_adding m k I f))
+size_added m k I p f = sym (size_dropped m k (adding k I) (record { below = p; member = adding_same k I }))
+    ∙ ap suc (size_same m (dropping k (adding k I)) I (dropping_adding m k I f))
 
 pub size_whole : (m : ℕ) → size_of m whole ≡ m
 size_whole zero = size_none whole

@@ -1,5 +1,6 @@
 -- Steps of the binary greatest common divisor.
-use Rattle.std.proofs.Common.{◌≡◌, ℕ, zero, suc, ◌+◌, ◌-◌, ◌*◌, ◌/◌, ◌%◌, ◌^◌, ◌<◌, ◌≤◌, min, refl, sym, ◌∙◌, ap, ap₂, subst, arith, inl, inr, ◌⊎◌, pow-add, pow-suc}
+use Rattle.std.proofs.Common.{◌≡◌, ℕ, zero, suc, ◌+◌, ◌-◌, ◌*◌, ◌/◌, ◌%◌, ◌^◌, ◌<◌, ◌≤◌, min, refl, sym, ◌∙◌}
+use Rattle.std.proofs.Common.{ap, ap₂, subst, arith, inl, inr, ◌⊎◌, pow-add, pow-suc}
 use Rattle.std.specs.Int.{IsGcd, ◌∣◌, abs_diff, bit_at, trailing_zeros, w64}
 use Rattle.std.proofs.lemmas.Bool.{cases_lt}
 use Rattle.std.proofs.lemmas.Nat.Bits.{bit_at-trailing_zeros}
@@ -24,7 +25,8 @@ doubled q p = omega arith
 
 power_next : (n t : ℕ) → n / 2 ^ t % 2 ≡ 0 → n ≡ n / 2 ^ t * 2 ^ t → n ≡ n / 2 ^ suc t * 2 ^ suc t
 power_next n t even e =
-    let half : n / 2 ^ t ≡ 2 * (n / 2 ^ suc t) = half_even (n / 2 ^ t) even ∙ ap (λ x. 2 * x) (div-div-eq-div-mul n (2 ^ t) 2 ∙ ap (λ x. n / x) (sym (pow-suc 2 t))) in
+    let half : n / 2 ^ t ≡ 2 * (n / 2 ^ suc t) = half_even (n / 2 ^ t) even
+    ∙ ap (λ x. 2 * x) (div-div-eq-div-mul n (2 ^ t) 2 ∙ ap (λ x. n / x) (sym (pow-suc 2 t))) in
     e ∙ ap (λ x. x * 2 ^ t) half ∙ doubled (n / 2 ^ suc t) (2 ^ t) ∙ ap (λ x. n / 2 ^ suc t * x) (sym (pow-suc 2 t))
 
 whole_shift : (n t : ℕ) → ((i : ℕ) → i < t → bit_at n i ≡ 0) → n ≡ n / 2 ^ t * 2 ^ t
@@ -53,13 +55,15 @@ apart_from_power (suc k) d n h odd = rw (pow-suc 2 k) (apart_product (2 ^ k) 2 d
 pub gcd_odd_part : (a b m k g : ℕ) → b % 2 ≡ 1 → a ≡ m * 2 ^ k → IsGcd m b g → IsGcd a b g
 gcd_odd_part a b m k g odd e h =
     let up : (d : ℕ) → d ∣ m → d ∣ a = λ d p. subst (λ x. d ∣ x) (sym e) (dvd-mul_right_of_dvd d p (2 ^ k)) in
-    let down : (d : ℕ) → d ∣ a → d ∣ b → d ∣ m = λ d p q. divides_other d (2 ^ k) m (apart_from_power k d b q odd) (subst (λ x. d ∣ x) (e ∙ mul_comm m (2 ^ k)) p) in
+    let down : (d : ℕ) → d ∣ a → d ∣ b → d ∣ m = λ d p q. divides_other d (2 ^ k) m (apart_from_power k d b q odd)
+    (subst (λ x. d ∣ x) (e ∙ mul_comm m (2 ^ k)) p) in
     (up g h.0, h.1, λ d p q. h.2 d (down d p q) q)
 
 -- ---- one step
 
 pub min_odd : (l r : ℕ) → l % 2 ≡ 1 → r % 2 ≡ 1 → min l r % 2 ≡ 1
-min_odd l r h k = elim (cases_lt l r) [ inl below ↦ (let e : min l r ≡ l = omega arith in rw e h) | inr above ↦ (let e : min l r ≡ r = omega arith in rw e k) ]
+min_odd l r h k = elim (cases_lt l r)
+    [ inl below ↦ (let e : min l r ≡ l = omega arith in rw e h) | inr above ↦ (let e : min l r ≡ r = omega arith in rw e k) ]
 
 by_difference : (l r g : ℕ) → IsGcd (abs_diff l r) (min l r) g → IsGcd l r g
 by_difference l r g h =
@@ -75,7 +79,8 @@ by_difference l r g h =
     ]
 
 -- the odd part of the difference stands for the greater of two odd numbers
-pub by_odd_difference : (l r d m odd twos g : ℕ) → l % 2 ≡ 1 → r % 2 ≡ 1 → d ≡ abs_diff l r → m ≡ min l r → IsOddPart d odd twos → IsGcd odd m g → IsGcd l r g
+pub by_odd_difference : (l r d m odd twos g : ℕ) → l % 2 ≡ 1 → r % 2 ≡ 1 → d ≡ abs_diff l r → m ≡ min l r → IsOddPart d odd twos
+    → IsGcd odd m g → IsGcd l r g
 by_odd_difference l r d m odd twos g h k e f part given =
     by_difference l r g (gcd_odd_part (abs_diff l r) (min l r) odd twos g (min_odd l r h k) (sym e ∙ part.whole) (subst (λ n. IsGcd odd n g) f given))
 
@@ -92,7 +97,9 @@ gcd_comm a b = gcd_same b a (gcd a b) (IsGcd-swap a b (gcd a b) (gcd_is a b))
 
 -- twos of one number alone don't count
 twos_dropped : (x y k : ℕ) → x % 2 ≡ 1 → gcd x (y * 2 ^ k) ≡ gcd x y
-twos_dropped x y k odd = sym (gcd_same x (y * 2 ^ k) (gcd x y) (IsGcd-swap (y * 2 ^ k) x (gcd x y) (gcd_odd_part (y * 2 ^ k) x y k (gcd x y) odd refl (IsGcd-swap x y (gcd x y) (gcd_is x y)))))
+twos_dropped x y k odd = sym
+    (gcd_same x (y * 2 ^ k) (gcd x y)
+    (IsGcd-swap (y * 2 ^ k) x (gcd x y) (gcd_odd_part (y * 2 ^ k) x y k (gcd x y) odd refl (IsGcd-swap x y (gcd x y) (gcd_is x y)))))
 
 power_apart : (i j : ℕ) → i ≤ j → 2 ^ j ≡ 2 ^ i * 2 ^ (j - i)
 power_apart i j h = ap (λ n. 2 ^ n) (let e : j ≡ i + (j - i) = omega arith in e) ∙ pow-add 2 i (j - i)
@@ -101,17 +108,20 @@ fewer_first : (x y i j : ℕ) → x % 2 ≡ 1 → i ≤ j → gcd (x * 2 ^ i) (y
 fewer_first x y i j odd h =
     let first : x * 2 ^ i ≡ 2 ^ i * x = mul_comm x (2 ^ i) in
     let second : y * 2 ^ j ≡ 2 ^ i * (y * 2 ^ (j - i)) = omega (arith, ap (λ n. y * n) (power_apart i j h)) in
-    ap (λ n. gcd n (y * 2 ^ j)) first ∙ ap (gcd (2 ^ i * x)) second ∙ gcd_scaled x (y * 2 ^ (j - i)) (2 ^ i) ∙ ap (λ n. 2 ^ i * n) (twos_dropped x y (j - i) odd) ∙ mul_comm (2 ^ i) (gcd x y)
+    ap (λ n. gcd n (y * 2 ^ j)) first ∙ ap (gcd (2 ^ i * x)) second ∙ gcd_scaled x (y * 2 ^ (j - i)) (2 ^ i)
+    ∙ ap (λ n. 2 ^ i * n) (twos_dropped x y (j - i) odd) ∙ mul_comm (2 ^ i) (gcd x y)
 
 gcd_from_parts : (x y i j : ℕ) → x % 2 ≡ 1 → y % 2 ≡ 1 → gcd (x * 2 ^ i) (y * 2 ^ j) ≡ gcd x y * 2 ^ min i j
 gcd_from_parts x y i j odd other =
     elim (cases_lt i j) [
       | inl below ↦ (let e : min i j ≡ i = omega arith in rw e (fewer_first x y i j odd (omega arith)))
-      | inr above ↦ (let e : min i j ≡ j = omega arith in rw e (gcd_comm (x * 2 ^ i) (y * 2 ^ j) ∙ fewer_first y x j i other above ∙ ap (λ n. n * 2 ^ j) (gcd_comm y x)))
+      | inr above ↦ (let e : min i j ≡ j = omega arith in rw e
+          (gcd_comm (x * 2 ^ i) (y * 2 ^ j) ∙ fewer_first y x j i other above ∙ ap (λ n. n * 2 ^ j) (gcd_comm y x)))
     ]
 
 -- the odd parts' divisor, shifted by the twos that both numbers have
-pub gcd_shifted : (a b x y i j g s : ℕ) → 0 < a → a < 2 ^ 64 → IsOddPart a x i → IsOddPart b y j → g ≡ gcd x y → s ≡ min i j → g * 2 ^ s % 2 ^ 64 ≡ gcd a b
+pub gcd_shifted : (a b x y i j g s : ℕ) → 0 < a → a < 2 ^ 64 → IsOddPart a x i → IsOddPart b y j → g ≡ gcd x y → s ≡ min i j
+    → g * 2 ^ s % 2 ^ 64 ≡ gcd a b
 gcd_shifted a b x y i j g s some small p q e f =
     let whole : g * 2 ^ s ≡ gcd a b = ap₂ (λ n k. n * 2 ^ k) e f ∙ sym (gcd_from_parts x y i j p.is_odd q.is_odd) ∙ sym (ap₂ gcd p.whole q.whole) in
     let within : gcd a b ≤ a = le_of_dvd some (gcd_is a b).0 in

@@ -17,15 +17,18 @@ use Rattle.field_core.proofs.EqualShares.{AreParts, next_part}
 pub times_count : (n : ℕ) → one_over (suc n) *ε fraction (pos (suc n)) (pos 1) ≡ number_one
 times_count n =
     fraction-multiply (pos 1) (pos (suc n)) (pos (suc n)) (pos 1) (suc_not_zero n) (suc_not_zero 0)
-    ∙ fraction-equal (pos 1 *ℤ pos (suc n)) (pos (suc n) *ℤ pos 1) (pos 1) (pos 1) (λ e. absurd (omega (arith, ints, e))) (suc_not_zero 0) (omega (arith, ints)) ∙ sym one_is
+    ∙ fraction-equal (pos 1 *ℤ pos (suc n)) (pos (suc n) *ℤ pos 1) (pos 1) (pos 1) (λ e. absurd (omega (arith, ints, e))) (suc_not_zero 0)
+    (omega (arith, ints)) ∙ sym one_is
 
 pub next_count : (n : ℕ) → fraction (pos (suc n)) (pos 1) ≡ fraction (pos n) (pos 1) +ε number_one
 next_count n =
     sym (ap (λ z. fraction (pos n) (pos 1) +ε z) one_is ∙ fraction-add (pos n) (pos 1) (pos 1) (pos 1) (suc_not_zero 0) (suc_not_zero 0)
-    ∙ fraction-equal (pos n *ℤ pos 1 +ℤ pos 1 *ℤ pos 1) (pos 1 *ℤ pos 1) (pos (suc n)) (pos 1) (λ e. absurd (omega (arith, ints, e))) (suc_not_zero 0) (omega (arith, ints)))
+    ∙ fraction-equal (pos n *ℤ pos 1 +ℤ pos 1 *ℤ pos 1) (pos 1 *ℤ pos 1) (pos (suc n)) (pos 1) (λ e. absurd (omega (arith, ints, e)))
+    (suc_not_zero 0) (omega (arith, ints)))
 
 pub one_over_positive : (n : ℕ) → IsPositive (one_over (suc n))
-one_over_positive n = fraction-sign (pos 1) (pos (suc n)) (suc_not_zero n) ∙ positive_in _ (product_positive (pos 1) (pos (suc n)) (omega (arith, ints)) (omega (arith, ints)))
+one_over_positive n = fraction-sign (pos 1) (pos (suc n)) (suc_not_zero n)
+    ∙ positive_in _ (product_positive (pos 1) (pos (suc n)) (omega (arith, ints)) (omega (arith, ints)))
 
 pub one_over_plain : (n : ℕ) → limit (one_over (suc n)) ≡ one_over (suc n)
 one_over_plain n = limit-fraction (pos 1) (pos (suc n)) (suc_not_zero n)

@@ -27,11 +27,13 @@ reads_cons b t s = accepts_cons byte_step is_final b t s
 
 -- ---- what follows a decimal as one follows it as a numeral
 
-through : (t : List ℕ) (o : Option DecimalPart) → ((q : DecimalPart) → takes t q ≡ true → reads t (Decimal q) ≡ true) → accepts_then (takes t) o ≡ true → accepts_then (reads t) (option_map Decimal o) ≡ true
+through : (t : List ℕ) (o : Option DecimalPart) → ((q : DecimalPart) → takes t q ≡ true → reads t (Decimal q) ≡ true)
+    → accepts_then (takes t) o ≡ true → accepts_then (reads t) (option_map Decimal o) ≡ true
 through t None r h = h
 through t (Some q) r h = r q h
 
-by_part : (t : List ℕ) (p : DecimalPart) (c : Class) → ((q : DecimalPart) → takes t q ≡ true → reads t (Decimal q) ≡ true) → accepts_then (takes t) (decimal_step p c) ≡ true → accepts_then (reads t) (step (Decimal p) c) ≡ true
+by_part : (t : List ℕ) (p : DecimalPart) (c : Class) → ((q : DecimalPart) → takes t q ≡ true → reads t (Decimal q) ≡ true)
+    → accepts_then (takes t) (decimal_step p c) ≡ true → accepts_then (reads t) (step (Decimal p) c) ≡ true
 by_part t parts.Whole classes.Slash r h = absurd cc
 by_part t p c r h = through t (decimal_step p c) r h
 
@@ -56,7 +58,8 @@ digits_stay : (ds t : List ℕ) (s : State) → AreDigits ds → step s classes.
 digits_stay [] t s h e = refl
 digits_stay (d ∷ ds) t s h e = reads_by d (ds ++ t) s s classes.Digit (class_digit d h.0 h.1) e ∙ digits_stay ds t s h.2 e
 
-digits_enter : (ds t : List ℕ) (s u : State) → AreDigits ds → 0 < length ds → step s classes.Digit ≡ Some u → step u classes.Digit ≡ Some u → reads (ds ++ t) s ≡ reads t u
+digits_enter : (ds t : List ℕ) (s u : State) → AreDigits ds → 0 < length ds → step s classes.Digit ≡ Some u → step u classes.Digit ≡ Some u
+    → reads (ds ++ t) s ≡ reads t u
 digits_enter [] t s u h n e f = absurd (omega arith)
 digits_enter (d ∷ ds) t s u h n e f = reads_by d (ds ++ t) s u classes.Digit (class_digit d h.0 h.1) e ∙ digits_stay ds t u h.2 f
 
@@ -66,15 +69,18 @@ under_accepted ds h n = ap (λ (x : List ℕ). reads x Slash) (sym (append-nil d
 -- ---- the whole
 
 -- behind the sign
-body_accepted : (body : Body) (s : State) → IsBody body → step s classes.Digit ≡ Some (Decimal parts.Whole) → ((t : List ℕ) → takes t parts.Start ≡ true → reads t s ≡ true) → reads (body_text body) s ≡ true
+body_accepted : (body : Body) (s : State) → IsBody body → step s classes.Digit ≡ Some (Decimal parts.Whole)
+    → ((t : List ℕ) → takes t parts.Start ≡ true → reads t s ≡ true) → reads (body_text body) s ≡ true
 body_accepted (Plain whole e) s h d r = r _ (body_taken (Plain whole e) h (λ x. x))
 body_accepted (Pointed whole ds e) s h d r = r _ (body_taken (Pointed whole ds e) h (λ x. x))
 body_accepted (Pair over under) s h d r =
-    digits_enter over (47 ∷ under) s (Decimal parts.Whole) h.0 h.1 d refl ∙ reads_by 47 under (Decimal parts.Whole) Slash classes.Slash class_slash refl ∙ under_accepted under h.2 h.3
+    digits_enter over (47 ∷ under) s (Decimal parts.Whole) h.0 h.1 d refl ∙ reads_by 47 under (Decimal parts.Whole) Slash classes.Slash class_slash refl
+    ∙ under_accepted under h.2 h.3
 
 signed_accepted : (sign : Option ℕ) (body : Body) → IsSign sign → IsBody body → reads (sign_text sign ++ body_text body) Start ≡ true
 signed_accepted None body h k = body_accepted body Start k refl begins
-signed_accepted (Some b) body h k = reads_by b (body_text body) Start (Decimal parts.Start) classes.Sign (class_sign b h) refl ∙ body_accepted body (Decimal parts.Start) k refl (λ t. goes_on t parts.Start)
+signed_accepted (Some b) body h k = reads_by b (body_text body) Start (Decimal parts.Start) classes.Sign (class_sign b h) refl
+    ∙ body_accepted body (Decimal parts.Start) k refl (λ t. goes_on t parts.Start)
 
 pub accepted : (t : List ℕ) → IsNumeral t → reads t Start ≡ true
 accepted t n = rw n.spelt (signed_accepted n.sign n.body n.is_sign n.is_body)

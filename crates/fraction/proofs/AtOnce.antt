@@ -1,5 +1,6 @@
 -- Written operations with 0, which need no step.
-use Rattle.std.proofs.Common.{◌≡◌, ℕ, suc, ◌/◌, ◌<◌, ◌^◌, ℤ, pos, negsuc, ◌+ℤ◌, ◌*ℤ◌, ◌<ℤ◌, unsigned_abs, int_div, neg_ℤ, Some, refl, sym, ◌∙◌, ap, arith, inl, lit<}
+use Rattle.std.proofs.Common.{◌≡◌, ℕ, suc, ◌/◌, ◌<◌, ◌^◌, ℤ, pos, negsuc, ◌+ℤ◌, ◌*ℤ◌, ◌<ℤ◌, unsigned_abs, int_div}
+use Rattle.std.proofs.Common.{neg_ℤ, Some, refl, sym, ◌∙◌, ap, arith, inl, lit<}
 use Rattle.std.proofs.lemmas.Int.{ints}
 use Rattle.std.proofs.Math.IntN.{*ℤ_comm}
 use Rattle.std.proofs.Math.Nat.{div-one, zero-div, div_self}
@@ -42,9 +43,13 @@ nothing_times z = omega (arith, ints)
 written_mul_comm : (x y : Terms) → written_mul x y ≡ written_mul y x
 unfolding written_mul
 written_mul_comm x y =
-    rw (*ℤ_comm (int_div x.num (gcd_of x.num y.den)) (int_div y.num (gcd_of y.num x.den)), *ℤ_comm (int_div x.den (gcd_of y.num x.den)) (int_div y.den (gcd_of x.num y.den))) refl
+    rw (
+      *ℤ_comm (int_div x.num (gcd_of x.num y.den)) (int_div y.num (gcd_of y.num x.den)),
+      *ℤ_comm (int_div x.den (gcd_of y.num x.den)) (int_div y.den (gcd_of x.num y.den)),
+    ) refl
 
-mul_is : (x y z : Terms) → int_div x.num (gcd_of x.num y.den) *ℤ int_div y.num (gcd_of y.num x.den) ≡ z.num → int_div x.den (gcd_of y.num x.den) *ℤ int_div y.den (gcd_of x.num y.den) ≡ z.den → IsReduced z → written_mul x y ≡ Some z
+mul_is : (x y z : Terms) → int_div x.num (gcd_of x.num y.den) *ℤ int_div y.num (gcd_of y.num x.den) ≡ z.num
+    → int_div x.den (gcd_of y.num x.den) *ℤ int_div y.den (gcd_of x.num y.den) ≡ z.den → IsReduced z → written_mul x y ≡ Some z
 unfolding written_mul
 mul_is x y z e f r = rw (e, sized_small z.num r.num_size, f, sized_small z.den r.den_size) refl
 
@@ -58,20 +63,36 @@ zero_times_terms x y r s e =
 times_zero_terms : (x y : Terms) → IsReduced x → IsReduced y → y.num ≡ pos 0 → Some y ≡ written_mul x y
 times_zero_terms x y r s e = zero_times_terms y x s r e ∙ written_mul_comm y x
 
-add_is : (x y z : Terms) (u v : ℤ) → gcd (unsigned_abs x.den) (unsigned_abs y.den) ≡ 1 → x.num *ℤ int_div y.den (pos 1) ≡ u → y.num *ℤ int_div x.den (pos 1) ≡ v → unsigned_abs u < 2 ^ 127 → unsigned_abs v < 2 ^ 127 → u +ℤ v ≡ z.num → int_div x.den (pos 1) *ℤ int_div y.den (pos 1) ≡ z.den → IsReduced z → written_add x y ≡ Some z
+add_is : (x y z : Terms) (u v : ℤ) → gcd (unsigned_abs x.den) (unsigned_abs y.den) ≡ 1 → x.num *ℤ int_div y.den (pos 1) ≡ u
+    → y.num *ℤ int_div x.den (pos 1) ≡ v → unsigned_abs u < 2 ^ 127 → unsigned_abs v < 2 ^ 127 → u +ℤ v ≡ z.num
+    → int_div x.den (pos 1) *ℤ int_div y.den (pos 1) ≡ z.den → IsReduced z → written_add x y ≡ Some z
 unfolding written_add
 add_is x y z u v g e f small low t d r =
-    rw (g, e, sized_small u small, f, sized_small v low, t, sized_small z.num r.num_size, gcd_one (unsigned_abs z.num), d, sized_small z.den r.den_size, over_one z.num) refl
+    rw (
+      g,
+      e,
+      sized_small u small,
+      f,
+      sized_small v low,
+      t,
+      sized_small z.num r.num_size,
+      gcd_one (unsigned_abs z.num),
+      d,
+      sized_small z.den r.den_size,
+      over_one z.num,
+    ) refl
 
 zero_plus_terms : (x y : Terms) → IsReduced x → IsReduced y → x.num ≡ pos 0 → Some y ≡ written_add x y
 zero_plus_terms x y r s e =
     let d = den_of_zero x r e in
-    sym (add_is x y y (pos 0) y.num (rw (d, one_gcd (unsigned_abs y.den)) refl) (rw e (nothing_times (int_div y.den (pos 1)))) (rw d (omega (arith, ints))) (lit< tt) s.num_size (omega (arith, ints)) (rw d (omega (arith, ints))) s)
+    sym (add_is x y y (pos 0) y.num (rw (d, one_gcd (unsigned_abs y.den)) refl) (rw e (nothing_times (int_div y.den (pos 1)))) (rw d (omega (arith, ints)))
+    (lit< tt) s.num_size (omega (arith, ints)) (rw d (omega (arith, ints))) s)
 
 plus_zero_terms : (x y : Terms) → IsReduced x → IsReduced y → y.num ≡ pos 0 → Some x ≡ written_add x y
 plus_zero_terms x y r s e =
     let d = den_of_zero y s e in
-    sym (add_is x y x x.num (pos 0) (rw (d, gcd_one (unsigned_abs x.den)) refl) (rw d (omega (arith, ints))) (rw e (nothing_times (int_div x.den (pos 1)))) r.num_size (lit< tt) (omega (arith, ints)) (rw d (omega (arith, ints))) r)
+    sym (add_is x y x x.num (pos 0) (rw (d, gcd_one (unsigned_abs x.den)) refl) (rw d (omega (arith, ints)))
+    (rw e (nothing_times (int_div x.den (pos 1)))) r.num_size (lit< tt) (omega (arith, ints)) (rw d (omega (arith, ints))) r)
 
 pub zero_times : (x y : ShortRatio) → x.num ≡ pos 0 → Some (short_terms x) ≡ written_mul (short_terms x) (short_terms y)
 zero_times x y e = zero_times_terms (short_terms x) (short_terms y) x.valid y.valid e

@@ -1,5 +1,6 @@
 -- Digits in front of a text, and parts of digits.
-use Rattle.std.proofs.Common.{◌≡◌, ℕ, zero, suc, ◌+◌, ◌-◌, ◌*◌, ◌^◌, min, ◌<◌, ◌≤◌, ◌⊎◌, inl, inr, true, false, List, [], ◌∷◌, ◌++◌, length, drop, take, Option, Some, None, refl, sym, ap, subst, ◌∙◌, append_assoc, arith}
+use Rattle.std.proofs.Common.{◌≡◌, ℕ, zero, suc, ◌+◌, ◌-◌, ◌*◌, ◌^◌, min, ◌<◌, ◌≤◌, ◌⊎◌, inl, inr, true, false, List}
+use Rattle.std.proofs.Common.{[], ◌∷◌, ◌++◌, length, drop, take, Option, Some, None, refl, sym, ap, subst, ◌∙◌, append_assoc, arith}
 use Rattle.std.specs.List.{prefix_len, take_while}
 use Rattle.std.specs.Char.{is_ascii_digit}
 use Rattle.std.specs.Str.Parse.{digits_value, digits_value_after}
@@ -54,8 +55,10 @@ take_both (suc n) (x ∷ xs) ys =
     let b : suc n - suc (min n (length xs)) ≡ n - min n (length xs) = omega arith in
     rw (a, b) (ap (λ (z : List ℕ). x ∷ z) (take_both n xs ys))
 
-pub first_value : (n k v r : ℕ) (xs ys : List ℕ) → k ≡ min n (length xs) → v ≡ digits_value_after 10 0 (take k xs) → r ≡ digits_value_after 10 v (take (n - k) ys) → r ≡ digits_value 10 (take n (xs ++ ys))
-first_value n k v r xs ys e f g = g ∙ rw (f, e) (sym (ap (digits_value 10) (take_both n xs ys) ∙ value_append 0 (take (min n (length xs)) xs) (take (n - min n (length xs)) ys)))
+pub first_value : (n k v r : ℕ) (xs ys : List ℕ) → k ≡ min n (length xs) → v ≡ digits_value_after 10 0 (take k xs)
+    → r ≡ digits_value_after 10 v (take (n - k) ys) → r ≡ digits_value 10 (take n (xs ++ ys))
+first_value n k v r xs ys e f g = g
+    ∙ rw (f, e) (sym (ap (digits_value 10) (take_both n xs ys) ∙ value_append 0 (take (min n (length xs)) xs) (take (n - min n (length xs)) ys)))
 
 pub first_below : (n r : ℕ) (ds : List ℕ) → AreDigits ds → n ≤ length ds → r ≡ digits_value 10 (take n ds) → r < 10 ^ n
 first_below n r ds are h e =
@@ -87,7 +90,8 @@ pub behind_digits : (ds more : List ℕ) → AreDigits ds → NoDigit more → d
 behind_digits ds more h k = ap (λ n. drop n (ds ++ more)) (digits_len ds more h k) ∙ drop_at ds more (length ds) refl
 
 -- what is cut off in front is digits, of any text
-front_by : (b : ℕ) (bs : List ℕ) (n : ℕ) → is_ascii_digit b ≡ true → n ≡ prefix_len is_ascii_digit bs → AreDigits (take_while is_ascii_digit bs) → AreDigits (take (1 + n) (b ∷ bs))
+front_by : (b : ℕ) (bs : List ℕ) (n : ℕ) → is_ascii_digit b ≡ true → n ≡ prefix_len is_ascii_digit bs → AreDigits (take_while is_ascii_digit bs)
+    → AreDigits (take (1 + n) (b ∷ bs))
 front_by b bs n h e r =
     let d = digit_in b h in
     let k : 1 + n ≡ suc n = omega arith in
@@ -96,7 +100,8 @@ front_by b bs n h e r =
 pub front_are : (text : List ℕ) → AreDigits (take_while is_ascii_digit text)
 front_are [] = tt
 front_are (b ∷ bs) =
-    cond_both (is_ascii_digit b) (1 + prefix_len is_ascii_digit bs) 0 (λ n. AreDigits (take n (b ∷ bs))) (λ h. front_by b bs (prefix_len is_ascii_digit bs) h refl (front_are bs)) (λ h. tt)
+    cond_both (is_ascii_digit b) (1 + prefix_len is_ascii_digit bs) 0 (λ n. AreDigits (take n (b ∷ bs)))
+    (λ h. front_by b bs (prefix_len is_ascii_digit bs) h refl (front_are bs)) (λ h. tt)
 
 -- what begins with a byte below the digits is no exponent
 pub exponent_apart : (e : Option Exponent) (b : ℕ) (more : List ℕ) → IsExponent e → b < 48 → ¬ (b ∷ more ≡ exponent_text e)
@@ -135,5 +140,6 @@ rest_of (Pair over under) = 47 ∷ under
 
 pub body_cut : (body : Body) (text : List ℕ) → IsBody body → text ≡ body_text body → IsCut text (front_of body) (rest_of body)
 body_cut (Plain whole e) text h q = cut_at whole (exponent_text e) text h.0 (exponent_no_digit e h.2) q
-body_cut (Pointed whole fraction e) text h q = cut_at whole (46 ∷ (fraction ++ exponent_text e)) text h.0 (inl (omega arith)) (q ∙ append_assoc whole (46 ∷ fraction) (exponent_text e))
+body_cut (Pointed whole fraction e) text h q = cut_at whole (46 ∷ (fraction ++ exponent_text e)) text h.0 (inl (omega arith))
+    (q ∙ append_assoc whole (46 ∷ fraction) (exponent_text e))
 body_cut (Pair over under) text h q = cut_at over (47 ∷ under) text h.0 (inl (omega arith)) q

@@ -1,5 +1,6 @@
 -- How many bytes of a text begin a decimal.
-use Rattle.std.proofs.Common.{◌≡◌, ℕ, suc, ◌+◌, ◌<◌, ◌≤◌, true, List, [], ◌∷◌, ◌++◌, length, get_or, drop, Option, Some, None, sym, ap, ◌∙◌, arith}
+use Rattle.std.proofs.Common.{◌≡◌, ℕ, suc, ◌+◌, ◌<◌, ◌≤◌, true, List, [], ◌∷◌, ◌++◌, length, get_or, drop, Option, Some, None}
+use Rattle.std.proofs.Common.{sym, ap, ◌∙◌, arith}
 use Rattle.std.proofs.lemmas.List.{drop_more, drop_all}
 use Rattle.field_core.proofs.Longest.{accepts_then, count, count_then, count_nil, count_cons, IsLongest, stops_behind}
 use Rattle.fraction.specs.Numeral.{body_text}
@@ -18,11 +19,15 @@ counted_nil p = count_nil decimal_byte may_end p
 pub counted_cons : (b : ℕ) (t : List ℕ) (p : DecimalPart) → counted (b ∷ t) p ≡ count_then (count decimal_byte t) (decimal_step p (class_of b))
 counted_cons b t p = count_cons decimal_byte may_end b t p
 
-pub counted_on : (text : List ℕ) (i : ℕ) (p q : DecimalPart) → i < length text → decimal_step p (class_of (get_or text i 0)) ≡ Some q → counted (drop i text) p ≡ 1 + counted (drop (i + 1) text) q
-counted_on text i p q lt e = ap (λ (x : List ℕ). counted x p) (drop_more text i 0 lt) ∙ counted_cons (get_or text i 0) (drop (i + 1) text) p ∙ ap (count_then (count decimal_byte (drop (i + 1) text))) e
+pub counted_on : (text : List ℕ) (i : ℕ) (p q : DecimalPart) → i < length text → decimal_step p (class_of (get_or text i 0)) ≡ Some q
+    → counted (drop i text) p ≡ 1 + counted (drop (i + 1) text) q
+counted_on text i p q lt e = ap (λ (x : List ℕ). counted x p) (drop_more text i 0 lt) ∙ counted_cons (get_or text i 0) (drop (i + 1) text) p
+    ∙ ap (count_then (count decimal_byte (drop (i + 1) text))) e
 
-pub counted_off : (text : List ℕ) (i : ℕ) (p : DecimalPart) → i < length text → decimal_step p (class_of (get_or text i 0)) ≡ None → counted (drop i text) p ≡ 0
-counted_off text i p lt e = ap (λ (x : List ℕ). counted x p) (drop_more text i 0 lt) ∙ counted_cons (get_or text i 0) (drop (i + 1) text) p ∙ ap (count_then (count decimal_byte (drop (i + 1) text))) e
+pub counted_off : (text : List ℕ) (i : ℕ) (p : DecimalPart) → i < length text → decimal_step p (class_of (get_or text i 0)) ≡ None
+    → counted (drop i text) p ≡ 0
+counted_off text i p lt e = ap (λ (x : List ℕ). counted x p) (drop_more text i 0 lt) ∙ counted_cons (get_or text i 0) (drop (i + 1) text) p
+    ∙ ap (count_then (count decimal_byte (drop (i + 1) text))) e
 
 pub counted_end : (text : List ℕ) (i : ℕ) (p : DecimalPart) → length text ≤ i → counted (drop i text) p ≡ 0
 counted_end text i p h = ap (λ (x : List ℕ). counted x p) (drop_all i text h) ∙ counted_nil p
@@ -38,13 +43,15 @@ stops_at : (t : List ℕ) (p : DecimalPart) → Stops t → may_end p ≡ true �
 stops_at [] p h e = counted_nil p
 stops_at (b ∷ t) p h e = counted_cons b t p ∙ ap (count_then (count decimal_byte t)) (h p e)
 
-length_by : (x t : List ℕ) (o : Option DecimalPart) → ((q : DecimalPart) → takes x q ≡ true → counted (x ++ t) q ≡ length x) → accepts_then (takes x) o ≡ true → count_then (count decimal_byte (x ++ t)) o ≡ suc (length x)
+length_by : (x t : List ℕ) (o : Option DecimalPart) → ((q : DecimalPart) → takes x q ≡ true → counted (x ++ t) q ≡ length x)
+    → accepts_then (takes x) o ≡ true → count_then (count decimal_byte (x ++ t)) o ≡ suc (length x)
 length_by x t None r h = absurd cc
 length_by x t (Some q) r h = omega (arith, r q h)
 
 counted_length : (x t : List ℕ) (p : DecimalPart) → Stops t → takes x p ≡ true → counted (x ++ t) p ≡ length x
 counted_length [] t p s h = stops_at t p s (sym (takes_nil p) ∙ h)
-counted_length (b ∷ x) t p s h = counted_cons b (x ++ t) p ∙ length_by x t (decimal_step p (class_of b)) (λ q e. counted_length x t q s e) (sym (takes_cons b x p) ∙ h)
+counted_length (b ∷ x) t p s h = counted_cons b (x ++ t) p
+    ∙ length_by x t (decimal_step p (class_of b)) (λ q e. counted_length x t q s e) (sym (takes_cons b x p) ∙ h)
 
 pub decimal_front : (d : Decimal) (t : List ℕ) → Stops t → decimal_length (body_text d.body ++ t) ≡ length (body_text d.body)
 unfolding decimal_length

@@ -1,5 +1,6 @@
 -- What a decimal is worth, by what is read of it.
-use Rattle.std.proofs.Common.{◌≡◌, ◌≢◌, ℕ, Bool, true, false, List, [], pos, Some, None, Result, Ok, Err, IfOk, IfErr, refl, sym, subst, ◌∙◌}
+use Rattle.std.proofs.Common.{◌≡◌, ◌≢◌, ℕ, Bool, true, false, List, [], pos, Some, None, Result, Ok, Err, IfOk, IfErr, refl, sym, subst}
+use Rattle.std.proofs.Common.{◌∙◌}
 use Rattle.std.specs.Option.{option_map}
 use Rattle.std.specs.Result.{result_ok}
 use Rattle.field_core.specs.Terms.{Terms}
@@ -9,7 +10,8 @@ use Rattle.fraction.specs.View.{terms_of}
 use Rattle.fraction.specs.declared.fault.NumberFault.{NumberFault}
 use Rattle.fraction.specs.declared.fault.NumberFault.TheVariants.{Empty, BadByte, ZeroDenominator, TooManyDigits}
 use Rattle.fraction.specs.declared.decimal_machine.DecimalPart.TheVariants as parts
-use Rattle.fraction.specs.Numeral.{Same, Body, Plain, Pointed, Pair, body_text, value_of, IsNumeral, HasZeroDenominator, HasTooManyDigits, IsNumeralOf, IsParseFault}
+use Rattle.fraction.specs.Numeral.{Same, Body, Plain, Pointed, Pair, body_text, value_of, IsNumeral, HasZeroDenominator, HasTooManyDigits, IsNumeralOf}
+use Rattle.fraction.specs.Numeral.{IsParseFault}
 use Rattle.fraction.specs.Decimals.{IsPair, Decimal, has_too_many_digits, decimal_value}
 use Rattle.fraction.proofs.DecimalTexts.{takes, takes_nil, decimal_taken}
 use Rattle.fraction.proofs.DecimalLimits.{decides_too_many}
@@ -57,7 +59,8 @@ unfolding decimal_value
 many_digits d n h = rw ((decides_too_many d.body).1 (subst HasTooManyDigits (same_body d n) h)) refl
 
 no_text : (d : Decimal) → ¬ (body_text d.body ≡ [])
-no_text d e = let h : takes [] parts.Start ≡ true = subst (λ x. takes x parts.Start ≡ true) e (decimal_taken d) in let f : false ≡ true = sym (takes_nil parts.Start) ∙ h in cc
+no_text d e = let h : takes [] parts.Start ≡ true = subst (λ x. takes x parts.Start ≡ true) e (decimal_taken d) in let f : false ≡ true =
+    sym (takes_nil parts.Start) ∙ h in cc
 
 fault_by : (d : Decimal) (f : NumberFault) → IsParseFault (body_text d.body) f → decimal_value d ≡ None
 unfolding IsParseFault
@@ -70,6 +73,7 @@ decimal_fault : (d : Decimal) (text : List ℕ) (f : NumberFault) → text ≡ b
 decimal_fault d text f e h = sym (fault_by d f (subst (λ x. IsParseFault x f) e h))
 
 -- what is read of the text of a decimal
-pub decimal_read : (d : Decimal) (text : List ℕ) (r : Result Fraction NumberFault) → text ≡ body_text d.body → IfOk r (λ x. IsNumeralOf text (terms_of x)) → IfErr r (IsParseFault text) → option_map terms_of (result_ok r) ≡ decimal_value d
+pub decimal_read : (d : Decimal) (text : List ℕ) (r : Result Fraction NumberFault) → text ≡ body_text d.body
+    → IfOk r (λ x. IsNumeralOf text (terms_of x)) → IfErr r (IsParseFault text) → option_map terms_of (result_ok r) ≡ decimal_value d
 decimal_read d text (Ok x) e ok err = decimal_found d text (terms_of x) e ok
 decimal_read d text (Err f) e ok err = decimal_fault d text f e err

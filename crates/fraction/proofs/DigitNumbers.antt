@@ -1,5 +1,6 @@
 -- Digits and the numbers that they write.
-use Rattle.std.proofs.Common.{◌≡◌, ℕ, zero, suc, ◌+◌, ◌-◌, ◌*◌, ◌^◌, ◌<◌, ◌≤◌, List, [], ◌∷◌, ◌++◌, length, get_or, drop, take, min, refl, subst, arith}
+use Rattle.std.proofs.Common.{◌≡◌, ℕ, zero, suc, ◌+◌, ◌-◌, ◌*◌, ◌^◌, ◌<◌, ◌≤◌, List, [], ◌∷◌, ◌++◌, length, get_or}
+use Rattle.std.proofs.Common.{drop, take, min, refl, subst, arith}
 use Rattle.std.specs.Char.{digit_value}
 use Rattle.std.specs.Str.Parse.{digits_value, digits_value_after}
 use Rattle.std.proofs.lemmas.List.{drop_more, drop_all}
@@ -26,7 +27,8 @@ pub value_below : (n : ℕ) (ds : List ℕ) → AreDigits ds → digits_value_af
 value_below n [] h = omega arith
 value_below n (d ∷ ds) h =
     let e = digit_is d h.0 h.1 in
-    let step : (n * 10 + digit_value d + 1) * 10 ^ length ds ≤ (n + 1) * 10 ^ suc (length ds) = next_room n (digit_value d) (length ds) ((n + 1) * 10 ^ suc (length ds)) (omega (arith, h.0, h.1)) (omega arith) in
+    let step : (n * 10 + digit_value d + 1) * 10 ^ length ds ≤ (n + 1) * 10 ^ suc (length ds) =
+    next_room n (digit_value d) (length ds) ((n + 1) * 10 ^ suc (length ds)) (omega (arith, h.0, h.1)) (omega arith) in
     omega (arith, value_below (n * 10 + digit_value d) ds h.2)
 
 -- powers of ten up to the limit
@@ -55,13 +57,18 @@ pub record Goes (digits : List ℕ) (i v room whole : ℕ) : Type 0 where
   pub fits : (v + 1) * 10 ^ length (drop i digits) ≤ room
   pub makes : digits_value_after 10 v (drop i digits) ≡ whole
 
-pub goes_on : (digits : List ℕ) (i v room whole : ℕ) → AreDigits digits → i < length digits → Goes digits i v room whole → Goes digits (i + 1) (v * 10 + (get_or digits i 0 - 48)) room whole
+pub goes_on : (digits : List ℕ) (i v room whole : ℕ) → AreDigits digits → i < length digits → Goes digits i v room whole
+    → Goes digits (i + 1) (v * 10 + (get_or digits i 0 - 48)) room whole
 goes_on digits i v room whole are lt g =
     let d = digit_at digits i are lt in
     let e = drop_more digits i 0 lt in
     let fits : (v + 1) * 10 ^ suc (length (drop (i + 1) digits)) ≤ room = subst (λ (x : List ℕ). (v + 1) * 10 ^ length x ≤ room) e g.fits in
-    let makes : digits_value_after 10 (v * 10 + digit_value (get_or digits i 0)) (drop (i + 1) digits) ≡ whole = subst (λ (x : List ℕ). digits_value_after 10 v x ≡ whole) e g.makes in
-    record { fits = next_room v (get_or digits i 0 - 48) (length (drop (i + 1) digits)) room (omega arith) fits; makes = subst (λ n. digits_value_after 10 (v * 10 + n) (drop (i + 1) digits) ≡ whole) (digit_is _ d.0 d.1) makes }
+    let makes : digits_value_after 10 (v * 10 + digit_value (get_or digits i 0)) (drop (i + 1) digits) ≡ whole =
+    subst (λ (x : List ℕ). digits_value_after 10 v x ≡ whole) e g.makes in
+    record {
+      fits = next_room v (get_or digits i 0 - 48) (length (drop (i + 1) digits)) room (omega arith) fits;
+      makes = subst (λ n. digits_value_after 10 (v * 10 + n) (drop (i + 1) digits) ≡ whole) (digit_is _ d.0 d.1) makes;
+    }
 
 pub goes_below : (digits : List ℕ) (i v room whole : ℕ) → i < length digits → Goes digits i v room whole → v * 10 + 10 ≤ room
 goes_below digits i v room whole lt g =
@@ -75,7 +82,8 @@ value_append n [] ys = refl
 value_append n (x ∷ xs) ys = value_append (n * 10 + digit_value x) xs ys
 
 -- the least of a bound and the number that digits write, with one digit more
-pub far_on : (digits : List ℕ) (i v w far : ℕ) → AreDigits digits → i < length digits → v ≡ min (digits_value 10 (take i digits)) far → w ≡ min (v * 10 + (get_or digits i 0 - 48)) far → w ≡ min (digits_value 10 (take (i + 1) digits)) far
+pub far_on : (digits : List ℕ) (i v w far : ℕ) → AreDigits digits → i < length digits → v ≡ min (digits_value 10 (take i digits)) far
+    → w ≡ min (v * 10 + (get_or digits i 0 - 48)) far → w ≡ min (digits_value 10 (take (i + 1) digits)) far
 far_on digits i v w far are lt e f =
     let d = digit_at digits i are lt in
     let more = digits_value_more 10 digits i lt in

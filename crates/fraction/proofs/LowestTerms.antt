@@ -1,5 +1,7 @@
 -- Quotients by the greatest common divisor.
-use Rattle.std.proofs.Common.{◌≡◌, ◌≢◌, ℕ, zero, suc, ◌-◌, ◌*◌, ◌/◌, ◌<◌, ◌≤◌, ◌^◌, ◌⊎◌, inl, inr, Bool, true, false, refl, sym, ap, ◌∙◌, arith, ℤ, pos, negsuc, neg_ℤ, ◌*ℤ◌, ◌<ℤ◌, unsigned_abs, FitsSigned, to_z, of_z, Result, Ok, Err}
+use Rattle.std.proofs.Common.{◌≡◌, ◌≢◌, ℕ, zero, suc, ◌-◌, ◌*◌, ◌/◌, ◌<◌, ◌≤◌, ◌^◌, ◌⊎◌, inl, inr, Bool, true}
+use Rattle.std.proofs.Common.{false, refl, sym, ap, ◌∙◌, arith, ℤ, pos, negsuc, neg_ℤ, ◌*ℤ◌, ◌<ℤ◌, unsigned_abs, FitsSigned, to_z, of_z}
+use Rattle.std.proofs.Common.{Result, Ok, Err}
 use Rattle.std.proofs.lemmas.Int.{ints, to_z-of_z}
 use Rattle.std.proofs.Math.Nat.{div-le_self, pos_of_dvd_of_pos, mul_comm, div-mul_cancel}
 use Rattle.std.proofs.Math.IntN.{*ℤ_comm}
@@ -61,7 +63,10 @@ pub record AreRead (n d : ℤ) (below turned : Bool) (over under p q : ℕ) : Ty
   pub first : p ≡ over / gcd over under
   pub second : q ≡ under / gcd over under
 
-pub are_read : (n d : ℤ) (below turned : Bool) (over under p q : ℕ) → FitsSigned w128 n → FitsSigned w128 d → below ≡ is_negative (to_z w128 (of_z w128 n)) → turned ≡ is_negative (to_z w128 (of_z w128 d)) → over ≡ unsigned_abs (to_z w128 (of_z w128 n)) → under ≡ unsigned_abs (to_z w128 (of_z w128 d)) → p ≡ over / gcd over under → q ≡ under / gcd over under → AreRead n d below turned over under p q
+pub are_read : (n d : ℤ) (below turned : Bool) (over under p q : ℕ) → FitsSigned w128 n → FitsSigned w128 d
+    → below ≡ is_negative (to_z w128 (of_z w128 n)) → turned ≡ is_negative (to_z w128 (of_z w128 d)) → over ≡ unsigned_abs (to_z w128 (of_z w128 n))
+    → under ≡ unsigned_abs (to_z w128 (of_z w128 d)) → p ≡ over / gcd over under → q ≡ under / gcd over under
+    → AreRead n d below turned over under p q
 are_read n d below turned over under p q f g b t o u first second = record {
   below_is = b ∙ ap is_negative (to_z-of_z w128 n f);
   turned_is = t ∙ ap is_negative (to_z-of_z w128 d g);
@@ -71,7 +76,8 @@ are_read n d below turned over under p q f g b t o u first second = record {
   second = second;
 }
 
-terms_read : (n d : ℤ) (below turned : Bool) (over under p q : ℕ) → AreRead n d below turned over under p q → lowest_terms n d ≡ record { num = with_sign (not (beq below turned)) p; den = pos q }
+terms_read : (n d : ℤ) (below turned : Bool) (over under p q : ℕ) → AreRead n d below turned over under p q
+    → lowest_terms n d ≡ record { num = with_sign (not (beq below turned)) p; den = pos q }
 unfolding lowest_terms lowest_of
 terms_read n d below turned over under p q r = rw (r.first, r.second, r.over_is, r.under_is, r.below_is, r.turned_is, differ_is) refl
 
@@ -82,16 +88,23 @@ pub no_denominator : (n d : ℤ) (under : ℕ) → under ≡ unsigned_abs d → 
 unfolding IsLowest
 no_denominator n d under e h = nothing d (sym e ∙ h)
 
-pub too_wide : (n d : ℤ) (below turned : Bool) (over under p q : ℕ) → AreRead n d below turned over under p q → ¬ (under ≡ 0) → (2 ^ 127 - 1 < p) ⊎ (2 ^ 127 - 1 < q) → IsLowest n d (Err TooWide)
+pub too_wide : (n d : ℤ) (below turned : Bool) (over under p q : ℕ) → AreRead n d below turned over under p q → ¬ (under ≡ 0) → (2 ^ 127 - 1 < p)
+    ⊎ (2 ^ 127 - 1 < q) → IsLowest n d (Err TooWide)
 unfolding IsLowest
-too_wide n d below turned over under p q r some h =
-    (apart_from_zero d under r.under_is some, rw (terms_read n d below turned over under p q r) (elim h [ inl e ↦ inl (rw abs_sign (omega arith)) | inr e ↦ inr (omega arith) ]))
+too_wide n d below turned over under p q r some h = (
+  apart_from_zero d under r.under_is some,
+  rw (terms_read n d below turned over under p q r)
+      (elim h [ inl e ↦ inl (rw abs_sign (omega arith)) | inr e ↦ inr (omega arith) ]),
+)
 
-pub in_lowest : (n d : ℤ) (below turned : Bool) (over under p q : ℕ) (x : Ratio) → AreRead n d below turned over under p q → ¬ (under ≡ 0) → p ≤ 2 ^ 127 - 1 → q ≤ 2 ^ 127 - 1 → terms x ≡ record { num = with_sign (not (beq below turned)) p; den = pos q } → IsLowest n d (Ok x)
+pub in_lowest : (n d : ℤ) (below turned : Bool) (over under p q : ℕ) (x : Ratio) → AreRead n d below turned over under p q → ¬ (under ≡ 0)
+    → p ≤ 2 ^ 127 - 1 → q ≤ 2 ^ 127 - 1 → terms x ≡ record { num = with_sign (not (beq below turned)) p; den = pos q } → IsLowest n d (Ok x)
 unfolding IsLowest
 in_lowest n d below turned over under p q x r some h k e =
-    let same : lowest_terms n d ≡ record { num = with_sign (not (beq below turned)) p; den = pos q } = terms_read n d below turned over under p q r in
-    (apart_from_zero d under r.under_is some, (rw same (λ w. elim w [ inl f ↦ (let g = rw abs_sign at f in omega arith) | inr f ↦ omega arith ]), e ∙ sym same))
+    let same : lowest_terms n d ≡ record { num = with_sign (not (beq below turned)) p; den = pos q } = terms_read n d below turned over under p q r in (
+      apart_from_zero d under r.under_is some,
+      (rw same (λ w. elim w [ inl f ↦ (let g = rw abs_sign at f in omega arith) | inr f ↦ omega arith ]), e ∙ sym same),
+    )
 
 -- ---- their values
 
@@ -108,7 +121,8 @@ signed_cross : (s t : Bool) (p q a b : ℕ) → p * b ≡ a * q → with_sign (d
 signed_cross false false p q a b e = ap pos e
 signed_cross true false p q a b e = neg_times p b ∙ ap (λ n. neg_ℤ (pos n)) e ∙ sym (neg_times a q)
 signed_cross false true p q a b e = neg_both p b ∙ ap pos e
-signed_cross true true p q a b e = *ℤ_comm (pos p) (neg_ℤ (pos b)) ∙ neg_times b p ∙ ap (λ n. neg_ℤ (pos n)) (mul_comm b p ∙ e) ∙ sym (neg_times a q)
+signed_cross true true p q a b e = *ℤ_comm (pos p) (neg_ℤ (pos b)) ∙ neg_times b p ∙ ap (λ n. neg_ℤ (pos n)) (mul_comm b p ∙ e)
+    ∙ sym (neg_times a q)
 
 cross_four : (p q g n d : ℕ) → p * g ≡ n → q * g ≡ d → p * d ≡ n * q
 cross_four p q g n d e f = rw (← e, ← f) (omega arith)
@@ -135,17 +149,20 @@ lowest_are n d some =
     let both = (divided (unsigned_abs n) (unsigned_abs d) (size_some d some)).1 in
     record {
       positive = (let p = both.some in omega (arith, ints));
-      apart = ap (λ k. gcd k (unsigned_abs d / gcd (unsigned_abs n) (unsigned_abs d))) (abs_sign (differ (is_negative n) (is_negative d)) (unsigned_abs n / gcd (unsigned_abs n) (unsigned_abs d))) ∙ both.apart;
+      apart = ap (λ k. gcd k (unsigned_abs d / gcd (unsigned_abs n) (unsigned_abs d)))
+          (abs_sign (differ (is_negative n) (is_negative d)) (unsigned_abs n / gcd (unsigned_abs n) (unsigned_abs d))) ∙ both.apart;
     }
 
 -- the lowest terms of any quotient with the value of a fraction are that fraction
 pub lowest_any : (t : Terms) (n d : ℤ) → IsReduced t → d ≢ pos 0 → Same t (record { num = n; den = d }) → lowest_terms n d ≡ t
 lowest_any t n d r some h =
-    lowest_unique (lowest_terms n d) t (lowest_are n d some) (lowest_from t r) (same_through (lowest_terms n d) t (record { num = n; den = d }) some (lowest_cross n d) h)
+    lowest_unique (lowest_terms n d) t (lowest_are n d some) (lowest_from t r)
+    (same_through (lowest_terms n d) t (record { num = n; den = d }) some (lowest_cross n d) h)
 
 -- ---- what a quotient says
 
-pub from_machine : (n d : ℤ) (r : Result Ratio FractionFault) → FitsSigned w128 n → FitsSigned w128 d → IsLowest (to_z w128 (of_z w128 n)) (to_z w128 (of_z w128 d)) r → IsLowest n d r
+pub from_machine : (n d : ℤ) (r : Result Ratio FractionFault) → FitsSigned w128 n → FitsSigned w128 d
+    → IsLowest (to_z w128 (of_z w128 n)) (to_z w128 (of_z w128 d)) r → IsLowest n d r
 from_machine n d r f g h = rw (to_z-of_z w128 n f, to_z-of_z w128 d g) at h
 
 pub ok_lowest : (n d : ℤ) (x : Ratio) → IsLowest n d (Ok x) → terms x ≡ lowest_terms n d
@@ -172,23 +189,27 @@ pub kind_err : {A : Type 0} (r : Result A FractionFault) (f g : FractionFault) �
 unfolding SameKind
 kind_err r f g e k h = ((λ q. (cc)), (λ q. (cc)))
 
-zero_by : (n d : ℤ) (q : Result Ratio FractionFault) → IsLowest n d q → (q ≡ Err ZeroDenominator → d ≡ pos 0) × (d ≡ pos 0 → q ≡ Err ZeroDenominator)
+zero_by : (n d : ℤ) (q : Result Ratio FractionFault) → IsLowest n d q → (q ≡ Err ZeroDenominator → d ≡ pos 0)
+    × (d ≡ pos 0 → q ≡ Err ZeroDenominator)
 unfolding IsLowest
 zero_by n d (Ok x) h = ((λ e. absurd cc), (λ e. absurd (h.0 e)))
 zero_by n d (Err ZeroDenominator) h = ((λ e. h), (λ e. refl))
 zero_by n d (Err TooWide) h = ((λ e. absurd cc), (λ e. absurd (h.0 e)))
 
-wide_by : (n d : ℤ) (q : Result Ratio FractionFault) → IsLowest n d q → (q ≡ Err TooWide → (d ≢ pos 0) × HasWidePart (lowest_terms n d)) × ((d ≢ pos 0) × HasWidePart (lowest_terms n d) → q ≡ Err TooWide)
+wide_by : (n d : ℤ) (q : Result Ratio FractionFault) → IsLowest n d q → (q ≡ Err TooWide → (d ≢ pos 0) × HasWidePart (lowest_terms n d))
+    × ((d ≢ pos 0) × HasWidePart (lowest_terms n d) → q ≡ Err TooWide)
 unfolding IsLowest
 wide_by n d (Ok x) h = ((λ e. absurd cc), (λ w. absurd (h.1.0 w.1)))
 wide_by n d (Err ZeroDenominator) h = ((λ e. absurd cc), (λ w. absurd (w.0 h)))
 wide_by n d (Err TooWide) h = ((λ e. h), (λ w. refl))
 
 -- what each fault of such a result says
-pub zero_fault : {A : Type 0} (n d : ℤ) (r : Result A FractionFault) (q : Result Ratio FractionFault) → SameKind r q → IsLowest n d q → (r ≡ Err ZeroDenominator → d ≡ pos 0) × (d ≡ pos 0 → r ≡ Err ZeroDenominator)
+pub zero_fault : {A : Type 0} (n d : ℤ) (r : Result A FractionFault) (q : Result Ratio FractionFault) → SameKind r q → IsLowest n d q
+    → (r ≡ Err ZeroDenominator → d ≡ pos 0) × (d ≡ pos 0 → r ≡ Err ZeroDenominator)
 unfolding SameKind
 zero_fault n d r q k h = ((λ e. (zero_by n d q h).0 ((k ZeroDenominator).0 e)), (λ e. (k ZeroDenominator).1 ((zero_by n d q h).1 e)))
 
-pub wide_fault : {A : Type 0} (n d : ℤ) (r : Result A FractionFault) (q : Result Ratio FractionFault) → SameKind r q → IsLowest n d q → (r ≡ Err TooWide → (d ≢ pos 0) × HasWidePart (lowest_terms n d)) × ((d ≢ pos 0) × HasWidePart (lowest_terms n d) → r ≡ Err TooWide)
+pub wide_fault : {A : Type 0} (n d : ℤ) (r : Result A FractionFault) (q : Result Ratio FractionFault) → SameKind r q → IsLowest n d q
+    → (r ≡ Err TooWide → (d ≢ pos 0) × HasWidePart (lowest_terms n d)) × ((d ≢ pos 0) × HasWidePart (lowest_terms n d) → r ≡ Err TooWide)
 unfolding SameKind
 wide_fault n d r q k h = ((λ e. (wide_by n d q h).0 ((k TooWide).0 e)), (λ e. (k TooWide).1 ((wide_by n d q h).1 e)))

@@ -1,5 +1,6 @@
 -- Each text has a value or a fault, so that reading a numeral is a function of its text.
-use Rattle.std.proofs.Common.{◌≡◌, ℕ, suc, ◌+◌, ◌-◌, ◌*◌, ◌^◌, ◌<◌, ◌≤◌, ◌⊎◌, inl, inr, Bool, true, false, List, ◌++◌, length, take, ℤ, pos, negsuc, ◌-ℤ◌, ◌<ℤ◌, Result, Ok, Err, IfOk, IfErr, refl, sym, ap, arith}
+use Rattle.std.proofs.Common.{◌≡◌, ℕ, suc, ◌+◌, ◌-◌, ◌*◌, ◌^◌, ◌<◌, ◌≤◌, ◌⊎◌, inl, inr, Bool, true, false, List}
+use Rattle.std.proofs.Common.{◌++◌, length, take, ℤ, pos, negsuc, ◌-ℤ◌, ◌<ℤ◌, Result, Ok, Err, IfOk, IfErr, refl, sym, ap, arith}
 use Rattle.std.specs.Str.Parse.{digits_value}
 use Rattle.std.proofs.lemmas.Bool.{cases_lt}
 use Rattle.std.proofs.lemmas.Int.{ints}
@@ -9,7 +10,8 @@ use Rattle.fraction.specs.declared.fault.NumberFault.{NumberFault}
 use Rattle.fraction.specs.declared.fault.NumberFault.TheVariants.{Empty, BadByte, ZeroDenominator, TooManyDigits}
 use Rattle.fraction.specs.declared.numeral_machine.State.TheVariants.{Start}
 use Rattle.fraction.specs.declared.size.Size.{Size}
-use Rattle.fraction.specs.Numeral.{AreDigits, exponent_of, Body, Plain, Pointed, Pair, IsBody, is_minus, without_leading_zeros, trailing_zeros, PassesLimit, IsTooLong, IsNumeral, IsNumeralOf, IsParseFault}
+use Rattle.fraction.specs.Numeral.{AreDigits, exponent_of, Body, Plain, Pointed, Pair, IsBody, is_minus, without_leading_zeros, trailing_zeros, PassesLimit}
+use Rattle.fraction.specs.Numeral.{IsTooLong, IsNumeral, IsNumeralOf, IsParseFault}
 use Rattle.fraction.specs.Checking.{IsChecked}
 use Rattle.fraction.specs.Lowest.{lowest_of}
 use Rattle.fraction.specs.Sizes.{IsScaled, IsDecimalSize, IsBodySize}
@@ -65,18 +67,33 @@ scaled_size : (n m : ℕ) (s : ℤ) → m < 10 ^ n → IsWithin n s → SizeOf n
 unfolding SizeOf
 scaled_size n m (pos k) h w =
     let near : k ≤ 38 = elim (cases_lt 38 k) [ inl far ↦ absurd (w.low (omega (arith, ints))) | inr near ↦ near ] in
-    let x : Size = record { num = m; den = 10 ^ k; some = power_some k; num_size = omega (arith, power_small n w.few); den_size = omega (arith, power_small k near) } in
+    let x : Size = record {
+      num = m;
+      den = 10 ^ k;
+      some = power_some k;
+      num_size = omega (arith, power_small n w.few);
+      den_size = omega (arith, power_small k near);
+    } in
     (x, scaled_ok n m (pos k) x (not_past n (pos k) w) refl)
 scaled_size n m (negsuc k) h w =
-    let near : n + suc k ≤ 38 = elim (cases_lt 38 (n + suc k)) [ inl far ↦ absurd (w.high (omega (arith, ints), omega (arith, ints))) | inr near ↦ near ] in
-    let x : Size = record { num = m * 10 ^ suc k; den = 1; some = omega arith; num_size = omega (arith, raised_small m n (suc k) h near); den_size = omega arith } in
+    let near : n + suc k ≤ 38 = elim (cases_lt 38 (n + suc k))
+    [ inl far ↦ absurd (w.high (omega (arith, ints), omega (arith, ints))) | inr near ↦ near ] in
+    let x : Size = record {
+      num = m * 10 ^ suc k;
+      den = 1;
+      some = omega arith;
+      num_size = omega (arith, raised_small m n (suc k) h near);
+      den_size = omega arith;
+    } in
     (x, scaled_ok n m (negsuc k) x (not_past n (negsuc k) w) refl)
 
 -- what digits give there
 DecimalSize : List ℕ → ℤ → Type 0
 DecimalSize ds s = (r : Result Size NumberFault) × IsDecimalSize ds s r
 
-some_long : (ds : List ℕ) (s : ℤ) → 0 < length (without_leading_zeros ds) → PassesLimit (length (without_leading_zeros ds) - trailing_zeros (without_leading_zeros ds)) (s -ℤ pos (trailing_zeros (without_leading_zeros ds))) → IsDecimalSize ds s (Err TooManyDigits)
+some_long : (ds : List ℕ) (s : ℤ) → 0 < length (without_leading_zeros ds)
+    → PassesLimit (length (without_leading_zeros ds) - trailing_zeros (without_leading_zeros ds)) (s -ℤ pos (trailing_zeros (without_leading_zeros ds)))
+    → IsDecimalSize ds s (Err TooManyDigits)
 unfolding IsDecimalSize IsTooLong
 some_long ds s some h = (some, h)
 
@@ -90,7 +107,8 @@ decimal_size ds s are =
     elim (cases_lt 0 (length D)) [
       | inl some ↦ elim (limit_or_not n t) [
         | inl past ↦ (Err TooManyDigits, some_long ds s some past)
-        | inr within ↦ let size = scaled_size n (digits_value 10 (take n D)) t (first_below n _ D (digits_without ds are) (omega arith) refl) within in (Ok size.0, scaled_decimal ds s (Ok size.0) some size.1)
+        | inr within ↦ let size = scaled_size n (digits_value 10 (take n D)) t (first_below n _ D (digits_without ds are) (omega arith) refl) within in
+            (Ok size.0, scaled_decimal ds s (Ok size.0) some size.1)
       ]
       | inr none ↦ (Ok zero_size, decimal_zero ds s zero_size (omega arith) refl)
     ]
@@ -115,7 +133,13 @@ pair_size over under h k =
           | inr few ↦
               let num : digits_value 10 us < (0 + 1) * 10 ^ length us = value_below 0 us (digits_without over h) in
               let den : digits_value 10 vs < (0 + 1) * 10 ^ length vs = value_below 0 vs (digits_without under k) in
-              let x : Size = record { num = digits_value 10 us; den = digits_value 10 vs; some = pair_some under vs _ refl k some refl; num_size = omega (arith, power_small (length us) short); den_size = omega (arith, power_small (length vs) few) } in
+              let x : Size = record {
+                num = digits_value 10 us;
+                den = digits_value 10 vs;
+                some = pair_some under vs _ refl k some refl;
+                num_size = omega (arith, power_small (length us) short);
+                den_size = omega (arith, power_small (length vs) few);
+              } in
               (Ok x, pair_ok over under us vs x refl refl k some short few refl refl)
         ]
       ]
@@ -124,7 +148,8 @@ pair_size over under h k =
 body_size : (b : Body) → IsBody b → BodySize b
 unfolding BodySize DecimalSize
 body_size (Plain whole e) h = let d = decimal_size whole (pos 0 -ℤ exponent_of e) h.0 in (d.0, plain whole e d.0 d.1)
-body_size (Pointed whole fraction e) h = let d = decimal_size (whole ++ fraction) (pos (length fraction) -ℤ exponent_of e) (digits_append whole fraction h.0 h.1) in (d.0, pointed whole fraction e d.0 d.1)
+body_size (Pointed whole fraction e) h = let d = decimal_size (whole ++ fraction) (pos (length fraction) -ℤ exponent_of e)
+    (digits_append whole fraction h.0 h.1) in (d.0, pointed whole fraction e d.0 d.1)
 body_size (Pair over under) h = pair_size over under h.0 h.2
 
 -- ---- texts
@@ -201,7 +226,8 @@ unfolding numeral
 numeral_fault text f h = fault_by text (reading text) f h
 
 -- what a reader of numerals answers is this function of the text
-pub numeral_is : {X : Type 0} (terms_of : X → Terms) (text : List ℕ) (r : Result X NumberFault) → IfOk r (λ x. IsNumeralOf text (terms_of x)) → IfErr r (IsParseFault text) → ok_map terms_of r ≡ numeral text
+pub numeral_is : {X : Type 0} (terms_of : X → Terms) (text : List ℕ) (r : Result X NumberFault) → IfOk r (λ x. IsNumeralOf text (terms_of x))
+    → IfErr r (IsParseFault text) → ok_map terms_of r ≡ numeral text
 numeral_is terms_of text (Ok x) h k = sym (numeral_value text (terms_of x) h)
 numeral_is terms_of text (Err f) h k = sym (numeral_fault text f k)
 

@@ -1,5 +1,6 @@
 -- What is accepted is a numeral.
-use Rattle.std.proofs.Common.{◌≡◌, ℕ, ◌<◌, ◌≤◌, ◌⊎◌, inl, inr, true, false, List, [], ◌∷◌, ◌++◌, length, Option, Some, None, refl, sym, ap, ◌∙◌, arith}
+use Rattle.std.proofs.Common.{◌≡◌, ℕ, ◌<◌, ◌≤◌, ◌⊎◌, inl, inr, true, false, List, [], ◌∷◌, ◌++◌, length, Option, Some, None}
+use Rattle.std.proofs.Common.{refl, sym, ap, ◌∙◌, arith}
 use Rattle.fraction.specs.declared.byte_class.Class.{Class}
 use Rattle.fraction.specs.declared.byte_class.Class.TheVariants as classes
 use Rattle.fraction.specs.declared.decimal_machine.DecimalPart.{DecimalPart}
@@ -19,7 +20,8 @@ use Rattle.fraction.proofs.Accepted.{reads, reads_nil, reads_cons}
 false_accepted : (s : State) → is_final s ≡ false → reads [] s ≡ true → ⊥
 false_accepted s f h = let e = sym f ∙ sym (reads_nil s) ∙ h in cc
 
-under_by : (b : ℕ) (t : List ℕ) (c : Class) → IsOf c b → (reads t Under ≡ true → AreDigits t) → accepts_then (reads t) (step Under c) ≡ true → AreDigits (b ∷ t)
+under_by : (b : ℕ) (t : List ℕ) (c : Class) → IsOf c b → (reads t Under ≡ true → AreDigits t) → accepts_then (reads t) (step Under c) ≡ true
+    → AreDigits (b ∷ t)
 under_by b t classes.Digit k r h = (k.0, k.1, r h)
 under_by b t c k r h = absurd cc
 
@@ -56,25 +58,38 @@ record IsRest (p : DecimalPart) (t : List ℕ) : Type 0 where
 Ends : DecimalPart → List ℕ → Type 0
 Ends p t = (takes t p ≡ true) ⊎ IsRest p t
 
-with_digit : (b : ℕ) (t : List ℕ) (p : DecimalPart) → (48 ≤ b) × (b ≤ 57) → ((over : List ℕ) → MayStand p (b ∷ over)) → accepts_then (takes t) (decimal_step p (class_of b)) ≡ takes t parts.Whole → Ends parts.Whole t → Ends p (b ∷ t)
+with_digit : (b : ℕ) (t : List ℕ) (p : DecimalPart) → (48 ≤ b) × (b ≤ 57) → ((over : List ℕ) → MayStand p (b ∷ over))
+    → accepts_then (takes t) (decimal_step p (class_of b)) ≡ takes t parts.Whole → Ends parts.Whole t → Ends p (b ∷ t)
 unfolding Ends
 with_digit b t p k m f (inl e) = inl (takes_cons b t p ∙ f ∙ e)
-with_digit b t p k m f (inr r) = inr (record { over = b ∷ r.over; under = r.under; are = (k.0, k.1, r.are); may = m r.over; below = r.below; some = r.some; spelt = ap (λ (x : List ℕ). b ∷ x) r.spelt })
+with_digit b t p k m f (inr r) =
+    inr (record {
+      over = b ∷ r.over;
+      under = r.under;
+      are = (k.0, k.1, r.are);
+      may = m r.over;
+      below = r.below;
+      some = r.some;
+      spelt = ap (λ (x : List ℕ). b ∷ x) r.spelt;
+    })
 
 -- where no slash can follow
-no_rest : (b : ℕ) (t : List ℕ) (p q : DecimalPart) → ((over : List ℕ) → ¬ MayStand q over) → accepts_then (takes t) (decimal_step p (class_of b)) ≡ takes t q → Ends q t → Ends p (b ∷ t)
+no_rest : (b : ℕ) (t : List ℕ) (p q : DecimalPart) → ((over : List ℕ) → ¬ MayStand q over)
+    → accepts_then (takes t) (decimal_step p (class_of b)) ≡ takes t q → Ends q t → Ends p (b ∷ t)
 unfolding Ends
 no_rest b t p q n f (inl e) = inl (takes_cons b t p ∙ f ∙ e)
 no_rest b t p q n f (inr r) = absurd (n r.over r.may)
 
-ends_by : (b : ℕ) (t : List ℕ) (p : DecimalPart) (c : Class) → class_of b ≡ c → IsOf c b → ((q : DecimalPart) → reads t (Decimal q) ≡ true → Ends q t) → accepts_then (reads t) (step (Decimal p) c) ≡ true → Ends p (b ∷ t)
+ends_by : (b : ℕ) (t : List ℕ) (p : DecimalPart) (c : Class) → class_of b ≡ c → IsOf c b
+    → ((q : DecimalPart) → reads t (Decimal q) ≡ true → Ends q t) → accepts_then (reads t) (step (Decimal p) c) ≡ true → Ends p (b ∷ t)
 unfolding Ends
 ends_by b t parts.Start classes.Digit e k r h = with_digit b t parts.Start k (λ o. omega arith) (rw e refl) (r parts.Whole h)
 ends_by b t parts.Start classes.Point e k r h = no_rest b t parts.Start parts.Point (λ o x. x) (rw e refl) (r parts.Point h)
 ends_by b t parts.Whole classes.Digit e k r h = with_digit b t parts.Whole k (λ o. tt) (rw e refl) (r parts.Whole h)
 ends_by b t parts.Whole classes.Point e k r h = no_rest b t parts.Whole parts.Fraction (λ o x. x) (rw e refl) (r parts.Fraction h)
 ends_by b t parts.Whole classes.Mark e k r h = no_rest b t parts.Whole parts.Mark (λ o x. x) (rw e refl) (r parts.Mark h)
-ends_by b t parts.Whole classes.Slash e k r h = let m = slash t h in inr (record { over = []; under = t; are = tt; may = tt; below = m.0; some = m.1; spelt = ap (λ (x : ℕ). x ∷ t) k })
+ends_by b t parts.Whole classes.Slash e k r h = let m =
+    slash t h in inr (record { over = []; under = t; are = tt; may = tt; below = m.0; some = m.1; spelt = ap (λ (x : ℕ). x ∷ t) k })
 ends_by b t parts.Point classes.Digit e k r h = no_rest b t parts.Point parts.Fraction (λ o x. x) (rw e refl) (r parts.Fraction h)
 ends_by b t parts.Fraction classes.Digit e k r h = no_rest b t parts.Fraction parts.Fraction (λ o x. x) (rw e refl) (r parts.Fraction h)
 ends_by b t parts.Fraction classes.Mark e k r h = no_rest b t parts.Fraction parts.Mark (λ o x. x) (rw e refl) (r parts.Mark h)
@@ -106,7 +121,8 @@ bare : (t : List ℕ) → reads t (Decimal parts.Start) ≡ true → IsBare t
 bare t h = bare_by t (ends t parts.Start h)
 
 numeral_of : (sign : Option ℕ) (t text : List ℕ) → IsSign sign → IsBare t → text ≡ sign_text sign ++ t → IsNumeral text
-numeral_of sign t text k m e = record { sign = sign; body = m.body; is_sign = k; is_body = m.is; spelt = e ∙ ap (λ (x : List ℕ). sign_text sign ++ x) m.spelt }
+numeral_of sign t text k m e =
+    record { sign = sign; body = m.body; is_sign = k; is_body = m.is; spelt = e ∙ ap (λ (x : List ℕ). sign_text sign ++ x) m.spelt }
 
 start_by : (b : ℕ) (t : List ℕ) (c : Class) → class_of b ≡ c → IsOf c b → accepts_then (reads t) (step Start c) ≡ true → IsNumeral (b ∷ t)
 start_by b t classes.Digit e k h = numeral_of None (b ∷ t) (b ∷ t) tt (bare (b ∷ t) (reads_cons b t (Decimal parts.Start) ∙ rw e h)) refl

@@ -1,5 +1,7 @@
 -- The text of a fraction reads back.
-use Rattle.std.proofs.Common.{◌≡◌, ℕ, ◌^◌, ◌<◌, ◌≤◌, ◌⊎◌, inl, inr, Bool, true, false, List, [], ◌∷◌, ◌++◌, length, length-append, ℤ, pos, negsuc, suc, append_assoc, ◌-ℤ◌, ◌*ℤ◌, ◌<ℤ◌, unsigned_abs, Option, Some, None, refl, sym, ap, ap₂, ◌∙◌, arith}
+use Rattle.std.proofs.Common.{◌≡◌, ℕ, ◌^◌, ◌<◌, ◌≤◌, ◌⊎◌, inl, inr, Bool, true, false, List, [], ◌∷◌, ◌++◌, length}
+use Rattle.std.proofs.Common.{length-append, ℤ, pos, negsuc, suc, append_assoc, ◌-ℤ◌, ◌*ℤ◌, ◌<ℤ◌, unsigned_abs, Option, Some, None, refl}
+use Rattle.std.proofs.Common.{sym, ap, ap₂, ◌∙◌, arith}
 use Rattle.std.specs.Fmt.{decimal, signed_decimal}
 use Rattle.std.specs.Int.{is_negative}
 use Rattle.std.specs.List.{AllByRecursion}
@@ -12,7 +14,8 @@ use Rattle.std.proofs.lemmas.Fmt.{decimal_is_IsNumeral_wide, length-decimal-le_w
 use Rattle.std.proofs.lemmas.Str.Parse.{digit_from_value}
 use Rattle.std.proofs.lemmas.Int.{ints}
 use Rattle.field_core.specs.Terms.{Terms, IsReduced}
-use Rattle.fraction.specs.Numeral.{AreDigits, sign_text, IsSign, is_minus, with_sign, Plain, Pair, IsNumeral, value_of, without_leading_zeros, IsTooLong, HasZeroDenominator, HasTooManyDigits, IsNumeralOf}
+use Rattle.fraction.specs.Numeral.{AreDigits, sign_text, IsSign, is_minus, with_sign, Plain, Pair, IsNumeral, value_of, without_leading_zeros, IsTooLong}
+use Rattle.fraction.specs.Numeral.{HasZeroDenominator, HasTooManyDigits, IsNumeralOf}
 use Rattle.field_core.specs.Texts.{fraction_text}
 use Rattle.fraction.specs.Spelling.{spelling, IsSpellingByte}
 use Rattle.fraction.proofs.LowestTerms.{sign_is}
@@ -80,7 +83,8 @@ whole_text x e = rw e (spelt x.num ∙ sym (append-nil _))
 other_text : (n d : ℤ) → (d ≡ pos 1 → ⊥) → fraction_text n d ≡ signed_decimal n ++ 47 ∷ signed_decimal d
 other_text n d h = grind (arith, nat_tests, Decides-int_eq)
 
-pair_text : (x : Terms) → pos 0 <ℤ x.den → (x.den ≡ pos 1 → ⊥) → spelling x ≡ sign_text (sign_of (is_negative x.num)) ++ decimal (unsigned_abs x.num) ++ 47 ∷ decimal (unsigned_abs x.den)
+pair_text : (x : Terms) → pos 0 <ℤ x.den → (x.den ≡ pos 1 → ⊥)
+    → spelling x ≡ sign_text (sign_of (is_negative x.num)) ++ decimal (unsigned_abs x.num) ++ 47 ∷ decimal (unsigned_abs x.den)
 unfolding spelling
 pair_text x p h = other_text x.num x.den h ∙ ap₂ (λ bs cs. bs ++ 47 ∷ cs) (spelt x.num) (unsigned x.den p)
 
@@ -93,7 +97,8 @@ whole_numeral x e s = record {
   spelt = whole_text x e ∙ append_assoc (sign_text (sign_of (is_negative x.num))) _ [];
 }
 
-pair_numeral : (x : Terms) → pos 0 <ℤ x.den → (x.den ≡ pos 1 → ⊥) → IsShort (unsigned_abs x.num) → IsShort (unsigned_abs x.den) → IsNumeral (spelling x)
+pair_numeral : (x : Terms) → pos 0 <ℤ x.den → (x.den ≡ pos 1 → ⊥) → IsShort (unsigned_abs x.num) → IsShort (unsigned_abs x.den)
+    → IsNumeral (spelling x)
 pair_numeral x p h s t = record {
   sign = sign_of (is_negative x.num);
   body = Pair (decimal (unsigned_abs x.num)) (decimal (unsigned_abs x.den));
@@ -104,7 +109,8 @@ pair_numeral x p h s t = record {
 
 -- ---- their value
 
-num_is : (x : Terms) → IsShort (unsigned_abs x.num) → with_sign (is_minus (sign_of (is_negative x.num))) (digits_value 10 (decimal (unsigned_abs x.num))) ≡ x.num
+num_is : (x : Terms) → IsShort (unsigned_abs x.num)
+    → with_sign (is_minus (sign_of (is_negative x.num))) (digits_value 10 (decimal (unsigned_abs x.num))) ≡ x.num
 num_is x s = ap₂ with_sign (minus_of (is_negative x.num)) s.value ∙ sym (sign_is x.num)
 
 den_is : (z : ℤ) (n : ℕ) → pos 0 <ℤ z → n ≡ unsigned_abs z → pos n ≡ z
@@ -120,13 +126,16 @@ whole_back x r e s = record {
   same = ap₂ ◌*ℤ◌ (sym (num_is x s)) (sym e);
 }
 
-pair_back : (x : Terms) → IsReduced x → (x.den ≡ pos 1 → ⊥) → IsShort (unsigned_abs x.num) → IsShort (unsigned_abs x.den) → IsNumeralOf (spelling x) x
+pair_back : (x : Terms) → IsReduced x → (x.den ≡ pos 1 → ⊥) → IsShort (unsigned_abs x.num) → IsShort (unsigned_abs x.den)
+    → IsNumeralOf (spelling x) x
 unfolding pair_numeral HasZeroDenominator HasTooManyDigits value_of
 pair_back x r h s t =
     let num = num_is x s in
     let den : pos (digits_value 10 (decimal (unsigned_abs x.den))) ≡ x.den = den_is x.den _ r.positive t.value in
     let some : ¬ (digits_value 10 (decimal (unsigned_abs x.den)) ≡ 0) = (λ z. let p = r.positive in let v = t.value in omega (arith, ints)) in
-    let few : ¬ ((38 < length (without_leading_zeros (decimal (unsigned_abs x.num)))) ⊎ (38 < length (without_leading_zeros (decimal (unsigned_abs x.den))))) = (λ w. elim w [ inl m ↦ omega (arith, few_without (unsigned_abs x.num) s) | inr m ↦ omega (arith, few_without (unsigned_abs x.den) t) ]) in
+    let few : ¬ ((38 < length (without_leading_zeros (decimal (unsigned_abs x.num))))
+    ⊎ (38 < length (without_leading_zeros (decimal (unsigned_abs x.den))))) =
+    (λ w. elim w [ inl m ↦ omega (arith, few_without (unsigned_abs x.num) s) | inr m ↦ omega (arith, few_without (unsigned_abs x.den) t) ]) in
     record { numeral = pair_numeral x r.positive h s t; defined = some; within = few; lowest = r; same = ap₂ ◌*ℤ◌ (sym num) den }
 
 den_is_one : (z : ℤ) → pos 0 <ℤ z → unsigned_abs z ≡ 1 → z ≡ pos 1

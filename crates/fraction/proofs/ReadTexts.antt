@@ -1,5 +1,6 @@
 -- What reading a text gives.
-use Rattle.std.proofs.Common.{◌≡◌, ℕ, ◌*◌, ◌/◌, ◌<◌, ◌++◌, Bool, true, false, List, length, ℤ, pos, negsuc, ◌*ℤ◌, ◌-ℤ◌, ◌^◌, suc, Option, None, Result, Ok, Err, refl, sym, ap, subst, ◌∙◌, arith}
+use Rattle.std.proofs.Common.{◌≡◌, ℕ, ◌*◌, ◌/◌, ◌<◌, ◌++◌, Bool, true, false, List, length, ℤ, pos, negsuc, ◌*ℤ◌, ◌-ℤ◌}
+use Rattle.std.proofs.Common.{◌^◌, suc, Option, None, Result, Ok, Err, refl, sym, ap, subst, ◌∙◌, arith}
 use Rattle.std.specs.Str.Parse.{starts_with_minus, without_leading_sign, digits_value}
 use Rattle.std.proofs.Math.Nat.{div-mul_cancel, eq_of_mul-eq-mul_right}
 use Rattle.field_core.specs.Divisor.{gcd}
@@ -12,7 +13,8 @@ use Rattle.field_core.proofs.Wholes.{neg_times}
 use Rattle.fraction.specs.declared.fault.NumberFault.{NumberFault}
 use Rattle.fraction.specs.declared.fault.NumberFault.TheVariants.{Empty, BadByte, ZeroDenominator, TooManyDigits}
 use Rattle.fraction.specs.declared.size.Size.{Size}
-use Rattle.fraction.specs.Numeral.{is_minus, with_sign, Body, Plain, Pointed, Pair, exponent_of, over_power, value_of, IsNumeral, IsNumeralOf, IsParseFault, Same}
+use Rattle.fraction.specs.Numeral.{is_minus, with_sign, Body, Plain, Pointed, Pair, exponent_of, over_power, value_of, IsNumeral, IsNumeralOf, IsParseFault}
+use Rattle.fraction.specs.Numeral.{Same}
 use Rattle.fraction.specs.Checking.{IsChecked}
 use Rattle.fraction.specs.Sizes.{quotient_of, IsBodySize, GivesBody}
 use Rattle.fraction.specs.Lowest.{lowest_of}
@@ -35,7 +37,8 @@ times_sign false n m = refl
 
 power_signed : (negative : Bool) (n : ℕ) (s : ℤ) → IsSigned negative (over_power (pos n) s) (over_power (with_sign negative n) s)
 power_signed negative n (pos s) = record { top = n; low = 10 ^ s; bare_is = refl; whole_is = refl }
-power_signed negative n (negsuc s) = record { top = n * 10 ^ suc s; low = 1; bare_is = refl; whole_is = ap (λ z. record { num = z; den = pos 1 }) (times_sign negative n (10 ^ suc s)) }
+power_signed negative n (negsuc s) =
+    record { top = n * 10 ^ suc s; low = 1; bare_is = refl; whole_is = ap (λ z. record { num = z; den = pos 1 }) (times_sign negative n (10 ^ suc s)) }
 
 pub value_signed : (sign : Option ℕ) (body : Body) → IsSigned (is_minus sign) (value_of None body) (value_of sign body)
 unfolding value_of
@@ -50,7 +53,8 @@ divided_cross n d a b p q g some e f h =
     let both : (p * b) * g ≡ (a * q) * g = omega (arith, ap (λ x. x * b) e, ap (λ x. a * x) f) in
     eq_of_mul-eq-mul_right g some _ _ both
 
-lowest_same : (negative : Bool) (x : Size) (a b : ℕ) → x.num * b ≡ a * x.den → Same (lowest_of negative x.num x.den) (record { num = with_sign negative a; den = pos b })
+lowest_same : (negative : Bool) (x : Size) (a b : ℕ) → x.num * b ≡ a * x.den
+    → Same (lowest_of negative x.num x.den) (record { num = with_sign negative a; den = pos b })
 unfolding lowest_of
 lowest_same negative x a b h =
     let e : x.num / gcd x.num x.den * gcd x.num x.den ≡ x.num = div-mul_cancel (gcd x.num x.den) (gcd_is x.num x.den).0 in
@@ -61,8 +65,10 @@ lowest_same negative x a b h =
 same_sizes : (x : Size) (v : Terms) (a b : ℕ) → v ≡ record { num = pos a; den = pos b } → Same (quotient_of x) v → x.num * b ≡ a * x.den
 same_sizes x v a b e h = let f : pos (x.num * b) ≡ pos (a * x.den) = subst (λ w. Same (quotient_of x) w) e h in cc
 
-pub signed_lowest : (negative : Bool) (x : Size) (bare whole : Terms) → IsSigned negative bare whole → Same (quotient_of x) bare → Same (lowest_of negative x.num x.den) whole
-signed_lowest negative x bare whole s h = subst (λ w. Same (lowest_of negative x.num x.den) w) (sym s.whole_is) (lowest_same negative x s.top s.low (same_sizes x bare s.top s.low s.bare_is h))
+pub signed_lowest : (negative : Bool) (x : Size) (bare whole : Terms) → IsSigned negative bare whole → Same (quotient_of x) bare
+    → Same (lowest_of negative x.num x.den) whole
+signed_lowest negative x bare whole s h = subst (λ w. Same (lowest_of negative x.num x.den) w) (sym s.whole_is)
+    (lowest_same negative x s.top s.low (same_sizes x bare s.top s.low s.bare_is h))
 
 -- ---- a text
 
@@ -73,7 +79,8 @@ checked_fault text (BadByte n) h = h
 checked_fault text ZeroDenominator h = absurd h
 checked_fault text TooManyDigits h = absurd h
 
-given : (text body : List ℕ) (r : Result Size NumberFault) (n : IsNumeral text) → body ≡ without_leading_sign text → GivesBody body r → IsBodySize n.body r
+given : (text body : List ℕ) (r : Result Size NumberFault) (n : IsNumeral text) → body ≡ without_leading_sign text → GivesBody body r
+    → IsBodySize n.body r
 unfolding GivesBody
 given text body r n e g = g n.body n.is_body (e ∙ (numeral_split text n).behind)
 
@@ -84,17 +91,27 @@ size_fault text n TooManyDigits h = (n, h)
 size_fault text n Empty h = absurd h
 size_fault text n (BadByte m) h = absurd h
 
-pub body_fault : (text body : List ℕ) (f : NumberFault) → IsChecked text (Ok tt) → body ≡ without_leading_sign text → GivesBody body (Err f) → IsRead text (Err f)
+pub body_fault : (text body : List ℕ) (f : NumberFault) → IsChecked text (Ok tt) → body ≡ without_leading_sign text → GivesBody body (Err f)
+    → IsRead text (Err f)
 unfolding IsChecked
 body_fault text body f n e g = size_fault text n f (given text body (Err f) n e g)
 
-size_ok : (text : List ℕ) (n : IsNumeral text) (negative : Bool) (x : Size) (r : Ratio) → negative ≡ is_minus n.sign → IsBodySize n.body (Ok x) → terms r ≡ lowest_of negative x.num x.den → IsRead text (Ok r)
+size_ok : (text : List ℕ) (n : IsNumeral text) (negative : Bool) (x : Size) (r : Ratio) → negative ≡ is_minus n.sign → IsBodySize n.body (Ok x)
+    → terms r ≡ lowest_of negative x.num x.den → IsRead text (Ok r)
 unfolding IsBodySize IsRead
 size_ok text n negative x r m h e =
-    let same : Same (lowest_of (is_minus n.sign) x.num x.den) (value_of n.sign n.body) = signed_lowest (is_minus n.sign) x _ _ (value_signed n.sign n.body) h.1.1 in
-    record { numeral = n; defined = h.0; within = h.1.0; lowest = r.valid; same = subst (λ t. Same t (value_of n.sign n.body)) (sym (e ∙ ap (λ b. lowest_of b x.num x.den) m)) same }
+    let same : Same (lowest_of (is_minus n.sign) x.num x.den) (value_of n.sign n.body) =
+    signed_lowest (is_minus n.sign) x _ _ (value_signed n.sign n.body) h.1.1 in
+    record {
+      numeral = n;
+      defined = h.0;
+      within = h.1.0;
+      lowest = r.valid;
+      same = subst (λ t. Same t (value_of n.sign n.body)) (sym (e ∙ ap (λ b. lowest_of b x.num x.den) m)) same;
+    }
 
-pub body_ok : (text body : List ℕ) (negative : Bool) (x : Size) (r : Ratio) → IsChecked text (Ok tt) → negative ≡ starts_with_minus text → body ≡ without_leading_sign text → GivesBody body (Ok x) → terms r ≡ lowest_of negative x.num x.den → IsRead text (Ok r)
+pub body_ok : (text body : List ℕ) (negative : Bool) (x : Size) (r : Ratio) → IsChecked text (Ok tt) → negative ≡ starts_with_minus text
+    → body ≡ without_leading_sign text → GivesBody body (Ok x) → terms r ≡ lowest_of negative x.num x.den → IsRead text (Ok r)
 unfolding IsChecked
 body_ok text body negative x r n m e g t = size_ok text n negative x r (m ∙ (numeral_split text n).minus) (given text body (Ok x) n e g) t
 

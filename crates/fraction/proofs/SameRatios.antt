@@ -22,4 +22,5 @@ same_ratio x y e =
 
 pub same_number : (x y : Ratio) → number_of x ≡ number_of y → x ≡ y
 same_number x y e =
-    same_ratio x y (reduced_unique (terms x) (terms y) x.valid y.valid (fraction-cross x.num x.den y.num y.den (positive_nonzero x.den x.valid.positive) (positive_nonzero y.den y.valid.positive) e))
+    same_ratio x y (reduced_unique (terms x) (terms y) x.valid y.valid
+    (fraction-cross x.num x.den y.num y.den (positive_nonzero x.den x.valid.positive) (positive_nonzero y.den y.valid.positive) e))

@@ -1,5 +1,6 @@
 -- Numbers divided by powers of ten.
-use Rattle.std.proofs.Common.{◌≡◌, ℕ, suc, ◌+◌, ◌-◌, ◌*◌, ◌^◌, ◌<◌, ◌≤◌, inl, inr, Bool, true, false, IsTrue, List, length, take, ℤ, pos, negsuc, ◌-ℤ◌, Result, Ok, Err, refl, sym, ap, subst, ◌∙◌, arith}
+use Rattle.std.proofs.Common.{◌≡◌, ℕ, suc, ◌+◌, ◌-◌, ◌*◌, ◌^◌, ◌<◌, ◌≤◌, inl, inr, Bool, true, false, IsTrue, List, length}
+use Rattle.std.proofs.Common.{take, ℤ, pos, negsuc, ◌-ℤ◌, Result, Ok, Err, refl, sym, ap, subst, ◌∙◌, arith}
 use Rattle.std.specs.Str.Parse.{digits_value}
 use Rattle.std.proofs.lemmas.Bool.{cases_lt}
 use Rattle.std.proofs.lemmas.Int.{ints}
@@ -32,7 +33,8 @@ pub past_high : (len up down : ℕ) → down + 38 < len + up → PassesLimit len
 past_high len up down h = elim (cases_lt 38 len) [ inl more ↦ inl more | inr few ↦ inr (inr (omega (arith, ints), omega (arith, ints))) ]
 
 -- the limit isn't passed where a test says so
-pub limits : (len up down : ℕ) (b : Bool) → b ≡ false → (PassesLimit len (pos down -ℤ pos up) → IsTrue b) → (len ≤ 38) × ((down ≤ up + 38) × (len + up ≤ down + 38))
+pub limits : (len up down : ℕ) (b : Bool) → b ≡ false → (PassesLimit len (pos down -ℤ pos up) → IsTrue b) → (len ≤ 38)
+    × ((down ≤ up + 38) × (len + up ≤ down + 38))
 limits len up down b e f =
     let no_more : ¬ PassesLimit len (pos down -ℤ pos up) = λ h. (let t : b ≡ true = f h in absurd (cc)) in
     let few : len ≤ 38 = elim (cases_lt 38 len) [ inl h ↦ absurd (no_more (inl h)) | inr h ↦ h ] in
@@ -51,13 +53,15 @@ below_both n a b h =
 pub raised_small : (n len k : ℕ) → n < 10 ^ len → len + k ≤ 38 → n * 10 ^ k < 10 ^ 38
 raised_small n len k h l = let p : 10 ^ (len + k) ≤ 10 ^ 38 = pow-le-pow_right (omega arith) l in omega (arith, below_both n len k h)
 
-pub raised : (n up down num den : ℕ) → down < up → num ≡ n * 10 ^ (up - down) → den ≡ 1 → record { num = pos num; den = pos den } ≡ over_power (pos n) (pos down -ℤ pos up)
+pub raised : (n up down num den : ℕ) → down < up → num ≡ n * 10 ^ (up - down) → den ≡ 1
+    → record { num = pos num; den = pos den } ≡ over_power (pos n) (pos down -ℤ pos up)
 raised n up down num den h e f =
     let s : pos down -ℤ pos up ≡ negsuc (up - down - 1) = omega (arith, ints) in
     let k : suc (up - down - 1) ≡ up - down = omega arith in
     rw (s, e, f) (ap (λ m. record { num = pos (n * 10 ^ m); den = pos 1 }) (sym k))
 
-pub lowered : (n up down num den : ℕ) → up ≤ down → num ≡ n → den ≡ 10 ^ (down - up) → record { num = pos num; den = pos den } ≡ over_power (pos n) (pos down -ℤ pos up)
+pub lowered : (n up down num den : ℕ) → up ≤ down → num ≡ n → den ≡ 10 ^ (down - up)
+    → record { num = pos num; den = pos den } ≡ over_power (pos n) (pos down -ℤ pos up)
 lowered n up down num den h e f =
     let s : pos down -ℤ pos up ≡ pos (down - up) = omega (arith, ints) in
     rw (s, e, f) refl
@@ -80,13 +84,16 @@ shifted_to m z (negsuc s) (negsuc t) e =
     cross (m * 10 ^ suc t) 1 (m * 10 ^ z * 10 ^ suc s) 1 (ap (λ n. n * 1) (split_power m z (suc s) (suc t) (omega (arith, ints))))
 
 -- digits without their trailing zeros
-pub shifted : (ds : List ℕ) (s : ℤ) → Same (over_power (pos (digits_value 10 (take (length ds - trailing_zeros ds) ds))) (s -ℤ pos (trailing_zeros ds))) (over_power (pos (digits_value 10 ds)) s)
+pub shifted : (ds : List ℕ) (s : ℤ) → Same (over_power (pos (digits_value 10 (take (length ds - trailing_zeros ds) ds))) (s -ℤ pos (trailing_zeros ds)))
+    (over_power (pos (digits_value 10 ds)) s)
 shifted ds s =
-    subst (λ n. Same (over_power (pos (digits_value 10 (take (length ds - trailing_zeros ds) ds))) (s -ℤ pos (trailing_zeros ds))) (over_power (pos n) s)) (sym (trailing_value ds)) (shifted_to _ (trailing_zeros ds) s _ refl)
+    subst (λ n. Same (over_power (pos (digits_value 10 (take (length ds - trailing_zeros ds) ds))) (s -ℤ pos (trailing_zeros ds))) (over_power (pos n) s))
+    (sym (trailing_value ds)) (shifted_to _ (trailing_zeros ds) s _ refl)
 
 -- ---- decimals
 
-pub scaled_ok : (len number : ℕ) (s : ℤ) (x : Size) → ¬ PassesLimit len s → quotient_of x ≡ over_power (pos number) s → IsScaled len number s (Ok x)
+pub scaled_ok : (len number : ℕ) (s : ℤ) (x : Size) → ¬ PassesLimit len s → quotient_of x ≡ over_power (pos number) s
+    → IsScaled len number s (Ok x)
 unfolding IsScaled
 scaled_ok len number s x h e = (h, e)
 
@@ -103,12 +110,22 @@ unfolding IsDecimalSize IsTooLong
 decimal_zero ds s x h e = ((λ t. let some = t.0 in omega arith), rw (no_value ds h) (zero_over s x e))
 
 scaled_decimal_ok : (ds : List ℕ) (s : ℤ) (x : Size) → 0 < length (without_leading_zeros ds)
-    → IsScaled (length (without_leading_zeros ds) - trailing_zeros (without_leading_zeros ds)) (digits_value 10 (take (length (without_leading_zeros ds) - trailing_zeros (without_leading_zeros ds)) (without_leading_zeros ds))) (s -ℤ pos (trailing_zeros (without_leading_zeros ds))) (Ok x)
+    → IsScaled (length (without_leading_zeros ds) - trailing_zeros (without_leading_zeros ds))
+    (digits_value 10 (take (length (without_leading_zeros ds) - trailing_zeros (without_leading_zeros ds)) (without_leading_zeros ds)))
+    (s -ℤ pos (trailing_zeros (without_leading_zeros ds))) (Ok x)
     → IsDecimalSize ds s (Ok x)
 unfolding IsScaled IsDecimalSize IsTooLong
-scaled_decimal_ok ds s x some h = ((λ t. h.0 t.1), subst (λ (q : Terms). Same q (over_power (pos (digits_value 10 ds)) s)) (sym h.1) (subst (λ n. Same (over_power (pos (digits_value 10 (take (length (without_leading_zeros ds) - trailing_zeros (without_leading_zeros ds)) (without_leading_zeros ds)))) (s -ℤ pos (trailing_zeros (without_leading_zeros ds)))) (over_power (pos n) s)) (without_value ds) (shifted (without_leading_zeros ds) s)))
+scaled_decimal_ok ds s x some h = (
+  (λ t. h.0 t.1),
+  subst (λ (q : Terms). Same q (over_power (pos (digits_value 10 ds)) s)) (sym h.1)
+      (subst (λ n. Same (over_power
+      (pos (digits_value 10 (take (length (without_leading_zeros ds) - trailing_zeros (without_leading_zeros ds)) (without_leading_zeros ds))))
+      (s -ℤ pos (trailing_zeros (without_leading_zeros ds)))) (over_power (pos n) s)) (without_value ds) (shifted (without_leading_zeros ds) s)),
+)
 
-scaled_decimal_fault : (ds : List ℕ) (number : ℕ) (s : ℤ) (f : NumberFault) → 0 < length (without_leading_zeros ds) → IsScaled (length (without_leading_zeros ds) - trailing_zeros (without_leading_zeros ds)) number (s -ℤ pos (trailing_zeros (without_leading_zeros ds))) (Err f) → IsDecimalSize ds s (Err f)
+scaled_decimal_fault : (ds : List ℕ) (number : ℕ) (s : ℤ) (f : NumberFault) → 0 < length (without_leading_zeros ds)
+    → IsScaled (length (without_leading_zeros ds) - trailing_zeros (without_leading_zeros ds)) number (s -ℤ pos (trailing_zeros (without_leading_zeros ds)))
+    (Err f) → IsDecimalSize ds s (Err f)
 unfolding IsScaled IsDecimalSize IsTooLong
 scaled_decimal_fault ds number s TooManyDigits some h = (some, h)
 scaled_decimal_fault ds number s Empty some h = h
@@ -117,7 +134,9 @@ scaled_decimal_fault ds number s ZeroDenominator some h = h
 
 -- the digits of a decimal without their leading and trailing zeros, scaled
 pub scaled_decimal : (ds : List ℕ) (s : ℤ) (r : Result Size NumberFault) → 0 < length (without_leading_zeros ds)
-    → IsScaled (length (without_leading_zeros ds) - trailing_zeros (without_leading_zeros ds)) (digits_value 10 (take (length (without_leading_zeros ds) - trailing_zeros (without_leading_zeros ds)) (without_leading_zeros ds))) (s -ℤ pos (trailing_zeros (without_leading_zeros ds))) r
+    → IsScaled (length (without_leading_zeros ds) - trailing_zeros (without_leading_zeros ds))
+    (digits_value 10 (take (length (without_leading_zeros ds) - trailing_zeros (without_leading_zeros ds)) (without_leading_zeros ds)))
+    (s -ℤ pos (trailing_zeros (without_leading_zeros ds))) r
     → IsDecimalSize ds s r
 scaled_decimal ds s (Ok x) some h = scaled_decimal_ok ds s x some h
 scaled_decimal ds s (Err f) some h = scaled_decimal_fault ds _ s f some h
@@ -125,7 +144,8 @@ scaled_decimal ds s (Err f) some h = scaled_decimal_fault ds _ s f some h
 -- ---- exponents past all lengths
 
 -- two shifts past the limit give one result
-same_past : (len number : ℕ) (s t : ℤ) (r : Result Size NumberFault) → PassesLimit len s → PassesLimit len t → IsScaled len number s r → IsScaled len number t r
+same_past : (len number : ℕ) (s t : ℤ) (r : Result Size NumberFault) → PassesLimit len s → PassesLimit len t → IsScaled len number s r
+    → IsScaled len number t r
 unfolding IsScaled
 same_past len number s t (Ok x) h k r = absurd (r.0 h)
 same_past len number s t (Err TooManyDigits) h k r = k
@@ -134,24 +154,31 @@ same_past len number s t (Err (BadByte n)) h k r = r
 same_past len number s t (Err ZeroDenominator) h k r = r
 
 -- what a shift gives is what its exponent gives
-pub exact_shift : (len number behind dropped up down : ℕ) (z : ℤ) (r : Result Size NumberFault) → behind < 2 ^ 64 → dropped < 2 ^ 65 → IsShift up down z → IsScaled len number (pos (behind + down) -ℤ pos (up + dropped)) r → IsScaled len number ((pos behind -ℤ z) -ℤ pos dropped) r
+pub exact_shift : (len number behind dropped up down : ℕ) (z : ℤ) (r : Result Size NumberFault) → behind < 2 ^ 64 → dropped < 2 ^ 65
+    → IsShift up down z → IsScaled len number (pos (behind + down) -ℤ pos (up + dropped)) r
+    → IsScaled len number ((pos behind -ℤ z) -ℤ pos dropped) r
 exact_shift len number behind dropped up down z r f k (inl e) h =
     let same : pos (behind + down) -ℤ pos (up + dropped) ≡ (pos behind -ℤ z) -ℤ pos dropped = omega (arith, ints) in
     subst (λ s. IsScaled len number s r) same h
 exact_shift len number behind dropped up down z r f k (inr (inl e)) h =
-    same_past len number _ _ r (inr (inr (omega (arith, ints, e.0, e.1), omega (arith, ints, e.0, e.1)))) (inr (inr (omega (arith, ints, e.2), omega (arith, ints, e.2)))) h
+    same_past len number _ _ r (inr (inr (omega (arith, ints, e.0, e.1), omega (arith, ints, e.0, e.1))))
+    (inr (inr (omega (arith, ints, e.2), omega (arith, ints, e.2)))) h
 exact_shift len number behind dropped up down z r f k (inr (inr e)) h =
     same_past len number _ _ r (inr (inl (omega (arith, ints, e.0, e.1)))) (inr (inl (omega (arith, ints, e.2)))) h
 
 -- ---- a decimal d, of which the digits are ds without leading zeros, with z trailing ones
 
-pub gives_zero : (d : Decimal) (shift : Shift) (x : Size) (ds : List ℕ) → ds ≡ without_leading_zeros (digits_in d) → length ds ≡ 0 → x.num ≡ 0 → GivesDecimal d shift (Ok x)
+pub gives_zero : (d : Decimal) (shift : Shift) (x : Size) (ds : List ℕ) → ds ≡ without_leading_zeros (digits_in d) → length ds ≡ 0 → x.num ≡ 0
+    → GivesDecimal d shift (Ok x)
 unfolding GivesDecimal
 gives_zero d shift x ds e h f exponent is = decimal_zero (digits_in d) (pos (length d.fraction.now) -ℤ exponent) x (rw (← e) h) f
 
-pub gives_scaled : (d : Decimal) (shift : Shift) (r : Result Size NumberFault) (ds : List ℕ) (len z : ℕ) → ds ≡ without_leading_zeros (digits_in d) → len ≡ length ds → z ≡ trailing_zeros ds → 0 < len → length d.fraction.now < 2 ^ 64 → z < 2 ^ 65
+pub gives_scaled : (d : Decimal) (shift : Shift) (r : Result Size NumberFault) (ds : List ℕ) (len z : ℕ) → ds ≡ without_leading_zeros (digits_in d)
+    → len ≡ length ds → z ≡ trailing_zeros ds → 0 < len → length d.fraction.now < 2 ^ 64 → z < 2 ^ 65
     → IsScaled (len - z) (digits_value 10 (take (len - z) ds)) (pos (length d.fraction.now + shift.down) -ℤ pos (shift.up + z)) r → GivesDecimal d shift r
 unfolding GivesDecimal
 gives_scaled d shift r ds len z e f g some behind few h exponent is =
-    let scaled : IsScaled (length ds - trailing_zeros ds) (digits_value 10 (take (length ds - trailing_zeros ds) ds)) ((pos (length d.fraction.now) -ℤ exponent) -ℤ pos (trailing_zeros ds)) r = rw (← f, ← g) (exact_shift (len - z) _ (length d.fraction.now) z shift.up shift.down exponent r behind few is h) in
+    let scaled : IsScaled (length ds - trailing_zeros ds) (digits_value 10 (take (length ds - trailing_zeros ds) ds))
+    ((pos (length d.fraction.now) -ℤ exponent) -ℤ pos (trailing_zeros ds)) r =
+    rw (← f, ← g) (exact_shift (len - z) _ (length d.fraction.now) z shift.up shift.down exponent r behind few is h) in
     scaled_decimal (digits_in d) (pos (length d.fraction.now) -ℤ exponent) r (rw (← e, ← f) some) (rw (← e) scaled)

@@ -1,5 +1,6 @@
 -- A scan of a text.
-use Rattle.std.proofs.Common.{◌≡◌, ℕ, ◌+◌, ◌<◌, ◌≤◌, true, false, List, [], ◌∷◌, length, get_or, drop, Some, None, Ok, Err, refl, sym, ap, ◌∙◌, arith}
+use Rattle.std.proofs.Common.{◌≡◌, ℕ, ◌+◌, ◌<◌, ◌≤◌, true, false, List, [], ◌∷◌, length, get_or, drop, Some, None, Ok, Err, refl}
+use Rattle.std.proofs.Common.{sym, ap, ◌∙◌, arith}
 use Rattle.std.proofs.lemmas.List.{drop_more, drop_all}
 use Rattle.field_core.proofs.Longest.{accepts_then, count, count_then, count_nil, count_cons, stops_behind}
 use Rattle.fraction.specs.declared.fault.NumberFault.TheVariants.{Empty, BadByte}
@@ -19,20 +20,26 @@ use Rattle.fraction.proofs.Read.{is_numeral}
 abbrev pub reached : List ℕ → State → ℕ
 reached t s = count byte_step t s
 
-pub reads_on : (text : List ℕ) (i : ℕ) (s t : State) → i < length text → step s (class_of (get_or text i 0)) ≡ Some t → reads (drop i text) s ≡ reads (drop (i + 1) text) t
-reads_on text i s t lt e = ap (λ (x : List ℕ). reads x s) (drop_more text i 0 lt) ∙ reads_cons (get_or text i 0) (drop (i + 1) text) s ∙ ap (accepts_then (reads (drop (i + 1) text))) e
+pub reads_on : (text : List ℕ) (i : ℕ) (s t : State) → i < length text → step s (class_of (get_or text i 0)) ≡ Some t
+    → reads (drop i text) s ≡ reads (drop (i + 1) text) t
+reads_on text i s t lt e = ap (λ (x : List ℕ). reads x s) (drop_more text i 0 lt) ∙ reads_cons (get_or text i 0) (drop (i + 1) text) s
+    ∙ ap (accepts_then (reads (drop (i + 1) text))) e
 
 pub reads_off : (text : List ℕ) (i : ℕ) (s : State) → i < length text → step s (class_of (get_or text i 0)) ≡ None → reads (drop i text) s ≡ false
-reads_off text i s lt e = ap (λ (x : List ℕ). reads x s) (drop_more text i 0 lt) ∙ reads_cons (get_or text i 0) (drop (i + 1) text) s ∙ ap (accepts_then (reads (drop (i + 1) text))) e
+reads_off text i s lt e = ap (λ (x : List ℕ). reads x s) (drop_more text i 0 lt) ∙ reads_cons (get_or text i 0) (drop (i + 1) text) s
+    ∙ ap (accepts_then (reads (drop (i + 1) text))) e
 
 pub reads_end : (text : List ℕ) (n : ℕ) (s : State) → length text ≤ n → reads (drop n text) s ≡ is_final s
 reads_end text n s h = ap (λ (x : List ℕ). reads x s) (drop_all n text h) ∙ reads_nil s
 
-pub reached_on : (text : List ℕ) (i : ℕ) (s t : State) → i < length text → step s (class_of (get_or text i 0)) ≡ Some t → reached (drop i text) s ≡ 1 + reached (drop (i + 1) text) t
-reached_on text i s t lt e = ap (λ (x : List ℕ). reached x s) (drop_more text i 0 lt) ∙ count_cons byte_step is_final (get_or text i 0) (drop (i + 1) text) s ∙ ap (count_then (reached (drop (i + 1) text))) e
+pub reached_on : (text : List ℕ) (i : ℕ) (s t : State) → i < length text → step s (class_of (get_or text i 0)) ≡ Some t
+    → reached (drop i text) s ≡ 1 + reached (drop (i + 1) text) t
+reached_on text i s t lt e = ap (λ (x : List ℕ). reached x s) (drop_more text i 0 lt)
+    ∙ count_cons byte_step is_final (get_or text i 0) (drop (i + 1) text) s ∙ ap (count_then (reached (drop (i + 1) text))) e
 
 pub reached_off : (text : List ℕ) (i : ℕ) (s : State) → i < length text → step s (class_of (get_or text i 0)) ≡ None → reached (drop i text) s ≡ 0
-reached_off text i s lt e = ap (λ (x : List ℕ). reached x s) (drop_more text i 0 lt) ∙ count_cons byte_step is_final (get_or text i 0) (drop (i + 1) text) s ∙ ap (count_then (reached (drop (i + 1) text))) e
+reached_off text i s lt e = ap (λ (x : List ℕ). reached x s) (drop_more text i 0 lt)
+    ∙ count_cons byte_step is_final (get_or text i 0) (drop (i + 1) text) s ∙ ap (count_then (reached (drop (i + 1) text))) e
 
 pub reached_end : (text : List ℕ) (n : ℕ) (s : State) → length text ≤ n → reached (drop n text) s ≡ 0
 reached_end text n s h = ap (λ (x : List ℕ). reached x s) (drop_all n text h) ∙ count_nil byte_step is_final s

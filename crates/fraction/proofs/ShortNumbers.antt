@@ -20,7 +20,8 @@ module _ (x : Terms) (r : IsReduced x) (a d : ℕ) (same : x.num *ℤ pos (suc d
   cross = sym (unsigned_abs-mul x.num (pos (suc d))) ∙ ap unsigned_abs same ∙ unsigned_abs-mul (pos a) x.den
 
   divides : unsigned_abs x.den ∣ suc d
-  divides = divides_other (unsigned_abs x.den) (unsigned_abs x.num) (suc d) (apart_from_gcd (unsigned_abs x.num) (unsigned_abs x.den) r.reduced) (subst (λ n. unsigned_abs x.den ∣ n) (sym cross) (dvd-mul_left (unsigned_abs x.den) a))
+  divides = divides_other (unsigned_abs x.den) (unsigned_abs x.num) (suc d) (apart_from_gcd (unsigned_abs x.num) (unsigned_abs x.den) r.reduced)
+      (subst (λ n. unsigned_abs x.den ∣ n) (sym cross) (dvd-mul_left (unsigned_abs x.den) a))
 
   den_at_most : unsigned_abs x.den ≤ suc d
   den_at_most = le_of_dvd (omega arith) divides
@@ -31,9 +32,11 @@ module _ (x : Terms) (r : IsReduced x) (a d : ℕ) (same : x.num *ℤ pos (suc d
 through : (a b c : ℕ) → a ≤ b → b ≤ c → a ≤ c
 through a b c h k = omega (arith, h, k)
 
-pub lowest_within : (n a d : ℕ) (x : Terms) → IsReduced x → fraction x.num x.den ≡ fraction (pos a) (pos (suc d)) → a ≤ n → suc d ≤ n → IsWithin n x
+pub lowest_within : (n a d : ℕ) (x : Terms) → IsReduced x → fraction x.num x.den ≡ fraction (pos a) (pos (suc d)) → a ≤ n → suc d ≤ n
+    → IsWithin n x
 lowest_within n a d x r e h k =
-    let same : x.num *ℤ pos (suc d) ≡ pos a *ℤ x.den = fraction-cross x.num x.den (pos a) (pos (suc d)) (positive_nonzero x.den r.positive) (suc_not_zero d) e in
+    let same : x.num *ℤ pos (suc d) ≡ pos a *ℤ x.den =
+    fraction-cross x.num x.den (pos a) (pos (suc d)) (positive_nonzero x.den r.positive) (suc_not_zero d) e in
     record { num = through _ a _ (num_at_most x r a d same) h; den = through _ (suc d) _ (den_at_most x r a d same) k }
 
 -- ---- stored parts

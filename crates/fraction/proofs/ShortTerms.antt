@@ -1,5 +1,6 @@
 -- Written operations on fractions within limits are defined, and don't lead far beyond these limits.
-use Rattle.std.proofs.Common.{◌≡◌, refl, sym, ap, ◌∙◌, subst, ℕ, zero, suc, ◌≤◌, ◌<◌, ◌+◌, ◌*◌, ◌/◌, ◌^◌, arith, ℤ, pos, negsuc, neg_ℤ, ◌+ℤ◌, ◌*ℤ◌, int_div, unsigned_abs, Option, Some}
+use Rattle.std.proofs.Common.{◌≡◌, refl, sym, ap, ◌∙◌, subst, ℕ, zero, suc, ◌≤◌, ◌<◌, ◌+◌, ◌*◌, ◌/◌, ◌^◌, arith, ℤ}
+use Rattle.std.proofs.Common.{pos, negsuc, neg_ℤ, ◌+ℤ◌, ◌*ℤ◌, int_div, unsigned_abs, Option, Some}
 use Rattle.std.specs.Option.{option_map}
 use Rattle.std.proofs.lemmas.Int.{ints, unsigned_abs-mul}
 use Rattle.std.proofs.lemmas.Nat.{pow-add}
@@ -35,8 +36,10 @@ abs_product : (x y : ℤ) (a b : ℕ) → unsigned_abs x ≤ a → unsigned_abs 
 abs_product x y a b h g = subst (λ n. n ≤ a * b) (sym (unsigned_abs-mul x y)) (mul-le-mul h g)
 
 -- a quotient times another one
-abs_quotients : (x y : ℤ) (g h a b : ℕ) → unsigned_abs x ≤ a → unsigned_abs y ≤ b → unsigned_abs (int_div x (pos g) *ℤ int_div y (pos h)) ≤ a * b
-abs_quotients x y g h a b p q = abs_product (int_div x (pos g)) (int_div y (pos h)) a b (through _ (unsigned_abs x) _ (abs_quotient x g) p) (through _ (unsigned_abs y) _ (abs_quotient y h) q)
+abs_quotients : (x y : ℤ) (g h a b : ℕ) → unsigned_abs x ≤ a → unsigned_abs y ≤ b
+    → unsigned_abs (int_div x (pos g) *ℤ int_div y (pos h)) ≤ a * b
+abs_quotients x y g h a b p q = abs_product (int_div x (pos g)) (int_div y (pos h)) a b (through _ (unsigned_abs x) _ (abs_quotient x g) p)
+    (through _ (unsigned_abs y) _ (abs_quotient y h) q)
 
 -- a number times a quotient
 abs_part : (x y : ℤ) (g a b : ℕ) → unsigned_abs x ≤ a → unsigned_abs y ≤ b → unsigned_abs (x *ℤ int_div y (pos g)) ≤ a * b
@@ -58,7 +61,10 @@ unfolding written_mul
 mul_within x y a b p q h =
     let top = abs_quotients x.num y.num _ _ a b p.num q.num in
     let low = abs_quotients x.den y.den _ _ a b p.den q.den in (
-      record { num = int_div x.num (gcd_of x.num y.den) *ℤ int_div y.num (gcd_of y.num x.den); den = int_div x.den (gcd_of y.num x.den) *ℤ int_div y.den (gcd_of x.num y.den) },
+      record {
+        num = int_div x.num (gcd_of x.num y.den) *ℤ int_div y.num (gcd_of y.num x.den);
+        den = int_div x.den (gcd_of y.num x.den) *ℤ int_div y.den (gcd_of x.num y.den);
+      },
       made _ _ _ (sized_small _ (below _ (a * b) _ top h)) ∙ made _ _ _ (sized_small _ (below _ (a * b) _ low h)),
       record { num = top; den = low },
     )
@@ -72,16 +78,23 @@ add_within x y a b p q h =
     let swap : b * a ≡ a * b = omega arith in
     let half : a * b < 2 ^ 127 = omega (arith, h) in
     let u = abs_part x.num y.den _ a b p.num q.den in
-    let v : unsigned_abs (y.num *ℤ int_div x.den (gcd_of x.den y.den)) ≤ a * b = subst (λ n. unsigned_abs (y.num *ℤ int_div x.den (gcd_of x.den y.den)) ≤ n) swap (abs_part y.num x.den _ b a q.num p.den) in
+    let v : unsigned_abs (y.num *ℤ int_div x.den (gcd_of x.den y.den)) ≤ a * b =
+    subst (λ n. unsigned_abs (y.num *ℤ int_div x.den (gcd_of x.den y.den)) ≤ n) swap (abs_part y.num x.den _ b a q.num p.den) in
     let t = sum_within (x.num *ℤ int_div y.den (gcd_of x.den y.den)) (y.num *ℤ int_div x.den (gcd_of x.den y.den)) (a * b) u v in
     let low = abs_quotients x.den y.den _ _ a b p.den q.den in (
       record {
-        num = int_div (x.num *ℤ int_div y.den (gcd_of x.den y.den) +ℤ y.num *ℤ int_div x.den (gcd_of x.den y.den)) (gcd_of (x.num *ℤ int_div y.den (gcd_of x.den y.den) +ℤ y.num *ℤ int_div x.den (gcd_of x.den y.den)) (gcd_of x.den y.den));
-        den = int_div x.den (gcd_of x.den y.den) *ℤ int_div y.den (gcd_of (x.num *ℤ int_div y.den (gcd_of x.den y.den) +ℤ y.num *ℤ int_div x.den (gcd_of x.den y.den)) (gcd_of x.den y.den));
+        num = int_div (x.num *ℤ int_div y.den (gcd_of x.den y.den) +ℤ y.num *ℤ int_div x.den (gcd_of x.den y.den))
+            (gcd_of (x.num *ℤ int_div y.den (gcd_of x.den y.den) +ℤ y.num *ℤ int_div x.den (gcd_of x.den y.den)) (gcd_of x.den y.den));
+        den = int_div x.den (gcd_of x.den y.den) *ℤ int_div y.den
+            (gcd_of (x.num *ℤ int_div y.den (gcd_of x.den y.den) +ℤ y.num *ℤ int_div x.den (gcd_of x.den y.den)) (gcd_of x.den y.den));
       },
       made _ _ _ (sized_small _ (below _ (a * b) _ u half)) ∙ made _ _ _ (sized_small _ (below _ (a * b) _ v half))
           ∙ made _ _ _ (sized_small _ (below _ (a * b + a * b) _ t h)) ∙ made _ _ _ (sized_small _ (below _ (a * b) _ low half)),
-      record { num = abs_reduced (x.num *ℤ int_div y.den (gcd_of x.den y.den) +ℤ y.num *ℤ int_div x.den (gcd_of x.den y.den)) (gcd_of x.den y.den) (a * b + a * b) t; den = through _ (a * b) _ low (omega arith) },
+      record {
+        num = abs_reduced (x.num *ℤ int_div y.den (gcd_of x.den y.den) +ℤ y.num *ℤ int_div x.den (gcd_of x.den y.den)) (gcd_of x.den y.den)
+            (a * b + a * b) t;
+        den = through _ (a * b) _ low (omega arith);
+      },
     )
 
 pub opposite_within : (n : ℕ) (x : Terms) → IsWithin n x → IsWithin n (opposite x)
@@ -96,7 +109,8 @@ pub inverse_within : (n : ℕ) (x : Terms) → IsWithin n x → IsWithin n (inve
 unfolding inverse
 inverse_within n x s = turned_within n x.num x.den s.num s.den
 
-pub operation_within : (op : Op) (x y : Terms) (a b : ℕ) → IsWithin a x → IsWithin b y → limit_of op a b < 2 ^ 127 → GivesWithin (limit_of op a b) (written_pair op x y)
+pub operation_within : (op : Op) (x y : Terms) (a b : ℕ) → IsWithin a x → IsWithin b y → limit_of op a b < 2 ^ 127
+    → GivesWithin (limit_of op a b) (written_pair op x y)
 operation_within Add x y a b p q h = add_within x y a b p q h
 operation_within Sub x y a b p q h = add_within x (opposite y) a b p (opposite_within b y q) h
 operation_within Mul x y a b p q h = mul_within x y a b p q h
@@ -107,7 +121,8 @@ operation_within Div x y a b p q h = mul_within x (inverse y) a b p (inverse_wit
 abbrev pub GivesPartsWithin : ℕ → Option Parts → Type 0
 GivesPartsWithin n r = (z : Parts) × (r ≡ Some z) × IsWithin n (pair_of z)
 
-pub parts_within : (op : Op) (x y : Parts) (a b : ℕ) → IsWithin a (pair_of x) → IsWithin b (pair_of y) → limit_of op a b < 2 ^ 127 → GivesPartsWithin (limit_of op a b) (plain.written op x y)
+pub parts_within : (op : Op) (x y : Parts) (a b : ℕ) → IsWithin a (pair_of x) → IsWithin b (pair_of y) → limit_of op a b < 2 ^ 127
+    → GivesPartsWithin (limit_of op a b) (plain.written op x y)
 parts_within op x y a b p q h =
     let g = operation_within op (pair_of x) (pair_of y) a b p q h in
     (single g.0, ap (λ r. option_map single r) g.1, g.2)

@@ -1,5 +1,6 @@
 -- Signs in front of texts, and exponents.
-use Rattle.std.proofs.Common.{◌≡◌, ◌≢◌, ℕ, suc, ◌^◌, ◌<◌, ◌≤◌, inl, inr, Bool, true, false, eqb, List, [], ◌∷◌, ◌++◌, length, drop, min, pos, neg_ℤ, Option, Some, None, refl, sym, ap, subst, ◌∙◌, append_assoc, arith}
+use Rattle.std.proofs.Common.{◌≡◌, ◌≢◌, ℕ, suc, ◌^◌, ◌<◌, ◌≤◌, inl, inr, Bool, true, false, eqb, List, [], ◌∷◌, ◌++◌}
+use Rattle.std.proofs.Common.{length, drop, min, pos, neg_ℤ, Option, Some, None, refl, sym, ap, subst, ◌∙◌, append_assoc, arith}
 use Rattle.std.specs.List.{take_while}
 use Rattle.std.specs.Char.{is_ascii_digit}
 use Rattle.std.specs.Str.Parse.{starts_with_minus, without_leading_sign, digits_value}
@@ -7,7 +8,8 @@ use Rattle.std.proofs.lemmas.Bool.{ne_eqb, cases_lt}
 use Rattle.std.proofs.lemmas.Int.{ints}
 use Rattle.std.proofs.lemmas.List.{append-nil}
 use Rattle.fraction.specs.declared.shift.Shift.{Shift}
-use Rattle.fraction.specs.Numeral.{AreDigits, sign_text, IsSign, is_minus, signed, Exponent, exponent_text, IsExponent, exponent_of, Body, Plain, Pointed, Pair, body_text, IsBody, IsNumeral}
+use Rattle.fraction.specs.Numeral.{AreDigits, sign_text, IsSign, is_minus, signed, Exponent, exponent_text, IsExponent, exponent_of, Body, Plain, Pointed, Pair}
+use Rattle.fraction.specs.Numeral.{body_text, IsBody, IsNumeral}
 use Rattle.fraction.specs.Sizes.{IsShift, GivesShift}
 use Rattle.fraction.proofs.Cut.{front_digits}
 
@@ -24,7 +26,8 @@ unsigned_none (b ∷ bs) h =
     (m, rw (m, p) refl)
 
 -- a text behind a sign
-pub sign_cut : (sign : Option ℕ) (rest : List ℕ) → IsSign sign → NoSign rest → (starts_with_minus (sign_text sign ++ rest) ≡ is_minus sign) × (without_leading_sign (sign_text sign ++ rest) ≡ rest)
+pub sign_cut : (sign : Option ℕ) (rest : List ℕ) → IsSign sign → NoSign rest → (starts_with_minus (sign_text sign ++ rest) ≡ is_minus sign)
+    × (without_leading_sign (sign_text sign ++ rest) ≡ rest)
 sign_cut None rest h k = unsigned_none rest k
 sign_cut (Some b) rest (inl e) k = rw e (refl, refl)
 sign_cut (Some b) rest (inr e) k = rw e (refl, refl)
@@ -43,7 +46,8 @@ pointed_no_sign (d ∷ ds) more h = ((λ e. omega arith), (λ e. omega arith))
 
 pub body_no_sign : (body : Body) → IsBody body → NoSign (body_text body)
 body_no_sign (Plain whole e) h = no_sign_before whole (exponent_text e) h.1 (digits_no_sign whole h.0)
-body_no_sign (Pointed whole fraction e) h = subst NoSign (sym (append_assoc whole (46 ∷ fraction) (exponent_text e))) (pointed_no_sign whole (fraction ++ exponent_text e) h.0)
+body_no_sign (Pointed whole fraction e) h = subst NoSign (sym (append_assoc whole (46 ∷ fraction) (exponent_text e)))
+    (pointed_no_sign whole (fraction ++ exponent_text e) h.0)
 body_no_sign (Pair over under) h = no_sign_before over (47 ∷ under) h.1 (digits_no_sign over h.0)
 
 -- the parts of a numeral, as they are read of the text
@@ -83,19 +87,25 @@ record IsReadOf (e : Exponent) (negative : Bool) (digits : List ℕ) : Type 0 wh
   minus : negative ≡ is_minus e.sign
   all : digits ≡ e.digits
 
-read_exponent : (e : Exponent) (tail unsigned digits : List ℕ) (negative : Bool) → IsExponent (Some e) → tail ≡ sign_text e.sign ++ e.digits → negative ≡ starts_with_minus tail → unsigned ≡ without_leading_sign tail → digits ≡ take_while is_ascii_digit unsigned → IsReadOf e negative digits
+read_exponent : (e : Exponent) (tail unsigned digits : List ℕ) (negative : Bool) → IsExponent (Some e) → tail ≡ sign_text e.sign ++ e.digits
+    → negative ≡ starts_with_minus tail → unsigned ≡ without_leading_sign tail → digits ≡ take_while is_ascii_digit unsigned
+    → IsReadOf e negative digits
 read_exponent e tail unsigned digits negative h t m u d =
     let s = sign_cut e.sign e.digits h.1 (digits_no_sign e.digits h.2) in
     let all : unsigned ≡ e.digits ++ [] = u ∙ ap without_leading_sign t ∙ s.1 ∙ sym (append-nil e.digits) in
     record { minus = m ∙ ap starts_with_minus t ∙ s.0; all = d ∙ ap (take_while is_ascii_digit) all ∙ front_digits e.digits [] h.2 tt }
 
-shift_by : (e : Exponent) (digits : List ℕ) (negative : Bool) (size : ℕ) (x : Shift) → IsReadOf e negative digits → size ≡ min (digits_value 10 digits) (2 ^ 100) → (negative ≡ true → (x.up ≡ 0) × (x.down ≡ size)) → (negative ≡ false → (x.down ≡ 0) × (x.up ≡ size)) → IsShift x.up x.down (exponent_of (Some e))
+shift_by : (e : Exponent) (digits : List ℕ) (negative : Bool) (size : ℕ) (x : Shift) → IsReadOf e negative digits
+    → size ≡ min (digits_value 10 digits) (2 ^ 100) → (negative ≡ true → (x.up ≡ 0) × (x.down ≡ size))
+    → (negative ≡ false → (x.down ≡ 0) × (x.up ≡ size)) → IsShift x.up x.down (exponent_of (Some e))
 shift_by e digits true size x r n down up =
     let d = down refl in
-    rw (signed_minus e.sign (digits_value 10 e.digits) (sym r.minus)) (shift_down (digits_value 10 e.digits) size x.up x.down (n ∙ ap (λ (y : List ℕ). min (digits_value 10 y) (2 ^ 100)) r.all) d.0 d.1)
+    rw (signed_minus e.sign (digits_value 10 e.digits) (sym r.minus))
+    (shift_down (digits_value 10 e.digits) size x.up x.down (n ∙ ap (λ (y : List ℕ). min (digits_value 10 y) (2 ^ 100)) r.all) d.0 d.1)
 shift_by e digits false size x r n down up =
     let d = up refl in
-    rw (signed_plus e.sign (digits_value 10 e.digits) (sym r.minus)) (shift_up (digits_value 10 e.digits) size x.up x.down (n ∙ ap (λ (y : List ℕ). min (digits_value 10 y) (2 ^ 100)) r.all) d.0 d.1)
+    rw (signed_plus e.sign (digits_value 10 e.digits) (sym r.minus))
+    (shift_up (digits_value 10 e.digits) size x.up x.down (n ∙ ap (λ (y : List ℕ). min (digits_value 10 y) (2 ^ 100)) r.all) d.0 d.1)
 
 tail_by : (text tail : List ℕ) (e : Exponent) → tail ≡ drop 1 text → text ≡ exponent_text (Some e) → tail ≡ sign_text e.sign ++ e.digits
 tail_by text tail e f q = f ∙ ap (drop 1) q
@@ -105,16 +115,25 @@ unfolding GivesShift
 no_shift text x h u d None is q = rw (u, d) (inl refl)
 no_shift text x h u d (Some e) is q = let l : length text ≡ suc (length (sign_text e.sign ++ e.digits)) = ap length q in absurd (omega arith)
 
-some_shift : (text tail unsigned digits : List ℕ) (negative : Bool) (size : ℕ) (x : Shift) → 1 ≤ length text → tail ≡ drop 1 text → negative ≡ starts_with_minus tail → unsigned ≡ without_leading_sign tail → digits ≡ take_while is_ascii_digit unsigned → size ≡ min (digits_value 10 digits) (2 ^ 100)
+some_shift : (text tail unsigned digits : List ℕ) (negative : Bool) (size : ℕ) (x : Shift) → 1 ≤ length text → tail ≡ drop 1 text
+    → negative ≡ starts_with_minus tail → unsigned ≡ without_leading_sign tail → digits ≡ take_while is_ascii_digit unsigned
+    → size ≡ min (digits_value 10 digits) (2 ^ 100)
     → (negative ≡ true → (x.up ≡ 0) × (x.down ≡ size)) → (negative ≡ false → (x.down ≡ 0) × (x.up ≡ size)) → GivesShift text x
 unfolding GivesShift
 some_shift text tail unsigned digits negative size x h t m u d n down up None is q = let l : length text ≡ 0 = ap length q in absurd (omega arith)
-some_shift text tail unsigned digits negative size x h t m u d n down up (Some e) is q = shift_by e digits negative size x (read_exponent e tail unsigned digits negative is (tail_by text tail e t q) m u d) n down up
+some_shift text tail unsigned digits negative size x h t m u d n down up (Some e) is q =
+    shift_by e digits negative size x (read_exponent e tail unsigned digits negative is (tail_by text tail e t q) m u d) n down up
 
-pub down_shift : (text tail unsigned digits : List ℕ) (negative : Bool) (size : ℕ) (x : Shift) → 1 ≤ length text → tail ≡ drop 1 text → negative ≡ starts_with_minus tail → unsigned ≡ without_leading_sign tail → digits ≡ take_while is_ascii_digit unsigned → size ≡ min (digits_value 10 digits) (2 ^ 100)
+pub down_shift : (text tail unsigned digits : List ℕ) (negative : Bool) (size : ℕ) (x : Shift) → 1 ≤ length text → tail ≡ drop 1 text
+    → negative ≡ starts_with_minus tail → unsigned ≡ without_leading_sign tail → digits ≡ take_while is_ascii_digit unsigned
+    → size ≡ min (digits_value 10 digits) (2 ^ 100)
     → negative ≡ true → x.up ≡ 0 → x.down ≡ size → GivesShift text x
-down_shift text tail unsigned digits negative size x h t m u d n e up down = some_shift text tail unsigned digits negative size x h t m u d n (λ f. (up, down)) (λ f. absurd (cc))
+down_shift text tail unsigned digits negative size x h t m u d n e up down =
+    some_shift text tail unsigned digits negative size x h t m u d n (λ f. (up, down)) (λ f. absurd (cc))
 
-pub up_shift : (text tail unsigned digits : List ℕ) (negative : Bool) (size : ℕ) (x : Shift) → 1 ≤ length text → tail ≡ drop 1 text → negative ≡ starts_with_minus tail → unsigned ≡ without_leading_sign tail → digits ≡ take_while is_ascii_digit unsigned → size ≡ min (digits_value 10 digits) (2 ^ 100)
+pub up_shift : (text tail unsigned digits : List ℕ) (negative : Bool) (size : ℕ) (x : Shift) → 1 ≤ length text → tail ≡ drop 1 text
+    → negative ≡ starts_with_minus tail → unsigned ≡ without_leading_sign tail → digits ≡ take_while is_ascii_digit unsigned
+    → size ≡ min (digits_value 10 digits) (2 ^ 100)
     → negative ≡ false → x.down ≡ 0 → x.up ≡ size → GivesShift text x
-up_shift text tail unsigned digits negative size x h t m u d n e down up = some_shift text tail unsigned digits negative size x h t m u d n (λ f. absurd (cc)) (λ f. (down, up))
+up_shift text tail unsigned digits negative size x h t m u d n e down up =
+    some_shift text tail unsigned digits negative size x h t m u d n (λ f. absurd (cc)) (λ f. (down, up))

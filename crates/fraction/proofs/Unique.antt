@@ -1,12 +1,14 @@
 -- A text has at most one reading.
-use Rattle.std.proofs.Common.{◌≡◌, ℕ, ◌⊎◌, inl, inr, List, [], ◌∷◌, ◌++◌, length, ℤ, pos, negsuc, ◌-ℤ◌, ◌<ℤ◌, Option, Some, None, refl, sym, ap, ap₂, subst, ◌∙◌, arith}
+use Rattle.std.proofs.Common.{◌≡◌, ℕ, ◌⊎◌, inl, inr, List, [], ◌∷◌, ◌++◌, length, ℤ, pos, negsuc, ◌-ℤ◌, ◌<ℤ◌, Option}
+use Rattle.std.proofs.Common.{Some, None, refl, sym, ap, ap₂, subst, ◌∙◌, arith}
 use Rattle.std.specs.Str.Parse.{digits_value}
 use Rattle.std.proofs.lemmas.Int.{ints}
 use Rattle.field_core.specs.Terms.{Terms}
 use Rattle.field_core.specs.Laws.Effective.{positive_nonzero}
 use Rattle.fraction.specs.declared.fault.NumberFault.{NumberFault}
 use Rattle.fraction.specs.declared.fault.NumberFault.TheVariants.{Empty, BadByte, ZeroDenominator, TooManyDigits}
-use Rattle.fraction.specs.Numeral.{AreDigits, sign_text, IsSign, is_minus, Exponent, exponent_text, IsExponent, exponent_of, Body, Plain, Pointed, Pair, body_text, IsBody, IsNumeral, over_power, value_of, HasZeroDenominator, HasTooManyDigits, IsNumeralOf, IsParseFault, Same}
+use Rattle.fraction.specs.Numeral.{AreDigits, sign_text, IsSign, is_minus, Exponent, exponent_text, IsExponent, exponent_of, Body, Plain, Pointed, Pair}
+use Rattle.fraction.specs.Numeral.{body_text, IsBody, IsNumeral, over_power, value_of, HasZeroDenominator, HasTooManyDigits, IsNumeralOf, IsParseFault, Same}
 use Rattle.field_core.proofs.Heads.{heads}
 use Rattle.fraction.specs.Laws.Unique.{reduced_unique, same_through}
 use Rattle.fraction.specs.Prefixes.{IsBadByte}
@@ -22,7 +24,8 @@ sign_no_digit b [] es s h e = cc
 sign_no_digit b (d ∷ ds) es (inl f) h e = let k = (heads d b ds es e).0 in omega (arith, h.0)
 sign_no_digit b (d ∷ ds) es (inr f) h e = let k = (heads d b ds es e).0 in omega (arith, h.0)
 
-signs_unique : (s t : Option ℕ) (ds es : List ℕ) → IsSign s → IsSign t → AreDigits ds → AreDigits es → sign_text s ++ ds ≡ sign_text t ++ es → (s ≡ t) × (ds ≡ es)
+signs_unique : (s t : Option ℕ) (ds es : List ℕ) → IsSign s → IsSign t → AreDigits ds → AreDigits es → sign_text s ++ ds ≡ sign_text t ++ es
+    → (s ≡ t) × (ds ≡ es)
 signs_unique None None ds es h k d e q = (refl, q)
 signs_unique None (Some b) ds es h k d e q = absurd (sign_no_digit b ds es k d q)
 signs_unique (Some b) None ds es h k d e q = absurd (sign_no_digit b es ds h e (sym q))

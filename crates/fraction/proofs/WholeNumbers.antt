@@ -1,5 +1,6 @@
 -- Texts of digits, and the numbers that they write.
-use Rattle.std.proofs.Common.{◌≡◌, ◌<◌, ◌≤◌, ◌^◌, ℕ, ◌&&◌, true, false, List, [], ◌∷◌, length, refl, sym, ap₂, ◌∙◌, arith}
+use Rattle.std.proofs.Common.{◌≡◌, ◌<◌, ◌≤◌, ◌^◌, ℕ, ◌&&◌, true, false, List, [], ◌∷◌, length, refl, sym, ap₂, ◌∙◌}
+use Rattle.std.proofs.Common.{arith}
 use Rattle.std.specs.Str.Parse.{digits_value}
 use Rattle.std.specs.Char.{is_ascii_digit}
 use Rattle.std.specs.List.{list_all}
@@ -29,7 +30,8 @@ long_none most text l n h = let few : length text ≤ most = h.few in omega arit
 pub other_none : (most : ℕ) (text : List ℕ) → list_all is_ascii_digit text ≡ false → (n : ℕ) → WritesNumber most text n → ⊥
 other_none most text f n h = let e : true ≡ false = sym (digits_tested text h.digits) ∙ f in cc
 
-pub number_found : (most : ℕ) (text : List ℕ) (n : ℕ) → list_all is_ascii_digit text ≡ true → 0 < length text → length text ≤ most → n ≡ digits_value 10 text → WritesNumber most text n
+pub number_found : (most : ℕ) (text : List ℕ) (n : ℕ) → list_all is_ascii_digit text ≡ true → 0 < length text → length text ≤ most
+    → n ≡ digits_value 10 text → WritesNumber most text n
 number_found most text n d s f e = record { digits = are_digits text d; some = s; few = f; writes = e }
 
 pub number_below : (most : ℕ) (text : List ℕ) (n : ℕ) → length text ≤ most → n < 10 ^ length text → n < 10 ^ most

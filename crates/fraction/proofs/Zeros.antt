@@ -1,5 +1,6 @@
 -- Zeros before and behind other digits.
-use Rattle.std.proofs.Common.{◌≡◌, ◌≢◌, ℕ, zero, suc, ◌+◌, ◌-◌, ◌*◌, ◌^◌, ◌<◌, ◌≤◌, ◌⊎◌, inl, inr, List, [], ◌∷◌, ◌++◌, length, get_or, drop, take, reverse, refl, sym, ap, subst, ◌∙◌, arith, length-drop, add-zero}
+use Rattle.std.proofs.Common.{◌≡◌, ◌≢◌, ℕ, zero, suc, ◌+◌, ◌-◌, ◌*◌, ◌^◌, ◌<◌, ◌≤◌, ◌⊎◌, inl, inr, List, []}
+use Rattle.std.proofs.Common.{◌∷◌, ◌++◌, length, get_or, drop, take, reverse, refl, sym, ap, subst, ◌∙◌, arith, length-drop, add-zero}
 use Rattle.std.specs.List.{prefix_len}
 use Rattle.std.specs.Char.{digit_value}
 use Rattle.std.specs.Str.Parse.{digits_value, digits_value_after}
@@ -42,10 +43,12 @@ pub without_none : (xs ys : List ℕ) → length (without_leading_zeros xs) ≡ 
 unfolding without_leading_zeros
 without_none xs ys h =
     let le : length xs ≤ prefix_len is_nought xs = omega (arith, length-drop (prefix_len is_nought xs) xs) in
-    ap (λ n. drop n (xs ++ ys)) (prefix_past xs ys le) ∙ sym (drop-drop (prefix_len is_nought ys) (length xs) (xs ++ ys)) ∙ ap (drop (prefix_len is_nought ys)) (drop-append_seam xs ys)
+    ap (λ n. drop n (xs ++ ys)) (prefix_past xs ys le) ∙ sym (drop-drop (prefix_len is_nought ys) (length xs) (xs ++ ys))
+    ∙ ap (drop (prefix_len is_nought ys)) (drop-append_seam xs ys)
 
 -- the parts of joined digits without their zeros
-pub joined_none : (xs ys us vs : List ℕ) → length us ≡ 0 → us ≡ without_leading_zeros xs → vs ≡ without_leading_zeros ys → us ++ vs ≡ without_leading_zeros (xs ++ ys)
+pub joined_none : (xs ys us vs : List ℕ) → length us ≡ 0 → us ≡ without_leading_zeros xs → vs ≡ without_leading_zeros ys
+    → us ++ vs ≡ without_leading_zeros (xs ++ ys)
 joined_none xs ys us vs h e f =
     let none : us ≡ [] = nil_from_length us h in
     rw none (f ∙ sym (without_none xs ys (rw (← e) h)))
@@ -67,7 +70,8 @@ pub value_ge : (n : ℕ) (ds : List ℕ) → n ≤ digits_value_after 10 n ds
 value_ge n [] = omega arith
 value_ge n (d ∷ ds) = omega (arith, value_ge (n * 10 + digit_value d) ds)
 
-without_value_by : (d : ℕ) (ds : List ℕ) → (d ≡ 48) ⊎ (d ≢ 48) → digits_value 10 (without_leading_zeros ds) ≡ digits_value 10 ds → digits_value 10 (without_leading_zeros (d ∷ ds)) ≡ digits_value 10 (d ∷ ds)
+without_value_by : (d : ℕ) (ds : List ℕ) → (d ≡ 48) ⊎ (d ≢ 48) → digits_value 10 (without_leading_zeros ds) ≡ digits_value 10 ds
+    → digits_value 10 (without_leading_zeros (d ∷ ds)) ≡ digits_value 10 (d ∷ ds)
 without_value_by d ds (inl e) r = rw e (ap (digits_value 10) (without_nought ds) ∙ r)
 without_value_by d ds (inr h) r = ap (digits_value 10) (without_other d ds h)
 
@@ -79,8 +83,10 @@ without_value (d ∷ ds) = without_value_by d ds (cases_eq d 48) (without_value 
 pub no_value : (ds : List ℕ) → length (without_leading_zeros ds) ≡ 0 → digits_value 10 ds ≡ 0
 no_value ds h = sym (without_value ds) ∙ ap (digits_value 10) (nil_from_length (without_leading_zeros ds) h)
 
-some_value_by : (d : ℕ) (ds : List ℕ) → 48 ≤ d → d ≤ 57 → (d ≡ 48) ⊎ (d ≢ 48) → (0 < length (without_leading_zeros ds) → 0 < digits_value 10 ds) → 0 < length (without_leading_zeros (d ∷ ds)) → 0 < digits_value 10 (d ∷ ds)
-some_value_by d ds h k (inl e) r some = rw e (r (subst (λ (x : List ℕ). 0 < length x) (ap (λ n. without_leading_zeros (n ∷ ds)) e ∙ without_nought ds) some))
+some_value_by : (d : ℕ) (ds : List ℕ) → 48 ≤ d → d ≤ 57 → (d ≡ 48) ⊎ (d ≢ 48)
+    → (0 < length (without_leading_zeros ds) → 0 < digits_value 10 ds) → 0 < length (without_leading_zeros (d ∷ ds)) → 0 < digits_value 10 (d ∷ ds)
+some_value_by d ds h k (inl e) r some =
+    rw e (r (subst (λ (x : List ℕ). 0 < length x) (ap (λ n. without_leading_zeros (n ∷ ds)) e ∙ without_nought ds) some))
 some_value_by d ds h k (inr n) r some = let g = value_ge (0 * 10 + digit_value d) ds in let e = digit_is d h k in omega arith
 
 pub some_value : (ds : List ℕ) → AreDigits ds → 0 < length (without_leading_zeros ds) → 0 < digits_value 10 ds
@@ -103,7 +109,8 @@ pub trailing_all : (xs ys : List ℕ) → length ys ≤ trailing_zeros ys → tr
 unfolding trailing_zeros
 trailing_all xs ys h =
     let e : length (reverse ys) ≡ prefix_len is_nought (reverse ys) = omega (arith, length-reverse ys, suffix_len-le-length is_nought ys) in
-    ap (prefix_len is_nought) (reverse-append xs ys) ∙ prefix_past (reverse ys) (reverse xs) (rw length-reverse h) ∙ ap (λ n. n + prefix_len is_nought (reverse xs)) e
+    ap (prefix_len is_nought) (reverse-append xs ys) ∙ prefix_past (reverse ys) (reverse xs) (rw length-reverse h)
+    ∙ ap (λ n. n + prefix_len is_nought (reverse xs)) e
 
 trailing_nought : (ds : List ℕ) (k : ℕ) → length ds - trailing_zeros ds ≤ k → k < length ds → get_or ds k 0 ≡ 48
 unfolding trailing_zeros
@@ -113,7 +120,8 @@ trailing_nought ds k h lt =
     let place : length ds - 1 - (length ds - 1 - k) ≡ k = omega arith in
     ap (λ n. get_or ds n 0) (sym place) ∙ sym (get_or-reverse ds (length ds - 1 - k) 0 (omega arith)) ∙ e
 
-value_zeros : (ds : List ℕ) (n j : ℕ) → n + j ≤ length ds → ((k : ℕ) → n ≤ k → k < length ds → get_or ds k 0 ≡ 48) → digits_value 10 (take (n + j) ds) ≡ digits_value 10 (take n ds) * 10 ^ j
+value_zeros : (ds : List ℕ) (n j : ℕ) → n + j ≤ length ds → ((k : ℕ) → n ≤ k → k < length ds → get_or ds k 0 ≡ 48)
+    → digits_value 10 (take (n + j) ds) ≡ digits_value 10 (take n ds) * 10 ^ j
 value_zeros ds n zero h z = rw add-zero (omega arith)
 value_zeros ds n (suc j) h z =
     let e : n + suc j ≡ (n + j) + 1 = omega arith in

@@ -36,7 +36,8 @@ use Rattle.graph_cli.specs.declared.needs.Needs.{Needs}
 csv_draft : (records : List Cells) (x y : Ratio) (d e : Draft) → terms x ≡ terms y → IsTable records x d → IsTable records y e → d ≡ e
 csv_draft records x y d e same h k = tables.one_draft records y d e (subst (λ z. IsTable records z d) (same_ratio x y same) h) k
 
-same_cell : (row line column place : ℕ) (j k : RowKind) → row ≡ line → column ≡ place → j ≡ k → cell_refusal row column j ≡ cell_refusal line place k
+same_cell : (row line column place : ℕ) (j k : RowKind) → row ≡ line → column ≡ place → j ≡ k
+    → cell_refusal row column j ≡ cell_refusal line place k
 same_cell row line column place j k e f g = rw (e, f, g) refl
 
 same_value : (bytes : List ℕ) (u v : Data) → IsJson bytes u → IsJson bytes v → u ≡ v
@@ -66,7 +67,8 @@ grammar_decided text bytes = record {
 }
 grammar_decided (csv alpha) bytes = record {
   one = λ d e h k. csv_draft (cells_of bytes) h.0 k.0 d e (h.1 ∙ sym k.1) h.2 k.2;
-  one_refusal = λ r q h k. let e = tables.one_first_fault (cells_of bytes) h.0 k.0 h.1 k.1 h.2 k.2 h.3 k.3 in h.4 ∙ same_cell h.0 k.0 h.1 k.1 h.2 k.2 e.0 e.1 e.2 ∙ sym k.4;
+  one_refusal = λ r q h k. let e = tables.one_first_fault (cells_of bytes) h.0 k.0 h.1 k.1 h.2 k.2 h.3 k.3 in h.4
+      ∙ same_cell h.0 k.0 h.1 k.1 h.2 k.2 e.0 e.1 e.2 ∙ sym k.4;
   not_both = λ d r h k. tables.not_both (cells_of bytes) h.0 d k.0 k.1 k.2 h.2 k.3;
 }
 grammar_decided json bytes = record { one = json_draft bytes; one_refusal = json_one_refusal bytes; not_both = json_not_both bytes }

@@ -55,6 +55,7 @@ pub call_decided : (command : Asked) (case proof : List ℕ) → IsDecided (call
 unfolding call_of case_call check_call
 call_decided (task_on_case form task) case proof = then_decided _ _ (accepted_decided form (needs_of task) case) (task_decided task)
 call_decided (catalogue graph) case proof = catalogue_decided graph
-call_decided (check form file) case proof = then_decided _ _ (accepted_decided form check_needs case) (λ c. then_decided _ _ (within_decided _ proof) (check_decided c))
+call_decided (check form file) case proof = then_decided _ _ (accepted_decided form check_needs case)
+    (λ c. then_decided _ _ (within_decided _ proof) (check_decided c))
 call_decided (sample size seed) case proof = sample_decided size seed
 call_decided help case proof = help_decided

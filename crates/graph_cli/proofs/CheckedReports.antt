@@ -36,11 +36,13 @@ single_values Bare h = absurd h
 single_values (Stages stages) h = absurd h
 
 -- done is only what the verdict yes is answered
-done_says_yes : (c : Content) (said : Said) (verdict : Verdict) (a : Answer) → a ≡ answer_to c said verdict → a.status ≡ statuses.Done → (verdict ≡ Yes) × (a.text ≡ check_report c said.version (listed_in said) (kept_in said))
+done_says_yes : (c : Content) (said : Said) (verdict : Verdict) (a : Answer) → a ≡ answer_to c said verdict → a.status ≡ statuses.Done
+    → (verdict ≡ Yes) × (a.text ≡ check_report c said.version (listed_in said) (kept_in said))
 done_says_yes c said Yes a e z = (refl, ap (λ (x : Answer). x.text) e)
 done_says_yes c said (No n reason) a e z = absurd (not_no a.status (ap (λ (x : Answer). x.status) e) z)
 
-reported : (c : Content) (v : Evidence) (bytes printed : List ℕ) → IsValidContent c → IsSingle c.inputs → IsEvidenceFor c v → SaysEvidence c bytes v → verdict_of (case_check c (steps_of v) (keeps_of v)) ≡ Ok Yes
+reported : (c : Content) (v : Evidence) (bytes printed : List ℕ) → IsValidContent c → IsSingle c.inputs → IsEvidenceFor c v → SaysEvidence c bytes v
+    → verdict_of (case_check c (steps_of v) (keeps_of v)) ≡ Ok Yes
     → printed ≡ check_report c (version_of v) (listed_in (said_of v)) (kept_in (said_of v)) → ReportsEvidence c bytes printed
 reported c v bytes printed V single fits says holds e = record {
   evidence = v;
@@ -72,6 +74,10 @@ checks_closed_test words form file case proof a asks (inl h) z =
       draft = draft;
       says = subst (λ xs. (grammar form xs).Gives draft) bytes_are read.1;
       faultless = read.2.0;
-      reports = subst (λ c. ReportsEvidence c proof a.text) content_is (reported gives.0 found.0 proof a.text (subst IsValidContent (sym content_is) (faultless_content draft read.2.0 (known_arrivals form _ draft read.1))) (single_values gives.0.inputs (subst (λ (c : Content). IsOfKind Single c.inputs) (sym gives.1.2.2.2.1) single)) found.1 (subst (λ xs. SaysEvidence gives.0 xs found.0) proof_is found.2)
-          (subst (λ (s : Said). verdict_of (case_check gives.0 s.steps s.keeps) ≡ Ok Yes) found.3 verdict_is) (answered.1 ∙ ap (λ (s : Said). check_report gives.0 s.version (listed_in s) (kept_in s)) found.3));
+      reports = subst (λ c. ReportsEvidence c proof a.text) content_is
+          (reported gives.0 found.0 proof a.text (subst IsValidContent (sym content_is) (faultless_content draft read.2.0 (known_arrivals form _ draft read.1)))
+          (single_values gives.0.inputs (subst (λ (c : Content). IsOfKind Single c.inputs) (sym gives.1.2.2.2.1) single)) found.1
+          (subst (λ xs. SaysEvidence gives.0 xs found.0) proof_is found.2)
+          (subst (λ (s : Said). verdict_of (case_check gives.0 s.steps s.keeps) ≡ Ok Yes) found.3 verdict_is)
+          (answered.1 ∙ ap (λ (s : Said). check_report gives.0 s.version (listed_in s) (kept_in s)) found.3));
     }

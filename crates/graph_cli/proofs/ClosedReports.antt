@@ -57,18 +57,21 @@ faultless_content d f known = ∣ (record { draft = d; content_is = refl; faultl
 pub not_done : (s : Status) (cause : Cause) → s ≡ Refused cause → s ≡ Done → ⊥
 not_done s cause e f = cc
 
-reported : (c : Content) (priority : Priority) (d : Decision) (xs : List Adjusted) (printed : List ℕ) → IsValidContent c → IsDecision c priority d → AreAdjusted c xs → printed ≡ test_report c d xs
+reported : (c : Content) (priority : Priority) (d : Decision) (xs : List Adjusted) (printed : List ℕ) → IsValidContent c → IsDecision c priority d
+    → AreAdjusted c xs → printed ≡ test_report c d xs
     → ReportsClosedTest c printed
 reported c priority d xs printed v h k e = record {
   decision = d;
   adjusted = xs;
   text_is = e;
-  named = λ j. let r = decision_decides c priority d v j h in (λ (x : is_rejected d.steps j ≡ true). r.0 (sym (named_listed d.steps j) ∙ x), λ x. named_listed d.steps j ∙ r.1 x);
+  named = λ j. let r = decision_decides c priority d v j h in
+      (λ (x : is_rejected d.steps j ≡ true). r.0 (sym (named_listed d.steps j) ∙ x), λ x. named_listed d.steps j ∙ r.1 x);
   values = k;
 }
 
 -- What a task on a case answers with status 0 is of a draft without a fault, which the bytes say.
-pub reports_case : (Reports : Content → List ℕ → Type 0) (words : List (List ℕ)) (form : Written) (task : CaseTask) (case : List ℕ) (proof : Option (List ℕ)) (a : Answer)
+pub reports_case : (Reports : Content → List ℕ → Type 0) (words : List (List ℕ)) (form : Written) (task : CaseTask) (case : List ℕ)
+    (proof : Option (List ℕ)) (a : Answer)
     → ((c : Content) → IsValidContent c → (answers_on_case task c).Gives a → Reports c a.text)
     → AskFor words (on_case form task) → IsAnswerOf (outcome words (Some case) proof) a → a.status ≡ Done → ReportsCase Reports form case a.text
 unfolding call_of case_call
@@ -88,9 +91,11 @@ reports_case Reports words form task case proof a of_case asks (inl h) z =
       reports = subst (λ c. Reports c a.text) content_is (of_case gives.0 valid gives.2);
     }
 
-test_reports : (priority : Priority) (a : Answer) (c : Content) → IsValidContent c → (answers_on_case (Test priority) c).Gives a → ReportsClosedTest c a.text
+test_reports : (priority : Priority) (a : Answer) (c : Content) → IsValidContent c → (answers_on_case (Test priority) c).Gives a
+    → ReportsClosedTest c a.text
 unfolding answers_on_case test_stage
 test_reports priority a c v g = reported c priority g.0 g.2.0 a.text v g.1.1 g.2.1.1 (ap (λ (x : Answer). x.text) g.2.2)
 
 pub reports_closed_test : ReportsAreOfTheClosedTest
-reports_closed_test words form priority case proof a asks h z = reports_case ReportsClosedTest words form (Test priority) case proof a (test_reports priority a) asks h z
+reports_closed_test words form priority case proof a asks h z =
+    reports_case ReportsClosedTest words form (Test priority) case proof a (test_reports priority a) asks h z

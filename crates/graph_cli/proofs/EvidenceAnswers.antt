@@ -48,7 +48,8 @@ yes_or_wide r v w h k = cc
 flown_decided : (c : Content) (decision : Decision) → IsDecided (flown c decision)
 flown_decided c decision = record {
   one = λ x y h k. let e = same_run _ _ _ h.1.run k.1.run in
-      h.2 ∙ same_said _ _ _ _ _ _ (h.1.version ∙ sym k.1.version) (ap (λ (v : WrittenEvidence). v.steps) e) (ap (λ (v : WrittenEvidence). v.keeps) e) ∙ sym k.2;
+      h.2 ∙ same_said _ _ _ _ _ _ (h.1.version ∙ sym k.1.version) (ap (λ (v : WrittenEvidence). v.steps) e) (ap (λ (v : WrittenEvidence). v.keeps) e)
+      ∙ sym k.2;
   one_refusal = λ r q h k. h.2 ∙ ap (λ (w : WideStep). wide_refusal c.names (EvidenceStep w.step) w.at) (same_step _ h.0 k.0 h.1 k.1) ∙ sym k.2;
   not_both = λ x r h k. run_or_wide _ _ k.0 h.1.run k.1;
 }
@@ -56,18 +57,22 @@ flown_decided c decision = record {
 confirmed_decided : (c : Content) (said : Said) → IsDecided (confirmed c said)
 confirmed_decided c said = record {
   one = λ x y h k. h.1 ∙ sym k.1;
-  one_refusal = λ r q h k. h.2 ∙ ap (λ (wide : CheckWide). wide_refusal c.names (Check (part_at (listed_in said) (kept_in said) wide.step)) wide.at) (same_wide _ h.0 k.0 h.1 k.1) ∙ sym k.2;
+  one_refusal = λ r q h k. h.2 ∙ ap (λ (wide : CheckWide). wide_refusal c.names (Check (part_at (listed_in said) (kept_in said) wide.step)) wide.at)
+      (same_wide _ h.0 k.0 h.1 k.1) ∙ sym k.2;
   not_both = λ x r h k. yes_or_wide _ Yes k.0 h.0 k.1;
 }
 
 pub evidence_decided : (priority : Priority) (c : Content) → IsDecided (evidence_stage priority c)
 unfolding evidence_stage
-evidence_decided priority c = then_decided _ _ (decision_decided priority c) (λ decision. then_decided _ _ (flown_decided c decision) (λ said. then_decided _ _ (confirmed_decided c said) (λ text. only_decided _)))
+evidence_decided priority c = then_decided _ _ (decision_decided priority c)
+    (λ decision. then_decided _ _ (flown_decided c decision) (λ said. then_decided _ _ (confirmed_decided c said) (λ text. only_decided _)))
 
 -- ---- no broken condition
 
-pub never_no : (c : Content) (decision : Decision) (v : Evidence) → IsValidContent c → IsCompleteOrder c (hypotheses decision.steps) → IsFlowRun c decision v → (n : ℕ) (reason : Reason) → verdict_of (case_check c (steps_of v) (keeps_of v)) ≡ Ok (No n reason) → ⊥
+pub never_no : (c : Content) (decision : Decision) (v : Evidence) → IsValidContent c → IsCompleteOrder c (hypotheses decision.steps)
+    → IsFlowRun c decision v → (n : ℕ) (reason : Reason) → verdict_of (case_check c (steps_of v) (keeps_of v)) ≡ Ok (No n reason) → ⊥
 unfolding case_flows
 never_no c decision v V o f n reason h =
     (case_tells c V (steps_of v) (keeps_of v) (evidence_stored c v f.fits)).bad n reason (no_is _ n reason h)
-    ((flows_meet c V (number_at (p_values_of c.inputs)) (number_of c.alpha) (hypotheses decision.steps) o.legal (numbers_of c) (can_run c) o.complete _ f.run).0)
+    ((flows_meet c V (number_at (p_values_of c.inputs)) (number_of c.alpha) (hypotheses decision.steps) o.legal (numbers_of c)
+    (can_run c) o.complete _ f.run).0)

@@ -25,7 +25,8 @@ use Rattle.graph_cli.proofs.ClosedReports.{reports_case}
 single_inputs : (c : Content) (priority : Priority) (d : Decision) → IsDecision c priority d → IsSingle c.inputs
 single_inputs c priority d h = for_single (λ ps. IsDecisionWith c ps priority d) IsSingle (λ ps D. tt) c.inputs h
 
-printed : (c : Content) (v : Evidence) (decision : Decision) (text : List ℕ) → IsValidContent c → IsSingle c.inputs → IsFlowRun c decision v → verdict_of (case_check c (steps_of v) (keeps_of v)) ≡ Ok Yes → text ≡ text_said c (said_of v) → PrintsEvidence c text
+printed : (c : Content) (v : Evidence) (decision : Decision) (text : List ℕ) → IsValidContent c → IsSingle c.inputs → IsFlowRun c decision v
+    → verdict_of (case_check c (steps_of v) (keeps_of v)) ≡ Ok Yes → text ≡ text_said c (said_of v) → PrintsEvidence c text
 printed c v decision text V single f holds e = record {
   evidence = v;
   fits = f.fits;
@@ -35,7 +36,8 @@ printed c v decision text V single f holds e = record {
   named = λ j. case_decides c V single (steps_of v) (keeps_of v) (evidence_stored c v f.fits) (yes_is _ holds) (keeps_others c v f.fits f.version) j;
 }
 
-evidence_prints : (priority : Priority) (a : Answer) (c : Content) → IsValidContent c → (answers_on_case (EvidenceTask priority) c).Gives a → PrintsEvidence c a.text
+evidence_prints : (priority : Priority) (a : Answer) (c : Content) → IsValidContent c → (answers_on_case (EvidenceTask priority) c).Gives a
+    → PrintsEvidence c a.text
 unfolding answers_on_case evidence_stage
 evidence_prints priority a c V h =
     -- the decision, the flow run and the check that the answer comes from
@@ -49,4 +51,5 @@ evidence_prints priority a c V h =
     (ap (λ (x : Answer). x.text) h.2.2.2 ∙ confirmed.1 ∙ ap (text_said c) said_is)
 
 pub evidence_closed_test : EvidenceIsOfTheClosedTest
-evidence_closed_test words form priority case proof a asks h z = reports_case PrintsEvidence words form (EvidenceTask priority) case proof a (evidence_prints priority a) asks h z
+evidence_closed_test words form priority case proof a asks h z =
+    reports_case PrintsEvidence words form (EvidenceTask priority) case proof a (evidence_prints priority a) asks h z

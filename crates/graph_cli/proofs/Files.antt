@@ -11,7 +11,8 @@ same_file : (o : Option ℕ) (i : ℕ) → o ≡ None → o ≡ Some i → ⊥
 same_file o i h k = cc
 
 -- the file of a command that is asked for
-pub file_by : (words : List (List ℕ)) (command : Asked) (place : Option ℕ) → AskFor words command → place ≡ file_of command → IfSome place (NamesFile words)
+pub file_by : (words : List (List ℕ)) (command : Asked) (place : Option ℕ) → AskFor words command → place ≡ file_of command
+    → IfSome place (NamesFile words)
 file_by words command None asks e = tt
 file_by words command (Some place) asks e = inl (command, asks, sym e)
 

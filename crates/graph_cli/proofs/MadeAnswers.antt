@@ -30,6 +30,7 @@ made_decided n made = record {
 }
 
 -- a fault that is told is one that is made
-pub told : (n : ℕ) (made : Result Content CatalogueFault) (fault : CatalogueFault) (r : Refusal) → (fault ≡ OutOfMemory) ⊎ (made ≡ Err fault) → IsToldAs n fault r → (f : CatalogueFault) × (made ≡ Err f) × IsToldAs n f r
+pub told : (n : ℕ) (made : Result Content CatalogueFault) (fault : CatalogueFault) (r : Refusal) → (fault ≡ OutOfMemory) ⊎ (made ≡ Err fault)
+    → IsToldAs n fault r → (f : CatalogueFault) × (made ≡ Err f) × IsToldAs n f r
 told n made fault r (inl e) h = absurd (subst (λ f. IsToldAs n f r) e h)
 told n made fault r (inr e) h = (fault, e, h)

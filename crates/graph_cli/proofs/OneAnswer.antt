@@ -10,4 +10,5 @@ use Rattle.graph_cli.proofs.CallAnswers.{call_decided}
 
 pub has_one_answer : HasOneAnswer
 has_one_answer words case proof =
-    one_answer (outcome words (Some case) (Some proof)) (then_decided _ _ (told_as_decided usage (asked_in words) (words_decided words)) (λ command. call_decided command case proof))
+    one_answer (outcome words (Some case) (Some proof))
+    (then_decided _ _ (told_as_decided usage (asked_in words) (words_decided words)) (λ command. call_decided command case proof))

@@ -10,4 +10,5 @@ use Rattle.graph_cli.proofs.TestAnswers.{decision_decided}
 
 pub sample_decided : (size seed : ℕ) → IsDecided (sample_stage size seed)
 unfolding sample_stage
-sample_decided size seed = then_decided _ _ (made_decided size (sample_case size seed)) (λ c. then_decided _ _ (decision_decided First c) (λ d. only_decided _))
+sample_decided size seed = then_decided _ _ (made_decided size (sample_case size seed))
+    (λ c. then_decided _ _ (decision_decided First c) (λ d. only_decided _))

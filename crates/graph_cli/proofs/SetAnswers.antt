@@ -38,7 +38,8 @@ none_wide c r d k = defined_not_wide c k.0 k.1 d k.2
 
 one_weights : (c : Content) (text again : List ℕ) → ReportsWeights c text → ReportsWeights c again → text ≡ again
 one_weights c text again h k =
-    one_weights_report c h.0 k.0 (λ n i p q. same_number (h.0 n i) (k.0 n i) (intersection_unique (entangled c) (members n) i _ _ (h.1 n i p q) (k.1 n i p q))) text again h.2 k.2
+    one_weights_report c h.0 k.0 (λ n i p q. same_number (h.0 n i) (k.0 n i) (intersection_unique (entangled c) (members n) i _ _ (h.1 n i p q) (k.1 n i p q)))
+    text again h.2 k.2
 
 pub weights_decided : (c : Content) → IsDecided (weights_stage c)
 unfolding weights_stage
@@ -51,10 +52,13 @@ weights_decided c = then_decided (weighed c) _ (record {
 -- ---- bounds
 
 bounds_agree : (c : Content) (inputs : Inputs) (bound other : ℕ → ℕ)
-    → ForSingle inputs (λ ps. (n : ℕ) → n < 2 ^ length c.names → IsBound (length c.names) (IsClosedRejected (entangled c) (number_at ps) (number_of c.alpha)) (members n) (bound n))
-    → ForSingle inputs (λ ps. (n : ℕ) → n < 2 ^ length c.names → IsBound (length c.names) (IsClosedRejected (entangled c) (number_at ps) (number_of c.alpha)) (members n) (other n))
+    → ForSingle inputs (λ ps. (n : ℕ) → n < 2 ^ length c.names
+    → IsBound (length c.names) (IsClosedRejected (entangled c) (number_at ps) (number_of c.alpha)) (members n) (bound n))
+    → ForSingle inputs (λ ps. (n : ℕ) → n < 2 ^ length c.names
+    → IsBound (length c.names) (IsClosedRejected (entangled c) (number_at ps) (number_of c.alpha)) (members n) (other n))
     → (n : ℕ) → n < 2 ^ length c.names → bound n ≡ other n
-bounds_agree c (Single ps) bound other h k n p = one_bound (length c.names) (IsClosedRejected (entangled c) (number_at ps) (number_of c.alpha)) (members n) _ _ (h n p) (k n p)
+bounds_agree c (Single ps) bound other h k n p = one_bound (length c.names) (IsClosedRejected (entangled c) (number_at ps) (number_of c.alpha)) (members n) _ _
+    (h n p) (k n p)
 bounds_agree c Bare bound other h k n p = absurd h
 bounds_agree c (Staged stages) bound other h k n p = absurd h
 
@@ -73,13 +77,16 @@ bounds_decided c = then_decided (bounded c) _ (record {
 bounds_of_table : (c : Content) (inputs : Inputs) (table : ℕ → Bool) (bound : ℕ → ℕ)
     → ForSingle inputs (λ ps. AnswersFor (length c.names) (IsClosedRejected (entangled c) (number_at ps) (number_of c.alpha)) table)
     → ((n : ℕ) → n < 2 ^ length c.names → IsBound (length c.names) (SaysYes (length c.names) table) (members n) (bound n))
-    → ForSingle inputs (λ ps. (n : ℕ) → n < 2 ^ length c.names → IsBound (length c.names) (IsClosedRejected (entangled c) (number_at ps) (number_of c.alpha)) (members n) (bound n))
+    → ForSingle inputs (λ ps. (n : ℕ) → n < 2 ^ length c.names
+    → IsBound (length c.names) (IsClosedRejected (entangled c) (number_at ps) (number_of c.alpha)) (members n) (bound n))
 unfolding entangled
 bounds_of_table c (Single ps) table bound answers h = λ n p.
-    (answered_bound (length c.names) table (IsClosedRejected (entangled c) (number_at ps) (number_of c.alpha)) (closed_same (entangled c) (number_at ps) (number_of c.alpha)) answers (members n) (bound n)).0 (h n p)
+    (answered_bound (length c.names) table (IsClosedRejected (entangled c) (number_at ps) (number_of c.alpha))
+    (closed_same (entangled c) (number_at ps) (number_of c.alpha)) answers (members n) (bound n)).0 (h n p)
 bounds_of_table c Bare table bound answers h = absurd answers
 bounds_of_table c (Staged stages) table bound answers h = absurd answers
 
 pub closed_bounds : (c : Content) (m : ℕ) (table : ℕ → Bool) (bound : ℕ → ℕ) → m ≡ length c.names → AreClosedAnswers c table
     → ((n : ℕ) → n < 2 ^ m → IsBound m (SaysYes m table) (members n) (bound n)) → AreClosedBounds c bound
-closed_bounds c m table bound e answers h = bounds_of_table c c.inputs table bound answers (subst (λ k. (n : ℕ) → n < 2 ^ k → IsBound k (SaysYes k table) (members n) (bound n)) e h)
+closed_bounds c m table bound e answers h = bounds_of_table c c.inputs table bound answers
+    (subst (λ k. (n : ℕ) → n < 2 ^ k → IsBound k (SaysYes k table) (members n) (bound n)) e h)

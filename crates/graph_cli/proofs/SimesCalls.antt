@@ -30,23 +30,30 @@ use Rattle.graph_cli.proofs.SetAnswers.{one_wide_set, none_wide}
 -- ---- sums that are too wide
 
 one_wide_simes : (c : Content) (r q : Refusal) → IsWideSimesSet c r → IsWideSimesSet c q → r ≡ q
-one_wide_simes c r q h k = let e = one_wide_sum c h.0 k.0 h.1 k.1 h.2 k.2 h.3 k.3 h.4 k.4 in h.5 ∙ ap₂ (λ n w. wide_refusal c.names (SimesSet n) w) e.0 e.1 ∙ sym k.5
+one_wide_simes c r q h k = let e = one_wide_sum c h.0 k.0 h.1 k.1 h.2 k.2 h.3 k.3 h.4 k.4 in h.5 ∙ ap₂ (λ n w. wide_refusal c.names (SimesSet n) w) e.0 e.1
+    ∙ sym k.5
 
 -- ---- the report
 
-bounds_agree : (c : Content) (bound other : ℕ → ℕ) → AreSimesBounds c bound → AreSimesBounds c other → (n : ℕ) → n < 2 ^ length c.names → bound n ≡ other n
+bounds_agree : (c : Content) (bound other : ℕ → ℕ) → AreSimesBounds c bound → AreSimesBounds c other → (n : ℕ) → n < 2 ^ length c.names
+    → bound n ≡ other n
 bounds_agree c bound other h k n p =
-    for_both (λ ps. (o : ℕ) → o < 2 ^ length c.names → IsBound (length c.names) (IsSimesClosed (entangled c) (number_at ps) (number_of c.alpha)) (members o) (bound o))
-    (λ ps. (o : ℕ) → o < 2 ^ length c.names → IsBound (length c.names) (IsSimesClosed (entangled c) (number_at ps) (number_of c.alpha)) (members o) (other o))
-    (bound n ≡ other n) (λ ps f g. one_bound (length c.names) (IsSimesClosed (entangled c) (number_at ps) (number_of c.alpha)) (members n) _ _ (f n p) (g n p)) c.inputs h k
+    for_both (λ ps. (o : ℕ) → o < 2 ^ length c.names → IsBound (length c.names) (IsSimesClosed (entangled c) (number_at ps) (number_of c.alpha))
+    (members o) (bound o))
+    (λ ps. (o : ℕ) → o < 2 ^ length c.names → IsBound (length c.names) (IsSimesClosed (entangled c) (number_at ps) (number_of c.alpha)) (members o)
+    (other o))
+    (bound n ≡ other n) (λ ps f g. one_bound (length c.names) (IsSimesClosed (entangled c) (number_at ps) (number_of c.alpha)) (members n) _ _ (f n p)
+    (g n p)) c.inputs h k
 
 leaders_agree : (c : Content) (js ks : List ℕ) → AreLeadersIn c js → AreLeadersIn c ks → js ≡ ks
 leaders_agree c js ks h k =
-    for_both (λ ps. AreLeaders (length c.names) (number_at ps) js) (λ ps. AreLeaders (length c.names) (number_at ps) ks) (js ≡ ks) (λ ps. one_ranking (length c.names) (number_at ps) js ks) c.inputs h k
+    for_both (λ ps. AreLeaders (length c.names) (number_at ps) js) (λ ps. AreLeaders (length c.names) (number_at ps) ks) (js ≡ ks)
+    (λ ps. one_ranking (length c.names) (number_at ps) js ks) c.inputs h k
 
 one_report : (c : Content) (text again : List ℕ) → ReportsSimes c text → ReportsSimes c again → text ≡ again
 one_report c text again h k =
-    one_simes_report c h.bound k.bound (bounds_agree c h.bound k.bound h.bounds k.bounds) h.closed k.closed (one_closed_table c h.closed k.closed h.answers k.answers)
+    one_simes_report c h.bound k.bound (bounds_agree c h.bound k.bound h.bounds k.bounds) h.closed k.closed
+    (one_closed_table c h.closed k.closed h.answers k.answers)
     h.leaders k.leaders (leaders_agree c h.leaders k.leaders h.order k.order) text again h.text_is k.text_is
 
 -- ---- the stages
@@ -76,9 +83,11 @@ bounds_for c table bound h ps answers n p = (simes_table_bound (entangled c) (nu
 
 pub simes_bounds : (c : Content) (m : ℕ) (table : ℕ → Bool) (bound : ℕ → ℕ) → m ≡ length c.names → AreSimesClosedAnswers c table
     → ((n : ℕ) → n < 2 ^ m → IsBound m (SaysYes m table) (members n) (bound n)) → AreSimesBounds c bound
-simes_bounds c m table bound e answers h = for_single _ _ (bounds_for c table bound (subst (λ k. (n : ℕ) → n < 2 ^ k → IsBound k (SaysYes k table) (members n) (bound n)) e h)) c.inputs answers
+simes_bounds c m table bound e answers h = for_single _ _
+    (bounds_for c table bound (subst (λ k. (n : ℕ) → n < 2 ^ k → IsBound k (SaysYes k table) (members n) (bound n)) e h)) c.inputs answers
 
 -- ---- each leader is a hypothesis, and none is another one
 
 pub leaders_apart : (c : Content) (js : List ℕ) → AreLeadersIn c js → All (λ j. j < length c.names) js × AllPairs (λ i j. i ≢ j) js
-leaders_apart c js = single.for_single (λ ps. AreLeaders (length c.names) (number_at ps) js) (λ _. All (λ j. j < length c.names) js × AllPairs (λ i j. i ≢ j) js) (λ ps L. leaders_once (length c.names) (number_at ps) js L) c.inputs
+leaders_apart c js = single.for_single (λ ps. AreLeaders (length c.names) (number_at ps) js)
+    (λ _. All (λ j. j < length c.names) js × AllPairs (λ i j. i ≢ j) js) (λ ps L. leaders_once (length c.names) (number_at ps) js L) c.inputs

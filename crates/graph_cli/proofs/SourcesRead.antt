@@ -8,5 +8,6 @@ use Rattle.graph_cli.specs.Outcome.{AskFor, ReadsCase, ReadsProof}
 pub takes_case : (words : List (List ℕ)) (command : Asked) → AskFor words command → ReadsCase words → TakesCase command
 takes_case words command asks reads = subst TakesCase ((words_decided words).one reads.0 command reads.1 asks) reads.2
 
-pub takes_proof : (words : List (List ℕ)) (case : Option (List ℕ)) (command : Asked) → AskFor words command → ReadsProof words case → TakesProof command case
+pub takes_proof : (words : List (List ℕ)) (case : Option (List ℕ)) (command : Asked) → AskFor words command → ReadsProof words case
+    → TakesProof command case
 takes_proof words case command asks reads = subst (λ c. TakesProof c case) ((words_decided words).one reads.0 command reads.1 asks) reads.2

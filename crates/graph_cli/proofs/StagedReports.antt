@@ -21,11 +21,14 @@ or_again : (a b c : Bool) → ((a || b) || c) ≡ (a || (b || c))
 or_again true b c = refl
 or_again false b c = refl
 
-look_listed : (look rest : List Settled) (j : ℕ) → (list_any (λ r. r.hypothesis == j) look || set_of (positions_of rest) j) ≡ set_of (positions_of (look ++ rest)) j
+look_listed : (look rest : List Settled) (j : ℕ) → (list_any (λ r. r.hypothesis == j) look || set_of (positions_of rest) j) ≡ set_of
+    (positions_of (look ++ rest)) j
 look_listed [] rest j = refl
 look_listed (r ∷ look) rest j =
     let e : (r.hypothesis == j) ≡ (j == r.hypothesis) = grind (arith, nat_tests) in
-    or_again (r.hypothesis == j) _ _ ∙ (ap (λ b. b || (list_any (λ r. r.hypothesis == j) look || set_of (positions_of rest) j)) e ∙ ap (λ b. (j == r.hypothesis) || b) (look_listed look rest j))
+    or_again (r.hypothesis == j) _ _
+    ∙ (ap (λ b. b || (list_any (λ r. r.hypothesis == j) look || set_of (positions_of rest) j)) e
+    ∙ ap (λ b. (j == r.hypothesis) || b) (look_listed look rest j))
 
 settled_listed : (looks : List (List Settled)) (j : ℕ) → is_settled looks j ≡ set_of (positions_of (rejected_in looks)) j
 unfolding is_settled
@@ -37,7 +40,8 @@ unfolding on_case stages_stage
 stages_reports a c v g = record {
   looks = g.0;
   text_is = ap (λ (x : Answer). x.text) g.2;
-  named = λ j. let d = looks_decide c g.0 j v g.1 in let e = settled_listed g.0 j in (λ (x : is_settled g.0 j ≡ true). d.0 (sym e ∙ x), λ x. e ∙ d.1 x);
+  named = λ j. let d = looks_decide c g.0 j v g.1 in let e =
+      settled_listed g.0 j in (λ (x : is_settled g.0 j ≡ true). d.0 (sym e ∙ x), λ x. e ∙ d.1 x);
 }
 
 pub reports_staged_test : ReportsAreOfTheStagedTest

@@ -22,10 +22,12 @@ use Rattle.report.specs.CheckReport.{listed_line, keeps_line}
 each_given : {A B : Type 0} (P : B → Type 0) (f : A → B) (xs : List A) → All P (map f xs) → All (λ x. P (f x)) xs
 each_given P f xs h = λ k d below. subst P (get_or-map f xs k d) (h k (f d) (subst (λ n. k < n) (sym (length-map xs f)) below))
 
-pub steps_below : {F : Type 0} (m : ℕ) (parts : F → Parts) (ss : List (ProofStep F)) → All (λ s. s.hypothesis < m) (map (step_parts parts) ss) → All (λ s. s.hypothesis < m) ss
+pub steps_below : {F : Type 0} (m : ℕ) (parts : F → Parts) (ss : List (ProofStep F)) → All (λ s. s.hypothesis < m) (map (step_parts parts) ss)
+    → All (λ s. s.hypothesis < m) ss
 steps_below m parts ss h = each_given (λ (s : StepParts). s.hypothesis < m) (step_parts parts) ss h
 
-pub keeps_below : {F : Type 0} (m : ℕ) (parts : F → Parts) (xs : List (KeepProof F)) → All (λ x. x.hypothesis < m) (map (keep_parts parts) xs) → All (λ x. x.hypothesis < m) xs
+pub keeps_below : {F : Type 0} (m : ℕ) (parts : F → Parts) (xs : List (KeepProof F)) → All (λ x. x.hypothesis < m) (map (keep_parts parts) xs)
+    → All (λ x. x.hypothesis < m) xs
 keeps_below m parts xs h = each_given (λ (x : KeepParts). x.hypothesis < m) (keep_parts parts) xs h
 
 -- the lines of the hypotheses of evidence
@@ -38,8 +40,14 @@ stored_lines case v = listed_line case (hypotheses_of v.steps) ++ keeps_line cas
 put_as : {A E : Type 0} (r : Result A E) (new old xs ys : List ℕ) → xs ≡ ys → OnOk r (new ≡ old ++ xs) → OnOk r (new ≡ old ++ ys)
 put_as r new old xs ys e h = subst (λ t. OnOk r (new ≡ old ++ t)) e h
 
-pub plain_put : {A E : Type 0} (r : Result A E) (new old : List ℕ) (case : Content) (v : Steps _) (e : Evidence) → e ≡ Plain v → OnOk r (new ≡ old ++ stored_lines case v) → OnOk r (new ≡ old ++ evidence_lines case e)
-plain_put r new old case v e is h = put_as r new old _ _ (ap₂ (λ js ks. listed_line case js ++ keeps_line case v.version ks) (same_hypotheses fraction_parts v.steps) (same_kept fraction_parts v.keeps) ∙ ap (evidence_lines case) (sym is)) h
+pub plain_put : {A E : Type 0} (r : Result A E) (new old : List ℕ) (case : Content) (v : Steps _) (e : Evidence) → e ≡ Plain v
+    → OnOk r (new ≡ old ++ stored_lines case v) → OnOk r (new ≡ old ++ evidence_lines case e)
+plain_put r new old case v e is h = put_as r new old _ _
+    (ap₂ (λ js ks. listed_line case js ++ keeps_line case v.version ks) (same_hypotheses fraction_parts v.steps) (same_kept fraction_parts v.keeps)
+    ∙ ap (evidence_lines case) (sym is)) h
 
-pub eps_put : {A E : Type 0} (r : Result A E) (new old : List ℕ) (case : Content) (v : Steps _) (e : Evidence) → e ≡ Eps v → OnOk r (new ≡ old ++ stored_lines case v) → OnOk r (new ≡ old ++ evidence_lines case e)
-eps_put r new old case v e is h = put_as r new old _ _ (ap₂ (λ js ks. listed_line case js ++ keeps_line case v.version ks) (same_hypotheses quotient_parts v.steps) (same_kept quotient_parts v.keeps) ∙ ap (evidence_lines case) (sym is)) h
+pub eps_put : {A E : Type 0} (r : Result A E) (new old : List ℕ) (case : Content) (v : Steps _) (e : Evidence) → e ≡ Eps v
+    → OnOk r (new ≡ old ++ stored_lines case v) → OnOk r (new ≡ old ++ evidence_lines case e)
+eps_put r new old case v e is h = put_as r new old _ _
+    (ap₂ (λ js ks. listed_line case js ++ keeps_line case v.version ks) (same_hypotheses quotient_parts v.steps) (same_kept quotient_parts v.keeps)
+    ∙ ap (evidence_lines case) (sym is)) h

@@ -1,5 +1,6 @@
 -- The sets of the first ones on a list, and of one hypothesis, by their numbers.
-use Rattle.std.proofs.Common.{◌≡◌, ◌≢◌, refl, sym, ap, ◌∙◌, ℕ, zero, suc, ◌+◌, ◌^◌, ◌<◌, ◌≤◌, ◌==◌, ◌||◌, arith, Bool, true, false, List, [], ◌∷◌, length, get_or, take}
+use Rattle.std.proofs.Common.{◌≡◌, ◌≢◌, refl, sym, ap, ◌∙◌, ℕ, zero, suc, ◌+◌, ◌^◌, ◌<◌, ◌≤◌, ◌==◌, ◌||◌, arith}
+use Rattle.std.proofs.Common.{Bool, true, false, List, [], ◌∷◌, length, get_or, take}
 use Rattle.std.specs.List.{All, AllPairs}
 use Rattle.std.proofs.Math.Pow.{pow_mono}
 use Rattle.field_core.specs.Sets.{adding, set_of}
@@ -28,7 +29,8 @@ first_more : (js : List ℕ) (k d i : ℕ) → k < length js → set_of (take (s
 unfolding adding
 first_more [] k d i h = absurd (omega arith)
 first_more (j ∷ js) zero d i h = ap (λ xs. (i == j) || set_of xs i) (none_in js 0 refl)
-first_more (j ∷ js) (suc k) d i h = ap (λ b. (i == j) || b) (first_more js k d i (omega (arith, h))) ∙ swapped (i == j) (i == get_or js k d) (set_of (take k js) i)
+first_more (j ∷ js) (suc k) d i h = ap (λ b. (i == j) || b) (first_more js k d i (omega (arith, h)))
+    ∙ swapped (i == j) (i == get_or js k d) (set_of (take k js) i)
 
 next_apart : (js : List ℕ) (k d : ℕ) → k < length js → AllPairs (λ i j. i ≢ j) js → set_of (take k js) (get_or js k d) ≡ false
 next_apart [] k d h a = absurd (omega arith)
@@ -51,7 +53,8 @@ module _ (m : ℕ) (js : List ℕ) (below : All (λ j. j < m) js) (apart : AllPa
       ∙ number_adding m (get_or js k d) (set_of (take k js)) (below k d within) (next_apart js k d within apart)
 
   -- the set with the next one more
-  pub added_first : (set more : ℕ) → set ≡ set_number m (set_of (take k js)) → more ≡ set + 2 ^ get_or js k d → more ≡ set_number m (set_of (take (k + 1) js))
+  pub added_first : (set more : ℕ) → set ≡ set_number m (set_of (take k js)) → more ≡ set + 2 ^ get_or js k d
+      → more ≡ set_number m (set_of (take (k + 1) js))
   added_first set more e f = f ∙ ap (λ n. n + 2 ^ get_or js k d) e ∙ sym first_next
 
 pub first_within : (m : ℕ) (js : List ℕ) (k : ℕ) → m ≤ 16 → set_number m (set_of (take k js)) < 2 ^ 16

@@ -1,5 +1,6 @@
 -- Lines of a list, one by one.
-use Rattle.std.proofs.Common.{◌≡◌, sym, ap, ap₂, ◌∙◌, subst, ℕ, ◌+◌, ◌==◌, ◌<◌, Bool, List, [], ◌∷◌, ◌++◌, map, length, get_or, append-nil, append_assoc, arith}
+use Rattle.std.proofs.Common.{◌≡◌, sym, ap, ap₂, ◌∙◌, subst, ℕ, ◌+◌, ◌==◌, ◌<◌, Bool, List, [], ◌∷◌, ◌++◌, map, length}
+use Rattle.std.proofs.Common.{get_or, append-nil, append_assoc, arith}
 use Rattle.std.specs.Prelude.{if◌then◌else◌}
 use Rattle.std.specs.List.{All, flat_map, list_any, range_with_len}
 use Rattle.std.proofs.lemmas.List.Elements.{All-get_or}
@@ -20,11 +21,13 @@ flat_map-more f n =
     ∙ ap₂ (λ xs ys. xs ++ ys) (flat_map-map f (λ k. k) (range_with_len 0 n)) (append-nil (f n))
 
 -- the text behind one place more
-pub put_more : (f : ℕ → List ℕ) (start text new : List ℕ) (n : ℕ) → text ≡ start ++ flat_map f (range_with_len 0 n) → new ≡ text ++ f n → new ≡ start ++ flat_map f (range_with_len 0 (n + 1))
+pub put_more : (f : ℕ → List ℕ) (start text new : List ℕ) (n : ℕ) → text ≡ start ++ flat_map f (range_with_len 0 n) → new ≡ text ++ f n
+    → new ≡ start ++ flat_map f (range_with_len 0 (n + 1))
 put_more f start text new n e g =
     g ∙ ap (λ t. t ++ f n) e ∙ append_assoc start (flat_map f (range_with_len 0 n)) (f n) ∙ ap (λ t. start ++ t) (sym (flat_map-more f n))
 
 -- what is printed of a position, by whether it is that of a step
-pub name_by : (case : Content) (steps : List StepLine) (j : ℕ) (rejected : Bool) → list_any (λ step. step.hypothesis == j) steps ≡ rejected → name_if_rejected case steps j ≡ (if rejected then spaced_name case j else [])
+pub name_by : (case : Content) (steps : List StepLine) (j : ℕ) (rejected : Bool) → list_any (λ step. step.hypothesis == j) steps ≡ rejected
+    → name_if_rejected case steps j ≡ (if rejected then spaced_name case j else [])
 unfolding is_rejected
 name_by case steps j rejected e = ap (λ b. if b then spaced_name case j else []) e

@@ -18,13 +18,18 @@ IsBelow m r = r.hypothesis < m
 
 module _ (c : Content) where
   -- the rejections that are added are of hypotheses of the case
-  first_added : (old new : StudyState) (ks : List ℕ) → AreFirstRejections c old ks new → (more : List Settled) × (new.rejected ≡ old.rejected ++ more) × AreRejectionsOf c more
+  first_added : (old new : StudyState) (ks : List ℕ) → AreFirstRejections c old ks new → (more : List Settled) × (new.rejected ≡ old.rejected ++ more)
+      × AreRejectionsOf c more
   unfolding entangled
   first_added old new [] e = ([], ap (λ s. s.rejected) e ∙ sym (append-nil old.rejected), All-nil (IsBelow (length c.names)))
   first_added old new (k ∷ ks) h =
       let n = h.1.1 in
-      let rest = first_added h.1.0 new ks h.1.2 in
-      (n.line ∷ rest.0, rest.1 ∙ ap (λ rs. rs ++ rest.0) n.rejected ∙ append_assoc old.rejected (n.line ∷ []) rest.0, All-cons (IsBelow (length c.names)) n.line rest.0 n.line_is.member.below rest.2)
+      let rest = first_added h.1.0 new ks h.1.2 in (
+        n.line ∷ rest.0,
+        rest.1 ∙ ap (λ rs. rs ++ rest.0) n.rejected
+            ∙ append_assoc old.rejected (n.line ∷ []) rest.0,
+        All-cons (IsBelow (length c.names)) n.line rest.0 n.line_is.member.below rest.2,
+      )
 
   pub look_below : (old new : StudyState) (a : Arrival) (added : List Settled) → IsLook c old a added new → AreRejectionsOf c added
   look_below old new a added h =
@@ -32,7 +37,8 @@ module _ (c : Content) where
       let same : added ≡ f.0 = added_same c old.rejected added f.0 (sym h.rejected ∙ f.1 ∙ ap (λ rs. rs ++ f.0) h.arrival.rejected) in
       All-same (IsBelow (length c.names)) added f.0 same f.2
 
-  lead_of_case : (old new : StudyState) (arrivals : List Arrival) (looks : List (List Settled)) → LooksLead c old arrivals looks new → (length looks ≡ length arrivals) × All (AreRejectionsOf c) looks
+  lead_of_case : (old new : StudyState) (arrivals : List Arrival) (looks : List (List Settled)) → LooksLead c old arrivals looks new
+      → (length looks ≡ length arrivals) × All (AreRejectionsOf c) looks
   lead_of_case old new [] [] h = (refl, All-nil (AreRejectionsOf c))
   lead_of_case old new [] (l ∷ looks) h = absurd h
   lead_of_case old new (a ∷ arrivals) [] h = absurd h

@@ -33,9 +33,11 @@ module _ (E : EntangledGraph) (p : ℕ → Number) (level : Number) where
   next_below Last I j h = h.allowed.member.below
   next_below ByRatio I j h = h.legal.member.below
 
-  steps_below : (priority : Priority) (I : ℕ → Bool) (xs : List StepLine) → IsOrderBy (IsNext E p level priority) I (hypotheses xs) → All (IsBelow E.hypotheses) xs
+  steps_below : (priority : Priority) (I : ℕ → Bool) (xs : List StepLine) → IsOrderBy (IsNext E p level priority) I (hypotheses xs)
+      → All (IsBelow E.hypotheses) xs
   steps_below priority I [] h = All-nil (IsBelow E.hypotheses)
-  steps_below priority I (x ∷ xs) h = All-cons (IsBelow E.hypotheses) x xs (next_below priority I x.hypothesis h.0) (steps_below priority (dropping x.hypothesis I) xs h.1)
+  steps_below priority I (x ∷ xs) h = All-cons (IsBelow E.hypotheses) x xs (next_below priority I x.hypothesis h.0)
+      (steps_below priority (dropping x.hypothesis I) xs h.1)
 
 range_below : (m : ℕ) → All (λ j. j < m) (range_with_len 0 m)
 range_below m = All-from_get_or (λ j. j < m) (range_with_len 0 m) 0 (λ i h.
@@ -51,7 +53,8 @@ kept_below m keep xs e = All-from_get_or (IsBelow m) xs nothing (λ i h.
     let here : i < length (hypotheses xs) = rw length-map h in
     subst (λ j. j < m) (get_or-map (λ x. x.hypothesis) xs i nothing 0 h) (All-get_or (λ j. j < m) (hypotheses xs) i 0 here all))
 
-with_p_values : (c : Content) (ps : List Ratio) (priority : Priority) (d : Decision) → IsDecisionWith c ps priority d → AreOfCase c d.steps × AreOfCase c d.kept
+with_p_values : (c : Content) (ps : List Ratio) (priority : Priority) (d : Decision) → IsDecisionWith c ps priority d → AreOfCase c d.steps
+    × AreOfCase c d.kept
 unfolding entangled
 with_p_values c ps priority d h = (
   steps_below (entangled c) (number_at ps) (number_of c.alpha) priority whole d.steps h.order.order,
@@ -59,4 +62,5 @@ with_p_values c ps priority d h = (
 )
 
 pub of_their_cases : DecisionsAreOfTheirCases
-of_their_cases c priority d = for_single (λ ps. IsDecisionWith c ps priority d) (λ _. AreOfCase c d.steps × AreOfCase c d.kept) (λ ps. with_p_values c ps priority d) c.inputs
+of_their_cases c priority d = for_single (λ ps. IsDecisionWith c ps priority d) (λ _. AreOfCase c d.steps × AreOfCase c d.kept)
+    (λ ps. with_p_values c ps priority d) c.inputs

@@ -1,5 +1,6 @@
 -- Lines of looks, one by one.
-use Rattle.std.proofs.Common.{◌≡◌, refl, sym, ap, ◌∙◌, ℕ, suc, ◌+◌, ◌==◌, ◌<◌, arith, Bool, true, List, [], ◌∷◌, ◌++◌, length, take, append-nil, append_assoc}
+use Rattle.std.proofs.Common.{◌≡◌, refl, sym, ap, ◌∙◌, ℕ, suc, ◌+◌, ◌==◌, ◌<◌, arith, Bool, true, List, [], ◌∷◌, ◌++◌}
+use Rattle.std.proofs.Common.{length, take, append-nil, append_assoc}
 use Rattle.std.specs.Prelude.{if◌then◌else◌}
 use Rattle.std.specs.List.{list_any, list_all, All}
 use Rattle.case_model.specs.declared.draft_stages.Arrival.{Arrival}
@@ -9,20 +10,26 @@ use Rattle.report.specs.TestReport.{spaced_name}
 use Rattle.report.specs.StagesReport.{look_lines, looks_lines, is_settled, name_if_settled}
 
 -- one look more
-lines_more : (case : Content) (arrivals : List Arrival) (looks : List (List Settled)) (a : Arrival) (look : List Settled) → length looks ≡ length arrivals → looks_lines case (arrivals ++ (a ∷ [])) (looks ++ (look ∷ [])) ≡ looks_lines case arrivals looks ++ look_lines case a look
+lines_more : (case : Content) (arrivals : List Arrival) (looks : List (List Settled)) (a : Arrival) (look : List Settled) → length looks ≡ length arrivals
+    → looks_lines case (arrivals ++ (a ∷ [])) (looks ++ (look ∷ [])) ≡ looks_lines case arrivals looks ++ look_lines case a look
 lines_more case [] [] a look e = append-nil (look_lines case a look)
 lines_more case [] (l ∷ looks) a look e = absurd (omega (arith, e))
 lines_more case (b ∷ arrivals) [] a look e = absurd (omega (arith, e))
 lines_more case (b ∷ arrivals) (l ∷ looks) a look e =
-    ap (λ t. look_lines case b l ++ t) (lines_more case arrivals looks a look (omega (arith, e))) ∙ sym (append_assoc (look_lines case b l) (looks_lines case arrivals looks) (look_lines case a look))
+    ap (λ t. look_lines case b l ++ t) (lines_more case arrivals looks a look (omega (arith, e)))
+    ∙ sym (append_assoc (look_lines case b l) (looks_lines case arrivals looks) (look_lines case a look))
 
 -- the text behind one look more
-pub put_line_more : (case : Content) (arrivals : List Arrival) (looks : List (List Settled)) (a : Arrival) (look start text new : _) → length looks ≡ length arrivals → text ≡ start ++ looks_lines case arrivals looks → new ≡ text ++ look_lines case a look
+pub put_line_more : (case : Content) (arrivals : List Arrival) (looks : List (List Settled)) (a : Arrival) (look start text new : _)
+    → length looks ≡ length arrivals → text ≡ start ++ looks_lines case arrivals looks → new ≡ text ++ look_lines case a look
     → new ≡ start ++ looks_lines case (arrivals ++ (a ∷ [])) (looks ++ (look ∷ []))
 put_line_more case arrivals looks a look start text new e f g =
-    g ∙ ap (λ t. t ++ look_lines case a look) f ∙ append_assoc start (looks_lines case arrivals looks) (look_lines case a look) ∙ ap (λ t. start ++ t) (sym (lines_more case arrivals looks a look e))
+    g ∙ ap (λ t. t ++ look_lines case a look) f ∙ append_assoc start (looks_lines case arrivals looks) (look_lines case a look)
+    ∙ ap (λ t. start ++ t) (sym (lines_more case arrivals looks a look e))
 
 -- what is printed of a position, by whether it is rejected
-pub settled_name_by : (case : Content) (looks : List (List Settled)) (j : ℕ) (rejected : Bool) → list_any (λ look. list_any (λ r. r.hypothesis == j) look) looks ≡ rejected → name_if_settled case looks j ≡ (if rejected then spaced_name case j else [])
+pub settled_name_by : (case : Content) (looks : List (List Settled)) (j : ℕ) (rejected : Bool)
+    → list_any (λ look. list_any (λ r. r.hypothesis == j) look) looks ≡ rejected
+    → name_if_settled case looks j ≡ (if rejected then spaced_name case j else [])
 unfolding is_settled
 settled_name_by case looks j rejected e = ap (λ b. if b then spaced_name case j else []) e

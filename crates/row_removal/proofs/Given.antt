@@ -1,5 +1,7 @@
 -- The numbers that rows are gathered from.
-use Rattle.std.proofs.Common.{◌≡◌, ◌≢◌, refl, sym, ap, subst, ◌∙◌, ℕ, zero, suc, ◌+◌, ◌*◌, ◌<◌, ◌⊎◌, inl, inr, List, [], ◌∷◌, map, get_or, length, ℤ, pos, ◌<ℤ◌, ◌*ℤ◌, int_div, Option, Some, None, Result, Ok, Err, IfSome, IfOk, add-one, arith}
+use Rattle.std.proofs.Common.{◌≡◌, ◌≢◌, refl, sym, ap, subst, ◌∙◌, ℕ, zero, suc, ◌+◌, ◌*◌, ◌<◌, ◌⊎◌, inl, inr, List, []}
+use Rattle.std.proofs.Common.{◌∷◌, map, get_or, length, ℤ, pos, ◌<ℤ◌, ◌*ℤ◌, int_div, Option, Some, None, Result, Ok, Err, IfSome, IfOk}
+use Rattle.std.proofs.Common.{add-one, arith}
 use Rattle.std.proofs.lemmas.List.{length-map, get_or-map}
 use Rattle.field_core.proofs.RemovalLaws.{same_or_not}
 use Rattle.field_core.specs.declared.place.Op.TheVariants.{Mul}
@@ -32,10 +34,13 @@ module _ (ws es : List EpsQuotient) where
   unfolding given weight all_live
   weight_given k x h e = ap quotient_parts e ∙ sym (get_or-map quotient_parts ws k x zero_quotient h)
 
-  pub edge_given : (l k : ℕ) (x : EpsQuotient) → l ≢ k → l * length ws + k < length es → x ≡ get_or es (l * length ws + k) x → quotient_parts x ≡ given (graph_given ws es) (Some l) k
+  pub edge_given : (l k : ℕ) (x : EpsQuotient) → l ≢ k → l * length ws + k < length es → x ≡ get_or es (l * length ws + k) x
+      → quotient_parts x ≡ given (graph_given ws es) (Some l) k
   unfolding given all_live
   edge_given l k x q h e =
-      ap quotient_parts e ∙ sym (edge_apart quotients (graph_given ws es) l k q ∙ ap (λ m. get_or (map quotient_parts es) (l * m + k) zero_quotient) size_given ∙ get_or-map quotient_parts es (l * length ws + k) x zero_quotient h)
+      ap quotient_parts e ∙ sym
+      (edge_apart quotients (graph_given ws es) l k q ∙ ap (λ m. get_or (map quotient_parts es) (l * m + k) zero_quotient) size_given
+      ∙ get_or-map quotient_parts es (l * length ws + k) x zero_quotient h)
 
   -- all that is given is what the quotients store
   given_parts : (xs : List EpsQuotient) (k : ℕ) → IsQuotient (get_or (map quotient_parts xs) k zero_quotient)
@@ -59,13 +64,15 @@ pub loop_given : (G : StoredGraph) (k : ℕ) → given G (Some k) k ≡ zero_quo
 unfolding given
 loop_given G k = edge_itself quotients G k
 
-pub constant_given : (G : StoredGraph) (row : Option ℕ) (k : ℕ) → HasConstants G → IfSome row (λ l. l < size G) → k < size G → IsConstant (given G row k).denominator
+pub constant_given : (G : StoredGraph) (row : Option ℕ) (k : ℕ) → HasConstants G → IfSome row (λ l. l < size G) → k < size G
+    → IsConstant (given G row k).denominator
 unfolding given
 constant_given G None k C h i = C.weights k i
 constant_given G (Some l) k C h i = C.edges l k h i
 
 -- a common denominator is positive
-pub positive_next : (place : Place) (c d : ℤ) → pos 0 <ℤ c → pos 0 <ℤ d → IfOk (at place Mul (sized (int_div c (gcd_of c d) *ℤ d))) (λ e. pos 0 <ℤ e)
+pub positive_next : (place : Place) (c d : ℤ) → pos 0 <ℤ c → pos 0 <ℤ d
+    → IfOk (at place Mul (sized (int_div c (gcd_of c d) *ℤ d))) (λ e. pos 0 <ℤ e)
 positive_next place c d h i = go (sized (int_div c (gcd_of c d) *ℤ d)) refl
   where
     go : (r : Option ℤ) → sized (int_div c (gcd_of c d) *ℤ d) ≡ r → IfOk (at place Mul r) (λ e. pos 0 <ℤ e)
@@ -84,12 +91,14 @@ module _ (G : StoredGraph) (row : Option ℕ) where
   pub common_next : (n : ℕ) (b c : ℤ) → common_below G row n ≡ Ok b → Ok c ≡ with_denominator G row n b → common_below G row (n + 1) ≡ Ok c
   common_next n b c h e = rw (add-one, common_suc n, h, ← e) refl
 
-  fault : (n k : ℕ) (b : ℤ) (w : Wide) → k < n → common_below G row k ≡ Ok b → with_denominator G row k b ≡ Err w → common_below G row n ≡ Err w
+  fault : (n k : ℕ) (b : ℤ) (w : Wide) → k < n → common_below G row k ≡ Ok b → with_denominator G row k b ≡ Err w
+      → common_below G row n ≡ Err w
   fault zero k b w h e f = absurd (omega arith)
   fault (suc n) k b w h e f = elim (last k n h) [
     | inl q ↦ let e' = rw q at e in let f' = rw q at f in rw (common_suc n, e', f') refl
     | inr q ↦ rw (common_suc n, fault n k b w q e f) refl
   ]
 
-  pub common_fault : (r : Result ℤ Wide) (n k : ℕ) (b : ℤ) (w : Wide) → r ≡ Err w → k < n → common_below G row k ≡ Ok b → Err w ≡ with_denominator G row k b → r ≡ common_below G row n
+  pub common_fault : (r : Result ℤ Wide) (n k : ℕ) (b : ℤ) (w : Wide) → r ≡ Err w → k < n → common_below G row k ≡ Ok b
+      → Err w ≡ with_denominator G row k b → r ≡ common_below G row n
   common_fault r n k b w g h e f = g ∙ sym (fault n k b w h e (sym f))

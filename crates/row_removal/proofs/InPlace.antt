@@ -1,5 +1,6 @@
 -- Lists whose items are replaced one after the other.
-use Rattle.std.proofs.Common.{◌≡◌, refl, sym, ap, ◌∙◌, ℕ, ◌+◌, ◌<◌, ◌≤◌, List, [], ◌∷◌, ◌++◌, map, take, set, get_or, length, arith, length-set}
+use Rattle.std.proofs.Common.{◌≡◌, refl, sym, ap, ◌∙◌, ℕ, ◌+◌, ◌<◌, ◌≤◌, List, [], ◌∷◌, ◌++◌, map, take, set, get_or}
+use Rattle.std.proofs.Common.{length, arith, length-set}
 use Rattle.std.proofs.lemmas.List.{take_more, take_more_set, take_all, map-append, get_or-set_other}
 
 module _ {A : Type 0} (f : A → A) (before : List A) where
@@ -17,7 +18,8 @@ module _ {A : Type 0} (f : A → A) (before : List A) where
       let there : k < length before = omega (arith, D.count) in
       let old = ap (map f) (take_more before k d there) ∙ map-append f (take k before) (get_or before k d ∷ []) in
       record {
-        past = take_more_set now k y h ∙ ap (λ xs. xs ++ y ∷ []) D.past ∙ ap (λ b. map f (take k before) ++ b ∷ []) (e ∙ ap f (D.rest k d (omega arith))) ∙ sym old;
+        past = take_more_set now k y h ∙ ap (λ xs. xs ++ y ∷ []) D.past
+            ∙ ap (λ b. map f (take k before) ++ b ∷ []) (e ∙ ap f (D.rest k d (omega arith))) ∙ sym old;
         rest = λ i d h. get_or-set_other now k i y d (λ g. absurd (omega arith)) ∙ D.rest i d (omega arith);
         count = length-set now k y ∙ D.count;
       }

@@ -32,7 +32,8 @@ zeros_room m n e = rw e (record {
   weights = zero_count m;
   count = length-replicate m (zero_row m);
   edges = All-from_get_or (λ (r : StoredRow). length r.numerators ≡ m) (replicate m (zero_row m)) (zero_row m)
-      (λ k h. subst (λ (r : StoredRow). length r.numerators ≡ m) (sym (get_or-replicate m k (zero_row m) (zero_row m) (omega (arith, length-replicate m (zero_row m))))) (zero_count m));
+      (λ k h. subst (λ (r : StoredRow). length r.numerators ≡ m)
+      (sym (get_or-replicate m k (zero_row m) (zero_row m) (omega (arith, length-replicate m (zero_row m))))) (zero_count m));
 })
 
 module _ (ws es : List EpsQuotient) where
@@ -40,7 +41,8 @@ module _ (ws es : List EpsQuotient) where
   unfolding zero_rows all_live
   zeros_live = sym (ap (λ n. replicate n true) (length-map ws quotient_parts))
 
-  module _ (S : IsSquare (length ws) (length ws) (length es)) (C : HasConstants (graph_given ws es)) (s : StoredRows) (h : Path (Result StoredRows Wide) (Ok s) (gathered (graph_given ws es))) where
+  module _ (S : IsSquare (length ws) (length ws) (length es)) (C : HasConstants (graph_given ws es)) (s : StoredRows)
+      (h : Path (Result StoredRows Wide) (Ok s) (gathered (graph_given ws es))) where
     all : AreGathered (graph_given ws es) (given_stored ws es S) C s
     all = are_gathered (graph_given ws es) (given_stored ws es S) C s (sym h)
 

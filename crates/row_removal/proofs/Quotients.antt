@@ -15,8 +15,12 @@ module _ {B E : Type 0} (error : E) where
   none_of (Some y) e h = absurd (cc)
   none_of None e h = refl
 
-pub filled_together : {A B E U : Type 0} (f : A → Option B) (error : E) (d : A) (e : B) (ps : List A) (xs : List B) (step : ℕ → Result B E → Type 0) (r : Result U E)
-    → length xs ≡ length ps → ((k : ℕ) (q : Result B E) → k < length ps → step k q → q ≡ ok_or (f (get_or ps k d)) error) → AreFilled step xs r → (if is_ok r then Some xs else None) ≡ map_all f ps
+pub filled_together : {A B E U : Type 0} (f : A → Option B) (error : E) (d : A) (e : B) (ps : List A) (xs : List B) (step : ℕ → Result B E → Type 0)
+    (r : Result U E)
+    → length xs ≡ length ps → ((k : ℕ) (q : Result B E) → k < length ps → step k q → q ≡ ok_or (f (get_or ps k d)) error)
+    → AreFilled step xs r → (if is_ok r then Some xs else None) ≡ map_all f ps
 unfolding AreFilled
-filled_together f error d e ps xs step (Ok u) h says fills = sym (from_given f d e ps xs h (λ k i. some_of error _ _ (says k _ i (fills k e (omega (arith, h))))))
-filled_together f error d e ps xs step (Err w) h says fills = let i : fills.0 < length ps = omega (arith, fills.1, h) in sym (none_given f d ps fills.0 i (none_of error _ w (says fills.0 (Err w) i fills.3)))
+filled_together f error d e ps xs step (Ok u) h says fills =
+    sym (from_given f d e ps xs h (λ k i. some_of error _ _ (says k _ i (fills k e (omega (arith, h))))))
+filled_together f error d e ps xs step (Err w) h says fills = let i : fills.0 < length ps =
+    omega (arith, fills.1, h) in sym (none_given f d ps fills.0 i (none_of error _ w (says fills.0 (Err w) i fills.3)))

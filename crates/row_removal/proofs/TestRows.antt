@@ -1,5 +1,6 @@
 -- The graph that the tests remove from is valid.
-use Rattle.std.proofs.Common.{◌≡◌, ◌≢◌, refl, sym, ap, ap₂, ◌∙◌, ℕ, zero, suc, ◌+◌, ◌*◌, ◌==◌, ◌<◌, Bool, true, false, if◌then◌else◌, List, [], ◌∷◌, ℤ, pos, negsuc, map, get_or, length, replicate, All, ◌&&◌, not, arith}
+use Rattle.std.proofs.Common.{◌≡◌, ◌≢◌, refl, sym, ap, ap₂, ◌∙◌, ℕ, zero, suc, ◌+◌, ◌*◌, ◌==◌, ◌<◌, Bool, true, false}
+use Rattle.std.proofs.Common.{if◌then◌else◌, List, [], ◌∷◌, ℤ, pos, negsuc, map, get_or, length, replicate, All, ◌&&◌, not, arith}
 use Rattle.std.proofs.lemmas.List.{length-map}
 use Rattle.std.proofs.lemmas.List.Elements.{All-head, All-tail}
 use mathlib.Core.Path.{fun_ext}
@@ -63,14 +64,18 @@ epsilon_is = quotient-pair (pos 0 ∷ pos 1 ∷ []) (pos 1 ∷ []) nonzero-one
 no_term : (x : Number) → x ≡ number_zero → fraction (pos 0) (pos 1) +ε epsilon *ε x ≡ number_zero
 no_term x e = ap₂ ◌+ε◌ zero_fraction (ap (λ y. epsilon *ε y) e ∙ number_multiply_zero epsilon) ∙ number_add_zero number_zero
 
-entry_value : (a b c d : ℤ) → polynomial_value (record { num = a; den = b } ∷ record { num = c; den = d } ∷ nought ∷ nought ∷ nought ∷ []) ≡ shown a b c d
+entry_value : (a b c d : ℤ)
+    → polynomial_value (record { num = a; den = b } ∷ record { num = c; den = d } ∷ nought ∷ nought ∷ nought ∷ []) ≡ shown a b c d
 unfolding polynomial_value
 entry_value a b c d =
-    ap₂ ◌+ε◌ (value_by a b) (ap₂ ◌*ε◌ epsilon_is (ap₂ ◌+ε◌ (value_by c d) (ap (λ y. epsilon *ε y) (no_term _ (no_term _ (no_term number_zero refl))) ∙ number_multiply_zero epsilon) ∙ number_add_zero (shown_by c d)))
+    ap₂ ◌+ε◌ (value_by a b) (ap₂ ◌*ε◌ epsilon_is
+    (ap₂ ◌+ε◌ (value_by c d) (ap (λ y. epsilon *ε y) (no_term _ (no_term _ (no_term number_zero refl))) ∙ number_multiply_zero epsilon)
+    ∙ number_add_zero (shown_by c d)))
 
 -- what a test reads
 abbrev pub read : (a b c d : ℤ) → Number
-read a b c d = polynomial_value (lowest_terms a b ∷ lowest_terms c d ∷ lowest_terms (pos 0) (pos 1) ∷ lowest_terms (pos 0) (pos 1) ∷ lowest_terms (pos 0) (pos 1) ∷ [])
+read a b c d = polynomial_value
+    (lowest_terms a b ∷ lowest_terms c d ∷ lowest_terms (pos 0) (pos 1) ∷ lowest_terms (pos 0) (pos 1) ∷ lowest_terms (pos 0) (pos 1) ∷ [])
 
 -- ---- graphs by the values of their numbers
 
@@ -98,7 +103,9 @@ module _ (ws es : List EpsQuotient) where
   unfolding weight all_live
   weight_is k = entry_at ws k
 
-  either : (b : Bool) (n : ℕ) → value_of (if b then zero_quotient else get_or (map quotient_parts es) n zero_quotient) ≡ (if b then number_zero else get_or (map number_of es) n number_zero)
+  either : (b : Bool) (n : ℕ)
+      → value_of (if b then zero_quotient else get_or (map quotient_parts es) n zero_quotient) ≡ (if b then number_zero else get_or
+      (map number_of es) n number_zero)
   either true n = quotients_are_exact.zero_value
   either false n = entry_at es n
 
@@ -113,9 +120,11 @@ module _ (ws es : List EpsQuotient) where
   unfolding graph_of counts is_live all_live
   graph_is = ap₂ {C = Graph Number} (λ w e. record { weight = w; edge = e })
       (fun_ext (λ k. ap (λ v. if is_live given k then v else number_zero) (weight_is k)))
-      (fun_ext (λ l. fun_ext (λ k. ap (λ v. if counts given l k then v else number_zero) (edge_is l k ∙ ap (λ n. if l == k then number_zero else get_or (map number_of es) (l * n + k) number_zero) count))))
+      (fun_ext (λ l. fun_ext (λ k. ap (λ v. if counts given l k then v else number_zero)
+      (edge_is l k ∙ ap (λ n. if l == k then number_zero else get_or (map number_of es) (l * n + k) number_zero) count))))
 
-  pub sound_by_values : (n : ℕ) (vs us : List Number) → length ws ≡ n → map number_of ws ≡ vs → map number_of es ≡ us → is_valid_test n (graph_shown n vs us) ≡ true → IsSound quotients given
+  pub sound_by_values : (n : ℕ) (vs us : List Number) → length ws ≡ n → map number_of ws ≡ vs → map number_of es ≡ us
+      → is_valid_test n (graph_shown n vs us) ≡ true → IsSound quotients given
   sound_by_values n vs us c e f h =
       let m = length-map ws quotient_parts ∙ c in
       sound_by_test quotients given (rw (graph_is, count, e, f, m) h)
@@ -128,17 +137,20 @@ none_constant k h = monomial-other (pos 1) 0 k (apart k h)
     apart : (k : ℕ) → 0 < k → k ≢ 0
     apart k h e = omega arith
 
-constant_at : (xs : List EpsQuotient) → All (λ x. IsConstant (quotient_parts x).denominator) xs → (k : ℕ) → IsConstant (get_or (map quotient_parts xs) k zero_quotient).denominator
+constant_at : (xs : List EpsQuotient) → All (λ x. IsConstant (quotient_parts x).denominator) xs → (k : ℕ)
+    → IsConstant (get_or (map quotient_parts xs) k zero_quotient).denominator
 constant_at [] h zero = none_constant
 constant_at [] h (suc k) = none_constant
 constant_at (x ∷ xs) h zero = All-head (λ y. IsConstant (quotient_parts y).denominator) x xs h
 constant_at (x ∷ xs) h (suc k) = constant_at xs (All-tail (λ y. IsConstant (quotient_parts y).denominator) x xs h) k
 
-either_constant : (es : List EpsQuotient) → All (λ x. IsConstant (quotient_parts x).denominator) es → (b : Bool) (n : ℕ) → IsConstant (if b then zero_quotient else get_or (map quotient_parts es) n zero_quotient).denominator
+either_constant : (es : List EpsQuotient) → All (λ x. IsConstant (quotient_parts x).denominator) es → (b : Bool) (n : ℕ)
+    → IsConstant (if b then zero_quotient else get_or (map quotient_parts es) n zero_quotient).denominator
 either_constant es h true n = none_constant
 either_constant es h false n = constant_at es h n
 
-pub has_constants : (ws es : List EpsQuotient) → All (λ x. IsConstant (quotient_parts x).denominator) ws → All (λ x. IsConstant (quotient_parts x).denominator) es → HasConstants (graph_given ws es)
+pub has_constants : (ws es : List EpsQuotient) → All (λ x. IsConstant (quotient_parts x).denominator) ws
+    → All (λ x. IsConstant (quotient_parts x).denominator) es → HasConstants (graph_given ws es)
 unfolding weight edge all_live
 has_constants ws es h g = record {
   weights = λ k i. constant_at ws h k;
@@ -197,5 +209,6 @@ gatekeeping_test = refl
 counted : (xs : List EpsQuotient) (ns : List Number) → map number_of xs ≡ ns → length xs ≡ length ns
 counted xs ns e = sym (length-map xs number_of) ∙ ap length e
 
-pub gatekeeping_sound : (ws es : List EpsQuotient) → map number_of ws ≡ reads gatekeeping_weights → map number_of es ≡ reads gatekeeping_edges → IsSound quotients (graph_given ws es)
+pub gatekeeping_sound : (ws es : List EpsQuotient) → map number_of ws ≡ reads gatekeeping_weights → map number_of es ≡ reads gatekeeping_edges
+    → IsSound quotients (graph_given ws es)
 gatekeeping_sound ws es e f = sound_by_values ws es 4 _ _ (counted ws _ e) (e ∙ gatekeeping_read.0) (f ∙ gatekeeping_read.1) gatekeeping_test

@@ -43,7 +43,8 @@ module _ (c : Content) (t : TrialContent) (T : IsTrialOf c t) where
   level_lowest k = case_lowest c t.rejected t.state k T.valid (distinct c t T) T.state
 
   -- a written ratio is the ratio
-  written_is_ratio : (k : ℕ) (q : Terms) → k < length t.p_values → IsWrittenRatio t.p_values t.state k q → IsRatio (entangled c) (number_at t.p_values) (remaining t) k (number q)
+  written_is_ratio : (k : ℕ) (q : Terms) → k < length t.p_values → IsWrittenRatio t.p_values t.state k q
+      → IsRatio (entangled c) (number_at t.p_values) (remaining t) k (number q)
   unfolding written_ratio entangled
   written_is_ratio k q h Q =
       let p = remains_in c t T k h Q.written.live in
@@ -55,17 +56,21 @@ module _ (c : Content) (t : TrialContent) (T : IsTrialOf c t) where
         positive = Q.written.positive;
         ratio =
             sym (value_single q)
-            ∙ plain_is_exact.exact Div (single_parts (terms (ratio_at t.p_values k))) (single_parts w) (single_parts q) (stored_single _ (ratio_at t.p_values k).valid) (stored_single w (level_lowest k)) (level_divides w (level_lowest k) Q.written.positive) (ap (option_map single_parts) Q.quotient)
+            ∙ plain_is_exact.exact Div (single_parts (terms (ratio_at t.p_values k))) (single_parts w) (single_parts q)
+            (stored_single _ (ratio_at t.p_values k).valid) (stored_single w (level_lowest k)) (level_divides w (level_lowest k) Q.written.positive)
+            (ap (option_map single_parts) Q.quotient)
             ∙ ap₂ ◌/ε◌ (value_single (terms (ratio_at t.p_values k))) (value_single w);
       }
 
   -- a ratio is written, where it is defined
-  ratio_is_written : AreDefinedBelow (length t.p_values) t.p_values t.state → (k : ℕ) (q : Number) → IsRatio (entangled c) (number_at t.p_values) (remaining t) k q → (r : Terms) × IsWrittenRatio t.p_values t.state k r × (number r ≡ q)
+  ratio_is_written : AreDefinedBelow (length t.p_values) t.p_values t.state → (k : ℕ) (q : Number)
+      → IsRatio (entangled c) (number_at t.p_values) (remaining t) k q → (r : Terms) × IsWrittenRatio t.p_values t.state k r × (number r ≡ q)
   unfolding entangled
   ratio_is_written defined k q R =
       let below : k < length t.p_values = subst (λ n. k < n) (sym (p_values_are c t T).count) R.member.below in
       let live : is_live_in_case t.state k ≡ true = live_now c t T k R.member.below ∙ R.member.member in
-      let same : R.weight ≡ number (case_level t.state k) = intersection_unique (entangled c) (remaining t) k R.weight _ R.is_weight (weight_now c t T k (remains_in c t T k below live)) in
+      let same : R.weight ≡ number (case_level t.state k) =
+      intersection_unique (entangled c) (remaining t) k R.weight _ R.is_weight (weight_now c t T k (remains_in c t T k below live)) in
       let written : HasWrittenRatio t.state k = record { live = live; positive = subst IsPositive same R.positive } in
       let W = defined k below written in
       let Q : IsWrittenRatio t.p_values t.state k W.0 = record { written = written; quotient = W.1 } in
@@ -76,7 +81,9 @@ module _ (c : Content) (t : TrialContent) (T : IsTrialOf c t) where
   has_place k q R = subst (λ n. k < n) (sym (p_values_are c t T).count) R.member.below
 
   -- the least written ratio is the least ratio
-  pub least_with : AreDefinedBelow (length t.p_values) t.p_values t.state → (j : ℕ) (q : Terms) → HasLeastRatioBelow (length t.p_values) t.p_values t.state j q → (L : IsLeastRatio (entangled c) (number_at t.p_values) (remaining t) j) × (L.ratio ≡ number q)
+  pub least_with : AreDefinedBelow (length t.p_values) t.p_values t.state → (j : ℕ) (q : Terms)
+      → HasLeastRatioBelow (length t.p_values) t.p_values t.state j q → (L : IsLeastRatio (entangled c) (number_at t.p_values) (remaining t) j)
+      × (L.ratio ≡ number q)
   least_with defined j q L = (
     record {
       ratio = number q;
@@ -88,7 +95,8 @@ module _ (c : Content) (t : TrialContent) (T : IsTrialOf c t) where
   )
 
   -- the choice by the least ratio, where it is defined
-  pub ratio_choice : (o : Option Candidate) → IsLegalChoice t o → AreDefinedBelow (length t.p_values) t.p_values t.state → IsChoice c t Ratio (option_map (λ x. x.hypothesis) o)
+  pub ratio_choice : (o : Option Candidate) → IsLegalChoice t o → AreDefinedBelow (length t.p_values) t.p_values t.state
+      → IsChoice c t Ratio (option_map (λ x. x.hypothesis) o)
   ratio_choice (Some x) L defined = record { least = (least_with defined x.hypothesis (terms x.ratio) L.least).0; legal = may_legal c t T x.hypothesis L.legal }
   ratio_choice None none defined = λ k L. elim none [
     | no_ratio n ↦ n k (has_place k L.least.ratio L.least.is_ratio) (ratio_is_written defined k L.least.ratio L.least.is_ratio).1.written

@@ -1,5 +1,6 @@
 -- What Simes' test says of a case, its leaders, and its first sum that isn't defined, by whatever weights of its sets, are unique.
-use Rattle.std.proofs.Common.{◌≡◌, inl, inr, refl, sym, ap, ap₂, ◌∙◌, subst, ℕ, zero, suc, ◌^◌, ◌<◌, ◌↔◌, arith, Bool, true, false, cond, List, [], ◌∷◌, length, Some, None}
+use Rattle.std.proofs.Common.{◌≡◌, inl, inr, refl, sym, ap, ap₂, ◌∙◌, subst, ℕ, zero, suc, ◌^◌, ◌<◌, ◌↔◌, arith, Bool, true}
+use Rattle.std.proofs.Common.{false, cond, List, [], ◌∷◌, length, Some, None}
 use Rattle.std.specs.Prelude.{Option}
 use Rattle.field_core.specs.Terms.{Terms}
 use Rattle.field_core.specs.View.{terms}
@@ -46,7 +47,8 @@ module _ (p : ℕ → Number) where
   not_both_first : (j k : ℕ) → Precedes p j k → Precedes p k j → ⊥
   not_both_first j k a b = let f = a.tie b.not_above in let g = b.tie a.not_above in absurd (omega (arith, f, g))
 
-  same_first : (j k : ℕ) (js ks : List ℕ) → IsByPValue p (j ∷ js) → IsByPValue p (k ∷ ks) → IsListed (k ∷ ks) j → IsListed (j ∷ js) k → j ≡ k
+  same_first : (j k : ℕ) (js ks : List ℕ) → IsByPValue p (j ∷ js) → IsByPValue p (k ∷ ks) → IsListed (k ∷ ks) j → IsListed (j ∷ js) k
+      → j ≡ k
   same_first j k js ks a b h l = elim (here_or_later k j ks h) [
     | inl e ↦ e
     | inr f ↦ elim (here_or_later j k js l) [
@@ -61,13 +63,15 @@ module _ (p : ℕ → Number) where
     | inr later ↦ later
   ]
 
-  one_order : (js ks : List ℕ) → IsByPValue p js → IsByPValue p ks → ((i : ℕ) → IsListed js i → IsListed ks i) → ((i : ℕ) → IsListed ks i → IsListed js i) → js ≡ ks
+  one_order : (js ks : List ℕ) → IsByPValue p js → IsByPValue p ks → ((i : ℕ) → IsListed js i → IsListed ks i)
+      → ((i : ℕ) → IsListed ks i → IsListed js i) → js ≡ ks
   one_order [] [] a b to from = refl
   one_order [] (k ∷ ks) a b to from = absurd (none_listed k (from k (listed_here k ks)))
   one_order (j ∷ js) [] a b to from = absurd (none_listed j (to j (listed_here j js)))
   one_order (j ∷ js) (k ∷ ks) a b to from =
       let e = same_first j k js ks a b (to j (listed_here j js)) (from k (listed_here k ks)) in
-      ap₂ (λ i is. i ∷ is) e (one_order js ks a.1 b.1 (λ i l. rest_listed j k i js ks e a (to i (listed_later j i js l)) l) (λ i l. rest_listed k j i ks js (sym e) b (from i (listed_later k i ks l)) l))
+      ap₂ (λ i is. i ∷ is) e (one_order js ks a.1 b.1 (λ i l. rest_listed j k i js ks e a (to i (listed_later j i js l)) l)
+      (λ i l. rest_listed k j i ks js (sym e) b (from i (listed_later k i ks l)) l))
 
 -- there is one list of all hypotheses by ascending p-value
 pub one_ranking : (m : ℕ) (p : ℕ → Number) (js ks : List ℕ) → AreLeaders m p js → AreLeaders m p ks → js ≡ ks
@@ -83,7 +87,8 @@ written_same (suc m) f g h = ap₂ (λ s x. s >>= λ t. written_add t (terms x))
 some_or_none : (o : Option Terms) (t : Terms) → o ≡ Some t → o ≡ None → ⊥
 some_or_none o t h k = cc
 
-module _ (m : ℕ) (ps : List Ratio) (weight other : ℕ → ℕ → Ratio) (agree : (n k : ℕ) → n < 2 ^ m → IsIn m (members n) k → weight n k ≡ other n k) where
+module _ (m : ℕ) (ps : List Ratio) (weight other : ℕ → ℕ → Ratio)
+    (agree : (n k : ℕ) → n < 2 ^ m → IsIn m (members n) k → weight n k ≡ other n k) where
   counted_same : (n j i : ℕ) → n < 2 ^ m → i < m → weight_up_to ps weight n j i ≡ weight_up_to ps other n j i
   unfolding weight_up_to
   counted_same n j i q b = each (is_up_to (number_at ps) (members n) j i) refl
@@ -152,12 +157,15 @@ module _ (c : Content) (weight other : ℕ → ℕ → Ratio) (W : AreIntersecti
   weights_same n k p q = same_number (weight n k) (other n k) (intersection_unique (entangled c) (members n) k _ _ (W n k p q) (V n k p q))
 
   pub one_wide_sum : (n o : ℕ) (v w : WideAt) → IsSimesFault c weight (Wide n v) → IsSimesFault c other (Wide o w) → (n ≡ o) × (v ≡ w)
-  one_wide_sum n o v w = for_both (λ ps. IsFirstWideSum (length c.names) ps weight n v) (λ ps. IsFirstWideSum (length c.names) ps other o w) ((n ≡ o) × (v ≡ w))
+  one_wide_sum n o v w = for_both (λ ps. IsFirstWideSum (length c.names) ps weight n v) (λ ps. IsFirstWideSum (length c.names) ps other o w)
+      ((n ≡ o) × (v ≡ w))
       (λ ps F G. one_first_wide (length c.names) ps other n o v w (first_wide_same (length c.names) ps weight other weights_same n v F) G) c.inputs
 
   pub defined_not_wide : (n : ℕ) (w : WideAt) → AreAllSumsDefined c weight → IsSimesFault c other (Wide n w) → ⊥
-  defined_not_wide n w = for_both (λ ps. (o : ℕ) → o < 2 ^ length c.names → AreSumsDefined (length c.names) ps weight o) (λ ps. IsFirstWideSum (length c.names) ps other n w) ⊥
-      (λ ps D F. defined_or_wide (length c.names) ps other n w (all_defined_same (length c.names) ps weight other weights_same n F.below (D n F.below)) F) c.inputs
+  defined_not_wide n w = for_both (λ ps. (o : ℕ) → o < 2 ^ length c.names → AreSumsDefined (length c.names) ps weight o)
+      (λ ps. IsFirstWideSum (length c.names) ps other n w) ⊥
+      (λ ps D F. defined_or_wide (length c.names) ps other n w (all_defined_same (length c.names) ps weight other weights_same n F.below (D n F.below)) F)
+      c.inputs
 
 -- ---- what the closed test says
 
@@ -167,7 +175,8 @@ told_same true false P f g = sym (g.1 (f.0 refl))
 told_same false true P f g = f.1 (g.0 refl)
 told_same false false P f g = refl
 
-pub one_closed_table : (c : Content) (table other : ℕ → Bool) → AreSimesClosedAnswers c table → AreSimesClosedAnswers c other → (n : ℕ) → n < 2 ^ length c.names → table n ≡ other n
+pub one_closed_table : (c : Content) (table other : ℕ → Bool) → AreSimesClosedAnswers c table → AreSimesClosedAnswers c other → (n : ℕ)
+    → n < 2 ^ length c.names → table n ≡ other n
 one_closed_table c table other A B n q =
     for_both (λ ps. AnswersFor (length c.names) (IsSimesClosed (entangled c) (number_at ps) (number_of c.alpha)) table)
     (λ ps. AnswersFor (length c.names) (IsSimesClosed (entangled c) (number_at ps) (number_of c.alpha)) other)

@@ -1,5 +1,6 @@
 -- A sorted list of hypotheses has each one once, by ascending p-value.
-use Rattle.std.proofs.Common.{◌≡◌, ◌≢◌, ◌⊎◌, inl, inr, refl, sym, ap, ◌∙◌, subst, ℕ, zero, suc, ◌+◌, ◌<◌, ◌≤◌, ◌==◌, ◌||◌, arith, Bool, false, not, cond, List, [], ◌∷◌, map, length, get_or}
+use Rattle.std.proofs.Common.{◌≡◌, ◌≢◌, ◌⊎◌, inl, inr, refl, sym, ap, ◌∙◌, subst, ℕ, zero, suc, ◌+◌, ◌<◌, ◌≤◌, ◌==◌}
+use Rattle.std.proofs.Common.{◌||◌, arith, Bool, false, not, cond, List, [], ◌∷◌, map, length, get_or}
 use Rattle.std.specs.List.{list_any, sum_by, All, AllPairs, AllByRecursion, enumerate_from}
 use Rattle.std.specs.List.Sorted.{IsPermutation, IsSortedBy}
 use Rattle.std.specs.Ordering.{is_lt, is_gt, nat_cmp, ordering_then}
@@ -71,11 +72,13 @@ module _ (ps : List Ratio) where
       let two = then_not_less (by_value y.p_value x.p_value) (nat_cmp y.position x.position) h in
       let px : number_of x.p_value ≡ number_at ps x.position = ap number_of hx in
       let py : number_of y.p_value ≡ number_at ps y.position = ap number_of hy in
-      let below : number_of x.p_value ≤ε number_of y.p_value = not_false (at_most (number_of x.p_value) (number_of y.p_value)) (sym (below_is y.p_value x.p_value) ∙ two.0) in
+      let below : number_of x.p_value ≤ε number_of y.p_value =
+      not_false (at_most (number_of x.p_value) (number_of y.p_value)) (sym (below_is y.p_value x.p_value) ∙ two.0) in
       record {
         not_above = subst (λ v. number_at ps x.position ≤ε v) py (subst (λ v. v ≤ε number_of y.p_value) px below);
         tie = λ t.
-            let up : number_of y.p_value ≤ε number_of x.p_value = subst (λ v. number_of y.p_value ≤ε v) (sym px) (subst (λ v. v ≤ε number_at ps x.position) (sym py) t) in
+            let up : number_of y.p_value ≤ε number_of x.p_value =
+            subst (λ v. number_of y.p_value ≤ε v) (sym px) (subst (λ v. v ≤ε number_at ps x.position) (sym py) t) in
             let equal = neither (by_value y.p_value x.p_value) two.0 (above_is y.p_value x.p_value ∙ ap not up) in
             not_below x.position y.position (two.1 equal);
       }
@@ -87,7 +90,8 @@ module _ (ps : List Ratio) where
       let e : suc k + 1 ≡ suc (k + 1) = omega arith in
       subst (λ n. comes_first (get_or (x ∷ xs) n d) (get_or xs k d) ≡ false) e (s (suc k) d (omega arith) (omega (arith, high)))
 
-  all_not_behind : (x : Ranked) (xs : List Ranked) → IsSortedBy comes_first (x ∷ xs) → IsOf x → AllByRecursion IsOf xs → (j : ℕ) → IsListed (map position_of xs) j → IsNotBehind (number_at ps) x.position j
+  all_not_behind : (x : Ranked) (xs : List Ranked) → IsSortedBy comes_first (x ∷ xs) → IsOf x → AllByRecursion IsOf xs → (j : ℕ)
+      → IsListed (map position_of xs) j → IsNotBehind (number_at ps) x.position j
   all_not_behind x [] s hx hs j l = absurd (cc)
   all_not_behind x (y ∷ ys) s hx hs j l =
       let first = sorted_two x y hx hs.0 (s 0 x (omega arith) (omega arith)) in
@@ -125,7 +129,8 @@ listed_counts i (j ∷ js) l = elim (here_or_later j i js l) [
 ]
 
 module _ (ps : List Ratio) where
-  in_order : (xs : List Ranked) → IsSortedBy comes_first xs → AllByRecursion (IsOf ps) xs → ((i : ℕ) → counts i (map position_of xs) ≤ 1) → IsByPValue (number_at ps) (map position_of xs)
+  in_order : (xs : List Ranked) → IsSortedBy comes_first xs → AllByRecursion (IsOf ps) xs → ((i : ℕ) → counts i (map position_of xs) ≤ 1)
+      → IsByPValue (number_at ps) (map position_of xs)
   in_order [] s hs once = tt
   in_order (x ∷ xs) s hs once = (
     λ j l.
@@ -211,7 +216,8 @@ module _ (ps : List Ratio) (xs : List Ranked) (perm : IsPermutation (by_position
       let long = length-enumerate_from 0 ps in
       let short : k < length ps = omega (arith, h, length-map (enumerate_from 0 ps) ranked_of, long) in
       let none : ℕ × Ratio = (0, zero_ratio) in
-      let at : get_or (by_position ps) k d ≡ ranked_of (0 + k, get_or ps k zero_ratio) = get_or-map ranked_of (enumerate_from 0 ps) k none d (omega (arith, short, long)) ∙ ap ranked_of (get_or-enumerate_from 0 ps k none short) in
+      let at : get_or (by_position ps) k d ≡ ranked_of (0 + k, get_or ps k zero_ratio) =
+      get_or-map ranked_of (enumerate_from 0 ps) k none d (omega (arith, short, long)) ∙ ap ranked_of (get_or-enumerate_from 0 ps k none short) in
       let place : k ≡ 0 + k = omega arith in
       subst (IsOf ps) (sym at) (ap (λ n. get_or ps n zero_ratio) place)
 
@@ -219,7 +225,8 @@ module _ (ps : List Ratio) (xs : List Ranked) (perm : IsPermutation (by_position
   places = IsPermutation-map position_of (by_position ps) xs perm
 
   listed_is : (i : ℕ) → set_of (from_place 0 ps) i ≡ set_of (map position_of xs) i
-  listed_is i = listed_any (from_place 0 ps) i ∙ list_any-IsPermutation (λ j. i == j) (from_place 0 ps) (map position_of xs) places ∙ sym (listed_any (map position_of xs) i)
+  listed_is i = listed_any (from_place 0 ps) i ∙ list_any-IsPermutation (λ j. i == j) (from_place 0 ps) (map position_of xs) places
+      ∙ sym (listed_any (map position_of xs) i)
 
   pub leaders_are : (m : ℕ) → length ps ≡ m → AreLeaders m (number_at ps) (map position_of xs)
   leaders_are m e = record {
@@ -227,7 +234,8 @@ module _ (ps : List Ratio) (xs : List Ranked) (perm : IsPermutation (by_position
       λ l. let a = place_below 0 ps i (listed_is i ∙ l) in omega (arith, a, e),
       λ b. sym (listed_is i) ∙ place_listed 0 ps i (omega arith) (omega (arith, b, e)),
     );
-    count = length-map xs position_of ∙ length_permutation (by_position ps) xs perm ∙ length-map (enumerate_from 0 ps) ranked_of ∙ length-enumerate_from 0 ps ∙ e;
+    count = length-map xs position_of ∙ length_permutation (by_position ps) xs perm ∙ length-map (enumerate_from 0 ps) ranked_of
+        ∙ length-enumerate_from 0 ps ∙ e;
     order = in_order ps xs sorted (recursion_from_All (IsOf ps) xs (All-permutation (IsOf ps) (by_position ps) xs perm all_of))
         (λ i. let a = counts_once 0 ps i in let b = sum_by-IsPermutation (counts_as i) (from_place 0 ps) (map position_of xs) places in omega (arith, a, b));
   }

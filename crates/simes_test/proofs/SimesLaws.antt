@@ -42,7 +42,8 @@ module _ (E : EntangledGraph) (V : IsValidEntangled E) (p : ℕ → Number) (I :
   -- its own weight is at most the sum
   own_weight : IsIn E.hypotheses I j → intersection_weight E I j ≤ε sum_below number_field E.hypotheses counted
   own_weight q =
-      subst (λ x. x ≤ε sum_below number_field E.hypotheses counted) (ap (λ b. cond b (intersection_weight E I j) number_zero) (counts_itself p I j q.member))
+      subst (λ x. x ≤ε sum_below number_field E.hypotheses counted)
+      (ap (λ b. cond b (intersection_weight E I j) number_zero) (counts_itself p I j q.member))
       (term_le number_field E.hypotheses counted j (λ i r. subst (λ z. z ≤ε counted i) (sym field_zero) (counted_low i r)) q.below)
 
 module _ (E : EntangledGraph) (p : ℕ → Number) (level : Number) (V : IsValidEntangled E) (low : number_zero ≤ε level) where
@@ -56,24 +57,29 @@ module _ (E : EntangledGraph) (p : ℕ → Number) (level : Number) (V : IsValid
         sum = sum_below number_field E.hypotheses (counted E V p I j);
         is_sum = record { weight = intersection_weight E I; is_weight = λ i k. intersection_weight_is E V I i k; sum = refl };
         passes = passes_up (p j) r.legal.weight (sum_below number_field E.hypotheses (counted E V p I j)) level low
-            (at_most_trans r.legal.weight (intersection_weight E I j) _ (at_most_equal _ _ (intersection_is E V I j r.legal.weight q r.legal.is_weight)) (own_weight E V p I j q)) r.legal.passes;
+            (at_most_trans r.legal.weight (intersection_weight E I j) _ (at_most_equal _ _ (intersection_is E V I j r.legal.weight q r.legal.is_weight))
+            (own_weight E V p I j q)) r.legal.passes;
       }
 
   pub closed_simes : (S : ℕ → Bool) → IsClosedRejected E p level S → IsSimesClosed E p level S
   closed_simes S r = record { some = r.some; member = r.member; each = λ I h. local_simes I (r.each I h) }
 
 -- a way of rejection that rejects more has no lower bound
-bound_more : (m : ℕ) (P Q : (ℕ → Bool) → Type 0) → ((K : ℕ → Bool) → P K → Q K) → (S : ℕ → Bool) (a b : ℕ) → IsBound m P S a → IsBound m Q S b → a ≤ b
+bound_more : (m : ℕ) (P Q : (ℕ → Bool) → Type 0) → ((K : ℕ → Bool) → P K → Q K) → (S : ℕ → Bool) (a b : ℕ) → IsBound m P S a
+    → IsBound m Q S b → a ≤ b
 bound_more m P Q to S a b A B = let h = A.is_greatest B.greatest B.inside (kept B.unrejected) in omega (arith, h, A.bound, B.bound)
   where
     kept : IsUnrejected m Q B.greatest → IsUnrejected m P B.greatest
     kept (inl none) = inl none
     kept (inr k) = inr (λ r. k (to B.greatest r))
 
-pub simes_bound_above : (E : EntangledGraph) (p : ℕ → Number) (level : Number) (S : ℕ → Bool) (a b : ℕ) → IsValidEntangled E → number_zero ≤ε level
+pub simes_bound_above : (E : EntangledGraph) (p : ℕ → Number) (level : Number) (S : ℕ → Bool) (a b : ℕ) → IsValidEntangled E
+    → number_zero ≤ε level
     → IsBound E.hypotheses (IsClosedRejected E p level) S a → IsBound E.hypotheses (IsSimesClosed E p level) S b → a ≤ b
 simes_bound_above E p level S a b V low = bound_more E.hypotheses (IsClosedRejected E p level) (IsSimesClosed E p level) (closed_simes E p level V low) S a b
 
-pub simes_table_bound : (E : EntangledGraph) (p : ℕ → Number) (level : Number) (table : ℕ → Bool) (S : ℕ → Bool) (b : ℕ) → AnswersFor E.hypotheses (IsSimesClosed E p level) table
+pub simes_table_bound : (E : EntangledGraph) (p : ℕ → Number) (level : Number) (table : ℕ → Bool) (S : ℕ → Bool) (b : ℕ)
+    → AnswersFor E.hypotheses (IsSimesClosed E p level) table
     → IsBound E.hypotheses (SaysYes E.hypotheses table) S b ↔ IsBound E.hypotheses (IsSimesClosed E p level) S b
-simes_table_bound E p level table S b answers = answered_bound E.hypotheses table (IsSimesClosed E p level) (closed_same_by E.hypotheses (IsSimesRejected E p level)) answers S b
+simes_table_bound E p level table S b answers = answered_bound E.hypotheses table (IsSimesClosed E p level)
+    (closed_same_by E.hypotheses (IsSimesRejected E p level)) answers S b

@@ -31,9 +31,12 @@ module _ (m : ℕ) (ps : List Ratio) (weight : ℕ → ℕ → Ratio) (alpha : R
   pub tested_first : (table : ℕ → Bool) (left : List ℕ) → left ≡ [] → AreTestedBefore m ps weight alpha table left
   tested_first table left e xs a b = absurd (subst (ComesBefore xs) e b)
 
-  module _ (old : List ℕ) (a : IsAscending m 0 old) (set : ℕ) (number : set ≡ number_without m old) (table : ℕ → Bool) (h : AreTestedBefore m ps weight alpha table old) where
-    module _ (answer : Bool) (t : IsTested m ps weight alpha set answer) (next : ℕ → Bool) (put : next set ≡ answer) (others : (n : ℕ) → n ≢ set → next n ≡ table n) where
-      tested_to : (xs : List ℕ) → IsAscending m 0 xs → ComesBefore xs old ⊎ (xs ≡ old) → IsTested m ps weight alpha (number_without m xs) (next (number_without m xs))
+  module _ (old : List ℕ) (a : IsAscending m 0 old) (set : ℕ) (number : set ≡ number_without m old) (table : ℕ → Bool)
+      (h : AreTestedBefore m ps weight alpha table old) where
+    module _ (answer : Bool) (t : IsTested m ps weight alpha set answer) (next : ℕ → Bool) (put : next set ≡ answer)
+        (others : (n : ℕ) → n ≢ set → next n ≡ table n) where
+      tested_to : (xs : List ℕ) → IsAscending m 0 xs → ComesBefore xs old ⊎ (xs ≡ old)
+          → IsTested m ps weight alpha (number_without m xs) (next (number_without m xs))
       tested_to xs b (inl earlier) =
           let other = differs m xs old b a earlier in
           subst (IsTested m ps weight alpha (number_without m xs)) (sym (others (number_without m xs) (λ e. other (e ∙ number)))) (h xs b earlier)
@@ -66,14 +69,18 @@ module _ (c : Content) (ps : List Ratio) (inputs : c.inputs ≡ Single ps) (weig
         (λ n b. tested_answer c ps weight W n b (table n) (all n b))
 
     pub all_defined : AreAllSumsDefined c weight
-    all_defined = of_single (λ qs. (n : ℕ) → n < 2 ^ length c.names → AreSumsDefined (length c.names) qs weight n) c.inputs ps inputs (λ n b. (all n b).defined)
+    all_defined = of_single (λ qs. (n : ℕ) → n < 2 ^ length c.names → AreSumsDefined (length c.names) qs weight n) c.inputs ps inputs
+        (λ n b. (all n b).defined)
 
 closed_for : (c : Content) (local closed : ℕ → Bool) → AreClosedFrom (length c.names) local closed 0 → (ps : List Ratio)
-    → AnswersFor (length c.names) (IsSimesRejected (entangled c) (number_at ps) (number_of c.alpha)) local → AnswersFor (length c.names) (IsSimesClosed (entangled c) (number_at ps) (number_of c.alpha)) closed
+    → AnswersFor (length c.names) (IsSimesRejected (entangled c) (number_at ps) (number_of c.alpha)) local
+    → AnswersFor (length c.names) (IsSimesClosed (entangled c) (number_at ps) (number_of c.alpha)) closed
 unfolding entangled
 closed_for c local closed h ps =
     let E = entangled c in
-    closed_by (length c.names) (IsSimesRejected E (number_at ps) (number_of c.alpha)) (simes_same E (number_at ps) (number_of c.alpha)) (simes_some E (number_at ps) (number_of c.alpha)) local closed h
+    closed_by (length c.names) (IsSimesRejected E (number_at ps) (number_of c.alpha)) (simes_same E (number_at ps) (number_of c.alpha))
+    (simes_some E (number_at ps) (number_of c.alpha)) local closed h
 
-pub closed_answers_are : (c : Content) (local closed : ℕ → Bool) → AreClosedFrom (length c.names) local closed 0 → AreSimesAnswers c local → AreSimesClosedAnswers c closed
+pub closed_answers_are : (c : Content) (local closed : ℕ → Bool) → AreClosedFrom (length c.names) local closed 0 → AreSimesAnswers c local
+    → AreSimesClosedAnswers c closed
 closed_answers_are c local closed h = for_single _ _ (closed_for c local closed h) c.inputs

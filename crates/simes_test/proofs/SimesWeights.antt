@@ -1,5 +1,6 @@
 -- The sums of Simes' test by value, and its test of a set by what is written.
-use Rattle.std.proofs.Common.{◌≡◌, refl, sym, ap, ◌∙◌, subst, ℕ, ◌^◌, ◌<◌, ◌↔◌, Bool, true, false, ◌&&◌, cond, List, length, Some}
+use Rattle.std.proofs.Common.{◌≡◌, refl, sym, ap, ◌∙◌, subst, ℕ, ◌^◌, ◌<◌, ◌↔◌, Bool, true, false, ◌&&◌, cond, List, length}
+use Rattle.std.proofs.Common.{Some}
 use Rattle.field_core.specs.Terms.{Terms}
 use Rattle.field_core.specs.Number.{Number}
 use Rattle.field_core.specs.Arithmetic.{number_zero}
@@ -44,8 +45,10 @@ module _ (E : EntangledGraph) (p : ℕ → Number) (level : Number) where
     sum = r.sum;
     is_sum = record {
       weight = r.is_sum.weight;
-      is_weight = λ i q. intersection_same E I J i (r.is_sum.weight i) same (r.is_sum.is_weight i (record { below = q.below; member = same i q.below ∙ q.member }));
-      sum = r.is_sum.sum ∙ sum_congr number_field E.hypotheses _ _ (λ i q. ap (λ b. cond b (r.is_sum.weight i) number_zero) (up_to_same p I J r.hypothesis i (same i q)));
+      is_weight = λ i q. intersection_same E I J i (r.is_sum.weight i) same
+          (r.is_sum.is_weight i (record { below = q.below; member = same i q.below ∙ q.member }));
+      sum = r.is_sum.sum ∙ sum_congr number_field E.hypotheses _ _
+          (λ i q. ap (λ b. cond b (r.is_sum.weight i) number_zero) (up_to_same p I J r.hypothesis i (same i q)));
     };
     passes = r.passes;
   }
@@ -95,12 +98,14 @@ module _ (c : Content) (ps : List Ratio) (weight : ℕ → ℕ → Ratio) (W : A
     passes = h.passes.passes;
   }
 
-  module _ (r : IsSimesRejected (entangled c) (number_at ps) (number_of c.alpha) (members n)) (t : Terms) (e : sum_up_to (length c.names) ps weight n r.hypothesis ≡ Some t) where
+  module _ (r : IsSimesRejected (entangled c) (number_at ps) (number_of c.alpha) (members n)) (t : Terms)
+      (e : sum_up_to (length c.names) ps weight n r.hypothesis ≡ Some t) where
     sum_is : r.sum ≡ number t
     unfolding entangled
     sum_is =
         r.is_sum.sum
-        ∙ same_value (length c.names) ps weight n r.hypothesis r.is_sum.weight (λ i. number_of (weight n i)) (λ i q. intersection_unique (entangled c) (members n) i (r.is_sum.weight i) (number_of (weight n i)) (r.is_sum.is_weight i q) (W n i b q))
+        ∙ same_value (length c.names) ps weight n r.hypothesis r.is_sum.weight (λ i. number_of (weight n i))
+        (λ i q. intersection_unique (entangled c) (members n) i (r.is_sum.weight i) (number_of (weight n i)) (r.is_sum.is_weight i q) (W n i b q))
         ∙ sym (written_value (length c.names) ps weight n r.hypothesis t e)
 
     rejected_passing : HasPassing (length c.names) ps weight c.alpha n
@@ -111,7 +116,8 @@ module _ (c : Content) (ps : List Ratio) (weight : ℕ → ℕ → Ratio) (W : A
       passes = record { sum = t; is_sum = e; passes = subst (λ s. Passes (number_at ps r.hypothesis) s (number_of c.alpha)) sum_is r.passes };
     }
 
-  pub tested_answer : (answer : Bool) → IsTested (length c.names) ps weight c.alpha n answer → (answer ≡ true) ↔ IsSimesRejected (entangled c) (number_at ps) (number_of c.alpha) (members n)
+  pub tested_answer : (answer : Bool) → IsTested (length c.names) ps weight c.alpha n answer → (answer ≡ true)
+      ↔ IsSimesRejected (entangled c) (number_at ps) (number_of c.alpha) (members n)
   unfolding entangled
   tested_answer answer T = (λ a. passing_rejected (T.answer.0 a), back)
     where

@@ -1,5 +1,6 @@
 -- What is known of each study, whatever its case.
-use Rattle.std.proofs.Common.{◌≡◌, ◌⊎◌, ◌≤◌, refl, sym, ap, ◌∙◌, subst, ℕ, suc, ◌<◌, ◌-◌, arith, Bool, true, List, [], ◌∷◌, ◌++◌, length}
+use Rattle.std.proofs.Common.{◌≡◌, ◌⊎◌, ◌≤◌, refl, sym, ap, ◌∙◌, subst, ℕ, suc, ◌<◌, ◌-◌, arith, Bool, true, List, []}
+use Rattle.std.proofs.Common.{◌∷◌, ◌++◌, length}
 use Rattle.std.proofs.lemmas.List.{map_push}
 use Rattle.std.proofs.Math.Logic.{∥∥₁_elim, ∥∥₁_prop}
 use Rattle.std.proofs.Props.{props}
@@ -41,14 +42,17 @@ module _ (t : StudyContent) (T : IsSomeStudy t) where
   any_level = ∥∥₁_elim T (true_is_fact _) (λ h. subst (λ a. is_level a ≡ true) h.is_study.alpha (shape h.content h.is_study.study.valid).level)
 
   pub any_spend : (k : ℕ) → has_short_fractions (spend_at t.spends k) ≡ true
-  any_spend k = ∥∥₁_elim T (true_is_fact _) (λ h. subst (λ s. has_short_fractions (spend_at s k) ≡ true) h.is_study.spends (spends_short h.content k h.is_study.study.valid))
+  any_spend k = ∥∥₁_elim T (true_is_fact _)
+      (λ h. subst (λ s. has_short_fractions (spend_at s k) ≡ true) h.is_study.spends (spends_short h.content k h.is_study.study.valid))
 
   pub any_value : (a : Arrival) → Contains t.looks.values a → is_p_value a.p ≡ true
   any_value a k = ∥∥₁_elim T (true_is_fact _) (λ h. (arrivals_may h.content [] t.looks.values h.is_study.study.values a k).1.p)
 
   -- the p-values of one hypothesis at one stage are the same
-  pub any_same : (a b : Arrival) → Contains t.looks.values a → Contains t.looks.values b → a.hypothesis ≡ b.hypothesis → a.stage ≡ b.stage → number_of a.p ≡ number_of b.p
-  any_same a b k l i s = ∥∥₁_elim T (same_is_fact _ _) (λ h. ap (λ x. number_of x.p) (one_arrival h.content [] t.looks.values h.is_study.study.values a b k l i s))
+  pub any_same : (a b : Arrival) → Contains t.looks.values a → Contains t.looks.values b → a.hypothesis ≡ b.hypothesis → a.stage ≡ b.stage
+      → number_of a.p ≡ number_of b.p
+  any_same a b k l i s = ∥∥₁_elim T (same_is_fact _ _)
+      (λ h. ap (λ x. number_of x.p) (one_arrival h.content [] t.looks.values h.is_study.study.values a b k l i s))
 
   -- each position has a place in the state
   pub within_state : (k : ℕ) → k < size_of t → k < case_size t.state
@@ -65,13 +69,16 @@ module _ (t : StudyContent) (T : IsSomeStudy t) where
   any_few k stage m = ∥∥₁_elim T (less_is_fact _ _) (λ h. few_rejected h.content t h.is_study k m.below m.live)
 
   pub any_next : (k stage : ℕ) (new : StudyContent) → MayRejectAt t k stage → IsNextStudy t k stage new → IsSomeStudy new
-  any_next k stage new m n = ∥∥₁_elim T ∥∥₁_prop (λ h. ∣ record { content = h.content; is_study = next_study h.content t h.is_study k stage new m n } ∣₁)
+  any_next k stage new m n =
+      ∥∥₁_elim T ∥∥₁_prop (λ h. ∣ record { content = h.content; is_study = next_study h.content t h.is_study k stage new m n } ∣₁)
 
 -- a rejection leaves fewer
-pub next_smaller : (t new : StudyContent) (k stage : ℕ) → IsSomeStudy t → MayRejectAt t k stage → IsNextStudy t k stage new → size_of new - length (positions_of new.looks.rejected) < size_of t - length (positions_of t.looks.rejected)
+pub next_smaller : (t new : StudyContent) (k stage : ℕ) → IsSomeStudy t → MayRejectAt t k stage → IsNextStudy t k stage new
+    → size_of new - length (positions_of new.looks.rejected) < size_of t - length (positions_of t.looks.rejected)
 next_smaller t new k stage T m n =
     let few = any_few t T k stage m in
-    let e : length (positions_of new.looks.rejected) ≡ suc (length (positions_of t.looks.rejected)) = ap (λ rs. length (positions_of rs)) n.rejected ∙ ap length (map_push (λ r. r.hypothesis) t.looks.rejected n.line) ∙ length_push (positions_of t.looks.rejected) n.line.hypothesis in
+    let e : length (positions_of new.looks.rejected) ≡ suc (length (positions_of t.looks.rejected)) = ap (λ rs. length (positions_of rs)) n.rejected
+    ∙ ap length (map_push (λ r. r.hypothesis) t.looks.rejected n.line) ∙ length_push (positions_of t.looks.rejected) n.line.hypothesis in
     let s : size_of new ≡ size_of t = ap length n.spends in
     omega (arith, few, e, s)
 

@@ -6,7 +6,8 @@ use Rattle.case_model.specs.LegalOrder.{IsListed, IsFirst}
 use Rattle.case_model.specs.StagedCase.{IsStagedLegalIn, IsStagedRejectedIn}
 use Rattle.staged_levels.specs.declared.event.Settled.{Settled}
 use Rattle.staged_levels.specs.Studies.{StudyState, start, positions_of, remaining, IsStudyOf, IsSettled}
-use Rattle.staged_levels.specs.StudyCalls.{StudyCall, arrive, reject, settle, Answered, IsRejection, AreFirstRejections, Settles, IsCall, AreCalls, AreCallsFromOpening, arrival_in, arrivals_in}
+use Rattle.staged_levels.specs.StudyCalls.{StudyCall, arrive, reject, settle, Answered, IsRejection, AreFirstRejections, Settles, IsCall, AreCalls}
+use Rattle.staged_levels.specs.StudyCalls.{AreCallsFromOpening, arrival_in, arrivals_in}
 use Rattle.staged_levels.proofs.StudyFacts.{arrival_leaves, rejection_leaves, study_decides}
 
 -- ---- studies stay studies
@@ -65,7 +66,8 @@ calls_append : (c : Content) (old new : StudyState) (es : List Answered) → Are
 calls_append c old new [] e = none old new (ap (λ s. s.rejected) e)
 calls_append c old new (e ∷ es) h = then old h.0 new (call_appends c old h.0 e.call e.accepted h.1) (calls_append c h.0 new es h.2)
 
-pub rejections_stay : (c : Content) (old new : StudyState) (es : List Answered) → AreCalls c old es new → (more : List Settled) × (new.rejected ≡ old.rejected ++ more)
+pub rejections_stay : (c : Content) (old new : StudyState) (es : List Answered) → AreCalls c old es new → (more : List Settled)
+    × (new.rejected ≡ old.rejected ++ more)
 unfolding Appends
 rejections_stay c old new es h = calls_append c old new es h
 
@@ -89,20 +91,25 @@ call_values c old new settle false h = kept old new (first_keep c old new h.0 h.
 calls_values : (c : Content) (old new : StudyState) (es : List Answered) → AreCalls c old es new → new.values ≡ old.values ++ arrivals_in es
 calls_values c old new [] h = kept old new (ap (λ s. s.values) h)
 calls_values c old new (e ∷ es) h =
-    calls_values c h.0 new es h.2 ∙ ap (λ vs. vs ++ arrivals_in es) (call_values c old h.0 e.call e.accepted h.1) ∙ append_assoc old.values (arrival_in e.call e.accepted) (arrivals_in es)
+    calls_values c h.0 new es h.2 ∙ ap (λ vs. vs ++ arrivals_in es) (call_values c old h.0 e.call e.accepted h.1)
+    ∙ append_assoc old.values (arrival_in e.call e.accepted) (arrivals_in es)
 
 -- ---- from the opening on
 
 pub values_accepted : (c : Content) (es : List Answered) (s : StudyState) → AreCallsFromOpening c es s → s.values ≡ arrivals_in es
 values_accepted c es s h = calls_values c start s es h.calls
 
-pub settling_decides : (c : Content) (es : List Answered) (s : StudyState) (j : ℕ) → AreCallsFromOpening c es s → IsSettled c s → IsListed (positions_of s.rejected) j ↔ IsStagedRejectedIn c (arrivals_in es) j
+pub settling_decides : (c : Content) (es : List Answered) (s : StudyState) (j : ℕ) → AreCallsFromOpening c es s → IsSettled c s
+    → IsListed (positions_of s.rejected) j ↔ IsStagedRejectedIn c (arrivals_in es) j
 settling_decides c es s j h settled =
-    subst (λ vs. IsListed (positions_of s.rejected) j ↔ IsStagedRejectedIn c vs j) (values_accepted c es s h) (study_decides c s (calls_leave c start s es h.opened h.calls) settled j)
+    subst (λ vs. IsListed (positions_of s.rejected) j ↔ IsStagedRejectedIn c vs j) (values_accepted c es s h)
+    (study_decides c s (calls_leave c start s es h.opened h.calls) settled j)
 
 -- ---- settling
 
 -- one more of the first rejections
-pub first_next : (c : Content) (old mid new : StudyState) (ks : List ℕ) (k : ℕ) → AreFirstRejections c old ks mid → IsFirst (IsStagedLegalIn c mid.values) (remaining mid) k → IsRejection c mid k new → AreFirstRejections c old (ks ++ (k ∷ [])) new
-first_next c old mid new [] k e f r = subst (λ s. IsFirst (IsStagedLegalIn c s.values) (remaining s) k × ((n : StudyState) × IsRejection c s k n × (new ≡ n))) e (f, (new, r, refl))
+pub first_next : (c : Content) (old mid new : StudyState) (ks : List ℕ) (k : ℕ) → AreFirstRejections c old ks mid
+    → IsFirst (IsStagedLegalIn c mid.values) (remaining mid) k → IsRejection c mid k new → AreFirstRejections c old (ks ++ (k ∷ [])) new
+first_next c old mid new [] k e f r =
+    subst (λ s. IsFirst (IsStagedLegalIn c s.values) (remaining s) k × ((n : StudyState) × IsRejection c s k n × (new ≡ n))) e (f, (new, r, refl))
 first_next c old mid new (i ∷ ks) k h f r = (h.0, (h.1.0, h.1.1, first_next c h.1.0 mid new ks k h.1.2 f r))

@@ -1,5 +1,6 @@
 -- The arrivals of a case may come one after another.
-use Rattle.std.proofs.Common.{◌≡◌, refl, sym, ap, subst, ◌∙◌, ℕ, zero, suc, ◌<◌, arith, List, [], ◌∷◌, ◌++◌, length, slice_get, Bool, true, false, cond, ◌&&◌, nat_le, Option, Some, None, is_some}
+use Rattle.std.proofs.Common.{◌≡◌, refl, sym, ap, subst, ◌∙◌, ℕ, zero, suc, ◌<◌, arith, List, [], ◌∷◌, ◌++◌, length, slice_get}
+use Rattle.std.proofs.Common.{Bool, true, false, cond, ◌&&◌, nat_le, Option, Some, None, is_some}
 use Rattle.std.proofs.Math.Logic.{∥∥₁_elim}
 use Rattle.std.proofs.lemmas.Bool.Decides.{nat_tests}
 use Rattle.std.specs.List.{Contains, list_any, list_all}
@@ -43,7 +44,8 @@ AreDistinct-prop : (arrivals : List Arrival) → IsProp (AreDistinct arrivals)
 AreDistinct-prop arrivals = hlevel
 
 distinct_arrivals : (c : Content) → IsValidContent c → AreDistinct (arrivals_of c.inputs)
-distinct_arrivals c v = ∥∥₁_elim v (AreDistinct-prop (arrivals_of c.inputs)) (λ f. subst (λ c. AreDistinct (arrivals_of c.inputs)) f.content_is (distinct_in f.draft f.faultless))
+distinct_arrivals c v = ∥∥₁_elim v (AreDistinct-prop (arrivals_of c.inputs))
+    (λ f. subst (λ c. AreDistinct (arrivals_of c.inputs)) f.content_is (distinct_in f.draft f.faultless))
 
 -- ---- each of a hypothesis at a stage, with a p-value
 
@@ -60,7 +62,11 @@ good_one c a h =
     let stage = both (nat_le 1 a.stage) (nat_le a.stage (stages_in c.inputs)) second.right in
     let low = stage.left in
     let high = stage.right in
-    record { below = grind (arith, nat_tests, below); stage = record { first = grind (arith, nat_tests, low); last = grind (arith, nat_tests, high) }; p = first.right }
+    record {
+      below = grind (arith, nat_tests, below);
+      stage = record { first = grind (arith, nat_tests, low); last = grind (arith, nat_tests, high) };
+      p = first.right;
+    }
 
 good_all : (c : Content) → IsValidContent c → list_all (is_arrival (length c.names) (stages_in c.inputs)) (arrivals_of c.inputs) ≡ true
 good_all c v = by_inputs c.inputs (stage_shape c v)
@@ -96,5 +102,6 @@ module _ (c : Content) (all : List Arrival) (good : list_all (is_arrival (length
       }
 
 -- at its place each arrival of a case may come
-pub arrival_may : (c : Content) → IsValidContent c → (values more : List Arrival) (a : Arrival) → values ++ (a ∷ more) ≡ arrivals_of c.inputs → MayArrive c values a
+pub arrival_may : (c : Content) → IsValidContent c → (values more : List Arrival) (a : Arrival) → values ++ (a ∷ more) ≡ arrivals_of c.inputs
+    → MayArrive c values a
 arrival_may c v = may_next c (arrivals_of c.inputs) (good_all c v) (distinct_arrivals c v)

@@ -1,5 +1,6 @@
 -- A case has its looks, or one place where they break off, and not both.
-use Rattle.std.proofs.Common.{◌≡◌, ◌⊎◌, inl, inr, refl, sym, ap, ap₂, ◌∙◌, subst, ℕ, ◌+◌, List, [], ◌∷◌, ◌++◌, Result, Ok, Err}
+use Rattle.std.proofs.Common.{◌≡◌, ◌⊎◌, inl, inr, refl, sym, ap, ap₂, ◌∙◌, subst, ℕ, ◌+◌, List, [], ◌∷◌, ◌++◌, Result, Ok}
+use Rattle.std.proofs.Common.{Err}
 use Rattle.std.proofs.lemmas.List.{append_assoc, append-nil, map_push}
 use Rattle.field_core.specs.declared.place.WideAt.{WideAt}
 use Rattle.field_core.specs.Steps.{◌>>=◌}
@@ -24,7 +25,8 @@ same_wide : (r : Result CaseState WideAt) (v w : WideAt) → r ≡ Err v → r �
 same_wide r v w h k = cc
 
 -- what begins with a removal that is undefined isn't defined
-refused_stops : (c : Content) (js : List ℕ) (j : ℕ) (rest : List ℕ) (s t : CaseState) (w : WideAt) → case_after c js ≡ Ok s → case_after c (js ++ (j ∷ [])) ≡ Err w → ¬ (case_after c (js ++ (j ∷ rest)) ≡ Ok t)
+refused_stops : (c : Content) (js : List ℕ) (j : ℕ) (rest : List ℕ) (s t : CaseState) (w : WideAt) → case_after c js ≡ Ok s
+    → case_after c (js ++ (j ∷ [])) ≡ Err w → ¬ (case_after c (js ++ (j ∷ rest)) ≡ Ok t)
 unfolding removed_in_turn
 refused_stops c js j rest s t w h e k =
     let removal : case_removal s j ≡ Err w = sym (after_next c js s j h) ∙ e in
@@ -35,11 +37,13 @@ refused_stops c js j rest s t w h e k =
 -- ---- rejections one after another
 
 -- the rejected ones are those of before and these
-first_positions : (c : Content) (old new : StudyState) (ks : List ℕ) → AreFirstRejections c old ks new → positions_of new.rejected ≡ positions_of old.rejected ++ ks
+first_positions : (c : Content) (old new : StudyState) (ks : List ℕ) → AreFirstRejections c old ks new
+    → positions_of new.rejected ≡ positions_of old.rejected ++ ks
 first_positions c old new [] e = ap (λ s. positions_of s.rejected) e ∙ sym (append-nil (positions_of old.rejected))
 first_positions c old new (k ∷ ks) h =
     let n = h.1.1 in
-    let one : positions_of h.1.0.rejected ≡ positions_of old.rejected ++ (k ∷ []) = ap positions_of n.rejected ∙ map_push (λ r. r.hypothesis) old.rejected n.line ∙ ap (λ j. positions_of old.rejected ++ (j ∷ [])) n.hypothesis in
+    let one : positions_of h.1.0.rejected ≡ positions_of old.rejected ++ (k ∷ []) = ap positions_of n.rejected
+    ∙ map_push (λ r. r.hypothesis) old.rejected n.line ∙ ap (λ j. positions_of old.rejected ++ (j ∷ [])) n.hypothesis in
     first_positions c h.1.0 new ks h.1.2 ∙ ap (λ js. js ++ ks) one ∙ append_assoc (positions_of old.rejected) (k ∷ []) ks
 
 module _ (c : Content) where
@@ -54,14 +58,18 @@ module _ (c : Content) where
       one_goes_on h.1.0 s t js ks h.1.2 (subst (λ m. AreFirstRejections c m ks t) mids g.1.2)
 
   -- past a removal that is undefined none go on
-  not_past : (s t : StudyState) (w : WideAt) (k : ℕ) (ks : List ℕ) → IsDefined c s → IsWideSettling c s w → AreFirstRejections c s (k ∷ ks) t → ¬ IsDefined c t
+  not_past : (s t : StudyState) (w : WideAt) (k : ℕ) (ks : List ℕ) → IsDefined c s → IsWideSettling c s w → AreFirstRejections c s (k ∷ ks) t
+      → ¬ IsDefined c t
   not_past s t w k ks D W h E =
       let same : W.next ≡ k = first_unique (IsStagedLegalIn c s.values) (remaining s) W.next k W.is_first h.0 in
-      let wide : case_after c (positions_of s.rejected ++ (k ∷ [])) ≡ Err w = subst (λ j. case_after c (positions_of s.rejected ++ (j ∷ [])) ≡ Err w) same W.wide in
-      refused_stops c (positions_of s.rejected) k ks D.state E.state w D.state_is wide (ap (case_after c) (sym (first_positions c s t (k ∷ ks) h)) ∙ E.state_is)
+      let wide : case_after c (positions_of s.rejected ++ (k ∷ [])) ≡ Err w =
+      subst (λ j. case_after c (positions_of s.rejected ++ (j ∷ [])) ≡ Err w) same W.wide in
+      refused_stops c (positions_of s.rejected) k ks D.state E.state w D.state_is wide
+      (ap (case_after c) (sym (first_positions c s t (k ∷ ks) h)) ∙ E.state_is)
 
   -- a settling that is defined doesn't break off
-  not_broken : (old s t : StudyState) (w : WideAt) (js ks : List ℕ) → AreFirstRejections c old js s → IsDefined c s → IsWideSettling c s w → AreFirstRejections c old ks t → IsDefined c t → ¬ IsSettled c t
+  not_broken : (old s t : StudyState) (w : WideAt) (js ks : List ℕ) → AreFirstRejections c old js s → IsDefined c s → IsWideSettling c s w
+      → AreFirstRejections c old ks t → IsDefined c t → ¬ IsSettled c t
   not_broken old s t w js ks h D W g E settled = elim (one_goes_on old s t js ks h g) [
     | inl m ↦ forth m.0 m.1
     | inr m ↦ back m.0 m.1
@@ -76,7 +84,8 @@ module _ (c : Content) where
       back (k ∷ more) m = settled k m.0.allowed
 
   -- it breaks off at one place
-  one_break : (old s t : StudyState) (v w : WideAt) (js ks : List ℕ) → AreFirstRejections c old js s → IsDefined c s → IsWideSettling c s v → AreFirstRejections c old ks t → IsDefined c t → IsWideSettling c t w → v ≡ w
+  one_break : (old s t : StudyState) (v w : WideAt) (js ks : List ℕ) → AreFirstRejections c old js s → IsDefined c s → IsWideSettling c s v
+      → AreFirstRejections c old ks t → IsDefined c t → IsWideSettling c t w → v ≡ w
   one_break old s t v w js ks h D V g E W = elim (one_goes_on old s t js ks h g) [
     | inl m ↦ forth m.0 m.1
     | inr m ↦ back m.0 m.1
@@ -86,7 +95,8 @@ module _ (c : Content) where
       here s t v w V W e =
           let U : IsWideSettling c s w = subst (λ o. IsWideSettling c o w) e W in
           let same : U.next ≡ V.next = first_unique (IsStagedLegalIn c s.values) (remaining s) U.next V.next U.is_first V.is_first in
-          same_wide (case_after c (positions_of s.rejected ++ (V.next ∷ []))) v w V.wide (subst (λ j. case_after c (positions_of s.rejected ++ (j ∷ [])) ≡ Err w) same U.wide)
+          same_wide (case_after c (positions_of s.rejected ++ (V.next ∷ []))) v w V.wide
+          (subst (λ j. case_after c (positions_of s.rejected ++ (j ∷ [])) ≡ Err w) same U.wide)
 
       forth : (more : List ℕ) → AreFirstRejections c s more t → v ≡ w
       forth [] e = here s t v w V W e
@@ -120,9 +130,11 @@ module _ (c : Content) where
   pub wide_look_unique : (old : StudyState) (a : Arrival) (v w : WideAt) → IsWideLook c old a v → IsWideLook c old a w → v ≡ w
   wide_look_unique old a v w V W =
       let arrived : W.arrived ≡ V.arrived = arrival_unique old W.arrived V.arrived a W.arrival V.arrival in
-      one_break V.arrived V.stop W.stop v w V.rejected W.rejected V.rejections V.is_defined V.wide (subst (λ m. AreFirstRejections c m W.rejected W.stop) arrived W.rejections) W.is_defined W.wide
+      one_break V.arrived V.stop W.stop v w V.rejected W.rejected V.rejections V.is_defined V.wide
+      (subst (λ m. AreFirstRejections c m W.rejected W.stop) arrived W.rejections) W.is_defined W.wide
 
-  leads_unique : (old s t : StudyState) (arrivals : List Arrival) (xs ys : List (List Settled)) → LooksLead c old arrivals xs s → LooksLead c old arrivals ys t → xs ≡ ys
+  leads_unique : (old s t : StudyState) (arrivals : List Arrival) (xs ys : List (List Settled)) → LooksLead c old arrivals xs s
+      → LooksLead c old arrivals ys t → xs ≡ ys
   leads_unique old s t [] [] [] h g = refl
   leads_unique old s t [] [] (y ∷ ys) h g = absurd g
   leads_unique old s t [] (x ∷ xs) ys h g = absurd h
@@ -132,7 +144,8 @@ module _ (c : Content) where
       let u = look_unique old h.0 g.0 a x y h.1 g.1 in
       ap₂ (λ l ls. l ∷ ls) u.1 (leads_unique h.0 s t more xs ys h.2 (subst (λ m. LooksLead c m more ys t) (sym u.0) g.2))
 
-  lead_not_wide : (old s : StudyState) (arrivals : List Arrival) (xs : List (List Settled)) (i n : ℕ) (w : WideAt) → LooksLead c old arrivals xs s → ¬ IsFirstWideLook c old i arrivals n w
+  lead_not_wide : (old s : StudyState) (arrivals : List Arrival) (xs : List (List Settled)) (i n : ℕ) (w : WideAt) → LooksLead c old arrivals xs s
+      → ¬ IsFirstWideLook c old i arrivals n w
   lead_not_wide old s [] xs i n w h W = W
   lead_not_wide old s (a ∷ more) [] i n w h W = h
   lead_not_wide old s (a ∷ more) (x ∷ xs) i n w h (inl W) = look_not_wide old h.0 a x w h.1 W.1
@@ -140,7 +153,8 @@ module _ (c : Content) where
       let u = look_unique old h.0 W.1 a x W.0 h.1 W.2 in
       lead_not_wide h.0 s more xs (i + 1) n w h.2 (subst (λ m. IsFirstWideLook c m (i + 1) more n w) (sym u.0) W.3)
 
-  first_wide_unique : (old : StudyState) (arrivals : List Arrival) (i n m : ℕ) (v w : WideAt) → IsFirstWideLook c old i arrivals n v → IsFirstWideLook c old i arrivals m w → (n ≡ m) × (v ≡ w)
+  first_wide_unique : (old : StudyState) (arrivals : List Arrival) (i n m : ℕ) (v w : WideAt) → IsFirstWideLook c old i arrivals n v
+      → IsFirstWideLook c old i arrivals m w → (n ≡ m) × (v ≡ w)
   first_wide_unique old [] i n m v w V W = absurd V
   first_wide_unique old (a ∷ more) i n m v w (inl V) (inl W) = (V.0 ∙ sym W.0, wide_look_unique old a v w V.1 W.1)
   first_wide_unique old (a ∷ more) i n m v w (inl V) (inr W) = absurd (look_not_wide old W.1 a W.0 v W.2 V.1)
@@ -162,7 +176,8 @@ module _ (c : Content) where
 
   opening_wide : (w : WideAt) (s : CaseState) (js : List ℕ) → case_opening c ≡ Err w → ¬ (case_after c js ≡ Ok s)
   unfolding case_after
-  opening_wide w s js e h = let a : (case_opening c >>= λ u. removed_in_turn case_removal u js) ≡ Err w = ap (λ r. r >>= λ u. removed_in_turn case_removal u js) e in cc
+  opening_wide w s js e h = let a : (case_opening c >>= λ u. removed_in_turn case_removal u js) ≡ Err w =
+      ap (λ r. r >>= λ u. removed_in_turn case_removal u js) e in cc
 
   -- a case that isn't opened has no looks, nor a place where they break off
   pub not_opened : (w : WideAt) → case_opening c ≡ Err w → ¬ IsDefined c start

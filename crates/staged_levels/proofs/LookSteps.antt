@@ -1,5 +1,6 @@
 -- Looks, one by one.
-use Rattle.std.proofs.Common.{◌≡◌, inl, inr, refl, sym, ap, ◌∙◌, subst, subst₂, ℕ, zero, suc, ◌+◌, ◌<◌, ◌≤◌, arith, List, [], ◌∷◌, ◌++◌, length, take, drop, get_or, Result, Ok, Err}
+use Rattle.std.proofs.Common.{◌≡◌, inl, inr, refl, sym, ap, ◌∙◌, subst, subst₂, ℕ, zero, suc, ◌+◌, ◌<◌, ◌≤◌, arith, List, []}
+use Rattle.std.proofs.Common.{◌∷◌, ◌++◌, length, take, drop, get_or, Result, Ok, Err}
 use Rattle.std.proofs.lemmas.List.{length-take-le}
 use Rattle.std.proofs.Math.Logic.{∥∥₁_elim}
 use Rattle.std.proofs.Props.{props}
@@ -28,8 +29,10 @@ fault_not_may c s a (Rejected i) m f = f
 fault_not_may c s a (NotLegal i) m f = f
 fault_not_may c s a (Wide w) m f = f
 
-pub never_refused : (t : StudyContent) → IsSomeStudy t → (a : Arrival) (fault : StepFault) → ((c : Content) → IsStudy c t → MayArrive c t.looks.values a) → ((c : Content) → IsStudy c t → IsArriveFault c t.looks a fault) → ⊥
-never_refused t T a fault may f = ∥∥₁_elim T (λ x y. absurd x) (λ h. fault_not_may h.content t.looks a fault (may h.content h.is_study) (f h.content h.is_study))
+pub never_refused : (t : StudyContent) → IsSomeStudy t → (a : Arrival) (fault : StepFault)
+    → ((c : Content) → IsStudy c t → MayArrive c t.looks.values a) → ((c : Content) → IsStudy c t → IsArriveFault c t.looks a fault) → ⊥
+never_refused t T a fault may f = ∥∥₁_elim T (λ x y. absurd x)
+    (λ h. fault_not_may h.content t.looks a fault (may h.content h.is_study) (f h.content h.is_study))
 
 -- a study is in a state that is defined
 pub study_defined : (c : Content) (t : StudyContent) → IsStudy c t → IsDefined c t.looks
@@ -46,14 +49,16 @@ added_are old new more e = e ∙ ap (λ ys. old ++ ys) (sym (behind old more) �
 
 -- ---- one look more
 
-pub lead_next : (c : Content) (old s t : StudyState) (arrivals : List Arrival) (looks : List (List Settled)) (a : Arrival) (added : List Settled) → LooksLead c old arrivals looks s → IsLook c s a added t → LooksLead c old (arrivals ++ (a ∷ [])) (looks ++ (added ∷ [])) t
+pub lead_next : (c : Content) (old s t : StudyState) (arrivals : List Arrival) (looks : List (List Settled)) (a : Arrival) (added : List Settled)
+    → LooksLead c old arrivals looks s → IsLook c s a added t → LooksLead c old (arrivals ++ (a ∷ [])) (looks ++ (added ∷ [])) t
 lead_next c old s t [] [] a added h k = (t, subst (λ o. IsLook c o a added t) h k, refl)
 lead_next c old s t [] (l ∷ looks) a added h k = absurd h
 lead_next c old s t (b ∷ arrivals) [] a added h k = absurd h
 lead_next c old s t (b ∷ arrivals) (l ∷ looks) a added h k = (h.0, h.1, lead_next c h.0 s t arrivals looks a added h.2 k)
 
 -- a look that breaks off behind some that don't
-pub lead_wide : (c : Content) (old s : StudyState) (arrivals : List Arrival) (looks : List (List Settled)) (i : ℕ) (a : Arrival) (more : List Arrival) (w : WideAt) → LooksLead c old arrivals looks s → IsWideLook c s a w → IsFirstWideLook c old i (arrivals ++ (a ∷ more)) (i + length arrivals) w
+pub lead_wide : (c : Content) (old s : StudyState) (arrivals : List Arrival) (looks : List (List Settled)) (i : ℕ) (a : Arrival) (more : List Arrival)
+    (w : WideAt) → LooksLead c old arrivals looks s → IsWideLook c s a w → IsFirstWideLook c old i (arrivals ++ (a ∷ more)) (i + length arrivals) w
 lead_wide c old s [] [] i a more w h k = inl (omega arith, subst (λ o. IsWideLook c o a w) h k)
 lead_wide c old s [] (l ∷ looks) i a more w h k = absurd h
 lead_wide c old s (b ∷ arrivals) [] i a more w h k = absurd h
@@ -62,7 +67,8 @@ lead_wide c old s (b ∷ arrivals) (l ∷ looks) i a more w h k =
     inr (l, h.0, h.1, subst (λ m. IsFirstWideLook c h.0 (i + 1) (arrivals ++ (a ∷ more)) m w) n (lead_wide c h.0 s arrivals looks (i + 1) a more w h.2 k))
 
 -- the values after a look
-pub look_values : (c : Content) (old new : StudyState) (a : Arrival) (added : List Settled) → IsLook c old a added new → new.values ≡ old.values ++ (a ∷ [])
+pub look_values : (c : Content) (old new : StudyState) (a : Arrival) (added : List Settled) → IsLook c old a added new
+    → new.values ≡ old.values ++ (a ∷ [])
 look_values c old new a added h = first_keep c h.arrived new h.settles.hypotheses h.settles.rejections ∙ h.arrival.values
 
 -- a list is what is before a place, the item there, and what is behind
@@ -74,7 +80,8 @@ split_at (y ∷ ys) (suc i) x h =
     ap (λ n. y ∷ (take i ys ++ (get_or ys i x ∷ drop n (y ∷ ys)))) e ∙ ap (λ zs. y ∷ zs) (split_at ys i x (omega (arith, h)))
 
 -- what may arrive in a study by one case may by each case of which it is a study
-pub may_other : (c d : Content) (t : StudyContent) (a : Arrival) → IsStudy c t → IsStudy d t → MayArrive c t.looks.values a → MayArrive d t.looks.values a
+pub may_other : (c d : Content) (t : StudyContent) (a : Arrival) → IsStudy c t → IsStudy d t → MayArrive c t.looks.values a
+    → MayArrive d t.looks.values a
 may_other c d t a T U m = record {
   below = subst (λ n. a.hypothesis < n) (T.size ∙ sym U.size) m.below;
   stage = record { first = m.stage.first; last = subst (λ n. a.stage ≤ n) (T.count ∙ sym U.count) m.stage.last };
@@ -90,20 +97,31 @@ longer : (old more : List Settled) → length old ≤ length (old ++ more)
 longer [] more = omega arith
 longer (x ∷ xs) more = let r = longer xs more in omega (arith, r)
 
-pub grown : (t : StudyContent) → IsSomeStudy t → (new : StudyState) → ((c : Content) → IsStudy c t → (more : List Settled) × (new.rejected ≡ t.looks.rejected ++ more)) → length t.looks.rejected ≤ length new.rejected
-grown t T new grows = ∥∥₁_elim T (at_most_is_fact _ _) (λ h. let m = grows h.content h.is_study in subst (λ rs. length t.looks.rejected ≤ length rs) (sym m.1) (longer t.looks.rejected m.0))
+pub grown : (t : StudyContent) → IsSomeStudy t → (new : StudyState)
+    → ((c : Content) → IsStudy c t → (more : List Settled) × (new.rejected ≡ t.looks.rejected ++ more))
+    → length t.looks.rejected ≤ length new.rejected
+grown t T new grows = ∥∥₁_elim T (at_most_is_fact _ _)
+    (λ h. let m = grows h.content h.is_study in subst (λ rs. length t.looks.rejected ≤ length rs) (sym m.1) (longer t.looks.rejected m.0))
 
 -- where a look breaks off, those at the case do
-pub look_fault : (c : Content) (s : StudyState) (xs : List Arrival) (looks : List (List Settled)) (i : ℕ) (a : Arrival) (fault : LooksFault) → IsDefined c start → xs ≡ arrivals_of c.inputs → i < length xs → get_or xs i a ≡ a → LooksLead c start (take i xs) looks s → IsLookFault c s a (i + 1) fault → IsLooksFault c fault
+pub look_fault : (c : Content) (s : StudyState) (xs : List Arrival) (looks : List (List Settled)) (i : ℕ) (a : Arrival) (fault : LooksFault)
+    → IsDefined c start → xs ≡ arrivals_of c.inputs → i < length xs → get_or xs i a ≡ a → LooksLead c start (take i xs) looks s
+    → IsLookFault c s a (i + 1) fault → IsLooksFault c fault
 look_fault c s xs looks i a (Opening w) D e h here lead f = absurd f
 look_fault c s xs looks i a NoMemory D e h here lead f = tt
 look_fault c s xs looks i a (Arriving n w) D e h here lead f =
-    let whole : take i xs ++ (a ∷ drop (i + 1) xs) ≡ arrivals_of c.inputs = ap (λ y. take i xs ++ (y ∷ drop (i + 1) xs)) (sym here) ∙ split_at xs i a h ∙ e in
+    let whole : take i xs ++ (a ∷ drop (i + 1) xs) ≡ arrivals_of c.inputs = ap (λ y. take i xs ++ (y ∷ drop (i + 1) xs)) (sym here) ∙ split_at xs i a h
+    ∙ e in
     let shorter : length (take i xs) ≡ i = length-take-le i xs (omega (arith, h)) in
     let number : 1 + length (take i xs) ≡ n = let q = f.0 in omega (arith, shorter, q) in
-    record { opened = D; first = subst₂ (λ ys m. IsFirstWideLook c start 1 ys m w) whole number (lead_wide c start s (take i xs) looks 1 a (drop (i + 1) xs) w lead f.1) }
+    record {
+      opened = D;
+      first = subst₂ (λ ys m. IsFirstWideLook c start 1 ys m w) whole number
+          (lead_wide c start s (take i xs) looks 1 a (drop (i + 1) xs) w lead f.1);
+    }
 
 -- a fault that is handed on
-pub handed_on : {A : Type 0} (r : Result A LooksFault) (Good : LooksFault → Type 0) (fault : LooksFault) → IsErrAnd r (λ e. e ≡ fault) → Good fault → IfErr r Good
+pub handed_on : {A : Type 0} (r : Result A LooksFault) (Good : LooksFault → Type 0) (fault : LooksFault) → IsErrAnd r (λ e. e ≡ fault) → Good fault
+    → IfErr r Good
 handed_on (Ok x) Good fault e h = tt
 handed_on (Err x) Good fault e h = subst Good (sym e) h

@@ -22,20 +22,23 @@ calls_of [] = []
 calls_of (a ∷ more) = accepted (arrive a) ∷ accepted settle ∷ calls_of more
 
 module _ (c : Content) where
-  lead_calls : (old new : StudyState) (arrivals : List Arrival) (looks : List (List Settled)) → LooksLead c old arrivals looks new → AreCalls c old (calls_of arrivals) new
+  lead_calls : (old new : StudyState) (arrivals : List Arrival) (looks : List (List Settled)) → LooksLead c old arrivals looks new
+      → AreCalls c old (calls_of arrivals) new
   lead_calls old new [] [] h = h
   lead_calls old new [] (l ∷ looks) h = absurd h
   lead_calls old new (a ∷ more) [] h = absurd h
   lead_calls old new (a ∷ more) (l ∷ looks) h = (h.1.arrived, h.1.arrival, (h.0, h.1.settles, lead_calls h.0 new more looks h.2))
 
-  lead_rejected : (old new : StudyState) (arrivals : List Arrival) (looks : List (List Settled)) → LooksLead c old arrivals looks new → new.rejected ≡ old.rejected ++ rejected_in looks
+  lead_rejected : (old new : StudyState) (arrivals : List Arrival) (looks : List (List Settled)) → LooksLead c old arrivals looks new
+      → new.rejected ≡ old.rejected ++ rejected_in looks
   lead_rejected old new [] [] h = ap (λ s. s.rejected) h ∙ sym (append-nil old.rejected)
   lead_rejected old new [] (l ∷ looks) h = absurd h
   lead_rejected old new (a ∷ more) [] h = absurd h
   lead_rejected old new (a ∷ more) (l ∷ looks) h =
       lead_rejected h.0 new more looks h.2 ∙ ap (λ rs. rs ++ rejected_in looks) h.1.rejected ∙ append_assoc old.rejected l (rejected_in looks)
 
-  lead_settled : (old new : StudyState) (arrivals : List Arrival) (looks : List (List Settled)) → IsSettled c old → LooksLead c old arrivals looks new → IsSettled c new
+  lead_settled : (old new : StudyState) (arrivals : List Arrival) (looks : List (List Settled)) → IsSettled c old → LooksLead c old arrivals looks new
+      → IsSettled c new
   lead_settled old new [] [] s h = subst (IsSettled c) (sym h) s
   lead_settled old new [] (l ∷ looks) s h = absurd h
   lead_settled old new (a ∷ more) [] s h = absurd h
@@ -56,7 +59,8 @@ pub looks_decide : LooksDecide
 looks_decide c looks j valid h =
     let arrivals = arrivals_of c.inputs in
     let opened : IsStudyOf c start = record { valid = valid; values = tt; rejected = tt } in
-    let decided = settling_decides c (calls_of arrivals) h.end j (record { opened = opened; calls = lead_calls c start h.end arrivals looks h.lead }) (lead_settled c start h.end arrivals looks (start_settled c) h.lead) in
+    let decided = settling_decides c (calls_of arrivals) h.end j (record { opened = opened; calls = lead_calls c start h.end arrivals looks h.lead })
+    (lead_settled c start h.end arrivals looks (start_settled c) h.lead) in
     let rejected = lead_rejected c start h.end arrivals looks h.lead in
     subst (λ rs. IsListed (positions_of rs) j ↔ IsStagedRejectedIn c arrivals j) rejected
     (subst (λ vs. IsListed (positions_of h.end.rejected) j ↔ IsStagedRejectedIn c vs j) (arrivals_called arrivals) decided)

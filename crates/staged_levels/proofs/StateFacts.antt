@@ -1,5 +1,6 @@
 -- What is known of a study by the written state of its case.
-use Rattle.std.proofs.Common.{◌≡◌, inl, inr, refl, sym, ap, ◌∙◌, subst, subst₂, ℕ, ◌<◌, ◌≤◌, true, false, [], ◌∷◌, ◌++◌, length, Ok}
+use Rattle.std.proofs.Common.{◌≡◌, inl, inr, refl, sym, ap, ◌∙◌, subst, subst₂, ℕ, ◌<◌, ◌≤◌, true, false, [], ◌∷◌, ◌++◌}
+use Rattle.std.proofs.Common.{length, Ok}
 use Rattle.std.proofs.lemmas.List.{map_push}
 use Rattle.field_core.specs.Sets.{IsIn, whole}
 use Rattle.field_core.specs.Runs.{IsOrder}
@@ -39,14 +40,16 @@ module _ (c : Content) (t : StudyContent) (T : IsStudy c t) where
   -- the rejected ones are distinct
   pub distinct : IsOrder (length c.names) whole (positions_of t.looks.rejected)
   unfolding entangled
-  distinct = legal_distinct_by (entangled c) (valid_content c T.study.valid) (AtStages (spend_in c) (number_of c.alpha) t.looks.values) (positions_of t.looks.rejected) whole (study_order c t.looks T.study)
+  distinct = legal_distinct_by (entangled c) (valid_content c T.study.valid) (AtStages (spend_in c) (number_of c.alpha) t.looks.values)
+      (positions_of t.looks.rejected) whole (study_order c t.looks T.study)
 
   -- the ones that are in are those that remain
   pub live_now : (k : ℕ) → k < length c.names → is_live_in_case t.state k ≡ remaining t.looks k
   live_now k h = case_live c (positions_of t.looks.rejected) t.state k T.study.valid distinct T.state h
 
   -- the present levels are the weights in what remains
-  pub weight_now : (k : ℕ) → IsIn (length c.names) (remaining t.looks) k → IsIntersectionWeight (entangled c) (remaining t.looks) k (number (case_level t.state k))
+  pub weight_now : (k : ℕ) → IsIn (length c.names) (remaining t.looks) k
+      → IsIntersectionWeight (entangled c) (remaining t.looks) k (number (case_level t.state k))
   weight_now k p = case_levels c (positions_of t.looks.rejected) t.state k T.study.valid distinct T.state p
 
   -- a hypothesis that is in remains
@@ -57,7 +60,8 @@ module _ (c : Content) (t : StudyContent) (T : IsStudy c t) where
 
   -- where one is in, not all are rejected
   pub few_rejected : (k : ℕ) → k < size_of t → is_live_in_case t.state k ≡ true → length (positions_of t.looks.rejected) < size_of t
-  few_rejected k h l = subst (λ n. length (positions_of t.looks.rejected) < n) T.size (one_left (length c.names) (positions_of t.looks.rejected) k distinct (remains_in k h l))
+  few_rejected k h l = subst (λ n. length (positions_of t.looks.rejected) < n) T.size
+      (one_left (length c.names) (positions_of t.looks.rejected) k distinct (remains_in k h l))
 
   -- what isn't rejected is in
   pub not_rejected_live : (k : ℕ) → k < size_of t → ¬ IsListed (positions_of t.looks.rejected) k → is_live_in_case t.state k ≡ true
@@ -70,7 +74,8 @@ module _ (c : Content) (t : StudyContent) (T : IsStudy c t) where
   pub gone_rejected : (k : ℕ) → k < size_of t → is_live_in_case t.state k ≡ false → IsListed (positions_of t.looks.rejected) k
   gone_rejected k h f = elim (listed_or_not (positions_of t.looks.rejected) k) [
     | inl l ↦ l
-    | inr n ↦ absurd (true_not_false (sym (not_listed_left (positions_of t.looks.rejected) whole k refl n) ∙ sym (live_now k (subst (λ n. k < n) (sym T.size) h)) ∙ f))
+    | inr n ↦ absurd (true_not_false
+        (sym (not_listed_left (positions_of t.looks.rejected) whole k refl n) ∙ sym (live_now k (subst (λ n. k < n) (sym T.size) h)) ∙ f))
   ]
 
   pub live_not_rejected : (k : ℕ) → k < size_of t → is_live_in_case t.state k ≡ true → ¬ IsListed (positions_of t.looks.rejected) k
@@ -98,19 +103,23 @@ module _ (c : Content) (t : StudyContent) (T : IsStudy c t) where
   may_legal k stage m =
       let p = remains_in k m.below m.live in
       let meets : MeetsAt (spend_in c) (number_of c.alpha) t.looks.values k (number (case_level t.state k)) m.first.arrival
-      = subst₂ (λ s a. MeetsAt (spend_at s) (number_of a) t.looks.values k (number (case_level t.state k)) m.first.arrival) (sym T.spends) (sym T.alpha) m.first.meets in
-      passes_legal_by (entangled c) (AtStages (spend_in c) (number_of c.alpha) t.looks.values) (remaining t.looks) k (number (case_level t.state k)) p (weight_now k p) (record { arrival = m.first.arrival; at = meets })
+      = subst₂ (λ s a. MeetsAt (spend_at s) (number_of a) t.looks.values k (number (case_level t.state k)) m.first.arrival) (sym T.spends)
+      (sym T.alpha) m.first.meets in
+      passes_legal_by (entangled c) (AtStages (spend_in c) (number_of c.alpha) t.looks.values) (remaining t.looks) k (number (case_level t.state k)) p
+      (weight_now k p) (record { arrival = m.first.arrival; at = meets })
 
   -- and its line is that of a rejection
   may_line : (k stage : ℕ) (line : Settled) → MayRejectAt t k stage → IsLine t k stage line → IsRejectionFrom c t.looks.values (remaining t.looks) line
   unfolding entangled
   may_line k stage line m l =
       let p = remains_in k m.below m.live in
-      let first : IsFirstStage c t.looks.values k (number (case_level t.state k)) stage = subst₂ (λ s a. IsFirstStageBy s a t.looks.values k (number (case_level t.state k)) stage) (sym T.spends) (sym T.alpha) m.first in
+      let first : IsFirstStage c t.looks.values k (number (case_level t.state k)) stage =
+      subst₂ (λ s a. IsFirstStageBy s a t.looks.values k (number (case_level t.state k)) stage) (sym T.spends) (sym T.alpha) m.first in
       record {
         member = subst (IsIn (length c.names) (remaining t.looks)) (sym l.hypothesis) p;
         weight = subst₂ (λ j w. IsIntersectionWeight (entangled c) (remaining t.looks) j (number w)) (sym l.hypothesis) (sym l.weight) (weight_now k p);
-        stage = subst (IsFirstStage c t.looks.values line.hypothesis (number (terms line.weight))) (sym l.stage_is) (subst₂ (λ j w. IsFirstStage c t.looks.values j (number w) stage) (sym l.hypothesis) (sym l.weight) first);
+        stage = subst (IsFirstStage c t.looks.values line.hypothesis (number (terms line.weight))) (sym l.stage_is)
+            (subst₂ (λ j w. IsFirstStage c t.looks.values j (number w) stage) (sym l.hypothesis) (sym l.weight) first);
       }
 
   pub next_rejection : (k stage : ℕ) (new : StudyContent) → MayRejectAt t k stage → IsNextStudy t k stage new → IsRejection c t.looks k new.looks
@@ -131,18 +140,24 @@ module _ (c : Content) (t : StudyContent) (T : IsStudy c t) where
     spends = T.spends ∙ sym n.spends;
     count = T.count ∙ sym n.count;
     alpha = T.alpha ∙ sym n.alpha;
-    state = ap (case_after c) (ap positions_of n.rejected ∙ map_push (λ r. r.hypothesis) t.looks.rejected n.line ∙ ap (λ j. positions_of t.looks.rejected ++ (j ∷ [])) n.is_line.hypothesis) ∙ after_next c (positions_of t.looks.rejected) t.state k T.state ∙ n.removed;
+    state = ap (case_after c)
+        (ap positions_of n.rejected ∙ map_push (λ r. r.hypothesis) t.looks.rejected n.line
+        ∙ ap (λ j. positions_of t.looks.rejected ++ (j ∷ [])) n.is_line.hypothesis) ∙ after_next c (positions_of t.looks.rejected) t.state k T.state
+        ∙ n.removed;
   }
 
   -- what meets the test does so at a stage
-  pub stage_range : (k : ℕ) (u : Number) (a : Arrival) → MeetsAt (spend_at t.spends) (number_of t.alpha) t.looks.values k u a → (1 ≤ a.stage) × (a.stage ≤ t.count)
+  pub stage_range : (k : ℕ) (u : Number) (a : Arrival) → MeetsAt (spend_at t.spends) (number_of t.alpha) t.looks.values k u a → (1 ≤ a.stage)
+      × (a.stage ≤ t.count)
   stage_range k u a m = let r = (arrivals_may c [] t.looks.values T.study.values a m.arrived).1.stage in (r.first, subst (λ n. a.stage ≤ n) T.count r.last)
 
   -- where no stage meets the test at the present weight, the hypothesis isn't legal
-  pub no_stage : (k : ℕ) → k < size_of t → is_live_in_case t.state k ≡ true → ((s : ℕ) → 1 ≤ s → s ≤ t.count → ¬ MeetsAtStage t k s (number (case_level t.state k))) → ¬ IsLegalNow c t.looks k
+  pub no_stage : (k : ℕ) → k < size_of t → is_live_in_case t.state k ≡ true
+      → ((s : ℕ) → 1 ≤ s → s ≤ t.count → ¬ MeetsAtStage t k s (number (case_level t.state k))) → ¬ IsLegalNow c t.looks k
   unfolding entangled
   no_stage k h l none r =
-      let m = legal_passes_by (entangled c) (AtStages (spend_in c) (number_of c.alpha) t.looks.values) (remaining t.looks) k (number (case_level t.state k)) r (weight_now k (remains_in k h l)) in
+      let m = legal_passes_by (entangled c) (AtStages (spend_in c) (number_of c.alpha) t.looks.values) (remaining t.looks) k (number (case_level t.state k)) r
+      (weight_now k (remains_in k h l)) in
       let q : MeetsAt (spend_at t.spends) (number_of t.alpha) t.looks.values k (number (case_level t.state k)) m.arrival
       = subst₂ (λ s a. MeetsAt (spend_at s) (number_of a) t.looks.values k (number (case_level t.state k)) m.arrival) T.spends T.alpha m.at in
       let range = stage_range k (number (case_level t.state k)) m.arrival q in
@@ -164,7 +179,8 @@ module _ (c : Content) (t : StudyContent) (T : IsStudy c t) where
   with_arrival a new m n = record { may = m; values = n.values; rejected = n.rejected }
 
 -- a case that was opened, where nothing has arrived and nothing is rejected
-pub opened_study : (c : Content) (t : StudyContent) → IsValidContent c → t.looks ≡ start → length c.names ≡ size_of t → spends_in c.inputs ≡ t.spends → stages_in c.inputs ≡ t.count → c.alpha ≡ t.alpha → case_opening c ≡ Ok t.state → IsStudy c t
+pub opened_study : (c : Content) (t : StudyContent) → IsValidContent c → t.looks ≡ start → length c.names ≡ size_of t
+    → spends_in c.inputs ≡ t.spends → stages_in c.inputs ≡ t.count → c.alpha ≡ t.alpha → case_opening c ≡ Ok t.state → IsStudy c t
 opened_study c t valid none size spends count alpha open_state = record {
   study = subst (IsStudyOf c) (sym none) (start_study c valid);
   size = size;

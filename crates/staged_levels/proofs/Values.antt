@@ -1,5 +1,6 @@
 -- What is found among the values that have arrived.
-use Rattle.std.proofs.Common.{◌≡◌, ◌⊎◌, inl, inr, refl, sym, ap, ◌∙◌, subst, subst₂, ◌↔◌, ℕ, zero, suc, ◌<◌, ◌≤◌, ◌*◌, ◌==◌, Bool, true, false, cond, List, [], ◌∷◌, length, Option, Some, None, is_some, arith}
+use Rattle.std.proofs.Common.{◌≡◌, ◌⊎◌, inl, inr, refl, sym, ap, ◌∙◌, subst, subst₂, ◌↔◌, ℕ, zero, suc, ◌<◌, ◌≤◌, ◌*◌}
+use Rattle.std.proofs.Common.{◌==◌, Bool, true, false, cond, List, [], ◌∷◌, length, Option, Some, None, is_some, arith}
 use Rattle.std.proofs.lemmas.Bool.Decides.{nat_tests}
 use Rattle.std.proofs.Math.Logic.{∥∥₁_elim, ∥∥₁_prop}
 use Rattle.std.specs.List.{Contains, find}
@@ -31,11 +32,13 @@ test_means k t a h =
 means_test : (k t : ℕ) (a : Arrival) → a.hypothesis ≡ k → a.stage ≡ t → is_of k t a ≡ true
 means_test k t a i s = grind (arith, nat_tests, i, s)
 
-some_in : (b : Bool) (x : Arrival) (o : Option Arrival) (p : Ratio) → option_map (λ a. a.p) (cond b (Some x) o) ≡ Some p → ((b ≡ true) × (x.p ≡ p)) ⊎ (option_map (λ a. a.p) o ≡ Some p)
+some_in : (b : Bool) (x : Arrival) (o : Option Arrival) (p : Ratio) → option_map (λ a. a.p) (cond b (Some x) o) ≡ Some p → ((b ≡ true) × (x.p ≡ p))
+    ⊎ (option_map (λ a. a.p) o ≡ Some p)
 some_in true x o p h = inl (refl, cc)
 some_in false x o p h = inr h
 
-none_in : (b : Bool) (x : Arrival) (o : Option Arrival) → option_map (λ a. a.p) (cond b (Some x) o) ≡ None → (b ≡ false) × (option_map (λ a. a.p) o ≡ None)
+none_in : (b : Bool) (x : Arrival) (o : Option Arrival) → option_map (λ a. a.p) (cond b (Some x) o) ≡ None → (b ≡ false)
+    × (option_map (λ a. a.p) o ≡ None)
 none_in true x o h = absurd (cc)
 none_in false x o h = (refl, h)
 
@@ -56,10 +59,12 @@ found : (values : List Arrival) (k t : ℕ) (p : Ratio) → value_at values k t 
 found [] k t p h = absurd (cc)
 found (b ∷ bs) k t p h = elim (some_in (is_of k t b) b (find (is_of k t) bs) p h) [
   | inl e ↦ let m = test_means k t b e.0 in record { arrival = b; arrived = (0, omega arith, refl); hypothesis = m.0; stage = m.1; p_is = e.1 }
-  | inr r ↦ let f = found bs k t p r in record { arrival = f.arrival; arrived = later b bs f.arrival f.arrived; hypothesis = f.hypothesis; stage = f.stage; p_is = f.p_is }
+  | inr r ↦ let f = found bs k t p r in
+      record { arrival = f.arrival; arrived = later b bs f.arrival f.arrived; hypothesis = f.hypothesis; stage = f.stage; p_is = f.p_is }
 ]
 
-not_found : (values : List Arrival) (k t : ℕ) (a : Arrival) → Contains values a → a.hypothesis ≡ k → a.stage ≡ t → ¬ (value_at values k t ≡ None)
+not_found : (values : List Arrival) (k t : ℕ) (a : Arrival) → Contains values a → a.hypothesis ≡ k → a.stage ≡ t
+    → ¬ (value_at values k t ≡ None)
 not_found [] k t a (i, q, e) m s h = absurd (omega (arith, q))
 not_found (b ∷ bs) k t a (zero, q, e) m s h =
     let no = (none_in (is_of k t b) b (find (is_of k t) bs) h).0 in
@@ -78,7 +83,8 @@ none_is None h = refl
 none_is (Some p) h = absurd (cc)
 
 pub known_from : (values : List Arrival) (k t : ℕ) → is_some (value_at values k t) ≡ true → IsKnown values k t
-known_from values k t h = let s = some_is _ h in let f = found values k t s.0 s.1 in record { arrival = f.arrival; arrived = f.arrived; hypothesis = f.hypothesis; stage = f.stage }
+known_from values k t h = let s = some_is _ h in let f =
+    found values k t s.0 s.1 in record { arrival = f.arrival; arrived = f.arrived; hypothesis = f.hypothesis; stage = f.stage }
 
 pub unknown_from : (values : List Arrival) (k t : ℕ) → is_some (value_at values k t) ≡ false → ¬ IsKnown values k t
 unknown_from values k t h = none_unknown values k t (none_is _ h)
@@ -90,16 +96,22 @@ module _ (t : StudyContent) (T : IsSomeStudy t) where
   value_is k s p h = let f = found t.looks.values k s p h in subst (λ x. is_p_value x ≡ true) f.p_is (any_value t T f.arrival f.arrived)
 
   -- what the p-value of a stage that has arrived meets, the hypothesis meets at the stage
-  pub meets_found : (k s : ℕ) (u : Number) (p : Ratio) → value_at t.looks.values k s ≡ Some p → Meets (spend_at t.spends k) (number_of t.alpha) s u (number_of p) ↔ MeetsAtStage t k s u
+  pub meets_found : (k s : ℕ) (u : Number) (p : Ratio) → value_at t.looks.values k s ≡ Some p
+      → Meets (spend_at t.spends k) (number_of t.alpha) s u (number_of p) ↔ MeetsAtStage t k s u
   meets_found k s u p h =
       let f = found t.looks.values k s p h in (
         λ m. record {
           arrival = f.arrival;
-          meets = record { arrived = f.arrived; hypothesis = f.hypothesis; meets = subst₂ (λ n x. Meets (spend_at t.spends k) (number_of t.alpha) n u (number_of x)) (sym f.stage) (sym f.p_is) m };
+          meets = record {
+            arrived = f.arrived;
+            hypothesis = f.hypothesis;
+            meets = subst₂ (λ n x. Meets (spend_at t.spends k) (number_of t.alpha) n u (number_of x)) (sym f.stage) (sym f.p_is) m;
+          };
           stage = f.stage;
         },
         λ n.
-            let same : number_of n.arrival.p ≡ number_of p = any_same t T n.arrival f.arrival n.meets.arrived f.arrived (n.meets.hypothesis ∙ sym f.hypothesis) (n.stage ∙ sym f.stage) ∙ ap number_of f.p_is in
+            let same : number_of n.arrival.p ≡ number_of p = any_same t T n.arrival f.arrival n.meets.arrived f.arrived
+            (n.meets.hypothesis ∙ sym f.hypothesis) (n.stage ∙ sym f.stage) ∙ ap number_of f.p_is in
             subst₂ (λ i x. Meets (spend_at t.spends k) (number_of t.alpha) i u x) n.stage same n.meets.meets,
       )
 
@@ -108,13 +120,18 @@ module _ (t : StudyContent) (T : IsSomeStudy t) where
 
   -- where one more may arrive there is room for it
   pub any_room : (a : Arrival) → ((c : Content) → IsStudy c t → MayArrive c t.looks.values a) → length t.looks.values < t.count * size_of t
-  any_room a m = ∥∥₁_elim T (less_is_fact _ _) (λ h. subst (λ n. length t.looks.values < t.count * n) h.is_study.size (room_left h.content t.count h.is_study.count t.looks.values a h.is_study.study.values (m h.content h.is_study)))
+  any_room a m = ∥∥₁_elim T (less_is_fact _ _)
+      (λ h. subst (λ n. length t.looks.values < t.count * n) h.is_study.size
+      (room_left h.content t.count h.is_study.count t.looks.values a h.is_study.study.values (m h.content h.is_study)))
 
-  pub any_with : (a : Arrival) (new : StudyContent) → ((c : Content) → IsStudy c t → MayArrive c t.looks.values a) → IsStudyWith t a new → IsSomeStudy new
-  any_with a new m n = ∥∥₁_elim T ∥∥₁_prop (λ h. ∣ record { content = h.content; is_study = study_with h.content t h.is_study a new (m h.content h.is_study) n } ∣₁)
+  pub any_with : (a : Arrival) (new : StudyContent) → ((c : Content) → IsStudy c t → MayArrive c t.looks.values a) → IsStudyWith t a new
+      → IsSomeStudy new
+  any_with a new m n = ∥∥₁_elim T ∥∥₁_prop
+      (λ h. ∣ record { content = h.content; is_study = study_with h.content t h.is_study a new (m h.content h.is_study) n } ∣₁)
 
 -- an arrival that passes the tests may come
-pub may_arrive : (c : Content) (t : StudyContent) → IsStudy c t → (a : Arrival) → a.hypothesis < size_of t → 1 ≤ a.stage → a.stage ≤ t.count → is_some (value_at t.looks.values a.hypothesis a.stage) ≡ false → is_p_value a.p ≡ true → MayArrive c t.looks.values a
+pub may_arrive : (c : Content) (t : StudyContent) → IsStudy c t → (a : Arrival) → a.hypothesis < size_of t → 1 ≤ a.stage → a.stage ≤ t.count
+    → is_some (value_at t.looks.values a.hypothesis a.stage) ≡ false → is_p_value a.p ≡ true → MayArrive c t.looks.values a
 may_arrive c t T a below first last unknown p = record {
   below = subst (λ n. a.hypothesis < n) (sym T.size) below;
   stage = record { first = first; last = subst (λ n. a.stage ≤ n) (sym T.count) last };

@@ -1,5 +1,6 @@
 -- What a study answers, from its parts.
-use Rattle.std.proofs.Common.{◌≡◌, ◌⊎◌, inl, inr, refl, sym, ap, ◌∙◌, subst, ℕ, ◌+◌, List, [], ◌∷◌, ◌++◌, length, Result, Ok, Err}
+use Rattle.std.proofs.Common.{◌≡◌, ◌⊎◌, inl, inr, refl, sym, ap, ◌∙◌, subst, ℕ, ◌+◌, List, [], ◌∷◌, ◌++◌, length, Result, Ok}
+use Rattle.std.proofs.Common.{Err}
 use Rattle.std.specs.Prelude.{IfSome, codes}
 use Rattle.std.specs.List.{flat_map}
 use Rattle.std.specs.declared.option.Option.{Option}
@@ -49,21 +50,26 @@ module _ {A : Type 0} (s : List Look → Stage Refusal A) (looks : List Look) wh
 -- ---- the kept looks
 
 module _ (c : Content) (kept : Option (List Look)) (rose : Type 0) where
-  bad_look_refused : (n : ℕ) (l : Look) (r : Refusal) → IsRegisterFault c kept rose (BadLook n l) → r ≡ record_refusal n → (on_looks kept (opened c)).Refuses r
+  bad_look_refused : (n : ℕ) (l : Look) (r : Refusal) → IsRegisterFault c kept rose (BadLook n l) → r ≡ record_refusal n
+      → (on_looks kept (opened c)).Refuses r
   bad_look_refused n l r h e = refuses_on (opened c) h.0 kept r h.2 (BadLook n l, h.1, e)
 
-  pub bad_look_told : (why : RegisterFault) (n : ℕ) (l : Look) (r : Refusal) → why ≡ BadLook n l → IsRegisterFault c kept rose why → r ≡ record_refusal n → (on_looks kept (opened c)).Refuses r
+  pub bad_look_told : (why : RegisterFault) (n : ℕ) (l : Look) (r : Refusal) → why ≡ BadLook n l → IsRegisterFault c kept rose why
+      → r ≡ record_refusal n → (on_looks kept (opened c)).Refuses r
   bad_look_told why n l r is h e = bad_look_refused n l r (subst (IsRegisterFault c kept rose) is h) e
 
-  wide_opening_told : (looks : Option (List Look)) (n : ℕ) (w : WideAt) (r : Refusal) → (n ≡ 0) × (case_opening c ≡ Err w) → r ≡ wide_refusal c.names (AfterLook n) w → (on_looks looks (opened c)).Refuses r
+  wide_opening_told : (looks : Option (List Look)) (n : ℕ) (w : WideAt) (r : Refusal) → (n ≡ 0) × (case_opening c ≡ Err w)
+      → r ≡ wide_refusal c.names (AfterLook n) w → (on_looks looks (opened c)).Refuses r
   wide_opening_told None n w r h e = ([], (Wide n w, inl h, e))
   wide_opening_told (Some looks) n w r h e = (Wide n w, inl h, e)
 
-  wide_look_refused : (n : ℕ) (w : WideAt) (r : Refusal) → IsRegisterFault c kept rose (Wide n w) → r ≡ wide_refusal c.names (AfterLook n) w → (on_looks kept (opened c)).Refuses r
+  wide_look_refused : (n : ℕ) (w : WideAt) (r : Refusal) → IsRegisterFault c kept rose (Wide n w) → r ≡ wide_refusal c.names (AfterLook n) w
+      → (on_looks kept (opened c)).Refuses r
   wide_look_refused n w r (inl h) e = wide_opening_told kept n w r h e
   wide_look_refused n w r (inr h) e = refuses_on (opened c) h.0 kept r h.2 (Wide n w, inr h.1, e)
 
-  pub wide_look_told : (why : RegisterFault) (n : ℕ) (w : WideAt) (r : Refusal) → why ≡ Wide n w → IsRegisterFault c kept rose why → r ≡ wide_refusal c.names (AfterLook n) w → (on_looks kept (opened c)).Refuses r
+  pub wide_look_told : (why : RegisterFault) (n : ℕ) (w : WideAt) (r : Refusal) → why ≡ Wide n w → IsRegisterFault c kept rose why
+      → r ≡ wide_refusal c.names (AfterLook n) w → (on_looks kept (opened c)).Refuses r
   wide_look_told why n w r is h e = wide_look_refused n w r (subst (IsRegisterFault c kept rose) is h) e
 
 -- nothing failed where kept looks are refused
@@ -73,11 +79,13 @@ clean_by_look P why n l is h = subst (IfLooksRefused P) is h
 pub clean_by_wide : (P : Type 0) (why : RegisterFault) (n : ℕ) (w : WideAt) → why ≡ Wide n w → IfLooksRefused P why → P
 clean_by_wide P why n w is h = subst (IfLooksRefused P) is h
 
-pub rose_by : (c : Content) (kept : Option (List Look)) (rose : Type 0) (why : RegisterFault) → why ≡ Fault → IsRegisterFault c kept rose why → HasOpening c × rose
+pub rose_by : (c : Content) (kept : Option (List Look)) (rose : Type 0) (why : RegisterFault) → why ≡ Fault → IsRegisterFault c kept rose why
+    → HasOpening c × rose
 rose_by c kept rose why is h = subst (IsRegisterFault c kept rose) is h
 
 -- a refusal of the opening is one of the study
-pub opening_refuses : (c : Content) (commands : List StudyCommand) (kept : Option (List Look)) (r : Refusal) → (on_looks kept (opened c)).Refuses r → (on_looks kept (study_stage c commands)).Refuses r
+pub opening_refuses : (c : Content) (commands : List StudyCommand) (kept : Option (List Look)) (r : Refusal) → (on_looks kept (opened c)).Refuses r
+    → (on_looks kept (study_stage c commands)).Refuses r
 unfolding study_stage
 opening_refuses c commands None r h = (h.0, inl h.1)
 opening_refuses c commands (Some looks) r h = inl h
@@ -92,19 +100,23 @@ pub records_counted : (c : Content) (looks : List Look) (s : StudyState) → Are
 records_counted c looks s T = ap length (follows_values c looks start s T.follows) ∙ length_arrivals looks
 
 -- looks that may be kept where a command breaks off or the answer isn't made
-pub taken_may : (c : Content) (xs : List StudyCommand) (n : ℕ) (s : StudyState) (looks : List Look) (place : ℕ) (w : WideAt) → IsFirstBreak c n s xs looks place w → MayTake c n s xs looks
+pub taken_may : (c : Content) (xs : List StudyCommand) (n : ℕ) (s : StudyState) (looks : List Look) (place : ℕ) (w : WideAt)
+    → IsFirstBreak c n s xs looks place w → MayTake c n s xs looks
 taken_may c [] n s looks place w h = absurd h
 taken_may c (x ∷ xs) n s looks place w (inl h) = inl h.0
 taken_may c (x ∷ xs) n s looks place w (inr h) = inr (h.0, h.1, h.2, h.3, h.4, taken_may c xs (n + 1) h.1 h.2 place w h.5)
 
-pub replied_may : (c : Content) (xs : List StudyCommand) (n : ℕ) (s t : StudyState) (rs : List Reply) → AreReplies c n s xs rs t → MayTake c n s xs (looks_taken rs)
+pub replied_may : (c : Content) (xs : List StudyCommand) (n : ℕ) (s t : StudyState) (rs : List Reply) → AreReplies c n s xs rs t
+    → MayTake c n s xs (looks_taken rs)
 replied_may c [] n s t [] h = refl
 replied_may c [] n s t (r ∷ rs) h = absurd h
 replied_may c (x ∷ xs) n s t [] h = absurd h
 replied_may c (x ∷ xs) n s t (r ∷ rs) h = inr (r, h.0, looks_taken rs, h.1, refl, replied_may c xs (n + 1) h.0 t rs h.2)
 
-module _ (c : Content) (commands : List StudyCommand) (looks : List Look) (s : StudyState) (T : AreTaken c looks s) (kept held : Option (List Look)) (told : IfSome kept (λ them. them ≡ looks)) where
-  pub all_given : (n : ℕ) (text written : List ℕ) (t : StudyState) (answer : Answer) → n ≡ length s.values → text ≡ opened_lines c n → AreRepliedTo c s commands kept held text written t → answer ≡ done (written ++ line (codes "end"))
+module _ (c : Content) (commands : List StudyCommand) (looks : List Look) (s : StudyState) (T : AreTaken c looks s) (kept held : Option (List Look))
+    (told : IfSome kept (λ them. them ≡ looks)) where
+  pub all_given : (n : ℕ) (text written : List ℕ) (t : StudyState) (answer : Answer) → n ≡ length s.values → text ≡ opened_lines c n
+      → AreRepliedTo c s commands kept held text written t → answer ≡ done (written ++ line (codes "end"))
       → KeepWith (on_looks kept (study_stage c commands)).Gives kept held answer
   unfolding study_stage study_report
   all_given n text written t answer count e a d = record {
@@ -116,19 +128,22 @@ module _ (c : Content) (commands : List StudyCommand) (looks : List Look) (s : S
         replies = a.replies;
         end = t;
         are = a.are;
-        answer_is = d ∙ ap (λ x. done (x ++ line (codes "end"))) (a.text_is ∙ ap (λ x. x ++ flat_map (reply_lines c) a.replies) (e ∙ ap (opened_lines c) (count ∙ records_counted c looks s T)));
+        answer_is = d ∙ ap (λ x. done (x ++ line (codes "end")))
+            (a.text_is ∙ ap (λ x. x ++ flat_map (reply_lines c) a.replies) (e ∙ ap (opened_lines c) (count ∙ records_counted c looks s T)));
         looks_are = refl;
       }),
     );
     held_is = a.held_is;
   }
 
-  pub break_given : (place : ℕ) (w : WideAt) (answer : Answer) → HoldSome (λ ls. IsFirstBreak c 1 s commands ls place w) kept held → answer ≡ refused (wide_refusal c.names (AfterLook place) w)
+  pub break_given : (place : ℕ) (w : WideAt) (answer : Answer) → HoldSome (λ ls. IsFirstBreak c 1 s commands ls place w) kept held
+      → answer ≡ refused (wide_refusal c.names (AfterLook place) w)
       → KeepWith (on_looks kept (study_stage c commands)).Gives kept held answer
   unfolding study_stage
   break_given place w answer b d = record {
     more = b.more;
-    given = gives_on (study_stage c commands) looks kept (record { answer = answer; looks = b.more }) told (s, T, inr (record { place = place; wide = w; first = b.may; answer_is = d }));
+    given = gives_on (study_stage c commands) looks kept (record { answer = answer; looks = b.more }) told
+        (s, T, inr (record { place = place; wide = w; first = b.may; answer_is = d }));
     held_is = b.held_is;
   }
 
@@ -141,7 +156,8 @@ pub none_kept : (c : Content) (commands : List StudyCommand) (kept held : Option
 none_kept c commands kept held e = record { more = []; may = inl refl; held_is = e ∙ sym (with_none kept) }
 
 -- why kept looks aren't taken, as why the study gives no answer
-pub opening_stops : (c : Content) (commands : List StudyCommand) (kept held : Option (List Look)) (rose : Type 0) (stop : StudyStop) → held ≡ kept → StopsOpening c rose kept stop
+pub opening_stops : (c : Content) (commands : List StudyCommand) (kept held : Option (List Look)) (rose : Type 0) (stop : StudyStop) → held ≡ kept
+    → StopsOpening c rose kept stop
     → StopsStudy (on_looks kept (study_stage c commands)).Refuses ⊥ (HasOpening c × rose) (MayKeep c commands kept) kept held stop
 opening_stops c commands kept held rose (Stopped (Refused r)) e h = (opening_refuses c commands kept r h, e)
 opening_stops c commands kept held rose (Stopped ReadFault) e h = absurd h
@@ -150,21 +166,27 @@ opening_stops c commands kept held rose KeeperFault e h = (h, none_kept c comman
 
 -- ---- behind the opening, which leaves the looks of the keeper
 
-module _ (c : Content) (commands : List StudyCommand) (kept now held : Option (List Look)) (same : now ≡ kept) (s : StudyState) (taken : OnLooks kept (λ looks. AreTaken c looks s)) where
-  pub all_answered : (n : ℕ) (text written : List ℕ) (t : StudyState) (answer : Answer) → n ≡ length s.values → text ≡ opened_lines c n → AreRepliedTo c s commands now held text written t → answer ≡ done (written ++ line (codes "end"))
+module _ (c : Content) (commands : List StudyCommand) (kept now held : Option (List Look)) (same : now ≡ kept) (s : StudyState)
+    (taken : OnLooks kept (λ looks. AreTaken c looks s)) where
+  pub all_answered : (n : ℕ) (text written : List ℕ) (t : StudyState) (answer : Answer) → n ≡ length s.values → text ≡ opened_lines c n
+      → AreRepliedTo c s commands now held text written t → answer ≡ done (written ++ line (codes "end"))
       → KeepWith (on_looks kept (study_stage c commands)).Gives kept held answer
   all_answered n text written t answer count e a d =
-      all_given c commands taken.0 s taken.1 kept held taken.2 n text written t answer count e (subst (λ x. AreRepliedTo c s commands x held text written t) same a) d
+      all_given c commands taken.0 s taken.1 kept held taken.2 n text written t answer count e
+      (subst (λ x. AreRepliedTo c s commands x held text written t) same a) d
 
-  pub break_answered : (place : ℕ) (w : WideAt) (answer : Answer) → HoldSome (λ ls. IsFirstBreak c 1 s commands ls place w) now held → answer ≡ refused (wide_refusal c.names (AfterLook place) w)
+  pub break_answered : (place : ℕ) (w : WideAt) (answer : Answer) → HoldSome (λ ls. IsFirstBreak c 1 s commands ls place w) now held
+      → answer ≡ refused (wide_refusal c.names (AfterLook place) w)
       → KeepWith (on_looks kept (study_stage c commands)).Gives kept held answer
-  break_answered place w answer b d = break_given c commands taken.0 s taken.1 kept held taken.2 place w answer (subst (λ x. HoldSome (λ ls. IsFirstBreak c 1 s commands ls place w) x held) same b) d
+  break_answered place w answer b d = break_given c commands taken.0 s taken.1 kept held taken.2 place w answer
+      (subst (λ x. HoldSome (λ ls. IsFirstBreak c 1 s commands ls place w) x held) same b) d
 
   -- looks may be kept that the commands before some place take
   may_be_kept : HoldSome (MayTake c 1 s commands) now held → HoldSome (MayKeep c commands kept) kept held
   may_be_kept h = some_kept c commands taken.0 s taken.1 kept held taken.2 (subst (λ x. HoldSome (MayTake c 1 s commands) x held) same h)
 
-  pub replied_kept : (text written : List ℕ) (t : StudyState) → AreRepliedTo c s commands now held text written t → HoldSome (MayKeep c commands kept) kept held
+  pub replied_kept : (text written : List ℕ) (t : StudyState) → AreRepliedTo c s commands now held text written t
+      → HoldSome (MayKeep c commands kept) kept held
   replied_kept text written t a = may_be_kept (record { more = looks_taken a.replies; may = replied_may c commands 1 s t a.replies a.are; held_is = a.held_is })
 
   pub stopped_kept : (rose : Type 0) (stop : CommandStop) → StopsCommands c rose 1 s commands now held stop → HoldSome (MayKeep c commands kept) kept held

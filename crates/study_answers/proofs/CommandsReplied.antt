@@ -1,5 +1,6 @@
 -- Commands that are replied to, one behind the other.
-use Rattle.std.proofs.Common.{◌≡◌, ◌+◌, ◌<◌, ◌≤◌, ◌⊎◌, inl, inr, refl, sym, ap, ◌∙◌, subst, ℕ, zero, suc, arith, List, [], ◌∷◌, ◌++◌, length, drop, get_or}
+use Rattle.std.proofs.Common.{◌≡◌, ◌+◌, ◌<◌, ◌≤◌, ◌⊎◌, inl, inr, refl, sym, ap, ◌∙◌, subst, ℕ, zero, suc, arith, List, []}
+use Rattle.std.proofs.Common.{◌∷◌, ◌++◌, length, drop, get_or}
 use Rattle.std.specs.declared.option.Option.{Option}
 use Rattle.std.specs.List.{AllByRecursion, flat_map}
 use Rattle.std.proofs.lemmas.List.{append-nil, append_assoc, drop_more, length-append}
@@ -31,10 +32,12 @@ use Rattle.study_answers.proofs.Looks.{with_none, with_one, with_more}
 
 -- ---- additions
 
-pub added_refused : (c : Content) (s : StudyState) (l : Look) (rose : Type 0) (e : AddFault) (f : StepFault) → e ≡ additions.Refused f → IsAddFault c s l rose e → IsArriveFault c s (arrival_of l) f
+pub added_refused : (c : Content) (s : StudyState) (l : Look) (rose : Type 0) (e : AddFault) (f : StepFault) → e ≡ additions.Refused f
+    → IsAddFault c s l rose e → IsArriveFault c s (arrival_of l) f
 added_refused c s l rose e f h a = subst (IsAddFault c s l rose) h a
 
-pub added_wide : (c : Content) (s : StudyState) (l : Look) (rose : Type 0) (e : AddFault) (w : WideAt) → e ≡ additions.Wide w → IsAddFault c s l rose e → IsWideLook c s (arrival_of l) w
+pub added_wide : (c : Content) (s : StudyState) (l : Look) (rose : Type 0) (e : AddFault) (w : WideAt) → e ≡ additions.Wide w → IsAddFault c s l rose e
+    → IsWideLook c s (arrival_of l) w
 added_wide c s l rose e w h a = subst (IsAddFault c s l rose) h a
 
 pub left_refused : (P : Type 0) (e : AddFault) (f : StepFault) → e ≡ additions.Refused f → IfRefused P e → P
@@ -59,7 +62,8 @@ module _ (c : Content) (old new : StudyState) (l : Look) (T : Takes c old l new)
 -- ---- one command
 
 module _ (c : Content) (n : ℕ) (old : StudyState) (kept : Option (List Look)) where
-  pub taken_written : (l : Look) (held : Option (List Look)) (text written : List ℕ) (new : StudyState) (rs : List Settled) → (T : Takes c old l new) → rs ≡ T.0 → held ≡ with_look kept l → written ≡ text ++ taken_lines c l rs
+  pub taken_written : (l : Look) (held : Option (List Look)) (text written : List ℕ) (new : StudyState) (rs : List Settled) → (T : Takes c old l new)
+      → rs ≡ T.0 → held ≡ with_look kept l → written ≡ text ++ taken_lines c l rs
       → IsRepliedTo c n old (Take l) kept held text written new
   taken_written l held text written new rs T e h w = record {
     reply = taken l T.0;
@@ -68,11 +72,13 @@ module _ (c : Content) (n : ℕ) (old : StudyState) (kept : Option (List Look)) 
     text_is = w ∙ ap (λ xs. text ++ taken_lines c l xs) e;
   }
 
-  pub refused_written : (l : Look) (held : Option (List Look)) (text written : List ℕ) (new : StudyState) (f : StepFault) → IsArriveFault c old (arrival_of l) f → new ≡ old → held ≡ kept → written ≡ text ++ refused_line n f
+  pub refused_written : (l : Look) (held : Option (List Look)) (text written : List ℕ) (new : StudyState) (f : StepFault)
+      → IsArriveFault c old (arrival_of l) f → new ≡ old → held ≡ kept → written ≡ text ++ refused_line n f
       → IsRepliedTo c n old (Take l) kept held text written new
   refused_written l held text written new f r same h w = record { reply = refused n f; is = (refl, r, same); held_is = h ∙ sym (with_none kept); text_is = w }
 
-  pub shown_written : (text written : List ℕ) → written ≡ text ++ shown_line c (length old.values) old.rejected → IsRepliedTo c n old Show kept kept text written old
+  pub shown_written : (text written : List ℕ) → written ≡ text ++ shown_line c (length old.values) old.rejected
+      → IsRepliedTo c n old Show kept kept text written old
   shown_written text written w = record { reply = shown (length old.values) old.rejected; is = (refl, refl, refl); held_is = sym (with_none kept); text_is = w }
 
   -- nothing is taken
@@ -84,10 +90,12 @@ module _ (c : Content) (n : ℕ) (old : StudyState) (kept : Option (List Look)) 
       may_none (x ∷ xs) = inl refl
 
   -- a look is taken, and no reply is written
-  pub holds_one : (l : Look) (held : Option (List Look)) (new : StudyState) → Takes c old l new → held ≡ with_look kept l → HoldSome (MayTake c n old (Take l ∷ [])) kept held
+  pub holds_one : (l : Look) (held : Option (List Look)) (new : StudyState) → Takes c old l new → held ≡ with_look kept l
+      → HoldSome (MayTake c n old (Take l ∷ [])) kept held
   holds_one l held new T h = record { more = l ∷ []; may = inr (taken l T.0, new, [], (refl, T.1), refl, refl); held_is = h ∙ with_one kept l }
 
-  pub stops_wide : (l : Look) (held : Option (List Look)) (rose : Type 0) (place : ℕ) (w : WideAt) → IsWideLook c old (arrival_of l) w → place ≡ length old.values + 1 → held ≡ kept → StopsCommands c rose n old (Take l ∷ []) kept held (Wide place w)
+  pub stops_wide : (l : Look) (held : Option (List Look)) (rose : Type 0) (place : ℕ) (w : WideAt) → IsWideLook c old (arrival_of l) w
+      → place ≡ length old.values + 1 → held ≡ kept → StopsCommands c rose n old (Take l ∷ []) kept held (Wide place w)
   stops_wide l held rose place w b p h = record { more = []; may = inl (refl, (p, b)); held_is = h ∙ sym (with_none kept) }
 
 -- ---- commands that break off
@@ -100,16 +108,19 @@ broken_weaker NoMemory P Q f h = tt
 pub broken_by : (stop : CommandStop) (place : ℕ) (w : WideAt) (P : Type 0) → stop ≡ Wide place w → IfBroken P stop → P
 broken_by stop place w P e h = subst (IfBroken P) e h
 
-pub first_broken : (c : Content) (old : StudyState) (commands : List StudyCommand) (kept held : Option (List Look)) (rose : Type 0) (stop : CommandStop) (place : ℕ) (w : WideAt) → stop ≡ Wide place w
+pub first_broken : (c : Content) (old : StudyState) (commands : List StudyCommand) (kept held : Option (List Look)) (rose : Type 0) (stop : CommandStop)
+    (place : ℕ) (w : WideAt) → stop ≡ Wide place w
     → StopsCommands c rose 1 old commands kept held stop → HoldSome (λ looks. IsFirstBreak c 1 old commands looks place w) kept held
 first_broken c old commands kept held rose stop place w e h = subst (StopsCommands c rose 1 old commands kept held) e h
 
 -- ---- commands one behind the other
 
 -- Of these commands some have been replied to, and the others are left, the first of which has this number.
-pub record AreBehind (c : Content) (old : StudyState) (commands : List StudyCommand) (n : ℕ) (mid : StudyState) (left : List StudyCommand) (replies : List Reply) : Type 0 where
+pub record AreBehind (c : Content) (old : StudyState) (commands : List StudyCommand) (n : ℕ) (mid : StudyState) (left : List StudyCommand)
+    (replies : List Reply) : Type 0 where
   pub replied : (more : List Reply) (new : StudyState) → AreReplies c n mid left more new → AreReplies c 1 old commands (replies ++ more) new
-  pub broken : (looks : List Look) (place : ℕ) (w : WideAt) → IsFirstBreak c n mid left looks place w → IsFirstBreak c 1 old commands (looks_taken replies ++ looks) place w
+  pub broken : (looks : List Look) (place : ℕ) (w : WideAt) → IsFirstBreak c n mid left looks place w
+      → IsFirstBreak c 1 old commands (looks_taken replies ++ looks) place w
   pub may : (looks : List Look) → MayTake c n mid left looks → MayTake c 1 old commands (looks_taken replies ++ looks)
 
 taken_append : (rs qs : List Reply) → looks_taken (rs ++ qs) ≡ looks_taken rs ++ looks_taken qs
@@ -122,22 +133,29 @@ lines_append c rs qs = flat_map-append (reply_lines c) rs qs
 none_behind : (c : Content) (old : StudyState) (commands : List StudyCommand) → AreBehind c old commands 1 old commands []
 none_behind c old commands = record { replied = λ more new h. h; broken = λ looks place w h. h; may = λ looks h. h }
 
-one_behind : (c : Content) (old : StudyState) (commands : List StudyCommand) (n : ℕ) (mid new : StudyState) (left rest : List StudyCommand) (replies : List Reply) (x : StudyCommand) (r : Reply)
-    → left ≡ x ∷ rest → IsReply c n mid x r new → AreBehind c old commands n mid left replies → AreBehind c old commands (n + 1) new rest (replies ++ r ∷ [])
+one_behind : (c : Content) (old : StudyState) (commands : List StudyCommand) (n : ℕ) (mid new : StudyState) (left rest : List StudyCommand)
+    (replies : List Reply) (x : StudyCommand) (r : Reply)
+    → left ≡ x ∷ rest → IsReply c n mid x r new → AreBehind c old commands n mid left replies
+    → AreBehind c old commands (n + 1) new rest (replies ++ r ∷ [])
 one_behind c old commands n mid new left rest replies x r e is b = record {
-  replied = λ more end h. subst (λ rs. AreReplies c 1 old commands rs end) (sym (append_assoc replies (r ∷ []) more)) (b.replied (r ∷ more) end (subst (λ ls. AreReplies c n mid ls (r ∷ more) end) (sym e) (new, is, h)));
+  replied = λ more end h. subst (λ rs. AreReplies c 1 old commands rs end) (sym (append_assoc replies (r ∷ []) more))
+      (b.replied (r ∷ more) end (subst (λ ls. AreReplies c n mid ls (r ∷ more) end) (sym e) (new, is, h)));
   broken = λ looks place w h.
       subst (λ ls. IsFirstBreak c 1 old commands ls place w) (sym (one_more looks))
-      (b.broken (taken_in r ++ looks) place w (subst (λ ls. IsFirstBreak c n mid ls (taken_in r ++ looks) place w) (sym e) (inr (r, new, looks, is, refl, h))));
+      (b.broken (taken_in r ++ looks) place w
+      (subst (λ ls. IsFirstBreak c n mid ls (taken_in r ++ looks) place w) (sym e) (inr (r, new, looks, is, refl, h))));
   may = λ looks h.
-      subst (MayTake c 1 old commands) (sym (one_more looks)) (b.may (taken_in r ++ looks) (subst (λ ls. MayTake c n mid ls (taken_in r ++ looks)) (sym e) (inr (r, new, looks, is, refl, h))));
+      subst (MayTake c 1 old commands) (sym (one_more looks))
+      (b.may (taken_in r ++ looks) (subst (λ ls. MayTake c n mid ls (taken_in r ++ looks)) (sym e) (inr (r, new, looks, is, refl, h))));
 }
   where
     one_more : (looks : List Look) → looks_taken (replies ++ r ∷ []) ++ looks ≡ looks_taken replies ++ (taken_in r ++ looks)
-    one_more looks = ap (λ ls. ls ++ looks) (taken_append replies (r ∷ []) ∙ ap (λ ls. looks_taken replies ++ ls) (append-nil (taken_in r))) ∙ append_assoc (looks_taken replies) (taken_in r) looks
+    one_more looks = ap (λ ls. ls ++ looks) (taken_append replies (r ∷ []) ∙ ap (λ ls. looks_taken replies ++ ls) (append-nil (taken_in r)))
+        ∙ append_assoc (looks_taken replies) (taken_in r) looks
 
 -- So far commands have been replied to: the replies are written, and the looks that were taken are kept besides.
-pub record AreSoFar (c : Content) (old : StudyState) (commands : List StudyCommand) (n : ℕ) (mid : StudyState) (left : List StudyCommand) (kept held : Option (List Look)) (text written : List ℕ) : Type 0 where
+pub record AreSoFar (c : Content) (old : StudyState) (commands : List StudyCommand) (n : ℕ) (mid : StudyState) (left : List StudyCommand)
+    (kept held : Option (List Look)) (text written : List ℕ) : Type 0 where
   pub replies : List Reply
   pub behind : AreBehind c old commands n mid left replies
   pub held_is : held ≡ with_looks kept (looks_taken replies)
@@ -148,41 +166,50 @@ module _ (c : Content) (old : StudyState) (commands : List StudyCommand) (kept :
   begun = record { replies = []; behind = none_behind c old commands; held_is = sym (with_none kept); text_is = sym (append-nil text) }
 
   pub one_more : (n : ℕ) (mid new : StudyState) (left rest : List StudyCommand) (x : StudyCommand) (held then : Option (List Look)) (written next : List ℕ)
-      → left ≡ x ∷ rest → IsRepliedTo c n mid x held then written next new → AreSoFar c old commands n mid left kept held text written → AreSoFar c old commands (n + 1) new rest kept then text next
+      → left ≡ x ∷ rest → IsRepliedTo c n mid x held then written next new → AreSoFar c old commands n mid left kept held text written
+      → AreSoFar c old commands (n + 1) new rest kept then text next
   one_more n mid new left rest x held then written next e r s = record {
     replies = s.replies ++ r.reply ∷ [];
     behind = one_behind c old commands n mid new left rest s.replies x r.reply e r.is s.behind;
     held_is = r.held_is ∙ ap (λ k. with_looks k (taken_in r.reply)) s.held_is ∙ with_more kept (looks_taken s.replies) (taken_in r.reply)
         ∙ ap (with_looks kept) (sym (taken_append s.replies (r.reply ∷ []) ∙ ap (λ ls. looks_taken s.replies ++ ls) (append-nil (taken_in r.reply))));
     text_is = r.text_is ∙ ap (λ t. t ++ reply_lines c r.reply) s.text_is ∙ append_assoc text (flat_map (reply_lines c) s.replies) (reply_lines c r.reply)
-        ∙ ap (λ t. text ++ t) (sym (lines_append c s.replies (r.reply ∷ []) ∙ ap (λ t. flat_map (reply_lines c) s.replies ++ t) (append-nil (reply_lines c r.reply))));
+        ∙ ap (λ t. text ++ t) (sym
+        (lines_append c s.replies (r.reply ∷ []) ∙ ap (λ t. flat_map (reply_lines c) s.replies ++ t) (append-nil (reply_lines c r.reply))));
   }
 
-  pub all_replied : (n : ℕ) (mid : StudyState) (left : List StudyCommand) (held : Option (List Look)) (written : List ℕ) → left ≡ [] → AreSoFar c old commands n mid left kept held text written
+  pub all_replied : (n : ℕ) (mid : StudyState) (left : List StudyCommand) (held : Option (List Look)) (written : List ℕ) → left ≡ []
+      → AreSoFar c old commands n mid left kept held text written
       → AreRepliedTo c old commands kept held text written mid
   all_replied n mid left held written e s = record {
     replies = s.replies;
-    are = subst (λ rs. AreReplies c 1 old commands rs mid) (append-nil s.replies) (s.behind.replied [] mid (subst (λ ls. AreReplies c n mid ls [] mid) (sym e) refl));
+    are = subst (λ rs. AreReplies c 1 old commands rs mid) (append-nil s.replies)
+        (s.behind.replied [] mid (subst (λ ls. AreReplies c n mid ls [] mid) (sym e) refl));
     held_is = s.held_is;
     text_is = s.text_is;
   }
 
-  held_on : (n : ℕ) (mid : StudyState) (left : List StudyCommand) (held then : Option (List Look)) (written : List ℕ) (s : AreSoFar c old commands n mid left kept held text written) (more : List Look)
+  held_on : (n : ℕ) (mid : StudyState) (left : List StudyCommand) (held then : Option (List Look)) (written : List ℕ)
+      (s : AreSoFar c old commands n mid left kept held text written) (more : List Look)
       → then ≡ with_looks held more → then ≡ with_looks kept (looks_taken s.replies ++ more)
   held_on n mid left held then written s more h = h ∙ ap (λ k. with_looks k more) s.held_is ∙ with_more kept (looks_taken s.replies) more
 
   -- what may be taken by one command may be so by more
-  may_more : (n : ℕ) (mid : StudyState) (x : StudyCommand) (rest : List StudyCommand) (looks : List Look) → MayTake c n mid (x ∷ []) looks → MayTake c n mid (x ∷ rest) looks
+  may_more : (n : ℕ) (mid : StudyState) (x : StudyCommand) (rest : List StudyCommand) (looks : List Look) → MayTake c n mid (x ∷ []) looks
+      → MayTake c n mid (x ∷ rest) looks
   may_more n mid x rest looks (inl h) = inl h
   may_more n mid x [] looks (inr h) = inr h
   may_more n mid x (y ∷ rest) looks (inr h) = inr (h.0, h.1, h.2, h.3, h.4, inl h.5)
 
-  break_more : (n : ℕ) (mid : StudyState) (x : StudyCommand) (rest : List StudyCommand) (looks : List Look) (place : ℕ) (w : WideAt) → IsFirstBreak c n mid (x ∷ []) looks place w → IsFirstBreak c n mid (x ∷ rest) looks place w
+  break_more : (n : ℕ) (mid : StudyState) (x : StudyCommand) (rest : List StudyCommand) (looks : List Look) (place : ℕ) (w : WideAt)
+      → IsFirstBreak c n mid (x ∷ []) looks place w → IsFirstBreak c n mid (x ∷ rest) looks place w
   break_more n mid x rest looks place w (inl h) = inl h
   break_more n mid x rest looks place w (inr h) = absurd h.5
 
-  pub stops_on : (rose : Type 0) (n : ℕ) (mid : StudyState) (left rest : List StudyCommand) (x : StudyCommand) (held then : Option (List Look)) (written : List ℕ) (stop : CommandStop)
-      → left ≡ x ∷ rest → AreSoFar c old commands n mid left kept held text written → StopsCommands c rose n mid (x ∷ []) held then stop → StopsCommands c rose 1 old commands kept then stop
+  pub stops_on : (rose : Type 0) (n : ℕ) (mid : StudyState) (left rest : List StudyCommand) (x : StudyCommand) (held then : Option (List Look))
+      (written : List ℕ) (stop : CommandStop)
+      → left ≡ x ∷ rest → AreSoFar c old commands n mid left kept held text written → StopsCommands c rose n mid (x ∷ []) held then stop
+      → StopsCommands c rose 1 old commands kept then stop
   stops_on rose n mid left rest x held then written (Wide place w) e s h = record {
     more = looks_taken s.replies ++ h.more;
     may = s.behind.broken h.more place w (subst (λ ls. IsFirstBreak c n mid ls h.more place w) (sym e) (break_more n mid x rest h.more place w h.may));
@@ -207,7 +234,8 @@ module _ (c : Content) (old : StudyState) (commands : List StudyCommand) (kept :
 pub next_command : (xs : List StudyCommand) (i : ℕ) (x : StudyCommand) → i < length xs → x ≡ get_or xs i x → drop i xs ≡ x ∷ drop (i + 1) xs
 next_command xs i x h e = drop_more xs i x h ∙ ap (λ y. y ∷ drop (i + 1) xs) (sym e)
 
-pub below_at : (size : ℕ) (xs : List StudyCommand) (i : ℕ) (x : StudyCommand) → AllByRecursion (IsBelow size) xs → i < length xs → x ≡ get_or xs i x → IsBelow size x
+pub below_at : (size : ℕ) (xs : List StudyCommand) (i : ℕ) (x : StudyCommand) → AllByRecursion (IsBelow size) xs → i < length xs → x ≡ get_or xs i x
+    → IsBelow size x
 below_at size [] i x all h e = absurd (omega arith)
 below_at size (y ∷ ys) zero x all h e = subst (IsBelow size) (sym e) all.0
 below_at size (y ∷ ys) (suc i) x all h e = below_at size ys i x all.1 (omega (arith, h)) e

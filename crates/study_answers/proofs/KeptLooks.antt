@@ -31,15 +31,18 @@ module _ (c : Content) where
   one_follows n s Show (refused k f) t h = absurd h
   one_follows n s Show (shown k rs) t h = h.2
 
-  replies_follow : (xs : List StudyCommand) (n : ℕ) (s : StudyState) (rs : List Reply) (t : StudyState) → AreReplies c n s xs rs t → Follows c s (looks_taken rs) t
+  replies_follow : (xs : List StudyCommand) (n : ℕ) (s : StudyState) (rs : List Reply) (t : StudyState) → AreReplies c n s xs rs t
+      → Follows c s (looks_taken rs) t
   replies_follow [] n s [] t h = h
   replies_follow [] n s (r ∷ rs) t h = absurd h
   replies_follow (x ∷ xs) n s [] t h = absurd h
-  replies_follow (x ∷ xs) n s (r ∷ rs) t h = follows_on c (taken_in r) (looks_taken rs) s h.0 t (one_follows n s x r h.0 h.1) (replies_follow xs (n + 1) h.0 rs t h.2)
+  replies_follow (x ∷ xs) n s (r ∷ rs) t h = follows_on c (taken_in r) (looks_taken rs) s h.0 t (one_follows n s x r h.0 h.1)
+      (replies_follow xs (n + 1) h.0 rs t h.2)
 
 pub replies_decide : RepliesDecide
 replies_decide c commands looks replies s t V T h =
-    let all : AreTaken c (looks ++ looks_taken replies) t = record { opened = T.opened; follows = follows_on c looks (looks_taken replies) start s t T.follows (replies_follow c commands 1 s replies t h) } in
+    let all : AreTaken c (looks ++ looks_taken replies) t =
+    record { opened = T.opened; follows = follows_on c looks (looks_taken replies) start s t T.follows (replies_follow c commands 1 s replies t h) } in
     record {
       taken = all;
       named = λ j. taken_looks_decide c (looks ++ looks_taken replies) t j V all;
@@ -50,29 +53,38 @@ pub kept_looks_decide : KeptLooksDecide
 unfolding study_stage
 kept_looks_decide c commands looks e V h d = elim (h.2) [
   | inl a ↦ (a.end, subst (λ ls. DecidesOn c (looks ++ ls) a.end) (sym a.looks_are) (replies_decide c commands looks a.replies h.0 a.end V h.1 a.are))
-  | inr b ↦ absurd (let r = wide_refusal c.names (AfterLook b.place) b.wide in let k : Refused r.cause ≡ Done = sym (ap (λ x. x.status) b.answer_is) ∙ d in cc)
+  | inr b ↦ absurd (let r = wide_refusal c.names (AfterLook b.place) b.wide in let k : Refused r.cause ≡ Done = sym (ap (λ x. x.status) b.answer_is)
+      ∙ d in cc)
 ]
 
 -- ---- the looks that are kept where commands break off
 
 module _ (c : Content) where
-  first_of_replies : (xs : List StudyCommand) (n : ℕ) (s : StudyState) (some : List Look) (rs : List Reply) (t : StudyState) → MayTake c n s xs some → AreReplies c n s xs rs t → (more : List Look) × (looks_taken rs ≡ some ++ more)
+  first_of_replies : (xs : List StudyCommand) (n : ℕ) (s : StudyState) (some : List Look) (rs : List Reply) (t : StudyState) → MayTake c n s xs some
+      → AreReplies c n s xs rs t → (more : List Look) × (looks_taken rs ≡ some ++ more)
   first_of_replies [] n s some rs t m h = (looks_taken rs, ap (λ ls. ls ++ looks_taken rs) (sym m))
   first_of_replies (x ∷ xs) n s some rs t (inl m) h = (looks_taken rs, ap (λ ls. ls ++ looks_taken rs) (sym m))
   first_of_replies (x ∷ xs) n s some [] t (inr m) h = absurd h
   first_of_replies (x ∷ xs) n s some (r ∷ rs) t (inr m) h =
       let one = one_reply c n s x m.0 r m.1 h.0 m.3 h.1 in
-      let rest = first_of_replies xs (n + 1) h.0 m.2 rs t (subst (λ u. MayTake c (n + 1) u xs m.2) one.1 m.5) h.2 in
-      (rest.0, ap (λ ls. taken_in r ++ ls) rest.1 ∙ sym (append_assoc (taken_in r) m.2 rest.0) ∙ ap (λ ls. ls ++ rest.0) (ap (λ q. taken_in q ++ m.2) (sym one.0) ∙ sym m.4))
+      let rest = first_of_replies xs (n + 1) h.0 m.2 rs t (subst (λ u. MayTake c (n + 1) u xs m.2) one.1 m.5) h.2 in (
+        rest.0,
+        ap (λ ls. taken_in r ++ ls) rest.1 ∙ sym (append_assoc (taken_in r) m.2 rest.0)
+            ∙ ap (λ ls. ls ++ rest.0) (ap (λ q. taken_in q ++ m.2) (sym one.0) ∙ sym m.4),
+      )
 
-  first_of_break : (xs : List StudyCommand) (n : ℕ) (s : StudyState) (some all : List Look) (place : ℕ) (w : WideAt) → MayTake c n s xs some → IsFirstBreak c n s xs all place w → (more : List Look) × (all ≡ some ++ more)
+  first_of_break : (xs : List StudyCommand) (n : ℕ) (s : StudyState) (some all : List Look) (place : ℕ) (w : WideAt) → MayTake c n s xs some
+      → IsFirstBreak c n s xs all place w → (more : List Look) × (all ≡ some ++ more)
   first_of_break [] n s some all place w m h = absurd h
   first_of_break (x ∷ xs) n s some all place w (inl m) h = (all, ap (λ ls. ls ++ all) (sym m))
   first_of_break (x ∷ xs) n s some all place w (inr m) (inl h) = absurd (replied_not_broken c n s x m.0 m.1 place w m.3 h.1)
   first_of_break (x ∷ xs) n s some all place w (inr m) (inr h) =
       let one = one_reply c n s x m.0 h.0 m.1 h.1 m.3 h.3 in
-      let rest = first_of_break xs (n + 1) h.1 m.2 h.2 place w (subst (λ u. MayTake c (n + 1) u xs m.2) one.1 m.5) h.5 in
-      (rest.0, h.4 ∙ ap (λ ls. taken_in h.0 ++ ls) rest.1 ∙ sym (append_assoc (taken_in h.0) m.2 rest.0) ∙ ap (λ ls. ls ++ rest.0) (ap (λ q. taken_in q ++ m.2) (sym one.0) ∙ sym m.4))
+      let rest = first_of_break xs (n + 1) h.1 m.2 h.2 place w (subst (λ u. MayTake c (n + 1) u xs m.2) one.1 m.5) h.5 in (
+        rest.0,
+        h.4 ∙ ap (λ ls. taken_in h.0 ++ ls) rest.1 ∙ sym (append_assoc (taken_in h.0) m.2 rest.0)
+            ∙ ap (λ ls. ls ++ rest.0) (ap (λ q. taken_in q ++ m.2) (sym one.0) ∙ sym m.4),
+      )
 
 pub taken_looks_are_first : TakenLooksAreFirst
 taken_looks_are_first c commands s some all m h = elim h [

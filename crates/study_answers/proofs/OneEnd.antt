@@ -25,14 +25,16 @@ use Rattle.study_answers.specs.StudyStatements.{StudiesHaveOneEnd}
 module _ (c : Content) where
   -- ---- one command
 
-  pub one_reply : (n : ℕ) (s : StudyState) (x : StudyCommand) (r q : Reply) (t u : StudyState) → IsReply c n s x r t → IsReply c n s x q u → (r ≡ q) × (t ≡ u)
+  pub one_reply : (n : ℕ) (s : StudyState) (x : StudyCommand) (r q : Reply) (t u : StudyState) → IsReply c n s x r t → IsReply c n s x q u → (r ≡ q)
+      × (t ≡ u)
   one_reply n s (Take l) (taken m added) (taken k more) t u h g =
       let same = look_unique c s t u (arrival_of l) added more h.1 g.1 in
       (ap₂ taken (h.0 ∙ sym g.0) same.1, same.0)
   one_reply n s (Take l) (taken m added) (refusing k f) t u h g = absurd ((looks_have_one_end c s l).not_refused t f (added, h.1) g.1)
   one_reply n s (Take l) (taken m added) (shown k rs) t u h g = absurd g
   one_reply n s (Take l) (refusing k f) (taken m added) t u h g = absurd ((looks_have_one_end c s l).not_refused u f (added, g.1) h.1)
-  one_reply n s (Take l) (refusing k f) (refusing i e) t u h g = (ap₂ refusing (h.0 ∙ sym g.0) ((looks_have_one_end c s l).refusal f e h.1 g.1), h.2 ∙ sym g.2)
+  one_reply n s (Take l) (refusing k f) (refusing i e) t u h g =
+      (ap₂ refusing (h.0 ∙ sym g.0) ((looks_have_one_end c s l).refusal f e h.1 g.1), h.2 ∙ sym g.2)
   one_reply n s (Take l) (refusing k f) (shown i rs) t u h g = absurd g
   one_reply n s (Take l) (shown k rs) q t u h g = absurd h
   one_reply n s Show (taken m added) q t u h g = absurd h
@@ -41,7 +43,8 @@ module _ (c : Content) where
   one_reply n s Show (shown k rs) (refusing i f) t u h g = absurd g
   one_reply n s Show (shown k rs) (shown i qs) t u h g = (ap₂ shown (h.0 ∙ sym g.0) (h.1 ∙ sym g.1), h.2 ∙ sym g.2)
 
-  pub replied_not_broken : (n : ℕ) (s : StudyState) (x : StudyCommand) (r : Reply) (t : StudyState) (place : ℕ) (w : WideAt) → IsReply c n s x r t → ¬ IsBreak c s x place w
+  pub replied_not_broken : (n : ℕ) (s : StudyState) (x : StudyCommand) (r : Reply) (t : StudyState) (place : ℕ) (w : WideAt) → IsReply c n s x r t
+      → ¬ IsBreak c s x place w
   replied_not_broken n s (Take l) (taken m added) t place w h b = (looks_have_one_end c s l).not_broken t w (added, h.1) b.1
   replied_not_broken n s (Take l) (refusing k f) t place w h b = (looks_have_one_end c s l).not_both f w h.1 b.1
   replied_not_broken n s (Take l) (shown k rs) t place w h b = h
@@ -53,7 +56,8 @@ module _ (c : Content) where
 
   -- ---- commands
 
-  pub replies_unique : (xs : List StudyCommand) (n : ℕ) (s : StudyState) (rs qs : List Reply) (t u : StudyState) → AreReplies c n s xs rs t → AreReplies c n s xs qs u → (rs ≡ qs) × (t ≡ u)
+  pub replies_unique : (xs : List StudyCommand) (n : ℕ) (s : StudyState) (rs qs : List Reply) (t u : StudyState) → AreReplies c n s xs rs t
+      → AreReplies c n s xs qs u → (rs ≡ qs) × (t ≡ u)
   replies_unique [] n s [] [] t u h g = (refl, h ∙ sym g)
   replies_unique [] n s [] (q ∷ qs) t u h g = absurd g
   replies_unique [] n s (r ∷ rs) qs t u h g = absurd h
@@ -64,7 +68,8 @@ module _ (c : Content) where
       let rest = replies_unique xs (n + 1) g.0 rs qs t u (subst (λ m. AreReplies c (n + 1) m xs rs t) one.1 h.2) g.2 in
       (ap₂ (λ y ys. y ∷ ys) one.0 rest.0, rest.1)
 
-  replies_not_broken : (xs : List StudyCommand) (n : ℕ) (s : StudyState) (rs : List Reply) (t : StudyState) (looks : List Look) (place : ℕ) (w : WideAt) → AreReplies c n s xs rs t → ¬ IsFirstBreak c n s xs looks place w
+  replies_not_broken : (xs : List StudyCommand) (n : ℕ) (s : StudyState) (rs : List Reply) (t : StudyState) (looks : List Look) (place : ℕ) (w : WideAt)
+      → AreReplies c n s xs rs t → ¬ IsFirstBreak c n s xs looks place w
   replies_not_broken [] n s rs t looks place w h b = b
   replies_not_broken (x ∷ xs) n s [] t looks place w h b = h
   replies_not_broken (x ∷ xs) n s (r ∷ rs) t looks place w h (inl b) = replied_not_broken n s x r h.0 place w h.1 b.1
@@ -72,7 +77,8 @@ module _ (c : Content) where
       let one = one_reply n s x r b.0 h.0 b.1 h.1 b.3 in
       replies_not_broken xs (n + 1) b.1 rs t b.2 place w (subst (λ m. AreReplies c (n + 1) m xs rs t) one.1 h.2) b.5
 
-  breaks_unique : (xs : List StudyCommand) (n : ℕ) (s : StudyState) (ls ms : List Look) (i j : ℕ) (v w : WideAt) → IsFirstBreak c n s xs ls i v → IsFirstBreak c n s xs ms j w → (ls ≡ ms) × (i ≡ j) × (v ≡ w)
+  breaks_unique : (xs : List StudyCommand) (n : ℕ) (s : StudyState) (ls ms : List Look) (i j : ℕ) (v w : WideAt) → IsFirstBreak c n s xs ls i v
+      → IsFirstBreak c n s xs ms j w → (ls ≡ ms) × (i ≡ j) × (v ≡ w)
   breaks_unique [] n s ls ms i j v w h g = absurd h
   breaks_unique (x ∷ xs) n s ls ms i j v w (inl h) (inl g) = let one = one_break s x i j v w h.1 g.1 in (h.0 ∙ sym g.0, one.0, one.1)
   breaks_unique (x ∷ xs) n s ls ms i j v w (inl h) (inr g) = absurd (replied_not_broken n s x g.0 g.1 i v g.3 h.1)
@@ -87,10 +93,12 @@ module _ (c : Content) where
   end_by : (e f : StudyEnd) → e.answer ≡ f.answer → e.looks ≡ f.looks → e ≡ f
   end_by e f p q = λ i. record { answer = p i; looks = q i }
 
-  one_end : (records : ℕ) (xs : List StudyCommand) (s : StudyState) (e f : StudyEnd) → AreAllAnswered c records xs s e ⊎ IsBrokenOff c xs s e → AreAllAnswered c records xs s f ⊎ IsBrokenOff c xs s f → e ≡ f
+  one_end : (records : ℕ) (xs : List StudyCommand) (s : StudyState) (e f : StudyEnd) → AreAllAnswered c records xs s e ⊎ IsBrokenOff c xs s e
+      → AreAllAnswered c records xs s f ⊎ IsBrokenOff c xs s f → e ≡ f
   one_end records xs s e f (inl h) (inl g) =
       let same = (replies_unique xs 1 s h.replies g.replies h.end g.end h.are g.are).0 in
-      end_by e f (h.answer_is ∙ ap (λ rs. done (study_report c records rs)) same ∙ sym g.answer_is) (h.looks_are ∙ ap looks_taken same ∙ sym g.looks_are)
+      end_by e f (h.answer_is ∙ ap (λ rs. done (study_report c records rs)) same ∙ sym g.answer_is)
+      (h.looks_are ∙ ap looks_taken same ∙ sym g.looks_are)
   one_end records xs s e f (inl h) (inr g) = absurd (replies_not_broken xs 1 s h.replies h.end f.looks g.place g.wide h.are g.first)
   one_end records xs s e f (inr h) (inl g) = absurd (replies_not_broken xs 1 s g.replies g.end e.looks h.place h.wide g.are h.first)
   one_end records xs s e f (inr h) (inr g) =
@@ -143,4 +151,5 @@ module _ (c : Content) where
 
 pub studies_have_one_end : StudiesHaveOneEnd
 unfolding study_stage
-studies_have_one_end c commands looks = then_decided (opened c looks) (answering c (length looks) commands) (opened_decided c looks) (λ s. answering_decided c (length looks) commands s)
+studies_have_one_end c commands looks = then_decided (opened c looks) (answering c (length looks) commands) (opened_decided c looks)
+    (λ s. answering_decided c (length looks) commands s)

@@ -34,7 +34,8 @@ status_low statuses.Done = omega arith
 status_low statuses.No = omega arith
 status_low (statuses.Refused c) = (cause_low c).0
 
-module _ (Outcome : Answer → List Look → Type 0) (May : List Look → Type 0) (rr kr wr clean ws : Type 0) (old new : Option (List ℕ)) (kept held : Option (List Look)) (result : ℕ) where
+module _ (Outcome : Answer → List Look → Type 0) (May : List Look → Type 0) (rr kr wr clean ws : Type 0) (old new : Option (List ℕ))
+    (kept held : Option (List Look)) (result : ℕ) where
   -- what the sink holds where it had a fault
   abbrev Partial : Type 0
   Partial =
@@ -58,7 +59,8 @@ module _ (Outcome : Answer → List Look → Type 0) (May : List Look → Type 0
   }
 
   -- an answer was put, or the sink had a fault
-  study_done : (a : Answer) (more : List Look) → Outcome a more → held ≡ with_looks kept more → (ws → clean) → Finished wr ws old new a.text (status_code a.status) result → RunsStudy Outcome May rr kr wr clean old new kept held result
+  study_done : (a : Answer) (more : List Look) → Outcome a more → held ≡ with_looks kept more → (ws → clean)
+      → Finished wr ws old new a.text (status_code a.status) result → RunsStudy Outcome May rr kr wr clean old new kept held result
   study_done a more is k r f =
       let low = status_low a.status in
       elim f [
@@ -131,21 +133,32 @@ module _ (Outcome : Answer → List Look → Type 0) (May : List Look → Type 0
       ]
 
 -- The whole clause of a top call over a keeper that computes an outcome and concludes.
-pub runs_of_study : (s : Stage Refusal StudyEnd) (May : List Look → Type 0) (rr kr wr rs ws : Type 0) (old new : Option (List ℕ)) (kept held : Option (List Look)) (result : ℕ) (outcome : Result Answer StudyStop)
-    → IfOk outcome (KeepWith s.Gives kept held) → IfErr outcome (StopsStudy s.Refuses rr kr May kept held) → IfAnswered outcome rs → IsConcluded wr ws old new outcome result
+pub runs_of_study : (s : Stage Refusal StudyEnd) (May : List Look → Type 0) (rr kr wr rs ws : Type 0) (old new : Option (List ℕ))
+    (kept held : Option (List Look)) (result : ℕ) (outcome : Result Answer StudyStop)
+    → IfOk outcome (KeepWith s.Gives kept held) → IfErr outcome (StopsStudy s.Refuses rr kr May kept held) → IfAnswered outcome rs
+    → IsConcluded wr ws old new outcome result
     → RunsStudy (IsEndOf s) May rr kr wr (rs × ws) old new kept held result
 runs_of_study s May rr kr wr rs ws old new kept held result (Ok a) given stopped r f =
     study_done (IsEndOf s) May rr kr wr (rs × ws) ws old new kept held result a given.more (inl given.given) given.held_is (λ w. (r, w)) f
 runs_of_study s May rr kr wr rs ws old new kept held result (Err (Stopped (Refused q))) given stopped r f =
-    study_done (IsEndOf s) May rr kr wr (rs × ws) ws old new kept held result (refused q) [] (inr (q, stopped.0, refl, refl)) (stopped.1 ∙ sym (with_none kept)) (λ w. (r, w)) f
-runs_of_study s May rr kr wr rs ws old new kept held result (Err (Stopped ReadFault)) given stopped r f = study_read (IsEndOf s) May rr kr wr (rs × ws) ws old new kept held result stopped.0 stopped.1 f
-runs_of_study s May rr kr wr rs ws old new kept held result (Err (Stopped NoMemory)) given stopped r f = study_memory (IsEndOf s) May rr kr wr (rs × ws) ws old new kept held result stopped f
-runs_of_study s May rr kr wr rs ws old new kept held result (Err KeeperFault) given stopped r f = study_kept (IsEndOf s) May rr kr wr (rs × ws) ws old new kept held result stopped.0 stopped.1 f
+    study_done (IsEndOf s) May rr kr wr (rs × ws) ws old new kept held result (refused q) [] (inr (q, stopped.0, refl, refl))
+    (stopped.1 ∙ sym (with_none kept)) (λ w. (r, w)) f
+runs_of_study s May rr kr wr rs ws old new kept held result (Err (Stopped ReadFault)) given stopped r f =
+    study_read (IsEndOf s) May rr kr wr (rs × ws) ws old new kept held result stopped.0 stopped.1 f
+runs_of_study s May rr kr wr rs ws old new kept held result (Err (Stopped NoMemory)) given stopped r f =
+    study_memory (IsEndOf s) May rr kr wr (rs × ws) ws old new kept held result stopped f
+runs_of_study s May rr kr wr rs ws old new kept held result (Err KeeperFault) given stopped r f =
+    study_kept (IsEndOf s) May rr kr wr (rs × ws) ws old new kept held result stopped.0 stopped.1 f
 
 -- the status 0 comes only with an answer
-pub study_done_by : (wr ws : Type 0) (old new : Option (List ℕ)) (outcome : Result Answer StudyStop) (result : ℕ) (P : Type 0) → OnOk outcome P → IsConcluded wr ws old new outcome result → result ≡ 0 → P
+pub study_done_by : (wr ws : Type 0) (old new : Option (List ℕ)) (outcome : Result Answer StudyStop) (result : ℕ) (P : Type 0) → OnOk outcome P
+    → IsConcluded wr ws old new outcome result → result ≡ 0 → P
 study_done_by wr ws old new (Ok a) result P p f z = p
-study_done_by wr ws old new (Err (Stopped (Refused r))) result P p f z = let low = cause_low r.cause in elim f [ inl x ↦ let e = x.0 in absurd (omega arith) | inr x ↦ let e = x.0 in absurd (omega arith) ]
-study_done_by wr ws old new (Err (Stopped ReadFault)) result P p f z = elim f [ inl x ↦ let e = x.0 in absurd (omega arith) | inr x ↦ let e = x.0 in absurd (omega arith) ]
-study_done_by wr ws old new (Err (Stopped NoMemory)) result P p f z = elim f [ inl x ↦ let e = x.0 in absurd (omega arith) | inr x ↦ let e = x.0 in absurd (omega arith) ]
-study_done_by wr ws old new (Err KeeperFault) result P p f z = elim f [ inl x ↦ let e = x.0 in absurd (omega arith) | inr x ↦ let e = x.0 in absurd (omega arith) ]
+study_done_by wr ws old new (Err (Stopped (Refused r))) result P p f z = let low =
+    cause_low r.cause in elim f [ inl x ↦ let e = x.0 in absurd (omega arith) | inr x ↦ let e = x.0 in absurd (omega arith) ]
+study_done_by wr ws old new (Err (Stopped ReadFault)) result P p f z =
+    elim f [ inl x ↦ let e = x.0 in absurd (omega arith) | inr x ↦ let e = x.0 in absurd (omega arith) ]
+study_done_by wr ws old new (Err (Stopped NoMemory)) result P p f z =
+    elim f [ inl x ↦ let e = x.0 in absurd (omega arith) | inr x ↦ let e = x.0 in absurd (omega arith) ]
+study_done_by wr ws old new (Err KeeperFault) result P p f z =
+    elim f [ inl x ↦ let e = x.0 in absurd (omega arith) | inr x ↦ let e = x.0 in absurd (omega arith) ]

@@ -12,7 +12,8 @@ use Rattle.staged_levels.specs.StudyAnswers.{IsStaged}
 use Rattle.study_cli.specs.StudyOutcome.{study_needs, case_of, IsStudied, ReadRose}
 
 -- a source that is read had a fault
-pub rose_by : (words : List (List ℕ)) (case : Option (List ℕ)) (asked : StudyAsked) (P Q : Type 0) → AskStudy words asked → P ⊎ (IsStudied asked case × Q) → ReadRose words case P Q
+pub rose_by : (words : List (List ℕ)) (case : Option (List ℕ)) (asked : StudyAsked) (P Q : Type 0) → AskStudy words asked → P
+    ⊎ (IsStudied asked case × Q) → ReadRose words case P Q
 rose_by words case asked P Q asks (inl p) = inl ((asked, asks), p)
 rose_by words case asked P Q asks (inr q) = inr ((asked, asks, q.0), q.1)
 

@@ -1,5 +1,6 @@
 -- The value of the option of the file of the looks.
-use Rattle.std.proofs.Common.{◌≡◌, ◌≢◌, ◌⊎◌, ◌+◌, ◌<◌, ◌≤◌, inl, inr, refl, sym, ap, ◌∙◌, subst, ℕ, suc, arith, List, [], ◌∷◌, ◌++◌, length, drop, map, slice_index_or, Bor}
+use Rattle.std.proofs.Common.{◌≡◌, ◌≢◌, ◌⊎◌, ◌+◌, ◌<◌, ◌≤◌, inl, inr, refl, sym, ap, ◌∙◌, subst, ℕ, suc, arith, List}
+use Rattle.std.proofs.Common.{[], ◌∷◌, ◌++◌, length, drop, map, slice_index_or, Bor}
 use Rattle.std.specs.Prelude.{IfSome, codes}
 use Rattle.std.specs.List.{slice_get}
 use Rattle.std.specs.Option.{MatchOption, option_map}
@@ -26,15 +27,19 @@ get_behind [] rest x y = refl
 get_behind (f ∷ fs) rest x y = get_behind fs rest x y
 
 module _ (words : List (List ℕ)) (place : ℕ) (path : List ℕ) (s : StoresAt words place path) where
-  stands : (slice_get words place ≡ Some (joined_word (codes "store") path)) ⊎ ((slice_get words place ≡ Some (opener (codes "store"))) × (slice_get words (place + 1) ≡ Some path))
+  stands : (slice_get words place ≡ Some (joined_word (codes "store") path))
+      ⊎ ((slice_get words place ≡ Some (opener (codes "store"))) × (slice_get words (place + 1) ≡ Some path))
   stands =
       let at = s.place_is in
       let behind : place + 1 ≡ suc (length s.front) = omega (arith, at) in
       elim (s.words_are) [
-        | inl e ↦ inl (ap (λ ws. slice_get ws place) e ∙ ap (slice_get (s.front ++ joined_word (codes "store") path ∷ s.rest)) at ∙ get_at s.front s.rest (joined_word (codes "store") path))
+        | inl e ↦ inl (ap (λ ws. slice_get ws place) e ∙ ap (slice_get (s.front ++ joined_word (codes "store") path ∷ s.rest)) at
+            ∙ get_at s.front s.rest (joined_word (codes "store") path))
         | inr e ↦ inr (
-          ap (λ ws. slice_get ws place) e ∙ ap (slice_get (s.front ++ opener (codes "store") ∷ path ∷ s.rest)) at ∙ get_at s.front (path ∷ s.rest) (opener (codes "store")),
-          ap (λ ws. slice_get ws (place + 1)) e ∙ ap (slice_get (s.front ++ opener (codes "store") ∷ path ∷ s.rest)) behind ∙ get_behind s.front s.rest (opener (codes "store")) path,
+          ap (λ ws. slice_get ws place) e ∙ ap (slice_get (s.front ++ opener (codes "store") ∷ path ∷ s.rest)) at
+              ∙ get_at s.front (path ∷ s.rest) (opener (codes "store")),
+          ap (λ ws. slice_get ws (place + 1)) e ∙ ap (slice_get (s.front ++ opener (codes "store") ∷ path ∷ s.rest)) behind
+              ∙ get_behind s.front s.rest (opener (codes "store")) path,
         )
       ]
 
@@ -49,16 +54,22 @@ module _ (words : List (List ℕ)) (place : ℕ) (path : List ℕ) (s : StoresAt
   ]
 
   -- the value is the next word
-  pub apart_value : (word value : List ℕ) → slice_get words place ≡ Some word → ((rest : List ℕ) → word ≢ codes "--store=" ++ rest) → slice_get words (place + 1) ≡ Some value → value ≡ path
+  pub apart_value : (word value : List ℕ) → slice_get words place ≡ Some word → ((rest : List ℕ) → word ≢ codes "--store=" ++ rest)
+      → slice_get words (place + 1) ≡ Some value → value ≡ path
   apart_value word value h lacks b = elim stands [
     | inl k ↦ absurd (lacks path (one_word word (joined_word (codes "store") path) h k))
     | inr k ↦ let e : Some value ≡ Some path = sym b ∙ k.1 in cc
   ]
 
   pub some_word : ¬ (slice_get words place ≡ None)
-  some_word h = elim stands [ inl k ↦ let e : None ≡ Some (joined_word (codes "store") path) = sym h ∙ k in cc | inr k ↦ let e : None ≡ Some (opener (codes "store")) = sym h ∙ k.0 in cc ]
+  some_word h = elim stands [
+    | inl k ↦ let e : None ≡ Some (joined_word (codes "store") path) = sym h
+        ∙ k in cc
+    | inr k ↦ let e : None ≡ Some (opener (codes "store")) = sym h ∙ k.0 in cc
+  ]
 
-  pub some_value : (word : List ℕ) → slice_get words place ≡ Some word → ((rest : List ℕ) → word ≢ codes "--store=" ++ rest) → ¬ (slice_get words (place + 1) ≡ None)
+  pub some_value : (word : List ℕ) → slice_get words place ≡ Some word → ((rest : List ℕ) → word ≢ codes "--store=" ++ rest)
+      → ¬ (slice_get words (place + 1) ≡ None)
   some_value word h lacks b = elim stands [
     | inl k ↦ lacks path (one_word word (joined_word (codes "store") path) h k)
     | inr k ↦ let e : None ≡ Some path = sym b ∙ k.1 in cc
@@ -69,7 +80,8 @@ module _ (words : List (List ℕ)) (place : ℕ) (path : List ℕ) (s : StoresAt
 pub no_item : {X : Type 0} (f : X → List ℕ) (words : List X) (place : ℕ) → length words ≤ place → slice_get (map f words) place ≡ None
 no_item f words place h = slice_get-map f words place ∙ ap (option_map f) (slice_get_past words place h)
 
-pub item_is : {X : Type 0} (f : X → List ℕ) (words : List X) (place : ℕ) (x : X) → place < length words → x ≡ slice_index_or words place x → slice_get (map f words) place ≡ Some (f x)
+pub item_is : {X : Type 0} (f : X → List ℕ) (words : List X) (place : ℕ) (x : X) → place < length words → x ≡ slice_index_or words place x
+    → slice_get (map f words) place ≡ Some (f x)
 item_is f words place x h e = slice_get-map f words place ∙ ap (option_map f) (slice_get_read words (length words) place x refl h e)
 
 -- what stands behind a text at the front
@@ -94,7 +106,8 @@ module _ {X : Type 0} (f : X → List ℕ) (words : List X) (place : ℕ) (other
     value_joined rest e = joined_value (map f words) place other s rest (word_is ∙ ap Some e)
 
     -- in the next word
-    pub value_apart : (y : X) (value : List ℕ) → ((rest : List ℕ) → word ≢ codes "--store=" ++ rest) → place + 1 < length words → y ≡ slice_index_or words (place + 1) y → value ≡ f y → value ≡ other
+    pub value_apart : (y : X) (value : List ℕ) → ((rest : List ℕ) → word ≢ codes "--store=" ++ rest) → place + 1 < length words
+        → y ≡ slice_index_or words (place + 1) y → value ≡ f y → value ≡ other
     value_apart y value lacks h e k = apart_value (map f words) place other s word value word_is lacks (item_is f words (place + 1) y h e ∙ ap Some (sym k))
 
     -- there is no next word
@@ -111,11 +124,13 @@ module _ (words : List (List ℕ)) where
         let at = s.place_is in
         (s.path, record { front = s.front; rest = s.rest; place_is = omega (arith, at); words_are = s.words_are })
 
-    pub path_by : (place : ℕ) (r : Option (Bor (List ℕ))) → asked.store ≡ Some place → IfSome r (λ path. (other : List ℕ) → StoresAt words place other → path.now ≡ other) → IfSome r (λ path. NamesStore words path.now)
+    pub path_by : (place : ℕ) (r : Option (Bor (List ℕ))) → asked.store ≡ Some place
+        → IfSome r (λ path. (other : List ℕ) → StoresAt words place other → path.now ≡ other) → IfSome r (λ path. NamesStore words path.now)
     path_by place None e h = tt
     path_by place (Some path) e h = let at = said_at place e in (asked, asks, place, e, subst (StoresAt words place) (sym (h at.0 at.1)) at.1)
 
-    pub no_path_by : (place : ℕ) (path : List ℕ) → asked.store ≡ Some place → ((other : List ℕ) → ¬ StoresAt words place other) → ¬ NamesStore words path
+    pub no_path_by : (place : ℕ) (path : List ℕ) → asked.store ≡ Some place → ((other : List ℕ) → ¬ StoresAt words place other)
+        → ¬ NamesStore words path
     no_path_by place path e none h =
         let same : h.0 ≡ asked = (study_words_decided words).one h.0 asked h.1 asks in
         let at : h.2 ≡ place = same_place h.2 place (sym h.3 ∙ ap (λ a. a.store) same ∙ e) in

@@ -47,7 +47,8 @@ asked (Ok a) = Ok (Take (look_of a))
 asked (Err kind) = Err kind
 
 module _ (names : Words) (line : List ℕ) (words : Words) (is : words_of line ≡ codes "look" ∷ words) where
-  look_holds : (r : Result Arrival LineKind) → Holds (IsArrival names words) (IsArrivalFault names words) r → Holds (IsCommandLine names line) (IsCommandFault names line) (asked r)
+  look_holds : (r : Result Arrival LineKind) → Holds (IsArrival names words) (IsArrivalFault names words) r
+      → Holds (IsCommandLine names line) (IsCommandFault names line) (asked r)
   look_holds (Ok a) h = record {
     behind = words;
     words = is;
@@ -55,13 +56,17 @@ module _ (names : Words) (line : List ℕ) (words : Words) (is : words_of line �
   }
   look_holds (Err kind) h = inr (inl (record { behind = words; words = is; are = h }))
 
-  look_only : (r : Result Arrival LineKind) → ((a : Arrival) → IsArrival names words a → r ≡ Ok a) → (c : StudyCommand) → IsCommandLine names line c → asked r ≡ Ok c
-  look_only r only (Take l) h = ap asked (only (arrival_of l) (subst (λ ws. IsArrival names ws (arrival_of l)) (same_words (codes "look") line words h.behind is h.words) h.are))
+  look_only : (r : Result Arrival LineKind) → ((a : Arrival) → IsArrival names words a → r ≡ Ok a) → (c : StudyCommand) → IsCommandLine names line c
+      → asked r ≡ Ok c
+  look_only r only (Take l) h =
+      ap asked (only (arrival_of l) (subst (λ ws. IsArrival names ws (arrival_of l)) (same_words (codes "look") line words h.behind is h.words) h.are))
   look_only r only Show h = absurd (not_both_words line words [] is h)
 
-  look_only_fault : (r : Result Arrival LineKind) → ((kind : LineKind) → IsArrivalFault names words kind → r ≡ Err kind) → (kind : LineKind) → IsCommandFault names line kind → asked r ≡ Err kind
+  look_only_fault : (r : Result Arrival LineKind) → ((kind : LineKind) → IsArrivalFault names words kind → r ≡ Err kind) → (kind : LineKind)
+      → IsCommandFault names line kind → asked r ≡ Err kind
   look_only_fault r only kind (inl other) = absurd ((other.0 words).0 is)
-  look_only_fault r only kind (inr (inl h)) = ap asked (only kind (subst (λ ws. IsArrivalFault names ws kind) (same_words (codes "look") line words h.behind is h.words) h.are))
+  look_only_fault r only kind (inr (inl h)) = ap asked
+      (only kind (subst (λ ws. IsArrivalFault names ws kind) (same_words (codes "look") line words h.behind is h.words) h.are))
   look_only_fault r only kind (inr (inr h)) = absurd (not_both_words line words h.behind is h.words)
 
   a_look : Decided (IsArrival names words) (IsArrivalFault names words) → Decided (IsCommandLine names line) (IsCommandFault names line)
@@ -87,7 +92,8 @@ module _ (names : Words) (line : List ℕ) where
       only_fault kind (inr (inl h)) = absurd (not_both_words line h.behind [] h.words is)
       only_fault kind (inr (inr h)) = absurd (h.are.0 (same_words (codes "show") line [] h.behind is h.words))
 
-  show_more : (word : List ℕ) (words : Words) → words_of line ≡ codes "show" ∷ word ∷ words → Decided (IsCommandLine names line) (IsCommandFault names line)
+  show_more : (word : List ℕ) (words : Words) → words_of line ≡ codes "show" ∷ word ∷ words
+      → Decided (IsCommandLine names line) (IsCommandFault names line)
   show_more word words is = record {
     answer = Err WordCount;
     holds = inr (inr (record { behind = word ∷ words; words = is; are = ((λ e. let n : word ∷ words ≡ [] = e in cc), refl) }));

@@ -14,15 +14,19 @@ use Rattle.study_commands.specs.CommandFaults.{IsCommandFault, IsFirstFaultIn, I
 module _ (names : Words) where
   -- of these lines some have been read, which say these commands, and the others are left
   pub record AreRead (rows left : List Row) (commands : List StudyCommand) : Type 0 where
-    pub found : (more : List StudyCommand) → AllZip (IsCommandLine names) (texts_in left) more → AllZip (IsCommandLine names) (texts_in rows) (commands ++ more)
+    pub found : (more : List StudyCommand) → AllZip (IsCommandLine names) (texts_in left) more
+        → AllZip (IsCommandLine names) (texts_in rows) (commands ++ more)
     pub fault : (number : ℕ) (kind : LineKind) → IsFirstFaultIn names left number kind → IsFirstFaultIn names rows number kind
 
-  pub all_read : (rows left : List Row) (commands : List StudyCommand) → left ≡ [] → AreRead rows left commands → AllZip (IsCommandLine names) (texts_in rows) commands
-  all_read rows left commands e r = subst (AllZip (IsCommandLine names) (texts_in rows)) (append-nil commands) (r.found [] (subst (λ rs. AllZip (IsCommandLine names) (texts_in rs) []) (sym e) tt))
+  pub all_read : (rows left : List Row) (commands : List StudyCommand) → left ≡ [] → AreRead rows left commands
+      → AllZip (IsCommandLine names) (texts_in rows) commands
+  all_read rows left commands e r = subst (AllZip (IsCommandLine names) (texts_in rows)) (append-nil commands)
+      (r.found [] (subst (λ rs. AllZip (IsCommandLine names) (texts_in rs) []) (sym e) tt))
 
   -- one line more
   pub one_read : (rows left rest : List Row) (row : Row) (commands next : List StudyCommand) (command : StudyCommand)
-      → left ≡ row ∷ rest → next ≡ commands ++ command ∷ [] → IsCommandLine names row.text command → AreRead rows left commands → AreRead rows rest next
+      → left ≡ row ∷ rest → next ≡ commands ++ command ∷ [] → IsCommandLine names row.text command → AreRead rows left commands
+      → AreRead rows rest next
   one_read rows left rest row commands next command l n s r = record {
     found = λ more h.
         subst (AllZip (IsCommandLine names) (texts_in rows)) (sym (ap (λ cs. cs ++ more) n ∙ append_assoc commands (command ∷ []) more))

@@ -1,5 +1,6 @@
 -- The steps of a loop over looks.
-use Rattle.std.proofs.Common.{◌≡◌, inl, inr, sym, ap, ◌∙◌, subst, subst₂, ℕ, ◌+◌, ◌<◌, arith, List, [], ◌∷◌, ◌++◌, length, take, drop, get_or}
+use Rattle.std.proofs.Common.{◌≡◌, inl, inr, sym, ap, ◌∙◌, subst, subst₂, ℕ, ◌+◌, ◌<◌, arith, List, [], ◌∷◌, ◌++◌, length}
+use Rattle.std.proofs.Common.{take, drop, get_or}
 use Rattle.std.proofs.lemmas.List.{take_more, take-append-drop, append_assoc, length-take-le}
 use Rattle.graph_io.specs.declared.keeper.Look.{Look}
 use Rattle.case_model.specs.Content.{Content}
@@ -14,14 +15,16 @@ next_look ls i l h e = take_more ls i l h ∙ ap (λ x. take i ls ++ x ∷ []) (
 
 -- looks in three parts
 pub parted : (ls : List Look) (i : ℕ) (l : Look) → i < length ls → l ≡ get_or ls i l → take i ls ++ l ∷ drop (i + 1) ls ≡ ls
-parted ls i l h e = sym (append_assoc (take i ls) (l ∷ []) (drop (i + 1) ls)) ∙ ap (λ xs. xs ++ drop (i + 1) ls) (sym (next_look ls i l h e)) ∙ take-append-drop (i + 1) ls
+parted ls i l h e = sym (append_assoc (take i ls) (l ∷ []) (drop (i + 1) ls)) ∙ ap (λ xs. xs ++ drop (i + 1) ls) (sym (next_look ls i l h e))
+    ∙ take-append-drop (i + 1) ls
 
 -- the place of a look
 pub place_of : (ls : List Look) (i : ℕ) → i < length ls → i + 1 ≡ 1 + length (take i ls)
 place_of ls i h = let e = length-take-le i ls (omega (arith, h)) in omega (arith, e)
 
 -- the first look that can't be taken, behind others that are taken
-pub stops_on : (c : Content) (ls : List Look) (old mid : StudyState) (n : ℕ) (l : Look) (after : List Look) (why : RegisterFault) → Follows c old ls mid → IsStopAt c mid (n + length ls) l why → IsFirstStop c old n (ls ++ l ∷ after) why
+pub stops_on : (c : Content) (ls : List Look) (old mid : StudyState) (n : ℕ) (l : Look) (after : List Look) (why : RegisterFault) → Follows c old ls mid
+    → IsStopAt c mid (n + length ls) l why → IsFirstStop c old n (ls ++ l ∷ after) why
 stops_on c [] old mid n l after why h S = let e : n + 0 ≡ n = omega arith in inl (subst₂ (λ s m. IsStopAt c s m l why) h e S)
 stops_on c (x ∷ ls) old mid n l after why h S =
     let e : n + length (x ∷ ls) ≡ n + 1 + length ls = omega arith in

@@ -34,23 +34,27 @@ first_not_fault c (l ∷ ls) old n (inl h) = h
 first_not_fault c (l ∷ ls) old n (inr h) = first_not_fault c ls h.0 (n + 1) h.2
 
 -- where one of the loaded looks can't be taken
-pub stopped_fault : (c : Content) (kept : Option (List Look)) (rose : Type 0) (looks : List Look) → IfSome kept (λ told. told ≡ looks) → (why : RegisterFault) → IsStopped c looks why → IsRegisterFault c kept rose why
+pub stopped_fault : (c : Content) (kept : Option (List Look)) (rose : Type 0) (looks : List Look) → IfSome kept (λ told. told ≡ looks)
+    → (why : RegisterFault) → IsStopped c looks why → IsRegisterFault c kept rose why
 stopped_fault c kept rose looks told (BadLook n l) S = (looks, S, told)
 stopped_fault c kept rose looks told (Wide n w) S = inr (looks, S, told)
 stopped_fault c kept rose looks told Fault S = absurd (first_not_fault c looks start 1 S.first)
 stopped_fault c kept rose looks told NoMemory S = tt
 
 -- where the loading fails
-pub loading_fault : (c : Content) (kept : Option (List Look)) (before now : ℕ) (why : KeeperFault) → IsDefined c start → CausedBy before now why → IsRegisterFault c kept (Rose before now) (of_loading why)
+pub loading_fault : (c : Content) (kept : Option (List Look)) (before now : ℕ) (why : KeeperFault) → IsDefined c start → CausedBy before now why
+    → IsRegisterFault c kept (Rose before now) (of_loading why)
 loading_fault c kept before now keepers.Fault D h = (D, h)
 loading_fault c kept before now keepers.NoMemory D h = tt
 
-appended_fault : (c : Content) (s t : StudyState) (l : Look) (before now : ℕ) (why : KeeperFault) → Takes c s l t → CausedBy before now why → IsAddFault c s l (Rose before now) (of_appending why)
+appended_fault : (c : Content) (s t : StudyState) (l : Look) (before now : ℕ) (why : KeeperFault) → Takes c s l t → CausedBy before now why
+    → IsAddFault c s l (Rose before now) (of_appending why)
 appended_fault c s t l before now keepers.Fault T h = (t, T, h)
 appended_fault c s t l before now keepers.NoMemory T h = (t, T)
 
 -- where the appending fails
-pub appending_fault : (c : Content) (s t : StudyState) (l : Look) (before now : ℕ) (why : KeeperFault) (end : AddFault) → end ≡ of_appending why → Takes c s l t → CausedBy before now why → IsAddFault c s l (Rose before now) end
+pub appending_fault : (c : Content) (s t : StudyState) (l : Look) (before now : ℕ) (why : KeeperFault) (end : AddFault) → end ≡ of_appending why
+    → Takes c s l t → CausedBy before now why → IsAddFault c s l (Rose before now) end
 appending_fault c s t l before now why end e T h = subst (IsAddFault c s l (Rose before now)) (sym e) (appended_fault c s t l before now why T h)
 
 -- a fact, also where something is refused

@@ -36,7 +36,8 @@ value_in (x ∷ ls) l (suc k, h, e) =
     let r = value_in ls l (k, omega (arith, h), e) in
     (suc r.0, omega (arith, r.1), r.2)
 
-values_within : (ls ms : List Look) → ((l : Look) → Contains ls l → Contains ms l) → (a : Arrival) → Contains (arrivals_of ls) a → Contains (arrivals_of ms) a
+values_within : (ls ms : List Look) → ((l : Look) → Contains ls l → Contains ms l) → (a : Arrival) → Contains (arrivals_of ls) a
+    → Contains (arrivals_of ms) a
 values_within ls ms more a h =
     let r = look_behind ls a h in
     subst (Contains (arrivals_of ms)) r.2 (value_in ms r.0 (more r.0 r.1))
@@ -86,7 +87,8 @@ module _ (c : Content) where
 
   replies_follow : (rs : List Replied) (old new : StudyState) → AreReplies c old rs new → Follows c old (looks_taken rs) new
   replies_follow [] old new h = h
-  replies_follow (r ∷ rs) old new h = follows_on (look_in r.look r.taken) (looks_taken rs) old h.0 new (one_reply r.look r.taken old h.0 h.1) (replies_follow rs h.0 new h.2)
+  replies_follow (r ∷ rs) old new h = follows_on (look_in r.look r.taken) (looks_taken rs) old h.0 new (one_reply r.look r.taken old h.0 h.1)
+      (replies_follow rs h.0 new h.2)
     where
       one_reply : (l : Look) (b : Bool) (s t : StudyState) → IsReply c s l b t → Follows c s (look_in l b) t
       one_reply l true s t T = (t, T, refl)
@@ -108,7 +110,8 @@ pub one_more_is_taken : OneMoreIsTaken
 one_more_is_taken c looks old new l T h = record { opened = T.opened; follows = follows_one c looks start old new l T.follows h }
 
 pub replies_are_taken : RepliesAreTaken
-replies_are_taken c looks old new rs T h = record { opened = T.opened; follows = follows_on c looks (looks_taken rs) start old new T.follows (replies_follow c rs old new h) }
+replies_are_taken c looks old new rs T h =
+    record { opened = T.opened; follows = follows_on c looks (looks_taken rs) start old new T.follows (replies_follow c rs old new h) }
 
 pub taken_looks_decide : TakenLooksDecide
 taken_looks_decide c looks s j V T =
@@ -117,10 +120,13 @@ taken_looks_decide c looks s j V T =
 
 pub orders_of_looks_agree : OrdersOfLooksAgree
 orders_of_looks_agree c looks others s t j V S T same =
-    studies_agree c s t (taken_is_study c V looks s S) (taken_is_study c V others t T) (taken_is_settled c V looks s S) (taken_is_settled c V others t T) values j
+    studies_agree c s t (taken_is_study c V looks s S) (taken_is_study c V others t T) (taken_is_settled c V looks s S)
+    (taken_is_settled c V others t T) values j
   where
     values : HaveSameValues s t
     values a = (
-      λ h. subst (λ vs. Contains vs a) (sym (taken_values c V others t T)) (values_within looks others (λ l. (same l).0) a (subst (λ vs. Contains vs a) (taken_values c V looks s S) h)),
-      λ h. subst (λ vs. Contains vs a) (sym (taken_values c V looks s S)) (values_within others looks (λ l. (same l).1) a (subst (λ vs. Contains vs a) (taken_values c V others t T) h)),
+      λ h. subst (λ vs. Contains vs a) (sym (taken_values c V others t T))
+          (values_within looks others (λ l. (same l).0) a (subst (λ vs. Contains vs a) (taken_values c V looks s S) h)),
+      λ h. subst (λ vs. Contains vs a) (sym (taken_values c V looks s S))
+          (values_within others looks (λ l. (same l).1) a (subst (λ vs. Contains vs a) (taken_values c V others t T) h)),
     )

@@ -1,5 +1,6 @@
 -- Texts cut at their first slash.
-use Rattle.std.proofs.Common.{◌≡◌, ℕ, suc, ℤ, pos, negsuc, List, [], ◌∷◌, ◌++◌, FitsSigned, Option, Some, None, MatchOption, refl, sym, ap, ap₂, subst, ◌∙◌, ◌⊎◌, inl, inr, arith}
+use Rattle.std.proofs.Common.{◌≡◌, ℕ, suc, ℤ, pos, negsuc, List, [], ◌∷◌, ◌++◌, FitsSigned, Option, Some, None, MatchOption, refl, sym, ap}
+use Rattle.std.proofs.Common.{ap₂, subst, ◌∙◌, ◌⊎◌, inl, inr, arith}
 use Rattle.std.specs.Int.{w128}
 use Rattle.std.specs.Fmt.{decimal, signed_decimal}
 use Rattle.std.specs.Str.Parse.{AllDigits}
@@ -67,7 +68,8 @@ pub pair_only : (n d : ℤ) (over under : List ℕ) → FitsSigned w128 n → Ha
 pair_only n d over under fits plain is =
     elim (one_or_not d) [
       | inl e ↦ absurd (slash_within over under (subst HasNoSlash (sym (is ∙ whole_form n d e)) (number_plain n fits)))
-      | inr h ↦ (let both = cut_once over under (signed_decimal n) (signed_decimal d) plain (number_plain n fits) (is ∙ pair_form n d h) in (h, both.0, both.1))
+      | inr h ↦ (let both = cut_once over under (signed_decimal n) (signed_decimal d) plain (number_plain n fits) (is ∙ pair_form n d h) in
+          (h, both.0, both.1))
     ]
 
 -- in both forms the numerator stands in front

@@ -1,5 +1,6 @@
 -- Where texts are cut into lines and words.
-use Rattle.std.proofs.Common.{◌≡◌, ℕ, suc, ◌+◌, ◌<◌, ◌≤◌, ◌⊎◌, Bool, true, false, not, List, [], ◌∷◌, length, map, take, drop, refl, sym, ap, ap₂, ◌∙◌, arith, inl, inr, get_or}
+use Rattle.std.proofs.Common.{◌≡◌, ℕ, suc, ◌+◌, ◌<◌, ◌≤◌, ◌⊎◌, Bool, true, false, not, List, [], ◌∷◌, length, map, take, drop}
+use Rattle.std.proofs.Common.{refl, sym, ap, ap₂, ◌∙◌, arith, inl, inr, get_or}
 use Rattle.std.specs.List.{slice_split, onto_first, filter, prefix_len, position_or_len, before_first, after_first}
 use Rattle.std.specs.Str.Lines.{strip_carriage_return}
 use Rattle.std.proofs.lemmas.Bool.{cases_Bool, cases_lt}
@@ -32,14 +33,18 @@ unfolding lines_of
 lines_nil = refl
 
 -- the first line, and what is left behind its line feed
-pub lines_cut : (bytes : List ℕ) → 0 < length bytes → lines_of bytes ≡ strip_carriage_return (before_first is_line_feed bytes) ∷ lines_of (after_first is_line_feed bytes)
+pub lines_cut : (bytes : List ℕ) → 0 < length bytes
+    → lines_of bytes ≡ strip_carriage_return (before_first is_line_feed bytes) ∷ lines_of (after_first is_line_feed bytes)
 unfolding lines_of
 lines_cut bytes h =
     elim (cases_lt (position_or_len is_line_feed bytes) (length bytes)) [
       | inl lt ↦
-          let e : slice_split is_line_feed bytes ≡ before_first is_line_feed bytes ∷ slice_split is_line_feed (after_first is_line_feed bytes) = slice_split_first is_line_feed bytes 0 lt in
-          let w : whole_lines (slice_split is_line_feed bytes) ≡ before_first is_line_feed bytes ∷ whole_lines (slice_split is_line_feed (after_first is_line_feed bytes)) =
-          ap whole_lines e ∙ whole_cons (before_first is_line_feed bytes) (slice_split is_line_feed (after_first is_line_feed bytes)) (omega (arith, length-slice_split is_line_feed (after_first is_line_feed bytes))) in
+          let e : slice_split is_line_feed bytes ≡ before_first is_line_feed bytes ∷ slice_split is_line_feed (after_first is_line_feed bytes) =
+          slice_split_first is_line_feed bytes 0 lt in
+          let w : whole_lines (slice_split is_line_feed bytes) ≡ before_first is_line_feed bytes ∷ whole_lines
+          (slice_split is_line_feed (after_first is_line_feed bytes)) =
+          ap whole_lines e ∙ whole_cons (before_first is_line_feed bytes) (slice_split is_line_feed (after_first is_line_feed bytes))
+          (omega (arith, length-slice_split is_line_feed (after_first is_line_feed bytes))) in
           ap (map strip_carriage_return) w
       | inr le ↦
           let front : before_first is_line_feed bytes ≡ bytes = take_all (position_or_len is_line_feed bytes) bytes le in
@@ -64,7 +69,8 @@ unfolding after_blanks
 words_after_blanks [] = refl
 words_after_blanks (b ∷ line) =
     elim (cases_Bool (is_blank b)) [
-      | inl e ↦ let k : drop (prefix_len is_blank (b ∷ line)) (b ∷ line) ≡ drop (prefix_len is_blank line) line = rw e (drop_past (prefix_len is_blank line) b line) in
+      | inl e ↦ let k : drop (prefix_len is_blank (b ∷ line)) (b ∷ line) ≡ drop (prefix_len is_blank line) line =
+          rw e (drop_past (prefix_len is_blank line) b line) in
           words_blank b line e ∙ words_after_blanks line ∙ sym (ap words_of k)
       | inr e ↦ let k : drop (prefix_len is_blank (b ∷ line)) (b ∷ line) ≡ b ∷ line = rw e refl in sym (ap words_of k)
     ]
@@ -74,7 +80,8 @@ filter_word [] parts h = absurd (omega arith)
 filter_word (b ∷ w) parts h = refl
 
 -- the first word, and what is left from its end on
-pub words_cut : (line : List ℕ) → 0 < position_or_len is_blank line → words_of line ≡ take (position_or_len is_blank line) line ∷ words_of (drop (position_or_len is_blank line) line)
+pub words_cut : (line : List ℕ) → 0 < position_or_len is_blank line
+    → words_of line ≡ take (position_or_len is_blank line) line ∷ words_of (drop (position_or_len is_blank line) line)
 unfolding words_of
 words_cut line h =
     let n = position_or_len is_blank line in
@@ -83,12 +90,15 @@ words_cut line h =
     elim (cases_lt n (length line)) [
       | inl lt ↦
           let at : drop n line ≡ get_or line n 0 ∷ drop (n + 1) line = drop_more line n 0 lt in
-          let e : filter is_word (slice_split is_blank line) ≡ take n line ∷ words_of (drop (n + 1) line) = ap (filter is_word) (slice_split_first is_blank line 0 lt) ∙ filter_word (take n line) (slice_split is_blank (drop (n + 1) line)) some in
-          e ∙ ap (λ (ws : List (List ℕ)). take n line ∷ ws) (sym (ap words_of at ∙ words_blank (get_or line n 0) (drop (n + 1) line) (passes_at_first is_blank line 0 lt)))
+          let e : filter is_word (slice_split is_blank line) ≡ take n line ∷ words_of (drop (n + 1) line) =
+          ap (filter is_word) (slice_split_first is_blank line 0 lt) ∙ filter_word (take n line) (slice_split is_blank (drop (n + 1) line)) some in
+          e ∙ ap (λ (ws : List (List ℕ)). take n line ∷ ws)
+          (sym (ap words_of at ∙ words_blank (get_or line n 0) (drop (n + 1) line) (passes_at_first is_blank line 0 lt)))
       | inr le ↦
           let front : take n line ≡ line = take_all n line le in
           let rest : drop n line ≡ [] = drop_all n line le in
-          ap (filter is_word) (split_none is_blank line le) ∙ filter_word line [] (omega arith) ∙ ap₂ (λ (x : List ℕ) (y : List ℕ). x ∷ words_of y) (sym front) (sym rest)
+          ap (filter is_word) (split_none is_blank line le) ∙ filter_word line [] (omega arith)
+          ∙ ap₂ (λ (x : List ℕ) (y : List ℕ). x ∷ words_of y) (sym front) (sym rest)
     ]
 
 -- what comes behind blanks begins with a word, or is nothing
@@ -97,18 +107,21 @@ unfolding after_blanks
 after_blanks_is [] = inl refl
 after_blanks_is (b ∷ line) =
     elim (cases_Bool (is_blank b)) [
-      | inl e ↦ let k : drop (prefix_len is_blank (b ∷ line)) (b ∷ line) ≡ drop (prefix_len is_blank line) line = rw e (drop_past (prefix_len is_blank line) b line) in
+      | inl e ↦ let k : drop (prefix_len is_blank (b ∷ line)) (b ∷ line) ≡ drop (prefix_len is_blank line) line =
+          rw e (drop_past (prefix_len is_blank line) b line) in
           rw k (after_blanks_is line)
       | inr e ↦ let k : drop (prefix_len is_blank (b ∷ line)) (b ∷ line) ≡ b ∷ line = rw e refl in
           let n : position_or_len is_blank (b ∷ line) ≡ 1 + position_or_len is_blank line = rw e refl in
           inr (rw (k, n) (omega arith))
     ]
 
-pub kept_skip : (n : ℕ) (line : List ℕ) (lines : List (List ℕ)) → is_skipped line ≡ true → kept_after n (line ∷ lines) ≡ kept_after (n + 1) lines
+pub kept_skip : (n : ℕ) (line : List ℕ) (lines : List (List ℕ)) → is_skipped line ≡ true
+    → kept_after n (line ∷ lines) ≡ kept_after (n + 1) lines
 unfolding kept_after
 kept_skip n line lines e = rw e refl
 
-pub kept_take : (n : ℕ) (line : List ℕ) (lines : List (List ℕ)) → is_skipped line ≡ false → kept_after n (line ∷ lines) ≡ record { number = n + 1; text = line } ∷ kept_after (n + 1) lines
+pub kept_take : (n : ℕ) (line : List ℕ) (lines : List (List ℕ)) → is_skipped line ≡ false
+    → kept_after n (line ∷ lines) ≡ record { number = n + 1; text = line } ∷ kept_after (n + 1) lines
 unfolding kept_after
 kept_take n line lines e = rw e refl
 
@@ -120,19 +133,30 @@ pub lines_end : (bytes : List ℕ) → length bytes ≡ 0 → lines_of bytes ≡
 lines_end bytes h = rw (nil_from_length bytes h) lines_nil
 
 -- where no word stands after the blanks, none is left
-no_word : (line word : List ℕ) → word ≡ take (position_or_len is_blank (after_blanks line)) (after_blanks line) → length word ≡ 0 → after_blanks line ≡ []
+no_word : (line word : List ℕ) → word ≡ take (position_or_len is_blank (after_blanks line)) (after_blanks line) → length word ≡ 0
+    → after_blanks line ≡ []
 no_word line word e h =
     elim (after_blanks_is line) [
       | inl nil ↦ nil
-      | inr some ↦ absurd (omega (arith, ap length e, length-take (position_or_len is_blank (after_blanks line)) (after_blanks line), prefix_len-le-length (λ x. not (is_blank x)) (after_blanks line)))
+      | inr some ↦ absurd (omega (
+        arith,
+        ap length e,
+        length-take (position_or_len is_blank (after_blanks line)) (after_blanks line),
+        prefix_len-le-length (λ x. not (is_blank x)) (after_blanks line),
+      ))
     ]
 
-pub words_end : (line word : List ℕ) → word ≡ take (position_or_len is_blank (after_blanks line)) (after_blanks line) → length word ≡ 0 → words_of line ≡ []
+pub words_end : (line word : List ℕ) → word ≡ take (position_or_len is_blank (after_blanks line)) (after_blanks line) → length word ≡ 0
+    → words_of line ≡ []
 words_end line word e h = words_after_blanks line ∙ ap words_of (no_word line word e h) ∙ words_nil
 
-pub words_ended : (line word after : List ℕ) → word ≡ take (position_or_len is_blank (after_blanks line)) (after_blanks line) → after ≡ drop (position_or_len is_blank (after_blanks line)) (after_blanks line) → length word ≡ 0 → words_of after ≡ []
+pub words_ended : (line word after : List ℕ) → word ≡ take (position_or_len is_blank (after_blanks line)) (after_blanks line)
+    → after ≡ drop (position_or_len is_blank (after_blanks line)) (after_blanks line) → length word ≡ 0 → words_of after ≡ []
 words_ended line word after e f h = ap words_of (f ∙ ap (λ (x : List ℕ). drop (position_or_len is_blank x) x) (no_word line word e h)) ∙ words_nil
 
-pub words_next : (line word after : List ℕ) → word ≡ take (position_or_len is_blank (after_blanks line)) (after_blanks line) → after ≡ drop (position_or_len is_blank (after_blanks line)) (after_blanks line) → 0 < length word → words_of line ≡ word ∷ words_of after
+pub words_next : (line word after : List ℕ) → word ≡ take (position_or_len is_blank (after_blanks line)) (after_blanks line)
+    → after ≡ drop (position_or_len is_blank (after_blanks line)) (after_blanks line) → 0 < length word → words_of line ≡ word ∷ words_of after
 words_next line word after e f h =
-    words_after_blanks line ∙ words_cut (after_blanks line) (omega (arith, ap length e, length-take (position_or_len is_blank (after_blanks line)) (after_blanks line))) ∙ ap₂ (λ (x : List ℕ) (y : List ℕ). x ∷ words_of y) (sym e) (sym f)
+    words_after_blanks line ∙ words_cut (after_blanks line)
+    (omega (arith, ap length e, length-take (position_or_len is_blank (after_blanks line)) (after_blanks line)))
+    ∙ ap₂ (λ (x : List ℕ) (y : List ℕ). x ∷ words_of y) (sym e) (sym f)

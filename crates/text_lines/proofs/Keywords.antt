@@ -1,5 +1,6 @@
 -- What the first words of a line tell.
-use Rattle.std.proofs.Common.{◌≡◌, inl, inr, ℕ, Bool, true, false, List, [], ◌∷◌, length, Option, Some, None, refl, ap, arith, if◌then◌else◌}
+use Rattle.std.proofs.Common.{◌≡◌, inl, inr, ℕ, Bool, true, false, List, [], ◌∷◌, length, Option, Some, None, refl, ap, arith}
+use Rattle.std.proofs.Common.{if◌then◌else◌}
 use Rattle.std.specs.Str.{bytes_eq}
 use Rattle.std.proofs.lemmas.Bool.{cases_Bool}
 use Rattle.std.proofs.lemmas.Slice.Eq.{bytes_eq-Decides}
@@ -20,7 +21,8 @@ keyword_found keyword (w ∷ ws) rest h = elim (cases_Bool (bytes_eq w keyword))
 ]
 
 -- the line doesn't begin with the keyword
-pub keyword_missing : (keyword : List ℕ) (words : List (List ℕ)) → None ≡ words_behind keyword words → (rest : List (List ℕ)) → ¬ (words ≡ keyword ∷ rest)
+pub keyword_missing : (keyword : List ℕ) (words : List (List ℕ)) → None ≡ words_behind keyword words → (rest : List (List ℕ))
+    → ¬ (words ≡ keyword ∷ rest)
 keyword_missing keyword [] h rest e = cc
 keyword_missing keyword (w ∷ ws) h rest e = elim (cases_Bool (bytes_eq w keyword)) [
   | inl t ↦ let g : None ≡ Some ws = rw t at h in cc

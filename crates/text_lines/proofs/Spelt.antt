@@ -1,5 +1,6 @@
 -- What is spelt is read.
-use Rattle.std.proofs.Common.{◌≡◌, ◌≢◌, ℕ, zero, suc, ◌+◌, ◌-◌, ◌<◌, ◌||◌, false, List, [], ◌∷◌, ◌++◌, length, map, get_or, drop, refl, ap, ap₂, ◌∙◌, append_assoc, arith}
+use Rattle.std.proofs.Common.{◌≡◌, ◌≢◌, ℕ, zero, suc, ◌+◌, ◌-◌, ◌<◌, ◌||◌, false, List, [], ◌∷◌, ◌++◌, length, map}
+use Rattle.std.proofs.Common.{get_or, drop, refl, ap, ap₂, ◌∙◌, append_assoc, arith}
 use Rattle.std.specs.List.{slice_split, onto_first, filter, flat_map, prefix_len, position_or_len, AllByRecursion}
 use Rattle.std.specs.Str.Lines.{strip_carriage_return}
 use Rattle.std.proofs.lemmas.Bool.{ne_eqb}
@@ -44,17 +45,20 @@ words_none = refl
 pub words_of_line : (words : List (List ℕ)) → AllByRecursion IsWord words → words_of (line_spelt words) ≡ words
 words_of_line [] h = words_none
 words_of_line (word ∷ []) h = ap words_of (append-nil word) ∙ words_of_last word h.0
-words_of_line (word ∷ next ∷ words) h = words_of_word word (next ++ flat_map spaced words) h.0 ∙ ap (λ (ws : List (List ℕ)). word ∷ ws) (words_of_line (next ∷ words) h.1)
+words_of_line (word ∷ next ∷ words) h = words_of_word word (next ++ flat_map spaced words) h.0
+    ∙ ap (λ (ws : List (List ℕ)). word ∷ ws) (words_of_line (next ∷ words) h.1)
 
 length_plain : (word rest : List ℕ) → AllByRecursion IsPlain word → position_or_len is_blank (word ++ 32 ∷ rest) ≡ length word
 length_plain [] rest h = refl
-length_plain (b ∷ word) rest h = let e : position_or_len is_blank (b ∷ (word ++ 32 ∷ rest)) ≡ 1 + position_or_len is_blank (word ++ 32 ∷ rest) = rw (plain_blank b h.0) refl in
+length_plain (b ∷ word) rest h = let e : position_or_len is_blank (b ∷ (word ++ 32 ∷ rest)) ≡ 1 + position_or_len is_blank (word ++ 32 ∷ rest) =
+    rw (plain_blank b h.0) refl in
     e ∙ ap (λ n. 1 + n) (length_plain word rest h.1) ∙ omega arith
 
 no_blanks : (word rest : List ℕ) → IsWord word → after_blanks (word ++ rest) ≡ word ++ rest
 unfolding after_blanks
 no_blanks [] rest h = absurd (omega (arith, h.some))
-no_blanks (b ∷ word) rest h = let k : prefix_len is_blank (b ∷ (word ++ rest)) ≡ 0 = rw (plain_blank b h.plain.0) refl in ap (λ n. drop n (b ∷ (word ++ rest))) k
+no_blanks (b ∷ word) rest h = let k : prefix_len is_blank (b ∷ (word ++ rest)) ≡ 0 =
+    rw (plain_blank b h.plain.0) refl in ap (λ n. drop n (b ∷ (word ++ rest))) k
 
 drop_word : (word rest : List ℕ) → drop (length word) (word ++ rest) ≡ rest
 drop_word [] rest = refl
@@ -64,7 +68,8 @@ drop_word (b ∷ word) rest = drop_word word rest
 pub behind_spelt : (word rest : List ℕ) → IsWord word → behind_word (word ++ 32 ∷ rest) ≡ 32 ∷ rest
 unfolding behind_word
 behind_spelt word rest h =
-    ap (λ (line : List ℕ). drop (position_or_len is_blank line) line) (no_blanks word (32 ∷ rest) h) ∙ ap (λ n. drop n (word ++ 32 ∷ rest)) (length_plain word rest h.plain) ∙ drop_word word (32 ∷ rest)
+    ap (λ (line : List ℕ). drop (position_or_len is_blank line) line) (no_blanks word (32 ∷ rest) h)
+    ∙ ap (λ n. drop n (word ++ 32 ∷ rest)) (length_plain word rest h.plain) ∙ drop_word word (32 ∷ rest)
 
 -- a blank in front changes nothing
 pub words_of_blank : (rest : List ℕ) → words_of (32 ∷ rest) ≡ words_of rest
@@ -95,7 +100,8 @@ in_append (x ∷ xs) ys h k = (h.0, in_append xs ys h.1 k)
 
 in_spaced : (words : List (List ℕ)) → AllByRecursion IsWord words → AllByRecursion InLine (flat_map spaced words)
 in_spaced [] h = tt
-in_spaced (word ∷ words) h = (record { line_feed = λ e. cc; carriage_return = λ e. cc }, in_append word (flat_map spaced words) (in_word word h.0.plain) (in_spaced words h.1))
+in_spaced (word ∷ words) h =
+    (record { line_feed = λ e. cc; carriage_return = λ e. cc }, in_append word (flat_map spaced words) (in_word word h.0.plain) (in_spaced words h.1))
 
 in_line : (words : List (List ℕ)) → AllByRecursion IsWord words → AllByRecursion InLine (line_spelt words)
 in_line [] h = tt
@@ -103,7 +109,8 @@ in_line (word ∷ words) h = in_append word (flat_map spaced words) (in_word wor
 
 split_line : (line rest : List ℕ) → AllByRecursion InLine line → slice_split is_line_feed (line ++ 10 ∷ rest) ≡ line ∷ slice_split is_line_feed rest
 split_line [] rest h = refl
-split_line (b ∷ line) rest h = slice_split-cons_no is_line_feed b (line ++ 10 ∷ rest) (ne_eqb b 10 h.0.line_feed) ∙ ap (onto_first b) (split_line line rest h.1)
+split_line (b ∷ line) rest h = slice_split-cons_no is_line_feed b (line ++ 10 ∷ rest) (ne_eqb b 10 h.0.line_feed)
+    ∙ ap (onto_first b) (split_line line rest h.1)
 
 byte_at : (line : List ℕ) (k : ℕ) → AllByRecursion InLine line → get_or line k 0 ≢ 13
 byte_at [] k h = λ e. cc
@@ -137,7 +144,8 @@ text_cons : (line : List (List ℕ)) (lines : List (List (List ℕ))) → text_o
 unfolding text_of
 text_cons line lines = append_assoc (line_spelt line) (10 ∷ []) (flat_map (λ words. line_spelt words ++ 10 ∷ []) lines)
 
-lines_of_cons : (line : List (List ℕ)) (lines : List (List (List ℕ))) → IsLine line → lines_of (text_of (line ∷ lines)) ≡ line_spelt line ∷ lines_of (text_of lines)
+lines_of_cons : (line : List (List ℕ)) (lines : List (List (List ℕ))) → IsLine line
+    → lines_of (text_of (line ∷ lines)) ≡ line_spelt line ∷ lines_of (text_of lines)
 lines_of_cons line lines h = ap lines_of (text_cons line lines) ∙ lines_of_line (line_spelt line) (text_of lines) (in_line line (are_words line h))
 
 lines_of_none : lines_of (text_of []) ≡ []
@@ -151,7 +159,8 @@ lines_of_text (line ∷ lines) h = lines_of_cons line lines h.0 ∙ ap (λ (ls :
 
 kept_text : (n : ℕ) (lines : List (List (List ℕ))) → AllByRecursion IsLine lines → kept_after n (map line_spelt lines) ≡ numbered n lines
 kept_text n [] h = kept_nil n
-kept_text n (line ∷ lines) h = kept_take n (line_spelt line) (map line_spelt lines) (kept_line line h.0) ∙ ap (λ (rs : List Row). record { number = n + 1; text = line_spelt line } ∷ rs) (kept_text (n + 1) lines h.1)
+kept_text n (line ∷ lines) h = kept_take n (line_spelt line) (map line_spelt lines) (kept_line line h.0)
+    ∙ ap (λ (rs : List Row). record { number = n + 1; text = line_spelt line } ∷ rs) (kept_text (n + 1) lines h.1)
 
 pub rows_of_text : (lines : List (List (List ℕ))) → AllByRecursion IsLine lines → kept_after 0 (lines_of (text_of lines)) ≡ numbered 0 lines
 rows_of_text lines h = ap (kept_after 0) (lines_of_text lines h) ∙ kept_text 0 lines h

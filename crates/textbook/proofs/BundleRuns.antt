@@ -1,5 +1,6 @@
 -- A bundle of one net of share 1 whose closed form is short: neither a removal nor a level is refused.
-use Rattle.std.proofs.Common.{◌≡◌, ◌≢◌, inl, inr, refl, ap, ◌∙◌, ℕ, ◌≤◌, ◌<◌, ◌*◌, arith, Bool, List, [], ◌∷◌, Option, Some, Ok, unsigned_abs, Result}
+use Rattle.std.proofs.Common.{◌≡◌, ◌≢◌, inl, inr, refl, ap, ◌∙◌, ℕ, ◌≤◌, ◌<◌, ◌*◌, arith, Bool, List, [], ◌∷◌, Option}
+use Rattle.std.proofs.Common.{Some, Ok, unsigned_abs, Result}
 use Rattle.field_core.specs.Number.{Number}
 use Rattle.field_core.specs.NumberField.{number_field}
 use Rattle.field_core.specs.Divisor.{gcd}
@@ -78,13 +79,15 @@ alone_in r x e = ap (λ q. in_component 0 q) e
 put_at : {A : Type 0} (p : Place) (r : Result A TooWide) (x : A) → r ≡ Ok x → placed p r ≡ Ok x
 put_at p r x e = ap (λ q. placed p q) e
 
-share_defined : (S : StoredGraph) (l w e : ℕ) → Fit w e → IsWithin w (pair_of (weight plain S l)) → IsDefined (written_share plain (λ G. G) (S ∷ []) (one_ratio ∷ []) l)
+share_defined : (S : StoredGraph) (l w e : ℕ) → Fit w e → IsWithin w (pair_of (weight plain S l))
+    → IsDefined (written_share plain (λ G. G) (S ∷ []) (one_ratio ∷ []) l)
 unfolding written_share terms_at
 share_defined S l w e fit s =
     let p = product_defined (limit_terms (weight plain S l)) w e fit (limit_within w (weight plain S l) s) in
     (p.0, alone_in _ p.0 (put_at (Share l) _ p.0 (products_one (terms_at (limits plain (λ G. G) (S ∷ []) l)) ∙ p.1)))
 
-level_defined : (S : StoredGraph) (w e : ℕ) → Fit w e → AreWithin w e S → (l : ℕ) → l < size S → IsDefined (written_level plain (λ G. G) (S ∷ []) (one_ratio ∷ []) l)
+level_defined : (S : StoredGraph) (w e : ℕ) → Fit w e → AreWithin w e S → (l : ℕ) → l < size S
+    → IsDefined (written_level plain (λ G. G) (S ∷ []) (one_ratio ∷ []) l)
 unfolding written_level is_live_by
 level_defined S w e fit s l b = elim (true_or_false (is_live S l)) [
   | inl t ↦ let d = share_defined S l w e fit (s.weights l b t) in (d.0, rw t d.1)
@@ -101,8 +104,10 @@ one_item : (S T : StoredGraph) (j : ℕ) → written_removal plain S j ≡ Ok T 
 unfolding removed_together
 one_item S T j e = ap (λ r. (in_component 0 r) >>= (λ y. Ok (y ∷ []))) e
 
-removed_alone : (S T : StoredGraph) (j : ℕ) (levels next : List Terms) → written_removal plain S j ≡ Ok T → written_levels plain (λ G. G) (T ∷ []) (one_ratio ∷ []) ≡ Ok next
-    → removed plain (λ G. G) (written_removal plain) (record { states = S ∷ []; shares = one_ratio ∷ []; levels = levels }) j ≡ Ok (record { states = T ∷ []; shares = one_ratio ∷ []; levels = next })
+removed_alone : (S T : StoredGraph) (j : ℕ) (levels next : List Terms) → written_removal plain S j ≡ Ok T
+    → written_levels plain (λ G. G) (T ∷ []) (one_ratio ∷ []) ≡ Ok next
+    → removed plain (λ G. G) (written_removal plain) (record { states = S ∷ []; shares = one_ratio ∷ []; levels = levels }) j ≡ Ok
+    (record { states = T ∷ []; shares = one_ratio ∷ []; levels = next })
 unfolding removed
 removed_alone S T j levels next h g =
     then_made (removed_together (written_removal plain) (S ∷ []) j) _ (T ∷ []) (one_item S T j h)
@@ -111,25 +116,34 @@ removed_alone S T j levels next h g =
 module _ (m : ℕ) (left : (ℕ → Bool) → Graph Number) (C : IsClosedForm number_field m left) (w e : ℕ) (fit : Fit w e)
     (short_weight : (I : ℕ → Bool) (l : ℕ) → IsIn m I l → IsNumberWithin w ((left I).weight l))
     (short_edge : (I : ℕ → Bool) (l h : ℕ) → IsIn m I l → IsIn m I h → l ≢ h → IsNumberWithin e ((left I).edge l h)) where
-  run_bundle : (js : List ℕ) (I : ℕ → Bool) (A : Graph Number) (S : StoredGraph) (levels : List Terms) → Now m left C w e fit short_weight short_edge I A S → Agrees m I A (left I) → IsOrder m I js
-      → IsDefined (removed_in_turn (removed plain (λ G. G) (written_removal plain)) (record { states = S ∷ []; shares = one_ratio ∷ []; levels = levels }) js)
+  run_bundle : (js : List ℕ) (I : ℕ → Bool) (A : Graph Number) (S : StoredGraph) (levels : List Terms)
+      → Now m left C w e fit short_weight short_edge I A S → Agrees m I A (left I) → IsOrder m I js
+      → IsDefined (removed_in_turn (removed plain (λ G. G) (written_removal plain))
+      (record { states = S ∷ []; shares = one_ratio ∷ []; levels = levels }) js)
   run_bundle [] I A S levels N G o = (_, turn_end (removed plain (λ G. G) (written_removal plain)) _)
   run_bundle (j ∷ js) I A S levels N G o =
       let X = next_state m left C w e fit short_weight short_edge I A S j N G o.0 in
-      let ls = levels_defined X.state w e fit (now_short m left C w e fit short_weight short_edge (dropping j I) (without number_field A j) X.state X.now X.agrees) in
+      let ls = levels_defined X.state w e fit
+      (now_short m left C w e fit short_weight short_edge (dropping j I) (without number_field A j) X.state X.now X.agrees) in
       let rest = run_bundle js (dropping j I) (without number_field A j) X.state ls.0 X.now X.agrees o.1 in
       (rest.0, turn_on (removed plain (λ G. G) (written_removal plain)) _ _ rest.0 j js (one_removed S X.state j levels ls.0 X.made ls.1) rest.1)
     where
-      one_removed : (S T : StoredGraph) (j : ℕ) (levels next : List Terms) → written_removal plain S j ≡ Ok T → written_levels plain (λ G. G) (T ∷ []) (one_ratio ∷ []) ≡ Ok next
-          → removed plain (λ G. G) (written_removal plain) (record { states = S ∷ []; shares = one_ratio ∷ []; levels = levels }) j ≡ Ok (record { states = T ∷ []; shares = one_ratio ∷ []; levels = next })
+      one_removed : (S T : StoredGraph) (j : ℕ) (levels next : List Terms) → written_removal plain S j ≡ Ok T
+          → written_levels plain (λ G. G) (T ∷ []) (one_ratio ∷ []) ≡ Ok next
+          → removed plain (λ G. G) (written_removal plain) (record { states = S ∷ []; shares = one_ratio ∷ []; levels = levels }) j ≡ Ok
+          (record { states = T ∷ []; shares = one_ratio ∷ []; levels = next })
       one_removed S T j levels next h g = removed_alone S T j levels next h g
 
-  pub bundle_never_refused : (G : Graph Number) (S : StoredGraph) → size S ≡ m → Stores G S → Agrees m whole G (left whole) → (js : List ℕ) → IsOrder m whole js
+  pub bundle_never_refused : (G : Graph Number) (S : StoredGraph) → size S ≡ m → Stores G S → Agrees m whole G (left whole) → (js : List ℕ)
+      → IsOrder m whole js
       → IsDefined (opened_after plain (λ G. G) (written_removal plain) (S ∷ []) (one_ratio ∷ []) js)
   unfolding opened_after opened
   bundle_never_refused G S q St A js o =
       let N = start_now m left C w e fit short_weight short_edge G S q St in
       let a = start_agrees m left C w e fit short_weight short_edge G S q St A in
       let ls = levels_defined S w e fit (now_short m left C w e fit short_weight short_edge whole (graph_of plain S) S N a) in
-      let run = run_bundle js whole (graph_of plain S) S ls.0 N a o in
-      (run.0, ap (λ r. (r >>= (λ ls. Ok (record { states = S ∷ []; shares = one_ratio ∷ []; levels = ls }))) >>= (λ b. removed_in_turn (removed plain (λ G. G) (written_removal plain)) b js)) ls.1 ∙ run.1)
+      let run = run_bundle js whole (graph_of plain S) S ls.0 N a o in (
+        run.0,
+        ap (λ r. (r >>= (λ ls. Ok (record { states = S ∷ []; shares = one_ratio ∷ []; levels = ls }))) >>= (λ b. removed_in_turn
+            (removed plain (λ G. G) (written_removal plain)) b js)) ls.1 ∙ run.1,
+      )

@@ -1,5 +1,6 @@
 -- The written run of a plain case of one component is that of its net.
-use Rattle.std.proofs.Common.{◌≡◌, refl, sym, ap, ◌∙◌, subst, ℕ, ◌*◌, ◌<◌, arith, true, List, [], ◌∷◌, length, map, get_or, pos, ◌*ℤ◌, Result, Ok}
+use Rattle.std.proofs.Common.{◌≡◌, refl, sym, ap, ◌∙◌, subst, ℕ, ◌*◌, ◌<◌, arith, true, List, [], ◌∷◌, length, map, get_or, pos}
+use Rattle.std.proofs.Common.{◌*ℤ◌, Result, Ok}
 use Rattle.field_core.specs.Number.{Number}
 use Rattle.field_core.specs.Arithmetic.{number_one}
 use Rattle.field_core.specs.Graph.{Graph}
@@ -60,19 +61,24 @@ graph_loads m k =
     let es = each_defined (m * m) (edge_at in_fractions m k.edges) (λ i h. edge_loads m k.edges i) in
     (_, then_made (each_below (m * m) (edge_at in_fractions m k.edges)) _ es.0 es.1)
 
-state_loads : (m : ℕ) (ks : List Component) (G : StoredGraph) → loaded_graph in_fractions m (component_at ks 0) ≡ Ok G → state_at in_fractions m ks 0 ≡ Ok G
+state_loads : (m : ℕ) (ks : List Component) (G : StoredGraph) → loaded_graph in_fractions m (component_at ks 0) ≡ Ok G
+    → state_at in_fractions m ks 0 ≡ Ok G
 unfolding state_at loaded_state
 state_loads m ks G h = ap (λ r. in_component 0 (r >>= gathered_in in_fractions)) h
 
-states_load : (m : ℕ) (ks : List Component) (G : StoredGraph) → length ks ≡ 1 → loaded_graph in_fractions m (component_at ks 0) ≡ Ok G → loaded_states in_fractions m ks ≡ Ok (G ∷ [])
+states_load : (m : ℕ) (ks : List Component) (G : StoredGraph) → length ks ≡ 1 → loaded_graph in_fractions m (component_at ks 0) ≡ Ok G
+    → loaded_states in_fractions m ks ≡ Ok (G ∷ [])
 states_load m ks G h e =
-    let first : each_below 1 (state_at in_fractions m ks) ≡ Ok (G ∷ []) = each_suc 0 (state_at in_fractions m ks) ∙ then_made (each_below 0 (state_at in_fractions m ks)) _ [] (no_states in_fractions m ks) ∙ then_made (state_at in_fractions m ks 0) _ G (state_loads m ks G e) in
+    let first : each_below 1 (state_at in_fractions m ks) ≡ Ok (G ∷ []) = each_suc 0 (state_at in_fractions m ks)
+    ∙ then_made (each_below 0 (state_at in_fractions m ks)) _ [] (no_states in_fractions m ks)
+    ∙ then_made (state_at in_fractions m ks 0) _ G (state_loads m ks G e) in
     all_states in_fractions m ks 1 (G ∷ []) (sym h) first
 
 -- a fraction of the value 1 is 1/1
 one_share : (x : Ratio) → number_of x ≡ number_one → x ≡ one_ratio
 one_share x e =
-    let same : x.num *ℤ pos 1 ≡ pos 1 *ℤ x.den = fraction-cross x.num x.den (pos 1) (pos 1) (positive_nonzero x.den x.valid.positive) (suc_not_zero 0) (e ∙ one_is) in
+    let same : x.num *ℤ pos 1 ≡ pos 1 *ℤ x.den = fraction-cross x.num x.den (pos 1) (pos 1) (positive_nonzero x.den x.valid.positive) (suc_not_zero 0)
+    (e ∙ one_is) in
     same_ratio x one_ratio (reduced_unique (terms x) (terms one_ratio) x.valid one_ratio.valid same)
 
 -- ---- runs
@@ -88,11 +94,13 @@ same_state : (b d : Bundled StoredGraph) → b ≡ d → removed_in_turn case_re
 unfolding removed_in_turn
 same_state b d e = ap (λ x. Ok (state_of in_fractions x)) e
 
-case_turns : (js : List ℕ) (b d : Bundled StoredGraph) → removed_in_turn bundle_removal b js ≡ Ok d → removed_in_turn case_removal (state_of in_fractions b) js ≡ Ok (state_of in_fractions d)
+case_turns : (js : List ℕ) (b d : Bundled StoredGraph) → removed_in_turn bundle_removal b js ≡ Ok d
+    → removed_in_turn case_removal (state_of in_fractions b) js ≡ Ok (state_of in_fractions d)
 case_turns [] b d h = same_state b d (turn_none bundle_removal b d h)
 case_turns (j ∷ js) b d h =
     let r = turn_first bundle_removal b d j js h in
-    turn_on case_removal (state_of in_fractions b) (state_of in_fractions r.0) (state_of in_fractions d) j js (case_step b r.0 j r.1.0) (case_turns js r.0 d r.1.1)
+    turn_on case_removal (state_of in_fractions b) (state_of in_fractions r.0) (state_of in_fractions d) j js (case_step b r.0 j r.1.0)
+    (case_turns js r.0 d r.1.1)
 
 module _ (c : Content) (V : IsValidContent c) (P : is_plain c ≡ true) (G : Graph Number) (A : IsAlone G (entangled c)) where
   one_component : length c.components ≡ 1
@@ -104,7 +112,8 @@ module _ (c : Content) (V : IsValidContent c) (P : is_plain c ≡ true) (G : Gra
   share_value = A.share
 
   shares_are : map (λ (k : Component). k.share) c.components ≡ one_ratio ∷ []
-  shares_are = ap (map (λ (k : Component). k.share)) (one_item c.components empty_component one_component) ∙ ap (λ x. x ∷ []) (one_share (component_at c.components 0).share share_value)
+  shares_are = ap (map (λ (k : Component). k.share)) (one_item c.components empty_component one_component)
+      ∙ ap (λ x. x ∷ []) (one_share (component_at c.components 0).share share_value)
 
   pub net : IsDefined (loaded_graph in_fractions (length c.names) (component_at c.components 0))
   net = graph_loads (length c.names) (component_at c.components 0)
@@ -123,7 +132,8 @@ module _ (c : Content) (V : IsValidContent c) (P : is_plain c ≡ true) (G : Gra
         stored = N.stored;
         live = N.live;
         weight_is = λ l b. sym (weight_in plain net.0 l (N.live l b)) ∙ N.same.weight l (at l b) ∙ A.weight l (at l b);
-        edge_is = λ l k b g n. sym (edge_in plain net.0 l k (N.live l b) (N.live k g) n) ∙ N.same.edge l k (at l b) (at k g) ∙ A.edge l k (at l b) (at k g);
+        edge_is = λ l k b g n. sym (edge_in plain net.0 l k (N.live l b) (N.live k g) n) ∙ N.same.edge l k (at l b) (at k g)
+            ∙ A.edge l k (at l b) (at k g);
       }
 
   pub net_size : size net.0 ≡ length c.names
@@ -131,7 +141,8 @@ module _ (c : Content) (V : IsValidContent c) (P : is_plain c ≡ true) (G : Gra
 
   opening_is : opening_in in_fractions c ≡ opened plain (λ G. G) (net.0 ∷ []) (one_ratio ∷ [])
   unfolding opening_in
-  opening_is = then_made (loaded_states in_fractions (length c.names) c.components) _ (net.0 ∷ []) (states_load (length c.names) c.components net.0 one_component net.1) ∙ ap (opened plain (λ G. G) (net.0 ∷ [])) shares_are
+  opening_is = then_made (loaded_states in_fractions (length c.names) c.components) _ (net.0 ∷ [])
+      (states_load (length c.names) c.components net.0 one_component net.1) ∙ ap (opened plain (λ G. G) (net.0 ∷ [])) shares_are
 
   -- the run of the case is defined where that of its net is
   pub case_defined : IsNeverRefusedAlone net.0 → (js : List ℕ) → IsOrder (length c.names) whole js → IsDefined (case_after c js)
@@ -139,5 +150,6 @@ module _ (c : Content) (V : IsValidContent c) (P : is_plain c ≡ true) (G : Gra
   case_defined D js o =
       let d = D js (subst (λ n. IsOrder n whole js) (sym net_size) o) in
       let b = bind_ok (opened plain (λ G. G) (net.0 ∷ []) (one_ratio ∷ [])) _ d.0 d.1 in
-      let start : case_opening c ≡ Ok (state_of in_fractions b.0) = plain_opening c P ∙ ap (λ r. ok_map (state_of in_fractions) r) (opening_is ∙ b.1.0) in
+      let start : case_opening c ≡ Ok (state_of in_fractions b.0) = plain_opening c P
+      ∙ ap (λ r. ok_map (state_of in_fractions) r) (opening_is ∙ b.1.0) in
       (state_of in_fractions d.0, then_made (case_opening c) _ (state_of in_fractions b.0) start ∙ case_turns js b.0 d.0 b.1.1)

@@ -1,5 +1,6 @@
 -- On a chain of weights with a common denominator no removal is refused.
-use Rattle.std.proofs.Common.{◌≡◌, inl, inr, refl, sym, ap, ◌∙◌, subst, ℕ, zero, suc, ◌≤◌, ◌<◌, ◌+◌, ◌*◌, arith, Bool, lit<, pos, ◌*ℤ◌, ◌+ℤ◌}
+use Rattle.std.proofs.Common.{◌≡◌, inl, inr, refl, sym, ap, ◌∙◌, subst, ℕ, zero, suc, ◌≤◌, ◌<◌, ◌+◌, ◌*◌, arith, Bool, lit<}
+use Rattle.std.proofs.Common.{pos, ◌*ℤ◌, ◌+ℤ◌}
 use Rattle.std.proofs.lemmas.Int.{ints}
 use Rattle.field_core.specs.Number.{Number}
 use Rattle.field_core.specs.Arithmetic.{◌+ε◌}
@@ -15,7 +16,8 @@ use Rattle.field_core.proofs.SumLaws.{unit_same, unit_other}
 use Rattle.field_core.proofs.UnitLimits.{zero_is, one_is, suc_not_zero}
 use Rattle.case_model.specs.TextbookGraphs.{chain_graph}
 use Rattle.field_core.proofs.Positions.{at_or_below}
-use Rattle.field_core.proofs.Chains.{chain_weight, chain_edge, chain_left, chain_closed, weight_first, weight_kept, weight_passed, edge_first, edge_kept, edge_passed}
+use Rattle.field_core.proofs.Chains.{chain_weight, chain_edge, chain_left, chain_closed, weight_first, weight_kept, weight_passed, edge_first, edge_kept}
+use Rattle.field_core.proofs.Chains.{edge_passed}
 use Rattle.case_model.proofs.FallbackOrders.{chain_start}
 use Rattle.removal.specs.StoredGraph.{StoredGraph, size}
 use Rattle.textbook.specs.TextbookRuns.{Stores, IsNeverRefused, IsNeverRefusedAlone, total, FallbackRemovalsAreDefined}
@@ -26,7 +28,16 @@ use Rattle.textbook.proofs.BundleRuns.{bundle_never_refused}
 use Rattle.field_core.specs.Runs.{IsOrder}
 
 chain_fit : Fit 100000000 1
-chain_fit = record { product = lit< tt; weight = lit< tt; loss = lit< tt; divisor = lit< tt; edge = lit< tt; quotient = lit< tt; share = lit< tt; level = lit< tt }
+chain_fit = record {
+  product = lit< tt;
+  weight = lit< tt;
+  loss = lit< tt;
+  divisor = lit< tt;
+  edge = lit< tt;
+  quotient = lit< tt;
+  share = lit< tt;
+  level = lit< tt;
+}
 
 -- ---- edges are 0 or 1
 
@@ -72,7 +83,8 @@ module _ (a : ℕ → ℕ) (d : ℕ) where
   sum_common : (x y : ℕ) → fraction (pos x) (pos (suc d)) +ε fraction (pos y) (pos (suc d)) ≡ fraction (pos (x + y)) (pos (suc d))
   sum_common x y =
       fraction-add (pos x) (pos (suc d)) (pos y) (pos (suc d)) (suc_not_zero d) (suc_not_zero d)
-      ∙ fraction-equal (pos x *ℤ pos (suc d) +ℤ pos y *ℤ pos (suc d)) (pos (suc d) *ℤ pos (suc d)) (pos (x + y)) (pos (suc d)) (λ e. absurd (omega (arith, ints, e))) (suc_not_zero d) (ap pos (natural x y (suc d)))
+      ∙ fraction-equal (pos x *ℤ pos (suc d) +ℤ pos y *ℤ pos (suc d)) (pos (suc d) *ℤ pos (suc d)) (pos (x + y)) (pos (suc d))
+      (λ e. absurd (omega (arith, ints, e))) (suc_not_zero d) (ap pos (natural x y (suc d)))
 
   -- a numerator over the common denominator
   record IsMultiple (bound : ℕ) (x : Number) : Type 0 where
@@ -91,13 +103,15 @@ module _ (a : ℕ → ℕ) (d : ℕ) where
             let M = multiple I k in
             record {
               over = a (suc k) + M.over;
-              is = weight_passed number_field (λ i. fraction (pos (a i)) (pos (suc d))) I k f ∙ field_sum _ _ ∙ ap (λ z. fraction (pos (a (suc k))) (pos (suc d)) +ε z) M.is ∙ sum_common (a (suc k)) M.over;
+              is = weight_passed number_field (λ i. fraction (pos (a i)) (pos (suc d))) I k f ∙ field_sum _ _
+                  ∙ ap (λ z. fraction (pos (a (suc k))) (pos (suc d)) +ε z) M.is ∙ sum_common (a (suc k)) M.over;
               most = let b = M.most in omega (arith, next, b);
             }
       ]
 
   module _ (m : ℕ) (small : d < 100000000) (whole_sum : total a m ≤ suc d) where
-    pub weight_short : (I : ℕ → Bool) (l : ℕ) → IsIn m I l → IsNumberWithin 100000000 (chain_weight number_field (λ i. fraction (pos (a i)) (pos (suc d))) I l)
+    pub weight_short : (I : ℕ → Bool) (l : ℕ) → IsIn m I l
+        → IsNumberWithin 100000000 (chain_weight number_field (λ i. fraction (pos (a i)) (pos (suc d))) I l)
     weight_short I l p =
         let M = multiple I l in
         let b = M.most in
@@ -106,13 +120,18 @@ module _ (a : ℕ → ℕ) (d : ℕ) where
 
     pub chain_never_refused : (S : StoredGraph) → size S ≡ m → Stores (chain_graph (λ i. fraction (pos (a i)) (pos (suc d)))) S → IsNeverRefused S
     chain_never_refused S e St =
-        never_refused m (chain_left number_field (λ i. fraction (pos (a i)) (pos (suc d)))) (chain_closed number_field m (λ i. fraction (pos (a i)) (pos (suc d)))) 100000000 1 chain_fit
-        weight_short (λ I l h _ _ _. edge_short I l h) (chain_graph (λ i. fraction (pos (a i)) (pos (suc d)))) S e St (chain_start m (λ i. fraction (pos (a i)) (pos (suc d))))
+        never_refused m (chain_left number_field (λ i. fraction (pos (a i)) (pos (suc d))))
+        (chain_closed number_field m (λ i. fraction (pos (a i)) (pos (suc d)))) 100000000 1 chain_fit
+        weight_short (λ I l h _ _ _. edge_short I l h) (chain_graph (λ i. fraction (pos (a i)) (pos (suc d)))) S e St
+        (chain_start m (λ i. fraction (pos (a i)) (pos (suc d))))
 
-    pub chain_never_refused_alone : (S : StoredGraph) → size S ≡ m → Stores (chain_graph (λ i. fraction (pos (a i)) (pos (suc d)))) S → IsNeverRefusedAlone S
+    pub chain_never_refused_alone : (S : StoredGraph) → size S ≡ m → Stores (chain_graph (λ i. fraction (pos (a i)) (pos (suc d)))) S
+        → IsNeverRefusedAlone S
     chain_never_refused_alone S e St js o =
-        bundle_never_refused m (chain_left number_field (λ i. fraction (pos (a i)) (pos (suc d)))) (chain_closed number_field m (λ i. fraction (pos (a i)) (pos (suc d)))) 100000000 1 chain_fit
-        weight_short (λ I l h _ _ _. edge_short I l h) (chain_graph (λ i. fraction (pos (a i)) (pos (suc d)))) S e St (chain_start m (λ i. fraction (pos (a i)) (pos (suc d)))) js (subst (λ n. IsOrder n whole js) e o)
+        bundle_never_refused m (chain_left number_field (λ i. fraction (pos (a i)) (pos (suc d))))
+        (chain_closed number_field m (λ i. fraction (pos (a i)) (pos (suc d)))) 100000000 1 chain_fit
+        weight_short (λ I l h _ _ _. edge_short I l h) (chain_graph (λ i. fraction (pos (a i)) (pos (suc d)))) S e St
+        (chain_start m (λ i. fraction (pos (a i)) (pos (suc d)))) js (subst (λ n. IsOrder n whole js) e o)
 
 pub fallback_removals : FallbackRemovalsAreDefined
 fallback_removals S a d small sum St = (chain_never_refused a d (size S) small sum S refl St, chain_never_refused_alone a d (size S) small sum S refl St)

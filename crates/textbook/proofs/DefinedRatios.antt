@@ -52,13 +52,17 @@ module _ (c : Content) (V : IsValidContent c) (G : Graph Number) (A : IsAlone G 
     level_within k i =
         let I = left_after whole js in
         let short = short_weight I k i in
-        let same : number (case_level s k) ≡ limit ((left I).weight k) = intersection_unique (entangled c) I k _ _ (case_levels c js s k V o h i) (left_intersection (entangled c) (valid_content c V) G A left C start I k i) in
-        lowest_within w short.over short.under (case_level s k) (case_lowest c js s k V o h) (same ∙ limit_is w ((left I).weight k) short) short.over_within short.under_within
+        let same : number (case_level s k) ≡ limit ((left I).weight k) =
+        intersection_unique (entangled c) I k _ _ (case_levels c js s k V o h i)
+        (left_intersection (entangled c) (valid_content c V) G A left C start I k i) in
+        lowest_within w short.over short.under (case_level s k) (case_lowest c js s k V o h)
+        (same ∙ limit_is w ((left I).weight k) short) short.over_within short.under_within
 
     pub ratios_defined : (ps : List Ratio) → ArePValues (length c.names) ps → AreDefinedBelow (length ps) ps s
     unfolding written_ratio
     ratios_defined ps P k b H =
         let below : k < length c.names = subst (λ n. k < n) P.count b in
         let i : IsIn (length c.names) (left_after whole js) k = record { below = below; member = sym (case_live c js s k V o h below) ∙ H.live } in
-        let q = operation_within Div (terms (ratio_at ps k)) (case_level s k) (10 ^ 30) w (p_within (ratio_at ps k) (p_value_in (length c.names) ps P k b)) (level_within k i) small in
+        let q = operation_within Div (terms (ratio_at ps k)) (case_level s k) (10 ^ 30) w (p_within (ratio_at ps k) (p_value_in (length c.names) ps P k b))
+        (level_within k i) small in
         (q.0, q.1)

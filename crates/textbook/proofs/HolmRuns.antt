@@ -19,7 +19,16 @@ use Rattle.textbook.proofs.BundleRuns.{bundle_never_refused}
 use Rattle.field_core.specs.Runs.{IsOrder}
 
 holm_fit : Fit 64 64
-holm_fit = record { product = lit< tt; weight = lit< tt; loss = lit< tt; divisor = lit< tt; edge = lit< tt; quotient = lit< tt; share = lit< tt; level = lit< tt }
+holm_fit = record {
+  product = lit< tt;
+  weight = lit< tt;
+  loss = lit< tt;
+  divisor = lit< tt;
+  edge = lit< tt;
+  quotient = lit< tt;
+  share = lit< tt;
+  level = lit< tt;
+}
 
 module _ (m : ℕ) (few : m ≤ 64) where
   part_short : (n r : ℕ) → suc r ≡ n → n ≤ m → IsNumberWithin 64 (one_over n)

@@ -1,5 +1,6 @@
 -- Decisions and adjusted values on the graphs of textbook rules are never too wide.
-use Rattle.std.proofs.Common.{◌≡◌, refl, sym, ap, ◌∙◌, subst, inl, inr, ℕ, zero, suc, ◌≤◌, ◌<◌, arith, lit<, pos, Bool, true, List, [], ◌∷◌, ◌++◌, length, Some, None, Result, Ok, Err}
+use Rattle.std.proofs.Common.{◌≡◌, refl, sym, ap, ◌∙◌, subst, inl, inr, ℕ, zero, suc, ◌≤◌, ◌<◌, arith, lit<, pos, Bool, true, List, []}
+use Rattle.std.proofs.Common.{◌∷◌, ◌++◌, length, Some, None, Result, Ok, Err}
 use Rattle.field_core.specs.Fractions.{fraction, one_over}
 use Rattle.field_core.specs.Number.{Number}
 use Rattle.field_core.specs.NumberField.{number_field}
@@ -50,18 +51,21 @@ use Rattle.textbook.proofs.ChainRuns.{fallback_removals, weight_short as chain_s
 -- ---- one removal more
 
 module _ {S E : Type 0} (removal : S → ℕ → Result S E) where
-  refused_after : (js : List ℕ) (s t : S) (j : ℕ) (e : E) → removed_in_turn removal s js ≡ Ok t → removal t j ≡ Err e → removed_in_turn removal s (js ++ j ∷ []) ≡ Err e
+  refused_after : (js : List ℕ) (s t : S) (j : ℕ) (e : E) → removed_in_turn removal s js ≡ Ok t → removal t j ≡ Err e
+      → removed_in_turn removal s (js ++ j ∷ []) ≡ Err e
   unfolding removed_in_turn
   refused_after [] s t j e h r = ap (λ q. q >>= (λ u. removed_in_turn removal u [])) (ap (λ x. removal x j) (turn_none removal s t h) ∙ r)
   refused_after (k ∷ ks) s t j e h r =
       let u = turn_first removal s t k ks h in
       ap (λ q. q >>= (λ x. removed_in_turn removal x (ks ++ j ∷ []))) u.1.0 ∙ refused_after ks u.0 t j e u.1.1 r
 
-order_more : (m : ℕ) (Rule : (ℕ → Bool) → ℕ → Type 0) → ((I : ℕ → Bool) (j : ℕ) → Rule I j → IsIn m I j) → (js : List ℕ) (I : ℕ → Bool) (j : ℕ) → IsOrderBy Rule I js → IsIn m (left_after I js) j → IsOrder m I (js ++ j ∷ [])
+order_more : (m : ℕ) (Rule : (ℕ → Bool) → ℕ → Type 0) → ((I : ℕ → Bool) (j : ℕ) → Rule I j → IsIn m I j)
+    → (js : List ℕ) (I : ℕ → Bool) (j : ℕ) → IsOrderBy Rule I js → IsIn m (left_after I js) j → IsOrder m I (js ++ j ∷ [])
 order_more m Rule member [] I j o p = (p, tt)
 order_more m Rule member (k ∷ ks) I j o p = (member I k o.0, order_more m Rule member ks (dropping k I) j o.1 p)
 
-rule_order : (m : ℕ) (Rule : (ℕ → Bool) → ℕ → Type 0) → ((I : ℕ → Bool) (j : ℕ) → Rule I j → IsIn m I j) → (js : List ℕ) (I : ℕ → Bool) → IsOrderBy Rule I js → IsOrder m I js
+rule_order : (m : ℕ) (Rule : (ℕ → Bool) → ℕ → Type 0) → ((I : ℕ → Bool) (j : ℕ) → Rule I j → IsIn m I j)
+    → (js : List ℕ) (I : ℕ → Bool) → IsOrderBy Rule I js → IsOrder m I js
 rule_order m Rule member [] I o = tt
 rule_order m Rule member (k ∷ ks) I o = (member I k o.0, rule_order m Rule member ks (dropping k I) o.1)
 
@@ -69,7 +73,8 @@ refused_opening : (c : Content) (js : List ℕ) (w : WideAt) → case_opening c 
 unfolding case_after
 refused_opening c js w h = ap (λ r. r >>= (λ s. removed_in_turn case_removal s js)) h
 
-refused_removal : (c : Content) (js : List ℕ) (s : CaseState) (j : ℕ) (w : WideAt) → case_after c js ≡ Ok s → case_removal s j ≡ Err w → case_after c (js ++ j ∷ []) ≡ Err w
+refused_removal : (c : Content) (js : List ℕ) (s : CaseState) (j : ℕ) (w : WideAt) → case_after c js ≡ Ok s → case_removal s j ≡ Err w
+    → case_after c (js ++ j ∷ []) ≡ Err w
 unfolding case_after
 refused_removal c js s j w h r =
     let o = bind_ok (case_opening c) _ s h in
@@ -80,16 +85,20 @@ never_both r w d e = let both : Ok d.0 ≡ Err w = sym d.1 ∙ e in cc
 
 module _ (c : Content) (D : (js : List ℕ) → IsOrder (length c.names) whole js → IsDefined (case_after c js)) where
   -- a removal that comes next isn't refused
-  not_removal : (ps : List Ratio) (priority : Priority) → ((I : ℕ → Bool) (j : ℕ) → IsNext (entangled c) (number_at ps) (number_of c.alpha) priority I j → IsIn (length c.names) I j)
-      → (js : List ℕ) (s : CaseState) (w : WideAt) → IsOrderBy (IsNext (entangled c) (number_at ps) (number_of c.alpha) priority) whole js → case_after c js ≡ Ok s → IsWideRemoval c ps priority js s w → ⊥
+  not_removal : (ps : List Ratio) (priority : Priority)
+      → ((I : ℕ → Bool) (j : ℕ) → IsNext (entangled c) (number_at ps) (number_of c.alpha) priority I j → IsIn (length c.names) I j)
+      → (js : List ℕ) (s : CaseState) (w : WideAt) → IsOrderBy (IsNext (entangled c) (number_at ps) (number_of c.alpha) priority) whole js
+      → case_after c js ≡ Ok s → IsWideRemoval c ps priority js s w → ⊥
   not_removal ps priority member js s w o h R =
-      let order = order_more (length c.names) (IsNext (entangled c) (number_at ps) (number_of c.alpha) priority) member js whole R.hypothesis o (member (left_after whole js) R.hypothesis R.next) in
+      let order = order_more (length c.names) (IsNext (entangled c) (number_at ps) (number_of c.alpha) priority) member js whole R.hypothesis o
+      (member (left_after whole js) R.hypothesis R.next) in
       never_both (case_after c (js ++ R.hypothesis ∷ [])) w (D (js ++ R.hypothesis ∷ []) order) (refused_removal c js s R.hypothesis w h R.refused)
 
   legal_member : (ps : List Ratio) (I : ℕ → Bool) (j : ℕ) → IsLegal (entangled c) (number_at ps) (number_of c.alpha) I j → IsIn (length c.names) I j
   legal_member ps I j L = subst (λ n. IsIn n I j) (hypotheses_are c) L.member
 
-  next_member : (ps : List Ratio) (priority : Priority) (I : ℕ → Bool) (j : ℕ) → IsNext (entangled c) (number_at ps) (number_of c.alpha) priority I j → IsIn (length c.names) I j
+  next_member : (ps : List Ratio) (priority : Priority) (I : ℕ → Bool) (j : ℕ) → IsNext (entangled c) (number_at ps) (number_of c.alpha) priority I j
+      → IsIn (length c.names) I j
   next_member ps First I j n = legal_member ps I j n.allowed
   next_member ps Last I j n = legal_member ps I j n.allowed
   next_member ps ByRatio I j n = legal_member ps I j n.legal
@@ -98,9 +107,11 @@ module _ (c : Content) (D : (js : List ℕ) → IsOrder (length c.names) whole j
   no_opening w h = never_both (case_after c []) w (D [] tt) (refused_opening c [] w h)
 
   module _ (V : IsValidContent c)
-      (R : (js : List ℕ) (s : CaseState) → IsOrder (length c.names) whole js → case_after c js ≡ Ok s → (ps : List Ratio) → ArePValues (length c.names) ps → AreDefinedBelow (length ps) ps s) where
+      (R : (js : List ℕ) (s : CaseState) → IsOrder (length c.names) whole js → case_after c js ≡ Ok s → (ps : List Ratio)
+      → ArePValues (length c.names) ps → AreDefinedBelow (length ps) ps s) where
     -- what a choice writes is defined
-    not_choice : (priority : Priority) (ps : List Ratio) (js : List ℕ) (s : CaseState) (w : WideAt) → ArePValues (length c.names) ps → IsOrder (length c.names) whole js → case_after c js ≡ Ok s → IsWideChoice priority ps s w → ⊥
+    not_choice : (priority : Priority) (ps : List Ratio) (js : List ℕ) (s : CaseState) (w : WideAt) → ArePValues (length c.names) ps
+        → IsOrder (length c.names) whole js → case_after c js ≡ Ok s → IsWideChoice priority ps s w → ⊥
     not_choice First ps js s w P o h a = a
     not_choice Last ps js s w P o h a = a
     not_choice ByRatio ps js s w P o h a =
@@ -109,7 +120,8 @@ module _ (c : Content) (D : (js : List ℕ) → IsOrder (length c.names) whole j
 
     no_step : (priority : Priority) (k : ℕ) (w : WideAt) (ps : List Ratio) → ArePValues (length c.names) ps → IsWideStep c ps priority k w → ⊥
     no_step priority k w ps P T =
-        let order = rule_order (length c.names) (IsNext (entangled c) (number_at ps) (number_of c.alpha) priority) (next_member ps priority) T.rejected whole T.order in
+        let order = rule_order (length c.names) (IsNext (entangled c) (number_at ps) (number_of c.alpha) priority)
+        (next_member ps priority) T.rejected whole T.order in
         elim T.cause [
           | inl a ↦ not_choice priority ps T.rejected T.state w P order T.reached a
           | inr W ↦ not_removal ps priority (next_member ps priority) T.rejected T.state w T.order T.reached W
@@ -118,7 +130,8 @@ module _ (c : Content) (D : (js : List ℕ) → IsOrder (length c.names) whole j
     pub never_wide : AreDecisionsDefined c
     never_wide priority zero w = no_opening w
     never_wide priority (suc k) w = λ h.
-        for_single (λ ps. IsWideStep c ps priority k w) (λ i. IfSingle i (ArePValues (length c.names)) → ⊥) (λ ps T P. no_step priority k w ps P T) c.inputs h (shape c V).p_values
+        for_single (λ ps. IsWideStep c ps priority k w) (λ i. IfSingle i (ArePValues (length c.names)) → ⊥)
+        (λ ps T P. no_step priority k w ps P T) c.inputs h (shape c V).p_values
 
 -- ---- adjusted values
 
@@ -131,7 +144,8 @@ unfolding is_plain
 plain_at c a h = h
 
 -- where decisions are defined at each level, adjusted values are too
-module _ (Fits : Content → Type 0) (other : (c : Content) → Fits c → Fits (at_level c one_ratio)) (D : (c : Content) → IsValidContent c → is_plain c ≡ true → Fits c → AreDecisionsDefined c) where
+module _ (Fits : Content → Type 0) (other : (c : Content) → Fits c → Fits (at_level c one_ratio))
+    (D : (c : Content) → IsValidContent c → is_plain c ≡ true → Fits c → AreDecisionsDefined c) where
   never_adjusted : (c : Content) → IsValidContent c → is_plain c ≡ true → Fits c → (n : ℕ) (w : WideAt) → ¬ IsWideAdjusting c n w
   never_adjusted c V P F zero w = D c V P F First zero w
   never_adjusted c V P F (suc n) w = λ h.
@@ -151,7 +165,8 @@ holm_steps c V P A =
     let stores : Stores (equal_graph (size S)) S = subst (λ n. Stores (equal_graph n) S) size_is (net_stores c V P (equal_graph (entangled c).hypotheses) A) in
     let alone : IsAlone (equal_graph m) (entangled c) = subst (λ n. IsAlone (equal_graph n) (entangled c)) (hypotheses_are c) A in
     never_wide c (case_defined c V P (equal_graph (entangled c).hypotheses) A (holm_removals S stores).1) V
-    (ratios_defined c V (equal_graph m) alone (equal_left number_field one_over one_over_parts m) (equal_closed number_field one_over one_over_parts m) (equal_start m) 64 (lit< tt) (weight_short m (shape c V).few))
+    (ratios_defined c V (equal_graph m) alone (equal_left number_field one_over one_over_parts m) (equal_closed number_field one_over one_over_parts m)
+    (equal_start m) 64 (lit< tt) (weight_short m (shape c V).few))
 
 pub holm_decisions : HolmDecisionsAreDefined
 holm_decisions = both_defined (λ c. IsHolmGraph (entangled c)) (λ c A. subst IsHolmGraph (same_graph c one_ratio) A) holm_steps
@@ -170,7 +185,8 @@ module _ (a : ℕ → ℕ) (d : ℕ) (small : d < 100000000) where
       let S = (net c V P G F.graph).0 in
       let whole_sum = subst (λ n. total a n ≤ suc d) (sym (net_size c V P G F.graph)) F.sum in
       never_wide c (case_defined c V P G F.graph (fallback_removals S a d small whole_sum (net_stores c V P G F.graph)).1) V
-      (ratios_defined c V G F.graph (chain_left number_field ws) (chain_closed number_field m ws) (chain_start m ws) 100000000 (lit< tt) (chain_short a d m small F.sum))
+      (ratios_defined c V G F.graph (chain_left number_field ws) (chain_closed number_field m ws) (chain_start m ws) 100000000 (lit< tt)
+      (chain_short a d m small F.sum))
 
   other_chain : (c : Content) → IsShortChain c → IsShortChain (at_level c one_ratio)
   other_chain c F = record { sum = F.sum; graph = subst (IsFallbackGraph (λ i. fraction (pos (a i)) (pos (suc d)))) (same_graph c one_ratio) F.graph }

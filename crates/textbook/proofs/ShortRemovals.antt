@@ -1,5 +1,6 @@
 -- The written removal of a hypothesis from a graph of short fractions is defined.
-use Rattle.std.proofs.Common.{◌≡◌, ◌≢◌, ◌⊎◌, inl, inr, refl, sym, ap, ◌∙◌, ℕ, zero, suc, ◌<◌, ◌^◌, ◌==◌, ◌||◌, not, arith, Bool, true, false, if◌then◌else◌, List, [], ◌∷◌, ◌++◌, Option, Some, None, Result, Ok}
+use Rattle.std.proofs.Common.{◌≡◌, ◌≢◌, ◌⊎◌, inl, inr, refl, sym, ap, ◌∙◌, ℕ, zero, suc, ◌<◌, ◌^◌, ◌==◌, ◌||◌, not}
+use Rattle.std.proofs.Common.{arith, Bool, true, false, if◌then◌else◌, List, [], ◌∷◌, ◌++◌, Option, Some, None, Result, Ok}
 use Rattle.std.proofs.lemmas.Bool.Decides.{nat_tests}
 use Rattle.field_core.specs.Kind.{Parts, is_zero}
 use Rattle.field_core.specs.declared.place.Op.{Op}
@@ -18,7 +19,8 @@ use Rattle.removal.specs.WrittenRemoval.{is_gone, new_weight, divisor, new_edge,
 -- the parts of the weights of the hypotheses that are in are at most `w`, and those of the edges between them `e`
 pub record AreWithin (w e : ℕ) (G : StoredGraph) : Type 0 where
   pub weights : (l : ℕ) → l < size G → is_live G l ≡ true → IsWithin w (pair_of (weight plain G l))
-  pub edges : (l h : ℕ) → l < size G → h < size G → is_live G l ≡ true → is_live G h ≡ true → l ≢ h → IsWithin e (pair_of (edge plain G l h))
+  pub edges : (l h : ℕ) → l < size G → h < size G → is_live G l ≡ true → is_live G h ≡ true → l ≢ h
+      → IsWithin e (pair_of (edge plain G l h))
 
 -- a removal on such numbers, and the levels after it, stay below 2^127
 pub record Fit (w e : ℕ) : Type 0 where
@@ -87,9 +89,13 @@ module _ (G : StoredGraph) (j w e : ℕ) (fit : Fit w e) (S : AreWithin w e G) (
     | inl t ↦ (plain.zero, rw t refl)
     | inr f ↦
         let s = stays l f in
-        let a = parts_within Mul (weight plain G j) (edge plain G j l) w e (S.weights j below live) (S.edges j l below h live s.0 (λ x. s.1 (sym x))) fit.product in
-        let b = parts_within Add (weight plain G l) a.0 w (limit_of Mul w e) (S.weights l h s.0) a.2 fit.weight in
-        (b.0, rw f (then_made (at (Weight l) Mul (plain.written Mul (weight plain G j) (edge plain G j l))) _ a.0 (at_made (Weight l) Mul _ a.0 a.1) ∙ at_made (Weight l) Add _ b.0 b.1))
+        let a = parts_within Mul (weight plain G j) (edge plain G j l) w e (S.weights j below live)
+        (S.edges j l below h live s.0 (λ x. s.1 (sym x))) fit.product in
+        let b = parts_within Add (weight plain G l) a.0 w (limit_of Mul w e) (S.weights l h s.0) a.2 fit.weight in (
+          b.0,
+          rw f (then_made (at (Weight l) Mul (plain.written Mul (weight plain G j) (edge plain G j l))) _ a.0 (at_made (Weight l) Mul _ a.0 a.1)
+              ∙ at_made (Weight l) Add _ b.0 b.1),
+        )
   ]
 
   -- the divisor is defined, and short where there is one
@@ -97,7 +103,8 @@ module _ (G : StoredGraph) (j w e : ℕ) (fit : Fit w e) (S : AreWithin w e G) (
   ShortDivisor l None = Unit {0}
   ShortDivisor l (Some d) = (is_gone G j l ≡ false) × IsWithin (limit_of Sub 1 (limit_of Mul e e)) (pair_of d)
 
-  by_test : (l : ℕ) → is_gone G j l ≡ false → (b : Bool) (d : Parts) → IsWithin (limit_of Sub 1 (limit_of Mul e e)) (pair_of d) → ShortDivisor l (if b then None else Some d)
+  by_test : (l : ℕ) → is_gone G j l ≡ false → (b : Bool) (d : Parts) → IsWithin (limit_of Sub 1 (limit_of Mul e e)) (pair_of d)
+      → ShortDivisor l (if b then None else Some d)
   by_test l f true d s = tt
   by_test l f false d s = (f, s)
 
@@ -107,7 +114,8 @@ module _ (G : StoredGraph) (j w e : ℕ) (fit : Fit w e) (S : AreWithin w e G) (
     | inl t ↦ (None, rw t refl, tt)
     | inr f ↦
         let s = stays l f in
-        let c = parts_within Mul (edge plain G l j) (edge plain G j l) e e (S.edges l j h below s.0 live s.1) (S.edges j l below h live s.0 (λ x. s.1 (sym x))) fit.loss in
+        let c = parts_within Mul (edge plain G l j) (edge plain G j l) e e (S.edges l j h below s.0 live s.1)
+        (S.edges j l below h live s.0 (λ x. s.1 (sym x))) fit.loss in
         let d = parts_within Sub plain.one c.0 1 (limit_of Mul e e) one_within c.2 fit.divisor in (
           if is_zero d.0 then None else Some d.0,
           rw f (then_made (at (Loss l) Mul (plain.written Mul (edge plain G l j) (edge plain G j l))) _ c.0 (at_made (Loss l) Mul _ c.0 c.1)
@@ -129,12 +137,14 @@ module _ (G : StoredGraph) (j w e : ℕ) (fit : Fit w e) (S : AreWithin w e G) (
         let apart = or_false (is_gone G j h) (h == l) f in
         let one = stays l s.0 in
         let other = stays h apart.0 in
-        let a = parts_within Mul (edge plain G l j) (edge plain G j h) e e (S.edges l j p below one.0 live one.1) (S.edges j h below q live other.0 (λ x. other.1 (sym x))) fit.loss in
+        let a = parts_within Mul (edge plain G l j) (edge plain G j h) e e (S.edges l j p below one.0 live one.1)
+        (S.edges j h below q live other.0 (λ x. other.1 (sym x))) fit.loss in
         let b = parts_within Add (edge plain G l h) a.0 e (limit_of Mul e e) (S.edges l h p q one.0 other.0 (λ x. differ h l apart.1 (sym x))) a.2 fit.edge in
         let c = parts_within Div b.0 d (limit_of Add e (limit_of Mul e e)) (limit_of Sub 1 (limit_of Mul e e)) b.2 s.1 fit.quotient in (
           c.0,
           rw f (then_made (at (Edge l h) Mul (plain.written Mul (edge plain G l j) (edge plain G j h))) _ a.0 (at_made (Edge l h) Mul _ a.0 a.1)
-              ∙ then_made (at (Edge l h) Add (plain.written Add (edge plain G l h) a.0)) _ b.0 (at_made (Edge l h) Add _ b.0 b.1) ∙ at_made (Edge l h) Div _ c.0 c.1),
+              ∙ then_made (at (Edge l h) Add (plain.written Add (edge plain G l h) a.0)) _ b.0 (at_made (Edge l h) Add _ b.0 b.1)
+              ∙ at_made (Edge l h) Div _ c.0 c.1),
         )
   ]
 

@@ -38,12 +38,15 @@ module _ (m : ℕ) (left : (ℕ → Bool) → Graph Number) (C : IsClosedForm nu
 
       weights : (l : ℕ) → l < size S → is_live S l ≡ true → IsWithin w (pair_of (weight plain S l))
       weights l h t =
-          let e : value_of (weight plain S l) ≡ (left I).weight l = sym (weight_in plain S l t) ∙ ap (λ B. B.weight l) N.value ∙ G.weight l (inside l h t) in
+          let e : value_of (weight plain S l) ≡ (left I).weight l = sym (weight_in plain S l t) ∙ ap (λ B. B.weight l) N.value
+          ∙ G.weight l (inside l h t) in
           stored_within w (weight plain S l) (N.proper.weights l h) (subst (IsNumberWithin w) (sym e) (short_weight I l (inside l h t)))
 
-      edges : (l i : ℕ) → l < size S → i < size S → is_live S l ≡ true → is_live S i ≡ true → l ≢ i → IsWithin e (pair_of (edge plain S l i))
+      edges : (l i : ℕ) → l < size S → i < size S → is_live S l ≡ true → is_live S i ≡ true → l ≢ i
+          → IsWithin e (pair_of (edge plain S l i))
       edges l i h g t s n =
-          let q : value_of (edge plain S l i) ≡ (left I).edge l i = sym (edge_in plain S l i t s n) ∙ ap (λ B. B.edge l i) N.value ∙ G.edge l i (inside l h t) (inside i g s) n in
+          let q : value_of (edge plain S l i) ≡ (left I).edge l i = sym (edge_in plain S l i t s n) ∙ ap (λ B. B.edge l i) N.value
+          ∙ G.edge l i (inside l h t) (inside i g s) n in
           stored_within e (edge plain S l i) (N.proper.edges l i h g) (subst (IsNumberWithin e) (sym q) (short_edge I l i (inside l h t) (inside i g s) n))
 
   -- the state after one more removal
@@ -60,18 +63,23 @@ module _ (m : ℕ) (left : (ℕ → Bool) → Graph Number) (C : IsClosedForm nu
       record {
         state = first.0;
         made = first.1;
-        now = in_turn plain IsFraction (λ G. G) (λ G. AreStored plain IsFraction G) (written_removal plain) (removal_is_exact plain IsFraction plain_is_exact) m (j ∷ []) I A S first.0 N (p, tt) (turn_on (written_removal plain) S first.0 first.0 j [] first.1 (turn_end (written_removal plain) first.0));
-        agrees = agrees_on m (dropping j I) (without number_field A j) (without number_field (left I) j) (left (dropping j I)) (agrees_step number_field m I A (left I) j p G) (C.step I j p);
+        now = in_turn plain IsFraction (λ G. G) (λ G. AreStored plain IsFraction G) (written_removal plain)
+            (removal_is_exact plain IsFraction plain_is_exact) m (j ∷ []) I A S first.0 N (p, tt)
+            (turn_on (written_removal plain) S first.0 first.0 j [] first.1 (turn_end (written_removal plain) first.0));
+        agrees = agrees_on m (dropping j I) (without number_field A j) (without number_field (left I) j) (left (dropping j I))
+            (agrees_step number_field m I A (left I) j p G) (C.step I j p);
       }
 
-  run_defined : (js : List ℕ) (I : ℕ → Bool) (A : Graph Number) (S : StoredGraph) → Now I A S → Agrees m I A (left I) → IsOrder m I js → (T : StoredGraph) × (removed_in_turn (written_removal plain) S js ≡ Ok T)
+  run_defined : (js : List ℕ) (I : ℕ → Bool) (A : Graph Number) (S : StoredGraph) → Now I A S → Agrees m I A (left I) → IsOrder m I js
+      → (T : StoredGraph) × (removed_in_turn (written_removal plain) S js ≡ Ok T)
   run_defined [] I A S N G o = (S, turn_end (written_removal plain) S)
   run_defined (j ∷ js) I A S N G o =
       let X = next_state I A S j N G o.0 in
       let rest = run_defined js (dropping j I) (without number_field A j) X.state X.now X.agrees o.1 in
       (rest.0, turn_on (written_removal plain) S X.state rest.0 j js X.made rest.1)
 
-  pub start_agrees : (G : Graph Number) (S : StoredGraph) → size S ≡ m → Stores G S → Agrees m whole G (left whole) → Agrees m whole (graph_of plain S) (left whole)
+  pub start_agrees : (G : Graph Number) (S : StoredGraph) → size S ≡ m → Stores G S → Agrees m whole G (left whole)
+      → Agrees m whole (graph_of plain S) (left whole)
   start_agrees G S e St A = record {
     weight = λ l p. weight_in plain S l (St.live l (at l p)) ∙ St.weight_is l (at l p) ∙ A.weight l p;
     edge = λ l h p q n. edge_in plain S l h (St.live l (at l p)) (St.live h (at h q)) n ∙ St.edge_is l h (at l p) (at h q) n ∙ A.edge l h p q n;

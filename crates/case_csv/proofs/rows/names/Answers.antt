@@ -8,7 +8,8 @@ pub loop-i-preserved : goal.loop-i-preserved
 loop-i-preserved c =
     let all = drop 3 (cells c.args.row.now) in
     let there = sym (get_behind (cells c.args.row.now) c.loop-i.i) ∙ c.cell.ensures in
-    c.in_ok-push.ensures.pushed ∙ ap₂ (λ xs x. xs ++ x ∷ []) c.loop-i.invariant c.in_ok-copy.ensures ∙ sym (take_found all c.loop-i.i c.cell.result.now there)
+    c.in_ok-push.ensures.pushed ∙ ap₂ (λ xs x. xs ++ x ∷ []) c.loop-i.invariant c.in_ok-copy.ensures
+    ∙ sym (take_found all c.loop-i.i c.cell.result.now there)
 
 pub returns : goal.returns
 returns c =

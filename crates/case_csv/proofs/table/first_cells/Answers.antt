@@ -27,5 +27,8 @@ returns-in-Err-p_value-clause-fault c =
     let wide : length (cells c.args.row.now) ≡ c.args.columns = search rules in
     let same : c.cell.result.now ≡ c.args.name.now = search rules in
     let one = accepts_more name row 0 c.cell.result.now (accepts_none name row) c.cell.ensures same in
-    let two = accepts_more name row 1 c.cell-2.result.now one c.cell-2.ensures (c.in-Ok.weight, c.in-Ok.ensures.found) in
-    (refl, bad_cell c.args.columns name row 2 3 c.cell-3.result.now c.in-Err-p_value.kind wide c.cell-3.ensures two (c.in-Err-p_value.ensures.missing, c.in-Err-p_value.ensures.fault) refl)
+    let two = accepts_more name row 1 c.cell-2.result.now one c.cell-2.ensures (c.in-Ok.weight, c.in-Ok.ensures.found) in (
+      refl,
+      bad_cell c.args.columns name row 2 3 c.cell-3.result.now c.in-Err-p_value.kind wide c.cell-3.ensures two
+          (c.in-Err-p_value.ensures.missing, c.in-Err-p_value.ensures.fault) refl,
+    )

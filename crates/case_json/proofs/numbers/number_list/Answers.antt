@@ -12,14 +12,16 @@ returns-in-Err-clause-fault c =
     let small : c.loop-i.i < length c.args.values.now.items = search rules in
     let at : c.index.result.now ≡ get_or c.args.values.now.items c.loop-i.i c.index.result.now = search rules in
     let fault = subst (λ (v : Value). OrMemory (IsNumberFault (view v)) c.in-Err.fault) at c.in-Err.ensures.fault in
-    told IsNumber IsNumberFault c.args.values.now.items c.loop-i.numbers c.loop-i.i c.index.result.now c.in-Err.fault c.at.result small c.loop-i.invariant fault c.at.ensures
+    told IsNumber IsNumberFault c.args.values.now.items c.loop-i.numbers c.loop-i.i c.index.result.now c.in-Err.fault c.at.result small c.loop-i.invariant fault
+    c.at.ensures
 
 pub loop-i-preserved : goal.loop-i-preserved
 loop-i-preserved c =
     let small : c.loop-i.i < length c.args.values.now.items = search rules in
     let at : c.index.result.now ≡ get_or c.args.values.now.items c.loop-i.i c.index.result.now = search rules in
     let is = subst (λ (v : Value). IsNumber (view v) c.in-Ok.number) at c.in-Ok.ensures.found in
-    rw c.in_ok-push-in-Ok.ensures.pushed (one_more IsNumber c.args.values.now.items c.loop-i.numbers c.loop-i.i c.index.result.now c.in-Ok.number small c.loop-i.invariant is)
+    rw c.in_ok-push-in-Ok.ensures.pushed
+    (one_more IsNumber c.args.values.now.items c.loop-i.numbers c.loop-i.i c.index.result.now c.in-Ok.number small c.loop-i.invariant is)
 
 pub returns-clause-found : goal.returns-clause-found
 returns-clause-found c =

@@ -15,5 +15,8 @@ pub returns-clause-again : goal.returns-clause-again
 returns-clause-again c =
     let bytes = c.in_ok-bytes.ensures.text (no_float (view c.args.value.now) c.requires.fits) in
     let same = c.of.ensures ∙ c.in_ok-push.ensures.items ∙ ap (λ t. t ++ 10 ∷ []) bytes in
-    let back = c.in_ok-bytes.ensures.reads_back c.requires.shallow in
-    (subst IsUtf8 (sym same) (IsUtf8-append _ (10 ∷ []) (rw bytes at c.in_ok-bytes.ensures.utf8) line_is_text), ap read same ∙ read_line (view c.args.value.now) c.requires.fits (rw bytes at back))
+    let back = c.in_ok-bytes.ensures.reads_back c.requires.shallow in (
+      subst IsUtf8 (sym same) (IsUtf8-append _ (10 ∷ []) (rw bytes at c.in_ok-bytes.ensures.utf8) line_is_text),
+      ap read same
+          ∙ read_line (view c.args.value.now) c.requires.fits (rw bytes at back),
+    )

@@ -21,4 +21,5 @@ unfolding json_text
 returns-clause-text c = subst (λ (d : Data). IfOk c.line.result (λ bytes. bytes ≡ compact_text d ++ 10 ∷ [])) c.in_ok-value.ensures c.line.ensures.text
 
 pub returns-clause-says : goal.returns-clause-says
-returns-clause-says c = written_says c.line.result c.args.case.now (subst (λ (d : Data). IfOk c.line.result (λ bytes. IsJson bytes d)) c.in_ok-value.ensures c.line.ensures.again)
+returns-clause-says c = written_says c.line.result c.args.case.now
+    (subst (λ (d : Data). IfOk c.line.result (λ bytes. IsJson bytes d)) c.in_ok-value.ensures c.line.ensures.again)

@@ -9,7 +9,8 @@ use Rattle.case_model.proofs.components.repeated_edge.Goals as goal
 pub repeated_edge-requires-clause-ends : goal.repeated_edge-requires-clause-ends
 repeated_edge-requires-clause-ends c =
     let k = c.index-components-c.result in
-    ap (λ k. list_all (goes_between c.args.count) k.edges) c.index-components-c.is ∙ all_at (λ k. list_all (goes_between c.args.count) k.edges) c.args.components.now c.args.c k c.requires.ends c.requires.within
+    ap (λ k. list_all (goes_between c.args.count) k.edges) c.index-components-c.is
+    ∙ all_at (λ k. list_all (goes_between c.args.count) k.edges) c.args.components.now c.args.c k c.requires.ends c.requires.within
 
 pub returns : goal.returns
 returns c d =

@@ -9,4 +9,6 @@ pub returns : goal.returns
 returns c =
     let none : DraftComponent = record { share = zero_ratio; weights = []; edges = [] } in
     let ks = c.args.components.now in
-    c.first_below.ensures (found_at repeated_edge ks) (λ i r h p. let q : r ≡ repeated_edge i (get_or ks i none) = search rules in q ∙ sym (found_at-get repeated_edge ks i none h)) ∙ sym (first_of-below repeated_edge ks)
+    c.first_below.ensures (found_at repeated_edge ks)
+    (λ i r h p. let q : r ≡ repeated_edge i (get_or ks i none) = search rules in q ∙ sym (found_at-get repeated_edge ks i none h))
+    ∙ sym (first_of-below repeated_edge ks)

@@ -11,4 +11,6 @@ returns c =
     let none : Arrival = record { hypothesis = 0; stage = 0; p = zero_ratio } in
     let values = c.args.arrivals.now in
     let row = repeated_arrival values in
-    c.first_below.ensures (found_at row values) (λ n r h p. let q : r ≡ row n (get_or values n none) = search rules in q ∙ sym (found_at-get row values n none h)) ∙ sym (first_of-below row values)
+    c.first_below.ensures (found_at row values)
+    (λ n r h p. let q : r ≡ row n (get_or values n none) = search rules in q ∙ sym (found_at-get row values n none h))
+    ∙ sym (first_of-below row values)

@@ -8,11 +8,13 @@ loop-i-init g c row found = below_none row
 
 pub returns-then-is_some : goal.returns-then-is_some
 returns-then-is_some g c row found =
-    below_answer row c.loop-i.i c.args.count c.test-fault.result c.loop-i-test.true (c.loop-i.invariant row found) (found _ _ c.loop-i-test.true c.test-fault.ensures) (sym c.is_some.ensures ∙ c.if-is_some.true)
+    below_answer row c.loop-i.i c.args.count c.test-fault.result c.loop-i-test.true (c.loop-i.invariant row found)
+    (found _ _ c.loop-i-test.true c.test-fault.ensures) (sym c.is_some.ensures ∙ c.if-is_some.true)
 
 pub loop-i-preserved : goal.loop-i-preserved
 loop-i-preserved g c row found =
-    below_silence row c.loop-i.i c.test-fault.result (c.loop-i.invariant row found) (found _ _ c.loop-i-test.true c.test-fault.ensures) (sym c.is_some.ensures ∙ c.if-is_some.false)
+    below_silence row c.loop-i.i c.test-fault.result (c.loop-i.invariant row found) (found _ _ c.loop-i-test.true c.test-fault.ensures)
+    (sym c.is_some.ensures ∙ c.if-is_some.false)
 
 pub returns : goal.returns
 returns g c row found =

@@ -11,7 +11,9 @@ returns-then-is_some g c row found =
     let xs = c.args.items.now in
     let i = c.loop-i.i in
     let x = c.index-items-i.result in
-    below_answer (found_at row xs) i (length xs) c.test-fault.result c.loop-i-test.true (c.loop-i.invariant row found) (found _ i c.test-fault.result c.test-fault.ensures ∙ sym (found_at-item row xs i x c.loop-i-test.true c.index-items-i.is)) (sym c.is_some.ensures ∙ c.if-is_some.true)
+    below_answer (found_at row xs) i (length xs) c.test-fault.result c.loop-i-test.true (c.loop-i.invariant row found)
+    (found _ i c.test-fault.result c.test-fault.ensures ∙ sym (found_at-item row xs i x c.loop-i-test.true c.index-items-i.is))
+    (sym c.is_some.ensures ∙ c.if-is_some.true)
     ∙ sym (first_of-below row xs)
 
 pub loop-i-preserved : goal.loop-i-preserved
@@ -19,7 +21,9 @@ loop-i-preserved g c row found =
     let xs = c.args.items.now in
     let i = c.loop-i.i in
     let x = c.index-items-i.result in
-    below_silence (found_at row xs) i c.test-fault.result (c.loop-i.invariant row found) (found _ i c.test-fault.result c.test-fault.ensures ∙ sym (found_at-item row xs i x c.loop-i-test.true c.index-items-i.is)) (sym c.is_some.ensures ∙ c.if-is_some.false)
+    below_silence (found_at row xs) i c.test-fault.result (c.loop-i.invariant row found)
+    (found _ i c.test-fault.result c.test-fault.ensures ∙ sym (found_at-item row xs i x c.loop-i-test.true c.index-items-i.is))
+    (sym c.is_some.ensures ∙ c.if-is_some.false)
 
 pub returns : goal.returns
 returns g c row found =

@@ -22,7 +22,9 @@ returns-in-Ok c =
     let row = entry_at m c.args.table.now c.args.i in
     let fault = RowSum c.args.c c.args.i in
     c.then_some.ensures ∙ ap (λ b. fault when not b) c.is_at_most_one.ensures
-    ∙ fault_written (or_wide Add (written_row m row)) (sum_below number_field m (λ j. entry_value (row j))) number_one c.args.c (AtRowSum c.args.i) fault (map terms c.in-Ok.sum) (entry_value c.in-Ok.sum) c.in-Ok.ensures (exact_row m row c.in-Ok.sum (some_from Add (map terms c.in-Ok.sum) _ c.in-Ok.ensures))
+    ∙ fault_written (or_wide Add (written_row m row)) (sum_below number_field m (λ j. entry_value (row j))) number_one c.args.c (AtRowSum c.args.i) fault
+    (map terms c.in-Ok.sum) (entry_value c.in-Ok.sum) c.in-Ok.ensures
+    (exact_row m row c.in-Ok.sum (some_from Add (map terms c.in-Ok.sum) _ c.in-Ok.ensures))
 
 pub returns-in-Err : goal.returns-in-Err
 unfolding row_sum
@@ -30,4 +32,5 @@ returns-in-Err c =
     let m = c.args.count in
     let row = entry_at m c.args.table.now c.args.i in
     ap (λ w. Some (TooWideSum w)) (c.in_component.ensures ∙ ap (λ (w : Wide). record { component = c.args.c; place = w.place; op = w.op }) c.at.ensures)
-    ∙ fault_refused (or_wide Add (written_row m row)) (sum_below number_field m (λ j. entry_value (row j))) number_one c.args.c (AtRowSum c.args.i) (RowSum c.args.c c.args.i) c.in-Err.wide c.in-Err.ensures
+    ∙ fault_refused (or_wide Add (written_row m row)) (sum_below number_field m (λ j. entry_value (row j))) number_one c.args.c (AtRowSum c.args.i)
+    (RowSum c.args.c c.args.i) c.in-Err.wide c.in-Err.ensures

@@ -9,4 +9,6 @@ unfolding rows_fault
 returns c =
     let row = component_rows c.args.count in
     let ks = c.args.components.now in
-    c.first_below.ensures (found_at row ks) (λ i r h p. let q : r ≡ row i (component_at ks i) = search rules in q ∙ sym (found_at-get row ks i empty_component h)) ∙ sym (first_of-below row ks)
+    c.first_below.ensures (found_at row ks)
+    (λ i r h p. let q : r ≡ row i (component_at ks i) = search rules in q ∙ sym (found_at-get row ks i empty_component h))
+    ∙ sym (first_of-below row ks)

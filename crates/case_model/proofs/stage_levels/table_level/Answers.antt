@@ -30,5 +30,7 @@ returns-then-is_at_most c =
     let u = number_of c.args.weight.now in
     let ss = c.args.steps.now in
     let s = c.index-steps-n.result in
-    let last = ap (λ ss. last_step ss u) (rest ((goal.at.returns-then-is_at_most c).After-index-steps-n)) ∙ step_counts s (drop c.loop-n.n ss) u c.loop-n.invariant (sym c.is_at_most.ensures ∙ c.if-is_at_most.true) in
-    c.at_stage.ensures ∙ ap (λ xs. slice_get xs (c.args.t - 1)) c.as_slice.ensures ∙ ap (option_and_then (λ (s : SpendStep). slice_get s.levels (c.args.t - 1))) (sym (last_behind (c.loop-n.n - 1) ss u s last))
+    let last = ap (λ ss. last_step ss u) (rest ((goal.at.returns-then-is_at_most c).After-index-steps-n))
+    ∙ step_counts s (drop c.loop-n.n ss) u c.loop-n.invariant (sym c.is_at_most.ensures ∙ c.if-is_at_most.true) in
+    c.at_stage.ensures ∙ ap (λ xs. slice_get xs (c.args.t - 1)) c.as_slice.ensures
+    ∙ ap (option_and_then (λ (s : SpendStep). slice_get s.levels (c.args.t - 1))) (sym (last_behind (c.loop-n.n - 1) ss u s last))

@@ -13,7 +13,9 @@ pub div-requires : goal.div-requires
 div-requires c = stored_nonzero c.args.level.now (positive-nonzero _ (positive_at (number_of c.args.level.now) c.requires.some))
 
 pub unreachable-requires : goal.unreachable-requires
-unreachable-requires c = quotient_fits c.args.p.now c.args.level.now 100000000 c.requires.p (short_within (terms c.args.level.now) 100000000 c.requires.short) (lit< tt) (none_from Div c.in-Err.field-0 _ c.in-Err.ensures)
+unreachable-requires c = quotient_fits c.args.p.now c.args.level.now 100000000 c.requires.p (short_within (terms c.args.level.now) 100000000 c.requires.short)
+    (lit< tt) (none_from Div c.in-Err.field-0 _ c.in-Err.ensures)
 
 pub returns : goal.returns
-returns c = quotient_times c.args.p.now c.args.level.now c.in-Ok.weight (positive-nonzero _ (positive_at (number_of c.args.level.now) c.requires.some)) (some_from Div (fraction_parts c.in-Ok.weight) _ c.in-Ok.ensures)
+returns c = quotient_times c.args.p.now c.args.level.now c.in-Ok.weight (positive-nonzero _ (positive_at (number_of c.args.level.now) c.requires.some))
+    (some_from Div (fraction_parts c.in-Ok.weight) _ c.in-Ok.ensures)

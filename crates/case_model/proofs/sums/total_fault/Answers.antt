@@ -23,15 +23,20 @@ unfolding total_fault
 returns-in-Ok g c xs many item =
     let n = length xs in
     let sum = c.in-Ok.sum in
-    let written : Path (Result Terms TooWide) (Ok (terms sum)) (or_wide Add (written_sum n (ratio_at xs))) = c.in-Ok.ensures (ratio_at xs) item ∙ ap (λ n. or_wide Add (written_sum n (ratio_at xs))) many in
+    let written : Path (Result Terms TooWide) (Ok (terms sum)) (or_wide Add (written_sum n (ratio_at xs))) = c.in-Ok.ensures (ratio_at xs) item
+    ∙ ap (λ n. or_wide Add (written_sum n (ratio_at xs))) many in
     let exact = exact_sum n (ratio_at xs) (terms sum) (some_from Add (terms sum) _ written) in
     c.then_some.ensures ∙ ap (λ b. c.args.above when b) (c.gt.ensures ∙ above_one_is sum c.one.result c.one.ensures)
-    ∙ fault_written (or_wide Add (written_sum n (ratio_at xs))) (sum_below number_field n (number_at xs)) number_one c.args.component c.args.place c.args.above (terms sum) (number_of sum) written exact.value
+    ∙ fault_written (or_wide Add (written_sum n (ratio_at xs)))
+    (sum_below number_field n (number_at xs)) number_one c.args.component c.args.place c.args.above (terms sum) (number_of sum) written exact.value
 
 pub returns-in-Err : goal.returns-in-Err
 unfolding total_fault
 returns-in-Err g c xs many item =
     let n = length xs in
-    let refused : Path (Result Terms TooWide) (Err c.in-Err.wide) (or_wide Add (written_sum n (ratio_at xs))) = c.in-Err.ensures (ratio_at xs) item ∙ ap (λ n. or_wide Add (written_sum n (ratio_at xs))) many in
-    ap (λ w. Some (TooWideSum w)) (c.in_component.ensures ∙ ap (λ (w : Wide). record { component = c.args.component; place = w.place; op = w.op }) c.at.ensures)
-    ∙ fault_refused (or_wide Add (written_sum n (ratio_at xs))) (sum_below number_field n (number_at xs)) number_one c.args.component c.args.place c.args.above c.in-Err.wide refused
+    let refused : Path (Result Terms TooWide) (Err c.in-Err.wide) (or_wide Add (written_sum n (ratio_at xs))) = c.in-Err.ensures (ratio_at xs) item
+    ∙ ap (λ n. or_wide Add (written_sum n (ratio_at xs))) many in
+    ap (λ w. Some (TooWideSum w))
+    (c.in_component.ensures ∙ ap (λ (w : Wide). record { component = c.args.component; place = w.place; op = w.op }) c.at.ensures)
+    ∙ fault_refused (or_wide Add (written_sum n (ratio_at xs)))
+    (sum_below number_field n (number_at xs)) number_one c.args.component c.args.place c.args.above c.in-Err.wide refused

@@ -11,13 +11,15 @@ pub loop-i-init : goal.loop-i-init
 loop-i-init g c f item = sum_none f c.zero-sum.result c.zero-sum.ensures
 
 pub loop-i-preserved : goal.loop-i-preserved
-loop-i-preserved g c f item = sum_more f c.loop-i.i c.loop-i.sum c.at.result (item c.loop-i.i c.at.result c.loop-i-test.true c.at.ensures) (c.loop-i.invariant f item) c.in_ok-sum.sum c.in_ok-sum.ensures
+loop-i-preserved g c f item = sum_more f c.loop-i.i c.loop-i.sum c.at.result (item c.loop-i.i c.at.result c.loop-i-test.true c.at.ensures)
+    (c.loop-i.invariant f item) c.in_ok-sum.sum c.in_ok-sum.ensures
 
 pub returns-in_err-sum : goal.returns-in_err-sum
 returns-in_err-sum g c f item =
     let p = err_from_is_err_and c.from_residual.result c.from_residual.ensures.1 in
     ap (ok_map terms) (p.1 ∙ ap Err p.2)
-    ∙ sum_stops f c.loop-i.i c.loop-i.sum c.at.result (item c.loop-i.i c.at.result c.loop-i-test.true c.at.ensures) (c.loop-i.invariant f item) c.in_err-sum.field-0.0 c.args.count c.loop-i-test.true c.in_err-sum.ensures
+    ∙ sum_stops f c.loop-i.i c.loop-i.sum c.at.result (item c.loop-i.i c.at.result c.loop-i-test.true c.at.ensures)
+    (c.loop-i.invariant f item) c.in_err-sum.field-0.0 c.args.count c.loop-i-test.true c.in_err-sum.ensures
 
 pub returns : goal.returns
 returns g c f item =

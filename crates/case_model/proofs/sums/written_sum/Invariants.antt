@@ -5,4 +5,5 @@ use Rattle.case_model.specs.Sums.{written_sum}
 use Rattle.case_model.proofs.sums.written_sum.Given as goal
 
 abbrev pub invariant-loop-i : goal.invariant-loop-i
-invariant-loop-i g l = (f : ℕ → Ratio) → ((i : ℕ) (x : Ratio) → i < l.count → goal.F-post g l.at i x → x ≡ f i) → written_sum l.i f ≡ Some (terms l.sum)
+invariant-loop-i g l = (f : ℕ → Ratio) → ((i : ℕ) (x : Ratio) → i < l.count → goal.F-post g l.at i x → x ≡ f i)
+    → written_sum l.i f ≡ Some (terms l.sum)

@@ -7,4 +7,5 @@ pub returns-clause-graph : goal.returns-clause-graph
 returns-clause-graph c = IfOk-weaker c.made.result _ _ (λ k h. sequence_made _ c.args.alpha c.args.p.now (content k) h) c.made.ensures.case
 
 pub returns-clause-rule : goal.returns-clause-rule
-returns-clause-rule c = IfOk-weaker c.made.result _ _ (λ k h. sequence_rule _ c.args.n c.args.alpha c.args.p.now (content k) c.in_ok-size.ensures.size h) c.made.ensures.case
+returns-clause-rule c = IfOk-weaker c.made.result _ _
+    (λ k h. sequence_rule _ c.args.n c.args.alpha c.args.p.now (content k) c.in_ok-size.ensures.size h) c.made.ensures.case

@@ -4,8 +4,11 @@ use Rattle.catalogue.proofs.Textbooks.{holm_made, holm_rule}
 use Rattle.catalogue.proofs.equal.holm.Goals as goal
 
 pub returns-clause-graph : goal.returns-clause-graph
-returns-clause-graph c = IfOk-weaker c.made.result _ _ (λ k h. holm_made _ c.args.alpha c.args.p.now (content k) c.in_ok-size.ensures.range.0 c.in_ok-size.ensures.range.1 h) c.made.ensures.case
+returns-clause-graph c = IfOk-weaker c.made.result _ _
+    (λ k h. holm_made _ c.args.alpha c.args.p.now (content k) c.in_ok-size.ensures.range.0 c.in_ok-size.ensures.range.1 h) c.made.ensures.case
 
 pub returns-clause-rule : goal.returns-clause-rule
 returns-clause-rule c =
-    IfOk-weaker c.made.result _ _ (λ k h. holm_rule _ c.args.n c.args.alpha c.args.p.now (content k) c.in_ok-size.ensures.size c.in_ok-size.ensures.range.0 c.in_ok-size.ensures.range.1 h) c.made.ensures.case
+    IfOk-weaker c.made.result _ _
+    (λ k h. holm_rule _ c.args.n c.args.alpha c.args.p.now
+    (content k) c.in_ok-size.ensures.size c.in_ok-size.ensures.range.0 c.in_ok-size.ensures.range.1 h) c.made.ensures.case

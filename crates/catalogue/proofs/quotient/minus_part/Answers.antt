@@ -11,7 +11,8 @@ minus_one = to_z-of_z w128 (negsuc 0) (fits_signed_from_abs w128 (negsuc 0) (lit
 pub unreachable-requires : goal.unreachable-requires
 unreachable-requires c =
     let low : c.args.n < 2 ^ 127 = omega arith in
-    no_fault (negsuc 0) _ _ c.args.n c.new.result c.in-Err.field-0 minus_one (to_z_pos w128 c.args.n low) c.requires (lit< tt) low c.in-Err.is c.new.ensures.zero c.new.ensures.wide
+    no_fault (negsuc 0) _ _ c.args.n c.new.result c.in-Err.field-0 minus_one (to_z_pos w128 c.args.n low) c.requires
+    (lit< tt) low c.in-Err.is c.new.ensures.zero c.new.ensures.wide
 
 pub returns : goal.returns
 returns c =

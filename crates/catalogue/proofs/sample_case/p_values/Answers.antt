@@ -13,7 +13,9 @@ draws-preserved c =
     let k = c.draws.counter in
     record {
       made = c.in_ok-push.ensures.pushed
-          ∙ ap₂ (λ xs x. xs ++ x ∷ []) c.draws.invariant.made (c.quotient.ensures ∙ p_value_next seed k c.draws.generator.number c.draw-drawn.new.self.number c.draw-drawn.result c.draws.invariant.number c.draw-drawn.ensures.number c.draw-drawn.ensures.drawn)
+          ∙ ap₂ (λ xs x. xs ++ x ∷ []) c.draws.invariant.made
+          (c.quotient.ensures ∙ p_value_next seed k c.draws.generator.number c.draw-drawn.new.self.number c.draw-drawn.result c.draws.invariant.number
+          c.draw-drawn.ensures.number c.draw-drawn.ensures.drawn)
           ∙ sym (map-range_with_len_more (p_value_of seed) 0 k k (omega arith));
       number = number_next seed k (k + 1) c.draws.generator.number c.draw-drawn.new.self.number refl c.draws.invariant.number c.draw-drawn.ensures.number;
     }

@@ -11,7 +11,8 @@ module _ (m : ℕ) (local closed : ℕ → Bool) (set : ℕ) (b : set < 2 ^ m) (
   later : (k : ℕ) → k < m → members set k ≡ false → (closed (set + 2 ^ k) ≡ true) ↔ IsYesAbove m local (set + 2 ^ k)
   later k q f = after (set + 2 ^ k) (omega (arith, pow_pos k)) (added_below m set k b q f)
 
-  decided : (r : Bool) (size : ℕ) → size ≡ m → local set ≡ true → (r ≡ true) ↔ ((k : ℕ) → k < size → members set k ≡ false → closed (set + 2 ^ k) ≡ true) → (r ≡ true) ↔ IsYesAbove m local set
+  decided : (r : Bool) (size : ℕ) → size ≡ m → local set ≡ true → (r ≡ true)
+      ↔ ((k : ℕ) → k < size → members set k ≡ false → closed (set + 2 ^ k) ≡ true) → (r ≡ true) ↔ IsYesAbove m local set
   decided r size same l each = (to, from)
     where
       to : r ≡ true → IsYesAbove m local set
@@ -30,7 +31,10 @@ module _ (m : ℕ) (local closed : ℕ → Bool) (set : ℕ) (b : set < 2 ^ m) (
       from above = f ∙ sym l ∙ above set b (λ i q e. e)
 
 pub returns-then-get : goal.returns-then-get
-returns-then-get c = decided c.args.local.now.size (answer_of c.args.local.now) (answer_of c.args.closed.now) c.args.set c.requires.set c.requires.closed c.all_larger.result c.args.closed.now.size c.requires.size (sym c.get.ensures ∙ c.if-get.true) c.all_larger.ensures
+returns-then-get c = decided c.args.local.now.size (answer_of c.args.local.now)
+    (answer_of c.args.closed.now) c.args.set c.requires.set c.requires.closed c.all_larger.result c.args.closed.now.size c.requires.size
+    (sym c.get.ensures ∙ c.if-get.true) c.all_larger.ensures
 
 pub returns-else-get : goal.returns-else-get
-returns-else-get c = refused c.args.local.now.size (answer_of c.args.local.now) (answer_of c.args.closed.now) c.args.set c.requires.set c.requires.closed c.get.result c.if-get.false (sym c.get.ensures ∙ c.if-get.false)
+returns-else-get c = refused c.args.local.now.size (answer_of c.args.local.now)
+    (answer_of c.args.closed.now) c.args.set c.requires.set c.requires.closed c.get.result c.if-get.false (sym c.get.ensures ∙ c.if-get.false)

@@ -10,7 +10,8 @@ sets-init c =
     record {
       size = c.in_ok-path.ensures.size;
       path = c.in_ok-path.ensures.path;
-      listed = listed_first c.args.size c.set.result path.left.items _ c.in_ok-path.ensures.left (c.set.ensures ∙ ap (λ n. number_without n path.left.items) c.in_ok-path.ensures.size)
+      listed = listed_first c.args.size c.set.result path.left.items _ c.in_ok-path.ensures.left
+          (c.set.ensures ∙ ap (λ n. number_without n path.left.items) c.in_ok-path.ensures.size)
           (c.in_ok-push.ensures.pushed ∙ ap (λ xs. xs ++ c.set.result ∷ []) c.new-sets.ensures);
     }
 
@@ -23,8 +24,10 @@ sets-preserved c =
     record {
       size = size;
       path = c.in-Some.ensures.path;
-      listed = listed_next c.args.size c.set-in-Some.result c.in-Some.field-0 c.sets.sets old new c.sets.invariant.listed step c.in-Some.ensures.later (c.set-in-Some.ensures ∙ ap (λ n. number_without n new) size) _ c.in_ok-push-in-Some.ensures.pushed;
+      listed = listed_next c.args.size c.set-in-Some.result c.in-Some.field-0 c.sets.sets old new c.sets.invariant.listed step c.in-Some.ensures.later
+          (c.set-in-Some.ensures ∙ ap (λ n. number_without n new) size) _ c.in_ok-push-in-Some.ensures.pushed;
     }
 
 pub returns-in-None : goal.returns-in-None
-returns-in-None c = all_listed c.args.size c.sets.sets c.sets.path.left.items c.sets.invariant.listed (subst (λ n. IsLastList n c.sets.path.left.items) c.sets.invariant.size c.in-None.ensures.step)
+returns-in-None c = all_listed c.args.size c.sets.sets c.sets.path.left.items c.sets.invariant.listed
+    (subst (λ n. IsLastList n c.sets.path.left.items) c.sets.invariant.size c.in-None.ensures.step)

@@ -7,4 +7,5 @@ use Rattle.closed_test.specs.WeightsView.{weight_at}
 use Rattle.closed_test.proofs.table.has_passing.Given as goal
 
 abbrev pub invariant-loop-k : goal.invariant-loop-k
-invariant-loop-k l = (j : ℕ) → j < l.k → members l.set j ≡ true → ¬ Passes (number_at l.p_values j) (number_of (weight_at l.weights l.set j)) (number_of l.alpha)
+invariant-loop-k l = (j : ℕ) → j < l.k → members l.set j ≡ true
+    → ¬ Passes (number_at l.p_values j) (number_of (weight_at l.weights l.set j)) (number_of l.alpha)

@@ -8,7 +8,8 @@ pub returns-then-keeps_looks-keeping-clause-refused : goal.returns-then-keeps_lo
 returns-then-keeps_looks-keeping-clause-refused c = (
   λ verb more keeps words.
       not_kept (map string_bytes c.args.words.now) c.in-Some-named.verb verb (rest_of c.args.words.now) more c.args.keeping
-      (first_word c.args.words.now c.in-Some.first.now c.in-Some.ensures.value ∙ ap (λ t. t ∷ rest_of c.args.words.now) (sym c.as_bytes.ensures.value ∙ c.in-Some-named.ensures.named)) words keeps
+      (first_word c.args.words.now c.in-Some.first.now c.in-Some.ensures.value
+      ∙ ap (λ t. t ∷ rest_of c.args.words.now) (sym c.as_bytes.ensures.value ∙ c.in-Some-named.ensures.named)) words keeps
       (λ e. let f = c.if-keeps_looks-keeping.true in let k = c.keeps_looks.ensures in search rules),
   refl,
 )
@@ -16,6 +17,7 @@ returns-then-keeps_looks-keeping-clause-refused c = (
 pub returns-clause-given : goal.returns-clause-given
 returns-clause-given c = (
   rest_of c.args.words.now,
-  first_word c.args.words.now c.in-Some.first.now c.in-Some.ensures.value ∙ ap (λ t. t ∷ rest_of c.args.words.now) (sym c.as_bytes.ensures.value ∙ c.in-Some-named.ensures.named),
+  first_word c.args.words.now c.in-Some.first.now c.in-Some.ensures.value
+      ∙ ap (λ t. t ∷ rest_of c.args.words.now) (sym c.as_bytes.ensures.value ∙ c.in-Some-named.ensures.named),
   let f = c.if-keeps_looks-keeping.false in let k = c.keeps_looks.ensures in search rules,
 )

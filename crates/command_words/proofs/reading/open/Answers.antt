@@ -7,4 +7,6 @@ use Rattle.command_words.proofs.reading.open.Goals as goal
 
 pub returns-else-may_open-clause-none : goal.returns-else-may_open-clause-none
 returns-else-may_open-clause-none c =
-    λ e argument named may. iff_false c.may_open.ensures c.if-may_open.false (subst (MayOpen c.args.verb (given_content c.args.given.now)) (one_argument argument c.in_ok-argument.argument (sym named ∙ c.in_ok-argument.ensures.named)) may)
+    λ e argument named may. iff_false c.may_open.ensures c.if-may_open.false
+    (subst (MayOpen c.args.verb (given_content c.args.given.now))
+    (one_argument argument c.in_ok-argument.argument (sym named ∙ c.in_ok-argument.ensures.named)) may)

@@ -8,4 +8,5 @@ same_some o a b h k = cc
 
 pub returns-clause-none : goal.returns-clause-none
 returns-clause-none c =
-    λ e choice may. none_spelled c.args.verb c.args.word.now c.in_ok-argument.argument choice (same_some _ _ _ (sym c.in_ok-argument.ensures) may.0.0) (c.read.ensures.unknown e) may.1
+    λ e choice may. none_spelled c.args.verb c.args.word.now c.in_ok-argument.argument choice (same_some _ _ _ (sym c.in_ok-argument.ensures) may.0.0)
+    (c.read.ensures.unknown e) may.1

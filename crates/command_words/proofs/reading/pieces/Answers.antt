@@ -11,7 +11,8 @@ pieces-preserved c =
     let all = map string_bytes words in
     let at = c.pieces.at in
     let rest = from_slice words at c.index-words-at.result c.as_bytes.result.now c.pieces-test.true c.index-words-at.is c.as_bytes.ensures.value in
-    let step = subst (λ (xs : List (List ℕ)). IsStep c.args.verb at (given_content c.pieces.given) xs (given_content c.in-Ok.now) c.in-Ok.width) rest c.in-Ok.ensures.step in
+    let step = subst (λ (xs : List (List ℕ)). IsStep c.args.verb at (given_content c.pieces.given) xs (given_content c.in-Ok.now) c.in-Ok.width) rest
+    c.in-Ok.ensures.step in
     begin_more (drop 1 all) all c.args.verb (given_content c.pieces.given) (given_content c.in-Ok.now) at c.in-Ok.width c.pieces.invariant step
 
 pub returns-in-Err-clause-refused : goal.returns-in-Err-clause-refused

@@ -8,4 +8,12 @@ use Rattle.command_words.proofs.reading.read_study.Goals as goal
 pub returns-in-None-clause-refused : goal.returns-in-None-clause-refused
 unfolding study_in
 returns-in-None-clause-refused c =
-    inr (c.in_ok-verb.verb, c.in_ok-verb.ensures.given, inr (given_content c.in_ok-given.given, c.in_ok-given.ensures.given, (sym c.in-None.ensures, ap (λ n. n + 1) (sym (length-map c.args.words.now string_bytes)))))
+    inr (
+      c.in_ok-verb.verb,
+      c.in_ok-verb.ensures.given,
+      inr (
+        given_content c.in_ok-given.given,
+        c.in_ok-given.ensures.given,
+        (sym c.in-None.ensures, ap (λ n. n + 1) (sym (length-map c.args.words.now string_bytes))),
+      ),
+    )

@@ -9,9 +9,25 @@ use Rattle.command_words.proofs.reading.read_words.Goals as goal
 pub returns-in_default-clause-refused : goal.returns-in_default-clause-refused
 unfolding asked_in
 returns-in_default-clause-refused c =
-    inr (c.in_ok-verb.verb, c.in_ok-verb.ensures.given, inr (given_content c.in_ok-given.given, c.in_ok-given.ensures.given, inl (sym c.in_default.ensures, ap (λ n. n + 1) (sym (length-map c.args.words.now string_bytes)))))
+    inr (
+      c.in_ok-verb.verb,
+      c.in_ok-verb.ensures.given,
+      inr (
+        given_content c.in_ok-given.given,
+        c.in_ok-given.ensures.given,
+        inl (sym c.in_default.ensures, ap (λ n. n + 1) (sym (length-map c.args.words.now string_bytes))),
+      ),
+    )
 
 pub returns-in-Some-forbidden-clause-refused : goal.returns-in-Some-forbidden-clause-refused
 unfolding asked_in
 returns-in-Some-forbidden-clause-refused c =
-    inr (c.in_ok-verb.verb, c.in_ok-verb.ensures.given, inr (given_content c.in_ok-given.given, c.in_ok-given.ensures.given, inr (asked c.in-Some.command, sym c.in-Some.ensures, sym c.in-Some-forbidden.ensures)))
+    inr (
+      c.in_ok-verb.verb,
+      c.in_ok-verb.ensures.given,
+      inr (
+        given_content c.in_ok-given.given,
+        c.in_ok-given.ensures.given,
+        inr (asked c.in-Some.command, sym c.in-Some.ensures, sym c.in-Some-forbidden.ensures),
+      ),
+    )

@@ -1,4 +1,5 @@
-use Rattle.std.proofs.Common.{◌≡◌, ◌⊎◌, inl, inr, sym, ◌∙◌, ap, ℕ, ◌+◌, ◌^◌, ◌<◌, ◌≤◌, Bool, true, false, List, get_or, arith, subst}
+use Rattle.std.proofs.Common.{◌≡◌, ◌⊎◌, inl, inr, sym, ◌∙◌, ap, ℕ, ◌+◌, ◌^◌, ◌<◌, ◌≤◌, Bool, true, false, List, get_or}
+use Rattle.std.proofs.Common.{arith, subst}
 use Rattle.std.proofs.lemmas.Nat.{pow_pos}
 use Rattle.field_core.specs.Sets.{IsIn, dropping}
 use Rattle.field_core.specs.NumberedSets.{members, set_number}
@@ -14,7 +15,8 @@ use Rattle.discovery_bound.proofs.bounds.next_bound.Goals.{then-set-eq0-via-then
 
 module _ (m : ℕ) (table : ℕ → Bool) (set : ℕ) (p : set < 2 ^ m) where
   none : (set ≡ 0) ⊎ (table set ≡ false) → IsBound m (SaysYes m table) (members set) 0
-  none (inl e) = bound_none m (SaysYes m table) (yes_same m table) (members set) (inl (λ k q. clash (sym (ap (λ n. members n k) e ∙ members_zero k) ∙ q.member)))
+  none (inl e) = bound_none m (SaysYes m table) (yes_same m table) (members set)
+      (inl (λ k q. clash (sym (ap (λ n. members n k) e ∙ members_zero k) ∙ q.member)))
     where
       clash : false ≡ true → ⊥
       clash x = cc
@@ -30,12 +32,14 @@ module _ (m : ℕ) (table : ℕ → Bool) (set : ℕ) (p : set < 2 ^ m) where
     smaller : (j o : ℕ) → IsIn m (members set) j → o + 2 ^ j ≡ set → IsBound m (SaysYes m table) (dropping j (members set)) (get_or bounds o 0)
     smaller j o q e =
         let positive = pow_pos j in
-        bound_same m (SaysYes m table) (yes_same m table) (members o) (dropping j (members set)) (get_or bounds o 0) (members_taken m set o j p q.below q.member e) (before o (omega (arith, positive, e)))
+        bound_same m (SaysYes m table) (yes_same m table) (members o) (dropping j (members set)) (get_or bounds o 0)
+        (members_taken m set o j p q.below q.member e) (before o (omega (arith, positive, e)))
 
     other : (j : ℕ) → IsIn m (members set) j → (o : ℕ) × (o + 2 ^ j ≡ set)
     other j q = (set_number m (dropping j (members set)), taken_number m set j p q.below q.member)
 
-    least_within : m ≤ 16 → (least : ℕ) → (least ≡ 16) ⊎ ((j : ℕ) × (o : ℕ) × (j < m) × (members set j ≡ true) × (o + 2 ^ j ≡ set) × (least ≡ get_or bounds o 0)) → least ≤ 16
+    least_within : m ≤ 16 → (least : ℕ) → (least ≡ 16)
+        ⊎ ((j : ℕ) × (o : ℕ) × (j < m) × (members set j ≡ true) × (o + 2 ^ j ≡ set) × (least ≡ get_or bounds o 0)) → least ≤ 16
     least_within few least (inl e) = omega arith
     least_within few least (inr x) =
         let b = bound_within m (SaysYes m table) (yes_same m table) _ _ (smaller x.0 x.1 (record { below = x.2; member = x.3 }) x.4) in
@@ -69,17 +73,20 @@ module _ (m : ℕ) (table : ℕ → Bool) (set : ℕ) (p : set < 2 ^ m) where
 pub returns-then-set-eq0 : goal.returns-then-set-eq0
 returns-then-set-eq0 c = elim c.then-set-eq0.branch [
   | then-set-eq0-via-then-set-eq0 w ↦ none c.args.closed.now.size (answer_of c.args.closed.now) c.args.set c.requires.set (inl w.if-set-eq0.true)
-  | then-set-eq0-via-else-set-eq0+then-not-get w ↦ none c.args.closed.now.size (answer_of c.args.closed.now) c.args.set c.requires.set (inr (sym w.get.ensures ∙ w.if-not-get.true))
+  | then-set-eq0-via-else-set-eq0+then-not-get w ↦ none c.args.closed.now.size (answer_of c.args.closed.now) c.args.set c.requires.set
+      (inr (sym w.get.ensures ∙ w.if-not-get.true))
 ]
 
 pub overflow_add-result : goal.overflow_add-result
 overflow_add-result c =
     let size = c.size.ensures.size in
-    let b = least_within c.args.closed.now.size (answer_of c.args.closed.now) c.args.set c.requires.set c.args.bounds.now c.requires.bounds c.args.closed.now.few c.least_before.result (rw size at c.least_before.ensures.reached) in
+    let b = least_within c.args.closed.now.size (answer_of c.args.closed.now) c.args.set c.requires.set c.args.bounds.now c.requires.bounds
+    c.args.closed.now.few c.least_before.result (rw size at c.least_before.ensures.reached) in
     omega (arith, b)
 
 pub returns : goal.returns
 returns c =
     let size = c.size.ensures.size in
-    next c.args.closed.now.size (answer_of c.args.closed.now) c.args.set c.requires.set c.args.bounds.now c.requires.bounds c.args.closed.now.few c.least_before.result c.if-set-eq0.false (sym c.get.ensures ∙ c.if-not-get.false)
+    next c.args.closed.now.size (answer_of c.args.closed.now) c.args.set c.requires.set c.args.bounds.now c.requires.bounds c.args.closed.now.few
+    c.least_before.result c.if-set-eq0.false (sym c.get.ensures ∙ c.if-not-get.false)
     (rw size at c.least_before.ensures.least) (rw size at c.least_before.ensures.reached)

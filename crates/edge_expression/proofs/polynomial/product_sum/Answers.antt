@@ -13,7 +13,9 @@ returns-in_err-product c =
     let x = polynomial_terms c.args.x.now in
     let y = polynomial_terms c.args.y.now in
     ap (map_value short_terms) (p.1 ∙ ap Err p.2)
-    ∙ sym (product_stops x y c.args.power c.loop-at.at (suc c.args.power) c.in_err-product.field-0.0 (omega arith) (product_refused x y c.args.power c.loop-at.at (short_terms c.loop-at.sum) _ _ c.in_err-product.field-0.0 c.loop-at.invariant (sym c.coefficient.ensures) (sym c.coefficient-in-loop-at.ensures) (sym c.in_err-product.ensures)))
+    ∙ sym (product_stops x y c.args.power c.loop-at.at (suc c.args.power) c.in_err-product.field-0.0 (omega arith)
+    (product_refused x y c.args.power c.loop-at.at (short_terms c.loop-at.sum) _ _ c.in_err-product.field-0.0 c.loop-at.invariant
+    (sym c.coefficient.ensures) (sym c.coefficient-in-loop-at.ensures) (sym c.in_err-product.ensures)))
 
 pub returns-in_err-sum : goal.returns-in_err-sum
 returns-in_err-sum c =
@@ -21,10 +23,13 @@ returns-in_err-sum c =
     let x = polynomial_terms c.args.x.now in
     let y = polynomial_terms c.args.y.now in
     ap (map_value short_terms) (p.1 ∙ ap Err p.2)
-    ∙ sym (product_stops x y c.args.power c.loop-at.at (suc c.args.power) c.in_err-sum.field-0.0 (omega arith) (product_more x y c.args.power c.loop-at.at (short_terms c.loop-at.sum) (short_terms c.in_ok-product.product) _ _ c.loop-at.invariant (sym c.coefficient.ensures) (sym c.coefficient-in-loop-at.ensures) (sym c.in_ok-product.ensures) ∙ sym c.in_err-sum.ensures))
+    ∙ sym (product_stops x y c.args.power c.loop-at.at (suc c.args.power) c.in_err-sum.field-0.0 (omega arith)
+    (product_more x y c.args.power c.loop-at.at (short_terms c.loop-at.sum) (short_terms c.in_ok-product.product) _ _ c.loop-at.invariant
+    (sym c.coefficient.ensures) (sym c.coefficient-in-loop-at.ensures) (sym c.in_ok-product.ensures) ∙ sym c.in_err-sum.ensures))
 
 pub loop-at-preserved : goal.loop-at-preserved
 loop-at-preserved c =
     let x = polynomial_terms c.args.x.now in
     let y = polynomial_terms c.args.y.now in
-    product_more x y c.args.power c.loop-at.at (short_terms c.loop-at.sum) (short_terms c.in_ok-product.product) _ _ c.loop-at.invariant (sym c.coefficient.ensures) (sym c.coefficient-in-loop-at.ensures) (sym c.in_ok-product.ensures) ∙ sym c.in_ok-sum.ensures
+    product_more x y c.args.power c.loop-at.at (short_terms c.loop-at.sum) (short_terms c.in_ok-product.product) _ _ c.loop-at.invariant
+    (sym c.coefficient.ensures) (sym c.coefficient-in-loop-at.ensures) (sym c.in_ok-product.ensures) ∙ sym c.in_ok-sum.ensures

@@ -33,11 +33,16 @@ pub returns-then-is_first-clause-printed : goal.returns-then-is_first-clause-pri
 returns-then-is_first-clause-printed c =
     let e = map terms c.args.entry.now in
     let last : c.loop-power.power ≡ 5 = omega arith in
-    let i = end_none c.args.out.now c.loop-power.out e (subst (λ n. IsPrinted c.args.out.now c.loop-power.out true n e) last (subst (λ f. IsPrinted c.args.out.now c.loop-power.out f c.loop-power.power e) c.if-is_first.true c.loop-power.invariant)) in
-    on_ok c.push.result _ _ c.push.ensures.pushed (λ p. p ∙ ap (λ (x : List ℕ). x ++ 48 ∷ []) i.0 ∙ ap (λ (x : List ℕ). c.args.out.now ++ x) (sym i.1))
+    let i = end_none c.args.out.now c.loop-power.out e
+    (subst (λ n. IsPrinted c.args.out.now c.loop-power.out true n e) last
+    (subst (λ f. IsPrinted c.args.out.now c.loop-power.out f c.loop-power.power e) c.if-is_first.true c.loop-power.invariant)) in
+    on_ok c.push.result _ _ c.push.ensures.pushed
+    (λ p. p ∙ ap (λ (x : List ℕ). x ++ 48 ∷ []) i.0 ∙ ap (λ (x : List ℕ). c.args.out.now ++ x) (sym i.1))
 
 pub returns-clause-printed : goal.returns-clause-printed
 returns-clause-printed c =
     let e = map terms c.args.entry.now in
     let last : c.loop-power.power ≡ 5 = omega arith in
-    end_some c.args.out.now c.loop-power.out e (subst (λ n. IsPrinted c.args.out.now c.loop-power.out false n e) last (subst (λ f. IsPrinted c.args.out.now c.loop-power.out f c.loop-power.power e) c.if-is_first.false c.loop-power.invariant))
+    end_some c.args.out.now c.loop-power.out e
+    (subst (λ n. IsPrinted c.args.out.now c.loop-power.out false n e) last
+    (subst (λ f. IsPrinted c.args.out.now c.loop-power.out f c.loop-power.power e) c.if-is_first.false c.loop-power.invariant))

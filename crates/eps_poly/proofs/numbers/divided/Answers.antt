@@ -28,6 +28,7 @@ returns-else-over-under-eq0 c x =
     let some : of_z w128 (int_rem c.value-over.result c.value-under.result) ≡ 0 → ⊥ = simp to_z-of_z at c.if-over-under-eq0.false in
     let forward : None ≡ Some x → x *ℤ c.args.by ≡ c.args.product = λ e. cc in
     let back : x *ℤ c.args.by ≡ c.args.product → None ≡ Some x = λ e.
-    let none : int_rem c.value-over.result c.value-under.result ≡ pos 0 = rw (c.value-over.ensures.value, c.value-under.ensures.value, ← e) (int_rem_exact x c.args.by c.requires) in
+    let none : int_rem c.value-over.result c.value-under.result ≡ pos 0 =
+    rw (c.value-over.ensures.value, c.value-under.ensures.value, ← e) (int_rem_exact x c.args.by c.requires) in
     absurd (some (ap (of_z w128) none)) in
     (forward, back)

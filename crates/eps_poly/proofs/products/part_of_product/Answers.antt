@@ -17,8 +17,10 @@ loop-first-preserved-then-is_zero c =
     let p = c.args.p.now in
     let q = c.args.q.now in
     let none : coefficient p first *ℤ coefficient q (c.args.power - first) ≡ pos 0 = elim c.then-is_zero.branch [
-      | then-is_zero-via-then-is_zero w ↦ rw (← c.whole-left.ensures, is_zero_true c.whole-left.result (sym c.is_zero.ensures ∙ w.if-is_zero.true)) (omega (arith, ints))
-      | then-is_zero-via-else-is_zero+then-is_zero-2 w ↦ rw (← c.whole-right.ensures, is_zero_true c.whole-right.result (sym w.is_zero-else-is_zero.ensures ∙ w.if-is_zero-2.true)) (omega (arith, ints))
+      | then-is_zero-via-then-is_zero w ↦ rw (← c.whole-left.ensures, is_zero_true c.whole-left.result (sym c.is_zero.ensures ∙ w.if-is_zero.true))
+          (omega (arith, ints))
+      | then-is_zero-via-else-is_zero+then-is_zero-2 w ↦ rw
+          (← c.whole-right.ensures, is_zero_true c.whole-right.result (sym w.is_zero-else-is_zero.ensures ∙ w.if-is_zero-2.true)) (omega (arith, ints))
     ] in
     ap (written_coefficient p q c.args.power) (omega arith) ∙ coefficient_zero p q c.args.power first none ∙ c.loop-first.invariant
 
@@ -32,7 +34,8 @@ loop-first-preserved c =
     let read = ap₂ (λ a b. sized (a *ℤ b)) (sym c.whole-left.ensures) (sym c.whole-right.ensures) ∙ sym c.checked_mul.ensures in
     let product : sized (coefficient p first *ℤ coefficient q (power - first)) ≡ Some c.in_ok-product.product = read ∙ c.in_ok-product.was in
     ap (written_coefficient p q power) (omega arith)
-    ∙ coefficient_next p q power first c.loop-first.sum c.in_ok-product.product (Some c.in_ok-sum.sum) c.loop-first.invariant product (sym c.checked_add.ensures ∙ c.in_ok-sum.was)
+    ∙ coefficient_next p q power first c.loop-first.sum c.in_ok-product.product (Some c.in_ok-sum.sum) c.loop-first.invariant product
+    (sym c.checked_add.ensures ∙ c.in_ok-sum.was)
 
 pub returns-in_err-product : goal.returns-in_err-product
 returns-in_err-product c =
@@ -55,7 +58,8 @@ returns-in_err-sum c =
     let q = c.args.q.now in
     let read = ap₂ (λ a b. sized (a *ℤ b)) (sym c.whole-left.ensures) (sym c.whole-right.ensures) ∙ sym c.checked_mul.ensures in
     let product : sized (coefficient p first *ℤ coefficient q (power - first)) ≡ Some c.in_ok-product.product = read ∙ c.in_ok-product.was in
-    let refused = coefficient_next p q power first c.loop-first.sum c.in_ok-product.product None c.loop-first.invariant product (sym c.checked_add.ensures ∙ c.in_err-sum.was) in
+    let refused = coefficient_next p q power first c.loop-first.sum c.in_ok-product.product None c.loop-first.invariant product
+    (sym c.checked_add.ensures ∙ c.in_err-sum.was) in
     rw c.from_residual-in_err-sum.ensures (sym (coefficient_refused p q power (suc first) c.args.count refused more))
 
 pub returns : goal.returns

@@ -22,7 +22,8 @@ returns-in_err-rest c q e same =
     let s = next_step p by q c.args.known.now c.args.power c.args.low e c.requires.low c.requires.power same in
     let found : c.part_of_product.result ≡ Some s.part = c.part_of_product.ensures ∙ s.known_part in
     let part : c.in_ok-part.part ≡ s.part = some_inside _ _ (sym c.in_ok-part.was ∙ found) in
-    let sum : c.checked_add.result ≡ sized (coefficient p at +ℤ neg_ℤ s.part) = c.checked_add.ensures ∙ ap₂ (λ a b. sized (a +ℤ b)) c.whole.ensures (c.negated.ensures ∙ ap neg_ℤ part) in
+    let sum : c.checked_add.result ≡ sized (coefficient p at +ℤ neg_ℤ s.part) = c.checked_add.ensures
+    ∙ ap₂ (λ a b. sized (a +ℤ b)) c.whole.ensures (c.negated.ensures ∙ ap neg_ℤ part) in
     let rest : c.checked_add.result ≡ Some (coefficient q c.args.power *ℤ coefficient by c.args.low) = sum ∙ s.rest in
     let none : c.checked_add.result ≡ None = c.in_err-rest.was in
     absurd (cc)
@@ -39,7 +40,8 @@ returns c q e same =
     let s = next_step p by q c.args.known.now c.args.power c.args.low e c.requires.low c.requires.power same in
     let found : c.part_of_product.result ≡ Some s.part = c.part_of_product.ensures ∙ s.known_part in
     let part : c.in_ok-part.part ≡ s.part = some_inside _ _ (sym c.in_ok-part.was ∙ found) in
-    let sum : c.checked_add.result ≡ sized (coefficient p at +ℤ neg_ℤ s.part) = c.checked_add.ensures ∙ ap₂ (λ a b. sized (a +ℤ b)) c.whole.ensures (c.negated.ensures ∙ ap neg_ℤ part) in
+    let sum : c.checked_add.result ≡ sized (coefficient p at +ℤ neg_ℤ s.part) = c.checked_add.ensures
+    ∙ ap₂ (λ a b. sized (a +ℤ b)) c.whole.ensures (c.negated.ensures ∙ ap neg_ℤ part) in
     let rest : c.checked_add.result ≡ Some (coefficient q c.args.power *ℤ coefficient by c.args.low) = sum ∙ s.rest in
     let product : c.in_ok-rest.rest ≡ coefficient q c.args.power *ℤ coefficient by c.args.low = some_inside _ _ (sym c.in_ok-rest.was ∙ rest) in
     (c.divided.ensures (coefficient q c.args.power)).1 (ap (λ x. coefficient q c.args.power *ℤ x) c.whole-2.ensures ∙ sym product)

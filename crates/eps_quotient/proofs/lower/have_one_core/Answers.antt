@@ -14,7 +14,8 @@ overflow_sub-below c = let low = order_low c.args.b.now c.requires.b in omega ar
 
 pub returns-then-above-below : goal.returns-then-above-below
 returns-then-above-below c =
-    sym (cores_apart c.args.a.now c.args.b.now c.degree.ensures.polynomial c.degree-2.ensures.polynomial c.requires.a c.requires.b (λ e. c.if-above-below.true (omega arith)))
+    sym (cores_apart c.args.a.now c.args.b.now c.degree.ensures.polynomial c.degree-2.ensures.polynomial c.requires.a c.requires.b
+    (λ e. c.if-above-below.true (omega arith)))
 
 pub returns-then-above-eq0 : goal.returns-then-above-eq0
 returns-then-above-eq0 c =

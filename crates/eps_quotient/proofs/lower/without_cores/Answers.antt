@@ -10,6 +10,7 @@ unfolding without_cores
 invariant_of-result c =
     record {
       some = some_list _ _
-          (c.monomial-2.ensures ∙ ap₂ monomial (c.over-2.ensures ∙ ap₂ int_div c.factor-2.ensures c.common_content-content.ensures.value) (ap₂ (λ k z. k - z) c.order-2.ensures.value c.requires.power))
+          (c.monomial-2.ensures ∙ ap₂ monomial (c.over-2.ensures ∙ ap₂ int_div c.factor-2.ensures c.common_content-content.ensures.value)
+          (ap₂ (λ k z. k - z) c.order-2.ensures.value c.requires.power))
           (without_cores_some c.args.a.now c.args.b.now c.requires.held c.requires.b);
     }

@@ -10,4 +10,5 @@ returns-in_err-den c = rw c.from_residual-in_err-den.ensures (fraction_no_number
 
 pub returns : goal.returns
 returns c =
-    fraction_reads c.args.over.now c.args.under.now c.in_ok-num.num c.in_ok-den.den _ _ (sym c.in_ok-num.ensures) (sym c.in_ok-den.ensures) c.monomial.ensures c.monomial-2.ensures
+    fraction_reads c.args.over.now c.args.under.now c.in_ok-num.num c.in_ok-den.den _ _ (sym c.in_ok-num.ensures)
+    (sym c.in_ok-den.ensures) c.monomial.ensures c.monomial-2.ensures

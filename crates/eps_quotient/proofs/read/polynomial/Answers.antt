@@ -19,7 +19,8 @@ returns-in_default c =
     let rest = c.loop-power.rest.now in
     let low : k ≤ 32 = omega arith in
     ap Some c.put.ensures
-    ∙ sym (ap (filled k p) (last_word rest c.in_default.ensures.none) ∙ word_put k p rest [] c.in_ok-whole.field-0 low (sym c.in_ok-whole.ensures) ∙ no_more_words _ _)
+    ∙ sym (ap (filled k p) (last_word rest c.in_default.ensures.none) ∙ word_put k p rest [] c.in_ok-whole.field-0 low (sym c.in_ok-whole.ensures)
+    ∙ no_more_words _ _)
     ∙ c.loop-power.invariant
 
 pub returns-in_err-whole-2 : goal.returns-in_err-whole-2

@@ -11,15 +11,18 @@ use Rattle.evidence.proofs.laws.case_flows_are_evidence.Goals as goal
 
 pub returns-clause-meets : goal.returns-clause-meets
 unfolding case_flows
-returns-clause-meets c = λ k js v V o h. (flows_meet k V (number_at (p_values_of k.inputs)) (number_of k.alpha) js o.legal (numbers_of k) (can_run k) o.complete v h).0
+returns-clause-meets c = λ k js v V o h.
+    (flows_meet k V (number_at (p_values_of k.inputs)) (number_of k.alpha) js o.legal (numbers_of k) (can_run k) o.complete v h).0
 
 pub returns-clause-lists : goal.returns-clause-lists
 unfolding case_flows
-returns-clause-lists c = λ k js v V o h. sym (listed_names (kind_of (numbers_of k)) v.steps) ∙ flows_list k V (number_at (p_values_of k.inputs)) (number_of k.alpha) js o.legal (numbers_of k) (can_run k) v h
+returns-clause-lists c = λ k js v V o h. sym (listed_names (kind_of (numbers_of k)) v.steps)
+    ∙ flows_list k V (number_at (p_values_of k.inputs)) (number_of k.alpha) js o.legal (numbers_of k) (can_run k) v h
 
 pub returns-clause-keeps : goal.returns-clause-keeps
 unfolding case_flows
-returns-clause-keeps c = λ k js v V o h. (flows_meet k V (number_at (p_values_of k.inputs)) (number_of k.alpha) js o.legal (numbers_of k) (can_run k) o.complete v h).1
+returns-clause-keeps c = λ k js v V o h.
+    (flows_meet k V (number_at (p_values_of k.inputs)) (number_of k.alpha) js o.legal (numbers_of k) (can_run k) o.complete v h).1
 
 pub returns-clause-accepted : goal.returns-clause-accepted
 unfolding case_flows

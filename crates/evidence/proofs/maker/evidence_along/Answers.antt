@@ -19,8 +19,10 @@ returns-in_err-nets-clause-made c =
     rw e (opening_refused (content c.args.case.now) c.args.hypotheses.now c.in_err-nets.field-0.0 c.in_err-nets.ensures.opened)
 
 pub returns-clause-made : goal.returns-clause-made
-returns-clause-made c = subst (λ w. MakesAll written_evidence c.evidence_of.result w) (sym (flows_by (content c.args.case.now) c.args.hypotheses.now _ c.in_ok-nets.ensures.opened)) c.evidence_of.ensures.made
+returns-clause-made c = subst (λ w. MakesAll written_evidence c.evidence_of.result w)
+    (sym (flows_by (content c.args.case.now) c.args.hypotheses.now _ c.in_ok-nets.ensures.opened)) c.evidence_of.ensures.made
 
 pub returns-clause-form : goal.returns-clause-form
 returns-clause-form c =
-    if_ok (λ v. has_fractions v ≡ is_of_fractions c.in_ok-nets.nets) (IsFormOf (content c.args.case.now)) (λ v e. form_is (content c.args.case.now) v (e ∙ c.in_ok-nets.ensures.plain)) c.evidence_of.result c.evidence_of.ensures.form
+    if_ok (λ v. has_fractions v ≡ is_of_fractions c.in_ok-nets.nets) (IsFormOf (content c.args.case.now))
+    (λ v e. form_is (content c.args.case.now) v (e ∙ c.in_ok-nets.ensures.plain)) c.evidence_of.result c.evidence_of.ensures.form

@@ -6,4 +6,5 @@ use Rattle.evidence.specs.TablesView.{tables_of}
 use Rattle.evidence.proofs.run.opening_tables.Given as goal
 
 abbrev pub invariant-loop : goal.invariant-loop
-invariant-loop g l = map (tables_of g.R.Value.Number.parts) l.tables ≡ replicate l.counter (first_tables g.R.Value.Number.kind (size g.R.Remover.graph (bundled l.bundle)))
+invariant-loop g l = map (tables_of g.R.Value.Number.parts) l.tables ≡ replicate l.counter
+    (first_tables g.R.Value.Number.kind (size g.R.Remover.graph (bundled l.bundle)))

@@ -11,8 +11,10 @@ loop-k-preserved c =
     elim c.if-is_missing.branch [
       | then-is_missing+in_ok-push w ↦
           w.others-is ∙ w.in_ok-push.ensures.pushed ∙ ap (λ ks. ks ++ c.loop-k.k ∷ []) c.loop-k.invariant
-          ∙ sym (others_more c.args.listed.now c.loop-k.k (ap not (sym (any_listed c.args.listed.now c.loop-k.k)) ∙ sym c.is_missing.ensures ∙ w.if-is_missing.true))
+          ∙ sym (others_more c.args.listed.now c.loop-k.k
+          (ap not (sym (any_listed c.args.listed.now c.loop-k.k)) ∙ sym c.is_missing.ensures ∙ w.if-is_missing.true))
       | else-is_missing w ↦
           w.others-is ∙ c.loop-k.invariant
-          ∙ sym (others_same c.args.listed.now c.loop-k.k (ap not (sym (any_listed c.args.listed.now c.loop-k.k)) ∙ sym c.is_missing.ensures ∙ w.if-is_missing.false))
+          ∙ sym (others_same c.args.listed.now c.loop-k.k
+          (ap not (sym (any_listed c.args.listed.now c.loop-k.k)) ∙ sym c.is_missing.ensures ∙ w.if-is_missing.false))
     ]

@@ -20,10 +20,12 @@ loop-s-init g c =
     let js = c.args.hypotheses.now in
     record {
       told =
-          ap₂ (λ xs ts. rest_from K graph removal c.args.is_kept js 0 (map (step_parts parts) xs) (record { bundle = b0; tables = ts })) c.new-steps.ensures c.in_ok-tables.ensures
+          ap₂ (λ xs ts. rest_from K graph removal c.args.is_kept js 0 (map (step_parts parts) xs) (record { bundle = b0; tables = ts })) c.new-steps.ensures
+          c.in_ok-tables.ensures
           ∙ run_starts K graph removal c.args.is_kept js (opening_state K graph b0);
       count = sym (length-map c.in_ok-tables.tables (tables_of parts)) ∙ ap length c.in_ok-tables.ensures ∙ length-replicate _ _;
-      reached = λ _. reached_first K g.R.Value.Number.IsStored g.met.R.Value.Number.exact graph g.R.Remover.IsProper removal g.met.R.Remover.exact b0 c.requires.opened js;
+      reached = λ _. reached_first K g.R.Value.Number.IsStored g.met.R.Value.Number.exact graph g.R.Remover.IsProper removal g.met.R.Remover.exact b0
+          c.requires.opened js;
     }
 
 pub step-requires-clause-live : goal.step-requires-clause-live
@@ -36,7 +38,8 @@ step-requires-clause-live g c =
     let js = c.args.hypotheses.now in
     let n = c.loop-s.s in
     let p : n < length js = omega (arith, c.loop-s-test.true) in
-    live_there K g.R.Value.Number.IsStored g.met.R.Value.Number.exact graph g.R.Remover.IsProper removal g.met.R.Remover.exact b0 c.requires.opened js c.requires.order n p (bundled c.loop-s.bundle) (c.loop-s.invariant.reached p)
+    live_there K g.R.Value.Number.IsStored g.met.R.Value.Number.exact graph g.R.Remover.IsProper removal g.met.R.Remover.exact b0 c.requires.opened js
+    c.requires.order n p (bundled c.loop-s.bundle) (c.loop-s.invariant.reached p)
 
 pub step-requires-clause-count : goal.step-requires-clause-count
 step-requires-clause-count g c =
@@ -48,7 +51,9 @@ step-requires-clause-count g c =
     let js = c.args.hypotheses.now in
     let n = c.loop-s.s in
     let p : n < length js = omega (arith, c.loop-s-test.true) in
-    ap length c.as_slice-in-loop-s.ensures ∙ c.loop-s.invariant.count ∙ sym (as_many K g.R.Value.Number.IsStored g.met.R.Value.Number.exact graph g.R.Remover.IsProper removal g.met.R.Remover.exact b0 c.requires.opened js c.requires.order n p (bundled c.loop-s.bundle) (c.loop-s.invariant.reached p))
+    ap length c.as_slice-in-loop-s.ensures ∙ c.loop-s.invariant.count
+    ∙ sym (as_many K g.R.Value.Number.IsStored g.met.R.Value.Number.exact graph g.R.Remover.IsProper removal g.met.R.Remover.exact b0 c.requires.opened js
+    c.requires.order n p (bundled c.loop-s.bundle) (c.loop-s.invariant.reached p))
 
 pub returns-in_err-tables-2 : goal.returns-in_err-tables-2
 returns-in_err-tables-2 g c =
@@ -61,8 +66,13 @@ returns-in_err-tables-2 g c =
     let n = c.loop-s.s in
     let p : n < length js = omega (arith, c.loop-s-test.true) in
     let e : c.from_residual-in_err-tables-2.result ≡ Err c.in_err-tables-2.field-0.0 = search rules in
-    rw e (all_fault (λ next. record { bundle = bundled c.loop-s.bundle; tables = map (tables_of parts) next }) (λ (r : FinishedRun g.row.R-Value.Denot). record { steps = map (step_parts parts) r.steps; tables = map (tables_of parts) r.tables }) c.in_err-tables-2.field-0.0 _ _ c.in_err-tables-2.ensures
-    (λ w h. sym c.loop-s.invariant.told ∙ step_refused K graph removal c.args.is_kept js n p _ (record { bundle = bundled c.loop-s.bundle; tables = map (tables_of parts) c.loop-s.tables }) (n + 1 == length js) refl w (ap (λ ts. flow_step K graph removal c.args.is_kept (take n js) (get_or js n 0) (n + 1 == length js) (record { bundle = bundled c.loop-s.bundle; tables = map (tables_of parts) ts })) (sym c.as_slice-in-loop-s.ensures) ∙ h)))
+    rw e (all_fault (λ next. record { bundle = bundled c.loop-s.bundle; tables = map (tables_of parts) next })
+    (λ (r : FinishedRun g.row.R-Value.Denot). record { steps = map (step_parts parts) r.steps; tables = map (tables_of parts) r.tables })
+    c.in_err-tables-2.field-0.0 _ _ c.in_err-tables-2.ensures
+    (λ w h. sym c.loop-s.invariant.told ∙ step_refused K graph removal c.args.is_kept js n p _
+    (record { bundle = bundled c.loop-s.bundle; tables = map (tables_of parts) c.loop-s.tables }) (n + 1 == length js) refl w
+    (ap (λ ts. flow_step K graph removal c.args.is_kept (take n js) (get_or js n 0) (n + 1 == length js)
+    (record { bundle = bundled c.loop-s.bundle; tables = map (tables_of parts) ts })) (sym c.as_slice-in-loop-s.ensures) ∙ h)))
 
 pub loop-s-preserved : goal.loop-s-preserved
 loop-s-preserved g c =
@@ -76,16 +86,23 @@ loop-s-preserved g c =
     let p : n < length js = omega (arith, c.loop-s-test.true) in
     let s : RunState g.R.Remover.State = (record { bundle = bundled c.loop-s.bundle; tables = map (tables_of parts) c.loop-s.tables }) in
     let t : RunState g.R.Remover.State = record { bundle = bundled c.step.new.bundle; tables = map (tables_of parts) c.in_ok-tables-2.tables } in
-    let h = ap (λ ts. flow_step K graph removal c.args.is_kept (take n js) (get_or js n 0) (n + 1 == length js) (record { bundle = bundled c.loop-s.bundle; tables = map (tables_of parts) ts })) (sym c.as_slice-in-loop-s.ensures) ∙ c.in_ok-tables-2.ensures in
+    let h = ap (λ ts. flow_step K graph removal c.args.is_kept (take n js) (get_or js n 0) (n + 1 == length js)
+    (record { bundle = bundled c.loop-s.bundle; tables = map (tables_of parts) ts })) (sym c.as_slice-in-loop-s.ensures) ∙ c.in_ok-tables-2.ensures in
     record {
       told =
-          ap (λ ys. rest_from K graph removal c.args.is_kept js (n + 1) ys t) (ap (map (step_parts parts)) c.in_ok-push.ensures.pushed ∙ map_push (step_parts parts) _ _)
-          ∙ sym (step_done K graph removal c.args.is_kept js n p _ s (n + 1 == length js) refl _ t (c.in_ok-recorded.ensures ∙ ap (λ ts. recorded K (map (tables_of parts) ts) (take n js) (get_or js n 0)) c.as_slice.ensures) h)
+          ap (λ ys. rest_from K graph removal c.args.is_kept js (n + 1) ys t)
+          (ap (map (step_parts parts)) c.in_ok-push.ensures.pushed ∙ map_push (step_parts parts) _ _)
+          ∙ sym (step_done K graph removal c.args.is_kept js n p _ s (n + 1 == length js) refl _ t
+          (c.in_ok-recorded.ensures ∙ ap (λ ts. recorded K (map (tables_of parts) ts) (take n js) (get_or js n 0)) c.as_slice.ensures) h)
           ∙ c.loop-s.invariant.told;
       count =
-          sym (length-map c.in_ok-tables-2.tables (tables_of parts)) ∙ tables_stay K g.R.Value.Number.IsStored g.met.R.Value.Number.exact graph g.R.Remover.IsProper removal g.met.R.Remover.exact b0 c.requires.opened js c.args.is_kept (n + 1 == length js) (take n js) (get_or js n 0) s t h
+          sym (length-map c.in_ok-tables-2.tables (tables_of parts))
+          ∙ tables_stay K g.R.Value.Number.IsStored g.met.R.Value.Number.exact graph g.R.Remover.IsProper removal g.met.R.Remover.exact b0
+          c.requires.opened js c.args.is_kept (n + 1 == length js) (take n js) (get_or js n 0) s t h
           ∙ length-map c.loop-s.tables (tables_of parts) ∙ c.loop-s.invariant.count;
-      reached = λ q. reached_next K g.R.Value.Number.IsStored g.met.R.Value.Number.exact graph g.R.Remover.IsProper removal g.met.R.Remover.exact b0 c.requires.opened js c.requires.order n p (bundled c.loop-s.bundle) (c.loop-s.invariant.reached p) c.args.is_kept (n + 1 == length js) refl s t refl h q;
+      reached = λ q. reached_next K g.R.Value.Number.IsStored g.met.R.Value.Number.exact graph g.R.Remover.IsProper removal g.met.R.Remover.exact b0
+          c.requires.opened js c.requires.order n p (bundled c.loop-s.bundle) (c.loop-s.invariant.reached p) c.args.is_kept
+          (n + 1 == length js) refl s t refl h q;
     }
 
 pub returns : goal.returns

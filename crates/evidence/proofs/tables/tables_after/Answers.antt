@@ -9,7 +9,8 @@ returns-in_err-flows g c =
     let G = g.R.Remover.graph (g.R.Remover.present c.args.net.now) in
     let t = tables_of g.R.Value.Number.parts c.args.tables.now in
     let e : c.from_residual.result ≡ Err c.in_err-flows.field-0.0 = search rules in
-    rw e (fault_of (map g.R.Value.Number.parts) (tables_of g.R.Value.Number.parts) c.in_err-flows.field-0.0 _ _ c.in_err-flows.ensures (tables_first K G c.args.j c.args.earlier.now t c.args.is_last c.args.is_kept))
+    rw e (fault_of (map g.R.Value.Number.parts) (tables_of g.R.Value.Number.parts) c.in_err-flows.field-0.0 _ _ c.in_err-flows.ensures
+    (tables_first K G c.args.j c.args.earlier.now t c.args.is_last c.args.is_kept))
 
 pub returns-in_err-visits : goal.returns-in_err-visits
 returns-in_err-visits g c =
@@ -17,7 +18,8 @@ returns-in_err-visits g c =
     let G = g.R.Remover.graph (g.R.Remover.present c.args.net.now) in
     let t = tables_of g.R.Value.Number.parts c.args.tables.now in
     let e : c.from_residual-in_err-visits.result ≡ Err c.in_err-visits.field-0.0 = search rules in
-    rw e (fault_of (map (map g.R.Value.Number.parts)) (tables_of g.R.Value.Number.parts) c.in_err-visits.field-0.0 _ _ c.in_err-visits.ensures (tables_second K G c.args.j c.args.earlier.now t c.args.is_last c.args.is_kept _ c.in_ok-flows.ensures))
+    rw e (fault_of (map (map g.R.Value.Number.parts)) (tables_of g.R.Value.Number.parts) c.in_err-visits.field-0.0 _ _ c.in_err-visits.ensures
+    (tables_second K G c.args.j c.args.earlier.now t c.args.is_last c.args.is_kept _ c.in_ok-flows.ensures))
 
 pub returns-in_err-exits : goal.returns-in_err-exits
 returns-in_err-exits g c =
@@ -25,7 +27,8 @@ returns-in_err-exits g c =
     let G = g.R.Remover.graph (g.R.Remover.present c.args.net.now) in
     let t = tables_of g.R.Value.Number.parts c.args.tables.now in
     let e : c.from_residual-in_err-exits.result ≡ Err c.in_err-exits.field-0.0 = search rules in
-    rw e (fault_of (map (map g.R.Value.Number.parts)) (tables_of g.R.Value.Number.parts) c.in_err-exits.field-0.0 _ _ c.in_err-exits.ensures (tables_third K G c.args.j c.args.earlier.now t c.args.is_last c.args.is_kept _ c.in_ok-flows.ensures _ c.in_ok-visits.ensures))
+    rw e (fault_of (map (map g.R.Value.Number.parts)) (tables_of g.R.Value.Number.parts) c.in_err-exits.field-0.0 _ _ c.in_err-exits.ensures
+    (tables_third K G c.args.j c.args.earlier.now t c.args.is_last c.args.is_kept _ c.in_ok-flows.ensures _ c.in_ok-visits.ensures))
 
 pub returns : goal.returns
 returns g c =

@@ -15,5 +15,7 @@ returns g c =
     let k = content c.args.case.now in
     let js = hypotheses_of c.args.steps.now in
     let x = c.args.keep.now in
-    on_ok_weaker c.put_lists.result (λ e. line_and n k (SaysKeep x.hypothesis) (list_forms Exit 0 js (map (map parts) x.exits)) c.args.text.now c.put_kept.new.text c.put_lists.new.text c.in_ok-put_kept.ensures
+    on_ok_weaker c.put_lists.result
+    (λ e. line_and n k (SaysKeep x.hypothesis) (list_forms Exit 0 js (map (map parts) x.exits)) c.args.text.now c.put_kept.new.text c.put_lists.new.text
+    c.in_ok-put_kept.ensures
     (e ∙ ap (λ xs. c.put_kept.new.text ++ forms_text n k (list_forms Exit 0 js (map (map parts) xs))) c.as_slice.ensures)) c.put_lists.ensures

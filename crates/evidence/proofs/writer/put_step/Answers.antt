@@ -15,5 +15,7 @@ returns g c =
     let k = content c.args.case.now in
     let js = hypotheses_of c.args.earlier.now in
     let s = c.args.step.now in
-    on_ok_weaker c.put_lists.result (λ e. line_and n k (SaysStep s.hypothesis) (list_forms Flow 0 js (map (map parts) s.flows)) c.args.text.now c.put_rejected.new.text c.put_lists.new.text c.in_ok-put_rejected.ensures
+    on_ok_weaker c.put_lists.result
+    (λ e. line_and n k (SaysStep s.hypothesis) (list_forms Flow 0 js (map (map parts) s.flows)) c.args.text.now c.put_rejected.new.text
+    c.put_lists.new.text c.in_ok-put_rejected.ensures
     (e ∙ ap (λ xs. c.put_rejected.new.text ++ forms_text n k (list_forms Flow 0 js (map (map parts) xs))) c.as_slice.ensures)) c.put_lists.ensures

@@ -16,7 +16,8 @@ pub put_step-requires-clause-known : goal.put_step-requires-clause-known
 put_step-requires-clause-known g c = known_before (length (content c.args.case.now).names) c.args.steps.now c.loop-s.s c.requires.known
 
 pub put_step-requires-clause-below : goal.put_step-requires-clause-below
-put_step-requires-clause-below g c = subst (λ s. s.hypothesis < length (content c.args.case.now).names) (sym c.index-steps-s.is) (known_at (length (content c.args.case.now).names) c.args.steps.now c.loop-s.s c.index-steps-s.result c.loop-s-test.true c.requires.known)
+put_step-requires-clause-below g c = subst (λ s. s.hypothesis < length (content c.args.case.now).names) (sym c.index-steps-s.is)
+    (known_at (length (content c.args.case.now).names) c.args.steps.now c.loop-s.s c.index-steps-s.result c.loop-s-test.true c.requires.known)
 
 pub put_step-requires-clause-full : goal.put_step-requires-clause-full
 put_step-requires-clause-full g c =
@@ -24,7 +25,8 @@ put_step-requires-clause-full g c =
     let steps = c.args.steps.now in
     let s = c.index-steps-s.result in
     subst (λ n. AreFull (length (content c.args.case.now).components) n (map (map parts) s.flows)) (sym (take_count steps c.loop-s.s c.loop-s-test.true))
-    (flows_at (length (content c.args.case.now).components) 0 c.loop-s.s (map (step_parts parts) steps) c.loop-s.s (step_parts parts s) (zero-add c.loop-s.s) c.requires.fit (mapped_within (step_parts parts) steps c.loop-s.s c.loop-s-test.true)
+    (flows_at (length (content c.args.case.now).components) 0 c.loop-s.s (map (step_parts parts) steps) c.loop-s.s (step_parts parts s)
+    (zero-add c.loop-s.s) c.requires.fit (mapped_within (step_parts parts) steps c.loop-s.s c.loop-s-test.true)
     (mapped_item (step_parts parts) steps c.loop-s.s s c.loop-s-test.true c.index-steps-s.is))
 
 pub loop-s-preserved : goal.loop-s-preserved
@@ -34,9 +36,12 @@ loop-s-preserved g c =
     let k = content c.args.case.now in
     let steps = c.args.steps.now in
     let s = c.index-steps-s.result in
-    steps_next n k (map (step_parts parts) steps) (hypotheses_of steps) c.loop-s.s (step_parts parts s) _ c.loop-s.text c.put_step.new.text (same_hypotheses parts steps)
-    (mapped_within (step_parts parts) steps c.loop-s.s c.loop-s-test.true) (mapped_item (step_parts parts) steps c.loop-s.s s c.loop-s-test.true c.index-steps-s.is) c.loop-s.invariant
-    (c.in_ok-put_step.ensures ∙ ap (λ js. c.loop-s.text ++ forms_text n k (SaysStep s.hypothesis ∷ list_forms Flow 0 js (map (map parts) s.flows))) (hypotheses_before steps c.loop-s.s))
+    steps_next n k (map (step_parts parts) steps) (hypotheses_of steps) c.loop-s.s (step_parts parts s) _ c.loop-s.text c.put_step.new.text
+    (same_hypotheses parts steps)
+    (mapped_within (step_parts parts) steps c.loop-s.s c.loop-s-test.true)
+    (mapped_item (step_parts parts) steps c.loop-s.s s c.loop-s-test.true c.index-steps-s.is) c.loop-s.invariant
+    (c.in_ok-put_step.ensures ∙ ap (λ js. c.loop-s.text ++ forms_text n k (SaysStep s.hypothesis ∷ list_forms Flow 0 js (map (map parts) s.flows)))
+    (hypotheses_before steps c.loop-s.s))
 
 pub returns : goal.returns
 returns g c =

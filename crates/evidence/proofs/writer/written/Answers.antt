@@ -28,8 +28,10 @@ returns g c =
     let v = c.args.proof.now in
     let ss = map (step_parts parts) v.steps in
     let xs = map (keep_parts parts) v.keeps in
-    whole_text n k v.version ss xs c.new-text.result c.put_version.new.text c.put_steps.new.text c.put_keeps.new.text c.append.new.self c.new-text.ensures c.in_ok-put_version.ensures
+    whole_text n k v.version ss xs c.new-text.result c.put_version.new.text c.put_steps.new.text c.put_keeps.new.text c.append.new.self c.new-text.ensures
+    c.in_ok-put_version.ensures
     (c.in_ok-put_steps.ensures ∙ ap (λ ys. c.put_version.new.text ++ forms_text n k (step_forms [] (map (step_parts parts) ys))) c.as_slice-steps.ensures)
-    (c.in_ok-put_keeps.ensures ∙ ap₂ (λ ys zs. c.put_steps.new.text ++ forms_text n k (keep_forms (hypotheses_of ys) (map (keep_parts parts) zs))) c.as_slice-steps.ensures c.as_slice.ensures
+    (c.in_ok-put_keeps.ensures ∙ ap₂ (λ ys zs. c.put_steps.new.text ++ forms_text n k (keep_forms (hypotheses_of ys) (map (keep_parts parts) zs)))
+    c.as_slice-steps.ensures c.as_slice.ensures
     ∙ ap (λ js. c.put_steps.new.text ++ forms_text n k (keep_forms js xs)) (same_hypotheses parts v.steps))
     c.in_ok-append.ensures.appended

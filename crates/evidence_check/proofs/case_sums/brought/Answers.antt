@@ -4,4 +4,5 @@ use Rattle.evidence_check.proofs.SumAnswers.{brought_is}
 use Rattle.evidence_check.proofs.case_sums.brought.Goals as goal
 
 pub returns : goal.returns
-returns g c = brought_is _ _ _ _ _ _ _ _ _ (as_many c.args.earlier.now) _ c.weight.ensures (c.added.ensures _ _ (λ e v b p. search rules) (λ e v b p. search rules))
+returns g c = brought_is _ _ _ _ _ _ _ _ _ (as_many c.args.earlier.now) _ c.weight.ensures
+    (c.added.ensures _ _ (λ e v b p. search rules) (λ e v b p. search rules))

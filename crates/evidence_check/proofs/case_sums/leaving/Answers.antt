@@ -4,4 +4,5 @@ use Rattle.evidence_check.proofs.SumAnswers.{leaving_is}
 use Rattle.evidence_check.proofs.case_sums.leaving.Goals as goal
 
 pub returns : goal.returns
-returns g c = leaving_is _ _ _ _ _ _ _ _ _ (as_many c.args.steps.now) _ _ c.hypothesis-from.ensures.place c.edge.ensures (c.added.ensures _ _ (λ e v b p. search rules) (λ e v b p. search rules))
+returns g c = leaving_is _ _ _ _ _ _ _ _ _ (as_many c.args.steps.now) _ _ c.hypothesis-from.ensures.place c.edge.ensures
+    (c.added.ensures _ _ (λ e v b p. search rules) (λ e v b p. search rules))

@@ -10,17 +10,21 @@ returns-clause-answer c = c.verdict.ensures ∙ ap verdict_of c.checked_for.ensu
 
 pub returns-clause-yes : goal.returns-clause-yes
 returns-clause-yes c = λ h.
-    (case_tells (content c.args.case.now) c.args.case.now.valid _ _ (evidence_stored (content c.args.case.now) c.args.proof.now c.requires.fits)).ok _ (sym c.checked_for.ensures ∙ yes_is _ (sym c.verdict.ensures ∙ h))
+    (case_tells (content c.args.case.now) c.args.case.now.valid _ _ (evidence_stored (content c.args.case.now) c.args.proof.now c.requires.fits)).ok _
+    (sym c.checked_for.ensures ∙ yes_is _ (sym c.verdict.ensures ∙ h))
 
 pub returns-clause-no : goal.returns-clause-no
 returns-clause-no c = λ n reason h.
-    (case_tells (content c.args.case.now) c.args.case.now.valid _ _ (evidence_stored (content c.args.case.now) c.args.proof.now c.requires.fits)).bad n reason (sym c.checked_for.ensures ∙ no_is _ n reason (sym c.verdict.ensures ∙ h))
+    (case_tells (content c.args.case.now) c.args.case.now.valid _ _ (evidence_stored (content c.args.case.now) c.args.proof.now c.requires.fits)).bad n reason
+    (sym c.checked_for.ensures ∙ no_is _ n reason (sym c.verdict.ensures ∙ h))
 
 pub returns-clause-rejected : goal.returns-clause-rejected
 returns-clause-rejected c = λ h j.
-    case_rejected (content c.args.case.now) c.args.case.now.valid c.requires.single _ _ (evidence_stored (content c.args.case.now) c.args.proof.now c.requires.fits) (sym c.checked_for.ensures ∙ yes_is _ (sym c.verdict.ensures ∙ h)) j
+    case_rejected (content c.args.case.now) c.args.case.now.valid c.requires.single _ _
+    (evidence_stored (content c.args.case.now) c.args.proof.now c.requires.fits) (sym c.checked_for.ensures ∙ yes_is _ (sym c.verdict.ensures ∙ h)) j
 
 pub returns-clause-all : goal.returns-clause-all
 returns-clause-all c = λ h two j.
-    case_decides (content c.args.case.now) c.args.case.now.valid c.requires.single _ _ (evidence_stored (content c.args.case.now) c.args.proof.now c.requires.fits) (sym c.checked_for.ensures ∙ yes_is _ (sym c.verdict.ensures ∙ h))
+    case_decides (content c.args.case.now) c.args.case.now.valid c.requires.single _ _
+    (evidence_stored (content c.args.case.now) c.args.proof.now c.requires.fits) (sym c.checked_for.ensures ∙ yes_is _ (sym c.verdict.ensures ∙ h))
     (keeps_others (content c.args.case.now) c.args.proof.now c.requires.fits two) j

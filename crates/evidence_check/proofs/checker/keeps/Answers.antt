@@ -7,10 +7,12 @@ pub loop-x-init : goal.loop-x-init
 loop-x-init g c = keeps_start g.F.Number.parts g.F.Number.kind _ _ _ _ _ _ c.args.keeps.now c.requires.fit
 
 pub keep-requires-clause-below : goal.keep-requires-clause-below
-keep-requires-clause-below g c = keep_known g.F.Number.parts g.F.Number.kind _ _ _ _ _ _ c.args.keeps.now c.loop-x.x _ c.loop-x-test.true c.index-keeps-x.is c.loop-x.invariant c.requires.below
+keep-requires-clause-below g c = keep_known g.F.Number.parts g.F.Number.kind _ _ _ _ _ _ c.args.keeps.now c.loop-x.x _ c.loop-x-test.true c.index-keeps-x.is
+    c.loop-x.invariant c.requires.below
 
 pub keep-requires-clause-full : goal.keep-requires-clause-full
-keep-requires-clause-full g c = (keep_fits g.F.Number.parts g.F.Number.kind _ _ _ _ _ _ c.args.keeps.now c.loop-x.x _ c.loop-x-test.true c.index-keeps-x.is c.loop-x.invariant).0
+keep-requires-clause-full g c =
+    (keep_fits g.F.Number.parts g.F.Number.kind _ _ _ _ _ _ c.args.keeps.now c.loop-x.x _ c.loop-x-test.true c.index-keeps-x.is c.loop-x.invariant).0
 
 pub returns-in_err-numbered : goal.returns-in_err-numbered
 returns-in_err-numbered g c =
@@ -24,4 +26,5 @@ loop-x-preserved g c =
     (ap (numbered (length c.args.steps.now + c.loop-x.x + 1)) (sym c.keep.ensures) ∙ sym c.numbered.ensures ∙ c.in_ok-numbered.was)
 
 pub returns : goal.returns
-returns g c = sym (keeps_end g.F.Number.parts g.F.Number.kind _ _ _ _ _ _ c.args.keeps.now c.loop-x.x (omega (arith, c.loop-x.auto.x-end, c.loop-x-test.false)) c.loop-x.invariant)
+returns g c = sym (keeps_end g.F.Number.parts g.F.Number.kind _ _ _ _ _ _ c.args.keeps.now c.loop-x.x
+    (omega (arith, c.loop-x.auto.x-end, c.loop-x-test.false)) c.loop-x.invariant)

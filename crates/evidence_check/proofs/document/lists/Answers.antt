@@ -15,21 +15,27 @@ pub loop-c-init : goal.loop-c-init
 loop-c-init g c = record {
   left = omega arith;
   end = refl;
-  so_far = subst (λ xs. ListsSoFar g.F.CaseNumber.numbers (content c.args.case.now) (end_at c.args.lines.now) c.args.quantity (hypotheses_of c.args.steps.now) (rows_left c.args.lines.now) 0 (map (map g.F.Number.parts) xs) (rows_left c.args.lines.now)) (sym c.new-lists.ensures)
-      (lists_none g.F.CaseNumber.numbers (content c.args.case.now) (end_at c.args.lines.now) c.args.quantity (hypotheses_of c.args.steps.now) (rows_left c.args.lines.now));
+  so_far = subst (λ xs. ListsSoFar g.F.CaseNumber.numbers (content c.args.case.now) (end_at c.args.lines.now) c.args.quantity (hypotheses_of c.args.steps.now)
+      (rows_left c.args.lines.now) 0 (map (map g.F.Number.parts) xs) (rows_left c.args.lines.now)) (sym c.new-lists.ensures)
+      (lists_none g.F.CaseNumber.numbers (content c.args.case.now) (end_at c.args.lines.now) c.args.quantity (hypotheses_of c.args.steps.now)
+      (rows_left c.args.lines.now));
 }
 
 pub returns-in_err-numbers-clause-fault : goal.returns-in_err-numbers-clause-fault
 returns-in_err-numbers-clause-fault g c =
     let p : c.loop-c.c < length (content c.args.case.now).components = subst (λ n. c.loop-c.c < n) c.components-c-end.ensures.count c.loop-c-test.true in
     handed_on c.from_residual.result c.in_err-numbers.field-0.0 _ c.from_residual.ensures.1
-    (lists_stop g.F.CaseNumber.numbers (content c.args.case.now) (end_at c.args.lines.now) c.args.quantity (hypotheses_of c.args.steps.now) (rows_left c.args.lines.now) c.loop-c.c (map (map g.F.Number.parts) c.loop-c.lists) (rows_left c.loop-c.lines) p c.loop-c.invariant.so_far
-    c.in_err-numbers.field-0.0 (subst (λ n. NumbersStop g.F.CaseNumber.numbers (content c.args.case.now) n c.args.quantity c.loop-c.c (hypotheses_of c.args.steps.now) (rows_left c.loop-c.lines) c.in_err-numbers.field-0.0) c.loop-c.invariant.end c.in_err-numbers.ensures.fault))
+    (lists_stop g.F.CaseNumber.numbers (content c.args.case.now) (end_at c.args.lines.now) c.args.quantity (hypotheses_of c.args.steps.now)
+    (rows_left c.args.lines.now) c.loop-c.c (map (map g.F.Number.parts) c.loop-c.lists) (rows_left c.loop-c.lines) p c.loop-c.invariant.so_far
+    c.in_err-numbers.field-0.0
+    (subst (λ n. NumbersStop g.F.CaseNumber.numbers (content c.args.case.now) n c.args.quantity c.loop-c.c (hypotheses_of c.args.steps.now)
+    (rows_left c.loop-c.lines) c.in_err-numbers.field-0.0) c.loop-c.invariant.end c.in_err-numbers.ensures.fault))
 
 pub returns-in_err-push-clause-fault : goal.returns-in_err-push-clause-fault
 returns-in_err-push-clause-fault g c =
     handed_on c.from_residual-in_err-push.result faults.NoMemory _ c.from_residual-in_err-push.ensures.1
-    (lists_memory g.F.CaseNumber.numbers (content c.args.case.now) (end_at c.args.lines.now) c.args.quantity (hypotheses_of c.args.steps.now) (rows_left c.args.lines.now))
+    (lists_memory g.F.CaseNumber.numbers (content c.args.case.now) (end_at c.args.lines.now) c.args.quantity (hypotheses_of c.args.steps.now)
+    (rows_left c.args.lines.now))
 
 fewer : (new cur old : ℕ) → new ≤ cur → cur ≤ old → new ≤ old
 fewer new cur old e h = omega arith
@@ -40,20 +46,28 @@ loop-c-preserved g c =
     record {
       left = fewer (length (rows_left c.numbers.new.lines)) (length (rows_left c.loop-c.lines)) _ c.in_ok-numbers.ensures.left c.loop-c.invariant.left;
       end = c.in_ok-numbers.ensures.end ∙ c.loop-c.invariant.end;
-      so_far = subst (λ xs. ListsSoFar g.F.CaseNumber.numbers (content c.args.case.now) (end_at c.args.lines.now) c.args.quantity (hypotheses_of c.args.steps.now) (rows_left c.args.lines.now) (c.loop-c.c + 1) xs (rows_left c.numbers.new.lines))
-          (sym (ap (map (map g.F.Number.parts)) c.in_ok-push.ensures.pushed ∙ map-append (map g.F.Number.parts) c.loop-c.lists (c.in_ok-numbers.field-0 ∷ [])))
-          (lists_next g.F.CaseNumber.numbers (content c.args.case.now) (end_at c.args.lines.now) c.args.quantity (hypotheses_of c.args.steps.now) (rows_left c.args.lines.now) c.loop-c.c (map (map g.F.Number.parts) c.loop-c.lists) (rows_left c.loop-c.lines) p c.loop-c.invariant.so_far
-          (map g.F.Number.parts c.in_ok-numbers.field-0) (rows_left c.numbers.new.lines) (length-map c.in_ok-numbers.field-0 g.F.Number.parts ∙ c.in_ok-numbers.ensures.count ∙ as_many c.args.steps.now)
-          (subst (λ n. NumbersRead g.F.CaseNumber.numbers (content c.args.case.now) n c.args.quantity c.loop-c.c (hypotheses_of c.args.steps.now) (rows_left c.loop-c.lines) (map g.F.Number.parts c.in_ok-numbers.field-0) (rows_left c.numbers.new.lines)) c.loop-c.invariant.end c.in_ok-numbers.ensures.found));
+      so_far = subst (λ xs. ListsSoFar g.F.CaseNumber.numbers (content c.args.case.now) (end_at c.args.lines.now) c.args.quantity
+          (hypotheses_of c.args.steps.now) (rows_left c.args.lines.now) (c.loop-c.c + 1) xs (rows_left c.numbers.new.lines))
+          (sym (ap (map (map g.F.Number.parts)) c.in_ok-push.ensures.pushed
+          ∙ map-append (map g.F.Number.parts) c.loop-c.lists (c.in_ok-numbers.field-0 ∷ [])))
+          (lists_next g.F.CaseNumber.numbers (content c.args.case.now) (end_at c.args.lines.now) c.args.quantity (hypotheses_of c.args.steps.now)
+          (rows_left c.args.lines.now) c.loop-c.c (map (map g.F.Number.parts) c.loop-c.lists) (rows_left c.loop-c.lines) p c.loop-c.invariant.so_far
+          (map g.F.Number.parts c.in_ok-numbers.field-0) (rows_left c.numbers.new.lines)
+          (length-map c.in_ok-numbers.field-0 g.F.Number.parts ∙ c.in_ok-numbers.ensures.count ∙ as_many c.args.steps.now)
+          (subst (λ n. NumbersRead g.F.CaseNumber.numbers (content c.args.case.now) n c.args.quantity c.loop-c.c (hypotheses_of c.args.steps.now)
+          (rows_left c.loop-c.lines) (map g.F.Number.parts c.in_ok-numbers.field-0) (rows_left c.numbers.new.lines)) c.loop-c.invariant.end
+          c.in_ok-numbers.ensures.found));
     }
 
 pub returns-clause-found : goal.returns-clause-found
 returns-clause-found g c =
-    lists_done g.F.CaseNumber.numbers (content c.args.case.now) (end_at c.args.lines.now) c.args.quantity (hypotheses_of c.args.steps.now) (rows_left c.args.lines.now) c.loop-c.c (map (map g.F.Number.parts) c.loop-c.lists) (rows_left c.loop-c.lines)
+    lists_done g.F.CaseNumber.numbers (content c.args.case.now) (end_at c.args.lines.now) c.args.quantity (hypotheses_of c.args.steps.now)
+    (rows_left c.args.lines.now) c.loop-c.c (map (map g.F.Number.parts) c.loop-c.lists) (rows_left c.loop-c.lines)
     (omega (arith, c.loop-c.auto.c-end, c.loop-c-test.false, c.components-c-end.ensures.count)) c.loop-c.invariant.so_far
 
 pub returns-clause-full : goal.returns-clause-full
 returns-clause-full g c =
-    let e : c.loop-c.c ≡ length (content c.args.case.now).components = omega (arith, c.loop-c.auto.c-end, c.loop-c-test.false, c.components-c-end.ensures.count) in
+    let e : c.loop-c.c ≡ length (content c.args.case.now).components =
+    omega (arith, c.loop-c.auto.c-end, c.loop-c-test.false, c.components-c-end.ensures.count) in
     subst (λ k. AreFull k (length c.args.steps.now) (map (map g.F.Number.parts) c.loop-c.lists)) e
     (subst (λ n. AreFull c.loop-c.c n (map (map g.F.Number.parts) c.loop-c.lists)) (sym (as_many c.args.steps.now)) c.loop-c.invariant.so_far.full)

@@ -9,5 +9,6 @@ abbrev pub invariant-loop-e : goal.invariant-loop-e
 invariant-loop-e g l = record {
   left : length (rows_left l.lines) ≤ length (rows_left l.initial.lines);
   end : end_at l.lines ≡ end_at l.initial.lines;
-  so_far : NumbersSoFar g.F.CaseNumber.numbers (content l.case) (end_at l.initial.lines) l.quantity l.c (hypotheses_of l.steps) (rows_left l.initial.lines) l.e (map g.F.Number.parts l.numbers) (rows_left l.lines);
+  so_far : NumbersSoFar g.F.CaseNumber.numbers (content l.case) (end_at l.initial.lines) l.quantity l.c (hypotheses_of l.steps) (rows_left l.initial.lines) l.e
+      (map g.F.Number.parts l.numbers) (rows_left l.lines);
 }

@@ -12,7 +12,8 @@ invariant-loop-words g l = record {
   end : end_at l.lines ≡ end_at l.fn.lines;
   known : All (λ j. j < length (content l.case).names) (hypotheses_of l.steps);
   full : FlowsFit (length (content l.case).components) 0 (map (step_parts g.F.Number.parts) l.steps);
-  read : StepsRead g.F.CaseNumber.numbers (content l.case) (end_at l.fn.lines) (rows_left l.fn.lines) (map (step_parts g.F.Number.parts) l.steps) (rows_from l.line l.lines);
+  read : StepsRead g.F.CaseNumber.numbers (content l.case) (end_at l.fn.lines) (rows_left l.fn.lines) (map (step_parts g.F.Number.parts) l.steps)
+      (rows_from l.line l.lines);
 }
 
 abbrev pub decreases-loop-words : goal.decreases-loop-words

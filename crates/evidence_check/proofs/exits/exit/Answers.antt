@@ -12,16 +12,19 @@ returns-in_err-demand g c =
 pub returns-in_err-sum : goal.returns-in_err-sum
 returns-in_err-sum g c =
     let e : c.from_residual-in_err-sum.result ≡ Err c.in_err-sum.field-0.0 = search rules in
-    e ∙ sym (leaving_refused _ _ _ _ _ _ _ _ _ c.number-exit.ensures c.is_nonnegative.ensures _ (sym c.demand.ensures ∙ c.in_ok-demand.was) _ (sym c.in_err-sum.ensures))
+    e ∙ sym (leaving_refused _ _ _ _ _ _ _ _ _ c.number-exit.ensures c.is_nonnegative.ensures _ (sym c.demand.ensures ∙ c.in_ok-demand.was) _
+    (sym c.in_err-sum.ensures))
 
 pub returns-in_err-order : goal.returns-in_err-order
 returns-in_err-order g c =
     let e : c.from_residual-in_err-order.result ≡ Err c.in_err-order.field-0.0 = search rules in
-    e ∙ sym (exit_order_refused _ _ _ _ _ _ _ _ _ c.number-exit.ensures c.is_nonnegative.ensures _ (sym c.demand.ensures ∙ c.in_ok-demand.was) _ (sym c.in_ok-sum.ensures) c.hypothesis.result c.hypothesis.ensures.place _
+    e ∙ sym (exit_order_refused _ _ _ _ _ _ _ _ _ c.number-exit.ensures c.is_nonnegative.ensures _ (sym c.demand.ensures ∙ c.in_ok-demand.was) _
+    (sym c.in_ok-sum.ensures) c.hypothesis.result c.hypothesis.ensures.place _
     (sym (ap (written_at _ _) c.compare.ensures) ∙ sym c.placed.ensures ∙ c.in_err-order.was))
 
 pub returns : goal.returns
 returns g c =
     c.demand-2.ensures ∙ ap (λ b. demand b (ShortExit c.args.c c.args.r)) c.is_le.ensures
-    ∙ sym (exit_done _ _ _ _ _ _ _ _ _ c.number-exit.ensures c.is_nonnegative.ensures _ (sym c.demand.ensures ∙ c.in_ok-demand.was) _ (sym c.in_ok-sum.ensures) c.hypothesis.result c.hypothesis.ensures.place _
+    ∙ sym (exit_done _ _ _ _ _ _ _ _ _ c.number-exit.ensures c.is_nonnegative.ensures _ (sym c.demand.ensures ∙ c.in_ok-demand.was) _
+    (sym c.in_ok-sum.ensures) c.hypothesis.result c.hypothesis.ensures.place _
     (sym (ap (written_at _ _) c.compare.ensures) ∙ sym c.placed.ensures ∙ c.in_ok-order.was))

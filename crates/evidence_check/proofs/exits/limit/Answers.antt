@@ -19,26 +19,31 @@ returns-in_err-order g c =
     let e : c.from_residual-in_err-order.result ≡ Err c.in_err-order.field-0.0 = search rules in
     ap (ok_map fraction_parts) e
     ∙ sym (one_refused _ _ _ _ _ c.in_component.ensures.numbers _ _ _ (sym c.in_ok-sum.ensures) _
-    (order_is g.F.Number.kind (g.F.Number.parts c.in_ok-sum.sum) _ c.args.c (Level c.args.k) c.compare.result c.placed.result _ c.compare.ensures c.one.ensures c.placed.ensures c.in_err-order.was))
+    (order_is g.F.Number.kind (g.F.Number.parts c.in_ok-sum.sum) _ c.args.c
+    (Level c.args.k) c.compare.result c.placed.result _ c.compare.ensures c.one.ensures c.placed.ensures c.in_err-order.was))
 
 pub returns-in_err-demand : goal.returns-in_err-demand
 returns-in_err-demand g c =
     let e : c.from_residual-in_err-demand.result ≡ Err c.in_err-demand.field-0.0 = search rules in
     ap (ok_map fraction_parts) e
     ∙ sym (above_one _ _ _ _ _ c.in_component.ensures.numbers _ _ _ (sym c.in_ok-sum.ensures) _
-    (order_is g.F.Number.kind (g.F.Number.parts c.in_ok-sum.sum) _ c.args.c (Level c.args.k) c.compare.result c.placed.result _ c.compare.ensures c.one.ensures c.placed.ensures c.in_ok-order.was)
+    (order_is g.F.Number.kind (g.F.Number.parts c.in_ok-sum.sum) _ c.args.c
+    (Level c.args.k) c.compare.result c.placed.result _ c.compare.ensures c.one.ensures c.placed.ensures c.in_ok-order.was)
     _ (sym (ap (λ b. demand b (AboveOne c.args.c)) c.is_le.ensures) ∙ sym c.demand.ensures ∙ c.in_err-demand.was))
 
 pub limit-requires : goal.limit-requires
 limit-requires g c =
-    allowed_unit_at g.F.Number.kind g.F.Number.IsStored g.met.F.Number.exact g.F.Number.parts g.met.F.Number.stored _ (content c.args.case.now) c.args.case.now.valid c.requires.loaded _ c.requires.order _ _ c.requires.c c.requires.k _ _ c.in_component.ensures.numbers
+    allowed_unit_at g.F.Number.kind g.F.Number.IsStored g.met.F.Number.exact g.F.Number.parts g.met.F.Number.stored _
+    (content c.args.case.now) c.args.case.now.valid c.requires.loaded _ c.requires.order _ _ c.requires.c c.requires.k _ _ c.in_component.ensures.numbers
     c.requires.exits _ _ (sym c.in_ok-sum.ensures)
-    (order_is g.F.Number.kind (g.F.Number.parts c.in_ok-sum.sum) _ c.args.c (Level c.args.k) c.compare.result c.placed.result _ c.compare.ensures c.one.ensures c.placed.ensures c.in_ok-order.was)
+    (order_is g.F.Number.kind (g.F.Number.parts c.in_ok-sum.sum) _ c.args.c
+    (Level c.args.k) c.compare.result c.placed.result _ c.compare.ensures c.one.ensures c.placed.ensures c.in_ok-order.was)
     (sym c.is_le.ensures ∙ demand_met _ _ _ (sym c.demand.ensures ∙ c.in_ok-demand.was))
 
 pub returns : goal.returns
 returns g c =
     ap (λ t. Ok (single t)) (c.of.ensures ∙ c.limit.ensures)
     ∙ sym (limit_found _ _ _ _ _ c.in_component.ensures.numbers _ _ _ (sym c.in_ok-sum.ensures) _
-    (order_is g.F.Number.kind (g.F.Number.parts c.in_ok-sum.sum) _ c.args.c (Level c.args.k) c.compare.result c.placed.result _ c.compare.ensures c.one.ensures c.placed.ensures c.in_ok-order.was)
+    (order_is g.F.Number.kind (g.F.Number.parts c.in_ok-sum.sum) _ c.args.c
+    (Level c.args.k) c.compare.result c.placed.result _ c.compare.ensures c.one.ensures c.placed.ensures c.in_ok-order.was)
     _ (sym (ap (λ b. demand b (AboveOne c.args.c)) c.is_le.ensures) ∙ sym c.demand.ensures ∙ c.in_ok-demand.was))

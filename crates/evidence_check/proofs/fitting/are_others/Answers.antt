@@ -21,7 +21,8 @@ returns-then-keeps-kept g c =
     let q : c.loop-k.kept < length c.args.keeps.now = omega arith in (
       λ t. absurd (cc),
       λ w. absurd (others_other c.args.m (hypotheses_of c.args.steps.now) c.args.keeps.now c.loop-k.k c.loop-k.kept c.loop-k-test.true c.loop-k.invariant
-          _ q c.index-keeps-kept.is (sym (listed_is c.args.steps.now c.loop-k.k) ∙ sym c.is_listed.ensures ∙ c.if-not-is_listed.true) (λ e. c.if-keeps-kept.true (ap (λ x. x.hypothesis) (sym c.index-keeps-kept.is) ∙ e)) w),
+          _ q c.index-keeps-kept.is (sym (listed_is c.args.steps.now c.loop-k.k) ∙ sym c.is_listed.ensures ∙ c.if-not-is_listed.true)
+          (λ e. c.if-keeps-kept.true (ap (λ x. x.hypothesis) (sym c.index-keeps-kept.is) ∙ e)) w),
     )
 
 pub loop-k-preserved : goal.loop-k-preserved
@@ -32,7 +33,8 @@ loop-k-preserved g c =
           let q : c.loop-k.kept < length c.args.keeps.now = omega arith in
           subst (OthersLeft c.args.m (hypotheses_of c.args.steps.now) c.args.keeps.now (c.loop-k.k + 1)) (sym w.kept-is)
           (others_more c.args.m (hypotheses_of c.args.steps.now) c.args.keeps.now c.loop-k.k c.loop-k.kept c.loop-k-test.true c.loop-k.invariant
-          _ q w.index-keeps-kept.is (sym (listed_is c.args.steps.now c.loop-k.k) ∙ sym c.is_listed.ensures ∙ w.if-not-is_listed.true) (ap (λ x. x.hypothesis) w.index-keeps-kept.is ∙ w.if-keeps-kept.false))
+          _ q w.index-keeps-kept.is (sym (listed_is c.args.steps.now c.loop-k.k) ∙ sym c.is_listed.ensures ∙ w.if-not-is_listed.true)
+          (ap (λ x. x.hypothesis) w.index-keeps-kept.is ∙ w.if-keeps-kept.false))
       | else-not-is_listed w ↦
           subst (OthersLeft c.args.m (hypotheses_of c.args.steps.now) c.args.keeps.now (c.loop-k.k + 1)) (sym w.kept-is)
           (others_skip c.args.m (hypotheses_of c.args.steps.now) c.args.keeps.now c.loop-k.k c.loop-k.kept c.loop-k-test.true c.loop-k.invariant
@@ -40,4 +42,5 @@ loop-k-preserved g c =
     ]
 
 pub returns : goal.returns
-returns g c = others_end c.args.m (hypotheses_of c.args.steps.now) c.args.keeps.now c.loop-k.k c.loop-k.kept (omega (arith, c.loop-k.auto.k-end, c.loop-k-test.false)) c.loop-k.invariant
+returns g c = others_end c.args.m (hypotheses_of c.args.steps.now) c.args.keeps.now c.loop-k.k c.loop-k.kept
+    (omega (arith, c.loop-k.auto.k-end, c.loop-k-test.false)) c.loop-k.invariant

@@ -10,9 +10,12 @@ pub returns-in_err-try_fill : goal.returns-in_err-try_fill
 returns-in_err-try_fill g c = λ K n f says.
     let e : c.from_residual.result ≡ Err c.in_err-try_fill.field-0.0 = search rules in
     ap (ok_map fraction_parts) e
-    ∙ sym (level_refused K n (content c.args.case.now) c.args.k f _ c.try_fill.result (filled_run fraction_parts f _ _ _ _ (c.try_fill.auto.places ∙ c.requires.room) says c.try_fill.ensures) c.in_err-try_fill.field-0.0 c.in_err-try_fill.was)
+    ∙ sym (level_refused K n (content c.args.case.now) c.args.k f _ c.try_fill.result
+    (filled_run fraction_parts f _ _ _ _ (c.try_fill.auto.places ∙ c.requires.room) says c.try_fill.ensures) c.in_err-try_fill.field-0.0
+    c.in_err-try_fill.was)
 
 pub returns : goal.returns
 returns g c = λ K n f says.
     c.shared_sum.ensures K n
-    ∙ sym (level_found K n (content c.args.case.now) c.args.k f _ c.try_fill.result (filled_run fraction_parts f _ _ _ _ (c.try_fill.auto.places ∙ c.requires.room) says c.try_fill.ensures) _ c.in_ok-try_fill.was)
+    ∙ sym (level_found K n (content c.args.case.now) c.args.k f _ c.try_fill.result
+    (filled_run fraction_parts f _ _ _ _ (c.try_fill.auto.places ∙ c.requires.room) says c.try_fill.ensures) _ c.in_ok-try_fill.was)

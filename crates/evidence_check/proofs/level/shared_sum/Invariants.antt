@@ -8,4 +8,5 @@ use Rattle.evidence_check.specs.CaseCheck.{share_in}
 use Rattle.evidence_check.proofs.level.shared_sum.Given as goal
 
 abbrev pub invariant-loop-c : goal.invariant-loop-c
-invariant-loop-c l = added plain (λ c. c) (Level l.k) plain.zero (share_in (content l.case)) (numbers_at plain (map fraction_parts l.limits)) l.c ≡ Ok (fraction_parts l.sum)
+invariant-loop-c l = added plain (λ c. c) (Level l.k) plain.zero (share_in (content l.case)) (numbers_at plain (map fraction_parts l.limits)) l.c ≡ Ok
+    (fraction_parts l.sum)

@@ -9,7 +9,8 @@ steps-preserved c =
     record {
       left_odd = part.is_odd;
       right_odd = rw c.min-right.ensures (min_odd l.left l.right l.invariant.left_odd l.invariant.right_odd);
-      same = λ g h. l.invariant.same g (by_odd_difference l.left l.right _ _ _ _ g l.invariant.left_odd l.invariant.right_odd c.abs_diff-rest.ensures c.min-right.ensures part h);
+      same = λ g h. l.invariant.same g
+          (by_odd_difference l.left l.right _ _ _ _ g l.invariant.left_odd l.invariant.right_odd c.abs_diff-rest.ensures c.min-right.ensures part h);
     }
 
 pub returns : goal.returns

@@ -10,4 +10,5 @@ odd_gcd-requires-clause-b c = (odd_part c.args.b c.requires.b (search rules)).is
 
 pub returns : goal.returns
 returns c =
-    gcd_shifted c.args.a c.args.b _ _ _ _ c.odd_gcd.result c.min.result c.requires.a (search rules) (odd_part c.args.a c.requires.a (search rules)) (odd_part c.args.b c.requires.b (search rules)) c.odd_gcd.ensures c.min.ensures
+    gcd_shifted c.args.a c.args.b _ _ _ _ c.odd_gcd.result c.min.result c.requires.a (search rules) (odd_part c.args.a c.requires.a (search rules))
+    (odd_part c.args.b c.requires.b (search rules)) c.odd_gcd.ensures c.min.ensures

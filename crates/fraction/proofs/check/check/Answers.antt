@@ -23,7 +23,8 @@ returns-in-None c =
 pub loop-at-preserved : goal.loop-at-preserved
 loop-at-preserved c =
     let text = c.args.text.now in
-    let e : step c.loop-at.state (class_of (get_or text c.loop-at.at 0)) ≡ Some c.in-Some.next = rw (← c.class_of.ensures) (sym c.step.ensures ∙ c.in-Some.is) in
+    let e : step c.loop-at.state (class_of (get_or text c.loop-at.at 0)) ≡ Some c.in-Some.next =
+    rw (← c.class_of.ensures) (sym c.step.ensures ∙ c.in-Some.is) in
     let a = reads_on text c.loop-at.at c.loop-at.state c.in-Some.next c.loop-at-test.true e in
     let n = reached_on text c.loop-at.at c.loop-at.state c.in-Some.next c.loop-at-test.true e in
     record { same = sym a ∙ c.loop-at.invariant.same; counted = omega (arith, n, c.loop-at.invariant.counted) }
@@ -31,12 +32,15 @@ loop-at-preserved c =
 pub returns-then-is_final : goal.returns-then-is_final
 returns-then-is_final c =
     let text = c.args.text.now in
-    checked_numeral text (sym c.loop-at.invariant.same ∙ reads_end text c.loop-at.at c.loop-at.state c.loop-at-test.false ∙ sym c.is_final.ensures ∙ c.if-is_final.true)
+    checked_numeral text (sym c.loop-at.invariant.same ∙ reads_end text c.loop-at.at c.loop-at.state c.loop-at-test.false ∙ sym c.is_final.ensures
+    ∙ c.if-is_final.true)
 
 pub returns-else-is_final : goal.returns-else-is_final
 returns-else-is_final c =
     let text = c.args.text.now in
     let some : 0 < length text = omega (arith, eqb-false (length text) 0 (sym c.is_empty.ensures ∙ c.if-is_empty.false)) in
-    let a : reads text Start ≡ false = sym c.loop-at.invariant.same ∙ reads_end text c.loop-at.at c.loop-at.state c.loop-at-test.false ∙ sym c.is_final.ensures ∙ c.if-is_final.false in
-    let counted : reached text Start ≡ length text = omega (arith, reached_end text c.loop-at.at c.loop-at.state c.loop-at-test.false, c.loop-at.invariant.counted) in
+    let a : reads text Start ≡ false = sym c.loop-at.invariant.same ∙ reads_end text c.loop-at.at c.loop-at.state c.loop-at-test.false
+    ∙ sym c.is_final.ensures ∙ c.if-is_final.false in
+    let counted : reached text Start ≡ length text = omega
+    (arith, reached_end text c.loop-at.at c.loop-at.state c.loop-at-test.false, c.loop-at.invariant.counted) in
     checked_bad text (length text) some a counted

@@ -5,4 +5,7 @@ use Rattle.fraction.proofs.Scan.{reached}
 use Rattle.fraction.proofs.check.check.Given as goal
 
 abbrev pub invariant-loop-at : goal.invariant-loop-at
-invariant-loop-at l = record { same : reads (drop l.at l.text) l.state ≡ reads l.text Start; counted : l.at + reached (drop l.at l.text) l.state ≡ reached l.text Start }
+invariant-loop-at l = record {
+  same : reads (drop l.at l.text) l.state ≡ reads l.text Start;
+  counted : l.at + reached (drop l.at l.text) l.state ≡ reached l.text Start;
+}

@@ -8,7 +8,11 @@ unfolding decimal_length
 loop-at-init c = omega arith
 
 at_stop : (c : goal.In-None) → c.loop-at.at ≡ decimal_length c.args.text.now
-at_stop c = omega (arith, counted_off c.args.text.now c.loop-at.at c.loop-at.part c.loop-at-test.true (sym c.step.ensures ∙ c.in-None.is), c.loop-at.invariant)
+at_stop c = omega (
+  arith,
+  counted_off c.args.text.now c.loop-at.at c.loop-at.part c.loop-at-test.true (sym c.step.ensures ∙ c.in-None.is),
+  c.loop-at.invariant,
+)
 
 pub returns-in-None-clause-value : goal.returns-in-None-clause-value
 returns-in-None-clause-value c = at_stop c
@@ -17,7 +21,11 @@ pub returns-in-None-clause-longest : goal.returns-in-None-clause-longest
 returns-in-None-clause-longest c = is_longest c.args.text.now c.loop-at.at (at_stop c)
 
 pub loop-at-preserved : goal.loop-at-preserved
-loop-at-preserved c = omega (arith, counted_on c.args.text.now c.loop-at.at c.loop-at.part c.in-Some.longer c.loop-at-test.true (sym c.step.ensures ∙ c.in-Some.is), c.loop-at.invariant)
+loop-at-preserved c = omega (
+  arith,
+  counted_on c.args.text.now c.loop-at.at c.loop-at.part c.in-Some.longer c.loop-at-test.true (sym c.step.ensures ∙ c.in-Some.is),
+  c.loop-at.invariant,
+)
 
 at_end : (c : goal.After-loop-at) → length c.args.text.now ≡ decimal_length c.args.text.now
 at_end c = omega (arith, counted_end c.args.text.now c.loop-at.at c.loop-at.part c.loop-at-test.false, c.loop-at.invariant)

@@ -3,7 +3,8 @@ use Rattle.fraction.proofs.DigitNumbers.{digit_at, goes_on, goes_below, goes_end
 use Rattle.fraction.proofs.digits.extended.Goals as goal
 
 pub overflow_mul-number : goal.overflow_mul-number
-overflow_mul-number c = let b = goes_below c.args.digits.now c.loop-digit.digit-index c.loop-digit.number _ _ c.loop-digit-test.true c.loop-digit.invariant in record { fits = omega arith }
+overflow_mul-number c = let b = goes_below c.args.digits.now c.loop-digit.digit-index c.loop-digit.number _ _ c.loop-digit-test.true c.loop-digit.invariant in
+    record { fits = omega arith }
 
 pub overflow_sub-digit : goal.overflow_sub-digit
 overflow_sub-digit c = (digit_at c.args.digits.now c.loop-digit.digit-index c.requires.digits c.loop-digit-test.true).0
@@ -15,7 +16,9 @@ overflow_add-number c =
     record { fits = omega arith }
 
 pub loop-digit-preserved : goal.loop-digit-preserved
-loop-digit-preserved c = rw c.from.ensures (goes_on c.args.digits.now c.loop-digit.digit-index c.loop-digit.number _ _ c.requires.digits c.loop-digit-test.true c.loop-digit.invariant)
+loop-digit-preserved c = rw c.from.ensures
+    (goes_on c.args.digits.now c.loop-digit.digit-index c.loop-digit.number _ _ c.requires.digits c.loop-digit-test.true c.loop-digit.invariant)
 
 pub returns-clause-below : goal.returns-clause-below
-returns-clause-below c = rw (goes_end c.args.digits.now c.loop-digit.digit-index c.loop-digit.number _ _ c.loop-digit-test.false c.loop-digit.invariant) (value_below c.args.start c.args.digits.now c.requires.digits)
+returns-clause-below c = rw (goes_end c.args.digits.now c.loop-digit.digit-index c.loop-digit.number _ _ c.loop-digit-test.false c.loop-digit.invariant)
+    (value_below c.args.start c.args.digits.now c.requires.digits)

@@ -13,4 +13,5 @@ returns-in_err-size c =
     rw (p.1, p.2) (body_fault c.args.text.now _ _ c.in_ok-check.ensures c.split_sign-negative.ensures.rest c.in_err-size.ensures)
 
 pub returns : goal.returns
-returns c = body_ok c.args.text.now _ _ c.in_ok-size.size c.lowest.result c.in_ok-check.ensures c.split_sign-negative.ensures.minus c.split_sign-negative.ensures.rest c.in_ok-size.ensures c.lowest.ensures
+returns c = body_ok c.args.text.now _ _ c.in_ok-size.size c.lowest.result c.in_ok-check.ensures c.split_sign-negative.ensures.minus
+    c.split_sign-negative.ensures.rest c.in_ok-size.ensures c.lowest.ensures

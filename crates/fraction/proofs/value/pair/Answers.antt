@@ -4,15 +4,18 @@ use Rattle.fraction.proofs.Cut.{digits_without}
 use Rattle.fraction.proofs.DigitNumbers.{power_small}
 use Rattle.fraction.proofs.Bodies.{pair_zero, pair_long, pair_ok, pair_some}
 use Rattle.fraction.proofs.value.pair.Goals as goal
-use Rattle.fraction.proofs.value.pair.Goals.{then-over-gt-MOST_DIGITS-via-then-over-gt-MOST_DIGITS, then-over-gt-MOST_DIGITS-via-else-over-gt-MOST_DIGITS+then-under-gt-MOST_DIGITS}
+use Rattle.fraction.proofs.value.pair.Goals.{then-over-gt-MOST_DIGITS-via-then-over-gt-MOST_DIGITS}
+use Rattle.fraction.proofs.value.pair.Goals.{then-over-gt-MOST_DIGITS-via-else-over-gt-MOST_DIGITS+then-under-gt-MOST_DIGITS}
 
 pub returns-then-is_empty : goal.returns-then-is_empty
-returns-then-is_empty c = pair_zero c.args.over.now c.args.under.now _ c.without_leading_zeros-under.ensures (eqb-true _ 0 (sym c.is_empty.ensures ∙ c.if-is_empty.true))
+returns-then-is_empty c = pair_zero c.args.over.now c.args.under.now _ c.without_leading_zeros-under.ensures
+    (eqb-true _ 0 (sym c.is_empty.ensures ∙ c.if-is_empty.true))
 
 pub returns-then-over-gt-MOST_DIGITS : goal.returns-then-over-gt-MOST_DIGITS
 returns-then-over-gt-MOST_DIGITS c =
     let some : 0 < length c.without_leading_zeros-under.result.now = omega (arith, eqb-false _ 0 (sym c.is_empty.ensures ∙ c.if-is_empty.false)) in
-    let long = pair_long c.args.over.now c.args.under.now _ _ c.without_leading_zeros-over.ensures c.without_leading_zeros-under.ensures c.requires.under some in
+    let long = pair_long c.args.over.now c.args.under.now _ _ c.without_leading_zeros-over.ensures c.without_leading_zeros-under.ensures c.requires.under
+    some in
     elim c.then-over-gt-MOST_DIGITS.branch [
       | then-over-gt-MOST_DIGITS-via-then-over-gt-MOST_DIGITS w ↦ long (inl w.if-over-gt-MOST_DIGITS.true)
       | then-over-gt-MOST_DIGITS-via-else-over-gt-MOST_DIGITS+then-under-gt-MOST_DIGITS w ↦ long (inr w.if-under-gt-MOST_DIGITS.true)
@@ -36,4 +39,5 @@ invariant_of-result c =
 pub returns : goal.returns
 returns c =
     let some : 0 < length c.without_leading_zeros-under.result.now = omega (arith, eqb-false _ 0 (sym c.is_empty.ensures ∙ c.if-is_empty.false)) in
-    pair_ok c.args.over.now c.args.under.now _ _ _ c.without_leading_zeros-over.ensures c.without_leading_zeros-under.ensures c.requires.under some c.if-over-gt-MOST_DIGITS.false c.if-under-gt-MOST_DIGITS.false c.number.ensures.value c.number-2.ensures.value
+    pair_ok c.args.over.now c.args.under.now _ _ _ c.without_leading_zeros-over.ensures c.without_leading_zeros-under.ensures c.requires.under some
+    c.if-over-gt-MOST_DIGITS.false c.if-under-gt-MOST_DIGITS.false c.number.ensures.value c.number-2.ensures.value

@@ -6,7 +6,8 @@ pub of_wholes-requires : goal.of_wholes-requires
 of_wholes-requires c =
     let low : c.num.result <ℤ pos 0 = search rules in
     let x = c.args.x.now in
-    turned_below x.num x.den _ _ x.valid (rw c.num.ensures at low) (c.negated-then-num-lt0.ensures ∙ ap neg_ℤ c.whole_num.ensures) (c.negated.ensures ∙ ap neg_ℤ c.whole_den.ensures)
+    turned_below x.num x.den _ _ x.valid (rw c.num.ensures at low) (c.negated-then-num-lt0.ensures ∙ ap neg_ℤ c.whole_num.ensures)
+    (c.negated.ensures ∙ ap neg_ℤ c.whole_den.ensures)
 
 pub of_wholes-requires-else-num-lt0 : goal.of_wholes-requires-else-num-lt0
 of_wholes-requires-else-num-lt0 c =

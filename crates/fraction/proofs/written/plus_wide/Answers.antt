@@ -14,4 +14,6 @@ of_wholes-requires c =
     let eu = rw (c.over.ensures, g, n1, d1, d2) at (sym c.in_ok-u.ensures) in
     let ev = rw (c.over-rest.ensures, g, n2, d1, d2) at (sym c.in_ok-v.ensures) in
     let ed = rw (c.over-rest.ensures, c.over-2.ensures, h, g, d1, d2) at (sym c.in_ok-den.ensures) in
-    rw (c.over-3.ensures, h, g, d1, d2) (add_reduced (terms c.args.x.now) (terms c.args.y.now) c.in_ok-u.u c.in_ok-v.v c.in_ok-t.t c.in_ok-den.den c.args.x.now.valid c.args.y.now.valid eu ev (sym c.in_ok-t.ensures) ed)
+    rw (c.over-3.ensures, h, g, d1, d2)
+    (add_reduced (terms c.args.x.now) (terms c.args.y.now) c.in_ok-u.u c.in_ok-v.v c.in_ok-t.t c.in_ok-den.den c.args.x.now.valid c.args.y.now.valid eu ev
+    (sym c.in_ok-t.ensures) ed)

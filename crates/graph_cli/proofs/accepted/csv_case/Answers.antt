@@ -11,11 +11,26 @@ returns-in-Ok-clause-given c =
 pub returns-in_ok-cell_refusal-in-Err-Row-clause-refused : goal.returns-in_ok-cell_refusal-in-Err-Row-clause-refused
 unfolding IsCsvFault
 returns-in_ok-cell_refusal-in-Err-Row-clause-refused c =
-    inl (c.in-Err-Row.row, c.in-Err-Row.column, c.in-Err-Row.kind, rw c.in-Err-Row.field-0-is at c.in-Err-Row.ensures.fault, c.in_ok-cell_refusal-in-Err-Row.ensures)
+    inl (
+      c.in-Err-Row.row,
+      c.in-Err-Row.column,
+      c.in-Err-Row.kind,
+      rw c.in-Err-Row.field-0-is at c.in-Err-Row.ensures.fault,
+      c.in_ok-cell_refusal-in-Err-Row.ensures,
+    )
 
 pub returns-in_ok-case_refusal-in-Err-Case-clause-refused : goal.returns-in_ok-case_refusal-in-Err-Case-clause-refused
 unfolding IsCsvFault
 returns-in_ok-case_refusal-in-Err-Case-clause-refused c =
     let refused = c.in-Err-Case.refused in
     let h = rw c.in-Err-Case.field-0-is at c.in-Err-Case.ensures.fault in
-    inr (h.draft, (c.args.alpha, refl, h.says), (refused.fault, h.fault_is, c.in_ok-case_refusal-in-Err-Case.ensures ∙ ap (λ names. case_refusal names refused.fault) (c.as_slice.ensures ∙ h.names_are)))
+    inr (
+      h.draft,
+      (c.args.alpha, refl, h.says),
+      (
+        refused.fault,
+        h.fault_is,
+        c.in_ok-case_refusal-in-Err-Case.ensures
+            ∙ ap (λ names. case_refusal names refused.fault) (c.as_slice.ensures ∙ h.names_are),
+      ),
+    )

@@ -8,4 +8,5 @@ pub returns-clause-given : goal.returns-clause-given
 returns-clause-given c = given_on c.of_size.result _ _ (λ x h. (content c.in_ok-case.case, c.in_ok-case.ensures.given, h)) c.of_size.ensures.given
 
 pub returns-clause-refused : goal.returns-clause-refused
-returns-clause-refused c = refused_on c.of_size.result _ _ (λ (x : Refusal) h. inr (content c.in_ok-case.case, c.in_ok-case.ensures.given, h)) c.of_size.ensures.refused
+returns-clause-refused c = refused_on c.of_size.result _ _ (λ (x : Refusal) h. inr (content c.in_ok-case.case, c.in_ok-case.ensures.given, h))
+    c.of_size.ensures.refused

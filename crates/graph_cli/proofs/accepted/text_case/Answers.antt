@@ -13,4 +13,13 @@ unfolding IsTextFault
 returns-in_ok-case_refusal-in-Err-Case-clause-refused c =
     let refused = c.in-Err-Case.refused in
     let h = rw c.in-Err-Case.field-0-is at c.in-Err-Case.ensures.fault in
-    inr (h.draft, h.says, (refused.fault, h.fault_is, c.in_ok-case_refusal-in-Err-Case.ensures ∙ ap (λ names. case_refusal names refused.fault) (c.as_slice.ensures ∙ h.names_are)))
+    inr (
+      h.draft,
+      h.says,
+      (
+        refused.fault,
+        h.fault_is,
+        c.in_ok-case_refusal-in-Err-Case.ensures
+            ∙ ap (λ names. case_refusal names refused.fault) (c.as_slice.ensures ∙ h.names_are),
+      ),
+    )

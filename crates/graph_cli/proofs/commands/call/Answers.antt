@@ -18,12 +18,14 @@ returns-in-Check-clause-stopped g c = rw c.in-Check.is (stops_weaker c.check_cal
 pub returns-in_err-sample_answer-in-Sample-clause-stopped : goal.returns-in_err-sample_answer-in-Sample-clause-stopped
 unfolding call_of TakesCase TakesProof
 returns-in_err-sample_answer-in-Sample-clause-stopped g c =
-    rw c.in-Sample.is (handed_on _ _ _ c.from_residual-in_err-sample_answer-in-Sample.ensures.1 (halted_by c.in_err-sample_answer-in-Sample.field-0.0 _ _ _ (λ (r : Refusal) h. h) c.in_err-sample_answer-in-Sample.ensures.refused))
+    rw c.in-Sample.is (handed_on _ _ _ c.from_residual-in_err-sample_answer-in-Sample.ensures.1
+    (halted_by c.in_err-sample_answer-in-Sample.field-0.0 _ _ _ (λ (r : Refusal) h. h) c.in_err-sample_answer-in-Sample.ensures.refused))
 
 pub returns-in_err-catalogue_answer-in-Catalogue-clause-stopped : goal.returns-in_err-catalogue_answer-in-Catalogue-clause-stopped
 unfolding call_of TakesCase TakesProof
 returns-in_err-catalogue_answer-in-Catalogue-clause-stopped g c =
-    rw c.in-Catalogue.is (handed_on _ _ _ c.from_residual.ensures.1 (halted_by c.in_err-catalogue_answer-in-Catalogue.field-0.0 _ _ _ (λ (r : Refusal) h. h) c.in_err-catalogue_answer-in-Catalogue.ensures.refused))
+    rw c.in-Catalogue.is (handed_on _ _ _ c.from_residual.ensures.1
+    (halted_by c.in_err-catalogue_answer-in-Catalogue.field-0.0 _ _ _ (λ (r : Refusal) h. h) c.in_err-catalogue_answer-in-Catalogue.ensures.refused))
 
 pub returns-in-Check-clause-proof_kept : goal.returns-in-Check-clause-proof_kept
 unfolding TakesProof

@@ -10,4 +10,5 @@ returns-in-Ok-clause-case_end g c =
 
 pub returns-in-Ok-clause-proof_end : goal.returns-in-Ok-clause-proof_end
 returns-in-Ok-clause-proof_end g c =
-    λ reads. c.call.ensures.proof_end (takes_proof (map string_bytes c.args.words.now) (g.S.Source.left c.args.case.now) (asked c.in-Ok.command) c.in-Ok.ensures.given reads)
+    λ reads. c.call.ensures.proof_end
+    (takes_proof (map string_bytes c.args.words.now) (g.S.Source.left c.args.case.now) (asked c.in-Ok.command) c.in-Ok.ensures.given reads)

@@ -12,4 +12,5 @@ returns-in_err-append-in-Ok-clause-taken g c =
     let cs = take c.in-Ok.count c.take.new.buf in
     let h : Consumes (g.S.Source.left l.source) (g.S.Source.left c.take.new.self) cs = c.in-Ok.ensures.bytes.0 in
     let b : length l.read + length cs ≤ c.args.limit + 1 = omega (arith, length-take {A = ℕ}) in
-    rw (p.1, p.2) (TookAtMost-piece (g.S.Source.left c.args.source.now) (g.S.Source.left l.source) (g.S.Source.left c.take.new.self) (c.args.limit + 1) l.read cs l.invariant.taken h b)
+    rw (p.1, p.2) (TookAtMost-piece (g.S.Source.left c.args.source.now) (g.S.Source.left l.source) (g.S.Source.left c.take.new.self)
+    (c.args.limit + 1) l.read cs l.invariant.taken h b)

@@ -9,7 +9,8 @@ pieces-preserved g c =
     let l = c.pieces in
     let n = c.in_ok-from.field-0 in
     let bytes = c.args.bytes.now in
-    let h : Appends (g.W.Sink.held l.sink) (g.W.Sink.held c.put.new.self) (take n (take (length bytes - l.from) (drop l.from bytes))) = c.in_ok-from.ensures.bytes in
+    let h : Appends (g.W.Sink.held l.sink) (g.W.Sink.held c.put.new.self) (take n (take (length bytes - l.from) (drop l.from bytes))) =
+    c.in_ok-from.ensures.bytes in
     let b : n ≤ length (take (length bytes - l.from) (drop l.from bytes)) = c.in_ok-from.ensures.bound in
     record {
       within = omega (arith, length-drop {A = ℕ}, length-take {A = ℕ});

@@ -4,4 +4,5 @@ use Rattle.report.proofs.Lines.{put_more}
 use Rattle.report.proofs.bounds.put_members.Goals as goal
 
 pub loop-k-preserved : goal.loop-k-preserved
-loop-k-preserved c = put_more (name_if_member (content c.args.case.now) c.args.set) c.args.text.now c.loop-k.text c.put_if_member.new.text c.loop-k.k c.loop-k.invariant c.in_ok-put_if_member.ensures
+loop-k-preserved c = put_more (name_if_member (content c.args.case.now) c.args.set) c.args.text.now c.loop-k.text c.put_if_member.new.text c.loop-k.k
+    c.loop-k.invariant c.in_ok-put_if_member.ensures

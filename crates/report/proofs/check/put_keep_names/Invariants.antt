@@ -6,4 +6,5 @@ use Rattle.report.proofs.check.put_keep_names.Given as goal
 
 -- what is put, with the names that are left, is all
 abbrev pub invariant-loop-keep : goal.invariant-loop-keep
-invariant-loop-keep g l = l.text ++ flat_map (spaced_name (content l.case)) (map (λ x. x.hypothesis) (drop l.keep-index l.keeps)) ≡ l.fn.text ++ flat_map (spaced_name (content l.case)) (map (λ x. x.hypothesis) l.keeps)
+invariant-loop-keep g l = l.text ++ flat_map (spaced_name (content l.case)) (map (λ x. x.hypothesis) (drop l.keep-index l.keeps)) ≡ l.fn.text ++ flat_map
+    (spaced_name (content l.case)) (map (λ x. x.hypothesis) l.keeps)

@@ -6,4 +6,5 @@ use Rattle.report.proofs.check.put_step_names.Given as goal
 
 -- what is put, with the names that are left, is all
 abbrev pub invariant-loop-step : goal.invariant-loop-step
-invariant-loop-step g l = l.text ++ flat_map (spaced_name (content l.case)) (map (λ s. s.hypothesis) (drop l.step-index l.steps)) ≡ l.fn.text ++ flat_map (spaced_name (content l.case)) (map (λ s. s.hypothesis) l.steps)
+invariant-loop-step g l = l.text ++ flat_map (spaced_name (content l.case)) (map (λ s. s.hypothesis) (drop l.step-index l.steps)) ≡ l.fn.text ++ flat_map
+    (spaced_name (content l.case)) (map (λ s. s.hypothesis) l.steps)

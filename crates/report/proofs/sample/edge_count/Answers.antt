@@ -18,6 +18,7 @@ loop-c-preserved c =
     let size = c.edges.ensures.size in
     let within = c.edges_in-count.ensures.within in
     record {
-      counted = ap₂ (λ a b. a + b) c.loop-c.invariant.counted (c.edges_in-count.ensures.count ∙ ap (count_by is_edge) c.edges.ensures.edges) ∙ sym (sum_by_more edges_in (content case).components i empty_component h);
+      counted = ap₂ (λ a b. a + b) c.loop-c.invariant.counted (c.edges_in-count.ensures.count ∙ ap (count_by is_edge) c.edges.ensures.edges)
+          ∙ sym (sum_by_more edges_in (content case).components i empty_component h);
       small = omega (arith, few, small, size, within);
     }

@@ -5,4 +5,5 @@ use Rattle.report.proofs.Lines.{put_more}
 use Rattle.report.proofs.simes.put_alone_names.Goals as goal
 
 pub loop-j-preserved : goal.loop-j-preserved
-loop-j-preserved c = put_more (name_if_alone (content c.args.case.now) (answer_of c.args.closed.now)) c.args.text.now c.loop-j.text c.put_if_alone.new.text c.loop-j.j c.loop-j.invariant c.in_ok-put_if_alone.ensures
+loop-j-preserved c = put_more (name_if_alone (content c.args.case.now) (answer_of c.args.closed.now)) c.args.text.now c.loop-j.text c.put_if_alone.new.text
+    c.loop-j.j c.loop-j.invariant c.in_ok-put_if_alone.ensures

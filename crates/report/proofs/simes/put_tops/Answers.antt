@@ -27,14 +27,16 @@ pub added-set-requires-clause-outside : goal.added-set-requires-clause-outside
 added-set-requires-clause-outside c =
     let js = c.args.leaders.now in
     let below = subst (λ m. All (λ j. j < m) js) c.requires.size c.requires.below in
-    subst (λ n. members n (get_or js c.loop-k.k 0) ≡ false) (sym c.loop-k.invariant.set) (next_outside (length (content c.args.case.now).names) js below c.requires.apart c.loop-k.k 0 c.loop-k-test.true)
+    subst (λ n. members n (get_or js c.loop-k.k 0) ≡ false) (sym c.loop-k.invariant.set)
+    (next_outside (length (content c.args.case.now).names) js below c.requires.apart c.loop-k.k 0 c.loop-k-test.true)
 
 pub put_top-requires : goal.put_top-requires
 put_top-requires c =
     let m = length (content c.args.case.now).names in
     let js = c.args.leaders.now in
     let below = subst (λ m. All (λ j. j < m) js) c.requires.size c.requires.below in
-    let next = added_first m js below c.requires.apart c.loop-k.k 0 c.loop-k-test.true c.loop-k.set c.added-set.result c.loop-k.invariant.set c.added-set.ensures.number in
+    let next = added_first m js below c.requires.apart c.loop-k.k 0 c.loop-k-test.true c.loop-k.set c.added-set.result c.loop-k.invariant.set
+    c.added-set.ensures.number in
     rw (next, c.requires.size) (number_below m (set_of (take (c.loop-k.k + 1) js)))
 
 pub loop-k-preserved : goal.loop-k-preserved
@@ -45,9 +47,11 @@ loop-k-preserved c =
     let bound = bound_of c.args.bounds.now in
     let k = c.loop-k.k in
     let below = subst (λ m. All (λ j. j < m) js) c.requires.size c.requires.below in
-    let next = added_first m js below c.requires.apart k 0 c.loop-k-test.true c.loop-k.set c.added-set.result c.loop-k.invariant.set c.added-set.ensures.number in
+    let next = added_first m js below c.requires.apart k 0 c.loop-k-test.true c.loop-k.set c.added-set.result c.loop-k.invariant.set
+    c.added-set.ensures.number in
     let put = c.in_ok-put_top.ensures ∙ ap (λ n. c.loop-k.text ++ line (codes "top " ++ decimal (k + 1) ++ codes " bound " ++ decimal (bound n))) next in
     record {
       set = next;
-      text = put_more (λ i. top_line (content c.args.case.now) bound js (i + 1)) c.args.text.now c.loop-k.text c.put_top.new.text k c.loop-k.invariant.text put;
+      text = put_more (λ i. top_line (content c.args.case.now) bound js (i + 1)) c.args.text.now c.loop-k.text c.put_top.new.text k
+          c.loop-k.invariant.text put;
     }

@@ -10,5 +10,6 @@ pub returns : goal.returns
 returns c = (
   c.in_ok-sets.sets,
   subst (λ n. AreSetsInOrder n c.in_ok-sets.sets) c.size.ensures.count c.in_ok-sets.ensures,
-  c.in_ok-text.ensures ∙ ap (simes_report (content c.args.case.now) (bound_of c.args.bounds.now) (answer_of c.args.closed.now) c.args.leaders.now) c.as_slice.ensures,
+  c.in_ok-text.ensures ∙ ap
+      (simes_report (content c.args.case.now) (bound_of c.args.bounds.now) (answer_of c.args.closed.now) c.args.leaders.now) c.as_slice.ensures,
 )

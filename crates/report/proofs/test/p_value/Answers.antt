@@ -13,5 +13,6 @@ returns c =
     let ps = c.in-Single.p_values in
     let good = subst (λ i. IfSingle i (ArePValues count)) c.in-Single.is c.inputs.ensures.p_values in
     let within = subst (λ n. c.args.j < n) (sym good.count) c.requires.below in
-    sym (item_is ps c.args.j c.index-as_slice-j.result within (c.index-as_slice-j.is ∙ ap (λ xs. get_or xs c.args.j c.index-as_slice-j.result) c.as_slice.ensures))
+    sym (item_is ps c.args.j c.index-as_slice-j.result within
+    (c.index-as_slice-j.is ∙ ap (λ xs. get_or xs c.args.j c.index-as_slice-j.result) c.as_slice.ensures))
     ∙ ap (λ i. ratio_at (p_values i) c.args.j) (sym c.in-Single.is ∙ c.inputs.ensures.inputs)

@@ -15,4 +15,5 @@ below_in m (x ∷ xs) h =
     All-cons (λ s. s.hypothesis < m) x xs here (below_in m xs b.right)
 
 pub returns : goal.returns
-returns c = λ h. subst (λ m. All (λ s. s.hypothesis < m) c.args.lines.now) c.size.ensures.count (below_in c.size.result c.args.lines.now (sym c.are_below.ensures ∙ h))
+returns c = λ h. subst (λ m. All (λ s. s.hypothesis < m) c.args.lines.now) c.size.ensures.count
+    (below_in c.size.result c.args.lines.now (sym c.are_below.ensures ∙ h))

@@ -8,7 +8,8 @@ use Rattle.report.proofs.weights.put_if_member.Goals as goal
 pub returns-then-not-holds : goal.returns-then-not-holds
 returns-then-not-holds c =
     let none : members c.args.set c.args.k ≡ false = sym c.holds.ensures ∙ c.if-not-holds.true in
-    sym (ap (λ b. c.args.text.now ++ (if b then member_weight (content c.args.case.now) (weight_at c.args.table.now) c.args.set c.args.k else [])) none ∙ append-nil c.args.text.now)
+    sym (ap (λ b. c.args.text.now ++ (if b then member_weight (content c.args.case.now) (weight_at c.args.table.now) c.args.set c.args.k else [])) none
+    ∙ append-nil c.args.text.now)
 
 pub returns : goal.returns
 returns c =

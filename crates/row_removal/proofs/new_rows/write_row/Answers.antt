@@ -6,4 +6,5 @@ use Rattle.row_removal.proofs.new_rows.write_row.Goals as goal
 pub clear-requires-clause-proper : goal.clear-requires-clause-proper
 clear-requires-clause-proper c =
     rw (with_items_is c.next.inside.numerators c.write_numerators.new.next (omega (arith, c.write_numerators.auto.next, c.deref_mut.ensures.len)))
-    (row_written c.args.graph.now c.args.j c.requires.proper c.requires.j c.args.l _ _ c.requires.l c.in_ok-denominator.ensures (sym c.is_zero.ensures.value ∙ c.if-is_zero.false) c.in_ok-write_numerators.ensures)
+    (row_written c.args.graph.now c.args.j c.requires.proper c.requires.j c.args.l _ _ c.requires.l c.in_ok-denominator.ensures
+    (sym c.is_zero.ensures.value ∙ c.if-is_zero.false) c.in_ok-write_numerators.ensures)

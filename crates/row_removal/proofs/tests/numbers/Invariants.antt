@@ -5,4 +5,5 @@ use Rattle.row_removal.proofs.TestRows.{reads}
 use Rattle.row_removal.proofs.tests.numbers.Given as goal
 
 abbrev pub invariant-loop-entry : goal.invariant-loop-entry
-invariant-loop-entry l = (map number_of l.numbers.items ≡ reads (take l.entry-index l.table)) × All (λ x. IsConstant (quotient_parts x).denominator) l.numbers.items
+invariant-loop-entry l = (map number_of l.numbers.items ≡ reads (take l.entry-index l.table))
+    × All (λ x. IsConstant (quotient_parts x).denominator) l.numbers.items

@@ -7,7 +7,8 @@ use Rattle.sequential.proofs.decision.decide.Goals as goal
 pub returns-clause-value : goal.returns-clause-value
 returns-clause-value c =
     let case = content c.args.case.now in
-    run_decision case c.args.priority c.in_ok-steps.steps (trial c.run.new.current) (c.in_ok-steps.ensures.run case c.in_ok-current.ensures.trial) c.in_ok-kept.kept c.in_ok-kept.ensures
+    run_decision case c.args.priority c.in_ok-steps.steps (trial c.run.new.current)
+    (c.in_ok-steps.ensures.run case c.in_ok-current.ensures.trial) c.in_ok-kept.kept c.in_ok-kept.ensures
 
 pub returns-clause-defined : goal.returns-clause-defined
 returns-clause-defined c =

@@ -13,5 +13,6 @@ loop-hypothesis-preserved c =
       | then-is_in+in_ok-push w ↦
           subst (AreKeptBelow (k + 1) s) (sym (w.lines-is ∙ w.in_ok-push.ensures.pushed))
           (one_kept k s c.loop-hypothesis.lines c.loop-hypothesis.invariant _ refl (sym c.is_in.ensures ∙ w.if-is_in.true) w.present_weight-weight.ensures)
-      | else-is_in w ↦ subst (AreKeptBelow (k + 1) s) (sym w.lines-is) (one_gone k s c.loop-hypothesis.lines c.loop-hypothesis.invariant (sym c.is_in.ensures ∙ w.if-is_in.false))
+      | else-is_in w ↦ subst (AreKeptBelow (k + 1) s) (sym w.lines-is)
+          (one_gone k s c.loop-hypothesis.lines c.loop-hypothesis.invariant (sym c.is_in.ensures ∙ w.if-is_in.false))
     ]

@@ -15,5 +15,7 @@ loop-p-preserved c =
     let item = item_is ps n c.p-item.result c.loop-p-test.true c.p-item.is in
     record {
       count = ap length more ∙ length-append c.loop-p.thresholds _ ∙ ap (λ m. m + 1) c.loop-p.invariant.count;
-      each = subst (λ ts. (k : ℕ) → k < n + 1 → number_at ts k *ε number_of c.args.alpha.now ≡ number_at ps k) (sym more) (threshold_more ps c.loop-p.thresholds c.args.alpha.now c.least_weight.result n c.loop-p.invariant.count c.loop-p.invariant.each (c.least_weight.ensures ∙ ap number_of (sym item)));
+      each = subst (λ ts. (k : ℕ) → k < n + 1 → number_at ts k *ε number_of c.args.alpha.now ≡ number_at ps k) (sym more)
+          (threshold_more ps c.loop-p.thresholds c.args.alpha.now c.least_weight.result n c.loop-p.invariant.count c.loop-p.invariant.each
+          (c.least_weight.ensures ∙ ap number_of (sym item)));
     }

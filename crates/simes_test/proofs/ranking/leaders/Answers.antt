@@ -16,5 +16,6 @@ returns c =
     let sorted = c.sort.new.self.items in
     let perm : IsPermutation (by_position ps) sorted = subst (λ xs. IsPermutation xs sorted) c.in_ok-ranked.ensures c.in_ok-sort.ensures.permutation in
     let js : c.of.result ≡ map position_of sorted = c.of.ensures ∙ c.in_ok-positions.ensures ∙ ap (map position_of) c.deref.ensures.value in
-    subst (λ (xs : List ℕ). ForSingle k.inputs (λ qs. AreLeaders (length k.names) (number_at qs) xs)) (sym js) (of_single (λ qs. AreLeaders (length k.names) (number_at qs) (map position_of sorted)) k.inputs ps c.single_p_values.ensures.inputs
+    subst (λ (xs : List ℕ). ForSingle k.inputs (λ qs. AreLeaders (length k.names) (number_at qs) xs)) (sym js)
+    (of_single (λ qs. AreLeaders (length k.names) (number_at qs) (map position_of sorted)) k.inputs ps c.single_p_values.ensures.inputs
     (leaders_are ps sorted perm c.in_ok-sort.ensures.sorted (length k.names) c.single_p_values.ensures.count))

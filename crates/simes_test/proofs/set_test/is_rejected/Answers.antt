@@ -11,10 +11,12 @@ use Rattle.closed_test.specs.WeightsView.{weight_at}
 use Rattle.simes_test.specs.SimesSums.{sum_up_to, IsSumDefined}
 use Rattle.simes_test.specs.Tested.{PassesAtSum, IsMemberTested}
 use Rattle.simes_test.proofs.set_test.is_rejected.Goals as goal
-use Rattle.simes_test.proofs.set_test.is_rejected.Goals.{then-holds+in_ok-member_passes+then-branch, else-holds, else-holds-via-then-holds+in_ok-member_passes+else-branch, else-holds-via-else-holds}
+use Rattle.simes_test.proofs.set_test.is_rejected.Goals.{then-holds+in_ok-member_passes+then-branch, else-holds}
+use Rattle.simes_test.proofs.set_test.is_rejected.Goals.{else-holds-via-then-holds+in_ok-member_passes+else-branch, else-holds-via-else-holds}
 
 module _ (m : ℕ) (ps : List Ratio) (weight : ℕ → ℕ → Ratio) (alpha : Ratio) (set j : ℕ) where
-  defined_next : IsSumDefined m ps weight set j → ((i : ℕ) → i < j → members set i ≡ true → IsSumDefined m ps weight set i) → (i : ℕ) → i < j + 1 → members set i ≡ true → IsSumDefined m ps weight set i
+  defined_next : IsSumDefined m ps weight set j → ((i : ℕ) → i < j → members set i ≡ true → IsSumDefined m ps weight set i) → (i : ℕ)
+      → i < j + 1 → members set i ≡ true → IsSumDefined m ps weight set i
   defined_next here before i p e = elim (at_or_below i j (omega arith)) [
     | inl same ↦ subst (IsSumDefined m ps weight set) (sym same) here
     | inr q ↦ before i q e
@@ -58,7 +60,8 @@ loop-j-preserved c =
               defined = defined_next m ps weight alpha set j (own_defined m ps weight alpha set j _ T) c.loop-j.invariant.defined;
               found = λ t. let f = c.loop-j.invariant.found (sym w.rejected-is ∙ t) in (f.0, omega (arith, f.1), f.2, f.3);
               each = λ i p e h. elim (at_or_below i j (omega arith)) [
-                | inl same ↦ absurd (true_not_false (sym (own_told m ps weight alpha set j _ T (subst (PassesAtSum m ps weight alpha set) same h)) ∙ v.if-branch.false))
+                | inl same ↦ absurd (true_not_false
+                    (sym (own_told m ps weight alpha set j _ T (subst (PassesAtSum m ps weight alpha set) same h)) ∙ v.if-branch.false))
                 | inr q ↦ w.rejected-is ∙ c.loop-j.invariant.each i q e h
               ];
             }

@@ -22,7 +22,8 @@ returns-in_err-sum c =
     let f = weight_up_to c.args.p_values.now (weight_at c.args.weights.now) c.args.set c.args.j in
     let p = err_from_is_err_and c.from_residual.result c.from_residual.ensures.1 in
     ap (ok_map terms) (p.1 ∙ ap Err p.2)
-    ∙ sum_stops f c.loop-i.i c.loop-i.sum c.weight_up_to.result c.weight_up_to.ensures c.loop-i.invariant c.in_err-sum.field-0.0 c.args.weights.now.size (omega arith) c.in_err-sum.ensures
+    ∙ sum_stops f c.loop-i.i c.loop-i.sum c.weight_up_to.result c.weight_up_to.ensures c.loop-i.invariant c.in_err-sum.field-0.0 c.args.weights.now.size
+    (omega arith) c.in_err-sum.ensures
 
 pub returns : goal.returns
 returns c =

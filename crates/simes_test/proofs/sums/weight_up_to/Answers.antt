@@ -40,7 +40,8 @@ pub returns-then-le : goal.returns-then-le
 returns-then-le c =
     let ps = c.args.p_values.now in
     let count = c.requires.count in
-    c.weight.ensures ∙ sym (chosen ps c.args.set c.args.i c.args.j c.index-p_values-i.result c.index-p_values-j.result (omega (arith, count, c.requires.i)) (omega (arith, count, c.requires.j)) c.index-p_values-i.is c.index-p_values-j.is (weight_at c.args.weights.now)
+    c.weight.ensures ∙ sym (chosen ps c.args.set c.args.i c.args.j c.index-p_values-i.result c.index-p_values-j.result (omega (arith, count, c.requires.i))
+    (omega (arith, count, c.requires.j)) c.index-p_values-i.is c.index-p_values-j.is (weight_at c.args.weights.now)
     (sym c.holds.ensures ∙ c.if-holds.true) (sym (c.le.ensures ∙ le_is c.index-p_values-i.result c.index-p_values-j.result) ∙ c.if-le.true))
 
 pub returns-else-holds : goal.returns-else-holds
@@ -50,7 +51,9 @@ returns-else-holds c =
     let zero = same_number c.zero.result zero_ratio (zero_is c.zero.result c.zero.ensures ∙ sym zero_ratio_is) in
     zero ∙ elim c.else-holds.branch [
       | else-holds-via-then-holds+else-le w ↦
-          sym (not_small ps c.args.set c.args.i c.args.j w.index-p_values-i.result w.index-p_values-j.result (omega (arith, count, c.requires.i)) (omega (arith, count, c.requires.j)) w.index-p_values-i.is w.index-p_values-j.is (weight_at c.args.weights.now)
+          sym (not_small ps c.args.set c.args.i c.args.j w.index-p_values-i.result w.index-p_values-j.result (omega (arith, count, c.requires.i))
+          (omega (arith, count, c.requires.j)) w.index-p_values-i.is w.index-p_values-j.is (weight_at c.args.weights.now)
           (sym c.holds.ensures ∙ w.if-holds.true) (sym (w.le.ensures ∙ le_is w.index-p_values-i.result w.index-p_values-j.result) ∙ w.if-le.false))
-      | else-holds-via-else-holds w ↦ sym (not_member ps (weight_at c.args.weights.now) c.args.set c.args.j c.args.i (sym c.holds.ensures ∙ w.if-holds.false))
+      | else-holds-via-else-holds w ↦ sym
+          (not_member ps (weight_at c.args.weights.now) c.args.set c.args.j c.args.i (sym c.holds.ensures ∙ w.if-holds.false))
     ]

@@ -16,21 +16,25 @@ use Rattle.simes_test.proofs.table.local_answers.Goals as goal
 tested_in : (ps : List Ratio) (weight : ℕ → ℕ → Ratio) (told : ℕ → Bool) (m k : ℕ) (alpha level : Ratio) → m ≡ k → alpha ≡ level
     → ((n : ℕ) → n < 2 ^ m → IsTested m ps weight alpha n (told n)) → (n : ℕ) → n < 2 ^ k → IsTested k ps weight level n (told n)
 tested_in ps weight told m k alpha level e f all =
-    subst (λ i. (n : ℕ) → n < 2 ^ i → IsTested i ps weight level n (told n)) e (subst (λ a. (n : ℕ) → n < 2 ^ m → IsTested m ps weight a n (told n)) f all)
+    subst (λ i. (n : ℕ) → n < 2 ^ i → IsTested i ps weight level n (told n)) e
+    (subst (λ a. (n : ℕ) → n < 2 ^ m → IsTested m ps weight a n (told n)) f all)
 
 pub sets-init : goal.sets-init
 sets-init c = record {
   size = c.in_ok-path.ensures.size ∙ c.size-size.ensures.count ∙ sym c.requires.size;
   path = c.in_ok-path.ensures.path;
   table = c.in_ok-local.ensures.size ∙ c.size-size.ensures.count ∙ sym c.requires.size;
-  tested = tested_first c.args.weights.now.size c.single_p_values-p_values.result.now (weight_at c.args.weights.now) c.alpha-alpha.result (answer_of c.in_ok-local.local) c.in_ok-path.path.left.items c.in_ok-path.ensures.left;
+  tested = tested_first c.args.weights.now.size c.single_p_values-p_values.result.now (weight_at c.args.weights.now) c.alpha-alpha.result
+      (answer_of c.in_ok-local.local) c.in_ok-path.path.left.items c.in_ok-path.ensures.left;
 }
 
 pub is_rejected-requires-clause-set : goal.is_rejected-requires-clause-set
-is_rejected-requires-clause-set c = set_fits c.set-set.result c.sets.path.size c.args.weights.now.size c.args.weights.now.size c.sets.path.left.items c.set-set.ensures c.sets.invariant.size refl
+is_rejected-requires-clause-set c = set_fits c.set-set.result c.sets.path.size c.args.weights.now.size c.args.weights.now.size c.sets.path.left.items
+    c.set-set.ensures c.sets.invariant.size refl
 
 pub put-requires : goal.put-requires
-put-requires c = set_fits c.set-set.result c.sets.path.size c.args.weights.now.size c.sets.local.size c.sets.path.left.items c.set-set.ensures c.sets.invariant.size c.sets.invariant.table
+put-requires c = set_fits c.set-set.result c.sets.path.size c.args.weights.now.size c.sets.local.size c.sets.path.left.items c.set-set.ensures
+    c.sets.invariant.size c.sets.invariant.table
 
 pub returns-in-Err-clause-fault : goal.returns-in-Err-clause-fault
 returns-in-Err-clause-fault c =
@@ -41,8 +45,10 @@ returns-in-Err-clause-fault c =
     let left = c.sets.path.left.items in
     let ascending = subst (λ n. IsAscending n 0 left) c.sets.invariant.size c.sets.invariant.path.ascending in
     let number = c.set-set.ensures ∙ ap (λ n. number_without n left) c.sets.invariant.size in
-    let first = first_wide m ps weight c.alpha-alpha.result left ascending c.set-set.result number (answer_of c.sets.local) c.sets.invariant.tested c.in-Err.wide c.in-Err.ensures.wide in
-    of_single (λ qs. IsFirstWideSum (length k.names) qs weight c.set-set.result c.in-Err.wide) k.inputs ps c.single_p_values-p_values.ensures.inputs (subst (λ n. IsFirstWideSum n ps weight c.set-set.result c.in-Err.wide) c.requires.size first)
+    let first = first_wide m ps weight c.alpha-alpha.result left ascending c.set-set.result number
+    (answer_of c.sets.local) c.sets.invariant.tested c.in-Err.wide c.in-Err.ensures.wide in
+    of_single (λ qs. IsFirstWideSum (length k.names) qs weight c.set-set.result c.in-Err.wide) k.inputs ps c.single_p_values-p_values.ensures.inputs
+    (subst (λ n. IsFirstWideSum n ps weight c.set-set.result c.in-Err.wide) c.requires.size first)
 
 pub sets-preserved : goal.sets-preserved
 sets-preserved c =
@@ -58,7 +64,9 @@ sets-preserved c =
       size = c.in-Some.ensures.size ∙ c.sets.invariant.size;
       path = c.in-Some.ensures.path;
       table = c.put.ensures.size ∙ c.sets.invariant.table;
-      tested = tested_next m ps weight c.alpha-alpha.result left ascending c.set-set.result number (answer_of c.sets.local) c.sets.invariant.tested c.in-Ok.answer c.in-Ok.ensures.tested (answer_of c.put.new.self) c.put.ensures.put c.put.ensures.others new c.in-Some.field-0 step;
+      tested = tested_next m ps weight c.alpha-alpha.result left ascending c.set-set.result number
+          (answer_of c.sets.local) c.sets.invariant.tested c.in-Ok.answer c.in-Ok.ensures.tested
+          (answer_of c.put.new.self) c.put.ensures.put c.put.ensures.others new c.in-Some.field-0 step;
     }
 
 pub returns-in-None-clause-answers : goal.returns-in-None-clause-answers
@@ -72,8 +80,10 @@ returns-in-None-clause-answers c =
     let number = c.set-set.ensures ∙ ap (λ n. number_without n left) c.sets.invariant.size in
     let last = subst (λ n. IsLastList n left) c.sets.invariant.size c.in-None.ensures.step in
     let next = answer_of c.put.new.self in
-    let all = all_tested m ps weight c.alpha-alpha.result left ascending c.set-set.result number (answer_of c.sets.local) c.sets.invariant.tested c.in-Ok.answer c.in-Ok.ensures.tested next c.put.ensures.put c.put.ensures.others last in
-    answers_are k ps c.single_p_values-p_values.ensures.inputs weight next (tested_in ps weight next m (length k.names) c.alpha-alpha.result k.alpha c.requires.size c.alpha-alpha.ensures.alpha all) c.requires.weights
+    let all = all_tested m ps weight c.alpha-alpha.result left ascending c.set-set.result number
+    (answer_of c.sets.local) c.sets.invariant.tested c.in-Ok.answer c.in-Ok.ensures.tested next c.put.ensures.put c.put.ensures.others last in
+    answers_are k ps c.single_p_values-p_values.ensures.inputs weight next
+    (tested_in ps weight next m (length k.names) c.alpha-alpha.result k.alpha c.requires.size c.alpha-alpha.ensures.alpha all) c.requires.weights
 
 pub returns-in-None-clause-defined : goal.returns-in-None-clause-defined
 returns-in-None-clause-defined c =
@@ -86,5 +96,7 @@ returns-in-None-clause-defined c =
     let number = c.set-set.ensures ∙ ap (λ n. number_without n left) c.sets.invariant.size in
     let last = subst (λ n. IsLastList n left) c.sets.invariant.size c.in-None.ensures.step in
     let next = answer_of c.put.new.self in
-    let all = all_tested m ps weight c.alpha-alpha.result left ascending c.set-set.result number (answer_of c.sets.local) c.sets.invariant.tested c.in-Ok.answer c.in-Ok.ensures.tested next c.put.ensures.put c.put.ensures.others last in
-    all_defined k ps c.single_p_values-p_values.ensures.inputs weight next (tested_in ps weight next m (length k.names) c.alpha-alpha.result k.alpha c.requires.size c.alpha-alpha.ensures.alpha all)
+    let all = all_tested m ps weight c.alpha-alpha.result left ascending c.set-set.result number
+    (answer_of c.sets.local) c.sets.invariant.tested c.in-Ok.answer c.in-Ok.ensures.tested next c.put.ensures.put c.put.ensures.others last in
+    all_defined k ps c.single_p_values-p_values.ensures.inputs weight next
+    (tested_in ps weight next m (length k.names) c.alpha-alpha.result k.alpha c.requires.size c.alpha-alpha.ensures.alpha all)

@@ -4,4 +4,5 @@ use Rattle.staged_levels.proofs.case_looks.arrive.Goals as goal
 
 pub unreachable-requires : goal.unreachable-requires
 unfolding study
-unreachable-requires c = never_refused (study c.args.current.now) c.args.current.now.whole c.args.arrival.now c.in-Err.field-0 c.requires.may (λ k T. c.in-Err.ensures.fault k T)
+unreachable-requires c = never_refused (study c.args.current.now) c.args.current.now.whole c.args.arrival.now c.in-Err.field-0 c.requires.may
+    (λ k T. c.in-Err.ensures.fault k T)

@@ -23,11 +23,13 @@ returns-clause-look c = λ k T.
     let settles = c.in_default.ensures.call k M in
     let s = settle_appends k mid.looks new.looks settles in
     let put : c.append.new.self ≡ drop (length old.looks.rejected) new.looks.rejected
-    = c.in_ok-append.ensures.appended ∙ ap (λ xs. xs ++ c.behind.result.now) c.new-added.ensures ∙ c.behind.ensures ∙ ap₂ (λ xs ys. drop (length xs) ys) c.settled-before.ensures.value c.settled.ensures.value in
+    = c.in_ok-append.ensures.appended ∙ ap (λ xs. xs ++ c.behind.result.now) c.new-added.ensures ∙ c.behind.ensures
+    ∙ ap₂ (λ xs ys. drop (length xs) ys) c.settled-before.ensures.value c.settled.ensures.value in
     record {
       arrived = mid.looks;
       arrival = c.arrive.ensures.arrival k T;
       settles = settles;
-      rejected = added_are old.looks.rejected new.looks.rejected s.0 (s.1 ∙ ap (λ rs. rs ++ s.0) (c.arrive.ensures.arrival k T).rejected) ∙ ap (λ xs. old.looks.rejected ++ xs) (sym put);
+      rejected = added_are old.looks.rejected new.looks.rejected s.0 (s.1 ∙ ap (λ rs. rs ++ s.0) (c.arrive.ensures.arrival k T).rejected)
+          ∙ ap (λ xs. old.looks.rejected ++ xs) (sym put);
       is_defined = study_defined k new (c.settle.ensures.study k M);
     }

@@ -16,8 +16,10 @@ look-requires-clause-below c =
     let xs = c.arrivals_of-arrivals.result.now in
     let a = c.index-arrivals-i.result in
     let i = c.loop-i.i in
-    let whole : take i xs ++ (a ∷ drop (i + 1) xs) ≡ arrivals_of k.inputs = ap (λ y. take i xs ++ (y ∷ drop (i + 1) xs)) c.index-arrivals-i.is ∙ split_at xs i a c.loop-i-test.true ∙ c.arrivals_of-arrivals.ensures in
-    let m : MayArrive k t.looks.values a = subst (λ vs. MayArrive k vs a) (sym c.loop-i.invariant.1) (arrival_may k c.args.case.now.valid (take i xs) (drop (i + 1) xs) a whole) in
+    let whole : take i xs ++ (a ∷ drop (i + 1) xs) ≡ arrivals_of k.inputs = ap (λ y. take i xs ++ (y ∷ drop (i + 1) xs)) c.index-arrivals-i.is
+    ∙ split_at xs i a c.loop-i-test.true ∙ c.arrivals_of-arrivals.ensures in
+    let m : MayArrive k t.looks.values a = subst (λ vs. MayArrive k vs a) (sym c.loop-i.invariant.1)
+    (arrival_may k c.args.case.now.valid (take i xs) (drop (i + 1) xs) a whole) in
     subst (λ n. a.hypothesis < n) c.loop-i.invariant.0.size m.below
 
 pub look-requires-clause-may : goal.look-requires-clause-may
@@ -27,8 +29,10 @@ look-requires-clause-may c =
     let xs = c.arrivals_of-arrivals.result.now in
     let a = c.index-arrivals-i.result in
     let i = c.loop-i.i in
-    let whole : take i xs ++ (a ∷ drop (i + 1) xs) ≡ arrivals_of k.inputs = ap (λ y. take i xs ++ (y ∷ drop (i + 1) xs)) c.index-arrivals-i.is ∙ split_at xs i a c.loop-i-test.true ∙ c.arrivals_of-arrivals.ensures in
-    let m : MayArrive k t.looks.values a = subst (λ vs. MayArrive k vs a) (sym c.loop-i.invariant.1) (arrival_may k c.args.case.now.valid (take i xs) (drop (i + 1) xs) a whole) in
+    let whole : take i xs ++ (a ∷ drop (i + 1) xs) ≡ arrivals_of k.inputs = ap (λ y. take i xs ++ (y ∷ drop (i + 1) xs)) c.index-arrivals-i.is
+    ∙ split_at xs i a c.loop-i-test.true ∙ c.arrivals_of-arrivals.ensures in
+    let m : MayArrive k t.looks.values a = subst (λ vs. MayArrive k vs a) (sym c.loop-i.invariant.1)
+    (arrival_may k c.args.case.now.valid (take i xs) (drop (i + 1) xs) a whole) in
     λ d U. may_other k d t a c.loop-i.invariant.0 U m
 
 pub returns-in_err-look-clause-fault : goal.returns-in_err-look-clause-fault
@@ -36,7 +40,9 @@ returns-in_err-look-clause-fault c =
     let k = content c.args.case.now in
     let opened = subst (IsDefined k) c.in_ok-study.ensures.start (study_defined k (study c.in_ok-study.study) c.in_ok-study.ensures.study) in
     handed_on _ (IsLooksFault k) c.in_err-look.field-0.0 c.from_residual-in_err-look.ensures.1
-    (look_fault k (study c.loop-i.study).looks c.arrivals_of-arrivals.result.now c.loop-i.looks c.loop-i.i c.index-arrivals-i.result c.in_err-look.field-0.0 opened c.arrivals_of-arrivals.ensures c.loop-i-test.true (sym c.index-arrivals-i.is) c.loop-i.invariant.2 (c.in_err-look.ensures.fault k c.loop-i.invariant.0))
+    (look_fault k (study c.loop-i.study).looks c.arrivals_of-arrivals.result.now c.loop-i.looks c.loop-i.i c.index-arrivals-i.result c.in_err-look.field-0.0
+    opened c.arrivals_of-arrivals.ensures c.loop-i-test.true (sym c.index-arrivals-i.is) c.loop-i.invariant.2
+    (c.in_err-look.ensures.fault k c.loop-i.invariant.0))
 
 pub loop-i-preserved : goal.loop-i-preserved
 loop-i-preserved c =
@@ -49,10 +55,12 @@ loop-i-preserved c =
     let added = c.in_ok-look.field-0 in
     let T = c.loop-i.invariant.0 in
     let L = c.in_ok-look.ensures.look k T in
-    let more : take (i + 1) xs ≡ take i xs ++ (a ∷ []) = take_more xs i a c.loop-i-test.true ∙ ap (λ y. take i xs ++ (y ∷ [])) (sym c.index-arrivals-i.is) in (
+    let more : take (i + 1) xs ≡ take i xs ++ (a ∷ []) = take_more xs i a c.loop-i-test.true
+    ∙ ap (λ y. take i xs ++ (y ∷ [])) (sym c.index-arrivals-i.is) in (
       c.in_ok-look.ensures.study k T,
       look_values k t.looks new.looks a added L ∙ ap (λ vs. vs ++ (a ∷ [])) c.loop-i.invariant.1 ∙ sym more,
-      subst₂ (λ ys ls. LooksLead k start ys ls new.looks) (sym more) (sym c.in_ok-push.ensures.pushed) (lead_next k start t.looks new.looks (take i xs) c.loop-i.looks a added c.loop-i.invariant.2 L),
+      subst₂ (λ ys ls. LooksLead k start ys ls new.looks) (sym more) (sym c.in_ok-push.ensures.pushed)
+          (lead_next k start t.looks new.looks (take i xs) c.loop-i.looks a added c.loop-i.invariant.2 L),
     )
 
 pub returns-clause-looks : goal.returns-clause-looks

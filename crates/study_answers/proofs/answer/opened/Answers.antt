@@ -9,7 +9,9 @@ use Rattle.study_answers.proofs.answer.opened.Goals as goal
 pub returns-in_ok-record_refusal-in-Err-BadLook-clause-stopped : goal.returns-in_ok-record_refusal-in-Err-BadLook-clause-stopped
 returns-in_ok-record_refusal-in-Err-BadLook-clause-stopped g c =
     let e = c.in-Err-BadLook in
-    bad_look_told (content c.args.case.now) (g.K.Keeper.looks c.args.keeper.now) (Rose (g.K.Keeper.faults c.args.keeper.now) (g.K.Keeper.faults c.open.new.keeper)) e.field-0 e.n _ _ e.field-0-is e.ensures.fault c.in_ok-record_refusal-in-Err-BadLook.ensures
+    bad_look_told (content c.args.case.now) (g.K.Keeper.looks c.args.keeper.now)
+    (Rose (g.K.Keeper.faults c.args.keeper.now) (g.K.Keeper.faults c.open.new.keeper)) e.field-0 e.n _ _ e.field-0-is e.ensures.fault
+    c.in_ok-record_refusal-in-Err-BadLook.ensures
 
 pub returns-in_ok-record_refusal-in-Err-BadLook-clause-clean : goal.returns-in_ok-record_refusal-in-Err-BadLook-clause-clean
 returns-in_ok-record_refusal-in-Err-BadLook-clause-clean g c = let e = c.in-Err-BadLook in clean_by_look _ e.field-0 e.n _ e.field-0-is e.ensures.steady
@@ -18,7 +20,8 @@ pub returns-in_ok-wide_refusal-in-Err-Wide-clause-stopped : goal.returns-in_ok-w
 returns-in_ok-wide_refusal-in-Err-Wide-clause-stopped g c =
     let e = c.in-Err-Wide in
     let k = content c.args.case.now in
-    wide_look_told k (g.K.Keeper.looks c.args.keeper.now) (Rose (g.K.Keeper.faults c.args.keeper.now) (g.K.Keeper.faults c.open.new.keeper)) e.field-0 e.n e.wide _ e.field-0-is e.ensures.fault
+    wide_look_told k (g.K.Keeper.looks c.args.keeper.now)
+    (Rose (g.K.Keeper.faults c.args.keeper.now) (g.K.Keeper.faults c.open.new.keeper)) e.field-0 e.n e.wide _ e.field-0-is e.ensures.fault
     (c.in_ok-wide_refusal-in-Err-Wide.ensures ∙ ap (λ ns. wide_refusal ns (AfterLook e.n) e.wide) c.names.ensures)
 
 pub returns-in_ok-wide_refusal-in-Err-Wide-clause-clean : goal.returns-in_ok-wide_refusal-in-Err-Wide-clause-clean
@@ -27,4 +30,5 @@ returns-in_ok-wide_refusal-in-Err-Wide-clause-clean g c = let e = c.in-Err-Wide 
 pub returns-in-Err-Fault-clause-stopped : goal.returns-in-Err-Fault-clause-stopped
 returns-in-Err-Fault-clause-stopped g c =
     let e = c.in-Err-Fault in
-    rose_by (content c.args.case.now) (g.K.Keeper.looks c.args.keeper.now) (Rose (g.K.Keeper.faults c.args.keeper.now) (g.K.Keeper.faults c.open.new.keeper)) e.field-0 e.field-0-is e.ensures.fault
+    rose_by (content c.args.case.now) (g.K.Keeper.looks c.args.keeper.now)
+    (Rose (g.K.Keeper.faults c.args.keeper.now) (g.K.Keeper.faults c.open.new.keeper)) e.field-0 e.field-0-is e.ensures.fault

@@ -13,7 +13,8 @@ pub returns-in_err-register-clause-stopped : goal.returns-in_err-register-clause
 returns-in_err-register-clause-stopped g c =
     let kept = g.K.Keeper.looks c.args.keeper.now in
     handed_on _ _ _ c.from_residual.ensures.1
-    (opening_stops (content c.args.case.now) c.args.commands.now kept _ _ c.in_err-register.field-0.0 c.in_err-register.ensures.kept c.in_err-register.ensures.stopped)
+    (opening_stops (content c.args.case.now) c.args.commands.now kept _ _ c.in_err-register.field-0.0 c.in_err-register.ensures.kept
+    c.in_err-register.ensures.stopped)
 
 pub returns-in_err-text-clause-stopped : goal.returns-in_err-text-clause-stopped
 returns-in_err-text-clause-stopped g c =
@@ -31,7 +32,8 @@ pub returns-in-Ok-clause-given : goal.returns-in-Ok-clause-given
 returns-in-Ok-clause-given g c =
     let kept = g.K.Keeper.looks c.args.keeper.now in
     let r = c.in_ok-register in
-    all_answered (content c.args.case.now) c.args.commands.now kept _ _ r.ensures.kept (looks_in r.register) r.ensures.taken c.count.result c.in_ok-text.text _ _ _
+    all_answered (content c.args.case.now) c.args.commands.now kept _ _ r.ensures.kept
+    (looks_in r.register) r.ensures.taken c.count.result c.in_ok-text.text _ _ _
     c.count.ensures c.in_ok-text.ensures c.in-Ok.ensures.replied c.in_ok-ended-in-Ok.ensures
 
 pub returns-in_err-broken_off-in-Err-Wide-clause-stopped : goal.returns-in_err-broken_off-in-Err-Wide-clause-stopped
@@ -50,8 +52,10 @@ returns-in-Err-Wide-clause-given g c =
     let r = c.in_ok-register in
     let e = c.in-Err-Wide in
     let s = looks_in r.register in
-    break_answered k commands kept _ _ r.ensures.kept s r.ensures.taken e.place e.wide _ (first_broken k s commands _ _ _ e.field-0 e.place e.wide e.field-0-is e.ensures.stopped)
+    break_answered k commands kept _ _ r.ensures.kept s r.ensures.taken e.place e.wide _
+    (first_broken k s commands _ _ _ e.field-0 e.place e.wide e.field-0-is e.ensures.stopped)
     (c.in_ok-broken_off-in-Err-Wide.ensures ∙ ap₂ (λ n w. refused (wide_refusal k.names (AfterLook n) w)) e.place-is e.wide-is)
 
 pub returns-in-Err-Wide-clause-clean : goal.returns-in-Err-Wide-clause-clean
-returns-in-Err-Wide-clause-clean g c = let e = c.in-Err-Wide in broken_by e.field-0 e.place e.wide _ e.field-0-is e.ensures.broken ∙ c.in_ok-register.ensures.clean
+returns-in-Err-Wide-clause-clean g c = let e = c.in-Err-Wide in broken_by e.field-0 e.place e.wide _ e.field-0-is e.ensures.broken
+    ∙ c.in_ok-register.ensures.clean

@@ -9,7 +9,8 @@ use Rattle.study_answers.proofs.replying.replies.Goals as goal
 
 pub reply-requires-clause-below : goal.reply-requires-clause-below
 reply-requires-clause-below g c =
-    below_at (length (content c.args.case.now).names) c.args.commands.now c.loop-i.i c.index-commands-i.result c.requires.below c.loop-i-test.true c.index-commands-i.is
+    below_at (length (content c.args.case.now).names) c.args.commands.now c.loop-i.i c.index-commands-i.result c.requires.below c.loop-i-test.true
+    c.index-commands-i.is
 
 pub loop-i-preserved : goal.loop-i-preserved
 loop-i-preserved g c =
@@ -19,8 +20,10 @@ loop-i-preserved g c =
     let looks = g.K.Keeper.looks in
     let at = c.index-commands-i.result in
     record {
-      far = one_more k (looks_in c.args.register.now) commands (looks c.args.keeper.now) c.args.text.now (l.i + 1) (looks_in l.register) (looks_in c.reply.new.register) (drop l.i commands) (drop (l.i + 1) commands) at
-          (looks l.keeper) (looks c.reply.new.keeper) l.text c.reply.new.text (next_command commands l.i at c.loop-i-test.true c.index-commands-i.is) c.in_default.ensures.replied l.invariant.far;
+      far = one_more k (looks_in c.args.register.now) commands (looks c.args.keeper.now) c.args.text.now (l.i + 1) (looks_in l.register)
+          (looks_in c.reply.new.register) (drop l.i commands) (drop (l.i + 1) commands) at
+          (looks l.keeper) (looks c.reply.new.keeper) l.text c.reply.new.text
+          (next_command commands l.i at c.loop-i-test.true c.index-commands-i.is) c.in_default.ensures.replied l.invariant.far;
       study = c.reply.ensures.study;
       fresh = c.in_default.ensures.fresh;
       same = c.in_default.ensures.counted ∙ l.invariant.same;
@@ -35,9 +38,12 @@ returns-in-Err-clause-stopped g c =
     let at = c.index-commands-i.result in
     let now = g.K.Keeper.faults c.reply.new.keeper in
     let rose = Rose (g.K.Keeper.faults c.args.keeper.now) now in
-    let stop = subst (λ n. StopsCommands k (Rose n now) (l.i + 1) (looks_in l.register) (at ∷ []) (looks l.keeper) (looks c.reply.new.keeper) c.in-Err.stop) l.invariant.same c.in-Err.ensures.stopped in
-    stops_on k (looks_in c.args.register.now) commands (looks c.args.keeper.now) c.args.text.now rose (l.i + 1) (looks_in l.register) (drop l.i commands) (drop (l.i + 1) commands) at
-    (looks l.keeper) (looks c.reply.new.keeper) l.text c.in-Err.stop (next_command commands l.i at c.loop-i-test.true c.index-commands-i.is) l.invariant.far stop
+    let stop = subst (λ n. StopsCommands k (Rose n now) (l.i + 1) (looks_in l.register) (at ∷ []) (looks l.keeper) (looks c.reply.new.keeper) c.in-Err.stop)
+    l.invariant.same c.in-Err.ensures.stopped in
+    stops_on k (looks_in c.args.register.now) commands (looks c.args.keeper.now) c.args.text.now rose (l.i + 1) (looks_in l.register) (drop l.i commands)
+    (drop (l.i + 1) commands) at
+    (looks l.keeper) (looks c.reply.new.keeper) l.text c.in-Err.stop
+    (next_command commands l.i at c.loop-i-test.true c.index-commands-i.is) l.invariant.far stop
 
 pub loop-i-init : goal.loop-i-init
 loop-i-init g c = record {
@@ -51,12 +57,14 @@ pub returns-in-Err-clause-broken : goal.returns-in-Err-clause-broken
 returns-in-Err-clause-broken g c =
     let faults = g.K.Keeper.faults in
     let now = faults c.reply.new.keeper in
-    broken_weaker c.in-Err.stop (now ≡ faults c.loop-i.keeper) (now ≡ faults c.args.keeper.now) (λ e. e ∙ c.loop-i.invariant.same) c.in-Err.ensures.broken
+    broken_weaker c.in-Err.stop (now ≡ faults c.loop-i.keeper) (now ≡ faults c.args.keeper.now)
+    (λ e. e ∙ c.loop-i.invariant.same) c.in-Err.ensures.broken
 
 pub returns-clause-replied : goal.returns-clause-replied
 returns-clause-replied g c =
     let l = c.loop-i in
     let commands = c.args.commands.now in
     let end : length commands ≤ l.i = search rules in
-    all_replied (content c.args.case.now) (looks_in c.args.register.now) commands (g.K.Keeper.looks c.args.keeper.now) c.args.text.now (l.i + 1) (looks_in l.register) (drop l.i commands) (g.K.Keeper.looks l.keeper) l.text
+    all_replied (content c.args.case.now) (looks_in c.args.register.now) commands (g.K.Keeper.looks c.args.keeper.now) c.args.text.now (l.i + 1)
+    (looks_in l.register) (drop l.i commands) (g.K.Keeper.looks l.keeper) l.text
     (drop_all l.i commands end) l.invariant.far

@@ -8,7 +8,8 @@ use Rattle.study_answers.proofs.replying.replies.Given as goal
 -- the commands so far have been replied to
 abbrev pub invariant-loop-i : goal.invariant-loop-i
 invariant-loop-i g l = record {
-  far : AreSoFar (content l.case) (looks_in l.initial.register) l.commands (l.i + 1) (looks_in l.register) (drop l.i l.commands) (g.K.Keeper.looks l.initial.keeper) (g.K.Keeper.looks l.keeper) l.initial.text l.text;
+  far : AreSoFar (content l.case) (looks_in l.initial.register) l.commands (l.i + 1) (looks_in l.register) (drop l.i l.commands)
+      (g.K.Keeper.looks l.initial.keeper) (g.K.Keeper.looks l.keeper) l.initial.text l.text;
   study : IsStudy (content l.case) (study_in l.register);
   fresh : is_spent l.register ≡ false;
   same : g.K.Keeper.faults l.keeper ≡ g.K.Keeper.faults l.initial.keeper;

@@ -7,7 +7,8 @@ use Rattle.study_commands.specs.declared.command.StudyCommand.TheVariants.{Take 
 use Rattle.study_register.specs.RegisterView.{study_in, looks_in}
 use Rattle.study_answers.specs.AnswerView.{StopsCommands}
 use Rattle.study_answers.specs.declared.replying.CommandStop.TheVariants.{Wide}
-use Rattle.study_answers.proofs.CommandsReplied.{added_refused, added_wide, left_refused, brought, brought_below, taken_written, refused_written, holds_none, holds_one, stops_wide}
+use Rattle.study_answers.proofs.CommandsReplied.{added_refused, added_wide, left_refused, brought, brought_below, taken_written, refused_written, holds_none}
+use Rattle.study_answers.proofs.CommandsReplied.{holds_one, stops_wide}
 use Rattle.study_answers.proofs.replying.take.Goals as goal
 
 pub put_taken-requires-clause-rejections : goal.put_taken-requires-clause-rejections
@@ -25,13 +26,15 @@ returns-in-Ok-put_taken-clause-replied g c =
     let new = looks_in c.add.new.self in
     let T = c.in-Ok.ensures.taken k c.requires.study in
     let same = c.behind.ensures ∙ ap₂ drop (ap length c.settled-before.ensures.value) c.settled.ensures.value in
-    taken_written k c.args.number old (g.K.Keeper.looks c.args.keeper.now) c.args.look.now (g.K.Keeper.looks c.add.new.keeper) c.args.text.now c.put_taken.new.text new c.behind.result.now T
+    taken_written k c.args.number old (g.K.Keeper.looks c.args.keeper.now) c.args.look.now
+    (g.K.Keeper.looks c.add.new.keeper) c.args.text.now c.put_taken.new.text new c.behind.result.now T
     (same ∙ brought k old new c.args.look.now T) c.in-Ok.ensures.kept c.in-Ok-put_taken.ensures
 
 pub returns-in-Err-clause-stopped : goal.returns-in-Err-clause-stopped
 returns-in-Err-clause-stopped g c =
     let k = content c.args.case.now in
-    holds_one k c.args.number (looks_in c.args.register.now) (g.K.Keeper.looks c.args.keeper.now) c.args.look.now (g.K.Keeper.looks c.add.new.keeper) (looks_in c.add.new.self)
+    holds_one k c.args.number (looks_in c.args.register.now) (g.K.Keeper.looks c.args.keeper.now) c.args.look.now (g.K.Keeper.looks c.add.new.keeper)
+    (looks_in c.add.new.self)
     (c.in-Ok.ensures.taken k c.requires.study) c.in-Ok.ensures.kept
 
 pub returns-in-Ok-put_refused-clause-replied : goal.returns-in-Ok-put_refused-clause-replied
@@ -40,14 +43,16 @@ returns-in-Ok-put_refused-clause-replied g c =
     let old = looks_in c.args.register.now in
     let e = c.in-Err-Refused in
     let rose = Rose (g.K.Keeper.faults c.args.keeper.now) (g.K.Keeper.faults c.add.new.keeper) in
-    refused_written k c.args.number old (g.K.Keeper.looks c.args.keeper.now) c.args.look.now (g.K.Keeper.looks c.add.new.keeper) c.args.text.now c.put_refused.new.text (looks_in c.add.new.self) e.fault
+    refused_written k c.args.number old (g.K.Keeper.looks c.args.keeper.now) c.args.look.now
+    (g.K.Keeper.looks c.add.new.keeper) c.args.text.now c.put_refused.new.text (looks_in c.add.new.self) e.fault
     (added_refused k old c.args.look.now rose e.field-0 e.fault e.field-0-is (e.ensures.fault k c.requires.study))
     (ap (λ s. s.looks) (left_refused (study_in c.add.new.self ≡ study_in c.args.register.now) e.field-0 e.fault e.field-0-is e.ensures.refused))
     e.ensures.unchanged (c.in-Ok-put_refused.ensures ∙ ap (λ f. c.args.text.now ++ refused_line c.args.number f) e.fault-is)
 
 pub returns-in-Err-put_refused-clause-stopped : goal.returns-in-Err-put_refused-clause-stopped
 returns-in-Err-put_refused-clause-stopped g c =
-    holds_none (content c.args.case.now) c.args.number (looks_in c.args.register.now) (g.K.Keeper.looks c.args.keeper.now) (AskTake c.args.look.now ∷ []) (g.K.Keeper.looks c.add.new.keeper)
+    holds_none (content c.args.case.now) c.args.number (looks_in c.args.register.now) (g.K.Keeper.looks c.args.keeper.now) (AskTake c.args.look.now ∷ [])
+    (g.K.Keeper.looks c.add.new.keeper)
     c.in-Err-Refused.ensures.unchanged
 
 pub returns-in-Err-Wide-clause-stopped : goal.returns-in-Err-Wide-clause-stopped
@@ -60,4 +65,6 @@ returns-in-Err-Wide-clause-stopped g c =
     let rose = Rose (g.K.Keeper.faults c.args.keeper.now) (g.K.Keeper.faults c.add.new.keeper) in
     let place = c.next_place-place.result in
     subst (λ w. StopsCommands k rose c.args.number old (AskTake c.args.look.now ∷ []) kept held (Wide place w)) (sym e.wide-is)
-    (stops_wide k c.args.number old kept c.args.look.now held rose place e.wide (added_wide k old c.args.look.now rose e.field-0 e.wide e.field-0-is (e.ensures.fault k c.requires.study)) c.next_place-place.ensures e.ensures.unchanged)
+    (stops_wide k c.args.number old kept c.args.look.now held rose place e.wide
+    (added_wide k old c.args.look.now rose e.field-0 e.wide e.field-0-is (e.ensures.fault k c.requires.study)) c.next_place-place.ensures
+    e.ensures.unchanged)

@@ -23,14 +23,16 @@ returns-in_err-usage-in-Err-clause-stopped g c =
     (KeeperRose words case commands (Rose of_keeper of_keeper)) (MayEnd words case commands kept) kept kept refl (inl refl))
 
 pub returns-in-Ok-clause-given : goal.returns-in-Ok-clause-given
-returns-in-Ok-clause-given g c = keeps_on c.study_call.result _ _ _ _ (λ (e : StudyEnd) h. (study_asked c.in-Ok.call, c.in-Ok.ensures.given, h)) c.study_call.ensures.given
+returns-in-Ok-clause-given g c = keeps_on c.study_call.result _ _ _ _ (λ (e : StudyEnd) h. (study_asked c.in-Ok.call, c.in-Ok.ensures.given, h))
+    c.study_call.ensures.given
 
 pub returns-in-Ok-clause-stopped : goal.returns-in-Ok-clause-stopped
 returns-in-Ok-clause-stopped g c =
     let asked = study_asked c.in-Ok.call in
     let asks = c.in-Ok.ensures.given in
     let words = map string_bytes c.args.words.now in
-    stops_weaker c.study_call.result _ _ _ _ _ _ _ _ _ _ (λ (r : Refusal) h. inr (asked, asks, h)) (λ f. rose_by words (g.S.Source.left c.args.case.now) asked _ _ asks f) (λ k. (asked, asks, k.0, k.1))
+    stops_weaker c.study_call.result _ _ _ _ _ _ _ _ _ _ (λ (r : Refusal) h. inr (asked, asks, h))
+    (λ f. rose_by words (g.S.Source.left c.args.case.now) asked _ _ asks f) (λ k. (asked, asks, k.0, k.1))
     (λ more h. inr (asked, asks, h)) c.study_call.ensures.stopped
 
 pub returns-in-Ok-clause-case_kept : goal.returns-in-Ok-clause-case_kept

@@ -8,4 +8,5 @@ use Rattle.study_commands.proofs.CommandReads.{all_read, one_read, one_refused}
 use Rattle.study_commands.proofs.reading.read_commands.Goals as goal
 
 pub returns-clause-found : goal.returns-clause-found
-returns-clause-found c = all_read (content c.args.case.now).names (rows_of c.args.bytes.now) (rows_left c.loop-line.line-iterator) c.loop-line.commands c.in-None.ensures.steps.row.0 c.loop-line.invariant.read
+returns-clause-found c = all_read (content c.args.case.now).names (rows_of c.args.bytes.now)
+    (rows_left c.loop-line.line-iterator) c.loop-line.commands c.in-None.ensures.steps.row.0 c.loop-line.invariant.read

@@ -13,7 +13,8 @@ returns-in-Ok-clause-taken c = λ k T.
     let mid = study c.step.new.self in
     let new = study c.settle.new.self in
     let M = c.step.ensures.study k T in
-    let arrival : IsArrival k old.looks (arrival_of c.args.look.now) mid.looks = subst (λ e. IsCall k old.looks (call_of e) true mid.looks) c.event_of.ensures (c.in_default.ensures.call k T) in
+    let arrival : IsArrival k old.looks (arrival_of c.args.look.now) mid.looks =
+    subst (λ e. IsCall k old.looks (call_of e) true mid.looks) c.event_of.ensures (c.in_default.ensures.call k T) in
     let settles = c.in-Ok.ensures.call k M in
     let s = settle_appends k mid.looks new.looks settles in (
       s.0,

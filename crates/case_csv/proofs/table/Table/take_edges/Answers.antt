@@ -10,13 +10,18 @@ loop-to-init c = record { read = entries_none (cells c.args.row.now) c.args.from
 pub loop-to-preserved : goal.loop-to-preserved
 loop-to-preserved c =
     let inv = c.loop-to.invariant in record {
-      read = entries_more (cells c.args.row.now) c.args.from c.args.keep c.args.self.now.edges c.loop-to.self.edges _ c.loop-to.to c.cell.result.now c.in-Ok.entry inv.read c.cell.ensures c.in-Ok.ensures.found c.in_ok-take_edge-in-Ok.ensures.edges;
+      read = entries_more (cells c.args.row.now) c.args.from c.args.keep c.args.self.now.edges c.loop-to.self.edges _ c.loop-to.to c.cell.result.now
+          c.in-Ok.entry inv.read c.cell.ensures c.in-Ok.ensures.found c.in_ok-take_edge-in-Ok.ensures.edges;
       weights = c.take_edge.ensures.weights ∙ inv.weights;
       p = c.take_edge.ensures.p ∙ inv.p;
     }
 
 pub returns-in-Err-clause-fault : goal.returns-in-Err-clause-fault
-returns-in-Err-clause-fault c = (refl, entries_bad (cells c.args.row.now) c.args.from c.args.keep c.args.self.now.edges c.loop-to.self.edges c.loop-to.to c.cell.result.now c.in-Err.kind c.loop-to.invariant.read c.cell.ensures c.in-Err.ensures.fault)
+returns-in-Err-clause-fault c = (
+  refl,
+  entries_bad (cells c.args.row.now) c.args.from c.args.keep c.args.self.now.edges c.loop-to.self.edges c.loop-to.to c.cell.result.now c.in-Err.kind
+      c.loop-to.invariant.read c.cell.ensures c.in-Err.ensures.fault,
+)
 
 pub returns-clause-said : goal.returns-clause-said
 returns-clause-said c =

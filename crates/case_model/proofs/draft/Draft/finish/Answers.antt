@@ -26,21 +26,26 @@ of-requires-clause-valid c =
     let parts = c.in-Ok.parts in
     merely (record {
       draft = d;
-      content_is = sym (content_by_parts d c.len.result c.as_slice.result.now parts.components parts.inputs c.len.ensures c.as_slice.ensures c.in-Ok.ensures.components c.in-Ok.ensures.inputs);
-      faultless = late_is d c.len.result c.as_slice.result.now None (none_early ((goal.at.of-requires-clause-valid c).In_default)) c.len.ensures c.as_slice.ensures c.in-Ok.ensures.faultless;
+      content_is = sym (content_by_parts d c.len.result c.as_slice.result.now parts.components parts.inputs c.len.ensures c.as_slice.ensures
+          c.in-Ok.ensures.components c.in-Ok.ensures.inputs);
+      faultless = late_is d c.len.result c.as_slice.result.now None
+          (none_early ((goal.at.of-requires-clause-valid c).In_default)) c.len.ensures c.as_slice.ensures c.in-Ok.ensures.faultless;
       known_arrivals = c.requires.arrivals;
     })
 
 pub returns-in-Ok-clause-case : goal.returns-in-Ok-clause-case
 returns-in-Ok-clause-case c =
     let parts = c.in-Ok.parts in
-    c.of.ensures ∙ content_by_parts c.args.self c.len.result c.as_slice.result.now parts.components parts.inputs c.len.ensures c.as_slice.ensures c.in-Ok.ensures.components c.in-Ok.ensures.inputs
+    c.of.ensures ∙ content_by_parts c.args.self c.len.result c.as_slice.result.now parts.components parts.inputs c.len.ensures c.as_slice.ensures
+    c.in-Ok.ensures.components c.in-Ok.ensures.inputs
 
 pub returns-in-Ok-clause-faultless : goal.returns-in-Ok-clause-faultless
-returns-in-Ok-clause-faultless c = late_is c.args.self c.len.result c.as_slice.result.now None (none_early ((goal.at.returns-in-Ok-clause-faultless c).In_default)) c.len.ensures c.as_slice.ensures c.in-Ok.ensures.faultless
+returns-in-Ok-clause-faultless c = late_is c.args.self c.len.result c.as_slice.result.now None
+    (none_early ((goal.at.returns-in-Ok-clause-faultless c).In_default)) c.len.ensures c.as_slice.ensures c.in-Ok.ensures.faultless
 
 pub returns-clause-fault : goal.returns-clause-fault
 returns-clause-fault c = elim c.in-Err.ensures.fault [
   | inl memory ↦ inl memory
-  | inr late ↦ inr (late_is c.args.self c.len.result c.as_slice.result.now (Some c.in-Err.fault) (none_early ((goal.at.returns-clause-fault c).In_default)) c.len.ensures c.as_slice.ensures late)
+  | inr late ↦ inr (late_is c.args.self c.len.result c.as_slice.result.now (Some c.in-Err.fault)
+      (none_early ((goal.at.returns-clause-fault c).In_default)) c.len.ensures c.as_slice.ensures late)
 ]

@@ -17,5 +17,7 @@ returns c =
     let within : 0 < length xs = omega arith in
     rw (← c.self.view_is) (
     c.then.ensures
-    ∙ ap₂ ordering_then (c.cmp.ensures ∙ compare_is x u ∙ ap (λ t. number_compare (number_of t) (number_of u)) (sym (item_is xs 0 x within c.index-coefficients-0.is))) (c.first_sign.ensures ∙ ap first_sign (take_rest xs 1))
+    ∙ ap₂ ordering_then (c.cmp.ensures ∙ compare_is x u
+    ∙ ap (λ t. number_compare (number_of t) (number_of u)) (sym (item_is xs 0 x within c.index-coefficients-0.is)))
+    (c.first_sign.ensures ∙ ap first_sign (take_rest xs 1))
     ∙ sym (entry-compare xs u (omega arith)))

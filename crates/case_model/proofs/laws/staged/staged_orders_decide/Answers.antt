@@ -7,7 +7,8 @@ pub returns-clause-weights : goal.returns-clause-weights
 returns-clause-weights c = λ spend alpha values r. staged_monotone spend alpha r.0 r.1 values
 
 pub returns-clause-arrivals : goal.returns-clause-arrivals
-returns-clause-arrivals c = λ spend alpha old new E I k more h. record { member = h.member; weight = h.weight; is_weight = h.is_weight; passes = staged_more spend alpha old new more k h.weight h.passes }
+returns-clause-arrivals c = λ spend alpha old new E I k more
+    h. record { member = h.member; weight = h.weight; is_weight = h.is_weight; passes = staged_more spend alpha old new more k h.weight h.passes }
 
 pub returns-clause-decide : goal.returns-clause-decide
 returns-clause-decide c = λ spend alpha values E js j r V o.

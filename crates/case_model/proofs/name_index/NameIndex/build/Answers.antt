@@ -12,7 +12,8 @@ loop-i-preserved c name =
     let names = c.args.names.now in
     let item = c.index-names-i.result in
     let before = position_of name (take l.i names) in
-    let more : take (l.i + 1) names ≡ take l.i names ++ item ∷ [] = take_more names l.i item (omega arith) ∙ ap (λ n. take l.i names ++ n ∷ []) (sym c.index-names-i.is) in
+    let more : take (l.i + 1) names ≡ take l.i names ++ item ∷ [] = take_more names l.i item (omega arith)
+    ∙ ap (λ n. take l.i names ++ n ∷ []) (sym c.index-names-i.is) in
     let len : length (take l.i names) ≡ l.i = length-take-le l.i names (omega arith) in
     c.in_ok-note.ensures name ∙ ap (λ r. option_or r (cond (bytes_eq name c.as_bytes.result.now) (Some l.i) None)) (l.invariant name)
     ∙ ap (λ x. option_or before (cond (bytes_eq name x) (Some l.i) None)) c.as_bytes.ensures

@@ -14,4 +14,5 @@ returns-in_ok-insert c q =
     let none : get_by (λ k. bytes_eq c.args.name.now k.items) old ≡ None = none_from _ _ _ c.is_none.ensures c.if-is_none.true c.get.ensures.value in
     let here : get_by (λ k. bytes_eq c.in_ok-to_vec.field-0.items k.items) old ≡ None = rw same none in
     let e = c.in_ok-insert.ensures.entries ∙ insert_entry-new _ old c.in_ok-to_vec.field-0 c.args.at here in
-    rw e (lookup_push (λ k. bytes_eq q k.items) old.entries c.in_ok-to_vec.field-0 c.args.at ∙ ap (λ n. option_or (place_of c.args.self.now q) (cond (bytes_eq q n) (Some c.args.at) None)) same)
+    rw e (lookup_push (λ k. bytes_eq q k.items) old.entries c.in_ok-to_vec.field-0 c.args.at
+    ∙ ap (λ n. option_or (place_of c.args.self.now q) (cond (bytes_eq q n) (Some c.args.at) None)) same)

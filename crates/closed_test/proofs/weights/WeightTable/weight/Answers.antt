@@ -8,4 +8,5 @@ pub returns : goal.returns
 unfolding weight_at ratio_at
 returns c =
     let t = c.args.self.now in
-    get_or_read t.weights (c.args.set * 16 + c.args.k) c.index-as_slice-set.result (omega (arith, t.room, c.requires.set, c.requires.k)) (c.index-as_slice-set.is ∙ ap (λ ws. get_or ws (c.args.set * 16 + c.args.k) c.index-as_slice-set.result) c.as_slice.ensures) zero_ratio
+    get_or_read t.weights (c.args.set * 16 + c.args.k) c.index-as_slice-set.result (omega (arith, t.room, c.requires.set, c.requires.k))
+    (c.index-as_slice-set.is ∙ ap (λ ws. get_or ws (c.args.set * 16 + c.args.k) c.index-as_slice-set.result) c.as_slice.ensures) zero_ratio

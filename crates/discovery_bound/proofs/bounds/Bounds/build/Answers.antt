@@ -1,4 +1,5 @@
-use Rattle.std.proofs.Common.{◌≡◌, ◌⊎◌, inl, inr, sym, ◌∙◌, ap, subst, refl, ℕ, zero, suc, ◌+◌, ◌*◌, ◌^◌, ◌<◌, ◌≤◌, ◌%◌, Bool, List, [], ◌∷◌, ◌++◌, length, length-append, get_or, arith}
+use Rattle.std.proofs.Common.{◌≡◌, ◌⊎◌, inl, inr, sym, ◌∙◌, ap, subst, refl, ℕ, zero, suc, ◌+◌, ◌*◌, ◌^◌, ◌<◌, ◌≤◌}
+use Rattle.std.proofs.Common.{◌%◌, Bool, List, [], ◌∷◌, ◌++◌, length, length-append, get_or, arith}
 use Rattle.std.proofs.lemmas.Nat.{one_shl}
 use Rattle.field_core.specs.NumberedSets.{members}
 use Rattle.case_model.specs.SetAnswers.{SaysYes}
@@ -20,7 +21,8 @@ latest : (xs : List ℕ) (x n : ℕ) → n ≡ length xs → get_or (xs ++ x ∷
 latest [] x n e = rw e
 latest (y ∷ ys) x n e = rw e (latest ys x (length ys) refl)
 
-one_more : (m : ℕ) (table : ℕ → Bool) (bounds : List ℕ) (set next : ℕ) → length bounds ≡ set → AreBounds m table bounds set → IsBound m (SaysYes m table) (members set) next
+one_more : (m : ℕ) (table : ℕ → Bool) (bounds : List ℕ) (set next : ℕ) → length bounds ≡ set → AreBounds m table bounds set
+    → IsBound m (SaysYes m table) (members set) next
     → AreBounds m table (bounds ++ next ∷ []) (set + 1)
 one_more m table bounds set next count each B n p = elim (at_or_below n set p) [
   | inl e ↦ rw (latest bounds next n (e ∙ sym count), e) B
@@ -42,11 +44,16 @@ next_bound-bound-requires-clause-bounds c = rw c.as_slice.ensures c.loop-set.inv
 pub loop-set-preserved : goal.loop-set-preserved
 loop-set-preserved c = record {
   count = ap length c.in_ok-push.ensures.pushed ∙ length-append _ _ ∙ ap (λ k. k + 1) c.loop-set.invariant.count;
-  each = rw c.in_ok-push.ensures.pushed (one_more c.args.closed.now.size (answer_of c.args.closed.now) c.loop-set.bounds c.loop-set.set c.next_bound-bound.result c.loop-set.invariant.count c.loop-set.invariant.each c.next_bound-bound.ensures);
+  each = rw c.in_ok-push.ensures.pushed
+      (one_more c.args.closed.now.size (answer_of c.args.closed.now) c.loop-set.bounds c.loop-set.set c.next_bound-bound.result c.loop-set.invariant.count
+      c.loop-set.invariant.each c.next_bound-bound.ensures);
 }
 
 pub invariant_of-result : goal.invariant_of-result
-invariant_of-result c = record { few = c.requires.few; room = omega (arith, sets_are c.args.m c.requires.few, c.loop-set.invariant.count, c.loop-set-test.false, c.loop-set.auto) }
+invariant_of-result c = record {
+  few = c.requires.few;
+  room = omega (arith, sets_are c.args.m c.requires.few, c.loop-set.invariant.count, c.loop-set-test.false, c.loop-set.auto);
+}
 
 pub returns-clause-bounds : goal.returns-clause-bounds
 unfolding bound_of

@@ -17,6 +17,7 @@ returns-in-Add c =
     let d = item_terms xs 2 c.index-self-2.result (omega arith) c.index-self-2.is in
     let e = item_terms xs 3 c.index-self-3.result (omega arith) c.index-self-3.is in
     let f = item_terms xs 4 c.index-self-4.result (omega arith) c.index-self-4.is in
-    let told : polynomial_terms c.of.result ≡ short_terms c.index-self-0.result ∷ short_terms c.index-self-1.result ∷ short_terms c.index-self-2.result ∷ short_terms c.index-self-3.result ∷ short_terms c.index-self-4.result ∷ [] = search rules in
+    let told : polynomial_terms c.of.result ≡ short_terms c.index-self-0.result ∷ short_terms c.index-self-1.result ∷ short_terms
+    c.index-self-2.result ∷ short_terms c.index-self-3.result ∷ short_terms c.index-self-4.result ∷ [] = search rules in
     let same : polynomial_terms c.of.result ≡ tabled (terms_at (map short_terms xs)) = told ∙ by_items (map short_terms xs) _ _ _ _ _ a b d e f in
     ap Ok same ∙ sym (zero_plus xs) ∙ ap (λ (o : Operation). applied o zero_coefficients (map short_terms xs)) (sym c.in-Add.is)

@@ -6,4 +6,5 @@ pub div-requires : goal.div-requires
 div-requires c = stored_some c.args.other.now.value.num c.args.other.now.value.den c.requires
 
 pub returns : goal.returns
-returns c = c.made.ensures ∙ quotient_made c.args.self.now.value c.args.other.now.value c.div.result c.args.self.now.short c.args.other.now.short c.requires c.div.ensures
+returns c = c.made.ensures ∙ quotient_made c.args.self.now.value c.args.other.now.value c.div.result c.args.self.now.short c.args.other.now.short c.requires
+    c.div.ensures

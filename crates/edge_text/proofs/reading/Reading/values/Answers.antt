@@ -15,14 +15,18 @@ pub returns-in-Some-behind-clause-stands : goal.returns-in-Some-behind-clause-st
 returns-in-Some-behind-clause-stands c =
     let line = c.args.line.now.text.now in
     let words = words_of c.in-Some-behind.words in
-    joined₄ c.share.result _ _ _ _ _ (values_share c.args.self.now c.share.new.self line words c.requires (keyword_found (codes "component") (words_of line) words c.in-Some-behind.ensures.words)) c.share.ensures.share c.share.ensures.next c.share.ensures.p c.share.ensures.components
+    joined₄ c.share.result _ _ _ _ _
+    (values_share c.args.self.now c.share.new.self line words c.requires
+    (keyword_found (codes "component") (words_of line) words c.in-Some-behind.ensures.words)) c.share.ensures.share c.share.ensures.next c.share.ensures.p
+    c.share.ensures.components
 
 pub returns-clause-stands : goal.returns-clause-stands
 returns-clause-stands c =
     let line = c.args.line.now.text.now in
     let words = words_of c.in-Some-behind-2.words in
     joined₅ c.weigh.result _ _ _ _ _ _
-    (values_weights c.args.self.now c.weigh.new.self line words c.one.result (same_ratio c.one.result one (ap pair_of c.one.ensures)) c.requires (keyword_found (codes "weights") (words_of line) words c.in-Some-behind-2.ensures.words))
+    (values_weights c.args.self.now c.weigh.new.self line words c.one.result (same_ratio c.one.result one (ap pair_of c.one.ensures)) c.requires
+    (keyword_found (codes "weights") (words_of line) words c.in-Some-behind-2.ensures.words))
     c.weigh.ensures.weights c.weigh.ensures.component c.weigh.ensures.next c.weigh.ensures.p c.weigh.ensures.components
 
 pub returns-clause-fault : goal.returns-clause-fault
@@ -30,23 +34,30 @@ returns-clause-fault c =
     let line = c.args.line.now.text.now in
     let words = words_of c.in-Some-behind-2.words in
     IfErr-weaker c.weigh.result _ _ (λ fault f.
-    refused_by c.args.self.now line words c.args.line.now.number fault Values WeightsWord (IsNumbersFault words) c.requires (keyword_found (codes "weights") (words_of line) words c.in-Some-behind-2.ensures.words) (λ d k. refl) (λ d k kind b. b) f
+    refused_by c.args.self.now line words c.args.line.now.number fault Values WeightsWord (IsNumbersFault words) c.requires
+    (keyword_found (codes "weights") (words_of line) words c.in-Some-behind-2.ensures.words) (λ d k. refl) (λ d k kind b. b) f
     ) c.weigh.ensures.fault
 
 pub returns-in-Some-clause-stands : goal.returns-in-Some-clause-stands
 returns-in-Some-clause-stands c =
     let line = c.args.line.now.text.now in
     let words = words_of c.in-Some.words in
-    joined₃ c.given.result _ _ _ _ (p_read c.args.self.now c.given.new.self line words c.requires (keyword_found (codes "p") (words_of line) words c.in-Some.ensures.words)) c.given.ensures.given c.given.ensures.next c.given.ensures.components
+    joined₃ c.given.result _ _ _ _
+    (p_read c.args.self.now c.given.new.self line words c.requires (keyword_found (codes "p") (words_of line) words c.in-Some.ensures.words))
+    c.given.ensures.given c.given.ensures.next c.given.ensures.components
 
 pub returns-in-Some-clause-fault : goal.returns-in-Some-clause-fault
 returns-in-Some-clause-fault c =
     let line = c.args.line.now.text.now in
     let words = words_of c.in-Some.words in
-    IfErr-weaker c.given.result _ _ (λ fault f. refused_by c.args.self.now line words c.args.line.now.number fault Values PWord (IsSomeNumbersFault words) c.requires (keyword_found (codes "p") (words_of line) words c.in-Some.ensures.words) (λ d k. refl) (λ d k kind b. b) f) c.given.ensures.fault
+    IfErr-weaker c.given.result _ _
+    (λ fault f. refused_by c.args.self.now line words c.args.line.now.number fault Values PWord (IsSomeNumbersFault words) c.requires
+    (keyword_found (codes "p") (words_of line) words c.in-Some.ensures.words) (λ d k. refl) (λ d k kind b. b) f) c.given.ensures.fault
 
 pub returns-in-Some-behind-clause-fault : goal.returns-in-Some-behind-clause-fault
 returns-in-Some-behind-clause-fault c =
     let line = c.args.line.now.text.now in
     let words = words_of c.in-Some-behind.words in
-    IfErr-weaker c.share.result _ _ (λ fault f. refused_by c.args.self.now line words c.args.line.now.number fault Values ShareWord (IsNumberFault words) c.requires (keyword_found (codes "component") (words_of line) words c.in-Some-behind.ensures.words) (λ d k. refl) (λ d k kind b. b) f) c.share.ensures.fault
+    IfErr-weaker c.share.result _ _
+    (λ fault f. refused_by c.args.self.now line words c.args.line.now.number fault Values ShareWord (IsNumberFault words) c.requires
+    (keyword_found (codes "component") (words_of line) words c.in-Some-behind.ensures.words) (λ d k. refl) (λ d k kind b. b) f) c.share.ensures.fault

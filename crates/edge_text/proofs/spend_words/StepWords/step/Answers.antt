@@ -11,4 +11,6 @@ returns-in_err-levels-clause-fault c =
     let fault = c.in_err-levels.field-0.0 in
     let words = c.args.self.now in
     handed_on c.from_residual-in_err-levels.result fault _ c.from_residual-in_err-levels.ensures.1
-    (other_kind c.args.line.now.number (IsNumbersFault (words_of c.new.result)) (IsNumbersFault (words.from.now ∷ words_of words.levels.now)) fault (λ kind f. levels_fault words.from.now (words_of words.levels.now) c.in_ok-from.from kind c.in_ok-from.ensures.found (subst (λ w. IsNumbersFault (words_of w) kind) c.new.ensures f)) c.in_err-levels.ensures.fault)
+    (other_kind c.args.line.now.number (IsNumbersFault (words_of c.new.result)) (IsNumbersFault (words.from.now ∷ words_of words.levels.now)) fault
+    (λ kind f. levels_fault words.from.now (words_of words.levels.now) c.in_ok-from.from kind c.in_ok-from.ensures.found
+    (subst (λ w. IsNumbersFault (words_of w) kind) c.new.ensures f)) c.in_err-levels.ensures.fault)

@@ -18,4 +18,5 @@ returns c =
     let done = c.loop-power-test.false in
     let same = c.used-end.ensures.value in
     same_polynomials _ _ (c.loop-power.invariant.count ∙ c.used-end.ensures.polynomial.count ∙ sym length-zero)
-    (λ k h. rewritten_all _ _ _ c.loop-power.power (λ k h. coefficient-above c.args.self.now k (omega arith)) c.loop-power.invariant k ∙ sym (coefficient-zero k))
+    (λ k h. rewritten_all _ _ _ c.loop-power.power (λ k h. coefficient-above c.args.self.now k (omega arith)) c.loop-power.invariant k
+    ∙ sym (coefficient-zero k))

@@ -9,7 +9,8 @@ loop-power-init c = content_end c.args.self.now (c.degree-power.result + 1) (λ 
 
 pub loop-power-preserved : goal.loop-power-preserved
 loop-power-preserved c =
-    content_more c.args.self.now c.loop-power.power c.size.result c.loop-power.divisor c.gcd-divisor.result c.loop-power-test.true (omega (arith, c.degree-power.ensures.polynomial.count, c.loop-power.auto.power))
+    content_more c.args.self.now c.loop-power.power c.size.result c.loop-power.divisor c.gcd-divisor.result c.loop-power-test.true
+    (omega (arith, c.degree-power.ensures.polynomial.count, c.loop-power.auto.power))
     c.loop-power.invariant (c.size.ensures ∙ ap unsigned_abs c.whole.ensures) c.gcd-divisor.ensures
 
 content_found : (c : goal.After-loop-power) → c.loop-power.divisor ≡ content c.args.self.now

@@ -24,7 +24,8 @@ loop-power-preserved c =
     let more = c.loop-power-test.true in
     let count = c.used-end.ensures.polynomial.count in
     let stays = c.loop-power.invariant.rest c.loop-power.power (omega arith) in
-    rw c.put.ensures (rewritten_more _ _ _ _ _ (omega arith) c.loop-power.invariant (c.over.ensures ∙ ap (λ x. int_div x c.args.by) (c.whole.ensures ∙ stays)))
+    rw c.put.ensures (rewritten_more _ _ _ _ _ (omega arith) c.loop-power.invariant
+    (c.over.ensures ∙ ap (λ x. int_div x c.args.by) (c.whole.ensures ∙ stays)))
 
 none_over : (x by : ℤ) → x ≡ pos 0 → x ≡ int_div x by
 none_over x by e = rw e (sym (int_div-zero by))

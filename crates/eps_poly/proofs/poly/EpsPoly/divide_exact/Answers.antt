@@ -7,11 +7,13 @@ use Rattle.eps_poly.proofs.QuotientLaws.{some_inside, some_or_none}
 use Rattle.eps_poly.proofs.poly.EpsPoly.divide_exact.Goals as goal
 
 pub returns-in_err-quotient-clause-value : goal.returns-in_err-quotient-clause-value
-returns-in_err-quotient-clause-value c = c.from_residual.ensures ∙ sym (quotient_none c.args.self.now c.args.by.now (λ q e. c.in_err-quotient.ensures.only q e))
+returns-in_err-quotient-clause-value c = c.from_residual.ensures
+    ∙ sym (quotient_none c.args.self.now c.args.by.now (λ q e. c.in_err-quotient.ensures.only q e))
 
 not_refused : (c : goal.After-from_residual-in_err-product) (q : List ℤ) → sized_product q c.args.by.now ≡ Some c.args.self.now → ⊥
 not_refused c q e =
-    let known : c.checked_mul.result ≡ Some c.args.self.now = c.checked_mul.ensures.written ∙ product-same c.in_ok-quotient.quotient q c.args.by.now (c.in_ok-quotient.ensures.only q e) ∙ e in
+    let known : c.checked_mul.result ≡ Some c.args.self.now = c.checked_mul.ensures.written
+    ∙ product-same c.in_ok-quotient.quotient q c.args.by.now (c.in_ok-quotient.ensures.only q e) ∙ e in
     let none : c.checked_mul.result ≡ None = c.in_err-product.was in
     some_or_none _ _ known none
 
@@ -26,7 +28,8 @@ returns-in_err-product-clause-none c = rw c.from_residual-in_err-product.ensures
 
 not_same : (c : goal.Else-eq) (q : List ℤ) → sized_product q c.args.by.now ≡ Some c.args.self.now → ⊥
 not_same c q e =
-    let known : c.checked_mul.result ≡ Some c.args.self.now = c.checked_mul.ensures.written ∙ product-same c.in_ok-quotient.quotient q c.args.by.now (c.in_ok-quotient.ensures.only q e) ∙ e in
+    let known : c.checked_mul.result ≡ Some c.args.self.now = c.checked_mul.ensures.written
+    ∙ product-same c.in_ok-quotient.quotient q c.args.by.now (c.in_ok-quotient.ensures.only q e) ∙ e in
     other_from c.in_ok-product.product c.args.self.now (sym c.eq.ensures ∙ c.if-eq.false) (some_inside _ _ (sym c.in_ok-product.was ∙ known))
 
 pub returns-else-eq-clause-value : goal.returns-else-eq-clause-value
@@ -39,7 +42,8 @@ pub returns-else-eq-clause-none : goal.returns-else-eq-clause-none
 returns-else-eq-clause-none c = not_same c
 
 same : (c : goal.Then-eq) → sized_product c.in_ok-quotient.quotient c.args.by.now ≡ Some c.args.self.now
-same c = sym c.checked_mul.ensures.written ∙ c.in_ok-product.was ∙ ap Some (same_from c.in_ok-product.product c.args.self.now (sym c.eq.ensures ∙ c.if-eq.true))
+same c = sym c.checked_mul.ensures.written ∙ c.in_ok-product.was
+    ∙ ap Some (same_from c.in_ok-product.product c.args.self.now (sym c.eq.ensures ∙ c.if-eq.true))
 
 pub returns-then-eq-clause-value : goal.returns-then-eq-clause-value
 returns-then-eq-clause-value c = sym (quotient_only c.args.self.now c.args.by.now c.in_ok-quotient.quotient c.requires c.in_ok-quotient.ensures.count (same c))

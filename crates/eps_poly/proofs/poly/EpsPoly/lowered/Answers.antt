@@ -36,7 +36,8 @@ returns c =
     let p = c.args.self.now in
     let value : ℕ → ℤ = λ i. int_div (coefficient p (i + c.args.power)) c.args.by in
     let all = filled_rest _ _ (c.loop-from.from - c.args.power)
-    (λ k h. sym (ap (λ x. int_div x c.args.by) (coefficient-above_degree p (k + c.args.power) (omega arith)) ∙ int_div-zero c.args.by)) c.loop-from.invariant in
+    (λ k h. sym (ap (λ x. int_div x c.args.by) (coefficient-above_degree p (k + c.args.power) (omega arith)) ∙ int_div-zero c.args.by))
+    c.loop-from.invariant in
     let count = all.count in
     same_polynomials _ _ (count ∙ sym (length-by_powers value))
     (λ k h. all.front k (omega arith) ∙ sym (coefficient-by_powers value k (omega arith)))

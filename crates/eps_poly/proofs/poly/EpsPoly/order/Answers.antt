@@ -11,7 +11,8 @@ loop-power-init c k h = absurd (omega arith)
 
 pub loop-power-preserved : goal.loop-power-preserved
 loop-power-preserved c k h =
-    let here : coefficient c.args.self.now c.loop-power.power ≡ pos 0 = sym c.whole.ensures ∙ is_zero_true c.whole.result (sym c.is_zero.ensures ∙ c.if-not-is_zero.false) in
+    let here : coefficient c.args.self.now c.loop-power.power ≡ pos 0 = sym c.whole.ensures
+    ∙ is_zero_true c.whole.result (sym c.is_zero.ensures ∙ c.if-not-is_zero.false) in
     elim (cases_eq k c.loop-power.power) [
       | inl e ↦ rw e here
       | inr apart ↦ c.loop-power.invariant k (omega arith)

@@ -14,7 +14,8 @@ pub loop-at-preserved : goal.loop-at-preserved
 loop-at-preserved c k h =
     let some = c.loop-at-test.true in
     let q = set c.args.self.now c.args.power c.args.c in
-    let here : coefficient q (c.loop-at.at - 1) ≡ pos 0 = sym c.whole_with.ensures ∙ is_zero_true c.whole_with.result (sym c.is_zero.ensures ∙ c.if-not-is_zero.false) in
+    let here : coefficient q (c.loop-at.at - 1) ≡ pos 0 = sym c.whole_with.ensures
+    ∙ is_zero_true c.whole_with.result (sym c.is_zero.ensures ∙ c.if-not-is_zero.false) in
     elim (cases_eq k (c.loop-at.at - 1)) [
       | inl e ↦ rw e here
       | inr apart ↦ c.loop-at.invariant k (omega arith)
@@ -24,7 +25,8 @@ pub returns-then-not-is_zero : goal.returns-then-not-is_zero
 returns-then-not-is_zero c =
     let q = set c.args.self.now c.args.power c.args.c in
     let some = c.loop-at-test.true in
-    let here : coefficient q (c.loop-at.at - 1) ≢ pos 0 = λ none. is_zero_false c.whole_with.result (sym c.is_zero.ensures ∙ c.if-not-is_zero.true) (c.whole_with.ensures ∙ none) in
+    let here : coefficient q (c.loop-at.at - 1) ≢ pos 0 =
+    λ none. is_zero_false c.whole_with.result (sym c.is_zero.ensures ∙ c.if-not-is_zero.true) (c.whole_with.ensures ∙ none) in
     count_is q (c.loop-at.at - 1) here (λ k h. c.loop-at.invariant k (omega arith))
 
 pub returns : goal.returns

@@ -19,7 +19,8 @@ loop-power-preserved c =
     let p = c.args.left.now in
     let q = c.args.right.now in
     rw c.put.ensures (rewritten_more _ _ _ _ _ (omega arith) c.loop-power.invariant
-    (coefficient_whole p q c.loop-power.power (c.min-count.result + 1) (omega arith) (omega arith) ∙ sym c.part_of_product.ensures ∙ c.in_ok-part_of_product.was))
+    (coefficient_whole p q c.loop-power.power (c.min-count.result + 1) (omega arith) (omega arith) ∙ sym c.part_of_product.ensures
+    ∙ c.in_ok-part_of_product.was))
 
 pub returns-in_err-part_of_product : goal.returns-in_err-part_of_product
 returns-in_err-part_of_product c =
@@ -31,7 +32,8 @@ returns-in_err-part_of_product c =
     let within : degree p + degree q ≤ 32 = omega arith in
     rw c.from_residual.ensures (sym (product_from_list p q within
     ∙ list_from_refused _ c.loop-power.self c.loop-power.power (omega arith) (omega arith) c.loop-power.invariant.front
-    (coefficient_whole p q c.loop-power.power (c.min-count.result + 1) (omega arith) (omega arith) ∙ sym c.part_of_product.ensures ∙ c.in_err-part_of_product.was)))
+    (coefficient_whole p q c.loop-power.power (c.min-count.result + 1) (omega arith) (omega arith) ∙ sym c.part_of_product.ensures
+    ∙ c.in_err-part_of_product.was)))
 
 pub returns : goal.returns
 returns c =
@@ -43,4 +45,5 @@ returns c =
     let within : degree p + degree q ≤ 32 = omega arith in
     sym (product_from_list p q within
     ∙ list_from_all _ c.loop-power.self (omega arith)
-    (rewritten_all _ _ _ c.loop-power.power (λ k h. coefficient_past p q k (omega arith) ∙ ap Some (sym (coefficient-above c.args.self.now k (omega arith)))) c.loop-power.invariant))
+    (rewritten_all _ _ _ c.loop-power.power (λ k h. coefficient_past p q k (omega arith) ∙ ap Some (sym (coefficient-above c.args.self.now k (omega arith))))
+    c.loop-power.invariant))

@@ -26,7 +26,9 @@ returns-in_err-checked_add c =
     let kept = c.loop-power.invariant.count in
     let stays = c.loop-power.invariant.rest c.loop-power.power (omega arith) in
     let read = ap₂ (λ a b. sized (a +ℤ b)) (sym (c.whole-left.ensures ∙ stays)) (sym c.whole-right.ensures) ∙ sym c.checked_add.ensures in
-    rw c.from_residual.ensures (sym (list_from_refused _ c.loop-power.self c.loop-power.power (omega arith) (omega arith) c.loop-power.invariant.front (read ∙ c.in_err-checked_add.was)))
+    rw c.from_residual.ensures
+    (sym (list_from_refused _ c.loop-power.self c.loop-power.power (omega arith) (omega arith) c.loop-power.invariant.front
+    (read ∙ c.in_err-checked_add.was)))
 
 pub returns : goal.returns
 unfolding sized_sum
@@ -35,4 +37,6 @@ returns c =
     let count = c.used.ensures.polynomial.count in
     let kept = c.loop-power.invariant.count in
     sym (list_from_all _ c.loop-power.self (omega arith)
-    (rewritten_all _ _ _ c.loop-power.power (λ k h. sum_alone c.args.self.now c.args.other.now k c.used.ensures.polynomial (coefficient-above c.args.other.now k (omega arith))) c.loop-power.invariant))
+    (rewritten_all _ _ _ c.loop-power.power
+    (λ k h. sum_alone c.args.self.now c.args.other.now k c.used.ensures.polynomial (coefficient-above c.args.other.now k (omega arith)))
+    c.loop-power.invariant))

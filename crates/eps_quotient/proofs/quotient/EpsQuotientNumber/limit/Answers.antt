@@ -14,11 +14,13 @@ pub of_wholes-requires : goal.of_wholes-requires
 of_wholes-requires c =
     let x = c.args.self.now in
     subst IsReduced
-    (sym (terms_made x.pair.numerator x.pair.denominator _ _ _ _ _ c.whole-num.ensures c.whole-den.ensures c.common_divisor-divisor.ensures.value c.over.ensures c.over-2.ensures))
+    (sym (terms_made x.pair.numerator x.pair.denominator _ _ _ _ _ c.whole-num.ensures c.whole-den.ensures c.common_divisor-divisor.ensures.value c.over.ensures
+    c.over-2.ensures))
     (limit_in_lowest_terms (quotient_parts x) x.stored c.requires)
 
 pub returns : goal.returns
 returns c =
     let x = c.args.self.now in
     c.of_wholes.ensures
-    ∙ terms_made x.pair.numerator x.pair.denominator _ _ _ _ _ c.whole-num.ensures c.whole-den.ensures c.common_divisor-divisor.ensures.value c.over.ensures c.over-2.ensures
+    ∙ terms_made x.pair.numerator x.pair.denominator _ _ _ _ _ c.whole-num.ensures c.whole-den.ensures c.common_divisor-divisor.ensures.value c.over.ensures
+    c.over-2.ensures

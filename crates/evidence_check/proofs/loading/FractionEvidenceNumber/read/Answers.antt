@@ -8,4 +8,5 @@ returns-in_err-read-clause-found c =
     nothing_plain c.args.text.now c.from_residual.result e (plain_none c.args.text.now c.read.result c.read.ensures.found c.read.ensures.only c.in_err-read.was)
 
 pub returns-in_err-read-clause-only : goal.returns-in_err-read-clause-only
-returns-in_err-read-clause-only c = nothing_only c.args.text.now c.from_residual.result (plain_none c.args.text.now c.read.result c.read.ensures.found c.read.ensures.only c.in_err-read.was)
+returns-in_err-read-clause-only c = nothing_only c.args.text.now c.from_residual.result
+    (plain_none c.args.text.now c.read.result c.read.ensures.found c.read.ensures.only c.in_err-read.was)

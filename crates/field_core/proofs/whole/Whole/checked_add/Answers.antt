@@ -8,4 +8,5 @@ pub returns : goal.returns
 returns c =
     let a : FitsSigned w128 c.self.inside.value = search rules in
     let b : FitsSigned w128 c.other.inside.value = search rules in
-    rw (← c.self.view_is, ← c.other.view_is) (sized_checked _ c.checked_add.result c.and_then.result (simp to_z-of_z at c.checked_add.ensures) (search rules))
+    rw (← c.self.view_is, ← c.other.view_is)
+    (sized_checked _ c.checked_add.result c.and_then.result (simp to_z-of_z at c.checked_add.ensures) (search rules))

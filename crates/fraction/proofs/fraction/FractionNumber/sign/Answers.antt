@@ -11,4 +11,5 @@ pub returns : goal.returns
 unfolding sign_of
 returns c =
     let fits : FitsSigned w128 c.num.result = search rules in
-    rw (← c.self.view_is) ((simp to_z-of_z at c.cmp.ensures) ∙ cmp_zero c.num.result ∙ ap int_sign c.num.ensures ∙ sym (ap int_sign (lowest-constant c.self.inside.ratio.num)))
+    rw (← c.self.view_is) ((simp to_z-of_z at c.cmp.ensures) ∙ cmp_zero c.num.result ∙ ap int_sign c.num.ensures
+    ∙ sym (ap int_sign (lowest-constant c.self.inside.ratio.num)))

@@ -15,4 +15,6 @@ of_wholes-requires c =
     let eu = rw (c.over.ensures, g) at (sym c.times-u.ensures.written) in
     let ev = rw (c.over-rest.ensures, g) at (sym c.times-v.ensures.written) in
     let ed = rw (c.whole-2.ensures, c.over-2.ensures, c.whole-3.ensures, c.over-rest.ensures, h, w, g) at (sym c.in_ok-den.ensures) in
-    rw (c.over-3.ensures, h, w, g) (add_reduced (short_terms c.args.self) (short_terms c.args.other) c.times-u.result c.times-v.result c.in_ok-t.t c.in_ok-den.den c.args.self.valid c.args.other.valid eu ev (sym c.in_ok-t.ensures) ed)
+    rw (c.over-3.ensures, h, w, g)
+    (add_reduced (short_terms c.args.self) (short_terms c.args.other) c.times-u.result c.times-v.result c.in_ok-t.t c.in_ok-den.den c.args.self.valid
+    c.args.other.valid eu ev (sym c.in_ok-t.ensures) ed)

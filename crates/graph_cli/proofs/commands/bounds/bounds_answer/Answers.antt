@@ -9,5 +9,18 @@ use Rattle.graph_cli.proofs.commands.bounds.bounds_answer.Goals as goal
 
 pub returns-clause-given : goal.returns-clause-given
 unfolding bounds_stage
-returns-clause-given c =
-    (c.in_ok-bounds_text.field-0, (c.in_ok-table.ensures.defined, (bound_of c.in_ok-bounds.bounds, closed_bounds (content c.args.case.now) c.size.result (answer_of c.closed_table.result.now) (bound_of c.in_ok-bounds.bounds) c.size.ensures.count (subst (λ t. AreClosedAnswers (content c.args.case.now) (answer_of t)) (sym c.closed_table.ensures.table) c.in_ok-table.ensures.closed) c.in_ok-bounds.ensures.bounds, c.in_ok-bounds_text.ensures)), c.done.ensures)
+returns-clause-given c = (
+  c.in_ok-bounds_text.field-0,
+  (
+    c.in_ok-table.ensures.defined,
+    (
+      bound_of c.in_ok-bounds.bounds,
+      closed_bounds (content c.args.case.now) c.size.result (answer_of c.closed_table.result.now)
+          (bound_of c.in_ok-bounds.bounds) c.size.ensures.count
+          (subst (λ t. AreClosedAnswers (content c.args.case.now) (answer_of t))
+          (sym c.closed_table.ensures.table) c.in_ok-table.ensures.closed) c.in_ok-bounds.ensures.bounds,
+      c.in_ok-bounds_text.ensures,
+    ),
+  ),
+  c.done.ensures,
+)

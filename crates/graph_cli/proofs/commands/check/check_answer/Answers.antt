@@ -8,4 +8,5 @@ pub returns-in_err-verdict-clause-refused : goal.returns-in_err-verdict-clause-r
 unfolding check_stage
 returns-in_err-verdict-clause-refused c =
     halt_on _ _ _ c.from_residual-in_err-verdict.ensures.1
-    (halts_weaker c.in_err-verdict.field-0.0 _ _ (λ (r : Refusal) h. inr (said_of c.in_ok-proof.proof, c.in_ok-proof.ensures.given, inl h)) c.in_err-verdict.ensures.refused)
+    (halts_weaker c.in_err-verdict.field-0.0 _ _ (λ (r : Refusal) h. inr (said_of c.in_ok-proof.proof, c.in_ok-proof.ensures.given, inl h))
+    c.in_err-verdict.ensures.refused)

@@ -10,7 +10,8 @@ pub returns-in_err-decision-clause-refused : goal.returns-in_err-decision-clause
 unfolding sample_stage
 returns-in_err-decision-clause-refused c =
     halt_on _ _ _ c.from_residual-in_err-decision.ensures.1
-    (halts_weaker c.in_err-decision.field-0.0 _ _ (λ (r : Refusal) h. inr (content c.in_ok-case.case, c.in_ok-case.ensures.given, inl h)) c.in_err-decision.ensures.refused)
+    (halts_weaker c.in_err-decision.field-0.0 _ _ (λ (r : Refusal) h. inr (content c.in_ok-case.case, c.in_ok-case.ensures.given, inl h))
+    c.in_err-decision.ensures.refused)
 
 pub returns-clause-given : goal.returns-clause-given
 unfolding sample_stage

@@ -16,7 +16,8 @@ pub returns-in_err-table-clause-refused : goal.returns-in_err-table-clause-refus
 unfolding simes_stage
 returns-in_err-table-clause-refused c =
     halt_on _ _ _ c.from_residual-in_err-table.ensures.1
-    (halts_weaker c.in_err-table.field-0.0 _ _ (λ (r : Refusal) h. inr (content c.args.case.now, (c.in_ok-weights.ensures.defined, refl), inl h)) c.in_err-table.ensures.refused)
+    (halts_weaker c.in_err-table.field-0.0 _ _ (λ (r : Refusal) h. inr (content c.args.case.now, (c.in_ok-weights.ensures.defined, refl), inl h))
+    c.in_err-table.ensures.refused)
 
 pub simes_text-requires-clause-below : goal.simes_text-requires-clause-below
 simes_text-requires-clause-below c =
@@ -44,5 +45,8 @@ returns-clause-given c =
       answers = answers;
       order = c.in_ok-ranking.ensures;
       text_is = subst (λ js. IsSimesReport case bound closed js text) c.as_slice.ensures c.in_ok-simes_text.ensures;
-    } in
-    (case, (c.in_ok-weights.ensures.defined, refl), (text, ((weight_at c.in_ok-weights.weights, c.in_ok-weights.ensures.weights, c.in_ok-table.ensures.defined), report), c.done.ensures))
+    } in (
+      case,
+      (c.in_ok-weights.ensures.defined, refl),
+      (text, ((weight_at c.in_ok-weights.weights, c.in_ok-weights.ensures.weights, c.in_ok-table.ensures.defined), report), c.done.ensures),
+    )

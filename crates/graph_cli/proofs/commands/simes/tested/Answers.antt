@@ -10,5 +10,12 @@ pub returns-in_ok-wide_refusal-in-Err-Wide-clause-refused : goal.returns-in_ok-w
 returns-in_ok-wide_refusal-in-Err-Wide-clause-refused c =
     let set = c.in-Err-Wide.set in
     let wide = c.in-Err-Wide.wide in
-    let fault = subst (IsSimesFault (content c.args.case.now) (weight_at c.args.weights.now)) c.in-Err-Wide.field-0-is c.in-Err-Wide.ensures.fault in
-    (weight_at c.args.weights.now, c.requires.weights, set, wide, fault, c.in_ok-wide_refusal-in-Err-Wide.ensures ∙ ap (λ names. wide_refusal names (SimesSet set) wide) c.names.ensures)
+    let fault = subst (IsSimesFault (content c.args.case.now) (weight_at c.args.weights.now)) c.in-Err-Wide.field-0-is c.in-Err-Wide.ensures.fault in (
+      weight_at c.args.weights.now,
+      c.requires.weights,
+      set,
+      wide,
+      fault,
+      c.in_ok-wide_refusal-in-Err-Wide.ensures
+          ∙ ap (λ names. wide_refusal names (SimesSet set) wide) c.names.ensures,
+    )

@@ -4,4 +4,8 @@ use Rattle.graph_cli.proofs.commands.weights.weights_answer.Goals as goal
 
 pub returns-clause-given : goal.returns-clause-given
 unfolding weights_stage
-returns-clause-given c = (c.in_ok-weights_text.field-0, (c.in_ok-table.ensures.defined, (weight_at c.in_ok-table.table, c.in_ok-table.ensures.weights, c.in_ok-weights_text.ensures)), c.done.ensures)
+returns-clause-given c = (
+  c.in_ok-weights_text.field-0,
+  (c.in_ok-table.ensures.defined, (weight_at c.in_ok-table.table, c.in_ok-table.ensures.weights, c.in_ok-weights_text.ensures)),
+  c.done.ensures,
+)

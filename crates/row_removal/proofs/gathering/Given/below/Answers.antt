@@ -10,4 +10,6 @@ returns-clause-positive c =
     let G = c.args.self.now in
     let constants : HasConstants G = rw (← c.self.view_is) c.self.invariant.constants in
     let value : c.whole.result ≡ given_below G c.args.row c.args.k = search rules in
-    subst (λ z. pos 0 <ℤ z) (sym value) (below_positive _ (subst IsQuotient c.number.ensures c.number.result.stored) (constant_given G c.args.row c.args.k constants c.requires.row c.requires.k))
+    subst (λ z. pos 0 <ℤ z) (sym value)
+    (below_positive _ (subst IsQuotient c.number.ensures c.number.result.stored)
+    (constant_given G c.args.row c.args.k constants c.requires.row c.requires.k))

@@ -12,13 +12,16 @@ pub gather-requires-clause-room : goal.gather-requires-clause-room
 gather-requires-clause-room c = rw (c.in_ok-present.ensures, c.new.ensures) (zeros_room _ _ (size_given c.args.weights.now c.args.edges.now))
 
 pub invariant_of-result-clause-proper : goal.invariant_of-result-clause-proper
-invariant_of-result-clause-proper c = rows_proper c.args.weights.now c.args.edges.now c.requires.square c.requires.constants _ (rw c.new.ensures at c.in_ok-gather.ensures)
+invariant_of-result-clause-proper c = rows_proper c.args.weights.now c.args.edges.now c.requires.square c.requires.constants _
+    (rw c.new.ensures at c.in_ok-gather.ensures)
 
 pub invariant_of-result-clause-sound : goal.invariant_of-result-clause-sound
-invariant_of-result-clause-sound c = rows_sound c.args.weights.now c.args.edges.now c.requires.square c.requires.constants _ (rw c.new.ensures at c.in_ok-gather.ensures) c.requires.sound
+invariant_of-result-clause-sound c = rows_sound c.args.weights.now c.args.edges.now c.requires.square c.requires.constants _
+    (rw c.new.ensures at c.in_ok-gather.ensures) c.requires.sound
 
 pub invariant_of-result-clause-room : goal.invariant_of-result-clause-room
-invariant_of-result-clause-room c = rw c.in_ok-next.ensures (zeros_room _ _ (rows_count c.args.weights.now c.args.edges.now c.requires.square c.requires.constants _ (rw c.new.ensures at c.in_ok-gather.ensures)))
+invariant_of-result-clause-room c = rw c.in_ok-next.ensures
+    (zeros_room _ _ (rows_count c.args.weights.now c.args.edges.now c.requires.square c.requires.constants _ (rw c.new.ensures at c.in_ok-gather.ensures)))
 
 pub invariant_of-result-clause-spare_room : goal.invariant_of-result-clause-spare_room
 invariant_of-result-clause-spare_room c =

@@ -15,14 +15,23 @@ invariant_of-result-clause-whole c =
     let k = content c.args.case.now in
     ∣ record {
       content = at_level k c.args.level;
-      is_trial = opened_trial (at_level k c.args.level) _ (valid_at k c.args.level (subst IsUnstaged (sym c.single_p_values-single.ensures.inputs) tt) c.args.case.now.valid c.requires.level) (c.single_p_values-single.ensures.inputs ∙ ap Single (sym (c.in_ok-append.ensures.appended ∙ ap (λ xs. xs ++ c.single_p_values-single.result.now) c.new-p_values.ensures))) refl c.in_ok-rejected.ensures.items (opening_at k c.args.level ∙ c.in_ok-net.ensures.opened);
+      is_trial = opened_trial (at_level k c.args.level) _
+          (valid_at k c.args.level (subst IsUnstaged (sym c.single_p_values-single.ensures.inputs) tt) c.args.case.now.valid c.requires.level)
+          (c.single_p_values-single.ensures.inputs ∙ ap Single
+          (sym (c.in_ok-append.ensures.appended ∙ ap (λ xs. xs ++ c.single_p_values-single.result.now) c.new-p_values.ensures))) refl
+          c.in_ok-rejected.ensures.items (opening_at k c.args.level ∙ c.in_ok-net.ensures.opened);
     } ∣₁
 
 pub invariant_of-result-clause-passing : goal.invariant_of-result-clause-passing
-invariant_of-result-clause-passing c = subst (λ ps. AreThresholds ps c.args.level c.in_ok-thresholds.thresholds) (sym (c.in_ok-append.ensures.appended ∙ ap (λ xs. xs ++ c.single_p_values-single.result.now) c.new-p_values.ensures)) c.in_ok-thresholds.ensures
+invariant_of-result-clause-passing c = subst (λ ps. AreThresholds ps c.args.level c.in_ok-thresholds.thresholds)
+    (sym (c.in_ok-append.ensures.appended ∙ ap (λ xs. xs ++ c.single_p_values-single.result.now) c.new-p_values.ensures)) c.in_ok-thresholds.ensures
 
 pub returns-clause-trial : goal.returns-clause-trial
 unfolding trial
 returns-clause-trial c =
     let k = content c.args.case.now in
-    opened_trial (at_level k c.args.level) _ (valid_at k c.args.level (subst IsUnstaged (sym c.single_p_values-single.ensures.inputs) tt) c.args.case.now.valid c.requires.level) (c.single_p_values-single.ensures.inputs ∙ ap Single (sym (c.in_ok-append.ensures.appended ∙ ap (λ xs. xs ++ c.single_p_values-single.result.now) c.new-p_values.ensures))) refl c.in_ok-rejected.ensures.items (opening_at k c.args.level ∙ c.in_ok-net.ensures.opened)
+    opened_trial (at_level k c.args.level) _
+    (valid_at k c.args.level (subst IsUnstaged (sym c.single_p_values-single.ensures.inputs) tt) c.args.case.now.valid c.requires.level)
+    (c.single_p_values-single.ensures.inputs ∙ ap Single
+    (sym (c.in_ok-append.ensures.appended ∙ ap (λ xs. xs ++ c.single_p_values-single.result.now) c.new-p_values.ensures))) refl
+    c.in_ok-rejected.ensures.items (opening_at k c.args.level ∙ c.in_ok-net.ensures.opened)

@@ -8,7 +8,8 @@ pub returns-in-None-clause-step : goal.returns-in-None-clause-step
 returns-in-None-clause-step c =
     let t = trial c.args.self.now in
     record {
-      choice = λ k T. ratio_choice k t T None (subst (IsLegalChoice t) c.in-None.is c.in_ok-least_legal_ratio.ensures.choice) c.in_ok-least_legal_ratio.ensures.defined;
+      choice = λ k T. ratio_choice k t T None
+          (subst (IsLegalChoice t) c.in-None.is c.in_ok-least_legal_ratio.ensures.choice) c.in_ok-least_legal_ratio.ensures.defined;
       same = refl;
       defined = c.in_ok-least_legal_ratio.ensures.defined;
     }
@@ -34,7 +35,8 @@ returns-in-Err-clause-wide c =
     let t = trial c.args.self.now in
     inr (record {
       hypothesis = c.in-Some.candidate.hypothesis;
-      choice = λ k T. ratio_choice k t T (Some c.in-Some.candidate) (subst (IsLegalChoice t) c.in-Some.is c.in_ok-least_legal_ratio.ensures.choice) c.in_ok-least_legal_ratio.ensures.defined;
+      choice = λ k T. ratio_choice k t T (Some c.in-Some.candidate)
+          (subst (IsLegalChoice t) c.in-Some.is c.in_ok-least_legal_ratio.ensures.choice) c.in_ok-least_legal_ratio.ensures.defined;
       defined = c.in_ok-least_legal_ratio.ensures.defined;
       refused = c.in-Err.ensures.wide;
     })

@@ -10,5 +10,6 @@ unfolding trial
 returns c =
     let t = c.args.self.now in
     let within = subst (λ n. c.args.j < n) (sym t.passing.count) c.requires in
-    let here = item_is t.thresholds c.args.j c.index-as_slice-j.result within (c.index-as_slice-j.is ∙ ap (λ xs. get_or xs c.args.j c.index-as_slice-j.result) c.as_slice.ensures) in
+    let here = item_is t.thresholds c.args.j c.index-as_slice-j.result within
+    (c.index-as_slice-j.is ∙ ap (λ xs. get_or xs c.args.j c.index-as_slice-j.result) c.as_slice.ensures) in
     ap (λ x. number_of x *ε number_of t.alpha) (sym here) ∙ t.passing.each c.args.j c.requires

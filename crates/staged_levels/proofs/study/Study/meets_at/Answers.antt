@@ -14,7 +14,8 @@ unfolding study
 meets-requires-clause-spend c =
     let t = c.args.self.now in
     let e : c.index-as_slice-k.result ≡ spend_at t.spends c.args.k
-    = c.index-as_slice-k.is ∙ ap (λ xs. get_or xs c.args.k c.index-as_slice-k.result) c.as_slice.ensures ∙ get_or_default t.spends c.args.k c.index-as_slice-k.result (Shares []) c.requires.below in
+    = c.index-as_slice-k.is ∙ ap (λ xs. get_or xs c.args.k c.index-as_slice-k.result) c.as_slice.ensures
+    ∙ get_or_default t.spends c.args.k c.index-as_slice-k.result (Shares []) c.requires.below in
     subst (λ s. has_short_fractions s ≡ true) (sym e) (any_spend (study t) t.whole c.args.k)
 
 pub meets-requires-clause-alpha : goal.meets-requires-clause-alpha
@@ -30,7 +31,8 @@ unfolding study
 returns-in-Some c =
     let t = c.args.self.now in
     let e : c.index-as_slice-k.result ≡ spend_at t.spends c.args.k
-    = c.index-as_slice-k.is ∙ ap (λ xs. get_or xs c.args.k c.index-as_slice-k.result) c.as_slice.ensures ∙ get_or_default t.spends c.args.k c.index-as_slice-k.result (Shares []) c.requires.below in
+    = c.index-as_slice-k.is ∙ ap (λ xs. get_or xs c.args.k c.index-as_slice-k.result) c.as_slice.ensures
+    ∙ get_or_default t.spends c.args.k c.index-as_slice-k.result (Shares []) c.requires.below in
     let u = number_of c.args.weight.now in
     let m = meets_found (study t) t.whole c.args.k c.args.t u c.in-Some.p (sym c.value_at.ensures ∙ c.in-Some.is) in (
       λ h. m.0 (subst (λ s. Meets s (number_of t.alpha) c.args.t u (number_of c.in-Some.p)) e (c.meets.ensures.0 h)),

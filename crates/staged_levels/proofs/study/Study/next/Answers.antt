@@ -19,4 +19,5 @@ loop-k-preserved c = λ k T j h. elim (at_or_below j c.loop-k.k (omega (arith, h
 
 pub returns-clause-none : goal.returns-clause-none
 unfolding study
-returns-clause-none c = λ e k T j r. let b = legal_below k (study c.args.self.now) T j r in let end = c.loop-k-test.false in c.loop-k.invariant k T j (omega (arith, b, end)) r
+returns-clause-none c = λ e k T j r. let b = legal_below k (study c.args.self.now) T j r in let end =
+    c.loop-k-test.false in c.loop-k.invariant k T j (omega (arith, b, end)) r

@@ -10,13 +10,20 @@ unfolding study
 invariant_of-result-clause-whole c =
     let k = content c.args.case.now in
     let size : length k.names ≡ length c.in_ok-spends.spends = sym c.stages_of-stages.ensures.spends ∙ ap length (sym c.in_ok-spends.ensures) in
-    ∣ record { content = k; is_study = opened_study k _ c.args.case.now.valid (ap₂ (λ vs rs. record { values = vs; rejected = rs }) c.in_ok-values.ensures.items c.in_ok-settled.ensures.items) size (ap spends_in c.stages_of-stages.ensures.inputs ∙ sym c.in_ok-spends.ensures) (ap stages_in c.stages_of-stages.ensures.inputs ∙ sym c.count-2.ensures) (sym c.alpha.ensures.alpha) c.in_ok-net.ensures.opened } ∣₁
+    ∣ record {
+      content = k;
+      is_study = opened_study k _ c.args.case.now.valid
+          (ap₂ (λ vs rs. record { values = vs; rejected = rs }) c.in_ok-values.ensures.items c.in_ok-settled.ensures.items) size
+          (ap spends_in c.stages_of-stages.ensures.inputs ∙ sym c.in_ok-spends.ensures)
+          (ap stages_in c.stages_of-stages.ensures.inputs ∙ sym c.count-2.ensures) (sym c.alpha.ensures.alpha) c.in_ok-net.ensures.opened;
+    } ∣₁
 
 pub invariant_of-result-clause-value_room : goal.invariant_of-result-clause-value_room
 invariant_of-result-clause-value_room c =
     let k = content c.args.case.now in
     let size : length k.names ≡ length c.in_ok-spends.spends = sym c.stages_of-stages.ensures.spends ∙ ap length (sym c.in_ok-spends.ensures) in
-    subst₂ (λ a b. a * b ≤ vec_capacity c.in_ok-values.values) (c.count.ensures ∙ sym c.count-2.ensures) (c.size-size.ensures.count ∙ size) c.in_ok-values.ensures.capacity
+    subst₂ (λ a b. a * b ≤ vec_capacity c.in_ok-values.values) (c.count.ensures ∙ sym c.count-2.ensures)
+    (c.size-size.ensures.count ∙ size) c.in_ok-values.ensures.capacity
 
 pub invariant_of-result-clause-room : goal.invariant_of-result-clause-room
 invariant_of-result-clause-room c =
@@ -29,4 +36,6 @@ unfolding study
 returns-clause-study c =
     let k = content c.args.case.now in
     let size : length k.names ≡ length c.in_ok-spends.spends = sym c.stages_of-stages.ensures.spends ∙ ap length (sym c.in_ok-spends.ensures) in
-    opened_study k _ c.args.case.now.valid (ap₂ (λ vs rs. record { values = vs; rejected = rs }) c.in_ok-values.ensures.items c.in_ok-settled.ensures.items) size (ap spends_in c.stages_of-stages.ensures.inputs ∙ sym c.in_ok-spends.ensures) (ap stages_in c.stages_of-stages.ensures.inputs ∙ sym c.count-2.ensures) (sym c.alpha.ensures.alpha) c.in_ok-net.ensures.opened
+    opened_study k _ c.args.case.now.valid (ap₂ (λ vs rs. record { values = vs; rejected = rs }) c.in_ok-values.ensures.items c.in_ok-settled.ensures.items)
+    size (ap spends_in c.stages_of-stages.ensures.inputs ∙ sym c.in_ok-spends.ensures)
+    (ap stages_in c.stages_of-stages.ensures.inputs ∙ sym c.count-2.ensures) (sym c.alpha.ensures.alpha) c.in_ok-net.ensures.opened

@@ -4,5 +4,6 @@ use Rattle.study_register.proofs.register.Register.add.Goals as goal
 
 pub returns-in-Err-clause-fault : goal.returns-in-Err-clause-fault
 returns-in-Err-clause-fault g c = λ k T.
-    appending_fault k (study c.args.self.now.study).looks (study c.take.new.current).looks c.args.look.now (g.K.Keeper.faults c.args.keeper.now) (g.K.Keeper.faults c.append.new.self) c.in-Err.fault c.from.result
+    appending_fault k (study c.args.self.now.study).looks (study c.take.new.current).looks c.args.look.now (g.K.Keeper.faults c.args.keeper.now)
+    (g.K.Keeper.faults c.append.new.self) c.in-Err.fault c.from.result
     c.from.ensures (c.in-Ok.ensures.taken k T) c.in-Err.ensures.cause.cause

@@ -14,7 +14,8 @@ returns-in_err-load-clause-fault g c =
     let before = g.K.Keeper.faults c.args.keeper.now in
     let now = g.K.Keeper.faults c.load.new.self in
     let opened = opened_defined k (study c.in_ok-study.study) c.in_ok-study.ensures.study c.in_ok-study.ensures.start in
-    handed_on _ (IsRegisterFault k (g.K.Keeper.looks c.args.keeper.now) (Rose before now)) (of_loading c.in_err-load.field-0.0) c.from_residual-in_err-load.ensures.1
+    handed_on _ (IsRegisterFault k (g.K.Keeper.looks c.args.keeper.now) (Rose before now))
+    (of_loading c.in_err-load.field-0.0) c.from_residual-in_err-load.ensures.1
     (loading_fault k (g.K.Keeper.looks c.args.keeper.now) before now c.in_err-load.field-0.0 opened c.in_err-load.ensures.cause.cause)
 
 pub returns-in_err-follow-clause-fault : goal.returns-in_err-follow-clause-fault
@@ -25,7 +26,8 @@ returns-in_err-follow-clause-fault g c =
     let L = c.in_ok-load.ensures.loaded in
     let looks : c.as_slice.result.now ≡ L.0 = c.as_slice.ensures ∙ L.1 ∙ ap (λ xs. xs ++ L.0) c.new-looks.ensures in
     let opened = opened_defined k (study c.in_ok-study.study) c.in_ok-study.ensures.study c.in_ok-study.ensures.start in
-    let first = subst₂ (λ s ls. IsFirstStop k s 1 ls c.in_err-follow.field-0.0) c.in_ok-study.ensures.start looks (c.in_err-follow.ensures.fault k c.in_ok-study.ensures.study) in
+    let first = subst₂ (λ s ls. IsFirstStop k s 1 ls c.in_err-follow.field-0.0) c.in_ok-study.ensures.start looks
+    (c.in_err-follow.ensures.fault k c.in_ok-study.ensures.study) in
     handed_on _ (IsRegisterFault k kept rose) c.in_err-follow.field-0.0 c.from_residual-in_err-follow.ensures.1
     (stopped_fault k kept rose L.0 L.2 c.in_err-follow.field-0.0 (record { opened = opened; first = first }))
 
@@ -37,7 +39,8 @@ returns-clause-taken g c =
       L.0,
       record {
         opened = opened_defined k (study c.in_ok-study.study) c.in_ok-study.ensures.study c.in_ok-study.ensures.start;
-        follows = subst₂ (λ s ls. Follows k s ls (study c.follow.new.current).looks) c.in_ok-study.ensures.start looks (c.in_ok-follow.ensures.followed k c.in_ok-study.ensures.study);
+        follows = subst₂ (λ s ls. Follows k s ls (study c.follow.new.current).looks) c.in_ok-study.ensures.start looks
+            (c.in_ok-follow.ensures.followed k c.in_ok-study.ensures.study);
       },
       L.2,
     )
@@ -45,9 +48,11 @@ returns-clause-taken g c =
 pub returns-in_err-load-clause-steady : goal.returns-in_err-load-clause-steady
 returns-in_err-load-clause-steady g c =
     let same = g.K.Keeper.faults c.load.new.self ≡ g.K.Keeper.faults c.args.keeper.now in
-    handed_on _ (IfLooksRefused same) (of_loading c.in_err-load.field-0.0) c.from_residual-in_err-load.ensures.1 (loading_refuses_none same c.in_err-load.field-0.0)
+    handed_on _ (IfLooksRefused same) (of_loading c.in_err-load.field-0.0) c.from_residual-in_err-load.ensures.1
+    (loading_refuses_none same c.in_err-load.field-0.0)
 
 pub returns-in_err-follow-clause-steady : goal.returns-in_err-follow-clause-steady
 returns-in_err-follow-clause-steady g c =
     let same = g.K.Keeper.faults c.load.new.self ≡ g.K.Keeper.faults c.args.keeper.now in
-    handed_on _ (IfLooksRefused same) c.in_err-follow.field-0.0 c.from_residual-in_err-follow.ensures.1 (refused_too same c.in_err-follow.field-0.0 c.in_ok-load.ensures.cause.cause)
+    handed_on _ (IfLooksRefused same) c.in_err-follow.field-0.0 c.from_residual-in_err-follow.ensures.1
+    (refused_too same c.in_err-follow.field-0.0 c.in_ok-load.ensures.cause.cause)
