@@ -17,13 +17,13 @@ use Rattle.answers.specs.Runs.{IsPut, Runs, Finished, Concluded}
 use Rattle.graph_io.specs.Writing.{AppendsPrefix}
 use Rattle.answers.specs.Stages.{Stage, IsAnswerOf}
 
-cause_low : (c : Cause) → (cause_code c ≤ 5) × (1 ≤ cause_code c)
+pub cause_low : (c : Cause) → (cause_code c ≤ 5) × (1 ≤ cause_code c)
 cause_low Usage = (omega arith, omega arith)
 cause_low Malformed = (omega arith, omega arith)
 cause_low Limit = (omega arith, omega arith)
 cause_low TooWide = (omega arith, omega arith)
 
-status_low : (s : Status) → status_code s ≤ 5
+pub status_low : (s : Status) → status_code s ≤ 5
 status_low statuses.Done = omega arith
 status_low statuses.No = omega arith
 status_low (statuses.Refused c) = (cause_low c).0

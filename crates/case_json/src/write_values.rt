@@ -3,11 +3,12 @@ ghost use Rattle.std.specs.Prelude.{◌≡◌, ◌<◌, ◌≤◌, ◌*◌, ◌+
 ghost use Rattle.serde_json.specs.Data.{string};
 ghost use Rattle.serde_json.specs.View.{view};
 ghost use Rattle.edge_expression.specs.EntryTexts.{entry_text};
-ghost use Rattle.edge_text.specs.CanonicalText.{name_at, is_zero_at, is_absent};
+ghost use Rattle.edge_text.specs.CanonicalText.{name_at};
 ghost use Rattle.case_json.specs.Written.{AreTexts, array_of, number_value, numbers_value, edge_value, edge_values_at, table_values};
 
 use case_model::Entry;
 use edge_expression::print_entry;
+use edge_text::is_absent;
 use field_core::{List, NoMemory, Number, Text};
 use fraction::Fraction;
 use serde_json::{Map, Value, put};
@@ -93,26 +94,6 @@ fn edge(
     put(&mut members, alloc, "to", to)?;
     put(&mut members, alloc, "weight", weight)?;
     Ok(Value::Object(members))
-}
-
-/// Whether the coefficient of a power of epsilon is 0.
-fn is_zero_at(entry: &Entry, power: usize) -> bool
-    requires { power ≤ 4 }
-    ensures { result ≡ is_zero_at entry.now power }
-{
-    entry.coefficient(power).is_zero()
-}
-
-/// Whether each coefficient of an edge is 0.
-#[tactic(auto, unfolding(edge_text::specs::CanonicalText::is_absent))]
-fn is_absent(entry: &Entry) -> bool
-    ensures { result ≡ is_absent entry.now }
-{
-    is_zero_at(entry, 0)
-        && is_zero_at(entry, 1)
-        && is_zero_at(entry, 2)
-        && is_zero_at(entry, 3)
-        && is_zero_at(entry, 4)
 }
 
 /// Appends the edge at a place of a table, row by row, where it isn't 0.

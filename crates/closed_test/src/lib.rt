@@ -24,5 +24,5 @@ pub use closed::closed_answers;
 pub use fault::ClosedFault;
 pub use order::sets_in_order;
 pub use path::Path;
-pub use table::{ClosedTable, single_p_values};
+pub use table::ClosedTable;
 pub use weights::WeightTable;

@@ -1,7 +1,6 @@
 //! The local test and the closed test of all sets.
 ghost use Rattle.std.specs.Prelude.{◌≡◌, ◌<◌, ◌^◌, ◌↔◌, true, length, IfOk, IsTrue};
 ghost use Rattle.std.specs.List.{list_all};
-ghost use Rattle.case_model.specs.declared.inputs.Inputs.TheVariants.{Single};
 ghost use Rattle.case_model.specs.Draft.{is_level, is_p_value};
 ghost use Rattle.case_model.specs.CaseView.{content};
 ghost use Rattle.case_model.specs.SetTableView.{table_size, answer_of};
@@ -12,9 +11,10 @@ ghost use Rattle.closed_test.specs.WeightsView.{weights_size, weight_at};
 ghost use Rattle.closed_test.specs.Passing.{HasPassing};
 
 use crate::{ClosedFault, WeightTable, closed_answers};
-use case_model::{Case, Inputs, SetTable, holds, passes};
+use case_model::{Case, SetTable, holds, passes};
 use field_core::NoMemory;
 use fraction::Fraction;
+use sequential::single_p_values;
 use std::alloc::Global;
 
 /// What the local test and the closed test say of each set of the hypotheses of a case, of which there are at most 16.
@@ -25,19 +25,6 @@ pub struct ClosedTable {
     closed: SetTable,
     ghost local_size: { table_size local ≡ weights_size weights },
     ghost closed_size: { table_size closed ≡ weights_size weights },
-}
-
-/// The p-values of a case that has one for each hypothesis.
-pub fn single_p_values(case: &Case) -> &[Fraction]
-    requires { IsSingle (content case.now).inputs }
-    ensures inputs { (content case.now).inputs ≡ Single result.now }
-    ensures count { length result.now ≡ length (content case.now).names }
-    ensures p_values { list_all is_p_value result.now ≡ true }
-{
-    match case.inputs() {
-        Inputs::Single(p_values) => p_values.as_slice(),
-        _ => unreachable!(),
-    }
 }
 
 /// Whether the p-value of some member of a set passes at its weight there.

@@ -17,11 +17,11 @@
 //! case.
 #![tactic(auto)]
 
-mod document;
+mod draft_lines;
 mod ends;
 mod fault;
 pub mod laws;
-mod read;
+mod read_text;
 mod reading;
 mod rules;
 mod spend_words;
@@ -31,8 +31,8 @@ mod write_words;
 
 pub use edge_expression::{ExprFault, print_entry, read_entry};
 pub use fault::{LineKind, TextFault};
-pub use read::read_text;
-pub use write::write_text;
+pub use read_text::read_text;
+pub use write::{is_absent, write_text};
 
 #[cfg(test)]
 mod tests;

@@ -1,5 +1,5 @@
 //! Texts by hand: those with a line that can't stand, those whose drafts are refused, and those that say cases.
-use crate::document::draft;
+use crate::draft_lines::draft;
 use crate::vectors::{
     CASES, ENDED, ENTANGLED, EXPRESSIONS, Edge, Held, HeldComponent, HeldSpend, HeldStages,
     NUMBERS, ORDER, REFUSED, RefusedText, STAGED, Terms, UNEXPECTED, UNKNOWN_NAMES, WHOLE,

@@ -80,7 +80,7 @@ fn is_zero_at(entry: &Entry, power: usize) -> bool
 
 /// Whether each coefficient of an edge is 0.
 #[tactic(auto, unfolding(crate::specs::CanonicalText::is_absent))]
-fn is_absent(entry: &Entry) -> bool
+pub fn is_absent(entry: &Entry) -> bool
     ensures { result ≡ is_absent entry.now }
 {
     is_zero_at(entry, 0)

@@ -4,8 +4,8 @@ ghost use Rattle.field_core.specs.View.{terms};
 ghost use Rattle.entangled.specs.Bundled.{IsBundle};
 
 use crate::OpenFault;
+use crate::all_nets::{commit_all, prepare_all, set_all};
 use crate::levels::{levels, write_next_levels};
-use crate::together::{commit_all, prepare_all, set_all};
 use field_core::{List, WideAt};
 use fraction::Fraction;
 use removal::Remover;

@@ -15,7 +15,7 @@ ghost use Rattle.evidence.specs.EvidenceText.{form_text, forms_text};
 use case_model::Case;
 use case_numbers::CaseNumber;
 use eps_quotient::EpsQuotient;
-use evidence_check::{Evidence, KeepProof, ProofStep, Quantity, Steps};
+use evidence_check::{Evidence, KeepProof, ProofStep, Quantity, Steps, keyword};
 use field_core::{List, NoMemory};
 use fraction::Fraction;
 use std::alloc::Global;
@@ -38,16 +38,6 @@ impl WrittenNumber for EpsQuotient {
     fn put(&self, text: &mut List<u8>) -> Result<(), NoMemory> {
         text.push(b' ')?;
         self.print(text)
-    }
-}
-
-/// The first word of the line of a number.
-fn keyword(quantity: Quantity) -> &'static [u8]
-    ensures { result.now ≡ keyword quantity }
-{
-    match quantity {
-        Quantity::Flow => b"flow".as_slice(),
-        Quantity::Exit => b"exit".as_slice(),
     }
 }
 

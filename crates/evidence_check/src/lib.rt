@@ -35,7 +35,7 @@ pub use checker::check;
 pub use evidence::{Evidence, KeepProof, ProofStep, Steps};
 pub use fault::{ProofKind, ProofText};
 pub use fitting::fits;
-pub use quantity::Quantity;
+pub use quantity::{Quantity, keyword};
 pub use reader::read;
 pub use verdict::{CheckWide, Reason, Verdict};
 

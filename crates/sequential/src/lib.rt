@@ -25,4 +25,4 @@ mod trial;
 pub use decision::{Decision, RatioStep, StepLine, decide};
 pub use fault::{DecideFault, RejectFault};
 pub use priority::Priority;
-pub use trial::{Trial, is_single};
+pub use trial::{Trial, is_single, single_p_values};

@@ -8,9 +8,9 @@ ghost use Rattle.simes_test.specs.Leaders.{AreLeaders};
 ghost use Rattle.simes_test.specs.Ranking.{by_position, position_of};
 
 use case_model::Case;
-use closed_test::single_p_values;
 use field_core::{List, NoMemory};
 use fraction::Fraction;
+use sequential::single_p_values;
 use std::alloc::{AllocError, Global};
 
 /// A hypothesis, ordered by its p-value, and by its position among equal ones.

@@ -11,7 +11,8 @@ ghost use Rattle.simes_test.specs.SimesFaults.{IsSimesFault};
 use crate::SimesFault;
 use crate::set_test::is_rejected;
 use case_model::{Case, SetTable};
-use closed_test::{Path, WeightTable, closed_answers, single_p_values};
+use closed_test::{Path, WeightTable, closed_answers};
+use sequential::single_p_values;
 use std::alloc::Global;
 
 /// What Simes' test and its closed test say of each set of the hypotheses of a case, of which there are at most 16.

@@ -76,8 +76,8 @@ fn arrive(current: &mut Study, arrival: &Arrival)
     }
 }
 
-/// What is behind the first `n` rejections.
-fn behind(settled: &[Settled], n: usize) -> &[Settled]
+/// The rejections behind the first `n`.
+pub fn behind(settled: &[Settled], n: usize) -> &[Settled]
     requires { n ≤ length settled.now }
     ensures { result.now ≡ drop n settled.now }
 {

@@ -4,7 +4,8 @@
 //! - `Study`: `open` (`study`, `start`, `fault`), `step` (an arrival or a rejection: `study`, `call`, `fault`: each
 //!   refusal exactly with its cause; `refused`: nothing is changed then), `settle` (`study`, `call`, `fault`: it
 //!   rejects the first legal hypothesis until none is legal; after a refusal the rejections before it stay),
-//!   `settled` (`value`, `sound`, `complete`), `weight_limit`. All memory is taken in `open`.
+//!   `settled` (`value`, `sound`, `complete`), `weight_limit`. All memory is taken in `open`. `behind`, the rejections
+//!   behind the first of them.
 //! - `looks` (`looks`, `fault`): a study of a case, settled after each of its arrivals.
 //! - Laws in `src/laws.rt`, over every list of calls: the rejections are a legal order on the values that have
 //!   arrived, and the staged closed test rejects each (`studies_reject_by_the_staged_test`); once a study is settled
@@ -20,6 +21,6 @@ mod event;
 pub mod laws;
 mod study;
 
-pub use case_looks::{LooksFault, looks};
+pub use case_looks::{LooksFault, behind, looks};
 pub use event::{Event, SettleFault, Settled, StepFault};
 pub use study::{Study, is_staged};

@@ -22,17 +22,7 @@ use Rattle.study_answers.specs.StudyRuns.{keeper_fault, IsConcluded, IsEndOf, Is
 use Rattle.study_answers.specs.StudyStages.{StudyEnd}
 use Rattle.study_answers.proofs.Looks.{with_none}
 use Rattle.std.proofs.Common.{sym, ◌∙◌}
-
-cause_low : (c : Cause) → (cause_code c ≤ 5) × (1 ≤ cause_code c)
-cause_low Usage = (omega arith, omega arith)
-cause_low Malformed = (omega arith, omega arith)
-cause_low Limit = (omega arith, omega arith)
-cause_low TooWide = (omega arith, omega arith)
-
-status_low : (s : Status) → status_code s ≤ 5
-status_low statuses.Done = omega arith
-status_low statuses.No = omega arith
-status_low (statuses.Refused c) = (cause_low c).0
+use Rattle.answers.proofs.Endings.{cause_low, status_low}
 
 module _ (Outcome : Answer → List Look → Type 0) (May : List Look → Type 0) (rr kr wr clean ws : Type 0) (old new : Option (List ℕ))
     (kept held : Option (List Look)) (result : ℕ) where

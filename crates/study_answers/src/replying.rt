@@ -13,7 +13,7 @@ use case_model::Case;
 use field_core::{List, WideAt};
 use graph_io::{Keeper, Look};
 use report::{put_refused, put_shown, put_taken};
-use staged_levels::Settled;
+use staged_levels::behind;
 use std::alloc::Global;
 use study_commands::StudyCommand;
 use study_register::{AddFault, Register};
@@ -27,14 +27,6 @@ pub(crate) enum CommandStop {
     Fault,
     /// Memory ran out.
     NoMemory,
-}
-
-/// The rejections behind the first so many.
-fn behind(settled: &[Settled], n: usize) -> &[Settled]
-    requires { n ≤ length settled.now }
-    ensures { result.now ≡ drop n settled.now }
-{
-    &settled[n..]
 }
 
 /// Replies to the command of this number, which asks for a look.

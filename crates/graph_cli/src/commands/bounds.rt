@@ -12,7 +12,7 @@ ghost use Rattle.graph_cli.specs.Bounds.{bounds_stage};
 ghost use Rattle.graph_cli.specs.Sets.{IsWideSet};
 ghost use Rattle.graph_cli.specs.declared.kind.Kind.TheVariants.{Single};
 
-use crate::commands::sets::set_refusal;
+use crate::commands::set_faults::set_refusal;
 use answers::{Answer, Halt};
 use case_model::Case;
 use closed_test::ClosedTable;

@@ -8,7 +8,7 @@ ghost use Rattle.graph_cli.specs.Catalogue.{made_of};
 ghost use Rattle.graph_cli.specs.Sample.{sample_stage};
 ghost use Rattle.graph_cli.specs.declared.kind.Kind.TheVariants.{Single};
 
-use crate::commands::made::fault_refusal;
+use crate::commands::catalogue_faults::fault_refusal;
 use crate::commands::test::decided;
 use answers::{Answer, Halt};
 use case_model::Case;

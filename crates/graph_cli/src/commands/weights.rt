@@ -8,7 +8,7 @@ ghost use Rattle.closed_test.specs.WeightsView.{weights_size, weight_at};
 ghost use Rattle.graph_cli.specs.Sets.{IsWideSet};
 ghost use Rattle.graph_cli.specs.Weights.{weights_stage};
 
-use crate::commands::sets::set_refusal;
+use crate::commands::set_faults::set_refusal;
 use answers::{Answer, Halt};
 use case_model::Case;
 use closed_test::WeightTable;

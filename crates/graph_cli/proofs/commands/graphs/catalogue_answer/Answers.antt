@@ -1,9 +1,0 @@
-use Rattle.std.proofs.Common.{ap, ◌∙◌}
-use Rattle.answers.specs.Lines.{done}
-use Rattle.case_model.specs.CaseView.{content}
-use Rattle.graph_cli.specs.Graphs.{catalogue_stage}
-use Rattle.graph_cli.proofs.commands.graphs.catalogue_answer.Goals as goal
-
-pub returns-clause-given : goal.returns-clause-given
-unfolding catalogue_stage
-returns-clause-given c = (content c.in_ok-case.case, c.in_ok-case.ensures.given, c.done.ensures ∙ ap done c.in_ok-write_text.ensures.canonical)

@@ -1,0 +1,64 @@
+//! The command `catalogue`.
+ghost use Rattle.std.specs.Prelude.{◌≡◌, ◌⊎◌, IfOk, IfErr, Ok, Err};
+ghost use Rattle.answers.specs.Halts.{HaltsBy};
+ghost use Rattle.case_model.specs.CaseView.{content};
+ghost use Rattle.catalogue.specs.declared.fault.CatalogueFault.TheVariants.{NoMemory as OutOfMemory};
+ghost use Rattle.graph_cli.specs.Catalogue.{made_of};
+ghost use Rattle.graph_cli.specs.Graphs.{named_case, told_size, catalogue_stage};
+
+use crate::commands::catalogue_faults::fault_refusal;
+use answers::{Answer, Halt};
+use case_model::Case;
+use catalogue::{
+    CatalogueFault, equal_fallback, fixed_sequence, holm, improved_parallel, parallel, part,
+};
+use command_words::SizedGraph;
+use edge_text::write_text;
+use std::alloc::Global;
+
+/// How many hypotheses a graph has; 2^64 - 1 where they are more.
+fn told_size(graph: SizedGraph) -> u64
+    ensures { result ≡ told_size graph }
+{
+    match graph {
+        SizedGraph::Holm(n) | SizedGraph::FixedSequence(n) | SizedGraph::Fallback(n) => n,
+        SizedGraph::Parallel(a, b) | SizedGraph::ImprovedParallel(a, b) => a.saturating_add(b),
+    }
+}
+
+/// The case of a named graph, at the level 1/20 and without p-values.
+#[tactic(auto, unfolding(crate::specs::Graphs::named_case))]
+fn named_case(alloc: Global, graph: SizedGraph) -> Result<Case, CatalogueFault>
+    ensures case { IfOk result (λ c. named_case graph ≡ Ok (content c)) }
+    ensures fault { IfErr result (λ fault. (fault ≡ OutOfMemory) ⊎ (named_case graph ≡ Err fault)) }
+{
+    let alpha = part(20);
+    match graph {
+        SizedGraph::Holm(n) => holm(alloc, n, alpha, &[]),
+        SizedGraph::FixedSequence(n) => fixed_sequence(alloc, n, alpha, &[]),
+        SizedGraph::Fallback(n) => equal_fallback(alloc, n, alpha, &[]),
+        SizedGraph::Parallel(a, b) => parallel(alloc, a, b, alpha, &[]),
+        SizedGraph::ImprovedParallel(a, b) => improved_parallel(alloc, a, b, alpha, &[]),
+    }
+}
+
+/// The same; or the refusal of its sizes.
+fn named(alloc: Global, graph: SizedGraph) -> Result<Case, Halt>
+    ensures given { IfOk result (λ case. (made_of (told_size graph) (named_case graph)).Gives (content case)) }
+    ensures refused { IfErr result (HaltsBy (made_of (told_size graph) (named_case graph)).Refuses) }
+{
+    match named_case(alloc, graph) {
+        Ok(case) => Ok(case),
+        Err(fault) => Err(Halt::Refused(fault_refusal(alloc, told_size(graph), &fault)?)),
+    }
+}
+
+/// What `catalogue` answers: the canonical text of the case of a named graph.
+#[tactic(auto, unfolding(crate::specs::Graphs::catalogue_stage))]
+pub fn catalogue_answer(alloc: Global, graph: SizedGraph) -> Result<Answer, Halt>
+    ensures given { IfOk result (catalogue_stage graph).Gives }
+    ensures refused { IfErr result (HaltsBy (catalogue_stage graph).Refuses) }
+{
+    let case = named(alloc, graph)?;
+    Ok(Answer::done(write_text(alloc, &case)?))
+}
