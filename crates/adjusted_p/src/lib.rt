@@ -10,8 +10,6 @@
 mod adjusted;
 mod fault;
 pub mod laws;
-#[cfg(test)]
-mod tests;
 
 pub use adjusted::{Adjusted, adjust};
 pub use fault::AdjustFault;

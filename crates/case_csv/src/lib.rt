@@ -23,6 +23,3 @@ pub use edge_expression::ExprFault;
 pub use fault::{CsvFault, RowKind};
 pub use read::read_csv;
 pub use write::{fits_sheet, write_csv};
-
-#[cfg(test)]
-mod tests;

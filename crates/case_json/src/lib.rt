@@ -31,10 +31,3 @@ pub use edge_expression::ExprFault;
 pub use fault::JsonFault;
 pub use read::read_json;
 pub use write::write_json;
-
-#[cfg(test)]
-mod places;
-#[cfg(test)]
-mod tests;
-#[cfg(test)]
-mod vectors;

@@ -2,7 +2,7 @@
 ghost use Rattle.std.specs.Prelude.{◌≡◌, not};
 ghost use Rattle.field_core.specs.Arithmetic.{number_zero};
 ghost use Rattle.fraction.specs.View.{number_of};
-ghost use Rattle.case_model.specs.Draft.{at_most, is_unit, is_short_level, is_short, is_short_p_value, is_level_range};
+ghost use Rattle.case_model.specs.Draft.{at_most, is_unit, is_short_level, is_short, is_short_p_value, is_level_range, is_level, is_p_value};
 ghost use Rattle.case_model.specs.CaseFaults.{is_below_zero};
 
 use field_core::Number;
@@ -67,4 +67,20 @@ pub fn is_short_p_value(x: &Fraction) -> bool
     ensures { result ≡ is_short_p_value x.now }
 {
     x.ratio().den().unsigned_abs() <= 1_000_000_000_000_000_000_000_000_000_000
+}
+
+/// Whether `x` is a level: above 0, at most 1, with parts of at most 10,000.
+#[tactic(auto, unfolding(crate::specs::Draft::is_level))]
+pub fn is_level(x: &Fraction) -> bool
+    ensures { result ≡ is_level x.now }
+{
+    is_short_level(x) && is_level_range(x)
+}
+
+/// Whether `x` is a p-value: from 0 to 1, with a denominator of at most 10^30.
+#[tactic(auto, unfolding(crate::specs::Draft::is_p_value))]
+pub fn is_p_value(x: &Fraction) -> bool
+    ensures { result ≡ is_p_value x.now }
+{
+    is_short_p_value(x) && is_unit(x)
 }

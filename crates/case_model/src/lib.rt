@@ -55,6 +55,7 @@ pub use draft_edge::DraftEdge;
 pub use draft_stages::{Arrival, DraftStages};
 pub use entry::Entry;
 pub use fault::{CaseFault, PartPlace, Refused};
+pub use fraction_tests::{is_level, is_p_value, is_short_level};
 pub use inputs::{Inputs, Stages};
 pub use local_test::{least_weight, passes, passes_from};
 pub use name_index::NameIndex;
@@ -62,14 +63,3 @@ pub use set_table::SetTable;
 pub use sets::{added, dropped, holds};
 pub use spend::Spend;
 pub use spend_step::SpendStep;
-
-#[cfg(test)]
-mod samples;
-#[cfg(test)]
-mod stage_samples;
-#[cfg(test)]
-mod stage_tests;
-#[cfg(test)]
-mod tests;
-#[cfg(test)]
-mod vectors;

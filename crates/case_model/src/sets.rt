@@ -33,24 +33,3 @@ pub fn added(set: u32, k: usize) -> u32
 {
     set + (1 << k)
 }
-
-#[cfg(test)]
-mod tests {
-    use super::{added, dropped, holds};
-    use std::test::Fail;
-
-    #[test]
-    fn members_are_bits(rt: HostRuntime) -> Result<(), Fail> {
-        assert!(rt; holds(5, 0) && !holds(5, 1) && holds(5, 2) && !holds(5, 15));
-        Ok(())
-    }
-
-    #[test]
-    #[tactic(auto, unfolding(field_core::specs::NumberedSets::members))]
-    fn members_come_and_go(rt: HostRuntime) -> Result<(), Fail> {
-        assert_eq!(rt; dropped(5, 2), 1);
-        assert_eq!(rt; added(5, 1), 7);
-        assert_eq!(rt; added(5, 15), 32773);
-        Ok(())
-    }
-}

@@ -5,7 +5,5 @@
 #![tactic(auto)]
 
 mod case_number;
-#[cfg(test)]
-mod tests;
 
 pub use case_number::CaseNumber;

@@ -26,6 +26,3 @@ pub use fault::CatalogueFault;
 pub use gates::{improved_parallel, parallel};
 pub use quotient::part;
 pub use sample_case::sample;
-
-#[cfg(test)]
-mod tests;

@@ -15,8 +15,6 @@ mod fault;
 mod order;
 mod path;
 mod table;
-#[cfg(test)]
-mod tests;
 mod walk;
 mod weights;
 

@@ -14,8 +14,6 @@ mod given;
 mod graph_name;
 pub mod laws;
 mod reading;
-#[cfg(test)]
-mod tests;
 mod verb;
 mod word;
 

@@ -23,6 +23,3 @@ mod value_fault;
 pub use fault::ExprFault;
 pub use printing::print_entry;
 pub use reading::read_entry;
-
-#[cfg(test)]
-mod tests;

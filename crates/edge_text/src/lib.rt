@@ -29,12 +29,8 @@ mod write;
 mod write_stages;
 mod write_words;
 
+pub use draft_lines::draft;
 pub use edge_expression::{ExprFault, print_entry, read_entry};
 pub use fault::{LineKind, TextFault};
 pub use read_text::read_text;
 pub use write::{is_absent, write_text};
-
-#[cfg(test)]
-mod tests;
-#[cfg(test)]
-mod vectors;

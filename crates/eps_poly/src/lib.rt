@@ -19,6 +19,3 @@ mod products;
 mod quotients;
 
 pub use poly::EpsPoly;
-
-#[cfg(test)]
-mod tests;

@@ -20,6 +20,3 @@ mod read;
 mod written;
 
 pub use quotient::EpsQuotient;
-
-#[cfg(test)]
-mod tests;

@@ -20,8 +20,3 @@ mod writer;
 pub use fault::MakeFault;
 pub use maker::make;
 pub use writer::write;
-
-#[cfg(test)]
-mod tests;
-#[cfg(test)]
-mod written_tests;

@@ -38,10 +38,3 @@ pub use fitting::fits;
 pub use quantity::{Quantity, keyword};
 pub use reader::read;
 pub use verdict::{CheckWide, Reason, Verdict};
-
-#[cfg(test)]
-mod examples;
-#[cfg(test)]
-mod samples;
-#[cfg(test)]
-mod tests;

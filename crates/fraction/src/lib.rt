@@ -41,8 +41,3 @@ pub use decimal_machine::{DecimalPart, decimal_len};
 pub use fault::{FractionFault, NumberFault};
 pub use fraction::Fraction;
 pub use whole_numbers::{are_digits, whole_number};
-
-#[cfg(test)]
-mod tests;
-#[cfg(test)]
-mod vectors;

@@ -15,8 +15,6 @@ mod failing_sink;
 mod failing_source;
 mod faults;
 mod keeper;
-#[cfg(test)]
-mod keeper_tests;
 mod memory_keeper;
 mod memory_sink;
 mod memory_source;
@@ -24,8 +22,6 @@ mod plan;
 mod reading;
 mod remaining;
 mod room;
-#[cfg(test)]
-mod tests;
 mod writing;
 
 pub use adapters::{StdSink, StdSource};

@@ -11,8 +11,6 @@ mod needs;
 mod pieces;
 mod proof;
 mod record;
-#[cfg(test)]
-mod tests;
 mod text;
 mod wide;
 mod words;

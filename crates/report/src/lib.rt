@@ -16,8 +16,6 @@ mod simes;
 mod stages;
 mod study;
 mod test;
-#[cfg(test)]
-mod tests;
 mod weights;
 
 pub use bounds::bounds_text;

@@ -18,8 +18,6 @@ mod decision;
 mod fault;
 pub mod laws;
 mod priority;
-#[cfg(test)]
-mod tests;
 mod trial;
 
 pub use decision::{Decision, RatioStep, StepLine, decide};

@@ -17,8 +17,6 @@ mod ranking;
 mod set_test;
 mod sums;
 mod table;
-#[cfg(test)]
-mod tests;
 
 pub use fault::SimesFault;
 pub use ranking::leaders;

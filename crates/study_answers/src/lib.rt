@@ -14,8 +14,6 @@ mod ending;
 pub mod laws;
 mod replying;
 mod stop;
-#[cfg(test)]
-mod tests;
 
 pub use answer::study_answer;
 pub use ending::conclude_study;

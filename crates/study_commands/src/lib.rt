@@ -16,6 +16,3 @@ mod rules;
 pub use command::StudyCommand;
 pub use fault::CommandsFault;
 pub use reading::read_commands;
-
-#[cfg(test)]
-mod tests;

@@ -13,8 +13,6 @@ mod fault;
 pub mod laws;
 mod register;
 mod taking;
-#[cfg(test)]
-mod tests;
 
 pub use fault::{AddFault, RegisterFault};
 pub use register::Register;

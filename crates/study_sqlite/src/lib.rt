@@ -16,16 +16,12 @@
 
 mod fault;
 mod keeper;
-#[cfg(test)]
-mod keeper_tests;
 pub mod laws;
 mod printed;
 mod row;
 mod rows;
 mod storage;
-mod table;
-#[cfg(test)]
-mod tests;
+pub mod table;
 
 pub use fault::{FileFault, RowsFault};
 pub use keeper::SqliteKeeper;

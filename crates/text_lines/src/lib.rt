@@ -15,6 +15,3 @@ pub use blank::{after_blanks, is_blank};
 pub use line::Line;
 pub use lines::Lines;
 pub use words::Words;
-
-#[cfg(test)]
-mod tests;

@@ -1,0 +1,474 @@
+//! A fault of each kind in each place of a document, by hand.
+use case_json::ExprFault;
+use fraction::NumberFault;
+
+/// Bytes that are no JSON.
+pub const SYNTAX: [(&str, &str); 28] = [
+    ("nul", ""),
+    ("tru", ""),
+    ("NaN", ""),
+    ("+1", ""),
+    ("-", ""),
+    ("1.", ""),
+    (".5", ""),
+    ("1e", ""),
+    ("0x1", ""),
+    ("\"A", ""),
+    ("'A'", ""),
+    ("\"\\x41\"", ""),
+    ("\"\\u00\"", ""),
+    ("\"\\ud800\"", ""),
+    ("\"\n\"", ""),
+    ("\"\t\"", ""),
+    ("{\"alpha\" 1}", ""),
+    ("{\"alpha\":1 \"p\":[]}", ""),
+    ("{alpha:1}", ""),
+    ("{1:1}", ""),
+    ("{\"alpha\":}", ""),
+    ("{,}", ""),
+    ("[1,]", ""),
+    ("[1 2]", ""),
+    ("{\"alpha\":1}}", ""),
+    ("{}\0", ""),
+    ("\u{c}{}", ""),
+    ("// alpha\n{}", ""),
+];
+
+/// Values of the wrong kind up to the list of components.
+pub const OUTER_SHAPES: [(&str, &str); 17] = [
+    ("\"alpha\"", ""),
+    ("true", ""),
+    ("-7", ""),
+    ("{\"alpha\":[]}", "/alpha"),
+    ("{\"alpha\":{}}", "/alpha"),
+    ("{\"alpha\":false}", "/alpha"),
+    ("{\"alpha\":1,\"hypotheses\":null}", "/hypotheses"),
+    ("{\"alpha\":1,\"hypotheses\":{}}", "/hypotheses"),
+    ("{\"alpha\":1,\"hypotheses\":[\"A\",null]}", "/hypotheses/1"),
+    ("{\"alpha\":1,\"hypotheses\":[[\"A\"]]}", "/hypotheses/0"),
+    ("{\"alpha\":1,\"hypotheses\":[\"A\"],\"p\":{}}", "/p"),
+    ("{\"alpha\":1,\"hypotheses\":[\"A\"],\"p\":\"NA\"}", "/p"),
+    ("{\"alpha\":1,\"hypotheses\":[\"A\"],\"p\":[0,[]]}", "/p/1"),
+    (
+        "{\"alpha\":1,\"hypotheses\":[\"A\"],\"components\":null}",
+        "/components",
+    ),
+    (
+        "{\"alpha\":1,\"hypotheses\":[\"A\"],\"components\":\"A\"}",
+        "/components",
+    ),
+    (
+        "{\"alpha\":1,\"hypotheses\":[\"A\"],\"components\":[[]]}",
+        "/components/0",
+    ),
+    (
+        "{\"alpha\":1,\"hypotheses\":[\"A\"],\"components\":[null]}",
+        "/components/0",
+    ),
+];
+
+/// Values of the wrong kind in components and edges, keys that are missing, and unknown keys.
+pub const COMPONENT_SHAPES: [(&str, &str); 15] = [
+    (
+        "{\"alpha\":1,\"hypotheses\":[\"A\"],\"components\":[{\"share\":null,\"weights\":1}]}",
+        "/components/0/share",
+    ),
+    (
+        "{\"alpha\":1,\"hypotheses\":[\"A\"],\"components\":[{\"share\":[1],\"weights\":1}]}",
+        "/components/0/share",
+    ),
+    (
+        "{\"alpha\":1,\"hypotheses\":[\"A\"],\"components\":[{\"weights\":{},\"edges\":1}]}",
+        "/components/0/weights",
+    ),
+    (
+        "{\"alpha\":1,\"hypotheses\":[\"A\"],\"components\":[{\"weights\":[\"1\",true],\"edges\":1}]}",
+        "/components/0/weights/1",
+    ),
+    (
+        "{\"alpha\":1,\"hypotheses\":[\"A\"],\"components\":[{\"weights\":[1],\"edges\":null}]}",
+        "/components/0/edges",
+    ),
+    (
+        "{\"alpha\":1,\"hypotheses\":[\"A\"],\"components\":[{\"weights\":[1],\"edges\":{}}]}",
+        "/components/0/edges",
+    ),
+    (
+        "{\"alpha\":1,\"hypotheses\":[\"A\"],\"components\":[{\"weights\":[1],\"edges\":[null]}]}",
+        "/components/0/edges/0",
+    ),
+    (
+        "{\"alpha\":1,\"hypotheses\":[\"A\"],\"components\":[{\"weights\":[1],\"edges\":[[\"A\",\"A\",1]]}]}",
+        "/components/0/edges/0",
+    ),
+    (
+        "{\"alpha\":1,\"hypotheses\":[\"A\"],\"components\":[{\"weights\":[1],\"edges\":[{\"from\":null}]}]}",
+        "/components/0/edges/0/from",
+    ),
+    (
+        "{\"alpha\":1,\"hypotheses\":[\"A\"],\"components\":[{\"weights\":[1],\"edges\":[{\"from\":\"A\",\"weight\":1}]}]}",
+        "/components/0/edges/0/to",
+    ),
+    (
+        "{\"alpha\":1,\"hypotheses\":[\"A\"],\"components\":[{\"weights\":[1],\"edges\":[{\"from\":\"A\",\"to\":[\"A\"]}]}]}",
+        "/components/0/edges/0/to",
+    ),
+    (
+        "{\"alpha\":1,\"hypotheses\":[\"A\"],\"components\":[{\"weights\":[1],\"edges\":[{\"from\":\"A\",\"to\":\"A\"}]}]}",
+        "/components/0/edges/0/weight",
+    ),
+    (
+        "{\"alpha\":1,\"hypotheses\":[\"A\"],\"components\":[{\"weights\":[1],\"edges\":[{\"from\":\"A\",\"to\":\"A\",\"weight\":null}]}]}",
+        "/components/0/edges/0/weight",
+    ),
+    (
+        "{\"alpha\":1,\"hypotheses\":[\"A\"],\"components\":[{\"weights\":[1],\"edges\":[{\"from\":\"A\",\"to\":\"A\",\"weight\":[1]}]}]}",
+        "/components/0/edges/0/weight",
+    ),
+    (
+        "{\"alpha\":1,\"hypotheses\":[\"A\"],\"components\":[{\"weights\":[1],\"edges\":[]},{\"weights\":[1],\"edges\":[{\"from\":\"A\",\"to\":\"A\",\"weight\":0},{\"from\":\"A\",\"to\":\"A\",\"weight\":0,\"wait\":0}]}]}",
+        "/components/1/edges/1",
+    ),
+];
+
+/// The same of stages and of what is spent.
+pub const STAGE_SHAPES: [(&str, &str); 16] = [
+    (
+        "{\"alpha\":1,\"hypotheses\":[\"A\"],\"components\":[],\"stages\":[]}",
+        "/stages",
+    ),
+    (
+        "{\"alpha\":1,\"hypotheses\":[\"A\"],\"components\":[],\"stages\":{\"count\":1,\"spend\":[],\"arrivals\":[],\"table\":[]}}",
+        "/stages",
+    ),
+    (
+        "{\"alpha\":1,\"hypotheses\":[\"A\"],\"components\":[],\"stages\":{\"count\":null}}",
+        "/stages/count",
+    ),
+    (
+        "{\"alpha\":1,\"hypotheses\":[\"A\"],\"components\":[],\"stages\":{\"count\":[1]}}",
+        "/stages/count",
+    ),
+    (
+        "{\"alpha\":1,\"hypotheses\":[\"A\"],\"components\":[],\"stages\":{\"count\":1,\"spend\":{}}}",
+        "/stages/spend",
+    ),
+    (
+        "{\"alpha\":1,\"hypotheses\":[\"A\"],\"components\":[],\"stages\":{\"count\":1,\"spend\":[\"1\"],\"arrivals\":[]}}",
+        "/stages/spend/0",
+    ),
+    (
+        "{\"alpha\":1,\"hypotheses\":[\"A\"],\"components\":[],\"stages\":{\"count\":1,\"spend\":[[0],null],\"arrivals\":[]}}",
+        "/stages/spend/1",
+    ),
+    (
+        "{\"alpha\":1,\"hypotheses\":[\"A\"],\"components\":[],\"stages\":{\"count\":1,\"spend\":[[null]],\"arrivals\":[]}}",
+        "/stages/spend/0/0",
+    ),
+    (
+        "{\"alpha\":1,\"hypotheses\":[\"A\"],\"components\":[],\"stages\":{\"count\":1,\"spend\":[[0,[1]]],\"arrivals\":[]}}",
+        "/stages/spend/0/1",
+    ),
+    (
+        "{\"alpha\":1,\"hypotheses\":[\"A\"],\"components\":[],\"stages\":{\"count\":1,\"spend\":[[0],{\"steps\":null}],\"arrivals\":[]}}",
+        "/stages/spend/1/steps",
+    ),
+    (
+        "{\"alpha\":1,\"hypotheses\":[\"A\"],\"components\":[],\"stages\":{\"count\":1,\"spend\":[{\"steps\":[1]}],\"arrivals\":[]}}",
+        "/stages/spend/0/steps/0",
+    ),
+    (
+        "{\"alpha\":1,\"hypotheses\":[\"A\"],\"components\":[],\"stages\":{\"count\":1,\"spend\":[{\"steps\":[{\"from\":1,\"levels\":[0],\"to\":1}]}],\"arrivals\":[]}}",
+        "/stages/spend/0/steps/0",
+    ),
+    (
+        "{\"alpha\":1,\"hypotheses\":[\"A\"],\"components\":[],\"stages\":{\"count\":1,\"spend\":[{\"steps\":[{\"from\":null,\"levels\":0}]}],\"arrivals\":[]}}",
+        "/stages/spend/0/steps/0/from",
+    ),
+    (
+        "{\"alpha\":1,\"hypotheses\":[\"A\"],\"components\":[],\"stages\":{\"count\":1,\"spend\":[{\"steps\":[{\"from\":1}]}],\"arrivals\":[]}}",
+        "/stages/spend/0/steps/0/levels",
+    ),
+    (
+        "{\"alpha\":1,\"hypotheses\":[\"A\"],\"components\":[],\"stages\":{\"count\":1,\"spend\":[{\"steps\":[{\"from\":1,\"levels\":{}}]}],\"arrivals\":[]}}",
+        "/stages/spend/0/steps/0/levels",
+    ),
+    (
+        "{\"alpha\":1,\"hypotheses\":[\"A\"],\"components\":[],\"stages\":{\"count\":1,\"spend\":[{\"steps\":[{\"from\":1,\"levels\":[0]},{\"from\":1,\"levels\":[0,false]}]}],\"arrivals\":[]}}",
+        "/stages/spend/0/steps/1/levels/1",
+    ),
+];
+
+/// The same of arrivals.
+pub const ARRIVAL_SHAPES: [(&str, &str); 11] = [
+    (
+        "{\"alpha\":1,\"hypotheses\":[\"A\"],\"components\":[],\"stages\":{\"count\":1,\"spend\":[],\"arrivals\":null}}",
+        "/stages/arrivals",
+    ),
+    (
+        "{\"alpha\":1,\"hypotheses\":[\"A\"],\"components\":[],\"stages\":{\"count\":1,\"spend\":[],\"arrivals\":{}}}",
+        "/stages/arrivals",
+    ),
+    (
+        "{\"alpha\":1,\"hypotheses\":[\"A\"],\"components\":[],\"stages\":{\"count\":1,\"spend\":[],\"arrivals\":[1]}}",
+        "/stages/arrivals/0",
+    ),
+    (
+        "{\"alpha\":1,\"hypotheses\":[\"A\"],\"components\":[],\"stages\":{\"count\":1,\"spend\":[],\"arrivals\":[{\"hypothesis\":\"A\",\"stage\":1,\"p\":0,\"P\":0}]}}",
+        "/stages/arrivals/0",
+    ),
+    (
+        "{\"alpha\":1,\"hypotheses\":[\"A\"],\"components\":[],\"stages\":{\"count\":1,\"spend\":[],\"arrivals\":[{\"stage\":1,\"p\":0}]}}",
+        "/stages/arrivals/0/hypothesis",
+    ),
+    (
+        "{\"alpha\":1,\"hypotheses\":[\"A\"],\"components\":[],\"stages\":{\"count\":1,\"spend\":[],\"arrivals\":[{\"hypothesis\":0,\"stage\":{},\"p\":0}]}}",
+        "/stages/arrivals/0/hypothesis",
+    ),
+    (
+        "{\"alpha\":1,\"hypotheses\":[\"A\"],\"components\":[],\"stages\":{\"count\":1,\"spend\":[],\"arrivals\":[{\"hypothesis\":\"A\",\"p\":{}}]}}",
+        "/stages/arrivals/0/stage",
+    ),
+    (
+        "{\"alpha\":1,\"hypotheses\":[\"A\"],\"components\":[],\"stages\":{\"count\":1,\"spend\":[],\"arrivals\":[{\"hypothesis\":\"A\",\"stage\":\"1\",\"p\":0}]}}",
+        "/stages/arrivals/0/stage",
+    ),
+    (
+        "{\"alpha\":1,\"hypotheses\":[\"A\"],\"components\":[],\"stages\":{\"count\":1,\"spend\":[],\"arrivals\":[{\"hypothesis\":\"A\",\"stage\":-9223372036854775808,\"p\":0}]}}",
+        "/stages/arrivals/0/stage",
+    ),
+    (
+        "{\"alpha\":1,\"hypotheses\":[\"A\"],\"components\":[],\"stages\":{\"count\":1,\"spend\":[],\"arrivals\":[{\"hypothesis\":\"A\",\"stage\":1}]}}",
+        "/stages/arrivals/0/p",
+    ),
+    (
+        "{\"alpha\":1,\"hypotheses\":[\"A\"],\"components\":[],\"stages\":{\"count\":1,\"spend\":[],\"arrivals\":[{\"hypothesis\":\"A\",\"stage\":1,\"p\":0},{\"hypothesis\":\"A\",\"stage\":1,\"p\":null}]}}",
+        "/stages/arrivals/1/p",
+    ),
+];
+
+/// Numbers that are not held as integers of 64 bits.
+pub const NOT_WHOLE: [(&str, &str); 19] = [
+    ("{\"alpha\":1e0}", "/alpha"),
+    ("{\"alpha\":0.0}", "/alpha"),
+    ("{\"alpha\":-9223372036854775809}", "/alpha"),
+    ("{\"alpha\":9007199254740993.0}", "/alpha"),
+    ("{\"alpha\":1,\"hypotheses\":[\"A\"],\"p\":[-0]}", "/p/0"),
+    (
+        "{\"alpha\":1,\"hypotheses\":[\"A\"],\"p\":[0.5,\"x\"]}",
+        "/p/0",
+    ),
+    (
+        "{\"alpha\":1,\"hypotheses\":[\"A\"],\"components\":[{\"share\":18446744073709551616}]}",
+        "/components/0/share",
+    ),
+    (
+        "{\"alpha\":1,\"hypotheses\":[\"A\"],\"components\":[{\"weights\":[\"1\",0.5]}]}",
+        "/components/0/weights/1",
+    ),
+    (
+        "{\"alpha\":1,\"hypotheses\":[\"A\"],\"components\":[{\"weights\":[1],\"edges\":[{\"from\":\"A\",\"to\":\"A\",\"weight\":1.0}]}]}",
+        "/components/0/edges/0/weight",
+    ),
+    (
+        "{\"alpha\":1,\"hypotheses\":[\"A\"],\"components\":[{\"weights\":[1],\"edges\":[{\"from\":\"A\",\"to\":\"A\",\"weight\":18446744073709551616}]}]}",
+        "/components/0/edges/0/weight",
+    ),
+    (
+        "{\"alpha\":1,\"hypotheses\":[\"A\"],\"components\":[{\"weights\":[1],\"edges\":[{\"from\":\"A\",\"to\":\"A\",\"weight\":-9223372036854775809}]}]}",
+        "/components/0/edges/0/weight",
+    ),
+    (
+        "{\"alpha\":1,\"hypotheses\":[\"A\"],\"components\":[],\"stages\":{\"count\":1e1}}",
+        "/stages/count",
+    ),
+    (
+        "{\"alpha\":1,\"hypotheses\":[\"A\"],\"components\":[],\"stages\":{\"count\":18446744073709551616}}",
+        "/stages/count",
+    ),
+    (
+        "{\"alpha\":1,\"hypotheses\":[\"A\"],\"components\":[],\"stages\":{\"count\":-9223372036854775809}}",
+        "/stages/count",
+    ),
+    (
+        "{\"alpha\":1,\"hypotheses\":[\"A\"],\"components\":[],\"stages\":{\"count\":1,\"spend\":[[0,0.5]],\"arrivals\":[]}}",
+        "/stages/spend/0/1",
+    ),
+    (
+        "{\"alpha\":1,\"hypotheses\":[\"A\"],\"components\":[],\"stages\":{\"count\":1,\"spend\":[{\"steps\":[{\"from\":0.5}]}],\"arrivals\":[]}}",
+        "/stages/spend/0/steps/0/from",
+    ),
+    (
+        "{\"alpha\":1,\"hypotheses\":[\"A\"],\"components\":[],\"stages\":{\"count\":1,\"spend\":[{\"steps\":[{\"from\":1,\"levels\":[0.01]}]}],\"arrivals\":[]}}",
+        "/stages/spend/0/steps/0/levels/0",
+    ),
+    (
+        "{\"alpha\":1,\"hypotheses\":[\"A\"],\"components\":[],\"stages\":{\"count\":1,\"spend\":[],\"arrivals\":[{\"hypothesis\":\"A\",\"stage\":18446744073709551616}]}}",
+        "/stages/arrivals/0/stage",
+    ),
+    (
+        "{\"alpha\":1,\"hypotheses\":[\"A\"],\"components\":[],\"stages\":{\"count\":1,\"spend\":[],\"arrivals\":[{\"hypothesis\":\"A\",\"stage\":1,\"p\":0.02}]}}",
+        "/stages/arrivals/0/p",
+    ),
+];
+
+/// Names that no hypothesis has.
+pub const UNKNOWN_NAMES: [(&str, &str); 3] = [
+    (
+        "{\"alpha\":1,\"hypotheses\":[\"A\"],\"components\":[{\"weights\":[1],\"edges\":[{\"from\":\"A \",\"to\":\"B\",\"weight\":{}}]}]}",
+        "/components/0/edges/0/from",
+    ),
+    (
+        "{\"alpha\":1,\"hypotheses\":[\"A\"],\"components\":[{\"weights\":[1],\"edges\":[{\"from\":\"A\",\"to\":\"A\",\"weight\":0},{\"from\":\"A\",\"to\":\"AA\",\"weight\":{}}]}]}",
+        "/components/0/edges/1/to",
+    ),
+    (
+        "{\"alpha\":1,\"hypotheses\":[\"A\"],\"components\":[],\"stages\":{\"count\":1,\"spend\":[],\"arrivals\":[{\"hypothesis\":\"\",\"stage\":-1}]}}",
+        "/stages/arrivals/0/hypothesis",
+    ),
+];
+
+/// Numerals that are refused.
+pub const NUMERALS: [(&str, &str, NumberFault); 13] = [
+    ("{\"alpha\":\"5%\"}", "/alpha", NumberFault::BadByte(1)),
+    (
+        "{\"alpha\":\"0.05\\u0000\"}",
+        "/alpha",
+        NumberFault::BadByte(4),
+    ),
+    ("{\"alpha\":\"½\"}", "/alpha", NumberFault::BadByte(0)),
+    (
+        "{\"alpha\":1,\"hypotheses\":[\"A\"],\"p\":[\"NA\"]}",
+        "/p/0",
+        NumberFault::BadByte(0),
+    ),
+    (
+        "{\"alpha\":1,\"hypotheses\":[\"A\"],\"p\":[0,\"1/\"]}",
+        "/p/1",
+        NumberFault::BadByte(2),
+    ),
+    (
+        "{\"alpha\":1,\"hypotheses\":[\"A\"],\"components\":[{\"share\":\"1/0\",\"weights\":0}]}",
+        "/components/0/share",
+        NumberFault::ZeroDenominator,
+    ),
+    (
+        "{\"alpha\":1,\"hypotheses\":[\"A\"],\"components\":[{\"weights\":[\" 1\"]}]}",
+        "/components/0/weights/0",
+        NumberFault::BadByte(0),
+    ),
+    (
+        "{\"alpha\":1,\"hypotheses\":[\"A\"],\"components\":[{\"weights\":[\"1 \"]}]}",
+        "/components/0/weights/0",
+        NumberFault::BadByte(1),
+    ),
+    (
+        "{\"alpha\":1,\"hypotheses\":[\"A\"],\"components\":[],\"stages\":{\"count\":1,\"spend\":[[\"half\"]],\"arrivals\":[]}}",
+        "/stages/spend/0/0",
+        NumberFault::BadByte(0),
+    ),
+    (
+        "{\"alpha\":1,\"hypotheses\":[\"A\"],\"components\":[],\"stages\":{\"count\":1,\"spend\":[{\"steps\":[{\"from\":\"1/0\"}]}],\"arrivals\":[]}}",
+        "/stages/spend/0/steps/0/from",
+        NumberFault::ZeroDenominator,
+    ),
+    (
+        "{\"alpha\":1,\"hypotheses\":[\"A\"],\"components\":[],\"stages\":{\"count\":1,\"spend\":[{\"steps\":[{\"from\":\"1\",\"levels\":[\"0\",\"\"]}]}],\"arrivals\":[]}}",
+        "/stages/spend/0/steps/0/levels/1",
+        NumberFault::Empty,
+    ),
+    (
+        "{\"alpha\":1,\"hypotheses\":[\"A\"],\"components\":[],\"stages\":{\"count\":1,\"spend\":[],\"arrivals\":[{\"hypothesis\":\"A\",\"stage\":0,\"p\":\"1,0\"}]}}",
+        "/stages/arrivals/0/p",
+        NumberFault::BadByte(1),
+    ),
+    (
+        "{\"alpha\":1,\"hypotheses\":[\"A\"],\"components\":[],\"stages\":{\"count\":1,\"spend\":[],\"arrivals\":[{\"hypothesis\":\"A\",\"stage\":1,\"p\":\"1e39\"}]}}",
+        "/stages/arrivals/0/p",
+        NumberFault::TooManyDigits,
+    ),
+];
+
+/// Weights of edges that are refused.
+pub const WEIGHTS: [(&str, &str, ExprFault); 10] = [
+    (
+        "{\"alpha\":1,\"hypotheses\":[\"A\"],\"components\":[{\"weights\":[1],\"edges\":[{\"from\":\"A\",\"to\":\"A\",\"weight\":\"\"}]}]}",
+        "/components/0/edges/0/weight",
+        ExprFault::BadByte(0),
+    ),
+    (
+        "{\"alpha\":1,\"hypotheses\":[\"A\"],\"components\":[{\"weights\":[1],\"edges\":[{\"from\":\"A\",\"to\":\"A\",\"weight\":\"1+\"}]}]}",
+        "/components/0/edges/0/weight",
+        ExprFault::BadByte(2),
+    ),
+    (
+        "{\"alpha\":1,\"hypotheses\":[\"A\"],\"components\":[{\"weights\":[1],\"edges\":[{\"from\":\"A\",\"to\":\"A\",\"weight\":\"1 2\"}]}]}",
+        "/components/0/edges/0/weight",
+        ExprFault::BadByte(2),
+    ),
+    (
+        "{\"alpha\":1,\"hypotheses\":[\"A\"],\"components\":[{\"weights\":[1],\"edges\":[{\"from\":\"A\",\"to\":\"A\",\"weight\":\"\\\\eps\"}]}]}",
+        "/components/0/edges/0/weight",
+        ExprFault::BadByte(4),
+    ),
+    (
+        "{\"alpha\":1,\"hypotheses\":[\"A\"],\"components\":[{\"weights\":[1],\"edges\":[{\"from\":\"A\",\"to\":\"A\",\"weight\":\"(((((((((((((((((((((((((((((((((1)))))))))))))))))))))))))))))))))\"}]}]}",
+        "/components/0/edges/0/weight",
+        ExprFault::Depth,
+    ),
+    (
+        "{\"alpha\":1,\"hypotheses\":[\"A\"],\"components\":[{\"weights\":[1],\"edges\":[{\"from\":\"A\",\"to\":\"A\",\"weight\":\"1/\\\\epsilon\"}]}]}",
+        "/components/0/edges/0/weight",
+        ExprFault::DivisorNotNumber,
+    ),
+    (
+        "{\"alpha\":1,\"hypotheses\":[\"A\"],\"components\":[{\"weights\":[1],\"edges\":[{\"from\":\"A\",\"to\":\"A\",\"weight\":\"\\\\epsilon^5\"}]}]}",
+        "/components/0/edges/0/weight",
+        ExprFault::Degree,
+    ),
+    (
+        "{\"alpha\":1,\"hypotheses\":[\"A\"],\"components\":[{\"weights\":[1],\"edges\":[{\"from\":\"A\",\"to\":\"A\",\"weight\":\"1/1000000000000000001\"}]}]}",
+        "/components/0/edges/0/weight",
+        ExprFault::Part,
+    ),
+    (
+        "{\"alpha\":1,\"hypotheses\":[\"A\"],\"components\":[{\"weights\":[1],\"edges\":[{\"from\":\"A\",\"to\":\"A\",\"weight\":-1000000000000000001}]}]}",
+        "/components/0/edges/0/weight",
+        ExprFault::Part,
+    ),
+    (
+        "{\"alpha\":1,\"hypotheses\":[\"A\"],\"components\":[{\"weights\":[1],\"edges\":[{\"from\":\"A\",\"to\":\"A\",\"weight\":18446744073709551615}]}]}",
+        "/components/0/edges/0/weight",
+        ExprFault::Part,
+    ),
+];
+
+/// Documents that say cases, with the numbers of their hypotheses and components: escapes, keys that come again (the last
+/// counts), blanks, and numbers at their limits.
+pub const CASES: [(&str, usize, usize); 5] = [
+    (
+        "{\"\\u0061lpha\":\"1/20\",\"hypothese\\u0073\":[\"\\u0041\"],\"components\":[{\"\\u0077eights\":[\"\\u0031\"],\"edges\":[]}]}",
+        1,
+        1,
+    ),
+    (
+        "{\"alpha\":true,\"alpha\":1,\"hypotheses\":0,\"hypotheses\":[\"A\"],\"components\":[{\"weights\":0,\"weights\":[1],\"edges\":[{\"from\":\"B\",\"from\":\"A\",\"to\":\"B\",\"to\":\"A\",\"weight\":{},\"weight\":0}]}]}",
+        1,
+        1,
+    ),
+    (
+        "\r\n\t { \"alpha\" :1 ,\n\"hypotheses\":[ \"A\",\"B\" ], \"p\":[ null , null ], \"components\":[ { \"weights\":[ 0 , \"-0\" ], \"edges\":[ ] } ] }\t\r\n",
+        2,
+        1,
+    ),
+    (
+        "{\"alpha\":\"+1e-4\",\"hypotheses\":[\"A\",\"B\"],\"p\":[\"1E-30\",1],\"components\":[{\"share\":0,\"weights\":[\"1e-18\",0],\"edges\":[]},{\"share\":\"1\",\"weights\":[0,\".5\"],\"edges\":[{\"from\":\"B\",\"to\":\"A\",\"weight\":\" ( 1 ) - \\\\epsilon ^ 4 \"}]}]}",
+        2,
+        2,
+    ),
+    (
+        "{\"alpha\":1,\"hypotheses\":[\"A\"],\"components\":[{\"weights\":[1],\"edges\":[]}],\"stages\":{\"count\":12,\"spend\":[{\"steps\":[{\"from\":1,\"levels\":[1,0,0,0,0,0,0,0,0,0,0,0]}]}],\"arrivals\":[{\"hypothesis\":\"A\",\"stage\":12,\"p\":1}]}}",
+        1,
+        1,
+    ),
+];
