@@ -1,10 +1,10 @@
 //! Canonical texts: what the command `canon` prints of texts, and that it prints the same of what it printed.
-use crate::runs::{list_of, status_of};
 use field_core::NoMemory;
 use graph_io::{MemorySink, MemorySource};
 use std::alloc::Global;
 use std::process::Abort;
 use std::test::Fail;
+use whole_runs::{list_of, status_of};
 
 /// Cases without stages, each with its canonical text.
 const UNSTAGED: [(&str, &str); 10] = [

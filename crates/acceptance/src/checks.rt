@@ -1,27 +1,15 @@
 //! Checks of evidence: a case, a proof, and what is answered.
-use crate::runs::{list_of, repeated, status_with};
 use field_core::{List, NoMemory};
 use graph_cli::file_word;
 use graph_io::{FailingSource, MemorySink, MemorySource, Source};
 use std::alloc::Global;
 use std::process::Abort;
 use std::test::Fail;
-
-/// Two families of two hypotheses, with edges in epsilon.
-pub const FAMILIES: &str =
-    "alpha 0.05\nhypotheses H1 H2 H3 H4\np 0.02 0.04 0.01 0.02\nweights 1/2 1/2 0 0\nedge H1 H3 1/2\nedge H1 H4 1/2\nedge H2 H3 1/2\nedge H2 H4 1/2\nedge H3 H1 \\epsilon\nedge H3 H4 1-\\epsilon\nedge H4 H2 \\epsilon\nedge H4 H3 1-\\epsilon\n";
-
-/// Three hypotheses in a fixed order.
-pub const SEQUENCE: &str =
-    "alpha 0.025\nhypotheses H1 H2 H3\np 0.01 0.03 0.001\nweights 1 0 0\nedge H1 H2 1\nedge H2 H3 1\n";
+use whole_runs::{FAMILIES, PROOF, SEQUENCE, list_of, repeated, status_with};
 
 /// The product of the edges on the way to the last hypothesis has a denominator near 10^54.
 const LONG: &str =
     "alpha 0.05\nhypotheses H1 H2 H3 H4\np 0 0 0 0\nweights 1 0 0 0\nedge H1 H2 1/1000000000000000000\nedge H2 H3 1/999999999999999999\nedge H3 H4 1/999999999999999997\n";
-
-/// A proof of all four.
-pub const PROOF: &str =
-    "evidence 1\nstep H1\nstep H3\nflow 1 H1 1/2\nstep H4\nflow 1 H1 [1]/[2,-1]\nflow 1 H3 [1]/[4,-2]\nstep H2\nflow 1 H1 1\nflow 1 H3 [1]/[0,2]\nflow 1 H4 [1]/[0,2]\nend\n";
 
 /// A case, a proof, the status and what is printed.
 type Row<'a> = (&'a str, &'a str, u8, &'a str);

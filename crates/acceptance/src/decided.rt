@@ -1,9 +1,10 @@
 //! Cases without edges that are decided, and what is printed of them.
-use crate::runs::{TIE, TIE_DECIDED, expect_answer, list_of, repeated};
+use crate::runs::expect_answer;
 use field_core::{List, NoMemory};
 use std::alloc::Global;
 use std::process::Abort;
 use std::test::Fail;
+use whole_runs::{TIE, TIE_DECIDED, list_of, repeated};
 
 /// Cases of which some hypothesis is rejected.
 const SOME_REJECTED: [(&str, &str); 10] = [

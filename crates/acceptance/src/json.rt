@@ -1,10 +1,10 @@
 //! JSON: what is printed of it, the lines where it is refused, and that texts and JSON say the same cases; by hand.
-use crate::runs::{TIE_DECIDED, list_of, repeated, status_of};
 use field_core::{List, NoMemory};
 use graph_io::{MemorySink, MemorySource};
 use std::alloc::Global;
 use std::process::Abort;
 use std::test::Fail;
+use whole_runs::{TIE_DECIDED, list_of, repeated, status_of};
 
 /// A run with these words over a document ends with this status and prints this.
 fn expect_printed(

@@ -2,9 +2,8 @@
 //!
 //! Tests through `run`, and of trials, studies and decisions on texts, with values by hand: decided cases without
 //! edges and with them, the three priorities of a case with ties, sheets, JSON, looks in each of their orders, samples,
-//! canonical texts, evidence and its checks, each kind of refusal with its line, lists of words, sources and sinks that fail
-//! at each of their calls in turn, cases and proofs that break off at each byte, proofs with one line replaced, and
-//! quantities at their limits and one past them, inputs of 4,194,304 bytes among them.
+//! canonical texts, evidence and its checks, each kind of refusal with its line, lists of words, and quantities at their
+//! limits and one past them, inputs of 4,194,304 bytes among them.
 #![tactic(auto)]
 
 #[cfg(test)]
@@ -14,13 +13,7 @@ mod checks;
 #[cfg(test)]
 mod decided;
 #[cfg(test)]
-mod devices;
-#[cfg(test)]
-mod failing_studies;
-#[cfg(test)]
 mod graphs;
-#[cfg(test)]
-mod hostile;
 #[cfg(test)]
 mod json;
 #[cfg(test)]
@@ -31,8 +24,6 @@ mod made_evidence;
 mod named;
 #[cfg(test)]
 mod orders;
-#[cfg(test)]
-mod prefixes;
 #[cfg(test)]
 mod priorities;
 #[cfg(test)]
@@ -51,12 +42,6 @@ mod simes;
 mod stages;
 #[cfg(test)]
 mod studies;
-#[cfg(test)]
-mod study;
-#[cfg(test)]
-mod study_files;
-#[cfg(test)]
-mod tampered;
 #[cfg(test)]
 mod too_long;
 #[cfg(test)]

@@ -1,5 +1,5 @@
 //! Quantities at their limits, and one past them.
-use crate::runs::{TIE, TIE_DECIDED, expect_answer, list_of, repeated, status_of};
+use crate::runs::expect_answer;
 use catalogue::sample;
 use edge_text::write_text;
 use field_core::{List, NoMemory};
@@ -7,6 +7,7 @@ use graph_io::{MemorySink, MemorySource};
 use std::alloc::Global;
 use std::process::Abort;
 use std::test::Fail;
+use whole_runs::{TIE, TIE_DECIDED, list_of, repeated, status_of};
 
 /// A command, a case at the limit, one past it, and the status and the line of the latter.
 type Row<'a> = (&'a str, &'a str, &'a str, u8, &'a str);

@@ -1,5 +1,4 @@
 //! Evidence: what is printed of a case, and what `check` says of it.
-use crate::runs::{list_of, status_of, status_with};
 use catalogue::sample;
 use edge_text::write_text;
 use field_core::{List, NoMemory};
@@ -7,6 +6,7 @@ use graph_io::{MemorySink, MemorySource};
 use std::alloc::Global;
 use std::process::Abort;
 use std::test::Fail;
+use whole_runs::{list_of, status_of, status_with};
 
 /// Two families of two hypotheses, with edges in epsilon.
 const FAMILIES: &str =

@@ -1,7 +1,7 @@
 //! Decisions by each priority, as they are printed.
-use crate::runs::{list_of, status_of};
 use graph_io::{MemorySink, MemorySource};
 use std::test::Fail;
+use whole_runs::{list_of, status_of};
 
 /// Two hypotheses whose p-value is exactly their weight times the level, and two with the same p-value over weight below
 /// it. H1 and H4 pass all on to each other. H5 has no weight, so that p = 0 isn't enough.

@@ -1,9 +1,10 @@
 //! Texts that are refused: the line that says why, and its status.
-use crate::runs::{expect_answer, list_of};
+use crate::runs::expect_answer;
 use field_core::NoMemory;
 use std::alloc::Global;
 use std::process::Abort;
 use std::test::Fail;
+use whole_runs::list_of;
 
 /// A text, the status and the line of its refusal.
 type Row<'a> = (&'a str, u8, &'a str);

@@ -1,10 +1,10 @@
 //! Samples, and their sizes and seeds.
-use crate::runs::{list_of, status_of};
 use field_core::{List, NoMemory};
 use graph_io::{FailingSource, MemorySink};
 use std::alloc::Global;
 use std::process::Abort;
 use std::test::Fail;
+use whole_runs::{list_of, status_of};
 
 /// Words behind `sample`, the status, and what is printed.
 type Row<'a> = (&'a [&'a str], u8, &'a str);

@@ -1,7 +1,7 @@
 //! The command `test` over CSV, its lines by hand.
-use crate::runs::{list_of, status_of};
 use graph_io::{MemorySink, MemorySource};
 use std::test::Fail;
+use whole_runs::{list_of, status_of};
 
 /// What is printed of one hypothesis that is rejected.
 const ONE_REJECTED: &str =

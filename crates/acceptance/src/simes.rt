@@ -1,5 +1,4 @@
 //! Simes' test of all intersections: what `simes` prints.
-use crate::runs::{list_of, status_of};
 use catalogue::holm;
 use edge_text::write_text;
 use field_core::{List, NoMemory};
@@ -8,6 +7,7 @@ use graph_io::{MemorySink, MemorySource};
 use std::alloc::Global;
 use std::process::Abort;
 use std::test::Fail;
+use whole_runs::{list_of, status_of};
 
 /// A case, the status, and what is printed.
 type Row<'a> = (&'a str, u8, &'a str);

@@ -1,10 +1,10 @@
 //! Cases whose p-values arrive at stages, and what is printed of the looks at them.
-use crate::runs::{list_of, status_of};
 use field_core::{List, NoMemory};
 use graph_io::{MemorySink, MemorySource};
 use std::alloc::Global;
 use std::process::Abort;
 use std::test::Fail;
+use whole_runs::{list_of, status_of};
 
 /// The command `stages` over a case ends with this status, and what it prints ends with this.
 fn expect_looks(

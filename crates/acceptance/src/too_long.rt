@@ -1,9 +1,10 @@
 //! Inputs of the greatest length, and longer ones.
-use crate::runs::{TIE_DECIDED, expect_answer, list_of, repeated, status_of};
+use crate::runs::expect_answer;
 use field_core::{List, NoMemory};
 use graph_io::{MemorySink, MemorySource, Source};
 use std::alloc::Global;
 use std::test::Fail;
+use whole_runs::{TIE_DECIDED, list_of, repeated, status_of};
 
 /// A case of 58 bytes with 4,193,280 noughts more before its level, and so many.
 fn padded(alloc: Global, noughts: u32) -> Result<List<u8>, NoMemory> {

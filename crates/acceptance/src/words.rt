@@ -1,10 +1,10 @@
 //! Lists of words, and what the program answers to each.
-use crate::runs::{TIE, TIE_DECIDED, list_of, status_of};
 use field_core::NoMemory;
 use graph_io::{Failed, FailingSource, MemorySink, MemorySource, Source};
 use std::alloc::Global;
 use std::process::Abort;
 use std::test::Fail;
+use whole_runs::{HELP, TIE, TIE_DECIDED, list_of, status_of};
 
 /// Words, and the number, from 1, of the first at which the reading fails.
 type Row<'a> = (&'a [&'a str], &'a str);
@@ -353,10 +353,6 @@ fn words_are_accepted(rt: HostRuntime) -> Result<(), Fail> {
     }
     Ok(())
 }
-
-/// The lines of the commands that run.
-pub const HELP: &str =
-    "test [--form F] [--alpha N] [--priority P]\nweights [--form F] [--alpha N]\nbounds [--form F] [--alpha N]\nsimes [--form F] [--alpha N]\nevidence [--form F] [--alpha N] [--priority P]\ncheck FILE [--form F] [--alpha N]\nstages [--form F]\nstudy FILE [--form F] [--store PATH]\ncanon [--form F] [--alpha N] [--to F]\ncatalogue NAME --size N [--second N]\nsample --size N --seed N\nhelp\nend\n";
 
 /// No byte of the case is taken.
 #[test]

@@ -1,4 +1,5 @@
-//! Tests.
+//! Tests of what is said: sources, sinks and keepers, the words of a call, the lines of refusals and the texts of
+//! reports, with each line by hand.
 #![tactic(auto)]
 
 #[cfg(test)]

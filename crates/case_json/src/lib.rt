@@ -9,8 +9,8 @@
 //! - Laws in `src/laws.rt`: a value says one draft (`values_say_one_draft`), or has one first fault, and not both
 //!   (`values_have_one_fault`); bytes say one case (`json_says_one_case`).
 //!
-//! That `serde_json` reads the values of RFC 8259 is its own promise. Tables of documents stand beside the proofs, with
-//! their paths by hand.
+//! That `serde_json` reads the values of RFC 8259 is its own promise. Tables of documents, with their paths by hand, stand
+//! in form_tests.
 #![tactic(auto)]
 
 mod components;

@@ -16,10 +16,10 @@
 //! - `Case::size` and `components` (`count`, `range`), `names`, `name`, `alpha`, `share`, `weight`, `edge`, `edges`,
 //!   `inputs`, `is_plain`, `position`; `least_weight`, `passes_from` and `passes`, the local test of one hypothesis;
 //!   `Spend::copy`, and `Spend::meets`, whether a p-value meets the level of a stage at a weight; `NameIndex::build`
-//!   and `position`; `SetTable`, an answer for each set of at most 16 hypotheses.
+//!   and `position`; `SetTable`, an answer for each set of at most 16 hypotheses; `is_level`, `is_p_value`.
 //!
 //! Tables of drafts (each fault, pairs of faults, and drafts that make cases, with several components and with
-//! stages) and of positions in an index stand beside the proofs, with values by hand.
+//! stages) and of positions in an index, with values by hand, stand in case_tests.
 #![tactic(auto)]
 
 mod case;

@@ -1,4 +1,5 @@
-//! Tests.
+//! Tests of decisions: trials and their rejections in each priority, adjusted p-values, the closed test of all
+//! intersections, Simes' test and bounds, with values by hand.
 #![tactic(auto)]
 
 #[cfg(test)]

@@ -1,4 +1,5 @@
-//! Tests.
+//! Tests of evidence: documents that hold and that don't, with each reason by hand, and evidence that is made, written
+//! and read back.
 #![tactic(auto)]
 
 #[cfg(test)]

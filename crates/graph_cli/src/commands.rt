@@ -10,11 +10,11 @@ ghost use Rattle.graph_cli.specs.Commands.{needs_of, on_case, case_call, check_n
 
 mod bounds;
 mod canon;
-mod catalogue;
 mod catalogue_faults;
 mod check;
-mod evidence;
+mod evidence_run;
 mod help;
+mod named_graph;
 mod sample;
 mod set_faults;
 mod simes;
@@ -25,10 +25,10 @@ mod weights;
 use crate::accepted::accepted_case;
 use crate::commands::bounds::bounds_answer;
 use crate::commands::canon::canon_answer;
-use crate::commands::catalogue::catalogue_answer;
 use crate::commands::check::check_answer;
-use crate::commands::evidence::evidence_answer;
+use crate::commands::evidence_run::evidence_answer;
 use crate::commands::help::help_answer;
+use crate::commands::named_graph::catalogue_answer;
 use crate::commands::sample::sample_answer;
 use crate::commands::simes::simes_answer;
 use crate::commands::stages::stages_answer;

@@ -1,4 +1,4 @@
-//! Tests.
+//! Tests of fractions, of polynomials in epsilon and of their quotients, by tables of terms with values by hand.
 #![tactic(auto)]
 
 #[cfg(test)]

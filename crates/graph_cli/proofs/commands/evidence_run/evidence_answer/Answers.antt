@@ -5,7 +5,7 @@ use Rattle.evidence.proofs.MakeAnswers.{decision_order}
 use Rattle.graph_cli.specs.Check.{said_of}
 use Rattle.graph_cli.specs.Evidence.{evidence_stage}
 use Rattle.graph_cli.proofs.HandedOn.{halts_weaker, halt_on}
-use Rattle.graph_cli.proofs.commands.evidence.evidence_answer.Goals as goal
+use Rattle.graph_cli.proofs.commands.evidence_run.evidence_answer.Goals as goal
 
 pub flown-requires-clause-order : goal.flown-requires-clause-order
 flown-requires-clause-order c = decision_order (content c.args.case.now) c.args.priority c.in_ok-decision.decision c.args.case.now.valid

@@ -2,7 +2,7 @@ use Rattle.std.proofs.Common.{ap, ◌∙◌}
 use Rattle.answers.specs.Lines.{done}
 use Rattle.case_model.specs.CaseView.{content}
 use Rattle.graph_cli.specs.Graphs.{catalogue_stage}
-use Rattle.graph_cli.proofs.commands.catalogue.catalogue_answer.Goals as goal
+use Rattle.graph_cli.proofs.commands.named_graph.catalogue_answer.Goals as goal
 
 pub returns-clause-given : goal.returns-clause-given
 unfolding catalogue_stage

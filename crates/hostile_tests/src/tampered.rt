@@ -1,11 +1,10 @@
 //! Proofs of which one line was replaced.
-use crate::checks::{FAMILIES, SEQUENCE};
-use crate::runs::{list_of, status_with};
 use field_core::{List, NoMemory};
 use graph_io::{MemorySink, MemorySource};
 use std::alloc::Global;
 use std::process::Abort;
 use std::test::Fail;
+use whole_runs::{FAMILIES, SEQUENCE, list_of, status_with};
 
 /// The lines of a proof of two families behind the first, which says the version.
 const LINES: [&str; 11] = [

@@ -1,10 +1,10 @@
 //! Sources and sinks that fail, and ones that move few bytes a call.
-use crate::runs::{TIE, TIE_DECIDED, list_of, status_of};
 use field_core::{List, NoMemory};
 use graph_io::{FailingSink, FailingSource, MemorySink, MemorySource};
 use std::alloc::Global;
 use std::process::Abort;
 use std::test::Fail;
+use whole_runs::{TIE, TIE_DECIDED, list_of, status_of};
 
 /// A run over a source that moves 4 bytes a take and fails at one take, and a sink that takes 5 bytes a put and
 /// fails at one put, and how it ends. Takes and puts count from 1; at 0 none fails.

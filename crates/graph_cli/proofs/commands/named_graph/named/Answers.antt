@@ -2,7 +2,7 @@ use Rattle.std.proofs.Common.{subst}
 use Rattle.graph_cli.specs.Catalogue.{IsToldAs}
 use Rattle.graph_cli.specs.Graphs.{named_case, told_size}
 use Rattle.graph_cli.proofs.MadeAnswers.{told}
-use Rattle.graph_cli.proofs.commands.catalogue.named.Goals as goal
+use Rattle.graph_cli.proofs.commands.named_graph.named.Goals as goal
 
 pub returns-in_ok-fault_refusal-in-Err-clause-refused : goal.returns-in_ok-fault_refusal-in-Err-clause-refused
 returns-in_ok-fault_refusal-in-Err-clause-refused c =

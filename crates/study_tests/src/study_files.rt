@@ -1,5 +1,5 @@
 //! Studies whose looks are kept in a file that the tests make.
-use crate::study::{TWO, expect};
+use crate::runs_of_studies::{TWO, expect};
 use std::fs;
 use std::test::Fail;
 use study_sqlite::SqliteKeeper;

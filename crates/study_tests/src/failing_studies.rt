@@ -1,12 +1,11 @@
 //! Studies whose sources, keepers and sinks fail at the first, a middle and the last call.
-use crate::hostile::{pieces, puts_of, takes_of};
-use crate::runs::list_of;
-use crate::study::{LOOKED, LOOKS, TWO, status_with};
+use crate::runs_of_studies::{LOOKED, LOOKS, TWO, status_with};
 use field_core::{List, NoMemory};
 use graph_io::{FailingKeeper, FailingSink, FailingSource, MemoryKeeper, MemorySink, MemorySource};
 use std::alloc::Global;
 use std::process::Abort;
 use std::test::Fail;
+use whole_runs::{list_of, pieces, puts_of, takes_of};
 
 const WORDS: [&str; 2] = ["study", "looks.txt"];
 

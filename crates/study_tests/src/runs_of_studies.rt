@@ -1,5 +1,4 @@
 //! Studies whose looks are kept, over keepers in memory.
-use crate::runs::list_of;
 use field_core::{List, NoMemory};
 use fraction::{Fraction, FractionFault};
 use graph_io::{
@@ -10,6 +9,7 @@ use std::alloc::Global;
 use std::process::Abort;
 use std::test::Fail;
 use study_cli::run_study;
+use whole_runs::list_of;
 
 /// At half the level each stage has 1/80, and at the whole level 1/40.
 pub const TWO: &str =

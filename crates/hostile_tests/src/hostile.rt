@@ -1,16 +1,12 @@
 //! Sources and sinks that fail at the first, a middle and the last call of a run, for each command.
-use crate::checks::{FAMILIES, PROOF, SEQUENCE};
-use crate::runs::{list_of, status_with};
-use crate::words::HELP;
 use field_core::NoMemory;
 use graph_io::{FailingSink, FailingSource, MemorySink, MemorySource};
 use std::alloc::Global;
 use std::process::Abort;
 use std::test::Fail;
-
-/// Three hypotheses, each of which passes its weight in halves to the others.
-pub const HOLM: &str =
-    "alpha 0.025\nhypotheses H1 H2 H3\np 0.01 0.005 0.02\nweights 1/3 1/3 1/3\nedge H1 H2 1/2\nedge H1 H3 1/2\nedge H2 H1 1/2\nedge H2 H3 1/2\nedge H3 H1 1/2\nedge H3 H2 1/2\n";
+use whole_runs::{
+    FAMILIES, HELP, HOLM, PROOF, SEQUENCE, list_of, pieces, puts_of, status_with, takes_of,
+};
 
 /// What `test` prints of it.
 const HOLM_DECIDED: &str =
@@ -98,24 +94,6 @@ const READING_NOTHING: [Run; 3] = [
     ),
     (&["help"], "", "", HELP),
 ];
-
-/// How many takes of 4 bytes bring all of these, with the one that tells the end.
-pub fn takes_of(bytes: &[u8]) -> u64 {
-    (bytes.len() as u64 / 4).saturating_add(if bytes.len() % 4 == 0 { 1 } else { 2 })
-}
-
-/// How many puts of 5 bytes take all of these.
-pub fn puts_of(bytes: &[u8]) -> u64 {
-    (bytes.len() as u64 / 5).saturating_add(if bytes.len() % 5 == 0 { 0 } else { 1 })
-}
-
-/// The first so many pieces of 5 bytes.
-pub fn pieces(bytes: &[u8], count: u64) -> &[u8] {
-    match bytes.get(..(count as usize).saturating_mul(5)) {
-        Some(front) => front,
-        None => bytes,
-    }
-}
 
 /// A run whose case moves 4 bytes a take, and fails at this one, ends with this status and prints this.
 fn expect_take(

@@ -1,7 +1,7 @@
 use Rattle.std.proofs.Common.{◌∙◌, ap, Ok}
 use Rattle.case_model.specs.CaseView.{content}
 use Rattle.graph_cli.proofs.EvidenceAnswers.{never_no}
-use Rattle.graph_cli.proofs.commands.evidence.confirmed.Goals as goal
+use Rattle.graph_cli.proofs.commands.evidence_run.confirmed.Goals as goal
 
 pub unreachable-requires : goal.unreachable-requires
 unreachable-requires c =

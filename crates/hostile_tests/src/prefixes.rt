@@ -1,12 +1,10 @@
 //! Cases and proofs that break off at each of their bytes.
-use crate::checks::{FAMILIES, PROOF, SEQUENCE};
-use crate::hostile::HOLM;
-use crate::runs::{list_of, status_of, status_with};
 use field_core::NoMemory;
 use graph_io::{MemorySink, MemorySource};
 use std::alloc::Global;
 use std::process::Abort;
 use std::test::Fail;
+use whole_runs::{FAMILIES, HOLM, PROOF, SEQUENCE, list_of, status_of, status_with};
 
 /// The status of a run of `test` over these bytes. A refusal is one line.
 fn status_over(rt: &impl Abort, alloc: Global, bytes: &[u8]) -> Result<u8, NoMemory> {
