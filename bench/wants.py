@@ -15,8 +15,8 @@ On a copy of the repository each public function whose result has a want of memo
 these errors, and each such method of a public trait that a type of the repository has, begins with a switch:
 `if wants::refused(N) { return Err(NoMemory); }`, where the crate `wants` stands in the copy alone. `rt try --test` builds
 the tests of a crate once, with everything below it; then they are run with one switch on after the other, those tests alone
-that come to it. A function is tried with the tests of its own crate first, then of `acceptance`, and then of the crates that
-use it, nearest first, until a test fails. Nothing is proved.
+that come to it. A function is tried with the tests of its own crate and of its layer first (the first crate of tests that
+uses it), then of `acceptance`, and then of all that use it, nearest first, until a test fails. Nothing is proved.
 
 Prints a line for each function, and counts for each crate at the end:
 
@@ -220,8 +220,12 @@ class Function:
         return "::".join(it for it in (self.crate, module if module != "lib" else "", self.name) if it)
 
 
+def is_of_tests(crate):
+    return crate.endswith("_tests") or crate in ("acceptance", "whole_runs")
+
+
 def sources(top):
-    for crate in sorted(set(os.listdir(f"{top}/crates")) - {"acceptance"}):
+    for crate in sorted(it for it in os.listdir(f"{top}/crates") if not is_of_tests(it)):
         for folder, _, files in os.walk(f"{top}/crates/{crate}/src"):
             for file in sorted(files):
                 if file.endswith(".rt") and "tests" not in file:
@@ -307,6 +311,10 @@ class Copy:
             for folder, _, files in os.walk(f"{TOP}/crates/{crate}/src")
             for file in files
         )
+
+    def layer_of(self, crate):
+        """The crate itself, and the first crate of tests that uses it."""
+        return [crate, *[it for it, below in self.uses.items() if it.endswith("_tests") and crate in below][:1]]
 
     def users_of(self, crate):
         """The crates with tests that use a crate, nearest first."""
@@ -445,7 +453,7 @@ def tried(copy, tests, chosen, jobs):
 
     def answer(number):
         function, coming = copy.functions[number], []
-        for crate in [function.crate, "acceptance", *copy.users_of(function.crate)]:
+        for crate in [*copy.layer_of(function.crate), "acceptance", *copy.users_of(function.crate)]:
             if tests.get(crate) and not function.why:
                 test, came = tests[crate].refuses(number)
                 coming += [f"{crate}: {name}" for name in came]
@@ -458,7 +466,7 @@ def tried(copy, tests, chosen, jobs):
 
 
 def run(copy, chosen, by, jobs):
-    """The tests of the functions' own crates and of `acceptance`, and of the users of those that are still left then."""
+    """The tests of the functions' layers and of `acceptance`, and of the users of those that are still left then."""
     tests = {}
 
     def build(crates):
@@ -466,7 +474,7 @@ def run(copy, chosen, by, jobs):
         with concurrent.futures.ThreadPoolExecutor(jobs) as pool:
             tests.update(pool.map(lambda crate: built(copy, crate, chosen), crates))
 
-    build({copy.functions[it].crate for it in chosen} | {"acceptance"})
+    build({layer for it in chosen for layer in copy.layer_of(copy.functions[it].crate)} | {"acceptance"})
     answers = tried(copy, tests, chosen, jobs)
     left = [it for it, answer in answers.items() if not answer[0] and not copy.functions[it].why]
     build({user for it in left for user in copy.users_of(copy.functions[it].crate)})
@@ -483,13 +491,13 @@ def told(copy, answers):
             count[4] += 1
             print(f"not compiled {function}: {function.why}")
         elif answer[0]:
-            count[0 if answer[0] == function.crate else 1 if answer[0] == "acceptance" else 2] += 1
+            count[0 if answer[0] in copy.layer_of(function.crate) else 1 if answer[0] == "acceptance" else 2] += 1
             print(f"refused {function} by {answer[0]} ({answer[1]})")
         else:
             count[3] += 1
             print(f"passes {function} ({', '.join(answer[1]) or 'none'})")
         ended |= not answer[0]
-    print(f"\n{'crate':<16} {'by its own':>10} {'acceptance':>10} {'by a user':>10} {'passes':>7} {'not compiled':>13}")
+    print(f"\n{'crate':<16} {'its layer':>10} {'acceptance':>10} {'by a user':>10} {'passes':>7} {'not compiled':>13}")
     for crate, count in [*sorted(counts.items()), ("all", [sum(it) for it in zip([0] * 5, *counts.values())])]:
         print(f"{crate:<16} {count[0]:>10} {count[1]:>10} {count[2]:>10} {count[3]:>7} {count[4]:>13}")
     return ended
