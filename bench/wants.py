@@ -16,7 +16,7 @@ these errors, and each such method of a public trait that a type of the reposito
 `if wants::refused(N) { return Err(NoMemory); }`, where the crate `wants` stands in the copy alone. `rt try --test` builds
 the tests of a crate once, with everything below it; then they are run with one switch on after the other, those tests alone
 that come to it. A function is tried with the tests of its own crate and of its layer first (the first crate of tests that
-uses it), then of `acceptance`, and then of all that use it, nearest first, until a test fails. Nothing is proved.
+uses it), then of the crates of acceptance, and then of all that use it, nearest first, until a test fails. Nothing is proved.
 
 Prints a line for each function, and counts for each crate at the end:
 
@@ -40,6 +40,8 @@ import threading
 
 TOP = os.path.join(os.path.dirname(os.path.abspath(__file__)), "..")
 SECONDS = 60
+
+ACCEPTANCE = ("acceptance", "acceptance_forms", "acceptance_sets")
 
 LIBRARY = """//! The switches of a copy.
 #![tactic(auto)]
@@ -221,7 +223,7 @@ class Function:
 
 
 def is_of_tests(crate):
-    return crate.endswith("_tests") or crate in ("acceptance", "whole_runs")
+    return crate.endswith("_tests") or crate.startswith("acceptance") or crate == "whole_runs"
 
 
 def sources(top):
@@ -322,7 +324,7 @@ class Copy:
         while ring:
             ring = [it for it, below in self.uses.items() if it not in found and set(below) & set(ring)]
             found += ring
-        return [it for it in found[1:] if it != "acceptance" and self.has_tests(it)]
+        return [it for it in found[1:] if it not in ACCEPTANCE and self.has_tests(it)]
 
     def drop_refused(self, said):
         """Takes the switches out at which a build complains."""
@@ -453,7 +455,7 @@ def tried(copy, tests, chosen, jobs):
 
     def answer(number):
         function, coming = copy.functions[number], []
-        for crate in [*copy.layer_of(function.crate), "acceptance", *copy.users_of(function.crate)]:
+        for crate in [*copy.layer_of(function.crate), *ACCEPTANCE, *copy.users_of(function.crate)]:
             if tests.get(crate) and not function.why:
                 test, came = tests[crate].refuses(number)
                 coming += [f"{crate}: {name}" for name in came]
@@ -466,7 +468,7 @@ def tried(copy, tests, chosen, jobs):
 
 
 def run(copy, chosen, by, jobs):
-    """The tests of the functions' layers and of `acceptance`, and of the users of those that are still left then."""
+    """The tests of the functions' layers and of acceptance, and of the users of those that are still left then."""
     tests = {}
 
     def build(crates):
@@ -474,7 +476,7 @@ def run(copy, chosen, by, jobs):
         with concurrent.futures.ThreadPoolExecutor(jobs) as pool:
             tests.update(pool.map(lambda crate: built(copy, crate, chosen), crates))
 
-    build({layer for it in chosen for layer in copy.layer_of(copy.functions[it].crate)} | {"acceptance"})
+    build({layer for it in chosen for layer in copy.layer_of(copy.functions[it].crate)} | set(ACCEPTANCE))
     answers = tried(copy, tests, chosen, jobs)
     left = [it for it, answer in answers.items() if not answer[0] and not copy.functions[it].why]
     build({user for it in left for user in copy.users_of(copy.functions[it].crate)})
@@ -491,7 +493,7 @@ def told(copy, answers):
             count[4] += 1
             print(f"not compiled {function}: {function.why}")
         elif answer[0]:
-            count[0 if answer[0] in copy.layer_of(function.crate) else 1 if answer[0] == "acceptance" else 2] += 1
+            count[0 if answer[0] in copy.layer_of(function.crate) else 1 if answer[0] in ACCEPTANCE else 2] += 1
             print(f"refused {function} by {answer[0]} ({answer[1]})")
         else:
             count[3] += 1
