@@ -1,7 +1,7 @@
 use Rattle.text_lines.specs.Lines.{rows_of, texts_in}
 use Rattle.text_lines.proofs.HandedOn.{handed_on}
 use Rattle.edge_text.proofs.Texts.{document_ends, document_arrivals, line_fault, draft_fault}
-use Rattle.edge_text.proofs.read_text.read_text.Goals as goal
+use Rattle.edge_text.proofs.text_reader.read_text.Goals as goal
 
 pub returns-in_err-draft-clause-fault : goal.returns-in_err-draft-clause-fault
 returns-in_err-draft-clause-fault c =
