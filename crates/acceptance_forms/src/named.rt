@@ -7,7 +7,7 @@ use std::test::Fail;
 use whole_runs::{list_of, status_of};
 
 /// Words, the status, and what is printed.
-type Row<'a> = (&'a [&'a str], u8, &'a str);
+pub type Row<'a> = (&'a [&'a str], u8, &'a str);
 
 const NAMED: [Row; 8] = [
     (
@@ -59,7 +59,7 @@ const NAMED: [Row; 8] = [
     ),
 ];
 
-const LIMITS: [Row; 7] = [
+const REFUSED: [Row; 23] = [
     (&["catalogue", "holm", "--size", "0"], 4, "limit: size 0\n"),
     (
         &["catalogue", "holm", "--size", "65"],
@@ -97,9 +97,6 @@ const LIMITS: [Row; 7] = [
         4,
         "limit: size 18446744073709551615\n",
     ),
-];
-
-const USAGE: [Row; 16] = [
     // Missing things stand behind the last word, before what is forbidden.
     (&["catalogue"], 2, "usage: word 2\n"),
     (&["catalogue", "holm"], 2, "usage: word 3\n"),
@@ -163,7 +160,11 @@ const USAGE: [Row; 16] = [
 ];
 
 /// A run reads nothing, and ends with this status and prints this.
-fn expect(rt: &impl Abort, alloc: Global, (words, status, printed): Row) -> Result<(), NoMemory> {
+pub fn expect(
+    rt: &impl Abort,
+    alloc: Global,
+    (words, status, printed): Row,
+) -> Result<(), NoMemory> {
     let mut case = FailingSource::new(List::new(alloc), 1, list_of(alloc, &[1])?);
     let mut out = MemorySink::with_room(alloc, 4096)?;
     let answered = status_of(alloc, words, &mut case, &mut out)?;
@@ -181,16 +182,8 @@ fn named_graphs_are_printed(rt: HostRuntime) -> Result<(), Fail> {
 }
 
 #[test]
-fn sizes_have_limits(rt: HostRuntime) -> Result<(), Fail> {
-    for row in LIMITS {
-        expect(&rt, rt.alloc(), row)?;
-    }
-    Ok(())
-}
-
-#[test]
-fn named_graphs_need_their_words(rt: HostRuntime) -> Result<(), Fail> {
-    for row in USAGE {
+fn named_graphs_are_refused(rt: HostRuntime) -> Result<(), Fail> {
+    for row in REFUSED {
         expect(&rt, rt.alloc(), row)?;
     }
     Ok(())

@@ -1,13 +1,6 @@
 //! Samples, and their sizes and seeds.
-use field_core::{List, NoMemory};
-use graph_io::{FailingSource, MemorySink};
-use std::alloc::Global;
-use std::process::Abort;
+use crate::named::{Row, expect};
 use std::test::Fail;
-use whole_runs::{list_of, status_of};
-
-/// Words behind `sample`, the status, and what is printed.
-type Row<'a> = (&'a [&'a str], u8, &'a str);
 
 const SAMPLES: [Row; 4] = [
     (
@@ -33,7 +26,7 @@ const SAMPLES: [Row; 4] = [
     ),
 ];
 
-const LIMITS: [Row; 6] = [
+const REFUSED: [Row; 20] = [
     (
         &["sample", "--size", "0", "--seed", "1"],
         4,
@@ -65,9 +58,6 @@ const LIMITS: [Row; 6] = [
         4,
         "limit: size 65\n",
     ),
-];
-
-const USAGE: [Row; 14] = [
     (&["sample"], 2, "usage: word 2\n"),
     (&["sample", "--size", "2"], 2, "usage: word 4\n"),
     (&["sample", "--seed=1"], 2, "usage: word 3\n"),
@@ -100,16 +90,6 @@ const USAGE: [Row; 14] = [
     (&["test", "--size", "2"], 2, "usage: word 2\n"),
 ];
 
-/// A run reads nothing, and ends with this status and prints this.
-fn expect(rt: &impl Abort, alloc: Global, (words, status, printed): Row) -> Result<(), NoMemory> {
-    let mut case = FailingSource::new(List::new(alloc), 1, list_of(alloc, &[1])?);
-    let mut out = MemorySink::with_room(alloc, 4096)?;
-    let answered = status_of(alloc, words, &mut case, &mut out)?;
-    assert_eq!(rt; out.held(), printed.as_bytes(), "{printed}");
-    assert_eq!(rt; answered, status, "{printed}");
-    Ok(())
-}
-
 #[test]
 fn samples_are_decided(rt: HostRuntime) -> Result<(), Fail> {
     for row in SAMPLES {
@@ -127,16 +107,8 @@ fn a_sample_is_always_the_same(rt: HostRuntime) -> Result<(), Fail> {
 }
 
 #[test]
-fn sizes_and_seeds_have_limits(rt: HostRuntime) -> Result<(), Fail> {
-    for row in LIMITS {
-        expect(&rt, rt.alloc(), row)?;
-    }
-    Ok(())
-}
-
-#[test]
-fn samples_need_their_numbers(rt: HostRuntime) -> Result<(), Fail> {
-    for row in USAGE {
+fn samples_are_refused(rt: HostRuntime) -> Result<(), Fail> {
+    for row in REFUSED {
         expect(&rt, rt.alloc(), row)?;
     }
     Ok(())

@@ -1,21 +1,11 @@
 //! Adjusted values by hand.
+use crate::cases::said;
 use adjusted_p::{AdjustFault, Adjusted, adjust};
-use case_model::Case;
-use edge_text::read_text;
 use field_core::{Op, Place, WideAt};
 use sequential::is_single;
 use std::alloc::Global;
 use std::process::Abort;
 use std::test::Fail;
-
-/// The case that a text says.
-fn said(rt: &impl Abort, alloc: Global, text: &str) -> Case {
-    let Ok(case) = read_text(alloc, text.as_bytes()) else {
-        panic!(rt; "no case");
-    };
-    assert!(rt; is_single(&case));
-    case
-}
 
 /// A value with the parts of this fraction, and whether it is reached.
 type Value = (i128, i128, bool);

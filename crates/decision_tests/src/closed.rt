@@ -2,22 +2,13 @@
 ghost use Rattle.std.specs.Prelude.{◌<◌, ◌^◌, IsTrue};
 ghost use Rattle.closed_test.specs.WeightsView.{weights_size};
 
-use case_model::Case;
+use crate::cases::said;
 use closed_test::{ClosedFault, ClosedTable, WeightTable, sets_in_order};
-use edge_text::read_text;
 use field_core::{Op, Place, WideAt};
 use sequential::is_single;
 use std::alloc::Global;
 use std::process::Abort;
 use std::test::Fail;
-
-/// The case that a text says.
-fn said(rt: &impl Abort, alloc: Global, text: &str) -> Case {
-    let Ok(case) = read_text(alloc, text.as_bytes()) else {
-        panic!(rt; "no case");
-    };
-    case
-}
 
 /// A set, one of its members, and the weight of the member there.
 type Weight = (u32, usize, (i128, i128));

@@ -7,6 +7,8 @@ mod adjusted;
 #[cfg(test)]
 mod bounds;
 #[cfg(test)]
+mod cases;
+#[cfg(test)]
 mod closed;
 #[cfg(test)]
 mod simes;

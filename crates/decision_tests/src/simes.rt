@@ -1,24 +1,15 @@
 //! Simes' test and its closed test of all sets, by hand.
 ghost use Rattle.std.specs.Prelude.{◌<◌, ◌^◌, IsTrue};
 
-use case_model::Case;
+use crate::cases::said;
 use closed_test::{ClosedTable, WeightTable};
 use discovery_bound::Bounds;
-use edge_text::read_text;
 use field_core::{Op, Place, WideAt};
 use sequential::is_single;
 use simes_test::{SimesFault, SimesTable, leaders};
 use std::alloc::Global;
 use std::process::Abort;
 use std::test::Fail;
-
-/// The case that a text says.
-fn said(rt: &impl Abort, alloc: Global, text: &str) -> Case {
-    let Ok(case) = read_text(alloc, text.as_bytes()) else {
-        panic!(rt; "no case");
-    };
-    case
-}
 
 /// Whether a set is one of those of two to four hypotheses.
 fn fits(size: usize, set: u32) -> bool

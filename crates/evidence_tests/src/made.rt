@@ -3,8 +3,8 @@ ghost use Rattle.std.specs.Prelude.{IfOk};
 ghost use Rattle.case_model.specs.CaseView.{content};
 ghost use Rattle.evidence_check.specs.EvidenceView.{IsEvidenceFor};
 
+use crate::cases::said;
 use case_model::Case;
-use edge_text::read_text;
 use evidence::laws::decisions_are_complete_orders;
 use evidence::{MakeFault, make};
 use evidence_check::{CheckWide, Evidence, KeepProof, ProofStep, Steps, Verdict, check, read};
@@ -43,14 +43,6 @@ const LONG: &str =
 const KEPT: &str = "alpha 0.05\nhypotheses H1 H2\np 0.5 0.5\nweights 1/2 1/2\nedge H1 H2 1\n";
 
 const KEPT_EVIDENCE: &str = "evidence 2\nkeep H1\nkeep H2\nend\n";
-
-/// The case that a text says.
-fn said(rt: &impl Abort, alloc: Global, text: &str) -> Case {
-    let Ok(case) = read_text(alloc, text.as_bytes()) else {
-        panic!(rt; "no case");
-    };
-    case
-}
 
 /// The evidence for the decision on a case.
 fn made(rt: &impl Abort, alloc: Global, case: &Case) -> Result<Evidence, MakeFault>

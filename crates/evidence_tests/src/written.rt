@@ -1,6 +1,6 @@
 //! Evidence by hand, written and read again.
+use crate::cases::said;
 use case_model::Case;
-use edge_text::read_text;
 use evidence::write;
 use evidence_check::{Evidence, KeepProof, ProofStep, Steps, fits, read};
 use field_core::List;
@@ -20,14 +20,6 @@ const GATEKEEPING: &str =
 /// Two components of the same share, one of them with an edge in epsilon.
 const ENTANGLED: &str =
     "alpha 0.05\nhypotheses H1 H2 H3\np 0.02 0.9 0.9\ncomponent 1/2\nweights 1 0 0\nedge H1 H2 1-\\epsilon\ncomponent 1/2\nweights 0 1 0\nedge H1 H3 1\n";
-
-/// The case that a text says.
-fn said(rt: &impl Abort, alloc: Global, text: &str) -> Case {
-    let Ok(case) = read_text(alloc, text.as_bytes()) else {
-        panic!(rt; "no case");
-    };
-    case
-}
 
 /// Evidence for a case has this text.
 fn expect_text(

@@ -24,7 +24,7 @@ fn new_folder(rt: &HostRuntime, folder: &str) -> Result<(), Fail> {
 }
 
 /// A keeper over the file at a path.
-fn keeper_at(rt: &HostRuntime, path: &str) -> Result<SqliteKeeper, Fail> {
+pub fn keeper_at(rt: &HostRuntime, path: &str) -> Result<SqliteKeeper, Fail> {
     Ok(SqliteKeeper::at(rt, String::from_str(rt.alloc(), path)?))
 }
 

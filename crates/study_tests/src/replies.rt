@@ -66,7 +66,7 @@ fn commands_are_replied_to(rt: HostRuntime) -> Result<(), Fail> {
 }
 
 /// A look of the first hypothesis.
-fn look(stage: u32, p: (i128, i128)) -> Result<Look, FractionFault> {
+pub fn look(stage: u32, p: (i128, i128)) -> Result<Look, FractionFault> {
     Ok(Look {
         hypothesis: 0,
         stage,

@@ -1,6 +1,6 @@
 //! Studies whose looks are kept, over keepers in memory.
+use crate::replies::look;
 use field_core::{List, NoMemory};
-use fraction::{Fraction, FractionFault};
 use graph_io::{
     FailingKeeper, FailingSource, Keeper, Look, MemoryKeeper, MemorySink, MemorySource, Sink,
     Source,
@@ -54,15 +54,6 @@ pub fn expect<K: Keeper>(
     assert_eq!(rt; out.held(), printed.as_bytes(), "{printed}");
     assert_eq!(rt; answered, status, "{printed}");
     Ok(())
-}
-
-/// A look of the first hypothesis.
-fn look(stage: u32, p: (i128, i128)) -> Result<Look, FractionFault> {
-    Ok(Look {
-        hypothesis: 0,
-        stage,
-        p: Fraction::new(p.0, p.1)?.ratio(),
-    })
 }
 
 #[test]

@@ -1,8 +1,8 @@
 //! Studies whose looks are kept in a file that the tests make.
+use crate::files::keeper_at;
 use crate::runs_of_studies::{TWO, expect};
 use std::fs;
 use std::test::Fail;
-use study_sqlite::SqliteKeeper;
 
 /// The commands of two runs, and what they print: the looks that the first one takes are the records of the second.
 const RUNS: [(&str, &str); 2] = [
@@ -15,11 +15,6 @@ const RUNS: [(&str, &str); 2] = [
         "alpha 1/20\nrecords 2\nlook H1 2 1/100\nreject H1 stage 2 weight 1/2\nshow looks 3 rejected H1\nend\n",
     ),
 ];
-
-/// A keeper over the file at a path.
-fn keeper_at(rt: &HostRuntime, path: &str) -> Result<SqliteKeeper, Fail> {
-    Ok(SqliteKeeper::at(rt, String::from_str(rt.alloc(), path)?))
-}
 
 #[test]
 fn looks_stay_in_a_file(rt: HostRuntime) -> Result<(), Fail> {
