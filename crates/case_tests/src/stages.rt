@@ -148,7 +148,7 @@ fn stages_hold_what_their_drafts_say(rt: HostRuntime) -> Result<(), Fail> {
 fn are_short_levels(fractions: &[Fraction]) -> bool
     ensures { result ≡ list_all is_short_level fractions.now }
 {
-    fractions.iter().all(is_short_level)
+    fractions.iter().all(|x| is_short_level(x))
 }
 
 fn has_short_fractions(spend: &Spend) -> bool
