@@ -1,45 +1,68 @@
-//! Bounds over a table.
+//! Bounds over tables that say yes of some sets.
+use crate::cases::{expect, fits};
 use case_model::SetTable;
 use discovery_bound::Bounds;
-use std::test::Fail;
+use field_core::NoMemory;
+use std::alloc::Global;
+use std::process::Abort;
 
-/// The table says yes of {1, 2} and of {0, 1, 2} alone, which no closed test says: {0, 1} and {0, 2} are kept.
-#[test]
-fn bounds_of_a_table_of_no_closed_test(rt: HostRuntime) -> Result<(), Fail> {
-    let mut table = SetTable::new(rt.alloc(), 3)?;
-    table.put(6, true);
-    table.put(7, true);
-    let bounds = Bounds::build(rt.alloc(), 3, &table)?;
-    assert_eq!(rt; bounds.size(), 3);
-    assert_eq!(rt; bounds.bound(7), 1);
-    assert_eq!(rt; bounds.bound(6), 1);
-    assert!(rt;
-        bounds.bound(5) == 0 && bounds.bound(3) == 0 && bounds.bound(4) == 0 && bounds.bound(0) == 0
-    );
-    Ok(())
+/// What is rejected, the number of hypotheses, the sets that the table says yes of, and sets with their bounds.
+struct Row<'a> {
+    label: &'a str,
+    size: usize,
+    rejected: &'a [u32],
+    bounds: &'a [(u32, u8)],
 }
 
-/// Each set is rejected, the empty one too; it counts as not rejected, so each bound is the size of the set.
-#[test]
-fn all_are_discoveries(rt: HostRuntime) -> Result<(), Fail> {
-    let mut table = SetTable::new(rt.alloc(), 2)?;
-    table.put(0, true);
-    table.put(1, true);
-    table.put(2, true);
-    table.put(3, true);
-    let bounds = Bounds::build(rt.alloc(), 2, &table)?;
-    assert!(rt;
-        bounds.bound(0) == 0 && bounds.bound(1) == 1 && bounds.bound(2) == 1 && bounds.bound(3) == 2
-    );
-    Ok(())
+const ROWS: &[Row] = &[
+    // No closed test says so: {0, 1} and {0, 2} are kept.
+    Row {
+        label: "{1, 2} and {0, 1, 2} alone",
+        size: 3,
+        rejected: &[6, 7],
+        bounds: &[(7, 1), (6, 1), (5, 0), (3, 0), (4, 0), (0, 0)],
+    },
+    // The empty set counts as not rejected, so each bound is the size of the set.
+    Row {
+        label: "each set, the empty one too",
+        size: 2,
+        rejected: &[0, 1, 2, 3],
+        bounds: &[(0, 0), (1, 1), (2, 1), (3, 2)],
+    },
+    // The greatest set that isn't rejected is the whole.
+    Row {
+        label: "{0} and not {0, 1}",
+        size: 2,
+        rejected: &[1],
+        bounds: &[(3, 0), (2, 0), (1, 1)],
+    },
+];
+
+/// The bounds over the table of a row.
+fn bounds_of(rt: &impl Abort, alloc: Global, row: &Row) -> Result<Bounds, NoMemory> {
+    assert!(rt; row.size <= 16);
+    let mut table = SetTable::new(alloc, row.size)?;
+    for set in row.rejected {
+        assert!(rt; fits(table.size(), *set));
+        table.put(*set, true);
+    }
+    Bounds::build(alloc, table.size(), &table)
 }
 
-/// {0} is rejected alone, {0, 1} isn't: the greatest set that isn't rejected is the whole.
+fn expect_bounds(rt: &impl Abort, bounds: &Bounds, row: &Row) {
+    assert!(rt; bounds.size() == row.size);
+    for (set, bound) in row.bounds {
+        assert!(rt; fits(bounds.size(), *set));
+        expect(rt, bounds.bound(*set) == *bound, row.label);
+    }
+}
+
 #[test]
-fn a_kept_set_has_no_discovery(rt: HostRuntime) -> Result<(), Fail> {
-    let mut table = SetTable::new(rt.alloc(), 2)?;
-    table.put(1, true);
-    let bounds = Bounds::build(rt.alloc(), 2, &table)?;
-    assert!(rt; bounds.bound(3) == 0 && bounds.bound(2) == 0 && bounds.bound(1) == 1);
-    Ok(())
+fn bounds_by_hand(rt: HostRuntime) {
+    for row in ROWS {
+        let Ok(bounds) = bounds_of(&rt, rt.alloc(), row) else {
+            panic!(&rt; "no bounds");
+        };
+        expect_bounds(&rt, &bounds, row);
+    }
 }

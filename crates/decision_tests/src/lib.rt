@@ -1,4 +1,4 @@
-//! Tests of decisions: trials and their rejections in each priority, adjusted p-values, the closed test of all
+//! Tests of decisions: rejections one by one and in each priority, adjusted p-values, the closed test of all
 //! intersections, Simes' test and bounds, with values by hand.
 #![tactic(auto)]
 
@@ -10,6 +10,8 @@ mod bounds;
 mod cases;
 #[cfg(test)]
 mod closed;
+#[cfg(test)]
+mod decisions;
 #[cfg(test)]
 mod simes;
 #[cfg(test)]

@@ -1,0 +1,201 @@
+//! Decisions by hand.
+use crate::cases::{
+    CHAIN, EPSILON, FALLBACK, HOLM, IMPROVED_GATEKEEPING, NO_WEIGHT, Parts, SEQUENCE, TIE, expect,
+    said,
+};
+use field_core::{Op, Place, WideAt};
+use sequential::{DecideFault, Decision, Priority, StepLine, decide, is_single};
+use std::alloc::Global;
+use std::process::Abort;
+
+/// A hypothesis and its weight.
+type Line = (usize, Parts);
+
+/// A case, priorities that all decide it like this: the rejections in their order, and the hypotheses that are kept.
+struct Row<'a> {
+    case: &'a str,
+    priorities: &'a [Priority],
+    steps: &'a [Line],
+    kept: &'a [Line],
+}
+
+const ALL: &[Priority] = &[Priority::First, Priority::Last, Priority::Ratio];
+
+/// Two primary hypotheses and two secondary ones.
+const GATEKEEPING: &str = "alpha 0.05\n\
+    hypotheses H1 H2 H3 H4\n\
+    p 0.02 0.04 0.01 0.02\n\
+    weights 1/2 1/2 0 0\n\
+    edge H1 H3 1/2\n\
+    edge H1 H4 1/2\n\
+    edge H2 H3 1/2\n\
+    edge H2 H4 1/2\n\
+    edge H3 H4 1\n\
+    edge H4 H3 1\n";
+
+/// All three have the same ratio.
+const EQUAL: &str = "alpha 0.05\n\
+    hypotheses H1 H2 H3\n\
+    p 0.02 0.01 0.01\n\
+    weights 1/2 1/4 1/4\n";
+
+/// The chain without its last edge.
+const CHAIN_OF_TWO: &str = "alpha 0.05\n\
+    hypotheses H1 H2 H3 H4\n\
+    p 0 0 0 0\n\
+    weights 1 0 0 0\n\
+    edge H1 H2 1/1000000000000000000\n\
+    edge H2 H3 1/999999999999999999\n";
+
+const ROWS: &[Row] = &[
+    // In more than one pass.
+    Row {
+        case: HOLM,
+        priorities: ALL,
+        steps: &[(1, (1, 3)), (0, (1, 2)), (2, (1, 1))],
+        kept: &[],
+    },
+    // A p-value at the limit rejects.
+    Row {
+        case: TIE,
+        priorities: ALL,
+        steps: &[(0, (1, 2))],
+        kept: &[(1, (1, 2))],
+    },
+    Row {
+        case: GATEKEEPING,
+        priorities: ALL,
+        steps: &[(0, (1, 2)), (2, (1, 4)), (3, (1, 2))],
+        kept: &[(1, (1, 2))],
+    },
+    // What the secondary ones pass back rejects the other primary one.
+    Row {
+        case: IMPROVED_GATEKEEPING,
+        priorities: ALL,
+        steps: &[(0, (1, 2)), (2, (1, 4)), (3, (1, 2)), (1, (1, 1))],
+        kept: &[],
+    },
+    Row {
+        case: EPSILON,
+        priorities: ALL,
+        steps: &[(0, (1, 1))],
+        kept: &[(1, (1, 1)), (2, (0, 1))],
+    },
+    // Equal ratios go by position.
+    Row {
+        case: EQUAL,
+        priorities: &[Priority::First, Priority::Ratio],
+        steps: &[(0, (1, 2)), (1, (1, 4)), (2, (1, 4))],
+        kept: &[],
+    },
+    Row {
+        case: EQUAL,
+        priorities: &[Priority::Last],
+        steps: &[(2, (1, 4)), (1, (1, 4)), (0, (1, 2))],
+        kept: &[],
+    },
+    Row {
+        case: NO_WEIGHT,
+        priorities: ALL,
+        steps: &[],
+        kept: &[(0, (1, 1)), (1, (0, 1))],
+    },
+    Row {
+        case: FALLBACK,
+        priorities: &[Priority::First],
+        steps: &[(2, (1, 3))],
+        kept: &[(0, (1, 3)), (1, (1, 3))],
+    },
+    Row {
+        case: SEQUENCE,
+        priorities: &[Priority::First],
+        steps: &[(0, (1, 1))],
+        kept: &[(1, (1, 1)), (2, (0, 1))],
+    },
+    Row {
+        case: CHAIN_OF_TWO,
+        priorities: &[Priority::First],
+        steps: &[
+            (0, (1, 1)),
+            (1, (1, 1_000_000_000_000_000_000)),
+            (2, (1, 999_999_999_999_999_999_000_000_000_000_000_000)),
+        ],
+        kept: &[(3, (0, 1))],
+    },
+];
+
+fn decided(
+    rt: &impl Abort,
+    alloc: Global,
+    text: &str,
+    priority: Priority,
+) -> Result<Decision, DecideFault> {
+    let case = said(rt, alloc, text);
+    assert!(rt; is_single(&case));
+    decide(alloc, &case, priority)
+}
+
+fn is_line(line: &StepLine, (hypothesis, (num, den)): Line) -> bool {
+    let weight = line.weight.ratio();
+    line.hypothesis == hypothesis && weight.num() == num && weight.den() == den
+}
+
+fn are_lines(lines: &[StepLine], wanted: &[Line]) -> bool {
+    for (line, wanted) in lines.iter().zip(wanted) {
+        if !is_line(line, *wanted) {
+            return false;
+        }
+    }
+    lines.len() == wanted.len()
+}
+
+fn expect_row(rt: &impl Abort, alloc: Global, row: &Row) {
+    for priority in row.priorities {
+        let Ok(decision) = decided(rt, alloc, row.case, *priority) else {
+            panic!(rt; "no decision");
+        };
+        expect(
+            rt,
+            are_lines(decision.steps.as_slice(), row.steps),
+            row.case,
+        );
+        expect(rt, are_lines(decision.kept.as_slice(), row.kept), row.case);
+    }
+}
+
+#[test]
+fn decisions_by_hand(rt: HostRuntime) {
+    for row in ROWS {
+        expect_row(&rt, rt.alloc(), row);
+    }
+}
+
+/// An edge whose coefficients have no common factor.
+const WIDE_EDGE: &str = "alpha 0.05\n\
+    hypotheses H1 H2\n\
+    p 0 0\n\
+    weights 1 0\n\
+    edge H1 H2 1/1000000000000000000+1/999999999999999999*\\epsilon+1/999999999999999997*\\epsilon^2\n";
+
+/// Cases, each with the step, 0 for the opening, and the place and the operation at which it is too wide.
+const WIDE: &[(&str, usize, Place, Op)] = &[
+    (WIDE_EDGE, 0, Place::Edge(0, 1), Op::Add),
+    (CHAIN, 3, Place::Weight(3), Op::Mul),
+];
+
+#[test]
+fn a_run_that_is_too_wide_names_its_step(rt: HostRuntime) {
+    for &(text, step, place, op) in WIDE {
+        let wide = WideAt {
+            component: 0,
+            place,
+            op,
+        };
+        let decision = decided(&rt, rt.alloc(), text, Priority::First);
+        expect(
+            &rt,
+            decision.err() == Some(DecideFault::Wide(step, wide)),
+            text,
+        );
+    }
+}
