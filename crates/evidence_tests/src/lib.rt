@@ -7,10 +7,8 @@ mod cases;
 #[cfg(test)]
 mod checks;
 #[cfg(test)]
-mod examples;
+mod documents;
 #[cfg(test)]
 mod made;
-#[cfg(test)]
-mod samples;
 #[cfg(test)]
 mod written;
