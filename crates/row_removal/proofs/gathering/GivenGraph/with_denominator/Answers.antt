@@ -4,7 +4,7 @@ use Rattle.field_core.specs.Steps.{at}
 use Rattle.field_core.specs.declared.place.Op.TheVariants.{Mul}
 use Rattle.row_removal.specs.Gathering.{place_of}
 use Rattle.row_removal.proofs.Given.{positive_next}
-use Rattle.row_removal.proofs.gathering.Given.with_denominator.Goals as goal
+use Rattle.row_removal.proofs.gathering.GivenGraph.with_denominator.Goals as goal
 
 pub returns-clause-positive : goal.returns-clause-positive
 returns-clause-positive c =

@@ -3,7 +3,7 @@ use Rattle.field_core.specs.Filled.{AreFilledBelow}
 use Rattle.removal.specs.StoredGraph.{size}
 use Rattle.row_removal.specs.StoredRow.{StoredRow}
 use Rattle.row_removal.specs.Gathering.{gathered_row}
-use Rattle.row_removal.proofs.gathering.Given.write_rows.Given as goal
+use Rattle.row_removal.proofs.gathering.GivenGraph.write_rows.Given as goal
 
 abbrev pub invariant-loop-l : goal.invariant-loop-l
 invariant-loop-l l =

@@ -1,6 +1,6 @@
 use Rattle.std.proofs.Common.{◌≡◌, arith, rules, Err}
 use Rattle.field_core.proofs.Fills.{filled_until}
-use Rattle.row_removal.proofs.gathering.Given.write_rows.Goals as goal
+use Rattle.row_removal.proofs.gathering.GivenGraph.write_rows.Goals as goal
 
 pub returns-in_err-write_row-clause-value : goal.returns-in_err-write_row-clause-value
 returns-in_err-write_row-clause-value c =

@@ -3,7 +3,7 @@ use Rattle.eps_quotient.specs.Stored.{IsQuotient}
 use Rattle.row_removal.specs.Gathering.{HasConstants, given_below}
 use Rattle.row_removal.specs.Laws.GatheringLaws.{below_positive}
 use Rattle.row_removal.proofs.Given.{constant_given}
-use Rattle.row_removal.proofs.gathering.Given.below.Goals as goal
+use Rattle.row_removal.proofs.gathering.GivenGraph.below.Goals as goal
 
 pub returns-clause-positive : goal.returns-clause-positive
 returns-clause-positive c =

@@ -1,6 +1,6 @@
 use Rattle.std.proofs.Common.{◌∙◌}
 use Rattle.edge_expression.proofs.ShortOperations.{stored_some, quotient_made}
-use Rattle.edge_expression.proofs.short.Short.divide.Goals as goal
+use Rattle.edge_expression.proofs.short_fraction.ShortFraction.divide.Goals as goal
 
 pub div-requires : goal.div-requires
 div-requires c = stored_some c.args.other.now.value.num c.args.other.now.value.den c.requires

@@ -1,7 +1,7 @@
 use Rattle.std.proofs.Common.{◌≡◌, ◌<ℤ◌, pos, Err, rules, arith}
 use Rattle.std.proofs.lemmas.Int.{ints}
 use Rattle.row_removal.proofs.Given.{common_start, common_next, common_fault}
-use Rattle.row_removal.proofs.gathering.Given.common_denominator.Goals as goal
+use Rattle.row_removal.proofs.gathering.GivenGraph.common_denominator.Goals as goal
 
 pub loop-k-init : goal.loop-k-init
 loop-k-init c = let one : pos 0 <ℤ pos 1 = omega (arith, ints) in rw c.new-c.ensures (common_start c.args.self.now c.args.row, one)

@@ -13,53 +13,53 @@ const LARGEST: u128 = 1_000_000_000_000_000_000;
 
 /// A fraction whose parts are at most 10^18.
 #[derive(Clone, Copy)]
-pub struct Short {
+pub struct ShortFraction {
     pub value: Fraction,
     ghost short: { is_short (terms value) ≡ true },
 }
 
-impl Short {
+impl ShortFraction {
     ghost use Rattle.fraction.specs.Tests.{is_zero};
     ghost use Rattle.case_model.specs.Sums.{zero_terms};
     ghost use Rattle.edge_expression.specs.EntryView.{short_terms, map_value, made_short};
     ghost use Rattle.edge_expression.specs.EntryValues.{short_of, sum, difference, product, quotient};
 
     /// 0.
-    pub fn zero() -> Short
+    pub fn zero() -> ShortFraction
         ensures { short_terms result ≡ zero_terms }
     {
-        Short {
+        ShortFraction {
             value: Fraction::of(Ratio::new(0, 1)),
         }
     }
 
     /// 1.
-    pub fn one() -> Short
+    pub fn one() -> ShortFraction
         ensures { short_terms result ≡ record { num = pos 1; den = pos 1 } }
     {
-        Short {
+        ShortFraction {
             value: Fraction::of(Ratio::new(1, 1)),
         }
     }
 
     /// The same fraction, where its parts are short.
     #[tactic(auto, unfolding(crate::specs::EntryValues::short_of))]
-    pub fn of(value: Fraction) -> Result<Short, ValueFault>
+    pub fn of(value: Fraction) -> Result<ShortFraction, ValueFault>
         ensures { map_value short_terms result ≡ short_of (terms value) }
     {
         if value.is_within(LARGEST) {
-            Ok(Short { value })
+            Ok(ShortFraction { value })
         } else {
             Err(ValueFault::Part)
         }
     }
 
     /// What an operation made, where its parts are short.
-    fn made(made: Result<Fraction, TooWide>) -> Result<Short, ValueFault>
+    fn made(made: Result<Fraction, TooWide>) -> Result<ShortFraction, ValueFault>
         ensures { map_value short_terms result ≡ made_short (ok_map terms made) }
     {
         match made {
-            Ok(value) => Short::of(value),
+            Ok(value) => ShortFraction::of(value),
             Err(_) => Err(ValueFault::Part),
         }
     }
@@ -70,28 +70,28 @@ impl Short {
         self.value.is_zero()
     }
 
-    pub fn add(&self, other: &Short) -> Result<Short, ValueFault>
+    pub fn add(&self, other: &ShortFraction) -> Result<ShortFraction, ValueFault>
         ensures { map_value short_terms result ≡ sum (short_terms self.now) (short_terms other.now) }
     {
-        Short::made(self.value.add(&other.value))
+        ShortFraction::made(self.value.add(&other.value))
     }
 
-    pub fn subtract(&self, other: &Short) -> Result<Short, ValueFault>
+    pub fn subtract(&self, other: &ShortFraction) -> Result<ShortFraction, ValueFault>
         ensures { map_value short_terms result ≡ difference (short_terms self.now) (short_terms other.now) }
     {
-        Short::made(self.value.sub(&other.value))
+        ShortFraction::made(self.value.sub(&other.value))
     }
 
-    pub fn multiply(&self, other: &Short) -> Result<Short, ValueFault>
+    pub fn multiply(&self, other: &ShortFraction) -> Result<ShortFraction, ValueFault>
         ensures { map_value short_terms result ≡ product (short_terms self.now) (short_terms other.now) }
     {
-        Short::made(self.value.mul(&other.value))
+        ShortFraction::made(self.value.mul(&other.value))
     }
 
-    pub fn divide(&self, other: &Short) -> Result<Short, ValueFault>
+    pub fn divide(&self, other: &ShortFraction) -> Result<ShortFraction, ValueFault>
         requires { is_zero (short_terms other.now) ≡ false }
         ensures { map_value short_terms result ≡ quotient (short_terms self.now) (short_terms other.now) }
     {
-        Short::made(self.value.div(&other.value))
+        ShortFraction::made(self.value.div(&other.value))
     }
 }
