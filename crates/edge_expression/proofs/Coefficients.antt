@@ -7,13 +7,13 @@ use Rattle.case_model.specs.Sums.{terms_at, zero_terms}
 use Rattle.fraction.specs.Tests.{is_zero}
 use Rattle.std.proofs.lemmas.List.{get_or-map}
 use Rattle.edge_expression.specs.declared.value_fault.ValueFault.{ValueFault}
-use Rattle.edge_expression.specs.declared.short.Short.{Short}
+use Rattle.edge_expression.specs.declared.short_fraction.ShortFraction.{ShortFraction}
 use Rattle.edge_expression.specs.EntryView.{short_terms}
 use Rattle.field_core.specs.Steps.{◌>>=◌}
 use Rattle.edge_expression.specs.EntryValues.{sum, product, product_sum, degree_within}
 
 -- the coefficient at a place
-pub item_terms : (xs : List Short) (n : ℕ) (x : Short) → n < length xs → x ≡ get_or xs n x → terms_at (map short_terms xs) n ≡ short_terms x
+pub item_terms : (xs : List ShortFraction) (n : ℕ) (x : ShortFraction) → n < length xs → x ≡ get_or xs n x → terms_at (map short_terms xs) n ≡ short_terms x
 unfolding terms_at
 item_terms xs n x h e = get_or-map short_terms xs n x zero_terms h ∙ ap short_terms (sym e)
 
@@ -37,7 +37,7 @@ degree_least (suc n) x e = absurd (omega arith)
 
 -- ---- sums of products
 
-abbrev pub held : Short → Result Terms ValueFault
+abbrev pub held : ShortFraction → Result Terms ValueFault
 held x = Ok (short_terms x)
 
 abbrev pub fails : ValueFault → Result Terms ValueFault

@@ -2,7 +2,7 @@
 use Rattle.std.proofs.Common.{◌≡◌, ℕ, zero, suc, List, [], ◌∷◌, map, length, Ok, refl, ap, ◌∙◌, arith}
 use Rattle.field_core.specs.Terms.{Terms}
 use Rattle.case_model.specs.Sums.{terms_at, zero_terms}
-use Rattle.edge_expression.specs.declared.short.Short.{Short}
+use Rattle.edge_expression.specs.declared.short_fraction.ShortFraction.{ShortFraction}
 use Rattle.edge_expression.specs.Expressions.{Plus}
 use Rattle.edge_expression.specs.EntryView.{short_terms}
 use Rattle.edge_expression.specs.EntryValues.{zero_coefficients, sum, joined}
@@ -18,7 +18,7 @@ zero_at (suc (suc (suc zero))) = refl
 zero_at (suc (suc (suc (suc zero)))) = refl
 zero_at (suc (suc (suc (suc (suc k))))) = refl
 
-each_short : (xs : List Short) (k : ℕ) → IsShortTerms (terms_at (map short_terms xs) k)
+each_short : (xs : List ShortFraction) (k : ℕ) → IsShortTerms (terms_at (map short_terms xs) k)
 unfolding terms_at
 each_short [] k = zero_short
 each_short (x ∷ xs) zero = (x.value.valid, x.short)
@@ -39,7 +39,7 @@ pub by_items : (x : List Terms) (a b c d e : Terms) → terms_at x 0 ≡ a → t
     → terms_at x 4 ≡ e → a ∷ b ∷ c ∷ d ∷ e ∷ [] ≡ tabled (terms_at x)
 by_items x a b c d e p q r s t = rw (p, q, r, s, t) refl
 
-pub zero_plus : (xs : List Short) → joined Plus zero_coefficients (map short_terms xs) ≡ Ok (tabled (terms_at (map short_terms xs)))
+pub zero_plus : (xs : List ShortFraction) → joined Plus zero_coefficients (map short_terms xs) ≡ Ok (tabled (terms_at (map short_terms xs)))
 unfolding joined
 zero_plus xs =
     let x = map short_terms xs in

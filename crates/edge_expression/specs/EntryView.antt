@@ -5,7 +5,7 @@ use Rattle.field_core.specs.View.{terms}
 use Rattle.field_core.specs.declared.place.TooWide.{TooWide}
 use Rattle.edge_expression.specs.declared.value_fault.ValueFault.{ValueFault}
 use Rattle.edge_expression.specs.declared.value_fault.ValueFault.TheVariants.{Part}
-use Rattle.edge_expression.specs.declared.short.Short.{Short}
+use Rattle.edge_expression.specs.declared.short_fraction.ShortFraction.{ShortFraction}
 use Rattle.edge_expression.specs.declared.polynomial.Polynomial.{Polynomial}
 use Rattle.edge_expression.specs.declared.polynomial.Operation.{Operation}
 use Rattle.edge_expression.specs.declared.polynomial.Operation.TheVariants.{Add, Subtract, Multiply, Divide}
@@ -15,7 +15,7 @@ use Rattle.edge_expression.specs.Expressions.{Plus, Minus}
 use Rattle.edge_expression.specs.EntryValues.{short_of, sum, difference, quotient, product_sum, joined, times, over}
 
 -- the terms of a short fraction
-abbrev pub short_terms : Short → Terms
+abbrev pub short_terms : ShortFraction → Terms
 short_terms x = terms x.value
 
 -- the value in such a form, or the same fault

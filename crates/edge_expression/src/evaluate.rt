@@ -10,7 +10,7 @@ ghost use Rattle.edge_expression.specs.CursorView.{SumGives, ProductGives, Facto
 
 use crate::cursor::{Cursor, Head};
 use crate::polynomial::{Operation, Polynomial};
-use crate::short::Short;
+use crate::short_fraction::ShortFraction;
 use crate::value_fault::ValueFault;
 use case_model::Entry;
 use fraction::Fraction;
@@ -20,7 +20,7 @@ fn decimal(text: &[u8]) -> Result<Polynomial, ValueFault>
     ensures { (d : Decimal) → text.now ≡ body_text d.body → map_value polynomial_terms result ≡ decimal_entry (decimal_value d) }
 {
     let value = Fraction::parse_decimal(text).ok_or(ValueFault::Part)?;
-    let short = Short::of(value)?;
+    let short = ShortFraction::of(value)?;
     Ok(Polynomial::constant(&short))
 }
 

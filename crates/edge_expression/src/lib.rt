@@ -17,7 +17,7 @@ mod polynomial;
 mod printing;
 mod reading;
 mod scan;
-mod short;
+mod short_fraction;
 mod value_fault;
 
 pub use fault::ExprFault;

@@ -7,7 +7,7 @@ ghost use Rattle.case_model.specs.Sums.{terms_at};
 ghost use Rattle.edge_expression.specs.EntryView.{short_terms, map_value, polynomial_terms, coefficient, applied, CanDivide};
 ghost use Rattle.edge_expression.specs.EntryValues.{plain_entry, degree, product_sum, unit_at, power_value, coefficients, times, over};
 
-use crate::short::Short;
+use crate::short_fraction::ShortFraction;
 use crate::value_fault::ValueFault;
 use case_model::Entry;
 
@@ -17,7 +17,7 @@ const GREATEST: usize = 4;
 /// A polynomial in epsilon of degree at most 4, whose coefficients have parts of at most 10^18.
 #[derive(Clone, Copy)]
 pub struct Polynomial {
-    coefficients: [Short; 5],
+    coefficients: [ShortFraction; 5],
 }
 
 /// What joins two polynomials.
@@ -31,7 +31,7 @@ pub enum Operation {
 
 impl Polynomial {
     /// The polynomial with these coefficients.
-    fn of(coefficients: [Short; 5]) -> Polynomial
+    fn of(coefficients: [ShortFraction; 5]) -> Polynomial
         ensures { polynomial_terms result ≡ map short_terms coefficients }
     {
         Polynomial { coefficients }
@@ -41,19 +41,19 @@ impl Polynomial {
     pub fn zero() -> Polynomial
         ensures { polynomial_terms result ≡ zero_coefficients }
     {
-        Polynomial::of([Short::zero(); 5])
+        Polynomial::of([ShortFraction::zero(); 5])
     }
 
     /// A number.
-    pub fn constant(value: &Short) -> Polynomial
+    pub fn constant(value: &ShortFraction) -> Polynomial
         ensures { polynomial_terms result ≡ plain_entry (short_terms value.now) }
     {
         Polynomial::of([
             *value,
-            Short::zero(),
-            Short::zero(),
-            Short::zero(),
-            Short::zero(),
+            ShortFraction::zero(),
+            ShortFraction::zero(),
+            ShortFraction::zero(),
+            ShortFraction::zero(),
         ])
     }
 
@@ -74,7 +74,7 @@ impl Polynomial {
         ]))
     }
 
-    fn coefficient(&self, power: usize) -> Short
+    fn coefficient(&self, power: usize) -> ShortFraction
         requires { power ≤ 4 }
         ensures { short_terms result ≡ terms_at (polynomial_terms self.now) power }
     {
@@ -160,22 +160,22 @@ impl Polynomial {
 }
 
 /// 1 for the power itself, and 0 for any other.
-fn unit_at(power: usize, at: usize) -> Short
+fn unit_at(power: usize, at: usize) -> ShortFraction
     ensures { short_terms result ≡ unit_at power at }
 {
     if at == power {
-        Short::one()
+        ShortFraction::one()
     } else {
-        Short::zero()
+        ShortFraction::zero()
     }
 }
 
 /// The sum of the products that make a power, by ascending power of the first factor.
-fn product_sum(x: &Polynomial, y: &Polynomial, power: usize) -> Result<Short, ValueFault>
+fn product_sum(x: &Polynomial, y: &Polynomial, power: usize) -> Result<ShortFraction, ValueFault>
     requires { power ≤ 4 }
     ensures { map_value short_terms result ≡ product_sum (polynomial_terms x.now) (polynomial_terms y.now) power (suc power) }
 {
-    let mut sum = Short::zero();
+    let mut sum = ShortFraction::zero();
     for at in 0..power + 1 {
         let product = x.coefficient(at).multiply(&y.coefficient(power - at))?;
         sum = sum.add(&product)?;
@@ -189,7 +189,7 @@ fn coefficient(
     x: &Polynomial,
     y: &Polynomial,
     power: usize,
-) -> Result<Short, ValueFault>
+) -> Result<ShortFraction, ValueFault>
     requires within { power ≤ 4 }
     requires divisor { CanDivide operation (polynomial_terms y.now) }
     ensures { map_value short_terms result ≡ coefficient operation (polynomial_terms x.now) (polynomial_terms y.now) power }

@@ -13,7 +13,7 @@ use Rattle.entangled.specs.CaseRun.{CaseState, state_of, opening_in}
 use Rattle.evidence_check.specs.Evidence.{KeepsOthers}
 use Rattle.evidence_check.specs.CaseCheck.{p_values_of, values_in, MeetsIn, AreStepsOf, case_check}
 use Rattle.evidence_check.specs.declared.verdict.Reason.{Reason}
-use Rattle.evidence_check.specs.declared.event.Event.TheVariants.{Broken}
+use Rattle.evidence_check.specs.declared.event.CheckEvent.TheVariants.{Broken}
 use Rattle.evidence_check.specs.declared.evidence.Evidence.{Evidence}
 use Rattle.evidence_check.specs.declared.evidence.Evidence.TheVariants.{Plain, Eps}
 use Rattle.sequential.specs.Decisions.{IsDecision, hypotheses}

@@ -1,13 +1,13 @@
 -- Checks at all places, one after the other.
 use Rattle.std.proofs.Common.{◌≡◌, ◌⊎◌, inl, inr, refl, ap, ◌∙◌, ℕ, zero, suc, ◌+◌, ◌≤◌, Result, Ok, Err, add-one, arith}
 use Rattle.field_core.specs.Steps.{◌>>=◌}
-use Rattle.evidence_check.specs.declared.event.Event.{Event}
+use Rattle.evidence_check.specs.declared.event.CheckEvent.{CheckEvent}
 use Rattle.evidence_check.specs.CheckSteps.{all_below}
 
 at_or_past : (n m : ℕ) → n ≤ suc m → (n ≡ suc m) ⊎ (n ≤ m)
 at_or_past n m h = grind arith
 
-module _ (f : ℕ → Result (Unit {0}) Event) where
+module _ (f : ℕ → Result (Unit {0}) CheckEvent) where
   pub all_none : all_below 0 f ≡ Ok tt
   unfolding all_below
   all_none = refl
@@ -20,7 +20,7 @@ module _ (f : ℕ → Result (Unit {0}) Event) where
   all_next n e = rw (add-one, all_suc n, e) refl
 
   -- what is refused on the way is refused in the end
-  pub all_refused : (m n : ℕ) (e : Event) → n ≤ m → all_below n f ≡ Err e → all_below m f ≡ Err e
+  pub all_refused : (m n : ℕ) (e : CheckEvent) → n ≤ m → all_below n f ≡ Err e → all_below m f ≡ Err e
   all_refused zero n e h k = let z : n ≡ 0 = omega arith in rw z at k
   all_refused (suc m) n e h k = elim (at_or_past n m h) [
     | inl same ↦ rw same at k

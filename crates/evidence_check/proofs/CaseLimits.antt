@@ -17,7 +17,7 @@ use Rattle.case_numbers.specs.Numbers.{Numbers}
 use Rattle.evidence_check.specs.Evidence.{AreFlows}
 use Rattle.evidence_check.specs.EvidenceParts.{numbers_at, part_at}
 use Rattle.evidence_check.specs.CheckSteps.{written_at, all_below}
-use Rattle.evidence_check.specs.declared.event.Event.{Event}
+use Rattle.evidence_check.specs.declared.event.CheckEvent.{CheckEvent}
 use Rattle.evidence_check.specs.WrittenCheck.{brought_sum, allowed_sum, flow_check, exit_check}
 use Rattle.evidence_check.specs.CheckStatements.{IsLoaded}
 use Rattle.evidence_check.specs.CaseCheck.{loaded_case}
@@ -73,7 +73,7 @@ part_stored K IsStored h parts each (xs ∷ lists) zero e = stored_at K IsStored
 part_stored K IsStored h parts each (xs ∷ lists) (suc c) e = part_stored K IsStored h parts each lists c e
 
 -- as many components as the case has
-pub case_all : (K : Kind) (n : Numbers) (c : Content) (f : ℕ → Result (Unit {0}) Event) (m : ℕ) (r : Result (Unit {0}) Event)
+pub case_all : (K : Kind) (n : Numbers) (c : Content) (f : ℕ → Result (Unit {0}) CheckEvent) (m : ℕ) (r : Result (Unit {0}) CheckEvent)
     → m ≡ length c.components → r ≡ all_below m f → all_below (loaded_case K n c).components f ≡ r
 unfolding loaded_case
 case_all K n c f m r e h = sym (h ∙ ap (λ m. all_below m f) e)

@@ -21,9 +21,9 @@ use Rattle.evidence_check.specs.declared.evidence.KeepProof.{KeepProof}
 use Rattle.evidence_check.specs.declared.evidence.Evidence.{Evidence}
 use Rattle.evidence_check.specs.declared.evidence.Evidence.TheVariants.{Plain, Eps}
 use Rattle.evidence_check.specs.declared.evidence.Steps.{Steps}
-use Rattle.evidence_check.specs.declared.event.Event.{Event}
-use Rattle.evidence_check.specs.declared.event.Event.TheVariants.{Broken, Undefined}
-use Rattle.evidence_check.specs.declared.event.EventAt.{EventAt}
+use Rattle.evidence_check.specs.declared.event.CheckEvent.{CheckEvent}
+use Rattle.evidence_check.specs.declared.event.CheckEvent.TheVariants.{Broken, Undefined}
+use Rattle.evidence_check.specs.declared.event.CheckEventAt.{CheckEventAt}
 use Rattle.evidence_check.specs.declared.verdict.Reason.{Reason}
 use Rattle.evidence_check.specs.declared.verdict.Verdict.{Verdict}
 use Rattle.evidence_check.specs.declared.verdict.Verdict.TheVariants.{Yes, No}
@@ -36,7 +36,7 @@ use Rattle.evidence_check.proofs.CaseLimits.{part_stored}
 
 -- ---- in these numbers
 
-numbered_ok : (r : Result (Unit {0}) Event) (u : Unit {0}) → numbered 0 r ≡ Ok u → r ≡ Ok tt
+numbered_ok : (r : Result (Unit {0}) CheckEvent) (u : Unit {0}) → numbered 0 r ≡ Ok u → r ≡ Ok tt
 unfolding numbered
 numbered_ok (Ok v) u w = refl
 numbered_ok (Err e) u w = absurd (cc)
@@ -62,11 +62,11 @@ module _ (K : Kind) (n : Numbers) (c : Content) (steps : List StepParts) (keeps 
   unfolding check_in written_check
   check_in_is = refl
 
-  pub loads_refused : (e : EventAt) → numbered 0 (all_loads n c) ≡ Err e → check_in K n c steps keeps ≡ Err e
+  pub loads_refused : (e : CheckEventAt) → numbered 0 (all_loads n c) ≡ Err e → check_in K n c steps keeps ≡ Err e
   loads_refused e h = rw (check_in_is, h) refl
 
   module _ (u : Unit {0}) (l : numbered 0 (all_loads n c) ≡ Ok u) where
-    pub steps_refused : (e : EventAt) → steps_check K (loaded_case K n c) [] steps ≡ Err e → check_in K n c steps keeps ≡ Err e
+    pub steps_refused : (e : CheckEventAt) → steps_check K (loaded_case K n c) [] steps ≡ Err e → check_in K n c steps keeps ≡ Err e
     steps_refused e h = rw (check_in_is, l, h) refl
 
     pub check_done : (js : List ℕ) → steps_check K (loaded_case K n c) [] steps ≡ Ok js
@@ -119,17 +119,17 @@ module _ (c : Content) where
   eps_check v e h p = case_check_is in_quotients (quotients_of p) _ _ ∙ ap (λ e. case_check c (steps_of e) (keeps_of e)) (sym h)
 
 -- what a yes and a no say of the check
-no_yes : (n : ℕ) (v : Event) → verdict_by n v ≡ Ok Yes → ⊥
+no_yes : (n : ℕ) (v : CheckEvent) → verdict_by n v ≡ Ok Yes → ⊥
 no_yes n (Broken reason) h = absurd (cc)
 no_yes n (Undefined w) h = absurd (cc)
 
-pub yes_is : (r : Result (Unit {0}) EventAt) → verdict_of r ≡ Ok Yes → r ≡ Ok tt
+pub yes_is : (r : Result (Unit {0}) CheckEventAt) → verdict_of r ≡ Ok Yes → r ≡ Ok tt
 unfolding verdict_of
 yes_is (Ok u) h = refl
 yes_is (Err e) h = absurd (no_yes e.number e.event h)
 
-event_is : (k : ℕ) (v : Event) (n : ℕ) (reason : Reason) → verdict_by k v ≡ Ok (No n reason)
-    → Path EventAt (record { number = k; event = v }) (record { number = n; event = Broken reason })
+event_is : (k : ℕ) (v : CheckEvent) (n : ℕ) (reason : Reason) → verdict_by k v ≡ Ok (No n reason)
+    → Path CheckEventAt (record { number = k; event = v }) (record { number = n; event = Broken reason })
 event_is k (Broken other) n reason h =
     let f : Path Verdict (No k other) (No n reason) = cc in
     let a : k ≡ n = cc in
@@ -137,7 +137,7 @@ event_is k (Broken other) n reason h =
     ap₂ (λ k r. record { number = k; event = Broken r }) a b
 event_is k (Undefined w) n reason h = absurd (cc)
 
-pub no_is : (r : Result (Unit {0}) EventAt) (n : ℕ) (reason : Reason) → verdict_of r ≡ Ok (No n reason)
+pub no_is : (r : Result (Unit {0}) CheckEventAt) (n : ℕ) (reason : Reason) → verdict_of r ≡ Ok (No n reason)
     → r ≡ Err (record { number = n; event = Broken reason })
 unfolding verdict_of
 no_is (Ok u) n reason h = absurd (cc)

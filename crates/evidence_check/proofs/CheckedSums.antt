@@ -13,7 +13,7 @@ use Rattle.field_core.specs.Runs.{IsOrder}
 use Rattle.field_core.specs.Kind.{Parts, Kind}
 use Rattle.field_core.specs.Exact.{IsExact, Gives, value_of}
 use Rattle.field_core.specs.Steps.{each_below}
-use Rattle.evidence_check.specs.declared.event.Event.{Event}
+use Rattle.evidence_check.specs.declared.event.CheckEvent.{CheckEvent}
 use Rattle.field_core.specs.Laws.NumberLaws.{number_add_comm, number_add_zero}
 use Rattle.fraction.specs.Plain.{plain, single, IsFraction}
 use Rattle.fraction.specs.Laws.PlainLaws.{plain_is_exact}
@@ -55,7 +55,7 @@ module _ (K : Kind) (IsStored : Parts → Type 0) (X : IsExact K IsStored) where
         (λ c p. S.each c plain.zero p))
 
     -- levels, where each limit is found with what is said of its component
-    pub level_tells : (k : ℕ) (f : ℕ → Result Parts Event) (v : ℕ → Number) (P : ℕ → Type 0) (Bad : Type 0)
+    pub level_tells : (k : ℕ) (f : ℕ → Result Parts CheckEvent) (v : ℕ → Number) (P : ℕ → Type 0) (Bad : Type 0)
         → ((c : ℕ) → c < L.components → Tells (f c) (λ x. Gives IsFraction x (v c) × P c) Bad)
         → Tells (level_by L k f) (λ t. Gives IsFraction t (sum_below number_field E.components (λ c. E.share c *ε v c))
         × ((c : ℕ) → c < L.components → P c)) Bad

@@ -12,7 +12,7 @@ use Rattle.field_core.specs.Steps.{◌>>=◌}
 use Rattle.fraction.specs.Plain.{single}
 use Rattle.evidence_check.specs.Evidence.{at_place}
 use Rattle.evidence_check.specs.EvidenceParts.{numbers_at}
-use Rattle.evidence_check.specs.declared.event.Event.{Event}
+use Rattle.evidence_check.specs.declared.event.CheckEvent.{CheckEvent}
 use Rattle.evidence_check.specs.declared.verdict.Reason.{Reason}
 use Rattle.evidence_check.specs.declared.verdict.Reason.TheVariants.{NegativeExit, ShortExit, AboveOne}
 use Rattle.evidence_check.specs.CheckSteps.{demand, written_at, all_below}
@@ -25,7 +25,7 @@ demand_met true reason u h = refl
 demand_met false reason u h = absurd (cc)
 
 -- a comparison with 1
-pub order_is : (K : Kind) (s y : Parts) (c : ℕ) (place : Place) (r : Result Ordering TooWide) (q x : Result Ordering Event) → r ≡ K.compare s y
+pub order_is : (K : Kind) (s y : Parts) (c : ℕ) (place : Place) (r : Result Ordering TooWide) (q x : Result Ordering CheckEvent) → r ≡ K.compare s y
     → y ≡ K.one → q ≡ written_at c place r → q ≡ x → written_at c place (K.compare s K.one) ≡ x
 order_is K s y c place r q x a b d e = ap (written_at c place) (ap (K.compare s) (sym b) ∙ sym a) ∙ sym d ∙ e
 
@@ -40,18 +40,18 @@ module _ (K : Kind) (L : Loaded) (js : List ℕ) (h : ℕ → Parts) (k c r : �
     tested : demand test (NegativeExit c r) ≡ demand (not_less (sign_of (h r))) (NegativeExit c r)
     tested = ap (λ b. demand b (NegativeExit c r)) (t ∙ ap (λ x. not_less (sign_of x)) f)
 
-    pub exit_negative : (e : Event) → demand test (NegativeExit c r) ≡ Err e → exit_check K L js h k c r ≡ Err e
+    pub exit_negative : (e : CheckEvent) → demand test (NegativeExit c r) ≡ Err e → exit_check K L js h k c r ≡ Err e
     exit_negative e g = rw (exit_check_is, ← tested, g) refl
 
     module _ (u : Unit {0}) (d : demand test (NegativeExit c r) ≡ Ok u) where
-      pub leaving_refused : (e : Event) → leaving_sum K L js h k c r ≡ Err e → exit_check K L js h k c r ≡ Err e
+      pub leaving_refused : (e : CheckEvent) → leaving_sum K L js h k c r ≡ Err e → exit_check K L js h k c r ≡ Err e
       leaving_refused e g = rw (exit_check_is, ← tested, d, g) refl
 
       module _ (sum : Parts) (s : leaving_sum K L js h k c r ≡ Ok sum) (at : ℕ) (a : at ≡ at_place js r) where
         compared_is : written_at c (Exit at k) (K.compare sum exit) ≡ written_at c (Exit (at_place js r) k) (K.compare sum (h r))
         compared_is = ap (λ i. written_at c (Exit i k) (K.compare sum exit)) a ∙ ap (λ x. written_at c (Exit (at_place js r) k) (K.compare sum x)) f
 
-        pub exit_order_refused : (e : Event) → written_at c (Exit at k) (K.compare sum exit) ≡ Err e → exit_check K L js h k c r ≡ Err e
+        pub exit_order_refused : (e : CheckEvent) → written_at c (Exit at k) (K.compare sum exit) ≡ Err e → exit_check K L js h k c r ≡ Err e
         exit_order_refused e g = rw (exit_check_is, ← tested, d, s, ← compared_is, g) refl
 
         pub exit_done : (order : Ordering) → written_at c (Exit at k) (K.compare sum exit) ≡ Ok order
@@ -59,7 +59,7 @@ module _ (K : Kind) (L : Loaded) (js : List ℕ) (h : ℕ → Parts) (k c r : �
         exit_done order g = rw (exit_check_is, ← tested, d, s, ← compared_is, g) refl
 
 -- as many exits as steps, and those of a component
-pub exits_are : (K : Kind) (L : Loaded) (js : List ℕ) (k c n : ℕ) (xs ys : List Parts) (r : Result (Unit {0}) Event) → n ≡ length js → xs ≡ ys
+pub exits_are : (K : Kind) (L : Loaded) (js : List ℕ) (k c n : ℕ) (xs ys : List Parts) (r : Result (Unit {0}) CheckEvent) → n ≡ length js → xs ≡ ys
     → r ≡ all_below n (exit_check K L js (numbers_at K xs) k c) → r ≡ all_below (length js) (exit_check K L js (numbers_at K ys) k c)
 exits_are K L js k c n xs ys r m e h = h ∙ ap (λ n. all_below n (exit_check K L js (numbers_at K xs) k c)) m
     ∙ ap (λ xs. all_below (length js) (exit_check K L js (numbers_at K xs) k c)) e
@@ -71,15 +71,15 @@ module _ (K : Kind) (L : Loaded) (js : List ℕ) (xs ys : List Parts) (same : xs
   unfolding allowed_limit
   limit_is = ap (λ ys. allowed_limit K L js (numbers_at K ys) k c) (sym same)
 
-  pub allowed_refused : (e : Event) → allowed_sum K L js (numbers_at K xs) k c ≡ Err e → allowed_limit K L js (numbers_at K ys) k c ≡ Err e
+  pub allowed_refused : (e : CheckEvent) → allowed_sum K L js (numbers_at K xs) k c ≡ Err e → allowed_limit K L js (numbers_at K ys) k c ≡ Err e
   allowed_refused e g = rw (limit_is, g) refl
 
   module _ (sum : Parts) (s : allowed_sum K L js (numbers_at K xs) k c ≡ Ok sum) where
-    pub one_refused : (e : Event) → written_at c (Level k) (K.compare sum K.one) ≡ Err e → allowed_limit K L js (numbers_at K ys) k c ≡ Err e
+    pub one_refused : (e : CheckEvent) → written_at c (Level k) (K.compare sum K.one) ≡ Err e → allowed_limit K L js (numbers_at K ys) k c ≡ Err e
     one_refused e g = rw (limit_is, s, g) refl
 
     module _ (order : Ordering) (o : written_at c (Level k) (K.compare sum K.one) ≡ Ok order) where
-      pub above_one : (e : Event) → demand (is_le order) (AboveOne c) ≡ Err e → allowed_limit K L js (numbers_at K ys) k c ≡ Err e
+      pub above_one : (e : CheckEvent) → demand (is_le order) (AboveOne c) ≡ Err e → allowed_limit K L js (numbers_at K ys) k c ≡ Err e
       above_one e g = rw (limit_is, s, o, g) refl
 
       pub limit_found : (u : Unit {0}) → demand (is_le order) (AboveOne c) ≡ Ok u

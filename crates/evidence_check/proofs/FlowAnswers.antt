@@ -8,13 +8,13 @@ use Rattle.field_core.specs.Kind.{Parts, Kind, sign_of}
 use Rattle.field_core.specs.Steps.{◌>>=◌}
 use Rattle.evidence_check.specs.Evidence.{at_place}
 use Rattle.evidence_check.specs.EvidenceParts.{numbers_at}
-use Rattle.evidence_check.specs.declared.event.Event.{Event}
+use Rattle.evidence_check.specs.declared.event.CheckEvent.{CheckEvent}
 use Rattle.evidence_check.specs.declared.verdict.Reason.TheVariants.{Negative, Exceeds}
 use Rattle.evidence_check.specs.CheckSteps.{demand, written_at, all_below}
 use Rattle.evidence_check.specs.WrittenCheck.{Loaded, brought_sum, flow_check}
 
 module _ (K : Kind) (L : Loaded) (js : List ℕ) (y : ℕ → Parts) (c r : ℕ) where
-  abbrev sum_at : ℕ → Result Parts Event
+  abbrev sum_at : ℕ → Result Parts CheckEvent
   sum_at at = brought_sum K L js (Bound at) y at c
 
   flow_check_is : flow_check K L js y c
@@ -27,11 +27,11 @@ module _ (K : Kind) (L : Loaded) (js : List ℕ) (y : ℕ → Parts) (c r : ℕ)
     tested : demand test (Negative c r) ≡ demand (not_less (sign_of (y r))) (Negative c r)
     tested = ap (λ b. demand b (Negative c r)) (t ∙ ap (λ x. not_less (sign_of x)) f)
 
-    pub flow_negative : (e : Event) → demand test (Negative c r) ≡ Err e → flow_check K L js y c r ≡ Err e
+    pub flow_negative : (e : CheckEvent) → demand test (Negative c r) ≡ Err e → flow_check K L js y c r ≡ Err e
     flow_negative e h = rw (flow_check_is, ← tested, h) refl
 
     module _ (u : Unit {0}) (d : demand test (Negative c r) ≡ Ok u) where
-      pub sum_refused : (e : Event) → sum_at at ≡ Err e → flow_check K L js y c r ≡ Err e
+      pub sum_refused : (e : CheckEvent) → sum_at at ≡ Err e → flow_check K L js y c r ≡ Err e
       sum_refused e h = rw (flow_check_is, ← tested, d, ← a, h) refl
 
       module _ (sum : Parts) (s : sum_at at ≡ Ok sum) where
@@ -41,7 +41,7 @@ module _ (K : Kind) (L : Loaded) (js : List ℕ) (y : ℕ → Parts) (c r : ℕ)
         summed : sum_at (at_place js r) ≡ Ok sum
         summed = ap sum_at (sym a) ∙ s
 
-        pub order_refused : (e : Event) → written_at c (Bound at) (K.compare flow sum) ≡ Err e → flow_check K L js y c r ≡ Err e
+        pub order_refused : (e : CheckEvent) → written_at c (Bound at) (K.compare flow sum) ≡ Err e → flow_check K L js y c r ≡ Err e
         order_refused e h = rw (flow_check_is, ← tested, d, summed, ← compared_is, h) refl
 
         pub flow_done : (order : Ordering) → written_at c (Bound at) (K.compare flow sum) ≡ Ok order
@@ -49,7 +49,7 @@ module _ (K : Kind) (L : Loaded) (js : List ℕ) (y : ℕ → Parts) (c r : ℕ)
         flow_done order h = rw (flow_check_is, ← tested, d, summed, ← compared_is, h) refl
 
 -- as many flows as earlier steps, and those of a component
-pub flows_are : (K : Kind) (L : Loaded) (js : List ℕ) (c n : ℕ) (xs ys : List Parts) (r : Result (Unit {0}) Event) → n ≡ length js → xs ≡ ys
+pub flows_are : (K : Kind) (L : Loaded) (js : List ℕ) (c n : ℕ) (xs ys : List Parts) (r : Result (Unit {0}) CheckEvent) → n ≡ length js → xs ≡ ys
     → r ≡ all_below n (flow_check K L js (numbers_at K xs) c) → r ≡ all_below (length js) (flow_check K L js (numbers_at K ys) c)
 flows_are K L js c n xs ys r m e h = h ∙ ap (λ n. all_below n (flow_check K L js (numbers_at K xs) c)) m
     ∙ ap (λ xs. all_below (length js) (flow_check K L js (numbers_at K xs) c)) e

@@ -7,7 +7,7 @@ use Rattle.fraction.specs.Plain.{plain}
 use Rattle.case_model.specs.Content.{Content}
 use Rattle.case_numbers.specs.Numbers.{Numbers}
 use Rattle.evidence_check.specs.EvidenceParts.{numbers_at}
-use Rattle.evidence_check.specs.declared.event.Event.{Event}
+use Rattle.evidence_check.specs.declared.event.CheckEvent.{CheckEvent}
 use Rattle.evidence_check.specs.WrittenCheck.{added, shared_sum, level_by}
 use Rattle.evidence_check.specs.CaseCheck.{share_in, loaded_case}
 
@@ -17,13 +17,13 @@ module _ (K : Kind) (n : Numbers) (c : Content) (k : ℕ) where
   unfolding shared_sum loaded_case
   shared_is limits = refl
 
-  module _ (f : ℕ → Result Parts Event) where
+  module _ (f : ℕ → Result Parts CheckEvent) where
     level_is : level_by (loaded_case K n c) k f ≡ (each_below (length c.components) f >>= shared_sum (loaded_case K n c) k)
     unfolding level_by loaded_case
     level_is = refl
 
-    module _ {U : Type 0} (xs : List Parts) (r : Result U Event) (filled : ok_map (λ _. xs) r ≡ each_below (length c.components) f) where
-      pub level_refused : (e : Event) → r ≡ Err e → level_by (loaded_case K n c) k f ≡ Err e
+    module _ {U : Type 0} (xs : List Parts) (r : Result U CheckEvent) (filled : ok_map (λ _. xs) r ≡ each_below (length c.components) f) where
+      pub level_refused : (e : CheckEvent) → r ≡ Err e → level_by (loaded_case K n c) k f ≡ Err e
       level_refused e h = rw (level_is, ← filled, h) refl
 
       pub level_found : (u : U) → r ≡ Ok u → level_by (loaded_case K n c) k f ≡ shared_sum (loaded_case K n c) k xs

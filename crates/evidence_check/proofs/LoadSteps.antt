@@ -6,7 +6,7 @@ use Rattle.field_core.specs.Kind.{Parts, ok_map}
 use Rattle.case_model.specs.Entries.{entry_at}
 use Rattle.case_model.specs.Content.{Content, component_at}
 use Rattle.case_numbers.specs.Numbers.{Numbers, loaded_edge}
-use Rattle.evidence_check.specs.declared.event.Event.{Event}
+use Rattle.evidence_check.specs.declared.event.CheckEvent.{CheckEvent}
 use Rattle.evidence_check.specs.CheckSteps.{written_at}
 use Rattle.evidence_check.specs.CaseCheck.{written_edge, edge_load}
 use Rattle.evidence_check.proofs.AddedSteps.{written_map}
@@ -17,7 +17,7 @@ module _ {F : Type 0} (v : F → Parts) (n : Numbers) (c : Content) (k l j : ℕ
   unfolding edge_load written_edge
   load_is = ap (λ r. ok_map (λ _. tt) (written_at k (Edge l j) r)) (sym e) ∙ ap (ok_map (λ _. tt)) (sym (written_map v k (Edge l j) r))
 
-  pub edge_refused : (x : Event) → written_at k (Edge l j) r ≡ Err x → edge_load n c k l j ≡ Err x
+  pub edge_refused : (x : CheckEvent) → written_at k (Edge l j) r ≡ Err x → edge_load n c k l j ≡ Err x
   edge_refused x h = rw (load_is, h) refl
 
   pub edge_done : (x : F) → written_at k (Edge l j) r ≡ Ok x → edge_load n c k l j ≡ Ok tt

@@ -27,7 +27,7 @@ use Rattle.case_numbers.specs.Numbers.{Numbers}
 use Rattle.evidence_check.specs.EvidenceParts.{StepParts, KeepParts, part_at}
 use Rattle.evidence_check.specs.EvidenceView.{hypotheses_of}
 use Rattle.evidence_check.specs.declared.evidence.ProofStep.{ProofStep}
-use Rattle.evidence_check.specs.declared.event.Event.{Event}
+use Rattle.evidence_check.specs.declared.event.CheckEvent.{CheckEvent}
 use Rattle.evidence_check.specs.declared.verdict.Reason.TheVariants.{Repeated, NoLevel, AboveLevel, Legal}
 use Rattle.evidence_check.specs.CheckSteps.{demand, all_below}
 use Rattle.evidence_check.specs.WrittenCheck.{Loaded, is_above_zero, level_by, flow_check, level_limit, step_check, exit_check, allowed_limit, keep_check}
@@ -66,10 +66,10 @@ pass_is K n c k level b p a e f t =
 -- ---- a step
 
 module _ (K : Kind) (L : Loaded) (js : List ℕ) (s : StepParts) where
-  abbrev pub all_flows : Result (Unit {0}) Event
+  abbrev pub all_flows : Result (Unit {0}) CheckEvent
   all_flows = all_below L.components (λ c. all_below (length js) (flow_check K L js (part_at K s.flows c) c))
 
-  abbrev pub level_there : Result Parts Event
+  abbrev pub level_there : Result Parts CheckEvent
   level_there = level_by L s.hypothesis (λ c. level_limit K L js (part_at K s.flows c) s.hypothesis c)
 
   step_check_is : step_check K L js
@@ -78,27 +78,27 @@ module _ (K : Kind) (L : Loaded) (js : List ℕ) (s : StepParts) where
   unfolding step_check
   step_check_is = refl
 
-  pub repeated : (e : Event) → demand (not (set_of js s.hypothesis)) Repeated ≡ Err e → step_check K L js s ≡ Err e
+  pub repeated : (e : CheckEvent) → demand (not (set_of js s.hypothesis)) Repeated ≡ Err e → step_check K L js s ≡ Err e
   repeated e h = rw (step_check_is, h) refl
 
   -- a step that is checked is of another hypothesis
   pub step_new : (u : Unit {0}) → step_check K L js s ≡ Ok u → demand (not (set_of js s.hypothesis)) Repeated ≡ Ok tt
   step_new u h = go (demand (not (set_of js s.hypothesis)) Repeated) refl
     where
-      go : (r : Result (Unit {0}) Event) → demand (not (set_of js s.hypothesis)) Repeated ≡ r → demand (not (set_of js s.hypothesis)) Repeated ≡ Ok tt
+      go : (r : Result (Unit {0}) CheckEvent) → demand (not (set_of js s.hypothesis)) Repeated ≡ r → demand (not (set_of js s.hypothesis)) Repeated ≡ Ok tt
       go (Ok v) d = d
       go (Err e) d = absurd (let g = sym (repeated e d) ∙ h in cc)
 
   module _ (u : Unit {0}) (d : demand (not (set_of js s.hypothesis)) Repeated ≡ Ok u) where
-    pub flows_refused : (e : Event) → all_flows ≡ Err e → step_check K L js s ≡ Err e
+    pub flows_refused : (e : CheckEvent) → all_flows ≡ Err e → step_check K L js s ≡ Err e
     flows_refused e h = rw (step_check_is, d, h) refl
 
     module _ (w : Unit {0}) (f : all_flows ≡ Ok w) where
-      pub level_refused : (e : Event) → level_there ≡ Err e → step_check K L js s ≡ Err e
+      pub level_refused : (e : CheckEvent) → level_there ≡ Err e → step_check K L js s ≡ Err e
       level_refused e h = rw (step_check_is, d, f, h) refl
 
       module _ (level : Parts) (l : level_there ≡ Ok level) where
-        pub no_level : (e : Event) → demand (is_above_zero (value_of level)) NoLevel ≡ Err e → step_check K L js s ≡ Err e
+        pub no_level : (e : CheckEvent) → demand (is_above_zero (value_of level)) NoLevel ≡ Err e → step_check K L js s ≡ Err e
         no_level e h = rw (step_check_is, d, f, l, h) refl
 
         pub step_done : (v : Unit {0}) → demand (is_above_zero (value_of level)) NoLevel ≡ Ok v
@@ -108,10 +108,10 @@ module _ (K : Kind) (L : Loaded) (js : List ℕ) (s : StepParts) where
 -- ---- a keep
 
 module _ (K : Kind) (L : Loaded) (js : List ℕ) (x : KeepParts) where
-  abbrev pub all_exits : Result (Unit {0}) Event
+  abbrev pub all_exits : Result (Unit {0}) CheckEvent
   all_exits = all_below L.components (λ c. all_below (length js) (exit_check K L js (part_at K x.exits c) x.hypothesis c))
 
-  abbrev pub level_kept : Result Parts Event
+  abbrev pub level_kept : Result Parts CheckEvent
   level_kept = level_by L x.hypothesis (λ c. allowed_limit K L js (part_at K x.exits c) x.hypothesis c)
 
   keep_check_is : keep_check K L js
@@ -119,11 +119,11 @@ module _ (K : Kind) (L : Loaded) (js : List ℕ) (x : KeepParts) where
   unfolding keep_check
   keep_check_is = refl
 
-  pub exits_refused : (e : Event) → all_exits ≡ Err e → keep_check K L js x ≡ Err e
+  pub exits_refused : (e : CheckEvent) → all_exits ≡ Err e → keep_check K L js x ≡ Err e
   exits_refused e h = rw (keep_check_is, h) refl
 
   module _ (w : Unit {0}) (f : all_exits ≡ Ok w) where
-    pub kept_refused : (e : Event) → level_kept ≡ Err e → keep_check K L js x ≡ Err e
+    pub kept_refused : (e : CheckEvent) → level_kept ≡ Err e → keep_check K L js x ≡ Err e
     kept_refused e h = rw (keep_check_is, f, h) refl
 
     pub keep_done : (level : Parts) → level_kept ≡ Ok level

@@ -13,8 +13,8 @@ use Rattle.case_model.proofs.LegalSteps.{removals_next}
 use Rattle.case_model.proofs.NoFaults.{not_true}
 use Rattle.evidence_check.specs.declared.evidence.ProofStep.{ProofStep}
 use Rattle.evidence_check.specs.declared.evidence.KeepProof.{KeepProof}
-use Rattle.evidence_check.specs.declared.event.Event.{Event}
-use Rattle.evidence_check.specs.declared.event.EventAt.{EventAt}
+use Rattle.evidence_check.specs.declared.event.CheckEvent.{CheckEvent}
+use Rattle.evidence_check.specs.declared.event.CheckEventAt.{CheckEventAt}
 use Rattle.evidence_check.specs.EvidenceParts.{AreFull, FlowsFit, ExitsFit}
 use Rattle.evidence_check.specs.EvidenceView.{hypotheses_of, step_parts, keep_parts}
 use Rattle.evidence_check.specs.CheckSteps.{numbered}
@@ -81,7 +81,7 @@ module _ {F : Type 0} (parts : F → Parts) (K : Kind) (L : Loaded) (m component
         ∙ ap (λ n. numbered (n + 1) (step_check K L (hypotheses_of (take i steps)) (step_parts parts s)) >>= λ _. steps_check K L
         (hypotheses_of (take i steps) ++ s.hypothesis ∷ []) (map (step_parts parts) (drop (suc i) steps))) many
 
-    pub steps_stop : (e : EventAt) → numbered (i + 1) (step_check K L (hypotheses_of (take i steps)) (step_parts parts s)) ≡ Err e
+    pub steps_stop : (e : CheckEventAt) → numbered (i + 1) (step_check K L (hypotheses_of (take i steps)) (step_parts parts s)) ≡ Err e
         → steps_check K L [] (map (step_parts parts) steps) ≡ Err e
     steps_stop e w = rw (ahead_is, w) refl
 
@@ -89,7 +89,7 @@ module _ {F : Type 0} (parts : F → Parts) (K : Kind) (L : Loaded) (m component
     one_more = ap hypotheses_of (take-suc steps i s p) ∙ map-append (λ s. s.hypothesis) (take i steps) (get_or steps i s ∷ [])
         ∙ ap (λ s. hypotheses_of (take i steps) ++ s.hypothesis ∷ []) (sym h)
 
-    done : (r : Result (Unit {0}) Event) (u : Unit {0}) → numbered (i + 1) r ≡ Ok u → r ≡ Ok tt
+    done : (r : Result (Unit {0}) CheckEvent) (u : Unit {0}) → numbered (i + 1) r ≡ Ok u → r ≡ Ok tt
     unfolding numbered
     done (Ok v) u w = refl
     done (Err e) u w = absurd (cc)
@@ -144,7 +144,7 @@ module _ {F : Type 0} (parts : F → Parts) (K : Kind) (L : Loaded) (js : List �
     unfolding keeps_check
     kept_is = C.ahead ∙ ap (λ xs. keeps_check K L js (n + i) (map (keep_parts parts) xs)) keep_here
 
-    pub keeps_stop : (e : EventAt) → numbered (n + i + 1) (keep_check K L js (keep_parts parts x)) ≡ Err e
+    pub keeps_stop : (e : CheckEventAt) → numbered (n + i + 1) (keep_check K L js (keep_parts parts x)) ≡ Err e
         → keeps_check K L js n (map (keep_parts parts) keeps) ≡ Err e
     keeps_stop e w = rw (kept_is, w) refl
 

@@ -6,10 +6,10 @@ use Rattle.field_core.specs.declared.place.Place.{Place}
 use Rattle.field_core.specs.declared.place.Place.TheVariants.{Level, Exit}
 use Rattle.field_core.specs.Kind.{Parts, Kind}
 use Rattle.evidence_check.specs.Evidence.{at_place}
-use Rattle.evidence_check.specs.declared.event.Event.{Event}
+use Rattle.evidence_check.specs.declared.event.CheckEvent.{CheckEvent}
 use Rattle.evidence_check.specs.WrittenCheck.{Loaded, added, brought_sum, leaving_sum, allowed_sum}
 
-module _ (K : Kind) (L : Loaded) (js : List ℕ) (y : ℕ → Parts) (c k : ℕ) (r : Result Parts Event) (start : Parts) (n : ℕ)
+module _ (K : Kind) (L : Loaded) (js : List ℕ) (y : ℕ → Parts) (c k : ℕ) (r : Result Parts CheckEvent) (start : Parts) (n : ℕ)
     (many : n ≡ length js) where
   pub brought_is : (place : Place) → start ≡ L.weight c k → r ≡ added K (λ _. c) place start y (λ e. L.edge c (at_place js e) k) n
       → r ≡ brought_sum K L js place y k c

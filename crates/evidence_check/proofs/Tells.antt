@@ -8,26 +8,26 @@ use Rattle.field_core.specs.declared.place.Place.{Place}
 use Rattle.field_core.specs.Kind.{ok_map}
 use Rattle.field_core.specs.Steps.{◌>>=◌, each_below}
 use Rattle.evidence_check.specs.CheckSteps.{demand, written_at, numbered, all_below}
-use Rattle.evidence_check.specs.declared.event.EventAt.{EventAt}
+use Rattle.evidence_check.specs.declared.event.CheckEventAt.{CheckEventAt}
 use Rattle.evidence_check.specs.declared.verdict.Reason.{Reason}
-use Rattle.evidence_check.specs.declared.event.Event.{Event}
-use Rattle.evidence_check.specs.declared.event.Event.TheVariants.{Broken}
+use Rattle.evidence_check.specs.declared.event.CheckEvent.{CheckEvent}
+use Rattle.evidence_check.specs.declared.event.CheckEvent.TheVariants.{Broken}
 
 -- Where it goes through, the good holds of what it gives, and where it finds a broken condition, the bad holds.
-pub record Tells {A : Type 0} (r : Result A Event) (Good : A → Type 0) (Bad : Type 0) : Type 0 where
+pub record Tells {A : Type 0} (r : Result A CheckEvent) (Good : A → Type 0) (Bad : Type 0) : Type 0 where
   pub ok : (x : A) → r ≡ Ok x → Good x
   pub bad : (reason : Reason) → r ≡ Err (Broken reason) → Bad
 
-pub record TellsAt {A : Type 0} (r : Result A EventAt) (Good : A → Type 0) (Bad : Type 0) : Type 0 where
+pub record TellsAt {A : Type 0} (r : Result A CheckEventAt) (Good : A → Type 0) (Bad : Type 0) : Type 0 where
   pub ok : (x : A) → r ≡ Ok x → Good x
   pub bad : (n : ℕ) (reason : Reason) → r ≡ Err (record { number = n; event = Broken reason }) → Bad
 
-pub tells_bind : {A B : Type 0} (r : Result A Event) (f : A → Result B Event) (Good : A → Type 0) (Then : B → Type 0) (Bad : Type 0) → Tells r Good Bad
+pub tells_bind : {A B : Type 0} (r : Result A CheckEvent) (f : A → Result B CheckEvent) (Good : A → Type 0) (Then : B → Type 0) (Bad : Type 0) → Tells r Good Bad
     → ((x : A) → Good x → Tells (f x) Then Bad) → Tells (r >>= f) Then Bad
 tells_bind (Ok x) f Good Then Bad T then = then x (T.ok x refl)
 tells_bind (Err e) f Good Then Bad T then = record { ok = λ x h. absurd (cc); bad = λ reason h. T.bad reason (let g : e ≡ Broken reason = cc in ap Err g) }
 
-pub tells_bind_at : {A B : Type 0} (r : Result A EventAt) (f : A → Result B EventAt) (Good : A → Type 0) (Then : B → Type 0) (Bad : Type 0)
+pub tells_bind_at : {A B : Type 0} (r : Result A CheckEventAt) (f : A → Result B CheckEventAt) (Good : A → Type 0) (Then : B → Type 0) (Bad : Type 0)
     → TellsAt r Good Bad → ((x : A) → Good x → TellsAt (f x) Then Bad) → TellsAt (r >>= f) Then Bad
 tells_bind_at (Ok x) f Good Then Bad T then = then x (T.ok x refl)
 tells_bind_at (Err e) f Good Then Bad T then =
@@ -39,11 +39,11 @@ tells_ok x Good Bad g = record { ok = λ y h. let e : x ≡ y = cc in subst Good
 pub tells_ok_at : {A : Type 0} (x : A) (Good : A → Type 0) (Bad : Type 0) → Good x → TellsAt (Ok x) Good Bad
 tells_ok_at x Good Bad g = record { ok = λ y h. let e : x ≡ y = cc in subst Good e g; bad = λ n reason h. absurd (cc) }
 
-pub tells_if : {A : Type 0} (r : Result A Event) (Good More : A → Type 0) (Bad Worse : Type 0) → ((x : A) → Good x → More x) → (Bad → Worse)
+pub tells_if : {A : Type 0} (r : Result A CheckEvent) (Good More : A → Type 0) (Bad Worse : Type 0) → ((x : A) → Good x → More x) → (Bad → Worse)
     → Tells r Good Bad → Tells r More Worse
 tells_if r Good More Bad Worse g b T = record { ok = λ x h. g x (T.ok x h); bad = λ reason h. b (T.bad reason h) }
 
-pub tells_if_at : {A : Type 0} (r : Result A EventAt) (Good More : A → Type 0) (Bad Worse : Type 0) → ((x : A) → Good x → More x) → (Bad → Worse)
+pub tells_if_at : {A : Type 0} (r : Result A CheckEventAt) (Good More : A → Type 0) (Bad Worse : Type 0) → ((x : A) → Good x → More x) → (Bad → Worse)
     → TellsAt r Good Bad → TellsAt r More Worse
 tells_if_at r Good More Bad Worse g b T = record { ok = λ x h. g x (T.ok x h); bad = λ n reason h. b (T.bad n reason h) }
 
@@ -57,20 +57,20 @@ unfolding written_at
 written_tells c place (Ok x) Bad = record { ok = λ y h. let e : x ≡ y = cc in ap Ok e; bad = λ r h. absurd (cc) }
 written_tells c place (Err e) Bad = record { ok = λ x h. absurd (cc); bad = λ r h. absurd (cc) }
 
-pub numbered_tells : {A : Type 0} (n : ℕ) (r : Result A Event) (Good : A → Type 0) (Bad : Type 0) → Tells r Good Bad → TellsAt (numbered n r) Good Bad
+pub numbered_tells : {A : Type 0} (n : ℕ) (r : Result A CheckEvent) (Good : A → Type 0) (Bad : Type 0) → Tells r Good Bad → TellsAt (numbered n r) Good Bad
 unfolding numbered
 numbered_tells n (Ok x) Good Bad T = record { ok = λ y h. let e : x ≡ y = cc in subst Good e (T.ok x refl); bad = λ k r h. absurd (cc) }
 numbered_tells n (Err e) Good Bad T =
     record {
       ok = λ x h. absurd (cc);
       bad = λ k reason h. T.bad reason
-          (let f : Path EventAt (record { number = n; event = e }) (record { number = k; event = Broken reason }) = cc in ap (λ a. Err a.event) f);
+          (let f : Path CheckEventAt (record { number = n; event = e }) (record { number = k; event = Broken reason }) = cc in ap (λ a. Err a.event) f);
     }
 
 last : (i n : ℕ) → i < suc n → (i ≡ n) ⊎ (i < n)
 last i n h = grind arith
 
-pub all_tells : (n : ℕ) (f : ℕ → Result (Unit {0}) Event) (P : ℕ → Type 0) → ((i : ℕ) → i < n → Tells (f i) (λ _. P i) (¬ P i))
+pub all_tells : (n : ℕ) (f : ℕ → Result (Unit {0}) CheckEvent) (P : ℕ → Type 0) → ((i : ℕ) → i < n → Tells (f i) (λ _. P i) (¬ P i))
     → Tells (all_below n f) (λ _. (i : ℕ) → i < n → P i) (¬ ((i : ℕ) → i < n → P i))
 unfolding all_below
 all_tells zero f P each = tells_ok tt _ _ (λ i p. absurd (omega arith))
@@ -81,7 +81,7 @@ all_tells (suc n) f P each =
     (λ b all. b (all n (omega arith))) (each n (omega arith)))
 
 -- the same where a broken condition says something else
-pub all_tells_or : (n : ℕ) (f : ℕ → Result (Unit {0}) Event) (P : ℕ → Type 0) (Bad : Type 0) → ((i : ℕ) → i < n → Tells (f i) (λ _. P i) Bad)
+pub all_tells_or : (n : ℕ) (f : ℕ → Result (Unit {0}) CheckEvent) (P : ℕ → Type 0) (Bad : Type 0) → ((i : ℕ) → i < n → Tells (f i) (λ _. P i) Bad)
     → Tells (all_below n f) (λ _. (i : ℕ) → i < n → P i) Bad
 unfolding all_below
 all_tells_or zero f P Bad each = tells_ok tt _ _ (λ i p. absurd (omega arith))
@@ -111,7 +111,7 @@ each_next n P xs x E g = record {
     seam : (i : ℕ) (d : _) → i ≡ n → get_or (xs ++ x ∷ []) i d ≡ x
     seam i d e = ap (λ k. get_or (xs ++ x ∷ []) k d) (e ∙ sym E.count) ∙ get_or-append_seam xs x [] d
 
-pub each_tells : {A : Type 0} (n : ℕ) (f : ℕ → Result A Event) (P : ℕ → A → Type 0) (Bad : Type 0)
+pub each_tells : {A : Type 0} (n : ℕ) (f : ℕ → Result A CheckEvent) (P : ℕ → A → Type 0) (Bad : Type 0)
     → ((i : ℕ) → i < n → Tells (f i) (P i) Bad) → Tells (each_below n f) (AreEach n P) Bad
 unfolding each_below
 each_tells zero f P Bad each = tells_ok [] _ _ (record { count = refl; each = λ i d p. absurd (omega arith) })
@@ -122,7 +122,7 @@ each_tells (suc n) f P Bad each =
     (λ x g. tells_ok (xs ++ x ∷ []) _ _ (each_next n P xs x E g)))
 
 -- what is given, seen through `g`
-pub tells_map : {A B : Type 0} (g : A → B) (r : Result A Event) (Good : A → Type 0) (More : B → Type 0) (Bad : Type 0)
+pub tells_map : {A B : Type 0} (g : A → B) (r : Result A CheckEvent) (Good : A → Type 0) (More : B → Type 0) (Bad : Type 0)
     → ((x : A) → Good x → More (g x)) → Tells r Good Bad → Tells (ok_map g r) More Bad
 tells_map g (Ok x) Good More Bad then T = tells_ok (g x) More Bad (then x (T.ok x refl))
 tells_map g (Err e) Good More Bad then T = record { ok = λ y h. absurd (cc); bad = λ reason h. T.bad reason (let f : e ≡ Broken reason = cc in ap Err f) }

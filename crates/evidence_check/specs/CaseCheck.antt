@@ -18,9 +18,9 @@ use Rattle.case_model.specs.LegalOrder.{IsListed}
 use Rattle.case_numbers.specs.Numbers.{Numbers, numbers_of, kind_of, IsStoredIn, loaded_weight, loaded_edge}
 use Rattle.evidence_check.specs.Evidence.{EvidenceValues, MeetsConditions, KeepsOthers}
 use Rattle.evidence_check.specs.EvidenceParts.{StepParts, KeepParts}
-use Rattle.evidence_check.specs.declared.event.Event.{Event}
-use Rattle.evidence_check.specs.declared.event.EventAt.{EventAt}
-use Rattle.evidence_check.specs.declared.event.Event.TheVariants.{Broken, Undefined}
+use Rattle.evidence_check.specs.declared.event.CheckEvent.{CheckEvent}
+use Rattle.evidence_check.specs.declared.event.CheckEventAt.{CheckEventAt}
+use Rattle.evidence_check.specs.declared.event.CheckEvent.TheVariants.{Broken, Undefined}
 use Rattle.evidence_check.specs.declared.verdict.Reason.{Reason}
 use Rattle.evidence_check.specs.declared.verdict.Verdict.{Verdict}
 use Rattle.evidence_check.specs.declared.verdict.Verdict.TheVariants.{Yes, No}
@@ -55,19 +55,19 @@ module _ (n : Numbers) (c : Content) where
   AllLoad = (k l j : ℕ) → k < length c.components → l < length c.names → j < length c.names → (x : Parts) × (written_edge k l j ≡ Ok x)
 
   -- an edge is loaded
-  unfoldable pub edge_load : ℕ → ℕ → ℕ → Result (Unit {0}) Event
+  unfoldable pub edge_load : ℕ → ℕ → ℕ → Result (Unit {0}) CheckEvent
   edge_load k l j = ok_map (λ _. tt) (written_at k (Edge l j) (written_edge k l j))
 
   -- the edges from `l` in a component are loaded
-  unfoldable pub row_load : ℕ → ℕ → Result (Unit {0}) Event
+  unfoldable pub row_load : ℕ → ℕ → Result (Unit {0}) CheckEvent
   row_load k l = all_below (length c.names) (edge_load k l)
 
   -- the edges of a component are loaded, row by row
-  unfoldable pub component_load : ℕ → Result (Unit {0}) Event
+  unfoldable pub component_load : ℕ → Result (Unit {0}) CheckEvent
   component_load k = all_below (length c.names) (row_load k)
 
   -- all edges are loaded, component by component
-  unfoldable pub all_loads : Result (Unit {0}) Event
+  unfoldable pub all_loads : Result (Unit {0}) CheckEvent
   all_loads = all_below (length c.components) component_load
 
 -- the share of a component
@@ -88,22 +88,22 @@ module _ (K : Kind) (n : Numbers) (c : Content) where
   }
 
   -- the check: the loading is step 0
-  unfoldable pub check_in : List StepParts → List KeepParts → Result (Unit {0}) EventAt
+  unfoldable pub check_in : List StepParts → List KeepParts → Result (Unit {0}) CheckEventAt
   check_in steps keeps = do
     _ ← numbered 0 (all_loads n c)
     written_check K loaded_case steps keeps
 
 -- the check of a case
-unfoldable pub case_check : Content → List StepParts → List KeepParts → Result (Unit {0}) EventAt
+unfoldable pub case_check : Content → List StepParts → List KeepParts → Result (Unit {0}) CheckEventAt
 case_check c = check_in (kind_of (numbers_of c)) (numbers_of c) c
 
 -- what a check answers that ended at this step or keep
-abbrev pub verdict_by : ℕ → Event → Result Verdict CheckWide
+abbrev pub verdict_by : ℕ → CheckEvent → Result Verdict CheckWide
 verdict_by n (Broken reason) = Ok (No n reason)
 verdict_by n (Undefined w) = Err (record { step = n; at = w })
 
 -- what a check that ended so answers
-unfoldable pub verdict_of : Result (Unit {0}) EventAt → Result Verdict CheckWide
+unfoldable pub verdict_of : Result (Unit {0}) CheckEventAt → Result Verdict CheckWide
 verdict_of (Ok u) = Ok Yes
 verdict_of (Err e) = verdict_by e.number e.event
 

@@ -7,7 +7,7 @@ use Rattle.case_model.specs.EntangledGraph.{EntangledGraph, IsValidEntangled}
 use Rattle.evidence_check.specs.Evidence.{EvidenceValues, MeetsConditions}
 use Rattle.evidence_check.specs.EvidenceParts.{StepParts, KeepParts, part_at, step_values, keep_values}
 use Rattle.evidence_check.specs.declared.verdict.Reason.{Reason}
-use Rattle.evidence_check.specs.declared.event.Event.TheVariants.{Broken}
+use Rattle.evidence_check.specs.declared.event.CheckEvent.TheVariants.{Broken}
 use Rattle.evidence_check.specs.WrittenCheck.{Loaded, written_check}
 
 -- stored numbers with the values of an entangled graph

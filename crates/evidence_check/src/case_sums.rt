@@ -11,7 +11,7 @@ ghost use Rattle.evidence_check.specs.WrittenCheck.{brought_sum, leaving_sum, al
 ghost use Rattle.evidence_check.specs.CaseCheck.{loaded_case};
 
 use crate::ProofStep;
-use crate::event::Event;
+use crate::event::CheckEvent;
 use crate::loading::{edge, weight};
 use crate::sums::added;
 use case_model::Case;
@@ -78,7 +78,7 @@ pub fn brought<F: CaseNumber>(
     c: usize,
     flows: &[F],
     k: usize,
-) -> Result<F, Event>
+) -> Result<F, CheckEvent>
     requires c { c < length (content case.now).components }
     requires k { k < length (content case.now).names }
     requires count { length flows.now ≡ length earlier.now }
@@ -104,7 +104,7 @@ pub fn leaving<F: CaseNumber>(
     exits: &[F],
     k: usize,
     r: usize,
-) -> Result<F, Event>
+) -> Result<F, CheckEvent>
     requires c { c < length (content case.now).components }
     requires k { k < length (content case.now).names }
     requires r { r < length steps.now }
@@ -131,7 +131,7 @@ pub fn allowed<F: CaseNumber>(
     c: usize,
     exits: &[F],
     k: usize,
-) -> Result<F, Event>
+) -> Result<F, CheckEvent>
     requires c { c < length (content case.now).components }
     requires k { k < length (content case.now).names }
     requires count { length exits.now ≡ length steps.now }

@@ -16,7 +16,7 @@ ghost use Rattle.evidence_check.specs.CaseCheck.{IsSingle, loaded_case, check_in
 ghost use Rattle.evidence_check.specs.declared.verdict.Reason.{Reason as Broken};
 ghost use Rattle.evidence_check.specs.declared.verdict.Verdict.TheVariants.{Yes, No};
 
-use crate::event::{Event, EventAt};
+use crate::event::{CheckEvent, CheckEventAt};
 use crate::keep::keep;
 use crate::loading::{EvidenceNumber, load};
 use crate::step::step;
@@ -26,31 +26,31 @@ use case_numbers::CaseNumber;
 
 /// An event with the number of its step or keep.
 #[tactic(auto, unfolding(crate::specs::CheckSteps::numbered))]
-fn numbered(number: usize, checked: Result<(), Event>) -> Result<(), EventAt>
+fn numbered(number: usize, checked: Result<(), CheckEvent>) -> Result<(), CheckEventAt>
     ensures { result ≡ numbered number checked }
 {
     match checked {
         Ok(()) => Ok(()),
-        Err(event) => Err(EventAt { number, event }),
+        Err(event) => Err(CheckEventAt { number, event }),
     }
 }
 
 /// What a check that ended so answers.
 #[tactic(auto, unfolding(crate::specs::CaseCheck::verdict_of))]
-pub fn verdict(checked: Result<(), EventAt>) -> Result<Verdict, CheckWide>
+pub fn verdict(checked: Result<(), CheckEventAt>) -> Result<Verdict, CheckWide>
     ensures { result ≡ verdict_of checked }
 {
     match checked {
         Ok(()) => Ok(Verdict::Yes),
-        Err(EventAt { number, event }) => match event {
-            Event::Broken(reason) => Ok(Verdict::No(number, reason)),
-            Event::Undefined(at) => Err(CheckWide { step: number, at }),
+        Err(CheckEventAt { number, event }) => match event {
+            CheckEvent::Broken(reason) => Ok(Verdict::No(number, reason)),
+            CheckEvent::Undefined(at) => Err(CheckWide { step: number, at }),
         },
     }
 }
 
 /// The conditions on all steps, in their order. Where they are met, the steps are of distinct hypotheses.
-pub fn steps<F: CaseNumber>(case: &Case, steps: &[ProofStep<F>]) -> Result<(), EventAt>
+pub fn steps<F: CaseNumber>(case: &Case, steps: &[ProofStep<F>]) -> Result<(), CheckEventAt>
     requires single { IsSingle (content case.now).inputs }
     requires below { All (λ s. s.hypothesis < length (content case.now).names) (map (step_parts F.parts) steps.now) }
     requires fit { FlowsFit (length (content case.now).components) 0 (map (step_parts F.parts) steps.now) }
@@ -69,7 +69,7 @@ pub fn keeps<F: CaseNumber>(
     case: &Case,
     steps: &[ProofStep<F>],
     keeps: &[KeepProof<F>],
-) -> Result<(), EventAt>
+) -> Result<(), CheckEventAt>
     requires single { IsSingle (content case.now).inputs }
     requires below { All (λ x. x.hypothesis < length (content case.now).names) (map (keep_parts F.parts) keeps.now) }
     requires fit { ExitsFit (length (content case.now).components) (length steps.now) (map (keep_parts F.parts) keeps.now) }
@@ -84,7 +84,7 @@ pub fn keeps<F: CaseNumber>(
 }
 
 /// The whole check of evidence, in these numbers. The loading of the case is step 0.
-fn checked<F: EvidenceNumber>(case: &Case, proof: &Steps<F>) -> Result<(), EventAt>
+fn checked<F: EvidenceNumber>(case: &Case, proof: &Steps<F>) -> Result<(), CheckEventAt>
     requires single { IsSingle (content case.now).inputs }
     requires runs { CanRunIn F.numbers (content case.now) }
     requires size { FitsSize (length (content case.now).names) (length (content case.now).components) (map (step_parts F.parts) proof.now.steps) (map (keep_parts F.parts) proof.now.keeps) }
@@ -98,7 +98,7 @@ fn checked<F: EvidenceNumber>(case: &Case, proof: &Steps<F>) -> Result<(), Event
 }
 
 /// The whole check of evidence for a case.
-fn checked_for(case: &Case, proof: &Evidence) -> Result<(), EventAt>
+fn checked_for(case: &Case, proof: &Evidence) -> Result<(), CheckEventAt>
     requires single { IsSingle (content case.now).inputs }
     requires fits { IsEvidenceFor (content case.now) proof.now }
     ensures { result ≡ case_check (content case.now) (steps_of proof.now) (keeps_of proof.now) }

@@ -4,7 +4,7 @@ use field_core::WideAt;
 
 /// What ends the check of a step or of a keep.
 #[derive(Clone, Copy, PartialEq, Eq, Debug)]
-pub enum Event {
+pub enum CheckEvent {
     /// A condition is broken.
     Broken(Reason),
     /// A written operation is undefined.
@@ -13,7 +13,7 @@ pub enum Event {
 
 /// What ends a check, and the step or keep at which it does.
 #[derive(Clone, Copy, PartialEq, Eq, Debug)]
-pub struct EventAt {
+pub struct CheckEventAt {
     pub number: usize,
-    pub event: Event,
+    pub event: CheckEvent,
 }

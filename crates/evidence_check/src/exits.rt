@@ -17,7 +17,7 @@ ghost use Rattle.evidence_check.specs.CheckStatements.{IsLoaded};
 ghost use Rattle.evidence_check.specs.CaseCheck.{loaded_case};
 
 use crate::case_sums::{allowed, hypothesis, leaving, number};
-use crate::event::Event;
+use crate::event::CheckEvent;
 use crate::flows::in_component;
 use crate::sums::{all_below, demand, is_nonnegative, placed};
 use crate::{ProofStep, Reason};
@@ -34,7 +34,7 @@ fn exit<F: CaseNumber>(
     exits: &[F],
     k: usize,
     r: usize,
-) -> Result<(), Event>
+) -> Result<(), CheckEvent>
     requires c { c < length (content case.now).components }
     requires k { k < length (content case.now).names }
     requires r { r < length steps.now }
@@ -57,7 +57,7 @@ pub fn exits<F: CaseNumber>(
     lists: &List<List<F>>,
     k: usize,
     c: usize,
-) -> Result<(), Event>
+) -> Result<(), CheckEvent>
     requires c { c < length (content case.now).components }
     requires k { k < length (content case.now).names }
     requires full { AreFull (length (content case.now).components) (length steps.now) (map (map F.parts) lists.now) }
@@ -75,7 +75,7 @@ pub fn limit<F: CaseNumber>(
     lists: &List<List<F>>,
     k: usize,
     c: usize,
-) -> Result<Fraction, Event>
+) -> Result<Fraction, CheckEvent>
     requires c { c < length (content case.now).components }
     requires k { k < length (content case.now).names }
     requires full { AreFull (length (content case.now).components) (length steps.now) (map (map F.parts) lists.now) }

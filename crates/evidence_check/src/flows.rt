@@ -10,7 +10,7 @@ ghost use Rattle.evidence_check.specs.WrittenCheck.{flow_check};
 ghost use Rattle.evidence_check.specs.CaseCheck.{loaded_case};
 
 use crate::case_sums::{brought, hypothesis, number};
-use crate::event::Event;
+use crate::event::CheckEvent;
 use crate::sums::{all_below, demand, is_nonnegative, placed};
 use crate::{ProofStep, Reason};
 use case_model::Case;
@@ -25,7 +25,7 @@ fn flow<F: CaseNumber>(
     c: usize,
     flows: &[F],
     r: usize,
-) -> Result<(), Event>
+) -> Result<(), CheckEvent>
     requires c { c < length (content case.now).components }
     requires r { r < length earlier.now }
     requires count { length flows.now ≡ length earlier.now }
@@ -56,7 +56,7 @@ pub fn flows<F: CaseNumber>(
     earlier: &[ProofStep<F>],
     lists: &List<List<F>>,
     c: usize,
-) -> Result<(), Event>
+) -> Result<(), CheckEvent>
     requires c { c < length (content case.now).components }
     requires full { AreFull (length (content case.now).components) (length earlier.now) (map (map F.parts) lists.now) }
     requires order { IsOrder (length (content case.now).names) whole (hypotheses_of earlier.now) }

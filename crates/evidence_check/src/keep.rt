@@ -15,7 +15,7 @@ ghost use Rattle.evidence_check.specs.WrittenCheck.{level_by, allowed_limit, kee
 ghost use Rattle.evidence_check.specs.CheckStatements.{IsLoaded};
 ghost use Rattle.evidence_check.specs.CaseCheck.{IsSingle, loaded_case};
 
-use crate::event::Event;
+use crate::event::CheckEvent;
 use crate::exits::{exits, limit};
 use crate::level::{level, passes_at};
 use crate::sums::{all_below, demand};
@@ -31,7 +31,7 @@ fn keep_level<F: CaseNumber>(
     steps: &[ProofStep<F>],
     lists: &List<List<F>>,
     k: usize,
-) -> Result<Fraction, Event>
+) -> Result<Fraction, CheckEvent>
     requires k { k < length (content case.now).names }
     requires full { AreFull (length (content case.now).components) (length steps.now) (map (map F.parts) lists.now) }
     requires order { IsOrder (length (content case.now).names) whole (hypotheses_of steps.now) }
@@ -47,7 +47,7 @@ pub fn keep<F: CaseNumber>(
     case: &Case,
     steps: &[ProofStep<F>],
     keep: &KeepProof<F>,
-) -> Result<(), Event>
+) -> Result<(), CheckEvent>
     requires single { IsSingle (content case.now).inputs }
     requires below { keep.now.hypothesis < length (content case.now).names }
     requires full { AreFull (length (content case.now).components) (length steps.now) (map (map F.parts) keep.now.exits) }

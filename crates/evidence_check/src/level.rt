@@ -9,10 +9,10 @@ ghost use Rattle.case_model.specs.CaseView.{content};
 ghost use Rattle.case_numbers.specs.Numbers.{Numbers};
 ghost use Rattle.evidence_check.specs.WrittenCheck.{is_above_zero, shared_sum, level_by};
 ghost use Rattle.evidence_check.specs.CaseCheck.{IsSingle, loaded_case};
-ghost use Rattle.evidence_check.specs.declared.event.Event.{Event as Ended};
+ghost use Rattle.evidence_check.specs.declared.event.CheckEvent.{CheckEvent as Ended};
 
 use crate::case_sums::number;
-use crate::event::Event;
+use crate::event::CheckEvent;
 use crate::loading::p_value;
 use crate::sums::with_product;
 use case_model::{Case, passes};
@@ -20,7 +20,7 @@ use field_core::{Number, Place, try_fill};
 use fraction::Fraction;
 
 /// The sum of the shares times limits, as the level of `k`.
-fn shared_sum(case: &Case, k: usize, limits: &[Fraction]) -> Result<Fraction, Event>
+fn shared_sum(case: &Case, k: usize, limits: &[Fraction]) -> Result<Fraction, CheckEvent>
     requires { length limits.now ≡ length (content case.now).components }
     ensures { (K : Kind) (n : Numbers) → ok_map fraction_parts result ≡ shared_sum (loaded_case K n (content case.now)) k (map fraction_parts limits.now) }
 {
@@ -32,12 +32,12 @@ fn shared_sum(case: &Case, k: usize, limits: &[Fraction]) -> Result<Fraction, Ev
 }
 
 /// The level of `k` by the limits that `limit` gives in the components, once all are there. They are written to `limits`.
-fn level_in<L: Fn(usize) -> Result<Fraction, Event>>(
+fn level_in<L: Fn(usize) -> Result<Fraction, CheckEvent>>(
     case: &Case,
     k: usize,
     limits: &mut [Fraction],
     limit: L,
-) -> Result<Fraction, Event>
+) -> Result<Fraction, CheckEvent>
     requires limit { (c : ℕ) → c < length (content case.now).components → L.pre limit c }
     requires room { length limits.old ≡ length (content case.now).components }
     ensures { (K : Kind) (n : Numbers) (f : ℕ → Answer Parts Ended) → ((c : ℕ) (r : Answer Ratio Ended) → c < length (content case.now).components → L.post limit c r → ok_map fraction_parts r ≡ f c) → ok_map fraction_parts result ≡ level_by (loaded_case K n (content case.now)) k f }
@@ -47,11 +47,11 @@ fn level_in<L: Fn(usize) -> Result<Fraction, Event>>(
 }
 
 /// The level of `k` by the limits that `limit` gives in the components, once all are there.
-pub fn level<L: Fn(usize) -> Result<Fraction, Event>>(
+pub fn level<L: Fn(usize) -> Result<Fraction, CheckEvent>>(
     case: &Case,
     k: usize,
     limit: L,
-) -> Result<Fraction, Event>
+) -> Result<Fraction, CheckEvent>
     requires { (c : ℕ) → c < length (content case.now).components → L.pre limit c }
     ensures { (K : Kind) (n : Numbers) (f : ℕ → Answer Parts Ended) → ((c : ℕ) (r : Answer Ratio Ended) → c < length (content case.now).components → L.post limit c r → ok_map fraction_parts r ≡ f c) → ok_map fraction_parts result ≡ level_by (loaded_case K n (content case.now)) k f }
 {

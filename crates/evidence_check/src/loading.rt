@@ -13,7 +13,7 @@ ghost use Rattle.case_numbers.specs.Numbers.{IsStoredIn};
 ghost use Rattle.evidence_check.specs.CaseCheck.{IsSingle, p_values_of, loaded_case, edge_load, row_load, component_load, all_loads};
 ghost use Rattle.evidence_check.specs.NumberTexts.{IsConstantOf, IsNumberText, IsNumberOf};
 
-use crate::event::Event;
+use crate::event::CheckEvent;
 use crate::sums::{all_below, placed};
 use case_model::{Case, Inputs};
 use case_numbers::CaseNumber;
@@ -108,7 +108,7 @@ pub fn p_value(case: &Case, k: usize) -> Fraction
 
 /// Whether an edge can be loaded.
 #[tactic(auto, unfolding(crate::specs::CaseCheck::edge_load, crate::specs::CaseCheck::written_edge))]
-fn load_edge<F: CaseNumber>(case: &Case, c: usize, l: usize, k: usize) -> Result<(), Event>
+fn load_edge<F: CaseNumber>(case: &Case, c: usize, l: usize, k: usize) -> Result<(), CheckEvent>
     requires c { c < length (content case.now).components }
     requires l { l < length (content case.now).names }
     requires k { k < length (content case.now).names }
@@ -120,7 +120,7 @@ fn load_edge<F: CaseNumber>(case: &Case, c: usize, l: usize, k: usize) -> Result
 
 /// Whether the edges from `l` in a component can be loaded.
 #[tactic(auto, unfolding(crate::specs::CaseCheck::row_load))]
-fn load_row<F: CaseNumber>(case: &Case, c: usize, l: usize) -> Result<(), Event>
+fn load_row<F: CaseNumber>(case: &Case, c: usize, l: usize) -> Result<(), CheckEvent>
     requires c { c < length (content case.now).components }
     requires l { l < length (content case.now).names }
     ensures { result ≡ row_load F.numbers (content case.now) c l }
@@ -130,7 +130,7 @@ fn load_row<F: CaseNumber>(case: &Case, c: usize, l: usize) -> Result<(), Event>
 
 /// Whether the edges of a component can be loaded.
 #[tactic(auto, unfolding(crate::specs::CaseCheck::component_load))]
-fn load_component<F: CaseNumber>(case: &Case, c: usize) -> Result<(), Event>
+fn load_component<F: CaseNumber>(case: &Case, c: usize) -> Result<(), CheckEvent>
     requires c { c < length (content case.now).components }
     ensures { result ≡ component_load F.numbers (content case.now) c }
 {
@@ -139,7 +139,7 @@ fn load_component<F: CaseNumber>(case: &Case, c: usize) -> Result<(), Event>
 
 /// Whether all edges can be loaded.
 #[tactic(auto, unfolding(crate::specs::CaseCheck::all_loads))]
-pub fn load<F: CaseNumber>(case: &Case) -> Result<(), Event>
+pub fn load<F: CaseNumber>(case: &Case) -> Result<(), CheckEvent>
     ensures { result ≡ all_loads F.numbers (content case.now) }
 {
     all_below(case.components(), |c| load_component::<F>(case, c))

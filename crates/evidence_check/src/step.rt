@@ -16,7 +16,7 @@ ghost use Rattle.evidence_check.specs.CheckStatements.{IsLoaded};
 ghost use Rattle.evidence_check.specs.CaseCheck.{IsSingle, loaded_case};
 
 use crate::case_sums::brought;
-use crate::event::Event;
+use crate::event::CheckEvent;
 use crate::flows::{flows, in_component};
 use crate::level::{is_above_zero, level, passes_at};
 use crate::sums::{all_below, demand};
@@ -41,7 +41,7 @@ fn limit<F: CaseNumber>(
     lists: &List<List<F>>,
     k: usize,
     c: usize,
-) -> Result<Fraction, Event>
+) -> Result<Fraction, CheckEvent>
     requires c { c < length (content case.now).components }
     requires k { k < length (content case.now).names }
     requires full { AreFull (length (content case.now).components) (length earlier.now) (map (map F.parts) lists.now) }
@@ -62,7 +62,7 @@ fn step_level<F: CaseNumber>(
     earlier: &[ProofStep<F>],
     lists: &List<List<F>>,
     k: usize,
-) -> Result<Fraction, Event>
+) -> Result<Fraction, CheckEvent>
     requires k { k < length (content case.now).names }
     requires full { AreFull (length (content case.now).components) (length earlier.now) (map (map F.parts) lists.now) }
     requires order { IsOrder (length (content case.now).names) whole (hypotheses_of earlier.now) }
@@ -79,7 +79,7 @@ pub fn step<F: CaseNumber>(
     case: &Case,
     earlier: &[ProofStep<F>],
     step: &ProofStep<F>,
-) -> Result<(), Event>
+) -> Result<(), CheckEvent>
     requires single { IsSingle (content case.now).inputs }
     requires below { step.now.hypothesis < length (content case.now).names }
     requires full { AreFull (length (content case.now).components) (length earlier.now) (map (map F.parts) step.now.flows) }

@@ -4,28 +4,31 @@ ghost use Rattle.field_core.specs.Kind.{Parts, ok_map, sign_of};
 ghost use Rattle.field_core.specs.Field.{not_less};
 ghost use Rattle.evidence_check.specs.CheckSteps.{demand, written_at, all_below};
 ghost use Rattle.evidence_check.specs.WrittenCheck.{with_product, added};
-ghost use Rattle.evidence_check.specs.declared.event.Event.{Event as Ended};
+ghost use Rattle.evidence_check.specs.declared.event.CheckEvent.{CheckEvent as Ended};
 
 use crate::Reason;
-use crate::event::Event;
+use crate::event::CheckEvent;
 use field_core::{Number, Place, TooWide};
 use std::cmp::Ordering;
 
 /// A condition by its test, and the reason where it is broken.
 #[tactic(auto, unfolding(crate::specs::CheckSteps::demand))]
-pub fn demand(test: bool, reason: Reason) -> Result<(), Event>
+pub fn demand(test: bool, reason: Reason) -> Result<(), CheckEvent>
     ensures { result ≡ demand test reason }
 {
     if test {
         Ok(())
     } else {
-        Err(Event::Broken(reason))
+        Err(CheckEvent::Broken(reason))
     }
 }
 
 /// What `test` finds at 0, 1, .. below `count`, up to the first event.
 #[tactic(auto, using(crate::proofs::AllSteps::all_none, crate::proofs::AllSteps::all_next, crate::proofs::AllSteps::all_refused))]
-pub fn all_below<T: Fn(usize) -> Result<(), Event>>(count: usize, test: T) -> Result<(), Event>
+pub fn all_below<T: Fn(usize) -> Result<(), CheckEvent>>(
+    count: usize,
+    test: T,
+) -> Result<(), CheckEvent>
     requires { (i : ℕ) → i < count → T.pre test i }
     ensures { (f : ℕ → Answer (Unit {0}) Ended) → ((i : ℕ) (r : Answer (Unit {0}) Ended) → i < count → T.post test i r → r ≡ f i) → result ≡ all_below count f }
 {
@@ -44,12 +47,16 @@ pub fn is_nonnegative<F: Number>(x: &F) -> bool
 
 /// A written operation, in a component and at a place.
 #[tactic(auto, unfolding(crate::specs::CheckSteps::written_at))]
-pub fn placed<A>(component: usize, place: Place, written: Result<A, TooWide>) -> Result<A, Event>
+pub fn placed<A>(
+    component: usize,
+    place: Place,
+    written: Result<A, TooWide>,
+) -> Result<A, CheckEvent>
     ensures { result ≡ written_at component place written }
 {
     match written {
         Ok(x) => Ok(x),
-        Err(wide) => Err(Event::Undefined(wide.at(place).in_component(component))),
+        Err(wide) => Err(CheckEvent::Undefined(wide.at(place).in_component(component))),
     }
 }
 
@@ -60,7 +67,7 @@ pub fn with_product<F: Number>(
     sum: &F,
     x: &F,
     y: &F,
-) -> Result<F, Event>
+) -> Result<F, CheckEvent>
     ensures { ok_map F.parts result ≡ with_product F.kind component place (F.parts sum.now) (F.parts x.now) (F.parts y.now) }
 {
     let product = placed(component, place, x.mul(y))?;
@@ -76,7 +83,7 @@ pub fn added<F: Number, X: Fn(usize) -> F, Y: Fn(usize) -> F>(
     count: usize,
     x: X,
     y: Y,
-) -> Result<F, Event>
+) -> Result<F, CheckEvent>
     requires x { (e : ℕ) → e < count → X.pre x e }
     requires y { (e : ℕ) → e < count → Y.pre y e }
     ensures { (f g : ℕ → Parts) → ((e : ℕ) (v : F) → e < count → X.post x e v → F.parts v ≡ f e) → ((e : ℕ) (v : F) → e < count → Y.post y e v → F.parts v ≡ g e) → ok_map F.parts result ≡ added F.kind (λ _. component) place (F.parts start) f g count }

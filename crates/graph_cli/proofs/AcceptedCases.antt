@@ -30,7 +30,7 @@ use Rattle.refusals.specs.CellRefusal.{cell_refusal}
 use Rattle.refusals.specs.JsonRefusal.{json_refusal}
 use Rattle.refusals.specs.TextRefusal.{line_refusal}
 use Rattle.graph_cli.specs.Accepted.{grammar, faultless, of_kind, of_size, suitable, accepted}
-use Rattle.graph_cli.specs.declared.kind.Kind.{Kind}
+use Rattle.graph_cli.specs.declared.kind.InputKind.{InputKind}
 use Rattle.graph_cli.specs.declared.needs.Needs.{Needs}
 
 csv_draft : (records : List Cells) (x y : Ratio) (d e : Draft) → terms x ≡ terms y → IsTable records x d → IsTable records y e → d ≡ e
@@ -86,7 +86,7 @@ faultless_decided d = record {
   not_both = λ c r h k. no_fault (case_fault d) k.0 h.0 k.1;
 }
 
-of_kind_decided : (kind : Kind) (c : Content) → IsDecided (of_kind kind c)
+of_kind_decided : (kind : InputKind) (c : Content) → IsDecided (of_kind kind c)
 of_kind_decided kind c = record {
   one = λ x y h k. h.1 ∙ sym k.1;
   one_refusal = λ r q h k. h.1 ∙ sym k.1;

@@ -23,7 +23,7 @@ use Rattle.report.specs.CheckReport.{check_report}
 use Rattle.graph_cli.specs.Accepted.{IsOfKind, grammar}
 use Rattle.graph_cli.specs.Check.{Said, said_of, listed_in, kept_in, answer_to, check_stage}
 use Rattle.graph_cli.specs.Commands.{call_of, check_call, check_needs}
-use Rattle.graph_cli.specs.declared.kind.Kind.TheVariants.{Single}
+use Rattle.graph_cli.specs.declared.kind.InputKind.TheVariants.{Single}
 use Rattle.graph_cli.specs.Laws.{ReportsEvidence, ChecksAreOfTheClosedTest}
 use Rattle.graph_cli.proofs.ClosedReports.{known_arrivals, faultless_content, not_done}
 

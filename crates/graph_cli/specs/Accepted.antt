@@ -26,8 +26,8 @@ use Rattle.refusals.specs.CellRefusal.{cell_refusal}
 use Rattle.refusals.specs.JsonRefusal.{syntax_refusal, json_refusal}
 use Rattle.refusals.specs.NeedRefusal.{kind_refusal, closure_refusal}
 use Rattle.refusals.specs.TextRefusal.{line_refusal}
-use Rattle.graph_cli.specs.declared.kind.Kind.{Kind}
-use Rattle.graph_cli.specs.declared.kind.Kind.TheVariants.{Any, Single, Staged, Awaited}
+use Rattle.graph_cli.specs.declared.kind.InputKind.{InputKind}
+use Rattle.graph_cli.specs.declared.kind.InputKind.TheVariants.{Any, Single, Staged, Awaited}
 use Rattle.graph_cli.specs.declared.needs.Needs.{Needs}
 
 -- the bytes are the JSON of no value
@@ -61,7 +61,7 @@ abbrev pub case_in : Written → List ℕ → Stage Refusal Content
 case_in form bytes = and_then (grammar form bytes) faultless
 
 -- p-values are of a kind
-abbrev pub IsOfKind : Kind → Inputs → Type 0
+abbrev pub IsOfKind : InputKind → Inputs → Type 0
 IsOfKind Any inputs = Unit {0}
 IsOfKind Single (Values ps) = Unit {0}
 IsOfKind Single NoValues = ⊥
@@ -74,7 +74,7 @@ IsOfKind Awaited NoValues = ⊥
 IsOfKind Awaited (Values ps) = ⊥
 
 -- a case with p-values of a kind
-abbrev pub of_kind : Kind → Content → Stage Refusal Content
+abbrev pub of_kind : InputKind → Content → Stage Refusal Content
 of_kind kind c = record {
   Gives = λ x. IsOfKind kind c.inputs × (x ≡ c);
   Refuses = λ r. ¬ IsOfKind kind c.inputs × (r ≡ kind_refusal);

@@ -19,7 +19,7 @@ use Rattle.graph_cli.specs.Sample.{sample_stage}
 use Rattle.graph_cli.specs.Simes.{simes_stage}
 use Rattle.graph_cli.specs.Test.{test_stage}
 use Rattle.graph_cli.specs.Weights.{weights_stage}
-use Rattle.graph_cli.specs.declared.kind.Kind.TheVariants.{Any, Single, Staged}
+use Rattle.graph_cli.specs.declared.kind.InputKind.TheVariants.{Any, Single, Staged}
 use Rattle.graph_cli.specs.declared.needs.Needs.{Needs}
 
 -- what a task needs of its case

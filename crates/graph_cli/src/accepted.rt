@@ -9,7 +9,7 @@ ghost use Rattle.command_words.specs.Levels.{level_of};
 ghost use Rattle.graph_cli.specs.Accepted.{case_in, of_kind, of_size, suitable, accepted};
 ghost use Rattle.std.specs.Prelude.{◌≡◌};
 
-use crate::kind::Kind;
+use crate::kind::InputKind;
 use crate::needs::Needs;
 use answers::{Halt, Stop, take_whole};
 use case_csv::{CsvFault, read_csv};
@@ -84,7 +84,7 @@ fn read_case(alloc: Global, form: &CaseForm, bytes: &[u8]) -> Result<Case, Halt>
 }
 
 /// A case that has p-values of a kind.
-fn of_kind(alloc: Global, case: Case, kind: Kind) -> Result<Case, Halt>
+fn of_kind(alloc: Global, case: Case, kind: InputKind) -> Result<Case, Halt>
     ensures given { IfOk result (λ result. (of_kind kind (content case)).Gives (content result)) }
     ensures refused { IfErr result (HaltsBy (of_kind kind (content case)).Refuses) }
 {

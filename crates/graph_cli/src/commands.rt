@@ -34,7 +34,7 @@ use crate::commands::simes::simes_answer;
 use crate::commands::stages::stages_answer;
 use crate::commands::test::test_answer;
 use crate::commands::weights::weights_answer;
-use crate::kind::Kind;
+use crate::kind::InputKind;
 use crate::needs::Needs;
 use answers::{Answer, Halt, Stop, take_whole};
 use case_model::Case;
@@ -48,13 +48,13 @@ fn needs_of(task: CaseTask) -> Needs
     ensures { result ≡ needs_of task }
 {
     match task {
-        CaseTask::Test(_) => Needs::new(Kind::Single, 64),
-        CaseTask::Weights => Needs::new(Kind::Any, 16),
-        CaseTask::Bounds => Needs::new(Kind::Single, 16),
-        CaseTask::Simes => Needs::new(Kind::Single, 16),
-        CaseTask::Evidence(_) => Needs::new(Kind::Single, 64),
-        CaseTask::Stages => Needs::new(Kind::Staged, 64),
-        CaseTask::Canon(_) => Needs::new(Kind::Any, 64),
+        CaseTask::Test(_) => Needs::new(InputKind::Single, 64),
+        CaseTask::Weights => Needs::new(InputKind::Any, 16),
+        CaseTask::Bounds => Needs::new(InputKind::Single, 16),
+        CaseTask::Simes => Needs::new(InputKind::Single, 16),
+        CaseTask::Evidence(_) => Needs::new(InputKind::Single, 64),
+        CaseTask::Stages => Needs::new(InputKind::Staged, 64),
+        CaseTask::Canon(_) => Needs::new(InputKind::Any, 64),
     }
 }
 
@@ -101,7 +101,7 @@ fn case_call<S: Source>(
 fn check_needs() -> Needs
     ensures { result ≡ check_needs }
 {
-    Needs::new(Kind::Single, 64)
+    Needs::new(InputKind::Single, 64)
 }
 
 /// What `check` answers to a case and a proof. It takes from the proof only behind a case that it can take.

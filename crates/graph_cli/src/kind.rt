@@ -7,14 +7,14 @@ use case_model::{Case, Inputs};
 /// The p-values that a command needs: any or none, one for each hypothesis, those of stages, or those of stages of which none has
 /// arrived.
 #[derive(Clone, Copy, PartialEq, Eq, Debug)]
-pub enum Kind {
+pub enum InputKind {
     Any,
     Single,
     Staged,
     Awaited,
 }
 
-impl Kind {
+impl InputKind {
     ghost use Rattle.graph_cli.specs.Accepted.{IsOfKind};
 
     /// Whether a case has p-values of the kind.
@@ -22,10 +22,10 @@ impl Kind {
         ensures { IsTrue result ↔ IsOfKind self (content case.now).inputs }
     {
         match (self, case.inputs()) {
-            (Kind::Any, _) => true,
-            (Kind::Single, Inputs::Single(_)) => true,
-            (Kind::Staged, Inputs::Staged(_)) => true,
-            (Kind::Awaited, Inputs::Staged(stages)) => stages.arrivals().is_empty(),
+            (InputKind::Any, _) => true,
+            (InputKind::Single, Inputs::Single(_)) => true,
+            (InputKind::Staged, Inputs::Staged(_)) => true,
+            (InputKind::Awaited, Inputs::Staged(stages)) => stages.arrivals().is_empty(),
             _ => false,
         }
     }

@@ -31,6 +31,6 @@ mod needs;
 mod top;
 
 pub use accepted::accepted_case;
-pub use kind::Kind;
+pub use kind::InputKind;
 pub use needs::Needs;
 pub use top::{file_word, run};

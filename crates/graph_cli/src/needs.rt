@@ -1,17 +1,17 @@
 //! What commands need of their cases.
 ghost use Rattle.std.specs.Prelude.{◌≡◌};
 
-use crate::kind::Kind;
+use crate::kind::InputKind;
 
 /// The p-values that a command needs, and the most hypotheses that it takes. No case has more than 64.
 #[derive(Clone, Copy, PartialEq, Eq, Debug)]
 pub struct Needs {
-    pub kind: Kind,
+    pub kind: InputKind,
     pub most: usize,
 }
 
 impl Needs {
-    pub fn new(kind: Kind, most: usize) -> Needs
+    pub fn new(kind: InputKind, most: usize) -> Needs
         ensures { result ≡ record { kind = kind; most = most } }
     {
         Needs { kind, most }

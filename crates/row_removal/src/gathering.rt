@@ -25,12 +25,12 @@ fn place(row: Option<usize>, k: usize) -> Place
 
 /// Weights and edges over constants.
 #[derive(Drop)]
-pub struct Given<'a> {
+pub struct GivenGraph<'a> {
     weights: &'a [EpsQuotient],
     edges: &'a [EpsQuotient],
 }
 
-impl<'a> Model for Given<'a> {
+impl<'a> Model for GivenGraph<'a> {
     ghost use Rattle.removal.specs.StoredGraph.{StoredGraph};
     ghost use Rattle.row_removal.specs.GivenView.{AreGiven, graph_given};
 
@@ -42,13 +42,13 @@ impl<'a> Model for Given<'a> {
 }
 
 #[tactic(auto, using(crate::proofs::Given::size_given))]
-impl Given<'_> {
+impl GivenGraph<'_> {
     /// Weights and edges over constants: at most 64 weights, and a row of edges for each.
-    pub fn new<'a>(weights: &'a [EpsQuotient], edges: &'a [EpsQuotient]) -> Given<'a>
+    pub fn new<'a>(weights: &'a [EpsQuotient], edges: &'a [EpsQuotient]) -> GivenGraph<'a>
         requires { AreGiven weights.now edges.now }
         ensures { result ≡ graph_given weights.now edges.now }
     {
-        Given { weights, edges }
+        GivenGraph { weights, edges }
     }
 
     /// The number of hypotheses.

@@ -5,7 +5,7 @@ ghost use Rattle.eps_quotient.specs.Lowering.{norm};
 ghost use Rattle.eps_quotient.specs.View.{quotient_parts};
 ghost use Rattle.row_removal.specs.StoredRow.{zero_row};
 
-use crate::gathering::Given;
+use crate::gathering::GivenGraph;
 use crate::new_rows::{write_rows, write_weights};
 use crate::row::Row;
 use eps_poly::EpsPoly;
@@ -243,7 +243,7 @@ impl RowGraph {
     ghost use Rattle.row_removal.specs.Proper.{HasRoom};
 
     /// Writes the rows that are gathered from weights and edges over constants; the marks stay.
-    pub fn gather(&mut self, given: &Given<'_>) -> Result<(), Wide>
+    pub fn gather(&mut self, given: &GivenGraph<'_>) -> Result<(), Wide>
         requires live { self.old.live ≡ given.now.live }
         requires room { HasRoom (size given.now) self.old }
         ensures { ok_map (λ _. self.new) result ≡ gathered given.now }

@@ -6,7 +6,7 @@ ghost use Rattle.row_removal.specs.StoredRows.{rows_size, rows_graph};
 ghost use Rattle.row_removal.specs.Proper.{AreProperRows, HasRoom, proper_is_fact};
 
 use crate::RowOpen;
-use crate::gathering::Given;
+use crate::gathering::GivenGraph;
 use crate::graph::RowGraph;
 use crate::row::Row;
 use eps_quotient::EpsQuotient;
@@ -66,7 +66,7 @@ impl RowNet {
         let mut present = RowGraph::zeros(alloc, count)?;
         let next = RowGraph::zeros(alloc, count)?;
         let spare = Row::zeros(alloc, count)?;
-        present.gather(&Given::new(weights, edges))?;
+        present.gather(&GivenGraph::new(weights, edges))?;
         Ok(RowNet {
             present,
             next,

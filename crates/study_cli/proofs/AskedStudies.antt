@@ -7,7 +7,7 @@ use Rattle.case_model.specs.declared.inputs.Inputs.TheVariants.{Bare, Single as 
 use Rattle.command_words.specs.Asked.{StudyAsked}
 use Rattle.graph_cli.specs.Accepted.{IsOfKind}
 use Rattle.graph_cli.specs.Outcome.{AskStudy}
-use Rattle.graph_cli.specs.declared.kind.Kind.TheVariants.{Awaited}
+use Rattle.graph_cli.specs.declared.kind.InputKind.TheVariants.{Awaited}
 use Rattle.staged_levels.specs.StudyAnswers.{IsStaged}
 use Rattle.study_cli.specs.StudyOutcome.{study_needs, case_of, IsStudied, ReadRose}
 

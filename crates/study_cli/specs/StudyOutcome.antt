@@ -12,7 +12,7 @@ use Rattle.refusals.specs.TextRefusal.{commands_refusal}
 use Rattle.refusals.specs.UsageRefusal.{usage}
 use Rattle.graph_cli.specs.Accepted.{accepted}
 use Rattle.graph_cli.specs.Outcome.{AskStudy}
-use Rattle.graph_cli.specs.declared.kind.Kind.TheVariants.{Awaited}
+use Rattle.graph_cli.specs.declared.kind.InputKind.TheVariants.{Awaited}
 use Rattle.graph_cli.specs.declared.needs.Needs.{Needs}
 use Rattle.study_commands.specs.CommandLines.{AreCommands}
 use Rattle.study_commands.specs.CommandFaults.{IsFirstFault}

@@ -16,7 +16,7 @@ use answers::{Answer, Halt, Stop, take_whole};
 use case_model::Case;
 use command_words::{StudyCall, read_study};
 use field_core::List;
-use graph_cli::{Kind, Needs, accepted_case};
+use graph_cli::{InputKind, Needs, accepted_case};
 use graph_io::{Keeper, Sink, Source};
 use refusals::{commands_refusal, usage};
 use std::alloc::Global;
@@ -28,7 +28,7 @@ use study_commands::{CommandsFault, StudyCommand, read_commands};
 fn study_needs() -> Needs
     ensures { result ≡ study_needs }
 {
-    Needs::new(Kind::Awaited, 64)
+    Needs::new(InputKind::Awaited, 64)
 }
 
 /// The commands that a text says for a case.

@@ -10,7 +10,7 @@ ghost use Rattle.closed_test.specs.WeightsView.{weights_size};
 ghost use Rattle.graph_cli.specs.Accepted.{IsOfKind};
 ghost use Rattle.graph_cli.specs.Bounds.{bounds_stage};
 ghost use Rattle.graph_cli.specs.Sets.{IsWideSet};
-ghost use Rattle.graph_cli.specs.declared.kind.Kind.TheVariants.{Single};
+ghost use Rattle.graph_cli.specs.declared.kind.InputKind.TheVariants.{Single};
 
 use crate::commands::set_faults::set_refusal;
 use answers::{Answer, Halt};

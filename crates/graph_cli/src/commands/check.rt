@@ -5,7 +5,7 @@ ghost use Rattle.case_model.specs.CaseView.{content};
 ghost use Rattle.evidence_check.specs.EvidenceView.{IsEvidenceFor};
 ghost use Rattle.graph_cli.specs.Accepted.{IsOfKind};
 ghost use Rattle.graph_cli.specs.Check.{said_of, evidence_in, checked, answer_to, check_stage};
-ghost use Rattle.graph_cli.specs.declared.kind.Kind.TheVariants.{Single};
+ghost use Rattle.graph_cli.specs.declared.kind.InputKind.TheVariants.{Single};
 
 use answers::{Answer, Halt, Status};
 use case_model::Case;

@@ -6,7 +6,7 @@ ghost use Rattle.evidence.specs.CaseFlows.{IsCompleteOrder};
 ghost use Rattle.graph_cli.specs.Accepted.{IsOfKind};
 ghost use Rattle.graph_cli.specs.Check.{said_of};
 ghost use Rattle.graph_cli.specs.Evidence.{IsFlowRun, flown, confirmed, evidence_stage};
-ghost use Rattle.graph_cli.specs.declared.kind.Kind.TheVariants.{Single};
+ghost use Rattle.graph_cli.specs.declared.kind.InputKind.TheVariants.{Single};
 ghost use Rattle.sequential.specs.Decisions.{hypotheses};
 
 use crate::commands::check::checked;

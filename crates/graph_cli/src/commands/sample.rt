@@ -6,7 +6,7 @@ ghost use Rattle.catalogue.specs.Makings.{sample_case};
 ghost use Rattle.graph_cli.specs.Accepted.{IsOfKind};
 ghost use Rattle.graph_cli.specs.Catalogue.{made_of};
 ghost use Rattle.graph_cli.specs.Sample.{sample_stage};
-ghost use Rattle.graph_cli.specs.declared.kind.Kind.TheVariants.{Single};
+ghost use Rattle.graph_cli.specs.declared.kind.InputKind.TheVariants.{Single};
 
 use crate::commands::catalogue_faults::fault_refusal;
 use crate::commands::test::decided;

@@ -9,7 +9,7 @@ ghost use Rattle.simes_test.specs.SimesAnswers.{AreSimesClosedAnswers, AreAllSum
 ghost use Rattle.simes_test.specs.SimesView.{simes_size, closed_of};
 ghost use Rattle.graph_cli.specs.Accepted.{IsOfKind};
 ghost use Rattle.graph_cli.specs.Simes.{IsWideSimesSet, simes_stage};
-ghost use Rattle.graph_cli.specs.declared.kind.Kind.TheVariants.{Single};
+ghost use Rattle.graph_cli.specs.declared.kind.InputKind.TheVariants.{Single};
 
 use crate::commands::weights::weighed;
 use answers::{Answer, Halt};

@@ -4,7 +4,7 @@ ghost use Rattle.answers.specs.Halts.{HaltsBy};
 ghost use Rattle.case_model.specs.CaseView.{content};
 ghost use Rattle.graph_cli.specs.Accepted.{IsOfKind};
 ghost use Rattle.graph_cli.specs.Stages.{looked, stages_stage};
-ghost use Rattle.graph_cli.specs.declared.kind.Kind.TheVariants.{Staged};
+ghost use Rattle.graph_cli.specs.declared.kind.InputKind.TheVariants.{Staged};
 
 use answers::{Answer, Halt};
 use case_model::Case;

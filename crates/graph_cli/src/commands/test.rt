@@ -4,7 +4,7 @@ ghost use Rattle.answers.specs.Halts.{HaltsBy};
 ghost use Rattle.case_model.specs.CaseView.{content};
 ghost use Rattle.graph_cli.specs.Accepted.{IsOfKind};
 ghost use Rattle.graph_cli.specs.Test.{decided, adjusted, test_stage};
-ghost use Rattle.graph_cli.specs.declared.kind.Kind.TheVariants.{Single};
+ghost use Rattle.graph_cli.specs.declared.kind.InputKind.TheVariants.{Single};
 
 use adjusted_p::{AdjustFault, Adjusted, adjust};
 use answers::{Answer, Halt};

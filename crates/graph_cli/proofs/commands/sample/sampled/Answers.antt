@@ -1,7 +1,7 @@
 use Rattle.std.proofs.Common.{sym, subst}
 use Rattle.catalogue.specs.Makings.{sample_case}
 use Rattle.graph_cli.specs.Accepted.{IsOfKind}
-use Rattle.graph_cli.specs.declared.kind.Kind.TheVariants.{Single}
+use Rattle.graph_cli.specs.declared.kind.InputKind.TheVariants.{Single}
 use Rattle.graph_cli.proofs.MadeAnswers.{told}
 use Rattle.graph_cli.proofs.commands.sample.sampled.Goals as goal
 

@@ -1,5 +1,0 @@
-use Rattle.fraction.specs.Plain.{one_reduced}
-use Rattle.edge_expression.proofs.short.Short.one.Goals as goal
-
-pub new-requires : goal.new-requires
-new-requires c = one_reduced
