@@ -10,8 +10,6 @@ mod net;
 mod new_rows;
 mod row;
 mod row_open;
-#[cfg(test)]
-mod tests;
 
 pub use net::RowNet;
 pub use row_open::RowOpen;
