@@ -3,4 +3,3 @@ pub mod Quotients
 pub mod WrittenRows
 pub mod Given
 pub mod Opened
-pub mod TestRows
