@@ -1,9 +1,13 @@
 //! Written operations with their stored results: first, by hand, at the edge of the size, and then worked out in whole numbers of any size.
 use std::cmp::Ordering;
 
+/// Numerator and denominator.
 pub type Terms = (i128, i128);
 
-pub const ADD: [(Terms, Terms, Option<Terms>); 22] = [
+/// Two operands, and what is stored, or nothing where the operation is refused.
+pub type Written = (Terms, Terms, Option<Terms>);
+
+pub const ADD: &[Written] = &[
     ((i128::MAX - 1, 1), (1, 1), Some((i128::MAX, 1))),
     ((i128::MAX, 1), (1, 1), None),
     ((-i128::MAX, 1), (-1, 1), None),
@@ -121,7 +125,7 @@ pub const ADD: [(Terms, Terms, Option<Terms>); 22] = [
     ),
 ];
 
-pub const SUB: [(Terms, Terms, Option<Terms>); 19] = [
+pub const SUB: &[Written] = &[
     ((0, 1), (i128::MAX, 1), Some((-i128::MAX, 1))),
     ((-i128::MAX, 1), (1, 1), None),
     ((-i128::MAX, 1), (-i128::MAX, 1), Some((0, 1))),
@@ -223,7 +227,7 @@ pub const SUB: [(Terms, Terms, Option<Terms>); 19] = [
     ),
 ];
 
-pub const MUL: [(Terms, Terms, Option<Terms>); 20] = [
+pub const MUL: &[Written] = &[
     ((i128::MAX, 2), (2, i128::MAX), Some((1, 1))),
     ((0x40000000000000000000000000000000, 1), (2, 1), None),
     (
@@ -330,7 +334,7 @@ pub const MUL: [(Terms, Terms, Option<Terms>); 20] = [
     ),
 ];
 
-pub const DIV: [(Terms, Terms, Option<Terms>); 19] = [
+pub const DIV: &[Written] = &[
     ((1, 1), (-2, 1), Some((-1, 2))),
     ((i128::MAX, 2), (-i128::MAX, 2), Some((-1, 1))),
     ((1, i128::MAX), (i128::MAX, 1), None),
@@ -414,7 +418,7 @@ pub const DIV: [(Terms, Terms, Option<Terms>); 19] = [
     ((-11, 9), (2763586, 45), Some((-55, 2763586))),
 ];
 
-pub const COMPARE: [(Terms, Terms, Ordering); 8] = [
+pub const COMPARE: &[(Terms, Terms, Ordering)] = &[
     (
         (i128::MAX, i128::MAX - 1),
         (i128::MAX - 1, i128::MAX - 2),

@@ -1,23 +1,23 @@
 //! Fractions with their operations, limits and texts, worked by hand.
-use crate::fraction_vectors::{ADD, COMPARE, DIV, MUL, SUB, Terms};
-use field_core::{List, Number, TooWide};
+use crate::fraction_vectors::{ADD, COMPARE, DIV, MUL, SUB, Terms, Written};
+use crate::rows::{expect, result};
+use field_core::{List, NoMemory, Number, Op};
 use fraction::{Fraction, FractionFault, NumberFault, decimal_len};
+use std::alloc::Global;
 use std::cmp::Ordering;
-use std::test::Fail;
+use std::process::Abort;
 
-fn terms(x: &Fraction) -> Terms {
+fn terms(x: Fraction) -> Terms {
     (x.ratio().num(), x.ratio().den())
 }
 
-fn stored(outcome: Result<Fraction, TooWide>) -> Option<Terms> {
-    outcome.ok().map(|x| terms(&x))
+pub fn fraction(rt: &impl Abort, terms: Terms) -> Fraction {
+    Fraction::new(terms.0, terms.1).expect(rt, "no fraction")
 }
 
-fn fraction(terms: Terms) -> Result<Fraction, FractionFault> {
-    Fraction::new(terms.0, terms.1)
-}
+// ---- texts
 
-const VALUES: [(&str, i128, i128); 56] = [
+const VALUES: &[(&str, i128, i128)] = &[
     ("0", 0, 1),
     ("-0", 0, 1),
     ("+0", 0, 1),
@@ -116,16 +116,19 @@ const VALUES: [(&str, i128, i128); 56] = [
     ),
 ];
 
-#[test]
-fn numerals_have_their_values(rt: HostRuntime) -> Result<(), Fail> {
-    for (text, num, den) in VALUES {
-        let x = Fraction::parse(text.as_bytes())?;
-        assert_eq!(rt; terms(&x), (num, den), "{text}");
-    }
-    Ok(())
+fn parsed(text: &str) -> Result<Terms, NumberFault> {
+    Ok(terms(Fraction::parse(text.as_bytes())?))
 }
 
-const FAULTS: [(&str, NumberFault); 43] = [
+#[test]
+fn numerals_have_their_values(rt: HostRuntime) {
+    for row in VALUES {
+        let (text, num, den) = row;
+        expect(&rt, parsed(text) == Ok((*num, *den)), row);
+    }
+}
+
+const FAULTS: &[(&str, NumberFault)] = &[
     ("", NumberFault::Empty),
     ("+", NumberFault::BadByte(1)),
     ("-", NumberFault::BadByte(1)),
@@ -200,16 +203,56 @@ const FAULTS: [(&str, NumberFault); 43] = [
 
 #[test]
 fn other_texts_have_their_faults(rt: HostRuntime) {
-    for (text, fault) in FAULTS {
-        assert_eq!(rt;
-            Fraction::parse(text.as_bytes()).err(),
-            Some(fault),
-            "{text}"
-        );
+    for row in FAULTS {
+        let (text, fault) = row;
+        expect(&rt, parsed(text) == Err(*fault), row);
     }
 }
 
-const QUOTIENTS: [(i128, i128, Result<Terms, FractionFault>); 16] = [
+const DECIMALS: &[(&str, usize)] = &[("1.5e+2x", 6), ("12/7", 2), ("-1", 0)];
+
+#[test]
+fn decimals_end_where_no_decimal_goes_on(rt: HostRuntime) {
+    for row in DECIMALS {
+        expect(&rt, decimal_len(row.0.as_bytes()) == row.1, row);
+    }
+    assert!(rt; Fraction::parse_decimal(b"1.5e1").map(terms) == Some((15, 1)));
+    assert!(rt; Fraction::parse_decimal(b"1e38").is_none());
+}
+
+const TEXTS: &[(Terms, &str)] = &[
+    ((5, 1), "5"),
+    ((-5, 1), "-5"),
+    ((1, 2), "1/2"),
+    ((0, 1), "0"),
+    ((-30, 7), "-30/7"),
+    ((100, 999), "100/999"),
+    ((i128::MAX, 1), "170141183460469231731687303715884105727"),
+    (
+        (-i128::MAX, i128::MAX - 1),
+        "-170141183460469231731687303715884105727/170141183460469231731687303715884105726",
+    ),
+];
+
+/// Whether this is the text of a fraction.
+fn prints(alloc: Global, x: Fraction, text: &str) -> Result<bool, NoMemory> {
+    let mut out = List::new(alloc);
+    x.print(&mut out)?;
+    Ok(out.as_slice() == text.as_bytes())
+}
+
+#[test]
+fn fractions_are_printed(rt: HostRuntime) {
+    for row in TEXTS {
+        let (terms, text) = row;
+        let printed = prints(rt.alloc(), fraction(&rt, *terms), text);
+        expect(&rt, printed == Ok(true), row);
+    }
+}
+
+// ---- values
+
+const QUOTIENTS: &[(i128, i128, Result<Terms, FractionFault>)] = &[
     (6, 4, Ok((3, 2))),
     (6, -4, Ok((-3, 2))),
     (-6, -4, Ok((3, 2))),
@@ -228,109 +271,50 @@ const QUOTIENTS: [(i128, i128, Result<Terms, FractionFault>); 16] = [
     (i128::MIN, 0, Err(FractionFault::ZeroDenominator)),
 ];
 
+fn lowest_terms(num: i128, den: i128) -> Result<Terms, FractionFault> {
+    Ok(terms(Fraction::new(num, den)?))
+}
+
 #[test]
 fn quotients_are_in_lowest_terms(rt: HostRuntime) {
-    for (num, den, wanted) in QUOTIENTS {
-        let made = Fraction::new(num, den).map(|x| terms(&x));
-        assert_eq!(rt; made, wanted, "{num}/{den}");
+    for row in QUOTIENTS {
+        let (num, den, wanted) = row;
+        expect(&rt, lowest_terms(*num, *den) == *wanted, row);
     }
 }
 
-const TEXTS: [(Terms, &str); 8] = [
-    ((5, 1), "5"),
-    ((-5, 1), "-5"),
-    ((1, 2), "1/2"),
-    ((0, 1), "0"),
-    ((-30, 7), "-30/7"),
-    ((100, 999), "100/999"),
-    ((i128::MAX, 1), "170141183460469231731687303715884105727"),
-    (
-        (-i128::MAX, i128::MAX - 1),
-        "-170141183460469231731687303715884105727/170141183460469231731687303715884105726",
-    ),
-];
-
 #[test]
-fn fractions_are_printed(rt: HostRuntime) -> Result<(), Fail> {
-    for (terms, text) in TEXTS {
-        let mut out = List::new(rt.alloc());
-        fraction(terms)?.print(&mut out)?;
-        assert_eq!(rt; out.as_slice(), text.as_bytes(), "{text}");
+fn a_fraction_is_a_number(rt: HostRuntime) {
+    let half = fraction(&rt, (1, 2));
+    assert!(rt; terms(Fraction::zero()) == (0, 1));
+    assert!(rt; terms(Fraction::one()) == (1, 1));
+    assert!(rt; half.sign() == Ordering::Greater);
+    assert!(rt; terms(Fraction::of(half.ratio())) == (1, 2));
+}
+
+// ---- operations
+
+fn expect_written(rt: &impl Abort, op: Op, rows: &[Written]) {
+    for row in rows {
+        let (x, y, wanted) = row;
+        let found = result(rt, &fraction(rt, *x), op, &fraction(rt, *y));
+        expect(rt, found.map(terms) == *wanted, row);
     }
-    Ok(())
 }
 
 #[test]
-fn sums_are_stored(rt: HostRuntime) -> Result<(), Fail> {
-    for (x, y, wanted) in ADD {
-        let sum = fraction(x)?.add(&fraction(y)?);
-        assert_eq!(rt; stored(sum), wanted, "{x:?} {y:?}");
+fn operations_are_stored(rt: HostRuntime) {
+    expect_written(&rt, Op::Add, ADD);
+    expect_written(&rt, Op::Sub, SUB);
+    expect_written(&rt, Op::Mul, MUL);
+    expect_written(&rt, Op::Div, DIV);
+}
+
+#[test]
+fn comparisons_are_never_refused(rt: HostRuntime) {
+    for row in COMPARE {
+        let (x, y, wanted) = row;
+        let order = fraction(&rt, *x).compare(&fraction(&rt, *y));
+        expect(&rt, order == Ok(*wanted), row);
     }
-    Ok(())
-}
-
-#[test]
-fn differences_are_stored(rt: HostRuntime) -> Result<(), Fail> {
-    for (x, y, wanted) in SUB {
-        let difference = fraction(x)?.sub(&fraction(y)?);
-        assert_eq!(rt; stored(difference), wanted, "{x:?} {y:?}");
-    }
-    Ok(())
-}
-
-#[test]
-fn products_are_stored(rt: HostRuntime) -> Result<(), Fail> {
-    for (x, y, wanted) in MUL {
-        let product = fraction(x)?.mul(&fraction(y)?);
-        assert_eq!(rt; stored(product), wanted, "{x:?} {y:?}");
-    }
-    Ok(())
-}
-
-#[test]
-fn quotients_are_stored(rt: HostRuntime) -> Result<(), Fail> {
-    for (x, y, wanted) in DIV {
-        let divisor = fraction(y)?;
-        assert!(rt; !Number::is_zero(&divisor));
-        let quotient = fraction(x)?.div(&divisor);
-        assert_eq!(rt; stored(quotient), wanted, "{x:?} {y:?}");
-    }
-    Ok(())
-}
-
-#[test]
-fn comparisons_are_never_refused(rt: HostRuntime) -> Result<(), Fail> {
-    for (x, y, wanted) in COMPARE {
-        let order = fraction(x)?.compare(&fraction(y)?).ok();
-        assert_eq!(rt; order, Some(wanted), "{x:?} {y:?}");
-    }
-    Ok(())
-}
-
-fn twice<N: Number>(x: &N) -> Result<N, TooWide> {
-    x.add(x)
-}
-
-#[test]
-fn a_fraction_is_a_number(rt: HostRuntime) -> Result<(), Fail> {
-    let half = fraction((1, 2))?;
-    assert_eq!(rt; stored(twice(&half)), Some((1, 1)));
-    assert_eq!(rt; terms(&Fraction::zero()), (0, 1));
-    assert_eq!(rt; terms(&Fraction::one()), (1, 1));
-    assert_eq!(rt; half.sign(), Ordering::Greater);
-    assert_eq!(rt; terms(&Fraction::of(half.ratio())), (1, 2));
-    Ok(())
-}
-
-#[test]
-fn decimals_end_where_no_decimal_goes_on(rt: HostRuntime) -> Result<(), Fail> {
-    assert_eq!(rt; decimal_len(b"1.5e+2x"), 6);
-    assert_eq!(rt; decimal_len(b"12/7"), 2);
-    assert_eq!(rt; decimal_len(b"-1"), 0);
-    assert_eq!(rt;
-        Fraction::parse_decimal(b"1.5e1"),
-        Fraction::new(15, 1).ok()
-    );
-    assert_eq!(rt; Fraction::parse_decimal(b"1e38"), None);
-    Ok(())
 }

@@ -9,3 +9,5 @@ mod fractions;
 mod polynomials;
 #[cfg(test)]
 mod quotients;
+#[cfg(test)]
+mod rows;

@@ -1,277 +1,237 @@
 //! Quotients with their operations and texts, worked by hand.
-use eps_poly::EpsPoly;
+use crate::fractions::fraction;
+use crate::polynomials::{Listed, MOST, has, poly};
+use crate::rows::{expect, given, result};
 use eps_quotient::EpsQuotient;
-use field_core::{List, Number, Op, Ratio, TooWide, Whole};
+use field_core::{List, NoMemory, Number, Op, Ratio};
+use std::alloc::Global;
 use std::cmp::Ordering;
-use std::test::Fail;
+use std::process::Abort;
 
-/// The greatest size of a coefficient.
-const MOST: i128 = i128::MAX;
+/// The coefficients of a numerator and a denominator.
+type Terms = (Listed, Listed);
 
-/// The coefficients of the powers 0 to 3.
-type Low = [i128; 4];
-
-/// A numerator and a denominator.
-type Terms = (Low, Low);
-
-const ZERO: Low = [0, 0, 0, 0];
-
-const ONE: Low = [1, 0, 0, 0];
-
-fn poly(low: Low) -> Result<EpsPoly, TooWide> {
-    EpsPoly::zero()
-        .with(0, low[0])?
-        .with(1, low[1])?
-        .with(2, low[2])?
-        .with(3, low[3])
+fn quotient(rt: &impl Abort, terms: Terms) -> EpsQuotient {
+    EpsQuotient::new(&poly(rt, terms.0), &poly(rt, terms.1)).expect(rt, "over 0")
 }
 
-fn low(p: &EpsPoly) -> Low {
-    [
-        p.coefficient(0),
-        p.coefficient(1),
-        p.coefficient(2),
-        p.coefficient(3),
-    ]
-}
-
-fn terms(x: &EpsQuotient) -> Terms {
-    (low(&x.numerator()), low(&x.denominator()))
-}
-
-fn quotient(terms: Terms) -> Result<EpsQuotient, Fail> {
-    let num = poly(terms.0)?;
-    let den = poly(terms.1)?;
-    Ok(EpsQuotient::new(&num, &den).ok_or("over 0")?)
-}
-
-fn stored(outcome: Result<EpsQuotient, TooWide>) -> Option<Terms> {
-    outcome.ok().map(|x| terms(&x))
-}
-
-#[test]
-fn a_quotient_is_lowered(rt: HostRuntime) -> Result<(), Fail> {
-    let quotients = [
-        // 0 is 0/1
-        ((ZERO, [0, -7, 0, 0]), (ZERO, ONE)),
-        // the common content goes out, and the sign stands above
-        (([6, 0, 0, 0], [-9, 0, 0, 0]), ([-2, 0, 0, 0], [3, 0, 0, 0])),
-        // so do common powers of epsilon
-        (([0, 0, 4, 0], [0, 6, 0, 0]), ([0, 2, 0, 0], [3, 0, 0, 0])),
-        // and equal cores, of other contents and powers
-        (([2, 2, 0, 0], [0, 3, 3, 0]), ([2, 0, 0, 0], [0, 3, 0, 0])),
-        (
-            ([-2, 2, 0, 0], [3, -3, 0, 0]),
-            ([-2, 0, 0, 0], [3, 0, 0, 0]),
-        ),
-        // other common factors stay: (1 - e^2) / (1 + e)
-        (([1, 0, -1, 0], [1, 1, 0, 0]), ([1, 0, -1, 0], [1, 1, 0, 0])),
-        // the lowest coefficient of the denominator is positive
-        (
-            ([0, 1, 0, 0], [0, 0, -1, 3]),
-            ([-1, 0, 0, 0], [0, 1, -3, 0]),
-        ),
-        (
-            ([1, -1, 0, 0], [-1, 2, 0, 0]),
-            ([-1, 1, 0, 0], [1, -2, 0, 0]),
-        ),
-    ];
-    for (written, lowered) in quotients {
-        let x = quotient(written)?;
-        assert_eq!(rt; terms(&x), lowered);
+/// Whether there is a quotient with these terms, or neither.
+fn agrees(found: Option<EpsQuotient>, wanted: Option<Terms>) -> bool {
+    match (found, wanted) {
+        (Some(x), Some(terms)) => has(&x.numerator(), terms.0) && has(&x.denominator(), terms.1),
+        (None, None) => true,
+        _ => false,
     }
-    Ok(())
 }
+
+// ---- quotients of polynomials
+
+const ZERO: Listed = &[];
+
+const ONE: Listed = &[1];
+
+/// Two polynomials, and their quotient as it is stored.
+const LOWERED: &[(Terms, Option<Terms>)] = &[
+    // 0 is 0/1
+    ((ZERO, &[0, -7]), Some((ZERO, ONE))),
+    // the common content goes out, and the sign stands above
+    ((&[6], &[-9]), Some((&[-2], &[3]))),
+    // so do common powers of epsilon
+    ((&[0, 0, 4], &[0, 6]), Some((&[0, 2], &[3]))),
+    // and equal cores, of other contents and powers
+    ((&[2, 2], &[0, 3, 3]), Some((&[2], &[0, 3]))),
+    ((&[-2, 2], &[3, -3]), Some((&[-2], &[3]))),
+    // other common factors stay: (1 - e^2) / (1 + e)
+    ((&[1, 0, -1], &[1, 1]), Some((&[1, 0, -1], &[1, 1]))),
+    // the lowest coefficient of the denominator is positive
+    ((&[0, 1], &[0, 0, -1, 3]), Some((&[-1], &[0, 1, -3]))),
+    ((&[1, -1], &[-1, 2]), Some((&[-1, 1], &[1, -2]))),
+    // nothing is over 0
+    ((ONE, ZERO), None),
+    ((ZERO, ZERO), None),
+];
 
 #[test]
-fn nothing_is_over_zero(rt: HostRuntime) -> Result<(), Fail> {
-    let one = poly(ONE)?;
-    assert!(rt; EpsQuotient::new(&one, &EpsPoly::zero()).is_none());
-    assert!(rt; EpsQuotient::new(&EpsPoly::zero(), &EpsPoly::zero()).is_none());
-    Ok(())
+fn a_quotient_is_lowered(rt: HostRuntime) {
+    for row in LOWERED {
+        let ((num, den), lowered) = row;
+        let found = EpsQuotient::new(&poly(&rt, num), &poly(&rt, den));
+        expect(&rt, agrees(found, *lowered), row);
+    }
 }
 
-/// 1/2, 1/3, e, 1/e, 1 - e, 1 + e and its inverse.
-const HALF: Terms = (ONE, [2, 0, 0, 0]);
+// ---- operations
 
-const THIRD: Terms = (ONE, [3, 0, 0, 0]);
+/// 1/2, 1/3, e, 1/e, 1 - e, 1 + e and the inverses of these two.
+const HALF: Terms = (ONE, &[2]);
 
-const EPSILON: Terms = ([0, 1, 0, 0], ONE);
+const THIRD: Terms = (ONE, &[3]);
 
-const LARGE: Terms = (ONE, [0, 1, 0, 0]);
+const EPSILON: Terms = (&[0, 1], ONE);
 
-const LESS: Terms = ([1, -1, 0, 0], ONE);
+const LARGE: Terms = (ONE, &[0, 1]);
 
-const MORE: Terms = ([1, 1, 0, 0], ONE);
+const LESS: Terms = (&[1, -1], ONE);
 
-const OVER_MORE: Terms = (ONE, [1, 1, 0, 0]);
+const MORE: Terms = (&[1, 1], ONE);
 
-const OVER_LESS: Terms = (ONE, [1, -1, 0, 0]);
+const OVER_LESS: Terms = (ONE, &[1, -1]);
+
+const OVER_MORE: Terms = (ONE, &[1, 1]);
 
 const UNIT: Terms = (ONE, ONE);
 
 const NOTHING: Terms = (ZERO, ONE);
 
-const WIDEST: Terms = ([MOST, 0, 0, 0], ONE);
+const WIDEST: Terms = (&[MOST], ONE);
+
+/// The powers 31 and 32 of epsilon.
+const BEFORE_LAST: Terms = (
+    &[
+        0, 0, 0, 0, 0, 0, 0, 0, 0, 0, 0, 0, 0, 0, 0, 0, 0, 0, 0, 0, 0, 0, 0, 0, 0, 0, 0, 0, 0, 0,
+        0, 1,
+    ],
+    ONE,
+);
+
+const LAST: Terms = (
+    &[
+        0, 0, 0, 0, 0, 0, 0, 0, 0, 0, 0, 0, 0, 0, 0, 0, 0, 0, 0, 0, 0, 0, 0, 0, 0, 0, 0, 0, 0, 0,
+        0, 0, 1,
+    ],
+    ONE,
+);
+
+/// What is stored, or nothing where it is refused.
+const OPERATIONS: &[(Terms, Op, Terms, Option<Terms>)] = &[
+    (HALF, Op::Add, THIRD, Some((&[5], &[6]))),
+    (LESS, Op::Add, LESS, Some((&[2, -2], ONE))),
+    // over the same denominator: e/(1 + e) + 1/(1 + e)
+    ((&[0, 1], &[1, 1]), Op::Add, OVER_MORE, Some(UNIT)),
+    // over others: (1 - e + 1 + e) / (1 - e^2)
+    (OVER_MORE, Op::Add, OVER_LESS, Some((&[2], &[1, 0, -1]))),
+    (LARGE, Op::Add, UNIT, Some((&[1, 1], &[0, 1]))),
+    // a summand that is 0 has no written part
+    (WIDEST, Op::Add, NOTHING, Some(WIDEST)),
+    (NOTHING, Op::Add, WIDEST, Some(WIDEST)),
+    (WIDEST, Op::Add, UNIT, None),
+    (UNIT, Op::Sub, LESS, Some(EPSILON)),
+    (HALF, Op::Sub, HALF, Some(NOTHING)),
+    (HALF, Op::Sub, THIRD, Some((ONE, &[6]))),
+    (NOTHING, Op::Sub, LESS, Some((&[-1, 1], ONE))),
+    // equal, though the cores of the first are not cut: (1 - e^2) / (1 + e)
+    ((&[1, 0, -1], &[1, 1]), Op::Sub, LESS, Some(NOTHING)),
+    (WIDEST, Op::Sub, (&[-1], ONE), None),
+    (MORE, Op::Mul, LESS, Some((&[1, 0, -1], ONE))),
+    // each numerator is lowered with the other denominator
+    (
+        (&[2], &[1, 1]),
+        Op::Mul,
+        (&[1, 1], &[3]),
+        Some((&[2], &[3])),
+    ),
+    ((&[0, 1], &[2]), Op::Mul, (&[2], &[0, 1]), Some(UNIT)),
+    // other common factors stay
+    (
+        (&[1, 0, -1], ONE),
+        Op::Mul,
+        OVER_MORE,
+        Some((&[1, 0, -1], &[1, 1])),
+    ),
+    (WIDEST, Op::Mul, NOTHING, Some(NOTHING)),
+    (NOTHING, Op::Mul, WIDEST, Some(NOTHING)),
+    (WIDEST, Op::Mul, UNIT, Some(WIDEST)),
+    (UNIT, Op::Mul, WIDEST, Some(WIDEST)),
+    (WIDEST, Op::Mul, (&[2], ONE), None),
+    // degrees go to 32
+    (LAST, Op::Mul, LARGE, Some(BEFORE_LAST)),
+    (LAST, Op::Mul, EPSILON, None),
+    (UNIT, Op::Div, LESS, Some(OVER_LESS)),
+    (HALF, Op::Div, THIRD, Some((&[3], &[2]))),
+    (UNIT, Op::Div, (&[0, -1], ONE), Some((&[-1], &[0, 1]))),
+    (LESS, Op::Div, LESS, Some(UNIT)),
+    (NOTHING, Op::Div, LESS, Some(NOTHING)),
+    (WIDEST, Op::Div, UNIT, Some(WIDEST)),
+    (WIDEST, Op::Div, HALF, None),
+];
 
 #[test]
-fn sums_are_stored(rt: HostRuntime) -> Result<(), Fail> {
-    let sums = [
-        (HALF, THIRD, ([5, 0, 0, 0], [6, 0, 0, 0])),
-        // over the same denominator: e/(1 + e) + 1/(1 + e)
-        (([0, 1, 0, 0], [1, 1, 0, 0]), OVER_MORE, UNIT),
-        // over others: (1 - e + 1 + e) / (1 - e^2)
-        (OVER_MORE, OVER_LESS, ([2, 0, 0, 0], [1, 0, -1, 0])),
-        (LARGE, UNIT, ([1, 1, 0, 0], [0, 1, 0, 0])),
-        // a summand that is 0 has no written part
-        (WIDEST, NOTHING, WIDEST),
-        (NOTHING, WIDEST, WIDEST),
-    ];
-    for (x, y, sum) in sums {
-        assert_eq!(rt; stored(quotient(x)?.add(&quotient(y)?)), Some(sum));
+fn operations_are_stored(rt: HostRuntime) {
+    for row in OPERATIONS {
+        let (x, op, y, wanted) = row;
+        let found = result(&rt, &quotient(&rt, *x), *op, &quotient(&rt, *y));
+        expect(&rt, agrees(found, *wanted), row);
     }
-    Ok(())
 }
 
-#[test]
-fn differences_are_stored(rt: HostRuntime) -> Result<(), Fail> {
-    let differences = [
-        (UNIT, LESS, EPSILON),
-        (HALF, HALF, NOTHING),
-        (HALF, THIRD, (ONE, [6, 0, 0, 0])),
-        (NOTHING, LESS, ([-1, 1, 0, 0], ONE)),
-        // equal, though the cores of the first are not cut: (1 - e^2) / (1 + e)
-        (([1, 0, -1, 0], [1, 1, 0, 0]), LESS, NOTHING),
-    ];
-    for (x, y, difference) in differences {
-        assert_eq!(rt; stored(quotient(x)?.sub(&quotient(y)?)), Some(difference));
+/// Coefficients by ascending power, and the sum of their terms, or nothing where it is refused.
+const SUMMED: &[([(i128, i128); 5], Option<Terms>)] = &[
+    // e/2 + e^3/3
+    (
+        [(0, 1), (1, 2), (0, 1), (1, 3), (0, 1)],
+        Some((&[0, 3, 0, 2], &[6])),
+    ),
+    // the denominator would be 2 (2^127 - 1)
+    ([(1, 2), (1, MOST), (0, 1), (0, 1), (0, 1)], None),
+];
+
+fn summed(rt: &impl Abort, coefficients: &[(i128, i128); 5]) -> Option<EpsQuotient> {
+    let mut parts = [fraction(rt, (0, 1)).ratio(); 5];
+    for power in 0..5 {
+        parts[power] = fraction(rt, coefficients[power]).ratio();
     }
-    Ok(())
+    given(rt, Op::Add, EpsQuotient::from_parts(&parts))
 }
 
 #[test]
-fn products_are_stored(rt: HostRuntime) -> Result<(), Fail> {
-    let products = [
-        (MORE, LESS, ([1, 0, -1, 0], ONE)),
-        // each numerator is lowered with the other denominator
-        (
-            ([2, 0, 0, 0], [1, 1, 0, 0]),
-            ([1, 1, 0, 0], [3, 0, 0, 0]),
-            ([2, 0, 0, 0], [3, 0, 0, 0]),
-        ),
-        (
-            ([0, 1, 0, 0], [2, 0, 0, 0]),
-            ([2, 0, 0, 0], [0, 1, 0, 0]),
-            UNIT,
-        ),
-        // other common factors stay
-        (
-            ([1, 0, -1, 0], ONE),
-            OVER_MORE,
-            ([1, 0, -1, 0], [1, 1, 0, 0]),
-        ),
-        (WIDEST, NOTHING, NOTHING),
-        (NOTHING, WIDEST, NOTHING),
-        (WIDEST, UNIT, WIDEST),
-        (UNIT, WIDEST, WIDEST),
-    ];
-    for (x, y, product) in products {
-        assert_eq!(rt; stored(quotient(x)?.mul(&quotient(y)?)), Some(product));
+fn a_polynomial_is_summed_term_by_term(rt: HostRuntime) {
+    for row in SUMMED {
+        expect(&rt, agrees(summed(&rt, &row.0), row.1), row);
     }
-    Ok(())
 }
 
-/// The stored quotient of two quotients, where the second isn't 0.
-fn divided(x: Terms, y: Terms) -> Result<Option<Terms>, Fail> {
-    let by = quotient(y)?;
-    if by.is_zero() {
-        return Ok(None);
+// ---- order
+
+/// How the first compares with the second, or nothing where the difference is refused.
+const ORDERS: &[(Terms, Terms, Option<Ordering>)] = &[
+    (EPSILON, (ONE, &[1000000]), Some(Ordering::Less)),
+    (EPSILON, NOTHING, Some(Ordering::Greater)),
+    (OVER_MORE, UNIT, Some(Ordering::Less)),
+    (OVER_LESS, UNIT, Some(Ordering::Greater)),
+    ((&[0, 2], ONE), EPSILON, Some(Ordering::Greater)),
+    (LARGE, WIDEST, Some(Ordering::Greater)),
+    ((&[1, 0, -1], &[1, 1]), LESS, Some(Ordering::Equal)),
+    (NOTHING, LESS, Some(Ordering::Less)),
+    (WIDEST, (&[-1], ONE), None),
+];
+
+#[test]
+fn epsilon_is_below_each_fraction(rt: HostRuntime) {
+    for row in ORDERS {
+        let (x, y, wanted) = row;
+        let order = quotient(&rt, *x).compare(&quotient(&rt, *y));
+        expect(&rt, given(&rt, Op::Sub, order) == *wanted, row);
     }
-    Ok(stored(quotient(x)?.div(&by)))
 }
 
+const SIGNS: &[(Terms, Ordering)] = &[
+    (NOTHING, Ordering::Equal),
+    (EPSILON, Ordering::Greater),
+    ((&[0, 1, -5], &[1, 1]), Ordering::Greater),
+    ((&[0, 1, -5], &[-1, 1]), Ordering::Less),
+];
+
 #[test]
-fn quotients_are_stored(rt: HostRuntime) -> Result<(), Fail> {
-    let quotients = [
-        (UNIT, LESS, OVER_LESS),
-        (HALF, THIRD, ([3, 0, 0, 0], [2, 0, 0, 0])),
-        (UNIT, ([0, -1, 0, 0], ONE), ([-1, 0, 0, 0], [0, 1, 0, 0])),
-        (LESS, LESS, UNIT),
-        (NOTHING, LESS, NOTHING),
-        (WIDEST, UNIT, WIDEST),
-    ];
-    for (x, y, stored) in quotients {
-        let found = divided(x, y)?;
-        assert_eq!(rt; found, Some(stored));
+fn the_lowest_coefficient_tells_the_sign(rt: HostRuntime) {
+    for row in SIGNS {
+        let (x, sign) = row;
+        let x = quotient(&rt, *x);
+        expect(&rt, x.sign() == *sign, row);
+        expect(&rt, x.is_zero() == sign.is_eq(), row);
     }
-    Ok(())
 }
 
-#[test]
-fn parts_past_their_size_are_refused(rt: HostRuntime) -> Result<(), Fail> {
-    let most = quotient(WIDEST)?;
-    let one = quotient(UNIT)?;
-    let minus_one = quotient(([-1, 0, 0, 0], ONE))?;
-    let two = quotient(([2, 0, 0, 0], ONE))?;
-    let half = quotient(HALF)?;
-    assert_eq!(rt; most.add(&one).err(), Some(TooWide { op: Op::Add }));
-    assert_eq!(rt; most.sub(&minus_one).err(), Some(TooWide { op: Op::Sub }));
-    assert_eq!(rt;
-        most.compare(&minus_one).err(),
-        Some(TooWide { op: Op::Sub })
-    );
-    assert_eq!(rt; most.mul(&two).err(), Some(TooWide { op: Op::Mul }));
-    if !half.is_zero() {
-        assert_eq!(rt; most.div(&half).err(), Some(TooWide { op: Op::Div }));
-    }
-    Ok(())
-}
-
-#[test]
-fn degrees_go_to_32(rt: HostRuntime) -> Result<(), Fail> {
-    let one = poly(ONE)?;
-    let last = EpsQuotient::new(&EpsPoly::monomial(Whole::new(1), 32), &one).ok_or("over 0")?;
-    let epsilon = quotient(EPSILON)?;
-    assert_eq!(rt; last.mul(&epsilon).err(), Some(TooWide { op: Op::Mul }));
-    let less = last.mul(&quotient(LARGE)?)?;
-    assert_eq!(rt; less.numerator().coefficient(31), 1);
-    assert_eq!(rt; low(&less.denominator()), ONE);
-    Ok(())
-}
-
-#[test]
-fn epsilon_is_below_each_fraction(rt: HostRuntime) -> Result<(), Fail> {
-    let orders = [
-        (EPSILON, (ONE, [1000000, 0, 0, 0]), Ordering::Less),
-        (EPSILON, NOTHING, Ordering::Greater),
-        (OVER_MORE, UNIT, Ordering::Less),
-        (OVER_LESS, UNIT, Ordering::Greater),
-        (([0, 2, 0, 0], ONE), EPSILON, Ordering::Greater),
-        (LARGE, WIDEST, Ordering::Greater),
-        (([1, 0, -1, 0], [1, 1, 0, 0]), LESS, Ordering::Equal),
-        (NOTHING, LESS, Ordering::Less),
-    ];
-    for (x, y, order) in orders {
-        assert_eq!(rt; quotient(x)?.compare(&quotient(y)?).ok(), Some(order));
-    }
-    Ok(())
-}
-
-#[test]
-fn the_lowest_coefficient_tells_the_sign(rt: HostRuntime) -> Result<(), Fail> {
-    assert!(rt; quotient(NOTHING)?.is_zero());
-    assert!(rt; !quotient(EPSILON)?.is_zero());
-    assert_eq!(rt; quotient(NOTHING)?.sign(), Ordering::Equal);
-    assert_eq!(rt;
-        quotient(([0, 1, -5, 0], [1, 1, 0, 0]))?.sign(),
-        Ordering::Greater
-    );
-    assert_eq!(rt;
-        quotient(([0, 1, -5, 0], [-1, 1, 0, 0]))?.sign(),
-        Ordering::Less
-    );
-    Ok(())
-}
+// ---- limits
 
 /// The limit of a value from 0 to 1.
 fn limit(x: &EpsQuotient) -> Option<Ratio> {
@@ -287,122 +247,105 @@ fn limit(x: &EpsQuotient) -> Option<Ratio> {
     Some(x.limit())
 }
 
+/// Values and their limits, which are quotients of first coefficients.
+const LIMITS: &[(Terms, (i128, i128))] = &[
+    (NOTHING, (0, 1)),
+    (EPSILON, (0, 1)),
+    (LESS, (1, 1)),
+    ((&[2, -1], &[6, 1]), (1, 3)),
+    ((&[0, 1], &[3, 1]), (0, 1)),
+];
+
 #[test]
-fn limits_are_quotients_of_first_coefficients(rt: HostRuntime) -> Result<(), Fail> {
-    let limits = [
-        (NOTHING, (0, 1)),
-        (EPSILON, (0, 1)),
-        (LESS, (1, 1)),
-        (([2, -1, 0, 0], [6, 1, 0, 0]), (1, 3)),
-        (([0, 1, 0, 0], [3, 1, 0, 0]), (0, 1)),
-    ];
-    for (x, (num, den)) in limits {
-        let limit = limit(&quotient(x)?).ok_or("not from 0 to 1")?;
-        assert_eq!(rt; (limit.num(), limit.den()), (num, den));
+fn values_have_limits(rt: HostRuntime) {
+    for row in LIMITS {
+        let (x, wanted) = row;
+        let found = limit(&quotient(&rt, *x));
+        expect(&rt, found == Some(fraction(&rt, *wanted).ratio()), row);
     }
-    Ok(())
 }
 
-/// The quotient of a polynomial whose coefficients of the powers 0 and 1 are limits, and that of power 3 too.
-fn polynomial(parts: (Terms, Terms, Terms)) -> Result<Result<EpsQuotient, TooWide>, Fail> {
-    let first = limit(&quotient(parts.0)?).ok_or("not from 0 to 1")?;
-    let second = limit(&quotient(parts.1)?).ok_or("not from 0 to 1")?;
-    let fourth = limit(&quotient(parts.2)?).ok_or("not from 0 to 1")?;
-    let third = limit(&EpsQuotient::zero()).ok_or("not from 0 to 1")?;
-    let fifth = limit(&EpsQuotient::zero()).ok_or("not from 0 to 1")?;
-    Ok(EpsQuotient::from_parts(&[first, second, third, fourth, fifth]))
+// ---- texts
+
+const PRINTED: &[(Terms, &str)] = &[
+    (NOTHING, "0"),
+    ((&[-7], ONE), "-7"),
+    ((&[-1], &[2]), "-1/2"),
+    (EPSILON, "[0,1]/[1]"),
+    (LARGE, "[1]/[0,1]"),
+    ((&[1, 0, -2], &[3, 1]), "[1,0,-2]/[3,1]"),
+    (WIDEST, "170141183460469231731687303715884105727"),
+];
+
+/// Whether this text of a quotient is appended.
+fn appends(alloc: Global, x: &EpsQuotient, text: &str) -> Result<bool, NoMemory> {
+    let mut out = List::new(alloc);
+    out.push(b'=')?;
+    x.print(&mut out)?;
+    Ok(&out.as_slice()[1..] == text.as_bytes())
 }
 
 #[test]
-fn a_polynomial_is_summed_term_by_term(rt: HostRuntime) -> Result<(), Fail> {
-    // e/2 + e^3/3
-    let x = polynomial((NOTHING, HALF, THIRD))?;
-    assert_eq!(rt; stored(x), Some(([0, 3, 0, 2], [6, 0, 0, 0])));
-    // the denominator would be 2 (2^127 - 1)
-    let wide = polynomial((HALF, (ONE, [MOST, 0, 0, 0]), NOTHING))?;
-    assert_eq!(rt; wide.err(), Some(TooWide { op: Op::Add }));
-    Ok(())
-}
-
-#[test]
-fn quotients_are_printed(rt: HostRuntime) -> Result<(), Fail> {
-    let texts = [
-        (NOTHING, "0"),
-        (([-7, 0, 0, 0], ONE), "-7"),
-        (([-1, 0, 0, 0], [2, 0, 0, 0]), "-1/2"),
-        (EPSILON, "[0,1]/[1]"),
-        (LARGE, "[1]/[0,1]"),
-        (([1, 0, -2, 0], [3, 1, 0, 0]), "[1,0,-2]/[3,1]"),
-        (WIDEST, "170141183460469231731687303715884105727"),
-    ];
-    for (x, text) in texts {
-        let mut out = List::new(rt.alloc());
-        out.push(b'=')?;
-        quotient(x)?.print(&mut out)?;
-        assert_eq!(rt; &out.as_slice()[1..], text.as_bytes());
+fn quotients_are_printed(rt: HostRuntime) {
+    for row in PRINTED {
+        let (x, text) = row;
+        let appended = appends(rt.alloc(), &quotient(&rt, *x), text);
+        expect(&rt, appended == Ok(true), row);
     }
-    Ok(())
 }
 
-#[test]
-fn texts_are_read(rt: HostRuntime) -> Result<(), Fail> {
-    let texts = [
-        ("0", NOTHING),
-        ("-0", NOTHING),
-        ("007", ([7, 0, 0, 0], ONE)),
-        ("-2/4", ([-1, 0, 0, 0], [2, 0, 0, 0])),
-        ("0/5", NOTHING),
-        ("[0,1]/[1]", EPSILON),
-        // unlowered pairs and zeros behind the last coefficient are taken
-        ("[00,-2,0,0]/[-2]", EPSILON),
-        ("[1,1]/[0,3,3]", (ONE, [0, 3, 0, 0])),
-        ("[5]/[1]", ([5, 0, 0, 0], ONE)),
-        ("170141183460469231731687303715884105727", WIDEST),
-    ];
-    for (text, read) in texts {
-        let x = EpsQuotient::read(text.as_bytes()).ok_or("not read")?;
-        assert_eq!(rt; terms(&x), read);
-    }
-    Ok(())
-}
-
-#[test]
-fn other_texts_are_not_read(rt: HostRuntime) {
-    let texts = [
-        "",
-        "-",
-        "+1",
-        " 1",
-        "1/",
-        "/1",
-        "1/0",
-        "1/-2",
-        "1/2/3",
-        "1.5",
-        "[1]",
-        "[1]/2",
-        "1/[2]",
-        "[]/[1]",
-        "[1,]/[1]",
-        "[1]/[0,0]",
-        "[1]/[1]/[1]",
-        "[1 ]/[1]",
-        "[+1]/[1]",
-        // both parts are past their size, though the quotient isn't
+/// Texts and the quotients that are read from them, if any.
+const READ: &[(&str, Option<Terms>)] = &[
+    ("0", Some(NOTHING)),
+    ("-0", Some(NOTHING)),
+    ("007", Some((&[7], ONE))),
+    ("-2/4", Some((&[-1], &[2]))),
+    ("0/5", Some(NOTHING)),
+    ("[0,1]/[1]", Some(EPSILON)),
+    // unlowered pairs and zeros behind the last coefficient are taken
+    ("[00,-2,0,0]/[-2]", Some(EPSILON)),
+    ("[1,1]/[0,3,3]", Some((ONE, &[0, 3]))),
+    ("[5]/[1]", Some((&[5], ONE))),
+    ("170141183460469231731687303715884105727", Some(WIDEST)),
+    ("", None),
+    ("-", None),
+    ("+1", None),
+    (" 1", None),
+    ("1/", None),
+    ("/1", None),
+    ("1/0", None),
+    ("1/-2", None),
+    ("1/2/3", None),
+    ("1.5", None),
+    ("[1]", None),
+    ("[1]/2", None),
+    ("1/[2]", None),
+    ("[]/[1]", None),
+    ("[1,]/[1]", None),
+    ("[1]/[0,0]", None),
+    ("[1]/[1]/[1]", None),
+    ("[1 ]/[1]", None),
+    ("[+1]/[1]", None),
+    // both parts are past their size, though the quotient isn't
+    (
         "170141183460469231731687303715884105728/170141183460469231731687303715884105728",
+        None,
+    ),
+    // the degree would be 33
+    (
         "[0,0,0,0,0,0,0,0,0,0,0,0,0,0,0,0,0,0,0,0,0,0,0,0,0,0,0,0,0,0,0,0,0,1]/[1]",
-    ];
-    for text in texts {
-        assert!(rt; EpsQuotient::read(text.as_bytes()).is_none(), "{text}");
-    }
-}
-
-fn twice<N: Number>(x: &N) -> Result<N, TooWide> {
-    x.add(x)
-}
+        None,
+    ),
+];
 
 #[test]
-fn a_quotient_is_a_number(rt: HostRuntime) -> Result<(), Fail> {
-    assert_eq!(rt; stored(twice(&quotient(LESS)?)), Some(([2, -2, 0, 0], ONE)));
-    Ok(())
+fn texts_are_read(rt: HostRuntime) {
+    for row in READ {
+        let (text, wanted) = row;
+        expect(
+            &rt,
+            agrees(EpsQuotient::read(text.as_bytes()), *wanted),
+            row,
+        );
+    }
 }
