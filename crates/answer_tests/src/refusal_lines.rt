@@ -1,4 +1,5 @@
 //! Each kind of refusal, with its line written by hand.
+use crate::checks::{expect, is_text, tells};
 use answers::Refusal;
 use case_json::JsonFault;
 use case_model::{CaseFault, PartPlace, Refused};
@@ -17,19 +18,15 @@ use std::test::Fail;
 /// Three names.
 fn names(alloc: Global) -> Result<List<Text>, NoMemory> {
     let mut names = List::new(alloc);
-    names.push(Text::copy(alloc, b"H1")?)?;
-    names.push(Text::copy(alloc, b"H2")?)?;
-    names.push(Text::copy(alloc, b"dose-a")?)?;
+    for name in ["H1", "H2", "dose-a"] {
+        names.push(Text::copy(alloc, name.as_bytes())?)?;
+    }
     Ok(names)
 }
 
-/// An answer has this status, and this text.
-fn expect(rt: &impl Abort, answer: &Refusal, status: u8, text: &str) {
-    assert_eq!(rt; answer.line.as_slice(), text.as_bytes(), "{text}");
-    assert_eq!(rt; answer.cause.code(), status, "{text}");
-}
+// ---- cases
 
-const MALFORMED: [(CaseFault, &str); 26] = [
+const MALFORMED: &[(CaseFault, &str)] = &[
     (CaseFault::NoHypothesis, "malformed: case: no hypothesis\n"),
     (CaseFault::NameForm(0), "malformed: case: name 1\n"),
     (
@@ -97,17 +94,7 @@ const MALFORMED: [(CaseFault, &str); 26] = [
     (CaseFault::ArrivalRange(1), "malformed: case: arrival 2 p\n"),
 ];
 
-#[test]
-fn malformed_cases(rt: HostRuntime) -> Result<(), Fail> {
-    let names = names(rt.alloc())?;
-    for (fault, text) in MALFORMED {
-        let answer = case_refusal(rt.alloc(), names.as_slice(), &fault)?;
-        expect(&rt, &answer, 3, text);
-    }
-    Ok(())
-}
-
-const PAST_LIMITS: [(CaseFault, &str); 5] = [
+const PAST_LIMITS: &[(CaseFault, &str)] = &[
     (CaseFault::TooMany(65), "limit: hypotheses 65\n"),
     (
         CaseFault::TooMany(18446744073709551615),
@@ -116,71 +103,102 @@ const PAST_LIMITS: [(CaseFault, &str); 5] = [
     (CaseFault::TooManyComponents(9), "limit: components 9\n"),
     (CaseFault::TooManyStages(13), "limit: stages 13\n"),
     (CaseFault::TooManySteps(1, 33), "limit: spend steps 33\n"),
-];
-
-/// Past the third name a place stands for the name.
-const PARTS: [(PartPlace, &str); 15] = [
-    (PartPlace::Alpha, "limit: case: part alpha\n"),
-    (PartPlace::Share(1), "limit: case: part share component 2\n"),
+    // Past the third name a place stands for the name.
     (
-        PartPlace::Weight(0, 2),
+        CaseFault::PartTooLong(PartPlace::Alpha),
+        "limit: case: part alpha\n",
+    ),
+    (
+        CaseFault::PartTooLong(PartPlace::Share(1)),
+        "limit: case: part share component 2\n",
+    ),
+    (
+        CaseFault::PartTooLong(PartPlace::Weight(0, 2)),
         "limit: case: part weight of dose-a component 1\n",
     ),
     (
-        PartPlace::Weight(0, 3),
+        CaseFault::PartTooLong(PartPlace::Weight(0, 3)),
         "limit: case: part weight of 4 component 1\n",
     ),
     (
-        PartPlace::Weight(7, 99),
+        CaseFault::PartTooLong(PartPlace::Weight(7, 99)),
         "limit: case: part weight of 100 component 8\n",
     ),
     (
-        PartPlace::Edge(0, 1, 0),
+        CaseFault::PartTooLong(PartPlace::Edge(0, 1, 0)),
         "limit: case: part edge H2 H1 component 1\n",
     ),
     (
-        PartPlace::Edge(3, 0, 3),
+        CaseFault::PartTooLong(PartPlace::Edge(3, 0, 3)),
         "limit: case: part edge H1 4 component 4\n",
     ),
-    (PartPlace::P(0), "limit: case: part p of H1\n"),
-    (PartPlace::P(3), "limit: case: part p of 4\n"),
     (
-        PartPlace::P(18446744073709551615),
+        CaseFault::PartTooLong(PartPlace::P(0)),
+        "limit: case: part p of H1\n",
+    ),
+    (
+        CaseFault::PartTooLong(PartPlace::P(3)),
+        "limit: case: part p of 4\n",
+    ),
+    (
+        CaseFault::PartTooLong(PartPlace::P(18446744073709551615)),
         "limit: case: part p of 18446744073709551616\n",
     ),
     (
-        PartPlace::Spend(1, 1),
+        CaseFault::PartTooLong(PartPlace::Spend(1, 1)),
         "limit: case: part spend of H2 stage 2\n",
     ),
     (
-        PartPlace::Spend(5, 0),
+        CaseFault::PartTooLong(PartPlace::Spend(5, 0)),
         "limit: case: part spend of 6 stage 1\n",
     ),
     (
-        PartPlace::Step(2, 0),
+        CaseFault::PartTooLong(PartPlace::Step(2, 0)),
         "limit: case: part step 1 of dose-a\n",
     ),
-    (PartPlace::Arrival(0), "limit: case: part arrival 1\n"),
-    (PartPlace::Arrival(9), "limit: case: part arrival 10\n"),
+    (
+        CaseFault::PartTooLong(PartPlace::Arrival(0)),
+        "limit: case: part arrival 1\n",
+    ),
+    (
+        CaseFault::PartTooLong(PartPlace::Arrival(9)),
+        "limit: case: part arrival 10\n",
+    ),
 ];
 
-#[test]
-fn cases_past_limits(rt: HostRuntime) -> Result<(), Fail> {
-    let names = names(rt.alloc())?;
-    for (fault, text) in PAST_LIMITS {
-        let answer = case_refusal(rt.alloc(), names.as_slice(), &fault)?;
-        expect(&rt, &answer, 4, text);
-    }
-    for (place, text) in PARTS {
-        let fault = CaseFault::PartTooLong(place);
-        let answer = case_refusal(rt.alloc(), names.as_slice(), &fault)?;
-        expect(&rt, &answer, 4, text);
+/// Each fault of a case has this status, and its line.
+fn expect_cases(
+    rt: &impl Abort,
+    alloc: Global,
+    rows: &[(CaseFault, &str)],
+    status: u8,
+) -> Result<(), NoMemory> {
+    let names = names(alloc)?;
+    for (fault, line) in rows {
+        let refusal = case_refusal(alloc, names.as_slice(), fault)?;
+        expect(rt, tells(&refusal, status, line), line);
     }
     Ok(())
 }
 
+#[test]
+fn faults_of_cases(rt: HostRuntime) -> Result<(), Fail> {
+    expect_cases(&rt, rt.alloc(), MALFORMED, 3)?;
+    expect_cases(&rt, rt.alloc(), PAST_LIMITS, 4)?;
+    Ok(())
+}
+
+/// Want of memory is no fault of a case, and has no line here.
+#[test]
+fn want_of_memory(rt: HostRuntime) {
+    assert!(rt; case_refusal(rt.alloc(), &[], &CaseFault::NoMemory).is_err());
+    assert!(rt; json_refusal(rt.alloc(), &JsonFault::NoMemory).is_err());
+}
+
+// ---- what is too wide
+
 /// What is too wide, and how a line ends.
-const WIDE: [(usize, Place, Op, &str); 14] = [
+const WIDE: &[(usize, Place, Op, &str)] = &[
     (
         0,
         Place::Weight(2),
@@ -233,7 +251,7 @@ const WIDE: [(usize, Place, Op, &str); 14] = [
 ];
 
 /// How a line begins.
-const BEGINNINGS: [(When, &str); 15] = [
+const BEGINNINGS: &[(When, &str)] = &[
     (When::Reading, "too wide: reading: "),
     (When::Step(0), "too wide: step 0: "),
     (When::Step(3), "too wide: step 3: "),
@@ -257,61 +275,49 @@ const BEGINNINGS: [(When, &str); 15] = [
     ),
 ];
 
-/// An answer is this status, and the two texts in turn.
-fn expect_both(
+/// Whether a refusal is of a number that is too wide, with a line of these two texts.
+fn tells_wide(refusal: &Refusal, beginning: &str, ending: &str) -> bool {
+    let rest = refusal.line.as_slice().strip_prefix(beginning.as_bytes());
+    refusal.cause.code() == 5 && rest == Some(ending.as_bytes())
+}
+
+/// What is too wide is told with each beginning.
+fn expect_wide(
     rt: &impl Abort,
     alloc: Global,
-    answer: &Refusal,
-    beginning: &str,
+    names: &[Text],
+    wide: &WideAt,
     ending: &str,
 ) -> Result<(), NoMemory> {
-    let mut text = List::new(alloc);
-    text.append(beginning.as_bytes())?;
-    text.append(ending.as_bytes())?;
-    assert_eq!(rt;
-        answer.line.as_slice(),
-        text.as_slice(),
-        "{beginning}{ending}"
-    );
-    assert_eq!(rt; answer.cause.code(), 5, "{beginning}{ending}");
+    for (when, beginning) in BEGINNINGS {
+        let refusal = wide_refusal(alloc, names, *when, wide)?;
+        expect(rt, tells_wide(&refusal, beginning, ending), ending);
+    }
     Ok(())
 }
 
+/// What is too wide in a case is told as found in reading.
 #[test]
-fn too_wide_in_runs(rt: HostRuntime) -> Result<(), Fail> {
-    let alloc = rt.alloc();
-    let names = names(alloc)?;
+fn too_wide(rt: HostRuntime) -> Result<(), Fail> {
+    let names = names(rt.alloc())?;
     for (component, place, op, ending) in WIDE {
         let wide = WideAt {
-            component,
-            place,
-            op,
+            component: *component,
+            place: *place,
+            op: *op,
         };
-        for (when, beginning) in BEGINNINGS {
-            let answer = wide_refusal(alloc, names.as_slice(), when, &wide)?;
-            expect_both(&rt, alloc, &answer, beginning, ending)?;
-        }
+        expect_wide(&rt, rt.alloc(), names.as_slice(), &wide, ending)?;
+        let refusal = case_refusal(rt.alloc(), names.as_slice(), &CaseFault::Wide(wide))?;
+        let holds = tells_wide(&refusal, "too wide: reading: ", ending);
+        expect(&rt, holds, ending);
     }
     Ok(())
 }
 
-#[test]
-fn too_wide_sums_of_cases(rt: HostRuntime) -> Result<(), Fail> {
-    let alloc = rt.alloc();
-    let names = names(alloc)?;
-    for (component, place, op, ending) in WIDE {
-        let fault = CaseFault::Wide(WideAt {
-            component,
-            place,
-            op,
-        });
-        let answer = case_refusal(alloc, names.as_slice(), &fault)?;
-        expect_both(&rt, alloc, &answer, "too wide: reading: ", ending)?;
-    }
-    Ok(())
-}
+// ---- lines of texts
 
-const LINES: [(usize, LineKind, u8, &str); 15] = [
+/// Lines: the number, the kind, the status and the line.
+const LINES: &[(usize, LineKind, u8, &str)] = &[
     (
         1,
         LineKind::Unexpected,
@@ -391,15 +397,15 @@ const LINES: [(usize, LineKind, u8, &str); 15] = [
 
 #[test]
 fn lines_that_cannot_stand(rt: HostRuntime) -> Result<(), Fail> {
-    for (line, kind, status, text) in LINES {
-        let answer = line_refusal(rt.alloc(), line, kind)?;
-        expect(&rt, &answer, status, text);
+    for (number, kind, status, line) in LINES {
+        let refusal = line_refusal(rt.alloc(), *number, *kind)?;
+        expect(&rt, tells(&refusal, *status, line), line);
     }
     Ok(())
 }
 
-/// Lines of commands: the number, the kind, the status and the line.
-const COMMANDS: [(usize, LineKind, u8, &str); 4] = [
+/// The same of lines of commands.
+const COMMANDS: &[(usize, LineKind, u8, &str)] = &[
     (
         1,
         LineKind::WordCount,
@@ -427,181 +433,154 @@ const COMMANDS: [(usize, LineKind, u8, &str); 4] = [
 ];
 
 #[test]
-fn lines_of_commands_that_cannot_stand(rt: HostRuntime) -> Result<(), Fail> {
-    for (line, kind, status, text) in COMMANDS {
-        let answer = commands_refusal(rt.alloc(), line, kind)?;
-        expect(&rt, &answer, status, text);
+fn commands_that_cannot_stand(rt: HostRuntime) -> Result<(), Fail> {
+    for (number, kind, status, line) in COMMANDS {
+        let refusal = commands_refusal(rt.alloc(), *number, *kind)?;
+        expect(&rt, tells(&refusal, *status, line), line);
     }
     Ok(())
 }
 
 #[test]
-fn a_kept_look_that_cannot_be_taken(rt: HostRuntime) -> Result<(), Fail> {
-    let answer = record_refusal(rt.alloc(), 12)?;
-    expect(&rt, &answer, 3, "malformed: record 12\n");
+fn other_inputs(rt: HostRuntime) -> Result<(), Fail> {
+    let record = record_refusal(rt.alloc(), 12)?;
+    assert!(rt; tells(&record, 3, "malformed: record 12\n"));
+    let kind = kind_refusal(rt.alloc())?;
+    assert!(rt; tells(&kind, 3, "malformed: kind\n"));
     Ok(())
 }
 
-/// Numerals of JSON that are refused: the path, the fault, the status and the line.
-const JSON_NUMBERS: [(&str, NumberFault, u8, &str); 4] = [
+// ---- JSON
+
+/// What is wrong with a value of JSON.
+#[derive(Clone, Copy)]
+enum Wrong {
+    Shape,
+    NotWhole,
+    Number(NumberFault),
+    UnknownName,
+    Expr(ExprFault),
+}
+
+/// Values of JSON: the path, what is wrong, the status and the line.
+const VALUES: &[(&str, Wrong, u8, &str)] = &[
+    ("", Wrong::Shape, 3, "malformed: : shape\n"),
+    (
+        "/components",
+        Wrong::Shape,
+        3,
+        "malformed: /components: shape\n",
+    ),
     (
         "/alpha",
-        NumberFault::Empty,
+        Wrong::NotWhole,
+        3,
+        "malformed: /alpha: not whole\n",
+    ),
+    (
+        "/p/1/to",
+        Wrong::UnknownName,
+        3,
+        "malformed: /p/1/to: unknown name\n",
+    ),
+    (
+        "/alpha",
+        Wrong::Number(NumberFault::Empty),
         3,
         "malformed: /alpha: number\n",
     ),
     (
         "/p/1",
-        NumberFault::BadByte(7),
+        Wrong::Number(NumberFault::BadByte(7)),
         3,
         "malformed: /p/1: number\n",
     ),
     (
         "/components/0/share",
-        NumberFault::ZeroDenominator,
+        Wrong::Number(NumberFault::ZeroDenominator),
         3,
         "malformed: /components/0/share: zero denominator\n",
     ),
     (
         "/stages/spend/0/steps/1/levels/2",
-        NumberFault::TooManyDigits,
+        Wrong::Number(NumberFault::TooManyDigits),
         4,
         "limit: /stages/spend/0/steps/1/levels/2: digits\n",
     ),
-];
-
-#[test]
-fn numerals_of_json(rt: HostRuntime) -> Result<(), Fail> {
-    let alloc = rt.alloc();
-    for (path, why, status, text) in JSON_NUMBERS {
-        let fault = JsonFault::Number(Text::copy(alloc, path.as_bytes())?, why);
-        expect(&rt, &json_refusal(alloc, &fault)?, status, text);
-    }
-    Ok(())
-}
-
-/// Weights of edges of JSON that are refused: the fault, the status and the line.
-const JSON_WEIGHTS: [(ExprFault, u8, &str); 6] = [
     (
-        ExprFault::BadByte(0),
+        "/components/0/edges/12/weight",
+        Wrong::Expr(ExprFault::BadByte(0)),
         3,
         "malformed: /components/0/edges/12/weight: expression\n",
     ),
     (
-        ExprFault::DivisorNotNumber,
+        "/components/0/edges/12/weight",
+        Wrong::Expr(ExprFault::DivisorNotNumber),
         3,
         "malformed: /components/0/edges/12/weight: divisor\n",
     ),
     (
-        ExprFault::ZeroDivisor,
+        "/components/0/edges/12/weight",
+        Wrong::Expr(ExprFault::ZeroDivisor),
         3,
         "malformed: /components/0/edges/12/weight: zero divisor\n",
     ),
     (
-        ExprFault::Degree,
+        "/components/0/edges/12/weight",
+        Wrong::Expr(ExprFault::Degree),
         4,
         "limit: /components/0/edges/12/weight: degree\n",
     ),
     (
-        ExprFault::Part,
+        "/components/0/edges/12/weight",
+        Wrong::Expr(ExprFault::Part),
         4,
         "limit: /components/0/edges/12/weight: part\n",
     ),
     (
-        ExprFault::Depth,
+        "/components/0/edges/12/weight",
+        Wrong::Expr(ExprFault::Depth),
         4,
         "limit: /components/0/edges/12/weight: depth\n",
     ),
 ];
 
+/// The fault of the value at a path.
+fn value_fault(alloc: Global, path: &str, wrong: Wrong) -> Result<JsonFault, NoMemory> {
+    let path = Text::copy(alloc, path.as_bytes())?;
+    Ok(match wrong {
+        Wrong::Shape => JsonFault::Shape(path),
+        Wrong::NotWhole => JsonFault::NotWhole(path),
+        Wrong::Number(why) => JsonFault::Number(path, why),
+        Wrong::UnknownName => JsonFault::UnknownName(path),
+        Wrong::Expr(why) => JsonFault::Expr(path, why),
+    })
+}
+
 #[test]
-fn weights_of_json(rt: HostRuntime) -> Result<(), Fail> {
-    let alloc = rt.alloc();
-    for (why, status, text) in JSON_WEIGHTS {
-        let path = Text::copy(alloc, b"/components/0/edges/12/weight")?;
-        let fault = JsonFault::Expr(path, why);
-        expect(&rt, &json_refusal(alloc, &fault)?, status, text);
+fn values_of_json(rt: HostRuntime) -> Result<(), Fail> {
+    for (path, wrong, status, line) in VALUES {
+        let fault = value_fault(rt.alloc(), path, *wrong)?;
+        let refusal = json_refusal(rt.alloc(), &fault)?;
+        expect(&rt, tells(&refusal, *status, line), line);
     }
     Ok(())
 }
 
-/// A fault of a value of JSON is told in this line, with status 3.
-fn expect_value(rt: &impl Abort, alloc: Global, fault: &JsonFault, text: &str) -> Result<(), Fail> {
-    expect(rt, &json_refusal(alloc, fault)?, 3, text);
-    Ok(())
-}
-
 #[test]
-fn a_whole_value_of_json(rt: HostRuntime) -> Result<(), Fail> {
-    let fault = JsonFault::Shape(Text::copy(rt.alloc(), b"")?);
-    expect_value(&rt, rt.alloc(), &fault, "malformed: : shape\n")
-}
-
-#[test]
-fn a_key_of_json_that_is_missing(rt: HostRuntime) -> Result<(), Fail> {
-    let fault = JsonFault::Shape(Text::copy(rt.alloc(), b"/components")?);
-    expect_value(&rt, rt.alloc(), &fault, "malformed: /components: shape\n")
-}
-
-#[test]
-fn a_number_of_json_that_is_not_whole(rt: HostRuntime) -> Result<(), Fail> {
-    let fault = JsonFault::NotWhole(Text::copy(rt.alloc(), b"/alpha")?);
-    expect_value(&rt, rt.alloc(), &fault, "malformed: /alpha: not whole\n")
-}
-
-#[test]
-fn a_name_of_json_that_is_unknown(rt: HostRuntime) -> Result<(), Fail> {
-    let fault = JsonFault::UnknownName(Text::copy(rt.alloc(), b"/p/1/to")?);
-    expect_value(
-        &rt,
-        rt.alloc(),
-        &fault,
-        "malformed: /p/1/to: unknown name\n",
-    )
-}
-
-#[test]
-fn json_of_no_value(rt: HostRuntime) -> Result<(), Fail> {
-    expect_value(
-        &rt,
-        rt.alloc(),
-        &JsonFault::Syntax,
-        "malformed: json: syntax\n",
-    )
-}
-
-#[test]
-fn json_of_no_case(rt: HostRuntime) -> Result<(), Fail> {
+fn json_of_no_value_or_no_case(rt: HostRuntime) -> Result<(), Fail> {
+    let syntax = json_refusal(rt.alloc(), &JsonFault::Syntax)?;
+    assert!(rt; tells(&syntax, 3, "malformed: json: syntax\n"));
     let refused = Refused {
         names: names(rt.alloc())?,
         fault: CaseFault::PMissing(1),
     };
-    let fault = JsonFault::Case(refused);
-    expect_value(&rt, rt.alloc(), &fault, "malformed: case: p missing H2\n")
-}
-
-#[test]
-fn json_without_memory(rt: HostRuntime) -> Result<(), Fail> {
-    let answer = json_refusal(rt.alloc(), &JsonFault::NoMemory);
-    assert_eq!(rt; answer.err(), Some(NoMemory));
+    let refusal = json_refusal(rt.alloc(), &JsonFault::Case(refused))?;
+    assert!(rt; tells(&refusal, 3, "malformed: case: p missing H2\n"));
     Ok(())
 }
 
-#[test]
-fn another_kind_of_inputs(rt: HostRuntime) -> Result<(), Fail> {
-    let answer = kind_refusal(rt.alloc())?;
-    expect(&rt, &answer, 3, "malformed: kind\n");
-    Ok(())
-}
-
-/// Want of memory is no fault of a case, and has no line here.
-#[test]
-fn want_of_memory(rt: HostRuntime) -> Result<(), Fail> {
-    let names = names(rt.alloc())?;
-    let answer = case_refusal(rt.alloc(), names.as_slice(), &CaseFault::NoMemory);
-    assert_eq!(rt; answer.err(), Some(NoMemory));
-    Ok(())
-}
+// ---- evidence
 
 /// Evidence with steps of the third and the first hypothesis, which keeps the second.
 fn evidence(alloc: Global) -> Result<Evidence, NoMemory> {
@@ -624,7 +603,7 @@ fn evidence(alloc: Global) -> Result<Evidence, NoMemory> {
 }
 
 /// Past the last keep a number is that of a step, and past the last step a place stands for the name.
-const BROKEN: [(usize, Reason, &str); 11] = [
+const BROKEN: &[(usize, Reason, &str)] = &[
     (1, Reason::NoLevel, "no: step 1: no level\n"),
     (2, Reason::Repeated, "no: step 2: repeated\n"),
     (2, Reason::AboveLevel, "no: step 2: above level\n"),
@@ -664,17 +643,16 @@ const BROKEN: [(usize, Reason, &str); 11] = [
 
 #[test]
 fn evidence_that_does_not_hold(rt: HostRuntime) -> Result<(), Fail> {
-    let alloc = rt.alloc();
-    let names = names(alloc)?;
-    let proof = evidence(alloc)?;
-    for (n, reason, text) in BROKEN {
-        let line = no_text(alloc, names.as_slice(), &proof, n, reason)?;
-        assert_eq!(rt; line.as_slice(), text.as_bytes(), "{text}");
+    let names = names(rt.alloc())?;
+    let proof = evidence(rt.alloc())?;
+    for (number, reason, line) in BROKEN {
+        let text = no_text(rt.alloc(), names.as_slice(), &proof, *number, *reason)?;
+        expect(&rt, is_text(text.as_slice(), line), line);
     }
     Ok(())
 }
 
-const PROOF_LINES: [(usize, ProofKind, &str); 8] = [
+const PROOF_LINES: &[(usize, ProofKind, &str)] = &[
     (
         12,
         ProofKind::Unexpected,
@@ -695,9 +673,9 @@ const PROOF_LINES: [(usize, ProofKind, &str); 8] = [
 
 #[test]
 fn lines_of_evidence_that_cannot_stand(rt: HostRuntime) -> Result<(), Fail> {
-    for (line, kind, text) in PROOF_LINES {
-        let answer = proof_refusal(rt.alloc(), line, kind)?;
-        expect(&rt, &answer, 3, text);
+    for (number, kind, line) in PROOF_LINES {
+        let refusal = proof_refusal(rt.alloc(), *number, *kind)?;
+        expect(&rt, tells(&refusal, 3, line), line);
     }
     Ok(())
 }

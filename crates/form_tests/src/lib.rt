@@ -3,6 +3,8 @@
 #![tactic(auto)]
 
 #[cfg(test)]
+mod checks;
+#[cfg(test)]
 mod expressions;
 #[cfg(test)]
 mod lines;
@@ -15,6 +17,10 @@ mod objects;
 #[cfg(test)]
 mod sheets;
 #[cfg(test)]
-mod text_vectors;
+mod text_cases;
+#[cfg(test)]
+mod text_drafts;
+#[cfg(test)]
+mod text_faults;
 #[cfg(test)]
 mod texts;

@@ -1,9 +1,10 @@
 //! A fault of each kind in each place of a document, by hand.
+use crate::object_vectors::{Faulty, Kind};
 use case_json::ExprFault;
 use fraction::NumberFault;
 
 /// Bytes that are no JSON.
-pub const SYNTAX: [(&str, &str); 28] = [
+pub const SYNTAX: &[(&str, &str)] = &[
     ("nul", ""),
     ("tru", ""),
     ("NaN", ""),
@@ -13,446 +14,451 @@ pub const SYNTAX: [(&str, &str); 28] = [
     (".5", ""),
     ("1e", ""),
     ("0x1", ""),
-    ("\"A", ""),
+    (r#""A"#, ""),
     ("'A'", ""),
-    ("\"\\x41\"", ""),
-    ("\"\\u00\"", ""),
-    ("\"\\ud800\"", ""),
+    (r#""\x41""#, ""),
+    (r#""\u00""#, ""),
+    (r#""\ud800""#, ""),
     ("\"\n\"", ""),
     ("\"\t\"", ""),
-    ("{\"alpha\" 1}", ""),
-    ("{\"alpha\":1 \"p\":[]}", ""),
+    (r#"{"alpha" 1}"#, ""),
+    (r#"{"alpha":1 "p":[]}"#, ""),
     ("{alpha:1}", ""),
     ("{1:1}", ""),
-    ("{\"alpha\":}", ""),
+    (r#"{"alpha":}"#, ""),
     ("{,}", ""),
     ("[1,]", ""),
     ("[1 2]", ""),
-    ("{\"alpha\":1}}", ""),
+    (r#"{"alpha":1}}"#, ""),
     ("{}\0", ""),
     ("\u{c}{}", ""),
     ("// alpha\n{}", ""),
 ];
 
 /// Values of the wrong kind up to the list of components.
-pub const OUTER_SHAPES: [(&str, &str); 17] = [
-    ("\"alpha\"", ""),
+pub const OUTER_SHAPES: &[(&str, &str)] = &[
+    (r#""alpha""#, ""),
     ("true", ""),
     ("-7", ""),
-    ("{\"alpha\":[]}", "/alpha"),
-    ("{\"alpha\":{}}", "/alpha"),
-    ("{\"alpha\":false}", "/alpha"),
-    ("{\"alpha\":1,\"hypotheses\":null}", "/hypotheses"),
-    ("{\"alpha\":1,\"hypotheses\":{}}", "/hypotheses"),
-    ("{\"alpha\":1,\"hypotheses\":[\"A\",null]}", "/hypotheses/1"),
-    ("{\"alpha\":1,\"hypotheses\":[[\"A\"]]}", "/hypotheses/0"),
-    ("{\"alpha\":1,\"hypotheses\":[\"A\"],\"p\":{}}", "/p"),
-    ("{\"alpha\":1,\"hypotheses\":[\"A\"],\"p\":\"NA\"}", "/p"),
-    ("{\"alpha\":1,\"hypotheses\":[\"A\"],\"p\":[0,[]]}", "/p/1"),
+    (r#"{"alpha":[]}"#, "/alpha"),
+    (r#"{"alpha":{}}"#, "/alpha"),
+    (r#"{"alpha":false}"#, "/alpha"),
+    (r#"{"alpha":1,"hypotheses":null}"#, "/hypotheses"),
+    (r#"{"alpha":1,"hypotheses":{}}"#, "/hypotheses"),
+    (r#"{"alpha":1,"hypotheses":["A",null]}"#, "/hypotheses/1"),
+    (r#"{"alpha":1,"hypotheses":[["A"]]}"#, "/hypotheses/0"),
+    (r#"{"alpha":1,"hypotheses":["A"],"p":{}}"#, "/p"),
+    (r#"{"alpha":1,"hypotheses":["A"],"p":"NA"}"#, "/p"),
+    (r#"{"alpha":1,"hypotheses":["A"],"p":[0,[]]}"#, "/p/1"),
     (
-        "{\"alpha\":1,\"hypotheses\":[\"A\"],\"components\":null}",
+        r#"{"alpha":1,"hypotheses":["A"],"components":null}"#,
         "/components",
     ),
     (
-        "{\"alpha\":1,\"hypotheses\":[\"A\"],\"components\":\"A\"}",
+        r#"{"alpha":1,"hypotheses":["A"],"components":"A"}"#,
         "/components",
     ),
     (
-        "{\"alpha\":1,\"hypotheses\":[\"A\"],\"components\":[[]]}",
+        r#"{"alpha":1,"hypotheses":["A"],"components":[[]]}"#,
         "/components/0",
     ),
     (
-        "{\"alpha\":1,\"hypotheses\":[\"A\"],\"components\":[null]}",
+        r#"{"alpha":1,"hypotheses":["A"],"components":[null]}"#,
         "/components/0",
     ),
 ];
 
 /// Values of the wrong kind in components and edges, keys that are missing, and unknown keys.
-pub const COMPONENT_SHAPES: [(&str, &str); 15] = [
+pub const COMPONENT_SHAPES: &[(&str, &str)] = &[
     (
-        "{\"alpha\":1,\"hypotheses\":[\"A\"],\"components\":[{\"share\":null,\"weights\":1}]}",
+        r#"{"alpha":1,"hypotheses":["A"],"components":[{"share":null,"weights":1}]}"#,
         "/components/0/share",
     ),
     (
-        "{\"alpha\":1,\"hypotheses\":[\"A\"],\"components\":[{\"share\":[1],\"weights\":1}]}",
+        r#"{"alpha":1,"hypotheses":["A"],"components":[{"share":[1],"weights":1}]}"#,
         "/components/0/share",
     ),
     (
-        "{\"alpha\":1,\"hypotheses\":[\"A\"],\"components\":[{\"weights\":{},\"edges\":1}]}",
+        r#"{"alpha":1,"hypotheses":["A"],"components":[{"weights":{},"edges":1}]}"#,
         "/components/0/weights",
     ),
     (
-        "{\"alpha\":1,\"hypotheses\":[\"A\"],\"components\":[{\"weights\":[\"1\",true],\"edges\":1}]}",
+        r#"{"alpha":1,"hypotheses":["A"],"components":[{"weights":["1",true],"edges":1}]}"#,
         "/components/0/weights/1",
     ),
     (
-        "{\"alpha\":1,\"hypotheses\":[\"A\"],\"components\":[{\"weights\":[1],\"edges\":null}]}",
+        r#"{"alpha":1,"hypotheses":["A"],"components":[{"weights":[1],"edges":null}]}"#,
         "/components/0/edges",
     ),
     (
-        "{\"alpha\":1,\"hypotheses\":[\"A\"],\"components\":[{\"weights\":[1],\"edges\":{}}]}",
+        r#"{"alpha":1,"hypotheses":["A"],"components":[{"weights":[1],"edges":{}}]}"#,
         "/components/0/edges",
     ),
     (
-        "{\"alpha\":1,\"hypotheses\":[\"A\"],\"components\":[{\"weights\":[1],\"edges\":[null]}]}",
+        r#"{"alpha":1,"hypotheses":["A"],"components":[{"weights":[1],"edges":[null]}]}"#,
         "/components/0/edges/0",
     ),
     (
-        "{\"alpha\":1,\"hypotheses\":[\"A\"],\"components\":[{\"weights\":[1],\"edges\":[[\"A\",\"A\",1]]}]}",
+        r#"{"alpha":1,"hypotheses":["A"],"components":[{"weights":[1],"edges":[["A","A",1]]}]}"#,
         "/components/0/edges/0",
     ),
     (
-        "{\"alpha\":1,\"hypotheses\":[\"A\"],\"components\":[{\"weights\":[1],\"edges\":[{\"from\":null}]}]}",
+        r#"{"alpha":1,"hypotheses":["A"],"components":[{"weights":[1],"edges":[{"from":null}]}]}"#,
         "/components/0/edges/0/from",
     ),
     (
-        "{\"alpha\":1,\"hypotheses\":[\"A\"],\"components\":[{\"weights\":[1],\"edges\":[{\"from\":\"A\",\"weight\":1}]}]}",
+        r#"{"alpha":1,"hypotheses":["A"],"components":[{"weights":[1],"edges":[{"from":"A","weight":1}]}]}"#,
         "/components/0/edges/0/to",
     ),
     (
-        "{\"alpha\":1,\"hypotheses\":[\"A\"],\"components\":[{\"weights\":[1],\"edges\":[{\"from\":\"A\",\"to\":[\"A\"]}]}]}",
+        r#"{"alpha":1,"hypotheses":["A"],"components":[{"weights":[1],"edges":[{"from":"A","to":["A"]}]}]}"#,
         "/components/0/edges/0/to",
     ),
     (
-        "{\"alpha\":1,\"hypotheses\":[\"A\"],\"components\":[{\"weights\":[1],\"edges\":[{\"from\":\"A\",\"to\":\"A\"}]}]}",
+        r#"{"alpha":1,"hypotheses":["A"],"components":[{"weights":[1],"edges":[{"from":"A","to":"A"}]}]}"#,
         "/components/0/edges/0/weight",
     ),
     (
-        "{\"alpha\":1,\"hypotheses\":[\"A\"],\"components\":[{\"weights\":[1],\"edges\":[{\"from\":\"A\",\"to\":\"A\",\"weight\":null}]}]}",
+        r#"{"alpha":1,"hypotheses":["A"],"components":[{"weights":[1],"edges":[{"from":"A","to":"A","weight":null}]}]}"#,
         "/components/0/edges/0/weight",
     ),
     (
-        "{\"alpha\":1,\"hypotheses\":[\"A\"],\"components\":[{\"weights\":[1],\"edges\":[{\"from\":\"A\",\"to\":\"A\",\"weight\":[1]}]}]}",
+        r#"{"alpha":1,"hypotheses":["A"],"components":[{"weights":[1],"edges":[{"from":"A","to":"A","weight":[1]}]}]}"#,
         "/components/0/edges/0/weight",
     ),
     (
-        "{\"alpha\":1,\"hypotheses\":[\"A\"],\"components\":[{\"weights\":[1],\"edges\":[]},{\"weights\":[1],\"edges\":[{\"from\":\"A\",\"to\":\"A\",\"weight\":0},{\"from\":\"A\",\"to\":\"A\",\"weight\":0,\"wait\":0}]}]}",
+        r#"{"alpha":1,"hypotheses":["A"],"components":[{"weights":[1],"edges":[]},{"weights":[1],"edges":[{"from":"A","to":"A","weight":0},{"from":"A","to":"A","weight":0,"wait":0}]}]}"#,
         "/components/1/edges/1",
     ),
 ];
 
 /// The same of stages and of what is spent.
-pub const STAGE_SHAPES: [(&str, &str); 16] = [
+pub const STAGE_SHAPES: &[(&str, &str)] = &[
     (
-        "{\"alpha\":1,\"hypotheses\":[\"A\"],\"components\":[],\"stages\":[]}",
+        r#"{"alpha":1,"hypotheses":["A"],"components":[],"stages":[]}"#,
         "/stages",
     ),
     (
-        "{\"alpha\":1,\"hypotheses\":[\"A\"],\"components\":[],\"stages\":{\"count\":1,\"spend\":[],\"arrivals\":[],\"table\":[]}}",
+        r#"{"alpha":1,"hypotheses":["A"],"components":[],"stages":{"count":1,"spend":[],"arrivals":[],"table":[]}}"#,
         "/stages",
     ),
     (
-        "{\"alpha\":1,\"hypotheses\":[\"A\"],\"components\":[],\"stages\":{\"count\":null}}",
+        r#"{"alpha":1,"hypotheses":["A"],"components":[],"stages":{"count":null}}"#,
         "/stages/count",
     ),
     (
-        "{\"alpha\":1,\"hypotheses\":[\"A\"],\"components\":[],\"stages\":{\"count\":[1]}}",
+        r#"{"alpha":1,"hypotheses":["A"],"components":[],"stages":{"count":[1]}}"#,
         "/stages/count",
     ),
     (
-        "{\"alpha\":1,\"hypotheses\":[\"A\"],\"components\":[],\"stages\":{\"count\":1,\"spend\":{}}}",
+        r#"{"alpha":1,"hypotheses":["A"],"components":[],"stages":{"count":1,"spend":{}}}"#,
         "/stages/spend",
     ),
     (
-        "{\"alpha\":1,\"hypotheses\":[\"A\"],\"components\":[],\"stages\":{\"count\":1,\"spend\":[\"1\"],\"arrivals\":[]}}",
+        r#"{"alpha":1,"hypotheses":["A"],"components":[],"stages":{"count":1,"spend":["1"],"arrivals":[]}}"#,
         "/stages/spend/0",
     ),
     (
-        "{\"alpha\":1,\"hypotheses\":[\"A\"],\"components\":[],\"stages\":{\"count\":1,\"spend\":[[0],null],\"arrivals\":[]}}",
+        r#"{"alpha":1,"hypotheses":["A"],"components":[],"stages":{"count":1,"spend":[[0],null],"arrivals":[]}}"#,
         "/stages/spend/1",
     ),
     (
-        "{\"alpha\":1,\"hypotheses\":[\"A\"],\"components\":[],\"stages\":{\"count\":1,\"spend\":[[null]],\"arrivals\":[]}}",
+        r#"{"alpha":1,"hypotheses":["A"],"components":[],"stages":{"count":1,"spend":[[null]],"arrivals":[]}}"#,
         "/stages/spend/0/0",
     ),
     (
-        "{\"alpha\":1,\"hypotheses\":[\"A\"],\"components\":[],\"stages\":{\"count\":1,\"spend\":[[0,[1]]],\"arrivals\":[]}}",
+        r#"{"alpha":1,"hypotheses":["A"],"components":[],"stages":{"count":1,"spend":[[0,[1]]],"arrivals":[]}}"#,
         "/stages/spend/0/1",
     ),
     (
-        "{\"alpha\":1,\"hypotheses\":[\"A\"],\"components\":[],\"stages\":{\"count\":1,\"spend\":[[0],{\"steps\":null}],\"arrivals\":[]}}",
+        r#"{"alpha":1,"hypotheses":["A"],"components":[],"stages":{"count":1,"spend":[[0],{"steps":null}],"arrivals":[]}}"#,
         "/stages/spend/1/steps",
     ),
     (
-        "{\"alpha\":1,\"hypotheses\":[\"A\"],\"components\":[],\"stages\":{\"count\":1,\"spend\":[{\"steps\":[1]}],\"arrivals\":[]}}",
+        r#"{"alpha":1,"hypotheses":["A"],"components":[],"stages":{"count":1,"spend":[{"steps":[1]}],"arrivals":[]}}"#,
         "/stages/spend/0/steps/0",
     ),
     (
-        "{\"alpha\":1,\"hypotheses\":[\"A\"],\"components\":[],\"stages\":{\"count\":1,\"spend\":[{\"steps\":[{\"from\":1,\"levels\":[0],\"to\":1}]}],\"arrivals\":[]}}",
+        r#"{"alpha":1,"hypotheses":["A"],"components":[],"stages":{"count":1,"spend":[{"steps":[{"from":1,"levels":[0],"to":1}]}],"arrivals":[]}}"#,
         "/stages/spend/0/steps/0",
     ),
     (
-        "{\"alpha\":1,\"hypotheses\":[\"A\"],\"components\":[],\"stages\":{\"count\":1,\"spend\":[{\"steps\":[{\"from\":null,\"levels\":0}]}],\"arrivals\":[]}}",
+        r#"{"alpha":1,"hypotheses":["A"],"components":[],"stages":{"count":1,"spend":[{"steps":[{"from":null,"levels":0}]}],"arrivals":[]}}"#,
         "/stages/spend/0/steps/0/from",
     ),
     (
-        "{\"alpha\":1,\"hypotheses\":[\"A\"],\"components\":[],\"stages\":{\"count\":1,\"spend\":[{\"steps\":[{\"from\":1}]}],\"arrivals\":[]}}",
+        r#"{"alpha":1,"hypotheses":["A"],"components":[],"stages":{"count":1,"spend":[{"steps":[{"from":1}]}],"arrivals":[]}}"#,
         "/stages/spend/0/steps/0/levels",
     ),
     (
-        "{\"alpha\":1,\"hypotheses\":[\"A\"],\"components\":[],\"stages\":{\"count\":1,\"spend\":[{\"steps\":[{\"from\":1,\"levels\":{}}]}],\"arrivals\":[]}}",
+        r#"{"alpha":1,"hypotheses":["A"],"components":[],"stages":{"count":1,"spend":[{"steps":[{"from":1,"levels":{}}]}],"arrivals":[]}}"#,
         "/stages/spend/0/steps/0/levels",
     ),
     (
-        "{\"alpha\":1,\"hypotheses\":[\"A\"],\"components\":[],\"stages\":{\"count\":1,\"spend\":[{\"steps\":[{\"from\":1,\"levels\":[0]},{\"from\":1,\"levels\":[0,false]}]}],\"arrivals\":[]}}",
+        r#"{"alpha":1,"hypotheses":["A"],"components":[],"stages":{"count":1,"spend":[{"steps":[{"from":1,"levels":[0]},{"from":1,"levels":[0,false]}]}],"arrivals":[]}}"#,
         "/stages/spend/0/steps/1/levels/1",
     ),
 ];
 
 /// The same of arrivals.
-pub const ARRIVAL_SHAPES: [(&str, &str); 11] = [
+pub const ARRIVAL_SHAPES: &[(&str, &str)] = &[
     (
-        "{\"alpha\":1,\"hypotheses\":[\"A\"],\"components\":[],\"stages\":{\"count\":1,\"spend\":[],\"arrivals\":null}}",
+        r#"{"alpha":1,"hypotheses":["A"],"components":[],"stages":{"count":1,"spend":[],"arrivals":null}}"#,
         "/stages/arrivals",
     ),
     (
-        "{\"alpha\":1,\"hypotheses\":[\"A\"],\"components\":[],\"stages\":{\"count\":1,\"spend\":[],\"arrivals\":{}}}",
+        r#"{"alpha":1,"hypotheses":["A"],"components":[],"stages":{"count":1,"spend":[],"arrivals":{}}}"#,
         "/stages/arrivals",
     ),
     (
-        "{\"alpha\":1,\"hypotheses\":[\"A\"],\"components\":[],\"stages\":{\"count\":1,\"spend\":[],\"arrivals\":[1]}}",
+        r#"{"alpha":1,"hypotheses":["A"],"components":[],"stages":{"count":1,"spend":[],"arrivals":[1]}}"#,
         "/stages/arrivals/0",
     ),
     (
-        "{\"alpha\":1,\"hypotheses\":[\"A\"],\"components\":[],\"stages\":{\"count\":1,\"spend\":[],\"arrivals\":[{\"hypothesis\":\"A\",\"stage\":1,\"p\":0,\"P\":0}]}}",
+        r#"{"alpha":1,"hypotheses":["A"],"components":[],"stages":{"count":1,"spend":[],"arrivals":[{"hypothesis":"A","stage":1,"p":0,"P":0}]}}"#,
         "/stages/arrivals/0",
     ),
     (
-        "{\"alpha\":1,\"hypotheses\":[\"A\"],\"components\":[],\"stages\":{\"count\":1,\"spend\":[],\"arrivals\":[{\"stage\":1,\"p\":0}]}}",
+        r#"{"alpha":1,"hypotheses":["A"],"components":[],"stages":{"count":1,"spend":[],"arrivals":[{"stage":1,"p":0}]}}"#,
         "/stages/arrivals/0/hypothesis",
     ),
     (
-        "{\"alpha\":1,\"hypotheses\":[\"A\"],\"components\":[],\"stages\":{\"count\":1,\"spend\":[],\"arrivals\":[{\"hypothesis\":0,\"stage\":{},\"p\":0}]}}",
+        r#"{"alpha":1,"hypotheses":["A"],"components":[],"stages":{"count":1,"spend":[],"arrivals":[{"hypothesis":0,"stage":{},"p":0}]}}"#,
         "/stages/arrivals/0/hypothesis",
     ),
     (
-        "{\"alpha\":1,\"hypotheses\":[\"A\"],\"components\":[],\"stages\":{\"count\":1,\"spend\":[],\"arrivals\":[{\"hypothesis\":\"A\",\"p\":{}}]}}",
+        r#"{"alpha":1,"hypotheses":["A"],"components":[],"stages":{"count":1,"spend":[],"arrivals":[{"hypothesis":"A","p":{}}]}}"#,
         "/stages/arrivals/0/stage",
     ),
     (
-        "{\"alpha\":1,\"hypotheses\":[\"A\"],\"components\":[],\"stages\":{\"count\":1,\"spend\":[],\"arrivals\":[{\"hypothesis\":\"A\",\"stage\":\"1\",\"p\":0}]}}",
+        r#"{"alpha":1,"hypotheses":["A"],"components":[],"stages":{"count":1,"spend":[],"arrivals":[{"hypothesis":"A","stage":"1","p":0}]}}"#,
         "/stages/arrivals/0/stage",
     ),
     (
-        "{\"alpha\":1,\"hypotheses\":[\"A\"],\"components\":[],\"stages\":{\"count\":1,\"spend\":[],\"arrivals\":[{\"hypothesis\":\"A\",\"stage\":-9223372036854775808,\"p\":0}]}}",
+        r#"{"alpha":1,"hypotheses":["A"],"components":[],"stages":{"count":1,"spend":[],"arrivals":[{"hypothesis":"A","stage":-9223372036854775808,"p":0}]}}"#,
         "/stages/arrivals/0/stage",
     ),
     (
-        "{\"alpha\":1,\"hypotheses\":[\"A\"],\"components\":[],\"stages\":{\"count\":1,\"spend\":[],\"arrivals\":[{\"hypothesis\":\"A\",\"stage\":1}]}}",
+        r#"{"alpha":1,"hypotheses":["A"],"components":[],"stages":{"count":1,"spend":[],"arrivals":[{"hypothesis":"A","stage":1}]}}"#,
         "/stages/arrivals/0/p",
     ),
     (
-        "{\"alpha\":1,\"hypotheses\":[\"A\"],\"components\":[],\"stages\":{\"count\":1,\"spend\":[],\"arrivals\":[{\"hypothesis\":\"A\",\"stage\":1,\"p\":0},{\"hypothesis\":\"A\",\"stage\":1,\"p\":null}]}}",
+        r#"{"alpha":1,"hypotheses":["A"],"components":[],"stages":{"count":1,"spend":[],"arrivals":[{"hypothesis":"A","stage":1,"p":0},{"hypothesis":"A","stage":1,"p":null}]}}"#,
         "/stages/arrivals/1/p",
     ),
 ];
 
 /// Numbers that are not held as integers of 64 bits.
-pub const NOT_WHOLE: [(&str, &str); 19] = [
-    ("{\"alpha\":1e0}", "/alpha"),
-    ("{\"alpha\":0.0}", "/alpha"),
-    ("{\"alpha\":-9223372036854775809}", "/alpha"),
-    ("{\"alpha\":9007199254740993.0}", "/alpha"),
-    ("{\"alpha\":1,\"hypotheses\":[\"A\"],\"p\":[-0]}", "/p/0"),
+pub const NOT_WHOLE: &[(&str, &str)] = &[
+    (r#"{"alpha":1e0}"#, "/alpha"),
+    (r#"{"alpha":0.0}"#, "/alpha"),
+    (r#"{"alpha":-9223372036854775809}"#, "/alpha"),
+    (r#"{"alpha":9007199254740993.0}"#, "/alpha"),
+    (r#"{"alpha":1,"hypotheses":["A"],"p":[-0]}"#, "/p/0"),
+    (r#"{"alpha":1,"hypotheses":["A"],"p":[0.5,"x"]}"#, "/p/0"),
     (
-        "{\"alpha\":1,\"hypotheses\":[\"A\"],\"p\":[0.5,\"x\"]}",
-        "/p/0",
-    ),
-    (
-        "{\"alpha\":1,\"hypotheses\":[\"A\"],\"components\":[{\"share\":18446744073709551616}]}",
+        r#"{"alpha":1,"hypotheses":["A"],"components":[{"share":18446744073709551616}]}"#,
         "/components/0/share",
     ),
     (
-        "{\"alpha\":1,\"hypotheses\":[\"A\"],\"components\":[{\"weights\":[\"1\",0.5]}]}",
+        r#"{"alpha":1,"hypotheses":["A"],"components":[{"weights":["1",0.5]}]}"#,
         "/components/0/weights/1",
     ),
     (
-        "{\"alpha\":1,\"hypotheses\":[\"A\"],\"components\":[{\"weights\":[1],\"edges\":[{\"from\":\"A\",\"to\":\"A\",\"weight\":1.0}]}]}",
+        r#"{"alpha":1,"hypotheses":["A"],"components":[{"weights":[1],"edges":[{"from":"A","to":"A","weight":1.0}]}]}"#,
         "/components/0/edges/0/weight",
     ),
     (
-        "{\"alpha\":1,\"hypotheses\":[\"A\"],\"components\":[{\"weights\":[1],\"edges\":[{\"from\":\"A\",\"to\":\"A\",\"weight\":18446744073709551616}]}]}",
+        r#"{"alpha":1,"hypotheses":["A"],"components":[{"weights":[1],"edges":[{"from":"A","to":"A","weight":18446744073709551616}]}]}"#,
         "/components/0/edges/0/weight",
     ),
     (
-        "{\"alpha\":1,\"hypotheses\":[\"A\"],\"components\":[{\"weights\":[1],\"edges\":[{\"from\":\"A\",\"to\":\"A\",\"weight\":-9223372036854775809}]}]}",
+        r#"{"alpha":1,"hypotheses":["A"],"components":[{"weights":[1],"edges":[{"from":"A","to":"A","weight":-9223372036854775809}]}]}"#,
         "/components/0/edges/0/weight",
     ),
     (
-        "{\"alpha\":1,\"hypotheses\":[\"A\"],\"components\":[],\"stages\":{\"count\":1e1}}",
+        r#"{"alpha":1,"hypotheses":["A"],"components":[],"stages":{"count":1e1}}"#,
         "/stages/count",
     ),
     (
-        "{\"alpha\":1,\"hypotheses\":[\"A\"],\"components\":[],\"stages\":{\"count\":18446744073709551616}}",
+        r#"{"alpha":1,"hypotheses":["A"],"components":[],"stages":{"count":18446744073709551616}}"#,
         "/stages/count",
     ),
     (
-        "{\"alpha\":1,\"hypotheses\":[\"A\"],\"components\":[],\"stages\":{\"count\":-9223372036854775809}}",
+        r#"{"alpha":1,"hypotheses":["A"],"components":[],"stages":{"count":-9223372036854775809}}"#,
         "/stages/count",
     ),
     (
-        "{\"alpha\":1,\"hypotheses\":[\"A\"],\"components\":[],\"stages\":{\"count\":1,\"spend\":[[0,0.5]],\"arrivals\":[]}}",
+        r#"{"alpha":1,"hypotheses":["A"],"components":[],"stages":{"count":1,"spend":[[0,0.5]],"arrivals":[]}}"#,
         "/stages/spend/0/1",
     ),
     (
-        "{\"alpha\":1,\"hypotheses\":[\"A\"],\"components\":[],\"stages\":{\"count\":1,\"spend\":[{\"steps\":[{\"from\":0.5}]}],\"arrivals\":[]}}",
+        r#"{"alpha":1,"hypotheses":["A"],"components":[],"stages":{"count":1,"spend":[{"steps":[{"from":0.5}]}],"arrivals":[]}}"#,
         "/stages/spend/0/steps/0/from",
     ),
     (
-        "{\"alpha\":1,\"hypotheses\":[\"A\"],\"components\":[],\"stages\":{\"count\":1,\"spend\":[{\"steps\":[{\"from\":1,\"levels\":[0.01]}]}],\"arrivals\":[]}}",
+        r#"{"alpha":1,"hypotheses":["A"],"components":[],"stages":{"count":1,"spend":[{"steps":[{"from":1,"levels":[0.01]}]}],"arrivals":[]}}"#,
         "/stages/spend/0/steps/0/levels/0",
     ),
     (
-        "{\"alpha\":1,\"hypotheses\":[\"A\"],\"components\":[],\"stages\":{\"count\":1,\"spend\":[],\"arrivals\":[{\"hypothesis\":\"A\",\"stage\":18446744073709551616}]}}",
+        r#"{"alpha":1,"hypotheses":["A"],"components":[],"stages":{"count":1,"spend":[],"arrivals":[{"hypothesis":"A","stage":18446744073709551616}]}}"#,
         "/stages/arrivals/0/stage",
     ),
     (
-        "{\"alpha\":1,\"hypotheses\":[\"A\"],\"components\":[],\"stages\":{\"count\":1,\"spend\":[],\"arrivals\":[{\"hypothesis\":\"A\",\"stage\":1,\"p\":0.02}]}}",
+        r#"{"alpha":1,"hypotheses":["A"],"components":[],"stages":{"count":1,"spend":[],"arrivals":[{"hypothesis":"A","stage":1,"p":0.02}]}}"#,
         "/stages/arrivals/0/p",
     ),
 ];
 
 /// Names that no hypothesis has.
-pub const UNKNOWN_NAMES: [(&str, &str); 3] = [
+pub const UNKNOWN_NAMES: &[(&str, &str)] = &[
     (
-        "{\"alpha\":1,\"hypotheses\":[\"A\"],\"components\":[{\"weights\":[1],\"edges\":[{\"from\":\"A \",\"to\":\"B\",\"weight\":{}}]}]}",
+        r#"{"alpha":1,"hypotheses":["A"],"components":[{"weights":[1],"edges":[{"from":"A ","to":"B","weight":{}}]}]}"#,
         "/components/0/edges/0/from",
     ),
     (
-        "{\"alpha\":1,\"hypotheses\":[\"A\"],\"components\":[{\"weights\":[1],\"edges\":[{\"from\":\"A\",\"to\":\"A\",\"weight\":0},{\"from\":\"A\",\"to\":\"AA\",\"weight\":{}}]}]}",
+        r#"{"alpha":1,"hypotheses":["A"],"components":[{"weights":[1],"edges":[{"from":"A","to":"A","weight":0},{"from":"A","to":"AA","weight":{}}]}]}"#,
         "/components/0/edges/1/to",
     ),
     (
-        "{\"alpha\":1,\"hypotheses\":[\"A\"],\"components\":[],\"stages\":{\"count\":1,\"spend\":[],\"arrivals\":[{\"hypothesis\":\"\",\"stage\":-1}]}}",
+        r#"{"alpha":1,"hypotheses":["A"],"components":[],"stages":{"count":1,"spend":[],"arrivals":[{"hypothesis":"","stage":-1}]}}"#,
         "/stages/arrivals/0/hypothesis",
     ),
 ];
 
 /// Numerals that are refused.
-pub const NUMERALS: [(&str, &str, NumberFault); 13] = [
-    ("{\"alpha\":\"5%\"}", "/alpha", NumberFault::BadByte(1)),
+pub const NUMERALS: &[Faulty] = &[
     (
-        "{\"alpha\":\"0.05\\u0000\"}",
+        r#"{"alpha":"5%"}"#,
         "/alpha",
-        NumberFault::BadByte(4),
+        Kind::Number(NumberFault::BadByte(1)),
     ),
-    ("{\"alpha\":\"½\"}", "/alpha", NumberFault::BadByte(0)),
     (
-        "{\"alpha\":1,\"hypotheses\":[\"A\"],\"p\":[\"NA\"]}",
+        r#"{"alpha":"0.05\u0000"}"#,
+        "/alpha",
+        Kind::Number(NumberFault::BadByte(4)),
+    ),
+    (
+        r#"{"alpha":"½"}"#,
+        "/alpha",
+        Kind::Number(NumberFault::BadByte(0)),
+    ),
+    (
+        r#"{"alpha":1,"hypotheses":["A"],"p":["NA"]}"#,
         "/p/0",
-        NumberFault::BadByte(0),
+        Kind::Number(NumberFault::BadByte(0)),
     ),
     (
-        "{\"alpha\":1,\"hypotheses\":[\"A\"],\"p\":[0,\"1/\"]}",
+        r#"{"alpha":1,"hypotheses":["A"],"p":[0,"1/"]}"#,
         "/p/1",
-        NumberFault::BadByte(2),
+        Kind::Number(NumberFault::BadByte(2)),
     ),
     (
-        "{\"alpha\":1,\"hypotheses\":[\"A\"],\"components\":[{\"share\":\"1/0\",\"weights\":0}]}",
+        r#"{"alpha":1,"hypotheses":["A"],"components":[{"share":"1/0","weights":0}]}"#,
         "/components/0/share",
-        NumberFault::ZeroDenominator,
+        Kind::Number(NumberFault::ZeroDenominator),
     ),
     (
-        "{\"alpha\":1,\"hypotheses\":[\"A\"],\"components\":[{\"weights\":[\" 1\"]}]}",
+        r#"{"alpha":1,"hypotheses":["A"],"components":[{"weights":[" 1"]}]}"#,
         "/components/0/weights/0",
-        NumberFault::BadByte(0),
+        Kind::Number(NumberFault::BadByte(0)),
     ),
     (
-        "{\"alpha\":1,\"hypotheses\":[\"A\"],\"components\":[{\"weights\":[\"1 \"]}]}",
+        r#"{"alpha":1,"hypotheses":["A"],"components":[{"weights":["1 "]}]}"#,
         "/components/0/weights/0",
-        NumberFault::BadByte(1),
+        Kind::Number(NumberFault::BadByte(1)),
     ),
     (
-        "{\"alpha\":1,\"hypotheses\":[\"A\"],\"components\":[],\"stages\":{\"count\":1,\"spend\":[[\"half\"]],\"arrivals\":[]}}",
+        r#"{"alpha":1,"hypotheses":["A"],"components":[],"stages":{"count":1,"spend":[["half"]],"arrivals":[]}}"#,
         "/stages/spend/0/0",
-        NumberFault::BadByte(0),
+        Kind::Number(NumberFault::BadByte(0)),
     ),
     (
-        "{\"alpha\":1,\"hypotheses\":[\"A\"],\"components\":[],\"stages\":{\"count\":1,\"spend\":[{\"steps\":[{\"from\":\"1/0\"}]}],\"arrivals\":[]}}",
+        r#"{"alpha":1,"hypotheses":["A"],"components":[],"stages":{"count":1,"spend":[{"steps":[{"from":"1/0"}]}],"arrivals":[]}}"#,
         "/stages/spend/0/steps/0/from",
-        NumberFault::ZeroDenominator,
+        Kind::Number(NumberFault::ZeroDenominator),
     ),
     (
-        "{\"alpha\":1,\"hypotheses\":[\"A\"],\"components\":[],\"stages\":{\"count\":1,\"spend\":[{\"steps\":[{\"from\":\"1\",\"levels\":[\"0\",\"\"]}]}],\"arrivals\":[]}}",
+        r#"{"alpha":1,"hypotheses":["A"],"components":[],"stages":{"count":1,"spend":[{"steps":[{"from":"1","levels":["0",""]}]}],"arrivals":[]}}"#,
         "/stages/spend/0/steps/0/levels/1",
-        NumberFault::Empty,
+        Kind::Number(NumberFault::Empty),
     ),
     (
-        "{\"alpha\":1,\"hypotheses\":[\"A\"],\"components\":[],\"stages\":{\"count\":1,\"spend\":[],\"arrivals\":[{\"hypothesis\":\"A\",\"stage\":0,\"p\":\"1,0\"}]}}",
+        r#"{"alpha":1,"hypotheses":["A"],"components":[],"stages":{"count":1,"spend":[],"arrivals":[{"hypothesis":"A","stage":0,"p":"1,0"}]}}"#,
         "/stages/arrivals/0/p",
-        NumberFault::BadByte(1),
+        Kind::Number(NumberFault::BadByte(1)),
     ),
     (
-        "{\"alpha\":1,\"hypotheses\":[\"A\"],\"components\":[],\"stages\":{\"count\":1,\"spend\":[],\"arrivals\":[{\"hypothesis\":\"A\",\"stage\":1,\"p\":\"1e39\"}]}}",
+        r#"{"alpha":1,"hypotheses":["A"],"components":[],"stages":{"count":1,"spend":[],"arrivals":[{"hypothesis":"A","stage":1,"p":"1e39"}]}}"#,
         "/stages/arrivals/0/p",
-        NumberFault::TooManyDigits,
+        Kind::Number(NumberFault::TooManyDigits),
     ),
 ];
 
 /// Weights of edges that are refused.
-pub const WEIGHTS: [(&str, &str, ExprFault); 10] = [
+pub const WEIGHTS: &[Faulty] = &[
     (
-        "{\"alpha\":1,\"hypotheses\":[\"A\"],\"components\":[{\"weights\":[1],\"edges\":[{\"from\":\"A\",\"to\":\"A\",\"weight\":\"\"}]}]}",
+        r#"{"alpha":1,"hypotheses":["A"],"components":[{"weights":[1],"edges":[{"from":"A","to":"A","weight":""}]}]}"#,
         "/components/0/edges/0/weight",
-        ExprFault::BadByte(0),
+        Kind::Expr(ExprFault::BadByte(0)),
     ),
     (
-        "{\"alpha\":1,\"hypotheses\":[\"A\"],\"components\":[{\"weights\":[1],\"edges\":[{\"from\":\"A\",\"to\":\"A\",\"weight\":\"1+\"}]}]}",
+        r#"{"alpha":1,"hypotheses":["A"],"components":[{"weights":[1],"edges":[{"from":"A","to":"A","weight":"1+"}]}]}"#,
         "/components/0/edges/0/weight",
-        ExprFault::BadByte(2),
+        Kind::Expr(ExprFault::BadByte(2)),
     ),
     (
-        "{\"alpha\":1,\"hypotheses\":[\"A\"],\"components\":[{\"weights\":[1],\"edges\":[{\"from\":\"A\",\"to\":\"A\",\"weight\":\"1 2\"}]}]}",
+        r#"{"alpha":1,"hypotheses":["A"],"components":[{"weights":[1],"edges":[{"from":"A","to":"A","weight":"1 2"}]}]}"#,
         "/components/0/edges/0/weight",
-        ExprFault::BadByte(2),
+        Kind::Expr(ExprFault::BadByte(2)),
     ),
     (
-        "{\"alpha\":1,\"hypotheses\":[\"A\"],\"components\":[{\"weights\":[1],\"edges\":[{\"from\":\"A\",\"to\":\"A\",\"weight\":\"\\\\eps\"}]}]}",
+        r#"{"alpha":1,"hypotheses":["A"],"components":[{"weights":[1],"edges":[{"from":"A","to":"A","weight":"\\eps"}]}]}"#,
         "/components/0/edges/0/weight",
-        ExprFault::BadByte(4),
+        Kind::Expr(ExprFault::BadByte(4)),
     ),
     (
-        "{\"alpha\":1,\"hypotheses\":[\"A\"],\"components\":[{\"weights\":[1],\"edges\":[{\"from\":\"A\",\"to\":\"A\",\"weight\":\"(((((((((((((((((((((((((((((((((1)))))))))))))))))))))))))))))))))\"}]}]}",
+        r#"{"alpha":1,"hypotheses":["A"],"components":[{"weights":[1],"edges":[{"from":"A","to":"A","weight":"(((((((((((((((((((((((((((((((((1)))))))))))))))))))))))))))))))))"}]}]}"#,
         "/components/0/edges/0/weight",
-        ExprFault::Depth,
+        Kind::Expr(ExprFault::Depth),
     ),
     (
-        "{\"alpha\":1,\"hypotheses\":[\"A\"],\"components\":[{\"weights\":[1],\"edges\":[{\"from\":\"A\",\"to\":\"A\",\"weight\":\"1/\\\\epsilon\"}]}]}",
+        r#"{"alpha":1,"hypotheses":["A"],"components":[{"weights":[1],"edges":[{"from":"A","to":"A","weight":"1/\\epsilon"}]}]}"#,
         "/components/0/edges/0/weight",
-        ExprFault::DivisorNotNumber,
+        Kind::Expr(ExprFault::DivisorNotNumber),
     ),
     (
-        "{\"alpha\":1,\"hypotheses\":[\"A\"],\"components\":[{\"weights\":[1],\"edges\":[{\"from\":\"A\",\"to\":\"A\",\"weight\":\"\\\\epsilon^5\"}]}]}",
+        r#"{"alpha":1,"hypotheses":["A"],"components":[{"weights":[1],"edges":[{"from":"A","to":"A","weight":"\\epsilon^5"}]}]}"#,
         "/components/0/edges/0/weight",
-        ExprFault::Degree,
+        Kind::Expr(ExprFault::Degree),
     ),
     (
-        "{\"alpha\":1,\"hypotheses\":[\"A\"],\"components\":[{\"weights\":[1],\"edges\":[{\"from\":\"A\",\"to\":\"A\",\"weight\":\"1/1000000000000000001\"}]}]}",
+        r#"{"alpha":1,"hypotheses":["A"],"components":[{"weights":[1],"edges":[{"from":"A","to":"A","weight":"1/1000000000000000001"}]}]}"#,
         "/components/0/edges/0/weight",
-        ExprFault::Part,
+        Kind::Expr(ExprFault::Part),
     ),
     (
-        "{\"alpha\":1,\"hypotheses\":[\"A\"],\"components\":[{\"weights\":[1],\"edges\":[{\"from\":\"A\",\"to\":\"A\",\"weight\":-1000000000000000001}]}]}",
+        r#"{"alpha":1,"hypotheses":["A"],"components":[{"weights":[1],"edges":[{"from":"A","to":"A","weight":-1000000000000000001}]}]}"#,
         "/components/0/edges/0/weight",
-        ExprFault::Part,
+        Kind::Expr(ExprFault::Part),
     ),
     (
-        "{\"alpha\":1,\"hypotheses\":[\"A\"],\"components\":[{\"weights\":[1],\"edges\":[{\"from\":\"A\",\"to\":\"A\",\"weight\":18446744073709551615}]}]}",
+        r#"{"alpha":1,"hypotheses":["A"],"components":[{"weights":[1],"edges":[{"from":"A","to":"A","weight":18446744073709551615}]}]}"#,
         "/components/0/edges/0/weight",
-        ExprFault::Part,
+        Kind::Expr(ExprFault::Part),
     ),
 ];
 
 /// Documents that say cases, with the numbers of their hypotheses and components: escapes, keys that come again (the last
 /// counts), blanks, and numbers at their limits.
-pub const CASES: [(&str, usize, usize); 5] = [
+pub const CASES: &[(&str, usize, usize)] = &[
     (
-        "{\"\\u0061lpha\":\"1/20\",\"hypothese\\u0073\":[\"\\u0041\"],\"components\":[{\"\\u0077eights\":[\"\\u0031\"],\"edges\":[]}]}",
+        r#"{"\u0061lpha":"1/20","hypothese\u0073":["\u0041"],"components":[{"\u0077eights":["\u0031"],"edges":[]}]}"#,
         1,
         1,
     ),
     (
-        "{\"alpha\":true,\"alpha\":1,\"hypotheses\":0,\"hypotheses\":[\"A\"],\"components\":[{\"weights\":0,\"weights\":[1],\"edges\":[{\"from\":\"B\",\"from\":\"A\",\"to\":\"B\",\"to\":\"A\",\"weight\":{},\"weight\":0}]}]}",
+        r#"{"alpha":true,"alpha":1,"hypotheses":0,"hypotheses":["A"],"components":[{"weights":0,"weights":[1],"edges":[{"from":"B","from":"A","to":"B","to":"A","weight":{},"weight":0}]}]}"#,
         1,
         1,
     ),
@@ -462,12 +468,12 @@ pub const CASES: [(&str, usize, usize); 5] = [
         1,
     ),
     (
-        "{\"alpha\":\"+1e-4\",\"hypotheses\":[\"A\",\"B\"],\"p\":[\"1E-30\",1],\"components\":[{\"share\":0,\"weights\":[\"1e-18\",0],\"edges\":[]},{\"share\":\"1\",\"weights\":[0,\".5\"],\"edges\":[{\"from\":\"B\",\"to\":\"A\",\"weight\":\" ( 1 ) - \\\\epsilon ^ 4 \"}]}]}",
+        r#"{"alpha":"+1e-4","hypotheses":["A","B"],"p":["1E-30",1],"components":[{"share":0,"weights":["1e-18",0],"edges":[]},{"share":"1","weights":[0,".5"],"edges":[{"from":"B","to":"A","weight":" ( 1 ) - \\epsilon ^ 4 "}]}]}"#,
         2,
         2,
     ),
     (
-        "{\"alpha\":1,\"hypotheses\":[\"A\"],\"components\":[{\"weights\":[1],\"edges\":[]}],\"stages\":{\"count\":12,\"spend\":[{\"steps\":[{\"from\":1,\"levels\":[1,0,0,0,0,0,0,0,0,0,0,0]}]}],\"arrivals\":[{\"hypothesis\":\"A\",\"stage\":12,\"p\":1}]}}",
+        r#"{"alpha":1,"hypotheses":["A"],"components":[{"weights":[1],"edges":[]}],"stages":{"count":12,"spend":[{"steps":[{"from":1,"levels":[1,0,0,0,0,0,0,0,0,0,0,0]}]}],"arrivals":[{"hypothesis":"A","stage":12,"p":1}]}}"#,
         1,
         1,
     ),

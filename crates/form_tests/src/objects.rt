@@ -1,123 +1,78 @@
 //! Small documents by hand: those that say cases, those with a fault and its path, and those whose drafts are refused.
+use crate::checks::expect;
 use crate::object_places as places;
 use crate::object_vectors::{
-    CASES, NOT_WHOLE, NUMERALS, REFUSED, SHAPES, SYNTAX, UNKNOWN_NAMES, WEIGHTS, WRITTEN,
+    CASES, Faulty, Kind, NOT_WHOLE, NUMERALS, REFUSED, SHAPES, SYNTAX, UNKNOWN_NAMES, WEIGHTS,
+    WRITTEN,
 };
-use case_json::{ExprFault, JsonFault, read_json, write_json};
-use fraction::NumberFault;
+use case_json::{JsonFault, read_json, write_json};
+use case_model::CaseFault;
 use std::alloc::Global;
 use std::process::Abort;
-use std::test::Fail;
 
-/// The fault of a document: its kind, and its path.
-#[derive(Clone, Copy, PartialEq, Eq, Debug)]
-pub enum Kind {
-    Syntax,
-    Shape,
-    NotWhole,
-    Number(NumberFault),
-    UnknownName,
-    Expr(ExprFault),
-    Case,
-    NoMemory,
+/// The kind and the path of a fault, where it is one of bytes or values.
+fn kind_and_path(fault: &JsonFault) -> Option<(Kind, &[u8])> {
+    match fault {
+        JsonFault::Syntax => Some((Kind::Syntax, b"")),
+        JsonFault::Shape(path) => Some((Kind::Shape, path.as_bytes())),
+        JsonFault::NotWhole(path) => Some((Kind::NotWhole, path.as_bytes())),
+        JsonFault::Number(path, why) => Some((Kind::Number(*why), path.as_bytes())),
+        JsonFault::UnknownName(path) => Some((Kind::UnknownName, path.as_bytes())),
+        JsonFault::Expr(path, why) => Some((Kind::Expr(*why), path.as_bytes())),
+        JsonFault::Case(_) | JsonFault::NoMemory => None,
+    }
 }
 
-/// The document has this first fault, at this path.
-fn expect_fault(rt: &impl Abort, alloc: Global, text: &str, at: &str, kind: Kind) {
-    let Err(fault) = read_json(alloc, text.as_bytes()) else {
-        assert!(rt; false, "{text}");
-        return;
-    };
-    let (found, path) = match &fault {
-        JsonFault::Syntax => (Kind::Syntax, None),
-        JsonFault::Shape(path) => (Kind::Shape, Some(path)),
-        JsonFault::NotWhole(path) => (Kind::NotWhole, Some(path)),
-        JsonFault::Number(path, why) => (Kind::Number(*why), Some(path)),
-        JsonFault::UnknownName(path) => (Kind::UnknownName, Some(path)),
-        JsonFault::Expr(path, why) => (Kind::Expr(*why), Some(path)),
-        JsonFault::Case(_) => (Kind::Case, None),
-        JsonFault::NoMemory => (Kind::NoMemory, None),
-    };
-    assert_eq!(rt; found, kind, "{text}");
-    let same = match path {
-        Some(path) => path.as_bytes() == at.as_bytes(),
-        None => at.is_empty(),
-    };
-    assert!(rt; same, "{text}");
+/// Whether the first fault of a document is of this kind, and at this path.
+fn has_fault(alloc: Global, document: &str, path: &str, kind: Kind) -> bool {
+    match read_json(alloc, document.as_bytes()) {
+        Ok(_) => false,
+        Err(fault) => kind_and_path(&fault) == Some((kind, path.as_bytes())),
+    }
 }
 
 /// Each document has a fault of this kind, at its path.
-fn expect_faults(rt: &impl Abort, alloc: Global, texts: &[(&str, &str)], kind: Kind) {
-    for (text, at) in texts {
-        expect_fault(rt, alloc, text, at, kind);
+fn expect_kind(rt: &impl Abort, alloc: Global, documents: &[(&str, &str)], kind: Kind) {
+    for (document, path) in documents {
+        expect(rt, has_fault(alloc, document, path, kind), document);
+    }
+}
+
+/// All tables whose faults need no more words than their kind.
+const FAULTS: &[(Kind, &[(&str, &str)])] = &[
+    (Kind::Syntax, SYNTAX),
+    (Kind::Syntax, places::SYNTAX),
+    (Kind::Shape, SHAPES),
+    (Kind::Shape, places::OUTER_SHAPES),
+    (Kind::Shape, places::COMPONENT_SHAPES),
+    (Kind::Shape, places::STAGE_SHAPES),
+    (Kind::Shape, places::ARRIVAL_SHAPES),
+    (Kind::NotWhole, NOT_WHOLE),
+    (Kind::NotWhole, places::NOT_WHOLE),
+    (Kind::UnknownName, UNKNOWN_NAMES),
+    (Kind::UnknownName, places::UNKNOWN_NAMES),
+];
+
+#[test]
+fn bytes_and_values_are_refused(rt: HostRuntime) {
+    for (kind, documents) in FAULTS {
+        expect_kind(&rt, rt.alloc(), documents, *kind);
+    }
+}
+
+/// Each document has the fault of its row.
+fn expect_faults(rt: &impl Abort, alloc: Global, rows: &[Faulty]) {
+    for (document, path, kind) in rows {
+        expect(rt, has_fault(alloc, document, path, *kind), document);
     }
 }
 
 #[test]
-fn bytes_that_are_no_json(rt: HostRuntime) {
-    expect_faults(&rt, rt.alloc(), &SYNTAX, Kind::Syntax);
-}
-
-#[test]
-fn values_of_the_wrong_kind_and_keys(rt: HostRuntime) {
-    expect_faults(&rt, rt.alloc(), &SHAPES, Kind::Shape);
-}
-
-#[test]
-fn numbers_that_are_not_whole(rt: HostRuntime) {
-    expect_faults(&rt, rt.alloc(), &NOT_WHOLE, Kind::NotWhole);
-}
-
-#[test]
-fn names_that_are_no_hypotheses(rt: HostRuntime) {
-    expect_faults(&rt, rt.alloc(), &UNKNOWN_NAMES, Kind::UnknownName);
-}
-
-#[test]
-fn numerals_that_are_refused(rt: HostRuntime) {
-    for (text, at, why) in &NUMERALS {
-        expect_fault(&rt, rt.alloc(), text, at, Kind::Number(*why));
-    }
-}
-
-#[test]
-fn weights_that_are_refused(rt: HostRuntime) {
-    for (text, at, why) in &WEIGHTS {
-        expect_fault(&rt, rt.alloc(), text, at, Kind::Expr(*why));
-    }
-}
-
-#[test]
-fn drafts_that_are_refused(rt: HostRuntime) {
-    expect_faults(&rt, rt.alloc(), &REFUSED, Kind::Case);
-}
-
-/// Each document says a case of so many hypotheses and components.
-fn expect_cases(rt: &impl Abort, alloc: Global, texts: &[(&str, usize, usize)]) {
-    for (text, size, components) in texts {
-        match read_json(alloc, text.as_bytes()) {
-            Ok(case) => {
-                assert_eq!(rt; case.size(), *size, "{text}");
-                assert_eq!(rt; case.components(), *components, "{text}");
-            }
-            Err(_) => assert!(rt; false, "{text}"),
-        }
-    }
-}
-
-#[test]
-fn documents_that_say_cases(rt: HostRuntime) {
-    expect_cases(&rt, rt.alloc(), &CASES);
-}
-
-#[test]
-fn spellings_that_say_cases(rt: HostRuntime) {
-    expect_cases(&rt, rt.alloc(), &places::CASES);
-}
-
-#[test]
-fn more_bytes_that_are_no_json(rt: HostRuntime) {
-    expect_faults(&rt, rt.alloc(), &places::SYNTAX, Kind::Syntax);
+fn numerals_and_expressions_are_refused(rt: HostRuntime) {
+    expect_faults(&rt, rt.alloc(), NUMERALS);
+    expect_faults(&rt, rt.alloc(), places::NUMERALS);
+    expect_faults(&rt, rt.alloc(), WEIGHTS);
+    expect_faults(&rt, rt.alloc(), places::WEIGHTS);
 }
 
 /// A text that isn't UTF-8.
@@ -127,60 +82,56 @@ fn foreign_bytes_are_no_json(rt: HostRuntime) {
     assert!(rt; matches!(read, Err(JsonFault::Syntax)));
 }
 
-#[test]
-fn outer_values_of_the_wrong_kind(rt: HostRuntime) {
-    expect_faults(&rt, rt.alloc(), &places::OUTER_SHAPES, Kind::Shape);
-}
-
-#[test]
-fn components_of_the_wrong_kind(rt: HostRuntime) {
-    expect_faults(&rt, rt.alloc(), &places::COMPONENT_SHAPES, Kind::Shape);
-}
-
-#[test]
-fn stages_of_the_wrong_kind(rt: HostRuntime) {
-    expect_faults(&rt, rt.alloc(), &places::STAGE_SHAPES, Kind::Shape);
-}
-
-#[test]
-fn arrivals_of_the_wrong_kind(rt: HostRuntime) {
-    expect_faults(&rt, rt.alloc(), &places::ARRIVAL_SHAPES, Kind::Shape);
-}
-
-#[test]
-fn no_integers_of_64_bits(rt: HostRuntime) {
-    expect_faults(&rt, rt.alloc(), &places::NOT_WHOLE, Kind::NotWhole);
-}
-
-#[test]
-fn other_names(rt: HostRuntime) {
-    expect_faults(&rt, rt.alloc(), &places::UNKNOWN_NAMES, Kind::UnknownName);
-}
-
-#[test]
-fn numerals_in_each_place(rt: HostRuntime) {
-    for (text, at, why) in &places::NUMERALS {
-        expect_fault(&rt, rt.alloc(), text, at, Kind::Number(*why));
+/// Whether the values of a document stand, and its draft has this fault.
+fn has_draft_fault(alloc: Global, document: &str, fault: CaseFault) -> bool {
+    match read_json(alloc, document.as_bytes()) {
+        Err(JsonFault::Case(refused)) => refused.fault == fault,
+        _ => false,
     }
 }
 
 #[test]
-fn expressions_of_each_kind(rt: HostRuntime) {
-    for (text, at, why) in &places::WEIGHTS {
-        expect_fault(&rt, rt.alloc(), text, at, Kind::Expr(*why));
+fn drafts_are_refused(rt: HostRuntime) {
+    for (document, fault) in REFUSED {
+        expect(&rt, has_draft_fault(rt.alloc(), document, *fault), document);
+    }
+}
+
+/// Whether a document says a case of so many hypotheses and components.
+fn says_case(alloc: Global, document: &str, size: usize, components: usize) -> bool {
+    match read_json(alloc, document.as_bytes()) {
+        Ok(case) => case.size() == size && case.components() == components,
+        Err(_) => false,
+    }
+}
+
+/// Each document says a case of its numbers.
+fn expect_cases(rt: &impl Abort, alloc: Global, documents: &[(&str, usize, usize)]) {
+    for (document, size, components) in documents {
+        expect(rt, says_case(alloc, document, *size, *components), document);
     }
 }
 
 #[test]
-fn cases_are_written(rt: HostRuntime) -> Result<(), Fail> {
-    for (text, written) in &WRITTEN {
-        match read_json(rt.alloc(), text.as_bytes()) {
-            Ok(case) => {
-                let bytes = write_json(rt.alloc(), &case)?;
-                assert!(rt; bytes.as_slice() == written.as_bytes(), "{text}");
-            }
-            Err(_) => assert!(rt; false, "{text}"),
-        }
+fn documents_say_cases(rt: HostRuntime) {
+    expect_cases(&rt, rt.alloc(), CASES);
+    expect_cases(&rt, rt.alloc(), places::CASES);
+}
+
+/// Whether the JSON of the case that a document says is this, and a line feed.
+fn is_written(alloc: Global, document: &str, written: &str) -> bool {
+    let Ok(case) = read_json(alloc, document.as_bytes()) else {
+        return false;
+    };
+    match write_json(alloc, &case) {
+        Ok(bytes) => bytes.as_slice().strip_suffix(b"\n") == Some(written.as_bytes()),
+        Err(_) => false,
     }
-    Ok(())
+}
+
+#[test]
+fn cases_are_written(rt: HostRuntime) {
+    for (document, written) in WRITTEN {
+        expect(&rt, is_written(rt.alloc(), document, written), document);
+    }
 }

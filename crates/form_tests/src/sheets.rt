@@ -1,19 +1,11 @@
 //! Sheets that make cases, as they are written again, and sheets that are refused, with their rows and columns.
+use crate::checks::expect;
 use case_csv::{CsvFault, ExprFault, RowKind, fits_sheet, read_csv, write_csv};
 use case_model::{Case, CaseFault};
 use field_core::{List, NoMemory};
 use fraction::{Fraction, NumberFault};
 use std::alloc::Global;
 use std::test::Fail;
-
-/// What reading a sheet gives: the number of hypotheses, the first fault of a record, or the fault of the draft.
-#[derive(Clone, Copy, PartialEq, Eq, Debug)]
-enum Told {
-    Size(usize),
-    Row(usize, usize, RowKind),
-    Case(CaseFault),
-    NoMemory,
-}
 
 /// The case of a sheet at the level 1/20.
 fn read(alloc: Global, sheet: &[u8]) -> Result<Case, CsvFault> {
@@ -23,16 +15,6 @@ fn read(alloc: Global, sheet: &[u8]) -> Result<Case, CsvFault> {
     read_csv(alloc, sheet, alpha)
 }
 
-/// What a sheet is read as.
-fn reading_of(alloc: Global, sheet: &[u8]) -> Told {
-    match read(alloc, sheet) {
-        Ok(case) => Told::Size(case.size()),
-        Err(CsvFault::Row(row, column, kind)) => Told::Row(row, column, kind),
-        Err(CsvFault::Case(refused)) => Told::Case(refused.fault),
-        Err(CsvFault::NoMemory) => Told::NoMemory,
-    }
-}
-
 /// The sheet of the case that a sheet says.
 fn rewritten(alloc: Global, sheet: &[u8]) -> Option<List<u8>> {
     let case = read(alloc, sheet).ok()?;
@@ -40,6 +22,14 @@ fn rewritten(alloc: Global, sheet: &[u8]) -> Option<List<u8>> {
         return None;
     }
     write_csv(alloc, &case).ok()
+}
+
+/// Whether a sheet says a case, of which this is written.
+fn is_rewritten(alloc: Global, sheet: &[u8], written: &[u8]) -> bool {
+    match rewritten(alloc, sheet) {
+        Some(again) => again.as_slice() == written,
+        None => false,
+    }
 }
 
 /// What is written of one hypothesis with all the weight and a p-value.
@@ -52,7 +42,7 @@ const BARE: &str = "hypothesis,weight,p,H1\nH1,1,,0\n";
 const TWO: &str = "hypothesis,weight,p,H1,H2\nH1,1/2,1/10000,0,1-\\epsilon\nH2,1/2,3/100,1,0\n";
 
 /// Sheets, and what is written of their cases.
-const SHEETS: [(&str, &str); 24] = [
+const SHEETS: &[(&str, &str)] = &[
     (
         "\"\",\"weight\",\"p\",\"H1\",\"H2\"\n\"H1\",0.5,1e-04,\"0\",\"1-\\epsilon\"\n\"H2\",0.5,0.03,\"1\",\"0\"\n",
         TWO,
@@ -104,12 +94,11 @@ const SHEETS: [(&str, &str); 24] = [
 ];
 
 #[test]
-fn sheets_are_written_again(rt: HostRuntime) -> Result<(), Fail> {
+fn sheets_are_written_again(rt: HostRuntime) {
     for (sheet, written) in SHEETS {
-        let again = rewritten(rt.alloc(), sheet.as_bytes()).ok_or("refused")?;
-        assert_eq!(rt; again.as_slice(), written.as_bytes(), "{sheet}");
+        let again = is_rewritten(rt.alloc(), sheet.as_bytes(), written.as_bytes());
+        expect(&rt, again, sheet);
     }
-    Ok(())
 }
 
 const EMPTY: RowKind = RowKind::Number(NumberFault::Empty);
@@ -126,25 +115,23 @@ const NO_EXPRESSION: RowKind = RowKind::Expr(ExprFault::BadByte(0));
 
 const BROKEN: RowKind = RowKind::Expr(ExprFault::BadByte(1));
 
-/// Sheets whose header can't stand, with the column.
-const HEADERS: [(&str, usize, RowKind); 13] = [
-    ("", 1, RowKind::NoHeader),
-    ("\n\r\n\r", 1, RowKind::NoHeader),
-    ("\u{feff}", 1, RowKind::NoHeader),
-    ("name,weight,p,H1\n", 1, RowKind::Header),
-    ("Hypothesis,weight,p,H1\n", 1, RowKind::Header),
-    ("\"hypothesis\n\",weight,p,H1\n", 1, RowKind::Header),
-    ("hypothesis\n", 2, RowKind::Header),
-    (" \n,weight,p,H1\n", 2, RowKind::Header),
-    (",p,weight,H1\n", 2, RowKind::Header),
-    (",Weight,p,H1\n", 2, RowKind::Header),
-    (",weight", 3, RowKind::Header),
-    (",weight,\n", 3, RowKind::Header),
-    (",weight,P,H1\n", 3, RowKind::Header),
-];
-
-/// Sheets of which a record behind the header can't stand, is missing or is surplus, with the row and the column.
-const ROWS: [(&str, usize, usize, RowKind); 38] = [
+/// Sheets of which a record can't stand, is missing or is surplus, with the row and the column.
+const ROWS: &[(&str, usize, usize, RowKind)] = &[
+    // The header.
+    ("", 1, 1, RowKind::NoHeader),
+    ("\n\r\n\r", 1, 1, RowKind::NoHeader),
+    ("\u{feff}", 1, 1, RowKind::NoHeader),
+    ("name,weight,p,H1\n", 1, 1, RowKind::Header),
+    ("Hypothesis,weight,p,H1\n", 1, 1, RowKind::Header),
+    ("\"hypothesis\n\",weight,p,H1\n", 1, 1, RowKind::Header),
+    ("hypothesis\n", 1, 2, RowKind::Header),
+    (" \n,weight,p,H1\n", 1, 2, RowKind::Header),
+    (",p,weight,H1\n", 1, 2, RowKind::Header),
+    (",Weight,p,H1\n", 1, 2, RowKind::Header),
+    (",weight", 1, 3, RowKind::Header),
+    (",weight,\n", 1, 3, RowKind::Header),
+    (",weight,P,H1\n", 1, 3, RowKind::Header),
+    // The records behind it.
     (",weight,p,H1\n", 2, 1, RowKind::Count),
     (",weight,p,H1,H2\nH1,1,,0,0\n", 3, 1, RowKind::Count),
     (",weight,p,H1\nH1,1,,0\nH1,1,,0\n", 3, 1, RowKind::Count),
@@ -221,7 +208,7 @@ const ROWS: [(&str, usize, usize, RowKind); 38] = [
 ];
 
 /// Sheets whose records stand, and whose draft is refused.
-const DRAFTS: [(&str, CaseFault); 8] = [
+const DRAFTS: &[(&str, CaseFault)] = &[
     (",weight,p\n", CaseFault::NoHypothesis),
     (
         ",weight,p,\"H1\n\"\n\"H1\n\",1,,0\n",
@@ -241,28 +228,35 @@ const DRAFTS: [(&str, CaseFault); 8] = [
     (",weight,p,H1\nH1,1,-1,0\n", CaseFault::PRange(0)),
 ];
 
+/// Whether the first record that can't stand is that of this row, by the cell of this column, for this kind of fault.
+fn has_row_fault(alloc: Global, sheet: &str, row: usize, column: usize, kind: RowKind) -> bool {
+    match read(alloc, sheet.as_bytes()) {
+        Err(CsvFault::Row(at, cell, found)) => at == row && cell == column && found == kind,
+        _ => false,
+    }
+}
+
 #[test]
-fn faults(rt: HostRuntime) {
-    for (sheet, column, kind) in HEADERS {
-        assert_eq!(rt;
-            reading_of(rt.alloc(), sheet.as_bytes()),
-            Told::Row(1, column, kind),
-            "{sheet}"
-        );
-    }
+fn records_are_refused(rt: HostRuntime) {
     for (sheet, row, column, kind) in ROWS {
-        assert_eq!(rt;
-            reading_of(rt.alloc(), sheet.as_bytes()),
-            Told::Row(row, column, kind),
-            "{sheet}"
-        );
+        let holds = has_row_fault(rt.alloc(), sheet, *row, *column, *kind);
+        expect(&rt, holds, sheet);
     }
+}
+
+/// Whether each record stands, and the draft has this fault.
+fn has_draft_fault(alloc: Global, sheet: &[u8], fault: CaseFault) -> bool {
+    match read(alloc, sheet) {
+        Err(CsvFault::Case(refused)) => refused.fault == fault,
+        _ => false,
+    }
+}
+
+#[test]
+fn drafts_are_refused(rt: HostRuntime) {
     for (sheet, fault) in DRAFTS {
-        assert_eq!(rt;
-            reading_of(rt.alloc(), sheet.as_bytes()),
-            Told::Case(fault),
-            "{sheet}"
-        );
+        let holds = has_draft_fault(rt.alloc(), sheet.as_bytes(), *fault);
+        expect(&rt, holds, sheet);
     }
 }
 
@@ -272,35 +266,42 @@ fn put_name(text: &mut List<u8>, place: usize) -> Result<(), NoMemory> {
     text.append_unsigned(place as u128)
 }
 
+/// Appends the header of so many hypotheses.
+fn put_header(text: &mut List<u8>, count: usize) -> Result<(), NoMemory> {
+    text.append(b"hypothesis,weight,p")?;
+    for place in 0..count {
+        text.push(b',')?;
+        put_name(text, place)?;
+    }
+    text.push(b'\n')
+}
+
+/// Appends a row of weight 0, without a p-value and with so many edges of 0.
+fn put_row(text: &mut List<u8>, place: usize, count: usize) -> Result<(), NoMemory> {
+    put_name(text, place)?;
+    text.append(b",0,")?;
+    for _ in 0..count {
+        text.append(b",0")?;
+    }
+    text.push(b'\n')
+}
+
 /// The sheet of so many hypotheses of weight 0, with no p-values and no edges.
 fn sheet_of(alloc: Global, count: usize) -> Result<List<u8>, NoMemory> {
     let mut text = List::new(alloc);
-    text.append(b"hypothesis,weight,p")?;
-    for name in 0..count {
-        text.push(b',')?;
-        put_name(&mut text, name)?;
-    }
-    text.push(b'\n')?;
-    for name in 0..count {
-        put_name(&mut text, name)?;
-        text.append(b",0,")?;
-        for _ in 0..count {
-            text.append(b",0")?;
-        }
-        text.push(b'\n')?;
+    put_header(&mut text, count)?;
+    for place in 0..count {
+        put_row(&mut text, place, count)?;
     }
     Ok(text)
 }
 
 #[test]
 fn sixty_four_hypotheses_are_a_case(rt: HostRuntime) -> Result<(), Fail> {
-    let most = sheet_of(rt.alloc(), 64)?;
-    let again = rewritten(rt.alloc(), most.as_slice()).ok_or("refused")?;
-    assert_eq!(rt; again.as_slice(), most.as_slice());
-    let more = sheet_of(rt.alloc(), 65)?;
-    assert_eq!(rt;
-        reading_of(rt.alloc(), more.as_slice()),
-        Told::Case(CaseFault::TooMany(65))
-    );
+    let alloc = rt.alloc();
+    let most = sheet_of(alloc, 64)?;
+    assert!(rt; is_rewritten(alloc, most.as_slice(), most.as_slice()));
+    let more = sheet_of(alloc, 65)?;
+    assert!(rt; has_draft_fault(alloc, more.as_slice(), CaseFault::TooMany(65)));
     Ok(())
 }

@@ -1,255 +1,227 @@
 //! Texts by hand: those with a line that can't stand, those whose drafts are refused, and those that say cases.
-use crate::text_vectors::{
-    CASES, ENDED, ENTANGLED, EXPRESSIONS, Edge, Held, HeldComponent, HeldSpend, HeldStages,
-    NUMBERS, ORDER, REFUSED, RefusedText, STAGED, Terms, UNEXPECTED, UNKNOWN_NAMES, WHOLE,
-    WORD_COUNTS,
+ghost use Rattle.std.specs.Prelude.{◌<◌};
+
+use crate::checks::{Terms, expect, has_coefficients, has_terms, have_terms};
+use crate::text_cases::{CASES, Edge, Held, HeldComponent, HeldSpend, HeldStages, STAGED};
+use crate::text_drafts::{REFUSED, RefusedText};
+use crate::text_faults::{
+    ENDED, EXPRESSIONS, Faulty, NUMBERS, ORDER, UNEXPECTED, UNKNOWN_NAMES, WHOLE, WORD_COUNTS,
 };
-use case_model::{Case, DraftStages, Entry, Inputs, Refused, Spend, SpendStep};
+use case_model::{Arrival, Case, DraftStages, Entry, Inputs, Refused, Spend, SpendStep};
 use edge_text::{LineKind, TextFault, draft, read_text};
-use field_core::Number;
-use fraction::Fraction;
+use field_core::Text;
 use std::alloc::Global;
 use std::process::Abort;
-use std::test::Fail;
 
 // ---- lines that can't stand
 
-/// The first line that can't stand is that of this number, for this kind of fault.
-fn expect_line_fault(rt: &impl Abort, alloc: Global, text: &str, number: usize, kind: LineKind) {
-    let found = match read_text(alloc, text.as_bytes()) {
-        Err(TextFault::Line(number, kind)) => Some((number, kind)),
-        _ => None,
-    };
-    assert_eq!(rt; found, Some((number, kind)), "{text}");
+/// Whether the first line that can't stand is that of this number, for this kind of fault.
+fn has_fault(alloc: Global, text: &str, number: usize, kind: LineKind) -> bool {
+    match read_text(alloc, text.as_bytes()) {
+        Err(TextFault::Line(line, found)) => line == number && found == kind,
+        _ => false,
+    }
 }
 
 /// Each text has a fault of this kind, in the line of its number.
-fn expect_line_faults(rt: &impl Abort, alloc: Global, texts: &[(&str, usize)], kind: LineKind) {
+fn expect_kind(rt: &impl Abort, alloc: Global, texts: &[(&str, usize)], kind: LineKind) {
     for (text, number) in texts {
-        expect_line_fault(rt, alloc, text, *number, kind);
+        expect(rt, has_fault(alloc, text, *number, kind), text);
     }
 }
 
 #[test]
-fn other_first_words_are_unexpected(rt: HostRuntime) {
-    expect_line_faults(&rt, rt.alloc(), &UNEXPECTED, LineKind::Unexpected);
+fn lines_cannot_stand(rt: HostRuntime) {
+    expect_kind(&rt, rt.alloc(), UNEXPECTED, LineKind::Unexpected);
+    expect_kind(&rt, rt.alloc(), ENDED, LineKind::Ended);
+    expect_kind(&rt, rt.alloc(), WORD_COUNTS, LineKind::WordCount);
+    expect_kind(&rt, rt.alloc(), UNKNOWN_NAMES, LineKind::UnknownName);
+    expect_kind(&rt, rt.alloc(), WHOLE, LineKind::Whole);
 }
 
-#[test]
-fn unfinished_texts_are_ended(rt: HostRuntime) {
-    expect_line_faults(&rt, rt.alloc(), &ENDED, LineKind::Ended);
-}
-
-#[test]
-fn words_are_counted(rt: HostRuntime) {
-    expect_line_faults(&rt, rt.alloc(), &WORD_COUNTS, LineKind::WordCount);
-}
-
-#[test]
-fn ends_of_edges_are_hypotheses(rt: HostRuntime) {
-    expect_line_faults(&rt, rt.alloc(), &UNKNOWN_NAMES, LineKind::UnknownName);
-}
-
-#[test]
-fn whole_numbers_are_refused(rt: HostRuntime) {
-    expect_line_faults(&rt, rt.alloc(), &WHOLE, LineKind::Whole);
-}
-
-#[test]
-fn numerals_are_refused(rt: HostRuntime) {
-    for (text, number, fault) in NUMBERS {
-        expect_line_fault(&rt, rt.alloc(), text, number, LineKind::Number(fault));
+/// Each text has the fault of its row.
+fn expect_faults(rt: &impl Abort, alloc: Global, rows: &[Faulty]) {
+    for (text, number, kind) in rows {
+        expect(rt, has_fault(alloc, text, *number, *kind), text);
     }
 }
 
 #[test]
-fn expressions_are_refused(rt: HostRuntime) {
-    for (text, number, fault) in EXPRESSIONS {
-        expect_line_fault(&rt, rt.alloc(), text, number, LineKind::Expr(fault));
-    }
+fn words_are_refused(rt: HostRuntime) {
+    expect_faults(&rt, rt.alloc(), NUMBERS);
+    expect_faults(&rt, rt.alloc(), EXPRESSIONS);
 }
 
 #[test]
 fn the_first_fault_counts(rt: HostRuntime) {
-    for (text, number, kind) in ORDER {
-        expect_line_fault(&rt, rt.alloc(), text, number, kind);
-    }
+    expect_faults(&rt, rt.alloc(), ORDER);
 }
 
 // ---- drafts that are refused
 
-/// Each line stands, and the draft is refused for its fault, with its names.
-fn expect_refused(rt: &impl Abort, alloc: Global, refused: &RefusedText) {
-    match read_text(alloc, refused.text.as_bytes()) {
-        Err(TextFault::Case(Refused { names, fault })) => {
-            assert_eq!(rt; fault, refused.fault, "{}", refused.text);
-            assert_eq!(rt; names.len(), refused.names.len(), "{}", refused.text);
-            for (name, wanted) in names.iter().zip(refused.names) {
-                assert_eq!(rt; name.as_bytes(), wanted.as_bytes(), "{}", refused.text);
-            }
+/// Whether the names are these.
+fn are_named(names: &[Text], wanted: &[&str]) -> bool {
+    for (name, wanted) in names.iter().zip(wanted) {
+        if name.as_bytes() != wanted.as_bytes() {
+            return false;
         }
-        _ => assert!(rt; false, "{}", refused.text),
+    }
+    names.len() == wanted.len()
+}
+
+/// Whether each line stands, and the draft is refused for its fault, with its names.
+fn is_refused(alloc: Global, row: &RefusedText) -> bool {
+    match read_text(alloc, row.text.as_bytes()) {
+        Err(TextFault::Case(Refused { names, fault })) => {
+            fault == row.fault && are_named(names.as_slice(), row.names)
+        }
+        _ => false,
     }
 }
 
 #[test]
 fn drafts_are_refused(rt: HostRuntime) {
-    for refused in REFUSED {
-        expect_refused(&rt, rt.alloc(), &refused);
+    for row in REFUSED {
+        expect(&rt, is_refused(rt.alloc(), row), row.text);
     }
 }
 
 // ---- cases
 
-fn expect_fraction(rt: &impl Abort, found: Fraction, wanted: Terms) {
-    assert_eq!(rt; Ok(found), Fraction::new(wanted.0, wanted.1));
-}
-
-/// These coefficients by ascending power, and 0 behind the last.
-fn expect_entry(rt: &impl Abort, entry: &Entry, weight: &[Terms]) {
-    for power in 0..5 {
-        let wanted = weight.get(power).copied().unwrap_or((0, 1));
-        expect_fraction(rt, entry.coefficient(power), wanted);
-    }
-}
-
-/// A whole table of edges of a component, with 0 where none is listed.
-fn expect_edges(rt: &impl Abort, case: &Case, c: usize, edges: &[Edge]) {
-    assert!(rt; c < case.components());
-    for i in 0..case.size() {
-        for j in 0..case.size() {
-            let listed = edges.iter().find(|edge| (edge.0, edge.1) == (i, j));
-            let weight = listed.map(|edge| edge.2).unwrap_or_default();
-            expect_entry(rt, case.edge(c, i, j), weight);
+/// The weight that is listed of an edge, or nothing.
+fn listed(edges: &[Edge], from: usize, to: usize) -> &[Terms] {
+    for (start, end, weight) in edges {
+        if *start == from && *end == to {
+            return weight;
         }
     }
+    &[]
 }
 
-/// These names and weights, and no others.
-fn expect_hypotheses(rt: &impl Abort, case: &Case, held: &Held) {
-    assert!(rt; 0 < case.components());
-    assert_eq!(rt; case.size(), held.names.len());
-    assert_eq!(rt; case.size(), held.weights.len());
-    for (i, (name, weight)) in held.names.iter().zip(held.weights).enumerate() {
-        assert!(rt; i < case.size());
-        assert_eq!(rt; case.name(i), name.as_bytes());
-        expect_fraction(rt, case.weight(0, i), *weight);
+/// Whether the edges of so many hypotheses, row by row, are those that are listed, and 0 elsewhere.
+fn are_edges(size: usize, entries: &[Entry], edges: &[Edge]) -> bool
+    requires { 0 < size }
+{
+    for (place, entry) in entries.iter().enumerate() {
+        if !has_coefficients(entry, listed(edges, place / size, place % size)) {
+            return false;
+        }
     }
+    true
 }
 
-/// These p-values; none where there is none.
-fn expect_p(rt: &impl Abort, inputs: &Inputs, p: &[Terms]) {
+/// Whether a component of a case holds this.
+fn has_component(case: &Case, component: usize, held: &HeldComponent) -> bool {
+    component < case.components()
+        && has_terms(&case.share(component), held.share)
+        && have_terms(case.weights(component), held.weights)
+        && are_edges(case.size(), case.edges(component), held.edges)
+}
+
+/// Whether these are the components of a case, in their order.
+fn has_components(case: &Case, components: &[HeldComponent]) -> bool {
+    for (place, held) in components.iter().enumerate() {
+        if !has_component(case, place, held) {
+            return false;
+        }
+    }
+    case.components() == components.len()
+}
+
+/// Whether these are the p-values; none where there is none.
+fn are_p_values(inputs: &Inputs, p: &[Terms]) -> bool {
     match inputs {
-        Inputs::Bare => assert!(rt; p.is_empty()),
-        Inputs::Single(found) => {
-            assert_eq!(rt; found.len(), p.len());
-            for (found, p) in found.as_slice().iter().zip(p) {
-                expect_fraction(rt, *found, *p);
-            }
-        }
-        Inputs::Staged(_) => assert!(rt; false),
+        Inputs::Bare => p.is_empty(),
+        Inputs::Single(found) => have_terms(found.as_slice(), p),
+        Inputs::Staged(_) => false,
     }
 }
 
-/// The case holds just this, in one component of share 1.
-fn expect_case(rt: &impl Abort, case: &Case, held: &Held) {
-    expect_fraction(rt, case.alpha(), held.alpha);
-    assert_eq!(rt; case.components(), 1);
-    assert_eq!(rt; case.share(0), Fraction::one());
-    expect_hypotheses(rt, case, held);
-    expect_edges(rt, case, 0, held.edges);
-    expect_p(rt, case.inputs(), held.p);
+/// Whether a text says the case that holds just this.
+fn says_case(alloc: Global, text: &str, held: &Held) -> bool {
+    match read_text(alloc, text.as_bytes()) {
+        Ok(case) => {
+            has_terms(&case.alpha(), held.alpha)
+                && are_named(case.names(), held.names)
+                && are_p_values(case.inputs(), held.p)
+                && has_components(&case, held.components)
+        }
+        Err(_) => false,
+    }
 }
 
 #[test]
-fn texts_say_cases(rt: HostRuntime) -> Result<(), Fail> {
+fn texts_say_cases(rt: HostRuntime) {
     for (text, held) in CASES {
-        let case = read_text(rt.alloc(), text.as_bytes()).ok().ok_or(text)?;
-        expect_case(&rt, &case, &held);
+        expect(&rt, says_case(rt.alloc(), text, held), text);
     }
-    Ok(())
-}
-
-/// A component of the case holds just this.
-fn expect_component(rt: &impl Abort, case: &Case, c: usize, held: &HeldComponent) {
-    assert!(rt; c < case.components());
-    assert_eq!(rt; case.size(), held.weights.len());
-    expect_fraction(rt, case.share(c), held.share);
-    for (i, weight) in held.weights.iter().enumerate() {
-        assert!(rt; i < case.size());
-        expect_fraction(rt, case.weight(c, i), *weight);
-    }
-    expect_edges(rt, case, c, held.edges);
-}
-
-#[test]
-fn texts_say_components(rt: HostRuntime) -> Result<(), Fail> {
-    for (text, components) in ENTANGLED {
-        let case = read_text(rt.alloc(), text.as_bytes()).ok().ok_or(text)?;
-        assert_eq!(&rt; case.components(), components.len());
-        for (c, held) in components.iter().enumerate() {
-            expect_component(&rt, &case, c, held);
-        }
-    }
-    Ok(())
 }
 
 // ---- stages
 
-/// These numbers, in their order.
-fn expect_fractions(rt: &impl Abort, found: &[Fraction], wanted: &[Terms]) {
-    assert_eq!(rt; found.len(), wanted.len());
-    for (found, wanted) in found.iter().zip(wanted) {
-        expect_fraction(rt, *found, *wanted);
+/// Whether these are the steps, in their order.
+fn are_steps(steps: &[SpendStep], wanted: &[(Terms, &[Terms])]) -> bool {
+    for (step, (from, levels)) in steps.iter().zip(wanted) {
+        if !has_terms(&step.from, *from) || !have_terms(step.levels.as_slice(), levels) {
+            return false;
+        }
+    }
+    steps.len() == wanted.len()
+}
+
+fn is_spend(spend: &Spend, wanted: &HeldSpend) -> bool {
+    match (spend, wanted) {
+        (Spend::Shares(shares), HeldSpend::Shares(wanted)) => have_terms(shares.as_slice(), wanted),
+        (Spend::Table(steps), HeldSpend::Table(wanted)) => are_steps(steps.as_slice(), wanted),
+        _ => false,
     }
 }
 
-/// These steps, in their order.
-fn expect_steps(rt: &impl Abort, found: &[SpendStep], wanted: &[(Terms, &[Terms])]) {
-    assert_eq!(rt; found.len(), wanted.len());
-    for (found, (from, levels)) in found.iter().zip(wanted) {
-        expect_fraction(rt, found.from, *from);
-        expect_fractions(rt, found.levels.as_slice(), levels);
+/// Whether this is what the hypotheses spend, in their order.
+fn are_spends(spends: &[Spend], wanted: &[HeldSpend]) -> bool {
+    for (spend, wanted) in spends.iter().zip(wanted) {
+        if !is_spend(spend, wanted) {
+            return false;
+        }
     }
+    spends.len() == wanted.len()
 }
 
-/// This spend.
-fn expect_spend(rt: &impl Abort, found: &Spend, wanted: &HeldSpend) {
-    match found {
-        Spend::Shares(shares) => match wanted {
-            HeldSpend::Shares(wanted) => expect_fractions(rt, shares.as_slice(), wanted),
-            HeldSpend::Table(_) => assert!(rt; false),
+fn is_arrival(arrival: &Arrival, (hypothesis, stage, p): (usize, usize, Terms)) -> bool {
+    arrival.hypothesis == hypothesis && arrival.stage == stage && has_terms(&arrival.p, p)
+}
+
+/// Whether these are the arrivals, in their order.
+fn are_arrivals(arrivals: &[Arrival], wanted: &[(usize, usize, Terms)]) -> bool {
+    for (arrival, wanted) in arrivals.iter().zip(wanted) {
+        if !is_arrival(arrival, *wanted) {
+            return false;
+        }
+    }
+    arrivals.len() == wanted.len()
+}
+
+/// Whether the stages of a draft hold just this.
+fn are_stages(stages: &DraftStages, held: &HeldStages) -> bool {
+    stages.count == held.count
+        && are_spends(stages.spend.as_slice(), held.spend)
+        && are_arrivals(stages.arrivals.as_slice(), held.arrivals)
+}
+
+/// Whether a text says a draft of these stages.
+fn says_stages(alloc: Global, text: &str, held: &HeldStages) -> bool {
+    match draft(alloc, text.as_bytes()) {
+        Ok(draft) => match &draft.stages {
+            Some(stages) => are_stages(stages, held),
+            None => false,
         },
-        Spend::Table(steps) => match wanted {
-            HeldSpend::Table(wanted) => expect_steps(rt, steps.as_slice(), wanted),
-            HeldSpend::Shares(_) => assert!(rt; false),
-        },
-    }
-}
-
-/// The stages of a draft hold just this.
-fn expect_stages(rt: &impl Abort, found: &DraftStages, wanted: &HeldStages) {
-    assert_eq!(rt; found.count, wanted.count);
-    assert_eq!(rt; found.spend.len(), wanted.spend.len());
-    for (found, wanted) in found.spend.iter().zip(wanted.spend) {
-        expect_spend(rt, found, wanted);
-    }
-    assert_eq!(rt; found.arrivals.len(), wanted.arrivals.len());
-    for (found, (hypothesis, stage, p)) in found.arrivals.iter().zip(wanted.arrivals) {
-        assert_eq!(rt; found.hypothesis, *hypothesis);
-        assert_eq!(rt; found.stage, *stage);
-        expect_fraction(rt, found.p, *p);
+        Err(_) => false,
     }
 }
 
 #[test]
-fn texts_say_stages(rt: HostRuntime) -> Result<(), Fail> {
-    for (text, wanted) in STAGED {
-        let draft = draft(rt.alloc(), text.as_bytes()).ok().ok_or(text)?;
-        match &draft.stages {
-            Some(found) => expect_stages(&rt, found, &wanted),
-            None => assert!(&rt; false, "{text}"),
-        }
+fn texts_say_stages(rt: HostRuntime) {
+    for (text, held) in STAGED {
+        expect(&rt, says_stages(rt.alloc(), text, held), text);
     }
-    Ok(())
 }
