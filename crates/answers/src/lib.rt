@@ -11,8 +11,6 @@ mod halt;
 mod refusal;
 mod status;
 mod stop;
-#[cfg(test)]
-mod tests;
 mod whole;
 
 pub use answer::Answer;

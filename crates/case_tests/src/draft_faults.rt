@@ -1,12 +1,58 @@
-//! Faults of drafts, by the part that has them, and positions of names.
-use crate::samples::{
-    Edge, FIRST, FITS, LATER_WIDE_ROW, LATER_WIDE_WEIGHTS, LONG, LONG_P, NONE, ONE, PASSES, SECOND,
-    THIRD, Terms, WIDE_ROW, WIDE_SHARES, WIDE_WEIGHTS,
-};
+//! Drafts with faults, in lines (`said.rt`).
+//!
+//! The denominators 10^18, 10^18 - 1 and 10^18 - 3 have no common factors. Their product is near 10^54, so that the sum
+//! of 1 over the first two can be written, near 10^-18, and that of 1 over all three can't. 167 and 173 are primes that
+//! don't divide the first two. 167 times their product is below 2^127, which is near 1.7014 times 10^38, and 173 times it
+//! is above. The least denominator that is too long is 10^18 + 1, and that of a p-value 10^30 + 1.
 use case_model::{CaseFault, PartPlace};
+use field_core::{Op, Place, WideAt};
+
+/// Two hypotheses without edges and p-values.
+pub const TWO: &str = "hypotheses H1 H2
+                       component A 1/2 1/2 1/2";
+
+/// The same without their component.
+pub const BARE_TWO: &str = "hypotheses H1 H2";
+
+/// Four hypotheses without edges and p-values.
+pub const FOUR: &str = "hypotheses H1 H2 H3 H4
+                        component A 1/8 1/4 1/4 1/4 1/4";
+
+/// The same without their component.
+pub const BARE_FOUR: &str = "hypotheses H1 H2 H3 H4";
+
+const WIDE_SHARES: CaseFault = CaseFault::Wide(WideAt {
+    component: 0,
+    place: Place::ShareSum,
+    op: Op::Add,
+});
+
+const WIDE_WEIGHTS: CaseFault = CaseFault::Wide(WideAt {
+    component: 0,
+    place: Place::WeightSum,
+    op: Op::Add,
+});
+
+const LATER_WIDE_WEIGHTS: CaseFault = CaseFault::Wide(WideAt {
+    component: 1,
+    place: Place::WeightSum,
+    op: Op::Add,
+});
+
+const WIDE_ROW: CaseFault = CaseFault::Wide(WideAt {
+    component: 0,
+    place: Place::RowSum(0),
+    op: Op::Add,
+});
+
+const LATER_WIDE_ROW: CaseFault = CaseFault::Wide(WideAt {
+    component: 1,
+    place: Place::RowSum(2),
+    op: Op::Add,
+});
 
 /// Names. The component has two weights, so that where there aren't two names a later row applies too.
-pub const NAMES: [(&[&str], CaseFault); 14] = [
+pub const NAMES: &[(&[&str], CaseFault)] = &[
     (&[], CaseFault::NoHypothesis),
     (&[""], CaseFault::NameForm(0)),
     (&["H1", ""], CaseFault::NameForm(1)),
@@ -27,383 +73,567 @@ pub const NAMES: [(&[&str], CaseFault); 14] = [
     (&["H1", "H1", ""], CaseFault::NameForm(2)),
 ];
 
-pub const LEVELS: [(Terms, CaseFault); 8] = [
-    ((1, 10_001), CaseFault::PartTooLong(PartPlace::Alpha)),
-    ((-1, 10_001), CaseFault::PartTooLong(PartPlace::Alpha)),
-    ((10_001, 1), CaseFault::PartTooLong(PartPlace::Alpha)),
-    ((10_001, 10_000), CaseFault::PartTooLong(PartPlace::Alpha)),
-    ((0, 1), CaseFault::AlphaRange),
-    ((-1, 20), CaseFault::AlphaRange),
-    ((10_000, 9_999), CaseFault::AlphaRange),
-    ((2, 1), CaseFault::AlphaRange),
+/// Levels of `TWO`.
+pub const LEVELS: &[(&str, CaseFault)] = &[
+    ("alpha 1/10001", CaseFault::PartTooLong(PartPlace::Alpha)),
+    ("alpha -1/10001", CaseFault::PartTooLong(PartPlace::Alpha)),
+    ("alpha 10001", CaseFault::PartTooLong(PartPlace::Alpha)),
+    (
+        "alpha 10001/10000",
+        CaseFault::PartTooLong(PartPlace::Alpha),
+    ),
+    ("alpha 0", CaseFault::AlphaRange),
+    ("alpha -1/20", CaseFault::AlphaRange),
+    ("alpha 10000/9999", CaseFault::AlphaRange),
+    ("alpha 2", CaseFault::AlphaRange),
 ];
 
-/// The shares of the components, each of which has weights of 1/2.
-pub const SHARES: [(&[Terms], CaseFault); 15] = [
-    (&[], CaseFault::NoComponent),
-    (&[NONE; 9], CaseFault::TooManyComponents(9)),
-    (&[LONG; 10], CaseFault::TooManyComponents(10)),
-    (&[LONG], CaseFault::PartTooLong(PartPlace::Share(0))),
+/// P-values of `TWO`.
+pub const P_VALUES: &[(&str, CaseFault)] = &[
     (
-        &[(1, 2), (1_000_000_000_000_000_001, 1)],
-        CaseFault::PartTooLong(PartPlace::Share(1)),
-    ),
-    // The parts come before the range.
-    (
-        &[(-1, 2), (-1, 1_000_000_000_000_000_001)],
-        CaseFault::PartTooLong(PartPlace::Share(1)),
-    ),
-    (&[(-1, 2)], CaseFault::ShareRange(0)),
-    (
-        &[(1, 2), (-1, 1_000_000_000_000_000_000)],
-        CaseFault::ShareRange(1),
-    ),
-    // The range comes before the sum.
-    (&[(2, 1), (-1, 2), (-1, 3)], CaseFault::ShareRange(1)),
-    (&[FIRST, SECOND, THIRD, (-1, 1)], CaseFault::ShareRange(3)),
-    (&[(2, 1)], CaseFault::ShareSum),
-    (&[(1, 2), (2, 3)], CaseFault::ShareSum),
-    (&[ONE, FIRST], CaseFault::ShareSum),
-    (&[FIRST, SECOND, THIRD], WIDE_SHARES),
-    // A sum is compared after it is written whole.
-    (&[ONE, FIRST, SECOND, THIRD], WIDE_SHARES),
-];
-
-/// The weights of four hypotheses, component by component.
-pub const WEIGHTS: [(&[&[Terms]], CaseFault); 22] = [
-    (
-        &[&[NONE, NONE, LONG, NONE]],
-        CaseFault::PartTooLong(PartPlace::Weight(0, 2)),
-    ),
-    (
-        &[
-            &[ONE, NONE, NONE, NONE],
-            &[(-1_000_000_000_000_000_001, 1), NONE, NONE, LONG],
-        ],
-        CaseFault::PartTooLong(PartPlace::Weight(1, 0)),
-    ),
-    // The parts come before the count, also past the last hypothesis.
-    (
-        &[&[], &[NONE, NONE, NONE, NONE, LONG]],
-        CaseFault::PartTooLong(PartPlace::Weight(1, 4)),
-    ),
-    (&[&[]], CaseFault::WeightCount(0)),
-    (&[&[ONE, NONE, NONE]], CaseFault::WeightCount(0)),
-    (&[&[ONE, NONE, NONE, NONE, NONE]], CaseFault::WeightCount(0)),
-    (
-        &[&[ONE, NONE, NONE, NONE], &[ONE, NONE, NONE]],
-        CaseFault::WeightCount(1),
-    ),
-    // The counts of all components come before the range of a weight.
-    (
-        &[&[(-1, 2), NONE, NONE, NONE], &[ONE]],
-        CaseFault::WeightCount(1),
-    ),
-    (&[&[(2, 1), ONE, NONE]], CaseFault::WeightCount(0)),
-    (
-        &[&[ONE, (-1, 1_000_000_000_000_000_000), NONE, NONE]],
-        CaseFault::WeightRange(0, 1),
-    ),
-    (
-        &[&[NONE, NONE, NONE, NONE], &[NONE, NONE, (-1, 2), (-1, 3)]],
-        CaseFault::WeightRange(1, 2),
-    ),
-    // The ranges of all components come before a sum.
-    (
-        &[&[ONE, ONE, NONE, NONE], &[NONE, NONE, NONE, (-1, 2)]],
-        CaseFault::WeightRange(1, 3),
-    ),
-    (
-        &[&[FIRST, SECOND, THIRD, NONE], &[NONE, (-1, 2), NONE, NONE]],
-        CaseFault::WeightRange(1, 1),
-    ),
-    (&[&[(2, 1), NONE, NONE, NONE]], CaseFault::WeightSum(0)),
-    (&[&[(1, 2), NONE, (1, 2), FIRST]], CaseFault::WeightSum(0)),
-    (
-        &[
-            &[(1, 4), (1, 4), (1, 4), (1, 4)],
-            &[(1, 3), (1, 3), (1, 3), (1, 3)],
-        ],
-        CaseFault::WeightSum(1),
-    ),
-    (&[&[FIRST, SECOND, THIRD, NONE]], WIDE_WEIGHTS),
-    (&[&[FIRST, SECOND, PASSES, NONE]], WIDE_WEIGHTS),
-    (
-        &[&[FIRST, SECOND, FITS, NONE], &[NONE, FIRST, SECOND, THIRD]],
-        LATER_WIDE_WEIGHTS,
-    ),
-    // A sum is compared after it is written whole.
-    (&[&[ONE, FIRST, SECOND, THIRD]], WIDE_WEIGHTS),
-    // The components come in order.
-    (
-        &[&[ONE, ONE, NONE, NONE], &[FIRST, SECOND, THIRD, NONE]],
-        CaseFault::WeightSum(0),
-    ),
-    (
-        &[&[FIRST, SECOND, THIRD, NONE], &[ONE, ONE, NONE, NONE]],
-        WIDE_WEIGHTS,
-    ),
-];
-
-/// The edges between four hypotheses, component by component.
-pub const EDGES: [(&[&[Edge]], CaseFault); 35] = [
-    (
-        &[&[(0, 1, &[LONG])]],
-        CaseFault::PartTooLong(PartPlace::Edge(0, 0, 1)),
-    ),
-    (
-        &[
-            &[(0, 1, &[ONE])],
-            &[
-                (2, 3, &[ONE]),
-                (
-                    1,
-                    0,
-                    &[NONE, NONE, NONE, NONE, (-1, 1_000_000_000_000_000_001)],
-                ),
-            ],
-        ],
-        CaseFault::PartTooLong(PartPlace::Edge(1, 1, 0)),
-    ),
-    // Edges come in the order of their list.
-    (
-        &[&[(3, 0, &[NONE, LONG]), (0, 1, &[LONG])]],
-        CaseFault::PartTooLong(PartPlace::Edge(0, 3, 0)),
-    ),
-    (&[&[(1, 1, &[(1, 2)])]], CaseFault::SelfEdge(0, 1)),
-    (&[&[(2, 2, &[NONE, ONE])]], CaseFault::SelfEdge(0, 2)),
-    (
-        &[&[
-            (0, 0, &[]),
-            (3, 3, &[NONE, NONE, NONE, NONE, (-1, 1)]),
-            (1, 1, &[ONE]),
-        ]],
-        CaseFault::SelfEdge(0, 3),
-    ),
-    // Edges from a hypothesis to itself come, in all components, before an edge that is there twice.
-    (
-        &[&[(0, 1, &[]), (0, 1, &[])], &[(1, 1, &[(2, 1)])]],
-        CaseFault::SelfEdge(1, 1),
-    ),
-    (
-        &[&[(0, 1, &[(1, 2)]), (0, 1, &[(1, 4)])]],
-        CaseFault::RepeatedEdge(0, 0, 1),
-    ),
-    (
-        &[&[(0, 1, &[]), (1, 0, &[]), (0, 1, &[])]],
-        CaseFault::RepeatedEdge(0, 0, 1),
-    ),
-    (
-        &[&[(2, 2, &[]), (2, 2, &[])]],
-        CaseFault::RepeatedEdge(0, 2, 2),
-    ),
-    (
-        &[&[
-            (2, 3, &[]),
-            (0, 1, &[]),
-            (1, 3, &[]),
-            (1, 3, &[]),
-            (2, 3, &[]),
-        ]],
-        CaseFault::RepeatedEdge(0, 1, 3),
-    ),
-    // Edges that are there twice come, in all components, before the range of an edge.
-    (
-        &[&[(0, 1, &[(2, 1)])], &[(3, 2, &[]), (3, 2, &[])]],
-        CaseFault::RepeatedEdge(1, 3, 2),
-    ),
-    (&[&[(0, 1, &[(-1, 2)])]], CaseFault::EdgeRange(0, 0, 1)),
-    (&[&[(0, 1, &[(3, 2)])]], CaseFault::EdgeRange(0, 0, 1)),
-    // 1 plus epsilon, and epsilon below 0.
-    (&[&[(2, 1, &[ONE, ONE])]], CaseFault::EdgeRange(0, 2, 1)),
-    (
-        &[&[(2, 1, &[NONE, (-1, 1)])]],
-        CaseFault::EdgeRange(0, 2, 1),
-    ),
-    (
-        &[&[(2, 1, &[ONE, NONE, NONE, NONE, FIRST])]],
-        CaseFault::EdgeRange(0, 2, 1),
-    ),
-    (
-        &[&[(2, 1, &[NONE, NONE, (-1, 1_000_000_000_000_000_000), ONE])]],
-        CaseFault::EdgeRange(0, 2, 1),
-    ),
-    (
-        &[&[(3, 1, &[ONE, ONE]), (0, 1, &[(2, 1)])]],
-        CaseFault::EdgeRange(0, 3, 1),
-    ),
-    // The ranges of all components come before a sum.
-    (
-        &[&[(0, 1, &[ONE]), (0, 2, &[ONE])], &[(1, 2, &[(2, 1)])]],
-        CaseFault::EdgeRange(1, 1, 2),
-    ),
-    (
-        &[
-            &[(0, 1, &[FIRST]), (0, 2, &[SECOND]), (0, 3, &[THIRD])],
-            &[(1, 2, &[(-1, 1)])],
-        ],
-        CaseFault::EdgeRange(1, 1, 2),
-    ),
-    (
-        &[&[(0, 1, &[(2, 3)]), (0, 2, &[(2, 3)])]],
-        CaseFault::RowSum(0, 0),
-    ),
-    // 1 plus epsilon.
-    (
-        &[&[(3, 0, &[ONE]), (3, 1, &[NONE, ONE])]],
-        CaseFault::RowSum(0, 3),
-    ),
-    // 1 plus the square of epsilon.
-    (
-        &[&[
-            (1, 3, &[NONE, NONE, ONE]),
-            (1, 0, &[ONE, (-1, 1)]),
-            (1, 2, &[NONE, ONE]),
-        ]],
-        CaseFault::RowSum(0, 1),
-    ),
-    // Rows come by their positions, component by component.
-    (
-        &[&[
-            (3, 0, &[ONE]),
-            (3, 1, &[ONE]),
-            (1, 0, &[ONE]),
-            (1, 2, &[ONE]),
-        ]],
-        CaseFault::RowSum(0, 1),
-    ),
-    (
-        &[
-            &[(3, 0, &[ONE]), (3, 1, &[ONE])],
-            &[(0, 1, &[ONE]), (0, 2, &[ONE])],
-        ],
-        CaseFault::RowSum(0, 3),
-    ),
-    (
-        &[&[], &[(0, 1, &[(1, 2)]), (0, 2, &[(1, 2), FIRST])]],
-        CaseFault::RowSum(1, 0),
-    ),
-    (
-        &[&[(0, 3, &[THIRD]), (0, 1, &[FIRST]), (0, 2, &[SECOND])]],
-        WIDE_ROW,
-    ),
-    (
-        &[&[(0, 1, &[FIRST]), (0, 2, &[SECOND]), (0, 3, &[PASSES])]],
-        WIDE_ROW,
-    ),
-    // A sum is compared after it is written whole. These are above 1.
-    (
-        &[&[
-            (0, 1, &[(1, 2), FIRST]),
-            (0, 2, &[(1, 2), SECOND]),
-            (0, 3, &[(1, 2), THIRD]),
-        ]],
-        WIDE_ROW,
-    ),
-    (
-        &[&[
-            (
-                0,
-                1,
-                &[ONE, NONE, NONE, NONE, (-1, 1_000_000_000_000_000_000)],
-            ),
-            (0, 2, &[NONE, ONE, NONE, NONE, SECOND]),
-            (0, 3, &[NONE, NONE, NONE, NONE, THIRD]),
-        ]],
-        WIDE_ROW,
-    ),
-    (
-        &[
-            &[(0, 1, &[FIRST]), (0, 2, &[SECOND]), (0, 3, &[FITS])],
-            &[(2, 0, &[FIRST]), (2, 1, &[SECOND]), (2, 3, &[THIRD])],
-        ],
-        LATER_WIDE_ROW,
-    ),
-    (
-        &[
-            &[(0, 1, &[FIRST]), (0, 2, &[SECOND]), (0, 3, &[THIRD])],
-            &[(0, 1, &[ONE]), (0, 2, &[ONE])],
-        ],
-        WIDE_ROW,
-    ),
-    (
-        &[&[
-            (2, 0, &[FIRST]),
-            (2, 1, &[SECOND]),
-            (2, 3, &[THIRD]),
-            (1, 0, &[ONE]),
-            (1, 2, &[ONE]),
-        ]],
-        CaseFault::RowSum(0, 1),
-    ),
-    (
-        &[&[
-            (1, 0, &[ONE]),
-            (1, 2, &[ONE]),
-            (0, 1, &[FIRST]),
-            (0, 2, &[SECOND]),
-            (0, 3, &[THIRD]),
-        ]],
-        WIDE_ROW,
-    ),
-];
-
-/// The p-values of two hypotheses.
-pub const P_VALUES: [(&[Option<Terms>], CaseFault); 14] = [
-    (
-        &[Some(LONG_P), Some(NONE)],
+        "p 1/1000000000000000000000000000001 0",
         CaseFault::PartTooLong(PartPlace::P(0)),
     ),
     (
-        &[
-            Some(ONE),
-            Some((-1, 1_000_000_000_000_000_000_000_000_000_001)),
-        ],
+        "p 1 -1/1000000000000000000000000000001",
         CaseFault::PartTooLong(PartPlace::P(1)),
     ),
     // The parts come before all other rows of p-values.
     (
-        &[Some((2, 1)), None, Some(LONG_P)],
+        "p 2 - 1/1000000000000000000000000000001",
         CaseFault::PartTooLong(PartPlace::P(2)),
     ),
-    (&[None], CaseFault::PCount(1)),
-    (&[Some(ONE)], CaseFault::PCount(1)),
-    (&[None, None, None], CaseFault::PCount(3)),
+    ("p -", CaseFault::PCount(1)),
+    ("p 1", CaseFault::PCount(1)),
+    ("p - - -", CaseFault::PCount(3)),
     // The count comes before a p-value that is missing, and this before the range.
-    (&[Some((2, 1)), None, None], CaseFault::PCount(3)),
-    (&[Some((2, 1)), None], CaseFault::PMissing(1)),
-    (&[None, Some(NONE)], CaseFault::PMissing(0)),
-    (&[Some((-1, 2)), Some(NONE)], CaseFault::PRange(0)),
+    ("p 2 - -", CaseFault::PCount(3)),
+    ("p 2 -", CaseFault::PMissing(1)),
+    ("p - 0", CaseFault::PMissing(0)),
+    ("p -1/2 0", CaseFault::PRange(0)),
     (
-        &[
-            Some(NONE),
-            Some((-1, 1_000_000_000_000_000_000_000_000_000_000)),
-        ],
+        "p 0 -1/1000000000000000000000000000000",
         CaseFault::PRange(1),
     ),
-    (&[Some((3, 2)), Some((-1, 2))], CaseFault::PRange(0)),
+    ("p 3/2 -1/2", CaseFault::PRange(0)),
     (
-        &[
-            Some(ONE),
-            Some((
-                1_000_000_000_000_000_000_000_000_000_001,
-                1_000_000_000_000_000_000_000_000_000_000,
-            )),
-        ],
+        "p 1 1000000000000000000000000000001/1000000000000000000000000000000",
         CaseFault::PRange(1),
     ),
     // Only the denominator of a p-value has a limit.
+    ("p 10000000000000000000000000000000 1", CaseFault::PRange(0)),
+];
+
+/// The components of `BARE_TWO`.
+pub const SHARES: &[(&str, CaseFault)] = &[
+    ("", CaseFault::NoComponent),
     (
-        &[
-            Some((10_000_000_000_000_000_000_000_000_000_000, 1)),
-            Some(ONE),
-        ],
-        CaseFault::PRange(0),
+        "component A 0 1/2 1/2
+         component B 0 1/2 1/2
+         component C 0 1/2 1/2
+         component D 0 1/2 1/2
+         component E 0 1/2 1/2
+         component F 0 1/2 1/2
+         component G 0 1/2 1/2
+         component H 0 1/2 1/2
+         component I 0 1/2 1/2",
+        CaseFault::TooManyComponents(9),
+    ),
+    (
+        "component A 1/1000000000000000001 1/2 1/2
+         component B 1/1000000000000000001 1/2 1/2
+         component C 1/1000000000000000001 1/2 1/2
+         component D 1/1000000000000000001 1/2 1/2
+         component E 1/1000000000000000001 1/2 1/2
+         component F 1/1000000000000000001 1/2 1/2
+         component G 1/1000000000000000001 1/2 1/2
+         component H 1/1000000000000000001 1/2 1/2
+         component I 1/1000000000000000001 1/2 1/2
+         component J 1/1000000000000000001 1/2 1/2",
+        CaseFault::TooManyComponents(10),
+    ),
+    (
+        "component A 1/1000000000000000001 1/2 1/2",
+        CaseFault::PartTooLong(PartPlace::Share(0)),
+    ),
+    (
+        "component A 1/2 1/2 1/2
+         component B 1000000000000000001 1/2 1/2",
+        CaseFault::PartTooLong(PartPlace::Share(1)),
+    ),
+    // The parts come before the range.
+    (
+        "component A -1/2 1/2 1/2
+         component B -1/1000000000000000001 1/2 1/2",
+        CaseFault::PartTooLong(PartPlace::Share(1)),
+    ),
+    ("component A -1/2 1/2 1/2", CaseFault::ShareRange(0)),
+    (
+        "component A 1/2 1/2 1/2
+         component B -1/1000000000000000000 1/2 1/2",
+        CaseFault::ShareRange(1),
+    ),
+    // The range comes before the sum.
+    (
+        "component A 2 1/2 1/2
+         component B -1/2 1/2 1/2
+         component C -1/3 1/2 1/2",
+        CaseFault::ShareRange(1),
+    ),
+    (
+        "component A 1/1000000000000000000 1/2 1/2
+         component B 1/999999999999999999 1/2 1/2
+         component C 1/999999999999999997 1/2 1/2
+         component D -1 1/2 1/2",
+        CaseFault::ShareRange(3),
+    ),
+    ("component A 2 1/2 1/2", CaseFault::ShareSum),
+    (
+        "component A 1/2 1/2 1/2
+         component B 2/3 1/2 1/2",
+        CaseFault::ShareSum,
+    ),
+    (
+        "component A 1 1/2 1/2
+         component B 1/1000000000000000000 1/2 1/2",
+        CaseFault::ShareSum,
+    ),
+    (
+        "component A 1/1000000000000000000 1/2 1/2
+         component B 1/999999999999999999 1/2 1/2
+         component C 1/999999999999999997 1/2 1/2",
+        WIDE_SHARES,
+    ),
+    // A sum is compared after it is written whole.
+    (
+        "component A 1 1/2 1/2
+         component B 1/1000000000000000000 1/2 1/2
+         component C 1/999999999999999999 1/2 1/2
+         component D 1/999999999999999997 1/2 1/2",
+        WIDE_SHARES,
+    ),
+];
+
+/// The components of `BARE_FOUR`.
+pub const WEIGHTS: &[(&str, CaseFault)] = &[
+    (
+        "component A 1/8 0 0 1/1000000000000000001 0",
+        CaseFault::PartTooLong(PartPlace::Weight(0, 2)),
+    ),
+    (
+        "component A 1/8 1 0 0 0
+         component B 1/8 -1000000000000000001 0 0 1/1000000000000000001",
+        CaseFault::PartTooLong(PartPlace::Weight(1, 0)),
+    ),
+    // The parts come before the count, also past the last hypothesis.
+    (
+        "component A 1/8
+         component B 1/8 0 0 0 0 1/1000000000000000001",
+        CaseFault::PartTooLong(PartPlace::Weight(1, 4)),
+    ),
+    ("component A 1/8", CaseFault::WeightCount(0)),
+    ("component A 1/8 1 0 0", CaseFault::WeightCount(0)),
+    ("component A 1/8 1 0 0 0 0", CaseFault::WeightCount(0)),
+    (
+        "component A 1/8 1 0 0 0
+         component B 1/8 1 0 0",
+        CaseFault::WeightCount(1),
+    ),
+    // The counts of all components come before the range of a weight.
+    (
+        "component A 1/8 -1/2 0 0 0
+         component B 1/8 1",
+        CaseFault::WeightCount(1),
+    ),
+    ("component A 1/8 2 1 0", CaseFault::WeightCount(0)),
+    (
+        "component A 1/8 1 -1/1000000000000000000 0 0",
+        CaseFault::WeightRange(0, 1),
+    ),
+    (
+        "component A 1/8 0 0 0 0
+         component B 1/8 0 0 -1/2 -1/3",
+        CaseFault::WeightRange(1, 2),
+    ),
+    // The ranges of all components come before a sum.
+    (
+        "component A 1/8 1 1 0 0
+         component B 1/8 0 0 0 -1/2",
+        CaseFault::WeightRange(1, 3),
+    ),
+    (
+        "component A 1/8 1/1000000000000000000 1/999999999999999999 1/999999999999999997 0
+         component B 1/8 0 -1/2 0 0",
+        CaseFault::WeightRange(1, 1),
+    ),
+    ("component A 1/8 2 0 0 0", CaseFault::WeightSum(0)),
+    (
+        "component A 1/8 1/2 0 1/2 1/1000000000000000000",
+        CaseFault::WeightSum(0),
+    ),
+    (
+        "component A 1/8 1/4 1/4 1/4 1/4
+         component B 1/8 1/3 1/3 1/3 1/3",
+        CaseFault::WeightSum(1),
+    ),
+    (
+        "component A 1/8 1/1000000000000000000 1/999999999999999999 1/999999999999999997 0",
+        WIDE_WEIGHTS,
+    ),
+    (
+        "component A 1/8 1/1000000000000000000 1/999999999999999999 1/173 0",
+        WIDE_WEIGHTS,
+    ),
+    (
+        "component A 1/8 1/1000000000000000000 1/999999999999999999 1/167 0
+         component B 1/8 0 1/1000000000000000000 1/999999999999999999 1/999999999999999997",
+        LATER_WIDE_WEIGHTS,
+    ),
+    // A sum is compared after it is written whole.
+    (
+        "component A 1/8 1 1/1000000000000000000 1/999999999999999999 1/999999999999999997",
+        WIDE_WEIGHTS,
+    ),
+    // The components come in order.
+    (
+        "component A 1/8 1 1 0 0
+         component B 1/8 1/1000000000000000000 1/999999999999999999 1/999999999999999997 0",
+        CaseFault::WeightSum(0),
+    ),
+    (
+        "component A 1/8 1/1000000000000000000 1/999999999999999999 1/999999999999999997 0
+         component B 1/8 1 1 0 0",
+        WIDE_WEIGHTS,
+    ),
+];
+
+/// The edges of `FOUR`.
+pub const EDGES: &[(&str, CaseFault)] = &[
+    (
+        "edge A H1 H2 1/1000000000000000001",
+        CaseFault::PartTooLong(PartPlace::Edge(0, 0, 1)),
+    ),
+    (
+        "edge A H1 H2 1
+         component B 1/8 1/4 1/4 1/4 1/4
+         edge B H3 H4 1
+         edge B H2 H1 0 0 0 0 -1/1000000000000000001",
+        CaseFault::PartTooLong(PartPlace::Edge(1, 1, 0)),
+    ),
+    // Edges come in the order of their list.
+    (
+        "edge A H4 H1 0 1/1000000000000000001
+         edge A H1 H2 1/1000000000000000001",
+        CaseFault::PartTooLong(PartPlace::Edge(0, 3, 0)),
+    ),
+    ("edge A H2 H2 1/2", CaseFault::SelfEdge(0, 1)),
+    ("edge A H3 H3 0 1", CaseFault::SelfEdge(0, 2)),
+    (
+        "edge A H1 H1 0
+         edge A H4 H4 0 0 0 0 -1
+         edge A H2 H2 1",
+        CaseFault::SelfEdge(0, 3),
+    ),
+    // Edges from a hypothesis to itself come, in all components, before an edge that is there twice.
+    (
+        "edge A H1 H2 0
+         edge A H1 H2 0
+         component B 1/8 1/4 1/4 1/4 1/4
+         edge B H2 H2 2",
+        CaseFault::SelfEdge(1, 1),
+    ),
+    (
+        "edge A H1 H2 1/2
+         edge A H1 H2 1/4",
+        CaseFault::RepeatedEdge(0, 0, 1),
+    ),
+    (
+        "edge A H1 H2 0
+         edge A H2 H1 0
+         edge A H1 H2 0",
+        CaseFault::RepeatedEdge(0, 0, 1),
+    ),
+    (
+        "edge A H3 H3 0
+         edge A H3 H3 0",
+        CaseFault::RepeatedEdge(0, 2, 2),
+    ),
+    (
+        "edge A H3 H4 0
+         edge A H1 H2 0
+         edge A H2 H4 0
+         edge A H2 H4 0
+         edge A H3 H4 0",
+        CaseFault::RepeatedEdge(0, 1, 3),
+    ),
+    // Edges that are there twice come, in all components, before the range of an edge.
+    (
+        "edge A H1 H2 2
+         component B 1/8 1/4 1/4 1/4 1/4
+         edge B H4 H3 0
+         edge B H4 H3 0",
+        CaseFault::RepeatedEdge(1, 3, 2),
+    ),
+    ("edge A H1 H2 -1/2", CaseFault::EdgeRange(0, 0, 1)),
+    ("edge A H1 H2 3/2", CaseFault::EdgeRange(0, 0, 1)),
+    // 1 plus epsilon, and epsilon below 0.
+    ("edge A H3 H2 1 1", CaseFault::EdgeRange(0, 2, 1)),
+    ("edge A H3 H2 0 -1", CaseFault::EdgeRange(0, 2, 1)),
+    (
+        "edge A H3 H2 1 0 0 0 1/1000000000000000000",
+        CaseFault::EdgeRange(0, 2, 1),
+    ),
+    (
+        "edge A H3 H2 0 0 -1/1000000000000000000 1",
+        CaseFault::EdgeRange(0, 2, 1),
+    ),
+    (
+        "edge A H4 H2 1 1
+         edge A H1 H2 2",
+        CaseFault::EdgeRange(0, 3, 1),
+    ),
+    // The ranges of all components come before a sum.
+    (
+        "edge A H1 H2 1
+         edge A H1 H3 1
+         component B 1/8 1/4 1/4 1/4 1/4
+         edge B H2 H3 2",
+        CaseFault::EdgeRange(1, 1, 2),
+    ),
+    (
+        "edge A H1 H2 1/1000000000000000000
+         edge A H1 H3 1/999999999999999999
+         edge A H1 H4 1/999999999999999997
+         component B 1/8 1/4 1/4 1/4 1/4
+         edge B H2 H3 -1",
+        CaseFault::EdgeRange(1, 1, 2),
+    ),
+    (
+        "edge A H1 H2 2/3
+         edge A H1 H3 2/3",
+        CaseFault::RowSum(0, 0),
+    ),
+    // 1 plus epsilon.
+    (
+        "edge A H4 H1 1
+         edge A H4 H2 0 1",
+        CaseFault::RowSum(0, 3),
+    ),
+    // 1 plus the square of epsilon.
+    (
+        "edge A H2 H4 0 0 1
+         edge A H2 H1 1 -1
+         edge A H2 H3 0 1",
+        CaseFault::RowSum(0, 1),
+    ),
+    // Rows come by their positions, component by component.
+    (
+        "edge A H4 H1 1
+         edge A H4 H2 1
+         edge A H2 H1 1
+         edge A H2 H3 1",
+        CaseFault::RowSum(0, 1),
+    ),
+    (
+        "edge A H4 H1 1
+         edge A H4 H2 1
+         component B 1/8 1/4 1/4 1/4 1/4
+         edge B H1 H2 1
+         edge B H1 H3 1",
+        CaseFault::RowSum(0, 3),
+    ),
+    (
+        "component B 1/8 1/4 1/4 1/4 1/4
+         edge B H1 H2 1/2
+         edge B H1 H3 1/2 1/1000000000000000000",
+        CaseFault::RowSum(1, 0),
+    ),
+    (
+        "edge A H1 H4 1/999999999999999997
+         edge A H1 H2 1/1000000000000000000
+         edge A H1 H3 1/999999999999999999",
+        WIDE_ROW,
+    ),
+    (
+        "edge A H1 H2 1/1000000000000000000
+         edge A H1 H3 1/999999999999999999
+         edge A H1 H4 1/173",
+        WIDE_ROW,
+    ),
+    // A sum is compared after it is written whole. These are above 1.
+    (
+        "edge A H1 H2 1/2 1/1000000000000000000
+         edge A H1 H3 1/2 1/999999999999999999
+         edge A H1 H4 1/2 1/999999999999999997",
+        WIDE_ROW,
+    ),
+    (
+        "edge A H1 H2 1 0 0 0 -1/1000000000000000000
+         edge A H1 H3 0 1 0 0 1/999999999999999999
+         edge A H1 H4 0 0 0 0 1/999999999999999997",
+        WIDE_ROW,
+    ),
+    (
+        "edge A H1 H2 1/1000000000000000000
+         edge A H1 H3 1/999999999999999999
+         edge A H1 H4 1/167
+         component B 1/8 1/4 1/4 1/4 1/4
+         edge B H3 H1 1/1000000000000000000
+         edge B H3 H2 1/999999999999999999
+         edge B H3 H4 1/999999999999999997",
+        LATER_WIDE_ROW,
+    ),
+    (
+        "edge A H1 H2 1/1000000000000000000
+         edge A H1 H3 1/999999999999999999
+         edge A H1 H4 1/999999999999999997
+         component B 1/8 1/4 1/4 1/4 1/4
+         edge B H1 H2 1
+         edge B H1 H3 1",
+        WIDE_ROW,
+    ),
+    (
+        "edge A H3 H1 1/1000000000000000000
+         edge A H3 H2 1/999999999999999999
+         edge A H3 H4 1/999999999999999997
+         edge A H2 H1 1
+         edge A H2 H3 1",
+        CaseFault::RowSum(0, 1),
+    ),
+    (
+        "edge A H2 H1 1
+         edge A H2 H3 1
+         edge A H1 H2 1/1000000000000000000
+         edge A H1 H3 1/999999999999999999
+         edge A H1 H4 1/999999999999999997",
+        WIDE_ROW,
+    ),
+];
+
+/// Drafts with faults in several of their parts, of which the first counts.
+pub const ORDER: &[(&str, CaseFault)] = &[
+    ("", CaseFault::NoHypothesis),
+    ("hypotheses H1 H1", CaseFault::DuplicateName(1)),
+    (
+        "alpha 1/10001
+         hypotheses H1 H2",
+        CaseFault::NoComponent,
+    ),
+    (
+        "alpha 1/10001
+         hypotheses H1 H2
+         component A 1/2 1/2 1/2
+         component B 1/2 1/2 1/2
+         component C 1/2 1/2 1/2
+         component D 1/2 1/2 1/2
+         component E 1/2 1/2 1/2
+         component F 1/2 1/2 1/2
+         component G 1/2 1/2 1/2
+         component H 1/2 1/2 1/2
+         component I 1/2 1/2 1/2",
+        CaseFault::TooManyComponents(9),
+    ),
+    (
+        "alpha 1/10001
+         hypotheses H1 H2
+         component A 1/1000000000000000001 1/2 1/2",
+        CaseFault::PartTooLong(PartPlace::Alpha),
+    ),
+    (
+        "hypotheses H1 H2
+         component A 1/2 1/1000000000000000001 1/1000000000000000001
+         component B 1/1000000000000000001 1/2 1/2",
+        CaseFault::PartTooLong(PartPlace::Share(1)),
+    ),
+    (
+        "hypotheses H1 H2
+         component A 1/2 1/2 1/2
+         edge A H1 H2 1/1000000000000000001
+         component B 1/2 0 1/1000000000000000001",
+        CaseFault::PartTooLong(PartPlace::Weight(1, 1)),
+    ),
+    (
+        "hypotheses H1 H2
+         p 1/1000000000000000000000000000001 -
+         component A 1/2 1/2 1/2
+         component B 1/2 1/2 1/2
+         edge B H2 H1 1/1000000000000000001",
+        CaseFault::PartTooLong(PartPlace::Edge(1, 1, 0)),
+    ),
+    (
+        "alpha 0
+         hypotheses H1 H2
+         p - 1/1000000000000000000000000000001
+         component A 1/2 1/2 1/2",
+        CaseFault::PartTooLong(PartPlace::P(1)),
+    ),
+    (
+        "alpha 2
+         hypotheses H1 H2
+         component A -1 1/2 1/2",
+        CaseFault::AlphaRange,
+    ),
+    (
+        "hypotheses H1 H2
+         component A 2",
+        CaseFault::ShareSum,
+    ),
+    (
+        "hypotheses H1 H2
+         component A 1/2 1/2 1/2
+         edge A H1 H1 1
+         edge A H1 H2 0
+         edge A H1 H2 0
+         component B 1/2 1/2 2/3",
+        CaseFault::WeightSum(1),
+    ),
+    (
+        "hypotheses H1 H2 H3 H4
+         component A 1/8 1/1000000000000000000 1/999999999999999999 1/999999999999999997 1
+         edge A H1 H2 0
+         edge A H1 H2 0",
+        WIDE_WEIGHTS,
+    ),
+    (
+        "hypotheses H1 H2
+         p 2
+         component A 1/2 1/2 1/2
+         edge A H1 H2 1 1",
+        CaseFault::EdgeRange(0, 0, 1),
+    ),
+    (
+        "hypotheses H1 H2 H3 H4
+         p 2
+         component A 1/8 1/4 1/4 1/4 1/4
+         edge A H1 H2 1
+         edge A H1 H3 0 1",
+        CaseFault::RowSum(0, 0),
+    ),
+    (
+        "hypotheses H1 H2 H3 H4
+         p 2
+         component A 1/8 1/4 1/4 1/4 1/4
+         edge A H1 H2 1/1000000000000000000
+         edge A H1 H3 1/999999999999999999
+         edge A H1 H4 1/999999999999999997",
+        WIDE_ROW,
+    ),
+];
+
+/// Names that are too many, the last two of which are no name and a name that is there already.
+pub const TOO_MANY: &[(&str, CaseFault)] = &[
+    (
+        "hypotheses A B C D E F G H I J K L M N O P Q R S T U V W X Y Z a b c d e f g h i j k l m n o p q r s t u v w x y z 0 1 2 3 4 5 6 7 8 9 _ . -",
+        CaseFault::TooMany(65),
+    ),
+    (
+        "hypotheses A B C D E F G H I J K L M N O P Q R S T U V W X Y Z a b c d e f g h i j k l m n o p q r s t u v w x y z 0 1 2 3 4 5 6 7 8 9 _ . - + A",
+        CaseFault::TooMany(67),
     ),
 ];
 
 /// Names, a name, and its position.
-pub const POSITIONS: [(&[&str], &str, Option<usize>); 14] = [
+pub const POSITIONS: &[(&[&str], &str, Option<usize>)] = &[
     (&["H1", "H10", "H2"], "H1", Some(0)),
     (&["H1", "H10", "H2"], "H10", Some(1)),
     (&["H1", "H10", "H2"], "H2", Some(2)),

@@ -5,6 +5,10 @@
 #![tactic(auto)]
 
 #[cfg(test)]
+mod accepted;
+#[cfg(test)]
+mod contents;
+#[cfg(test)]
 mod draft_faults;
 #[cfg(test)]
 mod drafts;
@@ -13,10 +17,12 @@ mod named_graphs;
 #[cfg(test)]
 mod numbers;
 #[cfg(test)]
-mod samples;
+mod rows;
+#[cfg(test)]
+mod said;
 #[cfg(test)]
 mod sets;
 #[cfg(test)]
-mod stage_samples;
+mod stage_faults;
 #[cfg(test)]
 mod stages;

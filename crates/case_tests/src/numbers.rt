@@ -1,21 +1,35 @@
-//! The numbers of cases with and without epsilon.
+//! Entries of edges, and the numbers of cases with and without epsilon.
+use crate::rows::{expect, fraction};
+use crate::said::{entry, numbers};
 use case_model::Entry;
 use case_numbers::CaseNumber;
-use eps_poly::EpsPoly;
 use eps_quotient::EpsQuotient;
 use field_core::{Op, TooWide};
 use fraction::Fraction;
-use std::test::Fail;
+use std::process::Abort;
+use text_lines::Words;
 
-fn entry(coefficients: [(i128, i128); 3]) -> Result<Entry, Fail> {
-    let [constant, first, second] = coefficients;
-    Ok(Entry::new([
-        Fraction::new(constant.0, constant.1)?,
-        Fraction::new(first.0, first.1)?,
-        Fraction::new(second.0, second.1)?,
-        Fraction::new(0, 1)?,
-        Fraction::new(0, 1)?,
-    ]))
+fn said(rt: &(impl Abort + AllocGlobal), coefficients: &str) -> Entry {
+    entry(
+        rt,
+        numbers(rt, Words::new(coefficients.as_bytes())).as_slice(),
+    )
+}
+
+/// The coefficients of powers 0 to 4.
+const COEFFICIENTS: &[(i128, i128)] = &[(1, 2), (-1, 3), (0, 1), (2, 5), (-7, 1)];
+
+#[test]
+fn an_entry_has_its_coefficients(rt: HostRuntime) {
+    let entry = said(&rt, "1/2 -1/3 0 2/5 -7");
+    for (power, terms) in COEFFICIENTS.iter().enumerate() {
+        assert!(rt; power < 5);
+        expect(
+            &rt,
+            entry.coefficient(power) == fraction(&rt, *terms),
+            terms,
+        );
+    }
 }
 
 /// A weight and an edge of the same number, through the trait.
@@ -24,38 +38,35 @@ fn both<F: CaseNumber>(weight: &Fraction, edge: &Entry) -> Result<(F, F), TooWid
 }
 
 #[test]
-fn a_plain_entry_is_its_first_coefficient(rt: HostRuntime) -> Result<(), Fail> {
-    let third = Fraction::new(1, 3)?;
-    let (weight, edge) = both::<Fraction>(&third, &entry([(1, 3), (0, 1), (0, 1)])?)?;
-    assert_eq!(rt; weight, third);
-    assert_eq!(rt; edge, third);
-    Ok(())
+fn a_plain_entry_is_its_first_coefficient(rt: HostRuntime) {
+    let third = fraction(&rt, (1, 3));
+    let found = both::<Fraction>(&third, &said(&rt, "1/3"));
+    assert!(rt; found == Ok((third, third)));
+}
+
+/// Whether the coefficients of powers 0 and 1 are over a number.
+fn is_over(x: &EpsQuotient, numerator: [i128; 2], denominator: i128) -> bool {
+    x.numerator().degree() < 2
+        && x.numerator().coefficient(0) == numerator[0]
+        && x.numerator().coefficient(1) == numerator[1]
+        && x.denominator().degree() == 0
+        && x.denominator().coefficient(0) == denominator
 }
 
 #[test]
-fn an_entry_is_the_polynomial_of_its_coefficients(rt: HostRuntime) -> Result<(), Fail> {
-    let half = Fraction::new(1, 2)?;
-    let (weight, edge) = both::<EpsQuotient>(&half, &entry([(1, 2), (-1, 3), (0, 1)])?)?;
-    let numerator = EpsPoly::zero().with(0, 3)?.with(1, -2)?;
-    assert_eq!(rt;
-        Some(edge),
-        EpsQuotient::new(&numerator, &EpsPoly::constant(6)?)
-    );
-    assert_eq!(rt;
-        Some(weight),
-        EpsQuotient::new(&EpsPoly::constant(1)?, &EpsPoly::constant(2)?)
-    );
-    Ok(())
+fn an_entry_is_the_polynomial_of_its_coefficients(rt: HostRuntime) {
+    let half = fraction(&rt, (1, 2));
+    let (weight, edge) = both::<EpsQuotient>(&half, &said(&rt, "1/2 -1/3")).expect(&rt, "too wide");
+    assert!(rt; is_over(&weight, [1, 0], 2));
+    assert!(rt; is_over(&edge, [3, -2], 6));
 }
 
 /// The common denominator has 54 digits, and the largest number of 127 bits has 39.
 #[test]
-fn a_sum_of_long_coefficients_is_too_wide(rt: HostRuntime) -> Result<(), Fail> {
-    let entry = entry([
-        (1, 1_000_000_000_000_000_000),
-        (1, 999_999_999_999_999_999),
-        (1, 999_999_999_999_999_997),
-    ])?;
-    assert_eq!(rt; EpsQuotient::edge(&entry), Err(TooWide { op: Op::Add }));
-    Ok(())
+fn a_sum_of_long_coefficients_is_too_wide(rt: HostRuntime) {
+    let entry = said(
+        &rt,
+        "1/1000000000000000000 1/999999999999999999 1/999999999999999997",
+    );
+    assert!(rt; EpsQuotient::edge(&entry) == Err(TooWide { op: Op::Add }));
 }

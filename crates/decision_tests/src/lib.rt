@@ -1,5 +1,5 @@
-//! Tests of decisions: rejections one by one and in each priority, adjusted p-values, the closed test of all
-//! intersections, Simes' test and bounds, with values by hand.
+//! Tests of decisions: rejections one by one, in any order and in each priority, events of studies, adjusted p-values, the
+//! closed test of all intersections, Simes' test and bounds, with values by hand.
 #![tactic(auto)]
 
 #[cfg(test)]
@@ -13,6 +13,10 @@ mod closed;
 #[cfg(test)]
 mod decisions;
 #[cfg(test)]
+mod orders;
+#[cfg(test)]
 mod simes;
+#[cfg(test)]
+mod studies;
 #[cfg(test)]
 mod trials;

@@ -196,19 +196,13 @@ const PRINTED: &[(&str, &str)] = &[
     ),
 ];
 
-/// The text of the entry of an expression.
-fn printed(alloc: Global, expression: &str) -> Option<List<u8>> {
-    let entry = read_entry(expression.as_bytes()).ok()?;
-    let mut text = List::new(alloc);
-    print_entry(&entry, &mut text).ok()?;
-    Some(text)
-}
-
+/// Whether the entry of an expression is printed so.
 fn is_printed(alloc: Global, expression: &str, text: &str) -> bool {
-    match printed(alloc, expression) {
-        Some(found) => found.as_slice() == text.as_bytes(),
-        None => false,
-    }
+    let Ok(entry) = read_entry(expression.as_bytes()) else {
+        return false;
+    };
+    let mut printed = List::new(alloc);
+    print_entry(&entry, &mut printed).is_ok() && printed.as_slice() == text.as_bytes()
 }
 
 #[test]

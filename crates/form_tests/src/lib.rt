@@ -9,9 +9,9 @@ mod expressions;
 #[cfg(test)]
 mod lines;
 #[cfg(test)]
-mod object_places;
+mod object_cases;
 #[cfg(test)]
-mod object_vectors;
+mod object_faults;
 #[cfg(test)]
 mod objects;
 #[cfg(test)]

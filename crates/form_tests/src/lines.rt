@@ -27,14 +27,6 @@ const CUT: &[Cut] = &[
     (" \u{b}\n", &[(1, " \u{b}")], 2),
 ];
 
-/// Whether a line is the next one, with its number.
-fn is_next(lines: &mut Lines, number: usize, text: &str) -> bool {
-    match lines.next() {
-        Some(line) => line.number == number && line.text == text.as_bytes(),
-        None => false,
-    }
-}
-
 /// Whether there is no next line, and the text ends in front of the line of this number.
 fn is_at_end(lines: &mut Lines, end: usize) -> bool {
     lines.next().is_none() && lines.next_number() == end
@@ -44,8 +36,9 @@ fn is_at_end(lines: &mut Lines, end: usize) -> bool {
 fn has_lines(text: &str, wanted: &[(usize, &str)], end: usize) -> bool {
     let mut lines = Lines::new(text.as_bytes());
     for (number, line) in wanted {
-        if !is_next(&mut lines, *number, line) {
-            return false;
+        match lines.next() {
+            Some(found) if found.number == *number && found.text == line.as_bytes() => {}
+            _ => return false,
         }
     }
     is_at_end(&mut lines, end) && is_at_end(&mut lines, end)
@@ -68,16 +61,11 @@ const WORDS: &[(&str, &[(&str, &str)])] = &[
     ("a\u{b}b\rc", &[("a\u{b}b\rc", "")]),
 ];
 
-/// Whether a word is the next one, and this rest stands behind it.
-fn is_next_word(words: &mut Words, word: &str, rest: &str) -> bool {
-    words.next() == Some(word.as_bytes()) && words.rest() == rest.as_bytes()
-}
-
 /// Whether these are the words of a line, each with the rest behind it, and then there is none, nor any later.
 fn has_words(line: &str, wanted: &[(&str, &str)]) -> bool {
     let mut words = Words::new(line.as_bytes());
     for (word, rest) in wanted {
-        if !is_next_word(&mut words, word, rest) {
+        if words.next() != Some(word.as_bytes()) || words.rest() != rest.as_bytes() {
             return false;
         }
     }
@@ -111,19 +99,22 @@ const BEHIND: &[(&str, Option<&str>)] = &[
     ("", None),
 ];
 
-/// What stands behind `edge` in a line.
-fn behind_edge(text: &str) -> Option<&[u8]> {
+/// Whether this stands behind `edge` in a line.
+fn is_behind_edge(text: &str, rest: &Option<&str>) -> bool {
     let line = Line {
         number: 1,
         text: text.as_bytes(),
     };
-    Some(line.behind(b"edge")?.rest())
+    match (line.behind(b"edge"), rest) {
+        (Some(words), Some(rest)) => words.rest() == rest.as_bytes(),
+        (None, None) => true,
+        _ => false,
+    }
 }
 
 #[test]
 fn keywords_are_first_words(rt: HostRuntime) {
     for (line, rest) in BEHIND {
-        let wanted = rest.map(str::as_bytes);
-        expect(&rt, behind_edge(line) == wanted, line);
+        expect(&rt, is_behind_edge(line, rest), line);
     }
 }

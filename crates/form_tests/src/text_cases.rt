@@ -32,31 +32,23 @@ pub const SINGLE: Held = Held {
     }],
 };
 
+/// Texts that say this case.
+pub const SPELLINGS: &[&str] = &[
+    // The last line may lack its line feed, and each may have a carriage return.
+    "alpha 0.05\nhypotheses A\np 0.01\nweights 1\n",
+    "alpha 0.05\nhypotheses A\np 0.01\nweights 1",
+    "alpha 0.05\r\nhypotheses A\r\np 0.01\r\nweights 1\r\n",
+    "alpha 0.05\r\nhypotheses A\r\np 0.01\r\nweights 1\r",
+    "alpha 0.05\nhypotheses A\r\np 0.01\nweights 1\r\n",
+    // Blanks, blank lines and comments.
+    " \talpha\t 0.05 \t\n\thypotheses  A\t\np\t0.01\t\r\n weights\t1 \n",
+    "\n# A case\n\nalpha 0.05\n \t\r\n\t # The names\nhypotheses A\n#p 1\n#\np 0.01\n\nweights 1\n\n# end",
+    // Numerals of all forms.
+    "alpha +.5e-1\nhypotheses A\np 10E-3\nweights 3/3\n",
+];
+
 /// Texts, and the cases that they say.
 pub const CASES: &[(&str, Held)] = &[
-    // The last line may lack its line feed, and each may have a carriage return.
-    ("alpha 0.05\nhypotheses A\np 0.01\nweights 1\n", SINGLE),
-    ("alpha 0.05\nhypotheses A\np 0.01\nweights 1", SINGLE),
-    (
-        "alpha 0.05\r\nhypotheses A\r\np 0.01\r\nweights 1\r\n",
-        SINGLE,
-    ),
-    (
-        "alpha 0.05\r\nhypotheses A\r\np 0.01\r\nweights 1\r",
-        SINGLE,
-    ),
-    ("alpha 0.05\nhypotheses A\r\np 0.01\nweights 1\r\n", SINGLE),
-    // Blanks, blank lines and comments.
-    (
-        " \talpha\t 0.05 \t\n\thypotheses  A\t\np\t0.01\t\r\n weights\t1 \n",
-        SINGLE,
-    ),
-    (
-        "\n# A case\n\nalpha 0.05\n \t\r\n\t # The names\nhypotheses A\n#p 1\n#\np 0.01\n\nweights 1\n\n# end",
-        SINGLE,
-    ),
-    // Numerals of all forms.
-    ("alpha +.5e-1\nhypotheses A\np 10E-3\nweights 3/3\n", SINGLE),
     // No p-values and no edges.
     (
         "alpha 1\nhypotheses A B\nweights 0 -0.0\n",

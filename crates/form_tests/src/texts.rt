@@ -2,7 +2,9 @@
 ghost use Rattle.std.specs.Prelude.{◌<◌};
 
 use crate::checks::{Terms, expect, has_coefficients, has_terms, have_terms};
-use crate::text_cases::{CASES, Edge, Held, HeldComponent, HeldSpend, HeldStages, STAGED};
+use crate::text_cases::{
+    CASES, Edge, Held, HeldComponent, HeldSpend, HeldStages, SINGLE, SPELLINGS, STAGED,
+};
 use crate::text_drafts::{REFUSED, RefusedText};
 use crate::text_faults::{
     ENDED, EXPRESSIONS, Faulty, NUMBERS, ORDER, UNEXPECTED, UNKNOWN_NAMES, WHOLE, WORD_COUNTS,
@@ -147,6 +149,13 @@ fn says_case(alloc: Global, text: &str, held: &Held) -> bool {
                 && has_components(&case, held.components)
         }
         Err(_) => false,
+    }
+}
+
+#[test]
+fn spellings_say_one_case(rt: HostRuntime) {
+    for text in SPELLINGS {
+        expect(&rt, says_case(rt.alloc(), text, &SINGLE), text);
     }
 }
 

@@ -1,0 +1,89 @@
+//! What is told of the runs of a table.
+use crate::endings::{Ended, Wanted};
+use crate::plan::Plan;
+use crate::rows::Row;
+use crate::runs::Given;
+use anyhow::Result;
+use std::alloc::Global;
+use std::fmt;
+use std::fmt::Write;
+
+/// How many rows and runs there were of a table, and what is told of those that ended otherwise than wanted.
+#[derive(Drop)]
+pub struct Findings<'a> {
+    alloc: Global,
+    table: &'a str,
+    rows: u64,
+    runs: u64,
+    told: String,
+}
+
+impl<'a> Findings<'a> {
+    /// Of the table of this name nothing was run yet.
+    pub fn new(alloc: Global, table: &'a str) -> Findings<'a> {
+        Findings {
+            alloc,
+            table,
+            rows: 0,
+            runs: 0,
+            told: String::new(alloc),
+        }
+    }
+
+    /// Whether each run ended as wanted.
+    pub fn is_clean(&self) -> bool {
+        self.told.is_empty()
+    }
+
+    /// Counts a row.
+    pub fn count_row(&mut self) {
+        self.rows = self.rows.saturating_add(1);
+    }
+
+    /// Runs, and counts the run.
+    pub fn run(&mut self, given: &Given, plan: &Plan) -> Result<Ended> {
+        self.runs = self.runs.saturating_add(1);
+        given.run(self.alloc, plan)
+    }
+
+    /// Runs a row over devices by plan, which is to end so.
+    pub fn expect(&mut self, row: &Row, plan: &Plan, wanted: &Wanted) -> Result<()> {
+        let ended = self.run(&row.given(), plan)?;
+        self.compare(row, plan, wanted, &ended)
+    }
+
+    /// Tells of a run over devices by plan that ended otherwise.
+    pub fn compare(
+        &mut self,
+        row: &Row,
+        plan: &Plan,
+        wanted: &Wanted,
+        ended: &Ended,
+    ) -> Result<()> {
+        if !wanted.is(ended) {
+            self.tell(row, plan)?;
+            write!(self.told, "  wanted {wanted}  came {ended}")?;
+        }
+        Ok(())
+    }
+
+    /// Tells something of a row.
+    pub fn tell<D: fmt::Display + Drop>(&mut self, row: &Row, what: D) -> Result<()> {
+        let (table, line) = (self.table, row.line);
+        write!(self.told, "{table}:{line}: {what}\n")?;
+        Ok(())
+    }
+}
+
+impl fmt::Display for Findings<'_> {
+    fn fmt<W: fmt::Write>(&self, f: &mut fmt::Formatter<W>) -> fmt::Result {
+        let Findings {
+            table,
+            rows,
+            runs,
+            told,
+            ..
+        } = self;
+        write!(f, "{told}{table}: {rows} rows, {runs} runs\n")
+    }
+}

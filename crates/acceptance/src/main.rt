@@ -1,0 +1,75 @@
+//! Whole runs of the top calls, read from tables: what a run is given, and how it is to end.
+//!
+//! The program reads the tables that its words name, and runs each row through `graph_cli::run` or `study_cli::run_study` over
+//! sources, sinks and keepers in memory. For each table it prints how many rows and runs there were, and before that each run
+//! that ended otherwise: the table and the line of its row, how the devices were planned, what was wanted and what came. It ends
+//! with status 1 where there was such a run or where a table can't be read, else with 0.
+//!
+//! An empty line of a table, and one that begins with `#`, says nothing. A row begins with one of these lines:
+//!
+//!     run WORD ..           a call of `run`; blanks part its words, and what stands in double quotes is one word
+//!     run_study WORD ..     a call of `run_study`
+//!     file_word WORD ..     a call of `file_word`, which ends with the number of the word that names a file, from 1, or 0
+//!
+//! Others say more of it:
+//!
+//!     case                  the bytes on standard input; without them it fails at its first take
+//!     file                  the bytes of the file, a proof or the commands of a study; without them it fails likewise
+//!     kept PLACE STAGE P    a look that the keeper holds before, of the hypothesis at a place, from 0
+//!     keeps PLACE STAGE P   a look that it holds besides in the end
+//!     keeper none           the keeper fails at its first call
+//!     ends STATUS           the status, and all that is printed
+//!     leaves COUNT          how many bytes of the case aren't taken: else none
+//!     checked               what `check` prints, with status 0, of the case and of what was printed
+//!     fronts case STATUS:COUNT ..
+//!                           how many front parts of the case (with `file`, of the file), the empty one and the whole among
+//!                           them, end with each status, and how the one line begins that those print which aren't 0 or 1
+//!     devices               it is run again over devices that move few bytes, and over such as fail, each call in turn
+//!
+//! Bytes stand in the lines below:
+//!
+//!     | TEXT                a text and a line feed
+//!     / TEXT                a text
+//!     % 0D 0A               bytes in hexadecimal
+//!     * 64 TEXT             a text so many times
+//!     text NAME             begins a text that has a name, and its bytes stand below
+//!     = NAME                such a text
+//!     < NAME 4              its lines before the fourth
+//!     > NAME 4              its lines behind the fourth
+//!     ...                   any lines, among what is printed
+#![tactic(auto)]
+
+mod blocks;
+mod devices;
+mod endings;
+mod findings;
+mod fronts;
+mod pieces;
+mod plan;
+mod printed;
+mod rows;
+mod runs;
+mod tables;
+mod words;
+
+use anyhow::{Context, Result};
+use std::process::ExitCode;
+use std::{env, fs};
+
+/// Runs a table, prints what is told of it, and answers whether each run ended as wanted.
+fn is_clean(rt: &HostRuntime, path: &str) -> Result<bool> {
+    let table = fs::read_to_string(rt, path)?;
+    let findings = tables::run_table(rt.alloc(), path, table.as_str())?;
+    rt.print(&findings)?;
+    Ok(findings.is_clean())
+}
+
+fn main(rt: HostRuntime) -> Result<ExitCode> {
+    let mut status = 0;
+    for path in env::args(&rt)?.skip(1) {
+        if !is_clean(&rt, path.as_str()).context(path.as_str())? {
+            status = 1;
+        }
+    }
+    Ok(ExitCode::from(status))
+}

@@ -1,0 +1,124 @@
+//! Events of studies in any order: what each answers, and what it leaves.
+ghost use Rattle.std.specs.Prelude.{◌≡◌, IfOk};
+ghost use Rattle.staged_levels.specs.StudyAnswers.{hypothesis_of};
+
+use crate::cases::said;
+use case_model::Case;
+use fraction::{Fraction, FractionFault};
+use staged_levels::{Event, Settled, StepFault, Study, is_staged};
+use std::alloc::Global;
+use std::process::Abort;
+use std::test::Fail;
+
+fn opened(rt: &impl Abort, alloc: Global, case: &Case) -> Study {
+    assert!(rt; is_staged(case));
+    match Study::open(alloc, case) {
+        Ok(study) => study,
+        Err(_) => panic!(rt; "not opened"),
+    }
+}
+
+/// The p-values have arrived, both hypotheses pass on all to each other, and H1 may be rejected at stage 2. The arrivals of the
+/// case itself don't count.
+const TWO: &str =
+    "alpha 0.05\nhypotheses H1 H2 H3\nweights 1/2 1/2 0\nedge H1 H2 1\nedge H2 H1 1\nstages 2\nspend H1 1/2 1/2\nspend H2 1/2 1/2\nspend H3 1 0\narrive H2 1 0\n";
+
+/// An event: an arrival of a hypothesis at a stage with a p-value, or, where the stage is `REJECT`, a rejection.
+type Given = (usize, usize, (i128, i128));
+
+const REJECT: usize = 99;
+
+const NO_P: (i128, i128) = (0, 1);
+
+/// Events one after another, and what each answers.
+const ROWS: &[(Given, Result<(), StepFault>)] = &[
+    // Nothing has arrived.
+    ((0, REJECT, NO_P), Err(StepFault::NotLegal(0))),
+    ((1, REJECT, NO_P), Err(StepFault::NotLegal(1))),
+    ((0, 0, (1, 100)), Err(StepFault::StageRange(0))),
+    ((0, 3, (1, 100)), Err(StepFault::StageRange(3))),
+    ((0, 1, (-1, 100)), Err(StepFault::PRange)),
+    ((0, 1, (101, 100)), Err(StepFault::PRange)),
+    // Its denominator is above 10^30.
+    (
+        (0, 1, (1, 1_000_000_000_000_000_000_000_000_000_001)),
+        Err(StepFault::PRange),
+    ),
+    ((0, 1, (1, 50)), Ok(())),
+    // The stage comes before what is known, and that before the p-value.
+    ((0, 3, (2, 1)), Err(StepFault::StageRange(3))),
+    ((0, 1, (2, 1)), Err(StepFault::Known(0, 1))),
+    ((0, 1, (1, 50)), Err(StepFault::Known(0, 1))),
+    // 1/50 is above 1/80.
+    ((0, REJECT, NO_P), Err(StepFault::NotLegal(0))),
+    ((1, 2, (1, 50)), Ok(())),
+    ((1, REJECT, NO_P), Err(StepFault::NotLegal(1))),
+    ((0, 2, (1, 80)), Ok(())),
+    ((0, REJECT, NO_P), Ok(())),
+    ((0, REJECT, NO_P), Err(StepFault::Rejected(0))),
+    // H2 has the whole level now.
+    ((1, REJECT, NO_P), Ok(())),
+    // One that arrives for a rejected hypothesis is kept.
+    ((1, 1, (1, 1)), Ok(())),
+    ((1, 1, (1, 1)), Err(StepFault::Known(1, 1))),
+    // A weight of 0.
+    ((2, 1, NO_P), Ok(())),
+];
+
+/// The event of a row.
+fn event(hypothesis: usize, stage: usize, p: (i128, i128)) -> Result<Event, FractionFault>
+    ensures { IfOk result (λ event. hypothesis_of event ≡ hypothesis) }
+{
+    if stage == REJECT {
+        return Ok(Event::Reject(hypothesis));
+    }
+    Ok(Event::Arrive(hypothesis, stage, Fraction::new(p.0, p.1)?))
+}
+
+/// Whether the rejections are of these hypotheses at these stages and weights.
+fn are(settled: &[Settled], wanted: &[Given]) -> bool {
+    settled.len() == wanted.len()
+        && settled.iter().zip(wanted).all(|(line, (hypothesis, stage, weight))| {
+            line.hypothesis == *hypothesis
+                && line.stage == *stage
+                && line.weight.ratio().num() == weight.0
+                && line.weight.ratio().den() == weight.1
+        })
+}
+
+#[test]
+fn each_event_is_answered(rt: HostRuntime) -> Result<(), Fail> {
+    let case = said(&rt, rt.alloc(), TWO);
+    let mut study = opened(&rt, rt.alloc(), &case);
+    for ((hypothesis, stage, p), wanted) in ROWS {
+        let before = study.settled().len();
+        assert!(rt; *hypothesis < study.size());
+        assert!(rt; study.step(event(*hypothesis, *stage, *p)?) == *wanted);
+        let rejected = usize::from(*stage == REJECT && wanted.is_ok());
+        assert!(rt; before <= 3 && study.settled().len() == before + rejected);
+    }
+    assert!(rt; study.settle().is_ok());
+    assert!(rt; are(study.settled(), &[(0, 2, (1, 2)), (1, 2, (1, 1))]));
+    Ok(())
+}
+
+/// The weight of H4 would have a denominator near 10^54.
+const TOO_WIDE: &str =
+    "alpha 0.05\nhypotheses H1 H2 H3 H4\nweights 1 0 0 0\nedge H1 H2 1/1000000000000000000\nedge H2 H3 1/999999999999999999\nedge H3 H4 1/999999999999999997\nstages 1\nspend H1 1\nspend H2 1\nspend H3 1\nspend H4 1\n";
+
+#[test]
+fn rejections_stay_where_a_settling_breaks_off(rt: HostRuntime) -> Result<(), Fail> {
+    let case = said(&rt, rt.alloc(), TOO_WIDE);
+    let mut study = opened(&rt, rt.alloc(), &case);
+    for hypothesis in 0..3 {
+        assert!(rt; hypothesis < study.size());
+        assert!(rt; study.step(event(hypothesis, 1, NO_P)?).is_ok());
+    }
+    assert!(rt; study.settle().is_err());
+    assert!(rt; study.settled().len() == 2);
+    // Asked for, it is refused too, and nothing changes.
+    assert!(rt; 2 < study.size());
+    assert!(rt; matches!(study.step(Event::Reject(2)), Err(StepFault::Wide(_))));
+    assert!(rt; study.settled().len() == 2);
+    Ok(())
+}
