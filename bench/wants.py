@@ -14,9 +14,10 @@ memory, since nothing promises that there is memory, so a test has to refuse it.
 On a copy of the repository each public function whose result has a want of memory among its errors or is itself one of
 these errors, and each such method of a public trait that a type of the repository has, begins with a switch:
 `if wants::refused(N) { return Err(NoMemory); }`, where the crate `wants` stands in the copy alone. `rt try --test` builds
-the tests of a crate once, with everything below it; then they are run with one switch on after the other, those tests alone
-that come to it. A function is tried with the tests of its own crate and of its layer first (the first crate of tests that
-uses it), then of the crates of acceptance, and then of all that use it, nearest first, until a test fails. Nothing is proved.
+the tests of a crate once, with everything below it, and `rt try` the program acceptance; then they are run with one switch on
+after the other, those tests alone that come to it. A function is tried with the tests of its own crate and of its layer first
+(the first crate of tests that uses it), then with acceptance, and then of all that use it, nearest first, until a test fails.
+Nothing is proved.
 
 Prints a line for each function, and counts for each crate at the end:
 
@@ -41,7 +42,8 @@ import threading
 TOP = os.path.join(os.path.dirname(os.path.abspath(__file__)), "..")
 SECONDS = 60
 
-ACCEPTANCE = ("acceptance", "acceptance_forms", "acceptance_sets")
+# A program that tells which runs of its tables end otherwise.
+ACCEPTANCE = ("acceptance",)
 
 LIBRARY = """//! The switches of a copy.
 #![tactic(auto)]
@@ -223,7 +225,12 @@ class Function:
 
 
 def is_of_tests(crate):
-    return crate.endswith("_tests") or crate.startswith("acceptance") or crate == "whole_runs"
+    return crate.endswith("_tests") or crate in ACCEPTANCE
+
+
+def tables_of(crate):
+    """The words of the program acceptance, each of which names a table."""
+    return open(f"{TOP}/crates/{crate}/args", encoding="utf-8").read().split("\n")[:-1]
 
 
 def sources(top):
@@ -308,7 +315,7 @@ class Copy:
             os.replace(f"{self.top}/{file}.new", f"{self.top}/{file}")
 
     def has_tests(self, crate):
-        return any(
+        return crate in ACCEPTANCE or any(
             "#[test]" in open(f"{folder}/{file}", encoding="utf-8").read()
             for folder, _, files in os.walk(f"{TOP}/crates/{crate}/src")
             for file in files
@@ -366,6 +373,8 @@ class Tests:
             open(f"{self.room}/{sum_}", "w", encoding="utf-8").close()
         said = open(f"{self.room}/said", encoding="utf-8").read()
         self.names = re.findall(r"(?m)^test (\S+) \.\.\. ok$", said)
+        if self.crate in ACCEPTANCE:
+            self.names = tables_of(self.crate)[:1]
         self.slow = re.findall(r"(?m)^test (\S+) \.\.\. (?!ok$)", said)
         for name in self.names:
             path = f"{self.room}/seen-{name}"
@@ -383,8 +392,13 @@ class Tests:
         os.makedirs(self.room)
         flags = f'-DROOM="\\"{self.room}\\"" -DCOUNT={len(self.copy.functions)}'
         how = {**os.environ, "RT_ALLOW_C": "wants", "CFLAGS": flags}
+        words = ["--test"]
+        if self.crate in ACCEPTANCE:
+            tables = tables_of(self.crate)
+            given = [f"{it}={TOP}/crates/{self.crate}/data/{it}" for it in tables]
+            words = ["--seconds", "900", *(word for it in given for word in ("--data", it)), "--", *tables]
         built = subprocess.run(
-            ["nice", "-n", "5", "rt", "try", "--test"],
+            ["nice", "-n", "5", "rt", "try", *words],
             cwd=f"{self.copy.top}/crates/{self.crate}",
             env=how,
             stdin=subprocess.DEVNULL,
@@ -395,7 +409,8 @@ class Tests:
         said = built.stdout.decode(errors="replace")
         with open(f"{self.room}/said", "w", encoding="utf-8") as it:
             it.write(said)
-        return "" if re.search(r"(?m)^test \S+ \.\.\. ok$", said) else said or "nothing is said"
+        is_ended = r"(?m)^run=ended status=0" if self.crate in ACCEPTANCE else r"(?m)^test \S+ \.\.\. ok$"
+        return "" if re.search(is_ended, said) else said or "nothing is said"
 
     def refuses(self, number):
         """The first test that fails with a switch on, and the tests that come to it."""
@@ -406,10 +421,14 @@ class Tests:
 
     def fails(self, name, number):
         words = open(f"{self.room}/words", "rb").read().decode().split("\0")[:-1]
+        names = [name]
         with tempfile.TemporaryDirectory(dir=self.room) as folder:
+            if self.crate in ACCEPTANCE:
+                names = tables_of(self.crate)
+                shutil.copytree(f"{TOP}/crates/{self.crate}/data", folder, dirs_exist_ok=True)
             try:
                 ran = subprocess.run(
-                    ["nice", "-n", "5", *words, f"{self.room}/program", name],
+                    ["nice", "-n", "5", *words, f"{self.room}/program", *names],
                     cwd=folder,
                     env={"WANTS_REFUSED": str(number)},
                     stdin=subprocess.DEVNULL,
