@@ -1,13 +1,9 @@
-//! Tests of what is said: sources, sinks and keepers, the words of a call, how it ends, the lines of refusals and the
-//! texts of reports, with each line by hand.
+//! Tests of what is said: sources, sinks and keepers, the words of a call, the lines of refusals and the texts of
+//! reports, with each line by hand.
 #![tactic(auto)]
 
 #[cfg(test)]
-mod checks;
-#[cfg(test)]
 mod devices;
-#[cfg(test)]
-mod endings;
 #[cfg(test)]
 mod keepers;
 #[cfg(test)]

@@ -1,5 +1,4 @@
 //! Each kind of refusal, with its line written by hand.
-use crate::checks::{expect, is_text, tells};
 use answers::Refusal;
 use case_json::JsonFault;
 use case_model::{CaseFault, PartPlace, Refused};
@@ -18,15 +17,19 @@ use std::test::Fail;
 /// Three names.
 fn names(alloc: Global) -> Result<List<Text>, NoMemory> {
     let mut names = List::new(alloc);
-    for name in ["H1", "H2", "dose-a"] {
-        names.push(Text::copy(alloc, name.as_bytes())?)?;
-    }
+    names.push(Text::copy(alloc, b"H1")?)?;
+    names.push(Text::copy(alloc, b"H2")?)?;
+    names.push(Text::copy(alloc, b"dose-a")?)?;
     Ok(names)
 }
 
-// ---- cases
+/// An answer has this status, and this text.
+fn expect(rt: &impl Abort, answer: &Refusal, status: u8, text: &str) {
+    assert_eq!(rt; answer.line.as_slice(), text.as_bytes(), "{text}");
+    assert_eq!(rt; answer.cause.code(), status, "{text}");
+}
 
-const MALFORMED: &[(CaseFault, &str)] = &[
+const MALFORMED: [(CaseFault, &str); 26] = [
     (CaseFault::NoHypothesis, "malformed: case: no hypothesis\n"),
     (CaseFault::NameForm(0), "malformed: case: name 1\n"),
     (
@@ -94,7 +97,17 @@ const MALFORMED: &[(CaseFault, &str)] = &[
     (CaseFault::ArrivalRange(1), "malformed: case: arrival 2 p\n"),
 ];
 
-const PAST_LIMITS: &[(CaseFault, &str)] = &[
+#[test]
+fn malformed_cases(rt: HostRuntime) -> Result<(), Fail> {
+    let names = names(rt.alloc())?;
+    for (fault, text) in MALFORMED {
+        let answer = case_refusal(rt.alloc(), names.as_slice(), &fault)?;
+        expect(&rt, &answer, 3, text);
+    }
+    Ok(())
+}
+
+const PAST_LIMITS: [(CaseFault, &str); 5] = [
     (CaseFault::TooMany(65), "limit: hypotheses 65\n"),
     (
         CaseFault::TooMany(18446744073709551615),
@@ -103,102 +116,71 @@ const PAST_LIMITS: &[(CaseFault, &str)] = &[
     (CaseFault::TooManyComponents(9), "limit: components 9\n"),
     (CaseFault::TooManyStages(13), "limit: stages 13\n"),
     (CaseFault::TooManySteps(1, 33), "limit: spend steps 33\n"),
-    // Past the third name a place stands for the name.
+];
+
+/// Past the third name a place stands for the name.
+const PARTS: [(PartPlace, &str); 15] = [
+    (PartPlace::Alpha, "limit: case: part alpha\n"),
+    (PartPlace::Share(1), "limit: case: part share component 2\n"),
     (
-        CaseFault::PartTooLong(PartPlace::Alpha),
-        "limit: case: part alpha\n",
-    ),
-    (
-        CaseFault::PartTooLong(PartPlace::Share(1)),
-        "limit: case: part share component 2\n",
-    ),
-    (
-        CaseFault::PartTooLong(PartPlace::Weight(0, 2)),
+        PartPlace::Weight(0, 2),
         "limit: case: part weight of dose-a component 1\n",
     ),
     (
-        CaseFault::PartTooLong(PartPlace::Weight(0, 3)),
+        PartPlace::Weight(0, 3),
         "limit: case: part weight of 4 component 1\n",
     ),
     (
-        CaseFault::PartTooLong(PartPlace::Weight(7, 99)),
+        PartPlace::Weight(7, 99),
         "limit: case: part weight of 100 component 8\n",
     ),
     (
-        CaseFault::PartTooLong(PartPlace::Edge(0, 1, 0)),
+        PartPlace::Edge(0, 1, 0),
         "limit: case: part edge H2 H1 component 1\n",
     ),
     (
-        CaseFault::PartTooLong(PartPlace::Edge(3, 0, 3)),
+        PartPlace::Edge(3, 0, 3),
         "limit: case: part edge H1 4 component 4\n",
     ),
+    (PartPlace::P(0), "limit: case: part p of H1\n"),
+    (PartPlace::P(3), "limit: case: part p of 4\n"),
     (
-        CaseFault::PartTooLong(PartPlace::P(0)),
-        "limit: case: part p of H1\n",
-    ),
-    (
-        CaseFault::PartTooLong(PartPlace::P(3)),
-        "limit: case: part p of 4\n",
-    ),
-    (
-        CaseFault::PartTooLong(PartPlace::P(18446744073709551615)),
+        PartPlace::P(18446744073709551615),
         "limit: case: part p of 18446744073709551616\n",
     ),
     (
-        CaseFault::PartTooLong(PartPlace::Spend(1, 1)),
+        PartPlace::Spend(1, 1),
         "limit: case: part spend of H2 stage 2\n",
     ),
     (
-        CaseFault::PartTooLong(PartPlace::Spend(5, 0)),
+        PartPlace::Spend(5, 0),
         "limit: case: part spend of 6 stage 1\n",
     ),
     (
-        CaseFault::PartTooLong(PartPlace::Step(2, 0)),
+        PartPlace::Step(2, 0),
         "limit: case: part step 1 of dose-a\n",
     ),
-    (
-        CaseFault::PartTooLong(PartPlace::Arrival(0)),
-        "limit: case: part arrival 1\n",
-    ),
-    (
-        CaseFault::PartTooLong(PartPlace::Arrival(9)),
-        "limit: case: part arrival 10\n",
-    ),
+    (PartPlace::Arrival(0), "limit: case: part arrival 1\n"),
+    (PartPlace::Arrival(9), "limit: case: part arrival 10\n"),
 ];
 
-/// Each fault of a case has this status, and its line.
-fn expect_cases(
-    rt: &impl Abort,
-    alloc: Global,
-    rows: &[(CaseFault, &str)],
-    status: u8,
-) -> Result<(), NoMemory> {
-    let names = names(alloc)?;
-    for (fault, line) in rows {
-        let refusal = case_refusal(alloc, names.as_slice(), fault)?;
-        expect(rt, tells(&refusal, status, line), line);
+#[test]
+fn cases_past_limits(rt: HostRuntime) -> Result<(), Fail> {
+    let names = names(rt.alloc())?;
+    for (fault, text) in PAST_LIMITS {
+        let answer = case_refusal(rt.alloc(), names.as_slice(), &fault)?;
+        expect(&rt, &answer, 4, text);
+    }
+    for (place, text) in PARTS {
+        let fault = CaseFault::PartTooLong(place);
+        let answer = case_refusal(rt.alloc(), names.as_slice(), &fault)?;
+        expect(&rt, &answer, 4, text);
     }
     Ok(())
 }
 
-#[test]
-fn faults_of_cases(rt: HostRuntime) -> Result<(), Fail> {
-    expect_cases(&rt, rt.alloc(), MALFORMED, 3)?;
-    expect_cases(&rt, rt.alloc(), PAST_LIMITS, 4)?;
-    Ok(())
-}
-
-/// Want of memory is no fault of a case, and has no line here.
-#[test]
-fn want_of_memory(rt: HostRuntime) {
-    assert!(rt; case_refusal(rt.alloc(), &[], &CaseFault::NoMemory).is_err());
-    assert!(rt; json_refusal(rt.alloc(), &JsonFault::NoMemory).is_err());
-}
-
-// ---- what is too wide
-
 /// What is too wide, and how a line ends.
-const WIDE: &[(usize, Place, Op, &str)] = &[
+const WIDE: [(usize, Place, Op, &str); 14] = [
     (
         0,
         Place::Weight(2),
@@ -251,7 +233,7 @@ const WIDE: &[(usize, Place, Op, &str)] = &[
 ];
 
 /// How a line begins.
-const BEGINNINGS: &[(When, &str)] = &[
+const BEGINNINGS: [(When, &str); 15] = [
     (When::Reading, "too wide: reading: "),
     (When::Step(0), "too wide: step 0: "),
     (When::Step(3), "too wide: step 3: "),
@@ -275,49 +257,61 @@ const BEGINNINGS: &[(When, &str)] = &[
     ),
 ];
 
-/// Whether a refusal is of a number that is too wide, with a line of these two texts.
-fn tells_wide(refusal: &Refusal, beginning: &str, ending: &str) -> bool {
-    let rest = refusal.line.as_slice().strip_prefix(beginning.as_bytes());
-    refusal.cause.code() == 5 && rest == Some(ending.as_bytes())
-}
-
-/// What is too wide is told with each beginning.
-fn expect_wide(
+/// An answer is this status, and the two texts in turn.
+fn expect_both(
     rt: &impl Abort,
     alloc: Global,
-    names: &[Text],
-    wide: &WideAt,
+    answer: &Refusal,
+    beginning: &str,
     ending: &str,
 ) -> Result<(), NoMemory> {
-    for (when, beginning) in BEGINNINGS {
-        let refusal = wide_refusal(alloc, names, *when, wide)?;
-        expect(rt, tells_wide(&refusal, beginning, ending), ending);
-    }
+    let mut text = List::new(alloc);
+    text.append(beginning.as_bytes())?;
+    text.append(ending.as_bytes())?;
+    assert_eq!(rt;
+        answer.line.as_slice(),
+        text.as_slice(),
+        "{beginning}{ending}"
+    );
+    assert_eq!(rt; answer.cause.code(), 5, "{beginning}{ending}");
     Ok(())
 }
 
-/// What is too wide in a case is told as found in reading.
 #[test]
-fn too_wide(rt: HostRuntime) -> Result<(), Fail> {
-    let names = names(rt.alloc())?;
+fn too_wide_in_runs(rt: HostRuntime) -> Result<(), Fail> {
+    let alloc = rt.alloc();
+    let names = names(alloc)?;
     for (component, place, op, ending) in WIDE {
         let wide = WideAt {
-            component: *component,
-            place: *place,
-            op: *op,
+            component,
+            place,
+            op,
         };
-        expect_wide(&rt, rt.alloc(), names.as_slice(), &wide, ending)?;
-        let refusal = case_refusal(rt.alloc(), names.as_slice(), &CaseFault::Wide(wide))?;
-        let holds = tells_wide(&refusal, "too wide: reading: ", ending);
-        expect(&rt, holds, ending);
+        for (when, beginning) in BEGINNINGS {
+            let answer = wide_refusal(alloc, names.as_slice(), when, &wide)?;
+            expect_both(&rt, alloc, &answer, beginning, ending)?;
+        }
     }
     Ok(())
 }
 
-// ---- lines of texts
+#[test]
+fn too_wide_sums_of_cases(rt: HostRuntime) -> Result<(), Fail> {
+    let alloc = rt.alloc();
+    let names = names(alloc)?;
+    for (component, place, op, ending) in WIDE {
+        let fault = CaseFault::Wide(WideAt {
+            component,
+            place,
+            op,
+        });
+        let answer = case_refusal(alloc, names.as_slice(), &fault)?;
+        expect_both(&rt, alloc, &answer, "too wide: reading: ", ending)?;
+    }
+    Ok(())
+}
 
-/// Lines: the number, the kind, the status and the line.
-const LINES: &[(usize, LineKind, u8, &str)] = &[
+const LINES: [(usize, LineKind, u8, &str); 15] = [
     (
         1,
         LineKind::Unexpected,
@@ -397,15 +391,15 @@ const LINES: &[(usize, LineKind, u8, &str)] = &[
 
 #[test]
 fn lines_that_cannot_stand(rt: HostRuntime) -> Result<(), Fail> {
-    for (number, kind, status, line) in LINES {
-        let refusal = line_refusal(rt.alloc(), *number, *kind)?;
-        expect(&rt, tells(&refusal, *status, line), line);
+    for (line, kind, status, text) in LINES {
+        let answer = line_refusal(rt.alloc(), line, kind)?;
+        expect(&rt, &answer, status, text);
     }
     Ok(())
 }
 
-/// The same of lines of commands.
-const COMMANDS: &[(usize, LineKind, u8, &str)] = &[
+/// Lines of commands: the number, the kind, the status and the line.
+const COMMANDS: [(usize, LineKind, u8, &str); 4] = [
     (
         1,
         LineKind::WordCount,
@@ -433,154 +427,181 @@ const COMMANDS: &[(usize, LineKind, u8, &str)] = &[
 ];
 
 #[test]
-fn commands_that_cannot_stand(rt: HostRuntime) -> Result<(), Fail> {
-    for (number, kind, status, line) in COMMANDS {
-        let refusal = commands_refusal(rt.alloc(), *number, *kind)?;
-        expect(&rt, tells(&refusal, *status, line), line);
+fn lines_of_commands_that_cannot_stand(rt: HostRuntime) -> Result<(), Fail> {
+    for (line, kind, status, text) in COMMANDS {
+        let answer = commands_refusal(rt.alloc(), line, kind)?;
+        expect(&rt, &answer, status, text);
     }
     Ok(())
 }
 
 #[test]
-fn other_inputs(rt: HostRuntime) -> Result<(), Fail> {
-    let record = record_refusal(rt.alloc(), 12)?;
-    assert!(rt; tells(&record, 3, "malformed: record 12\n"));
-    let kind = kind_refusal(rt.alloc())?;
-    assert!(rt; tells(&kind, 3, "malformed: kind\n"));
+fn a_kept_look_that_cannot_be_taken(rt: HostRuntime) -> Result<(), Fail> {
+    let answer = record_refusal(rt.alloc(), 12)?;
+    expect(&rt, &answer, 3, "malformed: record 12\n");
     Ok(())
 }
 
-// ---- JSON
-
-/// What is wrong with a value of JSON.
-#[derive(Clone, Copy)]
-enum Wrong {
-    Shape,
-    NotWhole,
-    Number(NumberFault),
-    UnknownName,
-    Expr(ExprFault),
-}
-
-/// Values of JSON: the path, what is wrong, the status and the line.
-const VALUES: &[(&str, Wrong, u8, &str)] = &[
-    ("", Wrong::Shape, 3, "malformed: : shape\n"),
-    (
-        "/components",
-        Wrong::Shape,
-        3,
-        "malformed: /components: shape\n",
-    ),
+/// Numerals of JSON that are refused: the path, the fault, the status and the line.
+const JSON_NUMBERS: [(&str, NumberFault, u8, &str); 4] = [
     (
         "/alpha",
-        Wrong::NotWhole,
-        3,
-        "malformed: /alpha: not whole\n",
-    ),
-    (
-        "/p/1/to",
-        Wrong::UnknownName,
-        3,
-        "malformed: /p/1/to: unknown name\n",
-    ),
-    (
-        "/alpha",
-        Wrong::Number(NumberFault::Empty),
+        NumberFault::Empty,
         3,
         "malformed: /alpha: number\n",
     ),
     (
         "/p/1",
-        Wrong::Number(NumberFault::BadByte(7)),
+        NumberFault::BadByte(7),
         3,
         "malformed: /p/1: number\n",
     ),
     (
         "/components/0/share",
-        Wrong::Number(NumberFault::ZeroDenominator),
+        NumberFault::ZeroDenominator,
         3,
         "malformed: /components/0/share: zero denominator\n",
     ),
     (
         "/stages/spend/0/steps/1/levels/2",
-        Wrong::Number(NumberFault::TooManyDigits),
+        NumberFault::TooManyDigits,
         4,
         "limit: /stages/spend/0/steps/1/levels/2: digits\n",
     ),
+];
+
+#[test]
+fn numerals_of_json(rt: HostRuntime) -> Result<(), Fail> {
+    let alloc = rt.alloc();
+    for (path, why, status, text) in JSON_NUMBERS {
+        let fault = JsonFault::Number(Text::copy(alloc, path.as_bytes())?, why);
+        expect(&rt, &json_refusal(alloc, &fault)?, status, text);
+    }
+    Ok(())
+}
+
+/// Weights of edges of JSON that are refused: the fault, the status and the line.
+const JSON_WEIGHTS: [(ExprFault, u8, &str); 6] = [
     (
-        "/components/0/edges/12/weight",
-        Wrong::Expr(ExprFault::BadByte(0)),
+        ExprFault::BadByte(0),
         3,
         "malformed: /components/0/edges/12/weight: expression\n",
     ),
     (
-        "/components/0/edges/12/weight",
-        Wrong::Expr(ExprFault::DivisorNotNumber),
+        ExprFault::DivisorNotNumber,
         3,
         "malformed: /components/0/edges/12/weight: divisor\n",
     ),
     (
-        "/components/0/edges/12/weight",
-        Wrong::Expr(ExprFault::ZeroDivisor),
+        ExprFault::ZeroDivisor,
         3,
         "malformed: /components/0/edges/12/weight: zero divisor\n",
     ),
     (
-        "/components/0/edges/12/weight",
-        Wrong::Expr(ExprFault::Degree),
+        ExprFault::Degree,
         4,
         "limit: /components/0/edges/12/weight: degree\n",
     ),
     (
-        "/components/0/edges/12/weight",
-        Wrong::Expr(ExprFault::Part),
+        ExprFault::Part,
         4,
         "limit: /components/0/edges/12/weight: part\n",
     ),
     (
-        "/components/0/edges/12/weight",
-        Wrong::Expr(ExprFault::Depth),
+        ExprFault::Depth,
         4,
         "limit: /components/0/edges/12/weight: depth\n",
     ),
 ];
 
-/// The fault of the value at a path.
-fn value_fault(alloc: Global, path: &str, wrong: Wrong) -> Result<JsonFault, NoMemory> {
-    let path = Text::copy(alloc, path.as_bytes())?;
-    Ok(match wrong {
-        Wrong::Shape => JsonFault::Shape(path),
-        Wrong::NotWhole => JsonFault::NotWhole(path),
-        Wrong::Number(why) => JsonFault::Number(path, why),
-        Wrong::UnknownName => JsonFault::UnknownName(path),
-        Wrong::Expr(why) => JsonFault::Expr(path, why),
-    })
-}
-
 #[test]
-fn values_of_json(rt: HostRuntime) -> Result<(), Fail> {
-    for (path, wrong, status, line) in VALUES {
-        let fault = value_fault(rt.alloc(), path, *wrong)?;
-        let refusal = json_refusal(rt.alloc(), &fault)?;
-        expect(&rt, tells(&refusal, *status, line), line);
+fn weights_of_json(rt: HostRuntime) -> Result<(), Fail> {
+    let alloc = rt.alloc();
+    for (why, status, text) in JSON_WEIGHTS {
+        let path = Text::copy(alloc, b"/components/0/edges/12/weight")?;
+        let fault = JsonFault::Expr(path, why);
+        expect(&rt, &json_refusal(alloc, &fault)?, status, text);
     }
     Ok(())
 }
 
+/// A fault of a value of JSON is told in this line, with status 3.
+fn expect_value(rt: &impl Abort, alloc: Global, fault: &JsonFault, text: &str) -> Result<(), Fail> {
+    expect(rt, &json_refusal(alloc, fault)?, 3, text);
+    Ok(())
+}
+
 #[test]
-fn json_of_no_value_or_no_case(rt: HostRuntime) -> Result<(), Fail> {
-    let syntax = json_refusal(rt.alloc(), &JsonFault::Syntax)?;
-    assert!(rt; tells(&syntax, 3, "malformed: json: syntax\n"));
+fn a_whole_value_of_json(rt: HostRuntime) -> Result<(), Fail> {
+    let fault = JsonFault::Shape(Text::copy(rt.alloc(), b"")?);
+    expect_value(&rt, rt.alloc(), &fault, "malformed: : shape\n")
+}
+
+#[test]
+fn a_key_of_json_that_is_missing(rt: HostRuntime) -> Result<(), Fail> {
+    let fault = JsonFault::Shape(Text::copy(rt.alloc(), b"/components")?);
+    expect_value(&rt, rt.alloc(), &fault, "malformed: /components: shape\n")
+}
+
+#[test]
+fn a_number_of_json_that_is_not_whole(rt: HostRuntime) -> Result<(), Fail> {
+    let fault = JsonFault::NotWhole(Text::copy(rt.alloc(), b"/alpha")?);
+    expect_value(&rt, rt.alloc(), &fault, "malformed: /alpha: not whole\n")
+}
+
+#[test]
+fn a_name_of_json_that_is_unknown(rt: HostRuntime) -> Result<(), Fail> {
+    let fault = JsonFault::UnknownName(Text::copy(rt.alloc(), b"/p/1/to")?);
+    expect_value(
+        &rt,
+        rt.alloc(),
+        &fault,
+        "malformed: /p/1/to: unknown name\n",
+    )
+}
+
+#[test]
+fn json_of_no_value(rt: HostRuntime) -> Result<(), Fail> {
+    expect_value(
+        &rt,
+        rt.alloc(),
+        &JsonFault::Syntax,
+        "malformed: json: syntax\n",
+    )
+}
+
+#[test]
+fn json_of_no_case(rt: HostRuntime) -> Result<(), Fail> {
     let refused = Refused {
         names: names(rt.alloc())?,
         fault: CaseFault::PMissing(1),
     };
-    let refusal = json_refusal(rt.alloc(), &JsonFault::Case(refused))?;
-    assert!(rt; tells(&refusal, 3, "malformed: case: p missing H2\n"));
+    let fault = JsonFault::Case(refused);
+    expect_value(&rt, rt.alloc(), &fault, "malformed: case: p missing H2\n")
+}
+
+#[test]
+fn json_without_memory(rt: HostRuntime) -> Result<(), Fail> {
+    let answer = json_refusal(rt.alloc(), &JsonFault::NoMemory);
+    assert_eq!(rt; answer.err(), Some(NoMemory));
     Ok(())
 }
 
-// ---- evidence
+#[test]
+fn another_kind_of_inputs(rt: HostRuntime) -> Result<(), Fail> {
+    let answer = kind_refusal(rt.alloc())?;
+    expect(&rt, &answer, 3, "malformed: kind\n");
+    Ok(())
+}
+
+/// Want of memory is no fault of a case, and has no line here.
+#[test]
+fn want_of_memory(rt: HostRuntime) -> Result<(), Fail> {
+    let names = names(rt.alloc())?;
+    let answer = case_refusal(rt.alloc(), names.as_slice(), &CaseFault::NoMemory);
+    assert_eq!(rt; answer.err(), Some(NoMemory));
+    Ok(())
+}
 
 /// Evidence with steps of the third and the first hypothesis, which keeps the second.
 fn evidence(alloc: Global) -> Result<Evidence, NoMemory> {
@@ -603,7 +624,7 @@ fn evidence(alloc: Global) -> Result<Evidence, NoMemory> {
 }
 
 /// Past the last keep a number is that of a step, and past the last step a place stands for the name.
-const BROKEN: &[(usize, Reason, &str)] = &[
+const BROKEN: [(usize, Reason, &str); 11] = [
     (1, Reason::NoLevel, "no: step 1: no level\n"),
     (2, Reason::Repeated, "no: step 2: repeated\n"),
     (2, Reason::AboveLevel, "no: step 2: above level\n"),
@@ -643,16 +664,17 @@ const BROKEN: &[(usize, Reason, &str)] = &[
 
 #[test]
 fn evidence_that_does_not_hold(rt: HostRuntime) -> Result<(), Fail> {
-    let names = names(rt.alloc())?;
-    let proof = evidence(rt.alloc())?;
-    for (number, reason, line) in BROKEN {
-        let text = no_text(rt.alloc(), names.as_slice(), &proof, *number, *reason)?;
-        expect(&rt, is_text(text.as_slice(), line), line);
+    let alloc = rt.alloc();
+    let names = names(alloc)?;
+    let proof = evidence(alloc)?;
+    for (n, reason, text) in BROKEN {
+        let line = no_text(alloc, names.as_slice(), &proof, n, reason)?;
+        assert_eq!(rt; line.as_slice(), text.as_bytes(), "{text}");
     }
     Ok(())
 }
 
-const PROOF_LINES: &[(usize, ProofKind, &str)] = &[
+const PROOF_LINES: [(usize, ProofKind, &str); 8] = [
     (
         12,
         ProofKind::Unexpected,
@@ -673,9 +695,9 @@ const PROOF_LINES: &[(usize, ProofKind, &str)] = &[
 
 #[test]
 fn lines_of_evidence_that_cannot_stand(rt: HostRuntime) -> Result<(), Fail> {
-    for (number, kind, line) in PROOF_LINES {
-        let refusal = proof_refusal(rt.alloc(), *number, *kind)?;
-        expect(&rt, tells(&refusal, 3, line), line);
+    for (line, kind, text) in PROOF_LINES {
+        let answer = proof_refusal(rt.alloc(), line, kind)?;
+        expect(&rt, &answer, 3, text);
     }
     Ok(())
 }

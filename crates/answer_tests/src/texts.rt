@@ -1,53 +1,46 @@
 //! Reports written by hand.
-ghost use Rattle.std.specs.Prelude.{◌≡◌, IsTrue, nat_lt};
+ghost use Rattle.std.specs.Prelude.{◌≡◌, true, None, IfOk, IsTrue, map, nat_lt};
 ghost use Rattle.std.specs.List.{list_all};
+ghost use Rattle.case_model.specs.Draft.{have_known_ends, have_known_arrivals};
 ghost use Rattle.case_model.specs.CaseView.{content};
 ghost use Rattle.report.specs.TestReport.{AreOfCase};
 
-use crate::checks::{Terms, expect, is_text};
 use adjusted_p::Adjusted;
-use case_model::{Case, SetTable};
+use case_model::{Case, Draft, DraftComponent, SetTable};
 use discovery_bound::Bounds;
-use edge_text::read_text;
 use evidence_check::read;
-use field_core::{List, NoMemory, Number};
-use fraction::Fraction;
+use field_core::{List, NoMemory, Number, Text};
+use fraction::{Fraction, FractionFault};
 use graph_io::Look;
 use report::{check_text, opened_text, put_refused, put_shown, put_taken, simes_text, test_text};
 use sequential::{Decision, StepLine, is_single};
 use staged_levels::{Settled, StepFault};
 use std::alloc::Global;
+use std::process::Abort;
 use std::test::Fail;
 
-/// Two hypotheses. Weights aren't printed.
-const TWO: &str = "alpha 1/20\n\
-    hypotheses H1 H2\n\
-    p 1/40 13/500\n\
-    weights 0 0\n";
+type Terms = (i128, i128);
 
-/// Three hypotheses.
-const THREE: &str = "alpha 1/40\n\
-    hypotheses H1 H2 H3\n\
-    p 1/100 1/200 1/50\n\
-    weights 0 0 0\n";
-
-/// A case, the lines of a decision, the adjusted values, each with whether it is reached, and what is printed.
+/// A level, hypotheses with their p-values, the lines of a decision, the adjusted values, each with whether it is reached,
+/// and what is printed.
+#[derive(Clone, Copy)]
 struct Row {
-    case: &'static str,
+    alpha: Terms,
+    hypotheses: &'static [(&'static str, Terms)],
     steps: &'static [(usize, Terms)],
     kept: &'static [(usize, Terms)],
     adjusted: &'static [(Terms, bool)],
     text: &'static str,
 }
 
-const DECISIONS: &[Row] = &[
-    // All are rejected, not in their order.
-    Row {
-        case: THREE,
-        steps: &[(1, (1, 3)), (0, (1, 2)), (2, (1, 1))],
-        kept: &[],
-        adjusted: &[((1, 50), true), ((3, 200), true), ((1, 50), true)],
-        text: "alpha 1/40\n\
+/// All are rejected, not in their order.
+const ALL_REJECTED: Row = Row {
+    alpha: (1, 40),
+    hypotheses: &[("H1", (1, 100)), ("H2", (1, 200)), ("H3", (1, 50))],
+    steps: &[(1, (1, 3)), (0, (1, 2)), (2, (1, 1))],
+    kept: &[],
+    adjusted: &[((1, 50), true), ((3, 200), true), ((1, 50), true)],
+    text: "alpha 1/40\n\
         step 1 H2 p 1/200 weight 1/3\n\
         step 2 H1 p 1/100 weight 1/2\n\
         step 3 H3 p 1/50 weight 1\n\
@@ -56,47 +49,50 @@ const DECISIONS: &[Row] = &[
         adjusted H2 3/200\n\
         adjusted H3 1/50\n\
         end\n",
-    },
-    // None is rejected.
-    Row {
-        case: "alpha 1/20\n\
-        hypotheses H1\n\
-        p 1\n\
-        weights 0\n",
-        steps: &[],
-        kept: &[(0, (1, 1))],
-        adjusted: &[((1, 1), true)],
-        text: "alpha 1/20\nkept H1 p 1 weight 1\nrejected\nadjusted H1 1\nend\n",
-    },
-    // One of two.
-    Row {
-        case: TWO,
-        steps: &[(0, (1, 2))],
-        kept: &[(1, (1, 2))],
-        adjusted: &[((1, 20), true), ((13, 250), true)],
-        text: "alpha 1/20\n\
+};
+
+const NONE_REJECTED: Row = Row {
+    alpha: (1, 20),
+    hypotheses: &[("H1", (1, 1))],
+    steps: &[],
+    kept: &[(0, (1, 1))],
+    adjusted: &[((1, 1), true)],
+    text: "alpha 1/20\nkept H1 p 1 weight 1\nrejected\nadjusted H1 1\nend\n",
+};
+
+const ONE_OF_TWO: Row = Row {
+    alpha: (1, 20),
+    hypotheses: &[("H1", (1, 40)), ("H2", (13, 500))],
+    steps: &[(0, (1, 2))],
+    kept: &[(1, (1, 2))],
+    adjusted: &[((1, 20), true), ((13, 250), true)],
+    text: "alpha 1/20\n\
         step 1 H1 p 1/40 weight 1/2\n\
         kept H2 p 13/500 weight 1/2\n\
         rejected H1\n\
         adjusted H1 1/20\n\
         adjusted H2 13/250\n\
         end\n",
-    },
-    // The one that is kept stands between the others.
-    Row {
-        case: "alpha 1/20\n\
-        hypotheses H1 H2 H3 H4\n\
-        p 1/50 1/25 1/100 1/50\n\
-        weights 0 0 0 0\n",
-        steps: &[(0, (1, 2)), (2, (1, 4)), (3, (1, 2))],
-        kept: &[(1, (1, 2))],
-        adjusted: &[
-            ((1, 25), true),
-            ((2, 25), true),
-            ((1, 25), true),
-            ((1, 25), true),
-        ],
-        text: "alpha 1/20\n\
+};
+
+/// The one that is kept stands between the others.
+const THREE_OF_FOUR: Row = Row {
+    alpha: (1, 20),
+    hypotheses: &[
+        ("H1", (1, 50)),
+        ("H2", (1, 25)),
+        ("H3", (1, 100)),
+        ("H4", (1, 50)),
+    ],
+    steps: &[(0, (1, 2)), (2, (1, 4)), (3, (1, 2))],
+    kept: &[(1, (1, 2))],
+    adjusted: &[
+        ((1, 25), true),
+        ((2, 25), true),
+        ((1, 25), true),
+        ((1, 25), true),
+    ],
+    text: "alpha 1/20\n\
         step 1 H1 p 1/50 weight 1/2\n\
         step 2 H3 p 1/100 weight 1/4\n\
         step 3 H4 p 1/50 weight 1/2\n\
@@ -107,17 +103,19 @@ const DECISIONS: &[Row] = &[
         adjusted H3 1/25\n\
         adjusted H4 1/25\n\
         end\n",
-    },
-    // Two are kept, of which one is out of reach.
-    Row {
-        case: "alpha 1/20\n\
-        hypotheses dose-high dose.low late_end\n\
-        p 1/100 9/10 0\n\
-        weights 0 0 0\n",
-        steps: &[(0, (1, 1))],
-        kept: &[(1, (1, 1)), (2, (0, 1))],
-        adjusted: &[((1, 100), true), ((9, 10), true), ((1, 1), false)],
-        text: "alpha 1/20\n\
+};
+
+const TWO_KEPT: Row = Row {
+    alpha: (1, 20),
+    hypotheses: &[
+        ("dose-high", (1, 100)),
+        ("dose.low", (9, 10)),
+        ("late_end", (0, 1)),
+    ],
+    steps: &[(0, (1, 1))],
+    kept: &[(1, (1, 1)), (2, (0, 1))],
+    adjusted: &[((1, 100), true), ((9, 10), true), ((1, 1), false)],
+    text: "alpha 1/20\n\
         step 1 dose-high p 1/100 weight 1\n\
         kept dose.low p 9/10 weight 1\n\
         kept late_end p 0 weight 0\n\
@@ -126,41 +124,52 @@ const DECISIONS: &[Row] = &[
         adjusted dose.low 9/10\n\
         adjusted late_end 1 not reached\n\
         end\n",
-    },
-    // From the last to the first.
-    Row {
-        case: "alpha 1\n\
-        hypotheses A B C D E F G H I J K\n\
-        p 0 0 0 0 0 0 0 0 0 0 0\n\
-        weights 0 0 0 0 0 0 0 0 0 0 0\n",
-        steps: &[
-            (10, (1, 11)),
-            (9, (1, 10)),
-            (8, (1, 9)),
-            (7, (1, 8)),
-            (6, (1, 7)),
-            (5, (1, 6)),
-            (4, (1, 5)),
-            (3, (1, 4)),
-            (2, (1, 3)),
-            (1, (1, 2)),
-            (0, (1, 1)),
-        ],
-        kept: &[],
-        adjusted: &[
-            ((0, 1), true),
-            ((0, 1), true),
-            ((0, 1), true),
-            ((0, 1), true),
-            ((0, 1), true),
-            ((0, 1), true),
-            ((0, 1), true),
-            ((0, 1), true),
-            ((0, 1), true),
-            ((0, 1), true),
-            ((0, 1), true),
-        ],
-        text: "alpha 1\n\
+};
+
+/// From the last to the first.
+const ELEVEN_STEPS: Row = Row {
+    alpha: (1, 1),
+    hypotheses: &[
+        ("A", (0, 1)),
+        ("B", (0, 1)),
+        ("C", (0, 1)),
+        ("D", (0, 1)),
+        ("E", (0, 1)),
+        ("F", (0, 1)),
+        ("G", (0, 1)),
+        ("H", (0, 1)),
+        ("I", (0, 1)),
+        ("J", (0, 1)),
+        ("K", (0, 1)),
+    ],
+    steps: &[
+        (10, (1, 11)),
+        (9, (1, 10)),
+        (8, (1, 9)),
+        (7, (1, 8)),
+        (6, (1, 7)),
+        (5, (1, 6)),
+        (4, (1, 5)),
+        (3, (1, 4)),
+        (2, (1, 3)),
+        (1, (1, 2)),
+        (0, (1, 1)),
+    ],
+    kept: &[],
+    adjusted: &[
+        ((0, 1), true),
+        ((0, 1), true),
+        ((0, 1), true),
+        ((0, 1), true),
+        ((0, 1), true),
+        ((0, 1), true),
+        ((0, 1), true),
+        ((0, 1), true),
+        ((0, 1), true),
+        ((0, 1), true),
+        ((0, 1), true),
+    ],
+    text: "alpha 1\n\
         step 1 K p 0 weight 1/11\n\
         step 2 J p 0 weight 1/10\n\
         step 3 I p 0 weight 1/9\n\
@@ -185,39 +194,93 @@ const DECISIONS: &[Row] = &[
         adjusted J 0\n\
         adjusted K 0\n\
         end\n",
-    },
-];
+};
 
-fn case(alloc: Global, text: &str) -> Option<Case> {
-    read_text(alloc, text.as_bytes()).ok()
+fn fraction(terms: Terms) -> Result<Fraction, FractionFault> {
+    Fraction::new(terms.0, terms.1)
 }
 
-fn fraction((num, den): Terms) -> Option<Fraction> {
-    Fraction::new(num, den).ok()
-}
-
-fn lines(alloc: Global, all: &[(usize, Terms)]) -> Option<List<StepLine>> {
+fn lines(alloc: Global, all: &[(usize, Terms)]) -> Result<List<StepLine>, Fail> {
     let mut lines = List::new(alloc);
-    for (hypothesis, weight) in all {
-        let line = StepLine {
-            hypothesis: *hypothesis,
-            weight: fraction(*weight)?,
-        };
-        lines.push(line).ok()?;
+    for &(hypothesis, weight) in all {
+        let weight = fraction(weight)?;
+        lines.push(StepLine { hypothesis, weight })?;
     }
-    Some(lines)
+    Ok(lines)
 }
 
-fn values(alloc: Global, all: &[(Terms, bool)]) -> Option<List<Adjusted>> {
+fn values(alloc: Global, all: &[(Terms, bool)]) -> Result<List<Adjusted>, Fail> {
     let mut values = List::new(alloc);
-    for (value, reached) in all {
-        let value = Adjusted {
-            value: fraction(*value)?,
-            reached: *reached,
-        };
-        values.push(value).ok()?;
+    for &(value, reached) in all {
+        let value = fraction(value)?;
+        values.push(Adjusted { value, reached })?;
     }
-    Some(values)
+    Ok(values)
+}
+
+fn names(alloc: Global, hypotheses: &[(&str, Terms)]) -> Result<List<Text>, NoMemory> {
+    let mut names = List::new(alloc);
+    for (name, _) in hypotheses {
+        names.push(Text::copy(alloc, name.as_bytes())?)?;
+    }
+    Ok(names)
+}
+
+fn p_values(alloc: Global, hypotheses: &[(&str, Terms)]) -> Result<List<Option<Fraction>>, Fail> {
+    let mut p_values = List::new(alloc);
+    for &(_, p) in hypotheses {
+        p_values.push(Some(fraction(p)?))?;
+    }
+    Ok(p_values)
+}
+
+/// So many weights of 0.
+fn no_weights(alloc: Global, count: usize) -> Result<List<Fraction>, NoMemory> {
+    let mut weights = List::new(alloc);
+    for _ in 0..count {
+        weights.push(Fraction::zero())?;
+    }
+    Ok(weights)
+}
+
+/// A draft of one component, without edges.
+#[tactic(auto, unfolding(case_model::specs::Draft::have_known_ends, case_model::specs::Draft::have_known_arrivals))]
+fn draft(
+    alloc: Global,
+    names: List<Text>,
+    alpha: Fraction,
+    p: List<Option<Fraction>>,
+    weights: List<Fraction>,
+) -> Result<Draft, NoMemory>
+    ensures ends { IfOk result (λ d. have_known_ends d ≡ true) }
+    ensures arrivals { IfOk result (λ d. have_known_arrivals d ≡ true) }
+{
+    let mut components = List::new(alloc);
+    components.push(DraftComponent {
+        share: Fraction::one(),
+        weights,
+        edges: List::new(alloc),
+    })?;
+    Ok(Draft {
+        names,
+        alpha,
+        p,
+        components,
+        stages: None,
+    })
+}
+
+/// The case of a row. Its weights aren't printed.
+fn case(alloc: Global, row: &Row) -> Result<Case, Fail> {
+    let names = names(alloc, row.hypotheses)?;
+    let alpha = fraction(row.alpha)?;
+    let p = p_values(alloc, row.hypotheses)?;
+    let weights = no_weights(alloc, row.hypotheses.len())?;
+    let draft = draft(alloc, names, alpha, p, weights)?;
+    match draft.finish(alloc) {
+        Ok(case) => Ok(case),
+        Err(refused) => Err(refused.fault)?,
+    }
 }
 
 /// Whether each line is of one of so many hypotheses.
@@ -233,53 +296,35 @@ fn are_of_case(case: &Case, lines: &[StepLine]) -> bool
     are_below(lines, case.size())
 }
 
-/// What is printed of a decision, where it and the adjusted values are of the case.
-fn printed(
-    alloc: Global,
-    case: &Case,
-    decision: &Decision,
-    adjusted: &[Adjusted],
-) -> Option<List<u8>> {
-    let are_its_lines = are_of_case(case, decision.steps.as_slice())
-        && are_of_case(case, decision.kept.as_slice());
-    if is_single(case) && are_its_lines && adjusted.len() == case.size() {
-        return test_text(alloc, case, decision, adjusted).ok();
-    }
-    None
-}
-
-/// What is printed of a row.
-fn text_of(alloc: Global, row: &Row) -> Option<List<u8>> {
-    let case = case(alloc, row.case)?;
+fn expect(rt: &impl Abort, alloc: Global, row: &Row) -> Result<(), Fail> {
+    let case = case(alloc, row)?;
     let decision = Decision {
         steps: lines(alloc, row.steps)?,
         kept: lines(alloc, row.kept)?,
     };
-    let adjusted = values(alloc, row.adjusted)?;
-    printed(alloc, &case, &decision, adjusted.as_slice())
-}
-
-/// Whether this was printed.
-fn is_printed(found: &Option<List<u8>>, text: &str) -> bool {
-    match found {
-        Some(found) => is_text(found.as_slice(), text),
-        None => false,
-    }
+    assert!(rt; is_single(&case));
+    assert!(rt; are_of_case(&case, decision.steps.as_slice()));
+    assert!(rt; are_of_case(&case, decision.kept.as_slice()));
+    let values = values(alloc, row.adjusted)?;
+    assert!(rt; values.len() == case.size());
+    let text = test_text(alloc, &case, &decision, values.as_slice())?;
+    assert_eq!(rt; text.as_slice(), row.text.as_bytes(), "{}", row.text);
+    Ok(())
 }
 
 #[test]
-fn decisions(rt: HostRuntime) {
-    for row in DECISIONS {
-        expect(
-            &rt,
-            is_printed(&text_of(rt.alloc(), row), row.text),
-            row.text,
-        );
-    }
+fn decisions(rt: HostRuntime) -> Result<(), Fail> {
+    expect(&rt, rt.alloc(), &ALL_REJECTED)?;
+    expect(&rt, rt.alloc(), &NONE_REJECTED)?;
+    expect(&rt, rt.alloc(), &ONE_OF_TWO)?;
+    expect(&rt, rt.alloc(), &THREE_OF_FOUR)?;
+    expect(&rt, rt.alloc(), &TWO_KEPT)?;
+    expect(&rt, rt.alloc(), &ELEVEN_STEPS)?;
+    Ok(())
 }
 
 /// Evidence for a case of three hypotheses, whether it holds or not, and what is printed of it where it does.
-const EVIDENCE: &[(&str, &str)] = &[
+const EVIDENCE: [(&str, &str); 4] = [
     ("evidence 1\nend\n", "yes\nlisted\nend\n"),
     (
         "evidence 1\nstep H3\nstep H1\nflow 1 H3 0\nend\n",
@@ -295,18 +340,17 @@ const EVIDENCE: &[(&str, &str)] = &[
     ),
 ];
 
-/// What is printed of evidence, where it holds.
-fn checked(alloc: Global, case: &Case, document: &str) -> Option<List<u8>> {
-    let proof = read(alloc, case, document.as_bytes()).ok()?;
-    check_text(alloc, case, &proof).ok()
-}
-
 #[test]
 fn evidence(rt: HostRuntime) -> Result<(), Fail> {
-    let case = case(rt.alloc(), THREE).ok_or("refused")?;
-    for (document, text) in EVIDENCE {
-        let found = checked(rt.alloc(), &case, document);
-        expect(&rt, is_printed(&found, text), text);
+    let case = case(rt.alloc(), &ALL_REJECTED)?;
+    for (document, printed) in EVIDENCE {
+        match read(rt.alloc(), &case, document.as_bytes()) {
+            Ok(proof) => {
+                let text = check_text(rt.alloc(), &case, &proof)?;
+                assert_eq!(rt; text.as_slice(), printed.as_bytes(), "{printed}");
+            }
+            Err(_) => panic!(rt; "{printed}"),
+        }
     }
     Ok(())
 }
@@ -317,14 +361,14 @@ const SECOND_REJECTED: &str =
 
 #[test]
 fn simes(rt: HostRuntime) -> Result<(), Fail> {
-    let case = case(rt.alloc(), TWO).ok_or("refused")?;
+    let case = case(rt.alloc(), &ONE_OF_TWO)?;
     let mut closed = SetTable::new(rt.alloc(), 2)?;
     closed.put(2, true);
     closed.put(3, true);
     let bounds = Bounds::build(rt.alloc(), 2, &closed)?;
     assert!(rt; case.size() == 2);
     let text = simes_text(rt.alloc(), &case, &bounds, &closed, &[1, 0])?;
-    assert!(rt; is_text(text.as_slice(), SECOND_REJECTED));
+    assert_eq!(rt; text.as_slice(), SECOND_REJECTED.as_bytes());
     Ok(())
 }
 
@@ -337,38 +381,35 @@ fn rejection(hypothesis: usize) -> Settled {
     }
 }
 
-/// What a study prints of three commands that are refused, and of two rejections.
-fn replies(alloc: Global, case: &Case) -> Result<List<u8>, NoMemory> {
-    let mut text = opened_text(alloc, case, 12)?;
+#[test]
+fn replies(rt: HostRuntime) -> Result<(), Fail> {
+    let case = case(rt.alloc(), &ALL_REJECTED)?;
+    let mut text = opened_text(rt.alloc(), &case, 12)?;
     put_refused(&mut text, 3, &StepFault::Known(0, 1))?;
     put_refused(&mut text, 10, &StepFault::StageRange(0))?;
     put_refused(&mut text, 11, &StepFault::PRange)?;
-    put_shown(&mut text, case, 14, &[rejection(2), rejection(0)])?;
-    Ok(text)
-}
-
-#[test]
-fn commands_are_replied_to(rt: HostRuntime) -> Result<(), Fail> {
-    let case = case(rt.alloc(), THREE).ok_or("refused")?;
+    put_shown(&mut text, &case, 14, &[rejection(2), rejection(0)])?;
     let printed = "alpha 1/40\nrecords 12\nrefused 3: known\nrefused 10: stage\nrefused 11: range\n\
         show looks 14 rejected H1 H3\n";
-    let text = replies(rt.alloc(), &case)?;
-    assert!(rt; is_text(text.as_slice(), printed));
+    assert_eq!(rt; text.as_slice(), printed.as_bytes());
     Ok(())
 }
 
 #[test]
 fn a_look_without_rejections(rt: HostRuntime) -> Result<(), Fail> {
-    let case = case(rt.alloc(), THREE).ok_or("refused")?;
+    let case = case(rt.alloc(), &ALL_REJECTED)?;
     let look = Look {
         hypothesis: 1,
         stage: 2,
-        p: fraction((3, 100)).ok_or("no fraction")?.ratio(),
+        p: fraction((3, 100))?.ratio(),
     };
     assert!(rt; 1 < case.size());
     let mut text = List::new(rt.alloc());
     put_taken(&mut text, &case, &look, &[])?;
     put_shown(&mut text, &case, 1, &[])?;
-    assert!(rt; is_text(text.as_slice(), "look H2 2 3/100\nshow looks 1 rejected\n"));
+    assert_eq!(rt;
+        text.as_slice(),
+        b"look H2 2 3/100\nshow looks 1 rejected\n".as_slice()
+    );
     Ok(())
 }

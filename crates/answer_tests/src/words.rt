@@ -1,145 +1,233 @@
 //! What words ask for, with the values that they give.
-use crate::checks::{Terms, expect};
-use command_words::{CaseForm, CaseTask, Command, StudyCall, read_study, read_words};
+use command_words::{CaseForm, CaseTask, Command, read_study, read_words};
 use field_core::NoMemory;
-use fraction::Fraction;
 use sequential::Priority;
 use std::alloc::Global;
+use std::process::Abort;
 use std::test::Fail;
 
-/// What words ask for.
-#[derive(Clone, Copy, PartialEq, Eq)]
-enum Asked {
-    /// A task, and the level where the case is a sheet.
-    Task(CaseTask, Option<Terms>),
-    /// A check of the file that the word at this place names.
-    Check(usize),
-    /// A sample of a size, from a seed.
-    Sample(u64, u64),
-    Other,
-    /// Nothing: reading fails at the word of this number, from 1.
-    Nothing(usize),
-}
-
-const FIRST: CaseTask = CaseTask::Test(Priority::First);
-
-const LAST: CaseTask = CaseTask::Test(Priority::Last);
-
-const RATIO: CaseTask = CaseTask::Test(Priority::Ratio);
-
-/// Words, each behind one space, and what they ask for.
-const CALLS: &[(&str, Asked)] = &[
-    ("help", Asked::Other),
-    ("test", Asked::Task(FIRST, None)),
-    ("stages --form=json", Asked::Task(CaseTask::Stages, None)),
-    ("test --form=json --priority last", Asked::Task(LAST, None)),
-    (
-        "evidence --priority=ratio",
-        Asked::Task(CaseTask::Evidence(Priority::Ratio), None),
-    ),
-    (
-        "test --alpha 0.05 --priority ratio --form csv",
-        Asked::Task(RATIO, Some((1, 20))),
-    ),
-    (
-        "test --form=csv --alpha=-6e-1",
-        Asked::Task(FIRST, Some((-3, 5))),
-    ),
-    // The word at which reading fails.
-    ("", Asked::Nothing(1)),
-    ("test --form xml", Asked::Nothing(3)),
-    ("test --form csv", Asked::Nothing(4)),
-    ("test --alpha 1", Asked::Nothing(2)),
-    ("study looks.txt", Asked::Nothing(1)),
-    // Checks have a file, whose name may be empty.
-    ("check proof.txt", Asked::Check(1)),
-    ("check ", Asked::Check(1)),
-    ("check --form csv - --alpha=1/20", Asked::Check(3)),
-    ("check --form=json check", Asked::Check(2)),
-    ("check", Asked::Nothing(2)),
-    ("check a b", Asked::Nothing(3)),
-    ("check --file a", Asked::Nothing(2)),
-    // Samples have a size and a seed of 64 bits.
-    (
-        "sample --seed=0 --size 00000000000000000064",
-        Asked::Sample(64, 0),
-    ),
-    (
-        "sample --size=1 --seed=18446744073709551615",
-        Asked::Sample(1, u64::MAX),
-    ),
-    (
-        "sample --size=1 --seed=18446744073709551616",
-        Asked::Nothing(3),
-    ),
-];
-
-/// The words of a line, each behind one space; an empty line has none.
-fn words_of(alloc: Global, line: &str) -> Result<Vec<String>, NoMemory> {
-    let mut words = Vec::new(alloc);
-    if line.is_empty() {
-        return Ok(words);
+/// These words, as the program is given them.
+fn words_of(alloc: Global, words: &[&str]) -> Result<Vec<String>, NoMemory> {
+    let mut copies = Vec::new(alloc);
+    for word in words {
+        copies.push(String::from_str(alloc, word)?)?;
     }
-    for word in line.split(' ') {
-        words.push(String::from_str(alloc, word)?)?;
-    }
-    Ok(words)
+    Ok(copies)
 }
 
-fn terms(fraction: &Fraction) -> Terms {
-    let ratio = fraction.ratio();
-    (ratio.num(), ratio.den())
-}
-
-fn asks_for(words: &[String]) -> Asked {
-    match read_words(words) {
-        Ok(Command::OnCase(CaseForm::Csv(alpha), task)) => Asked::Task(task, Some(terms(&alpha))),
-        Ok(Command::OnCase(_, task)) => Asked::Task(task, None),
-        Ok(Command::Sample { size, seed }) => Asked::Sample(size, seed),
-        Ok(command) => match command.file() {
-            Some(place) => Asked::Check(place),
-            None => Asked::Other,
-        },
-        Err(number) => Asked::Nothing(number),
+/// The task, and the parts of the level where the case is a sheet.
+fn on_case(command: &Command) -> Option<(CaseTask, Option<(i128, i128)>)> {
+    match command {
+        Command::OnCase(CaseForm::Csv(alpha), task) => {
+            let alpha = alpha.ratio();
+            Some((*task, Some((alpha.num(), alpha.den()))))
+        }
+        Command::OnCase(_, task) => Some((*task, None)),
+        Command::Check { .. } | Command::Catalogue(_) | Command::Sample { .. } | Command::Help => {
+            None
+        }
     }
 }
 
-#[test]
-fn words_ask(rt: HostRuntime) -> Result<(), Fail> {
-    for (line, wanted) in CALLS {
-        let words = words_of(rt.alloc(), line)?;
-        expect(&rt, asks_for(words.as_slice()) == *wanted, line);
+fn expect(
+    rt: &impl Abort,
+    alloc: Global,
+    words: &[&str],
+    wanted: Option<(CaseTask, Option<(i128, i128)>)>,
+) -> Result<(), NoMemory> {
+    let words = words_of(alloc, words)?;
+    match read_words(words.as_slice()) {
+        Ok(command) => assert!(rt; on_case(&command) == wanted),
+        Err(n) => panic!(rt; "word {n}"),
     }
     Ok(())
 }
 
-/// Whether the case of a study is JSON, and the places of its files; or the word, from 1, at which the reading fails.
-type Study = Result<(bool, usize, Option<usize>), usize>;
+#[test]
+fn words_give_values(rt: HostRuntime) -> Result<(), Fail> {
+    let alloc = rt.alloc();
+    let first = CaseTask::Test(Priority::First);
+    let last = CaseTask::Test(Priority::Last);
+    let ratio = CaseTask::Test(Priority::Ratio);
+    expect(&rt, alloc, &["help"], None)?;
+    expect(&rt, alloc, &["test"], Some((first, None)))?;
+    expect(
+        &rt,
+        alloc,
+        &["stages", "--form=json"],
+        Some((CaseTask::Stages, None)),
+    )?;
+    expect(
+        &rt,
+        alloc,
+        &["test", "--form=json", "--priority", "last"],
+        Some((last, None)),
+    )?;
+    expect(
+        &rt,
+        alloc,
+        &["evidence", "--priority=ratio"],
+        Some((CaseTask::Evidence(Priority::Ratio), None)),
+    )?;
+    expect(
+        &rt,
+        alloc,
+        &[
+            "test",
+            "--alpha",
+            "0.05",
+            "--priority",
+            "ratio",
+            "--form",
+            "csv",
+        ],
+        Some((ratio, Some((1, 20)))),
+    )?;
+    expect(
+        &rt,
+        alloc,
+        &["test", "--form=csv", "--alpha=-6e-1"],
+        Some((first, Some((-3, 5)))),
+    )?;
+    Ok(())
+}
 
-const STUDIES: &[(&str, Study)] = &[
-    ("study looks.txt", Ok((false, 1, None))),
-    ("study --store a.db -", Ok((false, 3, Some(1)))),
-    ("study a --store= --form=json", Ok((true, 1, Some(2)))),
-    ("study --form text study", Ok((false, 3, None))),
-    ("", Err(1)),
-    ("test", Err(1)),
-    ("study", Err(2)),
-    ("study a --form=csv", Err(3)),
-    ("study a --alpha=1", Err(3)),
-    ("study a --store b --store=c", Err(5)),
-    ("study a --store", Err(4)),
-];
+/// The number, from 1, of the word at which the reading fails.
+fn failing_word(alloc: Global, words: &[&str]) -> Result<Option<usize>, NoMemory> {
+    let words = words_of(alloc, words)?;
+    match read_words(words.as_slice()) {
+        Ok(_) => Ok(None),
+        Err(n) => Ok(Some(n)),
+    }
+}
 
-fn study_of(words: &[String]) -> Study {
-    let StudyCall { form, file, store } = read_study(words)?;
-    Ok((matches!(form, CaseForm::Json), file, store))
+#[test]
+fn words_fail_at_a_word(rt: HostRuntime) -> Result<(), Fail> {
+    let alloc = rt.alloc();
+    let rows: [(&[&str], usize); 4] = [
+        (&[], 1),
+        (&["test", "--form", "xml"], 3),
+        (&["test", "--form", "csv"], 4),
+        (&["test", "--alpha", "1"], 2),
+    ];
+    for (words, number) in rows {
+        assert_eq!(rt; failing_word(alloc, words)?, Some(number));
+    }
+    Ok(())
+}
+
+/// The place of the word that names a file.
+fn file_of(alloc: Global, words: &[&str]) -> Result<Option<usize>, NoMemory> {
+    let words = words_of(alloc, words)?;
+    match read_words(words.as_slice()) {
+        Ok(command) => Ok(command.file()),
+        Err(_) => Ok(None),
+    }
+}
+
+#[test]
+fn checks_have_a_file(rt: HostRuntime) -> Result<(), Fail> {
+    let alloc = rt.alloc();
+    let rows: [(&[&str], Option<usize>); 8] = [
+        (&["check", "proof.txt"], Some(1)),
+        (&["check", ""], Some(1)),
+        (&["check", "--form", "csv", "-", "--alpha=1/20"], Some(3)),
+        (&["check", "--form=json", "check"], Some(2)),
+        (&["check"], None),
+        (&["check", "a", "b"], None),
+        (&["check", "--file", "a"], None),
+        (&["test"], None),
+    ];
+    for (words, place) in rows {
+        assert_eq!(rt; file_of(alloc, words)?, place);
+    }
+    Ok(())
+}
+
+/// The size and the seed of a sample.
+fn sample_of(alloc: Global, words: &[&str]) -> Result<Option<(u64, u64)>, NoMemory> {
+    let words = words_of(alloc, words)?;
+    match read_words(words.as_slice()) {
+        Ok(Command::Sample { size, seed }) => Ok(Some((size, seed))),
+        _ => Ok(None),
+    }
+}
+
+#[test]
+fn samples_have_sizes_and_seeds(rt: HostRuntime) -> Result<(), Fail> {
+    let alloc = rt.alloc();
+    let least = sample_of(
+        alloc,
+        &["sample", "--seed=0", "--size", "00000000000000000064"],
+    )?;
+    assert_eq!(rt; least, Some((64, 0)));
+    let greatest = sample_of(
+        alloc,
+        &["sample", "--size=1", "--seed=18446744073709551615"],
+    )?;
+    assert_eq!(rt; greatest, Some((1, u64::MAX)));
+    let above = sample_of(
+        alloc,
+        &["sample", "--size=1", "--seed=18446744073709551616"],
+    )?;
+    assert_eq!(rt; above, None);
+    Ok(())
+}
+
+/// Whether the case of a study is JSON, and the places of its files; or the word at which the reading fails.
+fn study_of(
+    alloc: Global,
+    words: &[&str],
+) -> Result<Result<(bool, usize, Option<usize>), usize>, NoMemory> {
+    let words = words_of(alloc, words)?;
+    match read_study(words.as_slice()) {
+        Ok(call) => Ok(Ok((matches!(&call.form, CaseForm::Json), call.file, call.store))),
+        Err(n) => Ok(Err(n)),
+    }
 }
 
 #[test]
 fn studies_have_a_file(rt: HostRuntime) -> Result<(), Fail> {
-    for (line, wanted) in STUDIES {
-        let words = words_of(rt.alloc(), line)?;
-        expect(&rt, study_of(words.as_slice()) == *wanted, line);
+    let alloc = rt.alloc();
+    let rows: [(&[&str], (bool, usize, Option<usize>)); 4] = [
+        (&["study", "looks.txt"], (false, 1, None)),
+        (&["study", "--store", "a.db", "-"], (false, 3, Some(1))),
+        (
+            &["study", "a", "--store=", "--form=json"],
+            (true, 1, Some(2)),
+        ),
+        (&["study", "--form", "text", "study"], (false, 3, None)),
+    ];
+    for (words, wanted) in rows {
+        assert_eq!(rt; study_of(alloc, words)?, Ok(wanted));
+    }
+    Ok(())
+}
+
+#[test]
+fn words_of_studies_that_fail(rt: HostRuntime) -> Result<(), Fail> {
+    let alloc = rt.alloc();
+    let rows: [(&[&str], usize); 7] = [
+        (&[], 1),
+        (&["test"], 1),
+        (&["study"], 2),
+        (&["study", "a", "--form=csv"], 3),
+        (&["study", "a", "--alpha=1"], 3),
+        (&["study", "a", "--store", "b", "--store=c"], 5),
+        (&["study", "a", "--store"], 4),
+    ];
+    for (words, word) in rows {
+        assert_eq!(rt; study_of(alloc, words)?, Err(word));
+    }
+    Ok(())
+}
+
+#[test]
+fn a_study_is_no_other_command(rt: HostRuntime) -> Result<(), Fail> {
+    let words = words_of(rt.alloc(), &["study", "looks.txt"])?;
+    match read_words(words.as_slice()) {
+        Ok(_) => panic!(rt; "another command"),
+        Err(n) => assert_eq!(rt; n, 1),
     }
     Ok(())
 }

@@ -11,6 +11,8 @@ mod halt;
 mod refusal;
 mod status;
 mod stop;
+#[cfg(test)]
+mod tests;
 mod whole;
 
 pub use answer::Answer;
