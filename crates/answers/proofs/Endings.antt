@@ -32,84 +32,85 @@ status_low (statuses.Refused c) = (cause_low c).0
 abbrev Partial : (Answer → Type 0) → Type 0 → Option (List ℕ) → Option (List ℕ) → Type 0
 Partial Outcome rr old new = IsPut Outcome (AppendsPrefix old new) ⊎ ((rr × AppendsPrefix old new read_fault) ⊎ AppendsPrefix old new no_memory)
 
--- the sink had a fault
-runs_failed : (Outcome : Answer → Type 0) (rr wr clean : Type 0) (old new : Option (List ℕ)) (result : ℕ) → result ≡ 7 → wr
-    → Partial Outcome rr old new → Runs Outcome rr wr clean old new result
-runs_failed Outcome rr wr clean old new result e w p = record {
-  done = λ h. absurd (omega arith);
-  read = λ h. absurd (omega arith);
-  write = λ h. w;
-  partial = λ h. p;
-  memory = λ h. absurd (omega arith);
-  complete = λ h k. absurd (k w);
-  faultless = λ h. absurd (omega arith);
-  known = omega arith;
-}
+module _ (Outcome : Answer → Type 0) (rr wr rs ws : Type 0) (old new : Option (List ℕ)) (result : ℕ) where
+  -- the sink had a fault
+  runs_failed : result ≡ 7 → wr → Partial Outcome rr old new → Runs Outcome rr wr rs ws old new result
+  runs_failed e w p = record {
+    done = λ h. absurd (omega arith);
+    read = λ h. absurd (omega arith);
+    write = λ h. w;
+    partial = λ h. p;
+    memory = λ h. absurd (omega arith);
+    complete = λ h k. absurd (k w);
+    faultless = λ h. absurd (elim h [ inl x ↦ omega arith | inr x ↦ omega arith ]);
+    quiet = λ h. absurd (omega arith);
+    known = omega arith;
+  }
 
--- an answer was put, or the sink had a fault
-runs_done : (Outcome : Answer → Type 0) (rr wr clean ws : Type 0) (old new : Option (List ℕ)) (result : ℕ) (a : Answer) → Outcome a → (ws → clean)
-    → Finished wr ws old new a.text (status_code a.status) result → Runs Outcome rr wr clean old new result
-runs_done Outcome rr wr clean ws old new result a is r f =
-    let low = status_low a.status in
-    elim f [
-      | inl p ↦ let e = p.0 in record {
-        done = λ h. record { answer = a; outcome = (is, p.0); put = p.1 };
-        read = λ h. absurd (omega arith);
-        write = λ h. absurd (omega arith);
-        partial = λ h. absurd (omega arith);
-        memory = λ h. absurd (omega arith);
-        complete = λ h k. inl (omega arith);
-        faultless = λ h. r p.2;
-        known = omega arith;
-      }
-      | inr p ↦ runs_failed Outcome rr wr clean old new result p.0 p.1 (inl (record { answer = a; outcome = is; put = p.2 }))
-    ]
+  -- an answer was put, or the sink had a fault
+  runs_done : (a : Answer) → Outcome a → rs → Finished wr ws old new a.text (status_code a.status) result → Runs Outcome rr wr rs ws old new result
+  runs_done a is r f =
+      let low = status_low a.status in
+      elim f [
+        | inl p ↦ let e = p.0 in record {
+          done = λ h. record { answer = a; outcome = (is, p.0); put = p.1 };
+          read = λ h. absurd (omega arith);
+          write = λ h. absurd (omega arith);
+          partial = λ h. absurd (omega arith);
+          memory = λ h. absurd (omega arith);
+          complete = λ h k. inl (omega arith);
+          faultless = λ h. (r, p.2);
+          quiet = λ h. absurd (omega arith);
+          known = omega arith;
+        }
+        | inr p ↦ runs_failed p.0 p.1 (inl (record { answer = a; outcome = is; put = p.2 }))
+      ]
 
--- a source had a fault
-runs_read : (Outcome : Answer → Type 0) (rr wr clean ws : Type 0) (old new : Option (List ℕ)) (result : ℕ) → rr
-    → Finished wr ws old new read_fault 6 result → Runs Outcome rr wr clean old new result
-runs_read Outcome rr wr clean ws old new result cause f =
-    elim f [
-      | inl p ↦ let e = p.0 in record {
-        done = λ h. absurd (omega arith);
-        read = λ h. (cause, p.1);
-        write = λ h. absurd (omega arith);
-        partial = λ h. absurd (omega arith);
-        memory = λ h. absurd (omega arith);
-        complete = λ h k. absurd (h cause);
-        faultless = λ h. absurd (omega arith);
-        known = omega arith;
-      }
-      | inr p ↦ runs_failed Outcome rr wr clean old new result p.0 p.1 (inr (inl (cause, p.2)))
-    ]
+  -- a source had a fault
+  runs_read : rr → Finished wr ws old new read_fault 6 result → Runs Outcome rr wr rs ws old new result
+  runs_read cause f =
+      elim f [
+        | inl p ↦ let e = p.0 in record {
+          done = λ h. absurd (omega arith);
+          read = λ h. (cause, p.1);
+          write = λ h. absurd (omega arith);
+          partial = λ h. absurd (omega arith);
+          memory = λ h. absurd (omega arith);
+          complete = λ h k. absurd (h cause);
+          faultless = λ h. absurd (elim h [ inl x ↦ omega arith | inr x ↦ omega arith ]);
+          quiet = λ h. p.2;
+          known = omega arith;
+        }
+        | inr p ↦ runs_failed p.0 p.1 (inr (inl (cause, p.2)))
+      ]
 
--- memory ran out
-runs_memory : (Outcome : Answer → Type 0) (rr wr clean ws : Type 0) (old new : Option (List ℕ)) (result : ℕ) → Finished wr ws old new no_memory 8 result
-    → Runs Outcome rr wr clean old new result
-runs_memory Outcome rr wr clean ws old new result f =
-    elim f [
-      | inl p ↦ let e = p.0 in record {
-        done = λ h. absurd (omega arith);
-        read = λ h. absurd (omega arith);
-        write = λ h. absurd (omega arith);
-        partial = λ h. absurd (omega arith);
-        memory = λ h. p.1;
-        complete = λ h k. inr (omega arith);
-        faultless = λ h. absurd (omega arith);
-        known = omega arith;
-      }
-      | inr p ↦ runs_failed Outcome rr wr clean old new result p.0 p.1 (inr (inr p.2))
-    ]
+  -- memory ran out
+  runs_memory : rs → Finished wr ws old new no_memory 8 result → Runs Outcome rr wr rs ws old new result
+  runs_memory r f =
+      elim f [
+        | inl p ↦ let e = p.0 in record {
+          done = λ h. absurd (omega arith);
+          read = λ h. absurd (omega arith);
+          write = λ h. absurd (omega arith);
+          partial = λ h. absurd (omega arith);
+          memory = λ h. p.1;
+          complete = λ h k. inr (omega arith);
+          faultless = λ h. (r, p.2);
+          quiet = λ h. absurd (omega arith);
+          known = omega arith;
+        }
+        | inr p ↦ runs_failed p.0 p.1 (inr (inr p.2))
+      ]
 
 -- The whole clause of a top call that computes an outcome and concludes.
 pub runs_of : (s : Stage Refusal Answer) (rr wr rs ws : Type 0) (old new : Option (List ℕ)) (result : ℕ) (outcome : Result Answer Stop)
     → IfOk outcome s.Gives → IfErr outcome (StopsBy s.Refuses rr) → IfAnswered outcome rs → Concluded wr ws old new outcome result
-    → Runs (IsAnswerOf s) rr wr (rs × ws) old new result
-runs_of s rr wr rs ws old new result (Ok a) given stopped r f = runs_done (IsAnswerOf s) rr wr (rs × ws) ws old new result a (inl given) (λ w. (r, w)) f
+    → Runs (IsAnswerOf s) rr wr rs ws old new result
+runs_of s rr wr rs ws old new result (Ok a) given stopped r f = runs_done (IsAnswerOf s) rr wr rs ws old new result a (inl given) r f
 runs_of s rr wr rs ws old new result (Err (Refused q)) given stopped r f =
-    runs_done (IsAnswerOf s) rr wr (rs × ws) ws old new result (refused q) (inr (q, stopped, refl)) (λ w. (r, w)) f
-runs_of s rr wr rs ws old new result (Err ReadFault) given stopped r f = runs_read (IsAnswerOf s) rr wr (rs × ws) ws old new result stopped f
-runs_of s rr wr rs ws old new result (Err NoMemory) given stopped r f = runs_memory (IsAnswerOf s) rr wr (rs × ws) ws old new result f
+    runs_done (IsAnswerOf s) rr wr rs ws old new result (refused q) (inr (q, stopped, refl)) r f
+runs_of s rr wr rs ws old new result (Err ReadFault) given stopped r f = runs_read (IsAnswerOf s) rr wr rs ws old new result stopped f
+runs_of s rr wr rs ws old new result (Err NoMemory) given stopped r f = runs_memory (IsAnswerOf s) rr wr rs ws old new result r f
 
 -- the status 0 comes only with an answer
 pub done_by : (rose same : Type 0) (old new : Option (List ℕ)) (outcome : Result Answer Stop) (result : ℕ) (P : Type 0) → OnOk outcome P

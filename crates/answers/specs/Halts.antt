@@ -22,9 +22,9 @@ StopsBy Refuses fault (Refused refusal) = Refuses refusal
 StopsBy Refuses fault ReadFault = fault
 StopsBy Refuses fault NoMemory = ⊤
 
--- a fact where there is a value or a refusal
+-- a fact where no source had a fault: there is a value or a refusal, or memory ran out
 abbrev pub IfAnswered : {A : Type 0} → Result A Stop → Type 0 → Type 0
 IfAnswered (Ok x) p = p
 IfAnswered (Err (Refused refusal)) p = p
 IfAnswered (Err ReadFault) p = ⊤
-IfAnswered (Err NoMemory) p = ⊤
+IfAnswered (Err NoMemory) p = p

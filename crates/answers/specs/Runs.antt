@@ -14,15 +14,19 @@ pub record IsPut (Outcome : Answer → Type 0) (Put : List ℕ → Type 0) : Typ
   pub outcome : Outcome answer
   pub put : Put answer.text
 
--- What a top call answers. `Outcome` says which answers are called for, `read_rose` that a source had a fault in this call where the call reads it, and `write_rose` that the sink had one; `clean` that no count of faults changed; `old` and `new` are what the sink held and holds, where it tells that.
-pub record Runs (Outcome : Answer → Type 0) (read_rose write_rose clean : Type 0) (old new : Option (List ℕ)) (status : ℕ) : Type 0 where
+-- What a top call answers. `Outcome` says which answers are called for, `read_rose` that a source had a fault in this call where
+-- the call reads it, and `write_rose` that the sink had one; `read_clean` and `write_clean` that their counts of faults stayed;
+-- `old` and `new` are what the sink held and holds, where it tells that. No fault is told as another cause, and none is hidden
+-- behind one.
+pub record Runs (Outcome : Answer → Type 0) (read_rose write_rose read_clean write_clean : Type 0) (old new : Option (List ℕ)) (status : ℕ) : Type 0 where
   pub done : status ≤ 5 → IsPut (λ a. Outcome a × (status ≡ status_code a.status)) (Appends old new)
   pub read : status ≡ 6 → read_rose × Appends old new read_fault
   pub write : status ≡ 7 → write_rose
   pub partial : status ≡ 7 → IsPut Outcome (AppendsPrefix old new) ⊎ ((read_rose × AppendsPrefix old new read_fault) ⊎ AppendsPrefix old new no_memory)
   pub memory : status ≡ 8 → Appends old new no_memory
   pub complete : ¬ read_rose → ¬ write_rose → (status ≤ 5) ⊎ (status ≡ 8)
-  pub faultless : status ≤ 5 → clean
+  pub faultless : (status ≤ 5) ⊎ (status ≡ 8) → read_clean × write_clean
+  pub quiet : status ≡ 6 → write_clean
   pub known : status ≤ 8
 
 -- What a top call does to a source. Where it doesn't read it, it leaves it as it was, and with status 0 it has read it to its end.

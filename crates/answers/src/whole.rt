@@ -1,7 +1,8 @@
 //! Taking whole inputs.
-ghost use Rattle.std.specs.Prelude.{◌≡◌, IfOk, OnOk, IfErr};
+ghost use Rattle.std.specs.Prelude.{◌≡◌, IfOk, OnOk, IfErr, OnErr};
 ghost use Rattle.std.specs.Io.KnownBytes.{IsAtEnd};
 ghost use Rattle.graph_io.specs.Causes.{Rose};
+ghost use Rattle.graph_io.specs.Reading.{TookAtMost};
 ghost use Rattle.answers.specs.Halts.{StopsBy, IfAnswered};
 ghost use Rattle.answers.specs.Lines.{bytes_refusal};
 ghost use Rattle.answers.specs.Stages.{on_bytes, within};
@@ -30,7 +31,7 @@ pub(crate) fn bytes_refusal(alloc: Global, name: &[u8], n: u64) -> Result<Refusa
 }
 
 /// All bytes of a source, where they aren't too many. `name` says in the refusal which input it is, and ends with a space
-/// if it isn't empty.
+/// if it isn't empty. Of an input that has too many, one byte more than it may have is taken; no call takes more.
 pub fn take_whole<S: Source>(alloc: Global, name: &[u8], source: &mut S) -> Result<List<u8>, Stop>
     ensures given { IfOk result (on_bytes (S.left source.old) (within name.now)).Gives }
     ensures end { OnOk result (IsAtEnd (S.left source.new)) }
@@ -38,6 +39,7 @@ pub fn take_whole<S: Source>(alloc: Global, name: &[u8], source: &mut S) -> Resu
         (StopsBy (on_bytes (S.left source.old) (within name.now)).Refuses
         (Rose (S.faults source.old) (S.faults source.new))) }
     ensures clean { IfAnswered result (S.faults source.new ≡ S.faults source.old) }
+    ensures taken { OnErr result (TookAtMost (S.left source.old) (S.left source.new) 4194305) }
 {
     match read_all(alloc, source, MOST_BYTES) {
         Ok(bytes) => Ok(bytes),

@@ -20,12 +20,12 @@ EndedBy limit old new before now Fault = Rose before now
 EndedBy limit old new before now (TooLong n) = (n ≡ limit + 1) × TookCount old new n × IfSome old (λ xs. limit < length xs)
 EndedBy limit old new before now NoMemory = ⊤
 
--- the count of faults stayed, where the reading didn't end by a fault or want of memory
+-- the count of faults stayed, where the reading didn't end by a fault
 abbrev pub IsClean : {A : Type 0} → ℕ → ℕ → Result A ReadEnd → Type 0
 IsClean before now (Ok x) = now ≡ before
 IsClean before now (Err (TooLong n)) = now ≡ before
 IsClean before now (Err Fault) = Unit {0}
-IsClean before now (Err NoMemory) = Unit {0}
+IsClean before now (Err NoMemory) = now ≡ before
 
 -- the most bytes that are taken before a reading of at most limit bytes ends early
 abbrev pub most_taken : ℕ → ReadEnd → ℕ

@@ -53,7 +53,7 @@ pub trait Source {
 /// All bytes of a source, read to its end, where there are at most `limit` of them; `limit` is at
 /// most 4,194,304.
 ///
-/// `Fault` comes only where the source's count of faults rose; with all bytes, and with `TooLong`, the count stays.
+/// `Fault` comes only where the source's count of faults rose; with each other answer the count stays.
 /// `TooLong` comes only where just `limit + 1` bytes were taken. Before `Fault` at most `limit` bytes were taken, before
 /// `NoMemory` at most `limit + 1`.
 pub fn read_all<S: Source>(alloc: Global, source: &mut S, limit: u64) -> Result<List<u8>, ReadEnd>

@@ -1,24 +1,26 @@
 -- What is spelt is read.
-use Rattle.std.proofs.Common.{◌≡◌, ◌≢◌, ℕ, zero, suc, ◌+◌, ◌-◌, ◌<◌, ◌||◌, false, List, [], ◌∷◌, ◌++◌, length, map}
-use Rattle.std.proofs.Common.{get_or, drop, refl, ap, ap₂, ◌∙◌, append_assoc, arith}
+use Rattle.std.proofs.Common.{◌≡◌, ◌≢◌, ℕ, zero, suc, ◌+◌, ◌-◌, ◌<◌, ◌||◌, true, false, List, [], ◌∷◌, ◌++◌, length, map}
+use Rattle.std.proofs.Common.{get_or, drop, refl, sym, ap, ap₂, ◌∙◌, append_assoc, arith, inl, inr}
 use Rattle.std.specs.List.{slice_split, onto_first, filter, flat_map, prefix_len, position_or_len, AllByRecursion}
 use Rattle.std.specs.Str.Lines.{strip_carriage_return}
-use Rattle.std.proofs.lemmas.Bool.{ne_eqb}
+use Rattle.std.proofs.lemmas.Bool.{ne_eqb, cases_Bool}
 use Rattle.std.proofs.lemmas.List.{append-nil}
-use Rattle.std.proofs.lemmas.List.Splits.{slice_split-cons_no, length-slice_split}
+use Rattle.std.proofs.lemmas.List.Splits.{slice_split-cons_yes, slice_split-cons_no, length-slice_split}
 use Rattle.text_lines.specs.Lines.{is_line_feed, whole_lines, lines_of, begins_comment, is_skipped, kept_after, Row}
 use Rattle.text_lines.specs.Words.{is_blank, words_of, is_word, after_blanks, behind_word}
 use Rattle.text_lines.specs.Spelling.{spaced, line_spelt, text_of, IsPlain, IsWord, IsNoComment, IsLine, numbered}
-use Rattle.text_lines.proofs.Cut.{kept_take, kept_nil, whole_cons, words_blank, drop_past}
+use Rattle.text_lines.proofs.Cut.{kept_take, kept_nil, whole_cons, drop_past}
 
 plain_blank : (b : ℕ) → IsPlain b → is_blank b ≡ false
 plain_blank b h = ap₂ (λ x y. x || y) (ne_eqb b 32 h.space) (ne_eqb b 9 h.tab)
 
 -- ---- words
 
-split_word : (word rest : List ℕ) → AllByRecursion IsPlain word → slice_split is_blank (word ++ 32 ∷ rest) ≡ word ∷ slice_split is_blank rest
-split_word [] rest h = refl
-split_word (b ∷ word) rest h = slice_split-cons_no is_blank b (word ++ 32 ∷ rest) (plain_blank b h.0) ∙ ap (onto_first b) (split_word word rest h.1)
+split_word : (b : ℕ) (word rest : List ℕ) → is_blank b ≡ true → AllByRecursion IsPlain word
+    → slice_split is_blank (word ++ b ∷ rest) ≡ word ∷ slice_split is_blank rest
+split_word b [] rest e h = slice_split-cons_yes is_blank b rest e
+split_word b (c ∷ word) rest e h = slice_split-cons_no is_blank c (word ++ b ∷ rest) (plain_blank c h.0)
+    ∙ ap (onto_first c) (split_word b word rest e h.1)
 
 split_last : (word : List ℕ) → AllByRecursion IsPlain word → slice_split is_blank word ≡ word ∷ []
 split_last [] h = refl
@@ -29,9 +31,9 @@ keep_word [] words h = absurd (omega arith)
 keep_word (b ∷ word) words h = refl
 
 -- a word, a blank and what stands behind it
-pub words_of_word : (word rest : List ℕ) → IsWord word → words_of (word ++ 32 ∷ rest) ≡ word ∷ words_of rest
+pub words_of_word : (b : ℕ) (word rest : List ℕ) → is_blank b ≡ true → IsWord word → words_of (word ++ b ∷ rest) ≡ word ∷ words_of rest
 unfolding words_of
-words_of_word word rest h = ap (filter is_word) (split_word word rest h.plain) ∙ keep_word word (slice_split is_blank rest) h.some
+words_of_word b word rest e h = ap (filter is_word) (split_word b word rest e h.plain) ∙ keep_word word (slice_split is_blank rest) h.some
 
 -- a word alone
 pub words_of_last : (word : List ℕ) → IsWord word → words_of word ≡ word ∷ []
@@ -45,14 +47,15 @@ words_none = refl
 pub words_of_line : (words : List (List ℕ)) → AllByRecursion IsWord words → words_of (line_spelt words) ≡ words
 words_of_line [] h = words_none
 words_of_line (word ∷ []) h = ap words_of (append-nil word) ∙ words_of_last word h.0
-words_of_line (word ∷ next ∷ words) h = words_of_word word (next ++ flat_map spaced words) h.0
+words_of_line (word ∷ next ∷ words) h = words_of_word 32 word (next ++ flat_map spaced words) refl h.0
     ∙ ap (λ (ws : List (List ℕ)). word ∷ ws) (words_of_line (next ∷ words) h.1)
 
-length_plain : (word rest : List ℕ) → AllByRecursion IsPlain word → position_or_len is_blank (word ++ 32 ∷ rest) ≡ length word
-length_plain [] rest h = refl
-length_plain (b ∷ word) rest h = let e : position_or_len is_blank (b ∷ (word ++ 32 ∷ rest)) ≡ 1 + position_or_len is_blank (word ++ 32 ∷ rest) =
-    rw (plain_blank b h.0) refl in
-    e ∙ ap (λ n. 1 + n) (length_plain word rest h.1) ∙ omega arith
+length_plain : (b : ℕ) (word rest : List ℕ) → is_blank b ≡ true → AllByRecursion IsPlain word
+    → position_or_len is_blank (word ++ b ∷ rest) ≡ length word
+length_plain b [] rest e h = rw e refl
+length_plain b (c ∷ word) rest e h =
+    let k : position_or_len is_blank (c ∷ (word ++ b ∷ rest)) ≡ 1 + position_or_len is_blank (word ++ b ∷ rest) = rw (plain_blank c h.0) refl in
+    k ∙ ap (λ n. 1 + n) (length_plain b word rest e h.1) ∙ omega arith
 
 no_blanks : (word rest : List ℕ) → IsWord word → after_blanks (word ++ rest) ≡ word ++ rest
 unfolding after_blanks
@@ -65,23 +68,45 @@ drop_word [] rest = refl
 drop_word (b ∷ word) rest = drop_word word rest
 
 -- what stands behind a word begins with the blank
-pub behind_spelt : (word rest : List ℕ) → IsWord word → behind_word (word ++ 32 ∷ rest) ≡ 32 ∷ rest
+pub behind_spelt : (b : ℕ) (word rest : List ℕ) → is_blank b ≡ true → IsWord word → behind_word (word ++ b ∷ rest) ≡ b ∷ rest
 unfolding behind_word
-behind_spelt word rest h =
-    ap (λ (line : List ℕ). drop (position_or_len is_blank line) line) (no_blanks word (32 ∷ rest) h)
-    ∙ ap (λ n. drop n (word ++ 32 ∷ rest)) (length_plain word rest h.plain) ∙ drop_word word (32 ∷ rest)
+behind_spelt b word rest e h =
+    ap (λ (line : List ℕ). drop (position_or_len is_blank line) line) (no_blanks word (b ∷ rest) h)
+    ∙ ap (λ n. drop n (word ++ b ∷ rest)) (length_plain b word rest e h.plain) ∙ drop_word word (b ∷ rest)
 
 -- a blank in front changes nothing
-pub words_of_blank : (rest : List ℕ) → words_of (32 ∷ rest) ≡ words_of rest
-words_of_blank rest = words_blank 32 rest refl
-
-after_blank : (rest : List ℕ) → after_blanks (32 ∷ rest) ≡ after_blanks rest
+after_blank : (b : ℕ) (rest : List ℕ) → is_blank b ≡ true → after_blanks (b ∷ rest) ≡ after_blanks rest
 unfolding after_blanks
-after_blank rest = drop_past (prefix_len is_blank rest) 32 rest
+after_blank b rest e = rw e (drop_past (prefix_len is_blank rest) b rest)
 
-pub behind_blank : (rest : List ℕ) → behind_word (32 ∷ rest) ≡ behind_word rest
+pub behind_blank : (b : ℕ) (rest : List ℕ) → is_blank b ≡ true → behind_word (b ∷ rest) ≡ behind_word rest
 unfolding behind_word
-behind_blank rest = ap (λ (line : List ℕ). drop (position_or_len is_blank line) line) (after_blank rest)
+behind_blank b rest e = ap (λ (line : List ℕ). drop (position_or_len is_blank line) line) (after_blank b rest e)
+
+-- nor does one at the end, which has an empty part behind it
+onto_append : (c : ℕ) (parts more : List (List ℕ)) → 0 < length parts → onto_first c (parts ++ more) ≡ onto_first c parts ++ more
+onto_append c [] more h = absurd (omega (arith, h))
+onto_append c (part ∷ parts) more h = refl
+
+split_end : (b : ℕ) (line : List ℕ) → is_blank b ≡ true → slice_split is_blank (line ++ b ∷ []) ≡ slice_split is_blank line ++ [] ∷ []
+split_end b [] e = slice_split-cons_yes is_blank b [] e
+split_end b (c ∷ line) e =
+    elim (cases_Bool (is_blank c)) [
+      | inl k ↦ slice_split-cons_yes is_blank c (line ++ b ∷ []) k ∙ ap (λ (parts : List (List ℕ)). [] ∷ parts) (split_end b line e)
+          ∙ ap (λ (parts : List (List ℕ)). parts ++ [] ∷ []) (sym (slice_split-cons_yes is_blank c line k))
+      | inr k ↦ slice_split-cons_no is_blank c (line ++ b ∷ []) k ∙ ap (onto_first c) (split_end b line e)
+          ∙ onto_append c (slice_split is_blank line) ([] ∷ []) (omega (arith, length-slice_split is_blank line))
+          ∙ ap (λ (parts : List (List ℕ)). parts ++ [] ∷ []) (sym (slice_split-cons_no is_blank c line k))
+    ]
+
+no_last_word : (parts : List (List ℕ)) → filter is_word (parts ++ [] ∷ []) ≡ filter is_word parts
+no_last_word [] = refl
+no_last_word ([] ∷ parts) = no_last_word parts
+no_last_word ((c ∷ word) ∷ parts) = ap (λ (words : List (List ℕ)). (c ∷ word) ∷ words) (no_last_word parts)
+
+pub words_before_blank : (b : ℕ) (line : List ℕ) → is_blank b ≡ true → words_of (line ++ b ∷ []) ≡ words_of line
+unfolding words_of
+words_before_blank b line e = ap (filter is_word) (split_end b line e) ∙ no_last_word (slice_split is_blank line)
 
 -- ---- lines
 

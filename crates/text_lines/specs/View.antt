@@ -1,5 +1,5 @@
 -- Lines as contracts of readers see them.
-use Rattle.std.specs.Prelude.{◌≡◌, ◌+◌, Option, IfNone}
+use Rattle.std.specs.Prelude.{◌≡◌, ◌+◌, Option, IfSome, IfNone}
 use Rattle.std.specs.Iterator.{YieldsFirstBy}
 use Rattle.text_lines.specs.declared.line.Line.{Line}
 use Rattle.text_lines.specs.Lines.{Row, Remainder, rows_left, end_at}
@@ -8,8 +8,10 @@ use Rattle.text_lines.specs.Lines.{Row, Remainder, rows_left, end_at}
 abbrev pub row : Line → Row
 row line = record { number = line.number; text = line.text.now }
 
--- The next line that isn't skipped was taken, if there is one; and where there is none, all lines are behind.
+-- The next line that isn't skipped was taken, if there is one, and it is the last of those behind; and where there is none, all
+-- lines are behind.
 pub record TakesRow (old : Remainder) (result : Option Line) (new : Remainder) : Type 0 where
   pub row : YieldsFirstBy row rows_left old result new
   pub end : end_at new ≡ end_at old
+  pub behind : IfSome result (λ line. new.before ≡ line.number)
   pub done : IfNone result (new.before + 1 ≡ end_at old)

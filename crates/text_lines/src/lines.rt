@@ -74,6 +74,7 @@ impl<'a> Lines<'a> {
     /// The lines of a text.
     #[tactic(auto, unfolding(crate::specs::Lines::rows_left, crate::specs::Lines::end_at))]
     pub fn new(text: &'a [u8]) -> Lines<'a>
+        ensures start { result ≡ record { before = 0; text = text.now } }
         ensures rows { rows_left result ≡ rows_of text.now }
         ensures end { end_at result ≡ end_of text.now }
     {
@@ -83,7 +84,8 @@ impl<'a> Lines<'a> {
         }
     }
 
-    /// The number of the line behind those taken so far: once `next` has answered `None`, the number of lines plus 1.
+    /// The number of the line behind those taken so far: 1 of a new reader, that of the answered line plus 1 behind each `next`,
+    /// and the number of all lines plus 1 once `next` has answered `None`.
     pub fn next_number(&self) -> usize
         ensures { result ≡ self.now.before + 1 }
     {
