@@ -39,10 +39,6 @@ pub compare_terms : (x y : Terms) → pos 0 <ℤ x.den → pos 0 <ℤ y.den
     → int_cmp (x.num *ℤ y.den) (y.num *ℤ x.den) ≡ number_compare (number x) (number y)
 compare_terms x y h g = sym (fraction-compare x.num x.den y.num y.den h g)
 
-pub at_most_terms : (x y : Terms) → pos 0 <ℤ x.den → pos 0 <ℤ y.den
-    → is_le (int_cmp (x.num *ℤ y.den) (y.num *ℤ x.den)) ≡ number_field.at_most (number x) (number y)
-at_most_terms x y h g = ap is_le (compare_terms x y h g) ∙ sym (at_most_is (number x) (number y))
-
 turned : (o : Ordering) → is_le (ordering_reverse o) ≡ is_ge o
 turned Less = refl
 turned Equal = refl

@@ -1,5 +1,5 @@
 -- The level of a stage doesn't fall as the weight grows, and in a table it is that of the last step that the weight reaches.
-use Rattle.std.proofs.Common.{◌≡◌, ◌⊎◌, inl, inr, refl, sym, ap, ◌∙◌, subst, ℕ, zero, suc, arith, true, false, List, [], ◌∷◌, Option}
+use Rattle.std.proofs.Common.{◌≡◌, ◌⊎◌, inl, inr, refl, sym, ap, ◌∙◌, ℕ, zero, suc, arith, true, false, List, [], ◌∷◌, Option}
 use Rattle.std.proofs.Common.{Some, None}
 use Rattle.std.specs.Bool.{then_some}
 use Rattle.std.specs.List.{Contains}
@@ -75,16 +75,6 @@ pub spend_level_up : (s : Spend) (alpha : Number) (t : ℕ) (u v : Number) → I
 unfolding spend_level reached
 spend_level_up (Shares fs) alpha t u v r n h = at_most_multiply _ _ alpha n (at_most_multiply_left u v (stage_number fs t) r h)
 spend_level_up (Table ss) alpha t u v r n h = reached_up ss t u v number_zero number_zero h (at_most_refl number_zero) r
-
--- a stage at which no step has a level isn't above 0
-pub rising_past : (t : ℕ) (ss : List SpendStep) → ((s : SpendStep) → Contains ss s → stage_number s.levels t ≡ number_zero)
-    → IsRising t number_zero ss
-rising_past t [] h = tt
-rising_past t (s ∷ ss) h =
-    let e = h s (zero, omega arith, refl) in (
-      subst (λ z. number_zero ≤ε z) (sym e) (at_most_refl number_zero),
-      subst (λ z. IsRising t z ss) (sym e) (rising_past t ss (λ x k. h x (suc k.0, (let q = k.1 in omega (arith, q)), k.2))),
-    )
 
 -- ---- the step that counts
 

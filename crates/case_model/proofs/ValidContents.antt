@@ -43,9 +43,6 @@ component_of : (d : Draft) (c : ℕ) (k : DraftComponent) → c < length d.compo
     → component_at (content_of d).components c ≡ tabled (length d.names) (get_or d.components c k)
 component_of d c k h = ap (λ ks. component_at ks c) (content_of-components d) ∙ get_or-map (tabled (length d.names)) d.components c k empty_component h
 
-as_many_components : (d : Draft) → length (content_of d).components ≡ length d.components
-as_many_components d = ap length (content_of-components d) ∙ simp length-map
-
 no_draft_component : DraftComponent
 no_draft_component = record { share = zero_ratio; weights = []; edges = [] }
 

@@ -25,7 +25,8 @@ pub record IsInRange (value : Ratio) (reached : Bool) : Type 0 where
 
 -- An adjusted value decides each level from 0 to 1, and is the only value that does.
 abbrev pub AdjustedValuesDecide : Type 0
-AdjustedValuesDecide = (E : EntangledGraph) (p : ℕ → Number) (j : ℕ) (value : Ratio) (reached : Bool) → IsAdjusted E p j value reached ↔ (IsInRange value reached × Decides E p j value reached)
+AdjustedValuesDecide = (E : EntangledGraph) (p : ℕ → Number) (j : ℕ) (value : Ratio) (reached : Bool)
+    → IsAdjusted E p j value reached ↔ (IsInRange value reached × Decides E p j value reached)
 
 -- A hypothesis has one adjusted value at most.
 abbrev pub AdjustedValuesAreUnique : Type 0

@@ -1,4 +1,5 @@
--- Adjusted p-values: the least levels at which the closed test rejects (Bretz, Maurer, Brannath and Posch 2009). That a value of 1 which isn't reached is told apart is this project's own.
+-- Adjusted p-values: the least levels at which the closed test rejects (Bretz, Maurer, Brannath and Posch 2009). That a value of 1 which
+-- isn't reached is told apart is this project's own.
 use Rattle.std.specs.Prelude.{◌≡◌, ℕ, Bool, true, false}
 use Rattle.field_core.specs.Number.{Number}
 use Rattle.field_core.specs.Arithmetic.{number_one}
@@ -20,7 +21,8 @@ module _ (E : EntangledGraph) (p : ℕ → Number) where
   abbrev pub IsNeverRejected : ℕ → Type 0
   IsNeverRejected j = (level : Number) → IsUnit level → ¬ IsRejected E p level j
 
-  -- the adjusted value of `j`: the least level from 0 to 1 at which the closed test rejects it, which is reached; or 1, not reached, where it rejects it at none
+  -- the adjusted value of `j`: the least level from 0 to 1 at which the closed test rejects it, which is reached; or 1, not reached, where
+  -- it rejects it at none
   pub record IsAdjusted (j : ℕ) (value : Ratio) (reached : Bool) : Type 0 where
     pub least : reached ≡ true → IsLeastLevel j (number_of value)
     pub never : reached ≡ false → IsNeverRejected j × (number_of value ≡ number_one)

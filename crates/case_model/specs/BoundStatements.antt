@@ -11,7 +11,8 @@ use Rattle.case_model.specs.DiscoveryBound.{IsBound}
 abbrev pub SetsAreRejectedByTheNextLarger : Type 0
 SetsAreRejectedByTheNextLarger =
     (E : EntangledGraph) (p : ℕ → Number) (level : Number) (S : ℕ → Bool)
-    → IsClosedRejected E p level S ↔ (IsLocallyRejected E p level S × ((k : ℕ) → k < E.hypotheses → S k ≡ false → IsClosedRejected E p level (adding k S)))
+    → IsClosedRejected E p level S ↔ (IsLocallyRejected E p level S
+    × ((k : ℕ) → k < E.hypotheses → S k ≡ false → IsClosedRejected E p level (adding k S)))
 
 -- By each table each set has a bound.
 abbrev pub BoundsExist : Type 0
@@ -21,12 +22,14 @@ BoundsExist = (m : ℕ) (table : ℕ → Bool) (S : ℕ → Bool) → (b : ℕ) 
 abbrev pub BoundsAreUnique : Type 0
 BoundsAreUnique =
     ((m : ℕ) (table : ℕ → Bool) (S : ℕ → Bool) (a b : ℕ) → IsBound m (SaysYes m table) S a → IsBound m (SaysYes m table) S b → a ≡ b)
-    × ((E : EntangledGraph) (p : ℕ → Number) (level : Number) (S : ℕ → Bool) (a b : ℕ) → IsBound E.hypotheses (IsClosedRejected E p level) S a → IsBound E.hypotheses (IsClosedRejected E p level) S b → a ≡ b)
+    × ((E : EntangledGraph) (p : ℕ → Number) (level : Number) (S : ℕ → Bool) (a b : ℕ) → IsBound E.hypotheses (IsClosedRejected E p level) S a
+    → IsBound E.hypotheses (IsClosedRejected E p level) S b → a ≡ b)
 
 -- A table that tells what the closed test rejects has the bounds of the closed test.
 abbrev pub ClosedTablesGiveClosedBounds : Type 0
 ClosedTablesGiveClosedBounds =
-    (E : EntangledGraph) (p : ℕ → Number) (level : Number) (table : ℕ → Bool) (S : ℕ → Bool) (b : ℕ) → AnswersFor E.hypotheses (IsClosedRejected E p level) table
+    (E : EntangledGraph) (p : ℕ → Number) (level : Number) (table : ℕ → Bool) (S : ℕ → Bool) (b : ℕ)
+    → AnswersFor E.hypotheses (IsClosedRejected E p level) table
     → IsBound E.hypotheses (SaysYes E.hypotheses table) S b ↔ IsBound E.hypotheses (IsClosedRejected E p level) S b
 
 -- A bound is at most the size of the set; and each subset with more members than the size less the bound is rejected.

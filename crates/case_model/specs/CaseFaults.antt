@@ -1,4 +1,6 @@
--- The fault of a draft: what the first test that finds something tells. The tests stand in a table; each is made of all components, hypotheses or places of a list, in ascending order, before the next. (A row is here a row of edges, or what a test of one item tells.) Components, hypotheses, stages, steps and arrivals are counted from 0; but an arrival has its stage counted from 1.
+-- The fault of a draft: what the first test that finds something tells. The tests stand in a table; each is made of all components,
+-- hypotheses or places of a list, in ascending order, before the next. (A row is here a row of edges, or what a test of one item tells.)
+-- Components, hypotheses, stages, steps and arrivals are counted from 0; but an arrival has its stage counted from 1.
 use Rattle.std.specs.Prelude.{ℕ, zero, suc, ◌+◌, ◌-◌, ◌==◌, ◌&&◌, ◌||◌, not, Bool, true, false, List, [], ◌∷◌, Option, Some, None, Result, Ok, Err, length, map, take, slice_get, nat_lt, nat_le, is_some, is_none, if◌then◌else◌}
 use Rattle.std.specs.Bool.{then_some}
 use Rattle.std.specs.List.{list_all, list_any}

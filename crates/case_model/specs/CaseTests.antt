@@ -1,18 +1,11 @@
 -- What the closed test says of a case: bounds, adjusted values, and the case at another level.
 use Rattle.std.specs.Prelude.{ℕ, Bool}
 use Rattle.field_core.specs.declared.ratio.Ratio.{Ratio}
-use Rattle.fraction.specs.View.{number_of}
 use Rattle.case_model.specs.declared.inputs.Inputs.{Inputs}
 use Rattle.case_model.specs.declared.inputs.Inputs.TheVariants.{Bare, Single, Staged}
 use Rattle.case_model.specs.Sums.{number_at}
-use Rattle.case_model.specs.ClosedTest.{IsClosedRejected}
-use Rattle.case_model.specs.DiscoveryBound.{IsBound}
 use Rattle.case_model.specs.AdjustedValues.{IsAdjusted}
 use Rattle.case_model.specs.Content.{Content, ForSingle, entangled}
-
--- `b` is the bound of the set `S` by the closed test at the level of the case
-abbrev pub IsBoundIn : Content → (ℕ → Bool) → ℕ → Type 0
-IsBoundIn c S b = ForSingle c.inputs (λ ps. IsBound (entangled c).hypotheses (IsClosedRejected (entangled c) (number_at ps) (number_of c.alpha)) S b)
 
 -- the adjusted value of the hypothesis at a position, and whether it is reached
 abbrev pub IsAdjustedIn : Content → ℕ → Ratio → Bool → Type 0

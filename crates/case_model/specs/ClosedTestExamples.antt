@@ -46,7 +46,8 @@ BothLinkedHalvesAreRejected = IsRejected linked_halves near_half twentieth 0 × 
 
 -- Where all weights are 0, nothing is rejected at any level, even where all p-values are 0.
 abbrev pub WeightZeroRejectsNothing : Type 0
-WeightZeroRejectsNothing = (m : ℕ) (level : Number) (j : ℕ) → ¬ IsRejected (alone m (graph_without_edges number_field (λ _. number_zero))) (λ _. number_zero) level j
+WeightZeroRejectsNothing = (m : ℕ) (level : Number) (j : ℕ)
+    → ¬ IsRejected (alone m (graph_without_edges number_field (λ _. number_zero))) (λ _. number_zero) level j
 
 -- the p-value 1/40
 abbrev pub fortieth : Number

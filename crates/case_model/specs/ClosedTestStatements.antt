@@ -65,28 +65,35 @@ RatioOrdersAreComplete =
 
 -- The priority `first` has one order at most.
 abbrev pub FirstOrdersAreUnique : Type 0
-FirstOrdersAreUnique = (E : EntangledGraph) (p : ℕ → Number) (level : Number) (I : ℕ → Bool) (js ks : List ℕ) → IsFirstOrder E p level I js → IsFirstOrder E p level I ks → js ≡ ks
+FirstOrdersAreUnique = (E : EntangledGraph) (p : ℕ → Number) (level : Number) (I : ℕ → Bool) (js ks : List ℕ) → IsFirstOrder E p level I js
+    → IsFirstOrder E p level I ks → js ≡ ks
 
 -- So has the priority `last`.
 abbrev pub LastOrdersAreUnique : Type 0
-LastOrdersAreUnique = (E : EntangledGraph) (p : ℕ → Number) (level : Number) (I : ℕ → Bool) (js ks : List ℕ) → IsLastOrder E p level I js → IsLastOrder E p level I ks → js ≡ ks
+LastOrdersAreUnique = (E : EntangledGraph) (p : ℕ → Number) (level : Number) (I : ℕ → Bool) (js ks : List ℕ) → IsLastOrder E p level I js
+    → IsLastOrder E p level I ks → js ≡ ks
 
 -- So has the priority `ratio`.
 abbrev pub RatioOrdersAreUnique : Type 0
-RatioOrdersAreUnique = (E : EntangledGraph) (p : ℕ → Number) (level : Number) (I : ℕ → Bool) (js ks : List ℕ) → IsRatioOrder E p level I js → IsRatioOrder E p level I ks → js ≡ ks
+RatioOrdersAreUnique = (E : EntangledGraph) (p : ℕ → Number) (level : Number) (I : ℕ → Bool) (js ks : List ℕ) → IsRatioOrder E p level I js
+    → IsRatioOrder E p level I ks → js ≡ ks
 
 -- From each set on, the priority `first` has an order.
 abbrev pub FirstOrdersExist : Type 0
-FirstOrdersExist = (E : EntangledGraph) (p : ℕ → Number) (level : Number) (I : ℕ → Bool) → IsValidEntangled E → (js : List ℕ) × IsFirstOrder E p level I js
+FirstOrdersExist = (E : EntangledGraph) (p : ℕ → Number) (level : Number) (I : ℕ → Bool) → IsValidEntangled E → (js : List ℕ)
+    × IsFirstOrder E p level I js
 
 -- So has the priority `last`.
 abbrev pub LastOrdersExist : Type 0
-LastOrdersExist = (E : EntangledGraph) (p : ℕ → Number) (level : Number) (I : ℕ → Bool) → IsValidEntangled E → (js : List ℕ) × IsLastOrder E p level I js
+LastOrdersExist = (E : EntangledGraph) (p : ℕ → Number) (level : Number) (I : ℕ → Bool) → IsValidEntangled E → (js : List ℕ)
+    × IsLastOrder E p level I js
 
 -- So has the priority `ratio`.
 abbrev pub RatioOrdersExist : Type 0
-RatioOrdersExist = (E : EntangledGraph) (p : ℕ → Number) (level : Number) (I : ℕ → Bool) → IsValidEntangled E → (js : List ℕ) × IsRatioOrder E p level I js
+RatioOrdersExist = (E : EntangledGraph) (p : ℕ → Number) (level : Number) (I : ℕ → Bool) → IsValidEntangled E → (js : List ℕ)
+    × IsRatioOrder E p level I js
 
 -- What the closed test rejects at a level, it rejects at each greater one.
 abbrev pub RejectionsStayAtGreaterLevels : Type 0
-RejectionsStayAtGreaterLevels = (E : EntangledGraph) (p : ℕ → Number) (level higher : Number) (j : ℕ) → level ≤ε higher → IsRejected E p level j → IsRejected E p higher j
+RejectionsStayAtGreaterLevels = (E : EntangledGraph) (p : ℕ → Number) (level higher : Number) (j : ℕ) → level ≤ε higher
+    → IsRejected E p level j → IsRejected E p higher j

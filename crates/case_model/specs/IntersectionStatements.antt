@@ -14,21 +14,25 @@ use Rattle.case_model.specs.IntersectionWeight.{IsIntersectionWeight}
 
 -- Each member of each set has an intersection weight.
 abbrev pub IntersectionWeightsExist : Type 0
-IntersectionWeightsExist = (E : EntangledGraph) (I : ℕ → Bool) (k : ℕ) → IsValidEntangled E → IsIn E.hypotheses I k → (u : Number) × IsIntersectionWeight E I k u
+IntersectionWeightsExist = (E : EntangledGraph) (I : ℕ → Bool) (k : ℕ) → IsValidEntangled E → IsIn E.hypotheses I k → (u : Number)
+    × IsIntersectionWeight E I k u
 
 -- A hypothesis has one weight at most in each set.
 abbrev pub IntersectionWeightsAreUnique : Type 0
-IntersectionWeightsAreUnique = (E : EntangledGraph) (I : ℕ → Bool) (k : ℕ) (u v : Number) → IsIntersectionWeight E I k u → IsIntersectionWeight E I k v → u ≡ v
+IntersectionWeightsAreUnique = (E : EntangledGraph) (I : ℕ → Bool) (k : ℕ) (u v : Number) → IsIntersectionWeight E I k u
+    → IsIntersectionWeight E I k v → u ≡ v
 
 -- Intersection weights are from 0 to 1.
 abbrev pub IntersectionWeightsAreUnit : Type 0
-IntersectionWeightsAreUnit = (E : EntangledGraph) (I : ℕ → Bool) (k : ℕ) (u : Number) → IsValidEntangled E → IsIn E.hypotheses I k → IsIntersectionWeight E I k u → IsUnit u
+IntersectionWeightsAreUnit = (E : EntangledGraph) (I : ℕ → Bool) (k : ℕ) (u : Number) → IsValidEntangled E → IsIn E.hypotheses I k
+    → IsIntersectionWeight E I k u → IsUnit u
 
 -- The intersection weights of the members of a set sum to at most 1.
 abbrev pub IntersectionWeightsSumToOne : Type 0
 IntersectionWeightsSumToOne =
     (E : EntangledGraph) (I : ℕ → Bool) (w : ℕ → Number) → IsValidEntangled E
-    → ((k : ℕ) → IsIn E.hypotheses I k → IsIntersectionWeight E I k (w k)) → ((k : ℕ) → k < E.hypotheses → I k ≡ false → w k ≡ number_zero)
+    → ((k : ℕ) → IsIn E.hypotheses I k → IsIntersectionWeight E I k (w k))
+    → ((k : ℕ) → k < E.hypotheses → I k ≡ false → w k ≡ number_zero)
     → sum_below number_field E.hypotheses w ≤ε number_one
 
 -- The weight that removals of a list leave to `k`: the sum, over the components, of the share times the limit of the weight that they leave there.

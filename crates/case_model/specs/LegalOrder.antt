@@ -1,4 +1,5 @@
--- Orders in which hypotheses are rejected one after another (Bretz, Maurer, Brannath and Posch 2009), and the priorities by which the next one is taken (this project's own).
+-- Orders in which hypotheses are rejected one after another (Bretz, Maurer, Brannath and Posch 2009), and the priorities by which the next
+-- one is taken (this project's own).
 use Rattle.std.specs.Prelude.{◌≡◌, ◌<◌, ℕ, Bool, true, List, [], ◌∷◌}
 use Rattle.field_core.specs.Number.{Number}
 use Rattle.field_core.specs.Arithmetic.{◌/ε◌}

@@ -10,7 +10,7 @@ use Rattle.case_model.specs.declared.spend.Spend.{Spend}
 use Rattle.case_model.specs.declared.spend.Spend.TheVariants.{Shares, Table}
 use Rattle.case_model.specs.Draft.{is_short_level}
 use Rattle.case_model.specs.Content.{Content, entangled}
-use Rattle.case_model.specs.StagedTest.{MeetsAt, IsStagedLegal, IsStagedRejected, IsSettling}
+use Rattle.case_model.specs.StagedTest.{MeetsAt, IsStagedLegal, IsStagedRejected}
 
 -- what the hypotheses spend; nothing where there are no stages
 abbrev pub spends_in : Inputs → List Spend
@@ -49,7 +49,3 @@ module _ (c : Content) (values : List Arrival) where
   -- the staged closed test rejects the hypothesis at this position
   abbrev pub IsStagedRejectedIn : ℕ → Type 0
   IsStagedRejectedIn = IsStagedRejected (spend_in c) (number_of c.alpha) values (entangled c)
-
-  -- the settling from the set `I` on
-  abbrev pub IsSettlingIn : (ℕ → Bool) → List ℕ → Type 0
-  IsSettlingIn = IsSettling (spend_in c) (number_of c.alpha) values (entangled c)

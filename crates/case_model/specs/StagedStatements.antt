@@ -18,7 +18,8 @@ use Rattle.case_model.specs.StagedTest.{AtStages, IsStagedLegal, IsStagedRejecte
 -- The level of a stage doesn't fall as the weight grows.
 abbrev pub SpendLevelsAreNondecreasing : Type 0
 SpendLevelsAreNondecreasing =
-    (s : Spend) (alpha : Number) (t : ℕ) (u v : Number) → IsRisingSpend s t → number_zero ≤ε alpha → u ≤ε v → spend_level s alpha t u ≤ε spend_level s alpha t v
+    (s : Spend) (alpha : Number) (t : ℕ) (u v : Number) → IsRisingSpend s t → number_zero ≤ε alpha → u ≤ε v
+    → spend_level s alpha t u ≤ε spend_level s alpha t v
 
 -- The step that counts at a weight is the last one that the weight reaches.
 abbrev pub LastStepsAreReached : Type 0
@@ -38,7 +39,8 @@ AreRisingSpends spend alpha = ((k t : ℕ) → IsRisingSpend (spend k) t) × (nu
 
 -- What passes the staged test at a weight passes at each greater one.
 abbrev pub StagedTestsAreMonotone : Type 0
-StagedTestsAreMonotone = (spend : ℕ → Spend) (alpha : Number) (values : List Arrival) → AreRisingSpends spend alpha → IsMonotone (AtStages spend alpha values)
+StagedTestsAreMonotone = (spend : ℕ → Spend) (alpha : Number) (values : List Arrival) → AreRisingSpends spend alpha
+    → IsMonotone (AtStages spend alpha values)
 
 -- What is legal stays legal once more values have arrived.
 abbrev pub ArrivalsKeepWhatIsLegal : Type 0
@@ -49,14 +51,16 @@ ArrivalsKeepWhatIsLegal =
 -- The staged closed test rejects each hypothesis of a legal order, and a list that leaves none legal has all that it rejects.
 abbrev pub StagedOrdersDecide : Type 0
 StagedOrdersDecide =
-    (spend : ℕ → Spend) (alpha : Number) (values : List Arrival) (E : EntangledGraph) (js : List ℕ) (j : ℕ) → AreRisingSpends spend alpha → IsValidEntangled E
+    (spend : ℕ → Spend) (alpha : Number) (values : List Arrival) (E : EntangledGraph) (js : List ℕ) (j : ℕ) → AreRisingSpends spend alpha
+    → IsValidEntangled E
     → IsStagedOrder spend alpha values E whole js
     → (IsListed js j → IsStagedRejected spend alpha values E j)
     × (IsSettledBy spend alpha values E whole js → IsListed js j ↔ IsStagedRejected spend alpha values E j)
 
 -- From each set on there is a settling.
 abbrev pub SettlingsExist : Type 0
-SettlingsExist = (spend : ℕ → Spend) (alpha : Number) (values : List Arrival) (E : EntangledGraph) (I : ℕ → Bool) → IsValidEntangled E → (js : List ℕ) × IsSettling spend alpha values E I js
+SettlingsExist = (spend : ℕ → Spend) (alpha : Number) (values : List Arrival) (E : EntangledGraph) (I : ℕ → Bool) → IsValidEntangled E
+    → (js : List ℕ) × IsSettling spend alpha values E I js
 
 -- It has one at most.
 abbrev pub SettlingsAreUnique : Type 0

@@ -84,7 +84,8 @@ pub record AreValidShares (count : ℕ) (fs : List Ratio) : Type 0 where
   pub nonneg : Each fs IsNonneg
   pub total : SumsTo fs number_one
 
--- a table of levels: 1 to 32 steps by ascending weight, whose levels don't fall from step to step and sum to at most the weight of the step times the level `alpha`
+-- a table of levels: 1 to 32 steps by ascending weight, whose levels don't fall from step to step and sum to at most the weight of the step
+-- times the level `alpha`
 pub record IsValidTable (count : ℕ) (alpha : Ratio) (ss : List SpendStep) : Type 0 where
   pub some : 0 < length ss
   pub few : length ss ≤ 32
@@ -94,7 +95,8 @@ pub record IsValidTable (count : ℕ) (alpha : Ratio) (ss : List SpendStep) : Ty
   pub from : Each ss (λ s. IsAboveZero s.from)
   pub later : EachNext ss (λ a b. ¬ (number_of b.from ≤ε number_of a.from))
   pub nonneg : Each ss (λ s. Each s.levels IsNonneg)
-  pub rising : EachNext ss (λ a b. (t : ℕ) (x y : Ratio) → slice_get a.levels t ≡ Some x → slice_get b.levels t ≡ Some y → number_of x ≤ε number_of y)
+  pub rising : EachNext ss (λ a b. (t : ℕ) (x y : Ratio) → slice_get a.levels t ≡ Some x → slice_get b.levels t ≡ Some y
+      → number_of x ≤ε number_of y)
   pub bound : Each ss (λ s. SumsTo s.levels (number_of s.from *ε number_of alpha))
 
 -- what a hypothesis spends at so many stages
@@ -141,5 +143,6 @@ CanSumSpend alpha (Table ss) = Each ss (λ s. CanSum s.levels × (written_mul (t
 pub record HasWrittenSums (d : Draft) : Type 0 where
   pub shares : CanSum (map (λ k. k.share) d.components)
   pub weights : Each d.components (λ k. CanSum k.weights)
-  pub rows : Each d.components (λ k. (i : ℕ) → i < length d.names → written_row (length d.names) (entry_at (length d.names) (table_of (length d.names) k.edges) i) ≢ None)
+  pub rows : Each d.components (λ k. (i : ℕ) → i < length d.names
+      → written_row (length d.names) (entry_at (length d.names) (table_of (length d.names) k.edges) i) ≢ None)
   pub spends : (s : DraftStages) → d.stages ≡ Some s → Each s.spend (CanSumSpend d.alpha)

@@ -4,10 +4,9 @@ ghost use Rattle.std.specs.List.{list_all};
 ghost use Rattle.field_core.specs.Polynomial.{int_sign};
 ghost use Rattle.field_core.specs.View.{terms};
 ghost use Rattle.fraction.specs.Tests.{is_zero};
-ghost use Rattle.case_model.specs.Draft.{is_short};
 ghost use Rattle.case_model.specs.Entries.{first_sign};
 
-use crate::fraction_tests::is_short;
+use crate::fraction_tests::are_short;
 use field_core::Number;
 use fraction::Fraction;
 use std::cmp::Ordering;
@@ -133,13 +132,6 @@ fn are_zero(fractions: &[Fraction]) -> bool
     ensures { result ≡ list_all (λ x. is_zero (terms x)) fractions.now }
 {
     fractions.iter().all(|fraction| fraction.is_zero())
-}
-
-/// Whether the parts of each are at most 10^18.
-fn are_short(fractions: &[Fraction]) -> bool
-    ensures { result ≡ list_all is_short fractions.now }
-{
-    fractions.iter().all(|fraction| is_short(fraction))
 }
 
 /// Whether `x` is below, at or above 0.

@@ -1,5 +1,6 @@
 //! Tests of fractions: their signs and ranges, and how long their parts are.
 ghost use Rattle.std.specs.Prelude.{◌≡◌, not};
+ghost use Rattle.std.specs.List.{list_all};
 ghost use Rattle.field_core.specs.Arithmetic.{number_zero};
 ghost use Rattle.fraction.specs.View.{number_of};
 ghost use Rattle.case_model.specs.Draft.{at_most, is_unit, is_short_level, is_short, is_short_p_value, is_level_range, is_level, is_p_value};
@@ -58,6 +59,13 @@ pub fn is_short_level(x: &Fraction) -> bool
 /// Whether the parts are at most 10^18.
 pub fn is_short(x: &Fraction) -> bool
     ensures { result ≡ is_short x.now }
+
+/// Whether the parts of each are at most 10^18.
+pub fn are_short(fractions: &[Fraction]) -> bool
+    ensures { result ≡ list_all is_short fractions.now }
+{
+    fractions.iter().all(is_short)
+}
 {
     x.is_within(1_000_000_000_000_000_000)
 }

@@ -1,13 +1,11 @@
 //! Steps of tables of levels, and the tests of one table.
 ghost use Rattle.std.specs.Prelude.{◌≡◌, IfOk};
-ghost use Rattle.std.specs.List.{list_all};
 ghost use Rattle.std.specs.Option.{option_map};
-ghost use Rattle.case_model.specs.Draft.{is_short};
 ghost use Rattle.case_model.specs.CaseFaults.{is_later, is_lower, level_of, step_before, falling_level};
 
 use crate::CaseFault;
 use crate::first_faults::first_fault;
-use crate::fraction_tests::{is_below_zero, is_short};
+use crate::fraction_tests::{are_short, is_below_zero, is_short};
 use crate::sums::written_sum;
 use field_core::{List, NoMemory, Number, Place, TooWide};
 use fraction::Fraction;
@@ -90,13 +88,6 @@ pub fn copied(alloc: Global, fractions: &[Fraction]) -> Result<List<Fraction>, N
     ensures { IfOk result (λ copies. copies ≡ fractions.now) }
 {
     Ok(List::of(fractions.to_vec(alloc)?))
-}
-
-/// Whether the parts of each fraction are at most 10^18.
-fn are_short(fractions: &[Fraction]) -> bool
-    ensures { result ≡ list_all is_short fractions.now }
-{
-    fractions.iter().all(is_short)
 }
 
 /// The weight of the step before place `n`, if there is one.

@@ -1,4 +1,5 @@
--- The numbers of a case: plain cases are run in fractions, and all others in quotients in epsilon, in which each edge is written as a polynomial (this project's own). A plain case is one in which no edge has a coefficient other than 0 above power 0.
+-- The numbers of a case: plain cases are run in fractions, and all others in quotients in epsilon, in which each edge is written as a
+-- polynomial (this project's own). A plain case is one in which no edge has a coefficient other than 0 above power 0.
 use Rattle.std.specs.Prelude.{◌≡◌, true, List, [], ◌∷◌, map, if◌then◌else◌, Result, Ok}
 use Rattle.field_core.specs.declared.place.Op.TheVariants.{Add}
 use Rattle.field_core.specs.declared.place.TooWide.{TooWide}

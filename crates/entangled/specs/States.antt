@@ -1,4 +1,5 @@
--- The nets that a case is run in, by its numbers: what the state of one is, its graph, and how a hypothesis is removed from it. Nets of quotients keep their numbers in rows over one denominator.
+-- The nets that a case is run in, by its numbers: what the state of one is, its graph, and how a hypothesis is removed from it. Nets of
+-- quotients keep their numbers in rows over one denominator.
 use Rattle.std.specs.Prelude.{ℕ, Result, Ok}
 use Rattle.field_core.specs.declared.place.Wide.{Wide}
 use Rattle.fraction.specs.Plain.{plain, IsFraction}

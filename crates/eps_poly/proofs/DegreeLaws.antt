@@ -9,13 +9,6 @@ use Rattle.eps_poly.specs.Polynomials.{zero_polynomial}
 use Rattle.eps_poly.proofs.Coefficients.{coefficient-past, coefficient-zero}
 use Rattle.eps_poly.proofs.OrderLaws.{coefficient-order}
 
-counted_least : (c : ℤ) (n : ℕ) → n ≤ counted c n
-unfolding counted
-counted_least (pos zero) zero = omega arith
-counted_least (pos zero) (suc n) = omega arith
-counted_least (pos (suc c)) n = omega arith
-counted_least (negsuc c) n = omega arith
-
 counted_none : (c : ℤ) (n : ℕ) → counted c n ≡ 0 → c ≡ pos 0
 unfolding counted
 counted_none (pos zero) n e = refl

@@ -15,7 +15,8 @@ sized_list (suc n) value = do
 unfoldable pub sized_sum : List ℤ → List ℤ → Option (List ℤ)
 sized_sum p q = sized_list 33 (λ k. sized (coefficient p k +ℤ coefficient q k))
 
--- what the first n factors add to the coefficient of power k of a product: coefficient i of the first factor times coefficient k - i of the second, by ascending i
+-- what the first n factors add to the coefficient of power k of a product: coefficient i of the first factor times coefficient k - i of the
+-- second, by ascending i
 unfoldable pub written_coefficient : List ℤ → List ℤ → ℕ → ℕ → Option ℤ
 written_coefficient p q k zero = Some (pos 0)
 written_coefficient p q k (suc n) = do

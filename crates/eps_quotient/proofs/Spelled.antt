@@ -3,21 +3,15 @@ use Rattle.std.proofs.Common.{◌≡◌, ℕ, ◌+◌, ◌<◌, ◌==◌, false,
 use Rattle.std.proofs.Common.{map, refl, sym, ◌∙◌, ap, arith, ℤ, pos, append_assoc}
 use Rattle.std.specs.Fmt.{signed_decimal}
 use Rattle.std.specs.List.{join_with_byte}
-use Rattle.std.proofs.lemmas.List.{take_more, map-append, append-nil, length-map, length-take-le}
+use Rattle.std.proofs.lemmas.List.{take_more, map-append, length-map, length-take-le}
 use Rattle.std.proofs.lemmas.Bool.{ne_eqb}
 use Rattle.field_core.specs.Polynomial.{coefficient}
 use Rattle.field_core.specs.Laws.PolynomialLaws.{coefficient-index}
 use Rattle.eps_poly.specs.Written.{degree}
-use Rattle.eps_quotient.specs.Spelling.{coefficient_text, polynomial_text, quotient_text, Extends}
+use Rattle.eps_quotient.specs.Spelling.{coefficient_text, polynomial_text, quotient_text}
 use Rattle.field_core.specs.Kind.{Parts}
 
 -- ---- what was there stays
-
-pub extends_same : (old new : List ℕ) → new ≡ old → Extends old new
-extends_same old new e = ([], e ∙ sym (append-nil old))
-
-pub extends_later : (old mid new text : List ℕ) → mid ≡ old ++ text → Extends mid new → Extends old new
-extends_later old mid new text e f = (text ++ f.0, f.1 ∙ ap (λ m. m ++ f.0) e ∙ append_assoc old text f.0)
 
 -- ---- lists
 

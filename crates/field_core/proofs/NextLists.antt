@@ -47,7 +47,7 @@ after_more m first j js = refl
 abbrev Follows : ℕ → ℕ → List ℕ → Option (List ℕ) → Type 0
 Follows m first js (Some ks) =
     IsAscending m first ks × ((xs : List ℕ) → IsAscending m first xs → ComesBefore xs ks → ComesBefore xs js ⊎ (xs ≡ js))
-    × (lists_after m first ks + 1 ≡ lists_after m first js)
+    × (lists_after m first ks + 1 ≡ lists_after m first js) × ComesBefore js ks
 Follows m first js None = ((xs : List ℕ) → IsAscending m first xs → ComesBefore xs js ⊎ (xs ≡ js)) × (lists_after m first js ≡ 0)
 
 power_next : (m first : ℕ) → first < m → 2 ^ (m - first) ≡ 2 ^ (m - suc first) + 2 ^ (m - suc first)
@@ -70,7 +70,7 @@ after_any m first other j js = after_more m first j js ∙ sym (after_more m oth
 empty_follows : (m first : ℕ) → Follows m first [] (head_below m first)
 empty_follows m first = elim (below_or_above first m) [
   | inl h ↦ rw (head_some m first h)
-      ((omega arith, h, tt), before, omega (arith, after_any m first 0 first [], after_head m first h, after_empty m first, pow_pos (m - first)))
+      ((omega arith, h, tt), before, omega (arith, after_any m first 0 first [], after_head m first h, after_empty m first, pow_pos (m - first)), tt)
   | inr h ↦ rw (head_none m first h) (last h, omega (arith, after_empty m first, power_none m first h))
 ]
   where
@@ -92,15 +92,20 @@ ascending_at m x j xs e = subst (λ i. IsAscending m (suc i) xs) e
 
 more_follows : (m first j : ℕ) (js : List ℕ) (o : Option (List ℕ)) → first ≤ j → j < m → Follows m (suc j) js o
     → Follows m first (j ∷ js) (onto j (head_below m (suc j)) o)
-more_follows m first j js (Some ks) low high (a, before, r) = ((low, high, a), earlier, omega (arith, after_more m first j js, after_more m first j ks, r))
+more_follows m first j js (Some ks) low high (a, before, r, late) =
+    ((low, high, a), earlier, omega (arith, after_more m first j js, after_more m first j ks, r), inr (refl, late))
   where
     earlier : (xs : List ℕ) → IsAscending m first xs → ComesBefore xs (j ∷ ks) → ComesBefore xs (j ∷ js) ⊎ (xs ≡ j ∷ js)
     earlier [] b c = inl tt
     earlier (x ∷ xs) b (inl c) = inl (inl c)
     earlier (x ∷ xs) b (inr c) = same_head x j xs js c.0 (before xs (ascending_at m x j xs c.0 b.2) c.1)
 more_follows m first j js None low high (last, r) = elim (below_or_above (suc j) m) [
-  | inl h ↦ rw (head_some m (suc j) h)
-      ((omega arith, h, tt), earlier, omega (arith, after_any m first 0 (suc j) [], after_head m (suc j) h, after_more m first j js, r, pow_pos (m - suc j)))
+  | inl h ↦ rw (head_some m (suc j) h) (
+    (omega arith, h, tt),
+    earlier,
+    omega (arith, after_any m first 0 (suc j) [], after_head m (suc j) h, after_more m first j js, r, pow_pos (m - suc j)),
+    inl (omega arith),
+  )
   | inr h ↦ rw (head_none m (suc j) h) (all h, omega (arith, after_more m first j js, r, power_none m (suc j) h))
 ]
   where
@@ -143,7 +148,7 @@ step_of : (m : ℕ) (old new : List ℕ) (last : ℕ) (parent rest : List ℕ) �
     → old ≡ parent ++ rest → new ≡ parent ++ last ∷ [] → IsListStep m old new last
 step_of m old new last parent rest a e was is =
     let f = subst (Follows m 0 old) e (next_follows m 0 old a) in
-    record { next = record { ascending = f.0; least = f.1 }; fewer = f.2; parent = parent; rest = rest; was = was; is = is }
+    record { next = record { ascending = f.0; later = f.3; least = f.1 }; fewer = f.2; parent = parent; rest = rest; was = was; is = is }
 
 pub first_step : (m : ℕ) → 0 < m → IsListStep m [] (0 ∷ []) 0
 first_step m h = step_of m [] (0 ∷ []) 0 [] [] tt (next_empty m 0 ∙ head_some m 0 h) refl refl
@@ -168,9 +173,6 @@ sibling_step m k l js a h g = step_of m (js ++ k ∷ l ∷ []) _ (suc k) js (k �
 last_of : (m : ℕ) (old : List ℕ) → IsAscending m 0 old → next_list m 0 old ≡ None → IsLastList m old
 last_of m old a e = let f = subst (Follows m 0 old) e (next_follows m 0 old a) in f.0
 
-pub last_empty : (m : ℕ) → m ≤ 0 → IsLastList m []
-last_empty m h = last_of m [] tt (next_empty m 0 ∙ head_none m 0 h)
-
 pub last_one : (m l : ℕ) → l < m → m ≤ suc l → IsLastList m (l ∷ [])
 last_one m l p h = last_of m (l ∷ []) (omega arith, p, tt) (next_last m 0 l h)
 
@@ -188,7 +190,3 @@ ascending_two m first k l (j ∷ js) a = ascending_two m (suc j) k l js a.2
 
 pub ends_with_two : (xs ys js : List ℕ) (k l : ℕ) → xs ≡ ys ++ l ∷ [] → ys ≡ js ++ k ∷ [] → xs ≡ js ++ k ∷ l ∷ []
 ends_with_two xs ys js k l e f = e ∙ ap (λ zs. zs ++ l ∷ []) f ∙ sym (two_more js k l)
-
-pub ascending_before : (m first l : ℕ) (js : List ℕ) → IsAscending m first (js ++ l ∷ []) → length js + first ≤ l
-ascending_before m first l [] a = omega (arith, a.0)
-ascending_before m first l (j ∷ js) a = let b = ascending_before m (suc j) l js a.2 in omega (arith, b, a.0)

@@ -1,4 +1,5 @@
--- The order of sets: by the ascending lists of the hypotheses that they leave out, position by position, a list before those that it begins (this project's own).
+-- The order of sets: by the ascending lists of the hypotheses that they leave out, position by position, a list before those that it begins
+-- (this project's own).
 use Rattle.std.specs.Prelude.{◌≡◌, ◌<◌, ◌≤◌, ◌⊎◌, ◌+◌, ◌-◌, ◌^◌, ℕ, zero, suc, Bool, List, [], ◌∷◌, ◌++◌, if◌then◌else◌}
 
 -- the positions below `m` that a set leaves out, ascending
@@ -17,9 +18,10 @@ ComesBefore js [] = ⊥
 ComesBefore [] (k ∷ ks) = Unit {0}
 ComesBefore (j ∷ js) (k ∷ ks) = (j < k) ⊎ ((j ≡ k) × ComesBefore js ks)
 
--- `ks` is the next list after `js`: what comes before it is `js`, or comes before that
+-- `ks` is the next list after `js`: it comes later, and what comes before it is `js`, or comes before that
 pub record IsNextList (m : ℕ) (js ks : List ℕ) : Type 0 where
   pub ascending : IsAscending m 0 ks
+  pub later : ComesBefore js ks
   pub least : (xs : List ℕ) → IsAscending m 0 xs → ComesBefore xs ks → ComesBefore xs js ⊎ (xs ≡ js)
 
 -- `js` is the last list

@@ -33,15 +33,18 @@ SubsetsAreSmaller =
 
 -- What a set leaves out, removed one after the other, leaves the set.
 abbrev pub LeftOutLeavesTheSet : Type 0
-LeftOutLeavesTheSet = (m : ℕ) (I : ℕ → Bool) → IsAscending m 0 (left_out m I) × IsOrder m whole (left_out m I) × HaveSameMembers m (left_after whole (left_out m I)) I
+LeftOutLeavesTheSet = (m : ℕ) (I : ℕ → Bool) → IsAscending m 0 (left_out m I) × IsOrder m whole (left_out m I)
+    × HaveSameMembers m (left_after whole (left_out m I)) I
 
 -- An ascending list is what the set leaves out that its removals leave.
 abbrev pub AscendingListsAreLeftOut : Type 0
-AscendingListsAreLeftOut = (m : ℕ) (js : List ℕ) (I : ℕ → Bool) → IsAscending m 0 js → HaveSameMembers m (left_after whole js) I → left_out m I ≡ js
+AscendingListsAreLeftOut = (m : ℕ) (js : List ℕ) (I : ℕ → Bool) → IsAscending m 0 js → HaveSameMembers m (left_after whole js) I
+    → left_out m I ≡ js
 
 -- Of two lists one comes before the other, or they are the same, and no two of these hold.
 abbrev pub ListsAreOrdered : Type 0
-ListsAreOrdered = (js ks : List ℕ) → (ComesBefore js ks ⊎ (ComesBefore ks js ⊎ (js ≡ ks))) × ¬ (ComesBefore js ks × ComesBefore ks js) × ¬ ComesBefore js js
+ListsAreOrdered = (js ks : List ℕ) → (ComesBefore js ks ⊎ (ComesBefore ks js ⊎ (js ≡ ks))) × ¬ (ComesBefore js ks × ComesBefore ks js)
+    × ¬ ComesBefore js js
 
 -- The sets of two hypotheses in their order: both, the second, none, the first.
 abbrev pub SetsOfTwoInOrder : Type 0

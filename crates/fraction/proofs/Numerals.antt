@@ -1,11 +1,10 @@
 -- Each text has a value or a fault, so that reading a numeral is a function of its text.
 use Rattle.std.proofs.Common.{◌≡◌, ℕ, suc, ◌+◌, ◌-◌, ◌*◌, ◌^◌, ◌<◌, ◌≤◌, ◌⊎◌, inl, inr, Bool, true, false, List}
-use Rattle.std.proofs.Common.{◌++◌, length, take, ℤ, pos, negsuc, ◌-ℤ◌, ◌<ℤ◌, Result, Ok, Err, IfOk, IfErr, refl, sym, ap, arith}
+use Rattle.std.proofs.Common.{◌++◌, length, take, ℤ, pos, negsuc, ◌-ℤ◌, ◌<ℤ◌, Result, Ok, Err, refl, ap, arith}
 use Rattle.std.specs.Str.Parse.{digits_value}
 use Rattle.std.proofs.lemmas.Bool.{cases_lt}
 use Rattle.std.proofs.lemmas.Int.{ints}
 use Rattle.field_core.specs.Terms.{Terms, IsReduced}
-use Rattle.field_core.specs.Kind.{ok_map}
 use Rattle.fraction.specs.declared.fault.NumberFault.{NumberFault}
 use Rattle.fraction.specs.declared.fault.NumberFault.TheVariants.{Empty, BadByte, ZeroDenominator, TooManyDigits}
 use Rattle.fraction.specs.declared.numeral_machine.State.TheVariants.{Start}
@@ -23,7 +22,7 @@ use Rattle.fraction.proofs.LowestTerms.{AreDivided, divided, abs_sign}
 use Rattle.fraction.proofs.ReadTexts.{checked_fault, read_fault, size_fault, value_signed, signed_lowest}
 use Rattle.fraction.proofs.Scaling.{raised_small, decimal_zero, scaled_ok, scaled_decimal}
 use Rattle.fraction.proofs.Scan.{reached, checked_empty, checked_numeral, checked_bad}
-use Rattle.fraction.proofs.Unique.{one_value, one_fault, value_or_fault}
+use Rattle.fraction.proofs.Unique.{one_fault, value_or_fault}
 
 -- ---- decimals
 
@@ -207,44 +206,7 @@ reading_result text (inr f) = Err f.0
 pub numeral : List ℕ → Result Terms NumberFault
 numeral text = reading_result text (reading text)
 
-value_by : (text : List ℕ) (r : Reading text) (t : Terms) → IsNumeralOf text t → reading_result text r ≡ Ok t
-unfolding reading_result
-value_by text (inl v) t h = ap Ok (one_value text v.0 t v.1 h)
-value_by text (inr f) t h = absurd (value_or_fault text t f.0 h f.1)
-
 fault_by : (text : List ℕ) (r : Reading text) (f : NumberFault) → IsParseFault text f → reading_result text r ≡ Err f
 unfolding reading_result
 fault_by text (inl v) f h = absurd (value_or_fault text v.0 f v.1 h)
 fault_by text (inr g) f h = ap Err (one_fault text g.0 f g.1 h)
-
-pub numeral_value : (text : List ℕ) (t : Terms) → IsNumeralOf text t → numeral text ≡ Ok t
-unfolding numeral
-numeral_value text t h = value_by text (reading text) t h
-
-pub numeral_fault : (text : List ℕ) (f : NumberFault) → IsParseFault text f → numeral text ≡ Err f
-unfolding numeral
-numeral_fault text f h = fault_by text (reading text) f h
-
--- what a reader of numerals answers is this function of the text
-pub numeral_is : {X : Type 0} (terms_of : X → Terms) (text : List ℕ) (r : Result X NumberFault) → IfOk r (λ x. IsNumeralOf text (terms_of x))
-    → IfErr r (IsParseFault text) → ok_map terms_of r ≡ numeral text
-numeral_is terms_of text (Ok x) h k = sym (numeral_value text (terms_of x) h)
-numeral_is terms_of text (Err f) h k = sym (numeral_fault text f k)
-
-told_by : (text : List ℕ) (r : Reading text) (t : Terms) → reading_result text r ≡ Ok t → IsNumeralOf text t
-unfolding reading_result
-told_by text (inl v) t e = let f : v.0 ≡ t = cc in rw (← f) v.1
-told_by text (inr f) t e = absurd cc
-
-told_fault_by : (text : List ℕ) (r : Reading text) (f : NumberFault) → reading_result text r ≡ Err f → IsParseFault text f
-unfolding reading_result
-told_fault_by text (inl v) f e = absurd cc
-told_fault_by text (inr g) f e = let h : g.0 ≡ f = cc in rw (← h) g.1
-
-pub value_from_numeral : (text : List ℕ) (t : Terms) → numeral text ≡ Ok t → IsNumeralOf text t
-unfolding numeral
-value_from_numeral text t e = told_by text (reading text) t e
-
-pub fault_from_numeral : (text : List ℕ) (f : NumberFault) → numeral text ≡ Err f → IsParseFault text f
-unfolding numeral
-fault_from_numeral text f e = told_fault_by text (reading text) f e

@@ -23,9 +23,6 @@ inside_limit len up down h k l (inl e) = omega arith
 inside_limit len up down h k l (inr (inl e)) = omega (arith, ints)
 inside_limit len up down h k l (inr (inr e)) = omega (arith, ints, e.1)
 
-pub past_length : (len : ℕ) (s : ℤ) → 38 < len → PassesLimit len s
-past_length len s h = inl h
-
 pub past_low : (len up down : ℕ) → up + 38 < down → PassesLimit len (pos down -ℤ pos up)
 past_low len up down h = inr (inl (omega (arith, ints)))
 

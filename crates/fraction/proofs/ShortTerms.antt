@@ -1,6 +1,6 @@
 -- Written operations on fractions within limits are defined, and don't lead far beyond these limits.
-use Rattle.std.proofs.Common.{◌≡◌, refl, sym, ap, ◌∙◌, subst, ℕ, zero, suc, ◌≤◌, ◌<◌, ◌+◌, ◌*◌, ◌/◌, ◌^◌, arith, ℤ}
-use Rattle.std.proofs.Common.{pos, negsuc, neg_ℤ, ◌+ℤ◌, ◌*ℤ◌, int_div, unsigned_abs, Option, Some}
+use Rattle.std.proofs.Common.{◌≡◌, sym, ap, ◌∙◌, subst, ℕ, suc, ◌≤◌, ◌<◌, ◌+◌, ◌*◌, ◌/◌, ◌^◌, arith, ℤ}
+use Rattle.std.proofs.Common.{pos, negsuc, ◌+ℤ◌, ◌*ℤ◌, int_div, unsigned_abs, Option, Some}
 use Rattle.std.specs.Option.{option_map}
 use Rattle.std.proofs.lemmas.Int.{ints, unsigned_abs-mul}
 use Rattle.std.proofs.lemmas.Nat.{pow-add}
@@ -47,9 +47,6 @@ abs_part x y g a b p q = abs_product x (int_div y (pos g)) a b p (through _ (uns
 
 below : (n m l : ℕ) → n ≤ m → m < l → n < l
 below n m l h g = omega (arith, h, g)
-
-pub within_more : (a b : ℕ) (x : Terms) → a ≤ b → IsWithin a x → IsWithin b x
-within_more a b x h s = record { num = through (unsigned_abs x.num) a b s.num h; den = through (unsigned_abs x.den) a b s.den h }
 
 -- ---- written operations
 
@@ -131,6 +128,3 @@ parts_within op x y a b p q h =
 
 pub powers : (k l : ℕ) → 2 ^ k * 2 ^ l ≡ 2 ^ (k + l)
 powers k l = sym (pow-add 2 k l)
-
-pub two_powers : (k : ℕ) → 2 ^ k + 2 ^ k ≡ 2 ^ (k + 1)
-two_powers k = let e = pow-add 2 k 1 in omega (arith, e)

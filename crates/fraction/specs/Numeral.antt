@@ -114,11 +114,13 @@ without_leading_zeros digits = drop (prefix_len is_nought digits) digits
 unfoldable pub trailing_zeros : List ℕ → ℕ
 trailing_zeros digits = suffix_len is_nought digits
 
--- a number of n digits, divided by ten to the s: they are more than 38, or reach more than 38 places behind the point, or are more than 38 together with the zeros up to the point
+-- a number of n digits, divided by ten to the s: they are more than 38, or reach more than 38 places behind the point, or are more than 38
+-- together with the zeros up to the point
 abbrev pub PassesLimit : ℕ → ℤ → Type 0
 PassesLimit n s = (38 < n) ⊎ ((pos 38 <ℤ s) ⊎ ((s <ℤ pos 0) × (pos 38 <ℤ (pos n -ℤ s))))
 
--- The digits of a whole number without leading zeros, divided by ten to the s: it isn't 0, and passes the limit once its trailing zeros are dropped, each of which lowers s by 1.
+-- The digits of a whole number without leading zeros, divided by ten to the s: it isn't 0, and passes the limit once its trailing zeros are
+-- dropped, each of which lowers s by 1.
 unfoldable pub IsTooLong : List ℕ → ℤ → Type 0
 IsTooLong digits s = (0 < length digits) × PassesLimit (length digits - trailing_zeros digits) (s -ℤ pos (trailing_zeros digits))
 
@@ -128,7 +130,8 @@ HasZeroDenominator (Plain whole exponent) = ⊥
 HasZeroDenominator (Pointed whole fraction exponent) = ⊥
 HasZeroDenominator (Pair over under) = digits_value 10 under ≡ 0
 
--- All digits before the exponent make one whole number, and s is the number of those behind the point less the exponent. In a pair each part is a number of its own.
+-- All digits before the exponent make one whole number, and s is the number of those behind the point less the exponent. In a pair each
+-- part is a number of its own.
 unfoldable pub HasTooManyDigits : Body → Type 0
 HasTooManyDigits (Plain whole exponent) = IsTooLong (without_leading_zeros whole) (pos 0 -ℤ exponent_of exponent)
 HasTooManyDigits (Pointed whole fraction exponent) = IsTooLong (without_leading_zeros (whole ++ fraction)) (pos (length fraction) -ℤ exponent_of exponent)

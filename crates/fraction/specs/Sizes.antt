@@ -24,7 +24,8 @@ digits_in d = d.whole.now ++ d.fraction.now
 
 -- A shift by z places, or by as many as are past all lengths.
 abbrev pub IsShift : ℕ → ℕ → ℤ → Type 0
-IsShift up down z = (z ≡ pos up -ℤ pos down) ⊎ (((up ≡ 2 ^ 100) × (down ≡ 0) × (pos (2 ^ 100) ≤ℤ z)) ⊎ ((up ≡ 0) × (down ≡ 2 ^ 100) × (z ≤ℤ neg_ℤ (pos (2 ^ 100)))))
+IsShift up down z = (z ≡ pos up -ℤ pos down)
+    ⊎ (((up ≡ 2 ^ 100) × (down ≡ 0) × (pos (2 ^ 100) ≤ℤ z)) ⊎ ((up ≡ 0) × (down ≡ 2 ^ 100) × (z ≤ℤ neg_ℤ (pos (2 ^ 100)))))
 
 -- the shift that an exponent makes
 unfoldable pub GivesShift : List ℕ → Shift → Type 0

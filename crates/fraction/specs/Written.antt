@@ -10,7 +10,8 @@ written_mul x y = do
   den ← sized (int_div x.den (gcd_of y.num x.den) *ℤ int_div y.den (gcd_of x.num y.den))
   Some (record { num = num; den = den })
 
--- n/d + n'/d', where g = gcd(d, d'): u = n * (d'/g), v = n' * (d/g) and t = u + v are written; then, with h = gcd(t, g), the denominator (d/g) * (d'/h), and t/h stands above it
+-- n/d + n'/d', where g = gcd(d, d'): u = n * (d'/g), v = n' * (d/g) and t = u + v are written; then, with h = gcd(t, g), the denominator
+-- (d/g) * (d'/h), and t/h stands above it
 unfoldable pub written_add : Terms → Terms → Option Terms
 written_add x y = do
   u ← sized (x.num *ℤ int_div y.den (gcd_of x.den y.den))

@@ -43,6 +43,7 @@ row_by k c r = record { numerators = map (lowered k c) r.numerators; denominator
 unfoldable pub lowered_row : StoredRow → StoredRow
 lowered_row r = row_by (row_order r) (pos (row_content r)) r
 
--- The cleared row: if every polynomial has an exact quotient by the core of `last`, each is replaced by it; then each is divided by the common content and the least common power of epsilon.
+-- The cleared row: if every polynomial has an exact quotient by the core of `last`, each is replaced by it; then each is divided by the
+-- common content and the least common power of epsilon.
 unfoldable pub cleared : List ℤ → StoredRow → StoredRow
 cleared last r = lowered_row (divided_row (core last) r)

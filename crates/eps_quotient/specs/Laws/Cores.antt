@@ -20,7 +20,8 @@ pub record Is (p : List ℤ) (c : ℤ) (k : ℕ) (q : List ℤ) : Type 0 where
   pub factor_of : factor p ≡ c
   pub core_of : core p ≡ q
 
-pub only_core : (p q : List ℤ) (c : ℤ) (k : ℕ) → length p ≡ 33 → IsNonZero p → length q ≡ 33 → IsCore q → Same p (from_factors c k q) → Is p c k q
+pub only_core : (p q : List ℤ) (c : ℤ) (k : ℕ) → length p ≡ 33 → IsNonZero p → length q ≡ 33 → IsCore q → Same p (from_factors c k q)
+    → Is p c k q
 only_core p q c k long some count is same = record {
   order_of = sym (power_only p q c k long some is same);
   factor_of = sym (factor_only p q c k long some is same);

@@ -40,7 +40,8 @@ factor_nonzero p q c s some e = some (lowest-same p _ s ∙ lowest-multiply c q 
 -- ---- the powers and the content are cut
 
 -- what is left has the same core
-lowered_core : (p q : List ℤ) (h z : ℕ) → length p ≡ 33 → length q ≡ 33 → IsNonZero p → IsNonZero q → Same p (from_factors (pos h) z q) → Is p (pos h *ℤ factor q) (z + order q) (core q)
+lowered_core : (p q : List ℤ) (h z : ℕ) → length p ≡ 33 → length q ≡ 33 → IsNonZero p → IsNonZero q → Same p (from_factors (pos h) z q)
+    → Is p (pos h *ℤ factor q) (z + order q) (core q)
 lowered_core p q h z long count some left s =
     only_core p (core q) (pos h *ℤ factor q) (z + order q) long some (length-core q) (core_is q count left)
     (same_trans p _ _ s (same_trans _ _ _ (factors-same (pos h) z q _ (core_factors q count)) (factors-factors (pos h) (factor q) z (order q) (core q))))
@@ -85,7 +86,8 @@ pub monomial_core : (c : ℤ) (k : ℕ) → k ≤ 32 → ¬ (c ≡ pos 0) → Is
 monomial_core c k low some =
     only_core (monomial c k) one_polynomial c k (length-monomial c k) (monomial_some c k low some) (length-monomial (pos 1) 0) one_core (monomial-factors c k low)
 
-monomial_times : (c d : ℤ) (i z : ℕ) (p q : List ℤ) → i ≤ 32 → Same p (from_factors (c *ℤ d) (i + z) q) → Same p (poly_multiply (from_factors d z q) (monomial c i))
+monomial_times : (c d : ℤ) (i z : ℕ) (p q : List ℤ) → i ≤ 32 → Same p (from_factors (c *ℤ d) (i + z) q)
+    → Same p (poly_multiply (from_factors d z q) (monomial c i))
 monomial_times c d i z p q low s =
     same_trans p _ _ s (same_sym _ _
     (same_trans _ _ _ (multiply_comm (from_factors d z q) (monomial c i)) (same_trans _ _ _ (monomial-multiply c i (from_factors d z q) low) (factors-factors c d i z q))))

@@ -157,7 +157,8 @@ product_gives x y f g =
 
 -- ---- sums
 
-sum_over_gives : (n m d : List ℤ) (v : Number) → IsPolynomial n → IsPolynomial m → IsPolynomial d → IsNonZero d → quotient n d +ε quotient m d ≡ v → GivesSome (sum_over n m d) v
+sum_over_gives : (n m d : List ℤ) (v : Number) → IsPolynomial n → IsPolynomial m → IsPolynomial d → IsNonZero d
+    → quotient n d +ε quotient m d ≡ v → GivesSome (sum_over n m d) v
 unfolding GivesSome sum_over
 sum_over_gives n m d v kn km kd h e z r =
     let u = bind_some _ _ z r in
@@ -167,9 +168,11 @@ sum_over_gives n m d v kn km kd h e z r =
 -- the numerator of what equals a quotient that isn't 0
 numerator_some : (n d m e : List ℤ) → IsNonZero n → IsNonZero d → IsNonZero e → quotient n d ≡ quotient m e → IsNonZero m
 numerator_some n d m e hn hd he same z =
-    nonzero-multiply n e hn he (lowest-same _ _ (cross_of_quotients n d m e hd he same) ∙ lowest-multiply m d ∙ ap (λ x. x *ℤ lowest d) z ∙ zero-*ℤ (lowest d))
+    nonzero-multiply n e hn he (lowest-same _ _ (cross_of_quotients n d m e hd he same) ∙ lowest-multiply m d ∙ ap (λ x. x *ℤ lowest d) z
+    ∙ zero-*ℤ (lowest d))
 
-sum_of_gives : (x y e : Parts) → IsQuotient x → IsQuotient y → IsLowered x.denominator y.denominator e → GivesSome (sum_of x y e) (value_of x +ε value_of y)
+sum_of_gives : (x y e : Parts) → IsQuotient x → IsQuotient y → IsLowered x.denominator y.denominator e
+    → GivesSome (sum_of x y e) (value_of x +ε value_of y)
 unfolding GivesSome sum_of sum_over value_of
 sum_of_gives x y e f g s z r =
     let u = bind_some _ _ z r in
@@ -186,7 +189,8 @@ sum_of_gives x y e f g s z r =
     (gives t.0 d.0 _ (sum_polynomial u.0 v.0 t.0 t.1) (product_polynomial _ _ d.0 d.1) some
     (sum_value x.numerator x.denominator y.numerator y.denominator e.numerator e.denominator u.0 v.0 t.0 d.0 (some_below x f) (some_below y g) (numerator_some _ _ _ _ (some_below x f) (some_below y g) s.some s.value) s.some s.value su sv (sum_is_exact u.0 v.0 t.0 ku.count kv.count t.1) sd))
 
-over_both : (x y : Parts) → is_same x.denominator y.denominator ≡ true → quotient x.numerator x.denominator +ε quotient y.numerator x.denominator ≡ value_of x +ε value_of y
+over_both : (x y : Parts) → is_same x.denominator y.denominator ≡ true
+    → quotient x.numerator x.denominator +ε quotient y.numerator x.denominator ≡ value_of x +ε value_of y
 unfolding value_of
 over_both x y e = ap (λ d. quotient x.numerator x.denominator +ε quotient y.numerator d) (same_from x.denominator y.denominator e)
 
@@ -236,10 +240,12 @@ inverse_times x s e =
 gives_value : (r : Option Parts) (v w : Number) → v ≡ w → GivesSome r v → GivesSome r w
 gives_value r v w e g = subst (GivesSome r) e g
 
-run : (op : Op) (x y : Parts) → IsQuotient x → IsQuotient y → MayTake op y → GivesSome (written_quotient op x y) (exact_result op (value_of x) (value_of y))
+run : (op : Op) (x y : Parts) → IsQuotient x → IsQuotient y → MayTake op y
+    → GivesSome (written_quotient op x y) (exact_result op (value_of x) (value_of y))
 run Add x y f g t = sum_gives x y f g
 run Sub x y f g t =
-    gives_value _ _ _ (ap (λ v. value_of x +ε v) (opposite_value y g) ∙ sym (number_subtract_is (value_of x) (value_of y))) (sum_gives x (opposite y) f (opposite_stored y g))
+    gives_value _ _ _ (ap (λ v. value_of x +ε v) (opposite_value y g)
+    ∙ sym (number_subtract_is (value_of x) (value_of y))) (sum_gives x (opposite y) f (opposite_stored y g))
 run Mul x y f g t = product_gives x y f g
 run Div x y f g t =
     gives_value _ _ _ (divide_value (value_of x) (value_of y) _ (value_of (inverse y)) (some_value y g t) (inverse_times y g t) refl)

@@ -90,7 +90,8 @@ same_fraction n d up =
     let g = gcd (unsigned_abs n) (unsigned_abs d) in
     let is = gcd_is (unsigned_abs n) (unsigned_abs d) in
     fraction-equal _ _ n d (positive_nonzero _ (quotient_positive d g up is.1)) (positive_nonzero d up)
-    (ap (λ x. int_div n (pos g) *ℤ x) (sym (quotient_times d g is.1)) ∙ crossed (int_div n (pos g)) (int_div d (pos g)) (pos g) ∙ ap (λ x. x *ℤ int_div d (pos g)) (quotient_times n g is.0))
+    (ap (λ x. int_div n (pos g) *ℤ x) (sym (quotient_times d g is.1)) ∙ crossed (int_div n (pos g)) (int_div d (pos g)) (pos g)
+    ∙ ap (λ x. x *ℤ int_div d (pos g)) (quotient_times n g is.0))
 
 ratio_at : (n d : List ℤ) → ¬ (coefficient d 0 ≡ pos 0) → limit_ratio n d ≡ fraction (coefficient n 0) (coefficient d 0)
 unfolding limit_ratio coefficient
@@ -108,13 +109,15 @@ limit_terms-first n d = rw (first_is n, first_is d) refl
 
 -- where the denominator has a coefficient of power 0
 pub limit_terms-reduced : (n d : List ℤ) → int_sign (lowest d) ≡ Greater → ¬ (coefficient d 0 ≡ pos 0)
-    → unsigned_abs (coefficient n 0) < 2 ^ 127 → unsigned_abs (coefficient d 0) < 2 ^ 127 → IsReduced (limit_terms (record { numerator = n; denominator = d }))
+    → unsigned_abs (coefficient n 0) < 2 ^ 127 → unsigned_abs (coefficient d 0) < 2 ^ 127
+    → IsReduced (limit_terms (record { numerator = n; denominator = d }))
 unfolding limit_terms
 limit_terms-reduced n d up h sn sd =
     rw (first_is n, first_is d) (lowest_terms (coefficient n 0) (coefficient d 0) sn sd (first_above d up h))
 
 pub limit_terms-value : (n d : List ℤ) → IsNonZero d → int_sign (lowest d) ≡ Greater → ¬ (coefficient d 0 ≡ pos 0)
-    → fraction (limit_terms (record { numerator = n; denominator = d })).num (limit_terms (record { numerator = n; denominator = d })).den ≡ limit (quotient n d)
+    → fraction (limit_terms (record { numerator = n; denominator = d })).num (limit_terms (record { numerator = n; denominator = d })).den
+    ≡ limit (quotient n d)
 unfolding limit_terms
 limit_terms-value n d some up h =
     rw (first_is n, first_is d) (same_fraction (coefficient n 0) (coefficient d 0) (first_above d up h))

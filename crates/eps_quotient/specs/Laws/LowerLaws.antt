@@ -66,7 +66,8 @@ powers_apart a b p q c d h s t none = elim (one_at_least (order a) (order b) (or
   | inr e ↦ first_some q t.some e none.1
 ]
 
-contents_apart : (a b p q c d : List ℤ) (z : ℕ) → 0 < common_content a b → IsCut a p c (common_content a b) z → IsCut b q d (common_content a b) z → common_content p q ≡ 1
+contents_apart : (a b p q c d : List ℤ) (z : ℕ) → 0 < common_content a b → IsCut a p c (common_content a b) z → IsCut b q d (common_content a b) z
+    → common_content p q ≡ 1
 contents_apart a b p q c d z some s t =
     sym (eq_of_mul-eq-mul_left (common_content a b) some 1 (common_content p q)
     (mul-one (common_content a b) ∙ ap₂ gcd s.content_of t.content_of ∙ gcd_scaled (content p) (content q) (common_content a b)))
@@ -74,7 +75,8 @@ contents_apart a b p q c d z some s t =
 -- ---- the three ways to lower
 
 lowered_by : (a b p q c : List ℤ) → IsNonZero b → IsNonZero c → IsCut a p c (common_content a b) (common_order a b)
-    → IsCut b q c (common_content a b) (common_order a b) → (core p ≡ core q → core q ≡ one_polynomial) → IsLowered a b (record { numerator = p; denominator = q })
+    → IsCut b q c (common_content a b) (common_order a b) → (core p ≡ core q → core q ≡ one_polynomial)
+    → IsLowered a b (record { numerator = p; denominator = q })
 lowered_by a b p q c hb hc s t cores = record {
   value = quotient-cancel c a b p q hc t.some s.times t.times;
   above = s.held;
@@ -89,7 +91,8 @@ lowered_by a b p q c hb hc s t cores = record {
 multiplier_some : (a p c : List ℤ) → Same a (poly_multiply c p) → IsNonZero a → IsNonZero c
 multiplier_some a p c s some e = some (lowest-same a _ s ∙ lowest-multiply c p ∙ ap (λ x. x *ℤ lowest p) e ∙ zero-*ℤ (lowest p))
 
-without_powers_is : (a b : List ℤ) → IsPolynomial a → IsPolynomial b → IsNonZero a → IsNonZero b → ¬ (core a ≡ core b) → IsLowered a b (without_powers a b)
+without_powers_is : (a b : List ℤ) → IsPolynomial a → IsPolynomial b → IsNonZero a → IsNonZero b → ¬ (core a ≡ core b)
+    → IsLowered a b (without_powers a b)
 unfolding without_powers
 without_powers_is a b ka kb ha hb apart =
     let g = gcd_is (content a) (content b) in
@@ -97,7 +100,8 @@ without_powers_is a b ka kb ha hb apart =
     let t = cut_powers b (common_content a b) (common_order a b) kb hb g.1 (min-le_right (order a) (order b)) in
     lowered_by a b _ _ _ hb (multiplier_some b _ _ t.cut.times hb) s.cut t.cut (λ e. absurd (apart (sym s.core_of ∙ e ∙ t.core_of)))
 
-without_cores_is : (a b : List ℤ) → IsPolynomial a → IsPolynomial b → IsNonZero a → IsNonZero b → core a ≡ core b → IsLowered a b (without_cores a b)
+without_cores_is : (a b : List ℤ) → IsPolynomial a → IsPolynomial b → IsNonZero a → IsNonZero b → core a ≡ core b
+    → IsLowered a b (without_cores a b)
 unfolding without_cores
 without_cores_is a b ka kb ha hb same =
     let g = gcd_is (content a) (content b) in

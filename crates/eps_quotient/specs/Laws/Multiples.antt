@@ -44,7 +44,8 @@ factors-factors c d k m p = same_factors (from_factors c k (from_factors d m p))
     low : (j : ℕ) → j < k + m → coefficient (from_factors c k (from_factors d m p)) j ≡ pos 0
     low j h = elim (cases_lt j k) [
       | inl l ↦ coefficient-factors_below c k j (from_factors d m p) l
-      | inr l ↦ coefficient-factors c k (j - k) j (from_factors d m p) (back j k l) ∙ ap (λ x. c *ℤ x) (coefficient-factors_below d m (j - k) p (omega arith)) ∙ *ℤ-zero c
+      | inr l ↦ coefficient-factors c k (j - k) j (from_factors d m p) (back j k l)
+          ∙ ap (λ x. c *ℤ x) (coefficient-factors_below d m (j - k) p (omega arith)) ∙ *ℤ-zero c
     ]
 
     turn : (j k m : ℕ) → j + (k + m) ≡ (j + m) + k
@@ -123,8 +124,10 @@ pub monomial-factors : (c : ℤ) (k : ℕ) → k ≤ 32 → Same (monomial c k) 
 monomial-factors c k h = same_factors (monomial c k) one_polynomial c k (λ j l. monomial-other c k j (λ e. omega arith)) above
   where
     above : (j : ℕ) → coefficient (monomial c k) (j + k) ≡ c *ℤ coefficient one_polynomial j
-    above zero = ap (coefficient (monomial c k)) (zero_plus k) ∙ monomial-at c k h ∙ sym (int_multiply_one c) ∙ ap (λ x. c *ℤ x) (sym (monomial-at (pos 1) 0 (omega arith)))
-    above (suc j) = monomial-other c k (suc j + k) (λ e. omega arith) ∙ sym (*ℤ-zero c) ∙ ap (λ x. c *ℤ x) (sym (monomial-other (pos 1) 0 (suc j) (λ e. omega arith)))
+    above zero = ap (coefficient (monomial c k)) (zero_plus k) ∙ monomial-at c k h ∙ sym (int_multiply_one c)
+        ∙ ap (λ x. c *ℤ x) (sym (monomial-at (pos 1) 0 (omega arith)))
+    above (suc j) = monomial-other c k (suc j + k) (λ e. omega arith) ∙ sym (*ℤ-zero c)
+        ∙ ap (λ x. c *ℤ x) (sym (monomial-other (pos 1) 0 (suc j) (λ e. omega arith)))
 
 pub monomial-multiply : (c : ℤ) (k : ℕ) (p : List ℤ) → k ≤ 32 → Same (poly_multiply (monomial c k) p) (from_factors c k p)
 monomial-multiply c k p h =

@@ -81,13 +81,16 @@ powers_again x s =
     (ap₂ (λ z h. lowered z (pos h) x.numerator) (no_order x s) s.no_content ∙ lowered_again x.numerator s.above.count)
     (ap₂ (λ z h. lowered z (pos h) x.denominator) (no_order x s) s.no_content ∙ lowered_again x.denominator s.below.count)
 
-cores_again : (x : Parts) → IsQuotient x → IsNonZero x.numerator → core x.numerator ≡ core x.denominator → without_cores x.numerator x.denominator ≡ x
+cores_again : (x : Parts) → IsQuotient x → IsNonZero x.numerator → core x.numerator ≡ core x.denominator
+    → without_cores x.numerator x.denominator ≡ x
 unfolding without_cores
 cores_again x s some same =
     let one_below = s.no_core same in
     pair_of x _ _
-    (ap₂ (λ z h. monomial (int_div (factor x.numerator) (pos h)) (order x.numerator - z)) (no_order x s) s.no_content ∙ monomial_again x.numerator s.above.count some (same ∙ one_below))
-    (ap₂ (λ z h. monomial (int_div (factor x.denominator) (pos h)) (order x.denominator - z)) (no_order x s) s.no_content ∙ monomial_again x.denominator s.below.count (some_below x s) one_below)
+    (ap₂ (λ z h. monomial (int_div (factor x.numerator) (pos h)) (order x.numerator - z)) (no_order x s) s.no_content
+    ∙ monomial_again x.numerator s.above.count some (same ∙ one_below))
+    (ap₂ (λ z h. monomial (int_div (factor x.denominator) (pos h)) (order x.denominator - z)) (no_order x s) s.no_content
+    ∙ monomial_again x.denominator s.below.count (some_below x s) one_below)
 
 lower_again : (x : Parts) → IsQuotient x → lower x.numerator x.denominator ≡ x
 unfolding lower

@@ -52,7 +52,8 @@ core-negate p count some =
     (only_core (poly_negate p) (core p) (neg_ℤ (factor p)) (order p) (length-negate p ∙ count) (negate_some p some) (length-core p) (core_is p count some)
     (same_factors (poly_negate p) (core p) (neg_ℤ (factor p)) (order p)
     (λ j h. coefficient-negate p j ∙ ap neg_ℤ (whole j ∙ coefficient-factors_below (factor p) (order p) j (core p) h))
-    (λ j. coefficient-negate p (j + order p) ∙ ap neg_ℤ (whole (j + order p) ∙ factors-at (factor p) (order p) (core p) j) ∙ negated_product (factor p) (coefficient (core p) j)))).core_of
+    (λ j. coefficient-negate p (j + order p) ∙ ap neg_ℤ (whole (j + order p) ∙ factors-at (factor p) (order p) (core p) j)
+    ∙ negated_product (factor p) (coefficient (core p) j)))).core_of
 
 -- both negated
 pub quotient-negated : (n d : List ℤ) → IsNonZero d → quotient (poly_negate n) (poly_negate d) ≡ quotient n d
@@ -111,9 +112,14 @@ negated a b x s e = record {
   stored = record {
     above = negate_valid x.numerator s.above;
     below = negate_valid x.denominator s.below;
-    positive = ap int_sign (lowest-negate x.denominator) ∙ int_sign-negate (lowest x.denominator) ∙ ap ordering_reverse (negative_sign (lowest x.denominator) e);
+    positive = ap int_sign (lowest-negate x.denominator) ∙ int_sign-negate (lowest x.denominator)
+        ∙ ap ordering_reverse (negative_sign (lowest x.denominator) e);
     zero_over_one = λ z. absurd (negative_some a b x s e (negated_none _ (sym (lowest-negate x.numerator) ∙ z)));
-    no_power = λ z. s.no_power (negated_none _ (sym (coefficient-negate x.numerator 0) ∙ z.0), negated_none _ (sym (coefficient-negate x.denominator 0) ∙ z.1));
+    no_power = λ z. s.no_power (
+      negated_none _ (sym (coefficient-negate x.numerator 0) ∙ z.0),
+      negated_none _ (sym (coefficient-negate x.denominator 0)
+          ∙ z.1),
+    );
     no_content = ap₂ gcd (content-negate x.numerator) (content-negate x.denominator) ∙ s.no_content;
     no_core = λ z.
         let below = core-negate x.denominator s.below.count s.some in

@@ -70,13 +70,15 @@ sum_over_same n m d t h s =
     ∙ quotient-equal (poly_add n m) d (poly_add (poly_multiply n d) (poly_multiply m d)) (poly_multiply d d) h (nonzero-multiply d d h h) (over_same n m d)
     ∙ sym (quotient-add n d m d h h)
 
-pub quotient-widen : (n d e x y : List ℤ) → IsNonZero d → IsNonZero e → Same x (poly_multiply n e) → Same y (poly_multiply d e) → quotient x y ≡ quotient n d
+pub quotient-widen : (n d e x y : List ℤ) → IsNonZero d → IsNonZero e → Same x (poly_multiply n e) → Same y (poly_multiply d e)
+    → quotient x y ≡ quotient n d
 quotient-widen n d e x y hd he s t =
     quotient-cancel e x y n d he hd (same_trans x _ _ s (multiply_comm n e)) (same_trans y _ _ t (multiply_comm d e))
 
 -- the sum over the lowered denominators
 pub sum_value : (n1 d1 n2 d2 e1 e2 u v t d : List ℤ) → IsNonZero d1 → IsNonZero d2 → IsNonZero e1 → IsNonZero e2
-    → quotient d1 d2 ≡ quotient e1 e2 → Same u (poly_multiply n1 e2) → Same v (poly_multiply n2 e1) → Same t (poly_add u v) → Same d (poly_multiply d1 e2)
+    → quotient d1 d2 ≡ quotient e1 e2 → Same u (poly_multiply n1 e2) → Same v (poly_multiply n2 e1) → Same t (poly_add u v)
+    → Same d (poly_multiply d1 e2)
     → quotient t d ≡ quotient n1 d1 +ε quotient n2 d2
 sum_value n1 d1 n2 d2 e1 e2 u v t d h1 h2 g1 g2 s su sv st sd =
     sum_over_same u v d t (same_nonzero _ d (same_sym d _ sd) (nonzero-multiply d1 e2 h1 g2)) st
@@ -88,7 +90,8 @@ sum_value n1 d1 n2 d2 e1 e2 u v t d h1 h2 g1 g2 s su sv st sd =
 pub zero_value : (n d : List ℤ) → IsNonZero d → lowest n ≡ pos 0 → quotient n d ≡ number_zero
 unfolding number_zero poly_multiply
 zero_value n d h e =
-    quotient-equal n d [] (pos 1 ∷ []) h nonzero-one (same_in _ _ (value-multiply n (pos 1 ∷ []) ∙ ap₂ ring.multiply (same_out n [] (lowest-none n e) ∙ value-zero) value-one ∙ ring.multiply_one _ ∙ sym value-zero))
+    quotient-equal n d [] (pos 1 ∷ []) h nonzero-one (same_in _ _ (value-multiply n (pos 1 ∷ [])
+    ∙ ap₂ ring.multiply (same_out n [] (lowest-none n e) ∙ value-zero) value-one ∙ ring.multiply_one _ ∙ sym value-zero))
     ∙ quotient-pair [] (pos 1 ∷ []) nonzero-one
 
 pub one_value : (d : List ℤ) → IsNonZero d → quotient d d ≡ number_one

@@ -60,7 +60,8 @@ eq_from a b e = ap (λ c. is_eq (int_cmp c b)) e ∙ ap is_eq (tied_itself int_c
 pub by_value_ties : (x y : Ratio) → same_parts x y ≡ eq_by_cmp by_value x y
 by_value_ties x y =
     both_ways (same_parts x y) (eq_by_cmp by_value x y)
-    (λ h. let p = both_true _ _ h in ap₂ (λ n d. is_eq (int_cmp (n *ℤ y.den) (y.num *ℤ d))) (same_from _ _ p.0) (same_from _ _ p.1) ∙ ap is_eq (tied_itself int_cmp_total (y.num *ℤ y.den)))
+    (λ h. let p = both_true _ _ h in ap₂ (λ n d. is_eq (int_cmp (n *ℤ y.den) (y.num *ℤ d))) (same_from _ _ p.0) (same_from _ _ p.1)
+    ∙ ap is_eq (tied_itself int_cmp_total (y.num *ℤ y.den)))
     (λ h. let e = equal_parts x y ((Equal-is (by_value x y)).0 h) in ap₂ ◌&&◌ (eq_from _ _ (ap (λ t. t.num) e)) (eq_from _ _ (ap (λ t. t.den) e)))
 
 pub by_value_partial : IsPartialOrder same_parts (as_partial_cmp by_value)

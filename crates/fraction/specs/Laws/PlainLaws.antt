@@ -36,10 +36,12 @@ some_product : (x y : Terms) → IsReduced x → IsReduced y → ¬ (x.den *ℤ 
 some_product x y r s = positive_nonzero _ (product_positive x.den y.den r.positive s.positive)
 
 add_value : (x y z : Terms) → IsReduced x → IsReduced y → Makes z (sum_of x y) → value z ≡ value x +ε value y
-add_value x y z r s m = fraction-equal z.num z.den _ _ (some z m.reduced) (some_product x y r s) m.same ∙ sym (fraction-add x.num x.den y.num y.den (some x r) (some y s))
+add_value x y z r s m = fraction-equal z.num z.den _ _ (some z m.reduced) (some_product x y r s) m.same
+    ∙ sym (fraction-add x.num x.den y.num y.den (some x r) (some y s))
 
 mul_value : (x y z : Terms) → IsReduced x → IsReduced y → Makes z (product_of x y) → value z ≡ value x *ε value y
-mul_value x y z r s m = fraction-equal z.num z.den _ _ (some z m.reduced) (some_product x y r s) m.same ∙ sym (fraction-multiply x.num x.den y.num y.den (some x r) (some y s))
+mul_value x y z r s m = fraction-equal z.num z.den _ _ (some z m.reduced) (some_product x y r s) m.same
+    ∙ sym (fraction-multiply x.num x.den y.num y.den (some x r) (some y s))
 
 opposite_value : (y : Terms) → IsReduced y → value (opposite y) ≡ number_negate (value y)
 unfolding opposite
@@ -79,7 +81,8 @@ inverse_times_of (negsuc n) d s p h =
     ∙ fraction-equal _ _ (pos 1) (pos 1) (positive_nonzero _ (product_positive (pos (suc n)) d (omega (arith, ints)) p)) one_above (ap (λ a. a *ℤ pos 1) (signs d (pos (suc n))) ∙ crossed d (pos (suc n)))
     ∙ one_is
 
-div_value : (x y z : Terms) → IsReduced x → IsReduced y → y.num ≢ pos 0 → ¬ (value y ≡ number_zero) → Makes z (product_of x (inverse y)) → value z ≡ value x /ε value y
+div_value : (x y z : Terms) → IsReduced x → IsReduced y → y.num ≢ pos 0 → ¬ (value y ≡ number_zero) → Makes z (product_of x (inverse y))
+    → value z ≡ value x /ε value y
 unfolding inverse
 div_value x y z r s h n m =
     sym (divide_unique (value x) (value y) (value z) n
@@ -148,7 +151,8 @@ pub record Result_is (z : Parts) (v : Number) : Type 0 where
 made : (z : Parts) (p : Terms) (v : Number) → z ≡ single p → IsReduced p → value p ≡ v → Result_is z v
 made z p v e r h = record { stored = stored_of z p e r; value = value_from z p e ∙ h }
 
-run : (op : Op) (x y z : Parts) → IsFraction x → IsFraction y → MayTake op y → plain.written op x y ≡ Some z → Result_is z (exact_result op (value_of x) (value_of y))
+run : (op : Op) (x y z : Parts) → IsFraction x → IsFraction y → MayTake op y → plain.written op x y ≡ Some z
+    → Result_is z (exact_result op (value_of x) (value_of y))
 run Add x y z f g t h =
     let m = mapped _ z h in
     let s = add_says _ _ m.pair f.reduced g.reduced m.is in
@@ -157,7 +161,8 @@ run Sub x y z f g t h =
     let m = mapped _ z h in
     let o = opposite_reduced _ g.reduced in
     let s = add_says _ _ m.pair f.reduced o m.is in
-    made z m.pair _ m.seen s.reduced (add_value _ _ m.pair f.reduced o s ∙ ap₂ ◌+ε◌ (sym (shown x f)) (opposite_value _ g.reduced ∙ ap number_negate (sym (shown y g))) ∙ sym (number_subtract_is _ _))
+    made z m.pair _ m.seen s.reduced (add_value _ _ m.pair f.reduced o s
+    ∙ ap₂ ◌+ε◌ (sym (shown x f)) (opposite_value _ g.reduced ∙ ap number_negate (sym (shown y g))) ∙ sym (number_subtract_is _ _))
 run Mul x y z f g t h =
     let m = mapped _ z h in
     let s = mul_says _ _ m.pair f.reduced g.reduced m.is in
@@ -167,7 +172,8 @@ run Div x y z f g t h =
     let n = not_zero _ (sym (zero_first y g) ∙ t) in
     let i = inverse_reduced _ g.reduced n in
     let s = mul_says _ _ m.pair f.reduced i m.is in
-    made z m.pair _ m.seen s.reduced (div_value _ _ m.pair f.reduced g.reduced n (value_nonzero _ _ (some _ g.reduced) n) s ∙ ap₂ ◌/ε◌ (sym (shown x f)) (sym (shown y g)))
+    made z m.pair _ m.seen s.reduced (div_value _ _ m.pair f.reduced g.reduced n (value_nonzero _ _ (some _ g.reduced) n) s
+    ∙ ap₂ ◌/ε◌ (sym (shown x f)) (sym (shown y g)))
 
 lowest_single : (n : ℤ) → lowest (n ∷ []) ≡ n
 lowest_single n = lowest-constant n
@@ -177,7 +183,8 @@ unfolding sign_of
 sign_first x f = ap sign_of f.shape ∙ ap int_sign (lowest_single (pair_of x).num)
 
 sign_is : (x : Parts) → IsFraction x → sign_of x ≡ number_sign (value_of x)
-sign_is x f = sign_first x f ∙ sym (ap number_sign (shown x f) ∙ fraction-sign _ _ (some _ f.reduced) ∙ int_sign-scale (pair_of x).num (pair_of x).den (positive_in (pair_of x).den f.reduced.positive))
+sign_is x f = sign_first x f ∙ sym (ap number_sign (shown x f) ∙ fraction-sign _ _ (some _ f.reduced)
+    ∙ int_sign-scale (pair_of x).num (pair_of x).den (positive_in (pair_of x).den f.reduced.positive))
 
 pub plain_is_exact : IsExact plain IsFraction
 plain_is_exact = record {

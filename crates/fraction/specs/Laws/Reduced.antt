@@ -14,7 +14,9 @@ use Rattle.field_core.specs.Laws.Effective.{product_positive}
 use Rattle.field_core.proofs.Divisors.{gcd_is}
 use Rattle.field_core.proofs.Coprime.{Apart, apart_from_gcd, gcd_from_apart, apart_swap, apart_parts, apart_product, quotients_apart, quotient_divides, gcd_bounds}
 
-pub mul_reduced : (x y : Terms) (num den : ℤ) → IsReduced x → IsReduced y → sized (int_div x.num (gcd_of x.num y.den) *ℤ int_div y.num (gcd_of y.num x.den)) ≡ Some num → sized (int_div x.den (gcd_of y.num x.den) *ℤ int_div y.den (gcd_of x.num y.den)) ≡ Some den → IsReduced (record { num = num; den = den })
+pub mul_reduced : (x y : Terms) (num den : ℤ) → IsReduced x → IsReduced y
+    → sized (int_div x.num (gcd_of x.num y.den) *ℤ int_div y.num (gcd_of y.num x.den)) ≡ Some num
+    → sized (int_div x.den (gcd_of y.num x.den) *ℤ int_div y.den (gcd_of x.num y.den)) ≡ Some den → IsReduced (record { num = num; den = den })
 mul_reduced x y num den p q e f =
     let n1 = unsigned_abs x.num in
     let d1 = unsigned_abs x.den in
@@ -42,7 +44,8 @@ mul_reduced x y num den p q e f =
       reduced = rw (num_is, den_is) (gcd_from_apart _ _ all);
     }
 
-abs_three : (u v : ℤ) → (unsigned_abs u ≡ unsigned_abs (u +ℤ v) + unsigned_abs v) ⊎ ((unsigned_abs (u +ℤ v) ≡ unsigned_abs u + unsigned_abs v) ⊎ (unsigned_abs v ≡ unsigned_abs u + unsigned_abs (u +ℤ v)))
+abs_three : (u v : ℤ) → (unsigned_abs u ≡ unsigned_abs (u +ℤ v) + unsigned_abs v)
+    ⊎ ((unsigned_abs (u +ℤ v) ≡ unsigned_abs u + unsigned_abs v) ⊎ (unsigned_abs v ≡ unsigned_abs u + unsigned_abs (u +ℤ v)))
 abs_three (pos a) (pos b) = inr (inl refl)
 abs_three (pos a) (negsuc b) = elim (cases_lt a (suc b)) [ inl h ↦ inr (inr (omega (arith, ints))) | inr h ↦ inl (omega (arith, ints)) ]
 abs_three (negsuc a) (pos b) = elim (cases_lt b (suc a)) [ inl h ↦ inl (omega (arith, ints)) | inr h ↦ inr (inr (omega (arith, ints))) ]
@@ -62,7 +65,10 @@ dvd_first d u v h k =
 dvd_second : (d : ℕ) (u v : ℤ) → d ∣ unsigned_abs (u +ℤ v) → d ∣ unsigned_abs u → d ∣ unsigned_abs v
 dvd_second d u v h k = dvd_first d v u (rw (+ℤ_comm v u) h) k
 
-pub add_reduced : (x y : Terms) (u v t den : ℤ) → IsReduced x → IsReduced y → sized (x.num *ℤ int_div y.den (gcd_of x.den y.den)) ≡ Some u → sized (y.num *ℤ int_div x.den (gcd_of x.den y.den)) ≡ Some v → sized (u +ℤ v) ≡ Some t → sized (int_div x.den (gcd_of x.den y.den) *ℤ int_div y.den (gcd_of t (gcd_of x.den y.den))) ≡ Some den → IsReduced (record { num = int_div t (gcd_of t (gcd_of x.den y.den)); den = den })
+pub add_reduced : (x y : Terms) (u v t den : ℤ) → IsReduced x → IsReduced y → sized (x.num *ℤ int_div y.den (gcd_of x.den y.den)) ≡ Some u
+    → sized (y.num *ℤ int_div x.den (gcd_of x.den y.den)) ≡ Some v → sized (u +ℤ v) ≡ Some t
+    → sized (int_div x.den (gcd_of x.den y.den) *ℤ int_div y.den (gcd_of t (gcd_of x.den y.den))) ≡ Some den
+    → IsReduced (record { num = int_div t (gcd_of t (gcd_of x.den y.den)); den = den })
 add_reduced x y u v t den p q eu ev et ed =
     let n1 = unsigned_abs x.num in
     let d1 = unsigned_abs x.den in

@@ -27,7 +27,8 @@ pub inverse_reduced : (x : Terms) → IsReduced x → x.num ≢ pos 0 → IsRedu
 unfolding inverse
 inverse_reduced x r h = turned x.num x.den r h
 
-pub turned_below : (n d r s : ℤ) → IsReduced (record { num = n; den = d }) → n <ℤ pos 0 → r ≡ neg_ℤ n → s ≡ neg_ℤ d → IsReduced (record { num = s; den = r })
+pub turned_below : (n d r s : ℤ) → IsReduced (record { num = n; den = d }) → n <ℤ pos 0 → r ≡ neg_ℤ n → s ≡ neg_ℤ d
+    → IsReduced (record { num = s; den = r })
 turned_below (pos n) d r s R h e f = absurd (omega (arith, ints))
 turned_below (negsuc n) d r s R h e f = rw (e, f) (turned (negsuc n) d R (λ g. cc))
 

@@ -43,4 +43,5 @@ same_through x y v some h k =
     let left : (x.num *ℤ y.den) *ℤ v.den ≡ (x.num *ℤ v.den) *ℤ y.den = simp ring in
     let right : (y.num *ℤ x.den) *ℤ v.den ≡ (y.num *ℤ v.den) *ℤ x.den = simp ring in
     let middle : (v.num *ℤ x.den) *ℤ y.den ≡ (v.num *ℤ y.den) *ℤ x.den = simp ring in
-    *ℤ_cancel (x.num *ℤ y.den) (y.num *ℤ x.den) v.den some (left ∙ ap (λ z. z *ℤ y.den) h ∙ middle ∙ sym (ap (λ z. z *ℤ x.den) k) ∙ sym right)
+    *ℤ_cancel (x.num *ℤ y.den) (y.num *ℤ x.den) v.den some (left ∙ ap (λ z. z *ℤ y.den) h ∙ middle ∙ sym (ap (λ z. z *ℤ x.den) k)
+    ∙ sym right)

@@ -31,7 +31,8 @@ zero_divide x = number_divide_is number_zero x ∙ number_zero_multiply _
 module _ (K : Kind) (G H : StoredGraph) (j : ℕ) where
   -- the new weights, by value
   abbrev pub WeightsFollow : Type 0
-  WeightsFollow = (l : ℕ) → is_live G l ≡ true → l ≢ j → value_of (weight K H l) ≡ value_of (weight K G l) +ε value_of (weight K G j) *ε value_of (edge K G j l)
+  WeightsFollow = (l : ℕ) → is_live G l ≡ true → l ≢ j
+      → value_of (weight K H l) ≡ value_of (weight K G l) +ε value_of (weight K G j) *ε value_of (edge K G j l)
 
   -- the new edges, by value
   abbrev pub EdgesFollow : Type 0
@@ -39,7 +40,8 @@ module _ (K : Kind) (G H : StoredGraph) (j : ℕ) where
       (l k : ℕ) → is_live G l ≡ true → l ≢ j → is_live G k ≡ true → k ≢ j → l ≢ k
       → value_of (edge K H l k) ≡ (value_of (edge K G l k) +ε value_of (edge K G l j) *ε value_of (edge K G j k)) /ε (number_one -ε value_of (edge K G l j) *ε value_of (edge K G j l))
 
-  module _ (live : is_live G j ≡ true) (same_size : size H ≡ size G) (live_after : (i : ℕ) → is_live H i ≡ dropping j (is_live G) i) (weights : WeightsFollow) (edges : EdgesFollow) where
+  module _ (live : is_live G j ≡ true) (same_size : size H ≡ size G) (live_after : (i : ℕ)
+      → is_live H i ≡ dropping j (is_live G) i) (weights : WeightsFollow) (edges : EdgesFollow) where
     live_in : (l : ℕ) → is_live G l ≡ true → l ≢ j → is_live H l ≡ true
     live_in l h n = live_after l ∙ dropping_other j (is_live G) l n ∙ h
 
@@ -52,7 +54,8 @@ module _ (K : Kind) (G H : StoredGraph) (j : ℕ) where
     weight_here : (l : ℕ) → is_live G l ≡ true → l ≢ j → (graph_of K H).weight l ≡ (without number_field (graph_of K G) j).weight l
     weight_here l h n =
         weight_in K H l (live_in l h n) ∙ weights l h n
-        ∙ sym (weight_after (graph_of K G) j l n ∙ ap₂ ◌+ε◌ (weight_in K G l h) (ap₂ ◌*ε◌ (weight_in K G j live) (edge_in K G j l live h (λ e. n (sym e)))))
+        ∙ sym (weight_after (graph_of K G) j l n
+        ∙ ap₂ ◌+ε◌ (weight_in K G l h) (ap₂ ◌*ε◌ (weight_in K G j live) (edge_in K G j l live h (λ e. n (sym e)))))
 
     same_weight : (l : ℕ) → (graph_of K H).weight l ≡ (without number_field (graph_of K G) j).weight l
     same_weight l = elim (same_or_not l j) [
@@ -60,22 +63,29 @@ module _ (K : Kind) (G H : StoredGraph) (j : ℕ) where
       | inr n ↦ elim (true_or_false (is_live G l)) [
         | inl h ↦ weight_here l h n
         | inr h ↦ weight_off K H l (dead_in l h n)
-            ∙ sym (weight_after (graph_of K G) j l n ∙ ap₂ ◌+ε◌ (weight_off K G l h) (ap (λ v. (graph_of K G).weight j *ε v) (edge_off_right K G j l h) ∙ number_multiply_zero _) ∙ number_add_zero number_zero)
+            ∙ sym (weight_after (graph_of K G) j l n
+            ∙ ap₂ ◌+ε◌ (weight_off K G l h) (ap (λ v. (graph_of K G).weight j *ε v) (edge_off_right K G j l h) ∙ number_multiply_zero _)
+            ∙ number_add_zero number_zero)
       ]
     ]
 
-    edge_here : (l k : ℕ) → is_live G l ≡ true → l ≢ j → is_live G k ≡ true → k ≢ j → l ≢ k → (graph_of K H).edge l k ≡ (without number_field (graph_of K G) j).edge l k
+    edge_here : (l k : ℕ) → is_live G l ≡ true → l ≢ j → is_live G k ≡ true → k ≢ j → l ≢ k
+        → (graph_of K H).edge l k ≡ (without number_field (graph_of K G) j).edge l k
     edge_here l k h n i m q =
         let jk = edge_in K G j k live i (λ e. m (sym e)) in
         let lj = edge_in K G l j h live n in
         let jl = edge_in K G j l live h (λ e. n (sym e)) in
         edge_in K H l k (live_in l h n) (live_in k i m) q ∙ edges l k h n i m q
-        ∙ sym (edge_after (graph_of K G) j l k n m q ∙ ap₂ ◌/ε◌ (ap₂ ◌+ε◌ (edge_in K G l k h i q) (ap₂ ◌*ε◌ lj jk)) (ap (λ v. number_one -ε v) (ap₂ ◌*ε◌ lj jl)))
+        ∙ sym (edge_after (graph_of K G) j l k n m q
+        ∙ ap₂ ◌/ε◌ (ap₂ ◌+ε◌ (edge_in K G l k h i q) (ap₂ ◌*ε◌ lj jk)) (ap (λ v. number_one -ε v) (ap₂ ◌*ε◌ lj jl)))
 
-    no_edge : (l k : ℕ) → l ≢ j → k ≢ j → l ≢ k → (graph_of K G).edge l k ≡ number_zero → ((graph_of K G).edge l j ≡ number_zero) ⊎ ((graph_of K G).edge j k ≡ number_zero) → (without number_field (graph_of K G) j).edge l k ≡ number_zero
-    no_edge l k n m q e z = edge_after (graph_of K G) j l k n m q ∙ ap₂ ◌/ε◌ (ap₂ ◌+ε◌ e (nothing z) ∙ number_add_zero number_zero) refl ∙ zero_divide _
+    no_edge : (l k : ℕ) → l ≢ j → k ≢ j → l ≢ k → (graph_of K G).edge l k ≡ number_zero → ((graph_of K G).edge l j ≡ number_zero)
+        ⊎ ((graph_of K G).edge j k ≡ number_zero) → (without number_field (graph_of K G) j).edge l k ≡ number_zero
+    no_edge l k n m q e z = edge_after (graph_of K G) j l k n m q ∙ ap₂ ◌/ε◌ (ap₂ ◌+ε◌ e (nothing z) ∙ number_add_zero number_zero) refl
+        ∙ zero_divide _
       where
-        nothing : ((graph_of K G).edge l j ≡ number_zero) ⊎ ((graph_of K G).edge j k ≡ number_zero) → (graph_of K G).edge l j *ε (graph_of K G).edge j k ≡ number_zero
+        nothing : ((graph_of K G).edge l j ≡ number_zero) ⊎ ((graph_of K G).edge j k ≡ number_zero)
+            → (graph_of K G).edge l j *ε (graph_of K G).edge j k ≡ number_zero
         nothing (inl y) = ap (λ v. v *ε (graph_of K G).edge j k) y ∙ number_zero_multiply _
         nothing (inr y) = ap (λ v. (graph_of K G).edge l j *ε v) y ∙ number_multiply_zero _
 

@@ -32,7 +32,8 @@ nothing x y e = rw e (*ℤ-zero x)
 before : (p : List ℤ) (k n : ℕ) → n ≤ k → written_coefficient p one_polynomial k n ≡ Some (pos 0)
 before p k zero h = coefficient_none p one_polynomial k
 before p k (suc n) h =
-    coefficient_zero p one_polynomial k n (nothing (coefficient p n) _ (monomial-other (pos 1) 0 (k - n) (apart k n (omega arith)))) ∙ before p k n (omega arith)
+    coefficient_zero p one_polynomial k n (nothing (coefficient p n) _ (monomial-other (pos 1) 0 (k - n) (apart k n (omega arith))))
+    ∙ before p k n (omega arith)
 
 own : (p : List ℤ) (k : ℕ) → coefficient p k *ℤ coefficient one_polynomial (k - k) ≡ coefficient p k
 own p k = let none : k - k ≡ 0 = omega arith in rw (none, monomial-at (pos 1) 0 (omega arith)) (int_multiply_one (coefficient p k))
@@ -42,7 +43,8 @@ at_power p k P =
     let small = sized_small (coefficient p k) (P.sizes k) in
     let next : k + 1 ≡ suc k = omega arith in
     ap (written_coefficient p one_polynomial k) next
-    ∙ coefficient_next p one_polynomial k k (pos 0) (coefficient p k) (Some (coefficient p k)) (before p k k (omega arith)) (ap sized (own p k) ∙ small) (ap sized (sum (coefficient p k)) ∙ small)
+    ∙ coefficient_next p one_polynomial k k (pos 0) (coefficient p k) (Some (coefficient p k)) (before p k k (omega arith)) (ap sized (own p k)
+    ∙ small) (ap sized (sum (coefficient p k)) ∙ small)
   where
     sum : (x : ℤ) → pos 0 +ℤ x ≡ x
     sum x = omega (arith, ints)

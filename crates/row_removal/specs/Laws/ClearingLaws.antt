@@ -43,7 +43,8 @@ unfolding numerator_at
 numerator_is m r k P h = All-get_or IsPolynomial r.numerators k zero_polynomial (omega (arith, P.count)) P.numerators
 
 -- numerators that are polynomials at each place
-pub each_is : (m : ℕ) (r : StoredRow) → length r.numerators ≡ m → ((k : ℕ) → k < m → IsPolynomial (numerator_at r k)) → All IsPolynomial r.numerators
+pub each_is : (m : ℕ) (r : StoredRow) → length r.numerators ≡ m → ((k : ℕ) → k < m → IsPolynomial (numerator_at r k))
+    → All IsPolynomial r.numerators
 unfolding numerator_at
 each_is m r count each = All-from_get_or IsPolynomial r.numerators zero_polynomial (λ k h. each k (omega (arith, count)))
 
@@ -56,7 +57,8 @@ factor_some p c q s some e = some (lowest-same p _ s ∙ lowest-multiply c q ∙
 -- a row whose polynomials are those of another, each by the same factor
 factor_values : (m : ℕ) (r t : StoredRow) (c : List ℤ) → IsProperRow m r → IsNonZero c → length t.numerators ≡ m
     → Same r.denominator (poly_multiply c t.denominator) → IsPolynomial t.denominator
-    → ((k : ℕ) → k < m → Same (numerator_at r k) (poly_multiply c (numerator_at t k))) → ((k : ℕ) → k < m → IsPolynomial (numerator_at t k)) → HasValues m r t
+    → ((k : ℕ) → k < m → Same (numerator_at r k) (poly_multiply c (numerator_at t k))) → ((k : ℕ) → k < m → IsPolynomial (numerator_at t k))
+    → HasValues m r t
 factor_values m r t c P some count below held above each =
     let left = factor_some r.denominator c t.denominator below P.some in
     record {
@@ -152,7 +154,8 @@ order_low r count some =
 above_none : (h : ℕ) → 0 < h → ¬ (pos h ≡ pos 0)
 above_none h i e = let f : h ≡ 0 = ap unsigned_abs e in omega arith
 
-lowered_times : (h k : ℕ) → k ≤ 32 → (p : List ℤ) → IsPolynomial p → h ∣ content p → k ≤ order p → Same p (poly_multiply (monomial (pos h) k) (lowered k (pos h) p))
+lowered_times : (h k : ℕ) → k ≤ 32 → (p : List ℤ) → IsPolynomial p → h ∣ content p → k ≤ order p
+    → Same p (poly_multiply (monomial (pos h) k) (lowered k (pos h) p))
 lowered_times h k low p held divisor within = same_trans p _ _ (lowered_factors k h p held.count divisor within) (same_sym _ _ (monomial-multiply (pos h) k (lowered k (pos h) p) low))
 
 by_at : (k : ℕ) (c : ℤ) (r : StoredRow) (i : ℕ) → i < length r.numerators → numerator_at (row_by k c r) i ≡ lowered k c (numerator_at r i)
@@ -166,7 +169,8 @@ lowered_values m r P =
     let k = row_order r in
     let low = order_low r P.denominator.count P.some in
     let some = content_some r P.some in
-    let by : (i : ℕ) → i < m → numerator_at (row_by k (pos h) r) i ≡ lowered k (pos h) (numerator_at r i) = λ i b. by_at k (pos h) r i (omega (arith, P.count)) in
+    let by : (i : ℕ) → i < m → numerator_at (row_by k (pos h) r) i
+    ≡ lowered k (pos h) (numerator_at r i) = λ i b. by_at k (pos h) r i (omega (arith, P.count)) in
     factor_values m r (row_by k (pos h) r) (monomial (pos h) k) P (monomial_some (pos h) k low (above_none h some)) (length-map r.numerators (lowered k (pos h)) ∙ P.count)
     (lowered_times h k low r.denominator P.denominator (content_first (content r.denominator) r.numerators) (order_first (order r.denominator) r.numerators))
     (lowered_valid k (pos h) r.denominator P.denominator)

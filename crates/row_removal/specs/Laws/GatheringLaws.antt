@@ -101,7 +101,8 @@ next_is c d h i = record {
     whole : unsigned_abs (int_div c (pos g) *ℤ d) ≡ a * (b / g)
     whole = size ∙ shuffle (a / g) (b / g) g a b (sym (mul-div_cancel' g (gcd_is a b).0)) (sym (mul-div_cancel' g (gcd_is a b).1))
 
-module _ (G : StoredGraph) (row : Option ℕ) (m : ℕ) (held : (k : ℕ) → k < m → IsQuotient (given G row k)) (constant : (k : ℕ) → k < m → IsConstant (given G row k).denominator) where
+module _ (G : StoredGraph) (row : Option ℕ) (m : ℕ) (held : (k : ℕ) → k < m → IsQuotient (given G row k)) (constant : (k : ℕ) → k < m
+    → IsConstant (given G row k).denominator) where
   pub d_positive : (k : ℕ) → k < m → pos 0 <ℤ given_below G row k
   d_positive k h = below_positive (given G row k) (held k h) (constant k h)
 
@@ -120,7 +121,8 @@ module _ (G : StoredGraph) (row : Option ℕ) (m : ℕ) (held : (k : ℕ) → k 
   unfolding with_denominator
   with_none k c h = rw h refl
 
-  with_some : (k : ℕ) (c : ℤ) → is_zero (given G row k) ≡ false → with_denominator G row k c ≡ at (place_of row k) Mul (sized (int_div c (gcd_of c (given_below G row k)) *ℤ given_below G row k))
+  with_some : (k : ℕ) (c : ℤ) → is_zero (given G row k) ≡ false
+      → with_denominator G row k c ≡ at (place_of row k) Mul (sized (int_div c (gcd_of c (given_below G row k)) *ℤ given_below G row k))
   unfolding with_denominator
   with_some k c h = rw h refl
 
@@ -171,12 +173,15 @@ module _ (G : StoredGraph) (row : Option ℕ) (m : ℕ) (held : (k : ℕ) → k 
         none x = omega (arith, ints)
 
     -- the common denominator is the own one, times the factor
-    below_times : (k : ℕ) → k < m → is_zero (given G row k) ≡ false → Same (monomial c 0) (poly_multiply (monomial (factor k) 0) (given G row k).denominator)
+    below_times : (k : ℕ) → k < m → is_zero (given G row k) ≡ false
+        → Same (monomial c 0) (poly_multiply (monomial (factor k) 0) (given G row k).denominator)
     below_times k h z i =
         let d = (given G row k).denominator in
         elim (true_or_none i) [
-          | inl e ↦ rw e (monomial-at c 0 (omega arith) ∙ sym (factor_times k h z) ∙ sym (monomial-multiply (factor k) 0 d (omega arith) 0 ∙ at_power 0))
-          | inr e ↦ monomial-other c 0 i (λ f. absurd (omega arith)) ∙ sym (monomial-multiply (factor k) 0 d (omega arith) i ∙ at_power i ∙ ap (λ x. factor k *ℤ x) (constant k h i e) ∙ nothing (factor k))
+          | inl e ↦ rw e (monomial-at c 0 (omega arith) ∙ sym (factor_times k h z)
+              ∙ sym (monomial-multiply (factor k) 0 d (omega arith) 0 ∙ at_power 0))
+          | inr e ↦ monomial-other c 0 i (λ f. absurd (omega arith))
+              ∙ sym (monomial-multiply (factor k) 0 d (omega arith) i ∙ at_power i ∙ ap (λ x. factor k *ℤ x) (constant k h i e) ∙ nothing (factor k))
         ]
       where
         true_or_none : (i : ℕ) → (i ≡ 0) ⊎ (0 < i)
@@ -185,7 +190,8 @@ module _ (G : StoredGraph) (row : Option ℕ) (m : ℕ) (held : (k : ℕ) → k 
         nothing : (x : ℤ) → x *ℤ pos 0 ≡ pos 0
         nothing x = omega (arith, ints)
 
-        at_power : (i : ℕ) → coefficient (from_factors (factor k) 0 (given G row k).denominator) i ≡ factor k *ℤ coefficient (given G row k).denominator i
+        at_power : (i : ℕ) → coefficient (from_factors (factor k) 0 (given G row k).denominator) i
+            ≡ factor k *ℤ coefficient (given G row k).denominator i
         at_power i = ap (coefficient (from_factors (factor k) 0 (given G row k).denominator)) (same i) ∙ factors-at (factor k) 0 (given G row k).denominator i
           where
             same : (i : ℕ) → i ≡ i + 0
@@ -195,7 +201,8 @@ module _ (G : StoredGraph) (row : Option ℕ) (m : ℕ) (held : (k : ℕ) → k 
     unfolding gathered_numerator
     numerator_none k h = rw h refl
 
-    numerator_some : (k : ℕ) → is_zero (given G row k) ≡ false → gathered_numerator G row c k ≡ at (place_of row k) Mul (sized_product (given G row k).numerator (monomial (factor k) 0))
+    numerator_some : (k : ℕ) → is_zero (given G row k) ≡ false
+        → gathered_numerator G row c k ≡ at (place_of row k) Mul (sized_product (given G row k).numerator (monomial (factor k) 0))
     unfolding gathered_numerator factor
     numerator_some k h = rw h refl
 
@@ -229,7 +236,8 @@ pub record IsGatheredRow (G : StoredGraph) (row : Option ℕ) (r : StoredRow) : 
   pub proper : IsProperRow (size G) r
   pub value : (k : ℕ) → k < size G → row_value r k ≡ value_of (given G row k)
 
-pub row_is_gathered : (G : StoredGraph) (row : Option ℕ) → ((k : ℕ) → k < size G → IsQuotient (given G row k)) → ((k : ℕ) → k < size G → IsConstant (given G row k).denominator)
+pub row_is_gathered : (G : StoredGraph) (row : Option ℕ) → ((k : ℕ) → k < size G → IsQuotient (given G row k))
+    → ((k : ℕ) → k < size G → IsConstant (given G row k).denominator)
     → (r : StoredRow) → gathered_row G row ≡ Ok r → IsGatheredRow G row r
 unfolding gathered_row numerator_at
 row_is_gathered G row held constant r h =

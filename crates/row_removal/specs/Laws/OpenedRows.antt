@@ -31,7 +31,8 @@ module _ (G : StoredGraph) (S : AreStored quotients IsQuotient G) (C : HasConsta
 
   weight_same : (k : ℕ) → (graph_of quotients (rows_graph s)).weight k ≡ (graph_of quotients G).weight k
   weight_same k = elim (true_or_false (is_live G k)) [
-    | inl h ↦ weight_in quotients (rows_graph s) k (live_same k ∙ h) ∙ weight_number s A.proper k (omega (arith, opened_size, within k h)) ∙ A.weights k (within k h) ∙ sym (weight_in quotients G k h)
+    | inl h ↦ weight_in quotients (rows_graph s) k (live_same k ∙ h) ∙ weight_number s A.proper k (omega (arith, opened_size, within k h))
+        ∙ A.weights k (within k h) ∙ sym (weight_in quotients G k h)
     | inr h ↦ weight_off quotients (rows_graph s) k (live_same k ∙ h) ∙ sym (weight_off quotients G k h)
   ]
 

@@ -43,7 +43,8 @@ module _ (m : ℕ) (r : StoredRow) (P : IsProperRow m r) where
 -- ---- rows one after the other
 
 module _ (m : ℕ) where
-  flat_count : (rows : List StoredRow) → ((l : ℕ) → l < length rows → length (row_quotients (get_or rows l (zero_row 0))) ≡ m) → length (flat_map row_quotients rows) ≡ length rows * m
+  flat_count : (rows : List StoredRow) → ((l : ℕ) → l < length rows → length (row_quotients (get_or rows l (zero_row 0))) ≡ m)
+      → length (flat_map row_quotients rows) ≡ length rows * m
   flat_count [] h = none m
     where
       none : (m : ℕ) → 0 ≡ 0 * m
@@ -53,13 +54,15 @@ module _ (m : ℕ) where
       let rest = flat_count rows (λ l i. h (suc l) (omega arith)) in
       omega (arith, length-append (row_quotients r) (flat_map row_quotients rows), first, rest)
 
-  flat_at : (rows : List StoredRow) → ((l : ℕ) → l < length rows → length (row_quotients (get_or rows l (zero_row 0))) ≡ m) → (l k : ℕ) → l < length rows → k < m
+  flat_at : (rows : List StoredRow) → ((l : ℕ) → l < length rows → length (row_quotients (get_or rows l (zero_row 0))) ≡ m) → (l k : ℕ)
+      → l < length rows → k < m
       → get_or (flat_map row_quotients rows) (l * m + k) zero_quotient ≡ get_or (row_quotients (get_or rows l (zero_row 0))) k zero_quotient
   flat_at [] h l k i b = absurd (omega arith)
   flat_at (r ∷ rows) h zero k i b =
       let first = h 0 (omega arith) in
       let at : 0 * m + k ≡ k = omega arith in
-      ap (λ n. get_or (row_quotients r ++ flat_map row_quotients rows) n zero_quotient) at ∙ get_or-append (row_quotients r) (flat_map row_quotients rows) zero_quotient k (omega arith)
+      ap (λ n. get_or (row_quotients r ++ flat_map row_quotients rows) n zero_quotient) at
+      ∙ get_or-append (row_quotients r) (flat_map row_quotients rows) zero_quotient k (omega arith)
   flat_at (r ∷ rows) h (suc l) k i b =
       let first = h 0 (omega arith) in
       let at : suc l * m + k ≡ length (row_quotients r) + (l * m + k) = omega arith in
@@ -93,7 +96,8 @@ module _ (s : StoredRows) (P : AreProperRows s) where
   pub weight_number : (l : ℕ) → l < rows_size s → value_of (weight quotients (rows_graph s) l) ≡ row_value s.weights l
   weight_number l h = ap value_of (weight_seen l h) ∙ value_at (rows_size s) s.weights P.weights l h
 
-  pub edge_number : (l k : ℕ) → l < rows_size s → k < rows_size s → l ≢ k → value_of (edge quotients (rows_graph s) l k) ≡ row_value (row_at s l) k
+  pub edge_number : (l k : ℕ) → l < rows_size s → k < rows_size s → l ≢ k
+      → value_of (edge quotients (rows_graph s) l k) ≡ row_value (row_at s l) k
   edge_number l k h i q = ap value_of (edge_seen l k h i q) ∙ value_at (rows_size s) (row_at s l) (each_row l h) k i
 
   pub rows_square : IsSquare (size (rows_graph s)) (length (rows_graph s).weights) (length (rows_graph s).edges)

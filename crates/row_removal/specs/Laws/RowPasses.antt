@@ -76,7 +76,8 @@ zero_row_proper m = record {
 
 zero_row_value : (m k : ℕ) → k < m → row_value (zero_row m) k ≡ number_zero
 unfolding zero_row numerator_at
-zero_row_value m k h = ap (λ n. quotient n one_polynomial) (get_or-replicate m k zero_polynomial zero_polynomial h) ∙ zero_value zero_polynomial one_polynomial one_some zero_lowest
+zero_row_value m k h = ap (λ n. quotient n one_polynomial) (get_or-replicate m k zero_polynomial zero_polynomial h)
+    ∙ zero_value zero_polynomial one_polynomial one_some zero_lowest
 
 module _ (s : StoredRows) (j : ℕ) (P : AreProperRows s) (j_in : j < rows_size s) where
   pub row_proper : (l : ℕ) → l < rows_size s → IsProperRow (rows_size s) (row_at s l)
@@ -134,7 +135,8 @@ module _ (s : StoredRows) (j : ℕ) (P : AreProperRows s) (j_in : j < rows_size 
   scale_product d h = at_ok (Weight j) Mul _ d h
 
   -- what is written of the weights is proper
-  pub raw_weights : (raw : StoredRow) → each_below (rows_size s) (new_weight s j) ≡ Ok raw.numerators → new_scale s j ≡ Ok raw.denominator → IsProperRow (rows_size s) raw
+  pub raw_weights : (raw : StoredRow) → each_below (rows_size s) (new_weight s j) ≡ Ok raw.numerators → new_scale s j ≡ Ok raw.denominator
+      → IsProperRow (rows_size s) raw
   unfolding numerator_at
   raw_weights raw N scale =
       let D = scale_product raw.denominator scale in
@@ -201,7 +203,8 @@ module _ (s : StoredRows) (j : ℕ) (P : AreProperRows s) (j_in : j < rows_size 
   -- a new row of edges
   pub record RowIs (l : ℕ) (r : StoredRow) : Type 0 where
     pub proper : IsProperRow (rows_size s) r
-    pub value : (k : ℕ) → k < rows_size s → is_gone (rows_graph s) j l ≡ false → (is_gone (rows_graph s) j k || k == l) ≡ false → row_value r k ≡ edge_number l k
+    pub value : (k : ℕ) → k < rows_size s → is_gone (rows_graph s) j l ≡ false → (is_gone (rows_graph s) j k || k == l) ≡ false
+        → row_value r k ≡ edge_number l k
 
   module _ (l : ℕ) (l_in : l < rows_size s) (d : List ℤ) (D : Three (sized_product (below s j l) (below s j j)) (sized_product (above s j l j) (above s j j l)) less d) where
     loss_sum : Same d (poly_add D.a (poly_negate D.b))
@@ -257,7 +260,8 @@ module _ (s : StoredRows) (j : ℕ) (P : AreProperRows s) (j_in : j < rows_size 
     unfolding row_over
     zeros_over e = rw e refl
 
-    others_over : list_all is_zero_integer d ≡ false → row_over s j l d ≡ (each_below (rows_size s) (new_numerator s j l) >>= (λ ns. Ok (cleared s.last (record { numerators = ns; denominator = d }))))
+    others_over : list_all is_zero_integer d ≡ false
+        → row_over s j l d ≡ (each_below (rows_size s) (new_numerator s j l) >>= (λ ns. Ok (cleared s.last (record { numerators = ns; denominator = d }))))
     unfolding row_over
     others_over e = rw e refl
 
@@ -271,7 +275,8 @@ module _ (s : StoredRows) (j : ℕ) (P : AreProperRows s) (j_in : j < rows_size 
     ]
 
   -- what is written of a row is proper
-  pub raw_row : (l : ℕ) → l < rows_size s → (r : StoredRow) → new_denominator s j l ≡ Ok r.denominator → list_all is_zero_integer r.denominator ≡ false → each_below (rows_size s) (new_numerator s j l) ≡ Ok r.numerators
+  pub raw_row : (l : ℕ) → l < rows_size s → (r : StoredRow) → new_denominator s j l ≡ Ok r.denominator
+      → list_all is_zero_integer r.denominator ≡ false → each_below (rows_size s) (new_numerator s j l) ≡ Ok r.numerators
       → IsProperRow (rows_size s) r
   unfolding raw
   raw_row l l_in r h some N = raw_proper l l_in r.denominator (denominator_parts l r.denominator h) (others_lowest r.denominator some) r.numerators N

@@ -19,11 +19,13 @@ module _ {A B : Type 0} (f : A → Option B) where
       each zero d e i = h
       each (suc k) d e i = R.each k d e (omega arith)
 
-  given_by : (x : A) (xs : List A) (ys : List B) → ((zs : List B) → map_all f xs ≡ Some zs → AreGiven xs zs) → map_all f (x ∷ xs) ≡ Some ys → AreGiven (x ∷ xs) ys
+  given_by : (x : A) (xs : List A) (ys : List B) → ((zs : List B) → map_all f xs ≡ Some zs → AreGiven xs zs) → map_all f (x ∷ xs) ≡ Some ys
+      → AreGiven (x ∷ xs) ys
   unfolding map_all
   given_by x xs ys rest h = go (f x) refl (map_all f xs) refl h
     where
-      go : (a : Option B) → f x ≡ a → (b : Option (List B)) → map_all f xs ≡ b → (a >>= (λ y. b >>= (λ zs. Some (y ∷ zs)))) ≡ Some ys → AreGiven (x ∷ xs) ys
+      go : (a : Option B) → f x ≡ a → (b : Option (List B)) → map_all f xs ≡ b → (a >>= (λ y. b >>= (λ zs. Some (y ∷ zs)))) ≡ Some ys
+          → AreGiven (x ∷ xs) ys
       go None e b g h = absurd (cc)
       go (Some y) e None g h = absurd (cc)
       go (Some y) e (Some zs) g h = subst (AreGiven (x ∷ xs)) (some_same (y ∷ zs) ys h) (given_more x xs y zs e (rest zs g))
@@ -33,7 +35,8 @@ module _ {A B : Type 0} (f : A → Option B) where
   all_given [] ys h = subst (AreGiven []) (some_same [] ys h) (record { count = refl; each = λ k d e i. absurd (omega arith) })
   all_given (x ∷ xs) ys h = given_by x xs ys (λ zs g. all_given xs zs g) h
 
-  pub from_given : (d : A) (e : B) (xs : List A) (ys : List B) → length ys ≡ length xs → ((k : ℕ) → k < length xs → f (get_or xs k d) ≡ Some (get_or ys k e)) → map_all f xs ≡ Some ys
+  pub from_given : (d : A) (e : B) (xs : List A) (ys : List B) → length ys ≡ length xs
+      → ((k : ℕ) → k < length xs → f (get_or xs k d) ≡ Some (get_or ys k e)) → map_all f xs ≡ Some ys
   unfolding map_all
   from_given d e [] [] h each = refl
   from_given d e [] (y ∷ ys) h each = absurd (omega arith)
