@@ -1,8 +1,8 @@
 -- What a decimal is worth, by what is read of it.
-use Rattle.std.proofs.Common.{◌≡◌, ◌≢◌, ℕ, Bool, true, false, List, [], pos, Some, None, Result, Ok, Err, IfOk, IfErr, refl, sym, subst}
+use Rattle.std.proofs.Common.{◌≡◌, ◌≢◌, ℕ, Bool, true, false, List, [], pos, Some, None, Result, Ok, Err, IfOk, IfErr, refl, sym, ap, subst}
 use Rattle.std.proofs.Common.{◌∙◌}
 use Rattle.std.specs.Option.{option_map}
-use Rattle.std.specs.Result.{result_ok}
+use Rattle.std.specs.Result.{result_ok, IsOkAnd}
 use Rattle.field_core.specs.Terms.{Terms}
 use Rattle.field_core.specs.Laws.Effective.{positive_nonzero}
 use Rattle.fraction.specs.declared.fraction.Fraction.{Fraction}
@@ -77,3 +77,8 @@ pub decimal_read : (d : Decimal) (text : List ℕ) (r : Result Fraction NumberFa
     → IfOk r (λ x. IsNumeralOf text (terms_of x)) → IfErr r (IsParseFault text) → option_map terms_of (result_ok r) ≡ decimal_value d
 decimal_read d text (Ok x) e ok err = decimal_found d text (terms_of x) e ok
 decimal_read d text (Err f) e ok err = decimal_fault d text f e err
+
+-- what is read of a numeral
+pub numeral_read : (t : Terms) (r : Result Fraction NumberFault) → IsOkAnd r (λ x. terms_of x ≡ t) → option_map terms_of (result_ok r) ≡ Some t
+numeral_read t (Ok x) e = ap Some e
+numeral_read t (Err f) e = absurd e

@@ -141,7 +141,7 @@ impl Number for Fraction {
 }
 
 impl Fraction {
-    ghost use Rattle.std.specs.Prelude.{◌≡◌, ◌≢◌, ◌↔◌, ◌++◌, pos, IfOk, IfErr, IsOkAnd, OnOk, OnErr};
+    ghost use Rattle.std.specs.Prelude.{◌≡◌, ◌≢◌, ◌↔◌, ◌++◌, pos, Some, IfSome, IfOk, IfErr, IsOkAnd, OnOk, OnErr};
     ghost use Rattle.field_core.specs.Terms.{Terms};
     ghost use Rattle.field_core.specs.Fractions.{fraction};
     ghost use Rattle.field_core.specs.View.{terms};
@@ -176,9 +176,12 @@ impl Fraction {
         Ok(Fraction { ratio })
     }
 
-    /// The value of a text that is a decimal, or nothing where it has too many digits.
+    /// The value of a text that is a decimal, or nothing where it has too many digits. Of any other text it is what `parse`
+    /// reads: the fraction of a numeral, else nothing.
     pub fn parse_decimal(text: &[u8]) -> Option<Fraction>
-        ensures { (d : Decimal) → text.now ≡ body_text d.body → option_map terms_of result ≡ decimal_value d }
+        ensures decimal { (d : Decimal) → text.now ≡ body_text d.body → option_map terms_of result ≡ decimal_value d }
+        ensures found { IfSome result (λ x. IsNumeralOf text.now (terms_of x)) }
+        ensures only { (t : Terms) → IsNumeralOf text.now t → option_map terms_of result ≡ Some t }
     {
         Fraction::parse(text).ok()
     }
