@@ -25,11 +25,16 @@ fn names(alloc: Global) -> Result<List<Text>, NoMemory> {
 
 /// An answer has this status, and this text.
 fn expect(rt: &impl Abort, answer: &Refusal, status: u8, text: &str) {
-    assert_eq!(rt; answer.line.as_slice(), text.as_bytes(), "{text}");
-    assert_eq!(rt; answer.cause.code(), status, "{text}");
+    expect_text(rt, answer.line.as_slice(), text);
+    assert!(rt; answer.cause.code() == status, "{text}");
 }
 
-const MALFORMED: [(CaseFault, &str); 26] = [
+/// A line is this text.
+fn expect_text(rt: &impl Abort, line: &[u8], text: &str) {
+    assert!(rt; line == text.as_bytes(), "{text}");
+}
+
+const MALFORMED: &[(CaseFault, &str)] = &[
     (CaseFault::NoHypothesis, "malformed: case: no hypothesis\n"),
     (CaseFault::NameForm(0), "malformed: case: name 1\n"),
     (
@@ -101,13 +106,13 @@ const MALFORMED: [(CaseFault, &str); 26] = [
 fn malformed_cases(rt: HostRuntime) -> Result<(), Fail> {
     let names = names(rt.alloc())?;
     for (fault, text) in MALFORMED {
-        let answer = case_refusal(rt.alloc(), names.as_slice(), &fault)?;
+        let answer = case_refusal(rt.alloc(), names.as_slice(), fault)?;
         expect(&rt, &answer, 3, text);
     }
     Ok(())
 }
 
-const PAST_LIMITS: [(CaseFault, &str); 5] = [
+const PAST_LIMITS: &[(CaseFault, &str)] = &[
     (CaseFault::TooMany(65), "limit: hypotheses 65\n"),
     (
         CaseFault::TooMany(18446744073709551615),
@@ -119,7 +124,7 @@ const PAST_LIMITS: [(CaseFault, &str); 5] = [
 ];
 
 /// Past the third name a place stands for the name.
-const PARTS: [(PartPlace, &str); 15] = [
+const PARTS: &[(PartPlace, &str)] = &[
     (PartPlace::Alpha, "limit: case: part alpha\n"),
     (PartPlace::Share(1), "limit: case: part share component 2\n"),
     (
@@ -168,11 +173,11 @@ const PARTS: [(PartPlace, &str); 15] = [
 fn cases_past_limits(rt: HostRuntime) -> Result<(), Fail> {
     let names = names(rt.alloc())?;
     for (fault, text) in PAST_LIMITS {
-        let answer = case_refusal(rt.alloc(), names.as_slice(), &fault)?;
+        let answer = case_refusal(rt.alloc(), names.as_slice(), fault)?;
         expect(&rt, &answer, 4, text);
     }
     for (place, text) in PARTS {
-        let fault = CaseFault::PartTooLong(place);
+        let fault = CaseFault::PartTooLong(*place);
         let answer = case_refusal(rt.alloc(), names.as_slice(), &fault)?;
         expect(&rt, &answer, 4, text);
     }
@@ -180,7 +185,7 @@ fn cases_past_limits(rt: HostRuntime) -> Result<(), Fail> {
 }
 
 /// What is too wide, and how a line ends.
-const WIDE: [(usize, Place, Op, &str); 14] = [
+const WIDE: &[(usize, Place, Op, &str)] = &[
     (
         0,
         Place::Weight(2),
@@ -233,7 +238,7 @@ const WIDE: [(usize, Place, Op, &str); 14] = [
 ];
 
 /// How a line begins.
-const BEGINNINGS: [(When, &str); 15] = [
+const BEGINNINGS: &[(When, &str)] = &[
     (When::Reading, "too wide: reading: "),
     (When::Step(0), "too wide: step 0: "),
     (When::Step(3), "too wide: step 3: "),
@@ -268,12 +273,11 @@ fn expect_both(
     let mut text = List::new(alloc);
     text.append(beginning.as_bytes())?;
     text.append(ending.as_bytes())?;
-    assert_eq!(rt;
-        answer.line.as_slice(),
-        text.as_slice(),
+    assert!(rt;
+        answer.line.as_slice() == text.as_slice(),
         "{beginning}{ending}"
     );
-    assert_eq!(rt; answer.cause.code(), 5, "{beginning}{ending}");
+    assert!(rt; answer.cause.code() == 5, "{beginning}{ending}");
     Ok(())
 }
 
@@ -283,12 +287,12 @@ fn too_wide_in_runs(rt: HostRuntime) -> Result<(), Fail> {
     let names = names(alloc)?;
     for (component, place, op, ending) in WIDE {
         let wide = WideAt {
-            component,
-            place,
-            op,
+            component: *component,
+            place: *place,
+            op: *op,
         };
         for (when, beginning) in BEGINNINGS {
-            let answer = wide_refusal(alloc, names.as_slice(), when, &wide)?;
+            let answer = wide_refusal(alloc, names.as_slice(), *when, &wide)?;
             expect_both(&rt, alloc, &answer, beginning, ending)?;
         }
     }
@@ -301,9 +305,9 @@ fn too_wide_sums_of_cases(rt: HostRuntime) -> Result<(), Fail> {
     let names = names(alloc)?;
     for (component, place, op, ending) in WIDE {
         let fault = CaseFault::Wide(WideAt {
-            component,
-            place,
-            op,
+            component: *component,
+            place: *place,
+            op: *op,
         });
         let answer = case_refusal(alloc, names.as_slice(), &fault)?;
         expect_both(&rt, alloc, &answer, "too wide: reading: ", ending)?;
@@ -311,7 +315,7 @@ fn too_wide_sums_of_cases(rt: HostRuntime) -> Result<(), Fail> {
     Ok(())
 }
 
-const LINES: [(usize, LineKind, u8, &str); 15] = [
+const LINES: &[(usize, LineKind, u8, &str)] = &[
     (
         1,
         LineKind::Unexpected,
@@ -392,14 +396,14 @@ const LINES: [(usize, LineKind, u8, &str); 15] = [
 #[test]
 fn lines_that_cannot_stand(rt: HostRuntime) -> Result<(), Fail> {
     for (line, kind, status, text) in LINES {
-        let answer = line_refusal(rt.alloc(), line, kind)?;
-        expect(&rt, &answer, status, text);
+        let answer = line_refusal(rt.alloc(), *line, *kind)?;
+        expect(&rt, &answer, *status, text);
     }
     Ok(())
 }
 
 /// Lines of commands: the number, the kind, the status and the line.
-const COMMANDS: [(usize, LineKind, u8, &str); 4] = [
+const COMMANDS: &[(usize, LineKind, u8, &str)] = &[
     (
         1,
         LineKind::WordCount,
@@ -429,8 +433,8 @@ const COMMANDS: [(usize, LineKind, u8, &str); 4] = [
 #[test]
 fn lines_of_commands_that_cannot_stand(rt: HostRuntime) -> Result<(), Fail> {
     for (line, kind, status, text) in COMMANDS {
-        let answer = commands_refusal(rt.alloc(), line, kind)?;
-        expect(&rt, &answer, status, text);
+        let answer = commands_refusal(rt.alloc(), *line, *kind)?;
+        expect(&rt, &answer, *status, text);
     }
     Ok(())
 }
@@ -443,7 +447,7 @@ fn a_kept_look_that_cannot_be_taken(rt: HostRuntime) -> Result<(), Fail> {
 }
 
 /// Numerals of JSON that are refused: the path, the fault, the status and the line.
-const JSON_NUMBERS: [(&str, NumberFault, u8, &str); 4] = [
+const JSON_NUMBERS: &[(&str, NumberFault, u8, &str)] = &[
     (
         "/alpha",
         NumberFault::Empty,
@@ -474,14 +478,14 @@ const JSON_NUMBERS: [(&str, NumberFault, u8, &str); 4] = [
 fn numerals_of_json(rt: HostRuntime) -> Result<(), Fail> {
     let alloc = rt.alloc();
     for (path, why, status, text) in JSON_NUMBERS {
-        let fault = JsonFault::Number(Text::copy(alloc, path.as_bytes())?, why);
-        expect(&rt, &json_refusal(alloc, &fault)?, status, text);
+        let fault = JsonFault::Number(Text::copy(alloc, path.as_bytes())?, *why);
+        expect(&rt, &json_refusal(alloc, &fault)?, *status, text);
     }
     Ok(())
 }
 
 /// Weights of edges of JSON that are refused: the fault, the status and the line.
-const JSON_WEIGHTS: [(ExprFault, u8, &str); 6] = [
+const JSON_WEIGHTS: &[(ExprFault, u8, &str)] = &[
     (
         ExprFault::BadByte(0),
         3,
@@ -519,8 +523,8 @@ fn weights_of_json(rt: HostRuntime) -> Result<(), Fail> {
     let alloc = rt.alloc();
     for (why, status, text) in JSON_WEIGHTS {
         let path = Text::copy(alloc, b"/components/0/edges/12/weight")?;
-        let fault = JsonFault::Expr(path, why);
-        expect(&rt, &json_refusal(alloc, &fault)?, status, text);
+        let fault = JsonFault::Expr(path, *why);
+        expect(&rt, &json_refusal(alloc, &fault)?, *status, text);
     }
     Ok(())
 }
@@ -583,7 +587,7 @@ fn json_of_no_case(rt: HostRuntime) -> Result<(), Fail> {
 #[test]
 fn json_without_memory(rt: HostRuntime) -> Result<(), Fail> {
     let answer = json_refusal(rt.alloc(), &JsonFault::NoMemory);
-    assert_eq!(rt; answer.err(), Some(NoMemory));
+    assert!(rt; answer.err() == Some(NoMemory));
     Ok(())
 }
 
@@ -599,7 +603,7 @@ fn another_kind_of_inputs(rt: HostRuntime) -> Result<(), Fail> {
 fn want_of_memory(rt: HostRuntime) -> Result<(), Fail> {
     let names = names(rt.alloc())?;
     let answer = case_refusal(rt.alloc(), names.as_slice(), &CaseFault::NoMemory);
-    assert_eq!(rt; answer.err(), Some(NoMemory));
+    assert!(rt; answer.err() == Some(NoMemory));
     Ok(())
 }
 
@@ -624,7 +628,7 @@ fn evidence(alloc: Global) -> Result<Evidence, NoMemory> {
 }
 
 /// Past the last keep a number is that of a step, and past the last step a place stands for the name.
-const BROKEN: [(usize, Reason, &str); 11] = [
+const BROKEN: &[(usize, Reason, &str)] = &[
     (1, Reason::NoLevel, "no: step 1: no level\n"),
     (2, Reason::Repeated, "no: step 2: repeated\n"),
     (2, Reason::AboveLevel, "no: step 2: above level\n"),
@@ -668,13 +672,13 @@ fn evidence_that_does_not_hold(rt: HostRuntime) -> Result<(), Fail> {
     let names = names(alloc)?;
     let proof = evidence(alloc)?;
     for (n, reason, text) in BROKEN {
-        let line = no_text(alloc, names.as_slice(), &proof, n, reason)?;
-        assert_eq!(rt; line.as_slice(), text.as_bytes(), "{text}");
+        let line = no_text(alloc, names.as_slice(), &proof, *n, *reason)?;
+        expect_text(&rt, line.as_slice(), text);
     }
     Ok(())
 }
 
-const PROOF_LINES: [(usize, ProofKind, &str); 8] = [
+const PROOF_LINES: &[(usize, ProofKind, &str)] = &[
     (
         12,
         ProofKind::Unexpected,
@@ -696,7 +700,7 @@ const PROOF_LINES: [(usize, ProofKind, &str); 8] = [
 #[test]
 fn lines_of_evidence_that_cannot_stand(rt: HostRuntime) -> Result<(), Fail> {
     for (line, kind, text) in PROOF_LINES {
-        let answer = proof_refusal(rt.alloc(), line, kind)?;
+        let answer = proof_refusal(rt.alloc(), *line, *kind)?;
         expect(&rt, &answer, 3, text);
     }
     Ok(())

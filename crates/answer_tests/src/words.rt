@@ -6,6 +6,9 @@ use std::alloc::Global;
 use std::process::Abort;
 use std::test::Fail;
 
+/// What words ask for of a case: the task, and the level where they give one.
+type Wanted = Option<(CaseTask, Option<(i128, i128)>)>;
+
 /// These words, as the program is given them.
 fn words_of(alloc: Global, words: &[&str]) -> Result<Vec<String>, NoMemory> {
     let mut copies = Vec::new(alloc);
@@ -16,7 +19,7 @@ fn words_of(alloc: Global, words: &[&str]) -> Result<Vec<String>, NoMemory> {
 }
 
 /// The task, and the parts of the level where the case is a sheet.
-fn on_case(command: &Command) -> Option<(CaseTask, Option<(i128, i128)>)> {
+fn on_case(command: &Command) -> Wanted {
     match command {
         Command::OnCase(CaseForm::Csv(alpha), task) => {
             let alpha = alpha.ratio();
@@ -29,12 +32,8 @@ fn on_case(command: &Command) -> Option<(CaseTask, Option<(i128, i128)>)> {
     }
 }
 
-fn expect(
-    rt: &impl Abort,
-    alloc: Global,
-    words: &[&str],
-    wanted: Option<(CaseTask, Option<(i128, i128)>)>,
-) -> Result<(), NoMemory> {
+/// These words ask for this.
+fn expect(rt: &impl Abort, alloc: Global, words: &[&str], wanted: Wanted) -> Result<(), NoMemory> {
     let words = words_of(alloc, words)?;
     match read_words(words.as_slice()) {
         Ok(command) => assert!(rt; on_case(&command) == wanted),
@@ -43,35 +42,19 @@ fn expect(
     Ok(())
 }
 
-#[test]
-fn words_give_values(rt: HostRuntime) -> Result<(), Fail> {
-    let alloc = rt.alloc();
-    let first = CaseTask::Test(Priority::First);
-    let last = CaseTask::Test(Priority::Last);
-    let ratio = CaseTask::Test(Priority::Ratio);
-    expect(&rt, alloc, &["help"], None)?;
-    expect(&rt, alloc, &["test"], Some((first, None)))?;
-    expect(
-        &rt,
-        alloc,
-        &["stages", "--form=json"],
-        Some((CaseTask::Stages, None)),
-    )?;
-    expect(
-        &rt,
-        alloc,
+const VALUES: &[(&[&str], Wanted)] = &[
+    (&["help"], None),
+    (&["test"], Some((CaseTask::Test(Priority::First), None))),
+    (&["stages", "--form=json"], Some((CaseTask::Stages, None))),
+    (
         &["test", "--form=json", "--priority", "last"],
-        Some((last, None)),
-    )?;
-    expect(
-        &rt,
-        alloc,
+        Some((CaseTask::Test(Priority::Last), None)),
+    ),
+    (
         &["evidence", "--priority=ratio"],
         Some((CaseTask::Evidence(Priority::Ratio), None)),
-    )?;
-    expect(
-        &rt,
-        alloc,
+    ),
+    (
         &[
             "test",
             "--alpha",
@@ -81,14 +64,19 @@ fn words_give_values(rt: HostRuntime) -> Result<(), Fail> {
             "--form",
             "csv",
         ],
-        Some((ratio, Some((1, 20)))),
-    )?;
-    expect(
-        &rt,
-        alloc,
+        Some((CaseTask::Test(Priority::Ratio), Some((1, 20)))),
+    ),
+    (
         &["test", "--form=csv", "--alpha=-6e-1"],
-        Some((first, Some((-3, 5)))),
-    )?;
+        Some((CaseTask::Test(Priority::First), Some((-3, 5)))),
+    ),
+];
+
+#[test]
+fn words_give_values(rt: HostRuntime) -> Result<(), Fail> {
+    for (words, wanted) in VALUES {
+        expect(&rt, rt.alloc(), words, *wanted)?;
+    }
     Ok(())
 }
 
@@ -104,14 +92,14 @@ fn failing_word(alloc: Global, words: &[&str]) -> Result<Option<usize>, NoMemory
 #[test]
 fn words_fail_at_a_word(rt: HostRuntime) -> Result<(), Fail> {
     let alloc = rt.alloc();
-    let rows: [(&[&str], usize); 4] = [
+    let rows: &[(&[&str], usize)] = &[
         (&[], 1),
         (&["test", "--form", "xml"], 3),
         (&["test", "--form", "csv"], 4),
         (&["test", "--alpha", "1"], 2),
     ];
     for (words, number) in rows {
-        assert_eq!(rt; failing_word(alloc, words)?, Some(number));
+        assert!(rt; failing_word(alloc, words)? == Some(*number));
     }
     Ok(())
 }
@@ -128,7 +116,7 @@ fn file_of(alloc: Global, words: &[&str]) -> Result<Option<usize>, NoMemory> {
 #[test]
 fn checks_have_a_file(rt: HostRuntime) -> Result<(), Fail> {
     let alloc = rt.alloc();
-    let rows: [(&[&str], Option<usize>); 8] = [
+    let rows: &[(&[&str], Option<usize>)] = &[
         (&["check", "proof.txt"], Some(1)),
         (&["check", ""], Some(1)),
         (&["check", "--form", "csv", "-", "--alpha=1/20"], Some(3)),
@@ -139,7 +127,7 @@ fn checks_have_a_file(rt: HostRuntime) -> Result<(), Fail> {
         (&["test"], None),
     ];
     for (words, place) in rows {
-        assert_eq!(rt; file_of(alloc, words)?, place);
+        assert!(rt; file_of(alloc, words)? == *place);
     }
     Ok(())
 }
@@ -160,17 +148,17 @@ fn samples_have_sizes_and_seeds(rt: HostRuntime) -> Result<(), Fail> {
         alloc,
         &["sample", "--seed=0", "--size", "00000000000000000064"],
     )?;
-    assert_eq!(rt; least, Some((64, 0)));
+    assert!(rt; least == Some((64, 0)));
     let greatest = sample_of(
         alloc,
         &["sample", "--size=1", "--seed=18446744073709551615"],
     )?;
-    assert_eq!(rt; greatest, Some((1, u64::MAX)));
+    assert!(rt; greatest == Some((1, u64::MAX)));
     let above = sample_of(
         alloc,
         &["sample", "--size=1", "--seed=18446744073709551616"],
     )?;
-    assert_eq!(rt; above, None);
+    assert!(rt; above == None);
     Ok(())
 }
 
@@ -189,7 +177,7 @@ fn study_of(
 #[test]
 fn studies_have_a_file(rt: HostRuntime) -> Result<(), Fail> {
     let alloc = rt.alloc();
-    let rows: [(&[&str], (bool, usize, Option<usize>)); 4] = [
+    let rows: &[(&[&str], (bool, usize, Option<usize>))] = &[
         (&["study", "looks.txt"], (false, 1, None)),
         (&["study", "--store", "a.db", "-"], (false, 3, Some(1))),
         (
@@ -199,7 +187,7 @@ fn studies_have_a_file(rt: HostRuntime) -> Result<(), Fail> {
         (&["study", "--form", "text", "study"], (false, 3, None)),
     ];
     for (words, wanted) in rows {
-        assert_eq!(rt; study_of(alloc, words)?, Ok(wanted));
+        assert!(rt; study_of(alloc, words)? == Ok(*wanted));
     }
     Ok(())
 }
@@ -207,7 +195,7 @@ fn studies_have_a_file(rt: HostRuntime) -> Result<(), Fail> {
 #[test]
 fn words_of_studies_that_fail(rt: HostRuntime) -> Result<(), Fail> {
     let alloc = rt.alloc();
-    let rows: [(&[&str], usize); 7] = [
+    let rows: &[(&[&str], usize)] = &[
         (&[], 1),
         (&["test"], 1),
         (&["study"], 2),
@@ -217,7 +205,7 @@ fn words_of_studies_that_fail(rt: HostRuntime) -> Result<(), Fail> {
         (&["study", "a", "--store"], 4),
     ];
     for (words, word) in rows {
-        assert_eq!(rt; study_of(alloc, words)?, Err(word));
+        assert!(rt; study_of(alloc, words)? == Err(*word));
     }
     Ok(())
 }
@@ -227,7 +215,7 @@ fn a_study_is_no_other_command(rt: HostRuntime) -> Result<(), Fail> {
     let words = words_of(rt.alloc(), &["study", "looks.txt"])?;
     match read_words(words.as_slice()) {
         Ok(_) => panic!(rt; "another command"),
-        Err(n) => assert_eq!(rt; n, 1),
+        Err(n) => assert!(rt; n == 1),
     }
     Ok(())
 }

@@ -59,15 +59,15 @@ pub fn is_short_level(x: &Fraction) -> bool
 /// Whether the parts are at most 10^18.
 pub fn is_short(x: &Fraction) -> bool
     ensures { result ≡ is_short x.now }
+{
+    x.is_within(1_000_000_000_000_000_000)
+}
 
 /// Whether the parts of each are at most 10^18.
 pub fn are_short(fractions: &[Fraction]) -> bool
     ensures { result ≡ list_all is_short fractions.now }
 {
     fractions.iter().all(is_short)
-}
-{
-    x.is_within(1_000_000_000_000_000_000)
 }
 
 /// Whether the denominator is at most 10^30.
