@@ -1,17 +1,15 @@
 //! Studies: p-values that arrive at stages, and the rejections that they allow.
 ghost use Rattle.std.specs.Prelude.{◌≡◌, ◌≤◌, ◌*◌, ◌↔◌, length, vec_capacity, IfOk, IsTrue};
 ghost use Rattle.case_model.specs.CaseView.{content};
-ghost use Rattle.case_model.specs.Draft.{is_p_value, is_short_p_value, is_unit};
-ghost use Rattle.fraction.specs.View.{number_of};
 ghost use Rattle.case_model.specs.declared.inputs.Inputs.TheVariants.{Staged};
 ghost use Rattle.entangled.specs.CaseNetView.{case_state};
 ghost use Rattle.staged_levels.specs.StudyAnswers.{IsStaged};
 ghost use Rattle.staged_levels.specs.StudyContents.{IsSomeStudy};
 
 use crate::{Event, SettleFault, Settled, StepFault};
-use case_model::{Arrival, Case, Inputs, Spend, Stages};
+use case_model::{Arrival, Case, Inputs, Spend, Stages, is_p_value};
 use entangled::{CaseNet, OpenFault};
-use field_core::{List, NoMemory, Number, WideAt};
+use field_core::{List, NoMemory, WideAt};
 use fraction::Fraction;
 use std::alloc::Global;
 
@@ -61,29 +59,6 @@ fn copied(alloc: Global, stages: &Stages, size: usize) -> Result<List<Spend>, No
         spends.push(stages.spend(k).copy(alloc)?)?;
     }
     Ok(spends)
-}
-
-/// Whether `x` is from 0 to 1.
-#[tactic(auto, using(case_model::proofs::Comparisons::zero_and_one))]
-fn is_unit(x: &Fraction) -> bool
-    ensures { result ≡ is_unit (number_of x.now) }
-{
-    *x >= Fraction::zero() && *x <= Fraction::one()
-}
-
-/// Whether the denominator is at most 10^30.
-fn is_short(x: &Fraction) -> bool
-    ensures { result ≡ is_short_p_value x.now }
-{
-    x.ratio().den().unsigned_abs() <= 1_000_000_000_000_000_000_000_000_000_000
-}
-
-/// Whether `x` is a p-value: from 0 to 1, with a denominator of at most 10^30.
-#[tactic(auto, unfolding(case_model::specs::Draft::is_p_value))]
-fn is_p_value(x: &Fraction) -> bool
-    ensures { result ≡ is_p_value x.now }
-{
-    is_short(x) && is_unit(x)
 }
 
 // Opening and reading.

@@ -8,6 +8,7 @@ use Rattle.graph_io.specs.declared.keeper.Look.{Look}
 use Rattle.graph_io.specs.declared.keeper.KeeperFault.{KeeperFault}
 use Rattle.graph_io.specs.declared.keeper.KeeperFault.TheVariants as keepers
 use Rattle.case_model.specs.Content.{Content}
+use Rattle.entangled.specs.declared.open_fault.OpenFault.{OpenFault}
 use Rattle.staged_levels.specs.Studies.{StudyState, start}
 use Rattle.staged_levels.specs.StudyContents.{StudyContent, IsStudy}
 use Rattle.staged_levels.specs.Looks.{IsDefined}
@@ -16,8 +17,8 @@ use Rattle.study_register.specs.declared.fault.RegisterFault.{RegisterFault}
 use Rattle.study_register.specs.declared.fault.RegisterFault.TheVariants.{BadLook, Wide, Fault, NoMemory}
 use Rattle.study_register.specs.declared.fault.AddFault.{AddFault}
 use Rattle.study_register.specs.Looking.{Takes}
-use Rattle.study_register.specs.RegisterFaults.{IsFirstStop, IsStopped, IsRegisterFault, IsAddFault, IfLooksRefused}
-use Rattle.study_register.specs.RegisterView.{of_loading, of_appending}
+use Rattle.study_register.specs.RegisterFaults.{IsFirstStop, IsStopped, IsRegisterFault, IsAddFault, IfLooksRefused, IfMemory, Leaves}
+use Rattle.study_register.specs.RegisterView.{of_opening, of_loading, of_appending}
 
 -- a fault that is handed on
 pub handed_on : {A E : Type 0} (r : Result A E) (Good : E → Type 0) (fault : E) → IsErrAnd r (λ e. e ≡ fault) → Good fault → IfErr r Good
@@ -62,9 +63,31 @@ pub refused_too : (p : Type 0) (why : RegisterFault) → p → IfLooksRefused p 
 refused_too p (BadLook n l) h = h
 refused_too p (Wide n w) h = h
 refused_too p Fault h = tt
-refused_too p NoMemory h = tt
+refused_too p NoMemory h = h
 
--- a loading refuses no look
-pub loading_refuses_none : (p : Type 0) (why : KeeperFault) → IfLooksRefused p (of_loading why)
-loading_refuses_none p keepers.Fault = tt
-loading_refuses_none p keepers.NoMemory = tt
+-- where a loading refuses, its count stays but by a fault
+pub loading_steady : (before now : ℕ) (why : KeeperFault) → CausedBy before now why → IfLooksRefused (now ≡ before) (of_loading why)
+loading_steady before now keepers.Fault h = tt
+loading_steady before now keepers.NoMemory h = h
+
+-- where an opening refuses, the keeper isn't asked
+pub opening_steady : (p : Type 0) (why : OpenFault) → p → IfLooksRefused p (of_opening why)
+opening_steady p why h = refused_too p (of_opening why) h
+
+-- where an appending refuses, its count stays but by a fault
+appended_memory : (before now : ℕ) (why : KeeperFault) → CausedBy before now why → IfMemory (now ≡ before) (of_appending why)
+appended_memory before now keepers.Fault h = tt
+appended_memory before now keepers.NoMemory h = h
+
+pub appending_memory : (before now : ℕ) (why : KeeperFault) (end : AddFault) → end ≡ of_appending why → CausedBy before now why
+    → IfMemory (now ≡ before) end
+appending_memory before now why end e h = subst (IfMemory (now ≡ before)) (sym e) (appended_memory before now why h)
+
+-- where an appending refuses, the look is taken
+appended_leaves : (c : Content) (s t : StudyState) (l : Look) (why : KeeperFault) → Takes c s l t → Leaves c s l t (of_appending why)
+appended_leaves c s t l keepers.Fault h = h
+appended_leaves c s t l keepers.NoMemory h = h
+
+pub appending_leaves : (c : Content) (s t : StudyState) (l : Look) (why : KeeperFault) (end : AddFault) → end ≡ of_appending why → Takes c s l t
+    → Leaves c s l t end
+appending_leaves c s t l why end e h = subst (Leaves c s l t) (sym e) (appended_leaves c s t l why h)

@@ -1,11 +1,13 @@
--- Why calls of a register are refused. Nothing is said of want of memory.
+-- Why calls of a register are refused, and what they leave then.
 use Rattle.std.specs.Prelude.{◌≡◌, ◌≤◌, ◌+◌, ◌⊎◌, ℕ, Bool, true, false, IfSome, List, [], ◌∷◌, length, Option, Result, Ok, Err}
+use Rattle.field_core.specs.declared.place.WideAt.{WideAt}
 use Rattle.graph_io.specs.declared.keeper.Look.{Look}
 use Rattle.case_model.specs.Content.{Content}
 use Rattle.entangled.specs.CaseRun.{case_opening}
 use Rattle.staged_levels.specs.declared.event.StepFault.{StepFault}
 use Rattle.staged_levels.specs.Studies.{StudyState, start}
-use Rattle.staged_levels.specs.StudyAnswers.{IsArriveFault}
+use Rattle.staged_levels.specs.StudyAnswers.{IsArriveFault, IsWideSettling}
+use Rattle.staged_levels.specs.StudyCalls.{IsArrival, AreFirstRejections}
 use Rattle.staged_levels.specs.Looks.{IsDefined, IsWideLook}
 use Rattle.study_register.specs.declared.fault.RegisterFault.{RegisterFault}
 use Rattle.study_register.specs.declared.fault.RegisterFault.TheVariants.{BadLook, Wide, Fault, NoMemory}
@@ -61,12 +63,32 @@ module _ (c : Content) where
   IsAddFault s l rose additions.Fault = (new : StudyState) × Takes c s l new × rose
   IsAddFault s l rose additions.NoMemory = (new : StudyState) × Takes c s l new
 
--- a fact where the opening of the case or a look that is kept is refused
+  -- a look arrives, and its settling breaks off at `w`: the first legal hypotheses were rejected up to one whose removal is undefined
+  pub record BreaksInto (s : StudyState) (l : Look) (w : WideAt) (new : StudyState) : Type 0 where
+    pub arrived : StudyState
+    pub arrival : IsArrival c s (arrival_of l) arrived
+    pub rejected : List ℕ
+    pub rejections : AreFirstRejections c arrived rejected new
+    pub wide : IsWideSettling c new w
+
+  -- what is left of a study that doesn't take a look: it stays where the arrival is refused
+  abbrev pub LeavesUntaken : StudyState → Look → StudyState → TakeFault → Type 0
+  LeavesUntaken s l new (takings.Refused f) = new ≡ s
+  LeavesUntaken s l new (takings.Wide w) = BreaksInto s l w new
+
+  -- what is left of a study where a look isn't added: the look is taken, where only the keeper doesn't hold it
+  abbrev pub Leaves : StudyState → Look → StudyState → AddFault → Type 0
+  Leaves s l new (additions.Refused f) = new ≡ s
+  Leaves s l new (additions.Wide w) = BreaksInto s l w new
+  Leaves s l new additions.Fault = Takes c s l new
+  Leaves s l new additions.NoMemory = Takes c s l new
+
+-- a fact where the keeper had no fault: the opening of the case or a look that is kept is refused, or memory ran out
 abbrev pub IfLooksRefused : Type 0 → RegisterFault → Type 0
 IfLooksRefused p (BadLook n l) = p
 IfLooksRefused p (Wide n w) = p
 IfLooksRefused p Fault = Unit {0}
-IfLooksRefused p NoMemory = Unit {0}
+IfLooksRefused p NoMemory = p
 
 -- a fact where the arrival was refused
 abbrev pub IfNotTaken : Type 0 → TakeFault → Type 0
@@ -86,6 +108,13 @@ IfNotAsked p (additions.Refused f) = p
 IfNotAsked p (additions.Wide w) = p
 IfNotAsked p additions.Fault = Unit {0}
 IfNotAsked p additions.NoMemory = Unit {0}
+
+-- a fact where memory ran out
+abbrev pub IfMemory : Type 0 → AddFault → Type 0
+IfMemory p (additions.Refused f) = Unit {0}
+IfMemory p (additions.Wide w) = Unit {0}
+IfMemory p additions.Fault = Unit {0}
+IfMemory p additions.NoMemory = p
 
 -- whether a register is spent by a refusal
 abbrev pub spent_by : AddFault → Bool

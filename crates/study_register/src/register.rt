@@ -7,7 +7,7 @@ ghost use Rattle.case_model.specs.CaseView.{content};
 ghost use Rattle.staged_levels.specs.StudyAnswers.{IsStaged};
 ghost use Rattle.staged_levels.specs.StudyContents.{IsStudy, size_of};
 ghost use Rattle.study_register.specs.Looking.{Takes, AreTaken};
-ghost use Rattle.study_register.specs.RegisterFaults.{OnLooks, IsRegisterFault, IsAddFault, IfLooksRefused, IfRefused, IfNotAsked, spent_after};
+ghost use Rattle.study_register.specs.RegisterFaults.{OnLooks, IsRegisterFault, IsAddFault, IfLooksRefused, IfRefused, IfNotAsked, IfMemory, Leaves, spent_after};
 
 use crate::taking::{TakeFault, follow, take};
 use crate::{AddFault, RegisterFault};
@@ -40,7 +40,8 @@ impl Register {
     /// Unless memory runs out or the keeper fails: it is `RegisterFault::Wide` at 0 exactly where the written opening is
     /// undefined; else it is, at the first look that can't be taken, `RegisterFault::BadLook` exactly where it names no
     /// hypothesis of the case or its arrival is refused, and `RegisterFault::Wide` exactly where its settling breaks off. Places
-    /// count from 1. It is `RegisterFault::Fault` only where the case was opened and the keeper's count rose in this call.
+    /// count from 1. It is `RegisterFault::Fault` only where the case was opened and the keeper's count rose in this call; with
+    /// each other answer the count stays.
     pub fn open<K: Keeper>(
         alloc: Global,
         case: &Case,
@@ -108,8 +109,9 @@ impl Register {
     ///
     /// It is `AddFault::Refused` exactly where the arrival is refused, and then all is unchanged. It is `AddFault::Wide` exactly
     /// where the settling breaks off, `AddFault::Fault` only where the look was taken and the keeper's count rose in this call,
-    /// and `AddFault::NoMemory` where the keeper has no memory for it. After these three the looks of the keeper are unchanged,
-    /// and the register is spent.
+    /// and `AddFault::NoMemory` where the keeper has no memory for it, and its count stays. After these three the looks of the
+    /// keeper are unchanged, and the register is spent: after `Wide` the look has arrived, and the rejections before the
+    /// undefined one stay; after the other two the look is taken.
     pub fn add<K: Keeper>(
         &mut self,
         alloc: Global,
@@ -124,7 +126,9 @@ impl Register {
         ensures fault { IfErr result (λ fault. (c : Content) → IsStudy c (study_in self.old) → IsAddFault c (looks_in self.old) look.now (Rose (K.faults keeper.old) (K.faults keeper.new)) fault) }
         ensures unchanged { OnErr result (K.looks keeper.new ≡ K.looks keeper.old) }
         ensures refused { IfErr result (IfRefused (study_in self.new ≡ study_in self.old)) }
+        ensures left { IfErr result (λ fault. (c : Content) → IsStudy c (study_in self.old) → Leaves c (looks_in self.old) look.now (looks_in self.new) fault) }
         ensures not_asked { IfErr result (IfNotAsked (keeper.new ≡ keeper.old)) }
+        ensures memory { IfErr result (IfMemory (K.faults keeper.new ≡ K.faults keeper.old)) }
         ensures spent { is_spent self.new ≡ spent_after result }
         ensures size { size_of (study_in self.new) ≡ size_of (study_in self.old) }
         ensures later { K.faults keeper.old ≤ K.faults keeper.new }

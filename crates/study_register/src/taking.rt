@@ -5,7 +5,7 @@ ghost use Rattle.staged_levels.specs.StudyContents.{IsStudy, size_of};
 ghost use Rattle.staged_levels.specs.StudyView.{study};
 ghost use Rattle.staged_levels.specs.declared.event.Event.TheVariants.{Arrive};
 ghost use Rattle.study_register.specs.Looking.{Takes, Follows};
-ghost use Rattle.study_register.specs.RegisterFaults.{IsTakeFault, IfNotTaken, IsStopAt, IsFirstStop};
+ghost use Rattle.study_register.specs.RegisterFaults.{IsTakeFault, IfNotTaken, LeavesUntaken, IsStopAt, IsFirstStop};
 
 use crate::RegisterFault;
 use field_core::WideAt;
@@ -33,13 +33,15 @@ fn event_of(look: &Look) -> Event
     )
 }
 
-/// Lets a look of a hypothesis of the case arrive, and settles the study. A refused arrival changes nothing.
+/// Lets a look of a hypothesis of the case arrive, and settles the study. A refused arrival changes nothing. Where the settling
+/// breaks off, the look has arrived, and the rejections before that stay.
 pub(crate) fn take(current: &mut Study, look: &Look) -> Result<(), TakeFault>
     requires { look.now.hypothesis < size_of (study current.old) }
     ensures study { (c : Content) → IsStudy c (study current.old) → IsStudy c (study current.new) }
     ensures taken { OnOk result ((c : Content) → IsStudy c (study current.old) → Takes c (study current.old).looks look.now (study current.new).looks) }
     ensures fault { IfErr result (λ fault. (c : Content) → IsStudy c (study current.old) → IsTakeFault c (study current.old).looks look.now fault) }
     ensures refused { IfErr result (IfNotTaken (study current.new ≡ study current.old)) }
+    ensures left { IfErr result (λ fault. (c : Content) → IsStudy c (study current.old) → LeavesUntaken c (study current.old).looks look.now (study current.new).looks fault) }
     ensures size { size_of (study current.new) ≡ size_of (study current.old) }
 {
     if let Err(fault) = current.step(event_of(look)) {

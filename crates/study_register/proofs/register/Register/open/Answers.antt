@@ -5,7 +5,7 @@ use Rattle.staged_levels.specs.StudyView.{study}
 use Rattle.study_register.specs.Looking.{Follows}
 use Rattle.study_register.specs.RegisterFaults.{IsFirstStop, IsRegisterFault, IfLooksRefused}
 use Rattle.study_register.specs.RegisterView.{of_loading}
-use Rattle.study_register.proofs.RegisterSteps.{handed_on, opened_defined, stopped_fault, loading_fault, refused_too, loading_refuses_none}
+use Rattle.study_register.proofs.RegisterSteps.{handed_on, opened_defined, stopped_fault, loading_fault, refused_too, loading_steady}
 use Rattle.study_register.proofs.register.Register.open.Goals as goal
 
 pub returns-in_err-load-clause-fault : goal.returns-in_err-load-clause-fault
@@ -47,9 +47,10 @@ returns-clause-taken g c =
 
 pub returns-in_err-load-clause-steady : goal.returns-in_err-load-clause-steady
 returns-in_err-load-clause-steady g c =
-    let same = g.K.Keeper.faults c.load.new.self ≡ g.K.Keeper.faults c.args.keeper.now in
-    handed_on _ (IfLooksRefused same) (of_loading c.in_err-load.field-0.0) c.from_residual-in_err-load.ensures.1
-    (loading_refuses_none same c.in_err-load.field-0.0)
+    let before = g.K.Keeper.faults c.args.keeper.now in
+    let now = g.K.Keeper.faults c.load.new.self in
+    handed_on _ (IfLooksRefused (now ≡ before)) (of_loading c.in_err-load.field-0.0) c.from_residual-in_err-load.ensures.1
+    (loading_steady before now c.in_err-load.field-0.0 c.in_err-load.ensures.cause.cause)
 
 pub returns-in_err-follow-clause-steady : goal.returns-in_err-follow-clause-steady
 returns-in_err-follow-clause-steady g c =
