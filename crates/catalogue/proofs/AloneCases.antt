@@ -30,7 +30,7 @@ pub number_of-one : number_of one_ratio ≡ number_one
 unfolding value_of
 number_of-one = plain_is_exact.one_value
 
-plain_constant : (a : Ratio) → is_plain_entry (constant a) ≡ true
+pub plain_constant : (a : Ratio) → is_plain_entry (constant a) ≡ true
 unfolding is_plain_entry
 plain_constant a = refl
 

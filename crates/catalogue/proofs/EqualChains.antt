@@ -1,5 +1,5 @@
 -- A size that is refused, where fallback has as many equal weights.
-use Rattle.std.proofs.Common.{◌≡◌, refl, ap, ◌∙◌, ℕ, List, length, Some, Err}
+use Rattle.std.proofs.Common.{◌≡◌, ap, ◌∙◌, ℕ, List, length, Some, Err}
 use Rattle.std.proofs.lemmas.List.{length-replicate}
 use Rattle.field_core.specs.declared.ratio.Ratio.{Ratio}
 use Rattle.catalogue.specs.Makings.{behind, made, fallback_case}

@@ -16,7 +16,7 @@ all_append test (x ∷ xs) ys h k =
     ap₂ ◌&&◌ b.left (all_append test xs ys b.right k)
 
 -- what holds of what each of `n` places from `a` on gives, holds of all
-all_flat : {A : Type 0} (test : A → Bool) (f : ℕ → List A) (a n m : ℕ) → a + n ≡ m → ((i : ℕ) → i < m → list_all test (f i) ≡ true)
+pub all_flat : {A : Type 0} (test : A → Bool) (f : ℕ → List A) (a n m : ℕ) → a + n ≡ m → ((i : ℕ) → i < m → list_all test (f i) ≡ true)
     → list_all test (flat_map f (range_with_len a n)) ≡ true
 all_flat test f a zero m e h = refl
 all_flat test f a (suc n) m e h = all_append test (f a) (flat_map f (range_with_len (a + 1) n)) (h a (omega arith))

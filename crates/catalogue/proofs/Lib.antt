@@ -3,6 +3,7 @@ pub mod Draws
 pub mod FoundEdges
 pub mod KnownEnds
 pub mod Lists
+pub mod PlainCases
 pub mod RatiosOf
 pub mod SampleInputs
 pub mod Textbooks

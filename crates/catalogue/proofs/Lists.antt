@@ -17,8 +17,3 @@ pub put_more : {A : Type 0} (f : ℕ → List A) (start items new : List A) (n :
     → new ≡ items ++ f n → new ≡ start ++ flat_map f (range_with_len 0 (n + 1))
 put_more f start items new n e g =
     g ∙ ap (λ t. t ++ f n) e ∙ append_assoc start (flat_map f (range_with_len 0 n)) (f n) ∙ ap (λ t. start ++ t) (sym (flat_map-more f n))
-
--- a list of values, with one place more
-pub push_more : {A : Type 0} (f : ℕ → A) (items new : List A) (x : A) (n : ℕ) → items ≡ map f (range_with_len 0 n) → x ≡ f n
-    → new ≡ items ++ x ∷ [] → new ≡ map f (range_with_len 0 (n + 1))
-push_more f items new x n e h g = g ∙ ap₂ (λ xs y. xs ++ y ∷ []) e h ∙ sym (map-range_with_len_more f 0 n n (omega arith))

@@ -1,5 +1,5 @@
 -- A sample has a p-value for each hypothesis.
-use Rattle.std.proofs.Common.{◌≡◌, ℕ, zero, suc, ◌≤◌, List, [], Ok, ap, sym, subst, ◌∙◌, arith}
+use Rattle.std.proofs.Common.{◌≡◌, ℕ, zero, suc, ◌≤◌, List, [], Ok, ap, sym, ◌∙◌, arith}
 use Rattle.field_core.specs.declared.ratio.Ratio.{Ratio}
 use Rattle.case_model.specs.Content.{Content}
 use Rattle.case_model.specs.declared.inputs.Inputs.TheVariants.{Single}

@@ -13,9 +13,9 @@ told_fault : (d : Draft) (f : CaseFault) (r : CatalogueFault) → r ≡ OfCase f
 unfolding made
 told_fault d f r e h = ap (made_unless d) h ∙ ap Err (sym e)
 
-pub told : (d e : Draft) (f : CaseFault) (r : CatalogueFault) → d ≡ e → (f ≡ NoRoom → r ≡ OutOfMemory) → (r ≡ OutOfMemory) ⊎ (r ≡ OfCase f)
+pub told : (d e : Draft) (f : CaseFault) (r : CatalogueFault) → d ≡ e → (f ≡ NoRoom → r ≡ OutOfMemory) → (f ≡ NoRoom) ⊎ (r ≡ OfCase f)
     → (f ≡ NoRoom) ⊎ (case_fault d ≡ Some f) → (r ≡ OutOfMemory) ⊎ (made e ≡ Err r)
 told d e f r same memory case fault = elim case [
-  | inl a ↦ inl a
+  | inl a ↦ inl (memory a)
   | inr a ↦ elim fault [ inl b ↦ inl (memory b) | inr b ↦ inr (told_fault e f r a (sym (ap case_fault same) ∙ b)) ]
 ]

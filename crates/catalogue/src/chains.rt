@@ -1,7 +1,7 @@
 //! Graphs in which each hypothesis passes its weight to the next one.
-ghost use Rattle.std.specs.Prelude.{◌≡◌, ◌<◌, ◌⊎◌, IfOk, IfErr, Ok, Err};
+ghost use Rattle.std.specs.Prelude.{◌≡◌, ◌<◌, ◌⊎◌, true, IfOk, IfErr, Ok, Err};
 ghost use Rattle.case_model.specs.CaseView.{content};
-ghost use Rattle.case_model.specs.Content.{entangled};
+ghost use Rattle.case_model.specs.Content.{entangled, is_plain};
 ghost use Rattle.case_model.specs.Sums.{number_at};
 ghost use Rattle.case_model.specs.TextbookGraphs.{IsSequenceGraph, IsFallbackGraph};
 ghost use Rattle.catalogue.specs.NamedGraphs.{next_edge, equal_weights};
@@ -89,6 +89,7 @@ pub fn fixed_sequence(
     ensures case { IfOk result (λ c. sequence_case n alpha p.now ≡ Ok (content c)) }
     ensures fault { IfErr result (λ fault. (fault ≡ OutOfMemory) ⊎ (sequence_case n alpha p.now ≡ Err fault)) }
     ensures graph { IfOk result (λ c. IsSequenceGraph (entangled (content c))) }
+    ensures plain { IfOk result (λ c. is_plain (content c) ≡ true) }
     ensures rule { IfOk result (λ c. DecidesAsSequence n alpha p.now (content c)) }
 {
     let size = size_of(n)?;
@@ -107,6 +108,7 @@ pub fn fallback(
     ensures case { IfOk result (λ c. fallback_case weights.now alpha p.now ≡ Ok (content c)) }
     ensures fault { IfErr result (λ fault. (fault ≡ OutOfMemory) ⊎ (fallback_case weights.now alpha p.now ≡ Err fault)) }
     ensures graph { IfOk result (λ c. IsFallbackGraph (number_at weights.now) (entangled (content c))) }
+    ensures plain { IfOk result (λ c. is_plain (content c) ≡ true) }
     ensures rule { IfOk result (λ c. DecidesAsFallback weights.now alpha p.now (content c)) }
 {
     size_of(weights.len() as u64)?;
@@ -137,6 +139,7 @@ pub fn equal_fallback(
 ) -> Result<Case, CatalogueFault>
     ensures case { IfOk result (λ c. fallback_case (equal_weights n) alpha p.now ≡ Ok (content c)) }
     ensures fault { IfErr result (λ fault. (fault ≡ OutOfMemory) ⊎ (fallback_case (equal_weights n) alpha p.now ≡ Err fault)) }
+    ensures plain { IfOk result (λ c. is_plain (content c) ≡ true) }
 {
     let size = size_of(n)?;
     let weights = equal_weights(alloc, size)?;

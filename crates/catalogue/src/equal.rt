@@ -1,7 +1,7 @@
 //! Holm's graph.
-ghost use Rattle.std.specs.Prelude.{◌≡◌, ◌≤◌, ◌⊎◌, IfOk, IfErr, Ok, Err};
+ghost use Rattle.std.specs.Prelude.{◌≡◌, ◌≤◌, ◌⊎◌, true, IfOk, IfErr, Ok, Err};
 ghost use Rattle.case_model.specs.CaseView.{content};
-ghost use Rattle.case_model.specs.Content.{entangled};
+ghost use Rattle.case_model.specs.Content.{entangled, is_plain};
 ghost use Rattle.case_model.specs.TextbookGraphs.{IsHolmGraph};
 ghost use Rattle.catalogue.specs.Makings.{holm_case};
 ghost use Rattle.catalogue.specs.TextbookCases.{DecidesAsHolm};
@@ -52,6 +52,7 @@ pub fn holm(alloc: Global, n: u64, alpha: Fraction, p: &[Fraction]) -> Result<Ca
     ensures case { IfOk result (λ c. holm_case n alpha p.now ≡ Ok (content c)) }
     ensures fault { IfErr result (λ fault. (fault ≡ OutOfMemory) ⊎ (holm_case n alpha p.now ≡ Err fault)) }
     ensures graph { IfOk result (λ c. IsHolmGraph (entangled (content c))) }
+    ensures plain { IfOk result (λ c. is_plain (content c) ≡ true) }
     ensures rule { IfOk result (λ c. DecidesAsHolm n alpha p.now (content c)) }
 {
     let size = size_of(n)?;

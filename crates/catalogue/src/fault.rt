@@ -23,7 +23,7 @@ impl CatalogueFault {
     /// What the fault of a refused draft is here.
     pub(crate) fn of_case(fault: CaseFault) -> CatalogueFault
         ensures memory { fault ≡ CaseFault.NoMemory → result ≡ OutOfMemory }
-        ensures case { (result ≡ OutOfMemory) ⊎ (result ≡ OfCase fault) }
+        ensures case { (fault ≡ CaseFault.NoMemory) ⊎ (result ≡ OfCase fault) }
     {
         match fault {
             CaseFault::NoMemory => CatalogueFault::NoMemory,

@@ -7,7 +7,7 @@ use Rattle.field_core.specs.View.{terms}
 use Rattle.field_core.specs.Sets.{HaveSameMembers, whole}
 use Rattle.field_core.specs.Runs.{left_after}
 use Rattle.field_core.specs.NumberedSets.{members}
-use Rattle.field_core.specs.OrderOfSets.{ComesBefore, IsAscending, IsListStep, IsLastList}
+use Rattle.field_core.specs.OrderOfSets.{ComesBefore, IsAscending, IsListStep}
 use Rattle.field_core.proofs.Members.{members_number, number_below}
 use Rattle.field_core.proofs.ListOrder.{not_itself}
 use Rattle.field_core.proofs.NextLists.{ascending_last, ascending_short}
@@ -20,7 +20,7 @@ use Rattle.entangled.proofs.CaseLevels.{case_live, case_sizes}
 use Rattle.entangled.proofs.CaseSteps.{numbers_stay, case_shares_stay}
 use Rattle.entangled.proofs.CaseRuns.{after_next}
 use Rattle.closed_test.specs.Paths.{number_without}
-use Rattle.closed_test.specs.Walks.{IsTabled, AreTabledTo, AreAllTabled, IsFirstUndefined, AreStatesAlong, AreAlike, AreLikeTheFirst}
+use Rattle.closed_test.specs.Walks.{IsTabled, AreTabledTo, IsFirstUndefined, AreStatesAlong, AreAlike, AreLikeTheFirst}
 use Rattle.closed_test.proofs.LeftLists.{stays, begins}
 
 -- the number of a set is below that of all sets
@@ -98,10 +98,6 @@ row_of c weight js s set V a run number row = record {
 pub tabled_start : (c : Content) (weight : ℕ → ℕ → Ratio) (js : List ℕ) → js ≡ [] → IsTabled c weight js → AreTabledTo c weight js
 tabled_start c weight js e t xs a (inl b) = absurd (subst (ComesBefore xs) e b)
 tabled_start c weight js e t xs a (inr f) = subst (IsTabled c weight) (sym f) t
-
-pub all_tabled : (c : Content) (weight : ℕ → ℕ → Ratio) (js : List ℕ) → AreTabledTo c weight js → IsLastList (length c.names) js
-    → AreAllTabled c weight
-all_tabled c weight js h last xs a = h xs a (last xs a)
 
 -- some state, that of the set of all
 some_state : (c : Content) (weight : ℕ → ℕ → Ratio) (js : List ℕ) → AreTabledTo c weight js → CaseState

@@ -23,4 +23,4 @@ pub use fault::ClosedFault;
 pub use order::sets_in_order;
 pub use path::Path;
 pub use table::ClosedTable;
-pub use weights::WeightTable;
+pub use weights::{MOST_HYPOTHESES, WeightTable};

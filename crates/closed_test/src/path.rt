@@ -17,7 +17,7 @@ pub struct Path {
 }
 
 impl Path {
-    ghost use Rattle.std.specs.Prelude.{◌≡◌, ◌<◌, ◌≤◌, ◌++◌, [], ◌∷◌, length, IfOk, IfSome, MatchOption};
+    ghost use Rattle.std.specs.Prelude.{◌≡◌, ◌<◌, ◌≤◌, ◌++◌, [], ◌∷◌, length, IfOk, IfSome, IfNone, MatchOption};
     ghost use Rattle.field_core.specs.OrderOfSets.{ComesBefore, IsAscending, IsListStep, IsLastList};
     ghost use Rattle.closed_test.specs.Paths.{number_without};
     ghost use Rattle.closed_test.specs.PathView.{path_size, left_of, IsPath};
@@ -84,13 +84,15 @@ impl Path {
     }
 
     /// Goes to the next set, which comes later in the order of sets, and gives the last hypothesis that it leaves out; all
-    /// others that it leaves out begin what was left out before. `None` after the last set; the path is then of no use.
+    /// others that it leaves out begin what was left out before. `None` after the last set; the path is then
+    /// at the first set again.
     pub fn step(&mut self) -> Option<usize>
         requires { IsPath self.old }
         ensures size { path_size self.new ≡ path_size self.old }
         ensures path { IsPath self.new }
         ensures step { MatchOption result (IsLastList (path_size self.old) (left_of self.old)) (IsListStep (path_size self.old) (left_of self.old) (left_of self.new)) }
         ensures later { IfSome result (λ _. ComesBefore (left_of self.old) (left_of self.new)) }
+        ensures done { IfNone result (left_of self.new ≡ []) }
     {
         match self.take_back() {
             None => {

@@ -1,5 +1,6 @@
 //! The weights of all sets.
-ghost use Rattle.std.specs.Prelude.{◌≡◌, ◌≤◌, ◌<◌, ◌+◌, ◌*◌, ◌^◌, ℕ, length, map, get_or, Ok, IfOk, IfErr};
+ghost use Rattle.std.specs.Prelude.{◌≡◌, ◌≤◌, ◌<◌, ◌+◌, ◌-◌, ◌*◌, ◌^◌, ℕ, length, map, get_or, Ok, IfOk, IfErr};
+ghost use Rattle.field_core.specs.declared.place.WideAt.{WideAt};
 ghost use Rattle.case_model.specs.CaseView.{content};
 ghost use Rattle.entangled.specs.CaseNetView.{case_state};
 ghost use Rattle.entangled.specs.CaseRun.{CaseState, case_opening};
@@ -14,6 +15,9 @@ use entangled::{CaseNet, OpenFault};
 use field_core::{List, NoMemory, Number};
 use fraction::Fraction;
 use std::alloc::Global;
+
+/// Tables of all sets are for so many hypotheses at most.
+pub const MOST_HYPOTHESES: usize = 16;
 
 /// The weight of each member of each set of the hypotheses of a case, of which there are at most 16; with 16 hypotheses it
 /// takes 32 MB.
@@ -52,7 +56,8 @@ fn load_nets(alloc: Global, case: &Case, count: usize) -> Result<Vec<CaseNet>, O
 fn opening_fault(case: &Case, fault: OpenFault) -> ClosedFault
     requires few { length (content case.now).names ≤ 16 }
     requires fault { IsOpenFaultOf (content case.now) fault }
-    ensures { IsClosedFault (content case.now) result }
+    ensures fault { IsClosedFault (content case.now) result }
+    ensures wide { (w : WideAt) → fault ≡ OpenFault.Wide w → result ≡ ClosedFault.Wide (2 ^ length (content case.now).names - 1) w }
 {
     match fault {
         OpenFault::Wide(wide) => ClosedFault::Wide((1 << case.size()) - 1, wide),
@@ -78,7 +83,7 @@ impl WeightTable {
         ensures { IfOk result (λ t. weights_size t ≡ size) }
     {
         let sets: usize = 1 << size;
-        let weights = zeros(alloc, sets * 16)?;
+        let weights = zeros(alloc, sets * MOST_HYPOTHESES)?;
         Ok(WeightTable { size, weights })
     }
 
@@ -93,7 +98,7 @@ impl WeightTable {
         ensures fault { IfErr result (IsClosedFault (content case.now)) }
     {
         let size = case.size();
-        if size > 16 {
+        if size > MOST_HYPOTHESES {
             return Err(ClosedFault::TooMany(size as u64));
         }
         let mut nets = match load_nets(alloc, case, size + 1) {
@@ -122,7 +127,7 @@ impl WeightTable {
         requires k { k < 16 }
         ensures { result ≡ weight_at self.now set k }
     {
-        self.weights.as_slice()[set as usize * 16 + k]
+        self.weights.as_slice()[set as usize * MOST_HYPOTHESES + k]
     }
 
     /// Puts the weight of `k` in a set. The others stay.
@@ -133,7 +138,7 @@ impl WeightTable {
         ensures put { weight_at self.new set k ≡ weight }
         ensures others { (n j : ℕ) → j < 16 → (n ≢ set) ⊎ (j ≢ k) → weight_at self.new n j ≡ weight_at self.old n j }
     {
-        self.weights.set(set as usize * 16 + k, weight);
+        self.weights.set(set as usize * MOST_HYPOTHESES + k, weight);
     }
 
     /// Puts the weights of a set, whose nets these are: the levels of the hypotheses that are in. The other sets stay.

@@ -2,7 +2,8 @@
 //!
 //! Proved:
 //! - `Trial`: `open`; `can_reject` (exactly where the hypothesis is legal in what remains); `reject` (`trial`,
-//!   `answer`, `added`, `refused`: each refusal exactly with its cause, and then nothing changes); `rejected`
+//!   `answer`, `added`, `refused`: each refusal exactly with its cause, and then nothing changes);
+//!   `reject_least_ratio` (`trial`, `step`, `wide`, `refused`: a step of the run by ratios, or its end); `rejected`
 //!   (`sound`, `complete`); `weight_limit`.
 //! - `decide`, for each of the three priorities: `value` (the steps are the order of the priority, each with its
 //!   intersection weight, and the others are kept with theirs), `closed` (the steps are exactly what the closed test

@@ -80,7 +80,7 @@ module _ (a : ℕ → ℕ) (d : ℕ) where
   natural : (x y n : ℕ) → (x * n + y * n) * n ≡ (x + y) * (n * n)
   natural x y n = omega arith
 
-  sum_common : (x y : ℕ) → fraction (pos x) (pos (suc d)) +ε fraction (pos y) (pos (suc d)) ≡ fraction (pos (x + y)) (pos (suc d))
+  pub sum_common : (x y : ℕ) → fraction (pos x) (pos (suc d)) +ε fraction (pos y) (pos (suc d)) ≡ fraction (pos (x + y)) (pos (suc d))
   sum_common x y =
       fraction-add (pos x) (pos (suc d)) (pos y) (pos (suc d)) (suc_not_zero d) (suc_not_zero d)
       ∙ fraction-equal (pos x *ℤ pos (suc d) +ℤ pos y *ℤ pos (suc d)) (pos (suc d) *ℤ pos (suc d)) (pos (x + y)) (pos (suc d))

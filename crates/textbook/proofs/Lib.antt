@@ -6,3 +6,5 @@ pub mod HolmRuns
 pub mod NeverWide
 pub mod ShortRemovals
 pub mod ShortRuns
+pub mod ChainSums
+pub mod SequenceRuns

@@ -16,7 +16,7 @@ use Rattle.case_model.specs.CaseTests.{at_level, IsUnstaged}
 use Rattle.case_model.specs.Draft.{ArePValues}
 use Rattle.case_model.specs.ClosedTest.{IsLegal}
 use Rattle.case_model.specs.LegalOrder.{IsOrderBy}
-use Rattle.case_model.specs.TextbookGraphs.{IsAlone, equal_graph, chain_graph, first_alone, IsHolmGraph, IsFallbackGraph}
+use Rattle.case_model.specs.TextbookGraphs.{IsAlone, equal_graph, chain_graph, IsHolmGraph, IsFallbackGraph}
 use Rattle.case_model.specs.Validity.{IsValidContent}
 use Rattle.case_model.proofs.FallbackOrders.{chain_start}
 use Rattle.case_model.proofs.HolmOrders.{equal_start}
@@ -37,7 +37,6 @@ use Rattle.field_core.specs.Laws.Prefixes.{bind_ok}
 use Rattle.field_core.proofs.Chains.{chain_left, chain_closed}
 use Rattle.field_core.proofs.EqualShares.{equal_left, equal_closed}
 use Rattle.field_core.proofs.UnitFractions.{one_over_parts}
-use Rattle.field_core.proofs.UnitLimits.{zero_is, one_is}
 use Rattle.textbook.specs.TextbookRuns.{Stores, total}
 use Rattle.textbook.specs.DefinedDecisions.{AreDecisionsDefined, IsNeverWide, HolmDecisionsAreDefined, SequenceDecisionsAreDefined, FallbackDecisionsAreDefined}
 use Rattle.textbook.proofs.ShortRemovals.{IsDefined}
@@ -47,6 +46,8 @@ use Rattle.adjusted_p.proofs.LevelOne.{one_level}
 use Rattle.textbook.proofs.DefinedRatios.{ratios_defined}
 use Rattle.textbook.proofs.HolmRuns.{holm_removals, weight_short}
 use Rattle.textbook.proofs.ChainRuns.{fallback_removals, weight_short as chain_short}
+use Rattle.textbook.proofs.ChainSums.{sum_at_most}
+use Rattle.textbook.proofs.SequenceRuns.{first_part, first_weight}
 
 -- ---- one removal more
 
@@ -195,30 +196,9 @@ module _ (a : ℕ → ℕ) (d : ℕ) (small : d < 100000000) where
   chain_decisions = both_defined IsShortChain other_chain chain_steps
 
 pub fallback_decisions : FallbackDecisionsAreDefined
-fallback_decisions c a d V P small sum A = chain_decisions a d small c V P (record { sum = sum; graph = A })
-
--- ---- the fixed sequence is a chain of the weights 1, 0 and so on
-
-first_part : ℕ → ℕ
-first_part zero = 1
-first_part (suc i) = 0
-
-first_weight : (i : ℕ) → first_alone i ≡ fraction (pos (first_part i)) (pos 1)
-unfolding first_part
-first_weight zero = one_is
-first_weight (suc i) = zero_is
-
-all_one : (n : ℕ) → total first_part (suc n) ≡ 1
-unfolding total first_part
-all_one zero = refl
-all_one (suc n) = let e = all_one n in omega (arith, e)
-
-at_most_one : (n : ℕ) → total first_part n ≤ 1
-unfolding total
-at_most_one zero = omega arith
-at_most_one (suc n) = let e = all_one n in omega (arith, e)
+fallback_decisions c a d V P small A = chain_decisions a d small c V P (record { sum = sum_at_most a d c V A; graph = A })
 
 pub sequence_decisions : SequenceDecisionsAreDefined
 sequence_decisions c V P A =
-    fallback_decisions c first_part 0 V P (omega arith) (at_most_one (length c.names))
+    fallback_decisions c first_part 0 V P (omega arith)
     (record { one = A.one; share = A.share; weight = λ i b. A.weight i b ∙ first_weight i; edge = A.edge })

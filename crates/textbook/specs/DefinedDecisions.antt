@@ -1,5 +1,5 @@
 -- Written runs of decisions and of adjusted values on the graphs of textbook rules.
-use Rattle.std.specs.Prelude.{◌≡◌, ◌<◌, ◌≤◌, ℕ, suc, pos, true, length}
+use Rattle.std.specs.Prelude.{◌≡◌, ◌<◌, ℕ, suc, pos, true}
 use Rattle.field_core.specs.Fractions.{fraction}
 use Rattle.field_core.specs.declared.place.WideAt.{WideAt}
 use Rattle.case_model.specs.Content.{Content, entangled, is_plain}
@@ -8,7 +8,6 @@ use Rattle.case_model.specs.Validity.{IsValidContent}
 use Rattle.sequential.specs.WideDecisions.{IsWideDecision}
 use Rattle.sequential.specs.declared.priority.Priority.{Priority}
 use Rattle.adjusted_p.specs.WrittenRun.{IsWideAdjusting}
-use Rattle.textbook.specs.TextbookRuns.{total}
 
 -- By whatever priority, no operation of the decision is undefined.
 abbrev pub AreDecisionsDefined : Content → Type 0
@@ -26,7 +25,7 @@ HolmDecisionsAreDefined = (c : Content) → IsValidContent c → is_plain c ≡ 
 -- Cases of a chain whose weights have a common denominator of at most 100,000,000 are never too wide.
 abbrev pub FallbackDecisionsAreDefined : Type 0
 FallbackDecisionsAreDefined =
-    (c : Content) (a : ℕ → ℕ) (d : ℕ) → IsValidContent c → is_plain c ≡ true → d < 100000000 → total a (length c.names) ≤ suc d
+    (c : Content) (a : ℕ → ℕ) (d : ℕ) → IsValidContent c → is_plain c ≡ true → d < 100000000
     → IsFallbackGraph (λ i. fraction (pos (a i)) (pos (suc d))) (entangled c) → IsNeverWide c
 
 -- Cases of the fixed sequence are never too wide.

@@ -7,7 +7,7 @@ use Rattle.field_core.specs.Sets.{whole}
 use Rattle.field_core.specs.Runs.{IsOrder}
 use Rattle.field_core.specs.Exact.{value_of}
 use Rattle.fraction.specs.Plain.{plain, IsFraction}
-use Rattle.case_model.specs.TextbookGraphs.{equal_graph, chain_graph}
+use Rattle.case_model.specs.TextbookGraphs.{equal_graph, chain_graph, first_alone}
 use Rattle.case_model.specs.Sums.{one_ratio}
 use Rattle.removal.specs.StoredGraph.{StoredGraph, AreAllLive, size, weight, edge}
 use Rattle.removal.specs.ByValue.{AreStored}
@@ -47,3 +47,7 @@ abbrev pub FallbackRemovalsAreDefined : Type 0
 FallbackRemovalsAreDefined =
     (S : StoredGraph) (a : ℕ → ℕ) (d : ℕ) → d < 100000000 → total a (size S) ≤ suc d
     → Stores (chain_graph (λ i. fraction (pos (a i)) (pos (suc d)))) S → IsNeverRefused S × IsNeverRefusedAlone S
+
+-- On the chain of a fixed sequence no removal is refused.
+abbrev pub SequenceRemovalsAreDefined : Type 0
+SequenceRemovalsAreDefined = (S : StoredGraph) → Stores (chain_graph first_alone) S → IsNeverRefused S × IsNeverRefusedAlone S

@@ -1,11 +1,15 @@
 use Rattle.std.proofs.lemmas.Result.{IfOk-weaker}
 use Rattle.case_model.specs.CaseView.{content}
+use Rattle.catalogue.proofs.PlainCases.{holm_plain}
 use Rattle.catalogue.proofs.Textbooks.{holm_made, holm_rule}
 use Rattle.catalogue.proofs.equal.holm.Goals as goal
 
 pub returns-clause-graph : goal.returns-clause-graph
 returns-clause-graph c = IfOk-weaker c.made.result _ _
     (λ k h. holm_made _ c.args.alpha c.args.p.now (content k) c.in_ok-size.ensures.range.0 c.in_ok-size.ensures.range.1 h) c.made.ensures.case
+
+pub returns-clause-plain : goal.returns-clause-plain
+returns-clause-plain c = IfOk-weaker c.made.result _ _ (λ k h. holm_plain _ c.args.alpha c.args.p.now (content k) h) c.made.ensures.case
 
 pub returns-clause-rule : goal.returns-clause-rule
 returns-clause-rule c =

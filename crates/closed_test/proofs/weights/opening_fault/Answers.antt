@@ -7,8 +7,8 @@ use Rattle.closed_test.proofs.Openings.{wide_opening}
 use Rattle.closed_test.proofs.SetTables.{first_wide_set}
 use Rattle.closed_test.proofs.weights.opening_fault.Goals as goal
 
-pub returns-in-Wide : goal.returns-in-Wide
-returns-in-Wide c =
+pub returns-in-Wide-clause-fault : goal.returns-in-Wide-clause-fault
+returns-in-Wide-clause-fault c =
     let k = content c.args.case.now in
     let m = length k.names in
     let size = c.size.ensures.count in

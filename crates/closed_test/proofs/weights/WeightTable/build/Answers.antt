@@ -32,6 +32,6 @@ returns-clause-fault c =
     let k = content c.args.case.now in
     let left = c.walk.new.path.left.items in
     let size = c.in-Err-walk.ensures.path.0 ∙ c.in_ok-path.ensures.size ∙ c.size-size.ensures.count in (
-      omega (arith, c.if-size-gt16.false, c.size-size.ensures.count),
+      omega (arith, c.if-size-gt-MOST_HYPOTHESES.false, c.size-size.ensures.count),
       first_wide_set k left c.set.result c.in-Err-walk.wide (c.set.ensures ∙ ap (λ n. number_without n left) size) c.in-Err-walk.ensures.walk,
     )

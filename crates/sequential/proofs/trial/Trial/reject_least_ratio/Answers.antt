@@ -1,7 +1,11 @@
-use Rattle.std.proofs.Common.{refl, subst, inr, Some, None}
+use Rattle.std.proofs.Common.{refl, sym, subst, inr, Some, None, IfErr}
+use Rattle.std.proofs.lemmas.Result.{err_from_is_err_and}
 use Rattle.sequential.specs.TrialView.{trial}
 use Rattle.sequential.specs.Choices.{IsLegalChoice}
+use Rattle.sequential.specs.DecisionRuns.{IsStepFault}
+use Rattle.sequential.specs.declared.priority.Priority.TheVariants.{Ratio}
 use Rattle.sequential.proofs.ChoiceFacts.{ratio_choice}
+use Rattle.sequential.proofs.TrialFacts.{next_trial, may_legal}
 use Rattle.sequential.proofs.trial.Trial.reject_least_ratio.Goals as goal
 
 pub returns-in-None-clause-step : goal.returns-in-None-clause-step
@@ -14,8 +18,8 @@ returns-in-None-clause-step c =
       defined = c.in_ok-least_legal_ratio.ensures.defined;
     }
 
-pub returns-in-Ok-clause-step : goal.returns-in-Ok-clause-step
-returns-in-Ok-clause-step c =
+pub returns-in_ok-remove-in-Some-clause-step : goal.returns-in_ok-remove-in-Some-clause-step
+returns-in_ok-remove-in-Some-clause-step c =
     let t = trial c.args.self.now in
     let x = c.in-Some.candidate in
     let L = subst (IsLegalChoice t) c.in-Some.is c.in_ok-least_legal_ratio.ensures.choice in
@@ -24,19 +28,29 @@ returns-in-Ok-clause-step c =
         choice = λ k T. ratio_choice k t T (Some x) L c.in_ok-least_legal_ratio.ensures.defined;
         legal = L.legal;
         weight = c.present_weight-weight.ensures;
-        next = c.in-Ok.ensures.next;
+        next = c.in_ok-remove-in-Some.ensures.next;
         defined = c.in_ok-least_legal_ratio.ensures.defined;
       };
       least = L.least;
     }
 
-pub returns-in-Err-clause-wide : goal.returns-in-Err-clause-wide
-returns-in-Err-clause-wide c =
+pub returns-in_err-remove-in-Some-clause-wide : goal.returns-in_err-remove-in-Some-clause-wide
+returns-in_err-remove-in-Some-clause-wide c =
     let t = trial c.args.self.now in
-    inr (record {
+    let told = err_from_is_err_and c.from_residual-in_err-remove-in-Some.result c.from_residual-in_err-remove-in-Some.ensures.1 in
+    subst (λ r. IfErr r (IsStepFault Ratio t)) (sym told.1)
+    (subst (IsStepFault Ratio t) (sym told.2)
+    (inr (record {
       hypothesis = c.in-Some.candidate.hypothesis;
       choice = λ k T. ratio_choice k t T (Some c.in-Some.candidate)
           (subst (IsLegalChoice t) c.in-Some.is c.in_ok-least_legal_ratio.ensures.choice) c.in_ok-least_legal_ratio.ensures.defined;
       defined = c.in_ok-least_legal_ratio.ensures.defined;
-      refused = c.in-Err.ensures.wide;
-    })
+      refused = c.in_err-remove-in-Some.ensures.wide;
+    })))
+
+pub returns-in_ok-remove-in-Some-clause-trial : goal.returns-in_ok-remove-in-Some-clause-trial
+returns-in_ok-remove-in-Some-clause-trial c = λ k T.
+    let t = trial c.args.self.now in
+    let j = c.in-Some.candidate.hypothesis in
+    let L = subst (IsLegalChoice t) c.in-Some.is c.in_ok-least_legal_ratio.ensures.choice in
+    next_trial k t T j (trial c.remove.new.self) (may_legal k t T j L.legal) c.in_ok-remove-in-Some.ensures.next
