@@ -13,7 +13,8 @@ use Rattle.case_model.specs.declared.draft_component.DraftComponent.{DraftCompon
 use Rattle.case_model.specs.Draft.{goes_between, have_known_ends, have_known_arrivals}
 use Rattle.edge_expression.specs.EntryReading.{IsEntryText}
 use Rattle.case_csv.specs.declared.table.Table.{Table}
-use Rattle.case_csv.specs.Table.{Cells, bare, cells_of, RowSaid, AreRows, is_zero_weight, edge_at, row_edges, table_edges, one, IsHeader, draft_of}
+use Rattle.edge_text.specs.CanonicalText.{is_absent}
+use Rattle.case_csv.specs.Table.{Cells, bare, cells_of, RowSaid, AreRows, edge_at, row_edges, table_edges, one, IsHeader, draft_of}
 use Rattle.case_csv.specs.Records.{Fields, records_of}
 use Rattle.case_csv.specs.View.{cells_in, kept, keeps, IsTableOf, one_component, IsKeptDraft}
 use Rattle.case_csv.proofs.CsvFaults.{header_wide}
@@ -40,7 +41,7 @@ all_append count (e ∷ es) fs h k =
     both_true (goes_between count e) (list_all (goes_between count) (es ++ fs)) parts.0 (all_append count es fs parts.1 k)
 
 edge_known : (count from to : ℕ) (entry : List Ratio) → from < count → to < count → list_all (goes_between count) (edge_at from to entry) ≡ true
-edge_known count from to entry f t = by ((from == to) && is_zero_weight entry)
+edge_known count from to entry f t = by ((from == to) && is_absent entry)
   where
     by : (b : Bool) → list_all (goes_between count) (if b then [] else record { from = from; to = to; entry = entry } ∷ []) ≡ true
     by true = refl

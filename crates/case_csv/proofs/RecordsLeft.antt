@@ -172,23 +172,24 @@ known s = Some s.now
 
 -- a new reader stands before all records
 pub at_start : (reader : Reader (Bor (List ℕ))) (bytes : List ℕ) → source_of known reader ≡ Some (strip_bom bytes) → reader.state ≡ st.StartRecord
-    → reader.config ≡ default_config → reader.trim ≡ trims.None → Ready reader
+    → reader.config ≡ default_config → reader.trim ≡ trims.None → reader.flexible ≡ true → Ready reader
     → StandsBefore reader (records_of bytes)
 unfolding records_of
-at_start reader bytes source state config trim ready = record {
+at_start reader bytes source state config trim flexible ready = record {
   bytes = strip_bom bytes;
   source = source;
   start = rw state refl;
   config = config;
   trim = trim;
+  flexible = flexible;
   ready = ready;
   rest_is = ap (λ s. records_from default_config (length (strip_bom bytes) + 1) s (strip_bom bytes)) (sym state);
 }
 
 -- a read of a record takes the next one, if there is one
 pub taken : (old new : Reader (Bor (List ℕ))) (rest : List Fields) (found : Bool) (fields : Fields) → StandsBefore old rest
-    → ReadRecord known old new found fields → new.first ≡ true → Takes found rest fields new
-taken old new rest true fields stands read first =
+    → ReadRecord known old new found fields → new.flexible ≡ old.flexible → new.first ≡ true → Takes found rest fields new
+taken old new rest true fields stands read flexible first =
     let more = rows-more known old new fields default_config old.state stands.bytes stands.bytes [] stands.config stands.source
     (reached_none old.state stands.bytes) read in
     let p = reached_one old.state stands.bytes fields new.state more.0 more.2 in
@@ -202,9 +203,10 @@ taken old new rest true fields stands read first =
         start = subst (λ s. ends_at_end s ≡ false) p.3 left.starts;
         config = read.2 ∙ stands.config;
         trim = read.3 ∙ stands.trim;
+        flexible = flexible ∙ stands.flexible;
         ready = inl first;
         rest_is = refl;
       },
     )
-taken old new rest false fields stands read first = stands.rest_is
+taken old new rest false fields stands read flexible first = stands.rest_is
     ∙ none_left old.state stands.bytes (rows-end known old new fields default_config stands.bytes stands.config stands.source read)

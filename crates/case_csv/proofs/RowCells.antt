@@ -53,9 +53,6 @@ accepts_more name cells n cell before there is =
 
 -- ---- refused cells
 
-pub bad_width : (width : ℕ) (name : List ℕ) (cells : Cells) → length cells ≢ width → IsBadRow width name cells 1 Width
-bad_width width name cells other = inl (other, refl, refl)
-
 pub bad_cell : (width : ℕ) (name : List ℕ) (cells : Cells) (place column : ℕ) (cell : List ℕ) (kind : RowKind) → length cells ≡ width
     → slice_get cells place ≡ Some cell → AcceptsBelow name cells place → Refuses name place cell kind → column ≡ place + 1
     → IsBadRow width name cells column kind

@@ -16,7 +16,7 @@ use Rattle.field_core.specs.Order.{◌≤ε◌}
 use Rattle.field_core.specs.Sums.{sum_below}
 use Rattle.field_core.specs.View.{terms}
 use Rattle.field_core.specs.declared.ratio.Ratio.{Ratio}
-use Rattle.fraction.specs.Tests.{is_one, is_zero}
+use Rattle.fraction.specs.Tests.{is_one}
 use Rattle.fraction.proofs.SameRatios.{same_ratio}
 use Rattle.case_model.specs.declared.component.Component.{Component}
 use Rattle.case_model.specs.declared.draft.Draft.{Draft}
@@ -42,7 +42,7 @@ use Rattle.edge_text.proofs.CanonicalDrafts.{before, edges_from, untabled, five,
 use Rattle.edge_text.proofs.CanonicalDrafts as canonical
 use Rattle.edge_text.proofs.CanonicalValidity.{IsListed, each_cons, canonical_faultless}
 use Rattle.case_csv.specs.Sheet.{are_staged}
-use Rattle.case_csv.specs.Table.{RowSaid, is_zero_weight, table_edges, one, component_of, draft_of}
+use Rattle.case_csv.specs.Table.{RowSaid, table_edges, one, component_of, draft_of}
 use Rattle.case_csv.proofs.SheetEdges.{edge, said, rows_said, edges_each, edges_once, table_again}
 
 -- ---- single values
@@ -51,20 +51,6 @@ pub one_is : (x : Ratio) → is_one (terms x) ≡ true → x ≡ one
 one_is x h =
     let w = both _ _ h in
     same_ratio x one (ap₂ (λ n d. record { num = n; den = d }) ((Decides-int_eq x.num (pos 1)).0 w.left) ((Decides-int_eq x.den (pos 1)).0 w.right))
-
-turned : (a b c d e : Bool) → (a && (b && (c && (d && (e && true))))) ≡ true → ((((a && b) && c) && d) && e) ≡ true
-turned false b c d e h = absurd (true≢false (sym h))
-turned true false c d e h = absurd (true≢false (sym h))
-turned true true false d e h = absurd (true≢false (sym h))
-turned true true true false e h = absurd (true≢false (sym h))
-turned true true true true false h = absurd (true≢false (sym h))
-turned true true true true true h = refl
-
-zeros_are_absent : (e : List Ratio) → is_zero_weight e ≡ true → is_absent e ≡ true
-unfolding is_absent
-zeros_are_absent e h =
-    turned (is_zero (terms (ratio_at e 0))) (is_zero (terms (ratio_at e 1))) (is_zero (terms (ratio_at e 2))) (is_zero (terms (ratio_at e 3)))
-    (is_zero (terms (ratio_at e 4))) h
 
 five_or : (table : List (List Ratio)) (q : ℕ) → list_all five table ≡ true → length (get_or table q no_edge) ≡ 5
 five_or [] q h = refl
@@ -76,9 +62,9 @@ unfolding entry_at
 five_at m table i j h = five_or table (i * m + j) h
 
 -- an entry of zeros is no edge
-zeros : (m : ℕ) (table : List (List Ratio)) → list_all five table ≡ true → (i j : ℕ) → is_zero_weight (entry_at m table i j) ≡ true
+zeros : (m : ℕ) (table : List (List Ratio)) → list_all five table ≡ true → (i j : ℕ) → is_absent (entry_at m table i j) ≡ true
     → entry_at m table i j ≡ no_edge
-zeros m table h i j z = absent_is (entry_at m table i j) (five_at m table i j h) (zeros_are_absent (entry_at m table i j) z)
+zeros m table h i j z = absent_is (entry_at m table i j) (five_at m table i j h) z
 
 no_edge_zero : is_zero_entry no_edge ≡ true
 unfolding is_zero_entry

@@ -121,10 +121,6 @@ plain_bare field h =
 pub word_bare : (field : List ℕ) → IsWord field → bare field ≡ field
 word_bare field h = plain_bare field h.plain
 
-fields_bare : (fields : Fields) → AllByRecursion (λ f. bare f ≡ f) fields → map bare fields ≡ fields
-fields_bare [] h = refl
-fields_bare (f ∷ fs) h = ap₂ ◌∷◌ h.0 (fields_bare fs h.1)
-
 names_bare : (names : List (List ℕ)) → Each names IsWord → map bare names ≡ names
 names_bare [] h = refl
 names_bare (n ∷ ns) h = ap₂ ◌∷◌ (word_bare n (h 0 n refl)) (names_bare ns (λ i x e. h (suc i) x e))

@@ -1,5 +1,5 @@
 -- The records of a text of CSV, without a header row set apart, and the text of records.
-use Rattle.std.specs.Prelude.{◌≡◌, ℕ, ◌+◌, List, length, Some, false, flat_map}
+use Rattle.std.specs.Prelude.{◌≡◌, ℕ, ◌+◌, List, length, Some, true, false, flat_map}
 use Rattle.std.specs.Borrow.{Bor}
 use Rattle.csv.specs.Machine.{ends_at_end}
 use Rattle.csv.specs.Reading.{default_config, strip_bom, records, records_from, source_of, Ready}
@@ -19,12 +19,13 @@ records_of bytes = records default_config (strip_bom bytes)
 unfoldable pub text_of : List Fields → List ℕ
 text_of rows = flat_map (row_text default_writer) rows
 
--- These records are still to come from a reader of bytes.
+-- These records are still to come from a reader of bytes, which takes records of any length.
 pub record StandsBefore (reader : Reader (Bor (List ℕ))) (rest : List Fields) : Type 0 where
   pub bytes : List ℕ
   pub source : source_of (λ s. Some s.now) reader ≡ Some bytes
   pub start : ends_at_end reader.state ≡ false
   pub config : reader.config ≡ default_config
   pub trim : reader.trim ≡ trims.None
+  pub flexible : reader.flexible ≡ true
   pub ready : Ready reader
   pub rest_is : rest ≡ records_from default_config (length bytes + 1) reader.state bytes

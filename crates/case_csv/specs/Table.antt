@@ -1,18 +1,17 @@
 -- What the records of CSV say: a header, and for each hypothesis a name, a weight, a p-value and a row of edges.
 use Rattle.std.specs.Prelude.{◌≡◌, pos, ℕ, ◌+◌, ◌-◌, ◌<◌, ◌==◌, ◌&&◌, ◌||◌, Bool, true, false, if◌then◌else◌, List, [], ◌∷◌, ◌++◌, Option, Some, None, map, length, take, drop, slice_get, codes}
-use Rattle.std.specs.List.{AllZip, list_all, range_with_len, suffix_len}
+use Rattle.std.specs.List.{AllZip, suffix_len}
 use Rattle.std.specs.Option.{option_map_or}
 use Rattle.std.specs.Str.{bytes_eq}
 use Rattle.field_core.specs.View.{terms}
 use Rattle.field_core.specs.declared.ratio.Ratio.{Ratio}
 use Rattle.fraction.specs.Numeral.{IsNumeralOf}
 use Rattle.fraction.specs.Plain.{one_reduced}
-use Rattle.fraction.specs.Tests.{is_zero}
-use Rattle.case_model.specs.Sums.{ratio_at}
 use Rattle.case_model.specs.declared.draft.Draft.{Draft}
 use Rattle.case_model.specs.declared.draft_component.DraftComponent.{DraftComponent}
 use Rattle.case_model.specs.declared.draft_edge.DraftEdge.{DraftEdge}
 use Rattle.edge_expression.specs.EntryReading.{IsEntryText}
+use Rattle.edge_text.specs.CanonicalText.{is_absent}
 use Rattle.text_lines.specs.Words.{is_blank, after_blanks}
 use Rattle.case_csv.specs.Records.{records_of}
 
@@ -85,13 +84,9 @@ AreRows width names rows said = ⊥
 
 -- ---- the draft
 
--- the coefficient of each power is 0
-abbrev pub is_zero_weight : List Ratio → Bool
-is_zero_weight entry = list_all (λ power. is_zero (terms (ratio_at entry power))) (range_with_len 0 5)
-
 -- the edge of an entry, where it has one: a zero from a hypothesis to itself is none
 abbrev pub edge_at : ℕ → ℕ → List Ratio → List DraftEdge
-edge_at from to entry = if (from == to) && is_zero_weight entry then [] else record { from = from; to = to; entry = entry } ∷ []
+edge_at from to entry = if (from == to) && is_absent entry then [] else record { from = from; to = to; entry = entry } ∷ []
 
 -- the edges of a row, from the hypothesis at one place to that at another place and to those behind it
 abbrev pub row_edges : ℕ → ℕ → List (List Ratio) → List DraftEdge

@@ -3,7 +3,7 @@ ghost use Rattle.std.specs.Prelude.{◌≡◌, ◌<◌, ◌≤◌, false, true, 
 ghost use Rattle.field_core.specs.View.{terms};
 ghost use Rattle.fraction.specs.Numeral.{IsNumeralOf};
 ghost use Rattle.edge_expression.specs.EntryReading.{IsEntryText};
-ghost use Rattle.case_csv.specs.Table.{bare, is_heading, has_heading, is_missing, IsPlace, is_zero_weight};
+ghost use Rattle.case_csv.specs.Table.{bare, is_heading, has_heading, is_missing, IsPlace};
 ghost use Rattle.case_csv.specs.Faults.{IsNumeralFault, IsEntryFault};
 ghost use Rattle.case_csv.specs.View.{cells};
 ghost use Rattle.std.specs.List.{suffix_len};
@@ -116,11 +116,4 @@ pub fn entry(cell: &[u8]) -> Result<Entry, RowKind>
         Ok(entry) => Ok(entry),
         Err(fault) => Err(RowKind::Expr(fault)),
     }
-}
-
-/// Whether the coefficient of each power is 0.
-pub fn is_zero(entry: &Entry) -> bool
-    ensures { result ≡ is_zero_weight entry.now }
-{
-    (0..5).all(|power| entry.coefficient(power).is_zero())
 }

@@ -9,10 +9,11 @@ ghost use Rattle.case_csv.specs.Table.{HasCell, IsPlace, RowSaid, IsRow, edge_at
 ghost use Rattle.case_csv.specs.Faults.{IsBadRow, IsBadCell, AcceptsBelow};
 ghost use Rattle.case_csv.specs.View.{cells, kept, IsAtRow, TakesRow, HasStart};
 
-use crate::cells::{cell, entry, is_zero, numeral, p_value, width};
+use crate::cells::{cell, entry, numeral, p_value, width};
 use crate::{CsvFault, RowKind};
 use case_model::{DraftEdge, Entry};
 use csv::ByteRecord;
+use edge_text::is_absent;
 use field_core::{List, NoMemory};
 use fraction::Fraction;
 use std::alloc::Global;
@@ -125,7 +126,7 @@ impl Table {
         ensures weights { self.new.weights ≡ self.old.weights }
         ensures p { self.new.p ≡ self.old.p }
     {
-        if keep && !(from == to && is_zero(&entry)) {
+        if keep && !(from == to && is_absent(&entry)) {
             self.edges.push(DraftEdge { from, to, entry })?;
         }
         Ok(())

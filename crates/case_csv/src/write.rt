@@ -6,7 +6,7 @@ ghost use Rattle.csv.specs.Writing.{default_writer, row_text};
 ghost use Rattle.edge_expression.specs.EntryTexts.{entry_text};
 ghost use Rattle.case_model.specs.CaseView.{content};
 ghost use Rattle.case_model.specs.Content.{component_at};
-ghost use Rattle.edge_text.specs.CanonicalText.{is_alone, number_word};
+ghost use Rattle.edge_text.specs.CanonicalText.{number_word};
 ghost use Rattle.case_csv.specs.Reading.{IsCaseOf};
 ghost use Rattle.case_csv.specs.Sheet.{fits_sheet, header_fields, p_field, edge_fields, row_fields, sheet_text};
 ghost use Rattle.case_csv.specs.View.{HasFields, HasWritten};
@@ -14,17 +14,10 @@ ghost use Rattle.case_csv.specs.View.{HasFields, HasWritten};
 use case_model::{Case, Entry, Inputs};
 use csv::{ByteRecord, Writer, WriterBuilder};
 use edge_expression::print_entry;
+use edge_text::is_alone;
 use field_core::{List, NoMemory, Number, Text};
 use fraction::Fraction;
 use std::alloc::Global;
-
-/// Whether there is one component, and its share is 1.
-#[tactic(auto, unfolding(edge_text::specs::CanonicalText::is_alone))]
-fn is_alone(case: &Case) -> bool
-    ensures { result ≡ is_alone (content case.now).components }
-{
-    case.components() == 1 && case.share(0).is_one()
-}
 
 /// Whether a sheet can hold a case: it has one component, of share 1, and no stages.
 #[tactic(auto, unfolding(crate::specs::Sheet::fits_sheet))]

@@ -65,10 +65,6 @@ next_by e p k false h =
 upto_next : (e : List Terms) (p : ℕ) → tabled (λ k. if k == p then terms_at e p else upto e p k) ≡ tabled (upto e (suc p))
 upto_next e p = same_tabled (λ k. if k == p then terms_at e p else upto e p k) (upto e (suc p)) (λ k h. next_by e p k (eqb k p) refl)
 
-zero_if : (b : Bool) → cond b zero_terms zero_terms ≡ zero_terms
-zero_if true = refl
-zero_if false = refl
-
 -- with a coefficient more that is 0
 skip_by : (e : List Terms) (p k : ℕ) (b : Bool) → terms_at e p ≡ zero_terms → eqb k p ≡ b → upto e p k ≡ cond b (terms_at e p) (upto e p k)
 skip_by e p k true z h = let same : k ≡ p = eqb-true k p h in ap (upto e p) same ∙ upto_here e p ∙ sym z
@@ -148,9 +144,6 @@ and_more : (v : List Terms) (sign : Sign) (t : Term) (ts : MoreTerms)
     → with_terms v (AndTerm sign t ts) ≡ (term_value t >>= λ x. joined sign v x >>= λ l. with_terms l ts)
 unfolding with_terms
 and_more v sign t ts = refl
-
-joint_if : (f b : Bool) → List ℕ
-joint_if f b = joint_text f b
 
 sign_text_is : (b : Bool) → joint_text false b ≡ token_text (SignToken (sign_if b))
 unfolding sign_if

@@ -43,15 +43,6 @@ coefficients_are f g h = rw (h 0 (omega arith), h 1 (omega arith), h 2 (omega ar
 abbrev pub single : ℕ → Terms → ℕ → Terms
 single p t k = if k == p then t else zero_terms
 
-single_here : (p : ℕ) (t : Terms) (k : ℕ) → k ≡ p → single p t k ≡ t
-single_here p t k e = let h : eqb k p ≡ true = grind (arith, nat_tests) in ap (λ b. cond b t zero_terms) h
-
-single_other : (p : ℕ) (t : Terms) (k : ℕ) → (k ≡ p → ⊥) → single p t k ≡ zero_terms
-single_other p t k n = let h : eqb k p ≡ false = grind (arith, nat_tests) in ap (λ b. cond b t zero_terms) h
-
-same_or_not : (k p : ℕ) → (k ≡ p) ⊎ (k ≡ p → ⊥)
-same_or_not k p = elim (cases_Bool (eqb k p)) [ inl e ↦ inl (eqb-true k p e) | inr e ↦ inr (eqb-false k p e) ]
-
 -- ---- powers and products with a number
 
 pub power_is : (p : ℕ) → p ≤ 4 → power_value p ≡ Ok (tabled (single p one_terms))

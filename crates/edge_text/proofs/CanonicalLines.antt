@@ -110,9 +110,9 @@ name_word names i h l = h i (name_at names i) (slice_get-get_or names i [] l)
 
 behind_three : (a b c t : List ℕ) → IsWord a → IsWord b → IsWord c → behind_words 3 (line_spelt (a ∷ b ∷ c ∷ t ∷ [])) ≡ 32 ∷ (t ++ [])
 behind_three a b c t ha hb hc =
-    ap (behind_words 2) (behind_spelt a (b ++ 32 ∷ (c ++ 32 ∷ (t ++ []))) ha)
-    ∙ ap (behind_words 1) (behind_blank (b ++ 32 ∷ (c ++ 32 ∷ (t ++ []))) ∙ behind_spelt b (c ++ 32 ∷ (t ++ [])) hb)
-    ∙ behind_blank (c ++ 32 ∷ (t ++ [])) ∙ behind_spelt c (t ++ []) hc
+    ap (behind_words 2) (behind_spelt 32 a (b ++ 32 ∷ (c ++ 32 ∷ (t ++ []))) refl ha)
+    ∙ ap (behind_words 1) (behind_blank 32 (b ++ 32 ∷ (c ++ 32 ∷ (t ++ []))) refl ∙ behind_spelt 32 b (c ++ 32 ∷ (t ++ [])) refl hb)
+    ∙ behind_blank 32 (c ++ 32 ∷ (t ++ [])) refl ∙ behind_spelt 32 c (t ++ []) refl hc
 
 edge_word : IsWord (codes "edge")
 edge_word = high_word (codes "edge") (omega arith) refl

@@ -19,15 +19,6 @@ pub record LinesRead (names : Words) (initial left : List Row) (reading : Readin
   pub taken : initial ≡ lines ++ left
   pub lead : (alpha : Ratio) → Lead (Values (named alpha names)) (texts_in lines) (place_at alpha names reading)
 
-pub none_read : (names : Words) (rows : List Row) (reading : Reading) → reading.next ≡ nexts.Values → reading.p ≡ [] → reading.components ≡ []
-    → LinesRead names rows rows reading
-none_read names rows reading n p k = record {
-  lines = [];
-  taken = refl;
-  lead = λ alpha i. place_by (n i) (record { names = names; alpha = alpha; p = p i; components = k i; stages = None }) reading.component reading.stages
-      reading.steps reading.name.now reading.left.now;
-}
-
 pub one_read : (names : Words) (index : NameIndex) (initial left rest : List Row) (row : Row) (old new : Reading) → IsIndexOf index names
     → left ≡ row ∷ rest → ReadsBy index names old row.text new → LinesRead names initial left old → LinesRead names initial rest new
 one_read names index initial left rest row old new known l s r = record {

@@ -261,57 +261,6 @@ pub names_unexpected : (alpha : Ratio) (line : List ℕ) (number : ℕ) (fault :
     → Misses (codes "hypotheses") line → IsOnLine number (IsBad (Names alpha) line) fault
 names_unexpected alpha line number fault e n = subst (IsOnLine number (IsBad (Names alpha) line)) (sym e) (refl, inl (names_other alpha line n, refl))
 
-values_other : (d : Draft) (line : List ℕ) → Misses (codes "p") line → Misses (codes "component") line → Misses (codes "weights") line
-    → IsOther (Values d) line
-values_other d line p s w PWord m = p
-values_other d line p s w ShareWord m = s
-values_other d line p s w WeightsWord m = w
-values_other d line p s w keyword m = absurd (let e : false ≡ true = m in cc)
-
-block_other : (d : Draft) (line : List ℕ) → Misses (codes "component") line → Misses (codes "weights") line → IsOther (Block d) line
-block_other d line s w ShareWord m = s
-block_other d line s w WeightsWord m = w
-block_other d line s w keyword m = absurd (let e : false ≡ true = m in cc)
-
-weights_other : (d : Draft) (share : Ratio) (line : List ℕ) → Misses (codes "weights") line → IsOther (Weights d share) line
-weights_other d share line w WeightsWord m = w
-weights_other d share line w keyword m = absurd (let e : false ≡ true = m in cc)
-
-edge_other : (d : Draft) (k : DraftComponent) (line : List ℕ) → Misses (codes "edge") line → Misses (codes "stages") line
-    → IsOther (Edges false d k) line
-edge_other d k line e t EdgeWord m = e
-edge_other d k line e t StagesWord m = t
-edge_other d k line e t keyword m = absurd (let f : false ≡ true = m in cc)
-
-edge_or_block_other : (d : Draft) (k : DraftComponent) (line : List ℕ) → Misses (codes "edge") line → Misses (codes "component") line
-    → Misses (codes "stages") line → IsOther (Edges true d k) line
-edge_or_block_other d k line e s t EdgeWord m = e
-edge_or_block_other d k line e s t ShareWord m = s
-edge_or_block_other d k line e s t StagesWord m = t
-edge_or_block_other d k line e s t keyword m = absurd (let f : false ≡ true = m in cc)
-
-module _ (old : Reading) (line : List ℕ) (number : ℕ) (fault : TextFault) (is : fault ≡ faults.Line number Unexpected) where
-  others : Refuses old line Unexpected → IsOnLine number (Refuses old line) fault
-  others h = subst (IsOnLine number (Refuses old line)) (sym is) (refl, h)
-
-  pub values_unexpected : old.next ≡ nexts.Values → Misses (codes "p") line → Misses (codes "component") line → Misses (codes "weights") line
-      → IsOnLine number (Refuses old line) fault
-  values_unexpected e p s w = others (bad_at old line nexts.Values Unexpected e (λ d k. inl (values_other d line p s w, refl)))
-
-  pub block_unexpected : old.next ≡ nexts.Block → Misses (codes "component") line → Misses (codes "weights") line
-      → IsOnLine number (Refuses old line) fault
-  block_unexpected e s w = others (bad_at old line nexts.Block Unexpected e (λ d k. inl (block_other d line s w, refl)))
-
-  pub weights_unexpected : old.next ≡ nexts.Weights → Misses (codes "weights") line → IsOnLine number (Refuses old line) fault
-  weights_unexpected e w = others (bad_at old line nexts.Weights Unexpected e (λ d k. inl (weights_other d k.share line w, refl)))
-
-  pub edge_unexpected : old.next ≡ nexts.Edge → Misses (codes "edge") line → Misses (codes "stages") line → IsOnLine number (Refuses old line) fault
-  edge_unexpected e w t = others (bad_at old line nexts.Edge Unexpected e (λ d k. inl (edge_other d k line w t, refl)))
-
-  pub edge_or_block_unexpected : old.next ≡ nexts.EdgeOrBlock → Misses (codes "edge") line → Misses (codes "component") line
-      → Misses (codes "stages") line → IsOnLine number (Refuses old line) fault
-  edge_or_block_unexpected e w s t = others (bad_at old line nexts.EdgeOrBlock Unexpected e (λ d k. inl (edge_or_block_other d k line w s t, refl)))
-
 -- an edge that is refused, with the names of the index
 pub edge_refused : (index : NameIndex) (known_names : Words) (old : Reading) (line : List ℕ) (words : Words) (number : ℕ) (fault : TextFault) (here : Next)
     → old.next ≡ here → words_of line ≡ codes "edge" ∷ words

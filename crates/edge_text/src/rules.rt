@@ -9,8 +9,9 @@ ghost use Rattle.edge_text.specs.View.{IsOnLine, SayShares, SayStep, AreGiven, I
 
 use crate::ends::Ends;
 use crate::spend_words::{SharesWords, StepWords};
-use crate::{LineKind, TextFault, read_entry};
+use crate::{LineKind, TextFault};
 use case_model::{Arrival, DraftEdge, Entry, NameIndex, SpendStep};
+use edge_expression::read_entry;
 use field_core::{List, NoMemory, Text};
 use fraction::{Fraction, whole_number};
 use std::alloc::Global;

@@ -7,10 +7,10 @@ ghost use Rattle.edge_text.specs.CanonicalText.{alpha_words, names_words, p_word
 ghost use Rattle.edge_text.specs.Reading.{IsCaseOf};
 ghost use Rattle.edge_text.specs.View.{line_of};
 
-use crate::print_entry;
 use crate::write_stages::put_stages;
 use crate::write_words::{put_name, put_names, put_number, put_numbers};
 use case_model::{Case, Entry, Inputs};
+use edge_expression::print_entry;
 use field_core::{List, NoMemory, Number, Text};
 use fraction::Fraction;
 use std::alloc::Global;
@@ -156,7 +156,7 @@ fn put_block(
 
 /// Whether there is one component, and its share is 1.
 #[tactic(auto, unfolding(crate::specs::CanonicalText::is_alone))]
-fn is_alone(case: &Case) -> bool
+pub fn is_alone(case: &Case) -> bool
     ensures { result ≡ is_alone (content case.now).components }
 {
     case.components() == 1 && case.share(0).is_one()

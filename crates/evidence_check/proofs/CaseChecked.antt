@@ -27,7 +27,9 @@ use Rattle.case_numbers.proofs.Components.{is_component, place, can_run, can_loa
 use Rattle.case_numbers.proofs.LoadedNumbers.{exact_in, weight_loaded, edge_loaded}
 use Rattle.evidence_check.specs.Evidence.{KeepsOthers, listed}
 use Rattle.evidence_check.specs.EvidenceParts.{StepParts, KeepParts, step_values}
-use Rattle.evidence_check.specs.CheckSteps.{written_at}
+use Rattle.evidence_check.specs.CheckSteps.{written_at, numbered}
+use Rattle.evidence_check.specs.BrokenConditions.{IsBrokenBy}
+use Rattle.evidence_check.specs.declared.verdict.Reason.{Reason}
 use Rattle.evidence_check.specs.WrittenCheck.{written_check}
 use Rattle.evidence_check.specs.CheckStatements.{IsLoaded, AreStoredSteps}
 use Rattle.evidence_check.specs.CaseCheck.{p_values_of, IsSingle, given_or, written_edge, AllLoad, loaded_case, edge_load, row_load, component_load, all_loads}
@@ -35,6 +37,8 @@ use Rattle.evidence_check.specs.CaseCheck.{check_in, case_check, AreStepsOf, val
 use Rattle.evidence_check.proofs.GoodSteps.{listed_rejected, kept_decides}
 use Rattle.evidence_check.proofs.Tells.{Tells, TellsAt, tells_bind_at, numbered_tells, all_tells_or}
 use Rattle.evidence_check.proofs.WholeCheck.{check_tells}
+use Rattle.evidence_check.proofs.Named.{NamesAt, names_bind_at, names_numbered}
+use Rattle.evidence_check.proofs.NamedConditions.{check_named}
 
 read_tells : (k : ℕ) (place : Place) (r : Result Parts TooWide) (Bad : Type 0)
     → Tells (ok_map {B = Unit {0}} (λ _. tt) (written_at k place r)) (λ _. (x : Parts) × (r ≡ Ok x)) Bad
@@ -114,6 +118,32 @@ module _ (c : Content) (V : IsValidContent c) where
         bad = λ reason h. (each_load_tells (numbers_of c) c (¬ MeetsIn c steps keeps)).bad reason h;
       }))
       (λ _ loaded. rest_tells steps keeps S loaded)
+
+module _ (c : Content) (V : IsValidContent c) where
+  abbrev IsBrokenIn : List StepParts → List KeepParts → ℕ → Reason → Type 0
+  IsBrokenIn steps keeps = IsBrokenBy (entangled c) (number_at (p_values_of c.inputs)) (number_of c.alpha) (values_in c steps keeps)
+
+  rest_named : (steps : List StepParts) (keeps : List KeepParts) → AreStepsOf c steps keeps → AllLoad (numbers_of c) c
+      → NamesAt (written_check (kind_of (numbers_of c)) (loaded_case (kind_of (numbers_of c)) (numbers_of c) c) steps keeps) (IsBrokenIn steps keeps)
+  unfolding loaded_case
+  rest_named steps keeps S loaded =
+      check_named (kind_of (numbers_of c)) (IsStoredIn (numbers_of c)) (exact_in (numbers_of c)) (loaded_case (kind_of (numbers_of c)) (numbers_of c) c)
+      (entangled c) (valid_content c V) (is_loaded c V (numbers_of c) (can_run c) loaded) steps keeps
+      (subst (λ m. AreStoredSteps (kind_of (numbers_of c)) (IsStoredIn (numbers_of c)) m steps keeps) (same_m c V (length c.names) refl) S)
+
+  -- the condition that the check of a case names is broken
+  pub case_named : (steps : List StepParts) (keeps : List KeepParts) → AreStepsOf c steps keeps
+      → NamesAt (case_check c steps keeps) (IsBrokenIn steps keeps)
+  unfolding case_check check_in
+  case_named steps keeps S =
+      let loads = all_loads (numbers_of c) c in
+      names_bind_at (numbered 0 loads) (λ _. written_check (kind_of (numbers_of c)) (loaded_case (kind_of (numbers_of c)) (numbers_of c) c) steps keeps)
+      (IsBrokenIn steps keeps)
+      (names_numbered 0 loads (IsBrokenIn steps keeps)
+      (record { bad = λ reason h. absurd ((each_load_tells (numbers_of c) c ⊥).bad reason h) }))
+      (λ u e. rest_named steps keeps S
+      ((numbered_tells 0 loads (λ _. AllLoad (numbers_of c) c) ⊥
+      (record { ok = λ u h. loads_done (numbers_of c) c h; bad = λ reason h. (each_load_tells (numbers_of c) c ⊥).bad reason h })).ok u e))
 
 in_inputs : (P : List Ratio → Type 0) (i : Inputs) → IsSingle i → P (p_values_of i) → ForSingle i P
 in_inputs P (Single ps) s h = h

@@ -121,7 +121,7 @@ module _ (K : Kind) (IsStored : Parts → Type 0) (X : IsExact K IsStored) (L : 
     abbrev AllBounded : Type 0
     AllBounded = (c : ℕ) → c < L.components → allowing c ≤ε number_one
 
-    allowing_tells : AllExits → Tells (level_by L x.hypothesis (λ c. allowed_limit K L js (part_at K x.exits c) x.hypothesis c))
+    pub allowing_tells : AllExits → Tells (level_by L x.hypothesis (λ c. allowed_limit K L js (part_at K x.exits c) x.hypothesis c))
         (λ t. Gives IsFraction t (shared E allowing) × AllBounded) (¬ AllBounded)
     allowing_tells exits =
         level_tells K IsStored X L E V D x.hypothesis (λ c. allowed_limit K L js (part_at K x.exits c) x.hypothesis c) (λ c. limit (allowing c))

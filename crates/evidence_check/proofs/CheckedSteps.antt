@@ -108,7 +108,7 @@ module _ (K : Kind) (IsStored : Parts → Type 0) (X : IsExact K IsStored) (L : 
           (λ c. AreFlows (E.graph c) js (λ e. value_of (part_at K s.flows c e)))
           (λ c q. flows_tell c (within c q) (part_at K s.flows c) (value c) (Y_gives c))
 
-      bringing_tells : (new : set_of js s.hypothesis ≡ false) (flows : AllFlows) (Bad : Type 0)
+      pub bringing_tells : (new : set_of js s.hypothesis ≡ false) (flows : AllFlows) (Bad : Type 0)
           → Tells (level_by L s.hypothesis (λ c. level_limit K L js (part_at K s.flows c) s.hypothesis c)) (λ t. Gives IsFraction t (shared E bringing)) Bad
       bringing_tells new flows Bad =
           tells_if (level_by L s.hypothesis (λ c. level_limit K L js (part_at K s.flows c) s.hypothesis c)) _ _ _ _ (λ t g. g.0) (λ b. b)

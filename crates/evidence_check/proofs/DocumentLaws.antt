@@ -1,5 +1,5 @@
 -- Texts say one evidence, or have one first fault.
-use Rattle.std.proofs.Common.{◌≡◌, subst, inl, inr, ℕ, List, Result, Ok, Err}
+use Rattle.std.proofs.Common.{◌≡◌, ◌⊎◌, refl, subst, inl, inr, ℕ, List, Result, Ok, Err}
 use Rattle.text_lines.specs.Lines.{rows_of, end_of}
 use Rattle.case_model.specs.Content.{Content}
 use Rattle.case_numbers.specs.Numbers.{Numbers, numbers_of}
@@ -8,12 +8,12 @@ use Rattle.evidence_check.specs.declared.fault.ProofKind.{ProofKind}
 use Rattle.evidence_check.specs.declared.fault.ProofText.{ProofText}
 use Rattle.evidence_check.specs.declared.fault.ProofText.TheVariants.{Line, NoMemory}
 use Rattle.evidence_check.specs.EvidenceView.{FitsCase, IsEvidenceFor, version_of, steps_of, keeps_of}
-use Rattle.evidence_check.specs.Languages.{FaultAt, reading}
+use Rattle.evidence_check.specs.Languages.{FaultAt, reading, words_in, IsDocument}
 use Rattle.evidence_check.specs.Documents.{Form, evidence_forms, evidence_language}
 use Rattle.evidence_check.specs.NumberReading.{case_frame}
 use Rattle.evidence_check.specs.ReadView.{Stops, SayEvidence, HaveFault}
 use Rattle.evidence_check.specs.DocumentStatements.{start, evidence_reading, SaysEvidence, HasFault, IsProofFault, TextsSayOneEvidence, TextsDontSayAndFail}
-use Rattle.evidence_check.specs.DocumentStatements.{TextsHaveOneFault}
+use Rattle.evidence_check.specs.DocumentStatements.{TextsHaveOneFault, TextsSayOrFail}
 use Rattle.evidence_check.proofs.LanguageLaws.{read_says, document_reads, read_faults, bad_reads, early_reads}
 use Rattle.evidence_check.proofs.NumberFound.{frame_is}
 use Rattle.evidence_check.proofs.OneEvidence.{one_evidence}
@@ -66,3 +66,13 @@ said_or_failed c bytes v fault d h = not_both _ _ _ (says_reads c bytes v d) (fa
 
 pub one_fault : TextsHaveOneFault
 one_fault c bytes fault other h k = same_err fault other _ (fault_reads c bytes fault h) (fault_reads c bytes other k)
+
+pub says_or_fails : TextsSayOrFail
+says_or_fails c bytes = by (evidence_reading (case_frame (numbers_of c) c) bytes) refl
+  where
+    by : (r : Result (List Form) (FaultAt ProofKind)) → evidence_reading (case_frame (numbers_of c) c) bytes ≡ r
+        → ((fs : List Form) × IsDocument (evidence_language (case_frame (numbers_of c) c)) start (words_in (rows_of bytes)) fs)
+        ⊎ ((fault : FaultAt ProofKind) × HasFault c bytes fault)
+    by (Ok fs) e = inl (fs, read_says (evidence_language (case_frame (numbers_of c) c)) start (rows_of bytes) (end_of bytes) fs e)
+    by (Err fault) e =
+        inr (fault, read_faults (evidence_language (case_frame (numbers_of c) c)) start (rows_of bytes) (end_of bytes) fault e)

@@ -8,6 +8,10 @@ pub mod CheckedSums
 pub mod CheckedSteps
 pub mod CheckedKeeps
 pub mod WholeCheck
+pub mod Named
+pub mod NamedSteps
+pub mod NamedKeeps
+pub mod NamedConditions
 pub mod CaseChecked
 pub mod AllSteps
 pub mod AddedSteps

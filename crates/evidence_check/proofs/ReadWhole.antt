@@ -87,10 +87,6 @@ next_no T v js SaysEnd h = refl
 -- ---- behind the last step
 
 module _ (T : Frame) (end v : ℕ) (js : List ℕ) (row : Row) (rows : List Row) (other : words_behind (codes "step") (words_of row.text) ≡ None) where
-  last_at : read_at T (At [] (AtSteps v js)) (words_of row.text) ≡ first_line T (tail T v js) (words_of row.text)
-  unfolding read_at
-  last_at = rw other refl
-
   by_first : (ss : List Slot) → tail T v js ≡ ss → reading (evidence_language T) (At [] (AtSteps v js)) (row ∷ rows) end ≡ reading
       (evidence_language T) (At ss AtEnd) (row ∷ rows) end
   unfolding reading read_at next_at
@@ -114,12 +110,6 @@ goes_ends : (T : Frame) (end : ℕ) (p q : Place) (old cur : List Row) (fs gs : 
     → reading (evidence_language T) q cur end ≡ Ok gs → reading (evidence_language T) p old end ≡ Ok (fs ++ gs)
 unfolding Goes
 goes_ends T end p q old cur fs gs h k = h ∙ ap (with_all fs) k
-
-stops_like : (T : Frame) (end : ℕ) (p q : Place) (old cur : List Row) (fault : ProofText)
-    → reading (evidence_language T) p old end ≡ reading (evidence_language T) q cur end → Stops T end q cur fault → Stops T end p old fault
-unfolding Stops
-stops_like T end p q old cur (faults.Line n kind) e h = e ∙ h
-stops_like T end p q old cur faults.NoMemory e h = tt
 
 -- ---- the whole document
 

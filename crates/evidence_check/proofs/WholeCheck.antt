@@ -26,10 +26,10 @@ append_more : (js : List ℕ) (j : ℕ) (ks : List ℕ) → (js ++ (j ∷ [])) +
 append_more [] j ks = refl
 append_more (i ∷ js) j ks = ap (λ ls. i ∷ ls) (append_more js j ks)
 
-all_first : {A : Type 0} (P : A → Type 0) (x : A) (xs : List A) → All P (x ∷ xs) → P x
+pub all_first : {A : Type 0} (P : A → Type 0) (x : A) (xs : List A) → All P (x ∷ xs) → P x
 all_first P x xs h = h 0 x (omega arith)
 
-all_rest : {A : Type 0} (P : A → Type 0) (x : A) (xs : List A) → All P (x ∷ xs) → All P xs
+pub all_rest : {A : Type 0} (P : A → Type 0) (x : A) (xs : List A) → All P (x ∷ xs) → All P xs
 all_rest P x xs h = λ i d p. h (suc i) d (omega arith)
 
 all_none : {A : Type 0} (P : A → Type 0) → All P []
@@ -51,12 +51,12 @@ module _ (K : Kind) (IsStored : Parts → Type 0) (X : IsExact K IsStored) (L : 
   GoodKeeps js xs = All (IsGoodKeep E L.p L.alpha js) (map (keep_values K) xs)
 
   -- the hypotheses of all steps, which are distinct
-  record After (js : List ℕ) (ss : List StepParts) (ks : List ℕ) : Type 0 where
-    good : GoodSteps js ss
-    order : IsOrder E.hypotheses whole ks
-    is : ks ≡ js ++ listed (map (step_values K) ss)
+  pub record After (js : List ℕ) (ss : List StepParts) (ks : List ℕ) : Type 0 where
+    pub good : GoodSteps js ss
+    pub order : IsOrder E.hypotheses whole ks
+    pub is : ks ≡ js ++ listed (map (step_values K) ss)
 
-  steps_tell : (ss : List StepParts) (js : List ℕ) → IsOrder E.hypotheses whole js → All (λ s. s.hypothesis < E.hypotheses) ss
+  pub steps_tell : (ss : List StepParts) (js : List ℕ) → IsOrder E.hypotheses whole js → All (λ s. s.hypothesis < E.hypotheses) ss
       → All (λ s. (c e : ℕ) → IsStored (part_at K s.flows c e)) ss → TellsAt (steps_check K L js ss) (After js ss) (¬ GoodSteps js ss)
   unfolding steps_check
   steps_tell [] js o B S = tells_ok_at js _ _ (record { good = tt; order = o; is = sym (append_none js) })

@@ -17,6 +17,7 @@ use Rattle.case_model.specs.Validity.{IsValidContent}
 use Rattle.case_model.specs.LegalOrder.{IsListed}
 use Rattle.case_numbers.specs.Numbers.{Numbers, numbers_of, kind_of, IsStoredIn, loaded_weight, loaded_edge}
 use Rattle.evidence_check.specs.Evidence.{EvidenceValues, MeetsConditions, KeepsOthers}
+use Rattle.evidence_check.specs.BrokenConditions.{IsBrokenBy}
 use Rattle.evidence_check.specs.EvidenceParts.{StepParts, KeepParts}
 use Rattle.evidence_check.specs.declared.event.CheckEvent.{CheckEvent}
 use Rattle.evidence_check.specs.declared.event.CheckEventAt.{CheckEventAt}
@@ -128,6 +129,13 @@ abbrev pub CaseChecksAreFair : Type 0
 CaseChecksAreFair =
     (c : Content) (steps : List StepParts) (keeps : List KeepParts) (n : ℕ) (reason : Reason) → IsValidContent c → AreStepsOf c steps keeps
     → case_check c steps keeps ≡ Err (record { number = n; event = Broken reason }) → ¬ MeetsIn c steps keeps
+
+-- The condition that it names, by its number and its reason, is broken, and the steps and keeps before it are good.
+abbrev pub CaseChecksNameBroken : Type 0
+CaseChecksNameBroken =
+    (c : Content) (steps : List StepParts) (keeps : List KeepParts) (n : ℕ) (reason : Reason) → IsValidContent c → AreStepsOf c steps keeps
+    → case_check c steps keeps ≡ Err (record { number = n; event = Broken reason })
+    → IsBrokenBy (entangled c) (number_at (p_values_of c.inputs)) (number_of c.alpha) (values_in c steps keeps) n reason
 
 -- Where it finds nothing, the closed test of the case rejects each hypothesis that is listed.
 abbrev pub CheckedAreRejected : Type 0

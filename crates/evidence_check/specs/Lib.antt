@@ -1,6 +1,7 @@
 pub mod Evidence
 pub mod EvidenceStatements
 pub mod EvidenceParts
+pub mod BrokenConditions
 pub mod EvidenceView
 pub mod CheckSteps
 pub mod WrittenCheck

@@ -2,8 +2,8 @@
 
 ghost use Rattle.evidence_check.specs.EvidenceStatements.{EvidenceListsLegalOrders, EvidenceListsRejections, EvidenceWithKeepsIsComplete, EvidenceWithKeepsDecides};
 ghost use Rattle.evidence_check.specs.CheckStatements.{ChecksAreSound, ChecksAreFair};
-ghost use Rattle.evidence_check.specs.CaseCheck.{CaseChecksAreSound, CaseChecksAreFair, CheckedAreRejected, CheckedAreAllRejected};
-ghost use Rattle.evidence_check.specs.DocumentStatements.{CasesHaveFrames, ReadingsAreDocuments, FaultsAreBadLines, LinesSayOneEvidence, TextsSayOneEvidence, TextsDontSayAndFail, TextsHaveOneFault, LinesSayTheirEvidence, StoredNumbersArePrinted, EvidenceTextsSayIt, FaultsAreWhereNoneGoesOn, NoneGoesOnIsFault};
+ghost use Rattle.evidence_check.specs.CaseCheck.{CaseChecksAreSound, CaseChecksAreFair, CaseChecksNameBroken, CheckedAreRejected, CheckedAreAllRejected};
+ghost use Rattle.evidence_check.specs.DocumentStatements.{CasesHaveFrames, ReadingsAreDocuments, FaultsAreBadLines, LinesSayOneEvidence, TextsSayOneEvidence, TextsDontSayAndFail, TextsHaveOneFault, TextsSayOrFail, LinesSayTheirEvidence, StoredNumbersArePrinted, EvidenceTextsSayIt, FaultsAreWhereNoneGoesOn, NoneGoesOnIsFault};
 
 use field_core::Number;
 
@@ -24,10 +24,11 @@ pub fn checks_decide<F: Number>()
 {}
 
 /// Where the check of a case finds nothing, the evidence meets its conditions, and where it finds a broken condition, it
-/// doesn't.
+/// doesn't: the condition that the number and the reason name is broken, and all before it are met.
 pub fn case_checks_decide()
     ensures sound { CaseChecksAreSound }
     ensures fair { CaseChecksAreFair }
+    ensures named { CaseChecksNameBroken }
 {}
 
 /// Where the check of a case finds nothing, the closed test rejects each hypothesis that is listed. Where all others are
@@ -54,11 +55,13 @@ pub fn lines_say_one_evidence()
     ensures { LinesSayOneEvidence }
 {}
 
-/// A text says at most one evidence of a case, has at most one first fault, and never both.
+/// A text says at most one evidence of a case, has at most one first fault, and never both. Its lines say forms up to an end,
+/// or it has a first fault.
 pub fn texts_have_one_reading()
     ensures evidence { TextsSayOneEvidence }
     ensures either { TextsDontSayAndFail }
     ensures fault { TextsHaveOneFault }
+    ensures each { TextsSayOrFail }
 {}
 
 /// The lines of evidence that fits a case say it, where each number is read from its text, and stored numbers are. So does

@@ -1,7 +1,8 @@
 //! Sheets that make cases, as they are written again, and sheets that are refused, with their rows and columns.
 use crate::checks::expect;
-use case_csv::{CsvFault, ExprFault, RowKind, fits_sheet, read_csv, write_csv};
+use case_csv::{CsvFault, RowKind, fits_sheet, read_csv, write_csv};
 use case_model::{Case, CaseFault};
+use edge_expression::ExprFault;
 use field_core::{List, NoMemory};
 use fraction::{Fraction, NumberFault};
 use std::alloc::Global;

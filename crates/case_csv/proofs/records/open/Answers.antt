@@ -8,4 +8,5 @@ returns c =
     at_start c.from_reader.result c.args.bytes.now from.source from.state
     (rw (c.flexible.ensures, c.has_headers.ensures) at from.config ∙ c.new.ensures.config)
     (rw (c.flexible.ensures, c.has_headers.ensures) at from.trim ∙ c.new.ensures.trim)
+    (rw c.flexible.ensures at from.flexible)
     (inr (inr (rw (c.flexible.ensures, c.has_headers.ensures) at from.has_headers, from.headers)))
