@@ -3,11 +3,14 @@ pub mod CaseShapes
 pub mod CaseValues
 pub mod DocumentRules
 pub mod Drafts
+pub mod HeldIntegers
 pub mod Items
 pub mod LineFeed
 pub mod OneCase
+pub mod ReadsBack
 pub mod Rules
 pub mod SingleRules
 pub mod WholeNumbers
 pub mod WrittenCases
+pub mod WrittenRead
 pub mod WrittenValues
