@@ -1,8 +1,8 @@
 //! Rows by hand.
-use crate::looks::{Given, expect, look_of};
-use field_core::{List, NoMemory, Text};
+use crate::looks::{Given, expect, look_of, looks_of};
+use field_core::{List, Text};
+use graph_io::Look;
 use std::alloc::Global;
-use std::test::Fail;
 use study_sqlite::{LookRow, RowsFault, from_row, read_rows, to_row};
 
 /// The columns of a row.
@@ -24,18 +24,22 @@ const ROWS: &[(Columns, Given)] = &[
     ),
 ];
 
+/// Whether a row has these columns.
+fn has(row: &LookRow, columns: &Columns) -> bool {
+    let (hypothesis, stage, p) = *columns;
+    row.hypothesis == hypothesis && row.stage == stage && row.p.as_bytes() == p.as_bytes()
+}
+
 #[test]
-fn rows_and_looks_correspond(rt: HostRuntime) -> Result<(), Fail> {
-    for ((hypothesis, stage, p), given) in ROWS {
-        let look = look_of(given)?;
-        let row = to_row(rt.alloc(), &look)?;
-        expect(&rt, row.hypothesis == *hypothesis, p);
-        expect(&rt, row.stage == *stage, p);
-        expect(&rt, row.p.as_bytes() == p.as_bytes(), p);
-        let read = from_row(*hypothesis, *stage, p.as_bytes());
+fn rows_and_looks_correspond(rt: HostRuntime) {
+    for (columns, given) in ROWS {
+        let (hypothesis, stage, p) = *columns;
+        let look = look_of(given).expect(&rt, p);
+        let row = to_row(rt.alloc(), &look).expect(&rt, "memory");
+        expect(&rt, has(&row, columns), p);
+        let read = from_row(hypothesis, stage, p.as_bytes());
         expect(&rt, read == Some(look), p);
     }
-    Ok(())
 }
 
 /// Rows of no look: other spellings of a number, texts of none, numbers that no look has, and parts of 128 bits and more.
@@ -65,41 +69,40 @@ const OTHERS: &[Columns] = &[
 #[test]
 fn other_rows_are_of_no_look(rt: HostRuntime) {
     for (hypothesis, stage, p) in OTHERS {
-        expect(
-            &rt,
-            from_row(*hypothesis, *stage, p.as_bytes()).is_none(),
-            p,
-        );
+        let look = from_row(*hypothesis, *stage, p.as_bytes());
+        expect(&rt, look.is_none(), p);
     }
     assert!(rt; from_row(0, 1, b"\xFF").is_none());
 }
 
-/// The rows of these columns.
-fn rows_of(alloc: Global, columns: &[Columns]) -> Result<List<LookRow>, NoMemory> {
+/// The rows of these columns, unless memory runs out.
+fn rows_of(alloc: Global, columns: &[Columns]) -> Option<List<LookRow>> {
     let mut rows = List::new(alloc);
     for (hypothesis, stage, p) in columns {
-        rows.push(LookRow {
+        let p = Text::copy(alloc, p.as_bytes()).ok()?;
+        let row = LookRow {
             hypothesis: *hypothesis,
             stage: *stage,
-            p: Text::copy(alloc, p.as_bytes())?,
-        })?;
+            p,
+        };
+        rows.push(row).ok()?;
     }
-    Ok(rows)
+    Some(rows)
+}
+
+/// What is read of these columns: the looks, or the place of the first row that is of no look.
+fn read(alloc: Global, columns: &[Columns]) -> Option<Result<List<Look>, RowsFault>> {
+    let rows = rows_of(alloc, columns)?;
+    Some(read_rows(alloc, rows.as_slice()))
 }
 
 #[test]
-fn rows_are_read_in_their_order(rt: HostRuntime) -> Result<(), Fail> {
-    let rows = rows_of(rt.alloc(), &[(0, 2, "1/50"), (0, 1, "3/100")])?;
-    let looks = read_rows(rt.alloc(), rows.as_slice())?;
-    let wanted = [look_of(&(0, 2, (1, 50)))?, look_of(&(0, 1, (3, 100)))?];
+fn rows_are_read_in_their_order(rt: HostRuntime) {
+    let looks = read(rt.alloc(), &[(0, 2, "1/50"), (0, 1, "3/100")]);
+    let wanted = looks_of(rt.alloc(), &[(0, 2, (1, 50)), (0, 1, (3, 100))]);
+    let looks = looks.expect(&rt, "rows").expect(&rt, "looks");
+    let wanted = wanted.expect(&rt, "looks");
     assert!(rt; looks.as_slice() == wanted.as_slice());
-    Ok(())
-}
-
-#[test]
-fn the_first_bad_row_is_told(rt: HostRuntime) -> Result<(), Fail> {
-    let rows = rows_of(rt.alloc(), &[(0, 1, "1/50"), (0, 2, "2/100"), (0, 3, "x")])?;
-    let read = read_rows(rt.alloc(), rows.as_slice());
-    assert!(rt; matches!(read, Err(RowsFault::Bad(2))));
-    Ok(())
+    let bad = read(rt.alloc(), &[(0, 1, "1/50"), (0, 2, "2/100"), (0, 3, "x")]);
+    assert!(rt; matches!(bad, Some(Err(RowsFault::Bad(2)))));
 }
