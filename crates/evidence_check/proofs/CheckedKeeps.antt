@@ -21,12 +21,12 @@ use Rattle.case_model.proofs.PassTests.{pass_tested, tested_pass}
 use Rattle.case_model.proofs.NoFaults.{not_true, not_false}
 use Rattle.evidence_check.specs.Evidence.{at_place, leaving, allowed, shared, IsGoodKeep}
 use Rattle.evidence_check.specs.EvidenceParts.{KeepParts, part_at, keep_values}
-use Rattle.evidence_check.specs.CheckSteps.{demand, written_at, all_below}
+use Rattle.evidence_check.specs.CheckSteps.{require, written_at, all_below}
 use Rattle.evidence_check.specs.declared.verdict.Reason.TheVariants.{NegativeExit, ShortExit, AboveOne, Legal}
 use Rattle.evidence_check.specs.WrittenCheck.{Loaded, level_by, leaving_sum, exit_check, allowed_sum, allowed_limit, keep_check}
 use Rattle.evidence_check.specs.CheckStatements.{IsLoaded}
 use Rattle.evidence_check.proofs.Duals.{allowed_low}
-use Rattle.evidence_check.proofs.Tells.{Tells, tells_bind, tells_ok, tells_if, demand_tells, written_tells, all_tells}
+use Rattle.evidence_check.proofs.Tells.{Tells, tells_bind, tells_ok, tells_if, require_tells, written_tells, all_tells}
 use Rattle.evidence_check.proofs.WrittenSums.{true_false, sign_tells, compared}
 use Rattle.evidence_check.proofs.CheckedSums.{limit_gives, level_tells, leave_tells, allow_tells}
 use Rattle.evidence_check.proofs.CheckedSteps.{within, back}
@@ -47,8 +47,8 @@ module _ (K : Kind) (IsStored : Parts → Type 0) (X : IsExact K IsStored) (L : 
     unfolding exit_check
     exit_tells r p =
         let place = Exit (at_place js r) k in
-        tells_bind (demand (not_less (sign_of (h r))) (NegativeExit c r)) _ (λ _. number_zero ≤ε v r) _ (¬ ExitFits r)
-        (tells_if (demand (not_less (sign_of (h r))) (NegativeExit c r)) _ _ _ _ (λ _ g. g) (λ b f. b f.0)
+        tells_bind (require (not_less (sign_of (h r))) (NegativeExit c r)) _ (λ _. number_zero ≤ε v r) _ (¬ ExitFits r)
+        (tells_if (require (not_less (sign_of (h r))) (NegativeExit c r)) _ _ _ _ (λ _ g. g) (λ b f. b f.0)
         (sign_tells K IsStored X (h r) (v r) (NegativeExit c r) (H r)))
         (λ _ low. tells_bind (leaving_sum K L js h k c r) _ (λ x. Gives IsStored x (leaving (E.graph c) js v k (at_place js r))) _ (¬ ExitFits r)
         (leave_tells K IsStored X L E V D js o c q k K_in h v H r (¬ ExitFits r) p)
@@ -56,7 +56,7 @@ module _ (K : Kind) (IsStored : Parts → Type 0) (X : IsExact K IsStored) (L : 
         (written_tells c place (K.compare sum (h r)) (¬ ExitFits r))
         (λ order e.
         let t = compared K IsStored X sum (h r) (leaving (E.graph c) js v k (at_place js r)) (v r) order S (H r) e in
-        demand_tells (is_le order) (ShortExit c r) (ExitFits r) (λ g. (low, sym t ∙ g)) (λ g f. true_false _ f.1 (sym t ∙ g)))))
+        require_tells (is_le order) (ShortExit c r) (ExitFits r) (λ g. (low, sym t ∙ g)) (λ g f. true_false _ f.1 (sym t ∙ g)))))
 
     abbrev ExitsFit : Type 0
     ExitsFit = (r : ℕ) → r < length js → ExitFits r
@@ -78,8 +78,8 @@ module _ (K : Kind) (IsStored : Parts → Type 0) (X : IsExact K IsStored) (L : 
         (written_tells c (Level k) (K.compare sum K.one) _)
         (λ order e.
         let t = compared K IsStored X sum K.one (allowed (E.graph c) js v k) number_one order S (record { stored = X.one_stored; value = X.one_value }) e in
-        tells_bind (demand (is_le order) (AboveOne c)) (λ _. Ok (single (limit_terms sum))) (λ _. allowed (E.graph c) js v k ≤ε number_one) _ _
-        (demand_tells (is_le order) (AboveOne c) (allowed (E.graph c) js v k ≤ε number_one) (λ g. sym t ∙ g) (λ g f. true_false _ f (sym t ∙ g)))
+        tells_bind (require (is_le order) (AboveOne c)) (λ _. Ok (single (limit_terms sum))) (λ _. allowed (E.graph c) js v k ≤ε number_one) _ _
+        (require_tells (is_le order) (AboveOne c) (allowed (E.graph c) js v k ≤ε number_one) (λ g. sym t ∙ g) (λ g f. true_false _ f (sym t ∙ g)))
         (λ _ high. tells_ok (single (limit_terms sum)) _ _ (limit_gives K IsStored X sum _ S (record { low = above; high = high }), high))))
 
     -- what exits allow that isn't above 1 is from 0 to 1
@@ -149,6 +149,6 @@ module _ (K : Kind) (IsStored : Parts → Type 0) (X : IsExact K IsStored) (L : 
         (λ t. Gives IsFraction t (shared E allowing) × AllBounded) _ (¬ Good)
         (tells_if (level_by L x.hypothesis (λ c. allowed_limit K L js (part_at K x.exits c) x.hypothesis c)) _ _ _ _ (λ _ g. g)
         (λ b g. b (λ c q. (g.exits c (in_graph c q)).bounded)) (allowing_tells exits))
-        (λ level T. demand_tells (not (does_pass (L.p x.hypothesis) (value_of level) L.alpha)) Legal Good
+        (λ level T. require_tells (not (does_pass (L.p x.hypothesis) (value_of level) L.alpha)) Legal Good
         (λ h. made exits T.1 level T.0 (not_true _ h))
         (λ h g. g.fails (subst (λ u. Passes (L.p x.hypothesis) u L.alpha) T.0.value (tested_pass _ _ _ (not_false _ h))))))

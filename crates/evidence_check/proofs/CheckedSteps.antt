@@ -23,12 +23,12 @@ use Rattle.case_model.proofs.RejectionOrders.{not_listed_left}
 use Rattle.case_model.proofs.NoFaults.{not_true}
 use Rattle.evidence_check.specs.Evidence.{at_place, brought, shared, AreFlows, IsGoodStep}
 use Rattle.evidence_check.specs.EvidenceParts.{StepParts, part_at, step_values}
-use Rattle.evidence_check.specs.CheckSteps.{demand, written_at, all_below}
+use Rattle.evidence_check.specs.CheckSteps.{require, written_at, all_below}
 use Rattle.evidence_check.specs.declared.verdict.Reason.TheVariants.{Repeated, Negative, Exceeds, NoLevel, AboveLevel}
 use Rattle.evidence_check.specs.WrittenCheck.{Loaded, is_above_zero, level_by, brought_sum, flow_check, level_limit, step_check}
 use Rattle.evidence_check.specs.CheckStatements.{IsLoaded}
 use Rattle.evidence_check.proofs.Duals.{brought_unit}
-use Rattle.evidence_check.proofs.Tells.{Tells, tells_bind, tells_if, tells_map, demand_tells, written_tells, all_tells}
+use Rattle.evidence_check.proofs.Tells.{Tells, tells_bind, tells_if, tells_map, require_tells, written_tells, all_tells}
 use Rattle.evidence_check.proofs.WrittenSums.{true_false, positive_test, test_positive, sign_tells, compared}
 use Rattle.evidence_check.proofs.CheckedSums.{limit_gives, level_tells, here, bring_tells}
 
@@ -51,8 +51,8 @@ module _ (K : Kind) (IsStored : Parts → Type 0) (X : IsExact K IsStored) (L : 
       unfolding flow_check
       flow_tells r p =
           let place = Bound (at_place js r) in
-          tells_bind (demand (not_less (sign_of (y r))) (Negative c r)) _ (λ _. number_zero ≤ε v r) _ (¬ FlowFits r)
-          (tells_if (demand (not_less (sign_of (y r))) (Negative c r)) _ _ _ _ (λ _ g. g) (λ b f. b f.0)
+          tells_bind (require (not_less (sign_of (y r))) (Negative c r)) _ (λ _. number_zero ≤ε v r) _ (¬ FlowFits r)
+          (tells_if (require (not_less (sign_of (y r))) (Negative c r)) _ _ _ _ (λ _ g. g) (λ b f. b f.0)
           (sign_tells K IsStored X (y r) (v r) (Negative c r) (Y r)))
           (λ _ low. tells_bind (brought_sum K L js place y (at_place js r) c) _ (λ x. Gives IsStored x (brought (E.graph c) js v (at_place js r))) _
           (¬ FlowFits r)
@@ -61,7 +61,7 @@ module _ (K : Kind) (IsStored : Parts → Type 0) (X : IsExact K IsStored) (L : 
           (written_tells c place (K.compare (y r) sum) (¬ FlowFits r))
           (λ order e.
           let t = compared K IsStored X (y r) sum (v r) (brought (E.graph c) js v (at_place js r)) order (Y r) S e in
-          demand_tells (is_le order) (Exceeds c r) (FlowFits r) (λ h. (low, sym t ∙ h)) (λ h f. true_false _ f.1 (sym t ∙ h)))))
+          require_tells (is_le order) (Exceeds c r) (FlowFits r) (λ h. (low, sym t ∙ h)) (λ h f. true_false _ f.1 (sym t ∙ h)))))
 
       pub flows_tell : Tells (all_below (length js) (flow_check K L js y c)) (λ _. AreFlows (E.graph c) js v) (¬ AreFlows (E.graph c) js v)
       flows_tell =
@@ -120,9 +120,9 @@ module _ (K : Kind) (IsStored : Parts → Type 0) (X : IsExact K IsStored) (L : 
       pub step_tells : Tells (step_check K L js s) (λ _. Good) (¬ Good)
       unfolding step_check
       step_tells =
-          tells_bind (demand (not (set_of js s.hypothesis)) Repeated) _ (λ _. set_of js s.hypothesis ≡ false) _ (¬ Good)
-          (tells_if (demand (not (set_of js s.hypothesis)) Repeated) _ _ _ _ (λ _ g. g) (λ b g. b g.new)
-          (demand_tells (not (set_of js s.hypothesis)) Repeated (set_of js s.hypothesis ≡ false) (λ h. not_true (set_of js s.hypothesis) h)
+          tells_bind (require (not (set_of js s.hypothesis)) Repeated) _ (λ _. set_of js s.hypothesis ≡ false) _ (¬ Good)
+          (tells_if (require (not (set_of js s.hypothesis)) Repeated) _ _ _ _ (λ _ g. g) (λ b g. b g.new)
+          (require_tells (not (set_of js s.hypothesis)) Repeated (set_of js s.hypothesis ≡ false) (λ h. not_true (set_of js s.hypothesis) h)
           (λ h e. true_false _ (ap not e) h)))
           (λ _ new. tells_bind (all_below L.components (λ c. all_below (length js) (flow_check K L js (part_at K s.flows c) c))) _ (λ _. AllFlows) _
           (¬ Good)
@@ -131,11 +131,11 @@ module _ (K : Kind) (IsStored : Parts → Type 0) (X : IsExact K IsStored) (L : 
           (λ _ flows. tells_bind (level_by L s.hypothesis (λ c. level_limit K L js (part_at K s.flows c) s.hypothesis c)) _
           (λ t. Gives IsFraction t (shared E bringing)) _ (¬ Good)
           (bringing_tells new flows (¬ Good))
-          (λ level T. tells_bind (demand (is_above_zero (value_of level)) NoLevel) _ (λ _. IsPositive (value_of level)) _ (¬ Good)
-          (tells_if (demand (is_above_zero (value_of level)) NoLevel) _ _ _ _ (λ _ g. g) (λ b g. b (subst IsPositive (sym T.value) g.passes.positive))
-          (demand_tells (is_above_zero (value_of level)) NoLevel (IsPositive (value_of level)) (positive_test (value_of level))
+          (λ level T. tells_bind (require (is_above_zero (value_of level)) NoLevel) _ (λ _. IsPositive (value_of level)) _ (¬ Good)
+          (tells_if (require (is_above_zero (value_of level)) NoLevel) _ _ _ _ (λ _ g. g) (λ b g. b (subst IsPositive (sym T.value) g.passes.positive))
+          (require_tells (is_above_zero (value_of level)) NoLevel (IsPositive (value_of level)) (positive_test (value_of level))
           (test_positive (value_of level))))
-          (λ _ positive. tells_if (demand (does_pass (L.p s.hypothesis) (value_of level) L.alpha) AboveLevel) _ _ _ _
+          (λ _ positive. tells_if (require (does_pass (L.p s.hypothesis) (value_of level) L.alpha) AboveLevel) _ _ _ _
           (λ _ passes. record {
             below = s_in;
             new = new;
@@ -143,5 +143,5 @@ module _ (K : Kind) (IsStored : Parts → Type 0) (X : IsExact K IsStored) (L : 
             passes = subst (λ u. Passes (L.p s.hypothesis) u L.alpha) T.value passes;
           })
           (λ b g. b (subst (λ u. Passes (L.p s.hypothesis) u L.alpha) (sym T.value) g.passes))
-          (demand_tells (does_pass (L.p s.hypothesis) (value_of level) L.alpha) AboveLevel (Passes (L.p s.hypothesis) (value_of level) L.alpha)
+          (require_tells (does_pass (L.p s.hypothesis) (value_of level) L.alpha) AboveLevel (Passes (L.p s.hypothesis) (value_of level) L.alpha)
           (tested_pass _ _ _) (λ h g. true_false _ (pass_tested _ _ _ g) h))))))

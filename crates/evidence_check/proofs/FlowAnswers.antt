@@ -10,7 +10,7 @@ use Rattle.evidence_check.specs.Evidence.{at_place}
 use Rattle.evidence_check.specs.EvidenceParts.{numbers_at}
 use Rattle.evidence_check.specs.declared.event.CheckEvent.{CheckEvent}
 use Rattle.evidence_check.specs.declared.verdict.Reason.TheVariants.{Negative, Exceeds}
-use Rattle.evidence_check.specs.CheckSteps.{demand, written_at, all_below}
+use Rattle.evidence_check.specs.CheckSteps.{require, written_at, all_below}
 use Rattle.evidence_check.specs.WrittenCheck.{Loaded, brought_sum, flow_check}
 
 module _ (K : Kind) (L : Loaded) (js : List ℕ) (y : ℕ → Parts) (c r : ℕ) where
@@ -18,19 +18,19 @@ module _ (K : Kind) (L : Loaded) (js : List ℕ) (y : ℕ → Parts) (c r : ℕ)
   sum_at at = brought_sum K L js (Bound at) y at c
 
   flow_check_is : flow_check K L js y c
-      r ≡ (demand (not_less (sign_of (y r))) (Negative c r) >>= λ _. sum_at (at_place js r) >>= λ sum. written_at c (Bound (at_place js r))
-      (K.compare (y r) sum) >>= λ order. demand (is_le order) (Exceeds c r))
+      r ≡ (require (not_less (sign_of (y r))) (Negative c r) >>= λ _. sum_at (at_place js r) >>= λ sum. written_at c (Bound (at_place js r))
+      (K.compare (y r) sum) >>= λ order. require (is_le order) (Exceeds c r))
   unfolding flow_check
   flow_check_is = refl
 
   module _ (flow : Parts) (at : ℕ) (test : Bool) (f : flow ≡ y r) (a : at ≡ at_place js r) (t : test ≡ not_less (sign_of flow)) where
-    tested : demand test (Negative c r) ≡ demand (not_less (sign_of (y r))) (Negative c r)
-    tested = ap (λ b. demand b (Negative c r)) (t ∙ ap (λ x. not_less (sign_of x)) f)
+    tested : require test (Negative c r) ≡ require (not_less (sign_of (y r))) (Negative c r)
+    tested = ap (λ b. require b (Negative c r)) (t ∙ ap (λ x. not_less (sign_of x)) f)
 
-    pub flow_negative : (e : CheckEvent) → demand test (Negative c r) ≡ Err e → flow_check K L js y c r ≡ Err e
+    pub flow_negative : (e : CheckEvent) → require test (Negative c r) ≡ Err e → flow_check K L js y c r ≡ Err e
     flow_negative e h = rw (flow_check_is, ← tested, h) refl
 
-    module _ (u : Unit {0}) (d : demand test (Negative c r) ≡ Ok u) where
+    module _ (u : Unit {0}) (d : require test (Negative c r) ≡ Ok u) where
       pub sum_refused : (e : CheckEvent) → sum_at at ≡ Err e → flow_check K L js y c r ≡ Err e
       sum_refused e h = rw (flow_check_is, ← tested, d, ← a, h) refl
 
@@ -45,7 +45,7 @@ module _ (K : Kind) (L : Loaded) (js : List ℕ) (y : ℕ → Parts) (c r : ℕ)
         order_refused e h = rw (flow_check_is, ← tested, d, summed, ← compared_is, h) refl
 
         pub flow_done : (order : Ordering) → written_at c (Bound at) (K.compare flow sum) ≡ Ok order
-            → flow_check K L js y c r ≡ demand (is_le order) (Exceeds c r)
+            → flow_check K L js y c r ≡ require (is_le order) (Exceeds c r)
         flow_done order h = rw (flow_check_is, ← tested, d, summed, ← compared_is, h) refl
 
 -- as many flows as earlier steps, and those of a component

@@ -5,7 +5,7 @@ use Rattle.field_core.specs.declared.place.Place.{Place}
 use Rattle.field_core.specs.declared.place.Op.TheVariants.{Add, Mul}
 use Rattle.field_core.specs.Kind.{Parts, Kind, ok_map, or_wide}
 use Rattle.field_core.specs.Steps.{◌>>=◌, each_below}
-use Rattle.evidence_check.specs.CheckSteps.{demand, written_at, numbered, all_below}
+use Rattle.evidence_check.specs.CheckSteps.{require, written_at, numbered, all_below}
 use Rattle.evidence_check.specs.declared.event.CheckEventAt.{CheckEventAt}
 use Rattle.evidence_check.specs.declared.verdict.Reason.{Reason}
 use Rattle.evidence_check.specs.declared.event.CheckEvent.{CheckEvent}
@@ -39,15 +39,15 @@ pub names_map : {A B : Type 0} (g : A → B) (r : Result A CheckEvent) (Bad : Re
 names_map g (Ok x) Bad N = record { bad = λ reason h. absurd (cc) }
 names_map g (Err e) Bad N = record { bad = λ reason h. N.bad reason (let f : e ≡ Broken reason = cc in ap Err f) }
 
-pub names_test : (b : Bool) (why : Reason) (Bad : Reason → Type 0) → (b ≡ false → Bad why) → Names (demand b why) Bad
-unfolding demand
+pub names_test : (b : Bool) (why : Reason) (Bad : Reason → Type 0) → (b ≡ false → Bad why) → Names (require b why) Bad
+unfolding require
 names_test true why Bad unmet = record { bad = λ r h. absurd (cc) }
 names_test false why Bad unmet = record { bad = λ r h. let e : why ≡ r = cc in subst Bad e (unmet refl) }
 
 -- a test of which it is known what it tells
-pub names_told : (b : Bool) (why : Reason) (P : Type 0) (Bad : Reason → Type 0) → Tells (demand b why) (λ _. P) (¬ P) → (¬ P → Bad why)
-    → Names (demand b why) Bad
-unfolding demand
+pub names_told : (b : Bool) (why : Reason) (P : Type 0) (Bad : Reason → Type 0) → Tells (require b why) (λ _. P) (¬ P) → (¬ P → Bad why)
+    → Names (require b why) Bad
+unfolding require
 names_told true why P Bad T found = record { bad = λ r h. absurd (cc) }
 names_told false why P Bad T found = record { bad = λ r h. let e : why ≡ r = cc in subst Bad e (found (T.bad why refl)) }
 

@@ -19,7 +19,7 @@ use Rattle.case_model.proofs.PassTests.{tested_pass}
 use Rattle.case_model.proofs.NoFaults.{not_false}
 use Rattle.evidence_check.specs.Evidence.{at_place, leaving, allowed}
 use Rattle.evidence_check.specs.EvidenceParts.{KeepParts, part_at, keep_values}
-use Rattle.evidence_check.specs.CheckSteps.{demand, written_at, all_below}
+use Rattle.evidence_check.specs.CheckSteps.{require, written_at, all_below}
 use Rattle.evidence_check.specs.BrokenConditions.{IsBrokenKeep}
 use Rattle.evidence_check.specs.declared.verdict.Reason.{Reason}
 use Rattle.evidence_check.specs.declared.verdict.Reason.TheVariants.{NegativeExit, ShortExit, AboveOne, Legal}
@@ -43,7 +43,7 @@ module _ (K : Kind) (IsStored : Parts → Type 0) (X : IsExact K IsStored) (L : 
     exit_named r p low short =
         let place = Exit (at_place js r) k in
         let B = leave_tells K IsStored X L E V D js o c q k K_in h v H r ⊥ p in
-        names_bind (demand (not_less (sign_of (h r))) (NegativeExit c r)) _ Bad
+        names_bind (require (not_less (sign_of (h r))) (NegativeExit c r)) _ Bad
         (names_told (not_less (sign_of (h r))) (NegativeExit c r) (number_zero ≤ε v r) Bad
         (sign_tells K IsStored X (h r) (v r) (NegativeExit c r) (H r)) low)
         (λ _ _. names_bind (leaving_sum K L js h k c r) _ Bad
@@ -65,7 +65,7 @@ module _ (K : Kind) (IsStored : Parts → Type 0) (X : IsExact K IsStored) (L : 
         let e = (written_tells c (Level k) (K.compare sum K.one) ⊥).ok order w in
         let t = compared K IsStored X sum K.one (allowed (E.graph c) js v k) number_one order (B.ok sum s)
         (record { stored = X.one_stored; value = X.one_value }) e in
-        names_bind (demand (is_le order) (AboveOne c)) (λ _. Ok (single (limit_terms sum))) Bad
+        names_bind (require (is_le order) (AboveOne c)) (λ _. Ok (single (limit_terms sum))) Bad
         (names_test (is_le order) (AboveOne c) Bad (λ g. above (λ f. true_false _ f (sym t ∙ g))))
         (λ _ _. names_ok (single (limit_terms sum)) Bad)))
 

@@ -19,14 +19,14 @@ use Rattle.case_model.proofs.PassTests.{pass_tested}
 use Rattle.case_model.proofs.NoFaults.{not_true, not_false}
 use Rattle.evidence_check.specs.Evidence.{at_place, brought}
 use Rattle.evidence_check.specs.EvidenceParts.{StepParts, numbers_at, part_at, step_values}
-use Rattle.evidence_check.specs.CheckSteps.{demand, written_at, all_below}
+use Rattle.evidence_check.specs.CheckSteps.{require, written_at, all_below}
 use Rattle.evidence_check.specs.BrokenConditions.{IsBrokenStep}
 use Rattle.evidence_check.specs.declared.event.CheckEvent.{CheckEvent}
 use Rattle.evidence_check.specs.declared.verdict.Reason.{Reason}
 use Rattle.evidence_check.specs.declared.verdict.Reason.TheVariants.{Repeated, Negative, Exceeds, NoLevel, AboveLevel}
 use Rattle.evidence_check.specs.WrittenCheck.{Loaded, is_above_zero, shared_sum, level_by, brought_sum, flow_check, level_limit, step_check}
 use Rattle.evidence_check.specs.CheckStatements.{IsLoaded}
-use Rattle.evidence_check.proofs.Tells.{demand_tells, written_tells}
+use Rattle.evidence_check.proofs.Tells.{require_tells, written_tells}
 use Rattle.evidence_check.proofs.WrittenSums.{true_false, positive_test, test_positive, sign_tells, compared}
 use Rattle.evidence_check.proofs.CheckedSums.{here, bring_tells}
 use Rattle.evidence_check.proofs.CheckedSteps.{within, all_flows_tell, bringing_tells}
@@ -49,7 +49,7 @@ module _ (K : Kind) (IsStored : Parts → Type 0) (X : IsExact K IsStored) (L : 
   flow_named c q y v Y r p Bad low high =
       let place = Bound (at_place js r) in
       let B = bring_tells K IsStored X L E V D js o c q y v Y place (at_place js r) ⊥ (here K IsStored X L E V D js o r p) in
-      names_bind (demand (not_less (sign_of (y r))) (Negative c r)) _ Bad
+      names_bind (require (not_less (sign_of (y r))) (Negative c r)) _ Bad
       (names_told (not_less (sign_of (y r))) (Negative c r) (number_zero ≤ε v r) Bad
       (sign_tells K IsStored X (y r) (v r) (Negative c r) (Y r)) low)
       (λ _ _. names_bind (brought_sum K L js place y (at_place js r) c) _ Bad
@@ -74,7 +74,7 @@ module _ (K : Kind) (IsStored : Parts → Type 0) (X : IsExact K IsStored) (L : 
       let is_new = not (set_of js s.hypothesis) in
       let flows_checked = all_below L.components (λ c. all_below (length js) (flow_check K L js (part_at K s.flows c) c)) in
       let level_found = level_by L s.hypothesis (λ c. level_limit K L js (part_at K s.flows c) s.hypothesis c) in
-      names_bind (demand is_new Repeated) _ Bad (names_test is_new Repeated Bad (λ h. not_false (set_of js s.hypothesis) h))
+      names_bind (require is_new Repeated) _ Bad (names_test is_new Repeated Bad (λ h. not_false (set_of js s.hypothesis) h))
       (λ u fresh. names_bind flows_checked _ Bad
       (names_below L.components (λ c. all_below (length js) (flow_check K L js (part_at K s.flows c) c)) Bad
       (λ c q. names_below (length js) (flow_check K L js (part_at K s.flows c) c) Bad
@@ -85,15 +85,15 @@ module _ (K : Kind) (IsStored : Parts → Type 0) (X : IsExact K IsStored) (L : 
       (names_level L s.hypothesis (λ c. level_limit K L js (part_at K s.flows c) s.hypothesis c) Bad
       (λ c q. limit_named (part_at K s.flows c) s.hypothesis c Bad))
       (λ level found.
-      let new = (demand_tells is_new Repeated (set_of js s.hypothesis ≡ false) (λ h. not_true (set_of js s.hypothesis) h)
+      let new = (require_tells is_new Repeated (set_of js s.hypothesis ≡ false) (λ h. not_true (set_of js s.hypothesis) h)
       (λ h e. true_false _ (ap not e) h)).ok u fresh in
       let flows = (all_flows_tell K IsStored X L E V D js o s s_in Y).ok v checked in
       let T = (bringing_tells K IsStored X L E V D js o s s_in Y new flows ⊥).ok level found in
-      names_bind (demand (is_above_zero (value_of level)) NoLevel) _ Bad
+      names_bind (require (is_above_zero (value_of level)) NoLevel) _ Bad
       (names_test (is_above_zero (value_of level)) NoLevel Bad
       (λ h g. test_positive (value_of level) h (subst IsPositive (sym T.value) g)))
       (λ w above.
-      let positive = (demand_tells (is_above_zero (value_of level)) NoLevel (IsPositive (value_of level)) (positive_test (value_of level))
+      let positive = (require_tells (is_above_zero (value_of level)) NoLevel (IsPositive (value_of level)) (positive_test (value_of level))
       (test_positive (value_of level))).ok w above in
       names_test (does_pass (L.p s.hypothesis) (value_of level) L.alpha) AboveLevel Bad
       (λ h g. true_false _ (pass_tested _ _ _ (record { positive = positive; small = subst (λ u. L.p s.hypothesis ≤ε (u *ε L.alpha)) (sym T.value) g })) h)))))

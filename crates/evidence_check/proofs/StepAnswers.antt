@@ -29,7 +29,7 @@ use Rattle.evidence_check.specs.EvidenceView.{hypotheses_of}
 use Rattle.evidence_check.specs.declared.evidence.ProofStep.{ProofStep}
 use Rattle.evidence_check.specs.declared.event.CheckEvent.{CheckEvent}
 use Rattle.evidence_check.specs.declared.verdict.Reason.TheVariants.{Repeated, NoLevel, AboveLevel, Legal}
-use Rattle.evidence_check.specs.CheckSteps.{demand, all_below}
+use Rattle.evidence_check.specs.CheckSteps.{require, all_below}
 use Rattle.evidence_check.specs.WrittenCheck.{Loaded, is_above_zero, level_by, flow_check, level_limit, step_check, exit_check, allowed_limit, keep_check}
 use Rattle.evidence_check.specs.CaseCheck.{p_values_of, loaded_case}
 
@@ -73,23 +73,23 @@ module _ (K : Kind) (L : Loaded) (js : List ℕ) (s : StepParts) where
   level_there = level_by L s.hypothesis (λ c. level_limit K L js (part_at K s.flows c) s.hypothesis c)
 
   step_check_is : step_check K L js
-      s ≡ (demand (not (set_of js s.hypothesis)) Repeated >>= λ _. all_flows >>= λ _. level_there >>= λ level. demand
-      (is_above_zero (value_of level)) NoLevel >>= λ _. demand (does_pass (L.p s.hypothesis) (value_of level) L.alpha) AboveLevel)
+      s ≡ (require (not (set_of js s.hypothesis)) Repeated >>= λ _. all_flows >>= λ _. level_there >>= λ level. require
+      (is_above_zero (value_of level)) NoLevel >>= λ _. require (does_pass (L.p s.hypothesis) (value_of level) L.alpha) AboveLevel)
   unfolding step_check
   step_check_is = refl
 
-  pub repeated : (e : CheckEvent) → demand (not (set_of js s.hypothesis)) Repeated ≡ Err e → step_check K L js s ≡ Err e
+  pub repeated : (e : CheckEvent) → require (not (set_of js s.hypothesis)) Repeated ≡ Err e → step_check K L js s ≡ Err e
   repeated e h = rw (step_check_is, h) refl
 
   -- a step that is checked is of another hypothesis
-  pub step_new : (u : Unit {0}) → step_check K L js s ≡ Ok u → demand (not (set_of js s.hypothesis)) Repeated ≡ Ok tt
-  step_new u h = go (demand (not (set_of js s.hypothesis)) Repeated) refl
+  pub step_new : (u : Unit {0}) → step_check K L js s ≡ Ok u → require (not (set_of js s.hypothesis)) Repeated ≡ Ok tt
+  step_new u h = go (require (not (set_of js s.hypothesis)) Repeated) refl
     where
-      go : (r : Result (Unit {0}) CheckEvent) → demand (not (set_of js s.hypothesis)) Repeated ≡ r → demand (not (set_of js s.hypothesis)) Repeated ≡ Ok tt
+      go : (r : Result (Unit {0}) CheckEvent) → require (not (set_of js s.hypothesis)) Repeated ≡ r → require (not (set_of js s.hypothesis)) Repeated ≡ Ok tt
       go (Ok v) d = d
       go (Err e) d = absurd (let g = sym (repeated e d) ∙ h in cc)
 
-  module _ (u : Unit {0}) (d : demand (not (set_of js s.hypothesis)) Repeated ≡ Ok u) where
+  module _ (u : Unit {0}) (d : require (not (set_of js s.hypothesis)) Repeated ≡ Ok u) where
     pub flows_refused : (e : CheckEvent) → all_flows ≡ Err e → step_check K L js s ≡ Err e
     flows_refused e h = rw (step_check_is, d, h) refl
 
@@ -98,11 +98,11 @@ module _ (K : Kind) (L : Loaded) (js : List ℕ) (s : StepParts) where
       level_refused e h = rw (step_check_is, d, f, h) refl
 
       module _ (level : Parts) (l : level_there ≡ Ok level) where
-        pub no_level : (e : CheckEvent) → demand (is_above_zero (value_of level)) NoLevel ≡ Err e → step_check K L js s ≡ Err e
+        pub no_level : (e : CheckEvent) → require (is_above_zero (value_of level)) NoLevel ≡ Err e → step_check K L js s ≡ Err e
         no_level e h = rw (step_check_is, d, f, l, h) refl
 
-        pub step_done : (v : Unit {0}) → demand (is_above_zero (value_of level)) NoLevel ≡ Ok v
-            → step_check K L js s ≡ demand (does_pass (L.p s.hypothesis) (value_of level) L.alpha) AboveLevel
+        pub step_done : (v : Unit {0}) → require (is_above_zero (value_of level)) NoLevel ≡ Ok v
+            → step_check K L js s ≡ require (does_pass (L.p s.hypothesis) (value_of level) L.alpha) AboveLevel
         step_done v h = rw (step_check_is, d, f, l, h) refl
 
 -- ---- a keep
@@ -115,7 +115,7 @@ module _ (K : Kind) (L : Loaded) (js : List ℕ) (x : KeepParts) where
   level_kept = level_by L x.hypothesis (λ c. allowed_limit K L js (part_at K x.exits c) x.hypothesis c)
 
   keep_check_is : keep_check K L js
-      x ≡ (all_exits >>= λ _. level_kept >>= λ level. demand (not (does_pass (L.p x.hypothesis) (value_of level) L.alpha)) Legal)
+      x ≡ (all_exits >>= λ _. level_kept >>= λ level. require (not (does_pass (L.p x.hypothesis) (value_of level) L.alpha)) Legal)
   unfolding keep_check
   keep_check_is = refl
 
@@ -127,5 +127,5 @@ module _ (K : Kind) (L : Loaded) (js : List ℕ) (x : KeepParts) where
     kept_refused e h = rw (keep_check_is, f, h) refl
 
     pub keep_done : (level : Parts) → level_kept ≡ Ok level
-        → keep_check K L js x ≡ demand (not (does_pass (L.p x.hypothesis) (value_of level) L.alpha)) Legal
+        → keep_check K L js x ≡ require (not (does_pass (L.p x.hypothesis) (value_of level) L.alpha)) Legal
     keep_done level l = rw (keep_check_is, f, l) refl

@@ -19,7 +19,7 @@ use Rattle.evidence_check.specs.EvidenceParts.{AreFull, FlowsFit, ExitsFit}
 use Rattle.evidence_check.specs.EvidenceView.{hypotheses_of, step_parts, keep_parts}
 use Rattle.evidence_check.specs.CheckSteps.{numbered}
 use Rattle.evidence_check.specs.WrittenCheck.{Loaded, step_check, keep_check, steps_check, keeps_check}
-use Rattle.evidence_check.proofs.ExitAnswers.{demand_met}
+use Rattle.evidence_check.proofs.ExitAnswers.{require_met}
 use Rattle.evidence_check.proofs.StepAnswers.{step_new}
 
 -- from a place on
@@ -105,7 +105,7 @@ module _ {F : Type 0} (parts : F → Parts) (K : Kind) (L : Loaded) (m component
     })
       where
         new : set_of (hypotheses_of (take i steps)) s.hypothesis ≡ false
-        new = not_true _ (demand_met _ _ _ (step_new K L (hypotheses_of (take i steps)) (step_parts parts s) tt (done _ u w)))
+        new = not_true _ (require_met _ _ _ (step_new K L (hypotheses_of (take i steps)) (step_parts parts s) tt (done _ u w)))
 
   pub steps_end : (i : ℕ) → i ≡ length steps → Checked i → steps_check K L [] (map (step_parts parts) steps) ≡ Ok (hypotheses_of steps)
   unfolding steps_check

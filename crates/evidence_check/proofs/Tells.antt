@@ -7,7 +7,7 @@ use Rattle.field_core.specs.declared.place.TooWide.{TooWide}
 use Rattle.field_core.specs.declared.place.Place.{Place}
 use Rattle.field_core.specs.Kind.{ok_map}
 use Rattle.field_core.specs.Steps.{◌>>=◌, each_below}
-use Rattle.evidence_check.specs.CheckSteps.{demand, written_at, numbered, all_below}
+use Rattle.evidence_check.specs.CheckSteps.{require, written_at, numbered, all_below}
 use Rattle.evidence_check.specs.declared.event.CheckEventAt.{CheckEventAt}
 use Rattle.evidence_check.specs.declared.verdict.Reason.{Reason}
 use Rattle.evidence_check.specs.declared.event.CheckEvent.{CheckEvent}
@@ -47,10 +47,10 @@ pub tells_if_at : {A : Type 0} (r : Result A CheckEventAt) (Good More : A → Ty
     → TellsAt r Good Bad → TellsAt r More Worse
 tells_if_at r Good More Bad Worse g b T = record { ok = λ x h. g x (T.ok x h); bad = λ n reason h. b (T.bad n reason h) }
 
-pub demand_tells : (b : Bool) (reason : Reason) (P : Type 0) → (b ≡ true → P) → (b ≡ false → ¬ P) → Tells (demand b reason) (λ _. P) (¬ P)
-unfolding demand
-demand_tells true reason P met unmet = record { ok = λ x h. met refl; bad = λ r h. absurd (cc) }
-demand_tells false reason P met unmet = record { ok = λ x h. absurd (cc); bad = λ r h. unmet refl }
+pub require_tells : (b : Bool) (reason : Reason) (P : Type 0) → (b ≡ true → P) → (b ≡ false → ¬ P) → Tells (require b reason) (λ _. P) (¬ P)
+unfolding require
+require_tells true reason P met unmet = record { ok = λ x h. met refl; bad = λ r h. absurd (cc) }
+require_tells false reason P met unmet = record { ok = λ x h. absurd (cc); bad = λ r h. unmet refl }
 
 pub written_tells : {A : Type 0} (c : ℕ) (place : Place) (r : Result A TooWide) (Bad : Type 0) → Tells (written_at c place r) (λ x. r ≡ Ok x) Bad
 unfolding written_at

@@ -24,10 +24,10 @@ use Rattle.field_core.specs.Laws.AtMostLaws.{positive_or_not, positive-not_at_mo
 use Rattle.field_core.proofs.Live.{true_or_false}
 use Rattle.case_model.specs.Draft.{at_most}
 use Rattle.case_model.proofs.Comparisons.{at_most_is}
-use Rattle.evidence_check.specs.CheckSteps.{demand, written_at}
+use Rattle.evidence_check.specs.CheckSteps.{require, written_at}
 use Rattle.evidence_check.specs.declared.verdict.Reason.{Reason}
 use Rattle.evidence_check.specs.WrittenCheck.{is_above_zero, added, with_product}
-use Rattle.evidence_check.proofs.Tells.{Tells, tells_bind, tells_ok, tells_if, demand_tells, written_tells}
+use Rattle.evidence_check.proofs.Tells.{Tells, tells_bind, tells_ok, tells_if, require_tells, written_tells}
 
 -- ---- tests by value
 
@@ -64,10 +64,10 @@ some_of_wide op None x h = absurd (cc)
 module _ (K : Kind) (IsStored : Parts → Type 0) (X : IsExact K IsStored) where
   -- a number that isn't below 0
   pub sign_tells : (x : Parts) (v : Number) (reason : Reason) → Gives IsStored x v
-      → Tells (demand (not_less (sign_of x)) reason) (λ _. number_zero ≤ε v) (¬ (number_zero ≤ε v))
+      → Tells (require (not_less (sign_of x)) reason) (λ _. number_zero ≤ε v) (¬ (number_zero ≤ε v))
   sign_tells x v reason G =
       let e : sign_of x ≡ number_sign v = X.sign x G.stored ∙ ap number_sign G.value in
-      demand_tells (not_less (sign_of x)) reason (number_zero ≤ε v) (λ h. sign_low v (ap not_less (sym e) ∙ h))
+      require_tells (not_less (sign_of x)) reason (number_zero ≤ε v) (λ h. sign_low v (ap not_less (sym e) ∙ h))
       (λ h low. true_false _ (ap not_less e ∙ low_sign v low) h)
 
   -- a comparison that isn't refused

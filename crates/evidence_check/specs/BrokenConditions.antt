@@ -37,7 +37,8 @@ module _ (E : EntangledGraph) (p : ℕ → Number) (level : Number) where
     -- the condition of a keep that a reason names is broken
     abbrev pub IsBrokenKeep : KeepValues → Reason → Type 0
     IsBrokenKeep x (NegativeExit c r) = (c < E.components) × (r < length js) × (¬ (number_zero ≤ε x.exit c r))
-    IsBrokenKeep x (ShortExit c r) = (c < E.components) × (r < length js) × (¬ (leaving (E.graph c) js (x.exit c) x.hypothesis (at_place js r) ≤ε x.exit c r))
+    IsBrokenKeep x (ShortExit c r) =
+        (c < E.components) × (r < length js) × (¬ (leaving (E.graph c) js (x.exit c) x.hypothesis (at_place js r) ≤ε x.exit c r))
     IsBrokenKeep x (AboveOne c) = (c < E.components) × (¬ (allowed (E.graph c) js (x.exit c) x.hypothesis ≤ε number_one))
     IsBrokenKeep x Legal = Passes (p x.hypothesis) (keep_level x) level
     IsBrokenKeep x Repeated = ⊥

@@ -122,7 +122,9 @@ MeetsIn c steps keeps = MeetsConditions (entangled c) (number_at (p_values_of c.
 
 -- Where the check of a case finds nothing, the evidence meets its conditions.
 abbrev pub CaseChecksAreSound : Type 0
-CaseChecksAreSound = (c : Content) (steps : List StepParts) (keeps : List KeepParts) → IsValidContent c → AreStepsOf c steps keeps → case_check c steps keeps ≡ Ok tt → MeetsIn c steps keeps
+CaseChecksAreSound =
+    (c : Content) (steps : List StepParts) (keeps : List KeepParts) → IsValidContent c → AreStepsOf c steps keeps
+    → case_check c steps keeps ≡ Ok tt → MeetsIn c steps keeps
 
 -- Where it finds a broken condition, it doesn't.
 abbrev pub CaseChecksAreFair : Type 0

@@ -9,8 +9,8 @@ use Rattle.evidence_check.specs.declared.event.CheckEvent.TheVariants.{Broken, U
 use Rattle.evidence_check.specs.declared.event.CheckEventAt.{CheckEventAt}
 
 -- a condition by its test, and the reason where it is broken
-unfoldable pub demand : Bool → Reason → Result (Unit {0}) CheckEvent
-demand test reason = if test then Ok tt else Err (Broken reason)
+unfoldable pub require : Bool → Reason → Result (Unit {0}) CheckEvent
+require test reason = if test then Ok tt else Err (Broken reason)
 
 -- a written operation, in a component and at a place
 unfoldable pub written_at : {A : Type 0} → ℕ → Place → Result A TooWide → Result A CheckEvent

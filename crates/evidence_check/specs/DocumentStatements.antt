@@ -31,7 +31,9 @@ evidence_reading T bytes = reading (evidence_language T) start (rows_of bytes) (
 
 -- the lines of a text say this evidence, one after the other
 abbrev pub SaysEvidence : Content → List ℕ → Evidence → Type 0
-SaysEvidence c bytes v = IsDocument (evidence_language (case_frame (numbers_of c) c)) start (words_in (rows_of bytes)) (evidence_forms (version_of v) (steps_of v) (keeps_of v))
+SaysEvidence c bytes v =
+    IsDocument (evidence_language (case_frame (numbers_of c) c)) start (words_in (rows_of bytes))
+    (evidence_forms (version_of v) (steps_of v) (keeps_of v))
 
 -- the first fault of a text: a line that says nothing where it stands, behind lines that say something, and what is wrong with it; or lines that end too early
 abbrev pub HasFault : Content → List ℕ → FaultAt ProofKind → Type 0
@@ -52,7 +54,9 @@ CasesHaveFrames = (n : Numbers) (c : Content) → IsFrameFor n c (case_frame n c
 
 -- What is read of a text is what its lines say, one after the other.
 abbrev pub ReadingsAreDocuments : Type 0
-ReadingsAreDocuments = (T : Frame) (bytes : List ℕ) (fs : List Form) → (evidence_reading T bytes ≡ Ok fs) ↔ IsDocument (evidence_language T) start (words_in (rows_of bytes)) fs
+ReadingsAreDocuments =
+    (T : Frame) (bytes : List ℕ) (fs : List Form) → (evidence_reading T bytes ≡ Ok fs)
+    ↔ IsDocument (evidence_language T) start (words_in (rows_of bytes)) fs
 
 -- Its first fault is that of the first line that says nothing where it stands; or the lines end too early.
 abbrev pub FaultsAreBadLines : Type 0
@@ -102,7 +106,8 @@ pub record ArePrinted (T : Frame) (steps : List StepParts) (keeps : List KeepPar
 -- The lines of evidence that fits a case say it.
 abbrev pub LinesSayTheirEvidence : Type 0
 LinesSayTheirEvidence =
-    (n : Numbers) (c : Content) (T : Frame) (v : ℕ) (ss : List StepParts) (xs : List KeepParts) → IsFrameFor n c T → FitsCase c v ss xs → ArePrinted T ss xs
+    (n : Numbers) (c : Content) (T : Frame) (v : ℕ) (ss : List StepParts) (xs : List KeepParts) → IsFrameFor n c T → FitsCase c v ss xs
+    → ArePrinted T ss xs
     → IsDocument (evidence_language T) start (evidence_lines T v ss xs) (evidence_forms v ss xs)
 
 -- A stored number of a case is read from its text.

@@ -1,5 +1,6 @@
 -- Documents of evidence: what each line says, and which line may stand where.
-use Rattle.std.specs.Prelude.{ℕ, zero, suc, ◌+◌, ◌==◌, ◌&&◌, Bool, true, false, if◌then◌else◌, List, [], ◌∷◌, ◌++◌, map, Option, Some, None, Result, Ok, Err, codes}
+use Rattle.std.specs.Prelude.{ℕ, zero, suc, ◌+◌, ◌==◌, ◌&&◌, Bool, true, false, if◌then◌else◌, List, [], ◌∷◌, ◌++◌, map}
+use Rattle.std.specs.Prelude.{Option, Some, None, Result, Ok, Err, codes}
 use Rattle.std.specs.Fmt.{decimal}
 use Rattle.std.specs.Str.{bytes_eq}
 use Rattle.field_core.specs.Kind.{Parts}
@@ -11,7 +12,8 @@ use Rattle.evidence_check.specs.declared.quantity.Quantity.TheVariants.{Flow, Ex
 use Rattle.evidence_check.specs.EvidenceParts.{StepParts, KeepParts}
 use Rattle.evidence_check.specs.Languages.{Words, Language}
 
--- What of a case the lines speak of: the names of its hypotheses and their positions, the number of its components, the hypotheses other than those listed, and its numbers and their texts.
+-- What of a case the lines speak of: the names of its hypotheses and their positions, the number of its components, the hypotheses other than those
+-- listed, and its numbers and their texts.
 pub record Frame : Type 0 where
   pub name : ℕ → List ℕ
   pub position : List ℕ → Option ℕ

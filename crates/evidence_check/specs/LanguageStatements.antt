@@ -17,7 +17,8 @@ pub record IsBadLine {Place Form Kind : Type 0} (L : Language Place Form Kind) (
   pub line_is : fault.line ≡ row.number
 
 -- Something must follow behind the last line.
-pub record IsEndedEarly {Place Form Kind : Type 0} (L : Language Place Form Kind) (start : Place) (rows : List Row) (end : ℕ) (fault : FaultAt Kind) : Type 0 where
+pub record IsEndedEarly {Place Form Kind : Type 0} (L : Language Place Form Kind) (start : Place) (rows : List Row) (end : ℕ)
+    (fault : FaultAt Kind) : Type 0 where
   pub forms : List Form
   pub here : Place
   pub lead : Lead L start (words_in rows) forms here

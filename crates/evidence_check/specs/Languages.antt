@@ -36,7 +36,8 @@ on_line number (Err kind) f = Err (record { line = number; kind = kind })
 -- what lines say from a place on, one after the other, or the first fault; `end` is the number of the line behind the last one
 unfoldable pub reading : {Place Form Kind : Type 0} → Language Place Form Kind → Place → List Row → ℕ → Result (List Form) (FaultAt Kind)
 reading L place [] end = if L.ended place then Ok [] else Err (record { line = end; kind = L.ends })
-reading L place (row ∷ rows) end = on_line row.number (L.read place (words_of row.text)) (λ form. with_all (form ∷ []) (reading L (L.next place form) rows end))
+reading L place (row ∷ rows) end =
+    on_line row.number (L.read place (words_of row.text)) (λ form. with_all (form ∷ []) (reading L (L.next place form) rows end))
 
 -- the lines say these forms, one after the other, from the first place on, and lead to the second
 abbrev pub Lead : {Place Form Kind : Type 0} → Language Place Form Kind → Place → List Words → List Form → Place → Type 0

@@ -1,5 +1,6 @@
 -- The number of a text, as a function.
-use Rattle.std.specs.Prelude.{◌==◌, ◌||◌, ◌^◌, ℕ, nat_le, Bool, if◌then◌else◌, ℤ, List, [], ◌∷◌, length, get_or, Option, Some, None, unsigned_abs}
+use Rattle.std.specs.Prelude.{◌==◌, ◌||◌, ◌^◌, ℕ, nat_le, Bool, if◌then◌else◌, ℤ, List, [], ◌∷◌, length, get_or, Option}
+use Rattle.std.specs.Prelude.{Some, None, unsigned_abs}
 use Rattle.std.specs.List.{list_any}
 use Rattle.field_core.specs.Kind.{Parts, is_zero_integer}
 use Rattle.field_core.specs.Polynomial.{coefficient, lowest}
@@ -75,7 +76,9 @@ fraction_by n d = if is_zero_integer d || has_wide_part (lowest_terms n d) then 
 
 -- the fraction of a text without brackets
 unfoldable pub fraction_of_text : List ℕ → Option Parts
-fraction_of_text text = if list_any (λ b. b == 91) text then None else and_then (quotient_in text) (λ y. fraction_by (coefficient y.numerator 0) (coefficient y.denominator 0))
+fraction_of_text text =
+    if list_any (λ b. b == 91) text then None
+    else and_then (quotient_in text) (λ y. fraction_by (coefficient y.numerator 0) (coefficient y.denominator 0))
 
 -- the number of a text
 abbrev pub number_in_text : Numbers → List ℕ → Option Parts

@@ -13,7 +13,8 @@ use Rattle.evidence_check.specs.declared.quantity.Quantity.{Quantity}
 use Rattle.evidence_check.specs.Evidence.{others}
 use Rattle.evidence_check.specs.EvidenceParts.{StepParts, KeepParts}
 use Rattle.evidence_check.specs.Languages.{with_all, reading}
-use Rattle.evidence_check.specs.Documents.{Frame, Form, SaysEnd, number_forms, list_forms, step_forms, keep_forms, evidence_forms, Slot, ANumber, TheEnd, due, keeps_due, Stage, AtVersion, AtSteps, AtEnd, Place, At, evidence_language}
+use Rattle.evidence_check.specs.Documents.{Frame, Form, SaysEnd, number_forms, list_forms, step_forms, keep_forms, evidence_forms, Slot, ANumber}
+use Rattle.evidence_check.specs.Documents.{TheEnd, due, keeps_due, Stage, AtVersion, AtSteps, AtEnd, Place, At, evidence_language}
 use Rattle.evidence_check.specs.NumberTexts.{IsNumberOf}
 
 -- a frame says what there is in a case, in these numbers
@@ -53,26 +54,37 @@ EndStops end old fault = (T : Frame) → Stops T end (At (TheEnd ∷ []) AtEnd) 
 module _ (n : Numbers) (c : Content) (end : ℕ) where
   -- the numbers of a component were read, one for each of these hypotheses, whatever stands behind them
   unfoldable pub NumbersRead : Quantity → ℕ → List ℕ → List Row → List Parts → List Row → Type 0
-  NumbersRead q k js old xs new = (T : Frame) (rest : List Slot) (stage : Stage) → IsFrameFor n c T → Goes T end (At (map (ANumber q k) js ++ rest) stage) old (number_forms q k js xs) (At rest stage) new
+  NumbersRead q k js old xs new =
+      (T : Frame) (rest : List Slot) (stage : Stage) → IsFrameFor n c T
+      → Goes T end (At (map (ANumber q k) js ++ rest) stage) old (number_forms q k js xs) (At rest stage) new
 
   -- one of them can't be read
   unfoldable pub NumbersStop : Quantity → ℕ → List ℕ → List Row → ProofText → Type 0
-  NumbersStop q k js old fault = (T : Frame) (rest : List Slot) (stage : Stage) → IsFrameFor n c T → Stops T end (At (map (ANumber q k) js ++ rest) stage) old fault
+  NumbersStop q k js old fault =
+      (T : Frame) (rest : List Slot) (stage : Stage) → IsFrameFor n c T → Stops T end (At (map (ANumber q k) js ++ rest) stage) old fault
 
   -- the numbers of all components were read
   unfoldable pub ListsRead : Quantity → List ℕ → List Row → List (List Parts) → List Row → Type 0
-  ListsRead q js old lists new = (T : Frame) (rest : List Slot) (stage : Stage) → IsFrameFor n c T → Goes T end (At (due q (length c.components) 0 js ++ rest) stage) old (list_forms q 0 js lists) (At rest stage) new
+  ListsRead q js old lists new =
+      (T : Frame) (rest : List Slot) (stage : Stage) → IsFrameFor n c T
+      → Goes T end (At (due q (length c.components) 0 js ++ rest) stage) old (list_forms q 0 js lists) (At rest stage) new
 
   unfoldable pub ListsStop : Quantity → List ℕ → List Row → ProofText → Type 0
-  ListsStop q js old fault = (T : Frame) (rest : List Slot) (stage : Stage) → IsFrameFor n c T → Stops T end (At (due q (length c.components) 0 js ++ rest) stage) old fault
+  ListsStop q js old fault =
+      (T : Frame) (rest : List Slot) (stage : Stage) → IsFrameFor n c T
+      → Stops T end (At (due q (length c.components) 0 js ++ rest) stage) old fault
 
   -- a step was read
   unfoldable pub StepRead : List ℕ → List Row → StepParts → List Row → Type 0
-  StepRead js old s new = (T : Frame) (v : ℕ) → IsFrameFor n c T → Goes T end (At [] (AtSteps v js)) old (step_forms js (s ∷ [])) (At [] (AtSteps v (js ++ s.hypothesis ∷ []))) new
+  StepRead js old s new =
+      (T : Frame) (v : ℕ) → IsFrameFor n c T
+      → Goes T end (At [] (AtSteps v js)) old (step_forms js (s ∷ [])) (At [] (AtSteps v (js ++ s.hypothesis ∷ []))) new
 
   -- all steps were read
   unfoldable pub StepsRead : List Row → List StepParts → List Row → Type 0
-  StepsRead old ss new = (T : Frame) (v : ℕ) → IsFrameFor n c T → Goes T end (At [] (AtSteps v [])) old (step_forms [] ss) (At [] (AtSteps v (map (λ s. s.hypothesis) ss))) new
+  StepsRead old ss new =
+      (T : Frame) (v : ℕ) → IsFrameFor n c T
+      → Goes T end (At [] (AtSteps v [])) old (step_forms [] ss) (At [] (AtSteps v (map (λ s. s.hypothesis) ss))) new
 
   -- behind these steps of a version, a step can't be read
   unfoldable pub StepsStop : List ℕ → List Row → ProofText → Type 0
@@ -80,11 +92,14 @@ module _ (n : Numbers) (c : Content) (end : ℕ) where
 
   -- a keep was read, whatever other keeps stand behind it
   unfoldable pub KeepRead : List ℕ → List Row → KeepParts → List Row → Type 0
-  KeepRead js old x new = (T : Frame) (ks : List ℕ) → IsFrameFor n c T → Goes T end (At (keeps_due T js (x.hypothesis ∷ ks)) AtEnd) old (keep_forms js (x ∷ [])) (At (keeps_due T js ks) AtEnd) new
+  KeepRead js old x new =
+      (T : Frame) (ks : List ℕ) → IsFrameFor n c T
+      → Goes T end (At (keeps_due T js (x.hypothesis ∷ ks)) AtEnd) old (keep_forms js (x ∷ [])) (At (keeps_due T js ks) AtEnd) new
 
   -- of the keeps of these hypotheses, those were read, and these are left
   unfoldable pub KeepsRead : List ℕ → List ℕ → List Row → List KeepParts → List ℕ → List Row → Type 0
-  KeepsRead js ks old xs left new = (T : Frame) → IsFrameFor n c T → Goes T end (At (keeps_due T js ks) AtEnd) old (keep_forms js xs) (At (keeps_due T js left) AtEnd) new
+  KeepsRead js ks old xs left new =
+      (T : Frame) → IsFrameFor n c T → Goes T end (At (keeps_due T js ks) AtEnd) old (keep_forms js xs) (At (keeps_due T js left) AtEnd) new
 
   -- the keeps of these hypotheses can't all be read
   unfoldable pub KeepsStop : List ℕ → List ℕ → List Row → ProofText → Type 0
@@ -92,7 +107,8 @@ module _ (n : Numbers) (c : Content) (end : ℕ) where
 
   -- the lines say this evidence
   unfoldable pub SayEvidence : List Row → ℕ → List StepParts → List KeepParts → Type 0
-  SayEvidence rows version steps keeps = (T : Frame) → IsFrameFor n c T → reading (evidence_language T) (At [] AtVersion) rows end ≡ Ok (evidence_forms version steps keeps)
+  SayEvidence rows version steps keeps =
+      (T : Frame) → IsFrameFor n c T → reading (evidence_language T) (At [] AtVersion) rows end ≡ Ok (evidence_forms version steps keeps)
 
   -- this is the first fault of the lines; or memory is wanting
   unfoldable pub HaveFault : List Row → ProofText → Type 0

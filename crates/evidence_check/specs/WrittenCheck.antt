@@ -17,7 +17,7 @@ use Rattle.case_model.specs.Draft.{at_most}
 use Rattle.case_model.specs.TextbookRules.{does_pass}
 use Rattle.evidence_check.specs.Evidence.{at_place}
 use Rattle.evidence_check.specs.EvidenceParts.{StepParts, KeepParts, numbers_at, part_at}
-use Rattle.evidence_check.specs.CheckSteps.{demand, written_at, numbered, all_below}
+use Rattle.evidence_check.specs.CheckSteps.{require, written_at, numbered, all_below}
 use Rattle.evidence_check.specs.declared.verdict.Reason.TheVariants.{Repeated, Negative, Exceeds, NoLevel, AboveLevel, NegativeExit, ShortExit, AboveOne, Legal}
 use Rattle.evidence_check.specs.declared.event.CheckEvent.{CheckEvent}
 use Rattle.evidence_check.specs.declared.event.CheckEventAt.{CheckEventAt}
@@ -70,10 +70,10 @@ module _ (K : Kind) (L : Loaded) where
     -- in a component, the flow through the hypothesis of the earlier step at place `r`
     unfoldable pub flow_check : (ℕ → Parts) → ℕ → ℕ → Result (Unit {0}) CheckEvent
     flow_check y c r = do
-      _ ← demand (not_less (sign_of (y r))) (Negative c r)
+      _ ← require (not_less (sign_of (y r))) (Negative c r)
       sum ← brought_sum (Bound (at_place js r)) y (at_place js r) c
       order ← written_at c (Bound (at_place js r)) (K.compare (y r) sum)
-      demand (is_le order) (Exceeds c r)
+      require (is_le order) (Exceeds c r)
 
     -- in a component, the limit of what flows bring to `j`
     unfoldable pub level_limit : (ℕ → Parts) → ℕ → ℕ → Result Parts CheckEvent
@@ -81,11 +81,11 @@ module _ (K : Kind) (L : Loaded) where
 
     unfoldable pub step_check : StepParts → Result (Unit {0}) CheckEvent
     step_check s = do
-      _ ← demand (not (set_of js s.hypothesis)) Repeated
+      _ ← require (not (set_of js s.hypothesis)) Repeated
       _ ← all_below L.components (λ c. all_below (length js) (flow_check (part_at K s.flows c) c))
       level ← level_by L s.hypothesis (λ c. level_limit (part_at K s.flows c) s.hypothesis c)
-      _ ← demand (is_above_zero (value_of level)) NoLevel
-      demand (does_pass (L.p s.hypothesis) (value_of level) L.alpha) AboveLevel
+      _ ← require (is_above_zero (value_of level)) NoLevel
+      require (does_pass (L.p s.hypothesis) (value_of level) L.alpha) AboveLevel
 
     -- ---- a keep after all steps
 
@@ -96,10 +96,10 @@ module _ (K : Kind) (L : Loaded) where
     -- in a component, the exit from the hypothesis of the step at place `r`
     unfoldable pub exit_check : (ℕ → Parts) → ℕ → ℕ → ℕ → Result (Unit {0}) CheckEvent
     exit_check h k c r = do
-      _ ← demand (not_less (sign_of (h r))) (NegativeExit c r)
+      _ ← require (not_less (sign_of (h r))) (NegativeExit c r)
       sum ← leaving_sum h k c r
       order ← written_at c (Exit (at_place js r) k) (K.compare sum (h r))
-      demand (is_le order) (ShortExit c r)
+      require (is_le order) (ShortExit c r)
 
     -- in a component, the weight that exits allow
     unfoldable pub allowed_sum : (ℕ → Parts) → ℕ → ℕ → Result Parts CheckEvent
@@ -110,14 +110,14 @@ module _ (K : Kind) (L : Loaded) where
     allowed_limit h k c = do
       sum ← allowed_sum h k c
       order ← written_at c (Level k) (K.compare sum K.one)
-      _ ← demand (is_le order) (AboveOne c)
+      _ ← require (is_le order) (AboveOne c)
       Ok (single (limit_terms sum))
 
     unfoldable pub keep_check : KeepParts → Result (Unit {0}) CheckEvent
     keep_check x = do
       _ ← all_below L.components (λ c. all_below (length js) (exit_check (part_at K x.exits c) x.hypothesis c))
       level ← level_by L x.hypothesis (λ c. allowed_limit (part_at K x.exits c) x.hypothesis c)
-      demand (not (does_pass (L.p x.hypothesis) (value_of level) L.alpha)) Legal
+      require (not (does_pass (L.p x.hypothesis) (value_of level) L.alpha)) Legal
 
   -- ---- the whole check
 

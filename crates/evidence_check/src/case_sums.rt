@@ -83,7 +83,8 @@ pub fn brought<F: CaseNumber>(
     requires k { k < length (content case.now).names }
     requires count { length flows.now ≡ length earlier.now }
     requires order { IsOrder (length (content case.now).names) whole (hypotheses_of earlier.now) }
-    ensures { ok_map F.parts result ≡ brought_sum F.kind (loaded_case F.kind F.numbers (content case.now)) (hypotheses_of earlier.now) place (numbers_at F.kind (map F.parts flows.now)) k c }
+    ensures { ok_map F.parts result ≡ brought_sum F.kind (loaded_case F.kind F.numbers (content case.now)) (hypotheses_of earlier.now) place
+        (numbers_at F.kind (map F.parts flows.now)) k c }
 {
     added(
         c,
@@ -110,7 +111,8 @@ pub fn leaving<F: CaseNumber>(
     requires r { r < length steps.now }
     requires count { length exits.now ≡ length steps.now }
     requires order { IsOrder (length (content case.now).names) whole (hypotheses_of steps.now) }
-    ensures { ok_map F.parts result ≡ leaving_sum F.kind (loaded_case F.kind F.numbers (content case.now)) (hypotheses_of steps.now) (numbers_at F.kind (map F.parts exits.now)) k c r }
+    ensures { ok_map F.parts result ≡ leaving_sum F.kind (loaded_case F.kind F.numbers (content case.now)) (hypotheses_of steps.now)
+        (numbers_at F.kind (map F.parts exits.now)) k c r }
 {
     let from = hypothesis(steps, r);
     added(
@@ -136,7 +138,8 @@ pub fn allowed<F: CaseNumber>(
     requires k { k < length (content case.now).names }
     requires count { length exits.now ≡ length steps.now }
     requires order { IsOrder (length (content case.now).names) whole (hypotheses_of steps.now) }
-    ensures { ok_map F.parts result ≡ allowed_sum F.kind (loaded_case F.kind F.numbers (content case.now)) (hypotheses_of steps.now) (numbers_at F.kind (map F.parts exits.now)) k c }
+    ensures { ok_map F.parts result ≡ allowed_sum F.kind (loaded_case F.kind F.numbers (content case.now)) (hypotheses_of steps.now)
+        (numbers_at F.kind (map F.parts exits.now)) k c }
 {
     added(
         c,

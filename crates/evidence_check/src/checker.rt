@@ -55,7 +55,8 @@ pub fn steps<F: CaseNumber>(case: &Case, steps: &[ProofStep<F>]) -> Result<(), C
     requires below { All (λ s. s.hypothesis < length (content case.now).names) (map (step_parts F.parts) steps.now) }
     requires fit { FlowsFit (length (content case.now).components) 0 (map (step_parts F.parts) steps.now) }
     requires loaded { IsLoaded F.IsStored (loaded_case F.kind F.numbers (content case.now)) (entangled (content case.now)) }
-    ensures checked { ok_map (λ u. hypotheses_of steps.now) result ≡ steps_check F.kind (loaded_case F.kind F.numbers (content case.now)) [] (map (step_parts F.parts) steps.now) }
+    ensures checked { ok_map (λ u. hypotheses_of steps.now) result ≡ steps_check F.kind (loaded_case F.kind F.numbers (content case.now)) []
+        (map (step_parts F.parts) steps.now) }
     ensures order { IfOk result (λ u. IsOrder (length (content case.now).names) whole (hypotheses_of steps.now)) }
 {
     for s in 0..steps.len() {
@@ -75,7 +76,8 @@ pub fn keeps<F: CaseNumber>(
     requires fit { ExitsFit (length (content case.now).components) (length steps.now) (map (keep_parts F.parts) keeps.now) }
     requires order { IsOrder (length (content case.now).names) whole (hypotheses_of steps.now) }
     requires loaded { IsLoaded F.IsStored (loaded_case F.kind F.numbers (content case.now)) (entangled (content case.now)) }
-    ensures { result ≡ keeps_check F.kind (loaded_case F.kind F.numbers (content case.now)) (hypotheses_of steps.now) (length steps.now) (map (keep_parts F.parts) keeps.now) }
+    ensures { result ≡ keeps_check F.kind (loaded_case F.kind F.numbers (content case.now)) (hypotheses_of steps.now) (length steps.now)
+        (map (keep_parts F.parts) keeps.now) }
 {
     for x in 0..keeps.len() {
         numbered(steps.len() + x + 1, keep(case, steps, &keeps[x]))?;
@@ -87,7 +89,8 @@ pub fn keeps<F: CaseNumber>(
 fn checked<F: EvidenceNumber>(case: &Case, proof: &Steps<F>) -> Result<(), CheckEventAt>
     requires single { IsSingle (content case.now).inputs }
     requires runs { CanRunIn F.numbers (content case.now) }
-    requires size { FitsSize (length (content case.now).names) (length (content case.now).components) (map (step_parts F.parts) proof.now.steps) (map (keep_parts F.parts) proof.now.keeps) }
+    requires size { FitsSize (length (content case.now).names) (length (content case.now).components) (map (step_parts F.parts) proof.now.steps)
+        (map (keep_parts F.parts) proof.now.keeps) }
     ensures { result ≡ check_in F.kind F.numbers (content case.now) (map (step_parts F.parts) proof.now.steps) (map (keep_parts F.parts) proof.now.keeps) }
 {
     let listed = proof.steps.as_slice();
@@ -122,7 +125,8 @@ pub fn check(case: &Case, proof: &Evidence) -> Result<Verdict, CheckWide>
     ensures yes { result ≡ Ok Yes → MeetsIn (content case.now) (steps_of proof.now) (keeps_of proof.now) }
     ensures no { (n : ℕ) (reason : Broken) → result ≡ Ok (No n reason) → ¬ MeetsIn (content case.now) (steps_of proof.now) (keeps_of proof.now) }
     ensures rejected { result ≡ Ok Yes → (j : ℕ) → IsListed (map (λ s. s.hypothesis) (steps_of proof.now)) j → IsRejectedIn (content case.now) j }
-    ensures all { result ≡ Ok Yes → version_of proof.now ≡ 2 → (j : ℕ) → IsListed (map (λ s. s.hypothesis) (steps_of proof.now)) j ↔ IsRejectedIn (content case.now) j }
+    ensures all { result ≡ Ok Yes → version_of proof.now ≡ 2 → (j : ℕ) → IsListed (map (λ s. s.hypothesis) (steps_of proof.now)) j
+        ↔ IsRejectedIn (content case.now) j }
 {
     verdict(checked_for(case, proof))
 }

@@ -7,7 +7,8 @@ ghost use Rattle.case_model.specs.CaseView.{content};
 ghost use Rattle.evidence_check.specs.Evidence.{others};
 ghost use Rattle.evidence_check.specs.EvidenceParts.{AreFull, FlowsFit, ExitsFit};
 ghost use Rattle.evidence_check.specs.EvidenceView.{hypotheses_of, step_parts, keep_parts};
-ghost use Rattle.evidence_check.specs.ReadView.{rows_from, kept_by, NumbersRead, NumbersStop, ListsRead, ListsStop, StepRead, StepsRead, StepsStop, KeepRead, KeepsRead, KeepsStop, EndRead, EndStops};
+ghost use Rattle.evidence_check.specs.ReadView.{rows_from, kept_by, NumbersRead, NumbersStop, ListsRead, ListsStop, StepRead, StepsRead, StepsStop};
+ghost use Rattle.evidence_check.specs.ReadView.{KeepRead, KeepsRead, KeepsStop, EndRead, EndStops};
 ghost use Rattle.evidence_check.specs.declared.fault.ProofKind.TheVariants.{Unexpected, Ended};
 ghost use Rattle.evidence_check.specs.declared.fault.ProofText.TheVariants as faults;
 
@@ -42,7 +43,8 @@ pub fn numbers<F: EvidenceNumber>(
 ) -> Result<List<F>, ProofText>
     requires c { c < 8 }
     requires known { All (λ j. j < length (content case.now).names) (hypotheses_of steps.now) }
-    ensures found { IfOk result (λ xs. NumbersRead F.numbers (content case.now) (end_at lines.old) quantity c (hypotheses_of steps.now) (rows_left lines.old) (map F.parts xs) (rows_left lines.new)) }
+    ensures found { IfOk result (λ xs. NumbersRead F.numbers (content case.now) (end_at lines.old) quantity c (hypotheses_of steps.now) (rows_left lines.old)
+        (map F.parts xs) (rows_left lines.new)) }
     ensures count { IfOk result (λ xs. length xs ≡ length steps.now) }
     ensures fault { IfErr result (NumbersStop F.numbers (content case.now) (end_at lines.old) quantity c (hypotheses_of steps.now) (rows_left lines.old)) }
     ensures end { end_at lines.new ≡ end_at lines.old }
@@ -69,7 +71,8 @@ pub fn lists<F: EvidenceNumber>(
     steps: &[ProofStep<F>],
 ) -> Result<List<List<F>>, ProofText>
     requires known { All (λ j. j < length (content case.now).names) (hypotheses_of steps.now) }
-    ensures found { IfOk result (λ xs. ListsRead F.numbers (content case.now) (end_at lines.old) quantity (hypotheses_of steps.now) (rows_left lines.old) (map (map F.parts) xs) (rows_left lines.new)) }
+    ensures found { IfOk result (λ xs. ListsRead F.numbers (content case.now) (end_at lines.old) quantity (hypotheses_of steps.now) (rows_left lines.old)
+        (map (map F.parts) xs) (rows_left lines.new)) }
     ensures full { IfOk result (λ xs. AreFull (length (content case.now).components) (length steps.now) (map (map F.parts) xs)) }
     ensures fault { IfErr result (ListsStop F.numbers (content case.now) (end_at lines.old) quantity (hypotheses_of steps.now) (rows_left lines.old)) }
     ensures end { end_at lines.new ≡ end_at lines.old }
@@ -93,7 +96,8 @@ pub fn step<F: EvidenceNumber>(
 ) -> Result<ProofStep<F>, ProofText>
     requires first { Some (words_of words) ≡ words_behind (codes "step") (words_of line.now.text.now) }
     requires known { All (λ j. j < length (content case.now).names) (hypotheses_of earlier.now) }
-    ensures found { IfOk result (λ s. StepRead F.numbers (content case.now) (end_at lines.old) (hypotheses_of earlier.now) (rows_from line.now lines.old) (step_parts F.parts s) (rows_left lines.new)) }
+    ensures found { IfOk result (λ s. StepRead F.numbers (content case.now) (end_at lines.old) (hypotheses_of earlier.now) (rows_from line.now lines.old)
+        (step_parts F.parts s) (rows_left lines.new)) }
     ensures known { IfOk result (λ s. s.hypothesis < length (content case.now).names) }
     ensures full { IfOk result (λ s. AreFull (length (content case.now).components) (length earlier.now) (map (map F.parts) s.flows)) }
     ensures fault { IfErr result (StepsStop F.numbers (content case.now) (end_at lines.old) (hypotheses_of earlier.now) (rows_from line.now lines.old)) }
@@ -115,7 +119,8 @@ pub fn steps<'a, F: EvidenceNumber>(
     lines: &mut Lines<'a>,
     case: &Case,
 ) -> Result<(List<ProofStep<F>>, Line<'a>), ProofText>
-    ensures found { IfOk result (λ x. StepsRead F.numbers (content case.now) (end_at lines.old) (rows_left lines.old) (map (step_parts F.parts) x.0) (rows_from x.1 lines.new)) }
+    ensures found { IfOk result (λ x. StepsRead F.numbers (content case.now) (end_at lines.old) (rows_left lines.old) (map (step_parts F.parts) x.0)
+        (rows_from x.1 lines.new)) }
     ensures behind { IfOk result (λ x. words_behind (codes "step") (words_of x.1.text.now) ≡ None) }
     ensures known { IfOk result (λ x. All (λ j. j < length (content case.now).names) (hypotheses_of x.0)) }
     ensures full { IfOk result (λ x. FlowsFit (length (content case.now).components) 0 (map (step_parts F.parts) x.0)) }
@@ -142,10 +147,12 @@ pub fn keep<F: EvidenceNumber>(
 ) -> Result<KeepProof<F>, ProofText>
     requires hypothesis { hypothesis < length (content case.now).names }
     requires known { All (λ j. j < length (content case.now).names) (hypotheses_of steps.now) }
-    ensures found { IfOk result (λ x. KeepRead F.numbers (content case.now) (end_at lines.old) (hypotheses_of steps.now) (rows_from line.now lines.old) (keep_parts F.parts x) (rows_left lines.new)) }
+    ensures found { IfOk result (λ x. KeepRead F.numbers (content case.now) (end_at lines.old) (hypotheses_of steps.now) (rows_from line.now lines.old)
+        (keep_parts F.parts x) (rows_left lines.new)) }
     ensures same { IfOk result (λ x. x.hypothesis ≡ hypothesis) }
     ensures full { IfOk result (λ x. AreFull (length (content case.now).components) (length steps.now) (map (map F.parts) x.exits)) }
-    ensures fault { IfErr result (λ fault. (ks : Seq ℕ) → KeepsStop F.numbers (content case.now) (end_at lines.old) (hypotheses_of steps.now) (hypothesis ∷ ks) (rows_from line.now lines.old) fault) }
+    ensures fault { IfErr result (λ fault. (ks : Seq ℕ)
+        → KeepsStop F.numbers (content case.now) (end_at lines.old) (hypotheses_of steps.now) (hypothesis ∷ ks) (rows_from line.now lines.old) fault) }
     ensures end { end_at lines.new ≡ end_at lines.old }
 {
     match rules::keep(line, case.name(hypothesis)) {
@@ -166,10 +173,13 @@ pub fn keeps<'a, F: EvidenceNumber>(
     first: Line<'a>,
 ) -> Result<(List<KeepProof<F>>, Line<'a>), ProofText>
     requires known { All (λ j. j < length (content case.now).names) (hypotheses_of steps.now) }
-    ensures found { IfOk result (λ x. KeepsRead F.numbers (content case.now) (end_at lines.old) (hypotheses_of steps.now) (others (length (content case.now).names) (hypotheses_of steps.now)) (rows_from first.entry lines.old) (map (keep_parts F.parts) x.0) [] (rows_from x.1 lines.new)) }
+    ensures found { IfOk result (λ x. KeepsRead F.numbers (content case.now) (end_at lines.old) (hypotheses_of steps.now)
+        (others (length (content case.now).names) (hypotheses_of steps.now)) (rows_from first.entry lines.old) (map (keep_parts F.parts) x.0) []
+        (rows_from x.1 lines.new)) }
     ensures all { IfOk result (λ x. map (λ k. k.hypothesis) x.0 ≡ others (length (content case.now).names) (hypotheses_of steps.now)) }
     ensures full { IfOk result (λ x. ExitsFit (length (content case.now).components) (length steps.now) (map (keep_parts F.parts) x.0)) }
-    ensures fault { IfErr result (KeepsStop F.numbers (content case.now) (end_at lines.old) (hypotheses_of steps.now) (others (length (content case.now).names) (hypotheses_of steps.now)) (rows_from first.entry lines.old)) }
+    ensures fault { IfErr result (KeepsStop F.numbers (content case.now) (end_at lines.old) (hypotheses_of steps.now)
+        (others (length (content case.now).names) (hypotheses_of steps.now)) (rows_from first.entry lines.old)) }
     ensures end { end_at lines.new ≡ end_at lines.old }
 {
     let mut keeps = List::new(alloc);
@@ -194,10 +204,13 @@ pub fn kept<'a, F: EvidenceNumber>(
     first: Line<'a>,
 ) -> Result<(List<KeepProof<F>>, Line<'a>), ProofText>
     requires known { All (λ j. j < length (content case.now).names) (hypotheses_of steps.now) }
-    ensures found { IfOk result (λ x. KeepsRead F.numbers (content case.now) (end_at lines.old) (hypotheses_of steps.now) (kept_by (length (content case.now).names) version (hypotheses_of steps.now)) (rows_from first.entry lines.old) (map (keep_parts F.parts) x.0) [] (rows_from x.1 lines.new)) }
+    ensures found { IfOk result (λ x. KeepsRead F.numbers (content case.now) (end_at lines.old) (hypotheses_of steps.now)
+        (kept_by (length (content case.now).names) version (hypotheses_of steps.now)) (rows_from first.entry lines.old)
+        (map (keep_parts F.parts) x.0) [] (rows_from x.1 lines.new)) }
     ensures all { IfOk result (λ x. map (λ k. k.hypothesis) x.0 ≡ kept_by (length (content case.now).names) version (hypotheses_of steps.now)) }
     ensures full { IfOk result (λ x. ExitsFit (length (content case.now).components) (length steps.now) (map (keep_parts F.parts) x.0)) }
-    ensures fault { IfErr result (KeepsStop F.numbers (content case.now) (end_at lines.old) (hypotheses_of steps.now) (kept_by (length (content case.now).names) version (hypotheses_of steps.now)) (rows_from first.entry lines.old)) }
+    ensures fault { IfErr result (KeepsStop F.numbers (content case.now) (end_at lines.old) (hypotheses_of steps.now)
+        (kept_by (length (content case.now).names) version (hypotheses_of steps.now)) (rows_from first.entry lines.old)) }
     ensures end { end_at lines.new ≡ end_at lines.old }
 {
     if version == 2 {
@@ -210,7 +223,8 @@ pub fn kept<'a, F: EvidenceNumber>(
 /// No line is behind those taken so far.
 fn nothing_behind(lines: &mut Lines) -> Result<(), ProofText>
     ensures none { IfOk result (λ _. rows_left lines.old ≡ []) }
-    ensures more { IfErr result (λ fault. (next : Row) × (more : Seq Row) × (rows_left lines.old ≡ next ∷ more) × (fault ≡ faults.Line next.number Unexpected)) }
+    ensures more { IfErr result (λ fault. (next : Row) × (more : Seq Row) × (rows_left lines.old ≡ next ∷ more)
+        × (fault ≡ faults.Line next.number Unexpected)) }
 {
     match lines.next() {
         Some(line) => Err(ProofText::Line(line.number, ProofKind::Unexpected)),

@@ -19,7 +19,7 @@ ghost use Rattle.evidence_check.specs.CaseCheck.{loaded_case};
 use crate::case_sums::{allowed, hypothesis, leaving, number};
 use crate::event::CheckEvent;
 use crate::flows::in_component;
-use crate::sums::{all_below, demand, is_nonnegative, placed};
+use crate::sums::{all_below, is_nonnegative, placed, require};
 use crate::{ProofStep, Reason};
 use case_model::Case;
 use case_numbers::CaseNumber;
@@ -40,14 +40,15 @@ fn exit<F: CaseNumber>(
     requires r { r < length steps.now }
     requires count { length exits.now ≡ length steps.now }
     requires order { IsOrder (length (content case.now).names) whole (hypotheses_of steps.now) }
-    ensures { result ≡ exit_check F.kind (loaded_case F.kind F.numbers (content case.now)) (hypotheses_of steps.now) (numbers_at F.kind (map F.parts exits.now)) k c r }
+    ensures { result ≡ exit_check F.kind (loaded_case F.kind F.numbers (content case.now)) (hypotheses_of steps.now)
+        (numbers_at F.kind (map F.parts exits.now)) k c r }
 {
     let exit = number(exits, r);
-    demand(is_nonnegative(&exit), Reason::NegativeExit(c, r))?;
+    require(is_nonnegative(&exit), Reason::NegativeExit(c, r))?;
     let sum = leaving(case, steps, c, exits, k, r)?;
     let place = Place::Exit(hypothesis(steps, r), k);
     let order = placed(c, place, sum.compare(&exit))?;
-    demand(order.is_le(), Reason::ShortExit(c, r))
+    require(order.is_le(), Reason::ShortExit(c, r))
 }
 
 /// In a component, the conditions on the exits to `k` from the hypotheses of all steps.
@@ -62,7 +63,9 @@ pub fn exits<F: CaseNumber>(
     requires k { k < length (content case.now).names }
     requires full { AreFull (length (content case.now).components) (length steps.now) (map (map F.parts) lists.now) }
     requires order { IsOrder (length (content case.now).names) whole (hypotheses_of steps.now) }
-    ensures { result ≡ all_below (length (hypotheses_of steps.now)) (exit_check F.kind (loaded_case F.kind F.numbers (content case.now)) (hypotheses_of steps.now) (part_at F.kind (map (map F.parts) lists.now) c) k c) }
+    ensures { result ≡ all_below (length (hypotheses_of steps.now))
+        (exit_check F.kind (loaded_case F.kind F.numbers (content case.now)) (hypotheses_of steps.now)
+        (part_at F.kind (map (map F.parts) lists.now) c) k c) }
 {
     let exits = in_component(lists, c);
     all_below(steps.len(), |r| exit(case, steps, c, exits, k, r))
@@ -82,10 +85,11 @@ pub fn limit<F: CaseNumber>(
     requires order { IsOrder (length (content case.now).names) whole (hypotheses_of steps.now) }
     requires loaded { IsLoaded F.IsStored (loaded_case F.kind F.numbers (content case.now)) (entangled (content case.now)) }
     requires exits { (r : ℕ) → r < length (hypotheses_of steps.now) → number_zero ≤ε value_of (part_at F.kind (map (map F.parts) lists.now) c r) }
-    ensures { ok_map fraction_parts result ≡ allowed_limit F.kind (loaded_case F.kind F.numbers (content case.now)) (hypotheses_of steps.now) (part_at F.kind (map (map F.parts) lists.now) c) k c }
+    ensures { ok_map fraction_parts result ≡ allowed_limit F.kind (loaded_case F.kind F.numbers (content case.now)) (hypotheses_of steps.now)
+        (part_at F.kind (map (map F.parts) lists.now) c) k c }
 {
     let sum = allowed(case, steps, c, in_component(lists, c), k)?;
     let order = placed(c, Place::Level(k), sum.compare(&F::one()))?;
-    demand(order.is_le(), Reason::AboveOne(c))?;
+    require(order.is_le(), Reason::AboveOne(c))?;
     Ok(Fraction::of(sum.limit()))
 }

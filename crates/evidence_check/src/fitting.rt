@@ -27,14 +27,16 @@ fn are_full<F: Number>(components: usize, count: usize, lists: &List<List<F>>) -
 
 /// Whether a step after so many others has a hypothesis of the case, and all its flows.
 fn step_fits<F: Number>(case: &Case, earlier: usize, step: &ProofStep<F>) -> bool
-    ensures { IsTrue result ↔ ((step.now.hypothesis < length (content case.now).names) × AreFull (length (content case.now).components) earlier (map (map F.parts) step.now.flows)) }
+    ensures { IsTrue result ↔ ((step.now.hypothesis < length (content case.now).names)
+        × AreFull (length (content case.now).components) earlier (map (map F.parts) step.now.flows)) }
 {
     step.hypothesis < case.size() && are_full(case.components(), earlier, &step.flows)
 }
 
 /// Whether each step has a hypothesis of the case, and all its flows.
 fn steps_fit<F: Number>(case: &Case, steps: &[ProofStep<F>]) -> bool
-    ensures { IsTrue result ↔ (All (λ s. s.hypothesis < length (content case.now).names) (map (step_parts F.parts) steps.now) × FlowsFit (length (content case.now).components) 0 (map (step_parts F.parts) steps.now)) }
+    ensures { IsTrue result ↔ (All (λ s. s.hypothesis < length (content case.now).names) (map (step_parts F.parts) steps.now)
+        × FlowsFit (length (content case.now).components) 0 (map (step_parts F.parts) steps.now)) }
 {
     for e in 0..steps.len() {
         if !step_fits(case, e, &steps[e]) {
@@ -46,14 +48,16 @@ fn steps_fit<F: Number>(case: &Case, steps: &[ProofStep<F>]) -> bool
 
 /// Whether a keep after so many steps has a hypothesis of the case, and all its exits.
 fn keep_fits<F: Number>(case: &Case, steps: usize, keep: &KeepProof<F>) -> bool
-    ensures { IsTrue result ↔ ((keep.now.hypothesis < length (content case.now).names) × AreFull (length (content case.now).components) steps (map (map F.parts) keep.now.exits)) }
+    ensures { IsTrue result ↔ ((keep.now.hypothesis < length (content case.now).names)
+        × AreFull (length (content case.now).components) steps (map (map F.parts) keep.now.exits)) }
 {
     keep.hypothesis < case.size() && are_full(case.components(), steps, &keep.exits)
 }
 
 /// Whether each keep has a hypothesis of the case, and all its exits.
 fn keeps_fit<F: Number>(case: &Case, steps: usize, keeps: &[KeepProof<F>]) -> bool
-    ensures { IsTrue result ↔ (All (λ x. x.hypothesis < length (content case.now).names) (map (keep_parts F.parts) keeps.now) × ExitsFit (length (content case.now).components) steps (map (keep_parts F.parts) keeps.now)) }
+    ensures { IsTrue result ↔ (All (λ x. x.hypothesis < length (content case.now).names) (map (keep_parts F.parts) keeps.now)
+        × ExitsFit (length (content case.now).components) steps (map (keep_parts F.parts) keeps.now)) }
 {
     for x in 0..keeps.len() {
         if !keep_fits(case, steps, &keeps[x]) {
@@ -84,7 +88,8 @@ fn are_others<F>(m: usize, steps: &[ProofStep<F>], keeps: &[KeepProof<F>]) -> bo
 
 /// Whether steps and keeps are for a case, whatever their numbers are.
 fn fits_case<F: Number>(case: &Case, proof: &Steps<F>) -> bool
-    ensures { IsTrue result ↔ FitsCase (content case.now) proof.now.version (map (step_parts F.parts) proof.now.steps) (map (keep_parts F.parts) proof.now.keeps) }
+    ensures { IsTrue result ↔ FitsCase (content case.now) proof.now.version (map (step_parts F.parts) proof.now.steps)
+        (map (keep_parts F.parts) proof.now.keeps) }
 {
     let steps = proof.steps.as_slice();
     let keeps = proof.keeps.as_slice();

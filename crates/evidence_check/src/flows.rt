@@ -11,7 +11,7 @@ ghost use Rattle.evidence_check.specs.CaseCheck.{loaded_case};
 
 use crate::case_sums::{brought, hypothesis, number};
 use crate::event::CheckEvent;
-use crate::sums::{all_below, demand, is_nonnegative, placed};
+use crate::sums::{all_below, is_nonnegative, placed, require};
 use crate::{ProofStep, Reason};
 use case_model::Case;
 use case_numbers::CaseNumber;
@@ -30,15 +30,16 @@ fn flow<F: CaseNumber>(
     requires r { r < length earlier.now }
     requires count { length flows.now ≡ length earlier.now }
     requires order { IsOrder (length (content case.now).names) whole (hypotheses_of earlier.now) }
-    ensures { result ≡ flow_check F.kind (loaded_case F.kind F.numbers (content case.now)) (hypotheses_of earlier.now) (numbers_at F.kind (map F.parts flows.now)) c r }
+    ensures { result ≡ flow_check F.kind (loaded_case F.kind F.numbers (content case.now)) (hypotheses_of earlier.now)
+        (numbers_at F.kind (map F.parts flows.now)) c r }
 {
     let flow = number(flows, r);
-    demand(is_nonnegative(&flow), Reason::Negative(c, r))?;
+    require(is_nonnegative(&flow), Reason::Negative(c, r))?;
     let at = hypothesis(earlier, r);
     let place = Place::Bound(at);
     let sum = brought(case, place, earlier, c, flows, at)?;
     let order = placed(c, place, flow.compare(&sum))?;
-    demand(order.is_le(), Reason::Exceeds(c, r))
+    require(order.is_le(), Reason::Exceeds(c, r))
 }
 
 /// The numbers of a component.
@@ -60,7 +61,9 @@ pub fn flows<F: CaseNumber>(
     requires c { c < length (content case.now).components }
     requires full { AreFull (length (content case.now).components) (length earlier.now) (map (map F.parts) lists.now) }
     requires order { IsOrder (length (content case.now).names) whole (hypotheses_of earlier.now) }
-    ensures { result ≡ all_below (length (hypotheses_of earlier.now)) (flow_check F.kind (loaded_case F.kind F.numbers (content case.now)) (hypotheses_of earlier.now) (part_at F.kind (map (map F.parts) lists.now) c) c) }
+    ensures { result ≡ all_below (length (hypotheses_of earlier.now))
+        (flow_check F.kind (loaded_case F.kind F.numbers (content case.now)) (hypotheses_of earlier.now)
+        (part_at F.kind (map (map F.parts) lists.now) c) c) }
 {
     let flows = in_component(lists, c);
     all_below(earlier.len(), |r| flow(case, earlier, c, flows, r))

@@ -18,7 +18,7 @@ ghost use Rattle.evidence_check.specs.CaseCheck.{IsSingle, loaded_case};
 use crate::event::CheckEvent;
 use crate::exits::{exits, limit};
 use crate::level::{level, passes_at};
-use crate::sums::{all_below, demand};
+use crate::sums::{all_below, require};
 use crate::{KeepProof, ProofStep, Reason};
 use case_model::Case;
 use case_numbers::CaseNumber;
@@ -36,8 +36,11 @@ fn keep_level<F: CaseNumber>(
     requires full { AreFull (length (content case.now).components) (length steps.now) (map (map F.parts) lists.now) }
     requires order { IsOrder (length (content case.now).names) whole (hypotheses_of steps.now) }
     requires loaded { IsLoaded F.IsStored (loaded_case F.kind F.numbers (content case.now)) (entangled (content case.now)) }
-    requires exits { (c : ℕ) → c < length (content case.now).components → (r : ℕ) → r < length (hypotheses_of steps.now) → number_zero ≤ε value_of (part_at F.kind (map (map F.parts) lists.now) c r) }
-    ensures { ok_map fraction_parts result ≡ level_by (loaded_case F.kind F.numbers (content case.now)) k (λ c. allowed_limit F.kind (loaded_case F.kind F.numbers (content case.now)) (hypotheses_of steps.now) (part_at F.kind (map (map F.parts) lists.now) c) k c) }
+    requires exits { (c : ℕ) → c < length (content case.now).components → (r : ℕ) → r < length (hypotheses_of steps.now)
+        → number_zero ≤ε value_of (part_at F.kind (map (map F.parts) lists.now) c r) }
+    ensures { ok_map fraction_parts result ≡ level_by (loaded_case F.kind F.numbers (content case.now)) k
+        (λ c. allowed_limit F.kind (loaded_case F.kind F.numbers (content case.now)) (hypotheses_of steps.now)
+        (part_at F.kind (map (map F.parts) lists.now) c) k c) }
 {
     level(case, k, |c| limit(case, steps, lists, k, c))
 }
@@ -58,5 +61,5 @@ pub fn keep<F: CaseNumber>(
     let k = keep.hypothesis;
     all_below(case.components(), |c| exits(case, steps, &keep.exits, k, c))?;
     let level = keep_level(case, steps, &keep.exits, k)?;
-    demand(!passes_at(case, k, &level), Reason::Legal)
+    require(!passes_at(case, k, &level), Reason::Legal)
 }

@@ -1,9 +1,13 @@
 //! Laws of evidence. Each function states laws that hold of all valid entangled graphs or of all cases, and does nothing.
 
-ghost use Rattle.evidence_check.specs.EvidenceStatements.{EvidenceListsLegalOrders, EvidenceListsRejections, EvidenceWithKeepsIsComplete, EvidenceWithKeepsDecides};
+ghost use Rattle.evidence_check.specs.EvidenceStatements.{EvidenceListsLegalOrders, EvidenceListsRejections, EvidenceWithKeepsIsComplete};
+ghost use Rattle.evidence_check.specs.EvidenceStatements.{EvidenceWithKeepsDecides};
 ghost use Rattle.evidence_check.specs.CheckStatements.{ChecksAreSound, ChecksAreFair};
 ghost use Rattle.evidence_check.specs.CaseCheck.{CaseChecksAreSound, CaseChecksAreFair, CaseChecksNameBroken, CheckedAreRejected, CheckedAreAllRejected};
-ghost use Rattle.evidence_check.specs.DocumentStatements.{CasesHaveFrames, ReadingsAreDocuments, FaultsAreBadLines, LinesSayOneEvidence, TextsSayOneEvidence, TextsDontSayAndFail, TextsHaveOneFault, TextsSayOrFail, LinesSayTheirEvidence, StoredNumbersArePrinted, EvidenceTextsSayIt, FaultsAreWhereNoneGoesOn, NoneGoesOnIsFault};
+ghost use Rattle.evidence_check.specs.DocumentStatements.{CasesHaveFrames, ReadingsAreDocuments, FaultsAreBadLines, LinesSayOneEvidence};
+ghost use Rattle.evidence_check.specs.DocumentStatements.{TextsSayOneEvidence, TextsDontSayAndFail, TextsHaveOneFault, TextsSayOrFail};
+ghost use Rattle.evidence_check.specs.DocumentStatements.{LinesSayTheirEvidence, StoredNumbersArePrinted, EvidenceTextsSayIt};
+ghost use Rattle.evidence_check.specs.DocumentStatements.{FaultsAreWhereNoneGoesOn, NoneGoesOnIsFault};
 
 use field_core::Number;
 

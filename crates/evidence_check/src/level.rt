@@ -40,7 +40,9 @@ fn level_in<L: Fn(usize) -> Result<Fraction, CheckEvent>>(
 ) -> Result<Fraction, CheckEvent>
     requires limit { (c : ℕ) → c < length (content case.now).components → L.pre limit c }
     requires room { length limits.old ≡ length (content case.now).components }
-    ensures { (K : Kind) (n : Numbers) (f : ℕ → Answer Parts Ended) → ((c : ℕ) (r : Answer Ratio Ended) → c < length (content case.now).components → L.post limit c r → ok_map fraction_parts r ≡ f c) → ok_map fraction_parts result ≡ level_by (loaded_case K n (content case.now)) k f }
+    ensures { (K : Kind) (n : Numbers) (f : ℕ → Answer Parts Ended)
+        → ((c : ℕ) (r : Answer Ratio Ended) → c < length (content case.now).components → L.post limit c r → ok_map fraction_parts r ≡ f c)
+        → ok_map fraction_parts result ≡ level_by (loaded_case K n (content case.now)) k f }
 {
     try_fill(limits, limit)?;
     shared_sum(case, k, limits)
@@ -53,7 +55,9 @@ pub fn level<L: Fn(usize) -> Result<Fraction, CheckEvent>>(
     limit: L,
 ) -> Result<Fraction, CheckEvent>
     requires { (c : ℕ) → c < length (content case.now).components → L.pre limit c }
-    ensures { (K : Kind) (n : Numbers) (f : ℕ → Answer Parts Ended) → ((c : ℕ) (r : Answer Ratio Ended) → c < length (content case.now).components → L.post limit c r → ok_map fraction_parts r ≡ f c) → ok_map fraction_parts result ≡ level_by (loaded_case K n (content case.now)) k f }
+    ensures { (K : Kind) (n : Numbers) (f : ℕ → Answer Parts Ended)
+        → ((c : ℕ) (r : Answer Ratio Ended) → c < length (content case.now).components → L.post limit c r → ok_map fraction_parts r ≡ f c)
+        → ok_map fraction_parts result ≡ level_by (loaded_case K n (content case.now)) k f }
 {
     let mut limits = [Fraction::zero(); 8];
     level_in(case, k, &mut limits[..case.components()], limit)
@@ -70,7 +74,8 @@ pub fn is_above_zero(level: &Fraction) -> bool
 pub fn passes_at(case: &Case, k: usize, level: &Fraction) -> bool
     requires single { IsSingle (content case.now).inputs }
     requires k { k < length (content case.now).names }
-    ensures { (K : Kind) (n : Numbers) → result ≡ does_pass ((loaded_case K n (content case.now)).p k) (value_of (fraction_parts level.now)) (loaded_case K n (content case.now)).alpha }
+    ensures { (K : Kind) (n : Numbers) → result ≡ does_pass ((loaded_case K n (content case.now)).p k) (value_of (fraction_parts level.now))
+        (loaded_case K n (content case.now)).alpha }
 {
     passes(&p_value(case, k), level, &case.alpha())
 }

@@ -19,7 +19,8 @@ fn read_in<F: EvidenceNumber>(
     case: &Case,
     bytes: &[u8],
 ) -> Result<Steps<F>, ProofText>
-    ensures found { IfOk result (λ v. SayEvidence F.numbers (content case.now) (end_of bytes.now) (rows_of bytes.now) v.version (map (step_parts F.parts) v.steps) (map (keep_parts F.parts) v.keeps)) }
+    ensures found { IfOk result (λ v. SayEvidence F.numbers (content case.now) (end_of bytes.now) (rows_of bytes.now) v.version
+        (map (step_parts F.parts) v.steps) (map (keep_parts F.parts) v.keeps)) }
     ensures fits { IfOk result (λ v. FitsCase (content case.now) v.version (map (step_parts F.parts) v.steps) (map (keep_parts F.parts) v.keeps)) }
     ensures fault { IfErr result (HaveFault F.numbers (content case.now) (end_of bytes.now) (rows_of bytes.now)) }
 {

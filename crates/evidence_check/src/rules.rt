@@ -6,7 +6,8 @@ ghost use Rattle.field_core.specs.Kind.{ok_map};
 ghost use Rattle.text_lines.specs.Words.{words_of};
 ghost use Rattle.case_model.specs.CaseView.{content};
 ghost use Rattle.case_model.specs.Names.{position_of};
-ghost use Rattle.evidence_check.specs.Documents.{Frame, SaysVersion, SaysStep, SaysNumber, SaysKeep, SaysEnd, version_line, step_said, number_line, keep_line, end_line};
+ghost use Rattle.evidence_check.specs.Documents.{Frame, SaysVersion, SaysStep, SaysNumber, SaysKeep, SaysEnd, version_line, step_said, number_line};
+ghost use Rattle.evidence_check.specs.Documents.{keep_line, end_line};
 ghost use Rattle.evidence_check.specs.NumberTexts.{IsNumberOf};
 
 use crate::loading::EvidenceNumber;
@@ -39,7 +40,8 @@ pub fn version(line: &Line) -> Result<u8, ProofKind>
 /// The hypothesis of a step, by the words behind the first.
 #[tactic(auto, unfolding(crate::specs::Documents::step_said))]
 pub fn step(words: Words, case: &Case) -> Result<usize, ProofKind>
-    ensures said { (T : Frame) → ((name : Seq ℕ) → T.position name ≡ position_of name (content case.now).names) → ok_map SaysStep result ≡ step_said T (words_of words.entry) }
+    ensures said { (T : Frame) → ((name : Seq ℕ) → T.position name ≡ position_of name (content case.now).names)
+        → ok_map SaysStep result ≡ step_said T (words_of words.entry) }
     ensures known { IfOk result (λ j. j < length (content case.now).names) }
 {
     let Some(name) = words.one() else {
@@ -68,7 +70,8 @@ pub fn number<F: EvidenceNumber>(
     name: &[u8],
 ) -> Result<F, ProofKind>
     requires { c < 8 }
-    ensures said { (T : Frame) (h : ℕ) → T.name h ≡ name.now → ((text : Seq ℕ) → IsNumberOf F.numbers text (T.number text)) → ok_map (λ x. SaysNumber quantity c h (F.parts x)) result ≡ number_line T quantity c h (words_of line.now.text.now) }
+    ensures said { (T : Frame) (h : ℕ) → T.name h ≡ name.now → ((text : Seq ℕ) → IsNumberOf F.numbers text (T.number text))
+        → ok_map (λ x. SaysNumber quantity c h (F.parts x)) result ≡ number_line T quantity c h (words_of line.now.text.now) }
 {
     let Some(words) = line.behind(keyword(quantity)) else {
         return Err(ProofKind::Unexpected);

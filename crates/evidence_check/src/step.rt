@@ -19,7 +19,7 @@ use crate::case_sums::brought;
 use crate::event::CheckEvent;
 use crate::flows::{flows, in_component};
 use crate::level::{is_above_zero, level, passes_at};
-use crate::sums::{all_below, demand};
+use crate::sums::{all_below, require};
 use crate::{ProofStep, Reason};
 use case_model::Case;
 use case_numbers::CaseNumber;
@@ -48,8 +48,10 @@ fn limit<F: CaseNumber>(
     requires order { IsOrder (length (content case.now).names) whole (hypotheses_of earlier.now) }
     requires loaded { IsLoaded F.IsStored (loaded_case F.kind F.numbers (content case.now)) (entangled (content case.now)) }
     requires other { set_of (hypotheses_of earlier.now) k ≡ false }
-    requires flows { AreFlows ((entangled (content case.now)).graph c) (hypotheses_of earlier.now) (λ e. value_of (part_at F.kind (map (map F.parts) lists.now) c e)) }
-    ensures { ok_map fraction_parts result ≡ level_limit F.kind (loaded_case F.kind F.numbers (content case.now)) (hypotheses_of earlier.now) (part_at F.kind (map (map F.parts) lists.now) c) k c }
+    requires flows { AreFlows ((entangled (content case.now)).graph c) (hypotheses_of earlier.now)
+        (λ e. value_of (part_at F.kind (map (map F.parts) lists.now) c e)) }
+    ensures { ok_map fraction_parts result ≡ level_limit F.kind (loaded_case F.kind F.numbers (content case.now)) (hypotheses_of earlier.now)
+        (part_at F.kind (map (map F.parts) lists.now) c) k c }
 {
     let flows = in_component(lists, c);
     let sum = brought(case, Place::Level(k), earlier, c, flows, k)?;
@@ -68,8 +70,12 @@ fn step_level<F: CaseNumber>(
     requires order { IsOrder (length (content case.now).names) whole (hypotheses_of earlier.now) }
     requires loaded { IsLoaded F.IsStored (loaded_case F.kind F.numbers (content case.now)) (entangled (content case.now)) }
     requires other { set_of (hypotheses_of earlier.now) k ≡ false }
-    requires flows { (c : ℕ) → c < length (content case.now).components → AreFlows ((entangled (content case.now)).graph c) (hypotheses_of earlier.now) (λ e. value_of (part_at F.kind (map (map F.parts) lists.now) c e)) }
-    ensures { ok_map fraction_parts result ≡ level_by (loaded_case F.kind F.numbers (content case.now)) k (λ c. level_limit F.kind (loaded_case F.kind F.numbers (content case.now)) (hypotheses_of earlier.now) (part_at F.kind (map (map F.parts) lists.now) c) k c) }
+    requires flows { (c : ℕ) → c < length (content case.now).components
+        → AreFlows ((entangled (content case.now)).graph c) (hypotheses_of earlier.now)
+        (λ e. value_of (part_at F.kind (map (map F.parts) lists.now) c e)) }
+    ensures { ok_map fraction_parts result ≡ level_by (loaded_case F.kind F.numbers (content case.now)) k
+        (λ c. level_limit F.kind (loaded_case F.kind F.numbers (content case.now)) (hypotheses_of earlier.now)
+        (part_at F.kind (map (map F.parts) lists.now) c) k c) }
 {
     level(case, k, |c| limit(case, earlier, lists, k, c))
 }
@@ -88,9 +94,9 @@ pub fn step<F: CaseNumber>(
     ensures { result ≡ step_check F.kind (loaded_case F.kind F.numbers (content case.now)) (hypotheses_of earlier.now) (step_parts F.parts step.now) }
 {
     let k = step.hypothesis;
-    demand(!is_listed(earlier, k), Reason::Repeated)?;
+    require(!is_listed(earlier, k), Reason::Repeated)?;
     all_below(case.components(), |c| flows(case, earlier, &step.flows, c))?;
     let level = step_level(case, earlier, &step.flows, k)?;
-    demand(is_above_zero(&level), Reason::NoLevel)?;
-    demand(passes_at(case, k, &level), Reason::AboveLevel)
+    require(is_above_zero(&level), Reason::NoLevel)?;
+    require(passes_at(case, k, &level), Reason::AboveLevel)
 }

@@ -2,7 +2,7 @@
 ghost use Rattle.std.specs.Prelude.{◌≡◌, ◌<◌, ℕ, Result as Answer};
 ghost use Rattle.field_core.specs.Kind.{Parts, ok_map, sign_of};
 ghost use Rattle.field_core.specs.Field.{not_less};
-ghost use Rattle.evidence_check.specs.CheckSteps.{demand, written_at, all_below};
+ghost use Rattle.evidence_check.specs.CheckSteps.{require, written_at, all_below};
 ghost use Rattle.evidence_check.specs.WrittenCheck.{with_product, added};
 ghost use Rattle.evidence_check.specs.declared.event.CheckEvent.{CheckEvent as Ended};
 
@@ -12,9 +12,9 @@ use field_core::{Number, Place, TooWide};
 use std::cmp::Ordering;
 
 /// A condition by its test, and the reason where it is broken.
-#[tactic(auto, unfolding(crate::specs::CheckSteps::demand))]
-pub fn demand(test: bool, reason: Reason) -> Result<(), CheckEvent>
-    ensures { result ≡ demand test reason }
+#[tactic(auto, unfolding(crate::specs::CheckSteps::require))]
+pub fn require(test: bool, reason: Reason) -> Result<(), CheckEvent>
+    ensures { result ≡ require test reason }
 {
     if test {
         Ok(())
@@ -30,7 +30,8 @@ pub fn all_below<T: Fn(usize) -> Result<(), CheckEvent>>(
     test: T,
 ) -> Result<(), CheckEvent>
     requires { (i : ℕ) → i < count → T.pre test i }
-    ensures { (f : ℕ → Answer (Unit {0}) Ended) → ((i : ℕ) (r : Answer (Unit {0}) Ended) → i < count → T.post test i r → r ≡ f i) → result ≡ all_below count f }
+    ensures { (f : ℕ → Answer (Unit {0}) Ended) → ((i : ℕ) (r : Answer (Unit {0}) Ended) → i < count → T.post test i r → r ≡ f i)
+        → result ≡ all_below count f }
 {
     for i in 0..count {
         test(i)?;
@@ -86,7 +87,9 @@ pub fn added<F: Number, X: Fn(usize) -> F, Y: Fn(usize) -> F>(
 ) -> Result<F, CheckEvent>
     requires x { (e : ℕ) → e < count → X.pre x e }
     requires y { (e : ℕ) → e < count → Y.pre y e }
-    ensures { (f g : ℕ → Parts) → ((e : ℕ) (v : F) → e < count → X.post x e v → F.parts v ≡ f e) → ((e : ℕ) (v : F) → e < count → Y.post y e v → F.parts v ≡ g e) → ok_map F.parts result ≡ added F.kind (λ _. component) place (F.parts start) f g count }
+    ensures { (f g : ℕ → Parts) → ((e : ℕ) (v : F) → e < count → X.post x e v → F.parts v ≡ f e)
+        → ((e : ℕ) (v : F) → e < count → Y.post y e v → F.parts v ≡ g e)
+        → ok_map F.parts result ≡ added F.kind (λ _. component) place (F.parts start) f g count }
 {
     let mut sum = start;
     for e in 0..count {

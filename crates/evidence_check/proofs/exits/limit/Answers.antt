@@ -3,9 +3,9 @@ use Rattle.field_core.specs.Kind.{ok_map}
 use Rattle.field_core.specs.declared.place.Place.TheVariants.{Level}
 use Rattle.fraction.specs.Plain.{single, fraction_parts}
 use Rattle.case_model.specs.CaseView.{content}
-use Rattle.evidence_check.specs.CheckSteps.{demand}
+use Rattle.evidence_check.specs.CheckSteps.{require}
 use Rattle.evidence_check.specs.declared.verdict.Reason.TheVariants.{AboveOne}
-use Rattle.evidence_check.proofs.ExitAnswers.{demand_met, order_is, allowed_refused, one_refused, above_one, limit_found}
+use Rattle.evidence_check.proofs.ExitAnswers.{require_met, order_is, allowed_refused, one_refused, above_one, limit_found}
 use Rattle.evidence_check.proofs.CaseLimits.{allowed_unit_at}
 use Rattle.evidence_check.proofs.exits.limit.Goals as goal
 
@@ -22,14 +22,14 @@ returns-in_err-order g c =
     (order_is g.F.Number.kind (g.F.Number.parts c.in_ok-sum.sum) _ c.args.c
     (Level c.args.k) c.compare.result c.placed.result _ c.compare.ensures c.one.ensures c.placed.ensures c.in_err-order.was))
 
-pub returns-in_err-demand : goal.returns-in_err-demand
-returns-in_err-demand g c =
-    let e : c.from_residual-in_err-demand.result ≡ Err c.in_err-demand.field-0.0 = search rules in
+pub returns-in_err-require : goal.returns-in_err-require
+returns-in_err-require g c =
+    let e : c.from_residual-in_err-require.result ≡ Err c.in_err-require.field-0.0 = search rules in
     ap (ok_map fraction_parts) e
     ∙ sym (above_one _ _ _ _ _ c.in_component.ensures.numbers _ _ _ (sym c.in_ok-sum.ensures) _
     (order_is g.F.Number.kind (g.F.Number.parts c.in_ok-sum.sum) _ c.args.c
     (Level c.args.k) c.compare.result c.placed.result _ c.compare.ensures c.one.ensures c.placed.ensures c.in_ok-order.was)
-    _ (sym (ap (λ b. demand b (AboveOne c.args.c)) c.is_le.ensures) ∙ sym c.demand.ensures ∙ c.in_err-demand.was))
+    _ (sym (ap (λ b. require b (AboveOne c.args.c)) c.is_le.ensures) ∙ sym c.require.ensures ∙ c.in_err-require.was))
 
 pub limit-requires : goal.limit-requires
 limit-requires g c =
@@ -38,7 +38,7 @@ limit-requires g c =
     c.requires.exits _ _ (sym c.in_ok-sum.ensures)
     (order_is g.F.Number.kind (g.F.Number.parts c.in_ok-sum.sum) _ c.args.c
     (Level c.args.k) c.compare.result c.placed.result _ c.compare.ensures c.one.ensures c.placed.ensures c.in_ok-order.was)
-    (sym c.is_le.ensures ∙ demand_met _ _ _ (sym c.demand.ensures ∙ c.in_ok-demand.was))
+    (sym c.is_le.ensures ∙ require_met _ _ _ (sym c.require.ensures ∙ c.in_ok-require.was))
 
 pub returns : goal.returns
 returns g c =
@@ -46,4 +46,4 @@ returns g c =
     ∙ sym (limit_found _ _ _ _ _ c.in_component.ensures.numbers _ _ _ (sym c.in_ok-sum.ensures) _
     (order_is g.F.Number.kind (g.F.Number.parts c.in_ok-sum.sum) _ c.args.c
     (Level c.args.k) c.compare.result c.placed.result _ c.compare.ensures c.one.ensures c.placed.ensures c.in_ok-order.was)
-    _ (sym (ap (λ b. demand b (AboveOne c.args.c)) c.is_le.ensures) ∙ sym c.demand.ensures ∙ c.in_ok-demand.was))
+    _ (sym (ap (λ b. require b (AboveOne c.args.c)) c.is_le.ensures) ∙ sym c.require.ensures ∙ c.in_ok-require.was))

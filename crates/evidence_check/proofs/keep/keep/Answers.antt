@@ -1,6 +1,6 @@
 use Rattle.std.proofs.Common.{rules, ◌≡◌, ◌∙◌, sym, ap, not, Err}
 use Rattle.case_model.specs.CaseView.{content}
-use Rattle.evidence_check.specs.CheckSteps.{demand}
+use Rattle.evidence_check.specs.CheckSteps.{require}
 use Rattle.evidence_check.specs.declared.verdict.Reason.TheVariants.{Legal}
 use Rattle.evidence_check.proofs.CaseLimits.{case_all, exits_met}
 use Rattle.evidence_check.proofs.StepAnswers.{exits_refused, kept_refused, keep_done}
@@ -29,7 +29,7 @@ returns-in_err-level g c =
 
 pub returns : goal.returns
 returns g c =
-    c.demand.ensures ∙ ap (λ b. demand (not b) Legal) (c.passes_at.ensures g.F.Number.kind g.F.CaseNumber.numbers)
+    c.require.ensures ∙ ap (λ b. require (not b) Legal) (c.passes_at.ensures g.F.Number.kind g.F.CaseNumber.numbers)
     ∙ sym (keep_done _ _ _ _ _
     (case_all g.F.Number.kind g.F.CaseNumber.numbers (content c.args.case.now) _ _ _ c.components.ensures.count
     (c.all_below.ensures _ (λ i r p q. search rules)) ∙ c.in_ok-all_below.was) _ (sym c.in_ok-level.ensures))
