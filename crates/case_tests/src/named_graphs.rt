@@ -117,6 +117,14 @@ const MADE: &[(Graph, &str, &str)] = &[
          edge A H4 H3 1/2",
     ),
     (
+        Graph::Parallel(2, 1),
+        "",
+        "hypotheses H1 H2 H3
+         component A 1 1/2 1/2 0
+         edge A H1 H3 1
+         edge A H2 H3 1",
+    ),
+    (
         Graph::ImprovedParallel(2, 2),
         "",
         "hypotheses H1 H2 H3 H4
@@ -137,6 +145,40 @@ const MADE: &[(Graph, &str, &str)] = &[
          component A 1 1 0
          edge A H1 H2 1
          edge A H2 H1 0 1",
+    ),
+    // the turns of the secondary hypotheses begin again
+    (
+        Graph::ImprovedParallel(1, 2),
+        "",
+        "hypotheses H1 H2 H3
+         component A 1 1 0 0
+         edge A H1 H2 1/2
+         edge A H1 H3 1/2
+         edge A H2 H1 0 1
+         edge A H2 H3 1 -1
+         edge A H3 H1 0 1
+         edge A H3 H2 1 -1",
+    ),
+    (
+        Graph::ImprovedParallel(2, 3),
+        "",
+        "hypotheses H1 H2 H3 H4 H5
+         component A 1 1/2 1/2 0 0 0
+         edge A H1 H3 1/3
+         edge A H1 H4 1/3
+         edge A H1 H5 1/3
+         edge A H2 H3 1/3
+         edge A H2 H4 1/3
+         edge A H2 H5 1/3
+         edge A H3 H1 0 1
+         edge A H3 H4 1/2 -1/2
+         edge A H3 H5 1/2 -1/2
+         edge A H4 H2 0 1
+         edge A H4 H3 1/2 -1/2
+         edge A H4 H5 1/2 -1/2
+         edge A H5 H1 0 1
+         edge A H5 H3 1/2 -1/2
+         edge A H5 H4 1/2 -1/2",
     ),
     (
         Graph::Sample(2, 1),

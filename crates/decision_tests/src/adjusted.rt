@@ -1,5 +1,7 @@
 //! Adjusted values by hand.
-use crate::cases::{EPSILON, FALLBACK, HOLM, NO_WEIGHT, SEQUENCE, TIE, expect, said};
+use crate::cases::{
+    CHAIN, EPSILON, FALLBACK, HOLM, NO_WEIGHT, SEQUENCE, TIE, WIDE_OPENING, expect, said,
+};
 use adjusted_p::{AdjustFault, Adjusted, adjust};
 use field_core::{List, Op, Place, WideAt};
 use sequential::is_single;
@@ -66,16 +68,51 @@ const WIDE: &str = "alpha 0.05\n\
     p 0.999999999999999999999999999989\n\
     weights 1/999999999989\n";
 
+/// Cases whose runs are undefined, and where they are.
+const FAULTS: &[(&str, AdjustFault)] = &[
+    // The opening is step 0.
+    (
+        WIDE_OPENING,
+        AdjustFault::Wide(
+            0,
+            WideAt {
+                component: 0,
+                place: Place::Edge(0, 1),
+                op: Op::Add,
+            },
+        ),
+    ),
+    (
+        WIDE,
+        AdjustFault::Wide(
+            1,
+            WideAt {
+                component: 0,
+                place: Place::Ratio(0),
+                op: Op::Div,
+            },
+        ),
+    ),
+    // H1 and H2 are rejected, and H3 passes on to H4: its weight would be 1/10^18 times 1/999999999999999999 times
+    // 1/999999999999999997.
+    (
+        CHAIN,
+        AdjustFault::Wide(
+            3,
+            WideAt {
+                component: 0,
+                place: Place::Weight(3),
+                op: Op::Mul,
+            },
+        ),
+    ),
+];
+
+/// The first operation that is undefined is told, with its step.
 #[test]
-fn a_ratio_above_1_can_be_too_wide(rt: HostRuntime) {
-    let wide = WideAt {
-        component: 0,
-        place: Place::Ratio(0),
-        op: Op::Div,
-    };
-    let found = match adjusted(&rt, rt.alloc(), WIDE) {
-        Err(AdjustFault::Wide(step, at)) => Some((step, at)),
-        _ => None,
-    };
-    assert!(&rt; found == Some((1, wide)));
+fn runs_can_be_too_wide(rt: HostRuntime) {
+    for (text, fault) in FAULTS {
+        let found = adjusted(&rt, rt.alloc(), text).err();
+        expect(&rt, found == Some(*fault), text);
+    }
 }

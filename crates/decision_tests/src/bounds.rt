@@ -36,6 +36,16 @@ const ROWS: &[Row] = &[
         rejected: &[1],
         bounds: &[(3, 0), (2, 0), (1, 1)],
     },
+    // All but the last are kept together.
+    Row {
+        label: "of sixteen, all, and all but one that isn't the last",
+        size: 16,
+        rejected: &[
+            65_535, 65_534, 65_533, 65_531, 65_527, 65_519, 65_503, 65_471, 65_407, 65_279, 65_023,
+            64_511, 63_487, 61_439, 57_343, 49_151,
+        ],
+        bounds: &[(65_535, 1), (65_534, 1), (49_151, 1), (32_767, 0), (0, 0)],
+    },
 ];
 
 /// The bounds over the table of a row.

@@ -80,6 +80,13 @@ pub const CHAIN: &str = "alpha 0.05\n\
     edge H2 H3 1/999999999999999999\n\
     edge H3 H4 1/999999999999999997\n";
 
+/// A sum of coefficients whose denominators have no common factor: the opening is undefined.
+pub const WIDE_OPENING: &str = "alpha 0.05\n\
+    hypotheses H1 H2\n\
+    p 0 0\n\
+    weights 1 0\n\
+    edge H1 H2 1/1000000000000000000+1/999999999999999999*\\epsilon+1/999999999999999997*\\epsilon^2\n";
+
 /// The case that a text says.
 pub fn said(rt: &impl Abort, alloc: Global, text: &str) -> Case {
     let Ok(case) = read_text(alloc, text.as_bytes()) else {
@@ -93,7 +100,7 @@ pub fn expect(rt: &impl Abort, holds: bool, label: &str) {
     assert!(rt; holds, "{label}");
 }
 
-/// Whether a set is one of those of two to four hypotheses.
+/// Whether a set is one of those of two to four hypotheses, or of sixteen.
 pub fn fits(size: usize, set: u32) -> bool
     ensures { IsTrue result → set < 2 ^ size }
 {
@@ -101,6 +108,7 @@ pub fn fits(size: usize, set: u32) -> bool
         2 => set < 4,
         3 => set < 8,
         4 => set < 16,
+        16 => set < 65_536,
         _ => false,
     }
 }

@@ -1,5 +1,7 @@
 //! Weights and answers of all sets by hand.
-use crate::cases::{CHAIN, HOLM, IMPROVED_GATEKEEPING, Parts, SEQUENCE, expect, fits, said};
+use crate::cases::{
+    CHAIN, HOLM, IMPROVED_GATEKEEPING, Parts, SEQUENCE, WIDE_OPENING, expect, fits, said,
+};
 use closed_test::{ClosedFault, ClosedTable, WeightTable, sets_in_order};
 use field_core::{Op, Place, WideAt};
 use sequential::is_single;
@@ -139,16 +141,15 @@ fn answers_of_all_sets(rt: HostRuntime) {
     }
 }
 
-/// A sum of coefficients whose denominators have no common factor: the opening is undefined.
-const WIDE_OPENING: &str = "alpha 0.05\n\
-    hypotheses H1 H2\n\
-    weights 1 0\n\
-    edge H1 H2 1/1000000000000000000+1/999999999999999999*\\epsilon+1/999999999999999997*\\epsilon^2\n";
-
 /// 17 hypotheses.
 const MANY: &str = "alpha 0.05\n\
     hypotheses A B C D E F G H I J K L M N O P Q\n\
     weights 1 0 0 0 0 0 0 0 0 0 0 0 0 0 0 0 0\n";
+
+/// 18 hypotheses.
+const ONE_MORE: &str = "alpha 0.05\n\
+    hypotheses A B C D E F G H I J K L M N O P Q R\n\
+    weights 1 0 0 0 0 0 0 0 0 0 0 0 0 0 0 0 0 0\n";
 
 const FAULTS: &[(&str, ClosedFault)] = &[
     // The weight of H4 alone would be 1/10^18 times 1/999999999999999999 times 1/999999999999999997.
@@ -175,6 +176,7 @@ const FAULTS: &[(&str, ClosedFault)] = &[
         ),
     ),
     (MANY, ClosedFault::TooMany(17)),
+    (ONE_MORE, ClosedFault::TooMany(18)),
 ];
 
 /// The first set whose run is undefined is told, and more than sixteen hypotheses are refused.

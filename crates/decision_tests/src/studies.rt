@@ -2,7 +2,7 @@
 ghost use Rattle.std.specs.Prelude.{◌≡◌, IfOk};
 ghost use Rattle.staged_levels.specs.StudyAnswers.{hypothesis_of};
 
-use crate::cases::said;
+use crate::cases::{Parts, said};
 use case_model::Case;
 use fraction::{Fraction, FractionFault};
 use staged_levels::{Event, Settled, StepFault, Study, is_staged};
@@ -23,60 +23,75 @@ fn opened(rt: &impl Abort, alloc: Global, case: &Case) -> Study {
 const TWO: &str =
     "alpha 0.05\nhypotheses H1 H2 H3\nweights 1/2 1/2 0\nedge H1 H2 1\nedge H2 H1 1\nstages 2\nspend H1 1/2 1/2\nspend H2 1/2 1/2\nspend H3 1 0\narrive H2 1 0\n";
 
-/// An event: an arrival of a hypothesis at a stage with a p-value, or, where the stage is `REJECT`, a rejection.
-type Given = (usize, usize, (i128, i128));
+/// What is asked of a hypothesis: its arrival at a stage with a p-value, or its rejection.
+#[derive(Clone, Copy)]
+enum Asked {
+    Arrive(usize, Parts),
+    Reject,
+}
 
-const REJECT: usize = 99;
+/// A hypothesis, and what is asked of it.
+type Given = (usize, Asked);
 
-const NO_P: (i128, i128) = (0, 1);
+/// A rejection: the hypothesis, its stage and its weight.
+type Rejection = (usize, usize, Parts);
 
 /// Events one after another, and what each answers.
 const ROWS: &[(Given, Result<(), StepFault>)] = &[
     // Nothing has arrived.
-    ((0, REJECT, NO_P), Err(StepFault::NotLegal(0))),
-    ((1, REJECT, NO_P), Err(StepFault::NotLegal(1))),
-    ((0, 0, (1, 100)), Err(StepFault::StageRange(0))),
-    ((0, 3, (1, 100)), Err(StepFault::StageRange(3))),
-    ((0, 1, (-1, 100)), Err(StepFault::PRange)),
-    ((0, 1, (101, 100)), Err(StepFault::PRange)),
+    ((0, Asked::Reject), Err(StepFault::NotLegal(0))),
+    ((1, Asked::Reject), Err(StepFault::NotLegal(1))),
+    (
+        (0, Asked::Arrive(0, (1, 100))),
+        Err(StepFault::StageRange(0)),
+    ),
+    (
+        (0, Asked::Arrive(3, (1, 100))),
+        Err(StepFault::StageRange(3)),
+    ),
+    ((0, Asked::Arrive(1, (-1, 100))), Err(StepFault::PRange)),
+    ((0, Asked::Arrive(1, (101, 100))), Err(StepFault::PRange)),
     // Its denominator is above 10^30.
     (
-        (0, 1, (1, 1_000_000_000_000_000_000_000_000_000_001)),
+        (
+            0,
+            Asked::Arrive(1, (1, 1_000_000_000_000_000_000_000_000_000_001)),
+        ),
         Err(StepFault::PRange),
     ),
-    ((0, 1, (1, 50)), Ok(())),
+    ((0, Asked::Arrive(1, (1, 50))), Ok(())),
     // The stage comes before what is known, and that before the p-value.
-    ((0, 3, (2, 1)), Err(StepFault::StageRange(3))),
-    ((0, 1, (2, 1)), Err(StepFault::Known(0, 1))),
-    ((0, 1, (1, 50)), Err(StepFault::Known(0, 1))),
+    ((0, Asked::Arrive(3, (2, 1))), Err(StepFault::StageRange(3))),
+    ((0, Asked::Arrive(1, (2, 1))), Err(StepFault::Known(0, 1))),
+    ((0, Asked::Arrive(1, (1, 50))), Err(StepFault::Known(0, 1))),
     // 1/50 is above 1/80.
-    ((0, REJECT, NO_P), Err(StepFault::NotLegal(0))),
-    ((1, 2, (1, 50)), Ok(())),
-    ((1, REJECT, NO_P), Err(StepFault::NotLegal(1))),
-    ((0, 2, (1, 80)), Ok(())),
-    ((0, REJECT, NO_P), Ok(())),
-    ((0, REJECT, NO_P), Err(StepFault::Rejected(0))),
+    ((0, Asked::Reject), Err(StepFault::NotLegal(0))),
+    ((1, Asked::Arrive(2, (1, 50))), Ok(())),
+    ((1, Asked::Reject), Err(StepFault::NotLegal(1))),
+    ((0, Asked::Arrive(2, (1, 80))), Ok(())),
+    ((0, Asked::Reject), Ok(())),
+    ((0, Asked::Reject), Err(StepFault::Rejected(0))),
     // H2 has the whole level now.
-    ((1, REJECT, NO_P), Ok(())),
+    ((1, Asked::Reject), Ok(())),
     // One that arrives for a rejected hypothesis is kept.
-    ((1, 1, (1, 1)), Ok(())),
-    ((1, 1, (1, 1)), Err(StepFault::Known(1, 1))),
+    ((1, Asked::Arrive(1, (1, 1))), Ok(())),
+    ((1, Asked::Arrive(1, (1, 1))), Err(StepFault::Known(1, 1))),
     // A weight of 0.
-    ((2, 1, NO_P), Ok(())),
+    ((2, Asked::Arrive(1, (0, 1))), Ok(())),
 ];
 
 /// The event of a row.
-fn event(hypothesis: usize, stage: usize, p: (i128, i128)) -> Result<Event, FractionFault>
+fn event(hypothesis: usize, asked: Asked) -> Result<Event, FractionFault>
     ensures { IfOk result (λ event. hypothesis_of event ≡ hypothesis) }
 {
-    if stage == REJECT {
-        return Ok(Event::Reject(hypothesis));
+    match asked {
+        Asked::Arrive(stage, p) => Ok(Event::Arrive(hypothesis, stage, Fraction::new(p.0, p.1)?)),
+        Asked::Reject => Ok(Event::Reject(hypothesis)),
     }
-    Ok(Event::Arrive(hypothesis, stage, Fraction::new(p.0, p.1)?))
 }
 
 /// Whether the rejections are of these hypotheses at these stages and weights.
-fn are(settled: &[Settled], wanted: &[Given]) -> bool {
+fn are(settled: &[Settled], wanted: &[Rejection]) -> bool {
     settled.len() == wanted.len()
         && settled.iter().zip(wanted).all(|(line, (hypothesis, stage, weight))| {
             line.hypothesis == *hypothesis
@@ -90,11 +105,11 @@ fn are(settled: &[Settled], wanted: &[Given]) -> bool {
 fn each_event_is_answered(rt: HostRuntime) -> Result<(), Fail> {
     let case = said(&rt, rt.alloc(), TWO);
     let mut study = opened(&rt, rt.alloc(), &case);
-    for ((hypothesis, stage, p), wanted) in ROWS {
+    for ((hypothesis, asked), wanted) in ROWS {
         let before = study.settled().len();
         assert!(rt; *hypothesis < study.size());
-        assert!(rt; study.step(event(*hypothesis, *stage, *p)?) == *wanted);
-        let rejected = usize::from(*stage == REJECT && wanted.is_ok());
+        assert!(rt; study.step(event(*hypothesis, *asked)?) == *wanted);
+        let rejected = usize::from(matches!(asked, Asked::Reject) && wanted.is_ok());
         assert!(rt; before <= 3 && study.settled().len() == before + rejected);
     }
     assert!(rt; study.settle().is_ok());
@@ -112,7 +127,11 @@ fn rejections_stay_where_a_settling_breaks_off(rt: HostRuntime) -> Result<(), Fa
     let mut study = opened(&rt, rt.alloc(), &case);
     for hypothesis in 0..3 {
         assert!(rt; hypothesis < study.size());
-        assert!(rt; study.step(event(hypothesis, 1, NO_P)?).is_ok());
+        assert!(rt;
+            study
+                .step(event(hypothesis, Asked::Arrive(1, (0, 1)))?)
+                .is_ok()
+        );
     }
     assert!(rt; study.settle().is_err());
     assert!(rt; study.settled().len() == 2);
