@@ -7,6 +7,7 @@ pub mod HeldIntegers
 pub mod Items
 pub mod LineFeed
 pub mod OneCase
+pub mod Readers
 pub mod ReadsBack
 pub mod Rules
 pub mod SingleRules

@@ -1,15 +1,15 @@
 //! Edges and components.
 ghost use Rattle.std.specs.Prelude.{◌≡◌, IfOk, IfErr, codes};
-ghost use Rattle.std.specs.List.{AllZip};
-ghost use Rattle.serde_json.specs.View.{view, items_view};
-ghost use Rattle.case_json.specs.Values.{OrMemory, Has, MayHave, HasBad, IsBadAt, item_list, IsBadItem, AreItems, AreItemsFault};
+ghost use Rattle.serde_json.specs.View.{view};
+ghost use Rattle.case_json.specs.Values.{OrMemory, Has, MayHave, HasBad, IsBadAt, AreItems, AreItemsFault};
 ghost use Rattle.case_json.specs.Document.{IsNumber, one, IsEdge, IsComponent};
 ghost use Rattle.case_json.specs.Faults.{IsNumberFault, IsEdgeFault, IsComponentFault};
 
 use crate::JsonFault;
 use crate::hypotheses::Hypotheses;
-use crate::keys::{field, known_keys};
+use crate::keys::known_keys;
 use crate::numbers::{number, numbers_at};
+use crate::parts::{at_key, items};
 use crate::weights::weight_at;
 use case_model::{DraftComponent, DraftEdge};
 use field_core::{List, Number};
@@ -29,26 +29,7 @@ fn edge(alloc: Global, hypotheses: &Hypotheses, value: &Value) -> Result<DraftEd
     Ok(DraftEdge { from, to, entry })
 }
 
-/// The edges that values say.
-fn edge_list(
-    alloc: Global,
-    hypotheses: &Hypotheses,
-    values: &Vec<Value>,
-) -> Result<List<DraftEdge>, JsonFault>
-    ensures found { IfOk result (AllZip (IsEdge hypotheses.now.names) (item_list (items_view values.now.items))) }
-    ensures fault { IfErr result (OrMemory (IsBadItem (IsEdge hypotheses.now.names) (IsEdgeFault hypotheses.now.names) (item_list (items_view values.now.items)))) }
-{
-    let mut edges = List::new(alloc);
-    for i in 0..values.len() {
-        match edge(alloc, hypotheses, &values[i]) {
-            Ok(edge) => edges.push(edge)?,
-            Err(fault) => return Err(fault.at(alloc, i)),
-        }
-    }
-    Ok(edges)
-}
-
-/// Edges.
+/// The edges that an array says.
 fn edges(
     alloc: Global,
     hypotheses: &Hypotheses,
@@ -57,10 +38,7 @@ fn edges(
     ensures found { IfOk result (AreItems (IsEdge hypotheses.now.names) (view value.now)) }
     ensures fault { IfErr result (OrMemory (AreItemsFault (IsEdge hypotheses.now.names) (IsEdgeFault hypotheses.now.names) (view value.now))) }
 {
-    match value {
-        Value::Array(values) => edge_list(alloc, hypotheses, values),
-        _ => Err(JsonFault::wrong_kind(alloc)),
-    }
+    items(alloc, value, |item| edge(alloc, hypotheses, item))
 }
 
 /// The edges of a component.
@@ -72,10 +50,7 @@ fn edges_at(
     ensures found { IfOk result (Has (AreItems (IsEdge hypotheses.now.names)) (codes "edges") (view value.now)) }
     ensures fault { IfErr result (OrMemory (IsBadAt (AreItemsFault (IsEdge hypotheses.now.names) (IsEdgeFault hypotheses.now.names)) (codes "edges") (view value.now))) }
 {
-    match edges(alloc, hypotheses, field(alloc, value, "edges")?) {
-        Ok(edges) => Ok(edges),
-        Err(fault) => Err(fault.under(alloc, b"edges")),
-    }
+    at_key(alloc, value, "edges", |part| edges(alloc, hypotheses, part))
 }
 
 /// The share of a component, 1 where it lacks the key.
@@ -92,7 +67,7 @@ fn share(alloc: Global, value: &Value) -> Result<Fraction, JsonFault>
     }
 }
 
-/// A component.
+/// A component, whose edges go between the hypotheses.
 fn component(
     alloc: Global,
     hypotheses: &Hypotheses,
@@ -112,26 +87,7 @@ fn component(
     })
 }
 
-/// The components that values say.
-fn component_list(
-    alloc: Global,
-    hypotheses: &Hypotheses,
-    values: &Vec<Value>,
-) -> Result<List<DraftComponent>, JsonFault>
-    ensures found { IfOk result (AllZip (IsComponent hypotheses.now.names) (item_list (items_view values.now.items))) }
-    ensures fault { IfErr result (OrMemory (IsBadItem (IsComponent hypotheses.now.names) (IsComponentFault hypotheses.now.names) (item_list (items_view values.now.items)))) }
-{
-    let mut components = List::new(alloc);
-    for i in 0..values.len() {
-        match component(alloc, hypotheses, &values[i]) {
-            Ok(component) => components.push(component)?,
-            Err(fault) => return Err(fault.at(alloc, i)),
-        }
-    }
-    Ok(components)
-}
-
-/// Components.
+/// The components that an array says.
 fn components(
     alloc: Global,
     hypotheses: &Hypotheses,
@@ -140,10 +96,7 @@ fn components(
     ensures found { IfOk result (AreItems (IsComponent hypotheses.now.names) (view value.now)) }
     ensures fault { IfErr result (OrMemory (AreItemsFault (IsComponent hypotheses.now.names) (IsComponentFault hypotheses.now.names) (view value.now))) }
 {
-    match value {
-        Value::Array(values) => component_list(alloc, hypotheses, values),
-        _ => Err(JsonFault::wrong_kind(alloc)),
-    }
+    items(alloc, value, |item| component(alloc, hypotheses, item))
 }
 
 /// The components of a document.
@@ -155,8 +108,10 @@ pub fn components_at(
     ensures found { IfOk result (Has (AreItems (IsComponent hypotheses.now.names)) (codes "components") (view value.now)) }
     ensures fault { IfErr result (OrMemory (IsBadAt (AreItemsFault (IsComponent hypotheses.now.names) (IsComponentFault hypotheses.now.names)) (codes "components") (view value.now))) }
 {
-    match components(alloc, hypotheses, field(alloc, value, "components")?) {
-        Ok(components) => Ok(components),
-        Err(fault) => Err(fault.under(alloc, b"components")),
-    }
+    at_key(
+        alloc,
+        value,
+        "components",
+        |part| components(alloc, hypotheses, part),
+    )
 }

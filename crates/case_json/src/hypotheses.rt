@@ -1,21 +1,20 @@
 //! The names of hypotheses.
 ghost use Rattle.std.specs.Prelude.{◌≡◌, ℕ, List as Seq, IfOk, IfErr};
-ghost use Rattle.std.specs.List.{AllZip};
-ghost use Rattle.serde_json.specs.View.{view, items_view};
+ghost use Rattle.serde_json.specs.View.{view};
 ghost use Rattle.case_model.specs.Names.{position_of};
 ghost use Rattle.case_model.specs.NameIndexView.{place_of};
-ghost use Rattle.case_json.specs.Values.{OrMemory, Has, IsBadAt, item_list, IsBadItem, AreItems, AreItemsFault};
+ghost use Rattle.case_json.specs.Values.{OrMemory, Has, IsBadAt, AreItems, AreItemsFault};
 ghost use Rattle.case_json.specs.Document.{IsText, IsHypothesis};
 ghost use Rattle.case_json.specs.Faults.{IsTextFault, IsHypothesisFault};
 
 use crate::JsonFault;
-use crate::keys::field;
+use crate::parts::{at_key, items};
 use case_model::NameIndex;
 use field_core::{List, NoMemory, Text};
 use serde_json::Value;
 use std::alloc::Global;
 
-/// A text.
+/// The text that a value is.
 fn text(alloc: Global, value: &Value) -> Result<Text, JsonFault>
     ensures found { IfOk result (IsText (view value.now)) }
     ensures fault { IfErr result (OrMemory (IsTextFault (view value.now))) }
@@ -26,30 +25,12 @@ fn text(alloc: Global, value: &Value) -> Result<Text, JsonFault>
     }
 }
 
-/// The texts that values say.
-fn text_list(alloc: Global, values: &Vec<Value>) -> Result<List<Text>, JsonFault>
-    ensures found { IfOk result (AllZip IsText (item_list (items_view values.now.items))) }
-    ensures fault { IfErr result (OrMemory (IsBadItem IsText IsTextFault (item_list (items_view values.now.items)))) }
-{
-    let mut texts = List::new(alloc);
-    for i in 0..values.len() {
-        match text(alloc, &values[i]) {
-            Ok(text) => texts.push(text)?,
-            Err(fault) => return Err(fault.at(alloc, i)),
-        }
-    }
-    Ok(texts)
-}
-
-/// Texts.
+/// The texts of an array.
 fn texts(alloc: Global, value: &Value) -> Result<List<Text>, JsonFault>
     ensures found { IfOk result (AreItems IsText (view value.now)) }
     ensures fault { IfErr result (OrMemory (AreItemsFault IsText IsTextFault (view value.now))) }
 {
-    match value {
-        Value::Array(values) => text_list(alloc, values),
-        _ => Err(JsonFault::wrong_kind(alloc)),
-    }
+    items(alloc, value, |item| text(alloc, item))
 }
 
 /// The texts at a key.
@@ -57,10 +38,7 @@ pub fn texts_at(alloc: Global, value: &Value, key: &str) -> Result<List<Text>, J
     ensures found { IfOk result (Has (AreItems IsText) key.now (view value.now)) }
     ensures fault { IfErr result (OrMemory (IsBadAt (AreItemsFault IsText IsTextFault) key.now (view value.now))) }
 {
-    match texts(alloc, field(alloc, value, key)?) {
-        Ok(texts) => Ok(texts),
-        Err(fault) => Err(fault.under(alloc, key.as_bytes())),
-    }
+    at_key(alloc, value, key, |part| texts(alloc, part))
 }
 
 /// The names of hypotheses, and the position of each.
@@ -113,9 +91,6 @@ impl Hypotheses {
         ensures found { IfOk result (Has (IsHypothesis self.now.names) key.now (view value.now)) }
         ensures fault { IfErr result (OrMemory (IsBadAt (IsHypothesisFault self.now.names) key.now (view value.now))) }
     {
-        match self.position(alloc, field(alloc, value, key)?) {
-            Ok(position) => Ok(position),
-            Err(fault) => Err(fault.under(alloc, key.as_bytes())),
-        }
+        at_key(alloc, value, key, |part| self.position(alloc, part))
     }
 }

@@ -1,18 +1,17 @@
 //! Numbers and counts.
 ghost use Rattle.std.specs.Prelude.{◌≡◌, ◌<◌, ◌^◌, [], unsigned_abs, IfSome, IfOk, IfErr, codes};
-ghost use Rattle.std.specs.List.{AllZip};
 ghost use Rattle.field_core.specs.View.{terms};
 ghost use Rattle.fraction.specs.Numeral.{IsNumeralOf, IsParseFault};
 ghost use Rattle.fraction.specs.declared.fault.NumberFault.{NumberFault};
 ghost use Rattle.serde_json.specs.Find.{as_integer};
-ghost use Rattle.serde_json.specs.View.{view, number_view, items_view};
-ghost use Rattle.case_json.specs.Values.{OrMemory, Has, MayHave, HasBad, IsBadAt, item_list, IsBadItem, AreItems, AreItemsFault};
+ghost use Rattle.serde_json.specs.View.{view, number_view};
+ghost use Rattle.case_json.specs.Values.{OrMemory, Has, MayHave, HasBad, IsBadAt, AreItems, AreItemsFault};
 ghost use Rattle.case_json.specs.Document.{whole, IsNumber, IsPlace, IsCount};
 ghost use Rattle.case_json.specs.Faults.{IsNumberFault, IsPlaceFault, IsCountFault};
 ghost use Rattle.case_json.specs.declared.fault.JsonFault.TheVariants.{Number as refused};
 
 use crate::JsonFault;
-use crate::keys::field;
+use crate::parts::{at_key, items};
 use field_core::{List, Ratio, Text};
 use fraction::Fraction;
 use serde_json::Value;
@@ -51,7 +50,7 @@ fn numeral(alloc: Global, text: &[u8]) -> Result<Fraction, JsonFault>
     }
 }
 
-/// A number.
+/// The number that a value says.
 pub fn number(alloc: Global, value: &Value) -> Result<Fraction, JsonFault>
     ensures found { IfOk result (IsNumber (view value.now)) }
     ensures fault { IfErr result (OrMemory (IsNumberFault (view value.now))) }
@@ -71,36 +70,15 @@ pub fn number_at(alloc: Global, value: &Value, key: &str) -> Result<Fraction, Js
     ensures found { IfOk result (Has IsNumber key.now (view value.now)) }
     ensures fault { IfErr result (OrMemory (IsBadAt IsNumberFault key.now (view value.now))) }
 {
-    match number(alloc, field(alloc, value, key)?) {
-        Ok(number) => Ok(number),
-        Err(fault) => Err(fault.under(alloc, key.as_bytes())),
-    }
+    at_key(alloc, value, key, |part| number(alloc, part))
 }
 
-/// The numbers that values say.
-pub fn number_list(alloc: Global, values: &Vec<Value>) -> Result<List<Fraction>, JsonFault>
-    ensures found { IfOk result (AllZip IsNumber (item_list (items_view values.now.items))) }
-    ensures fault { IfErr result (OrMemory (IsBadItem IsNumber IsNumberFault (item_list (items_view values.now.items)))) }
-{
-    let mut numbers = List::new(alloc);
-    for i in 0..values.len() {
-        match number(alloc, &values[i]) {
-            Ok(number) => numbers.push(number)?,
-            Err(fault) => return Err(fault.at(alloc, i)),
-        }
-    }
-    Ok(numbers)
-}
-
-/// Numbers.
-fn numbers(alloc: Global, value: &Value) -> Result<List<Fraction>, JsonFault>
+/// The numbers that an array says.
+pub fn numbers(alloc: Global, value: &Value) -> Result<List<Fraction>, JsonFault>
     ensures found { IfOk result (AreItems IsNumber (view value.now)) }
     ensures fault { IfErr result (OrMemory (AreItemsFault IsNumber IsNumberFault (view value.now))) }
 {
-    match value {
-        Value::Array(values) => number_list(alloc, values),
-        _ => Err(JsonFault::wrong_kind(alloc)),
-    }
+    items(alloc, value, |item| number(alloc, item))
 }
 
 /// The numbers at a key.
@@ -108,10 +86,7 @@ pub fn numbers_at(alloc: Global, value: &Value, key: &str) -> Result<List<Fracti
     ensures found { IfOk result (Has (AreItems IsNumber) key.now (view value.now)) }
     ensures fault { IfErr result (OrMemory (IsBadAt (AreItemsFault IsNumber IsNumberFault) key.now (view value.now))) }
 {
-    match numbers(alloc, field(alloc, value, key)?) {
-        Ok(numbers) => Ok(numbers),
-        Err(fault) => Err(fault.under(alloc, key.as_bytes())),
-    }
+    at_key(alloc, value, key, |part| numbers(alloc, part))
 }
 
 /// A place of a p-value.
@@ -125,30 +100,12 @@ fn place(alloc: Global, value: &Value) -> Result<Option<Fraction>, JsonFault>
     }
 }
 
-/// The places that values say.
-fn place_list(alloc: Global, values: &Vec<Value>) -> Result<List<Option<Fraction>>, JsonFault>
-    ensures found { IfOk result (AllZip IsPlace (item_list (items_view values.now.items))) }
-    ensures fault { IfErr result (OrMemory (IsBadItem IsPlace IsPlaceFault (item_list (items_view values.now.items)))) }
-{
-    let mut places = List::new(alloc);
-    for i in 0..values.len() {
-        match place(alloc, &values[i]) {
-            Ok(place) => places.push(place)?,
-            Err(fault) => return Err(fault.at(alloc, i)),
-        }
-    }
-    Ok(places)
-}
-
 /// Places of p-values.
 fn places(alloc: Global, value: &Value) -> Result<List<Option<Fraction>>, JsonFault>
     ensures found { IfOk result (AreItems IsPlace (view value.now)) }
     ensures fault { IfErr result (OrMemory (AreItemsFault IsPlace IsPlaceFault (view value.now))) }
 {
-    match value {
-        Value::Array(values) => place_list(alloc, values),
-        _ => Err(JsonFault::wrong_kind(alloc)),
-    }
+    items(alloc, value, |item| place(alloc, item))
 }
 
 /// The places of p-values of a document, none where it lacks their key.
@@ -187,8 +144,5 @@ pub fn count_at(alloc: Global, value: &Value, key: &str) -> Result<u64, JsonFaul
     ensures found { IfOk result (Has IsCount key.now (view value.now)) }
     ensures fault { IfErr result (OrMemory (IsBadAt IsCountFault key.now (view value.now))) }
 {
-    match count(alloc, field(alloc, value, key)?) {
-        Ok(count) => Ok(count),
-        Err(fault) => Err(fault.under(alloc, key.as_bytes())),
-    }
+    at_key(alloc, value, key, |part| count(alloc, part))
 }

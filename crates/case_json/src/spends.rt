@@ -1,14 +1,14 @@
 //! What hypotheses spend at the stages.
 ghost use Rattle.std.specs.Prelude.{◌≡◌, IfOk, IfErr, codes};
-ghost use Rattle.std.specs.List.{AllZip};
-ghost use Rattle.serde_json.specs.View.{view, items_view};
-ghost use Rattle.case_json.specs.Values.{OrMemory, Has, IsBadAt, item_list, IsBadItem, AreItems, AreItemsFault};
+ghost use Rattle.serde_json.specs.View.{view};
+ghost use Rattle.case_json.specs.Values.{OrMemory, Has, IsBadAt, AreItems, AreItemsFault};
 ghost use Rattle.case_json.specs.Document.{IsStep, IsTable, IsSpend};
 ghost use Rattle.case_json.specs.Faults.{IsStepFault, IsTableFault, IsSpendFault};
 
 use crate::JsonFault;
-use crate::keys::{field, known_keys};
-use crate::numbers::{number_at, number_list, numbers_at};
+use crate::keys::known_keys;
+use crate::numbers::{number_at, numbers, numbers_at};
+use crate::parts::{at_key, items};
 use case_model::{Spend, SpendStep};
 use field_core::List;
 use serde_json::Value;
@@ -25,30 +25,12 @@ fn step(alloc: Global, value: &Value) -> Result<SpendStep, JsonFault>
     Ok(SpendStep { from, levels })
 }
 
-/// The steps that values say.
-fn step_list(alloc: Global, values: &Vec<Value>) -> Result<List<SpendStep>, JsonFault>
-    ensures found { IfOk result (AllZip IsStep (item_list (items_view values.now.items))) }
-    ensures fault { IfErr result (OrMemory (IsBadItem IsStep IsStepFault (item_list (items_view values.now.items)))) }
-{
-    let mut steps = List::new(alloc);
-    for i in 0..values.len() {
-        match step(alloc, &values[i]) {
-            Ok(step) => steps.push(step)?,
-            Err(fault) => return Err(fault.at(alloc, i)),
-        }
-    }
-    Ok(steps)
-}
-
-/// Steps.
+/// The steps that an array says.
 fn steps(alloc: Global, value: &Value) -> Result<List<SpendStep>, JsonFault>
     ensures found { IfOk result (AreItems IsStep (view value.now)) }
     ensures fault { IfErr result (OrMemory (AreItemsFault IsStep IsStepFault (view value.now))) }
 {
-    match value {
-        Value::Array(values) => step_list(alloc, values),
-        _ => Err(JsonFault::wrong_kind(alloc)),
-    }
+    items(alloc, value, |item| step(alloc, item))
 }
 
 /// The steps of a table.
@@ -56,13 +38,10 @@ fn steps_at(alloc: Global, value: &Value) -> Result<List<SpendStep>, JsonFault>
     ensures found { IfOk result (Has (AreItems IsStep) (codes "steps") (view value.now)) }
     ensures fault { IfErr result (OrMemory (IsBadAt (AreItemsFault IsStep IsStepFault) (codes "steps") (view value.now))) }
 {
-    match steps(alloc, field(alloc, value, "steps")?) {
-        Ok(steps) => Ok(steps),
-        Err(fault) => Err(fault.under(alloc, b"steps")),
-    }
+    at_key(alloc, value, "steps", |part| steps(alloc, part))
 }
 
-/// A table.
+/// The steps of a table, an object of one key.
 fn table(alloc: Global, value: &Value) -> Result<List<SpendStep>, JsonFault>
     ensures found { IfOk result (IsTable (view value.now)) }
     ensures fault { IfErr result (OrMemory (IsTableFault (view value.now))) }
@@ -77,25 +56,10 @@ fn spend(alloc: Global, value: &Value) -> Result<Spend, JsonFault>
     ensures fault { IfErr result (OrMemory (IsSpendFault (view value.now))) }
 {
     match value {
-        Value::Array(values) => Ok(Spend::Shares(number_list(alloc, values)?)),
+        Value::Array(_) => Ok(Spend::Shares(numbers(alloc, value)?)),
         Value::Object(_) => Ok(Spend::Table(table(alloc, value)?)),
         _ => Err(JsonFault::wrong_kind(alloc)),
     }
-}
-
-/// What the values say that hypotheses spend.
-fn spend_list(alloc: Global, values: &Vec<Value>) -> Result<List<Spend>, JsonFault>
-    ensures found { IfOk result (AllZip IsSpend (item_list (items_view values.now.items))) }
-    ensures fault { IfErr result (OrMemory (IsBadItem IsSpend IsSpendFault (item_list (items_view values.now.items)))) }
-{
-    let mut spends = List::new(alloc);
-    for i in 0..values.len() {
-        match spend(alloc, &values[i]) {
-            Ok(spend) => spends.push(spend)?,
-            Err(fault) => return Err(fault.at(alloc, i)),
-        }
-    }
-    Ok(spends)
 }
 
 /// What hypotheses spend.
@@ -103,10 +67,7 @@ fn spends(alloc: Global, value: &Value) -> Result<List<Spend>, JsonFault>
     ensures found { IfOk result (AreItems IsSpend (view value.now)) }
     ensures fault { IfErr result (OrMemory (AreItemsFault IsSpend IsSpendFault (view value.now))) }
 {
-    match value {
-        Value::Array(values) => spend_list(alloc, values),
-        _ => Err(JsonFault::wrong_kind(alloc)),
-    }
+    items(alloc, value, |item| spend(alloc, item))
 }
 
 /// What the hypotheses of stages spend.
@@ -114,8 +75,5 @@ pub fn spends_at(alloc: Global, value: &Value) -> Result<List<Spend>, JsonFault>
     ensures found { IfOk result (Has (AreItems IsSpend) (codes "spend") (view value.now)) }
     ensures fault { IfErr result (OrMemory (IsBadAt (AreItemsFault IsSpend IsSpendFault) (codes "spend") (view value.now))) }
 {
-    match spends(alloc, field(alloc, value, "spend")?) {
-        Ok(spends) => Ok(spends),
-        Err(fault) => Err(fault.under(alloc, b"spend")),
-    }
+    at_key(alloc, value, "spend", |part| spends(alloc, part))
 }

@@ -1,15 +1,15 @@
 //! Stages, and the p-values that arrived at them.
 ghost use Rattle.std.specs.Prelude.{◌≡◌, None as Absent, IfOk, IfErr, codes};
-ghost use Rattle.std.specs.List.{AllZip};
-ghost use Rattle.serde_json.specs.View.{view, items_view};
-ghost use Rattle.case_json.specs.Values.{OrMemory, Has, MayHave, HasBad, IsSome, IsBadAt, item_list, IsBadItem, AreItems, AreItemsFault};
+ghost use Rattle.serde_json.specs.View.{view};
+ghost use Rattle.case_json.specs.Values.{OrMemory, Has, MayHave, HasBad, IsSome, IsBadAt, AreItems, AreItemsFault};
 ghost use Rattle.case_json.specs.Document.{IsArrival, AreStages};
 ghost use Rattle.case_json.specs.Faults.{IsArrivalFault, AreStagesFault};
 
 use crate::JsonFault;
 use crate::hypotheses::Hypotheses;
-use crate::keys::{field, known_keys};
+use crate::keys::known_keys;
 use crate::numbers::{count_at, number_at};
+use crate::parts::{at_key, items};
 use crate::spends::spends_at;
 use case_model::{Arrival, DraftStages};
 use field_core::List;
@@ -32,26 +32,7 @@ fn arrival(alloc: Global, hypotheses: &Hypotheses, value: &Value) -> Result<Arri
     })
 }
 
-/// The arrivals that values say.
-fn arrival_list(
-    alloc: Global,
-    hypotheses: &Hypotheses,
-    values: &Vec<Value>,
-) -> Result<List<Arrival>, JsonFault>
-    ensures found { IfOk result (AllZip (IsArrival hypotheses.now.names) (item_list (items_view values.now.items))) }
-    ensures fault { IfErr result (OrMemory (IsBadItem (IsArrival hypotheses.now.names) (IsArrivalFault hypotheses.now.names) (item_list (items_view values.now.items)))) }
-{
-    let mut arrivals = List::new(alloc);
-    for i in 0..values.len() {
-        match arrival(alloc, hypotheses, &values[i]) {
-            Ok(arrival) => arrivals.push(arrival)?,
-            Err(fault) => return Err(fault.at(alloc, i)),
-        }
-    }
-    Ok(arrivals)
-}
-
-/// Arrivals.
+/// The arrivals that an array says.
 fn arrivals(
     alloc: Global,
     hypotheses: &Hypotheses,
@@ -60,10 +41,7 @@ fn arrivals(
     ensures found { IfOk result (AreItems (IsArrival hypotheses.now.names) (view value.now)) }
     ensures fault { IfErr result (OrMemory (AreItemsFault (IsArrival hypotheses.now.names) (IsArrivalFault hypotheses.now.names) (view value.now))) }
 {
-    match value {
-        Value::Array(values) => arrival_list(alloc, hypotheses, values),
-        _ => Err(JsonFault::wrong_kind(alloc)),
-    }
+    items(alloc, value, |item| arrival(alloc, hypotheses, item))
 }
 
 /// The arrivals of stages.
@@ -75,10 +53,12 @@ fn arrivals_at(
     ensures found { IfOk result (Has (AreItems (IsArrival hypotheses.now.names)) (codes "arrivals") (view value.now)) }
     ensures fault { IfErr result (OrMemory (IsBadAt (AreItemsFault (IsArrival hypotheses.now.names) (IsArrivalFault hypotheses.now.names)) (codes "arrivals") (view value.now))) }
 {
-    match arrivals(alloc, hypotheses, field(alloc, value, "arrivals")?) {
-        Ok(arrivals) => Ok(arrivals),
-        Err(fault) => Err(fault.under(alloc, b"arrivals")),
-    }
+    at_key(
+        alloc,
+        value,
+        "arrivals",
+        |part| arrivals(alloc, hypotheses, part),
+    )
 }
 
 /// Stages of the hypotheses.

@@ -1,0 +1,11 @@
+use Rattle.std.proofs.Common.{rules}
+use Rattle.case_json.specs.Document.{IsHypothesis}
+use Rattle.case_json.specs.Faults.{IsHypothesisFault}
+use Rattle.case_json.proofs.Readers.{part_found, part_failed}
+use Rattle.case_json.proofs.hypotheses.Hypotheses.position_at.Goals as goal
+
+pub returns-clause-found : goal.returns-clause-found
+returns-clause-found c = part_found _ _ (IsHypothesis c.args.self.now.names) (IsHypothesisFault c.args.self.now.names) (λ part r post. (search rules, search rules)) _ _ _ c.at_key.ensures.found
+
+pub returns-clause-fault : goal.returns-clause-fault
+returns-clause-fault c = part_failed _ _ (IsHypothesis c.args.self.now.names) (IsHypothesisFault c.args.self.now.names) (λ part r post. (search rules, search rules)) _ _ _ c.at_key.ensures.fault

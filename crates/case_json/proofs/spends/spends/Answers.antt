@@ -1,0 +1,11 @@
+use Rattle.std.proofs.Common.{rules}
+use Rattle.case_json.specs.Document.{IsSpend}
+use Rattle.case_json.specs.Faults.{IsSpendFault}
+use Rattle.case_json.proofs.Readers.{items_found, items_failed}
+use Rattle.case_json.proofs.spends.spends.Goals as goal
+
+pub returns-clause-found : goal.returns-clause-found
+returns-clause-found c = items_found _ _ IsSpend IsSpendFault (λ part r post. (search rules, search rules)) _ _ c.items.ensures.found
+
+pub returns-clause-fault : goal.returns-clause-fault
+returns-clause-fault c = items_failed _ _ IsSpend IsSpendFault (λ part r post. (search rules, search rules)) _ _ c.items.ensures.fault
