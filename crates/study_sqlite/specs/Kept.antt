@@ -1,5 +1,5 @@
 -- Looks in the table of looks, by what a connection held before and after.
-use Rattle.std.specs.Prelude.{ℕ, List, []}
+use Rattle.std.specs.Prelude.{List, []}
 use Rattle.graph_io.specs.declared.keeper.Look.{Look}
 use Rattle.sqlite.specs.Store.{Ghosts}
 use Rattle.sqlite.specs.Held.{Held, state}

@@ -26,8 +26,10 @@ pub fn open(rt: &HostRuntime, path: &str) -> Result<FileConnection, FileFault>
 /// Makes the table where it isn't there.
 pub fn make<S: Alter>(connection: &mut Connection<S>) -> Result<(), FileFault>
     ensures clean { HasCleanDisk (state S.Store connection.new) → HasCleanDisk (state S.Store connection.old) }
-    ensures made { HasCleanDisk (state S.Store connection.new) → OnOk result (Ran (state S.Store connection.old) (state S.Store connection.new) make_sql []) }
-    ensures why { HasCleanDisk (state S.Store connection.new) → IfErr result (RanInto (state S.Store connection.old) (state S.Store connection.new) make_sql []) }
+    ensures made { HasCleanDisk (state S.Store connection.new)
+        → OnOk result (Ran (state S.Store connection.old) (state S.Store connection.new) make_sql []) }
+    ensures why { HasCleanDisk (state S.Store connection.new)
+        → IfErr result (RanInto (state S.Store connection.old) (state S.Store connection.new) make_sql []) }
 {
     connection.execute(
         "CREATE TABLE IF NOT EXISTS looks (place INTEGER PRIMARY KEY, hypothesis INTEGER NOT NULL, stage INTEGER NOT NULL, p TEXT NOT NULL, UNIQUE (hypothesis, stage))",
@@ -77,8 +79,10 @@ fn look_row(alloc: Global, row: &Row) -> Result<LookRow, FileFault>
 pub fn put<S: Alter>(connection: &mut Connection<S>, row: &LookRow) -> Result<(), FileFault>
     requires { IsUtf8 row.now.p }
     ensures clean { HasCleanDisk (state S.Store connection.new) → HasCleanDisk (state S.Store connection.old) }
-    ensures ran { HasCleanDisk (state S.Store connection.new) → OnOk result (Ran (state S.Store connection.old) (state S.Store connection.new) put_sql (values_of row.now)) }
-    ensures why { HasCleanDisk (state S.Store connection.new) → IfErr result (RanInto (state S.Store connection.old) (state S.Store connection.new) put_sql (values_of row.now)) }
+    ensures ran { HasCleanDisk (state S.Store connection.new)
+        → OnOk result (Ran (state S.Store connection.old) (state S.Store connection.new) put_sql (values_of row.now)) }
+    ensures why { HasCleanDisk (state S.Store connection.new)
+        → IfErr result (RanInto (state S.Store connection.old) (state S.Store connection.new) put_sql (values_of row.now)) }
 {
     let Ok(p) = str::from_utf8(row.p.as_bytes()) else {
         unreachable!()
@@ -95,7 +99,8 @@ fn put_values<S: Alter>(
     p: &str,
 ) -> Result<usize, Error>
     ensures clean { HasCleanDisk (state S.Store connection.new) → HasCleanDisk (state S.Store connection.old) }
-    ensures runs { HasCleanDisk (state S.Store connection.new) → Executes put_sql (Int hypothesis ∷ Int stage ∷ SqlText p.now ∷ []) (state S.Store connection.old) (state S.Store connection.new) result }
+    ensures runs { HasCleanDisk (state S.Store connection.new)
+        → Executes put_sql (Int hypothesis ∷ Int stage ∷ SqlText p.now ∷ []) (state S.Store connection.old) (state S.Store connection.new) result }
 {
     connection.execute(
         "INSERT INTO looks (hypothesis, stage, p) VALUES (?1, ?2, ?3)",
