@@ -1,3 +1,4 @@
+mod Faults
 mod PrintedNumbers
 mod PrintedRatios
 mod RowFacts

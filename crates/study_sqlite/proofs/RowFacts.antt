@@ -5,6 +5,9 @@ use Rattle.std.proofs.lemmas.List.{take-append-drop, take_more, length-take-le}
 use Rattle.graph_io.specs.declared.keeper.Look.{Look}
 use Rattle.study_sqlite.specs.declared.row.LookRow.{LookRow}
 use Rattle.study_sqlite.specs.Rows.{IsRow, IsRowOf, AreRows, IsOfNone, IsFirstBad}
+use Rattle.study_sqlite.specs.Statements.{IsShownAs}
+use Rattle.std.specs.List.{AllZip}
+use Rattle.sqlite.specs.Order.{Row}
 use Rattle.study_sqlite.proofs.PrintedRatios.{one_ratio}
 
 -- ---- one look
@@ -101,3 +104,21 @@ read_more rows at row d looks more look less is good found pushed =
     let all : AreRows (take (at + 1) rows) (looks ++ look ∷ []) =
     subst (λ rs. AreRows rs (looks ++ look ∷ [])) taken (rows_more (take at rows) looks row look good found) in
     subst (λ ls. AreRows (take (at + 1) rows) ls) (sym pushed) all
+
+-- ---- rows of an answer
+
+answer_more : (answer : List Row) (rows : List LookRow) (shown : Row) (row : LookRow)
+    → AllZip IsShownAs answer rows → IsShownAs shown row → AllZip IsShownAs (answer ++ shown ∷ []) (rows ++ row ∷ [])
+answer_more [] [] shown row h k = (k, tt)
+answer_more [] (r ∷ rs) shown row h k = absurd h
+answer_more (a ∷ all) [] shown row h k = absurd h
+answer_more (a ∷ all) (r ∷ rs) shown row h k = (h.0, answer_more all rs shown row h.1 k)
+
+-- one row more of an answer is shown
+pub shown_more : (answer : List Row) (at : ℕ) (shown d : Row) (rows more : List LookRow) (row : LookRow)
+    → at < length answer → shown ≡ get_or answer at d → AllZip IsShownAs (take at answer) rows → IsShownAs shown row → more ≡ rows ++ row ∷ [] → AllZip IsShownAs (take (at + 1) answer) more
+shown_more answer at shown d rows more row less is good found pushed =
+    let taken : take at answer ++ shown ∷ [] ≡ take (at + 1) answer = ap (λ r. take at answer ++ r ∷ []) is ∙ sym (take_more answer at d less) in
+    let all : AllZip IsShownAs (take (at + 1) answer) (rows ++ row ∷ []) =
+    subst (λ rs. AllZip IsShownAs rs (rows ++ row ∷ [])) taken (answer_more (take at answer) rows shown row good found) in
+    subst (λ ls. AllZip IsShownAs (take (at + 1) answer) ls) (sym pushed) all

@@ -1,14 +1,43 @@
--- Where a keeper's looks are.
-use Rattle.std.specs.Prelude.{⊤}
+-- Where a keeper's looks are, and what its calls did there.
+use Rattle.std.specs.Prelude.{◌≡◌, ◌++◌, List}
+use Rattle.graph_io.specs.declared.keeper.Look.{Look}
+use Rattle.sqlite.specs.Files as files
+use Rattle.sqlite.specs.Files.{over_files, file_state}
+use Rattle.sqlite.specs.State.{HasCleanDisk}
 use Rattle.study_sqlite.specs.declared.keeper.SqliteKeeper.{SqliteKeeper}
 use Rattle.study_sqlite.specs.declared.storage.Storage.{Storage}
 use Rattle.study_sqlite.specs.declared.storage.Storage.TheVariants.{Unopened, Opened}
+use Rattle.study_sqlite.specs.Kept.{AreKept, IsPut}
 
 -- the file of a keeper
 abbrev pub storage_of : SqliteKeeper → Storage
 storage_of keeper = keeper.storage
 
--- the file is open
+-- the file was opened just now
 abbrev pub IsOpened : Storage → Type 0
-IsOpened (Opened connection) = ⊤
+IsOpened (Opened connection) = HasCleanDisk (file_state connection) → files.IsOpened connection
 IsOpened (Unopened rt path) = ⊥
+
+-- a file that was open is as it was, and one that wasn't is open
+abbrev pub IsOpenedFrom : Storage → Storage → Type 0
+IsOpenedFrom (Opened connection) now = now ≡ Opened connection
+IsOpenedFrom (Unopened rt path) now = IsOpened now
+
+-- The looks are those of the file, by its connection before and after: the one before is that of a file that was open, or one that
+-- an opening gave, of which no clause says what its path is.
+abbrev pub AreLoaded : Storage → Storage → List Look → Type 0
+AreLoaded old new looks =
+    (before : _) × (after : _) × IsOpenedFrom old (Opened before) × (new ≡ Opened after)
+    × (HasCleanDisk (file_state after) → HasCleanDisk (file_state before))
+    × (HasCleanDisk (file_state after) → AreKept over_files before after looks)
+
+-- the looks of the file were put behind others
+abbrev pub IsLoaded : Storage → Storage → List Look → List Look → Type 0
+IsLoaded old new others all = (looks : List Look) × (all ≡ others ++ looks) × AreLoaded old new looks
+
+-- the look was put into the file, by its connection before and after
+abbrev pub IsAppended : Storage → Storage → Look → Type 0
+IsAppended old new look =
+    (before : _) × (after : _) × IsOpenedFrom old (Opened before) × (new ≡ Opened after)
+    × (HasCleanDisk (file_state after) → HasCleanDisk (file_state before))
+    × (HasCleanDisk (file_state after) → IsPut over_files before after look)

@@ -1,9 +1,8 @@
 //! A keeper in a file.
-ghost use Rattle.std.specs.Prelude.{◌≡◌, ◌<◌, ◌^◌, None, IfOk, OnOk, OnErr};
+ghost use Rattle.std.specs.Prelude.{◌≡◌, ◌<◌, ◌^◌, None, OnOk, OnErr};
 
+use crate::FileFault;
 use crate::storage::Storage;
-use crate::table::{self, FileConnection};
-use crate::{FileFault, read_rows, to_row};
 use field_core::List;
 use graph_io::{Keeper, KeeperFault, Look};
 use std::alloc::Global;
@@ -19,18 +18,7 @@ pub struct SqliteKeeper {
 impl SqliteKeeper {
     ghost use Rattle.study_sqlite.specs.Counting.{fault_count, IsCounted};
     ghost use Rattle.study_sqlite.specs.Storing.{storage_of};
-    ghost use Rattle.study_sqlite.specs.declared.storage.Storage.TheVariants.{Unopened, Opened};
-
-    /// A keeper over this connection.
-    pub fn new(connection: FileConnection) -> SqliteKeeper
-        ensures storage { storage_of result ≡ Opened connection }
-        ensures faults { fault_count result ≡ 0 }
-    {
-        SqliteKeeper {
-            storage: Storage::Opened(connection),
-            faults: 0,
-        }
-    }
+    ghost use Rattle.study_sqlite.specs.declared.storage.Storage.TheVariants.{Unopened};
 
     /// A keeper over the file at this path. The first call opens it, and makes it where it isn't there; until then nothing is
     /// read of it or written to it.
@@ -53,7 +41,8 @@ impl SqliteKeeper {
 
     /// Counts a fault of the file, unless memory ran out.
     fn counted(&mut self, fault: FileFault) -> KeeperFault
-        ensures { IsCounted (fault_count self.old) (fault_count self.new) fault result }
+        ensures counted { IsCounted (fault_count self.old) (fault_count self.new) fault result }
+        ensures storage { storage_of self.new ≡ storage_of self.old }
     {
         match fault {
             FileFault::Refused => {
@@ -63,31 +52,12 @@ impl SqliteKeeper {
             FileFault::NoMemory => KeeperFault::NoMemory,
         }
     }
-
-    /// The looks of all rows.
-    fn kept(&mut self, alloc: Global) -> Result<List<Look>, FileFault>
-        ensures { fault_count self.new ≡ fault_count self.old }
-    {
-        let connection = self.storage.connection()?;
-        table::make(connection)?;
-        let rows = table::rows(alloc, connection)?;
-        Ok(read_rows(alloc, rows.as_slice())?)
-    }
-
-    /// Puts the row of a look behind the others.
-    fn put(&mut self, alloc: Global, look: &Look) -> Result<(), FileFault>
-        ensures { fault_count self.new ≡ fault_count self.old }
-    {
-        let connection = self.storage.connection()?;
-        table::make(connection)?;
-        let row = to_row(alloc, look)?;
-        table::put(connection, &row)
-    }
 }
 
 impl Keeper for SqliteKeeper {
     ghost use Rattle.graph_io.specs.Keeping.{Loads, with_look, IsCaused};
     ghost use Rattle.study_sqlite.specs.Counting.{fault_count};
+    ghost use Rattle.study_sqlite.specs.Storing.{storage_of, IsLoaded, IsAppended};
 
     ghost looks = { λ k. None };
 
@@ -99,8 +69,9 @@ impl Keeper for SqliteKeeper {
         ensures loaded { OnOk result (Loads None into.old into.new) }
         ensures unchanged { OnErr result (into.new ≡ into.old) }
         ensures cause { IsCaused (fault_count self.old) (fault_count self.new) result }
+        ensures looks { OnOk result (IsLoaded (storage_of self.old) (storage_of self.new) into.old into.new) }
     {
-        match self.kept(alloc) {
+        match self.storage.looks(alloc) {
             Ok(looks) => into.append(looks.as_slice())?,
             Err(fault) => return Err(self.counted(fault)),
         }
@@ -109,8 +80,9 @@ impl Keeper for SqliteKeeper {
 
     fn append(&mut self, alloc: Global, look: &Look) -> Result<(), KeeperFault>
         ensures cause { IsCaused (fault_count self.old) (fault_count self.new) result }
+        ensures look { OnOk result (IsAppended (storage_of self.old) (storage_of self.new) look.now) }
     {
-        match self.put(alloc, look) {
+        match self.storage.keep(alloc, look) {
             Ok(()) => Ok(()),
             Err(fault) => Err(self.counted(fault)),
         }

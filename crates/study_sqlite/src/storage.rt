@@ -1,9 +1,13 @@
 //! Where looks are kept: at a path until they are asked for, then over a connection.
-ghost use Rattle.std.specs.Prelude.{OnOk};
-ghost use Rattle.study_sqlite.specs.Storing.{IsOpened};
+ghost use Rattle.std.specs.Prelude.{IfOk, OnOk};
+ghost use Rattle.study_sqlite.specs.Storing.{IsOpenedFrom, AreLoaded, IsAppended};
 
 use crate::FileFault;
+use crate::kept::{keep_in, looks_in};
 use crate::table::{self, FileConnection};
+use field_core::List;
+use graph_io::Look;
+use std::alloc::Global;
 
 /// A file of looks.
 #[derive(Drop)]
@@ -16,7 +20,7 @@ pub enum Storage {
 impl Storage {
     /// Opens the file where it isn't open.
     fn open(&mut self) -> Result<(), FileFault>
-        ensures { OnOk result (IsOpened self.new) }
+        ensures opened { OnOk result (IsOpenedFrom self.old self.new) }
     {
         if let Storage::Unopened(rt, path) = self {
             let connection = table::open(rt, path.as_str())?;
@@ -25,11 +29,24 @@ impl Storage {
         Ok(())
     }
 
-    /// The connection to the file, which is opened where it isn't open.
-    pub fn connection(&mut self) -> Result<&mut FileConnection, FileFault> {
+    /// The looks in the file, which is opened where it isn't open.
+    pub fn looks(&mut self, alloc: Global) -> Result<List<Look>, FileFault>
+        ensures loaded { IfOk result (AreLoaded self.old self.new) }
+    {
         self.open()?;
         match self {
-            Storage::Opened(connection) => Ok(connection),
+            Storage::Opened(connection) => looks_in(alloc, connection),
+            Storage::Unopened(_, _) => unreachable!(),
+        }
+    }
+
+    /// Puts the row of a look into the file, which is opened where it isn't open.
+    pub fn keep(&mut self, alloc: Global, look: &Look) -> Result<(), FileFault>
+        ensures appended { OnOk result (IsAppended self.old self.new look.now) }
+    {
+        self.open()?;
+        match self {
+            Storage::Opened(connection) => keep_in(alloc, connection, look),
             Storage::Unopened(_, _) => unreachable!(),
         }
     }

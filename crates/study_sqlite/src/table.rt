@@ -1,9 +1,15 @@
-//! The table of looks in a file: each statement is a function without clauses, so no proof above carries those of `sqlite`.
-ghost use Rattle.std.specs.Prelude.{IsUtf8};
+//! The table of looks in a file: its statements, and what each did by what the connection showed before and after.
+ghost use Rattle.std.specs.Prelude.{[], ◌∷◌, IfOk, IfErr, OnOk, IsUtf8};
+ghost use Rattle.std.specs.List.{AllZip};
+ghost use Rattle.sqlite.specs.Files.{file_state, IsOpened};
+ghost use Rattle.sqlite.specs.Held.{state};
+ghost use Rattle.sqlite.specs.State.{HasCleanDisk, Executes};
+ghost use Rattle.sqlite.specs.declared.types.Value.TheVariants.{Int, Text as SqlText};
+ghost use Rattle.study_sqlite.specs.Statements.{make_sql, put_sql, values_of, IsShownAs, Ran, RanInto, ShowedRows};
 
 use crate::{FileFault, LookRow};
 use field_core::{List, Text};
-use sqlite::{Connection, File, FileStore, Row, params};
+use sqlite::{Alter, Connection, Error, File, FileStore, Row, params};
 use std::alloc::Global;
 use std::str;
 
@@ -11,12 +17,20 @@ use std::str;
 pub type FileConnection = Connection<FileStore<File>>;
 
 /// Opens a file, and makes it where it isn't there.
-pub fn open(rt: &HostRuntime, path: &str) -> Result<FileConnection, FileFault> {
+pub fn open(rt: &HostRuntime, path: &str) -> Result<FileConnection, FileFault>
+    ensures opened { IfOk result (λ connection. HasCleanDisk (file_state connection) → IsOpened connection) }
+{
     Ok(Connection::open(rt, path)?)
 }
 
 /// Makes the table where it isn't there.
-pub fn make(connection: &mut FileConnection) -> Result<(), FileFault> {
+pub fn make<S: Alter>(connection: &mut Connection<S>) -> Result<(), FileFault>
+    ensures clean { HasCleanDisk (state S.Store connection.new) → HasCleanDisk (state S.Store connection.old) }
+    ensures made { HasCleanDisk (state S.Store connection.new)
+        → OnOk result (Ran (state S.Store connection.old) (state S.Store connection.new) make_sql []) }
+    ensures why { HasCleanDisk (state S.Store connection.new)
+        → IfErr result (RanInto (state S.Store connection.old) (state S.Store connection.new) make_sql []) }
+{
     connection.execute(
         "CREATE TABLE IF NOT EXISTS looks (place INTEGER PRIMARY KEY, hypothesis INTEGER NOT NULL, stage INTEGER NOT NULL, p TEXT NOT NULL, UNIQUE (hypothesis, stage))",
         &[],
@@ -25,17 +39,32 @@ pub fn make(connection: &mut FileConnection) -> Result<(), FileFault> {
 }
 
 /// All rows, in the order in which they were put there.
-pub fn rows(alloc: Global, connection: &mut FileConnection) -> Result<List<LookRow>, FileFault> {
+pub fn rows<S: Alter>(
+    alloc: Global,
+    connection: &mut Connection<S>,
+) -> Result<List<LookRow>, FileFault>
+    ensures clean { HasCleanDisk (state S.Store connection.new) → HasCleanDisk (state S.Store connection.old) }
+    ensures shown { HasCleanDisk (state S.Store connection.new) → IfOk result (ShowedRows (state S.Store connection.old) (state S.Store connection.new)) }
+{
     let found = connection.query_all("SELECT hypothesis, stage, p FROM looks ORDER BY place", &[])?;
+    look_rows(alloc, found.as_slice())
+}
+
+/// The values of each row of an answer.
+fn look_rows(alloc: Global, answer: &[Row]) -> Result<List<LookRow>, FileFault>
+    ensures shown { IfOk result (AllZip IsShownAs answer.now) }
+{
     let mut rows = List::new(alloc);
-    for row in found.iter() {
-        rows.push(look_row(alloc, row)?)?;
+    for at in 0..answer.len() {
+        rows.push(look_row(alloc, &answer[at])?)?;
     }
     Ok(rows)
 }
 
 /// The values of a row.
-fn look_row(alloc: Global, row: &Row) -> Result<LookRow, FileFault> {
+fn look_row(alloc: Global, row: &Row) -> Result<LookRow, FileFault>
+    ensures shown { IfOk result (IsShownAs row.now) }
+{
     let hypothesis: i64 = row.get(0)?;
     let stage: i64 = row.get(1)?;
     let p: String = row.get(2)?;
@@ -47,17 +76,36 @@ fn look_row(alloc: Global, row: &Row) -> Result<LookRow, FileFault> {
 }
 
 /// Puts a row behind the others.
-pub fn put(connection: &mut FileConnection, row: &LookRow) -> Result<(), FileFault>
+pub fn put<S: Alter>(connection: &mut Connection<S>, row: &LookRow) -> Result<(), FileFault>
     requires { IsUtf8 row.now.p }
+    ensures clean { HasCleanDisk (state S.Store connection.new) → HasCleanDisk (state S.Store connection.old) }
+    ensures ran { HasCleanDisk (state S.Store connection.new)
+        → OnOk result (Ran (state S.Store connection.old) (state S.Store connection.new) put_sql (values_of row.now)) }
+    ensures why { HasCleanDisk (state S.Store connection.new)
+        → IfErr result (RanInto (state S.Store connection.old) (state S.Store connection.new) put_sql (values_of row.now)) }
 {
     let Ok(p) = str::from_utf8(row.p.as_bytes()) else {
         unreachable!()
     };
+    put_values(connection, row.hypothesis, row.stage, p)?;
+    Ok(())
+}
+
+/// Puts a row of these values behind the others.
+fn put_values<S: Alter>(
+    connection: &mut Connection<S>,
+    hypothesis: i64,
+    stage: i64,
+    p: &str,
+) -> Result<usize, Error>
+    ensures clean { HasCleanDisk (state S.Store connection.new) → HasCleanDisk (state S.Store connection.old) }
+    ensures runs { HasCleanDisk (state S.Store connection.new)
+        → Executes put_sql (Int hypothesis ∷ Int stage ∷ SqlText p.now ∷ []) (state S.Store connection.old) (state S.Store connection.new) result }
+{
     connection.execute(
         "INSERT INTO looks (hypothesis, stage, p) VALUES (?1, ?2, ?3)",
-        params![row.hypothesis, row.stage, p],
-    )?;
-    Ok(())
+        params![hypothesis, stage, p],
+    )
 }
 
 /// Copies the log into the file, and closes both.

@@ -1,0 +1,13 @@
+use Rattle.std.proofs.Common.{refl, subst}
+use Rattle.study_sqlite.specs.declared.storage.Storage.TheVariants.{Opened}
+use Rattle.study_sqlite.specs.Storing.{IsOpenedFrom, IsAppended}
+use Rattle.study_sqlite.proofs.Faults.{goes_well_under}
+use Rattle.study_sqlite.proofs.storage.Storage.keep.Goals as goal
+
+pub returns : goal.returns
+returns c =
+    let opened = subst (IsOpenedFrom c.args.self.now) c.in-Opened.is c.in_ok-open.ensures.opened in
+    record {
+      appended = goes_well_under c.keep_in.result _ _ (IsAppended c.args.self.now (Opened c.keep_in.new.connection) c.args.look.now) c.keep_in.ensures.put
+          (λ put. (c.in-Opened.connection, c.keep_in.new.connection, opened, refl, c.keep_in.ensures.clean, put));
+    }

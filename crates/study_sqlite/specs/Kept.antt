@@ -1,0 +1,25 @@
+-- Looks in the table of looks, by what a connection held before and after.
+use Rattle.std.specs.Prelude.{List, []}
+use Rattle.graph_io.specs.declared.keeper.Look.{Look}
+use Rattle.sqlite.specs.Store.{Ghosts}
+use Rattle.sqlite.specs.Held.{Held, state}
+use Rattle.study_sqlite.specs.declared.row.LookRow.{LookRow}
+use Rattle.study_sqlite.specs.Rows.{IsRowOf, AreRows}
+use Rattle.study_sqlite.specs.Statements.{make_sql, put_sql, values_of, Ran, ShowedRows}
+
+module _ {S : Type 0} (g : Ghosts S) (before after : Held S) where
+  -- The looks are those of all rows: the table was made where it wasn't there, and then its rows were shown.
+  pub record AreKept (looks : List Look) : Type 0 where
+    pub middle : Held S
+    pub rows : List LookRow
+    pub made : Ran (state g before) (state g middle) make_sql []
+    pub shown : ShowedRows (state g middle) (state g after) rows
+    pub read : AreRows rows looks
+
+  -- The row of the look was put behind the others: the table was made where it wasn't there, and then the row was put there.
+  pub record IsPut (look : Look) : Type 0 where
+    pub middle : Held S
+    pub row : LookRow
+    pub made : Ran (state g before) (state g middle) make_sql []
+    pub row_is : IsRowOf row look
+    pub ran : Ran (state g middle) (state g after) put_sql (values_of row)

@@ -1,0 +1,45 @@
+-- The statements on the table of looks, and what they did by what a connection showed before and after.
+use Rattle.std.specs.Prelude.{◌≡◌, ℕ, List, [], ◌∷◌, Ok, Err, codes}
+use Rattle.std.specs.List.{AllZip}
+use Rattle.sqlite.specs.declared.error.Error.{Error}
+use Rattle.sqlite.specs.declared.types.Value.TheVariants.{Int, Text}
+use Rattle.sqlite.specs.Order.{Row, column}
+use Rattle.sqlite.specs.State.{State, Executes, Shown}
+use Rattle.study_sqlite.specs.declared.fault.FileFault.{FileFault}
+use Rattle.study_sqlite.specs.declared.row.LookRow.{LookRow}
+use Rattle.study_sqlite.specs.FileFaults.{fault_of_error}
+
+-- the table is made where it isn't there
+abbrev pub make_sql : List ℕ
+make_sql = codes "CREATE TABLE IF NOT EXISTS looks (place INTEGER PRIMARY KEY, hypothesis INTEGER NOT NULL, stage INTEGER NOT NULL, p TEXT NOT NULL, UNIQUE (hypothesis, stage))"
+
+-- a row is put behind the others
+abbrev pub put_sql : List ℕ
+put_sql = codes "INSERT INTO looks (hypothesis, stage, p) VALUES (?1, ?2, ?3)"
+
+-- all rows are shown, in the order in which they were put there
+abbrev pub rows_sql : List ℕ
+rows_sql = codes "SELECT hypothesis, stage, p FROM looks ORDER BY place"
+
+-- the values of a row, in the order of the columns
+abbrev pub values_of : LookRow → Row
+values_of row = Int row.hypothesis ∷ Int row.stage ∷ Text row.p ∷ []
+
+-- a row of an answer shows a row of a look in its first three columns
+pub record IsShownAs (shown : Row) (row : LookRow) : Type 0 where
+  pub hypothesis : column shown 0 ≡ Int row.hypothesis
+  pub stage : column shown 1 ≡ Int row.stage
+  pub p : column shown 2 ≡ Text row.p
+
+module _ (old new : State) where
+  -- a statement ran
+  abbrev pub Ran : List ℕ → Row → Type 0
+  Ran sql values = (count : ℕ) × Executes sql values old new (Ok count)
+
+  -- a statement gave an error, which is told as this fault
+  abbrev pub RanInto : List ℕ → Row → FileFault → Type 0
+  RanInto sql values fault = (error : Error) × (fault ≡ fault_of_error error) × Executes sql values old new (Err error)
+
+  -- the rows are those that the query showed, in its order
+  abbrev pub ShowedRows : List LookRow → Type 0
+  ShowedRows rows = (answer : List Row) × Shown rows_sql [] old new answer × AllZip IsShownAs answer rows
