@@ -116,7 +116,8 @@ answer_more (a ∷ all) (r ∷ rs) shown row h k = (h.0, answer_more all rs show
 
 -- one row more of an answer is shown
 pub shown_more : (answer : List Row) (at : ℕ) (shown d : Row) (rows more : List LookRow) (row : LookRow)
-    → at < length answer → shown ≡ get_or answer at d → AllZip IsShownAs (take at answer) rows → IsShownAs shown row → more ≡ rows ++ row ∷ [] → AllZip IsShownAs (take (at + 1) answer) more
+    → at < length answer → shown ≡ get_or answer at d → AllZip IsShownAs (take at answer) rows → IsShownAs shown row
+    → more ≡ rows ++ row ∷ [] → AllZip IsShownAs (take (at + 1) answer) more
 shown_more answer at shown d rows more row less is good found pushed =
     let taken : take at answer ++ shown ∷ [] ≡ take (at + 1) answer = ap (λ r. take at answer ++ r ∷ []) is ∙ sym (take_more answer at d less) in
     let all : AllZip IsShownAs (take (at + 1) answer) (rows ++ row ∷ []) =
