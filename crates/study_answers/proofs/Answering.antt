@@ -79,6 +79,9 @@ clean_by_look P why n l is h = subst (IfLooksRefused P) is h
 pub clean_by_wide : (P : Type 0) (why : RegisterFault) (n : ℕ) (w : WideAt) → why ≡ Wide n w → IfLooksRefused P why → P
 clean_by_wide P why n w is h = subst (IfLooksRefused P) is h
 
+pub clean_by_memory : (P : Type 0) (why : RegisterFault) → why ≡ NoMemory → IfLooksRefused P why → P
+clean_by_memory P why is h = subst (IfLooksRefused P) is h
+
 pub rose_by : (c : Content) (kept : Option (List Look)) (rose : Type 0) (why : RegisterFault) → why ≡ Fault → IsRegisterFault c kept rose why
     → HasOpening c × rose
 rose_by c kept rose why is h = subst (IsRegisterFault c kept rose) is h

@@ -21,7 +21,7 @@ use Rattle.study_commands.specs.declared.command.StudyCommand.{StudyCommand}
 use Rattle.study_commands.specs.declared.command.StudyCommand.TheVariants.{Take, Show}
 use Rattle.study_commands.specs.CommandLines.{IsBelow}
 use Rattle.study_register.specs.Looking.{arrival_of, Takes}
-use Rattle.study_register.specs.RegisterFaults.{IsAddFault, IfRefused, IfNotAsked}
+use Rattle.study_register.specs.RegisterFaults.{IsAddFault, IfRefused, IfNotAsked, IfMemory}
 use Rattle.study_register.specs.declared.fault.AddFault.{AddFault}
 use Rattle.study_register.specs.declared.fault.AddFault.TheVariants as additions
 use Rattle.study_answers.specs.declared.replying.CommandStop.{CommandStop}
@@ -42,6 +42,9 @@ added_wide c s l rose e w h a = subst (IsAddFault c s l rose) h a
 
 pub left_refused : (P : Type 0) (e : AddFault) (f : StepFault) → e ≡ additions.Refused f → IfRefused P e → P
 left_refused P e f h s = subst (IfRefused P) h s
+
+pub left_memory : (P : Type 0) (e : AddFault) → e ≡ additions.NoMemory → IfMemory P e → P
+left_memory P e h s = subst (IfMemory P) h s
 
 -- ---- the rejections that a look brings
 
@@ -103,10 +106,13 @@ module _ (c : Content) (n : ℕ) (old : StudyState) (kept : Option (List Look)) 
 pub broken_weaker : (stop : CommandStop) (P Q : Type 0) → (P → Q) → IfBroken P stop → IfBroken Q stop
 broken_weaker (Wide place w) P Q f h = f h
 broken_weaker Fault P Q f h = tt
-broken_weaker NoMemory P Q f h = tt
+broken_weaker NoMemory P Q f h = f h
 
 pub broken_by : (stop : CommandStop) (place : ℕ) (w : WideAt) (P : Type 0) → stop ≡ Wide place w → IfBroken P stop → P
 broken_by stop place w P e h = subst (IfBroken P) e h
+
+pub broken_by_memory : (stop : CommandStop) (P : Type 0) → stop ≡ NoMemory → IfBroken P stop → P
+broken_by_memory stop P e h = subst (IfBroken P) e h
 
 pub first_broken : (c : Content) (old : StudyState) (commands : List StudyCommand) (kept held : Option (List Look)) (rose : Type 0) (stop : CommandStop)
     (place : ℕ) (w : WideAt) → stop ≡ Wide place w

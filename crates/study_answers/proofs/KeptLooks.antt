@@ -1,5 +1,5 @@
 -- The rejections after commands are those on all looks that are kept then.
-use Rattle.std.proofs.Common.{◌≡◌, ◌⊎◌, ◌+◌, inl, inr, refl, sym, ap, ◌∙◌, subst, ℕ, List, [], ◌∷◌, ◌++◌}
+use Rattle.std.proofs.Common.{◌≡◌, ◌⊎◌, ◌↔◌, ◌+◌, inl, inr, refl, sym, ap, ◌∙◌, subst, ℕ, List, [], ◌∷◌, ◌++◌, length}
 use Rattle.std.proofs.lemmas.List.{append_assoc}
 use Rattle.field_core.specs.declared.place.WideAt.{WideAt}
 use Rattle.graph_io.specs.declared.keeper.Look.{Look}
@@ -10,15 +10,19 @@ use Rattle.case_model.specs.Content.{Content}
 use Rattle.case_model.specs.Validity.{IsValidContent}
 use Rattle.report.specs.StudyReport.{Reply, taken, refused, shown}
 use Rattle.staged_levels.specs.Looks.{IsLook}
-use Rattle.staged_levels.specs.Studies.{StudyState, start}
+use Rattle.case_model.specs.LegalOrder.{IsListed}
+use Rattle.case_model.specs.StagedCase.{IsStagedRejectedIn}
+use Rattle.staged_levels.specs.declared.event.Settled.{Settled}
+use Rattle.staged_levels.specs.Studies.{StudyState, start, positions_of}
 use Rattle.study_commands.specs.declared.command.StudyCommand.{StudyCommand}
 use Rattle.study_commands.specs.declared.command.StudyCommand.TheVariants.{Take, Show}
-use Rattle.study_register.specs.Looking.{arrival_of, AreTaken, Follows}
+use Rattle.study_register.specs.Looking.{arrival_of, arrivals_of, AreTaken, Follows}
 use Rattle.study_register.proofs.TakenLooks.{follows_on, taken_looks_decide}
 use Rattle.study_register.proofs.OneEnd.{reopenings_agree}
 use Rattle.study_answers.specs.Replies.{taken_in, looks_taken, IsReply, AreReplies, IsFirstBreak, MayTake}
 use Rattle.study_answers.specs.StudyStages.{StudyEnd, AreAllAnswered, IsBrokenOff, study_stage}
-use Rattle.study_answers.specs.StudyStatements.{DecidesOn, RepliesDecide, KeptLooksDecide, TakenLooksAreFirst}
+use Rattle.study_answers.specs.StudyStatements.{DecidesOn, ShowsLooks, RepliesDecide, KeptLooksDecide, TakenLooksAreFirst}
+use Rattle.study_answers.proofs.Answering.{records_counted}
 use Rattle.study_answers.proofs.OneEnd.{one_reply, replied_not_broken}
 
 module _ (c : Content) where
@@ -39,6 +43,33 @@ module _ (c : Content) where
   replies_follow (x ∷ xs) n s (r ∷ rs) t h = follows_on c (taken_in r) (looks_taken rs) s h.0 t (one_follows n s x r h.0 h.1)
       (replies_follow xs (n + 1) h.0 rs t h.2)
 
+  -- what is shown is what the looks before left
+  shown_behind : (xs : List StudyCommand) (n : ℕ) (s : StudyState) (before after : List Reply) (m : ℕ) (rs : List Settled) (t : StudyState)
+      → AreReplies c n s xs (before ++ shown m rs ∷ after) t
+      → (mid : StudyState) × Follows c s (looks_taken before) mid × (m ≡ length mid.values) × (rs ≡ mid.rejected)
+  shown_behind [] n s [] after m rs t h = absurd h
+  shown_behind (Take l ∷ xs) n s [] after m rs t h = absurd h.1
+  shown_behind (Show ∷ xs) n s [] after m rs t h = (s, refl, h.1.0, h.1.1)
+  shown_behind [] n s (r ∷ before) after m rs t h = absurd h
+  shown_behind (x ∷ xs) n s (r ∷ before) after m rs t h =
+      let rest = shown_behind xs (n + 1) h.0 before after m rs t h.2 in
+      (rest.0, follows_on c (taken_in r) (looks_taken before) s h.0 rest.0 (one_follows n s x r h.0 h.1) rest.1, rest.2, rest.3)
+
+  -- which is what the staged closed test rejects on all looks by then
+  shows_looks : (xs : List StudyCommand) (looks : List Look) (s t : StudyState) (replies before after : List Reply) (m : ℕ) (rs : List Settled)
+      → IsValidContent c → AreTaken c looks s → AreReplies c 1 s xs replies t → replies ≡ before ++ shown m rs ∷ after
+      → ShowsLooks c (looks ++ looks_taken before) m rs
+  shows_looks xs looks s t replies before after m rs V T h e =
+      let found = shown_behind xs 1 s before after m rs t (subst (λ r. AreReplies c 1 s xs r t) e h) in
+      let all : AreTaken c (looks ++ looks_taken before) found.0 =
+      record { opened = T.opened; follows = follows_on c looks (looks_taken before) start s found.0 T.follows found.1 } in
+      record {
+        counted = found.2 ∙ records_counted c (looks ++ looks_taken before) found.0 all;
+        named = λ j.
+            subst (λ q. IsListed (positions_of q) j ↔ IsStagedRejectedIn c (arrivals_of (looks ++ looks_taken before)) j) (sym found.3)
+            (taken_looks_decide c (looks ++ looks_taken before) found.0 j V all);
+      }
+
 pub replies_decide : RepliesDecide
 replies_decide c commands looks replies s t V T h =
     let all : AreTaken c (looks ++ looks_taken replies) t =
@@ -52,7 +83,16 @@ replies_decide c commands looks replies s t V T h =
 pub kept_looks_decide : KeptLooksDecide
 unfolding study_stage
 kept_looks_decide c commands looks e V h d = elim (h.2) [
-  | inl a ↦ (a.end, subst (λ ls. DecidesOn c (looks ++ ls) a.end) (sym a.looks_are) (replies_decide c commands looks a.replies h.0 a.end V h.1 a.are))
+  | inl a ↦ (
+    a.end,
+    subst (λ ls. DecidesOn c (looks ++ ls) a.end) (sym a.looks_are) (replies_decide c commands looks a.replies h.0 a.end V h.1 a.are),
+    a.replies,
+    record {
+      answer_is = a.answer_is;
+      looks_are = a.looks_are;
+      shows = λ before after m rs is. shows_looks c commands looks h.0 a.end a.replies before after m rs V h.1 a.are is;
+    },
+  )
   | inr b ↦ absurd (let r = wide_refusal c.names (AfterLook b.place) b.wide in let k : Refused r.cause ≡ Done = sym (ap (λ x. x.status) b.answer_is)
       ∙ d in cc)
 ]

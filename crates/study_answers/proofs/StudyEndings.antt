@@ -17,14 +17,14 @@ use Rattle.answers.specs.Runs.{Finished}
 use Rattle.answers.specs.Stages.{Stage}
 use Rattle.study_answers.specs.declared.stop.StudyStop.{StudyStop}
 use Rattle.study_answers.specs.declared.stop.StudyStop.TheVariants.{Stopped, KeeperFault}
-use Rattle.study_answers.specs.AnswerView.{with_looks, HoldSome, KeepWith, StopsStudy, IfAnswered}
+use Rattle.study_answers.specs.AnswerView.{with_looks, HoldSome, KeepWith, StopsStudy, UnlessReadFault, UnlessKeeperFault}
 use Rattle.study_answers.specs.StudyRuns.{keeper_fault, IsConcluded, IsEndOf, IsPutWith, RunsStudy}
 use Rattle.study_answers.specs.StudyStages.{StudyEnd}
 use Rattle.study_answers.proofs.Looks.{with_none}
 use Rattle.std.proofs.Common.{sym, ◌∙◌}
 use Rattle.answers.proofs.Endings.{cause_low, status_low}
 
-module _ (Outcome : Answer → List Look → Type 0) (May : List Look → Type 0) (rr kr wr clean ws : Type 0) (old new : Option (List ℕ))
+module _ (Outcome : Answer → List Look → Type 0) (May : List Look → Type 0) (rr kr wr rs ks ws : Type 0) (old new : Option (List ℕ))
     (kept held : Option (List Look)) (result : ℕ) where
   -- what the sink holds where it had a fault
   abbrev Partial : Type 0
@@ -35,7 +35,7 @@ module _ (Outcome : Answer → List Look → Type 0) (May : List Look → Type 0
       ⊎ (kr × AppendsPrefix old new keeper_fault × HoldSome May kept held)))
 
   -- the sink had a fault
-  study_failed : result ≡ 7 → wr → Partial → RunsStudy Outcome May rr kr wr clean old new kept held result
+  study_failed : result ≡ 7 → wr → Partial → RunsStudy Outcome May rr kr wr rs ks ws old new kept held result
   study_failed e w p = record {
     done = λ h. absurd (omega arith);
     read = λ h. absurd (omega arith);
@@ -44,14 +44,16 @@ module _ (Outcome : Answer → List Look → Type 0) (May : List Look → Type 0
     memory = λ h. absurd (omega arith);
     keeper = λ h. absurd (omega arith);
     complete = λ h k l. absurd (l w);
-    faultless = λ h. absurd (omega arith);
+    faultless = λ h. absurd (elim h [ inl x ↦ omega arith | inr x ↦ omega arith ]);
+    quiet = λ h. absurd (omega arith);
+    keeper_alone = λ h. absurd (omega arith);
     known = omega arith;
   }
 
   -- an answer was put, or the sink had a fault
-  study_done : (a : Answer) (more : List Look) → Outcome a more → held ≡ with_looks kept more → (ws → clean)
-      → Finished wr ws old new a.text (status_code a.status) result → RunsStudy Outcome May rr kr wr clean old new kept held result
-  study_done a more is k r f =
+  study_done : (a : Answer) (more : List Look) → Outcome a more → held ≡ with_looks kept more → rs → ks
+      → Finished wr ws old new a.text (status_code a.status) result → RunsStudy Outcome May rr kr wr rs ks ws old new kept held result
+  study_done a more is k r_clean k_clean f =
       let low = status_low a.status in
       elim f [
         | inl p ↦ let e = p.0 in record {
@@ -62,15 +64,17 @@ module _ (Outcome : Answer → List Look → Type 0) (May : List Look → Type 0
           memory = λ h. absurd (omega arith);
           keeper = λ h. absurd (omega arith);
           complete = λ h i l. inl (omega arith);
-          faultless = λ h. r p.2;
+          faultless = λ h. (r_clean, k_clean, p.2);
+          quiet = λ h. absurd (omega arith);
+          keeper_alone = λ h. absurd (omega arith);
           known = omega arith;
         }
         | inr p ↦ study_failed p.0 p.1 (inl (record { answer = a; more = more; outcome = is; put = p.2; held_is = k }))
       ]
 
   -- a source had a fault
-  study_read : rr → held ≡ kept → Finished wr ws old new read_fault 6 result → RunsStudy Outcome May rr kr wr clean old new kept held result
-  study_read cause k f =
+  study_read : rr → held ≡ kept → ks → Finished wr ws old new read_fault 6 result → RunsStudy Outcome May rr kr wr rs ks ws old new kept held result
+  study_read cause k k_clean f =
       elim f [
         | inl p ↦ let e = p.0 in record {
           done = λ h. absurd (omega arith);
@@ -80,15 +84,17 @@ module _ (Outcome : Answer → List Look → Type 0) (May : List Look → Type 0
           memory = λ h. absurd (omega arith);
           keeper = λ h. absurd (omega arith);
           complete = λ h i l. absurd (h cause);
-          faultless = λ h. absurd (omega arith);
+          faultless = λ h. absurd (elim h [ inl x ↦ omega arith | inr x ↦ omega arith ]);
+          quiet = λ h. (k_clean, p.2);
+          keeper_alone = λ h. absurd (omega arith);
           known = omega arith;
         }
         | inr p ↦ study_failed p.0 p.1 (inr (inl (cause, p.2, k)))
       ]
 
   -- memory ran out
-  study_memory : HoldSome May kept held → Finished wr ws old new no_memory 8 result → RunsStudy Outcome May rr kr wr clean old new kept held result
-  study_memory k f =
+  study_memory : HoldSome May kept held → rs → ks → Finished wr ws old new no_memory 8 result → RunsStudy Outcome May rr kr wr rs ks ws old new kept held result
+  study_memory k r_clean k_clean f =
       elim f [
         | inl p ↦ let e = p.0 in record {
           done = λ h. absurd (omega arith);
@@ -98,15 +104,17 @@ module _ (Outcome : Answer → List Look → Type 0) (May : List Look → Type 0
           memory = λ h. (p.1, k);
           keeper = λ h. absurd (omega arith);
           complete = λ h i l. inr (omega arith);
-          faultless = λ h. absurd (omega arith);
+          faultless = λ h. (r_clean, k_clean, p.2);
+          quiet = λ h. absurd (omega arith);
+          keeper_alone = λ h. absurd (omega arith);
           known = omega arith;
         }
         | inr p ↦ study_failed p.0 p.1 (inr (inr (inl (p.2, k))))
       ]
 
   -- the keeper had a fault
-  study_kept : kr → HoldSome May kept held → Finished wr ws old new keeper_fault 9 result → RunsStudy Outcome May rr kr wr clean old new kept held result
-  study_kept cause k f =
+  study_kept : kr → HoldSome May kept held → rs → Finished wr ws old new keeper_fault 9 result → RunsStudy Outcome May rr kr wr rs ks ws old new kept held result
+  study_kept cause k r_clean f =
       elim f [
         | inl p ↦ let e = p.0 in record {
           done = λ h. absurd (omega arith);
@@ -116,29 +124,31 @@ module _ (Outcome : Answer → List Look → Type 0) (May : List Look → Type 0
           memory = λ h. absurd (omega arith);
           keeper = λ h. (cause, p.1, k);
           complete = λ h i l. absurd (i cause);
-          faultless = λ h. absurd (omega arith);
+          faultless = λ h. absurd (elim h [ inl x ↦ omega arith | inr x ↦ omega arith ]);
+          quiet = λ h. absurd (omega arith);
+          keeper_alone = λ h. (r_clean, p.2);
           known = omega arith;
         }
         | inr p ↦ study_failed p.0 p.1 (inr (inr (inr (cause, p.2, k))))
       ]
 
 -- The whole clause of a top call over a keeper that computes an outcome and concludes.
-pub runs_of_study : (s : Stage Refusal StudyEnd) (May : List Look → Type 0) (rr kr wr rs ws : Type 0) (old new : Option (List ℕ))
+pub runs_of_study : (s : Stage Refusal StudyEnd) (May : List Look → Type 0) (rr kr wr rs ks ws : Type 0) (old new : Option (List ℕ))
     (kept held : Option (List Look)) (result : ℕ) (outcome : Result Answer StudyStop)
-    → IfOk outcome (KeepWith s.Gives kept held) → IfErr outcome (StopsStudy s.Refuses rr kr May kept held) → IfAnswered outcome rs
-    → IsConcluded wr ws old new outcome result
-    → RunsStudy (IsEndOf s) May rr kr wr (rs × ws) old new kept held result
-runs_of_study s May rr kr wr rs ws old new kept held result (Ok a) given stopped r f =
-    study_done (IsEndOf s) May rr kr wr (rs × ws) ws old new kept held result a given.more (inl given.given) given.held_is (λ w. (r, w)) f
-runs_of_study s May rr kr wr rs ws old new kept held result (Err (Stopped (Refused q))) given stopped r f =
-    study_done (IsEndOf s) May rr kr wr (rs × ws) ws old new kept held result (refused q) [] (inr (q, stopped.0, refl, refl))
-    (stopped.1 ∙ sym (with_none kept)) (λ w. (r, w)) f
-runs_of_study s May rr kr wr rs ws old new kept held result (Err (Stopped ReadFault)) given stopped r f =
-    study_read (IsEndOf s) May rr kr wr (rs × ws) ws old new kept held result stopped.0 stopped.1 f
-runs_of_study s May rr kr wr rs ws old new kept held result (Err (Stopped NoMemory)) given stopped r f =
-    study_memory (IsEndOf s) May rr kr wr (rs × ws) ws old new kept held result stopped f
-runs_of_study s May rr kr wr rs ws old new kept held result (Err KeeperFault) given stopped r f =
-    study_kept (IsEndOf s) May rr kr wr (rs × ws) ws old new kept held result stopped.0 stopped.1 f
+    → IfOk outcome (KeepWith s.Gives kept held) → IfErr outcome (StopsStudy s.Refuses rr kr May kept held)
+    → UnlessReadFault outcome rs → UnlessKeeperFault outcome ks → IsConcluded wr ws old new outcome result
+    → RunsStudy (IsEndOf s) May rr kr wr rs ks ws old new kept held result
+runs_of_study s May rr kr wr rs ks ws old new kept held result (Ok a) given stopped r k f =
+    study_done (IsEndOf s) May rr kr wr rs ks ws old new kept held result a given.more (inl given.given) given.held_is r k f
+runs_of_study s May rr kr wr rs ks ws old new kept held result (Err (Stopped (Refused q))) given stopped r k f =
+    study_done (IsEndOf s) May rr kr wr rs ks ws old new kept held result (refused q) [] (inr (q, stopped.0, refl, refl))
+    (stopped.1 ∙ sym (with_none kept)) r k f
+runs_of_study s May rr kr wr rs ks ws old new kept held result (Err (Stopped ReadFault)) given stopped r k f =
+    study_read (IsEndOf s) May rr kr wr rs ks ws old new kept held result stopped.0 stopped.1 k f
+runs_of_study s May rr kr wr rs ks ws old new kept held result (Err (Stopped NoMemory)) given stopped r k f =
+    study_memory (IsEndOf s) May rr kr wr rs ks ws old new kept held result stopped r k f
+runs_of_study s May rr kr wr rs ks ws old new kept held result (Err KeeperFault) given stopped r k f =
+    study_kept (IsEndOf s) May rr kr wr rs ks ws old new kept held result stopped.0 stopped.1 r f
 
 -- the status 0 comes only with an answer
 pub study_done_by : (wr ws : Type 0) (old new : Option (List ℕ)) (outcome : Result Answer StudyStop) (result : ℕ) (P : Type 0) → OnOk outcome P

@@ -13,7 +13,7 @@ use Rattle.answers.specs.declared.stop.Stop.TheVariants.{Refused, ReadFault, NoM
 use Rattle.answers.specs.Halts.{HaltsBy, StopsBy, stop_of}
 use Rattle.study_answers.specs.declared.stop.StudyStop.{StudyStop}
 use Rattle.study_answers.specs.declared.stop.StudyStop.TheVariants.{Stopped, KeeperFault}
-use Rattle.study_answers.specs.AnswerView.{HoldSome, KeepWith, StopsStudy}
+use Rattle.study_answers.specs.AnswerView.{HoldSome, KeepWith, StopsStudy, UnlessKeeperFault}
 use Rattle.study_answers.specs.StudyStages.{StudyEnd}
 use Rattle.study_answers.proofs.Looks.{with_none}
 
@@ -21,6 +21,12 @@ use Rattle.study_answers.proofs.Looks.{with_none}
 pub handed_on : {A : Type 0} (r : Result A StudyStop) (Good : StudyStop → Type 0) (s : StudyStop) → IsErrAnd r (λ e. e ≡ s) → Good s → IfErr r Good
 handed_on (Ok x) Good s e h = tt
 handed_on (Err x) Good s e h = subst Good (sym e) h
+
+-- where the counts stayed, they stayed by any end
+pub keeper_clean : {A : Type 0} (r : Result A StudyStop) (P : Type 0) → P → UnlessKeeperFault r P
+keeper_clean (Ok x) P h = h
+keeper_clean (Err (Stopped stop)) P h = h
+keeper_clean (Err KeeperFault) P h = tt
 
 module _ (P Q : Refusal → Type 0) (f g kr : Type 0) (May : List Look → Type 0) (kept held : Option (List Look)) where
   -- nothing is kept besides

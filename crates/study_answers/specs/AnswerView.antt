@@ -50,11 +50,11 @@ StopsCommands c rose n old commands kept held (Wide place w) = HoldSome (λ look
 StopsCommands c rose n old commands kept held Fault = rose × HoldSome (MayTake c n old commands) kept held
 StopsCommands c rose n old commands kept held NoMemory = HoldSome (MayTake c n old commands) kept held
 
--- a fact where a command breaks off
+-- a fact where the keeper had no fault: a command breaks off, or memory ran out
 abbrev pub IfBroken : Type 0 → CommandStop → Type 0
 IfBroken p (Wide place w) = p
 IfBroken p Fault = Unit {0}
-IfBroken p NoMemory = Unit {0}
+IfBroken p NoMemory = p
 
 -- an answer that is called for, and its looks are kept besides
 pub record KeepWith (Gives : StudyEnd → Type 0) (kept held : Option (List Look)) (answer : Answer) : Type 0 where
@@ -81,13 +81,19 @@ StopsStudy Refuses read_rose keeper_rose May kept held (Stopped ReadFault) = rea
 StopsStudy Refuses read_rose keeper_rose May kept held (Stopped OutOfMemory) = HoldSome May kept held
 StopsStudy Refuses read_rose keeper_rose May kept held KeeperFault = keeper_rose × HoldSome May kept held
 
--- a fact where there is an answer or a refusal
-abbrev pub IfAnswered : {A : Type 0} → Result A StudyStop → Type 0 → Type 0
-IfAnswered (Ok x) p = p
-IfAnswered (Err (Stopped (Refused r))) p = p
-IfAnswered (Err (Stopped ReadFault)) p = Unit {0}
-IfAnswered (Err (Stopped OutOfMemory)) p = Unit {0}
-IfAnswered (Err KeeperFault) p = Unit {0}
+-- a fact where no source had a fault
+abbrev pub UnlessReadFault : {A : Type 0} → Result A StudyStop → Type 0 → Type 0
+UnlessReadFault (Ok x) p = p
+UnlessReadFault (Err (Stopped (Refused r))) p = p
+UnlessReadFault (Err (Stopped ReadFault)) p = Unit {0}
+UnlessReadFault (Err (Stopped OutOfMemory)) p = p
+UnlessReadFault (Err KeeperFault) p = p
+
+-- a fact where the keeper had no fault
+abbrev pub UnlessKeeperFault : {A : Type 0} → Result A StudyStop → Type 0 → Type 0
+UnlessKeeperFault (Ok x) p = p
+UnlessKeeperFault (Err (Stopped stop)) p = p
+UnlessKeeperFault (Err KeeperFault) p = Unit {0}
 
 -- why the kept looks aren't taken, where a keeper holds looks and its count of faults rose or didn't; it is asked only once the opening is defined
 abbrev pub StopsOpening : Content → Type 0 → Option (List Look) → StudyStop → Type 0

@@ -1,14 +1,16 @@
 -- The laws of studies whose looks are kept, over all kept looks and all commands, as contracts name them.
-use Rattle.std.specs.Prelude.{◌≡◌, ◌++◌, ◌↔◌, ◌⊎◌, ℕ, List, [], ◌∷◌}
+use Rattle.std.specs.Prelude.{◌≡◌, ◌++◌, ◌↔◌, ◌⊎◌, ℕ, List, [], ◌∷◌, length}
 use Rattle.field_core.specs.declared.place.WideAt.{WideAt}
 use Rattle.graph_io.specs.declared.keeper.Look.{Look}
 use Rattle.answers.specs.declared.status.Status.TheVariants.{Done}
+use Rattle.answers.specs.Lines.{done}
 use Rattle.answers.specs.Stages.{IsDecided}
 use Rattle.case_model.specs.Content.{Content}
 use Rattle.case_model.specs.LegalOrder.{IsListed}
 use Rattle.case_model.specs.StagedCase.{IsStagedRejectedIn}
 use Rattle.case_model.specs.Validity.{IsValidContent}
-use Rattle.report.specs.StudyReport.{Reply}
+use Rattle.report.specs.StudyReport.{Reply, shown, study_report}
+use Rattle.staged_levels.specs.declared.event.Settled.{Settled}
 use Rattle.staged_levels.specs.Studies.{StudyState, positions_of}
 use Rattle.study_commands.specs.declared.command.StudyCommand.{StudyCommand}
 use Rattle.study_register.specs.Looking.{arrivals_of, AreTaken}
@@ -31,11 +33,23 @@ RepliesDecide =
     (c : Content) (commands : List StudyCommand) (looks : List Look) (replies : List Reply) (s t : StudyState) → IsValidContent c → AreTaken c looks s → AreReplies c 1 s commands replies t
     → DecidesOn c (looks ++ looks_taken replies) t
 
--- Where all commands are answered, the keeper's looks at the end decide.
+-- what is shown of these looks: how many they are, and exactly what the staged closed test on them rejects
+pub record ShowsLooks (c : Content) (looks : List Look) (number : ℕ) (rejections : List Settled) : Type 0 where
+  pub counted : number ≡ length looks
+  pub named : (j : ℕ) → IsListed (positions_of rejections) j ↔ IsStagedRejectedIn c (arrivals_of looks) j
+
+-- The answer is the report of these replies behind the looks that were kept, its looks are those that they tell as taken, and each showing is of the looks that are kept by then.
+pub record IsReportOf (c : Content) (looks : List Look) (e : StudyEnd) (replies : List Reply) : Type 0 where
+  pub answer_is : e.answer ≡ done (study_report c (length looks) replies)
+  pub looks_are : e.looks ≡ looks_taken replies
+  pub shows : (before after : List Reply) (number : ℕ) (rejections : List Settled) → replies ≡ before ++ shown number rejections ∷ after
+      → ShowsLooks c (looks ++ looks_taken before) number rejections
+
+-- Where all commands are answered, the keeper's looks at the end decide, and what is told is the report of replies, each of which shows what the looks decide that are kept by then.
 abbrev pub KeptLooksDecide : Type 0
 KeptLooksDecide =
     (c : Content) (commands : List StudyCommand) (looks : List Look) (e : StudyEnd) → IsValidContent c → (study_stage c commands looks).Gives e → e.answer.status ≡ Done
-    → (s : StudyState) × DecidesOn c (looks ++ e.looks) s
+    → (s : StudyState) × DecidesOn c (looks ++ e.looks) s × (replies : List Reply) × IsReportOf c looks e replies
 
 -- The looks that the commands before some place take are the first of those that all commands take, or that all take before one that breaks off.
 abbrev pub TakenLooksAreFirst : Type 0

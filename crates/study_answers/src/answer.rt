@@ -12,7 +12,7 @@ ghost use Rattle.study_commands.specs.CommandLines.{IsBelow};
 ghost use Rattle.study_register.specs.Looking.{AreTaken};
 ghost use Rattle.study_register.specs.RegisterFaults.{OnLooks};
 ghost use Rattle.study_register.specs.RegisterView.{study_in, looks_in, is_spent};
-ghost use Rattle.study_answers.specs.AnswerView.{KeepWith, MayKeep, StopsStudy, StopsOpening, IfAnswered};
+ghost use Rattle.study_answers.specs.AnswerView.{KeepWith, MayKeep, StopsStudy, StopsOpening, UnlessKeeperFault};
 ghost use Rattle.study_answers.specs.StudyStages.{HasOpening, study_stage, on_looks};
 
 use crate::StudyStop;
@@ -46,7 +46,7 @@ fn opened<K: Keeper>(alloc: Global, case: &Case, keeper: &mut K) -> Result<Regis
     ensures stopped { IfErr result (StopsOpening (content case.now) (Rose (K.faults keeper.old) (K.faults keeper.new)) (K.looks keeper.old)) }
     ensures kept { K.looks keeper.new ≡ K.looks keeper.old }
     ensures later { K.faults keeper.old ≤ K.faults keeper.new }
-    ensures clean { IfAnswered result (K.faults keeper.new ≡ K.faults keeper.old) }
+    ensures clean { UnlessKeeperFault result (K.faults keeper.new ≡ K.faults keeper.old) }
 {
     match Register::open(alloc, case, keeper) {
         Ok(register) => Ok(register),
@@ -98,7 +98,7 @@ pub fn study_answer<K: Keeper>(
     ensures given { IfOk result (KeepWith (on_looks (K.looks keeper.old) (study_stage (content case.now) commands.now)).Gives (K.looks keeper.old) (K.looks keeper.new)) }
     ensures stopped { IfErr result (StopsStudy (on_looks (K.looks keeper.old) (study_stage (content case.now) commands.now)).Refuses ⊥ (HasOpening (content case.now) × Rose (K.faults keeper.old) (K.faults keeper.new)) (MayKeep (content case.now) commands.now (K.looks keeper.old)) (K.looks keeper.old) (K.looks keeper.new)) }
     ensures later { K.faults keeper.old ≤ K.faults keeper.new }
-    ensures clean { IfAnswered result (K.faults keeper.new ≡ K.faults keeper.old) }
+    ensures clean { UnlessKeeperFault result (K.faults keeper.new ≡ K.faults keeper.old) }
 {
     let mut register = opened(alloc, case, keeper)?;
     let mut text = opened_text(alloc, case, register.count())?;

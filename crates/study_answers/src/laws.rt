@@ -8,7 +8,8 @@ pub fn studies_have_one_end()
 {}
 
 /// By any commands that are answered to their end, the rejections are exactly those of the staged closed test on all looks that are
-/// kept then, in whatever order they came. Whoever opens these looks again has the same rejections in the same order.
+/// kept then, in whatever order they came. Whoever opens these looks again has the same rejections in the same order. The text is
+/// the report of the replies, and each showing in it tells how many looks are kept by then, and what is rejected on them.
 pub fn kept_looks_decide()
     ensures replies { RepliesDecide }
     ensures end { KeptLooksDecide }

@@ -6,7 +6,7 @@ use Rattle.refusals.specs.declared.wide.When.TheVariants.{Look as AfterLook}
 use Rattle.study_register.specs.RegisterView.{looks_in}
 use Rattle.study_answers.proofs.Answering.{opening_stops, none_kept, all_answered, break_answered, replied_kept, stopped_kept}
 use Rattle.study_answers.proofs.CommandsReplied.{broken_by, first_broken}
-use Rattle.study_answers.proofs.StudyHalting.{handed_on}
+use Rattle.study_answers.proofs.StudyHalting.{handed_on, keeper_clean}
 use Rattle.study_answers.proofs.answer.study_answer.Goals as goal
 
 pub returns-in_err-register-clause-stopped : goal.returns-in_err-register-clause-stopped
@@ -59,3 +59,14 @@ returns-in-Err-Wide-clause-given g c =
 pub returns-in-Err-Wide-clause-clean : goal.returns-in-Err-Wide-clause-clean
 returns-in-Err-Wide-clause-clean g c = let e = c.in-Err-Wide in broken_by e.field-0 e.place e.wide _ e.field-0-is e.ensures.broken
     ∙ c.in_ok-register.ensures.clean
+
+pub returns-in_err-text-clause-clean : goal.returns-in_err-text-clause-clean
+returns-in_err-text-clause-clean g c = keeper_clean _ _ c.in_ok-register.ensures.clean
+
+pub returns-in_err-ended-in-Ok-clause-clean : goal.returns-in_err-ended-in-Ok-clause-clean
+returns-in_err-ended-in-Ok-clause-clean g c = keeper_clean _ _ (c.in-Ok.ensures.counted ∙ c.in_ok-register.ensures.clean)
+
+pub returns-in_err-broken_off-in-Err-Wide-clause-clean : goal.returns-in_err-broken_off-in-Err-Wide-clause-clean
+returns-in_err-broken_off-in-Err-Wide-clause-clean g c =
+    let e = c.in-Err-Wide in
+    keeper_clean _ _ (broken_by e.field-0 e.place e.wide _ e.field-0-is e.ensures.broken ∙ c.in_ok-register.ensures.clean)

@@ -8,7 +8,7 @@ use Rattle.study_register.specs.RegisterView.{study_in, looks_in}
 use Rattle.study_answers.specs.AnswerView.{StopsCommands}
 use Rattle.study_answers.specs.declared.replying.CommandStop.TheVariants.{Wide}
 use Rattle.study_answers.proofs.CommandsReplied.{added_refused, added_wide, left_refused, brought, brought_below, taken_written, refused_written, holds_none}
-use Rattle.study_answers.proofs.CommandsReplied.{holds_one, stops_wide}
+use Rattle.study_answers.proofs.CommandsReplied.{holds_one, stops_wide, left_memory}
 use Rattle.study_answers.proofs.replying.take.Goals as goal
 
 pub put_taken-requires-clause-rejections : goal.put_taken-requires-clause-rejections
@@ -68,3 +68,6 @@ returns-in-Err-Wide-clause-stopped g c =
     (stops_wide k c.args.number old kept c.args.look.now held rose place e.wide
     (added_wide k old c.args.look.now rose e.field-0 e.wide e.field-0-is (e.ensures.fault k c.requires.study)) c.next_place-place.ensures
     e.ensures.unchanged)
+
+pub returns-in-Err-NoMemory-clause-broken : goal.returns-in-Err-NoMemory-clause-broken
+returns-in-Err-NoMemory-clause-broken g c = let e = c.in-Err-NoMemory in left_memory _ e.field-0 e.field-0-is e.ensures.memory
