@@ -1,8 +1,10 @@
+pub mod Begun
 pub mod EvidenceNames
-pub mod Lines
+pub mod FirstSets
+pub mod HandedOn
+pub mod ListedLines
 pub mod LooksOfCase
 pub mod OfCase
+pub mod SetReports
 pub mod StageLines
 pub mod StudyLines
-pub mod SetReports
-pub mod FirstSets

@@ -17,7 +17,7 @@ use Rattle.report.specs.WeightsReport.{member_weight, weight_if_member, members_
 use Rattle.report.specs.BoundsReport.{name_if_member, members_line as bounds_line, bound_line, bounds_report, IsBoundsReport}
 use Rattle.report.specs.SimesReport.{first_set, top_line, top_lines, set_alone, name_if_alone, alone_line, simes_report, IsSimesReport}
 use Rattle.report.specs.TestReport.{spaced_name}
-use Rattle.report.proofs.Lines.{flat_map-more}
+use Rattle.report.proofs.ListedLines.{flat_map-more}
 
 -- ---- pieces that are the same, one by one
 

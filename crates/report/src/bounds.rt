@@ -5,8 +5,7 @@ ghost use Rattle.case_model.specs.CaseView.{content};
 ghost use Rattle.discovery_bound.specs.BoundsView.{bounds_size, bound_of};
 ghost use Rattle.report.specs.BoundsReport.{name_if_member, members_line, bound_line, bounds_report, IsBoundsReport};
 
-use crate::sample::put_count;
-use crate::test::put_name;
+use crate::lines::{put_count, put_name};
 use case_model::{Case, holds};
 use closed_test::sets_in_order;
 use discovery_bound::Bounds;
@@ -105,6 +104,5 @@ pub fn bounds_text(alloc: Global, case: &Case, bounds: &Bounds) -> Result<List<u
     ensures { IfOk result (λ text. IsBoundsReport (content case.now) (bound_of bounds.now) text) }
 {
     let sets = sets_in_order(alloc, case.size())?;
-    let text = text_of_sets(alloc, case, bounds, sets.as_slice())?;
-    Ok(text)
+    text_of_sets(alloc, case, bounds, sets.as_slice())
 }

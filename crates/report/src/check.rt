@@ -6,7 +6,7 @@ ghost use Rattle.evidence_check.specs.EvidenceView.{hypotheses_of, version_of, s
 ghost use Rattle.report.specs.TestReport.{spaced_name};
 ghost use Rattle.report.specs.CheckReport.{listed_line, keeps_line, check_report};
 
-use crate::test::put_name;
+use crate::lines::put_name;
 use case_model::Case;
 use evidence_check::{Evidence, KeepProof, ProofStep, Steps};
 use field_core::{List, NoMemory};

@@ -11,6 +11,7 @@
 mod bounds;
 mod check;
 pub mod laws;
+mod lines;
 mod sample;
 mod simes;
 mod stages;

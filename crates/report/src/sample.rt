@@ -5,7 +5,7 @@ ghost use Rattle.case_model.specs.CaseView.{content};
 ghost use Rattle.answers.specs.Lines.{line};
 ghost use Rattle.report.specs.SampleReport.{is_edge, edge_count, sample_report};
 
-use crate::test::put_rejected;
+use crate::lines::{put_count, put_rejected};
 use case_model::{Case, Entry};
 use field_core::{List, NoMemory};
 use sequential::Decision;
@@ -37,15 +37,6 @@ fn edge_count(case: &Case) -> usize
         count += edges_in(case.edges(c));
     }
     count
-}
-
-/// Appends a line of words and a number.
-pub(crate) fn put_count(text: &mut List<u8>, words: &[u8], n: usize) -> Result<(), NoMemory>
-    ensures { OnOk result (text.new ≡ text.old ++ line (words.now ++ decimal n)) }
-{
-    text.append(words)?;
-    text.append_unsigned(n as u128)?;
-    text.push(b'\n')
 }
 
 /// Appends the line of the size and the seed.

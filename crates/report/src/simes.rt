@@ -9,8 +9,7 @@ ghost use Rattle.discovery_bound.specs.BoundsView.{bounds_size, bound_of};
 ghost use Rattle.report.specs.SimesReport.{top_lines, name_if_alone, alone_line, simes_report, IsSimesReport};
 
 use crate::bounds::put_sets;
-use crate::sample::put_count;
-use crate::test::put_name;
+use crate::lines::{put_count, put_name};
 use case_model::{Case, SetTable, added};
 use closed_test::sets_in_order;
 use discovery_bound::Bounds;
@@ -142,6 +141,5 @@ pub fn simes_text(
     ensures { IfOk result (λ text. IsSimesReport (content case.now) (bound_of bounds.now) (answer_of closed.now) leaders.now text) }
 {
     let sets = sets_in_order(alloc, case.size())?;
-    let text = text_of_sets(alloc, case, bounds, closed, leaders, sets.as_slice())?;
-    Ok(text)
+    text_of_sets(alloc, case, bounds, closed, leaders, sets.as_slice())
 }

@@ -1,12 +1,13 @@
 //! What the command `stages` prints.
-ghost use Rattle.std.specs.Prelude.{◌≡◌, ◌==◌, ◌<◌, ◌++◌, IfOk, OnOk, length};
+ghost use Rattle.std.specs.Prelude.{◌≡◌, ◌==◌, ◌<◌, ◌++◌, IfOk, OnOk, OnErr, length};
 ghost use Rattle.std.specs.List.{All, flat_map, list_any, range_with_len};
+ghost use Rattle.field_core.specs.Texts.{IsBegun};
 ghost use Rattle.case_model.specs.CaseView.{content};
 ghost use Rattle.staged_levels.specs.StudyAnswers.{IsStaged};
 ghost use Rattle.staged_levels.specs.Looks.{arrivals_of};
 ghost use Rattle.report.specs.StagesReport.{AreRejectionsOf, arrive_line, reject_line, look_lines, looks_lines, name_if_settled, settled_line, stages_report};
 
-use crate::test::{put_alpha, put_name};
+use crate::lines::{put_alpha, put_name};
 use case_model::{Arrival, Case, Inputs};
 use field_core::{List, NoMemory};
 use staged_levels::Settled;
@@ -43,7 +44,8 @@ fn put_arrival(text: &mut List<u8>, case: &Case, arrival: &Arrival) -> Result<()
 #[tactic(auto, unfolding(crate::specs::StagesReport::reject_line))]
 fn put_rejection(text: &mut List<u8>, case: &Case, rejection: &Settled) -> Result<(), NoMemory>
     requires { rejection.now.hypothesis < length (content case.now).names }
-    ensures { OnOk result (text.new ≡ text.old ++ reject_line (content case.now) rejection.now) }
+    ensures put { OnOk result (text.new ≡ text.old ++ reject_line (content case.now) rejection.now) }
+    ensures begun { OnErr result (IsBegun text.old text.new (reject_line (content case.now) rejection.now)) }
 {
     text.append(b"reject")?;
     put_name(text, case, rejection.hypothesis)?;
@@ -61,7 +63,8 @@ pub(crate) fn put_rejections(
     look: &[Settled],
 ) -> Result<(), NoMemory>
     requires { AreRejectionsOf (content case.now) look.now }
-    ensures { OnOk result (text.new ≡ text.old ++ flat_map (reject_line (content case.now)) look.now) }
+    ensures put { OnOk result (text.new ≡ text.old ++ flat_map (reject_line (content case.now)) look.now) }
+    ensures begun { OnErr result (IsBegun text.old text.new (flat_map (reject_line (content case.now)) look.now)) }
 {
     for rejection in look {
         put_rejection(text, case, rejection)?;

@@ -1,12 +1,13 @@
 //! What the command `study` prints.
-ghost use Rattle.std.specs.Prelude.{◌≡◌, ◌==◌, ◌<◌, ◌++◌, IfOk, OnOk, length};
+ghost use Rattle.std.specs.Prelude.{◌≡◌, ◌==◌, ◌<◌, ◌++◌, IfOk, OnOk, OnErr, length};
 ghost use Rattle.std.specs.List.{flat_map, list_any, range_with_len};
+ghost use Rattle.field_core.specs.Texts.{IsBegun};
 ghost use Rattle.case_model.specs.CaseView.{content};
 ghost use Rattle.report.specs.StagesReport.{AreRejectionsOf};
 ghost use Rattle.report.specs.StudyReport.{look_line, taken_lines, refusal_word, refused_line, name_if_among, names_among, shown_line, opened_lines};
 
+use crate::lines::{put_alpha, put_name};
 use crate::stages::{is_among, put_rejections};
-use crate::test::{put_alpha, put_name};
 use case_model::Case;
 use field_core::{List, NoMemory};
 use fraction::Fraction;
@@ -18,7 +19,8 @@ use std::alloc::Global;
 #[tactic(auto, unfolding(crate::specs::StudyReport::look_line))]
 fn put_look(text: &mut List<u8>, case: &Case, look: &Look) -> Result<(), NoMemory>
     requires { look.now.hypothesis < length (content case.now).names }
-    ensures { OnOk result (text.new ≡ text.old ++ look_line (content case.now) look.now) }
+    ensures put { OnOk result (text.new ≡ text.old ++ look_line (content case.now) look.now) }
+    ensures begun { OnErr result (IsBegun text.old text.new (look_line (content case.now) look.now)) }
 {
     text.append(b"look")?;
     put_name(text, case, look.hypothesis as usize)?;
@@ -29,7 +31,8 @@ fn put_look(text: &mut List<u8>, case: &Case, look: &Look) -> Result<(), NoMemor
     text.push(b'\n')
 }
 
-/// Appends a look that was taken, and the rejections that it brings. `NoMemory` where memory runs out.
+/// Appends a look that was taken, and the rejections that it brings. `NoMemory` where memory runs out; a beginning of the lines
+/// may then have been appended.
 #[tactic(auto, unfolding(crate::specs::StudyReport::taken_lines))]
 pub fn put_taken(
     text: &mut List<u8>,
@@ -39,7 +42,8 @@ pub fn put_taken(
 ) -> Result<(), NoMemory>
     requires below { look.now.hypothesis < length (content case.now).names }
     requires rejections { AreRejectionsOf (content case.now) rejections.now }
-    ensures { OnOk result (text.new ≡ text.old ++ taken_lines (content case.now) look.now rejections.now) }
+    ensures put { OnOk result (text.new ≡ text.old ++ taken_lines (content case.now) look.now rejections.now) }
+    ensures begun { OnErr result (IsBegun text.old text.new (taken_lines (content case.now) look.now rejections.now)) }
 {
     put_look(text, case, look)?;
     put_rejections(text, case, rejections)
@@ -53,14 +57,16 @@ fn refusal_word(fault: &StepFault) -> &'static [u8]
         StepFault::StageRange(_) => b"stage",
         StepFault::Known(_, _) => b"known",
         StepFault::PRange => b"range",
-        _ => b"",
+        StepFault::Rejected(_) | StepFault::NotLegal(_) | StepFault::Wide(_) => b"",
     }
 }
 
-/// Appends that the command of a number, from 1, asked for a look that is refused. `NoMemory` where memory runs out.
+/// Appends that the command of a number, from 1, asked for a look that is refused. `NoMemory` where memory runs out; a beginning
+/// of the line may then have been appended.
 #[tactic(auto, unfolding(crate::specs::StudyReport::refused_line))]
 pub fn put_refused(text: &mut List<u8>, number: usize, fault: &StepFault) -> Result<(), NoMemory>
-    ensures { OnOk result (text.new ≡ text.old ++ refused_line number fault.now) }
+    ensures put { OnOk result (text.new ≡ text.old ++ refused_line number fault.now) }
+    ensures begun { OnErr result (IsBegun text.old text.new (refused_line number fault.now)) }
 {
     text.append(b"refused ")?;
     text.append_unsigned(number as u128)?;
@@ -77,7 +83,8 @@ fn put_if_among(
     j: usize,
 ) -> Result<(), NoMemory>
     requires { j < length (content case.now).names }
-    ensures { OnOk result (text.new ≡ text.old ++ name_if_among (content case.now) rejections.now j) }
+    ensures put { OnOk result (text.new ≡ text.old ++ name_if_among (content case.now) rejections.now j) }
+    ensures begun { OnErr result (IsBegun text.old text.new (name_if_among (content case.now) rejections.now j)) }
 {
     if !is_among(rejections, j) {
         return Ok(());
@@ -87,7 +94,8 @@ fn put_if_among(
 
 /// Appends the names of the hypotheses that are rejected.
 fn put_names_among(text: &mut List<u8>, case: &Case, rejections: &[Settled]) -> Result<(), NoMemory>
-    ensures { OnOk result (text.new ≡ text.old ++ names_among (content case.now) rejections.now) }
+    ensures put { OnOk result (text.new ≡ text.old ++ names_among (content case.now) rejections.now) }
+    ensures begun { OnErr result (IsBegun text.old text.new (names_among (content case.now) rejections.now)) }
 {
     for j in 0..case.size() {
         put_if_among(text, case, rejections, j)?;
@@ -95,7 +103,8 @@ fn put_names_among(text: &mut List<u8>, case: &Case, rejections: &[Settled]) -> 
     Ok(())
 }
 
-/// Appends how many looks have arrived, and the names of the hypotheses that are rejected. `NoMemory` where memory runs out.
+/// Appends how many looks have arrived, and the names of the hypotheses that are rejected. `NoMemory` where memory runs out; a
+/// beginning of the line may then have been appended.
 #[tactic(auto, unfolding(crate::specs::StudyReport::shown_line))]
 pub fn put_shown(
     text: &mut List<u8>,
@@ -103,7 +112,8 @@ pub fn put_shown(
     looks: usize,
     rejections: &[Settled],
 ) -> Result<(), NoMemory>
-    ensures { OnOk result (text.new ≡ text.old ++ shown_line (content case.now) looks rejections.now) }
+    ensures put { OnOk result (text.new ≡ text.old ++ shown_line (content case.now) looks rejections.now) }
+    ensures begun { OnErr result (IsBegun text.old text.new (shown_line (content case.now) looks rejections.now)) }
 {
     text.append(b"show looks ")?;
     text.append_unsigned(looks as u128)?;

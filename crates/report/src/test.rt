@@ -1,11 +1,12 @@
 //! What the command `test` prints.
-ghost use Rattle.std.specs.Prelude.{◌≡◌, ◌==◌, ◌<◌, ◌++◌, IfOk, OnOk, length};
-ghost use Rattle.std.specs.List.{flat_map, list_any, range_with_len};
+ghost use Rattle.std.specs.Prelude.{◌≡◌, ◌<◌, ◌++◌, IfOk, OnOk, length};
+ghost use Rattle.std.specs.List.{flat_map};
 ghost use Rattle.case_model.specs.CaseView.{content};
 ghost use Rattle.case_model.specs.Sums.{ratio_at};
 ghost use Rattle.sequential.specs.TrialAnswers.{IsSingle};
-ghost use Rattle.report.specs.TestReport.{AreOfCase, p_values, figures, spaced_name, alpha_line, step_line, step_lines, kept_line, name_if_rejected, rejected_line, reached_words, adjusted_line, adjusted_lines, test_report};
+ghost use Rattle.report.specs.TestReport.{AreOfCase, p_values, figures, step_line, step_lines, kept_line, reached_words, adjusted_line, adjusted_lines, test_report};
 
+use crate::lines::{put_alpha, put_name, put_rejected};
 use adjusted_p::Adjusted;
 use case_model::{Case, Inputs};
 use field_core::{List, NoMemory};
@@ -25,15 +26,6 @@ fn p_value(case: &Case, j: usize) -> Fraction
     }
 }
 
-/// Appends a space and the name of the hypothesis at a position.
-pub(crate) fn put_name(text: &mut List<u8>, case: &Case, j: usize) -> Result<(), NoMemory>
-    requires { j < length (content case.now).names }
-    ensures { OnOk result (text.new ≡ text.old ++ spaced_name (content case.now) j) }
-{
-    text.push(b' ')?;
-    text.append(case.name(j))
-}
-
 /// Appends the name of a hypothesis, its p-value and its weight.
 #[tactic(auto, unfolding(crate::specs::TestReport::figures))]
 fn put_figures(text: &mut List<u8>, case: &Case, step: &StepLine) -> Result<(), NoMemory>
@@ -46,16 +38,6 @@ fn put_figures(text: &mut List<u8>, case: &Case, step: &StepLine) -> Result<(), 
     p_value(case, step.hypothesis).print(text)?;
     text.append(b" weight ")?;
     step.weight.print(text)
-}
-
-/// Appends the level.
-#[tactic(auto, unfolding(crate::specs::TestReport::alpha_line))]
-pub(crate) fn put_alpha(text: &mut List<u8>, case: &Case) -> Result<(), NoMemory>
-    ensures { OnOk result (text.new ≡ text.old ++ alpha_line (content case.now)) }
-{
-    text.append(b"alpha ")?;
-    case.alpha().print(text)?;
-    text.push(b'\n')
 }
 
 /// Appends the step of this number.
@@ -110,53 +92,6 @@ fn put_kept(text: &mut List<u8>, case: &Case, kept: &[StepLine]) -> Result<(), N
         put_kept_line(text, case, kept_hypothesis)?;
     }
     Ok(())
-}
-
-/// Whether the hypothesis at a position is that of a step.
-fn is_rejected(steps: &[StepLine], j: usize) -> bool
-    ensures { result ≡ list_any (λ step. step.hypothesis == j) steps.now }
-{
-    steps.iter().any(|step| step.hypothesis == j)
-}
-
-/// Appends the name of the hypothesis at a position, where it is that of a step.
-fn put_if_rejected(
-    text: &mut List<u8>,
-    case: &Case,
-    steps: &[StepLine],
-    j: usize,
-) -> Result<(), NoMemory>
-    requires { j < length (content case.now).names }
-    ensures { OnOk result (text.new ≡ text.old ++ name_if_rejected (content case.now) steps.now j) }
-{
-    if !is_rejected(steps, j) {
-        return Ok(());
-    }
-    put_name(text, case, j)
-}
-
-/// Appends the names of the hypotheses that are rejected.
-fn put_rejected_names(text: &mut List<u8>, case: &Case, steps: &[StepLine]) -> Result<(), NoMemory>
-    ensures { OnOk result (text.new ≡ text.old ++ flat_map (name_if_rejected (content case.now) steps.now) (range_with_len 0 (length (content case.now).names))) }
-{
-    for j in 0..case.size() {
-        put_if_rejected(text, case, steps, j)?;
-    }
-    Ok(())
-}
-
-/// Appends the line of the hypotheses that are rejected.
-#[tactic(auto, unfolding(crate::specs::TestReport::rejected_line))]
-pub(crate) fn put_rejected(
-    text: &mut List<u8>,
-    case: &Case,
-    steps: &[StepLine],
-) -> Result<(), NoMemory>
-    ensures { OnOk result (text.new ≡ text.old ++ rejected_line (content case.now) steps.now) }
-{
-    text.append(b"rejected")?;
-    put_rejected_names(text, case, steps)?;
-    text.push(b'\n')
 }
 
 /// Appends that a value isn't reached, where it isn't.

@@ -5,8 +5,7 @@ ghost use Rattle.case_model.specs.CaseView.{content};
 ghost use Rattle.closed_test.specs.WeightsView.{weights_size, weight_at};
 ghost use Rattle.report.specs.WeightsReport.{member_weight, weight_if_member, members_line, set_line, weights_report, IsWeightsReport};
 
-use crate::sample::put_count;
-use crate::test::put_name;
+use crate::lines::{put_count, put_name};
 use case_model::{Case, holds};
 use closed_test::{WeightTable, sets_in_order};
 use field_core::{List, NoMemory};
@@ -134,6 +133,5 @@ pub fn weights_text(alloc: Global, case: &Case, table: &WeightTable) -> Result<L
     ensures { IfOk result (λ text. IsWeightsReport (content case.now) (weight_at table.now) text) }
 {
     let sets = sets_in_order(alloc, case.size())?;
-    let text = text_of_sets(alloc, case, table, sets.as_slice())?;
-    Ok(text)
+    text_of_sets(alloc, case, table, sets.as_slice())
 }

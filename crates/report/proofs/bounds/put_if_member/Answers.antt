@@ -12,4 +12,4 @@ returns-then-not-holds c =
 pub returns : goal.returns
 returns c =
     let member : members c.args.set c.args.k ≡ true = sym c.holds.ensures ∙ c.if-not-holds.false in
-    rw member c.put_name.ensures
+    rw member c.put_name.ensures.put

@@ -1,6 +1,6 @@
 use Rattle.case_model.specs.CaseView.{content}
 use Rattle.report.specs.BoundsReport.{name_if_member}
-use Rattle.report.proofs.Lines.{put_more}
+use Rattle.report.proofs.ListedLines.{put_more}
 use Rattle.report.proofs.bounds.put_members.Goals as goal
 
 pub loop-k-preserved : goal.loop-k-preserved

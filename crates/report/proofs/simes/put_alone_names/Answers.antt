@@ -1,7 +1,7 @@
 use Rattle.case_model.specs.CaseView.{content}
 use Rattle.case_model.specs.SetTableView.{answer_of}
 use Rattle.report.specs.SimesReport.{name_if_alone}
-use Rattle.report.proofs.Lines.{put_more}
+use Rattle.report.proofs.ListedLines.{put_more}
 use Rattle.report.proofs.simes.put_alone_names.Goals as goal
 
 pub loop-j-preserved : goal.loop-j-preserved

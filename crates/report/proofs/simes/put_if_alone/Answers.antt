@@ -22,7 +22,7 @@ returns c =
     let rejected : answer_of c.args.closed.now (set_alone (content c.args.case.now) c.args.j) ≡ true =
     ap (answer_of c.args.closed.now) (alone_number (length (content c.args.case.now).names) c.args.j below ∙ sym c.alone.ensures) ∙ sym c.get.ensures
     ∙ c.if-not-get.false in
-    rw rejected c.put_name.ensures
+    rw rejected c.put_name.ensures.put
 
 pub get-requires : goal.get-requires
 get-requires c =

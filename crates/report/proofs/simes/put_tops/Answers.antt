@@ -9,7 +9,7 @@ use Rattle.case_model.specs.CaseView.{content}
 use Rattle.discovery_bound.specs.BoundsView.{bound_of}
 use Rattle.report.specs.SimesReport.{top_line}
 use Rattle.report.proofs.FirstSets.{next_outside, added_first, first_within, first_none}
-use Rattle.report.proofs.Lines.{put_more}
+use Rattle.report.proofs.ListedLines.{put_more}
 use Rattle.report.proofs.simes.put_tops.Goals as goal
 
 pub loop-k-init : goal.loop-k-init

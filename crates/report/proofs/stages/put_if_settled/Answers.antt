@@ -11,4 +11,4 @@ returns-then-not-is_settled c =
 pub returns : goal.returns
 returns c =
     let name = settled_name_by (content c.args.case.now) c.args.looks.now c.args.j true (sym c.is_settled.ensures ∙ c.if-not-is_settled.false) in
-    rw name c.put_name.ensures
+    rw name c.put_name.ensures.put

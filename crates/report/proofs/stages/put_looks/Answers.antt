@@ -1,8 +1,6 @@
-use Rattle.std.proofs.Common.{◌≡◌, sym, ap, ap₂, ◌∙◌, ◌++◌, ◌∷◌, [], ◌<◌, ◌≤◌, length, take, arith}
+use Rattle.std.proofs.Common.{sym, ap, ap₂, ◌∙◌, ◌++◌, ◌∷◌, [], ◌<◌, ◌≤◌, length, take, arith}
 use Rattle.std.proofs.lemmas.List.{take_more, length-take-le}
 use Rattle.case_model.specs.CaseView.{content}
-use Rattle.case_model.specs.declared.draft_stages.Arrival.{Arrival}
-use Rattle.staged_levels.specs.declared.event.Settled.{Settled}
 use Rattle.report.specs.StagesReport.{looks_lines}
 use Rattle.report.proofs.StageLines.{put_line_more}
 use Rattle.report.proofs.stages.put_looks.Goals as goal

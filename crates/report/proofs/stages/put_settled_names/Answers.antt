@@ -1,6 +1,6 @@
 use Rattle.case_model.specs.CaseView.{content}
 use Rattle.report.specs.StagesReport.{name_if_settled}
-use Rattle.report.proofs.Lines.{put_more}
+use Rattle.report.proofs.ListedLines.{put_more}
 use Rattle.report.proofs.stages.put_settled_names.Goals as goal
 
 pub loop-j-preserved : goal.loop-j-preserved

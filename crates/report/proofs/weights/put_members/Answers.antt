@@ -1,7 +1,7 @@
 use Rattle.case_model.specs.CaseView.{content}
 use Rattle.closed_test.specs.WeightsView.{weight_at}
 use Rattle.report.specs.WeightsReport.{weight_if_member}
-use Rattle.report.proofs.Lines.{put_more}
+use Rattle.report.proofs.ListedLines.{put_more}
 use Rattle.report.proofs.weights.put_members.Goals as goal
 
 pub loop-k-preserved : goal.loop-k-preserved

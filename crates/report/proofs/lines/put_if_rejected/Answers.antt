@@ -1,7 +1,7 @@
 use Rattle.std.proofs.Common.{ap, sym, ◌∙◌, ◌++◌, true, false, append-nil}
 use Rattle.case_model.specs.CaseView.{content}
-use Rattle.report.proofs.Lines.{name_by}
-use Rattle.report.proofs.test.put_if_rejected.Goals as goal
+use Rattle.report.proofs.ListedLines.{name_by}
+use Rattle.report.proofs.lines.put_if_rejected.Goals as goal
 
 pub returns-then-not-is_rejected : goal.returns-then-not-is_rejected
 returns-then-not-is_rejected c =
@@ -11,4 +11,4 @@ returns-then-not-is_rejected c =
 pub returns : goal.returns
 returns c =
     let name = name_by (content c.args.case.now) c.args.steps.now c.args.j true (sym c.is_rejected.ensures ∙ c.if-not-is_rejected.false) in
-    rw name c.put_name.ensures
+    rw name c.put_name.ensures.put
