@@ -7,9 +7,9 @@ ghost use Rattle.case_json.specs.Faults.{IsNumberFault, IsEdgeFault, IsComponent
 
 use crate::JsonFault;
 use crate::hypotheses::Hypotheses;
-use crate::keys::known_keys;
+use crate::keys::{field, known_keys};
 use crate::numbers::{number, numbers_at};
-use crate::parts::{at_key, items};
+use crate::parts::items;
 use crate::weights::weight_at;
 use case_model::{DraftComponent, DraftEdge};
 use field_core::{List, Number};
@@ -50,7 +50,10 @@ fn edges_at(
     ensures found { IfOk result (Has (AreItems (IsEdge hypotheses.now.names)) (codes "edges") (view value.now)) }
     ensures fault { IfErr result (OrMemory (IsBadAt (AreItemsFault (IsEdge hypotheses.now.names) (IsEdgeFault hypotheses.now.names)) (codes "edges") (view value.now))) }
 {
-    at_key(alloc, value, "edges", |part| edges(alloc, hypotheses, part))
+    match edges(alloc, hypotheses, field(alloc, value, "edges")?) {
+        Ok(edges) => Ok(edges),
+        Err(fault) => Err(fault.under(alloc, b"edges")),
+    }
 }
 
 /// The share of a component, 1 where it lacks the key.
@@ -108,10 +111,8 @@ pub fn components_at(
     ensures found { IfOk result (Has (AreItems (IsComponent hypotheses.now.names)) (codes "components") (view value.now)) }
     ensures fault { IfErr result (OrMemory (IsBadAt (AreItemsFault (IsComponent hypotheses.now.names) (IsComponentFault hypotheses.now.names)) (codes "components") (view value.now))) }
 {
-    at_key(
-        alloc,
-        value,
-        "components",
-        |part| components(alloc, hypotheses, part),
-    )
+    match components(alloc, hypotheses, field(alloc, value, "components")?) {
+        Ok(components) => Ok(components),
+        Err(fault) => Err(fault.under(alloc, b"components")),
+    }
 }

@@ -8,7 +8,8 @@ ghost use Rattle.case_json.specs.Document.{IsText, IsHypothesis};
 ghost use Rattle.case_json.specs.Faults.{IsTextFault, IsHypothesisFault};
 
 use crate::JsonFault;
-use crate::parts::{at_key, items};
+use crate::keys::field;
+use crate::parts::items;
 use case_model::NameIndex;
 use field_core::{List, NoMemory, Text};
 use serde_json::Value;
@@ -38,7 +39,10 @@ pub fn texts_at(alloc: Global, value: &Value, key: &str) -> Result<List<Text>, J
     ensures found { IfOk result (Has (AreItems IsText) key.now (view value.now)) }
     ensures fault { IfErr result (OrMemory (IsBadAt (AreItemsFault IsText IsTextFault) key.now (view value.now))) }
 {
-    at_key(alloc, value, key, |part| texts(alloc, part))
+    match texts(alloc, field(alloc, value, key)?) {
+        Ok(texts) => Ok(texts),
+        Err(fault) => Err(fault.under(alloc, key.as_bytes())),
+    }
 }
 
 /// The names of hypotheses, and the position of each.
@@ -91,6 +95,9 @@ impl Hypotheses {
         ensures found { IfOk result (Has (IsHypothesis self.now.names) key.now (view value.now)) }
         ensures fault { IfErr result (OrMemory (IsBadAt (IsHypothesisFault self.now.names) key.now (view value.now))) }
     {
-        at_key(alloc, value, key, |part| self.position(alloc, part))
+        match self.position(alloc, field(alloc, value, key)?) {
+            Ok(position) => Ok(position),
+            Err(fault) => Err(fault.under(alloc, key.as_bytes())),
+        }
     }
 }

@@ -11,7 +11,8 @@ ghost use Rattle.case_json.specs.Faults.{IsNumberFault, IsPlaceFault, IsCountFau
 ghost use Rattle.case_json.specs.declared.fault.JsonFault.TheVariants.{Number as refused};
 
 use crate::JsonFault;
-use crate::parts::{at_key, items};
+use crate::keys::field;
+use crate::parts::items;
 use field_core::{List, Ratio, Text};
 use fraction::Fraction;
 use serde_json::Value;
@@ -70,7 +71,10 @@ pub fn number_at(alloc: Global, value: &Value, key: &str) -> Result<Fraction, Js
     ensures found { IfOk result (Has IsNumber key.now (view value.now)) }
     ensures fault { IfErr result (OrMemory (IsBadAt IsNumberFault key.now (view value.now))) }
 {
-    at_key(alloc, value, key, |part| number(alloc, part))
+    match number(alloc, field(alloc, value, key)?) {
+        Ok(number) => Ok(number),
+        Err(fault) => Err(fault.under(alloc, key.as_bytes())),
+    }
 }
 
 /// The numbers that an array says.
@@ -86,7 +90,10 @@ pub fn numbers_at(alloc: Global, value: &Value, key: &str) -> Result<List<Fracti
     ensures found { IfOk result (Has (AreItems IsNumber) key.now (view value.now)) }
     ensures fault { IfErr result (OrMemory (IsBadAt (AreItemsFault IsNumber IsNumberFault) key.now (view value.now))) }
 {
-    at_key(alloc, value, key, |part| numbers(alloc, part))
+    match numbers(alloc, field(alloc, value, key)?) {
+        Ok(numbers) => Ok(numbers),
+        Err(fault) => Err(fault.under(alloc, key.as_bytes())),
+    }
 }
 
 /// A place of a p-value.
@@ -144,5 +151,8 @@ pub fn count_at(alloc: Global, value: &Value, key: &str) -> Result<u64, JsonFaul
     ensures found { IfOk result (Has IsCount key.now (view value.now)) }
     ensures fault { IfErr result (OrMemory (IsBadAt IsCountFault key.now (view value.now))) }
 {
-    at_key(alloc, value, key, |part| count(alloc, part))
+    match count(alloc, field(alloc, value, key)?) {
+        Ok(count) => Ok(count),
+        Err(fault) => Err(fault.under(alloc, key.as_bytes())),
+    }
 }

@@ -1,12 +1,11 @@
-//! The items of arrays and the values at keys, each by a reader of such a value.
+//! The items of arrays, each by a reader of such a value.
 ghost use Rattle.std.specs.Prelude.{IfOk, IfErr};
 ghost use Rattle.std.specs.List.{AllZip};
 ghost use Rattle.serde_json.specs.View.{view, items_view};
-ghost use Rattle.case_json.specs.Values.{OrMemory, Has, IsBadAt, item_list, IsBadItem, AreItems, AreItemsFault};
+ghost use Rattle.case_json.specs.Values.{OrMemory, item_list, IsBadItem, AreItems, AreItemsFault};
 ghost use Rattle.case_json.specs.Readers.{Reads, Refuses};
 
 use crate::JsonFault;
-use crate::keys::field;
 use field_core::List;
 use serde_json::Value;
 use std::alloc::Global;
@@ -44,22 +43,5 @@ pub fn items<T: Drop, F: Fn(&Value) -> Result<T, JsonFault>>(
     match value {
         Value::Array(values) => each_item(alloc, values.as_slice(), read),
         _ => Err(JsonFault::wrong_kind(alloc)),
-    }
-}
-
-/// What a reader gives for the value at a key.
-pub fn at_key<T: Drop, F: Fn(&Value) -> Result<T, JsonFault>>(
-    alloc: Global,
-    value: &Value,
-    key: &str,
-    read: F,
-) -> Result<T, JsonFault>
-    requires { F.IsAlwaysCallable read }
-    ensures found { IfOk result (Has (Reads F.Fn read) key.now (view value.now)) }
-    ensures fault { IfErr result (OrMemory (IsBadAt (Refuses F.Fn read) key.now (view value.now))) }
-{
-    match read(field(alloc, value, key)?) {
-        Ok(said) => Ok(said),
-        Err(fault) => Err(fault.under(alloc, key.as_bytes())),
     }
 }

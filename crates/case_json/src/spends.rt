@@ -6,9 +6,9 @@ ghost use Rattle.case_json.specs.Document.{IsStep, IsTable, IsSpend};
 ghost use Rattle.case_json.specs.Faults.{IsStepFault, IsTableFault, IsSpendFault};
 
 use crate::JsonFault;
-use crate::keys::known_keys;
+use crate::keys::{field, known_keys};
 use crate::numbers::{number_at, numbers, numbers_at};
-use crate::parts::{at_key, items};
+use crate::parts::items;
 use case_model::{Spend, SpendStep};
 use field_core::List;
 use serde_json::Value;
@@ -38,7 +38,10 @@ fn steps_at(alloc: Global, value: &Value) -> Result<List<SpendStep>, JsonFault>
     ensures found { IfOk result (Has (AreItems IsStep) (codes "steps") (view value.now)) }
     ensures fault { IfErr result (OrMemory (IsBadAt (AreItemsFault IsStep IsStepFault) (codes "steps") (view value.now))) }
 {
-    at_key(alloc, value, "steps", |part| steps(alloc, part))
+    match steps(alloc, field(alloc, value, "steps")?) {
+        Ok(steps) => Ok(steps),
+        Err(fault) => Err(fault.under(alloc, b"steps")),
+    }
 }
 
 /// The steps of a table, an object of one key.
@@ -75,5 +78,8 @@ pub fn spends_at(alloc: Global, value: &Value) -> Result<List<Spend>, JsonFault>
     ensures found { IfOk result (Has (AreItems IsSpend) (codes "spend") (view value.now)) }
     ensures fault { IfErr result (OrMemory (IsBadAt (AreItemsFault IsSpend IsSpendFault) (codes "spend") (view value.now))) }
 {
-    at_key(alloc, value, "spend", |part| spends(alloc, part))
+    match spends(alloc, field(alloc, value, "spend")?) {
+        Ok(spends) => Ok(spends),
+        Err(fault) => Err(fault.under(alloc, b"spend")),
+    }
 }

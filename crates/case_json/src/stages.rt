@@ -7,9 +7,9 @@ ghost use Rattle.case_json.specs.Faults.{IsArrivalFault, AreStagesFault};
 
 use crate::JsonFault;
 use crate::hypotheses::Hypotheses;
-use crate::keys::known_keys;
+use crate::keys::{field, known_keys};
 use crate::numbers::{count_at, number_at};
-use crate::parts::{at_key, items};
+use crate::parts::items;
 use crate::spends::spends_at;
 use case_model::{Arrival, DraftStages};
 use field_core::List;
@@ -53,12 +53,10 @@ fn arrivals_at(
     ensures found { IfOk result (Has (AreItems (IsArrival hypotheses.now.names)) (codes "arrivals") (view value.now)) }
     ensures fault { IfErr result (OrMemory (IsBadAt (AreItemsFault (IsArrival hypotheses.now.names) (IsArrivalFault hypotheses.now.names)) (codes "arrivals") (view value.now))) }
 {
-    at_key(
-        alloc,
-        value,
-        "arrivals",
-        |part| arrivals(alloc, hypotheses, part),
-    )
+    match arrivals(alloc, hypotheses, field(alloc, value, "arrivals")?) {
+        Ok(arrivals) => Ok(arrivals),
+        Err(fault) => Err(fault.under(alloc, b"arrivals")),
+    }
 }
 
 /// Stages of the hypotheses.

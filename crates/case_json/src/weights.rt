@@ -10,8 +10,8 @@ ghost use Rattle.case_json.specs.Faults.{IsWeightFault};
 ghost use Rattle.case_json.specs.declared.fault.JsonFault.TheVariants.{Expr as expr};
 
 use crate::JsonFault;
+use crate::keys::field;
 use crate::numbers::{integer, whole};
-use crate::parts::at_key;
 use case_model::Entry;
 use edge_expression::{ExprFault, read_entry};
 use field_core::{Number, Text};
@@ -70,5 +70,8 @@ pub fn weight_at(alloc: Global, value: &Value, key: &str) -> Result<Entry, JsonF
     ensures found { IfOk result (Has IsWeight key.now (view value.now)) }
     ensures fault { IfErr result (OrMemory (IsBadAt IsWeightFault key.now (view value.now))) }
 {
-    at_key(alloc, value, key, |part| weight(alloc, part))
+    match weight(alloc, field(alloc, value, key)?) {
+        Ok(weight) => Ok(weight),
+        Err(fault) => Err(fault.under(alloc, key.as_bytes())),
+    }
 }
