@@ -18,39 +18,47 @@ use Rattle.command_words.specs.declared.verb.Verb.TheVariants as verbs
 use Rattle.sequential.specs.declared.priority.Priority.{Priority}
 use Rattle.sequential.specs.declared.priority.Priority.TheVariants.{First}
 
--- The values that were given, the numbers, from 1, of the words with the names `alpha` and `second`, or 0 where they aren't given, and the places, from 0, of the word that names a file and of the first word of the option `store`.
+-- The values that were given, beside those of `alpha` and `second` the numbers, from 1, of the words with these names, and the
+-- places, from 0, of the word that names a file and of the first word of the option `store`.
 pub record GivenContent : Type 0 where
   pub form : Option Form
-  pub alpha : Option Level
-  pub alpha_word : ℕ
+  pub alpha : Option (Level × ℕ)
   pub priority : Option Priority
   pub to : Option Form
   pub size : Option ℕ
   pub seed : Option ℕ
   pub graph : Option GraphName
-  pub second : Option ℕ
-  pub second_word : ℕ
+  pub second : Option (ℕ × ℕ)
   pub file : Option ℕ
   pub store : Option ℕ
 
 abbrev pub given_content : Given → GivenContent
 given_content g = record {
   form = g.form;
-  alpha = option_map level_of g.alpha;
-  alpha_word = g.alpha_word;
+  alpha = option_map (λ x. (level_of x.0, x.1)) g.alpha;
   priority = g.priority;
   to = g.to;
   size = g.size;
   seed = g.seed;
   graph = g.graph;
   second = g.second;
-  second_word = g.second_word;
   file = g.file;
   store = g.store;
 }
 
 abbrev pub nothing : GivenContent
-nothing = record { form = None; alpha = None; alpha_word = 0; priority = None; to = None; size = None; seed = None; graph = None; second = None; second_word = 0; file = None; store = None }
+nothing = record {
+  form = None;
+  alpha = None;
+  priority = None;
+  to = None;
+  size = None;
+  seed = None;
+  graph = None;
+  second = None;
+  file = None;
+  store = None;
+}
 
 -- an argument was given
 abbrev pub is_given : GivenContent → Argument → Bool
@@ -68,18 +76,26 @@ is_given g arguments.Store = is_some g.store
 -- the same, and a value whose first word stands at a place, from 0
 abbrev pub with_value : ℕ → GivenContent → (argument : Argument) → Value argument → GivenContent
 with_value at g arguments.Form form = record g { form = Some form }
-with_value at g arguments.Alpha alpha = record g { alpha = Some alpha; alpha_word = at + 1 }
+with_value at g arguments.Alpha alpha = record g { alpha = Some (alpha, at + 1) }
 with_value at g arguments.Priority priority = record g { priority = Some priority }
 with_value at g arguments.To form = record g { to = Some form }
 with_value at g arguments.Size size = record g { size = Some size }
 with_value at g arguments.Seed seed = record g { seed = Some seed }
 with_value at g arguments.Graph graph = record g { graph = Some graph }
-with_value at g arguments.Second second = record g { second = Some second; second_word = at + 1 }
+with_value at g arguments.Second second = record g { second = Some (second, at + 1) }
 with_value at g arguments.File named = record g { file = Some at }
 with_value at g arguments.Store named = record g { store = Some at }
 
 abbrev pub with_chosen : ℕ → GivenContent → Chosen → GivenContent
 with_chosen at g choice = with_value at g choice.argument choice.value
+
+-- a value, without the number of its word
+abbrev pub value_of : {A : Type 0} → Option (A × ℕ) → Option A
+value_of given = option_map (λ x. x.0) given
+
+-- the number of the word of a value
+abbrev pub word_of : {A : Type 0} → Option (A × ℕ) → Option ℕ
+word_of given = option_map (λ x. x.1) given
 
 -- ---- how a case is written
 
@@ -95,7 +111,7 @@ written_as forms.Csv alpha = option_map csv alpha
 written_as forms.Json alpha = Some json
 
 unfoldable pub written_of : GivenContent → Option Written
-written_of g = written_as (form_or_text g.form) g.alpha
+written_of g = written_as (form_or_text g.form) (value_of g.alpha)
 
 -- ---- what a command asks for
 
@@ -114,7 +130,7 @@ catalogue_by (Some graph) None second = None
 catalogue_by None size second = None
 
 unfoldable pub catalogue_of : GivenContent → Option Asked
-catalogue_of g = catalogue_by g.graph g.size g.second
+catalogue_of g = catalogue_by g.graph g.size (value_of g.second)
 
 -- a check needs its file, and how its case is written
 abbrev pub check_by : Option Written → Option ℕ → Option Asked
@@ -161,25 +177,25 @@ asked_of verbs.Help g = Some help
 -- ---- what the others forbid
 
 -- a level is given, and no sheet
-abbrev pub forbidden_alpha : Form → Option Level → ℕ → Option ℕ
-forbidden_alpha forms.Csv alpha word = None
-forbidden_alpha forms.Text alpha word = option_map (λ x. word) alpha
-forbidden_alpha forms.Json alpha word = option_map (λ x. word) alpha
+abbrev pub forbidden_alpha : Form → Option ℕ → Option ℕ
+forbidden_alpha forms.Csv word = None
+forbidden_alpha forms.Text word = word
+forbidden_alpha forms.Json word = word
 
 unfoldable pub alpha_forbidden : GivenContent → Option ℕ
-alpha_forbidden g = forbidden_alpha (form_or_text g.form) g.alpha g.alpha_word
+alpha_forbidden g = forbidden_alpha (form_or_text g.form) (word_of g.alpha)
 
 -- a second size is given, and the graph has none
-abbrev pub forbidden_if : Bool → Option ℕ → ℕ → Option ℕ
-forbidden_if true second word = None
-forbidden_if false second word = option_map (λ x. word) second
+abbrev pub forbidden_if : Bool → Option ℕ → Option ℕ
+forbidden_if true word = None
+forbidden_if false word = word
 
-abbrev pub forbidden_second : Option GraphName → Option ℕ → ℕ → Option ℕ
-forbidden_second None second word = None
-forbidden_second (Some graph) second word = forbidden_if (has_second graph) second word
+abbrev pub forbidden_second : Option GraphName → Option ℕ → Option ℕ
+forbidden_second None word = None
+forbidden_second (Some graph) word = forbidden_if (has_second graph) word
 
 unfoldable pub second_forbidden : GivenContent → Option ℕ
-second_forbidden g = forbidden_second g.graph g.second g.second_word
+second_forbidden g = forbidden_second g.graph (word_of g.second)
 
 -- the first of two words, where there is one
 abbrev pub first_word : Option ℕ → Option ℕ → Option ℕ

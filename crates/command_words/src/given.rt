@@ -9,20 +9,18 @@ use crate::verb::Verb;
 use fraction::Fraction;
 use sequential::Priority;
 
-/// The values that were given so far, the numbers, from 1, of the words with the names `alpha` and `second`, or 0 where they
-/// aren't given, and the places, from 0, of the word that names a file and of the first word of the option `store`.
+/// The values that were given so far, beside those of `alpha` and `second` the numbers, from 1, of the words with these names, and
+/// the places, from 0, of the word that names a file and of the first word of the option `store`.
 #[derive(Clone, Copy)]
 pub(crate) struct Given {
     form: Option<Form>,
-    alpha: Option<Fraction>,
-    alpha_word: usize,
+    alpha: Option<(Fraction, usize)>,
     priority: Option<Priority>,
     to: Option<Form>,
     size: Option<u64>,
     seed: Option<u64>,
     graph: Option<GraphName>,
-    second: Option<u64>,
-    second_word: usize,
+    second: Option<(u64, usize)>,
     file: Option<usize>,
     store: Option<usize>,
 }
@@ -34,20 +32,19 @@ impl Given {
     ghost use Rattle.command_words.specs.Choices.{chosen};
     ghost use Rattle.command_words.specs.Given.{given_content, is_given, nothing, with_chosen, written_of, on_case, check_of, catalogue_of, sample_of, study_of, asked_of, alpha_forbidden, second_forbidden, forbidden_word};
 
+    /// Nothing given.
     pub(crate) fn new() -> Given
         ensures { given_content result ≡ nothing }
     {
         Given {
             form: None,
             alpha: None,
-            alpha_word: 0,
             priority: None,
             to: None,
             size: None,
             seed: None,
             graph: None,
             second: None,
-            second_word: 0,
             file: None,
             store: None,
         }
@@ -79,19 +76,13 @@ impl Given {
         let mut given = *self;
         match choice {
             Choice::Form(form) => given.form = Some(form),
-            Choice::Alpha(alpha) => {
-                given.alpha = Some(alpha);
-                given.alpha_word = at + 1;
-            }
+            Choice::Alpha(alpha) => given.alpha = Some((alpha, at + 1)),
             Choice::Priority(priority) => given.priority = Some(priority),
             Choice::To(form) => given.to = Some(form),
             Choice::Size(size) => given.size = Some(size),
             Choice::Seed(seed) => given.seed = Some(seed),
             Choice::Graph(graph) => given.graph = Some(graph),
-            Choice::Second(second) => {
-                given.second = Some(second);
-                given.second_word = at + 1;
-            }
+            Choice::Second(second) => given.second = Some((second, at + 1)),
             Choice::File => given.file = Some(at),
             Choice::Store => given.store = Some(at),
         }
@@ -105,7 +96,7 @@ impl Given {
     {
         match self.form {
             None | Some(Form::Text) => Some(CaseForm::Text),
-            Some(Form::Csv) => self.alpha.map(CaseForm::Csv),
+            Some(Form::Csv) => self.alpha.map(|(alpha, _)| CaseForm::Csv(alpha)),
             Some(Form::Json) => Some(CaseForm::Json),
         }
     }
@@ -126,7 +117,8 @@ impl Given {
     {
         let graph = self.graph?;
         let size = self.size?;
-        graph.sized(size, self.second).map(Command::Catalogue)
+        let second = self.second.map(|(second, _)| second);
+        graph.sized(size, second).map(Command::Catalogue)
     }
 
     /// A check; `None` where something is missing.
@@ -191,7 +183,7 @@ impl Given {
     {
         match (self.form, self.alpha) {
             (Some(Form::Csv), _) | (_, None) => None,
-            (_, Some(_)) => Some(self.alpha_word),
+            (_, Some((_, word))) => Some(word),
         }
     }
 
@@ -204,8 +196,8 @@ impl Given {
         if graph.has_second() {
             return None;
         }
-        self.second?;
-        Some(self.second_word)
+        let (_, word) = self.second?;
+        Some(word)
     }
 
     /// The number, from 1, of the word with the name of an option that the others forbid. No command takes both.

@@ -1,6 +1,6 @@
 -- What is printed of a case that is accepted names exactly what the closed test rejects.
 use Rattle.std.proofs.Common.{◌≡◌, refl, sym, ap, subst, ◌∙◌, ℕ, ◌==◌, true, List, [], ◌∷◌, Some, None, inl, inr, arith}
-use Rattle.std.specs.Prelude.{Option}
+use Rattle.std.specs.Prelude.{◌↔◌, Option}
 use Rattle.std.proofs.lemmas.Bool.Decides.{nat_tests}
 use Rattle.std.specs.List.{list_any}
 use Rattle.field_core.specs.Sets.{set_of}
@@ -11,7 +11,7 @@ use Rattle.answers.specs.declared.status.Status.{Status}
 use Rattle.answers.specs.declared.status.Status.TheVariants.{Done, Refused}
 use Rattle.case_model.specs.CaseFaults.{case_fault}
 use Rattle.case_model.specs.Draft.{have_known_arrivals}
-use Rattle.case_model.specs.Content.{Content, content_of}
+use Rattle.case_model.specs.Content.{Content, content_of, IsRejectedIn}
 use Rattle.case_model.specs.declared.draft.Draft.{Draft}
 use Rattle.case_model.specs.Validity.{IsValidContent}
 use Rattle.edge_text.proofs.Texts.{document_arrivals}
@@ -57,6 +57,13 @@ faultless_content d f known = ∣ (record { draft = d; content_is = refl; faultl
 pub not_done : (s : Status) (cause : Cause) → s ≡ Refused cause → s ≡ Done → ⊥
 not_done s cause e f = cc
 
+-- the line `rejected` of a decision on a case names exactly the hypotheses that the closed test rejects
+pub names_rejected : (c : Content) (priority : Priority) (d : Decision) → IsValidContent c → IsDecision c priority d → (j : ℕ)
+    → (is_rejected d.steps j ≡ true) ↔ IsRejectedIn c j
+names_rejected c priority d v h j =
+    let r = decision_decides c priority d v j h in
+    (λ (x : is_rejected d.steps j ≡ true). r.0 (sym (named_listed d.steps j) ∙ x), λ x. named_listed d.steps j ∙ r.1 x)
+
 reported : (c : Content) (priority : Priority) (d : Decision) (xs : List Adjusted) (printed : List ℕ) → IsValidContent c → IsDecision c priority d
     → AreAdjusted c xs → printed ≡ test_report c d xs
     → ReportsClosedTest c printed
@@ -64,8 +71,7 @@ reported c priority d xs printed v h k e = record {
   decision = d;
   adjusted = xs;
   text_is = e;
-  named = λ j. let r = decision_decides c priority d v j h in
-      (λ (x : is_rejected d.steps j ≡ true). r.0 (sym (named_listed d.steps j) ∙ x), λ x. named_listed d.steps j ∙ r.1 x);
+  named = names_rejected c priority d v h;
   values = k;
 }
 

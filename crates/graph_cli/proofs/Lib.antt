@@ -11,9 +11,11 @@ pub mod JsonRefused
 pub mod MadeAnswers
 pub mod OneAnswer
 pub mod SampleAnswers
+pub mod SampledReports
 pub mod SetAnswers
 pub mod SimesCalls
 pub mod SourcesRead
 pub mod StagedReports
 pub mod StagesAnswers
+pub mod Taken
 pub mod TestAnswers

@@ -1,7 +1,9 @@
 -- The stages that commands have in common: a case is read, and is one that the command can take.
-use Rattle.std.specs.Prelude.{◌≡◌, ◌⊎◌, ◌<◌, ◌≤◌, ℕ, List, [], Some, None, Option, length}
+use Rattle.std.specs.Prelude.{◌≡◌, ◌⊎◌, ◌+◌, ◌<◌, ◌≤◌, ℕ, List, [], Some, None, Option, length}
+use Rattle.std.specs.Io.KnownBytes.{IsAtEnd}
+use Rattle.graph_io.specs.Reading.{TookAtMost}
 use Rattle.answers.specs.declared.refusal.Refusal.{Refusal}
-use Rattle.answers.specs.Stages.{Stage, and_then, on_bytes, within}
+use Rattle.answers.specs.Stages.{Stage, and_then, on_bytes, within, most_bytes}
 use Rattle.case_model.specs.declared.fault.CaseFault.{CaseFault}
 use Rattle.case_model.specs.CaseFaults.{case_fault}
 use Rattle.case_model.specs.declared.inputs.Inputs.{Inputs}
@@ -29,6 +31,10 @@ use Rattle.refusals.specs.TextRefusal.{line_refusal}
 use Rattle.graph_cli.specs.declared.kind.InputKind.{InputKind}
 use Rattle.graph_cli.specs.declared.kind.InputKind.TheVariants.{Any, Single, Staged, Awaited}
 use Rattle.graph_cli.specs.declared.needs.Needs.{Needs}
+
+-- An input is at its end, or at most one byte more than an input may have was taken of it.
+pub record IsTakenWithin (old new : Option (List ℕ)) : Type 0 where
+  pub taken : IsAtEnd new ⊎ TookAtMost old new (most_bytes + 1)
 
 -- the bytes are the JSON of no value
 abbrev pub IsNoJson : List ℕ → Type 0

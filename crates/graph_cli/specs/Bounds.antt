@@ -16,7 +16,8 @@ use Rattle.graph_cli.specs.Sets.{IsWideSet}
 
 -- of each set this is its size less the greatest size of a subset that the closed test, at the level of the case, doesn't reject
 abbrev pub AreClosedBounds : Content → (ℕ → ℕ) → Type 0
-AreClosedBounds c bound = ForSingle c.inputs (λ ps. (n : ℕ) → n < 2 ^ length c.names → IsBound (length c.names) (IsClosedRejected (entangled c) (number_at ps) (number_of c.alpha)) (members n) (bound n))
+AreClosedBounds c bound = ForSingle c.inputs (λ ps. (n : ℕ) → n < 2 ^ length c.names
+    → IsBound (length c.names) (IsClosedRejected (entangled c) (number_at ps) (number_of c.alpha)) (members n) (bound n))
 
 -- the report of the bounds of all sets of a case
 abbrev pub ReportsBounds : Content → List ℕ → Type 0

@@ -48,7 +48,8 @@ evidence_in c bytes = record {
 abbrev pub checked : Content → Said → Stage Refusal Verdict
 checked c said = record {
   Gives = λ verdict. verdict_of (case_check c said.steps said.keeps) ≡ Ok verdict;
-  Refuses = λ r. (wide : CheckWide) × (verdict_of (case_check c said.steps said.keeps) ≡ Err wide) × (r ≡ wide_refusal c.names (Check (part_at (listed_in said) (kept_in said) wide.step)) wide.at);
+  Refuses = λ r. (wide : CheckWide) × (verdict_of (case_check c said.steps said.keeps) ≡ Err wide)
+      × (r ≡ wide_refusal c.names (Check (part_at (listed_in said) (kept_in said) wide.step)) wide.at);
 }
 
 -- what is answered to a verdict: to a no, the first broken condition, with a status of its own

@@ -46,9 +46,11 @@ text_said c said = text_of (evidence_lines (case_frame (numbers_of c) c) said.ve
 abbrev pub confirmed : Content → Said → Stage Refusal (List ℕ)
 confirmed c said = record {
   Gives = λ text. (verdict_of (case_check c said.steps said.keeps) ≡ Ok Yes) × (text ≡ text_said c said);
-  Refuses = λ r. (wide : CheckWide) × (verdict_of (case_check c said.steps said.keeps) ≡ Err wide) × (r ≡ wide_refusal c.names (Check (part_at (listed_in said) (kept_in said) wide.step)) wide.at);
+  Refuses = λ r. (wide : CheckWide) × (verdict_of (case_check c said.steps said.keeps) ≡ Err wide)
+      × (r ≡ wide_refusal c.names (Check (part_at (listed_in said) (kept_in said) wide.step)) wide.at);
 }
 
 -- the decision, then the flow run along its steps, and the check of the evidence that it gives
 unfoldable pub evidence_stage : Priority → Content → Stage Refusal Answer
-evidence_stage priority c = and_then (decided priority c) (λ decision. and_then (flown c decision) (λ said. and_then (confirmed c said) (λ text. only (done text))))
+evidence_stage priority c =
+    and_then (decided priority c) (λ decision. and_then (flown c decision) (λ said. and_then (confirmed c said) (λ text. only (done text))))

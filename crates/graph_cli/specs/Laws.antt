@@ -7,10 +7,12 @@ use Rattle.case_model.specs.CaseFaults.{case_fault}
 use Rattle.case_model.specs.Content.{Content, content_of, IsRejectedIn}
 use Rattle.case_model.specs.declared.draft.Draft.{Draft}
 use Rattle.case_model.specs.LegalOrder.{IsListed}
-use Rattle.command_words.specs.Asked.{Written, on_case, check}
+use Rattle.catalogue.specs.Makings.{sample_case}
+use Rattle.command_words.specs.Asked.{Written, on_case, check, sample}
 use Rattle.command_words.specs.declared.command.CaseTask.TheVariants.{Test, Stages, Evidence as EvidenceTask}
 use Rattle.case_model.specs.StagedCase.{IsStagedRejectedIn}
 use Rattle.report.specs.StagesReport.{is_settled, stages_report}
+use Rattle.report.specs.SampleReport.{sample_report}
 use Rattle.report.specs.TestReport.{is_rejected, test_report}
 use Rattle.report.specs.CheckReport.{check_report}
 use Rattle.staged_levels.specs.declared.event.Settled.{Settled}
@@ -29,9 +31,11 @@ use Rattle.graph_cli.specs.Outcome.{AskFor, outcome}
 
 -- words, the bytes of a case and those of a proof have at most one answer
 abbrev pub HasOneAnswer : Type 0
-HasOneAnswer = (words : List (List ℕ)) (case proof : List ℕ) (a b : Answer) → IsAnswerOf (outcome words (Some case) (Some proof)) a → IsAnswerOf (outcome words (Some case) (Some proof)) b → a ≡ b
+HasOneAnswer = (words : List (List ℕ)) (case proof : List ℕ) (a b : Answer) → IsAnswerOf (outcome words (Some case) (Some proof)) a
+    → IsAnswerOf (outcome words (Some case) (Some proof)) b → a ≡ b
 
--- the text is the report of a decision, whose line `rejected` names exactly the hypotheses that the closed test rejects, and of the adjusted values, the least levels at which it rejects them
+-- the text is the report of a decision, whose line `rejected` names exactly the hypotheses that the closed test rejects, and of
+-- the adjusted values, the least levels at which it rejects them
 pub record ReportsClosedTest (c : Content) (text : List ℕ) : Type 0 where
   pub decision : Decision
   pub adjusted : List Adjusted
@@ -39,7 +43,15 @@ pub record ReportsClosedTest (c : Content) (text : List ℕ) : Type 0 where
   pub named : (j : ℕ) → (is_rejected decision.steps j ≡ true) ↔ IsRejectedIn c j
   pub values : AreAdjusted c adjusted
 
--- the text is the report of the looks at a case, whose line `rejected` names exactly the hypotheses that the staged closed test rejects on the p-values that arrived
+-- the text is the report of the case of a sample and of a decision, whose line `rejected` names exactly the hypotheses that the
+-- closed test rejects
+pub record ReportsSample (c : Content) (seed : ℕ) (text : List ℕ) : Type 0 where
+  pub decision : Decision
+  pub text_is : text ≡ sample_report c seed decision
+  pub named : (j : ℕ) → (is_rejected decision.steps j ≡ true) ↔ IsRejectedIn c j
+
+-- the text is the report of the looks at a case, whose line `rejected` names exactly the hypotheses that the staged closed test
+-- rejects on the p-values that arrived
 pub record ReportsStagedTest (c : Content) (text : List ℕ) : Type 0 where
   pub looks : List (List Settled)
   pub text_is : text ≡ stages_report c looks
@@ -54,11 +66,21 @@ pub record ReportsCase (Reports : Content → List ℕ → Type 0) (form : Writt
 
 -- what words that ask for `test` are answered with status 0, by any priority, reports the closed test on the case
 abbrev pub ReportsAreOfTheClosedTest : Type 0
-ReportsAreOfTheClosedTest = (words : List (List ℕ)) (form : Written) (priority : Priority) (case : List ℕ) (proof : Option (List ℕ)) (a : Answer) → AskFor words (on_case form (Test priority)) → IsAnswerOf (outcome words (Some case) proof) a → a.status ≡ Done → ReportsCase ReportsClosedTest form case a.text
+ReportsAreOfTheClosedTest = (words : List (List ℕ)) (form : Written) (priority : Priority) (case : List ℕ) (proof : Option (List ℕ)) (a : Answer)
+    → AskFor words (on_case form (Test priority)) → IsAnswerOf (outcome words (Some case) proof) a → a.status ≡ Done
+    → ReportsCase ReportsClosedTest form case a.text
+
+-- what words that ask for `sample` are answered with status 0 reports the closed test on the sampled case
+abbrev pub SamplesAreOfTheClosedTest : Type 0
+SamplesAreOfTheClosedTest = (words : List (List ℕ)) (size seed : ℕ) (case proof : Option (List ℕ)) (a : Answer)
+    → AskFor words (sample size seed) → IsAnswerOf (outcome words case proof) a → a.status ≡ Done
+    → (c : Content) × (sample_case size seed ≡ Ok c) × ReportsSample c seed a.text
 
 -- what words that ask for `stages` are answered with status 0 reports the staged closed test on the case
 abbrev pub ReportsAreOfTheStagedTest : Type 0
-ReportsAreOfTheStagedTest = (words : List (List ℕ)) (form : Written) (case : List ℕ) (proof : Option (List ℕ)) (a : Answer) → AskFor words (on_case form Stages) → IsAnswerOf (outcome words (Some case) proof) a → a.status ≡ Done → ReportsCase ReportsStagedTest form case a.text
+ReportsAreOfTheStagedTest = (words : List (List ℕ)) (form : Written) (case : List ℕ) (proof : Option (List ℕ)) (a : Answer)
+    → AskFor words (on_case form Stages) → IsAnswerOf (outcome words (Some case) proof) a → a.status ≡ Done
+    → ReportsCase ReportsStagedTest form case a.text
 
 -- The text is that of evidence of version 2 for a case, which `check` says yes to; its steps list exactly the hypotheses that the closed test rejects.
 pub record PrintsEvidence (c : Content) (text : List ℕ) : Type 0 where
@@ -71,9 +93,12 @@ pub record PrintsEvidence (c : Content) (text : List ℕ) : Type 0 where
 
 -- what words that ask for `evidence` are answered with status 0, by any priority, is such evidence of the case
 abbrev pub EvidenceIsOfTheClosedTest : Type 0
-EvidenceIsOfTheClosedTest = (words : List (List ℕ)) (form : Written) (priority : Priority) (case : List ℕ) (proof : Option (List ℕ)) (a : Answer) → AskFor words (on_case form (EvidenceTask priority)) → IsAnswerOf (outcome words (Some case) proof) a → a.status ≡ Done → ReportsCase PrintsEvidence form case a.text
+EvidenceIsOfTheClosedTest = (words : List (List ℕ)) (form : Written) (priority : Priority) (case : List ℕ) (proof : Option (List ℕ)) (a : Answer)
+    → AskFor words (on_case form (EvidenceTask priority)) → IsAnswerOf (outcome words (Some case) proof) a → a.status ≡ Done
+    → ReportsCase PrintsEvidence form case a.text
 
--- The text is the report of the evidence for a case that a proof says, to which the check says yes; its steps list only hypotheses that the closed test rejects, and in version 2 all of them.
+-- The text is the report of the evidence for a case that a proof says, to which the check says yes; its steps list only
+-- hypotheses that the closed test rejects, and in version 2 all of them.
 pub record ReportsEvidence (c : Content) (proof text : List ℕ) : Type 0 where
   pub evidence : Evidence
   pub fits : IsEvidenceFor c evidence
@@ -85,4 +110,6 @@ pub record ReportsEvidence (c : Content) (proof text : List ℕ) : Type 0 where
 
 -- what words that ask for `check` are answered with status 0 lists only hypotheses that the closed test rejects, and in version 2 all of them
 abbrev pub ChecksAreOfTheClosedTest : Type 0
-ChecksAreOfTheClosedTest = (words : List (List ℕ)) (form : Written) (file : ℕ) (case proof : List ℕ) (a : Answer) → AskFor words (check form file) → IsAnswerOf (outcome words (Some case) (Some proof)) a → a.status ≡ Done → ReportsCase (λ c. ReportsEvidence c proof) form case a.text
+ChecksAreOfTheClosedTest = (words : List (List ℕ)) (form : Written) (file : ℕ) (case proof : List ℕ) (a : Answer)
+    → AskFor words (check form file) → IsAnswerOf (outcome words (Some case) (Some proof)) a → a.status ≡ Done
+    → ReportsCase (λ c. ReportsEvidence c proof) form case a.text

@@ -22,7 +22,8 @@ AskStudy words asked = (study_in words).Gives asked
 
 -- the word at this place, from 0, names the file of a proof, or that of the commands of a study
 abbrev pub NamesFile : List (List ℕ) → ℕ → Type 0
-NamesFile words place = ((command : Asked) × AskFor words command × (file_of command ≡ Some place)) ⊎ ((asked : StudyAsked) × AskStudy words asked × (asked.file ≡ place))
+NamesFile words place =
+    ((command : Asked) × AskFor words command × (file_of command ≡ Some place)) ⊎ ((asked : StudyAsked) × AskStudy words asked × (asked.file ≡ place))
 
 -- the words ask for a command that reads a case
 abbrev pub ReadsCase : List (List ℕ) → Type 0

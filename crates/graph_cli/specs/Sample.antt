@@ -12,4 +12,5 @@ use Rattle.graph_cli.specs.Test.{decided}
 
 -- the sample, the decision on it, and the report of both
 unfoldable pub sample_stage : ℕ → ℕ → Stage Refusal Answer
-sample_stage size seed = and_then (made_of size (sample_case size seed)) (λ c. and_then (decided First c) (λ decision. only (done (sample_report c seed decision))))
+sample_stage size seed =
+    and_then (made_of size (sample_case size seed)) (λ c. and_then (decided First c) (λ decision. only (done (sample_report c seed decision))))

@@ -25,7 +25,8 @@ use Rattle.graph_cli.specs.Sets.{IsWideSet}
 
 -- of each set this is its size less the greatest size of a subset that the closed test of Simes' test, at the level of the case, doesn't reject
 abbrev pub AreSimesBounds : Content → (ℕ → ℕ) → Type 0
-AreSimesBounds c bound = ForSingle c.inputs (λ ps. (n : ℕ) → n < 2 ^ length c.names → IsBound (length c.names) (IsSimesClosed (entangled c) (number_at ps) (number_of c.alpha)) (members n) (bound n))
+AreSimesBounds c bound = ForSingle c.inputs (λ ps. (n : ℕ) → n < 2 ^ length c.names
+    → IsBound (length c.names) (IsSimesClosed (entangled c) (number_at ps) (number_of c.alpha)) (members n) (bound n))
 
 -- all hypotheses of a case by ascending p-value, ties by position
 abbrev pub AreLeadersIn : Content → List ℕ → Type 0
@@ -43,7 +44,8 @@ pub record ReportsSimes (c : Content) (text : List ℕ) : Type 0 where
 
 -- a refusal names the first set, in the order of sets, with a sum of weights that isn't defined, and its first member whose sum isn't
 abbrev pub IsWideSimesSet : Content → Refusal → Type 0
-IsWideSimesSet c r = (weight : ℕ → ℕ → Ratio) × AreIntersectionWeights c weight × (n : ℕ) × (wide : WideAt) × IsSimesFault c weight (Wide n wide) × (r ≡ wide_refusal c.names (SimesSet n) wide)
+IsWideSimesSet c r = (weight : ℕ → ℕ → Ratio) × AreIntersectionWeights c weight × (n : ℕ) × (wide : WideAt)
+    × IsSimesFault c weight (Wide n wide) × (r ≡ wide_refusal c.names (SimesSet n) wide)
 
 -- the case, where the runs of all sets are defined; or the first set whose run isn't
 abbrev pub runs_of_sets : Content → Stage Refusal Content

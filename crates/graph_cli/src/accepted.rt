@@ -1,13 +1,12 @@
 //! The stages that commands have in common: a case is read, and is one that the command can take.
-ghost use Rattle.std.specs.Prelude.{IfOk, OnOk, IfErr};
+ghost use Rattle.std.specs.Prelude.{◌≡◌, IfOk, OnOk, IfErr};
 ghost use Rattle.std.specs.Io.KnownBytes.{IsAtEnd};
 ghost use Rattle.graph_io.specs.Causes.{Rose};
 ghost use Rattle.answers.specs.Halts.{HaltsBy, StopsBy, IfAnswered};
 ghost use Rattle.case_model.specs.CaseView.{content};
 ghost use Rattle.command_words.specs.Asked.{written, text, csv, json};
 ghost use Rattle.command_words.specs.Levels.{level_of};
-ghost use Rattle.graph_cli.specs.Accepted.{case_in, of_kind, of_size, suitable, accepted};
-ghost use Rattle.std.specs.Prelude.{◌≡◌};
+ghost use Rattle.graph_cli.specs.Accepted.{IsTakenWithin, case_in, of_kind, of_size, suitable, accepted};
 
 use crate::kind::InputKind;
 use crate::needs::Needs;
@@ -85,7 +84,7 @@ fn read_case(alloc: Global, form: &CaseForm, bytes: &[u8]) -> Result<Case, Halt>
 
 /// A case that has p-values of a kind.
 fn of_kind(alloc: Global, case: Case, kind: InputKind) -> Result<Case, Halt>
-    ensures given { IfOk result (λ result. (of_kind kind (content case)).Gives (content result)) }
+    ensures given { IfOk result (λ accepted. (of_kind kind (content case)).Gives (content accepted)) }
     ensures refused { IfErr result (HaltsBy (of_kind kind (content case)).Refuses) }
 {
     if kind.is_of(&case) {
@@ -97,7 +96,7 @@ fn of_kind(alloc: Global, case: Case, kind: InputKind) -> Result<Case, Halt>
 
 /// A case of at most so many hypotheses.
 fn of_size(alloc: Global, case: Case, most: usize) -> Result<Case, Halt>
-    ensures given { IfOk result (λ result. (of_size most (content case)).Gives (content result)) }
+    ensures given { IfOk result (λ accepted. (of_size most (content case)).Gives (content accepted)) }
     ensures refused { IfErr result (HaltsBy (of_size most (content case)).Refuses) }
 {
     if case.size() <= most {
@@ -109,14 +108,15 @@ fn of_size(alloc: Global, case: Case, most: usize) -> Result<Case, Halt>
 
 /// A case that a command with these needs can take.
 fn suitable(alloc: Global, case: Case, needs: Needs) -> Result<Case, Halt>
-    ensures given { IfOk result (λ result. (suitable needs (content case)).Gives (content result)) }
+    ensures given { IfOk result (λ accepted. (suitable needs (content case)).Gives (content accepted)) }
     ensures refused { IfErr result (HaltsBy (suitable needs (content case)).Refuses) }
 {
     let case = of_kind(alloc, case, needs.kind)?;
     of_size(alloc, case, needs.most)
 }
 
-/// The case that a source says in a form, where a command with these needs can take it.
+/// The case that a source says in a form, where a command with these needs can take it. Of a source that isn't read to its
+/// end, at most one byte more than it may have is taken.
 pub fn accepted_case<S: Source>(
     alloc: Global,
     form: &CaseForm,
@@ -130,6 +130,7 @@ pub fn accepted_case<S: Source>(
         (StopsBy (accepted (written form.now) needs (S.left source.old)).Refuses
         (Rose (S.faults source.old) (S.faults source.new))) }
     ensures clean { IfAnswered result (S.faults source.new ≡ S.faults source.old) }
+    ensures taken { IsTakenWithin (S.left source.old) (S.left source.new) }
 {
     let bytes = take_whole(alloc, b"", source)?;
     let case = read_case(alloc, form, bytes.as_slice())?;

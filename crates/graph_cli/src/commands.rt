@@ -5,7 +5,7 @@ ghost use Rattle.graph_io.specs.Causes.{Rose};
 ghost use Rattle.answers.specs.Halts.{HaltsBy, StopsBy, IfAnswered};
 ghost use Rattle.case_model.specs.CaseView.{content};
 ghost use Rattle.command_words.specs.Asked.{asked, written};
-ghost use Rattle.graph_cli.specs.Accepted.{IsOfKind};
+ghost use Rattle.graph_cli.specs.Accepted.{IsOfKind, IsTakenWithin};
 ghost use Rattle.graph_cli.specs.Commands.{needs_of, on_case, case_call, check_needs, check_call, IsCheckable, call_of, TakesCase, TakesProof, CallFault};
 
 mod bounds;
@@ -91,6 +91,7 @@ fn case_call<S: Source>(
         (StopsBy (case_call (written form.now) task (S.left source.old)).Refuses
         (Rose (S.faults source.old) (S.faults source.new))) }
     ensures clean { IfAnswered result (S.faults source.new ≡ S.faults source.old) }
+    ensures taken { IsTakenWithin (S.left source.old) (S.left source.new) }
 {
     let case = accepted_case(alloc, form, needs_of(task), source)?;
     Ok(case_answer(alloc, task, &case)?)
@@ -105,7 +106,7 @@ fn check_needs() -> Needs
 }
 
 /// What `check` answers to a case and a proof. It takes from the proof only behind a case that it can take.
-#[tactic(auto, unfolding(crate::specs::Commands::check_call, crate::specs::Commands::check_needs))]
+#[tactic(auto, using(crate::proofs::Taken::untouched), unfolding(crate::specs::Commands::check_call, crate::specs::Commands::check_needs))]
 fn check_call<S: Source, T: Source>(
     alloc: Global,
     form: &CaseForm,
@@ -124,6 +125,8 @@ fn check_call<S: Source, T: Source>(
     ensures case_end { OnOk result (IsAtEnd (S.left case.new)) }
     ensures proof_kept { ¬ IsCheckable (written form.now) (S.left case.old) → proof.new ≡ proof.old }
     ensures proof_end { OnOk result (IsAtEnd (T.left proof.new)) }
+    ensures case_taken { IsTakenWithin (S.left case.old) (S.left case.new) }
+    ensures proof_taken { IsTakenWithin (T.left proof.old) (T.left proof.new) }
 {
     let accepted = accepted_case(alloc, form, check_needs(), case)?;
     let bytes = take_whole(alloc, b"proof ", proof)?;
@@ -131,7 +134,7 @@ fn check_call<S: Source, T: Source>(
 }
 
 /// What a command answers to a case and a proof. It takes from a source only what it needs.
-#[tactic(auto, unfolding(crate::specs::Commands::call_of, crate::specs::Commands::TakesCase, crate::specs::Commands::TakesProof))]
+#[tactic(auto, using(crate::proofs::Taken::untouched), unfolding(crate::specs::Commands::call_of, crate::specs::Commands::TakesCase, crate::specs::Commands::TakesProof))]
 pub fn call<S: Source, T: Source>(
     alloc: Global,
     command: &Command,
@@ -152,6 +155,8 @@ pub fn call<S: Source, T: Source>(
     ensures proof_kept { ¬ TakesProof (asked command.now) (S.left case.old) → proof.new ≡ proof.old }
     ensures proof_end { TakesProof (asked command.now) (S.left case.old) →
         OnOk result (IsAtEnd (T.left proof.new)) }
+    ensures case_taken { IsTakenWithin (S.left case.old) (S.left case.new) }
+    ensures proof_taken { IsTakenWithin (T.left proof.old) (T.left proof.new) }
 {
     match command {
         Command::OnCase(form, task) => case_call(alloc, form, *task, case),

@@ -5,6 +5,7 @@ ghost use Rattle.graph_io.specs.Causes.{Rose};
 ghost use Rattle.answers.specs.Halts.{StopsBy, IfAnswered};
 ghost use Rattle.answers.specs.Runs.{Runs, Uses};
 ghost use Rattle.answers.specs.Stages.{IsAnswerOf};
+ghost use Rattle.graph_cli.specs.Accepted.{IsTakenWithin};
 ghost use Rattle.graph_cli.specs.Outcome.{NamesFile, outcome, ReadsCase, ReadsProof, ReadRose};
 
 use crate::commands::call;
@@ -29,6 +30,7 @@ pub fn file_word(words: &[String]) -> Option<usize>
 }
 
 /// What these words, this case and this proof call for.
+#[tactic(auto, using(crate::proofs::Taken::untouched))]
 fn answer<S: Source, T: Source>(
     alloc: Global,
     words: &[String],
@@ -51,6 +53,8 @@ fn answer<S: Source, T: Source>(
         proof.new ≡ proof.old }
     ensures proof_end { ReadsProof (map string_bytes words.now) (S.left case.old) →
         OnOk result (IsAtEnd (T.left proof.new)) }
+    ensures case_taken { IsTakenWithin (S.left case.old) (S.left case.new) }
+    ensures proof_taken { IsTakenWithin (T.left proof.old) (T.left proof.new) }
 {
     match read_words(words) {
         Err(n) => Err(Stop::Refused(usage(alloc, n)?)),
@@ -60,7 +64,8 @@ fn answer<S: Source, T: Source>(
 
 /// All that the program does. `words` are the words after the program's name, `case` is standard input, `proof` is the file
 /// that `file_word` names, and `out` gets the text of the answer, or one line that says why there is none. A source that the
-/// command doesn't read stays as it was; `proof` is read only behind a case that the command can take.
+/// command doesn't read stays as it was; `proof` is read only behind a case that the command can take. Of a source that isn't
+/// read to its end, at most one byte more than it may have is taken.
 ///
 /// Statuses: 0 done; 1 the proof doesn't hold; 2 the words aren't accepted; 3 an input is malformed or has other p-values
 /// than the command needs; 4 it is past a limit; 5 a number of it or of its run is too wide; 6 a source that is read had a
@@ -77,12 +82,14 @@ pub fn run<S: Source, T: Source, W: Sink>(
         (Rose (S.faults case.old) (S.faults case.new))
         (Rose (T.faults proof.old) (T.faults proof.new)))
         (Rose (W.faults out.old) (W.faults out.new))
-        (((S.faults case.new ≡ S.faults case.old) × (T.faults proof.new ≡ T.faults proof.old)) ×
-        (W.faults out.new ≡ W.faults out.old))
+        ((S.faults case.new ≡ S.faults case.old) × (T.faults proof.new ≡ T.faults proof.old))
+        (W.faults out.new ≡ W.faults out.old)
         (W.held out.old) (W.held out.new) result }
     ensures case { Uses S.left (ReadsCase (map string_bytes words.now)) case.old case.new result }
     ensures proof { Uses T.left (ReadsProof (map string_bytes words.now) (S.left case.old))
         proof.old proof.new result }
+    ensures case_taken { IsTakenWithin (S.left case.old) (S.left case.new) }
+    ensures proof_taken { IsTakenWithin (T.left proof.old) (T.left proof.new) }
 {
     let outcome = answer(alloc, words, case, proof);
     conclude(out, &outcome)

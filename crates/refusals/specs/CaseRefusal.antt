@@ -51,7 +51,8 @@ case_kind names (ArrivalRepeated n) = codes "arrival " ++ counted n ++ codes " r
 case_kind names (ArrivalRange n) = codes "arrival " ++ counted n ++ codes " p"
 case_kind names fault = []
 
--- The line of a fault. All faults without a row of their own are of malformed cases; want of memory is no fault of a draft.
+-- The line of a fault. All faults without a row of their own are of malformed cases. Want of memory is no fault of a draft: no line is given where it is
+-- the fault.
 unfoldable pub case_refusal : List (List ℕ) → CaseFault → Refusal
 case_refusal names (TooMany n) = past_limit (codes "hypotheses " ++ decimal n)
 case_refusal names (TooManyComponents n) = past_limit (codes "components " ++ decimal n)

@@ -1,6 +1,7 @@
 //! Lines of the faults of a case.
-ghost use Rattle.std.specs.Prelude.{◌≡◌, ◌++◌, IfOk, OnOk, codes};
+ghost use Rattle.std.specs.Prelude.{◌≡◌, ◌≢◌, ◌++◌, IfOk, OnOk, codes};
 ghost use Rattle.std.specs.Fmt.{decimal};
+ghost use Rattle.case_model.specs.declared.fault.CaseFault.TheVariants.{NoMemory as OutOfMemory};
 ghost use Rattle.refusals.specs.LinePieces.{counted, name_at, two_names, in_component, past_limit, malformed_at};
 ghost use Rattle.refusals.specs.CaseRefusal.{part_words, case_kind, case_refusal};
 
@@ -123,7 +124,13 @@ fn put_kind(text: &mut List<u8>, names: &[Text], fault: &CaseFault) -> Result<()
         CaseFault::ArrivalStage(n) => put_arrival(text, n, b" stage"),
         CaseFault::ArrivalRepeated(n) => put_arrival(text, n, b" repeated"),
         CaseFault::ArrivalRange(n) => put_arrival(text, n, b" p"),
-        _ => Ok(()),
+        CaseFault::TooMany(_)
+        | CaseFault::TooManyComponents(_)
+        | CaseFault::TooManyStages(_)
+        | CaseFault::TooManySteps(_, _)
+        | CaseFault::PartTooLong(_)
+        | CaseFault::Wide(_)
+        | CaseFault::NoMemory => Ok(()),
     }
 }
 
@@ -161,7 +168,8 @@ fn too_long(alloc: Global, names: &[Text], place: PartPlace) -> Result<Refusal, 
 /// The refusal of a fault of a case with these names; `NoMemory` where the fault is want of memory, or memory runs out.
 #[tactic(auto, unfolding(crate::specs::CaseRefusal::case_refusal, crate::specs::LinePieces::past_limit, crate::specs::LinePieces::malformed_at, crate::specs::WideRefusal::wide_refusal))]
 pub fn case_refusal(alloc: Global, names: &[Text], fault: &CaseFault) -> Result<Refusal, NoMemory>
-    ensures { IfOk result (λ refusal. refusal ≡ case_refusal names.now fault.now) }
+    ensures line { IfOk result (λ refusal. refusal ≡ case_refusal names.now fault.now) }
+    ensures memory { IfOk result (λ refusal. fault.now ≢ OutOfMemory) }
 {
     match *fault {
         CaseFault::TooMany(n) => too_many(alloc, b"hypotheses ", n),

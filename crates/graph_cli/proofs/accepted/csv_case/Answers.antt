@@ -30,7 +30,7 @@ returns-in_ok-case_refusal-in-Err-Case-clause-refused c =
       (
         refused.fault,
         h.fault_is,
-        c.in_ok-case_refusal-in-Err-Case.ensures
+        c.in_ok-case_refusal-in-Err-Case.ensures.line
             ∙ ap (λ names. case_refusal names refused.fault) (c.as_slice.ensures ∙ h.names_are),
       ),
     )

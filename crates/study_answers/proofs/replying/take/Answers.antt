@@ -47,7 +47,7 @@ returns-in-Ok-put_refused-clause-replied g c =
     (g.K.Keeper.looks c.add.new.keeper) c.args.text.now c.put_refused.new.text (looks_in c.add.new.self) e.fault
     (added_refused k old c.args.look.now rose e.field-0 e.fault e.field-0-is (e.ensures.fault k c.requires.study))
     (ap (λ s. s.looks) (left_refused (study_in c.add.new.self ≡ study_in c.args.register.now) e.field-0 e.fault e.field-0-is e.ensures.refused))
-    e.ensures.unchanged (c.in-Ok-put_refused.ensures ∙ ap (λ f. c.args.text.now ++ refused_line c.args.number f) e.fault-is)
+    e.ensures.unchanged (c.in-Ok-put_refused.ensures.put ∙ ap (λ f. c.args.text.now ++ refused_line c.args.number f) e.fault-is)
 
 pub returns-in-Err-put_refused-clause-stopped : goal.returns-in-Err-put_refused-clause-stopped
 returns-in-Err-put_refused-clause-stopped g c =
