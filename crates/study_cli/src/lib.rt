@@ -5,7 +5,7 @@
 //!   words, the case, the commands and the kept looks call for (`study_outcome`), and with the looks that it keeps besides; 6, 7
 //!   and 9 only where a source that is read, the sink or the keeper had a fault in this call, 8 with `no memory`; with 6 no look is
 //!   kept besides, with 8 and 9 only looks that commands before some place take. Where no fault came, the status is up to 5, or 8,
-//!   and with these no fault came.
+//!   and with these no fault came; with 6 the keeper and the sink had none, with 9 the sources and the sink had none.
 //! - `case`, `commands`, `untouched`: a source that isn't read stays as it was, and one that is was read to its end after status 0.
 //!   The commands are read only behind a case that a study can take, and the keeper is asked only behind commands that are all
 //!   said.

@@ -8,7 +8,7 @@ ghost use Rattle.answers.specs.Runs.{Uses};
 ghost use Rattle.case_model.specs.CaseView.{content};
 ghost use Rattle.command_words.specs.Asked.{study_asked};
 ghost use Rattle.study_commands.specs.CommandLines.{IsBelow};
-ghost use Rattle.study_answers.specs.AnswerView.{KeepWith, StopsStudy, IfAnswered};
+ghost use Rattle.study_answers.specs.AnswerView.{KeepWith, StopsStudy, UnlessReadFault, UnlessKeeperFault};
 ghost use Rattle.study_answers.specs.StudyRuns.{IsEndOf, RunsStudy};
 ghost use Rattle.study_cli.specs.StudyOutcome.{study_needs, commands_in, study_call, study_outcome, IsStudied, IsCommanded, IsOpened, MayBeKept, ReadsCase, ReadsCommands, AsksKeeper, ReadRose, KeeperRose, MayEnd};
 
@@ -64,9 +64,9 @@ fn study_call<S: Source, T: Source, K: Keeper>(
         (IsOpened (study_asked call.now) (S.left case.old) (T.left commands.old) × Rose (K.faults keeper.old) (K.faults keeper.new))
         (MayBeKept (study_asked call.now) (S.left case.old) (T.left commands.old) (K.looks keeper.old))
         (K.looks keeper.old) (K.looks keeper.new)) }
-    ensures clean { IfAnswered result
-        ((S.faults case.new ≡ S.faults case.old) × (T.faults commands.new ≡ T.faults commands.old) ×
-        (K.faults keeper.new ≡ K.faults keeper.old)) }
+    ensures clean { UnlessReadFault result
+        ((S.faults case.new ≡ S.faults case.old) × (T.faults commands.new ≡ T.faults commands.old)) }
+    ensures keeper_clean { UnlessKeeperFault result (K.faults keeper.new ≡ K.faults keeper.old) }
     ensures case_end { OnOk result (IsAtEnd (S.left case.new)) }
     ensures commands_kept { ¬ IsStudied (study_asked call.now) (S.left case.old) → commands.new ≡ commands.old }
     ensures commands_end { OnOk result (IsAtEnd (T.left commands.new)) }
@@ -98,9 +98,9 @@ fn answer<S: Source, T: Source, K: Keeper>(
         (Rose (K.faults keeper.old) (K.faults keeper.new)))
         (MayEnd (map string_bytes words.now) (S.left case.old) (T.left commands.old) (K.looks keeper.old))
         (K.looks keeper.old) (K.looks keeper.new)) }
-    ensures clean { IfAnswered result
-        ((S.faults case.new ≡ S.faults case.old) × (T.faults commands.new ≡ T.faults commands.old) ×
-        (K.faults keeper.new ≡ K.faults keeper.old)) }
+    ensures clean { UnlessReadFault result
+        ((S.faults case.new ≡ S.faults case.old) × (T.faults commands.new ≡ T.faults commands.old)) }
+    ensures keeper_clean { UnlessKeeperFault result (K.faults keeper.new ≡ K.faults keeper.old) }
     ensures case_kept { ¬ ReadsCase (map string_bytes words.now) → case.new ≡ case.old }
     ensures case_end { ReadsCase (map string_bytes words.now) → OnOk result (IsAtEnd (S.left case.new)) }
     ensures commands_kept { ¬ ReadsCommands (map string_bytes words.now) (S.left case.old) →
@@ -144,8 +144,9 @@ pub fn run_study<S: Source, T: Source, K: Keeper, W: Sink>(
         (KeeperRose (map string_bytes words.now) (S.left case.old) (T.left commands.old)
         (Rose (K.faults keeper.old) (K.faults keeper.new)))
         (Rose (W.faults out.old) (W.faults out.new))
-        (((S.faults case.new ≡ S.faults case.old) × (T.faults commands.new ≡ T.faults commands.old) ×
-        (K.faults keeper.new ≡ K.faults keeper.old)) × (W.faults out.new ≡ W.faults out.old))
+        ((S.faults case.new ≡ S.faults case.old) × (T.faults commands.new ≡ T.faults commands.old))
+        (K.faults keeper.new ≡ K.faults keeper.old)
+        (W.faults out.new ≡ W.faults out.old)
         (W.held out.old) (W.held out.new) (K.looks keeper.old) (K.looks keeper.new) result }
     ensures case { Uses S.left (ReadsCase (map string_bytes words.now)) case.old case.new result }
     ensures commands { Uses T.left (ReadsCommands (map string_bytes words.now) (S.left case.old))

@@ -2,8 +2,9 @@ use Rattle.study_answers.proofs.StudyEndings.{runs_of_study, study_done_by}
 use Rattle.study_cli.proofs.study.run_study.Goals as goal
 
 pub returns-clause-runs : goal.returns-clause-runs
-returns-clause-runs g c = let h = c.answer-outcome.ensures in runs_of_study _ _ _ _ _ _ _ _ _ _ _ _ c.answer-outcome.result h.given h.stopped h.clean
-    c.conclude_study.ensures
+returns-clause-runs g c =
+    let h = c.answer-outcome.ensures in
+    runs_of_study _ _ _ _ _ _ _ _ _ _ _ _ _ c.answer-outcome.result h.given h.stopped h.clean h.keeper_clean c.conclude_study.ensures
 
 pub returns-clause-case : goal.returns-clause-case
 returns-clause-case g c = let h = c.answer-outcome.ensures in
