@@ -212,14 +212,6 @@ module _ (c : Content) (e : Evidence) where
   unfolding forms_text
   case_text n v ss xs h = ap (λ n. text_of (evidence_lines (case_frame n c) v ss xs)) h
 
-  pub plain_fits : (v : Steps _) → e ≡ Plain v → IsEvidenceFor c e
-      → FitsCase c v.version (map (step_parts fraction_parts) v.steps) (map (keep_parts fraction_parts) v.keeps)
-  plain_fits v h I = let J = form_of c e (Plain v) h I in record { version = J.version; size = J.size; none = J.none; all = J.all }
-
-  pub eps_fits : (v : Steps _) → e ≡ Eps v → IsEvidenceFor c e
-      → FitsCase c v.version (map (step_parts quotient_parts) v.steps) (map (keep_parts quotient_parts) v.keeps)
-  eps_fits v h I = let J = form_of c e (Eps v) h I in record { version = J.version; size = J.size; none = J.none; all = J.all }
-
   pub plain_text : (v : Steps _) → e ≡ Plain v → IsEvidenceFor c e
       → forms_text in_fractions c
       (evidence_forms v.version (map (step_parts fraction_parts) v.steps) (map (keep_parts fraction_parts) v.keeps)) ≡ evidence_text c e

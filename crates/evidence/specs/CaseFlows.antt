@@ -53,7 +53,8 @@ has_fractions (Eps v) = false
 
 -- The decision on a case lists a complete legal order of it, whatever the priority.
 abbrev pub DecisionsAreCompleteOrders : Type 0
-DecisionsAreCompleteOrders = (c : Content) (priority : Priority) (d : Decision) → IsValidContent c → IsDecision c priority d → IsCompleteOrder c (hypotheses d.steps)
+DecisionsAreCompleteOrders =
+    (c : Content) (priority : Priority) (d : Decision) → IsValidContent c → IsDecision c priority d → IsCompleteOrder c (hypotheses d.steps)
 
 -- The flow run of a case along a complete legal order gives evidence that meets the conditions.
 abbrev pub CaseFlowsMeetConditions : Type 0
@@ -73,7 +74,8 @@ CaseFlowsKeepOthers =
     (c : Content) (js : List ℕ) (v : WrittenEvidence) → IsValidContent c → IsCompleteOrder c js → case_flows c js ≡ Ok v
     → KeepsOthers (length c.names) (values_in c v.steps v.keeps)
 
--- The check of a case never finds a broken condition in it.
+-- The check of a case never finds a broken condition in it. That its hypotheses are of the case and its numbers are stored as those of
+-- the case is a premise here: the run doesn't tell it, but the types of numbers do, of evidence as the code holds it.
 abbrev pub CaseFlowsAreNotRefused : Type 0
 CaseFlowsAreNotRefused =
     (c : Content) (js : List ℕ) (v : WrittenEvidence) (n : ℕ) (reason : Reason) → IsValidContent c → IsCompleteOrder c js → case_flows c js ≡ Ok v

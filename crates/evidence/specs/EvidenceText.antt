@@ -38,7 +38,8 @@ EvidenceTextsSayNoOther =
 
 -- It has no fault.
 abbrev pub EvidenceTextsHaveNoFault : Type 0
-EvidenceTextsHaveNoFault = (c : Content) (v : Evidence) (fault : FaultAt ProofKind) → IsValidContent c → IsEvidenceFor c v → ¬ HasFault c (evidence_text c v) fault
+EvidenceTextsHaveNoFault =
+    (c : Content) (v : Evidence) (fault : FaultAt ProofKind) → IsValidContent c → IsEvidenceFor c v → ¬ HasFault c (evidence_text c v) fault
 
 -- Evidence of one text is the same.
 abbrev pub EvidenceTextsTellApart : Type 0

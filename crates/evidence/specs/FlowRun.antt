@@ -1,4 +1,5 @@
--- The written flow run of nets: for each step of an order, what flows through the hypotheses of the earlier steps is recorded, the tables of all components are made anew, and its hypothesis is removed (this project's own).
+-- The written flow run of nets: for each step of an order, what flows through the hypotheses of the earlier steps is recorded, the tables of all
+-- components are made anew, and its hypothesis is removed (this project's own).
 use Rattle.std.specs.Prelude.{ℕ, ◌+◌, List, [], ◌∷◌, ◌++◌, Bool, true, false, not, Result, Ok, Err, map, length, get_or, replicate}
 use Rattle.field_core.specs.declared.place.Wide.{Wide}
 use Rattle.field_core.specs.declared.place.WideAt.{WideAt}
@@ -67,7 +68,8 @@ module _ (K : Kind) where
 
   -- the tables of all components after a step, component by component
   unfoldable pub all_tables : List StoredGraph → List Tables → List ℕ → ℕ → Bool → Bool → Result (List Tables) WideAt
-  all_tables Gs ts earlier j is_last is_kept = each_below (length ts) (λ c. in_component c (new_tables K (graph_at Gs c) j earlier (tables_at ts c) is_last is_kept))
+  all_tables Gs ts earlier j is_last is_kept =
+      each_below (length ts) (λ c. in_component c (new_tables K (graph_at Gs c) j earlier (tables_at ts c) is_last is_kept))
 
   module _ {S : Type 0} (graph : S → StoredGraph) (removal : S → ℕ → Result S Wide) (is_kept : Bool) where
     -- a step after the steps of `earlier`: the tables, and then the removal, which the last step leaves out. Exits are written only if a hypothesis is kept.
@@ -90,7 +92,8 @@ module _ (K : Kind) where
   opening_state graph b = record { bundle = b; tables = replicate (length b.states) (first_tables K (size graph b)) }
 
   -- the run of nets along `js`, and the evidence that it gives: its steps, and all other hypotheses with their exits after the last step
-  unfoldable pub evidence_run : {S : Type 0} → (S → StoredGraph) → (S → ℕ → Result S Wide) → Bundled S → List ℕ → Result WrittenEvidence WideStep
+  unfoldable pub evidence_run : {S : Type 0} → (S → StoredGraph) → (S → ℕ → Result S Wide) → Bundled S → List ℕ
+      → Result WrittenEvidence WideStep
   evidence_run graph removal b js = do
     r ← flow_run graph removal (has_some (others (size graph b) js)) [] js (opening_state graph b)
     Ok (record { steps = r.steps; keeps = map (kept_exits r.tables js) (others (size graph b) js) })

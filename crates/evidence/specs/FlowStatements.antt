@@ -28,13 +28,15 @@ module _ {S : Type 0} (K : Kind) (graph : S → StoredGraph) (IsProper : S → T
     -- A run along a legal order gives the steps of the order, and they are good.
     abbrev pub FlowRunsGiveSteps : Type 0
     FlowRunsGiveSteps =
-        (b : Bundled S) (p : ℕ → Number) (level : Number) (js : List ℕ) (v : WrittenEvidence) → IsOpened b → IsLegalOrder (graph_by_value b) p level whole js
+        (b : Bundled S) (p : ℕ → Number) (level : Number) (js : List ℕ) (v : WrittenEvidence) → IsOpened b
+        → IsLegalOrder (graph_by_value b) p level whole js
         → evidence_run K graph removal b js ≡ Ok v
         → (listed (map (step_values K) v.steps) ≡ js) × AreGoodSteps (graph_by_value b) p level [] (map (step_values K) v.steps)
 
     -- A run along a complete legal order gives evidence that meets the conditions, and keeps all others.
     abbrev pub FlowRunsGiveEvidence : Type 0
     FlowRunsGiveEvidence =
-        (b : Bundled S) (p : ℕ → Number) (level : Number) (js : List ℕ) (v : WrittenEvidence) → IsOpened b → IsLegalOrder (graph_by_value b) p level whole js → IsComplete (graph_by_value b) p level whole js
+        (b : Bundled S) (p : ℕ → Number) (level : Number) (js : List ℕ) (v : WrittenEvidence) → IsOpened b
+        → IsLegalOrder (graph_by_value b) p level whole js → IsComplete (graph_by_value b) p level whole js
         → evidence_run K graph removal b js ≡ Ok v
         → MeetsConditions (graph_by_value b) p level (evidence_values K v.steps v.keeps) × KeepsOthers (size graph b) (evidence_values K v.steps v.keeps)

@@ -1,4 +1,6 @@
--- The written flow run in one component: which operations are done in a step, in which order and for what. All operands are old values. It keeps what flows through each removed hypothesis, what each hypothesis that is in sends through each removed one, and the exits of each removed one to each hypothesis that is in (this project's own).
+-- The written flow run in one component: which operations are done in a step, in which order and for what. All operands are old values. It keeps what
+-- flows through each removed hypothesis, what each hypothesis that is in sends through each removed one, and the exits of each removed one to each
+-- hypothesis that is in (this project's own).
 use Rattle.std.specs.Prelude.{ℕ, List, [], ◌∷◌, ◌++◌, Bool, not, if◌then◌else◌, Option, Some, None, Result, Ok, map, get_or, set, replicate}
 use Rattle.std.specs.List.{range_with_len}
 use Rattle.field_core.specs.declared.place.Op.TheVariants.{Add, Mul, Div}
@@ -10,7 +12,8 @@ use Rattle.removal.specs.StoredGraph.{StoredGraph, size, weight, edge}
 use Rattle.removal.specs.WrittenRemoval.{is_gone, divisor}
 use Rattle.evidence_check.specs.EvidenceParts.{numbers_at}
 
--- What the run keeps of a component: by hypothesis what flows through it, for each hypothesis `l` a row of what `l` sends through each one, and for each hypothesis `k` a row of the exits of each one to `k`.
+-- What the run keeps of a component: by hypothesis what flows through it, for each hypothesis `l` a row of what `l` sends through each one, and for
+-- each hypothesis `k` a row of the exits of each one to `k`.
 pub record Tables : Type 0 where
   pub flows : List Parts
   pub visits : List (List Parts)
@@ -84,7 +87,8 @@ module _ (K : Kind) where
         xs ← put_each (new_exit (row exits j) (row exits k) k) earlier (row exits k)
         Ok (set xs j (edge K G j k))
 
-      -- The tables after the step: first the flows, then the rows by ascending position, neither of them at the last step, and then the exits, if any hypothesis is kept.
+      -- The tables after the step: first the flows, then the rows by ascending position, neither of them at the last step, and then the exits, if any
+      -- hypothesis is kept.
       unfoldable pub new_tables : Tables → Bool → Bool → Result Tables Wide
       new_tables t is_last is_kept = do
         flows ← if_wanted (not is_last) t.flows (new_flows t.visits t.flows)

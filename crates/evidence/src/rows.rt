@@ -65,7 +65,8 @@ pub fn put_each<F: Number, S: Fn(usize) -> Result<F, Wide>>(
     step: S,
 ) -> Result<(), Wide>
     requires { (r : ℕ) → S.pre step r }
-    ensures { (f : ℕ → Answer Parts Refused) → ((r : ℕ) (x : Answer F Refused) → S.post step r x → ok_map F.parts x ≡ f r) → ok_map (λ _. map F.parts row.new) result ≡ put_each f places.now (map F.parts row.old) }
+    ensures { (f : ℕ → Answer Parts Refused) → ((r : ℕ) (x : Answer F Refused) → S.post step r x → ok_map F.parts x ≡ f r)
+        → ok_map (λ _. map F.parts row.new) result ≡ put_each f places.now (map F.parts row.old) }
 {
     for &r in places {
         put(row, r, step(r)?);

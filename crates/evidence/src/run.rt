@@ -90,7 +90,9 @@ fn component_tables<R: Remover>(
     requires live { is_live R.graph (bundled bundle.now) j ≡ true }
     requires count { length tables.now ≡ length (bundled bundle.now).states }
     requires c { c < length tables.now }
-    ensures { Makes (tables_of R.Value.parts) result (in_component c (new_tables R.Value.kind (graph_at (map R.graph (bundled bundle.now).states) c) j earlier.now (tables_at (map (tables_of R.Value.parts) tables.now) c) is_last is_kept)) }
+    ensures { Makes (tables_of R.Value.parts) result (in_component c
+        (new_tables R.Value.kind (graph_at (map R.graph (bundled bundle.now).states) c) j earlier.now
+        (tables_at (map (tables_of R.Value.parts) tables.now) c) is_last is_kept)) }
 {
     let net = bundle.net(c);
     match tables_after(alloc, net, j, earlier, &tables[c], is_last, is_kept) {
@@ -112,7 +114,8 @@ fn all_tables<R: Remover>(
 ) -> Result<List<Tables<R::Value>>, Fault<WideAt>>
     requires live { is_live R.graph (bundled bundle.now) j ≡ true }
     requires count { length tables.now ≡ length (bundled bundle.now).states }
-    ensures { Makes (map (tables_of R.Value.parts)) result (all_tables R.Value.kind (map R.graph (bundled bundle.now).states) (map (tables_of R.Value.parts) tables.now) earlier.now j is_last is_kept) }
+    ensures { Makes (map (tables_of R.Value.parts)) result (all_tables R.Value.kind (map R.graph (bundled bundle.now).states)
+        (map (tables_of R.Value.parts) tables.now) earlier.now j is_last is_kept) }
 {
     let mut next = List::new(alloc);
     for c in 0..tables.len() {
@@ -133,7 +136,9 @@ fn step<R: Remover>(
 ) -> Result<List<Tables<R::Value>>, MakeFault>
     requires live { is_live R.graph (bundled bundle.old) j ≡ true }
     requires count { length tables.now ≡ length (bundled bundle.old).states }
-    ensures { MakesAll (λ next. record { bundle = bundled bundle.new; tables = map (tables_of R.Value.parts) next }) result (flow_step R.Value.kind R.graph R.removal is_kept earlier.now j is_last (record { bundle = bundled bundle.old; tables = map (tables_of R.Value.parts) tables.now })) }
+    ensures { MakesAll (λ next. record { bundle = bundled bundle.new; tables = map (tables_of R.Value.parts) next }) result
+        (flow_step R.Value.kind R.graph R.removal is_kept earlier.now j is_last
+        (record { bundle = bundled bundle.old; tables = map (tables_of R.Value.parts) tables.now })) }
 {
     let number = earlier.len() + 1;
     let next = match all_tables(alloc, bundle, tables, j, earlier, is_last, is_kept) {
@@ -180,7 +185,8 @@ fn run<R: Remover>(
 ) -> Result<FinishedRun<R::Value>, MakeFault>
     requires opened { IsOpened R.Value.kind R.graph R.IsProper (bundled bundle.old) }
     requires order { IsOrder (size R.graph (bundled bundle.old)) whole hypotheses.now }
-    ensures { MakesAll (λ r. record { steps = map (step_parts R.Value.parts) r.steps; tables = map (tables_of R.Value.parts) r.tables }) result (flow_run R.Value.kind R.graph R.removal is_kept [] hypotheses.now (opening_state R.Value.kind R.graph (bundled bundle.old))) }
+    ensures { MakesAll (λ r. record { steps = map (step_parts R.Value.parts) r.steps; tables = map (tables_of R.Value.parts) r.tables }) result
+        (flow_run R.Value.kind R.graph R.removal is_kept [] hypotheses.now (opening_state R.Value.kind R.graph (bundled bundle.old))) }
 {
     let mut steps = List::new(alloc);
     let mut tables = opening_tables(alloc, bundle)?;

@@ -5,7 +5,8 @@ ghost use Rattle.field_core.specs.Kind.{ok_map, is_zero};
 ghost use Rattle.field_core.specs.Steps.{each_below};
 ghost use Rattle.removal.specs.StoredGraph.{size, is_live};
 ghost use Rattle.removal.specs.WrittenRemoval.{is_gone, divisor};
-ghost use Rattle.evidence.specs.FlowTables.{if_wanted, first_tables, new_flow, new_flows, new_visit, new_visits_by, new_visits, new_exit, new_exits, new_tables};
+ghost use Rattle.evidence.specs.FlowTables.{if_wanted, first_tables, new_flow, new_flows, new_visit, new_visits_by, new_visits, new_exit, new_exits};
+ghost use Rattle.evidence.specs.FlowTables.{new_tables};
 ghost use Rattle.evidence.specs.TablesView.{tables_of};
 ghost use Rattle.evidence.specs.Made.{Makes};
 
@@ -43,7 +44,8 @@ fn new_flow<R: Remover>(
     r: usize,
 ) -> Result<R::Value, Wide>
     requires { is_live (R.graph (R.present net.now)) j ≡ true }
-    ensures { ok_map R.Value.parts result ≡ new_flow R.Value.kind (R.graph (R.present net.now)) j (map R.Value.parts sent.now) (map R.Value.parts flows.now) r }
+    ensures { ok_map R.Value.parts result ≡ new_flow R.Value.kind (R.graph (R.present net.now)) j (map R.Value.parts sent.now)
+        (map R.Value.parts flows.now) r }
 {
     let place = Place::Flow(r);
     let gain = net
@@ -63,7 +65,8 @@ fn new_flows<R: Remover>(
     tables: &Tables<R::Value>,
 ) -> Result<List<R::Value>, Fault<Wide>>
     requires { is_live (R.graph (R.present net.now)) j ≡ true }
-    ensures { Makes (map R.Value.parts) result (new_flows R.Value.kind (R.graph (R.present net.now)) j earlier.now (map (map R.Value.parts) tables.now.visits) (map R.Value.parts tables.now.flows)) }
+    ensures { Makes (map R.Value.parts) result (new_flows R.Value.kind (R.graph (R.present net.now)) j earlier.now
+        (map (map R.Value.parts) tables.now.visits) (map R.Value.parts tables.now.flows)) }
 {
     let (sent, old) = (row(&tables.visits, j), tables.flows.as_slice());
     let mut flows = copy(alloc, old)?;
@@ -106,7 +109,8 @@ fn new_visit<R: Remover>(
     requires j { is_live (R.graph (R.present net.now)) j ≡ true }
     requires l { is_gone (R.graph (R.present net.now)) j l ≡ false }
     requires nonzero { is_zero (R.Value.parts divisor.now) ≡ false }
-    ensures { ok_map R.Value.parts result ≡ new_visit R.Value.kind (R.graph (R.present net.now)) j (map R.Value.parts sent.now) (map R.Value.parts own.now) l (R.Value.parts divisor.now) r }
+    ensures { ok_map R.Value.parts result ≡ new_visit R.Value.kind (R.graph (R.present net.now)) j (map R.Value.parts sent.now)
+        (map R.Value.parts own.now) l (R.Value.parts divisor.now) r }
 {
     let place = Place::Visit(l, r);
     let through = net
@@ -130,7 +134,8 @@ fn divided_visits<R: Remover>(
     requires j { is_live (R.graph (R.present net.now)) j ≡ true }
     requires l { is_gone (R.graph (R.present net.now)) j l ≡ false }
     requires nonzero { is_zero (R.Value.parts left.now) ≡ false }
-    ensures { Makes (map R.Value.parts) result (new_visits_by R.Value.kind (R.graph (R.present net.now)) j earlier.now (map (map R.Value.parts) visits.now) l (Some (R.Value.parts left.now))) }
+    ensures { Makes (map R.Value.parts) result (new_visits_by R.Value.kind (R.graph (R.present net.now)) j earlier.now
+        (map (map R.Value.parts) visits.now) l (Some (R.Value.parts left.now))) }
 {
     let (sent, own) = (row(visits, j), row(visits, l));
     let mut next = copy(alloc, own)?;
@@ -178,7 +183,8 @@ fn new_exit<R: Remover>(
 ) -> Result<R::Value, Wide>
     requires j { is_live (R.graph (R.present net.now)) j ≡ true }
     requires k { is_gone (R.graph (R.present net.now)) j k ≡ false }
-    ensures { ok_map R.Value.parts result ≡ new_exit R.Value.kind (R.graph (R.present net.now)) j (map R.Value.parts removed.now) (map R.Value.parts own.now) k r }
+    ensures { ok_map R.Value.parts result ≡ new_exit R.Value.kind (R.graph (R.present net.now)) j (map R.Value.parts removed.now)
+        (map R.Value.parts own.now) k r }
 {
     let place = Place::Exit(r, k);
     let through = number(removed, r)
@@ -221,7 +227,8 @@ fn all_visits<R: Remover>(
     visits: &List<List<R::Value>>,
 ) -> Result<List<List<R::Value>>, Fault<Wide>>
     requires { is_live (R.graph (R.present net.now)) j ≡ true }
-    ensures { Makes (map (map R.Value.parts)) result (each_below (size (R.graph (R.present net.now))) (new_visits R.Value.kind (R.graph (R.present net.now)) j earlier.now (map (map R.Value.parts) visits.now))) }
+    ensures { Makes (map (map R.Value.parts)) result (each_below (size (R.graph (R.present net.now)))
+        (new_visits R.Value.kind (R.graph (R.present net.now)) j earlier.now (map (map R.Value.parts) visits.now))) }
 {
     let mut rows = List::new(alloc);
     for l in 0..net.size() {
@@ -240,7 +247,8 @@ fn all_exits<R: Remover>(
     exits: &List<List<R::Value>>,
 ) -> Result<List<List<R::Value>>, Fault<Wide>>
     requires { is_live (R.graph (R.present net.now)) j ≡ true }
-    ensures { Makes (map (map R.Value.parts)) result (each_below (size (R.graph (R.present net.now))) (new_exits R.Value.kind (R.graph (R.present net.now)) j earlier.now (map (map R.Value.parts) exits.now))) }
+    ensures { Makes (map (map R.Value.parts)) result (each_below (size (R.graph (R.present net.now)))
+        (new_exits R.Value.kind (R.graph (R.present net.now)) j earlier.now (map (map R.Value.parts) exits.now))) }
 {
     let mut rows = List::new(alloc);
     for k in 0..net.size() {
@@ -309,7 +317,9 @@ fn flows_after<R: Remover>(
     is_last: bool,
 ) -> Result<List<R::Value>, Fault<Wide>>
     requires { is_live (R.graph (R.present net.now)) j ≡ true }
-    ensures { Makes (map R.Value.parts) result (if_wanted (not is_last) (map R.Value.parts tables.now.flows) (new_flows R.Value.kind (R.graph (R.present net.now)) j earlier.now (map (map R.Value.parts) tables.now.visits) (map R.Value.parts tables.now.flows))) }
+    ensures { Makes (map R.Value.parts) result (if_wanted (not is_last) (map R.Value.parts tables.now.flows)
+        (new_flows R.Value.kind (R.graph (R.present net.now)) j earlier.now (map (map R.Value.parts) tables.now.visits)
+        (map R.Value.parts tables.now.flows))) }
 {
     if is_last {
         return Ok(copy(alloc, tables.flows.as_slice())?);
@@ -327,7 +337,9 @@ fn visits_after<R: Remover>(
     is_last: bool,
 ) -> Result<List<List<R::Value>>, Fault<Wide>>
     requires { is_live (R.graph (R.present net.now)) j ≡ true }
-    ensures { Makes (map (map R.Value.parts)) result (if_wanted (not is_last) (map (map R.Value.parts) visits.now) (each_below (size (R.graph (R.present net.now))) (new_visits R.Value.kind (R.graph (R.present net.now)) j earlier.now (map (map R.Value.parts) visits.now)))) }
+    ensures { Makes (map (map R.Value.parts)) result (if_wanted (not is_last) (map (map R.Value.parts) visits.now)
+        (each_below (size (R.graph (R.present net.now))) (new_visits R.Value.kind (R.graph (R.present net.now)) j earlier.now
+        (map (map R.Value.parts) visits.now)))) }
 {
     if is_last {
         return Ok(copy_rows(alloc, visits)?);
@@ -345,7 +357,9 @@ fn exits_after<R: Remover>(
     is_kept: bool,
 ) -> Result<List<List<R::Value>>, Fault<Wide>>
     requires { is_live (R.graph (R.present net.now)) j ≡ true }
-    ensures { Makes (map (map R.Value.parts)) result (if_wanted is_kept (map (map R.Value.parts) exits.now) (each_below (size (R.graph (R.present net.now))) (new_exits R.Value.kind (R.graph (R.present net.now)) j earlier.now (map (map R.Value.parts) exits.now)))) }
+    ensures { Makes (map (map R.Value.parts)) result (if_wanted is_kept (map (map R.Value.parts) exits.now)
+        (each_below (size (R.graph (R.present net.now))) (new_exits R.Value.kind (R.graph (R.present net.now)) j earlier.now
+        (map (map R.Value.parts) exits.now)))) }
 {
     if is_kept {
         return all_exits(alloc, net, j, earlier, exits);
@@ -364,7 +378,8 @@ pub fn tables_after<R: Remover>(
     is_kept: bool,
 ) -> Result<Tables<R::Value>, Fault<Wide>>
     requires { is_live (R.graph (R.present net.now)) j ≡ true }
-    ensures { Makes (tables_of R.Value.parts) result (new_tables R.Value.kind (R.graph (R.present net.now)) j earlier.now (tables_of R.Value.parts tables.now) is_last is_kept) }
+    ensures { Makes (tables_of R.Value.parts) result (new_tables R.Value.kind (R.graph (R.present net.now)) j earlier.now
+        (tables_of R.Value.parts tables.now) is_last is_kept) }
 {
     let flows = flows_after(alloc, net, j, earlier, tables, is_last)?;
     let visits = visits_after(alloc, net, j, earlier, &tables.visits, is_last)?;

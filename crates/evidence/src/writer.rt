@@ -7,7 +7,8 @@ ghost use Rattle.case_numbers.specs.Numbers.{numbers_of};
 ghost use Rattle.evidence_check.specs.declared.quantity.Quantity.TheVariants.{Flow, Exit};
 ghost use Rattle.evidence_check.specs.EvidenceParts.{AreFull, FlowsFit, ExitsFit};
 ghost use Rattle.evidence_check.specs.EvidenceView.{hypotheses_of, step_parts, keep_parts, FitsCase, IsEvidenceFor, version_of, steps_of, keeps_of};
-ghost use Rattle.evidence_check.specs.Documents.{keyword, SaysVersion, SaysStep, SaysNumber, SaysKeep, SaysEnd, number_forms, list_forms, step_forms, keep_forms, evidence_forms};
+ghost use Rattle.evidence_check.specs.Documents.{keyword, SaysVersion, SaysStep, SaysNumber, SaysKeep, SaysEnd, number_forms, list_forms, step_forms};
+ghost use Rattle.evidence_check.specs.Documents.{keep_forms, evidence_forms};
 ghost use Rattle.evidence_check.specs.NumberTexts.{number_text};
 ghost use Rattle.evidence_check.specs.DocumentStatements.{SaysEvidence, evidence_text};
 ghost use Rattle.evidence.specs.EvidenceText.{form_text, forms_text};
@@ -104,7 +105,8 @@ fn put_numbers<F: WrittenNumber>(
     requires c { c < 8 }
     requires known { All (λ j. j < length (content case.now).names) (hypotheses_of steps.now) }
     requires count { length numbers.now ≡ length steps.now }
-    ensures { OnOk result (text.new ≡ text.old ++ forms_text F.numbers (content case.now) (number_forms quantity c (hypotheses_of steps.now) (map F.parts numbers.now))) }
+    ensures { OnOk result (text.new ≡ text.old ++ forms_text F.numbers (content case.now)
+        (number_forms quantity c (hypotheses_of steps.now) (map F.parts numbers.now))) }
 {
     for e in 0..steps.len() {
         put_number(text, case, quantity, c, steps[e].hypothesis, &numbers[e])?;
@@ -122,7 +124,8 @@ fn put_lists<F: WrittenNumber>(
 ) -> Result<(), NoMemory>
     requires known { All (λ j. j < length (content case.now).names) (hypotheses_of steps.now) }
     requires full { AreFull (length (content case.now).components) (length steps.now) (map (map F.parts) lists.now) }
-    ensures { OnOk result (text.new ≡ text.old ++ forms_text F.numbers (content case.now) (list_forms quantity 0 (hypotheses_of steps.now) (map (map F.parts) lists.now))) }
+    ensures { OnOk result (text.new ≡ text.old ++ forms_text F.numbers (content case.now)
+        (list_forms quantity 0 (hypotheses_of steps.now) (map (map F.parts) lists.now))) }
 {
     for c in 0..case.components() {
         put_numbers(text, case, quantity, c, steps, lists[c].as_slice())?;
@@ -168,7 +171,8 @@ fn put_step<F: WrittenNumber>(
     requires known { All (λ j. j < length (content case.now).names) (hypotheses_of earlier.now) }
     requires below { step.now.hypothesis < length (content case.now).names }
     requires full { AreFull (length (content case.now).components) (length earlier.now) (map (map F.parts) step.now.flows) }
-    ensures { OnOk result (text.new ≡ text.old ++ forms_text F.numbers (content case.now) (SaysStep step.now.hypothesis ∷ list_forms Flow 0 (hypotheses_of earlier.now) (map (map F.parts) step.now.flows))) }
+    ensures { OnOk result (text.new ≡ text.old ++ forms_text F.numbers (content case.now) (SaysStep step.now.hypothesis
+        ∷ list_forms Flow 0 (hypotheses_of earlier.now) (map (map F.parts) step.now.flows))) }
 {
     put_rejected::<F>(text, case, step.hypothesis)?;
     put_lists(text, case, Quantity::Flow, earlier, step.flows.as_slice())
@@ -200,7 +204,8 @@ fn put_keep<F: WrittenNumber>(
     requires known { All (λ j. j < length (content case.now).names) (hypotheses_of steps.now) }
     requires below { keep.now.hypothesis < length (content case.now).names }
     requires full { AreFull (length (content case.now).components) (length steps.now) (map (map F.parts) keep.now.exits) }
-    ensures { OnOk result (text.new ≡ text.old ++ forms_text F.numbers (content case.now) (SaysKeep keep.now.hypothesis ∷ list_forms Exit 0 (hypotheses_of steps.now) (map (map F.parts) keep.now.exits))) }
+    ensures { OnOk result (text.new ≡ text.old ++ forms_text F.numbers (content case.now) (SaysKeep keep.now.hypothesis
+        ∷ list_forms Exit 0 (hypotheses_of steps.now) (map (map F.parts) keep.now.exits))) }
 {
     put_kept::<F>(text, case, keep.hypothesis)?;
     put_lists(text, case, Quantity::Exit, steps, keep.exits.as_slice())
@@ -216,7 +221,8 @@ fn put_keeps<F: WrittenNumber>(
     requires known { All (λ j. j < length (content case.now).names) (hypotheses_of steps.now) }
     requires below { All (λ x. x.hypothesis < length (content case.now).names) (map (keep_parts F.parts) keeps.now) }
     requires fit { ExitsFit (length (content case.now).components) (length steps.now) (map (keep_parts F.parts) keeps.now) }
-    ensures { OnOk result (text.new ≡ text.old ++ forms_text F.numbers (content case.now) (keep_forms (hypotheses_of steps.now) (map (keep_parts F.parts) keeps.now))) }
+    ensures { OnOk result (text.new ≡ text.old ++ forms_text F.numbers (content case.now)
+        (keep_forms (hypotheses_of steps.now) (map (keep_parts F.parts) keeps.now))) }
 {
     for keep in keeps {
         put_keep(text, case, steps, keep)?;
@@ -231,7 +237,8 @@ fn written<F: WrittenNumber>(
     proof: &Steps<F>,
 ) -> Result<List<u8>, NoMemory>
     requires { FitsCase (content case.now) proof.now.version (map (step_parts F.parts) proof.now.steps) (map (keep_parts F.parts) proof.now.keeps) }
-    ensures { IfOk result (λ text. text ≡ forms_text F.numbers (content case.now) (evidence_forms proof.now.version (map (step_parts F.parts) proof.now.steps) (map (keep_parts F.parts) proof.now.keeps))) }
+    ensures { IfOk result (λ text. text ≡ forms_text F.numbers (content case.now)
+        (evidence_forms proof.now.version (map (step_parts F.parts) proof.now.steps) (map (keep_parts F.parts) proof.now.keeps))) }
 {
     let steps = proof.steps.as_slice();
     let mut text = List::new(alloc);
