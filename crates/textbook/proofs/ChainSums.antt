@@ -10,6 +10,7 @@ use Rattle.field_core.specs.Fractions.{fraction}
 use Rattle.field_core.specs.NumberField.{number_field}
 use Rattle.field_core.specs.Order.{◌≤ε◌}
 use Rattle.field_core.specs.Sums.{sum_below}
+use Rattle.field_core.specs.Terms.{Terms}
 use Rattle.field_core.specs.Laws.FractionLaws.{fraction-zero}
 use Rattle.field_core.specs.Laws.NumberFieldLaws.{field_one, sum_nothing, sum_last}
 use Rattle.field_core.proofs.SumLaws.{sum_congr}
@@ -17,7 +18,8 @@ use Rattle.field_core.proofs.UnitLimits.{one_is, suc_not_zero}
 use Rattle.case_model.specs.Content.{Content, entangled}
 use Rattle.case_model.specs.TextbookGraphs.{IsFallbackGraph}
 use Rattle.case_model.specs.Validity.{IsValidContent}
-use Rattle.case_model.proofs.Comparisons.{at_most_terms}
+use Rattle.case_model.specs.Sums.{number}
+use Rattle.case_model.proofs.Comparisons.{compare_terms, at_most_is}
 use Rattle.case_model.proofs.ValidContents.{valid_content}
 use Rattle.sequential.proofs.TrialFacts.{hypotheses_are}
 use Rattle.textbook.specs.TextbookRuns.{total}
@@ -29,6 +31,10 @@ less_or_same : (r : Ordering) (x y : ℤ) → r ≡ int_cmp x y → is_le r ≡ 
 less_or_same Less x y e h = inl (int_ranked x y Less e)
 less_or_same Equal x y e h = inr (int_ranked x y Equal e)
 less_or_same Greater x y e h = absurd (cc)
+
+at_most_terms : (x y : Terms) → pos 0 <ℤ x.den → pos 0 <ℤ y.den
+    → is_le (int_cmp (x.num *ℤ y.den) (y.num *ℤ x.den)) ≡ number_field.at_most (number x) (number y)
+at_most_terms x y h g = ap is_le (compare_terms x y h g) ∙ sym (at_most_is (number x) (number y))
 
 at_most_whole : (n d : ℕ) → fraction (pos n) (pos (suc d)) ≤ε number_one → n ≤ suc d
 at_most_whole n d h =
