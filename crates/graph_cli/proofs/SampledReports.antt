@@ -23,8 +23,8 @@ use Rattle.graph_cli.specs.Sample.{sample_stage}
 use Rattle.graph_cli.specs.Laws.{SamplesAreOfTheClosedTest}
 use Rattle.graph_cli.proofs.ClosedReports.{faultless_content, names_rejected, not_done}
 
-same_content : (c d : Content) → Ok {E = CatalogueFault} c ≡ Ok d → c ≡ d
-same_content c d e = cc
+same_content : (r : Result Content CatalogueFault) (c d : Content) → r ≡ Ok c → r ≡ Ok d → c ≡ d
+same_content r c d e f = cc
 
 not_made : (fault : CatalogueFault) (c : Content) → Err fault ≡ Ok c → ⊥
 not_made fault c e = cc
@@ -32,7 +32,7 @@ not_made fault c e = cc
 -- what is made of a draft is of a draft without a fault
 made_valid : (d : Draft) (fault : Option CaseFault) (c : Content) → case_fault d ≡ fault → have_known_arrivals d ≡ true → made_unless d fault ≡ Ok c
     → IsValidContent c
-made_valid d None c f known e = subst IsValidContent (same_content (content_of d) c e) (faultless_content d f known)
+made_valid d None c f known e = subst IsValidContent (same_content (Ok (content_of d)) (content_of d) c refl e) (faultless_content d f known)
 made_valid d (Some fault) c f known e = absurd (not_made _ c e)
 
 -- nothing stands before what is made
