@@ -28,7 +28,7 @@ returns-in-Ok-put_taken-clause-replied g c =
     let same = c.behind.ensures ∙ ap₂ drop (ap length c.settled-before.ensures.value) c.settled.ensures.value in
     taken_written k c.args.number old (g.K.Keeper.looks c.args.keeper.now) c.args.look.now
     (g.K.Keeper.looks c.add.new.keeper) c.args.text.now c.put_taken.new.text new c.behind.result.now T
-    (same ∙ brought k old new c.args.look.now T) c.in-Ok.ensures.kept c.in-Ok-put_taken.ensures
+    (same ∙ brought k old new c.args.look.now T) c.in-Ok.ensures.kept c.in-Ok-put_taken.ensures.put
 
 pub returns-in-Err-clause-stopped : goal.returns-in-Err-clause-stopped
 returns-in-Err-clause-stopped g c =
