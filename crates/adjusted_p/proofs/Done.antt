@@ -13,18 +13,18 @@ use Rattle.case_model.specs.Content.{Content, ForSingle, entangled}
 use Rattle.case_model.specs.Sums.{number_at, one_ratio}
 use Rattle.case_model.proofs.PriorityOrders.{ratio_legal}
 use Rattle.sequential.specs.Trials.{TrialContent, IsTrialOf}
-use Rattle.sequential.specs.WideDecisions.{IsWideDecision}
+use Rattle.sequential.specs.WideDecisions.{IsWideDecision, IsDecideFault}
 use Rattle.sequential.specs.declared.priority.Priority.TheVariants.{Ratio as ByRatio}
 use Rattle.sequential.proofs.Decided.{never_wide}
 use Rattle.sequential.proofs.OtherLevels.{opening_at}
 use Rattle.sequential.proofs.TrialFacts.{graph_valid, p_values_are}
 use Rattle.adjusted_p.specs.declared.adjusted.Adjusted.{Adjusted}
-use Rattle.adjusted_p.specs.declared.fault.AdjustFault.{AdjustFault}
-use Rattle.adjusted_p.specs.declared.fault.AdjustFault.TheVariants.{Wide, NoMemory}
+use Rattle.sequential.specs.declared.fault.RunFault.{RunFault}
+use Rattle.sequential.specs.declared.fault.RunFault.TheVariants.{Wide, NoMemory}
 use Rattle.adjusted_p.specs.AdjustedLists.{adjusted_at, AreAdjusted}
 use Rattle.adjusted_p.specs.RatioRuns.{IsLeastToOne, AreRunValues}
 use Rattle.adjusted_p.specs.WrittenRun.{IsWideAdjusting, IsAdjustFault}
-use Rattle.adjusted_p.specs.Adjusting.{IsAdjustingRun, IsRunFault}
+use Rattle.adjusted_p.specs.Adjusting.{IsAdjustingRun}
 use Rattle.adjusted_p.proofs.LevelOne.{one_is}
 use Rattle.adjusted_p.proofs.RunValues.{table_adjusted}
 
@@ -75,12 +75,12 @@ module _ (c : Content) (old new : TrialContent) (a : Ratio) (one : a ≡ one_rat
   started : IsTrialOf (at_level c one_ratio) old
   started = subst (λ b. IsTrialOf (at_level c b) old) one start
 
-  pub values_are : (r : Result (List Adjusted) AdjustFault)
+  pub values_are : (r : Result (List Adjusted) RunFault)
       → IfOk r (λ xs. (k : Content) → IsTrialOf k old → k.alpha ≡ one_ratio → IsAdjustingRun k new xs) → IfOk r (AreAdjusted c)
   values_are (Ok xs) h = run_adjusted c new xs (h (at_level c one_ratio) started refl)
   values_are (Err e) h = tt
 
-  pub none_wide : (r : Result (List Adjusted) AdjustFault)
+  pub none_wide : (r : Result (List Adjusted) RunFault)
       → IfOk r (λ xs. (k : Content) → IsTrialOf k old → k.alpha ≡ one_ratio → IsAdjustingRun k new xs)
       → OnOk r ((n : ℕ) (w : WideAt) → ¬ IsWideAdjusting c n w)
   none_wide (Ok xs) h = run_not_wide c new xs (h (at_level c one_ratio) started refl)
@@ -90,11 +90,11 @@ module _ (c : Content) (old new : TrialContent) (a : Ratio) (one : a ≡ one_rat
   wide_in zero w h = sym (opening_at c one_ratio) ∙ h
   wide_in (suc n) w h = h
 
-  fault_is : (e : AdjustFault) → IsRunFault (at_level c one_ratio) e → IsAdjustFault c e
+  fault_is : (e : RunFault) → IsDecideFault (at_level c one_ratio) ByRatio e → IsAdjustFault c e
   fault_is (Wide n w) h = wide_in n w h
   fault_is NoMemory h = tt
 
-  pub faults_are : (r : Result (List Adjusted) AdjustFault) → IfErr r (λ e. (k : Content) → IsTrialOf k old → k.alpha ≡ one_ratio → IsRunFault k e)
+  pub faults_are : (r : Result (List Adjusted) RunFault) → IfErr r (λ e. (k : Content) → IsTrialOf k old → k.alpha ≡ one_ratio → IsDecideFault k ByRatio e)
       → IfErr r (IsAdjustFault c)
   faults_are (Ok xs) h = tt
   faults_are (Err e) h = fault_is e (h (at_level c one_ratio) started refl)

@@ -1,6 +1,5 @@
 -- The adjusted values of a case, one for each hypothesis, by ascending position.
-use Rattle.std.specs.Prelude.{◌≡◌, ◌<◌, ℕ, pos, false, List, length, get_or}
-use Rattle.field_core.specs.declared.ratio.Ratio.{Ratio}
+use Rattle.std.specs.Prelude.{◌≡◌, ◌<◌, ℕ, false, List, length, get_or}
 use Rattle.case_model.specs.Content.{Content}
 use Rattle.case_model.specs.CaseTests.{IsAdjustedIn}
 use Rattle.case_model.specs.Sums.{one_ratio}

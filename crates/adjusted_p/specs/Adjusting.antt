@@ -9,12 +9,9 @@ use Rattle.case_model.specs.Sums.{number_at}
 use Rattle.case_model.specs.Content.{Content, entangled}
 use Rattle.sequential.specs.Trials.{TrialContent}
 use Rattle.sequential.specs.DecisionRuns.{IsRunSoFar, IsRun}
-use Rattle.sequential.specs.WideDecisions.{IsWideDecision}
 use Rattle.sequential.specs.declared.decision.StepLine.{StepLine}
 use Rattle.sequential.specs.declared.priority.Priority.TheVariants.{Ratio as ByRatio}
 use Rattle.adjusted_p.specs.declared.adjusted.Adjusted.{Adjusted}
-use Rattle.adjusted_p.specs.declared.fault.AdjustFault.{AdjustFault}
-use Rattle.adjusted_p.specs.declared.fault.AdjustFault.TheVariants.{Wide, NoMemory}
 use Rattle.adjusted_p.specs.AdjustedLists.{adjusted_at}
 use Rattle.adjusted_p.specs.RatioRuns.{ValueStep, removed_ones, AreValueSteps, IsTableOf}
 
@@ -44,8 +41,3 @@ pub record IsAdjustingRun (c : Content) (t : TrialContent) (table : List Adjuste
   pub run : IsRun c ByRatio lines t
   pub steps : List ValueStep
   pub are_steps : AreSteps c t steps table
-
--- why a run has no end: it is undefined; nothing is said of memory
-abbrev pub IsRunFault : Content → AdjustFault → Type 0
-IsRunFault c (Wide n w) = IsWideDecision c ByRatio n w
-IsRunFault c NoMemory = Unit {0}

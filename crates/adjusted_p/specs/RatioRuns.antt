@@ -1,4 +1,5 @@
--- Runs by least ratios: the hypothesis with the least ratio is removed, as long as the ratio is at most 1. The value of a step is the greater of its ratio and of the value before it.
+-- Runs by least ratios: the hypothesis with the least ratio is removed, as long as the ratio is at most 1. The value of a step is the
+-- greater of its ratio and of the value before it.
 use Rattle.std.specs.Prelude.{◌≡◌, ◌⊎◌, ℕ, Bool, true, List, [], ◌∷◌, map}
 use Rattle.std.specs.List.{AllByRecursion}
 use Rattle.field_core.specs.Number.{Number}

@@ -1,4 +1,5 @@
--- The written run of adjusted values (this project's own): that of the decision by ratios at the level 1, where a least ratio is legal exactly if it is at most 1. Step 0 is the opening of the case.
+-- The written run of adjusted values (this project's own): that of the decision by ratios at the level 1, where a least ratio is legal
+-- exactly if it is at most 1. Step 0 is the opening of the case.
 use Rattle.std.specs.Prelude.{◌≡◌, ℕ, zero, suc, Err}
 use Rattle.field_core.specs.declared.place.WideAt.{WideAt}
 use Rattle.case_model.specs.Content.{Content}
@@ -7,8 +8,8 @@ use Rattle.case_model.specs.Sums.{one_ratio}
 use Rattle.entangled.specs.CaseRun.{case_opening}
 use Rattle.sequential.specs.WideDecisions.{IsWideDecision}
 use Rattle.sequential.specs.declared.priority.Priority.TheVariants.{Ratio as ByRatio}
-use Rattle.adjusted_p.specs.declared.fault.AdjustFault.{AdjustFault}
-use Rattle.adjusted_p.specs.declared.fault.AdjustFault.TheVariants.{Wide, NoMemory}
+use Rattle.sequential.specs.declared.fault.RunFault.{RunFault}
+use Rattle.sequential.specs.declared.fault.RunFault.TheVariants.{Wide, NoMemory}
 
 -- the written run is undefined first at `w`, in this step
 abbrev pub IsWideAdjusting : Content → ℕ → WideAt → Type 0
@@ -16,6 +17,6 @@ IsWideAdjusting c zero w = case_opening c ≡ Err w
 IsWideAdjusting c (suc n) w = IsWideDecision (at_level c one_ratio) ByRatio (suc n) w
 
 -- why there are no adjusted values: the written run is undefined; nothing is said of memory
-abbrev pub IsAdjustFault : Content → AdjustFault → Type 0
+abbrev pub IsAdjustFault : Content → RunFault → Type 0
 IsAdjustFault c (Wide n w) = IsWideAdjusting c n w
 IsAdjustFault c NoMemory = Unit {0}

@@ -8,8 +8,6 @@
 #![tactic(auto)]
 
 mod adjusted;
-mod fault;
 pub mod laws;
 
 pub use adjusted::{Adjusted, adjust};
-pub use fault::AdjustFault;

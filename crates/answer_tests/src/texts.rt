@@ -1,5 +1,5 @@
 //! Reports written by hand.
-ghost use Rattle.std.specs.Prelude.{◌≡◌, true, None, IfOk, IsTrue, map, nat_lt};
+ghost use Rattle.std.specs.Prelude.{◌≡◌, true, None, IfOk, IsTrue, nat_lt};
 ghost use Rattle.std.specs.List.{list_all};
 ghost use Rattle.case_model.specs.Draft.{have_known_ends, have_known_arrivals};
 ghost use Rattle.case_model.specs.CaseView.{content};

@@ -1,7 +1,8 @@
 //! What a call answers, why it stops, and what is put of either.
 //!
-//! Proved: `take_whole` (`given`, `end`, `stopped`, `clean`) and `conclude`, by stages: each gives a value or
-//! refuses, and the first refusal decides. That a chain of stages has one answer is proved once, for any chain.
+//! Proved: `take_whole` (`given`, `end`, `stopped`, how much an error leaves `taken`, and `clean`: no fault is told as
+//! want of memory) and `conclude`, by stages: each gives a value or refuses, and the first refusal decides. That a chain of
+//! stages has one answer is proved once, for any chain.
 #![tactic(auto)]
 
 mod answer;

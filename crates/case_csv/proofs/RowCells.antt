@@ -1,5 +1,5 @@
 -- The cells of a row, from left to right.
-use Rattle.std.proofs.Common.{◌≡◌, ◌≢◌, ◌≤◌, ◌+◌, inl, inr, ◌∙◌, ℕ, suc, Bool, true, false, List, [], ◌∷◌, ◌++◌, Option}
+use Rattle.std.proofs.Common.{◌≡◌, ◌≢◌, ◌≤◌, ◌+◌, inr, ◌∙◌, ℕ, suc, Bool, true, false, List, [], ◌∷◌, ◌++◌, Option}
 use Rattle.std.proofs.Common.{Some, None, refl, sym, ap, subst, take, drop, length, arith, append_assoc}
 use Rattle.std.specs.Prelude.{slice_get}
 use Rattle.std.specs.List.{AllZip}
@@ -11,7 +11,6 @@ use Rattle.field_core.specs.declared.ratio.Ratio.{Ratio}
 use Rattle.case_model.specs.declared.draft_edge.DraftEdge.{DraftEdge}
 use Rattle.edge_expression.specs.EntryReading.{IsEntryText}
 use Rattle.case_csv.specs.declared.fault.RowKind.{RowKind}
-use Rattle.case_csv.specs.declared.fault.RowKind.TheVariants.{Width}
 use Rattle.case_csv.specs.Table.{Cells, edge_at, row_edges}
 use Rattle.case_csv.specs.Faults.{Accepts, Refuses, AcceptsBelow, IsBadCell, IsBadRow, IsEntryFault}
 use Rattle.case_csv.specs.View.{kept}

@@ -1,9 +1,9 @@
 -- The records of a sheet are read back from its text, and say its draft.
 use Rattle.std.proofs.Common.{◌≡◌, ◌≢◌, refl, sym, ap, ap₂, subst, ◌∙◌, ℕ, zero, suc, ◌+◌, ◌-◌, ◌*◌, ◌<◌, ◌≤◌}
-use Rattle.std.proofs.Common.{◌==◌, ◌||◌, ◌&&◌, ◌⊎◌, inl, inr, List, [], ◌∷◌, ◌++◌, length, map, take, drop, get_or, Bool, true}
-use Rattle.std.proofs.Common.{false, Option, Some, None, true≢false, arith}
-use Rattle.std.specs.Prelude.{slice_get, codes}
-use Rattle.std.specs.List.{AllByRecursion, AllZip, flat_map, list_all, prefix_len, suffix_len, range_with_len}
+use Rattle.std.proofs.Common.{◌==◌, ◌||◌, ◌&&◌, ◌⊎◌, inl, inr, List, [], ◌∷◌, ◌++◌, length, map, take, drop, get_or, true}
+use Rattle.std.proofs.Common.{false, Some, None, true≢false, arith}
+use Rattle.std.specs.Prelude.{codes}
+use Rattle.std.specs.List.{AllByRecursion, AllZip, flat_map, prefix_len, suffix_len, range_with_len}
 use Rattle.std.specs.Str.{bytes_eq}
 use Rattle.std.proofs.lemmas.Bool.{cases_Bool}
 use Rattle.std.proofs.lemmas.Bool.Decides.{nat_tests}
@@ -13,16 +13,16 @@ use Rattle.std.proofs.lemmas.List.Sums.{suffix_len_is}
 use Rattle.std.proofs.lemmas.Option.{slice_get-get_or}
 use Rattle.std.proofs.lemmas.Slice.Eq.{bytes_eq-Decides}
 use Rattle.csv.specs.Machine.{next_record}
-use Rattle.csv.specs.Reading.{default_config, strip_bom, records, records_from}
+use Rattle.csv.specs.Reading.{default_config, strip_bom, records}
 use Rattle.csv.specs.Writing.{default_writer, read_back, row_text}
 use Rattle.csv.specs.declared.parser.State.TheVariants as st
 use Rattle.csv.proofs.RoundTrip.{read-write}
 use Rattle.field_core.specs.View.{terms}
 use Rattle.field_core.specs.declared.ratio.Ratio.{Ratio}
 use Rattle.fraction.specs.Numeral.{IsNumeralOf}
-use Rattle.fraction.specs.Spelling.{spelling, IsSpellingByte}
+use Rattle.fraction.specs.Spelling.{IsSpellingByte}
 use Rattle.fraction.proofs.ReadBack.{spelling_bytes, spelling_some}
-use Rattle.case_model.specs.Sums.{ratio_at, zero_ratio}
+use Rattle.case_model.specs.Sums.{ratio_at}
 use Rattle.case_model.specs.declared.component.Component.{Component}
 use Rattle.case_model.specs.declared.inputs.Inputs.{Inputs}
 use Rattle.case_model.specs.declared.inputs.Inputs.TheVariants.{Bare, Single, Staged}
@@ -35,7 +35,7 @@ use Rattle.edge_text.proofs.CanonicalWords.{number_is_word, entry_is_word, high_
 use Rattle.text_lines.specs.Spelling.{IsPlain, IsWord}
 use Rattle.text_lines.specs.Words.{is_blank, after_blanks}
 use Rattle.case_csv.specs.Records.{Fields, records_of, text_of}
-use Rattle.case_csv.specs.Sheet.{header_fields, p_field, edge_fields, row_fields}
+use Rattle.case_csv.specs.Sheet.{header_fields, p_field, row_fields}
 use Rattle.case_csv.specs.Table.{Cells, bare, is_missing, IsPlace, has_heading, IsHeader, RowSaid, IsRow, AreRows}
 use Rattle.case_csv.proofs.RecordsLeft.{one_left, none_left}
 use Rattle.case_csv.proofs.SheetDrafts.{p_at, content_with, said_at}

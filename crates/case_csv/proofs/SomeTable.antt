@@ -1,6 +1,6 @@
 -- Records say a draft, or have a first fault.
 use Rattle.std.proofs.Common.{◌≡◌, ◌≢◌, ◌<◌, ◌≤◌, ◌+◌, ◌⊎◌, inl, inr, ◌∙◌, ℕ, zero, suc, Bool, true, false, List, []}
-use Rattle.std.proofs.Common.{◌∷◌, ◌++◌, Option, Some, None, refl, sym, ap, subst, take, drop, length, get_or, arith, true≢false}
+use Rattle.std.proofs.Common.{◌∷◌, ◌++◌, Some, None, refl, sym, ap, subst, drop, length, get_or, arith, true≢false}
 use Rattle.std.specs.Prelude.{slice_get}
 use Rattle.std.specs.List.{AllZip}
 use Rattle.std.specs.Str.{bytes_eq}
@@ -13,13 +13,12 @@ use Rattle.field_core.specs.declared.ratio.Ratio.{Ratio}
 use Rattle.fraction.specs.Numeral.{IsNumeralOf, IsParseFault}
 use Rattle.fraction.specs.declared.fault.NumberFault.{NumberFault}
 use Rattle.fraction.proofs.Numerals.{reading}
-use Rattle.case_model.specs.declared.draft.Draft.{Draft}
 use Rattle.edge_expression.specs.EntryReading.{IsEntryText}
 use Rattle.edge_expression.proofs.OneEntry.{entry_or_fault}
 use Rattle.case_csv.specs.declared.fault.RowKind.{RowKind}
 use Rattle.case_csv.specs.declared.fault.RowKind.TheVariants.{NoHeader, Header, Count, Width, Name, Number, Expr}
-use Rattle.case_csv.specs.Table.{Cells, has_heading, IsHeader, is_missing, IsPlace, HasCell, RowSaid, IsRow, AreRows, draft_of, IsTable}
-use Rattle.case_csv.specs.Faults.{Accepts, Refuses, AcceptsBelow, IsBadCell, IsBadRow, IsBadHeader, HasBadRow, HasSurplus, HasMissing, IsRowFault, IsFirstFault}
+use Rattle.case_csv.specs.Table.{Cells, has_heading, IsHeader, is_missing, RowSaid, IsRow, AreRows, draft_of}
+use Rattle.case_csv.specs.Faults.{Accepts, Refuses, AcceptsBelow, IsBadCell, IsBadRow, IsBadHeader, IsRowFault}
 use Rattle.case_csv.specs.TableStatements.{TablesSayOrFail}
 use Rattle.case_csv.proofs.OneTable.{behind}
 use Rattle.case_csv.proofs.RowCells.{accepts_none, accepts_more}

@@ -1,5 +1,5 @@
 //! The cells of records, and what one cell says.
-ghost use Rattle.std.specs.Prelude.{◌≡◌, ◌<◌, ◌≤◌, false, true, Some, slice_get, length, IfOk, IfErr};
+ghost use Rattle.std.specs.Prelude.{◌≡◌, ◌<◌, ◌≤◌, false, Some, slice_get, length, IfOk, IfErr};
 ghost use Rattle.field_core.specs.View.{terms};
 ghost use Rattle.fraction.specs.Numeral.{IsNumeralOf};
 ghost use Rattle.edge_expression.specs.EntryReading.{IsEntryText};

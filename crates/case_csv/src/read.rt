@@ -1,5 +1,5 @@
 //! The reader of sheets.
-ghost use Rattle.std.specs.Prelude.{◌≡◌, ◌≢◌, ◌⊎◌, true, IfOk, IfErr, length};
+ghost use Rattle.std.specs.Prelude.{◌≡◌, ◌≢◌, ◌⊎◌, true, IfOk, IfErr};
 ghost use Rattle.case_model.specs.Draft.{have_known_ends, have_known_arrivals};
 ghost use Rattle.case_model.specs.declared.fault.CaseFault.TheVariants.{NoMemory as OutOfMemory};
 ghost use Rattle.case_csv.specs.Reading.{IsCaseOf, IsCsvFault};

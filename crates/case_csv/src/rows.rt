@@ -1,5 +1,5 @@
 //! The header and the rows.
-ghost use Rattle.std.specs.Prelude.{◌≡◌, ◌≤◌, ◌<◌, Some, slice_get, List as Seq, length, map, drop, IfOk, IfErr};
+ghost use Rattle.std.specs.Prelude.{◌≡◌, ◌≤◌, ◌<◌, Some, slice_get, List as Seq, length, drop, IfOk, IfErr};
 ghost use Rattle.case_csv.specs.Records.{Fields, StandsBefore};
 ghost use Rattle.case_csv.specs.Table.{IsHeader, RowSaid, AreRows};
 ghost use Rattle.case_csv.specs.Faults.{IsBadHeader, IsRowFault};

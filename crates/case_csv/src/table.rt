@@ -1,11 +1,9 @@
 //! What rows have said so far.
 ghost use Rattle.std.specs.Prelude.{◌≡◌, ◌≤◌, ◌<◌, ◌+◌, ◌^◌, ℕ, List as Seq, [], ◌++◌, drop, length, OnOk, IfOk, IfErr};
 ghost use Rattle.std.specs.List.{AllZip};
-ghost use Rattle.field_core.specs.View.{terms};
 ghost use Rattle.field_core.specs.declared.ratio.Ratio.{Ratio};
-ghost use Rattle.fraction.specs.Numeral.{IsNumeralOf};
 ghost use Rattle.edge_expression.specs.EntryReading.{IsEntryText};
-ghost use Rattle.case_csv.specs.Table.{HasCell, IsPlace, RowSaid, IsRow, edge_at, row_edges};
+ghost use Rattle.case_csv.specs.Table.{RowSaid, IsRow, edge_at, row_edges};
 ghost use Rattle.case_csv.specs.Faults.{IsBadRow, IsBadCell, AcceptsBelow};
 ghost use Rattle.case_csv.specs.View.{cells, kept, IsAtRow, TakesRow, HasStart};
 

@@ -1,9 +1,10 @@
 -- The integers in the value of bytes have at most 64 bits.
-use Rattle.std.proofs.Common.{◌≡◌, ◌<◌, ◌≤◌, ◌^◌, ℕ, zero, suc, pos, Bool, true, false, ◌&&◌, ◌==◌, if◌then◌else◌, List, Option, Some, None}
+use Rattle.std.proofs.Common.{◌≡◌, ◌<◌, ◌≤◌, ◌^◌, ℕ, zero, suc, pos, Bool, true, false, ◌&&◌, ◌==◌, if◌then◌else◌, List}
+use Rattle.std.proofs.Common.{Option, Some, None}
 use Rattle.std.proofs.Common.{refl, subst, arith, drop, ltb-true, Ordering, Less, Equal, Greater, option_map, option_and_then}
 use Rattle.std.specs.Prelude.{unsigned_abs, neg_ℤ, slice_index, nat_lt, nat_le, IfSome}
 use Rattle.std.proofs.lemmas.Bool.{leb-true, and_parts}
-use Rattle.std.specs.Float.{Float, binary64, float_is_finite}
+use Rattle.std.specs.Float.{binary64, float_is_finite}
 use Rattle.std.specs.Float.Numeral.{Parts, numeral_digits, nearest_float, scan_numeral}
 use Rattle.std.specs.Ordering.{nat_cmp, match_ordering}
 use Rattle.std.specs.Cmp.Lexicographic.{slice_cmp}
@@ -62,7 +63,8 @@ number_held : (s : List ℕ) → IfSome (number_of s) IsHeld
 unfolding number_of
 number_held s =
     let behind = scan_numeral (drop 1 s) in
-    either_there (slice_index s 0 == 45) (number_from true behind) (number_from false (scan_numeral s)) (from_held true behind) (from_held false (scan_numeral s))
+    either_there (slice_index s 0 == 45) (number_from true behind) (number_from false (scan_numeral s))
+    (from_held true behind) (from_held false (scan_numeral s))
 
 -- ---- values
 

@@ -1,16 +1,15 @@
 -- What a reader that is passed on gives, as what is said of its values.
-use Rattle.std.proofs.Common.{◌≡◌, refl, inl, inr, ap, sym, subst, ◌∙◌, List, [], ◌∷◌, ◌++◌, ℕ}
+use Rattle.std.proofs.Common.{◌≡◌, refl, inl, inr, ap, subst, ◌∙◌, List, [], ◌∷◌, ◌++◌, ℕ}
 use Rattle.std.specs.Prelude.{Result, Ok, Err, IfOk, IfErr}
 use Rattle.std.specs.Borrow.{Bor}
 use Rattle.std.specs.List.{AllZip}
-use Rattle.std.specs.Fn.{Shared, FnReturnsAt}
-use Rattle.std.specs.Fmt.{decimal}
+use Rattle.std.specs.Fn.{Shared}
 use Rattle.serde_json.specs.Data.{Data, null, boolean, number, string, array, object}
 use Rattle.serde_json.specs.View.{view}
 use Rattle.serde_json.specs.declared.value.Value.{Value}
 use Rattle.case_json.specs.declared.fault.JsonFault.{JsonFault}
 use Rattle.case_json.specs.declared.fault.JsonFault.TheVariants as faults
-use Rattle.case_json.specs.Values.{OrMemory, Has, HasBad, IsBadAt, item_list, IsBadItem, AreItems, AreItemsFault, under}
+use Rattle.case_json.specs.Values.{OrMemory, item_list, IsBadItem, AreItems, AreItemsFault, under}
 use Rattle.case_json.specs.Readers.{Answers, Reads, Refuses}
 
 pub answered : {F A : Type 0} (calls : Shared F (Bor Value × Unit {0}) (Result A JsonFault)) (reader : F) (part : Bor Value) (answer : Result A JsonFault)
@@ -20,14 +19,16 @@ answered calls reader part answer h =
 
 -- ---- what is said in other words
 
-pub zipped_as : {A : Type 0} (Is Js : Data → A → Type 0) → ((d : Data) (a : A) → Is d a → Js d a) → (ds : List Data) (said : List A) → AllZip Is ds said
+pub zipped_as : {A : Type 0} (Is Js : Data → A → Type 0) → ((d : Data) (a : A) → Is d a → Js d a)
+    → (ds : List Data) (said : List A) → AllZip Is ds said
     → AllZip Js ds said
 zipped_as Is Js turn [] [] h = tt
 zipped_as Is Js turn [] (a ∷ said) h = absurd h
 zipped_as Is Js turn (d ∷ ds) [] h = absurd h
 zipped_as Is Js turn (d ∷ ds) (a ∷ said) h = (turn d a h.0, zipped_as Is Js turn ds said h.1)
 
-items_as : {A : Type 0} (Is Js : Data → A → Type 0) → ((d : Data) (a : A) → Is d a → Js d a) → (value : Data) (said : List A) → AreItems Is value said
+items_as : {A : Type 0} (Is Js : Data → A → Type 0) → ((d : Data) (a : A) → Is d a → Js d a)
+    → (value : Data) (said : List A) → AreItems Is value said
     → AreItems Js value said
 items_as Is Js turn null said h = absurd h
 items_as Is Js turn (boolean b) said h = absurd h
@@ -65,20 +66,11 @@ items_fault_as Is Js Bad Cad turn bad (string s) fault h = inr h
 items_fault_as Is Js Bad Cad turn bad (array ds) fault h = bad_item_as Is Js Bad Cad turn bad (item_list ds) fault h
 items_fault_as Is Js Bad Cad turn bad (object ms) fault h = inr h
 
-at_fault_as : (Bad Cad : Data → JsonFault → Type 0) → ((d : Data) (e : JsonFault) → Bad d e → OrMemory (Cad d) e) → (key : List ℕ) (value : Data)
-    (fault : JsonFault)
-    → IsBadAt Bad key value fault → OrMemory (IsBadAt Cad key value) fault
-at_fault_as Bad Cad bad key value fault (inl misses) = inr (inl misses)
-at_fault_as Bad Cad bad key value fault (inr h) = by_fault (bad h.part h.inner h.bad)
-  where
-    by_fault : OrMemory (Cad h.part) h.inner → OrMemory (IsBadAt Cad key value) fault
-    by_fault (inl memory) = inl (h.fault_is ∙ ap (under key) memory)
-    by_fault (inr is) = inr (inr (record { part = h.part; there = h.there; inner = h.inner; bad = is; fault_is = h.fault_is }))
-
 -- ---- results
 
 -- a reader says this of each value, or refuses it so
-abbrev pub IsReader : {F A : Type 0} → Shared F (Bor Value × Unit {0}) (Result A JsonFault) → F → (Data → A → Type 0) → (Data → JsonFault → Type 0) → Type 0
+abbrev pub IsReader : {F A : Type 0} → Shared F (Bor Value × Unit {0}) (Result A JsonFault)
+    → F → (Data → A → Type 0) → (Data → JsonFault → Type 0) → Type 0
 IsReader calls reader Is Bad =
     (part : Bor Value) (r : Result _ JsonFault) → calls.post reader (part, tt) r → IfOk r (Is (view part.now)) × IfErr r (OrMemory (Bad (view part.now)))
 
@@ -90,7 +82,8 @@ module _ {F A : Type 0} (calls : Shared F (Bor Value × Unit {0}) (Result A Json
   fails : (d : Data) (e : JsonFault) → Refuses calls reader d e → OrMemory (Bad d) e
   fails d e h = subst (λ v. OrMemory (Bad v) e) (ap view h.answers.shows ∙ h.part_is) (each h.answers.shown (Err e) h.answers.says.met).1
 
-  pub items_found : (value : Data) (result : Result (List A) JsonFault) → IfOk result (AreItems (Reads calls reader) value) → IfOk result (AreItems Is value)
+  pub items_found : (value : Data) (result : Result (List A) JsonFault)
+      → IfOk result (AreItems (Reads calls reader) value) → IfOk result (AreItems Is value)
   items_found value (Ok said) h = items_as (Reads calls reader) Is says value said h
   items_found value (Err fault) h = tt
 
@@ -99,14 +92,3 @@ module _ {F A : Type 0} (calls : Shared F (Bor Value × Unit {0}) (Result A Json
   items_failed value (Ok said) h = tt
   items_failed value (Err fault) (inl memory) = inl memory
   items_failed value (Err fault) (inr h) = items_fault_as (Reads calls reader) Is (Refuses calls reader) Bad says fails value fault h
-
-  pub part_found : (key : List ℕ) (value : Data) (result : Result A JsonFault) → IfOk result (Has (Reads calls reader) key value)
-      → IfOk result (Has Is key value)
-  part_found key value (Ok a) h = record { part = h.part; there = h.there; is = says h.part a h.is }
-  part_found key value (Err fault) h = tt
-
-  pub part_failed : (key : List ℕ) (value : Data) (result : Result A JsonFault) → IfErr result (OrMemory (IsBadAt (Refuses calls reader) key value))
-      → IfErr result (OrMemory (IsBadAt Bad key value))
-  part_failed key value (Ok a) h = tt
-  part_failed key value (Err fault) (inl memory) = inl memory
-  part_failed key value (Err fault) (inr h) = at_fault_as (Refuses calls reader) Bad fails key value fault h

@@ -11,7 +11,8 @@ use Rattle.serde_json.specs.Find.{as_integer, as_u64, is_float}
 use Rattle.case_json.specs.declared.fault.JsonFault.{JsonFault}
 use Rattle.case_json.specs.declared.fault.JsonFault.TheVariants.{Shape, NotWhole, Number, UnknownName, Expr}
 use Rattle.case_json.specs.Values.{item_list, Has, MayHave, HasBad, IsBadAt, KnownKeys, Then, IsBadItem, AreItems, AreItemsFault}
-use Rattle.case_json.specs.Document.{IsNumber, IsPlace, IsCount, IsText, IsHypothesis, edge_keys, IsEdge, one, component_keys, IsComponent, step_keys, IsStep, table_keys, IsSpend, arrival_keys, IsArrival, stages_keys, document_keys}
+use Rattle.case_json.specs.Document.{IsNumber, IsPlace, IsCount, IsText, IsHypothesis, edge_keys, IsEdge, one, component_keys, IsComponent, step_keys, IsStep}
+use Rattle.case_json.specs.Document.{table_keys, IsSpend, arrival_keys, IsArrival, stages_keys, document_keys}
 
 -- ---- single values
 
@@ -139,5 +140,6 @@ IsFirstFault value =
     (Then (IsBadAt IsNumberFault (codes "alpha") value) (Has IsNumber (codes "alpha") value) (λ alpha.
     Then (IsBadAt (AreItemsFault IsText IsTextFault) (codes "hypotheses") value) (Has (AreItems IsText) (codes "hypotheses") value) (λ names.
     Then (HasBad (AreItemsFault IsPlace IsPlaceFault) (codes "p") value) (MayHave (AreItems IsPlace) [] (codes "p") value) (λ p.
-    Then (IsBadAt (AreItemsFault (IsComponent names) (IsComponentFault names)) (codes "components") value) (Has (AreItems (IsComponent names)) (codes "components") value) (λ components.
+    Then (IsBadAt (AreItemsFault (IsComponent names) (IsComponentFault names)) (codes "components") value)
+    (Has (AreItems (IsComponent names)) (codes "components") value) (λ components.
     HasBad (AreStagesFault names) (codes "stages") value)))))

@@ -8,7 +8,8 @@ use Rattle.serde_json.specs.declared.value.Value.{Value}
 use Rattle.case_json.specs.declared.fault.JsonFault.{JsonFault}
 
 -- A reader may answer so at a value that holds this.
-pub record Answers {F A : Type 0} (calls : Shared F (Bor Value × Unit {0}) (Result A JsonFault)) (reader : F) (value : Data) (answer : Result A JsonFault) : Type 0 where
+pub record Answers {F A : Type 0} (calls : Shared F (Bor Value × Unit {0}) (Result A JsonFault))
+    (reader : F) (value : Data) (answer : Result A JsonFault) : Type 0 where
   pub part : Value
   pub part_is : view part ≡ value
   pub answers : FnReturnsAt calls reader part answer

@@ -1,5 +1,5 @@
 //! Edges and components.
-ghost use Rattle.std.specs.Prelude.{◌≡◌, IfOk, IfErr, codes};
+ghost use Rattle.std.specs.Prelude.{IfOk, IfErr, codes};
 ghost use Rattle.serde_json.specs.View.{view};
 ghost use Rattle.case_json.specs.Values.{OrMemory, Has, MayHave, HasBad, IsBadAt, AreItems, AreItemsFault};
 ghost use Rattle.case_json.specs.Document.{IsNumber, one, IsEdge, IsComponent};

@@ -1,5 +1,5 @@
 //! What hypotheses spend at the stages.
-ghost use Rattle.std.specs.Prelude.{◌≡◌, IfOk, IfErr, codes};
+ghost use Rattle.std.specs.Prelude.{IfOk, IfErr, codes};
 ghost use Rattle.serde_json.specs.View.{view};
 ghost use Rattle.case_json.specs.Values.{OrMemory, Has, IsBadAt, AreItems, AreItemsFault};
 ghost use Rattle.case_json.specs.Document.{IsStep, IsTable, IsSpend};

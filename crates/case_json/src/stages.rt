@@ -1,5 +1,5 @@
 //! Stages, and the p-values that arrived at them.
-ghost use Rattle.std.specs.Prelude.{◌≡◌, None as Absent, IfOk, IfErr, codes};
+ghost use Rattle.std.specs.Prelude.{None as Absent, IfOk, IfErr, codes};
 ghost use Rattle.serde_json.specs.View.{view};
 ghost use Rattle.case_json.specs.Values.{OrMemory, Has, MayHave, HasBad, IsSome, IsBadAt, AreItems, AreItemsFault};
 ghost use Rattle.case_json.specs.Document.{IsArrival, AreStages};

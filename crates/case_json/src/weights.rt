@@ -1,5 +1,5 @@
 //! Weights of edges.
-ghost use Rattle.std.specs.Prelude.{◌≡◌, ◌<◌, ◌≤◌, ◌^◌, [], unsigned_abs, IfOk, IfErr};
+ghost use Rattle.std.specs.Prelude.{◌≡◌, ◌<◌, ◌^◌, [], unsigned_abs, IfOk, IfErr};
 ghost use Rattle.serde_json.specs.Data.{number as numeric};
 ghost use Rattle.serde_json.specs.View.{view, number_view};
 ghost use Rattle.edge_expression.specs.EntryReading.{IsEntryText, IsExprFault};

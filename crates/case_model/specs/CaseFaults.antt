@@ -1,7 +1,8 @@
 -- The fault of a draft: what the first test that finds something tells. The tests stand in a table; each is made of all components,
 -- hypotheses or places of a list, in ascending order, before the next. (A row is here a row of edges, or what a test of one item tells.)
 -- Components, hypotheses, stages, steps and arrivals are counted from 0; but an arrival has its stage counted from 1.
-use Rattle.std.specs.Prelude.{ℕ, zero, suc, ◌+◌, ◌-◌, ◌==◌, ◌&&◌, ◌||◌, not, Bool, true, false, List, [], ◌∷◌, Option, Some, None, Result, Ok, Err, length, map, take, slice_get, nat_lt, nat_le, is_some, is_none, if◌then◌else◌}
+use Rattle.std.specs.Prelude.{ℕ, zero, suc, ◌+◌, ◌-◌, ◌==◌, ◌&&◌, ◌||◌, not, Bool, true, false, List, [], ◌∷◌, Option, Some, None}
+use Rattle.std.specs.Prelude.{Result, Ok, Err, length, map, take, slice_get, nat_lt, nat_le, is_some, is_none, if◌then◌else◌}
 use Rattle.std.specs.Bool.{then_some}
 use Rattle.std.specs.List.{list_all, list_any}
 use Rattle.std.specs.Option.{option_or, option_map, option_and_then}
@@ -21,7 +22,11 @@ use Rattle.field_core.specs.declared.place.Place.{Place}
 use Rattle.field_core.specs.declared.place.Place.TheVariants.{WeightSum as AtWeightSum, RowSum as AtRowSum, ShareSum as AtShareSum, SpendSum as AtSpendSum}
 use Rattle.case_model.specs.declared.fault.PartPlace.TheVariants.{Alpha, Share, Weight, Edge, P, Spend as SpendPart, Step, Arrival as ArrivalPart}
 use Rattle.case_model.specs.declared.fault.CaseFault.{CaseFault}
-use Rattle.case_model.specs.declared.fault.CaseFault.TheVariants.{NoHypothesis, TooMany, NameForm, DuplicateName, NoComponent, TooManyComponents, PartTooLong, AlphaRange, ShareRange, ShareSum, WeightCount, WeightRange, WeightSum, SelfEdge, RepeatedEdge, EdgeRange, RowSum, Mixed, PCount, PMissing, PRange, NoStage, TooManyStages, SpendCount, TooManySteps, StepOrder, SpendRange, SpendSum, ArrivalStage, ArrivalRepeated, ArrivalRange, Wide}
+use Rattle.case_model.specs.declared.fault.CaseFault.TheVariants.{NoHypothesis, TooMany, NameForm, DuplicateName, NoComponent, TooManyComponents, PartTooLong}
+use Rattle.case_model.specs.declared.fault.CaseFault.TheVariants.{AlphaRange, ShareRange, ShareSum, WeightCount, WeightRange, WeightSum, SelfEdge, RepeatedEdge}
+use Rattle.case_model.specs.declared.fault.CaseFault.TheVariants.{EdgeRange, RowSum, Mixed, PCount, PMissing, PRange, NoStage, TooManyStages, SpendCount}
+use Rattle.case_model.specs.declared.fault.CaseFault.TheVariants.{TooManySteps, StepOrder, SpendRange, SpendSum, ArrivalStage, ArrivalRepeated, ArrivalRange}
+use Rattle.case_model.specs.declared.fault.CaseFault.TheVariants.{Wide}
 use Rattle.fraction.specs.View.{number_of}
 use Rattle.fraction.specs.Written.{written_mul}
 use Rattle.case_model.specs.declared.draft.Draft.{Draft}
@@ -180,7 +185,8 @@ sum_fault r value above = bound_fault r value number_one above
 
 -- the fault of the sum of a list of fractions in a component
 unfoldable pub total_fault : List Ratio → ℕ → Place → CaseFault → Option CaseFault
-total_fault xs c place above = sum_fault (in_component c (at place Add (written_sum (length xs) (ratio_at xs)))) (sum_below number_field (length xs) (number_at xs)) above
+total_fault xs c place above = sum_fault (in_component c (at place Add (written_sum (length xs) (ratio_at xs))))
+    (sum_below number_field (length xs) (number_at xs)) above
 
 -- the shares sum above 1
 unfoldable pub share_sum : List DraftComponent → Option CaseFault
@@ -252,7 +258,8 @@ written_row m row = do
 
 -- the sum of the row of `i` in a table of `m` rows and columns is above 1, in the order of epsilon
 unfoldable pub row_sum : ℕ → ℕ → List (List Ratio) → ℕ → Option CaseFault
-row_sum m c table i = sum_fault (in_component c (at (AtRowSum i) Add (written_row m (entry_at m table i)))) (sum_below number_field m (λ j. entry_value (entry_at m table i j))) (RowSum c i)
+row_sum m c table i = sum_fault (in_component c (at (AtRowSum i) Add (written_row m (entry_at m table i))))
+    (sum_below number_field m (λ j. entry_value (entry_at m table i j))) (RowSum c i)
 
 -- the first such row of a component
 unfoldable pub component_rows : ℕ → ℕ → Component → Option CaseFault
@@ -306,7 +313,8 @@ has_all_stages count (Table ss) = not (length ss == 0) && list_all (λ s. length
 
 -- the first of `m` hypotheses that doesn't spend at each stage, or the first place past them where something is spent
 unfoldable pub spend_count : ℕ → ℕ → List Spend → Option CaseFault
-spend_count m count spends = first_of (λ i s. SpendCount i when (nat_le m i || not (has_all_stages count s))) spends or (SpendCount (length spends) when nat_lt (length spends) m)
+spend_count m count spends = first_of (λ i s. SpendCount i when (nat_le m i || not (has_all_stages count s))) spends
+    or (SpendCount (length spends) when nat_lt (length spends) m)
 
 -- a table has more than 32 steps
 unfoldable pub too_many_steps : ℕ → Spend → Option CaseFault
@@ -365,7 +373,8 @@ spend_sum alpha i (Table ss) = first_of (λ _ s. step_sum i alpha s) ss
 
 -- the first fault of what `m` hypotheses spend
 unfoldable pub spends_fault : ℕ → ℕ → Ratio → List Spend → Option CaseFault
-spends_fault m count alpha spends = spend_count m count spends or first_of too_many_steps spends or first_of step_order spends or first_of spend_range spends or first_of (spend_sum alpha) spends
+spends_fault m count alpha spends = spend_count m count spends or first_of too_many_steps spends
+    or first_of step_order spends or first_of spend_range spends or first_of (spend_sum alpha) spends
 
 -- ---- the p-values that arrived
 
@@ -397,7 +406,8 @@ stages_fault m alpha s = no_stage s.count or too_many_stages s.count or spends_f
 
 -- the tests before those of the edges
 abbrev pub fault_before_edges : Draft → Option CaseFault
-fault_before_edges d = names_fault d.names or components_fault d.components or part_too_long d or alpha_range d.alpha or shares_fault d.components or weights_fault (length d.names) d.components
+fault_before_edges d = names_fault d.names or components_fault d.components or part_too_long d or alpha_range d.alpha
+    or shares_fault d.components or weights_fault (length d.names) d.components
 
 -- the tests before those of the rows of edges
 unfoldable pub early_fault : Draft → Option CaseFault

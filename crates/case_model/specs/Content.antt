@@ -1,5 +1,6 @@
 -- What a case holds, the content that a draft stands for, and the entangled graph, the p-values and the level of a content.
-use Rattle.std.specs.Prelude.{◌≡◌, ◌≤◌, ◌&&◌, true, ℕ, ◌*◌, ◌/◌, ◌%◌, Bool, List, [], Option, Some, None, map, length, get_or, if◌then◌else◌, is_some}
+use Rattle.std.specs.Prelude.{◌≡◌, ◌≤◌, ◌&&◌, true, ℕ, ◌*◌, ◌/◌, ◌%◌, Bool, List, [], Option, Some, None, map, length, get_or}
+use Rattle.std.specs.Prelude.{if◌then◌else◌, is_some}
 use Rattle.std.specs.Option.{option_map_or}
 use Rattle.std.specs.List.{list_any, list_all, find, filter_map, range_with_len}
 use Rattle.field_core.specs.Number.{Number}

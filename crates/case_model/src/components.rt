@@ -1,5 +1,5 @@
 //! The tests of the components of a draft.
-ghost use Rattle.std.specs.Prelude.{◌≡◌, ◌≤◌, ◌<◌, ◌==◌, length, get_or, true};
+ghost use Rattle.std.specs.Prelude.{◌≡◌, ◌≤◌, ◌<◌, length, get_or, true};
 ghost use Rattle.std.specs.List.{list_all};
 ghost use Rattle.case_model.specs.declared.draft_component.DraftComponent.{DraftComponent};
 ghost use Rattle.case_model.specs.Draft.{goes_between};

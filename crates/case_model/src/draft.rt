@@ -1,5 +1,5 @@
 //! Drafts, and the cases that they make.
-ghost use Rattle.std.specs.Prelude.{◌≡◌, ◌≤◌, ◌⊎◌, true, None, Some, IfOk, OnOk, IfErr, length, map, Option};
+ghost use Rattle.std.specs.Prelude.{◌≡◌, ◌≤◌, ◌⊎◌, true, None, Some, IfOk, OnOk, IfErr, map, Option};
 ghost use Rattle.std.specs.List.{list_all};
 ghost use Rattle.std.specs.Option.{option_and_then};
 ghost use Rattle.case_model.specs.Draft.{goes_between, have_known_ends, have_known_arrivals};

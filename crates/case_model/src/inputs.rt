@@ -14,7 +14,7 @@ pub struct Stages {
 }
 
 impl Stages {
-    ghost use Rattle.std.specs.Prelude.{◌≡◌, ◌<◌, ◌≤◌, length, slice_get, Some};
+    ghost use Rattle.std.specs.Prelude.{◌≡◌, ◌<◌, length, slice_get, Some};
     ghost use Rattle.case_model.specs.Content.{stages_of};
 
     /// The stages of a draft, of which there are at most 12.

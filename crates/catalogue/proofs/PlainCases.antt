@@ -1,5 +1,6 @@
 -- The cases of Holm's graph, of the fixed sequence and of fallback have no edge with an epsilon.
-use Rattle.std.proofs.Common.{◌≡◌, refl, ap, ap₂, subst, ℕ, zero, suc, ◌+◌, ◌-◌, ◌*◌, ◌/◌, ◌%◌, ◌==◌, List, [], ◌∷◌, map, Bool, true, false, cond}
+use Rattle.std.proofs.Common.{◌≡◌, refl, ap, ap₂, subst, ℕ, zero, suc, ◌+◌, ◌-◌, ◌*◌, ◌/◌, ◌%◌, ◌==◌, List, [], ◌∷◌}
+use Rattle.std.proofs.Common.{map, Bool, true, false, cond}
 use Rattle.std.proofs.Common.{◌&&◌, Option, Some, None, Ok, arith}
 use Rattle.std.specs.List.{list_all, find, range_with_len}
 use Rattle.std.specs.Option.{option_map_or}
@@ -43,7 +44,8 @@ between_plain : (es : List DraftEdge) (i j : ℕ) → list_all plain_edge es ≡
 unfolding edge_between
 between_plain es i j h = found_plain (has_ends i j) es h
 
-all_mapped : {A : Type 0} (test : A → Bool) (f : ℕ → A) (a n : ℕ) → ((k : ℕ) → test (f k) ≡ true) → list_all test (map f (range_with_len a n)) ≡ true
+all_mapped : {A : Type 0} (test : A → Bool) (f : ℕ → A) (a n : ℕ)
+    → ((k : ℕ) → test (f k) ≡ true) → list_all test (map f (range_with_len a n)) ≡ true
 all_mapped test f a zero h = refl
 all_mapped test f a (suc n) h = ap₂ ◌&&◌ (h a) (all_mapped test f (a + 1) n h)
 

@@ -1,5 +1,6 @@
 -- The graphs that have names. Hypotheses are named by their positions, from 0.
-use Rattle.std.specs.Prelude.{ℕ, suc, ◌+◌, ◌-◌, ◌%◌, ◌==◌, List, [], ◌∷◌, Option, Some, None, length, replicate, pos, negsuc, nat_lt, if◌then◌else◌}
+use Rattle.std.specs.Prelude.{ℕ, suc, ◌+◌, ◌-◌, ◌%◌, ◌==◌, List, [], ◌∷◌, Option, Some, None, length, replicate, pos, negsuc, nat_lt}
+use Rattle.std.specs.Prelude.{if◌then◌else◌}
 use Rattle.field_core.specs.declared.ratio.Ratio.{Ratio}
 use Rattle.case_model.specs.Sums.{zero_ratio, ratio_at, one_ratio}
 use Rattle.catalogue.specs.Quotients.{quotient}
@@ -41,7 +42,8 @@ fallback_graph ws = record { size = length ws; weight = ratio_at ws; edge = next
 unfoldable pub equal_weights : ℕ → List Ratio
 equal_weights n = replicate n (part n)
 
--- Gatekeeping: `a` primary hypotheses share the weight, and each passes it to the `b` secondary ones in equal parts. What a secondary one passes to a primary one, and to another secondary one, is said by `back` and `on`.
+-- Gatekeeping: `a` primary hypotheses share the weight, and each passes it to the `b` secondary ones in equal parts. What a secondary one
+-- passes to a primary one, and to another secondary one, is said by `back` and `on`.
 abbrev pub gate_edge : ℕ → ℕ → (ℕ → ℕ → Option (List Ratio)) → List Ratio → ℕ → ℕ → Option (List Ratio)
 gate_edge a b back on i j =
     if nat_lt i a then (if nat_lt j a then None else Some (constant (part b)))

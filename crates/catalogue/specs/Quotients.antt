@@ -17,7 +17,12 @@ are_lowest n d = nat_lt 0 d && (nat_lt (unsigned_abs n) (2 ^ 127) && (nat_lt d (
 pub lowest_reduced : (n : ℤ) (d : ℕ) → are_lowest n d ≡ true → IsReduced (record { num = n; den = pos d })
 lowest_reduced n d e =
     let some : 0 < d = grind (arith, nat_tests) in
-    record { positive = omega (arith, ints, some); num_size = grind (arith, nat_tests); den_size = grind (arith, nat_tests); reduced = grind (arith, nat_tests) }
+    record {
+      positive = omega (arith, ints, some);
+      num_size = grind (arith, nat_tests);
+      den_size = grind (arith, nat_tests);
+      reduced = grind (arith, nat_tests);
+    }
 
 -- the fraction with these terms; 0 where they aren't lowest terms
 abbrev pub ratio_by : (n : ℤ) (d : ℕ) (b : Bool) → are_lowest n d ≡ b → Ratio

@@ -1,5 +1,6 @@
 -- Samples: the graph and the p-values that are made from a seed.
-use Rattle.std.specs.Prelude.{ℕ, zero, suc, ◌+◌, ◌-◌, ◌*◌, ◌/◌, ◌%◌, ◌^◌, ◌==◌, ◌||◌, List, Option, Some, None, pos, map, slice_get, if◌then◌else◌}
+use Rattle.std.specs.Prelude.{ℕ, zero, suc, ◌+◌, ◌-◌, ◌*◌, ◌/◌, ◌%◌, ◌^◌, ◌==◌, ◌||◌, List, Option, Some, None, pos, map}
+use Rattle.std.specs.Prelude.{slice_get, if◌then◌else◌}
 use Rattle.std.specs.List.{range_with_len}
 use Rattle.field_core.specs.declared.ratio.Ratio.{Ratio}
 use Rattle.catalogue.specs.Quotients.{quotient}

@@ -1,6 +1,6 @@
 //! Drafts of named graphs.
-ghost use Rattle.std.specs.Prelude.{◌≡◌, ◌<◌, ◌+◌, ◌++◌, ◌⊎◌, map, length, Some, IfOk, IfErr, OnOk, Ok, Err};
-ghost use Rattle.std.specs.List.{flat_map, range_with_len};
+ghost use Rattle.std.specs.Prelude.{◌≡◌, ◌<◌, ◌+◌, ◌++◌, ◌⊎◌, map, Some, IfOk, IfErr, OnOk, Ok, Err};
+ghost use Rattle.std.specs.List.{range_with_len};
 ghost use Rattle.case_model.specs.CaseView.{content};
 ghost use Rattle.catalogue.specs.WeightedGraphs.{name_of, names_of, edge_in, edges_from, edges_of, draft_of};
 ghost use Rattle.catalogue.specs.Makings.{made};

@@ -1,8 +1,6 @@
 //! The walk through all sets of a case in their order, depth first, with one removal for each.
-ghost use Rattle.std.specs.Prelude.{◌≡◌, ◌≢◌, ◌<◌, ◌≤◌, ◌+◌, [], ℕ, suc, true, length, map, get_or, MatchResult};
+ghost use Rattle.std.specs.Prelude.{◌≡◌, ◌≢◌, ◌<◌, ◌+◌, [], ℕ, suc, true, length, map, get_or, MatchResult};
 ghost use Rattle.field_core.specs.Kind.{ok_map};
-ghost use Rattle.case_model.specs.Content.{Content};
-ghost use Rattle.case_model.specs.Validity.{IsValidContent};
 ghost use Rattle.case_model.specs.CaseView.{content};
 ghost use Rattle.entangled.specs.CaseNetView.{case_state};
 ghost use Rattle.entangled.specs.CaseRun.{CaseState, case_size, case_numbers, case_shares, case_removal, is_live_in_case};

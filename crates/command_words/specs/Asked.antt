@@ -43,7 +43,8 @@ file_of (check form file) = Some file
 file_of (sample size seed) = None
 file_of help = None
 
--- What a study is to do: how its case is written, the place, from 0, of the word that names the file of its commands, and that of the first word of the option that names the file of its looks.
+-- What a study is to do: how its case is written, the place, from 0, of the word that names the file of its commands, and that of the first
+-- word of the option that names the file of its looks.
 pub record StudyAsked : Type 0 where
   pub form : Written
   pub file : ℕ

@@ -1,5 +1,6 @@
 -- What lists of words ask for, and the number, from 1, of the first word at which their reading from left to right fails.
-use Rattle.std.specs.Prelude.{◌≡◌, ◌≢◌, ◌⊎◌, ℕ, ◌+◌, Bool, true, false, List, [], ◌∷◌, ◌++◌, length, drop, Some, None, Contains}
+use Rattle.std.specs.Prelude.{◌≡◌, ◌≢◌, ◌⊎◌, ℕ, ◌+◌, Bool, true, false, List, [], ◌∷◌, ◌++◌, length, drop, Some, None}
+use Rattle.std.specs.Prelude.{Contains}
 use Rattle.std.specs.List.{flat_map}
 use Rattle.answers.specs.Stages.{Stage, and_then}
 use Rattle.command_words.specs.Asked.{Asked, StudyAsked}
@@ -142,7 +143,8 @@ study_in words =
 -- what words ask for that keeps no looks, or the first word at which their reading fails
 unfoldable pub asked_in : List (List ℕ) → Stage ℕ Asked
 asked_in words =
-    and_then (command_in false words) (λ verb. and_then (pieces_in verb (drop 1 words)) (λ given. and_then (complete verb (length words) given) (allowed given)))
+    and_then (command_in false words) (λ verb. and_then (pieces_in verb (drop 1 words))
+    (λ given. and_then (complete verb (length words) given) (allowed given)))
 
 -- ---- one step of the reading
 

@@ -1,5 +1,5 @@
 //! Reading the words from left to right.
-ghost use Rattle.std.specs.Prelude.{◌≡◌, ◌↔◌, ◌+◌, ◌<◌, ◌^◌, ◌∷◌, None, IfOk, IfErr, IfSome, IsTrue, [], map, drop, length, string_bytes};
+ghost use Rattle.std.specs.Prelude.{◌≡◌, ◌↔◌, ◌+◌, ◌<◌, ◌^◌, ◌∷◌, None, IfOk, IfErr, IfSome, IsTrue, map, drop, string_bytes};
 ghost use Rattle.command_words.specs.Asked.{asked, study_asked};
 ghost use Rattle.command_words.specs.Choices.{Chosen, chosen};
 ghost use Rattle.command_words.specs.Given.{given_content};

@@ -2,9 +2,9 @@
 use crate::cases::{
     CHAIN, EPSILON, FALLBACK, HOLM, NO_WEIGHT, SEQUENCE, TIE, WIDE_OPENING, expect, said,
 };
-use adjusted_p::{AdjustFault, Adjusted, adjust};
+use adjusted_p::{Adjusted, adjust};
 use field_core::{List, Op, Place, WideAt};
-use sequential::is_single;
+use sequential::{RunFault, is_single};
 use std::alloc::Global;
 use std::process::Abort;
 
@@ -32,7 +32,7 @@ const ROWS: &[(&str, &[Value])] = &[
     (UP_TO_ONE, &[(1, 1, false), (1, 1, true)]),
 ];
 
-fn adjusted(rt: &impl Abort, alloc: Global, text: &str) -> Result<List<Adjusted>, AdjustFault> {
+fn adjusted(rt: &impl Abort, alloc: Global, text: &str) -> Result<List<Adjusted>, RunFault> {
     let case = said(rt, alloc, text);
     assert!(rt; is_single(&case));
     adjust(alloc, &case)
@@ -69,11 +69,11 @@ const WIDE: &str = "alpha 0.05\n\
     weights 1/999999999989\n";
 
 /// Cases whose runs are undefined, and where they are.
-const FAULTS: &[(&str, AdjustFault)] = &[
+const FAULTS: &[(&str, RunFault)] = &[
     // The opening is step 0.
     (
         WIDE_OPENING,
-        AdjustFault::Wide(
+        RunFault::Wide(
             0,
             WideAt {
                 component: 0,
@@ -84,7 +84,7 @@ const FAULTS: &[(&str, AdjustFault)] = &[
     ),
     (
         WIDE,
-        AdjustFault::Wide(
+        RunFault::Wide(
             1,
             WideAt {
                 component: 0,
@@ -97,7 +97,7 @@ const FAULTS: &[(&str, AdjustFault)] = &[
     // 1/999999999999999997.
     (
         CHAIN,
-        AdjustFault::Wide(
+        RunFault::Wide(
             3,
             WideAt {
                 component: 0,

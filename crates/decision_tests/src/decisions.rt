@@ -4,7 +4,7 @@ use crate::cases::{
     said,
 };
 use field_core::{Op, Place, WideAt};
-use sequential::{DecideFault, Decision, Priority, StepLine, decide, is_single};
+use sequential::{Decision, Priority, RunFault, StepLine, decide, is_single};
 use std::alloc::Global;
 use std::process::Abort;
 
@@ -129,7 +129,7 @@ fn decided(
     alloc: Global,
     text: &str,
     priority: Priority,
-) -> Result<Decision, DecideFault> {
+) -> Result<Decision, RunFault> {
     let case = said(rt, alloc, text);
     assert!(rt; is_single(&case));
     decide(alloc, &case, priority)
@@ -194,7 +194,7 @@ fn a_run_that_is_too_wide_names_its_step(rt: HostRuntime) {
         let decision = decided(&rt, rt.alloc(), text, Priority::First);
         expect(
             &rt,
-            decision.err() == Some(DecideFault::Wide(step, wide)),
+            decision.err() == Some(RunFault::Wide(step, wide)),
             text,
         );
     }

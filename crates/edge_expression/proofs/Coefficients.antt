@@ -13,7 +13,8 @@ use Rattle.field_core.specs.Steps.{◌>>=◌}
 use Rattle.edge_expression.specs.EntryValues.{sum, product, product_sum, degree_within}
 
 -- the coefficient at a place
-pub item_terms : (xs : List ShortFraction) (n : ℕ) (x : ShortFraction) → n < length xs → x ≡ get_or xs n x → terms_at (map short_terms xs) n ≡ short_terms x
+pub item_terms : (xs : List ShortFraction) (n : ℕ) (x : ShortFraction) → n < length xs
+    → x ≡ get_or xs n x → terms_at (map short_terms xs) n ≡ short_terms x
 unfolding terms_at
 item_terms xs n x h e = get_or-map short_terms xs n x zero_terms h ∙ ap short_terms (sym e)
 

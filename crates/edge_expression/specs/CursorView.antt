@@ -1,5 +1,6 @@
 -- What is left of an edge expression, as contracts of the evaluator's parts see it.
-use Rattle.std.specs.Prelude.{◌≡◌, ◌≢◌, ℕ, ◌+◌, ◌%◌, ◌⊎◌, true, List, [], ◌∷◌, Option, Some, None, Result, is_ok, length, drop, take, min}
+use Rattle.std.specs.Prelude.{◌≡◌, ◌≢◌, ℕ, ◌+◌, ◌%◌, ◌⊎◌, true, List, [], ◌∷◌, Option, Some, None, Result, is_ok, length}
+use Rattle.std.specs.Prelude.{drop, take, min}
 use Rattle.fraction.specs.Numeral.{body_text}
 use Rattle.fraction.specs.DecimalMachine.{decimal_length}
 use Rattle.field_core.specs.Terms.{Terms}
@@ -10,7 +11,8 @@ use Rattle.edge_expression.specs.declared.polynomial.Operation.{Operation}
 use Rattle.edge_expression.specs.declared.polynomial.Operation.TheVariants as operations
 use Rattle.edge_expression.specs.declared.cursor.Head.{Head}
 use Rattle.edge_expression.specs.declared.cursor.Head.TheVariants as heads
-use Rattle.edge_expression.specs.Expressions.{Expression, Term, Factor, Number, Other, Epsilon, Parens, Token, DecimalToken, CaretToken, PowerToken, SignToken, CloseToken, power_tokens, expression_tokens, term_tokens, IsSpelt}
+use Rattle.edge_expression.specs.Expressions.{Expression, Term, Factor, Number, Other, Epsilon, Parens, Token, DecimalToken, CaretToken, PowerToken, SignToken}
+use Rattle.edge_expression.specs.Expressions.{CloseToken, power_tokens, expression_tokens, term_tokens, IsSpelt}
 use Rattle.edge_expression.specs.EntryValues.{value, term_value, factor_value}
 use Rattle.edge_expression.specs.EntryView.{map_value, polynomial_terms}
 
@@ -60,7 +62,8 @@ BeginsWord (b ∷ bs) = b ≡ 92
 abbrev pub HeadTaken : Head → List ℕ → List ℕ → Type 0
 HeadTaken heads.Open old new = old ≡ 40 ∷ new
 HeadTaken heads.Epsilon old new = BeginsWord old × (new ≡ drop (min (length old) 8) old)
-HeadTaken (heads.Decimal text) old new = IsOtherThan 40 old × IsOtherThan 92 old × (text.now ≡ take (decimal_length old) old) × (new ≡ drop (decimal_length old) old)
+HeadTaken (heads.Decimal text) old new = IsOtherThan 40 old × IsOtherThan 92 old
+    × (text.now ≡ take (decimal_length old) old) × (new ≡ drop (decimal_length old) old)
 
 -- what a front adds to the length of what is left, where that counts the calls to come: a parenthesis goes on to a sum
 abbrev pub head_weight : Head → ℕ
@@ -72,7 +75,9 @@ head_weight (heads.Decimal text) = 0
 abbrev pub PowerTaken : ℕ → List ℕ → List ℕ → Type 0
 PowerTaken power old new =
     (IsOtherThan 94 (after_blanks old) × (new ≡ old) × (power ≡ 1))
-    ⊎ ((between : List ℕ) × (after_blanks old ≡ 94 ∷ between) × (((digit : ℕ) × (after_blanks between ≡ digit ∷ new) × (power ≡ (digit + 208) % 256)) ⊎ ((after_blanks between ≡ []) × (new ≡ between))))
+    ⊎ ((between : List ℕ) × (after_blanks old ≡ 94 ∷ between)
+    × (((digit : ℕ) × (after_blanks between ≡ digit ∷ new) × (power ≡ (digit + 208) % 256))
+    ⊎ ((after_blanks between ≡ []) × (new ≡ between))))
 
 -- a byte was taken, if there is one
 abbrev pub CloseTaken : List ℕ → List ℕ → Type 0
@@ -115,7 +120,8 @@ IsHead head rest factor more = ⊥
 
 -- on each expression, whatever follows it
 unfoldable pub SumGives : List ℕ → Result Polynomial ValueFault → List ℕ → Type 0
-SumGives old result new = (e : Expression) (more : List Token) → EndsExpression more → IsSpelt (expression_tokens e more) old → Evaluates result new (value e) more
+SumGives old result new = (e : Expression) (more : List Token) → EndsExpression more
+    → IsSpelt (expression_tokens e more) old → Evaluates result new (value e) more
 
 -- on each term
 unfoldable pub ProductGives : List ℕ → Result Polynomial ValueFault → List ℕ → Type 0

@@ -1,5 +1,6 @@
 -- What edge expressions are worth: entries, by their five coefficients of ascending power, or the first fault from left to right.
-use Rattle.std.specs.Prelude.{ℕ, zero, suc, ◌-◌, ◌+◌, ◌^◌, ◌==◌, Bool, List, [], ◌∷◌, pos, ℤ, ◌+ℤ◌, ◌-ℤ◌, ◌*ℤ◌, Option, Some, None, Result, Ok, Err, nat_lt, if◌then◌else◌}
+use Rattle.std.specs.Prelude.{ℕ, zero, suc, ◌-◌, ◌+◌, ◌^◌, ◌==◌, Bool, List, [], ◌∷◌, pos, ℤ, ◌+ℤ◌, ◌-ℤ◌, ◌*ℤ◌}
+use Rattle.std.specs.Prelude.{Option, Some, None, Result, Ok, Err, nat_lt, if◌then◌else◌}
 use Rattle.field_core.specs.Terms.{Terms}
 use Rattle.field_core.specs.Steps.{◌>>=◌}
 use Rattle.fraction.specs.Lowest.{lowest_terms}
@@ -8,7 +9,8 @@ use Rattle.case_model.specs.Sums.{zero_terms, terms_at}
 use Rattle.fraction.specs.Tests.{is_zero, is_within}
 use Rattle.edge_expression.specs.declared.value_fault.ValueFault.{ValueFault}
 use Rattle.edge_expression.specs.declared.value_fault.ValueFault.TheVariants.{DivisorNotNumber, ZeroDivisor, Degree, Part}
-use Rattle.edge_expression.specs.Expressions.{Power, Sign, Plus, Minus, Expression, Sum, MoreTerms, NoTerm, AndTerm, Term, Product, MoreFactors, NoFactor, Times, Over, Beside, Factor, Number, Other, Further, Epsilon, Parens}
+use Rattle.edge_expression.specs.Expressions.{Power, Sign, Plus, Minus, Expression, Sum, MoreTerms, NoTerm, AndTerm, Term, Product, MoreFactors, NoFactor}
+use Rattle.edge_expression.specs.Expressions.{Times, Over, Beside, Factor, Number, Other, Further, Epsilon, Parens}
 
 -- ---- fractions
 

@@ -9,7 +9,8 @@ use Rattle.field_core.specs.Fractions.{fraction}
 use Rattle.fraction.specs.Numeral.{value_of}
 use Rattle.case_model.specs.Draft.{is_short}
 use Rattle.case_model.specs.Entries.{entry_value, power_of_epsilon}
-use Rattle.edge_expression.specs.Expressions.{Power, Sign, Plus, Minus, Expression, Sum, MoreTerms, NoTerm, AndTerm, Term, Product, MoreFactors, NoFactor, Times, Over, Beside, Factor, Number, Other, Further, Epsilon, Parens}
+use Rattle.edge_expression.specs.Expressions.{Power, Sign, Plus, Minus, Expression, Sum, MoreTerms, NoTerm, AndTerm, Term, Product, MoreFactors, NoFactor}
+use Rattle.edge_expression.specs.Expressions.{Times, Over, Beside, Factor, Number, Other, Further, Epsilon, Parens}
 use Rattle.edge_expression.specs.EntryValues.{sign_or_plus, value}
 use Rattle.edge_expression.specs.EntryReading.{IsEntryText}
 use Rattle.edge_expression.specs.EntryTexts.{entry_text}

@@ -1,5 +1,5 @@
 //! Edge expressions from left to right. What is said of a text holds where it is an expression.
-ghost use Rattle.std.specs.Prelude.{◌≡◌, ◌≤◌, [], map, length, IfOk};
+ghost use Rattle.std.specs.Prelude.{◌≡◌, ◌≤◌, map, length, IfOk};
 ghost use Rattle.fraction.specs.Numeral.{body_text};
 ghost use Rattle.field_core.specs.View.{terms};
 ghost use Rattle.fraction.specs.Decimals.{Decimal, decimal_value};

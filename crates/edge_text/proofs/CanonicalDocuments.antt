@@ -18,7 +18,7 @@ use Rattle.case_model.specs.Content.{Content}
 use Rattle.case_model.specs.ValidDraft.{Each}
 use Rattle.case_model.proofs.Holding.{both}
 use Rattle.text_lines.specs.Spelling.{line_spelt, IsWord, IsLine}
-use Rattle.edge_text.specs.Grammar.{Words, IsNumber, AreNumbers, AreSomeNumbers, IsCount, IsBlock, IsSharedBlock, IsLoneBlock, AreBlocks, AreStages}
+use Rattle.edge_text.specs.Grammar.{IsNumber, AreNumbers, AreSomeNumbers, IsCount, IsBlock, IsSharedBlock, IsLoneBlock, AreBlocks, AreStages}
 use Rattle.edge_text.specs.Grammar.{MayHaveStages, GivesP, optional, one, IsDocument, IsText}
 use Rattle.edge_text.specs.CanonicalText.{number_word, alpha_words, names_words, p_words, share_words, weights_words, stages_words, arrive_words, table_lines}
 use Rattle.edge_text.specs.CanonicalText.{is_alone, block_lines, blocks_lines, spends_lines, stages_lines, p_lines, late_lines, canonical_lines, canonical_text}

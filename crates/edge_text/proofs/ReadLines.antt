@@ -1,5 +1,5 @@
 -- Lines behind the names, read one by one.
-use Rattle.std.proofs.Common.{◌≡◌, ℕ, List, [], ◌∷◌, ◌++◌, None, refl, sym, ap, subst, ◌∙◌, append_assoc}
+use Rattle.std.proofs.Common.{◌≡◌, ℕ, List, [], ◌∷◌, ◌++◌, refl, sym, ap, subst, ◌∙◌, append_assoc}
 use Rattle.std.proofs.lemmas.List.{append-nil}
 use Rattle.field_core.specs.declared.ratio.Ratio.{Ratio}
 use Rattle.case_model.specs.declared.name_index.NameIndex.{NameIndex}
@@ -10,7 +10,7 @@ use Rattle.edge_text.specs.declared.reading.Said.{Said}
 use Rattle.text_lines.specs.Lines.{Row, texts_in}
 use Rattle.edge_text.specs.Grammar.{Words}
 use Rattle.edge_text.specs.Faults.{Values, named, Lead, LeadsTo}
-use Rattle.edge_text.specs.View.{IsOnLine, IsIndexOf, IsFaultAt, draft_said, place_by, place_at, ReadsBy, RefusesBy, IsSaid, IsUnfinishedAt, AreRead}
+use Rattle.edge_text.specs.View.{IsOnLine, IsIndexOf, IsFaultAt, draft_said, place_at, ReadsBy, RefusesBy, IsSaid, IsUnfinishedAt, AreRead}
 use Rattle.edge_text.proofs.Leads.{lead_rows, fault_behind, fault_first, fault_unfinished, other_kind}
 
 -- of these lines some have been read, and the reading is behind them; the others are left

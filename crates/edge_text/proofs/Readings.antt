@@ -91,7 +91,8 @@ module _ (old new : Reading) (line : List ℕ) (words : Words) where
   p_read is e g n k =
       at nexts.Values is (λ alpha names.
       let d = draft_so_far alpha names old in
-      let same : draft_so_far alpha names new ≡ with_p d g.0 = (λ i. record { names = names; alpha = alpha; p = g.2 i; components = k i; stages = None }) in (
+      let same : draft_so_far alpha names new ≡ with_p d g.0 =
+      (λ i. record { names = names; alpha = alpha; p = g.2 i; components = k i; stages = None }) in (
         PWord,
         refl,
         line_of (codes "p") (λ ws. Leads (Values d) PWord line ws (place_at alpha names new)) e

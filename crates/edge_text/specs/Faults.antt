@@ -1,5 +1,6 @@
 -- The first line of a text that can't stand, and what is wrong with it.
-use Rattle.std.specs.Prelude.{◌≡◌, ◌<◌, ◌≤◌, ◌⊎◌, ◌+◌, ◌||◌, ℕ, Bool, true, false, if◌then◌else◌, drop, List, [], ◌∷◌, ◌++◌, Some, None, map, length, codes}
+use Rattle.std.specs.Prelude.{◌≡◌, ◌<◌, ◌≤◌, ◌⊎◌, ◌+◌, ◌||◌, ℕ, Bool, true, false, if◌then◌else◌, drop, List, []}
+use Rattle.std.specs.Prelude.{◌∷◌, ◌++◌, Some, None, map, length, codes}
 use Rattle.std.specs.Str.{bytes_eq}
 use Rattle.field_core.specs.declared.ratio.Ratio.{Ratio}
 use Rattle.fraction.specs.Numeral.{IsParseFault}
@@ -57,7 +58,8 @@ IsEndsFault names from to expression kind =
 -- there are too few words for an edge, or a name is unknown, or the expression is refused
 abbrev pub IsEdgeFault : List (List ℕ) → List ℕ → Words → LineKind → Type 0
 IsEdgeFault names line words kind =
-    ((length words < 3) × (kind ≡ WordCount)) ⊎ ((from : List ℕ) × (to : List ℕ) × HasThree words from to × IsEndsFault names from to (behind_words 3 line) kind)
+    ((length words < 3) × (kind ≡ WordCount)) ⊎ ((from : List ℕ) × (to : List ℕ)
+    × HasThree words from to × IsEndsFault names from to (behind_words 3 line) kind)
 
 -- the word isn't 1 to 9 digits
 abbrev pub IsWholeFault : List ℕ → LineKind → Type 0
@@ -90,7 +92,8 @@ pub record AreNamedNumbers (names : List (List ℕ)) (least : ℕ) (words : Word
 abbrev pub IsNamedFault : List (List ℕ) → ℕ → Words → LineKind → Type 0
 IsNamedFault names least words kind =
     ((length words < least + 2) × (kind ≡ WordCount))
-    ⊎ ((name : List ℕ) × (numerals : Words) × (words ≡ name ∷ numerals) × (least < length numerals) × (((is_among name names ≡ false) × (kind ≡ Unexpected)) ⊎ ((is_among name names ≡ true) × IsNumbersFault numerals kind)))
+    ⊎ ((name : List ℕ) × (numerals : Words) × (words ≡ name ∷ numerals) × (least < length numerals)
+    × (((is_among name names ≡ false) × (kind ≡ Unexpected)) ⊎ ((is_among name names ≡ true) × IsNumbersFault numerals kind)))
 
 -- the number of a stage isn't 1 to 9 digits, or else the numeral of the p-value is refused
 abbrev pub IsArrivedFault : List ℕ → List ℕ → LineKind → Type 0
@@ -100,7 +103,8 @@ IsArrivedFault stage numeral kind = IsWholeFault stage kind ⊎ (((number : ℕ)
 abbrev pub IsArrivalFault : List (List ℕ) → Words → LineKind → Type 0
 IsArrivalFault names words kind =
     (¬ (length words ≡ 3) × (kind ≡ WordCount))
-    ⊎ ((name : List ℕ) × (stage : List ℕ) × (numeral : List ℕ) × (words ≡ name ∷ stage ∷ numeral ∷ []) × ((IsUnknown names name × (kind ≡ UnknownName)) ⊎ (¬ IsUnknown names name × IsArrivedFault stage numeral kind)))
+    ⊎ ((name : List ℕ) × (stage : List ℕ) × (numeral : List ℕ) × (words ≡ name ∷ stage ∷ numeral ∷ [])
+    × ((IsUnknown names name × (kind ≡ UnknownName)) ⊎ (¬ IsUnknown names name × IsArrivedFault stage numeral kind)))
 
 -- ---- where a line stands
 
@@ -241,7 +245,8 @@ step_of said = record { from = said.first; levels = said.others }
 -- what comes behind a step, where a table of this name is open: it goes on, or that of the next name begins
 abbrev pub behind_step : Draft → DraftStages → List SpendStep → List ℕ → List (List ℕ) → NamedNumbers → Place
 behind_step d s steps name left said =
-    if bytes_eq said.name name then Steps d s (steps ++ step_of said ∷ []) name left else Steps d (with_spend s (Table steps)) (step_of said ∷ []) said.name (drop 1 left)
+    if bytes_eq said.name name then Steps d s (steps ++ step_of said ∷ []) name left
+    else Steps d (with_spend s (Table steps)) (step_of said ∷ []) said.name (drop 1 left)
 
 -- behind a first word that may stand at the place, these words may stand, and the other place comes behind the line
 abbrev pub Leads : Place → Keyword → List ℕ → Words → Place → Type 0
@@ -256,13 +261,17 @@ Leads (Weights d share) WeightsWord line words next = (weights : List Ratio) × 
 Leads (Edges shared d k) EdgeWord line words next = (edge : DraftEdge) × IsEdge d.names line words edge × (next ≡ Edges shared d (with_edge k edge))
 Leads (Edges true d k) ShareWord line words next = (share : Ratio) × IsNumber words share × (next ≡ Weights (with_component d k) share)
 Leads (Edges shared d k) StagesWord line words next = (count : ℕ) × IsCount words count × (next ≡ Spends (with_component d k) (counted count) d.names)
-Leads (Spends d s (name ∷ left)) SpendWord line words next = (said : NamedNumbers) × AreNamedNumbers (name ∷ []) 0 words said × (next ≡ Spends d (with_spend s (shares_of said)) left)
-Leads (Spends d s (name ∷ left)) TableWord line words next = (said : NamedNumbers) × AreNamedNumbers (name ∷ []) 1 words said × (next ≡ Steps d s (step_of said ∷ []) name left)
+Leads (Spends d s (name ∷ left)) SpendWord line words next = (said : NamedNumbers)
+    × AreNamedNumbers (name ∷ []) 0 words said × (next ≡ Spends d (with_spend s (shares_of said)) left)
+Leads (Spends d s (name ∷ left)) TableWord line words next = (said : NamedNumbers)
+    × AreNamedNumbers (name ∷ []) 1 words said × (next ≡ Steps d s (step_of said ∷ []) name left)
 Leads (Spends d s []) ArriveWord line words next = (arrival : Arrival) × IsArrival d.names words arrival × (next ≡ Spends d (with_arrival s arrival) [])
-Leads (Steps d s steps name left) TableWord line words next = (said : NamedNumbers) × AreNamedNumbers (name ∷ first_of left) 1 words said × (next ≡ behind_step d s steps name left said)
+Leads (Steps d s steps name left) TableWord line words next = (said : NamedNumbers)
+    × AreNamedNumbers (name ∷ first_of left) 1 words said × (next ≡ behind_step d s steps name left said)
 Leads (Steps d s steps name (other ∷ left)) SpendWord line words next =
     (said : NamedNumbers) × AreNamedNumbers (other ∷ []) 0 words said × (next ≡ Spends d (with_spend (with_spend s (Table steps)) (shares_of said)) left)
-Leads (Steps d s steps name []) ArriveWord line words next = (arrival : Arrival) × IsArrival d.names words arrival × (next ≡ Spends d (with_arrival (with_spend s (Table steps)) arrival) [])
+Leads (Steps d s steps name []) ArriveWord line words next = (arrival : Arrival) × IsArrival d.names words arrival
+    × (next ≡ Spends d (with_arrival (with_spend s (Table steps)) arrival) [])
 Leads place keyword line words next = ⊥
 
 -- behind this first word these words can't stand at the place, for this kind of fault

@@ -54,7 +54,8 @@ pub record HasThree (words : Words) (from to : List ℕ) : Type 0 where
   pub others : Words
   pub words_are : words ≡ from ∷ to ∷ further ∷ others
 
--- The names of the two ends of an edge, and an expression of its weight: all of the line that stands behind the second name. Where a name stands for several hypotheses, it is the first.
+-- The names of the two ends of an edge, and an expression of its weight: all of the line that stands behind the second name. Where a name
+-- stands for several hypotheses, it is the first.
 pub record IsEdge (names : List (List ℕ)) (line : List ℕ) (words : Words) (edge : DraftEdge) : Type 0 where
   pub from : List ℕ
   pub to : List ℕ
@@ -205,7 +206,8 @@ AreSpends [] lines [] others = lines ≡ others
 AreSpends [] lines (spend ∷ spends) others = ⊥
 AreSpends (name ∷ names) lines [] others = ⊥
 AreSpends (name ∷ names) lines (spend ∷ spends) others =
-    (run : List (List ℕ)) × (rest : List (List ℕ)) × (lines ≡ run ++ rest) × AreSpendLines name run spend × EndsBefore name spend rest × AreSpends names rest spends others
+    (run : List (List ℕ)) × (rest : List (List ℕ)) × (lines ≡ run ++ rest) × AreSpendLines name run spend
+    × EndsBefore name spend rest × AreSpends names rest spends others
 
 -- The number of the stages, what each hypothesis spends at them, and the p-values that arrived, in their order.
 pub record AreStages (names : List (List ℕ)) (lines : List (List ℕ)) (stages : DraftStages) : Type 0 where

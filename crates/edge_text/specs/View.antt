@@ -23,7 +23,8 @@ use Rattle.text_lines.specs.Words.{words_of}
 use Rattle.text_lines.specs.Spelling.{line_spelt}
 use Rattle.edge_expression.specs.EntryReading.{IsEntryText, IsExprFault}
 use Rattle.edge_text.specs.Grammar.{Words, AreSomeNumbers}
-use Rattle.edge_text.specs.Faults.{NamedNumbers, AreNamedNumbers, step_of, Place, Values, Block, Weights, Edges, Spends, Steps, named, Stands, IsBad, LeadsTo, IsWhole, MustFollow, IsFaultFrom}
+use Rattle.edge_text.specs.Faults.{NamedNumbers, AreNamedNumbers, step_of, Place, Values, Block, Weights, Edges, Spends, Steps, named, Stands, IsBad, LeadsTo}
+use Rattle.edge_text.specs.Faults.{IsWhole, MustFollow, IsFaultFrom}
 
 -- a fault of the line of this number, of such a kind, or want of memory
 abbrev pub IsOnLine : ℕ → (LineKind → Type 0) → TextFault → Type 0

@@ -1,6 +1,5 @@
 //! The draft that the lines of a text say.
-ghost use Rattle.std.specs.Prelude.{◌≡◌, ℕ, List as Seq, [], ◌∷◌, map, IfOk, IfErr};
-ghost use Rattle.std.specs.Option.{option_map};
+ghost use Rattle.std.specs.Prelude.{◌≡◌, [], ◌∷◌, IfOk, IfErr};
 ghost use Rattle.field_core.specs.declared.ratio.Ratio.{Ratio};
 ghost use Rattle.text_lines.specs.Lines.{rows_of, end_of, texts_in};
 ghost use Rattle.edge_text.specs.Grammar.{IsAlphaLine, IsNamesLine, IsText};

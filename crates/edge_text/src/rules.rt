@@ -1,6 +1,5 @@
 //! What the words of lines say.
 ghost use Rattle.std.specs.Prelude.{◌≡◌, ℕ, List as Seq, [], ◌∷◌, Some, map, IfOk, IfErr};
-ghost use Rattle.std.specs.Option.{option_map};
 ghost use Rattle.edge_expression.specs.EntryReading.{IsEntryText};
 ghost use Rattle.edge_text.specs.Grammar.{Says, IsNumber, AreNumbers, IsEdge, IsWholeNumber, IsCount, IsArrival};
 ghost use Rattle.edge_text.specs.Faults.{IsNumeralFault, IsNumberFault, IsNumbersFault, IsSomeNumbersFault, IsEndsFault, IsEdgeFault, IsWholeFault, IsCountFault, IsNamedFault, IsArrivalFault};

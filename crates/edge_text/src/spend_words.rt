@@ -1,5 +1,5 @@
 //! The words of lines that say what a hypothesis spends.
-ghost use Rattle.std.specs.Prelude.{◌≡◌, ◌<◌, ◌∷◌, length, IfSome, IfNone, IfOk, IfErr};
+ghost use Rattle.std.specs.Prelude.{◌<◌, ◌∷◌, length, IfSome, IfNone, IfOk, IfErr};
 ghost use Rattle.text_lines.specs.Words.{words_of};
 ghost use Rattle.edge_text.specs.Grammar.{AreNumbers};
 ghost use Rattle.edge_text.specs.Faults.{IsNumbersFault};

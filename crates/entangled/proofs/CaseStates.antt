@@ -1,6 +1,5 @@
 -- The states of the nets of a case at its opening.
-use Rattle.std.proofs.Common.{◌≡◌, refl, sym, ap, subst, ◌∙◌, ℕ, ◌<◌, List, [], length, get_or, Result, Ok}
-use Rattle.field_core.specs.Steps.{in_component}
+use Rattle.std.proofs.Common.{◌≡◌, sym, subst, ◌∙◌, ℕ, ◌<◌, List, [], length, get_or, Ok}
 use Rattle.field_core.specs.Laws.Prefixes.{bind_ok, each_get, each_length}
 use Rattle.fraction.specs.Plain.{plain, IsFraction}
 use Rattle.fraction.specs.Laws.PlainLaws.{plain_is_exact}

@@ -1,5 +1,5 @@
 -- The nets of a bundle before the first removal.
-use Rattle.std.proofs.Common.{◌≡◌, refl, sym, subst, ℕ, ◌<◌, List, [], ◌∷◌, length, map, get_or, Result, arith}
+use Rattle.std.proofs.Common.{◌≡◌, refl, sym, subst, ℕ, ◌<◌, List, [], ◌∷◌, length, get_or, Result, arith}
 use Rattle.std.proofs.lemmas.List.{get_or-map}
 use Rattle.std.proofs.lemmas.List.Elements.{All-get_or}
 use Rattle.field_core.specs.declared.place.Wide.{Wide}

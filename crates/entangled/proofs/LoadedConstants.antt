@@ -5,7 +5,6 @@ use Rattle.field_core.specs.View.{terms}
 use Rattle.field_core.specs.declared.ratio.Ratio.{Ratio}
 use Rattle.eps_poly.specs.Polynomials.{IsConstant}
 use Rattle.eps_quotient.specs.Polynomials.{term}
-use Rattle.eps_quotient.specs.Lowering.{zero_quotient}
 use Rattle.eps_quotient.proofs.Constants.{monomial_constant, polynomial_constant}
 use Rattle.eps_quotient.proofs.TermLaws.{all_ratios, kept}
 use Rattle.case_numbers.specs.Numbers.{Numbers, in_fractions, in_quotients, kind_of, five_coefficients, loaded_weight, loaded_edge}

@@ -25,9 +25,8 @@ pub trait ComponentNet: Drop {
     /// Its state, as the nets of these numbers have it.
     ghost state: { Self → state_in numbers };
 
-    /// All hypotheses are in, with these weights and edges, and nothing is prepared. There are at most 64 hypotheses, a
-    /// weight and a row of edges for each, they are a valid graph, and quotients are over constants. A refusal is told at the
-    /// component.
+    /// All hypotheses are in, with these weights and edges. There are at most 64 hypotheses, a weight and a row of edges for
+    /// each, they are a valid graph, and quotients are over constants. A refusal is told at the component.
     fn open(
         alloc: Global,
         component: usize,

@@ -1,5 +1,6 @@
 -- Exact quotients of polynomials: the polynomial whose written product with a divisor is the dividend, where there is one. There is at most one.
-use Rattle.std.specs.Prelude.{ℕ, zero, suc, ◌+◌, ℤ, ◌+ℤ◌, neg_ℤ, int_div, List, [], ◌∷◌, ◌++◌, length, Bool, false, if◌then◌else◌, Option, Some, None}
+use Rattle.std.specs.Prelude.{ℕ, zero, suc, ◌+◌, ℤ, ◌+ℤ◌, neg_ℤ, int_div, List, [], ◌∷◌, ◌++◌, length, Bool, false}
+use Rattle.std.specs.Prelude.{if◌then◌else◌, Option, Some, None}
 use Rattle.field_core.specs.Polynomial.{coefficient}
 use Rattle.field_core.specs.Laws.PolynomialLaws.{product_part}
 use Rattle.eps_poly.specs.Factors.{order}
@@ -8,7 +9,8 @@ use Rattle.eps_poly.specs.Written.{sized_product}
 
 -- one coefficient more of a quotient: what is left of the dividend at its place, over the lowest coefficient of the divisor
 abbrev pub with_next : List ℤ → List ℤ → List ℤ → List ℤ
-with_next p by q = q ++ int_div (coefficient p (length q + order by) +ℤ neg_ℤ (product_part q by (length q + order by) (length q))) (coefficient by (order by)) ∷ []
+with_next p by q = q ++ int_div (coefficient p (length q + order by) +ℤ neg_ℤ (product_part q by (length q + order by) (length q)))
+    (coefficient by (order by)) ∷ []
 
 -- the first n coefficients, by ascending power, of the only polynomial that times `by` can be `p`
 unfoldable pub quotient_front : List ℤ → List ℤ → ℕ → List ℤ

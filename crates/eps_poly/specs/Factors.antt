@@ -1,6 +1,7 @@
 -- The factors of a polynomial: a polynomial that isn't zero is in one way c * epsilon^k * P, where the coefficients of P have
 -- greatest common divisor 1 and its coefficient of power 0 is above 0.
-use Rattle.std.specs.Prelude.{◌≡◌, ℕ, suc, ◌+◌, if◌then◌else◌, ℤ, pos, negsuc, neg_ℤ, ◌<ℤ◌, unsigned_abs, int_div, List, [], ◌∷◌, ◌++◌, replicate, Option, Some, None}
+use Rattle.std.specs.Prelude.{◌≡◌, ℕ, suc, ◌+◌, if◌then◌else◌, ℤ, pos, negsuc, neg_ℤ, ◌<ℤ◌, unsigned_abs, int_div, List, []}
+use Rattle.std.specs.Prelude.{◌∷◌, ◌++◌, replicate, Option, Some, None}
 use Rattle.std.specs.List.{list_all}
 use Rattle.field_core.specs.Divisor.{gcd}
 use Rattle.field_core.specs.Kind.{is_zero_integer}

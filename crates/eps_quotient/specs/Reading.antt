@@ -1,5 +1,6 @@
 -- What is read of the texts of numbers and polynomials, step by step.
-use Rattle.std.specs.Prelude.{◌==◌, ◌&&◌, ◌^◌, ℕ, suc, nat_lt, nat_le, Bool, true, false, if◌then◌else◌, ℤ, pos, neg_ℤ, List, [], ◌∷◌, slice_set, Option, Some, None}
+use Rattle.std.specs.Prelude.{◌==◌, ◌&&◌, ◌^◌, ℕ, suc, nat_lt, nat_le, Bool, true, false, if◌then◌else◌, ℤ, pos, neg_ℤ, List, []}
+use Rattle.std.specs.Prelude.{◌∷◌, slice_set, Option, Some, None}
 use Rattle.std.specs.List.{list_all, slice_split}
 use Rattle.std.specs.Char.{is_ascii_digit}
 use Rattle.std.specs.Str.Parse.{digits_value}
@@ -17,7 +18,8 @@ is_some_text (b ∷ bs) = true
 
 -- the number that digits write, where it is at most 2^127 - 1
 unfoldable pub number_of : List ℕ → Option ℤ
-number_of text = if (is_some_text text && list_all is_ascii_digit text) && nat_lt (digits_value 10 text) (2 ^ 127) then Some (pos (digits_value 10 text)) else None
+number_of text = if (is_some_text text && list_all is_ascii_digit text)
+    && nat_lt (digits_value 10 text) (2 ^ 127) then Some (pos (digits_value 10 text)) else None
 
 -- the same, perhaps behind a minus
 unfoldable pub whole_of : List ℕ → Option ℤ

@@ -3,7 +3,6 @@ ghost use Rattle.std.specs.Prelude.{◌≡◌, ◌<ℤ◌, pos};
 ghost use Rattle.field_core.specs.Polynomial.{IsNonZero};
 ghost use Rattle.eps_poly.specs.Factors.{core};
 ghost use Rattle.eps_poly.specs.Polynomials.{is_same, IsPolynomial};
-ghost use Rattle.eps_quotient.specs.Laws.LowerLaws.{IsLowered};
 ghost use Rattle.eps_quotient.specs.Laws.NormLaws.{IsStoredOf};
 ghost use Rattle.eps_quotient.specs.Lowering.{common_content, common_order, lower, norm, turned, without_cores, without_powers};
 ghost use Rattle.eps_quotient.specs.View.{pair_parts};

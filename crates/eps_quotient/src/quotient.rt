@@ -23,7 +23,7 @@ impl EpsQuotient {
     ghost use Rattle.std.specs.Option.{option_map};
     ghost use Rattle.field_core.specs.declared.place.Op.TheVariants.{Add};
     ghost use Rattle.field_core.specs.Kind.{ok_map, or_wide};
-    ghost use Rattle.field_core.specs.Polynomial.{lowest, IsNonZero};
+    ghost use Rattle.field_core.specs.Polynomial.{lowest};
     ghost use Rattle.field_core.specs.Fractions.{quotient as quotient_of};
     ghost use Rattle.eps_poly.specs.Polynomials.{IsConstant};
     ghost use Rattle.field_core.specs.View.{terms};

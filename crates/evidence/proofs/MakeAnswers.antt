@@ -35,8 +35,9 @@ use Rattle.evidence_check.specs.declared.evidence.Evidence.TheVariants.{Plain, E
 use Rattle.evidence_check.proofs.CaseChecked.{listed_names}
 use Rattle.evidence.specs.FlowRun.{at_step, evidence_run}
 use Rattle.evidence.specs.CaseFlows.{IsCompleteOrder, case_flows, flows_in, AreOpened, flows_from, has_fractions}
-use Rattle.evidence.specs.Made.{MakesAll, written_evidence, opening_fault}
-use Rattle.evidence.specs.declared.fault.MakeFault.{MakeFault}
+use Rattle.evidence.specs.Made.{MakesAll, written_evidence}
+use Rattle.sequential.specs.OpeningFault.{at_step_zero}
+use Rattle.sequential.specs.declared.fault.RunFault.{RunFault}
 use Rattle.evidence.proofs.CaseEvidence.{case_opening_is, case_order, flows_fit, flows_list, flows_meet}
 
 -- ---- the opening
@@ -51,7 +52,7 @@ refused n js (Err v) w h = ap (λ v. Err (record { step = 0; at = v })) (same_er
 
 -- a refused opening is step 0 of the run
 pub opening_refused : (c : Content) (js : List ℕ) (f : OpenFault) → Opens case_state (Err f) (case_opening c)
-    → MakesAll written_evidence (Err (opening_fault f)) (case_flows c js)
+    → MakesAll written_evidence (Err (at_step_zero f)) (case_flows c js)
 unfolding case_opening case_flows flows_in
 opening_refused c js (OpenWide w) h = refused (numbers_of c) js (opening_in (numbers_of c) c) w h
 opening_refused c js OpenNoMemory h = tt
@@ -133,21 +134,21 @@ module _ (c : Content) (V : IsValidContent c) (js : List ℕ) (o : IsCompleteOrd
         other_version : (n : ℕ) → n ≡ 1 → n ≡ 2 → ⊥
         other_version n e f = omega arith
 
-  pub made_lists : (r : Result Evidence MakeFault) → MakesAll written_evidence r (case_flows c js)
+  pub made_lists : (r : Result Evidence RunFault) → MakesAll written_evidence r (case_flows c js)
       → IfOk r (λ v. map (λ s. s.hypothesis) (steps_of v) ≡ js)
   made_lists (Ok v) m = lists v m
   made_lists (Err f) m = tt
 
-  pub made_keeps : (r : Result Evidence MakeFault) → MakesAll written_evidence r (case_flows c js)
+  pub made_keeps : (r : Result Evidence RunFault) → MakesAll written_evidence r (case_flows c js)
       → IfOk r (λ v. map (λ x. x.hypothesis) (keeps_of v) ≡ others (length c.names) js)
   made_keeps (Ok v) m = keeps v m
   made_keeps (Err f) m = tt
 
-  pub made_meets : (r : Result Evidence MakeFault) → MakesAll written_evidence r (case_flows c js) → IfOk r (λ v. MeetsIn c (steps_of v) (keeps_of v))
+  pub made_meets : (r : Result Evidence RunFault) → MakesAll written_evidence r (case_flows c js) → IfOk r (λ v. MeetsIn c (steps_of v) (keeps_of v))
   made_meets (Ok v) m = meets v m
   made_meets (Err f) m = tt
 
-  pub made_fits : (r : Result Evidence MakeFault) → MakesAll written_evidence r (case_flows c js) → IfOk r (IsFormOf c)
+  pub made_fits : (r : Result Evidence RunFault) → MakesAll written_evidence r (case_flows c js) → IfOk r (IsFormOf c)
       → IfOk r (λ v. version_of v ≡ 2) → IfOk r (IsEvidenceFor c)
   made_fits (Ok v) m f two = fits v m f two
   made_fits (Err e) m f two = tt

@@ -22,8 +22,8 @@ use Rattle.evidence.specs.TablesView.{tables_of}
 use Rattle.evidence.specs.declared.tables.Tables.{Tables as KeptTables}
 use Rattle.evidence.specs.declared.fault.Fault.{Fault}
 use Rattle.evidence.specs.declared.fault.Fault.TheVariants.{Wide as TooWide, NoMemory}
-use Rattle.evidence.specs.declared.fault.MakeFault.{MakeFault}
-use Rattle.evidence.specs.declared.fault.MakeFault.TheVariants.{Wide as MakeWide, NoMemory as MakeNoMemory}
+use Rattle.sequential.specs.declared.fault.RunFault.{RunFault}
+use Rattle.sequential.specs.declared.fault.RunFault.TheVariants.{Wide as MakeWide, NoMemory as MakeNoMemory}
 use Rattle.evidence.specs.Made.{Makes, MakesAll, fault_in, fault_at}
 use Rattle.evidence.proofs.RowAnswers.{row_is}
 
@@ -146,7 +146,7 @@ module _ {S : Type 0} (K : Kind) (graph : S → StoredGraph) (removal : S → �
         ∙ ap (λ n. Err (record { step = n; at = w })) (sym m)
 
 -- a fault of a part of a run is a fault of the whole
-pub all_fault : {A B C D : Type 0} (v : A → B) (u : C → D) (f : MakeFault) (part : Result B WideStep) (whole : Result D WideStep)
+pub all_fault : {A B C D : Type 0} (v : A → B) (u : C → D) (f : RunFault) (part : Result B WideStep) (whole : Result D WideStep)
     → MakesAll v (Err f) part → ((w : WideStep) → part ≡ Err w → whole ≡ Err w) → MakesAll u (Err f) whole
 all_fault v u (MakeWide n w) part whole m h = h _ m
 all_fault v u MakeNoMemory part whole m h = tt

@@ -19,7 +19,7 @@ use Rattle.evidence_check.specs.declared.evidence.Steps.{Steps}
 use Rattle.evidence_check.specs.declared.evidence.ProofStep.{ProofStep}
 use Rattle.evidence_check.specs.declared.evidence.KeepProof.{KeepProof}
 use Rattle.evidence_check.specs.EvidenceParts.{StepParts, KeepParts, AreFull, FlowsFit, ExitsFit}
-use Rattle.evidence_check.specs.EvidenceView.{hypotheses_of, step_parts, keep_parts, FitsCase, IsEvidenceFor}
+use Rattle.evidence_check.specs.EvidenceView.{hypotheses_of, step_parts, keep_parts, IsEvidenceFor}
 use Rattle.evidence_check.specs.Documents.{Form, SaysVersion, SaysStep, SaysNumber, SaysKeep, SaysEnd, number_forms, list_forms, step_forms, keep_forms}
 use Rattle.evidence_check.specs.Documents.{evidence_forms, evidence_lines}
 use Rattle.evidence_check.specs.NumberReading.{case_frame}

@@ -2,22 +2,15 @@
 use Rattle.std.specs.Prelude.{◌≡◌, ℕ, map, Result, Ok, Err}
 use Rattle.field_core.specs.declared.place.Wide.{Wide as WideAtPlace}
 use Rattle.field_core.specs.declared.place.WideAt.{WideAt}
-use Rattle.entangled.specs.declared.open_fault.OpenFault.{OpenFault}
-use Rattle.entangled.specs.declared.open_fault.OpenFault.TheVariants.{Wide as OpenWide, NoMemory as OpenNoMemory}
 use Rattle.evidence.specs.declared.fault.Fault.{Fault}
 use Rattle.evidence.specs.declared.fault.Fault.TheVariants.{Wide, NoMemory}
-use Rattle.evidence.specs.declared.fault.MakeFault.{MakeFault}
-use Rattle.evidence.specs.declared.fault.MakeFault.TheVariants.{Wide as MakeWide, NoMemory as MakeNoMemory}
+use Rattle.sequential.specs.declared.fault.RunFault.{RunFault}
+use Rattle.sequential.specs.declared.fault.RunFault.TheVariants.{Wide as MakeWide, NoMemory as MakeNoMemory}
 use Rattle.field_core.specs.Kind.{Parts}
 use Rattle.evidence_check.specs.declared.evidence.Steps.{Steps}
 use Rattle.evidence_check.specs.declared.evidence.Evidence.{Evidence}
 use Rattle.evidence_check.specs.EvidenceView.{step_parts, keep_parts, steps_of, keeps_of}
 use Rattle.evidence.specs.FlowRun.{WideStep, WrittenEvidence}
-
--- a fault of an opening is at step 0
-abbrev pub opening_fault : OpenFault → MakeFault
-opening_fault (OpenWide w) = MakeWide 0 w
-opening_fault OpenNoMemory = MakeNoMemory
 
 -- a fault on a component, with it
 abbrev pub fault_in : ℕ → Fault WideAtPlace → Fault WideAt
@@ -25,7 +18,7 @@ fault_in c (Wide w) = Wide (record { component = c; place = w.place; op = w.op }
 fault_in c NoMemory = NoMemory
 
 -- a fault at a step, with it
-abbrev pub fault_at : ℕ → Fault WideAt → MakeFault
+abbrev pub fault_at : ℕ → Fault WideAt → RunFault
 fault_at n (Wide w) = MakeWide n w
 fault_at n NoMemory = MakeNoMemory
 
@@ -36,7 +29,7 @@ Makes view (Err (Wide w)) written = written ≡ Err w
 Makes view (Err NoMemory) written = Unit {0}
 
 -- The same of a run with steps.
-abbrev pub MakesAll : {A B : Type 0} → (A → B) → Result A MakeFault → Result B WideStep → Type 0
+abbrev pub MakesAll : {A B : Type 0} → (A → B) → Result A RunFault → Result B WideStep → Type 0
 MakesAll view (Ok x) written = written ≡ Ok (view x)
 MakesAll view (Err (MakeWide n w)) written = written ≡ Err (record { step = n; at = w })
 MakesAll view (Err MakeNoMemory) written = Unit {0}

@@ -1,41 +1,7 @@
-//! Why no evidence is made.
-use entangled::OpenFault;
+//! Why a part of a run of flows isn't made.
 use field_core::{NoMemory, Wide, WideAt};
+use sequential::RunFault;
 use std::alloc::AllocError;
-
-/// Why no evidence is made.
-#[derive(Clone, Copy, PartialEq, Eq, Debug)]
-pub enum MakeFault {
-    /// The first operation of the flow run that is undefined, and its step, counted from 1; step 0 is the opening.
-    Wide(usize, WideAt),
-    /// Memory ran out.
-    NoMemory,
-}
-
-impl From<NoMemory> for MakeFault {
-    ghost use Rattle.std.specs.Prelude.{◌≡◌};
-    ghost use Rattle.evidence.specs.declared.fault.MakeFault.TheVariants.{NoMemory as OutOfMemory};
-
-    ghost from_gives = { λ _ fault. fault ≡ OutOfMemory };
-
-    fn from(_: NoMemory) -> MakeFault {
-        MakeFault::NoMemory
-    }
-}
-
-impl From<OpenFault> for MakeFault {
-    ghost use Rattle.std.specs.Prelude.{◌≡◌};
-    ghost use Rattle.evidence.specs.Made.{opening_fault};
-
-    ghost from_gives = { λ opening fault. fault ≡ opening_fault opening };
-
-    fn from(fault: OpenFault) -> MakeFault {
-        match fault {
-            OpenFault::Wide(wide) => MakeFault::Wide(0, wide),
-            OpenFault::NoMemory => MakeFault::NoMemory,
-        }
-    }
-}
 
 /// Why a part of a run isn't made.
 #[derive(Clone, Copy)]
@@ -99,12 +65,12 @@ impl Fault<WideAt> {
     ghost use Rattle.evidence.specs.Made.{fault_at};
 
     /// The fault at the step `step`.
-    pub fn at_step(self, step: usize) -> MakeFault
+    pub fn at_step(self, step: usize) -> RunFault
         ensures { result ≡ fault_at step self }
     {
         match self {
-            Fault::Wide(wide) => MakeFault::Wide(step, wide),
-            Fault::NoMemory => MakeFault::NoMemory,
+            Fault::Wide(wide) => RunFault::Wide(step, wide),
+            Fault::NoMemory => RunFault::NoMemory,
         }
     }
 }

@@ -17,6 +17,5 @@ mod run;
 mod tables;
 mod writer;
 
-pub use fault::MakeFault;
 pub use maker::make;
 pub use writer::write;

@@ -12,13 +12,12 @@ ghost use Rattle.evidence_check.specs.CaseCheck.{IsSingle, MeetsIn};
 ghost use Rattle.evidence.specs.CaseFlows.{IsCompleteOrder, case_flows, AreOpened, flows_from, has_fractions};
 ghost use Rattle.evidence.specs.Made.{MakesAll, written_evidence};
 
-use crate::fault::MakeFault;
 use crate::run::evidence;
 use case_model::Case;
 use entangled::CaseNet;
 use evidence_check::Evidence;
 use field_core::{List, NoMemory};
-use sequential::{Decision, StepLine};
+use sequential::{Decision, RunFault, StepLine};
 use std::alloc::Global;
 
 /// The hypotheses of lines, in their order.
@@ -39,7 +38,7 @@ fn evidence_of(
     alloc: Global,
     nets: &mut CaseNet,
     hypotheses: &[usize],
-) -> Result<Evidence, MakeFault>
+) -> Result<Evidence, RunFault>
     requires opened { AreOpened (case_state nets.old) }
     requires order { IsOrder (case_size (case_state nets.old)) whole hypotheses.now }
     ensures made { MakesAll written_evidence result (flows_from (case_state nets.old) hypotheses.now) }
@@ -59,7 +58,7 @@ fn evidence_of(
 }
 
 /// The evidence of a case along a complete legal order.
-fn evidence_along(alloc: Global, case: &Case, hypotheses: &[usize]) -> Result<Evidence, MakeFault>
+fn evidence_along(alloc: Global, case: &Case, hypotheses: &[usize]) -> Result<Evidence, RunFault>
     requires { IsCompleteOrder (content case.now) hypotheses.now }
     ensures made { MakesAll written_evidence result (case_flows (content case.now) hypotheses.now) }
     ensures form { IfOk result (IsFormOf (content case.now)) }
@@ -75,9 +74,9 @@ fn evidence_along(alloc: Global, case: &Case, hypotheses: &[usize]) -> Result<Ev
 /// The evidence is of version 2. It lists the steps of the decision and keeps all other hypotheses, its flows and exits are
 /// the numbers of the written flow run, and it meets its conditions, so that `check` doesn't find a broken one.
 ///
-/// Unless memory runs out, it is `MakeFault::Wide` exactly where the written flow run is undefined, with the step, counted
+/// Unless memory runs out, it is `RunFault::Wide` exactly where the written flow run is undefined, with the step, counted
 /// from 1; step 0 is the opening.
-pub fn make(alloc: Global, case: &Case, decision: &Decision) -> Result<Evidence, MakeFault>
+pub fn make(alloc: Global, case: &Case, decision: &Decision) -> Result<Evidence, RunFault>
     requires single { IsSingle (content case.now).inputs }
     requires order { IsCompleteOrder (content case.now) (hypotheses decision.now.steps) }
     ensures made { MakesAll written_evidence result (case_flows (content case.now) (hypotheses decision.now.steps)) }

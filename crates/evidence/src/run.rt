@@ -15,13 +15,14 @@ ghost use Rattle.evidence.specs.FlowStatements.{IsOpened};
 ghost use Rattle.evidence.specs.TablesView.{tables_of};
 ghost use Rattle.evidence.specs.Made.{Makes, MakesAll, written_steps};
 
-use crate::fault::{Fault, MakeFault};
+use crate::fault::Fault;
 use crate::rows::{number, row};
 use crate::tables::{Tables, first_tables, tables_after};
 use entangled::Bundle;
 use evidence_check::{KeepProof, ProofStep, Steps};
 use field_core::{List, NoMemory, Number, WideAt};
 use removal::Remover;
+use sequential::RunFault;
 use std::alloc::Global;
 
 /// The numbers at places of a row.
@@ -133,7 +134,7 @@ fn step<R: Remover>(
     earlier: &[usize],
     is_last: bool,
     is_kept: bool,
-) -> Result<List<Tables<R::Value>>, MakeFault>
+) -> Result<List<Tables<R::Value>>, RunFault>
     requires live { is_live R.graph (bundled bundle.old) j ≡ true }
     requires count { length tables.now ≡ length (bundled bundle.old).states }
     ensures { MakesAll (λ next. record { bundle = bundled bundle.new; tables = map (tables_of R.Value.parts) next }) result
@@ -150,7 +151,7 @@ fn step<R: Remover>(
     }
     match bundle.remove(j) {
         Ok(()) => Ok(next),
-        Err(wide) => Err(MakeFault::Wide(number, wide)),
+        Err(wide) => Err(RunFault::Wide(number, wide)),
     }
 }
 
@@ -182,7 +183,7 @@ fn run<R: Remover>(
     bundle: &mut Bundle<R>,
     hypotheses: &[usize],
     is_kept: bool,
-) -> Result<FinishedRun<R::Value>, MakeFault>
+) -> Result<FinishedRun<R::Value>, RunFault>
     requires opened { IsOpened R.Value.kind R.graph R.IsProper (bundled bundle.old) }
     requires order { IsOrder (size R.graph (bundled bundle.old)) whole hypotheses.now }
     ensures { MakesAll (λ r. record { steps = map (step_parts R.Value.parts) r.steps; tables = map (tables_of R.Value.parts) r.tables }) result
@@ -257,7 +258,7 @@ pub fn evidence<R: Remover>(
     alloc: Global,
     bundle: &mut Bundle<R>,
     hypotheses: &[usize],
-) -> Result<Steps<R::Value>, MakeFault>
+) -> Result<Steps<R::Value>, RunFault>
     requires opened { IsOpened R.Value.kind R.graph R.IsProper (bundled bundle.old) }
     requires order { IsOrder (size R.graph (bundled bundle.old)) whole hypotheses.now }
     ensures made { MakesAll (written_steps R.Value.parts) result (evidence_run R.Value.kind R.graph R.removal (bundled bundle.old) hypotheses.now) }

@@ -3,11 +3,10 @@ ghost use Rattle.std.specs.Prelude.{◌≡◌, ◌+◌, ◌<◌, ◌++◌, [], �
 ghost use Rattle.std.specs.Fmt.{decimal};
 ghost use Rattle.text_lines.specs.Spelling.{spaced};
 ghost use Rattle.case_model.specs.CaseView.{content};
-ghost use Rattle.case_numbers.specs.Numbers.{numbers_of};
 ghost use Rattle.evidence_check.specs.declared.quantity.Quantity.TheVariants.{Flow, Exit};
 ghost use Rattle.evidence_check.specs.EvidenceParts.{AreFull, FlowsFit, ExitsFit};
-ghost use Rattle.evidence_check.specs.EvidenceView.{hypotheses_of, step_parts, keep_parts, FitsCase, IsEvidenceFor, version_of, steps_of, keeps_of};
-ghost use Rattle.evidence_check.specs.Documents.{keyword, SaysVersion, SaysStep, SaysNumber, SaysKeep, SaysEnd, number_forms, list_forms, step_forms};
+ghost use Rattle.evidence_check.specs.EvidenceView.{hypotheses_of, step_parts, keep_parts, FitsCase, IsEvidenceFor};
+ghost use Rattle.evidence_check.specs.Documents.{keyword, SaysVersion, SaysStep, SaysNumber, SaysKeep, number_forms, list_forms, step_forms};
 ghost use Rattle.evidence_check.specs.Documents.{keep_forms, evidence_forms};
 ghost use Rattle.evidence_check.specs.NumberTexts.{number_text};
 ghost use Rattle.evidence_check.specs.DocumentStatements.{SaysEvidence, evidence_text};

@@ -52,14 +52,16 @@ module _ (K : Kind) (component : ℕ → ℕ) (place : Place) (start : Parts) (f
   added_next n s e = rw (add-one, added_suc n, e) refl
 
   -- what is refused on the way is refused in the end
-  pub added_refused : (m n : ℕ) (e : CheckEvent) → n ≤ m → added K component place start f g n ≡ Err e → added K component place start f g m ≡ Err e
+  pub added_refused : (m n : ℕ) (e : CheckEvent) → n ≤ m → added K component place start f g n ≡ Err e
+      → added K component place start f g m ≡ Err e
   added_refused zero n e h k = let z : n ≡ 0 = omega arith in rw z at k
   added_refused (suc m) n e h k = elim (at_or_past n m h) [
     | inl same ↦ rw same at k
     | inr below ↦ added_suc m ∙ ap (λ r. r >>= (λ s. with_product K (component m) place s (f m) (g m))) (added_refused m n e below k)
   ]
 
-  module _ {F : Type 0} (v : F → Parts) (n : ℕ) (s x y : Parts) (r : Result F CheckEvent) (before : added K component place start f g n ≡ Ok s) (p : x ≡ f n)
+  module _ {F : Type 0} (v : F → Parts) (n : ℕ) (s x y : Parts) (r : Result F CheckEvent)
+      (before : added K component place start f g n ≡ Ok s) (p : x ≡ f n)
       (q : y ≡ g n) (w : ok_map v r ≡ with_product K (component n) place s x y) where
     next_is : added K component place start f g (n + 1) ≡ ok_map v r
     next_is = added_next n s before ∙ ap (λ x. with_product K (component n) place s x (g n)) (sym p) ∙ ap (with_product K (component n) place s x) (sym q)

@@ -1,5 +1,5 @@
 -- The written check of a keep by value.
-use Rattle.std.proofs.Common.{◌≡◌, refl, sym, subst, ◌∙◌, ℕ, ◌<◌, Bool, true, false, not, List, length, Ok}
+use Rattle.std.proofs.Common.{◌≡◌, refl, sym, subst, ◌∙◌, ℕ, ◌<◌, true, false, not, List, length, Ok}
 use Rattle.std.specs.Ordering.{is_le}
 use Rattle.std.specs.declared.cmp.Ordering.{Ordering}
 use Rattle.field_core.specs.declared.place.Place.TheVariants.{Level, Exit}

@@ -1,5 +1,5 @@
 -- Which condition a check that ends early names.
-use Rattle.std.proofs.Common.{◌≡◌, refl, ap, subst, ℕ, zero, suc, ◌<◌, Bool, true, false, List, ◌++◌, ◌∷◌, [], Result, Ok, Err, arith}
+use Rattle.std.proofs.Common.{◌≡◌, refl, ap, subst, ℕ, zero, suc, ◌<◌, Bool, true, false, ◌++◌, ◌∷◌, [], Result, Ok, Err, arith}
 use Rattle.field_core.specs.declared.place.TooWide.{TooWide}
 use Rattle.field_core.specs.declared.place.Place.{Place}
 use Rattle.field_core.specs.declared.place.Op.TheVariants.{Add, Mul}

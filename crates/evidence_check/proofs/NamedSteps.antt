@@ -1,5 +1,5 @@
 -- The condition of a step that the written check names is broken.
-use Rattle.std.proofs.Common.{◌≡◌, refl, sym, ap, subst, ◌∙◌, ℕ, ◌<◌, false, not, List, length, Result, Ok}
+use Rattle.std.proofs.Common.{◌≡◌, refl, sym, ap, subst, ◌∙◌, ℕ, ◌<◌, false, not, List, length, Result}
 use Rattle.std.specs.Ordering.{is_le}
 use Rattle.field_core.specs.declared.place.Place.TheVariants.{Bound, Level}
 use Rattle.field_core.specs.Number.{Number}
@@ -42,7 +42,8 @@ names_level L k f Bad each =
 
 module _ (K : Kind) (IsStored : Parts → Type 0) (X : IsExact K IsStored) (L : Loaded) (E : EntangledGraph) (V : IsValidEntangled E)
     (D : IsLoaded IsStored L E) (js : List ℕ) (o : IsOrder E.hypotheses whole js) where
-  flow_named : (c : ℕ) (q : c < E.components) (y : ℕ → Parts) (v : ℕ → Number) (Y : (e : ℕ) → Gives IsStored (y e) (v e)) (r : ℕ) → r < length js
+  flow_named : (c : ℕ) (q : c < E.components) (y : ℕ → Parts) (v : ℕ → Number)
+      (Y : (e : ℕ) → Gives IsStored (y e) (v e)) (r : ℕ) → r < length js
       → (Bad : Reason → Type 0) → (¬ (number_zero ≤ε v r) → Bad (Negative c r))
       → (¬ (v r ≤ε brought (E.graph c) js v (at_place js r)) → Bad (Exceeds c r)) → Names (flow_check K L js y c r) Bad
   unfolding flow_check brought_sum
@@ -96,4 +97,5 @@ module _ (K : Kind) (IsStored : Parts → Type 0) (X : IsExact K IsStored) (L : 
       let positive = (require_tells (is_above_zero (value_of level)) NoLevel (IsPositive (value_of level)) (positive_test (value_of level))
       (test_positive (value_of level))).ok w above in
       names_test (does_pass (L.p s.hypothesis) (value_of level) L.alpha) AboveLevel Bad
-      (λ h g. true_false _ (pass_tested _ _ _ (record { positive = positive; small = subst (λ u. L.p s.hypothesis ≤ε (u *ε L.alpha)) (sym T.value) g })) h)))))
+      (λ h g. true_false _ (pass_tested _ _ _ (record { positive = positive; small = subst (λ u. L.p s.hypothesis ≤ε (u *ε L.alpha)) (sym T.value) g }))
+      h)))))

@@ -85,7 +85,8 @@ module _ (K : Kind) (L : Loaded) (js : List ℕ) (s : StepParts) where
   pub step_new : (u : Unit {0}) → step_check K L js s ≡ Ok u → require (not (set_of js s.hypothesis)) Repeated ≡ Ok tt
   step_new u h = go (require (not (set_of js s.hypothesis)) Repeated) refl
     where
-      go : (r : Result (Unit {0}) CheckEvent) → require (not (set_of js s.hypothesis)) Repeated ≡ r → require (not (set_of js s.hypothesis)) Repeated ≡ Ok tt
+      go : (r : Result (Unit {0}) CheckEvent) → require (not (set_of js s.hypothesis)) Repeated ≡ r
+          → require (not (set_of js s.hypothesis)) Repeated ≡ Ok tt
       go (Ok v) d = d
       go (Err e) d = absurd (let g = sym (repeated e d) ∙ h in cc)
 

@@ -22,7 +22,8 @@ pub record TellsAt {A : Type 0} (r : Result A CheckEventAt) (Good : A → Type 0
   pub ok : (x : A) → r ≡ Ok x → Good x
   pub bad : (n : ℕ) (reason : Reason) → r ≡ Err (record { number = n; event = Broken reason }) → Bad
 
-pub tells_bind : {A B : Type 0} (r : Result A CheckEvent) (f : A → Result B CheckEvent) (Good : A → Type 0) (Then : B → Type 0) (Bad : Type 0) → Tells r Good Bad
+pub tells_bind : {A B : Type 0} (r : Result A CheckEvent) (f : A → Result B CheckEvent)
+    (Good : A → Type 0) (Then : B → Type 0) (Bad : Type 0) → Tells r Good Bad
     → ((x : A) → Good x → Tells (f x) Then Bad) → Tells (r >>= f) Then Bad
 tells_bind (Ok x) f Good Then Bad T then = then x (T.ok x refl)
 tells_bind (Err e) f Good Then Bad T then = record { ok = λ x h. absurd (cc); bad = λ reason h. T.bad reason (let g : e ≡ Broken reason = cc in ap Err g) }
@@ -43,7 +44,8 @@ pub tells_if : {A : Type 0} (r : Result A CheckEvent) (Good More : A → Type 0)
     → Tells r Good Bad → Tells r More Worse
 tells_if r Good More Bad Worse g b T = record { ok = λ x h. g x (T.ok x h); bad = λ reason h. b (T.bad reason h) }
 
-pub tells_if_at : {A : Type 0} (r : Result A CheckEventAt) (Good More : A → Type 0) (Bad Worse : Type 0) → ((x : A) → Good x → More x) → (Bad → Worse)
+pub tells_if_at : {A : Type 0} (r : Result A CheckEventAt) (Good More : A → Type 0) (Bad Worse : Type 0)
+    → ((x : A) → Good x → More x) → (Bad → Worse)
     → TellsAt r Good Bad → TellsAt r More Worse
 tells_if_at r Good More Bad Worse g b T = record { ok = λ x h. g x (T.ok x h); bad = λ n reason h. b (T.bad n reason h) }
 
@@ -57,7 +59,8 @@ unfolding written_at
 written_tells c place (Ok x) Bad = record { ok = λ y h. let e : x ≡ y = cc in ap Ok e; bad = λ r h. absurd (cc) }
 written_tells c place (Err e) Bad = record { ok = λ x h. absurd (cc); bad = λ r h. absurd (cc) }
 
-pub numbered_tells : {A : Type 0} (n : ℕ) (r : Result A CheckEvent) (Good : A → Type 0) (Bad : Type 0) → Tells r Good Bad → TellsAt (numbered n r) Good Bad
+pub numbered_tells : {A : Type 0} (n : ℕ) (r : Result A CheckEvent) (Good : A → Type 0) (Bad : Type 0)
+    → Tells r Good Bad → TellsAt (numbered n r) Good Bad
 unfolding numbered
 numbered_tells n (Ok x) Good Bad T = record { ok = λ y h. let e : x ≡ y = cc in subst Good e (T.ok x refl); bad = λ k r h. absurd (cc) }
 numbered_tells n (Err e) Good Bad T =
@@ -81,7 +84,8 @@ all_tells (suc n) f P each =
     (λ b all. b (all n (omega arith))) (each n (omega arith)))
 
 -- the same where a broken condition says something else
-pub all_tells_or : (n : ℕ) (f : ℕ → Result (Unit {0}) CheckEvent) (P : ℕ → Type 0) (Bad : Type 0) → ((i : ℕ) → i < n → Tells (f i) (λ _. P i) Bad)
+pub all_tells_or : (n : ℕ) (f : ℕ → Result (Unit {0}) CheckEvent) (P : ℕ → Type 0) (Bad : Type 0)
+    → ((i : ℕ) → i < n → Tells (f i) (λ _. P i) Bad)
     → Tells (all_below n f) (λ _. (i : ℕ) → i < n → P i) Bad
 unfolding all_below
 all_tells_or zero f P Bad each = tells_ok tt _ _ (λ i p. absurd (omega arith))

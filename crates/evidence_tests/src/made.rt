@@ -6,10 +6,10 @@ ghost use Rattle.evidence_check.specs.EvidenceView.{IsEvidenceFor};
 use crate::cases::{FIXED, FIXED_EVIDENCE, GATEKEEPING, GATEKEEPING_EVIDENCE, expect, said};
 use case_model::Case;
 use evidence::laws::decisions_are_complete_orders;
-use evidence::{MakeFault, make, write};
+use evidence::{make, write};
 use evidence_check::{Evidence, Verdict, check};
 use field_core::{Op, Place, WideAt};
-use sequential::{Priority, decide, is_single};
+use sequential::{Priority, RunFault, decide, is_single};
 use std::alloc::Global;
 use std::process::Abort;
 
@@ -55,7 +55,7 @@ const MADE: &[(&str, &str)] = &[
 ];
 
 /// The evidence for the decision on a case.
-fn made(rt: &impl Abort, alloc: Global, case: &Case) -> Result<Evidence, MakeFault>
+fn made(rt: &impl Abort, alloc: Global, case: &Case) -> Result<Evidence, RunFault>
     ensures { IfOk result (IsEvidenceFor (content case.now)) }
 {
     assert!(rt; is_single(case));
@@ -104,5 +104,5 @@ fn long_visits_are_too_wide(rt: HostRuntime) {
         place: Place::Visit(3, 0),
         op: Op::Add,
     };
-    assert!(&rt; proof.err() == Some(MakeFault::Wide(2, wide)));
+    assert!(&rt; proof.err() == Some(RunFault::Wide(2, wide)));
 }

@@ -1,6 +1,7 @@
 -- The order of sets: by the ascending lists of the hypotheses that they leave out, position by position, a list before those that it begins
 -- (this project's own).
-use Rattle.std.specs.Prelude.{◌≡◌, ◌<◌, ◌≤◌, ◌⊎◌, ◌+◌, ◌-◌, ◌^◌, ℕ, zero, suc, Bool, List, [], ◌∷◌, ◌++◌, if◌then◌else◌}
+use Rattle.std.specs.Prelude.{◌≡◌, ◌<◌, ◌≤◌, ◌⊎◌, ◌+◌, ◌-◌, ◌^◌, ℕ, zero, suc, Bool, List, [], ◌∷◌, ◌++◌}
+use Rattle.std.specs.Prelude.{if◌then◌else◌}
 
 -- the positions below `m` that a set leaves out, ascending
 unfoldable pub left_out : ℕ → (ℕ → Bool) → List ℕ

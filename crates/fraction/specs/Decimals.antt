@@ -1,8 +1,10 @@
 -- Decimals: numerals without a sign that are no pair, and what they are worth.
-use Rattle.std.specs.Prelude.{◌≡◌, ◌↔◌, ℕ, ◌-◌, ◌&&◌, ◌||◌, ◌++◌, Bool, true, List, length, nat_lt, int_lt, ℤ, pos, ◌-ℤ◌, Option, Some, None, if◌then◌else◌}
+use Rattle.std.specs.Prelude.{◌≡◌, ◌↔◌, ℕ, ◌-◌, ◌&&◌, ◌||◌, ◌++◌, Bool, true, List, length, nat_lt, int_lt, ℤ, pos, ◌-ℤ◌}
+use Rattle.std.specs.Prelude.{Option, Some, None, if◌then◌else◌}
 use Rattle.field_core.specs.Terms.{Terms}
 use Rattle.fraction.specs.Lowest.{lowest_terms}
-use Rattle.fraction.specs.Numeral.{Body, Plain, Pointed, Pair, body_text, IsBody, exponent_of, without_leading_zeros, trailing_zeros, value_of, HasTooManyDigits}
+use Rattle.fraction.specs.Numeral.{Body, Plain, Pointed, Pair, body_text, IsBody, exponent_of, without_leading_zeros, trailing_zeros, value_of}
+use Rattle.fraction.specs.Numeral.{HasTooManyDigits}
 
 -- two numbers with a slash between
 abbrev pub IsPair : Body → Type 0
@@ -32,7 +34,8 @@ is_too_long digits s = nat_lt 0 (length digits) && passes_limit (length digits -
 -- whether a body has too many digits (`HasTooManyDigits`)
 unfoldable pub has_too_many_digits : Body → Bool
 has_too_many_digits (Plain whole exponent) = is_too_long (without_leading_zeros whole) (pos 0 -ℤ exponent_of exponent)
-has_too_many_digits (Pointed whole fraction exponent) = is_too_long (without_leading_zeros (whole ++ fraction)) (pos (length fraction) -ℤ exponent_of exponent)
+has_too_many_digits (Pointed whole fraction exponent) =
+    is_too_long (without_leading_zeros (whole ++ fraction)) (pos (length fraction) -ℤ exponent_of exponent)
 has_too_many_digits (Pair over under) = nat_lt 38 (length (without_leading_zeros over)) || nat_lt 38 (length (without_leading_zeros under))
 
 -- the value of a decimal in lowest terms, or nothing where it has too many digits

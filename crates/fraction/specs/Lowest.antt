@@ -1,5 +1,6 @@
 -- Quotients of whole numbers in lowest terms.
-use Rattle.std.specs.Prelude.{◌≡◌, ◌≢◌, ℕ, ◌/◌, ◌^◌, ◌≤◌, ◌⊎◌, Bool, true, false, not, ℤ, pos, unsigned_abs, Result, Ok, Err}
+use Rattle.std.specs.Prelude.{◌≡◌, ◌≢◌, ℕ, ◌/◌, ◌^◌, ◌≤◌, ◌⊎◌, Bool, true, false, not, ℤ, pos, unsigned_abs, Result, Ok}
+use Rattle.std.specs.Prelude.{Err}
 use Rattle.std.specs.Int.{is_negative}
 use Rattle.field_core.specs.Divisor.{gcd}
 use Rattle.field_core.specs.Terms.{Terms}

@@ -1,5 +1,6 @@
 -- Numerals: what they are, what they are worth, and why a text has no value.
-use Rattle.std.specs.Prelude.{◌≡◌, ℕ, suc, ◌+◌, ◌-◌, ◌^◌, ◌<◌, ◌≤◌, ◌⊎◌, Bool, false, List, [], ◌∷◌, ◌++◌, length, drop, ℤ, pos, negsuc, neg_ℤ, ◌-ℤ◌, ◌*ℤ◌, ◌<ℤ◌, Option, Some, None, ◌==◌, if◌then◌else◌}
+use Rattle.std.specs.Prelude.{◌≡◌, ℕ, suc, ◌+◌, ◌-◌, ◌^◌, ◌<◌, ◌≤◌, ◌⊎◌, Bool, false, List, [], ◌∷◌, ◌++◌, length}
+use Rattle.std.specs.Prelude.{drop, ℤ, pos, negsuc, neg_ℤ, ◌-ℤ◌, ◌*ℤ◌, ◌<ℤ◌, Option, Some, None, ◌==◌, if◌then◌else◌}
 use Rattle.std.specs.List.{prefix_len, suffix_len}
 use Rattle.std.specs.Str.Parse.{digits_value}
 use Rattle.field_core.specs.Terms.{Terms, IsReduced}
@@ -97,7 +98,8 @@ over_power n (negsuc s) = record { num = n *ℤ pos (10 ^ suc s); den = pos 1 }
 -- the value of a numeral, as a quotient of whole numbers
 unfoldable pub value_of : Option ℕ → Body → Terms
 value_of sign (Plain whole exponent) = over_power (signed sign (digits_value 10 whole)) (pos 0 -ℤ exponent_of exponent)
-value_of sign (Pointed whole fraction exponent) = over_power (signed sign (digits_value 10 (whole ++ fraction))) (pos (length fraction) -ℤ exponent_of exponent)
+value_of sign (Pointed whole fraction exponent) = over_power (signed sign (digits_value 10 (whole ++ fraction)))
+    (pos (length fraction) -ℤ exponent_of exponent)
 value_of sign (Pair over under) = record { num = signed sign (digits_value 10 over); den = pos (digits_value 10 under) }
 
 -- ---- its limits

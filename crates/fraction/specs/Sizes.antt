@@ -1,8 +1,10 @@
 -- What the digits of a numeral give, before its sign.
-use Rattle.std.specs.Prelude.{◌≡◌, ◌≢◌, ℕ, ◌^◌, ◌⊎◌, List, [], ◌∷◌, ◌++◌, length, ℤ, pos, neg_ℤ, ◌-ℤ◌, ◌≤ℤ◌, Option, None, Result, Ok, Err}
+use Rattle.std.specs.Prelude.{◌≡◌, ◌≢◌, ℕ, ◌^◌, ◌⊎◌, List, [], ◌∷◌, ◌++◌, length, ℤ, pos, neg_ℤ, ◌-ℤ◌, ◌≤ℤ◌}
+use Rattle.std.specs.Prelude.{Option, None, Result, Ok, Err}
 use Rattle.std.specs.Str.Parse.{digits_value}
 use Rattle.field_core.specs.Terms.{Terms}
-use Rattle.fraction.specs.Numeral.{Exponent, exponent_text, IsExponent, exponent_of, Body, body_text, IsBody, over_power, value_of, without_leading_zeros, PassesLimit, IsTooLong, HasZeroDenominator, HasTooManyDigits, Same}
+use Rattle.fraction.specs.Numeral.{Exponent, exponent_text, IsExponent, exponent_of, Body, body_text, IsBody, over_power, value_of, without_leading_zeros}
+use Rattle.fraction.specs.Numeral.{PassesLimit, IsTooLong, HasZeroDenominator, HasTooManyDigits, Same}
 use Rattle.fraction.specs.declared.fault.NumberFault.{NumberFault}
 use Rattle.fraction.specs.declared.fault.NumberFault.TheVariants.{ZeroDenominator, TooManyDigits}
 use Rattle.fraction.specs.declared.size.Size.{Size}

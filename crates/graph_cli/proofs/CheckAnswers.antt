@@ -1,19 +1,16 @@
 -- `check` has at most one outcome on a case and a text.
-use Rattle.std.proofs.Common.{◌≡◌, refl, sym, ap, ap₂, ◌∙◌, ℕ, List, Result, Ok, Err}
+use Rattle.std.proofs.Common.{◌≡◌, sym, ap, ap₂, ◌∙◌, ℕ, List, Result, Ok, Err}
 use Rattle.answers.specs.Stages.{IsDecided}
 use Rattle.answers.proofs.Decided.{then_decided, only_decided}
 use Rattle.case_model.specs.Content.{Content}
-use Rattle.evidence_check.specs.declared.evidence.Evidence.{Evidence}
 use Rattle.evidence_check.specs.declared.verdict.CheckWide.{CheckWide}
 use Rattle.evidence_check.specs.declared.verdict.Verdict.{Verdict}
 use Rattle.evidence_check.specs.EvidenceParts.{StepParts, KeepParts}
-use Rattle.evidence_check.specs.EvidenceView.{version_of, steps_of, keeps_of}
-use Rattle.evidence_check.specs.CaseCheck.{case_check, verdict_of}
 use Rattle.evidence_check.proofs.DocumentLaws.{one_said, said_or_failed, one_fault}
 use Rattle.refusals.specs.ProofRefusal.{part_at, proof_refusal}
 use Rattle.refusals.specs.WideRefusal.{wide_refusal}
 use Rattle.refusals.specs.declared.wide.When.TheVariants.{Check}
-use Rattle.graph_cli.specs.Check.{Said, said_of, listed_in, kept_in, evidence_in, checked, check_stage}
+use Rattle.graph_cli.specs.Check.{Said, listed_in, kept_in, evidence_in, checked, check_stage}
 
 pub same_said : (v w : ℕ) (ss ts : List StepParts) (xs ys : List KeepParts) → v ≡ w → ss ≡ ts → xs ≡ ys
     → Path Said (record { version = v; steps = ss; keeps = xs }) (record { version = w; steps = ts; keeps = ys })

@@ -1,15 +1,13 @@
 -- Where `check` says yes, the closed test rejects what it lists.
-use Rattle.std.proofs.Common.{◌≡◌, refl, sym, ap, subst, ◌∙◌, ℕ, List, map, Some, Ok, inl, inr}
-use Rattle.std.specs.Prelude.{codes}
+use Rattle.std.proofs.Common.{◌≡◌, refl, sym, ap, subst, ◌∙◌, ℕ, List, Some, Ok, inl, inr}
 use Rattle.answers.specs.declared.answer.Answer.{Answer}
-use Rattle.answers.specs.declared.cause.Cause.{Cause}
 use Rattle.answers.specs.declared.status.Status.{Status}
 use Rattle.answers.specs.declared.status.Status.TheVariants as statuses
 use Rattle.case_model.specs.Content.{Content, content_of}
 use Rattle.case_model.specs.declared.inputs.Inputs.{Inputs}
 use Rattle.case_model.specs.declared.inputs.Inputs.TheVariants.{Bare, Single as Values, Staged as Stages}
 use Rattle.case_model.specs.Validity.{IsValidContent}
-use Rattle.command_words.specs.Asked.{Written, check}
+use Rattle.command_words.specs.Asked.{check}
 use Rattle.command_words.proofs.OneReading.{words_decided}
 use Rattle.evidence_check.specs.declared.evidence.Evidence.{Evidence}
 use Rattle.evidence_check.specs.declared.verdict.Verdict.{Verdict}

@@ -1,5 +1,5 @@
 -- `evidence` has at most one outcome on a case, and the check of what it makes finds no broken condition.
-use Rattle.std.proofs.Common.{◌≡◌, refl, sym, ap, ◌∙◌, ℕ, List, Result, Ok, Err}
+use Rattle.std.proofs.Common.{◌≡◌, sym, ap, ◌∙◌, ℕ, Result, Ok, Err}
 use Rattle.answers.specs.Stages.{IsDecided}
 use Rattle.answers.proofs.Decided.{then_decided, only_decided}
 use Rattle.fraction.specs.View.{number_of}

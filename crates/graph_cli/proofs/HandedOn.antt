@@ -1,15 +1,11 @@
 -- What a part gives or refuses, as what the whole does.
 use Rattle.std.proofs.Common.{◌≡◌, sym, subst, Result, Ok, Err}
-use Rattle.std.specs.Prelude.{IfOk, IfErr}
+use Rattle.std.specs.Prelude.{IfErr}
 use Rattle.std.specs.Result.{IsErrAnd}
 use Rattle.answers.specs.declared.refusal.Refusal.{Refusal}
 use Rattle.answers.specs.declared.halt.Halt.{Halt}
 use Rattle.answers.specs.declared.halt.Halt.TheVariants as halts
 use Rattle.answers.specs.Halts.{HaltsBy}
-
-pub given_on : {A E : Type 0} (r : Result A E) (P Q : A → Type 0) → ((x : A) → P x → Q x) → IfOk r P → IfOk r Q
-given_on (Ok x) P Q f h = f x h
-given_on (Err e) P Q f h = tt
 
 pub refused_on : {A : Type 0} (r : Result A Halt) (P Q : Refusal → Type 0) → ((x : Refusal) → P x → Q x) → IfErr r (HaltsBy P) → IfErr r (HaltsBy Q)
 refused_on (Ok x) P Q f h = tt

@@ -11,6 +11,7 @@ pub struct Needs {
 }
 
 impl Needs {
+    /// What a command needs that takes inputs of this kind, of at most so many hypotheses.
     pub fn new(kind: InputKind, most: usize) -> Needs
         ensures { result ≡ record { kind = kind; most = most } }
     {

@@ -4,7 +4,11 @@ use Rattle.std.specs.Fmt.{decimal}
 use Rattle.case_model.specs.declared.fault.PartPlace.{PartPlace}
 use Rattle.case_model.specs.declared.fault.PartPlace.TheVariants.{Alpha, Share, Weight, Edge, P, Spend, Step, Arrival}
 use Rattle.case_model.specs.declared.fault.CaseFault.{CaseFault}
-use Rattle.case_model.specs.declared.fault.CaseFault.TheVariants.{NoHypothesis, TooMany, NameForm, DuplicateName, NoComponent, TooManyComponents, PartTooLong, AlphaRange, ShareRange, ShareSum, WeightCount, WeightRange, WeightSum, SelfEdge, RepeatedEdge, EdgeRange, RowSum, Mixed, PCount, PMissing, PRange, NoStage, TooManyStages, SpendCount, TooManySteps, StepOrder, SpendRange, SpendSum, ArrivalStage, ArrivalRepeated, ArrivalRange, Wide}
+use Rattle.case_model.specs.declared.fault.CaseFault.TheVariants.{NoHypothesis, TooMany, NameForm, DuplicateName, NoComponent, TooManyComponents, PartTooLong}
+use Rattle.case_model.specs.declared.fault.CaseFault.TheVariants.{AlphaRange, ShareRange, ShareSum, WeightCount, WeightRange, WeightSum, SelfEdge, RepeatedEdge}
+use Rattle.case_model.specs.declared.fault.CaseFault.TheVariants.{EdgeRange, RowSum, Mixed, PCount, PMissing, PRange, NoStage, TooManyStages, SpendCount}
+use Rattle.case_model.specs.declared.fault.CaseFault.TheVariants.{TooManySteps, StepOrder, SpendRange, SpendSum, ArrivalStage, ArrivalRepeated, ArrivalRange}
+use Rattle.case_model.specs.declared.fault.CaseFault.TheVariants.{Wide}
 use Rattle.answers.specs.declared.refusal.Refusal.{Refusal}
 use Rattle.refusals.specs.declared.wide.When.TheVariants.{Reading}
 use Rattle.refusals.specs.LinePieces.{counted, name_at, two_names, in_component, malformed_at, past_limit}

@@ -5,7 +5,8 @@ use Rattle.field_core.specs.NumberedSets.{members}
 use Rattle.field_core.specs.declared.place.Op.{Op}
 use Rattle.field_core.specs.declared.place.Op.TheVariants.{Add, Sub, Mul, Div}
 use Rattle.field_core.specs.declared.place.Place.{Place}
-use Rattle.field_core.specs.declared.place.Place.TheVariants.{Weight, Loss, Edge, Share, Ratio, Flow, Visit, Exit, Bound, Level, WeightSum, RowSum, ShareSum, SpendSum}
+use Rattle.field_core.specs.declared.place.Place.TheVariants.{Weight, Loss, Edge, Share, Ratio, Flow, Visit, Exit, Bound, Level, WeightSum, RowSum, ShareSum}
+use Rattle.field_core.specs.declared.place.Place.TheVariants.{SpendSum}
 use Rattle.field_core.specs.declared.place.WideAt.{WideAt}
 use Rattle.answers.specs.declared.refusal.Refusal.{Refusal}
 use Rattle.answers.specs.declared.cause.Cause.TheVariants.{TooWide}
@@ -65,5 +66,6 @@ op_words Div = codes "div"
 unfoldable pub wide_refusal : List (List ℕ) → When → WideAt → Refusal
 wide_refusal names when wide = record {
   cause = TooWide;
-  line = line (codes "too wide: " ++ when_words names when ++ codes ": component " ++ counted wide.component ++ codes " " ++ place_words names wide.place ++ codes " " ++ op_words wide.op);
+  line = line (codes "too wide: " ++ when_words names when ++ codes ": component " ++ counted wide.component
+      ++ codes " " ++ place_words names wide.place ++ codes " " ++ op_words wide.op);
 }

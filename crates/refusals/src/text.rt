@@ -1,5 +1,5 @@
 //! Lines of texts that say no draft.
-ghost use Rattle.std.specs.Prelude.{◌≡◌, ◌++◌, IfOk, codes};
+ghost use Rattle.std.specs.Prelude.{◌≡◌, IfOk};
 ghost use Rattle.refusals.specs.LinePieces.{malformed_at, limit_at};
 ghost use Rattle.refusals.specs.TextRefusal.{at_line, at_command, number_refusal, expression_refusal, placed_refusal, line_refusal, commands_refusal};
 

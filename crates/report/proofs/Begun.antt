@@ -1,5 +1,6 @@
 -- Texts of which a beginning was written.
-use Rattle.std.proofs.Common.{◌≡◌, refl, sym, ap, ◌∙◌, ℕ, ◌+◌, ◌-◌, ◌<◌, ◌≤◌, zero, suc, List, [], ◌∷◌, ◌++◌, length, get_or, drop}
+use Rattle.std.proofs.Common.{◌≡◌, refl, sym, ap, ◌∙◌, ℕ, ◌+◌, ◌-◌, ◌<◌, ◌≤◌, zero, suc, List, [], ◌∷◌, ◌++◌, length}
+use Rattle.std.proofs.Common.{get_or, drop}
 use Rattle.std.proofs.Common.{append-nil, append_assoc, arith}
 use Rattle.std.specs.List.{flat_map, range_with_len}
 use Rattle.std.proofs.lemmas.List.{drop_all, drop_more}
@@ -63,7 +64,8 @@ one_begun f old text new xs i x p h here b =
     let all : flat_map f xs ≡ p.front ++ (f x ++ rest) = p.all ∙ ap (λ t. p.front ++ flat_map f t) more in
     rw all (begun_behind old text new p.front (f x ++ rest) p.appended (begun_before text new (f x) rest b))
 
-pub all_put : {A : Type 0} (f : A → List ℕ) (old new : List ℕ) (xs : List A) (i : ℕ) → ArePut f old new xs i → length xs ≤ i → new ≡ old ++ flat_map f xs
+pub all_put : {A : Type 0} (f : A → List ℕ) (old new : List ℕ) (xs : List A) (i : ℕ)
+    → ArePut f old new xs i → length xs ≤ i → new ≡ old ++ flat_map f xs
 all_put f old new xs i p h =
     p.appended ∙ ap (λ t. old ++ t) (sym (p.all ∙ (ap (λ t. p.front ++ flat_map f t) (drop_all i xs h) ∙ append-nil p.front)))
 
@@ -81,7 +83,8 @@ places_front f j (suc k) =
     )
 
 -- a beginning of the text of a place, behind those of all before it
-pub place_begun : (f : ℕ → List ℕ) (old text new : List ℕ) (j n : ℕ) → text ≡ old ++ flat_map f (range_with_len 0 j) → j < n → IsBegun text new (f j)
+pub place_begun : (f : ℕ → List ℕ) (old text new : List ℕ) (j n : ℕ)
+    → text ≡ old ++ flat_map f (range_with_len 0 j) → j < n → IsBegun text new (f j)
     → IsBegun old new (flat_map f (range_with_len 0 n))
 place_begun f old text new j n e h b =
     let front = flat_map f (range_with_len 0 j) in

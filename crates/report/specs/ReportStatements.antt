@@ -16,4 +16,5 @@ DecisionsAreOfTheirCases = (c : Content) (priority : Priority) (d : Decision) �
 
 -- there is a look for each arrival of a case, and each rejection in a look is of a hypothesis of the case
 abbrev pub LooksAreOfTheirCases : Type 0
-LooksAreOfTheirCases = (c : Content) (looks : List (List Settled)) → AreLooks c looks → (length looks ≡ length (arrivals_of c.inputs)) × All (AreRejectionsOf c) looks
+LooksAreOfTheirCases = (c : Content) (looks : List (List Settled)) → AreLooks c looks
+    → (length looks ≡ length (arrivals_of c.inputs)) × All (AreRejectionsOf c) looks

@@ -27,4 +27,5 @@ edge_count case = sum_by edges_in case.components
 -- the size and the seed, the numbers of edges and of steps, the names of the rejected, and the last line
 unfoldable pub sample_report : Content → ℕ → Decision → List ℕ
 sample_report case seed decision =
-    line (codes "sample " ++ decimal (length case.names) ++ codes " " ++ decimal seed) ++ line (codes "edges " ++ decimal (edge_count case)) ++ line (codes "steps " ++ decimal (length decision.steps)) ++ rejected_line case decision.steps ++ line (codes "end")
+    line (codes "sample " ++ decimal (length case.names) ++ codes " " ++ decimal seed) ++ line (codes "edges " ++ decimal (edge_count case)) ++ line
+    (codes "steps " ++ decimal (length decision.steps)) ++ rejected_line case decision.steps ++ line (codes "end")

@@ -38,8 +38,10 @@ alone_line case closed = line (codes "rejected" ++ flat_map (name_if_alone case 
 -- the number of hypotheses, the lines of sets, those of the leaders, the names of the rejected, and the last line
 unfoldable pub simes_report : Content → (ℕ → ℕ) → (ℕ → Bool) → List ℕ → List ℕ → List ℕ
 simes_report case bound closed leaders sets =
-    line (codes "simes " ++ decimal (length case.names)) ++ flat_map (bound_line case bound) sets ++ top_lines case bound leaders ++ alone_line case closed ++ line (codes "end")
+    line (codes "simes " ++ decimal (length case.names)) ++ flat_map (bound_line case bound) sets
+    ++ top_lines case bound leaders ++ alone_line case closed ++ line (codes "end")
 
 -- the text is the report of all sets of the case in their order
 abbrev pub IsSimesReport : Content → (ℕ → ℕ) → (ℕ → Bool) → List ℕ → List ℕ → Type 0
-IsSimesReport case bound closed leaders text = (sets : List ℕ) × AreSetsInOrder (length case.names) sets × (text ≡ simes_report case bound closed leaders sets)
+IsSimesReport case bound closed leaders text = (sets : List ℕ) × AreSetsInOrder (length case.names) sets
+    × (text ≡ simes_report case bound closed leaders sets)

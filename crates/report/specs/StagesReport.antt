@@ -21,7 +21,8 @@ arrive_line case a = line (codes "arrive" ++ spaced_name case a.hypothesis ++ co
 
 -- the line of a rejection: the hypothesis, the stage and the weight
 unfoldable pub reject_line : Content → Settled → List ℕ
-reject_line case r = line (codes "reject" ++ spaced_name case r.hypothesis ++ codes " stage " ++ decimal r.stage ++ codes " weight " ++ spelling (terms r.weight))
+reject_line case r = line (codes "reject" ++ spaced_name case r.hypothesis ++ codes " stage "
+    ++ decimal r.stage ++ codes " weight " ++ spelling (terms r.weight))
 
 -- an arrival, and the rejections that it brings
 unfoldable pub look_lines : Content → Arrival → List Settled → List ℕ

@@ -30,7 +30,8 @@ spaced_name case j = 32 ∷ get_or case.names j []
 
 -- the name of a hypothesis, its p-value and its weight
 unfoldable pub figures : Content → StepLine → List ℕ
-figures case x = spaced_name case x.hypothesis ++ codes " p " ++ spelling (terms (ratio_at (p_values case.inputs) x.hypothesis)) ++ codes " weight " ++ spelling (terms x.weight)
+figures case x = spaced_name case x.hypothesis ++ codes " p " ++ spelling
+    (terms (ratio_at (p_values case.inputs) x.hypothesis)) ++ codes " weight " ++ spelling (terms x.weight)
 
 -- the line of the level
 unfoldable pub alpha_line : Content → List ℕ
@@ -77,4 +78,5 @@ adjusted_lines case j (x ∷ xs) = adjusted_line case j x ++ adjusted_lines case
 -- the level, the steps, the hypotheses that are kept, the names of those that are rejected, the adjusted values, and the last line
 unfoldable pub test_report : Content → Decision → List Adjusted → List ℕ
 test_report case decision adjusted =
-    alpha_line case ++ step_lines case 1 decision.steps ++ flat_map (kept_line case) decision.kept ++ rejected_line case decision.steps ++ adjusted_lines case 0 adjusted ++ line (codes "end")
+    alpha_line case ++ step_lines case 1 decision.steps ++ flat_map (kept_line case) decision.kept
+    ++ rejected_line case decision.steps ++ adjusted_lines case 0 adjusted ++ line (codes "end")

@@ -5,7 +5,8 @@
 //! holds (`check_report`); `weights_text`, `bounds_text` and `simes_text`, which give that of all sets in their order
 //! (`weights_report`, `bounds_report`, `simes_report`); and the laws that each line of a decision, and each rejection of a
 //! look, is of a hypothesis of its case. `opened_text`, `put_taken`, `put_refused` and `put_shown` put the pieces of what
-//! `study` prints (`study_report`), one behind the other.
+//! `study` prints (`study_report`), one behind the other; where memory runs out a beginning of the piece stands in the text
+//! (`begun`).
 #![tactic(auto)]
 
 mod bounds;

@@ -1,5 +1,5 @@
 //! What the command `sample` prints.
-ghost use Rattle.std.specs.Prelude.{◌≡◌, ◌<◌, ◌≤◌, ◌*◌, ◌++◌, IfOk, OnOk, length, count_by, codes};
+ghost use Rattle.std.specs.Prelude.{◌≡◌, ◌<◌, ◌≤◌, ◌++◌, IfOk, OnOk, length, count_by, codes};
 ghost use Rattle.std.specs.Fmt.{decimal};
 ghost use Rattle.case_model.specs.CaseView.{content};
 ghost use Rattle.answers.specs.Lines.{line};

@@ -1,6 +1,5 @@
 //! What the command `study` prints.
-ghost use Rattle.std.specs.Prelude.{◌≡◌, ◌==◌, ◌<◌, ◌++◌, IfOk, OnOk, OnErr, length};
-ghost use Rattle.std.specs.List.{flat_map, list_any, range_with_len};
+ghost use Rattle.std.specs.Prelude.{◌≡◌, ◌<◌, ◌++◌, IfOk, OnOk, OnErr, length};
 ghost use Rattle.field_core.specs.Texts.{IsBegun};
 ghost use Rattle.case_model.specs.CaseView.{content};
 ghost use Rattle.report.specs.StagesReport.{AreRejectionsOf};

@@ -67,7 +67,7 @@ impl Model for RowGraph {
 
 #[tactic(auto, unfolding(crate::specs::StoredRows::rows_graph, crate::specs::StoredRows::row_at, removal::specs::StoredGraph::is_live, removal::specs::WrittenRemoval::is_gone))]
 impl RowGraph {
-    ghost use Rattle.std.specs.Prelude.{◌≡◌, ◌<◌, ◌≤◌};
+    ghost use Rattle.std.specs.Prelude.{◌≡◌, ◌<◌};
     ghost use Rattle.removal.specs.StoredGraph.{is_live};
     ghost use Rattle.removal.specs.WrittenRemoval.{is_gone};
     ghost use Rattle.row_removal.specs.Proper.{AreProperRows};

@@ -1,5 +1,5 @@
 //! The rows after the removal of a hypothesis.
-ghost use Rattle.std.specs.Prelude.{◌≡◌, ◌<◌, ℤ, List, length, All};
+ghost use Rattle.std.specs.Prelude.{◌≡◌, ◌<◌, length, All};
 ghost use Rattle.field_core.specs.Kind.{ok_map};
 ghost use Rattle.field_core.specs.Steps.{each_below};
 ghost use Rattle.row_removal.specs.Proper.{AreProperRows};

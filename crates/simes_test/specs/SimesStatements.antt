@@ -18,7 +18,8 @@ LocalRejectionsAreOfSimes =
 abbrev pub ClosedRejectionsAreOfSimes : Type 0
 ClosedRejectionsAreOfSimes =
     (E : EntangledGraph) (p : ℕ → Number) (level : Number) → IsValidEntangled E → IsUnit level
-    → ((S : ℕ → Bool) → IsClosedRejected E p level S → IsSimesClosed E p level S) × ((j : ℕ) → IsRejected E p level j → IsSimesClosedAlone E p level j)
+    → ((S : ℕ → Bool) → IsClosedRejected E p level S → IsSimesClosed E p level S)
+    × ((j : ℕ) → IsRejected E p level j → IsSimesClosedAlone E p level j)
 
 -- No bound by it is below that of the closed test.
 abbrev pub NoSimesBoundIsLower : Type 0
@@ -29,5 +30,6 @@ NoSimesBoundIsLower =
 -- A table that tells what it rejects has its bounds.
 abbrev pub SimesTablesGiveSimesBounds : Type 0
 SimesTablesGiveSimesBounds =
-    (E : EntangledGraph) (p : ℕ → Number) (level : Number) (table : ℕ → Bool) (S : ℕ → Bool) (b : ℕ) → AnswersFor E.hypotheses (IsSimesClosed E p level) table
+    (E : EntangledGraph) (p : ℕ → Number) (level : Number) (table : ℕ → Bool) (S : ℕ → Bool) (b : ℕ)
+    → AnswersFor E.hypotheses (IsSimesClosed E p level) table
     → IsBound E.hypotheses (SaysYes E.hypotheses table) S b ↔ IsBound E.hypotheses (IsSimesClosed E p level) S b

@@ -22,7 +22,8 @@ ValuesAreAccepted = (c : Content) (es : List Answered) (s : StudyState) → AreC
 
 -- Calls only append to the rejections: nothing is taken back.
 abbrev pub RejectionsStay : Type 0
-RejectionsStay = (c : Content) (old new : StudyState) (es : List Answered) → AreCalls c old es new → (more : List Settled) × (new.rejected ≡ old.rejected ++ more)
+RejectionsStay = (c : Content) (old new : StudyState) (es : List Answered) → AreCalls c old es new
+    → (more : List Settled) × (new.rejected ≡ old.rejected ++ more)
 
 -- The rejections are a legal order on the values that have arrived.
 abbrev pub StudiesHaveLegalOrders : Type 0
@@ -30,11 +31,13 @@ StudiesHaveLegalOrders = (c : Content) (s : StudyState) → IsStudyOf c s → Is
 
 -- The staged closed test on these values rejects each of them.
 abbrev pub StudiesRejectByTheStagedTest : Type 0
-StudiesRejectByTheStagedTest = (c : Content) (s : StudyState) (j : ℕ) → IsStudyOf c s → IsListed (positions_of s.rejected) j → IsStagedRejectedIn c s.values j
+StudiesRejectByTheStagedTest = (c : Content) (s : StudyState) (j : ℕ) → IsStudyOf c s
+    → IsListed (positions_of s.rejected) j → IsStagedRejectedIn c s.values j
 
 -- Once a study is settled, they are exactly those that it rejects.
 abbrev pub SettledStudiesDecide : Type 0
-SettledStudiesDecide = (c : Content) (s : StudyState) (j : ℕ) → IsStudyOf c s → IsSettled c s → IsListed (positions_of s.rejected) j ↔ IsStagedRejectedIn c s.values j
+SettledStudiesDecide = (c : Content) (s : StudyState) (j : ℕ) → IsStudyOf c s → IsSettled c s
+    → IsListed (positions_of s.rejected) j ↔ IsStagedRejectedIn c s.values j
 
 -- the same values have arrived, in whatever order
 abbrev pub HaveSameValues : StudyState → StudyState → Type 0

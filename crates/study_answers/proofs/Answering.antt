@@ -1,11 +1,11 @@
 -- What a study answers, from its parts.
-use Rattle.std.proofs.Common.{◌≡◌, ◌⊎◌, inl, inr, refl, sym, ap, ◌∙◌, subst, ℕ, ◌+◌, List, [], ◌∷◌, ◌++◌, length, Result, Ok}
+use Rattle.std.proofs.Common.{◌≡◌, ◌⊎◌, inl, inr, refl, sym, ap, ◌∙◌, subst, ℕ, ◌+◌, List, [], ◌∷◌, ◌++◌, length}
 use Rattle.std.proofs.Common.{Err}
 use Rattle.std.specs.Prelude.{IfSome, codes}
 use Rattle.std.specs.List.{flat_map}
 use Rattle.std.specs.declared.option.Option.{Option}
 use Rattle.std.specs.declared.option.Option.TheVariants.{Some, None}
-use Rattle.std.proofs.lemmas.List.{append_assoc, length-map}
+use Rattle.std.proofs.lemmas.List.{length-map}
 use Rattle.field_core.specs.declared.place.WideAt.{WideAt}
 use Rattle.graph_io.specs.declared.keeper.Look.{Look}
 use Rattle.answers.specs.declared.answer.Answer.{Answer}
@@ -13,7 +13,6 @@ use Rattle.answers.specs.declared.refusal.Refusal.{Refusal}
 use Rattle.answers.specs.Lines.{line, done, refused}
 use Rattle.answers.specs.Stages.{Stage}
 use Rattle.case_model.specs.Content.{Content}
-use Rattle.case_model.specs.declared.draft_stages.Arrival.{Arrival}
 use Rattle.entangled.specs.CaseRun.{case_opening}
 use Rattle.refusals.specs.RecordRefusal.{record_refusal}
 use Rattle.refusals.specs.WideRefusal.{wide_refusal}
@@ -32,8 +31,8 @@ use Rattle.study_answers.specs.declared.replying.CommandStop.{CommandStop}
 use Rattle.study_answers.specs.declared.replying.CommandStop.TheVariants as halts
 use Rattle.study_answers.specs.declared.stop.StudyStop.{StudyStop}
 use Rattle.study_answers.specs.declared.stop.StudyStop.TheVariants.{Stopped, KeeperFault}
-use Rattle.study_answers.specs.AnswerView.{with_looks, AreRepliedTo, HoldSome, KeepWith, MayTakeBehind, MayKeep, StopsCommands, StopsStudy, StopsOpening}
-use Rattle.study_answers.specs.StudyStages.{StudyEnd, HasOpening, IsOpeningFault, opened, study_stage, on_looks}
+use Rattle.study_answers.specs.AnswerView.{AreRepliedTo, HoldSome, KeepWith, MayKeep, StopsCommands, StopsStudy, StopsOpening}
+use Rattle.study_answers.specs.StudyStages.{HasOpening, opened, study_stage, on_looks}
 use Rattle.study_answers.proofs.Looks.{with_none}
 
 -- ---- stages on told looks

@@ -21,12 +21,12 @@ use Rattle.study_commands.specs.declared.command.StudyCommand.{StudyCommand}
 use Rattle.study_commands.specs.declared.command.StudyCommand.TheVariants.{Take, Show}
 use Rattle.study_commands.specs.CommandLines.{IsBelow}
 use Rattle.study_register.specs.Looking.{arrival_of, Takes}
-use Rattle.study_register.specs.RegisterFaults.{IsAddFault, IfRefused, IfNotAsked, IfMemory}
+use Rattle.study_register.specs.RegisterFaults.{IsAddFault, IfRefused, IfMemory}
 use Rattle.study_register.specs.declared.fault.AddFault.{AddFault}
 use Rattle.study_register.specs.declared.fault.AddFault.TheVariants as additions
 use Rattle.study_answers.specs.declared.replying.CommandStop.{CommandStop}
 use Rattle.study_answers.specs.declared.replying.CommandStop.TheVariants.{Wide, Fault, NoMemory}
-use Rattle.study_answers.specs.Replies.{taken_in, looks_taken, IsReply, AreReplies, IsBreak, IsFirstBreak, MayTake}
+use Rattle.study_answers.specs.Replies.{taken_in, looks_taken, IsReply, AreReplies, IsFirstBreak, MayTake}
 use Rattle.study_answers.specs.AnswerView.{with_looks, IsRepliedTo, AreRepliedTo, HoldSome, StopsCommands, IfBroken}
 use Rattle.study_answers.proofs.Looks.{with_none, with_one, with_more}
 

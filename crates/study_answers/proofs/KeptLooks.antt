@@ -20,7 +20,7 @@ use Rattle.study_register.specs.Looking.{arrival_of, arrivals_of, AreTaken, Foll
 use Rattle.study_register.proofs.TakenLooks.{follows_on, taken_looks_decide}
 use Rattle.study_register.proofs.OneEnd.{reopenings_agree}
 use Rattle.study_answers.specs.Replies.{taken_in, looks_taken, IsReply, AreReplies, IsFirstBreak, MayTake}
-use Rattle.study_answers.specs.StudyStages.{StudyEnd, AreAllAnswered, IsBrokenOff, study_stage}
+use Rattle.study_answers.specs.StudyStages.{study_stage}
 use Rattle.study_answers.specs.StudyStatements.{DecidesOn, ShowsLooks, RepliesDecide, KeptLooksDecide, TakenLooksAreFirst}
 use Rattle.study_answers.proofs.Answering.{records_counted}
 use Rattle.study_answers.proofs.OneEnd.{one_reply, replied_not_broken}

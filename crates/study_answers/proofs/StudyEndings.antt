@@ -6,12 +6,9 @@ use Rattle.graph_io.specs.Writing.{AppendsPrefix}
 use Rattle.graph_io.specs.declared.keeper.Look.{Look}
 use Rattle.answers.specs.declared.answer.Answer.{Answer}
 use Rattle.answers.specs.declared.refusal.Refusal.{Refusal}
-use Rattle.answers.specs.declared.cause.Cause.{Cause}
-use Rattle.answers.specs.declared.cause.Cause.TheVariants.{Usage, Malformed, Limit, TooWide}
-use Rattle.answers.specs.declared.status.Status.{Status}
 use Rattle.answers.specs.declared.status.Status.TheVariants as statuses
 use Rattle.answers.specs.declared.stop.Stop.TheVariants.{Refused, ReadFault, NoMemory}
-use Rattle.answers.specs.Codes.{cause_code, status_code}
+use Rattle.answers.specs.Codes.{status_code}
 use Rattle.answers.specs.Lines.{refused, read_fault, no_memory}
 use Rattle.answers.specs.Runs.{Finished}
 use Rattle.answers.specs.Stages.{Stage}
@@ -93,7 +90,8 @@ module _ (Outcome : Answer → List Look → Type 0) (May : List Look → Type 0
       ]
 
   -- memory ran out
-  study_memory : HoldSome May kept held → rs → ks → Finished wr ws old new no_memory 8 result → RunsStudy Outcome May rr kr wr rs ks ws old new kept held result
+  study_memory : HoldSome May kept held → rs → ks → Finished wr ws old new no_memory 8 result
+      → RunsStudy Outcome May rr kr wr rs ks ws old new kept held result
   study_memory k r_clean k_clean f =
       elim f [
         | inl p ↦ let e = p.0 in record {
@@ -113,7 +111,8 @@ module _ (Outcome : Answer → List Look → Type 0) (May : List Look → Type 0
       ]
 
   -- the keeper had a fault
-  study_kept : kr → HoldSome May kept held → rs → Finished wr ws old new keeper_fault 9 result → RunsStudy Outcome May rr kr wr rs ks ws old new kept held result
+  study_kept : kr → HoldSome May kept held → rs → Finished wr ws old new keeper_fault 9 result
+      → RunsStudy Outcome May rr kr wr rs ks ws old new kept held result
   study_kept cause k r_clean f =
       elim f [
         | inl p ↦ let e = p.0 in record {

@@ -1,11 +1,9 @@
 -- Replies and ends as contracts see them, with the looks that a keeper holds.
 use Rattle.std.specs.Prelude.{◌≡◌, ◌++◌, ◌⊎◌, ℕ, List, [], ◌∷◌, IfSome, Option, Some, None, Result, Ok, Err}
 use Rattle.std.specs.List.{flat_map}
-use Rattle.field_core.specs.declared.place.WideAt.{WideAt}
 use Rattle.graph_io.specs.declared.keeper.Look.{Look}
 use Rattle.answers.specs.declared.answer.Answer.{Answer}
 use Rattle.answers.specs.declared.refusal.Refusal.{Refusal}
-use Rattle.answers.specs.Stages.{Stage}
 use Rattle.answers.specs.declared.stop.Stop.TheVariants.{Refused, ReadFault, NoMemory as OutOfMemory}
 use Rattle.case_model.specs.Content.{Content}
 use Rattle.report.specs.StudyReport.{Reply, reply_lines}
@@ -16,7 +14,7 @@ use Rattle.study_answers.specs.declared.replying.CommandStop.{CommandStop}
 use Rattle.study_answers.specs.declared.replying.CommandStop.TheVariants.{Wide, Fault, NoMemory}
 use Rattle.study_answers.specs.declared.stop.StudyStop.{StudyStop}
 use Rattle.study_answers.specs.declared.stop.StudyStop.TheVariants.{Stopped, KeeperFault}
-use Rattle.study_answers.specs.Replies.{taken_in, looks_taken, IsReply, AreReplies, IsBreak, IsFirstBreak, MayTake}
+use Rattle.study_answers.specs.Replies.{taken_in, looks_taken, IsReply, AreReplies, IsFirstBreak, MayTake}
 use Rattle.study_answers.specs.StudyStages.{StudyEnd, HasOpening, opened, on_looks}
 
 -- the looks of a keeper with more behind them, where it tells its looks
@@ -25,14 +23,16 @@ with_looks None more = None
 with_looks (Some looks) more = Some (looks ++ more)
 
 -- A command was replied to: the keeper holds the look that was taken besides, and the reply was written.
-pub record IsRepliedTo (c : Content) (n : ℕ) (old : StudyState) (command : StudyCommand) (kept held : Option (List Look)) (text written : List ℕ) (new : StudyState) : Type 0 where
+pub record IsRepliedTo (c : Content) (n : ℕ) (old : StudyState) (command : StudyCommand)
+    (kept held : Option (List Look)) (text written : List ℕ) (new : StudyState) : Type 0 where
   pub reply : Reply
   pub is : IsReply c n old command reply new
   pub held_is : held ≡ with_looks kept (taken_in reply)
   pub text_is : written ≡ text ++ reply_lines c reply
 
 -- Commands were replied to in this way, one behind the other.
-pub record AreRepliedTo (c : Content) (old : StudyState) (commands : List StudyCommand) (kept held : Option (List Look)) (text written : List ℕ) (new : StudyState) : Type 0 where
+pub record AreRepliedTo (c : Content) (old : StudyState) (commands : List StudyCommand)
+    (kept held : Option (List Look)) (text written : List ℕ) (new : StudyState) : Type 0 where
   pub replies : List Reply
   pub are : AreReplies c 1 old commands replies new
   pub held_is : held ≡ with_looks kept (looks_taken replies)
@@ -45,7 +45,8 @@ pub record HoldSome (May : List Look → Type 0) (kept held : Option (List Look)
   pub held_is : held ≡ with_looks kept more
 
 -- why commands aren't replied to, the first of which has this number
-abbrev pub StopsCommands : Content → Type 0 → ℕ → StudyState → List StudyCommand → Option (List Look) → Option (List Look) → CommandStop → Type 0
+abbrev pub StopsCommands : Content → Type 0 → ℕ → StudyState → List StudyCommand
+    → Option (List Look) → Option (List Look) → CommandStop → Type 0
 StopsCommands c rose n old commands kept held (Wide place w) = HoldSome (λ looks. IsFirstBreak c n old commands looks place w) kept held
 StopsCommands c rose n old commands kept held Fault = rose × HoldSome (MayTake c n old commands) kept held
 StopsCommands c rose n old commands kept held NoMemory = HoldSome (MayTake c n old commands) kept held
@@ -74,8 +75,10 @@ pub record MayTakeBehind (c : Content) (commands : List StudyCommand) (kept : Op
 abbrev pub MayKeep : Content → List StudyCommand → Option (List Look) → List Look → Type 0
 MayKeep c commands kept more = (more ≡ []) ⊎ MayTakeBehind c commands kept more
 
--- why a study gives no answer: a refusal that may be given, or a fault of a source, and then no look is kept besides; or a fault of the keeper, or want of memory, and then some of the looks may be kept besides that may be
-abbrev pub StopsStudy : (Refusal → Type 0) → Type 0 → Type 0 → (List Look → Type 0) → Option (List Look) → Option (List Look) → StudyStop → Type 0
+-- why a study gives no answer: a refusal that may be given, or a fault of a source, and then no look is kept besides; or a fault of the
+-- keeper, or want of memory, and then some of the looks may be kept besides that may be
+abbrev pub StopsStudy : (Refusal → Type 0) → Type 0 → Type 0 → (List Look → Type 0)
+    → Option (List Look) → Option (List Look) → StudyStop → Type 0
 StopsStudy Refuses read_rose keeper_rose May kept held (Stopped (Refused r)) = Refuses r × (held ≡ kept)
 StopsStudy Refuses read_rose keeper_rose May kept held (Stopped ReadFault) = read_rose × (held ≡ kept)
 StopsStudy Refuses read_rose keeper_rose May kept held (Stopped OutOfMemory) = HoldSome May kept held

@@ -49,7 +49,8 @@ module _ (c : Content) where
   IsFirstBreak n old [] looks place w = ⊥
   IsFirstBreak n old (x ∷ xs) looks place w =
       ((looks ≡ []) × IsBreak old x place w)
-      ⊎ ((r : Reply) × (mid : StudyState) × (more : List Look) × IsReply n old x r mid × (looks ≡ taken_in r ++ more) × IsFirstBreak (n + 1) mid xs more place w)
+      ⊎ ((r : Reply) × (mid : StudyState) × (more : List Look) × IsReply n old x r mid
+      × (looks ≡ taken_in r ++ more) × IsFirstBreak (n + 1) mid xs more place w)
 
   -- these looks are taken by the replies to all commands before some place
   abbrev pub MayTake : ℕ → StudyState → List StudyCommand → List Look → Type 0

@@ -36,8 +36,14 @@ pub record IsPutWith (Outcome : Answer → List Look → Type 0) (Put : List ℕ
   pub put : Put answer.text
   pub held_is : held ≡ with_looks kept more
 
--- What a top call over a keeper answers. `Outcome` says which answers are called for, and which looks are kept besides with them; `May` which looks may be kept besides where it breaks off. `read_rose` says that a source had a fault in this call where the call reads it, `keeper_rose` that the keeper had one, and `write_rose` that the sink had one; `read_clean`, `keeper_clean` and `write_clean` that their counts of faults stayed. `old` and `new` are what the sink held and holds, `kept` and `held` the looks that the keeper held and holds, where they tell that. No fault is told as another cause, and none is hidden behind one.
-pub record RunsStudy (Outcome : Answer → List Look → Type 0) (May : List Look → Type 0) (read_rose keeper_rose write_rose read_clean keeper_clean write_clean : Type 0) (old new : Option (List ℕ)) (kept held : Option (List Look)) (status : ℕ) : Type 0 where
+-- What a top call over a keeper answers. `Outcome` says which answers are called for, and which looks are kept besides with them; `May`
+-- which looks may be kept besides where it breaks off. `read_rose` says that a source had a fault in this call where the call reads it,
+-- `keeper_rose` that the keeper had one, and `write_rose` that the sink had one; `read_clean`, `keeper_clean` and `write_clean` that their
+-- counts of faults stayed. `old` and `new` are what the sink held and holds, `kept` and `held` the looks that the keeper held and holds,
+-- where they tell that. No fault is told as another cause, and none is hidden behind one.
+pub record RunsStudy (Outcome : Answer → List Look → Type 0) (May : List Look → Type 0)
+    (read_rose keeper_rose write_rose read_clean keeper_clean write_clean : Type 0)
+    (old new : Option (List ℕ)) (kept held : Option (List Look)) (status : ℕ) : Type 0 where
   pub done : status ≤ 5 → IsPutWith (λ a more. Outcome a more × (status ≡ status_code a.status)) (Appends old new) kept held
   pub read : status ≡ 6 → read_rose × Appends old new read_fault × (held ≡ kept)
   pub write : status ≡ 7 → write_rose

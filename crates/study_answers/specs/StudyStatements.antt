@@ -21,7 +21,8 @@ use Rattle.study_answers.specs.StudyStages.{StudyEnd, study_stage}
 abbrev pub StudiesHaveOneEnd : Type 0
 StudiesHaveOneEnd = (c : Content) (commands : List StudyCommand) (looks : List Look) → IsDecided (study_stage c commands looks)
 
--- The rejections of a state are those of the staged closed test on these looks, and whoever takes these looks again, in this order, comes to the same rejections in the same order, with the same stages and weights.
+-- The rejections of a state are those of the staged closed test on these looks, and whoever takes these looks again, in this order, comes
+-- to the same rejections in the same order, with the same stages and weights.
 pub record DecidesOn (c : Content) (looks : List Look) (s : StudyState) : Type 0 where
   pub taken : AreTaken c looks s
   pub named : (j : ℕ) → IsListed (positions_of s.rejected) j ↔ IsStagedRejectedIn c (arrivals_of looks) j
@@ -30,7 +31,8 @@ pub record DecidesOn (c : Content) (looks : List Look) (s : StudyState) : Type 0
 -- By any commands, at each moment: what is rejected is what the staged closed test rejects on all looks that were kept and taken.
 abbrev pub RepliesDecide : Type 0
 RepliesDecide =
-    (c : Content) (commands : List StudyCommand) (looks : List Look) (replies : List Reply) (s t : StudyState) → IsValidContent c → AreTaken c looks s → AreReplies c 1 s commands replies t
+    (c : Content) (commands : List StudyCommand) (looks : List Look) (replies : List Reply) (s t : StudyState)
+    → IsValidContent c → AreTaken c looks s → AreReplies c 1 s commands replies t
     → DecidesOn c (looks ++ looks_taken replies) t
 
 -- what is shown of these looks: how many they are, and exactly what the staged closed test on them rejects
@@ -38,22 +40,26 @@ pub record ShowsLooks (c : Content) (looks : List Look) (number : ℕ) (rejectio
   pub counted : number ≡ length looks
   pub named : (j : ℕ) → IsListed (positions_of rejections) j ↔ IsStagedRejectedIn c (arrivals_of looks) j
 
--- The answer is the report of these replies behind the looks that were kept, its looks are those that they tell as taken, and each showing is of the looks that are kept by then.
+-- The answer is the report of these replies behind the looks that were kept, its looks are those that they tell as taken, and each showing
+-- is of the looks that are kept by then.
 pub record IsReportOf (c : Content) (looks : List Look) (e : StudyEnd) (replies : List Reply) : Type 0 where
   pub answer_is : e.answer ≡ done (study_report c (length looks) replies)
   pub looks_are : e.looks ≡ looks_taken replies
   pub shows : (before after : List Reply) (number : ℕ) (rejections : List Settled) → replies ≡ before ++ shown number rejections ∷ after
       → ShowsLooks c (looks ++ looks_taken before) number rejections
 
--- Where all commands are answered, the keeper's looks at the end decide, and what is told is the report of replies, each of which shows what the looks decide that are kept by then.
+-- Where all commands are answered, the keeper's looks at the end decide, and what is told is the report of replies, each of which shows
+-- what the looks decide that are kept by then.
 abbrev pub KeptLooksDecide : Type 0
 KeptLooksDecide =
-    (c : Content) (commands : List StudyCommand) (looks : List Look) (e : StudyEnd) → IsValidContent c → (study_stage c commands looks).Gives e → e.answer.status ≡ Done
+    (c : Content) (commands : List StudyCommand) (looks : List Look) (e : StudyEnd) → IsValidContent c
+    → (study_stage c commands looks).Gives e → e.answer.status ≡ Done
     → (s : StudyState) × DecidesOn c (looks ++ e.looks) s × (replies : List Reply) × IsReportOf c looks e replies
 
 -- The looks that the commands before some place take are the first of those that all commands take, or that all take before one that breaks off.
 abbrev pub TakenLooksAreFirst : Type 0
 TakenLooksAreFirst =
     (c : Content) (commands : List StudyCommand) (s : StudyState) (some all : List Look) → MayTake c 1 s commands some
-    → ((replies : List Reply) × (t : StudyState) × AreReplies c 1 s commands replies t × (all ≡ looks_taken replies)) ⊎ ((place : ℕ) × (w : WideAt) × IsFirstBreak c 1 s commands all place w)
+    → ((replies : List Reply) × (t : StudyState) × AreReplies c 1 s commands replies t × (all ≡ looks_taken replies))
+    ⊎ ((place : ℕ) × (w : WideAt) × IsFirstBreak c 1 s commands all place w)
     → (more : List Look) × (all ≡ some ++ more)

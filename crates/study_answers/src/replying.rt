@@ -1,5 +1,5 @@
 //! Replies to commands, one by one.
-ghost use Rattle.std.specs.Prelude.{◌≡◌, ◌≤◌, ◌<◌, [], ◌∷◌, OnOk, IfErr, false, length, drop};
+ghost use Rattle.std.specs.Prelude.{◌≡◌, ◌≤◌, ◌<◌, [], ◌∷◌, OnOk, IfErr, false, length};
 ghost use Rattle.std.specs.List.{AllByRecursion};
 ghost use Rattle.graph_io.specs.Causes.{Rose};
 ghost use Rattle.case_model.specs.CaseView.{content};

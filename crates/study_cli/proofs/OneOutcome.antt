@@ -13,7 +13,7 @@ use Rattle.refusals.specs.UsageRefusal.{usage}
 use Rattle.study_answers.proofs.OneEnd.{studies_have_one_end}
 use Rattle.study_commands.proofs.CommandLaws.{texts_say_one_list, texts_have_one_fault, texts_dont_say_and_fail}
 use Rattle.study_cli.specs.StudyLaws.{StudiesHaveOneOutcome}
-use Rattle.study_cli.specs.StudyOutcome.{study_needs, commands_in, study_call, study_outcome}
+use Rattle.study_cli.specs.StudyOutcome.{study_needs, commands_in, study_call}
 
 commands_decided : (c : Content) (bytes : List ℕ) → IsDecided (commands_in c bytes)
 commands_decided c bytes = record {

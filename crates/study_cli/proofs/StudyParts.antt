@@ -1,5 +1,5 @@
 -- What a call of a study does, from what its parts do: the case, the commands, and then the kept looks and the replies.
-use Rattle.std.proofs.Common.{◌≡◌, ◌⊎◌, inl, inr, refl, sym, ap, subst, ◌∙◌, ℕ, List, [], Result}
+use Rattle.std.proofs.Common.{◌≡◌, ◌⊎◌, inl, inr, refl, ◌∙◌, ℕ, List, [], Result}
 use Rattle.std.specs.Prelude.{codes, IfOk, IfErr}
 use Rattle.std.specs.declared.option.Option.{Option}
 use Rattle.graph_io.specs.declared.keeper.Look.{Look}
@@ -17,7 +17,7 @@ use Rattle.study_answers.specs.declared.stop.StudyStop.TheVariants.{Stopped}
 use Rattle.study_answers.specs.AnswerView.{KeepWith, MayKeep, StopsStudy}
 use Rattle.study_answers.specs.StudyStages.{StudyEnd, HasOpening, study_stage, on_looks}
 use Rattle.study_answers.proofs.StudyHalting.{stopped_before, halted_before, stops_weaker, keeps_on}
-use Rattle.study_cli.specs.StudyOutcome.{case_of, commands_in, commands_of, study_call, IsStudied, IsCommanded, IsOpened, MayBeKept}
+use Rattle.study_cli.specs.StudyOutcome.{case_of, commands_in, commands_of, study_call, IsStudied, IsOpened, MayBeKept}
 
 module _ (asked : StudyAsked) (case commands : Option (List ℕ)) (kept held : Option (List Look)) (case_rose commands_rose keeper_rose : Type 0) where
   -- why the call gives no answer

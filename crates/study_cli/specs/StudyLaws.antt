@@ -4,6 +4,8 @@ use Rattle.graph_io.specs.declared.keeper.Look.{Look}
 use Rattle.answers.specs.Stages.{IsDecided}
 use Rattle.study_cli.specs.StudyOutcome.{study_outcome}
 
--- words, the bytes of a case and of commands, and kept looks have at most one outcome: one answer with the looks that it keeps besides, or one refusal, and not both
+-- words, the bytes of a case and of commands, and kept looks have at most one outcome: one answer with the looks that it keeps besides, or
+-- one refusal, and not both
 abbrev pub StudiesHaveOneOutcome : Type 0
-StudiesHaveOneOutcome = (words : List (List ℕ)) (case commands : List ℕ) (looks : List Look) → IsDecided (study_outcome words (Some case) (Some commands) (Some looks))
+StudiesHaveOneOutcome = (words : List (List ℕ)) (case commands : List ℕ) (looks : List Look)
+    → IsDecided (study_outcome words (Some case) (Some commands) (Some looks))

@@ -58,11 +58,13 @@ IsCommanded asked case commands = (c : Content) × (case_of asked case).Gives c 
 -- besides, the looks that may be kept where the call breaks off
 abbrev pub MayBeKept : StudyAsked → Option (List ℕ) → Option (List ℕ) → Option (List Look) → List Look → Type 0
 MayBeKept asked case commands kept more =
-    (more ≡ []) ⊎ ((c : Content) × (case_of asked case).Gives c × (list : List StudyCommand) × (commands_of c commands).Gives list × MayKeep c list kept more)
+    (more ≡ []) ⊎ ((c : Content) × (case_of asked case).Gives c × (list : List StudyCommand)
+    × (commands_of c commands).Gives list × MayKeep c list kept more)
 
 -- besides, the opening of the case is defined
 abbrev pub IsOpened : StudyAsked → Option (List ℕ) → Option (List ℕ) → Type 0
-IsOpened asked case commands = (c : Content) × (case_of asked case).Gives c × (list : List StudyCommand) × (commands_of c commands).Gives list × HasOpening c
+IsOpened asked case commands = (c : Content) × (case_of asked case).Gives c
+    × (list : List StudyCommand) × (commands_of c commands).Gives list × HasOpening c
 
 -- the words ask a study for something
 abbrev pub ReadsCase : List (List ℕ) → Type 0

@@ -9,7 +9,7 @@ use Rattle.case_model.specs.declared.draft_stages.Arrival.{Arrival}
 use Rattle.text_lines.specs.Words.{words_of}
 use Rattle.edge_text.specs.declared.fault.LineKind.{LineKind}
 use Rattle.edge_text.specs.declared.fault.LineKind.TheVariants.{Unexpected, WordCount}
-use Rattle.edge_text.specs.Grammar.{Words, IsLineOf, IsArrival}
+use Rattle.edge_text.specs.Grammar.{Words, IsArrival}
 use Rattle.edge_text.specs.Faults.{IsArrivalFault}
 use Rattle.edge_text.proofs.LineWords.{heads, tails}
 use Rattle.edge_text.proofs.StageDecisions.{an_arrival}
@@ -17,7 +17,7 @@ use Rattle.edge_text.proofs.WordDecisions.{Holds, Decided}
 use Rattle.study_commands.specs.declared.command.StudyCommand.{StudyCommand}
 use Rattle.study_commands.specs.declared.command.StudyCommand.TheVariants.{Take, Show}
 use Rattle.study_commands.specs.CommandLines.{arrival_of, IsCommandLine}
-use Rattle.study_commands.specs.CommandFaults.{IsOther, IsShowFault, IsCommandFault}
+use Rattle.study_commands.specs.CommandFaults.{IsOther, IsCommandFault}
 
 -- ---- words
 

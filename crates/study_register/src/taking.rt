@@ -1,5 +1,5 @@
 //! Looks that a study takes: each arrives, and then the study is settled.
-ghost use Rattle.std.specs.Prelude.{◌≡◌, ◌<◌, OnOk, OnErr, IfErr};
+ghost use Rattle.std.specs.Prelude.{◌≡◌, ◌<◌, OnOk, IfErr};
 ghost use Rattle.case_model.specs.Content.{Content};
 ghost use Rattle.staged_levels.specs.StudyContents.{IsStudy, size_of};
 ghost use Rattle.staged_levels.specs.StudyView.{study};

@@ -55,7 +55,7 @@ impl SqliteKeeper {
 }
 
 impl Keeper for SqliteKeeper {
-    ghost use Rattle.graph_io.specs.Keeping.{Loads, with_look, IsCaused};
+    ghost use Rattle.graph_io.specs.Keeping.{Loads, IsCaused};
     ghost use Rattle.study_sqlite.specs.Counting.{fault_count};
     ghost use Rattle.study_sqlite.specs.Storing.{storage_of, IsLoaded, IsAppended};
 

@@ -1,5 +1,6 @@
 -- What is spelt is read.
-use Rattle.std.proofs.Common.{◌≡◌, ◌≢◌, ℕ, zero, suc, ◌+◌, ◌-◌, ◌<◌, ◌||◌, true, false, List, [], ◌∷◌, ◌++◌, length, map}
+use Rattle.std.proofs.Common.{◌≡◌, ◌≢◌, ℕ, zero, suc, ◌+◌, ◌-◌, ◌<◌, ◌||◌, true, false, List, [], ◌∷◌, ◌++◌, length}
+use Rattle.std.proofs.Common.{map}
 use Rattle.std.proofs.Common.{get_or, drop, refl, sym, ap, ap₂, ◌∙◌, append_assoc, arith, inl, inr}
 use Rattle.std.specs.List.{slice_split, onto_first, filter, flat_map, prefix_len, position_or_len, AllByRecursion}
 use Rattle.std.specs.Str.Lines.{strip_carriage_return}

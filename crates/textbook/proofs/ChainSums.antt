@@ -1,5 +1,6 @@
 -- Where the weights of a chain sum to at most 1, their numerators sum to at most the common denominator.
-use Rattle.std.proofs.Common.{◌≡◌, refl, inl, inr, ◌⊎◌, sym, ap, ◌∙◌, subst, ℕ, zero, suc, ◌≤◌, ◌<◌, arith, true, length, pos, ℤ, ◌*ℤ◌, ◌<ℤ◌}
+use Rattle.std.proofs.Common.{◌≡◌, refl, inl, inr, ◌⊎◌, sym, ap, ◌∙◌, subst, ℕ, zero, suc, ◌≤◌, ◌<◌, arith, true, length, pos}
+use Rattle.std.proofs.Common.{ℤ, ◌*ℤ◌, ◌<ℤ◌}
 use Rattle.std.specs.Ordering.{is_le, int_cmp}
 use Rattle.std.specs.declared.cmp.Ordering.{Ordering}
 use Rattle.std.specs.declared.cmp.Ordering.TheVariants.{Less, Equal, Greater}
@@ -53,7 +54,8 @@ module _ (a : ℕ → ℕ) (d : ℕ) where
   unfolding total
   sum_is zero = sum_nothing (λ i. fraction (pos (a i)) (pos (suc d))) ∙ sym (fraction-zero (pos (suc d)) (suc_not_zero d))
   sum_is (suc m) =
-      sum_last m (λ i. fraction (pos (a i)) (pos (suc d))) ∙ ap (λ x. x +ε fraction (pos (a m)) (pos (suc d))) (sum_is m) ∙ sum_common a d (total a m) (a m)
+      sum_last m (λ i. fraction (pos (a i)) (pos (suc d)))
+      ∙ ap (λ x. x +ε fraction (pos (a m)) (pos (suc d))) (sum_is m) ∙ sum_common a d (total a m) (a m)
 
   pub sum_at_most : (c : Content) → IsValidContent c → IsFallbackGraph (λ i. fraction (pos (a i)) (pos (suc d))) (entangled c)
       → total a (length c.names) ≤ suc d
@@ -63,5 +65,6 @@ module _ (a : ℕ → ℕ) (d : ℕ) where
       let weights = sum_congr number_field E.hypotheses (E.graph 0).weight (λ i. fraction (pos (a i)) (pos (suc d))) A.weight in
       let high = ((valid_content c V).graph 0 first).weight_total in
       let all : fraction (pos (total a E.hypotheses)) (pos (suc d)) ≤ε number_one =
-      subst (λ z. fraction (pos (total a E.hypotheses)) (pos (suc d)) ≤ε z) field_one (subst (λ x. x ≤ε number_field.𝟙) (weights ∙ sum_is E.hypotheses) high) in
+      subst (λ z. fraction (pos (total a E.hypotheses)) (pos (suc d)) ≤ε z) field_one
+      (subst (λ x. x ≤ε number_field.𝟙) (weights ∙ sum_is E.hypotheses) high) in
       subst (λ n. total a n ≤ suc d) (hypotheses_are c) (at_most_whole (total a E.hypotheses) d all)

@@ -1,5 +1,6 @@
 -- Polynomials of which a content and a power of epsilon are cut, with the core or without it.
-use Rattle.std.proofs.Common.{◌≡◌, ℕ, ◌+◌, ◌-◌, ◌*◌, ◌/◌, ◌<◌, ◌≤◌, ◌^◌, List, length, sym, ◌∙◌, ap, subst, add_comm, arith, ℤ, pos, ◌*ℤ◌, unsigned_abs, int_div}
+use Rattle.std.proofs.Common.{◌≡◌, ℕ, ◌+◌, ◌-◌, ◌*◌, ◌/◌, ◌<◌, ◌≤◌, ◌^◌, List, length, sym, ◌∙◌, ap, subst}
+use Rattle.std.proofs.Common.{add_comm, arith, ℤ, pos, ◌*ℤ◌, unsigned_abs, int_div}
 use Rattle.std.specs.Int.{◌∣◌}
 use Rattle.std.proofs.lemmas.Int.{ints}
 use Rattle.std.proofs.Math.IntN.{*ℤ-zero, zero-*ℤ}
@@ -15,7 +16,8 @@ use Rattle.eps_poly.proofs.OrderLaws.{order_below, lowest_from_coefficient}
 use Rattle.eps_poly.proofs.Validity.{zero_valid, set_valid, lowered_valid}
 use Rattle.eps_quotient.specs.Lowering.{one_polynomial}
 use Rattle.eps_quotient.specs.Laws.QuotientLaws.{same_sym, same_trans}
-use Rattle.eps_quotient.specs.Laws.Multiples.{factors-factors, factors-same, length-monomial, monomial-at, monomial-factors, monomial-multiply, content-same, content-factors}
+use Rattle.eps_quotient.specs.Laws.Multiples.{factors-factors, factors-same, length-monomial, monomial-at, monomial-factors, monomial-multiply, content-same}
+use Rattle.eps_quotient.specs.Laws.Multiples.{content-factors}
 use Rattle.eps_quotient.specs.Laws.Cores.{Is, only_core, length-core, length-lowered, size-factor, factor_some}
 
 -- p is c times q, and c has the content h and the order z
@@ -70,7 +72,8 @@ cut_powers p h z held some divides low =
 
 pub one_core : IsCore one_polynomial
 one_core = record {
-  divisor = eq-one_of_dvd-one (subst (λ x. content one_polynomial ∣ unsigned_abs x) (monomial-at (pos 1) 0 (omega arith)) (content_divides one_polynomial 0));
+  divisor = eq-one_of_dvd-one (subst (λ x. content one_polynomial ∣ unsigned_abs x)
+      (monomial-at (pos 1) 0 (omega arith)) (content_divides one_polynomial 0));
   first = rw (monomial-at (pos 1) 0 (omega arith)) (omega (arith, ints));
 }
 
@@ -84,13 +87,15 @@ monomial_some c k low some = lowest_from_coefficient (monomial c k) k (λ e. som
 -- what is left has the core 1
 pub monomial_core : (c : ℤ) (k : ℕ) → k ≤ 32 → ¬ (c ≡ pos 0) → Is (monomial c k) c k one_polynomial
 monomial_core c k low some =
-    only_core (monomial c k) one_polynomial c k (length-monomial c k) (monomial_some c k low some) (length-monomial (pos 1) 0) one_core (monomial-factors c k low)
+    only_core (monomial c k) one_polynomial c k (length-monomial c k) (monomial_some c k low some)
+    (length-monomial (pos 1) 0) one_core (monomial-factors c k low)
 
 monomial_times : (c d : ℤ) (i z : ℕ) (p q : List ℤ) → i ≤ 32 → Same p (from_factors (c *ℤ d) (i + z) q)
     → Same p (poly_multiply (from_factors d z q) (monomial c i))
 monomial_times c d i z p q low s =
     same_trans p _ _ s (same_sym _ _
-    (same_trans _ _ _ (multiply_comm (from_factors d z q) (monomial c i)) (same_trans _ _ _ (monomial-multiply c i (from_factors d z q) low) (factors-factors c d i z q))))
+    (same_trans _ _ _ (multiply_comm (from_factors d z q) (monomial c i))
+    (same_trans _ _ _ (monomial-multiply c i (from_factors d z q) low) (factors-factors c d i z q))))
 
 pub cut_core : (p : List ℤ) (h z : ℕ) → IsPolynomial p → IsNonZero p → h ∣ content p → z ≤ order p
     → IsCutTo p (monomial (int_div (factor p) (pos h)) (order p - z)) (from_factors (pos h) z (core p)) h z one_polynomial
@@ -106,7 +111,8 @@ cut_core p h z held some divides low =
     record {
       cut = record {
         times = monomial_times c (pos h) i z p (core p) high
-            (subst (λ x. Same p (from_factors x (i + z) (core p))) (sym whole) (subst (λ k. Same p (from_factors (factor p) k (core p))) (sym back) (core_factors p held.count)));
+            (subst (λ x. Same p (from_factors x (i + z) (core p))) (sym whole)
+            (subst (λ k. Same p (from_factors (factor p) k (core p))) (sym back) (core_factors p held.count)));
         order_of = sym back ∙ add_comm i z ∙ ap (λ k. z + k) (sym is.order_of);
         content_of = sym (mul-div_cancel' h divides) ∙ ap (λ n. h * n) (sym size ∙ sym (ap unsigned_abs is.factor_of) ∙ size-factor (monomial c i));
         some = monomial_some c i high other;

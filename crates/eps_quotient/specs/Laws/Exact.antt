@@ -1,6 +1,7 @@
 -- The kind of the quotients is exact.
 use Rattle.std.proofs.lemmas.Bool.{and_parts}
-use Rattle.std.proofs.Common.{◌≡◌, Bool, true, false, ◌||◌, List, refl, sym, ◌∙◌, ap, ap₂, subst, arith, inl, inr, ◌⊎◌, ◌*ℤ◌, ◌<ℤ◌, ℤ, pos, Option, Some, None, IfOk}
+use Rattle.std.proofs.Common.{◌≡◌, Bool, true, false, ◌||◌, List, refl, sym, ◌∙◌, ap, ap₂, subst, arith, inl, inr, ◌⊎◌, ◌*ℤ◌}
+use Rattle.std.proofs.Common.{◌<ℤ◌, ℤ, pos, Option, Some, None, IfOk}
 use Rattle.std.specs.Int.{is_negative}
 use Rattle.std.proofs.lemmas.Int.{ints}
 use Rattle.std.proofs.Math.IntN.{zero-*ℤ}
@@ -33,9 +34,11 @@ use Rattle.eps_poly.proofs.ProductLaws.{product_polynomial, product_is_exact}
 use Rattle.eps_quotient.specs.Lowering.{one_polynomial, zero_quotient, one_quotient, lower, norm}
 use Rattle.eps_quotient.specs.Quotients.{is_one, opposite, inverse, product_of, written_product, sum_over, sum_of, written_sum, written_quotient, quotients}
 use Rattle.eps_quotient.specs.Stored.{IsQuotient}
-use Rattle.eps_quotient.specs.Laws.QuotientLaws.{same_sym, same_nonzero, product_value, sum_over_same, sum_value, zero_value, one_value, inverse_value, divide_value, sign_value}
+use Rattle.eps_quotient.specs.Laws.QuotientLaws.{same_sym, same_nonzero, product_value, sum_over_same, sum_value, zero_value, one_value, inverse_value}
+use Rattle.eps_quotient.specs.Laws.QuotientLaws.{divide_value, sign_value}
 use Rattle.eps_quotient.specs.Laws.LimitTerms.{first_below, first_above, limit_terms-reduced, limit_terms-value}
-use Rattle.eps_quotient.specs.Laws.LowerLaws.{IsLowered, lower_is, zeros_lowest, others_lowest, either_branch, one_some, one_held, one_is, one_first, zero_lowest, zero_quotient_is, gcd_one}
+use Rattle.eps_quotient.specs.Laws.LowerLaws.{IsLowered, lower_is, zeros_lowest, others_lowest, either_branch, one_some, one_held, one_is, one_first}
+use Rattle.eps_quotient.specs.Laws.LowerLaws.{zero_lowest, zero_quotient_is, gcd_one}
 use Rattle.eps_quotient.specs.Laws.Cuts.{one_core}
 use Rattle.eps_quotient.specs.Laws.NormLaws.{IsStoredOf, norm_is, upright, lowest_one, negated_none, content-negate, core-negate}
 
@@ -106,7 +109,8 @@ product_value_of : (x y : Parts) → IsQuotient x → IsQuotient y
     → GivesSome (product_of (lower x.numerator y.denominator) (lower y.numerator x.denominator)) (value_of x *ε value_of y)
 unfolding value_of
 product_value_of x y f g =
-    product_of_is x.numerator x.denominator y.numerator y.denominator (lower x.numerator y.denominator) (lower y.numerator x.denominator) (some_below x f) (some_below y g)
+    product_of_is x.numerator x.denominator y.numerator y.denominator (lower x.numerator y.denominator)
+    (lower y.numerator x.denominator) (some_below x f) (some_below y g)
     (lower_is x.numerator y.denominator f.above g.below (some_below y g)) (lower_is y.numerator x.denominator g.above f.below (some_below x f))
 
 zero_quotient-value : value_of zero_quotient ≡ number_zero
@@ -118,7 +122,8 @@ unfolding value_of
 one_quotient-value = one_value one_polynomial one_some
 
 pub zero_stored : IsQuotient zero_quotient
-zero_stored = (upright zero_polynomial one_polynomial zero_quotient (zero_quotient_is zero_polynomial one_polynomial one_some zero_lowest) (ap is_negative lowest_one)).stored
+zero_stored = (upright zero_polynomial one_polynomial zero_quotient
+    (zero_quotient_is zero_polynomial one_polynomial one_some zero_lowest) (ap is_negative lowest_one)).stored
 
 pub one_stored : IsQuotient one_quotient
 one_stored = record {
@@ -187,7 +192,8 @@ sum_of_gives x y e f g s z r =
     let some = same_nonzero _ d.0 (same_sym d.0 _ sd) (nonzero-multiply x.denominator e.denominator (some_below x f) s.some) in
     gives_same _ z _ t.2
     (gives t.0 d.0 _ (sum_polynomial u.0 v.0 t.0 t.1) (product_polynomial _ _ d.0 d.1) some
-    (sum_value x.numerator x.denominator y.numerator y.denominator e.numerator e.denominator u.0 v.0 t.0 d.0 (some_below x f) (some_below y g) (numerator_some _ _ _ _ (some_below x f) (some_below y g) s.some s.value) s.some s.value su sv (sum_is_exact u.0 v.0 t.0 ku.count kv.count t.1) sd))
+    (sum_value x.numerator x.denominator y.numerator y.denominator e.numerator e.denominator u.0 v.0 t.0 d.0 (some_below x f) (some_below y g)
+    (numerator_some _ _ _ _ (some_below x f) (some_below y g) s.some s.value) s.some s.value su sv (sum_is_exact u.0 v.0 t.0 ku.count kv.count t.1) sd))
 
 over_both : (x y : Parts) → is_same x.denominator y.denominator ≡ true
     → quotient x.numerator x.denominator +ε quotient y.numerator x.denominator ≡ value_of x +ε value_of y

@@ -1,5 +1,6 @@
 -- The limit of a quotient from 0 to 1 is the quotient of the coefficients of power 0, in lowest terms.
-use Rattle.std.proofs.Common.{◌≡◌, refl, sym, ◌∙◌, ap, ap₂, zero, suc, ℕ, List, [], ◌∷◌, ℤ, pos, negsuc, ◌+ℤ◌, ◌*ℤ◌, ◌<ℤ◌, neg_ℤ, unsigned_abs, int_div, ◌<◌, ◌^◌, arith}
+use Rattle.std.proofs.Common.{◌≡◌, refl, sym, ◌∙◌, ap, ap₂, zero, suc, ℕ, List, [], ◌∷◌, ℤ, pos, negsuc, ◌+ℤ◌, ◌*ℤ◌}
+use Rattle.std.proofs.Common.{◌<ℤ◌, neg_ℤ, unsigned_abs, int_div, ◌<◌, ◌^◌, arith}
 use Rattle.std.proofs.lemmas.Int.{ints}
 use Rattle.std.specs.Int.{◌∣◌}
 use Rattle.std.proofs.Math.Nat.{div-le_self, pos_of_dvd_of_pos}
@@ -79,7 +80,8 @@ lowest_terms n d sn sd up =
       positive = quotient_positive d g up is.1;
       num_size = rw en (omega (arith, div-le_self (unsigned_abs n) g));
       den_size = rw ed (omega (arith, div-le_self (unsigned_abs d) g));
-      reduced = rw (en, ed) (gcd_from_apart _ _ (quotients_apart (unsigned_abs n) (unsigned_abs d) (gcd_bounds (unsigned_abs n) (unsigned_abs d) (size_positive d up)).0));
+      reduced = rw (en, ed) (gcd_from_apart _ _ (quotients_apart (unsigned_abs n) (unsigned_abs d)
+          (gcd_bounds (unsigned_abs n) (unsigned_abs d) (size_positive d up)).0));
     }
 
 crossed : (a b g : ℤ) → a *ℤ (b *ℤ g) ≡ (a *ℤ g) *ℤ b
@@ -103,7 +105,10 @@ first_above d up h = positive_out (coefficient d 0) (ap int_sign (sym (lowest-fi
 
 -- the terms, by the coefficients of power 0
 pub limit_terms-first : (n d : List ℤ) → limit_terms (record { numerator = n; denominator = d })
-    ≡ record { num = int_div (coefficient n 0) (gcd_of (coefficient n 0) (coefficient d 0)); den = int_div (coefficient d 0) (gcd_of (coefficient n 0) (coefficient d 0)) }
+    ≡ record {
+      num = int_div (coefficient n 0) (gcd_of (coefficient n 0) (coefficient d 0));
+      den = int_div (coefficient d 0) (gcd_of (coefficient n 0) (coefficient d 0));
+    }
 unfolding limit_terms
 limit_terms-first n d = rw (first_is n, first_is d) refl
 

@@ -1,5 +1,6 @@
 -- A lowered quotient has the value of the quotient, and no common power, content or core.
-use Rattle.std.proofs.Common.{◌≡◌, ℕ, zero, suc, ◌+◌, ◌<◌, min, Bool, true, false, List, [], ◌∷◌, if◌then◌else◌, refl, sym, ◌∙◌, ap, ap₂, subst, arith, lit<, int_div, ◌-◌, ◌*ℤ◌, ◌⊎◌, ℤ, pos, negsuc, inl, inr}
+use Rattle.std.proofs.Common.{◌≡◌, ℕ, zero, suc, ◌+◌, ◌<◌, min, Bool, true, false, List, [], ◌∷◌, if◌then◌else◌, refl, sym}
+use Rattle.std.proofs.Common.{◌∙◌, ap, ap₂, subst, arith, lit<, int_div, ◌-◌, ◌*ℤ◌, ◌⊎◌, ℤ, pos, negsuc, inl, inr}
 use Rattle.std.specs.List.{list_all}
 use Rattle.std.specs.Int.{◌∣◌}
 use Rattle.eps_quotient.specs.Laws.Cores.{Is}
@@ -107,16 +108,19 @@ without_cores_is a b ka kb ha hb same =
     let g = gcd_is (content a) (content b) in
     let s = cut_core a (common_content a b) (common_order a b) ka ha g.0 (min-le_left (order a) (order b)) in
     let t = cut_core b (common_content a b) (common_order a b) kb hb g.1 (min-le_right (order a) (order b)) in
-    let s' = subst (λ p. IsCut a (monomial (int_div (factor a) (pos (common_content a b))) (order a - common_order a b)) (from_factors (pos (common_content a b)) (common_order a b) p) (common_content a b) (common_order a b)) same s.cut in
+    let s' = subst (λ p. IsCut a (monomial (int_div (factor a) (pos (common_content a b))) (order a - common_order a b))
+    (from_factors (pos (common_content a b)) (common_order a b) p) (common_content a b) (common_order a b)) same s.cut in
     lowered_by a b _ _ _ hb (multiplier_some b _ _ t.cut.times hb) s' t.cut (λ e. t.core_of)
 
 pub without_powers_some : (a b : List ℤ) → IsPolynomial b → IsNonZero b → IsNonZero (without_powers a b).denominator
 unfolding without_powers
-without_powers_some a b kb hb = (cut_powers b (common_content a b) (common_order a b) kb hb (gcd_is (content a) (content b)).1 (min-le_right (order a) (order b))).cut.some
+without_powers_some a b kb hb = (cut_powers b (common_content a b) (common_order a b) kb hb
+    (gcd_is (content a) (content b)).1 (min-le_right (order a) (order b))).cut.some
 
 pub without_cores_some : (a b : List ℤ) → IsPolynomial b → IsNonZero b → IsNonZero (without_cores a b).denominator
 unfolding without_cores
-without_cores_some a b kb hb = (cut_core b (common_content a b) (common_order a b) kb hb (gcd_is (content a) (content b)).1 (min-le_right (order a) (order b))).cut.some
+without_cores_some a b kb hb = (cut_core b (common_content a b) (common_order a b) kb hb
+    (gcd_is (content a) (content b)).1 (min-le_right (order a) (order b))).cut.some
 
 pub one_some : IsNonZero one_polynomial
 one_some = lowest_from_coefficient one_polynomial 0 (λ e. let z = sym (monomial-at (pos 1) 0 (omega arith)) ∙ e in absurd (cc z))

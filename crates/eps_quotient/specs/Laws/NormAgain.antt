@@ -1,5 +1,6 @@
 -- The norm of a stored quotient is the quotient itself.
-use Rattle.std.proofs.Common.{◌≡◌, ℕ, ◌+◌, ◌-◌, ◌<◌, min, false, List, length, if◌then◌else◌, sym, ◌∙◌, ap, ap₂, arith, ℤ, pos, negsuc, int_div, inl, inr}
+use Rattle.std.proofs.Common.{◌≡◌, ℕ, ◌+◌, ◌-◌, ◌<◌, min, false, List, length, if◌then◌else◌, sym, ◌∙◌, ap, ap₂, arith, ℤ}
+use Rattle.std.proofs.Common.{pos, negsuc, int_div, inl, inr}
 use Rattle.std.specs.List.{list_all}
 use Rattle.std.specs.Int.{is_negative}
 use Rattle.std.specs.declared.cmp.Ordering.TheVariants.{Greater}
@@ -37,7 +38,8 @@ least_none i k h = elim (cases_lt 0 i) [
 ]
 
 no_order : (x : Parts) → IsQuotient x → common_order x.numerator x.denominator ≡ 0
-no_order x s = least_none (order x.numerator) (order x.denominator) (λ h. s.no_power (coefficient-below_order x.numerator 0 h.0, coefficient-below_order x.denominator 0 h.1))
+no_order x s = least_none (order x.numerator) (order x.denominator)
+    (λ h. s.no_power (coefficient-below_order x.numerator 0 h.0, coefficient-below_order x.denominator 0 h.1))
 
 lowered_again : (p : List ℤ) → length p ≡ 33 → lowered 0 (pos 1) p ≡ p
 lowered_again p count =
@@ -107,7 +109,8 @@ upright (negsuc n) e = absurd (cc)
 
 turned_again : (x : Parts) → IsQuotient x → turned x ≡ x
 unfolding turned
-turned_again x s = ap (λ b. if b then record { numerator = poly_negate x.numerator; denominator = poly_negate x.denominator } else x) (upright (lowest x.denominator) s.positive)
+turned_again x s = ap (λ b. if b then record { numerator = poly_negate x.numerator; denominator = poly_negate x.denominator } else x)
+    (upright (lowest x.denominator) s.positive)
 
 pub norm_again : (x : Parts) → IsQuotient x → norm x.numerator x.denominator ≡ x
 unfolding norm

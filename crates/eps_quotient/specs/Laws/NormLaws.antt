@@ -1,7 +1,8 @@
 -- What the norm of two polynomials gives is stored, and has the value of their quotient.
 use Rattle.std.proofs.lemmas.Int.{ints}
 use Rattle.field_core.specs.Laws.Integers.{integers}
-use Rattle.std.proofs.Common.{◌≡◌, ℕ, zero, suc, ◌+◌, ◌*ℤ◌, true, false, List, length, refl, sym, ◌∙◌, ap, ap₂, arith, ℤ, pos, negsuc, neg_ℤ, unsigned_abs}
+use Rattle.std.proofs.Common.{◌≡◌, ℕ, zero, suc, ◌+◌, ◌*ℤ◌, true, false, List, length, refl, sym, ◌∙◌, ap, ap₂, arith, ℤ, pos}
+use Rattle.std.proofs.Common.{negsuc, neg_ℤ, unsigned_abs}
 use Rattle.std.specs.Int.{is_negative}
 use Rattle.std.specs.Ordering.{ordering_reverse}
 use Rattle.std.specs.declared.cmp.Ordering.TheVariants.{Less, Greater}

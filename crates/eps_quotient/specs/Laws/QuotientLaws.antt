@@ -3,7 +3,8 @@ use Rattle.std.proofs.Common.{◌≡◌, refl, sym, ◌∙◌, ap, ap₂, List, 
 use Rattle.std.specs.declared.cmp.Ordering.TheVariants.{Greater}
 use Rattle.field_core.specs.Polynomial.{Same, poly_add, poly_multiply, lowest, int_sign, IsNonZero}
 use Rattle.field_core.specs.Laws.Ring.{multiply_left_comm, distribute_right}
-use Rattle.field_core.specs.Laws.PolynomialLaws.{ring, value, value-add, value-multiply, value-zero, value-one, same_in, same_out, multiply_comm, lowest-same, lowest-multiply, lowest-none, nonzero-multiply, nonzero-one, int_sign-scale}
+use Rattle.field_core.specs.Laws.PolynomialLaws.{ring, value, value-add, value-multiply, value-zero, value-one, same_in, same_out, multiply_comm, lowest-same}
+use Rattle.field_core.specs.Laws.PolynomialLaws.{lowest-multiply, lowest-none, nonzero-multiply, nonzero-one, int_sign-scale}
 use Rattle.field_core.specs.Number.{Number}
 use Rattle.field_core.specs.Arithmetic.{number_zero, number_one, ◌+ε◌, ◌*ε◌, ◌/ε◌, number_sign}
 use Rattle.field_core.specs.Laws.NumberLaws.{number_multiply_assoc, number_multiply_one}
@@ -50,11 +51,13 @@ pub product_value : (n1 d1 n2 d2 a b c e x y : List ℤ) → IsNonZero d1 → Is
     → quotient n1 d2 ≡ quotient a b → quotient n2 d1 ≡ quotient c e → Same x (poly_multiply a c) → Same y (poly_multiply e b)
     → quotient x y ≡ quotient n1 d1 *ε quotient n2 d2
 product_value n1 d1 n2 d2 a b c e x y h1 h2 hb he s t sx sy =
-    quotient-same x y (poly_multiply a c) (poly_multiply b e) (same_nonzero _ y (same_sym y _ sy) (nonzero-multiply e b he hb)) sx (same_trans y _ _ sy (multiply_comm e b))
+    quotient-same x y (poly_multiply a c) (poly_multiply b e)
+    (same_nonzero _ y (same_sym y _ sy) (nonzero-multiply e b he hb)) sx (same_trans y _ _ sy (multiply_comm e b))
     ∙ sym (quotient-multiply a b c e hb he)
     ∙ sym (ap₂ ◌*ε◌ s t)
     ∙ quotient-multiply n1 d2 n2 d1 h2 h1
-    ∙ quotient-same (poly_multiply n1 n2) (poly_multiply d2 d1) (poly_multiply n1 n2) (poly_multiply d1 d2) (nonzero-multiply d2 d1 h2 h1) (λ k. refl) (multiply_comm d2 d1)
+    ∙ quotient-same (poly_multiply n1 n2) (poly_multiply d2 d1) (poly_multiply n1 n2)
+    (poly_multiply d1 d2) (nonzero-multiply d2 d1 h2 h1) (λ k. refl) (multiply_comm d2 d1)
     ∙ sym (quotient-multiply n1 d1 n2 d2 h1 h2)
 
 -- ---- sums
@@ -103,7 +106,8 @@ one_value d h =
 pub inverse_value : (n d : List ℤ) → IsNonZero n → IsNonZero d → quotient d n *ε quotient n d ≡ number_one
 inverse_value n d h g =
     quotient-multiply d n n d h g
-    ∙ quotient-same (poly_multiply d n) (poly_multiply n d) (poly_multiply n d) (poly_multiply n d) (nonzero-multiply n d h g) (multiply_comm d n) (λ k. refl)
+    ∙ quotient-same (poly_multiply d n) (poly_multiply n d) (poly_multiply n d)
+    (poly_multiply n d) (nonzero-multiply n d h g) (multiply_comm d n) (λ k. refl)
     ∙ one_value (poly_multiply n d) (nonzero-multiply n d h g)
 
 -- what is multiplied by an inverse is divided

@@ -24,7 +24,8 @@ mul_exact x y num den e f =
     let gb = gcd_of y.num x.den in
     let a = gcd_is (unsigned_abs x.num) (unsigned_abs y.den) in
     let b = gcd_is (unsigned_abs y.num) (unsigned_abs x.den) in
-    rw (top, low) (mul_ring x.num x.den y.num y.den (int_div x.num ga) (int_div y.num gb) (int_div x.den gb) (int_div y.den ga) ga gb (quotient_times x.num _ a.0) (quotient_times y.den _ a.1) (quotient_times y.num _ b.0) (quotient_times x.den _ b.1))
+    rw (top, low) (mul_ring x.num x.den y.num y.den (int_div x.num ga) (int_div y.num gb) (int_div x.den gb) (int_div y.den ga) ga gb
+    (quotient_times x.num _ a.0) (quotient_times y.den _ a.1) (quotient_times y.num _ b.0) (quotient_times x.den _ b.1))
 
 add_ring : (nx dx ny dy p q r n g h : ℤ) → p *ℤ g ≡ dx → q *ℤ g ≡ dy → r *ℤ h ≡ dy → n *ℤ h ≡ nx *ℤ q +ℤ ny *ℤ p
     → n *ℤ (dx *ℤ dy) ≡ (nx *ℤ dy +ℤ ny *ℤ dx) *ℤ (p *ℤ r)
@@ -46,4 +47,5 @@ add_exact x y u v t den eu ev et ed =
     let total : int_div t (gcd_of t (gcd_of x.den y.den)) *ℤ gcd_of t (gcd_of x.den y.den)
     ≡ x.num *ℤ int_div y.den (gcd_of x.den y.den) +ℤ y.num *ℤ int_div x.den (gcd_of x.den y.den) = quotient_times t _ k.0
     ∙ (sized_says _ _ et).0 ∙ rw ((sized_says _ _ eu).0, (sized_says _ _ ev).0) refl in
-    rw low (add_ring x.num x.den y.num y.den (int_div x.den gg) (int_div y.den gg) (int_div y.den gh) (int_div t gh) gg gh (quotient_times x.den _ g.0) (quotient_times y.den _ g.1) (quotient_times y.den _ (dvd_trans _ k.1 g.1)) total)
+    rw low (add_ring x.num x.den y.num y.den (int_div x.den gg) (int_div y.den gg) (int_div y.den gh) (int_div t gh) gg gh
+    (quotient_times x.den _ g.0) (quotient_times y.den _ g.1) (quotient_times y.den _ (dvd_trans _ k.1 g.1)) total)

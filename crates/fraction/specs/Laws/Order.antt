@@ -45,7 +45,8 @@ equal_parts : (x y : Ratio) → by_value x y ≡ Equal → terms x ≡ terms y
 unfolding value
 equal_parts x y h =
     reduced_unique (terms x) (terms y) x.valid y.valid
-    (fraction-cross x.num x.den y.num y.den (positive_nonzero x.den x.valid.positive) (positive_nonzero y.den y.valid.positive) (number_is_field.compare_equal (value x) (value y) (seen x y ∙ h)))
+    (fraction-cross x.num x.den y.num y.den (positive_nonzero x.den x.valid.positive) (positive_nonzero y.den y.valid.positive)
+    (number_is_field.compare_equal (value x) (value y) (seen x y ∙ h)))
 
 both_true : (a b : Bool) → (a && b) ≡ true → (a ≡ true) × (b ≡ true)
 both_true true b h = (refl, h)

@@ -1,5 +1,6 @@
 -- The plain kind is exact.
-use Rattle.std.proofs.Common.{◌≡◌, ◌≢◌, refl, sym, ap, ap₂, subst, ◌∙◌, ℤ, pos, negsuc, zero, suc, neg_ℤ, ◌*ℤ◌, ◌<ℤ◌, [], ◌∷◌, true, false, Option, Some, None, arith}
+use Rattle.std.proofs.Common.{◌≡◌, ◌≢◌, refl, sym, ap, ap₂, subst, ◌∙◌, ℤ, pos, negsuc, zero, suc, neg_ℤ, ◌*ℤ◌, ◌<ℤ◌, []}
+use Rattle.std.proofs.Common.{◌∷◌, true, false, Option, Some, None, arith}
 use Rattle.std.specs.Option.{option_map}
 use Rattle.std.proofs.lemmas.Int.{ints}
 use Rattle.field_core.specs.declared.place.Op.{Op}
@@ -16,7 +17,8 @@ use Rattle.field_core.specs.Polynomial.{lowest, int_sign}
 use Rattle.field_core.specs.Laws.NumberLaws.{number_multiply_assoc, number_multiply_one}
 use Rattle.field_core.specs.Laws.Order.{number_subtract_is, divide_unique}
 use Rattle.field_core.specs.Fractions.{fraction}
-use Rattle.field_core.specs.Laws.FractionLaws.{quotient-pair, fraction-equal, fraction-add, fraction-multiply, fraction-negate, fraction-zero, fraction-sign, lowest-constant}
+use Rattle.field_core.specs.Laws.FractionLaws.{quotient-pair, fraction-equal, fraction-add, fraction-multiply, fraction-negate, fraction-zero, fraction-sign}
+use Rattle.field_core.specs.Laws.FractionLaws.{lowest-constant}
 use Rattle.field_core.specs.Laws.Effective.{positive_nonzero, product_positive, fraction-cross, fraction-compare}
 use Rattle.field_core.specs.Limit.{limit}
 use Rattle.field_core.specs.Laws.LimitLaws.{limit-fraction}
@@ -78,7 +80,8 @@ inverse_times_of (pos (suc n)) d s p h =
 inverse_times_of (negsuc n) d s p h =
     let q : ¬ (pos (suc n) ≡ pos 0) = λ e. cc in
     fraction-multiply (neg_ℤ d) (pos (suc n)) (negsuc n) d q s
-    ∙ fraction-equal _ _ (pos 1) (pos 1) (positive_nonzero _ (product_positive (pos (suc n)) d (omega (arith, ints)) p)) one_above (ap (λ a. a *ℤ pos 1) (signs d (pos (suc n))) ∙ crossed d (pos (suc n)))
+    ∙ fraction-equal _ _ (pos 1) (pos 1) (positive_nonzero _ (product_positive (pos (suc n)) d (omega (arith, ints)) p)) one_above
+    (ap (λ a. a *ℤ pos 1) (signs d (pos (suc n))) ∙ crossed d (pos (suc n)))
     ∙ one_is
 
 div_value : (x y z : Terms) → IsReduced x → IsReduced y → y.num ≢ pos 0 → ¬ (value y ≡ number_zero) → Makes z (product_of x (inverse y))

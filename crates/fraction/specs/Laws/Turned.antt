@@ -21,7 +21,12 @@ opposite_reduced x r = record {
 turned : (n d : ℤ) → IsReduced (record { num = n; den = d }) → n ≢ pos 0 → IsReduced (inverse_of n d)
 turned (pos zero) d r h = absurd (h refl)
 turned (pos (suc n)) d r h = record { positive = omega (arith, ints); num_size = r.den_size; den_size = r.num_size; reduced = gcd_swap _ _ r.reduced }
-turned (negsuc n) d r h = record { positive = omega (arith, ints); num_size = rw (size_negated d) r.den_size; den_size = r.num_size; reduced = rw (size_negated d) (gcd_swap _ _ r.reduced) }
+turned (negsuc n) d r h = record {
+  positive = omega (arith, ints);
+  num_size = rw (size_negated d) r.den_size;
+  den_size = r.num_size;
+  reduced = rw (size_negated d) (gcd_swap _ _ r.reduced);
+}
 
 pub inverse_reduced : (x : Terms) → IsReduced x → x.num ≢ pos 0 → IsReduced (inverse x)
 unfolding inverse

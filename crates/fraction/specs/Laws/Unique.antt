@@ -22,7 +22,8 @@ abs_cross x y h = sym (unsigned_abs-mul x.num y.den) ∙ ap unsigned_abs h ∙ u
 
 den_divides : (x y : Terms) → AreLowest x → Same x y → unsigned_abs x.den ∣ unsigned_abs y.den
 den_divides x y r h =
-    divides_other (unsigned_abs x.den) (unsigned_abs x.num) (unsigned_abs y.den) (apart_from_gcd (unsigned_abs x.num) (unsigned_abs x.den) r.apart) (subst (λ n. unsigned_abs x.den ∣ n) (sym (abs_cross x y h)) (dvd-mul_left (unsigned_abs x.den) (unsigned_abs y.num)))
+    divides_other (unsigned_abs x.den) (unsigned_abs x.num) (unsigned_abs y.den) (apart_from_gcd (unsigned_abs x.num) (unsigned_abs x.den) r.apart)
+    (subst (λ n. unsigned_abs x.den ∣ n) (sym (abs_cross x y h)) (dvd-mul_left (unsigned_abs x.den) (unsigned_abs y.num)))
 
 pub lowest_unique : (x y : Terms) → AreLowest x → AreLowest y → Same x y → x ≡ y
 lowest_unique x y r s h =

@@ -13,11 +13,11 @@ use crate::commands::check::checked;
 use crate::commands::test::decided;
 use answers::{Answer, Halt};
 use case_model::Case;
-use evidence::{MakeFault, make, write};
+use evidence::{make, write};
 use evidence_check::{Evidence, Verdict};
 use field_core::List;
 use refusals::{When, wide_refusal};
-use sequential::{Decision, Priority};
+use sequential::{Decision, Priority, RunFault};
 use std::alloc::Global;
 
 /// The evidence of the flow run along the steps of a decision.
@@ -30,13 +30,13 @@ fn flown(alloc: Global, case: &Case, decision: &Decision) -> Result<Evidence, Ha
 {
     match make(alloc, case, decision) {
         Ok(proof) => Ok(proof),
-        Err(MakeFault::Wide(step, wide)) => Err(Halt::Refused(wide_refusal(
+        Err(RunFault::Wide(step, wide)) => Err(Halt::Refused(wide_refusal(
             alloc,
             case.names(),
             When::EvidenceStep(step),
             &wide,
         )?)),
-        Err(MakeFault::NoMemory) => Err(Halt::NoMemory),
+        Err(RunFault::NoMemory) => Err(Halt::NoMemory),
     }
 }
 

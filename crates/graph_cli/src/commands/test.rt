@@ -6,13 +6,13 @@ ghost use Rattle.graph_cli.specs.Accepted.{IsOfKind};
 ghost use Rattle.graph_cli.specs.Test.{decided, adjusted, test_stage};
 ghost use Rattle.graph_cli.specs.declared.kind.InputKind.TheVariants.{Single};
 
-use adjusted_p::{AdjustFault, Adjusted, adjust};
+use adjusted_p::{Adjusted, adjust};
 use answers::{Answer, Halt};
 use case_model::Case;
 use field_core::List;
 use refusals::{When, wide_refusal};
 use report::test_text;
-use sequential::{DecideFault, Decision, Priority, decide};
+use sequential::{Decision, Priority, RunFault, decide};
 use std::alloc::Global;
 
 /// The decision on a case.
@@ -23,13 +23,13 @@ pub fn decided(alloc: Global, case: &Case, priority: Priority) -> Result<Decisio
 {
     match decide(alloc, case, priority) {
         Ok(decision) => Ok(decision),
-        Err(DecideFault::Wide(step, wide)) => Err(Halt::Refused(wide_refusal(
+        Err(RunFault::Wide(step, wide)) => Err(Halt::Refused(wide_refusal(
             alloc,
             case.names(),
             When::Step(step),
             &wide,
         )?)),
-        Err(DecideFault::NoMemory) => Err(Halt::NoMemory),
+        Err(RunFault::NoMemory) => Err(Halt::NoMemory),
     }
 }
 
@@ -41,13 +41,13 @@ fn adjusted(alloc: Global, case: &Case) -> Result<List<Adjusted>, Halt>
 {
     match adjust(alloc, case) {
         Ok(values) => Ok(values),
-        Err(AdjustFault::Wide(step, wide)) => Err(Halt::Refused(wide_refusal(
+        Err(RunFault::Wide(step, wide)) => Err(Halt::Refused(wide_refusal(
             alloc,
             case.names(),
             When::AdjustedStep(step),
             &wide,
         )?)),
-        Err(AdjustFault::NoMemory) => Err(Halt::NoMemory),
+        Err(RunFault::NoMemory) => Err(Halt::NoMemory),
     }
 }
 

@@ -38,7 +38,8 @@ module _ (K : Kind) (G H : StoredGraph) (j : ℕ) where
   abbrev pub EdgesFollow : Type 0
   EdgesFollow =
       (l k : ℕ) → is_live G l ≡ true → l ≢ j → is_live G k ≡ true → k ≢ j → l ≢ k
-      → value_of (edge K H l k) ≡ (value_of (edge K G l k) +ε value_of (edge K G l j) *ε value_of (edge K G j k)) /ε (number_one -ε value_of (edge K G l j) *ε value_of (edge K G j l))
+      → value_of (edge K H l k) ≡ (value_of (edge K G l k) +ε value_of (edge K G l j) *ε value_of (edge K G j k)) /ε
+      (number_one -ε value_of (edge K G l j) *ε value_of (edge K G j l))
 
   module _ (live : is_live G j ≡ true) (same_size : size H ≡ size G) (live_after : (i : ℕ)
       → is_live H i ≡ dropping j (is_live G) i) (weights : WeightsFollow) (edges : EdgesFollow) where

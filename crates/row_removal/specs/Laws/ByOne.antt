@@ -1,5 +1,6 @@
 -- A row has exact quotients by 1, and they are its own polynomials.
-use Rattle.std.proofs.Common.{◌≡◌, ℕ, zero, suc, ◌+◌, ◌-◌, ◌<◌, ◌≤◌, List, refl, ◌∙◌, ap, arith, ℤ, pos, ◌+ℤ◌, ◌*ℤ◌, Some}
+use Rattle.std.proofs.Common.{◌≡◌, ℕ, zero, suc, ◌+◌, ◌-◌, ◌<◌, ◌≤◌, List, refl, ◌∙◌, ap, arith, ℤ, pos, ◌+ℤ◌}
+use Rattle.std.proofs.Common.{◌*ℤ◌, Some}
 use lib.IntN.{*ℤ-zero}
 use Rattle.std.proofs.lemmas.Int.{ints}
 use Rattle.field_core.specs.Polynomial.{coefficient}
@@ -70,5 +71,6 @@ quotient_by_one p P = quotient_only p one_polynomial p one_some P.count (by_one 
 pub divided_by_one : (m : ℕ) (r : StoredRow) → IsProperRow m r → divided_row one_polynomial r ≡ r
 unfolding divided_row quotient_row numerator_at
 divided_by_one m r P =
-    let all = from_given (λ p. exact_quotient p one_polynomial) zero_polynomial zero_polynomial r.numerators r.numerators refl (λ k h. quotient_by_one _ (numerator_is m r k P (omega (arith, P.count)))) in
+    let all = from_given (λ p. exact_quotient p one_polynomial) zero_polynomial zero_polynomial r.numerators r.numerators refl
+    (λ k h. quotient_by_one _ (numerator_is m r k P (omega (arith, P.count)))) in
     rw (quotient_by_one r.denominator P.denominator, all) refl

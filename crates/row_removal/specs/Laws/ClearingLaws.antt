@@ -1,5 +1,6 @@
 -- Clearing a row changes no value.
-use Rattle.std.proofs.Common.{◌≡◌, ℕ, zero, suc, ◌<◌, ◌≤◌, min, List, [], ◌∷◌, length, get_or, refl, sym, ◌∙◌, ap, subst, arith, ℤ, pos, ◌*ℤ◌, ◌<ℤ◌, unsigned_abs, Option, Some, None, All}
+use Rattle.std.proofs.Common.{◌≡◌, ℕ, zero, suc, ◌<◌, ◌≤◌, min, List, [], ◌∷◌, length, get_or, refl, sym, ◌∙◌, ap, subst, arith}
+use Rattle.std.proofs.Common.{ℤ, pos, ◌*ℤ◌, ◌<ℤ◌, unsigned_abs, Option, Some, None, All}
 use Rattle.std.specs.List.{fold}
 use Rattle.std.specs.Option.{unwrap_or}
 use Rattle.std.specs.Int.{◌∣◌}
@@ -103,7 +104,8 @@ quotient_values m by r t some P h =
     let Q = is_quotient_row by r t h in
     let count : length t.numerators ≡ m = Q.numerators.count ∙ P.count in
     let d = is_quotient by r.denominator t.denominator some Q.denominator in
-    let each : (k : ℕ) → k < m → IsQuotientOf by (numerator_at r k) (numerator_at t k) = λ k i. is_quotient by _ _ some (Q.numerators.each k zero_polynomial zero_polynomial (omega (arith, P.count))) in
+    let each : (k : ℕ) → k < m → IsQuotientOf by (numerator_at r k) (numerator_at t k) =
+    λ k i. is_quotient by _ _ some (Q.numerators.each k zero_polynomial zero_polynomial (omega (arith, P.count))) in
     factor_values m r t by P some count d.times d.held (λ k i. (each k i).times) (λ k i. (each k i).held)
 
 pub divided_values : (m : ℕ) (by : List ℤ) (r : StoredRow) → IsNonZero by → IsProperRow m r → HasValues m r (divided_row by r)
@@ -156,7 +158,8 @@ above_none h i e = let f : h ≡ 0 = ap unsigned_abs e in omega arith
 
 lowered_times : (h k : ℕ) → k ≤ 32 → (p : List ℤ) → IsPolynomial p → h ∣ content p → k ≤ order p
     → Same p (poly_multiply (monomial (pos h) k) (lowered k (pos h) p))
-lowered_times h k low p held divisor within = same_trans p _ _ (lowered_factors k h p held.count divisor within) (same_sym _ _ (monomial-multiply (pos h) k (lowered k (pos h) p) low))
+lowered_times h k low p held divisor within = same_trans p _ _ (lowered_factors k h p held.count divisor within)
+    (same_sym _ _ (monomial-multiply (pos h) k (lowered k (pos h) p) low))
 
 by_at : (k : ℕ) (c : ℤ) (r : StoredRow) (i : ℕ) → i < length r.numerators → numerator_at (row_by k c r) i ≡ lowered k c (numerator_at r i)
 unfolding numerator_at
@@ -171,11 +174,13 @@ lowered_values m r P =
     let some = content_some r P.some in
     let by : (i : ℕ) → i < m → numerator_at (row_by k (pos h) r) i
     ≡ lowered k (pos h) (numerator_at r i) = λ i b. by_at k (pos h) r i (omega (arith, P.count)) in
-    factor_values m r (row_by k (pos h) r) (monomial (pos h) k) P (monomial_some (pos h) k low (above_none h some)) (length-map r.numerators (lowered k (pos h)) ∙ P.count)
+    factor_values m r (row_by k (pos h) r) (monomial (pos h) k) P (monomial_some (pos h) k low (above_none h some))
+    (length-map r.numerators (lowered k (pos h)) ∙ P.count)
     (lowered_times h k low r.denominator P.denominator (content_first (content r.denominator) r.numerators) (order_first (order r.denominator) r.numerators))
     (lowered_valid k (pos h) r.denominator P.denominator)
     (λ i b. subst (λ q. Same (numerator_at r i) (poly_multiply (monomial (pos h) k) q)) (sym (by i b))
-    (lowered_times h k low (numerator_at r i) (numerator_is m r i P b) (content_each _ r.numerators i (omega (arith, P.count))) (order_each _ r.numerators i (omega (arith, P.count)))))
+    (lowered_times h k low (numerator_at r i) (numerator_is m r i P b) (content_each _ r.numerators i (omega (arith, P.count)))
+    (order_each _ r.numerators i (omega (arith, P.count)))))
     (λ i b. subst IsPolynomial (sym (by i b)) (lowered_valid k (pos h) (numerator_at r i) (numerator_is m r i P b)))
 
 -- ---- the cleared row

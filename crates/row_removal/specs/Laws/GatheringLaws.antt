@@ -1,5 +1,7 @@
 -- The gathered rows have the numbers of the graph.
-use Rattle.std.proofs.Common.{◌≡◌, ◌≢◌, ◌⊎◌, inl, inr, refl, sym, ap, subst, ◌∙◌, ℕ, zero, suc, ◌+◌, ◌*◌, ◌/◌, ◌<◌, ◌^◌, true, false, List, [], ◌∷◌, get_or, ℤ, pos, ◌*ℤ◌, ◌<ℤ◌, unsigned_abs, int_div, Option, Some, None, Ok, arith}
+use Rattle.std.proofs.Common.{◌≡◌, ◌≢◌, ◌⊎◌, inl, inr, refl, sym, ap, subst, ◌∙◌, ℕ, zero, suc, ◌+◌, ◌*◌, ◌/◌, ◌<◌}
+use Rattle.std.proofs.Common.{◌^◌, true, false, List, [], ◌∷◌, get_or, ℤ, pos, ◌*ℤ◌, ◌<ℤ◌, unsigned_abs, int_div, Option, Some, None}
+use Rattle.std.proofs.Common.{Ok, arith}
 use Rattle.std.specs.Int.{◌∣◌}
 use Rattle.std.proofs.lemmas.Int.{ints, unsigned_abs-mul}
 use Rattle.std.proofs.lemmas.Nat.Gcd.{dvd_trans}
@@ -115,7 +117,8 @@ module _ (G : StoredGraph) (row : Option ℕ) (m : ℕ) (held : (k : ℕ) → k 
   common_none : (c : ℤ) → common_below G row 0 ≡ Ok c → IsCommon 0 c
   unfolding common_below
   common_none c h =
-      subst (IsCommon 0) (ok_same (Ok c) (pos 1) c (sym h) refl) (record { positive = omega (arith, ints); small = omega (arith, ints); divides = λ k i e. absurd (omega arith) })
+      subst (IsCommon 0) (ok_same (Ok c) (pos 1) c (sym h) refl)
+      (record { positive = omega (arith, ints); small = omega (arith, ints); divides = λ k i e. absurd (omega arith) })
 
   with_none : (k : ℕ) (c : ℤ) → is_zero (given G row k) ≡ true → with_denominator G row k c ≡ Ok c
   unfolding with_denominator
@@ -246,7 +249,8 @@ row_is_gathered G row held constant r h =
     let b = bind_ok (each_below m (gathered_numerator G row a.0)) _ r a.1.1 in
     let C = common_is G row m held constant m a.0 (omega arith) a.1.0 in
     let count = each_length _ _ b.0 b.1.0 in
-    let each : (k : ℕ) → k < m → IsGathered G row m held constant a.0 C k (get_or b.0 k zero_polynomial) = λ k i. is_gathered G row m held constant a.0 C k _ i (each_get _ _ b.0 b.1.0 zero_polynomial k i) in
+    let each : (k : ℕ) → k < m → IsGathered G row m held constant a.0 C k (get_or b.0 k zero_polynomial) =
+    λ k i. is_gathered G row m held constant a.0 C k _ i (each_get _ _ b.0 b.1.0 zero_polynomial k i) in
     subst (IsGatheredRow G row) (ok_same (Ok r) _ r (sym b.1.1) refl) (record {
       proper = record {
         count = count;
@@ -273,7 +277,8 @@ module _ (G : StoredGraph) (S : AreStored quotients IsQuotient G) (C : HasConsta
     pub weights : (k : ℕ) → k < size G → row_value s.weights k ≡ value_of (weight quotients G k)
     pub edges : (l k : ℕ) → l < size G → k < size G → row_value (row_at s l) k ≡ value_of (edge quotients G l k)
 
-  gathered_is : gathered G ≡ (gathered_row G None >>= (λ ws. each_below (size G) (λ l. gathered_row G (Some l)) >>= (λ es. Ok (record { live = G.live; weights = ws; edges = es; last = one_polynomial }))))
+  gathered_is : gathered G ≡ (gathered_row G None >>=
+      (λ ws. each_below (size G) (λ l. gathered_row G (Some l)) >>= (λ es. Ok (record { live = G.live; weights = ws; edges = es; last = one_polynomial }))))
   unfolding gathered
   gathered_is = refl
 
@@ -285,7 +290,8 @@ module _ (G : StoredGraph) (S : AreStored quotients IsQuotient G) (C : HasConsta
       let b = bind_ok (each_below m (λ l. gathered_row G (Some l))) _ s a.1.1 in
       let W = weights_gathered a.0 a.1.0 in
       let count = each_length _ _ b.0 b.1.0 in
-      let each : (l : ℕ) → l < m → IsGatheredRow G (Some l) (get_or b.0 l (zero_row 0)) = λ l i. edges_gathered l i _ (each_get _ _ b.0 b.1.0 (zero_row 0) l i) in
+      let each : (l : ℕ) → l < m → IsGatheredRow G (Some l) (get_or b.0 l (zero_row 0)) =
+      λ l i. edges_gathered l i _ (each_get _ _ b.0 b.1.0 (zero_row 0) l i) in
       subst AreGathered (ok_same (Ok s) _ s (sym b.1.1) refl) (record {
         live = refl;
         proper = record {

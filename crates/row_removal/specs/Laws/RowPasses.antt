@@ -1,5 +1,6 @@
 -- What a written removal from rows that isn't refused did, and the numbers of the new rows.
-use Rattle.std.proofs.Common.{◌≡◌, refl, sym, ap, subst, ◌∙◌, ℕ, ◌<◌, ◌||◌, ◌==◌, inl, inr, true, false, List, set, replicate, length, ℤ, pos, Option, Some, Ok, arith, length-set}
+use Rattle.std.proofs.Common.{◌≡◌, refl, sym, ap, subst, ◌∙◌, ℕ, ◌<◌, ◌||◌, ◌==◌, inl, inr, true, false, List, set, replicate, length}
+use Rattle.std.proofs.Common.{ℤ, pos, Option, Some, Ok, arith, length-set}
 use Rattle.std.specs.List.{list_all}
 use Rattle.std.proofs.lemmas.List.{get_or-replicate, length-replicate}
 use Rattle.std.proofs.lemmas.List.Elements.{All-get_or, All-from_get_or}
@@ -29,7 +30,8 @@ use Rattle.eps_quotient.specs.Lowering.{one_polynomial}
 use Rattle.row_removal.specs.StoredRow.{StoredRow, zero_row, numerator_at, row_value, IsProperRow}
 use Rattle.row_removal.specs.StoredRows.{StoredRows, rows_size, rows_graph, row_at}
 use Rattle.row_removal.specs.Clearing.{cleared}
-use Rattle.row_removal.specs.RowRemoval.{sum_of_products, difference_of_products, below, above, new_weight, new_scale, new_weights, new_denominator, new_numerator, row_over, new_row, row_removal}
+use Rattle.row_removal.specs.RowRemoval.{sum_of_products, difference_of_products, below, above, new_weight, new_scale, new_weights, new_denominator}
+use Rattle.row_removal.specs.RowRemoval.{new_numerator, row_over, new_row, row_removal}
 use Rattle.row_removal.specs.Proper.{AreProperRows}
 use Rattle.removal.specs.Laws.WrittenValues.{divide_zero}
 use Rattle.row_removal.specs.Laws.ClearingLaws.{HasValues, numerator_is, each_is, cleared_values}
@@ -69,7 +71,8 @@ pub zero_row_proper : (m : ℕ) → IsProperRow m (zero_row m)
 unfolding zero_row
 zero_row_proper m = record {
   count = length-replicate m zero_polynomial;
-  numerators = All-from_get_or IsPolynomial (replicate m zero_polynomial) zero_polynomial (λ k h. subst IsPolynomial (sym (get_or-replicate m k zero_polynomial zero_polynomial (omega (arith, length-replicate m zero_polynomial)))) zero_valid);
+  numerators = All-from_get_or IsPolynomial (replicate m zero_polynomial) zero_polynomial
+      (λ k h. subst IsPolynomial (sym (get_or-replicate m k zero_polynomial zero_polynomial (omega (arith, length-replicate m zero_polynomial)))) zero_valid);
   denominator = one_held;
   some = one_some;
 }
@@ -145,7 +148,8 @@ module _ (s : StoredRows) (j : ℕ) (P : AreProperRows s) (j_in : j < rows_size 
         count = count;
         numerators = each_is (rows_size s) raw count (λ k h. weight_held k _ (each_get _ _ raw.numerators N zero_polynomial k h));
         denominator = product_polynomial _ _ _ D;
-        some = same_nonzero _ _ (same_sym raw.denominator _ (product_is_exact _ _ _ D)) (nonzero-multiply s.weights.denominator (below s j j) P.weights.some (row_proper j j_in).some);
+        some = same_nonzero _ _ (same_sym raw.denominator _ (product_is_exact _ _ _ D))
+            (nonzero-multiply s.weights.denominator (below s j j) P.weights.some (row_proper j j_in).some);
       }
 
   module _ (r : StoredRow) (W : WeightsMade r) where
@@ -154,7 +158,8 @@ module _ (s : StoredRows) (j : ℕ) (P : AreProperRows s) (j_in : j < rows_size 
     raw_weight l h = each_get _ _ W.raw.numerators W.numerators zero_polynomial l h
 
     weights_values : HasValues (rows_size s) W.raw r
-    weights_values = subst (HasValues (rows_size s) W.raw) W.is (cleared_values (rows_size s) s.last W.raw P.last P.last_some (raw_weights W.raw W.numerators W.denominator))
+    weights_values = subst (HasValues (rows_size s) W.raw) W.is
+        (cleared_values (rows_size s) s.last W.raw P.last P.last_some (raw_weights W.raw W.numerators W.denominator))
 
     pub weights_proper : IsProperRow (rows_size s) r
     weights_proper = weights_values.proper
@@ -166,7 +171,8 @@ module _ (s : StoredRows) (j : ℕ) (P : AreProperRows s) (j_in : j < rows_size 
         let ka = product_polynomial _ _ _ t.first_is in
         let kb = product_polynomial _ _ _ t.second_is in
         weights_values.value l h
-        ∙ merged_value (numerator_at s.weights l) (numerator_at s.weights j) s.weights.denominator (above s j j l) (below s j j) t.a t.b (numerator_at W.raw l) W.raw.denominator
+        ∙ merged_value (numerator_at s.weights l) (numerator_at s.weights j) s.weights.denominator
+        (above s j j l) (below s j j) t.a t.b (numerator_at W.raw l) W.raw.denominator
         P.weights.some (row_proper j j_in).some (product_is_exact _ _ _ t.first_is) (product_is_exact _ _ _ t.second_is)
         (sum_is_exact t.a t.b _ ka.count kb.count t.third_is) (product_is_exact _ _ _ (scale_product W.raw.denominator W.denominator))
 
@@ -198,7 +204,8 @@ module _ (s : StoredRows) (j : ℕ) (P : AreProperRows s) (j_in : j < rows_size 
 
   -- by value the new edge is this
   abbrev pub edge_number : ℕ → ℕ → Number
-  edge_number l k = (row_value (row_at s l) k +ε row_value (row_at s l) j *ε row_value (row_at s j) k) /ε (number_one -ε row_value (row_at s l) j *ε row_value (row_at s j) l)
+  edge_number l k = (row_value (row_at s l) k +ε row_value (row_at s l) j *ε row_value (row_at s j) k) /ε
+      (number_one -ε row_value (row_at s l) j *ε row_value (row_at s j) l)
 
   -- a new row of edges
   pub record RowIs (l : ℕ) (r : StoredRow) : Type 0 where
@@ -206,7 +213,8 @@ module _ (s : StoredRows) (j : ℕ) (P : AreProperRows s) (j_in : j < rows_size 
     pub value : (k : ℕ) → k < rows_size s → is_gone (rows_graph s) j l ≡ false → (is_gone (rows_graph s) j k || k == l) ≡ false
         → row_value r k ≡ edge_number l k
 
-  module _ (l : ℕ) (l_in : l < rows_size s) (d : List ℤ) (D : Three (sized_product (below s j l) (below s j j)) (sized_product (above s j l j) (above s j j l)) less d) where
+  module _ (l : ℕ) (l_in : l < rows_size s) (d : List ℤ)
+      (D : Three (sized_product (below s j l) (below s j j)) (sized_product (above s j l j) (above s j j l)) less d) where
     loss_sum : Same d (poly_add D.a (poly_negate D.b))
     loss_sum =
         let ka = product_polynomial _ _ _ D.first_is in
@@ -219,7 +227,8 @@ module _ (s : StoredRows) (j : ℕ) (P : AreProperRows s) (j_in : j < rows_size 
       proper = zero_row_proper (rows_size s);
       value = λ k h g i. zero_row_value (rows_size s) k h
           ∙ sym (ap (λ v. (row_value (row_at s l) k +ε row_value (row_at s l) j *ε row_value (row_at s j) k) /ε v)
-          (loss_none (above s j l j) (below s j l) (above s j j l) (below s j j) D.a D.b d (row_proper l l_in).some (row_proper j j_in).some none (product_is_exact _ _ _ D.first_is) (product_is_exact _ _ _ D.second_is) loss_sum)
+          (loss_none (above s j l j) (below s j l) (above s j j l) (below s j j) D.a D.b d (row_proper l l_in).some
+          (row_proper j j_in).some none (product_is_exact _ _ _ D.first_is) (product_is_exact _ _ _ D.second_is) loss_sum)
           ∙ divide_zero _);
     }
 
@@ -291,7 +300,8 @@ module _ (s : StoredRows) (j : ℕ) (P : AreProperRows s) (j_in : j < rows_size 
 
   pub row_is : (l : ℕ) (r : StoredRow) → l < rows_size s → new_row s j l ≡ Ok r → RowIs l r
   row_is l r i h = elim (true_or_false (is_gone (rows_graph s) j l)) [
-    | inl g ↦ subst (RowIs l) (ok_same _ (zero_row (rows_size s)) r (row_gone l g) h) (record { proper = zero_row_proper (rows_size s); value = λ k b e f. absurd (cc) })
+    | inl g ↦ subst (RowIs l) (ok_same _ (zero_row (rows_size s)) r (row_gone l g) h)
+        (record { proper = zero_row_proper (rows_size s); value = λ k b e f. absurd (cc) })
     | inr g ↦
         let a = bind_ok (new_denominator s j l) _ r (sym (row_here l g) ∙ h) in
         over_is l i a.0 (denominator_parts l a.0 a.1.0) r a.1.1
@@ -305,7 +315,8 @@ module _ (s : StoredRows) (j : ℕ) (P : AreProperRows s) (j_in : j < rows_size 
     pub live : t.live ≡ set s.live j false
     pub last : t.last ≡ below s j j
 
-  removal_is : row_removal s j ≡ (new_weights s j >>= (λ ws. each_below (rows_size s) (new_row s j) >>= (λ es. Ok (record { live = set s.live j false; weights = ws; edges = es; last = below s j j }))))
+  removal_is : row_removal s j ≡ (new_weights s j >>=
+      (λ ws. each_below (rows_size s) (new_row s j) >>= (λ es. Ok (record { live = set s.live j false; weights = ws; edges = es; last = below s j j }))))
   unfolding row_removal
   removal_is = refl
 
@@ -340,7 +351,8 @@ module _ (s : StoredRows) (j : ℕ) (P : AreProperRows s) (j_in : j < rows_size 
           few = let f = P.few in omega (arith, same_size);
           weights = subst (λ m. IsProperRow m t.weights) (sym same_size) (weights_proper t.weights weights_of);
           count = count ∙ sym same_size;
-          edges = All-from_get_or (IsProperRow (rows_size t)) t.edges (zero_row 0) (λ l h. subst (λ m. IsProperRow m (row_at t l)) (sym same_size) (new_row_is l (omega (arith, count))).proper);
+          edges = All-from_get_or (IsProperRow (rows_size t)) t.edges (zero_row 0)
+              (λ l h. subst (λ m. IsProperRow m (row_at t l)) (sym same_size) (new_row_is l (omega (arith, count))).proper);
           last = subst IsPolynomial (sym Q.last) (row_proper j j_in).denominator;
           last_some = subst IsNonZero (sym Q.last) (row_proper j j_in).some;
         }

@@ -1,4 +1,4 @@
-use Rattle.std.proofs.Common.{arith, lit<, refl, pos}
+use Rattle.std.proofs.Common.{arith, lit<, refl}
 use Rattle.std.proofs.lemmas.Int.{ints}
 use Rattle.field_core.specs.Divisor.{gcd}
 use Rattle.answer_tests.proofs.keepers.look.Goals as goal

@@ -5,7 +5,9 @@ use Rattle.case_json.proofs.Readers.{items_found, items_failed}
 use Rattle.case_json.proofs.components.edges.Goals as goal
 
 pub returns-clause-found : goal.returns-clause-found
-returns-clause-found c = items_found _ _ (IsEdge c.args.hypotheses.now.names) (IsEdgeFault c.args.hypotheses.now.names) (λ part r post. (search rules, search rules)) _ _ c.items.ensures.found
+returns-clause-found c = items_found _ _ (IsEdge c.args.hypotheses.now.names) (IsEdgeFault c.args.hypotheses.now.names)
+    (λ part r post. (search rules, search rules)) _ _ c.items.ensures.found
 
 pub returns-clause-fault : goal.returns-clause-fault
-returns-clause-fault c = items_failed _ _ (IsEdge c.args.hypotheses.now.names) (IsEdgeFault c.args.hypotheses.now.names) (λ part r post. (search rules, search rules)) _ _ c.items.ensures.fault
+returns-clause-fault c = items_failed _ _ (IsEdge c.args.hypotheses.now.names) (IsEdgeFault c.args.hypotheses.now.names)
+    (λ part r post. (search rules, search rules)) _ _ c.items.ensures.fault

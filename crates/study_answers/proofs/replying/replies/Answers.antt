@@ -1,4 +1,4 @@
-use Rattle.std.proofs.Common.{rules, ◌≡◌, ◌≤◌, ◌+◌, [], ◌∷◌, refl, sym, ◌∙◌, subst, drop, length}
+use Rattle.std.proofs.Common.{rules, ◌≡◌, ◌≤◌, ◌+◌, [], ◌∷◌, refl, ◌∙◌, subst, drop, length}
 use Rattle.std.proofs.lemmas.List.{drop_all}
 use Rattle.graph_io.specs.Causes.{Rose}
 use Rattle.case_model.specs.CaseView.{content}

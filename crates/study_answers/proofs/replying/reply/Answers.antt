@@ -14,4 +14,5 @@ returns-in-Ok-clause-replied g c =
     let text = c.args.text.now in
     let written = c.put_shown.new.text in
     subst (λ x. IsRepliedTo k c.args.number s x kept kept text written s) (sym c.in-Show.is)
-    (shown_written k c.args.number s kept text written (c.in-Ok.ensures.put ∙ ap₂ (λ n rs. text ++ shown_line k n rs) c.count.ensures c.settled.ensures.value))
+    (shown_written k c.args.number s kept text written
+    (c.in-Ok.ensures.put ∙ ap₂ (λ n rs. text ++ shown_line k n rs) c.count.ensures c.settled.ensures.value))

@@ -1,4 +1,3 @@
-use Rattle.std.proofs.Common.{map, Some, None}
 use Rattle.std.specs.Prelude.{string_bytes, codes}
 use Rattle.study_cli.proofs.StoreValues.{stripped, no_first, value_joined, value_apart, no_second}
 use Rattle.study_cli.proofs.store.value_at.Goals as goal

@@ -1,10 +1,8 @@
-use Rattle.std.proofs.Common.{◌++◌, subst, sym}
-use Rattle.std.specs.List.{AllByRecursion}
+use Rattle.std.proofs.Common.{◌++◌}
 use Rattle.case_model.specs.CaseView.{content}
 use Rattle.text_lines.specs.Lines.{rows_of, rows_left}
 use Rattle.text_lines.specs.View.{row}
-use Rattle.text_lines.proofs.HandedOn.{handed_on}
-use Rattle.study_commands.proofs.CommandReads.{all_read, one_read, one_refused}
+use Rattle.study_commands.proofs.CommandReads.{all_read}
 use Rattle.study_commands.proofs.reading.read_commands.Goals as goal
 
 pub returns-clause-found : goal.returns-clause-found

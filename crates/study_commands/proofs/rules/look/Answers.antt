@@ -1,4 +1,4 @@
-use Rattle.std.proofs.Common.{◌<◌, sym, subst, arith, length}
+use Rattle.std.proofs.Common.{◌<◌, sym, subst, arith}
 use Rattle.case_model.specs.CaseView.{content}
 use Rattle.case_model.proofs.CaseFacts.{names_few}
 use Rattle.edge_text.specs.Grammar.{Says}

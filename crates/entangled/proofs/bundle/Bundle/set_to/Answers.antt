@@ -1,4 +1,4 @@
-use Rattle.std.proofs.Common.{◌≡◌, map, length, rules, arith}
+use Rattle.std.proofs.Common.{◌≡◌, map, rules, arith}
 use Rattle.removal.specs.StoredGraph.{size as graph_size}
 use Rattle.entangled.specs.Bundled.{states_size}
 use Rattle.entangled.specs.BundleView.{bundled}
