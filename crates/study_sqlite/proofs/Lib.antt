@@ -1,5 +1,6 @@
 mod Faults
 mod PrintedNumbers
 mod PrintedRatios
+mod Refusals
 mod RowFacts
 mod Slashes

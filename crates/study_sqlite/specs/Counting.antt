@@ -1,5 +1,5 @@
 -- The faults that a keeper in a file counts.
-use Rattle.std.specs.Prelude.{◌≡◌, ℕ}
+use Rattle.std.specs.Prelude.{◌≡◌, ℕ, ⊤}
 use Rattle.graph_io.specs.Causes.{count_up}
 use Rattle.graph_io.specs.declared.keeper.KeeperFault.{KeeperFault}
 use Rattle.graph_io.specs.declared.keeper.KeeperFault.TheVariants.{Fault, NoMemory}
@@ -16,3 +16,8 @@ fault_count keeper = keeper.faults
 abbrev pub IsCounted : ℕ → ℕ → FileFault → KeeperFault → Type 0
 IsCounted before now Refused told = (told ≡ Fault) × (now ≡ count_up before)
 IsCounted before now files.NoMemory told = (told ≡ NoMemory) × (now ≡ before)
+
+-- what holds where a fault is told; memory may run out at any time
+abbrev pub OnFault : Type 0 → KeeperFault → Type 0
+OnFault P Fault = P
+OnFault P NoMemory = ⊤

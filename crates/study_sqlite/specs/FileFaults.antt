@@ -1,4 +1,5 @@
 -- What errors of statements and bad rows are to a file of looks.
+use Rattle.std.specs.Prelude.{⊤}
 use Rattle.sqlite.specs.declared.error.Error.{Error}
 use Rattle.sqlite.specs.declared.error.Error.TheVariants.{SqliteFailure}
 use Rattle.sqlite.specs.declared.error.ErrorCode.TheVariants.{OutOfMemory}
@@ -16,3 +17,8 @@ fault_of_error error = files.Refused
 abbrev pub fault_of_rows : RowsFault → FileFault
 fault_of_rows (rows.Bad place) = files.Refused
 fault_of_rows rows.NoMemory = files.NoMemory
+
+-- what holds where a file was refused; memory may run out at any time
+abbrev pub OnRefusal : Type 0 → FileFault → Type 0
+OnRefusal P files.Refused = P
+OnRefusal P files.NoMemory = ⊤

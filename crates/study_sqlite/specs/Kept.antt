@@ -1,11 +1,12 @@
 -- Looks in the table of looks, by what a connection held before and after.
-use Rattle.std.specs.Prelude.{List, []}
+use Rattle.std.specs.Prelude.{◌⊎◌, List, []}
 use Rattle.graph_io.specs.declared.keeper.Look.{Look}
 use Rattle.sqlite.specs.Store.{Ghosts}
 use Rattle.sqlite.specs.Held.{Held, state}
+use Rattle.study_sqlite.specs.declared.fault.FileFault.TheVariants.{Refused}
 use Rattle.study_sqlite.specs.declared.row.LookRow.{LookRow}
 use Rattle.study_sqlite.specs.Rows.{IsRowOf, AreRows}
-use Rattle.study_sqlite.specs.Statements.{make_sql, put_sql, values_of, Ran, ShowedRows}
+use Rattle.study_sqlite.specs.Statements.{make_sql, put_sql, values_of, Ran, RanInto, ShowedRows, AreRowsRefused}
 
 module _ {S : Type 0} (g : Ghosts S) (before after : Held S) where
   -- The looks are those of all rows: the table was made where it wasn't there, and then its rows were shown.
@@ -23,3 +24,29 @@ module _ {S : Type 0} (g : Ghosts S) (before after : Held S) where
     pub made : Ran (state g before) (state g middle) make_sql []
     pub row_is : IsRowOf row look
     pub ran : Ran (state g middle) (state g after) put_sql (values_of row)
+
+  -- the statement that makes the table gave an error
+  abbrev pub IsTableRefused : Type 0
+  IsTableRefused = RanInto (state g before) (state g after) make_sql [] Refused
+
+  -- the table was made where it wasn't there, and then its rows gave no looks
+  pub record AreMadeRowsRefused : Type 0 where
+    pub middle : Held S
+    pub made : Ran (state g before) (state g middle) make_sql []
+    pub refused : AreRowsRefused (state g middle) (state g after)
+
+  -- why a connection gave no looks
+  abbrev pub AreLooksRefused : Type 0
+  AreLooksRefused = IsTableRefused ⊎ AreMadeRowsRefused
+
+  -- the table was made where it wasn't there, and then the statement that puts the row of the look gave an error
+  pub record IsRowRefused (look : Look) : Type 0 where
+    pub middle : Held S
+    pub row : LookRow
+    pub made : Ran (state g before) (state g middle) make_sql []
+    pub row_is : IsRowOf row look
+    pub refused : RanInto (state g middle) (state g after) put_sql (values_of row) Refused
+
+  -- why a connection took no look
+  abbrev pub IsLookRefused : Look → Type 0
+  IsLookRefused look = IsTableRefused ⊎ IsRowRefused look

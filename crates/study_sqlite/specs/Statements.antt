@@ -1,13 +1,16 @@
 -- The statements on the table of looks, and what they did by what a connection showed before and after.
-use Rattle.std.specs.Prelude.{◌≡◌, ℕ, List, [], ◌∷◌, Ok, Err, codes}
+use Rattle.std.specs.Prelude.{◌≡◌, ◌⊎◌, ℕ, List, [], ◌∷◌, Contains, Ok, Err, codes}
 use Rattle.std.specs.List.{AllZip}
+use Rattle.graph_io.specs.declared.keeper.Look.{Look}
 use Rattle.sqlite.specs.declared.error.Error.{Error}
 use Rattle.sqlite.specs.declared.types.Value.TheVariants.{Int, Text}
 use Rattle.sqlite.specs.Order.{Row, column}
-use Rattle.sqlite.specs.State.{State, Executes, Shown}
+use Rattle.sqlite.specs.State.{State, Executes, Shown, FailsToQuery}
 use Rattle.study_sqlite.specs.declared.fault.FileFault.{FileFault}
+use Rattle.study_sqlite.specs.declared.fault.FileFault.TheVariants.{Refused}
 use Rattle.study_sqlite.specs.declared.row.LookRow.{LookRow}
 use Rattle.study_sqlite.specs.FileFaults.{fault_of_error}
+use Rattle.study_sqlite.specs.Rows.{IsRowOf}
 
 -- the table is made where it isn't there
 abbrev pub make_sql : List ℕ
@@ -31,6 +34,10 @@ pub record IsShownAs (shown : Row) (row : LookRow) : Type 0 where
   pub stage : column shown 1 ≡ Int row.stage
   pub p : column shown 2 ≡ Text row.p
 
+-- a row of an answer shows the row of no look
+abbrev pub ShowsNoLook : Row → Type 0
+ShowsNoLook shown = (row : LookRow) (look : Look) → IsShownAs shown row → ¬ IsRowOf row look
+
 module _ (old new : State) where
   -- a statement ran
   abbrev pub Ran : List ℕ → Row → Type 0
@@ -43,3 +50,15 @@ module _ (old new : State) where
   -- the rows are those that the query showed, in its order
   abbrev pub ShowedRows : List LookRow → Type 0
   ShowedRows rows = (answer : List Row) × Shown rows_sql [] old new answer × AllZip IsShownAs answer rows
+
+  -- the query of the rows gave an error other than want of memory
+  abbrev pub IsQueryRefused : Type 0
+  IsQueryRefused = (error : Error) × (fault_of_error error ≡ Refused) × FailsToQuery rows_sql [] old new error
+
+  -- a row that the query showed is that of no look
+  abbrev pub ShowedNoLook : Type 0
+  ShowedNoLook = (answer : List Row) × (shown : Row) × Shown rows_sql [] old new answer × Contains answer shown × ShowsNoLook shown
+
+  -- why the rows gave no looks
+  abbrev pub AreRowsRefused : Type 0
+  AreRowsRefused = IsQueryRefused ⊎ ShowedNoLook

@@ -1,5 +1,5 @@
 -- Where a keeper's looks are, and what its calls did there.
-use Rattle.std.specs.Prelude.{◌≡◌, ◌++◌, List}
+use Rattle.std.specs.Prelude.{◌≡◌, ◌⊎◌, ◌++◌, List}
 use Rattle.graph_io.specs.declared.keeper.Look.{Look}
 use Rattle.sqlite.specs.Files as files
 use Rattle.sqlite.specs.Files.{over_files, file_state}
@@ -7,7 +7,7 @@ use Rattle.sqlite.specs.State.{HasCleanDisk}
 use Rattle.study_sqlite.specs.declared.keeper.SqliteKeeper.{SqliteKeeper}
 use Rattle.study_sqlite.specs.declared.storage.Storage.{Storage}
 use Rattle.study_sqlite.specs.declared.storage.Storage.TheVariants.{Unopened, Opened}
-use Rattle.study_sqlite.specs.Kept.{AreKept, IsPut}
+use Rattle.study_sqlite.specs.Kept.{AreKept, IsPut, AreLooksRefused, IsLookRefused}
 
 -- the file of a keeper
 abbrev pub storage_of : SqliteKeeper → Storage
@@ -41,3 +41,24 @@ IsAppended old new look =
     (before : _) × (after : _) × IsOpenedFrom old (Opened before) × (new ≡ Opened after)
     × (HasCleanDisk (file_state after) → HasCleanDisk (file_state before))
     × (HasCleanDisk (file_state after) → IsPut over_files before after look)
+
+-- the file wasn't open and isn't: its opening was refused, of which no clause says when it is
+abbrev pub IsNotOpened : Storage → Storage → Type 0
+IsNotOpened (Opened connection) now = ⊥
+IsNotOpened (Unopened rt path) now = now ≡ Unopened rt path
+
+-- why a file gave no looks: its opening was refused, a statement gave an error, or a row that it showed is that of no look
+abbrev pub IsLoadRefused : Storage → Storage → Type 0
+IsLoadRefused old new =
+    IsNotOpened old new
+    ⊎ ((before : _) × (after : _) × IsOpenedFrom old (Opened before) × (new ≡ Opened after)
+    × (HasCleanDisk (file_state after) → HasCleanDisk (file_state before))
+    × (HasCleanDisk (file_state after) → AreLooksRefused over_files before after))
+
+-- why a file took no look: its opening was refused, or a statement gave an error
+abbrev pub IsAppendRefused : Storage → Storage → Look → Type 0
+IsAppendRefused old new look =
+    IsNotOpened old new
+    ⊎ ((before : _) × (after : _) × IsOpenedFrom old (Opened before) × (new ≡ Opened after)
+    × (HasCleanDisk (file_state after) → HasCleanDisk (file_state before))
+    × (HasCleanDisk (file_state after) → IsLookRefused over_files before after look))

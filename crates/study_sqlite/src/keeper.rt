@@ -1,5 +1,5 @@
 //! A keeper in a file.
-ghost use Rattle.std.specs.Prelude.{◌≡◌, ◌<◌, ◌^◌, None, OnOk, OnErr};
+ghost use Rattle.std.specs.Prelude.{◌≡◌, ◌<◌, ◌^◌, None, IfErr, OnOk, OnErr};
 
 use crate::FileFault;
 use crate::storage::Storage;
@@ -56,8 +56,8 @@ impl SqliteKeeper {
 
 impl Keeper for SqliteKeeper {
     ghost use Rattle.graph_io.specs.Keeping.{Loads, IsCaused};
-    ghost use Rattle.study_sqlite.specs.Counting.{fault_count};
-    ghost use Rattle.study_sqlite.specs.Storing.{storage_of, IsLoaded, IsAppended};
+    ghost use Rattle.study_sqlite.specs.Counting.{fault_count, OnFault};
+    ghost use Rattle.study_sqlite.specs.Storing.{storage_of, IsLoaded, IsAppended, IsLoadRefused, IsAppendRefused};
 
     ghost looks = { λ k. None };
 
@@ -65,11 +65,14 @@ impl Keeper for SqliteKeeper {
 
     ghost counted = { λ k. k.in_range };
 
+    /// A fault is told only where the opening of the file was refused, a statement gave an error, or a row that the file showed is
+    /// that of no look, as long as the disk returned what was written.
     fn load(&mut self, alloc: Global, into: &mut List<Look>) -> Result<(), KeeperFault>
         ensures loaded { OnOk result (Loads None into.old into.new) }
         ensures unchanged { OnErr result (into.new ≡ into.old) }
         ensures cause { IsCaused (fault_count self.old) (fault_count self.new) result }
         ensures looks { OnOk result (IsLoaded (storage_of self.old) (storage_of self.new) into.old into.new) }
+        ensures why { IfErr result (OnFault (IsLoadRefused (storage_of self.old) (storage_of self.new))) }
     {
         match self.storage.looks(alloc) {
             Ok(looks) => into.append(looks.as_slice())?,
@@ -78,9 +81,12 @@ impl Keeper for SqliteKeeper {
         Ok(())
     }
 
+    /// A fault is told only where the opening of the file was refused or a statement gave an error, as long as the disk returned
+    /// what was written.
     fn append(&mut self, alloc: Global, look: &Look) -> Result<(), KeeperFault>
         ensures cause { IsCaused (fault_count self.old) (fault_count self.new) result }
         ensures look { OnOk result (IsAppended (storage_of self.old) (storage_of self.new) look.now) }
+        ensures why { IfErr result (OnFault (IsAppendRefused (storage_of self.old) (storage_of self.new) look.now)) }
     {
         match self.storage.keep(alloc, look) {
             Ok(()) => Ok(()),

@@ -1,6 +1,7 @@
 //! Where looks are kept: at a path until they are asked for, then over a connection.
-ghost use Rattle.std.specs.Prelude.{IfOk, OnOk};
-ghost use Rattle.study_sqlite.specs.Storing.{IsOpenedFrom, AreLoaded, IsAppended};
+ghost use Rattle.std.specs.Prelude.{IfOk, IfErr, OnOk, OnErr};
+ghost use Rattle.study_sqlite.specs.FileFaults.{OnRefusal};
+ghost use Rattle.study_sqlite.specs.Storing.{IsOpenedFrom, IsNotOpened, AreLoaded, IsAppended, IsLoadRefused, IsAppendRefused};
 
 use crate::FileFault;
 use crate::kept::{keep_in, looks_in};
@@ -18,9 +19,10 @@ pub enum Storage {
 }
 
 impl Storage {
-    /// Opens the file where it isn't open.
+    /// Opens the file where it isn't open. Where that is refused, it stays unopened.
     fn open(&mut self) -> Result<(), FileFault>
         ensures opened { OnOk result (IsOpenedFrom self.old self.new) }
+        ensures why { OnErr result (IsNotOpened self.old self.new) }
     {
         if let Storage::Unopened(rt, path) = self {
             let connection = table::open(rt, path.as_str())?;
@@ -29,9 +31,11 @@ impl Storage {
         Ok(())
     }
 
-    /// The looks in the file, which is opened where it isn't open.
+    /// The looks in the file, which is opened where it isn't open. They are refused only where the opening is, where a statement
+    /// gives an error, or for a row that is that of no look.
     pub fn looks(&mut self, alloc: Global) -> Result<List<Look>, FileFault>
         ensures loaded { IfOk result (AreLoaded self.old self.new) }
+        ensures why { IfErr result (OnRefusal (IsLoadRefused self.old self.new)) }
     {
         self.open()?;
         match self {
@@ -40,9 +44,11 @@ impl Storage {
         }
     }
 
-    /// Puts the row of a look into the file, which is opened where it isn't open.
+    /// Puts the row of a look into the file, which is opened where it isn't open. It is refused only where the opening is, or where
+    /// a statement gives an error.
     pub fn keep(&mut self, alloc: Global, look: &Look) -> Result<(), FileFault>
         ensures appended { OnOk result (IsAppended self.old self.new look.now) }
+        ensures why { IfErr result (OnRefusal (IsAppendRefused self.old self.new look.now)) }
     {
         self.open()?;
         match self {

@@ -1,11 +1,12 @@
 //! The table of looks in a file: its statements, and what each did by what the connection showed before and after.
-ghost use Rattle.std.specs.Prelude.{[], ◌∷◌, IfOk, IfErr, OnOk, IsUtf8};
+ghost use Rattle.std.specs.Prelude.{[], ◌∷◌, Contains, IfOk, IfErr, OnOk, IsUtf8};
 ghost use Rattle.std.specs.List.{AllZip};
 ghost use Rattle.sqlite.specs.Files.{file_state, IsOpened};
 ghost use Rattle.sqlite.specs.Held.{state};
 ghost use Rattle.sqlite.specs.State.{HasCleanDisk, Executes};
 ghost use Rattle.sqlite.specs.declared.types.Value.TheVariants.{Int, Text as SqlText};
-ghost use Rattle.study_sqlite.specs.Statements.{make_sql, put_sql, values_of, IsShownAs, Ran, RanInto, ShowedRows};
+ghost use Rattle.study_sqlite.specs.FileFaults.{OnRefusal};
+ghost use Rattle.study_sqlite.specs.Statements.{make_sql, put_sql, values_of, IsShownAs, ShowsNoLook, Ran, RanInto, ShowedRows, AreRowsRefused};
 
 use crate::{FileFault, LookRow};
 use field_core::{List, Text};
@@ -38,21 +39,25 @@ pub fn make<S: Alter>(connection: &mut Connection<S>) -> Result<(), FileFault>
     Ok(())
 }
 
-/// All rows, in the order in which they were put there.
+/// All rows, in the order in which they were put there. They are refused only where the query gives an error, or for a row that is
+/// that of no look.
 pub fn rows<S: Alter>(
     alloc: Global,
     connection: &mut Connection<S>,
 ) -> Result<List<LookRow>, FileFault>
     ensures clean { HasCleanDisk (state S.Store connection.new) → HasCleanDisk (state S.Store connection.old) }
     ensures shown { HasCleanDisk (state S.Store connection.new) → IfOk result (ShowedRows (state S.Store connection.old) (state S.Store connection.new)) }
+    ensures why { HasCleanDisk (state S.Store connection.new)
+        → IfErr result (OnRefusal (AreRowsRefused (state S.Store connection.old) (state S.Store connection.new))) }
 {
     let found = connection.query_all("SELECT hypothesis, stage, p FROM looks ORDER BY place", &[])?;
     look_rows(alloc, found.as_slice())
 }
 
-/// The values of each row of an answer.
+/// The values of each row of an answer. They are refused only for a row that is that of no look.
 fn look_rows(alloc: Global, answer: &[Row]) -> Result<List<LookRow>, FileFault>
     ensures shown { IfOk result (AllZip IsShownAs answer.now) }
+    ensures why { IfErr result (OnRefusal ((shown : _) × Contains answer.now shown × ShowsNoLook shown)) }
 {
     let mut rows = List::new(alloc);
     for at in 0..answer.len() {
@@ -61,9 +66,10 @@ fn look_rows(alloc: Global, answer: &[Row]) -> Result<List<LookRow>, FileFault>
     Ok(rows)
 }
 
-/// The values of a row.
+/// The values of a row, which is refused only where it is that of no look.
 fn look_row(alloc: Global, row: &Row) -> Result<LookRow, FileFault>
     ensures shown { IfOk result (IsShownAs row.now) }
+    ensures why { IfErr result (OnRefusal (ShowsNoLook row.now)) }
 {
     let hypothesis: i64 = row.get(0)?;
     let stage: i64 = row.get(1)?;

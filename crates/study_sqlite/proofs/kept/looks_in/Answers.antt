@@ -1,4 +1,6 @@
-use Rattle.std.proofs.Common.{rules}
+use Rattle.std.proofs.Common.{rules, inr}
+use Rattle.study_sqlite.specs.Kept.{AreLooksRefused}
+use Rattle.study_sqlite.proofs.Refusals.{passed_on, rows_refused, shown_bad}
 use Rattle.study_sqlite.proofs.kept.looks_in.Goals as goal
 
 pub returns-clause-kept : goal.returns-clause-kept
@@ -11,3 +13,21 @@ returns-clause-kept g c clean =
       shown = c.in_ok-rows.ensures.shown clean;
       read = search rules;
     }
+
+pub returns-in_err-rows-clause-why : goal.returns-in_err-rows-clause-why
+returns-in_err-rows-clause-why g c clean =
+    passed_on c.from_residual-in_err-rows.result c.in_err-rows.field-0.0 _
+    (AreLooksRefused g.S.Store c.args.connection.now c.rows.new.connection)
+    c.from_residual-in_err-rows.ensures.1 (c.in_err-rows.ensures.why clean)
+    (λ refused. inr (record { middle = c.make.new.connection; made = c.in_ok-make.ensures.made (c.rows.ensures.clean clean); refused = refused }))
+
+pub returns-in_err-read_rows-clause-why : goal.returns-in_err-read_rows-clause-why
+returns-in_err-read_rows-clause-why g c clean =
+    let shown = c.in_ok-rows.ensures.shown clean in
+    let early = c.rows.ensures.clean clean in
+    rows_refused c.from_residual-in_err-read_rows.result c.in_err-read_rows.field-0.0 c.as_slice.result.now
+    (AreLooksRefused g.S.Store c.args.connection.now c.rows.new.connection)
+    c.from_residual-in_err-read_rows.ensures.1 c.in_err-read_rows.ensures.fault
+    (λ place bad.
+    let row = shown_bad shown.0 c.as_slice.result.now place (search rules) bad in
+    inr (record { middle = c.make.new.connection; made = c.in_ok-make.ensures.made early; refused = inr (shown.0, row.0, shown.1, row.1, row.2) }))

@@ -1,13 +1,18 @@
-use Rattle.std.proofs.Common.{refl, subst}
+use Rattle.std.proofs.Common.{refl, subst, inr}
 use Rattle.study_sqlite.specs.declared.storage.Storage.TheVariants.{Opened}
-use Rattle.study_sqlite.specs.Storing.{IsOpenedFrom, IsAppended}
+use Rattle.study_sqlite.specs.Storing.{IsOpenedFrom, IsAppended, IsAppendRefused}
 use Rattle.study_sqlite.proofs.Faults.{goes_well_under}
+use Rattle.study_sqlite.proofs.Refusals.{refused_under}
 use Rattle.study_sqlite.proofs.storage.Storage.keep.Goals as goal
 
-pub returns : goal.returns
-returns c =
+pub returns-clause-appended : goal.returns-clause-appended
+returns-clause-appended c =
     let opened = subst (IsOpenedFrom c.args.self.now) c.in-Opened.is c.in_ok-open.ensures.opened in
-    record {
-      appended = goes_well_under c.keep_in.result _ _ (IsAppended c.args.self.now (Opened c.keep_in.new.connection) c.args.look.now) c.keep_in.ensures.put
-          (λ put. (c.in-Opened.connection, c.keep_in.new.connection, opened, refl, c.keep_in.ensures.clean, put));
-    }
+    goes_well_under c.keep_in.result _ _ (IsAppended c.args.self.now (Opened c.keep_in.new.connection) c.args.look.now) c.keep_in.ensures.put
+    (λ put. (c.in-Opened.connection, c.keep_in.new.connection, opened, refl, c.keep_in.ensures.clean, put))
+
+pub returns-clause-why : goal.returns-clause-why
+returns-clause-why c =
+    let opened = subst (IsOpenedFrom c.args.self.now) c.in-Opened.is c.in_ok-open.ensures.opened in
+    refused_under c.keep_in.result _ _ (IsAppendRefused c.args.self.now (Opened c.keep_in.new.connection) c.args.look.now) c.keep_in.ensures.why
+    (λ why. inr (c.in-Opened.connection, c.keep_in.new.connection, opened, refl, c.keep_in.ensures.clean, why))

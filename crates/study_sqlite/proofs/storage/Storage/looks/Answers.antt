@@ -1,13 +1,18 @@
-use Rattle.std.proofs.Common.{refl, subst}
+use Rattle.std.proofs.Common.{refl, subst, inr}
 use Rattle.study_sqlite.specs.declared.storage.Storage.TheVariants.{Opened}
-use Rattle.study_sqlite.specs.Storing.{IsOpenedFrom, AreLoaded}
+use Rattle.study_sqlite.specs.Storing.{IsOpenedFrom, AreLoaded, IsLoadRefused}
 use Rattle.study_sqlite.proofs.Faults.{gives_under}
+use Rattle.study_sqlite.proofs.Refusals.{refused_under}
 use Rattle.study_sqlite.proofs.storage.Storage.looks.Goals as goal
 
-pub returns : goal.returns
-returns c =
+pub returns-clause-loaded : goal.returns-clause-loaded
+returns-clause-loaded c =
     let opened = subst (IsOpenedFrom c.args.self.now) c.in-Opened.is c.in_ok-open.ensures.opened in
-    record {
-      loaded = gives_under c.looks_in.result _ _ (AreLoaded c.args.self.now (Opened c.looks_in.new.connection)) c.looks_in.ensures.kept
-          (λ looks kept. (c.in-Opened.connection, c.looks_in.new.connection, opened, refl, c.looks_in.ensures.clean, kept));
-    }
+    gives_under c.looks_in.result _ _ (AreLoaded c.args.self.now (Opened c.looks_in.new.connection)) c.looks_in.ensures.kept
+    (λ looks kept. (c.in-Opened.connection, c.looks_in.new.connection, opened, refl, c.looks_in.ensures.clean, kept))
+
+pub returns-clause-why : goal.returns-clause-why
+returns-clause-why c =
+    let opened = subst (IsOpenedFrom c.args.self.now) c.in-Opened.is c.in_ok-open.ensures.opened in
+    refused_under c.looks_in.result _ _ (IsLoadRefused c.args.self.now (Opened c.looks_in.new.connection)) c.looks_in.ensures.why
+    (λ why. inr (c.in-Opened.connection, c.looks_in.new.connection, opened, refl, c.looks_in.ensures.clean, why))

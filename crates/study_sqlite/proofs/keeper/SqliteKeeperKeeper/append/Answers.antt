@@ -1,0 +1,6 @@
+use Rattle.std.proofs.Common.{rules}
+use Rattle.study_sqlite.proofs.Refusals.{append_counted}
+use Rattle.study_sqlite.proofs.keeper.SqliteKeeperKeeper.append.Goals as goal
+
+pub returns-in-Err-clause-why : goal.returns-in-Err-clause-why
+returns-in-Err-clause-why c = search (rules, append_counted)
