@@ -6,7 +6,8 @@
 //! - `Register::add`: `taken`, `kept`, `fault`, and what stays by a refusal (`refused`, `unchanged`, `not_asked`, `spent`). The
 //!   keeper is asked only once the study is settled.
 //! - Laws in `src/laws.rt`: the rejections are those of the staged closed test on all looks that were taken, in whatever order
-//!   they came; the same looks give the same rejections again; a refusal comes exactly where it is told, for one reason.
+//!   they came; the same looks give the same rejections again; a refusal comes exactly where it is told, for one reason; each
+//!   opening and each look has an end.
 #![tactic(auto)]
 
 mod fault;
