@@ -1,3 +1,4 @@
+pub mod EachEnd
 pub mod Following
 pub mod OneEnd
 pub mod RegisterSteps

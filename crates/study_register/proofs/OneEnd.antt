@@ -116,4 +116,6 @@ looks_have_one_end c s l = record {
   not_refused = λ t f h k. fault_not_may c s (arrival_of l) f h.1.arrival.may k;
   not_broken = λ t w h k. look_not_wide c s t (arrival_of l) h.0 w h.1 k;
   not_both = λ f w h k. fault_not_may c s (arrival_of l) f k.arrival.may h;
+  taken_below = λ t h. h.1.arrival.may.below;
+  broken_below = λ w h. h.arrival.may.below;
 }

@@ -51,11 +51,11 @@ start_settled c k h = none h.passes.at.arrived
     none : Contains [] h.passes.arrival → ⊥
     none (i, b, e) = absurd (omega arith)
 
-opened_study : (c : Content) → IsValidContent c → IsStudyOf c start
+pub opened_study : (c : Content) → IsValidContent c → IsStudyOf c start
 opened_study c V = record { valid = V; values = tt; rejected = tt }
 
 module _ (c : Content) where
-  taken_study : (old new : StudyState) (l : Look) → IsStudyOf c old → Takes c old l new → IsStudyOf c new
+  pub taken_study : (old new : StudyState) (l : Look) → IsStudyOf c old → Takes c old l new → IsStudyOf c new
   taken_study old new l S T =
       calls_leave c old new (record { call = arrive (arrival_of l); accepted = true } ∷ record { call = settle; accepted = true } ∷ []) S
       (T.1.arrived, T.1.arrival, (new, T.1.settles, refl))
@@ -97,7 +97,7 @@ module _ (c : Content) where
   -- ---- looks since the opening
 
   module _ (V : IsValidContent c) (looks : List Look) (s : StudyState) (T : AreTaken c looks s) where
-    taken_is_study : IsStudyOf c s
+    pub taken_is_study : IsStudyOf c s
     taken_is_study = follows_study looks start s (opened_study c V) T.follows
 
     taken_is_settled : IsSettled c s

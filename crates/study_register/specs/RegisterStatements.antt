@@ -1,5 +1,5 @@
 -- The laws of registers, over every list of looks, as contracts name them.
-use Rattle.std.specs.Prelude.{◌≡◌, ◌++◌, ◌↔◌, ℕ, List, [], ◌∷◌, Err}
+use Rattle.std.specs.Prelude.{◌≡◌, ◌<◌, ◌⊎◌, ◌++◌, ◌↔◌, ℕ, List, [], ◌∷◌, length, Err}
 use Rattle.std.specs.List.{Contains}
 use Rattle.field_core.specs.declared.place.WideAt.{WideAt}
 use Rattle.graph_io.specs.declared.keeper.Look.{Look}
@@ -14,7 +14,7 @@ use Rattle.staged_levels.specs.StudyAnswers.{IsArriveFault}
 use Rattle.staged_levels.specs.Looks.{IsWideLook}
 use Rattle.study_register.specs.declared.fault.RegisterFault.{RegisterFault}
 use Rattle.study_register.specs.Looking.{arrival_of, arrivals_of, Takes, AreTaken}
-use Rattle.study_register.specs.RegisterFaults.{IsStopped}
+use Rattle.study_register.specs.RegisterFaults.{IsBadLook, IsStopped}
 use Rattle.study_register.specs.Replying.{Replied, looks_taken, AreReplies}
 
 -- One look more.
@@ -62,7 +62,14 @@ pub record IsNotOpened (c : Content) (w : WideAt) : Type 0 where
 abbrev pub WideOpeningsTakeNothing : Type 0
 WideOpeningsTakeNothing = (c : Content) (w : WideAt) → case_opening c ≡ Err w → IsNotOpened c w
 
--- A look is taken, refused for one reason, or breaks off at one place, and no two of the three.
+-- With whatever looks a valid case is opened: they are taken, or one of them is the first that can't be, or the opening of the case is undefined.
+abbrev pub EachOpeningEnds : Type 0
+EachOpeningEnds =
+    (c : Content) (looks : List Look) → IsValidContent c
+    → ((s : StudyState) × AreTaken c looks s) ⊎ (((why : RegisterFault) × IsStopped c looks why) ⊎ ((w : WideAt) × (case_opening c ≡ Err w)))
+
+-- A look is taken, refused for one reason, or breaks off at one place, and no two of the three. Only a look of a hypothesis of the case is taken or
+-- breaks off.
 pub record HasOneEnd (c : Content) (s : StudyState) (l : Look) : Type 0 where
   pub state : (t u : StudyState) → Takes c s l t → Takes c s l u → t ≡ u
   pub refusal : (f g : StepFault) → IsArriveFault c s (arrival_of l) f → IsArriveFault c s (arrival_of l) g → f ≡ g
@@ -70,6 +77,15 @@ pub record HasOneEnd (c : Content) (s : StudyState) (l : Look) : Type 0 where
   pub not_refused : (t : StudyState) (f : StepFault) → Takes c s l t → ¬ IsArriveFault c s (arrival_of l) f
   pub not_broken : (t : StudyState) (w : WideAt) → Takes c s l t → ¬ IsWideLook c s (arrival_of l) w
   pub not_both : (f : StepFault) (w : WideAt) → IsArriveFault c s (arrival_of l) f → ¬ IsWideLook c s (arrival_of l) w
+  pub taken_below : (t : StudyState) → Takes c s l t → l.hypothesis < length c.names
+  pub broken_below : (w : WideAt) → IsWideLook c s (arrival_of l) w → l.hypothesis < length c.names
 
 abbrev pub LooksHaveOneEnd : Type 0
 LooksHaveOneEnd = (c : Content) (s : StudyState) (l : Look) → HasOneEnd c s l
+
+-- Each look has an end: behind looks that were taken it is taken, or it can't arrive, since it names no hypothesis of the case or its arrival is
+-- refused, or it breaks off at a place.
+abbrev pub EachLookEnds : Type 0
+EachLookEnds =
+    (c : Content) (looks : List Look) (s : StudyState) (l : Look) → IsValidContent c → AreTaken c looks s
+    → ((t : StudyState) × Takes c s l t) ⊎ (IsBadLook c s l ⊎ ((w : WideAt) × IsWideLook c s (arrival_of l) w))

@@ -1,6 +1,6 @@
 //! Laws of registers. Each function states laws that hold of all cases, and does nothing.
 
-ghost use Rattle.study_register.specs.RegisterStatements.{OneMoreIsTaken, RepliesAreTaken, TakenLooksDecide, OrdersOfLooksAgree, ReopeningsAgree, TakenLooksAreNotStopped, StopsAreUnique, WideOpeningsTakeNothing, LooksHaveOneEnd};
+ghost use Rattle.study_register.specs.RegisterStatements.{OneMoreIsTaken, RepliesAreTaken, TakenLooksDecide, OrdersOfLooksAgree, ReopeningsAgree, TakenLooksAreNotStopped, StopsAreUnique, WideOpeningsTakeNothing, EachOpeningEnds, LooksHaveOneEnd, EachLookEnds};
 
 /// By whatever looks are asked for, each of which is taken or refused, the rejections are exactly those of the staged closed test on
 /// all looks that were taken, in whatever order they came. The same looks in the same order give the same rejections again.
@@ -12,15 +12,18 @@ pub fn registers_decide()
     ensures again { ReopeningsAgree }
 {}
 
-/// The opening of a register has at most one end: its looks are taken, or one of them is the first that can't be, for one reason,
-/// or the opening of the case is undefined.
+/// The opening of a register has one end: its looks are taken, or one of them is the first that can't be, for one reason, or the
+/// opening of the case is undefined. Of a valid case one of the three always holds.
 pub fn openings_have_one_end()
     ensures taken { TakenLooksAreNotStopped }
     ensures stopped { StopsAreUnique }
     ensures opening { WideOpeningsTakeNothing }
+    ensures each { EachOpeningEnds }
 {}
 
-/// A look is taken, refused for one reason, or breaks off at one place, and no two of the three.
+/// A look is taken, refused for one reason, or breaks off at one place, and no two of the three. Behind looks that were taken at
+/// a valid case one of the three always holds, where a look that names no hypothesis is one that is refused.
 pub fn looks_have_one_end()
-    ensures { LooksHaveOneEnd }
+    ensures one { LooksHaveOneEnd }
+    ensures each { EachLookEnds }
 {}

@@ -8,7 +8,8 @@
 //!   it leaves of the study (`left`); want of memory is told only where the keeper had no fault (`memory`). The keeper is
 //!   asked only once the study is settled.
 //! - Laws in `src/laws.rt`: the rejections are those of the staged closed test on all looks that were taken, in whatever order
-//!   they came; the same looks give the same rejections again; a refusal comes exactly where it is told, for one reason.
+//!   they came; the same looks give the same rejections again; a refusal comes exactly where it is told, for one reason; each
+//!   opening and each look has an end.
 #![tactic(auto)]
 
 mod fault;
