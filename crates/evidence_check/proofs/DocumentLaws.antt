@@ -1,22 +1,29 @@
 -- Texts say one evidence, or have one first fault.
-use Rattle.std.proofs.Common.{◌≡◌, ◌⊎◌, refl, subst, inl, inr, ℕ, List, Result, Ok, Err}
+use Rattle.std.proofs.Common.{◌≡◌, ◌⊎◌, refl, ap, ◌∙◌, subst, inl, inr, true, false, ℕ, List, Result, Ok, Err}
 use Rattle.text_lines.specs.Lines.{rows_of, end_of}
-use Rattle.case_model.specs.Content.{Content}
-use Rattle.case_numbers.specs.Numbers.{Numbers, numbers_of}
+use Rattle.field_core.proofs.Live.{true_or_false}
+use Rattle.fraction.specs.Plain.{fraction_parts}
+use Rattle.eps_quotient.specs.View.{quotient_parts}
+use Rattle.case_model.specs.Content.{Content, is_plain}
+use Rattle.case_numbers.specs.Numbers.{Numbers, in_fractions, in_quotients, numbers_of}
 use Rattle.evidence_check.specs.declared.evidence.Evidence.{Evidence}
+use Rattle.evidence_check.specs.declared.evidence.Evidence.TheVariants.{Plain, Eps}
 use Rattle.evidence_check.specs.declared.fault.ProofKind.{ProofKind}
 use Rattle.evidence_check.specs.declared.fault.ProofText.{ProofText}
 use Rattle.evidence_check.specs.declared.fault.ProofText.TheVariants.{Line, NoMemory}
 use Rattle.evidence_check.specs.EvidenceView.{FitsCase, IsEvidenceFor, version_of, steps_of, keeps_of}
-use Rattle.evidence_check.specs.Languages.{FaultAt, reading, words_in, IsDocument}
+use Rattle.evidence_check.specs.Languages.{FaultAt, reading}
 use Rattle.evidence_check.specs.Documents.{Form, evidence_forms, evidence_language}
 use Rattle.evidence_check.specs.NumberReading.{case_frame}
 use Rattle.evidence_check.specs.ReadView.{Stops, SayEvidence, HaveFault}
 use Rattle.evidence_check.specs.DocumentStatements.{start, evidence_reading, SaysEvidence, HasFault, IsProofFault, TextsSayOneEvidence, TextsDontSayAndFail}
 use Rattle.evidence_check.specs.DocumentStatements.{TextsHaveOneFault, TextsSayOrFail}
+use Rattle.evidence_check.proofs.CheckAnswers.{fractions_of, quotients_of}
 use Rattle.evidence_check.proofs.LanguageLaws.{read_says, document_reads, read_faults, bad_reads, early_reads}
 use Rattle.evidence_check.proofs.NumberFound.{frame_is}
 use Rattle.evidence_check.proofs.OneEvidence.{one_evidence}
+use Rattle.evidence_check.proofs.SaidEvidence.{evidence_said}
+use Rattle.evidence_check.proofs.TypedNumbers.{fraction_found, quotient_found}
 
 module _ (c : Content) (bytes : List ℕ) where
   says_reads : (v : Evidence) → SaysEvidence c bytes v
@@ -67,12 +74,39 @@ said_or_failed c bytes v fault d h = not_both _ _ _ (says_reads c bytes v d) (fa
 pub one_fault : TextsHaveOneFault
 one_fault c bytes fault other h k = same_err fault other _ (fault_reads c bytes fault h) (fault_reads c bytes other k)
 
+-- forms of a plain case are those of evidence in fractions, and else in quotients
+module _ (c : Content) (bytes : List ℕ) (fs : List Form) where
+  said_plain : is_plain c ≡ true → numbers_of c ≡ in_fractions → evidence_reading (case_frame (numbers_of c) c) bytes ≡ Ok fs
+      → (v : Evidence) × IsEvidenceFor c v × SaysEvidence c bytes v
+  said_plain p n e =
+      let E = evidence_said fraction_parts in_fractions fraction_found c (end_of bytes) (rows_of bytes) fs
+      (subst (λ n. evidence_reading (case_frame n c) bytes ≡ Ok fs) n e) in (
+        Plain E.evidence,
+        record { form = p; version = E.fits.version; size = E.fits.size; none = E.fits.none; all = E.fits.all },
+        read_says (evidence_language (case_frame (numbers_of c) c)) start (rows_of bytes) (end_of bytes) _ (e ∙ ap Ok E.forms_are),
+      )
+
+  said_quotients : is_plain c ≡ false → numbers_of c ≡ in_quotients → evidence_reading (case_frame (numbers_of c) c) bytes ≡ Ok fs
+      → (v : Evidence) × IsEvidenceFor c v × SaysEvidence c bytes v
+  said_quotients p n e =
+      let E = evidence_said quotient_parts in_quotients quotient_found c (end_of bytes) (rows_of bytes) fs
+      (subst (λ n. evidence_reading (case_frame n c) bytes ≡ Ok fs) n e) in (
+        Eps E.evidence,
+        record { form = p; version = E.fits.version; size = E.fits.size; none = E.fits.none; all = E.fits.all },
+        read_says (evidence_language (case_frame (numbers_of c) c)) start (rows_of bytes) (end_of bytes) _ (e ∙ ap Ok E.forms_are),
+      )
+
+  said : evidence_reading (case_frame (numbers_of c) c) bytes ≡ Ok fs → (v : Evidence) × IsEvidenceFor c v × SaysEvidence c bytes v
+  said e = elim (true_or_false (is_plain c)) [
+    | inl p ↦ said_plain p (fractions_of c p) e
+    | inr p ↦ said_quotients p (quotients_of c p) e
+  ]
+
 pub says_or_fails : TextsSayOrFail
 says_or_fails c bytes = by (evidence_reading (case_frame (numbers_of c) c) bytes) refl
   where
     by : (r : Result (List Form) (FaultAt ProofKind)) → evidence_reading (case_frame (numbers_of c) c) bytes ≡ r
-        → ((fs : List Form) × IsDocument (evidence_language (case_frame (numbers_of c) c)) start (words_in (rows_of bytes)) fs)
-        ⊎ ((fault : FaultAt ProofKind) × HasFault c bytes fault)
-    by (Ok fs) e = inl (fs, read_says (evidence_language (case_frame (numbers_of c) c)) start (rows_of bytes) (end_of bytes) fs e)
+        → ((v : Evidence) × IsEvidenceFor c v × SaysEvidence c bytes v) ⊎ ((fault : FaultAt ProofKind) × HasFault c bytes fault)
+    by (Ok fs) e = inl (said c bytes fs e)
     by (Err fault) e =
         inr (fault, read_faults (evidence_language (case_frame (numbers_of c) c)) start (rows_of bytes) (end_of bytes) fault e)

@@ -35,6 +35,8 @@ pub mod ReadWhole
 pub mod NumberFound
 pub mod LanguageLaws
 pub mod OneEvidence
+pub mod TypedNumbers
+pub mod SaidEvidence
 pub mod DocumentLaws
 pub mod WrittenLines
 pub mod PrintedNumbers

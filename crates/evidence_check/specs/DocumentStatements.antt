@@ -84,12 +84,11 @@ TextsDontSayAndFail = (c : Content) (bytes : List ℕ) (v : Evidence) (fault : F
 abbrev pub TextsHaveOneFault : Type 0
 TextsHaveOneFault = (c : Content) (bytes : List ℕ) (fault other : FaultAt ProofKind) → HasFault c bytes fault → HasFault c bytes other → fault ≡ other
 
--- A text has a reading: its lines say forms, one after the other, up to an end; or it has a first fault.
+-- A text has a reading: it says some evidence of the case, or it has a first fault.
 abbrev pub TextsSayOrFail : Type 0
 TextsSayOrFail =
     (c : Content) (bytes : List ℕ)
-    → ((fs : List Form) × IsDocument (evidence_language (case_frame (numbers_of c) c)) start (words_in (rows_of bytes)) fs)
-    ⊎ ((fault : FaultAt ProofKind) × HasFault c bytes fault)
+    → ((v : Evidence) × IsEvidenceFor c v × SaysEvidence c bytes v) ⊎ ((fault : FaultAt ProofKind) × HasFault c bytes fault)
 
 -- ---- the lines of evidence
 

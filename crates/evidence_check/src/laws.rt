@@ -59,8 +59,7 @@ pub fn lines_say_one_evidence()
     ensures { LinesSayOneEvidence }
 {}
 
-/// A text says at most one evidence of a case, has at most one first fault, and never both. Its lines say forms up to an end,
-/// or it has a first fault.
+/// A text says some evidence of a case or has a first fault, at most one of each, and never both.
 pub fn texts_have_one_reading()
     ensures evidence { TextsSayOneEvidence }
     ensures either { TextsDontSayAndFail }
