@@ -29,13 +29,13 @@ use Rattle.entangled.proofs.CaseLevels.{ready, same, size_is}
 use Rattle.entangled.proofs.SameEntangled.{AreSame}
 use Rattle.evidence_check.specs.Evidence.{StepValues, KeepValues, at_place, listed, AreGoodSteps, IsGoodKeep, MeetsConditions, KeepsOthers}
 use Rattle.evidence_check.specs.EvidenceParts.{FitsSize, step_values, keep_values}
-use Rattle.evidence_check.specs.CheckStatements.{evidence_values}
+use Rattle.evidence_check.specs.CheckStatements.{AreStoredSteps, evidence_values}
 use Rattle.evidence_check.proofs.Places.{place_below, place_listed}
 use Rattle.evidence.specs.FlowRun.{WrittenEvidence, at_step, evidence_run}
 use Rattle.evidence.specs.FlowStatements.{IsOpened}
 use Rattle.evidence.specs.CaseFlows.{flows_in}
 use Rattle.evidence.proofs.RunEvidence.{at_step_ok}
-use Rattle.evidence.proofs.NetEvidence.{net_evidence, net_steps, net_fits}
+use Rattle.evidence.proofs.NetEvidence.{net_evidence, net_steps, net_fits, net_stored}
 use Rattle.evidence.proofs.SameGraphs.{turned, legal_same, order_same, step_same, keep_same}
 
 -- ---- an opened bundle
@@ -148,6 +148,13 @@ module _ (c : Content) (V : IsValidContent c) (p : ℕ → Number) (level : Numb
         subst (λ m. FitsSize m (length c.components) v.steps v.keeps) B.size (subst (λ k. FitsSize (size (graph_in n) b) k v.steps v.keeps) B.same.components
         (net_fits (kind_of n) (IsStoredIn n) (exact_in n) (graph_in n) (IsProperIn n) (removal_in n) (removal_exact n) b B.opened p level js order_there v h))
 
+    evidence_stored : (v : WrittenEvidence) → evidence_run (kind_of n) (graph_in n) (removal_in n) b js ≡ Ok v
+        → AreStoredSteps (kind_of n) (IsStoredIn n) (length c.names) v.steps v.keeps
+    evidence_stored v h =
+        subst (λ m. AreStoredSteps (kind_of n) (IsStoredIn n) m v.steps v.keeps) B.size
+        (net_stored (kind_of n) (IsStoredIn n) (exact_in n) (graph_in n) (IsProperIn n) (removal_in n)
+        (removal_exact n) b B.opened p level js order_there v h)
+
   pub flows_fit : (n : Numbers) → CanRunIn n c → (v : WrittenEvidence) → flows_in n c js ≡ Ok v
       → FitsSize (length c.names) (length c.components) v.steps v.keeps
   unfolding flows_in
@@ -169,3 +176,10 @@ module _ (c : Content) (V : IsValidContent c) (p : ℕ → Number) (level : Numb
   flows_meet n P complete v h =
       let a = bind_ok (at_step 0 (opening_in n c)) _ v h in
       evidence_meets n P a.0 (case_opening_is n c a.0 V P (at_step_ok 0 (opening_in n c) a.0 a.1.0)) complete v a.1.1
+
+  pub flows_stored : (n : Numbers) → CanRunIn n c → (v : WrittenEvidence) → flows_in n c js ≡ Ok v
+      → AreStoredSteps (kind_of n) (IsStoredIn n) (length c.names) v.steps v.keeps
+  unfolding flows_in
+  flows_stored n P v h =
+      let a = bind_ok (at_step 0 (opening_in n c)) _ v h in
+      evidence_stored n P a.0 (case_opening_is n c a.0 V P (at_step_ok 0 (opening_in n c) a.0 a.1.0)) v a.1.1

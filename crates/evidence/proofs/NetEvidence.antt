@@ -19,13 +19,13 @@ use Rattle.entangled.specs.Bundled.{Bundled, size}
 use Rattle.entangled.specs.BundleRun.{by_value}
 use Rattle.evidence_check.specs.Evidence.{others, listed, kept, AreGoodSteps, IsGoodKeep, MeetsConditions, KeepsOthers}
 use Rattle.std.proofs.lemmas.List.{length-map}
-use Rattle.evidence_check.specs.EvidenceParts.{StepParts, AreFull, ExitsFit, FitsSize, step_values, keep_values}
-use Rattle.evidence_check.specs.CheckStatements.{evidence_values}
-use Rattle.evidence.specs.FlowTables.{Tables}
+use Rattle.evidence_check.specs.EvidenceParts.{StepParts, AreFull, ExitsFit, FitsSize, part_at, step_values, keep_values}
+use Rattle.evidence_check.specs.CheckStatements.{AreStoredSteps, evidence_values}
+use Rattle.evidence.specs.FlowTables.{Tables, row}
 use Rattle.evidence.specs.FlowRun.{FlowRun, WrittenEvidence, has_some, flow_run, opening_state, kept_exits, evidence_run}
 use Rattle.evidence.specs.FlowStatements.{IsOpened}
 use Rattle.evidence.proofs.Lists.{others_each, all_mapped, some_has}
-use Rattle.evidence.proofs.RunEvidence.{Gives, whole_run, good_keep, order_of}
+use Rattle.evidence.proofs.RunEvidence.{Gives, picked_stored, whole_run, good_keep, order_of}
 
 kept_names : (K : Kind) (ts : List Tables) (js ks : List ℕ) → kept (map (keep_values K) (map (kept_exits K ts js) ks)) ≡ ks
 unfolding kept_exits
@@ -103,6 +103,24 @@ module _ {S : Type 0} (K : Kind) (IsStored : Parts → Type 0) (X : IsExact K Is
       keeps_others : KeepsOthers (size graph b) (evidence_values K r.steps (map (kept_exits K r.tables js) (others (size graph b) js)))
       keeps_others = kept_names K r.tables js (others (size graph b) js) ∙ ap (others (size graph b)) (sym gives.lists)
 
+    -- the numbers of a keep are stored
+    keep_stored : (k : ℕ) → k < size graph b → set_of js k ≡ false → has_some (others (size graph b) js) ≡ true
+        → (c e : ℕ) → IsStored (part_at K (kept_exits K r.tables js k).exits c e)
+    unfolding kept_exits
+    keep_stored k below f some = picked_stored K IsStored X (λ t. row t.exits k) r.tables js
+        (λ c i q. ((gives.exits some c (subst (λ n. c < n) gives.count q)).into k
+        (record { below = below; member = not_listed_left js whole k refl f })).stored i)
+
+    keeps_stored : All (λ x. (c e : ℕ) → IsStored (part_at K x.exits c e)) (map (kept_exits K r.tables js) (others (size graph b) js))
+    keeps_stored = elim (true_or_false (has_some (others (size graph b) js))) [
+      | inr none ↦ subst (λ ks. All (λ x. (c e : ℕ) → IsStored (part_at K x.exits c e)) (map (kept_exits K r.tables js) ks))
+          (sym (some_has (others (size graph b) js) none)) (λ i d q. absurd (omega arith))
+      | inl some ↦
+          all_mapped (kept_exits K r.tables js) (λ x. (c e : ℕ) → IsStored (part_at K x.exits c e)) (others (size graph b) js)
+          (others_each (size graph b) js (λ k. (c e : ℕ) → IsStored (part_at K (kept_exits K r.tables js k).exits c e))
+          (λ k below f. keep_stored k below f some))
+    ]
+
     -- the steps and keeps fit the nets
     fits : FitsSize (size graph b) (length b.states) r.steps (map (kept_exits K r.tables js) (others (size graph b) js))
     unfolding by_value
@@ -114,6 +132,14 @@ module _ {S : Type 0} (K : Kind) (IsStored : Parts → Type 0) (X : IsExact K Is
           (λ k below f. subst (λ i. i < size graph b) (sym (kept_of K r.tables js k)) below));
       exits = subst (λ n. ExitsFit (length b.states) n (map (kept_exits K r.tables js) (others (size graph b) js)))
           (sym (steps_length K r.steps js gives.lists)) (kept_fit K (length b.states) r.tables js (others (size graph b) js) gives.count);
+    }
+
+    are_stored : AreStoredSteps K IsStored (size graph b) r.steps (map (kept_exits K r.tables js) (others (size graph b) js))
+    are_stored = record {
+      steps_below = fits.steps_below;
+      steps_stored = gives.stored;
+      keeps_below = fits.keeps_below;
+      keeps_stored = keeps_stored;
     }
 
   -- the parts of a run
@@ -145,3 +171,6 @@ module _ {S : Type 0} (K : Kind) (IsStored : Parts → Type 0) (X : IsExact K Is
 
   pub net_fits : (v : WrittenEvidence) → evidence_run K graph removal b js ≡ Ok v → FitsSize (size graph b) (length b.states) v.steps v.keeps
   net_fits v h = let a = parts_of v h in subst (λ w. FitsSize (size graph b) (length b.states) w.steps w.keeps) a.is (fits a.run a.flows)
+
+  pub net_stored : (v : WrittenEvidence) → evidence_run K graph removal b js ≡ Ok v → AreStoredSteps K IsStored (size graph b) v.steps v.keeps
+  net_stored v h = let a = parts_of v h in subst (λ w. AreStoredSteps K IsStored (size graph b) w.steps w.keeps) a.is (are_stored a.run a.flows)

@@ -1,7 +1,9 @@
 -- A flow run along a legal order gives good steps, and one along a complete order good keeps.
 use Rattle.std.proofs.Common.{◌≡◌, inl, inr, refl, sym, ap, ap₂, subst, ◌∙◌, ℕ, ◌+◌, ◌<◌, Bool, true, false, not, List, [], ◌∷◌}
-use Rattle.std.proofs.Common.{◌++◌, Result, Ok, Err, length, get_or, map, replicate}
-use Rattle.std.proofs.lemmas.List.{get_or-map, get_or-replicate, length-map, length-replicate}
+use Rattle.std.proofs.Common.{◌++◌, Result, Ok, Err, length, get_or, map, replicate, arith}
+use Rattle.std.specs.List.{All}
+use Rattle.std.proofs.lemmas.List.{get_or-map, get_or_past, get_or-replicate, length-map, length-replicate}
+use Rattle.std.proofs.lemmas.List.Elements.{All-nil, All-cons}
 use Rattle.field_core.specs.declared.place.Wide.{Wide}
 use Rattle.field_core.specs.declared.place.WideAt.{WideAt}
 use Rattle.field_core.specs.declared.ratio.Ratio.{Ratio}
@@ -18,6 +20,7 @@ use Rattle.field_core.specs.Flows.{into}
 use Rattle.field_core.specs.Runs.{IsOrder, left_after, after, through}
 use Rattle.field_core.specs.Laws.AtMostLaws.{at_most_trans, at_most_equal}
 use Rattle.field_core.proofs.Live.{true_or_false}
+use Rattle.field_core.proofs.Positions.{below_or_above}
 use Rattle.field_core.proofs.SumLaws.{sum_congr}
 use Rattle.field_core.proofs.WeightLaws.{order_reached, order_weight}
 use Rattle.field_core.proofs.NumberWeights.{weight_unit}
@@ -78,6 +81,26 @@ recorded_full K n ts earlier j e = record {
   lists = length-map ts _ ∙ e;
   each = all_mapped _ (λ ys. length ys ≡ length earlier) ts (λ i d q. length-map earlier _);
 }
+
+-- what is picked of each table at some places is stored, as 0 is past the last one
+pub picked_stored : (K : Kind) (IsStored : Parts → Type 0) → IsExact K IsStored → (pick : Tables → List Parts) (ts : List Tables) (places : List ℕ)
+    → ((c r : ℕ) → c < length ts → IsStored (numbers_at K (pick (tables_at ts c)) r))
+    → (c e : ℕ) → IsStored (part_at K (map (λ t. map (numbers_at K (pick t)) places) ts) c e)
+unfolding numbers_at
+picked_stored K IsStored X pick ts places each c e = elim (below_or_above c (length ts)) [
+  | inr past ↦ subst (λ xs. IsStored (get_or xs e K.zero))
+      (sym (get_or_past (map (λ t. map (λ r. get_or (pick t) r K.zero) places) ts) c []
+      (let l = length-map ts (λ t. map (λ r. get_or (pick t) r K.zero) places) in omega (arith, l, past))))
+      (subst IsStored (sym (get_or_past [] e K.zero (omega arith))) X.zero_stored)
+  | inl q ↦ subst (λ xs. IsStored (get_or xs e K.zero))
+      (sym (get_or-map (λ t. map (λ r. get_or (pick t) r K.zero) places) ts c no_tables [] q))
+      (elim (below_or_above e (length places)) [
+        | inr past ↦ subst IsStored
+            (sym (get_or_past (map (λ r. get_or (pick (tables_at ts c)) r K.zero) places) e K.zero
+            (let l = length-map places (λ r. get_or (pick (tables_at ts c)) r K.zero) in omega (arith, l, past)))) X.zero_stored
+        | inl p ↦ subst IsStored (sym (get_or-map (λ r. get_or (pick (tables_at ts c)) r K.zero) places e 0 K.zero p)) (each c (get_or places e 0) q)
+      ])
+]
 
 recorded_for_is : (K : Kind) (ts : List Tables) (earlier : List ℕ) (j : ℕ) → (recorded K ts earlier j).hypothesis ≡ j
 unfolding recorded
@@ -299,9 +322,17 @@ module _ {S : Type 0} (K : Kind) (IsStored : Parts → Type 0) (X : IsExact K Is
       pub good : AreGoodSteps (by_value K graph states shares) p level earlier (map (step_values K) r.steps)
       pub count : length r.tables ≡ length states
       pub fit : FlowsFit (length states) (length earlier) r.steps
+      pub stored : All (λ s. (c e : ℕ) → IsStored (part_at K s.flows c e)) r.steps
       pub exits : is_kept ≡ true → (c : ℕ) → c < length states
           → HoldExits K IsStored X m (first_graph c) (left_after (left_after whole earlier) js)
           (after number_field (after number_field (first_graph c) earlier) js) (tables_at r.tables c)
+
+    -- the numbers of a step that is recorded are stored
+    recorded_stored : (earlier : List ℕ) (b : Bundled S) (ts : List Tables) → IsAt earlier b ts → (j c e : ℕ)
+        → IsStored (part_at K (recorded K ts earlier j).flows c e)
+    unfolding recorded
+    recorded_stored earlier b ts T j = picked_stored K IsStored X (λ t. t.flows) ts earlier
+        (λ c r q. (T.flows c (subst (λ n. c < n) T.count q)).through.stored r)
 
     module _ (earlier : List ℕ) (b : Bundled S) (ts us : List Tables) (T : IsAt earlier b ts) (j : ℕ) (i : IsIn m (left_after whole earlier) j)
         (is_last : Bool) (h : all_tables K (map graph b.states) ts earlier j is_last is_kept ≡ Ok us) where
@@ -398,7 +429,14 @@ module _ {S : Type 0} (K : Kind) (IsStored : Parts → Type 0) (X : IsExact K Is
           → IsLegalOrder (by_value K graph states shares) p level (left_after whole earlier) js → flow_run K graph removal is_kept earlier js s ≡ Ok r
           → Gives p level earlier js r
       run_gives [] earlier s r T o h = subst (Gives p level earlier []) (sym (run_end earlier s r h))
-          (record { lists = refl; good = tt; count = T.count; fit = tt; exits = T.exits })
+          (record {
+            lists = refl;
+            good = tt;
+            count = T.count;
+            fit = tt;
+            stored = All-nil (λ s. (c e : ℕ) → IsStored (part_at K s.flows c e));
+            exits = T.exits;
+          })
       run_gives (j ∷ []) earlier s r T o h =
           let a = run_more earlier j [] s r h in
           let e = run_end (earlier ++ j ∷ []) a.t a.rest a.on in
@@ -408,6 +446,8 @@ module _ {S : Type 0} (K : Kind) (IsStored : Parts → Type 0) (X : IsExact K Is
             good = (good_step earlier s.bundle s.tables T p level j o.0, tt);
             count = us_count earlier s.bundle s.tables a.t.tables T j (in_set _ j o.0) true a.tables;
             fit = (recorded_full K (length states) s.tables earlier j T.count, tt);
+            stored = All-cons (λ s. (c e : ℕ) → IsStored (part_at K s.flows c e)) (recorded K s.tables earlier j) []
+                (recorded_stored earlier s.bundle s.tables T j) (All-nil (λ s. (c e : ℕ) → IsStored (part_at K s.flows c e)));
             exits = λ k c q. exits_then earlier s.bundle s.tables a.t.tables T j (in_set _ j o.0) true a.tables k c q;
           })
       run_gives (j ∷ k ∷ js) earlier s r T o h =
@@ -428,6 +468,8 @@ module _ {S : Type 0} (K : Kind) (IsStored : Parts → Type 0) (X : IsExact K Is
               recorded_full K (length states) s.tables earlier j T.count,
               subst (λ n. FlowsFit (length states) n a.rest.steps) (one_longer earlier j) G.fit,
             );
+            stored = All-cons (λ s. (c e : ℕ) → IsStored (part_at K s.flows c e)) (recorded K s.tables earlier j) a.rest.steps
+                (recorded_stored earlier s.bundle s.tables T j) G.stored;
             exits = λ w c q. subst (λ I. HoldExits K IsStored X m (first_graph c) (left_after I (k ∷ js))
                 (after number_field (without number_field (after number_field (first_graph c) earlier) j) (k ∷ js)) (tables_at a.rest.tables c)) left
                 (subst (λ A. HoldExits K IsStored X m (first_graph c) (left_after (left_after whole (earlier ++ j ∷ [])) (k ∷ js))

@@ -74,9 +74,14 @@ CaseFlowsKeepOthers =
     (c : Content) (js : List ℕ) (v : WrittenEvidence) → IsValidContent c → IsCompleteOrder c js → case_flows c js ≡ Ok v
     → KeepsOthers (length c.names) (values_in c v.steps v.keeps)
 
--- The check of a case never finds a broken condition in it. That its hypotheses are of the case and its numbers are stored as those of
--- the case is a premise here: the run doesn't tell it, but the types of numbers do, of evidence as the code holds it.
+-- Its hypotheses are of the case, and its numbers are stored as those of the case.
+abbrev pub CaseFlowsAreOfTheCase : Type 0
+CaseFlowsAreOfTheCase =
+    (c : Content) (js : List ℕ) (v : WrittenEvidence) → IsValidContent c → IsCompleteOrder c js → case_flows c js ≡ Ok v
+    → AreStepsOf c v.steps v.keeps
+
+-- The check of a case never finds a broken condition in it.
 abbrev pub CaseFlowsAreNotRefused : Type 0
 CaseFlowsAreNotRefused =
     (c : Content) (js : List ℕ) (v : WrittenEvidence) (n : ℕ) (reason : Reason) → IsValidContent c → IsCompleteOrder c js → case_flows c js ≡ Ok v
-    → AreStepsOf c v.steps v.keeps → ¬ (case_check c v.steps v.keeps ≡ Err (record { number = n; event = Broken reason }))
+    → ¬ (case_check c v.steps v.keeps ≡ Err (record { number = n; event = Broken reason }))

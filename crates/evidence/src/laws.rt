@@ -1,7 +1,7 @@
 //! Laws of flow runs. Each function states laws that hold of all nets or of all cases, and does nothing.
 
 ghost use Rattle.evidence.specs.FlowStatements.{FlowRunsGiveSteps, FlowRunsGiveEvidence};
-ghost use Rattle.evidence.specs.CaseFlows.{CaseFlowsMeetConditions, CaseFlowsListOrders, CaseFlowsKeepOthers, CaseFlowsAreNotRefused};
+ghost use Rattle.evidence.specs.CaseFlows.{CaseFlowsMeetConditions, CaseFlowsListOrders, CaseFlowsKeepOthers, CaseFlowsAreOfTheCase, CaseFlowsAreNotRefused};
 ghost use Rattle.evidence.specs.CaseFlows.{DecisionsAreCompleteOrders};
 ghost use Rattle.evidence.specs.EvidenceText.{EvidenceTextsSayTheirs, EvidenceTextsSayNoOther, EvidenceTextsHaveNoFault, EvidenceTextsTellApart};
 
@@ -15,11 +15,13 @@ pub fn flow_runs_make_evidence<R: Remover>()
 {}
 
 /// The flow run of a case along a complete legal order gives evidence that meets its conditions, lists the order and
-/// keeps all other hypotheses; the check of the case finds no broken condition in it.
+/// keeps all other hypotheses. Its hypotheses are of the case, and its numbers are stored as those of the case; the check of
+/// the case finds no broken condition in it.
 pub fn case_flows_are_evidence()
     ensures meets { CaseFlowsMeetConditions }
     ensures lists { CaseFlowsListOrders }
     ensures keeps { CaseFlowsKeepOthers }
+    ensures stored { CaseFlowsAreOfTheCase }
     ensures accepted { CaseFlowsAreNotRefused }
 {}
 

@@ -6,7 +6,7 @@ use Rattle.case_numbers.proofs.Components.{can_run}
 use Rattle.evidence_check.specs.CaseCheck.{p_values_of}
 use Rattle.evidence_check.proofs.CaseChecked.{case_tells, listed_names}
 use Rattle.evidence.specs.CaseFlows.{case_flows}
-use Rattle.evidence.proofs.CaseEvidence.{flows_list, flows_meet}
+use Rattle.evidence.proofs.CaseEvidence.{flows_list, flows_meet, flows_stored}
 use Rattle.evidence.proofs.laws.case_flows_are_evidence.Goals as goal
 
 pub returns-clause-meets : goal.returns-clause-meets
@@ -24,8 +24,14 @@ unfolding case_flows
 returns-clause-keeps c = λ k js v V o h.
     (flows_meet k V (number_at (p_values_of k.inputs)) (number_of k.alpha) js o.legal (numbers_of k) (can_run k) o.complete v h).1
 
+pub returns-clause-stored : goal.returns-clause-stored
+unfolding case_flows
+returns-clause-stored c = λ k js v V o h.
+    flows_stored k V (number_at (p_values_of k.inputs)) (number_of k.alpha) js o.legal (numbers_of k) (can_run k) v h
+
 pub returns-clause-accepted : goal.returns-clause-accepted
 unfolding case_flows
-returns-clause-accepted c = λ k js v n reason V o h S e.
-    (case_tells k V v.steps v.keeps S).bad n reason e
+returns-clause-accepted c = λ k js v n reason V o h e.
+    (case_tells k V v.steps v.keeps
+    (flows_stored k V (number_at (p_values_of k.inputs)) (number_of k.alpha) js o.legal (numbers_of k) (can_run k) v h)).bad n reason e
     ((flows_meet k V (number_at (p_values_of k.inputs)) (number_of k.alpha) js o.legal (numbers_of k) (can_run k) o.complete v h).0)
