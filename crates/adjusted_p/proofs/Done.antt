@@ -94,7 +94,8 @@ module _ (c : Content) (old new : TrialContent) (a : Ratio) (one : a ≡ one_rat
   fault_is (Wide n w) h = wide_in n w h
   fault_is NoMemory h = tt
 
-  pub faults_are : (r : Result (List Adjusted) RunFault) → IfErr r (λ e. (k : Content) → IsTrialOf k old → k.alpha ≡ one_ratio → IsDecideFault k ByRatio e)
+  pub faults_are : (r : Result (List Adjusted) RunFault)
+      → IfErr r (λ e. (k : Content) → IsTrialOf k old → k.alpha ≡ one_ratio → IsDecideFault k ByRatio e)
       → IfErr r (IsAdjustFault c)
   faults_are (Ok xs) h = tt
   faults_are (Err e) h = fault_is e (h (at_level c one_ratio) started refl)
