@@ -1,12 +1,25 @@
 -- Where a keeper's looks are, and what its calls did there.
 use Rattle.std.specs.Prelude.{◌≡◌, ◌⊎◌, ◌++◌, List}
 use Rattle.graph_io.specs.declared.keeper.Look.{Look}
+use Rattle.sqlite.specs.declared.Files.{Files}
+use Rattle.sqlite.specs.declared.FileStore.{FileStore}
+use Rattle.sqlite.specs.declared.error.Error.{Error}
+use Rattle.sqlite.specs.Closing.{IsCopied}
 use Rattle.sqlite.specs.Files as files
-use Rattle.sqlite.specs.Files.{over_files, file_state}
+use Rattle.sqlite.specs.Files.{over_files, file_state, FailsToClose}
+use Rattle.sqlite.specs.FileStore.{view}
+use Rattle.sqlite.specs.Held.{Held}
 use Rattle.sqlite.specs.State.{HasCleanDisk}
+use Rattle.sqlite.specs.View.{IsClean}
+use Rattle.sqlite.specs.WalReads.{AreClean}
+use Rattle.study_sqlite.specs.declared.closed.Closed.{Closed}
+use Rattle.study_sqlite.specs.declared.closed.Closed.TheVariants as closed
+use Rattle.study_sqlite.specs.declared.fault.FileFault.{FileFault}
+use Rattle.study_sqlite.specs.declared.fault.FileFault.TheVariants.{Refused}
 use Rattle.study_sqlite.specs.declared.keeper.SqliteKeeper.{SqliteKeeper}
 use Rattle.study_sqlite.specs.declared.storage.Storage.{Storage}
 use Rattle.study_sqlite.specs.declared.storage.Storage.TheVariants.{Unopened, Opened}
+use Rattle.study_sqlite.specs.FileFaults.{fault_of_error, OnRefusal}
 use Rattle.study_sqlite.specs.Kept.{AreKept, IsPut, AreLooksRefused, IsLookRefused}
 
 -- the file of a keeper
@@ -62,3 +75,25 @@ IsAppendRefused old new look =
     ⊎ ((before : _) × (after : _) × IsOpenedFrom old (Opened before) × (new ≡ Opened after)
     × (HasCleanDisk (file_state after) → HasCleanDisk (file_state before))
     × (HasCleanDisk (file_state after) → IsLookRefused over_files before after look))
+
+-- The last commit of a connection is in the database file that its close left, alone and also after a crash, as long as the disk
+-- returned what was written.
+abbrev pub IsCopiedTo : {D : Type 0} {g : _} → Held (FileStore D g) → Files D → Type 0
+IsCopiedTo {D} {g} connection left = AreClean g left.log left.db → IsCopied connection left
+
+-- the close of a connection gave an error other than want of memory
+abbrev pub IsCloseRefused : {D : Type 0} {g : _} → Held (FileStore D g) → Type 0
+IsCloseRefused {D} {g} connection =
+    (last : FileStore D g) × (error : Error) × (fault_of_error error ≡ Refused) × files.IsClosed connection last
+    × (IsClean (view last) → FailsToClose connection last error)
+
+-- of a file that was never opened nothing is left, and of one that was its two files, with the last commit in the database file
+abbrev pub IsClosed : Storage → Closed → Type 0
+IsClosed (Unopened rt path) left = left ≡ closed.Unopened
+IsClosed (Opened connection) closed.Unopened = ⊥
+IsClosed (Opened connection) (closed.Files left) = IsCopiedTo connection left
+
+-- a file that was never opened is closed without an error, and one that was is refused only for an error of its connection's close
+abbrev pub IsCloseFault : Storage → FileFault → Type 0
+IsCloseFault (Unopened rt path) fault = ⊥
+IsCloseFault (Opened connection) fault = OnRefusal (IsCloseRefused connection) fault

@@ -1,8 +1,8 @@
 //! A keeper in a file.
-ghost use Rattle.std.specs.Prelude.{◌≡◌, ◌<◌, ◌^◌, None, IfErr, OnOk, OnErr};
+ghost use Rattle.std.specs.Prelude.{◌≡◌, ◌<◌, ◌^◌, None, IfOk, IfErr, OnOk, OnErr};
 
-use crate::FileFault;
 use crate::storage::Storage;
+use crate::{Closed, FileFault};
 use field_core::List;
 use graph_io::{Keeper, KeeperFault, Look};
 use std::alloc::Global;
@@ -17,7 +17,7 @@ pub struct SqliteKeeper {
 
 impl SqliteKeeper {
     ghost use Rattle.study_sqlite.specs.Counting.{fault_count, IsCounted};
-    ghost use Rattle.study_sqlite.specs.Storing.{storage_of};
+    ghost use Rattle.study_sqlite.specs.Storing.{storage_of, IsClosed, IsCloseFault};
     ghost use Rattle.study_sqlite.specs.declared.storage.Storage.TheVariants.{Unopened};
 
     /// A keeper over the file at this path. The first call opens it, and makes it where it isn't there; until then nothing is
@@ -32,9 +32,13 @@ impl SqliteKeeper {
         }
     }
 
-    /// Copies what the log beside the file holds into the file, where it was opened. Where that is refused, the log still
-    /// holds it, and the next opening finds it there.
-    pub fn close(self) -> Result<(), FileFault> {
+    /// Copies what the log beside the file holds into the file, where it was opened, and gives both back; they are closed when
+    /// they are let go. The last commit is in the file then, without the log and also after a crash, as long as the disk returned
+    /// what was written. Where that is refused, the log still holds it, and the next opening finds it there.
+    pub fn close(self) -> Result<Closed, FileFault>
+        ensures closed { IfOk result (IsClosed (storage_of self)) }
+        ensures why { IfErr result (IsCloseFault (storage_of self)) }
+    {
         let SqliteKeeper { storage, faults: _ } = self;
         storage.close()
     }
@@ -65,8 +69,8 @@ impl Keeper for SqliteKeeper {
 
     ghost counted = { λ k. k.in_range };
 
-    /// A fault is told only where the opening of the file was refused, a statement gave an error, or a row that the file showed is
-    /// that of no look, as long as the disk returned what was written.
+    /// A fault is told only where the opening of the file was refused, a statement gave an error, or a row that the file showed
+    /// is that of no look, as long as the disk returned what was written.
     fn load(&mut self, alloc: Global, into: &mut List<Look>) -> Result<(), KeeperFault>
         ensures loaded { OnOk result (Loads None into.old into.new) }
         ensures unchanged { OnErr result (into.new ≡ into.old) }

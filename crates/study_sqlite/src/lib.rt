@@ -17,14 +17,16 @@
 //!   behind the others (`looks`), and where `append` does, the row of the look was put into the file (`look`). Both tell a
 //!   fault only where the opening of the file was refused, a statement gave an error, or, of `load`, a row that the file showed
 //!   is that of no look (`why`). Each refusal of the file is told as a fault, and want of memory as such (`counted`). One that
-//!   is made `at` a path opens nothing before its first call (`storage`).
+//!   is made `at` a path opens nothing before its first call (`storage`). Its `close` gives back the log and the database file
+//!   of a connection, whose last commit is in the database file then, alone and also after a crash (`closed`), or tells an error
+//!   of the connection's close (`why`); a file that was never opened has neither.
 //! - Laws in `src/laws.rt`: rows and looks correspond one to one (`rows_and_looks_correspond`), and rows are the looks they
 //!   are read as or have one first bad row, and not both (`rows_have_one_reading`).
 //!
-//! Only tested: that the file is the one at the path, that its opening is refused only where it has to be, and that `close`
-//! copies the log into the file.
+//! Only tested: that the file is the one at the path, and that its opening is refused only where it has to be.
 #![tactic(auto)]
 
+mod closed;
 mod fault;
 mod keeper;
 mod kept;
@@ -35,6 +37,7 @@ mod rows;
 mod storage;
 pub mod table;
 
+pub use closed::Closed;
 pub use fault::{FileFault, RowsFault};
 pub use keeper::SqliteKeeper;
 pub use row::{LookRow, from_row, to_row};

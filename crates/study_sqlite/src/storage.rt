@@ -1,11 +1,11 @@
 //! Where looks are kept: at a path until they are asked for, then over a connection.
 ghost use Rattle.std.specs.Prelude.{IfOk, IfErr, OnOk, OnErr};
 ghost use Rattle.study_sqlite.specs.FileFaults.{OnRefusal};
-ghost use Rattle.study_sqlite.specs.Storing.{IsOpenedFrom, IsNotOpened, AreLoaded, IsAppended, IsLoadRefused, IsAppendRefused};
+ghost use Rattle.study_sqlite.specs.Storing.{IsOpenedFrom, IsNotOpened, AreLoaded, IsAppended, IsLoadRefused, IsAppendRefused, IsClosed, IsCloseFault};
 
-use crate::FileFault;
 use crate::kept::{keep_in, looks_in};
 use crate::table::{self, FileConnection};
+use crate::{Closed, FileFault};
 use field_core::List;
 use graph_io::Look;
 use std::alloc::Global;
@@ -44,8 +44,8 @@ impl Storage {
         }
     }
 
-    /// Puts the row of a look into the file, which is opened where it isn't open. It is refused only where the opening is, or where
-    /// a statement gives an error.
+    /// Puts the row of a look into the file, which is opened where it isn't open. It is refused only where the opening is, or
+    /// where a statement gives an error.
     pub fn keep(&mut self, alloc: Global, look: &Look) -> Result<(), FileFault>
         ensures appended { OnOk result (IsAppended self.old self.new look.now) }
         ensures why { IfErr result (OnRefusal (IsAppendRefused self.old self.new look.now)) }
@@ -57,11 +57,14 @@ impl Storage {
         }
     }
 
-    /// Copies the log into the file where it is open, and closes both.
-    pub fn close(self) -> Result<(), FileFault> {
+    /// Copies the log into the file where it was opened, and gives both back; they are closed when they are let go.
+    pub fn close(self) -> Result<Closed, FileFault>
+        ensures closed { IfOk result (IsClosed self) }
+        ensures why { IfErr result (IsCloseFault self) }
+    {
         match self {
-            Storage::Opened(connection) => table::close(connection),
-            Storage::Unopened(_, _) => Ok(()),
+            Storage::Opened(connection) => Ok(Closed::Files(table::close(connection)?)),
+            Storage::Unopened(_, _) => Ok(Closed::Unopened),
         }
     }
 }

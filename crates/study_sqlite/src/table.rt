@@ -7,10 +7,11 @@ ghost use Rattle.sqlite.specs.State.{HasCleanDisk, Executes};
 ghost use Rattle.sqlite.specs.declared.types.Value.TheVariants.{Int, Text as SqlText};
 ghost use Rattle.study_sqlite.specs.FileFaults.{OnRefusal};
 ghost use Rattle.study_sqlite.specs.Statements.{make_sql, put_sql, values_of, IsShownAs, ShowsNoLook, Ran, RanInto, ShowedRows, AreRowsRefused};
+ghost use Rattle.study_sqlite.specs.Storing.{IsCopiedTo, IsCloseRefused};
 
 use crate::{FileFault, LookRow};
 use field_core::{List, Text};
-use sqlite::{Alter, Connection, Error, File, FileStore, Row, params};
+use sqlite::{Alter, Connection, Error, File, FileStore, Files, Row, params};
 use std::alloc::Global;
 use std::str;
 
@@ -39,8 +40,8 @@ pub fn make<S: Alter>(connection: &mut Connection<S>) -> Result<(), FileFault>
     Ok(())
 }
 
-/// All rows, in the order in which they were put there. They are refused only where the query gives an error, or for a row that is
-/// that of no look.
+/// All rows, in the order in which they were put there. They are refused only where the query gives an error, or for a row
+/// that is that of no look.
 pub fn rows<S: Alter>(
     alloc: Global,
     connection: &mut Connection<S>,
@@ -114,8 +115,14 @@ fn put_values<S: Alter>(
     )
 }
 
-/// Copies the log into the file, and closes both.
-pub fn close(connection: FileConnection) -> Result<(), FileFault> {
-    connection.close()?;
-    Ok(())
+/// Copies the log into the file, and gives both back; they are closed when they are let go. The last commit is in the file then,
+/// as long as the disk returned what was written.
+pub fn close(connection: FileConnection) -> Result<Files<File>, FileFault>
+    ensures copied { IfOk result (IsCopiedTo connection) }
+    ensures why { IfErr result (OnRefusal (IsCloseRefused connection)) }
+{
+    match connection.close_files() {
+        Ok(files) => Ok(files),
+        Err((error, _)) => Err(FileFault::from(error)),
+    }
 }
