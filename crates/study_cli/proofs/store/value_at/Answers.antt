@@ -1,4 +1,4 @@
-use Rattle.std.specs.Prelude.{string_bytes, codes}
+use Rattle.std.specs.Prelude.{string_bytes, codes, Some, None}
 use Rattle.study_cli.proofs.StoreValues.{stripped, no_first, value_joined, value_apart, no_second}
 use Rattle.study_cli.proofs.store.value_at.Goals as goal
 
