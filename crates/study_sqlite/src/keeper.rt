@@ -69,8 +69,8 @@ impl Keeper for SqliteKeeper {
 
     ghost counted = { λ k. k.in_range };
 
-    /// A fault is told only where the opening of the file was refused, a statement gave an error, or a row that the file showed
-    /// is that of no look, as long as the disk returned what was written.
+    /// A fault is told only where the file isn't open then, a statement gave an error, or a row that the file showed is that of
+    /// no look, as long as the disk returned what was written.
     fn load(&mut self, alloc: Global, into: &mut List<Look>) -> Result<(), KeeperFault>
         ensures loaded { OnOk result (Loads None into.old into.new) }
         ensures unchanged { OnErr result (into.new ≡ into.old) }
@@ -85,8 +85,8 @@ impl Keeper for SqliteKeeper {
         Ok(())
     }
 
-    /// A fault is told only where the opening of the file was refused or a statement gave an error, as long as the disk returned
-    /// what was written.
+    /// A fault is told only where the file isn't open then or a statement gave an error, as long as the disk returned what was
+    /// written.
     fn append(&mut self, alloc: Global, look: &Look) -> Result<(), KeeperFault>
         ensures cause { IsCaused (fault_count self.old) (fault_count self.new) result }
         ensures look { OnOk result (IsAppended (storage_of self.old) (storage_of self.new) look.now) }

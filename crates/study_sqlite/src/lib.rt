@@ -15,15 +15,16 @@
 //! - `SqliteKeeper` is a `Keeper` that doesn't tell its looks: a fault comes only where its count rose, and else the count
 //!   stays; a refused load leaves the list as it was. Where `load` goes well, the looks of all rows that the file showed stand
 //!   behind the others (`looks`), and where `append` does, the row of the look was put into the file (`look`). Both tell a
-//!   fault only where the opening of the file was refused, a statement gave an error, or, of `load`, a row that the file showed
-//!   is that of no look (`why`). Each refusal of the file is told as a fault, and want of memory as such (`counted`). One that
+//!   fault only where the file isn't open then, a statement gave an error, or, of `load`, a row that the file showed is that of
+//!   no look (`why`). Each refusal of the file is told as a fault, and want of memory as such (`counted`). One that
 //!   is made `at` a path opens nothing before its first call (`storage`). Its `close` gives back the log and the database file
 //!   of a connection, whose last commit is in the database file then, alone and also after a crash (`closed`), or tells an error
 //!   of the connection's close (`why`); a file that was never opened has neither.
 //! - Laws in `src/laws.rt`: rows and looks correspond one to one (`rows_and_looks_correspond`), and rows are the looks they
 //!   are read as or have one first bad row, and not both (`rows_have_one_reading`).
 //!
-//! Only tested: that the file is the one at the path, and that its opening is refused only where it has to be.
+//! Only tested: that the file is the one at the path, and that its opening, and its close, are refused only where they have
+//! to be.
 #![tactic(auto)]
 
 mod closed;
