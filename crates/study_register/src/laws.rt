@@ -1,6 +1,7 @@
 //! Laws of registers. Each function states laws that hold of all cases, and does nothing.
 
-ghost use Rattle.study_register.specs.RegisterStatements.{OneMoreIsTaken, RepliesAreTaken, TakenLooksDecide, OrdersOfLooksAgree, ReopeningsAgree, TakenLooksAreNotStopped, StopsAreUnique, WideOpeningsTakeNothing, EachOpeningEnds, LooksHaveOneEnd, EachLookEnds};
+ghost use Rattle.study_register.specs.RegisterStatements.{OneMoreIsTaken, RepliesAreTaken, TakenLooksDecide, OrdersOfLooksAgree, ReopeningsAgree};
+ghost use Rattle.study_register.specs.RegisterStatements.{TakenLooksAreNotStopped, StopsAreUnique, WideOpeningsTakeNothing, EachOpeningEnds, LooksHaveOneEnd, EachLookEnds};
 
 /// By whatever looks are asked for, each of which is taken or refused, the rejections are exactly those of the staged closed test on
 /// all looks that were taken, in whatever order they came. The same looks in the same order give the same rejections again.
