@@ -1,12 +1,12 @@
 -- The degree of a polynomial.
-use Rattle.std.proofs.Common.{◌≡◌, ◌≢◌, ℕ, zero, suc, ◌+◌, ◌-◌, ◌<◌, ◌≤◌, List, [], ◌∷◌, length, refl, sym, ◌∙◌, ap}
+use Rattle.std.proofs.Common.{◌≡◌, ◌≢◌, ℕ, zero, suc, ◌+◌, ◌-◌, ◌<◌, ◌≤◌, List, [], ◌∷◌, length, set, refl, sym, ◌∙◌, ap}
 use Rattle.std.proofs.Common.{arith, ℤ, pos, negsuc, inl, inr}
 use Rattle.std.proofs.lemmas.Bool.{cases_lt}
 use Rattle.field_core.specs.Polynomial.{coefficient, Same, IsNonZero}
 use Rattle.eps_poly.specs.Factors.{order}
 use Rattle.eps_poly.specs.Written.{counted, count_to_last, degree}
 use Rattle.eps_poly.specs.Polynomials.{zero_polynomial}
-use Rattle.eps_poly.proofs.Coefficients.{coefficient-past, coefficient-zero}
+use Rattle.eps_poly.proofs.Coefficients.{coefficient-past, coefficient-set_other, coefficient-set_same, coefficient-zero}
 use Rattle.eps_poly.proofs.OrderLaws.{coefficient-order}
 
 counted_none : (c : ℤ) (n : ℕ) → counted c n ≡ 0 → c ≡ pos 0
@@ -106,3 +106,21 @@ degree-same p q e =
 -- and the least power is at most the degree
 pub order_low : (p : List ℤ) → IsNonZero p → order p ≤ degree p
 order_low p some = degree_at_least p (order p) (λ none. some (sym (coefficient-order p) ∙ none))
+
+-- below the last one that isn't 0 any may be put
+pub count_kept : (p : List ℤ) (i : ℕ) (c : ℤ) → i + 1 < count_to_last p → count_to_last p ≡ count_to_last (set p i c)
+count_kept p i c l = at (count_to_last p) refl
+  where
+    at : (m : ℕ) → count_to_last p ≡ m → count_to_last p ≡ count_to_last (set p i c)
+    at zero e = absurd (omega arith)
+    at (suc n) e =
+        let some : coefficient (set p i c) n ≢ pos 0 =
+        λ none. coefficient-last p n e (sym (coefficient-set_other p i n c (λ same. absurd (omega arith))) ∙ none) in
+        let whole = count_is (set p i c) n some
+        (λ k h. coefficient-set_other p i k c (λ same. absurd (omega arith)) ∙ coefficient-above p k (omega arith)) in
+        omega arith
+
+-- one that isn't 0 is put at the end
+pub count_put : (p : List ℤ) (i : ℕ) (c : ℤ) → i < length p → c ≢ pos 0 → count_to_last p ≤ i + 1 → i + 1 ≡ count_to_last (set p i c)
+count_put p i c room some l = count_is (set p i c) i (λ none. some (sym (coefficient-set_same p i c room) ∙ none))
+    (λ k h. coefficient-set_other p i k c (λ same. absurd (omega arith)) ∙ coefficient-above p k (omega arith))

@@ -135,7 +135,14 @@ impl EpsPoly {
         requires { power ≤ 32 }
         ensures { result ≡ count_to_last (slice_set self.now power c) }
     {
-        for at in (0..self.used().max(power + 1)).rev() {
+        let end = self.used();
+        if power + 1 < end {
+            return end;
+        }
+        if !is_zero(c) {
+            return power + 1;
+        }
+        for at in (0..end.max(power + 1)).rev() {
             if !is_zero(self.whole_with(power, c, at)) {
                 return at + 1;
             }

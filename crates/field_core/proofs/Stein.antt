@@ -4,7 +4,7 @@ use Rattle.std.proofs.Common.{ap, ap₂, subst, arith, inl, inr, ◌⊎◌, pow-
 use Rattle.std.specs.Int.{IsGcd, ◌∣◌, abs_diff, bit_at, trailing_zeros, w64}
 use Rattle.std.proofs.lemmas.Bool.{cases_lt}
 use Rattle.std.proofs.lemmas.Nat.Bits.{bit_at-trailing_zeros}
-use Rattle.std.proofs.lemmas.Nat.Gcd.{dvd_refl, IsGcd-swap, IsGcd-from_sub, IsGcd-from_zero, dvd_trans, le_of_dvd, mod-eq-zero_of_dvd}
+use Rattle.std.proofs.lemmas.Nat.Gcd.{dvd_refl, IsGcd-swap, IsGcd-from_mod, IsGcd-from_sub, IsGcd-from_zero, dvd_trans, le_of_dvd, mod-eq-zero_of_dvd}
 use Rattle.std.proofs.Math.Nat.{dvd-mul_right_of_dvd, div-div-eq-div-mul, div-add-mod, pos_of_dvd_of_pos, eq-one_of_dvd-one, mul_comm, mod-eq_of_lt}
 use Rattle.field_core.specs.Divisor.{gcd}
 use Rattle.field_core.proofs.Divisors.{gcd_is, gcd_same}
@@ -92,7 +92,7 @@ same_gcd a b left right e h = gcd_same a b left (h left (rw (← e) (IsGcd-same 
 
 -- ---- both numbers
 
-gcd_comm : (a b : ℕ) → gcd a b ≡ gcd b a
+pub gcd_comm : (a b : ℕ) → gcd a b ≡ gcd b a
 gcd_comm a b = gcd_same b a (gcd a b) (IsGcd-swap a b (gcd a b) (gcd_is a b))
 
 -- twos of one number alone don't count
@@ -141,3 +141,14 @@ gcd_by_one a b h = sym (eq-one_of_dvd-one (subst (λ n. gcd a b ∣ n) h (gcd_is
 pub gcd_with_one : (a b : ℕ) → (a ≡ 1) ⊎ ((a ≡ 1 → ⊥) × (b ≡ 1)) → 1 ≡ gcd a b
 gcd_with_one a b (inl h) = gcd_by_one b a h ∙ gcd_comm b a
 gcd_with_one a b (inr h) = gcd_by_one a b h.1
+
+-- ---- one step of Euclid's first
+
+pub after_step : (a b g : ℕ) → IsGcd a (b % a) g → g ≡ gcd a b
+after_step a b g h = gcd_same a b g (IsGcd-swap b a g (IsGcd-from_mod b a g h))
+
+pub divisor_divides : (a b : ℕ) → b % a ≡ 0 → a ≡ gcd a b
+divisor_divides a b h = after_step a b a (IsGcd-from_zero a (b % a) h)
+
+pub remainder_one : (a b : ℕ) → b % a ≡ 1 → 1 ≡ gcd a b
+remainder_one a b h = after_step a b 1 (subst (λ n. IsGcd a (b % a) n) (sym (gcd_by_one a (b % a) h)) (gcd_is a (b % a)))

@@ -29,6 +29,21 @@ fn positive_gcd(a: u64, b: u64) -> u64
     odd_gcd(a >> first, b >> second) << first.min(second)
 }
 
+/// The greatest common divisor of a number above 0 and another: one step of Euclid's, and then Stein's.
+fn stepped_gcd(a: u64, b: u64) -> u64
+    requires { 0 < a }
+    ensures { result ≡ gcd a b }
+{
+    let rest = b % a;
+    if rest == 0 {
+        a
+    } else if rest == 1 {
+        1
+    } else {
+        positive_gcd(a, rest)
+    }
+}
+
 /// The greatest common divisor; `binary_gcd(0, b)` is `b`.
 pub fn binary_gcd(a: u64, b: u64) -> u64
     ensures { result ≡ gcd a b }
@@ -40,6 +55,6 @@ pub fn binary_gcd(a: u64, b: u64) -> u64
     } else if a == 1 || b == 1 {
         1
     } else {
-        positive_gcd(a, b)
+        stepped_gcd(a, b)
     }
 }

@@ -69,6 +69,11 @@ impl ShortRatio {
         let u = self.num.times(other.den.over(g));
         let v = other.num.times(rest);
         let t = u.checked_add(v)?;
+        if let Some(t) = t.short() {
+            let h = t.common_divisor(g);
+            let den = rest.times(other.den.over(h));
+            return Some(Ratio::of_wholes(t.over(h).whole(), den));
+        }
         let h = t.common_divisor(g.whole());
         let den = rest.whole().checked_mul(other.den.whole().over(h))?;
         Some(Ratio::of_wholes(t.over(h), den))

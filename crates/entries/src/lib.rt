@@ -1,0 +1,15 @@
+//! The entry of a text that is an edge expression, as one function.
+//!
+//! `edge_expression` describes expressions by a grammar with their values, and the faults of other texts. Each text has
+//! exactly one entry or one fault, so the two are a function, `entry_of`, in terms of which readers of larger texts
+//! state what they return.
+//!
+//! Proved:
+//! - `entry`: `value` (it returns `entry_of` of its text).
+//! - `entries_are_read`, a law: `entry_of` agrees with the grammar and with the faults, both ways.
+#![tactic(auto)]
+
+pub mod laws;
+mod reading;
+
+pub use reading::entry;
