@@ -17,12 +17,12 @@ const OTHER: Given = (1, 1, (1, 50));
 const LATER: Given = (3, 2, (1, 50));
 
 /// A new folder, whatever stood there.
-fn new_folder(rt: &(impl Abort + Alloc + Files), folder: &str) {
+pub fn new_folder(rt: &(impl Abort + Alloc + Files), folder: &str) {
     let _ = fs::remove_dir_all(rt, folder);
     fs::create_dir(rt, folder).expect(rt, folder);
 }
 
-fn remove_folder(rt: &(impl Abort + Alloc + Files), folder: &str) {
+pub fn remove_folder(rt: &(impl Abort + Alloc + Files), folder: &str) {
     fs::remove_dir_all(rt, folder).expect(rt, folder);
 }
 
@@ -36,7 +36,7 @@ fn is_there(rt: &impl Files, path: &str) -> bool {
 }
 
 /// A keeper over the file at a path, unless memory runs out.
-fn keeper_at(rt: &HostRuntime, path: &str) -> Option<SqliteKeeper> {
+pub fn keeper_at(rt: &HostRuntime, path: &str) -> Option<SqliteKeeper> {
     let path = String::from_str(rt.alloc(), path).ok()?;
     Some(SqliteKeeper::at(rt, path))
 }

@@ -1,4 +1,4 @@
-//! Tests of looks that are kept in files: their rows, and a keeper over files that the tests make.
+//! Tests of looks that are kept in files: their rows, a keeper over files that the tests make, and runs of a study over one file.
 #![tactic(auto)]
 
 #[cfg(test)]
@@ -7,3 +7,5 @@ mod files;
 mod looks;
 #[cfg(test)]
 mod rows;
+#[cfg(test)]
+mod studies;
