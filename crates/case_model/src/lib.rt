@@ -19,7 +19,7 @@
 //!   and `position`; `SetTable`, an answer for each set of at most 16 hypotheses; `is_level`, `is_p_value`.
 //!
 //! Tables of drafts (each fault, pairs of faults, and drafts that make cases, with several components and with
-//! stages) and of positions in an index, with values by hand, stand in case_tests.
+//! stages) and of positions in an index, with values by hand, stand in tests_cases.
 #![tactic(auto)]
 
 mod case;

@@ -16,7 +16,7 @@
 //!   (operations on short fractions aren't refused).
 //!
 //! Tables of numerals and of written operations at the edge of 127 bits, with values by hand or from a given table, stand
-//! in number_tests.
+//! in tests_numbers.
 #![tactic(auto)]
 
 mod byte_class;

@@ -4,7 +4,7 @@ use Rattle.std.proofs.lemmas.List.Elements.{All-nil, All-cons}
 use Rattle.std.proofs.lemmas.Bool.Decides.{nat_tests}
 use Rattle.case_model.proofs.Holding.{both}
 use Rattle.sequential.specs.declared.decision.StepLine.{StepLine}
-use Rattle.answer_tests.proofs.texts.are_of_case.Goals as goal
+use Rattle.tests_answers.proofs.texts.are_of_case.Goals as goal
 
 -- each line is of one of so many hypotheses
 below_in : (m : ℕ) (xs : List StepLine) → list_all (λ x. nat_lt x.hypothesis m) xs ≡ true → All (λ s. s.hypothesis < m) xs

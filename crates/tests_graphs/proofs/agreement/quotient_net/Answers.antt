@@ -3,7 +3,7 @@ use Rattle.case_numbers.specs.Numbers.{in_quotients}
 use Rattle.eps_quotient.specs.Quotients.{quotients}
 use Rattle.eps_quotient.specs.View.{quotient_parts}
 use Rattle.entangled.proofs.CaseGraphs.{net_opening}
-use Rattle.graph_tests.proofs.agreement.quotient_net.Goals as goal
+use Rattle.tests_graphs.proofs.agreement.quotient_net.Goals as goal
 
 pub try_new-requires-clause-square : goal.try_new-requires-clause-square
 try_new-requires-clause-square c =

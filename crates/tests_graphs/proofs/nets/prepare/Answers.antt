@@ -1,7 +1,7 @@
 use Rattle.std.proofs.Common.{rules, ◌≡◌, ◌≢◌, true}
 use Rattle.removal.specs.StoredGraph.{is_live}
 use Rattle.removal.proofs.PreparedLive.{prepared_live}
-use Rattle.graph_tests.proofs.nets.prepare.Goals as goal
+use Rattle.tests_graphs.proofs.nets.prepare.Goals as goal
 
 pub prepared_limit-requires : goal.prepared_limit-requires
 prepared_limit-requires g c =

@@ -1,7 +1,7 @@
 use Rattle.std.proofs.Common.{◌∙◌, sym}
 use Rattle.eps_quotient.specs.View.{quotient_parts}
 use Rattle.eps_quotient.proofs.Units.{unit_by_tests}
-use Rattle.number_tests.proofs.quotients.limit.Goals as goal
+use Rattle.tests_numbers.proofs.quotients.limit.Goals as goal
 
 pub limit-requires : goal.limit-requires
 limit-requires c =

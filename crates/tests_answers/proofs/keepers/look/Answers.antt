@@ -1,7 +1,7 @@
 use Rattle.std.proofs.Common.{arith, lit<, refl}
 use Rattle.std.proofs.lemmas.Int.{ints}
 use Rattle.field_core.specs.Divisor.{gcd}
-use Rattle.answer_tests.proofs.keepers.look.Goals as goal
+use Rattle.tests_answers.proofs.keepers.look.Goals as goal
 
 pub new-requires : goal.new-requires
 unfolding gcd
