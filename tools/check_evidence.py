@@ -240,9 +240,9 @@ def read_evidence(text, case):
 
 
 def limit(above, below):
-    """The limit of a number from 0 to 1."""
+    """The limit of a quotient from 0 to 1."""
     power = next(i for i, x in enumerate(below) if x)
-    return above[power] if power < len(above) else ZERO
+    return above[power] / below[power] if power < len(above) else ZERO
 
 
 def check(case, steps, keeps):
