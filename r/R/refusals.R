@@ -7,9 +7,9 @@ refusal_table <- c(
   "^usage: word [0-9]+$" = "Correct this word: the command help lists each command with its options.",
 
   # sums, of which the amount is told
-  "^malformed: case: share sum$" = "Make the shares sum to at most 1, and write a third as the text 1/3.",
-  "^malformed: case: weight sum component " = "Make the weights sum to at most 1, and write a third as the text 1/3.",
-  "^malformed: case: row sum of " = "Make the edges from this hypothesis sum to at most 1, and write a third as the text 1/3.",
+  "^malformed: case: share sum$" = "Make the shares sum to at most 1, with fractions such as 1/3 in place of rounded decimals.",
+  "^malformed: case: weight sum component " = "Make the weights sum to at most 1, with fractions such as 1/3 in place of rounded decimals.",
+  "^malformed: case: row sum of " = "Make the edges from this hypothesis sum to at most 1, with fractions such as 1/3 in place of rounded decimals.",
   "^malformed: case: spend sum of " = "Make the levels of this hypothesis sum to at most its own level.",
 
   # the case
@@ -91,4 +91,55 @@ refusal_table <- c(
 advice <- function(line) {
   fits <- vapply(names(refusal_table), grepl, logical(1), x = line)
   if (any(fits)) unname(refusal_table[[which(fits)[1]]]) else ""
+}
+
+# Signals a refusal: a condition with its status, its line, and a sentence that says what to do.
+refuse <- function(status, line, amount = "") {
+  sentences <- c(amount, advice(line))
+  advice <- paste(sentences[nzchar(sentences)], collapse = " ")
+  text <- paste0("refused with status ", status, ": ", line, if (nzchar(advice)) paste0("\n  ", advice))
+  condition <- list(message = text, call = NULL, status = as.integer(status), line = line, amount = amount, advice = advice)
+  stop(structure(condition, class = c("welungad_refusal", "error", "condition")))
+}
+
+# The sentence that tells the amount of a sum above its bound; "" for any other line. `reading` has the numbers as they were
+# handed in: `shares`, and by component `weights` and `edges`.
+amount_of <- function(lines, reading) {
+  line <- if (length(lines)) lines[1] else ""
+  if (is.null(reading) || !grepl("^malformed: case: (share|weight|row|spend) sum", line)) return("")
+  words <- strsplit(sub("^malformed: case: ", "", line), " ", fixed = TRUE)[[1]]
+  component <- if ("component" %in% words) as.integer(words[length(words)]) else 1L
+  switch(words[1],
+    share = told_sum("The shares", fraction(reading$shares)),
+    weight = told_sum(in_component("The weights", component, reading), fraction(reading$weights[[component]])),
+    row = told_row(words[4], component, reading),
+    spend = told_levels(words[4], reading)
+  )
+}
+
+in_component <- function(text, component, reading) {
+  if (length(reading$weights) == 1) text else paste(text, "of component", component)
+}
+
+told_sum <- function(what, terms, bound = gmp::as.bigq(1)) {
+  total <- sum_of(terms)
+  if (is.na(total) || total <= bound) return("")
+  sprintf("%s sum to %s, which is %s above %s.", what, exact_decimal(total), format(as_double(total - bound), digits = 3),
+    exact_decimal(bound))
+}
+
+# An expression with epsilon is read by the proved call.
+told_row <- function(name, component, reading) {
+  texts <- vapply(reading$edges[[component]][name, ], canonical_edge, "", USE.NAMES = FALSE)
+  total <- sum_of(numbers_of(texts))
+  what <- in_component(paste("The edges from", name), component, reading)
+  if (!is_quotients(total)) return(told_sum(what, total))
+  sprintf("%s sum to %s, which is above 1.", what, text_of(total))
+}
+
+told_levels <- function(name, reading) {
+  levels <- reading$levels[[name]]
+  if (is.null(levels)) return("")
+  over <- Filter(nzchar, lapply(levels, function(it) told_sum(paste("The levels of", name), it$levels, it$bound)))
+  if (length(over)) over[[1]] else ""
 }

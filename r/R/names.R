@@ -1,0 +1,51 @@
+# Names and labels. The program's names are 1 to 32 ASCII letters, digits, underscores, points and hyphens. Any text can be a
+# label; the name of such a label is made from it.
+
+longest_name <- 32L
+
+is_name <- function(text) grepl("^[A-Za-z0-9_.-]{1,32}$", text)
+
+# Names for labels: each label that is a name stays. Names that were made differ from all others.
+names_for <- function(labels) {
+  names <- labels
+  for (i in which(!is_name(labels))) names[i] <- made_name(labels[i], names[-i], i)
+  names
+}
+
+made_name <- function(label, taken, i) {
+  stem <- gsub("[^A-Za-z0-9.-]+", "_", label)
+  stem <- substr(gsub("^_+|_+$", "", stem), 1, longest_name)
+  if (!nzchar(stem)) stem <- paste0("H", i)
+  name <- stem
+  number <- 1L
+  while (name %in% taken) {
+    number <- number + 1L
+    name <- paste0(substr(stem, 1, longest_name - nchar(number) - 1L), "_", number)
+  }
+  name
+}
+
+# The positions of hypotheses that are told by name, by label, by position, or by a logical vector.
+positions_of <- function(graph, which) {
+  if (is.logical(which) && length(which) == length(graph$names) && !anyNA(which)) return(base::which(which))
+  if (is.character(which)) {
+    at <- match(which, graph$names)
+    at[is.na(at)] <- match(which[is.na(at)], graph$labels)
+    if (anyNA(at)) stop("no hypothesis has the name ", which[is.na(at)][1], call. = FALSE)
+    return(at)
+  }
+  if (is.numeric(which) && all(which %in% seq_along(graph$names))) return(as.integer(which))
+  stop("hypotheses are told by their names, labels or positions", call. = FALSE)
+}
+
+# A vector in the order of the hypotheses. One with names is put in order by them.
+in_order <- function(x, graph, what) {
+  told <- names(x)
+  if (is.null(told) || inherits(x, "welungad_exact")) return(x)
+  at <- match(graph$names, told)
+  if (anyNA(at)) at <- match(graph$labels, told)
+  if (anyNA(at) || length(x) != length(at)) {
+    stop("the names of ", what, " are not those of the hypotheses: ", paste(graph$labels, collapse = ", "), call. = FALSE)
+  }
+  x[at]
+}
