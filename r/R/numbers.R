@@ -45,7 +45,7 @@ shortest_decimal <- function(x) {
 # One double by the rule, as a row of as_exact.
 read_double <- function(x) {
   if (is.nan(x) || is.infinite(x)) {
-    refuse(3L, "malformed: number", sprintf("%s is not a number that can be read: give a finite number.", format(x)))
+    refuse(3L, "malformed: number", sprintf("%s has no value.", format(x)))
   }
   if (is.na(x)) return(c(given = "NA", read = NA, rule = "missing"))
   found <- small_fraction(x)

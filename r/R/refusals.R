@@ -37,6 +37,9 @@ refusal_table <- c(
   "^malformed: case: arrival [0-9]+ p$" = "Choose a p-value from 0 to 1.",
   "^malformed: kind$" = "Give what the command needs: a p-value for each hypothesis, or stages for the command stages.",
 
+  # a number of R that has no value, which this package refuses itself
+  "^malformed: number$" = "Give a finite number.",
+
   # documents
   "^malformed: record [0-9]+$" = "Use the file of looks with the case that it was made for.",
   "^malformed: json: syntax$" = "Correct the JSON: these bytes are not one JSON value.",
@@ -95,9 +98,9 @@ advice <- function(line) {
 
 # Signals a refusal: a condition with its status, its line, and a sentence that says what to do.
 refuse <- function(status, line, amount = "") {
-  sentences <- c(amount, advice(line))
-  advice <- paste(sentences[nzchar(sentences)], collapse = " ")
-  text <- paste0("refused with status ", status, ": ", line, if (nzchar(advice)) paste0("\n  ", advice))
+  advice <- advice(line)
+  sentences <- c(amount, advice)
+  text <- paste0(c(sprintf("refused with status %d: %s", status, line), sentences[nzchar(sentences)]), collapse = "\n  ")
   condition <- list(message = text, call = NULL, status = as.integer(status), line = line, amount = amount, advice = advice)
   stop(structure(condition, class = c("welungad_refusal", "error", "condition")))
 }
