@@ -160,7 +160,7 @@ draw_arrow <- function(path, colour, cex) {
 # The box of an arrow's text: near a third of the way along, and where it hides the boxes before it least.
 best_box <- function(arrow, taken, cex) {
   half <- c(graphics::strwidth(arrow$text, cex = cex) * 0.56, graphics::strheight(arrow$text, cex = cex) * 0.75)
-  boxes <- lapply(c(0.32, 0.38, 0.26, 0.44, 0.2, 0.5), function(part) {
+  boxes <- lapply(c(0.32, 0.38, 0.26, 0.44, 0.5), function(part) {
     centre <- arrow$path[ceiling(nrow(arrow$path) * part), ]
     c(centre - half, centre + half)
   })
