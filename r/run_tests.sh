@@ -45,7 +45,7 @@ cp -R "$here" "$room/welungad"
 cd "$room"
 R CMD build welungad >build.log 2>&1 || { cat build.log; exit 1; }
 
-# A C compiler is needed for the shim, and without make R can't install it.
+# The check wants none of the package index, and runs the tests.
 status=0
 _R_CHECK_FORCE_SUGGESTS_=false _R_CHECK_CRAN_INCOMING_=false R CMD check --no-manual welungad_*.tar.gz >check.log 2>&1 || status=$?
 grep -q -E '^Status: .*(WARNING|ERROR)' check.log && status=1
@@ -54,5 +54,6 @@ if [ "$status" -ne 0 ]; then
     cat welungad.Rcheck/tests/testthat.Rout.fail welungad.Rcheck/00install.out 2>/dev/null || true
     exit 1
 fi
-echo "r/run_tests.sh: $(grep '^Status:' check.log), by $(sed -n 's/^welungad: //p' welungad.Rcheck/00install.out)"
+echo "r/run_tests.sh: R CMD check: $(grep '^Status:' check.log); the package was installed $(sed -n 's/^welungad: //p' welungad.Rcheck/00install.out)"
+sed -n '/NOTE$/,/^\* /p' check.log
 sed -n 's/^\(\[ FAIL.*\)$/r\/run_tests.sh: \1/p' welungad.Rcheck/tests/testthat.Rout

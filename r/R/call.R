@@ -56,7 +56,7 @@ run_program <- function(program, words, case, proof) {
   }
   quoted <- if (length(words)) shQuote(words) else character()
   status <- suppressWarnings(system2(program, quoted, stdin = files[1], stdout = files[3], stderr = FALSE))
-  if (status == 127 || status > 200) stop("the program ", program, " can't be run", call. = FALSE)
+  if (!status %in% 0:10) stop("the program ", program, " can't be run", call. = FALSE)
   list(status = as.integer(status), text = text_of_file(files[3]))
 }
 

@@ -147,8 +147,9 @@ as.data.frame.welungad_graph <- function(x, ..., exact = FALSE) {
 print.welungad_graph <- function(x, ...) {
   n <- length(x$names)
   components <- length(x$components)
-  cat("Graph of ", n, if (n == 1) " hypothesis" else " hypotheses", if (components > 1) paste0(" with ", components, " components"),
-    "\n", sep = "")
+  cat("Graph of ", n, if (n == 1) " hypothesis" else " hypotheses", sep = "")
+  if (components > 1) cat(" with", components, "components")
+  cat("\n")
   for (component in x$components) {
     if (components > 1) cat("Share ", component$share, "\n", sep = "")
     write_table(graph_table(component, x$labels))
@@ -170,13 +171,16 @@ graph_table <- function(component, labels) {
 write_table <- function(texts) {
   all <- rbind(colnames(texts), unname(texts))
   all[is.na(all)] <- ""
-  columns <- lapply(seq_len(ncol(all)), function(j) formatC(all[, j], width = max(nchar(all[, j])), flag = if (j == 1) "-" else ""))
+  columns <- lapply(seq_len(ncol(all)), function(j) {
+    formatC(all[, j], width = max(nchar(all[, j])), flag = if (j == 1) "-" else "")
+  })
   cat(sub(" +$", "", paste0("  ", do.call(paste, c(columns, sep = "  ")))), sep = "\n")
 }
 
 print_names <- function(x) {
   other <- x$labels != x$names
-  if (any(other)) cat("Names for the program: ", paste0(x$names[other], " for ", x$labels[other], collapse = ", "), "\n", sep = "")
+  if (!any(other)) return(invisible())
+  cat("Names for the program: ", paste0(x$names[other], " for ", x$labels[other], collapse = ", "), "\n", sep = "")
 }
 
 # The numbers that were read as another number than the decimal that R shows, and those of a rule that is told by name.

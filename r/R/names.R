@@ -3,7 +3,7 @@
 
 longest_name <- 32L
 
-is_name <- function(text) grepl("^[A-Za-z0-9_.-]{1,32}$", text)
+is_name <- function(text) grepl("^[A-Za-z0-9_.-]{1,32}$", text, perl = TRUE)
 
 # Names for labels: each label that is a name stays. Names that were made differ from all others.
 names_for <- function(labels) {
@@ -13,7 +13,7 @@ names_for <- function(labels) {
 }
 
 made_name <- function(label, taken, i) {
-  stem <- gsub("[^A-Za-z0-9.-]+", "_", label)
+  stem <- gsub("[^A-Za-z0-9.-]+", "_", label, perl = TRUE)
   stem <- substr(gsub("^_+|_+$", "", stem), 1, longest_name)
   if (!nzchar(stem)) stem <- paste0("H", i)
   name <- stem

@@ -154,7 +154,9 @@ path_between <- function(from, to, radius, bend) {
 draw_arrow <- function(path, colour, cex) {
   last <- nrow(path)
   graphics::lines(path, col = colour)
-  graphics::arrows(path[last - 3L, 1], path[last - 3L, 2], path[last, 1], path[last, 2], length = 0.1 * cex, angle = 22, col = colour)
+  begin <- path[last - 3L, ]
+  end <- path[last, ]
+  graphics::arrows(begin[1], begin[2], end[1], end[2], length = 0.1 * cex, angle = 22, col = colour)
 }
 
 # The box of an arrow's text: near a third of the way along, and where it hides the boxes before it least.

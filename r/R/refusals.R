@@ -7,9 +7,9 @@ refusal_table <- c(
   "^usage: word [0-9]+$" = "Correct this word: the command help lists each command with its options.",
 
   # sums, of which the amount is told
-  "^malformed: case: share sum$" = "Make the shares sum to at most 1, with fractions such as 1/3 in place of rounded decimals.",
-  "^malformed: case: weight sum component " = "Make the weights sum to at most 1, with fractions such as 1/3 in place of rounded decimals.",
-  "^malformed: case: row sum of " = "Make the edges from this hypothesis sum to at most 1, with fractions such as 1/3 in place of rounded decimals.",
+  "^malformed: case: share sum$" = "Make the shares sum to at most 1: write 1/3, not a rounded decimal.",
+  "^malformed: case: weight sum component " = "Make the weights sum to at most 1: write 1/3, not a rounded decimal.",
+  "^malformed: case: row sum of " = "Make the edges of this row sum to at most 1: write 1/3, not a rounded decimal.",
   "^malformed: case: spend sum of " = "Make the levels of this hypothesis sum to at most its own level.",
 
   # the case
@@ -43,7 +43,7 @@ refusal_table <- c(
   # documents
   "^malformed: record [0-9]+$" = "Use the file of looks with the case that it was made for.",
   "^malformed: json: syntax$" = "Correct the JSON: these bytes are not one JSON value.",
-  "^malformed: row [0-9]+ column [0-9]+: header$" = "Begin the sheet with the header hypothesis,weight,p and the names, between commas.",
+  "^malformed: row [0-9]+ column [0-9]+: header$" = "Begin the sheet with hypothesis,weight,p and the names.",
   "^malformed: row [0-9]+ column [0-9]+: records$" = "Give the sheet one row for each name of its header.",
   "^malformed: row [0-9]+ column [0-9]+: width$" = "Give this row as many fields as the header has.",
   "^malformed: row [0-9]+ column [0-9]+: name$" = "Put the rows in the order of the names of the header.",
@@ -76,7 +76,7 @@ refusal_table <- c(
   "^limit: spend steps " = "Give a table at most 32 steps.",
   "^limit: case: part alpha$" = "Choose a level whose numerator and denominator are at most 10,000, such as 0.025.",
   "^limit: case: part (p of|arrival) " = "Round the p-value up to a fraction whose denominator is at most 10^30.",
-  "^limit: case: part spend of .* stage " = "Choose fractions of the level whose numerators and denominators are at most 10,000, or levels in a table.",
+  "^limit: case: part spend of .* stage " = "Choose fractions whose numerators and denominators are at most 10,000, or a table.",
   "^limit: case: part " = "Write a fraction whose numerator and denominator are at most 10^18.",
   "^limit: .*: digits$" = "Write the number with at most 38 digits.",
   "^limit: .*: degree$" = "Use powers of \\epsilon up to 4.",

@@ -7,6 +7,12 @@ sets_of <- function(lines, graph, pattern) {
   lapply(words, function(set) match(sub("=.*", "", set), graph$names))
 }
 
+# The weights of the sets of a report.
+weights_in <- function(lines) {
+  words <- strsplit(sub("^set ", "", lines[startsWith(lines, "set ")]), " ", fixed = TRUE)
+  lapply(words, sub, pattern = ".*=", replacement = "")
+}
+
 bounds_in <- function(lines) as.integer(sub("^bound ([0-9]+) of .*", "\\1", lines[grepl("^bound [0-9]+ of ", lines)]))
 
 set_text <- function(sets, graph, gap = ", ") vapply(sets, function(set) paste(graph$labels[set], collapse = gap), "")
@@ -19,7 +25,7 @@ graph_test_closure <- function(graph, p, alpha = 0.025) {
   sets <- sets_of(weights, graph, "^set ")
   at <- match(keys_of(sets), keys_of(sets_of(bounds, graph, "^bound ")))
   bound <- bounds_in(bounds)[at]
-  texts <- lapply(strsplit(sub("^set ", "", weights[startsWith(weights, "set ")]), " ", fixed = TRUE), sub, pattern = ".*=", replacement = "")
+  texts <- weights_in(weights)
   values <- p_and_level(case)
   legal <- legal_members(sets, texts, values)
   local <- vapply(legal, any, NA)
@@ -159,12 +165,14 @@ as.data.frame.welungad_bounds <- function(x, ...) {
 }
 
 print.welungad_bounds <- function(x, most = 64, ...) {
-  cat("Lower bounds of true discoveries by the closed test of weighted ", x$test, " tests at level ", level_text(x$alpha), "\n", sep = "")
+  cat("Lower bounds of true discoveries by the closed test of weighted ", x$test, " tests at level ", level_text(x$alpha), "\n",
+    sep = "")
   table <- as.data.frame(x)
   write_table(utils::head(cbind(set = table$set, size = table$size, bound = table$bound), most))
   if (nrow(table) > most) cat("  and", nrow(table) - most, "more sets, which as.data.frame has\n")
   if (!is.null(x$top)) {
-    cat("Bounds of the hypotheses with the least p-values, 1 to ", length(x$top), ": ", paste(x$top, collapse = " "), "\n", sep = "")
+    bounds <- paste(x$top, collapse = " ")
+    cat("Bounds of the hypotheses with the least p-values, 1 to ", length(x$top), ": ", bounds, "\n", sep = "")
     print_rejected(x)
   }
   invisible(x)

@@ -121,8 +121,9 @@ as.data.frame.welungad_stages <- function(x, ..., exact = FALSE) {
 }
 
 print.welungad_stages <- function(x, exact = FALSE, digits = 6, ...) {
-  cat("Staged test of ", length(x$graph$names), " hypotheses at ", x$plan$count, " stages, level ", level_text(x$alpha), "\n", sep = "")
-  for (name in names(x$plan$spends)) print_spend(x$graph$labels[match(name, x$graph$names)], x$plan$spends[[name]], x$alpha, digits)
+  cat("Staged test of ", length(x$graph$names), " hypotheses at ", x$plan$count, " stages, level ", level_text(x$alpha), "\n",
+    sep = "")
+  for (i in seq_along(x$plan$spends)) print_spend(x$graph$labels[i], x$plan$spends[[i]], x$alpha, digits)
   if (nrow(x$looks)) {
     table <- as.data.frame(x, exact = exact)
     write_table(cbind(look = table$look, hypothesis = table$hypothesis, stage = table$stage, p = shown(table$p, digits),
@@ -146,6 +147,7 @@ print_spend <- function(label, spend, alpha, digits) {
     return(invisible())
   }
   for (i in seq_along(spend$from)) {
-    cat(label, ": levels ", paste(shown(double_of(spend$texts[i, ]), digits), collapse = " "), " from weight ", spend$from[i], " on\n", sep = "")
+    levels <- paste(shown(double_of(spend$texts[i, ]), digits), collapse = " ")
+    cat(label, ": levels ", levels, " from weight ", spend$from[i], " on\n", sep = "")
   }
 }

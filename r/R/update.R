@@ -25,7 +25,8 @@ new_update <- function(graph, deleted) {
     graphs[[k + 1L]] <- without(graphs[[k]], graph$names[deleted[k]])
     proved <- proved_weights(graph, deleted[seq_len(k)])
     compared <- compared && !is.null(proved)
-    if (!is.null(proved)) hold(graphs[[k + 1L]], proved, paste("after the removal of", paste(graph$labels[deleted[seq_len(k)]], collapse = ", ")))
+    removed <- paste(graph$labels[deleted[seq_len(k)]], collapse = ", ")
+    if (!is.null(proved)) hold(graphs[[k + 1L]], proved, paste("after the removal of", removed))
   }
   structure(list(
     initial_graph = graph,
@@ -139,7 +140,8 @@ as.data.frame.welungad_update <- function(x, ..., exact = FALSE) {
     graph <- x$graphs[[k]]
     if (length(graph$names) == 0) return(NULL)
     weight <- total_weights(graph)
-    data.frame(removed = k - 1L, hypothesis = graph$labels, weight = if (exact) weight else double_of(weight), stringsAsFactors = FALSE)
+    if (!exact) weight <- double_of(weight)
+    data.frame(removed = k - 1L, hypothesis = graph$labels, weight = weight, stringsAsFactors = FALSE)
   })
   do.call(rbind, rows)
 }

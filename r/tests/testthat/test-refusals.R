@@ -6,7 +6,7 @@ test_that("sums above 1 are refused with their amount", {
     expect_equal(weights$status, 3L)
     expect_equal(weights$line, "malformed: case: weight sum component 1")
     expect_equal(weights$amount, "The weights sum to 1.00000000000000004, which is 4e-17 above 1.")
-    expect_match(conditionMessage(weights), "fractions such as 1/3")
+    expect_match(conditionMessage(weights), "write 1/3, not a rounded decimal")
     row <- refusal_of(graph_create(c(1, 0, 0), rbind(c(0, "2/3", "0.34"), 0, 0)))
     expect_match(row$amount, "The edges from H1 sum to 151/150, which is 0.00667 above 1.", fixed = TRUE)
     small <- refusal_of(graph_create(c(1, 0, 0), rbind(c("0", "1-\\epsilon", "2*\\epsilon"), "0", "0")))
