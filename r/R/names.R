@@ -26,16 +26,15 @@ made_name <- function(label, taken, i) {
 }
 
 # The positions of hypotheses that are told by name, by label, by position, or by a logical vector.
-positions_of <- function(graph, which) {
-  if (is.logical(which) && length(which) == length(graph$names) && !anyNA(which)) return(base::which(which))
-  if (is.character(which)) {
-    at <- match(which, graph$names)
-    at[is.na(at)] <- match(which[is.na(at)], graph$labels)
-    if (anyNA(at)) stop("no hypothesis has the name ", which[is.na(at)][1], call. = FALSE)
-    return(at)
-  }
-  if (is.numeric(which) && all(which %in% seq_along(graph$names))) return(as.integer(which))
-  stop("hypotheses are told by their names, labels or positions", call. = FALSE)
+positions_of <- function(graph, told) {
+  n <- length(graph$names)
+  if (is.logical(told) && length(told) == n && !anyNA(told)) return(which(told))
+  if (is.numeric(told) && all(told %in% seq_len(n))) return(as.integer(told))
+  if (!is.character(told)) stop("hypotheses are told by their names, labels or positions", call. = FALSE)
+  at <- match(told, graph$names)
+  at[is.na(at)] <- match(told[is.na(at)], graph$labels)
+  if (anyNA(at)) stop("no hypothesis has the name ", told[is.na(at)][1], call. = FALSE)
+  at
 }
 
 # A vector in the order of the hypotheses. One with names is put in order by them.

@@ -20,6 +20,9 @@ is compared with the weight that the program prints for the same removals, and t
 
 With more than 16 hypotheses the program prints no weights for the removal of a hypothesis whose weight is 0. Then
 \code{compared} is \code{FALSE}.
+
+With epsilon an updated graph can have edges that are quotients. The program does not read such a graph, so give all removals
+to one call.
 }
 \value{
 An object of class \code{welungad_update} with the parts \code{initial_graph}, \code{updated_graph}, \code{deleted}, \code{graphs} (the
