@@ -136,7 +136,7 @@ entry_polynomial <- function(text) {
 numbers_of <- function(texts) {
   if (!any(grepl(epsilon, texts, fixed = TRUE))) return(fraction(texts))
   quotients(lapply(texts, function(text) {
-    parts <- regmatches(text, regexec("^\\((.*)\\)/\\((.*)\\)$", text))[[1]]
+    parts <- regmatches(text, regexec("^[(]?([^()]*)[)]?/[(]([^()]*)[)]$", text))[[1]]
     if (length(parts)) quotient(entry_polynomial(parts[2]), entry_polynomial(parts[3])) else quotient(entry_polynomial(text))
   }))
 }
@@ -158,7 +158,8 @@ quotient_text <- function(q) {
   parts <- c(q$n, q$d)
   scale <- gmp::as.bigq(1)
   for (i in seq_along(parts)) scale <- scale * gmp::as.bigq(gmp::denominator(parts[i] * scale))
-  paste0("(", polynomial_text(q$n * scale), ")/(", polynomial_text(q$d * scale), ")")
+  above <- polynomial_text(q$n * scale)
+  paste0(if (length(q$n) == 1) above else paste0("(", above, ")"), "/(", polynomial_text(q$d * scale), ")")
 }
 
 # The texts of numbers of either kind.

@@ -93,7 +93,10 @@ write_node <- function(place, radius, texts, colours, cex) {
 
 # What is written at an edge or a weight: an expression with a Greek epsilon, a short fraction or decimal, or a rounded decimal.
 short_text <- function(text) {
-  if (grepl(epsilon, text, fixed = TRUE)) return(parse(text = gsub(epsilon, "epsilon", text, fixed = TRUE)))
+  if (grepl(epsilon, text, fixed = TRUE)) {
+    factors <- gsub("([0-9]+/[0-9]+)[*]", "(\\1)*", text)
+    return(parse(text = gsub(epsilon, "epsilon", factors, fixed = TRUE)))
+  }
   if (nchar(text) <= 7) return(text)
   decimal <- exact_decimal(fraction(text))
   if (nchar(decimal) <= 7) decimal else paste0("~", format(double_of(text), digits = 4))

@@ -89,10 +89,12 @@ test_that("quotients in epsilon are exact", {
   text <- welungad:::text_of
   expect_equal(text(q), c("1-\\epsilon", "\\epsilon", "1/2*\\epsilon^2"))
   expect_equal(text(q[1] + q[2]), "1")
-  expect_equal(text(q[2] / (q[2] * q[1])), "(1)/(1-\\epsilon)")
+  expect_equal(text(q[2] / (q[2] * q[1])), "1/(1-\\epsilon)")
   expect_equal(text(q[3] / q[2]), "1/2*\\epsilon")
   expect_equal(text(1 - q[1]), "\\epsilon")
   expect_true((q[1] - 1 + q[2]) == 0)
-  expect_equal(text(welungad:::numbers_of("(1)/(2-\\epsilon)")), "(1)/(2-\\epsilon)")
+  for (quotient in c("1/(2-\\epsilon)", "(1-\\epsilon)/(2-\\epsilon)", "-1/(2-\\epsilon)", "(1+2*\\epsilon^2)/(3+\\epsilon)")) {
+    expect_equal(text(welungad:::numbers_of(quotient)), quotient)
+  }
   expect_equal(as.character(welungad:::limits_of(q[1] / (1 + q[1]))), "1/2")
 })
