@@ -2,6 +2,7 @@
 ghost use Rattle.std.specs.Prelude.{◌≡◌, ◌<◌, ◌^◌, None, IfOk, IfErr, OnOk, OnErr};
 
 use crate::storage::Storage;
+use crate::table::FileConnection;
 use crate::{Closed, FileFault};
 use field_core::List;
 use graph_io::{Keeper, KeeperFault, Look};
@@ -18,7 +19,18 @@ pub struct SqliteKeeper {
 impl SqliteKeeper {
     ghost use Rattle.study_sqlite.specs.Counting.{fault_count, IsCounted};
     ghost use Rattle.study_sqlite.specs.Storing.{storage_of, IsClosed, IsCloseFault};
-    ghost use Rattle.study_sqlite.specs.declared.storage.Storage.TheVariants.{Unopened};
+    ghost use Rattle.study_sqlite.specs.declared.storage.Storage.TheVariants.{Unopened, Opened};
+
+    /// A keeper over this connection.
+    pub fn new(connection: FileConnection) -> SqliteKeeper
+        ensures storage { storage_of result ≡ Opened connection }
+        ensures faults { fault_count result ≡ 0 }
+    {
+        SqliteKeeper {
+            storage: Storage::Opened(connection),
+            faults: 0,
+        }
+    }
 
     /// A keeper over the file at this path. The first call opens it, and makes it where it isn't there; until then nothing is
     /// read of it or written to it.

@@ -17,7 +17,7 @@
 //!   behind the others (`looks`), and where `append` does, the row of the look was put into the file (`look`). Both tell a
 //!   fault only where the file isn't open then, a statement gave an error, or, of `load`, a row that the file showed is that of
 //!   no look (`why`). Each refusal of the file is told as a fault, and want of memory as such (`counted`). One that
-//!   is made `at` a path opens nothing before its first call (`storage`). Its `close` gives back the log and the database file
+//!   is made `at` a path opens nothing before its first call, and a `new` one is over its connection (`storage`). Its `close` gives back the log and the database file
 //!   of a connection, whose last commit is in the database file then, alone and also after a crash (`closed`), or tells an error
 //!   of the connection's close (`why`); a file that was never opened has neither.
 //! - Laws in `src/laws.rt`: rows and looks correspond one to one (`rows_and_looks_correspond`), and rows are the looks they
