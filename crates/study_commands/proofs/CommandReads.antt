@@ -1,18 +1,17 @@
 -- Lines of commands, read one by one.
-use Rattle.std.proofs.Common.{◌≡◌, ◌<◌, ◌⊎◌, ℕ, inl, inr, List, [], ◌∷◌, ◌++◌, length, Option, Some, None, Result, Ok, Err, refl, sym, ap, ap₂, subst, ◌∙◌, append_assoc}
+use Rattle.std.proofs.Common.{◌≡◌, ℕ, inl, inr, List, [], ◌∷◌, ◌++◌, length, Result, Ok, Err, refl, sym, ap, ap₂, subst, ◌∙◌, append_assoc}
 use Rattle.std.specs.List.{AllZip, AllByRecursion}
 use Rattle.std.specs.Prelude.{IfOk, IfErr, codes}
 use Rattle.std.proofs.lemmas.List.{append-nil}
 use Rattle.field_core.specs.Answers.{and_then, IsUnless, told_as}
 use Rattle.field_core.proofs.Results.{came_from, same_value, same_fault}
 use Rattle.graph_io.specs.declared.keeper.Look.{Look}
-use Rattle.text_lines.specs.Languages.{FaultAt, IsDocument, reading}
+use Rattle.text_lines.specs.Languages.{FaultAt, reading}
 use Rattle.text_lines.specs.Lines.{rows_of, texts_in, end_of}
-use Rattle.text_lines.specs.Words.{words_of, words_behind}
 use Rattle.text_lines.proofs.LanguageLaws.{read_says, read_faults}
 use Rattle.text_lines.proofs.Runs.{run, run_line, document_runs, run_documents}
 use Rattle.edge_text.specs.declared.fault.LineKind.{LineKind}
-use Rattle.edge_text.specs.declared.fault.LineKind.TheVariants.{Unexpected, WordCount}
+use Rattle.edge_text.specs.declared.fault.LineKind.TheVariants.{WordCount}
 use Rattle.edge_text.specs.Grammar.{Words, IsArrival}
 use Rattle.edge_text.specs.WordReading.{arrival}
 use Rattle.edge_text.proofs.Leaves.{arrival_said, arrival_is}

@@ -17,11 +17,7 @@ use std::alloc::Global;
 use text_lines::Lines;
 
 /// Reads a text of commands, line by line.
-fn read(
-    alloc: Global,
-    case: &Case,
-    bytes: &[u8],
-) -> Result<List<StudyCommand>, CommandsFault>
+fn read(alloc: Global, case: &Case, bytes: &[u8]) -> Result<List<StudyCommand>, CommandsFault>
     ensures { IsUnless NoMemory result (told_as on_line (reading (commands (content case.now).names) [] (rows_of bytes.now) (end_of bytes.now))) }
 {
     let mut commands = List::new(alloc);

@@ -10,16 +10,17 @@ ghost use Rattle.study_commands.specs.declared.fault.CommandsFault.TheVariants a
 use crate::{CommandsFault, StudyCommand};
 use case_model::Case;
 use edge_text::LineKind;
-use fraction::{Fraction, whole_number};
+use field_core::Ratio;
+use fraction::whole_number;
 use graph_io::Look;
 use text_lines::{Line, Words};
 
 /// Returns the value of a numeral on a line.
-fn numeral(line: &Line, word: &[u8]) -> Result<Fraction, CommandsFault>
+fn numeral(line: &Line, word: &[u8]) -> Result<Ratio, CommandsFault>
     ensures { result ≡ told_as (faults.Line line.now.number) (numeral word.now) }
 {
     match numerals::numeral(word) {
-        Ok(value) => Ok(value),
+        Ok(value) => Ok(value.ratio()),
         Err(fault) => Err(CommandsFault::Line(line.number, LineKind::Number(fault))),
     }
 }
@@ -46,7 +47,7 @@ fn look(line: &Line, words: Words, case: &Case) -> Result<Look, CommandsFault>
         return Err(CommandsFault::Line(line.number, LineKind::UnknownName));
     };
     let stage = whole(line, stage)?;
-    let p = numeral(line, p)?.ratio();
+    let p = numeral(line, p)?;
     Ok(Look {
         hypothesis: hypothesis as u32,
         stage,

@@ -1,4 +1,4 @@
-use Rattle.std.proofs.Common.{◌<◌, arith}
+use Rattle.std.proofs.Common.{arith}
 use Rattle.case_model.specs.CaseView.{content}
 use Rattle.case_model.proofs.CaseFacts.{names_few}
 use Rattle.study_commands.proofs.Looks.{place_below}
