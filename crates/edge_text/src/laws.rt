@@ -1,5 +1,6 @@
 //! Laws of texts: each says one draft, or has one first fault; and canonical texts say their cases.
 ghost use Rattle.edge_text.specs.CanonicalStatements.{CanonicalTextsReadBack, CanonicalTextsTellCasesApart, CanonicalTextsAreCanonical};
+ghost use Rattle.edge_text.specs.DocumentStatements.{DocumentsAreSaid, SaidAreDocuments, TextsCanEnd};
 ghost use Rattle.edge_text.specs.TextStatements.{TextsSayOneDraft, TextsHaveOneFault, TextsSayOrFail, TextsDontSayAndFail, FirstFaultsEndDocuments, WhereNoneGoesOnIsFault, UnfinishedTextsEnd, TextsHaveOneCase, TextsHaveOneRefusal, FaultsArentRefusals, CasesHaveNoFault, TextsHaveEntriesOrFaults, TextsHaveOneEntry, TextsHaveOneExprFault, EntriesHaveNoFault};
 
 /// A text says at most one draft.
@@ -24,6 +25,15 @@ pub fn first_faults_end_documents()
     ensures there { FirstFaultsEndDocuments }
     ensures line { WhereNoneGoesOnIsFault }
     ensures end { UnfinishedTextsEnd }
+{}
+
+/// The lines that the reader takes, one by one from place to place, are exactly the documents of the grammar, and say
+/// the same drafts. From each place a text goes on to its end.
+#[tactic(auto, using(crate::proofs::BlocksSaid::text_said, crate::proofs::BlocksSaid::said_text, crate::proofs::Completions::cases_complete))]
+pub fn documents_are_read_by_places()
+    ensures said { DocumentsAreSaid }
+    ensures only { SaidAreDocuments }
+    ensures end { TextsCanEnd }
 {}
 
 /// A text has one reading: one case by its content, or one first fault, or one refusal of its draft.
