@@ -1,4 +1,4 @@
--- Values that say a draft, and what becomes of it.
+-- Drafts of values, and the cases or errors that they give.
 use Rattle.std.proofs.Common.{◌≡◌, ◌≢◌, ◌∙◌, ◌⊎◌, inl, inr, ℕ, Bool, ◌&&◌, true, false, true≢false, List, [], ◌∷◌, Option}
 use Rattle.std.proofs.Common.{Some, None, refl, sym, ap, ap₂, subst, length}
 use Rattle.std.specs.Fmt.{decimal}
@@ -8,7 +8,7 @@ use Rattle.std.specs.Prelude.{◌+◌, codes, nat_lt, ok_or, Result, Ok, Err, If
 use Rattle.std.specs.Str.{bytes_eq}
 use Rattle.std.proofs.lemmas.Bool.{lt-ltb}
 use Rattle.std.proofs.lemmas.List.Quantifiers.{position-Some}
-use Rattle.serde_json.specs.Data.{Data, null, boolean, number, string, array, object}
+use Rattle.serde_json.specs.Data.{Data, string, array}
 use Rattle.serde_json.specs.Find.{get}
 use Rattle.serde_json.specs.Read.{read}
 use Rattle.case_model.specs.Names.{position_of}
@@ -59,12 +59,8 @@ module _ {A : Type 0} (read : Reader A) (test : A → Bool) (tested : Tested rea
       ∙ ap₂ (λ a b. a && b) (tested d first.0 (untold (decimal i) (read d) first.0 first.1)) (all_of (i + 1) ds rest.0 rest.1)
 
   all_in : Tested (list_of read) (list_all test)
-  all_in null xs e = absurd (cc e)
-  all_in (boolean b) xs e = absurd (cc e)
-  all_in (number n) xs e = absurd (cc e)
-  all_in (string s) xs e = absurd (cc e)
   all_in (array ds) xs e = all_of 0 (item_list ds) xs e
-  all_in (object ms) xs e = absurd (cc e)
+  all_in other xs e = absurd (cc e)
 
 module _ (names : List (List ℕ)) where
   abbrev among : ℕ → Bool
@@ -76,12 +72,8 @@ module _ (names : List (List ℕ)) where
       subst (λ k. among k ≡ true) (same_value j i e) (lt-ltb j (length names) (position-Some (bytes_eq name) names j [] p).0)
 
   known : Tested (hypothesis_of names) among
-  known null i e = absurd (cc e)
-  known (boolean b) i e = absurd (cc e)
-  known (number n) i e = absurd (cc e)
   known (string name) i e = found name (position_of name names) i refl e
-  known (array ds) i e = absurd (cc e)
-  known (object ms) i e = absurd (cc e)
+  known other i e = absurd (cc e)
 
   known_at : (key : List ℕ) (d : Data) (i : ℕ) → at key (hypothesis_of names) d ≡ Ok i → among i ≡ true
   known_at key d i e = in_part (hypothesis_of names) among known key (get key d) i e
@@ -194,7 +186,7 @@ pub not_so : {P : Type 0} (b : Bool) → IsTrue b ↔ P → b ≡ false → ¬ P
 not_so true h e = absurd (true≢false e)
 not_so false h e = λ p. true≢false (sym (h.1 p))
 
--- bytes that are no JSON
+-- bytes that are not JSON
 pub no_json : (bytes : List ℕ) → (IsUtf8 bytes → read bytes ≡ None) → IsJsonFault bytes faults.Syntax
 unfolding IsJsonFault
 no_json bytes none value is = let same : None ≡ Some value = sym (none is.0) ∙ is.1 in cc

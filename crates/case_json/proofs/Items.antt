@@ -1,9 +1,8 @@
 -- The values of an array, one after the other.
-use Rattle.std.proofs.Common.{◌≡◌, ◌∙◌, ◌∷◌, ◌++◌, [], ℕ, List, refl, sym, ap, subst, map, drop, get_or, length, ◌<◌, append-nil}
+use Rattle.std.proofs.Common.{◌≡◌, ◌∙◌, ◌∷◌, ◌++◌, [], ℕ, List, refl, sym, ap, map, drop, get_or, length, ◌<◌, append-nil}
 use Rattle.std.proofs.Common.{◌≤◌, ◌+◌, ◌⊎◌, inl, inr, append_assoc, Result, Ok, Err}
 use Rattle.std.specs.Fmt.{decimal}
 use Rattle.std.proofs.lemmas.List.{drop_more, drop_all}
-use Rattle.serde_json.specs.Data.{Data}
 use Rattle.serde_json.specs.View.{view, items_view}
 use Rattle.serde_json.specs.declared.value.Value.{Value}
 use Rattle.case_json.specs.declared.fault.JsonFault.{JsonFault}
@@ -58,7 +57,7 @@ pub none_said : {A : Type 0} (r : Result (List A) JsonFault) → r ≡ behind_sa
 none_said (Ok xs) = refl
 none_said (Err fault) = refl
 
--- the fault of a value as the list tells it, or want of memory
+-- the fault of a value with its place before the path, or the error for no memory
 pub told : {A : Type 0} (read : Reader A) (values : List Value) (said : List A) (i : ℕ) (d : Value) (inner fault : JsonFault) → i < length values
     → each read 0 (map view values) ≡ behind_said said (from_place read values i)
     → (inner ≡ faults.NoMemory) ⊎ (read (view (get_or values i d)) ≡ Err inner) → (fault ≡ faults.NoMemory) ⊎ (fault ≡ under (decimal i) inner)

@@ -1,4 +1,4 @@
--- A value says one draft or has one first fault, since reading is a function; and bytes say one case.
+-- A value denotes one draft or has one first fault, since reading is a function; and bytes denote one case.
 use Rattle.std.proofs.Common.{◌≡◌, ◌∙◌, ◌⊎◌, inl, inr, sym, ap, refl, subst, Option, Some, Result, Ok, Err}
 use Rattle.case_model.specs.declared.draft.Draft.{Draft}
 use Rattle.case_model.specs.Content.{content_of}

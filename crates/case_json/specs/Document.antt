@@ -1,4 +1,4 @@
--- What the values of a JSON document say, or their first fault: numbers, names, edges, components, stages and the draft.
+-- What the values of a JSON document denote, or their first fault: numbers, names, edges, components, stages and the draft.
 use Rattle.std.specs.Prelude.{◌≡◌, ◌^◌, ℕ, ℤ, pos, unsigned_abs, List, [], ◌∷◌, Bool, true, false, Option, Some, None, Result, Ok, Err}
 use Rattle.std.specs.Prelude.{codes, nat_le, ok_or, option_and_then}
 use Rattle.field_core.specs.Answers.{and_then, ◌>>=◌, mapped, told_as}
@@ -16,10 +16,10 @@ use Rattle.case_model.specs.declared.spend_step.SpendStep.{SpendStep}
 use Rattle.case_model.specs.Names.{position_of}
 use Rattle.edge_expression.specs.declared.fault.ExprFault.TheVariants.{Part}
 use Rattle.entries.specs.Entries.{entry_of}
-use Rattle.serde_json.specs.Data.{Data, null, boolean, number, string, array, object}
+use Rattle.serde_json.specs.Data.{Data, null, number, string, array, object}
 use Rattle.serde_json.specs.Find.{as_integer, as_u64, is_float}
 use Rattle.case_json.specs.declared.fault.JsonFault.{JsonFault}
-use Rattle.case_json.specs.declared.fault.JsonFault.TheVariants.{NotWhole, Number, UnknownName, Expr, Shape}
+use Rattle.case_json.specs.declared.fault.JsonFault.TheVariants.{NotWhole, Number, UnknownName, Expr}
 use Rattle.case_json.specs.Answers.{Reader, wrong_kind, with_keys, at, at_or, list_of}
 use Rattle.case_json.specs.WholeRatios.{whole_ratio}
 
@@ -31,12 +31,12 @@ number_of (string s) = told_as (Number []) (numeral_of s)
 number_of (number n) = ok_or (option_and_then whole_ratio (as_integer n)) (NotWhole [])
 number_of other = wrong_kind
 
--- a place of a p-value: null where it is missing, and else a number
+-- a place of a p-value: null if it is missing, and else a number
 abbrev pub place_of : Reader (Option Ratio)
 place_of null = Ok None
 place_of other = mapped Some (number_of other)
 
--- how many stages there are, or the number of one: a whole number of at least 0
+-- the number of stages, or that of one stage: a whole number of at least 0
 abbrev pub whole_count : Bool → Option ℕ → Result ℕ JsonFault
 whole_count true n = Err (NotWhole [])
 whole_count false (Some n) = Ok n
@@ -102,7 +102,7 @@ one = record { num = pos 1; den = pos 1; valid = one_reduced }
 abbrev pub component_keys : List (List ℕ)
 component_keys = codes "share" ∷ codes "weights" ∷ codes "edges" ∷ []
 
--- a component; its share is 1 where none is written
+-- a component; its share is 1 if none is written
 abbrev pub component_of : List (List ℕ) → Reader DraftComponent
 component_of names value = do
   known ← with_keys component_keys value
@@ -176,7 +176,7 @@ some_stages names value = mapped Some (stages_of names value)
 abbrev pub document_keys : List (List ℕ)
 document_keys = codes "alpha" ∷ codes "hypotheses" ∷ codes "p" ∷ codes "components" ∷ codes "stages" ∷ []
 
--- the draft that a value says, or its first fault
+-- the draft that a value denotes, or its first fault. In each object unknown keys are found first, and then each part in this order.
 abbrev pub document_of : Reader Draft
 document_of value = do
   known ← with_keys document_keys value
@@ -187,6 +187,6 @@ document_of value = do
   stages ← at_or None (codes "stages") (some_stages names) value
   Ok (record { names = names; alpha = alpha; p = p; components = components; stages = stages })
 
--- the value says this draft
+-- the value denotes this draft
 abbrev pub IsDraft : Data → Draft → Type 0
 IsDraft value draft = document_of value ≡ Ok draft
