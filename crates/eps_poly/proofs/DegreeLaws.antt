@@ -1,7 +1,8 @@
 -- The degree of a polynomial.
-use Rattle.std.proofs.Common.{◌≡◌, ◌≢◌, ℕ, zero, suc, ◌+◌, ◌-◌, ◌<◌, ◌≤◌, List, [], ◌∷◌, length, set, refl, sym, ◌∙◌, ap}
+use Rattle.std.proofs.Common.{◌≡◌, ◌≢◌, ℕ, zero, suc, ◌+◌, ◌-◌, ◌<◌, ◌≤◌, List, [], ◌∷◌, ◌++◌, length, set, take, drop, length-drop, replicate, refl, sym, ◌∙◌, ap}
 use Rattle.std.proofs.Common.{arith, ℤ, pos, negsuc, inl, inr, true, false, eqb, IsTrue, ◌↔◌}
 use Rattle.std.proofs.lemmas.Bool.{cases_lt, cases_eq}
+use Rattle.std.proofs.lemmas.List.{take-append-drop, take-replicate}
 use Rattle.std.proofs.lemmas.Bool.Decides.{nat_tests}
 use Rattle.std.specs.List.{list_all}
 use Rattle.field_core.specs.Kind.{is_zero_integer}
@@ -9,7 +10,7 @@ use Rattle.field_core.specs.Polynomial.{coefficient, lowest, Same, IsNonZero}
 use Rattle.eps_poly.specs.Factors.{order}
 use Rattle.eps_poly.specs.Written.{counted, count_to_last, degree}
 use Rattle.eps_poly.specs.Polynomials.{zero_polynomial}
-use Rattle.eps_poly.proofs.Coefficients.{coefficient-past, coefficient-set_other, coefficient-set_same, coefficient-zero}
+use Rattle.eps_poly.proofs.Coefficients.{coefficient-past, coefficient-drop, length-zero, same_polynomials, coefficient-set_other, coefficient-set_same, coefficient-zero}
 use Rattle.eps_poly.proofs.OrderLaws.{coefficient-order, order_none, lowest_is_zero, none_but_zero, all_zero, not_all_zero}
 
 counted_none : (c : ℤ) (n : ℕ) → counted c n ≡ 0 → c ≡ pos 0
@@ -152,3 +153,22 @@ zero_test p n e =
     lowest_is_zero p (none_from_count p (sym same ∙ e)) in
     let back : lowest p ≡ pos 0 → IsTrue (eqb n 0) = λ none. let same : n ≡ 0 = e ∙ sym (count_from_zero p none) in grind (arith, nat_tests) in
     (forward, back)
+
+-- the coefficients of q up to a place from which on both are 0, and the others of p
+pub front_copied : (p q : List ℤ) (n : ℕ) → length p ≡ length q → n ≤ length p → count_to_last p ≤ n → count_to_last q ≤ n
+    → take n q ++ drop n p ≡ q
+front_copied p q n long room own other =
+    ap (λ r. take n q ++ r) (same_polynomials (drop n p) (drop n q) (omega (arith, length-drop n p, length-drop n q))
+    (λ k h. coefficient-drop p n k ∙ coefficient-above p (k + n) (omega arith) ∙ sym (coefficient-drop q n k ∙ coefficient-above q (k + n) (omega arith))))
+    ∙ take-append-drop n q
+
+take_zeros : (n : ℕ) → n ≤ 33 → take n zero_polynomial ≡ replicate n (pos 0)
+unfolding zero_polynomial
+take_zeros n room = take-replicate n 33 (pos 0) room
+
+-- zeros up to a place from which on there are zeros
+pub front_cleared : (p : List ℤ) (n : ℕ) → length p ≡ 33 → n ≤ 33 → count_to_last p ≤ n → replicate n (pos 0) ++ drop n p ≡ zero_polynomial
+front_cleared p n long room own =
+    let low = count_zero in
+    ap (λ r. r ++ drop n p) (sym (take_zeros n room))
+    ∙ front_copied p zero_polynomial n (long ∙ sym length-zero) (omega arith) own (omega arith)

@@ -160,14 +160,22 @@ impl EpsPoly {
         self.used
     }
 
+    /// Becomes another polynomial. A coefficient that is 0 in both isn't copied.
+    pub fn copy_from(&mut self, other: &EpsPoly)
+        ensures { self.new ≡ other.now }
+    {
+        let end = self.used().max(other.used());
+        self.entries[..end].copy_from_slice(&other.entries[..end]);
+        self.used = other.used;
+    }
+
     /// Becomes the polynomial 0.
     pub fn clear(&mut self)
         ensures { self.new ≡ zero_polynomial }
     {
         let end = self.used();
-        for power in 0..end {
-            self.put(power, Whole::new(0));
-        }
+        self.entries[..end].fill(0);
+        self.used = 0;
     }
 
     /// One coefficient; `power` is at most 32.
@@ -438,6 +446,15 @@ impl EpsPoly {
         ensures { ok_map (λ _. self.new) result ≡ or_wide Add (sized_sum self.old other.now) }
     {
         self.write_sum(other).ok_or(TooWide { op: Op::Add })
+    }
+
+    /// Subtracts another polynomial from this one, or is `TooWide` exactly where the written difference has a part past its
+    /// size; then what was written before stays.
+    pub fn sub_assign(&mut self, other: &EpsPoly) -> Result<(), TooWide>
+        ensures { ok_map (λ _. self.new) result ≡ or_wide Sub (sized_sum self.old (poly_negate other.now)) }
+    {
+        self.write_sum(&other.negate())
+            .ok_or(TooWide { op: Op::Sub })
     }
 
     /// Becomes the product of two polynomials, or is `TooWide` exactly where the written product has a part past its size or a
