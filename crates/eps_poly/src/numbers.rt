@@ -1,5 +1,6 @@
 //! Whole numbers.
-ghost use Rattle.std.specs.Prelude.{◌≡◌, ◌≢◌, ◌↔◌, ◌*ℤ◌, ◌<ℤ◌, ℤ, pos, unsigned_abs, IsTrue};
+ghost use Rattle.std.specs.Prelude.{◌≡◌, ◌≢◌, ◌↔◌, ◌*ℤ◌, ◌<ℤ◌, ℤ, pos, unsigned_abs, FitsSigned, IsTrue};
+ghost use Rattle.std.specs.Int.{w64};
 ghost use Rattle.field_core.specs.Kind.{is_zero_integer};
 
 use field_core::Whole;
@@ -16,6 +17,13 @@ pub fn is_below_zero(c: Whole) -> bool
     ensures { IsTrue result ↔ (c <ℤ pos 0) }
 {
     c.value() < 0
+}
+
+/// Whether it fits 64 bits.
+pub fn is_short(c: Whole) -> bool
+    ensures { IsTrue result ↔ FitsSigned w64 c }
+{
+    c.short().is_some()
 }
 
 /// The absolute value.

@@ -1,5 +1,6 @@
 //! Polynomials: sums, products, exact quotients and factors.
-ghost use Rattle.std.specs.Prelude.{◌≡◌, ◌≢◌, ◌↔◌, ◌≤◌, ◌<◌, ◌^◌, ◌<ℤ◌, ℤ, pos, List, slice_set, IfOk, IfSome, IfNone, IsSomeAnd, IsTrue, Some};
+ghost use Rattle.std.specs.Prelude.{◌≡◌, ◌≢◌, ◌↔◌, ◌≤◌, ◌<◌, ◌^◌, ◌<ℤ◌, ℤ, pos, List, slice_set, FitsSigned, IfOk, IfSome, IfNone, IsSomeAnd, IsTrue, Some};
+ghost use Rattle.std.specs.Int.{w64};
 ghost use Rattle.std.specs.List.{list_all};
 ghost use Rattle.std.specs.Option.{option_map};
 ghost use Rattle.field_core.specs.Kind.{is_zero_integer, ok_map, or_wide};
@@ -8,13 +9,13 @@ ghost use Rattle.field_core.specs.Sized.{sized};
 ghost use Rattle.field_core.specs.declared.place.Op.TheVariants.{Add, Sub, Mul};
 ghost use Rattle.eps_poly.specs.ExactQuotients.{exact_quotient};
 ghost use Rattle.eps_poly.specs.Factors.{content, core, factor, low_order, lowered, order, turned_as};
-ghost use Rattle.eps_poly.specs.Polynomials.{monomial, zero_polynomial, IsPolynomial};
+ghost use Rattle.eps_poly.specs.Polynomials.{is_same, monomial, zero_polynomial, IsPolynomial, IsShort};
 ghost use Rattle.eps_poly.specs.Written.{count_to_last, degree, sized_product, sized_sum};
 
-use crate::numbers::{is_below_zero, is_zero, size};
+use crate::numbers::{is_below_zero, is_short, is_zero, size};
 use crate::products::part_of_product;
-use crate::quotients::candidate;
-use field_core::{Op, TooWide, Whole, gcd};
+use crate::quotients::write_candidate;
+use field_core::{Op, Short, TooWide, Whole, gcd};
 use std::marker::Model;
 
 /// How many coefficients a polynomial holds: those of the powers 0 to 32.
@@ -57,7 +58,7 @@ impl PartialEq for EpsPoly {
     ghost laws = { lists_per (partial_equiv_from_equiv int_eq_equiv) };
 
     fn eq(&self, other: &EpsPoly) -> bool {
-        self.entries == other.entries
+        self.used() == other.used() && self.is_same_below(other, self.used())
     }
 }
 
@@ -159,14 +160,22 @@ impl EpsPoly {
         self.used
     }
 
+    /// Becomes another polynomial. A coefficient that is 0 in both isn't copied.
+    pub fn copy_from(&mut self, other: &EpsPoly)
+        ensures { self.new ≡ other.now }
+    {
+        let end = self.used().max(other.used());
+        self.entries[..end].copy_from_slice(&other.entries[..end]);
+        self.used = other.used;
+    }
+
     /// Becomes the polynomial 0.
     pub fn clear(&mut self)
         ensures { self.new ≡ zero_polynomial }
     {
         let end = self.used();
-        for power in 0..end {
-            self.put(power, Whole::new(0));
-        }
+        self.entries[..end].fill(0);
+        self.used = 0;
     }
 
     /// One coefficient; `power` is at most 32.
@@ -183,6 +192,42 @@ impl EpsPoly {
         ensures { result ≡ coefficient self.now power }
     {
         Whole::new(self.entries[power])
+    }
+
+    /// Whether each coefficient fits 64 bits.
+    pub(crate) fn is_short(&self) -> bool
+        ensures { IsTrue result → IsShort self.now }
+    {
+        for power in 0..self.used() {
+            if !is_short(self.whole(power)) {
+                return false;
+            }
+        }
+        true
+    }
+
+    /// One coefficient, which fits 64 bits; `power` is at most 32.
+    pub(crate) fn short(&self, power: usize) -> Short
+        requires power { power ≤ 32 }
+        requires fits { FitsSigned w64 (coefficient self.now power) }
+        ensures { result ≡ coefficient self.now power }
+    {
+        Short::new(self.coefficient(power) as i64)
+    }
+
+    /// Whether the coefficients below `end` are the same, where all those above are 0.
+    fn is_same_below(&self, other: &EpsPoly, end: usize) -> bool
+        requires own { end ≡ count_to_last self.now }
+        requires other { end ≡ count_to_last other.now }
+        ensures { result ≡ is_same self.now other.now }
+    {
+        let _ = (self.used(), other.used());
+        for power in 0..end {
+            if self.coefficient(power) != other.coefficient(power) {
+                return false;
+            }
+        }
+        true
     }
 
     /// The greatest power with a coefficient that isn't 0, and 0 where there is none.
@@ -223,7 +268,7 @@ impl EpsPoly {
         ensures value { result ≡ list_all is_zero_integer self.now }
         ensures zero { IsTrue result ↔ (lowest self.now ≡ pos 0) }
     {
-        self.order() == COUNT
+        self.used() == 0
     }
 
     /// The lowest coefficient that isn't 0, or 0 for the polynomial 0.
@@ -246,6 +291,9 @@ impl EpsPoly {
         let mut divisor = 0;
         for power in (0..self.degree() + 1).rev() {
             divisor = gcd(size(self.whole(power)), divisor);
+            if divisor == 1 {
+                return 1;
+            }
         }
         divisor
     }
@@ -400,6 +448,15 @@ impl EpsPoly {
         self.write_sum(other).ok_or(TooWide { op: Op::Add })
     }
 
+    /// Subtracts another polynomial from this one, or is `TooWide` exactly where the written difference has a part past its
+    /// size; then what was written before stays.
+    pub fn sub_assign(&mut self, other: &EpsPoly) -> Result<(), TooWide>
+        ensures { ok_map (λ _. self.new) result ≡ or_wide Sub (sized_sum self.old (poly_negate other.now)) }
+    {
+        self.write_sum(&other.negate())
+            .ok_or(TooWide { op: Op::Sub })
+    }
+
     /// Becomes the product of two polynomials, or is `TooWide` exactly where the written product has a part past its size or a
     /// degree above 32; then what was written before stays.
     pub fn put_product(&mut self, left: &EpsPoly, right: &EpsPoly) -> Result<(), TooWide>
@@ -432,10 +489,18 @@ impl EpsPoly {
         if above + below >= COUNT {
             return None;
         }
+        if left.is_zero() || right.is_zero() {
+            self.clear();
+            return Some(());
+        }
         let end = self.used();
+        let are_short = left.is_short() && right.is_short();
         for power in 0..end.max(above + below + 1) {
             let count = power.min(above) + 1;
-            self.put(power, part_of_product(left, right, power, count)?);
+            self.put(
+                power,
+                part_of_product(left, right, power, count, are_short)?,
+            );
         }
         Some(())
     }
@@ -448,12 +513,26 @@ impl EpsPoly {
         ensures only { (q : List ℤ) → sized_product q by.now ≡ Some self.now → IsSomeAnd result (λ r. Same r q) }
         ensures none { IfNone result ((q : List ℤ) → sized_product q by.now ≢ Some self.now) }
     {
-        let quotient = candidate(self, by)?;
-        let product = quotient.checked_mul(by)?;
-        if product == *self {
-            Some(quotient)
-        } else {
-            None
+        let mut quotient = EpsPoly::zero();
+        let mut spare = EpsPoly::zero();
+        quotient.put_quotient(self, by, &mut spare)?;
+        Some(quotient)
+    }
+
+    /// Becomes the polynomial `q` whose written product with `by` is `p`, or is `None` exactly where there is none; then what was
+    /// written before stays. `spare` is room for that product.
+    pub fn put_quotient(&mut self, p: &EpsPoly, by: &EpsPoly, spare: &mut EpsPoly) -> Option<()>
+        requires { IsNonZero by.now }
+        ensures { option_map (λ _. self.new) result ≡ exact_quotient p.now by.now }
+    {
+        // the numbers of their coefficients tell that they are polynomials
+        let _ = (p.used(), by.used());
+        if p.is_zero() {
+            self.clear();
+            return Some(());
         }
+        write_candidate(p, by, self)?;
+        spare.write_product(self, by)?;
+        if *spare == *p { Some(()) } else { None }
     }
 }

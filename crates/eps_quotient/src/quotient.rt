@@ -1,4 +1,7 @@
 //! Quotients in epsilon, as they are stored.
+ghost use Rattle.std.specs.Prelude.{◌≡◌};
+ghost use Rattle.field_core.specs.Kind.{is_zero_integer};
+ghost use Rattle.field_core.specs.View.{terms};
 ghost use Rattle.eps_quotient.specs.Stored.{IsQuotient};
 
 use crate::lower::norm;
@@ -16,6 +19,13 @@ use std::cmp::Ordering;
 pub struct EpsQuotient {
     pair: Pair,
     ghost stored: { IsQuotient (record { numerator = pair.numerator; denominator = pair.denominator }) },
+}
+
+/// Whether a fraction is 0.
+fn is_zero(part: &Ratio) -> bool
+    ensures { result ≡ is_zero_integer (terms part.now).num }
+{
+    part.num() == 0
 }
 
 impl EpsQuotient {
@@ -90,7 +100,11 @@ impl EpsQuotient {
     {
         let mut sum = EpsQuotient::zero();
         for power in 0..5 {
-            sum = sum.add(&EpsQuotient::term(&parts[power], power))?;
+            let part = &parts[power];
+            if is_zero(part) {
+                continue;
+            }
+            sum = sum.add(&EpsQuotient::term(part, power))?;
         }
         Ok(sum)
     }

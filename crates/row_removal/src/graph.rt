@@ -170,7 +170,7 @@ impl RowGraph {
         self.live.copy_from_slice(&other.live);
         self.weights.copy_from(&other.weights);
         copy_rows(&mut self.edges, &other.edges, other.live.len());
-        self.last = other.last;
+        self.last.copy_from(&other.last);
     }
 }
 
@@ -225,11 +225,12 @@ impl RowGraph {
         ensures room { HasRoom (rows_size self.now) next.new }
         ensures spare { length spare.new.numerators ≡ rows_size self.now }
     {
-        write_weights(self, j, &mut next.weights, spare)?;
-        write_rows(self, j, &mut next.edges, spare)?;
+        let divisor = self.last.core();
+        write_weights(self, j, &divisor, &mut next.weights, spare)?;
+        write_rows(self, j, &divisor, &mut next.edges, spare)?;
         next.live.copy_from_slice(&self.live);
         next.live[j] = false;
-        next.last = *self.denominator(j);
+        next.last.copy_from(self.denominator(j));
         Ok(())
     }
 }

@@ -5,8 +5,8 @@ use Rattle.eps_poly.specs.Written.{written_coefficient}
 use Rattle.eps_poly.proofs.ProductLaws.{coefficient_zero, coefficient_none, coefficient_next, coefficient_product_refused, coefficient_refused}
 use Rattle.eps_poly.proofs.Coefficients.{is_zero_true}
 use Rattle.std.proofs.lemmas.Int.{ints}
-use Rattle.eps_poly.proofs.products.part_of_product.Goals as goal
-use Rattle.eps_poly.proofs.products.part_of_product.Goals.{then-is_zero-via-then-is_zero, then-is_zero-via-else-is_zero+then-is_zero-2}
+use Rattle.eps_poly.proofs.products.wide_part.Goals as goal
+use Rattle.eps_poly.proofs.products.wide_part.Goals.{then-is_zero-via-then-is_zero, then-is_zero-via-else-is_zero+then-is_zero-2}
 
 pub loop-first-init : goal.loop-first-init
 loop-first-init c = rw c.new-sum.ensures (coefficient_none c.args.p.now c.args.q.now c.args.power)
