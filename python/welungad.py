@@ -110,95 +110,97 @@ def run(words: Iterable[Text], case: Text = b"", proof: Text = b"") -> Tuple[int
 
 # ---- refusals
 
-_NUMERAL_KINDS = [
-    ("malformed: {place}: number", "This is not a numeral. Write 0.025, 1/40 or 2.5e-2."),
-    ("malformed: {place}: zero denominator", "The denominator of this fraction is 0."),
-    ("limit: {place}: digits", "This numeral has more than 38 digits."),
-    ("malformed: {place}: expression", "This is not an expression for an edge. Write 1/2, 1-\\epsilon or 1/2*\\epsilon."),
-    ("malformed: {place}: divisor", "The expression divides by epsilon. A divisor has to be a number."),
-    ("malformed: {place}: zero divisor", "The expression divides by 0."),
-    ("limit: {place}: degree", "The expression has a power of epsilon above 4."),
-    ("limit: {place}: part", "A numerator or a denominator in the expression is above 10^18."),
-    ("limit: {place}: depth", "More than 32 parentheses are open in the expression."),
+# The causes and cures of docs/REFUSALS.md, by the line.
+_KINDS_OF_A_WORD = [
+    ("malformed: {place}: number", "A word is not a numeral. Write 0.025, 1/40 or 2.5e-2; no percent sign, no decimal comma."),
+    ("malformed: {place}: zero denominator", "A numeral is divided by 0."),
+    ("malformed: {place}: expression", "An edge is not an expression. Write 1/2, 1-\\epsilon or 1/2*\\epsilon^2."),
+    ("malformed: {place}: divisor", "An edge divides by something with epsilon. Divide by a plain number."),
+    ("malformed: {place}: zero divisor", "An edge divides by 0."),
+    ("malformed: {place}: unknown name", "A name is not the name of a hypothesis. Names are case-sensitive."),
+    ("limit: {place}: digits", "A numeral has more than 38 digits. Round a p-value up."),
+    ("limit: {place}: degree", "An edge has a power of epsilon above 4."),
+    ("limit: {place}: part", "An edge has a number above 10^18."),
+    ("limit: {place}: depth", "An edge has more than 32 open parentheses."),
 ]
-
-_PLACES_OF_NUMERALS = ["line N", "row N column N", "PATH"]
 
 _EXPLANATIONS = [
     ("no memory", "Out of memory."),
-    ("usage: word N", "This word of the call, counted from 1, is not allowed here, or a word is missing here. "
-                      "A level is given with a sheet, and only with a sheet."),
-    ("malformed: line N: unexpected", "The first word of this line is not allowed here. The lines come in the order alpha, "
-                                      "hypotheses, p, weights, edge, and the lines of stages after them."),
-    ("malformed: line N: ended", "The text ends where a line must follow."),
-    ("malformed: line N: words", "This line has too many words or too few."),
-    ("malformed: line N: unknown name", "This line names something that is not a hypothesis of the case."),
-    ("malformed: line N: whole number", "A number of stages, or a stage, is not 1 to 9 digits."),
-    ("malformed: proof line N: unexpected", "The first word of this line of the proof is not allowed here."),
-    ("malformed: proof line N: ended", "The proof ends where a line must follow."),
-    ("malformed: proof line N: words", "This line of the proof has too many words or too few."),
+    ("usage: word N", "This word of the call, counted from 1, is unknown, repeated, missing, or forbidden by another word. A sheet "
+                      "needs alpha, and the other forms forbid it."),
+    ("malformed: line N: unexpected", "The first word is not allowed here, or the name in a line spend or table is another than "
+                                      "the next. Keep the order: alpha, hypotheses, p, weights, edge, stages, spend, arrive."),
+    ("malformed: line N: ended", "The text ends where a line must follow. Add what is missing."),
+    ("malformed: line N: words", "The line has too few or too many words."),
+    ("malformed: line N: whole number", "The number of a stage is not 1 to 9 digits."),
+    ("malformed: proof line N: unexpected", "The first word is not allowed here. Use the evidence of this case."),
+    ("malformed: proof line N: ended", "The proof ends where a line must follow. Use the evidence of this case."),
+    ("malformed: proof line N: words", "The line has too few or too many words. Use the evidence of this case."),
     ("malformed: proof line N: version", "The version of the proof is not 1 or 2."),
-    ("malformed: proof line N: unknown name", "This line of the proof names something that is not a hypothesis of the case."),
-    ("malformed: proof line N: flow", "The component or the name of this flow is not the one that must come here."),
-    ("malformed: proof line N: exit", "The component or the name of this exit is not the one that must come here."),
-    ("malformed: proof line N: number", "This line of the proof has no number where one must be."),
-    ("malformed: row N column N: header", "The header of the sheet has to begin with an empty field or hypothesis, then weight, "
-                                          "p, and the names."),
-    ("malformed: row N column N: records", "The sheet has too many records or too few. It has one for each name of the header."),
-    ("malformed: row N column N: width", "This record has another number of fields than the header."),
-    ("malformed: row N column N: name", "This record's name is not the one that the header has at this place."),
-    ("malformed: json: syntax", "The bytes are not a JSON value."),
-    ("malformed: PATH: shape", "The JSON value has something of the wrong kind here, lacks a key, or has an unknown key."),
-    ("malformed: PATH: not whole", "This JSON number is not whole. Write a decimal as a text: \"0.025\"."),
-    ("malformed: PATH: unknown name", "This text is not the name of a hypothesis of the case."),
-    ("malformed: case: no hypothesis", "The case names no hypothesis."),
-    ("malformed: case: name N", "This name, counted from 1, is not 1 to 32 ASCII letters, digits, _, . or -."),
-    ("malformed: case: duplicate name N", "This name, counted from 1, stands earlier already."),
-    ("malformed: case: no component", "The case has no weights."),
+    ("malformed: proof line N: unknown name", "A name is not the name of a hypothesis. Use the evidence of this case."),
+    ("malformed: proof line N: flow", "The component or the name is not the one that must be here. Use the evidence of this case."),
+    ("malformed: proof line N: exit", "The component or the name is not the one that must be here. Use the evidence of this case."),
+    ("malformed: proof line N: number", "A word is not a number. Use the evidence of this case."),
+    ("malformed: row N column N: header", "One of the first three fields of the header is wrong, or there is no header. Begin with "
+                                          "hypothesis,weight,p and the names. Semicolons are not separators."),
+    ("malformed: row N column N: records", "There are too few or too many rows. The sheet has one for each name of the header."),
+    ("malformed: row N column N: width", "The row has another number of fields than the header."),
+    ("malformed: row N column N: name", "The first field is not the name that the header has at this place. Keep the order of the "
+                                        "header."),
+    ("malformed: json: syntax", "The bytes are not one JSON value. A byte order mark is refused."),
+    ("malformed: PATH: shape", "A value is of the wrong kind, a key is missing, or an object has an unknown key."),
+    ("malformed: PATH: not whole", "A JSON number is not whole. Write decimals as texts: \"0.025\"."),
+    ("malformed: case: no hypothesis", "There is no name."),
+    ("malformed: case: name N", "The name, counted from 1, is not 1 to 32 ASCII letters, digits, _, . or -."),
+    ("malformed: case: duplicate name N", "The name, counted from 1, is equal to an earlier one."),
+    ("malformed: case: no component", "There is no graph."),
     ("malformed: case: alpha", "The level is not above 0 and at most 1."),
-    ("malformed: case: share component N", "The share of this component is below 0."),
-    ("malformed: case: share sum", "The shares of the components sum to more than 1."),
-    ("malformed: case: weight count component N", "This component has another number of weights than there are hypotheses."),
-    ("malformed: case: weight of NAME component N", "The weight of this hypothesis is below 0."),
-    ("malformed: case: weight sum component N", "The weights sum to more than 1. Rounded numbers can: write fractions, as 1/3."),
-    ("malformed: case: self edge of NAME component N", "This hypothesis has an edge to itself."),
-    ("malformed: case: repeated edge NAME NAME component N", "This edge stands twice."),
-    ("malformed: case: edge NAME NAME component N", "The weight of this edge is not from 0 to 1."),
-    ("malformed: case: row sum of NAME component N", "The edges from this hypothesis sum to more than 1. Rounded numbers can: write fractions, as 1/3."),
-    ("malformed: case: mixed", "The case has stages and a line p. P-values of a staged case come as arrivals."),
-    ("malformed: case: p count N", "The case has this number of p-values, and another number of hypotheses."),
-    ("malformed: case: p missing NAME", "This hypothesis has no p-value, and others have one."),
-    ("malformed: case: p of NAME", "The p-value of this hypothesis is not from 0 to 1."),
+    ("malformed: case: share component N", "A share is below 0."),
+    ("malformed: case: share sum", "The shares sum to more than 1."),
+    ("malformed: case: weight count component N", "The number of weights is not the number of hypotheses."),
+    ("malformed: case: weight of NAME component N", "A weight is below 0."),
+    ("malformed: case: weight sum component N", "The weights sum to more than 1. Write thirds as 1/3: six times 0.166667 is more "
+                                                "than 1."),
+    ("malformed: case: self edge of NAME component N", "A hypothesis passes weight to itself."),
+    ("malformed: case: repeated edge NAME NAME component N", "A pair has two edges."),
+    ("malformed: case: edge NAME NAME component N", "An edge is not from 0 to 1."),
+    ("malformed: case: row sum of NAME component N", "The edges from a hypothesis sum to more than 1, be it by an epsilon. Write "
+                                                     "1-\\epsilon beside \\epsilon, and thirds as 1/3."),
+    ("malformed: case: mixed", "There are stages and single p-values. Leave out one of the two."),
+    ("malformed: case: p count N", "The number of p-values is not the number of hypotheses."),
+    ("malformed: case: p missing NAME", "Some p-values are given, and this one is not. Give 1 if there is none."),
+    ("malformed: case: p of NAME", "A p-value is not from 0 to 1."),
     ("malformed: case: no stage", "The number of stages is 0."),
-    ("malformed: case: spend count N", "The line of this hypothesis, counted from 1, has another number of values than there are "
-                                       "stages; or a hypothesis has no such line."),
-    ("malformed: case: step N of NAME", "This step of the table has no allowed weight, or levels that are below 0, fall, or sum "
-                                        "to more than the weight times alpha."),
-    ("malformed: case: spend of NAME stage N", "What this hypothesis spends at this stage is below 0."),
-    ("malformed: case: spend sum of NAME", "What this hypothesis spends sums to more than 1."),
-    ("malformed: case: arrival N stage", "This arrival is at a stage that the case does not have."),
-    ("malformed: case: arrival N repeated", "This hypothesis has a p-value at this stage already."),
-    ("malformed: case: arrival N p", "The p-value of this arrival is not from 0 to 1."),
-    ("malformed: kind", "The command cannot use this case. test, bounds, simes, evidence and check need a p-value for each "
-                        "hypothesis; stages needs stages; canon to csv needs one component of share 1 without stages."),
+    ("malformed: case: spend count N", "The hypothesis, counted from 1, does not spend at each stage. Give one number for each stage."),
+    ("malformed: case: step N of NAME", "The weight of a step of a table is not above 0, at most 1 and above that of the step before."),
+    ("malformed: case: spend of NAME stage N", "A fraction is below 0; or a level is below 0, or below that of the step before."),
+    ("malformed: case: spend sum of NAME", "The fractions sum to more than 1, or the levels of a step to more than its weight times "
+                                           "alpha. Levels that use the correlation of the looks sum to more, and are not possible."),
+    ("malformed: case: arrival N stage", "An arrival names no stage of the case."),
+    ("malformed: case: arrival N repeated", "An arrival repeats an earlier one."),
+    ("malformed: case: arrival N p", "The p-value of an arrival is not from 0 to 1."),
+    ("malformed: kind", "The case has not what the command needs. test, bounds, simes, evidence and check need a p-value for each "
+                        "hypothesis; stages needs stages; canon to csv needs one graph of share 1 without stages."),
     ("limit: bytes N", "The case has more than 4,194,304 bytes."),
     ("limit: proof bytes N", "The proof has more than 4,194,304 bytes."),
-    ("limit: closure N", "The case has this number of hypotheses. weights, bounds and simes take at most 16."),
-    ("limit: size N", "A size is from 1 to 64, and so is the sum of two sizes."),
-    ("limit: seed N", "A seed is below 2^48."),
-    ("limit: hypotheses N", "The case has this number of hypotheses. At most 64 are allowed."),
-    ("limit: components N", "The case has this number of components. At most 8 are allowed."),
-    ("limit: stages N", "The case has this number of stages. At most 12 are allowed."),
-    ("limit: spend steps N", "A table of levels has this number of steps. At most 32 are allowed."),
-    ("limit: case: part alpha", "The level has a numerator or a denominator above 10,000: more than four decimals."),
-    ("limit: case: part p of NAME", "The p-value of this hypothesis has a denominator above 10^30. Round it to fewer digits."),
-    ("limit: case: part arrival N", "The p-value of this arrival has a denominator above 10^30. Round it to fewer digits."),
-    ("limit: case: part spend of NAME stage N", "What this hypothesis spends at this stage has a part above 10,000."),
-    ("limit: case: part ANY", "A numerator or a denominator of this number is above 10^18."),
-    ("too wide: ANY", "A number that is computed here does not fit into 128 bits. Weights and edges with smaller or common "
-                      "denominators help."),
+    ("limit: closure N", "weights, bounds and simes take at most 16 hypotheses. test takes 64."),
+    ("limit: hypotheses N", "There are more than 64 hypotheses."),
+    ("limit: components N", "There are more than 8 graphs."),
+    ("limit: stages N", "There are more than 12 stages."),
+    ("limit: spend steps N", "There are more than 32 steps of a table."),
+    ("limit: size N", "A size is 0 or above 64."),
+    ("limit: seed N", "A seed is 2^48 or more."),
+    ("limit: case: part alpha", "The numerator or the denominator of the level is above 10,000. It has at most four decimals."),
+    ("limit: case: part p of NAME", "The denominator of a p-value is above 10^30. Round one below 10^-30 up to 1e-30."),
+    ("limit: case: part arrival N", "The denominator of a p-value is above 10^30. Round one below 10^-30 up to 1e-30."),
+    ("limit: case: part spend of NAME stage N", "The numerator or the denominator of a fraction of spend is above 10,000."),
+    ("limit: case: part ANY", "The numerator or the denominator of a number is above 10^18."),
+    ("too wide: ANY", "A number of the run has a numerator or denominator of 2^127 or more, or a power of epsilon above 32. Use "
+                      "weights and edges with small common denominators: 1/3 in place of 0.3333333."),
 ]
-_EXPLANATIONS += [(line.format(place=place), words) for place in _PLACES_OF_NUMERALS for line, words in _NUMERAL_KINDS]
+_EXPLANATIONS += [
+    (line.format(place=place), words) for place in ("line N", "row N column N", "PATH") for line, words in _KINDS_OF_A_WORD
+]
 
 _HOLES = {"N": r"\d+", "NAME": r"[A-Za-z0-9_.-]+", "PATH": r"(?:/\S*)?", "ANY": r".*"}
 
