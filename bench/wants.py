@@ -227,7 +227,7 @@ class Function:
 
 
 def is_of_tests(crate):
-    return crate.endswith("_tests") or crate in ACCEPTANCE
+    return crate.startswith("tests_") or crate in ACCEPTANCE
 
 
 def tables_of(crate):
@@ -325,7 +325,7 @@ class Copy:
 
     def layer_of(self, crate):
         """The crate itself, and the first crate of tests that uses it."""
-        return [crate, *[it for it, below in self.uses.items() if it.endswith("_tests") and crate in below][:1]]
+        return [crate, *[it for it, below in self.uses.items() if it.startswith("tests_") and crate in below][:1]]
 
     def users_of(self, crate):
         """The crates with tests that use a crate, nearest first."""

@@ -24,6 +24,8 @@
 //!     fronts case STATUS:COUNT ..
 //!                           how many front parts of the case (with `file`, of the file), the empty one and the whole among
 //!                           them, end with each status, and how the one line begins that those print which aren't 0 or 1
+//!     room BYTES            the sink has room for this number of bytes, and takes what fits at once
+//!     counts LINES DIGEST   the number of lines that are printed, and the FNV-1a digest of all bytes, in hexadecimal
 //!     devices               it is run again over devices that move few bytes, and over such as fail, each call in turn
 //!
 //! Bytes stand in the lines below:
@@ -40,6 +42,7 @@
 #![tactic(auto)]
 
 mod blocks;
+mod counts;
 mod devices;
 mod endings;
 mod findings;

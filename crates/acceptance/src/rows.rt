@@ -1,6 +1,8 @@
 //! Rows of a table: what a run is given, and how it must end.
 use crate::blocks::Block;
+use crate::counts::Counts;
 use crate::fronts::Fronts;
+use crate::plan::Plan;
 use crate::printed::Printed;
 use crate::runs::Given;
 use crate::words::words_of;
@@ -39,6 +41,10 @@ pub struct Row<'a> {
     pub ending: Option<Ending<'a>>,
     /// What `check` is to print of the case and what is printed.
     pub checked: Option<&'a [u8]>,
+    /// The room of the sink in bytes, where it isn't that of a failing sink.
+    pub room: Option<usize>,
+    /// How long the printed text is, and its digest.
+    pub counts: Option<Counts>,
     /// Whether each device is to fail in turn.
     pub devices: bool,
     pub fronts: Option<Fronts<'a>>,
@@ -66,6 +72,8 @@ impl<'a> Row<'a> {
             leaves: 0,
             ending: None,
             checked: None,
+            room: None,
+            counts: None,
             devices: false,
             fronts: None,
         })
@@ -79,6 +87,14 @@ impl<'a> Row<'a> {
             case: self.case,
             file: self.file,
             kept: self.has_keeper.then_some(self.looks_behind(0)),
+        }
+    }
+
+    /// Returns the plan of its run where no call fails.
+    pub fn plan(&self) -> Plan {
+        match self.room {
+            Some(room) => Plan::of_room(room),
+            None => Plan::whole(),
         }
     }
 
@@ -118,6 +134,8 @@ impl<'a> Row<'a> {
             ("keeps", look) => self.looks.push(look_of(look)?)?,
             ("keeper", "none") => self.has_keeper = false,
             ("leaves", count) => self.leaves = count.parse::<usize>()?,
+            ("room", bytes) => self.room = Some(bytes.parse::<usize>()?),
+            ("counts", counts) => self.counts = Some(Counts::read(counts)?),
             ("devices", "") => self.devices = true,
             (word, _) => bail!("{word} says nothing of a row"),
         }

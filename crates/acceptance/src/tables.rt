@@ -1,5 +1,6 @@
 //! The runs of a table.
 use crate::blocks::read_blocks;
+use crate::counts::Counts;
 use crate::devices::Devices;
 use crate::endings::{Ended, Wanted};
 use crate::findings::Findings;
@@ -32,9 +33,11 @@ fn run_row(alloc: Global, findings: &mut Findings, row: &Row) -> Result<()> {
         printed: ending.printed,
         looks: row.looks.as_slice(),
     };
-    let ended = findings.run(&row.given(), &Plan::whole())?;
-    findings.compare(row, &Plan::whole(), &wanted, &ended)?;
+    let plan = row.plan();
+    let ended = findings.run(&row.given(), &plan)?;
+    findings.compare(row, &plan, &wanted, &ended)?;
     expect_left(findings, row, &ended)?;
+    expect_counts(findings, row, &ended)?;
     if wanted.is(&ended) {
         run_besides(alloc, findings, row, &ended)?;
     }
@@ -50,6 +53,17 @@ fn expect_left(findings: &mut Findings, row: &Row, ended: &Ended) -> Result<()> 
             row,
             format_args!("left of the case: wanted {wanted:?}, came {came:?}"),
         )?;
+    }
+    Ok(())
+}
+
+/// What is printed is to have the length and the digest that the row says.
+fn expect_counts(findings: &mut Findings, row: &Row, ended: &Ended) -> Result<()> {
+    if let Some(wanted) = row.counts {
+        let came = Counts::of(ended.printed.as_slice());
+        if came != wanted {
+            findings.tell(row, format_args!("printed: wanted {wanted}, came {came}"))?;
+        }
     }
     Ok(())
 }

@@ -1,13 +1,12 @@
 pub mod CellFacts
-pub mod CsvFaults
 pub mod Drafts
 pub mod OneTable
 pub mod RecordsLeft
-pub mod RowCells
-pub mod RowsRead
+pub mod Results
+pub mod RowEntries
 pub mod SheetCases
 pub mod SheetDrafts
 pub mod SheetEdges
 pub mod SheetRecords
+pub mod SheetRows
 pub mod SheetWriter
-pub mod SomeTable

@@ -1,11 +1,11 @@
 -- The records of a sheet are read back from its text, and say its draft.
-use Rattle.std.proofs.Common.{◌≡◌, ◌≢◌, refl, sym, ap, ap₂, subst, ◌∙◌, ℕ, zero, suc, ◌+◌, ◌-◌, ◌*◌, ◌<◌, ◌≤◌}
-use Rattle.std.proofs.Common.{◌==◌, ◌||◌, ◌&&◌, ◌⊎◌, inl, inr, List, [], ◌∷◌, ◌++◌, length, map, take, drop, get_or, true}
-use Rattle.std.proofs.Common.{false, Some, None, true≢false, arith}
+use Rattle.std.proofs.Common.{◌≡◌, ◌≢◌, refl, sym, ap, ap₂, subst, ◌∙◌, ℕ, zero, suc, ◌+◌, ◌-◌, ◌<◌}
+use Rattle.std.proofs.Common.{◌==◌, ◌||◌, inl, inr, List, [], ◌∷◌, ◌++◌, length, map, take, drop, get_or, true}
+use Rattle.std.proofs.Common.{false, Some, None, Ok, arith}
 use Rattle.std.specs.Prelude.{codes}
-use Rattle.std.specs.List.{AllByRecursion, AllZip, flat_map, prefix_len, suffix_len, range_with_len}
+use Rattle.std.specs.List.{AllByRecursion, flat_map, prefix_len, suffix_len, range_with_len}
 use Rattle.std.specs.Str.{bytes_eq}
-use Rattle.std.proofs.lemmas.Bool.{cases_Bool}
+use Rattle.std.proofs.lemmas.Bool.{cases_Bool, lt-ltb}
 use Rattle.std.proofs.lemmas.Bool.Decides.{nat_tests}
 use Rattle.std.proofs.lemmas.List.{take_all}
 use Rattle.std.proofs.lemmas.List.FromFn.{length-map-range_with_len}
@@ -36,7 +36,11 @@ use Rattle.text_lines.specs.Spelling.{IsPlain, IsWord}
 use Rattle.text_lines.specs.Words.{is_blank, after_blanks}
 use Rattle.case_csv.specs.Records.{Fields, records_of, text_of}
 use Rattle.case_csv.specs.Sheet.{header_fields, p_field, row_fields}
-use Rattle.case_csv.specs.Table.{Cells, bare, is_missing, IsPlace, has_heading, IsHeader, RowSaid, IsRow, AreRows}
+use Rattle.case_csv.specs.declared.fault.RowKind.TheVariants.{Number}
+use Rattle.field_core.specs.Answers.{mapped, told_as}
+use Rattle.case_csv.specs.Table.{Cells, bare, header_of, is_missing, given_or, p_value_of, entries_of, RowSaid, row_of, rows_of}
+use Rattle.numerals.proofs.Numerals.{numeral_ok}
+use Rattle.entries.proofs.Entries.{entry_ok}
 use Rattle.case_csv.proofs.RecordsLeft.{one_left, none_left}
 use Rattle.case_csv.proofs.SheetDrafts.{p_at, content_with, said_at}
 
@@ -161,13 +165,14 @@ number_given x =
     missing_no (number_word x) (spelling_some (terms x) x.valid)
     (λ e. let bytes = subst (AllByRecursion IsSpellingByte) e (spelling_bytes (terms x) x.valid) in no_letter bytes.0)
 
-pub p_said : (x : Ratio) → IsNumeralOf (number_word x) (terms x) → IsPlace (number_word x) (Some x)
-p_said x h = (number_given x, h)
+pub p_said : (x : Ratio) → IsNumeralOf (number_word x) (terms x) → p_value_of (number_word x) ≡ Ok (Some x)
+p_said x h = ap (λ b. given_or b (number_word x)) (number_given x) ∙ ap (λ r. mapped Some (told_as Number r)) (numeral_ok (number_word x) x h)
 
-entries_said : (entry : ℕ → List Ratio) (p n : ℕ) → ((j : ℕ) → IsEntryText (entry_text (entry j)) (entry j))
-    → AllZip IsEntryText (map (λ j. entry_text (entry j)) (range_with_len p n)) (map entry (range_with_len p n))
-entries_said entry p zero h = tt
-entries_said entry p (suc n) h = (h p, entries_said entry (p + 1) n h)
+entries_said : (number column : ℕ) (entry : ℕ → List Ratio) (p n : ℕ) → ((j : ℕ) → IsEntryText (entry_text (entry j)) (entry j))
+    → entries_of number column (map (λ j. entry_text (entry j)) (range_with_len p n)) ≡ Ok (map entry (range_with_len p n))
+entries_said number column entry p zero h = refl
+entries_said number column entry p (suc n) h =
+    rw (entry_ok (entry_text (entry p)) (entry p) (h p), entries_said number (column + 1) entry (p + 1) n h) refl
 
 module _ (names : List (List ℕ)) (alpha : Ratio) (k : Component) (inputs : Inputs) where
   abbrev m : ℕ
@@ -177,7 +182,7 @@ module _ (names : List (List ℕ)) (alpha : Ratio) (k : Component) (inputs : Inp
   pub record IsSheetSaid : Type 0 where
     pub names_are : Each names IsWord
     pub weights : (i : ℕ) → i < m → IsNumeralOf (number_word (ratio_at k.weights i)) (terms (ratio_at k.weights i))
-    pub p_values : (i : ℕ) → i < m → IsPlace (p_field inputs i) (p_at inputs i)
+    pub p_values : (i : ℕ) → i < m → p_value_of (p_field inputs i) ≡ Ok (p_at inputs i)
     pub entries : (i j : ℕ) → IsEntryText (entry_text (entry_at m k.edges i j)) (entry_at m k.edges i j)
 
   abbrev cells_at : ℕ → Cells
@@ -189,37 +194,39 @@ module _ (names : List (List ℕ)) (alpha : Ratio) (k : Component) (inputs : Inp
       ap₂ ◌∷◌ (word_bare (name_at names i) (h.names_are i (name_at names i) (slice_get-get_or names i [] l)))
       (ap₂ ◌∷◌ (word_bare (number_word weight) (number_is_word weight)) (ap₂ ◌∷◌ (p_bare inputs i) (edges_bare (entry_at m k.edges i) 0 m)))
 
-  row_said : IsSheetSaid → (i : ℕ) → i < m → IsRow (length (header_fields names)) (name_at names i) (row_fields (content_with names alpha k inputs) i)
-      (said_at names alpha k inputs i)
-  row_said h i l = record {
-    as_wide = ap (λ n. suc (suc (suc n))) (length-map-range_with_len (λ j. entry_text (entry_at m k.edges i j)) 0 m);
-    name_is = refl;
-    weight = (number_word (ratio_at k.weights i), refl, h.weights i l);
-    p = (p_field inputs i, refl, h.p_values i l);
-    entries = entries_said (entry_at m k.edges i) 0 m (h.entries i);
-  }
+  row_said : IsSheetSaid → (number i : ℕ) → i < m
+      → row_of (length (header_fields names)) number (name_at names i) (row_fields (content_with names alpha k inputs) i) ≡ Ok (said_at names alpha k inputs i)
+  row_said h number i l =
+      let wide : (length (row_fields (content_with names alpha k inputs) i) == length (header_fields names)) ≡ true =
+      grind (arith, nat_tests, length-map-range_with_len (λ j. entry_text (entry_at m k.edges i j)) 0 m) in
+      let named : bytes_eq (name_at names i) (name_at names i) ≡ true = (bytes_eq-Decides (name_at names i) (name_at names i)).1 refl in
+      rw (
+        wide,
+        named,
+        numeral_ok (number_word (ratio_at k.weights i)) (ratio_at k.weights i) (h.weights i l),
+        h.p_values i l,
+        entries_said number 4 (entry_at m k.edges i) 0 m (h.entries i),
+      ) refl
 
-  pub each_row_said : IsSheetSaid → (i : ℕ) → i < m
-      → IsRow (length (header_fields names)) (name_at names i) (cells_at i) (said_at names alpha k inputs i)
-  each_row_said h i l = subst (λ cells. IsRow (length (header_fields names)) (name_at names i) cells (said_at names alpha k inputs i)) (sym (row_bare h i l))
-      (row_said h i l)
+  pub each_row_said : IsSheetSaid → (number i : ℕ) → i < m
+      → row_of (length (header_fields names)) number (name_at names i) (cells_at i) ≡ Ok (said_at names alpha k inputs i)
+  each_row_said h number i l = ap (row_of (length (header_fields names)) number (name_at names i)) (row_bare h i l) ∙ row_said h number i l
 
 -- rows by their places
-pub rows_by_place : (width : ℕ) (cells : ℕ → Cells) (said : ℕ → RowSaid) (names : List (List ℕ)) (p : ℕ)
-    → ((i q : ℕ) → p + i ≡ q → i < length names → IsRow width (name_at names i) (cells q) (said q))
-    → AreRows width names (map cells (range_with_len p (length names))) (map said (range_with_len p (length names)))
-rows_by_place width cells said [] p h = tt
-rows_by_place width cells said (name ∷ names) p h =
-    (h 0 p (omega arith) (omega arith), rows_by_place width cells said names (p + 1) (λ i q s l. h (suc i) q (omega arith) (omega arith)))
+pub rows_by_place : (width number : ℕ) (cells : ℕ → Cells) (said : ℕ → RowSaid) (names : List (List ℕ)) (p : ℕ)
+    → ((n i q : ℕ) → p + i ≡ q → i < length names → row_of width n (name_at names i) (cells q) ≡ Ok (said q))
+    → rows_of width number names (map cells (range_with_len p (length names))) ≡ Ok (map said (range_with_len p (length names)))
+rows_by_place width number cells said [] p h = refl
+rows_by_place width number cells said (name ∷ names) p h =
+    rw (
+      h number 0 p (omega arith) (omega arith),
+      rows_by_place width (number + 1) cells said names (p + 1) (λ n i q s l. h n (suc i) q (omega arith) (omega arith)),
+    ) refl
 
-pub header_said : (names : List (List ℕ)) → IsHeader (header_fields names) names
-header_said names = record { headings = at; names_are = refl }
-  where
-    at : (place : ℕ) → place < 3 → has_heading (header_fields names) place ≡ true
-    at zero l = refl
-    at (suc zero) l = refl
-    at (suc (suc zero)) l = refl
-    at (suc (suc (suc n))) l = absurd (omega arith)
+pub header_said : (names : List (List ℕ)) → header_of (header_fields names) ≡ Ok names
+header_said names =
+    let all = length (header_fields names) in
+    rw (lt-ltb 0 all (omega arith), lt-ltb 1 all (omega arith), lt-ltb 2 all (omega arith)) refl
 
 pub rows_have_fields : (row : ℕ → Fields) → ((i : ℕ) → row i ≢ []) → (p n : ℕ) → HaveFields (map row (range_with_len p n))
 rows_have_fields row h p zero = tt

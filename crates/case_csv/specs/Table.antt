@@ -1,20 +1,23 @@
--- What the records of CSV say: a header, and for each hypothesis a name, a weight, a p-value and a row of edges.
-use Rattle.std.specs.Prelude.{◌≡◌, pos, ℕ, ◌+◌, ◌-◌, ◌<◌, ◌==◌, ◌&&◌, ◌||◌, Bool, true, false, if◌then◌else◌, List, []}
-use Rattle.std.specs.Prelude.{◌∷◌, ◌++◌, Option, Some, None, map, length, take, drop, slice_get, codes}
-use Rattle.std.specs.List.{AllZip, suffix_len}
-use Rattle.std.specs.Option.{option_map_or}
+-- What the records of CSV say, or their first fault: a header, and for each hypothesis a name, a weight, a p-value and a row of edges.
+use Rattle.std.specs.Prelude.{◌≡◌, pos, ℕ, ◌+◌, ◌-◌, ◌==◌, ◌&&◌, ◌||◌, Bool, true, false, if◌then◌else◌, List, []}
+use Rattle.std.specs.Prelude.{◌∷◌, ◌++◌, Option, Some, None, Result, Ok, Err, map, length, take, drop, get_or, nat_lt, codes}
+use Rattle.std.specs.List.{suffix_len}
 use Rattle.std.specs.Str.{bytes_eq}
-use Rattle.field_core.specs.View.{terms}
 use Rattle.field_core.specs.declared.ratio.Ratio.{Ratio}
-use Rattle.fraction.specs.Numeral.{IsNumeralOf}
+use Rattle.field_core.specs.Answers.{◌>>=◌, mapped, told_as}
 use Rattle.fraction.specs.Plain.{one_reduced}
+use Rattle.numerals.specs.Numerals.{numeral_of}
 use Rattle.case_model.specs.declared.draft.Draft.{Draft}
 use Rattle.case_model.specs.declared.draft_component.DraftComponent.{DraftComponent}
 use Rattle.case_model.specs.declared.draft_edge.DraftEdge.{DraftEdge}
-use Rattle.edge_expression.specs.EntryReading.{IsEntryText}
+use Rattle.entries.specs.Entries.{entry_of}
 use Rattle.edge_text.specs.CanonicalText.{is_absent}
 use Rattle.text_lines.specs.Words.{is_blank, after_blanks}
+use Rattle.case_csv.specs.declared.fault.RowKind.{RowKind}
+use Rattle.case_csv.specs.declared.fault.RowKind.TheVariants.{NoHeader, Header, Count, Width, Name, Number, Expr}
+use Rattle.case_csv.specs.declared.table.Start.{Start}
 use Rattle.case_csv.specs.Records.{records_of}
+use Rattle.case_csv.specs.Answers.{RowFault, at, holds_or}
 
 -- ---- cells
 
@@ -30,6 +33,10 @@ Cells = List (List ℕ)
 abbrev pub cells_of : List ℕ → List Cells
 cells_of bytes = map (map bare) (records_of bytes)
 
+-- the cell at a place of a record, from 0
+abbrev pub cell_at : Cells → ℕ → List ℕ
+cell_at cells place = get_or cells place []
+
 -- ---- the header
 
 -- whether a cell may stand at a place of the header, from 0: nothing or `hypothesis`, then `weight`, then `p`
@@ -41,12 +48,19 @@ is_heading place cell =
 
 -- the header has a cell at the place that may stand there
 abbrev pub has_heading : Cells → ℕ → Bool
-has_heading header place = option_map_or (is_heading place) (slice_get header place) false
+has_heading header place = nat_lt place (length header) && is_heading place (cell_at header place)
 
--- The first three cells of a header, and behind them the names.
-pub record IsHeader (header : Cells) (names : List (List ℕ)) : Type 0 where
-  pub headings : (place : ℕ) → place < 3 → has_heading header place ≡ true
-  pub names_are : names ≡ drop 3 header
+-- nothing, where it has
+abbrev pub heading : Cells → ℕ → Result (Unit {0}) RowFault
+heading header place = at 1 (place + 1) (holds_or Header (has_heading header place))
+
+-- the names in a header: the cells behind the first three
+abbrev pub header_of : Cells → Result (List (List ℕ)) RowFault
+header_of header = do
+  hypothesis ← heading header 0
+  weight ← heading header 1
+  p ← heading header 2
+  Ok (drop 3 header)
 
 -- ---- a row
 
@@ -54,10 +68,38 @@ pub record IsHeader (header : Cells) (names : List (List ℕ)) : Type 0 where
 abbrev pub is_missing : List ℕ → Bool
 is_missing cell = (length cell == 0) || bytes_eq cell (codes "NA")
 
--- the cell has this p-value, or none
-abbrev pub IsPlace : List ℕ → Option Ratio → Type 0
-IsPlace cell None = is_missing cell ≡ true
-IsPlace cell (Some p) = (is_missing cell ≡ false) × IsNumeralOf cell (terms p)
+-- a numeral
+abbrev pub number_of : List ℕ → Result Ratio RowKind
+number_of cell = told_as Number (numeral_of cell)
+
+-- a p-value, or none where it is missing
+abbrev pub given_or : Bool → List ℕ → Result (Option Ratio) RowKind
+given_or true cell = Ok None
+given_or false cell = mapped Some (number_of cell)
+
+abbrev pub p_value_of : List ℕ → Result (Option Ratio) RowKind
+p_value_of cell = given_or (is_missing cell) cell
+
+-- an expression, the weight of an edge
+abbrev pub edge_of : List ℕ → Result (List Ratio) RowKind
+edge_of cell = told_as Expr (entry_of cell)
+
+-- the cells before the edges, in the record of a number: as wide as the header, the name, a weight, a p-value or none
+abbrev pub start_of : ℕ → ℕ → List ℕ → Cells → Result Start RowFault
+start_of width number name cells = do
+  wide ← at number 1 (holds_or Width (length cells == width))
+  named ← at number 1 (holds_or Name (bytes_eq (cell_at cells 0) name))
+  weight ← at number 2 (number_of (cell_at cells 1))
+  p ← at number 3 (p_value_of (cell_at cells 2))
+  Ok (record { weight = weight; p = p })
+
+-- the edges of a row, from left to right, the first of them in this column
+abbrev pub entries_of : ℕ → ℕ → Cells → Result (List (List Ratio)) RowFault
+entries_of number column [] = Ok []
+entries_of number column (cell ∷ cells) = do
+  entry ← at number column (edge_of cell)
+  entries ← entries_of number (column + 1) cells
+  Ok (entry ∷ entries)
 
 -- what a row says: a weight, a p-value or none, and the entries of a row of edges
 pub record RowSaid : Type 0 where
@@ -65,23 +107,44 @@ pub record RowSaid : Type 0 where
   pub p : Option Ratio
   pub entries : List (List Ratio)
 
--- there is such a cell at the place
-abbrev pub HasCell : Cells → ℕ → (List ℕ → Type 0) → Type 0
-HasCell cells place Is = (cell : List ℕ) × (slice_get cells place ≡ Some cell) × Is cell
+-- the row of the hypothesis of this name
+abbrev pub row_of : ℕ → ℕ → List ℕ → Cells → Result RowSaid RowFault
+row_of width number name cells = do
+  start ← start_of width number name cells
+  entries ← entries_of number 4 (drop 3 cells)
+  Ok (record { weight = start.weight; p = start.p; entries = entries })
 
--- The row of the hypothesis of this name, as wide as the header: the name, a weight, a p-value or none, and an expression for each hypothesis.
-pub record IsRow (width : ℕ) (name : List ℕ) (cells : Cells) (said : RowSaid) : Type 0 where
-  pub as_wide : length cells ≡ width
-  pub name_is : slice_get cells 0 ≡ Some name
-  pub weight : HasCell cells 1 (λ cell. IsNumeralOf cell (terms said.weight))
-  pub p : HasCell cells 2 (λ cell. IsPlace cell said.p)
-  pub entries : AllZip IsEntryText (drop 3 cells) said.entries
+-- ---- the rows
 
--- a row for each name, in their order
-abbrev pub AreRows : ℕ → List (List ℕ) → List Cells → List RowSaid → Type 0
-AreRows width [] [] [] = Unit {0}
-AreRows width (name ∷ names) (row ∷ rows) (said ∷ more) = IsRow width name row said × AreRows width names rows more
-AreRows width names rows said = ⊥
+-- a record that is missing or surplus
+abbrev pub wrong_count : {A : Type 0} → ℕ → Result A RowFault
+wrong_count number = Err (record { row = number; column = 1; kind = Count })
+
+-- a row for each name, in their order, the first of them in the record of this number
+abbrev pub rows_of : ℕ → ℕ → List (List ℕ) → List Cells → Result (List RowSaid) RowFault
+rows_of width number [] [] = Ok []
+rows_of width number [] (surplus ∷ records) = wrong_count number
+rows_of width number (name ∷ names) [] = wrong_count number
+rows_of width number (name ∷ names) (cells ∷ records) = do
+  row ← row_of width number name cells
+  rows ← rows_of width (number + 1) names records
+  Ok (row ∷ rows)
+
+-- ---- the sheet
+
+-- what a sheet says: the names of its hypotheses, and their rows
+pub record SheetSaid : Type 0 where
+  pub names : List (List ℕ)
+  pub rows : List RowSaid
+
+-- What records say, or their first fault. The header is read first, then each record in order: whether it is surplus, its
+-- width, and its cells from left to right; a missing record is found last.
+abbrev pub sheet_of : List Cells → Result SheetSaid RowFault
+sheet_of [] = Err (record { row = 1; column = 1; kind = NoHeader })
+sheet_of (header ∷ records) = do
+  names ← header_of header
+  rows ← rows_of (length header) 2 names records
+  Ok (record { names = names; rows = rows })
 
 -- ---- the draft
 
@@ -111,13 +174,10 @@ component_of rows = record { share = one; weights = map (λ row. row.weight) row
 abbrev pub draft_of : Ratio → List (List ℕ) → List RowSaid → Draft
 draft_of alpha names rows = record { names = names; alpha = alpha; p = map (λ row. row.p) rows; components = component_of rows ∷ []; stages = None }
 
--- These records are a header and a row for each of its names, and they say this draft at the level.
-pub record IsTable (records : List Cells) (alpha : Ratio) (draft : Draft) : Type 0 where
-  pub header : Cells
-  pub rest : List Cells
-  pub names : List (List ℕ)
-  pub rows : List RowSaid
-  pub records_are : records ≡ header ∷ rest
-  pub header_is : IsHeader header names
-  pub rows_are : AreRows (length header) names rest rows
-  pub draft_is : draft ≡ draft_of alpha names rows
+-- the draft that records say at a level
+abbrev pub table_of : Ratio → List Cells → Result Draft RowFault
+table_of alpha records = mapped (λ said. draft_of alpha said.names said.rows) (sheet_of records)
+
+-- these records are a header and a row for each of its names, and they say this draft at the level
+abbrev pub IsTable : List Cells → Ratio → Draft → Type 0
+IsTable records alpha draft = table_of alpha records ≡ Ok draft

@@ -1,10 +1,6 @@
-//! The cells of records, and what one cell says.
-ghost use Rattle.std.specs.Prelude.{◌≡◌, ◌<◌, ◌≤◌, false, Some, slice_get, length, IfOk, IfErr};
-ghost use Rattle.field_core.specs.View.{terms};
-ghost use Rattle.fraction.specs.Numeral.{IsNumeralOf};
-ghost use Rattle.edge_expression.specs.EntryReading.{IsEntryText};
-ghost use Rattle.case_csv.specs.Table.{bare, is_heading, has_heading, is_missing, IsPlace};
-ghost use Rattle.case_csv.specs.Faults.{IsNumeralFault, IsEntryFault};
+//! The cells of records, and the value of one cell.
+ghost use Rattle.std.specs.Prelude.{◌≡◌, ◌<◌, ◌≤◌, length};
+ghost use Rattle.case_csv.specs.Table.{bare, cell_at, is_heading, has_heading, is_missing, number_of, p_value_of, edge_of};
 ghost use Rattle.case_csv.specs.View.{cells};
 ghost use Rattle.std.specs.List.{suffix_len};
 ghost use Rattle.text_lines.specs.Words.{is_blank};
@@ -12,11 +8,10 @@ ghost use Rattle.text_lines.specs.Words.{is_blank};
 use crate::RowKind;
 use case_model::Entry;
 use csv::ByteRecord;
-use edge_expression::read_entry;
 use fraction::Fraction;
 use text_lines::{after_blanks, is_blank};
 
-/// How many spaces and tabs stand at the end.
+/// Returns the number of spaces and tabs at the end.
 #[tactic(auto, using(crate::proofs::CellFacts::blanks_within))]
 fn blanks_behind(field: &[u8]) -> usize
     ensures value { result ≡ suffix_len is_blank field.now }
@@ -29,7 +24,7 @@ fn blanks_behind(field: &[u8]) -> usize
         .count()
 }
 
-/// A field without the spaces and tabs around it.
+/// Returns a field without the spaces and tabs around it.
 #[tactic(auto, unfolding(crate::specs::Table::bare))]
 fn bare(field: &[u8]) -> &[u8]
     ensures { result.now ≡ bare field.now }
@@ -38,10 +33,10 @@ fn bare(field: &[u8]) -> &[u8]
     &rest[..rest.len() - blanks_behind(rest)]
 }
 
-/// The cell at a place of a record, from 0.
+/// Returns the cell at a place of a record, from 0.
 pub fn cell(row: &ByteRecord, place: usize) -> &[u8]
     requires { place < length (cells row.now) }
-    ensures { slice_get (cells row.now) place ≡ Some result.now }
+    ensures { result.now ≡ cell_at (cells row.now) place }
 {
     match row.get(place) {
         Some(field) => bare(field),
@@ -49,14 +44,14 @@ pub fn cell(row: &ByteRecord, place: usize) -> &[u8]
     }
 }
 
-/// How many cells a record has.
+/// Returns the number of cells of a record.
 pub fn width(row: &ByteRecord) -> usize
     ensures { result ≡ length (cells row.now) }
 {
     row.len()
 }
 
-/// Whether a cell may stand at a place of the header, from 0.
+/// Whether a cell is allowed at a place of the header, from 0.
 fn is_heading(place: usize, cell: &[u8]) -> bool
     ensures { result ≡ is_heading place cell.now }
 {
@@ -69,7 +64,7 @@ fn is_heading(place: usize, cell: &[u8]) -> bool
     }
 }
 
-/// Whether the header has a cell at a place, from 0, that may stand there.
+/// Whether the header has a cell at a place, from 0, that is allowed there.
 pub fn has_heading(header: &ByteRecord, place: usize) -> bool
     ensures { result ≡ has_heading (cells header.now) place }
 {
@@ -83,22 +78,16 @@ fn is_missing(cell: &[u8]) -> bool
     cell.is_empty() || cell == b"NA".as_slice()
 }
 
-/// The value of a numeral.
+/// Reads a numeral.
 pub fn numeral(cell: &[u8]) -> Result<Fraction, RowKind>
-    ensures found { IfOk result (λ value. IsNumeralOf cell.now (terms value)) }
-    ensures fault { IfErr result (IsNumeralFault cell.now) }
+    ensures { result ≡ number_of cell.now }
 {
-    match Fraction::parse(cell) {
-        Ok(value) => Ok(value),
-        Err(fault) => Err(RowKind::Number(fault)),
-    }
+    numerals::numeral(cell).map_err(RowKind::Number)
 }
 
-/// The p-value of a cell, or none.
+/// Reads a p-value, or none from a cell that is empty or `NA`.
 pub fn p_value(cell: &[u8]) -> Result<Option<Fraction>, RowKind>
-    ensures found { IfOk result (IsPlace cell.now) }
-    ensures missing { IfErr result (λ kind. is_missing cell.now ≡ false) }
-    ensures fault { IfErr result (IsNumeralFault cell.now) }
+    ensures { result ≡ p_value_of cell.now }
 {
     if is_missing(cell) {
         return Ok(None);
@@ -107,13 +96,9 @@ pub fn p_value(cell: &[u8]) -> Result<Option<Fraction>, RowKind>
     Ok(Some(value))
 }
 
-/// The entry of an expression.
+/// Reads the expression of an edge.
 pub fn entry(cell: &[u8]) -> Result<Entry, RowKind>
-    ensures found { IfOk result (IsEntryText cell.now) }
-    ensures fault { IfErr result (IsEntryFault cell.now) }
+    ensures { result ≡ edge_of cell.now }
 {
-    match read_entry(cell) {
-        Ok(entry) => Ok(entry),
-        Err(fault) => Err(RowKind::Expr(fault)),
-    }
+    entries::entry(cell).map_err(RowKind::Expr)
 }

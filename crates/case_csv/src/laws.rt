@@ -1,8 +1,8 @@
-//! Laws of CSV: records say one draft, or have one first fault; and sheets of cases say their cases.
+//! Laws of CSV: records denote one draft or have one first fault, and the sheet of a case denotes the case.
 ghost use Rattle.case_csv.specs.SheetStatements.{SheetsReadBack, SheetsTellCasesApart, SheetsAreCanonical};
 ghost use Rattle.case_csv.specs.TableStatements.{TablesSayOneDraft, TablesHaveOneFault, TablesSayOrFail, TablesDontSayAndFail};
 
-/// Records say at most one draft at a level.
+/// Records denote at most one draft at a level.
 pub fn tables_say_one_draft()
     ensures { TablesSayOneDraft }
 {}
@@ -12,14 +12,14 @@ pub fn tables_have_one_fault()
     ensures { TablesHaveOneFault }
 {}
 
-/// Records say a draft or have a first fault, and not both.
+/// Records denote a draft or have a first fault, and not both.
 pub fn tables_say_or_fail()
     ensures each { TablesSayOrFail }
     ensures apart { TablesDontSayAndFail }
 {}
 
-/// The sheet of a case that a sheet can hold says that case, at its level. Cases of the same level and another content
-/// have another one, and the case that is read of a sheet of a case has that sheet.
+/// The sheet of a case that a sheet can hold denotes that case, at its level. Cases of the same level and another content
+/// have another sheet. The case that is read from the sheet of a case has that sheet.
 pub fn sheets_read_back()
     ensures back { SheetsReadBack }
     ensures apart { SheetsTellCasesApart }

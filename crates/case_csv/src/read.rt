@@ -1,11 +1,11 @@
 //! The reader of sheets.
-ghost use Rattle.std.specs.Prelude.{◌≡◌, ◌≢◌, ◌⊎◌, true, IfOk, IfErr};
-ghost use Rattle.case_model.specs.Draft.{have_known_ends, have_known_arrivals};
+ghost use Rattle.std.specs.Prelude.{◌≡◌, ◌≢◌, ◌⊎◌, IfOk, IfErr};
 ghost use Rattle.case_model.specs.declared.fault.CaseFault.TheVariants.{NoMemory as OutOfMemory};
 ghost use Rattle.case_csv.specs.Reading.{IsCaseOf, IsCsvFault};
-ghost use Rattle.case_csv.specs.Table.{cells_of};
-ghost use Rattle.case_csv.specs.Faults.{IsFirstFault};
-ghost use Rattle.case_csv.specs.View.{IsOfRows, IsKeptDraft, one_component};
+ghost use Rattle.field_core.specs.Answers.{mapped};
+ghost use Rattle.case_csv.specs.Answers.{IsAnswer};
+ghost use Rattle.case_csv.specs.Table.{cells_of, sheet_of};
+ghost use Rattle.case_csv.specs.View.{kept_draft, one_component};
 ghost use Rattle.case_csv.specs.declared.fault.CsvFault.TheVariants as faults;
 
 use crate::cells::width;
@@ -19,13 +19,14 @@ use field_core::{List, NoMemory, Number, Text};
 use fraction::Fraction;
 use std::alloc::Global;
 
-/// The case that CSV says at a level, or the first record that can't stand, or else the fault of the draft; or `NoMemory`.
+/// Reads the case that CSV denotes at a level. Reports the first faulty record, or else the error of the draft, or
+/// `NoMemory`.
 ///
 /// The first record is the header: a cell that is empty or `hypothesis`, then `weight`, `p` and the names. Each further
 /// record is a row: a name of the header, in its order, a weight and a p-value, which are numerals that `Fraction::parse`
 /// reads, and for each hypothesis an expression that `read_entry` reads, the weight of the edge to it. A cell of a p-value
-/// that is empty or `NA` is a p-value that isn't given, and a zero from a hypothesis to itself is no edge. Spaces and tabs
-/// around a field are ignored. There is one component, of share 1. The draft is looked at once the records are read.
+/// that is empty or `NA` is a p-value that is not given, and a zero from a hypothesis to itself is not an edge. Spaces and tabs
+/// around a field are ignored. There is one component, of share 1. The draft is checked once the records are read.
 pub fn read_csv(alloc: Global, bytes: &[u8], alpha: Fraction) -> Result<Case, CsvFault>
     ensures case { IfOk result (IsCaseOf bytes.now alpha) }
     ensures fault { IfErr result (IsCsvFault bytes.now alpha) }
@@ -36,12 +37,9 @@ pub fn read_csv(alloc: Global, bytes: &[u8], alpha: Fraction) -> Result<Case, Cs
     }
 }
 
-/// The draft that CSV says at a level; where it has more than 64 names, its edges are left out.
+/// Reads the draft that CSV denotes at a level. If it has more than 64 names, its edges are left out.
 fn draft(alloc: Global, bytes: &[u8], alpha: Fraction) -> Result<Draft, CsvFault>
-    ensures found { IfOk result (IsKeptDraft (cells_of bytes.now) alpha) }
-    ensures ends { IfOk result (λ d. have_known_ends d ≡ true) }
-    ensures arrivals { IfOk result (λ d. have_known_arrivals d ≡ true) }
-    ensures fault { IfErr result (IsOfRows (IsFirstFault (cells_of bytes.now))) }
+    ensures { IsAnswer result (mapped (kept_draft alpha) (sheet_of (cells_of bytes.now))) }
 {
     let mut records = open(alloc, bytes);
     let mut record = ByteRecord::new(alloc);

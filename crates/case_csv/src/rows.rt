@@ -1,10 +1,10 @@
 //! The header and the rows.
-ghost use Rattle.std.specs.Prelude.{◌≡◌, ◌≤◌, ◌<◌, Some, slice_get, List as Seq, length, drop, IfOk, IfErr};
-ghost use Rattle.case_csv.specs.Records.{Fields, StandsBefore};
-ghost use Rattle.case_csv.specs.Table.{IsHeader, RowSaid, AreRows};
-ghost use Rattle.case_csv.specs.Faults.{IsBadHeader, IsRowFault};
-ghost use Rattle.case_csv.specs.View.{cells, cells_in, keeps, IsAtRow, IsOfRows, IsTableOf};
-ghost use Rattle.case_csv.specs.declared.fault.RowKind.TheVariants.{Header as NotHeader};
+ghost use Rattle.std.specs.Prelude.{◌≡◌, ◌≤◌, ◌<◌, [], get_or, length, drop, IfOk};
+ghost use Rattle.field_core.specs.Answers.{mapped};
+ghost use Rattle.case_csv.specs.Answers.{IsAnswer};
+ghost use Rattle.case_csv.specs.Records.{records_left, IsOpen};
+ghost use Rattle.case_csv.specs.Table.{heading, header_of, rows_of};
+ghost use Rattle.case_csv.specs.View.{cells, cells_in, keeps, rows_table};
 
 use crate::cells::{cell, has_heading, width};
 use crate::records::next;
@@ -14,21 +14,29 @@ use csv::{ByteRecord, Reader};
 use field_core::{List, NoMemory, Text};
 use std::alloc::Global;
 
-/// The names in a header.
-pub fn header(alloc: Global, row: &ByteRecord) -> Result<List<Text>, CsvFault>
-    ensures found { IfOk result (IsHeader (cells row.now)) }
-    ensures wide { IfOk result (λ names. 3 ≤ length (cells row.now)) }
-    ensures fault { IfErr result (IsAtRow 1 (λ column kind. IsBadHeader (cells row.now) column × (kind ≡ NotHeader))) }
+/// Checks the cell at a place of the header, from 0.
+fn heading(row: &ByteRecord, place: usize) -> Result<(), CsvFault>
+    requires { place < 3 }
+    ensures { IsAnswer result (heading (cells row.now) place) }
 {
-    for place in 0..3 {
-        if !has_heading(row, place) {
-            return Err(CsvFault::Row(1, place + 1, RowKind::Header));
-        }
+    if has_heading(row, place) {
+        Ok(())
+    } else {
+        Err(CsvFault::Row(1, place + 1, RowKind::Header))
     }
+}
+
+/// Reads the names in a header.
+pub fn header(alloc: Global, row: &ByteRecord) -> Result<List<Text>, CsvFault>
+    ensures { IsAnswer result (header_of (cells row.now)) }
+{
+    heading(row, 0)?;
+    heading(row, 1)?;
+    heading(row, 2)?;
     Ok(names(alloc, row)?)
 }
 
-/// The cells of a record behind the first three.
+/// Copies the cells of a record after the first three.
 fn names(alloc: Global, row: &ByteRecord) -> Result<List<Text>, NoMemory>
     requires { 3 ≤ length (cells row.now) }
     ensures { IfOk result (λ names. names ≡ drop 3 (cells row.now)) }
@@ -40,15 +48,15 @@ fn names(alloc: Global, row: &ByteRecord) -> Result<List<Text>, NoMemory>
     Ok(names)
 }
 
-/// The name at a place.
+/// Returns the name at a place.
 fn name_at(names: &[Text], place: usize) -> &[u8]
     requires { place < length names.now }
-    ensures { slice_get names.now place ≡ Some result.now }
+    ensures { result.now ≡ get_or names.now place [] }
 {
     names[place].as_bytes()
 }
 
-/// What the records behind a header of this width and these names say.
+/// Reads the records after a header of this width and these names.
 pub fn rows(
     alloc: Global,
     records: &mut Reader<&[u8]>,
@@ -56,9 +64,9 @@ pub fn rows(
     names: &[Text],
     columns: usize,
 ) -> Result<Table, CsvFault>
-    requires { 3 ≤ columns }
-    ensures found { IfOk result (λ table. (rest : Seq Fields) → StandsBefore records.old rest → (said : Seq RowSaid) × AreRows columns names.now (cells_in rest) said × IsTableOf (keeps (length names.now)) said table) }
-    ensures fault { IfErr result (λ fault. (rest : Seq Fields) → StandsBefore records.old rest → IsOfRows (IsRowFault columns names.now (cells_in rest)) fault) }
+    requires columns { 3 ≤ columns }
+    requires stands { IsOpen records.old }
+    ensures { IsAnswer result (mapped (rows_table (keeps (length names.now))) (rows_of columns 2 names.now (cells_in (records_left records.old)))) }
 {
     let keep = names.len() <= 64;
     let mut table = Table::new(alloc);

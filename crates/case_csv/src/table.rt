@@ -1,11 +1,9 @@
-//! What rows have said so far.
-ghost use Rattle.std.specs.Prelude.{◌≡◌, ◌≤◌, ◌<◌, ◌+◌, ◌^◌, ℕ, List as Seq, [], ◌++◌, drop, length, OnOk, IfOk, IfErr};
-ghost use Rattle.std.specs.List.{AllZip};
-ghost use Rattle.field_core.specs.declared.ratio.Ratio.{Ratio};
-ghost use Rattle.edge_expression.specs.EntryReading.{IsEntryText};
-ghost use Rattle.case_csv.specs.Table.{RowSaid, IsRow, edge_at, row_edges};
-ghost use Rattle.case_csv.specs.Faults.{IsBadRow, IsBadCell, AcceptsBelow};
-ghost use Rattle.case_csv.specs.View.{cells, kept, IsAtRow, TakesRow, HasStart};
+//! The rows that were read so far.
+ghost use Rattle.std.specs.Prelude.{◌≡◌, ◌≤◌, ◌<◌, ◌+◌, ◌^◌, [], ◌++◌, drop, length, OnOk};
+ghost use Rattle.field_core.specs.Answers.{leaving, mapped};
+ghost use Rattle.case_csv.specs.Answers.{IsAnswer};
+ghost use Rattle.case_csv.specs.Table.{start_of, entries_of, row_of, edge_at, row_edges};
+ghost use Rattle.case_csv.specs.View.{cells, kept, with_row};
 
 use crate::cells::{cell, entry, numeral, p_value, width};
 use crate::{CsvFault, RowKind};
@@ -16,7 +14,7 @@ use field_core::{List, NoMemory};
 use fraction::Fraction;
 use std::alloc::Global;
 
-/// What the cells of a row before its edges say.
+/// The weight and the p-value in a row.
 #[derive(Clone, Copy)]
 pub struct Start {
     pub weight: Fraction,
@@ -31,7 +29,7 @@ pub struct Table {
     pub edges: List<DraftEdge>,
 }
 
-/// The first cells of the row of a name, in the record of a number, where the header is this wide.
+/// Reads the cells before the edges, in the row of a name, the record of a number. The header has `columns` cells.
 fn first_cells(
     row: &ByteRecord,
     number: usize,
@@ -39,8 +37,7 @@ fn first_cells(
     columns: usize,
 ) -> Result<Start, CsvFault>
     requires { 3 ≤ columns }
-    ensures said { IfOk result (HasStart columns name.now (cells row.now)) }
-    ensures fault { IfErr result (IsAtRow number (IsBadRow columns name.now (cells row.now))) }
+    ensures { IsAnswer result (start_of columns number name.now (cells row.now)) }
 {
     if width(row) != columns {
         return Err(CsvFault::Row(number, 1, RowKind::Width));
@@ -60,7 +57,7 @@ fn first_cells(
 }
 
 impl Table {
-    /// No row was read yet.
+    /// Returns the table of no rows.
     pub fn new(alloc: Global) -> Table
         ensures weights { result.weights ≡ [] }
         ensures p { result.p ≡ [] }
@@ -73,7 +70,7 @@ impl Table {
         }
     }
 
-    /// Takes the row of the hypothesis at a place, from its record; its edges are kept only where they are asked for.
+    /// Appends the row of the hypothesis at a place, from its record, with its edges if `keep` is true.
     pub fn take(
         &mut self,
         row: &ByteRecord,
@@ -84,49 +81,49 @@ impl Table {
     ) -> Result<(), CsvFault>
         requires columns { 3 ≤ columns }
         requires from { from + 2 < 2 ^ 64 }
-        ensures said { OnOk result ((said : RowSaid) × IsRow columns name.now (cells row.now) said × TakesRow keep from self.old said self.new) }
-        ensures fault { IfErr result (IsAtRow (from + 2) (IsBadRow columns name.now (cells row.now))) }
+        ensures { IsAnswer (leaving self.new result) (mapped (with_row keep from self.old) (row_of columns (from + 2) name.now (cells row.now))) }
     {
         let start = first_cells(row, from + 2, name, columns)?;
-        self.take_edges(row, from, keep)?;
+        take_edges(&mut self.edges, row, from, keep)?;
         self.weights.push(start.weight)?;
         self.p.push(start.p)?;
         Ok(())
     }
+}
 
-    /// Takes the edges of a row.
-    fn take_edges(&mut self, row: &ByteRecord, from: usize, keep: bool) -> Result<(), CsvFault>
-        requires columns { 3 ≤ length (cells row.now) }
-        requires from { from + 2 < 2 ^ 64 }
-        ensures said { OnOk result ((entries : Seq (Seq Ratio)) × AllZip IsEntryText (drop 3 (cells row.now)) entries × (self.new.edges ≡ self.old.edges ++ kept keep (row_edges from 0 entries))) }
-        ensures weights { self.new.weights ≡ self.old.weights }
-        ensures p { self.new.p ≡ self.old.p }
-        ensures fault { IfErr result (IsAtRow (from + 2) (λ column kind. (name : Seq ℕ) → AcceptsBelow name (cells row.now) 3 → IsBadCell name (cells row.now) column kind)) }
-    {
-        for to in 0..width(row) - 3 {
-            match entry(cell(row, to + 3)) {
-                Ok(entry) => self.take_edge(from, to, entry, keep)?,
-                Err(kind) => return Err(CsvFault::Row(from + 2, to + 4, kind)),
-            }
+/// Appends the edges of a row if `keep` is true.
+fn take_edges(
+    edges: &mut List<DraftEdge>,
+    row: &ByteRecord,
+    from: usize,
+    keep: bool,
+) -> Result<(), CsvFault>
+    requires columns { 3 ≤ length (cells row.now) }
+    requires from { from + 2 < 2 ^ 64 }
+    ensures { IsAnswer (leaving edges.new result)
+        (mapped (λ entries. edges.old ++ kept keep (row_edges from 0 entries)) (entries_of (from + 2) 4 (drop 3 (cells row.now)))) }
+{
+    for to in 0..width(row) - 3 {
+        match entry(cell(row, to + 3)) {
+            Ok(entry) => take_edge(edges, from, to, entry, keep)?,
+            Err(kind) => return Err(CsvFault::Row(from + 2, to + 4, kind)),
         }
-        Ok(())
     }
+    Ok(())
+}
 
-    /// Takes one edge, unless it is a zero from a hypothesis to itself.
-    fn take_edge(
-        &mut self,
-        from: usize,
-        to: usize,
-        entry: Entry,
-        keep: bool,
-    ) -> Result<(), NoMemory>
-        ensures edges { OnOk result (self.new.edges ≡ self.old.edges ++ kept keep (edge_at from to entry)) }
-        ensures weights { self.new.weights ≡ self.old.weights }
-        ensures p { self.new.p ≡ self.old.p }
-    {
-        if keep && !(from == to && is_absent(&entry)) {
-            self.edges.push(DraftEdge { from, to, entry })?;
-        }
-        Ok(())
+/// Appends one edge if `keep` is true, unless it is a zero from a hypothesis to itself.
+fn take_edge(
+    edges: &mut List<DraftEdge>,
+    from: usize,
+    to: usize,
+    entry: Entry,
+    keep: bool,
+) -> Result<(), NoMemory>
+    ensures { OnOk result (edges.new ≡ edges.old ++ kept keep (edge_at from to entry)) }
+{
+    if keep && !(from == to && is_absent(&entry)) {
+        edges.push(DraftEdge { from, to, entry })?;
     }
+    Ok(())
 }

@@ -193,7 +193,7 @@ module _ (m : ℕ) (table : ℕ → Bool) where
     | inr n ↦ let e = B.is_greatest K h (inr n) in absurd (omega (arith, e, large, B.bound))
   ]
 
-  -- a table that tells which sets are rejected says yes of just these
+  -- a table that says which sets are rejected says yes of exactly these
   module _ (P : (ℕ → Bool) → Type 0) (same : (I J : ℕ → Bool) → HaveSameMembers m I J → P I → P J) (answers : AnswersFor m P table) where
     pub yes_rejected : (K : ℕ → Bool) → SaysYes m table K → P K
     yes_rejected K t = same (members (set_number m K)) K (members_number m K) ((answers (set_number m K) (number_below m K)).0 t)

@@ -88,7 +88,7 @@ module _ (p : ℕ → Number) where
   above : (j k : ℕ) → at_most (p j) (p k) ≡ false → p k ≤ε p j
   above j k f = elim (at_most_total (p j) (p k)) [ inl h ↦ absurd (true_not_false (sym h ∙ f)) | inr h ↦ h ]
 
-  -- a greater position goes behind those with the same p-value
+  -- a greater position goes after those with the same p-value
   inserted_ordered : (k : ℕ) (js : List ℕ) → ((j : ℕ) → IsListed js j → j < k) → IsByPValue p js → IsByPValue p (inserted p k js)
   inserted_ordered k [] below o = subst (IsByPValue p) (sym (inserted_none k)) (λ i l. absurd (not_nothing i l), tt)
   inserted_ordered k (j ∷ js) below o = elim (true_or_false (at_most (p j) (p k))) [

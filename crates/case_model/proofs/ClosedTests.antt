@@ -49,7 +49,7 @@ module _ (m : ℕ) (Local : (ℕ → Bool) → Type 0) where
   pub closed_same_by : (S T : ℕ → Bool) → HaveSameMembers m S T → IsClosedRejectedBy m Local S → IsClosedRejectedBy m Local T
   closed_same_by S T same = closed_larger_by S T (λ i q e. sym (same i q) ∙ e)
 
-  -- (The local test doesn't tell sets with the same members apart, and a set that it rejects has a member.)
+  -- (The local test doesn't distinguish sets with the same members, and a set that it rejects has a member.)
   module _ (same : (I J : ℕ → Bool) → HaveSameMembers m I J → Local I → Local J)
       (some : (I : ℕ → Bool) → Local I → (k : ℕ) × IsIn m I k) where
     -- a set is rejected by the sets with one member more

@@ -16,7 +16,7 @@ module _ (m : ℕ) (Rule : (ℕ → Bool) → ℕ → Type 0) where
     pub inside : (I : ℕ → Bool) (k : ℕ) → Rule I k → IsIn m I k
     pub smaller : (I J : ℕ → Bool) (k : ℕ) → IsSubset m J I → IsIn m J k → Rule I k → Rule J k
 
-  -- the rule doesn't tell sets with the same members apart
+  -- the rule doesn't distinguish sets with the same members
   pub same_rule : IsConsonant → (I J : ℕ → Bool) (k : ℕ) → HaveSameMembers m I J → Rule I k → Rule J k
   same_rule C I J k same r =
       let p : IsIn m I k = C.inside I k r in

@@ -133,7 +133,7 @@ module _ (p : ℕ → Number) (level : Number) (w : ℕ → Number) where
         subst (λ x. IsIntersectionWeight E I k x) (left_plain I k q.below).1
         (left_intersection E V (chain_graph w) A (chain_left number_field w) (chain_closed number_field E.hypotheses w) (chain_start E.hypotheses w) I k q)
 
-    -- where just those that the rule rejects are removed before `k`, it has what the rule gives it
+    -- where exactly those that the rule rejects are removed before `k`, it has what the rule gives it
     spent_left : (I : ℕ → Bool) (k : ℕ) → ((i : ℕ) → i < k → I i ≡ not (test i))
         → chain_weight number_field w I k ≡ fallback_weight p level w k
     spent_left I zero before = weight_first number_field w I ∙ sym spent_first

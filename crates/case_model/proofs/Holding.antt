@@ -22,7 +22,7 @@ pub all_middle : {A : Type 0} (test : A → Bool) (xs : List A) (y : A) (ys : Li
 all_middle test [] y ys h = (both (test y) (list_all test ys) h).left
 all_middle test (x ∷ xs) y ys h = all_middle test xs y ys (both (test x) (list_all test (xs ++ y ∷ ys)) h).right
 
--- what holds of each item still does where one takes the place of another, or stands behind them
+-- what holds of each item still does where one takes the place of another, or stands after them
 pub all_set : {A : Type 0} (test : A → Bool) (xs : List A) (i : ℕ) (y : A) → list_all test xs ≡ true → test y ≡ true
     → list_all test (set xs i y) ≡ true
 all_set test [] i y h k = refl

@@ -1,4 +1,4 @@
--- Holm's rule rejects as many as Holm's number tells.
+-- Holm's rule rejects the number that Holm's number gives.
 use Rattle.std.proofs.Common.{◌≡◌, ◌↔◌, inl, inr, sym, ap, ◌∙◌, subst, ℕ, zero, suc, ◌-◌, ◌<◌, ◌≤◌, arith, List, []}
 use Rattle.std.proofs.Common.{◌∷◌, length, get_or, take, false}
 use Rattle.field_core.specs.Number.{Number}

@@ -127,7 +127,7 @@ module _ (p : ℕ → Number) (level : Number) where
       size = size_whole E.hypotheses ∙ sym (by_p_value_length p E.hypotheses);
     }
 
-    -- the closed test rejects just these
+    -- the closed test rejects exactly these
     pub stepped_decides : number_zero ≤ε level → (j : ℕ) → IsRejected E p level j ↔ IsListed (stepped_down (by_p_value p E.hypotheses)) j
     stepped_decides n j =
         let run = step_run (by_p_value p E.hypotheses) whole all_remain in

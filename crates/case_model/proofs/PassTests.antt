@@ -1,4 +1,4 @@
--- The test of a p-value tells whether it passes.
+-- The test of a p-value says whether it passes.
 use Rattle.std.proofs.Common.{◌≡◌, inl, inr, refl, sym, ap₂, ◌∙◌, Bool, true, false, not, ◌&&◌}
 use Rattle.field_core.specs.Number.{Number}
 use Rattle.field_core.specs.Arithmetic.{number_zero, ◌*ε◌}

@@ -52,7 +52,7 @@ module _ (Rule : (ℕ → Bool) → ℕ → Type 0) where
   order_append [] ks I o h = h
   order_append (j ∷ js) ks I o h = (o.0, order_append js ks (dropping j I) o.1 h)
 
-  -- an order goes on by a hypothesis that the rule allows in what remains
+  -- an order continues by a hypothesis that the rule allows in what remains
   pub order_next : (js : List ℕ) (j : ℕ) (I : ℕ → Bool) → IsOrderBy Rule I js → Rule (left_after I js) j → IsOrderBy Rule I (js ++ (j ∷ []))
   order_next js j I o h = order_append js (j ∷ []) I o (h, tt)
 

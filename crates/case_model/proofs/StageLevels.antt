@@ -97,7 +97,7 @@ pub step_counts : (s : SpendStep) (ss : List SpendStep) (u : Number) → last_st
 unfolding last_step
 step_counts s ss u none h = ap (λ o. option_or o (then_some (at_most (number_of s.from) u) s)) none ∙ ap (λ b. then_some b s) h
 
--- the last step behind a place is the last of all
+-- the last step after a place is the last of all
 pub last_behind : (n : ℕ) (ss : List SpendStep) (u : Number) (s : SpendStep) → last_step (drop n ss) u ≡ Some s → last_step ss u ≡ Some s
 unfolding last_step
 last_behind zero ss u s h = h

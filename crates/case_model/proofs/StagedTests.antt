@@ -1,4 +1,4 @@
--- The staged test goes on passing as the weight grows and as values arrive; and there is just one settling.
+-- The staged test continues passing as the weight grows and as values arrive; and there is just one settling.
 use Rattle.std.proofs.Common.{◌≡◌, ◌⊎◌, inl, inr, refl, sym, ap, ◌∙◌, subst, ℕ, zero, suc, arith, Bool, List, [], ◌∷◌}
 use Rattle.std.specs.List.{Contains}
 use Rattle.field_core.specs.Number.{Number}

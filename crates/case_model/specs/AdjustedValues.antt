@@ -1,5 +1,5 @@
 -- Adjusted p-values: the least levels at which the closed test rejects (Bretz, Maurer, Brannath and Posch 2009). That a value of 1 which
--- isn't reached is told apart is this project's own.
+-- isn't reached is reported apart is this project's own.
 use Rattle.std.specs.Prelude.{◌≡◌, ℕ, Bool, true, false}
 use Rattle.field_core.specs.Number.{Number}
 use Rattle.field_core.specs.Arithmetic.{number_one}

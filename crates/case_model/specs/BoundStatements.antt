@@ -25,7 +25,7 @@ BoundsAreUnique =
     × ((E : EntangledGraph) (p : ℕ → Number) (level : Number) (S : ℕ → Bool) (a b : ℕ) → IsBound E.hypotheses (IsClosedRejected E p level) S a
     → IsBound E.hypotheses (IsClosedRejected E p level) S b → a ≡ b)
 
--- A table that tells what the closed test rejects has the bounds of the closed test.
+-- A table of what the closed test rejects has the bounds of the closed test.
 abbrev pub ClosedTablesGiveClosedBounds : Type 0
 ClosedTablesGiveClosedBounds =
     (E : EntangledGraph) (p : ℕ → Number) (level : Number) (table : ℕ → Bool) (S : ℕ → Bool) (b : ℕ)

@@ -1,6 +1,6 @@
--- The fault of a draft: what the first test that finds something tells. The tests stand in a table; each is made of all components,
--- hypotheses or places of a list, in ascending order, before the next. (A row is here a row of edges, or what a test of one item tells.)
--- Components, hypotheses, stages, steps and arrivals are counted from 0; but an arrival has its stage counted from 1.
+-- The error in a draft: what the first test that finds something reports. The tests are in a table; each is made of all components,
+-- hypotheses or places of a list, in ascending order, before the next. (A row is here a row of edges, or what a test of one item
+-- reports.) Components, hypotheses, stages, steps and arrivals are counted from 0; but an arrival has its stage counted from 1.
 use Rattle.std.specs.Prelude.{ℕ, zero, suc, ◌+◌, ◌-◌, ◌==◌, ◌&&◌, ◌||◌, not, Bool, true, false, List, [], ◌∷◌, Option, Some, None}
 use Rattle.std.specs.Prelude.{Result, Ok, Err, length, map, take, slice_get, nat_lt, nat_le, is_some, is_none, if◌then◌else◌}
 use Rattle.std.specs.Bool.{then_some}
@@ -378,7 +378,7 @@ spends_fault m count alpha spends = spend_count m count spends or first_of too_m
 
 -- ---- the p-values that arrived
 
--- the first arrival at what is no stage
+-- the first arrival at what is not a stage
 unfoldable pub arrival_stage : ℕ → List Arrival → Option CaseFault
 arrival_stage count values = first_of (λ n a. ArrivalStage n when not (is_stage count a.stage)) values
 
@@ -417,6 +417,6 @@ early_fault d = fault_before_edges d or edges_fault d.components
 unfoldable pub late_fault : ℕ → Ratio → Option DraftStages → List (Option Ratio) → List Component → Option CaseFault
 late_fault m alpha stages ps ks = rows_fault m ks or mixed stages ps or p_values_fault m ps or option_and_then (stages_fault m alpha) stages
 
--- the first fault of a draft
+-- the first error in a draft
 unfoldable pub case_fault : Draft → Option CaseFault
 case_fault d = early_fault d or late_fault (length d.names) d.alpha d.stages d.p (content_of d).components

@@ -98,7 +98,8 @@ IfSingle (Single ps) P = P ps
 IfSingle Bare P = Unit {0}
 IfSingle (Staged s) P = Unit {0}
 
--- an arrival is of one of `m` hypotheses at one of so many stages, counted from 1, and its p-value is from 0 to 1 with a denominator of at most 10^30
+-- an arrival is of one of `m` hypotheses at one of a number of stages, counted from 1, and its p-value is from 0 to 1 with a denominator of at most
+-- 10^30
 abbrev pub is_arrival : ℕ → ℕ → Arrival → Bool
 is_arrival m count a = arrives_among m a && is_stage count a.stage && is_p_value a.p
 

@@ -75,7 +75,7 @@ have_known_ends d = list_all (λ k. list_all (goes_between (length d.names)) k.e
 abbrev pub is_of : ℕ → ℕ → Arrival → Bool
 is_of i t a = a.hypothesis == i && a.stage == t
 
--- one of so many stages, counted from 1
+-- one of a number of stages, counted from 1
 abbrev pub is_stage : ℕ → ℕ → Bool
 is_stage count t = nat_le 1 t && nat_le t count
 

@@ -42,7 +42,7 @@ abbrev pub IsRisingSpend : Spend → ℕ → Type 0
 IsRisingSpend (Shares fs) t = number_zero ≤ε stage_number fs t
 IsRisingSpend (Table ss) t = IsRising t number_zero ss
 
--- `s` is the last step whose `from` is at most a weight: each one behind it begins above the weight
+-- `s` is the last step whose `from` is at most a weight: each one after it begins above the weight
 pub record IsLastStep (ss : List SpendStep) (u : Number) (s : SpendStep) : Type 0 where
   pub before : List SpendStep
   pub behind : List SpendStep

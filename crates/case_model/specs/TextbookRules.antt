@@ -20,12 +20,12 @@ module _ (p : ℕ → Number) where
     pub not_above : p j ≤ε p k
     pub tie : p k ≤ε p j → j < k
 
-  -- each one of a list comes before all that stand behind it
+  -- each one of a list comes before all that stand after it
   abbrev pub IsByPValue : List ℕ → Type 0
   IsByPValue [] = Unit {0}
   IsByPValue (j ∷ js) = ((k : ℕ) → IsListed js k → Precedes j k) × IsByPValue js
 
-  -- `k` put into a list by ascending p-value: behind all that have no greater one
+  -- `k` put into a list by ascending p-value: after all that have no greater one
   unfoldable pub inserted : ℕ → List ℕ → List ℕ
   inserted k [] = k ∷ []
   inserted k (j ∷ js) = if at_most (p j) (p k) then j ∷ inserted k js else k ∷ j ∷ js
@@ -67,7 +67,7 @@ module _ (p : ℕ → Number) where
       pub each : (i : ℕ) → i < r → IsSmallAt n i
       pub next : r < n → ¬ IsSmallAt n r
 
-    -- Holm's rule rejects `j`: it is among the first by ascending p-value, as many as Holm's number tells.
+    -- Holm's rule rejects `j`: it is among the first by ascending p-value, in the number that Holm's number gives.
     pub record IsHolmRejected (n j : ℕ) : Type 0 where
       pub number : ℕ
       pub is_number : IsHolmNumber n number

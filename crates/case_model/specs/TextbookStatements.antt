@@ -1,4 +1,4 @@
--- The closed test on the graphs of textbook rules, as contracts name it: it rejects just what the rule rejects.
+-- The closed test on the graphs of textbook rules, as contracts name it: it rejects exactly what the rule rejects.
 use Rattle.std.specs.Prelude.{◌≡◌, ◌<◌, ◌↔◌, ℕ, length}
 use Rattle.field_core.specs.Number.{Number}
 use Rattle.field_core.specs.Arithmetic.{number_zero, number_one}

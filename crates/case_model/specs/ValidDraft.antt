@@ -77,7 +77,7 @@ pub record AreValidPlaces (m : ℕ) (ps : List (Option Ratio)) : Type 0 where
   pub short : (i : ℕ) (p : Ratio) → slice_get ps i ≡ Some (Some p) → is_short_p_value p ≡ true
   pub unit : (i : ℕ) (p : Ratio) → slice_get ps i ≡ Some (Some p) → IsUnit p
 
--- fractions of the level, one for each of so many stages
+-- fractions of the level, one for each of a number of stages
 pub record AreValidShares (count : ℕ) (fs : List Ratio) : Type 0 where
   pub as_many : length fs ≡ count
   pub short : Each fs (λ f. is_short_level f ≡ true)
@@ -99,7 +99,7 @@ pub record IsValidTable (count : ℕ) (alpha : Ratio) (ss : List SpendStep) : Ty
       → number_of x ≤ε number_of y)
   pub bound : Each ss (λ s. SumsTo s.levels (number_of s.from *ε number_of alpha))
 
--- what a hypothesis spends at so many stages
+-- what a hypothesis spends at this number of stages
 abbrev pub IsValidSpend : ℕ → Ratio → Spend → Type 0
 IsValidSpend count alpha (Shares fs) = AreValidShares count fs
 IsValidSpend count alpha (Table ss) = IsValidTable count alpha ss

@@ -29,7 +29,7 @@ impl Case {
     ghost use Rattle.case_model.specs.Validity.{IsValidContent};
     ghost use Rattle.case_model.specs.CaseView.{content};
 
-    /// The case of these parts.
+    /// Returns the case of these parts.
     pub(crate) fn of(
         names: List<Text>,
         alpha: Fraction,
@@ -48,7 +48,7 @@ impl Case {
         }
     }
 
-    /// How many hypotheses there are, from 1 to 64.
+    /// Returns how many hypotheses there are, from 1 to 64.
     pub fn size(&self) -> usize
         ensures count { result ≡ length (content self.now).names }
         ensures range { (1 ≤ result) × (result ≤ 64) }
@@ -56,14 +56,14 @@ impl Case {
         self.names.len()
     }
 
-    /// The names of the hypotheses, in their order.
+    /// Returns the names of the hypotheses, in their order.
     pub fn names(&self) -> &[Text]
         ensures { result.now ≡ (content self.now).names }
     {
         self.names.as_slice()
     }
 
-    /// The name of the hypothesis at a position.
+    /// Returns the name of the hypothesis at a position.
     pub fn name(&self, i: usize) -> &[u8]
         requires { i < length (content self.now).names }
         ensures { slice_get (content self.now).names i ≡ Some result.now }
@@ -71,7 +71,7 @@ impl Case {
         self.names.as_slice()[i].as_bytes()
     }
 
-    /// The level, above 0 and at most 1.
+    /// Returns the level, above 0 and at most 1.
     pub fn alpha(&self) -> Fraction
         ensures alpha { result ≡ (content self.now).alpha }
         ensures level { is_level result ≡ true }
@@ -79,7 +79,7 @@ impl Case {
         self.alpha
     }
 
-    /// How many components there are, from 1 to 8.
+    /// Returns how many components there are, from 1 to 8.
     pub fn components(&self) -> usize
         ensures count { result ≡ length (content self.now).components }
         ensures range { (1 ≤ result) × (result ≤ 8) }
@@ -87,7 +87,7 @@ impl Case {
         self.components.len()
     }
 
-    /// The component at a place.
+    /// Returns the component at a place.
     fn component(&self, c: usize) -> &Component
         requires { c < length (content self.now).components }
         ensures component { result.now ≡ component_at (content self.now).components c }
@@ -97,7 +97,7 @@ impl Case {
         &self.components.as_slice()[c]
     }
 
-    /// The share of the component at a place, from 0 to 1.
+    /// Returns the share of the component at a place, from 0 to 1.
     pub fn share(&self, c: usize) -> Fraction
         requires { c < length (content self.now).components }
         ensures { result ≡ (component_at (content self.now).components c).share }
@@ -105,7 +105,7 @@ impl Case {
         self.component(c).share
     }
 
-    /// The weights of the hypotheses in a component, each from 0 to 1.
+    /// Returns the weights of the hypotheses in a component, each from 0 to 1.
     pub fn weights(&self, c: usize) -> &[Fraction]
         requires { c < length (content self.now).components }
         ensures weights { result.now ≡ (component_at (content self.now).components c).weights }
@@ -114,7 +114,7 @@ impl Case {
         self.component(c).weights.as_slice()
     }
 
-    /// The weight of a hypothesis in a component, from 0 to 1.
+    /// Returns the weight of a hypothesis in a component, from 0 to 1.
     pub fn weight(&self, c: usize, i: usize) -> Fraction
         requires component { c < length (content self.now).components }
         requires hypothesis { i < length (content self.now).names }
@@ -123,7 +123,7 @@ impl Case {
         self.component(c).weight(i)
     }
 
-    /// The edge from a hypothesis to a hypothesis in a component.
+    /// Returns the edge from a hypothesis to a hypothesis in a component.
     pub fn edge(&self, c: usize, i: usize, j: usize) -> &Entry
         requires component { c < length (content self.now).components }
         requires from { i < length (content self.now).names }
@@ -133,7 +133,7 @@ impl Case {
         self.component(c).edge(self.size(), i, j)
     }
 
-    /// The table of the edges of a component, row by row.
+    /// Returns the table of the edges of a component, row by row.
     pub fn edges(&self, c: usize) -> &[Entry]
         requires { c < length (content self.now).components }
         ensures edges { result.now ≡ (component_at (content self.now).components c).edges }
@@ -142,8 +142,9 @@ impl Case {
         self.component(c).edges.as_slice()
     }
 
-    /// The p-values. Where there are single ones, there is one for each hypothesis, from 0 to 1. Where there are stages, there
-    /// are 1 to 12, each hypothesis spends at them, and each arrival is of a hypothesis and one of the stages.
+    /// Returns the p-values. Where there are single ones, there is one for each hypothesis, from 0 to 1. Where there
+    /// are stages, there are 1 to 12, each hypothesis spends at them, and each arrival is of a hypothesis and one of
+    /// the stages.
     pub fn inputs(&self) -> &Inputs
         ensures inputs { result.now ≡ (content self.now).inputs }
         ensures p_values { IfSingle result.now (ArePValues (length (content self.now).names)) }
@@ -160,7 +161,7 @@ impl Case {
         self.components.iter().all(|component| component.is_plain())
     }
 
-    /// The position of the hypothesis of this name; `None` where no hypothesis has it.
+    /// Returns the position of the hypothesis of this name; `None` where no hypothesis has it.
     pub fn position(&self, name: &[u8]) -> Option<usize>
         ensures { result ≡ position_of name.now (content self.now).names }
     {

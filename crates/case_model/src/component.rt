@@ -26,7 +26,7 @@ impl Component {
     ghost use Rattle.case_model.specs.Draft.{goes_between};
     ghost use Rattle.case_model.specs.Content.{tabled};
 
-    /// The component of a draft with its edges in a table.
+    /// Returns the component of a draft with its edges in a table.
     fn tabled(alloc: Global, count: usize, draft: DraftComponent) -> Result<Component, NoMemory>
         requires few { count ≤ 64 }
         requires ends { list_all (goes_between count) draft.edges ≡ true }
@@ -46,7 +46,7 @@ impl Component {
         })
     }
 
-    /// The weight of a hypothesis.
+    /// Returns the weight of a hypothesis.
     #[tactic(auto, unfolding(crate::specs::Sums::ratio_at), using(std::proofs::lemmas::List::get_or_default))]
     pub(crate) fn weight(&self, i: usize) -> Fraction
         requires { i < length self.now.weights }
@@ -55,7 +55,7 @@ impl Component {
         self.weights.as_slice()[i]
     }
 
-    /// The edge from a hypothesis to a hypothesis, of so many.
+    /// Returns the edge from a hypothesis to a hypothesis of a component of a number of hypotheses.
     #[tactic(auto, unfolding(crate::specs::Entries::entry_at), using(std::proofs::lemmas::List::get_or_default))]
     pub(crate) fn edge(&self, count: usize, i: usize, j: usize) -> &Entry
         requires few { count ≤ 64 }
@@ -75,7 +75,7 @@ impl Component {
     }
 }
 
-/// The table of the edges between so many hypotheses, row by row. Of edges with the same ends it has the first.
+/// Returns the table of the edges between this number of hypotheses, row by row. Of edges with the same ends it has the first.
 fn table(alloc: Global, count: usize, edges: &[DraftEdge]) -> Result<List<Entry>, NoMemory>
     requires few { count ≤ 64 }
     requires ends { list_all (goes_between count) edges.now ≡ true }
@@ -90,7 +90,7 @@ fn table(alloc: Global, count: usize, edges: &[DraftEdge]) -> Result<List<Entry>
     Ok(table)
 }
 
-/// The components of a draft with their edges in tables.
+/// Returns the components of a draft with their edges in tables.
 pub fn tabled(
     alloc: Global,
     count: usize,

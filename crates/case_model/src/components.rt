@@ -3,7 +3,22 @@ ghost use Rattle.std.specs.Prelude.{◌≡◌, ◌≤◌, ◌<◌, length, get_o
 ghost use Rattle.std.specs.List.{list_all};
 ghost use Rattle.case_model.specs.declared.draft_component.DraftComponent.{DraftComponent};
 ghost use Rattle.case_model.specs.Draft.{goes_between};
-ghost use Rattle.case_model.specs.CaseFaults.{◌or◌, first_of, components_fault, long_share, long_weight, long_edge, share_range, share_sum, shares_fault, weight_count, weights_fault, self_edge, repeated_edge, edges_fault};
+ghost use Rattle.case_model.specs.CaseFaults.{
+  ◌or◌,
+  first_of,
+  components_fault,
+  long_share,
+  long_weight,
+  long_edge,
+  share_range,
+  share_sum,
+  shares_fault,
+  weight_count,
+  weights_fault,
+  self_edge,
+  repeated_edge,
+  edges_fault,
+};
 
 use crate::first_faults::{first_below, first_fault};
 use crate::fraction_tests::{is_below_zero, is_short};
@@ -11,7 +26,7 @@ use crate::sums::total_fault;
 use crate::{CaseFault, DraftComponent, PartPlace};
 use field_core::Place;
 
-/// The fault of the number of components.
+/// Returns the fault of the number of components.
 #[tactic(auto, unfolding(crate::specs::CaseFaults::components_fault, crate::specs::CaseFaults::no_component, crate::specs::CaseFaults::too_many_components))]
 pub fn components_fault(components: &[DraftComponent]) -> Option<CaseFault>
     ensures { result ≡ components_fault components.now }
@@ -23,7 +38,7 @@ pub fn components_fault(components: &[DraftComponent]) -> Option<CaseFault>
         .or_else(|| (count > 8).then_some(CaseFault::TooManyComponents(count)))
 }
 
-/// The first share with a part above 10^18.
+/// Returns the first share with a part above 10^18.
 #[tactic(auto, unfolding(crate::specs::CaseFaults::long_share))]
 fn long_share(components: &[DraftComponent]) -> Option<CaseFault>
     ensures { result ≡ long_share components.now }
@@ -33,7 +48,7 @@ fn long_share(components: &[DraftComponent]) -> Option<CaseFault>
     })
 }
 
-/// The first share, or else the first weight, or else the first edge, with a part above 10^18.
+/// Returns the first share, or else the first weight, or else the first edge, with a part above 10^18.
 pub fn long_part(components: &[DraftComponent]) -> Option<CaseFault>
     ensures { result ≡ (long_share components.now or first_of long_weight components.now or first_of long_edge components.now) }
 {
@@ -42,7 +57,7 @@ pub fn long_part(components: &[DraftComponent]) -> Option<CaseFault>
         .or_else(|| first_fault(components, DraftComponent::long_edge))
 }
 
-/// The first share below 0.
+/// Returns the first share below 0.
 #[tactic(auto, unfolding(crate::specs::CaseFaults::share_range))]
 fn share_range(components: &[DraftComponent]) -> Option<CaseFault>
     ensures { result ≡ share_range components.now }
@@ -52,7 +67,7 @@ fn share_range(components: &[DraftComponent]) -> Option<CaseFault>
     })
 }
 
-/// The fault of the sum of the shares.
+/// Returns the fault of the sum of the shares.
 #[tactic(auto, unfolding(crate::specs::CaseFaults::share_sum, crate::specs::Sums::ratio_at), using(std::proofs::lemmas::List::get_or_default))]
 fn share_sum(components: &[DraftComponent]) -> Option<CaseFault>
     ensures { result ≡ share_sum components.now }
@@ -67,7 +82,7 @@ fn share_sum(components: &[DraftComponent]) -> Option<CaseFault>
     )
 }
 
-/// The first fault of the shares.
+/// Returns the first fault of the shares.
 #[tactic(auto, unfolding(crate::specs::CaseFaults::shares_fault))]
 pub fn shares_fault(components: &[DraftComponent]) -> Option<CaseFault>
     ensures { result ≡ shares_fault components.now }
@@ -75,7 +90,7 @@ pub fn shares_fault(components: &[DraftComponent]) -> Option<CaseFault>
     share_range(components).or_else(|| share_sum(components))
 }
 
-/// The first component that hasn't so many weights.
+/// Returns the first component that hasn't this number of weights.
 #[tactic(auto, unfolding(crate::specs::CaseFaults::weight_count))]
 fn weight_count(count: usize, components: &[DraftComponent]) -> Option<CaseFault>
     ensures { result ≡ weight_count count components.now }
@@ -85,7 +100,7 @@ fn weight_count(count: usize, components: &[DraftComponent]) -> Option<CaseFault
     })
 }
 
-/// The first fault of the weights of so many hypotheses.
+/// Returns the first fault of the weights of a number of hypotheses.
 #[tactic(auto, unfolding(crate::specs::CaseFaults::weights_fault))]
 pub fn weights_fault(count: usize, components: &[DraftComponent]) -> Option<CaseFault>
     ensures { result ≡ weights_fault count components.now }
@@ -95,14 +110,14 @@ pub fn weights_fault(count: usize, components: &[DraftComponent]) -> Option<Case
         .or_else(|| first_fault(components, DraftComponent::weight_sum))
 }
 
-/// The first edge of a component from a hypothesis to itself that isn't 0.
+/// Returns the first edge of a component from a hypothesis to itself that isn't 0.
 fn self_edges(components: &[DraftComponent]) -> Option<CaseFault>
     ensures { result ≡ first_of self_edge components.now }
 {
     first_fault(components, DraftComponent::self_edge)
 }
 
-/// The first edge of the component at a place with the ends of an earlier one.
+/// Returns the first edge of the component at a place with the ends of an earlier one.
 fn repeated_edge(count: usize, components: &[DraftComponent], c: usize) -> Option<CaseFault>
     requires few { count ≤ 64 }
     requires ends { list_all (λ k. list_all (goes_between count) k.edges) components.now ≡ true }
@@ -112,7 +127,7 @@ fn repeated_edge(count: usize, components: &[DraftComponent], c: usize) -> Optio
     components[c].repeated_edge(c, count)
 }
 
-/// The first edge of a component with the ends of an earlier one.
+/// Returns the first edge of a component with the ends of an earlier one.
 fn repeated_edges(count: usize, components: &[DraftComponent]) -> Option<CaseFault>
     requires few { count ≤ 64 }
     requires ends { list_all (λ k. list_all (goes_between count) k.edges) components.now ≡ true }
@@ -121,7 +136,7 @@ fn repeated_edges(count: usize, components: &[DraftComponent]) -> Option<CaseFau
     first_below(components.len(), |c| repeated_edge(count, components, c))
 }
 
-/// The first fault of the edges between so many hypotheses, one by one.
+/// Returns the first fault of the edges between this number of hypotheses, one by one.
 #[tactic(auto, unfolding(crate::specs::CaseFaults::edges_fault))]
 pub fn edges_fault(count: usize, components: &[DraftComponent]) -> Option<CaseFault>
     requires few { count ≤ 64 }

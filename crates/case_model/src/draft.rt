@@ -4,7 +4,17 @@ ghost use Rattle.std.specs.List.{list_all};
 ghost use Rattle.std.specs.Option.{option_and_then};
 ghost use Rattle.case_model.specs.Draft.{goes_between, have_known_ends, have_known_arrivals};
 ghost use Rattle.case_model.specs.Content.{content_of, tabled, inputs_of, has_coefficients};
-ghost use Rattle.case_model.specs.CaseFaults.{mixed, long_stage_part, stages_fault, part_too_long, alpha_range, fault_before_edges, early_fault, late_fault, case_fault};
+ghost use Rattle.case_model.specs.CaseFaults.{
+  mixed,
+  long_stage_part,
+  stages_fault,
+  part_too_long,
+  alpha_range,
+  fault_before_edges,
+  early_fault,
+  late_fault,
+  case_fault,
+};
 ghost use Rattle.case_model.specs.CaseView.{content};
 ghost use Rattle.case_model.specs.Tables.{are_tables};
 ghost use Rattle.case_model.specs.declared.fault.CaseFault.TheVariants.{NoMemory as OutOfMemory};
@@ -54,9 +64,9 @@ impl Draft {
         }
     }
 
-    /// The case that the draft says, or the first fault that a row of `CaseFault` finds in it, or `NoMemory`. A refusal
-    /// hands back the draft's names; the rest is given up. Each edge goes from a hypothesis to a hypothesis, and each
-    /// p-value that arrived is of a hypothesis.
+    /// Returns the case that the draft says, or the first fault that a row of `CaseFault` finds in it, or `NoMemory`. A
+    /// refusal hands back the draft's names; the rest is given up. Each edge goes from a hypothesis to a hypothesis,
+    /// and each p-value that arrived is of a hypothesis.
     pub fn finish(self, alloc: Global) -> Result<Case, Refused>
         requires ends { have_known_ends self ≡ true }
         requires arrivals { have_known_arrivals self ≡ true }
@@ -82,7 +92,7 @@ impl Draft {
         }
     }
 
-    /// The first fault of the tests before those of the edges.
+    /// Returns the first fault of the tests before those of the edges.
     fn fault_before_edges(&self) -> Option<CaseFault>
         ensures { result ≡ fault_before_edges self.now }
     {
@@ -96,7 +106,7 @@ impl Draft {
             .or_else(|| weights_fault(count, components))
     }
 
-    /// The first fault of the tests before those of the rows of edges.
+    /// Returns the first fault of the tests before those of the rows of edges.
     #[tactic(auto, unfolding(crate::specs::CaseFaults::early_fault))]
     fn early_fault(&self) -> Option<CaseFault>
         requires { have_known_ends self.now ≡ true }
@@ -108,7 +118,7 @@ impl Draft {
         edges_fault(self.names.len(), self.components.as_slice())
     }
 
-    /// The first number with a part above its limit.
+    /// Returns the first number with a part above its limit.
     #[tactic(auto, unfolding(crate::specs::CaseFaults::part_too_long, crate::specs::CaseFaults::long_alpha))]
     fn part_too_long(&self) -> Option<CaseFault>
         ensures { result ≡ part_too_long self.now }
@@ -120,7 +130,7 @@ impl Draft {
             .or_else(|| long_stage_part(&self.stages))
     }
 
-    /// The level isn't above 0 and at most 1.
+    /// Returns the fault if the level isn't above 0 and at most 1.
     #[tactic(auto, unfolding(crate::specs::CaseFaults::alpha_range))]
     fn alpha_range(&self) -> Option<CaseFault>
         ensures { result ≡ alpha_range self.now.alpha }
@@ -129,7 +139,7 @@ impl Draft {
     }
 }
 
-/// What a draft gives to its case, besides the names and the level.
+/// What a draft gives to its case, apart from the names and the level.
 #[derive(Drop)]
 struct Parts {
     components: List<Component>,
@@ -137,7 +147,7 @@ struct Parts {
 }
 
 impl Parts {
-    /// The components with their edges in tables, and the p-values, or the first fault of the later tests.
+    /// Returns the components with their edges in tables, and the p-values, or the first fault of the later tests.
     fn made(
         alloc: Global,
         count: usize,
@@ -152,7 +162,8 @@ impl Parts {
         ensures coefficients { IfOk result (λ parts. has_coefficients parts.components ≡ true) }
         ensures inputs { IfOk result (λ parts. parts.inputs ≡ inputs_of stages p.now) }
         ensures faultless { OnOk result (late_fault count alpha.now stages p.now (map (tabled count) components) ≡ None) }
-        ensures fault { IfErr result (λ fault. (fault ≡ OutOfMemory) ⊎ (late_fault count alpha.now stages p.now (map (tabled count) components) ≡ Some fault)) }
+        ensures fault { IfErr result (λ fault. (fault ≡ OutOfMemory)
+            ⊎ (late_fault count alpha.now stages p.now (map (tabled count) components) ≡ Some fault)) }
     {
         let components = tabled(alloc, count, components)?;
         if let Some(fault) = late_fault(count, alpha, &stages, p, components.as_slice()) {
@@ -163,7 +174,7 @@ impl Parts {
     }
 }
 
-/// The first number of stages with a part above its limit.
+/// Returns the first number of stages with a part above its limit.
 fn long_stage_part(stages: &Option<DraftStages>) -> Option<CaseFault>
     ensures { result ≡ option_and_then long_stage_part stages.now }
 {
@@ -173,7 +184,7 @@ fn long_stage_part(stages: &Option<DraftStages>) -> Option<CaseFault>
     }
 }
 
-/// The first fault of the stages of so many hypotheses, where there are some.
+/// Returns the first fault of the stages of a number of hypotheses, where there are some.
 fn stages_fault(size: usize, alpha: &Fraction, stages: &Option<DraftStages>) -> Option<CaseFault>
     ensures { result ≡ option_and_then (stages_fault size alpha.now) stages.now }
 {
@@ -191,7 +202,7 @@ fn mixed(stages: &Option<DraftStages>, p: &[Option<Fraction>]) -> Option<CaseFau
     (stages.is_some() && !p.is_empty()).then_some(CaseFault::Mixed)
 }
 
-/// The first fault of the rows of edges, of the p-values and of the stages.
+/// Returns the first fault of the rows of edges, of the p-values and of the stages.
 #[tactic(auto, unfolding(crate::specs::CaseFaults::late_fault))]
 fn late_fault(
     count: usize,

@@ -20,14 +20,14 @@ pub struct DraftComponent {
 }
 
 impl DraftComponent {
-    /// Whether each edge goes from one of so many hypotheses to one of them.
+    /// Whether each edge goes from one of a number of hypotheses to one of them.
     pub(crate) fn has_known_ends(&self, count: usize) -> bool
         ensures { result ≡ list_all (goes_between count) self.now.edges }
     {
         self.edges.iter().all(|edge| edge.goes_between(count))
     }
 
-    /// The first weight with a part above 10^18.
+    /// Returns the first weight with a part above 10^18.
     #[tactic(auto, unfolding(crate::specs::CaseFaults::long_weight))]
     pub(crate) fn long_weight(&self, c: usize) -> Option<CaseFault>
         ensures { result ≡ long_weight c self.now }
@@ -37,7 +37,7 @@ impl DraftComponent {
         })
     }
 
-    /// The first edge with a part above 10^18.
+    /// Returns the first edge with a part above 10^18.
     #[tactic(auto, unfolding(crate::specs::CaseFaults::long_edge))]
     pub(crate) fn long_edge(&self, c: usize) -> Option<CaseFault>
         ensures { result ≡ long_edge c self.now }
@@ -48,7 +48,7 @@ impl DraftComponent {
         })
     }
 
-    /// The first weight below 0.
+    /// Returns the first weight below 0.
     #[tactic(auto, unfolding(crate::specs::CaseFaults::weight_range))]
     pub(crate) fn weight_range(&self, c: usize) -> Option<CaseFault>
         ensures { result ≡ weight_range c self.now }
@@ -58,7 +58,7 @@ impl DraftComponent {
         })
     }
 
-    /// The fault of the sum of the weights.
+    /// Returns the fault of the sum of the weights.
     #[tactic(auto, unfolding(crate::specs::CaseFaults::weight_sum, crate::specs::Sums::ratio_at), using(std::proofs::lemmas::List::get_or_default))]
     pub(crate) fn weight_sum(&self, c: usize) -> Option<CaseFault>
         ensures { result ≡ weight_sum c self.now }
@@ -68,7 +68,7 @@ impl DraftComponent {
         total_fault(weights.len(), |i| weights[i], c, Place::WeightSum, above)
     }
 
-    /// The first edge from a hypothesis to itself that isn't 0.
+    /// Returns the first edge from a hypothesis to itself that isn't 0.
     #[tactic(auto, unfolding(crate::specs::CaseFaults::self_edge))]
     pub(crate) fn self_edge(&self, c: usize) -> Option<CaseFault>
         ensures { result ≡ self_edge c self.now }
@@ -79,7 +79,7 @@ impl DraftComponent {
         })
     }
 
-    /// The first edge with the ends of an earlier one.
+    /// Returns the first edge with the ends of an earlier one.
     #[tactic(auto, unfolding(crate::specs::CaseFaults::repeated_edge))]
     pub(crate) fn repeated_edge(&self, c: usize, count: usize) -> Option<CaseFault>
         requires few { count ≤ 64 }
@@ -99,7 +99,7 @@ impl DraftComponent {
         None
     }
 
-    /// The first edge that isn't from 0 to 1.
+    /// Returns the first edge that isn't from 0 to 1.
     #[tactic(auto, unfolding(crate::specs::CaseFaults::edge_range))]
     pub(crate) fn edge_range(&self, c: usize) -> Option<CaseFault>
         ensures { result ≡ edge_range c self.now }

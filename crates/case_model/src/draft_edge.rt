@@ -14,14 +14,14 @@ pub struct DraftEdge {
 }
 
 impl DraftEdge {
-    /// Whether it goes from one of so many hypotheses to one of them.
+    /// Whether it goes from one of a number of hypotheses to one of them.
     pub(crate) fn goes_between(&self, count: usize) -> bool
         ensures { result ≡ goes_between count self.now }
     {
         self.from < count && self.to < count
     }
 
-    /// Its place in the table of the edges between so many hypotheses, row by row.
+    /// Returns its place in the table of the edges between this number of hypotheses, row by row.
     pub(crate) fn place(&self, count: usize) -> usize
         requires few { count ≤ 64 }
         requires ends { goes_between count self.now ≡ true }

@@ -3,7 +3,21 @@ ghost use Rattle.std.specs.Prelude.{◌≡◌, ◌<◌, length, get_or};
 ghost use Rattle.std.specs.List.{list_all, list_any};
 ghost use Rattle.case_model.specs.declared.draft_stages.Arrival.{Arrival};
 ghost use Rattle.case_model.specs.Draft.{is_of, arrives_among};
-ghost use Rattle.case_model.specs.CaseFaults.{◌or◌, first_of, long_arrival, spend_count, step_order, spend_range, spend_sum, spends_fault, arrival_stage, repeated_arrival, arrival_repeated, arrival_range, arrivals_fault};
+ghost use Rattle.case_model.specs.CaseFaults.{
+  ◌or◌,
+  first_of,
+  long_arrival,
+  spend_count,
+  step_order,
+  spend_range,
+  spend_sum,
+  spends_fault,
+  arrival_stage,
+  repeated_arrival,
+  arrival_repeated,
+  arrival_range,
+  arrivals_fault,
+};
 
 use crate::first_faults::{first_below, first_fault};
 use crate::fraction_tests::{is_short_p_value, is_unit};
@@ -33,7 +47,7 @@ impl DraftStages {
     ghost use Rattle.case_model.specs.Draft.{arrives_among};
     ghost use Rattle.case_model.specs.CaseFaults.{long_stage_part, stages_fault};
 
-    /// Whether each p-value that arrived is of one of so many hypotheses.
+    /// Whether each p-value that arrived is of one of a number of hypotheses.
     pub(crate) fn has_known_arrivals(&self, count: usize) -> bool
         ensures { result ≡ list_all (arrives_among count) self.now.arrivals }
     {
@@ -42,7 +56,7 @@ impl DraftStages {
             .all(|arrival| arrival.hypothesis < count)
     }
 
-    /// The first number with a part above its limit: a fraction, or else a number of a step, or else a p-value.
+    /// Returns the first number with a part above its limit: a fraction, or else a number of a step, or else a p-value.
     #[tactic(auto, unfolding(crate::specs::CaseFaults::long_stage_part))]
     pub(crate) fn long_part(&self) -> Option<CaseFault>
         ensures { result ≡ long_stage_part self.now }
@@ -53,7 +67,7 @@ impl DraftStages {
             .or_else(|| long_arrival(self.arrivals.as_slice()))
     }
 
-    /// The first fault of the stages of so many hypotheses at the level `alpha`.
+    /// Returns the first fault of the stages of a number of hypotheses at the level `alpha`.
     #[tactic(auto, unfolding(crate::specs::CaseFaults::stages_fault, crate::specs::CaseFaults::no_stage, crate::specs::CaseFaults::too_many_stages))]
     pub(crate) fn fault(&self, size: usize, alpha: &Fraction) -> Option<CaseFault>
         ensures { result ≡ stages_fault size alpha.now self.now }
@@ -67,7 +81,7 @@ impl DraftStages {
     }
 }
 
-/// The first p-value that arrived with a denominator above 10^30.
+/// Returns the first p-value that arrived with a denominator above 10^30.
 #[tactic(auto, unfolding(crate::specs::CaseFaults::long_arrival))]
 fn long_arrival(arrivals: &[Arrival]) -> Option<CaseFault>
     ensures { result ≡ long_arrival arrivals.now }
@@ -77,7 +91,7 @@ fn long_arrival(arrivals: &[Arrival]) -> Option<CaseFault>
     })
 }
 
-/// The first of so many hypotheses that doesn't spend at each of `count` stages, or the first place past them.
+/// Returns the first of a number of hypotheses that doesn't spend at each of `count` stages, or the first place past them.
 #[tactic(auto, unfolding(crate::specs::CaseFaults::spend_count))]
 fn spend_count(size: usize, count: u64, spends: &[Spend]) -> Option<CaseFault>
     ensures { result ≡ spend_count size count spends.now }
@@ -88,7 +102,7 @@ fn spend_count(size: usize, count: u64, spends: &[Spend]) -> Option<CaseFault>
     .or_else(|| (spends.len() < size).then_some(CaseFault::SpendCount(spends.len())))
 }
 
-/// The first fault of what so many hypotheses spend at `count` stages.
+/// Returns the first fault of what this number of hypotheses spend at `count` stages.
 #[tactic(auto, unfolding(crate::specs::CaseFaults::spends_fault))]
 fn spends_fault(size: usize, count: u64, alpha: &Fraction, spends: &[Spend]) -> Option<CaseFault>
     ensures { result ≡ spends_fault size count alpha.now spends.now }
@@ -98,7 +112,7 @@ fn spends_fault(size: usize, count: u64, alpha: &Fraction, spends: &[Spend]) -> 
         .or_else(|| levels_fault(alpha, spends))
 }
 
-/// The first fault of the weights of steps, or else of what is spent at a stage, or else of the sums.
+/// Returns the first fault of the weights of steps, or else of what is spent at a stage, or else of the sums.
 fn levels_fault(alpha: &Fraction, spends: &[Spend]) -> Option<CaseFault>
     ensures { result ≡ (first_of step_order spends.now or first_of spend_range spends.now or first_of (spend_sum alpha.now) spends.now) }
 {
@@ -107,14 +121,14 @@ fn levels_fault(alpha: &Fraction, spends: &[Spend]) -> Option<CaseFault>
         .or_else(|| spend_sum(alpha, spends))
 }
 
-/// The first fault of the sums of what is spent.
+/// Returns the first fault of the sums of what is spent.
 fn spend_sum(alpha: &Fraction, spends: &[Spend]) -> Option<CaseFault>
     ensures { result ≡ first_of (spend_sum alpha.now) spends.now }
 {
     first_fault(spends, |spend, i| spend.sum_fault(i, alpha))
 }
 
-/// The first arrival at what isn't one of so many stages.
+/// Returns the first arrival at what isn't one of a number of stages.
 #[tactic(auto, unfolding(crate::specs::CaseFaults::arrival_stage))]
 fn arrival_stage(count: u64, arrivals: &[Arrival]) -> Option<CaseFault>
     ensures { result ≡ arrival_stage count arrivals.now }
@@ -132,7 +146,7 @@ fn has(arrivals: &[Arrival], hypothesis: usize, stage: usize) -> bool
     arrivals.iter().any(|arrival| arrival.hypothesis == hypothesis && arrival.stage == stage)
 }
 
-/// The arrival at a place has the hypothesis and the stage of an earlier one.
+/// Returns the fault if the arrival at a place has the hypothesis and the stage of an earlier one.
 #[tactic(auto, using(std::proofs::lemmas::List::get_or_default))]
 fn repeated_arrival(arrivals: &[Arrival], n: usize) -> Option<CaseFault>
     requires { n < length arrivals.now }
@@ -142,14 +156,14 @@ fn repeated_arrival(arrivals: &[Arrival], n: usize) -> Option<CaseFault>
     has(&arrivals[..n], arrival.hypothesis, arrival.stage).then_some(CaseFault::ArrivalRepeated(n))
 }
 
-/// The first arrival with the hypothesis and the stage of an earlier one.
+/// Returns the first arrival with the hypothesis and the stage of an earlier one.
 fn arrival_repeated(arrivals: &[Arrival]) -> Option<CaseFault>
     ensures { result ≡ arrival_repeated arrivals.now }
 {
     first_below(arrivals.len(), |n| repeated_arrival(arrivals, n))
 }
 
-/// The first p-value that arrived and isn't from 0 to 1.
+/// Returns the first p-value that arrived and isn't from 0 to 1.
 #[tactic(auto, unfolding(crate::specs::CaseFaults::arrival_range))]
 fn arrival_range(arrivals: &[Arrival]) -> Option<CaseFault>
     ensures { result ≡ arrival_range arrivals.now }
@@ -159,7 +173,7 @@ fn arrival_range(arrivals: &[Arrival]) -> Option<CaseFault>
     })
 }
 
-/// The first fault of the p-values that arrived at so many stages.
+/// Returns the first fault of the p-values that arrived at this number of stages.
 #[tactic(auto, unfolding(crate::specs::CaseFaults::arrivals_fault))]
 fn arrivals_fault(count: u64, arrivals: &[Arrival]) -> Option<CaseFault>
     ensures { result ≡ arrivals_fault count arrivals.now }

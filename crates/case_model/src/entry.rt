@@ -38,21 +38,21 @@ impl Entry {
     ghost use Rattle.case_model.specs.Entries.{no_edge, entry_value, is_whole_entry, is_zero_entry, is_plain_entry};
     ghost use Rattle.case_model.specs.Draft.{at_most, is_unit, is_short};
 
-    /// The entry with these coefficients, by ascending power of epsilon.
+    /// Returns the entry with these coefficients, by ascending power of epsilon.
     pub fn new(coefficients: [Fraction; 5]) -> Entry
         ensures { result ≡ coefficients }
     {
         Entry { coefficients }
     }
 
-    /// The entry of an edge that isn't there.
+    /// Returns the entry of an edge that isn't there.
     pub(crate) fn no_edge() -> Entry
         ensures { result ≡ no_edge }
     {
         Entry::new([Fraction::zero(); 5])
     }
 
-    /// A copy, which has a coefficient for each power from 0 to 4.
+    /// Returns a copy, which has a coefficient for each power from 0 to 4.
     pub(crate) fn copied(&self) -> Entry
         ensures same { result ≡ self.now }
         ensures whole { is_whole_entry result ≡ true }
@@ -60,7 +60,7 @@ impl Entry {
         Entry::new(self.coefficients)
     }
 
-    /// The coefficient of a power from 0 to 4.
+    /// Returns the coefficient of a power from 0 to 4.
     #[tactic(auto, unfolding(crate::specs::Sums::ratio_at), using(std::proofs::lemmas::List::get_or_default))]
     pub fn coefficient(&self, power: usize) -> Fraction
         requires { power ≤ 4 }
@@ -93,7 +93,7 @@ impl Entry {
         are_zero(&coefficients[1..])
     }
 
-    /// How the value compares with a fraction, in the order of epsilon.
+    /// Returns how the value compares with a fraction, in the order of epsilon.
     fn compare(&self, other: &Fraction) -> Ordering
         ensures { result ≡ number_compare (entry_value self.now) (number_of other.now) }
     {
@@ -142,7 +142,7 @@ fn sign(x: &Fraction) -> Ordering
     x.sign()
 }
 
-/// The sign of the first that isn't 0.
+/// Returns the sign of the first that isn't 0.
 #[tactic(auto, unfolding(crate::specs::Entries::first_sign))]
 fn first_sign(fractions: &[Fraction]) -> Ordering
     ensures { result ≡ first_sign fractions.now }

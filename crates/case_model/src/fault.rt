@@ -1,7 +1,7 @@
 //! Why drafts are refused.
 use field_core::{List, NoMemory, Text, WideAt};
 
-/// Where a number stands in a draft. Components, hypotheses, stages, steps and arrivals are named by their places, from 0.
+/// Where a number is in a draft. Components, hypotheses, stages, steps and arrivals are named by their places, from 0.
 #[derive(Clone, Copy, PartialEq, Eq, Debug)]
 pub enum PartPlace {
     Alpha,
@@ -95,7 +95,7 @@ pub enum CaseFault {
     /// A part of a written sum of shares, weights, edges, fractions or levels, or of the weight of a step times the level
     /// of the case, passes its size. It is found where the row tests this sum, before the sum is compared.
     Wide(WideAt),
-    /// Memory ran out.
+    /// Out of memory.
     NoMemory,
 }
 

@@ -5,10 +5,11 @@ ghost use Rattle.case_model.specs.CaseFaults.{first_of, first_below};
 
 use crate::CaseFault;
 
-/// What a test finds first at the positions below a number.
+/// Returns what a test finds first at the positions below a number.
 pub fn first_below<F: Fn(usize) -> Option<CaseFault>>(count: usize, test: F) -> Option<CaseFault>
     requires { (i : ℕ) → i < count → F.pre test i }
-    ensures { (row : ℕ → Option CaseFault) → ((i : ℕ) (r : Option CaseFault) → i < count → F.post test i r → r ≡ row i) → result ≡ first_below row count }
+    ensures { (row : ℕ → Option CaseFault) → ((i : ℕ) (r : Option CaseFault) → i < count → F.post test i r
+        → r ≡ row i) → result ≡ first_below row count }
 {
     for i in 0..count {
         let fault = test(i);
@@ -19,13 +20,14 @@ pub fn first_below<F: Fn(usize) -> Option<CaseFault>>(count: usize, test: F) -> 
     None
 }
 
-/// What a test of items at their places finds first in a list.
+/// Returns what a test of items at their places finds first in a list.
 pub fn first_fault<T, F: Fn(&T, usize) -> Option<CaseFault>>(
     items: &[T],
     test: F,
 ) -> Option<CaseFault>
     requires { F.IsAlwaysCallable test }
-    ensures { (row : ℕ → T → Option CaseFault) → ((x : _) (i : ℕ) (r : Option CaseFault) → F.post test x i r → r ≡ row i x.now) → result ≡ first_of row items.now }
+    ensures { (row : ℕ → T → Option CaseFault) → ((x : _) (i : ℕ) (r : Option CaseFault) → F.post test x i r
+        → r ≡ row i x.now) → result ≡ first_of row items.now }
 {
     for i in 0..items.len() {
         let fault = test(&items[i], i);

@@ -3,7 +3,16 @@ ghost use Rattle.std.specs.Prelude.{◌≡◌, not};
 ghost use Rattle.std.specs.List.{list_all};
 ghost use Rattle.field_core.specs.Arithmetic.{number_zero};
 ghost use Rattle.fraction.specs.View.{number_of};
-ghost use Rattle.case_model.specs.Draft.{at_most, is_unit, is_short_level, is_short, is_short_p_value, is_level_range, is_level, is_p_value};
+ghost use Rattle.case_model.specs.Draft.{
+  at_most,
+  is_unit,
+  is_short_level,
+  is_short,
+  is_short_p_value,
+  is_level_range,
+  is_level,
+  is_p_value,
+};
 ghost use Rattle.case_model.specs.CaseFaults.{is_below_zero};
 
 use field_core::Number;

@@ -17,7 +17,7 @@ impl Stages {
     ghost use Rattle.std.specs.Prelude.{◌≡◌, ◌<◌, length, slice_get, Some};
     ghost use Rattle.case_model.specs.Content.{stages_of};
 
-    /// The stages of a draft, of which there are at most 12.
+    /// Returns the stages of a draft, of which there are at most 12.
     fn of(draft: DraftStages) -> Stages
         ensures { result ≡ stages_of draft }
     {
@@ -28,14 +28,14 @@ impl Stages {
         }
     }
 
-    /// How many stages there are.
+    /// Returns how many stages there are.
     pub fn count(&self) -> usize
         ensures { result ≡ self.now.count }
     {
         self.count
     }
 
-    /// What the hypothesis at a position spends at the stages.
+    /// Returns what the hypothesis at a position spends at the stages.
     pub fn spend(&self, i: usize) -> &Spend
         requires { i < length self.now.spend }
         ensures { slice_get self.now.spend i ≡ Some result.now }
@@ -43,7 +43,7 @@ impl Stages {
         &self.spend.as_slice()[i]
     }
 
-    /// The p-values that arrived, in their order.
+    /// Returns the p-values that arrived, in their order.
     pub fn arrivals(&self) -> &[Arrival]
         ensures { result.now ≡ self.now.arrivals }
     {
@@ -66,7 +66,7 @@ impl Inputs {
     ghost use Rattle.std.specs.Prelude.{◌≡◌, IfOk};
     ghost use Rattle.case_model.specs.Content.{inputs_given, inputs_of};
 
-    /// The stages, where there are some, and else the p-values that are given.
+    /// Returns the stages, where there are some, and else the p-values that are given.
     pub(crate) fn of(
         alloc: Global,
         stages: Option<DraftStages>,
@@ -80,7 +80,7 @@ impl Inputs {
         }
     }
 
-    /// The p-values that are given, or none where no p-value is.
+    /// Returns the p-values that are given, or none where no p-value is.
     fn given(alloc: Global, p: &[Option<Fraction>]) -> Result<Inputs, NoMemory>
         ensures { IfOk result (λ inputs. inputs ≡ inputs_given p.now) }
     {

@@ -7,10 +7,41 @@ pub mod rules;
 pub mod staged;
 
 ghost use Rattle.case_model.specs.CaseStatements.{EntangledGraphsAreValid};
-ghost use Rattle.case_model.specs.ClosedTestExamples.{HalvesAreValid, OnlyFirstHalfIsRejected, BothLinkedHalvesAreRejected, WeightZeroRejectsNothing, AlikeAreTakenByPosition, LeastRatioIsTakenFirst};
-ghost use Rattle.case_model.specs.ClosedTestStatements.{SetsAreRejectedByTheirSupersets, HypothesesAreRejectedByTheirSets, RejectionsStayAtGreaterLevels, LegalOrdersAreRejected, CompleteListsHaveAllRejected, CompleteOrdersDecide, CompleteOrdersAgree, FirstOrdersAreComplete, LastOrdersAreComplete, RatioOrdersAreComplete, FirstOrdersExist, LastOrdersExist, RatioOrdersExist, FirstOrdersAreUnique, LastOrdersAreUnique, RatioOrdersAreUnique};
+ghost use Rattle.case_model.specs.ClosedTestExamples.{
+  HalvesAreValid,
+  OnlyFirstHalfIsRejected,
+  BothLinkedHalvesAreRejected,
+  WeightZeroRejectsNothing,
+  AlikeAreTakenByPosition,
+  LeastRatioIsTakenFirst,
+};
+ghost use Rattle.case_model.specs.ClosedTestStatements.{
+  SetsAreRejectedByTheirSupersets,
+  HypothesesAreRejectedByTheirSets,
+  RejectionsStayAtGreaterLevels,
+  LegalOrdersAreRejected,
+  CompleteListsHaveAllRejected,
+  CompleteOrdersDecide,
+  CompleteOrdersAgree,
+  FirstOrdersAreComplete,
+  LastOrdersAreComplete,
+  RatioOrdersAreComplete,
+  FirstOrdersExist,
+  LastOrdersExist,
+  RatioOrdersExist,
+  FirstOrdersAreUnique,
+  LastOrdersAreUnique,
+  RatioOrdersAreUnique,
+};
 ghost use Rattle.case_model.specs.DraftStatements.{DraftsAreFaultlessWhereValid};
-ghost use Rattle.case_model.specs.IntersectionStatements.{IntersectionWeightsExist, IntersectionWeightsAreUnique, IntersectionWeightsAreUnit, IntersectionWeightsSumToOne, IntersectionWeightsAreLeftByRemovals, IntersectionWeightsAreMonotone};
+ghost use Rattle.case_model.specs.IntersectionStatements.{
+  IntersectionWeightsExist,
+  IntersectionWeightsAreUnique,
+  IntersectionWeightsAreUnit,
+  IntersectionWeightsSumToOne,
+  IntersectionWeightsAreLeftByRemovals,
+  IntersectionWeightsAreMonotone,
+};
 
 /// A draft has no fault exactly where it is valid and its sums can be written.
 pub fn faultless_drafts_are_valid()

@@ -11,15 +11,15 @@
 //!   staged test with its spends, and the textbook rules (Holm, fixed sequence, fallback), which their graphs decide
 //!   as.
 //! - `Draft::finish`: `case` (what is accepted is kept as it was said, with its edges in tables), `faultless` and
-//!   `fault` (it is accepted only without a fault, and refused with the first fault of `case_fault`, or for want of
+//!   `fault` (it is accepted only without a fault, and refused with the first fault of `case_fault`, or when out of
 //!   memory), `names` (a refusal hands the names back). `Draft::has_known_ends`, `has_known_arrivals`.
 //! - `Case::size` and `components` (`count`, `range`), `names`, `name`, `alpha`, `share`, `weight`, `edge`, `edges`,
 //!   `inputs`, `is_plain`, `position`; `least_weight`, `passes_from` and `passes`, the local test of one hypothesis;
 //!   `Spend::copy`, and `Spend::meets`, whether a p-value meets the level of a stage at a weight; `NameIndex::build`
 //!   and `position`; `SetTable`, an answer for each set of at most 16 hypotheses; `is_level`, `is_p_value`.
 //!
-//! Tables of drafts (each fault, pairs of faults, and drafts that make cases, with several components and with
-//! stages) and of positions in an index, with values by hand, stand in case_tests.
+//! Tables of drafts (each fault, pairs of faults, and drafts that make cases, with several components and with stages)
+//! and of positions in an index, with values by hand, are in tests_cases.
 #![tactic(auto)]
 
 mod case;

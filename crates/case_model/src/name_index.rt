@@ -16,7 +16,7 @@ pub struct NameIndex {
 }
 
 impl NameIndex {
-    /// The index of these names, or `NoMemory`.
+    /// Returns the index of these names, or `NoMemory`.
     pub fn build(alloc: Global, names: &[Text]) -> Result<NameIndex, NoMemory>
         ensures { IfOk result (λ index. (name : List ℕ) → place_of index name ≡ position_of name names.now) }
     {
@@ -31,7 +31,8 @@ impl NameIndex {
 
     /// Notes a name at a place, unless it has one.
     fn note(&mut self, alloc: Global, name: &[u8], at: usize) -> Result<(), NoMemory>
-        ensures { OnOk result ((q : List ℕ) → place_of self.new q ≡ option_or (place_of self.old q) (cond (bytes_eq q name.now) (Some at) None)) }
+        ensures { OnOk result ((q : List ℕ) → place_of self.new q ≡ option_or (place_of self.old q) (cond
+            (bytes_eq q name.now) (Some at) None)) }
     {
         if self.first.get(name).is_none() {
             self.first.insert(name.to_vec(alloc)?, at)?;
@@ -39,7 +40,7 @@ impl NameIndex {
         Ok(())
     }
 
-    /// The least position of a name in the list that was indexed; `None` where the list doesn't have it.
+    /// Returns the least position of a name in the list that was indexed; `None` where the list doesn't have it.
     pub fn position(&self, name: &[u8]) -> Option<usize>
         ensures { result ≡ place_of self.now name.now }
     {

@@ -36,7 +36,7 @@ fn has(names: &[Text], name: &[u8]) -> bool
     names.iter().any(|other| name == other.as_bytes())
 }
 
-/// The first name that isn't well formed.
+/// Returns the first name that isn't well formed.
 #[tactic(auto, unfolding(crate::specs::CaseFaults::name_form))]
 fn name_form(names: &[Text]) -> Option<CaseFault>
     ensures { result ≡ name_form names.now }
@@ -46,7 +46,7 @@ fn name_form(names: &[Text]) -> Option<CaseFault>
     })
 }
 
-/// The name at a place is equal to an earlier one.
+/// Returns the fault if the name at a place is equal to an earlier one.
 #[tactic(auto, using(std::proofs::lemmas::List::get_or_default))]
 fn repeated_name(names: &[Text], i: usize) -> Option<CaseFault>
     requires { i < length names.now }
@@ -55,14 +55,14 @@ fn repeated_name(names: &[Text], i: usize) -> Option<CaseFault>
     has(&names[..i], names[i].as_bytes()).then_some(CaseFault::DuplicateName(i))
 }
 
-/// The first name that is equal to an earlier one.
+/// Returns the first name that is equal to an earlier one.
 fn duplicate_name(names: &[Text]) -> Option<CaseFault>
     ensures { result ≡ duplicate_name names.now }
 {
     first_below(names.len(), |i| repeated_name(names, i))
 }
 
-/// The first fault of the names.
+/// Returns the first fault of the names.
 #[tactic(auto, unfolding(crate::specs::CaseFaults::names_fault, crate::specs::CaseFaults::no_hypothesis, crate::specs::CaseFaults::too_many))]
 pub fn names_fault(names: &[Text]) -> Option<CaseFault>
     ensures { result ≡ names_fault names.now }

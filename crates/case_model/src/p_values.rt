@@ -3,7 +3,16 @@ ghost use Rattle.std.specs.Prelude.{◌≡◌, IfOk, is_some, is_none};
 ghost use Rattle.std.specs.List.{list_any};
 ghost use Rattle.case_model.specs.Content.{given};
 ghost use Rattle.case_model.specs.declared.fault.CaseFault.TheVariants.{PMissing};
-ghost use Rattle.case_model.specs.CaseFaults.{◌when◌, first_of, is_long_p_value, long_p_value, p_missing, is_outside, p_range, p_values_fault};
+ghost use Rattle.case_model.specs.CaseFaults.{
+  ◌when◌,
+  first_of,
+  is_long_p_value,
+  long_p_value,
+  p_missing,
+  is_outside,
+  p_range,
+  p_values_fault,
+};
 
 use crate::first_faults::first_fault;
 use crate::fraction_tests::{is_short_p_value, is_unit};
@@ -21,7 +30,7 @@ fn is_long_p_value(p: &Option<Fraction>) -> bool
     }
 }
 
-/// The first p-value with a denominator above 10^30.
+/// Returns the first p-value with a denominator above 10^30.
 #[tactic(auto, unfolding(crate::specs::CaseFaults::long_p_value))]
 pub fn long_p_value(p: &[Option<Fraction>]) -> Option<CaseFault>
     ensures { result ≡ long_p_value p.now }
@@ -45,7 +54,7 @@ fn is_missing(p: &Option<Fraction>) -> bool
     p.is_none()
 }
 
-/// The first p-value that isn't given.
+/// Returns the first p-value that isn't given.
 fn first_missing(p: &[Option<Fraction>]) -> Option<CaseFault>
     ensures { result ≡ first_of (λ i p. PMissing i when is_none p) p.now }
 {
@@ -70,7 +79,7 @@ fn is_outside(p: &Option<Fraction>) -> bool
     }
 }
 
-/// The first p-value that isn't from 0 to 1.
+/// Returns the first p-value that isn't from 0 to 1.
 #[tactic(auto, unfolding(crate::specs::CaseFaults::p_range))]
 fn p_range(p: &[Option<Fraction>]) -> Option<CaseFault>
     ensures { result ≡ p_range p.now }
@@ -78,7 +87,7 @@ fn p_range(p: &[Option<Fraction>]) -> Option<CaseFault>
     first_fault(p, |p, i| is_outside(p).then_some(CaseFault::PRange(i)))
 }
 
-/// The first fault of the p-values of so many hypotheses.
+/// Returns the first fault of the p-values of a number of hypotheses.
 #[tactic(auto, unfolding(crate::specs::CaseFaults::p_values_fault, crate::specs::CaseFaults::p_count))]
 pub fn p_values_fault(count: usize, p: &[Option<Fraction>]) -> Option<CaseFault>
     ensures { result ≡ p_values_fault count p.now }
@@ -89,7 +98,7 @@ pub fn p_values_fault(count: usize, p: &[Option<Fraction>]) -> Option<CaseFault>
     p_missing(p).or_else(|| p_range(p))
 }
 
-/// The p-values that are given.
+/// Returns the p-values that are given.
 #[tactic(auto, unfolding(crate::specs::Content::given))]
 pub fn given(alloc: Global, p: &[Option<Fraction>]) -> Result<Vec<Fraction>, AllocError>
     ensures { IfOk result (λ ps. ps.items ≡ given p.now) }

@@ -15,7 +15,7 @@ use crate::{CaseFault, Component, Entry};
 use field_core::{Place, TooWide};
 use fraction::Fraction;
 
-/// The coefficient of a power in the entry at a row and a column.
+/// Returns the coefficient of a power in the entry at a row and a column.
 #[tactic(auto, unfolding(crate::specs::Entries::entry_at), using(std::proofs::lemmas::List::get_or_default))]
 fn coefficient(count: usize, table: &[Entry], i: usize, j: usize, power: usize) -> Fraction
     requires few { count ≤ 64 }
@@ -28,7 +28,7 @@ fn coefficient(count: usize, table: &[Entry], i: usize, j: usize, power: usize) 
     table[i * count + j].coefficient(power)
 }
 
-/// The sum of the coefficients of a power in a row, by ascending column.
+/// Returns the sum of the coefficients of a power in a row, by ascending column.
 fn power_sum(count: usize, table: &[Entry], i: usize, power: usize) -> Result<Fraction, TooWide>
     requires few { count ≤ 64 }
     requires size { length table.now ≡ count * count }
@@ -39,7 +39,7 @@ fn power_sum(count: usize, table: &[Entry], i: usize, power: usize) -> Result<Fr
     written_sum(count, |j| coefficient(count, table, i, j, power))
 }
 
-/// The sum of a row, power by power.
+/// Returns the sum of a row, power by power.
 #[tactic(auto, unfolding(crate::specs::CaseFaults::written_row))]
 fn row_total(count: usize, table: &[Entry], i: usize) -> Result<Entry, TooWide>
     requires few { count ≤ 64 }
@@ -55,7 +55,7 @@ fn row_total(count: usize, table: &[Entry], i: usize) -> Result<Entry, TooWide>
     Ok(Entry::new([constant, first, second, third, fourth]))
 }
 
-/// The fault of the sum of a row: that it is too wide, or else that it is above 1.
+/// Returns the fault of the sum of a row: that it is too wide, or else that it is above 1.
 fn row_sum(count: usize, c: usize, table: &[Entry], i: usize) -> Option<CaseFault>
     requires few { count ≤ 64 }
     requires size { length table.now ≡ count * count }
@@ -68,7 +68,7 @@ fn row_sum(count: usize, c: usize, table: &[Entry], i: usize) -> Option<CaseFaul
     }
 }
 
-/// The first fault of the rows of a table.
+/// Returns the first fault of the rows of a table.
 fn first_row(count: usize, c: usize, table: &[Entry]) -> Option<CaseFault>
     requires few { count ≤ 64 }
     requires size { length table.now ≡ count * count }
@@ -77,7 +77,7 @@ fn first_row(count: usize, c: usize, table: &[Entry]) -> Option<CaseFault>
     first_below(count, |i| row_sum(count, c, table, i))
 }
 
-/// The first fault of the rows of the component at a place.
+/// Returns the first fault of the rows of the component at a place.
 fn component_rows(count: usize, components: &[Component], c: usize) -> Option<CaseFault>
     requires few { count ≤ 64 }
     requires tables { are_tables count components.now ≡ true }
@@ -87,7 +87,7 @@ fn component_rows(count: usize, components: &[Component], c: usize) -> Option<Ca
     first_row(count, c, components[c].edges.as_slice())
 }
 
-/// The first fault of the rows of the components' tables.
+/// Returns the first fault of the rows of the components' tables.
 pub fn rows_fault(count: usize, components: &[Component]) -> Option<CaseFault>
     requires few { count ≤ 64 }
     requires tables { are_tables count components.now ≡ true }

@@ -19,7 +19,7 @@ impl SetTable {
     ghost use Rattle.std.specs.Prelude.{◌≡◌, ◌≢◌, ◌<◌, ◌≤◌, ◌^◌, ℕ, false, IfOk};
     ghost use Rattle.case_model.specs.SetTableView.{table_size, answer_of};
 
-    /// A table for `m` hypotheses, in which each answer is no.
+    /// Returns a table for `m` hypotheses, in which each answer is false.
     pub fn new(alloc: Global, m: usize) -> Result<SetTable, NoMemory>
         requires { m ≤ 16 }
         ensures size { IfOk result (λ t. table_size t ≡ m) }
@@ -33,7 +33,7 @@ impl SetTable {
         })
     }
 
-    /// How many hypotheses there are.
+    /// Returns how many hypotheses there are.
     pub fn size(&self) -> usize
         ensures size { result ≡ table_size self.now }
         ensures few { result ≤ 16 }

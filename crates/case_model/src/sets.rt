@@ -12,7 +12,7 @@ pub fn holds(set: u32, k: usize) -> bool
     (set >> k) & 1 == 1
 }
 
-/// The set without its member `k`.
+/// Returns the set without its member `k`.
 pub fn dropped(set: u32, k: usize) -> u32
     requires set { set < 2 ^ 16 }
     requires k { k < 16 }
@@ -23,7 +23,7 @@ pub fn dropped(set: u32, k: usize) -> u32
     set - (1 << k)
 }
 
-/// The set with `k` more.
+/// Returns the set with `k` more.
 pub fn added(set: u32, k: usize) -> u32
     requires set { set < 2 ^ 16 }
     requires k { k < 16 }

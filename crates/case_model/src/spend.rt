@@ -27,9 +27,17 @@ impl Spend {
     ghost use Rattle.case_model.specs.Draft.{is_level, is_p_value};
     ghost use Rattle.case_model.specs.StagedCase.{has_short_fractions};
     ghost use Rattle.case_model.specs.StagedTest.{Meets};
-    ghost use Rattle.case_model.specs.CaseFaults.{long_fraction, long_step, has_all_stages, too_many_steps, step_order, spend_range, spend_sum};
+    ghost use Rattle.case_model.specs.CaseFaults.{
+      long_fraction,
+      long_step,
+      has_all_stages,
+      too_many_steps,
+      step_order,
+      spend_range,
+      spend_sum,
+    };
 
-    /// A spend with the same content, or `NoMemory`.
+    /// Returns a spend with the same content, or `NoMemory`.
     pub fn copy(&self, alloc: Global) -> Result<Spend, NoMemory>
         ensures { IfOk result (λ spend. spend ≡ self.now) }
     {
@@ -61,7 +69,7 @@ impl Spend {
         }
     }
 
-    /// The first fraction with a part above 10,000.
+    /// Returns the first fraction with a part above 10,000.
     #[tactic(auto, unfolding(crate::specs::CaseFaults::long_fraction))]
     pub(crate) fn long_fraction(&self, i: usize) -> Option<CaseFault>
         ensures { result ≡ long_fraction i self.now }
@@ -76,7 +84,7 @@ impl Spend {
         }
     }
 
-    /// The first step with a part above 10^18.
+    /// Returns the first step with a part above 10^18.
     #[tactic(auto, unfolding(crate::specs::CaseFaults::long_step))]
     pub(crate) fn long_step(&self, i: usize) -> Option<CaseFault>
         ensures { result ≡ long_step i self.now }
@@ -89,7 +97,7 @@ impl Spend {
         }
     }
 
-    /// Whether a list has so many fractions; or a table has a step, and each step so many levels.
+    /// Whether a list has this number of fractions; or a table has a step, and each step this number of levels.
     pub(crate) fn has_all_stages(&self, count: u64) -> bool
         ensures { result ≡ has_all_stages count self.now }
     {
@@ -99,7 +107,7 @@ impl Spend {
         }
     }
 
-    /// The fault of the number of steps.
+    /// Returns the fault of the number of steps.
     #[tactic(auto, unfolding(crate::specs::CaseFaults::too_many_steps))]
     pub(crate) fn too_many_steps(&self, i: usize) -> Option<CaseFault>
         ensures { result ≡ too_many_steps i self.now }
@@ -113,7 +121,7 @@ impl Spend {
         }
     }
 
-    /// The first step whose weight isn't above 0, at most 1 and above that of the step before.
+    /// Returns the first step whose weight isn't above 0, at most 1 and above that of the step before.
     #[tactic(auto, unfolding(crate::specs::CaseFaults::step_order))]
     pub(crate) fn step_order(&self, i: usize) -> Option<CaseFault>
         ensures { result ≡ step_order i self.now }
@@ -131,7 +139,7 @@ impl Spend {
         }
     }
 
-    /// The first fraction below 0; or the first level, step by step, that is below 0 or below that of the step before.
+    /// Returns the first fraction below 0; or the first level, step by step, that is below 0 or below that of the step before.
     #[tactic(auto, unfolding(crate::specs::CaseFaults::spend_range))]
     pub(crate) fn range_fault(&self, i: usize) -> Option<CaseFault>
         ensures { result ≡ spend_range i self.now }
@@ -150,7 +158,7 @@ impl Spend {
         }
     }
 
-    /// The first fault of the sums: that of the fractions, or those of the steps.
+    /// Returns the first fault of the sums: that of the fractions, or those of the steps.
     #[tactic(auto, unfolding(crate::specs::CaseFaults::spend_sum, crate::specs::Sums::ratio_at), using(std::proofs::lemmas::List::get_or_default))]
     pub(crate) fn sum_fault(&self, i: usize, alpha: &Fraction) -> Option<CaseFault>
         ensures { result ≡ spend_sum alpha.now i self.now }
@@ -175,7 +183,7 @@ impl Spend {
     }
 }
 
-/// Whether each step has so many levels.
+/// Whether each step has this number of levels.
 fn have_levels(steps: &[SpendStep], count: u64) -> bool
     ensures { result ≡ list_all (λ s. length s.levels == count) steps.now }
 {

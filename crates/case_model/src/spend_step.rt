@@ -28,7 +28,7 @@ impl SpendStep {
     ghost use Rattle.case_model.specs.Sums.{ratio_at, written_sum};
     ghost use Rattle.case_model.specs.CaseFaults.{step_sum};
 
-    /// A step with the same content, or `NoMemory`.
+    /// Returns a step with the same content, or `NoMemory`.
     fn copy(&self, alloc: Global) -> Result<SpendStep, NoMemory>
         ensures { IfOk result (λ step. step ≡ self.now) }
     {
@@ -38,7 +38,7 @@ impl SpendStep {
         })
     }
 
-    /// The same steps, or `NoMemory`.
+    /// Returns the same steps, or `NoMemory`.
     pub(crate) fn copied(alloc: Global, steps: &[SpendStep]) -> Result<List<SpendStep>, NoMemory>
         ensures { IfOk result (λ copies. copies ≡ steps.now) }
     {
@@ -56,7 +56,7 @@ impl SpendStep {
         is_short(&self.from) && are_short(self.levels.as_slice())
     }
 
-    /// The sum of its levels.
+    /// Returns the sum of its levels.
     #[tactic(auto, unfolding(crate::specs::Sums::ratio_at), using(std::proofs::lemmas::List::get_or_default))]
     fn sum(&self) -> Result<Fraction, TooWide>
         ensures { ok_map terms result ≡ or_wide Add (written_sum (length self.now.levels) (ratio_at self.now.levels)) }
@@ -65,8 +65,8 @@ impl SpendStep {
         written_sum(levels.len(), |t| levels[t])
     }
 
-    /// The fault of the sum of its levels for a hypothesis: that it or the bound is too wide, or else that it is above the
-    /// bound, its weight times the level `alpha`.
+    /// Returns the fault of the sum of its levels for a hypothesis: that it or the bound is too wide, or else that it
+    /// is above the bound, its weight times the level `alpha`.
     #[tactic(auto, unfolding(crate::specs::CaseFaults::step_sum))]
     pub(crate) fn sum_fault(&self, i: usize, alpha: &Fraction) -> Option<CaseFault>
         ensures { result ≡ step_sum i alpha.now self.now }
@@ -83,14 +83,14 @@ impl SpendStep {
     }
 }
 
-/// The same fractions, or `NoMemory`.
+/// Returns the same fractions, or `NoMemory`.
 pub fn copied(alloc: Global, fractions: &[Fraction]) -> Result<List<Fraction>, NoMemory>
     ensures { IfOk result (λ copies. copies ≡ fractions.now) }
 {
     Ok(List::of(fractions.to_vec(alloc)?))
 }
 
-/// The weight of the step before place `n`, if there is one.
+/// Returns the weight of the step before place `n`, if there is one.
 #[tactic(auto, unfolding(crate::specs::CaseFaults::step_before))]
 pub fn weight_before(steps: &[SpendStep], n: usize) -> Option<Fraction>
     ensures { result ≡ option_map (λ s. s.from) (step_before steps.now n) }
@@ -115,7 +115,7 @@ pub fn is_later(before: Option<Fraction>, from: &Fraction) -> bool
     }
 }
 
-/// The level of a stage, counted from 0, in the step before place `n`, if there is one.
+/// Returns the level of a stage, counted from 0, in the step before place `n`, if there is one.
 #[tactic(auto, unfolding(crate::specs::CaseFaults::step_before))]
 fn level_before(steps: &[SpendStep], n: usize, t: usize) -> Option<Fraction>
     ensures { result ≡ level_of (step_before steps.now n) t }
@@ -140,7 +140,7 @@ fn is_lower(before: Option<Fraction>, level: &Fraction) -> bool
     }
 }
 
-/// The first level of the step at place `n` that is below 0, or below that of the step before.
+/// Returns the first level of the step at place `n` that is below 0, or below that of the step before.
 #[tactic(auto, unfolding(crate::specs::CaseFaults::falling_level))]
 pub fn falling_level(
     i: usize,

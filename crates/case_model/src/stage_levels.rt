@@ -14,7 +14,7 @@ use crate::fraction_tests::{is_above_zero, is_at_most};
 use field_core::Number;
 use fraction::Fraction;
 
-/// The fraction of a stage, from 1, in a list of them, if it has one.
+/// Returns the fraction of a stage, from 1, in a list of them, if it has one.
 pub fn at_stage(fractions: &[Fraction], t: usize) -> Option<Fraction>
     requires { 1 ≤ t }
     ensures { result ≡ slice_get fractions.now (t - 1) }
@@ -22,7 +22,8 @@ pub fn at_stage(fractions: &[Fraction], t: usize) -> Option<Fraction>
     fractions.get(t - 1).copied()
 }
 
-/// The level of a stage, from 1, in the last step that a weight reaches; `None` where it reaches none, or the step has none.
+/// Returns the level of a stage, from 1, in the last step that a weight reaches; `None` where it reaches none, or the
+/// step has none.
 pub fn table_level(steps: &[SpendStep], t: usize, weight: &Fraction) -> Option<Fraction>
     requires { 1 ≤ t }
     ensures { result ≡ option_and_then (λ s. slice_get s.levels (t - 1)) (last_step steps.now (number_of weight.now)) }
@@ -38,12 +39,13 @@ pub fn table_level(steps: &[SpendStep], t: usize, weight: &Fraction) -> Option<F
 
 /// Whether a p-value meets a level at a weight: both are above 0, and it is at most the level.
 pub fn meets_level(level: &Fraction, weight: &Fraction, p: &Fraction) -> bool
-    ensures { result ≡ (not (at_most (number_of weight.now) number_zero) && not (at_most (number_of level.now) number_zero) && at_most (number_of p.now) (number_of level.now)) }
+    ensures { result ≡ (not (at_most (number_of weight.now) number_zero) && not
+        (at_most (number_of level.now) number_zero) && at_most (number_of p.now) (number_of level.now)) }
 {
     is_above_zero(weight) && is_above_zero(level) && is_at_most(p, level)
 }
 
-/// The level of a stage at the weight 1: a fraction of the level of the case. Its parts are at most 10^8.
+/// Returns the level of a stage at the weight 1: a fraction of the level of the case. Its parts are at most 10^8.
 fn full_level(fraction: &Fraction, alpha: &Fraction) -> Fraction
     requires fraction { is_short_level fraction.now ≡ true }
     requires alpha { is_level alpha.now ≡ true }
@@ -56,7 +58,7 @@ fn full_level(fraction: &Fraction, alpha: &Fraction) -> Fraction
     }
 }
 
-/// The least weight, if it is above 0, at which a p-value is at most a level times the weight.
+/// Returns the least weight, if it is above 0, at which a p-value is at most a level times the weight.
 fn weight_for(p: &Fraction, level: &Fraction) -> Fraction
     requires p { is_p_value p.now ≡ true }
     requires short { is_within 100000000 (terms level.now) ≡ true }
@@ -80,7 +82,8 @@ pub fn meets_fraction(
     requires short { is_short_level fraction.now ≡ true }
     requires alpha { is_level alpha.now ≡ true }
     requires p { is_p_value p.now ≡ true }
-    ensures { IsTrue result ↔ MeetsLevel ((number_of fraction.now *ε number_of weight.now) *ε number_of alpha.now) (number_of weight.now) (number_of p.now) }
+    ensures { IsTrue result ↔ MeetsLevel ((number_of fraction.now *ε number_of weight.now) *ε number_of alpha.now)
+        (number_of weight.now) (number_of p.now) }
 {
     let level = full_level(fraction, alpha);
     if is_above_zero(weight) {

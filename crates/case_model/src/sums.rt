@@ -11,10 +11,11 @@ use crate::CaseFault;
 use field_core::{Number, Place, TooWide};
 use fraction::Fraction;
 
-/// The sum of so many fractions, written one after the other.
+/// Returns the sum of a number of fractions, written one after the other.
 pub fn written_sum<F: Fn(usize) -> Fraction>(count: usize, at: F) -> Result<Fraction, TooWide>
     requires { (i : ℕ) → i < count → F.pre at i }
-    ensures { (f : ℕ → Ratio) → ((i : ℕ) (x : Ratio) → i < count → F.post at i x → x ≡ f i) → ok_map terms result ≡ or_wide Add (written_sum count f) }
+    ensures { (f : ℕ → Ratio) → ((i : ℕ) (x : Ratio) → i < count → F.post at i x → x ≡ f i)
+        → ok_map terms result ≡ or_wide Add (written_sum count f) }
 {
     let mut sum = Fraction::zero();
     for i in 0..count {
@@ -23,7 +24,7 @@ pub fn written_sum<F: Fn(usize) -> Fraction>(count: usize, at: F) -> Result<Frac
     Ok(sum)
 }
 
-/// The fault of the sum of so many fractions: that it is too wide, or else that it is above 1.
+/// Returns the fault of the sum of a number of fractions: that it is too wide, or else that it is above 1.
 pub fn total_fault<F: Fn(usize) -> Fraction>(
     count: usize,
     at: F,
@@ -32,7 +33,8 @@ pub fn total_fault<F: Fn(usize) -> Fraction>(
     above: CaseFault,
 ) -> Option<CaseFault>
     requires { (i : ℕ) → i < count → F.pre at i }
-    ensures { (xs : List Ratio) → count ≡ length xs → ((i : ℕ) (x : Ratio) → i < count → F.post at i x → x ≡ ratio_at xs i) → result ≡ total_fault xs component place above }
+    ensures { (xs : List Ratio) → count ≡ length xs → ((i : ℕ) (x : Ratio) → i < count → F.post at i x
+        → x ≡ ratio_at xs i) → result ≡ total_fault xs component place above }
 {
     match written_sum(count, at) {
         Ok(sum) => (sum > Fraction::one()).then_some(above),

@@ -1,4 +1,4 @@
--- The case of a named graph has just this graph, and these p-values.
+-- The case of a named graph has exactly this graph, and these p-values.
 use Rattle.std.proofs.Common.{◌≡◌, refl, ap, ◌∙◌, subst, ℕ, ◌<◌, List, [], ◌∷◌, length, map, Option, Some, None, Ok, true, arith}
 use Rattle.std.proofs.lemmas.List.FromFn.{length-map-range_with_len, get_or-map-range_with_len}
 use Rattle.std.specs.List.{range_with_len}

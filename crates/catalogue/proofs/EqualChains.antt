@@ -1,4 +1,4 @@
--- A size that is refused, where fallback has as many equal weights.
+-- A size that is refused, where fallback has that number of equal weights.
 use Rattle.std.proofs.Common.{◌≡◌, ap, ◌∙◌, ℕ, List, length, Some, Err}
 use Rattle.std.proofs.lemmas.List.{length-replicate}
 use Rattle.field_core.specs.declared.ratio.Ratio.{Ratio}

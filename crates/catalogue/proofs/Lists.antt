@@ -12,7 +12,7 @@ flat_map-more f n =
     ∙ flat_map-append f (map (λ k. k) (range_with_len 0 n)) (n ∷ [])
     ∙ ap₂ (λ xs ys. xs ++ ys) (flat_map-map f (λ k. k) (range_with_len 0 n)) (append-nil (f n))
 
--- what is put behind a list, with one place more
+-- what is put after a list, with one place more
 pub put_more : {A : Type 0} (f : ℕ → List A) (start items new : List A) (n : ℕ) → items ≡ start ++ flat_map f (range_with_len 0 n)
     → new ≡ items ++ f n → new ≡ start ++ flat_map f (range_with_len 0 (n + 1))
 put_more f start items new n e g =

@@ -1,4 +1,4 @@
--- The fault of a draft, as the catalogue tells it.
+-- The error in a draft, as the catalogue reports it.
 use Rattle.std.proofs.Common.{◌≡◌, sym, ap, ◌∙◌, inl, inr, ◌⊎◌, Some, Err}
 use Rattle.case_model.specs.declared.draft.Draft.{Draft}
 use Rattle.case_model.specs.declared.fault.CaseFault.{CaseFault}

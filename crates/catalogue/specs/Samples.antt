@@ -17,7 +17,7 @@ next_number x = (x * 25214903917 + 11) % 2 ^ 48
 unfoldable pub drawn_from : ℕ → ℕ
 drawn_from x = x / 2 ^ 20
 
--- the number after so many draws
+-- the number after this number of draws
 unfoldable pub number_after : ℕ → ℕ → ℕ
 number_after seed zero = seed
 number_after seed (suc k) = next_number (number_after seed k)
@@ -39,7 +39,7 @@ sample_p_values n seed = map (p_value_of seed) (range_with_len 0 n)
 abbrev pub named_by : ℕ → ℕ → ℕ → ℕ
 named_by n i d = i + 1 + d % (n - 1 - i)
 
--- the ends of the edges from `i`: two draws for each hypothesis but the last, behind those of the p-values
+-- the ends of the edges from `i`: two draws for each hypothesis but the last, after those of the p-values
 abbrev pub ends_of : ℕ → ℕ → ℕ → ℕ × ℕ
 ends_of n seed i = (named_by n i (draw seed (n + 2 * i)), named_by n i (draw seed (n + 2 * i + 1)))
 

@@ -18,7 +18,7 @@ pub record WeightedGraph : Type 0 where
 abbrev pub name_of : ℕ → List ℕ
 name_of i = 72 ∷ decimal (i + 1)
 
--- the names of so many hypotheses
+-- the names of a number of hypotheses
 abbrev pub names_of : ℕ → List (List ℕ)
 names_of n = map name_of (range_with_len 0 n)
 

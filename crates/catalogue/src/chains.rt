@@ -19,7 +19,7 @@ use field_core::{List, NoMemory};
 use fraction::Fraction;
 use std::alloc::Global;
 
-/// The edge of weight 1 from a hypothesis to the next one.
+/// Returns the edge of weight 1 from a hypothesis to the next one.
 fn next_edge(from: usize, to: usize) -> Option<Entry>
     ensures { result ≡ next_edge from to }
 {
@@ -76,9 +76,9 @@ impl NamedGraph for Weighted<'_> {
     }
 }
 
-/// The fixed sequence of `n` hypotheses, from 1 to 64: the first one has the weight 1, and each passes all its weight to the
-/// next one. `p` has no p-value, or one for each hypothesis. The closed test on the case rejects just what the fixed
-/// sequence rejects.
+/// Returns the fixed sequence of `n` hypotheses, from 1 to 64: the first one has the weight 1, and each passes all its
+/// weight to the next one. `p` has no p-value, or one for each hypothesis. The closed test on the case rejects exactly
+/// what the fixed sequence rejects.
 #[tactic(auto, unfolding(crate::specs::Makings::sequence_case))]
 pub fn fixed_sequence(
     alloc: Global,
@@ -96,8 +96,8 @@ pub fn fixed_sequence(
     made(alloc, &Sequence { size }, alpha, p)
 }
 
-/// Fallback with these weights, 1 to 64 of them: each hypothesis passes all its weight to the next one. `p` has no p-value,
-/// or one for each hypothesis. The closed test on the case rejects just what the fallback rule rejects.
+/// Fallback with these weights, 1 to 64 of them: each hypothesis passes all its weight to the next one. `p` has no
+/// p-value, or one for each hypothesis. The closed test on the case rejects exactly what the fallback rule rejects.
 #[tactic(auto, unfolding(crate::specs::Makings::fallback_case))]
 pub fn fallback(
     alloc: Global,
@@ -115,7 +115,7 @@ pub fn fallback(
     made(alloc, &Weighted { weights }, alpha, p)
 }
 
-/// The weight 1/n for each of `n` hypotheses.
+/// Returns the weight 1/n for each of `n` hypotheses.
 #[tactic(auto, unfolding(crate::specs::NamedGraphs::equal_weights))]
 fn equal_weights(alloc: Global, n: usize) -> Result<List<Fraction>, NoMemory>
     requires { 0 < n }

@@ -14,7 +14,7 @@ use field_core::{List, NoMemory, Text};
 use fraction::Fraction;
 use std::alloc::Global;
 
-/// The name of the hypothesis at a position: `H` and its number, from 1.
+/// Returns the name of the hypothesis at a position: `H` and its number, from 1.
 fn name(alloc: Global, i: usize) -> Result<Text, NoMemory>
     ensures { IfOk result (λ name. name ≡ name_of i) }
 {
@@ -24,7 +24,7 @@ fn name(alloc: Global, i: usize) -> Result<Text, NoMemory>
     Text::copy(alloc, bytes.as_slice())
 }
 
-/// The names of so many hypotheses: `H1`, `H2` and so on.
+/// Returns the names of a number of hypotheses: `H1`, `H2` and so on.
 pub fn names(alloc: Global, count: usize) -> Result<List<Text>, NoMemory>
     ensures { IfOk result (λ names. names ≡ names_of count) }
 {
@@ -35,7 +35,7 @@ pub fn names(alloc: Global, count: usize) -> Result<List<Text>, NoMemory>
     Ok(names)
 }
 
-/// The weights of a graph.
+/// Returns the weights of a graph.
 fn weights<G: NamedGraph>(alloc: Global, graph: &G) -> Result<List<Fraction>, NoMemory>
     ensures { IfOk result (λ weights. weights ≡ map (G.graph graph.now).weight (range_with_len 0 (G.graph graph.now).size)) }
 {
@@ -79,7 +79,7 @@ fn put_edges_from<G: NamedGraph>(
     Ok(())
 }
 
-/// The edges of a graph, row by row.
+/// Returns the edges of a graph, row by row.
 #[tactic(auto, unfolding(crate::specs::WeightedGraphs::edges_of))]
 fn edges<G: NamedGraph>(alloc: Global, graph: &G) -> Result<List<DraftEdge>, NoMemory>
     ensures { IfOk result (λ edges. edges ≡ edges_of (G.graph graph.now)) }
@@ -91,7 +91,7 @@ fn edges<G: NamedGraph>(alloc: Global, graph: &G) -> Result<List<DraftEdge>, NoM
     Ok(edges)
 }
 
-/// The p-values, each in its place.
+/// Returns the p-values, each in its place.
 fn places(alloc: Global, p: &[Fraction]) -> Result<List<Option<Fraction>>, NoMemory>
     ensures { IfOk result (λ places. places ≡ map Some p.now) }
 {
@@ -102,7 +102,7 @@ fn places(alloc: Global, p: &[Fraction]) -> Result<List<Option<Fraction>>, NoMem
     Ok(places)
 }
 
-/// The draft of a graph at a level, with these p-values.
+/// Returns the draft of a graph at a level, with these p-values.
 #[tactic(auto, unfolding(crate::specs::WeightedGraphs::draft_of))]
 fn draft<G: NamedGraph>(
     alloc: Global,
@@ -127,7 +127,7 @@ fn draft<G: NamedGraph>(
     })
 }
 
-/// The case of a graph at a level, with these p-values.
+/// Returns the case of a graph at a level, with these p-values.
 #[tactic(auto, unfolding(crate::specs::Makings::made))]
 pub fn made<G: NamedGraph>(
     alloc: Global,

@@ -13,14 +13,14 @@ pub enum CatalogueFault {
     Seed(u64),
     /// The draft of the graph at this level and with these p-values is refused.
     Case(CaseFault),
-    /// Memory ran out.
+    /// Out of memory.
     NoMemory,
 }
 
 impl CatalogueFault {
     ghost use Rattle.catalogue.specs.declared.fault.CatalogueFault.TheVariants.{Case as OfCase, NoMemory as OutOfMemory};
 
-    /// What the fault of a refused draft is here.
+    /// Returns what the fault of a refused draft is here.
     pub(crate) fn of_case(fault: CaseFault) -> CatalogueFault
         ensures memory { fault ≡ CaseFault.NoMemory → result ≡ OutOfMemory }
         ensures case { (fault ≡ CaseFault.NoMemory) ⊎ (result ≡ OfCase fault) }

@@ -29,14 +29,14 @@ impl Families {
     ghost use Rattle.case_model.specs.Sums.{zero_ratio};
     ghost use Rattle.catalogue.specs.NamedGraphs.{part, constant, back_edge};
 
-    /// How many hypotheses there are.
+    /// Returns how many hypotheses there are.
     fn size(&self) -> usize
         ensures { result ≡ self.now.primary + self.now.secondary }
     {
         self.primary + self.secondary
     }
 
-    /// The weight of the hypothesis at a position: the primary ones have equal weights.
+    /// Returns the weight of the hypothesis at a position: the primary ones have equal weights.
     fn weight(&self, i: usize) -> Fraction
         ensures { result ≡ (if nat_lt i self.now.primary then part self.now.primary else zero_ratio) }
     {
@@ -47,7 +47,7 @@ impl Families {
         }
     }
 
-    /// What a primary hypothesis passes to the hypothesis at a position: equal parts to the secondary ones.
+    /// Returns what a primary hypothesis passes to the hypothesis at a position: equal parts to the secondary ones.
     fn edge_on(&self, to: usize) -> Option<Entry>
         ensures { result ≡ (if nat_lt to self.now.primary then None else Some (constant (part self.now.secondary))) }
     {
@@ -57,7 +57,7 @@ impl Families {
         Some(constant(part(self.secondary)))
     }
 
-    /// What a secondary hypothesis passes to a primary one, by turns.
+    /// Returns what a secondary hypothesis passes to a primary one, by turns.
     fn edge_back(&self, from: usize, to: usize) -> Option<Entry>
         requires { self.now.primary ≤ from }
         ensures { result ≡ back_edge self.now.primary from to }
@@ -144,7 +144,7 @@ impl NamedGraph for ImprovedGates {
     }
 }
 
-/// Two families of sizes that are tested.
+/// Returns two families of sizes that are tested.
 fn two_families(a: u64, b: u64) -> Result<Families, CatalogueFault>
     ensures families { IfOk result (λ families. (families.primary ≡ a) × (families.secondary ≡ b)) }
     ensures good { IfOk result (λ _. sizes_fault a b ≡ None) }

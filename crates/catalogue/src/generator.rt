@@ -12,7 +12,7 @@ impl Generator {
     ghost use Rattle.std.specs.Prelude.{◌≡◌, ◌<◌, ◌^◌};
     ghost use Rattle.catalogue.specs.Samples.{next_number, drawn_from};
 
-    /// The generator with a seed below 2^48.
+    /// Returns the generator with a seed below 2^48.
     pub fn new(seed: u64) -> Generator
         requires { seed < 2 ^ 48 }
         ensures { result.number ≡ seed }
@@ -20,7 +20,7 @@ impl Generator {
         Generator { number: seed }
     }
 
-    /// One draw.
+    /// Returns one draw.
     #[tactic(auto, unfolding(crate::specs::Samples::next_number, crate::specs::Samples::drawn_from))]
     pub fn draw(&mut self) -> u64
         ensures number { self.new.number ≡ next_number self.old.number }

@@ -3,23 +3,23 @@
 use case_model::Entry;
 use fraction::Fraction;
 
-/// A graph over so many hypotheses, by its weights and edges.
+/// A graph over this number of hypotheses, by its weights and edges.
 pub trait NamedGraph {
     ghost use Rattle.std.specs.Prelude.{◌≡◌, ◌<◌};
     ghost use Rattle.catalogue.specs.WeightedGraphs.{WeightedGraph};
 
     ghost graph: { Self → WeightedGraph };
 
-    /// How many hypotheses there are.
+    /// Returns how many hypotheses there are.
     fn size(&self) -> usize
         ensures { result ≡ (graph self.now).size };
 
-    /// The weight of the hypothesis at a position.
+    /// Returns the weight of the hypothesis at a position.
     fn weight(&self, i: usize) -> Fraction
         requires { i < (graph self.now).size }
         ensures { result ≡ (graph self.now).weight i };
 
-    /// The edge from a hypothesis to a hypothesis, where there is one.
+    /// Returns the edge from a hypothesis to a hypothesis, where there is one.
     fn edge(&self, from: usize, to: usize) -> Option<Entry>
         requires from { from < (graph self.now).size }
         requires to { to < (graph self.now).size }

@@ -3,7 +3,7 @@
 //! Proved:
 //! - `holm`, `fixed_sequence`, `fallback`, `equal_fallback`, `parallel`, `improved_parallel`, `sample`: `case` and
 //!   `fault` (the case is the named graph, by its weights and edges, with the p-values that were handed in; or the
-//!   first of the faults: a size, a seed, a fault of the draft). `sample`: `p_values`.
+//!   first of the faults: a size, a seed, a error in the draft). `sample`: `p_values`.
 //! - `holm`, `fixed_sequence`, `fallback`: `graph`, `rule` (on each case that is made with p-values the closed test
 //!   rejects exactly the hypotheses that the textbook rule rejects); these and `equal_fallback`: `plain` (no edge has
 //!   an epsilon).

@@ -8,7 +8,7 @@ use case_model::Entry;
 use field_core::Number;
 use fraction::Fraction;
 
-/// num/den, in lowest terms.
+/// Returns num/den, in lowest terms.
 pub fn quotient(num: u64, den: usize) -> Fraction
     requires { 0 < den }
     ensures { result ≡ quotient (pos num) den }
@@ -19,7 +19,7 @@ pub fn quotient(num: u64, den: usize) -> Fraction
     }
 }
 
-/// -1/n.
+/// Returns -1/n.
 pub fn minus_part(n: usize) -> Fraction
     requires { 0 < n }
     ensures { result ≡ quotient (negsuc 0) n }
@@ -30,7 +30,7 @@ pub fn minus_part(n: usize) -> Fraction
     }
 }
 
-/// 1/n.
+/// Returns 1/n.
 pub fn part(n: usize) -> Fraction
     requires { 0 < n }
     ensures { result ≡ part n }
@@ -38,28 +38,28 @@ pub fn part(n: usize) -> Fraction
     quotient(1, n)
 }
 
-/// 0.
+/// Returns 0.
 pub fn zero() -> Fraction
     ensures { result ≡ zero_ratio }
 {
     Fraction::zero()
 }
 
-/// 1.
+/// Returns 1.
 pub fn one() -> Fraction
     ensures { result ≡ one_ratio }
 {
     Fraction::one()
 }
 
-/// a + b * epsilon, as the weight of an edge.
+/// Returns a + b * epsilon, as the weight of an edge.
 pub fn linear(a: Fraction, b: Fraction) -> Entry
     ensures { result ≡ linear a b }
 {
     Entry::new([a, b, zero(), zero(), zero()])
 }
 
-/// A fraction, as the weight of an edge.
+/// Returns a fraction, as the weight of an edge.
 pub fn constant(a: Fraction) -> Entry
     ensures { result ≡ constant a }
 {

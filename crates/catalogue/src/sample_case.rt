@@ -51,7 +51,7 @@ impl NamedGraph for Halves {
     }
 }
 
-/// Draws the p-values of so many hypotheses.
+/// Draws the p-values of a number of hypotheses.
 #[tactic(auto, unfolding(crate::specs::Samples::sample_p_values))]
 fn p_values(
     alloc: Global,
@@ -70,7 +70,7 @@ fn p_values(
     Ok(p_values)
 }
 
-/// The later hypothesis, of so many, that the next draw names for a hypothesis.
+/// Returns the later hypothesis, among this number, that the next draw names for a hypothesis.
 fn later(generator: &mut Generator, size: usize, i: usize) -> usize
     requires few { size ≤ 64 }
     requires later { i + 1 < size }
@@ -81,7 +81,7 @@ fn later(generator: &mut Generator, size: usize, i: usize) -> usize
     i + 1 + drawn % (size - 1 - i)
 }
 
-/// Draws the ends of the edges of so many hypotheses, two for each but the last.
+/// Draws the ends of the edges of a number of hypotheses, two for each but the last.
 #[tactic(auto, unfolding(crate::specs::Samples::sample_ends))]
 fn ends(
     alloc: Global,
@@ -101,8 +101,8 @@ fn ends(
     Ok(ends)
 }
 
-/// The sample of `n` hypotheses, from 1 to 64, and a seed below 2^48, at level 1/20: weights 1/n, p-values that are drawn
-/// from 0 to 999999/10^8, and from each hypothesis edges of 1/2 to one or two later ones that are drawn.
+/// Returns the sample of `n` hypotheses, from 1 to 64, and a seed below 2^48, at level 1/20: weights 1/n, p-values that
+/// are drawn from 0 to 999999/10^8, and from each hypothesis edges of 1/2 to one or two later ones that are drawn.
 #[tactic(auto, unfolding(crate::specs::Makings::sample_case, crate::specs::Makings::seed_fault))]
 pub fn sample(alloc: Global, n: u64, seed: u64) -> Result<Case, CatalogueFault>
     ensures case { IfOk result (λ c. sample_case n seed ≡ Ok (content c)) }

@@ -10,7 +10,8 @@ use case_model::{SetTable, dropped, holds};
 use field_core::{List, NoMemory};
 use std::alloc::Global;
 
-/// A bound for each set of some hypotheses, of which there are at most 16: so many of the hypotheses of the set are false.
+/// A bound for each set of some hypotheses, of which there are at most 16: a lower bound on the number of false
+/// hypotheses of the set.
 #[derive(Drop)]
 pub struct Bounds {
     size: usize,
@@ -19,13 +20,14 @@ pub struct Bounds {
     ghost room: { length bounds ≡ 2 ^ size },
 }
 
-/// The least bound of the sets with one member less, or 16.
+/// Returns the least bound of the sets with one member less, or 16.
 fn least_before(m: usize, bounds: &[u8], set: u32) -> u8
     requires few { m ≤ 16 }
     requires set { set < 2 ^ m }
     requires bounds { length bounds.now ≡ set }
     ensures least { (j o : ℕ) → j < m → members set j ≡ true → o + 2 ^ j ≡ set → result ≤ get_or bounds.now o 0 }
-    ensures reached { (result ≡ 16) ⊎ ((j : ℕ) × (o : ℕ) × (j < m) × (members set j ≡ true) × (o + 2 ^ j ≡ set) × (result ≡ get_or bounds.now o 0)) }
+    ensures reached { (result ≡ 16) ⊎ ((j : ℕ) × (o : ℕ) × (j < m) × (members set j ≡ true)
+        × (o + 2 ^ j ≡ set) × (result ≡ get_or bounds.now o 0)) }
 {
     let mut least: u8 = 16;
     for k in 0..m {
@@ -36,7 +38,7 @@ fn least_before(m: usize, bounds: &[u8], set: u32) -> u8
     least
 }
 
-/// The bound of a set, from those of the sets before it.
+/// Returns the bound of a set, from those of the sets before it.
 fn next_bound(closed: &SetTable, bounds: &[u8], set: u32) -> u8
     requires set { set < 2 ^ table_size closed.now }
     requires count { length bounds.now ≡ set }
@@ -58,15 +60,16 @@ impl Bounds {
     ghost use Rattle.case_model.specs.DiscoveryBound.{IsBound};
     ghost use Rattle.discovery_bound.specs.BoundsView.{bounds_size, bound_of};
 
-    /// The bounds of all sets of `m` hypotheses, by any table for `m` hypotheses that says which sets are rejected. The empty
-    /// set counts as not rejected, whatever the table says of it.
+    /// Returns the bounds of all sets of `m` hypotheses, by any table for `m` hypotheses that says which sets are
+    /// rejected. The empty set counts as not rejected, whatever the table says of it.
     ///
     /// The bound of a set is its size less the greatest size of a subset that isn't rejected.
     pub fn build(alloc: Global, m: usize, closed: &SetTable) -> Result<Bounds, NoMemory>
         requires few { m ≤ 16 }
         requires table { table_size closed.now ≡ m }
         ensures size { IfOk result (λ b. bounds_size b ≡ m) }
-        ensures bounds { IfOk result (λ b. (n : ℕ) → n < 2 ^ m → IsBound m (SaysYes m (answer_of closed.now)) (members n) (bound_of b n)) }
+        ensures bounds { IfOk result (λ b. (n : ℕ) → n < 2 ^ m
+            → IsBound m (SaysYes m (answer_of closed.now)) (members n) (bound_of b n)) }
     {
         let mut bounds = List::new(alloc);
         let sets: u32 = 1 << m;
@@ -77,7 +80,7 @@ impl Bounds {
         Ok(Bounds { size: m, bounds })
     }
 
-    /// How many hypotheses there are.
+    /// Returns how many hypotheses there are.
     pub fn size(&self) -> usize
         ensures size { result ≡ bounds_size self.now }
         ensures few { result ≤ 16 }
@@ -85,7 +88,7 @@ impl Bounds {
         self.size
     }
 
-    /// The bound of a set.
+    /// Returns the bound of a set.
     pub fn bound(&self, set: u32) -> u8
         requires { set < 2 ^ bounds_size self.now }
         ensures { result ≡ bound_of self.now set }

@@ -47,7 +47,7 @@ blanks_stay s n [] t h a = refl
 blanks_stay s n (b ∷ bs) t h a =
     reads_by b (bs ++ t) s s n n (h b a.0) (ap (λ d. opened d n) (class_blank b a.0)) ∙ blanks_stay s n bs t h a.1
 
--- a token behind blanks
+-- a token after blanks
 token_by : (s : State) (n : ℕ) (k : Token) (ks : List Token) → Stays s
     → ((t : List ℕ) → IsSpelt ks t → reads (token_text k ++ t) s n ≡ true) → Accepts s n (k ∷ ks)
 unfolding Accepts
@@ -73,7 +73,7 @@ caret_stays : Stays states.Caret
 unfolding Stays
 caret_stays b e = ap behind_caret (class_blank b e)
 
--- ---- states that go on at least as another one
+-- ---- states that continue at least as another one
 
 After : List ℕ → Option State → Option ℕ → Bool
 After t s m = accepts_then (accepts step may_end t) (reached s m)
@@ -133,7 +133,7 @@ unfolding After
 goes_on x t n b p None state_of e f r h = absurd cc
 goes_on x t n b p (Some q) state_of e f r h = ap₂ (After (x ++ t)) (f q) (part_opens p q b n e) ∙ r q h
 
--- what ends a decimal, and then what may stand behind a factor
+-- what ends a decimal, and then what may be after a factor
 part_on : (x t : List ℕ) (n : ℕ) (p : DecimalPart) → takes x p ≡ true → reads t states.Factor n ≡ true
     → reads (x ++ t) (states.Decimal p) n ≡ true
 unfolding After

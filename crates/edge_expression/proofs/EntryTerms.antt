@@ -71,7 +71,7 @@ whole_value : (n : ℕ) (h : n ≤ 10 ^ 18) → decimal_entry (decimal_value (wh
 whole_value n h = ap decimal_entry (sym (decimal_found (whole n h) (decimal n) (number_of n) (sym (whole_text n h)) (number_read n h)))
     ∙ short_here (number_of n) (number_short n h)
 
--- ---- tokens one behind the other
+-- ---- tokens one after the other
 
 pub lead : (k : Token) (ks : List Token) (text x : List ℕ) → text ≡ token_text k ++ x → IsSpelt ks x → IsSpelt (k ∷ ks) text
 lead k ks text x e s = record { blanks = []; rest = x; are_blanks = tt; spelt = e; is_rest = s }

@@ -45,7 +45,7 @@ behind letters.I = 108 ∷ 111 ∷ 110 ∷ []
 behind letters.L = 111 ∷ 110 ∷ []
 behind letters.O = 110 ∷ []
 
--- a letter is no parenthesis
+-- a letter is not a parenthesis
 pub letter_opens : (l : Letter) (n : ℕ) → opened (class_of (next_letter l)) n ≡ Some n
 unfolding class_of
 letter_opens letters.Backslash n = refl
@@ -56,7 +56,7 @@ letter_opens letters.I n = refl
 letter_opens letters.L n = refl
 letter_opens letters.O n = refl
 
--- nor is a byte with which a decimal goes on
+-- nor is a byte with which a decimal continues
 opens_by : (p q : DecimalPart) (b n : ℕ) (c : DecimalClass) → IsDecimalByte c b → decimal_step p c ≡ Some q → opened (class_of b) n ≡ Some n
 unfolding class_of
 opens_by p q b n decimals.Digit k e = ap (λ d. opened d n) (class_digit b (digit_test b k.0 k.1))
@@ -75,7 +75,7 @@ opens_by parts.Exponent q b n c k e = absurd cc
 pub part_opens : (p q : DecimalPart) (b n : ℕ) → decimal_byte p b ≡ Some q → opened (class_of b) n ≡ Some n
 part_opens p q b n e = opens_by p q b n (decimal_class b) (decimal_class_is b) e
 
--- a byte with which a decimal goes on that may end doesn't stand behind a factor
+-- a byte with which a decimal continues that may end doesn't stand after a factor
 none_behind : (p q : DecimalPart) (b : ℕ) (c : DecimalClass) → IsDecimalByte c b → ends_decimal p ≡ true → decimal_step p c ≡ Some q
     → behind_factor (class_of b) ≡ None
 unfolding class_of
@@ -93,7 +93,7 @@ ends_by : (b : ℕ) (u : State) (p : DecimalPart) (o : Option DecimalPart) → b
 ends_by b u p None e k f = refl
 ends_by b u p (Some q) e k f = let g = none_behind p q b (decimal_class b) (decimal_class_is b) k f in absurd cc
 
--- a decimal ends before what may stand behind a factor
+-- a decimal ends before what may be after a factor
 pub ends_before : (b : ℕ) (u : State) → behind_factor (class_of b) ≡ Some u → (p : DecimalPart) → ends_decimal p ≡ true
     → decimal_byte p b ≡ None
 ends_before b u e p k = ends_by b u p (decimal_byte p b) e k refl

@@ -41,7 +41,7 @@ record BothSpelt (ks js : List Token) : Type 0 where
   first : IsSpelt ks text
   second : IsSpelt js text
 
--- behind one token
+-- after one token
 behind_one : (k : Token) (ks js : List Token) (t : List ℕ) → IsSpelt (k ∷ ks) t → IsSpelt (k ∷ js) t → BothSpelt ks js
 behind_one k ks js t s r =
     let f = front k ks t s in

@@ -11,7 +11,7 @@ use Rattle.case_model.proofs.Holding.{both}
 use Rattle.field_core.specs.Texts.{IsBegun}
 use Rattle.edge_expression.specs.EntryTexts.{joined_term, terms_text, are_zero_below, coefficients_text}
 
--- The terms of the powers below this one are printed; `is_first` tells whether there was none.
+-- The terms of the powers below this one are printed; `is_first` says whether there was none.
 pub record IsPrinted (old out : List ℕ) (is_first : Bool) (power : ℕ) (e : List Terms) : Type 0 where
   pub done : List ℕ
   pub out_is : out ≡ old ++ done

@@ -14,7 +14,7 @@ use Rattle.edge_expression.specs.EntryValues.{value}
 use Rattle.edge_expression.specs.EntryView.{map_value}
 use Rattle.edge_expression.specs.EntryReading.{IsDeep, IsShallow, IsScanned, IsWorth, IsEntryText, IsExprFault, fault_of}
 
--- ---- what a scan tells
+-- ---- what a scan shows
 
 not_both : (text : List ℕ) → IsShallow text (length text) → IsDeep text (length text) → ⊥
 not_both text h d = omega (arith, h d.0 d.1, d.2)
@@ -43,7 +43,7 @@ scan_fault text ZeroDivisor s = absurd s
 scan_fault text Degree s = absurd s
 scan_fault text Part s = absurd s
 
--- ---- what evaluation tells
+-- ---- what evaluation shows
 
 worth_of : (text : List ℕ) (w : Result (List Terms) ValueFault) → IsScanned text (Ok tt)
     → ((e : Expression) → Spells text e → w ≡ value e) → IsWorth text w

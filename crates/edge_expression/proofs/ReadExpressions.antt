@@ -23,9 +23,9 @@ use Rattle.edge_expression.specs.Expressions.{terms_tokens, factors_tokens, fact
 use Rattle.edge_expression.proofs.ByteClasses.{IsOf, class_is}
 use Rattle.edge_expression.proofs.Machine.{reads, reads_nil, reads_cons, behind, letter_opens, part_opens}
 
--- ---- tokens behind a place, where so many parentheses are open
+-- ---- tokens after a place, where a number of parentheses are open
 
--- nothing, or else the parenthesis that closes, and what stands behind it
+-- nothing, or else the parenthesis that closes, and what stands after it
 Closed : ℕ → List Token → Type 0
 Closed zero ks = ks ≡ []
 Closed (suc n) ks =
@@ -39,35 +39,35 @@ record BehindAt (n : ℕ) (ks : List Token) : Type 0 where
   are : ks ≡ factors_tokens factors (terms_tokens terms rest)
   closed : Closed n rest
 
--- a factor, and what is behind it
+-- a factor, and what is after it
 record FactorAt (n : ℕ) (ks : List Token) : Type 0 where
   factor : Factor
   more : List Token
   are : ks ≡ factor_tokens factor more
   behind_is : BehindAt n more
 
--- a factor that is no decimal, and what is behind it
+-- a factor that is not a decimal, and what is after it
 record FurtherAt (n : ℕ) (ks : List Token) : Type 0 where
   further : Further
   more : List Token
   are : ks ≡ further_tokens further more
   behind_is : BehindAt n more
 
--- an expression, and what is behind it
+-- an expression, and what is after it
 record SumAt (n : ℕ) (ks : List Token) : Type 0 where
   expression : Expression
   more : List Token
   are : ks ≡ expression_tokens expression more
   closed : Closed n more
 
--- perhaps a caret and a power, and what is behind
+-- perhaps a caret and a power, and what is after
 record EpsilonAt (n : ℕ) (ks : List Token) : Type 0 where
   power : Option Power
   more : List Token
   are : ks ≡ power_tokens power more
   behind_is : BehindAt n more
 
--- a power, and what is behind it
+-- a power, and what is after it
 record PowerAt (n : ℕ) (ks : List Token) : Type 0 where
   power : Power
   more : List Token

@@ -20,7 +20,7 @@ use Rattle.edge_expression.proofs.ByteClasses.{IsOf, class_is}
 use Rattle.edge_expression.proofs.ReadExpressions.{is_expression}
 use Rattle.edge_expression.proofs.AcceptedExpressions.{bad_byte}
 
--- a text from a state on, behind n bytes
+-- a text from a state on, after n bytes
 abbrev pub scan_then : ℕ → (Reached → Result (Unit {0}) ExprFault) → Option Reached → Result (Unit {0}) ExprFault
 scan_then n scan None = Err (BadByte n)
 scan_then n scan (Some u) = if nat_lt 32 u.depth then Err Depth else scan u

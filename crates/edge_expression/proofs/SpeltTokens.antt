@@ -129,7 +129,7 @@ no_blank CloseToken b h = rw h refl
 
 -- ---- spelt tokens
 
--- the first of these tokens stands behind the blanks
+-- the first of these tokens stands after the blanks
 pub record IsFront (k : Token) (ks : List Token) (t : List ℕ) : Type 0 where
   pub rest : List ℕ
   pub after : after_blanks t ≡ token_text k ++ rest
@@ -147,7 +147,7 @@ front k ks t s =
       spelt = s.is_rest;
     }
 
--- the text behind the blanks begins with the token's first byte
+-- the text after the blanks begins with the token's first byte
 record Leads (k : Token) (t : List ℕ) : Type 0 where
   byte : ℕ
   rest : List ℕ
@@ -188,7 +188,7 @@ after_ends b t (k ∷ ks) e s h =
     let f : b ≡ l.byte = (heads b l.byte t l.rest (sym (after_other b t h) ∙ l.after)).0 in
     subst EndsDecimal (sym f) (token_ends k ks l.byte e l.is)
 
--- no decimal goes on with tokens before which a factor may end
+-- no decimal continues with tokens before which a factor may end
 pub stops : (t : List ℕ) (ks : List Token) → EndsFactor ks → IsSpelt ks t → Stops t
 stops [] ks e s = tt
 stops (b ∷ t) ks e s = elim (cases_Bool (is_blank b)) [ inl h ↦ blank_byte_ends b h | inr h ↦ after_ends b t ks e s h ]
@@ -315,6 +315,6 @@ unfolding begin mark
 begin_further (Epsilon p) more = inl refl
 begin_further (Parens e) more = inr refl
 
--- none of these bytes begins a further factor that stands behind nothing
+-- none of these bytes begins a further factor that follows nothing
 pub not_further : (f : Further) (more : List Token) (b : ℕ) → b ≢ 92 → b ≢ 40 → begin (further_tokens f more) ≡ b → ⊥
 not_further f more b h k e = elim (begin_further f more) [ inl x ↦ h (sym e ∙ x) | inr x ↦ k (sym e ∙ x) ]

@@ -97,7 +97,7 @@ first_sign (Some op) (Some sign) t more old new h s =
     let x = sign_taken g.sign sign (term_tokens t more) old new g.after s in
     (g.is ∙ ap sign_operation x.0, x.1)
 
--- a further term, behind a sign that was taken
+-- a further term, after a sign that was taken
 pub record NextTerm (op : Operation) (ts : MoreTerms) (more : List Token) (new : List ℕ) : Type 0 where
   pub sign : Sign
   pub term : Term
@@ -147,7 +147,7 @@ factors_end (Beside (Parens inner) others) more e = tt
 
 -- ---- joints
 
--- a further factor, behind what joins it
+-- a further factor, after what joins it
 pub record NextFactor (op : Operation) (fs : MoreFactors) (more : List Token) (new : List ℕ) : Type 0 where
   pub factor : Factor
   pub others : MoreFactors

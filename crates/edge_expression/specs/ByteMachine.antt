@@ -26,7 +26,7 @@ class_of b =
     else if b == 92 then classes.Backslash
     else classes.Other
 
--- the byte behind a part of `\epsilon`
+-- the byte after a part of `\epsilon`
 abbrev pub next_letter : Letter → ℕ
 next_letter letters.Backslash = 101
 next_letter letters.E = 112
@@ -62,7 +62,7 @@ operand_parts None class = further class
 abbrev pub at_operand : ℕ → Option State
 at_operand b = operand_parts (decimal_byte parts.Start b) (class_of b)
 
--- where a sum begins, with what may stand where a factor must follow
+-- where a sum begins, with what may be where a factor must follow
 abbrev pub start_or : Class → Option State → Option State
 start_or classes.Blank operand = Some Start
 start_or classes.Sign operand = Some Operand
@@ -72,7 +72,7 @@ start_or class operand = operand
 abbrev pub at_start : ℕ → Option State
 at_start b = start_or (class_of b) (at_operand b)
 
--- behind a factor
+-- after a factor
 abbrev pub behind_factor : Class → Option State
 behind_factor classes.Blank = Some Factor
 behind_factor classes.Close = Some Factor
@@ -80,29 +80,29 @@ behind_factor classes.Sign = Some Operand
 behind_factor classes.Joint = Some Operand
 behind_factor class = further class
 
--- behind part of a decimal, with one part more or none
+-- after part of a decimal, with one part more or none
 abbrev pub behind_parts : Option DecimalPart → Bool → Class → Option State
 behind_parts (Some longer) ends class = Some (Decimal longer)
 behind_parts None true class = behind_factor class
 behind_parts None false class = None
 
--- behind part of a decimal
+-- after part of a decimal
 abbrev pub behind_part : DecimalPart → ℕ → Option State
 behind_part part b = behind_parts (decimal_byte part b) (ends_decimal part) (class_of b)
 
--- behind `\epsilon`
+-- after `\epsilon`
 abbrev pub behind_epsilon : Class → Option State
 behind_epsilon classes.Caret = Some Caret
 behind_epsilon classes.Blank = Some Epsilon
 behind_epsilon class = behind_factor class
 
--- behind a caret
+-- after a caret
 abbrev pub behind_caret : Class → Option State
 behind_caret classes.Blank = Some Caret
 behind_caret classes.Digit = Some Factor
 behind_caret class = None
 
--- behind part of `\epsilon`
+-- after part of `\epsilon`
 abbrev pub behind_letter : Letter → ℕ → Option State
 behind_letter letter b = if b == next_letter letter then Some (with_letter letter) else None
 
@@ -140,7 +140,7 @@ is_whole Epsilon = true
 is_whole (Decimal part) = ends_decimal part
 is_whole state = false
 
--- an expression may end in the state, with so many open parentheses
+-- an expression may end in the state, with this number of open parentheses
 abbrev pub ends : Bool → ℕ → Bool
 ends true zero = true
 ends true (suc n) = false

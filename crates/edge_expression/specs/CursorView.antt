@@ -65,13 +65,13 @@ HeadTaken heads.Epsilon old new = BeginsWord old × (new ≡ drop (min (length o
 HeadTaken (heads.Decimal text) old new = IsOtherThan 40 old × IsOtherThan 92 old
     × (text.now ≡ take (decimal_length old) old) × (new ≡ drop (decimal_length old) old)
 
--- what a front adds to the length of what is left, where that counts the calls to come: a parenthesis goes on to a sum
+-- what a front adds to the length of what is left, where that counts the calls to come: a parenthesis continues to a sum
 abbrev pub head_weight : Head → ℕ
 head_weight heads.Open = 3
 head_weight heads.Epsilon = 0
 head_weight (heads.Decimal text) = 0
 
--- a byte behind a caret was taken as the digit of a power, or there is no caret
+-- a byte after a caret was taken as the digit of a power, or there is no caret
 abbrev pub PowerTaken : ℕ → List ℕ → List ℕ → Type 0
 PowerTaken power old new =
     (IsOtherThan 94 (after_blanks old) × (new ≡ old) × (power ≡ 1))
@@ -111,7 +111,7 @@ EndsFactor ks = Unit {0}
 abbrev pub Evaluates : Result Polynomial ValueFault → List ℕ → Result (List Terms) ValueFault → List Token → Type 0
 Evaluates result left worth more = (map_value polynomial_terms result ≡ worth) × (is_ok result ≡ true → IsSpelt more left)
 
--- behind this front, what is left spells the rest of the factor, and then these tokens
+-- after this front, what is left spells the rest of the factor, and then these tokens
 unfoldable pub IsHead : Head → List ℕ → Factor → List Token → Type 0
 IsHead (heads.Decimal text) rest (Number decimal) more = (text.now ≡ body_text decimal.body) × IsSpelt more rest
 IsHead heads.Epsilon rest (Other (Epsilon power)) more = IsSpelt (power_tokens power more) rest

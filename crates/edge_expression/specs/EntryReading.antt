@@ -18,7 +18,7 @@ use Rattle.edge_expression.specs.EntryValues.{value}
 abbrev pub open_with : ℕ → ℕ → ℕ
 open_with b n = if b == 40 then suc n else if b == 41 then n - 1 else n
 
--- how many are open behind a text, where n are before it
+-- how many are open after a text, where n are before it
 abbrev pub open_behind : ℕ → List ℕ → ℕ
 open_behind n [] = n
 open_behind n (b ∷ bs) = open_behind (open_with b n) bs
@@ -31,7 +31,7 @@ IsDeep text n = (k : ℕ) × (k < n) × (32 < open_behind 0 (take (suc k) text))
 abbrev pub IsShallow : List ℕ → ℕ → Type 0
 IsShallow text n = (k : ℕ) → k < n → open_behind 0 (take (suc k) text) ≤ 32
 
--- ---- what a look at the bytes alone tells
+-- ---- what the bytes alone show
 
 -- a parenthesis at depth 33 opens before the first bad byte, or anywhere in an expression
 abbrev pub IsTooDeep : List ℕ → Type 0

@@ -165,7 +165,7 @@ unfoldable mutual
   factor_value (Number decimal) = decimal_entry (decimal_value decimal)
   factor_value (Other further) = further_value further
 
-  -- the value of a factor that is no decimal
+  -- the value of a factor that is not a decimal
   pub further_value : Further → Result (List Terms) ValueFault
   further_value (Epsilon power) = epsilon_value power
   further_value (Parens inner) = value inner

@@ -53,7 +53,7 @@ unfoldable mutual
   factor_meaning (Number decimal) = fraction (value_of None decimal.body).num (value_of None decimal.body).den
   factor_meaning (Other further) = further_meaning further
 
-  -- a power of epsilon, or what stands in parentheses
+  -- a power of epsilon, or what is in parentheses
   pub further_meaning : Further → Value
   further_meaning (Epsilon power) = power_meant power
   further_meaning (Parens inner) = meaning inner

@@ -19,7 +19,7 @@ mutual
   pub data Expression : Type 0 where
     Sum : (sign : Option Sign) (first : Term) (others : MoreTerms) → Expression
 
-  -- further terms, each behind a sign
+  -- further terms, each after a sign
   pub data MoreTerms : Type 0 where
     NoTerm : MoreTerms
     AndTerm : (sign : Sign) (term : Term) (others : MoreTerms) → MoreTerms
@@ -28,7 +28,7 @@ mutual
   pub data Term : Type 0 where
     Product : (first : Factor) (others : MoreFactors) → Term
 
-  -- further factors, each behind `*`, behind `/`, or behind nothing
+  -- further factors, each after `*`, after `/`, or after nothing
   pub data MoreFactors : Type 0 where
     NoFactor : MoreFactors
     Times : (factor : Factor) (others : MoreFactors) → MoreFactors
@@ -96,7 +96,7 @@ abbrev mutual
   factor_tokens (Number decimal) rest = DecimalToken decimal ∷ rest
   factor_tokens (Other further) rest = further_tokens further rest
 
-  -- of a factor that is no decimal
+  -- of a factor that is not a decimal
   pub further_tokens : Further → List Token → List Token
   further_tokens (Epsilon power) rest = WordToken ∷ power_tokens power rest
   further_tokens (Parens inner) rest = OpenToken ∷ expression_tokens inner (CloseToken ∷ rest)
@@ -133,7 +133,7 @@ pub record IsTokenThen (token : Token) (IsRest : List ℕ → Type 0) (text : Li
   pub spelt : text ≡ blanks ++ (token_text token ++ rest)
   pub is_rest : IsRest rest
 
--- these tokens in their order, with any blanks before, between and behind them
+-- these tokens in their order, with any blanks before, between and after them
 abbrev pub IsSpelt : List Token → List ℕ → Type 0
 IsSpelt [] text = AreBlanks text
 IsSpelt (token ∷ tokens) text = IsTokenThen token (IsSpelt tokens) text

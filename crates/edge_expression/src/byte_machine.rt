@@ -1,6 +1,22 @@
 //! Edge expressions byte by byte.
 ghost use Rattle.std.specs.Prelude.{◌≡◌, ◌≤◌};
-ghost use Rattle.edge_expression.specs.ByteMachine.{next_letter, with_letter, further, at_operand, at_start, behind_factor, behind_part, behind_epsilon, behind_caret, behind_letter, next, opened, step, is_whole, may_end};
+ghost use Rattle.edge_expression.specs.ByteMachine.{
+  next_letter,
+  with_letter,
+  further,
+  at_operand,
+  at_start,
+  behind_factor,
+  behind_part,
+  behind_epsilon,
+  behind_caret,
+  behind_letter,
+  next,
+  opened,
+  step,
+  is_whole,
+  may_end,
+};
 
 use crate::byte_class::{Class, class_of};
 use fraction::DecimalPart;
@@ -20,7 +36,7 @@ pub enum Letter {
 /// What was read of an expression, but for the parentheses that are open.
 #[derive(Clone, Copy)]
 pub enum State {
-    /// Nothing of a sum: a sign may stand here, or else a factor.
+    /// Nothing of a sum: a sign may be here, or else a factor.
     Start,
     /// What a factor must follow.
     Operand,
@@ -43,7 +59,7 @@ pub struct Reached {
     pub depth: u32,
 }
 
-/// The byte behind a part of `\epsilon`.
+/// Returns the byte after a part of `\epsilon`.
 fn next_letter(letter: Letter) -> u8
     ensures { result ≡ next_letter letter }
 {
@@ -58,7 +74,7 @@ fn next_letter(letter: Letter) -> u8
     }
 }
 
-/// What was read with that byte.
+/// Returns what was read with that byte.
 fn with_letter(letter: Letter) -> State
     ensures { result ≡ with_letter letter }
 {
@@ -73,7 +89,7 @@ fn with_letter(letter: Letter) -> State
     }
 }
 
-/// What was read with a byte that may begin a factor other than a decimal.
+/// Returns what was read with a byte that may begin a factor other than a decimal.
 fn further(class: Class) -> Option<State>
     ensures { result ≡ further class }
 {
@@ -84,7 +100,7 @@ fn further(class: Class) -> Option<State>
     }
 }
 
-/// What was read with a byte where a factor must follow.
+/// Returns what was read with a byte where a factor must follow.
 fn at_operand(byte: u8) -> Option<State>
     ensures { result ≡ at_operand byte }
 {
@@ -95,7 +111,7 @@ fn at_operand(byte: u8) -> Option<State>
     }
 }
 
-/// What was read with a byte where a sum begins.
+/// Returns what was read with a byte where a sum begins.
 fn at_start(byte: u8) -> Option<State>
     ensures { result ≡ at_start byte }
 {
@@ -106,7 +122,7 @@ fn at_start(byte: u8) -> Option<State>
     }
 }
 
-/// What was read with a byte behind a factor.
+/// Returns what was read with a byte after a factor.
 fn behind_factor(class: Class) -> Option<State>
     ensures { result ≡ behind_factor class }
 {
@@ -117,7 +133,7 @@ fn behind_factor(class: Class) -> Option<State>
     }
 }
 
-/// What was read with a byte behind part of a decimal.
+/// Returns what was read with a byte after part of a decimal.
 fn behind_part(part: DecimalPart, byte: u8) -> Option<State>
     ensures { result ≡ behind_part part byte }
 {
@@ -128,7 +144,7 @@ fn behind_part(part: DecimalPart, byte: u8) -> Option<State>
     }
 }
 
-/// What was read with a byte behind `\epsilon`.
+/// Returns what was read with a byte after `\epsilon`.
 fn behind_epsilon(class: Class) -> Option<State>
     ensures { result ≡ behind_epsilon class }
 {
@@ -139,7 +155,7 @@ fn behind_epsilon(class: Class) -> Option<State>
     }
 }
 
-/// What was read with a byte behind a caret.
+/// Returns what was read with a byte after a caret.
 fn behind_caret(class: Class) -> Option<State>
     ensures { result ≡ behind_caret class }
 {
@@ -150,7 +166,7 @@ fn behind_caret(class: Class) -> Option<State>
     }
 }
 
-/// What was read with a byte behind part of `\epsilon`.
+/// Returns what was read with a byte after part of `\epsilon`.
 fn behind_letter(letter: Letter, byte: u8) -> Option<State>
     ensures { result ≡ behind_letter letter byte }
 {
@@ -161,7 +177,7 @@ fn behind_letter(letter: Letter, byte: u8) -> Option<State>
     }
 }
 
-/// What was read with one byte more, but for the parentheses that are open.
+/// Returns what was read with one byte more, but for the parentheses that are open.
 fn next(state: State, byte: u8) -> Option<State>
     ensures { result ≡ next state byte }
 {
@@ -176,7 +192,7 @@ fn next(state: State, byte: u8) -> Option<State>
     }
 }
 
-/// How many parentheses are open behind such a byte, or nothing where it closes one and none is.
+/// Returns how many parentheses are open after such a byte, or nothing where it closes one and none is.
 fn opened(class: Class, depth: u32) -> Option<u32>
     requires { depth ≤ 32 }
     ensures { result ≡ opened class depth }
@@ -189,7 +205,7 @@ fn opened(class: Class, depth: u32) -> Option<u32>
     }
 }
 
-/// What was read with one byte more, or nothing where no expression begins so.
+/// Returns what was read with one byte more, or nothing where no expression begins so.
 #[tactic(auto, unfolding(crate::specs::ByteMachine::step))]
 pub fn step(reached: Reached, byte: u8) -> Option<Reached>
     requires { reached.depth ≤ 32 }

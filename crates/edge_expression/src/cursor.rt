@@ -35,7 +35,9 @@ impl<'a> Cursor<'a> {
 
     /// Takes the next byte, if there is one.
     fn take(&mut self) -> Option<u8>
-        ensures { MatchOption result ((after_blanks self.old.rest.now ≡ []) × (self.new.rest.now ≡ self.old.rest.now)) (λ b. after_blanks self.old.rest.now ≡ b ∷ self.new.rest.now) }
+        ensures { MatchOption result ((after_blanks self.old.rest.now ≡ [])
+            × (self.new.rest.now ≡ self.old.rest.now))
+            (λ b. after_blanks self.old.rest.now ≡ b ∷ self.new.rest.now) }
     {
         match after_blanks(self.rest) {
             [] => None,
@@ -48,7 +50,8 @@ impl<'a> Cursor<'a> {
 
     /// Takes a byte, if it is next.
     fn take_byte(&mut self, byte: u8) -> bool
-        ensures { MatchBool result (after_blanks self.old.rest.now ≡ byte ∷ self.new.rest.now) (IsOtherThan byte (after_blanks self.old.rest.now) × (self.new.rest.now ≡ self.old.rest.now)) }
+        ensures { MatchBool result (after_blanks self.old.rest.now ≡ byte ∷ self.new.rest.now)
+            (IsOtherThan byte (after_blanks self.old.rest.now) × (self.new.rest.now ≡ self.old.rest.now)) }
     {
         match after_blanks(self.rest) {
             [first, rest @ ..] if *first == byte => {
@@ -59,7 +62,7 @@ impl<'a> Cursor<'a> {
         }
     }
 
-    /// Takes a sign, if it is next: what it does with the term behind it.
+    /// Takes a sign, if it is next: what it does with the term after it.
     pub fn take_sign(&mut self) -> Option<Operation>
         ensures { SignTaken result self.old.rest.now self.new.rest.now }
     {
@@ -72,7 +75,7 @@ impl<'a> Cursor<'a> {
         }
     }
 
-    /// Takes what joins a further factor to those before it, if there is a further one. A `*` that is left out is no byte.
+    /// Takes what joins a further factor to those before it, if there is a further one. A `*` that is left out takes no byte.
     pub fn take_joint(&mut self) -> Option<Operation>
         ensures { JointTaken result self.old.rest.now self.new.rest.now }
     {

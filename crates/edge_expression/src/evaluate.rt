@@ -15,7 +15,7 @@ use crate::value_fault::ValueFault;
 use case_model::Entry;
 use fraction::Fraction;
 
-/// The value of a decimal.
+/// Returns the value of a decimal.
 fn decimal(text: &[u8]) -> Result<Polynomial, ValueFault>
     ensures { (d : Decimal) → text.now ≡ body_text d.body → map_value polynomial_terms result ≡ decimal_entry (decimal_value d) }
 {
@@ -24,7 +24,7 @@ fn decimal(text: &[u8]) -> Result<Polynomial, ValueFault>
     Ok(Polynomial::constant(&short))
 }
 
-/// The value of a sum, which the cursor takes.
+/// Returns the value of a sum, which the cursor takes.
 #[cycle(evaluate)]
 fn sum(cursor: &mut Cursor) -> Result<Polynomial, ValueFault>
     ensures value { SumGives cursor.old.rest.now result cursor.new.rest.now }
@@ -40,7 +40,7 @@ fn sum(cursor: &mut Cursor) -> Result<Polynomial, ValueFault>
     Ok(sum)
 }
 
-/// The value of a product, which the cursor takes.
+/// Returns the value of a product, which the cursor takes.
 #[cycle(evaluate)]
 fn product(cursor: &mut Cursor) -> Result<Polynomial, ValueFault>
     ensures value { ProductGives cursor.old.rest.now result cursor.new.rest.now }
@@ -56,7 +56,7 @@ fn product(cursor: &mut Cursor) -> Result<Polynomial, ValueFault>
     Ok(product)
 }
 
-/// The value of a factor, whose front is taken and whose rest the cursor takes.
+/// Returns the value of a factor, whose front is taken and whose rest the cursor takes.
 #[cycle(evaluate)]
 fn factor(cursor: &mut Cursor, head: Head) -> Result<Polynomial, ValueFault>
     ensures value { FactorGives head.entry cursor.old.rest.now result cursor.new.rest.now }
@@ -73,7 +73,7 @@ fn factor(cursor: &mut Cursor, head: Head) -> Result<Polynomial, ValueFault>
     }
 }
 
-/// What an edge expression is worth.
+/// Returns what an edge expression is worth.
 pub fn worth(text: &[u8]) -> Result<Entry, ValueFault>
     ensures { (e : Expression) → Spells text.now e → map_value (map terms) result ≡ value e }
 {

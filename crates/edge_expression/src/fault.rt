@@ -1,4 +1,4 @@
-//! Why a text is no edge expression.
+//! Why a text is not an edge expression.
 
 /// Why a text gives no entry.
 ///
@@ -6,7 +6,7 @@
 /// right; of one result the degree is tested before the parts.
 #[derive(Clone, Copy, PartialEq, Eq, Debug)]
 pub enum ExprFault {
-    /// The text is no edge expression, and this many bytes of it begin one.
+    /// The text is not an edge expression, and this many bytes of it begin one.
     BadByte(usize),
     /// More than 32 parentheses are open at once.
     Depth,

@@ -30,21 +30,21 @@ pub enum Operation {
 }
 
 impl Polynomial {
-    /// The polynomial with these coefficients.
+    /// Returns the polynomial with these coefficients.
     fn of(coefficients: [ShortFraction; 5]) -> Polynomial
         ensures { polynomial_terms result ≡ map short_terms coefficients }
     {
         Polynomial { coefficients }
     }
 
-    /// 0.
+    /// Returns 0.
     pub fn zero() -> Polynomial
         ensures { polynomial_terms result ≡ zero_coefficients }
     {
         Polynomial::of([ShortFraction::zero(); 5])
     }
 
-    /// A number.
+    /// Returns a number.
     pub fn constant(value: &ShortFraction) -> Polynomial
         ensures { polynomial_terms result ≡ plain_entry (short_terms value.now) }
     {
@@ -57,7 +57,7 @@ impl Polynomial {
         ])
     }
 
-    /// A power of epsilon.
+    /// Returns a power of epsilon.
     #[tactic(auto, unfolding(crate::specs::EntryValues::power_value, crate::specs::EntryValues::coefficients))]
     pub fn power(power: usize) -> Result<Polynomial, ValueFault>
         ensures { map_value polynomial_terms result ≡ power_value power }
@@ -81,7 +81,7 @@ impl Polynomial {
         self.coefficients[power]
     }
 
-    /// The entry with these coefficients.
+    /// Returns the entry with these coefficients.
     pub fn entry(&self) -> Entry
         ensures { map terms result ≡ polynomial_terms self.now }
     {
@@ -95,7 +95,7 @@ impl Polynomial {
         ])
     }
 
-    /// The greatest power whose coefficient isn't 0, and 0 where there is none.
+    /// Returns the greatest power whose coefficient isn't 0, and 0 where there is none.
     fn degree(&self) -> usize
         ensures value { result ≡ degree (polynomial_terms self.now) }
         ensures within { result ≤ 4 }
@@ -107,7 +107,7 @@ impl Polynomial {
         power
     }
 
-    /// The product with another one.
+    /// Returns the product with another one.
     #[tactic(auto, unfolding(crate::specs::EntryValues::times))]
     fn times(&self, other: &Polynomial) -> Result<Polynomial, ValueFault>
         ensures { map_value polynomial_terms result ≡ times (polynomial_terms self.now) (polynomial_terms other.now) }
@@ -118,7 +118,7 @@ impl Polynomial {
         coefficients(Operation::Multiply, self, other)
     }
 
-    /// The quotient by another one, which must be a number other than 0.
+    /// Returns the quotient by another one, which must be a number other than 0.
     #[tactic(auto, unfolding(crate::specs::EntryValues::over))]
     fn over(&self, other: &Polynomial) -> Result<Polynomial, ValueFault>
         ensures { map_value polynomial_terms result ≡ over (polynomial_terms self.now) (polynomial_terms other.now) }
@@ -132,7 +132,7 @@ impl Polynomial {
         coefficients(Operation::Divide, self, other)
     }
 
-    /// The polynomial, added to 0 or taken away from it.
+    /// Returns the polynomial, added to 0 or taken away from it.
     #[tactic(auto, unfolding(crate::specs::EntryView::applied))]
     pub fn signed(&self, sign: Operation) -> Result<Polynomial, ValueFault>
         ensures { map_value polynomial_terms result ≡ applied sign zero_coefficients (polynomial_terms self.now) }
@@ -146,7 +146,7 @@ impl Polynomial {
         }
     }
 
-    /// The polynomial with another one added, taken away, multiplied or divided.
+    /// Returns the polynomial with another one added, taken away, multiplied or divided.
     #[tactic(auto, unfolding(crate::specs::EntryView::applied, crate::specs::EntryValues::joined))]
     pub fn apply(&self, operation: Operation, other: &Polynomial) -> Result<Polynomial, ValueFault>
         ensures { map_value polynomial_terms result ≡ applied operation (polynomial_terms self.now) (polynomial_terms other.now) }
@@ -159,7 +159,7 @@ impl Polynomial {
     }
 }
 
-/// 1 for the power itself, and 0 for any other.
+/// Returns 1 for the power itself, and 0 for any other.
 fn unit_at(power: usize, at: usize) -> ShortFraction
     ensures { short_terms result ≡ unit_at power at }
 {
@@ -170,7 +170,7 @@ fn unit_at(power: usize, at: usize) -> ShortFraction
     }
 }
 
-/// The sum of the products that make a power, by ascending power of the first factor.
+/// Returns the sum of the products that make a power, by ascending power of the first factor.
 fn product_sum(x: &Polynomial, y: &Polynomial, power: usize) -> Result<ShortFraction, ValueFault>
     requires { power ≤ 4 }
     ensures { map_value short_terms result ≡ product_sum (polynomial_terms x.now) (polynomial_terms y.now) power (suc power) }
@@ -183,7 +183,7 @@ fn product_sum(x: &Polynomial, y: &Polynomial, power: usize) -> Result<ShortFrac
     Ok(sum)
 }
 
-/// The coefficient of a power.
+/// Returns the coefficient of a power.
 fn coefficient(
     operation: Operation,
     x: &Polynomial,

@@ -82,7 +82,7 @@ fn put_joined(
 ///
 /// A term of power 0 is its fraction. A term of power 1 is `\epsilon` and of a greater power `\epsilon^` and the power;
 /// before it stand its absolute coefficient and `*`, unless that is 1. Terms are joined by `+` or `-`, and a `-` stands
-/// before a first term below 0. Where memory runs out, a front of the text may have been appended.
+/// before a first term below 0. When out of memory, a front of the text may have been appended.
 pub fn print_entry(entry: &Entry, out: &mut List<u8>) -> Result<(), NoMemory>
     ensures printed { OnOk result (out.new ≡ out.old ++ entry_text entry.now) }
     ensures begun { OnErr result (IsBegun out.old out.new (entry_text entry.now)) }

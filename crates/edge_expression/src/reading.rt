@@ -12,9 +12,9 @@ use case_model::Entry;
 /// memory.
 ///
 /// An expression is a sum of terms joined by `+` or `-`, perhaps with a sign before the first one. A term is a product
-/// of decimals such as `1.5e-3`, of `\epsilon` with perhaps `^` and one digit, and of expressions in parentheses. Factors
-/// are joined by `*` or `/`, and a `*` may be left out before `\epsilon` and before a parenthesis; they group to the
-/// left, so `1/2\epsilon` is half of epsilon. Spaces and tabs may stand between all these.
+/// of decimals such as `1.5e-3`, of `\epsilon` with perhaps `^` and one digit, and of expressions in parentheses.
+/// Factors are joined by `*` or `/`, and a `*` may be left out before `\epsilon` and before a parenthesis; they group
+/// to the left, so `1/2\epsilon` is half of epsilon. Spaces and tabs may be between all these.
 ///
 /// The parts of each decimal, product, quotient and partial sum are at most 10^18 in lowest terms.
 pub fn read_entry(text: &[u8]) -> Result<Entry, ExprFault>

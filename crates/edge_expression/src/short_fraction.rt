@@ -24,7 +24,7 @@ impl ShortFraction {
     ghost use Rattle.edge_expression.specs.EntryView.{short_terms, map_value, made_short};
     ghost use Rattle.edge_expression.specs.EntryValues.{short_of, sum, difference, product, quotient};
 
-    /// 0.
+    /// Returns 0.
     pub fn zero() -> ShortFraction
         ensures { short_terms result ≡ zero_terms }
     {
@@ -33,7 +33,7 @@ impl ShortFraction {
         }
     }
 
-    /// 1.
+    /// Returns 1.
     pub fn one() -> ShortFraction
         ensures { short_terms result ≡ record { num = pos 1; den = pos 1 } }
     {
@@ -42,7 +42,7 @@ impl ShortFraction {
         }
     }
 
-    /// The same fraction, where its parts are short.
+    /// Returns the same fraction, where its parts are short.
     #[tactic(auto, unfolding(crate::specs::EntryValues::short_of))]
     pub fn of(value: Fraction) -> Result<ShortFraction, ValueFault>
         ensures { map_value short_terms result ≡ short_of (terms value) }
@@ -54,7 +54,7 @@ impl ShortFraction {
         }
     }
 
-    /// What an operation made, where its parts are short.
+    /// Returns what an operation made, where its parts are short.
     fn made(made: Result<Fraction, TooWide>) -> Result<ShortFraction, ValueFault>
         ensures { map_value short_terms result ≡ made_short (ok_map terms made) }
     {

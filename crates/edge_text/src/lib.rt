@@ -10,7 +10,7 @@
 //!   read as the same case (`back`), tells cases apart (`apart`), and is the canonical text of what is read
 //!   (`again`). `expressions_are_decided`: an expression has one entry or one fault, and not both.
 //!
-//! Tables of texts, with their lines by hand, stand in form_tests.
+//! Tables of texts, with their lines by hand, stand in tests_forms.
 //!
 //! The whole form is read and written: one graph or several with their shares, stages with what each hypothesis
 //! spends, by a list or a table, and p-values that arrived. What is written is read back as the same case, for every

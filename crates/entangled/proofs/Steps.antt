@@ -1,6 +1,6 @@
 -- Steps at their places and components.
-use Rattle.std.proofs.Common.{◌≡◌, ◌∙◌, ℕ, Result, Ok, Err}
-use Rattle.field_core.specs.Steps.{◌>>=◌, placed, in_component}
+use Rattle.std.proofs.Common.{◌≡◌, ℕ, Result, Ok, Err}
+use Rattle.field_core.specs.Steps.{placed, in_component}
 use Rattle.field_core.specs.declared.place.Place.{Place}
 use Rattle.field_core.specs.declared.place.TooWide.{TooWide}
 use Rattle.field_core.specs.declared.place.Wide.{Wide}

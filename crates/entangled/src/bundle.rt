@@ -41,17 +41,17 @@ impl<R: Remover + Drop> Bundle<R> {
     pub fn try_new(
         alloc: Global,
         nets: List<R>,
-        shares: List<Fraction>,
+        shares: &[Fraction],
     ) -> Result<Bundle<R>, OpenFault>
         requires some { 0 < length nets }
-        requires count { length shares ≡ length nets }
+        requires count { length shares.now ≡ length nets }
         requires size { All (λ s. graph_size (R.graph s) ≡ states_size R.graph (map R.present nets)) (map R.present nets) }
         requires live { All (λ s. AreAllLive (R.graph s)) (map R.present nets) }
-        requires shares { AreShares shares }
-        ensures { Opens bundled result (opened R.Value.kind R.graph (map R.present nets) shares) }
+        requires shares { AreShares shares.now }
+        ensures { Opens bundled result (opened R.Value.kind R.graph (map R.present nets) shares.now) }
     {
         let nets = nets.into_vec();
-        let shares = shares.into_vec();
+        let shares = Vec::from_slice(alloc, shares)?;
         let levels = levels(alloc, &nets, &shares)?;
         let next_levels = Vec::from_slice(alloc, &levels)?;
         Ok(Bundle {
@@ -63,13 +63,13 @@ impl<R: Remover + Drop> Bundle<R> {
     }
 }
 
-#[tactic(auto, unfolding(crate::specs::BundleView::bundled, crate::specs::Bundled::removed), using(crate::proofs::Alike::first_size, crate::proofs::Alike::first_live, std::proofs::lemmas::List::with_items_is))]
+#[tactic(auto, unfolding(crate::specs::BundleView::bundled, crate::specs::BundleView::HasNothingPrepared, crate::specs::Bundled::removed), using(crate::proofs::Alike::first_size, crate::proofs::Alike::first_live, std::proofs::lemmas::List::with_items_is))]
 impl<R: Remover> Bundle<R> {
     ghost use Rattle.std.specs.Prelude.{◌≡◌, ◌<◌, true, length, slice_get, Some, Ok, OnErr};
     ghost use Rattle.field_core.specs.Kind.{ok_map};
     ghost use Rattle.field_core.specs.View.{terms};
     ghost use Rattle.entangled.specs.Bundled.{size, is_live, level, written_share, removed};
-    ghost use Rattle.entangled.specs.BundleView.{bundled};
+    ghost use Rattle.entangled.specs.BundleView.{bundled, HasNothingPrepared};
 
     /// The number of hypotheses, those removed among them.
     pub fn size(&self) -> usize
@@ -123,11 +123,13 @@ impl<R: Remover> Bundle<R> {
         std::mem::swap(&mut self.levels, &mut self.next_levels);
         Ok(())
     }
-    /// Makes this bundle that of `other`, which has the same size and equal shares.
+
+    /// Makes this bundle that of `other`, which has the same size and equal shares. What was prepared before is gone.
     pub fn set_to(&mut self, other: &Bundle<R>)
         requires size { size R.graph (bundled self.old) ≡ size R.graph (bundled other.now) }
         requires shares { (bundled self.old).shares ≡ (bundled other.now).shares }
-        ensures { bundled self.new ≡ bundled other.now }
+        ensures value { bundled self.new ≡ bundled other.now }
+        ensures prepared { HasNothingPrepared self.new }
     {
         set_all(&mut self.nets, &other.nets);
         self.levels.copy_from_slice(&other.levels);

@@ -42,14 +42,14 @@ fn eps_bundle(alloc: Global, case: &Case) -> Result<Bundle<RowNet>, OpenFault>
     bundle(alloc, case, nets)
 }
 
-#[tactic(auto, unfolding(crate::specs::CaseNetView::case_state, crate::specs::CaseRun::case_removal))]
+#[tactic(auto, unfolding(crate::specs::CaseNetView::case_state, crate::specs::CaseNetView::CaseHasNothingPrepared, crate::specs::CaseRun::case_removal))]
 impl CaseNet {
     ghost use Rattle.std.specs.Prelude.{◌≡◌, ◌<◌, true, IfOk, OnErr, Ok};
     ghost use Rattle.field_core.specs.Kind.{ok_map};
     ghost use Rattle.field_core.specs.View.{terms};
     ghost use Rattle.case_model.specs.Content.{is_plain};
     ghost use Rattle.case_model.specs.CaseView.{content};
-    ghost use Rattle.entangled.specs.CaseNetView.{case_state, is_of_fractions};
+    ghost use Rattle.entangled.specs.CaseNetView.{case_state, is_of_fractions, CaseHasNothingPrepared};
     ghost use Rattle.entangled.specs.CaseRun.{case_opening, case_numbers, case_size, is_live_in_case, case_level, case_share, case_shares, case_removal};
     ghost use Rattle.entangled.specs.Opening.{Opens};
 
@@ -118,11 +118,13 @@ impl CaseNet {
     }
 
     /// Makes these nets those of `other`, which are of the same numbers, with the same size and equal shares.
+    /// What was prepared before is gone.
     pub fn set_to(&mut self, other: &CaseNet)
         requires numbers { case_numbers (case_state self.old) ≡ case_numbers (case_state other.now) }
         requires size { case_size (case_state self.old) ≡ case_size (case_state other.now) }
         requires shares { case_shares (case_state self.old) ≡ case_shares (case_state other.now) }
-        ensures { case_state self.new ≡ case_state other.now }
+        ensures value { case_state self.new ≡ case_state other.now }
+        ensures prepared { CaseHasNothingPrepared self.new }
     {
         match (self, other) {
             (CaseNet::Plain(bundle), CaseNet::Plain(other)) => bundle.set_to(other),

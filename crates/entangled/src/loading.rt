@@ -112,5 +112,5 @@ pub fn bundle<R: Remover + Drop>(
     ensures { Opens bundled result (opened R.Value.kind R.graph (map R.present nets) (map (λ k. k.share) (content case.now).components)) }
 {
     let shares = shares(alloc, case)?;
-    Bundle::try_new(alloc, nets, shares)
+    Bundle::try_new(alloc, nets, shares.as_slice())
 }

@@ -11,7 +11,7 @@ unfoldable pub accepts : {X S : Type 0} → (S → X → Option S) → (S → Bo
 accepts step may_end [] state = may_end state
 accepts step may_end (x ∷ xs) state = accepts_then (accepts step may_end xs) (step state x)
 
--- the same behind a step, if it leads to a state
+-- the same after a step, if it leads to a state
 abbrev pub count_then : {S : Type 0} → (S → ℕ) → Option S → ℕ
 count_then count None = 0
 count_then count (Some state) = 1 + count state

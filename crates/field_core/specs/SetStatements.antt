@@ -25,7 +25,7 @@ AddingGivesOne = (m k : ℕ) (I : ℕ → Bool) → k < m → I k ≡ false → 
 abbrev pub WholeHasAll : Type 0
 WholeHasAll = (m : ℕ) → size_of m whole ≡ m
 
--- A subset has at most as many members; it has all, or lacks one.
+-- A subset has no more members; it has all, or lacks one.
 abbrev pub SubsetsAreSmaller : Type 0
 SubsetsAreSmaller =
     (m : ℕ) (J I : ℕ → Bool) → IsSubset m J I

@@ -2,7 +2,7 @@
 ghost use Rattle.std.specs.Prelude.{◌≡◌, ◌<◌, ◌%◌};
 ghost use Rattle.field_core.specs.Divisor.{gcd};
 
-/// The greatest common divisor of odd numbers.
+/// Returns the greatest common divisor of odd numbers.
 fn odd_gcd(a: u64, b: u64) -> u64
     requires a { a % 2 ≡ 1 }
     requires b { b % 2 ≡ 1 }
@@ -18,7 +18,7 @@ fn odd_gcd(a: u64, b: u64) -> u64
     left
 }
 
-/// The greatest common divisor of numbers above 0.
+/// Returns the greatest common divisor of numbers above 0.
 fn positive_gcd(a: u64, b: u64) -> u64
     requires a { 0 < a }
     requires b { 0 < b }
@@ -29,7 +29,7 @@ fn positive_gcd(a: u64, b: u64) -> u64
     odd_gcd(a >> first, b >> second) << first.min(second)
 }
 
-/// The greatest common divisor of a number above 0 and another: one step of Euclid's, and then Stein's.
+/// Returns the greatest common divisor of a number above 0 and another: one step of Euclid's, and then Stein's.
 fn stepped_gcd(a: u64, b: u64) -> u64
     requires { 0 < a }
     ensures { result ≡ gcd a b }
@@ -44,7 +44,7 @@ fn stepped_gcd(a: u64, b: u64) -> u64
     }
 }
 
-/// The greatest common divisor; `binary_gcd(0, b)` is `b`.
+/// Returns the greatest common divisor; `binary_gcd(0, b)` is `b`.
 pub fn binary_gcd(a: u64, b: u64) -> u64
     ensures { result ≡ gcd a b }
 {

@@ -8,7 +8,7 @@ impl List<u8> {
     ghost use Rattle.std.specs.Fmt.{decimal, signed_decimal};
     ghost use Rattle.field_core.specs.Texts.{fraction_text, IsBegun};
 
-    /// Appends a number in decimal digits, behind a minus where it is below 0. Where memory runs out, the list stays as it
+    /// Appends a number in decimal digits, after a minus where it is below 0. When out of memory, the list stays as it
     /// was.
     pub fn append_number(&mut self, number: i128) -> Result<(), NoMemory>
         ensures appended { OnOk result (self.new ≡ self.old ++ signed_decimal number) }
@@ -18,7 +18,7 @@ impl List<u8> {
         self.append(buffer.format(number).as_bytes())
     }
 
-    /// Appends a number without a sign in decimal digits. Where memory runs out, the list stays as it was.
+    /// Appends a number without a sign in decimal digits. When out of memory, the list stays as it was.
     pub fn append_unsigned(&mut self, number: u128) -> Result<(), NoMemory>
         ensures appended { OnOk result (self.new ≡ self.old ++ decimal number) }
         ensures unchanged { OnErr result (self.new ≡ self.old) }
@@ -27,7 +27,7 @@ impl List<u8> {
         self.append(buffer.format(number).as_bytes())
     }
 
-    /// Appends `num`, or `num/den` where `den` isn't 1. Where memory runs out, the list stays as it was.
+    /// Appends `num`, or `num/den` where `den` isn't 1. When out of memory, the list stays as it was.
     pub fn append_fraction(&mut self, num: i128, den: i128) -> Result<(), NoMemory>
         ensures appended { OnOk result (self.new ≡ self.old ++ fraction_text num den) }
         ensures unchanged { OnErr result (self.new ≡ self.old) }

@@ -22,14 +22,14 @@ impl Model for Short {
 }
 
 impl Short {
-    /// This number.
+    /// Returns this number.
     pub fn new(value: i64) -> Short
         ensures { result ≡ value }
     {
         Short { value }
     }
 
-    /// The number.
+    /// Returns the number.
     pub fn whole(self) -> Whole
         ensures { result ≡ self }
     {
@@ -43,7 +43,7 @@ impl Short {
         self.value == 0
     }
 
-    /// The product, which is never too wide.
+    /// Returns the product, which is never too wide.
     pub fn times(self, other: Short) -> Whole
         ensures value { result ≡ self *ℤ other }
         ensures written { Some result ≡ sized (self *ℤ other) }
@@ -51,7 +51,7 @@ impl Short {
         Whole::new(self.value as i128 * other.value as i128)
     }
 
-    /// The quotient by a number above 0, rounded towards 0.
+    /// Returns the quotient by a number above 0, rounded towards 0.
     pub fn over(self, by: Short) -> Short
         requires { pos 0 <ℤ by }
         ensures { result ≡ int_div self by }
@@ -64,7 +64,7 @@ impl Short {
         }
     }
 
-    /// The greatest common divisor with a number above 0.
+    /// Returns the greatest common divisor with a number above 0.
     pub fn common_divisor(self, other: Short) -> Short
         requires { pos 0 <ℤ other }
         ensures value { result ≡ gcd_of self other }

@@ -68,7 +68,7 @@ under_accepted ds h n = ap (λ (x : List ℕ). reads x Slash) (sym (append-nil d
 
 -- ---- the whole
 
--- behind the sign
+-- after the sign
 body_accepted : (body : Body) (s : State) → IsBody body → step s classes.Digit ≡ Some (Decimal parts.Whole)
     → ((t : List ℕ) → takes t parts.Start ≡ true → reads t s ≡ true) → reads (body_text body) s ≡ true
 body_accepted (Plain whole e) s h d r = r _ (body_taken (Plain whole e) h (λ x. x))

@@ -88,7 +88,7 @@ pointed whole fraction e (Err f) h = pointed_fault whole fraction e f h
 all_digits : (ds : List ℕ) → AreDigits ds → take_while is_ascii_digit ds ≡ ds
 all_digits ds h = ap (take_while is_ascii_digit) (sym (append-nil ds)) ∙ front_digits ds [] h tt
 
--- the rest of a text behind the digits in front of it
+-- the rest of a text after the digits in front of it
 abbrev behind_front : List ℕ → List ℕ
 behind_front text = drop (prefix_len is_ascii_digit text) text
 
@@ -105,7 +105,7 @@ read_pair text whole more under r w m u s (Pair a b) is q =
     let low : under ≡ b = u ∙ ap (take_while is_ascii_digit) rest ∙ all_digits b is.2 in
     rw (w ∙ cut.front_is, low) at s
 
--- a decimal that was read, its exponent behind it
+-- a decimal that was read, its exponent after it
 decimal_read : (d : Decimal) (x : Shift) (r : Result Size NumberFault) (tail : List ℕ) (e : Option Exponent) → GivesDecimal d x r → GivesShift tail x
     → IsExponent e → tail ≡ exponent_text e → IsDecimalSize (digits_in d) (pos (length d.fraction.now) -ℤ exponent_of e) r
 unfolding GivesDecimal GivesShift

@@ -103,14 +103,14 @@ front_are (b ∷ bs) =
     cond_both (is_ascii_digit b) (1 + prefix_len is_ascii_digit bs) 0 (λ n. AreDigits (take n (b ∷ bs)))
     (λ h. front_by b bs (prefix_len is_ascii_digit bs) h refl (front_are bs)) (λ h. tt)
 
--- what begins with a byte below the digits is no exponent
+-- what begins with a byte below the digits is not an exponent
 pub exponent_apart : (e : Option Exponent) (b : ℕ) (more : List ℕ) → IsExponent e → b < 48 → ¬ (b ∷ more ≡ exponent_text e)
 exponent_apart None b more h k q = absurd cc
 exponent_apart (Some e) b more h k q =
     let m : b ≡ e.mark = (heads b e.mark more _ q).0 in
     elim h.0 [ inl f ↦ omega arith | inr f ↦ omega arith ]
 
--- ---- the parts of what stands behind a sign
+-- ---- the parts of what stands after a sign
 
 mark_no_digit : (b : ℕ) → (b ≡ 101) ⊎ (b ≡ 69) → (b < 48) ⊎ (57 < b)
 mark_no_digit b (inl e) = inr (omega arith)
@@ -120,7 +120,7 @@ pub exponent_no_digit : (e : Option Exponent) → IsExponent e → NoDigit (expo
 exponent_no_digit None h = tt
 exponent_no_digit (Some e) h = mark_no_digit e.mark h.0
 
--- the digits in front of a body, and what stands behind them
+-- the digits in front of a body, and what stands after them
 pub record IsCut (text front rest : List ℕ) : Type 0 where
   pub front_is : take_while is_ascii_digit text ≡ front
   pub rest_is : drop (prefix_len is_ascii_digit text) text ≡ rest

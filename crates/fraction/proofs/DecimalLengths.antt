@@ -34,7 +34,7 @@ counted_end text i p h = ap (λ (x : List ℕ). counted x p) (drop_all i text h)
 
 -- ---- a decimal before what can't belong to it
 
--- no decimal goes on with this text
+-- no decimal continues with this text
 abbrev pub Stops : List ℕ → Type 0
 Stops [] = Unit {0}
 Stops (b ∷ t) = (p : DecimalPart) → may_end p ≡ true → decimal_step p (class_of b) ≡ None

@@ -107,7 +107,7 @@ mark : (t : List ℕ) → takes t parts.Mark ≡ true → IsTail t
 mark [] h = absurd (none_taken parts.Mark refl h)
 mark (b ∷ t) h = mark_by b t (class_of b) (class_is b) (sym (takes_cons b t parts.Mark) ∙ h)
 
--- digits behind a point, and an exponent
+-- digits after a point, and an exponent
 record IsBehind (t : List ℕ) : Type 0 where
   digits : List ℕ
   exponent : Option Exponent
@@ -150,7 +150,7 @@ digits_more : (ds : List ℕ) (b : ℕ) → AreDigits ds → 48 ≤ b → b ≤ 
 digits_more [] b h k l = (k, l, tt)
 digits_more (d ∷ ds) b h k l = (h.0, h.1, digits_more ds b h.2 k l)
 
--- behind the digits ds
+-- after the digits ds
 whole_by : (b : ℕ) (t ds : List ℕ) (c : Class) → IsOf c b → AreDigits ds → 0 < length ds
     → (AreDigits (ds ++ b ∷ []) → takes t parts.Whole ≡ true → IsDecimal ((ds ++ b ∷ []) ++ t))
     → accepts_then (takes t) (decimal_step parts.Whole c) ≡ true → IsDecimal (ds ++ b ∷ t)

@@ -52,7 +52,7 @@ small_number v n room r =
     let all : (v + 1) * (10 ^ n * 10) ≤ room = rw pow-suc at r in
     omega arith
 
--- The digits from i on, behind a number v: there is room for all of them, and they make one number.
+-- The digits from i on, after a number v: there is room for all of them, and they make one number.
 pub record Goes (digits : List ℕ) (i v room whole : ℕ) : Type 0 where
   pub fits : (v + 1) * 10 ^ length (drop i digits) ≤ room
   pub makes : digits_value_after 10 v (drop i digits) ≡ whole

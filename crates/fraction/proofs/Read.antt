@@ -15,7 +15,7 @@ use Rattle.fraction.proofs.Classes.{IsOf, class_is}
 use Rattle.fraction.proofs.DecimalTexts.{takes, takes_nil, takes_cons, is_decimal_text}
 use Rattle.fraction.proofs.Accepted.{reads, reads_nil, reads_cons}
 
--- ---- behind a slash
+-- ---- after a slash
 
 false_accepted : (s : State) → is_final s ≡ false → reads [] s ≡ true → ⊥
 false_accepted s f h = let e = sym f ∙ sym (reads_nil s) ∙ h in cc
@@ -39,7 +39,7 @@ slash (b ∷ t) h = (slash_by b t (class_of b) (class_is b) (sym (reads_cons b t
 
 -- ---- a decimal or a pair
 
--- digits may stand there before a slash: at least one where nothing was read
+-- digits may be there before a slash: at least one where nothing was read
 abbrev MayStand : DecimalPart → List ℕ → Type 0
 MayStand parts.Start over = 0 < length over
 MayStand parts.Whole over = Unit {0}
@@ -106,7 +106,7 @@ ends (b ∷ t) p h = ends_by b t p (class_of b) refl (class_is b) (λ q. ends t 
 
 -- ---- the whole
 
--- what stands behind a sign
+-- what stands after a sign
 record IsBare (t : List ℕ) : Type 0 where
   body : Body
   is : IsBody body

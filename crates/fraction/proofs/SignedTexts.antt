@@ -25,7 +25,7 @@ unsigned_none (b ∷ bs) h =
     let p : eqb b 43 ≡ false = ne_eqb b 43 h.0 in
     (m, rw (m, p) refl)
 
--- a text behind a sign
+-- a text after a sign
 pub sign_cut : (sign : Option ℕ) (rest : List ℕ) → IsSign sign → NoSign rest → (starts_with_minus (sign_text sign ++ rest) ≡ is_minus sign)
     × (without_leading_sign (sign_text sign ++ rest) ≡ rest)
 sign_cut None rest h k = unsigned_none rest k

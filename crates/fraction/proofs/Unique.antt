@@ -18,7 +18,7 @@ use Rattle.fraction.proofs.SignedTexts.{numeral_split}
 
 -- ---- the parts of a text
 
--- a sign is no digit
+-- a sign is not a digit
 sign_no_digit : (b : ℕ) (ds es : List ℕ) → (b ≡ 43) ⊎ (b ≡ 45) → AreDigits ds → ds ≡ b ∷ es → ⊥
 sign_no_digit b [] es s h e = cc
 sign_no_digit b (d ∷ ds) es (inl f) h e = let k = (heads d b ds es e).0 in omega (arith, h.0)

@@ -1,4 +1,4 @@
--- Zeros before and behind other digits.
+-- Zeros before and after other digits.
 use Rattle.std.proofs.Common.{◌≡◌, ◌≢◌, ℕ, zero, suc, ◌+◌, ◌-◌, ◌*◌, ◌^◌, ◌<◌, ◌≤◌, ◌⊎◌, inl, inr, List, []}
 use Rattle.std.proofs.Common.{◌∷◌, ◌++◌, length, get_or, drop, take, reverse, refl, sym, ap, subst, ◌∙◌, arith, length-drop, add-zero}
 use Rattle.std.specs.List.{prefix_len}

@@ -1,4 +1,4 @@
--- What a look at the bytes of a text alone tells.
+-- What the bytes of a text alone show.
 use Rattle.std.specs.Prelude.{◌≡◌, List, ℕ, [], Result, Ok, Err}
 use Rattle.fraction.specs.declared.fault.NumberFault.{NumberFault}
 use Rattle.fraction.specs.declared.fault.NumberFault.TheVariants.{Empty, BadByte, ZeroDenominator, TooManyDigits}

@@ -1,4 +1,4 @@
--- Decimals: numerals without a sign that are no pair, and what they are worth.
+-- Decimals: numerals without a sign that are not pairs, and what they are worth.
 use Rattle.std.specs.Prelude.{◌≡◌, ◌↔◌, ℕ, ◌-◌, ◌&&◌, ◌||◌, ◌++◌, Bool, true, List, length, nat_lt, int_lt, ℤ, pos, ◌-ℤ◌}
 use Rattle.std.specs.Prelude.{Option, Some, None, if◌then◌else◌}
 use Rattle.field_core.specs.Terms.{Terms}
@@ -12,7 +12,7 @@ IsPair (Plain whole exponent) = ⊥
 IsPair (Pointed whole fraction exponent) = ⊥
 IsPair (Pair over under) = Unit {0}
 
--- a decimal: a numeral without a sign that is no pair
+-- a decimal: a numeral without a sign that is not a pair
 pub record Decimal : Type 0 where
   pub body : Body
   pub is_body : IsBody body

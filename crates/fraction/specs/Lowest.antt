@@ -10,7 +10,7 @@ use Rattle.fraction.specs.declared.fault.FractionFault.{FractionFault}
 use Rattle.fraction.specs.declared.fault.FractionFault.TheVariants.{ZeroDenominator, TooWide}
 use Rattle.fraction.specs.Numeral.{with_sign}
 
--- the quotient of two sizes in lowest terms, behind a sign
+-- the quotient of two sizes in lowest terms, after a sign
 unfoldable pub lowest_of : Bool → ℕ → ℕ → Terms
 lowest_of negative n d = record { num = with_sign negative (n / gcd n d); den = pos (d / gcd n d) }
 

@@ -41,7 +41,7 @@ abbrev pub IsExponent : Option Exponent → Type 0
 IsExponent None = Unit {0}
 IsExponent (Some e) = ((e.mark ≡ 101) ⊎ (e.mark ≡ 69)) × IsSign e.sign × AreDigits e.digits × (0 < length e.digits)
 
--- what stands behind the sign
+-- what stands after the sign
 pub data Body : Type 0 where
   -- digits, perhaps an exponent
   Plain : (whole : List ℕ) (exponent : Option Exponent) → Body
@@ -81,7 +81,7 @@ is_minus (Some b) = b == 45
 abbrev pub with_sign : Bool → ℕ → ℤ
 with_sign negative n = if negative then neg_ℤ (pos n) else pos n
 
--- a number behind a sign
+-- a number after a sign
 abbrev pub signed : Option ℕ → ℕ → ℤ
 signed sign n = with_sign (is_minus sign) n
 
@@ -116,7 +116,7 @@ without_leading_zeros digits = drop (prefix_len is_nought digits) digits
 unfoldable pub trailing_zeros : List ℕ → ℕ
 trailing_zeros digits = suffix_len is_nought digits
 
--- a number of n digits, divided by ten to the s: they are more than 38, or reach more than 38 places behind the point, or are more than 38
+-- a number of n digits, divided by ten to the s: they are more than 38, or reach more than 38 places after the point, or are more than 38
 -- together with the zeros up to the point
 abbrev pub PassesLimit : ℕ → ℤ → Type 0
 PassesLimit n s = (38 < n) ⊎ ((pos 38 <ℤ s) ⊎ ((s <ℤ pos 0) × (pos 38 <ℤ (pos n -ℤ s))))
@@ -132,8 +132,8 @@ HasZeroDenominator (Plain whole exponent) = ⊥
 HasZeroDenominator (Pointed whole fraction exponent) = ⊥
 HasZeroDenominator (Pair over under) = digits_value 10 under ≡ 0
 
--- All digits before the exponent make one whole number, and s is the number of those behind the point less the exponent. In a pair each
--- part is a number of its own.
+-- All digits before the exponent make one whole number, and s is the number of those after it the point less the exponent. In a pair
+-- each part is a number of its own.
 unfoldable pub HasTooManyDigits : Body → Type 0
 HasTooManyDigits (Plain whole exponent) = IsTooLong (without_leading_zeros whole) (pos 0 -ℤ exponent_of exponent)
 HasTooManyDigits (Pointed whole fraction exponent) = IsTooLong (without_leading_zeros (whole ++ fraction)) (pos (length fraction) -ℤ exponent_of exponent)

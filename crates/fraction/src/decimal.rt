@@ -1,4 +1,4 @@
-//! Decimals: digits before and behind a point.
+//! Decimals: digits before and after a point.
 ghost use Rattle.std.specs.Prelude.{◌≡◌, ◌^◌, ◌<◌, ◌≤◌, ◌↔◌, pos, ◌-ℤ◌, length, take, IsTrue};
 ghost use Rattle.std.specs.Str.Parse.{digits_value};
 ghost use Rattle.fraction.specs.Numeral.{AreDigits, without_leading_zeros, trailing_zeros, PassesLimit};
@@ -9,7 +9,7 @@ use crate::digits::{MOST_DIGITS, extended, trailing_zeros, without_leading_zeros
 use crate::shift::Shift;
 use crate::size::Size;
 
-/// The digits of a decimal before and behind its point.
+/// The digits of a decimal before and after its point.
 #[derive(Clone, Copy)]
 pub struct Decimal<'a> {
     pub whole: &'a [u8],
@@ -51,7 +51,7 @@ impl<'a> Decimal<'a> {
         }
     }
 
-    /// The number that its first digits write.
+    /// Returns the number that its first digits write.
     fn number(&self, len: usize) -> u128
         requires digits { AreDigits (digits_in self.now) }
         requires few { len ≤ 38 }
@@ -64,7 +64,7 @@ impl<'a> Decimal<'a> {
         extended(whole, &self.fraction[..len - whole_len])
     }
 
-    /// Its value without a sign.
+    /// Returns its value without a sign.
     pub fn value(&self, shift: Shift) -> Result<Size, NumberFault>
         requires { AreDigits (digits_in self.now) }
         ensures { GivesDecimal self.now shift result }
@@ -79,7 +79,7 @@ impl<'a> Decimal<'a> {
     }
 }
 
-/// Ten to a power.
+/// Returns ten to a power.
 fn power(exponent: u128) -> u128
     requires { exponent ≤ 38 }
     ensures { result ≡ 10 ^ exponent }
@@ -87,7 +87,7 @@ fn power(exponent: u128) -> u128
     10u128.pow(exponent as u32)
 }
 
-/// Whether so many digits, multiplied by ten and divided by ten so many times, pass the limit.
+/// Whether this number of digits, multiplied by ten and divided by ten this number of times, pass the limit.
 fn passes_limit(len: u128, up: u128, down: u128) -> bool
     requires len { len < 2 ^ 101 }
     requires up { up < 2 ^ 101 }
@@ -98,7 +98,7 @@ fn passes_limit(len: u128, up: u128, down: u128) -> bool
     len > most || down > up + most || len + up > down + most
 }
 
-/// The first digits of a number, multiplied by ten and divided by ten so many times.
+/// Returns the first digits of a number, multiplied by ten and divided by ten this number of times.
 fn scaled(digits: &Decimal, len: u128, up: u128, down: u128) -> Result<Size, NumberFault>
     requires digits { AreDigits (digits_in digits.now) }
     requires len { len < 2 ^ 101 }

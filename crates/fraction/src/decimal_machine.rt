@@ -15,7 +15,7 @@ pub enum DecimalPart {
     Whole,
     /// A point with no digit before it.
     Point,
-    /// A point, with a digit before or behind it.
+    /// A point, with a digit before or after it.
     Fraction,
     /// The mark of the exponent.
     Mark,
@@ -26,7 +26,7 @@ pub enum DecimalPart {
 }
 
 impl DecimalPart {
-    /// What was read with a byte of this class more, or nothing where no decimal begins so.
+    /// Returns what was read with a byte of this class more, or nothing where no decimal begins so.
     pub(crate) fn step_class(self, class: Class) -> Option<DecimalPart>
         ensures { result ≡ decimal_step self class }
     {
@@ -45,7 +45,7 @@ impl DecimalPart {
         }
     }
 
-    /// What was read with one byte more, or nothing where no decimal begins so.
+    /// Returns what was read with one byte more, or nothing where no decimal begins so.
     pub fn step(self, byte: u8) -> Option<DecimalPart>
         ensures { result ≡ decimal_byte self byte }
     {
@@ -63,7 +63,7 @@ impl DecimalPart {
     }
 }
 
-/// The length of the longest prefix of a text with which a decimal begins.
+/// Returns the length of the longest prefix of a text with which a decimal begins.
 pub fn decimal_len(text: &[u8]) -> usize
     ensures value { result ≡ decimal_length text.now }
     ensures within { result ≤ length text.now }

@@ -13,7 +13,7 @@ pub enum FractionFault {
 pub enum NumberFault {
     /// The text has no byte.
     Empty,
-    /// The text is no numeral, and its longest prefix with which some numeral begins has this many bytes.
+    /// The text is not a numeral, and its longest prefix with which some numeral begins has this many bytes.
     BadByte(usize),
     /// The second part of a pair is 0.
     ZeroDenominator,

@@ -153,8 +153,8 @@ impl Fraction {
     ghost use Rattle.fraction.specs.Spelling.{spelling};
     ghost use Rattle.fraction.specs.Tests.{is_zero, is_one, is_within, absolute};
 
-    /// The fraction num/den, in lowest terms. `ZeroDenominator` where `den` is 0, else `TooWide` where a part in lowest
-    /// terms has 2^127 or more in size.
+    /// Returns the fraction num/den, in lowest terms. `ZeroDenominator` where `den` is 0, else `TooWide` where a part
+    /// in lowest terms has 2^127 or more in size.
     pub fn new(num: i128, den: i128) -> Result<Fraction, FractionFault>
         ensures lowest { IfOk result (λ x. terms_of x ≡ lowest_terms num den) }
         ensures value { IfOk result (λ x. number_of x ≡ fraction num den) }
@@ -176,8 +176,8 @@ impl Fraction {
         Ok(Fraction { ratio })
     }
 
-    /// The value of a text that is a decimal, or nothing where it has too many digits. Of any other text it is what `parse`
-    /// reads: the fraction of a numeral, else nothing.
+    /// Returns the value of a text that is a decimal, or nothing where it has too many digits. Of any other text it is
+    /// what `parse` reads: the fraction of a numeral, else nothing.
     pub fn parse_decimal(text: &[u8]) -> Option<Fraction>
         ensures decimal { (d : Decimal) → text.now ≡ body_text d.body → option_map terms_of result ≡ decimal_value d }
         ensures found { IfSome result (λ x. IsNumeralOf text.now (terms_of x)) }
@@ -186,8 +186,8 @@ impl Fraction {
         Fraction::parse(text).ok()
     }
 
-    /// Appends the fraction as a text: `n` where the denominator is 1, else `n/d`. Where memory runs out, `out` stays as it
-    /// was.
+    /// Appends the fraction as a text: `n` where the denominator is 1, else `n/d`. When out of memory, `out` stays as
+    /// it was.
     #[tactic(auto, unfolding(crate::specs::Spelling::spelling))]
     pub fn print(&self, out: &mut List<u8>) -> Result<(), NoMemory>
         ensures printed { OnOk result (out.new ≡ out.old ++ spelling (terms_of self.now)) }
@@ -196,14 +196,14 @@ impl Fraction {
         out.append_fraction(self.ratio.num(), self.ratio.den())
     }
 
-    /// This ratio as a fraction.
+    /// Returns this ratio as a fraction.
     pub fn of(ratio: Ratio) -> Fraction
         ensures { terms_of result ≡ terms ratio }
     {
         Fraction { ratio }
     }
 
-    /// This fraction as a ratio.
+    /// Returns this fraction as a ratio.
     pub fn ratio(&self) -> Ratio
         ensures { terms result ≡ terms_of self.now }
     {
@@ -231,7 +231,7 @@ impl Fraction {
         self.ratio.num().unsigned_abs() <= limit && self.ratio.den().unsigned_abs() <= limit
     }
 
-    /// The fraction without its sign.
+    /// Returns the fraction without its sign.
     pub fn abs(&self) -> Fraction
         ensures { terms result ≡ absolute (terms self.now) }
     {

@@ -20,7 +20,8 @@ pub fn a_text_says_one_thing()
 pub fn a_printed_fraction_reads_back()
     ensures some { (t : Terms) → IsReduced t → 0 < length (spelling t) }
     ensures bytes { (t : Terms) → IsReduced t → AllByRecursion IsSpellingByte (spelling t) }
-    ensures back { (t : Terms) → IsReduced t → unsigned_abs t.num < 10 ^ 38 → unsigned_abs t.den < 10 ^ 38 → IsNumeralOf (spelling t) t }
+    ensures back { (t : Terms) → IsReduced t → unsigned_abs t.num < 10 ^ 38 → unsigned_abs t.den < 10 ^ 38
+        → IsNumeralOf (spelling t) t }
 {}
 
 /// The limit of a decimal's digits is that of numerals.

@@ -15,8 +15,8 @@
 //!   `a_printed_fraction_reads_back`, `decimals_have_the_limit_of_numerals`, `short_operations_are_defined`
 //!   (operations on short fractions aren't refused).
 //!
-//! Tables of numerals and of written operations at the edge of 127 bits, with values by hand or from a given table, stand
-//! in number_tests.
+//! Tables of numerals and of written operations at the edge of 127 bits, with values by hand or from a given table, are
+//! in tests_numbers.
 #![tactic(auto)]
 
 mod byte_class;

@@ -21,7 +21,7 @@ fn with_sign(negative: bool, size: u128) -> Whole
     if negative { whole.negated() } else { whole }
 }
 
-/// The quotient of two numbers that have no common divisor above 1, behind a sign.
+/// Returns the quotient of two numbers that have no common divisor above 1, after a sign.
 fn reduced(negative: bool, size: &Size) -> Ratio
     requires { gcd size.now.num size.now.den ≡ 1 }
     ensures { terms result ≡ record { num = with_sign negative size.now.num; den = pos size.now.den } }
@@ -29,7 +29,7 @@ fn reduced(negative: bool, size: &Size) -> Ratio
     Ratio::of_wholes(with_sign(negative, size.num), with_sign(false, size.den))
 }
 
-/// Two numbers without their common divisors.
+/// Returns two numbers without their common divisors.
 #[tactic(auto, using(crate::proofs::LowestTerms::divided))]
 fn divided(num: u128, den: u128) -> (u128, u128)
     requires { 0 < den }
@@ -44,7 +44,7 @@ fn divided(num: u128, den: u128) -> (u128, u128)
     (num / divisor, den / divisor)
 }
 
-/// The quotient of two numbers in lowest terms, behind a sign.
+/// Returns the quotient of two numbers in lowest terms, after a sign.
 #[tactic(auto, unfolding(crate::specs::Lowest::lowest_of))]
 pub fn lowest(negative: bool, size: &Size) -> Ratio
     ensures { terms result ≡ lowest_of negative size.now.num size.now.den }
@@ -61,7 +61,7 @@ pub fn sign_and_size(number: i128) -> (bool, u128)
     (number < 0, number.unsigned_abs())
 }
 
-/// The quotient of two whole numbers in lowest terms.
+/// Returns the quotient of two whole numbers in lowest terms.
 pub fn quotient(num: i128, den: i128) -> Result<Ratio, FractionFault>
     ensures { IsLowest num den result }
 {

@@ -10,15 +10,15 @@ use crate::decimal_machine::DecimalPart;
 pub enum State {
     /// Nothing.
     Start,
-    /// Part of a decimal, behind a sign or none.
+    /// Part of a decimal, after a sign or none.
     Decimal(DecimalPart),
-    /// A slash behind digits.
+    /// A slash after digits.
     Slash,
-    /// Digits behind the slash.
+    /// Digits after the slash.
     Under,
 }
 
-/// What was read with one byte more, or nothing where no numeral begins so.
+/// Returns what was read with one byte more, or nothing where no numeral begins so.
 pub fn step(state: State, class: Class) -> Option<State>
     ensures { result ≡ step state class }
 {

@@ -8,7 +8,7 @@ use crate::lowest::lowest;
 use crate::value::value;
 use field_core::Ratio;
 
-/// The value of a numeral in lowest terms, or the fault of a text.
+/// Returns the value of a numeral in lowest terms, or the fault of a text.
 pub fn read(text: &[u8]) -> Result<Ratio, NumberFault>
     ensures { IsRead text.now result }
 {

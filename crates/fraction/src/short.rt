@@ -18,7 +18,7 @@ impl ShortRatio {
     ghost use Rattle.fraction.specs.Short.{short_terms};
     ghost use Rattle.fraction.specs.Written.{written_mul, written_add};
 
-    /// A fraction, where its parts fit 64 bits.
+    /// Returns a fraction, where its parts fit 64 bits.
     pub fn of(x: &Ratio) -> Option<ShortRatio>
         ensures { IfSome result (λ s. short_terms s ≡ terms x.now) }
     {
@@ -28,14 +28,14 @@ impl ShortRatio {
         }
     }
 
-    /// The same fraction.
+    /// Returns the same fraction.
     fn ratio(self) -> Ratio
         ensures { terms result ≡ short_terms self }
     {
         Ratio::of_wholes(self.num.whole(), self.den.whole())
     }
 
-    /// The written product, which is never refused.
+    /// Returns the written product, which is never refused.
     #[tactic(auto, using(crate::proofs::AtOnce::zero_times, crate::proofs::AtOnce::times_zero), unfolding(crate::specs::Written::written_mul))]
     pub fn times(self, other: ShortRatio) -> Ratio
         ensures { Some (terms result) ≡ written_mul (short_terms self) (short_terms other) }
@@ -53,7 +53,7 @@ impl ShortRatio {
         Ratio::of_wholes(num, den)
     }
 
-    /// The written sum, or nothing where it is refused.
+    /// Returns the written sum, or nothing where it is refused.
     #[tactic(auto, using(crate::proofs::AtOnce::zero_plus), unfolding(crate::specs::Written::written_add))]
     pub fn plus(self, other: ShortRatio) -> Option<Ratio>
         ensures { option_map terms result ≡ written_add (short_terms self) (short_terms other) }

@@ -1,4 +1,4 @@
-//! The value of what stands behind the sign of a numeral.
+//! The value of what stands after the sign of a numeral.
 ghost use Rattle.fraction.specs.Numeral.{AreDigits, Pair};
 ghost use Rattle.fraction.specs.Sizes.{GivesShift, IsBodySize, GivesBody};
 
@@ -10,7 +10,7 @@ use crate::digits::{
 use crate::shift::Shift;
 use crate::size::Size;
 
-/// The quotient of two numbers, each by its digits.
+/// Returns the quotient of two numbers, each by its digits.
 fn pair(over: &[u8], under: &[u8]) -> Result<Size, NumberFault>
     requires over { AreDigits over.now }
     requires under { AreDigits under.now }
@@ -30,7 +30,7 @@ fn pair(over: &[u8], under: &[u8]) -> Result<Size, NumberFault>
     })
 }
 
-/// The shift that an exponent makes, or that of no exponent.
+/// Returns the shift that an exponent makes, or that of no exponent.
 fn shift(exponent: &[u8]) -> Shift
     ensures { GivesShift exponent.now result }
 {
@@ -46,7 +46,7 @@ fn shift(exponent: &[u8]) -> Shift
     Shift { up: size, down: 0 }
 }
 
-/// The value of what stands behind the sign of a numeral.
+/// Returns the value of what stands after the sign of a numeral.
 pub fn value(body: &[u8]) -> Result<Size, NumberFault>
     ensures { GivesBody body.now result }
 {

@@ -13,7 +13,7 @@ pub fn are_digits(text: &[u8]) -> bool
     text.iter().all(|byte| byte.is_ascii_digit())
 }
 
-/// The number that a text of 1 to `most` digits writes.
+/// Returns the number that a text of 1 to `most` digits writes.
 #[tactic(auto, using(crate::proofs::WholeNumbers::empty_none, crate::proofs::WholeNumbers::long_none, crate::proofs::WholeNumbers::other_none, crate::proofs::WholeNumbers::are_digits, crate::proofs::WholeNumbers::number_found, crate::proofs::WholeNumbers::number_below))]
 pub fn whole_number(text: &[u8], most: usize) -> Option<u128>
     requires { most ≤ 38 }

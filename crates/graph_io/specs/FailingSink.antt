@@ -19,13 +19,17 @@ most_a_put sink = sink.cap
 abbrev pub fails_at : FailingSink → List ℕ
 fails_at sink = sink.plan.fails
 
--- how many puts were made
+-- how many puts were made; it stays at 2^64 - 1
 abbrev pub puts_made : FailingSink → ℕ
 puts_made sink = sink.plan.calls
 
 -- how many puts failed
 abbrev pub fault_count : FailingSink → ℕ
 fault_count sink = sink.faults.count
+
+-- how many puts were made
+abbrev pub call_count : FailingSink → ℕ
+call_count sink = sink.calls.made
 
 -- the same puts fail, and the most bytes that a put takes are the same
 pub record HasSamePlan (old new : FailingSink) : Type 0 where

@@ -14,13 +14,17 @@ most_a_take source = source.cap
 abbrev pub fails_at : FailingSource → List ℕ
 fails_at source = source.plan.fails
 
--- how many takes were made
+-- how many takes were made; it stays at 2^64 - 1
 abbrev pub takes_made : FailingSource → ℕ
 takes_made source = source.plan.calls
 
 -- how many takes failed
 abbrev pub fault_count : FailingSource → ℕ
 fault_count source = source.faults.count
+
+-- how many takes were made
+abbrev pub call_count : FailingSource → ℕ
+call_count source = source.calls.made
 
 -- the same takes fail, and the most bytes that a take moves are the same
 pub record HasSamePlan (old new : FailingSource) : Type 0 where

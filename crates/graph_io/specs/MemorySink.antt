@@ -14,3 +14,7 @@ room_left sink = free_in sink.room
 -- how often a put failed
 abbrev pub fault_count : MemorySink → ℕ
 fault_count sink = sink.faults.count
+
+-- how many puts were made
+abbrev pub call_count : MemorySink → ℕ
+call_count sink = sink.calls.made

@@ -1,10 +1,11 @@
 //! A source and a sink over std's readers and writers.
-ghost use Rattle.std.specs.Prelude.{◌≡◌, ◌<◌, length, IfOk, Ok};
+ghost use Rattle.std.specs.Prelude.{◌≡◌, ◌+◌, ◌<◌, length, IfOk, Ok};
 ghost use Rattle.std.specs.Io.{ReadsAtMost, WritesAtMost};
 ghost use Rattle.std.specs.Io.KnownBytes.{ReadConsumes, WriteAppends};
 ghost use Rattle.graph_io.specs.Causes.{HasCause, CountsFault};
-ghost use Rattle.graph_io.specs.Adapters.{reader_of, read_faults, writer_of, write_faults};
+ghost use Rattle.graph_io.specs.Adapters.{reader_of, read_faults, read_calls, writer_of, write_faults, write_calls};
 
+use crate::calls::CallCount;
 use crate::faults::FaultCount;
 use crate::{Failed, Sink, Source};
 use std::io::{Read, Write};
@@ -14,6 +15,7 @@ use std::io::{Read, Write};
 pub struct StdSource<R> {
     inner: R,
     faults: FaultCount,
+    calls: CallCount,
 }
 
 impl<R> StdSource<R> {
@@ -21,10 +23,12 @@ impl<R> StdSource<R> {
     pub fn new(inner: R) -> StdSource<R>
         ensures inner { reader_of result ≡ inner }
         ensures faults { read_faults result ≡ 0 }
+        ensures calls { read_calls result ≡ 0 }
     {
         StdSource {
             inner,
             faults: FaultCount::new(),
+            calls: CallCount::new(),
         }
     }
 }
@@ -34,6 +38,8 @@ impl<R: Read> Source for StdSource<R> {
 
     ghost faults = { read_faults };
 
+    ghost calls = { read_calls };
+
     ghost counted = { λ s. s.faults.in_range };
 
     fn take(&mut self, buf: &mut [u8]) -> Result<usize, Failed>
@@ -41,9 +47,11 @@ impl<R: Read> Source for StdSource<R> {
         ensures bytes { ReadConsumes (R.remaining (reader_of self.old))
             (R.remaining (reader_of self.new)) result buf.new }
         ensures cause { HasCause (read_faults self.old) (read_faults self.new) result }
+        ensures turn { read_calls self.new ≡ read_calls self.old + 1 }
 
         ensures counted { CountsFault (read_faults self.old) (read_faults self.new) result }
     {
+        self.calls.rise();
         let moved = self.inner.read(buf).map_err(|_| Failed);
         self.faults.note(moved)
     }
@@ -55,6 +63,7 @@ impl<R: Read> Source for StdSource<R> {
 pub struct StdSink<W> {
     inner: W,
     faults: FaultCount,
+    calls: CallCount,
 }
 
 impl<W> StdSink<W> {
@@ -62,10 +71,12 @@ impl<W> StdSink<W> {
     pub fn new(inner: W) -> StdSink<W>
         ensures inner { writer_of result ≡ inner }
         ensures faults { write_faults result ≡ 0 }
+        ensures calls { write_calls result ≡ 0 }
     {
         StdSink {
             inner,
             faults: FaultCount::new(),
+            calls: CallCount::new(),
         }
     }
 }
@@ -75,6 +86,8 @@ impl<W: Write> Sink for StdSink<W> {
 
     ghost faults = { write_faults };
 
+    ghost calls = { write_calls };
+
     ghost counted = { λ s. s.faults.in_range };
 
     fn put(&mut self, bytes: &[u8]) -> Result<usize, Failed>
@@ -83,12 +96,14 @@ impl<W: Write> Sink for StdSink<W> {
         ensures bytes { WriteAppends (W.contents (writer_of self.old))
             (W.contents (writer_of self.new)) result bytes.now }
         ensures cause { HasCause (write_faults self.old) (write_faults self.new) result }
+        ensures turn { write_calls self.new ≡ write_calls self.old + 1 }
 
         ensures counted { CountsFault (write_faults self.old) (write_faults self.new) result }
 
         // An empty piece is put without asking the writer.
         ensures empty { length bytes.now ≡ 0 → result ≡ Ok 0 }
     {
+        self.calls.rise();
         if bytes.is_empty() {
             return Ok(0);
         }

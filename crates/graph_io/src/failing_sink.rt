@@ -1,6 +1,7 @@
 //! A sink in memory that fails by plan.
-ghost use Rattle.std.specs.Prelude.{◌≡◌, ◌⊎◌, ◌<◌, ◌≤◌, ◌↔◌, [], min, length, IfOk, IsErr, Some, Contains};
+ghost use Rattle.std.specs.Prelude.{◌≡◌, ◌+◌, ◌⊎◌, ◌<◌, ◌≤◌, ◌↔◌, [], min, length, IfOk, IsErr, Some, Contains};
 
+use crate::calls::CallCount;
 use crate::faults::FaultCount;
 use crate::plan::Plan;
 use crate::room::Room;
@@ -19,11 +20,12 @@ pub struct FailingSink {
     cap: usize,
     plan: Plan,
     faults: FaultCount,
+    calls: CallCount,
     ghost takes: { 0 < cap },
 }
 
 impl FailingSink {
-    ghost use Rattle.graph_io.specs.FailingSink.{held_bytes, room_left, most_a_put, fails_at, puts_made, fault_count};
+    ghost use Rattle.graph_io.specs.FailingSink.{held_bytes, room_left, most_a_put, fails_at, puts_made, fault_count, call_count};
 
     /// An empty sink that takes at most `cap` bytes a put, at least 1, and fails at the puts whose numbers, from 1, stand
     /// in `fails`; or `NoMemory`.
@@ -35,12 +37,14 @@ impl FailingSink {
         ensures fails { IfOk result (λ sink. fails_at sink ≡ fails) }
         ensures puts { IfOk result (λ sink. puts_made sink ≡ 0) }
         ensures faults { IfOk result (λ sink. fault_count sink ≡ 0) }
+        ensures calls { IfOk result (λ sink. call_count sink ≡ 0) }
     {
         Ok(FailingSink {
             room: Room::new(alloc, ROOM)?,
             cap,
             plan: Plan::new(fails),
             faults: FaultCount::new(),
+            calls: CallCount::new(),
         })
     }
 
@@ -58,11 +62,22 @@ impl Sink for FailingSink {
     ghost use Rattle.graph_io.specs.Causes.{HasCause, CountsFault};
     ghost use Rattle.graph_io.specs.Room.{TakesRoom};
     ghost use Rattle.graph_io.specs.Plan.{call_number};
-    ghost use Rattle.graph_io.specs.FailingSink.{held_bytes, room_left, most_a_put, fails_at, puts_made, fault_count, HasSamePlan};
+    ghost use Rattle.graph_io.specs.FailingSink.{
+      held_bytes,
+      room_left,
+      most_a_put,
+      fails_at,
+      puts_made,
+      fault_count,
+      call_count,
+      HasSamePlan,
+    };
 
     ghost held = { λ s. Some (held_bytes s) };
 
     ghost faults = { fault_count };
+
+    ghost calls = { call_count };
 
     ghost counted = { λ s. s.faults.in_range };
 
@@ -72,6 +87,7 @@ impl Sink for FailingSink {
         ensures bytes { WriteAppends (Some (held_bytes self.old)) (Some (held_bytes self.new))
             result bytes.now }
         ensures cause { HasCause (fault_count self.old) (fault_count self.new) result }
+        ensures turn { call_count self.new ≡ call_count self.old + 1 }
 
         // The puts whose numbers stand in the list fail, those of some bytes with no room left fail,
         // and no others.
@@ -86,6 +102,7 @@ impl Sink for FailingSink {
             n ≡ min (length bytes.now) (min (most_a_put self.old) (room_left self.old))) }
         ensures room { TakesRoom (room_left self.old) (room_left self.new) result }
     {
+        self.calls.rise();
         let taken = if self.plan.next_fails() {
             Err(Failed)
         } else {

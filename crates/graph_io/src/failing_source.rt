@@ -1,6 +1,7 @@
 //! A source in memory that fails by plan.
-ghost use Rattle.std.specs.Prelude.{◌≡◌, ◌<◌, ◌≤◌, ◌↔◌, min, length, drop, IfOk, OnErr, IsErr, Some, Contains};
+ghost use Rattle.std.specs.Prelude.{◌≡◌, ◌+◌, ◌<◌, ◌≤◌, ◌↔◌, min, length, drop, IfOk, OnErr, IsErr, Some, Contains};
 
+use crate::calls::CallCount;
 use crate::faults::FaultCount;
 use crate::plan::Plan;
 use crate::remaining::Remaining;
@@ -15,11 +16,12 @@ pub struct FailingSource {
     cap: usize,
     plan: Plan,
     faults: FaultCount,
+    calls: CallCount,
     ghost moves: { 0 < cap },
 }
 
 impl FailingSource {
-    ghost use Rattle.graph_io.specs.FailingSource.{bytes_left, most_a_take, fails_at, takes_made, fault_count};
+    ghost use Rattle.graph_io.specs.FailingSource.{bytes_left, most_a_take, fails_at, takes_made, fault_count, call_count};
 
     /// A source of these bytes that moves at most `cap` of them a take, at least 1, and fails at the takes whose numbers,
     /// from 1, stand in `fails`.
@@ -30,12 +32,14 @@ impl FailingSource {
         ensures fails { fails_at result ≡ fails }
         ensures takes { takes_made result ≡ 0 }
         ensures faults { fault_count result ≡ 0 }
+        ensures calls { call_count result ≡ 0 }
     {
         FailingSource {
             rest: Remaining::new(bytes),
             cap,
             plan: Plan::new(fails),
             faults: FaultCount::new(),
+            calls: CallCount::new(),
         }
     }
 }
@@ -45,11 +49,21 @@ impl Source for FailingSource {
     ghost use Rattle.std.specs.Io.KnownBytes.{ReadConsumes};
     ghost use Rattle.graph_io.specs.Causes.{HasCause, CountsFault};
     ghost use Rattle.graph_io.specs.Plan.{call_number};
-    ghost use Rattle.graph_io.specs.FailingSource.{bytes_left, most_a_take, fails_at, takes_made, fault_count, HasSamePlan};
+    ghost use Rattle.graph_io.specs.FailingSource.{
+      bytes_left,
+      most_a_take,
+      fails_at,
+      takes_made,
+      fault_count,
+      call_count,
+      HasSamePlan,
+    };
 
     ghost left = { λ s. Some (bytes_left s) };
 
     ghost faults = { fault_count };
+
+    ghost calls = { call_count };
 
     ghost counted = { λ s. s.faults.in_range };
 
@@ -58,6 +72,7 @@ impl Source for FailingSource {
         ensures bytes { ReadConsumes (Some (bytes_left self.old)) (Some (bytes_left self.new))
             result buf.new }
         ensures cause { HasCause (fault_count self.old) (fault_count self.new) result }
+        ensures turn { call_count self.new ≡ call_count self.old + 1 }
 
         // The takes whose numbers stand in the list fail, and no others.
         ensures fails { IsErr result
@@ -71,6 +86,7 @@ impl Source for FailingSource {
         ensures beyond { IfOk result (λ n. drop n buf.new ≡ drop n buf.old) }
         ensures unmoved { OnErr result (buf.new ≡ buf.old) }
     {
+        self.calls.rise();
         let moved = if self.plan.next_fails() {
             Err(Failed)
         } else {

@@ -1,7 +1,7 @@
 //! Where bytes come from and go to: sources and sinks, and whole inputs and outputs; keepers of looks.
 //!
 //! Proved:
-//! - `read_all`: `whole`, `ended`, `taken`, `later`, `clean`. `write_all`: `bytes`, `cause`.
+//! - `read_all`: `whole`, `ended`, `taken`, `later`, `clean`, `turns`. `write_all`: `bytes`, `cause`, `turns`.
 //! - `MemorySource`, `MemorySink`, and `FailingSource` and `FailingSink`, whose constructors say which takes and puts
 //!   fail. `MemoryKeeper` and `FailingKeeper`, which keep looks in memory, and fail by plan.
 //!
@@ -10,6 +10,7 @@
 #![tactic(auto)]
 
 mod adapters;
+mod calls;
 mod failing_keeper;
 mod failing_sink;
 mod failing_source;

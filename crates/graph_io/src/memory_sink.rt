@@ -1,6 +1,7 @@
 //! A sink in memory.
-ghost use Rattle.std.specs.Prelude.{◌≡◌, ◌<◌, ◌↔◌, [], min, length, IfOk, IsErr, Some};
+ghost use Rattle.std.specs.Prelude.{◌≡◌, ◌+◌, ◌<◌, ◌↔◌, [], min, length, IfOk, IsErr, Some};
 
+use crate::calls::CallCount;
 use crate::faults::FaultCount;
 use crate::room::Room;
 use crate::{Failed, Sink};
@@ -13,20 +14,23 @@ use std::alloc::Global;
 pub struct MemorySink {
     room: Room,
     faults: FaultCount,
+    calls: CallCount,
 }
 
 impl MemorySink {
-    ghost use Rattle.graph_io.specs.MemorySink.{held_bytes, room_left, fault_count};
+    ghost use Rattle.graph_io.specs.MemorySink.{held_bytes, room_left, fault_count, call_count};
 
     /// An empty sink with room for so many bytes, or `NoMemory`.
     pub fn with_room(alloc: Global, bytes: usize) -> Result<MemorySink, NoMemory>
         ensures empty { IfOk result (λ sink. held_bytes sink ≡ []) }
         ensures room { IfOk result (λ sink. room_left sink ≡ bytes) }
         ensures faults { IfOk result (λ sink. fault_count sink ≡ 0) }
+        ensures calls { IfOk result (λ sink. call_count sink ≡ 0) }
     {
         Ok(MemorySink {
             room: Room::new(alloc, bytes)?,
             faults: FaultCount::new(),
+            calls: CallCount::new(),
         })
     }
 
@@ -42,12 +46,14 @@ impl Sink for MemorySink {
     ghost use Rattle.std.specs.Io.{WritesAtMost};
     ghost use Rattle.std.specs.Io.KnownBytes.{WriteAppends};
     ghost use Rattle.graph_io.specs.Causes.{HasCause, CountsFault};
-    ghost use Rattle.graph_io.specs.MemorySink.{held_bytes, room_left, fault_count};
+    ghost use Rattle.graph_io.specs.MemorySink.{held_bytes, room_left, fault_count, call_count};
     ghost use Rattle.graph_io.specs.Room.{TakesRoom};
 
     ghost held = { λ s. Some (held_bytes s) };
 
     ghost faults = { fault_count };
+
+    ghost calls = { call_count };
 
     ghost counted = { λ s. s.faults.in_range };
 
@@ -57,6 +63,7 @@ impl Sink for MemorySink {
         ensures bytes { WriteAppends (Some (held_bytes self.old)) (Some (held_bytes self.new))
             result bytes.now }
         ensures cause { HasCause (fault_count self.old) (fault_count self.new) result }
+        ensures turn { call_count self.new ≡ call_count self.old + 1 }
 
         // Only a piece that isn't empty, where no room is left, fails.
         ensures fails { IsErr result ↔ ((room_left self.old ≡ 0) × (0 < length bytes.now)) }
@@ -64,6 +71,7 @@ impl Sink for MemorySink {
         ensures room { TakesRoom (room_left self.old) (room_left self.new) result }
         ensures counted { CountsFault (fault_count self.old) (fault_count self.new) result }
     {
+        self.calls.rise();
         let taken = self.room.put(bytes, bytes.len());
         self.faults.note(taken)
     }

@@ -1,5 +1,5 @@
 //! Sources, and reading one to its end.
-ghost use Rattle.std.specs.Prelude.{◌≡◌, ℕ, ◌≤◌, ◌<◌, ◌^◌, List as Seq, IfOk, IfErr};
+ghost use Rattle.std.specs.Prelude.{◌≡◌, ℕ, ◌+◌, ◌≤◌, ◌<◌, ◌^◌, List as Seq, IfOk, IfErr};
 ghost use Rattle.std.specs.declared.option.Option.{Option};
 ghost use Rattle.std.specs.Io.{ReadsAtMost};
 ghost use Rattle.std.specs.Io.KnownBytes.{ReadConsumes};
@@ -39,12 +39,16 @@ pub trait Source {
     /// How often a call failed.
     ghost faults: { Self → ℕ };
 
+    /// How many calls were made.
+    ghost calls: { Self → ℕ };
+
     /// Moves the next bytes into the front of `buf`, and says how many. 0, where `buf` has room, means the end. A failed
     /// call moves nothing.
     fn take(&mut self, buf: &mut [u8]) -> Result<usize, Failed>
         ensures bound { ReadsAtMost result buf.new }
         ensures bytes { ReadConsumes (left self.old) (left self.new) result buf.new }
-        ensures cause { HasCause (faults self.old) (faults self.new) result };
+        ensures cause { HasCause (faults self.old) (faults self.new) result }
+        ensures turn { calls self.new ≡ calls self.old + 1 };
 
     /// The count of faults is a `u64`.
     ghost counted: { (s : Self) → faults s < 2 ^ 64 };
@@ -55,7 +59,7 @@ pub trait Source {
 ///
 /// `Fault` comes only where the source's count of faults rose; with each other answer the count stays.
 /// `TooLong` comes only where just `limit + 1` bytes were taken. Before `Fault` at most `limit` bytes were taken, before
-/// `NoMemory` at most `limit + 1`.
+/// `NoMemory` at most `limit + 1`. At most `limit + 2` takes are made.
 pub fn read_all<S: Source>(alloc: Global, source: &mut S, limit: u64) -> Result<List<u8>, ReadEnd>
     requires { limit ≤ 4194304 }
     ensures whole { IfOk result (ReadWhole limit (S.left source.old) (S.left source.new)) }
@@ -66,6 +70,7 @@ pub fn read_all<S: Source>(alloc: Global, source: &mut S, limit: u64) -> Result<
         (λ end. TookAtMost (S.left source.old) (S.left source.new) (most_taken limit end)) }
     ensures later { S.faults source.old ≤ S.faults source.new }
     ensures clean { IsClean (S.faults source.old) (S.faults source.new) result }
+    ensures turns { S.calls source.new ≤ S.calls source.old + (limit + 2) }
 {
     let most = limit as usize;
     let mut read = List::new(alloc);

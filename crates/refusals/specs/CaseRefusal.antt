@@ -8,7 +8,7 @@ use Rattle.case_model.specs.declared.fault.CaseFault.TheVariants.{NoHypothesis, 
 use Rattle.case_model.specs.declared.fault.CaseFault.TheVariants.{AlphaRange, ShareRange, ShareSum, WeightCount, WeightRange, WeightSum, SelfEdge, RepeatedEdge}
 use Rattle.case_model.specs.declared.fault.CaseFault.TheVariants.{EdgeRange, RowSum, Mixed, PCount, PMissing, PRange, NoStage, TooManyStages, SpendCount}
 use Rattle.case_model.specs.declared.fault.CaseFault.TheVariants.{TooManySteps, StepOrder, SpendRange, SpendSum, ArrivalStage, ArrivalRepeated, ArrivalRange}
-use Rattle.case_model.specs.declared.fault.CaseFault.TheVariants.{Wide}
+use Rattle.case_model.specs.declared.fault.CaseFault.TheVariants.{Wide, NoMemory}
 use Rattle.answers.specs.declared.refusal.Refusal.{Refusal}
 use Rattle.refusals.specs.declared.wide.When.TheVariants.{Reading}
 use Rattle.refusals.specs.LinePieces.{counted, name_at, two_names, in_component, malformed_at, past_limit}
@@ -25,7 +25,7 @@ part_words names (Spend i t) = codes "spend of " ++ name_at names i ++ codes " s
 part_words names (Step i n) = codes "step " ++ counted n ++ codes " of " ++ name_at names i
 part_words names (Arrival n) = codes "arrival " ++ counted n
 
--- what is wrong with a case that is malformed; hypotheses, components, stages, steps and arrivals are counted from 1
+-- What is wrong with a case that is malformed. Hypotheses, components, stages, steps and arrivals are counted from 1. Of other faults it says nothing.
 unfoldable pub case_kind : List (List ℕ) → CaseFault → List ℕ
 case_kind names NoHypothesis = codes "no hypothesis"
 case_kind names (NameForm i) = codes "name " ++ counted i
@@ -53,10 +53,19 @@ case_kind names (SpendSum i) = codes "spend sum of " ++ name_at names i
 case_kind names (ArrivalStage n) = codes "arrival " ++ counted n ++ codes " stage"
 case_kind names (ArrivalRepeated n) = codes "arrival " ++ counted n ++ codes " repeated"
 case_kind names (ArrivalRange n) = codes "arrival " ++ counted n ++ codes " p"
-case_kind names fault = []
+case_kind names (TooMany n) = []
+case_kind names (TooManyComponents n) = []
+case_kind names (TooManyStages n) = []
+case_kind names (TooManySteps i n) = []
+case_kind names (PartTooLong place) = []
+case_kind names (Wide wide) = []
+case_kind names NoMemory = []
 
--- The line of a fault. All faults without a row of their own are of malformed cases. Want of memory is no fault of a draft: no line is given where it is
--- the fault.
+-- a case that is malformed
+abbrev pub malformed_case : List (List ℕ) → CaseFault → Refusal
+malformed_case names fault = malformed_at (codes "case") (case_kind names fault)
+
+-- The line of a fault. To be out of memory is not a fault of a draft: no line is given of it.
 unfoldable pub case_refusal : List (List ℕ) → CaseFault → Refusal
 case_refusal names (TooMany n) = past_limit (codes "hypotheses " ++ decimal n)
 case_refusal names (TooManyComponents n) = past_limit (codes "components " ++ decimal n)
@@ -64,4 +73,30 @@ case_refusal names (TooManyStages n) = past_limit (codes "stages " ++ decimal n)
 case_refusal names (TooManySteps i n) = past_limit (codes "spend steps " ++ decimal n)
 case_refusal names (PartTooLong place) = past_limit (codes "case: part " ++ part_words names place)
 case_refusal names (Wide wide) = wide_refusal names Reading wide
-case_refusal names fault = malformed_at (codes "case") (case_kind names fault)
+case_refusal names NoHypothesis = malformed_case names NoHypothesis
+case_refusal names (NameForm i) = malformed_case names (NameForm i)
+case_refusal names (DuplicateName i) = malformed_case names (DuplicateName i)
+case_refusal names NoComponent = malformed_case names NoComponent
+case_refusal names AlphaRange = malformed_case names AlphaRange
+case_refusal names (ShareRange c) = malformed_case names (ShareRange c)
+case_refusal names ShareSum = malformed_case names ShareSum
+case_refusal names (WeightCount c) = malformed_case names (WeightCount c)
+case_refusal names (WeightRange c i) = malformed_case names (WeightRange c i)
+case_refusal names (WeightSum c) = malformed_case names (WeightSum c)
+case_refusal names (SelfEdge c i) = malformed_case names (SelfEdge c i)
+case_refusal names (RepeatedEdge c i j) = malformed_case names (RepeatedEdge c i j)
+case_refusal names (EdgeRange c i j) = malformed_case names (EdgeRange c i j)
+case_refusal names (RowSum c i) = malformed_case names (RowSum c i)
+case_refusal names Mixed = malformed_case names Mixed
+case_refusal names (PCount n) = malformed_case names (PCount n)
+case_refusal names (PMissing i) = malformed_case names (PMissing i)
+case_refusal names (PRange i) = malformed_case names (PRange i)
+case_refusal names NoStage = malformed_case names NoStage
+case_refusal names (SpendCount i) = malformed_case names (SpendCount i)
+case_refusal names (StepOrder i n) = malformed_case names (StepOrder i n)
+case_refusal names (SpendRange i t) = malformed_case names (SpendRange i t)
+case_refusal names (SpendSum i) = malformed_case names (SpendSum i)
+case_refusal names (ArrivalStage n) = malformed_case names (ArrivalStage n)
+case_refusal names (ArrivalRepeated n) = malformed_case names (ArrivalRepeated n)
+case_refusal names (ArrivalRange n) = malformed_case names (ArrivalRange n)
+case_refusal names NoMemory = malformed_case names NoMemory

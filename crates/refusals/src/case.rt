@@ -92,7 +92,7 @@ fn put_part(text: &mut List<u8>, names: &[Text], place: PartPlace) -> Result<(),
     }
 }
 
-/// Appends what is wrong with a case that is malformed; nothing where its fault is another.
+/// Appends what is wrong with a case that is malformed. It appends nothing where its fault is another.
 #[tactic(auto, unfolding(crate::specs::CaseRefusal::case_kind))]
 fn put_kind(text: &mut List<u8>, names: &[Text], fault: &CaseFault) -> Result<(), NoMemory>
     ensures { OnOk result (text.new ≡ text.old ++ case_kind names.now fault.now) }
@@ -179,6 +179,31 @@ pub fn case_refusal(alloc: Global, names: &[Text], fault: &CaseFault) -> Result<
         CaseFault::PartTooLong(place) => too_long(alloc, names, place),
         CaseFault::Wide(wide) => wide_refusal(alloc, names, When::Reading, &wide),
         CaseFault::NoMemory => Err(NoMemory),
-        _ => malformed_case(alloc, names, fault),
+        CaseFault::NoHypothesis
+        | CaseFault::NameForm(_)
+        | CaseFault::DuplicateName(_)
+        | CaseFault::NoComponent
+        | CaseFault::AlphaRange
+        | CaseFault::ShareRange(_)
+        | CaseFault::ShareSum
+        | CaseFault::WeightCount(_)
+        | CaseFault::WeightRange(_, _)
+        | CaseFault::WeightSum(_)
+        | CaseFault::SelfEdge(_, _)
+        | CaseFault::RepeatedEdge(_, _, _)
+        | CaseFault::EdgeRange(_, _, _)
+        | CaseFault::RowSum(_, _)
+        | CaseFault::Mixed
+        | CaseFault::PCount(_)
+        | CaseFault::PMissing(_)
+        | CaseFault::PRange(_)
+        | CaseFault::NoStage
+        | CaseFault::SpendCount(_)
+        | CaseFault::StepOrder(_, _)
+        | CaseFault::SpendRange(_, _)
+        | CaseFault::SpendSum(_)
+        | CaseFault::ArrivalStage(_)
+        | CaseFault::ArrivalRepeated(_)
+        | CaseFault::ArrivalRange(_) => { malformed_case(alloc, names, fault) }
     }
 }

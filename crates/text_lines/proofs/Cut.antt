@@ -32,7 +32,7 @@ pub lines_nil : lines_of [] ≡ []
 unfolding lines_of
 lines_nil = refl
 
--- the first line, and what is left behind its line feed
+-- the first line, and what is left after its line feed
 pub lines_cut : (bytes : List ℕ) → 0 < length bytes
     → lines_of bytes ≡ strip_carriage_return (before_first is_line_feed bytes) ∷ lines_of (after_first is_line_feed bytes)
 unfolding lines_of
@@ -101,7 +101,7 @@ words_cut line h =
           ∙ ap₂ (λ (x : List ℕ) (y : List ℕ). x ∷ words_of y) (sym front) (sym rest)
     ]
 
--- what comes behind blanks begins with a word, or is nothing
+-- what comes after blanks begins with a word, or is nothing
 pub after_blanks_is : (line : List ℕ) → (after_blanks line ≡ []) ⊎ (0 < position_or_len is_blank (after_blanks line))
 unfolding after_blanks
 after_blanks_is [] = inl refl

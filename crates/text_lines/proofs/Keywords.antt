@@ -1,4 +1,4 @@
--- What the first words of a line tell.
+-- What the first words of a line say.
 use Rattle.std.proofs.Common.{◌≡◌, inl, inr, ℕ, true, false, List, [], ◌∷◌, length, Some, None, arith}
 use Rattle.std.specs.Str.{bytes_eq}
 use Rattle.std.proofs.lemmas.Bool.{cases_Bool}
@@ -11,7 +11,7 @@ same w keyword e = (bytes_eq-Decides w keyword).0 e
 apart : (w keyword : List ℕ) → bytes_eq w keyword ≡ false → ¬ (w ≡ keyword)
 apart w keyword e h = let k : bytes_eq w keyword ≡ true = (bytes_eq-Decides w keyword).1 h in cc
 
--- what stands behind the keyword
+-- what stands after the keyword
 pub keyword_found : (keyword : List ℕ) (words rest : List (List ℕ)) → Some rest ≡ words_behind keyword words → words ≡ keyword ∷ rest
 keyword_found keyword [] rest h = absurd (cc)
 keyword_found keyword (w ∷ ws) rest h = elim (cases_Bool (bytes_eq w keyword)) [

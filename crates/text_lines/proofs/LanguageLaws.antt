@@ -1,4 +1,4 @@
--- Languages of lines have one reading, and the first fault is where no document goes on.
+-- Languages of lines have one reading, and the first fault is where no document continues.
 use Rattle.std.proofs.Common.{◌≡◌, ℕ, ◌⊎◌, inl, inr, List, [], ◌∷◌, ◌++◌, Result, Ok, Err, refl, sym, ap, subst}
 use Rattle.std.proofs.Common.{◌∙◌, append_assoc}
 use Rattle.text_lines.specs.Lines.{Row, texts_in}
@@ -103,7 +103,7 @@ module _ {Place Said Kind : Type 0} (L : Language Place Said Kind) where
       → IsBadLine L place rows fault ⊎ IsEndedEarly L place rows end fault
   read_faults place rows end fault e = subst (Reads place rows end) e (reads place rows end)
 
-  -- ---- where no document goes on
+  -- ---- where no document continues
 
   pub lead_begins : (start here : Place) (lines : List (List ℕ)) → Completes L start → Lead L start lines here → Begins L start lines
   lead_begins start here lines complete h =

@@ -31,7 +31,7 @@ keep_word : (word : List ℕ) (words : List (List ℕ)) → 0 < length word → 
 keep_word [] words h = absurd (omega arith)
 keep_word (b ∷ word) words h = refl
 
--- a word, a blank and what stands behind it
+-- a word, a blank and what stands after it
 pub words_of_word : (b : ℕ) (word rest : List ℕ) → is_blank b ≡ true → IsWord word → words_of (word ++ b ∷ rest) ≡ word ∷ words_of rest
 unfolding words_of
 words_of_word b word rest e h = ap (filter is_word) (split_word b word rest e h.plain) ∙ keep_word word (slice_split is_blank rest) h.some
@@ -68,7 +68,7 @@ drop_word : (word rest : List ℕ) → drop (length word) (word ++ rest) ≡ res
 drop_word [] rest = refl
 drop_word (b ∷ word) rest = drop_word word rest
 
--- what stands behind a word begins with the blank
+-- what stands after a word begins with the blank
 pub behind_spelt : (b : ℕ) (word rest : List ℕ) → is_blank b ≡ true → IsWord word → behind_word (word ++ b ∷ rest) ≡ b ∷ rest
 unfolding behind_word
 behind_spelt b word rest e h =
@@ -84,7 +84,7 @@ pub behind_blank : (b : ℕ) (rest : List ℕ) → is_blank b ≡ true → behin
 unfolding behind_word
 behind_blank b rest e = ap (λ (line : List ℕ). drop (position_or_len is_blank line) line) (after_blank b rest e)
 
--- nor does one at the end, which has an empty part behind it
+-- nor does one at the end, which has an empty part after it
 onto_append : (c : ℕ) (parts more : List (List ℕ)) → 0 < length parts → onto_first c (parts ++ more) ≡ onto_first c parts ++ more
 onto_append c [] more h = absurd (omega (arith, h))
 onto_append c (part ∷ parts) more h = refl

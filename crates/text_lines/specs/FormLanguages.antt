@@ -5,7 +5,7 @@ use Rattle.text_lines.specs.Lines.{Row}
 use Rattle.text_lines.specs.Words.{words_of}
 use Rattle.text_lines.specs.Languages.{Language, FaultAt, on_line}
 
--- What a line says at a place, or what is wrong with it; the place behind it; whether nothing more must follow, and the fault where something must.
+-- What a line says at a place, or what is wrong with it; the place after it; whether nothing more must follow, and the fault where something must.
 pub record FormLanguage (Place Form Kind : Type 0) : Type 0 where
   pub read : Place → List (List ℕ) → Result Form Kind
   pub next : Place → Form → Place

@@ -3,7 +3,7 @@ use Rattle.std.specs.Prelude.{◌≡◌, ◌⊎◌, ◌↔◌, ℕ, List, [], �
 use Rattle.text_lines.specs.Lines.{Row, texts_in}
 use Rattle.text_lines.specs.Languages.{Language, FaultAt, reading, Lead, IsDocument, Begins}
 
--- All lines before one may stand, and this is what is wrong with that line.
+-- All lines before one are allowed, and this is what is wrong with that line.
 pub record IsBadLine {Place Said Kind : Type 0} (L : Language Place Said Kind) (start : Place) (rows : List Row) (fault : FaultAt Kind) : Type 0 where
   pub before : List Row
   pub row : Row
@@ -14,7 +14,7 @@ pub record IsBadLine {Place Said Kind : Type 0} (L : Language Place Said Kind) (
   pub bad : L.step here row.text ≡ Err fault.kind
   pub line_is : fault.line ≡ row.number
 
--- All lines may stand, and the text can't end with them.
+-- All lines are allowed, and the text can't end with them.
 pub record IsEndedEarly {Place Said Kind : Type 0} (L : Language Place Said Kind) (start : Place) (rows : List Row) (end : ℕ)
     (fault : FaultAt Kind) : Type 0 where
   pub here : Place
@@ -37,7 +37,7 @@ pub record IsUnfinished {Place Said Kind : Type 0} (L : Language Place Said Kind
   pub begins : Begins L start (texts_in rows)
   pub refused : (said : Said) → ¬ IsDocument L start (texts_in rows) said
 
--- the first fault of lines: a line that can't stand, behind lines that may; or lines with which a text can't end
+-- the first fault of lines: a line that isn't allowed, after lines that are; or lines with which a text can't end
 abbrev pub HasFault : {Place Said Kind : Type 0} → Language Place Said Kind → Place → List Row → ℕ → FaultAt Kind → Type 0
 HasFault L start rows end fault = IsBadLine L start rows fault ⊎ IsEndedEarly L start rows end fault
 
@@ -53,7 +53,7 @@ pub record AreReadAs {Place Said Kind : Type 0} (L : Language Place Said Kind) (
   pub says : (x : Said) → (reading L start rows end ≡ Ok x) ↔ IsDocument L start (texts_in rows) x
   pub fails : (f : FaultAt Kind) → (reading L start rows end ≡ Err f) ↔ HasFault L start rows end f
 
--- The first fault is where no document goes on.
+-- The first fault is where no document continues.
 pub record FaultsEndDocuments {Place Said Kind : Type 0} (L : Language Place Said Kind) (start : Place) (rows : List Row) (end : ℕ) : Type 0 where
   pub there : (f : FaultAt Kind) → HasFault L start rows end f → IsWhereNoneGoesOn L start rows f.line ⊎ ((f.line ≡ end) × IsUnfinished L start rows)
   pub line : (number : ℕ) → IsWhereNoneGoesOn L start rows number → (kind : Kind) × HasFault L start rows end (record { line = number; kind = kind })

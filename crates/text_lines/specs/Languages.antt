@@ -3,7 +3,7 @@ use Rattle.std.specs.Prelude.{◌≡◌, ℕ, List, [], ◌∷◌, ◌++◌, Res
 use Rattle.field_core.specs.Answers.{and_then}
 use Rattle.text_lines.specs.Lines.{Row}
 
--- What comes behind a line that stands at a place, or what is wrong with it; and what a text says that ends at a place, or what is wrong with that.
+-- The place after a line at a place, or what is wrong with the line; and what a text reads as that ends at a place, or what is wrong with that.
 pub record Language (Place Said Kind : Type 0) : Type 0 where
   pub step : Place → List ℕ → Result Place Kind
   pub end : Place → Result Said Kind
@@ -18,17 +18,17 @@ abbrev pub on_line : {A Kind : Type 0} → ℕ → Result A Kind → Result A (F
 on_line number (Ok x) = Ok x
 on_line number (Err kind) = Err (record { line = number; kind = kind })
 
--- what lines say from a place on, or the first fault; `end` is the number of the line behind the last one
+-- what lines say from a place on, or the first fault; `end` is the number of the line after the last one
 abbrev pub reading : {Place Said Kind : Type 0} → Language Place Said Kind → Place → List Row → ℕ → Result Said (FaultAt Kind)
 reading L place [] end = on_line end (L.end place)
 reading L place (row ∷ rows) end = and_then (on_line row.number (L.step place row.text)) (λ next. reading L next rows end)
 
--- the lines may stand, one behind the other, from the first place on, and lead to the second
+-- the lines are allowed, one after the other, from the first place on, and lead to the second
 abbrev pub Lead : {Place Said Kind : Type 0} → Language Place Said Kind → Place → List (List ℕ) → Place → Type 0
 Lead L place [] here = here ≡ place
 Lead {Place} L place (line ∷ lines) here = (next : Place) × (L.step place line ≡ Ok next) × Lead L next lines here
 
--- the lines may stand, from this place on, and the text that ends with them says this
+-- the lines are allowed, from this place on, and the text that ends with them reads as this
 pub record IsDocument {Place Said Kind : Type 0} (L : Language Place Said Kind) (start : Place) (lines : List (List ℕ)) (said : Said) : Type 0 where
   pub here : Place
   pub lead : Lead L start lines here
@@ -40,7 +40,7 @@ pub record Begins {Place Said Kind : Type 0} (L : Language Place Said Kind) (sta
   pub said : Said
   pub is : IsDocument L start (lines ++ more) said
 
--- from each place that lines lead to, a document goes on
+-- from each place that lines lead to, a document continues
 abbrev pub Completes : {Place Said Kind : Type 0} → Language Place Said Kind → Place → Type 0
 Completes {Place} {Said} L start = (lines : List (List ℕ)) (here : Place) → Lead L start lines here
     → (more : List (List ℕ)) × (said : Said) × IsDocument L here more said

@@ -8,7 +8,7 @@ use Rattle.text_lines.specs.Words.{after_blanks}
 abbrev pub is_line_feed : ℕ → Bool
 is_line_feed b = b == 10
 
--- all parts but an empty last one: what stands behind the last line feed is a line only where it has a byte
+-- all parts but an empty last one: what stands after the last line feed is a line only where it has a byte
 abbrev pub whole_lines : List (List ℕ) → List (List ℕ)
 whole_lines [] = []
 whole_lines ([] ∷ []) = []
@@ -42,7 +42,7 @@ kept_after n (line ∷ lines) = if is_skipped line then kept_after (n + 1) lines
 abbrev pub rows_of : List ℕ → List Row
 rows_of bytes = kept_after 0 (lines_of bytes)
 
--- the number of the line that would stand behind the last one
+-- the number of the line that would stand after the last one
 abbrev pub end_of : List ℕ → ℕ
 end_of bytes = length (lines_of bytes) + 1
 
@@ -61,6 +61,6 @@ pub record Remainder : Type 0 where
 unfoldable pub rows_left : Remainder → List Row
 rows_left r = kept_after r.before (lines_of r.text)
 
--- the number of the line that would stand behind the last one
+-- the number of the line that would stand after the last one
 unfoldable pub end_at : Remainder → ℕ
 end_at r = r.before + length (lines_of r.text) + 1

@@ -1,4 +1,4 @@
--- Words as text: one blank between words, a line feed behind each line.
+-- Words as text: one blank between words, a line feed after each line.
 use Rattle.std.specs.Prelude.{◌≢◌, ◌<◌, ℕ, ◌+◌, List, [], ◌∷◌, ◌++◌, length}
 use Rattle.std.specs.List.{flat_map, AllByRecursion}
 use Rattle.text_lines.specs.Lines.{Row}

@@ -23,16 +23,16 @@ words_of line = filter is_word (slice_split is_blank line)
 unfoldable pub after_blanks : List ℕ → List ℕ
 after_blanks line = drop (prefix_len is_blank line) line
 
--- what stands behind the first word of a line
+-- what stands after the first word of a line
 unfoldable pub behind_word : List ℕ → List ℕ
 behind_word line = drop (position_or_len is_blank (after_blanks line)) (after_blanks line)
 
--- what stands behind its first n words
+-- what stands after its first n words
 abbrev pub behind_words : ℕ → List ℕ → List ℕ
 behind_words zero line = line
 behind_words (suc n) line = behind_words n (behind_word line)
 
--- the words behind the keyword, where that is the first
+-- the words after the keyword, where that is the first
 abbrev pub words_behind : List ℕ → List (List ℕ) → Option (List (List ℕ))
 words_behind keyword [] = None
 words_behind keyword (w ∷ ws) = if bytes_eq w keyword then Some ws else None

@@ -5,7 +5,7 @@ ghost use Rattle.text_lines.specs.Lines.{rows_of};
 ghost use Rattle.text_lines.specs.Words.{is_blank, words_of, behind_word};
 ghost use Rattle.text_lines.specs.Spelling.{line_spelt, text_of, numbered, IsWord, IsLine};
 
-/// Lines of words, spelt with one blank between words and a line feed behind each line, read back as these lines with
+/// Lines of words, spelt with one blank between words and a line feed after each line, read back as these lines with
 /// their numbers, and each as its words.
 #[tactic(auto, using(crate::proofs::Spelt::rows_of_text, crate::proofs::Spelt::words_of_line))]
 pub fn spelt_lines_read_back()
@@ -13,12 +13,14 @@ pub fn spelt_lines_read_back()
     ensures words { (words : List (List ℕ)) → AllByRecursion IsWord words → words_of (line_spelt words) ≡ words }
 {}
 
-/// The first word is what stands before the first blank, a space or a tab. All behind it is the rest of the line, and blanks in
-/// front of that, or at the end of a line, change no word.
+/// The first word is what stands before the first blank, a space or a tab. All after it is the rest of the line, and
+/// blanks in front of that, or at the end of a line, change no word.
 #[tactic(auto, using(crate::proofs::Spelt::words_of_word, crate::proofs::Spelt::behind_spelt, crate::proofs::Cut::words_blank, crate::proofs::Spelt::behind_blank, crate::proofs::Spelt::words_before_blank))]
 pub fn words_end_at_blanks()
-    ensures word { (b : ℕ) (word rest : List ℕ) → is_blank b ≡ true → IsWord word → words_of (word ++ b ∷ rest) ≡ word ∷ words_of rest }
-    ensures rest { (b : ℕ) (word rest : List ℕ) → is_blank b ≡ true → IsWord word → behind_word (word ++ b ∷ rest) ≡ b ∷ rest }
+    ensures word { (b : ℕ) (word rest : List ℕ) → is_blank b ≡ true → IsWord word
+        → words_of (word ++ b ∷ rest) ≡ word ∷ words_of rest }
+    ensures rest { (b : ℕ) (word rest : List ℕ) → is_blank b ≡ true → IsWord word
+        → behind_word (word ++ b ∷ rest) ≡ b ∷ rest }
     ensures blank_word { (b : ℕ) (rest : List ℕ) → is_blank b ≡ true → words_of (b ∷ rest) ≡ words_of rest }
     ensures blank_rest { (b : ℕ) (rest : List ℕ) → is_blank b ≡ true → behind_word (b ∷ rest) ≡ behind_word rest }
     ensures blank_end { (b : ℕ) (line : List ℕ) → is_blank b ≡ true → words_of (line ++ b ∷ []) ≡ words_of line }

@@ -13,14 +13,14 @@ pub struct Line<'a> {
 }
 
 impl<'a> Line<'a> {
-    /// The words of the line.
+    /// Returns the words of the line.
     pub fn words(&self) -> Words<'a>
         ensures { result ≡ self.now.text.now }
     {
         Words::new(self.text)
     }
 
-    /// The words behind the first one, where that is the keyword.
+    /// Returns the words after the first one, where that is the keyword.
     pub fn behind(&self, keyword: &[u8]) -> Option<Words<'a>>
         ensures words { option_map words_of result ≡ words_behind keyword.now (words_of self.now.text.now) }
         ensures rest { IfSome result (λ words. words ≡ behind_word self.now.text.now) }

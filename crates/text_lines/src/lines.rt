@@ -57,7 +57,7 @@ fn line_len(bytes: &[u8]) -> usize
     bytes.iter().take_while(|byte| **byte != b'\n').count()
 }
 
-/// The front of a text up to its first line feed, and what stands behind that.
+/// Returns the front of a text up to its first line feed, and what stands after that.
 fn cut_line(text: &[u8]) -> (&[u8], &[u8])
     ensures line { result.0.now ≡ before_first is_line_feed text.now }
     ensures rest { result.1.now ≡ after_first is_line_feed text.now }
@@ -71,7 +71,7 @@ fn cut_line(text: &[u8]) -> (&[u8], &[u8])
 }
 
 impl<'a> Lines<'a> {
-    /// The lines of a text.
+    /// Returns the lines of a text.
     #[tactic(auto, unfolding(crate::specs::Lines::rows_left, crate::specs::Lines::end_at))]
     pub fn new(text: &'a [u8]) -> Lines<'a>
         ensures start { result ≡ record { before = 0; text = text.now } }
@@ -84,15 +84,15 @@ impl<'a> Lines<'a> {
         }
     }
 
-    /// The number of the line behind those taken so far: 1 of a new reader, that of the answered line plus 1 behind each `next`,
-    /// and the number of all lines plus 1 once `next` has answered `None`.
+    /// Returns the number of the line after those taken so far: 1 of a new reader, that of the answered line plus 1
+    /// after each `next`, and the number of all lines plus 1 once `next` has answered `None`.
     pub fn next_number(&self) -> usize
         ensures { result ≡ self.now.before + 1 }
     {
         self.number + 1
     }
 
-    /// The next line, skipped or not.
+    /// Returns the next line, skipped or not.
     #[tactic(auto, using(crate::proofs::Cut::lines_end, crate::proofs::Cut::lines_cut))]
     fn take_line(&mut self) -> Option<&'a [u8]>
         ensures cases { MatchOption result
@@ -116,7 +116,7 @@ impl<'a> Iterator for Lines<'a> {
 
     ghost remaining = { item_count rows_left };
 
-    /// The next line that isn't skipped.
+    /// Returns the next line that isn't skipped.
     #[tactic(auto, using(crate::proofs::Cut::kept_skip, crate::proofs::Cut::kept_take, crate::proofs::Cut::kept_nil), unfolding(crate::specs::Lines::rows_left, crate::specs::Lines::end_at))]
     fn next(&mut self) -> Option<Line<'a>> {
         while let Some(text) = self.take_line() {

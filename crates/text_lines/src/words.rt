@@ -20,21 +20,21 @@ impl<'a> Model for Words<'a> {
 }
 
 impl<'a> Words<'a> {
-    /// The words of a line.
+    /// Returns the words of a line.
     pub fn new(line: &'a [u8]) -> Words<'a>
         ensures { result ≡ line.now }
     {
         Words { rest: line }
     }
 
-    /// What of the line stands behind the words taken so far.
+    /// Returns what of the line stands after the words taken so far.
     pub fn rest(&self) -> &'a [u8]
         ensures { result.now ≡ self.now }
     {
         self.rest
     }
 
-    /// The word, where there is just one.
+    /// Returns the word, where there is just one.
     pub fn one(mut self) -> Option<&'a [u8]>
         ensures { option_map (λ word. word.now) result ≡ only_word (words_of self.entry) }
     {
@@ -45,7 +45,7 @@ impl<'a> Words<'a> {
         }
     }
 
-    /// The words, where there are just three.
+    /// Returns the words, where there are just three.
     pub fn three(mut self) -> Option<(&'a [u8], &'a [u8], &'a [u8])>
         ensures { option_map (λ words. (words.0.now, words.1.now, words.2.now)) result ≡ only_three (words_of self.entry) }
     {
@@ -66,7 +66,7 @@ impl<'a> Iterator for Words<'a> {
 
     ghost remaining = { item_count words_of };
 
-    /// The next word.
+    /// Returns the next word.
     #[tactic(auto, using(crate::proofs::Cut::words_end, crate::proofs::Cut::words_ended, crate::proofs::Cut::words_next), unfolding(crate::specs::Words::behind_word))]
     fn next(&mut self) -> Option<&'a [u8]> {
         let rest = after_blanks(self.rest);

@@ -1,7 +1,12 @@
 //! Laws of adjusted values.
 
 ghost use Rattle.case_model.specs.CaseTestStatements.{CasesAreValidAtEachLevel};
-ghost use Rattle.case_model.specs.AdjustedStatements.{AdjustedValuesDecide, AdjustedValuesAreUnique, LeastLevelsOfTwoHalves, WeightZeroIsNeverRejected};
+ghost use Rattle.case_model.specs.AdjustedStatements.{
+  AdjustedValuesDecide,
+  AdjustedValuesAreUnique,
+  LeastLevelsOfTwoHalves,
+  WeightZeroIsNeverRejected,
+};
 
 /// At each level from 0 to 1 the closed test rejects a hypothesis exactly where its adjusted value is reached and is at
 /// most the level; no other value does so.

@@ -1,6 +1,13 @@
 //! Laws of the sets that the closed test rejects, and of bounds of true discoveries.
 
-ghost use Rattle.case_model.specs.BoundStatements.{SetsAreRejectedByTheNextLarger, BoundsExist, BoundsAreUnique, ClosedTablesGiveClosedBounds, LargeSubsetsAreRejected, BoundsOfTwo};
+ghost use Rattle.case_model.specs.BoundStatements.{
+  SetsAreRejectedByTheNextLarger,
+  BoundsExist,
+  BoundsAreUnique,
+  ClosedTablesGiveClosedBounds,
+  LargeSubsetsAreRejected,
+  BoundsOfTwo,
+};
 
 /// The closed test rejects a set exactly where the local test rejects it and the closed test rejects it with any one
 /// hypothesis more.
@@ -8,7 +15,7 @@ pub fn sets_are_rejected_by_the_next_larger()
     ensures { SetsAreRejectedByTheNextLarger }
 {}
 
-/// Each set has just one bound, and a table that tells what the closed test rejects has the bounds of the closed test.
+/// Each set has just one bound, and a table of what the closed test rejects has the bounds of the closed test.
 pub fn bounds_exist()
     ensures exist { BoundsExist }
     ensures unique { BoundsAreUnique }

@@ -1,9 +1,18 @@
 //! The closed test on the graphs of textbook rules.
 
-ghost use Rattle.case_model.specs.TextbookStatements.{PositionsAreAscending, HasOneHolmNumber, FallbackGraphsDecideAsFallback, SequenceGraphsDecideAsSequence, HolmGraphsDecideAsHolm, FallbackGraphsAreValid, SequenceGraphsAreValid, HolmGraphsAreValid};
+ghost use Rattle.case_model.specs.TextbookStatements.{
+  PositionsAreAscending,
+  HasOneHolmNumber,
+  FallbackGraphsDecideAsFallback,
+  SequenceGraphsDecideAsSequence,
+  HolmGraphsDecideAsHolm,
+  FallbackGraphsAreValid,
+  SequenceGraphsAreValid,
+  HolmGraphsAreValid,
+};
 
-/// On the graphs of Holm, of the fixed sequence and of fallback, the closed test rejects just what the rule rejects, at each
-/// level from 0 to 1.
+/// On the graphs of Holm, of the fixed sequence and of fallback, the closed test rejects exactly what the rule rejects,
+/// at each level from 0 to 1.
 pub fn textbook_graphs_decide_as_rules()
     ensures fallback { FallbackGraphsDecideAsFallback }
     ensures sequence { SequenceGraphsDecideAsSequence }

@@ -1,7 +1,16 @@
 //! Laws of what hypotheses spend at stages, and of the staged test.
 
 ghost use Rattle.case_model.specs.DraftStatements.{SpendsOfCasesRise, FractionsOfCasesAreShort};
-ghost use Rattle.case_model.specs.StagedStatements.{SpendLevelsAreNondecreasing, LastStepsAreReached, TwoStepsGiveTheirLevels, StagedTestsAreMonotone, ArrivalsKeepWhatIsLegal, StagedOrdersDecide, SettlingsExist, SettlingsAreUnique};
+ghost use Rattle.case_model.specs.StagedStatements.{
+  SpendLevelsAreNondecreasing,
+  LastStepsAreReached,
+  TwoStepsGiveTheirLevels,
+  StagedTestsAreMonotone,
+  ArrivalsKeepWhatIsLegal,
+  StagedOrdersDecide,
+  SettlingsExist,
+  SettlingsAreUnique,
+};
 
 /// What is spent in a case isn't below 0, and doesn't fall from step to step; fractions have parts of at most 10,000.
 #[tactic(auto, using(crate::proofs::SpendsRise::spends_rise, crate::proofs::SpendsRise::spends_short))]

@@ -1,6 +1,17 @@
 //! Laws of sets as numbers, of their sizes and of their order.
 
-ghost use Rattle.field_core.specs.SetStatements.{SetsHaveNumbers, NumbersAreOfSets, DroppingTakesOne, AddingGivesOne, WholeHasAll, SubsetsAreSmaller, LeftOutLeavesTheSet, AscendingListsAreLeftOut, ListsAreOrdered, SetsOfTwoInOrder};
+ghost use Rattle.field_core.specs.SetStatements.{
+  SetsHaveNumbers,
+  NumbersAreOfSets,
+  DroppingTakesOne,
+  AddingGivesOne,
+  WholeHasAll,
+  SubsetsAreSmaller,
+  LeftOutLeavesTheSet,
+  AscendingListsAreLeftOut,
+  ListsAreOrdered,
+  SetsOfTwoInOrder,
+};
 
 /// The sets of some hypotheses are the numbers below a power of two.
 pub fn sets_are_numbers()
@@ -16,7 +27,7 @@ pub fn sizes_count_members()
     ensures subsets { SubsetsAreSmaller }
 {}
 
-/// A set is told by the ascending list of what it leaves out, and these lists are in a total order.
+/// A set is given by the ascending list of what it leaves out, and these lists are in a total order.
 pub fn sets_are_lists_in_order()
     ensures left { LeftOutLeavesTheSet }
     ensures lists { AscendingListsAreLeftOut }

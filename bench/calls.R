@@ -1,0 +1,105 @@
+# calls.R PROGRAM: microseconds a decision takes from R, on Holm's graph of 3, 16 and 64 hypotheses, side by side:
+# - in process, the proved call alone (welungad_run on a text that is there);
+# - in process, graph_test, which also reads R's numbers and makes a table of the answer;
+# - by the program, started for each call;
+# - by the algorithm in plain R with doubles, decision and adjusted p-values, which proves and refuses nothing: by loops, and
+#   by whole matrices.
+# Each number is the least of five rounds, elapsed. The package `welungad` has to be installed with the C library for the first
+# two; without it they are NA. Nothing of it is a gate.
+library(welungad)
+
+program <- commandArgs(TRUE)
+if (length(program)) Sys.setenv(WELUNGAD = program[1])
+ways <- welungad:::welungad_ways()
+
+# The graphical procedure of Bretz, Maurer, Brannath and Posch (2009) in doubles, with loops as the definition reads: the
+# hypothesis with the least ratio of p-value to weight goes first, and the greatest ratio so far is its adjusted p-value.
+plain <- function(weights, edges, p, alpha) {
+  m <- length(weights)
+  left <- rep(TRUE, m)
+  adjusted <- rep(1, m)
+  so_far <- 0
+  for (step in seq_len(m)) {
+    ratio <- ifelse(left & weights > 0, p / weights, Inf)
+    j <- which.min(ratio)
+    if (ratio[j] > 1) break
+    so_far <- max(so_far, ratio[j])
+    adjusted[j] <- so_far
+    left[j] <- FALSE
+    weights <- weights + weights[j] * edges[j, ]
+    weights[j] <- 0
+    updated <- matrix(0, m, m)
+    for (l in which(left)) {
+      loss <- 1 - edges[l, j] * edges[j, l]
+      if (loss <= 0) next
+      for (k in which(left)) if (k != l) updated[l, k] <- (edges[l, k] + edges[l, j] * edges[j, k]) / loss
+    }
+    edges <- updated
+  }
+  list(rejected = which(adjusted <= alpha), adjusted = adjusted)
+}
+
+# The same by whole matrices.
+plain_by_matrices <- function(weights, edges, p, alpha) {
+  left <- rep(TRUE, length(weights))
+  adjusted <- rep(1, length(weights))
+  so_far <- 0
+  for (step in seq_along(weights)) {
+    ratio <- ifelse(left & weights > 0, p / weights, Inf)
+    j <- which.min(ratio)
+    if (ratio[j] > 1) break
+    so_far <- max(so_far, ratio[j])
+    adjusted[j] <- so_far
+    left[j] <- FALSE
+    weights <- weights + weights[j] * edges[j, ]
+    weights[j] <- 0
+    loss <- 1 - edges[, j] * edges[j, ]
+    edges <- (edges + outer(edges[, j], edges[j, ])) * ifelse(loss > 0, 1 / loss, 0)
+    diag(edges) <- 0
+    edges[j, ] <- 0
+    edges[, j] <- 0
+  }
+  list(rejected = which(adjusted <= alpha), adjusted = adjusted)
+}
+
+# Microseconds a call, the least of five rounds of about a fifth of a second each.
+least <- function(call) {
+  call()
+  once <- max(system.time(call())[["elapsed"]], 1e-4)
+  count <- max(1, min(5000, round(0.2 / once)))
+  rounds <- replicate(5, system.time(for (i in seq_len(count)) call())[["elapsed"]])
+  min(rounds) / count * 1e6
+}
+
+by <- function(way, call) {
+  if (!way %in% ways) return(NA)
+  old <- options(welungad.way = way)
+  on.exit(options(old))
+  least(call)
+}
+
+row <- function(n) {
+  weights <- rep(1 / n, n)
+  edges <- matrix(1 / (n - 1), n, n)
+  diag(edges) <- 0
+  p <- round(seq(0.0001, 0.0003, length.out = n), 6)
+  graph <- graph_create(weights, edges)
+  case <- charToRaw(welungad:::case_of(graph, p, 0.025)$text)
+  decided <- graph_test(graph, p)
+  for (own in list(plain(weights, edges, p, 0.025), plain_by_matrices(weights, edges, p, 0.025))) {
+    stopifnot(all(decided$rejected), length(own$rejected) == n, isTRUE(all.equal(own$adjusted, unname(decided$adjusted))))
+  }
+  data.frame(
+    hypotheses = n,
+    call = by("library", function() welungad_run("test", case)),
+    graph_test = by("library", function() graph_test(graph, p)),
+    program = by("program", function() welungad_run("test", case)),
+    plain = least(function() plain(weights, edges, p, 0.025)),
+    matrices = least(function() plain_by_matrices(weights, edges, p, 0.025))
+  )
+}
+
+table <- do.call(rbind, lapply(c(3, 16, 64), row))
+names(table) <- c("hypotheses", "in process", "graph_test", "program started", "plain R, loops", "plain R, matrices")
+cat("microseconds a decision\n")
+print(format(table, digits = 3), row.names = FALSE)

@@ -1,0 +1,274 @@
+#!/usr/bin/env python3
+"""Compares the program with tools/check_evidence.py and tools/closed_test.py on cases that it makes from a seed.
+
+    bench/checkers.py [--documents N] [--damaged N] [--closed N] [--seed S] [--jobs J] [--program PATH]
+
+Documents: the program makes evidence for a case, and both check it; of each fourth document the keeps are cut off, which makes
+it one of version 1. Damaged: both check such a document after a change of it or of its case. Closed: both decide a case, and
+give the weights of all sets. A third of the cases have epsilon, some have several components, some are sheets.
+
+Agreement means the same status and the same text. Where the program refuses a case or a document as too wide or past a limit
+(status 4 or 5, or a number of more than 127 bits), the second checker decides; these runs are counted apart. Prints what came how
+often and each disagreement, with the number of its case, and ends with status 1 where there is one.
+"""
+import argparse
+import collections
+import multiprocessing
+import os
+import random
+import re
+import subprocess
+import sys
+import tempfile
+from fractions import Fraction
+
+HERE = os.path.dirname(os.path.abspath(__file__))
+sys.path.insert(0, os.path.join(HERE, "..", "tools"))
+from check_evidence import Stop, answer, numeral, read_case  # noqa: E402
+from closed_test import closed_test  # noqa: E402
+
+PROGRAM = os.path.join(HERE, "..", "crates", "welungad", "out", "welungad")
+NUMBERS = ["0", "1", "2", "1/2", "-1/2", "1/3", "501/1000", "1/1000000007", "[1]/[2,-1]", "[0,1]/[1]", "[1,-1]/[2]", "[0,1]/[0,2]", "[0,0,-1]/[1]",
+           "4/6", "1/0", "[]", "+1", "0.5", "x", "[1]/[0]", "170141183460469231731687303715884105728"]
+
+
+def run(words, given):
+    done = subprocess.run([PROGRAM, *words], input=given, stdout=subprocess.PIPE, timeout=120)
+    return done.returncode, done.stdout.decode("latin-1")
+
+
+# ---- cases
+
+
+def shares(rng, count):
+    """The number of fractions asked for, which sum to at most 1."""
+    parts = [rng.randrange(0, 5) for _ in range(count)]
+    total = sum(parts) + rng.choice([0, 0, 0, 1, 2])
+    return [Fraction(part, total or 1) for part in parts]
+
+
+def edges_of(rng, size, with_epsilon):
+    """The expressions of the edges of a component, at pairs."""
+    edges = {}
+    for i in range(size):
+        others = [j for j in range(size) if j != i]
+        if not others or rng.random() < 0.1:
+            continue
+        small = rng.choice(others) if with_epsilon and rng.random() < 0.6 else None
+        for j, part in zip(others, shares(rng, len(others))):
+            if small is None:
+                edges[i, j] = str(part)
+            elif j != small:
+                edges[i, j] = rng.choice([f"{part}*(1-\\epsilon)", f"{part}-{part}\\epsilon", f"{part}(1-2*\\epsilon+\\epsilon^2)"])
+            else:
+                edges[i, j] = rng.choice(["\\epsilon", "1/2*\\epsilon", "\\epsilon^2", "1/3\\epsilon*\\epsilon"])
+    return edges
+
+
+class Made:
+    """A case, as the bytes of a text or of a sheet, with the words that say so."""
+
+    def __init__(self, rng, number, most):
+        self.size = rng.randrange(1, most + 1)
+        self.names = [f"H{i + 1}" for i in range(self.size)]
+        self.alpha = rng.choice(["1/20", "0.025", "0.1", "1"])
+        scale = rng.choice([100, 1000, 1000, 10000])
+        self.p = [Fraction(rng.choice([0, *range(1, 40)]), scale) for _ in self.names]
+        count = rng.choice([1, 1, 2, 3])
+        parts = shares(rng, count) if count > 1 or rng.random() < 0.2 else [Fraction(1)]
+        self.components = [(share, shares(rng, self.size), edges_of(rng, self.size, number % 3 == 0)) for share in parts]
+        self.form = "csv" if parts == [1] and rng.random() < 0.2 else "text"
+
+    def words(self):
+        return ["--form", "csv", "--alpha", self.alpha] if self.form == "csv" else []
+
+    def sheet(self):
+        _, weights, edges = self.components[0]
+        rows = [["hypothesis", "weight", "p", *self.names]]
+        for i, name in enumerate(self.names):
+            rows.append([name, weights[i], self.p[i], *(edges.get((i, j), "0") for j in range(self.size))])
+        return "".join(",".join(map(str, row)) + "\n" for row in rows)
+
+    def text(self):
+        lines = [f"alpha {self.alpha}", " ".join(["hypotheses", *self.names]), " ".join(["p", *map(str, self.p)])]
+        for share, weights, edges in self.components:
+            lines += [f"component {share}"] if self.components[1:] or share != 1 else []
+            lines.append(" ".join(["weights", *map(str, weights)]))
+            lines += [f"edge {self.names[i]} {self.names[j]} {edge}" for (i, j), edge in edges.items()]
+        return "\n".join(lines) + "\n"
+
+    def bytes(self):
+        return (self.sheet() if self.form == "csv" else self.text()).encode()
+
+
+# ---- damage
+
+
+def other_number(rng, lines, text):
+    """Another number in the place of a number of evidence: one near it, one of another line, or any."""
+    kind = rng.randrange(3)
+    if kind == 0 and "[" not in text:
+        return str(Fraction(text) + Fraction(rng.choice([-1, 1]), rng.choice([3, 60, 1000, 10**12])))
+    if kind == 1:
+        return rng.choice([line.split(" ")[3] for line in lines if line[:4] in ("flow", "exit")])
+    return rng.choice(NUMBERS)
+
+
+def damaged_lines(rng, lines, names):
+    at = rng.randrange(len(lines))
+    numbered = [n for n, line in enumerate(lines) if line[:4] in ("flow", "exit")]
+    kind = rng.randrange(18)
+    if kind > 10 and numbered:
+        at = rng.choice(numbered)
+        words = lines[at].split(" ")
+        words[3] = other_number(rng, lines, words[3])
+        lines[at] = " ".join(words)
+    elif kind in (0, 1, 2, 5):
+        a, b = rng.choice(names), rng.choice(names)
+        lines[:] = [re.sub(rf"\b({a}|{b})\b", lambda found: b if found[0] == a else a, line) for line in lines]
+    elif kind == 6:
+        lines.pop(at)
+    elif kind == 7:
+        lines.insert(rng.randrange(len(lines) + 1), lines[at])
+    elif kind == 8:
+        other = rng.randrange(len(lines))
+        lines[at], lines[other] = lines[other], lines[at]
+    elif kind == 9:
+        words = lines[at].split(" ")
+        words[rng.randrange(len(words))] = rng.choice([*names, "1", "2", "3", "01", "step", "keep", "flow", "exit", "end", "evidence", "", "#"])
+        lines[at] = " ".join(words)
+    elif kind == 10:
+        lines[at] += rng.choice([" ", "\t", "\r", " 1", " #", "\n", "\n# a remark", "\n \t", "\nend"])
+    else:
+        lines[0] = rng.choice(["evidence 1", "evidence 2", "evidence 3", "evidence"])
+
+
+def damaged(rng, made, text):
+    """The case and the document after a change of one of them."""
+    if rng.random() < 0.15:
+        k = rng.randrange(made.size)
+        made.p[k] = rng.choice([Fraction(0), Fraction(1), made.p[k] / 2, min(Fraction(1), made.p[k] * 2), Fraction(1, 100)])
+    elif rng.random() < 0.1 and made.size > 1:
+        share, weights, edges = rng.choice(made.components)
+        weights[0], weights[1] = weights[1], weights[0]
+        i = rng.randrange(made.size)
+        for pair in [pair for pair in edges if pair[0] == i]:
+            edges.pop(pair)
+    else:
+        lines = text.removesuffix("\n").split("\n")
+        damaged_lines(rng, lines, made.names)
+        text = "\n".join(lines) + rng.choice(["\n", "\n", "\n", ""])
+    return text
+
+
+# ---- comparisons
+
+
+def is_refused_for_size(status, text, evidence):
+    """Whether the program refuses a number for its size."""
+    if status == 3 and (found := re.fullmatch(r"malformed: proof line (\d+): number\n", text)):
+        line = evidence.split("\n")[int(found[1]) - 1]
+        return any(int(digits) >= 2**127 for digits in re.findall(r"\d+", line))
+    return status in (4, 5)
+
+
+def compare(made, evidence, room, what):
+    """What both checkers say of a document: a word for the counts, or a disagreement."""
+    case = made.bytes()
+    path = os.path.join(room, f"proof-{os.getpid()}")
+    with open(path, "w", encoding="latin-1", newline="") as file:
+        file.write(evidence)
+    ours = run(["check", path, *made.words()], case)
+    alpha = made.alpha if made.form == "csv" else None
+    theirs = answer(case, evidence.encode("latin-1"), made.form, alpha)
+    names = {0: "yes", 1: "no", 3: "malformed"}
+    if is_refused_for_size(*ours, evidence):
+        return f"{what}: the program refuses a size, the checker says {names.get(theirs[0], theirs[0])}", None
+    if ours != tuple(theirs):
+        return f"{what}: DISAGREE", f"program {ours}, checker {theirs}\n{case.decode()}{evidence}"
+    return f"{what}: both say {names.get(ours[0], ours[0])}", None
+
+
+def check_one(task):
+    """The comparisons on the case of a number: of the document, and of a damaged one."""
+    seed, number, room, with_damage = task
+    rng = random.Random(f"{seed}/{number}")
+    made = Made(rng, number, 7)
+    status, evidence = run(["evidence", *made.words()], made.bytes())
+    if status != 0:
+        return [(f"no document: status {status}", None)]
+    if number % 4 == 1:
+        lines = [line for line in evidence.split("\n") if line[:4] not in ("keep", "exit")]
+        evidence = "\n".join(["evidence 1", *lines[1:]])
+    found = [compare(made, evidence, room, "document")]
+    if with_damage:
+        evidence = damaged(rng, made, evidence)
+        found.append(compare(made, evidence, room, "damaged"))
+    return found
+
+
+def decide_one(task):
+    """The comparison of the decision on the case of a number, and of the weights of its sets."""
+    seed, number, _, _ = task
+    rng = random.Random(f"{seed}/closed/{number}")
+    made = Made(rng, number, 6)
+    status, decision = run(["test", *made.words()], made.bytes())
+    all_status, weights = run(["weights", *made.words()], made.bytes())
+    if status or all_status:
+        return [(f"closed: the program ends with {status} and {all_status}", None)]
+    case = read_case(made.bytes().decode(), made.form, numeral(made.alpha, "alpha") if made.form == "csv" else None)
+    tested = list(closed_test(case))
+    rejected = [name for k, name in enumerate(case.names) if all(by is not None for weights, by in tested if k in weights)]
+    sets = [" ".join(["set", *(f"{case.names[k]}={w}" for k, w in row.items())]) for row, _ in tested]
+    if f"\n{' '.join(['rejected', *rejected])}\n" in decision and weights == "\n".join([f"weights {made.size}", *sets, "end", ""]):
+        return [(f"closed: same decision and weights, {'some' if rejected else 'none'} rejected", None)]
+    return [("closed: DISAGREE", f"{made.bytes().decode()}{decision}{weights}{rejected} {sets}")]
+
+
+def safely(task):
+    function, *rest = task
+    try:
+        return rest[1], function(rest)
+    except (Stop, subprocess.TimeoutExpired, ValueError, ArithmeticError, LookupError) as error:
+        return rest[1], [("DISAGREE: an error", repr(error))]
+
+
+def count(pool, tasks, counts):
+    """Counts what tasks find, and prints each disagreement with the number of its case."""
+    for number, found in pool.imap(safely, tasks, chunksize=16):
+        for words, disagreement in found:
+            counts[words] += 1
+            if disagreement:
+                print(f"{number}: {words}: {disagreement}", flush=True)
+
+
+def main():
+    global PROGRAM
+    parser = argparse.ArgumentParser()
+    for name, default in (("documents", 20000), ("damaged", 20000), ("closed", 5000), ("seed", 1), ("jobs", os.cpu_count())):
+        parser.add_argument(f"--{name}", type=int, default=default)
+    parser.add_argument("--program", default=PROGRAM)
+    words = parser.parse_args()
+    PROGRAM = os.path.abspath(words.program)
+    counts = collections.Counter()
+    wanted = {"document": words.documents, "damaged": words.damaged}
+
+    def total(what):
+        return sum(n for said, n in counts.items() if said.startswith(what + ":"))
+
+    with tempfile.TemporaryDirectory() as room, multiprocessing.Pool(words.jobs) as pool:
+        for first in range(0, 10**9, 1000):
+            if all(total(what) >= least for what, least in wanted.items()):
+                break
+            tasks = [(check_one, words.seed, n, room, total("damaged") < words.damaged) for n in range(first, first + 1000)]
+            count(pool, tasks, counts)
+        count(pool, [(decide_one, words.seed, n, room, False) for n in range(words.closed)], counts)
+    for said, n in sorted(counts.items()):
+        print(f"{n:8} {said}")
+    wrong = sum(n for said, n in counts.items() if "DISAGREE" in said)
+    print(f"{wrong} disagreements")
+    sys.exit(1 if wrong else 0)
+
+
+if __name__ == "__main__":
+    main()

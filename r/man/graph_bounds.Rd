@@ -1,0 +1,39 @@
+\name{graph_bounds}
+\alias{graph_bounds}
+\alias{graph_simes}
+\alias{bound_of}
+\title{Bounds of true discoveries}
+\description{
+For each set of at most 16 hypotheses, a lower bound on the number of false hypotheses in it: its size minus the size of its largest subset that the closed test does not reject. \code{graph_bounds} uses weighted Bonferroni tests, \code{graph_simes} weighted Simes tests.
+}
+\usage{
+graph_bounds(graph, p, alpha = 0.025)
+graph_simes(graph, p, alpha = 0.025)
+bound_of(x, hypotheses)
+}
+\arguments{
+  \item{graph}{a graph, as \code{\link{graph_create}}, \code{\link{graph_entangle}}, \code{\link{graph_catalogue}} or \code{\link{graph_read}} makes it.}
+  \item{p}{the p-values: doubles, texts, or fractions of gmp, read as \code{\link{as_exact}} says. A vector with names is put in the order of the hypotheses. A double whose denominator would pass 10^30 is rounded up to a multiple of 10^-30, with a message of class \code{welungad_rounded}.}
+  \item{alpha}{the level: above 0, at most 1, with at most four decimals.}
+  \item{x}{a result of \code{graph_bounds} or \code{graph_simes}.}
+  \item{hypotheses}{a set of hypotheses, by name, label or position.}
+}
+\details{
+Nothing is claimed of when Simes' test is valid under dependence. What it rejects is not what \code{\link{graph_test}} rejects.
+}
+\value{
+An object of class \code{welungad_bounds} with the parts \code{sets} and \code{bound}. A result of \code{graph_simes} also has
+\code{top}, the bounds of the hypotheses with the least p-values, and \code{rejected}. \code{bound_of} gives the bound of one set.
+}
+\seealso{
+\code{\link{graph_test_closure}}
+}
+\examples{
+\dontshow{if (welungad_found()) withAutoprint(\{ # examples need the program or its library}
+pair <- graph_create(c(1 / 2, 1 / 2), rbind(0:1, 1:0))
+graph_bounds(pair, c(0.04, 0.05), alpha = 0.05)
+x <- graph_simes(pair, c(0.04, 0.05), alpha = 0.05)
+x
+bound_of(x, "H1")
+\dontshow{\})}
+}

@@ -1,0 +1,39 @@
+\name{graph_create}
+\alias{graph_create}
+\title{Graphs of hypotheses}
+\description{
+Makes a graph of hypotheses with weights, and edges that say where the weight of a rejected hypothesis goes.
+}
+\usage{
+graph_create(hypotheses, transitions, hyp_names = NULL, labels = NULL)
+}
+\arguments{
+  \item{hypotheses}{the weights, which sum to at most 1. Their names, if there are any, name the hypotheses.}
+  \item{transitions}{a square matrix: the edge from the hypothesis of the row to that of the column. Each row sums to at most 1. An edge may hold an infinitesimal epsilon, as the text \code{1-\\epsilon} does.}
+  \item{hyp_names}{the names of the hypotheses; if absent, those of \code{hypotheses}, else those of the rows, else H1, H2 and so on.}
+  \item{labels}{what is shown for each hypothesis; if absent, the names.}
+}
+\details{
+Numbers are read as \code{\link{as_exact}} says. \code{print} shows the exact numbers, and which doubles were read as another
+number than their decimal.
+
+The program's names are 1 to 32 ASCII letters, digits, underscores, points and hyphens. Any other text can be a label: the
+package makes a name of it, and shows the label.
+
+A refusal of the program is a condition of class \code{welungad_refusal}; see \code{\link{welungad_run}}.
+}
+\value{
+An object of class \code{welungad_graph}: \code{names}, \code{labels}, and \code{components}, each with its \code{share}, its \code{weights} and its \code{edges} as exact texts. It has methods for \code{print}, \code{plot} and \code{as.data.frame}.
+}
+\seealso{
+\code{\link{graph_test}}, \code{\link{graph_entangle}}, \code{\link{graph_catalogue}}
+}
+\examples{
+\dontshow{if (welungad_found()) withAutoprint(\{ # examples need the program or its library}
+edges <- matrix(1 / 2, 3, 3)
+diag(edges) <- 0
+holm <- graph_create(c("HbA1c low" = 1 / 3, "HbA1c high" = 1 / 3, weight = 1 / 3), edges)
+holm
+as.data.frame(holm)
+\dontshow{\})}
+}

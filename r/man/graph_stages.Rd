@@ -1,0 +1,40 @@
+\name{graph_stages}
+\alias{graph_stages}
+\title{Staged trials}
+\description{
+Decides as p-values arrive at the stages of a trial. The levels of a hypothesis are levels such as 0.0015, not fractions of its level.
+}
+\usage{
+graph_stages(graph, levels, looks = NULL, alpha = 0.025, at = 1)
+}
+\arguments{
+  \item{graph}{a graph, as \code{\link{graph_create}}, \code{\link{graph_entangle}}, \code{\link{graph_catalogue}} or \code{\link{graph_read}} makes it.}
+  \item{levels}{a list with the levels of each hypothesis at the stages, or a matrix with a row for each hypothesis. A vector has the levels that hold while the weight of the hypothesis is \code{at}; at another weight they are in proportion. A matrix is a table: each row has levels, and its row name is the weight from which it counts.}
+  \item{looks}{a data frame with a row for each p-value in the order in which they arrive, with the columns \code{hypothesis}, \code{stage} and \code{p}.}
+  \item{alpha}{the level: above 0, at most 1, with at most four decimals.}
+  \item{at}{the weight at which the vectors of levels hold: one number, or one for each hypothesis.}
+}
+\details{
+The program's lines \code{spend} take fractions of the level of a hypothesis, and its lines \code{table} take levels. This call
+takes levels for both, and hands in the fractions \code{levels / (at * alpha)} or the tables.
+
+The stages of a hypothesis are combined as Bonferroni does: its levels sum to at most its own level. Nominal levels by O'Brien
+and Fleming or by Pocock sum to more, and are refused.
+
+A refusal of the program is a condition of class \code{welungad_refusal}; see \code{\link{welungad_run}}.
+}
+\value{
+An object of class \code{welungad_stages} with the parts \code{looks}, \code{rejections} (with stage, weight and level), \code{rejected},
+\code{case} and \code{report}.
+}
+\seealso{
+\code{\link{graph_test}}
+}
+\examples{
+\dontshow{if (welungad_found()) withAutoprint(\{ # examples need the program or its library}
+graph <- graph_create(c(OS = 1 / 2, PFS = 1 / 2), rbind(0:1, 1:0))
+levels <- list(OS = c(0.003, 0.022), PFS = rbind("1/2" = c(0.005, 0.0075), "1" = c(0.01, 0.015)))
+looks <- data.frame(hypothesis = c("PFS", "OS", "OS"), stage = c(1, 1, 2), p = c(0.004, 0.01, 0.02))
+graph_stages(graph, levels, looks)
+\dontshow{\})}
+}

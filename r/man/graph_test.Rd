@@ -1,0 +1,49 @@
+\name{graph_test}
+\alias{graph_test}
+\alias{graph_rejections}
+\title{Decisions}
+\description{
+Decides which hypotheses are rejected. The decision, the weights and the adjusted p-values are what the proved program prints.
+}
+\usage{
+graph_test(graph, p, alpha = 0.025, priority = c("first", "last", "ratio"))
+graph_rejections(x, exact = FALSE)
+}
+\arguments{
+  \item{graph}{a graph, as \code{\link{graph_create}}, \code{\link{graph_entangle}}, \code{\link{graph_catalogue}} or \code{\link{graph_read}} makes it.}
+  \item{p}{the p-values: doubles, texts, or fractions of gmp, read as \code{\link{as_exact}} says. A vector with names is put in the order of the hypotheses. A double whose denominator would pass 10^30 is rounded up to a multiple of 10^-30, with a message of class \code{welungad_rounded}.}
+  \item{alpha}{the level: above 0, at most 1, with at most four decimals.}
+  \item{priority}{which hypothesis is rejected first if several may be: the \code{first} or the \code{last} by position, or that with the least \code{ratio} of p-value to weight. What is rejected in the end is the same for each.}
+  \item{x}{a result of \code{graph_test}.}
+  \item{exact}{whether numbers are exact texts and not doubles.}
+}
+\details{
+A row of the table has the p-value, the weight and the local level (weight times level) at which the hypothesis was rejected;
+for a hypothesis that is not rejected, those in the end. The adjusted p-value is the least level at which the hypothesis is
+rejected.
+
+A refusal of the program is a condition of class \code{welungad_refusal}; see \code{\link{welungad_run}}.
+}
+\value{
+An object of class \code{welungad_test} with the parts \code{rejected} (a logical vector with names), \code{adjusted} (the
+adjusted p-values as doubles), \code{reached} (whether the closed test rejects the hypothesis at any level up to 1),
+\code{order} (the names of the rejected in their order), \code{exact} (the exact numbers), \code{case} (the text that was handed
+in) and \code{report} (the lines of the answer).
+
+\code{print(x, exact = TRUE)} and \code{as.data.frame(x, exact = TRUE)} show fractions in place of decimals. \code{plot} marks the
+rejected hypotheses. \code{graph_rejections} gives the rejections in their order.
+}
+\seealso{
+\code{\link{graph_steps}}, \code{\link{graph_test_closure}}, \code{\link{graph_evidence}}
+}
+\examples{
+\dontshow{if (welungad_found()) withAutoprint(\{ # examples need the program or its library}
+graph <- graph_create(c(1 / 2, 1 / 2, 0, 0), rbind(
+  c(0, 1 / 2, 1 / 2, 0), c(1 / 2, 0, 0, 1 / 2), c(0, 1, 0, 0), c(1, 0, 0, 0)
+))
+x <- graph_test(graph, c(0.018, 0.01, 0.105, 0.006))
+x
+print(x, exact = TRUE)
+graph_rejections(x)
+\dontshow{\})}
+}

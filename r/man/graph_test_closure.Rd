@@ -1,0 +1,33 @@
+\name{graph_test_closure}
+\alias{graph_test_closure}
+\title{Each intersection}
+\description{
+Shows each intersection of at most 16 hypotheses: the weights and local levels of its members, whether the local test rejects it, and whether the closed test does.
+}
+\usage{
+graph_test_closure(graph, p, alpha = 0.025)
+}
+\arguments{
+  \item{graph}{a graph, as \code{\link{graph_create}}, \code{\link{graph_entangle}}, \code{\link{graph_catalogue}} or \code{\link{graph_read}} makes it.}
+  \item{p}{the p-values: doubles, texts, or fractions of gmp, read as \code{\link{as_exact}} says. A vector with names is put in the order of the hypotheses. A double whose denominator would pass 10^30 is rounded up to a multiple of 10^-30, with a message of class \code{welungad_rounded}.}
+  \item{alpha}{the level: above 0, at most 1, with at most four decimals.}
+}
+\details{
+The weights are what the program prints for the command \code{weights}. A set is rejected by the closed test if its bound in
+the command \code{bounds} is above 0. The local verdicts are computed here by exact comparisons, and the call stops if they do
+not give the verdicts of the program.
+}
+\value{
+An object of class \code{welungad_closure} with the parts \code{sets}, \code{weights}, \code{local}, \code{closed}, \code{bound} and
+\code{rejected}. It has methods for \code{print} and \code{as.data.frame}, both with \code{exact = TRUE} for fractions.
+}
+\seealso{
+\code{\link{graph_bounds}}
+}
+\examples{
+\dontshow{if (welungad_found()) withAutoprint(\{ # examples need the program or its library}
+edges <- matrix(1 / 2, 3, 3)
+diag(edges) <- 0
+graph_test_closure(graph_create(rep(1 / 3, 3), edges), c(0.01, 0.005, 0.03))
+\dontshow{\})}
+}

@@ -1,0 +1,43 @@
+\name{graph_update}
+\alias{graph_update}
+\alias{graph_steps}
+\title{Updated graphs}
+\description{
+Removes hypotheses from a graph. \code{graph_steps} removes those that a decision rejected, in their order.
+}
+\usage{
+graph_update(graph, delete)
+graph_steps(x)
+}
+\arguments{
+  \item{graph}{a graph, as \code{\link{graph_create}}, \code{\link{graph_entangle}}, \code{\link{graph_catalogue}} or \code{\link{graph_read}} makes it.}
+  \item{delete}{the hypotheses that are removed, in this order: by name, label or position, or a logical vector.}
+  \item{x}{a result of \code{\link{graph_test}}.}
+}
+\details{
+The program prints weights and no edges, so the package computes the updated graphs itself, exactly. Each weight of each graph
+is compared with the weight that the program prints for the same removals, and the call stops if one differs.
+
+With more than 16 hypotheses the program prints no weights for the removal of a hypothesis whose weight is 0. Then
+\code{compared} is \code{FALSE}.
+
+With epsilon an updated graph can have edges that are quotients. The program does not read such a graph, so give all removals
+to one call.
+}
+\value{
+An object of class \code{welungad_update} with the parts \code{initial_graph}, \code{updated_graph}, \code{deleted}, \code{graphs} (the
+graphs before the first removal and after each) and \code{compared}. \code{plot} draws all graphs; \code{print(x, all = TRUE)}
+shows them.
+}
+\seealso{
+\code{\link{graph_test}}
+}
+\examples{
+\dontshow{if (welungad_found()) withAutoprint(\{ # examples need the program or its library}
+graph <- graph_create(c(1 / 2, 1 / 2, 0, 0), rbind(
+  c(0, 1 / 2, 1 / 2, 0), c(1 / 2, 0, 0, 1 / 2), c(0, 1, 0, 0), c(1, 0, 0, 0)
+))
+graph_update(graph, "H2")
+print(graph_steps(graph_test(graph, c(0.018, 0.01, 0.105, 0.006))), all = TRUE)
+\dontshow{\})}
+}

@@ -1,0 +1,4 @@
+library(testthat)
+library(welungad)
+
+test_check("welungad")

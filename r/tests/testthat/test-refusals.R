@@ -1,0 +1,94 @@
+test_that("sums above 1 are refused with their amount", {
+  each_way(function(way) {
+    weights <- refusal_of(graph_create(c(0.1 + 0.2, 0.7), matrix(0, 2, 2)))
+    expect_s3_class(weights, "welungad_refusal")
+    expect_s3_class(weights, "error")
+    expect_equal(weights$status, 3L)
+    expect_equal(weights$line, "malformed: case: weight sum component 1")
+    expect_equal(weights$amount, "The weights sum to 1.00000000000000004, which is 4e-17 above 1.")
+    expect_match(conditionMessage(weights), "write 1/3, not a rounded decimal")
+    row <- refusal_of(graph_create(c(1, 0, 0), rbind(c(0, "2/3", "0.34"), 0, 0)))
+    expect_match(row$amount, "The edges from H1 sum to 151/150, which is 0.00667 above 1.", fixed = TRUE)
+    small <- refusal_of(graph_create(c(1, 0, 0), rbind(c("0", "1-\\epsilon", "2*\\epsilon"), "0", "0")))
+    expect_match(small$amount, "sum to 1+\\epsilon, which is above 1", fixed = TRUE)
+    one <- graph_create(c(1, 0), matrix(0, 2, 2))
+    shares <- refusal_of(graph_entangle(one, one, shares = c(0.5, 0.51)))
+    expect_match(shares$amount, "The shares sum to 1.01", fixed = TRUE)
+  })
+})
+
+test_that("other refusals carry status, line and advice", {
+  each_way(function(way) {
+    graph <- holm(3)
+    line <- function(code) refusal_of(code)$line
+    expect_equal(line(graph_test(graph, c(0.1, NA, 0.2))), "malformed: case: p missing H2")
+    expect_equal(line(graph_test(graph, c(0.1, -0.1, 0.2))), "malformed: case: p of H2")
+    expect_equal(line(graph_test(graph, c(0.1, 1.5, 0.2))), "malformed: case: p of H2")
+    expect_equal(line(graph_test(graph, c(0.1, 0.2))), "malformed: case: p count 2")
+    expect_equal(line(graph_test(graph, c("0.1", "x", "0.2"))), "malformed: line 3: number")
+    expect_equal(line(graph_test(graph, c("0.1", "1e-300", "0.2"))), "limit: line 3: digits")
+    expect_equal(line(graph_test(graph, c(0.1, 0.2, 0.3), 0)), "malformed: case: alpha")
+    expect_equal(line(graph_test(graph, c(0.1, 0.2, 0.3), 1 / 12347)), "limit: case: part alpha")
+    expect_equal(line(graph_create(c(NA, 0.5), matrix(0, 2, 2))), "malformed: line 3: number")
+    expect_equal(line(graph_create(c(0.5, 0.5), diag(2))), "malformed: case: self edge of H1 component 1")
+    expect_equal(line(graph_create(c(A = 0.5, A = 0.5), matrix(0, 2, 2))), "malformed: case: duplicate name 2")
+    expect_equal(line(graph_bounds(holm(17), rep(0.1, 17))), "limit: closure 17")
+    expect_equal(line(graph_catalogue("holm", 65)), "limit: size 65")
+    expect_equal(line(graph_catalogue("hochberg", 3)), "usage: word 2")
+    wide <- refusal_of(graph_test(graph_create(c(1, 0, 0, 0), rbind(
+      c("0", "1/1000000000000000000", "0", "0"), c("0", "0", "1/999999999999999999", "0"), c("0", "0", "0", "1/999999999999999997"), "0"
+    )), c(0, 0, 0, 0), 0.05))
+    expect_equal(wide$status, 5L)
+    expect_match(wide$advice, "common denominator")
+  })
+})
+
+test_that("each refusal has advice", {
+  kinds <- c("unexpected", "ended", "words", "unknown name", "whole number", "number", "zero denominator", "expression", "divisor",
+    "zero divisor")
+  cases <- c("no hypothesis", "name 2", "duplicate name 2", "no component", "alpha", "share component 1", "share sum",
+    "weight count component 1", "weight of A component 1", "weight sum component 1", "self edge of A component 1",
+    "repeated edge A B component 1", "edge A B component 1", "row sum of A component 1", "mixed", "p count 2", "p missing A", "p of A",
+    "no stage", "spend count 1", "step 1 of A", "spend of A stage 1", "spend sum of A", "arrival 1 stage", "arrival 1 repeated",
+    "arrival 1 p")
+  proofs <- c("unexpected", "ended", "words", "version", "unknown name", "flow", "exit", "number")
+  parts <- c("alpha", "share component 1", "weight of A component 1", "p of A", "spend of A stage 1", "step 1 of A", "arrival 1")
+  lines <- c(
+    "usage: word 3",
+    paste("malformed: line 3:", kinds),
+    paste("malformed: commands line 3:", kinds[1:7]),
+    paste("malformed: case:", cases),
+    paste("malformed: row 1 column 1:", c("header", "records", "width", "name", kinds[6:10])),
+    paste("malformed: proof line 3:", proofs),
+    "malformed: json: syntax",
+    paste("malformed: /p/0:", c("shape", "not whole", kinds[c(4, 6:10)])),
+    "malformed: : shape",
+    "malformed: kind",
+    "malformed: record 1",
+    paste("limit:", c("bytes 4194305", "proof bytes 4194305", "commands bytes 4194305", "closure 17", "line 3: digits", "line 3: degree",
+      "line 3: part", "line 3: depth", "size 65", "seed 1", "hypotheses 65", "components 9", "stages 13", "spend steps 33")),
+    paste("limit: case: part", parts),
+    "too wide: step 3: component 1 weight of H4 mul",
+    "read fault",
+    "keeper fault",
+    "no memory"
+  )
+  advice <- vapply(lines, welungad:::advice, "")
+  expect_equal(names(advice)[!nzchar(advice)], character())
+  expect_true(all(grepl("^[A-Z].*[.]$", advice)))
+  expect_match(advice[["malformed: line 3: zero divisor"]], "other than 0")
+  expect_match(advice[["limit: case: part alpha"]], "10,000")
+})
+
+test_that("the proved call answers as the program prints", {
+  each_way(function(way) {
+    answer <- welungad_run("help")
+    expect_equal(answer$status, 0L)
+    expect_match(answer$text, "\nend\n$")
+    expect_equal(welungad_run(character())$status, 2L)
+    expect_equal(welungad_run(c("study", "x"))$text == "", FALSE)
+    case <- c("alpha 0.05", "hypotheses A", "p 0.01", "weights 1")
+    expect_equal(welungad_run("test", case)$text, welungad_run("test", charToRaw(paste0(case, "\n", collapse = "")))$text)
+    expect_error(welungad_run("test", 1), "a raw vector, a text or lines")
+  })
+})

@@ -1,0 +1,152 @@
+test_that("the diabetes trial", {
+  each_way(function(way) {
+    x <- graph_test(diabetes(), c(0.018, 0.01, 0.105, 0.006))
+    expect_equal(names(which(x$rejected)), c("H1", "H2", "H4"))
+    expect_identical(unname(x$adjusted), c(0.024, 0.02, 0.105, 0.024))
+    table <- as.data.frame(x)
+    expect_identical(table$level[table$hypothesis == "H2"], 0.0125)
+    expect_equal(as.data.frame(x, exact = TRUE)$level, c("3/160", "1/80", "1/40", "1/80"))
+    expect_equal(graph_rejections(x)$hypothesis, c("H2", "H1", "H4"))
+    expect_output(print(x), "Rejected: H1, H2, H4")
+    expect_output(print(x, exact = TRUE), "3/160")
+  })
+})
+
+test_that("a value that is not reached is told", {
+  each_way(function(way) {
+    graph <- graph_create(c(1, 0), matrix(0, 2, 2))
+    x <- graph_test(graph, c(0.01, 0.01))
+    expect_equal(unname(x$reached), c(TRUE, FALSE))
+    expect_output(print(x), "1 not reached")
+  })
+})
+
+test_that("a p-value that looks like its level is told", {
+  each_way(function(way) {
+    x <- graph_test(holm(3), c("0.0083333334", "0.5", "0.5"))
+    expect_false(any(x$rejected))
+    expect_output(print(x), "agree in the digits shown")
+  })
+})
+
+test_that("the priorities order the rejections", {
+  each_way(function(way) {
+    graph <- graph_create(rep("1/4", 4), matrix(0, 4, 4))
+    p <- c(0.004, 0.003, 0.001, 0.002)
+    expect_equal(graph_test(graph, p)$order, c("H1", "H2", "H3", "H4"))
+    expect_equal(graph_test(graph, p, priority = "last")$order, c("H4", "H3", "H2", "H1"))
+    expect_equal(graph_test(graph, p, priority = "ratio")$order, c("H3", "H4", "H2", "H1"))
+  })
+})
+
+test_that("closed tests show each intersection", {
+  each_way(function(way) {
+    x <- graph_test_closure(holm(3), c(0.01, 0.005, 0.03))
+    expect_equal(names(which(x$rejected)), c("H1", "H2"))
+    table <- as.data.frame(x, exact = TRUE)
+    expect_equal(nrow(table), 7)
+    expect_equal(table$"level H1"[table$intersection == "H1, H3"], "1/80")
+    expect_equal(table$local, table$intersection != "H3")
+    expect_equal(table$closed, table$intersection != "H3")
+    expect_output(print(x), "Rejected: H1, H2")
+    decided <- graph_test(diabetes(), c(0.018, 0.01, 0.105, 0.006))$rejected
+    expect_equal(graph_test_closure(diabetes(), c(0.018, 0.01, 0.105, 0.006))$rejected, decided)
+  })
+})
+
+test_that("verdicts that are not the proved ones stop", {
+  sets <- list(1:2, 2L, 1L)
+  expect_silent(welungad:::hold_verdicts(sets, c(TRUE, TRUE, FALSE), c(TRUE, TRUE, FALSE), 2))
+  expect_error(welungad:::hold_verdicts(sets, c(FALSE, TRUE, FALSE), c(FALSE, TRUE, FALSE), 2), "not those of the proved call")
+})
+
+test_that("bounds of true discoveries", {
+  each_way(function(way) {
+    x <- graph_bounds(holm(3), c(0.01, 0.005, 0.03))
+    expect_equal(bound_of(x, c("H1", "H2")), 2)
+    expect_equal(bound_of(x, 3), 0)
+    expect_equal(bound_of(x, 1:3), 2)
+    expect_equal(bound_of(x, character()), 0)
+    expect_output(print(x), "Bonferroni")
+    expect_equal(nrow(as.data.frame(x)), 7)
+    pair <- graph_create(c(1 / 2, 1 / 2), rbind(0:1, 1:0))
+    simes <- graph_simes(pair, c(0.04, 0.05), 0.05)
+    expect_true(all(simes$rejected))
+    expect_equal(simes$top, 1:2)
+    expect_output(print(simes), "Simes")
+  })
+})
+
+test_that("entangled graphs remember where weight came from", {
+  each_way(function(way) {
+    x <- graph_test(entangled(), c(0.02, 0.04, 0.01, 0.04), 0.05)
+    expect_equal(names(which(x$rejected)), c("A", "B", "C"))
+    expect_true(graph_steps(x)$compared)
+    expect_output(print(entangled()), "2 components")
+    expect_error(graph_entangle(holm(2), holm(3), shares = c(0.5, 0.5)), "same hypotheses")
+  })
+})
+
+test_that("names and labels", {
+  each_way(function(way) {
+    graph <- graph_create(c("HbA1c low" = 1 / 2, "HbA1c_low" = 1 / 2), rbind(0:1, 1:0))
+    expect_equal(graph$labels, c("HbA1c low", "HbA1c_low"))
+    expect_equal(graph$names, c("HbA1c_low_2", "HbA1c_low"))
+    x <- graph_test(graph, c("HbA1c_low" = 0.5, "HbA1c low" = 0.001))
+    expect_equal(unname(x$rejected), c(TRUE, FALSE))
+    expect_output(print(x), "HbA1c low ")
+    expect_error(graph_test(graph, c(a = 0.1, b = 0.2)), "names of the p-values")
+    long <- graph_create(1, matrix(0, 1, 1), hyp_names = strrep("long name ", 9))
+    expect_true(nchar(long$names) <= 32)
+    other <- graph_create(c(A = 1), matrix(0, 1, 1), labels = "overall survival")
+    expect_output(print(other), "A for overall survival")
+    expect_error(graph_create(c(A = 1, B = 0), matrix(0, 2, 2, dimnames = list(c("B", "A"), NULL))), "in their order")
+  })
+})
+
+test_that("a graph shows what was read", {
+  each_way(function(way) {
+    expect_output(print(holm(3)), "0.3333333333333333 as 1/3")
+    expect_output(print(graph_create(c(0.1 + 0.2, 0.5), matrix(0, 2, 2))), "0.30000000000000004 as this decimal")
+    table <- as.data.frame(holm(3))
+    expect_identical(table$weight, rep(1 / 3, 3))
+    expect_equal(as.data.frame(holm(3), exact = TRUE)$weight, rep("1/3", 3))
+  })
+})
+
+test_that("evidence is made and checked", {
+  each_way(function(way) {
+    p <- c(0.018, 0.01, 0.105, 0.006)
+    proof <- graph_evidence(diabetes(), p)
+    check <- graph_check(diabetes(), p, evidence = proof)
+    expect_true(check$yes)
+    expect_setequal(check$listed, c("H1", "H2", "H4"))
+    expect_equal(check$kept, "H3")
+    expect_output(print(check), "The evidence holds")
+    other <- graph_check(diabetes(), c(0.5, 0.01, 0.105, 0.006), evidence = proof$evidence)
+    expect_false(other$yes)
+    expect_match(other$reason, "^step [0-9] ?.*above level")
+    expect_output(print(other), "does not hold")
+    expect_equal(proof$case, graph_canon(diabetes(), p))
+    broken <- refusal_of(graph_check(diabetes(), p, evidence = proof$evidence[-1]))
+    expect_match(broken$line, "^malformed: proof line 1: ")
+  })
+})
+
+test_that("pictures are drawn", {
+  each_way(function(way) {
+    file <- tempfile(fileext = ".pdf")
+    grDevices::pdf(file)
+    on.exit(unlink(file))
+    plot(holm(8), main = "Holm")
+    plot(entangled())
+    plot(graph_catalogue("improved-parallel", 3, 3), layout = cbind(1:3, rep(2:1, each = 3)))
+    x <- graph_test(diabetes(), c(0.018, 0.01, 0.105, 0.006))
+    plot(x)
+    plot(graph_steps(x))
+    plot(graph_create(1, matrix(0, 1, 1)))
+    expect_error(plot(holm(3), layout = cbind(1:2, 1:2)), "two coordinates")
+    grDevices::dev.off()
+    expect_true(file.size(file) > 1000)
+  })
+})

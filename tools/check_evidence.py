@@ -1,0 +1,300 @@
+#!/usr/bin/env python3
+"""Checks whether a document is evidence for the rejections of a graphical test. For a reviewer who trusts no program.
+    tools/check_evidence.py CASE EVIDENCE [--form text|csv] [--alpha N]
+
+CASE and EVIDENCE are files in the formats of docs/FORMATS.md; `--alpha` gives the level of a sheet. The script shares no
+code with `welungad` and needs Python's standard library alone. It prints what `welungad check` prints, with its status:
+0 and `yes`, 1 and the first broken condition, 3 and what is malformed. Its numbers have no limit of size, so it also decides
+what `welungad` refuses as too wide (5) or as past a limit (4). Where such numbers occur, it says so on standard error.
+A case has hypotheses with p-values p, and components with shares; each component has weights w and edges g. Epsilon is a
+positive number below every positive fraction, and lim x is x with epsilon at 0. Evidence lists steps. Each has a hypothesis j
+and, in each component, a flow y_r for the hypothesis r of each earlier step. Sums go over the hypotheses e of these steps:
+  (1) j is not the hypothesis of an earlier step;
+  (2) y_r >= 0  and  y_r <= w_r + sum of y_e * g_er,  in each component, for each r;
+  (3) L > 0  and  p_j <= L * alpha,  where L = sum over components of share * lim (w_j + sum of y_e * g_ej).
+By (2) y_r is at most the weight that passes through r once all earlier hypotheses are removed, so L is at most the weight of
+j then. A set of hypotheses that contains a listed one contains a first one of them; there it has at least this weight, since
+weights grow as sets shrink. So the local test rejects every such set, and the closed test each listed hypothesis.
+Version 2 also has, for each hypothesis k that no step names, in each component an exit h_r for the hypothesis r of each step:
+  (4) h_r >= 0  and  h_r >= g_rk + sum of g_re * h_e,  and  w_k + sum of w_r * h_r <= 1,  in each component, for each r;
+  (5) U = 0  or  p_k > U * alpha,  where U = sum over components of share * lim (w_k + sum of w_r * h_r).
+By (4) U is at least the weight of k once all listed hypotheses are removed, so by (5) the local test does not reject the set
+of all the others, and the closed test rejects none of them.
+"""
+import csv
+import io
+import re
+import sys
+from argparse import ArgumentParser, Namespace
+from fractions import Fraction
+from functools import reduce
+from itertools import product, zip_longest
+
+getattr(sys, "set_int_max_str_digits", int)(0)
+ZERO, ONE = Fraction(0), Fraction(1)
+WIDEST = [0]  # bits of the widest whole number so far
+
+
+class Stop(Exception):
+    """The end of a check, with its status and its line."""
+
+
+def require(holds, *line, status=3):
+    if not holds:
+        raise Stop(status, ": ".join(line) + "\n")
+
+
+def trimmed(a):
+    """A polynomial in epsilon: a list of fractions, by ascending power. The last one is not 0."""
+    while a and a[-1] == 0:
+        a.pop()
+    WIDEST[0] = max([WIDEST[0], *(part.bit_length() for x in a for part in x.as_integer_ratio())])
+    return a
+
+
+def plus(a, b):
+    return trimmed([x + y for x, y in zip_longest(a, b, fillvalue=ZERO)])
+
+
+def times(a, b):
+    result = [ZERO] * (len(a) + len(b))
+    for i, x in enumerate(a):
+        for j, y in enumerate(b):
+            result[i + j] += x * y
+    return trimmed(result)
+
+
+def total(start, products):
+    return reduce(lambda sum, product: plus(sum, times(*product)), products, start)
+
+
+def is_at_most(a, b):
+    """Whether the first coefficient of b - a that is not 0 is positive, or there is none."""
+    return next((x > 0 for x in plus(b, times([-ONE], a)) if x), True)
+
+
+def numeral(text, where):
+    require(re.fullmatch(r"[+-]?([0-9]+/[0-9]+|([0-9]+\.?[0-9]*|\.[0-9]+)([eE][+-]?[0-9]{1,4})?)", text), where, "number")
+    require(not re.search("/0+$", text), where, "zero denominator")
+    return Fraction(text)
+
+
+def expression(text, where):
+    """The polynomial of `sum = [+|-] term {(+|-) term}`, `term = factor {(*|/) factor | epsilon | (sum)}`."""
+    tokens = re.findall(r"\\epsilon|(?:[0-9]+\.?[0-9]*|\.[0-9]+)(?:[eE][+-]?[0-9]+)?|[^ \t]", text) + ["end"]
+    def take(wanted):
+        require(tokens[0] in wanted, where, "expression")
+        return tokens.pop(0)
+    def terms():
+        value = times([Fraction((take("+-") if tokens[0] in "+-" else "") + "1")], term())
+        while tokens[0] in "+-":
+            value = plus(value, times([Fraction(take("+-") + "1")], term()))
+        return value
+    def term():
+        value = factor()
+        while tokens[0] in ["*", "/", "(", "\\epsilon"]:
+            divides = tokens[0] in "*/" and take("*/") == "/"
+            other = factor()
+            require(not divides or len(other) == 1, where, "divisor" if other else "zero divisor")
+            value = times(value, [1 / other[0]] if divides else other)
+        return value
+    def factor():
+        if re.match("[0-9.]", tokens[0]):
+            return trimmed([numeral(tokens.pop(0), where)])
+        if take(["(", "\\epsilon"]) == "(":
+            value = terms()
+            take(")")
+            return value
+        return [ZERO] * (int(take("0123456789")) if tokens[0] == "^" and take("^") else 1) + [ONE]
+    value = terms()
+    take(["end"])
+    return value
+
+
+class Lines:
+    """The lines of a text that are not skipped, each with its place."""
+
+    def __init__(self, text, kind):
+        lines = text.removesuffix("\n").split("\n") if text else []
+        rows = [(f"{kind} {n}", line.removesuffix("\r").strip(" \t")) for n, line in enumerate(lines, 1)]
+        self.rows = [(where, line) for where, line in rows if line and line[0] != "#"] + [(f"{kind} {len(lines) + 1}", "")]
+
+    def first(self):
+        """The first word of the next line; that of the end is empty."""
+        return re.split("[ \t]+", self.rows[0][1])[0]
+
+    def take(self, word, least, most=1000, split=0):
+        """The place of the next line, which begins with this word, and the words after it."""
+        where, line = self.rows[0]
+        require(self.first() == word, where, "unexpected" if line else "ended")
+        words = re.split("[ \t]+", line, maxsplit=split)[1:]
+        require(least <= len(words) <= most, where, "words")
+        self.rows.pop(0)
+        return where, words
+
+    def numerals(self, word, least, most=1000):
+        where, words = self.take(word, least, most)
+        return [numeral(word, where) for word in words]
+
+
+def read_text(text):
+    lines = Lines(text, "malformed: line")
+    alpha, names, components = lines.numerals("alpha", 1, 1)[0], lines.take("hypotheses", 0)[1], []
+    p, several = lines.numerals("p", 1) if lines.first() == "p" else [], lines.first() == "component"
+    while not components or (several and lines.first() == "component"):
+        [share] = lines.numerals("component", 1, 1) if several else [ONE]
+        components.append(Namespace(share=share, weights=lines.numerals("weights", 0), edges=[]))
+        while lines.first() == "edge":
+            where, words = lines.take("edge", 3, split=3)
+            require({*words[:2]} <= {*names}, where, "unknown name")
+            components[-1].edges.append((*map(names.index, words[:2]), expression(words[2], where)))
+    require(lines.first() != "stages", "malformed: kind")
+    require(not lines.first(), lines.rows[0][0], "unexpected")
+    return Namespace(alpha=alpha, names=names, p=p, components=components)
+
+
+def read_sheet(text, alpha):
+    rows = [[cell.strip(" \t") for cell in row] for row in csv.reader(io.StringIO(text, newline="")) if row]
+    require(rows and rows[0][0] in ("", "hypothesis") and rows[0][1:3] == ["weight", "p"], "malformed: row 1 column 1: header")
+    names = rows.pop(0)[3:]
+    require(len(rows) == len(names), f"malformed: row {len(rows) + 1} column 1: records")
+    for i, row in enumerate(rows):
+        require(len(row) == len(names) + 3, f"malformed: row {i + 2} column 1: width")
+        require(row[0] == names[i], f"malformed: row {i + 2} column 1: name")
+    rows = [[(cell, f"malformed: row {i} column {j}") for j, cell in enumerate(row, 1)] for i, row in enumerate(rows, 2)]
+    weights = [numeral(*row[1]) for row in rows]
+    p = [None if row[2][0] in ("", "NA") else numeral(*row[2]) for row in rows]
+    edges = [(i, j, expression(*cell)) for i, row in enumerate(rows) for j, cell in enumerate(row[3:])]
+    p = p if any(x is not None for x in p) else []
+    return Namespace(alpha=alpha, names=names, p=p, components=[Namespace(share=ONE, weights=weights, edges=edges)])
+
+
+def read_case(text, form="text", alpha=None):
+    """A valid case, whose edges are polynomials at pairs of positions."""
+    case = read_text(text) if form == "text" else read_sheet(text.removeprefix("\xef\xbb\xbf"), alpha)
+    names, no = case.names, "malformed: case"
+    require(names, no, "no hypothesis")
+    for i, name in enumerate(names):
+        require(re.fullmatch("[A-Za-z0-9_.-]{1,32}", name), no, f"name {i + 1}")
+        require(name not in names[:i], no, f"duplicate name {i + 1}")
+    require(0 < case.alpha <= 1, no, "alpha")
+    for c, part in enumerate(case.components, 1):
+        require(part.share >= 0, no, f"share component {c}")
+        require(len(part.weights) == len(names), no, f"weight count component {c}")
+        for weight, name in zip(part.weights, names):
+            require(weight >= 0, no, f"weight of {name} component {c}")
+        require(sum(part.weights) <= 1, no, f"weight sum component {c}")
+        for n, (i, j, edge) in enumerate(part.edges):
+            words = f"edge {names[i]} {names[j]} component {c}"
+            require(i != j or not edge, no, f"self edge of {names[i]} component {c}")
+            require((i, j) not in [x[:2] for x in part.edges[:n]], no, f"repeated {words}")
+            require(is_at_most([], edge) and is_at_most(edge, [ONE]), no, words)
+        for i, name in enumerate(names):
+            row = reduce(plus, [edge for k, _, edge in part.edges if k == i], [])
+            require(is_at_most(row, [ONE]), no, f"row sum of {name} component {c}")
+        part.edges = {pair: [] for pair in product(range(len(names)), repeat=2)} | {(i, j): edge for i, j, edge in part.edges}
+    require(sum(part.share for part in case.components) <= 1, no, "share sum")
+    require(len(case.p) in (0, len(names)), no, f"p count {len(case.p)}")
+    for name, p in zip(names, case.p):
+        require(p is not None, no, f"p missing {name}")
+        require(0 <= p <= 1, no, f"p of {name}")
+    case.is_plain = all(len(edge) <= 1 for part in case.components for edge in part.edges.values())
+    return case
+
+
+def read_numbers(lines, case, word, steps):
+    """For each component, the numbers at the hypotheses of steps: numerators, and one positive denominator of them all."""
+    fraction, row = "-?[0-9]+(/[0-9]+)?", r"\[-?[0-9]+(,-?[0-9]+)*\]"
+    for c in range(1, len(case.components) + 1):
+        pairs, different = [], []
+        for j, _ in steps:
+            where, words = lines.take(word, 3, 3)
+            require(words[:2] == [str(c), case.names[j]], where, word)
+            require(re.fullmatch(fraction if case.is_plain else f"{fraction}|{row}/{row}", words[2]), where, "number")
+            above, below = (trimmed([Fraction(x) for x in part.strip("[]").split(",")]) for part in (words[2] + "/1").split("/")[:2])
+            require(below, where, "number")
+            first = [1 / next(x for x in below if x)]
+            pairs.append((times(above, first), times(below, first)))
+            different += [] if pairs[-1][1] in different else [pairs[-1][1]]
+        numerators = [reduce(times, [x for x in different if x != below], above) for above, below in pairs]
+        yield numerators, reduce(times, different, [ONE])
+
+
+def read_evidence(text, case):
+    """The version; the steps, and the keeps: each a hypothesis with its numbers."""
+    lines, steps, keeps = Lines(text, "malformed: proof line"), [], []
+    where, [version] = lines.take("evidence", 1, 1)
+    require(version in ("1", "2"), where, "version")
+    while lines.first() == "step":
+        where, [name] = lines.take("step", 1, 1)
+        require(name in case.names, where, "unknown name")
+        steps.append((case.names.index(name), [*read_numbers(lines, case, "flow", steps)]))
+    for k, name in enumerate(case.names if version == "2" else []):
+        if k not in [j for j, _ in steps]:
+            where, words = lines.take("keep", 1, 1)
+            require(words == [name], where, "unexpected")
+            keeps.append((k, [*read_numbers(lines, case, "exit", steps)]))
+    lines.take("end", 0, 0)
+    require(not lines.first(), lines.rows[0][0], "unexpected")
+    return version, steps, keeps
+
+
+def limit(above, below):
+    """The limit of a quotient from 0 to 1."""
+    power = next(i for i, x in enumerate(below) if x)
+    return above[power] / below[power] if power < len(above) else ZERO
+
+
+def check(case, steps, keeps):
+    """Tests the conditions. Numbers and their sums are over one positive denominator, `below`."""
+    names, listed = case.names, [j for j, _ in steps]
+    for s, (j, flows) in enumerate(steps):
+        no, level, earlier = f"no: step {s + 1}", ZERO, listed[:s]
+        require(j not in earlier, no, "repeated", status=1)
+        for c, (part, (ys, below)) in enumerate(zip(case.components, flows), 1):
+            sums = {k: total(times([part.weights[k]], below), [(y, part.edges[e, k]) for e, y in zip(earlier, ys)]) for k in [*earlier, j]}
+            for r, y in zip(earlier, ys):
+                require(is_at_most([], y), no, f"component {c} flow of {names[r]} negative", status=1)
+                require(is_at_most(y, sums[r]), no, f"component {c} flow of {names[r]} exceeds", status=1)
+            level += part.share * limit(sums[j], below)
+        require(level > 0, no, "no level", status=1)
+        require(case.p[j] <= level * case.alpha, no, "above level", status=1)
+    for k, exits in keeps:
+        no, level, parts = f"no: keep {names[k]}", ZERO, [*enumerate(zip(case.components, exits), 1)]
+        for c, (part, (hs, below)) in parts:
+            for r, h in zip(listed, hs):
+                leaving = total(times(part.edges[r, k], below), [(part.edges[r, e], x) for e, x in zip(listed, hs)])
+                require(is_at_most([], h), no, f"component {c} exit of {names[r]} negative", status=1)
+                require(is_at_most(leaving, h), no, f"component {c} exit of {names[r]} short", status=1)
+        for c, (part, (hs, below)) in parts:
+            allowed = total(times([part.weights[k]], below), [([part.weights[r]], h) for r, h in zip(listed, hs)])
+            require(is_at_most(allowed, below), no, f"component {c} level above one", status=1)
+            level += part.share * limit(allowed, below)
+        require(level == 0 or case.p[k] > level * case.alpha, no, "legal", status=1)
+
+
+def answer(case, evidence, form="text", alpha=None):
+    """The status and the text that `welungad check` ends with."""
+    try:
+        require((form == "csv") == (alpha is not None), "usage: --alpha gives the level of a sheet", status=2)
+        case = read_case(case.decode("latin-1"), form, alpha and numeral(alpha, "usage: --alpha"))
+        require(case.p, "malformed: kind")
+        version, steps, keeps = read_evidence(evidence.decode("latin-1"), case)
+        check(case, steps, keeps)
+    except Stop as stop:
+        return stop.args
+    lists = [("listed", steps), ("kept", keeps)][: int(version)]
+    return 0, "".join(["yes\n", *(" ".join([word, *(case.names[k] for k, _ in part)]) + "\n" for word, part in lists), "end\n"])
+
+
+if __name__ == "__main__":
+    parser = ArgumentParser(usage="check_evidence.py CASE EVIDENCE [--form text|csv] [--alpha N]")
+    parser.add_argument("files", nargs=2)
+    parser.add_argument("--form", choices=["text", "csv"], default="text")
+    parser.add_argument("--alpha")
+    words = parser.parse_args()
+    status, text = answer(*(open(file, "rb").read() for file in words.files), words.form, words.alpha)
+    if WIDEST[0] > 63:
+        print(f"note: numbers of {WIDEST[0]} bits; `welungad check` ends with 5 where its own pass 127 bits", file=sys.stderr)
+    sys.stdout.write(text)
+    sys.exit(status)

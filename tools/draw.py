@@ -1,0 +1,231 @@
+#!/usr/bin/env python3
+"""Draws the graph of a case as SVG.
+
+    tools/draw.py CASE [REPORT] [--form text|csv] [--alpha N] > PICTURE.svg
+
+CASE is a file, as for check_evidence.py; stages are left out. REPORT is a file with what `welungad test` prints for the case:
+what it rejects is then filled, and has the number of its step. A circle has the name of a hypothesis, its weight in each component
+and its p-value. An arrow has its edge. Each component has its colour. The legend has the level and the
+shares.
+"""
+import argparse
+import math
+import re
+import sys
+from html import escape
+
+from check_evidence import Stop, numeral, read_case, require
+
+COLOURS = ["#1f4e9e", "#b3541e", "#2e7d32", "#7b1fa2", "#00838f", "#8d6e00", "#ad1457", "#455a64"]
+RADIUS, GAP, HIGH = 40, 200, 215
+POWERS = ["", "ε", "ε²", "ε³", "ε⁴", "ε⁵", "ε⁶", "ε⁷", "ε⁸", "ε⁹"]
+
+
+def decimal(x):
+    """A fraction as a decimal, where it has one of at most six places."""
+    return f"{float(x):.6f}".rstrip("0").rstrip(".") if 10**6 % x.denominator == 0 else short(x)
+
+
+def short(x):
+    """A fraction, or about its value where it is long."""
+    return str(x) if len(str(x)) <= 9 else f"≈{float(x):.4g}"
+
+
+def edge_text(polynomial):
+    """An edge as `welungad canon` prints it, but for the sign of epsilon and of the product."""
+    text = ""
+    for power, x in enumerate(polynomial):
+        if x:
+            size = "" if abs(x) == 1 and power else str(abs(x))
+            text += ("−" if x < 0 else "+") + size + ("·" if size and power else "") + POWERS[power]
+    return text.removeprefix("+")
+
+
+def row_of(count, y, wide):
+    return [((wide - (count - 1) * GAP) / 2 + i * GAP, y) for i in range(count)]
+
+
+def centres(case, edges):
+    """In one row where each edge leads to the next hypothesis, in two where some hypotheses begin without a weight, else round."""
+    count = len(case.names)
+    begins = [any(part.weights[i] for part in case.components) for i in range(count)]
+    upper, lower = ([i for i in range(count) if begins[i] is has] for has in (True, False))
+    if count <= 2 or all(j == i + 1 for i, j, _, _ in edges):
+        return row_of(count, 0, 0)
+    if upper and lower and max(len(upper), len(lower)) <= 8 and len(lower) > 1:
+        wide = GAP * (max(len(upper), len(lower)) - 1)
+        found = dict(zip([*upper, *lower], row_of(len(upper), 0, wide) + row_of(len(lower), HIGH, wide)))
+        return [found[i] for i in range(count)]
+    radius = max(0.62 * GAP, 0.19 * GAP * count)
+    turns = [math.radians(360 * i / count - 90 - (180 / count if count % 2 == 0 else 0)) for i in range(count)]
+    return [(radius * math.cos(turn), radius * math.sin(turn)) for turn in turns]
+
+
+class Curve:
+    """A curve from one circle to another, bowed to its left."""
+
+    def __init__(self, start, end, bow):
+        (x, y), (u, v) = start, end
+        self.length = math.hypot(u - x, v - y)
+        self.left = ((v - y) / self.length, (x - u) / self.length)
+        middle = ((x + u) / 2 + 2 * bow * self.left[0], (y + v) / 2 + 2 * bow * self.left[1])
+        self.points = [self.rim(start, middle, RADIUS), middle, self.rim(end, middle, RADIUS + 5)]
+
+    @staticmethod
+    def rim(centre, towards, radius):
+        angle = math.atan2(towards[1] - centre[1], towards[0] - centre[0])
+        return (centre[0] + radius * math.cos(angle), centre[1] + radius * math.sin(angle))
+
+    def at(self, t):
+        (a, b), (c, d), (e, f) = self.points
+        s = 1 - t
+        return (s * s * a + 2 * s * t * c + t * t * e, s * s * b + 2 * s * t * d + t * t * f)
+
+
+def text_at(x, y, text, size, colour="#111", anchor="middle", weight="normal"):
+    return (
+        f'<text x="{x:.1f}" y="{y:.1f}" font-size="{size:.1f}" fill="{colour}" text-anchor="{anchor}" '
+        f'font-weight="{weight}">{escape(text)}</text>'
+    )
+
+
+def bow_of(edges, i, j, c, centre):
+    """How far an arrow is bowed to its left: by its component where several have it, more where the way back or a circle is between.
+    In one of two rows an arrow past a circle is bowed away from the other row."""
+    fellows = [k for a, b, k, _ in edges if (a, b) == (i, j)]
+    meets = any((b, a) == (i, j) for a, b, _, _ in edges)
+    length = math.dist(centre[i], centre[j])
+    ways = [math.dist(centre[i], spot) + math.dist(spot, centre[j]) for k, spot in enumerate(centre) if k not in (i, j)]
+    passes = any(way < length + 20 for way in ways)
+    bow = (22 if meets or len(fellows) > 1 else 0) + 26 * fellows.index(c) + (0.2 * length if passes else 0)
+    rows = sorted({round(y) for _, y in centre})
+    leftwards, lower = centre[j][0] < centre[i][0], round(centre[i][1]) == rows[-1]
+    return -bow - 34 if passes and len(rows) == 2 and leftwards != lower else bow
+
+
+def arrows(edges, centre):
+    """The lines of all arrows, and then their labels, which are put on top; each label stands where it covers no other."""
+    lines, labels, taken = [], [], [*centre]
+    for i, j, c, edge in edges:
+        curve = Curve(centre[i], centre[j], bow_of(edges, i, j, c, centre))
+        (a, b), (p, q), (e, f) = curve.points
+        lines.append(
+            f'<path d="M{a:.1f},{b:.1f} Q{p:.1f},{q:.1f} {e:.1f},{f:.1f}" fill="none" stroke="{COLOURS[c % 8]}" '
+            f'stroke-width="1.6" marker-end="url(#head{c % 8})"/>'
+        )
+        text = edge_text(edge)
+        wide = 8.2 * len(text) + 6
+        spots = [curve.at(t) for t in (0.36, 0.3, 0.42, 0.24, 0.48, 0.54, 0.6)]
+        x, y = max(spots, key=lambda spot: min([70, *(math.hypot((spot[0] - u) * 0.7, spot[1] - v) for u, v in taken)]))
+        taken.append((x, y))
+        labels.append(f'<rect x="{x - wide / 2:.1f}" y="{y - 10:.1f}" width="{wide:.1f}" height="19" rx="4" fill="#fff"/>')
+        labels.append(text_at(x, y + 5, text, 14, COLOURS[c % 8]))
+    return lines + labels
+
+
+def outwards(centre, i):
+    """The direction in which the fewest arrows leave a circle: up in one row, else away from the middle."""
+    x, y = (sum(values) / len(centre) for values in zip(*centre))
+    rows = {round(v) for _, v in centre}
+    if len(rows) == 1:
+        return (0, -1)
+    across, down = (0, centre[i][1] - y) if len(rows) == 2 else (centre[i][0] - x, centre[i][1] - y)
+    length = math.hypot(across, down) or 1
+    return (across / length, down / length)
+
+
+def circle(case, i, centre, step):
+    """A hypothesis: its circle, name, weights, p-value, and the step at which it is rejected."""
+    x, y = centre[i]
+    fill = "#cfe3cf" if step else "#fff"
+    drawn = [f'<circle cx="{x:.1f}" cy="{y:.1f}" r="{RADIUS}" fill="{fill}" stroke="#111" stroke-width="1.6"/>']
+    name, (across, down) = case.names[i], outwards(centre, i)
+    if len(name) <= 10:
+        drawn.append(text_at(x, y - 11, name, min(16, 2 * RADIUS / (0.7 * max(len(name), 4))), weight="bold"))
+    else:
+        drawn.append(text_at(x, y + (RADIUS + 25) * (-1 if down <= 0 else 1), name, 12, weight="bold"))
+    weights = [(short(part.weights[i]), COLOURS[c % 8] if len(case.components) > 1 else "#111") for c, part in enumerate(case.components)]
+    wide = 2 * RADIUS * 0.75 / len(weights)
+    for n, (weight, colour) in enumerate(weights):
+        size = min(15, 1.7 * wide / max(3, len(weight)))
+        drawn.append(text_at(x + (n - (len(weights) - 1) / 2) * wide, y + 7, weight, size, colour))
+    if case.p:
+        text = f"p {decimal(case.p[i])}"
+        drawn.append(text_at(x, y + 24, text, min(12, 2 * RADIUS / (0.72 * len(text))), "#333"))
+    if step:
+        x, y = x + RADIUS * across, y + RADIUS * down
+        drawn.append(f'<circle cx="{x:.1f}" cy="{y:.1f}" r="11" fill="#2e6b34"/>')
+        drawn.append(text_at(x, y + 4.5, step, 13, "#fff", weight="bold"))
+    return drawn
+
+
+def legend(case, edges, steps):
+    lines = [("#111", f"level α = {decimal(case.alpha)}")]
+    if len(case.components) > 1 or case.components[0].share != 1:
+        lines += [(COLOURS[c % 8], f"component {c + 1}: share {part.share}") for c, part in enumerate(case.components)]
+    if any(len(edge) > 1 for _, _, _, edge in edges):
+        lines.append(("#111", "ε: a positive number below every positive fraction"))
+    if steps is not None:
+        lines.append(("#111", "filled: rejected, with the number of the step"))
+    return lines
+
+
+def picture(case, steps=None):
+    """The SVG text. `steps` gives the number of the step of each rejected name."""
+    edges = [(i, j, c, edge) for c, part in enumerate(case.components) for (i, j), edge in part.edges.items() if edge]
+    centre = centres(case, edges)
+    drawn = arrows(edges, centre)
+    for i, name in enumerate(case.names):
+        drawn += circle(case, i, centre, (steps or {}).get(name))
+    lines = legend(case, edges, steps)
+    xs, ys = [[x for x, _ in centre], [y for _, y in centre]]
+    far = max([0, *(abs(bow_of(edges, i, j, c, centre)) for i, j, c, _ in edges if ys[i] == ys[j])])
+    side = max(75, *(4 * len(name) for name in case.names))
+    left, right = min(xs) - side, max(xs) + side
+    high = max(RADIUS + (40 if any(len(name) > 10 for name in case.names) else 25), far + 18)
+    top, bottom = min(ys) - high, max(ys) + high + 18
+    right = max(right, left + 30 + max(8.2 * len(text) for _, text in lines))
+    drawn += [text_at(left + 16, bottom + 20 * n, text, 14, colour, "start") for n, (colour, text) in enumerate(lines)]
+    bottom += 20 * len(lines)
+    heads = "".join(
+        f'<marker id="head{c}" viewBox="0 0 10 10" refX="8" refY="5" markerWidth="7" markerHeight="7" orient="auto">'
+        f'<path d="M0,1 L9,5 L0,9 z" fill="{colour}"/></marker>'
+        for c, colour in enumerate(COLOURS)
+    )
+    size = f"{left:.0f} {top:.0f} {right - left:.0f} {bottom - top:.0f}"
+    return "\n".join(
+        [
+            f'<svg xmlns="http://www.w3.org/2000/svg" viewBox="{size}" width="{right - left:.0f}" height="{bottom - top:.0f}" '
+            'font-family="DejaVu Sans, Verdana, Helvetica, sans-serif">',
+            f"<defs>{heads}</defs>",
+            f'<rect x="{left:.0f}" y="{top:.0f}" width="100%" height="100%" fill="#fff"/>',
+            *drawn,
+            "</svg>",
+            "",
+        ]
+    )
+
+
+def main():
+    parser = argparse.ArgumentParser(usage="draw.py CASE [REPORT] [--form text|csv] [--alpha N]")
+    parser.add_argument("case")
+    parser.add_argument("report", nargs="?")
+    parser.add_argument("--form", choices=["text", "csv"], default="text")
+    parser.add_argument("--alpha")
+    words = parser.parse_args()
+    try:
+        require((words.form == "csv") == (words.alpha is not None), "usage: --alpha gives the level of a sheet", status=2)
+        text = re.sub(r"(?ms)^[ \t]*stages[ \t].*", "", open(words.case, "rb").read().decode("latin-1"))
+        case = read_case(text, words.form, words.alpha and numeral(words.alpha, "usage: --alpha"))
+    except Stop as stop:
+        sys.stderr.write(stop.args[1])
+        sys.exit(stop.args[0])
+    steps = None
+    if words.report:
+        lines = [line.split() for line in open(words.report, encoding="latin-1")]
+        steps = {line[2]: line[1] for line in lines if line[:1] == ["step"]}
+    sys.stdout.write(picture(case, steps))
+
+
+if __name__ == "__main__":
+    main()
