@@ -2,7 +2,7 @@
 //!
 //! Proved:
 //! - `read_all`: `whole`, `ended`, `taken`, `later`, `clean`, `turns`. `write_all`: `bytes`, `cause`, `turns`.
-//! - `MemorySource`, `MemorySink`, and `FailingSource` and `FailingSink`, whose constructors say which takes and puts
+//! - `MemorySource`, `MemorySink`, `WholeText`, and `FailingSource` and `FailingSink`, whose constructors say which takes and puts
 //!   fail. `MemoryKeeper` and `FailingKeeper`, which keep looks in memory, and fail by plan.
 //!
 //! Only tested: that the adapters `StdSource` and `StdSink` pass on the bytes of standard input and output. They are
@@ -23,6 +23,7 @@ mod plan;
 mod reading;
 mod remaining;
 mod room;
+mod whole_text;
 mod writing;
 
 pub use adapters::{StdSink, StdSource};
@@ -35,4 +36,5 @@ pub use memory_keeper::MemoryKeeper;
 pub use memory_sink::MemorySink;
 pub use memory_source::MemorySource;
 pub use reading::{ReadEnd, Source, read_all};
+pub use whole_text::WholeText;
 pub use writing::{Sink, write_all};

@@ -2,7 +2,7 @@
 use field_core::List;
 use graph_io::{
     Failed, FailingSink, FailingSource, MemorySink, MemorySource, ReadEnd, Sink, StdSink,
-    StdSource, read_all, write_all,
+    StdSource, WholeText, read_all, write_all,
 };
 use std::test::Fail;
 
@@ -58,6 +58,18 @@ fn writes_what_fits(rt: HostRuntime) -> Result<(), Fail> {
     assert!(rt; sink.put(b"1") == Err(Failed));
     assert!(rt; sink.put(b"") == Ok(0));
     assert!(rt; sink.held() == b"reject H".as_slice());
+    Ok(())
+}
+
+/// Whether a sink that grows holds each piece whole, one after the other.
+#[test]
+fn holds_a_whole_text(rt: HostRuntime) -> Result<(), Fail> {
+    let alloc = rt.alloc();
+    let mut sink = WholeText::new(alloc);
+    write_all(&mut sink, b"reject")?;
+    assert!(rt; sink.put(b"") == Ok(0));
+    assert!(rt; sink.put(b" H1") == Ok(3));
+    assert!(rt; sink.into_text().as_slice() == b"reject H1".as_slice());
     Ok(())
 }
 

@@ -1,0 +1,34 @@
+#!/bin/sh
+# Measures a call of `test` from C and from Python: in process, and by the program, started for each call. Prints a table in
+# microseconds: the processor time of a call in process, and the time of a started program; each the least of five rounds.
+# Nothing of it is a gate.
+set -eu
+here=$(cd "$(dirname "$0")" && pwd)
+out=$here/out
+mkdir -p "$out"
+python3 "$here/cases.py" "$out"
+cp "$here/../examples/holm.txt" "$out/holm-3.txt"
+"$here/../c/build.sh"
+"$here/../welungad" test <"$out/holm-3.txt" >/dev/null
+program=$here/../crates/welungad/out/welungad
+cc -O2 -Wall -Wextra -o "$out/calls" "$here/calls.c" "$here/../c/out/libwelungad.a"
+
+# Prints a row of the table.
+row() {
+    printf '%-24s %10s %14s %16s\n' "$@"
+}
+
+row 'microseconds a call' case 'in process' 'started program'
+# shellcheck disable=SC2086
+for sizes in 'holm-3 2000 50' 'full-16 200 50' 'full-64 5 10'; do
+    set -- $sizes
+    file=$out/$1.txt
+    # each script prints its columns
+    from_c=$("$out/calls" "$program" "$file" "$2" "$3")
+    from_python=$(WELUNGAD_LIBRARY=$here/../c/out/libwelungad.so python3 "$here/calls.py" "$program" "$file" "$2" "$3")
+    row C "$1" ${from_c% *} ${from_c#* }
+    name=$1
+    set -- $from_python
+    row 'Python run' "$name" "$1" "$3"
+    row 'Python test' "$name" "$2" "$3"
+done

@@ -1,0 +1,71 @@
+//! The top call for C: words, a case and a proof in, a text and a status out, all in the caller's memory.
+//!
+//! Proved:
+//! - `welungad_run`: `answers`, `unread`. If the bytes are those of words, the text and the status are those of the answer that
+//!   these words, this case and this proof call for (`outcome` of `graph_cli`), or memory ran out. As much of the text as fits is
+//!   put into the caller's memory, and its whole length is reported. Status 7 comes exactly when the text doesn't fit. If the
+//!   bytes are not those of any words, the status is 10 and nothing is put, or memory ran out.
+//! - `welungad_interface`.
+//!
+//! Not proved, as at any export: that the caller's C code keeps what `c/welungad.h` requires.
+#![tactic(auto)]
+
+ghost use Rattle.std.specs.Prelude.{◌≡◌, ℕ, List};
+ghost use Rattle.welungad_c.specs.Words.{AreWords};
+ghost use Rattle.welungad_c.specs.Calls.{Answers, HasNoWords};
+
+mod delivery;
+mod reply;
+#[cfg(test)]
+mod tests;
+mod whole_text;
+mod words;
+
+use delivery::deliver;
+use field_core::NoMemory;
+use reply::Reply;
+use std::alloc::Global;
+use words::{NoWords, read_words};
+
+/// Returns the number of this interface. It changes when a parameter, a status or the meaning of a call changes.
+#[unsafe(no_mangle)]
+pub extern "C" fn welungad_interface() -> u32
+    ensures { result ≡ 1 }
+{
+    1
+}
+
+/// Does what the program does for all words except those of a study, in the caller's memory.
+///
+/// `words` are the words after the program's name, each ended by a byte 0. `case` holds the bytes of standard input, and `proof`
+/// those of the file that the words name. As much of the text as fits goes to the front of `out`; the rest of `out` stays.
+/// `needed` becomes the length of the whole text.
+///
+/// Statuses: 0 to 5 and 8 are the program's. 7: the text doesn't fit into `out`. 10: `words` aren't words in UTF-8, each ended
+/// by a byte 0; then `out` stays, and `needed` becomes 0.
+#[unsafe(no_mangle)]
+pub extern "C" fn welungad_run(
+    alloc: Global,
+    words: &[u8],
+    case: &[u8],
+    proof: &[u8],
+    out: &mut [u8],
+    needed: &mut usize,
+) -> u8
+    ensures answers { (ws : List (List ℕ)) → AreWords words.now ws →
+        Answers ws case.now proof.now out.old out.new needed.new result }
+    ensures unread { ((ws : List (List ℕ)) → ¬ AreWords words.now ws) →
+        HasNoWords out.old out.new needed.new result }
+{
+    match read_words(alloc, words) {
+        Ok(words) => match Reply::to(alloc, words.as_slice(), case, proof) {
+            Ok(reply) => deliver(reply.text.as_slice(), reply.status, out, needed),
+            Err(NoMemory) => deliver(b"no memory\n", 8, out, needed),
+        },
+        Err(NoWords::NoMemory) => deliver(b"no memory\n", 8, out, needed),
+        Err(NoWords::Unreadable) => {
+            *needed = 0;
+            10
+        }
+    }
+}

@@ -1,0 +1,232 @@
+"""Tests of welungad.py: each row of crates/acceptance/data that `run` answers, and values by hand."""
+import collections
+import os
+import pickle
+import threading
+import unittest
+from fractions import Fraction
+
+import acceptance_rows
+import welungad
+
+EXAMPLES = os.path.join(os.path.dirname(os.path.abspath(__file__)), "..", "examples")
+
+# The one status of a table that no call in memory has: a source had a fault.
+READ_FAULT = 6
+
+
+def example(name):
+    with open(os.path.join(EXAMPLES, name), encoding="utf-8") as file:
+        return file.read()
+
+
+def lines_of(text):
+    return "".join(line + "\n" for line in text)
+
+
+class Rows(unittest.TestCase):
+    """Whether each row of the tables is answered with its status and its bytes."""
+
+    def test_rows(self):
+        rows = [row for row in acceptance_rows.all_rows() if row.status != READ_FAULT]
+        self.assertGreater(len(rows), 800)
+        for row in rows:
+            with self.subTest(row.place):
+                status, text = welungad.run(row.words, row.case or b"", row.file or b"")
+                self.assertEqual(status, row.status)
+                self.assertTrue(acceptance_rows.matches(text, row.printed), text[:200])
+                if row.checked is not None:
+                    self.assertEqual(welungad.run(["check", "-"], row.case, text), (0, row.checked))
+
+    def test_front_parts(self):
+        for row in acceptance_rows.all_rows():
+            if row.fronts is not None:
+                with self.subTest(row.place):
+                    self.hold_front_parts(row)
+
+    def hold_front_parts(self, row):
+        whole = row.file if row.fronts.of_file else row.case
+        statuses = collections.Counter()
+        for length in range(len(whole) + 1):
+            case, file = (row.case, whole[:length]) if row.fronts.of_file else (whole[:length], row.file or b"")
+            status, text = welungad.run(row.words, case, file)
+            statuses[status] += 1
+            if status > 1:
+                self.assertTrue(text.startswith(row.fronts.begins), text)
+        self.assertEqual(statuses, row.fronts.counts)
+
+    def test_each_refusal_is_explained(self):
+        for row in acceptance_rows.all_rows():
+            if row.status in (2, 3, 4, 5):
+                with self.subTest(row.place):
+                    (line,) = row.printed
+                    self.assertTrue(welungad.explain(line.decode().rstrip("\n")), line)
+
+
+class Calls(unittest.TestCase):
+    """What `run` takes."""
+
+    def test_texts_and_bytes(self):
+        case = example("holm.txt")
+        self.assertEqual(welungad.run(["test"], case), welungad.run((b"test",), bytearray(case.encode())))
+
+    def test_words(self):
+        self.assertEqual(welungad.run([]), (2, b"usage: word 1\n"))
+        self.assertEqual(welungad.run(["tést"]), (2, b"usage: word 1\n"))
+        self.assertEqual(welungad.run([b"t\xffst"]), (10, b""))
+        self.assertEqual(welungad.run(["test", "\udcff"]), (10, b""))
+        with self.assertRaises(ValueError):
+            welungad.run(["te\0st"])
+        with self.assertRaises(TypeError):
+            welungad.run("test")
+
+    def test_a_long_text(self):
+        names = [f"H{k}" for k in range(1, 15)]
+        case = f"alpha 0.05\nhypotheses {' '.join(names)}\nweights {' '.join(['1/14'] * 14)}\n"
+        status, text = welungad.run(["weights"], case)
+        self.assertEqual(status, 0)
+        self.assertGreater(len(text), 65536)
+        self.assertEqual(text.count(b"\nset "), 2**14 - 1)
+        # the sets are in the order of what they leave out: the last one leaves out H14 alone
+        last = " ".join(f"{name}=1/14" for name in names[:-1])
+        self.assertTrue(text.endswith(f"\nset {last}\nend\n".encode()))
+
+    def test_many_bytes(self):
+        self.assertEqual(welungad.run(["test"], b"\n" * 4194305), (4, b"limit: bytes 4194305\n"))
+        self.assertEqual(welungad.run(["test"], b"\n" * 4194304), (3, b"malformed: line 4194305: ended\n"))
+
+    def test_threads(self):
+        case = example("holm.txt")
+        wanted = welungad.run(["test"], case)
+        answers = []
+        threads = [threading.Thread(target=lambda: answers.extend(welungad.run(["test"], case) for _ in range(200)))
+                   for _ in range(4)]
+        for thread in threads:
+            thread.start()
+        for thread in threads:
+            thread.join()
+        self.assertEqual(answers, [wanted] * 800)
+
+
+class Results(unittest.TestCase):
+    """What the commands return, by hand."""
+
+    def test_decision(self):
+        decision = welungad.test(example("holm.txt"))
+        half, third = Fraction(1, 2), Fraction(1, 3)
+        self.assertEqual(decision.alpha, Fraction(1, 40))
+        self.assertEqual(decision.steps, (welungad.Tested("H2", Fraction(1, 200), third),
+                                          welungad.Tested("H1", Fraction(1, 100), half),
+                                          welungad.Tested("H3", Fraction(1, 50), Fraction(1))))
+        self.assertEqual(decision.kept, ())
+        self.assertEqual(decision.rejected, ("H1", "H2", "H3"))
+        self.assertEqual({name: it.p for name, it in decision.adjusted.items()},
+                         {"H1": Fraction(1, 50), "H2": Fraction(3, 200), "H3": Fraction(1, 50)})
+        self.assertTrue(all(it.reached for it in decision.adjusted.values()))
+
+    def test_a_retained_hypothesis(self):
+        case = lines_of(["alpha 0.05", "hypotheses A B", "p 0.02 0.9", "weights 1 0"])
+        decision = welungad.test(case, priority="last")
+        self.assertEqual(decision.kept, (welungad.Tested("B", Fraction(9, 10), Fraction(0)),))
+        self.assertEqual(decision.adjusted["B"], welungad.Adjusted(Fraction(1), False))
+
+    def test_a_sheet(self):
+        sheet = lines_of(["hypothesis,weight,p,A,B", "A,1/2,0.02,0,1", "B,1/2,0.04,1,0"])
+        for alpha in ("0.05", 0.05, Fraction(1, 20)):
+            decision = welungad.test(sheet, form="csv", alpha=alpha)
+            self.assertEqual((decision.alpha, decision.rejected), (Fraction(1, 20), ("A", "B")))
+
+    def test_weights(self):
+        case = lines_of(["alpha 0.05", "hypotheses A B", "weights 1/2 1/4", "edge A B 1/2"])
+        weights = welungad.weights(case)
+        self.assertEqual(weights.of("A", "B"), {"A": Fraction(1, 2), "B": Fraction(1, 4)})
+        self.assertEqual(weights.of("B"), {"B": Fraction(1, 2)})
+        self.assertEqual(len(weights.weights), 3)
+
+    def test_bounds(self):
+        case = lines_of(["alpha 0.05", "hypotheses A B", "p 0.02 0.9", "weights 1/2 1/2"])
+        bounds = welungad.bounds(case)
+        self.assertEqual((bounds.of("A", "B"), bounds.of("A"), bounds.of("B")), (1, 1, 0))
+        simes = welungad.simes(case)
+        self.assertEqual((simes.of("B", "A"), simes.top, simes.rejected), (1, (1, 1), ("A",)))
+
+    def test_evidence(self):
+        case = lines_of(["alpha 0.05", "hypotheses A B C", "p 0.01 0.03 0.9", "weights 1/2 1/2 0", "edge A B 1", "edge B C 1"])
+        evidence = welungad.evidence(case)
+        self.assertEqual([it.name for it in evidence.steps], ["A", "B"])
+        self.assertEqual([it.name for it in evidence.keeps], ["C"])
+        self.assertEqual(evidence.steps[1].flows, (welungad.Flow(1, "A", Fraction(1, 2)),))
+        checked = welungad.check(case, evidence)
+        self.assertTrue(checked)
+        self.assertEqual((checked.listed, checked.kept, checked.reason), (("A", "B"), ("C",), ""))
+        self.assertEqual(welungad.check(case, evidence.text.encode()), checked)
+
+    def test_evidence_that_does_not_hold(self):
+        case = lines_of(["alpha 0.05", "hypotheses A B", "p 0.01 0.9", "weights 1/2 1/2"])
+        checked = welungad.check(case, lines_of(["evidence 1", "step B", "end"]))
+        self.assertFalse(checked)
+        self.assertEqual(checked.reason, "no: step 1: above level")
+
+    def test_a_quotient(self):
+        row = next(row for row in acceptance_rows.all_rows() if b"[1]/[2,-1]" in (row.file or b""))
+        evidence = welungad.evidence(row.case)
+        values = [flow.value for step in evidence.steps for flow in step.flows]
+        self.assertTrue(any(isinstance(value, welungad.Quotient) for value in values))
+        self.assertTrue(welungad.check(row.case, evidence))
+
+    def test_stages(self):
+        case = lines_of(["alpha 0.05", "hypotheses A", "weights 1", "stages 2", "spend A 1/2 1/2", "arrive A 1 0.03",
+                         "arrive A 2 0.02"])
+        stages = welungad.stages(case)
+        self.assertEqual(stages.alpha, Fraction(1, 20))
+        self.assertEqual(stages.arrivals, (welungad.Arrival("A", 1, Fraction(3, 100), ()),
+                                           welungad.Arrival("A", 2, Fraction(1, 50),
+                                                            (welungad.Settled("A", 2, Fraction(1)),))))
+        self.assertEqual(stages.rejected, ("A",))
+
+    def test_canon(self):
+        case = "# one hypothesis\n\nalpha  0.05\nhypotheses A\nweights 2/2\n"
+        self.assertEqual(welungad.canon(case), "alpha 1/20\nhypotheses A\nweights 1\n")
+        self.assertEqual(welungad.canon(case, to="csv"), "hypothesis,weight,p,A\nA,1,,0\n")
+        self.assertEqual(welungad.canon(welungad.canon(case, to="json"), form="json"), welungad.canon(case))
+
+    def test_each_example(self):
+        for name in ("holm.txt", "fallback.txt", "fixed-sequence.txt", "gatekeeping.txt", "improved-gatekeeping.txt",
+                     "entangled.txt", "two-hypotheses.txt", "simes-pair.txt"):
+            with self.subTest(name):
+                case = example(name)
+                decision = welungad.test(case)
+                self.assertEqual(welungad.check(case, welungad.evidence(case)).kept,
+                                 tuple(it.name for it in decision.kept))
+
+
+class Refusals(unittest.TestCase):
+    """What a refused call raises."""
+
+    def test_a_refusal(self):
+        with self.assertRaises(welungad.Refused) as caught:
+            welungad.test(lines_of(["alpha 0.05", "hypotheses A B", "p 0.01 x", "weights 1/2 1/2"]))
+        refused = caught.exception
+        self.assertEqual((refused.status, refused.line), (welungad.MALFORMED, "malformed: line 3: number"))
+        self.assertEqual(refused.explanation, welungad.explain(refused.line))
+        self.assertIn(refused.line, str(refused))
+        again = pickle.loads(pickle.dumps(refused))
+        self.assertEqual((again.status, again.line, again.explanation), (refused.status, refused.line, refused.explanation))
+
+    def test_words(self):
+        for options in ({"form": "xml"}, {"alpha": "0.05"}, {"priority": "none"}, {"form": "csv"}):
+            with self.subTest(options), self.assertRaises(welungad.Refused) as caught:
+                welungad.test(example("holm.txt"), **options)
+            self.assertEqual(caught.exception.status, welungad.USAGE)
+
+    def test_a_proof_that_is_malformed(self):
+        with self.assertRaises(welungad.Refused) as caught:
+            welungad.check(example("holm.txt"), "evidence 3\n")
+        self.assertEqual(caught.exception.line, "malformed: proof line 1: version")
+
+    def test_a_line_that_is_no_refusal(self):
+        self.assertEqual(welungad.explain("alpha 1/40"), "")
+
+
+if __name__ == "__main__":
+    unittest.main()
