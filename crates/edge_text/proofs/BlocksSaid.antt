@@ -69,7 +69,7 @@ weights_step : (d : Draft) (share : Ratio) (line : List ℕ) (weights : List Rat
     → step (at.Weights d share) line ≡ Ok (at.Edges true d (weighted share weights))
 weights_step d share line weights h = said (codes "weights") numbers numbers_said line weights (λ x. at.Edges true d (weighted share x)) _ h
 
--- behind the last component
+-- after the last component
 tail_said : (shared : Bool) (d : Draft) (k : DraftComponent) (lines : Lines) (o : Option DraftStages) → d.stages ≡ None → MayHaveStages d.names lines o
     → Say (at.Edges shared d k) lines (staged (with_component d k) o)
 tail_said shared d k lines None n h =
@@ -89,7 +89,7 @@ edges_said shared d k (line ∷ lines) rest (e ∷ es) draft h m =
     behind_line (at.Edges shared d k) (at.Edges shared d (with_edge k e)) line (lines ++ rest) draft (edge_step shared d k line e h.0)
     (edges_said shared d (with_edge k e) lines rest es draft h.1 (subst (λ c. Say (at.Edges shared d c) rest draft) (sym (edge_first k e es)) m))
 
--- a block, where its weights may stand
+-- a block, where its weights may be
 block_said : (place : Place) (shared : Bool) (d : Draft) (lines rest : Lines) (k : DraftComponent) (draft : Draft) (b : IsBlock d.names lines k)
     → step place b.weights_line ≡ Ok (at.Edges shared d (weighted k.share k.weights)) → Say (at.Edges shared d k) rest draft
     → Say place (lines ++ rest) draft
@@ -98,7 +98,7 @@ block_said place shared d lines rest k draft b e m =
     (behind_line place (at.Edges shared d (weighted k.share k.weights)) b.weights_line (b.edge_lines ++ rest) draft e
     (edges_said shared d (weighted k.share k.weights) b.edge_lines rest k.edges draft b.edges m))
 
--- a block with a share, where its share may stand
+-- a block with a share, where its share may be
 shared_said : (place : Place) (d : Draft) (lines rest : Lines) (k : DraftComponent) (draft : Draft) (b : IsSharedBlock d.names lines k)
     → step place b.share_line ≡ Ok (at.Weights d k.share) → Say (at.Edges true d k) rest draft → Say place (lines ++ rest) draft
 shared_said place d lines rest k draft b e m =
@@ -121,7 +121,7 @@ more_said d k (b ∷ bs) (c ∷ cs) lines o n h m =
     (shared_said (at.Edges true d k) (with_component d k) b (joined bs ++ lines) c _ h.0 (share_step d k h.0.share_line c.share h.0.share)
     (more_said (with_component d k) c bs cs lines o n h.1 m ∙ ap (λ x. Ok (staged x o)) (component_first d k (c ∷ cs))))
 
--- where the first block may stand
+-- where the first block may be
 abbrev Opens : Place → Draft → Type 0
 Opens place d = (line word : List ℕ) (words : Words) → words_of line ≡ word ∷ words → bytes_eq word (codes "p") ≡ false → step place line ≡ block d line
 
@@ -182,13 +182,13 @@ text_said lines draft t =
 
 -- ---- what is said is by the grammar
 
--- what stands behind the last component
+-- what stands after the last component
 record TailFrom (d : Draft) (lines : Lines) (draft : Draft) : Type 0 where
   stages : Option DraftStages
   are : MayHaveStages d.names lines stages
   draft_is : draft ≡ staged d stages
 
--- the blocks behind one: none, or any number where they have shares
+-- the blocks after one: none, or any number where they have shares
 abbrev Further : Bool → Lines → List Lines → List DraftComponent → Type 0
 Further true names blocks ks = AllZip (IsSharedBlock names) blocks ks
 Further false names blocks ks = (blocks ≡ []) × (ks ≡ [])

@@ -1,4 +1,4 @@
--- From each place that lines lead to, a text goes on to its end.
+-- From each place that lines lead to, a text continues to its end.
 use Rattle.std.proofs.Common.{◌≡◌, ℕ, inl, inr, Bool, true, false, List, [], ◌∷◌, ◌++◌, length, suc, zero, Option, Some, None, Result, Ok, Err, refl, sym, ap, subst, ◌∙◌, arith, if◌then◌else◌}
 use Rattle.std.specs.Prelude.{codes, pos}
 use Rattle.std.specs.Fmt.{digits}
@@ -135,7 +135,7 @@ lead_keeps : (place here : Place) (lines : Lines) → Lead cases place lines her
 lead_keeps place here [] l h = subst HasWords (sym l) h
 lead_keeps place here (line ∷ lines) l h = lead_keeps l.0 here lines l.2 (step_keeps place line l.0 l.1 h)
 
--- ---- each place goes on
+-- ---- each place continues
 
 abbrev zero_terms : Terms
 zero_terms = record { num = pos 0; den = pos 1 }
@@ -251,7 +251,7 @@ rest_of (at.Spends d s) h = spends_rest d s (left d s) refl (words_left d.names 
 rest_of (at.Steps d s steps) h =
     steps_rest d s steps (left d (with_spend s (Table steps))) refl (words_left d.names (length (s.spend ++ Table steps ∷ [])) h)
 
--- a text of cases goes on from each place that lines lead to
+-- a text of cases continues from each place that lines lead to
 pub cases_complete : Completes cases at.Alpha
 cases_complete = λ lines here l. by here (rest_of here (lead_keeps at.Alpha here lines l tt))
   where

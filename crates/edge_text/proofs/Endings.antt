@@ -1,4 +1,4 @@
--- Only the end of a text is told as ended.
+-- Only the end of a text is reported as ended.
 use Rattle.std.proofs.Common.{◌≡◌, ◌≢◌, ℕ, Bool, true, false, List, [], ◌∷◌, map, Option, Some, None, Result, Ok, Err, if◌then◌else◌}
 use Rattle.std.specs.Prelude.{codes}
 use Rattle.std.specs.Str.{bytes_eq}
@@ -105,7 +105,7 @@ arrival_runs names words =
 
 -- ---- lines
 
--- behind a keyword
+-- after a keyword
 key : {A : Type 0} (keyword line : List ℕ) (read : Words → Result A LineKind) (to : A → Place) (rest : Result Place LineKind)
     → ((words : Words) → Runs (read words)) → Runs rest → Runs (behind keyword line (λ words. and_then (read words) (λ x. Ok (to x))) rest)
 key keyword line read to rest h k = first (words_behind keyword (words_of line)) _ rest (λ words. chain (read words) _ (h words) (λ x. fine (to x))) k

@@ -17,7 +17,7 @@ use Rattle.field_core.proofs.Results.{came_from, made_of, same_value}
 use Rattle.edge_text.proofs.LinesTaken.{step_said}
 use Rattle.edge_text.proofs.WordAnswers.{numeral_said, numeral_says, entry_said, entry_says, whole_found, whole_says}
 
--- what goes on from what is found had something
+-- what continues from what is found had something
 found_of : {A B : Type 0} (o : Option A) (kind : LineKind) (f : A → Result B LineKind) (y : B) → found_or o kind f ≡ Ok y
     → (x : A) × (o ≡ Some x) × (f x ≡ Ok y)
 found_of (Some x) kind f y e = (x, refl, e)

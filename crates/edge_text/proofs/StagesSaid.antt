@@ -58,7 +58,7 @@ arrive_step d s line a l h =
     ap (λ o. spend_or_arrive o d s line) (none_left d.names (length s.spend) l)
     ∙ said (codes "arrive") (arrival d.names) (arrival_said d.names) line a (λ b. at.Spends d (with_arrival s b)) _ h
 
--- what goes on with a further step
+-- what continues with a further step
 abbrev pub onward : Draft → DraftStages → List SpendStep → List ℕ × List ℕ × Words → Result Place LineKind
 onward d s steps w = and_then (step_of w.1 w.2) (λ t. Ok (at.Steps d s (steps ++ t ∷ [])))
 
@@ -163,7 +163,7 @@ table_closed d s steps name m more line t next l n h e = by (bytes_eq w.parts.0 
         ∙ ap (λ o. if is_due w.parts.0 o then onward d s steps w.parts else other) (first_left d.names (length s.spend) name more l)
         ∙ ap (λ c. if c then onward d s steps w.parts else other) b ∙ e
 
--- behind a table stands what may stand without it, but for a further step
+-- after a table stands what may be without it, but for a further step
 closed_step : (d : Draft) (s : DraftStages) (steps : List SpendStep) (name : List ℕ) (more : Lines) (line : List ℕ) (next : Place) → left d s ≡ name ∷ more
     → IsOther name line → step (at.Spends d (with_spend s (Table steps))) line ≡ Ok next → step (at.Steps d s steps) line ≡ Ok next
 closed_step d s steps name more line next l n e = by more (push_left d.names s.spend (Table steps) name more l)
@@ -205,7 +205,7 @@ arrivals_said d s (line ∷ lines) (a ∷ ars) l h =
     behind_line (at.Spends d s) (at.Spends d (with_arrival s a)) line lines _ (arrive_step d s line a l h.0)
     (arrivals_said d (with_arrival s a) lines ars l h.1 ∙ ap (λ x. Ok (with_stages d x)) (arrival_first s a ars))
 
--- behind the last step of a table
+-- after the last step of a table
 closed_said : (d : Draft) (s : DraftStages) (steps : List SpendStep) (name : List ℕ) (more rest : Lines) (draft : Draft) → left d s ≡ name ∷ more
     → IsNoStep name rest → Say (at.Spends d (with_spend s (Table steps))) rest draft → Say (at.Steps d s steps) rest draft
 closed_said d s steps name more [] draft l n h = h
@@ -213,7 +213,7 @@ closed_said d s steps name more (line ∷ rest) draft l n h =
     let first = came_from (step (at.Spends d (with_spend s (Table steps))) line) (λ next. run cases next rest) draft h in
     behind_line (at.Steps d s steps) first.0 line rest draft (closed_step d s steps name more line first.0 l (λ t. n line rest t refl) first.1) first.2
 
--- further steps of a table, and what stands behind it
+-- further steps of a table, and what stands after it
 steps_said : (d : Draft) (s : DraftStages) (steps : List SpendStep) (name : List ℕ) (more lines rest : Lines) (ts : List SpendStep) (draft : Draft) → left d s ≡ name ∷ more
     → AllZip (IsTableLine name) lines ts → IsNoStep name rest → Say (at.Spends d (with_spend s (Table (steps ++ ts)))) rest draft
     → Say (at.Steps d s steps) (lines ++ rest) draft

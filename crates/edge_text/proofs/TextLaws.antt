@@ -41,7 +41,7 @@ says_or_fails bytes = elim (reading_of bytes).each [
   | inr f ↦ inr (f.0.line, f.0.kind, f.1)
 ]
 
--- ---- where no document goes on
+-- ---- where no document continues
 
 language_begins : (lines : List (List ℕ)) → BeginDocument lines → Begins cases Alpha lines
 language_begins lines b = record { more = b.more; said = b.draft; is = text_said (lines ++ b.more) b.draft b.is }

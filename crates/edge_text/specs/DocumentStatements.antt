@@ -14,6 +14,6 @@ DocumentsAreSaid = (lines : List (List ℕ)) (draft : Draft) → IsDocument line
 abbrev pub SaidAreDocuments : Type 0
 SaidAreDocuments = (lines : List (List ℕ)) (draft : Draft) → IsOfLanguage cases Alpha lines draft → IsDocument lines draft
 
--- from each place that lines lead to, a text goes on to its end
+-- from each place that lines lead to, a text continues to its end
 abbrev pub TextsCanEnd : Type 0
 TextsCanEnd = Completes cases Alpha

@@ -1,4 +1,4 @@
--- Texts of cases: which line may stand where, and what it adds.
+-- Texts of cases: which line may be where, and what it adds.
 use Rattle.std.specs.Prelude.{ℕ, ◌++◌, if◌then◌else◌, length, slice_get, Bool, true, false, List, [], ◌∷◌, Option, Some, None, Result, Ok, Err, codes}
 use Rattle.std.specs.Str.{bytes_eq}
 use Rattle.case_model.specs.declared.draft.Draft.{Draft}
@@ -23,7 +23,7 @@ block d line =
     (behind (codes "weights") line (λ words. and_then (numbers words) (λ weights. Ok (Edges false d (weighted one weights))))
     (Err Unexpected))
 
--- the stages, behind the last block
+-- the stages, after the last block
 abbrev pub stages : Draft → DraftComponent → List ℕ → Result Place LineKind
 stages d k line = behind (codes "stages") line (λ words. and_then (count words) (λ n. Ok (Spends (with_component d k) (counted n)))) (Err Unexpected)
 
@@ -52,13 +52,13 @@ abbrev pub is_due : List ℕ → Option (List ℕ) → Bool
 is_due name (Some n) = bytes_eq name n
 is_due name None = false
 
--- a further step of the table, or else the line stands behind the table
+-- a further step of the table, or else the line stands after the table
 abbrev pub further : Draft → DraftStages → List SpendStep → Words → Result Place LineKind → Result Place LineKind
 further d s steps words other =
     found_or (step_words words) WordCount (λ w.
     if is_due w.0 (due d s) then and_then (step_of w.1 w.2) (λ t. Ok (Steps d s (steps ++ t ∷ []))) else other)
 
--- What comes behind a line that stands at the place, or what is wrong with it.
+-- What comes after a line that stands at the place, or what is wrong with it.
 abbrev pub step : Place → List ℕ → Result Place LineKind
 step Alpha line = behind (codes "alpha") line (λ words. and_then (number words) (λ alpha. Ok (Names alpha))) (Err Unexpected)
 step (Names alpha) line = behind (codes "hypotheses") line (λ words. Ok (Values (named alpha words))) (Err Unexpected)

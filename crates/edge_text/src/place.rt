@@ -19,12 +19,12 @@ use fraction::Fraction;
 use std::alloc::Global;
 use text_lines::{Line, Words};
 
-/// What may stand next, with what was said so far. The components of a draft are those before the one that is read.
+/// What may be next, with what was said so far. The components of a draft are those before the one that is read.
 #[derive(Drop)]
 pub enum Place {
     /// The level.
     Alpha,
-    /// The names, behind this level.
+    /// The names, after this level.
     Names(Fraction),
     /// The p-values, or else the first block.
     Values(SoFar),
@@ -36,11 +36,11 @@ pub enum Place {
     Edges(bool, SoFar, DraftComponent),
     /// What the next hypothesis spends, in the order of the names; or, where none is left, a p-value that arrived, or nothing.
     Spends(SoFar, DraftStages),
-    /// A further step of the table of the next hypothesis, or what may stand behind the table.
+    /// A further step of the table of the next hypothesis, or what may be after the table.
     Steps(SoFar, DraftStages, List<SpendStep>),
 }
 
-/// Returns the fault of a line that can't stand for its first word.
+/// Returns the fault of a line that isn't allowed for its first word.
 fn unexpected(line: &Line) -> TextFault
     ensures { result ≡ faults.Line line.now.number Unexpected }
 {
@@ -66,7 +66,7 @@ fn weighted(alloc: Global, share: Fraction, weights: List<Fraction>) -> DraftCom
 }
 
 impl Place {
-    /// Returns the place behind a line that stands here.
+    /// Returns the place after a line that stands here.
     pub fn step(self, alloc: Global, line: &Line) -> Result<Place, TextFault>
         ensures { Gives line.now.number (step self line.now.text.now) result }
     {
@@ -119,7 +119,7 @@ fn names(alloc: Global, alpha: Fraction, line: &Line) -> Result<Place, TextFault
     Ok(Place::Values(SoFar::new(alloc, alpha, names)?))
 }
 
-/// Reads a line where the p-values or the first block may stand.
+/// Reads a line where the p-values or the first block may be.
 fn values(alloc: Global, draft: SoFar, line: &Line) -> Result<Place, TextFault>
     ensures { Gives line.now.number (step (at.Values draft) line.now.text.now) result }
 {
@@ -158,7 +158,7 @@ fn weights(alloc: Global, draft: SoFar, share: Fraction, line: &Line) -> Result<
     Ok(Place::Edges(true, draft, component))
 }
 
-/// Reads a line where an edge of the component may stand, or what comes behind it.
+/// Reads a line where an edge of the component may be, or what comes after it.
 fn edges(
     alloc: Global,
     shared: bool,
@@ -176,7 +176,7 @@ fn edges(
     Ok(Place::Edges(shared, draft, component))
 }
 
-/// Reads a line behind the edges of a component: the next block, where blocks have shares, or the stages.
+/// Reads a line after the edges of a component: the next block, where blocks have shares, or the stages.
 fn next_block(
     alloc: Global,
     shared: bool,
@@ -207,7 +207,7 @@ fn counted(alloc: Global, count: u64) -> DraftStages
     }
 }
 
-/// Reads a line where the stages may stand.
+/// Reads a line where the stages may be.
 fn stages(
     alloc: Global,
     draft: SoFar,
@@ -260,7 +260,7 @@ fn spends(
     Ok(Place::Steps(draft, stages, steps))
 }
 
-/// Reads a line where a p-value that arrived may stand.
+/// Reads a line where a p-value that arrived may be.
 fn arrive(draft: SoFar, mut stages: DraftStages, line: &Line) -> Result<Place, TextFault>
     ensures { Gives line.now.number (spend_or_arrive None draft stages line.now.text.now) result }
 {
@@ -272,7 +272,7 @@ fn arrive(draft: SoFar, mut stages: DraftStages, line: &Line) -> Result<Place, T
     Ok(Place::Spends(draft, stages))
 }
 
-/// Reads a line where a further step may stand, or what comes behind the table.
+/// Reads a line where a further step may be, or what comes after the table.
 fn steps_on(
     alloc: Global,
     draft: SoFar,
@@ -288,7 +288,7 @@ fn steps_on(
     further(alloc, draft, stages, steps, line, words)
 }
 
-/// Reads a line of a table: a further step of the one that is read, or a line behind it.
+/// Reads a line of a table: a further step of the one that is read, or a line after it.
 fn further(
     alloc: Global,
     draft: SoFar,
@@ -297,7 +297,8 @@ fn further(
     line: &Line,
     words: Words,
 ) -> Result<Place, TextFault>
-    ensures { Gives line.now.number (further draft stages steps (words_of words.entry) (spends draft (with_spend stages (Table steps)) line.now.text.now)) result }
+    ensures { Gives line.now.number (further draft stages steps (words_of words.entry) (spends draft (with_spend stages
+        (Table steps)) line.now.text.now)) result }
 {
     let Some(found) = StepWords::of(words) else {
         return Err(TextFault::Line(line.number, LineKind::WordCount));
@@ -309,7 +310,7 @@ fn further(
     Ok(Place::Steps(draft, stages, steps))
 }
 
-/// Reads a line behind the table that is read.
+/// Reads a line after the table that is read.
 fn behind_table(
     alloc: Global,
     draft: SoFar,

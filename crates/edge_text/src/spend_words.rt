@@ -6,7 +6,7 @@ ghost use Rattle.edge_text.specs.WordReading.{share_words, step_words};
 
 use text_lines::Words;
 
-/// A name, and the numerals behind it, one or more.
+/// A name, and the numerals after it, one or more.
 #[derive(Clone, Copy)]
 pub struct SharesWords<'a> {
     pub name: &'a [u8],

@@ -26,14 +26,14 @@ pub fn is_short(c: Whole) -> bool
     c.short().is_some()
 }
 
-/// The absolute value.
+/// Returns the absolute value.
 pub fn size(c: Whole) -> u128
     ensures { result ≡ unsigned_abs c }
 {
     c.value().unsigned_abs()
 }
 
-/// The number that times `by` is `product`, where there is one.
+/// Returns the number that times `by` is `product`, where there is one.
 pub fn divided(product: Whole, by: Whole) -> Option<Whole>
     requires { by ≢ pos 0 }
     ensures { (x : ℤ) → (result ≡ Some x) ↔ (x *ℤ by ≡ product) }

@@ -1,5 +1,24 @@
 //! Polynomials: sums, products, exact quotients and factors.
-ghost use Rattle.std.specs.Prelude.{◌≡◌, ◌≢◌, ◌↔◌, ◌≤◌, ◌<◌, ◌^◌, ◌<ℤ◌, ℤ, pos, List, slice_set, FitsSigned, IfOk, IfSome, IfNone, IsSomeAnd, IsTrue, Some};
+ghost use Rattle.std.specs.Prelude.{
+  ◌≡◌,
+  ◌≢◌,
+  ◌↔◌,
+  ◌≤◌,
+  ◌<◌,
+  ◌^◌,
+  ◌<ℤ◌,
+  ℤ,
+  pos,
+  List,
+  slice_set,
+  FitsSigned,
+  IfOk,
+  IfSome,
+  IfNone,
+  IsSomeAnd,
+  IsTrue,
+  Some,
+};
 ghost use Rattle.std.specs.Int.{w64};
 ghost use Rattle.std.specs.List.{list_all};
 ghost use Rattle.std.specs.Option.{option_map};
@@ -70,7 +89,7 @@ impl Eq for EpsPoly {
 }
 
 impl EpsPoly {
-    /// The polynomial 0.
+    /// Returns the polynomial 0.
     pub fn zero() -> EpsPoly
         ensures { result ≡ zero_polynomial }
     {
@@ -80,7 +99,7 @@ impl EpsPoly {
         }
     }
 
-    /// The polynomial `c`, refused with `Op::Add` exactly where `c` is the least `i128`.
+    /// Returns the polynomial `c`, refused with `Op::Add` exactly where `c` is the least `i128`.
     pub fn constant(c: i128) -> Result<EpsPoly, TooWide>
         ensures { result ≡ or_wide Add (option_map (λ a. monomial a 0) (sized c)) }
     {
@@ -88,7 +107,7 @@ impl EpsPoly {
         Ok(EpsPoly::monomial(c, 0))
     }
 
-    /// The polynomial `c * epsilon^power`; `power` is at most 32.
+    /// Returns the polynomial `c * epsilon^power`; `power` is at most 32.
     pub fn monomial(c: Whole, power: usize) -> EpsPoly
         requires { power ≤ 32 }
         ensures { result ≡ monomial c power }
@@ -98,8 +117,8 @@ impl EpsPoly {
         single
     }
 
-    /// This polynomial with `c` as one coefficient, refused with `Op::Add` exactly where `c` is the least `i128`;
-    /// `power` is at most 32.
+    /// Returns this polynomial with `c` as one coefficient, refused with `Op::Add` exactly where `c` is the least
+    /// `i128`; `power` is at most 32.
     pub fn with(&self, power: usize, c: i128) -> Result<EpsPoly, TooWide>
         requires { power ≤ 32 }
         ensures { result ≡ or_wide Add (option_map (slice_set self.now power) (sized c)) }
@@ -120,18 +139,18 @@ impl EpsPoly {
         self.used = used;
     }
 
-    /// One coefficient of this polynomial where that of `power` is `c`.
+    /// Returns one coefficient of this polynomial where that of `power` is `c`.
     fn whole_with(&self, power: usize, c: Whole, at: usize) -> Whole
         requires power { power ≤ 32 }
         requires at { at ≤ 32 }
         ensures { result ≡ coefficient (slice_set self.now power c) at }
     {
-        // a look at the field tells that it is a polynomial
+        // a look at the field says that it is a polynomial
         let _ = &self.entries;
         if at == power { c } else { self.whole(at) }
     }
 
-    /// How many coefficients there are up to the last that isn't 0, where that of `power` is `c`.
+    /// Returns how many coefficients there are up to the last that isn't 0, where that of `power` is `c`.
     fn used_with(&self, power: usize, c: Whole) -> usize
         requires { power ≤ 32 }
         ensures { result ≡ count_to_last (slice_set self.now power c) }
@@ -151,7 +170,7 @@ impl EpsPoly {
         0
     }
 
-    /// How many coefficients there are up to the last that isn't 0.
+    /// Returns how many coefficients there are up to the last that isn't 0.
     fn used(&self) -> usize
         ensures value { result ≡ count_to_last self.now }
         ensures within { result ≤ 33 }
@@ -178,7 +197,7 @@ impl EpsPoly {
         self.used = 0;
     }
 
-    /// One coefficient; `power` is at most 32.
+    /// Returns one coefficient; `power` is at most 32.
     pub fn coefficient(&self, power: usize) -> i128
         requires { power ≤ 32 }
         ensures { result ≡ coefficient self.now power }
@@ -186,7 +205,7 @@ impl EpsPoly {
         self.whole(power).value()
     }
 
-    /// One coefficient; `power` is at most 32.
+    /// Returns one coefficient; `power` is at most 32.
     pub fn whole(&self, power: usize) -> Whole
         requires { power ≤ 32 }
         ensures { result ≡ coefficient self.now power }
@@ -206,7 +225,7 @@ impl EpsPoly {
         true
     }
 
-    /// One coefficient, which fits 64 bits; `power` is at most 32.
+    /// Returns one coefficient, which fits 64 bits; `power` is at most 32.
     pub(crate) fn short(&self, power: usize) -> Short
         requires power { power ≤ 32 }
         requires fits { FitsSigned w64 (coefficient self.now power) }
@@ -230,7 +249,7 @@ impl EpsPoly {
         true
     }
 
-    /// The greatest power with a coefficient that isn't 0, and 0 where there is none.
+    /// Returns the greatest power with a coefficient that isn't 0, and 0 where there is none.
     pub fn degree(&self) -> usize
         ensures value { result ≡ degree self.now }
         ensures within { result ≤ 32 }
@@ -239,7 +258,7 @@ impl EpsPoly {
         self.used().saturating_sub(1)
     }
 
-    /// How many coefficients of 0 come first: the least power with a coefficient that isn't 0, or 33.
+    /// Returns how many coefficients of 0 come first: the least power with a coefficient that isn't 0, or 33.
     pub fn order(&self) -> usize
         ensures value { result ≡ order self.now }
         ensures within { result ≤ 33 }
@@ -254,7 +273,7 @@ impl EpsPoly {
         COUNT
     }
 
-    /// The least power with a coefficient that isn't 0, or `None` exactly for the polynomial 0.
+    /// Returns the least power with a coefficient that isn't 0, or `None` exactly for the polynomial 0.
     pub fn low_order(&self) -> Option<usize>
         ensures value { result ≡ low_order self.now }
         ensures within { IfSome result (λ k. k ≤ 32) }
@@ -271,7 +290,7 @@ impl EpsPoly {
         self.used() == 0
     }
 
-    /// The lowest coefficient that isn't 0, or 0 for the polynomial 0.
+    /// Returns the lowest coefficient that isn't 0, or 0 for the polynomial 0.
     pub fn lowest(&self) -> Whole
         ensures { result ≡ lowest self.now }
     {
@@ -283,7 +302,7 @@ impl EpsPoly {
         }
     }
 
-    /// The greatest common divisor of the coefficients, and 0 for the polynomial 0.
+    /// Returns the greatest common divisor of the coefficients, and 0 for the polynomial 0.
     pub fn content(&self) -> u128
         ensures value { result ≡ content self.now }
         ensures size { result < 2 ^ 127 }
@@ -298,14 +317,14 @@ impl EpsPoly {
         divisor
     }
 
-    /// The greatest common divisor of the coefficients, as a whole number.
+    /// Returns the greatest common divisor of the coefficients, as a whole number.
     pub fn whole_content(&self) -> Whole
         ensures { result ≡ pos (content self.now) }
     {
         Whole::new(self.content() as i128)
     }
 
-    /// The whole number `c` of `c * epsilon^k * P`, where `P` is the core; 0 for the polynomial 0.
+    /// Returns the whole number `c` of `c * epsilon^k * P`, where `P` is the core; 0 for the polynomial 0.
     pub fn factor(&self) -> Whole
         ensures { result ≡ factor self.now }
     {
@@ -317,7 +336,8 @@ impl EpsPoly {
         }
     }
 
-    /// The polynomial `P` of `c * epsilon^k * P`: its coefficients have greatest common divisor 1, and its coefficient of power 0 is above 0.
+    /// Returns the polynomial `P` of `c * epsilon^k * P`: its coefficients have greatest common divisor 1, and its
+    /// coefficient of power 0 is above 0.
     pub fn core(&self) -> EpsPoly
         requires { IsNonZero self.now }
         ensures { result ≡ core self.now }
@@ -337,13 +357,13 @@ impl EpsPoly {
         }
     }
 
-    /// The coefficients from a power on, each divided by a number above 0, without remainders; `power` is at most 32.
+    /// Returns the coefficients from a power on, each divided by a number above 0, without remainders; `power` is at most 32.
     pub fn lowered(&self, power: usize, by: Whole) -> EpsPoly
         requires power { power ≤ 32 }
         requires by { pos 0 <ℤ by }
         ensures { result ≡ lowered power by self.now }
     {
-        // a look at the field tells that it is a polynomial
+        // a look at the field says that it is a polynomial
         let _ = &self.entries;
         if power == 0 && by.value() == 1 {
             return *self;
@@ -382,7 +402,7 @@ impl EpsPoly {
         }
     }
 
-    /// The opposite.
+    /// Returns the opposite.
     pub fn negate(&self) -> EpsPoly
         ensures { result ≡ poly_negate self.now }
     {
@@ -393,7 +413,7 @@ impl EpsPoly {
         opposite
     }
 
-    /// The sum, or `TooWide` exactly where the written sum has a part past its size.
+    /// Returns the sum, or `TooWide` exactly where the written sum has a part past its size.
     pub fn add(&self, other: &EpsPoly) -> Result<EpsPoly, TooWide>
         ensures written { result ≡ or_wide Add (sized_sum self.now other.now) }
         ensures exact { IfOk result (λ r. Same r (poly_add self.now other.now)) }
@@ -401,7 +421,7 @@ impl EpsPoly {
         self.checked_add(other).ok_or(TooWide { op: Op::Add })
     }
 
-    /// The difference, or `TooWide` exactly where the written difference has a part past its size.
+    /// Returns the difference, or `TooWide` exactly where the written difference has a part past its size.
     pub fn sub(&self, other: &EpsPoly) -> Result<EpsPoly, TooWide>
         ensures written { result ≡ or_wide Sub (sized_sum self.now (poly_negate other.now)) }
         ensures exact { IfOk result (λ r. Same r (poly_add self.now (poly_negate other.now))) }
@@ -410,7 +430,7 @@ impl EpsPoly {
             .ok_or(TooWide { op: Op::Sub })
     }
 
-    /// The product, or `TooWide` exactly where the written product has a part past its size or a degree above 32.
+    /// Returns the product, or `TooWide` exactly where the written product has a part past its size or a degree above 32.
     pub fn mul(&self, other: &EpsPoly) -> Result<EpsPoly, TooWide>
         ensures written { result ≡ or_wide Mul (sized_product self.now other.now) }
         ensures exact { IfOk result (λ r. Same r (poly_multiply self.now other.now)) }
@@ -418,19 +438,19 @@ impl EpsPoly {
         self.checked_mul(other).ok_or(TooWide { op: Op::Mul })
     }
 
-    /// The sum, or nothing exactly where the written sum has a part past its size.
+    /// Returns the sum, or nothing exactly where the written sum has a part past its size.
     pub fn checked_add(&self, other: &EpsPoly) -> Option<EpsPoly>
         ensures written { result ≡ sized_sum self.now other.now }
         ensures exact { IfSome result (λ r. Same r (poly_add self.now other.now)) }
     {
-        // the numbers of their coefficients tell that they are polynomials
+        // their numbers of coefficients show that they are polynomials
         let _ = (self.used(), other.used());
         let mut sum = *self;
         sum.write_sum(other)?;
         Some(sum)
     }
 
-    /// The product, or nothing exactly where the written product has a part past its size or a degree above 32.
+    /// Returns the product, or nothing exactly where the written product has a part past its size or a degree above 32.
     pub fn checked_mul(&self, other: &EpsPoly) -> Option<EpsPoly>
         ensures written { result ≡ sized_product self.now other.now }
         ensures exact { IfSome result (λ r. Same r (poly_multiply self.now other.now)) }
@@ -470,7 +490,7 @@ impl EpsPoly {
     fn write_sum(&mut self, other: &EpsPoly) -> Option<()>
         ensures { option_map (λ _. self.new) result ≡ sized_sum self.old other.now }
     {
-        // the number of its coefficients tells that it is a polynomial
+        // the number of its coefficients says that it is a polynomial
         let _ = self.used();
         for power in 0..other.used() {
             let left = self.whole(power);
@@ -505,7 +525,7 @@ impl EpsPoly {
         Some(())
     }
 
-    /// The polynomial `q` whose written product with `by` is this polynomial, or `None` exactly where there is none.
+    /// Returns the polynomial `q` whose written product with `by` is this polynomial, or `None` exactly where there is none.
     pub fn divide_exact(&self, by: &EpsPoly) -> Option<EpsPoly>
         requires { IsNonZero by.now }
         ensures value { result ≡ exact_quotient self.now by.now }
@@ -525,7 +545,7 @@ impl EpsPoly {
         requires { IsNonZero by.now }
         ensures { option_map (λ _. self.new) result ≡ exact_quotient p.now by.now }
     {
-        // the numbers of their coefficients tell that they are polynomials
+        // their numbers of coefficients show that they are polynomials
         let _ = (p.used(), by.used());
         if p.is_zero() {
             self.clear();

@@ -7,7 +7,8 @@ use crate::EpsPoly;
 use crate::numbers::is_zero;
 use field_core::Whole;
 
-/// What the coefficients below `count` of the first factor add to a coefficient of the product. A product by 0 adds nothing.
+/// Returns what the coefficients below `count` of the first factor add to a coefficient of the product. A product by 0
+/// adds nothing.
 fn wide_part(p: &EpsPoly, q: &EpsPoly, power: usize, count: usize) -> Option<Whole>
     requires power { power ≤ 32 }
     requires count { count ≤ power + 1 }
@@ -26,7 +27,7 @@ fn wide_part(p: &EpsPoly, q: &EpsPoly, power: usize, count: usize) -> Option<Who
     Some(sum)
 }
 
-/// The same of factors whose coefficients fit 64 bits. Their products are never too wide, so it tests the sums alone.
+/// Returns the same of factors whose coefficients fit 64 bits. Their products are never too wide, so it tests the sums alone.
 fn short_part(p: &EpsPoly, q: &EpsPoly, power: usize, count: usize) -> Option<Whole>
     requires power { power ≤ 32 }
     requires count { count ≤ power + 1 }
@@ -42,8 +43,8 @@ fn short_part(p: &EpsPoly, q: &EpsPoly, power: usize, count: usize) -> Option<Wh
     Some(sum)
 }
 
-/// What the coefficients below `count` of the first factor add to a coefficient of the product, where it may be known that all
-/// coefficients of both fit 64 bits.
+/// Returns what the coefficients below `count` of the first factor add to a coefficient of the product, where it may be
+/// known that all coefficients of both fit 64 bits.
 pub fn part_of_product(
     p: &EpsPoly,
     q: &EpsPoly,

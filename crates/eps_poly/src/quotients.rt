@@ -10,7 +10,7 @@ use crate::numbers::{divided, is_short};
 use crate::products::part_of_product;
 use field_core::Whole;
 
-/// The next coefficient of a quotient, where those of lower powers are known.
+/// Returns the next coefficient of a quotient, where those of lower powers are known.
 fn next(
     p: &EpsPoly,
     by: &EpsPoly,

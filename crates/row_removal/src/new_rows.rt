@@ -5,7 +5,16 @@ ghost use Rattle.field_core.specs.Steps.{each_below};
 ghost use Rattle.eps_poly.specs.Factors.{core};
 ghost use Rattle.row_removal.specs.Proper.{AreProperRows};
 ghost use Rattle.row_removal.specs.StoredRows.{rows_size};
-ghost use Rattle.row_removal.specs.RowRemoval.{difference_of_products, new_denominator, new_numerator, new_row, new_scale, new_weight, new_weights, sum_of_products};
+ghost use Rattle.row_removal.specs.RowRemoval.{
+  difference_of_products,
+  new_denominator,
+  new_numerator,
+  new_row,
+  new_scale,
+  new_weight,
+  new_weights,
+  sum_of_products,
+};
 
 use crate::graph::RowGraph;
 use crate::row::Row;

@@ -44,7 +44,7 @@ fn put_one(p: &mut EpsPoly)
     p.put(0, Whole::new(1));
 }
 
-/// Takes as many other polynomials.
+/// Takes other polynomials, the same number of them.
 fn copy_all(numerators: &mut [EpsPoly], other: &[EpsPoly])
     requires { length numerators.old ≡ length other.now }
     ensures { numerators.new ≡ other.now }
@@ -71,7 +71,7 @@ fn write_quotients(
     Some(())
 }
 
-/// The greatest common divisor with the content of a polynomial. That isn't computed where the divisor is 1.
+/// Returns the greatest common divisor with the content of a polynomial. That isn't computed where the divisor is 1.
 fn common_content(divisor: u128, p: &EpsPoly) -> u128
     ensures { result ≡ gcd divisor (content p.now) }
 {
@@ -98,7 +98,7 @@ impl Model for Row {
 
 #[tactic(auto, unfolding(crate::specs::StoredRow::zero_row))]
 impl Row {
-    /// So many zeros over 1.
+    /// Returns zeros over 1, of this length.
     pub fn zeros(alloc: Global, count: usize) -> Result<Row, NoMemory>
         ensures { IfOk result (λ r. r ≡ zero_row count) }
     {
@@ -129,7 +129,7 @@ impl Row {
 
 #[tactic(auto, unfolding(crate::specs::StoredRow::numerator_at))]
 impl Row {
-    /// The numerator at a place.
+    /// Returns the numerator at a place.
     pub fn numerator(&self, k: usize) -> &EpsPoly
         requires { k < length self.now.numerators }
         ensures { result.now ≡ numerator_at self.now k }
@@ -137,7 +137,7 @@ impl Row {
         &self.numerators[k]
     }
 
-    /// The denominator.
+    /// Returns the denominator.
     pub fn denominator(&self) -> &EpsPoly
         ensures { result.now ≡ self.now.denominator }
     {
@@ -179,7 +179,7 @@ impl Row {
         }
     }
 
-    /// The greatest common divisor of the contents of all polynomials.
+    /// Returns the greatest common divisor of the contents of all polynomials.
     #[tactic(auto, unfolding(crate::specs::Clearing::row_content))]
     fn content(&self) -> u128
         requires { IsNonZero self.now.denominator }
@@ -193,7 +193,7 @@ impl Row {
             .fold(own, |c, p| common_content(c, p))
     }
 
-    /// The least power of epsilon among the polynomials that aren't 0.
+    /// Returns the least power of epsilon among the polynomials that aren't 0.
     #[tactic(auto, unfolding(crate::specs::Clearing::row_order))]
     fn order(&self) -> usize
         requires { IsNonZero self.now.denominator }
