@@ -22,6 +22,6 @@ mod priority;
 mod trial;
 
 pub use decision::{Decision, RatioStep, StepLine, decide};
-pub use fault::{RejectFault, RunFault};
+pub use fault::{DecideFault, RejectFault, RunFault};
 pub use priority::Priority;
 pub use trial::{Trial, is_single, single_p_values};
