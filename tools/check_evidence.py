@@ -105,7 +105,7 @@ def expression(text, where):
             value = terms()
             take(")")
             return value
-        return [ZERO] * (int(take("0123456789")) if tokens[0] == "^" and take("^") else 1) + [ONE]
+        return [ZERO] * (int(take([*"0123456789"])) if tokens[0] == "^" and take("^") else 1) + [ONE]
     value = terms()
     take(["end"])
     return value
