@@ -265,6 +265,14 @@ class Checker(unittest.TestCase):
         self.assertEqual((done.returncode, done.stdout), (0, "yes\nlisted A B C\nend\n"))
         self.assertIn("note: numbers of ", done.stderr)
 
+    def test_no_answer(self):
+        """Whether what isn't decided ends with no status of a yes or a no."""
+        deep = SEQUENCE.replace("edge H1 H2 1", "edge H1 H2 " + "(" * 4000 + "1" + ")" * 4000)
+        self.assertEqual(answer(deep, KEEP_PROOF)[0], 4)
+        self.assertEqual(answer(SEQUENCE.replace("0.025", "0." + "1" * 9000), KEEP_PROOF)[0], 4)
+        done = subprocess.run([sys.executable, os.path.join(TOOLS, "check_evidence.py"), "no such file", "nor this"], capture_output=True)
+        self.assertEqual((done.returncode, done.stdout), (2, b""))
+
     def test_length(self):
         """Whether the two scripts for reviewers are short."""
         self.assertLessEqual(content("tools", "check_evidence.py").count("\n"), 300)
