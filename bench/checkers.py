@@ -257,11 +257,11 @@ def main():
         return sum(n for said, n in counts.items() if said.startswith(what + ":"))
 
     with tempfile.TemporaryDirectory() as room, multiprocessing.Pool(words.jobs) as pool:
-        for first in range(0, 10**9, 1000):
-            if all(total(what) >= least for what, least in wanted.items()):
-                break
-            tasks = [(check_one, words.seed, n, room, total("damaged") < words.damaged) for n in range(first, first + 1000)]
+        done = 0
+        while (missing := max(least - total(what) for what, least in wanted.items())) > 0:
+            tasks = [(check_one, words.seed, n, room, total("damaged") < words.damaged) for n in range(done, done + min(missing, 1000))]
             count(pool, tasks, counts)
+            done += len(tasks)
         count(pool, [(decide_one, words.seed, n, room, False) for n in range(words.closed)], counts)
     for said, n in sorted(counts.items()):
         print(f"{n:8} {said}")

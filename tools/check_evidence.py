@@ -25,14 +25,12 @@ import csv
 import io
 import re
 import sys
-from argparse import ArgumentParser, Namespace
+from argparse import ArgumentParser, FileType, Namespace
 from fractions import Fraction
 from functools import reduce
 from itertools import product, zip_longest
 
-getattr(sys, "set_int_max_str_digits", int)(0)
-ZERO, ONE = Fraction(0), Fraction(1)
-WIDEST = [0]  # bits of the widest whole number so far
+ZERO, ONE, WIDEST = Fraction(0), Fraction(1), [0]  # WIDEST holds the bits of the widest whole number so far
 
 
 class Stop(Exception):
@@ -65,7 +63,7 @@ def times(a, b):
 
 
 def total(start, products):
-    return reduce(lambda sum, product: plus(sum, times(*product)), products, start)
+    return reduce(lambda value, product: plus(value, times(*product)), products, start)
 
 
 def is_at_most(a, b):
@@ -105,7 +103,7 @@ def expression(text, where):
             value = terms()
             take(")")
             return value
-        return [ZERO] * (int(take("0123456789")) if tokens[0] == "^" and take("^") else 1) + [ONE]
+        return [ZERO] * (int(take([*"0123456789"])) if tokens[0] == "^" and take("^") else 1) + [ONE]
     value = terms()
     take(["end"])
     return value
@@ -123,7 +121,7 @@ class Lines:
         """The first word of the next line; that of the end is empty."""
         return re.split("[ \t]+", self.rows[0][1])[0]
 
-    def take(self, word, least, most=1000, split=0):
+    def take(self, word, least, most=10**9, split=0):
         """The place of the next line, which begins with this word, and the words after it."""
         where, line = self.rows[0]
         require(self.first() == word, where, "unexpected" if line else "ended")
@@ -132,7 +130,7 @@ class Lines:
         self.rows.pop(0)
         return where, words
 
-    def numerals(self, word, least, most=1000):
+    def numerals(self, word, least, most=10**9):
         where, words = self.take(word, least, most)
         return [numeral(word, where) for word in words]
 
@@ -156,17 +154,17 @@ def read_text(text):
 def read_sheet(text, alpha):
     rows = [[cell.strip(" \t") for cell in row] for row in csv.reader(io.StringIO(text, newline="")) if row]
     require(rows and rows[0][0] in ("", "hypothesis") and rows[0][1:3] == ["weight", "p"], "malformed: row 1 column 1: header")
-    names = rows.pop(0)[3:]
-    require(len(rows) == len(names), f"malformed: row {len(rows) + 1} column 1: records")
+    names, p, part = rows.pop(0)[3:], [], Namespace(share=ONE, weights=[], edges=[])
     for i, row in enumerate(rows):
-        require(len(row) == len(names) + 3, f"malformed: row {i + 2} column 1: width")
-        require(row[0] == names[i], f"malformed: row {i + 2} column 1: name")
-    rows = [[(cell, f"malformed: row {i} column {j}") for j, cell in enumerate(row, 1)] for i, row in enumerate(rows, 2)]
-    weights = [numeral(*row[1]) for row in rows]
-    p = [None if row[2][0] in ("", "NA") else numeral(*row[2]) for row in rows]
-    edges = [(i, j, expression(*cell)) for i, row in enumerate(rows) for j, cell in enumerate(row[3:])]
-    p = p if any(x is not None for x in p) else []
-    return Namespace(alpha=alpha, names=names, p=p, components=[Namespace(share=ONE, weights=weights, edges=edges)])
+        at = f"malformed: row {i + 2} column"
+        require(i < len(names), f"{at} 1", "records")
+        require(len(row) == len(names) + 3, f"{at} 1", "width")
+        require(row[0] == names[i], f"{at} 1", "name")
+        part.weights.append(numeral(row[1], f"{at} 2"))
+        p.append(None if row[2] in ("", "NA") else numeral(row[2], f"{at} 3"))
+        part.edges += [(i, j, expression(cell, f"{at} {j + 4}")) for j, cell in enumerate(row[3:])]
+    require(len(rows) == len(names), f"malformed: row {len(rows) + 2} column 1", "records")
+    return Namespace(alpha=alpha, names=names, p=[x for x in p if {*p} != {None}], components=[part])
 
 
 def read_case(text, form="text", alpha=None):
@@ -283,17 +281,19 @@ def answer(case, evidence, form="text", alpha=None):
         check(case, steps, keeps)
     except Stop as stop:
         return stop.args
+    except (csv.Error, RecursionError, ValueError) as error:  # as for a numeral of more than 4,300 digits
+        return 4, f"limit: {error}\n"
     lists = [("listed", steps), ("kept", keeps)][: int(version)]
     return 0, "".join(["yes\n", *(" ".join([word, *(case.names[k] for k, _ in part)]) + "\n" for word, part in lists), "end\n"])
 
 
 if __name__ == "__main__":
     parser = ArgumentParser(usage="check_evidence.py CASE EVIDENCE [--form text|csv] [--alpha N]")
-    parser.add_argument("files", nargs=2)
+    parser.add_argument("files", nargs=2, type=FileType("rb"))
     parser.add_argument("--form", choices=["text", "csv"], default="text")
     parser.add_argument("--alpha")
     words = parser.parse_args()
-    status, text = answer(*(open(file, "rb").read() for file in words.files), words.form, words.alpha)
+    status, text = answer(*(file.read() for file in words.files), words.form, words.alpha)
     if WIDEST[0] > 63:
         print(f"note: numbers of {WIDEST[0]} bits; `welungad check` ends with 5 where its own pass 127 bits", file=sys.stderr)
     sys.stdout.write(text)

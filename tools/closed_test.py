@@ -92,7 +92,7 @@ def report(case, with_sets=False):
 
 def main():
     parser = argparse.ArgumentParser(usage="closed_test.py CASE [--form text|csv] [--alpha N] [--sets]")
-    parser.add_argument("case")
+    parser.add_argument("case", type=argparse.FileType("rb"))
     parser.add_argument("--form", choices=["text", "csv"], default="text")
     parser.add_argument("--alpha")
     parser.add_argument("--sets", action="store_true")
@@ -100,7 +100,7 @@ def main():
     try:
         require((words.form == "csv") == (words.alpha is not None), "usage: --alpha gives the level of a sheet", status=2)
         alpha = words.alpha and numeral(words.alpha, "usage: --alpha")
-        case = read_case(open(words.case, "rb").read().decode("latin-1"), words.form, alpha)
+        case = read_case(words.case.read().decode("latin-1"), words.form, alpha)
         require(case.p, "malformed: kind")
         require(len(case.names) <= 12, f"limit: hypotheses {len(case.names)}", status=4)
         print("\n".join(report(case, words.sets)))

@@ -208,14 +208,14 @@ def picture(case, steps=None):
 
 def main():
     parser = argparse.ArgumentParser(usage="draw.py CASE [REPORT] [--form text|csv] [--alpha N]")
-    parser.add_argument("case")
+    parser.add_argument("case", type=argparse.FileType("rb"))
     parser.add_argument("report", nargs="?")
     parser.add_argument("--form", choices=["text", "csv"], default="text")
     parser.add_argument("--alpha")
     words = parser.parse_args()
     try:
         require((words.form == "csv") == (words.alpha is not None), "usage: --alpha gives the level of a sheet", status=2)
-        text = re.sub(r"(?ms)^[ \t]*stages[ \t].*", "", open(words.case, "rb").read().decode("latin-1"))
+        text = re.sub(r"(?ms)^[ \t]*stages[ \t].*", "", words.case.read().decode("latin-1"))
         case = read_case(text, words.form, words.alpha and numeral(words.alpha, "usage: --alpha"))
     except Stop as stop:
         sys.stderr.write(stop.args[1])

@@ -1,0 +1,554 @@
+"""Tests of the scripts in this folder, of the examples and of the scripts at the top. `tools/run_tests.sh` runs them.
+
+Expected values are those of the rows in crates/acceptance/data, which are by hand, or stand here by hand.
+"""
+import hashlib
+import os
+import re
+import shutil
+import stat
+import subprocess
+import sys
+import tempfile
+import unittest
+import xml.etree.ElementTree
+from fractions import Fraction
+
+import check_evidence
+import closed_test
+import draw
+
+TOOLS = os.path.dirname(os.path.abspath(__file__))
+TOP = os.path.dirname(TOOLS)
+PROGRAM = os.path.join(TOP, "crates", "welungad", "out", "welungad")
+SVG = "{http://www.w3.org/2000/svg}"
+
+
+def content(*path):
+    with open(os.path.join(TOP, *path), encoding="utf-8") as file:
+        return file.read()
+
+
+class Row:
+    """A row of examples.rows: the file whose case it has, its words, and what is printed."""
+
+    def __init__(self, file, words):
+        self.file, self.words, self.blocks = file, words, {"case": [], "file": [], "ends": []}
+
+    def text(self, block):
+        return "".join(line + "\n" for line in self.blocks[block])
+
+    def alpha(self):
+        return Fraction(self.words[-1]) if "csv" in self.words else None
+
+    def line(self, word):
+        """The words after the first word of the printed line that begins with it."""
+        return next(line.split()[1:] for line in self.blocks["ends"] if line.split()[0] == word)
+
+
+def rows_of(text):
+    rows, file, block = [], None, None
+    for line in text.splitlines():
+        if line.startswith("# ") and ": " in line:
+            file = line[2:].split(": ")[0]
+        elif line.startswith("run"):
+            rows.append(Row(file, line.split()[1:]))
+        elif line.split(" ")[0] in ("case", "file", "ends"):
+            block = line.split(" ")[0]
+        elif line.startswith("| ") and rows:
+            rows[-1].blocks[block].append(line[2:])
+    return rows
+
+
+ROWS = rows_of(content("crates", "acceptance", "data", "examples.rows"))
+DECIDED = [row for row in ROWS if row.words[0] == "test" and "json" not in row.words and row.blocks["ends"][-1] == "end"]
+
+
+class Examples(unittest.TestCase):
+    def test_files(self):
+        """Whether the gate runs each example as it stands in its file, and the file of commands with it."""
+        for row in ROWS:
+            if row.words[0] != "catalogue":
+                with self.subTest(row.file):
+                    self.assertEqual(row.text("case"), content("examples", row.file))
+        study = next(row for row in ROWS if row.words[0] == "study")
+        self.assertEqual(study.text("file"), content("examples", "study-looks.txt"))
+        tested = {row.file for row in ROWS} | {"README.md", "study-looks.txt"}
+        self.assertEqual(set(os.listdir(os.path.join(TOP, "examples"))) - tested, set())
+
+    def test_page(self):
+        """Whether the page of the examples has what is printed for each."""
+        page = content("examples", "README.md")
+        for row in ROWS:
+            with self.subTest(row.file, words=row.words):
+                self.assertIn("\n" + "".join(f"    {line}\n" for line in row.blocks["ends"]), page)
+
+    def test_closed_test(self):
+        """Whether the closed test over all sets rejects what the rows say."""
+        self.assertGreater(len(DECIDED), 14)
+        for row in DECIDED:
+            with self.subTest(row.file):
+                case = check_evidence.read_case(row.text("case"), "csv" if row.alpha() else "text", row.alpha())
+                lines = list(closed_test.report(case))
+                self.assertEqual(lines[0], "alpha " + row.line("alpha")[0])
+                self.assertEqual(lines[1].split()[1:], row.line("rejected"))
+
+    def test_adjusted(self):
+        """Whether each adjusted value is the greatest, over the sets with the hypothesis, of the least p-value over weight."""
+        for row in DECIDED:
+            with self.subTest(row.file):
+                case = check_evidence.read_case(row.text("case"), "csv" if row.alpha() else "text", row.alpha())
+                sets = [weights for weights, _ in closed_test.closed_test(case)]
+                for k, name in enumerate(case.names):
+                    values = [min([Fraction(2), *(case.p[i] / w for i, w in weights.items() if w)]) for weights in sets if k in weights]
+                    wanted = str(max(values)) if max(values) <= 1 else "1 not reached"
+                    self.assertIn(f"adjusted {name} {wanted}", row.blocks["ends"])
+
+
+GATEKEEPING = content("examples", "improved-gatekeeping.txt")
+SEQUENCE = content("examples", "fixed-sequence.txt")
+# of the improved gatekeeping graph, by hand
+EPSILON_PROOF = """evidence 2
+step H1
+step H3
+flow 1 H1 1/2
+step H4
+flow 1 H1 [1]/[2,-1]
+flow 1 H3 [1]/[4,-2]
+step H2
+flow 1 H1 1
+flow 1 H3 [1]/[0,2]
+flow 1 H4 [1]/[0,2]
+end
+"""
+KEEP_PROOF = """evidence 2
+step H1
+keep H2
+exit 1 H1 1
+keep H3
+exit 1 H1 0
+end
+"""
+
+
+def answer(case, proof, *how):
+    return check_evidence.answer(case.encode(), proof.encode(), *how)
+
+
+def with_line(text, number, line):
+    """A text with another line in the place of one, from 1; without it where the line is None."""
+    lines = text.splitlines()
+    lines[number - 1 : number] = [] if line is None else [line]
+    return "".join(line + "\n" for line in lines)
+
+
+class Checker(unittest.TestCase):
+    def test_yes(self):
+        """Whether good documents of both versions are found good."""
+        yes = "yes\nlisted H1 H3 H4 H2\n"
+        self.assertEqual(answer(GATEKEEPING, EPSILON_PROOF), (0, yes + "kept\nend\n"))
+        self.assertEqual(answer(GATEKEEPING, with_line(EPSILON_PROOF, 1, "evidence 1")), (0, yes + "end\n"))
+        self.assertEqual(answer(SEQUENCE, KEEP_PROOF), (0, "yes\nlisted H1\nkept H2 H3\nend\n"))
+        self.assertEqual(answer(SEQUENCE, "evidence 1\nend\n"), (0, "yes\nlisted\nend\n"))
+        self.assertEqual(answer(SEQUENCE, "# a\r\n\nevidence\t1 \r\n  # b\nend"), (0, "yes\nlisted\nend\n"))
+
+    def test_broken_conditions(self):
+        """Whether the first broken condition is named."""
+        once = with_line(EPSILON_PROOF, 1, "evidence 1")
+        for number, line, wanted in [
+            (4, "flow 1 H1 501/1000", "no: step 2: component 1 flow of H1 exceeds"),
+            (4, "flow 1 H1 -1", "no: step 2: component 1 flow of H1 negative"),
+            (4, "flow 1 H1 0", "no: step 2: no level"),
+            (4, "flow 1 H1 1/3", "no: step 2: above level"),
+            (7, "flow 1 H3 -1", "no: step 3: component 1 flow of H1 exceeds"),
+            (11, "flow 1 H4 -1", "no: step 4: component 1 flow of H3 exceeds"),
+            (8, "step H1", "no: step 4: repeated"),
+        ]:
+            with self.subTest(line):
+                self.assertEqual(answer(GATEKEEPING, with_line(once, number, line)), (1, wanted + "\n"))
+        for number, line, wanted in [
+            (4, "exit 1 H1 0", "no: keep H2: component 1 exit of H1 short"),
+            (4, "exit 1 H1 -1", "no: keep H2: component 1 exit of H1 negative"),
+            (4, "exit 1 H1 2", "no: keep H2: component 1 level above one"),
+        ]:
+            with self.subTest(line):
+                self.assertEqual(answer(SEQUENCE, with_line(KEEP_PROOF, number, line)), (1, wanted + "\n"))
+        legal = SEQUENCE.replace("0.03", "0.025")
+        self.assertEqual(answer(legal, KEEP_PROOF), (1, "no: keep H2: legal\n"))
+
+    def test_malformed_documents(self):
+        """Whether the first line that is not allowed is named."""
+        for number, line, wanted in [
+            (1, "evidence 3", "line 1: version"),
+            (1, "evidence", "line 1: words"),
+            (1, "step H1", "line 1: unexpected"),
+            (2, "step H9", "line 2: unknown name"),
+            (4, "exit 2 H1 1", "line 4: exit"),
+            (4, "exit 1 H2 1", "line 4: exit"),
+            (4, "exit 1 H1", "line 4: words"),
+            (4, "exit 1 H1 1/0", "line 4: number"),
+            (4, "exit 1 H1 [1]/[1]", "line 4: number"),
+            (3, "keep H3", "line 3: unexpected"),
+            (7, None, "line 7: ended"),
+            (7, "end end", "line 7: words"),
+            (7, "end\nend", "line 8: unexpected"),
+        ]:
+            with self.subTest(line):
+                self.assertEqual(answer(SEQUENCE, with_line(KEEP_PROOF, number, line)), (3, f"malformed: proof {wanted}\n"))
+        self.assertEqual(answer(GATEKEEPING, with_line(EPSILON_PROOF, 4, "exit 1 H1 1/2")), (3, "malformed: proof line 4: unexpected\n"))
+        self.assertEqual(answer(GATEKEEPING, with_line(EPSILON_PROOF, 4, "flow 2 H1 1/2")), (3, "malformed: proof line 4: flow\n"))
+
+    def test_malformed_cases(self):
+        """Whether a case that is not valid is refused."""
+        for old, new, wanted in [
+            ("weights 1 0 0", "weights 1 0 1/9", "case: weight sum component 1"),
+            ("weights 1 0 0", "weights 1 0 -1/9", "case: weight of H3 component 1"),
+            ("edge H1 H2 1", "edge H1 H2 1+\\epsilon", "case: edge H1 H2 component 1"),
+            ("edge H1 H2 1", "edge H1 H2 -\\epsilon", "case: edge H1 H2 component 1"),
+            ("edge H1 H2 1", "edge H1 H2 1\nedge H1 H3 \\epsilon", "case: row sum of H1 component 1"),
+            ("edge H1 H2 1", "edge H1 H2 1/2\nedge H1 H2 1/2", "case: repeated edge H1 H2 component 1"),
+            ("edge H1 H2 1", "edge H1 H1 1", "case: self edge of H1 component 1"),
+            ("p 0.01 0.03 0.001", "p 0.01 0.03", "case: p count 2"),
+            ("p 0.01 0.03 0.001", "p 0.01 0.03 2", "case: p of H3"),
+            ("p 0.01 0.03 0.001\n", "", "kind"),
+            ("alpha 0.025", "alpha 1.025", "case: alpha"),
+            ("alpha 0.025", "alpha 0.0.25", "line 2: number"),
+            ("alpha 0.025", "alpha 1/0", "line 2: zero denominator"),
+            ("edge H1 H2 1", "edge H1 H2 1//2", "line 6: expression"),
+            ("edge H1 H2 1", "edge H1 H2 1/\\epsilon", "line 6: divisor"),
+            ("edge H1 H2 1", "edge H1 H2 1/(1-1)", "line 6: zero divisor"),
+            ("edge H1 H2 1", "edge H1 H4 1", "line 6: unknown name"),
+            ("edge H2 H3 1\n", "edge H2 H3 1\ncomponent 1\n", "line 8: unexpected"),
+        ]:
+            with self.subTest(new):
+                self.assertEqual(answer(SEQUENCE.replace(old, new), KEEP_PROOF), (3, f"malformed: {wanted}\n"))
+
+    def test_expressions(self):
+        """Whether an expression has its value, as coefficients by ascending power."""
+        for text, wanted in [
+            ("1/2\\epsilon", ["0", "1/2"]),
+            (" - ( 1 - 2 \\epsilon ) * -".rstrip(" *-"), ["-1", "2"]),
+            ("(1-\\epsilon)/2", ["1/2", "-1/2"]),
+            ("(1-\\epsilon)(1+\\epsilon)", ["1", "0", "-1"]),
+            ("\\epsilon^2\\epsilon^0", ["0", "0", "1"]),
+            ("2.5e-1-.25", []),
+        ]:
+            with self.subTest(text):
+                self.assertEqual(check_evidence.expression(text, ""), [Fraction(x) for x in wanted])
+        for text in ["", "1 2", "\\epsilon^12", "2*-1", "(1", "1)", "\\eps", "1e"]:
+            with self.subTest(text), self.assertRaises(check_evidence.Stop):
+                check_evidence.expression(text, "")
+
+    def test_sheet(self):
+        """Whether a sheet is read as the case that it is."""
+        sheet = content("examples", "thirds.csv")
+        proof = "evidence 1\nstep H2\nstep H1\nflow 1 H2 1/3\nend\n"
+        self.assertEqual(answer(sheet, proof, "csv", "0.025"), (0, "yes\nlisted H2 H1\nend\n"))
+        self.assertEqual(answer(sheet, proof, "csv"), (2, "usage: --alpha gives the level of a sheet\n"))
+        self.assertEqual(answer(sheet.replace('"H2","1/3"', '"H9","1/3"'), proof, "csv", "1"), (3, "malformed: row 3 column 1: name\n"))
+        self.assertEqual(answer(sheet.replace("0.005", "NA"), proof, "csv", "1"), (3, "malformed: case: p missing H2\n"))
+
+    def test_wide_numbers(self):
+        """Whether numbers of any size are decided, and a note says so."""
+        wide = 10**60 + 7
+        case = f"alpha 1\nhypotheses A B C\np 0 0 0\nweights 1 0 0\nedge A B 1/{wide}\nedge B C 1/{wide + 2}\n"
+        proof = f"evidence 1\nstep A\nstep B\nflow 1 A 1\nstep C\nflow 1 A 1\nflow 1 B 1/{wide}\nend\n"
+        self.assertEqual(answer(case, proof), (0, "yes\nlisted A B C\nend\n"))
+        above = proof.replace(f"B 1/{wide}", f"B 1/{wide - 1}")
+        self.assertEqual(answer(case, above), (1, "no: step 3: component 1 flow of B exceeds\n"))
+        with tempfile.TemporaryDirectory() as room:
+            paths = [os.path.join(room, name) for name in ("case", "proof")]
+            for path, text in zip(paths, (case, proof)):
+                with open(path, "w", encoding="utf-8") as file:
+                    file.write(text)
+            done = subprocess.run([sys.executable, os.path.join(TOOLS, "check_evidence.py"), *paths], capture_output=True, text=True)
+        self.assertEqual((done.returncode, done.stdout), (0, "yes\nlisted A B C\nend\n"))
+        self.assertIn("note: numbers of ", done.stderr)
+
+    def test_no_answer(self):
+        """Whether what isn't decided ends with no status of a yes or a no."""
+        deep = SEQUENCE.replace("edge H1 H2 1", "edge H1 H2 " + "(" * 4000 + "1" + ")" * 4000)
+        self.assertEqual(answer(deep, KEEP_PROOF)[0], 4)
+        self.assertEqual(answer(SEQUENCE.replace("0.025", "0." + "1" * 9000), KEEP_PROOF)[0], 4)
+        done = subprocess.run([sys.executable, os.path.join(TOOLS, "check_evidence.py"), "no such file", "nor this"], capture_output=True)
+        self.assertEqual((done.returncode, done.stdout), (2, b""))
+
+    def test_length(self):
+        """Whether the two scripts for reviewers are short."""
+        self.assertLessEqual(content("tools", "check_evidence.py").count("\n"), 300)
+        self.assertLessEqual(content("tools", "closed_test.py").count("\n"), 120)
+
+
+class ClosedTest(unittest.TestCase):
+    def lines(self, case, *words):
+        with tempfile.TemporaryDirectory() as room:
+            path = os.path.join(room, "case")
+            with open(path, "w", encoding="utf-8") as file:
+                file.write(case)
+            done = subprocess.run([sys.executable, os.path.join(TOOLS, "closed_test.py"), path, *words], capture_output=True, text=True)
+        return done.returncode, done.stdout.splitlines()
+
+    def test_sets(self):
+        """Whether the sets, their weights and what rejects them are printed."""
+        self.assertEqual(
+            self.lines(SEQUENCE, "--sets"),
+            (
+                0,
+                [
+                    "set H1=1 H2=0 H3=0 rejected by H1",
+                    "set H2=1 H3=0 not rejected",
+                    "set H3=1 rejected by H3",
+                    "set H2=1 not rejected",
+                    "set H1=1 H3=0 rejected by H1",
+                    "set H1=1 rejected by H1",
+                    "set H1=1 H2=0 rejected by H1",
+                    "alpha 1/40",
+                    "rejected H1",
+                    "kept H2 in H2 H3",
+                    "kept H3 in H2 H3",
+                    "end",
+                ],
+            ),
+        )
+
+    def test_least_solutions(self):
+        """Whether weight that goes round for ever arrives nowhere: A and B pass all to each other."""
+        case = "alpha 1\nhypotheses A B C\np 0 0 0\nweights 1/2 0 1/4\nedge A B 1\nedge B A 1\n"
+        self.assertIn("set C=1/4 rejected by C", self.lines(case, "--sets")[1])
+        case = "alpha 1\nhypotheses A B C\np 0 0 0\nweights 1/2 0 1/4\nedge A B 1\nedge B A 1-\\epsilon\nedge B C \\epsilon\n"
+        self.assertIn("set C=3/4 rejected by C", self.lines(case, "--sets")[1])
+
+    def test_limits(self):
+        """Whether more than 12 hypotheses are refused, and cases that check_evidence.py refuses."""
+        names = " ".join(f"H{i}" for i in range(13))
+        case = f"alpha 1\nhypotheses {names}\np{' 0' * 13}\nweights{' 0' * 13}\n"
+        self.assertEqual(self.lines(case), (4, ["limit: hypotheses 13"]))
+        self.assertEqual(self.lines("alpha 1\n"), (3, ["malformed: line 2: ended"]))
+
+
+class Pictures(unittest.TestCase):
+    def picture(self, *words):
+        done = subprocess.run([sys.executable, os.path.join(TOOLS, "draw.py"), *words], capture_output=True, text=True, encoding="utf-8")
+        self.assertEqual(done.returncode, 0, done.stderr)
+        return done.stdout
+
+    def test_examples(self):
+        """Whether each example is drawn: a circle for each hypothesis and an arrow for each edge, all within the picture."""
+        for row in {row.file: row for row in ROWS if row.file.endswith((".txt", ".csv"))}.values():
+            with self.subTest(row.file):
+                words = ["--form", "csv", "--alpha", "0.025"] if row.file.endswith(".csv") else []
+                root = xml.etree.ElementTree.fromstring(self.picture(os.path.join(TOP, "examples", row.file), *words))
+                circles, arrows = list(root.iter(SVG + "circle")), list(root.iter(SVG + "path"))
+                arrows = [arrow for arrow in arrows if "marker-end" in arrow.attrib]
+                if not words:
+                    names = re.search(r"(?m)^hypotheses (.*)$", row.text("case"))[1].split()
+                    self.assertEqual(len(circles), len(names))
+                    self.assertEqual(len(arrows), len(re.findall("(?m)^edge ", row.text("case"))))
+                    self.assertLessEqual(set(names), {text.text for text in root.iter(SVG + "text")})
+                left, top, width, height = map(float, root.get("viewBox").split())
+                for shape in [*circles, *root.iter(SVG + "text"), *root.iter(SVG + "rect")]:
+                    x, y = (float(shape.get(name) or shape.get("c" + name)) for name in "xy")
+                    self.assertTrue(left <= x <= left + width and top <= y <= top + height, shape.attrib)
+
+    def test_report(self):
+        """Whether what a report rejects is marked, with its step; the picture of the README is such a one."""
+        row = next(row for row in ROWS if row.file == "holm.txt")
+        with tempfile.TemporaryDirectory() as room:
+            report = os.path.join(room, "report")
+            with open(report, "w", encoding="utf-8") as file:
+                file.write(row.text("ends"))
+            drawn = self.picture(os.path.join(TOP, "examples", "holm.txt"), report)
+        self.assertEqual(drawn, content("docs", "pictures", "holm.svg"))
+        texts = [text.text for text in xml.etree.ElementTree.fromstring(drawn).iter(SVG + "text")]
+        self.assertLessEqual({"H1", "H2", "H3", "1", "2", "3", "1/3", "level α = 0.025"}, set(texts))
+
+    def test_edge_text(self):
+        """Whether an edge is written as a reader expects it."""
+        for text, wanted in [("1-\\epsilon", "1−ε"), ("(1-\\epsilon)/2", "1/2−1/2·ε"), ("\\epsilon^2", "ε²"), ("0.5", "1/2")]:
+            self.assertEqual(draw.edge_text(check_evidence.expression(text, "")), wanted)
+
+
+class Manual(unittest.TestCase):
+    def test_page(self):
+        """Whether the manual page has each command with an example, and each status."""
+        page = content("docs", "welungad.1").replace("\\-", "-")
+        for command in "test weights bounds simes evidence check stages study canon catalogue sample".split():
+            self.assertRegex(page, rf"(?m)^\.BI? {command}( |$)")
+            self.assertRegex(page, rf"(?m)^\$ welungad {command}( |$)")
+        for status in range(11):
+            self.assertIn(f"\n.TP\n.B {status}\n", page)
+
+    @unittest.skipUnless(shutil.which("man"), "man is missing")
+    def test_warnings(self):
+        """Whether man shows the page without a warning."""
+        path = os.path.join(TOP, "docs", "welungad.1")
+        done = subprocess.run(["man", "--warnings", "-l", path], capture_output=True, text=True, env={**os.environ, "MANPAGER": "cat"})
+        self.assertEqual((done.returncode, done.stderr), (0, ""))
+        self.assertIn("WELUNGAD(1)", done.stdout)
+
+
+BUILDS = """#!/bin/sh
+# A stand-in for rt: `rt run -- help` builds a program that prints how often it was built.
+if [ "$1" = version ]; then echo a-kit logic 1; exit; fi
+if [ "$1" = try ]; then for word in "$@"; do echo "[$word]"; done; exit; fi
+echo built >>out/builds
+{ echo '#!/bin/sh'; echo "echo $(grep -c . out/builds) \\$#; cat"; } >out/welungad
+chmod +x out/welungad
+"""
+
+
+class Scripts(unittest.TestCase):
+    """The scripts at the top, over a small repository and a stand-in for rt."""
+
+    def setUp(self):
+        self.room = tempfile.TemporaryDirectory(prefix="a room ")
+        self.addCleanup(self.room.cleanup)
+        self.top = os.path.join(self.room.name, "top")
+        self.write("crates/welungad/src/main.rt", "fn main() {}\n")
+        self.write("crates.txt", "welungad:\n")
+        self.write(".gitignore", "out/\n")
+        self.write("bin/rt", BUILDS, 0o755)
+        for name in ("welungad", "install", "uninstall", "unproved"):
+            self.write(name, content(name), 0o755)
+        for name in ("README.md", "docs/welungad.1", "docs/FORMATS.md", "examples/holm.txt", "tools/draw.py"):
+            self.write(name, f"{name}\n")
+        self.environment = {**os.environ, "PATH": f"{self.top}/bin:{os.environ['PATH']}", "GIT_CONFIG_GLOBAL": "/dev/null"}
+
+    def write(self, name, text, mode=0o644):
+        path = os.path.join(self.top, name)
+        os.makedirs(os.path.dirname(path), exist_ok=True)
+        with open(path, "w", encoding="utf-8") as file:
+            file.write(text)
+        os.chmod(path, mode)
+
+    def run_script(self, *words, given="", where=None):
+        done = subprocess.run(
+            [os.path.join(self.top, words[0]), *words[1:]], input=given, capture_output=True, text=True, env=self.environment, cwd=where
+        )
+        return done.returncode, done.stdout, done.stderr
+
+    def commit(self):
+        for words in (["init", "-q"], ["add", "-A"], ["-c", "user.name=a", "-c", "user.email=a@b", "commit", "-qm", "a"]):
+            subprocess.run(["git", *words], cwd=self.top, check=True, env=self.environment)
+
+    @unittest.skipUnless(shutil.which("git"), "git is missing")
+    def test_stale_builds(self):
+        """Whether the program is built once, and again for a commit that changes a source, and for no other."""
+        self.commit()
+        self.assertEqual(self.run_script("welungad", "a b", "c", given="text")[:2], (0, "1 2\ntext"))
+        self.assertEqual(self.run_script("welungad"), (0, "1 0\n", ""))
+        self.write("docs/FORMATS.md", "more\n")
+        self.commit()
+        self.assertEqual(self.run_script("welungad"), (0, "1 0\n", ""))
+        self.write("crates/welungad/src/main.rt", "fn main() { }\n")
+        self.assertEqual(self.run_script("welungad"), (0, "1 0\n", ""))
+        self.commit()
+        self.assertEqual(self.run_script("welungad")[:2], (0, "2 0\n"))
+        self.assertEqual(self.run_script("welungad"), (0, "2 0\n", ""))
+
+    @unittest.skipUnless(shutil.which("git"), "git is missing")
+    def test_edited_sources(self):
+        """Whether a build from sources that aren't committed is tested again at each call."""
+        self.commit()
+        self.write("crates/welungad/src/main.rt", "fn main() { }\n")
+        self.assertEqual(self.run_script("welungad")[:2], (0, "1 0\n"))
+        self.assertEqual(self.run_script("welungad")[:2], (0, "2 0\n"))
+        self.assertEqual(self.run_script("install", os.path.join(self.room.name, "prefix"))[0], 1)
+
+    def test_reading_alone(self):
+        """Whether a built checkout is run without a write to it, and without git's folder."""
+        self.run_script("welungad")
+        paths = [os.path.join(folder, name) for folder, _, names in os.walk(self.top) for name in ["", *names]]
+        for path in paths:
+            os.chmod(path, os.stat(path).st_mode & ~(stat.S_IWUSR | stat.S_IWGRP | stat.S_IWOTH))
+        before = [(path, os.stat(path).st_mtime_ns) for path in paths]
+        self.assertEqual(self.run_script("welungad"), (0, "1 0\n", ""))
+        self.assertEqual([(path, os.stat(path).st_mtime_ns) for path in paths], before)
+        for path in paths:
+            os.chmod(path, os.stat(path).st_mode | stat.S_IWUSR)
+
+    def test_install(self):
+        """Whether a proved program is installed whole, runs without the checkout, and is removed whole."""
+        prefix = os.path.join(self.room.name, "an empty folder")
+        self.assertEqual(self.run_script("install", prefix)[:2], (1, ""))
+        self.assertFalse(os.path.exists(prefix))
+        self.assertEqual(self.run_script("install")[0], 2)
+        self.run_script("welungad")
+        self.assertEqual(self.run_script("install", prefix)[0], 0)
+        self.assertEqual(self.run_script("install", prefix)[0], 0)
+        moved = self.top + " moved"
+        os.rename(self.top, moved)
+        done = subprocess.run([os.path.join(prefix, "bin", "welungad"), "x"], input="text", capture_output=True, text=True, cwd="/")
+        self.assertEqual(done.stdout, "1 1\ntext")
+        found = {os.path.relpath(os.path.join(folder, name), prefix) for folder, _, names in os.walk(prefix) for name in names}
+        wanted = "README.md docs/welungad.1 docs/FORMATS.md examples/holm.txt tools/draw.py identity installed uninstall".split()
+        wanted = {f"share/welungad/{name}" for name in wanted if not name.endswith(".1")}
+        self.assertEqual(found, wanted | {"bin/welungad", "share/man/man1/welungad.1"})
+        os.rename(moved, self.top)
+        self.write("../an empty folder/bin/other", "")
+        self.assertEqual(self.run_script("uninstall", prefix)[0], 0)
+        self.assertEqual(os.listdir(prefix), ["bin"])
+        self.assertEqual(os.listdir(os.path.join(prefix, "bin")), ["other"])
+        self.assertEqual(self.run_script("uninstall", prefix)[0], 1)
+
+    def test_library(self):
+        """Whether the C library is installed where it is built."""
+        self.run_script("welungad")
+        for name in ("c/out/libwelungad.a", "c/out/libwelungad.so", "c/welungad.h"):
+            self.write(name, name)
+        prefix = os.path.join(self.room.name, "prefix")
+        self.assertEqual(self.run_script("install", prefix)[0], 0)
+        for name in ("lib/libwelungad.a", "lib/libwelungad.so", "include/welungad.h"):
+            self.assertTrue(os.path.isfile(os.path.join(prefix, name)), name)
+
+    def test_another_program(self):
+        """Whether a program that isn't the one that was proved is refused."""
+        self.run_script("welungad")
+        self.write("crates/welungad/out/welungad", "#!/bin/sh\n", 0o755)
+        status, _, errors = self.run_script("install", os.path.join(self.room.name, "prefix"))
+        self.assertEqual(status, 1)
+        self.assertIn("isn't the program that was proved", errors)
+
+    def test_unproved(self):
+        """Whether words keep their blanks, files are handed on, and a file of looks is refused."""
+        self.write("../here/a case", "")
+        where = os.path.join(self.room.name, "here")
+        path = os.path.join(where, "a case")
+        status, words, errors = self.run_script("unproved", "check", "a case", "--form", "text or not", where=where)
+        self.assertEqual((status, errors.count("at each call")), (0, 1))
+        self.assertEqual(words, f"[try]\n[--data]\n[file-1={path}]\n[--]\n[check]\n[file-1]\n[--form]\n[text or not]\n")
+        self.assertEqual(self.run_script("unproved", "help", where=where)[1], "[try]\n[--]\n[help]\n")
+        for words in (["--store", "x"], ["--store=x"]):
+            status, printed, errors = self.run_script("unproved", "study", "a case", *words, where=where)
+            self.assertEqual((status, printed), (2, ""))
+            self.assertIn("no file of looks is kept", errors)
+
+
+@unittest.skipUnless(os.access(PROGRAM, os.X_OK), "the program isn't built")
+class Program(unittest.TestCase):
+    def test_agreement(self):
+        """Whether the program and the checkers agree on some cases. bench/checkers.py compares many."""
+        words = "--documents 200 --damaged 200 --closed 60 --seed 7 --jobs 2".split()
+        done = subprocess.run([sys.executable, os.path.join(TOP, "bench", "checkers.py"), *words], capture_output=True, text=True)
+        self.assertEqual((done.returncode, done.stderr), (0, ""), done.stdout)
+        self.assertIn("\n0 disagreements\n", done.stdout)
+
+    def test_archive(self):
+        """Whether the commands of the page on archives print what it shows."""
+        page = content("docs", "ARCHIVE.md")
+        with open(os.path.join(TOP, "examples", "diabetes.txt"), encoding="utf-8") as file:
+            case = subprocess.run([PROGRAM, "canon"], stdin=file, capture_output=True, text=True).stdout
+        with tempfile.TemporaryDirectory() as room:
+            made = {"case.txt": case}
+            for name, words in (("report.txt", ["test"]), ("evidence.txt", ["evidence"]), ("check.txt", ["check", "evidence.txt"])):
+                made[name] = subprocess.run([PROGRAM, *words], input=case, capture_output=True, text=True, cwd=room).stdout
+                with open(os.path.join(room, name), "w", encoding="utf-8") as file:
+                    file.write(made[name])
+        self.assertIn("".join(f"        {line}\n" for line in made["check.txt"].splitlines()), page)
+        for name in ("case.txt", "report.txt", "evidence.txt"):
+            digest = hashlib.sha256(made[name].encode()).hexdigest()
+            self.assertIn(f"{digest[:8]}..  {name}\n", page)
+
+
+if __name__ == "__main__":
+    unittest.main()
