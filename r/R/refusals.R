@@ -6,7 +6,7 @@ refusal_table <- c(
   # words
   "^usage: word [0-9]+$" = "The command help lists the commands with their options.",
 
-  # sums, of which the amount is told
+  # sums, whose amount is added
   "^malformed: case: share sum$" = "Write thirds as 1/3: six times 0.166667 is more than 1.",
   "^malformed: case: weight sum component " = "Write thirds as 1/3: six times 0.166667 is more than 1.",
   "^malformed: case: row sum of " = "Write 1-\\epsilon beside \\epsilon, and thirds as 1/3.",
@@ -101,7 +101,7 @@ refuse <- function(status, line, amount = "") {
   stop(structure(condition, class = c("welungad_refusal", "error", "condition")))
 }
 
-# The sentence that tells the amount of a sum above its bound; "" for any other line. `reading` has the numbers as they were
+# The sentence with the amount of a sum above its bound; "" for any other line. `reading` has the numbers as they were
 # handed in: `shares`, and by component `weights` and `edges`.
 amount_of <- function(lines, reading) {
   line <- if (length(lines)) lines[1] else ""
@@ -109,10 +109,10 @@ amount_of <- function(lines, reading) {
   words <- strsplit(sub("^malformed: case: ", "", line), " ", fixed = TRUE)[[1]]
   component <- if ("component" %in% words) as.integer(words[length(words)]) else 1L
   switch(words[1],
-    share = told_sum("The shares", fraction(reading$shares)),
-    weight = told_sum(in_component("The weights", component, reading), fraction(reading$weights[[component]])),
-    row = told_row(words[4], component, reading),
-    spend = told_levels(words[4], reading)
+    share = sum_sentence("The shares", fraction(reading$shares)),
+    weight = sum_sentence(in_component("The weights", component, reading), fraction(reading$weights[[component]])),
+    row = row_sentence(words[4], component, reading),
+    spend = levels_sentence(words[4], reading)
   )
 }
 
@@ -120,25 +120,25 @@ in_component <- function(text, component, reading) {
   if (length(reading$weights) == 1) text else paste(text, "of component", component)
 }
 
-told_sum <- function(what, terms, bound = gmp::as.bigq(1)) {
+sum_sentence <- function(what, terms, bound = gmp::as.bigq(1)) {
   total <- sum_of(terms)
   if (is.na(total) || total <= bound) return("")
   sprintf("%s sum to %s, which is %s above %s.", what, exact_decimal(total), format(as_double(total - bound), digits = 3),
     exact_decimal(bound))
 }
 
-# An expression with epsilon is read by the proved call.
-told_row <- function(name, component, reading) {
+# The proved call reads an expression with epsilon.
+row_sentence <- function(name, component, reading) {
   texts <- vapply(reading$edges[[component]][name, ], canonical_edge, "", USE.NAMES = FALSE)
   total <- sum_of(numbers_of(texts))
   what <- in_component(paste("The edges from", name), component, reading)
-  if (!is_quotients(total)) return(told_sum(what, total))
+  if (!is_quotients(total)) return(sum_sentence(what, total))
   sprintf("%s sum to %s, which is above 1.", what, text_of(total))
 }
 
-told_levels <- function(name, reading) {
+levels_sentence <- function(name, reading) {
   levels <- reading$levels[[name]]
   if (is.null(levels)) return("")
-  over <- Filter(nzchar, lapply(levels, function(it) told_sum(paste("The levels of", name), it$levels, it$bound)))
+  over <- Filter(nzchar, lapply(levels, function(it) sum_sentence(paste("The levels of", name), it$levels, it$bound)))
   if (length(over)) over[[1]] else ""
 }
