@@ -66,7 +66,7 @@ text_of_file <- function(path) {
   text
 }
 
-# The lines of the answer to a call. A status of 2 or more is a refusal; the case tells its amount.
+# The lines of the answer to a call. A status of 2 or more is a refusal, whose amount `reading` gives.
 ask <- function(words, case = "", proof = "", reading = NULL) {
   answer <- welungad_run(words, case, proof)
   lines <- strsplit(answer$text, "\n", fixed = TRUE)[[1]]

@@ -3,20 +3,20 @@
 graph_create <- function(hypotheses, transitions, hyp_names = NULL, labels = NULL) {
   weights <- as_exact(hypotheses)
   n <- length(weights)
-  told <- hyp_names
-  if (is.null(told)) told <- names_of(hypotheses)
-  if (is.null(told)) told <- rownames(transitions)
-  if (is.null(told)) told <- paste0("H", seq_len(n))
-  told <- as.character(told)
-  if (length(told) != n) stop("give one name for each hypothesis", call. = FALSE)
-  edges <- edge_texts(transitions, told)
-  names <- names_for(told)
+  given <- hyp_names
+  if (is.null(given)) given <- names_of(hypotheses)
+  if (is.null(given)) given <- rownames(transitions)
+  if (is.null(given)) given <- paste0("H", seq_len(n))
+  given <- as.character(given)
+  if (length(given) != n) stop("give one name for each hypothesis", call. = FALSE)
+  edges <- edge_texts(transitions, given)
+  names <- names_for(given)
   component <- list(
     share = "1",
     weights = stats::setNames(as_text(weights$read), names),
     edges = matrix(as_text(edges$read), n, n, dimnames = list(names, names))
   )
-  labels <- if (is.null(labels)) told else as.character(labels)
+  labels <- if (is.null(labels)) given else as.character(labels)
   if (length(labels) != n) stop("give one label for each hypothesis", call. = FALSE)
   new_graph(names, labels, list(component), unique(rbind(as_read(weights), as_read(edges))))
 }
@@ -32,8 +32,8 @@ edge_texts <- function(transitions, names) {
   if (!identical(as.integer(dim(transitions)), rep(length(names), 2))) {
     stop("transitions is a square matrix with a row and a column for each hypothesis", call. = FALSE)
   }
-  for (told in dimnames(transitions)) {
-    if (!is.null(told) && !identical(told, names)) {
+  for (own in dimnames(transitions)) {
+    if (!is.null(own) && !identical(own, names)) {
       stop("the rows and columns of transitions are named as the hypotheses, in their order", call. = FALSE)
     }
   }
@@ -183,10 +183,11 @@ print_names <- function(x) {
   cat("Names for the program: ", paste0(x$names[other], " for ", x$labels[other], collapse = ", "), "\n", sep = "")
 }
 
-# The numbers that were read as another number than the decimal that R shows, and those of a rule that is told by name.
+# The numbers that were read as another number than the decimal that R shows, and those of the rules in `rule`.
 print_read <- function(read, rule = character(), most = 10L) {
+  if (is.null(read)) return(invisible())
   read <- unique(read[!is.na(read$read) & read$rule != "text", , drop = FALSE])
-  if (is.null(read) || nrow(read) == 0) return(invisible())
+  if (nrow(read) == 0) return(invisible())
   other <- fraction(read$given) != fraction(read$read)
   texts <- c(
     if (any(other)) paste(read$given[other], "as", shortened(read$read[other])),

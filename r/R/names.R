@@ -25,24 +25,24 @@ made_name <- function(label, taken, i) {
   name
 }
 
-# The positions of hypotheses that are told by name, by label, by position, or by a logical vector.
-positions_of <- function(graph, told) {
+# The positions of hypotheses that are given by name, by label, by position, or by a logical vector.
+positions_of <- function(graph, given) {
   n <- length(graph$names)
-  if (is.logical(told) && length(told) == n && !anyNA(told)) return(which(told))
-  if (is.numeric(told) && all(told %in% seq_len(n))) return(as.integer(told))
-  if (!is.character(told)) stop("hypotheses are told by their names, labels or positions", call. = FALSE)
-  at <- match(told, graph$names)
-  at[is.na(at)] <- match(told[is.na(at)], graph$labels)
-  if (anyNA(at)) stop("no hypothesis has the name ", told[is.na(at)][1], call. = FALSE)
+  if (is.logical(given) && length(given) == n && !anyNA(given)) return(which(given))
+  if (is.numeric(given) && all(given %in% seq_len(n))) return(as.integer(given))
+  if (!is.character(given)) stop("give hypotheses by their names, labels or positions", call. = FALSE)
+  at <- match(given, graph$names)
+  at[is.na(at)] <- match(given[is.na(at)], graph$labels)
+  if (anyNA(at)) stop("no hypothesis has the name ", given[is.na(at)][1], call. = FALSE)
   at
 }
 
 # A vector in the order of the hypotheses. One with names is put in order by them.
 in_order <- function(x, graph, what) {
-  told <- names(x)
-  if (is.null(told) || inherits(x, "welungad_exact")) return(x)
-  at <- match(graph$names, told)
-  if (anyNA(at)) at <- match(graph$labels, told)
+  given <- names(x)
+  if (is.null(given) || inherits(x, "welungad_exact")) return(x)
+  at <- match(graph$names, given)
+  if (anyNA(at)) at <- match(graph$labels, given)
   if (anyNA(at) || length(x) != length(at)) {
     stop("the names of ", what, " are not those of the hypotheses: ", paste(graph$labels, collapse = ", "), call. = FALSE)
   }

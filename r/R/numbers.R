@@ -113,7 +113,7 @@ read_p <- function(p, names) {
     if (value > 0 && gmp::denominator(value) > limit) {
       p$read[i] <- as.character(round_up(value, limit))
       p$rule[i] <- "rounded up to a multiple of 10^-30"
-      tell_rounded(names[i], p$given[i], p$read[i])
+      report_rounded(names[i], p$given[i], p$read[i])
     }
   }
   p
@@ -126,7 +126,7 @@ round_up <- function(value, parts) {
   gmp::as.bigq((n + d - 1) %/% d, parts)
 }
 
-tell_rounded <- function(name, given, read) {
+report_rounded <- function(name, given, read) {
   text <- sprintf("The p-value %s of %s was rounded up to %s, a multiple of 10^-30.\n", given, name, read)
   message(structure(class = c("welungad_rounded", "message", "condition"), list(message = text, call = NULL)))
 }

@@ -20,7 +20,7 @@ decision
 # The same as exact fractions.
 print(decision, exact = TRUE)
 
-# The graph after each rejection, and the closed test behind the decision.
+# The graph after each rejection, and the closed test that the decision is of.
 print(graph_steps(decision), all = TRUE)
 graph_test_closure(diabetes, p, alpha = 0.025)
 

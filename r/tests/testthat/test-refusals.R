@@ -6,7 +6,7 @@ test_that("sums above 1 are refused with their amount", {
     expect_equal(weights$status, 3L)
     expect_equal(weights$line, "malformed: case: weight sum component 1")
     expect_equal(weights$amount, "The weights sum to 1.00000000000000004, which is 4e-17 above 1.")
-    expect_match(conditionMessage(weights), "write 1/3, not a rounded decimal")
+    expect_match(conditionMessage(weights), "Write thirds as 1/3")
     row <- refusal_of(graph_create(c(1, 0, 0), rbind(c(0, "2/3", "0.34"), 0, 0)))
     expect_match(row$amount, "The edges from H1 sum to 151/150, which is 0.00667 above 1.", fixed = TRUE)
     small <- refusal_of(graph_create(c(1, 0, 0), rbind(c("0", "1-\\epsilon", "2*\\epsilon"), "0", "0")))
@@ -39,7 +39,7 @@ test_that("other refusals carry status, line and advice", {
       c("0", "1/1000000000000000000", "0", "0"), c("0", "0", "1/999999999999999999", "0"), c("0", "0", "0", "1/999999999999999997"), "0"
     )), c(0, 0, 0, 0), 0.05))
     expect_equal(wide$status, 5L)
-    expect_match(wide$advice, "common denominator")
+    expect_match(wide$advice, "common denominators")
   })
 })
 
@@ -77,7 +77,7 @@ test_that("each refusal has advice", {
   expect_equal(names(advice)[!nzchar(advice)], character())
   expect_true(all(grepl("^[A-Z].*[.]$", advice)))
   expect_match(advice[["malformed: line 3: zero divisor"]], "other than 0")
-  expect_match(advice[["limit: case: part alpha"]], "10,000")
+  expect_match(advice[["limit: case: part alpha"]], "four decimals")
 })
 
 test_that("the proved call answers as the program prints", {

@@ -12,7 +12,7 @@ test_that("the diabetes trial", {
   })
 })
 
-test_that("a value that is not reached is told", {
+test_that("a value that is not reached is reported", {
   each_way(function(way) {
     graph <- graph_create(c(1, 0), matrix(0, 2, 2))
     x <- graph_test(graph, c(0.01, 0.01))
@@ -21,7 +21,7 @@ test_that("a value that is not reached is told", {
   })
 })
 
-test_that("a p-value that looks like its level is told", {
+test_that("a p-value that looks like its level is reported", {
   each_way(function(way) {
     x <- graph_test(holm(3), c("0.0083333334", "0.5", "0.5"))
     expect_false(any(x$rejected))
