@@ -2,7 +2,7 @@
 # Runs the program on worked cases with the first, the second, the third .. allocation refused and the others given, and then with
 # all refused from that one on. Each run has to end with status 8 and `no memory`, with status 8 and nothing where `main` found no
 # memory for its words or its file, or as the case ends with all the memory it asks for. Prints how often each came, and each run
-# that ends otherwise, with status 1 then. Stops a case after 2,000 runs or ten minutes. Nothing of it is a gate. Needs glibc and cc.
+# that ends otherwise, with status 1 then. Stops a case after 2,000 runs or ten minutes. Needs glibc and cc.
 #
 #     bench/allocations.sh [PROGRAM]
 #
@@ -56,7 +56,7 @@ grep -v '^arrive ' "$out/looks.txt" >"$out/open.txt"
 echo '{"alpha":"0.025","hypotheses":["H1"],"p":["0.01"],"components":[{"weights":[1],"edges":[]}]}' >"$out/one.json"
 ended=0
 
-# one run: its number, `one` or `on`, the file and the words; the status is told behind the text
+# one run: its number, `one` or `on`, the file and the words; the status follows the text
 ran() {
     number=$1
     kind=$2
@@ -69,7 +69,7 @@ ran() {
     echo "status $status" >>"$out/printed"
 }
 
-# what a run was: as the case, want of memory, want of memory with nothing printed, or something else
+# what a run was: as the case, out of memory, out of memory with nothing printed, or something else
 kind_of() {
     if cmp -s "$out/printed" "$out/wanted"; then
         echo own

@@ -1,6 +1,7 @@
-// The same decision as `welungad test`, written straightforwardly: fractions of 128-bit parts in lowest terms, the same
-// written operations in the same order, one matrix that changes hypothesis by hypothesis. It checks nothing of the
-// case and prints the same text; with the word `bounds`, the bounds of all sets. It is what bench/run.sh compares with.
+// The same two runs as `welungad test`, the decision and that of the adjusted values, written straightforwardly: fractions of
+// 128-bit parts in lowest terms, the same written operations in the same order, one matrix that changes hypothesis by
+// hypothesis. It checks nothing of the case and prints the same text; with the word `bounds`, the bounds of all sets. It is
+// what bench/run.sh compares with.
 #include <algorithm>
 #include <cctype>
 #include <cstdio>
@@ -208,9 +209,8 @@ int bounds(const Case &c) {
     return 0;
 }
 
-int main(int count, char **words) {
-    Case c = read_case();
-    if (count > 1 && std::string(words[1]) == "bounds") return bounds(c);
+// The text of the decision by the first legal hypothesis.
+std::string decide(Case c) {
     size_t m = c.names.size();
     std::vector<bool> live(m, true);
     std::string out = "alpha " + text(c.alpha) + "\n";
@@ -226,5 +226,40 @@ int main(int count, char **words) {
     out += "rejected";
     for (size_t k = 0; k < m; k++)
         if (!live[k]) out += " " + c.names[k];
-    std::cout << out << "\nend\n";
+    return out + "\n";
+}
+
+// The text of the adjusted values: a second run, which removes the hypothesis with the least ratio of p-value and weight as long
+// as that is at most 1.
+std::string adjust(Case c) {
+    size_t m = c.names.size();
+    std::vector<bool> live(m, true), reached(m, false);
+    std::vector<Fraction> values(m, Fraction{1, 1});
+    Fraction before;
+    for (;;) {
+        size_t least = m;
+        Fraction ratio;
+        for (size_t k = 0; k < m; k++) {
+            if (!live[k] || c.weights[k].num == 0) continue;
+            Fraction own = divide(c.p[k], c.weights[k]);
+            if (least < m && at_most(ratio, own)) continue;
+            least = k;
+            ratio = own;
+        }
+        if (least == m || !at_most(ratio, {1, 1})) break;
+        if (at_most(before, ratio)) before = ratio;
+        values[least] = before;
+        reached[least] = true;
+        remove(c, live, least);
+    }
+    std::string out;
+    for (size_t k = 0; k < m; k++)
+        out += "adjusted " + c.names[k] + " " + text(values[k]) + (reached[k] ? "\n" : " not reached\n");
+    return out;
+}
+
+int main(int count, char **words) {
+    Case c = read_case();
+    if (count > 1 && std::string(words[1]) == "bounds") return bounds(c);
+    std::cout << decide(c) << adjust(c) << "end\n";
 }

@@ -1,7 +1,7 @@
 #!/bin/sh
-# Measures the program on generated cases, and the same decision in C++ beside it where it can read the case. Prints tables:
-# the least of five times, and the instructions that valgrind counts, which repeat; then what reading 4 MiB of one kind of
-# line takes beside 4 MiB of edges, and what sheets of 4 MiB take. Nothing of it is a gate.
+# Measures the program on generated cases, and the same work in C++ beside it where that can read the case. Prints tables:
+# the least of five times, the instructions that valgrind counts, which repeat, and the figures that are wanted; then what
+# reading 4 MiB of one kind of line takes beside 4 MiB of edges, and what sheets of 4 MiB take. Nothing of it is a gate.
 set -eu
 here=$(cd "$(dirname "$0")" && pwd)
 out=$here/out
@@ -33,9 +33,9 @@ counted() {
         awk '/Collected/ { printf "%.1f\n", $4 / 1000000 }'
 }
 
-# whether both print the same decision; the C++ program has no adjusted values
+# whether both print the same decision and the same adjusted values
 same() {
-    "$program" test <"$out/$1.txt" | grep -v '^adjusted ' >"$out/ours"
+    "$program" test <"$out/$1.txt" >"$out/ours"
     "$out/decide" <"$out/$1.txt" >"$out/theirs"
     if cmp -s "$out/ours" "$out/theirs"; then echo yes; else echo no; fi
 }
@@ -78,6 +78,9 @@ for name in full-15 full-16; do
     "$out/decide" bounds <"$out/$name.txt" >"$out/theirs"
     if cmp -s "$out/ours" "$out/theirs"; then answer=yes; else answer=no; fi
     most=$(/usr/bin/time -f %M "$program" bounds <"$out/$name.txt" 2>&1 >/dev/null)
+    bounds_ours=$ours
+    bounds_theirs=$theirs
+    bounds_most=$most
     awk -v n="$name" -v a="$ours" -v b="$theirs" -v m="$most" -v s="$answer" \
         'BEGIN { printf "%-14s %12.1f %12.1f %8.2f %10.1f   %s\n", n, a / 1000, b / 1000, a / b, m / 1024, s }'
 done
@@ -85,6 +88,23 @@ if command -v valgrind >/dev/null; then
     echo
     table counted 'million instr.' 1
 fi
+
+# a figure beside the most that is wanted of it
+wanted() {
+    awk -v n="$1" -v a="$2" -v b="$3" -v w="$4" -v u="$5" \
+        'BEGIN { printf "%-30s %10s %10s %10s   %-18s %s\n", n, a, b, w, u, (a + 0 <= w + 0) ? "yes" : "no" }'
+}
+
+echo
+printf '%-30s %10s %10s %10s   %-18s %s\n' wanted ours C++ 'at most' of reached
+if command -v valgrind >/dev/null; then
+    "$program" catalogue improved-parallel --size 5 --second 5 >"$out/improved-5.txt"
+    wanted 'weights improved-parallel 5 5' "$(counted "$out/improved-5.txt" "$program" weights)" - 120 'million instr.'
+    wanted 'test full-64' "$(counted "$out/full-64.txt" "$program" test)" "$(counted "$out/full-64.txt" "$out/decide")" 130 'million instr.'
+fi
+# full-16 is the last case of the table of bounds
+wanted 'bounds full-16, time' "$(awk -v a="$bounds_ours" -v b="$bounds_theirs" 'BEGIN { printf "%.2f", a / b }')" 1.00 0.50 'time in C++'
+wanted 'bounds full-16, memory' "$(awk -v m="$bounds_most" 'BEGIN { printf "%.1f", m / 1024 }')" - 40 MiB
 
 # what `test` takes of texts that are refused once they are read, beside the text of edges
 echo

@@ -4,7 +4,7 @@
 # n / d == x. If there is no such d, it is read as the shortest decimal that R reads back as x. So 1/3 typed in R is 1/3,
 # 0.025 is 1/40, and 0.3333 is 3333/10000.
 
-greatest_denominator <- 10000
+denominators <- as.double(1:10000)
 
 # The value of a numeral, or NA if the text is none: 0.025, 1/40, 2.5e-2.
 numeral_value <- function(text) {
@@ -27,10 +27,9 @@ ten_to <- function(n) gmp::as.bigz(10)^n
 
 # The numerator and the denominator of a finite double by the first half of the rule, or NULL.
 small_fraction <- function(x) {
-  d <- seq_len(greatest_denominator)
-  n <- round(x * d)
-  hit <- which(n / d == x)
-  if (length(hit) == 0) NULL else c(n[hit[1]], hit[1])
+  n <- round(x * denominators)
+  d <- match(TRUE, n / denominators == x)
+  if (is.na(d)) NULL else c(n[d], d)
 }
 
 # The shortest decimal that R reads back as the double; that of 17 digits if R reads back none.
@@ -49,10 +48,13 @@ read_double <- function(x) {
   }
   if (is.na(x)) return(c(given = "NA", read = NA, rule = "missing"))
   found <- small_fraction(x)
-  given <- shortest_decimal(x)
-  if (is.null(found)) return(c(given = given, read = given, rule = "shortest decimal"))
+  if (is.null(found)) {
+    text <- shortest_decimal(x)
+    return(c(given = text, read = text, rule = "shortest decimal"))
+  }
   n <- sub("^-0$", "0", sprintf("%.0f", found[1]))
-  c(given = given, read = if (found[2] == 1) n else paste0(n, "/", sprintf("%.0f", found[2])), rule = "least denominator")
+  read <- if (found[2] == 1) n else sprintf("%s/%.0f", n, found[2])
+  c(given = format(x, digits = 15), read = read, rule = "least denominator")
 }
 
 # Rows of as_exact for a vector of doubles; equal doubles are read once.
@@ -67,9 +69,9 @@ as_exact <- function(x) {
   if (inherits(x, "welungad_exact")) return(x)
   if (inherits(x, c("bigq", "bigz"))) {
     texts <- as.character(gmp::as.bigq(x))
-    read <- cbind(given = texts, read = texts, rule = "fraction of gmp")
+    read <- cbind(given = texts, read = texts, rule = rep("fraction of gmp", length(texts)))
   } else if (is.character(x)) {
-    read <- cbind(given = x, read = trimws(as.vector(x)), rule = ifelse(is.na(x), "missing", "text"))
+    read <- cbind(given = as.vector(x), read = trimws(as.vector(x)), rule = ifelse(is.na(x), "missing", "text"))
   } else if (is.numeric(x) && !is.factor(x)) {
     read <- read_doubles(as.double(x))
   } else if (is.logical(x) && all(is.na(x))) {
@@ -77,9 +79,8 @@ as_exact <- function(x) {
   } else {
     stop("numbers are doubles, integers, texts or fractions of gmp, and not of class ", class(x)[1], call. = FALSE)
   }
-  read <- as.data.frame(read, stringsAsFactors = FALSE)
-  row.names(read) <- NULL
-  structure(list(given = read$given, read = read$read, rule = read$rule, names = where), class = "welungad_exact")
+  parts <- list(given = unname(read[, "given"]), read = unname(read[, "read"]), rule = unname(read[, "rule"]), names = where)
+  structure(parts, class = "welungad_exact")
 }
 
 length.welungad_exact <- function(x) length(x$read)

@@ -10,12 +10,12 @@ use std::mem;
 pub struct Block<'a> {
     /// The number of the line, from 1.
     pub line: usize,
-    /// Its first word, and what stands behind it.
+    /// Its first word, and what stands after it.
     pub word: &'a str,
     pub rest: &'a str,
     /// The bytes before each gap.
     fronts: Vec<Vec<u8>>,
-    /// The bytes behind the last gap, or all where there is none.
+    /// The bytes after the last gap, or all where there is none.
     bytes: Vec<u8>,
 }
 
@@ -25,7 +25,7 @@ impl Block<'_> {
         self.fronts.is_empty() && self.bytes.is_empty()
     }
 
-    /// The bytes, among which no gap may stand.
+    /// Returns the bytes, among which no gap may be.
     pub fn whole(&self) -> Result<&[u8]> {
         if self.fronts.is_empty() {
             return Ok(self.bytes.as_slice());
@@ -33,7 +33,7 @@ impl Block<'_> {
         bail!("a gap among bytes that are given")
     }
 
-    /// The bytes as what is to be printed.
+    /// Returns the bytes as what is to be printed.
     pub fn printed(&self) -> Printed<'_> {
         Printed {
             fronts: self.fronts.as_slice(),
@@ -77,7 +77,7 @@ impl<'a> Blocks<'a> {
         Ok(())
     }
 
-    /// Puts bytes behind those of the last block.
+    /// Puts bytes after those of the last block.
     fn put(&mut self, bytes: &[u8]) -> Result<()> {
         let Some(block) = self.blocks.last_mut() else {
             bail!("bytes of nothing");
@@ -86,7 +86,7 @@ impl<'a> Blocks<'a> {
         Ok(())
     }
 
-    /// Puts a gap behind the bytes of the last block.
+    /// Puts a gap after the bytes of the last block.
     fn part(&mut self) -> Result<()> {
         let Some(block) = self.blocks.last_mut() else {
             bail!("a gap of nothing");
@@ -97,7 +97,7 @@ impl<'a> Blocks<'a> {
     }
 }
 
-/// The blocks of a table.
+/// Returns the blocks of a table.
 pub fn read_blocks(alloc: Global, table: &str) -> Result<Vec<Block<'_>>> {
     let mut blocks = Blocks {
         alloc,

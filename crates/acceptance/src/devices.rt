@@ -11,7 +11,7 @@ const TAKE: usize = 4;
 
 const PUT: usize = 5;
 
-/// How many takes bring all of these bytes, with the one that tells the end.
+/// Returns how many takes bring all of these bytes, with the one that finds the end.
 fn takes_of(bytes: Option<&[u8]>) -> u64 {
     match bytes {
         Some(bytes) => (bytes.len().div_ceil(TAKE) as u64).saturating_add(1),
@@ -19,12 +19,12 @@ fn takes_of(bytes: Option<&[u8]>) -> u64 {
     }
 }
 
-/// How many puts take all of these bytes.
+/// Returns how many puts take all of these bytes.
 fn puts_of(bytes: &[u8]) -> u64 {
     bytes.len().div_ceil(PUT) as u64
 }
 
-/// What the first so many puts take.
+/// Returns what the first puts take, in this number.
 fn pieces(bytes: &[u8], puts: u64) -> &[u8] {
     let length = (puts as usize).saturating_mul(PUT);
     bytes.get(..length).unwrap_or(bytes)
@@ -70,7 +70,7 @@ impl Devices<'_> {
         Ok(())
     }
 
-    /// A sink without room holds what fits.
+    /// Returns a sink without room holds what fits.
     fn rooms(&self, findings: &mut Findings) -> Result<()> {
         for room in 0..self.text.len() {
             let wanted = Wanted {
@@ -83,7 +83,7 @@ impl Devices<'_> {
         self.expect(findings, &Plan::of_room(self.text.len()))
     }
 
-    /// Each take of the case fails, and each of the file; both together are told as one.
+    /// Each take of the case fails, and each of the file; both together are reported as one.
     fn takes(&self, findings: &mut Findings) -> Result<()> {
         for take in 1..=takes_of(self.row.case) {
             self.read_fault(findings, take, 0)?;
@@ -95,7 +95,7 @@ impl Devices<'_> {
         Ok(())
     }
 
-    /// A take fails, and then each put of the line that tells it.
+    /// Makes a take fail, and then each put of the line that reports it.
     fn read_fault(&self, findings: &mut Findings, case_take: u64, file_take: u64) -> Result<()> {
         let plan = Plan {
             case_take,
@@ -105,7 +105,7 @@ impl Devices<'_> {
         self.each_put(findings, &plan, (6, b"read fault\n"), 0)
     }
 
-    /// How many calls of the keeper are made: one for the looks before, and one for each look more.
+    /// Returns how many calls of the keeper are made: one for the looks before, and one for each look more.
     fn keeper_calls(&self) -> usize {
         if self.row.call == Call::Study && self.row.has_keeper {
             self.row.looks_more().saturating_add(1)
@@ -114,7 +114,7 @@ impl Devices<'_> {
         }
     }
 
-    /// Each call of the keeper fails, and then each put of the line that tells it.
+    /// Each call of the keeper fails, and then each put of the line that reports it.
     fn calls(&self, findings: &mut Findings) -> Result<()> {
         for before in 0..self.keeper_calls() {
             let plan = Plan {
@@ -127,7 +127,7 @@ impl Devices<'_> {
         Ok(())
     }
 
-    /// Each put of the text fails. The calls of the other devices that would fail are those behind the last.
+    /// Each put of the text fails. The calls of the other devices that would fail are those after it the last.
     fn puts(&self, findings: &mut Findings) -> Result<()> {
         let plan = Plan {
             case_take: takes_of(self.row.case).saturating_add(1),
@@ -139,8 +139,8 @@ impl Devices<'_> {
         self.each_put(findings, &plan, (self.status, self.text), looks)
     }
 
-    /// Each put of a text fails in turn, and then the one behind the last, which isn't made. The keeper holds so many looks more
-    /// than before.
+    /// Each put of a text fails in turn, and then the one after the last, which isn't made. The keeper holds this
+    /// number of looks more than before.
     fn each_put(
         &self,
         findings: &mut Findings,

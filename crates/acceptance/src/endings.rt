@@ -51,7 +51,7 @@ impl fmt::Display for Ended {
     }
 }
 
-/// Looks as they are told, a line each.
+/// Looks as they are reported, a line each.
 #[derive(Clone, Copy)]
 struct Looks<'a>(&'a [Look]);
 

@@ -1,4 +1,4 @@
-//! What is told of the runs of a table.
+//! What is reported of the runs of a table.
 use crate::endings::{Ended, Wanted};
 use crate::plan::Plan;
 use crate::rows::Row;
@@ -8,7 +8,7 @@ use std::alloc::Global;
 use std::fmt;
 use std::fmt::Write;
 
-/// How many rows and runs there were of a table, and what is told of those that ended otherwise than wanted.
+/// How many rows and runs there were of a table, and what is reported of those that ended otherwise than wanted.
 #[derive(Drop)]
 pub struct Findings<'a> {
     alloc: Global,
@@ -52,7 +52,7 @@ impl<'a> Findings<'a> {
         self.compare(row, plan, wanted, &ended)
     }
 
-    /// Tells of a run over devices by plan that ended otherwise.
+    /// Reports a run over devices by plan that ended otherwise.
     pub fn compare(
         &mut self,
         row: &Row,
@@ -67,7 +67,7 @@ impl<'a> Findings<'a> {
         Ok(())
     }
 
-    /// Tells something of a row.
+    /// Reports something of a row.
     pub fn tell<D: fmt::Display + Drop>(&mut self, row: &Row, what: D) -> Result<()> {
         let (table, line) = (self.table, row.line);
         write!(self.told, "{table}:{line}: {what}\n")?;

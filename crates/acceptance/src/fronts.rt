@@ -7,15 +7,15 @@ use crate::runs::Given;
 use anyhow::{Context, Result, bail};
 use std::alloc::Global;
 
-/// What breaks off.
+/// What stops part way.
 #[derive(Clone, Copy, PartialEq, Eq, Debug)]
 enum Part {
     Case,
     File,
 }
 
-/// How many of the front parts, the empty one and the whole among them, end with each status, and how each line begins that
-/// tells of a refusal.
+/// How many of the front parts, the empty one and the whole among them, end with each status, and how each line begins
+/// that reports a refusal.
 #[derive(Drop)]
 pub struct Fronts<'a> {
     part: Part,
@@ -24,7 +24,7 @@ pub struct Fronts<'a> {
 }
 
 impl<'a> Fronts<'a> {
-    /// What `case STATUS:COUNT ..` or `file STATUS:COUNT ..` says, and the bytes below it.
+    /// Returns what `case STATUS:COUNT ..` or `file STATUS:COUNT ..` says, and the bytes below it.
     pub fn read(alloc: Global, text: &str, begins: &'a [u8]) -> Result<Fronts<'a>> {
         let (part, rest) = text.split_once(' ').context("how many?")?;
         let part = match part {
@@ -44,7 +44,7 @@ impl<'a> Fronts<'a> {
         })
     }
 
-    /// The bytes of which the front parts are taken.
+    /// Returns the bytes of which the front parts are taken.
     fn bytes<'b>(&self, row: &Row<'b>) -> Result<&'b [u8]> {
         match self.part {
             Part::Case => row.case.context("no case"),
@@ -75,7 +75,7 @@ impl<'a> Fronts<'a> {
         self.expect_counts(findings, row, statuses.as_slice())
     }
 
-    /// A run over a front part that ends with another status than 0 and 1 prints one line.
+    /// Returns a run over a front part that ends with another status than 0 and 1 prints one line.
     fn expect_line(
         &self,
         findings: &mut Findings,
@@ -96,7 +96,7 @@ impl<'a> Fronts<'a> {
         Ok(())
     }
 
-    /// So many runs end with each status, and none with another.
+    /// Returns a number of runs end with each status, and none with another.
     fn expect_counts(&self, findings: &mut Findings, row: &Row, statuses: &[u8]) -> Result<()> {
         let mut all: usize = 0;
         for (status, wanted) in self.counts.iter().copied() {

@@ -7,7 +7,7 @@
 //!
 //! An empty line of a table, and one that begins with `#`, says nothing. A row begins with one of these lines:
 //!
-//!     run WORD ..           a call of `run`; blanks part its words, and what stands in double quotes is one word
+//!     run WORD ..           a call of `run`; blanks separate its words, and what is in double quotes is one word
 //!     run_study WORD ..     a call of `run_study`
 //!     file_word WORD ..     a call of `file_word`, which ends with the number of the word that names a file, from 1, or 0
 //!
@@ -16,7 +16,7 @@
 //!     case                  the bytes on standard input; without them it fails at its first take
 //!     file                  the bytes of the file, a proof or the commands of a study; without them it fails likewise
 //!     kept PLACE STAGE P    a look that the keeper holds before, of the hypothesis at a place, from 0
-//!     keeps PLACE STAGE P   a look that it holds besides in the end
+//!     keeps PLACE STAGE P   a further look that it holds in the end
 //!     keeper none           the keeper fails at its first call
 //!     ends STATUS           the status, and all that is printed
 //!     leaves COUNT          how many bytes of the case aren't taken: else none
@@ -28,16 +28,16 @@
 //!     counts LINES DIGEST   the number of lines that are printed, and the FNV-1a digest of all bytes, in hexadecimal
 //!     devices               it is run again over devices that move few bytes, and over such as fail, each call in turn
 //!
-//! Bytes stand in the lines below:
+//! Bytes are in the lines below:
 //!
 //!     | TEXT                a text and a line feed
 //!     / TEXT                a text
 //!     % 0D 0A               bytes in hexadecimal
-//!     * 64 TEXT             a text so many times
+//!     * 64 TEXT             a text, this number of times
 //!     text NAME             begins a text that has a name, and its bytes stand below
 //!     = NAME                such a text
 //!     < NAME 4              its lines before the fourth
-//!     > NAME 4              its lines behind the fourth
+//!     > NAME 4              its lines after the fourth
 //!     ...                   any lines, among what is printed
 #![tactic(auto)]
 
@@ -59,7 +59,7 @@ use anyhow::{Context, Result};
 use std::process::ExitCode;
 use std::{env, fs};
 
-/// Runs a table, prints what is told of it, and answers whether each run ended as wanted.
+/// Runs a table, prints what is reported of it, and answers whether each run ended as wanted.
 fn is_clean(rt: &HostRuntime, path: &str) -> Result<bool> {
     let table = fs::read_to_string(rt, path)?;
     let findings = tables::run_table(rt.alloc(), path, table.as_str())?;

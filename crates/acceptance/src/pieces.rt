@@ -3,7 +3,7 @@ use crate::blocks::Block;
 use anyhow::{Context, Result, bail};
 use std::alloc::Global;
 
-/// The bytes that a line says, by its mark and what stands behind it; or `None` where the mark is none of bytes.
+/// Returns the bytes that a line says, by its mark and what stands after it; or `None` where the mark is none of bytes.
 pub fn said(alloc: Global, blocks: &[Block], mark: &str, rest: &str) -> Result<Option<Vec<u8>>> {
     let bytes = match mark {
         "|" => with_line_feed(alloc, rest)?,
@@ -18,7 +18,7 @@ pub fn said(alloc: Global, blocks: &[Block], mark: &str, rest: &str) -> Result<O
     Ok(Some(bytes))
 }
 
-/// A text and a line feed.
+/// Returns a text and a line feed.
 fn with_line_feed(alloc: Global, text: &str) -> Result<Vec<u8>> {
     let mut bytes = text.as_bytes().to_vec(alloc)?;
     bytes.push(b'\n')?;
@@ -34,7 +34,7 @@ fn codes(alloc: Global, text: &str) -> Result<Vec<u8>> {
     Ok(bytes)
 }
 
-/// A text so many times, as `TIMES TEXT` says.
+/// Returns a text this number of times, as `TIMES TEXT` says.
 fn repeated(alloc: Global, text: &str) -> Result<Vec<u8>> {
     let (times, text) = text.split_once(' ').context("how often?")?;
     let mut bytes = Vec::new(alloc);
@@ -44,7 +44,7 @@ fn repeated(alloc: Global, text: &str) -> Result<Vec<u8>> {
     Ok(bytes)
 }
 
-/// The bytes of the text of this name.
+/// Returns the bytes of the text of this name.
 fn named<'a>(blocks: &'a [Block], name: &str) -> Result<&'a [u8]> {
     for block in blocks {
         if block.word == "text" && block.rest == name {
@@ -54,13 +54,13 @@ fn named<'a>(blocks: &'a [Block], name: &str) -> Result<&'a [u8]> {
     bail!("no text {name}")
 }
 
-/// The bytes of a named text, and the number of one of its lines, as `NAME NUMBER` says.
+/// Returns the bytes of a named text, and the number of one of its lines, as `NAME NUMBER` says.
 fn named_line<'a>(blocks: &'a [Block], text: &str) -> Result<(&'a [u8], usize)> {
     let (name, number) = text.split_once(' ').context("which line?")?;
     Ok((named(blocks, name)?, number.parse::<usize>()?))
 }
 
-/// The lines of a named text before this one.
+/// Returns the lines of a named text before this one.
 fn lines_before(alloc: Global, blocks: &[Block], text: &str) -> Result<Vec<u8>> {
     let (bytes, number) = named_line(blocks, text)?;
     let mut front = Vec::new(alloc);
@@ -71,7 +71,7 @@ fn lines_before(alloc: Global, blocks: &[Block], text: &str) -> Result<Vec<u8>> 
     Ok(front)
 }
 
-/// The lines of a named text behind this one.
+/// Returns the lines of a named text after this one.
 fn lines_behind(alloc: Global, blocks: &[Block], text: &str) -> Result<Vec<u8>> {
     let (bytes, number) = named_line(blocks, text)?;
     let mut back = Vec::new(alloc);

@@ -25,7 +25,7 @@ impl Plan {
         Plan::of_pieces(ALL, ALL)
     }
 
-    /// No call fails, and each moves at most so many bytes.
+    /// No call fails, and each moves at most this number of bytes.
     pub fn of_pieces(take_most: usize, put_most: usize) -> Plan {
         Plan {
             take_most,

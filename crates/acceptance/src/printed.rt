@@ -6,12 +6,12 @@ use std::fmt;
 pub struct Printed<'a> {
     /// The bytes before each gap.
     pub fronts: &'a [Vec<u8>],
-    /// The bytes behind the last gap, or all where there is none.
+    /// The bytes after the last gap, or all where there is none.
     pub last: &'a [u8],
 }
 
 impl<'a> Printed<'a> {
-    /// These bytes.
+    /// Returns these bytes.
     pub fn of(bytes: &'a [u8]) -> Printed<'a> {
         Printed {
             fronts: &[],
@@ -30,7 +30,7 @@ impl<'a> Printed<'a> {
         }
     }
 
-    /// Whether lines hold these, one behind the other, and end in the last.
+    /// Whether lines hold these, one after the other, and end in the last.
     fn ends(&self, lines: &[u8], fronts: &[Vec<u8>]) -> bool {
         let mut rest = lines;
         for front in fronts {
@@ -46,7 +46,7 @@ impl<'a> Printed<'a> {
     }
 }
 
-/// What stands behind the first place, at the beginning of a line, where these bytes stand.
+/// Returns what stands after the first place, at the beginning of a line, where these bytes stand.
 fn behind<'a>(lines: &'a [u8], bytes: &[u8]) -> Option<&'a [u8]> {
     let mut rest = lines;
     for line in lines.split_inclusive(|byte| *byte == b'\n') {
@@ -67,7 +67,7 @@ impl fmt::Display for Printed<'_> {
     }
 }
 
-/// Bytes as they are told: a line each, with the line feed at its end.
+/// Bytes as they are reported: a line each, with the line feed at its end.
 #[derive(Clone, Copy)]
 pub struct Lines<'a>(pub &'a [u8]);
 

@@ -58,7 +58,7 @@ pub struct Ending<'a> {
 }
 
 impl<'a> Row<'a> {
-    /// A row that begins at a line, of which nothing is said but its words.
+    /// Returns a row that begins at a line, of which nothing is said but its words.
     fn new(alloc: Global, line: usize, call: Call, words: &str) -> Result<Row<'a>> {
         Ok(Row {
             line,
@@ -79,7 +79,7 @@ impl<'a> Row<'a> {
         })
     }
 
-    /// What its run is given.
+    /// Returns what its run is given.
     pub fn given(&self) -> Given<'_> {
         Given {
             call: self.call,
@@ -98,13 +98,13 @@ impl<'a> Row<'a> {
         }
     }
 
-    /// The looks that the keeper holds before, and so many behind them.
+    /// Returns the looks that the keeper holds before, and this number after them.
     pub fn looks_behind(&self, more: usize) -> &[Look] {
         let looks = self.looks.as_slice();
         looks.get(..self.kept.saturating_add(more)).unwrap_or(looks)
     }
 
-    /// How many looks the keeper holds besides in the end.
+    /// Returns how many looks the keeper holds also in the end.
     pub fn looks_more(&self) -> usize {
         self.looks.len().saturating_sub(self.kept)
     }
@@ -142,7 +142,7 @@ impl<'a> Row<'a> {
         Ok(())
     }
 
-    /// Puts a look behind those that are held before.
+    /// Puts a look after those that are held before.
     fn keep(&mut self, look: Look) -> Result<()> {
         if self.looks_more() > 0 {
             bail!("kept behind keeps");
@@ -162,7 +162,7 @@ fn put_once<T: Copy>(place: &mut Option<T>, value: T) -> Result<()> {
     Ok(())
 }
 
-/// How a run is to end, by the words behind `ends` and the bytes below.
+/// Returns how a run is to end, by the words after `ends` and the bytes below.
 fn ending_of<'a>(status: &str, block: &'a Block) -> Result<Ending<'a>> {
     Ok(Ending {
         status: status.parse::<u8>()?,
@@ -170,7 +170,7 @@ fn ending_of<'a>(status: &str, block: &'a Block) -> Result<Ending<'a>> {
     })
 }
 
-/// A look, as `POSITION STAGE P` says, by the position of its hypothesis, from 0.
+/// Returns a look, as `POSITION STAGE P` says, by the position of its hypothesis, from 0.
 fn look_of(text: &str) -> Result<Look> {
     let (hypothesis, rest) = text.split_once(' ').context("no stage")?;
     let (stage, p) = rest.split_once(' ').context("no p-value")?;
@@ -203,7 +203,7 @@ fn take<'a>(alloc: Global, rows: &mut Vec<Row<'a>>, block: &'a Block) -> Result<
     Ok(())
 }
 
-/// The rows that blocks say.
+/// Returns the rows that blocks say.
 pub fn read_rows<'a>(alloc: Global, blocks: &'a [Block]) -> Result<Vec<Row<'a>>> {
     let mut rows = Vec::new(alloc);
     for block in blocks {

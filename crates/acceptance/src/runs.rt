@@ -76,7 +76,7 @@ impl Given<'_> {
     }
 }
 
-/// The status of `run`.
+/// Returns the status of `run`.
 fn run_status<S: Source, T: Source, W: Sink>(
     alloc: Global,
     words: &[String],
@@ -87,7 +87,7 @@ fn run_status<S: Source, T: Source, W: Sink>(
     run(alloc, words, case, file, out)
 }
 
-/// The status of `run_study`.
+/// Returns the status of `run_study`.
 fn study_status<S: Source, T: Source, K: Keeper, W: Sink>(
     alloc: Global,
     words: &[String],
@@ -99,7 +99,7 @@ fn study_status<S: Source, T: Source, K: Keeper, W: Sink>(
     run_study(alloc, words, case, file, keeper, out)
 }
 
-/// The number of the word that names a file, from 1, or 0 where none does.
+/// Returns the number of the word that names a file, from 1, or 0 where none does.
 fn file_number(words: &[String]) -> u8 {
     match file_word(words) {
         Some(place) => u8::try_from(place.saturating_add(1)).unwrap_or(u8::MAX),
@@ -107,12 +107,12 @@ fn file_number(words: &[String]) -> u8 {
     }
 }
 
-/// A list of one number.
+/// Returns a list of one number.
 fn one(alloc: Global, number: u64) -> Result<List<u64>, AllocError> {
     Ok(List::of([number].to_vec(alloc)?))
 }
 
-/// A source of these bytes that fails at this take; or, without bytes, at its first.
+/// Returns a source of these bytes that fails at this take; or, without bytes, at its first.
 fn source(
     alloc: Global,
     bytes: Option<&[u8]>,
@@ -127,7 +127,7 @@ fn source(
     Ok(FailingSource::new(bytes, most.max(1), one(alloc, take)?))
 }
 
-/// A keeper of these looks that fails at this call; or, without looks, at its first.
+/// Returns a keeper of these looks that fails at this call; or, without looks, at its first.
 fn keeper(alloc: Global, looks: Option<&[Look]>, call: u64) -> Result<FailingKeeper, AllocError> {
     match looks {
         Some(looks) => {

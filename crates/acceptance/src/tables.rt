@@ -25,7 +25,7 @@ pub fn run_table<'a>(alloc: Global, name: &'a str, table: &str) -> Result<Findin
     Ok(findings)
 }
 
-/// Runs a row, and, where it ends as it is to, all that it says besides.
+/// Runs a row, and, where it ends as it is to, all that it says also.
 fn run_row(alloc: Global, findings: &mut Findings, row: &Row) -> Result<()> {
     let ending = row.ending.context("no end")?;
     let wanted = Wanted {
@@ -57,7 +57,7 @@ fn expect_left(findings: &mut Findings, row: &Row, ended: &Ended) -> Result<()> 
     Ok(())
 }
 
-/// What is printed is to have the length and the digest that the row says.
+/// Returns what is printed is to have the length and the digest that the row says.
 fn expect_counts(findings: &mut Findings, row: &Row, ended: &Ended) -> Result<()> {
     if let Some(wanted) = row.counts {
         let came = Counts::of(ended.printed.as_slice());
@@ -68,7 +68,7 @@ fn expect_counts(findings: &mut Findings, row: &Row, ended: &Ended) -> Result<()
     Ok(())
 }
 
-/// Runs what a row says besides of a run that ended as it is to.
+/// Runs what a row says also of a run that ended as it is to.
 fn run_besides(alloc: Global, findings: &mut Findings, row: &Row, ended: &Ended) -> Result<()> {
     if let Some(text) = row.checked {
         run_check(alloc, findings, row, ended, text)?;

@@ -1,7 +1,7 @@
 //! The words of a row.
 use std::alloc::{AllocError, Global};
 
-/// The words of a text, which blanks part. What stands in double quotes is one word, with its blanks, if any.
+/// Returns the words of a text, which blanks part. What is in double quotes is one word, with its blanks, if any.
 pub fn words_of(alloc: Global, text: &str) -> Result<Vec<String>, AllocError> {
     let mut words = Vec::new(alloc);
     let mut quoted = false;
@@ -16,7 +16,7 @@ pub fn words_of(alloc: Global, text: &str) -> Result<Vec<String>, AllocError> {
     Ok(words)
 }
 
-/// Puts the words of a text behind others.
+/// Puts the words of a text after others.
 fn push_words(alloc: Global, words: &mut Vec<String>, text: &str) -> Result<(), AllocError> {
     for word in text.split_whitespace() {
         words.push(String::from_str(alloc, word)?)?;

@@ -1,4 +1,4 @@
--- The drafts that sheets say, and what becomes of them.
+-- The drafts of sheets, and the cases or errors that they give.
 use Rattle.std.proofs.Common.{◌≡◌, ◌≢◌, ◌<◌, ◌≤◌, ◌+◌, ◌-◌, ◌∙◌, ◌⊎◌, inl, inr, ◌==◌, ℕ, suc, Bool, true, false, ◌&&◌}
 use Rattle.std.proofs.Common.{List, [], ◌∷◌, ◌++◌, Some, None, refl, sym, ap, subst, map, drop, length, arith, Result, Ok, Err}
 use Rattle.std.specs.Prelude.{nat_lt, if◌then◌else◌}
@@ -41,7 +41,7 @@ pub made : (alpha : Ratio) (names : List (List ℕ)) (table : Table) (new compon
     → components ≡ record { share = one; weights = table.weights; edges = table.edges } ∷ []
 made alpha names table new components share none pushed is = rw (pushed, none, is) refl
 
--- the draft of what the rows behind a header say
+-- the draft of the rows after a header
 behind_header : (alpha : Ratio) (names : List (List ℕ)) (r : Result (List RowSaid) RowFault)
     → mapped (kept_draft alpha) (and_then r (λ rows. Ok (record { names = names; rows = rows })))
     ≡ mapped (one_component alpha names) (mapped (rows_table (keeps (length names))) r)

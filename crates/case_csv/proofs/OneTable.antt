@@ -1,4 +1,4 @@
--- Records say one draft, or have one first fault, and not both, since reading is a function.
+-- Records denote one draft or have one first fault, and not both, since reading is a function.
 use Rattle.std.proofs.Common.{◌≡◌, ◌∙◌, ◌⊎◌, inl, inr, ℕ, List, sym, ap, refl, true, Result, Ok, Err}
 use Rattle.field_core.specs.Answers.{mapped}
 use Rattle.field_core.specs.declared.ratio.Ratio.{Ratio}

@@ -8,7 +8,7 @@ use Rattle.case_csv.specs.declared.fault.CsvFault.TheVariants as faults
 use Rattle.case_csv.specs.declared.fault.RowKind.{RowKind}
 use Rattle.case_csv.specs.Answers.{RowFault, told, IsAnswer, at, holds_or}
 
--- what was told without fault was answered
+-- an answer that is reported as a value has that value
 pub answered : {A : Type 0} (r : Result A RowFault) (a : A) → told r ≡ Ok a → r ≡ Ok a
 answered (Ok b) a e = ap Ok (same_value b a e)
 answered (Err f) a e = absurd (cc e)

@@ -11,7 +11,7 @@ use Rattle.case_csv.specs.Answers.{RowFault, at}
 use Rattle.case_csv.specs.Table.{Cells, edge_of, entries_of, edge_at, row_edges}
 use Rattle.case_csv.specs.View.{kept}
 
--- a cell behind the first three
+-- a cell after the first three
 pub get_behind : (cells : Cells) (i : ℕ) → get_or cells (i + 3) [] ≡ get_or (drop 3 cells) i []
 get_behind cells i = ap (λ n. get_or cells n []) (third i) ∙ sym (get_or-drop 3 cells i [])
   where

@@ -73,7 +73,7 @@ no_mark b [] other = refl
 no_mark b (c ∷ []) other = refl
 no_mark b (c ∷ d ∷ xs) other = rw other refl
 
--- the bytes of a sheet behind its first one
+-- the bytes of a sheet after its first one
 record Begins (b : ℕ) (text : List ℕ) : Type 0 where
   rest : List ℕ
   is : text ≡ b ∷ rest

@@ -1,4 +1,4 @@
--- The rows behind a header, one by one.
+-- The rows after a header, one by one.
 use Rattle.std.proofs.Common.{◌≡◌, ◌<◌, ◌≤◌, ◌+◌, ◌⊎◌, inl, inr, ◌∙◌, ℕ, Bool, List, [], ◌∷◌, refl, sym, ap}
 use Rattle.std.proofs.Common.{map, drop, get_or, length, arith, append_assoc, Result, Ok, Err}
 use Rattle.std.proofs.lemmas.List.{append-nil, drop_more, drop_all}

@@ -1,4 +1,4 @@
--- What the records of CSV say, or their first fault: a header, and for each hypothesis a name, a weight, a p-value and a row of edges.
+-- What the records of CSV denote, or their first fault: a header, and for each hypothesis a name, a weight, a p-value and a row of edges.
 use Rattle.std.specs.Prelude.{◌≡◌, pos, ℕ, ◌+◌, ◌-◌, ◌==◌, ◌&&◌, ◌||◌, Bool, true, false, if◌then◌else◌, List, []}
 use Rattle.std.specs.Prelude.{◌∷◌, ◌++◌, Option, Some, None, Result, Ok, Err, map, length, take, drop, get_or, nat_lt, codes}
 use Rattle.std.specs.List.{suffix_len}
@@ -39,22 +39,22 @@ cell_at cells place = get_or cells place []
 
 -- ---- the header
 
--- whether a cell may stand at a place of the header, from 0: nothing or `hypothesis`, then `weight`, then `p`
+-- whether a cell is allowed at a place of the header, from 0: nothing or `hypothesis`, then `weight`, then `p`
 abbrev pub is_heading : ℕ → List ℕ → Bool
 is_heading place cell =
     if place == 0 then (length cell == 0) || bytes_eq cell (codes "hypothesis")
     else if place == 1 then bytes_eq cell (codes "weight")
     else bytes_eq cell (codes "p")
 
--- the header has a cell at the place that may stand there
+-- whether the header has a cell at the place that is allowed there
 abbrev pub has_heading : Cells → ℕ → Bool
 has_heading header place = nat_lt place (length header) && is_heading place (cell_at header place)
 
--- nothing, where it has
+-- nothing if it has, and else the fault
 abbrev pub heading : Cells → ℕ → Result (Unit {0}) RowFault
 heading header place = at 1 (place + 1) (holds_or Header (has_heading header place))
 
--- the names in a header: the cells behind the first three
+-- the names in a header: the cells after the first three
 abbrev pub header_of : Cells → Result (List (List ℕ)) RowFault
 header_of header = do
   hypothesis ← heading header 0
@@ -64,7 +64,7 @@ header_of header = do
 
 -- ---- a row
 
--- a cell of a p-value that isn't given: nothing or `NA`
+-- a cell of a p-value that is not given: nothing or `NA`
 abbrev pub is_missing : List ℕ → Bool
 is_missing cell = (length cell == 0) || bytes_eq cell (codes "NA")
 
@@ -72,7 +72,7 @@ is_missing cell = (length cell == 0) || bytes_eq cell (codes "NA")
 abbrev pub number_of : List ℕ → Result Ratio RowKind
 number_of cell = told_as Number (numeral_of cell)
 
--- a p-value, or none where it is missing
+-- a p-value, or none if it is missing
 abbrev pub given_or : Bool → List ℕ → Result (Option Ratio) RowKind
 given_or true cell = Ok None
 given_or false cell = mapped Some (number_of cell)
@@ -101,7 +101,7 @@ entries_of number column (cell ∷ cells) = do
   entries ← entries_of number (column + 1) cells
   Ok (entry ∷ entries)
 
--- what a row says: a weight, a p-value or none, and the entries of a row of edges
+-- what a row denotes: a weight, a p-value or none, and the entries of a row of edges
 pub record RowSaid : Type 0 where
   pub weight : Ratio
   pub p : Option Ratio
@@ -132,13 +132,13 @@ rows_of width number (name ∷ names) (cells ∷ records) = do
 
 -- ---- the sheet
 
--- what a sheet says: the names of its hypotheses, and their rows
+-- what a sheet denotes: the names of its hypotheses, and their rows
 pub record SheetSaid : Type 0 where
   pub names : List (List ℕ)
   pub rows : List RowSaid
 
--- What records say, or their first fault. The header is read first, then each record in order: whether it is surplus, its
--- width, and its cells from left to right; a missing record is found last.
+-- What records denote, or their first fault. The header is read first, then each record in order: whether it is surplus, its
+-- width, and its cells from left to right. A missing record is found last.
 abbrev pub sheet_of : List Cells → Result SheetSaid RowFault
 sheet_of [] = Err (record { row = 1; column = 1; kind = NoHeader })
 sheet_of (header ∷ records) = do
@@ -148,16 +148,16 @@ sheet_of (header ∷ records) = do
 
 -- ---- the draft
 
--- the edge of an entry, where it has one: a zero from a hypothesis to itself is none
+-- the edge of an entry, if it has one: a zero from a hypothesis to itself is not an edge
 abbrev pub edge_at : ℕ → ℕ → List Ratio → List DraftEdge
 edge_at from to entry = if (from == to) && is_absent entry then [] else record { from = from; to = to; entry = entry } ∷ []
 
--- the edges of a row, from the hypothesis at one place to that at another place and to those behind it
+-- the edges of a row, from the hypothesis at one place to that at another place and to those after it
 abbrev pub row_edges : ℕ → ℕ → List (List Ratio) → List DraftEdge
 row_edges from to [] = []
 row_edges from to (entry ∷ entries) = edge_at from to entry ++ row_edges from (to + 1) entries
 
--- the edges of rows, from the hypothesis at a place and those behind it
+-- the edges of rows, from the hypothesis at a place and those after it
 abbrev pub table_edges : ℕ → List RowSaid → List DraftEdge
 table_edges from [] = []
 table_edges from (row ∷ rows) = row_edges from 0 row.entries ++ table_edges (from + 1) rows
@@ -166,7 +166,7 @@ table_edges from (row ∷ rows) = row_edges from 0 row.entries ++ table_edges (f
 abbrev pub one : Ratio
 one = record { num = pos 1; den = pos 1; valid = one_reduced }
 
--- the one component that rows say, with share 1
+-- the one component of rows, with share 1
 abbrev pub component_of : List RowSaid → DraftComponent
 component_of rows = record { share = one; weights = map (λ row. row.weight) rows; edges = table_edges 0 rows }
 
@@ -174,10 +174,10 @@ component_of rows = record { share = one; weights = map (λ row. row.weight) row
 abbrev pub draft_of : Ratio → List (List ℕ) → List RowSaid → Draft
 draft_of alpha names rows = record { names = names; alpha = alpha; p = map (λ row. row.p) rows; components = component_of rows ∷ []; stages = None }
 
--- the draft that records say at a level
+-- the draft that records denote at a level
 abbrev pub table_of : Ratio → List Cells → Result Draft RowFault
 table_of alpha records = mapped (λ said. draft_of alpha said.names said.rows) (sheet_of records)
 
--- these records are a header and a row for each of its names, and they say this draft at the level
+-- these records are a header and a row for each of its names, and they denote this draft at the level
 abbrev pub IsTable : List Cells → Ratio → Draft → Type 0
 IsTable records alpha draft = table_of alpha records ≡ Ok draft

@@ -10,12 +10,12 @@ use Rattle.std.specs.Ordering.{nat_cmp, match_ordering}
 use Rattle.std.specs.Cmp.Lexicographic.{slice_cmp}
 use Rattle.json.specs.Json as json
 use Rattle.json.specs.Lex.{tokens}
-use Rattle.serde_json.specs.Data.{Num, unsigned, negative, float, Data, null, boolean, number, string, array, object, Items, no_items, item}
+use Rattle.serde_json.specs.Data.{Num, unsigned, negative, float, Data, number, array, object, item}
 use Rattle.serde_json.specs.Data.{Members, no_members, member, put}
 use Rattle.serde_json.specs.Read.{is_integer, float_of, number_from, number_of, of_json, of_items, of_members, max_depth}
 use Rattle.case_json.specs.JsonStatements.{JsonHoldsIntegers, JsonSaysOrFails}
 use Rattle.case_json.specs.Values.{IsHeld, HoldsIntegers, ItemsHoldIntegers, MembersHoldIntegers}
-use Rattle.case_json.proofs.DocumentRules.{document_rule}
+use Rattle.case_json.proofs.OneReading as reading
 
 if_there : {A : Type 0} (P : A → Type 0) (o : Option A) (a : A) → IfSome o P → o ≡ Some a → P a
 if_there P None a h e = absurd (cc)
@@ -107,4 +107,4 @@ held_integers bytes value is =
     if_there HoldsIntegers (option_and_then of_json document) value (read_holds document) is.1
 
 pub says_or_fails : JsonSaysOrFails
-says_or_fails bytes value is = document_rule.either value (held_integers bytes value is)
+says_or_fails bytes value is = reading.says_or_fails value

@@ -1,21 +1,22 @@
--- Whole numbers of at most 64 bits, as fractions.
-use Rattle.std.proofs.Common.{◌≡◌, ◌<◌, ◌^◌, ℕ, ℤ, pos, arith, lit<}
-use Rattle.std.specs.Prelude.{unsigned_abs}
-use Rattle.std.proofs.lemmas.Int.{ints}
-use Rattle.field_core.specs.Divisor.{gcd}
-use Rattle.field_core.specs.Terms.{IsReduced}
-use Rattle.field_core.proofs.Coprime.{gcd_bounds}
+-- Whole numbers as ratios.
+use Rattle.std.proofs.Common.{◌≡◌, ◌<◌, ◌^◌, ◌∙◌, ℤ, pos, Bool, true, false, Some, refl, sym, ap, arith}
+use Rattle.std.specs.Prelude.{unsigned_abs, nat_lt}
+use Rattle.std.proofs.lemmas.Bool.{lt-ltb}
+use Rattle.field_core.specs.View.{terms}
+use Rattle.field_core.specs.declared.ratio.Ratio.{Ratio}
+use Rattle.fraction.proofs.SameRatios.{same_ratio}
+use Rattle.case_json.specs.Document.{nought}
+use Rattle.case_json.specs.WholeRatios.{whole_by, whole_ratio}
 
-over_one : (n : ℕ) → gcd n 1 ≡ 1
-over_one n = let bounds = gcd_bounds n 1 (omega arith) in omega (arith, bounds.0, bounds.1)
+whole_found : (z : ℤ) (x : Ratio) (b : Bool) (e : nat_lt (unsigned_abs z) (2 ^ 64) ≡ b) → nat_lt (unsigned_abs z) (2 ^ 64) ≡ true
+    → terms x ≡ record { num = z; den = pos 1 } → whole_by z b e ≡ Some x
+whole_found z x true e h is = ap Some (same_ratio _ x (sym is))
+whole_found z x false e h is = absurd (cc (sym h))
 
-narrow : (n : ℕ) → n < 2 ^ 64 → n < 2 ^ 127
-narrow n small = omega (arith, small)
+-- a ratio of these terms is the whole number
+pub whole_is : (z : ℤ) (x : Ratio) → unsigned_abs z < 2 ^ 64 → terms x ≡ record { num = z; den = pos 1 } → whole_ratio z ≡ Some x
+unfolding whole_ratio
+whole_is z x small is = whole_found z x (nat_lt (unsigned_abs z) (2 ^ 64)) refl (lt-ltb (unsigned_abs z) (2 ^ 64) small) is
 
-pub whole_reduced : (z : ℤ) → unsigned_abs z < 2 ^ 64 → IsReduced (record { num = z; den = pos 1 })
-whole_reduced z small = record {
-  positive = omega (arith, ints);
-  num_size = narrow (unsigned_abs z) small;
-  den_size = lit< tt;
-  reduced = over_one (unsigned_abs z);
-}
+pub nought_is : (x : Ratio) → whole_ratio (pos 0) ≡ Some x → x ≡ nought
+nought_is x e = let same : Some nought ≡ Some x = sym (whole_is (pos 0) nought (omega arith) refl) ∙ e in cc

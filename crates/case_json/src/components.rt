@@ -1,9 +1,8 @@
 //! Edges and components.
-ghost use Rattle.std.specs.Prelude.{IfOk, IfErr, codes};
+ghost use Rattle.std.specs.Prelude.{codes};
 ghost use Rattle.serde_json.specs.View.{view};
-ghost use Rattle.case_json.specs.Values.{OrMemory, Has, MayHave, HasBad, IsBadAt, AreItems, AreItemsFault};
-ghost use Rattle.case_json.specs.Document.{IsNumber, one, IsEdge, IsComponent};
-ghost use Rattle.case_json.specs.Faults.{IsNumberFault, IsEdgeFault, IsComponentFault};
+ghost use Rattle.case_json.specs.Answers.{IsAnswer, at, at_or, list_of};
+ghost use Rattle.case_json.specs.Document.{number_of, one, edge_of, component_of};
 
 use crate::JsonFault;
 use crate::hypotheses::Hypotheses;
@@ -17,10 +16,9 @@ use fraction::Fraction;
 use serde_json::Value;
 use std::alloc::Global;
 
-/// An edge between two of the hypotheses.
+/// Reads an edge between two of the hypotheses.
 fn edge(alloc: Global, hypotheses: &Hypotheses, value: &Value) -> Result<DraftEdge, JsonFault>
-    ensures found { IfOk result (IsEdge hypotheses.now.names (view value.now)) }
-    ensures fault { IfErr result (OrMemory (IsEdgeFault hypotheses.now.names (view value.now))) }
+    ensures { IsAnswer result (edge_of hypotheses.now.names (view value.now)) }
 {
     known_keys(alloc, value, &["from", "to", "weight"])?;
     let from = hypotheses.position_at(alloc, value, "from")?;
@@ -29,26 +27,24 @@ fn edge(alloc: Global, hypotheses: &Hypotheses, value: &Value) -> Result<DraftEd
     Ok(DraftEdge { from, to, entry })
 }
 
-/// The edges that an array says.
+/// Reads an array of edges.
 fn edges(
     alloc: Global,
     hypotheses: &Hypotheses,
     value: &Value,
 ) -> Result<List<DraftEdge>, JsonFault>
-    ensures found { IfOk result (AreItems (IsEdge hypotheses.now.names) (view value.now)) }
-    ensures fault { IfErr result (OrMemory (AreItemsFault (IsEdge hypotheses.now.names) (IsEdgeFault hypotheses.now.names) (view value.now))) }
+    ensures { IsAnswer result (list_of (edge_of hypotheses.now.names) (view value.now)) }
 {
     items(alloc, value, |item| edge(alloc, hypotheses, item))
 }
 
-/// The edges of a component.
+/// Reads the edges of a component.
 fn edges_at(
     alloc: Global,
     hypotheses: &Hypotheses,
     value: &Value,
 ) -> Result<List<DraftEdge>, JsonFault>
-    ensures found { IfOk result (Has (AreItems (IsEdge hypotheses.now.names)) (codes "edges") (view value.now)) }
-    ensures fault { IfErr result (OrMemory (IsBadAt (AreItemsFault (IsEdge hypotheses.now.names) (IsEdgeFault hypotheses.now.names)) (codes "edges") (view value.now))) }
+    ensures { IsAnswer result (at (codes "edges") (list_of (edge_of hypotheses.now.names)) (view value.now)) }
 {
     match edges(alloc, hypotheses, field(alloc, value, "edges")?) {
         Ok(edges) => Ok(edges),
@@ -56,10 +52,9 @@ fn edges_at(
     }
 }
 
-/// The share of a component, 1 where it lacks the key.
+/// Reads the share of a component, which is 1 if the key is missing.
 fn share(alloc: Global, value: &Value) -> Result<Fraction, JsonFault>
-    ensures found { IfOk result (MayHave IsNumber one (codes "share") (view value.now)) }
-    ensures fault { IfErr result (OrMemory (HasBad IsNumberFault (codes "share") (view value.now))) }
+    ensures { IsAnswer result (at_or one (codes "share") number_of (view value.now)) }
 {
     let Some(part) = value.get("share") else {
         return Ok(Fraction::one());
@@ -70,14 +65,13 @@ fn share(alloc: Global, value: &Value) -> Result<Fraction, JsonFault>
     }
 }
 
-/// A component, whose edges go between the hypotheses.
+/// Reads a component, whose edges go between the hypotheses.
 fn component(
     alloc: Global,
     hypotheses: &Hypotheses,
     value: &Value,
 ) -> Result<DraftComponent, JsonFault>
-    ensures found { IfOk result (IsComponent hypotheses.now.names (view value.now)) }
-    ensures fault { IfErr result (OrMemory (IsComponentFault hypotheses.now.names (view value.now))) }
+    ensures { IsAnswer result (component_of hypotheses.now.names (view value.now)) }
 {
     known_keys(alloc, value, &["share", "weights", "edges"])?;
     let share = share(alloc, value)?;
@@ -90,26 +84,24 @@ fn component(
     })
 }
 
-/// The components that an array says.
+/// Reads an array of components.
 fn components(
     alloc: Global,
     hypotheses: &Hypotheses,
     value: &Value,
 ) -> Result<List<DraftComponent>, JsonFault>
-    ensures found { IfOk result (AreItems (IsComponent hypotheses.now.names) (view value.now)) }
-    ensures fault { IfErr result (OrMemory (AreItemsFault (IsComponent hypotheses.now.names) (IsComponentFault hypotheses.now.names) (view value.now))) }
+    ensures { IsAnswer result (list_of (component_of hypotheses.now.names) (view value.now)) }
 {
     items(alloc, value, |item| component(alloc, hypotheses, item))
 }
 
-/// The components of a document.
+/// Reads the components of a document.
 pub fn components_at(
     alloc: Global,
     hypotheses: &Hypotheses,
     value: &Value,
 ) -> Result<List<DraftComponent>, JsonFault>
-    ensures found { IfOk result (Has (AreItems (IsComponent hypotheses.now.names)) (codes "components") (view value.now)) }
-    ensures fault { IfErr result (OrMemory (IsBadAt (AreItemsFault (IsComponent hypotheses.now.names) (IsComponentFault hypotheses.now.names)) (codes "components") (view value.now))) }
+    ensures { IsAnswer result (at (codes "components") (list_of (component_of hypotheses.now.names)) (view value.now)) }
 {
     match components(alloc, hypotheses, field(alloc, value, "components")?) {
         Ok(components) => Ok(components),

@@ -1,11 +1,10 @@
 //! The names of hypotheses.
-ghost use Rattle.std.specs.Prelude.{◌≡◌, ℕ, List as Seq, IfOk, IfErr};
+ghost use Rattle.std.specs.Prelude.{◌≡◌, ℕ, List as Seq, IfOk};
 ghost use Rattle.serde_json.specs.View.{view};
 ghost use Rattle.case_model.specs.Names.{position_of};
 ghost use Rattle.case_model.specs.NameIndexView.{place_of};
-ghost use Rattle.case_json.specs.Values.{OrMemory, Has, IsBadAt, AreItems, AreItemsFault};
-ghost use Rattle.case_json.specs.Document.{IsText, IsHypothesis};
-ghost use Rattle.case_json.specs.Faults.{IsTextFault, IsHypothesisFault};
+ghost use Rattle.case_json.specs.Answers.{IsAnswer, at, list_of};
+ghost use Rattle.case_json.specs.Document.{text_of, hypothesis_of};
 
 use crate::JsonFault;
 use crate::keys::field;
@@ -15,10 +14,9 @@ use field_core::{List, NoMemory, Text};
 use serde_json::Value;
 use std::alloc::Global;
 
-/// The text that a value is.
+/// Reads a text.
 fn text(alloc: Global, value: &Value) -> Result<Text, JsonFault>
-    ensures found { IfOk result (IsText (view value.now)) }
-    ensures fault { IfErr result (OrMemory (IsTextFault (view value.now))) }
+    ensures { IsAnswer result (text_of (view value.now)) }
 {
     match value {
         Value::String(text) => Ok(Text::copy(alloc, text.as_bytes())?),
@@ -26,18 +24,16 @@ fn text(alloc: Global, value: &Value) -> Result<Text, JsonFault>
     }
 }
 
-/// The texts of an array.
+/// Reads an array of texts.
 fn texts(alloc: Global, value: &Value) -> Result<List<Text>, JsonFault>
-    ensures found { IfOk result (AreItems IsText (view value.now)) }
-    ensures fault { IfErr result (OrMemory (AreItemsFault IsText IsTextFault (view value.now))) }
+    ensures { IsAnswer result (list_of text_of (view value.now)) }
 {
     items(alloc, value, |item| text(alloc, item))
 }
 
-/// The texts at a key.
+/// Reads the array of texts at a key.
 pub fn texts_at(alloc: Global, value: &Value, key: &str) -> Result<List<Text>, JsonFault>
-    ensures found { IfOk result (Has (AreItems IsText) key.now (view value.now)) }
-    ensures fault { IfErr result (OrMemory (IsBadAt (AreItemsFault IsText IsTextFault) key.now (view value.now))) }
+    ensures { IsAnswer result (at key.now (list_of text_of) (view value.now)) }
 {
     match texts(alloc, field(alloc, value, key)?) {
         Ok(texts) => Ok(texts),
@@ -54,13 +50,12 @@ pub struct Hypotheses {
 }
 
 impl Hypotheses {
-    ghost use Rattle.std.specs.Prelude.{◌≡◌, IfOk, IfErr};
+    ghost use Rattle.std.specs.Prelude.{◌≡◌, IfOk};
     ghost use Rattle.serde_json.specs.View.{view};
-    ghost use Rattle.case_json.specs.Values.{OrMemory, Has, IsBadAt};
-    ghost use Rattle.case_json.specs.Document.{IsHypothesis};
-    ghost use Rattle.case_json.specs.Faults.{IsHypothesisFault};
+    ghost use Rattle.case_json.specs.Answers.{IsAnswer, at};
+    ghost use Rattle.case_json.specs.Document.{hypothesis_of};
 
-    /// The hypotheses of these names, or `NoMemory`.
+    /// Returns the hypotheses of these names.
     pub fn of(alloc: Global, names: List<Text>) -> Result<Hypotheses, NoMemory>
         ensures { IfOk result (λ hypotheses. hypotheses.names ≡ names) }
     {
@@ -68,7 +63,7 @@ impl Hypotheses {
         Ok(Hypotheses { names, index })
     }
 
-    /// The names, in their order.
+    /// Returns the names, in their order.
     pub fn into_names(self) -> List<Text>
         ensures { result ≡ self.names }
     {
@@ -76,10 +71,9 @@ impl Hypotheses {
         names
     }
 
-    /// The position of the hypothesis that a value names.
+    /// Reads the name of a hypothesis, and returns its position.
     fn position(&self, alloc: Global, value: &Value) -> Result<usize, JsonFault>
-        ensures found { IfOk result (IsHypothesis self.now.names (view value.now)) }
-        ensures fault { IfErr result (OrMemory (IsHypothesisFault self.now.names (view value.now))) }
+        ensures { IsAnswer result (hypothesis_of self.now.names (view value.now)) }
     {
         let Value::String(name) = value else {
             return Err(JsonFault::wrong_kind(alloc));
@@ -90,10 +84,9 @@ impl Hypotheses {
         }
     }
 
-    /// The position of the hypothesis that is named at a key.
+    /// Reads the name of a hypothesis at a key, and returns its position.
     pub fn position_at(&self, alloc: Global, value: &Value, key: &str) -> Result<usize, JsonFault>
-        ensures found { IfOk result (Has (IsHypothesis self.now.names) key.now (view value.now)) }
-        ensures fault { IfErr result (OrMemory (IsBadAt (IsHypothesisFault self.now.names) key.now (view value.now))) }
+        ensures { IsAnswer result (at key.now (hypothesis_of self.now.names) (view value.now)) }
     {
         match self.position(alloc, field(alloc, value, key)?) {
             Ok(position) => Ok(position),

@@ -5,6 +5,7 @@ ghost use Rattle.std.specs.Str.{bytes_eq};
 ghost use Rattle.serde_json.specs.Find.{get};
 ghost use Rattle.serde_json.specs.View.{view, members_view};
 ghost use Rattle.case_json.specs.Values.{OrMemory, Misses, is_object_of, are_among};
+ghost use Rattle.case_json.specs.Answers.{IsAnswer, with_keys};
 ghost use Rattle.case_json.specs.declared.fault.JsonFault.TheVariants.{Shape as shape};
 
 use crate::JsonFault;
@@ -45,10 +46,9 @@ fn has_only(value: &Value, keys: &[&str]) -> bool
     }
 }
 
-/// Refuses a value that isn't an object, or that has other keys than these.
+/// Refuses a value that is not an object, or that has other keys than these.
 pub fn known_keys(alloc: Global, value: &Value, keys: &[&str]) -> Result<(), JsonFault>
-    ensures known { IfOk result (λ _. is_object_of (map (λ key. key.now) keys.now) (view value.now) ≡ true) }
-    ensures fault { IfErr result (OrMemory (λ fault. (is_object_of (map (λ key. key.now) keys.now) (view value.now) ≡ false) × (fault ≡ shape []))) }
+    ensures { IsAnswer result (with_keys (map (λ key. key.now) keys.now) (view value.now)) }
 {
     if !has_only(value, keys) {
         return Err(JsonFault::wrong_kind(alloc));
@@ -56,7 +56,7 @@ pub fn known_keys(alloc: Global, value: &Value, keys: &[&str]) -> Result<(), Jso
     Ok(())
 }
 
-/// The value at a key.
+/// Returns the value at a key.
 pub fn field<'v>(alloc: Global, value: &'v Value, key: &str) -> Result<&'v Value, JsonFault>
     ensures found { IfOk result (λ part. get key.now (view value.now) ≡ Some (view part.now)) }
     ensures fault { IfErr result (OrMemory (Misses key.now (view value.now))) }

@@ -1,13 +1,12 @@
 //! Numbers and counts.
-ghost use Rattle.std.specs.Prelude.{◌≡◌, ◌<◌, ◌^◌, [], unsigned_abs, IfSome, IfOk, IfErr, codes};
-ghost use Rattle.field_core.specs.View.{terms};
-ghost use Rattle.fraction.specs.Numeral.{IsNumeralOf, IsParseFault};
-ghost use Rattle.fraction.specs.declared.fault.NumberFault.{NumberFault};
+ghost use Rattle.std.specs.Prelude.{◌≡◌, ◌<◌, ◌^◌, [], unsigned_abs, Some, IfSome, codes};
 ghost use Rattle.serde_json.specs.Find.{as_integer};
 ghost use Rattle.serde_json.specs.View.{view, number_view};
-ghost use Rattle.case_json.specs.Values.{OrMemory, Has, MayHave, HasBad, IsBadAt, AreItems, AreItemsFault};
-ghost use Rattle.case_json.specs.Document.{whole, IsNumber, IsPlace, IsCount};
-ghost use Rattle.case_json.specs.Faults.{IsNumberFault, IsPlaceFault, IsCountFault};
+ghost use Rattle.field_core.specs.Answers.{told_as};
+ghost use Rattle.case_json.specs.Answers.{IsAnswer, at, at_or, list_of};
+ghost use Rattle.case_json.specs.Document.{number_of, place_of, count_of};
+ghost use Rattle.numerals.specs.Numerals.{numeral_of};
+ghost use Rattle.case_json.specs.WholeRatios.{whole_ratio};
 ghost use Rattle.case_json.specs.declared.fault.JsonFault.TheVariants.{Number as refused};
 
 use crate::JsonFault;
@@ -18,7 +17,7 @@ use fraction::Fraction;
 use serde_json::Value;
 use std::alloc::Global;
 
-/// The whole number that is held as an integer, of at most 64 bits.
+/// Returns the whole number that is held as an integer, of at most 64 bits.
 pub fn integer(number: &serde_json::Number) -> Option<i128>
     ensures value { result ≡ as_integer (number_view number.now) }
     ensures size { IfSome result (λ z. unsigned_abs z < 2 ^ 64) }
@@ -32,29 +31,27 @@ pub fn integer(number: &serde_json::Number) -> Option<i128>
     }
 }
 
-/// A whole number of at most 64 bits as a fraction.
+/// Returns a whole number of at most 64 bits as a fraction.
 pub fn whole(number: i128) -> Fraction
     requires { unsigned_abs number < 2 ^ 64 }
-    ensures { terms result ≡ whole number }
+    ensures { whole_ratio number ≡ Some result }
 {
     Fraction::of(Ratio::new(number, 1))
 }
 
-/// The value of a numeral.
+/// Reads a numeral.
 fn numeral(alloc: Global, text: &[u8]) -> Result<Fraction, JsonFault>
-    ensures found { IfOk result (λ x. IsNumeralOf text.now (terms x)) }
-    ensures fault { IfErr result (OrMemory (λ fault. (why : NumberFault) × IsParseFault text.now why × (fault ≡ refused [] why))) }
+    ensures { IsAnswer result (told_as (refused []) (numeral_of text.now)) }
 {
-    match Fraction::parse(text) {
+    match numerals::numeral(text) {
         Ok(value) => Ok(value),
         Err(fault) => Err(JsonFault::Number(Text::copy(alloc, b"")?, fault)),
     }
 }
 
-/// The number that a value says.
+/// Reads a number.
 pub fn number(alloc: Global, value: &Value) -> Result<Fraction, JsonFault>
-    ensures found { IfOk result (IsNumber (view value.now)) }
-    ensures fault { IfErr result (OrMemory (IsNumberFault (view value.now))) }
+    ensures { IsAnswer result (number_of (view value.now)) }
 {
     match value {
         Value::String(text) => numeral(alloc, text.as_bytes()),
@@ -66,10 +63,9 @@ pub fn number(alloc: Global, value: &Value) -> Result<Fraction, JsonFault>
     }
 }
 
-/// The number at a key.
+/// Reads the number at a key.
 pub fn number_at(alloc: Global, value: &Value, key: &str) -> Result<Fraction, JsonFault>
-    ensures found { IfOk result (Has IsNumber key.now (view value.now)) }
-    ensures fault { IfErr result (OrMemory (IsBadAt IsNumberFault key.now (view value.now))) }
+    ensures { IsAnswer result (at key.now number_of (view value.now)) }
 {
     match number(alloc, field(alloc, value, key)?) {
         Ok(number) => Ok(number),
@@ -77,18 +73,16 @@ pub fn number_at(alloc: Global, value: &Value, key: &str) -> Result<Fraction, Js
     }
 }
 
-/// The numbers that an array says.
+/// Reads an array of numbers.
 pub fn numbers(alloc: Global, value: &Value) -> Result<List<Fraction>, JsonFault>
-    ensures found { IfOk result (AreItems IsNumber (view value.now)) }
-    ensures fault { IfErr result (OrMemory (AreItemsFault IsNumber IsNumberFault (view value.now))) }
+    ensures { IsAnswer result (list_of number_of (view value.now)) }
 {
     items(alloc, value, |item| number(alloc, item))
 }
 
-/// The numbers at a key.
+/// Reads the array of numbers at a key.
 pub fn numbers_at(alloc: Global, value: &Value, key: &str) -> Result<List<Fraction>, JsonFault>
-    ensures found { IfOk result (Has (AreItems IsNumber) key.now (view value.now)) }
-    ensures fault { IfErr result (OrMemory (IsBadAt (AreItemsFault IsNumber IsNumberFault) key.now (view value.now))) }
+    ensures { IsAnswer result (at key.now (list_of number_of) (view value.now)) }
 {
     match numbers(alloc, field(alloc, value, key)?) {
         Ok(numbers) => Ok(numbers),
@@ -96,10 +90,9 @@ pub fn numbers_at(alloc: Global, value: &Value, key: &str) -> Result<List<Fracti
     }
 }
 
-/// A place of a p-value.
+/// Reads a p-value, or none from null.
 fn place(alloc: Global, value: &Value) -> Result<Option<Fraction>, JsonFault>
-    ensures found { IfOk result (IsPlace (view value.now)) }
-    ensures fault { IfErr result (OrMemory (IsPlaceFault (view value.now))) }
+    ensures { IsAnswer result (place_of (view value.now)) }
 {
     match value {
         Value::Null => Ok(None),
@@ -107,18 +100,16 @@ fn place(alloc: Global, value: &Value) -> Result<Option<Fraction>, JsonFault>
     }
 }
 
-/// Places of p-values.
+/// Reads an array of p-values.
 fn places(alloc: Global, value: &Value) -> Result<List<Option<Fraction>>, JsonFault>
-    ensures found { IfOk result (AreItems IsPlace (view value.now)) }
-    ensures fault { IfErr result (OrMemory (AreItemsFault IsPlace IsPlaceFault (view value.now))) }
+    ensures { IsAnswer result (list_of place_of (view value.now)) }
 {
     items(alloc, value, |item| place(alloc, item))
 }
 
-/// The places of p-values of a document, none where it lacks their key.
+/// Reads the p-values of a document, of which there are none if the key is missing.
 pub fn p_values(alloc: Global, value: &Value) -> Result<List<Option<Fraction>>, JsonFault>
-    ensures found { IfOk result (MayHave (AreItems IsPlace) [] (codes "p") (view value.now)) }
-    ensures fault { IfErr result (OrMemory (HasBad (AreItemsFault IsPlace IsPlaceFault) (codes "p") (view value.now))) }
+    ensures { IsAnswer result (at_or [] (codes "p") (list_of place_of) (view value.now)) }
 {
     let Some(part) = value.get("p") else {
         return Ok(List::new(alloc));
@@ -129,10 +120,9 @@ pub fn p_values(alloc: Global, value: &Value) -> Result<List<Option<Fraction>>, 
     }
 }
 
-/// A whole number of at least 0.
+/// Reads a whole number of at least 0.
 fn count(alloc: Global, value: &Value) -> Result<u64, JsonFault>
-    ensures found { IfOk result (IsCount (view value.now)) }
-    ensures fault { IfErr result (OrMemory (IsCountFault (view value.now))) }
+    ensures { IsAnswer result (count_of (view value.now)) }
 {
     let Value::Number(number) = value else {
         return Err(JsonFault::wrong_kind(alloc));
@@ -146,10 +136,9 @@ fn count(alloc: Global, value: &Value) -> Result<u64, JsonFault>
     }
 }
 
-/// The whole number of at least 0 at a key.
+/// Reads the whole number of at least 0 at a key.
 pub fn count_at(alloc: Global, value: &Value, key: &str) -> Result<u64, JsonFault>
-    ensures found { IfOk result (Has IsCount key.now (view value.now)) }
-    ensures fault { IfErr result (OrMemory (IsBadAt IsCountFault key.now (view value.now))) }
+    ensures { IsAnswer result (at key.now count_of (view value.now)) }
 {
     match count(alloc, field(alloc, value, key)?) {
         Ok(count) => Ok(count),

@@ -2,9 +2,8 @@
 ghost use Rattle.std.specs.Prelude.{◌≡◌, ◌≢◌, ◌⊎◌, IfOk, IfErr};
 ghost use Rattle.serde_json.specs.View.{view};
 ghost use Rattle.case_model.specs.declared.fault.CaseFault.TheVariants.{NoMemory as OutOfMemory};
-ghost use Rattle.case_json.specs.Values.{OrMemory};
-ghost use Rattle.case_json.specs.Document.{IsDraft};
-ghost use Rattle.case_json.specs.Faults.{IsFirstFault};
+ghost use Rattle.case_json.specs.Answers.{IsAnswer};
+ghost use Rattle.case_json.specs.Document.{document_of};
 ghost use Rattle.case_json.specs.Reading.{SaysDraft, IsCaseOf, IsJsonFault};
 ghost use Rattle.case_json.specs.declared.fault.JsonFault.TheVariants as faults;
 
@@ -18,23 +17,23 @@ use case_model::{Case, CaseFault, Draft, Refused};
 use serde_json::Value;
 use std::alloc::Global;
 
-/// The case that JSON says, or the first fault of its value, or else the fault of the draft; or `NoMemory`. `Syntax` comes
-/// exactly where `serde_json` refuses the bytes for another cause than memory.
+/// Reads the case that JSON denotes. Reports the first fault of the value, or else the error of the draft, or `NoMemory`.
+/// `Syntax` is reported exactly if `serde_json` refuses the bytes for another cause than memory.
 ///
 /// The value is an object with the keys `alpha`, a number, `hypotheses`, an array of texts, and `components`, an array of
 /// objects, and perhaps with `p`, an array, and `stages`, an object. A component has `weights`, an array of numbers, and
-/// `edges`, and perhaps `share`, a number, which is 1 where it isn't written; an edge has `from` and `to`, names of
+/// `edges`, and perhaps `share`, a number, which is 1 if it is not written; an edge has `from` and `to`, names of
 /// hypotheses, and `weight`. Stages have `count`, a whole number of at least 0, `spend`, for each hypothesis an array of
 /// numbers or an object with the one key `steps`, and `arrivals`, each with `hypothesis`, `stage`, a whole number of at
 /// least 0, and `p`. A step has `from`, a number, and `levels`, an array of numbers.
 ///
 /// A number is a text that `Fraction::parse` reads, or a whole number of JSON that is held as an integer of 64 bits. The
 /// weight of an edge is a text that `read_entry` reads, or such a whole number of at most 10^18 in size. A place of `p` may
-/// be null, for a p-value that isn't given.
+/// be null, for a p-value that is not given.
 ///
 /// In each object unknown keys are found first, and then the values are read in the order in which they are named here,
 /// with `p` before `components`, `share` before `weights`, and `stages` last, whatever their order in the bytes. A key that
-/// is missing is found at its place. The draft is looked at once the value is read.
+/// is missing is found at its place. The draft is checked once the value is read.
 pub fn read_json(alloc: Global, bytes: &[u8]) -> Result<Case, JsonFault>
     ensures case { IfOk result (IsCaseOf bytes.now) }
     ensures fault { IfErr result (IsJsonFault bytes.now) }
@@ -45,7 +44,7 @@ pub fn read_json(alloc: Global, bytes: &[u8]) -> Result<Case, JsonFault>
     }
 }
 
-/// The draft that JSON says.
+/// Reads the draft that JSON denotes.
 fn read_draft(alloc: Global, bytes: &[u8]) -> Result<Draft, JsonFault>
     ensures found { IfOk result (SaysDraft bytes.now) }
     ensures fault { IfErr result (IsJsonFault bytes.now) }
@@ -60,10 +59,9 @@ fn read_draft(alloc: Global, bytes: &[u8]) -> Result<Draft, JsonFault>
     }
 }
 
-/// The draft that a value says.
+/// Reads the draft that a value denotes.
 fn draft(alloc: Global, value: &Value) -> Result<Draft, JsonFault>
-    ensures found { IfOk result (IsDraft (view value.now)) }
-    ensures fault { IfErr result (OrMemory (IsFirstFault (view value.now))) }
+    ensures { IsAnswer result (document_of (view value.now)) }
 {
     known_keys(
         alloc,
@@ -85,9 +83,10 @@ fn draft(alloc: Global, value: &Value) -> Result<Draft, JsonFault>
     })
 }
 
-/// The fault of JSON whose draft gives no case.
+/// Returns the error of JSON whose draft is refused.
 fn json_fault(refused: Refused) -> JsonFault
-    ensures { ((refused.fault ≡ OutOfMemory) × (result ≡ faults.NoMemory)) ⊎ ((refused.fault ≢ OutOfMemory) × (result ≡ faults.Case refused)) }
+    ensures { ((refused.fault ≡ OutOfMemory) × (result ≡ faults.NoMemory)) ⊎ ((refused.fault ≢ OutOfMemory)
+        × (result ≡ faults.Case refused)) }
 {
     match refused.fault {
         CaseFault::NoMemory => JsonFault::NoMemory,

@@ -1,9 +1,8 @@
-//! What hypotheses spend at the stages.
-ghost use Rattle.std.specs.Prelude.{IfOk, IfErr, codes};
+//! The fractions of their levels that hypotheses spend at the stages.
+ghost use Rattle.std.specs.Prelude.{codes};
 ghost use Rattle.serde_json.specs.View.{view};
-ghost use Rattle.case_json.specs.Values.{OrMemory, Has, IsBadAt, AreItems, AreItemsFault};
-ghost use Rattle.case_json.specs.Document.{IsStep, IsTable, IsSpend};
-ghost use Rattle.case_json.specs.Faults.{IsStepFault, IsTableFault, IsSpendFault};
+ghost use Rattle.case_json.specs.Answers.{IsAnswer, at, list_of};
+ghost use Rattle.case_json.specs.Document.{step_of, table_of, spend_of};
 
 use crate::JsonFault;
 use crate::keys::{field, known_keys};
@@ -14,10 +13,9 @@ use field_core::List;
 use serde_json::Value;
 use std::alloc::Global;
 
-/// A step of a table.
+/// Reads a step of a table.
 fn step(alloc: Global, value: &Value) -> Result<SpendStep, JsonFault>
-    ensures found { IfOk result (IsStep (view value.now)) }
-    ensures fault { IfErr result (OrMemory (IsStepFault (view value.now))) }
+    ensures { IsAnswer result (step_of (view value.now)) }
 {
     known_keys(alloc, value, &["from", "levels"])?;
     let from = number_at(alloc, value, "from")?;
@@ -25,18 +23,16 @@ fn step(alloc: Global, value: &Value) -> Result<SpendStep, JsonFault>
     Ok(SpendStep { from, levels })
 }
 
-/// The steps that an array says.
+/// Reads an array of steps.
 fn steps(alloc: Global, value: &Value) -> Result<List<SpendStep>, JsonFault>
-    ensures found { IfOk result (AreItems IsStep (view value.now)) }
-    ensures fault { IfErr result (OrMemory (AreItemsFault IsStep IsStepFault (view value.now))) }
+    ensures { IsAnswer result (list_of step_of (view value.now)) }
 {
     items(alloc, value, |item| step(alloc, item))
 }
 
-/// The steps of a table.
+/// Reads the steps at the key of a table.
 fn steps_at(alloc: Global, value: &Value) -> Result<List<SpendStep>, JsonFault>
-    ensures found { IfOk result (Has (AreItems IsStep) (codes "steps") (view value.now)) }
-    ensures fault { IfErr result (OrMemory (IsBadAt (AreItemsFault IsStep IsStepFault) (codes "steps") (view value.now))) }
+    ensures { IsAnswer result (at (codes "steps") (list_of step_of) (view value.now)) }
 {
     match steps(alloc, field(alloc, value, "steps")?) {
         Ok(steps) => Ok(steps),
@@ -44,19 +40,17 @@ fn steps_at(alloc: Global, value: &Value) -> Result<List<SpendStep>, JsonFault>
     }
 }
 
-/// The steps of a table, an object of one key.
+/// Reads a table of steps, an object of one key.
 fn table(alloc: Global, value: &Value) -> Result<List<SpendStep>, JsonFault>
-    ensures found { IfOk result (IsTable (view value.now)) }
-    ensures fault { IfErr result (OrMemory (IsTableFault (view value.now))) }
+    ensures { IsAnswer result (table_of (view value.now)) }
 {
     known_keys(alloc, value, &["steps"])?;
     steps_at(alloc, value)
 }
 
-/// What a hypothesis spends.
+/// Reads what a hypothesis spends: an array of fractions, or a table of steps.
 fn spend(alloc: Global, value: &Value) -> Result<Spend, JsonFault>
-    ensures found { IfOk result (IsSpend (view value.now)) }
-    ensures fault { IfErr result (OrMemory (IsSpendFault (view value.now))) }
+    ensures { IsAnswer result (spend_of (view value.now)) }
 {
     match value {
         Value::Array(_) => Ok(Spend::Shares(numbers(alloc, value)?)),
@@ -65,18 +59,16 @@ fn spend(alloc: Global, value: &Value) -> Result<Spend, JsonFault>
     }
 }
 
-/// What hypotheses spend.
+/// Reads an array of what hypotheses spend.
 fn spends(alloc: Global, value: &Value) -> Result<List<Spend>, JsonFault>
-    ensures found { IfOk result (AreItems IsSpend (view value.now)) }
-    ensures fault { IfErr result (OrMemory (AreItemsFault IsSpend IsSpendFault (view value.now))) }
+    ensures { IsAnswer result (list_of spend_of (view value.now)) }
 {
     items(alloc, value, |item| spend(alloc, item))
 }
 
-/// What the hypotheses of stages spend.
+/// Reads what the hypotheses of stages spend.
 pub fn spends_at(alloc: Global, value: &Value) -> Result<List<Spend>, JsonFault>
-    ensures found { IfOk result (Has (AreItems IsSpend) (codes "spend") (view value.now)) }
-    ensures fault { IfErr result (OrMemory (IsBadAt (AreItemsFault IsSpend IsSpendFault) (codes "spend") (view value.now))) }
+    ensures { IsAnswer result (at (codes "spend") (list_of spend_of) (view value.now)) }
 {
     match spends(alloc, field(alloc, value, "spend")?) {
         Ok(spends) => Ok(spends),

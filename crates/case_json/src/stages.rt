@@ -1,9 +1,8 @@
 //! Stages, and the p-values that arrived at them.
-ghost use Rattle.std.specs.Prelude.{None as Absent, IfOk, IfErr, codes};
+ghost use Rattle.std.specs.Prelude.{None as Absent, codes};
 ghost use Rattle.serde_json.specs.View.{view};
-ghost use Rattle.case_json.specs.Values.{OrMemory, Has, MayHave, HasBad, IsSome, IsBadAt, AreItems, AreItemsFault};
-ghost use Rattle.case_json.specs.Document.{IsArrival, AreStages};
-ghost use Rattle.case_json.specs.Faults.{IsArrivalFault, AreStagesFault};
+ghost use Rattle.case_json.specs.Answers.{IsAnswer, at, at_or, list_of};
+ghost use Rattle.case_json.specs.Document.{arrival_of, stages_of, some_stages};
 
 use crate::JsonFault;
 use crate::hypotheses::Hypotheses;
@@ -16,10 +15,9 @@ use field_core::List;
 use serde_json::Value;
 use std::alloc::Global;
 
-/// A p-value that arrived, of one of the hypotheses.
+/// Reads a p-value that arrived, of one of the hypotheses.
 fn arrival(alloc: Global, hypotheses: &Hypotheses, value: &Value) -> Result<Arrival, JsonFault>
-    ensures found { IfOk result (IsArrival hypotheses.now.names (view value.now)) }
-    ensures fault { IfErr result (OrMemory (IsArrivalFault hypotheses.now.names (view value.now))) }
+    ensures { IsAnswer result (arrival_of hypotheses.now.names (view value.now)) }
 {
     known_keys(alloc, value, &["hypothesis", "stage", "p"])?;
     let hypothesis = hypotheses.position_at(alloc, value, "hypothesis")?;
@@ -32,26 +30,24 @@ fn arrival(alloc: Global, hypotheses: &Hypotheses, value: &Value) -> Result<Arri
     })
 }
 
-/// The arrivals that an array says.
+/// Reads an array of arrivals.
 fn arrivals(
     alloc: Global,
     hypotheses: &Hypotheses,
     value: &Value,
 ) -> Result<List<Arrival>, JsonFault>
-    ensures found { IfOk result (AreItems (IsArrival hypotheses.now.names) (view value.now)) }
-    ensures fault { IfErr result (OrMemory (AreItemsFault (IsArrival hypotheses.now.names) (IsArrivalFault hypotheses.now.names) (view value.now))) }
+    ensures { IsAnswer result (list_of (arrival_of hypotheses.now.names) (view value.now)) }
 {
     items(alloc, value, |item| arrival(alloc, hypotheses, item))
 }
 
-/// The arrivals of stages.
+/// Reads the arrivals of stages.
 fn arrivals_at(
     alloc: Global,
     hypotheses: &Hypotheses,
     value: &Value,
 ) -> Result<List<Arrival>, JsonFault>
-    ensures found { IfOk result (Has (AreItems (IsArrival hypotheses.now.names)) (codes "arrivals") (view value.now)) }
-    ensures fault { IfErr result (OrMemory (IsBadAt (AreItemsFault (IsArrival hypotheses.now.names) (IsArrivalFault hypotheses.now.names)) (codes "arrivals") (view value.now))) }
+    ensures { IsAnswer result (at (codes "arrivals") (list_of (arrival_of hypotheses.now.names)) (view value.now)) }
 {
     match arrivals(alloc, hypotheses, field(alloc, value, "arrivals")?) {
         Ok(arrivals) => Ok(arrivals),
@@ -59,10 +55,9 @@ fn arrivals_at(
     }
 }
 
-/// Stages of the hypotheses.
+/// Reads stages of the hypotheses.
 fn stages(alloc: Global, hypotheses: &Hypotheses, value: &Value) -> Result<DraftStages, JsonFault>
-    ensures found { IfOk result (AreStages hypotheses.now.names (view value.now)) }
-    ensures fault { IfErr result (OrMemory (AreStagesFault hypotheses.now.names (view value.now))) }
+    ensures { IsAnswer result (stages_of hypotheses.now.names (view value.now)) }
 {
     known_keys(alloc, value, &["count", "spend", "arrivals"])?;
     let count = count_at(alloc, value, "count")?;
@@ -75,14 +70,13 @@ fn stages(alloc: Global, hypotheses: &Hypotheses, value: &Value) -> Result<Draft
     })
 }
 
-/// The stages of a document, none where it lacks their key.
+/// Reads the stages of a document, none if the key is missing.
 pub fn stages_at(
     alloc: Global,
     hypotheses: &Hypotheses,
     value: &Value,
 ) -> Result<Option<DraftStages>, JsonFault>
-    ensures found { IfOk result (MayHave (IsSome (AreStages hypotheses.now.names)) Absent (codes "stages") (view value.now)) }
-    ensures fault { IfErr result (OrMemory (HasBad (AreStagesFault hypotheses.now.names) (codes "stages") (view value.now))) }
+    ensures { IsAnswer result (at_or Absent (codes "stages") (some_stages hypotheses.now.names) (view value.now)) }
 {
     let Some(part) = value.get("stages") else {
         return Ok(None);

@@ -45,6 +45,6 @@ pub record AreAlike (s t : CaseState) : Type 0 where
   pub size : case_size s ≡ case_size t
   pub shares : case_shares s ≡ case_shares t
 
--- so is each of so many states and the first
+-- so is each state up to some number, and the first
 abbrev pub AreLikeTheFirst : ℕ → List CaseState → Type 0
 AreLikeTheFirst count states = (n : ℕ) (d : CaseState) → n < count → AreAlike (get_or states n d) (get_or states 0 d)

@@ -11,7 +11,8 @@ use std::alloc::Global;
 /// Whether a table says yes of each set with one member more.
 fn all_larger(closed: &SetTable, set: u32) -> bool
     requires { set < 2 ^ table_size closed.now }
-    ensures { (result ≡ true) ↔ ((k : ℕ) → k < table_size closed.now → members set k ≡ false → answer_of closed.now (set + 2 ^ k) ≡ true) }
+    ensures { (result ≡ true) ↔ ((k : ℕ) → k < table_size closed.now → members set k ≡ false
+        → answer_of closed.now (set + 2 ^ k) ≡ true) }
 {
     for k in 0..closed.size() {
         if !holds(set, k) && !closed.get(added(set, k)) {
@@ -21,7 +22,7 @@ fn all_larger(closed: &SetTable, set: u32) -> bool
     true
 }
 
-/// Whether a table says yes of each set that holds a set, where another one tells that of all sets with a greater number.
+/// Whether a table says yes of each set that holds a set, where another one says that of all sets with a greater number.
 fn answer(local: &SetTable, closed: &SetTable, set: u32) -> bool
     requires size { table_size closed.now ≡ table_size local.now }
     requires set { set < 2 ^ table_size local.now }
@@ -31,8 +32,8 @@ fn answer(local: &SetTable, closed: &SetTable, set: u32) -> bool
     local.get(set) && all_larger(closed, set)
 }
 
-/// The answers of the closed test of a local test, whose answers for all sets are handed in: a set is rejected where the local
-/// test rejects each set that holds it.
+/// Returns the answers of the closed test of a local test, whose answers for all sets are handed in: a set is rejected
+/// where the local test rejects each set that holds it.
 ///
 /// The sets are taken from larger ones to smaller ones. Nothing is said of the empty set but the same.
 pub fn closed_answers(alloc: Global, local: &SetTable) -> Result<SetTable, NoMemory>

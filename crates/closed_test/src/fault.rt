@@ -5,11 +5,11 @@ use std::alloc::AllocError;
 /// Why there is no table of all sets.
 #[derive(Clone, Copy, PartialEq, Eq, Debug)]
 pub enum ClosedFault {
-    /// There are so many hypotheses, more than 16.
+    /// There are this number of hypotheses, more than 16.
     TooMany(u64),
     /// The first set, in the order of sets, whose run is undefined, and the first operation of the run that is.
     Wide(u32, WideAt),
-    /// Memory ran out.
+    /// Out of memory.
     NoMemory,
 }
 

@@ -22,7 +22,7 @@ impl Path {
     ghost use Rattle.closed_test.specs.Paths.{number_without};
     ghost use Rattle.closed_test.specs.PathView.{path_size, left_of, IsPath};
 
-    /// The first set, that of all hypotheses.
+    /// Returns the first set, that of all hypotheses.
     pub fn new(alloc: Global, size: usize) -> Result<Path, NoMemory>
         requires some { 0 < size }
         requires few { size ≤ 16 }
@@ -39,7 +39,7 @@ impl Path {
         })
     }
 
-    /// The set.
+    /// Returns the set.
     pub fn set(&self) -> u32
         requires { IsPath self.now }
         ensures { result ≡ number_without (path_size self.now) (left_of self.now) }
@@ -47,7 +47,7 @@ impl Path {
         self.set
     }
 
-    /// How many hypotheses the set leaves out.
+    /// Returns how many hypotheses the set leaves out.
     pub fn depth(&self) -> usize
         ensures { result ≡ length (left_of self.now) }
     {
@@ -90,7 +90,8 @@ impl Path {
         requires { IsPath self.old }
         ensures size { path_size self.new ≡ path_size self.old }
         ensures path { IsPath self.new }
-        ensures step { MatchOption result (IsLastList (path_size self.old) (left_of self.old)) (IsListStep (path_size self.old) (left_of self.old) (left_of self.new)) }
+        ensures step { MatchOption result (IsLastList (path_size self.old) (left_of self.old))
+            (IsListStep (path_size self.old) (left_of self.old) (left_of self.new)) }
         ensures later { IfSome result (λ _. ComesBefore (left_of self.old) (left_of self.new)) }
         ensures done { IfNone result (left_of self.new ≡ []) }
     {

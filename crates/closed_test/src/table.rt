@@ -43,7 +43,7 @@ fn has_passing(weights: &WeightTable, p_values: &[Fraction], alpha: &Fraction, s
     false
 }
 
-/// What the local test says of each set.
+/// Returns what the local test says of each set.
 fn local_answers(alloc: Global, case: &Case, weights: &WeightTable) -> Result<SetTable, NoMemory>
     requires single { IsSingle (content case.now).inputs }
     requires size { weights_size weights.now ≡ length (content case.now).names }
@@ -74,9 +74,9 @@ impl ClosedTable {
     ghost use Rattle.closed_test.specs.WeightsView.{weights_size, weight_at};
     ghost use Rattle.closed_test.specs.ClosedView.{weights_of, local_of, closed_of};
 
-    /// The tests of all sets of a case that has a p-value for each hypothesis, at its level.
+    /// Returns the tests of all sets of a case that has a p-value for each hypothesis, at its level.
     ///
-    /// There is no table exactly where there is none of the weights, unless memory runs out.
+    /// There is no table exactly where there is none of the weights, or nothing when out of memory.
     pub fn build(alloc: Global, case: &Case) -> Result<ClosedTable, ClosedFault>
         requires { IsSingle (content case.now).inputs }
         ensures size { IfOk result (λ t. weights_size (weights_of t) ≡ length (content case.now).names) }
@@ -112,14 +112,14 @@ impl ClosedTable {
         self.closed.get(set)
     }
 
-    /// The weights of all sets.
+    /// Returns the weights of all sets.
     pub fn weights(&self) -> &WeightTable
         ensures { result.now ≡ weights_of self.now }
     {
         &self.weights
     }
 
-    /// What the closed test says of each set.
+    /// Returns what the closed test says of each set.
     pub fn closed_table(&self) -> &SetTable
         ensures table { result.now ≡ closed_of self.now }
         ensures size { table_size result.now ≡ weights_size (weights_of self.now) }

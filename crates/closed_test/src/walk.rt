@@ -14,7 +14,7 @@ use case_model::Case;
 use entangled::CaseNet;
 use field_core::WideAt;
 
-/// The nets become those of `parent`, with `j` removed.
+/// Returns the nets become those of `parent`, with `j` removed.
 fn set_and_remove(nets: &mut CaseNet, parent: &CaseNet, j: usize) -> Result<(), WideAt>
     requires numbers { case_numbers (case_state nets.old) ≡ case_numbers (case_state parent.now) }
     requires size { case_size (case_state nets.old) ≡ case_size (case_state parent.now) }
@@ -26,16 +26,21 @@ fn set_and_remove(nets: &mut CaseNet, parent: &CaseNet, j: usize) -> Result<(), 
     nets.remove(j)
 }
 
-/// The nets below this depth become those at it, with `j` removed.
+/// Returns the nets below this depth become those at it, with `j` removed.
 fn enter(nets: &mut [CaseNet], depth: usize, j: usize) -> Result<(), WideAt>
     requires depth { depth + 1 < length nets.old }
-    requires numbers { (d : CaseState) → case_numbers (get_or (map case_state nets.old) (suc depth) d) ≡ case_numbers (get_or (map case_state nets.old) depth d) }
-    requires size { (d : CaseState) → case_size (get_or (map case_state nets.old) (suc depth) d) ≡ case_size (get_or (map case_state nets.old) depth d) }
-    requires shares { (d : CaseState) → case_shares (get_or (map case_state nets.old) (suc depth) d) ≡ case_shares (get_or (map case_state nets.old) depth d) }
+    requires numbers { (d : CaseState) → case_numbers (get_or (map case_state nets.old)
+        (suc depth) d) ≡ case_numbers (get_or (map case_state nets.old) depth d) }
+    requires size { (d : CaseState) → case_size (get_or (map case_state nets.old) (suc depth) d) ≡ case_size (get_or
+        (map case_state nets.old) depth d) }
+    requires shares { (d : CaseState) → case_shares (get_or (map case_state nets.old) (suc depth) d) ≡ case_shares
+        (get_or (map case_state nets.old) depth d) }
     requires live { (d : CaseState) → is_live_in_case (get_or (map case_state nets.old) depth d) j ≡ true }
     ensures count { length nets.new ≡ length nets.old }
-    ensures others { (n : ℕ) (d : CaseState) → n ≢ suc depth → get_or (map case_state nets.new) n d ≡ get_or (map case_state nets.old) n d }
-    ensures value { (d : CaseState) → ok_map (λ _. get_or (map case_state nets.new) (suc depth) d) result ≡ case_removal (get_or (map case_state nets.old) depth d) j }
+    ensures others { (n : ℕ) (d : CaseState) → n ≢ suc depth
+        → get_or (map case_state nets.new) n d ≡ get_or (map case_state nets.old) n d }
+    ensures value { (d : CaseState) → ok_map (λ _. get_or (map case_state nets.new)
+        (suc depth) d) result ≡ case_removal (get_or (map case_state nets.old) depth d) j }
 {
     let (lower, upper) = nets.split_at_mut(depth + 1);
     set_and_remove(&mut upper[0], &lower[depth], j)
@@ -57,7 +62,8 @@ pub fn walk(
     requires alike { AreLikeTheFirst (length (content case.now).names + 1) (map case_state nets.old) }
     ensures size { weights_size table.new ≡ weights_size table.old }
     ensures path { (path.new.size ≡ path.old.size) × IsPath path.new }
-    ensures walk { MatchResult result (λ _. AreAllTabled (content case.now) (weight_at table.new)) (IsFirstUndefined (content case.now) (left_of path.new)) }
+    ensures walk { MatchResult result (λ _. AreAllTabled (content case.now) (weight_at table.new))
+        (IsFirstUndefined (content case.now) (left_of path.new)) }
 {
     table.put_row(path.set(), &nets[0]);
     'sets: loop {

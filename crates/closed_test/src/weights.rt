@@ -1,5 +1,20 @@
 //! The weights of all sets.
-ghost use Rattle.std.specs.Prelude.{◌≡◌, ◌≤◌, ◌<◌, ◌+◌, ◌-◌, ◌*◌, ◌^◌, ℕ, length, map, get_or, Ok, IfOk, IfErr};
+ghost use Rattle.std.specs.Prelude.{
+  ◌≡◌,
+  ◌≤◌,
+  ◌<◌,
+  ◌+◌,
+  ◌-◌,
+  ◌*◌,
+  ◌^◌,
+  ℕ,
+  length,
+  map,
+  get_or,
+  Ok,
+  IfOk,
+  IfErr,
+};
 ghost use Rattle.field_core.specs.declared.place.WideAt.{WideAt};
 ghost use Rattle.case_model.specs.CaseView.{content};
 ghost use Rattle.entangled.specs.CaseNetView.{case_state};
@@ -16,7 +31,7 @@ use field_core::{List, NoMemory, Number};
 use fraction::Fraction;
 use std::alloc::Global;
 
-/// Tables of all sets are for so many hypotheses at most.
+/// Tables of all sets are for this number of hypotheses at most.
 pub const MOST_HYPOTHESES: usize = 16;
 
 /// The weight of each member of each set of the hypotheses of a case, of which there are at most 16; with 16 hypotheses it
@@ -29,7 +44,7 @@ pub struct WeightTable {
     ghost room: { length weights ≡ 2 ^ size * 16 },
 }
 
-/// A list of so many zeros, in just the memory that it needs.
+/// Returns a list of zeros of this length, in exactly the memory that it needs.
 fn zeros(alloc: Global, count: usize) -> Result<List<Fraction>, NoMemory>
     ensures { IfOk result (λ zeros. length zeros ≡ count) }
 {
@@ -38,10 +53,11 @@ fn zeros(alloc: Global, count: usize) -> Result<List<Fraction>, NoMemory>
     Ok(List::of(zeros))
 }
 
-/// So many nets of a case, each with all hypotheses in.
+/// Nets of a case, in this number, each with all hypotheses in.
 fn load_nets(alloc: Global, case: &Case, count: usize) -> Result<Vec<CaseNet>, OpenFault>
     ensures count { IfOk result (λ nets. length nets.items ≡ count) }
-    ensures opened { IfOk result (λ nets. (n : ℕ) (d : CaseState) → n < count → case_opening (content case.now) ≡ Ok (get_or (map case_state nets.items) n d)) }
+    ensures opened { IfOk result (λ nets. (n : ℕ) (d : CaseState) → n < count
+        → case_opening (content case.now) ≡ Ok (get_or (map case_state nets.items) n d)) }
     ensures fault { IfErr result (IsOpenFaultOf (content case.now)) }
 {
     let mut nets = Vec::with_capacity(alloc, count)?;
@@ -52,7 +68,8 @@ fn load_nets(alloc: Global, case: &Case, count: usize) -> Result<Vec<CaseNet>, O
     Ok(nets)
 }
 
-/// Why there is no table, where the opening fails: it belongs to the run of the set of all hypotheses, which is the first.
+/// Returns why there is no table, where the opening fails: it belongs to the run of the set of all hypotheses, which is
+/// the first.
 fn opening_fault(case: &Case, fault: OpenFault) -> ClosedFault
     requires few { length (content case.now).names ≤ 16 }
     requires fault { IsOpenFaultOf (content case.now) fault }
@@ -77,7 +94,7 @@ impl WeightTable {
     ghost use Rattle.closed_test.specs.ClosedFaults.{IsClosedFault};
     ghost use Rattle.closed_test.specs.WeightsView.{weights_size, weight_at};
 
-    /// Zeros.
+    /// Returns Zeros.
     fn empty(alloc: Global, size: usize) -> Result<WeightTable, NoMemory>
         requires { size ≤ 16 }
         ensures { IfOk result (λ t. weights_size t ≡ size) }
@@ -87,10 +104,11 @@ impl WeightTable {
         Ok(WeightTable { size, weights })
     }
 
-    /// The weights of all sets of a case.
+    /// Returns the weights of all sets of a case.
     ///
-    /// There are none where there are more than 16 hypotheses; unless memory runs out, there are none besides exactly where
-    /// the written run of some set is undefined, and the fault tells the first such set in the order of sets.
+    /// There are none where there are more than 16 hypotheses; or nothing when out of memory, there are none also
+    /// exactly where the written run of some set is undefined, and the fault names the first such set in the order of
+    /// sets.
     pub fn build(alloc: Global, case: &Case) -> Result<WeightTable, ClosedFault>
         ensures size { IfOk result (λ t. weights_size t ≡ length (content case.now).names) }
         ensures weights { IfOk result (λ t. AreIntersectionWeights (content case.now) (weight_at t)) }
@@ -113,7 +131,7 @@ impl WeightTable {
         }
     }
 
-    /// How many hypotheses there are.
+    /// Returns how many hypotheses there are.
     pub fn size(&self) -> usize
         ensures size { result ≡ weights_size self.now }
         ensures few { result ≤ 16 }
@@ -121,7 +139,8 @@ impl WeightTable {
         self.size
     }
 
-    /// The weight of `k` in a set, of which it is a member; a fraction that means nothing where it isn't. `k` is below 16.
+    /// Returns the weight of `k` in a set, of which it is a member; a fraction that means nothing where it isn't. `k`
+    /// is below 16.
     pub fn weight(&self, set: u32, k: usize) -> Fraction
         requires set { set < 2 ^ weights_size self.now }
         requires k { k < 16 }
@@ -146,7 +165,8 @@ impl WeightTable {
         requires set { set < 2 ^ weights_size self.old }
         requires size { case_size (case_state nets.now) ≡ weights_size self.old }
         ensures size { weights_size self.new ≡ weights_size self.old }
-        ensures row { (k : ℕ) → k < weights_size self.old → is_live_in_case (case_state nets.now) k ≡ true → terms (weight_at self.new set k) ≡ case_level (case_state nets.now) k }
+        ensures row { (k : ℕ) → k < weights_size self.old → is_live_in_case (case_state nets.now) k ≡ true
+            → terms (weight_at self.new set k) ≡ case_level (case_state nets.now) k }
         ensures others { (n k : ℕ) → k < 16 → n ≢ set → weight_at self.new n k ≡ weight_at self.old n k }
     {
         for k in 0..self.size {

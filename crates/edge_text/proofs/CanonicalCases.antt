@@ -1,4 +1,4 @@
--- The canonical text of a case says that case, and tells it apart from others.
+-- The canonical text of a case says that case, and distinguishes it from others.
 use Rattle.std.proofs.Common.{◌≡◌, refl, sym, ap, subst, ◌∙◌, ℕ, ◌*◌, ◌<◌, ◌≤◌, ◌==◌, ◌&&◌, List, length, get_or, nat_le}
 use Rattle.std.proofs.Common.{true, Some, arith}
 use Rattle.std.specs.Prelude.{slice_get}

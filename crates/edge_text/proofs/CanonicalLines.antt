@@ -59,7 +59,7 @@ texts_spelt lines h = ap texts_in (rows_of_text lines h) ∙ texts_numbered 0 li
 
 -- ---- names
 
--- no name stands again behind itself
+-- no name stands again after itself
 abbrev pub AreDistinct : List (List ℕ) → Type 0
 AreDistinct [] = Unit {0}
 AreDistinct (name ∷ names) = AllByRecursion (λ other. ¬ (name ≡ other)) names × AreDistinct names

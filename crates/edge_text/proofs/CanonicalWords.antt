@@ -197,7 +197,7 @@ unfolding coefficients_text
 entry_high xs = high_if (are_zero_below 5 (map terms xs)) (codes "0") (terms_text true 0 5 (map terms xs)) refl
     (terms_high true 0 5 (map terms xs) (each_reduced xs))
 
--- ---- an entry behind a blank
+-- ---- an entry after a blank
 
 blank_spelt : (tokens : List Token) (text : List ℕ) → IsSpelt tokens text → IsSpelt tokens (32 ∷ text)
 blank_spelt [] text h = (inl refl, h)

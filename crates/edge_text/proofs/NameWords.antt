@@ -1,19 +1,11 @@
--- Names in documents are words, and lines may name them.
-use Rattle.std.proofs.Common.{◌≡◌, ◌<◌, ℕ, inl, inr, Bool, true, false, List, [], ◌∷◌, ◌++◌, length, refl, sym, ap, subst, ◌∙◌}
-use Rattle.std.proofs.Common.{arith, drop, if◌then◌else◌}
+-- Words of lines, and lines that name them.
+use Rattle.std.proofs.Common.{◌≡◌, ◌<◌, ℕ, inl, inr, false, List, [], ◌∷◌, ◌++◌, length, refl, sym, ap, subst, ◌∙◌, arith}
 use Rattle.std.specs.Prelude.{codes}
 use Rattle.std.specs.List.{AllByRecursion, slice_split, onto_first, filter}
-use Rattle.std.specs.Str.{bytes_eq}
 use Rattle.std.proofs.lemmas.Bool.{cases_Bool}
 use Rattle.std.proofs.lemmas.List.Splits.{slice_split-cons_no, slice_split-cons_yes}
-use Rattle.case_model.specs.declared.draft.Draft.{Draft}
-use Rattle.case_model.specs.declared.draft_stages.DraftStages.{DraftStages}
-use Rattle.case_model.specs.declared.spend.Spend.TheVariants.{Table}
-use Rattle.case_model.specs.declared.spend_step.SpendStep.{SpendStep}
 use Rattle.text_lines.specs.Words.{words_of, is_blank, is_word}
 use Rattle.edge_text.specs.Grammar.{Words}
-use Rattle.edge_text.specs.Faults.{Keyword, AlphaWord, NamesWord, PWord, ShareWord, WeightsWord, EdgeWord, StagesWord, SpendWord, TableWord, ArriveWord}
-use Rattle.edge_text.specs.Faults.{word_of, Place, Alpha, Names, Values, Block, Weights, Edges, Spends, Steps, with_spend, step_of, NamedNumbers, Leads, Lead}
 
 -- ---- words
 
@@ -76,54 +68,3 @@ zero_line_words name h =
     word_first (codes "spend") (name ++ 32 ∷ codes "0") spend_word
     ∙ ap (λ (ws : Words). codes "spend" ∷ ws) (word_first name (codes "0") h)
     ∙ ap (λ (ws : Words). codes "spend" ∷ name ∷ ws) zero_word
-
--- ---- places
-
--- the names of which lines from a place on must speak are words
-abbrev pub HasNameWords : Place → Type 0
-HasNameWords Alpha = Unit {0}
-HasNameWords (Names alpha) = Unit {0}
-HasNameWords (Values d) = AllByRecursion IsNameWord d.names
-HasNameWords (Block d) = AllByRecursion IsNameWord d.names
-HasNameWords (Weights d share) = AllByRecursion IsNameWord d.names
-HasNameWords (Edges shared d k) = AllByRecursion IsNameWord d.names
-HasNameWords (Spends d s left) = AllByRecursion IsNameWord left
-HasNameWords (Steps d s steps name left) = AllByRecursion IsNameWord left
-
-behind_first : (word : List ℕ) (words line : Words) → line ≡ word ∷ words → AllByRecursion IsNameWord line → AllByRecursion IsNameWord words
-behind_first word words line e h = let k : AllByRecursion IsNameWord (word ∷ words) = subst (AllByRecursion IsNameWord) e h in k.1
-
-step_words : (d : Draft) (s : DraftStages) (steps : List SpendStep) (name : List ℕ) (left : Words) (said : NamedNumbers) (b : Bool)
-    → AllByRecursion IsNameWord left
-    → HasNameWords (if b then Steps d s (steps ++ step_of said ∷ []) name left else Steps d (with_spend s (Table steps)) (step_of said ∷ []) said.name
-    (drop 1 left))
-step_words d s steps name left said true h = h
-step_words d s steps name [] said false h = tt
-step_words d s steps name (m ∷ left) said false h = h.1
-
-leads_words : (place : Place) (k : Keyword) (line : List ℕ) (words : Words) (next : Place) → words_of line ≡ word_of k ∷ words
-    → Leads place k line words next → HasNameWords place → HasNameWords next
-leads_words Alpha AlphaWord line words next is h n = subst HasNameWords (sym h.2) tt
-leads_words (Names alpha) NamesWord line words next is h n =
-    subst HasNameWords (sym h.2) (subst (AllByRecursion IsNameWord) h.1 (behind_first (codes "hypotheses") words (words_of line) is (words_are line)))
-leads_words (Values d) PWord line words next is h n = subst HasNameWords (sym h.2) n
-leads_words (Values d) ShareWord line words next is h n = subst HasNameWords (sym h.2) n
-leads_words (Values d) WeightsWord line words next is h n = subst HasNameWords (sym h.2) n
-leads_words (Block d) ShareWord line words next is h n = subst HasNameWords (sym h.2) n
-leads_words (Block d) WeightsWord line words next is h n = subst HasNameWords (sym h.2) n
-leads_words (Weights d share) WeightsWord line words next is h n = subst HasNameWords (sym h.2) n
-leads_words (Edges shared d k) EdgeWord line words next is h n = subst HasNameWords (sym h.2) n
-leads_words (Edges true d k) ShareWord line words next is h n = subst HasNameWords (sym h.2) n
-leads_words (Edges shared d k) StagesWord line words next is h n = subst HasNameWords (sym h.2) n
-leads_words (Spends d s (name ∷ left)) SpendWord line words next is h n = subst HasNameWords (sym h.2) n.1
-leads_words (Spends d s (name ∷ left)) TableWord line words next is h n = subst HasNameWords (sym h.2) n.1
-leads_words (Spends d s []) ArriveWord line words next is h n = subst HasNameWords (sym h.2) tt
-leads_words (Steps d s steps name left) TableWord line words next is h n =
-    subst HasNameWords (sym h.2) (step_words d s steps name left h.0 (bytes_eq h.0.name name) n)
-leads_words (Steps d s steps name (other ∷ left)) SpendWord line words next is h n = subst HasNameWords (sym h.2) n.1
-leads_words (Steps d s steps name []) ArriveWord line words next is h n = subst HasNameWords (sym h.2) tt
-leads_words place k line words next is h n = absurd h
-
-pub lead_words : (place : Place) (lines : List (List ℕ)) (next : Place) → Lead place lines next → HasNameWords place → HasNameWords next
-lead_words place [] next h n = subst HasNameWords (sym h) n
-lead_words place (line ∷ lines) next h n = lead_words h.0 lines next h.2 (leads_words place h.1.0 line h.1.2.behind h.0 h.1.2.words h.1.2.are n)

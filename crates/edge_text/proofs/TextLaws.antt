@@ -1,102 +1,111 @@
 -- What texts say, and where they fail.
-use Rattle.std.proofs.Common.{◌≡◌, ℕ, ◌⊎◌, inl, inr, List, [], ◌∷◌, ◌++◌, refl, sym, subst}
+use Rattle.std.proofs.Common.{◌≡◌, ℕ, inl, inr, List, [], ◌∷◌, ◌++◌, Result, Ok, Err, refl, ap, subst}
 use Rattle.case_model.specs.declared.draft.Draft.{Draft}
+use Rattle.text_lines.specs.Languages.{FaultAt, Lead, Begins}
+use Rattle.text_lines.specs.LanguageStatements.{HaveOneReading}
+use Rattle.text_lines.specs.LanguageStatements.{IsWhereNoneGoesOn as IsWhereTheLanguageEnds}
+use Rattle.text_lines.specs.Lines.{Row, rows_of, texts_in, end_of}
+use Rattle.text_lines.proofs.LanguageLaws.{lead_split, bad_ends, early_unfinished, one_reading, faults_end}
 use Rattle.edge_text.specs.declared.fault.LineKind.{LineKind}
-use Rattle.text_lines.specs.Lines.{rows_of, texts_in, end_of}
-use Rattle.edge_text.specs.Grammar.{IsDocument, IsText}
-use Rattle.edge_text.specs.Faults.{Place, Alpha, MustFollow, Stands, Lead, IsBad, IsFirstFault}
-use Rattle.edge_text.specs.TextStatements.{TextsSayOneDraft, TextsHaveOneFault, TextsSayOrFail, TextsDontSayAndFail, BeginDocument, FirstFaultsEndDocuments}
-use Rattle.edge_text.specs.TextStatements.{WhereNoneGoesOnIsFault, UnfinishedTextsEnd}
-use Rattle.edge_text.proofs.Leads.{lead_on}
-use Rattle.edge_text.proofs.Decisions.{stands_not_bad, stands_or_bad, bad_not_ended}
-use Rattle.edge_text.proofs.DocumentLeads.{lead_once, lead_split, document_leads, lead_says, one_document}
-use Rattle.edge_text.proofs.DocumentStarts.{lead_begins, begins_leads, Ends, ends, whole_or_must, whole_not_must}
-use Rattle.edge_text.proofs.OneFault.{fault_by, fault_from, fault_once, lead_not_fault}
+use Rattle.edge_text.specs.declared.fault.LineKind.TheVariants.{Ended}
+use Rattle.edge_text.specs.declared.place.Place.{Place}
+use Rattle.edge_text.specs.declared.place.Place.TheVariants.{Alpha}
+use Rattle.edge_text.specs.Faults.{IsFirstFault}
+use Rattle.edge_text.specs.Places.{cases, step, whole}
+use Rattle.edge_text.specs.TextStatements.{TextsSayOneDraft, TextsHaveOneFault, TextsSayOrFail, TextsDontSayAndFail, BeginDocument, IsWhereNoneGoesOn}
+use Rattle.edge_text.specs.TextStatements.{FirstFaultsEndDocuments, WhereNoneGoesOnIsFault, UnfinishedTextsEnd}
+use Rattle.edge_text.proofs.BlocksSaid.{text_said, said_text}
+use Rattle.edge_text.proofs.Completions.{cases_complete}
+use Rattle.edge_text.proofs.Endings.{never_ended, only_ended}
+
+reading_of : (bytes : List ℕ) → HaveOneReading cases Alpha (rows_of bytes) (end_of bytes)
+reading_of bytes = one_reading cases Alpha (rows_of bytes) (end_of bytes)
+
+abbrev fault_at : ℕ → LineKind → FaultAt LineKind
+fault_at number kind = record { line = number; kind = kind }
 
 pub one_draft : TextsSayOneDraft
-one_draft bytes d e h k = one_document (texts_in (rows_of bytes)) d e h k
+one_draft bytes d e h k =
+    let lines = texts_in (rows_of bytes) in (reading_of bytes).said d e (text_said lines d h) (text_said lines e k)
 
 pub one_first_fault : TextsHaveOneFault
-one_first_fault bytes m n j k f g = fault_once Alpha (rows_of bytes) (end_of bytes) m n j k (fault_by Alpha (rows_of bytes) (end_of bytes) m j f)
-    (fault_by Alpha (rows_of bytes) (end_of bytes) n k g)
+one_first_fault bytes m n j k f g =
+    let same = (reading_of bytes).fault (fault_at m j) (fault_at n k) f g in (ap (λ x. x.line) same, ap (λ x. x.kind) same)
 
 pub not_both : TextsDontSayAndFail
-not_both bytes d n kind h f =
-    let to = document_leads (texts_in (rows_of bytes)) d h in
-    lead_not_fault Alpha (rows_of bytes) (end_of bytes) n kind to.next to.lead (λ must. whole_not_must to.next d to.whole must)
-    (fault_by Alpha (rows_of bytes) (end_of bytes) n kind f)
-
-said_or_failed : (bytes : List ℕ) → Ends Alpha (rows_of bytes) (end_of bytes) → ((d : Draft) × IsText bytes d)
-    ⊎ ((n : ℕ) × (kind : LineKind) × IsFirstFault bytes n kind)
-said_or_failed bytes (inl h) = inl (h.0, lead_says (texts_in (rows_of bytes)) h.0 h.1)
-said_or_failed bytes (inr h) = inr (h.0, h.1, fault_from Alpha (rows_of bytes) (end_of bytes) h.0 h.1 h.2)
+not_both bytes d n kind h f = (reading_of bytes).apart d (fault_at n kind) (text_said (texts_in (rows_of bytes)) d h) f
 
 pub says_or_fails : TextsSayOrFail
-says_or_fails bytes = said_or_failed bytes (ends Alpha (rows_of bytes) (end_of bytes))
+says_or_fails bytes = elim (reading_of bytes).each [
+  | inl h ↦ inl (h.0, said_text (texts_in (rows_of bytes)) h.0 h.1)
+  | inr f ↦ inr (f.0.line, f.0.kind, f.1)
+]
 
--- no document begins with lines that may stand and one that can't
-refused_behind : (before : List (List ℕ)) (line : List ℕ) (here : Place) (kind : LineKind) → Lead Alpha before here
-    → ((next : Place) → Stands here line next → ⊥) → ¬ BeginDocument (before ++ line ∷ [])
-refused_behind before line here kind lead bad b =
-    let leads = begins_leads (before ++ line ∷ []) b in
-    let halves = lead_split Alpha before (line ∷ []) leads.0 leads.1 in
-    let same : halves.here ≡ here = lead_once Alpha before halves.here here halves.first lead in
-    bad halves.second.0 (subst (λ p. Stands p line halves.second.0) same halves.second.1)
+-- ---- where no document continues
+
+language_begins : (lines : List (List ℕ)) → BeginDocument lines → Begins cases Alpha lines
+language_begins lines b = record { more = b.more; said = b.draft; is = text_said (lines ++ b.more) b.draft b.is }
+
+begins : (lines : List (List ℕ)) → Begins cases Alpha lines → BeginDocument lines
+begins lines b = record { more = b.more; draft = b.said; is = said_text (lines ++ b.more) b.said b.is }
+
+ends_here : (rows : List Row) (number : ℕ) → IsWhereTheLanguageEnds cases Alpha rows number → IsWhereNoneGoesOn rows number
+ends_here rows number w = record {
+  before = w.before;
+  row = w.row;
+  after = w.after;
+  rows_are = w.rows_are;
+  number_is = w.number_is;
+  begins = begins (texts_in w.before) w.begins;
+  refused = λ b. w.refused (language_begins (texts_in w.before ++ w.row.text ∷ []) b);
+}
 
 pub ends_documents : FirstFaultsEndDocuments
 ends_documents bytes number kind (inl b) =
     inl (
-      λ e. bad_not_ended b.here b.row.text (subst (λ k. IsBad b.here b.row.text k) e b.bad),
-      record {
-        before = b.before;
-        row = b.row;
-        after = b.after;
-        rows_are = b.rows_are;
-        number_is = b.number_is;
-        begins = lead_begins (texts_in b.before) b.here b.lead;
-        refused = refused_behind (texts_in b.before) b.row.text b.here kind b.lead (λ next s. stands_not_bad b.here b.row.text next kind s b.bad);
-      },
+      λ e. never_ended b.here b.row.text (subst (λ k. step b.here b.row.text ≡ Err k) e b.bad),
+      ends_here (rows_of bytes) number (bad_ends cases Alpha (rows_of bytes) (fault_at number kind) cases_complete b),
     )
 ends_documents bytes number kind (inr e) =
+    let rows = rows_of bytes in
+    let u = early_unfinished cases Alpha rows (end_of bytes) (fault_at number kind) cases_complete e in
     inr (
-      e.kind_is,
-      e.number_is,
-      record {
-        begins = lead_begins (texts_in (rows_of bytes)) e.here e.lead;
-        refused = λ d h. let to = document_leads (texts_in (rows_of bytes)) d h in let same : to.next ≡ e.here =
-            lead_once Alpha (texts_in (rows_of bytes)) to.next e.here to.lead e.lead in whole_not_must to.next d to.whole (subst MustFollow (sym same) e.must);
-      },
+      only_ended e.here kind e.must,
+      e.line_is,
+      record { begins = begins (texts_in rows) u.begins; refused = λ d h. u.refused d (text_said (texts_in rows) d h) },
     )
-
--- a line with which no document goes on has a fault
-bad_behind : (before : List (List ℕ)) (line : List ℕ) (here : Place) → Lead Alpha before here → ¬ BeginDocument (before ++ line ∷ [])
-    → ((next : Place) × Stands here line next) ⊎ ((kind : LineKind) × IsBad here line kind) → (kind : LineKind) × IsBad here line kind
-bad_behind before line here lead refused (inl h) =
-    absurd (refused (lead_begins (before ++ line ∷ []) h.0 (lead_on Alpha here h.0 before (line ∷ []) lead (h.0, h.1, refl))))
-bad_behind before line here lead refused (inr h) = h
 
 pub none_goes_on : WhereNoneGoesOnIsFault
 none_goes_on bytes number w =
-    let leads = begins_leads (texts_in w.before) w.begins in
-    let bad = bad_behind (texts_in w.before) w.row.text leads.0 leads.1 w.refused (stands_or_bad leads.0 w.row.text) in (
-      bad.0,
-      inl (record {
-        before = w.before;
-        row = w.row;
-        after = w.after;
-        rows_are = w.rows_are;
-        here = leads.0;
-        lead = leads.1;
-        bad = bad.1;
-        number_is = w.number_is;
-      }),
-    )
-
-must_follow : (lines : List (List ℕ)) (here : Place) → Lead Alpha lines here → ((d : Draft) → ¬ IsDocument lines d) → MustFollow here
-must_follow lines here lead none = elim (whole_or_must here)
-    [ inl w ↦ absurd (none w.0 (lead_says lines w.0 (record { next = here; lead = lead; whole = w.1 }))) | inr m ↦ m ]
+    (faults_end cases Alpha (rows_of bytes) (end_of bytes) cases_complete).line number
+    (record {
+      before = w.before;
+      row = w.row;
+      after = w.after;
+      rows_are = w.rows_are;
+      number_is = w.number_is;
+      begins = language_begins (texts_in w.before) w.begins;
+      refused = λ b. w.refused (begins (texts_in w.before ++ w.row.text ∷ []) b);
+    })
 
 pub unfinished_end : UnfinishedTextsEnd
-unfinished_end bytes u =
-    let leads = begins_leads (texts_in (rows_of bytes)) u.begins in
-    inr (record { here = leads.0; lead = leads.1; must = must_follow (texts_in (rows_of bytes)) leads.0 leads.1 u.refused; number_is = refl; kind_is = refl })
+unfinished_end bytes u = by (whole half.0) refl
+  where
+    lines : List (List ℕ)
+    lines = texts_in (rows_of bytes)
+
+    b : Begins cases Alpha lines
+    b = language_begins lines u.begins
+
+    half : (here : Place) × Lead cases Alpha lines here × Lead cases here b.more b.is.here
+    half = lead_split cases Alpha b.is.here lines b.more b.is.lead
+
+    by : (r : Result Draft LineKind) → whole half.0 ≡ r → IsFirstFault bytes (end_of bytes) Ended
+    by (Ok d) e = absurd (u.refused d (said_text lines d (record { here = half.0; lead = half.1; ends = e })))
+    by (Err kind) e =
+        inr (record {
+          here = half.0;
+          lead = half.1;
+          must = subst (λ k. whole half.0 ≡ Err k) (only_ended half.0 kind e) e;
+          line_is = refl;
+        })

@@ -23,9 +23,16 @@ use Rattle.edge_text.specs.declared.fault.TextFault.{TextFault}
 use Rattle.edge_text.specs.declared.fault.TextFault.TheVariants as faults
 use Rattle.text_lines.specs.Lines.{rows_of, end_of}
 use Rattle.edge_text.specs.Grammar.{IsEdgeLine, IsSharedBlock, AreBlocks, IsDocument, IsText}
-use Rattle.edge_text.specs.Faults.{Alpha}
+use Rattle.edge_text.specs.declared.place.Place.TheVariants.{Alpha}
 use Rattle.edge_text.specs.Reading.{IsTextFault}
-use Rattle.edge_text.specs.View.{IsFaultAt}
+use Rattle.text_lines.specs.Lines.{texts_in}
+use Rattle.text_lines.specs.Languages.{reading}
+use Rattle.text_lines.proofs.LanguageLaws.{read_says, read_faults}
+use Rattle.edge_text.specs.Places.{cases}
+use Rattle.edge_text.specs.View.{GivesAll, IsFaultAt}
+use Rattle.edge_text.proofs.BlocksSaid.{said_text}
+use Rattle.std.proofs.Common.{Result, Ok, Err}
+use Rattle.std.specs.Prelude.{IfOk, IfErr}
 
 -- ---- known ends
 
@@ -79,6 +86,19 @@ stages_arrivals names lines (Some stages) h = known_arrivals names h.arrive_line
 pub document_arrivals : (lines : List (List ℕ)) (draft : Draft) → IsDocument lines draft → have_known_arrivals draft ≡ true
 unfolding have_known_arrivals
 document_arrivals lines draft d = stages_arrivals draft.names d.stage_lines draft.stages d.stages
+
+-- ---- what is read
+
+pub read_found : (bytes : List ℕ) (r : Result Draft TextFault) → GivesAll (reading cases Alpha (rows_of bytes) (end_of bytes)) r → IfOk r (IsText bytes)
+read_found bytes (Ok d) g = said_text (texts_in (rows_of bytes)) d (read_says cases Alpha (rows_of bytes) (end_of bytes) d g)
+read_found bytes (Err fault) g = tt
+
+pub read_fault : (bytes : List ℕ) (r : Result Draft TextFault) → GivesAll (reading cases Alpha (rows_of bytes) (end_of bytes)) r
+    → IfErr r (IsFaultAt Alpha (rows_of bytes) (end_of bytes))
+read_fault bytes (Ok d) g = tt
+read_fault bytes (Err (faults.Line n kind)) g = read_faults cases Alpha (rows_of bytes) (end_of bytes) (record { line = n; kind = kind }) g
+read_fault bytes (Err (faults.Case refused)) g = g
+read_fault bytes (Err faults.NoMemory) g = tt
 
 -- ---- faults
 

@@ -137,6 +137,6 @@ late_lines names (Staged s) = stages_lines names s
 unfoldable pub canonical_lines : Content → List Words
 canonical_lines c = alpha_words c.alpha ∷ names_words c.names ∷ p_lines c.inputs ++ (blocks_lines c.names c.components ++ late_lines c.names c.inputs)
 
--- one blank between words, and a line feed behind each line
+-- one blank between words, and a line feed after each line
 unfoldable pub canonical_text : Content → List ℕ
 canonical_text c = text_of (canonical_lines c)

@@ -1,5 +1,5 @@
 -- What lines say, and which lists of lines are documents.
-use Rattle.std.specs.Prelude.{◌≡◌, ◌<◌, ◌≤◌, ◌⊎◌, ℕ, List, [], ◌∷◌, ◌++◌, Option, Some, None, map, length, codes, pos}
+use Rattle.std.specs.Prelude.{◌≡◌, ◌<◌, ◌⊎◌, ℕ, List, [], ◌∷◌, ◌++◌, Option, Some, None, map, length, codes, pos}
 use Rattle.std.specs.List.{AllZip, flat_map}
 use Rattle.field_core.specs.declared.ratio.Ratio.{Ratio}
 use Rattle.field_core.specs.View.{terms}
@@ -27,7 +27,7 @@ Words = List (List ℕ)
 unfoldable pub Says : List ℕ → Ratio → Type 0
 Says word value = IsNumeralOf word (terms value)
 
--- the line has the keyword as its first word, and what stands behind it is such words
+-- the line has the keyword as its first word, and what stands after it is such words
 pub record IsLineOf (keyword line : List ℕ) (Are : Words → Type 0) : Type 0 where
   pub behind : Words
   pub words : words_of line ≡ keyword ∷ behind
@@ -54,7 +54,7 @@ pub record HasThree (words : Words) (from to : List ℕ) : Type 0 where
   pub others : Words
   pub words_are : words ≡ from ∷ to ∷ further ∷ others
 
--- The names of the two ends of an edge, and an expression of its weight: all of the line that stands behind the second name. Where a name
+-- The names of the two ends of an edge, and an expression of its weight: all of the line that stands after the second name. Where a name
 -- stands for several hypotheses, it is the first.
 pub record IsEdge (names : List (List ℕ)) (line : List ℕ) (words : Words) (edge : DraftEdge) : Type 0 where
   pub from : List ℕ
@@ -200,7 +200,7 @@ abbrev pub EndsBefore : List ℕ → Spend → List (List ℕ) → Type 0
 EndsBefore name (Shares shares) lines = Unit {0}
 EndsBefore name (Table steps) lines = IsNoStep name lines
 
--- for each hypothesis, in their order, the lines of what it spends; other lines stand behind them
+-- for each hypothesis, in their order, the lines of what it spends; other lines stand after them
 abbrev pub AreSpends : List (List ℕ) → List (List ℕ) → List Spend → List (List ℕ) → Type 0
 AreSpends [] lines [] others = lines ≡ others
 AreSpends [] lines (spend ∷ spends) others = ⊥

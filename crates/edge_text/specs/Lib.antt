@@ -1,7 +1,11 @@
 pub mod CanonicalStatements
 pub mod CanonicalText
+pub mod DocumentStatements
+pub mod Drafts
 pub mod Faults
 pub mod Grammar
+pub mod Places
 pub mod Reading
 pub mod TextStatements
 pub mod View
+pub mod WordReading

@@ -25,7 +25,7 @@ pub record IsRefusedText (bytes : List ℕ) (refused : Refused) : Type 0 where
   pub fault_is : case_fault draft ≡ Some refused.fault
   pub names_are : refused.names ≡ draft.names
 
--- Why a text gives no case: a line that can't stand, the first one; or else a draft that is refused; or want of memory.
+-- Why a text gives no case: a line that isn't allowed, the first one; or else a draft that is refused; or out of memory.
 unfoldable pub IsTextFault : List ℕ → TextFault → Type 0
 IsTextFault bytes (Line number kind) = IsFirstFault bytes number kind
 IsTextFault bytes (RefusedCase refused) = IsRefusedText bytes refused

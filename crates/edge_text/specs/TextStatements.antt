@@ -53,17 +53,18 @@ pub record IsUnfinished (rows : List Row) : Type 0 where
   pub begins : BeginDocument (texts_in rows)
   pub refused : (draft : Draft) → ¬ IsDocument (texts_in rows) draft
 
--- the first fault of a text is at the first line with which no document goes on; or, where the lines begin some document and are none, behind the last line
+-- the first fault of a text is at the first line with which no document continues; or, where the lines begin some document and are none, after the last
+-- line
 abbrev pub FirstFaultsEndDocuments : Type 0
 FirstFaultsEndDocuments =
     (bytes : List ℕ) (number : ℕ) (kind : LineKind) → IsFirstFault bytes number kind →
     ((kind ≢ Ended) × IsWhereNoneGoesOn (rows_of bytes) number) ⊎ ((kind ≡ Ended) × (number ≡ end_of bytes) × IsUnfinished (rows_of bytes))
 
--- the first line with which no document goes on has the first fault
+-- the first line with which no document continues has the first fault
 abbrev pub WhereNoneGoesOnIsFault : Type 0
 WhereNoneGoesOnIsFault = (bytes : List ℕ) (number : ℕ) → IsWhereNoneGoesOn (rows_of bytes) number → (kind : LineKind) × IsFirstFault bytes number kind
 
--- a text that only begins a document has its first fault behind its last line
+-- a text that only begins a document has its first fault after its last line
 abbrev pub UnfinishedTextsEnd : Type 0
 UnfinishedTextsEnd = (bytes : List ℕ) → IsUnfinished (rows_of bytes) → IsFirstFault bytes (end_of bytes) Ended
 

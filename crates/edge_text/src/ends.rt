@@ -1,11 +1,12 @@
 //! The two ends of an edge, and its expression.
-ghost use Rattle.std.specs.Prelude.{◌≡◌, ◌<◌, length, IfSome, IfNone};
+ghost use Rattle.std.specs.Prelude.{◌≡◌, IfSome};
+ghost use Rattle.std.specs.Option.{option_map};
 ghost use Rattle.text_lines.specs.Words.{words_of, behind_words};
-ghost use Rattle.edge_text.specs.Grammar.{HasThree};
+ghost use Rattle.edge_text.specs.WordReading.{ends_of};
 
 use text_lines::Words;
 
-/// The names of the ends of an edge, and what stands behind them.
+/// The names of the ends of an edge, and what stands after them.
 #[derive(Clone, Copy)]
 pub struct Ends<'a> {
     pub from: &'a [u8],
@@ -14,11 +15,10 @@ pub struct Ends<'a> {
 }
 
 impl<'a> Ends<'a> {
-    /// Two words and what stands behind them, where that has a word.
+    /// Returns two words and what stands after them, where that has a word.
     pub fn of(mut words: Words<'a>) -> Option<Ends<'a>>
-        ensures found { IfSome result (λ ends. HasThree (words_of words.entry) ends.from.now ends.to.now) }
+        ensures ends { option_map (λ ends. (ends.from.now, ends.to.now)) result ≡ ends_of (words_of words.entry) }
         ensures rest { IfSome result (λ ends. ends.expression.now ≡ behind_words 2 words.entry) }
-        ensures other { IfNone result (length (words_of words.entry) < 3) }
     {
         let from = words.next()?;
         let to = words.next()?;

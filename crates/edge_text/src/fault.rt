@@ -8,12 +8,12 @@ use fraction::NumberFault;
 /// from left to right.
 #[derive(Clone, Copy, PartialEq, Eq, Debug)]
 pub enum LineKind {
-    /// The first word isn't one that may stand here, or the name of a spend or of a table isn't.
+    /// The first word isn't one that may be here, or the name of a spend or of a table isn't.
     Unexpected,
     /// The document ends where a line must follow.
     Ended,
-    /// `alpha`, `component` or `stages` has not just one word behind it, `arrive` not three, `edge` or `table` fewer than
-    /// three, `spend` fewer than two, or `p` none.
+    /// `alpha`, `component` or `stages` has not just one word after it, `arrive` not three, `edge` or `table` fewer
+    /// than three, `spend` fewer than two, or `p` none.
     WordCount,
     /// A name isn't that of a hypothesis.
     UnknownName,
@@ -28,12 +28,12 @@ pub enum LineKind {
 /// Why a text gives no case.
 #[derive(Drop)]
 pub enum TextFault {
-    /// The first line that can't stand where it stands, counted from 1 over all lines, and what is wrong with it. Where
-    /// the document ends too early it is the number of lines plus 1.
+    /// The first line that isn't allowed where it stands, counted from 1 over all lines, and what is wrong with it.
+    /// Where the document ends too early it is the number of lines plus 1.
     Line(usize, LineKind),
     /// Each line stands, and the draft that they say is refused.
     Case(Refused),
-    /// Memory ran out.
+    /// Out of memory.
     NoMemory,
 }
 

@@ -1,6 +1,23 @@
 //! Laws of texts: each says one draft, or has one first fault; and canonical texts say their cases.
 ghost use Rattle.edge_text.specs.CanonicalStatements.{CanonicalTextsReadBack, CanonicalTextsTellCasesApart, CanonicalTextsAreCanonical};
-ghost use Rattle.edge_text.specs.TextStatements.{TextsSayOneDraft, TextsHaveOneFault, TextsSayOrFail, TextsDontSayAndFail, FirstFaultsEndDocuments, WhereNoneGoesOnIsFault, UnfinishedTextsEnd, TextsHaveOneCase, TextsHaveOneRefusal, FaultsArentRefusals, CasesHaveNoFault, TextsHaveEntriesOrFaults, TextsHaveOneEntry, TextsHaveOneExprFault, EntriesHaveNoFault};
+ghost use Rattle.edge_text.specs.DocumentStatements.{DocumentsAreSaid, SaidAreDocuments, TextsCanEnd};
+ghost use Rattle.edge_text.specs.TextStatements.{
+  TextsSayOneDraft,
+  TextsHaveOneFault,
+  TextsSayOrFail,
+  TextsDontSayAndFail,
+  FirstFaultsEndDocuments,
+  WhereNoneGoesOnIsFault,
+  UnfinishedTextsEnd,
+  TextsHaveOneCase,
+  TextsHaveOneRefusal,
+  FaultsArentRefusals,
+  CasesHaveNoFault,
+  TextsHaveEntriesOrFaults,
+  TextsHaveOneEntry,
+  TextsHaveOneExprFault,
+  EntriesHaveNoFault,
+};
 
 /// A text says at most one draft.
 pub fn texts_say_one_draft()
@@ -18,12 +35,21 @@ pub fn texts_say_or_fail()
     ensures apart { TextsDontSayAndFail }
 {}
 
-/// The first fault of a text is exactly where no document goes on: at the first line with which none does, or else
-/// behind the last line, where the lines are no document yet.
+/// The first fault of a text is exactly where no document continues: at the first line with which none does, or else
+/// after the last line, where the lines are not a document yet.
 pub fn first_faults_end_documents()
     ensures there { FirstFaultsEndDocuments }
     ensures line { WhereNoneGoesOnIsFault }
     ensures end { UnfinishedTextsEnd }
+{}
+
+/// The lines that the reader takes, one by one from place to place, are exactly the documents of the grammar, and say
+/// the same drafts. From each place a text continues to its end.
+#[tactic(auto, using(crate::proofs::BlocksSaid::text_said, crate::proofs::BlocksSaid::said_text, crate::proofs::Completions::cases_complete))]
+pub fn documents_are_read_by_places()
+    ensures said { DocumentsAreSaid }
+    ensures only { SaidAreDocuments }
+    ensures end { TextsCanEnd }
 {}
 
 /// A text has one reading: one case by its content, or one first fault, or one refusal of its draft.

@@ -2,15 +2,17 @@
 //!
 //! Proved:
 //! - `read_text`: `case` (the text is a document by the grammar, `IsText`, which says a draft without fault, and the
-//!   case has its content), `fault` (the first line that can't stand, with its number and kind, `IsFirstFault`; or
-//!   else the first fault of the draft, with its names).
+//!   case has its content), `fault` (the first line that isn't allowed, with its number and kind, `IsFirstFault`; or
+//!   else the first error in the draft, with its names).
 //! - `write_text`: the canonical text of a case (`canonical`, `says`).
-//! - Laws in `src/laws.rt`: a text says at most one draft, has at most one first fault, and one of the two and never
-//!   both; the first fault is exactly where no document goes on. `canonical_texts_read_back`: the canonical text is
-//!   read as the same case (`back`), tells cases apart (`apart`), and is the canonical text of what is read
-//!   (`again`). `expressions_are_decided`: an expression has one entry or one fault, and not both.
+//! - Laws in `src/laws.rt`: `documents_are_read_by_places`, that the places through which the reader goes accept
+//!   exactly the documents of the grammar, with the same drafts (`said`, `only`), and that each unfinished text can end
+//!   (`end`); a text says at most one draft, has at most one first fault, and one of the two and never both; the first
+//!   fault is exactly where no document continues. `canonical_texts_read_back`: the canonical text is read as the same
+//!   case (`back`), distinguishes cases (`apart`), and is the canonical text of what is read (`again`).
+//!   `expressions_are_decided`: an expression has one entry or one fault, and not both.
 //!
-//! Tables of texts, with their lines by hand, stand in tests_forms.
+//! Tables of texts, with their lines by hand, are in tests_forms.
 //!
 //! The whole form is read and written: one graph or several with their shares, stages with what each hypothesis
 //! spends, by a list or a table, and p-values that arrived. What is written is read back as the same case, for every
@@ -21,8 +23,9 @@ mod draft_lines;
 mod ends;
 mod fault;
 pub mod laws;
-mod reading;
+mod place;
 mod rules;
+mod so_far;
 mod spend_words;
 mod text_reader;
 mod write;
@@ -30,7 +33,7 @@ mod write_stages;
 mod write_words;
 
 pub use draft_lines::draft;
-pub use edge_expression::ExprFault;
+pub use edge_expression::{ExprFault, print_entry, read_entry};
 pub use fault::{LineKind, TextFault};
 pub use text_reader::read_text;
 pub use write::{is_absent, is_alone, write_text};

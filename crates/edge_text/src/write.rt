@@ -3,7 +3,25 @@ ghost use Rattle.std.specs.Prelude.{◌≡◌, ◌*◌, ◌<◌, ◌≤◌, ◌+
 ghost use Rattle.case_model.specs.CaseView.{content};
 ghost use Rattle.case_model.specs.Content.{component_at};
 ghost use Rattle.text_lines.specs.Spelling.{text_of};
-ghost use Rattle.edge_text.specs.CanonicalText.{alpha_words, names_words, p_words, share_words, weights_words, edge_words, is_zero_at, is_absent, edge_lines, table_lines, is_alone, share_lines, block_lines, blocks_lines, p_lines, late_lines, canonical_text};
+ghost use Rattle.edge_text.specs.CanonicalText.{
+  alpha_words,
+  names_words,
+  p_words,
+  share_words,
+  weights_words,
+  edge_words,
+  is_zero_at,
+  is_absent,
+  edge_lines,
+  table_lines,
+  is_alone,
+  share_lines,
+  block_lines,
+  blocks_lines,
+  p_lines,
+  late_lines,
+  canonical_text,
+};
 ghost use Rattle.edge_text.specs.Reading.{IsCaseOf};
 ghost use Rattle.edge_text.specs.View.{line_of};
 
@@ -147,7 +165,8 @@ fn put_block(
     component: usize,
 ) -> Result<(), NoMemory>
     requires { component < length (content case.now).components }
-    ensures { OnOk result (text.new ≡ text.old ++ text_of (block_lines (content case.now).names alone (component_at (content case.now).components component))) }
+    ensures { OnOk result (text.new ≡ text.old ++ text_of (block_lines (content case.now).names alone (component_at
+        (content case.now).components component))) }
 {
     put_share_unless(text, alone, &case.share(component))?;
     put_weights(text, case.weights(component))?;
@@ -196,7 +215,7 @@ fn put_staged(text: &mut List<u8>, case: &Case) -> Result<(), NoMemory>
     }
 }
 
-/// The lines of a case, in their order.
+/// Returns the lines of a case, in their order.
 #[tactic(auto, unfolding(crate::specs::CanonicalText::canonical_text, crate::specs::CanonicalText::canonical_lines))]
 fn written(alloc: Global, case: &Case) -> Result<List<u8>, NoMemory>
     ensures { IfOk result (λ text. text ≡ canonical_text (content case.now)) }
@@ -210,10 +229,10 @@ fn written(alloc: Global, case: &Case) -> Result<List<u8>, NoMemory>
     Ok(text)
 }
 
-/// The canonical text of a case, or `NoMemory`.
+/// Returns the canonical text of a case, or `NoMemory`.
 ///
-/// Words stand one blank apart, and a line feed behind each line. Numbers are in lowest terms, as `Fraction::print` writes
-/// them. Of the edges of a component those that aren't 0 are written, by ascending first and then second end, as
+/// Words stand one blank apart, and a line feed after each line. Numbers are in lowest terms, as `Fraction::print`
+/// writes them. Of the edges of a component those that aren't 0 are written, by ascending first and then second end, as
 /// `print_entry` writes them. One component of share 1 has no line of its share. A table of levels stays one, and the
 /// p-values that arrived keep their order.
 #[tactic(auto, using(crate::proofs::CanonicalCases::says_its_case))]

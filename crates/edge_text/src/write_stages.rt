@@ -4,7 +4,15 @@ ghost use Rattle.std.specs.List.{list_all};
 ghost use Rattle.case_model.specs.Draft.{arrives_among};
 ghost use Rattle.case_model.specs.Content.{AreStages};
 ghost use Rattle.text_lines.specs.Spelling.{text_of};
-ghost use Rattle.edge_text.specs.CanonicalText.{stages_words, spend_words, table_words, arrive_words, spend_lines, spends_lines, stages_lines};
+ghost use Rattle.edge_text.specs.CanonicalText.{
+  stages_words,
+  spend_words,
+  table_words,
+  arrive_words,
+  spend_lines,
+  spends_lines,
+  stages_lines,
+};
 ghost use Rattle.edge_text.specs.View.{line_of};
 
 use crate::write_words::{put_name, put_number, put_numbers, put_whole, put_word};

@@ -41,7 +41,7 @@ pub fn put_name(text: &mut List<u8>, names: &[Text], position: usize) -> Result<
     put_word(text, names[position].as_bytes())
 }
 
-/// Appends numbers, each behind a blank.
+/// Appends numbers, each after a blank.
 pub fn put_numbers(text: &mut List<u8>, numbers: &[Fraction]) -> Result<(), NoMemory>
     ensures { OnOk result (text.new ≡ text.old ++ flat_map spaced (map number_word numbers.now)) }
 {
@@ -51,7 +51,7 @@ pub fn put_numbers(text: &mut List<u8>, numbers: &[Fraction]) -> Result<(), NoMe
     Ok(())
 }
 
-/// Appends names, each behind a blank.
+/// Appends names, each after a blank.
 pub fn put_names(text: &mut List<u8>, names: &[Text]) -> Result<(), NoMemory>
     ensures { OnOk result (text.new ≡ text.old ++ flat_map spaced names.now) }
 {

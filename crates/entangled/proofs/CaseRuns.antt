@@ -11,7 +11,7 @@ pub last_step : (r : Result CaseState WideAt) → (r >>= λ x. Ok x) ≡ r
 last_step (Ok x) = refl
 last_step (Err e) = refl
 
--- a step that goes on to a good end, and on from there
+-- a step that continues to a good end, and on from there
 pub goes_on : (r : Result CaseState WideAt) (f g : CaseState → Result CaseState WideAt) (t : CaseState) (end : Result CaseState WideAt)
     → ((u : CaseState) → f u ≡ Ok t → g u ≡ end) → (r >>= f) ≡ Ok t → (r >>= g) ≡ end
 goes_on (Ok u) f g t end step e = step u e

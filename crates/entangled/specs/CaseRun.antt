@@ -29,7 +29,7 @@ case_opening c = ok_map (state_of (numbers_of c)) (opening_in (numbers_of c) c)
 unfoldable pub case_removal : CaseState → ℕ → Result CaseState WideAt
 case_removal (state_of n b) j = ok_map (state_of n) (removed (kind_of n) (graph_in n) (removal_in n) b j)
 
--- the number of hypotheses, live or not
+-- the number of hypotheses, removed or not
 abbrev pub case_size : CaseState → ℕ
 case_size (state_of n b) = size (graph_in n) b
 

@@ -34,10 +34,10 @@ impl<R: Remover + Drop> Bundle<R> {
     ghost use Rattle.entangled.specs.BundleView.{bundled};
     ghost use Rattle.entangled.specs.Opening.{Opens};
 
-    /// The bundle of these nets, in each of which all hypotheses are in, with these shares. There is at least one net, all
-    /// are of one size, and each has a share; the shares aren't below 0 and sum to at most 1.
+    /// Returns the bundle of these nets, in each of which all hypotheses are in, with these shares. There is at least
+    /// one net, all are of one size, and each has a share; the shares aren't below 0 and sum to at most 1.
     ///
-    /// Unless memory runs out, it is `OpenFault::Wide` exactly where the written opening is undefined.
+    /// Unless out of memory, it is `OpenFault::Wide` exactly where the written opening is undefined.
     pub fn try_new(
         alloc: Global,
         nets: List<R>,
@@ -71,14 +71,14 @@ impl<R: Remover> Bundle<R> {
     ghost use Rattle.entangled.specs.Bundled.{size, is_live, level, written_share, removed};
     ghost use Rattle.entangled.specs.BundleView.{bundled, HasNothingPrepared};
 
-    /// The number of hypotheses, those removed among them.
+    /// Returns the number of hypotheses, those removed among them.
     pub fn size(&self) -> usize
         ensures { result ≡ size R.graph (bundled self.now) }
     {
         self.nets[0].size()
     }
 
-    /// The number of nets.
+    /// Returns the number of nets.
     pub fn components(&self) -> usize
         ensures { result ≡ length (bundled self.now).states }
     {
@@ -93,7 +93,7 @@ impl<R: Remover> Bundle<R> {
         self.nets[0].is_live(k)
     }
 
-    /// The level of `k`, which is still in, as a fraction of alpha: the weight, with the limits for epsilon taken.
+    /// Returns the level of `k`, which is still in, as a fraction of alpha: the weight, with the limits for epsilon taken.
     pub fn weight_limit(&self, k: usize) -> Fraction
         requires { is_live R.graph (bundled self.now) k ≡ true }
         ensures level { terms result ≡ level (bundled self.now) k }
@@ -102,7 +102,7 @@ impl<R: Remover> Bundle<R> {
         self.levels[k]
     }
 
-    /// The net of a component, counted from 0.
+    /// Returns the net of a component, counted from 0.
     pub fn net(&self, c: usize) -> &R
         requires { c < length (bundled self.now).states }
         ensures { slice_get (bundled self.now).states c ≡ Some (R.present result.now) }

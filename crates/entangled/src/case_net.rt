@@ -23,7 +23,7 @@ pub enum CaseNet {
     Eps(Bundle<RowNet>),
 }
 
-/// The bundle of a plain case.
+/// Returns the bundle of a plain case.
 #[tactic(auto, unfolding(crate::specs::CaseRun::opening_in))]
 fn plain_bundle(alloc: Global, case: &Case) -> Result<Bundle<Net<Fraction>>, OpenFault>
     requires { CanRunIn in_fractions (content case.now) }
@@ -33,7 +33,7 @@ fn plain_bundle(alloc: Global, case: &Case) -> Result<Bundle<Net<Fraction>>, Ope
     bundle(alloc, case, nets)
 }
 
-/// The bundle of a case with epsilon.
+/// Returns the bundle of a case with epsilon.
 #[tactic(auto, unfolding(crate::specs::CaseRun::opening_in))]
 fn eps_bundle(alloc: Global, case: &Case) -> Result<Bundle<RowNet>, OpenFault>
     ensures { Opens bundled result (opening_in in_quotients (content case.now)) }
@@ -50,14 +50,23 @@ impl CaseNet {
     ghost use Rattle.case_model.specs.Content.{is_plain};
     ghost use Rattle.case_model.specs.CaseView.{content};
     ghost use Rattle.entangled.specs.CaseNetView.{case_state, is_of_fractions, CaseHasNothingPrepared};
-    ghost use Rattle.entangled.specs.CaseRun.{case_opening, case_numbers, case_size, is_live_in_case, case_level, case_share, case_shares, case_removal};
+    ghost use Rattle.entangled.specs.CaseRun.{
+      case_opening,
+      case_numbers,
+      case_size,
+      is_live_in_case,
+      case_level,
+      case_share,
+      case_shares,
+      case_removal,
+    };
     ghost use Rattle.entangled.specs.Opening.{Opens};
 
-    /// The nets of a case, with all hypotheses in: of fractions where the case is plain, and of rows of quotients in epsilon
-    /// where it isn't. There each edge is loaded as the written polynomial of its coefficients, and then the rows of each
-    /// component are gathered.
+    /// Returns the nets of a case, with all hypotheses in: of fractions where the case is plain, and of rows of
+    /// quotients in epsilon where it isn't. There each edge is loaded as the written polynomial of its coefficients,
+    /// and then the rows of each component are gathered.
     ///
-    /// Unless memory runs out, it is `OpenFault::Wide` exactly where the written opening is undefined.
+    /// Unless out of memory, it is `OpenFault::Wide` exactly where the written opening is undefined.
     #[tactic(auto, unfolding(crate::specs::CaseNetView::case_state), using(crate::proofs::CaseNumbers::plain_opening, crate::proofs::CaseNumbers::other_opening))]
     pub fn load(alloc: Global, case: &Case) -> Result<CaseNet, OpenFault>
         ensures opened { Opens case_state result (case_opening (content case.now)) }
@@ -72,7 +81,7 @@ impl CaseNet {
         }
     }
 
-    /// The number of hypotheses, those removed among them.
+    /// Returns the number of hypotheses, those removed among them.
     pub fn size(&self) -> usize
         ensures { result ≡ case_size (case_state self.now) }
     {
@@ -93,7 +102,7 @@ impl CaseNet {
         }
     }
 
-    /// The level of `k`, which is still in, as a fraction of alpha: the weight, with the limits for epsilon taken.
+    /// Returns the level of `k`, which is still in, as a fraction of alpha: the weight, with the limits for epsilon taken.
     pub fn weight_limit(&self, k: usize) -> Fraction
         requires { is_live_in_case (case_state self.now) k ≡ true }
         ensures level { terms result ≡ case_level (case_state self.now) k }

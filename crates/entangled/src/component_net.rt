@@ -25,8 +25,9 @@ pub trait ComponentNet: Drop {
     /// Its state, as the nets of these numbers have it.
     ghost state: { Self → state_in numbers };
 
-    /// All hypotheses are in, with these weights and edges. There are at most 64 hypotheses, a weight and a row of edges for
-    /// each, they are a valid graph, and quotients are over constants. A refusal is told at the component.
+    /// All hypotheses are in, with these weights and edges. There are at most 64 hypotheses, a weight and a row of
+    /// edges for each, they are a valid graph, and quotients are over constants. A refusal is reported at the
+    /// component.
     fn open(
         alloc: Global,
         component: usize,
@@ -36,7 +37,8 @@ pub trait ComponentNet: Drop {
         requires square { IsSquare (length weights.now) (length weights.now) (length edges.now) }
         requires sound { IsSound Self.Value.kind (all_live (map Self.Value.parts weights.now) (map Self.Value.parts edges.now)) }
         requires constants { CanGather numbers (all_live (map Self.Value.parts weights.now) (map Self.Value.parts edges.now)) }
-        ensures { Opens state result (in_component component (gathered_in numbers (all_live (map Self.Value.parts weights.now) (map Self.Value.parts edges.now)))) };
+        ensures { Opens state result (in_component component (gathered_in numbers (all_live
+            (map Self.Value.parts weights.now) (map Self.Value.parts edges.now)))) };
 
     /// Its values are those numbers.
     ghost numbers_are: { Self.Value.numbers ≡ numbers };

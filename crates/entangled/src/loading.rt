@@ -20,7 +20,7 @@ use fraction::Fraction;
 use removal::Remover;
 use std::alloc::Global;
 
-/// The weights of a component.
+/// Returns the weights of a component.
 #[tactic(auto, using(crate::proofs::Pushes::pushed, crate::proofs::Pushes::pushed_all))]
 pub fn weights<F: CaseNumber>(alloc: Global, case: &Case, c: usize) -> Result<List<F>, NoMemory>
     requires { c < length (content case.now).components }
@@ -33,7 +33,7 @@ pub fn weights<F: CaseNumber>(alloc: Global, case: &Case, c: usize) -> Result<Li
     Ok(weights)
 }
 
-/// The edge at a place of a table of so many rows.
+/// Returns the edge at a place of a table of this number of rows.
 #[tactic(auto, unfolding(crate::specs::Loading::edge_at))]
 fn edge<F: CaseNumber>(table: &[Entry], size: usize, i: usize) -> Result<F, Wide>
     requires rows { 0 < size }
@@ -43,7 +43,7 @@ fn edge<F: CaseNumber>(table: &[Entry], size: usize, i: usize) -> Result<F, Wide
     F::edge(&table[i]).map_err(|wide| wide.at(Place::Edge(i / size, i % size)))
 }
 
-/// Writes the edges of a table of so many rows.
+/// Writes the edges of a table of this number of rows.
 #[tactic(auto, unfolding(crate::specs::Loading::loaded_edges))]
 fn write_edges<F: CaseNumber>(table: &[Entry], size: usize, edges: &mut [F]) -> Result<(), Wide>
     requires rows { 0 < size }
@@ -54,11 +54,13 @@ fn write_edges<F: CaseNumber>(table: &[Entry], size: usize, edges: &mut [F]) -> 
     try_fill(edges, |i| edge(table, size, i))
 }
 
-/// The edges of a component, row by row. It is `OpenFault::Wide` exactly where one is undefined, unless memory runs out.
+/// Returns the edges of a component, row by row. It is `OpenFault::Wide` exactly where one is undefined, or nothing
+/// when out of memory.
 #[tactic(auto, using(std::proofs::lemmas::List::with_items_is))]
 pub fn edges<F: CaseNumber>(alloc: Global, case: &Case, c: usize) -> Result<Vec<F>, OpenFault>
     requires { c < length (content case.now).components }
-    ensures { Opens (λ es. map F.parts es.items) result (in_component c (loaded_edges F.numbers (length (content case.now).names) (component_at (content case.now).components c).edges)) }
+    ensures { Opens (λ es. map F.parts es.items) result (in_component c (loaded_edges F.numbers (length
+        (content case.now).names) (component_at (content case.now).components c).edges)) }
 {
     let table = case.edges(c);
     let mut edges = vec![in alloc; F::zero(); table.len()]?;
@@ -66,7 +68,7 @@ pub fn edges<F: CaseNumber>(alloc: Global, case: &Case, c: usize) -> Result<Vec<
     Ok(edges)
 }
 
-/// The net of a component.
+/// Returns the net of a component.
 #[tactic(auto, using(crate::proofs::LoadSteps::state_refused))]
 pub fn net<N: ComponentNet>(alloc: Global, case: &Case, c: usize) -> Result<N, OpenFault>
     requires numbers { CanRunIn N.numbers (content case.now) }
@@ -78,7 +80,7 @@ pub fn net<N: ComponentNet>(alloc: Global, case: &Case, c: usize) -> Result<N, O
     N::open(alloc, c, weights.as_slice(), &edges)
 }
 
-/// The nets of a case.
+/// Returns the nets of a case.
 #[tactic(auto, using(crate::proofs::LoadSteps::no_states, crate::proofs::LoadSteps::next_state, crate::proofs::LoadSteps::states_refused, crate::proofs::LoadSteps::all_states))]
 pub fn nets<N: ComponentNet>(alloc: Global, case: &Case) -> Result<List<N>, OpenFault>
     requires { CanRunIn N.numbers (content case.now) }
@@ -91,7 +93,7 @@ pub fn nets<N: ComponentNet>(alloc: Global, case: &Case) -> Result<List<N>, Open
     Ok(nets)
 }
 
-/// The shares of the components.
+/// Returns the shares of the components.
 fn shares(alloc: Global, case: &Case) -> Result<List<Fraction>, NoMemory>
     ensures { IfOk result (λ ss. ss ≡ map (λ k. k.share) (content case.now).components) }
 {
@@ -102,7 +104,7 @@ fn shares(alloc: Global, case: &Case) -> Result<List<Fraction>, NoMemory>
     Ok(shares)
 }
 
-/// The bundle of the nets of a case.
+/// Returns the bundle of the nets of a case.
 pub fn bundle<R: Remover + Drop>(
     alloc: Global,
     case: &Case,

@@ -1,6 +1,6 @@
 -- Lists by their coefficients.
 use Rattle.std.proofs.Common.{◌≡◌, ◌≢◌, ℕ, zero, suc, ◌+◌, ◌<◌, ◌≤◌, List, [], ◌∷◌, length, drop, set, replicate, map, refl}
-use Rattle.std.proofs.Common.{sym, ◌∙◌, ap, arith, true, false, ℤ, pos, negsuc, inl, inr}
+use Rattle.std.proofs.Common.{sym, ◌∙◌, ap, arith, Bool, true, false, ℤ, pos, negsuc, inl, inr}
 use Rattle.std.specs.List.{range_with_len}
 use Rattle.std.proofs.lemmas.Bool.{cases_eq, cases_lt}
 use Rattle.std.proofs.lemmas.List.{same_lists, get_or-set_same, get_or-set_other, length-set, length-replicate, get_or-replicate}
@@ -88,6 +88,13 @@ same_to p q e = (slice_eq-Decides Decides-int_eq p q (is_same p q) refl).1 e
 
 pub other_from : (p q : List ℤ) → is_same p q ≡ false → ¬ (p ≡ q)
 other_from p q e s = let t = same_to p q s in cc
+
+pub differ : (p q : List ℤ) → ¬ (p ≡ q) → false ≡ is_same p q
+differ p q apart = at (is_same p q) refl
+  where
+    at : (b : Bool) → is_same p q ≡ b → false ≡ b
+    at true e = absurd (apart (same_from p q e))
+    at false e = refl
 
 -- ---- a loop that writes the coefficients of ascending powers
 

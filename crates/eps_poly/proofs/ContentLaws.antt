@@ -56,3 +56,11 @@ content_more p n size divisor result some within d e f =
     let next : (n - 1) + 1 ≡ n = omega arith in
     let read = coefficient-index p (n - 1) (pos 0) (omega arith) in
     f ∙ rw (e, d, read) (sym (ap content (drop_more p (n - 1) (pos 0) (omega arith) ∙ ap (λ m. get_or p (n - 1) (pos 0) ∷ drop m p) next)))
+
+-- what has no common divisor above a power has none at all
+pub content_one : (p : List ℤ) (n divisor : ℕ) → divisor ≡ content (drop n p) → divisor ≡ 1 → 1 ≡ content p
+content_one p n divisor d e =
+    let whole : content p ∣ 1 = rw (← e, d) (content_greatest (drop n p) (content p) (λ k. rw (coefficient-drop p n k) (content_divides p (k + n)))) in
+    let most = le_of_dvd (omega arith) whole in
+    let least = pos_of_dvd_of_pos whole (omega arith) in
+    omega arith

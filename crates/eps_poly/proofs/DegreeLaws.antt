@@ -1,13 +1,17 @@
 -- The degree of a polynomial.
-use Rattle.std.proofs.Common.{◌≡◌, ◌≢◌, ℕ, zero, suc, ◌+◌, ◌-◌, ◌<◌, ◌≤◌, List, [], ◌∷◌, length, set, refl, sym, ◌∙◌, ap}
-use Rattle.std.proofs.Common.{arith, ℤ, pos, negsuc, inl, inr}
-use Rattle.std.proofs.lemmas.Bool.{cases_lt}
-use Rattle.field_core.specs.Polynomial.{coefficient, Same, IsNonZero}
+use Rattle.std.proofs.Common.{◌≡◌, ◌≢◌, ℕ, zero, suc, ◌+◌, ◌-◌, ◌<◌, ◌≤◌, List, [], ◌∷◌, ◌++◌, length, set, take, drop, length-drop, replicate, refl, sym, ◌∙◌, ap}
+use Rattle.std.proofs.Common.{arith, ℤ, pos, negsuc, inl, inr, true, false, eqb, IsTrue, ◌↔◌}
+use Rattle.std.proofs.lemmas.Bool.{cases_lt, cases_eq}
+use Rattle.std.proofs.lemmas.List.{take-append-drop, take-replicate}
+use Rattle.std.proofs.lemmas.Bool.Decides.{nat_tests}
+use Rattle.std.specs.List.{list_all}
+use Rattle.field_core.specs.Kind.{is_zero_integer}
+use Rattle.field_core.specs.Polynomial.{coefficient, lowest, Same, IsNonZero}
 use Rattle.eps_poly.specs.Factors.{order}
 use Rattle.eps_poly.specs.Written.{counted, count_to_last, degree}
 use Rattle.eps_poly.specs.Polynomials.{zero_polynomial}
-use Rattle.eps_poly.proofs.Coefficients.{coefficient-past, coefficient-set_other, coefficient-set_same, coefficient-zero}
-use Rattle.eps_poly.proofs.OrderLaws.{coefficient-order}
+use Rattle.eps_poly.proofs.Coefficients.{coefficient-past, coefficient-drop, length-zero, same_polynomials, coefficient-set_other, coefficient-set_same, coefficient-zero}
+use Rattle.eps_poly.proofs.OrderLaws.{coefficient-order, order_none, lowest_is_zero, none_but_zero, all_zero, not_all_zero}
 
 counted_none : (c : ℤ) (n : ℕ) → counted c n ≡ 0 → c ≡ pos 0
 unfolding counted
@@ -124,3 +128,47 @@ count_kept p i c l = at (count_to_last p) refl
 pub count_put : (p : List ℤ) (i : ℕ) (c : ℤ) → i < length p → c ≢ pos 0 → count_to_last p ≤ i + 1 → i + 1 ≡ count_to_last (set p i c)
 count_put p i c room some l = count_is (set p i c) i (λ none. some (sym (coefficient-set_same p i c room) ∙ none))
     (λ k h. coefficient-set_other p i k c (λ same. absurd (omega arith)) ∙ coefficient-above p k (omega arith))
+
+-- ---- the test for the zero polynomial
+
+count_from_zero : (p : List ℤ) → lowest p ≡ pos 0 → 0 ≡ count_to_last p
+count_from_zero p none = count_none p (none_but_zero p none)
+
+none_from_count : (p : List ℤ) → 0 ≡ count_to_last p → order p ≡ length p
+none_from_count p e = order_none p (λ k h. coefficient-above p k (omega arith))
+
+some_from_count : (p : List ℤ) → 0 ≢ count_to_last p → order p ≢ length p
+some_from_count p some none = some (count_from_zero p (lowest_is_zero p none))
+
+-- what the code tests
+pub zero_value : (p : List ℤ) (n : ℕ) → n ≡ count_to_last p → eqb n 0 ≡ list_all is_zero_integer p
+zero_value p n e = elim (cases_eq n 0) [
+  | inl same ↦ let test : eqb n 0 ≡ true = grind (arith, nat_tests) in test ∙ sym (all_zero p (none_from_count p (sym same ∙ e)))
+  | inr apart ↦ let test : eqb n 0 ≡ false = grind (arith, nat_tests) in test ∙ sym (not_all_zero p (some_from_count p (λ f. apart (e ∙ sym f))))
+]
+
+pub zero_test : (p : List ℤ) (n : ℕ) → n ≡ count_to_last p → IsTrue (eqb n 0) ↔ (lowest p ≡ pos 0)
+zero_test p n e =
+    let forward : IsTrue (eqb n 0) → lowest p ≡ pos 0 = λ test. let same : n ≡ 0 = grind (arith, nat_tests) in
+    lowest_is_zero p (none_from_count p (sym same ∙ e)) in
+    let back : lowest p ≡ pos 0 → IsTrue (eqb n 0) = λ none. let same : n ≡ 0 = e ∙ sym (count_from_zero p none) in grind (arith, nat_tests) in
+    (forward, back)
+
+-- the coefficients of q up to a place from which on both are 0, and the others of p
+pub front_copied : (p q : List ℤ) (n : ℕ) → length p ≡ length q → n ≤ length p → count_to_last p ≤ n → count_to_last q ≤ n
+    → take n q ++ drop n p ≡ q
+front_copied p q n long room own other =
+    ap (λ r. take n q ++ r) (same_polynomials (drop n p) (drop n q) (omega (arith, length-drop n p, length-drop n q))
+    (λ k h. coefficient-drop p n k ∙ coefficient-above p (k + n) (omega arith) ∙ sym (coefficient-drop q n k ∙ coefficient-above q (k + n) (omega arith))))
+    ∙ take-append-drop n q
+
+take_zeros : (n : ℕ) → n ≤ 33 → take n zero_polynomial ≡ replicate n (pos 0)
+unfolding zero_polynomial
+take_zeros n room = take-replicate n 33 (pos 0) room
+
+-- zeros up to a place from which on there are zeros
+pub front_cleared : (p : List ℤ) (n : ℕ) → length p ≡ 33 → n ≤ 33 → count_to_last p ≤ n → replicate n (pos 0) ++ drop n p ≡ zero_polynomial
+front_cleared p n long room own =
+    let low = count_zero in
+    ap (λ r. r ++ drop n p) (sym (take_zeros n room))
+    ∙ front_copied p zero_polynomial n (long ∙ sym length-zero) (omega arith) own (omega arith)

@@ -5,18 +5,18 @@ use Rattle.std.proofs.Common.{unsigned_abs, int_div, Bool, true, false, if◌the
 use Rattle.std.proofs.lemmas.Int.{ints, unsigned_abs-mul}
 use Rattle.std.proofs.lemmas.Bool.{cases_lt}
 use Rattle.std.proofs.Math.Nat.{mul-le-mul_left}
-use Rattle.field_core.specs.Polynomial.{coefficient, Same, poly_multiply, IsNonZero}
+use Rattle.field_core.specs.Polynomial.{coefficient, lowest, Same, poly_multiply, IsNonZero}
 use Rattle.field_core.specs.Laws.PolynomialLaws.{product_part, coefficient-multiply_part}
 use Rattle.eps_poly.specs.ExactQuotients.{quotient_front, is_product, exact_quotient}
 use Rattle.eps_poly.specs.Factors.{order}
-use Rattle.eps_poly.specs.Polynomials.{IsPolynomial, is_same}
+use Rattle.eps_poly.specs.Polynomials.{IsPolynomial, is_same, zero_polynomial}
 use Rattle.eps_poly.specs.Written.{sized_product}
-use Rattle.eps_poly.proofs.Coefficients.{same_polynomials, same_from, same_to}
-use Rattle.eps_poly.proofs.DegreeLaws.{coefficient-above_degree, degree_at_least}
+use Rattle.eps_poly.proofs.Coefficients.{coefficient-past, coefficient-zero, length-zero, same_polynomials, same_from, same_to}
+use Rattle.eps_poly.proofs.DegreeLaws.{coefficient-above_degree, degree_at_least, degree_at_most}
 use Rattle.eps_poly.proofs.IntegerQuotients.{int_div_exact, size_some}
-use Rattle.eps_poly.proofs.OrderLaws.{coefficient-below_order}
-use Rattle.eps_poly.proofs.ProductLaws.{product_is_exact, product_written}
-use Rattle.eps_poly.proofs.QuotientLaws.{part_more, part-next, product_zero, next_step, divisor_some}
+use Rattle.eps_poly.proofs.OrderLaws.{coefficient-below_order, none_but_zero}
+use Rattle.eps_poly.proofs.ProductLaws.{product_by_zero, product_is_exact, product_written, product-same}
+use Rattle.eps_poly.proofs.QuotientLaws.{part_more, part-next, product_zero, zero_product, next_step, divisor_some, quotient_known}
 use Rattle.eps_poly.proofs.SumLaws.{sized_inside}
 
 last : (l n : ℕ) → l < suc n → (l ≡ n) ⊎ (l < n)
@@ -129,6 +129,30 @@ unfolding exact_quotient
 quotient_only p by q some long h =
     let e = front_all p by q (product_is_exact q by p h) some long in
     rw (e, h, same_to p p refl) refl
+
+-- what has the dividend as its written product with the divisor has the coefficients of the quotient
+pub quotient_same : (p by q : List ℤ) → IsNonZero by → sized_product q by ≡ Some p
+    → (r : List ℤ) × (exact_quotient p by ≡ Some r) × Same r q
+quotient_same p by q some h =
+    let r = quotient_front p by 33 in
+    let long = length-front p by 33 in
+    let whole = (product_written q by p h).values.count in
+    let high = degree_at_most p 32 (λ k l. coefficient-past p k (omega arith)) in
+    let same : Same r q = quotient_known p by q r 33 h some (omega arith) (front_is p by q (product_is_exact q by p h) some 33)
+    (λ k l. coefficient-past r k (omega arith)) in
+    (r, quotient_only p by r some long (product-same r q by same ∙ h), same)
+
+-- the quotient of the zero polynomial
+pub quotient_of_zero : (p by : List ℤ) → IsNonZero by → IsPolynomial p → IsPolynomial by → lowest p ≡ pos 0 → exact_quotient p by ≡ Some zero_polynomial
+quotient_of_zero p by some v w none =
+    let long = v.count in
+    let count = w.count in
+    let low = degree_at_most zero_polynomial 0 (λ k l. coefficient-zero k) in
+    let high = degree_at_most by 32 (λ k l. coefficient-past by k (omega arith)) in
+    let same : zero_polynomial ≡ p = same_polynomials zero_polynomial p (length-zero ∙ sym long)
+    (λ k l. coefficient-zero k ∙ sym (none_but_zero p none k)) in
+    quotient_only p by zero_polynomial some length-zero
+    (product_by_zero zero_polynomial by (omega arith) (λ i j. zero_product (coefficient zero_polynomial i) (coefficient by j) (coefficient-zero i)) ∙ ap Some same)
 
 -- where no polynomial times the divisor is the dividend there is none
 pub quotient_none : (p by : List ℤ) → ((q : List ℤ) → sized_product q by ≢ Some p) → exact_quotient p by ≡ None

@@ -76,6 +76,10 @@ order_at_end p e = elim (cases_lt (order p) (length p)) [
   | inr l ↦ let low = order_within p in omega arith
 ]
 
+-- each coefficient of the zero polynomial is 0
+pub none_but_zero : (p : List ℤ) → lowest p ≡ pos 0 → (k : ℕ) → coefficient p k ≡ pos 0
+none_but_zero p none k = lowest-none p none k ∙ coefficient-past [] k (omega arith)
+
 -- ---- the test for the zero polynomial
 
 pub all_zero : (p : List ℤ) → order p ≡ length p → list_all is_zero_integer p ≡ true
@@ -99,17 +103,3 @@ low_order_none p e = rw (all_zero p e) refl
 pub low_order_some : (p : List ℤ) → order p ≢ length p → low_order p ≡ Some (order p)
 unfolding low_order
 low_order_some p apart = rw (not_all_zero p apart) refl
-
--- what the code tests
-pub zero_value : (p : List ℤ) (n : ℕ) → length p ≡ 33 → n ≡ order p → eqb n 33 ≡ list_all is_zero_integer p
-zero_value p n count e = elim (cases_eq n 33) [
-  | inl same ↦ let test : eqb n 33 ≡ true = grind (arith, nat_tests) in test ∙ sym (all_zero p (sym e ∙ same ∙ sym count))
-  | inr apart ↦ let test : eqb n 33 ≡ false = grind (arith, nat_tests) in test ∙ sym (not_all_zero p (λ f. apart (e ∙ f ∙ count)))
-]
-
-pub zero_test : (p : List ℤ) (n : ℕ) → length p ≡ 33 → n ≡ order p → IsTrue (eqb n 33) ↔ (lowest p ≡ pos 0)
-zero_test p n count e =
-    let forward : IsTrue (eqb n 33) → lowest p ≡ pos 0 = λ test. let same : n ≡ 33 = grind (arith, nat_tests) in lowest_is_zero p
-    (sym e ∙ same ∙ sym count) in
-    let back : lowest p ≡ pos 0 → IsTrue (eqb n 33) = λ none. let same : n ≡ 33 = e ∙ order_at_end p none ∙ count in grind (arith, nat_tests) in
-    (forward, back)

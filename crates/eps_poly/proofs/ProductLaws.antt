@@ -10,11 +10,11 @@ use Rattle.field_core.proofs.Sized.{sized_small}
 use Rattle.field_core.specs.Polynomial.{coefficient, Same, poly_multiply}
 use Rattle.field_core.specs.Sized.{◌>>=◌, sized}
 use Rattle.field_core.specs.Laws.PolynomialLaws.{product_part, coefficient-multiply_part}
-use Rattle.eps_poly.specs.Polynomials.{IsPolynomial}
+use Rattle.eps_poly.specs.Polynomials.{IsPolynomial, zero_polynomial}
 use Rattle.eps_poly.specs.Written.{sized_list, written_coefficient, degree, sized_product}
-use Rattle.eps_poly.proofs.Coefficients.{coefficient-past}
+use Rattle.eps_poly.proofs.Coefficients.{coefficient-past, coefficient-zero, length-zero}
 use Rattle.eps_poly.proofs.DegreeLaws.{coefficient-above_degree, degree-same}
-use Rattle.eps_poly.proofs.SizedLists.{AreValues, list_values, bind_some, ok_inside}
+use Rattle.eps_poly.proofs.SizedLists.{AreValues, list_values, list_from_all, bind_some, ok_inside}
 use Rattle.eps_poly.proofs.SumLaws.{sized_inside, values_polynomial}
 
 -- ---- written coefficients
@@ -158,6 +158,14 @@ coefficient_whole p q k n within past = elim (cases_lt k n) [
 -- nor does anything add to a coefficient past both degrees
 pub coefficient_past : (p q : List ℤ) (k : ℕ) → degree p + degree q < k → written_coefficient p q k (k + 1) ≡ Some (pos 0)
 coefficient_past p q k h = coefficient_zeros p q k 0 (k + 1) (λ i l. past_degrees p q k i h) (omega arith) ∙ coefficient_none p q k
+
+-- a product by the zero polynomial is the zero polynomial
+pub product_by_zero : (p q : List ℤ) → degree p + degree q ≤ 32 → ((i j : ℕ) → coefficient p i *ℤ coefficient q j ≡ pos 0)
+    → sized_product p q ≡ Some zero_polynomial
+product_by_zero p q small none =
+    product_from_list p q small
+    ∙ list_from_all (λ k. written_coefficient p q k (k + 1)) zero_polynomial length-zero
+    (λ k. coefficient_zeros p q k 0 (k + 1) (λ i h. none i (k - i)) (omega arith) ∙ coefficient_none p q k ∙ ap Some (sym (coefficient-zero k)))
 
 -- a written product that isn't refused is the product
 pub product_is_exact : (p q r : List ℤ) → sized_product p q ≡ Some r → Same r (poly_multiply p q)

@@ -43,7 +43,7 @@ pub part-next : (p q : List ℤ) (k n d : ℕ) → k - n ≡ d → product_part 
 unfolding product_part
 part-next p q k n d e = rw e refl
 
-zero_product : (a b : ℤ) → a ≡ pos 0 → a *ℤ b ≡ pos 0
+pub zero_product : (a b : ℤ) → a ≡ pos 0 → a *ℤ b ≡ pos 0
 zero_product a b e = rw e (zero-*ℤ b)
 
 pub product_zero : (a b : ℤ) → b ≡ pos 0 → a *ℤ b ≡ pos 0

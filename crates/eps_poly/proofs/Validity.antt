@@ -1,6 +1,7 @@
 -- Lists that are polynomials: 33 coefficients, each of at most 2^127 - 1 in size.
 use Rattle.std.proofs.Common.{◌≡◌, ℕ, suc, ◌+◌, ◌/◌, ◌<◌, ◌≤◌, ◌^◌, List, set, sym, ap, ◌∙◌, arith, lit<, ℤ, pos, negsuc}
-use Rattle.std.proofs.Common.{int_div, unsigned_abs, inl, inr}
+use Rattle.std.proofs.Common.{int_div, unsigned_abs, inl, inr, length, rules, FitsSigned}
+use Rattle.std.specs.Int.{w64}
 use Rattle.std.proofs.lemmas.Bool.{cases_eq, cases_lt}
 use Rattle.std.proofs.lemmas.List.{length-set}
 use Rattle.std.proofs.Math.Nat.{div-le_self}
@@ -9,7 +10,7 @@ use Rattle.field_core.specs.Laws.PolynomialLaws.{coefficient-negate}
 use Rattle.field_core.proofs.Wholes.{size_negated}
 use Rattle.field_core.specs.Laws.Integers.{int_multiply_one}
 use Rattle.eps_poly.proofs.IntegerQuotients.{int_div_exact}
-use Rattle.eps_poly.specs.Polynomials.{IsPolynomial, by_powers, zero_polynomial}
+use Rattle.eps_poly.specs.Polynomials.{IsPolynomial, IsShort, by_powers, zero_polynomial}
 use Rattle.eps_poly.specs.Factors.{content, core, lowered, order, turned_as}
 use Rattle.eps_poly.proofs.Coefficients.{same_polynomials, coefficient-past, coefficient-set_same, coefficient-set_other, coefficient-zero, length-zero}
 use Rattle.eps_poly.proofs.Coefficients.{length-negate, length-by_powers, coefficient-by_powers}
@@ -25,6 +26,24 @@ set_valid p i c v room small = let count = v.count in record {
     | inr apart ↦ rw (coefficient-set_other p i k c apart) (v.sizes k)
   ];
 }
+
+-- ---- coefficients that fit 64 bits
+
+pub zero_short : IsShort zero_polynomial
+zero_short = record { fits = λ k. rw (coefficient-zero k) none_fits }
+  where
+    none_fits : FitsSigned w64 (pos 0)
+    none_fits = search rules
+
+pub set_short : (p : List ℤ) (i : ℕ) (c : ℤ) → IsShort p → i < length p → FitsSigned w64 c → IsShort (set p i c)
+set_short p i c short room fits = record {
+  fits = λ k. elim (cases_eq k i) [
+    | inl e ↦ rw (e, coefficient-set_same p i c room) fits
+    | inr apart ↦ rw (coefficient-set_other p i k c apart) (short.fits k)
+  ];
+}
+
+-- ---- other forms
 
 pub negate_valid : (p : List ℤ) → IsPolynomial p → IsPolynomial (poly_negate p)
 negate_valid p v = record {

@@ -1,5 +1,6 @@
 -- Polynomials as they are held: 33 coefficients, for the powers 0 to 32 of epsilon.
-use Rattle.std.specs.Prelude.{◌≡◌, ◌<◌, ◌^◌, ℕ, ℤ, pos, unsigned_abs, Bool, List, length, map, replicate, slice_set}
+use Rattle.std.specs.Prelude.{◌≡◌, ◌<◌, ◌^◌, ℕ, ℤ, pos, unsigned_abs, Bool, FitsSigned, List, length, map, replicate, slice_set}
+use Rattle.std.specs.Int.{w64}
 use Rattle.std.specs.Cmp.Lexicographic.{pointwise}
 use Rattle.std.specs.List.{range_with_len}
 use Rattle.std.specs.Ordering.{int_eq}
@@ -9,6 +10,10 @@ use Rattle.field_core.specs.Polynomial.{coefficient}
 pub record IsPolynomial (p : List ℤ) : Type 0 where
   pub count : length p ≡ 33
   pub sizes : (k : ℕ) → unsigned_abs (coefficient p k) < 2 ^ 127
+
+-- coefficients that fit 64 bits
+pub record IsShort (p : List ℤ) : Type 0 where
+  pub fits : (k : ℕ) → FitsSigned w64 (coefficient p k)
 
 -- coefficients for the powers 0 to 32
 unfoldable pub by_powers : (ℕ → ℤ) → List ℤ

@@ -10,7 +10,10 @@ pub fn polynomials_have_one_core()
     ensures polynomial { (p : List ℤ) → IsPolynomial p → IsPolynomial (core p) }
     ensures core { (p : List ℤ) → IsPolynomial p → IsNonZero p → IsCore (core p) }
     ensures product { (p : List ℤ) → IsPolynomial p → Same p (from_factors (factor p) (order p) (core p)) }
-    ensures only_factor { (p q : List ℤ) (c : ℤ) (k : ℕ) → IsPolynomial p → IsNonZero p → IsCore q → Same p (from_factors c k q) → c ≡ factor p }
-    ensures only_power { (p q : List ℤ) (c : ℤ) (k : ℕ) → IsPolynomial p → IsNonZero p → IsCore q → Same p (from_factors c k q) → k ≡ order p }
-    ensures only_core { (p q : List ℤ) (c : ℤ) (k : ℕ) → IsPolynomial p → IsNonZero p → IsCore q → Same p (from_factors c k q) → Same q (core p) }
+    ensures only_factor { (p q : List ℤ) (c : ℤ) (k : ℕ) → IsPolynomial p → IsNonZero p → IsCore q
+        → Same p (from_factors c k q) → c ≡ factor p }
+    ensures only_power { (p q : List ℤ) (c : ℤ) (k : ℕ) → IsPolynomial p → IsNonZero p → IsCore q
+        → Same p (from_factors c k q) → k ≡ order p }
+    ensures only_core { (p q : List ℤ) (c : ℤ) (k : ℕ) → IsPolynomial p → IsNonZero p → IsCore q
+        → Same p (from_factors c k q) → Same q (core p) }
 {}

@@ -1,5 +1,6 @@
 //! Whole numbers.
-ghost use Rattle.std.specs.Prelude.{◌≡◌, ◌≢◌, ◌↔◌, ◌*ℤ◌, ◌<ℤ◌, ℤ, pos, unsigned_abs, IsTrue};
+ghost use Rattle.std.specs.Prelude.{◌≡◌, ◌≢◌, ◌↔◌, ◌*ℤ◌, ◌<ℤ◌, ℤ, pos, unsigned_abs, FitsSigned, IsTrue};
+ghost use Rattle.std.specs.Int.{w64};
 ghost use Rattle.field_core.specs.Kind.{is_zero_integer};
 
 use field_core::Whole;
@@ -18,14 +19,21 @@ pub fn is_below_zero(c: Whole) -> bool
     c.value() < 0
 }
 
-/// The absolute value.
+/// Whether it fits 64 bits.
+pub fn is_short(c: Whole) -> bool
+    ensures { IsTrue result ↔ FitsSigned w64 c }
+{
+    c.short().is_some()
+}
+
+/// Returns the absolute value.
 pub fn size(c: Whole) -> u128
     ensures { result ≡ unsigned_abs c }
 {
     c.value().unsigned_abs()
 }
 
-/// The number that times `by` is `product`, where there is one.
+/// Returns the number that times `by` is `product`, where there is one.
 pub fn divided(product: Whole, by: Whole) -> Option<Whole>
     requires { by ≢ pos 0 }
     ensures { (x : ℤ) → (result ≡ Some x) ↔ (x *ℤ by ≡ product) }

@@ -1,5 +1,25 @@
 //! Polynomials: sums, products, exact quotients and factors.
-ghost use Rattle.std.specs.Prelude.{◌≡◌, ◌≢◌, ◌↔◌, ◌≤◌, ◌<◌, ◌^◌, ◌<ℤ◌, ℤ, pos, List, slice_set, IfOk, IfSome, IfNone, IsSomeAnd, IsTrue, Some};
+ghost use Rattle.std.specs.Prelude.{
+  ◌≡◌,
+  ◌≢◌,
+  ◌↔◌,
+  ◌≤◌,
+  ◌<◌,
+  ◌^◌,
+  ◌<ℤ◌,
+  ℤ,
+  pos,
+  List,
+  slice_set,
+  FitsSigned,
+  IfOk,
+  IfSome,
+  IfNone,
+  IsSomeAnd,
+  IsTrue,
+  Some,
+};
+ghost use Rattle.std.specs.Int.{w64};
 ghost use Rattle.std.specs.List.{list_all};
 ghost use Rattle.std.specs.Option.{option_map};
 ghost use Rattle.field_core.specs.Kind.{is_zero_integer, ok_map, or_wide};
@@ -8,13 +28,13 @@ ghost use Rattle.field_core.specs.Sized.{sized};
 ghost use Rattle.field_core.specs.declared.place.Op.TheVariants.{Add, Sub, Mul};
 ghost use Rattle.eps_poly.specs.ExactQuotients.{exact_quotient};
 ghost use Rattle.eps_poly.specs.Factors.{content, core, factor, low_order, lowered, order, turned_as};
-ghost use Rattle.eps_poly.specs.Polynomials.{monomial, zero_polynomial, IsPolynomial};
+ghost use Rattle.eps_poly.specs.Polynomials.{is_same, monomial, zero_polynomial, IsPolynomial, IsShort};
 ghost use Rattle.eps_poly.specs.Written.{count_to_last, degree, sized_product, sized_sum};
 
-use crate::numbers::{is_below_zero, is_zero, size};
+use crate::numbers::{is_below_zero, is_short, is_zero, size};
 use crate::products::part_of_product;
-use crate::quotients::candidate;
-use field_core::{Op, TooWide, Whole, gcd};
+use crate::quotients::write_candidate;
+use field_core::{Op, Short, TooWide, Whole, gcd};
 use std::marker::Model;
 
 /// How many coefficients a polynomial holds: those of the powers 0 to 32.
@@ -57,7 +77,7 @@ impl PartialEq for EpsPoly {
     ghost laws = { lists_per (partial_equiv_from_equiv int_eq_equiv) };
 
     fn eq(&self, other: &EpsPoly) -> bool {
-        self.entries == other.entries
+        self.used() == other.used() && self.is_same_below(other, self.used())
     }
 }
 
@@ -69,7 +89,7 @@ impl Eq for EpsPoly {
 }
 
 impl EpsPoly {
-    /// The polynomial 0.
+    /// Returns the polynomial 0.
     pub fn zero() -> EpsPoly
         ensures { result ≡ zero_polynomial }
     {
@@ -79,7 +99,7 @@ impl EpsPoly {
         }
     }
 
-    /// The polynomial `c`, refused with `Op::Add` exactly where `c` is the least `i128`.
+    /// Returns the polynomial `c`, refused with `Op::Add` exactly where `c` is the least `i128`.
     pub fn constant(c: i128) -> Result<EpsPoly, TooWide>
         ensures { result ≡ or_wide Add (option_map (λ a. monomial a 0) (sized c)) }
     {
@@ -87,7 +107,7 @@ impl EpsPoly {
         Ok(EpsPoly::monomial(c, 0))
     }
 
-    /// The polynomial `c * epsilon^power`; `power` is at most 32.
+    /// Returns the polynomial `c * epsilon^power`; `power` is at most 32.
     pub fn monomial(c: Whole, power: usize) -> EpsPoly
         requires { power ≤ 32 }
         ensures { result ≡ monomial c power }
@@ -97,8 +117,8 @@ impl EpsPoly {
         single
     }
 
-    /// This polynomial with `c` as one coefficient, refused with `Op::Add` exactly where `c` is the least `i128`;
-    /// `power` is at most 32.
+    /// Returns this polynomial with `c` as one coefficient, refused with `Op::Add` exactly where `c` is the least
+    /// `i128`; `power` is at most 32.
     pub fn with(&self, power: usize, c: i128) -> Result<EpsPoly, TooWide>
         requires { power ≤ 32 }
         ensures { result ≡ or_wide Add (option_map (slice_set self.now power) (sized c)) }
@@ -119,18 +139,18 @@ impl EpsPoly {
         self.used = used;
     }
 
-    /// One coefficient of this polynomial where that of `power` is `c`.
+    /// Returns one coefficient of this polynomial where that of `power` is `c`.
     fn whole_with(&self, power: usize, c: Whole, at: usize) -> Whole
         requires power { power ≤ 32 }
         requires at { at ≤ 32 }
         ensures { result ≡ coefficient (slice_set self.now power c) at }
     {
-        // a look at the field tells that it is a polynomial
+        // a look at the field says that it is a polynomial
         let _ = &self.entries;
         if at == power { c } else { self.whole(at) }
     }
 
-    /// How many coefficients there are up to the last that isn't 0, where that of `power` is `c`.
+    /// Returns how many coefficients there are up to the last that isn't 0, where that of `power` is `c`.
     fn used_with(&self, power: usize, c: Whole) -> usize
         requires { power ≤ 32 }
         ensures { result ≡ count_to_last (slice_set self.now power c) }
@@ -150,7 +170,7 @@ impl EpsPoly {
         0
     }
 
-    /// How many coefficients there are up to the last that isn't 0.
+    /// Returns how many coefficients there are up to the last that isn't 0.
     fn used(&self) -> usize
         ensures value { result ≡ count_to_last self.now }
         ensures within { result ≤ 33 }
@@ -159,17 +179,25 @@ impl EpsPoly {
         self.used
     }
 
+    /// Becomes another polynomial. A coefficient that is 0 in both isn't copied.
+    pub fn copy_from(&mut self, other: &EpsPoly)
+        ensures { self.new ≡ other.now }
+    {
+        let end = self.used().max(other.used());
+        self.entries[..end].copy_from_slice(&other.entries[..end]);
+        self.used = other.used;
+    }
+
     /// Becomes the polynomial 0.
     pub fn clear(&mut self)
         ensures { self.new ≡ zero_polynomial }
     {
         let end = self.used();
-        for power in 0..end {
-            self.put(power, Whole::new(0));
-        }
+        self.entries[..end].fill(0);
+        self.used = 0;
     }
 
-    /// One coefficient; `power` is at most 32.
+    /// Returns one coefficient; `power` is at most 32.
     pub fn coefficient(&self, power: usize) -> i128
         requires { power ≤ 32 }
         ensures { result ≡ coefficient self.now power }
@@ -177,7 +205,7 @@ impl EpsPoly {
         self.whole(power).value()
     }
 
-    /// One coefficient; `power` is at most 32.
+    /// Returns one coefficient; `power` is at most 32.
     pub fn whole(&self, power: usize) -> Whole
         requires { power ≤ 32 }
         ensures { result ≡ coefficient self.now power }
@@ -185,7 +213,43 @@ impl EpsPoly {
         Whole::new(self.entries[power])
     }
 
-    /// The greatest power with a coefficient that isn't 0, and 0 where there is none.
+    /// Whether each coefficient fits 64 bits.
+    pub(crate) fn is_short(&self) -> bool
+        ensures { IsTrue result → IsShort self.now }
+    {
+        for power in 0..self.used() {
+            if !is_short(self.whole(power)) {
+                return false;
+            }
+        }
+        true
+    }
+
+    /// Returns one coefficient, which fits 64 bits; `power` is at most 32.
+    pub(crate) fn short(&self, power: usize) -> Short
+        requires power { power ≤ 32 }
+        requires fits { FitsSigned w64 (coefficient self.now power) }
+        ensures { result ≡ coefficient self.now power }
+    {
+        Short::new(self.coefficient(power) as i64)
+    }
+
+    /// Whether the coefficients below `end` are the same, where all those above are 0.
+    fn is_same_below(&self, other: &EpsPoly, end: usize) -> bool
+        requires own { end ≡ count_to_last self.now }
+        requires other { end ≡ count_to_last other.now }
+        ensures { result ≡ is_same self.now other.now }
+    {
+        let _ = (self.used(), other.used());
+        for power in 0..end {
+            if self.coefficient(power) != other.coefficient(power) {
+                return false;
+            }
+        }
+        true
+    }
+
+    /// Returns the greatest power with a coefficient that isn't 0, and 0 where there is none.
     pub fn degree(&self) -> usize
         ensures value { result ≡ degree self.now }
         ensures within { result ≤ 32 }
@@ -194,7 +258,7 @@ impl EpsPoly {
         self.used().saturating_sub(1)
     }
 
-    /// How many coefficients of 0 come first: the least power with a coefficient that isn't 0, or 33.
+    /// Returns how many coefficients of 0 come first: the least power with a coefficient that isn't 0, or 33.
     pub fn order(&self) -> usize
         ensures value { result ≡ order self.now }
         ensures within { result ≤ 33 }
@@ -209,7 +273,7 @@ impl EpsPoly {
         COUNT
     }
 
-    /// The least power with a coefficient that isn't 0, or `None` exactly for the polynomial 0.
+    /// Returns the least power with a coefficient that isn't 0, or `None` exactly for the polynomial 0.
     pub fn low_order(&self) -> Option<usize>
         ensures value { result ≡ low_order self.now }
         ensures within { IfSome result (λ k. k ≤ 32) }
@@ -223,10 +287,10 @@ impl EpsPoly {
         ensures value { result ≡ list_all is_zero_integer self.now }
         ensures zero { IsTrue result ↔ (lowest self.now ≡ pos 0) }
     {
-        self.order() == COUNT
+        self.used() == 0
     }
 
-    /// The lowest coefficient that isn't 0, or 0 for the polynomial 0.
+    /// Returns the lowest coefficient that isn't 0, or 0 for the polynomial 0.
     pub fn lowest(&self) -> Whole
         ensures { result ≡ lowest self.now }
     {
@@ -238,7 +302,7 @@ impl EpsPoly {
         }
     }
 
-    /// The greatest common divisor of the coefficients, and 0 for the polynomial 0.
+    /// Returns the greatest common divisor of the coefficients, and 0 for the polynomial 0.
     pub fn content(&self) -> u128
         ensures value { result ≡ content self.now }
         ensures size { result < 2 ^ 127 }
@@ -246,18 +310,21 @@ impl EpsPoly {
         let mut divisor = 0;
         for power in (0..self.degree() + 1).rev() {
             divisor = gcd(size(self.whole(power)), divisor);
+            if divisor == 1 {
+                return 1;
+            }
         }
         divisor
     }
 
-    /// The greatest common divisor of the coefficients, as a whole number.
+    /// Returns the greatest common divisor of the coefficients, as a whole number.
     pub fn whole_content(&self) -> Whole
         ensures { result ≡ pos (content self.now) }
     {
         Whole::new(self.content() as i128)
     }
 
-    /// The whole number `c` of `c * epsilon^k * P`, where `P` is the core; 0 for the polynomial 0.
+    /// Returns the whole number `c` of `c * epsilon^k * P`, where `P` is the core; 0 for the polynomial 0.
     pub fn factor(&self) -> Whole
         ensures { result ≡ factor self.now }
     {
@@ -269,7 +336,8 @@ impl EpsPoly {
         }
     }
 
-    /// The polynomial `P` of `c * epsilon^k * P`: its coefficients have greatest common divisor 1, and its coefficient of power 0 is above 0.
+    /// Returns the polynomial `P` of `c * epsilon^k * P`: its coefficients have greatest common divisor 1, and its
+    /// coefficient of power 0 is above 0.
     pub fn core(&self) -> EpsPoly
         requires { IsNonZero self.now }
         ensures { result ≡ core self.now }
@@ -289,13 +357,13 @@ impl EpsPoly {
         }
     }
 
-    /// The coefficients from a power on, each divided by a number above 0, without remainders; `power` is at most 32.
+    /// Returns the coefficients from a power on, each divided by a number above 0, without remainders; `power` is at most 32.
     pub fn lowered(&self, power: usize, by: Whole) -> EpsPoly
         requires power { power ≤ 32 }
         requires by { pos 0 <ℤ by }
         ensures { result ≡ lowered power by self.now }
     {
-        // a look at the field tells that it is a polynomial
+        // a look at the field says that it is a polynomial
         let _ = &self.entries;
         if power == 0 && by.value() == 1 {
             return *self;
@@ -334,7 +402,7 @@ impl EpsPoly {
         }
     }
 
-    /// The opposite.
+    /// Returns the opposite.
     pub fn negate(&self) -> EpsPoly
         ensures { result ≡ poly_negate self.now }
     {
@@ -345,7 +413,7 @@ impl EpsPoly {
         opposite
     }
 
-    /// The sum, or `TooWide` exactly where the written sum has a part past its size.
+    /// Returns the sum, or `TooWide` exactly where the written sum has a part past its size.
     pub fn add(&self, other: &EpsPoly) -> Result<EpsPoly, TooWide>
         ensures written { result ≡ or_wide Add (sized_sum self.now other.now) }
         ensures exact { IfOk result (λ r. Same r (poly_add self.now other.now)) }
@@ -353,7 +421,7 @@ impl EpsPoly {
         self.checked_add(other).ok_or(TooWide { op: Op::Add })
     }
 
-    /// The difference, or `TooWide` exactly where the written difference has a part past its size.
+    /// Returns the difference, or `TooWide` exactly where the written difference has a part past its size.
     pub fn sub(&self, other: &EpsPoly) -> Result<EpsPoly, TooWide>
         ensures written { result ≡ or_wide Sub (sized_sum self.now (poly_negate other.now)) }
         ensures exact { IfOk result (λ r. Same r (poly_add self.now (poly_negate other.now))) }
@@ -362,7 +430,7 @@ impl EpsPoly {
             .ok_or(TooWide { op: Op::Sub })
     }
 
-    /// The product, or `TooWide` exactly where the written product has a part past its size or a degree above 32.
+    /// Returns the product, or `TooWide` exactly where the written product has a part past its size or a degree above 32.
     pub fn mul(&self, other: &EpsPoly) -> Result<EpsPoly, TooWide>
         ensures written { result ≡ or_wide Mul (sized_product self.now other.now) }
         ensures exact { IfOk result (λ r. Same r (poly_multiply self.now other.now)) }
@@ -370,19 +438,19 @@ impl EpsPoly {
         self.checked_mul(other).ok_or(TooWide { op: Op::Mul })
     }
 
-    /// The sum, or nothing exactly where the written sum has a part past its size.
+    /// Returns the sum, or nothing exactly where the written sum has a part past its size.
     pub fn checked_add(&self, other: &EpsPoly) -> Option<EpsPoly>
         ensures written { result ≡ sized_sum self.now other.now }
         ensures exact { IfSome result (λ r. Same r (poly_add self.now other.now)) }
     {
-        // the numbers of their coefficients tell that they are polynomials
+        // their numbers of coefficients show that they are polynomials
         let _ = (self.used(), other.used());
         let mut sum = *self;
         sum.write_sum(other)?;
         Some(sum)
     }
 
-    /// The product, or nothing exactly where the written product has a part past its size or a degree above 32.
+    /// Returns the product, or nothing exactly where the written product has a part past its size or a degree above 32.
     pub fn checked_mul(&self, other: &EpsPoly) -> Option<EpsPoly>
         ensures written { result ≡ sized_product self.now other.now }
         ensures exact { IfSome result (λ r. Same r (poly_multiply self.now other.now)) }
@@ -400,6 +468,15 @@ impl EpsPoly {
         self.write_sum(other).ok_or(TooWide { op: Op::Add })
     }
 
+    /// Subtracts another polynomial from this one, or is `TooWide` exactly where the written difference has a part past its
+    /// size; then what was written before stays.
+    pub fn sub_assign(&mut self, other: &EpsPoly) -> Result<(), TooWide>
+        ensures { ok_map (λ _. self.new) result ≡ or_wide Sub (sized_sum self.old (poly_negate other.now)) }
+    {
+        self.write_sum(&other.negate())
+            .ok_or(TooWide { op: Op::Sub })
+    }
+
     /// Becomes the product of two polynomials, or is `TooWide` exactly where the written product has a part past its size or a
     /// degree above 32; then what was written before stays.
     pub fn put_product(&mut self, left: &EpsPoly, right: &EpsPoly) -> Result<(), TooWide>
@@ -413,7 +490,7 @@ impl EpsPoly {
     fn write_sum(&mut self, other: &EpsPoly) -> Option<()>
         ensures { option_map (λ _. self.new) result ≡ sized_sum self.old other.now }
     {
-        // the number of its coefficients tells that it is a polynomial
+        // the number of its coefficients says that it is a polynomial
         let _ = self.used();
         for power in 0..other.used() {
             let left = self.whole(power);
@@ -432,15 +509,23 @@ impl EpsPoly {
         if above + below >= COUNT {
             return None;
         }
+        if left.is_zero() || right.is_zero() {
+            self.clear();
+            return Some(());
+        }
         let end = self.used();
+        let are_short = left.is_short() && right.is_short();
         for power in 0..end.max(above + below + 1) {
             let count = power.min(above) + 1;
-            self.put(power, part_of_product(left, right, power, count)?);
+            self.put(
+                power,
+                part_of_product(left, right, power, count, are_short)?,
+            );
         }
         Some(())
     }
 
-    /// The polynomial `q` whose written product with `by` is this polynomial, or `None` exactly where there is none.
+    /// Returns the polynomial `q` whose written product with `by` is this polynomial, or `None` exactly where there is none.
     pub fn divide_exact(&self, by: &EpsPoly) -> Option<EpsPoly>
         requires { IsNonZero by.now }
         ensures value { result ≡ exact_quotient self.now by.now }
@@ -448,12 +533,26 @@ impl EpsPoly {
         ensures only { (q : List ℤ) → sized_product q by.now ≡ Some self.now → IsSomeAnd result (λ r. Same r q) }
         ensures none { IfNone result ((q : List ℤ) → sized_product q by.now ≢ Some self.now) }
     {
-        let quotient = candidate(self, by)?;
-        let product = quotient.checked_mul(by)?;
-        if product == *self {
-            Some(quotient)
-        } else {
-            None
+        let mut quotient = EpsPoly::zero();
+        let mut spare = EpsPoly::zero();
+        quotient.put_quotient(self, by, &mut spare)?;
+        Some(quotient)
+    }
+
+    /// Becomes the polynomial `q` whose written product with `by` is `p`, or is `None` exactly where there is none; then what was
+    /// written before stays. `spare` is room for that product.
+    pub fn put_quotient(&mut self, p: &EpsPoly, by: &EpsPoly, spare: &mut EpsPoly) -> Option<()>
+        requires { IsNonZero by.now }
+        ensures { option_map (λ _. self.new) result ≡ exact_quotient p.now by.now }
+    {
+        // their numbers of coefficients show that they are polynomials
+        let _ = (p.used(), by.used());
+        if p.is_zero() {
+            self.clear();
+            return Some(());
         }
+        write_candidate(p, by, self)?;
+        spare.write_product(self, by)?;
+        if *spare == *p { Some(()) } else { None }
     }
 }

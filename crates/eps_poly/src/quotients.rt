@@ -1,38 +1,51 @@
 //! Coefficients of exact quotients.
-ghost use Rattle.std.specs.Prelude.{◌≡◌, ◌≤◌, ◌<◌, ◌+◌, ℕ, ℤ, List, Some, IfSome, IsSomeAnd, length};
+ghost use Rattle.std.specs.Prelude.{◌≡◌, ◌≤◌, ◌<◌, ◌+◌, ℕ, ℤ, List, Some, IfSome, IsSomeAnd, length, true};
 ghost use Rattle.field_core.specs.Polynomial.{coefficient, Same, IsNonZero};
 ghost use Rattle.eps_poly.specs.Factors.{order};
+ghost use Rattle.eps_poly.specs.Polynomials.{IsShort};
 ghost use Rattle.eps_poly.specs.Written.{sized_product};
 
 use crate::EpsPoly;
-use crate::numbers::divided;
+use crate::numbers::{divided, is_short};
 use crate::products::part_of_product;
 use field_core::Whole;
 
-/// The next coefficient of a quotient, where those of lower powers are known.
-fn next(p: &EpsPoly, by: &EpsPoly, low: usize, known: &EpsPoly, power: usize) -> Option<Whole>
+/// Returns the next coefficient of a quotient, where those of lower powers are known.
+fn next(
+    p: &EpsPoly,
+    by: &EpsPoly,
+    low: usize,
+    known: &EpsPoly,
+    power: usize,
+    are_short: bool,
+) -> Option<Whole>
     requires low { low ≡ order by.now }
     requires nonzero { IsNonZero by.now }
+    requires known { are_short ≡ true → IsShort known.now }
+    requires by { are_short ≡ true → IsShort by.now }
     requires power { power + low ≤ 32 }
     ensures { (q : List ℤ) → sized_product q by.now ≡ Some p.now
         → ((k : ℕ) → k < power → coefficient known.now k ≡ coefficient q k) → result ≡ Some (coefficient q power) }
 {
     let at = power + low;
-    let part = part_of_product(known, by, at, power)?;
+    let part = part_of_product(known, by, at, power, are_short)?;
     let rest = p.whole(at).checked_add(part.negated())?;
     divided(rest, by.whole(low))
 }
 
-/// The only polynomial that times `by` can be `p`, or `None` where there is none.
-pub fn candidate(p: &EpsPoly, by: &EpsPoly) -> Option<EpsPoly>
+/// Writes the only polynomial that times `by` can be `p`, or is `None` where there is none.
+pub fn write_candidate(p: &EpsPoly, by: &EpsPoly, quotient: &mut EpsPoly) -> Option<()>
     requires { IsNonZero by.now }
-    ensures only { (q : List ℤ) → sized_product q by.now ≡ Some p.now → IsSomeAnd result (λ r. Same r q) }
-    ensures count { IfSome result (λ r. length r ≡ 33) }
+    ensures only { (q : List ℤ) → sized_product q by.now ≡ Some p.now → IsSomeAnd result (λ _. Same quotient.new q) }
+    ensures count { IfSome result (λ _. length quotient.new ≡ 33) }
 {
     let low = by.order();
-    let mut quotient = EpsPoly::zero();
+    quotient.clear();
+    let mut are_short = by.is_short();
     for power in 0..(p.degree() + 1).saturating_sub(by.degree()) {
-        quotient.put(power, next(p, by, low, &quotient, power)?);
+        let c = next(p, by, low, quotient, power, are_short)?;
+        are_short &= is_short(c);
+        quotient.put(power, c);
     }
-    Some(quotient)
+    Some(())
 }

@@ -13,7 +13,7 @@ use Rattle.eps_quotient.specs.Reading.{filled, polynomial_of}
 use Rattle.eps_quotient.proofs.ReadSteps.{digit_at}
 use Rattle.eps_quotient.proofs.Readings.{filled_found, filled_only, overlay_is}
 
--- ---- bytes that don't stand in numbers
+-- ---- bytes that don't are in numbers
 
 -- none of the bytes is this one
 abbrev pub IsFree : ℕ → List ℕ → Type 0
@@ -129,7 +129,7 @@ list_free text p is =
     (free_append 47 (join_with_byte 44 is.words) (93 ∷ []) (joined_free is.words is.numbers is.each)
     (free_more 47 93 [] (λ e. absurd (omega arith)) (free_none 47))))
 
--- a whole number is no list
+-- a whole number is not a list
 pub list_or_whole : (text : List ℕ) (z : ℤ) (p : List ℤ) → IsWhole text z → IsList text p → ⊥
 list_or_whole text z p w l = opened (join_with_byte 44 l.words ++ 93 ∷ []) (subst (IsFree 91) l.spelt (whole_free 91 bracket text z w))
   where

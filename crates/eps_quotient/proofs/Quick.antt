@@ -1,4 +1,4 @@
--- Written quotients that are told at once.
+-- Written quotients that are reported at once.
 use Rattle.std.proofs.Common.{◌≡◌, Bool, true, false, refl, sym, ◌∙◌, ap, ap₂, if◌then◌else◌, Option, Some}
 use Rattle.std.proofs.lemmas.Bool.{and_parts}
 use Rattle.field_core.specs.Kind.{Parts, is_zero}

@@ -1,7 +1,8 @@
 -- Sums of terms of ascending power.
 use Rattle.std.proofs.Common.{◌≡◌, ℕ, zero, suc, ◌+◌, ◌<◌, ◌≤◌, List, [], ◌∷◌, length, drop, map, refl, sym, ◌∙◌, ap, ap₂}
 use Rattle.std.proofs.Common.{arith, ℤ, pos, negsuc, ◌*ℤ◌, ◌<ℤ◌, unsigned_abs, Option, Some, None, Result, Ok, Err, lit≤, get_or, ◌*◌}
-use Rattle.std.proofs.Common.{subst}
+use Rattle.std.proofs.Common.{subst, Bool, true, false, if◌then◌else◌, inl, inr, lit<}
+use Rattle.std.proofs.lemmas.Bool.{cases_eq}
 use Rattle.std.proofs.lemmas.Int.{ints}
 use Rattle.field_core.specs.declared.place.Op.TheVariants.{Add}
 use Rattle.field_core.specs.declared.ratio.Ratio.{Ratio}
@@ -24,11 +25,14 @@ use Rattle.field_core.specs.Laws.FractionLaws.{quotient-multiply, constant_nonze
 use Rattle.field_core.specs.Laws.Effective.{positive_nonzero}
 use Rattle.field_core.specs.Laws.PolynomialLaws.{coefficient-scale, multiply_comm, multiply-shift_left, nonzero-one, nonzero-multiply, positive_in}
 use Rattle.field_core.specs.declared.place.TooWide.{TooWide}
-use Rattle.field_core.specs.Kind.{Parts, or_wide}
+use Rattle.field_core.specs.Kind.{Parts, is_zero, or_wide}
 use Rattle.field_core.specs.Polynomial.{coefficient, Same, poly_scale, poly_multiply, lowest, int_sign, IsNonZero}
 use Rattle.field_core.specs.Terms.{Terms, IsReduced}
 use Rattle.field_core.specs.View.{terms}
-use Rattle.eps_poly.specs.Polynomials.{monomial}
+use Rattle.eps_poly.specs.Polynomials.{monomial, zero_polynomial}
+use Rattle.eps_poly.proofs.Coefficients.{same_polynomials, coefficient-zero, length-zero}
+use Rattle.eps_poly.proofs.OrderLaws.{all_zero, none_but_zero, order_none}
+use Rattle.eps_quotient.specs.Laws.LowerLaws.{zeros_lowest}
 use Rattle.eps_poly.specs.Factors.{content, from_factors}
 use Rattle.eps_poly.proofs.SizedLists.{bind_some}
 use Rattle.eps_quotient.specs.Lowering.{one_polynomial, zero_quotient}
@@ -124,6 +128,51 @@ term_stored k t low r =
       no_content = ap₂ gcd (content-monomial t.num k low) (content-monomial t.den 0 (omega arith)) ∙ r.reduced;
       no_core = λ e. (monomial_core t.den 0 (omega arith) some).core_of;
     }
+
+-- ---- a term that is 0
+
+none_at : (k : ℕ) → k ≤ 32 → monomial (pos 0) k ≡ zero_polynomial
+none_at k low = same_polynomials (monomial (pos 0) k) zero_polynomial (count ∙ sym length-zero) (λ j h. each j ∙ sym (coefficient-zero j))
+  where
+    count : length (monomial (pos 0) k) ≡ 33
+    count = (monomial_held (pos 0) k low (lit< tt)).count
+
+    each : (j : ℕ) → coefficient (monomial (pos 0) k) j ≡ pos 0
+    each j = elim (cases_eq j k) [
+      | inl e ↦ rw e (monomial-at (pos 0) k low)
+      | inr apart ↦ monomial-other (pos 0) k j apart
+    ]
+
+zero_term : (k : ℕ) (t : Terms) → k ≤ 32 → IsReduced t → t.num ≡ pos 0 → term k t ≡ zero_quotient
+unfolding term
+zero_term k t low r none =
+    ap₂ (λ n d. record { numerator = n; denominator = d }) (ap (λ c. monomial c k) none ∙ none_at k low)
+    (ap (λ d. monomial d 0) (zero_den t.num t.den none r.positive r.reduced))
+
+zero_test : is_zero zero_quotient ≡ true
+unfolding is_zero
+zero_test = all_zero zero_polynomial (order_none zero_polynomial (λ k h. coefficient-zero k))
+
+zero_is : (x : Parts) → IsQuotient x → is_zero x ≡ true → x ≡ zero_quotient
+unfolding is_zero
+zero_is x s e =
+    let none = zeros_lowest x.numerator e in
+    ap₂ (λ n d. record { numerator = n; denominator = d })
+    (same_polynomials x.numerator zero_polynomial (s.above.count ∙ sym length-zero) (λ k h. none_but_zero x.numerator none k ∙ sym (coefficient-zero k)))
+    (s.zero_over_one none)
+
+either_zero : (b : Bool) (x : Parts) (r : Option Parts) → IsQuotient x → is_zero x ≡ b
+    → (if b then Some zero_quotient else (if is_zero zero_quotient then Some x else r)) ≡ Some x
+either_zero true x r s e = ap Some (sym (zero_is x s e))
+either_zero false x r s e = rw zero_test refl
+
+sum_zero : (x : Parts) → IsQuotient x → written_sum x zero_quotient ≡ Some x
+unfolding written_sum
+sum_zero x s = either_zero (is_zero x) x _ s refl
+
+-- it adds nothing
+pub sum_stays : (x : Parts) (k : ℕ) (t : Terms) → k ≤ 32 → IsQuotient x → IsReduced t → t.num ≡ pos 0 → written_sum x (term k t) ≡ Some x
+sum_stays x k t low s r none = ap (written_sum x) (zero_term k t low r none) ∙ sum_zero x s
 
 -- ---- the value of a sum
 

@@ -25,7 +25,7 @@ abbrev pub signed : Bool → ℕ → ℤ
 signed true n = neg_ℤ (pos n)
 signed false n = pos n
 
--- a number, perhaps behind a minus
+-- a number, perhaps after a minus
 pub record IsWhole (text : List ℕ) (z : ℤ) : Type 0 where
   pub negative : Bool
   pub digits : List ℕ
@@ -41,7 +41,7 @@ AreWholes [] (c ∷ cs) = ⊥
 AreWholes (word ∷ words) [] = ⊥
 AreWholes (word ∷ words) (c ∷ cs) = IsWhole word c × AreWholes words cs
 
--- 1 to 33 whole numbers in brackets, with commas between them: the coefficients of ascending power, and 0 behind them
+-- 1 to 33 whole numbers in brackets, with commas between them: the coefficients of ascending power, and 0 after them
 pub record IsList (text : List ℕ) (p : List ℤ) : Type 0 where
   pub words : List (List ℕ)
   pub numbers : List ℤ

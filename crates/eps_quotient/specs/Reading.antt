@@ -21,7 +21,7 @@ unfoldable pub number_of : List ℕ → Option ℤ
 number_of text = if (is_some_text text && list_all is_ascii_digit text)
     && nat_lt (digits_value 10 text) (2 ^ 127) then Some (pos (digits_value 10 text)) else None
 
--- the same, perhaps behind a minus
+-- the same, perhaps after a minus
 unfoldable pub whole_of : List ℕ → Option ℤ
 whole_of [] = None
 whole_of (b ∷ bs) = if b == 45 then and_then (number_of bs) (λ z. Some (neg_ℤ z)) else number_of (b ∷ bs)

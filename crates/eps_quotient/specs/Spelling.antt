@@ -15,7 +15,7 @@ list_text cs = 91 ∷ join_with_byte 44 (map signed_decimal cs) ++ 93 ∷ []
 abbrev pub polynomial_text : List ℤ → List ℕ
 polynomial_text p = list_text (take (degree p + 1) p)
 
--- a coefficient, behind a comma where it isn't the first
+-- a coefficient, after a comma where it isn't the first
 abbrev pub coefficient_text : ℕ → ℤ → List ℕ
 coefficient_text k c = if k == 0 then signed_decimal c else 44 ∷ signed_decimal c
 
@@ -26,6 +26,6 @@ quotient_text x =
     then fraction_text (coefficient x.numerator 0) (coefficient x.denominator 0)
     else polynomial_text x.numerator ++ 47 ∷ polynomial_text x.denominator
 
--- the old bytes, and others behind them
+-- the old bytes, and others after them
 abbrev pub Extends : List ℕ → List ℕ → Type 0
 Extends old new = (rest : List ℕ) × (new ≡ old ++ rest)

@@ -11,7 +11,7 @@ use crate::pair::Pair;
 use eps_poly::EpsPoly;
 use field_core::Whole;
 
-/// The greatest common divisor of all coefficients.
+/// Returns the greatest common divisor of all coefficients.
 fn common_content(a: &EpsPoly, b: &EpsPoly) -> Whole
     requires { IsNonZero b.now }
     ensures value { result ≡ pos (common_content a.now b.now) }
@@ -37,7 +37,7 @@ fn have_one_core(a: &EpsPoly, b: &EpsPoly) -> bool
     a.core() == b.core()
 }
 
-/// The quotient without common content and common powers of epsilon.
+/// Returns the quotient without common content and common powers of epsilon.
 #[tactic(auto, unfolding(crate::specs::Lowering::without_powers), using(crate::specs::Laws::Cuts::order_within))]
 fn without_powers(a: &EpsPoly, b: &EpsPoly, power: usize) -> Pair
     requires a { IsNonZero a.now }
@@ -53,7 +53,7 @@ fn without_powers(a: &EpsPoly, b: &EpsPoly, power: usize) -> Pair
     }
 }
 
-/// The same where both cores are replaced by 1.
+/// Returns the same where both cores are replaced by 1.
 #[tactic(auto, unfolding(crate::specs::Lowering::without_cores), using(crate::specs::Laws::Cuts::order_within))]
 fn without_cores(a: &EpsPoly, b: &EpsPoly, power: usize) -> Pair
     requires a { IsNonZero a.now }
@@ -69,7 +69,7 @@ fn without_cores(a: &EpsPoly, b: &EpsPoly, power: usize) -> Pair
     }
 }
 
-/// The quotient without common content, common powers of epsilon and equal cores; 0/1 where the numerator is 0.
+/// Returns the quotient without common content, common powers of epsilon and equal cores; 0/1 where the numerator is 0.
 #[tactic(auto, unfolding(crate::specs::Lowering::lower))]
 pub fn lower(a: &EpsPoly, b: &EpsPoly) -> Pair
     requires { IsNonZero b.now }
@@ -86,7 +86,7 @@ pub fn lower(a: &EpsPoly, b: &EpsPoly) -> Pair
     }
 }
 
-/// The same quotient, with a denominator whose lowest coefficient is positive.
+/// Returns the same quotient, with a denominator whose lowest coefficient is positive.
 #[tactic(auto, unfolding(crate::specs::Lowering::turned))]
 fn turned(x: Pair) -> Pair
     ensures { pair_parts result ≡ turned (pair_parts x) }
@@ -100,7 +100,7 @@ fn turned(x: Pair) -> Pair
     x
 }
 
-/// The stored quotient of two polynomials.
+/// Returns the stored quotient of two polynomials.
 #[tactic(auto, unfolding(crate::specs::Lowering::norm))]
 pub fn norm(a: &EpsPoly, b: &EpsPoly) -> Pair
     requires { IsNonZero b.now }

@@ -21,7 +21,7 @@ impl Pair {
     ghost use Rattle.eps_quotient.specs.Quotients.{is_one, opposite};
     ghost use Rattle.eps_quotient.specs.View.{pair_parts};
 
-    /// A numerator over a denominator that isn't 0.
+    /// Returns a numerator over a denominator that isn't 0.
     pub fn new(numerator: EpsPoly, denominator: EpsPoly) -> Pair
         requires { IsNonZero denominator }
         ensures { pair_parts result ≡ record { numerator = numerator; denominator = denominator } }
@@ -32,7 +32,7 @@ impl Pair {
         }
     }
 
-    /// 0/1.
+    /// Returns 0/1.
     pub fn zero() -> Pair
         ensures { pair_parts result ≡ zero_quotient }
     {
@@ -42,7 +42,7 @@ impl Pair {
         }
     }
 
-    /// 1/1.
+    /// Returns 1/1.
     pub fn one() -> Pair
         ensures { pair_parts result ≡ one_quotient }
     {
@@ -76,7 +76,7 @@ impl Pair {
         self.numerator.lowest().value().cmp(&0)
     }
 
-    /// The opposite.
+    /// Returns the opposite.
     pub fn opposite(&self) -> Pair
         ensures { pair_parts result ≡ opposite (pair_parts self.now) }
     {
@@ -91,7 +91,7 @@ ghost use Rattle.std.specs.Prelude.{◌≡◌};
 ghost use Rattle.eps_poly.specs.Polynomials.{is_same};
 ghost use Rattle.eps_quotient.specs.Lowering.{one_polynomial};
 
-/// The polynomial 1.
+/// Returns the polynomial 1.
 pub fn one() -> EpsPoly
     ensures { result ≡ one_polynomial }
 {

@@ -9,7 +9,7 @@ use crate::pair::Pair;
 use eps_poly::EpsPoly;
 use field_core::{List, NoMemory};
 
-/// Appends a coefficient, behind a comma where it isn't that of power 0.
+/// Appends a coefficient, after a comma where it isn't that of power 0.
 fn put_coefficient(text: &mut List<u8>, p: &EpsPoly, power: usize) -> Result<(), NoMemory>
     requires { power ≤ 32 }
     ensures put { OnOk result (text.new ≡ text.old ++ coefficient_text power (coefficient p.now power)) }
@@ -41,7 +41,7 @@ fn is_fraction(x: &Pair) -> bool
     x.numerator.degree() == 0 && x.denominator.degree() == 0
 }
 
-/// Appends the text of a quotient, or a beginning of it where memory runs out.
+/// Appends the text of a quotient, or a beginning of it when out of memory.
 #[tactic(auto, unfolding(crate::specs::Spelling::quotient_text))]
 fn begin_quotient(text: &mut List<u8>, x: &Pair) -> Result<(), NoMemory>
     ensures put { OnOk result (text.new ≡ text.old ++ quotient_text (pair_parts x.now)) }
@@ -55,7 +55,7 @@ fn begin_quotient(text: &mut List<u8>, x: &Pair) -> Result<(), NoMemory>
     put_polynomial(text, &x.denominator)
 }
 
-/// Appends the text of a quotient. Where memory runs out, the list stays as it was.
+/// Appends the text of a quotient. When out of memory, the list stays as it was.
 pub fn put_quotient(text: &mut List<u8>, x: &Pair) -> Result<(), NoMemory>
     ensures put { OnOk result (text.new ≡ text.old ++ quotient_text (pair_parts x.now)) }
     ensures unchanged { OnErr result (text.new ≡ text.old) }

@@ -1,4 +1,7 @@
 //! Quotients in epsilon, as they are stored.
+ghost use Rattle.std.specs.Prelude.{◌≡◌};
+ghost use Rattle.field_core.specs.Kind.{is_zero_integer};
+ghost use Rattle.field_core.specs.View.{terms};
 ghost use Rattle.eps_quotient.specs.Stored.{IsQuotient};
 
 use crate::lower::norm;
@@ -18,8 +21,29 @@ pub struct EpsQuotient {
     ghost stored: { IsQuotient (record { numerator = pair.numerator; denominator = pair.denominator }) },
 }
 
+/// Whether a fraction is 0.
+fn is_zero(part: &Ratio) -> bool
+    ensures { result ≡ is_zero_integer (terms part.now).num }
+{
+    part.num() == 0
+}
+
 impl EpsQuotient {
-    ghost use Rattle.std.specs.Prelude.{◌≡◌, ◌≤◌, ◌↔◌, ◌++◌, List as Seq, ℤ, IfSome, IsSomeAnd, IfOk, OnOk, OnErr, map, pos};
+    ghost use Rattle.std.specs.Prelude.{
+      ◌≡◌,
+      ◌≤◌,
+      ◌↔◌,
+      ◌++◌,
+      List as Seq,
+      ℤ,
+      IfSome,
+      IsSomeAnd,
+      IfOk,
+      OnOk,
+      OnErr,
+      map,
+      pos,
+    };
     ghost use Rattle.std.specs.Option.{option_map};
     ghost use Rattle.field_core.specs.declared.place.Op.TheVariants.{Add};
     ghost use Rattle.field_core.specs.Kind.{ok_map, or_wide};
@@ -34,7 +58,7 @@ impl EpsQuotient {
     ghost use Rattle.eps_quotient.specs.Stored.{IsQuotient};
     ghost use Rattle.eps_quotient.specs.View.{number_of, pair_parts, quotient_parts};
 
-    /// The quotient num/den as the norm of the two polynomials stores it, or `None` exactly where `den` is 0.
+    /// Returns the quotient num/den as the norm of the two polynomials stores it, or `None` exactly where `den` is 0.
     pub fn new(num: &EpsPoly, den: &EpsPoly) -> Option<EpsQuotient>
         ensures norm { IfSome result (λ x. quotient_parts x ≡ norm num.now den.now) }
         ensures value { IfSome result (λ x. number_of x ≡ quotient_of num.now den.now) }
@@ -48,22 +72,22 @@ impl EpsQuotient {
         })
     }
 
-    /// The numerator.
+    /// Returns the numerator.
     pub fn numerator(&self) -> EpsPoly
         ensures { result ≡ (quotient_parts self.now).numerator }
     {
         self.pair.numerator
     }
 
-    /// The denominator.
+    /// Returns the denominator.
     pub fn denominator(&self) -> EpsPoly
         ensures { result ≡ (quotient_parts self.now).denominator }
     {
         self.pair.denominator
     }
 
-    /// Appends the text: that of the fraction where both polynomials are constants, else `[c0,c1,..]/[d0,d1,..]`, the coefficients
-    /// of both up to the last that isn't 0. Where memory runs out, `out` stays as it was.
+    /// Appends the text: that of the fraction where both polynomials are constants, else `[c0,c1,..]/[d0,d1,..]`, the
+    /// coefficients of both up to the last that isn't 0. When out of memory, `out` stays as it was.
     pub fn print(&self, out: &mut List<u8>) -> Result<(), NoMemory>
         ensures printed { OnOk result (out.new ≡ out.old ++ quotient_text (quotient_parts self.now)) }
         ensures unchanged { OnErr result (out.new ≡ out.old) }
@@ -81,8 +105,8 @@ impl EpsQuotient {
         EpsQuotient::new(&num, &den)
     }
 
-    /// The quotient whose value is the polynomial with these coefficients of ascending power: the written sum of its terms,
-    /// or `TooWide` with `Op::Add` exactly where that sum has a part past its size.
+    /// Returns the quotient whose value is the polynomial with these coefficients of ascending power: the written sum
+    /// of its terms, or `TooWide` with `Op::Add` exactly where that sum has a part past its size.
     pub fn from_parts(parts: &[Ratio; 5]) -> Result<EpsQuotient, TooWide>
         ensures written { ok_map quotient_parts result ≡ or_wide Add (written_polynomial (map terms parts.now)) }
         ensures value { IfOk result (λ x. number_of x ≡ polynomial_value (map terms parts.now)) }
@@ -90,19 +114,23 @@ impl EpsQuotient {
     {
         let mut sum = EpsQuotient::zero();
         for power in 0..5 {
-            sum = sum.add(&EpsQuotient::term(&parts[power], power))?;
+            let part = &parts[power];
+            if is_zero(part) {
+                continue;
+            }
+            sum = sum.add(&EpsQuotient::term(part, power))?;
         }
         Ok(sum)
     }
 
-    /// A fraction as a quotient: its parts as constant polynomials, with nothing written.
+    /// Returns a fraction as a quotient: its parts as constant polynomials, with nothing written.
     pub fn of(value: Ratio) -> EpsQuotient
         ensures { quotient_parts result ≡ term 0 (terms value) }
     {
         EpsQuotient::term(&value, 0)
     }
 
-    /// A fraction times a power of epsilon.
+    /// Returns a fraction times a power of epsilon.
     fn term(part: &Ratio, power: usize) -> EpsQuotient
         requires { power ≤ 32 }
         ensures { quotient_parts result ≡ term power (terms part.now) }
@@ -114,7 +142,7 @@ impl EpsQuotient {
         }
     }
 
-    /// What an operation answers whose written parts may be refused.
+    /// Returns what an operation answers whose written parts may be refused.
     fn answer(op: Op, pair: Option<Pair>) -> Result<EpsQuotient, TooWide>
         requires { IfSome pair (λ x. IsQuotient (pair_parts x)) }
         ensures { ok_map quotient_parts result ≡ or_wide op (option_map pair_parts pair) }

@@ -1,5 +1,21 @@
 //! Reading the texts of quotients.
-ghost use Rattle.std.specs.Prelude.{◌≡◌, ◌≢◌, ◌==◌, ◌-◌, ◌^◌, ◌∷◌, ◌++◌, ℕ, List, [], min, true, false, IfSome, IfNone};
+ghost use Rattle.std.specs.Prelude.{
+  ◌≡◌,
+  ◌≢◌,
+  ◌==◌,
+  ◌-◌,
+  ◌^◌,
+  ◌∷◌,
+  ◌++◌,
+  ℕ,
+  List,
+  [],
+  min,
+  true,
+  false,
+  IfSome,
+  IfNone,
+};
 ghost use Rattle.std.specs.Char.{is_ascii_digit};
 ghost use Rattle.std.specs.List.{All, list_all};
 ghost use Rattle.std.specs.Str.Parse.{digits_value};
@@ -20,7 +36,7 @@ fn are_digits(text: &[u8]) -> bool
     text.iter().all(|byte| byte.is_ascii_digit())
 }
 
-/// The number that digits write, or the greatest that there is where it is greater.
+/// Returns the number that digits write, or the greatest that there is where it is greater.
 fn size(digits: &[u8]) -> u128
     requires { list_all is_ascii_digit digits.now ≡ true }
     ensures { result ≡ min (digits_value 10 digits.now) (2 ^ 128 - 1) }
@@ -34,7 +50,7 @@ fn size(digits: &[u8]) -> u128
     size
 }
 
-/// The number that digits write, where it is at most 2^127 - 1.
+/// Returns the number that digits write, where it is at most 2^127 - 1.
 #[tactic(auto, unfolding(crate::specs::Reading::number_of))]
 fn number(text: &[u8]) -> Option<Whole>
     ensures { result ≡ number_of text.now }
@@ -49,7 +65,7 @@ fn number(text: &[u8]) -> Option<Whole>
     Some(Whole::new(size as i128))
 }
 
-/// The number that digits write, perhaps behind a minus.
+/// Returns the number that digits write, perhaps after a minus.
 #[tactic(auto, unfolding(crate::specs::Reading::whole_of))]
 fn whole(text: &[u8]) -> Option<Whole>
     ensures { result ≡ whole_of text.now }
@@ -61,7 +77,7 @@ fn whole(text: &[u8]) -> Option<Whole>
     }
 }
 
-/// What stands before the first such byte, and behind it.
+/// Returns what stands before the first such byte, and after it.
 fn cut(text: &[u8], byte: u8) -> Option<(&[u8], &[u8])>
     ensures none { IfNone result (All (λ b. (b == byte) ≡ false) text.now) }
     ensures whole { IfSome result (λ x. text.now ≡ x.0.now ++ byte ∷ x.1.now) }
@@ -74,7 +90,7 @@ fn cut(text: &[u8], byte: u8) -> Option<(&[u8], &[u8])>
     Some((&text[..front], &text[front + 1..]))
 }
 
-/// What stands inside the brackets.
+/// Returns what stands inside the brackets.
 fn inside(text: &[u8]) -> Option<&[u8]>
     ensures found { IfSome result (λ inner. text.now ≡ 91 ∷ inner.now ++ 93 ∷ []) }
     ensures none { IfNone result ((inner : List ℕ) → text.now ≢ 91 ∷ inner ++ 93 ∷ []) }
@@ -85,7 +101,7 @@ fn inside(text: &[u8]) -> Option<&[u8]>
     }
 }
 
-/// The polynomial whose coefficients are written with commas between them.
+/// Returns the polynomial whose coefficients are written with commas between them.
 fn polynomial(text: &[u8]) -> Option<EpsPoly>
     ensures { result ≡ polynomial_of text.now }
 {
@@ -102,14 +118,14 @@ fn polynomial(text: &[u8]) -> Option<EpsPoly>
     None
 }
 
-/// The polynomial whose coefficients stand in brackets.
+/// Returns the polynomial whose coefficients are in brackets.
 fn list(text: &[u8]) -> Option<EpsPoly>
     ensures { IsOnly (IsList text.now) (result) }
 {
     polynomial(inside(text)?)
 }
 
-/// A whole number over a number.
+/// Returns a whole number over a number.
 fn fraction(over: &[u8], under: &[u8]) -> Option<(EpsPoly, EpsPoly)>
     ensures { IsOnlyPair (IsFraction over.now under.now) result }
 {
@@ -118,7 +134,7 @@ fn fraction(over: &[u8], under: &[u8]) -> Option<(EpsPoly, EpsPoly)>
     Some((EpsPoly::monomial(num, 0), EpsPoly::monomial(den, 0)))
 }
 
-/// A list over a list.
+/// Returns a list over a list.
 fn lists(over: &[u8], under: &[u8]) -> Option<(EpsPoly, EpsPoly)>
     ensures { IsOnlyPair (IsLists over.now under.now) result }
 {
@@ -127,7 +143,7 @@ fn lists(over: &[u8], under: &[u8]) -> Option<(EpsPoly, EpsPoly)>
     Some((numerator, denominator))
 }
 
-/// What stands on both sides of a slash.
+/// Returns what depends on both sides of a slash.
 fn sides(over: &[u8], under: &[u8]) -> Option<(EpsPoly, EpsPoly)>
     ensures { IsOnlyPair (AreSides over.now under.now) result }
 {
@@ -137,7 +153,7 @@ fn sides(over: &[u8], under: &[u8]) -> Option<(EpsPoly, EpsPoly)>
     }
 }
 
-/// A whole number over 1.
+/// Returns a whole number over 1.
 fn over_one(text: &[u8]) -> Option<(EpsPoly, EpsPoly)>
     ensures { IsOnlyPair (IsWholeText text.now) result }
 {
@@ -145,7 +161,7 @@ fn over_one(text: &[u8]) -> Option<(EpsPoly, EpsPoly)>
     Some((EpsPoly::monomial(number, 0), one()))
 }
 
-/// The two polynomials of a text.
+/// Returns the two polynomials of a text.
 pub fn polynomials(text: &[u8]) -> Option<(EpsPoly, EpsPoly)>
     ensures { IsOnlyPair (IsPolynomials text.now) result }
 {

@@ -10,7 +10,7 @@ use crate::lower::{lower, norm};
 use crate::pair::Pair;
 use eps_poly::EpsPoly;
 
-/// The inverse.
+/// Returns the inverse.
 #[tactic(auto, unfolding(crate::specs::Quotients::inverse, field_core::specs::Kind::is_zero))]
 fn inverse(x: &Pair) -> Pair
     requires { is_zero (pair_parts x.now) ≡ false }
@@ -19,7 +19,7 @@ fn inverse(x: &Pair) -> Pair
     norm(&x.denominator, &x.numerator)
 }
 
-/// The product of a/b and c/e, as ac over eb.
+/// Returns the product of a/b and c/e, as ac over eb.
 #[tactic(auto, unfolding(crate::specs::Quotients::product_of))]
 fn product_of(x: &Pair, y: &Pair) -> Option<Pair>
     ensures { option_map pair_parts result ≡ product_of (pair_parts x.now) (pair_parts y.now) }
@@ -29,7 +29,7 @@ fn product_of(x: &Pair, y: &Pair) -> Option<Pair>
     Some(norm(&numerator, &denominator))
 }
 
-/// The written product.
+/// Returns the written product.
 #[tactic(auto, unfolding(crate::specs::Quotients::written_product))]
 pub fn product(x: &Pair, y: &Pair) -> Option<Pair>
     ensures { option_map pair_parts result ≡ written_product (pair_parts x.now) (pair_parts y.now) }
@@ -48,7 +48,7 @@ pub fn product(x: &Pair, y: &Pair) -> Option<Pair>
     }
 }
 
-/// The written quotient. What is 0 stays 0, and nothing is written by 1/1.
+/// Returns the written quotient. What is 0 stays 0, and nothing is written by 1/1.
 pub fn quotient(x: &Pair, y: &Pair) -> Option<Pair>
     requires { is_zero (pair_parts y.now) ≡ false }
     ensures { option_map pair_parts result ≡ written_product (pair_parts x.now) (inverse (pair_parts y.now)) }
@@ -62,7 +62,7 @@ pub fn quotient(x: &Pair, y: &Pair) -> Option<Pair>
     }
 }
 
-/// The written sum of n/d and m/d.
+/// Returns the written sum of n/d and m/d.
 #[tactic(auto, unfolding(crate::specs::Quotients::sum_over))]
 fn sum_over(n: &EpsPoly, m: &EpsPoly, d: &EpsPoly) -> Option<Pair>
     requires { IsNonZero d.now }
@@ -71,7 +71,7 @@ fn sum_over(n: &EpsPoly, m: &EpsPoly, d: &EpsPoly) -> Option<Pair>
     Some(norm(&n.checked_add(m)?, d))
 }
 
-/// The written sum over other denominators, whose quotient is e, lowered.
+/// Returns the written sum over other denominators, whose quotient is e, lowered.
 #[tactic(auto, unfolding(crate::specs::Quotients::sum_of))]
 fn sum_of(x: &Pair, y: &Pair, e: &Pair) -> Option<Pair>
     ensures { option_map pair_parts result ≡ sum_of (pair_parts x.now) (pair_parts y.now) (pair_parts e.now) }
@@ -82,7 +82,7 @@ fn sum_of(x: &Pair, y: &Pair, e: &Pair) -> Option<Pair>
     sum_over(&u, &v, &d)
 }
 
-/// The written sum.
+/// Returns the written sum.
 #[tactic(auto, unfolding(crate::specs::Quotients::written_sum))]
 pub fn sum(x: &Pair, y: &Pair) -> Option<Pair>
     ensures { option_map pair_parts result ≡ written_sum (pair_parts x.now) (pair_parts y.now) }

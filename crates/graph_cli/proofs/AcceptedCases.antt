@@ -21,8 +21,8 @@ use Rattle.case_json.specs.Reading.{SaysDraft, HasFirstFault}
 use Rattle.case_json.specs.Document.{IsDraft}
 use Rattle.case_json.specs.Faults.{IsFirstFault}
 use Rattle.case_json.specs.declared.fault.JsonFault.{JsonFault}
-use Rattle.case_json.proofs.DocumentRules.{document_rule}
-use Rattle.case_json.proofs.SingleRules.{same_some}
+use Rattle.case_json.proofs.OneReading as document_rule
+use Rattle.case_json.proofs.OneReading.{same_some}
 use Rattle.serde_json.specs.Data.{Data}
 use Rattle.serde_json.specs.Read.{read}
 use Rattle.refusals.specs.CaseRefusal.{case_refusal}

@@ -7,16 +7,16 @@ use Rattle.graph_io.specs.declared.keeper.Look.{Look}
 use Rattle.graph_io.specs.declared.keeper.KeeperFault.{KeeperFault}
 use Rattle.graph_io.specs.declared.keeper.KeeperFault.TheVariants.{Fault, NoMemory}
 
--- looks were put behind the old ones: all that are kept, where the keeper tells them
+-- looks were put after the old ones: all that are kept, if the keeper exposes them
 abbrev pub Loads : Option (List Look) → List Look → List Look → Type 0
 Loads looks old new = (more : List Look) × (new ≡ old ++ more) × IfSome looks (λ kept. kept ≡ more)
 
--- one look more, where the keeper tells its looks
+-- one look more, if the keeper exposes its looks
 abbrev pub with_look : Option (List Look) → Look → Option (List Look)
 with_look None look = None
 with_look (Some looks) look = Some (looks ++ look ∷ [])
 
--- the count rose at a fault, and stayed at want of memory
+-- the count rose at a fault, and stayed at out of memory
 abbrev pub CausedBy : ℕ → ℕ → KeeperFault → Type 0
 CausedBy before now Fault = Rose before now
 CausedBy before now NoMemory = now ≡ before

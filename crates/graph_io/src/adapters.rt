@@ -10,7 +10,7 @@ use crate::faults::FaultCount;
 use crate::{Failed, Sink, Source};
 use std::io::{Read, Write};
 
-/// A reader as a source. It tells what the reader tells, keeps no bytes, and counts the errors.
+/// A reader as a source. It exposes what the reader exposes, keeps no bytes, and counts the errors.
 #[derive(Drop)]
 pub struct StdSource<R> {
     inner: R,
@@ -19,7 +19,7 @@ pub struct StdSource<R> {
 }
 
 impl<R> StdSource<R> {
-    /// A source of what this reader gives.
+    /// Returns a source of what this reader gives.
     pub fn new(inner: R) -> StdSource<R>
         ensures inner { reader_of result ≡ inner }
         ensures faults { read_faults result ≡ 0 }
@@ -57,8 +57,8 @@ impl<R: Read> Source for StdSource<R> {
     }
 }
 
-/// A writer as a sink. It tells what the writer tells, keeps no bytes, and counts the errors; that
-/// the writer takes nothing of a piece that isn't empty counts as one. An empty piece is no fault.
+/// A writer as a sink. It exposes what the writer exposes, keeps no bytes, and counts the errors; that the writer takes
+/// nothing of a piece that isn't empty counts as one. An empty piece is not a fault.
 #[derive(Drop)]
 pub struct StdSink<W> {
     inner: W,
@@ -67,7 +67,7 @@ pub struct StdSink<W> {
 }
 
 impl<W> StdSink<W> {
-    /// A sink that hands all to this writer.
+    /// Returns a sink that hands all to this writer.
     pub fn new(inner: W) -> StdSink<W>
         ensures inner { writer_of result ≡ inner }
         ensures faults { write_faults result ≡ 0 }

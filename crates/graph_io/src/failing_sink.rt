@@ -1,5 +1,19 @@
 //! A sink in memory that fails by plan.
-ghost use Rattle.std.specs.Prelude.{◌≡◌, ◌+◌, ◌⊎◌, ◌<◌, ◌≤◌, ◌↔◌, [], min, length, IfOk, IsErr, Some, Contains};
+ghost use Rattle.std.specs.Prelude.{
+  ◌≡◌,
+  ◌+◌,
+  ◌⊎◌,
+  ◌<◌,
+  ◌≤◌,
+  ◌↔◌,
+  [],
+  min,
+  length,
+  IfOk,
+  IsErr,
+  Some,
+  Contains,
+};
 
 use crate::calls::CallCount;
 use crate::faults::FaultCount;
@@ -12,8 +26,8 @@ use std::alloc::Global;
 /// The room of a failing sink, in bytes.
 const ROOM: usize = 65_536;
 
-/// A sink in memory with room for 65,536 bytes, for tests. It tells what it holds, takes at most
-/// `cap` bytes a put, and fails at the puts of given numbers, and where some bytes are put and no room is left.
+/// A sink in memory with room for 65,536 bytes, for tests. It exposes what it holds, takes at most `cap` bytes a put,
+/// and fails at the puts of given numbers, and where some bytes are put and no room is left.
 #[derive(Drop)]
 pub struct FailingSink {
     room: Room,
@@ -27,8 +41,8 @@ pub struct FailingSink {
 impl FailingSink {
     ghost use Rattle.graph_io.specs.FailingSink.{held_bytes, room_left, most_a_put, fails_at, puts_made, fault_count, call_count};
 
-    /// An empty sink that takes at most `cap` bytes a put, at least 1, and fails at the puts whose numbers, from 1, stand
-    /// in `fails`; or `NoMemory`.
+    /// Returns an empty sink that takes at most `cap` bytes a put, at least 1, and fails at the puts whose numbers,
+    /// from 1, are in `fails`; or `NoMemory`.
     pub fn new(alloc: Global, cap: usize, fails: List<u64>) -> Result<FailingSink, NoMemory>
         requires { 1 ≤ cap }
         ensures empty { IfOk result (λ sink. held_bytes sink ≡ []) }
@@ -48,7 +62,7 @@ impl FailingSink {
         })
     }
 
-    /// What the sink holds.
+    /// Returns what the sink holds.
     pub fn held(&self) -> &[u8]
         ensures { result.now ≡ held_bytes self.now }
     {
@@ -89,8 +103,7 @@ impl Sink for FailingSink {
         ensures cause { HasCause (fault_count self.old) (fault_count self.new) result }
         ensures turn { call_count self.new ≡ call_count self.old + 1 }
 
-        // The puts whose numbers stand in the list fail, those of some bytes with no room left fail,
-        // and no others.
+        // The puts whose numbers are in the list fail, those of some bytes with no room left fail, and no others.
         ensures fails { IsErr result
             ↔ (Contains (fails_at self.old) (call_number (puts_made self.old))
             ⊎ ((room_left self.old ≡ 0) × (0 < length bytes.now))) }

@@ -1,5 +1,19 @@
 //! A source in memory that fails by plan.
-ghost use Rattle.std.specs.Prelude.{◌≡◌, ◌+◌, ◌<◌, ◌≤◌, ◌↔◌, min, length, drop, IfOk, OnErr, IsErr, Some, Contains};
+ghost use Rattle.std.specs.Prelude.{
+  ◌≡◌,
+  ◌+◌,
+  ◌<◌,
+  ◌≤◌,
+  ◌↔◌,
+  min,
+  length,
+  drop,
+  IfOk,
+  OnErr,
+  IsErr,
+  Some,
+  Contains,
+};
 
 use crate::calls::CallCount;
 use crate::faults::FaultCount;
@@ -8,8 +22,8 @@ use crate::remaining::Remaining;
 use crate::{Failed, Source};
 use field_core::List;
 
-/// A source of bytes in memory, for tests. It tells its bytes, moves at most `cap` bytes a take, and
-/// fails at the takes of given numbers.
+/// A source of bytes in memory, for tests. It exposes its bytes, moves at most `cap` bytes a take, and fails at the
+/// takes of given numbers.
 #[derive(Drop)]
 pub struct FailingSource {
     rest: Remaining,
@@ -23,8 +37,8 @@ pub struct FailingSource {
 impl FailingSource {
     ghost use Rattle.graph_io.specs.FailingSource.{bytes_left, most_a_take, fails_at, takes_made, fault_count, call_count};
 
-    /// A source of these bytes that moves at most `cap` of them a take, at least 1, and fails at the takes whose numbers,
-    /// from 1, stand in `fails`.
+    /// Returns a source of these bytes that moves at most `cap` of them a take, at least 1, and fails at the takes
+    /// whose numbers, from 1, are in `fails`.
     pub fn new(bytes: List<u8>, cap: usize, fails: List<u64>) -> FailingSource
         requires { 1 ≤ cap }
         ensures bytes { bytes_left result ≡ bytes }
@@ -74,7 +88,7 @@ impl Source for FailingSource {
         ensures cause { HasCause (fault_count self.old) (fault_count self.new) result }
         ensures turn { call_count self.new ≡ call_count self.old + 1 }
 
-        // The takes whose numbers stand in the list fail, and no others.
+        // The takes whose numbers are in the list fail, and no others.
         ensures fails { IsErr result
             ↔ Contains (fails_at self.old) (call_number (takes_made self.old)) }
         ensures takes { takes_made self.new ≡ call_number (takes_made self.old) }

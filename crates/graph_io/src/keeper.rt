@@ -6,8 +6,8 @@ ghost use Rattle.graph_io.specs.Keeping.{Loads, with_look, IsCaused};
 use field_core::{List, NoMemory, Ratio};
 use std::alloc::Global;
 
-/// A p-value that came at a stage: of a hypothesis, by its position from 0, at a stage, from 1. Any numbers may be kept; whether
-/// a study takes them is told by the study.
+/// A p-value that came at a stage: of a hypothesis, by its position from 0, at a stage, from 1. Any numbers may be
+/// kept; whether a study takes them is given by the study.
 #[derive(Clone, Copy, PartialEq, Eq, Debug)]
 pub struct Look {
     pub hypothesis: u32,
@@ -20,7 +20,7 @@ pub struct Look {
 pub enum KeeperFault {
     /// A failure that was counted.
     Fault,
-    /// Memory ran out.
+    /// Out of memory.
     NoMemory,
 }
 
@@ -34,7 +34,7 @@ impl From<NoMemory> for KeeperFault {
     }
 }
 
-/// Keeps looks in their order. It may tell them in contracts, and it counts its failures; the count never falls.
+/// Keeps looks in their order. It may expose them to contracts, and it counts its failures; the count never falls.
 pub trait Keeper {
     ghost use Rattle.graph_io.specs.declared.keeper.Look.{Look};
 
@@ -44,16 +44,16 @@ pub trait Keeper {
     /// How often a call failed.
     ghost faults: { Self → ℕ };
 
-    /// Appends all looks in their order to `into`. It is `Fault` only where the count rose, and then, as where memory runs out,
-    /// `into` stays as it was. The looks stay in each case.
+    /// Appends all looks in their order to `into`. It is `Fault` only where the count rose, and then, as when out of
+    /// memory, `into` stays as it was. The looks stay in each case.
     fn load(&mut self, alloc: Global, into: &mut List<Look>) -> Result<(), KeeperFault>
         ensures loaded { OnOk result (Loads (looks self.old) into.old into.new) }
         ensures unchanged { OnErr result (into.new ≡ into.old) }
         ensures kept { looks self.new ≡ looks self.old }
         ensures cause { IsCaused (faults self.old) (faults self.new) result };
 
-    /// Puts a look behind the others. It is `Fault` only where the count rose, and then, as where memory runs out, the looks
-    /// stay as they were.
+    /// Puts a look after the others. It is `Fault` only where the count rose, and then, as when out of memory, the
+    /// looks stay as they were.
     fn append(&mut self, alloc: Global, look: &Look) -> Result<(), KeeperFault>
         ensures appended { OnOk result (looks self.new ≡ with_look (looks self.old) look.now) }
         ensures kept { OnErr result (looks self.new ≡ looks self.old) }

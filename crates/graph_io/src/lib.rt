@@ -6,7 +6,7 @@
 //!   fail. `MemoryKeeper` and `FailingKeeper`, which keep looks in memory, and fail by plan.
 //!
 //! Only tested: that the adapters `StdSource` and `StdSink` pass on the bytes of standard input and output. They are
-//! proved against the traits, which say how bytes and faults are told, and nothing of the devices behind.
+//! proved against the traits, which say how bytes and faults are reported, and nothing of the devices after.
 #![tactic(auto)]
 
 mod adapters;

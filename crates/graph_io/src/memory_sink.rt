@@ -8,8 +8,8 @@ use crate::{Failed, Sink};
 use field_core::NoMemory;
 use std::alloc::Global;
 
-/// A sink with a fixed room in memory. It tells what it holds, takes what fits, and fails only where
-/// it has no room left.
+/// A sink with a fixed room in memory. It exposes what it holds, takes what fits, and fails only where it has no room
+/// left.
 #[derive(Drop)]
 pub struct MemorySink {
     room: Room,
@@ -20,7 +20,7 @@ pub struct MemorySink {
 impl MemorySink {
     ghost use Rattle.graph_io.specs.MemorySink.{held_bytes, room_left, fault_count, call_count};
 
-    /// An empty sink with room for so many bytes, or `NoMemory`.
+    /// Returns an empty sink with room for this number of bytes, or `NoMemory`.
     pub fn with_room(alloc: Global, bytes: usize) -> Result<MemorySink, NoMemory>
         ensures empty { IfOk result (λ sink. held_bytes sink ≡ []) }
         ensures room { IfOk result (λ sink. room_left sink ≡ bytes) }
@@ -34,7 +34,7 @@ impl MemorySink {
         })
     }
 
-    /// What the sink holds.
+    /// Returns what the sink holds.
     pub fn held(&self) -> &[u8]
         ensures { result.now ≡ held_bytes self.now }
     {

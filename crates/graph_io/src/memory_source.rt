@@ -7,7 +7,7 @@ use crate::remaining::Remaining;
 use crate::{Failed, Source};
 use field_core::List;
 
-/// A source of bytes in memory. It tells its bytes and never fails.
+/// A source of bytes in memory. It exposes its bytes and never fails.
 #[derive(Drop)]
 pub struct MemorySource {
     rest: Remaining,
@@ -17,7 +17,7 @@ pub struct MemorySource {
 impl MemorySource {
     ghost use Rattle.graph_io.specs.MemorySource.{bytes_left, call_count};
 
-    /// A source of these bytes.
+    /// Returns a source of these bytes.
     pub fn new(bytes: List<u8>) -> MemorySource
         ensures bytes { bytes_left result ≡ bytes }
         ensures calls { call_count result ≡ 0 }

@@ -17,7 +17,7 @@ pub enum ReadEnd {
     Fault,
     /// There are more bytes than allowed; the number is that of the first byte past the limit, counted from 1.
     TooLong(u64),
-    /// Memory ran out.
+    /// Out of memory.
     NoMemory,
 }
 

@@ -1,5 +1,20 @@
 //! A fixed room for bytes.
-ghost use Rattle.std.specs.Prelude.{◌≡◌, ◌<◌, ◌≤◌, ◌↔◌, ◌++◌, [], min, length, take, IfOk, MatchResult, IsErr, vec_len, vec_capacity};
+ghost use Rattle.std.specs.Prelude.{
+  ◌≡◌,
+  ◌<◌,
+  ◌≤◌,
+  ◌↔◌,
+  ◌++◌,
+  [],
+  min,
+  length,
+  take,
+  IfOk,
+  MatchResult,
+  IsErr,
+  vec_len,
+  vec_capacity,
+};
 
 use crate::Failed;
 use field_core::NoMemory;
@@ -17,7 +32,7 @@ pub(crate) struct Room {
 impl Room {
     ghost use Rattle.graph_io.specs.Room.{held_in, free_in, TakesRoom};
 
-    /// An empty room for so many bytes.
+    /// Returns an empty room for this number of bytes.
     pub(crate) fn new(alloc: Global, size: usize) -> Result<Room, NoMemory>
         ensures empty { IfOk result (λ room. held_in room ≡ []) }
         ensures free { IfOk result (λ room. free_in room ≡ size) }

@@ -7,8 +7,8 @@ use crate::{Failed, Sink};
 use field_core::List;
 use std::alloc::Global;
 
-/// A sink in memory that holds a whole text. A put takes the whole piece. It fails only when out of memory, and then
-/// appends nothing.
+/// A sink in memory that holds a whole text. A put takes the whole piece. It fails only when out of memory, and then appends
+/// nothing.
 #[derive(Drop)]
 pub struct WholeText {
     text: List<u8>,

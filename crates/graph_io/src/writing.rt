@@ -32,7 +32,7 @@ pub trait Sink {
     ghost counted: { (s : Self) → faults s < 2 ^ 64 };
 }
 
-/// Puts all bytes into a sink, behind what it holds. After a failure a prefix of them stands there, and the count of
+/// Puts all bytes into a sink, after what it holds. After a failure a prefix of them stands there, and the count of
 /// faults rose; else the count stays. At most one put a byte is made, and one more.
 pub fn write_all<W: Sink>(sink: &mut W, bytes: &[u8]) -> Result<(), Failed>
     ensures bytes { PutAll (W.held sink.old) (W.held sink.new) bytes.now result }

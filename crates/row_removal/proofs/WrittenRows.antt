@@ -9,8 +9,8 @@ use Rattle.row_removal.specs.RowRemoval.{new_weight, new_scale, new_denominator,
 use Rattle.row_removal.specs.Proper.{AreProperRows}
 use Rattle.row_removal.specs.Laws.RowPasses.{raw_weights, raw_row}
 
--- a row that is proper for so many numerators is proper for its own
-own_count : (m : ℕ) (r : StoredRow) → IsProperRow m r → IsProperRow (length r.numerators) r
+-- a row that is proper for a number of numerators is proper for its own
+pub own_count : (m : ℕ) (r : StoredRow) → IsProperRow m r → IsProperRow (length r.numerators) r
 own_count m r P = subst (λ n. IsProperRow n r) (sym P.count) P
 
 module _ (s : StoredRows) (j : ℕ) (P : AreProperRows s) (j_in : j < rows_size s) where

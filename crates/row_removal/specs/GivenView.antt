@@ -5,11 +5,11 @@ use Rattle.eps_quotient.specs.View.{quotient_parts}
 use Rattle.eps_quotient.specs.declared.quotient.EpsQuotient.{EpsQuotient}
 use Rattle.row_removal.specs.Gathering.{HasConstants}
 
--- all hypotheses live, with these weights and edges
+-- all hypotheses remaining, with these weights and edges
 abbrev pub graph_given : List EpsQuotient → List EpsQuotient → StoredGraph
 graph_given ws es = all_live (map quotient_parts ws) (map quotient_parts es)
 
--- so many weights, a row of edges for each, and all over constants
+-- this number of weights, a row of edges for each, and all over constants
 pub record AreGiven (weights edges : List EpsQuotient) : Type 0 where
   pub square : IsSquare (length weights) (length weights) (length edges)
   pub constants : HasConstants (graph_given weights edges)

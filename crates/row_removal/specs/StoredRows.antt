@@ -6,19 +6,19 @@ use Rattle.removal.specs.StoredGraph.{StoredGraph}
 use Rattle.eps_quotient.specs.Lowering.{norm, one_polynomial}
 use Rattle.row_removal.specs.StoredRow.{StoredRow, zero_row}
 
--- The hypotheses that are still in are marked live; `last` is the denominator that the row of the last removed hypothesis had when it was
--- removed, and 1 before the first removal.
+-- The hypotheses that are still in are marked as remaining; `last` is the denominator that the row of the last removed hypothesis had
+-- when it was removed, and 1 before the first removal.
 pub record StoredRows : Type 0 where
   pub live : List Bool
   pub weights : StoredRow
   pub edges : List StoredRow
   pub last : List ℤ
 
--- so many hypotheses, all live, with no weights and no edges
+-- this number of hypotheses, all remaining, with no weights and no edges
 unfoldable pub zero_rows : ℕ → StoredRows
 zero_rows m = record { live = replicate m true; weights = zero_row m; edges = replicate m (zero_row m); last = one_polynomial }
 
--- the number of hypotheses, live or not
+-- the number of hypotheses, removed or not
 abbrev pub rows_size : StoredRows → ℕ
 rows_size s = length s.live
 

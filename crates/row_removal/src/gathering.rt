@@ -4,7 +4,15 @@ ghost use Rattle.field_core.specs.Kind.{ok_map};
 ghost use Rattle.field_core.specs.Steps.{each_below};
 ghost use Rattle.removal.specs.StoredGraph.{size};
 ghost use Rattle.eps_quotient.specs.View.{quotient_parts};
-ghost use Rattle.row_removal.specs.Gathering.{common_below, gathered_numerator, gathered_row, given, given_below, place_of, with_denominator};
+ghost use Rattle.row_removal.specs.Gathering.{
+  common_below,
+  gathered_numerator,
+  gathered_row,
+  given,
+  given_below,
+  place_of,
+  with_denominator,
+};
 ghost use Rattle.row_removal.specs.GivenView.{AreGiven, graph_given};
 
 use crate::row::Row;
@@ -13,7 +21,7 @@ use eps_quotient::EpsQuotient;
 use field_core::{Number, Op, Place, Whole, Wide, try_fill};
 use std::marker::Model;
 
-/// The place of a number of a row: of the weights, or of the edges from a hypothesis.
+/// Returns the place of a number of a row: of the weights, or of the edges from a hypothesis.
 fn place(row: Option<usize>, k: usize) -> Place
     ensures { result ≡ place_of row k }
 {
@@ -51,14 +59,14 @@ impl GivenGraph<'_> {
         GivenGraph { weights, edges }
     }
 
-    /// The number of hypotheses.
+    /// Returns the number of hypotheses.
     pub fn size(&self) -> usize
         ensures { result ≡ size self.now }
     {
         self.weights.len()
     }
 
-    /// A number of a row: of the weights, or of the edges from a hypothesis.
+    /// Returns a number of a row: of the weights, or of the edges from a hypothesis.
     #[tactic(auto, using(crate::proofs::Given::size_given, crate::proofs::Given::weight_given, crate::proofs::Given::edge_given, crate::proofs::Given::loop_given))]
     fn number(&self, row: Option<usize>, k: usize) -> EpsQuotient
         requires row { IfSome row (λ l. l < size self.now) }
@@ -76,7 +84,7 @@ impl GivenGraph<'_> {
         }
     }
 
-    /// The constant below a number of a row.
+    /// Returns the constant below a number of a row.
     fn below(&self, row: Option<usize>, k: usize) -> Whole
         requires row { IfSome row (λ l. l < size self.now) }
         requires k { k < size self.now }
@@ -87,7 +95,7 @@ impl GivenGraph<'_> {
         self.number(row, k).denominator().whole(0)
     }
 
-    /// The common denominator with that of one number more.
+    /// Returns the common denominator with that of one number more.
     #[tactic(auto, unfolding(crate::specs::Gathering::with_denominator))]
     fn with_denominator(&self, row: Option<usize>, k: usize, c: Whole) -> Result<Whole, Wide>
         requires row { IfSome row (λ l. l < size self.now) }
@@ -107,7 +115,7 @@ impl GivenGraph<'_> {
         })
     }
 
-    /// The common denominator of a row.
+    /// Returns the common denominator of a row.
     fn common_denominator(&self, row: Option<usize>) -> Result<Whole, Wide>
         requires { IfSome row (λ l. l < size self.now) }
         ensures { result ≡ common_below self.now row (size self.now) }
@@ -119,7 +127,7 @@ impl GivenGraph<'_> {
         Ok(c)
     }
 
-    /// The numerator of a number over the common denominator.
+    /// Returns the numerator of a number over the common denominator.
     #[tactic(auto, unfolding(crate::specs::Gathering::gathered_numerator))]
     fn numerator(&self, row: Option<usize>, c: Whole, k: usize) -> Result<EpsPoly, Wide>
         requires row { IfSome row (λ l. l < size self.now) }

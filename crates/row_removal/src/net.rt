@@ -48,7 +48,7 @@ impl RowNet {
     /// weight and a row of edges for each, they are a valid graph, and every denominator is a constant. The edges stand row by
     /// row; what stands for an edge from a hypothesis to itself isn't read.
     ///
-    /// The rows are gathered: unless memory runs out, it is `RowOpen::Wide` exactly where the gathering is undefined.
+    /// The rows are gathered: or nothing when out of memory, it is `RowOpen::Wide` exactly where the gathering is undefined.
     pub fn try_new(
         alloc: Global,
         weights: &[EpsQuotient],
@@ -58,7 +58,8 @@ impl RowNet {
         requires constants { HasConstants (graph_given weights.now edges.now) }
         requires sound { IsSound quotients (graph_given weights.now edges.now) }
         ensures rows { RowsOpen present_rows result (gathered (graph_given weights.now edges.now)) }
-        ensures value { IfOk result (λ n. graph_of quotients (rows_graph (present_rows n)) ≡ graph_of quotients (graph_given weights.now edges.now)) }
+        ensures value { IfOk result (λ n. graph_of quotients (rows_graph (present_rows n)) ≡ graph_of quotients
+            (graph_given weights.now edges.now)) }
         ensures live { IfOk result (λ n. AreAllLive (rows_graph (present_rows n))) }
         ensures prepared { IfOk result (λ n. prepared_rows n ≡ None) }
     {

@@ -2,9 +2,19 @@
 ghost use Rattle.std.specs.Prelude.{◌≡◌, ◌<◌, length, All};
 ghost use Rattle.field_core.specs.Kind.{ok_map};
 ghost use Rattle.field_core.specs.Steps.{each_below};
+ghost use Rattle.eps_poly.specs.Factors.{core};
 ghost use Rattle.row_removal.specs.Proper.{AreProperRows};
 ghost use Rattle.row_removal.specs.StoredRows.{rows_size};
-ghost use Rattle.row_removal.specs.RowRemoval.{difference_of_products, new_denominator, new_numerator, new_row, new_scale, new_weight, new_weights, sum_of_products};
+ghost use Rattle.row_removal.specs.RowRemoval.{
+  difference_of_products,
+  new_denominator,
+  new_numerator,
+  new_row,
+  new_scale,
+  new_weight,
+  new_weights,
+  sum_of_products,
+};
 
 use crate::graph::RowGraph;
 use crate::row::Row;
@@ -29,20 +39,22 @@ fn write_sum_of_products(
     next.add_assign(spare).map_err(|wide| wide.at(place))
 }
 
-/// `x e - y z`, at one place.
+/// Writes `x e - y z`, at one place. `spare` is room for a product.
 #[tactic(auto, unfolding(crate::specs::RowRemoval::difference_of_products))]
-fn difference_of_products(
+fn write_difference_of_products(
     place: Place,
     x: &EpsPoly,
     e: &EpsPoly,
     y: &EpsPoly,
     z: &EpsPoly,
-) -> Result<EpsPoly, Wide>
-    ensures { result ≡ difference_of_products place x.now e.now y.now z.now }
+    next: &mut EpsPoly,
+    spare: &mut EpsPoly,
+) -> Result<(), Wide>
+    ensures { ok_map (λ _. next.new) result ≡ difference_of_products place x.now e.now y.now z.now }
 {
-    let left = x.mul(e).map_err(|wide| wide.at(place))?;
-    let right = y.mul(z).map_err(|wide| wide.at(place))?;
-    left.sub(&right).map_err(|wide| wide.at(place))
+    next.put_product(x, e).map_err(|wide| wide.at(place))?;
+    spare.put_product(y, z).map_err(|wide| wide.at(place))?;
+    next.sub_assign(spare).map_err(|wide| wide.at(place))
 }
 
 /// Writes the numerator of the weight of `l` after the removal of `j`. `spare` is room for a product.
@@ -74,32 +86,40 @@ fn write_weight(
     )
 }
 
-/// The denominator of the weights after the removal of `j`.
+/// Writes the denominator of the weights after the removal of `j`.
 #[tactic(auto, unfolding(crate::specs::RowRemoval::new_scale))]
-fn new_scale(graph: &RowGraph, j: usize) -> Result<EpsPoly, Wide>
+fn write_scale(graph: &RowGraph, j: usize, next: &mut EpsPoly) -> Result<(), Wide>
     requires proper { AreProperRows graph.now }
     requires j { j < rows_size graph.now }
-    ensures { result ≡ new_scale graph.now j }
+    ensures { ok_map (λ _. next.new) result ≡ new_scale graph.now j }
 {
     let place = Place::Weight(j);
-    let scale = graph.weight_denominator().mul(graph.denominator(j));
-    scale.map_err(|wide| wide.at(place))
+    next.put_product(graph.weight_denominator(), graph.denominator(j))
+        .map_err(|wide| wide.at(place))
 }
 
-/// The denominator of the row of `l` after the removal of `j`, or 0.
+/// Writes the denominator of the row of `l` after the removal of `j`, or 0. `spare` is room for a product.
 #[tactic(auto, unfolding(crate::specs::RowRemoval::new_denominator))]
-fn new_denominator(graph: &RowGraph, j: usize, l: usize) -> Result<EpsPoly, Wide>
+fn write_denominator(
+    graph: &RowGraph,
+    j: usize,
+    l: usize,
+    next: &mut EpsPoly,
+    spare: &mut EpsPoly,
+) -> Result<(), Wide>
     requires proper { AreProperRows graph.now }
     requires j { j < rows_size graph.now }
     requires l { l < rows_size graph.now }
-    ensures { result ≡ new_denominator graph.now j l }
+    ensures { ok_map (λ _. next.new) result ≡ new_denominator graph.now j l }
 {
-    difference_of_products(
+    write_difference_of_products(
         Place::Loss(l),
         graph.denominator(l),
         graph.denominator(j),
         graph.numerator(l, j),
         graph.numerator(j, l),
+        next,
+        spare,
     )
 }
 
@@ -174,16 +194,19 @@ fn write_numerators(
     Ok(())
 }
 
-/// Writes the row of weights after the removal of `j`. `spare` is room for products and quotients.
-#[tactic(auto, unfolding(crate::specs::RowRemoval::new_weights))]
+/// Writes the row of weights after the removal of `j`, where `divisor` is the core of the last denominator. `spare` is room for
+/// products and quotients.
+#[tactic(auto, unfolding(crate::specs::RowRemoval::new_weights, crate::specs::Clearing::cleared))]
 pub fn write_weights(
     graph: &RowGraph,
     j: usize,
+    divisor: &EpsPoly,
     next: &mut Row,
     spare: &mut Row,
 ) -> Result<(), Wide>
     requires proper { AreProperRows graph.now }
     requires j { j < rows_size graph.now }
+    requires divisor { divisor.now ≡ core graph.now.last }
     requires room { length next.old.numerators ≡ rows_size graph.now }
     requires spare { length spare.old.numerators ≡ rows_size graph.now }
     ensures value { ok_map (λ _. next.new) result ≡ new_weights graph.now j }
@@ -191,23 +214,26 @@ pub fn write_weights(
     ensures spare { length spare.new.numerators ≡ rows_size graph.now }
 {
     write_weight_numerators(graph, j, &mut next.numerators, &mut spare.denominator)?;
-    next.denominator = new_scale(graph, j)?;
-    next.clear(graph.last(), spare);
+    write_scale(graph, j, &mut next.denominator)?;
+    next.clear(divisor, spare);
     Ok(())
 }
 
-/// Writes the row of edges from `l` after the removal of `j`. `spare` is room for products and quotients.
-#[tactic(auto, unfolding(crate::specs::RowRemoval::new_row, crate::specs::RowRemoval::row_over))]
+/// Writes the row of edges from `l` after the removal of `j`, where `divisor` is the core of the last denominator. `spare` is room
+/// for products and quotients.
+#[tactic(auto, unfolding(crate::specs::RowRemoval::new_row, crate::specs::RowRemoval::row_over, crate::specs::Clearing::cleared))]
 fn write_row(
     graph: &RowGraph,
     j: usize,
     l: usize,
+    divisor: &EpsPoly,
     next: &mut Row,
     spare: &mut Row,
 ) -> Result<(), Wide>
     requires proper { AreProperRows graph.now }
     requires j { j < rows_size graph.now }
     requires l { l < rows_size graph.now }
+    requires divisor { divisor.now ≡ core graph.now.last }
     requires room { length next.old.numerators ≡ rows_size graph.now }
     requires spare { length spare.old.numerators ≡ rows_size graph.now }
     ensures value { ok_map (λ _. next.new) result ≡ new_row graph.now j l }
@@ -218,22 +244,29 @@ fn write_row(
         next.put_zeros();
         return Ok(());
     }
-    let denominator = new_denominator(graph, j, l)?;
-    if denominator.is_zero() {
+    write_denominator(graph, j, l, &mut next.denominator, &mut spare.denominator)?;
+    if next.denominator.is_zero() {
         next.put_zeros();
         return Ok(());
     }
     write_numerators(graph, j, l, &mut next.numerators, &mut spare.denominator)?;
-    next.denominator = denominator;
-    next.clear(graph.last(), spare);
+    next.clear(divisor, spare);
     Ok(())
 }
 
-/// Writes all rows of edges after the removal of `j`. `spare` is room for products and quotients.
+/// Writes all rows of edges after the removal of `j`, where `divisor` is the core of the last denominator. `spare` is room for
+/// products and quotients.
 #[tactic(auto, using(field_core::proofs::Fills::filled_to))]
-pub fn write_rows(graph: &RowGraph, j: usize, next: &mut [Row], spare: &mut Row) -> Result<(), Wide>
+pub fn write_rows(
+    graph: &RowGraph,
+    j: usize,
+    divisor: &EpsPoly,
+    next: &mut [Row],
+    spare: &mut Row,
+) -> Result<(), Wide>
     requires proper { AreProperRows graph.now }
     requires j { j < rows_size graph.now }
+    requires divisor { divisor.now ≡ core graph.now.last }
     requires count { length next.old ≡ rows_size graph.now }
     requires room { All (λ r. length r.numerators ≡ rows_size graph.now) next.old }
     requires spare { length spare.old.numerators ≡ rows_size graph.now }
@@ -242,7 +275,7 @@ pub fn write_rows(graph: &RowGraph, j: usize, next: &mut [Row], spare: &mut Row)
     ensures spare { length spare.new.numerators ≡ rows_size graph.now }
 {
     for l in 0..graph.size() {
-        write_row(graph, j, l, &mut next[l], spare)?;
+        write_row(graph, j, l, divisor, &mut next[l], spare)?;
     }
     Ok(())
 }

@@ -1,15 +1,17 @@
 //! Numerators over one denominator.
-ghost use Rattle.std.specs.Prelude.{◌≡◌, ◌<◌, ◌≤◌, ◌^◌, ◌<ℤ◌, IfOk, Some, None, if◌then◌else◌, length, map, pos, replicate};
-ghost use Rattle.std.specs.Option.{ok_or};
+ghost use Rattle.std.specs.Prelude.{◌≡◌, ◌<◌, ◌≤◌, ◌^◌, ◌<ℤ◌, IfOk, length, map, pos, replicate};
+ghost use Rattle.std.specs.Option.{option_map};
+ghost use Rattle.field_core.specs.Divisor.{gcd};
 ghost use Rattle.field_core.specs.Polynomial.{IsNonZero};
 ghost use Rattle.eps_poly.specs.ExactQuotients.{exact_quotient};
-ghost use Rattle.eps_poly.specs.Polynomials.{IsPolynomial, zero_polynomial};
+ghost use Rattle.eps_poly.specs.Polynomials.{zero_polynomial};
+ghost use Rattle.eps_quotient.specs.Lowering.{one_polynomial};
 ghost use Rattle.row_removal.specs.StoredRow.{IsProperRow, numerator_at, zero_row};
-ghost use Rattle.eps_poly.specs.Factors.{lowered};
-ghost use Rattle.row_removal.specs.Clearing.{cleared, divided_row, lowered_row, map_all, row_content, row_order};
+ghost use Rattle.eps_poly.specs.Factors.{content, lowered};
+ghost use Rattle.row_removal.specs.Clearing.{divided_row, lowered_row, map_all, quotient_row, row_content, row_order};
 
 use eps_poly::EpsPoly;
-use field_core::{NoMemory, Whole, gcd, try_fill};
+use field_core::{NoMemory, Whole, gcd};
 use std::alloc::Global;
 use std::marker::Model;
 
@@ -33,6 +35,52 @@ fn clear_all(numerators: &mut [EpsPoly])
     }
 }
 
+/// Makes it 1.
+#[tactic(auto, unfolding(eps_poly::specs::Polynomials::monomial))]
+fn put_one(p: &mut EpsPoly)
+    ensures { p.new ≡ one_polynomial }
+{
+    p.clear();
+    p.put(0, Whole::new(1));
+}
+
+/// Takes other polynomials, the same number of them.
+fn copy_all(numerators: &mut [EpsPoly], other: &[EpsPoly])
+    requires { length numerators.old ≡ length other.now }
+    ensures { numerators.new ≡ other.now }
+{
+    for k in 0..numerators.len() {
+        numerators[k].copy_from(&other[k]);
+    }
+}
+
+/// Writes the exact quotients of polynomials, or is `None` exactly where one has none. `room` is for a product.
+fn write_quotients(
+    numerators: &[EpsPoly],
+    by: &EpsPoly,
+    quotients: &mut [EpsPoly],
+    room: &mut EpsPoly,
+) -> Option<()>
+    requires some { IsNonZero by.now }
+    requires count { length quotients.old ≡ length numerators.now }
+    ensures { option_map (λ _. quotients.new) result ≡ map_all (λ p. exact_quotient p by.now) numerators.now }
+{
+    for k in 0..quotients.len() {
+        quotients[k].put_quotient(&numerators[k], by, room)?;
+    }
+    Some(())
+}
+
+/// Returns the greatest common divisor with the content of a polynomial. That isn't computed where the divisor is 1.
+fn common_content(divisor: u128, p: &EpsPoly) -> u128
+    ensures { result ≡ gcd divisor (content p.now) }
+{
+    if divisor == 1 {
+        return 1;
+    }
+    gcd(divisor, p.content())
+}
+
 /// Numerators over one denominator.
 #[derive(Drop)]
 pub struct Row {
@@ -50,7 +98,7 @@ impl Model for Row {
 
 #[tactic(auto, unfolding(crate::specs::StoredRow::zero_row))]
 impl Row {
-    /// So many zeros over 1.
+    /// Returns zeros over 1, of this length.
     pub fn zeros(alloc: Global, count: usize) -> Result<Row, NoMemory>
         ensures { IfOk result (λ r. r ≡ zero_row count) }
     {
@@ -65,8 +113,8 @@ impl Row {
         requires { length self.old.numerators ≡ length other.now.numerators }
         ensures { self.new ≡ other.now }
     {
-        self.numerators.copy_from_slice(&other.numerators);
-        self.denominator = other.denominator;
+        copy_all(&mut self.numerators, &other.numerators);
+        self.denominator.copy_from(&other.denominator);
     }
 
     /// Becomes zeros over 1.
@@ -75,13 +123,13 @@ impl Row {
         ensures room { length self.new.numerators ≡ length self.old.numerators }
     {
         clear_all(&mut self.numerators);
-        self.denominator = EpsPoly::monomial(Whole::new(1), 0);
+        put_one(&mut self.denominator);
     }
 }
 
 #[tactic(auto, unfolding(crate::specs::StoredRow::numerator_at))]
 impl Row {
-    /// The numerator at a place.
+    /// Returns the numerator at a place.
     pub fn numerator(&self, k: usize) -> &EpsPoly
         requires { k < length self.now.numerators }
         ensures { result.now ≡ numerator_at self.now k }
@@ -89,7 +137,7 @@ impl Row {
         &self.numerators[k]
     }
 
-    /// The denominator.
+    /// Returns the denominator.
     pub fn denominator(&self) -> &EpsPoly
         ensures { result.now ≡ self.now.denominator }
     {
@@ -98,26 +146,23 @@ impl Row {
 }
 
 impl Row {
-    /// The exact quotient of a numerator, if there is one.
-    fn quotient(&self, k: usize, by: &EpsPoly) -> Result<EpsPoly, ()>
-        requires k { k < length self.now.numerators }
+    /// Writes the row of the exact quotients by `by`, or is `None` exactly where one polynomial has none.
+    #[tactic(auto, using(std::proofs::lemmas::List::with_items_is), unfolding(crate::specs::Clearing::quotient_row))]
+    fn write_quotient_row(&self, by: &EpsPoly, next: &mut Row) -> Option<()>
         requires some { IsNonZero by.now }
-        ensures { result ≡ ok_or (exact_quotient (numerator_at self.now k) by.now) tt }
+        requires room { length next.old.numerators ≡ length self.now.numerators }
+        ensures value { option_map (λ _. next.new) result ≡ quotient_row by.now self.now }
+        ensures room { length next.new.numerators ≡ length self.now.numerators }
     {
-        self.numerator(k).divide_exact(by).ok_or(())
-    }
-
-    /// Fills places with the exact quotients of all numerators, and says whether each has one.
-    fn put_quotients(&self, by: &EpsPoly, places: &mut [EpsPoly]) -> bool
-        requires some { IsNonZero by.now }
-        requires room { length places.old ≡ length self.now.numerators }
-        ensures { (if result then Some places.new else None) ≡ map_all (λ p. exact_quotient p by.now) self.now.numerators }
-    {
-        try_fill(places, |k| self.quotient(k, by)).is_ok()
+        let mut room = EpsPoly::zero();
+        next.denominator
+            .put_quotient(&self.denominator, by, &mut room)?;
+        write_quotients(&self.numerators, by, &mut next.numerators, &mut room)?;
+        Some(())
     }
 
     /// Becomes the row of the exact quotients by `by`, where each polynomial has one; else it stays. `spare` is room for them.
-    #[tactic(auto, using(std::proofs::lemmas::List::with_items_is), unfolding(crate::specs::Clearing::divided_row, crate::specs::Clearing::quotient_row))]
+    #[tactic(auto, using(std::proofs::lemmas::List::with_items_is), unfolding(crate::specs::Clearing::divided_row))]
     fn divide(&mut self, by: &EpsPoly, spare: &mut Row)
         requires some { IsNonZero by.now }
         requires proper { IsProperRow (length self.old.numerators) self.old }
@@ -128,16 +173,13 @@ impl Row {
         if *by == EpsPoly::monomial(Whole::new(1), 0) {
             return;
         }
-        let Some(denominator) = self.denominator.divide_exact(by) else {
-            return;
-        };
-        if self.put_quotients(by, &mut spare.numerators) {
+        if self.write_quotient_row(by, spare).is_some() {
             std::mem::swap(&mut self.numerators, &mut spare.numerators);
-            self.denominator = denominator;
+            self.denominator.copy_from(&spare.denominator);
         }
     }
 
-    /// The greatest common divisor of the contents of all polynomials.
+    /// Returns the greatest common divisor of the contents of all polynomials.
     #[tactic(auto, unfolding(crate::specs::Clearing::row_content))]
     fn content(&self) -> u128
         requires { IsNonZero self.now.denominator }
@@ -146,10 +188,12 @@ impl Row {
         ensures size { result < 2 ^ 127 }
     {
         let own = self.denominator.content();
-        self.numerators.iter().fold(own, |c, p| gcd(c, p.content()))
+        self.numerators
+            .iter()
+            .fold(own, |c, p| common_content(c, p))
     }
 
-    /// The least power of epsilon among the polynomials that aren't 0.
+    /// Returns the least power of epsilon among the polynomials that aren't 0.
     #[tactic(auto, unfolding(crate::specs::Clearing::row_order))]
     fn order(&self) -> usize
         requires { IsNonZero self.now.denominator }
@@ -163,28 +207,30 @@ impl Row {
     /// Divides all polynomials by their common content and their common power of epsilon.
     #[tactic(auto, unfolding(crate::specs::Clearing::lowered_row))]
     fn lower(&mut self)
-        requires { IsNonZero self.old.denominator }
+        requires { IsProperRow (length self.old.numerators) self.old }
         ensures { self.new ≡ lowered_row self.old }
     {
         let power = self.order();
-        let content = Whole::new(self.content() as i128);
+        let content = self.content();
+        if power == 0 && content == 1 {
+            return;
+        }
+        let content = Whole::new(content as i128);
         lower_all(power, content, &mut self.numerators);
         self.denominator.lower(power, content);
     }
 
-    /// Clears the row: if each polynomial has an exact quotient by the core of `last`, it becomes that, and then all are divided
-    /// by their common content and their common power of epsilon. `spare` is room for the quotients.
-    #[tactic(auto, unfolding(crate::specs::Clearing::cleared))]
-    pub fn clear(&mut self, last: &EpsPoly, spare: &mut Row)
-        requires last { IsPolynomial last.now }
-        requires last_some { IsNonZero last.now }
+    /// Clears the row: if each polynomial has an exact quotient by `by`, it becomes that, and then all are divided by their
+    /// common content and their common power of epsilon. `spare` is room for the quotients.
+    pub fn clear(&mut self, by: &EpsPoly, spare: &mut Row)
+        requires some { IsNonZero by.now }
         requires proper { IsProperRow (length self.old.numerators) self.old }
         requires room { length spare.old.numerators ≡ length self.old.numerators }
-        ensures cleared { self.new ≡ cleared last.now self.old }
+        ensures cleared { self.new ≡ lowered_row (divided_row by.now self.old) }
         ensures count { length self.new.numerators ≡ length self.old.numerators }
         ensures room { length spare.new.numerators ≡ length self.old.numerators }
     {
-        self.divide(&last.core(), spare);
+        self.divide(by, spare);
         self.lower();
     }
 }

@@ -120,7 +120,7 @@ module _ (m : ℕ) (ps : List Ratio) (weight other : ℕ → ℕ → Ratio)
 
 -- ---- there is one first sum that isn't defined
 
--- that the sum of `j` isn't defined, as it is told
+-- that the sum of `j` isn't defined, as it is reported
 abbrev told_of : ℕ → WideAt
 told_of j = record { component = 0; place = Level j; op = Add }
 

@@ -48,7 +48,7 @@ neither Greater h g = absurd (cc)
 not_below : (i j : ℕ) → is_lt (nat_cmp j i) ≡ false → i ≤ j
 not_below i j h = grind (arith, nat_tests)
 
--- `i` isn't behind `j`
+-- `i` isn't after `j`
 record IsNotBehind (p : ℕ → Number) (i j : ℕ) : Type 0 where
   not_above : p i ≤ε p j
   tie : p j ≤ε p i → i ≤ j
@@ -100,7 +100,7 @@ module _ (ps : List Ratio) where
         | inr later ↦ not_behind_trans (number_at ps) x.position y.position j first (all_not_behind y ys (sorted_rest x (y ∷ ys) s) hs.0 hs.1 j later)
       ]
 
--- ---- how often a position stands in a list
+-- ---- how often a position is in a list
 
 -- 1 for the position itself, and else 0
 abbrev counts_as : ℕ → ℕ → ℕ

@@ -27,7 +27,7 @@ NoSimesBoundIsLower =
     (E : EntangledGraph) (p : ℕ → Number) (level : Number) (S : ℕ → Bool) (a b : ℕ) → IsValidEntangled E → IsUnit level
     → IsBound E.hypotheses (IsClosedRejected E p level) S a → IsBound E.hypotheses (IsSimesClosed E p level) S b → a ≤ b
 
--- A table that tells what it rejects has its bounds.
+-- A table of what it rejects has its bounds.
 abbrev pub SimesTablesGiveSimesBounds : Type 0
 SimesTablesGiveSimesBounds =
     (E : EntangledGraph) (p : ℕ → Number) (level : Number) (table : ℕ → Bool) (S : ℕ → Bool) (b : ℕ)

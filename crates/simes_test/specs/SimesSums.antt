@@ -31,19 +31,19 @@ module _ (m : ℕ) (ps : List Ratio) (weight : ℕ → ℕ → Ratio) where
   abbrev pub AreSumsDefined : ℕ → Type 0
   AreSumsDefined n = (j : ℕ) → IsIn m (members n) j → IsSumDefined n j
 
-  -- it isn't defined, which `w` tells
+  -- it isn't defined, and `w` is where
   pub record IsWideSum (n j : ℕ) (w : WideAt) : Type 0 where
     pub undefined : sum_up_to n j ≡ None
     pub fault : w ≡ record { component = 0; place = Level j; op = Add }
 
-  -- `w` tells the first member of the set of `n`, by ascending position, whose sum isn't defined
+  -- `w` is the first member of the set of `n`, by ascending position, whose sum isn't defined
   pub record IsWideMember (n : ℕ) (w : WideAt) : Type 0 where
     pub hypothesis : ℕ
     pub member : IsIn m (members n) hypothesis
     pub wide : IsWideSum n hypothesis w
     pub before : (i : ℕ) → i < hypothesis → IsIn m (members n) i → IsSumDefined n i
 
-  -- the set of `n` is the first, in the order of sets, with a sum that isn't defined, and `w` tells its first such sum
+  -- the set of `n` is the first, in the order of sets, with a sum that isn't defined, and `w` is its first such sum
   pub record IsFirstWideSum (n : ℕ) (w : WideAt) : Type 0 where
     pub below : n < 2 ^ m
     pub wide : IsWideMember n w

@@ -7,7 +7,7 @@ pub enum SimesFault {
     /// The first set, in the order of sets, with a sum that isn't defined, and its first member whose sum isn't. The sum is
     /// over all components; the component told is 0.
     Wide(u32, WideAt),
-    /// Memory ran out.
+    /// Out of memory.
     NoMemory,
 }
 

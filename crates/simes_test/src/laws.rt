@@ -1,6 +1,11 @@
-//! Laws of Simes' test: it and its closed test reject at least what the tests by weights reject, and its bounds are no lower.
+//! Laws of Simes' test: it and its closed test reject at least what the tests by weights reject, and its bounds are not lower.
 
-ghost use Rattle.simes_test.specs.SimesStatements.{LocalRejectionsAreOfSimes, ClosedRejectionsAreOfSimes, NoSimesBoundIsLower, SimesTablesGiveSimesBounds};
+ghost use Rattle.simes_test.specs.SimesStatements.{
+  LocalRejectionsAreOfSimes,
+  ClosedRejectionsAreOfSimes,
+  NoSimesBoundIsLower,
+  SimesTablesGiveSimesBounds,
+};
 
 /// Simes' test rejects each set that the local test by weights rejects, and its closed test each set and each hypothesis that
 /// the closed test rejects. Nothing is said of when either test is valid.

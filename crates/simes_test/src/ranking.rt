@@ -20,7 +20,7 @@ struct Ranked {
     position: usize,
 }
 
-/// The hypotheses by position.
+/// Returns the hypotheses by position.
 fn by_position(alloc: Global, p_values: &[Fraction]) -> Result<Vec<Ranked>, AllocError>
     ensures { IfOk result (λ v. v.items ≡ by_position p_values.now) }
 {
@@ -34,17 +34,18 @@ fn by_position(alloc: Global, p_values: &[Fraction]) -> Result<Vec<Ranked>, Allo
         .collect(alloc)
 }
 
-/// The positions of hypotheses, in their order.
+/// Returns the positions of hypotheses, in their order.
 fn positions(alloc: Global, ranked: &[Ranked]) -> Result<Vec<usize>, AllocError>
     ensures { IfOk result (λ v. v.items ≡ map position_of ranked.now) }
 {
     ranked.iter().map(|ranked| ranked.position).collect(alloc)
 }
 
-/// The positions of all hypotheses of a case that has a p-value for each, by ascending p-value, equal ones by position.
+/// Returns the positions of all hypotheses of a case that has a p-value for each, by ascending p-value, equal ones by position.
 pub fn leaders(alloc: Global, case: &Case) -> Result<List<usize>, NoMemory>
     requires { IsSingle (content case.now).inputs }
-    ensures { IfOk result (λ js. ForSingle (content case.now).inputs (λ ps. AreLeaders (length (content case.now).names) (number_at ps) js)) }
+    ensures { IfOk result (λ js. ForSingle (content case.now).inputs (λ ps. AreLeaders (length
+        (content case.now).names) (number_at ps) js)) }
 {
     let mut ranked = by_position(alloc, single_p_values(case))?;
     ranked.sort()?;

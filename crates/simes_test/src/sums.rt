@@ -11,7 +11,7 @@ use closed_test::WeightTable;
 use field_core::{Number, TooWide};
 use fraction::Fraction;
 
-/// The weight of `i` in a set, where it is a member whose p-value is at most that of `j`, and else 0.
+/// Returns the weight of `i` in a set, where it is a member whose p-value is at most that of `j`, and else 0.
 fn weight_up_to(
     weights: &WeightTable,
     p_values: &[Fraction],
@@ -32,7 +32,7 @@ fn weight_up_to(
     }
 }
 
-/// The sum of the weights of the members of a set whose p-value is at most that of `j`, added by ascending position.
+/// Returns the sum of the weights of the members of a set whose p-value is at most that of `j`, added by ascending position.
 pub fn sum_up_to(
     weights: &WeightTable,
     p_values: &[Fraction],

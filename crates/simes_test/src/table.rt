@@ -23,7 +23,7 @@ pub struct SimesTable {
     ghost same_size: { table_size local ≡ table_size closed },
 }
 
-/// What Simes' test says of each set.
+/// Returns what Simes' test says of each set.
 fn local_answers(alloc: Global, case: &Case, weights: &WeightTable) -> Result<SetTable, SimesFault>
     requires single { IsSingle (content case.now).inputs }
     requires size { weights_size weights.now ≡ length (content case.now).names }
@@ -66,9 +66,9 @@ impl SimesTable {
     /// Simes' test of all sets of a case that has a p-value for each hypothesis, at its level, and its closed test, by the
     /// weights of all sets of the case.
     ///
-    /// There is no table exactly where the sum of some member of some set isn't defined, unless memory runs out; the fault
-    /// tells the first such set in the order of sets, and its first such member. All sums are made, also where the set is
-    /// rejected by an earlier one.
+    /// There is no table exactly where the sum of some member of some set isn't defined, or nothing when out of memory;
+    /// the fault names the first such set in the order of sets, and its first such member. All sums are made, also
+    /// where the set is rejected by an earlier one.
     pub fn build(
         alloc: Global,
         case: &Case,
@@ -104,7 +104,7 @@ impl SimesTable {
         self.closed.get(set)
     }
 
-    /// What its closed test says of each set.
+    /// Returns what its closed test says of each set.
     pub fn closed_table(&self) -> &SetTable
         ensures table { result.now ≡ closed_of self.now }
         ensures size { table_size result.now ≡ simes_size self.now }

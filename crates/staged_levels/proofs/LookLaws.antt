@@ -1,4 +1,4 @@
--- A case has its looks, or one place where they break off, and not both.
+-- A case has its looks, or one place where they stop part way, and not both.
 use Rattle.std.proofs.Common.{◌≡◌, ◌⊎◌, inl, inr, refl, sym, ap, ap₂, ◌∙◌, subst, ℕ, ◌+◌, List, [], ◌∷◌, ◌++◌, Result, Ok}
 use Rattle.std.proofs.Common.{Err}
 use Rattle.std.proofs.lemmas.List.{append_assoc, append-nil, map_push}
@@ -47,7 +47,7 @@ first_positions c old new (k ∷ ks) h =
     first_positions c h.1.0 new ks h.1.2 ∙ ap (λ js. js ++ ks) one ∙ append_assoc (positions_of old.rejected) (k ∷ []) ks
 
 module _ (c : Content) where
-  -- of two such lists of rejections one goes on from the other
+  -- of two such lists of rejections one continues from the other
   one_goes_on : (old s t : StudyState) (js ks : List ℕ) → AreFirstRejections c old js s → AreFirstRejections c old ks t
       → ((more : List ℕ) × AreFirstRejections c s more t) ⊎ ((more : List ℕ) × AreFirstRejections c t more s)
   one_goes_on old s t [] ks h g = inl (ks, subst (λ o. AreFirstRejections c o ks t) (sym h) g)
@@ -57,7 +57,7 @@ module _ (c : Content) where
       let mids : g.1.0 ≡ h.1.0 = rejection_unique c old g.1.0 h.1.0 j (subst (λ i. IsRejection c old i g.1.0) same g.1.1) h.1.1 in
       one_goes_on h.1.0 s t js ks h.1.2 (subst (λ m. AreFirstRejections c m ks t) mids g.1.2)
 
-  -- past a removal that is undefined none go on
+  -- past a removal that is undefined none continue
   not_past : (s t : StudyState) (w : WideAt) (k : ℕ) (ks : List ℕ) → IsDefined c s → IsWideSettling c s w → AreFirstRejections c s (k ∷ ks) t
       → ¬ IsDefined c t
   not_past s t w k ks D W h E =
@@ -67,7 +67,7 @@ module _ (c : Content) where
       refused_stops c (positions_of s.rejected) k ks D.state E.state w D.state_is wide
       (ap (case_after c) (sym (first_positions c s t (k ∷ ks) h)) ∙ E.state_is)
 
-  -- a settling that is defined doesn't break off
+  -- a settling that is defined doesn't stop part way
   not_broken : (old s t : StudyState) (w : WideAt) (js ks : List ℕ) → AreFirstRejections c old js s → IsDefined c s → IsWideSettling c s w
       → AreFirstRejections c old ks t → IsDefined c t → ¬ IsSettled c t
   not_broken old s t w js ks h D W g E settled = elim (one_goes_on old s t js ks h g) [
@@ -83,7 +83,7 @@ module _ (c : Content) where
       back [] e = subst (IsSettled c) (sym e) settled W.next W.is_first.allowed
       back (k ∷ more) m = settled k m.0.allowed
 
-  -- it breaks off at one place
+  -- it stops part way at one place
   one_break : (old s t : StudyState) (v w : WideAt) (js ks : List ℕ) → AreFirstRejections c old js s → IsDefined c s → IsWideSettling c s v
       → AreFirstRejections c old ks t → IsDefined c t → IsWideSettling c t w → v ≡ w
   one_break old s t v w js ks h D V g E W = elim (one_goes_on old s t js ks h g) [
@@ -179,7 +179,7 @@ module _ (c : Content) where
   opening_wide w s js e h = let a : (case_opening c >>= λ u. removed_in_turn case_removal u js) ≡ Err w =
       ap (λ r. r >>= λ u. removed_in_turn case_removal u js) e in cc
 
-  -- a case that isn't opened has no looks, nor a place where they break off
+  -- a case that isn't opened has no looks, nor a place where they stop part way
   pub not_opened : (w : WideAt) → case_opening c ≡ Err w → ¬ IsDefined c start
   not_opened w e D = opening_wide w D.state [] e D.state_is
 

@@ -38,12 +38,12 @@ never_refused t T a fault may f = ∥∥₁_elim T (λ x y. absurd x)
 pub study_defined : (c : Content) (t : StudyContent) → IsStudy c t → IsDefined c t.looks
 study_defined c t T = record { state = t.state; state_is = T.state }
 
--- what is behind the first items
+-- what is after the first items
 behind : (xs ys : List Settled) → drop (length xs) (xs ++ ys) ≡ ys
 behind [] ys = refl
 behind (x ∷ xs) ys = behind xs ys
 
--- the rejections that are added are those behind the earlier ones
+-- the rejections that are added are those after it the earlier ones
 pub added_are : (old new more : List Settled) → new ≡ old ++ more → new ≡ old ++ drop (length old) new
 added_are old new more e = e ∙ ap (λ ys. old ++ ys) (sym (behind old more) ∙ ap (drop (length old)) (sym e))
 
@@ -56,7 +56,7 @@ lead_next c old s t [] (l ∷ looks) a added h k = absurd h
 lead_next c old s t (b ∷ arrivals) [] a added h k = absurd h
 lead_next c old s t (b ∷ arrivals) (l ∷ looks) a added h k = (h.0, h.1, lead_next c h.0 s t arrivals looks a added h.2 k)
 
--- a look that breaks off behind some that don't
+-- a look that stops part way after some that don't
 pub lead_wide : (c : Content) (old s : StudyState) (arrivals : List Arrival) (looks : List (List Settled)) (i : ℕ) (a : Arrival) (more : List Arrival)
     (w : WideAt) → LooksLead c old arrivals looks s → IsWideLook c s a w → IsFirstWideLook c old i (arrivals ++ (a ∷ more)) (i + length arrivals) w
 lead_wide c old s [] [] i a more w h k = inl (omega arith, subst (λ o. IsWideLook c o a w) h k)
@@ -71,7 +71,7 @@ pub look_values : (c : Content) (old new : StudyState) (a : Arrival) (added : Li
     → new.values ≡ old.values ++ (a ∷ [])
 look_values c old new a added h = first_keep c h.arrived new h.settles.hypotheses h.settles.rejections ∙ h.arrival.values
 
--- a list is what is before a place, the item there, and what is behind
+-- a list is what is before a place, the item there, and what is after
 pub split_at : (xs : List Arrival) (i : ℕ) (x : Arrival) → i < length xs → take i xs ++ (get_or xs i x ∷ drop (i + 1) xs) ≡ xs
 split_at [] i x h = absurd (omega (arith, h))
 split_at (y ∷ ys) zero x h = refl
@@ -103,7 +103,7 @@ pub grown : (t : StudyContent) → IsSomeStudy t → (new : StudyState)
 grown t T new grows = ∥∥₁_elim T (at_most_is_fact _ _)
     (λ h. let m = grows h.content h.is_study in subst (λ rs. length t.looks.rejected ≤ length rs) (sym m.1) (longer t.looks.rejected m.0))
 
--- where a look breaks off, those at the case do
+-- where a look stops part way, those at the case do
 pub look_fault : (c : Content) (s : StudyState) (xs : List Arrival) (looks : List (List Settled)) (i : ℕ) (a : Arrival) (fault : LooksFault)
     → IsDefined c start → xs ≡ arrivals_of c.inputs → i < length xs → get_or xs i a ≡ a → LooksLead c start (take i xs) looks s
     → IsLookFault c s a (i + 1) fault → IsLooksFault c fault

@@ -1,4 +1,4 @@
--- The looks at a case are calls on its study, which is settled behind them.
+-- The looks at a case are calls on its study, which is settled after them.
 use Rattle.std.proofs.Common.{◌≡◌, refl, sym, ap, ◌∙◌, subst, ℕ, ◌<◌, true, arith, List, [], ◌∷◌, ◌++◌, append-nil, append_assoc}
 use Rattle.std.specs.Prelude.{◌↔◌}
 use Rattle.std.specs.List.{Contains}

@@ -90,7 +90,7 @@ module _ (c : Content) (s : StudyState) (S : IsStudyOf c s) where
   level_low : number_zero ≤ε number_of c.alpha
   level_low = subst (λ z. z ≤ε number_of c.alpha) field_zero (good_level c.alpha (shape c S.valid).level).nonneg
 
-  -- what passes goes on passing as the weight grows
+  -- what passes continues passing as the weight grows
   pub stages_monotone : (values : List Arrival) → IsMonotone (AtStages (spend_in c) (number_of c.alpha) values)
   stages_monotone = staged_monotone (spend_in c) (number_of c.alpha) (λ k t. spends_rise c k t S.valid) level_low
 

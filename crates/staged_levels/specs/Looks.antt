@@ -35,7 +35,8 @@ pub record IsLook (c : Content) (old : StudyState) (a : Arrival) (added : List S
   pub rejected : new.rejected ≡ old.rejected ++ added
   pub is_defined : IsDefined c new
 
--- a look that breaks off: a p-value arrives, and the removal of some first hypothesis that is legal then is undefined first at `w`
+-- a look that stops part way: a p-value arrives, and the removal of some first hypothesis that is legal then is undefined first at
+-- `w`
 pub record IsWideLook (c : Content) (old : StudyState) (a : Arrival) (w : WideAt) : Type 0 where
   pub arrived : StudyState
   pub arrival : IsArrival c old a arrived
@@ -45,7 +46,7 @@ pub record IsWideLook (c : Content) (old : StudyState) (a : Arrival) (w : WideAt
   pub is_defined : IsDefined c stop
   pub wide : IsWideSettling c stop w
 
--- why the look at an arrival of this number breaks off; nothing is said of memory
+-- why the look at an arrival of this number stops part way; nothing is said of memory
 abbrev pub IsLookFault : Content → StudyState → Arrival → ℕ → LooksFault → Type 0
 IsLookFault c old a n (Opening w) = ⊥
 IsLookFault c old a n (Arriving i w) = (i ≡ n) × IsWideLook c old a w
@@ -74,13 +75,14 @@ pub record AreLooks (c : Content) (looks : List (List Settled)) : Type 0 where
   pub end : StudyState
   pub lead : LooksLead c start (arrivals_of c.inputs) looks end
 
--- from an arrival of this number on, the look at the arrival `n` is the first that breaks off, at `w`
+-- from an arrival of this number on, the look at the arrival `n` is the first that stops part way, at `w`
 abbrev pub IsFirstWideLook : Content → StudyState → ℕ → List Arrival → ℕ → WideAt → Type 0
 IsFirstWideLook c old i [] n w = ⊥
 IsFirstWideLook c old i (a ∷ more) n w =
     ((n ≡ i) × IsWideLook c old a w) ⊎ ((added : List Settled) × (mid : StudyState) × IsLook c old a added mid × IsFirstWideLook c mid (i + 1) more n w)
 
--- the written opening of a case is defined, and the look at the arrival `n`, counted from 1, is the first that breaks off, at `w`
+-- the written opening of a case is defined, and the look at the arrival `n`, counted from 1, is the first that stops part way, at
+-- `w`
 pub record BreaksOff (c : Content) (n : ℕ) (w : WideAt) : Type 0 where
   pub opened : IsDefined c start
   pub first : IsFirstWideLook c start 1 (arrivals_of c.inputs) n w

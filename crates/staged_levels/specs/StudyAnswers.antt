@@ -61,12 +61,12 @@ abbrev pub IsStepFault : Content → StudyState → Event → StepFault → Type
 IsStepFault c s (Arrive i t p) = IsArriveFault c s (record { hypothesis = i; stage = t; p = p })
 IsStepFault c s (Reject i) = IsRejectFault c s i
 
--- a settling broke off: the removal of the first hypothesis that is legal then is undefined first at `w`
+-- a settling stopped part way: the removal of the first hypothesis that is legal then is undefined first at `w`
 pub record IsWideSettling (c : Content) (s : StudyState) (w : WideAt) : Type 0 where
   pub next : ℕ
   pub is_first : IsFirst (IsStagedLegalIn c s.values) (remaining s) next
   pub wide : IsWideRemoval c s next w
 
--- why a settling broke off
+-- why a settling stopped part way
 abbrev pub IsSettleFault : Content → StudyState → SettleFault → Type 0
 IsSettleFault c s (SettleWide w) = IsWideSettling c s w

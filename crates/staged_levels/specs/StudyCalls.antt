@@ -47,7 +47,8 @@ pub record Answered : Type 0 where
   pub call : StudyCall
   pub accepted : Bool
 
--- one call: an arrival or a rejection that is refused changes nothing, and a settling that breaks off keeps what it rejected
+-- one call: an arrival or a rejection that is refused changes nothing, and a settling that stops part way keeps what it
+-- rejected
 abbrev pub IsCall : Content → StudyState → StudyCall → Bool → StudyState → Type 0
 IsCall c old (arrive a) true new = IsArrival c old a new
 IsCall c old (arrive a) false new = new ≡ old

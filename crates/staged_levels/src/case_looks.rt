@@ -22,7 +22,7 @@ pub enum LooksFault {
     Opening(WideAt),
     /// The first operation that is undefined of a settling, and the arrival before it, counted from 1.
     Arriving(usize, WideAt),
-    /// Memory ran out.
+    /// Out of memory.
     NoMemory,
 }
 
@@ -51,7 +51,7 @@ impl From<OpenFault> for LooksFault {
     }
 }
 
-/// The arrivals of a case.
+/// Returns the arrivals of a case.
 fn arrivals_of(case: &Case) -> &[Arrival]
     requires { IsStaged (content case.now).inputs }
     ensures { result.now ≡ arrivals_of (content case.now).inputs }
@@ -67,7 +67,8 @@ fn arrive(current: &mut Study, arrival: &Arrival)
     requires below { arrival.now.hypothesis < size_of (study current.old) }
     requires may { (c : Content) → IsStudy c (study current.old) → MayArrive c (study current.old).looks.values arrival.now }
     ensures study { (c : Content) → IsStudy c (study current.old) → IsStudy c (study current.new) }
-    ensures arrival { (c : Content) → IsStudy c (study current.old) → IsArrival c (study current.old).looks arrival.now (study current.new).looks }
+    ensures arrival { (c : Content) → IsStudy c (study current.old)
+        → IsArrival c (study current.old).looks arrival.now (study current.new).looks }
     ensures size { size_of (study current.new) ≡ size_of (study current.old) }
 {
     match current.step(Event::Arrive(arrival.hypothesis, arrival.stage, arrival.p)) {
@@ -76,7 +77,7 @@ fn arrive(current: &mut Study, arrival: &Arrival)
     }
 }
 
-/// The rejections behind the first `n`.
+/// Returns the rejections after the first `n`.
 pub fn behind(settled: &[Settled], n: usize) -> &[Settled]
     requires { n ≤ length settled.now }
     ensures { result.now ≡ drop n settled.now }
@@ -84,7 +85,7 @@ pub fn behind(settled: &[Settled], n: usize) -> &[Settled]
     &settled[n..]
 }
 
-/// The look at an arrival, of this number, that may come: the rejections that it brings.
+/// Returns the look at an arrival, of this number, that may come: the rejections that it brings.
 fn look(
     alloc: Global,
     current: &mut Study,
@@ -94,8 +95,10 @@ fn look(
     requires below { arrival.now.hypothesis < size_of (study current.old) }
     requires may { (c : Content) → IsStudy c (study current.old) → MayArrive c (study current.old).looks.values arrival.now }
     ensures study { (c : Content) → IsStudy c (study current.old) → IsStudy c (study current.new) }
-    ensures look { IfOk result (λ added. (c : Content) → IsStudy c (study current.old) → IsLook c (study current.old).looks arrival.now added (study current.new).looks) }
-    ensures fault { IfErr result (λ fault. (c : Content) → IsStudy c (study current.old) → IsLookFault c (study current.old).looks arrival.now n fault) }
+    ensures look { IfOk result (λ added. (c : Content) → IsStudy c (study current.old)
+        → IsLook c (study current.old).looks arrival.now added (study current.new).looks) }
+    ensures fault { IfErr result (λ fault. (c : Content) → IsStudy c (study current.old)
+        → IsLookFault c (study current.old).looks arrival.now n fault) }
     ensures size { size_of (study current.new) ≡ size_of (study current.old) }
 {
     let before = current.settled().len();
@@ -108,10 +111,10 @@ fn look(
     Ok(added)
 }
 
-/// The rejections that each arrival of a case brings, whose p-values are those of stages: the arrivals come in their order, and
-/// after each the first hypothesis that is legal is rejected, until none is.
+/// Returns the rejections that each arrival of a case brings, whose p-values are those of stages: the arrivals come in
+/// their order, and after each the first hypothesis that is legal is rejected, until none is.
 ///
-/// Unless memory runs out, it is `LooksFault::Opening` exactly where the written opening is undefined, and
+/// Unless out of memory, it is `LooksFault::Opening` exactly where the written opening is undefined, and
 /// `LooksFault::Arriving` exactly where it is defined and some removal isn't, at the first such arrival.
 pub fn looks(alloc: Global, case: &Case) -> Result<List<List<Settled>>, LooksFault>
     requires { IsStaged (content case.now).inputs }

@@ -29,7 +29,7 @@ pub enum StepFault {
     Wide(WideAt),
 }
 
-/// Why a settling broke off.
+/// Why a settling stopped part way.
 #[derive(Clone, Copy, PartialEq, Eq, Debug)]
 pub enum SettleFault {
     /// The first operation of the next removal that is undefined.

@@ -1,6 +1,17 @@
 //! Laws of studies. Each function states laws that hold of all cases, and does nothing.
 
-ghost use Rattle.staged_levels.specs.StudyStatements.{CallsLeaveStudies, ValuesAreAccepted, RejectionsStay, StudiesHaveLegalOrders, StudiesRejectByTheStagedTest, SettledStudiesDecide, SettledStudiesAgree, SettlingDecides, LooksDecide, SettlingsOfStudiesAreUnique};
+ghost use Rattle.staged_levels.specs.StudyStatements.{
+  CallsLeaveStudies,
+  ValuesAreAccepted,
+  RejectionsStay,
+  StudiesHaveLegalOrders,
+  StudiesRejectByTheStagedTest,
+  SettledStudiesDecide,
+  SettledStudiesAgree,
+  SettlingDecides,
+  LooksDecide,
+  SettlingsOfStudiesAreUnique,
+};
 
 /// Whatever calls are made on a study, its rejections are a legal order on the values that have arrived, and the staged
 /// closed test rejects each of them.

@@ -3,9 +3,9 @@
 //! Proved:
 //! - `Study`: `open` (`study`, `start`, `fault`), `step` (an arrival or a rejection: `study`, `call`, `fault`: each
 //!   refusal exactly with its cause; `refused`: nothing is changed then), `settle` (`study`, `call`, `fault`: it
-//!   rejects the first legal hypothesis until none is legal; after a refusal the rejections before it stay),
-//!   `settled` (`value`, `sound`, `complete`), `weight_limit`. All memory is taken in `open`. `behind`, the rejections
-//!   behind the first of them.
+//!   rejects the first legal hypothesis until none is legal; after a refusal the rejections before it stay), `settled`
+//!   (`value`, `sound`, `complete`), `weight_limit`. All memory is taken in `open`. `behind`, the rejections after the
+//!   first of them.
 //! - `looks` (`looks`, `fault`): a study of a case, settled after each of its arrivals.
 //! - Laws in `src/laws.rt`, over every list of calls: the rejections are a legal order on the values that have
 //!   arrived, and the staged closed test rejects each (`studies_reject_by_the_staged_test`); once a study is settled
@@ -13,7 +13,7 @@
 //!   whatever the order (`settled_studies_decide`); the values are those of the accepted arrivals, and nothing is
 //!   taken back (`calls_take_nothing_back`); a study has one settling (`settlings_are_unique`).
 //!
-//! Tables of looks in each of their orders stand in acceptance, with values by hand.
+//! Tables of looks in each of their orders are in acceptance, with values by hand.
 #![tactic(auto)]
 
 mod case_looks;

@@ -36,7 +36,7 @@ pub fn is_staged(case: &Case) -> bool
     matches!(case.inputs(), Inputs::Staged(_))
 }
 
-/// The stages of a case.
+/// Returns the stages of a case.
 fn stages_of(case: &Case) -> &Stages
     requires { IsStaged (content case.now).inputs }
     ensures inputs { (content case.now).inputs ≡ Staged result.now }
@@ -49,7 +49,7 @@ fn stages_of(case: &Case) -> &Stages
     }
 }
 
-/// The same as so many hypotheses spend at stages, or `NoMemory`.
+/// Returns the same as this number of hypotheses spend at stages, or `NoMemory`.
 fn copied(alloc: Global, stages: &Stages, size: usize) -> Result<List<Spend>, NoMemory>
     requires { length stages.now.spend ≡ size }
     ensures { IfOk result (λ spends. spends ≡ stages.now.spend) }
@@ -82,7 +82,7 @@ impl Study {
     /// Opens a case whose p-values are those of stages. Nothing has arrived yet, the arrivals of the case neither, and nothing
     /// is rejected.
     ///
-    /// Unless memory runs out, it is `OpenFault::Wide` exactly where the written opening is undefined. All memory that a
+    /// Unless out of memory, it is `OpenFault::Wide` exactly where the written opening is undefined. All memory that a
     /// study needs is taken here.
     pub fn open(alloc: Global, case: &Case) -> Result<Study, OpenFault>
         requires { IsStaged (content case.now).inputs }
@@ -106,25 +106,28 @@ impl Study {
         })
     }
 
-    /// The number of hypotheses, those that are rejected among them.
+    /// Returns the number of hypotheses, those that are rejected among them.
     pub fn size(&self) -> usize
         ensures { result ≡ size_of (study self.now) }
     {
         self.spends.len()
     }
 
-    /// The rejections in their order, each with the least arrived stage that met the test at its moment, and its weight then.
+    /// Returns the rejections in their order, each with the least arrived stage that met the test at its moment, and
+    /// its weight then.
     ///
     /// The staged closed test on the values that have arrived rejects each of them, and no other once none is legal.
     pub fn settled(&self) -> &[Settled]
         ensures value { result.now ≡ (study self.now).looks.rejected }
-        ensures sound { (c : Content) (j : ℕ) → IsStudy c (study self.now) → IsListed (positions_of result.now) j → IsStagedRejectedIn c (study self.now).looks.values j }
-        ensures complete { (c : Content) (j : ℕ) → IsStudy c (study self.now) → IsSettled c (study self.now).looks → IsStagedRejectedIn c (study self.now).looks.values j → IsListed (positions_of result.now) j }
+        ensures sound { (c : Content) (j : ℕ) → IsStudy c (study self.now) → IsListed (positions_of result.now) j
+            → IsStagedRejectedIn c (study self.now).looks.values j }
+        ensures complete { (c : Content) (j : ℕ) → IsStudy c (study self.now) → IsSettled c (study self.now).looks
+            → IsStagedRejectedIn c (study self.now).looks.values j → IsListed (positions_of result.now) j }
     {
         self.settled.as_slice()
     }
 
-    /// The p-values that have arrived, in their order.
+    /// Returns the p-values that have arrived, in their order.
     pub fn values(&self) -> &[Arrival]
         ensures { result.now ≡ (study self.now).looks.values }
     {
@@ -139,7 +142,7 @@ impl Study {
         self.net.is_live(k)
     }
 
-    /// The present weight of `k`.
+    /// Returns the present weight of `k`.
     fn present_weight(&self, k: usize) -> Fraction
         requires { is_live_in_case (study self.now).state k ≡ true }
         ensures { terms result ≡ case_level (study self.now).state k }
@@ -147,12 +150,13 @@ impl Study {
         self.net.weight_limit(k)
     }
 
-    /// The weight of `k` among the hypotheses that aren't rejected, as a fraction of the level.
-    /// `k` is below the size and isn't rejected.
+    /// Returns the weight of `k` among the hypotheses that aren't rejected, as a fraction of the level. `k` is below
+    /// the size and isn't rejected.
     pub fn weight_limit(&self, k: usize) -> Fraction
         requires size { k < size_of (study self.now) }
         requires remains { ¬ IsListed (positions_of (study self.now).looks.rejected) k }
-        ensures { (c : Content) → IsStudy c (study self.now) → IsIntersectionWeight (entangled c) (remaining (study self.now).looks) k (number_of result) }
+        ensures { (c : Content) → IsStudy c (study self.now)
+            → IsIntersectionWeight (entangled c) (remaining (study self.now).looks) k (number_of result) }
     {
         self.present_weight(k)
     }
@@ -169,7 +173,7 @@ impl Study {
     ghost use Rattle.staged_levels.specs.StudyContents.{IsStudy, size_of, value_at, MeetsAtStage, MayRejectAt};
     ghost use Rattle.staged_levels.specs.StudyView.{study};
 
-    /// The p-value of `k` that arrived at stage `t`, if one has.
+    /// Returns the p-value of `k` that arrived at stage `t`, if one has.
     fn value_at(&self, k: usize, t: usize) -> Option<Fraction>
         ensures { result ≡ value_at (study self.now).looks.values k t }
     {
@@ -191,7 +195,7 @@ impl Study {
         }
     }
 
-    /// The least stage at which `k`, which is still in, may be rejected now, if there is one.
+    /// Returns the least stage at which `k`, which is still in, may be rejected now, if there is one.
     fn first_stage(&self, k: usize) -> Option<usize>
         requires below { k < size_of (study self.now) }
         requires live { is_live_in_case (study self.now).state k ≡ true }
@@ -207,7 +211,7 @@ impl Study {
         None
     }
 
-    /// The least stage at which `k` may be rejected now, where it is still in and there is one.
+    /// Returns the least stage at which `k` may be rejected now, where it is still in and there is one.
     fn legal_stage(&self, k: usize) -> Option<usize>
         requires { k < size_of (study self.now) }
         ensures some { IfSome result (MayRejectAt (study self.now) k) }
@@ -220,10 +224,11 @@ impl Study {
         }
     }
 
-    /// The first hypothesis that is legal now, and the least stage that makes it so.
+    /// Returns the first hypothesis that is legal now, and the least stage that makes it so.
     fn next(&self) -> Option<(usize, usize)>
         ensures some { IfSome result (λ n. MayRejectAt (study self.now) n.0 n.1) }
-        ensures first { IfSome result (λ n. (c : Content) → IsStudy c (study self.now) → (k : ℕ) → k < n.0 → ¬ IsLegalNow c (study self.now).looks k) }
+        ensures first { IfSome result (λ n. (c : Content) → IsStudy c (study self.now) → (k : ℕ) → k < n.0
+            → ¬ IsLegalNow c (study self.now).looks k) }
         ensures none { result ≡ None → (c : Content) → IsStudy c (study self.now) → IsSettled c (study self.now).looks }
     {
         for k in 0..self.size() {
@@ -250,7 +255,8 @@ impl Study {
     fn arrive(&mut self, arrival: Arrival) -> Result<(), StepFault>
         requires { arrival.hypothesis < size_of (study self.old) }
         ensures study { (c : Content) → IsStudy c (study self.old) → IsStudy c (study self.new) }
-        ensures call { (c : Content) → IsStudy c (study self.old) → IsCall c (study self.old).looks (arrive arrival) (is_ok result) (study self.new).looks }
+        ensures call { (c : Content) → IsStudy c (study self.old)
+            → IsCall c (study self.old).looks (arrive arrival) (is_ok result) (study self.new).looks }
         ensures fault { (c : Content) → IsStudy c (study self.old) → IfErr result (IsArriveFault c (study self.old).looks arrival) }
         ensures refused { OnErr result (study self.new ≡ study self.old) }
         ensures size { size_of (study self.new) ≡ size_of (study self.old) }
@@ -291,7 +297,8 @@ impl Study {
     fn reject(&mut self, k: usize) -> Result<(), StepFault>
         requires { k < size_of (study self.old) }
         ensures study { (c : Content) → IsStudy c (study self.old) → IsStudy c (study self.new) }
-        ensures call { (c : Content) → IsStudy c (study self.old) → IsCall c (study self.old).looks (reject k) (is_ok result) (study self.new).looks }
+        ensures call { (c : Content) → IsStudy c (study self.old)
+            → IsCall c (study self.old).looks (reject k) (is_ok result) (study self.new).looks }
         ensures fault { (c : Content) → IsStudy c (study self.old) → IfErr result (IsRejectFault c (study self.old).looks k) }
         ensures refused { OnErr result (study self.new ≡ study self.old) }
         ensures size { size_of (study self.new) ≡ size_of (study self.old) }
@@ -318,7 +325,8 @@ impl Study {
     pub fn step(&mut self, event: Event) -> Result<(), StepFault>
         requires { hypothesis_of event < size_of (study self.old) }
         ensures study { (c : Content) → IsStudy c (study self.old) → IsStudy c (study self.new) }
-        ensures call { (c : Content) → IsStudy c (study self.old) → IsCall c (study self.old).looks (call_of event) (is_ok result) (study self.new).looks }
+        ensures call { (c : Content) → IsStudy c (study self.old)
+            → IsCall c (study self.old).looks (call_of event) (is_ok result) (study self.new).looks }
         ensures fault { (c : Content) → IsStudy c (study self.old) → IfErr result (IsStepFault c (study self.old).looks event) }
         ensures refused { OnErr result (study self.new ≡ study self.old) }
         ensures size { size_of (study self.new) ≡ size_of (study self.old) }
@@ -335,10 +343,11 @@ impl Study {
 
     /// Rejects the first hypothesis that is legal, until none is. The values that have arrived stay.
     ///
-    /// Where the removal of the next one is undefined, it breaks off, and the rejections before it stay.
+    /// Where the removal of the next one is undefined, it stops part way, and the rejections before it stay.
     pub fn settle(&mut self) -> Result<(), SettleFault>
         ensures study { (c : Content) → IsStudy c (study self.old) → IsStudy c (study self.new) }
-        ensures call { (c : Content) → IsStudy c (study self.old) → IsCall c (study self.old).looks settle (is_ok result) (study self.new).looks }
+        ensures call { (c : Content) → IsStudy c (study self.old)
+            → IsCall c (study self.old).looks settle (is_ok result) (study self.new).looks }
         ensures fault { (c : Content) → IsStudy c (study self.old) → IfErr result (IsSettleFault c (study self.new).looks) }
         ensures size { size_of (study self.new) ≡ size_of (study self.old) }
     {

@@ -1,4 +1,3 @@
-pub mod CommandDecisions
 pub mod CommandLaws
 pub mod CommandReads
 pub mod Looks

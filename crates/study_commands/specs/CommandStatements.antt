@@ -1,7 +1,10 @@
 -- What the lines of commands and their first faults promise.
-use Rattle.std.specs.Prelude.{◌≡◌, ◌⊎◌, ℕ, List}
+use Rattle.std.specs.Prelude.{◌≡◌, ◌⊎◌, ℕ, List, []}
+use Rattle.std.specs.List.{AllZip}
 use Rattle.edge_text.specs.declared.fault.LineKind.{LineKind}
-use Rattle.study_commands.specs.CommandLines.{AreCommands}
+use Rattle.text_lines.specs.Languages.{IsDocument}
+use Rattle.study_commands.specs.CommandLanguage.{commands}
+use Rattle.study_commands.specs.CommandLines.{AreCommands, IsCommandLine}
 use Rattle.study_commands.specs.CommandFaults.{IsFirstFault}
 use Rattle.study_commands.specs.declared.command.StudyCommand.{StudyCommand}
 
@@ -24,3 +27,13 @@ TextsSayOrFail = (names : List (List ℕ)) (bytes : List ℕ) → ((cs : List St
 abbrev pub TextsDontSayAndFail : Type 0
 TextsDontSayAndFail = (names : List (List ℕ)) (bytes : List ℕ) (cs : List StudyCommand) (n : ℕ) (kind : LineKind)
     → AreCommands names bytes cs → ¬ IsFirstFault names bytes n kind
+
+-- lines that say these commands, one each, are of the language, and say them there
+abbrev pub CommandsAreSaid : Type 0
+CommandsAreSaid = (names : List (List ℕ)) (lines : List (List ℕ)) (cs : List StudyCommand)
+    → AllZip (IsCommandLine names) lines cs → IsDocument (commands names) [] lines cs
+
+-- lines of the language say these commands, one each
+abbrev pub SaidAreCommands : Type 0
+SaidAreCommands = (names : List (List ℕ)) (lines : List (List ℕ)) (cs : List StudyCommand)
+    → IsDocument (commands names) [] lines cs → AllZip (IsCommandLine names) lines cs

@@ -1,3 +1,4 @@
+pub mod CommandLanguage
 pub mod CommandLines
 pub mod CommandFaults
 pub mod CommandStatements

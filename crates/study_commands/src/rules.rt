@@ -1,36 +1,34 @@
 //! What the words of a line say.
-ghost use Rattle.std.specs.Prelude.{◌≡◌, ◌<◌, [], length, IfOk, IfErr};
+ghost use Rattle.std.specs.Prelude.{◌≡◌};
+ghost use Rattle.field_core.specs.Answers.{told_as};
 ghost use Rattle.case_model.specs.CaseView.{content};
-ghost use Rattle.edge_text.specs.Grammar.{Says, IsWholeNumber, IsArrival};
-ghost use Rattle.edge_text.specs.Faults.{IsNumeralFault, IsWholeFault, IsArrivalFault};
+ghost use Rattle.edge_text.specs.WordReading.{numeral, whole};
 ghost use Rattle.text_lines.specs.Words.{words_of};
-ghost use Rattle.study_commands.specs.CommandLines.{arrival_of, IsCommandLine, IsBelow};
-ghost use Rattle.study_commands.specs.CommandFaults.{IsShowFault, IsCommandFault, IsOnLine};
-ghost use Rattle.study_commands.specs.declared.command.StudyCommand.TheVariants.{Show};
+ghost use Rattle.study_commands.specs.CommandLanguage.{look, show, command};
+ghost use Rattle.study_commands.specs.declared.fault.CommandsFault.TheVariants as faults;
 
 use crate::{CommandsFault, StudyCommand};
 use case_model::Case;
 use edge_text::LineKind;
-use fraction::{Fraction, whole_number};
+use field_core::Ratio;
+use fraction::whole_number;
 use graph_io::Look;
 use text_lines::{Line, Words};
 
-/// The value of a numeral on a line.
-#[tactic(auto, unfolding(edge_text::specs::Grammar::Says))]
-fn numeral(line: &Line, word: &[u8]) -> Result<Fraction, CommandsFault>
-    ensures found { IfOk result (Says word.now) }
-    ensures fault { IfErr result (IsOnLine line.now.number (IsNumeralFault word.now)) }
+/// Returns the value of a numeral on a line.
+fn numeral(line: &Line, word: &[u8]) -> Result<Ratio, CommandsFault>
+    ensures { result ≡ told_as (faults.Line line.now.number) (numeral word.now) }
 {
-    match Fraction::parse(word) {
-        Ok(value) => Ok(value),
+    match numerals::numeral(word) {
+        Ok(value) => Ok(value.ratio()),
         Err(fault) => Err(CommandsFault::Line(line.number, LineKind::Number(fault))),
     }
 }
 
-/// A whole number on a line.
+/// Returns a whole number on a line.
+#[tactic(auto, using(edge_text::proofs::WordAnswers::whole_found, edge_text::proofs::WordAnswers::whole_refused))]
 fn whole(line: &Line, word: &[u8]) -> Result<u32, CommandsFault>
-    ensures found { IfOk result (IsWholeNumber word.now) }
-    ensures fault { IfErr result (IsOnLine line.now.number (IsWholeFault word.now)) }
+    ensures { result ≡ told_as (faults.Line line.now.number) (whole word.now) }
 {
     match whole_number(word, 9) {
         Some(number) => Ok(number as u32),
@@ -38,11 +36,9 @@ fn whole(line: &Line, word: &[u8]) -> Result<u32, CommandsFault>
     }
 }
 
-/// The look that the words behind `look` say, of a hypothesis of the case.
+/// Returns the look that the words behind `look` say, of a hypothesis of the case.
 fn look(line: &Line, words: Words, case: &Case) -> Result<Look, CommandsFault>
-    ensures found { IfOk result (λ look. IsArrival (content case.now).names (words_of words.entry) (arrival_of look)) }
-    ensures below { IfOk result (λ look. look.hypothesis < length (content case.now).names) }
-    ensures fault { IfErr result (IsOnLine line.now.number (IsArrivalFault (content case.now).names (words_of words.entry))) }
+    ensures { result ≡ told_as (faults.Line line.now.number) (look (content case.now).names (words_of words.entry)) }
 {
     let Some((name, stage, p)) = words.three() else {
         return Err(CommandsFault::Line(line.number, LineKind::WordCount));
@@ -51,7 +47,7 @@ fn look(line: &Line, words: Words, case: &Case) -> Result<Look, CommandsFault>
         return Err(CommandsFault::Line(line.number, LineKind::UnknownName));
     };
     let stage = whole(line, stage)?;
-    let p = numeral(line, p)?.ratio();
+    let p = numeral(line, p)?;
     Ok(Look {
         hypothesis: hypothesis as u32,
         stage,
@@ -59,10 +55,9 @@ fn look(line: &Line, words: Words, case: &Case) -> Result<Look, CommandsFault>
     })
 }
 
-/// The command of a line behind `show`: no word follows.
+/// Returns the command of a line behind `show`: no word follows.
 fn show(line: &Line, mut words: Words) -> Result<StudyCommand, CommandsFault>
-    ensures found { IfOk result (λ command. (command ≡ Show) × (words_of words.entry ≡ [])) }
-    ensures fault { IfErr result (IsOnLine line.now.number (IsShowFault (words_of words.entry))) }
+    ensures { result ≡ told_as (faults.Line line.now.number) (show (words_of words.entry)) }
 {
     match words.next() {
         None => Ok(StudyCommand::Show),
@@ -70,11 +65,9 @@ fn show(line: &Line, mut words: Words) -> Result<StudyCommand, CommandsFault>
     }
 }
 
-/// The command that a line says.
+/// Returns the command that a line says.
 pub fn command(line: &Line, case: &Case) -> Result<StudyCommand, CommandsFault>
-    ensures found { IfOk result (IsCommandLine (content case.now).names line.now.text.now) }
-    ensures below { IfOk result (IsBelow (length (content case.now).names)) }
-    ensures fault { IfErr result (IsOnLine line.now.number (IsCommandFault (content case.now).names line.now.text.now)) }
+    ensures { result ≡ told_as (faults.Line line.now.number) (command (content case.now).names line.now.text.now) }
 {
     if let Some(words) = line.behind(b"look") {
         return Ok(StudyCommand::Take(look(line, words, case)?));

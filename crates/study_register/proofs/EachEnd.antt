@@ -1,4 +1,4 @@
--- Each look ends: it is taken, it is bad, or it breaks off; so does each list of looks.
+-- Each look ends: it is taken, it is bad, or it stops part way; so does each list of looks.
 use Rattle.std.proofs.Common.{◌≡◌, ◌⊎◌, inl, inr, refl, sym, ap, ◌∙◌, subst, ℕ, zero, suc, ◌+◌, ◌≤◌, arith, List, []}
 use Rattle.std.proofs.Common.{◌∷◌, ◌++◌, length, is_some, Result, Ok, Err}
 use Rattle.std.proofs.lemmas.List.{map_push}
@@ -191,7 +191,7 @@ module _ (c : Content) where
         let first = stage_exists c s.values j (number_of (weight_of j)) passes in
         (record { hypothesis = j; stage = first.0; weight = weight_of j }, refl, record { member = L.member; weight = is; stage = first.1 })
 
-  -- a settling from a study breaks off at a place
+  -- a settling from a study stops part way at a place
   record Breaks (s : StudyState) (w : WideAt) : Type 0 where
     hypotheses : List ℕ
     stop : StudyState

@@ -22,7 +22,7 @@ parted ls i l h e = sym (append_assoc (take i ls) (l ∷ []) (drop (i + 1) ls)) 
 pub place_of : (ls : List Look) (i : ℕ) → i < length ls → i + 1 ≡ 1 + length (take i ls)
 place_of ls i h = let e = length-take-le i ls (omega (arith, h)) in omega (arith, e)
 
--- the first look that can't be taken, behind others that are taken
+-- the first look that can't be taken, after others that are taken
 pub stops_on : (c : Content) (ls : List Look) (old mid : StudyState) (n : ℕ) (l : Look) (after : List Look) (why : RegisterFault) → Follows c old ls mid
     → IsStopAt c mid (n + length ls) l why → IsFirstStop c old n (ls ++ l ∷ after) why
 stops_on c [] old mid n l after why h S = let e : n + 0 ≡ n = omega arith in inl (subst₂ (λ s m. IsStopAt c s m l why) h e S)

@@ -1,4 +1,4 @@
--- A look is taken, refused or breaks off, and only one of these; so a list of looks has one end.
+-- A look is taken, refused or stops part way, and only one of these; so a list of looks has one end.
 use Rattle.std.proofs.Common.{◌≡◌, inl, inr, refl, sym, ap, ap₂, ◌∙◌, subst, ℕ, ◌+◌, arith, List, [], ◌∷◌}
 use Rattle.graph_io.specs.declared.keeper.Look.{Look}
 use Rattle.case_model.specs.Content.{Content}

@@ -74,7 +74,7 @@ module _ (c : Content) where
       follows_values ls h.0 new h.2 ∙ ap (λ vs. vs ++ arrivals_of ls) (look_values c old h.0 (arrival_of l) h.1.0 h.1.1)
       ∙ append_assoc old.values (arrival_of l ∷ []) (arrivals_of ls)
 
-  -- looks behind looks
+  -- looks after looks
   pub follows_on : (ls ms : List Look) (s t u : StudyState) → Follows c s ls t → Follows c t ms u → Follows c s (ls ++ ms) u
   follows_on [] ms s t u e h = subst (λ x. Follows c x ms u) e h
   follows_on (l ∷ ls) ms s t u h k = (h.0, h.1, follows_on ls ms h.0 t u h.2 k)

@@ -17,7 +17,7 @@ use Rattle.study_register.specs.declared.taking.TakeFault.{TakeFault}
 use Rattle.study_register.specs.declared.taking.TakeFault.TheVariants as takings
 use Rattle.study_register.specs.Looking.{arrival_of, Takes}
 
--- some looks, and all that are kept where the keeper tells them
+-- some looks, and all that are kept if the keeper exposes them
 abbrev pub OnLooks : Option (List Look) → (List Look → Type 0) → Type 0
 OnLooks kept P = (looks : List Look) × P looks × IfSome kept (λ told. told ≡ looks)
 
@@ -63,7 +63,8 @@ module _ (c : Content) where
   IsAddFault s l rose additions.Fault = (new : StudyState) × Takes c s l new × rose
   IsAddFault s l rose additions.NoMemory = (new : StudyState) × Takes c s l new
 
-  -- a look arrives, and its settling breaks off at `w`: the first legal hypotheses were rejected up to one whose removal is undefined
+  -- a look arrives, and its settling stops part way at `w`: the first legal hypotheses were rejected up to one whose removal is
+  -- undefined
   pub record BreaksInto (s : StudyState) (l : Look) (w : WideAt) (new : StudyState) : Type 0 where
     pub arrived : StudyState
     pub arrival : IsArrival c s (arrival_of l) arrived
@@ -83,7 +84,7 @@ module _ (c : Content) where
   Leaves s l new additions.Fault = Takes c s l new
   Leaves s l new additions.NoMemory = Takes c s l new
 
--- a fact where the keeper had no fault: the opening of the case or a look that is kept is refused, or memory ran out
+-- a fact where the keeper had no fault: the opening of the case or a look that is kept is refused, or memory was exhausted
 abbrev pub IfLooksRefused : Type 0 → RegisterFault → Type 0
 IfLooksRefused p (BadLook n l) = p
 IfLooksRefused p (Wide n w) = p
@@ -109,7 +110,7 @@ IfNotAsked p (additions.Wide w) = p
 IfNotAsked p additions.Fault = Unit {0}
 IfNotAsked p additions.NoMemory = Unit {0}
 
--- a fact where memory ran out
+-- a fact where memory was exhausted
 abbrev pub IfMemory : Type 0 → AddFault → Type 0
 IfMemory p (additions.Refused f) = Unit {0}
 IfMemory p (additions.Wide w) = Unit {0}

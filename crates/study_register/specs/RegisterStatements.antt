@@ -23,7 +23,7 @@ OneMoreIsTaken =
     (c : Content) (looks : List Look) (old new : StudyState) (l : Look) → AreTaken c looks old → Takes c old l new
     → AreTaken c (looks ++ l ∷ []) new
 
--- Whatever looks are asked for after those that were taken: the state is that of the old ones and of those that were taken besides.
+-- Whatever looks are requested after those that were taken: the state is that of the old ones and of those that were taken also.
 abbrev pub RepliesAreTaken : Type 0
 RepliesAreTaken =
     (c : Content) (looks : List Look) (old new : StudyState) (rs : List Replied) → AreTaken c looks old → AreReplies c old rs new
@@ -68,8 +68,8 @@ EachOpeningEnds =
     (c : Content) (looks : List Look) → IsValidContent c
     → ((s : StudyState) × AreTaken c looks s) ⊎ (((why : RegisterFault) × IsStopped c looks why) ⊎ ((w : WideAt) × (case_opening c ≡ Err w)))
 
--- A look is taken, refused for one reason, or breaks off at one place, and no two of the three. Only a look of a hypothesis of the case is taken or
--- breaks off.
+-- A look is taken, refused for one reason, or stops part way at one place, and no two of the three. Only a look of a hypothesis of the case is
+-- taken or stops part way.
 pub record HasOneEnd (c : Content) (s : StudyState) (l : Look) : Type 0 where
   pub state : (t u : StudyState) → Takes c s l t → Takes c s l u → t ≡ u
   pub refusal : (f g : StepFault) → IsArriveFault c s (arrival_of l) f → IsArriveFault c s (arrival_of l) g → f ≡ g
@@ -83,8 +83,8 @@ pub record HasOneEnd (c : Content) (s : StudyState) (l : Look) : Type 0 where
 abbrev pub LooksHaveOneEnd : Type 0
 LooksHaveOneEnd = (c : Content) (s : StudyState) (l : Look) → HasOneEnd c s l
 
--- Each look has an end: behind looks that were taken it is taken, or it can't arrive, since it names no hypothesis of the case or its arrival is
--- refused, or it breaks off at a place.
+-- Each look has an end: after looks that were taken it is taken, or it can't arrive, since it names no hypothesis of the case or its arrival is
+-- refused, or it stops part way at a place.
 abbrev pub EachLookEnds : Type 0
 EachLookEnds =
     (c : Content) (looks : List Look) (s : StudyState) (l : Look) → IsValidContent c → AreTaken c looks s

@@ -21,7 +21,7 @@ study_in r = study r.study
 abbrev pub looks_in : Register → StudyState
 looks_in r = (study_in r).looks
 
--- an addition broke off
+-- an addition stopped part way
 abbrev pub is_spent : Register → Bool
 is_spent r = r.spent
 

@@ -1,11 +1,11 @@
--- Looks that are asked for one after another: each is taken, or refused and changes nothing (this project's own).
+-- Looks that are requested one after another: each is taken, or refused and changes nothing (this project's own).
 use Rattle.std.specs.Prelude.{◌≡◌, ◌++◌, Bool, true, false, List, [], ◌∷◌}
 use Rattle.graph_io.specs.declared.keeper.Look.{Look}
 use Rattle.case_model.specs.Content.{Content}
 use Rattle.staged_levels.specs.Studies.{StudyState}
 use Rattle.study_register.specs.Looking.{Takes}
 
--- a look that was asked for, and whether it was taken
+-- a look that was requested, and whether it was taken
 pub record Replied : Type 0 where
   pub look : Look
   pub taken : Bool

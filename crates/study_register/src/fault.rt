@@ -13,7 +13,7 @@ pub enum RegisterFault {
     Wide(usize, WideAt),
     /// The keeper failed, and counted it.
     Fault,
-    /// Memory ran out.
+    /// Out of memory.
     NoMemory,
 }
 
@@ -54,7 +54,7 @@ pub enum AddFault {
     Wide(WideAt),
     /// The keeper failed, and counted it.
     Fault,
-    /// Memory ran out.
+    /// Out of memory.
     NoMemory,
 }
 

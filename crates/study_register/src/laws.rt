@@ -1,10 +1,24 @@
 //! Laws of registers. Each function states laws that hold of all cases, and does nothing.
 
-ghost use Rattle.study_register.specs.RegisterStatements.{OneMoreIsTaken, RepliesAreTaken, TakenLooksDecide, OrdersOfLooksAgree, ReopeningsAgree};
-ghost use Rattle.study_register.specs.RegisterStatements.{TakenLooksAreNotStopped, StopsAreUnique, WideOpeningsTakeNothing, EachOpeningEnds, LooksHaveOneEnd, EachLookEnds};
+ghost use Rattle.study_register.specs.RegisterStatements.{
+  OneMoreIsTaken,
+  RepliesAreTaken,
+  TakenLooksDecide,
+  OrdersOfLooksAgree,
+  ReopeningsAgree,
+};
+ghost use Rattle.study_register.specs.RegisterStatements.{
+  TakenLooksAreNotStopped,
+  StopsAreUnique,
+  WideOpeningsTakeNothing,
+  EachOpeningEnds,
+  LooksHaveOneEnd,
+  EachLookEnds,
+};
 
-/// By whatever looks are asked for, each of which is taken or refused, the rejections are exactly those of the staged closed test on
-/// all looks that were taken, in whatever order they came. The same looks in the same order give the same rejections again.
+/// By whatever looks are requested, each of which is taken or refused, the rejections are exactly those of the staged
+/// closed test on all looks that were taken, in whatever order they came. The same looks in the same order give the
+/// same rejections again.
 pub fn registers_decide()
     ensures one_more { OneMoreIsTaken }
     ensures replies { RepliesAreTaken }
@@ -22,8 +36,9 @@ pub fn openings_have_one_end()
     ensures each { EachOpeningEnds }
 {}
 
-/// A look is taken, refused for one reason, or breaks off at one place, and no two of the three. Behind looks that were taken at
-/// a valid case one of the three always holds, where a look that names no hypothesis is one that is refused.
+/// A look is taken, refused for one reason, or stops part way at one place, and no two of the three. After looks that
+/// were taken at a valid case one of the three always holds, where a look that names no hypothesis is one that is
+/// refused.
 pub fn looks_have_one_end()
     ensures one { LooksHaveOneEnd }
     ensures each { EachLookEnds }

@@ -7,7 +7,17 @@ ghost use Rattle.case_model.specs.CaseView.{content};
 ghost use Rattle.staged_levels.specs.StudyAnswers.{IsStaged};
 ghost use Rattle.staged_levels.specs.StudyContents.{IsStudy, size_of};
 ghost use Rattle.study_register.specs.Looking.{Takes, AreTaken};
-ghost use Rattle.study_register.specs.RegisterFaults.{OnLooks, IsRegisterFault, IsAddFault, IfLooksRefused, IfRefused, IfNotAsked, IfMemory, Leaves, spent_after};
+ghost use Rattle.study_register.specs.RegisterFaults.{
+  OnLooks,
+  IsRegisterFault,
+  IsAddFault,
+  IfLooksRefused,
+  IfRefused,
+  IfNotAsked,
+  IfMemory,
+  Leaves,
+  spent_after,
+};
 
 use crate::taking::{TakeFault, follow, take};
 use crate::{AddFault, RegisterFault};
@@ -37,11 +47,11 @@ impl Register {
     /// Opens a case whose p-values are those of stages, and takes all looks of a keeper in their order: each arrives, and then the
     /// study is settled. The arrivals of the case itself don't count. The looks of the keeper stay.
     ///
-    /// Unless memory runs out or the keeper fails: it is `RegisterFault::Wide` at 0 exactly where the written opening is
+    /// Unless out of memory or the keeper fails: it is `RegisterFault::Wide` at 0 exactly where the written opening is
     /// undefined; else it is, at the first look that can't be taken, `RegisterFault::BadLook` exactly where it names no
-    /// hypothesis of the case or its arrival is refused, and `RegisterFault::Wide` exactly where its settling breaks off. Places
-    /// count from 1. It is `RegisterFault::Fault` only where the case was opened and the keeper's count rose in this call; with
-    /// each other answer the count stays.
+    /// hypothesis of the case or its arrival is refused, and `RegisterFault::Wide` exactly where its settling stops
+    /// part way. Places count from 1. It is `RegisterFault::Fault` only where the case was opened and the keeper's
+    /// count rose in this call; with each other answer the count stays.
     pub fn open<K: Keeper>(
         alloc: Global,
         case: &Case,
@@ -51,7 +61,8 @@ impl Register {
         ensures study { IfOk result (λ r. IsStudy (content case.now) (study_in r)) }
         ensures taken { IfOk result (λ r. OnLooks (K.looks keeper.old) (λ looks. AreTaken (content case.now) looks (looks_in r))) }
         ensures fresh { IfOk result (λ r. is_spent r ≡ false) }
-        ensures fault { IfErr result (IsRegisterFault (content case.now) (K.looks keeper.old) (Rose (K.faults keeper.old) (K.faults keeper.new))) }
+        ensures fault { IfErr result (IsRegisterFault (content case.now) (K.looks keeper.old) (Rose
+            (K.faults keeper.old) (K.faults keeper.new))) }
         ensures kept { K.looks keeper.new ≡ K.looks keeper.old }
         ensures later { K.faults keeper.old ≤ K.faults keeper.new }
         ensures counted { OnOk result (K.faults keeper.new ≡ K.faults keeper.old) }
@@ -67,51 +78,54 @@ impl Register {
         })
     }
 
-    /// The number of hypotheses, as looks name them.
+    /// Returns the number of hypotheses, as looks name them.
     pub fn size(&self) -> usize
         ensures { result ≡ size_of (study_in self.now) }
     {
         self.study.size()
     }
 
-    /// Whether an addition broke off, so that nothing more can be added: the keeper may not hold what the study has taken.
+    /// Whether an addition stopped part way, so that nothing more can be added: the keeper may not hold what the study
+    /// has taken.
     pub fn is_spent(&self) -> bool
         ensures { result ≡ is_spent self.now }
     {
         self.spent
     }
 
-    /// The number of looks that have arrived.
+    /// Returns the number of looks that have arrived.
     pub fn count(&self) -> usize
         ensures { result ≡ length (looks_in self.now).values }
     {
         self.study.values().len()
     }
 
-    /// The place, counted from 1, of the look that would arrive next.
+    /// Returns the place, counted from 1, of the look that would arrive next.
     pub fn next_place(&self) -> usize
         ensures { result ≡ length (looks_in self.now).values + 1 }
     {
         self.study.values().len() + 1
     }
 
-    /// The rejections in their order, each with its stage and its weight at its moment. Where these looks were taken, whatever their
-    /// order, they are exactly those of the staged closed test on them.
+    /// Returns the rejections in their order, each with its stage and its weight at its moment. Where these looks were
+    /// taken, whatever their order, they are exactly those of the staged closed test on them.
     pub fn settled(&self) -> &[Settled]
         ensures value { result.now ≡ (looks_in self.now).rejected }
-        ensures decides { (c : Content) (looks : Seq Kept) (j : ℕ) → IsValidContent c → AreTaken c looks (looks_in self.now) → IsListed (positions_of result.now) j ↔ IsStagedRejectedIn c (arrivals_of looks) j }
+        ensures decides { (c : Content) (looks : Seq Kept) (j : ℕ) → IsValidContent c
+            → AreTaken c looks (looks_in self.now) → IsListed (positions_of result.now) j
+            ↔ IsStagedRejectedIn c (arrivals_of looks) j }
     {
         self.study.settled()
     }
 
-    /// Lets a look of a hypothesis of the case arrive, settles the study, and only then puts the look behind those of the keeper.
-    /// The register isn't spent.
+    /// Lets a look of a hypothesis of the case arrive, settles the study, and only then puts the look after those of
+    /// the keeper. The register isn't spent.
     ///
-    /// It is `AddFault::Refused` exactly where the arrival is refused, and then all is unchanged. It is `AddFault::Wide` exactly
-    /// where the settling breaks off, `AddFault::Fault` only where the look was taken and the keeper's count rose in this call,
-    /// and `AddFault::NoMemory` where the keeper has no memory for it, and its count stays. After these three the looks of the
-    /// keeper are unchanged, and the register is spent: after `Wide` the look has arrived, and the rejections before the
-    /// undefined one stay; after the other two the look is taken.
+    /// It is `AddFault::Refused` exactly where the arrival is refused, and then all is unchanged. It is
+    /// `AddFault::Wide` exactly where the settling stops part way, `AddFault::Fault` only where the look was taken and
+    /// the keeper's count rose in this call, and `AddFault::NoMemory` where the keeper has no memory for it, and its
+    /// count stays. After these three the looks of the keeper are unchanged, and the register is spent: after `Wide`
+    /// the look has arrived, and the rejections before the undefined one stay; after the other two the look is taken.
     pub fn add<K: Keeper>(
         &mut self,
         alloc: Global,
@@ -121,12 +135,15 @@ impl Register {
         requires below { look.now.hypothesis < size_of (study_in self.old) }
         requires fresh { is_spent self.old ≡ false }
         ensures study { (c : Content) → IsStudy c (study_in self.old) → IsStudy c (study_in self.new) }
-        ensures taken { OnOk result ((c : Content) → IsStudy c (study_in self.old) → Takes c (looks_in self.old) look.now (looks_in self.new)) }
+        ensures taken { OnOk result ((c : Content) → IsStudy c (study_in self.old)
+            → Takes c (looks_in self.old) look.now (looks_in self.new)) }
         ensures kept { OnOk result (K.looks keeper.new ≡ with_look (K.looks keeper.old) look.now) }
-        ensures fault { IfErr result (λ fault. (c : Content) → IsStudy c (study_in self.old) → IsAddFault c (looks_in self.old) look.now (Rose (K.faults keeper.old) (K.faults keeper.new)) fault) }
+        ensures fault { IfErr result (λ fault. (c : Content) → IsStudy c (study_in self.old)
+            → IsAddFault c (looks_in self.old) look.now (Rose (K.faults keeper.old) (K.faults keeper.new)) fault) }
         ensures unchanged { OnErr result (K.looks keeper.new ≡ K.looks keeper.old) }
         ensures refused { IfErr result (IfRefused (study_in self.new ≡ study_in self.old)) }
-        ensures left { IfErr result (λ fault. (c : Content) → IsStudy c (study_in self.old) → Leaves c (looks_in self.old) look.now (looks_in self.new) fault) }
+        ensures left { IfErr result (λ fault. (c : Content) → IsStudy c (study_in self.old)
+            → Leaves c (looks_in self.old) look.now (looks_in self.new) fault) }
         ensures not_asked { IfErr result (IfNotAsked (keeper.new ≡ keeper.old)) }
         ensures memory { IfErr result (IfMemory (K.faults keeper.new ≡ K.faults keeper.old)) }
         ensures spent { is_spent self.new ≡ spent_after result }

@@ -18,11 +18,11 @@ use staged_levels::{Event, SettleFault, StepFault, Study};
 pub(crate) enum TakeFault {
     /// Its arrival is refused.
     Refused(StepFault),
-    /// The settling breaks off.
+    /// The settling stops part way.
     Wide(WideAt),
 }
 
-/// The arrival of a look.
+/// Returns the arrival of a look.
 fn event_of(look: &Look) -> Event
     ensures { result ≡ Arrive look.now.hypothesis look.now.stage look.now.p }
 {
@@ -33,15 +33,18 @@ fn event_of(look: &Look) -> Event
     )
 }
 
-/// Lets a look of a hypothesis of the case arrive, and settles the study. A refused arrival changes nothing. Where the settling
-/// breaks off, the look has arrived, and the rejections before that stay.
+/// Lets a look of a hypothesis of the case arrive, and settles the study. A refused arrival changes nothing. Where the
+/// settling stops part way, the look has arrived, and the rejections before that stay.
 pub(crate) fn take(current: &mut Study, look: &Look) -> Result<(), TakeFault>
     requires { look.now.hypothesis < size_of (study current.old) }
     ensures study { (c : Content) → IsStudy c (study current.old) → IsStudy c (study current.new) }
-    ensures taken { OnOk result ((c : Content) → IsStudy c (study current.old) → Takes c (study current.old).looks look.now (study current.new).looks) }
-    ensures fault { IfErr result (λ fault. (c : Content) → IsStudy c (study current.old) → IsTakeFault c (study current.old).looks look.now fault) }
+    ensures taken { OnOk result ((c : Content) → IsStudy c (study current.old)
+        → Takes c (study current.old).looks look.now (study current.new).looks) }
+    ensures fault { IfErr result (λ fault. (c : Content) → IsStudy c (study current.old)
+        → IsTakeFault c (study current.old).looks look.now fault) }
     ensures refused { IfErr result (IfNotTaken (study current.new ≡ study current.old)) }
-    ensures left { IfErr result (λ fault. (c : Content) → IsStudy c (study current.old) → LeavesUntaken c (study current.old).looks look.now (study current.new).looks fault) }
+    ensures left { IfErr result (λ fault. (c : Content) → IsStudy c (study current.old)
+        → LeavesUntaken c (study current.old).looks look.now (study current.new).looks fault) }
     ensures size { size_of (study current.new) ≡ size_of (study current.old) }
 {
     if let Err(fault) = current.step(event_of(look)) {
@@ -56,8 +59,10 @@ pub(crate) fn take(current: &mut Study, look: &Look) -> Result<(), TakeFault>
 /// Takes the look at a place, which may be bad.
 fn take_kept(current: &mut Study, place: usize, look: &Look) -> Result<(), RegisterFault>
     ensures study { (c : Content) → IsStudy c (study current.old) → IsStudy c (study current.new) }
-    ensures taken { OnOk result ((c : Content) → IsStudy c (study current.old) → Takes c (study current.old).looks look.now (study current.new).looks) }
-    ensures fault { IfErr result (λ fault. (c : Content) → IsStudy c (study current.old) → IsStopAt c (study current.old).looks place look.now fault) }
+    ensures taken { OnOk result ((c : Content) → IsStudy c (study current.old)
+        → Takes c (study current.old).looks look.now (study current.new).looks) }
+    ensures fault { IfErr result (λ fault. (c : Content) → IsStudy c (study current.old)
+        → IsStopAt c (study current.old).looks place look.now fault) }
     ensures size { size_of (study current.new) ≡ size_of (study current.old) }
 {
     if look.hypothesis as usize >= current.size() {
@@ -73,8 +78,10 @@ fn take_kept(current: &mut Study, place: usize, look: &Look) -> Result<(), Regis
 /// Takes looks in their order. It stops at the first that can't be taken, with its place from 1.
 pub(crate) fn follow(current: &mut Study, looks: &[Look]) -> Result<(), RegisterFault>
     ensures study { (c : Content) → IsStudy c (study current.old) → IsStudy c (study current.new) }
-    ensures followed { OnOk result ((c : Content) → IsStudy c (study current.old) → Follows c (study current.old).looks looks.now (study current.new).looks) }
-    ensures fault { IfErr result (λ fault. (c : Content) → IsStudy c (study current.old) → IsFirstStop c (study current.old).looks 1 looks.now fault) }
+    ensures followed { OnOk result ((c : Content) → IsStudy c (study current.old)
+        → Follows c (study current.old).looks looks.now (study current.new).looks) }
+    ensures fault { IfErr result (λ fault. (c : Content) → IsStudy c (study current.old)
+        → IsFirstStop c (study current.old).looks 1 looks.now fault) }
     ensures size { size_of (study current.new) ≡ size_of (study current.old) }
 {
     for i in 0..looks.len() {

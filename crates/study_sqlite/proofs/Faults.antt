@@ -1,11 +1,11 @@
--- Errors of statements as they are told.
+-- Errors of statements as they are reported.
 use Rattle.std.proofs.Common.{◌≡◌, Result, Ok, Err, IfOk, IfErr, OnOk}
 use Rattle.std.specs.Result.{IsErrAnd}
 use Rattle.sqlite.specs.declared.error.Error.{Error}
 use Rattle.study_sqlite.specs.declared.fault.FileFault.{FileFault}
 use Rattle.study_sqlite.specs.FileFaults.{fault_of_error}
 
--- what holds of the fault that an error is told as holds where that error was told
+-- what holds of the fault that an error is reported as holds where that error was reported
 pub told : {T : Type 0} (r : Result T FileFault) (error : Error) (P : FileFault → Type 0) → IsErrAnd r (λ f. f ≡ fault_of_error error)
     → ((f : FileFault) → f ≡ fault_of_error error → P f) → IfErr r P
 told (Ok x) error P h k = tt

@@ -27,19 +27,19 @@ use Rattle.study_sqlite.specs.Storing.{IsLoadRefused, IsAppendRefused}
 use Rattle.study_sqlite.proofs.Faults.{told}
 use Rattle.study_sqlite.proofs.PrintedRatios.{printed_text}
 
--- ---- errors that are told
+-- ---- errors that are reported
 
--- what holds of a refusal holds of what an error is told as, where that is a refusal
+-- what holds of a refusal holds of what an error is reported as, where that is a refusal
 pub on_refusal : (f : FileFault) (error : Error) (P : Type 0) → f ≡ fault_of_error error → (fault_of_error error ≡ Refused → P) → OnRefusal P f
 on_refusal Refused error P is k = k (sym is)
 on_refusal NoMemory error P is k = tt
 
--- the same of what a call tells
+-- the same of what a call reports
 pub told_refused : {T : Type 0} (r : Result T FileFault) (error : Error) (P : Type 0) → IsErrAnd r (λ f. f ≡ fault_of_error error)
     → (fault_of_error error ≡ Refused → P) → IfErr r (OnRefusal P)
 told_refused r error P h k = told r error (OnRefusal P) h (λ f is. on_refusal f error P is k)
 
--- a refusal isn't want of memory
+-- a refusal isn't out of memory
 pub not_memory : (error : Error) → fault_of_error error ≡ Refused → error ≢ SqliteFailure OutOfMemory
 not_memory error is e =
     let same : NoMemory ≡ Refused = sym (ap fault_of_error e) ∙ is in

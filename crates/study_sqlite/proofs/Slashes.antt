@@ -72,7 +72,7 @@ pair_only n d over under fits plain is =
           (h, both.0, both.1))
     ]
 
--- in both forms the numerator stands in front
+-- in both forms the numerator is in front
 pub front_only : {T : Type 0} (now : T → List ℕ) (n d : ℤ) (text over : List ℕ) (under : Option T) → FitsSigned w128 n → HasNoSlash over
     → MatchOption under (text ≡ over) (λ u. text ≡ over ++ 47 ∷ now u) → text ≡ fraction_text n d → over ≡ signed_decimal n
 front_only now n d text over None fits plain cut is = (whole_only n d over plain (sym cut ∙ is)).1

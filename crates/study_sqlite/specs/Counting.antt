@@ -12,12 +12,12 @@ use Rattle.study_sqlite.specs.declared.keeper.SqliteKeeper.{SqliteKeeper}
 abbrev pub fault_count : SqliteKeeper → ℕ
 fault_count keeper = keeper.faults
 
--- A refusal is told as a fault, and the count is one more then; want of memory is told as such, and the count stays.
+-- A refusal is reported as a fault, and the count is one more then; out of memory is reported as such, and the count stays.
 abbrev pub IsCounted : ℕ → ℕ → FileFault → KeeperFault → Type 0
 IsCounted before now Refused told = (told ≡ Fault) × (now ≡ count_up before)
 IsCounted before now files.NoMemory told = (told ≡ NoMemory) × (now ≡ before)
 
--- what holds where a fault is told; memory may run out at any time
+-- what holds where a fault is reported; memory may run out at any time
 abbrev pub OnFault : Type 0 → KeeperFault → Type 0
 OnFault P Fault = P
 OnFault P NoMemory = ⊤

@@ -8,7 +8,7 @@ use Rattle.study_sqlite.specs.declared.fault.FileFault.TheVariants as files
 use Rattle.study_sqlite.specs.declared.fault.RowsFault.{RowsFault}
 use Rattle.study_sqlite.specs.declared.fault.RowsFault.TheVariants as rows
 
--- want of memory is told apart from all other errors
+-- out of memory is reported apart from all other errors
 abbrev pub fault_of_error : Error → FileFault
 fault_of_error (SqliteFailure OutOfMemory) = files.NoMemory
 fault_of_error error = files.Refused

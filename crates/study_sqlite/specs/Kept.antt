@@ -17,7 +17,7 @@ module _ {S : Type 0} (g : Ghosts S) (before after : Held S) where
     pub shown : ShowedRows (state g middle) (state g after) rows
     pub read : AreRows rows looks
 
-  -- The row of the look was put behind the others: the table was made where it wasn't there, and then the row was put there.
+  -- The row of the look was put after the others: the table was made where it wasn't there, and then the row was put there.
   pub record IsPut (look : Look) : Type 0 where
     pub middle : Held S
     pub row : LookRow

@@ -20,7 +20,7 @@ pub record IsRow (hypothesis stage : ℤ) (p : List ℕ) (look : Look) : Type 0 
 abbrev pub IsRowOf : LookRow → Look → Type 0
 IsRowOf row look = IsRow row.hypothesis row.stage row.p look
 
--- as many rows as looks, each the row of the look at its place
+-- a row for each look, in order
 abbrev pub AreRows : List LookRow → List Look → Type 0
 AreRows rows looks = AllZip IsRowOf rows looks
 

@@ -16,7 +16,7 @@ use Rattle.study_sqlite.specs.Rows.{IsRowOf}
 abbrev pub make_sql : List ℕ
 make_sql = codes "CREATE TABLE IF NOT EXISTS looks (place INTEGER PRIMARY KEY, hypothesis INTEGER NOT NULL, stage INTEGER NOT NULL, p TEXT NOT NULL, UNIQUE (hypothesis, stage))"
 
--- a row is put behind the others
+-- a row is put after the others
 abbrev pub put_sql : List ℕ
 put_sql = codes "INSERT INTO looks (hypothesis, stage, p) VALUES (?1, ?2, ?3)"
 
@@ -43,7 +43,7 @@ module _ (old new : State) where
   abbrev pub Ran : List ℕ → Row → Type 0
   Ran sql values = (count : ℕ) × Executes sql values old new (Ok count)
 
-  -- a statement gave an error, which is told as this fault
+  -- a statement gave an error, which is reported as this fault
   abbrev pub RanInto : List ℕ → Row → FileFault → Type 0
   RanInto sql values fault = (error : Error) × (fault ≡ fault_of_error error) × Executes sql values old new (Err error)
 
@@ -51,7 +51,7 @@ module _ (old new : State) where
   abbrev pub ShowedRows : List LookRow → Type 0
   ShowedRows rows = (answer : List Row) × Shown rows_sql [] old new answer × AllZip IsShownAs answer rows
 
-  -- the query of the rows gave an error other than want of memory
+  -- the query of the rows gave an error other than out of memory
   abbrev pub IsQueryRefused : Type 0
   IsQueryRefused = (error : Error) × (fault_of_error error ≡ Refused) × FailsToQuery rows_sql [] old new error
 

@@ -44,7 +44,7 @@ AreLoaded old new looks =
     × (HasCleanDisk (file_state after) → HasCleanDisk (file_state before))
     × (HasCleanDisk (file_state after) → AreKept over_files before after looks)
 
--- the looks of the file were put behind others
+-- the looks of the file were put after others
 abbrev pub IsLoaded : Storage → Storage → List Look → List Look → Type 0
 IsLoaded old new others all = (looks : List Look) × (all ≡ others ++ looks) × AreLoaded old new looks
 
@@ -81,7 +81,7 @@ IsAppendRefused old new look =
 abbrev pub IsCopiedTo : {D : Type 0} {g : _} → Held (FileStore D g) → Files D → Type 0
 IsCopiedTo {D} {g} connection left = AreClean g left.log left.db → IsCopied connection left
 
--- the close of a connection gave an error other than want of memory
+-- the close of a connection gave an error other than out of memory
 abbrev pub IsCloseRefused : {D : Type 0} {g : _} → Held (FileStore D g) → Type 0
 IsCloseRefused {D} {g} connection =
     (last : FileStore D g) × (error : Error) × (fault_of_error error ≡ Refused) × files.IsClosed connection last

@@ -7,7 +7,7 @@ use sqlite::{Error, ErrorCode};
 pub enum RowsFault {
     /// The row at this place, counted from 1, is that of no look, and it is the first such row.
     Bad(usize),
-    /// Memory ran out.
+    /// Out of memory.
     NoMemory,
 }
 
@@ -27,7 +27,7 @@ impl From<NoMemory> for RowsFault {
 pub enum FileFault {
     /// The file, a statement or a row was refused.
     Refused,
-    /// Memory ran out.
+    /// Out of memory.
     NoMemory,
 }
 

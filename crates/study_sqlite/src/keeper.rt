@@ -2,6 +2,7 @@
 ghost use Rattle.std.specs.Prelude.{◌≡◌, ◌<◌, ◌^◌, None, IfOk, IfErr, OnOk, OnErr};
 
 use crate::storage::Storage;
+use crate::table::FileConnection;
 use crate::{Closed, FileFault};
 use field_core::List;
 use graph_io::{Keeper, KeeperFault, Look};
@@ -18,10 +19,21 @@ pub struct SqliteKeeper {
 impl SqliteKeeper {
     ghost use Rattle.study_sqlite.specs.Counting.{fault_count, IsCounted};
     ghost use Rattle.study_sqlite.specs.Storing.{storage_of, IsClosed, IsCloseFault};
-    ghost use Rattle.study_sqlite.specs.declared.storage.Storage.TheVariants.{Unopened};
+    ghost use Rattle.study_sqlite.specs.declared.storage.Storage.TheVariants.{Unopened, Opened};
 
-    /// A keeper over the file at this path. The first call opens it, and makes it where it isn't there; until then nothing is
-    /// read of it or written to it.
+    /// Returns a keeper over this connection.
+    pub fn new(connection: FileConnection) -> SqliteKeeper
+        ensures storage { storage_of result ≡ Opened connection }
+        ensures faults { fault_count result ≡ 0 }
+    {
+        SqliteKeeper {
+            storage: Storage::Opened(connection),
+            faults: 0,
+        }
+    }
+
+    /// Returns a keeper over the file at this path. The first call opens it, and makes it where it isn't there; until
+    /// then nothing is read of it or written to it.
     pub fn at(rt: &HostRuntime, path: String) -> SqliteKeeper
         ensures storage { storage_of result ≡ Unopened rt.now path }
         ensures faults { fault_count result ≡ 0 }
@@ -32,9 +44,10 @@ impl SqliteKeeper {
         }
     }
 
-    /// Copies what the log beside the file holds into the file, where it was opened, and gives both back; they are closed when
-    /// they are let go. The last commit is in the file then, without the log and also after a crash, as long as the disk returned
-    /// what was written. Where that is refused, the log still holds it, and the next opening finds it there.
+    /// Returns copies what the log beside the file holds into the file, where it was opened, and gives both back; they
+    /// are closed when they are let go. The last commit is in the file then, without the log and also after a crash, as
+    /// long as the disk returned what was written. Where that is refused, the log still holds it, and the next opening
+    /// finds it there.
     pub fn close(self) -> Result<Closed, FileFault>
         ensures closed { IfOk result (IsClosed (storage_of self)) }
         ensures why { IfErr result (IsCloseFault (storage_of self)) }
@@ -43,7 +56,7 @@ impl SqliteKeeper {
         storage.close()
     }
 
-    /// Counts a fault of the file, unless memory ran out.
+    /// Counts a fault of the file, unless memory was exhausted.
     fn counted(&mut self, fault: FileFault) -> KeeperFault
         ensures counted { IsCounted (fault_count self.old) (fault_count self.new) fault result }
         ensures storage { storage_of self.new ≡ storage_of self.old }
@@ -69,8 +82,8 @@ impl Keeper for SqliteKeeper {
 
     ghost counted = { λ k. k.in_range };
 
-    /// A fault is told only where the file isn't open then, a statement gave an error, or a row that the file showed is that of
-    /// no look, as long as the disk returned what was written.
+    /// A fault is reported only where the file isn't open then, a statement gave an error, or a row that the file
+    /// showed is that of no look, as long as the disk returned what was written.
     fn load(&mut self, alloc: Global, into: &mut List<Look>) -> Result<(), KeeperFault>
         ensures loaded { OnOk result (Loads None into.old into.new) }
         ensures unchanged { OnErr result (into.new ≡ into.old) }
@@ -85,8 +98,8 @@ impl Keeper for SqliteKeeper {
         Ok(())
     }
 
-    /// A fault is told only where the file isn't open then or a statement gave an error, as long as the disk returned what was
-    /// written.
+    /// A fault is reported only where the file isn't open then or a statement gave an error, as long as the disk
+    /// returned what was written.
     fn append(&mut self, alloc: Global, look: &Look) -> Result<(), KeeperFault>
         ensures cause { IsCaused (fault_count self.old) (fault_count self.new) result }
         ensures look { OnOk result (IsAppended (storage_of self.old) (storage_of self.new) look.now) }

@@ -1,5 +1,11 @@
 //! Laws of rows.
-ghost use Rattle.study_sqlite.specs.RowStatements.{RowsSayOneLook, LooksHaveOneRow, RowsAreReadOneWay, RowsHaveOneFault, ReadRowsHaveNoFault};
+ghost use Rattle.study_sqlite.specs.RowStatements.{
+  RowsSayOneLook,
+  LooksHaveOneRow,
+  RowsAreReadOneWay,
+  RowsHaveOneFault,
+  ReadRowsHaveNoFault,
+};
 
 /// Rows and looks correspond one to one: no row is that of two looks, and no look has two rows.
 pub fn rows_and_looks_correspond()

@@ -4,22 +4,23 @@
 //! - `to_row`: `row` (the row of the look, `IsRow`). `from_row`: `found`, `only`, `other` (a look exactly where the three
 //!   values are the row of one, and that look).
 //! - `read_rows`: `read` (the looks of the rows, in their order), `fault` (the first row that is that of no look).
-//! - Statements of `table`, over any connection, by what it showed before and after and as long as the disk returned what was
-//!   written: `make` and `put` ran `make_sql` and `put_sql` with the values of the row, or tell the error that it gave (`made`,
-//!   `ran`, `why`); `rows` are the rows of the answer to `rows_sql`, in its order (`shown`), and are refused only where that gave
-//!   an error or showed a row that is that of no look (`why`). What the statements do to a table is the meaning that the crate
-//!   `sqlite` gives their texts (`Executes`, `Shown`, `FailsToQuery`).
+//! - Statements of `table`, over any connection, by what it showed before and after and as long as the disk returned
+//!   what was written: `make` and `put` ran `make_sql` and `put_sql` with the values of the row, or report the error
+//!   that it gave (`made`, `ran`, `why`); `rows` are the rows of the answer to `rows_sql`, in its order (`shown`), and
+//!   are refused only where that gave an error or showed a row that is that of no look (`why`). What the statements do
+//!   to a table is the meaning that the crate `sqlite` gives their texts (`Executes`, `Shown`, `FailsToQuery`).
 //! - `looks_in` and `keep_in` of `kept`: the table is made, and then all rows are shown and read, or the row of the look is put
 //!   there (`kept`, `put`); they are refused only where one of the two statements was, or for a row that is that of no look
 //!   (`why`).
-//! - `SqliteKeeper` is a `Keeper` that doesn't tell its looks: a fault comes only where its count rose, and else the count
-//!   stays; a refused load leaves the list as it was. Where `load` goes well, the looks of all rows that the file showed stand
-//!   behind the others (`looks`), and where `append` does, the row of the look was put into the file (`look`). Both tell a
-//!   fault only where the file isn't open then, a statement gave an error, or, of `load`, a row that the file showed is that of
-//!   no look (`why`). Each refusal of the file is told as a fault, and want of memory as such (`counted`). One that
-//!   is made `at` a path opens nothing before its first call (`storage`). Its `close` gives back the log and the database file
-//!   of a connection, whose last commit is in the database file then, alone and also after a crash (`closed`), or tells an error
-//!   of the connection's close (`why`); a file that was never opened has neither.
+//! - `SqliteKeeper` is a `Keeper` that doesn't expose its looks: a fault comes only where its count rose, and else the
+//!   count stays; a refused load leaves the list as it was. Where `load` goes well, the looks of all rows that the file
+//!   showed stand after the others (`looks`), and where `append` does, the row of the look was put into the file
+//!   (`look`). Both report a fault only where the file isn't open then, a statement gave an error, or, of `load`, a row
+//!   that the file showed is that of no look (`why`). Each refusal of the file is reported as a fault, and out of
+//!   memory as such (`counted`). One that is made `at` a path opens nothing before its first call, and a `new` one is
+//!   over its connection (`storage`). Its `close` gives back the log and the database file of a connection, whose last
+//!   commit is in the database file then, alone and also after a crash (`closed`), or reports an error of the
+//!   connection's close (`why`); a file that was never opened has neither.
 //! - Laws in `src/laws.rt`: rows and looks correspond one to one (`rows_and_looks_correspond`), and rows are the looks they
 //!   are read as or have one first bad row, and not both (`rows_have_one_reading`).
 //!

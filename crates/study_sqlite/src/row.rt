@@ -18,7 +18,7 @@ pub struct LookRow {
     pub p: Text,
 }
 
-/// The row of a look.
+/// Returns the row of a look.
 pub fn to_row(alloc: Global, look: &Look) -> Result<LookRow, NoMemory>
     ensures row { IfOk result (λ row. IsRow row.hypothesis row.stage row.p look.now) }
     ensures text { IfOk result (λ row. IsUtf8 row.p) }
@@ -32,7 +32,7 @@ pub fn to_row(alloc: Global, look: &Look) -> Result<LookRow, NoMemory>
     })
 }
 
-/// The look whose row has these values, or nothing where they are the row of none.
+/// Returns the look whose row has these values, or nothing where they are the row of none.
 pub fn from_row(hypothesis: i64, stage: i64, p: &[u8]) -> Option<Look>
     ensures found { IfSome result (IsRow hypothesis stage p.now) }
     ensures only { (look : Look) → IsRow hypothesis stage p.now look → result ≡ Some look }

@@ -7,7 +7,7 @@ use field_core::List;
 use graph_io::Look;
 use std::alloc::Global;
 
-/// The looks of rows, in their order.
+/// Returns the looks of rows, in their order.
 pub fn read_rows(alloc: Global, rows: &[LookRow]) -> Result<List<Look>, RowsFault>
     ensures read { IfOk result (AreRows rows.now) }
     ensures fault { IfErr result (IsRowsFault rows.now) }
@@ -22,7 +22,7 @@ pub fn read_rows(alloc: Global, rows: &[LookRow]) -> Result<List<Look>, RowsFaul
     Ok(looks)
 }
 
-/// The look of a row, or nothing where it is that of none.
+/// Returns the look of a row, or nothing where it is that of none.
 fn look_of(row: &LookRow) -> Option<Look>
     ensures found { IfSome result (IsRowOf row.now) }
     ensures other { IfNone result (IsOfNone row.now) }

@@ -1,7 +1,16 @@
-//! Where looks are kept: at a path until they are asked for, then over a connection.
+//! Where looks are kept: at a path until they are requested, then over a connection.
 ghost use Rattle.std.specs.Prelude.{IfOk, IfErr, OnOk, OnErr};
 ghost use Rattle.study_sqlite.specs.FileFaults.{OnRefusal};
-ghost use Rattle.study_sqlite.specs.Storing.{IsOpenedFrom, IsNotOpened, AreLoaded, IsAppended, IsLoadRefused, IsAppendRefused, IsClosed, IsCloseFault};
+ghost use Rattle.study_sqlite.specs.Storing.{
+  IsOpenedFrom,
+  IsNotOpened,
+  AreLoaded,
+  IsAppended,
+  IsLoadRefused,
+  IsAppendRefused,
+  IsClosed,
+  IsCloseFault,
+};
 
 use crate::kept::{keep_in, looks_in};
 use crate::table::{self, FileConnection};
@@ -13,7 +22,7 @@ use std::alloc::Global;
 /// A file of looks.
 #[derive(Drop)]
 pub enum Storage {
-    /// The file at this path, which nothing has asked for yet.
+    /// The file at this path, which nothing has requested yet.
     Unopened(HostRuntime, String),
     Opened(FileConnection),
 }
@@ -31,8 +40,8 @@ impl Storage {
         Ok(())
     }
 
-    /// The looks in the file, which is opened where it isn't open. They are refused only where the opening is, where a statement
-    /// gives an error, or for a row that is that of no look.
+    /// Returns the looks in the file, which is opened where it isn't open. They are refused only where the opening is,
+    /// where a statement gives an error, or for a row that is that of no look.
     pub fn looks(&mut self, alloc: Global) -> Result<List<Look>, FileFault>
         ensures loaded { IfOk result (AreLoaded self.old self.new) }
         ensures why { IfErr result (OnRefusal (IsLoadRefused self.old self.new)) }
@@ -57,7 +66,7 @@ impl Storage {
         }
     }
 
-    /// Copies the log into the file where it was opened, and gives both back; they are closed when they are let go.
+    /// Returns copies the log into the file where it was opened, and gives both back; they are closed when they are let go.
     pub fn close(self) -> Result<Closed, FileFault>
         ensures closed { IfOk result (IsClosed self) }
         ensures why { IfErr result (IsCloseFault self) }

@@ -6,7 +6,17 @@ ghost use Rattle.sqlite.specs.Held.{state};
 ghost use Rattle.sqlite.specs.State.{HasCleanDisk, Executes};
 ghost use Rattle.sqlite.specs.declared.types.Value.TheVariants.{Int, Text as SqlText};
 ghost use Rattle.study_sqlite.specs.FileFaults.{OnRefusal};
-ghost use Rattle.study_sqlite.specs.Statements.{make_sql, put_sql, values_of, IsShownAs, ShowsNoLook, Ran, RanInto, ShowedRows, AreRowsRefused};
+ghost use Rattle.study_sqlite.specs.Statements.{
+  make_sql,
+  put_sql,
+  values_of,
+  IsShownAs,
+  ShowsNoLook,
+  Ran,
+  RanInto,
+  ShowedRows,
+  AreRowsRefused,
+};
 ghost use Rattle.study_sqlite.specs.Storing.{IsCopiedTo, IsCloseRefused};
 
 use crate::{FileFault, LookRow};
@@ -47,7 +57,8 @@ pub fn rows<S: Alter>(
     connection: &mut Connection<S>,
 ) -> Result<List<LookRow>, FileFault>
     ensures clean { HasCleanDisk (state S.Store connection.new) → HasCleanDisk (state S.Store connection.old) }
-    ensures shown { HasCleanDisk (state S.Store connection.new) → IfOk result (ShowedRows (state S.Store connection.old) (state S.Store connection.new)) }
+    ensures shown { HasCleanDisk (state S.Store connection.new)
+        → IfOk result (ShowedRows (state S.Store connection.old) (state S.Store connection.new)) }
     ensures why { HasCleanDisk (state S.Store connection.new)
         → IfErr result (OnRefusal (AreRowsRefused (state S.Store connection.old) (state S.Store connection.new))) }
 {
@@ -55,7 +66,7 @@ pub fn rows<S: Alter>(
     look_rows(alloc, found.as_slice())
 }
 
-/// The values of each row of an answer. They are refused only for a row that is that of no look.
+/// Returns the values of each row of an answer. They are refused only for a row that is that of no look.
 fn look_rows(alloc: Global, answer: &[Row]) -> Result<List<LookRow>, FileFault>
     ensures shown { IfOk result (AllZip IsShownAs answer.now) }
     ensures why { IfErr result (OnRefusal ((shown : _) × Contains answer.now shown × ShowsNoLook shown)) }
@@ -67,7 +78,7 @@ fn look_rows(alloc: Global, answer: &[Row]) -> Result<List<LookRow>, FileFault>
     Ok(rows)
 }
 
-/// The values of a row, which is refused only where it is that of no look.
+/// Returns the values of a row, which is refused only where it is that of no look.
 fn look_row(alloc: Global, row: &Row) -> Result<LookRow, FileFault>
     ensures shown { IfOk result (IsShownAs row.now) }
     ensures why { IfErr result (OnRefusal (ShowsNoLook row.now)) }
@@ -82,7 +93,7 @@ fn look_row(alloc: Global, row: &Row) -> Result<LookRow, FileFault>
     })
 }
 
-/// Puts a row behind the others.
+/// Puts a row after the others.
 pub fn put<S: Alter>(connection: &mut Connection<S>, row: &LookRow) -> Result<(), FileFault>
     requires { IsUtf8 row.now.p }
     ensures clean { HasCleanDisk (state S.Store connection.new) → HasCleanDisk (state S.Store connection.old) }
@@ -98,7 +109,7 @@ pub fn put<S: Alter>(connection: &mut Connection<S>, row: &LookRow) -> Result<()
     Ok(())
 }
 
-/// Puts a row of these values behind the others.
+/// Puts a row of these values after the others.
 fn put_values<S: Alter>(
     connection: &mut Connection<S>,
     hypothesis: i64,
@@ -107,7 +118,8 @@ fn put_values<S: Alter>(
 ) -> Result<usize, Error>
     ensures clean { HasCleanDisk (state S.Store connection.new) → HasCleanDisk (state S.Store connection.old) }
     ensures runs { HasCleanDisk (state S.Store connection.new)
-        → Executes put_sql (Int hypothesis ∷ Int stage ∷ SqlText p.now ∷ []) (state S.Store connection.old) (state S.Store connection.new) result }
+        → Executes put_sql (Int hypothesis ∷ Int stage ∷ SqlText p.now ∷ []) (state S.Store connection.old)
+        (state S.Store connection.new) result }
 {
     connection.execute(
         "INSERT INTO looks (hypothesis, stage, p) VALUES (?1, ?2, ?3)",
@@ -115,8 +127,8 @@ fn put_values<S: Alter>(
     )
 }
 
-/// Copies the log into the file, and gives both back; they are closed when they are let go. The last commit is in the file then,
-/// as long as the disk returned what was written.
+/// Returns copies the log into the file, and gives both back; they are closed when they are let go. The last commit is
+/// in the file then, as long as the disk returned what was written.
 pub fn close(connection: FileConnection) -> Result<Files<File>, FileFault>
     ensures copied { IfOk result (IsCopiedTo connection) }
     ensures why { IfErr result (OnRefusal (IsCloseRefused connection)) }

@@ -1,4 +1,4 @@
-//! What cases hold: just what their drafts say.
+//! What cases hold: exactly what their drafts say.
 ghost use Rattle.std.specs.Prelude.{◌≡◌, length};
 
 use crate::said::entry;
@@ -43,7 +43,7 @@ fn expect_component(rt: &impl Abort, case: &Case, c: usize, draft: &DraftCompone
     expect_edges(rt, case, c, draft.edges.as_slice());
 }
 
-/// The whole table of edges, row by row, which has what is read edge by edge.
+/// Returns the whole table of edges, row by row, which has what is read edge by edge.
 fn expect_edges(rt: &impl Abort, case: &Case, c: usize, edges: &[DraftEdge]) {
     let size = case.size();
     assert!(rt; c < case.components());
@@ -56,7 +56,7 @@ fn expect_edges(rt: &impl Abort, case: &Case, c: usize, edges: &[DraftEdge]) {
     }
 }
 
-/// The entry of the edge with these ends, 0 where it isn't listed.
+/// Returns the entry of the edge with these ends, 0 where it isn't listed.
 fn listed(rt: &impl Abort, edges: &[DraftEdge], from: usize, to: usize) -> Entry {
     for edge in edges {
         if edge.from == from && edge.to == to {

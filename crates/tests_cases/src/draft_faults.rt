@@ -69,7 +69,7 @@ pub const NAMES: &[(&[&str], CaseFault)] = &[
     (&["H1", "H1"], CaseFault::DuplicateName(1)),
     (&["H1", "H2", "H1"], CaseFault::DuplicateName(2)),
     (&["A", "B", "B", "A"], CaseFault::DuplicateName(2)),
-    // A name that is no name comes before a name that is there twice.
+    // A name that is not a name comes before a name that is there twice.
     (&["H1", "H1", ""], CaseFault::NameForm(2)),
 ];
 
@@ -620,7 +620,7 @@ pub const ORDER: &[(&str, CaseFault)] = &[
     ),
 ];
 
-/// Names that are too many, the last two of which are no name and a name that is there already.
+/// Names that are too many, the last two of which are not a name and a name that is there already.
 pub const TOO_MANY: &[(&str, CaseFault)] = &[
     (
         "hypotheses A B C D E F G H I J K L M N O P Q R S T U V W X Y Z a b c d e f g h i j k l m n o p q r s t u v w x y z 0 1 2 3 4 5 6 7 8 9 _ . -",

@@ -20,7 +20,7 @@ fn finish(rt: &(impl Abort + AllocGlobal), draft: Draft) -> Result<Case, Refused
 
 // ---- refused drafts
 
-/// The fault for which a draft is refused. Its names are handed back.
+/// Returns the fault for which a draft is refused. Its names are handed back.
 fn fault(rt: &(impl Abort + AllocGlobal), draft: Draft, names: &[Text]) -> CaseFault {
     let refused = finish(rt, draft).err().expect(rt, "accepted");
     expect_names(rt, refused.names.as_slice(), names);
@@ -78,7 +78,7 @@ fn names_are_refused(rt: HostRuntime) {
 
 // ---- cases
 
-/// The case that lines say has just what they say.
+/// Returns the case that lines say has exactly what they say.
 fn made(rt: &(impl Abort + AllocGlobal), first: &str, text: &str) -> Case {
     let case = finish(rt, draft(rt, first, text)).ok().expect(rt, text);
     expect_case(rt, &case, &draft(rt, first, text));

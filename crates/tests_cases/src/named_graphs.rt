@@ -22,7 +22,7 @@ enum Graph {
     Sample(u64, u64),
 }
 
-/// The case of a graph at a level, with these p-values. A sample has its own.
+/// Returns the case of a graph at a level, with these p-values. A sample has its own.
 fn made(
     rt: &(impl Abort + AllocGlobal),
     graph: Graph,

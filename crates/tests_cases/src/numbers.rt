@@ -32,7 +32,7 @@ fn an_entry_has_its_coefficients(rt: HostRuntime) {
     }
 }
 
-/// A weight and an edge of the same number, through the trait.
+/// Returns a weight and an edge of the same number, through the trait.
 fn both<F: CaseNumber>(weight: &Fraction, edge: &Entry) -> Result<(F, F), TooWide> {
     Ok((F::weight(weight), F::edge(edge)?))
 }

@@ -6,7 +6,7 @@
 //! | `alpha N` | the level, 1/20 where no line says it |
 //! | `p N..` | the p-values, `-` for one that is missing |
 //! | `component LABEL N N..` | a component: its share and its weights |
-//! | `edge LABEL NAME NAME N..` | an edge of it: the coefficients by ascending power of epsilon, 0 behind the last |
+//! | `edge LABEL NAME NAME N..` | an edge of it: the coefficients by ascending power of epsilon, 0 after the last |
 //! | `stages N` | how many stages there are |
 //! | `spend NAME N..` | what a hypothesis spends: fractions of the level |
 //! | `table NAME`, `table NAME N` | or a table, which has each of its steps once, or so often |
@@ -51,7 +51,7 @@ fn position(rt: &impl Abort, names: &[Text], name: &[u8]) -> usize {
     panic!(rt; "no such name")
 }
 
-/// The words of the first line with this keyword.
+/// Returns the words of the first line with this keyword.
 fn behind<'a>(text: &'a [u8], keyword: &[u8]) -> Option<Words<'a>> {
     for line in Lines::new(text) {
         if let Some(words) = line.behind(keyword) {
@@ -120,7 +120,7 @@ fn components(
     list
 }
 
-/// The edges of the component with this label.
+/// Returns the edges of the component with this label.
 fn edges(
     rt: &(impl Abort + AllocGlobal),
     text: &[u8],
@@ -146,7 +146,7 @@ fn edge(rt: &(impl Abort + AllocGlobal), mut words: Words, names: &[Text]) -> Dr
     }
 }
 
-/// The entry with these coefficients by ascending power, 0 behind the last.
+/// Returns the entry with these coefficients by ascending power, 0 after the last.
 pub fn entry(rt: &impl Abort, coefficients: &[Fraction]) -> Entry {
     let mut all = [fraction(rt, (0, 1)); 5];
     assert!(rt; coefficients.len() <= 5);
@@ -183,7 +183,7 @@ pub fn spends(rt: &(impl Abort + AllocGlobal), text: &[u8]) -> List<Spend> {
     list
 }
 
-/// The table that these words begin.
+/// Returns the table that these words begin.
 fn table(rt: &(impl Abort + AllocGlobal), text: &[u8], mut words: Words) -> List<SpendStep> {
     let mut steps = List::new(rt.alloc());
     let name = word(rt, &mut words);
@@ -230,7 +230,7 @@ fn arrivals(rt: &(impl Abort + AllocGlobal), text: &[u8], names: &[Text]) -> Lis
 
 // ---- drafts
 
-/// The draft that the lines of two texts say, one behind the other.
+/// Returns the draft that the lines of two texts say, one after the other.
 pub fn draft(rt: &(impl Abort + AllocGlobal), first: &str, more: &str) -> Draft {
     let mut text = List::new(rt.alloc());
     text.append(first.as_bytes()).expect(rt, "no memory");

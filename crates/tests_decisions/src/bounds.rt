@@ -48,7 +48,7 @@ const ROWS: &[Row] = &[
     },
 ];
 
-/// The bounds over the table of a row.
+/// Returns the bounds over the table of a row.
 fn bounds_of(rt: &impl Abort, alloc: Global, row: &Row) -> Result<Bounds, NoMemory> {
     assert!(rt; row.size <= 16);
     let mut table = SetTable::new(alloc, row.size)?;

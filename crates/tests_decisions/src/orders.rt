@@ -1,4 +1,4 @@
-//! Rejections asked for in any order.
+//! Rejections requested in any order.
 use crate::cases::{HOLM, said};
 use sequential::{Trial, is_single};
 use std::process::Abort;

@@ -149,7 +149,7 @@ const ROWS: &[Row] = &[
     },
 ];
 
-/// The table of a case by Simes' test.
+/// Returns the table of a case by Simes' test.
 fn simes_table(rt: &impl Abort, alloc: Global, case: &Case) -> Result<SimesTable, SimesFault> {
     assert!(rt; is_single(case));
     let Ok(weights) = WeightTable::build(alloc, case) else {
@@ -158,7 +158,7 @@ fn simes_table(rt: &impl Abort, alloc: Global, case: &Case) -> Result<SimesTable
     SimesTable::build(alloc, case, &weights)
 }
 
-/// The bounds over what a closed test says.
+/// Returns the bounds over what a closed test says.
 fn bounds_of(rt: &impl Abort, alloc: Global, closed: &SetTable) -> Bounds {
     let Ok(bounds) = Bounds::build(alloc, closed.size(), closed) else {
         panic!(rt; "no bounds");

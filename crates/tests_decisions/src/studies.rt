@@ -80,7 +80,7 @@ const ROWS: &[(Given, Result<(), StepFault>)] = &[
     ((2, Asked::Arrive(1, (0, 1))), Ok(())),
 ];
 
-/// The event of a row.
+/// Returns the event of a row.
 fn event(hypothesis: usize, asked: Asked) -> Result<Event, FractionFault>
     ensures { IfOk result (λ event. hypothesis_of event ≡ hypothesis) }
 {
@@ -135,7 +135,7 @@ fn rejections_stay_where_a_settling_breaks_off(rt: HostRuntime) -> Result<(), Fa
     }
     assert!(rt; study.settle().is_err());
     assert!(rt; study.settled().len() == 2);
-    // Asked for, it is refused too, and nothing changes.
+    // When requested, it is refused too, and nothing changes.
     assert!(rt; 2 < study.size());
     assert!(rt; matches!(study.step(Event::Reject(2)), Err(StepFault::Wide(_))));
     assert!(rt; study.settled().len() == 2);

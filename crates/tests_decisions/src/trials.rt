@@ -1,4 +1,4 @@
-//! Trials: rejections that are asked for one after another, by hand.
+//! Trials: rejections that are requested one after another, by hand.
 ghost use Rattle.std.specs.Prelude.{◌≡◌, not};
 ghost use Rattle.field_core.specs.Sets.{set_of};
 
@@ -8,7 +8,7 @@ use sequential::{RejectFault, Trial, is_single};
 use std::alloc::Global;
 use std::process::Abort;
 
-/// What a trial answers where a rejection is asked for.
+/// What a trial answers where a rejection is requested.
 enum Answer {
     Done,
     /// It is rejected already.
@@ -19,7 +19,7 @@ enum Answer {
     Wide(Place),
 }
 
-/// The hypothesis whose rejection is asked for, the answer, and some weights then.
+/// The hypothesis whose rejection is requested, the answer, and some weights then.
 type Call<'a> = (usize, Answer, &'a [(usize, Parts)]);
 
 /// A case, calls in turn, and what is rejected in the end.
@@ -84,7 +84,7 @@ fn is_missing(positions: &[usize], k: usize) -> bool
     }
 }
 
-/// The weight of `k`, or none where it was rejected.
+/// Returns the weight of `k`, or none where it was rejected.
 fn weight_of(trial: &Trial, k: usize) -> Option<Parts> {
     if k < trial.size() && is_missing(trial.rejected(), k) {
         let weight = trial.weight_limit(k).ratio();
@@ -114,7 +114,7 @@ fn is_answer(answer: Result<(), RejectFault>, wanted: &Answer) -> bool {
     }
 }
 
-/// Asks for a rejection; just where it is legal, it is done or too wide.
+/// Asks for a rejection; exactly where it is legal, it is done or too wide.
 fn expect_call(rt: &impl Abort, trial: &mut Trial, call: &Call, label: &str) {
     let (hypothesis, answer, weights) = call;
     assert!(rt; *hypothesis < trial.size());

@@ -47,7 +47,7 @@ pub const GATEKEEPING_EVIDENCE: &str = "evidence 2\n\
     flow 1 H4 [1]/[0,2]\n\
     end\n";
 
-/// The case that a text says.
+/// Returns the case that a text says.
 pub fn said(rt: &impl Abort, alloc: Global, text: &str) -> Case {
     let Ok(case) = read_text(alloc, text.as_bytes()) else {
         panic!(rt; "no case");

@@ -9,7 +9,7 @@ use sequential::is_single;
 use std::alloc::Global;
 use std::process::Abort;
 
-/// What the checker answers to a document, if it can be read.
+/// Returns what the checker answers to a document, if it can be read.
 fn checked(
     rt: &impl Abort,
     alloc: Global,
@@ -39,7 +39,7 @@ fn long_products_are_too_wide(rt: HostRuntime) {
     assert!(&rt; answer == Some(Err(LONG_IS_WIDE)));
 }
 
-/// The number of the first line that can't stand, and what is wrong with it.
+/// Returns the number of the first line that isn't allowed, and what is wrong with it.
 fn refused(
     rt: &impl Abort,
     alloc: Global,

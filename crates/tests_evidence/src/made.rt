@@ -54,7 +54,7 @@ const MADE: &[(&str, &str)] = &[
     (KEPT, KEPT_EVIDENCE),
 ];
 
-/// The evidence for the decision on a case.
+/// Returns the evidence for the decision on a case.
 fn made(rt: &impl Abort, alloc: Global, case: &Case) -> Result<Evidence, RunFault>
     ensures { IfOk result (IsEvidenceFor (content case.now)) }
 {

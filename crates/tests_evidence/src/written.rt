@@ -17,7 +17,7 @@ const ENTANGLED: &str = "alpha 0.05\n\
     weights 0 1 0\n\
     edge H1 H3 1\n";
 
-/// The components stand one after the other behind a step or a keep.
+/// The components stand one after the other after a step or a keep.
 const ENTANGLED_EVIDENCE: &str = "evidence 2\n\
     step H1\n\
     step H3\n\
@@ -61,7 +61,7 @@ const WRITTEN: &[(&str, &str, &str)] = &[
     (FIXED, VERSION_1, VERSION_1),
 ];
 
-/// The text of what a document says.
+/// Returns the text of what a document says.
 fn rewritten(rt: &impl Abort, alloc: Global, case: &str, document: &str) -> List<u8> {
     let case = said(rt, alloc, case);
     let Ok(proof) = read(alloc, &case, document.as_bytes()) else {

@@ -35,7 +35,7 @@ fn is_there(rt: &impl Files, path: &str) -> bool {
     fs::metadata(rt, path).is_ok()
 }
 
-/// A keeper over the file at a path, unless memory runs out.
+/// Returns a keeper over the file at a path, or nothing when out of memory.
 pub fn keeper_at(rt: &HostRuntime, path: &str) -> Option<SqliteKeeper> {
     let path = String::from_str(rt.alloc(), path).ok()?;
     Some(SqliteKeeper::at(rt, path))
@@ -49,7 +49,7 @@ fn put<K: Keeper>(alloc: Global, keeper: &mut K, looks: &[Look]) -> Result<(), K
     Ok(())
 }
 
-/// What a keeper of a file answers that is to put looks there, unless it can't be made or closed.
+/// Returns what a keeper of a file answers that is to put looks there, unless it can't be made or closed.
 fn put_at(rt: &HostRuntime, path: &str, given: &[Given]) -> Option<Result<(), KeeperFault>> {
     let looks = looks_of(rt.alloc(), given)?;
     let mut keeper = keeper_at(rt, path)?;
@@ -58,7 +58,7 @@ fn put_at(rt: &HostRuntime, path: &str, given: &[Given]) -> Option<Result<(), Ke
     Some(kept)
 }
 
-/// What a keeper of a file answers that is to load its looks behind others, unless it can't be made or closed.
+/// Returns what a keeper of a file answers that is to load its looks after others, unless it can't be made or closed.
 fn load_at(
     rt: &HostRuntime,
     path: &str,
@@ -148,7 +148,8 @@ fn a_closed_file_holds_its_looks(rt: HostRuntime) {
     remove_folder(&rt, "closed_test");
 }
 
-/// The looks from one place of a hundred to another, of ten hypotheses at ten stages, in an order that is neither of them.
+/// Returns the looks from one place of a hundred to another, of ten hypotheses at ten stages, in an order that is
+/// neither of them.
 fn mixed(alloc: Global, from: u32, to: u32) -> Option<List<Given>> {
     let mut mixed = List::new(alloc);
     for at in from..to {

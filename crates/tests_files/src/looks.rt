@@ -8,7 +8,7 @@ use std::process::Abort;
 /// A hypothesis, by its position from 0, a stage, and the parts of a p-value.
 pub type Given = (u32, u32, (i128, i128));
 
-/// The look of these numbers.
+/// Returns the look of these numbers.
 pub fn look_of(given: &Given) -> Option<Look> {
     let (hypothesis, stage, (num, den)) = *given;
     let p = Fraction::new(num, den).ok()?.ratio();
@@ -19,7 +19,7 @@ pub fn look_of(given: &Given) -> Option<Look> {
     })
 }
 
-/// Looks in their order, unless memory runs out.
+/// Looks in their order, or nothing when out of memory.
 pub fn looks_of(alloc: Global, given: &[Given]) -> Option<List<Look>> {
     let mut looks = List::new(alloc);
     for given in given {

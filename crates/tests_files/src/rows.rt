@@ -75,7 +75,7 @@ fn other_rows_are_of_no_look(rt: HostRuntime) {
     assert!(rt; from_row(0, 1, b"\xFF").is_none());
 }
 
-/// The rows of these columns, unless memory runs out.
+/// Returns the rows of these columns, or nothing when out of memory.
 fn rows_of(alloc: Global, columns: &[Columns]) -> Option<List<LookRow>> {
     let mut rows = List::new(alloc);
     for (hypothesis, stage, p) in columns {
@@ -90,7 +90,7 @@ fn rows_of(alloc: Global, columns: &[Columns]) -> Option<List<LookRow>> {
     Some(rows)
 }
 
-/// What is read of these columns: the looks, or the place of the first row that is of no look.
+/// Returns what is read of these columns: the looks, or the place of the first row that is of no look.
 fn read(alloc: Global, columns: &[Columns]) -> Option<Result<List<Look>, RowsFault>> {
     let rows = rows_of(alloc, columns)?;
     Some(read_rows(alloc, rows.as_slice()))

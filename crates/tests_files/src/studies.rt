@@ -18,7 +18,7 @@ spend H2 1/2 1/2
 
 const WORDS: &[&str] = &["study", "commands.txt", "--store", "looks.db"];
 
-/// Returns the words of a run, unless memory runs out.
+/// Returns the words of a run, or nothing when out of memory.
 fn words(alloc: Global) -> Option<Vec<String>> {
     let mut words = Vec::new(alloc);
     for word in WORDS {
@@ -27,13 +27,13 @@ fn words(alloc: Global) -> Option<Vec<String>> {
     Some(words)
 }
 
-/// Returns a source of these bytes, unless memory runs out.
+/// Returns a source of these bytes, or nothing when out of memory.
 fn source(alloc: Global, bytes: &[u8]) -> Option<MemorySource> {
     Some(MemorySource::new(List::of(bytes.to_vec(alloc).ok()?)))
 }
 
-/// Runs commands on the case over the file of looks at a path. Returns the status and what is printed, unless memory runs out or
-/// the file cannot be closed.
+/// Runs commands on the case over the file of looks at a path. Returns the status and what is printed, or nothing when
+/// out of memory or the file cannot be closed.
 fn run_over(rt: &HostRuntime, path: &str, commands: &[u8]) -> Option<(u8, Vec<u8>)> {
     let alloc = rt.alloc();
     let words = words(alloc)?;

@@ -27,7 +27,7 @@ pub fn have_terms(fractions: &[Fraction], all: &[Terms]) -> bool {
     fractions.len() == all.len()
 }
 
-/// Whether an entry has these coefficients by ascending power, and 0 behind the last.
+/// Whether an entry has these coefficients by ascending power, and 0 after the last.
 pub fn has_coefficients(entry: &Entry, coefficients: &[Terms]) -> bool {
     for power in 0..5 {
         let wanted = coefficients.get(power).copied().unwrap_or((0, 1));

@@ -66,7 +66,7 @@ fn expressions_have_values(rt: HostRuntime) {
 
 /// Faults, and the texts that have them.
 const FAULTS: &[(ExprFault, &[&str])] = &[
-    // No expression goes on with this byte.
+    // No expression continues with this byte.
     (ExprFault::BadByte(0), &["", "*1", ")", "x", "^2"]),
     (
         ExprFault::BadByte(1),

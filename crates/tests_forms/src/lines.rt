@@ -2,7 +2,7 @@
 use crate::checks::expect;
 use text_lines::{Line, Lines, Words};
 
-/// A text, its lines that aren't skipped with their numbers, and the number of the line behind the last.
+/// A text, its lines that aren't skipped with their numbers, and the number of the line after the last.
 type Cut = (&'static str, &'static [(usize, &'static str)], usize);
 
 const CUT: &[Cut] = &[
@@ -51,7 +51,7 @@ fn texts_are_cut_at_line_feeds(rt: HostRuntime) {
     }
 }
 
-/// Lines, and their words, each with the rest behind it.
+/// Lines, and their words, each with the rest after it.
 const WORDS: &[(&str, &[(&str, &str)])] = &[
     ("", &[]),
     (" \t ", &[]),
@@ -61,7 +61,7 @@ const WORDS: &[(&str, &[(&str, &str)])] = &[
     ("a\u{b}b\rc", &[("a\u{b}b\rc", "")]),
 ];
 
-/// Whether these are the words of a line, each with the rest behind it, and then there is none, nor any later.
+/// Whether these are the words of a line, each with the rest after it, and then there is none, nor any later.
 fn has_words(line: &str, wanted: &[(&str, &str)]) -> bool {
     let mut words = Words::new(line.as_bytes());
     for (word, rest) in wanted {
@@ -89,7 +89,7 @@ fn words_are_counted(rt: HostRuntime) {
     assert!(rt; Words::new(b"a b c d").three().is_none());
 }
 
-/// Lines, and what stands behind `edge` where that is the first word.
+/// Lines, and what follows `edge` where that is the first word.
 const BEHIND: &[(&str, Option<&str>)] = &[
     (" edge a b", Some(" a b")),
     ("edge", Some("")),
@@ -99,7 +99,7 @@ const BEHIND: &[(&str, Option<&str>)] = &[
     ("", None),
 ];
 
-/// Whether this stands behind `edge` in a line.
+/// Whether this follows `edge` in a line.
 fn is_behind_edge(text: &str, rest: &Option<&str>) -> bool {
     let line = Line {
         number: 1,

@@ -18,7 +18,7 @@ pub enum Kind {
 /// A document, the path of its first fault, and the kind of that fault.
 pub type Faulty = (&'static str, &'static str, Kind);
 
-/// Bytes that are no JSON.
+/// Bytes that are not JSON.
 pub const SYNTAX: &[(&str, &str)] = &[
     ("", ""),
     ("{", ""),

@@ -7,7 +7,7 @@ use field_core::List;
 use std::alloc::Global;
 use std::process::Abort;
 
-/// The path of a fault; empty where it has none.
+/// Returns the path of a fault; empty where it has none.
 fn path_of(fault: &JsonFault) -> &[u8] {
     match fault {
         JsonFault::Shape(path) => path.as_bytes(),
@@ -71,7 +71,7 @@ fn numerals_expressions_and_drafts_are_refused(rt: HostRuntime) {
     }
 }
 
-/// Whether a document says a case of so many hypotheses and components.
+/// Whether a document says a case of a number of hypotheses and components.
 fn says_case(alloc: Global, document: &str, size: usize, components: usize) -> bool {
     match read_json(alloc, document.as_bytes()) {
         Ok(case) => case.size() == size && case.components() == components,
@@ -87,7 +87,7 @@ fn documents_say_cases(rt: HostRuntime) {
     }
 }
 
-/// The JSON of the case that a document says.
+/// Returns the JSON of the case that a document says.
 fn rewritten(alloc: Global, document: &str) -> Option<List<u8>> {
     let case = read_json(alloc, document.as_bytes()).ok()?;
     write_json(alloc, &case).ok()

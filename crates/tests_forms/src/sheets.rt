@@ -8,7 +8,7 @@ use fraction::{Fraction, NumberFault};
 use std::alloc::Global;
 use std::test::Fail;
 
-/// The case of a sheet at the level 1/20.
+/// Returns the case of a sheet at the level 1/20.
 fn read(alloc: Global, sheet: &[u8]) -> Result<Case, CsvFault> {
     let Ok(alpha) = Fraction::parse(b"1/20") else {
         return Err(CsvFault::NoMemory);
@@ -16,7 +16,7 @@ fn read(alloc: Global, sheet: &[u8]) -> Result<Case, CsvFault> {
     read_csv(alloc, sheet, alpha)
 }
 
-/// The sheet of the case that a sheet says.
+/// Returns the sheet of the case that a sheet says.
 fn rewritten(alloc: Global, sheet: &[u8]) -> Option<List<u8>> {
     let case = read(alloc, sheet).ok()?;
     if !fits_sheet(&case) {
@@ -116,7 +116,7 @@ const NO_EXPRESSION: RowKind = RowKind::Expr(ExprFault::BadByte(0));
 
 const BROKEN: RowKind = RowKind::Expr(ExprFault::BadByte(1));
 
-/// Sheets of which a record can't stand, is missing or is surplus, with the row and the column.
+/// Sheets of which a record isn't allowed, is missing or is surplus, with the row and the column.
 const ROWS: &[(&str, usize, usize, RowKind)] = &[
     // The header.
     ("", 1, 1, RowKind::NoHeader),
@@ -132,7 +132,7 @@ const ROWS: &[(&str, usize, usize, RowKind)] = &[
     (",weight", 1, 3, RowKind::Header),
     (",weight,\n", 1, 3, RowKind::Header),
     (",weight,P,H1\n", 1, 3, RowKind::Header),
-    // The records behind it.
+    // The records after it.
     (",weight,p,H1\n", 2, 1, RowKind::Count),
     (",weight,p,H1,H2\nH1,1,,0,0\n", 3, 1, RowKind::Count),
     (",weight,p,H1\nH1,1,,0\nH1,1,,0\n", 3, 1, RowKind::Count),
@@ -229,7 +229,7 @@ const DRAFTS: &[(&str, CaseFault)] = &[
     (",weight,p,H1\nH1,1,-1,0\n", CaseFault::PRange(0)),
 ];
 
-/// Whether the first record that can't stand is that of this row, by the cell of this column, for this kind of fault.
+/// Whether the first record that isn't allowed is that of this row, by the cell of this column, for this kind of fault.
 fn has_row_fault(alloc: Global, sheet: &str, row: usize, column: usize, kind: RowKind) -> bool {
     match read(alloc, sheet.as_bytes()) {
         Err(CsvFault::Row(at, cell, found)) => at == row && cell == column && found == kind,
@@ -267,7 +267,7 @@ fn put_name(text: &mut List<u8>, place: usize) -> Result<(), NoMemory> {
     text.append_unsigned(place as u128)
 }
 
-/// Appends the header of so many hypotheses.
+/// Appends the header of a number of hypotheses.
 fn put_header(text: &mut List<u8>, count: usize) -> Result<(), NoMemory> {
     text.append(b"hypothesis,weight,p")?;
     for place in 0..count {
@@ -277,7 +277,7 @@ fn put_header(text: &mut List<u8>, count: usize) -> Result<(), NoMemory> {
     text.push(b'\n')
 }
 
-/// Appends a row of weight 0, without a p-value and with so many edges of 0.
+/// Appends a row of weight 0, without a p-value and with this number of edges of 0.
 fn put_row(text: &mut List<u8>, place: usize, count: usize) -> Result<(), NoMemory> {
     put_name(text, place)?;
     text.append(b",0,")?;
@@ -287,7 +287,7 @@ fn put_row(text: &mut List<u8>, place: usize, count: usize) -> Result<(), NoMemo
     text.push(b'\n')
 }
 
-/// The sheet of so many hypotheses of weight 0, with no p-values and no edges.
+/// Returns the sheet of a number of hypotheses of weight 0, with no p-values and no edges.
 fn sheet_of(alloc: Global, count: usize) -> Result<List<u8>, NoMemory> {
     let mut text = List::new(alloc);
     put_header(&mut text, count)?;

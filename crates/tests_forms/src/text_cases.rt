@@ -1,7 +1,7 @@
 //! Texts, with the case or the stages that they say.
 use crate::checks::Terms;
 
-/// The positions of the ends of an edge, and the coefficients of its weight by ascending power of epsilon. Those behind
+/// The positions of the ends of an edge, and the coefficients of its weight by ascending power of epsilon. Those after
 /// the last one are 0.
 pub type Edge = (usize, usize, &'static [Terms]);
 
@@ -193,7 +193,7 @@ pub const CASES: &[(&str, Held)] = &[
             }],
         },
     ),
-    // An expression that is 0 is no edge.
+    // An expression that is 0 is not an edge.
     (
         "alpha 0.05\nhypotheses A B\nweights 1 0\nedge A A 1 - 1\nedge A B \\epsilon - \\epsilon\n",
         Held {
@@ -331,7 +331,7 @@ pub const STAGED: &[(&str, HeldStages)] = &[
             arrivals: &[(0, 1, (1, 50)), (1, 1, (3, 250))],
         },
     ),
-    // A table may end the text, behind another, and numbers of levels aren't looked at.
+    // A table may end the text, after another, and numbers of levels aren't looked at.
     (
         "alpha 0.05\nhypotheses A B\ncomponent 1\nweights 1 0\nstages 000000003\ntable A 1 0.01\ntable B 1/2 0.01 0.02 0.03 0.04",
         HeldStages {

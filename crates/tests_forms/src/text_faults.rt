@@ -1,8 +1,8 @@
-//! Texts, with the first line that can't stand.
+//! Texts, with the first line that isn't allowed.
 use edge_text::{ExprFault, LineKind};
 use fraction::NumberFault;
 
-/// A text, the number of the first line that can't stand, and what is wrong with it.
+/// A text, the number of the first line that isn't allowed, and what is wrong with it.
 pub type Faulty = (&'static str, usize, LineKind);
 
 /// Other first words, at each place.
@@ -37,7 +37,7 @@ pub const UNEXPECTED: &[(&str, usize)] = &[
     ("alpha 0.05\nhypotheses A B\np 1/2 1/2\np 1/2 1/2\n", 4),
     ("alpha 0.05\nhypotheses A B\np 1/2 1/2\nalpha 0.05\n", 4),
     ("alpha 0.05\nhypotheses A B\np 1/2 1/2\nedge A B 1\n", 4),
-    // Where an edge may stand, or nothing.
+    // Where an edge may be, or nothing.
     (
         "alpha 0.05\nhypotheses A B\nweights 1/2 1/2\nalpha 0.05\n",
         4,
@@ -84,7 +84,7 @@ pub const UNEXPECTED: &[(&str, usize)] = &[
     ("alpha 0.05\nhypotheses A B\ncomponent 1\nedge A B 1\n", 4),
     ("alpha 0.05\nhypotheses A B\ncomponent 1\np 1/2 1/2\n", 4),
     ("alpha 0.05\nhypotheses A B\ncomponent 1\nalpha 0.05\n", 4),
-    // Where an edge or the next block may stand.
+    // Where an edge or the next block may be.
     (
         "alpha 0.05\nhypotheses A B\ncomponent 1\nweights 1 0\nweights 1 0\n",
         5,
@@ -148,7 +148,7 @@ pub const UNEXPECTED: &[(&str, usize)] = &[
         "alpha 0.05\nhypotheses A B\nweights 1/2 1/2\nstages 1\nspend A 1\narrive A 1 0.01\n",
         6,
     ),
-    // Where a table may go on.
+    // Where a table may continue.
     (
         "alpha 0.05\nhypotheses A B\nweights 1/2 1/2\nstages 1\ntable A 1 0.01\nspend A 1\n",
         6,
@@ -169,7 +169,7 @@ pub const UNEXPECTED: &[(&str, usize)] = &[
         "alpha 0.05\nhypotheses A B\nweights 1/2 1/2\nstages 1\nspend A 1\ntable B 1 0.01\nspend A 1\n",
         7,
     ),
-    // Where a p-value that arrived may stand, or nothing.
+    // Where a p-value that arrived may be, or nothing.
     (
         "alpha 0.05\nhypotheses A B\nweights 1/2 1/2\nstages 1\nspend A 1\nspend B 1\nspend A 1\n",
         7,
@@ -519,7 +519,7 @@ pub const NUMBERS: &[Faulty] = &[
     ),
 ];
 
-/// Edges with an expression that is refused. The blank behind the second name belongs to it.
+/// Edges with an expression that is refused. The blank after the second name belongs to it.
 pub const EXPRESSIONS: &[Faulty] = &[
     (
         "alpha 0.05\nhypotheses A B\nweights 1/2 1/2\nedge A B x\n",
@@ -742,7 +742,7 @@ pub const ORDER: &[Faulty] = &[
         2,
         LineKind::Unexpected,
     ),
-    // Faults of the draft come behind those of all lines.
+    // Errors in the draft come after those of all lines.
     ("alpha 2\nhypotheses A A\n", 3, LineKind::Ended),
     (
         "alpha 0.05\nhypotheses A A\nweights 1 1\nedge A A\n",

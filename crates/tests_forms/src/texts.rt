@@ -1,4 +1,4 @@
-//! Texts by hand: those with a line that can't stand, those whose drafts are refused, and those that say cases.
+//! Texts by hand: those with a line that isn't allowed, those whose drafts are refused, and those that say cases.
 ghost use Rattle.std.specs.Prelude.{◌<◌};
 
 use crate::checks::{Terms, expect, has_coefficients, has_terms, have_terms};
@@ -15,9 +15,9 @@ use field_core::Text;
 use std::alloc::Global;
 use std::process::Abort;
 
-// ---- lines that can't stand
+// ---- lines that isn't allowed
 
-/// Whether the first line that can't stand is that of this number, for this kind of fault.
+/// Whether the first line that isn't allowed is that of this number, for this kind of fault.
 fn has_fault(alloc: Global, text: &str, number: usize, kind: LineKind) -> bool {
     match read_text(alloc, text.as_bytes()) {
         Err(TextFault::Line(line, found)) => line == number && found == kind,
@@ -90,7 +90,7 @@ fn drafts_are_refused(rt: HostRuntime) {
 
 // ---- cases
 
-/// The weight that is listed of an edge, or nothing.
+/// Returns the weight that is listed of an edge, or nothing.
 fn listed(edges: &[Edge], from: usize, to: usize) -> &[Terms] {
     for (start, end, weight) in edges {
         if *start == from && *end == to {
@@ -100,7 +100,7 @@ fn listed(edges: &[Edge], from: usize, to: usize) -> &[Terms] {
     &[]
 }
 
-/// Whether the edges of so many hypotheses, row by row, are those that are listed, and 0 elsewhere.
+/// Whether the edges of a number of hypotheses, row by row, are those that are listed, and 0 elsewhere.
 fn are_edges(size: usize, entries: &[Entry], edges: &[Edge]) -> bool
     requires { 0 < size }
 {
@@ -139,7 +139,7 @@ fn are_p_values(inputs: &Inputs, p: &[Terms]) -> bool {
     }
 }
 
-/// Whether a text says the case that holds just this.
+/// Whether a text says the case that holds exactly this.
 fn says_case(alloc: Global, text: &str, held: &Held) -> bool {
     match read_text(alloc, text.as_bytes()) {
         Ok(case) => {
@@ -210,7 +210,7 @@ fn are_arrivals(arrivals: &[Arrival], wanted: &[(usize, usize, Terms)]) -> bool 
     arrivals.len() == wanted.len()
 }
 
-/// Whether the stages of a draft hold just this.
+/// Whether the stages of a draft hold exactly this.
 fn are_stages(stages: &DraftStages, held: &HeldStages) -> bool {
     stages.count == held.count
         && are_spends(stages.spend.as_slice(), held.spend)

@@ -40,7 +40,7 @@ const GRAPHS_OF_THREE: &[&str] = &[
     edge B A \\epsilon\n\
     edge B C \\epsilon\n\
     edge C B \\epsilon\n",
-    // The square of epsilon alone goes on.
+    // The square of epsilon alone continues.
     "alpha 0.05\n\
     hypotheses A B C\n\
     weights 1/3 1/3 1/3\n\
@@ -129,7 +129,7 @@ const ORDERS_OF_THREE: &[&[usize]] = &[&[0, 1, 2], &[1, 2, 0], &[2, 0, 1]];
 
 const ORDERS_OF_FOUR: &[&[usize]] = &[&[0, 1, 2, 3], &[2, 0, 3, 1]];
 
-/// The net of quotients of the first component.
+/// Returns the net of quotients of the first component.
 fn quotient_net(alloc: Global, case: &Case) -> Result<Net<EpsQuotient>, OpenFault>
     requires { 0 < length (content case.now).components }
 {

@@ -65,7 +65,7 @@ const ROWS: &[Row] = &[
         removed: &[0],
         levels: &[None, Some((1, 1))],
     },
-    // All but epsilon goes from C to D and back, and only what is left of it goes on.
+    // All but epsilon goes from C to D and back, and only what is left of it continues.
     Row {
         case: IMPROVED_GATEKEEPING,
         removed: &[],
@@ -108,7 +108,7 @@ const ROWS: &[Row] = &[
     },
 ];
 
-/// The nets of a case, with all hypotheses in.
+/// Returns the nets of a case, with all hypotheses in.
 pub fn opened(rt: &impl Abort, alloc: Global, text: &str) -> CaseNet {
     let Ok(nets) = CaseNet::load(alloc, &said(rt, alloc, text)) else {
         panic!(rt; "not opened");
@@ -123,7 +123,7 @@ pub fn remove(rt: &impl Abort, nets: &mut CaseNet, j: usize) -> Result<(), WideA
     nets.remove(j)
 }
 
-/// The nets of a case after these removals.
+/// Returns the nets of a case after these removals.
 fn after(rt: &impl Abort, alloc: Global, text: &str, removed: &[usize]) -> CaseNet {
     let mut nets = opened(rt, alloc, text);
     for j in removed {
@@ -132,7 +132,7 @@ fn after(rt: &impl Abort, alloc: Global, text: &str, removed: &[usize]) -> CaseN
     nets
 }
 
-/// The level of `k`, or none where it was removed.
+/// Returns the level of `k`, or none where it was removed.
 fn level_of(nets: &CaseNet, k: usize) -> Option<Terms> {
     if k < nets.size() && nets.is_live(k) {
         let level = nets.weight_limit(k).ratio();
@@ -158,7 +158,7 @@ fn removals_leave_these_levels(rt: HostRuntime) {
     }
 }
 
-/// The number of nets and the size of the first, where they are of fractions.
+/// Returns the number of nets and the size of the first, where they are of fractions.
 fn plain_nets(nets: &CaseNet) -> Option<(usize, usize)> {
     match nets {
         CaseNet::Plain(bundle) if bundle.components() > 0 => {

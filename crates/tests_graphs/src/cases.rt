@@ -40,7 +40,7 @@ pub const CHAIN: &str = "alpha 0.05\n\
     edge B C 1/999999999999999999\n\
     edge C D 1/999999999999999997\n";
 
-/// The case that a text says.
+/// Returns the case that a text says.
 pub fn said(rt: &impl Abort, alloc: Global, text: &str) -> Case {
     let Ok(case) = read_text(alloc, text.as_bytes()) else {
         panic!(rt; "no case");

@@ -93,7 +93,7 @@ const CHAIN_OF_TWO: &Row = &Row {
     edges: &[(2, 3, (1, 999_999_999_999_999_997)), (3, 2, (0, 1))],
 };
 
-/// The net of a graph, with all hypotheses in.
+/// Returns the net of a graph, with all hypotheses in.
 fn opened(rt: &impl Abort, alloc: Global, text: &str) -> Net<Fraction> {
     let case = said(rt, alloc, text);
     assert!(rt; case.is_plain());
@@ -104,7 +104,7 @@ fn opened(rt: &impl Abort, alloc: Global, text: &str) -> Net<Fraction> {
     net
 }
 
-/// The net of a graph after these removals.
+/// Returns the net of a graph after these removals.
 fn after(rt: &impl Abort, alloc: Global, text: &str, removed: &[usize]) -> Net<Fraction> {
     let mut net = opened(rt, alloc, text);
     for j in removed {

@@ -3,7 +3,7 @@ use field_core::Wide;
 use removal::Remover;
 use std::process::Abort;
 
-/// The weight of `k`, or none where it was removed.
+/// Returns the weight of `k`, or none where it was removed.
 pub fn weight_of<R: Remover>(net: &R, k: usize) -> Option<R::Value> {
     if k < net.size() && net.is_live(k) {
         return Some(net.weight(k));
@@ -11,7 +11,7 @@ pub fn weight_of<R: Remover>(net: &R, k: usize) -> Option<R::Value> {
     None
 }
 
-/// The edge from `l` to `k`, or none where one of them was removed.
+/// Returns the edge from `l` to `k`, or none where one of them was removed.
 pub fn edge_of<R: Remover>(net: &R, l: usize, k: usize) -> Option<R::Value> {
     if l < net.size() && k < net.size() && net.is_live(l) && net.is_live(k) {
         return Some(net.edge(l, k));

@@ -85,8 +85,8 @@ const POLYNOMIAL: &str = "alpha 0.05\n\
     edge B A \\epsilon\n\
     edge C D 1/2\n";
 
-/// All that A has goes on, and F gets half of it. Each pair has e^4 below its rows: not taken out, e^40 would stand below the
-/// weights in the end.
+/// All that A has continues, and F gets half of it. Each pair has e^4 below its rows: not taken out, e^40 would stand
+/// below the weights in the end.
 const POWERS: &str = "alpha 0.05\n\
     hypotheses A B C D E F\n\
     weights 1 0 0 0 0 0\n\
@@ -107,7 +107,7 @@ const CONTENT: &str = "alpha 0.05\n\
     edge C D 1/999999999999999997\n\
     edge D A \\epsilon\n";
 
-/// The rows of a graph, with all hypotheses in.
+/// Returns the rows of a graph, with all hypotheses in.
 fn opened(rt: &impl Abort, alloc: Global, text: &str) -> RowNet {
     let case = said(rt, alloc, text);
     assert!(rt; case.components() > 0);
@@ -117,7 +117,7 @@ fn opened(rt: &impl Abort, alloc: Global, text: &str) -> RowNet {
     net
 }
 
-/// The rows of a graph after these removals.
+/// Returns the rows of a graph after these removals.
 fn after(rt: &impl Abort, alloc: Global, text: &str, removed: &[usize]) -> RowNet {
     let mut net = opened(rt, alloc, text);
     for j in removed {

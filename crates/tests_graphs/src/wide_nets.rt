@@ -120,7 +120,7 @@ const REMOVALS: &[(&str, Place)] = &[
     ),
 ];
 
-/// The first operation of the opening that is too wide, if one is.
+/// Returns the first operation of the opening that is too wide, if one is.
 fn wide_opening(rt: &impl Abort, alloc: Global, text: &str) -> Option<WideAt> {
     match CaseNet::load(alloc, &said(rt, alloc, text)) {
         Err(OpenFault::Wide(wide)) => Some(wide),
@@ -128,7 +128,7 @@ fn wide_opening(rt: &impl Abort, alloc: Global, text: &str) -> Option<WideAt> {
     }
 }
 
-/// The first operation that is too wide while all hypotheses are removed in their order, if one is.
+/// Returns the first operation that is too wide while all hypotheses are removed in their order, if one is.
 fn wide_removal(rt: &impl Abort, alloc: Global, text: &str) -> Option<WideAt> {
     let mut nets = opened(rt, alloc, text);
     for j in 0..nets.size() {

@@ -7,7 +7,7 @@ use std::process::Abort;
 /// The greatest size of a coefficient.
 pub const MOST: i128 = i128::MAX;
 
-/// Coefficients by ascending power, 0 behind the last.
+/// Coefficients by ascending power, 0 after the last.
 pub type Listed = &'static [i128];
 
 pub fn poly(rt: &impl Abort, coefficients: &[i128]) -> EpsPoly {

@@ -233,7 +233,7 @@ fn the_lowest_coefficient_tells_the_sign(rt: HostRuntime) {
 
 // ---- limits
 
-/// The limit of a value from 0 to 1.
+/// Returns the limit of a value from 0 to 1.
 fn limit(x: &EpsQuotient) -> Option<Ratio> {
     let Ok(order) = x.compare(&EpsQuotient::one()) else {
         return None;
@@ -302,7 +302,7 @@ const READ: &[(&str, Option<Terms>)] = &[
     ("-2/4", Some((&[-1], &[2]))),
     ("0/5", Some(NOTHING)),
     ("[0,1]/[1]", Some(EPSILON)),
-    // unlowered pairs and zeros behind the last coefficient are taken
+    // unlowered pairs and zeros after the last coefficient are taken
     ("[00,-2,0,0]/[-2]", Some(EPSILON)),
     ("[1,1]/[0,3,3]", Some((ONE, &[0, 3]))),
     ("[5]/[1]", Some((&[5], ONE))),

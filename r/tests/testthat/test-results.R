@@ -106,7 +106,7 @@ test_that("names and labels", {
 
 test_that("a graph shows what was read", {
   each_way(function(way) {
-    expect_output(print(holm(3)), "0.3333333333333333 as 1/3")
+    expect_output(print(holm(3)), "0.333333333333333 as 1/3")
     expect_output(print(graph_create(c(0.1 + 0.2, 0.5), matrix(0, 2, 2))), "0.30000000000000004 as this decimal")
     table <- as.data.frame(holm(3))
     expect_identical(table$weight, rep(1 / 3, 3))

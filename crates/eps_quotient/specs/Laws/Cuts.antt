@@ -68,7 +68,7 @@ cut_powers p h z held some divides low =
       core_of = sym is.core_of;
     }
 
--- ---- the core is cut besides
+-- ---- the core is cut also
 
 pub one_core : IsCore one_polynomial
 one_core = record {

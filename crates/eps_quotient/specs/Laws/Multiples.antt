@@ -120,7 +120,7 @@ unfolding coefficient
 one_same zero = monomial-at (pos 1) 0 (omega arith)
 one_same (suc k) = monomial-other (pos 1) 0 (suc k) (λ e. omega arith)
 
--- c * epsilon^k is so many times 1
+-- c * epsilon^k is this number of times 1
 pub monomial-factors : (c : ℤ) (k : ℕ) → k ≤ 32 → Same (monomial c k) (from_factors c k one_polynomial)
 monomial-factors c k h = same_factors (monomial c k) one_polynomial c k (λ j l. monomial-other c k j (λ e. omega arith)) above
   where
@@ -140,7 +140,7 @@ monomial-multiply c k p h =
 
 -- ---- contents
 
--- sizes of coefficients alone tell the content
+-- sizes of coefficients alone give the content
 pub content-sizes : (p q : List ℤ) → ((k : ℕ) → unsigned_abs (coefficient p k) ≡ unsigned_abs (coefficient q k)) → content p ≡ content q
 content-sizes p q s =
     dvd_antisymm (content_greatest q (content p) (λ k. subst (λ n. content p ∣ n) (s k) (content_divides p k)))

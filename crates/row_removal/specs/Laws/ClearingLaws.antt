@@ -1,12 +1,12 @@
 -- Clearing a row changes no value.
-use Rattle.std.proofs.Common.{◌≡◌, ℕ, zero, suc, ◌<◌, ◌≤◌, min, List, [], ◌∷◌, length, get_or, refl, sym, ◌∙◌, ap, subst, arith}
+use Rattle.std.proofs.Common.{◌≡◌, ℕ, zero, suc, ◌<◌, ◌≤◌, min, List, [], ◌∷◌, length, get_or, map, refl, sym, ◌∙◌, ap, ap₂, subst, arith}
 use Rattle.std.proofs.Common.{ℤ, pos, ◌*ℤ◌, ◌<ℤ◌, unsigned_abs, Option, Some, None, All}
 use Rattle.std.specs.List.{fold}
 use Rattle.std.specs.Option.{unwrap_or}
 use Rattle.std.specs.Int.{◌∣◌}
 use Rattle.std.proofs.lemmas.Int.{ints}
 use lib.IntN.{*ℤ-zero}
-use Rattle.std.proofs.lemmas.List.{get_or-map, length-map}
+use Rattle.std.proofs.lemmas.List.{get_or-map, length-map, same_lists}
 use Rattle.std.proofs.lemmas.List.Elements.{All-get_or, All-from_get_or}
 use Rattle.std.proofs.lemmas.Nat.Gcd.{dvd_trans, dvd_refl, le_of_dvd}
 use Rattle.std.proofs.Math.Nat.{min-le_left, min-le_right, pos_of_dvd_of_pos}
@@ -23,7 +23,7 @@ use Rattle.eps_poly.proofs.FactorLaws.{lowered_factors, core_is}
 use Rattle.eps_poly.proofs.OrderLaws.{lowest_from_coefficient}
 use Rattle.eps_poly.proofs.ProductLaws.{product_is_exact}
 use Rattle.eps_poly.proofs.SizedLists.{bind_some}
-use Rattle.eps_poly.proofs.Validity.{lowered_valid}
+use Rattle.eps_poly.proofs.Validity.{lowered_same, lowered_valid}
 use Rattle.eps_quotient.specs.Laws.Cuts.{order_within, monomial_some}
 use Rattle.eps_quotient.specs.Laws.Multiples.{monomial-multiply}
 use Rattle.eps_quotient.specs.Laws.QuotientLaws.{same_sym, same_trans, quotient-cancel}
@@ -127,6 +127,9 @@ content_each c [] k h = absurd (omega arith)
 content_each c (p ∷ ps) zero h = dvd_trans _ (content_first (gcd c (content p)) ps) (gcd_is c (content p)).1
 content_each c (p ∷ ps) (suc k) h = content_each (gcd c (content p)) ps k (omega arith)
 
+pub one_first : (n : ℕ) → gcd 1 n ≡ 1
+one_first n = let most = le_of_dvd (omega arith) (gcd_is 1 n).0 in let least = pos_of_dvd_of_pos (gcd_is 1 n).0 (omega arith) in omega arith
+
 order_first : (c : ℕ) (ps : List (List ℤ)) → fold (λ k p. min k (order p)) c ps ≤ c
 order_first c [] = omega arith
 order_first c (p ∷ ps) = let s = min-le_left c (order p) in let t = order_first (min c (order p)) ps in omega arith
@@ -165,7 +168,7 @@ by_at : (k : ℕ) (c : ℤ) (r : StoredRow) (i : ℕ) → i < length r.numerator
 unfolding numerator_at
 by_at k c r i h = get_or-map (lowered k c) r.numerators i zero_polynomial zero_polynomial h
 
-lowered_values : (m : ℕ) (r : StoredRow) → IsProperRow m r → HasValues m r (lowered_row r)
+pub lowered_values : (m : ℕ) (r : StoredRow) → IsProperRow m r → HasValues m r (lowered_row r)
 unfolding lowered_row row_content row_order numerator_at
 lowered_values m r P =
     let h = row_content r in
@@ -182,6 +185,18 @@ lowered_values m r P =
     (lowered_times h k low (numerator_at r i) (numerator_is m r i P b) (content_each _ r.numerators i (omega (arith, P.count)))
     (order_each _ r.numerators i (omega (arith, P.count)))))
     (λ i b. subst IsPolynomial (sym (by i b)) (lowered_valid k (pos h) (numerator_at r i) (numerator_is m r i P b)))
+
+-- a row without common content and common powers
+pub nothing_common : (m : ℕ) (r : StoredRow) → IsProperRow m r → row_order r ≡ 0 → row_content r ≡ 1 → lowered_row r ≡ r
+unfolding lowered_row
+nothing_common m r P k c =
+    rw (k, c) (ap₂ (λ ns d. record { numerators = ns; denominator = d }) all (lowered_same r.denominator P.denominator))
+  where
+    all : map (lowered 0 (pos 1)) r.numerators ≡ r.numerators
+    all =
+        let count = length-map r.numerators (lowered 0 (pos 1)) in
+        same_lists _ _ count (λ i d h. get_or-map (lowered 0 (pos 1)) r.numerators i d d (omega arith)
+        ∙ lowered_same _ (All-get_or IsPolynomial r.numerators i d (omega arith) P.numerators))
 
 -- ---- the cleared row
 

@@ -12,7 +12,7 @@ use Rattle.simes_test.specs.Tested.{IsTested}
 use Rattle.simes_test.proofs.SimesSets.{tested_first, tested_next, all_tested, first_wide, answers_are, all_defined}
 use Rattle.simes_test.proofs.table.local_answers.Goals as goal
 
--- what is known of all sets, for as many hypotheses and at the level of the case
+-- what is known of all sets, for the hypotheses and the level of the case
 tested_in : (ps : List Ratio) (weight : ℕ → ℕ → Ratio) (told : ℕ → Bool) (m k : ℕ) (alpha level : Ratio) → m ≡ k → alpha ≡ level
     → ((n : ℕ) → n < 2 ^ m → IsTested m ps weight alpha n (told n)) → (n : ℕ) → n < 2 ^ k → IsTested k ps weight level n (told n)
 tested_in ps weight told m k alpha level e f all =

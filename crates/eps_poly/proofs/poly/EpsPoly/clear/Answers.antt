@@ -1,22 +1,24 @@
-use Rattle.std.proofs.Common.{◌∙◌, sym, arith}
-use Rattle.eps_poly.proofs.Coefficients.{same_polynomials, coefficient-zero, length-zero}
-use Rattle.eps_poly.proofs.DegreeLaws.{coefficient-above}
-use Rattle.eps_poly.proofs.InPlace.{rewritten_none, rewritten_more, rewritten_all}
+use Rattle.std.proofs.Common.{◌≡◌, ◌++◌, ◌∙◌, ap, sym, arith, drop, rules, length-take, replicate, pos}
+use Rattle.eps_poly.specs.Polynomials.{zero_polynomial}
+use Rattle.eps_poly.specs.Written.{count_to_last}
+use Rattle.eps_poly.proofs.DegreeLaws.{count_zero, front_cleared}
+use Rattle.eps_poly.proofs.Validity.{zero_valid}
 use Rattle.eps_poly.proofs.poly.EpsPoly.clear.Goals as goal
 
-pub loop-power-init : goal.loop-power-init
-loop-power-init c = rewritten_none _ _
+cleared : (c : goal.After-self-1) → c.fill.new.self ++ drop c.used-end.result c.self.inside.entries ≡ zero_polynomial
+cleared c =
+    let own = c.self.invariant.0.count in
+    let same = ap count_to_last c.self.view_is in
+    let first = c.used-end.ensures.value in
+    let high = c.used-end.ensures.within in
+    let front = c.fill.ensures.after (λ y e. search rules) in
+    let count = length-take c.used-end.result c.self.inside.entries in
+    let few : count_to_last c.self.inside.entries ≡ c.used-end.result = same ∙ sym first in
+    ap (λ r. r ++ drop c.used-end.result c.self.inside.entries) (front ∙ ap (λ n. replicate n (pos 0)) (omega arith))
+    ∙ front_cleared c.self.inside.entries c.used-end.result own high (omega arith)
 
-pub loop-power-preserved : goal.loop-power-preserved
-loop-power-preserved c =
-    let more = c.loop-power-test.true in
-    let count = c.used-end.ensures.polynomial.count in
-    rw c.put.ensures (rewritten_more _ _ _ _ _ (omega arith) c.loop-power.invariant c.new.ensures)
+pub invariant_of-self : goal.invariant_of-self
+invariant_of-self c = rw (cleared c) (zero_valid, count_zero)
 
 pub returns : goal.returns
-returns c =
-    let done = c.loop-power-test.false in
-    let same = c.used-end.ensures.value in
-    same_polynomials _ _ (c.loop-power.invariant.count ∙ c.used-end.ensures.polynomial.count ∙ sym length-zero)
-    (λ k h. rewritten_all _ _ _ c.loop-power.power (λ k h. coefficient-above c.args.self.now k (omega arith)) c.loop-power.invariant k
-    ∙ sym (coefficient-zero k))
+returns c = cleared c

@@ -1,4 +1,4 @@
-use Rattle.std.proofs.Common.{◌≡◌, ◌<◌, ◌≤◌, ◌∙◌, sym, ap, arith, lit≤, map, length, refl, Some}
+use Rattle.std.proofs.Common.{◌≡◌, ◌<◌, ◌≤◌, ◌∙◌, sym, ap, arith, lit≤, map, length, get_or, refl, Some}
 use Rattle.std.proofs.lemmas.List.{length-map}
 use Rattle.std.proofs.lemmas.Result.{err_from_is_err_and}
 use Rattle.field_core.specs.declared.place.Op.TheVariants.{Add}
@@ -7,8 +7,9 @@ use Rattle.field_core.specs.View.{terms}
 use Rattle.eps_quotient.specs.Polynomials.{sum_from, written_polynomial}
 use Rattle.eps_quotient.specs.Quotients.{written_sum}
 use Rattle.eps_quotient.specs.View.{quotient_parts}
+use Rattle.eps_poly.proofs.Coefficients.{is_zero_true}
 use Rattle.eps_quotient.proofs.Constants.{polynomial_constant}
-use Rattle.eps_quotient.proofs.TermLaws.{sum_end, sum_next, sum_stops, five_value, all_ratios, kept, refused}
+use Rattle.eps_quotient.proofs.TermLaws.{sum_end, sum_next, sum_stays, sum_stops, five_value, all_ratios, kept, refused}
 use Rattle.eps_quotient.proofs.quotient.EpsQuotient.from_parts.Goals as goal
 
 pub loop-power-init : goal.loop-power-init
@@ -21,6 +22,16 @@ loop-power-preserved c =
     let room : c.loop-power.power < length xs = omega arith in
     sym (sum_next sum (quotient_parts c.in_ok-sum.sum) c.loop-power.power xs c.index-parts-power.result room
     (ap (written_sum sum) (sym c.term.ensures) ∙ kept _ _ c.in_ok-sum.ensures))
+    ∙ c.loop-power.invariant
+
+pub loop-power-preserved-then-is_zero : goal.loop-power-preserved-then-is_zero
+loop-power-preserved-then-is_zero c =
+    let sum = quotient_parts c.loop-power.sum in
+    let xs = c.args.parts.now in
+    let room : c.loop-power.power < length xs = omega arith in
+    let none = is_zero_true _ (sym c.is_zero.ensures ∙ c.if-is_zero.true) in
+    sym (sum_next sum sum c.loop-power.power xs c.index-parts-power.result room
+    (sum_stays sum c.loop-power.power _ (omega arith) c.loop-power.sum.stored (get_or xs c.loop-power.power c.index-parts-power.result).valid none))
     ∙ c.loop-power.invariant
 
 pub returns-in_err-sum-clause-written : goal.returns-in_err-sum-clause-written
