@@ -3,7 +3,7 @@
  *   calls PROGRAM FILE CALLS STARTS
  *
  * prints, in microseconds, the processor time of a call in process and the time of a started program: each the least of five
- * rounds of so many calls. */
+ * rounds. */
 #define _POSIX_C_SOURCE 200809L
 #include <fcntl.h>
 #include <spawn.h>

@@ -4,7 +4,7 @@
     calls.py PROGRAM FILE CALLS STARTS
 
 prints, in microseconds, the processor time of a call of `run`, that of a call of `test`, which also reads the report, and the
-time of a started program: each the least of five rounds of so many calls.
+time of a started program: each the least of five rounds.
 """
 import os
 import subprocess

@@ -1,7 +1,7 @@
 #!/bin/sh
-# Measures a call of `test` from C and from Python: in process, and by the program, started for each call. Prints a table in
-# microseconds: the processor time of a call in process, and the time of a started program; each the least of five rounds.
-# Nothing of it is a gate.
+# Measures a call of `test` from C, Python and R: in process, and by the program, started for each call. Prints a table in
+# microseconds: the processor time of a call in process, and the time of a started program; each the least of five rounds. R's
+# table follows (calls.R), if Rscript and the package of r/ are there. Nothing of it is a gate.
 set -eu
 here=$(cd "$(dirname "$0")" && pwd)
 out=$here/out
@@ -32,3 +32,9 @@ for sizes in 'holm-3 2000 50' 'full-16 200 50' 'full-64 5 10'; do
     row 'Python run' "$name" "$1" "$3"
     row 'Python test' "$name" "$2" "$3"
 done
+
+if command -v Rscript >/dev/null && Rscript --vanilla -e 'library(welungad)' >/dev/null 2>&1; then
+    Rscript --vanilla "$here/calls.R" "$program"
+else
+    echo "bench/calls.sh: no rows from R, since Rscript or the package welungad is missing"
+fi

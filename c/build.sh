@@ -1,25 +1,43 @@
 #!/bin/sh
 # Proves the library and builds c/out/libwelungad.a and c/out/libwelungad.so, which export the calls of welungad.h alone.
-#   c/build.sh          builds if a source has changed since the last build
-#   c/build.sh --force  builds in any case
-# Needs rt, cc and the binutils ld, ar and objcopy.
+#
+#   c/build.sh          builds if the library isn't built, or was built from other sources than those of the commit that is
+#                       checked out
+#   c/build.sh --force  builds in any case, from the sources as they are
+#
+# Needs rt, cc and the binutils ld, ar and objcopy. The file c/out/stamp names what the library was built from.
 set -eu
 here=$(cd "$(dirname "$0")" && pwd)
 top=$(dirname "$here")
 crate=$top/crates/welungad_c
 out=$here/out
-kit=$(dirname "$(dirname "$(readlink -f "$(command -v rt)")")")
+stamp=$out/stamp
 
-# Prints a source that is newer than the shared object.
-changed() {
-    find "$top/crates" -name out -prune -o -type f \( -name '*.rt' -o -name '*.antt' \) -newer "$out/libwelungad.so" -print -quit
-    find "$top/crates.txt" "$here/build.sh" "$here/welungad.map" -newer "$out/libwelungad.so"
+# the trees of the sources in the commit; nothing where git doesn't tell
+trees() {
+    git -C "$top" rev-parse HEAD:crates HEAD:crates.txt HEAD:c/build.sh HEAD:c/welungad.map 2>/dev/null | paste -sd ' ' -
 }
 
-if [ "${1-}" != --force ] && [ -f "$out/libwelungad.so" ] && [ -f "$out/libwelungad.a" ] && [ -z "$(changed)" ]; then
+# what is edited and not committed among the sources
+edits() {
+    git -C "$top" status --porcelain -- crates crates.txt c/build.sh c/welungad.map 2>/dev/null | head -n 1
+}
+
+now=$(trees)
+built=
+if [ "${1-}" != --force ] && [ -f "$out/libwelungad.so" ] && [ -f "$out/libwelungad.a" ] && [ -r "$stamp" ]; then
+    read -r built <"$stamp"
+fi
+if [ -n "$built" ] && { [ -z "$now" ] || [ "$built" = "$now" ]; }; then
     exit 0
 fi
+if ! command -v rt >/dev/null; then
+    echo "c/build.sh: the library isn't built, and rt isn't on the path: see 'Install and run' in $top/README.md" >&2
+    exit 1
+fi
+kit=$(dirname "$(dirname "$(readlink -f "$(command -v rt)")")")
 mkdir -p "$out" "$crate/out"
+rm -f "$stamp"
 echo "welungad: proving and building the library, about half an hour the first time; see $out/build.log" >&2
 if ! (cd "$crate" && rt lib </dev/null >"$out/build.log" 2>&1); then
     cat "$out/build.log" >&2
@@ -36,3 +54,4 @@ ar rcs "$out/libwelungad.a" "$room/welungad.o"
 cc -shared -o "$room/libwelungad.so" -Wl,-soname,libwelungad.so -Wl,-z,defs -Wl,-z,now -Wl,-z,relro \
     -Wl,--version-script="$here/welungad.map" "$room/welungad.o"
 mv "$room/libwelungad.so" "$out/libwelungad.so"
+if [ -n "$(edits)" ]; then echo edited; else echo "${now:-unknown}"; fi >"$stamp"

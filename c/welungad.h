@@ -50,7 +50,7 @@ enum {
  * proof   The bytes that the program reads from the file of "check FILE". FILE itself is any word; it is not opened.
  * out     Room for the text. What is after the text stays. If the text does not fit, the status is WELUNGAD_ROOM and out holds
  *         the text's first out_len bytes; call again with room for *needed bytes. The same inputs have the same answer, unless
- *         memory runs out.
+ *         the call is out of memory.
  * needed  Becomes the length of the whole text. */
 uint8_t welungad_run(const uint8_t *words, size_t words_len, const uint8_t *kase, size_t kase_len, const uint8_t *proof,
                      size_t proof_len, uint8_t *out, size_t out_len, size_t *needed);

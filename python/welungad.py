@@ -417,7 +417,7 @@ class _Report:
         """Takes the last line."""
         self.take("end")
         if self._next != len(self._lines):
-            raise ValueError("a report goes on after its end")
+            raise ValueError("a report has lines after its end")
 
 
 def _tested(words: List[str]) -> Tested:
@@ -521,10 +521,10 @@ def _words(command: List[str], form: str, alpha: Optional[Level], **options: Opt
 def _answer(words: List[str], case: Text, proof: Text = b"") -> Tuple[int, str]:
     """Makes a call, and returns its status, DONE or NO, and its text. Any other status is raised as `Refused`."""
     status, text = run(words, case, proof)
-    told = text.decode("utf-8")
+    printed = text.decode("utf-8")
     if status not in (DONE, NO):
-        raise Refused(status, told.rstrip("\n"))
-    return status, told
+        raise Refused(status, printed.rstrip("\n"))
+    return status, printed
 
 
 def _read(words: List[str], case: Text, read: Callable[[_Report], Item]) -> Item:

@@ -16,7 +16,7 @@ answers_of bytes ws vs case proof old new needed result text status found are re
   delivered = delivered;
 }
 
--- memory ran out
+-- a call that is out of memory
 pub out_of_memory : (words : List (List ℕ)) (case proof old new : List ℕ) (needed result : ℕ) → Delivers no_memory 8 old new needed result
     → Answers words case proof old new needed result
 out_of_memory words case proof old new needed result delivered = record { text = no_memory; status = 8; replies = inr (refl, refl); delivered = delivered }

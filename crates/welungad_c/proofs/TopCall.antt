@@ -15,27 +15,27 @@ pub no_fault : (words : List (List ℕ)) (case : List ℕ) → ReadRose words (S
 no_fault words case (inl rose) = let more : Rose 0 0 = rose.1 in absurd (omega (arith, more))
 no_fault words case (inr rose) = let more : Rose 0 0 = rose.1 in absurd (omega (arith, more))
 
-module _ {CalledFor : Answer → Type 0} {read_rose write_rose read_clean write_clean : Type 0} {old text : List ℕ} {status : ℕ} (empty : old ≡ [])
-    (runs : Runs CalledFor read_rose write_rose read_clean write_clean (Some old) (Some text) status) where
+module _ {Expected : Answer → Type 0} {read_rose write_rose read_clean write_clean : Type 0} {old text : List ℕ} {status : ℕ} (empty : old ≡ [])
+    (runs : Runs Expected read_rose write_rose read_clean write_clean (Some old) (Some text) status) where
   -- a status up to 5 comes with an answer
-  answered : status ≤ 5 → IsAnswered CalledFor text status
+  answered : status ≤ 5 → IsAnswered Expected text status
   answered low = let put = runs.done low in
       record {
         answer = put.answer;
-        called_for = put.outcome.0;
+        expected = put.outcome.0;
         text_is = put.put ∙ ap (λ held. held ++ put.answer.text) empty;
         status_is = put.outcome.1;
       }
 
-  -- without a fault of a source and without status 7 there is an answer, or memory ran out
-  pub reply_of : (read_rose → ⊥) → (status ≡ 7 → ⊥) → IsAnswered CalledFor text status ⊎ IsOutOfMemory text status
+  -- without a fault of a source and without status 7 there is an answer, or the call is out of memory
+  pub reply_of : (read_rose → ⊥) → (status ≡ 7 → ⊥) → IsAnswered Expected text status ⊎ IsOutOfMemory text status
   reply_of clean fits = elim (leb_tells status 5) [
     | inl low ↦ inl (answered low.1)
     | inr high ↦ elim (eq-or-lt_of_le runs.known) [
-        | inl eight ↦ inr (runs.memory eight ∙ ap (λ held. held ++ no_memory) empty, eight)
-        | inr below ↦ elim (eq-or-lt_of_le {n = status} {m = 7} (omega (arith, below))) [
-            | inl seven ↦ absurd (fits seven)
-            | inr six ↦ absurd (clean (runs.read (omega (arith, high.1, six))).0)
-          ]
+      | inl eight ↦ inr (runs.memory eight ∙ ap (λ held. held ++ no_memory) empty, eight)
+      | inr below ↦ elim (eq-or-lt_of_le {n = status} {m = 7} (omega (arith, below))) [
+        | inl seven ↦ absurd (fits seven)
+        | inr six ↦ absurd (clean (runs.read (omega (arith, high.1, six))).0)
       ]
+    ]
   ]

@@ -7,18 +7,18 @@ use Rattle.answers.specs.Stages.{IsAnswerOf}
 use Rattle.graph_cli.specs.Outcome.{outcome}
 use Rattle.welungad_c.specs.Delivery.{Delivers}
 
--- An answer that is called for has this text and this status.
-pub record IsAnswered (CalledFor : Answer → Type 0) (text : List ℕ) (status : ℕ) : Type 0 where
+-- An answer of this kind has this text and this status.
+pub record IsAnswered (Expected : Answer → Type 0) (text : List ℕ) (status : ℕ) : Type 0 where
   pub answer : Answer
-  pub called_for : CalledFor answer
+  pub expected : Expected answer
   pub text_is : text ≡ answer.text
   pub status_is : status ≡ status_code answer.status
 
--- memory ran out
+-- the call is out of memory
 abbrev pub IsOutOfMemory : List ℕ → ℕ → Type 0
 IsOutOfMemory text status = (text ≡ no_memory) × (status ≡ 8)
 
--- The text and the status are those of the answer that these words, this case and this proof call for, or memory ran out.
+-- The text and the status are those of the answer to these words, this case and this proof, or the call is out of memory.
 abbrev pub Replies : List (List ℕ) → List ℕ → List ℕ → List ℕ → ℕ → Type 0
 Replies words case proof text status = IsAnswered (IsAnswerOf (outcome words (Some case) (Some proof))) text status ⊎ IsOutOfMemory text status
 
@@ -29,6 +29,6 @@ pub record Answers (words : List (List ℕ)) (case proof old new : List ℕ) (ne
   pub replies : Replies words case proof text status
   pub delivered : Delivers text status old new needed result
 
--- Nothing was put, with status 10; or memory ran out.
+-- Nothing was put, with status 10; or the call is out of memory.
 abbrev pub HasNoWords : List ℕ → List ℕ → ℕ → ℕ → Type 0
 HasNoWords old new needed result = ((result ≡ 10) × (needed ≡ 0) × (new ≡ old)) ⊎ Delivers no_memory 8 old new needed result

@@ -24,12 +24,12 @@ pub record AreWords (bytes : List ℕ) (words : List (List ℕ)) : Type 0 where
   pub same : bytes ≡ ended words
   pub each : AllByRecursion IsWord words
 
--- memory ran out, or the bytes are not UTF-8
+-- out of memory, or the bytes are not UTF-8
 abbrev pub LeavesNoText : List ℕ → NoWords → Type 0
 LeavesNoText bytes NoMemory = ⊤
 LeavesNoText bytes Unreadable = ¬ IsUtf8 bytes
 
--- memory ran out, or the bytes are not those of any words
+-- out of memory, or the bytes are not those of any words
 abbrev pub LeavesNoWords : List ℕ → NoWords → Type 0
 LeavesNoWords bytes NoMemory = ⊤
 LeavesNoWords bytes Unreadable = (words : List (List ℕ)) → ¬ AreWords bytes words

@@ -1,10 +1,10 @@
 //! The top call for C: words, a case and a proof in, a text and a status out, all in the caller's memory.
 //!
 //! Proved:
-//! - `welungad_run`: `answers`, `unread`. If the bytes are those of words, the text and the status are those of the answer that
-//!   these words, this case and this proof call for (`outcome` of `graph_cli`), or memory ran out. As much of the text as fits is
-//!   put into the caller's memory, and its whole length is reported. Status 7 comes exactly when the text doesn't fit. If the
-//!   bytes are not those of any words, the status is 10 and nothing is put, or memory ran out.
+//! - `welungad_run`: `answers`, `unread`. If the bytes are those of words, the text and the status are those of the answer to
+//!   these words, this case and this proof (`outcome` of `graph_cli`), or the call is out of memory. As much of the text as fits
+//!   is put into the caller's memory, and its whole length is reported. Status 7 comes exactly when the text doesn't fit. If the
+//!   bytes are not those of any words, the status is 10 and nothing is put, or the call is out of memory.
 //! - `welungad_interface`.
 //!
 //! Not proved, as at any export: that the caller's C code keeps what `c/welungad.h` requires.
@@ -18,7 +18,6 @@ mod delivery;
 mod reply;
 #[cfg(test)]
 mod tests;
-mod whole_text;
 mod words;
 
 use delivery::deliver;

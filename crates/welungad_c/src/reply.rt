@@ -1,10 +1,10 @@
 //! What the top call replies.
 ghost use Rattle.std.specs.Prelude.{◌≡◌, IfOk};
+ghost use Rattle.graph_io.specs.MemorySource.{bytes_left};
 
-use crate::whole_text::WholeText;
 use field_core::{List, NoMemory};
 use graph_cli::run;
-use graph_io::MemorySource;
+use graph_io::{MemorySource, WholeText};
 use std::alloc::Global;
 
 /// A status up to 5, or 8, and the whole text that comes with it.
@@ -40,7 +40,7 @@ impl Reply {
 
 /// Returns a source of a copy of these bytes.
 fn source(alloc: Global, bytes: &[u8]) -> Result<MemorySource, NoMemory>
-    ensures { IfOk result (λ source. source ≡ bytes.now) }
+    ensures { IfOk result (λ source. bytes_left source ≡ bytes.now) }
 {
     let mut copy = List::new(alloc);
     copy.append(bytes)?;

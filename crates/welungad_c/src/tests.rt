@@ -10,7 +10,7 @@ const CASE: &[u8] = b"alpha 0.05\nhypotheses H1 H2\np 0.02 0.06\nweights 1/2 1/2
 const REPORT: &[u8] =
     b"alpha 1/20\nstep 1 H1 p 1/50 weight 1/2\nkept H2 p 3/50 weight 1\nrejected H1\nadjusted H1 1/25\nadjusted H2 3/50\nend\n";
 
-/// Holds a call with room for so many bytes to its status, the length of the whole text, and the bytes that are put. Those after
+/// Holds a call with room for `room` bytes to its status, the length of the whole text, and the bytes that are put. Those after
 /// them stay.
 fn expect(
     rt: &impl Abort,
@@ -51,7 +51,7 @@ fn answers_a_case(rt: HostRuntime) -> Result<(), Fail> {
     expect(&rt, alloc, b"test\0", 5, (7, REPORT.len(), b"alpha"))
 }
 
-/// Whether words that the program refuses are told apart from bytes that are not words.
+/// Whether words that the program refuses have another status than bytes that are not words.
 #[test]
 fn refuses_words(rt: HostRuntime) -> Result<(), Fail> {
     let alloc = rt.alloc();
