@@ -11,3 +11,4 @@ pub mod Stored
 pub mod TermLaws
 pub mod Units
 pub mod WholeReadings
+pub mod LimitOfNorm

@@ -6,12 +6,14 @@
 //! - `new`: `norm`, `value`, `none`. `from_parts`: `written`, `value` (the number with these coefficients of epsilon,
 //!   or refused exactly where the written sum is undefined), `constant` (its denominator is a constant). `of`,
 //!   `numerator`, `denominator`.
+//! - `limit`: the limit of the quotient of two polynomials, as that of their norm.
 //! - `print`: `printed`, `unchanged`. `read`: `found`, `only` (the norm of the two polynomials that the text says,
 //!   exactly where it is in the grammar).
 //! - Laws in `src/laws.rt`: `a_stored_quotient_is_its_norm`, `a_printed_quotient_reads_back`.
 #![tactic(auto)]
 
 pub mod laws;
+mod limits;
 mod lower;
 mod pair;
 mod print;
@@ -19,4 +21,5 @@ mod quotient;
 mod read;
 mod written;
 
+pub use limits::limit;
 pub use quotient::EpsQuotient;

@@ -275,7 +275,7 @@ pub limit_in_lowest_terms : (x : Parts) → IsQuotient x → IsUnit (value_of x)
 limit_in_lowest_terms x s unit =
     limit_terms-reduced x.numerator x.denominator s.positive (below_first x s unit) (s.above.sizes 0) (s.below.sizes 0)
 
-limit_of_terms : (x : Parts) → IsQuotient x → IsUnit (value_of x) → fraction (limit_terms x).num (limit_terms x).den ≡ limit (value_of x)
+pub limit_of_terms : (x : Parts) → IsQuotient x → IsUnit (value_of x) → fraction (limit_terms x).num (limit_terms x).den ≡ limit (value_of x)
 unfolding value_of
 limit_of_terms x s unit = limit_terms-value x.numerator x.denominator (some_below x s) s.positive (below_first x s unit)
 

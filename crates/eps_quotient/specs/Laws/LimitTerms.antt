@@ -69,7 +69,7 @@ quotient_positive : (z : ℤ) (g : ℕ) → pos 0 <ℤ z → g ∣ unsigned_abs 
 quotient_positive (pos n) g h d = let q = pos_of_dvd_of_pos (quotient_divides g d) (size_positive (pos n) h) in omega (arith, ints)
 quotient_positive (negsuc n) g h d = absurd (omega (arith, ints))
 
-lowest_terms : (n d : ℤ) → unsigned_abs n < 2 ^ 127 → unsigned_abs d < 2 ^ 127 → pos 0 <ℤ d
+pub lowest_terms : (n d : ℤ) → unsigned_abs n < 2 ^ 127 → unsigned_abs d < 2 ^ 127 → pos 0 <ℤ d
     → IsReduced (record { num = int_div n (gcd_of n d); den = int_div d (gcd_of n d) })
 lowest_terms n d sn sd up =
     let g = gcd (unsigned_abs n) (unsigned_abs d) in
@@ -87,7 +87,7 @@ lowest_terms n d sn sd up =
 crossed : (a b g : ℤ) → a *ℤ (b *ℤ g) ≡ (a *ℤ g) *ℤ b
 crossed a b g = simp ring
 
-same_fraction : (n d : ℤ) → pos 0 <ℤ d → fraction (int_div n (gcd_of n d)) (int_div d (gcd_of n d)) ≡ fraction n d
+pub same_fraction : (n d : ℤ) → pos 0 <ℤ d → fraction (int_div n (gcd_of n d)) (int_div d (gcd_of n d)) ≡ fraction n d
 same_fraction n d up =
     let g = gcd (unsigned_abs n) (unsigned_abs d) in
     let is = gcd_is (unsigned_abs n) (unsigned_abs d) in
