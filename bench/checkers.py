@@ -24,7 +24,7 @@ from fractions import Fraction
 
 HERE = os.path.dirname(os.path.abspath(__file__))
 sys.path.insert(0, os.path.join(HERE, "..", "tools"))
-from check_evidence import Stop, answer, numeral, read_case  # noqa: E402
+from check_evidence import WIDEST, Stop, answer, numeral, read_case  # noqa: E402
 from closed_test import closed_test  # noqa: E402
 
 PROGRAM = os.path.join(HERE, "..", "crates", "welungad", "out", "welungad")
@@ -180,10 +180,12 @@ def compare(made, evidence, room, what):
         file.write(evidence)
     ours = run(["check", path, *made.words()], case)
     alpha = made.alpha if made.form == "csv" else None
+    WIDEST[:] = 0, 0
     theirs = answer(case, evidence.encode("latin-1"), made.form, alpha)
     names = {0: "yes", 1: "no", 3: "malformed"}
     if is_refused_for_size(*ours, evidence):
-        return f"{what}: the program refuses a size, the checker says {names.get(theirs[0], theirs[0])}", None
+        note = "with its note" if WIDEST[0] > 63 or WIDEST[1] > 17 else "without a note"
+        return f"{what}: the program refuses a size, the checker says {names.get(theirs[0], theirs[0])} {note}", None
     if ours != tuple(theirs):
         return f"{what}: DISAGREE", f"program {ours}, checker {theirs}\n{case.decode()}{evidence}"
     return f"{what}: both say {names.get(ours[0], ours[0])}", None
