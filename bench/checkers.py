@@ -28,8 +28,9 @@ from check_evidence import WIDEST, Stop, answer, numeral, read_case  # noqa: E40
 from closed_test import closed_test  # noqa: E402
 
 PROGRAM = os.path.join(HERE, "..", "crates", "welungad", "out", "welungad")
-NUMBERS = ["0", "1", "2", "1/2", "-1/2", "1/3", "501/1000", "1/1000000007", "[1]/[2,-1]", "[0,1]/[1]", "[1,-1]/[2]", "[0,1]/[0,2]", "[0,0,-1]/[1]",
-           "4/6", "1/0", "[]", "+1", "0.5", "x", "[1]/[0]", "170141183460469231731687303715884105728"]
+NUMBERS = ["0", "1", "2", "1/2", "-1/2", "1/3", "501/1000", "1/1000000007", "[1]/[2,-1]", "[0,1]/[1]", "[1,-1]/[2]", "[0,1]/[0,2]",
+           "[0,0,-1]/[1]", "4/6", "1/0", "[]", "+1", "0.5", "x", "[1]/[0]", "170141183460469231731687303715884105728"]
+WORDS = ["1", "2", "3", "01", "step", "keep", "flow", "exit", "end", "evidence", "", "#"]
 
 
 def run(words, given):
@@ -135,7 +136,7 @@ def damaged_lines(rng, lines, names):
         lines[at], lines[other] = lines[other], lines[at]
     elif kind == 9:
         words = lines[at].split(" ")
-        words[rng.randrange(len(words))] = rng.choice([*names, "1", "2", "3", "01", "step", "keep", "flow", "exit", "end", "evidence", "", "#"])
+        words[rng.randrange(len(words))] = rng.choice([*names, *WORDS])
         lines[at] = " ".join(words)
     elif kind == 10:
         lines[at] += rng.choice([" ", "\t", "\r", " 1", " #", "\n", "\n# a remark", "\n \t", "\nend"])
