@@ -185,7 +185,7 @@ def compare(made, evidence, room, what):
     theirs = answer(case, evidence.encode("latin-1"), made.form, alpha)
     names = {0: "yes", 1: "no", 3: "malformed"}
     if is_refused_for_size(*ours, evidence):
-        note = "with its note" if WIDEST[0] > 63 or WIDEST[1] > 17 else "without a note"
+        note = "with its note" if WIDEST[0] > 59 or WIDEST[1] > 17 else "without a note"
         return f"{what}: the program refuses a size, the checker says {names.get(theirs[0], theirs[0])} {note}", None
     if ours != tuple(theirs):
         return f"{what}: DISAGREE", f"program {ours}, checker {theirs}\n{case.decode()}{evidence}"

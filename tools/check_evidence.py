@@ -5,7 +5,7 @@
 CASE and EVIDENCE are files in the formats of docs/FORMATS.md; `--alpha` gives the level of a sheet. The script shares no
 code with `welungad` and needs Python's standard library alone. It prints what `welungad check` prints, with its status:
 0 and `yes`, 1 and the first broken condition, 3 and what is malformed. Its numbers have no limit of size, so it also decides
-what `welungad` refuses as too wide (5) or as past a limit (4). Where such numbers occur, it says so on standard error.
+what `welungad` refuses as too wide (5) or as past a limit (4). Where wide numbers occur, it says so on standard error.
 A case has hypotheses with p-values p, and components with shares; each component has weights w and edges g. Epsilon is a
 positive number below every positive fraction, and lim x is x with epsilon at 0. Evidence lists steps. Each has a hypothesis j
 and, in each component, a flow y_r for the hypothesis r of each earlier step. Sums go over the hypotheses e of these steps:
@@ -294,7 +294,7 @@ if __name__ == "__main__":
     parser.add_argument("--alpha")
     words = parser.parse_args()
     status, text = answer(*(file.read() for file in words.files), words.form, words.alpha)
-    if WIDEST[0] > 63 or WIDEST[1] > 17:
+    if WIDEST[0] > 59 or WIDEST[1] > 17:
         sys.stderr.write("note: %d bits, %d coefficients: `welungad check` may end with 5, at 127 bits or a degree of 32\n" % (*WIDEST,))
     sys.stdout.write(text)
     sys.exit(status)
