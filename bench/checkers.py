@@ -24,12 +24,13 @@ from fractions import Fraction
 
 HERE = os.path.dirname(os.path.abspath(__file__))
 sys.path.insert(0, os.path.join(HERE, "..", "tools"))
-from check_evidence import Stop, answer, numeral, read_case  # noqa: E402
+from check_evidence import WIDEST, Stop, answer, numeral, read_case  # noqa: E402
 from closed_test import closed_test  # noqa: E402
 
 PROGRAM = os.path.join(HERE, "..", "crates", "welungad", "out", "welungad")
-NUMBERS = ["0", "1", "2", "1/2", "-1/2", "1/3", "501/1000", "1/1000000007", "[1]/[2,-1]", "[0,1]/[1]", "[1,-1]/[2]", "[0,1]/[0,2]", "[0,0,-1]/[1]",
-           "4/6", "1/0", "[]", "+1", "0.5", "x", "[1]/[0]", "170141183460469231731687303715884105728"]
+NUMBERS = ["0", "1", "2", "1/2", "-1/2", "1/3", "501/1000", "1/1000000007", "[1]/[2,-1]", "[0,1]/[1]", "[1,-1]/[2]", "[0,1]/[0,2]",
+           "[0,0,-1]/[1]", "4/6", "1/0", "[]", "+1", "0.5", "x", "[1]/[0]", "170141183460469231731687303715884105728"]
+WORDS = ["1", "2", "3", "01", "step", "keep", "flow", "exit", "end", "evidence", "", "#"]
 
 
 def run(words, given):
@@ -135,7 +136,7 @@ def damaged_lines(rng, lines, names):
         lines[at], lines[other] = lines[other], lines[at]
     elif kind == 9:
         words = lines[at].split(" ")
-        words[rng.randrange(len(words))] = rng.choice([*names, "1", "2", "3", "01", "step", "keep", "flow", "exit", "end", "evidence", "", "#"])
+        words[rng.randrange(len(words))] = rng.choice([*names, *WORDS])
         lines[at] = " ".join(words)
     elif kind == 10:
         lines[at] += rng.choice([" ", "\t", "\r", " 1", " #", "\n", "\n# a remark", "\n \t", "\nend"])
@@ -180,10 +181,12 @@ def compare(made, evidence, room, what):
         file.write(evidence)
     ours = run(["check", path, *made.words()], case)
     alpha = made.alpha if made.form == "csv" else None
+    WIDEST[:] = 0, 0
     theirs = answer(case, evidence.encode("latin-1"), made.form, alpha)
     names = {0: "yes", 1: "no", 3: "malformed"}
     if is_refused_for_size(*ours, evidence):
-        return f"{what}: the program refuses a size, the checker says {names.get(theirs[0], theirs[0])}", None
+        note = "with its note" if WIDEST[0] > 59 or WIDEST[1] > 17 else "without a note"
+        return f"{what}: the program refuses a size, the checker says {names.get(theirs[0], theirs[0])} {note}", None
     if ours != tuple(theirs):
         return f"{what}: DISAGREE", f"program {ours}, checker {theirs}\n{case.decode()}{evidence}"
     return f"{what}: both say {names.get(ours[0], ours[0])}", None

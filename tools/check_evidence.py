@@ -5,7 +5,7 @@
 CASE and EVIDENCE are files in the formats of docs/FORMATS.md; `--alpha` gives the level of a sheet. The script shares no
 code with `welungad` and needs Python's standard library alone. It prints what `welungad check` prints, with its status:
 0 and `yes`, 1 and the first broken condition, 3 and what is malformed. Its numbers have no limit of size, so it also decides
-what `welungad` refuses as too wide (5) or as past a limit (4). Where such numbers occur, it says so on standard error.
+what `welungad` refuses as too wide (5) or as past a limit (4). Where wide numbers occur, it says so on standard error.
 A case has hypotheses with p-values p, and components with shares; each component has weights w and edges g. Epsilon is a
 positive number below every positive fraction, and lim x is x with epsilon at 0. Evidence lists steps. Each has a hypothesis j
 and, in each component, a flow y_r for the hypothesis r of each earlier step. Sums go over the hypotheses e of these steps:
@@ -30,7 +30,7 @@ from fractions import Fraction
 from functools import reduce
 from itertools import product, zip_longest
 
-ZERO, ONE, WIDEST = Fraction(0), Fraction(1), [0]  # WIDEST holds the bits of the widest whole number so far
+ZERO, ONE, WIDEST = Fraction(0), Fraction(1), [0, 0]  # so far, the bits of the widest whole number, and the most coefficients
 
 
 class Stop(Exception):
@@ -46,7 +46,7 @@ def trimmed(a):
     """A polynomial in epsilon: a list of fractions, by ascending power. The last one is not 0."""
     while a and a[-1] == 0:
         a.pop()
-    WIDEST[0] = max([WIDEST[0], *(part.bit_length() for x in a for part in x.as_integer_ratio())])
+    WIDEST[:] = max([WIDEST[0], *(part.bit_length() for x in a for part in x.as_integer_ratio())]), max(WIDEST[1], len(a))
     return a
 
 
@@ -294,7 +294,7 @@ if __name__ == "__main__":
     parser.add_argument("--alpha")
     words = parser.parse_args()
     status, text = answer(*(file.read() for file in words.files), words.form, words.alpha)
-    if WIDEST[0] > 63:
-        print(f"note: numbers of {WIDEST[0]} bits; `welungad check` ends with 5 where its own pass 127 bits", file=sys.stderr)
+    if WIDEST[0] > 59 or WIDEST[1] > 17:
+        sys.stderr.write("note: %d bits, %d coefficients: `welungad check` may end with 5, at 127 bits or a degree of 32\n" % (*WIDEST,))
     sys.stdout.write(text)
     sys.exit(status)

@@ -4,9 +4,8 @@
     tools/draw.py CASE [REPORT] [--form text|csv] [--alpha N] > PICTURE.svg
 
 CASE is a file, as for check_evidence.py; stages are left out. REPORT is a file with what `welungad test` prints for the case:
-what it rejects is then filled, and has the number of its step. A circle has the name of a hypothesis, its weight in each component
-and its p-value. An arrow has its edge. Each component has its colour. The legend has the level and the
-shares.
+what it rejects is then filled, and has the number of its step. A circle has the name of a hypothesis, its weight in each
+component and its p-value. An arrow has its edge. Each component has its colour. The legend has the level and the shares.
 """
 import argparse
 import math
@@ -18,7 +17,7 @@ from check_evidence import Stop, numeral, read_case, require
 
 COLOURS = ["#1f4e9e", "#b3541e", "#2e7d32", "#7b1fa2", "#00838f", "#8d6e00", "#ad1457", "#455a64"]
 RADIUS, GAP, HIGH = 40, 200, 215
-POWERS = ["", "ε", "ε²", "ε³", "ε⁴", "ε⁵", "ε⁶", "ε⁷", "ε⁸", "ε⁹"]
+POWERS = ["", "ε", "ε²", "ε³", "ε⁴"]
 
 
 def decimal(x):
@@ -32,12 +31,13 @@ def short(x):
 
 
 def edge_text(polynomial):
-    """An edge as `welungad canon` prints it, but for the sign of epsilon and of the product."""
+    """An edge as `welungad canon` prints it, but for long fractions and the signs of epsilon and of products."""
     text = ""
     for power, x in enumerate(polynomial):
         if x:
-            size = "" if abs(x) == 1 and power else str(abs(x))
-            text += ("−" if x < 0 else "+") + size + ("·" if size and power else "") + POWERS[power]
+            size = "" if abs(x) == 1 and power else short(abs(x))
+            epsilon = POWERS[power] if power < len(POWERS) else f"ε^{power}"
+            text += ("−" if x < 0 else "+") + size + ("·" if size and power else "") + epsilon
     return text.removeprefix("+")
 
 
@@ -224,7 +224,7 @@ def main():
     if words.report:
         lines = [line.split() for line in open(words.report, encoding="latin-1")]
         steps = {line[2]: line[1] for line in lines if line[:1] == ["step"]}
-    sys.stdout.write(picture(case, steps))
+    sys.stdout.buffer.write(picture(case, steps).encode())
 
 
 if __name__ == "__main__":

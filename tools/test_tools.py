@@ -263,7 +263,7 @@ class Checker(unittest.TestCase):
                     file.write(text)
             done = subprocess.run([sys.executable, os.path.join(TOOLS, "check_evidence.py"), *paths], capture_output=True, text=True)
         self.assertEqual((done.returncode, done.stdout), (0, "yes\nlisted A B C\nend\n"))
-        self.assertIn("note: numbers of ", done.stderr)
+        self.assertRegex(done.stderr, "^note: [0-9]+ bits, 1 coefficients: ")
 
     def test_no_answer(self):
         """Whether what isn't decided ends with no status of a yes or a no."""
