@@ -9,8 +9,8 @@ use crate::gathering::GivenGraph;
 use crate::new_rows::{write_rows, write_weights};
 use crate::row::Row;
 use eps_poly::EpsPoly;
-use eps_quotient::EpsQuotient;
-use field_core::{NoMemory, Number, Whole, Wide};
+use eps_quotient::{EpsQuotient, limit};
+use field_core::{NoMemory, Number, Ratio, Whole, Wide};
 use std::alloc::Global;
 use std::marker::Model;
 
@@ -177,6 +177,9 @@ impl RowGraph {
 #[tactic(auto, using(crate::specs::Laws::RowGraphs::weight_seen, crate::specs::Laws::RowGraphs::edge_seen, crate::specs::Laws::RowGraphs::loop_seen, crate::specs::Laws::RowPasses::row_some))]
 impl RowGraph {
     ghost use Rattle.std.specs.Prelude.{◌≡◌, ◌<◌};
+    ghost use Rattle.field_core.specs.Exact.{value_of};
+    ghost use Rattle.field_core.specs.LimitParts.{IsUnit, limit_terms};
+    ghost use Rattle.field_core.specs.View.{terms};
     ghost use Rattle.removal.specs.StoredGraph.{weight, edge};
     ghost use Rattle.eps_quotient.specs.Quotients.{quotients};
     ghost use Rattle.eps_quotient.specs.View.{quotient_parts};
@@ -190,6 +193,16 @@ impl RowGraph {
         ensures { quotient_parts result ≡ weight quotients (rows_graph self.now) k }
     {
         quotient(self.weight_numerator(k), self.weight_denominator())
+    }
+
+    /// The limit of the weight of `k`, which is from 0 to 1.
+    pub fn weight_limit(&self, k: usize) -> Ratio
+        requires proper { AreProperRows self.now }
+        requires k { k < rows_size self.now }
+        requires unit { IsUnit (value_of (weight quotients (rows_graph self.now) k)) }
+        ensures { terms result ≡ limit_terms (weight quotients (rows_graph self.now) k) }
+    {
+        limit(self.weight_numerator(k), self.weight_denominator())
     }
 
     /// The edge from `l` to `k`, 0 where they are equal.
