@@ -1,10 +1,7 @@
-use Rattle.std.proofs.Common.{◌≡◌, ◌∙◌, sym, ap, ap₂, subst}
+use Rattle.std.proofs.Common.{◌∙◌, sym, ap, ap₂, subst}
 use Rattle.field_core.specs.Exact.{value_of}
 use Rattle.field_core.specs.LimitParts.{IsUnit, limit_terms}
-use Rattle.removal.specs.StoredGraph.{weight}
 use Rattle.eps_quotient.specs.Lowering.{norm}
-use Rattle.eps_quotient.specs.Quotients.{quotients}
-use Rattle.row_removal.specs.StoredRows.{rows_graph}
 use Rattle.row_removal.specs.Laws.RowGraphs.{weight_seen}
 use Rattle.row_removal.proofs.graph.RowGraph.weight_limit.Goals as goal
 
