@@ -1,8 +1,7 @@
 -- The least power with a coefficient that isn't 0.
 use Rattle.std.proofs.Common.{◌≡◌, ◌≢◌, ℕ, zero, suc, ◌<◌, ◌≤◌, true, false, List, [], ◌∷◌, length, refl, sym, ◌∙◌, arith}
-use Rattle.std.proofs.Common.{ℤ, pos, negsuc, inl, inr, Some, None, eqb, IsTrue, ◌↔◌}
-use Rattle.std.proofs.lemmas.Bool.{cases_lt, cases_eq}
-use Rattle.std.proofs.lemmas.Bool.Decides.{nat_tests}
+use Rattle.std.proofs.Common.{ℤ, pos, negsuc, inl, inr, Some, None}
+use Rattle.std.proofs.lemmas.Bool.{cases_lt}
 use Rattle.std.specs.List.{list_all}
 use Rattle.field_core.specs.Kind.{is_zero_integer}
 use Rattle.field_core.specs.Polynomial.{coefficient, or_else, lowest, IsNonZero}

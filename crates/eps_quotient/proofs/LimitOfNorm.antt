@@ -1,5 +1,5 @@
 -- The limit of a quotient from 0 to 1, by the coefficients of the least power of its denominator.
-use Rattle.std.proofs.Common.{◌≡◌, ◌+◌, ◌*◌, ◌<◌, ◌^◌, ℕ, zero, suc, List, [], ◌∷◌, refl, sym, ◌∙◌, ap, ap₂, subst, arith, ℤ, pos}
+use Rattle.std.proofs.Common.{◌≡◌, ◌*◌, ◌<◌, ◌^◌, ℕ, zero, suc, List, [], ◌∷◌, refl, sym, ◌∙◌, ap, ap₂, subst, arith, ℤ, pos}
 use Rattle.std.proofs.Common.{negsuc, ◌*ℤ◌, ◌<ℤ◌, neg_ℤ, unsigned_abs, int_div}
 use Rattle.std.proofs.lemmas.Int.{unsigned_abs-mul}
 use Rattle.std.proofs.lemmas.Nat.Gcd.{dvd_antisymm}
@@ -10,11 +10,10 @@ use Rattle.field_core.specs.Sized.{gcd_of}
 use Rattle.field_core.specs.Terms.{Terms, IsReduced}
 use Rattle.field_core.specs.Number.{Pair}
 use Rattle.field_core.specs.Polynomial.{coefficient, lowest, or_else, Same, poly_multiply, IsNonZero}
-use Rattle.field_core.specs.Kind.{Parts}
 use Rattle.field_core.specs.Exact.{value_of}
-use Rattle.field_core.specs.Fractions.{quotient, fraction}
+use Rattle.field_core.specs.Fractions.{fraction}
 use Rattle.field_core.specs.Limit.{limit}
-use Rattle.field_core.specs.LimitRatio.{at_zero, limit_ratio}
+use Rattle.field_core.specs.LimitRatio.{limit_ratio}
 use Rattle.field_core.specs.LimitParts.{limit_terms, IsUnit}
 use Rattle.field_core.specs.Laws.Effective.{cross_of_equal, fraction-cross, positive_nonzero}
 use Rattle.field_core.specs.Laws.FractionLaws.{fraction-equal, fraction-zero, quotient-pair}
@@ -28,7 +27,6 @@ use Rattle.eps_poly.specs.Factors.{order}
 use Rattle.eps_poly.specs.Polynomials.{IsPolynomial}
 use Rattle.eps_poly.proofs.OrderLaws.{coefficient-order}
 use Rattle.eps_quotient.specs.Lowering.{norm}
-use Rattle.eps_quotient.specs.Stored.{IsQuotient}
 use Rattle.eps_quotient.specs.Laws.Exact.{below_first, limit_in_lowest_terms, limit_of_terms, some_below}
 use Rattle.eps_quotient.specs.Laws.LimitTerms.{lowest_terms, same_fraction}
 use Rattle.eps_quotient.specs.Laws.NormLaws.{norm_is}

@@ -9,12 +9,12 @@ use crate::gathering::GivenGraph;
 use crate::new_rows::{write_rows, write_weights};
 use crate::row::Row;
 use eps_poly::EpsPoly;
-use eps_quotient::EpsQuotient;
-use field_core::{NoMemory, Number, Whole, Wide};
+use eps_quotient::{EpsQuotient, limit};
+use field_core::{NoMemory, Number, Ratio, Whole, Wide};
 use std::alloc::Global;
 use std::marker::Model;
 
-/// Returns the quotient of two polynomials, the second not 0.
+/// The quotient of two polynomials, the second not 0.
 fn quotient(above: &EpsPoly, below: &EpsPoly) -> EpsQuotient
     requires { IsNonZero below.now }
     ensures { quotient_parts result ≡ norm above.now below.now }
@@ -25,7 +25,7 @@ fn quotient(above: &EpsPoly, below: &EpsPoly) -> EpsQuotient
     }
 }
 
-/// Rows of zeros over 1: this number of rows, of this length.
+/// So many rows of so many zeros over 1.
 fn zero_rows(alloc: Global, count: usize) -> Result<Vec<Row>, NoMemory>
     ensures { IfOk result (λ rows. rows.items ≡ replicate count (zero_row count)) }
 {
@@ -36,7 +36,7 @@ fn zero_rows(alloc: Global, count: usize) -> Result<Vec<Row>, NoMemory>
     Ok(rows)
 }
 
-/// Takes the numbers of the same number of rows of the same length.
+/// Takes the numbers of as many rows of the same length.
 fn copy_rows(rows: &mut [Row], other: &[Row], count: usize)
     requires length { length rows.old ≡ length other.now }
     requires rows { All (λ r. length r.numerators ≡ count) rows.old }
@@ -74,7 +74,7 @@ impl RowGraph {
     ghost use Rattle.row_removal.specs.StoredRow.{numerator_at};
     ghost use Rattle.row_removal.specs.StoredRows.{rows_size, rows_graph, row_at};
 
-    /// Returns the number of hypotheses, those removed among them.
+    /// The number of hypotheses, those removed among them.
     pub fn size(&self) -> usize
         ensures { result ≡ rows_size self.now }
     {
@@ -97,7 +97,7 @@ impl RowGraph {
         !self.live[k] || k == j
     }
 
-    /// Returns the numerator of the weight of `k`.
+    /// The numerator of the weight of `k`.
     pub fn weight_numerator(&self, k: usize) -> &EpsPoly
         requires proper { AreProperRows self.now }
         requires k { k < rows_size self.now }
@@ -106,14 +106,14 @@ impl RowGraph {
         self.weights.numerator(k)
     }
 
-    /// Returns the denominator of the weights.
+    /// The denominator of the weights.
     pub fn weight_denominator(&self) -> &EpsPoly
         ensures { result.now ≡ self.now.weights.denominator }
     {
         self.weights.denominator()
     }
 
-    /// Returns the numerator of the edge from `l` to `k`.
+    /// The numerator of the edge from `l` to `k`.
     pub fn numerator(&self, l: usize, k: usize) -> &EpsPoly
         requires proper { AreProperRows self.now }
         requires l { l < rows_size self.now }
@@ -123,7 +123,7 @@ impl RowGraph {
         self.edges[l].numerator(k)
     }
 
-    /// Returns the denominator of the row of edges from `l`.
+    /// The denominator of the row of edges from `l`.
     pub fn denominator(&self, l: usize) -> &EpsPoly
         requires proper { AreProperRows self.now }
         requires l { l < rows_size self.now }
@@ -132,7 +132,7 @@ impl RowGraph {
         self.edges[l].denominator()
     }
 
-    /// Returns the denominator that the row of the last removed hypothesis had, or 1.
+    /// The denominator that the row of the last removed hypothesis had, or 1.
     pub fn last(&self) -> &EpsPoly
         ensures { result.now ≡ self.now.last }
     {
@@ -146,7 +146,7 @@ impl RowGraph {
     ghost use Rattle.row_removal.specs.Proper.{AreProperRows, HasRoom};
     ghost use Rattle.row_removal.specs.StoredRows.{rows_size, zero_rows};
 
-    /// Hypotheses, all in, without weights and edges.
+    /// So many hypotheses, all in, with no weights and no edges.
     pub fn zeros(alloc: Global, count: usize) -> Result<RowGraph, NoMemory>
         ensures { IfOk result (λ g. g ≡ zero_rows count) }
     {
@@ -177,13 +177,16 @@ impl RowGraph {
 #[tactic(auto, using(crate::specs::Laws::RowGraphs::weight_seen, crate::specs::Laws::RowGraphs::edge_seen, crate::specs::Laws::RowGraphs::loop_seen, crate::specs::Laws::RowPasses::row_some))]
 impl RowGraph {
     ghost use Rattle.std.specs.Prelude.{◌≡◌, ◌<◌};
+    ghost use Rattle.field_core.specs.Exact.{value_of};
+    ghost use Rattle.field_core.specs.LimitParts.{IsUnit, limit_terms};
+    ghost use Rattle.field_core.specs.View.{terms};
     ghost use Rattle.removal.specs.StoredGraph.{weight, edge};
     ghost use Rattle.eps_quotient.specs.Quotients.{quotients};
     ghost use Rattle.eps_quotient.specs.View.{quotient_parts};
     ghost use Rattle.row_removal.specs.Proper.{AreProperRows};
     ghost use Rattle.row_removal.specs.StoredRows.{rows_size, rows_graph};
 
-    /// Returns the weight of `k`.
+    /// The weight of `k`.
     pub fn weight(&self, k: usize) -> EpsQuotient
         requires proper { AreProperRows self.now }
         requires k { k < rows_size self.now }
@@ -192,7 +195,17 @@ impl RowGraph {
         quotient(self.weight_numerator(k), self.weight_denominator())
     }
 
-    /// Returns the edge from `l` to `k`, 0 where they are equal.
+    /// The limit of the weight of `k`, which is from 0 to 1.
+    pub fn weight_limit(&self, k: usize) -> Ratio
+        requires proper { AreProperRows self.now }
+        requires k { k < rows_size self.now }
+        requires unit { IsUnit (value_of (weight quotients (rows_graph self.now) k)) }
+        ensures { terms result ≡ limit_terms (weight quotients (rows_graph self.now) k) }
+    {
+        limit(self.weight_numerator(k), self.weight_denominator())
+    }
+
+    /// The edge from `l` to `k`, 0 where they are equal.
     pub fn edge(&self, l: usize, k: usize) -> EpsQuotient
         requires proper { AreProperRows self.now }
         requires l { l < rows_size self.now }

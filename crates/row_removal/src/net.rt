@@ -124,7 +124,7 @@ impl Remover for RowNet {
     }
 
     fn prepared_limit(&self, k: usize) -> Ratio {
-        self.next.weight(k).limit()
+        self.next.weight_limit(k)
     }
 
     fn commit(&mut self) {

@@ -1,6 +1,6 @@
 -- The gathered rows have the numbers of the graph.
 use Rattle.std.proofs.Common.{◌≡◌, ◌≢◌, ◌⊎◌, inl, inr, refl, sym, ap, subst, ◌∙◌, ℕ, zero, suc, ◌+◌, ◌*◌, ◌/◌, ◌<◌}
-use Rattle.std.proofs.Common.{◌^◌, true, false, List, [], ◌∷◌, get_or, ℤ, pos, ◌*ℤ◌, ◌<ℤ◌, unsigned_abs, int_div, Option, Some, None}
+use Rattle.std.proofs.Common.{◌^◌, true, false, List, get_or, ℤ, pos, ◌*ℤ◌, ◌<ℤ◌, unsigned_abs, int_div, Option, Some, None}
 use Rattle.std.proofs.Common.{Ok, arith}
 use Rattle.std.specs.Int.{◌∣◌}
 use Rattle.std.proofs.lemmas.Int.{ints, unsigned_abs-mul}

@@ -1,5 +1,4 @@
-use Rattle.std.proofs.Common.{◌≡◌, refl, arith, sym, Bool, true, false, ◌&&◌, Some, None, FitsSigned, IsTrue}
-use Rattle.std.specs.Int.{w64}
+use Rattle.std.proofs.Common.{◌≡◌, refl, arith, Bool, true, false, ◌&&◌, Some, None, IsTrue}
 use Rattle.field_core.specs.Polynomial.{coefficient}
 use Rattle.eps_poly.proofs.Coefficients.{filled_none, filled_more}
 use Rattle.eps_poly.proofs.DegreeLaws.{degree_at_least}

@@ -1,6 +1,5 @@
-use Rattle.std.proofs.Common.{◌∙◌, sym, ap}
+use Rattle.std.proofs.Common.{sym}
 use Rattle.eps_poly.specs.Factors.{content}
-use Rattle.field_core.specs.Divisor.{gcd}
 use Rattle.row_removal.specs.Laws.ClearingLaws.{one_first}
 use Rattle.row_removal.proofs.row.common_content.Goals as goal
 

@@ -1,5 +1,4 @@
-use Rattle.std.proofs.Common.{◌≡◌, ◌++◌, ◌∙◌, sym, ap, subst, arith, length, take, drop}
-use Rattle.eps_poly.specs.Polynomials.{IsPolynomial}
+use Rattle.std.proofs.Common.{◌≡◌, ◌++◌, ◌∙◌, sym, ap, arith, drop}
 use Rattle.eps_poly.specs.Written.{count_to_last}
 use Rattle.eps_poly.proofs.DegreeLaws.{front_copied}
 use Rattle.eps_poly.proofs.poly.EpsPoly.copy_from.Goals as goal

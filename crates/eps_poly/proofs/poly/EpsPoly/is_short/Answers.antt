@@ -1,4 +1,4 @@
-use Rattle.std.proofs.Common.{◌≡◌, ◌∙◌, sym, arith, inl, inr, pos, rules, FitsSigned}
+use Rattle.std.proofs.Common.{arith, inl, inr, pos, rules, FitsSigned}
 use Rattle.std.specs.Int.{w64}
 use Rattle.std.proofs.lemmas.Bool.{cases_lt}
 use Rattle.eps_poly.proofs.DegreeLaws.{coefficient-above}

@@ -1,5 +1,3 @@
-use Rattle.std.proofs.Common.{◌≡◌, ◌∙◌, sym, eqb, arith, inl, inr}
-use Rattle.std.proofs.lemmas.Bool.{cases_eq}
 use Rattle.eps_poly.proofs.DegreeLaws.{zero_value, zero_test}
 use Rattle.eps_poly.proofs.poly.EpsPoly.is_zero.Goals as goal
 

@@ -1,5 +1,3 @@
-use Rattle.std.proofs.Common.{subst, sym}
-use Rattle.row_removal.specs.StoredRow.{IsProperRow}
 use Rattle.row_removal.specs.Laws.ClearingLaws.{divided_values, lowered_values}
 use Rattle.row_removal.proofs.WrittenRows.{own_count}
 use Rattle.row_removal.proofs.row.Row.clear.Goals as goal
