@@ -1,124 +1,115 @@
--- The clause of a top call, from what was put.
-use Rattle.std.proofs.Common.{◌≡◌, ◌⊎◌, ℕ, ◌≤◌, List, inl, inr, refl, arith, Result, Ok, Err}
-use Rattle.std.specs.Prelude.{IfOk, IfErr, OnOk}
+-- The clause of a top call, from the outcome that was put.
+use Rattle.std.proofs.Common.{◌≡◌, ℕ, ◌≤◌, ◌+◌, length, List, inl, inr, refl, sym, ◌∙◌, arith, Result, Ok, Err}
+use Rattle.std.specs.Prelude.{OnOk}
 use Rattle.std.specs.declared.option.Option.{Option}
+use Rattle.std.specs.Io.KnownBytes.{Appends}
+use Rattle.graph_io.specs.Writing.{AppendsPrefix}
 use Rattle.answers.specs.declared.answer.Answer.{Answer}
-use Rattle.answers.specs.declared.refusal.Refusal.{Refusal}
 use Rattle.answers.specs.declared.cause.Cause.{Cause}
 use Rattle.answers.specs.declared.cause.Cause.TheVariants.{Usage, Malformed, Limit, TooWide}
 use Rattle.answers.specs.declared.status.Status.{Status}
 use Rattle.answers.specs.declared.status.Status.TheVariants as statuses
 use Rattle.answers.specs.declared.stop.Stop.{Stop}
-use Rattle.answers.specs.declared.stop.Stop.TheVariants.{Refused, ReadFault, NoMemory}
+use Rattle.answers.specs.declared.stop.Stop.TheVariants.{Refused, ReadFault, KeeperFault, NoMemory}
 use Rattle.answers.specs.Codes.{cause_code, status_code}
-use Rattle.answers.specs.Halts.{StopsBy, IfAnswered}
-use Rattle.answers.specs.Lines.{refused, read_fault, no_memory}
-use Rattle.answers.specs.Runs.{IsPut, Runs, Finished, Concluded}
-use Rattle.graph_io.specs.Writing.{AppendsPrefix}
-use Rattle.answers.specs.Stages.{Stage, IsAnswerOf}
+use Rattle.answers.specs.Lines.{refused, read_fault, no_memory, keeper_fault}
+use Rattle.answers.specs.Runs.{Runs, Finished, MayAnswer, IsPutBriefly, text_of, status_of}
+use Rattle.answers.specs.Ways.{Ways, EndsIn}
 
-pub cause_low : (c : Cause) → (cause_code c ≤ 5) × (1 ≤ cause_code c)
+cause_low : (c : Cause) → (cause_code c ≤ 5) × (1 ≤ cause_code c)
 cause_low Usage = (omega arith, omega arith)
 cause_low Malformed = (omega arith, omega arith)
 cause_low Limit = (omega arith, omega arith)
 cause_low TooWide = (omega arith, omega arith)
 
-pub status_low : (s : Status) → status_code s ≤ 5
+status_low : (s : Status) → status_code s ≤ 5
 status_low statuses.Done = omega arith
 status_low statuses.No = omega arith
 status_low (statuses.Refused c) = (cause_low c).0
 
--- what the sink holds where it had a fault
-abbrev Partial : (Answer → Type 0) → Type 0 → Option (List ℕ) → Option (List ℕ) → Type 0
-Partial Outcome rr old new = IsPut Outcome (AppendsPrefix old new) ⊎ ((rr × AppendsPrefix old new read_fault) ⊎ AppendsPrefix old new no_memory)
-
-module _ (Outcome : Answer → Type 0) (rr wr rs ws : Type 0) (old new : Option (List ℕ)) (result : ℕ) where
+module _ (w : Ways Answer) (rose same : Type 0) (old new : Option (List ℕ)) (before after status : ℕ) (brief : IsPutBriefly w before after) where
   -- the sink had a fault
-  runs_failed : result ≡ 7 → wr → Partial Outcome rr old new → Runs Outcome rr wr rs ws old new result
-  runs_failed e w p = record {
-    done = λ h. absurd (omega arith);
-    read = λ h. absurd (omega arith);
-    write = λ h. w;
-    partial = λ h. p;
-    memory = λ h. absurd (omega arith);
-    complete = λ h k. absurd (k w);
-    faultless = λ h. absurd (elim h [ inl x ↦ omega arith | inr x ↦ omega arith ]);
-    quiet = λ h. absurd (omega arith);
+  failed : (outcome : Result Answer Stop) → EndsIn w outcome → status ≡ 7 → rose → AppendsPrefix old new (text_of outcome)
+      → Runs w rose same old new before after status
+  failed outcome h e f p = record {
+    done = λ k. absurd (omega arith);
+    read = λ k. absurd (omega arith);
+    write = λ k. f;
+    partial = λ k. record { outcome = outcome; ends = h; put = p };
+    memory = λ k. absurd (omega arith);
+    keeper = λ k. absurd (omega arith);
+    faultless = λ k. absurd (k e);
+    complete = λ r k s. absurd (s f);
     known = omega arith;
+    brief = brief;
   }
 
   -- an answer was put, or the sink had a fault
-  runs_done : (a : Answer) → Outcome a → rs → Finished wr ws old new a.text (status_code a.status) result → Runs Outcome rr wr rs ws old new result
-  runs_done a is r f =
-      let low = status_low a.status in
-      elim f [
-        | inl p ↦ let e = p.0 in record {
-          done = λ h. record { answer = a; outcome = (is, p.0); put = p.1 };
-          read = λ h. absurd (omega arith);
-          write = λ h. absurd (omega arith);
-          partial = λ h. absurd (omega arith);
-          memory = λ h. absurd (omega arith);
-          complete = λ h k. inl (omega arith);
-          faultless = λ h. (r, p.2);
-          quiet = λ h. absurd (omega arith);
-          known = omega arith;
-        }
-        | inr p ↦ runs_failed p.0 p.1 (inl (record { answer = a; outcome = is; put = p.2 }))
-      ]
+  answered : (outcome : Result Answer Stop) → EndsIn w outcome → (a : Answer) → MayAnswer w a → text_of outcome ≡ a.text
+      → Finished rose same old new a.text (status_code a.status) status → Runs w rose same old new before after status
+  answered outcome h a may e (inl p) = let s = p.0 in let low = status_low a.status in record {
+    done = λ k. record { answer = a; may = may; status_is = p.0; put = p.1 };
+    read = λ k. absurd (omega arith);
+    write = λ k. absurd (omega arith);
+    partial = λ k. absurd (omega arith);
+    memory = λ k. absurd (omega arith);
+    keeper = λ k. absurd (omega arith);
+    faultless = λ k. p.2;
+    complete = λ r k t. inl (omega arith);
+    known = omega arith;
+    brief = brief;
+  }
+  answered outcome h a may e (inr p) = failed outcome h p.0 p.1 (rw e p.2)
 
-  -- a source had a fault
-  runs_read : rr → Finished wr ws old new read_fault 6 result → Runs Outcome rr wr rs ws old new result
-  runs_read cause f =
-      elim f [
-        | inl p ↦ let e = p.0 in record {
-          done = λ h. absurd (omega arith);
-          read = λ h. (cause, p.1);
-          write = λ h. absurd (omega arith);
-          partial = λ h. absurd (omega arith);
-          memory = λ h. absurd (omega arith);
-          complete = λ h k. absurd (h cause);
-          faultless = λ h. absurd (elim h [ inl x ↦ omega arith | inr x ↦ omega arith ]);
-          quiet = λ h. p.2;
-          known = omega arith;
-        }
-        | inr p ↦ runs_failed p.0 p.1 (inr (inl (cause, p.2)))
-      ]
+  -- a line of a fault, or that memory ran out, was put
+  told : (code : ℕ) → status ≡ code → 6 ≤ code → (code ≡ 7 → ⊥) → code ≤ 9 → same → (code ≡ 6 → w.read × Appends old new read_fault)
+      → (code ≡ 8 → w.memory × Appends old new no_memory) → (code ≡ 9 → w.keeper × Appends old new keeper_fault) → Runs w rose same old new before after status
+  told code e low seven high clean read memory keeper = record {
+    done = λ k. absurd (omega arith);
+    read = λ k. read (omega arith);
+    write = λ k. absurd (seven (omega arith));
+    partial = λ k. absurd (seven (omega arith));
+    memory = λ k. memory (omega arith);
+    keeper = λ k. keeper (omega arith);
+    faultless = λ k. clean;
+    complete = λ no_read no_keeper no_write. inr (let a : code ≡ 6 → ⊥ = λ x. no_read (read x).0 in
+        let b : code ≡ 9 → ⊥ = λ x. no_keeper (keeper x).0 in omega arith);
+    known = omega arith;
+    brief = brief;
+  }
 
-  -- memory ran out
-  runs_memory : rs → Finished wr ws old new no_memory 8 result → Runs Outcome rr wr rs ws old new result
-  runs_memory r f =
-      elim f [
-        | inl p ↦ let e = p.0 in record {
-          done = λ h. absurd (omega arith);
-          read = λ h. absurd (omega arith);
-          write = λ h. absurd (omega arith);
-          partial = λ h. absurd (omega arith);
-          memory = λ h. p.1;
-          complete = λ h k. inr (omega arith);
-          faultless = λ h. (r, p.2);
-          quiet = λ h. absurd (omega arith);
-          known = omega arith;
-        }
-        | inr p ↦ runs_failed p.0 p.1 (inr (inr p.2))
-      ]
+  by_outcome : (outcome : Result Answer Stop) → EndsIn w outcome → Finished rose same old new (text_of outcome) (status_of outcome) status
+      → Runs w rose same old new before after status
+  by_outcome (Ok a) h f = answered (Ok a) h a (inl h) refl f
+  by_outcome (Err (Refused r)) h f = answered (Err (Refused r)) h (refused r) (inr (r, h, refl)) refl f
+  by_outcome (Err ReadFault) h (inr p) = failed (Err ReadFault) h p.0 p.1 p.2
+  by_outcome (Err NoMemory) h (inr p) = failed (Err NoMemory) h p.0 p.1 p.2
+  by_outcome (Err KeeperFault) h (inr p) = failed (Err KeeperFault) h p.0 p.1 p.2
+  by_outcome (Err ReadFault) h (inl p) =
+      told 6 p.0 (omega arith) (λ e. absurd (omega arith)) (omega arith) p.2 (λ e. (h, p.1)) (λ e. absurd (omega arith)) (λ e. absurd (omega arith))
+  by_outcome (Err NoMemory) h (inl p) =
+      told 8 p.0 (omega arith) (λ e. absurd (omega arith)) (omega arith) p.2 (λ e. absurd (omega arith)) (λ e. (h, p.1)) (λ e. absurd (omega arith))
+  by_outcome (Err KeeperFault) h (inl p) =
+      told 9 p.0 (omega arith) (λ e. absurd (omega arith)) (omega arith) p.2 (λ e. absurd (omega arith)) (λ e. absurd (omega arith)) (λ e. (h, p.1))
 
--- The whole clause of a top call that computes an outcome and concludes.
-pub runs_of : (s : Stage Refusal Answer) (rr wr rs ws : Type 0) (old new : Option (List ℕ)) (result : ℕ) (outcome : Result Answer Stop)
-    → IfOk outcome s.Gives → IfErr outcome (StopsBy s.Refuses rr) → IfAnswered outcome rs → Concluded wr ws old new outcome result
-    → Runs (IsAnswerOf s) rr wr rs ws old new result
-runs_of s rr wr rs ws old new result (Ok a) given stopped r f = runs_done (IsAnswerOf s) rr wr rs ws old new result a (inl given) r f
-runs_of s rr wr rs ws old new result (Err (Refused q)) given stopped r f =
-    runs_done (IsAnswerOf s) rr wr rs ws old new result (refused q) (inr (q, stopped, refl)) r f
-runs_of s rr wr rs ws old new result (Err ReadFault) given stopped r f = runs_read (IsAnswerOf s) rr wr rs ws old new result stopped f
-runs_of s rr wr rs ws old new result (Err NoMemory) given stopped r f = runs_memory (IsAnswerOf s) rr wr rs ws old new result r f
+-- The whole clause of a top call that ends in one of its ways and concludes.
+pub runs_of : (w : Ways Answer) (rose same : Type 0) (old new : Option (List ℕ)) (before after status : ℕ) (outcome : Result Answer Stop)
+    → EndsIn w outcome
+    → Finished rose same old new (text_of outcome) (status_of outcome) status → after ≤ before + (length (text_of outcome) + 1)
+    → Runs w rose same old new before after status
+runs_of w rose same old new before after status outcome h f puts =
+    by_outcome w rose same old new before after status (record { outcome = outcome; ends = h; puts = puts }) outcome h f
+
+-- an outcome other than an answer has a status of its own
+not_done : (stop : Stop) → status_of (Err stop) ≡ 0 → ⊥
+not_done (Refused r) e = let low = cause_low r.cause in absurd (omega arith)
+not_done ReadFault e = absurd (omega arith)
+not_done NoMemory e = absurd (omega arith)
+not_done KeeperFault e = absurd (omega arith)
 
 -- the status 0 comes only with an answer
-pub done_by : (rose same : Type 0) (old new : Option (List ℕ)) (outcome : Result Answer Stop) (result : ℕ) (P : Type 0) → OnOk outcome P
-    → Concluded rose same old new outcome result → result ≡ 0 → P
-done_by rose same old new (Ok a) result P p f z = p
-done_by rose same old new (Err (Refused r)) result P p f z = let low =
-    cause_low r.cause in elim f [ inl x ↦ let e = x.0 in absurd (omega arith) | inr x ↦ let e = x.0 in absurd (omega arith) ]
-done_by rose same old new (Err ReadFault) result P p f z =
-    elim f [ inl x ↦ let e = x.0 in absurd (omega arith) | inr x ↦ let e = x.0 in absurd (omega arith) ]
-done_by rose same old new (Err NoMemory) result P p f z =
-    elim f [ inl x ↦ let e = x.0 in absurd (omega arith) | inr x ↦ let e = x.0 in absurd (omega arith) ]
+pub done_by : (rose same : Type 0) (old new : Option (List ℕ)) (outcome : Result Answer Stop) (status : ℕ) (P : Type 0) → OnOk outcome P
+    → Finished rose same old new (text_of outcome) (status_of outcome) status → status ≡ 0 → P
+done_by rose same old new (Ok a) status P p f z = p
+done_by rose same old new (Err stop) status P p (inl x) z = absurd (not_done stop (sym x.0 ∙ z))
+done_by rose same old new (Err stop) status P p (inr x) z = let e = x.0 in absurd (omega arith)

@@ -1,3 +1,3 @@
 pub mod Decided
 pub mod Endings
-pub mod Halting
+pub mod Stopping

@@ -5,6 +5,8 @@ use Rattle.answers.specs.declared.answer.Answer.{Answer}
 use Rattle.answers.specs.declared.cause.Cause.TheVariants.{Limit}
 use Rattle.answers.specs.declared.refusal.Refusal.{Refusal}
 use Rattle.answers.specs.declared.status.Status.TheVariants.{Refused, Done}
+use Rattle.answers.specs.declared.stop.Stop.{Stop}
+use Rattle.answers.specs.declared.stop.Stop.TheVariants as stops
 
 -- a text and the end of its line
 abbrev pub line : List ℕ → List ℕ
@@ -17,6 +19,17 @@ read_fault = line (codes "read fault")
 -- what is put where memory ran out
 unfoldable pub no_memory : List ℕ
 no_memory = line (codes "no memory")
+
+-- what is put where the keeper had a fault
+unfoldable pub keeper_fault : List ℕ
+keeper_fault = line (codes "keeper fault")
+
+-- what is put where a call gives no answer
+abbrev pub stop_line : Stop → List ℕ
+stop_line (stops.Refused refusal) = refusal.line
+stop_line stops.ReadFault = read_fault
+stop_line stops.KeeperFault = keeper_fault
+stop_line stops.NoMemory = no_memory
 
 -- an input, named by these words, has more bytes than it may have; so many were read
 unfoldable pub bytes_refusal : List ℕ → ℕ → Refusal

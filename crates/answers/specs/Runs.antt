@@ -1,46 +1,67 @@
--- The clause of a top call: statuses, texts, faults and sources.
-use Rattle.std.specs.Prelude.{◌≡◌, ℕ, ◌≤◌, List, ◌⊎◌, Option, Result, Ok, Err}
+-- The clause of a top call, by its status: texts, faults and sources.
+use Rattle.std.specs.Prelude.{◌≡◌, ℕ, ◌≤◌, ◌+◌, length, List, ◌⊎◌, Option, Result, Ok, Err}
 use Rattle.std.specs.Io.KnownBytes.{Appends, IsAtEnd}
 use Rattle.graph_io.specs.Writing.{AppendsPrefix}
 use Rattle.answers.specs.declared.answer.Answer.{Answer}
+use Rattle.answers.specs.declared.refusal.Refusal.{Refusal}
 use Rattle.answers.specs.declared.stop.Stop.{Stop}
-use Rattle.answers.specs.declared.stop.Stop.TheVariants.{Refused, ReadFault, NoMemory}
-use Rattle.answers.specs.Codes.{cause_code, status_code}
-use Rattle.answers.specs.Lines.{read_fault, no_memory}
+use Rattle.answers.specs.Codes.{status_code, stop_code}
+use Rattle.answers.specs.Lines.{read_fault, no_memory, keeper_fault, stop_line, refused}
+use Rattle.answers.specs.Ways.{Ways, EndsIn}
 
--- Some answer that is called for was put, in the way that `Put` says: whole, or a prefix of it.
-pub record IsPut (Outcome : Answer → Type 0) (Put : List ℕ → Type 0) : Type 0 where
-  pub answer : Answer
-  pub outcome : Outcome answer
-  pub put : Put answer.text
+-- what is put of an outcome: the text of the answer, or the line that says why there is none
+abbrev pub text_of : Result Answer Stop → List ℕ
+text_of (Ok a) = a.text
+text_of (Err stop) = stop_line stop
 
--- What a top call answers. `Outcome` says which answers are called for, `read_rose` that a source had a fault in this call where
--- the call reads it, and `write_rose` that the sink had one; `read_clean` and `write_clean` that their counts of faults stayed;
--- `old` and `new` are what the sink held and holds, where it tells that. No fault is told as another cause, and none is hidden
--- behind one.
-pub record Runs (Outcome : Answer → Type 0) (read_rose write_rose read_clean write_clean : Type 0) (old new : Option (List ℕ)) (status : ℕ) : Type 0 where
-  pub done : status ≤ 5 → IsPut (λ a. Outcome a × (status ≡ status_code a.status)) (Appends old new)
-  pub read : status ≡ 6 → read_rose × Appends old new read_fault
-  pub write : status ≡ 7 → write_rose
-  pub partial : status ≡ 7 → IsPut Outcome (AppendsPrefix old new) ⊎ ((read_rose × AppendsPrefix old new read_fault) ⊎ AppendsPrefix old new no_memory)
-  pub memory : status ≡ 8 → Appends old new no_memory
-  pub complete : ¬ read_rose → ¬ write_rose → (status ≤ 5) ⊎ (status ≡ 8)
-  pub faultless : (status ≤ 5) ⊎ (status ≡ 8) → read_clean × write_clean
-  pub quiet : status ≡ 6 → write_clean
-  pub known : status ≤ 8
+-- the status of an outcome that is put whole
+abbrev pub status_of : Result Answer Stop → ℕ
+status_of (Ok a) = status_code a.status
+status_of (Err stop) = stop_code stop
 
--- What a top call does to a source. Where it doesn't read it, it leaves it as it was, and with status 0 it has read it to its end.
-pub record Uses {S : Type 0} (left : S → Option (List ℕ)) (Reads : Type 0) (old new : S) (status : ℕ) : Type 0 where
-  pub untouched : ¬ Reads → new ≡ old
-  pub end : Reads → status ≡ 0 → IsAtEnd (left new)
-
--- a text was put without a fault and its status answered, or the sink had a fault and holds a prefix
+-- A text was put without a fault of the sink, and its status returned; or the sink had a fault and holds a prefix of the text, and the status is 7.
 abbrev pub Finished : Type 0 → Type 0 → Option (List ℕ) → Option (List ℕ) → List ℕ → ℕ → ℕ → Type 0
 Finished rose same old new text status result = ((result ≡ status) × Appends old new text × same) ⊎ ((result ≡ 7) × rose × AppendsPrefix old new text)
 
--- an answer, or the line that says why there is none, was put
-abbrev pub Concluded : Type 0 → Type 0 → Option (List ℕ) → Option (List ℕ) → Result Answer Stop → ℕ → Type 0
-Concluded rose same old new (Ok a) result = Finished rose same old new a.text (status_code a.status) result
-Concluded rose same old new (Err (Refused r)) result = Finished rose same old new r.line (cause_code r.cause) result
-Concluded rose same old new (Err ReadFault) result = Finished rose same old new read_fault 6 result
-Concluded rose same old new (Err NoMemory) result = Finished rose same old new no_memory 8 result
+-- an answer that the call may give, or that is its refusal
+abbrev pub MayAnswer : Ways Answer → Answer → Type 0
+MayAnswer w a = w.Gives a ⊎ ((r : Refusal) × w.Refuses r × (a ≡ refused r))
+
+-- An answer that the call may give was put whole, and its status returned.
+pub record IsAnswered (w : Ways Answer) (old new : Option (List ℕ)) (status : ℕ) : Type 0 where
+  pub answer : Answer
+  pub may : MayAnswer w answer
+  pub status_is : status ≡ status_code answer.status
+  pub put : Appends old new answer.text
+
+-- The sink holds a prefix of what is put of an outcome that the call may have.
+pub record IsCutShort (w : Ways Answer) (old new : Option (List ℕ)) : Type 0 where
+  pub outcome : Result Answer Stop
+  pub ends : EndsIn w outcome
+  pub put : AppendsPrefix old new (text_of outcome)
+
+-- At most one put was made for each byte of what is put of an outcome that the call may have, and one more.
+pub record IsPutBriefly (w : Ways Answer) (before after : ℕ) : Type 0 where
+  pub outcome : Result Answer Stop
+  pub ends : EndsIn w outcome
+  pub puts : after ≤ before + (length (text_of outcome) + 1)
+
+-- What a top call does, by its status. `w` has the ways in which the call may end. `rose` says that the sink had a fault in this call, and
+-- `same` that its count of faults stayed. `old` and `new` are what the sink held and holds, where it tells that, and `before` and `after` how
+-- many puts were made by then.
+pub record Runs (w : Ways Answer) (rose same : Type 0) (old new : Option (List ℕ)) (before after : ℕ) (status : ℕ) : Type 0 where
+  pub done : status ≤ 5 → IsAnswered w old new status
+  pub read : status ≡ 6 → w.read × Appends old new read_fault
+  pub write : status ≡ 7 → rose
+  pub partial : status ≡ 7 → IsCutShort w old new
+  pub memory : status ≡ 8 → w.memory × Appends old new no_memory
+  pub keeper : status ≡ 9 → w.keeper × Appends old new keeper_fault
+  pub faultless : ¬ (status ≡ 7) → same
+  pub complete : ¬ w.read → ¬ w.keeper → ¬ rose → (status ≤ 5) ⊎ (status ≡ 8)
+  pub known : status ≤ 9
+  pub brief : IsPutBriefly w before after
+
+-- What a top call does to a source. Where it doesn't read it, it leaves it as it was. With status 0 it has read it to its end.
+pub record Uses {S : Type 0} (left : S → Option (List ℕ)) (Reads : Type 0) (old new : S) (status : ℕ) : Type 0 where
+  pub untouched : ¬ Reads → new ≡ old
+  pub end : Reads → status ≡ 0 → IsAtEnd (left new)

@@ -26,6 +26,10 @@ and_then {R} {A} {B} s t = record {
 abbrev pub told_as : {Q R A : Type 0} → (Q → R) → Stage Q A → Stage R A
 told_as {Q} tell s = record { Gives = s.Gives; Refuses = λ r. (q : Q) × s.Refuses q × (r ≡ tell q) }
 
+-- a stage whose values are known by what a view shows of them
+abbrev pub seen_by : {R A B : Type 0} → (A → B) → Stage R B → Stage R A
+seen_by view s = record { Gives = λ x. s.Gives (view x); Refuses = s.Refuses }
+
 -- a stage on the bytes that a source had left; on some bytes, where it doesn't tell which
 abbrev pub on_bytes : {R A : Type 0} → Option (List ℕ) → (List ℕ → Stage R A) → Stage R A
 on_bytes (Some bytes) s = s bytes

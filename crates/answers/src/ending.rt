@@ -1,17 +1,18 @@
 //! Putting what a call answers.
-ghost use Rattle.std.specs.Prelude.{◌≡◌};
+ghost use Rattle.std.specs.Prelude.{◌≡◌, ◌≤◌, ◌+◌, length};
 ghost use Rattle.graph_io.specs.Causes.{Rose};
-ghost use Rattle.answers.specs.Runs.{Finished, Concluded};
+ghost use Rattle.answers.specs.Runs.{Finished, text_of, status_of};
 
 use crate::answer::Answer;
 use crate::stop::Stop;
 use graph_io::{Sink, write_all};
 
-/// Puts a text, and answers its status, or 7 where that failed.
+/// Puts a text, and returns its status, or 7 where putting failed.
 fn finish<W: Sink>(out: &mut W, text: &[u8], status: u8) -> u8
-    ensures { Finished (Rose (W.faults out.old) (W.faults out.new))
+    ensures finished { Finished (Rose (W.faults out.old) (W.faults out.new))
         (W.faults out.new ≡ W.faults out.old)
         (W.held out.old) (W.held out.new) text.now status result }
+    ensures turns { W.calls out.new ≤ W.calls out.old + (length text.now + 1) }
 {
     match write_all(out, text) {
         Ok(()) => status,
@@ -19,18 +20,18 @@ fn finish<W: Sink>(out: &mut W, text: &[u8], status: u8) -> u8
     }
 }
 
-/// Puts an answer, or the line that says why there is none, and answers the status: 6 where a source had a fault, 8 where
-/// memory ran out, and 7 where putting failed.
-#[tactic(auto, unfolding(crate::specs::Lines::read_fault, crate::specs::Lines::no_memory))]
+/// Puts an answer, or the line that says why there is none, and returns the status.
+///
+/// The status is that of the answer or of the refusal; 6 where a source had a fault, 8 out of memory, 9 where the keeper had a
+/// fault. It is 7 where putting failed.
 pub fn conclude<W: Sink>(out: &mut W, outcome: &Result<Answer, Stop>) -> u8
-    ensures { Concluded (Rose (W.faults out.old) (W.faults out.new))
+    ensures finished { Finished (Rose (W.faults out.old) (W.faults out.new))
         (W.faults out.new ≡ W.faults out.old)
-        (W.held out.old) (W.held out.new) outcome.now result }
+        (W.held out.old) (W.held out.new) (text_of outcome.now) (status_of outcome.now) result }
+    ensures turns { W.calls out.new ≤ W.calls out.old + (length (text_of outcome.now) + 1) }
 {
     match outcome {
         Ok(answer) => finish(out, answer.text.as_slice(), answer.status.code()),
-        Err(Stop::Refused(refusal)) => finish(out, refusal.line.as_slice(), refusal.cause.code()),
-        Err(Stop::ReadFault) => finish(out, b"read fault\n", 6),
-        Err(Stop::NoMemory) => finish(out, b"no memory\n", 8),
+        Err(stop) => finish(out, stop.line(), stop.code()),
     }
 }

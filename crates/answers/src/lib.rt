@@ -1,14 +1,17 @@
 //! What a call answers, why it stops, and what is put of either.
 //!
-//! Proved: `take_whole` (`given`, `end`, `stopped`, how much an error leaves `taken`, and `clean`: no fault is told as
-//! want of memory) and `conclude`, by stages: each gives a value or refuses, and the first refusal decides. That a chain of
-//! stages has one answer is proved once, for any chain.
+//! A call ends in one of its ways (`EndsIn`): it gives a value, it is refused, a source or the keeper had a fault, or it is out
+//! of memory. Its value and its refusals come by stages: the first stage that refuses decides.
+//!
+//! Proved:
+//! - `take_whole`: `ends`, `end`, and how many bytes an error leaves `taken`.
+//! - `conclude`: the text that is put of each outcome, and its status.
+//! - Lemmas: a call that ends in its ways and is concluded meets the clause by status (`Runs`); a chain of stages has one answer.
 #![tactic(auto)]
 
 mod answer;
 mod cause;
 mod ending;
-mod halt;
 mod refusal;
 mod status;
 mod stop;
@@ -19,7 +22,6 @@ mod whole;
 pub use answer::Answer;
 pub use cause::Cause;
 pub use ending::conclude;
-pub use halt::Halt;
 pub use refusal::Refusal;
 pub use status::Status;
 pub use stop::Stop;

@@ -1,15 +1,46 @@
 //! Why steps give nothing.
 
-use crate::halt::Halt;
 use crate::refusal::Refusal;
 use field_core::NoMemory;
 
-/// Why a step gives nothing.
+/// Why a step gives nothing: it is refused, a source that it reads had a fault, its keeper had one, or it is out of memory.
 #[derive(Drop)]
 pub enum Stop {
     Refused(Refusal),
     ReadFault,
+    KeeperFault,
     NoMemory,
+}
+
+impl Stop {
+    ghost use Rattle.std.specs.Prelude.{◌≡◌};
+    ghost use Rattle.answers.specs.Codes.{stop_code};
+    ghost use Rattle.answers.specs.Lines.{stop_line};
+
+    /// Returns the line that is printed of it.
+    #[tactic(auto, unfolding(crate::specs::Lines::read_fault, crate::specs::Lines::keeper_fault, crate::specs::Lines::no_memory))]
+    pub fn line(&self) -> &[u8]
+        ensures { result.now ≡ stop_line self.now }
+    {
+        match self {
+            Stop::Refused(refusal) => refusal.line.as_slice(),
+            Stop::ReadFault => b"read fault\n",
+            Stop::KeeperFault => b"keeper fault\n",
+            Stop::NoMemory => b"no memory\n",
+        }
+    }
+
+    /// Returns its number as a status of the program.
+    pub fn code(&self) -> u8
+        ensures { result ≡ stop_code self.now }
+    {
+        match self {
+            Stop::Refused(refusal) => refusal.cause.code(),
+            Stop::ReadFault => 6,
+            Stop::NoMemory => 8,
+            Stop::KeeperFault => 9,
+        }
+    }
 }
 
 impl From<NoMemory> for Stop {
@@ -20,19 +51,5 @@ impl From<NoMemory> for Stop {
 
     fn from(_: NoMemory) -> Stop {
         Stop::NoMemory
-    }
-}
-
-impl From<Halt> for Stop {
-    ghost use Rattle.std.specs.Prelude.{◌≡◌};
-    ghost use Rattle.answers.specs.Halts.{stop_of};
-
-    ghost from_gives = { λ h e. e ≡ stop_of h };
-
-    fn from(halt: Halt) -> Stop {
-        match halt {
-            Halt::Refused(refusal) => Stop::Refused(refusal),
-            Halt::NoMemory => Stop::NoMemory,
-        }
     }
 }

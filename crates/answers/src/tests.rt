@@ -77,5 +77,6 @@ fn each_outcome_is_put(rt: HostRuntime) -> Result<(), Fail> {
     }
     expect(&rt, alloc, &Err(Stop::ReadFault), (6, b"read fault\n"))?;
     expect(&rt, alloc, &Err(Stop::NoMemory), (8, b"no memory\n"))?;
+    expect(&rt, alloc, &Err(Stop::KeeperFault), (9, b"keeper fault\n"))?;
     Ok(())
 }

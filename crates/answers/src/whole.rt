@@ -1,11 +1,11 @@
 //! Taking whole inputs.
-ghost use Rattle.std.specs.Prelude.{◌≡◌, IfOk, OnOk, IfErr, OnErr};
+ghost use Rattle.std.specs.Prelude.{◌≡◌, ◌≤◌, ◌+◌, IfOk, OnOk, OnErr};
 ghost use Rattle.std.specs.Io.KnownBytes.{IsAtEnd};
 ghost use Rattle.graph_io.specs.Causes.{Rose};
 ghost use Rattle.graph_io.specs.Reading.{TookAtMost};
-ghost use Rattle.answers.specs.Halts.{StopsBy, IfAnswered};
 ghost use Rattle.answers.specs.Lines.{bytes_refusal};
 ghost use Rattle.answers.specs.Stages.{on_bytes, within};
+ghost use Rattle.answers.specs.Ways.{EndsIn, over_source};
 
 use crate::cause::Cause;
 use crate::refusal::Refusal;
@@ -30,15 +30,15 @@ pub(crate) fn bytes_refusal(alloc: Global, name: &[u8], n: u64) -> Result<Refusa
     Refusal::of_line(Cause::Limit, text)
 }
 
-/// All bytes of a source, where they aren't too many. `name` says in the refusal which input it is, and ends with a space
-/// if it isn't empty. Of an input that has too many, one byte more than it may have is taken; no call takes more.
+/// Takes all bytes of a source, where there are at most 4,194,304. `name` says in the refusal which input it is, and ends with
+/// a space if it isn't empty.
+///
+/// Of an input that has too many bytes, one more than it may have is taken. No call takes more. At most 4,194,306 takes are made.
 pub fn take_whole<S: Source>(alloc: Global, name: &[u8], source: &mut S) -> Result<List<u8>, Stop>
-    ensures given { IfOk result (on_bytes (S.left source.old) (within name.now)).Gives }
+    ensures ends { EndsIn (over_source (on_bytes (S.left source.old) (within name.now))
+        (Rose (S.faults source.old) (S.faults source.new)) (S.faults source.new ≡ S.faults source.old)) result }
     ensures end { OnOk result (IsAtEnd (S.left source.new)) }
-    ensures stopped { IfErr result
-        (StopsBy (on_bytes (S.left source.old) (within name.now)).Refuses
-        (Rose (S.faults source.old) (S.faults source.new))) }
-    ensures clean { IfAnswered result (S.faults source.new ≡ S.faults source.old) }
+    ensures turns { S.calls source.new ≤ S.calls source.old + 4194306 }
     ensures taken { OnErr result (TookAtMost (S.left source.old) (S.left source.new) 4194305) }
 {
     match read_all(alloc, source, MOST_BYTES) {

@@ -6,3 +6,4 @@ pub mod OneName
 pub mod OneReading
 pub mod Steps
 pub mod StorePlaces
+pub mod StudyWords

@@ -1,6 +1,6 @@
 -- What lists of words ask for, and the number, from 1, of the first word at which their reading from left to right fails.
 use Rattle.std.specs.Prelude.{◌≡◌, ◌≢◌, ◌⊎◌, ℕ, ◌+◌, Bool, true, false, List, [], ◌∷◌, ◌++◌, length, drop, Some, None}
-use Rattle.std.specs.Prelude.{Contains}
+use Rattle.std.specs.Prelude.{Contains, codes}
 use Rattle.std.specs.List.{flat_map}
 use Rattle.answers.specs.Stages.{Stage, and_then}
 use Rattle.command_words.specs.Asked.{Asked, StudyAsked}
@@ -106,6 +106,10 @@ command_in keeping words = record {
   Gives = λ verb. (more : List (List ℕ)) × (words ≡ verb_name verb ∷ more) × (keeps_looks verb ≡ keeping);
   Refuses = λ n. ((verb : Verb) (more : List (List ℕ)) → keeps_looks verb ≡ keeping → words ≢ verb_name verb ∷ more) × (n ≡ 1);
 }
+
+-- the first word is the command that keeps looks
+abbrev pub AsksStudy : List (List ℕ) → Type 0
+AsksStudy words = (more : List (List ℕ)) × (words ≡ codes "study" ∷ more)
 
 -- what the pieces behind a command give
 abbrev pub pieces_in : Verb → List (List ℕ) → Stage ℕ GivenContent

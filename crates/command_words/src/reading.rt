@@ -5,7 +5,7 @@ ghost use Rattle.command_words.specs.Choices.{Chosen, chosen};
 ghost use Rattle.command_words.specs.Given.{given_content};
 ghost use Rattle.command_words.specs.Table.{argument_name};
 ghost use Rattle.command_words.specs.WordParts.{IsBare};
-ghost use Rattle.command_words.specs.Words.{bare, MayOpen, MayStand, IsStep, IsBadFront, command_in, pieces_in, asked_in, study_in};
+ghost use Rattle.command_words.specs.Words.{bare, MayOpen, MayStand, IsStep, IsBadFront, command_in, pieces_in, asked_in, study_in, AsksStudy};
 
 use crate::argument::Argument;
 use crate::choice::Choice;
@@ -130,6 +130,13 @@ fn command_word(words: &[String], keeping: bool) -> Result<Verb, usize>
         return Err(1);
     }
     Ok(verb)
+}
+
+/// Returns whether words begin with the command that keeps looks, so that they go to its top call.
+pub fn asks_study(words: &[String]) -> bool
+    ensures { IsTrue result ↔ AsksStudy (map string_bytes words.now) }
+{
+    command_word(words, true).is_ok()
 }
 
 /// What the words ask a study for; or the number, from 1, of the first word at which the reading fails.

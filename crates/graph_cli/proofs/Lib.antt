@@ -6,7 +6,6 @@ pub mod ClosedReports
 pub mod EvidenceAnswers
 pub mod EvidenceReports
 pub mod Files
-pub mod HandedOn
 pub mod JsonRefused
 pub mod MadeAnswers
 pub mod OneAnswer

@@ -8,5 +8,5 @@ none_taken None n = ([], tt, omega arith)
 none_taken (Some xs) n = ([], refl, omega arith)
 
 -- of an input that isn't read nothing is taken
-pub untouched : (left : Option (List ℕ)) → IsTakenWithin left left
-untouched left = record { taken = inr (none_taken left 4194305) }
+pub untouched : {S : Type 0} (left : S → Option (List ℕ)) (calls : S → ℕ) (source : S) → IsTakenWithin left calls source source
+untouched left calls source = record { taken = inr (none_taken (left source) 4194305); turns = omega arith }

@@ -1,8 +1,8 @@
 //! The commands.
-ghost use Rattle.std.specs.Prelude.{◌≡◌, ◌≤◌, ◌⊎◌, IfOk, OnOk, IfErr, length};
+ghost use Rattle.std.specs.Prelude.{◌≡◌, ◌≤◌, ◌⊎◌, OnOk, length};
 ghost use Rattle.std.specs.Io.KnownBytes.{IsAtEnd};
 ghost use Rattle.graph_io.specs.Causes.{Rose};
-ghost use Rattle.answers.specs.Halts.{HaltsBy, StopsBy, IfAnswered};
+ghost use Rattle.answers.specs.Ways.{EndsIn, over_values, over_source};
 ghost use Rattle.case_model.specs.CaseView.{content};
 ghost use Rattle.command_words.specs.Asked.{asked, written};
 ghost use Rattle.graph_cli.specs.Accepted.{IsOfKind, IsTakenWithin};
@@ -36,7 +36,7 @@ use crate::commands::test::test_answer;
 use crate::commands::weights::weights_answer;
 use crate::kind::InputKind;
 use crate::needs::Needs;
-use answers::{Answer, Halt, Stop, take_whole};
+use answers::{Answer, Stop, take_whole};
 use case_model::Case;
 use command_words::{CaseForm, CaseTask, Command};
 use graph_io::Source;
@@ -60,11 +60,10 @@ fn needs_of(task: CaseTask) -> Needs
 
 /// What a task answers to a case that it can take.
 #[tactic(auto, unfolding(crate::specs::Commands::needs_of, crate::specs::Commands::on_case))]
-fn case_answer(alloc: Global, task: CaseTask, case: &Case) -> Result<Answer, Halt>
+fn case_answer(alloc: Global, task: CaseTask, case: &Case) -> Result<Answer, Stop>
     requires kind { IsOfKind (needs_of task).kind (content case.now).inputs }
     requires size { length (content case.now).names ≤ (needs_of task).most }
-    ensures given { IfOk result (on_case task (content case.now)).Gives }
-    ensures refused { IfErr result (HaltsBy (on_case task (content case.now)).Refuses) }
+    ensures { EndsIn (over_values (on_case task (content case.now))) result }
 {
     match task {
         CaseTask::Test(priority) => test_answer(alloc, case, priority),
@@ -85,16 +84,13 @@ fn case_call<S: Source>(
     task: CaseTask,
     source: &mut S,
 ) -> Result<Answer, Stop>
-    ensures given { IfOk result (case_call (written form.now) task (S.left source.old)).Gives }
+    ensures ends { EndsIn (over_source (case_call (written form.now) task (S.left source.old))
+        (Rose (S.faults source.old) (S.faults source.new)) (S.faults source.new ≡ S.faults source.old)) result }
     ensures end { OnOk result (IsAtEnd (S.left source.new)) }
-    ensures stopped { IfErr result
-        (StopsBy (case_call (written form.now) task (S.left source.old)).Refuses
-        (Rose (S.faults source.old) (S.faults source.new))) }
-    ensures clean { IfAnswered result (S.faults source.new ≡ S.faults source.old) }
-    ensures taken { IsTakenWithin (S.left source.old) (S.left source.new) }
+    ensures taken { IsTakenWithin S.left S.calls source.old source.new }
 {
     let case = accepted_case(alloc, form, needs_of(task), source)?;
-    Ok(case_answer(alloc, task, &case)?)
+    case_answer(alloc, task, &case)
 }
 
 /// What `check` needs of its case.
@@ -113,24 +109,19 @@ fn check_call<S: Source, T: Source>(
     case: &mut S,
     proof: &mut T,
 ) -> Result<Answer, Stop>
-    ensures given { IfOk result
-        (check_call (written form.now) (S.left case.old) (T.left proof.old)).Gives }
-    ensures stopped { IfErr result
-        (StopsBy (check_call (written form.now) (S.left case.old) (T.left proof.old)).Refuses
+    ensures ends { EndsIn (over_source (check_call (written form.now) (S.left case.old) (T.left proof.old))
         (Rose (S.faults case.old) (S.faults case.new) ⊎
-        (IsCheckable (written form.now) (S.left case.old) ×
-        Rose (T.faults proof.old) (T.faults proof.new)))) }
-    ensures clean { IfAnswered result
-        ((S.faults case.new ≡ S.faults case.old) × (T.faults proof.new ≡ T.faults proof.old)) }
+        (IsCheckable (written form.now) (S.left case.old) × Rose (T.faults proof.old) (T.faults proof.new)))
+        ((S.faults case.new ≡ S.faults case.old) × (T.faults proof.new ≡ T.faults proof.old))) result }
     ensures case_end { OnOk result (IsAtEnd (S.left case.new)) }
     ensures proof_kept { ¬ IsCheckable (written form.now) (S.left case.old) → proof.new ≡ proof.old }
     ensures proof_end { OnOk result (IsAtEnd (T.left proof.new)) }
-    ensures case_taken { IsTakenWithin (S.left case.old) (S.left case.new) }
-    ensures proof_taken { IsTakenWithin (T.left proof.old) (T.left proof.new) }
+    ensures case_taken { IsTakenWithin S.left S.calls case.old case.new }
+    ensures proof_taken { IsTakenWithin T.left T.calls proof.old proof.new }
 {
     let accepted = accepted_case(alloc, form, check_needs(), case)?;
     let bytes = take_whole(alloc, b"proof ", proof)?;
-    Ok(check_answer(alloc, &accepted, bytes.as_slice())?)
+    check_answer(alloc, &accepted, bytes.as_slice())
 }
 
 /// What a command answers to a case and a proof. It takes from a source only what it needs.
@@ -141,28 +132,23 @@ pub fn call<S: Source, T: Source>(
     case: &mut S,
     proof: &mut T,
 ) -> Result<Answer, Stop>
-    ensures given { IfOk result
-        (call_of (asked command.now) (S.left case.old) (T.left proof.old)).Gives }
-    ensures stopped { IfErr result
-        (StopsBy (call_of (asked command.now) (S.left case.old) (T.left proof.old)).Refuses
+    ensures ends { EndsIn (over_source (call_of (asked command.now) (S.left case.old) (T.left proof.old))
         (CallFault (asked command.now) (S.left case.old)
-        (Rose (S.faults case.old) (S.faults case.new))
-        (Rose (T.faults proof.old) (T.faults proof.new)))) }
-    ensures clean { IfAnswered result
-        ((S.faults case.new ≡ S.faults case.old) × (T.faults proof.new ≡ T.faults proof.old)) }
+        (Rose (S.faults case.old) (S.faults case.new)) (Rose (T.faults proof.old) (T.faults proof.new)))
+        ((S.faults case.new ≡ S.faults case.old) × (T.faults proof.new ≡ T.faults proof.old))) result }
     ensures case_kept { ¬ TakesCase (asked command.now) → case.new ≡ case.old }
     ensures case_end { TakesCase (asked command.now) → OnOk result (IsAtEnd (S.left case.new)) }
     ensures proof_kept { ¬ TakesProof (asked command.now) (S.left case.old) → proof.new ≡ proof.old }
     ensures proof_end { TakesProof (asked command.now) (S.left case.old) →
         OnOk result (IsAtEnd (T.left proof.new)) }
-    ensures case_taken { IsTakenWithin (S.left case.old) (S.left case.new) }
-    ensures proof_taken { IsTakenWithin (T.left proof.old) (T.left proof.new) }
+    ensures case_taken { IsTakenWithin S.left S.calls case.old case.new }
+    ensures proof_taken { IsTakenWithin T.left T.calls proof.old proof.new }
 {
     match command {
         Command::OnCase(form, task) => case_call(alloc, form, *task, case),
-        Command::Catalogue(graph) => Ok(catalogue_answer(alloc, *graph)?),
+        Command::Catalogue(graph) => catalogue_answer(alloc, *graph),
         Command::Check { form, .. } => check_call(alloc, form, case, proof),
-        Command::Sample { size, seed } => Ok(sample_answer(alloc, *size, *seed)?),
+        Command::Sample { size, seed } => sample_answer(alloc, *size, *seed),
         Command::Help => Ok(help_answer(alloc)?),
     }
 }

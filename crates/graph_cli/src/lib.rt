@@ -1,10 +1,11 @@
 //! The top call: words, a case and a proof in, a text and a status out.
 //!
 //! Proved, of `run`:
-//! - `runs`: the status and the bytes put. Statuses up to 5 come with the whole text that the words, the case and the
-//!   proof call for (`outcome`), 6 and 7 only where a source that is read or the sink had a fault in this call, 8
-//!   with `no memory`; where no fault came, the status is up to 5, or 8, and with these no fault came. Where a source
-//!   doesn't tell its bytes, the answer is that of some bytes.
+//! - `runs`, by status (`Runs`): with a status up to 5 the whole text of an answer was put that the words, the case and the proof
+//!   call for (`outcome`), and its status returned. 6 comes only where a source that is read had a fault in this call, and 7 only
+//!   where the sink had one. 8 comes with `no memory`. Where no fault came, the status is up to 5, or 8; and with these statuses
+//!   no fault came. At most one put is made for each byte of a text, and one more. Where a source doesn't tell its bytes, the
+//!   answer is that of some bytes.
 //! - `case`, `proof`: a source that the words don't read stays as it was; one that they read was read to its end
 //!   after status 0. The proof is read only behind a case that the command can take.
 //! - `file_word`: `file`, `none`.

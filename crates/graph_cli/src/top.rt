@@ -1,10 +1,9 @@
 //! The top call.
-ghost use Rattle.std.specs.Prelude.{◌≡◌, ℕ, None, IfOk, OnOk, IfErr, IfSome, map, string_bytes};
+ghost use Rattle.std.specs.Prelude.{◌≡◌, ℕ, None, OnOk, IfSome, map, string_bytes};
 ghost use Rattle.std.specs.Io.KnownBytes.{IsAtEnd};
 ghost use Rattle.graph_io.specs.Causes.{Rose};
-ghost use Rattle.answers.specs.Halts.{StopsBy, IfAnswered};
 ghost use Rattle.answers.specs.Runs.{Runs, Uses};
-ghost use Rattle.answers.specs.Stages.{IsAnswerOf};
+ghost use Rattle.answers.specs.Ways.{EndsIn, over_source};
 ghost use Rattle.graph_cli.specs.Accepted.{IsTakenWithin};
 ghost use Rattle.graph_cli.specs.Outcome.{NamesFile, outcome, ReadsCase, ReadsProof, ReadRose};
 
@@ -37,15 +36,10 @@ fn answer<S: Source, T: Source>(
     case: &mut S,
     proof: &mut T,
 ) -> Result<Answer, Stop>
-    ensures given { IfOk result
-        (outcome (map string_bytes words.now) (S.left case.old) (T.left proof.old)).Gives }
-    ensures stopped { IfErr result
-        (StopsBy (outcome (map string_bytes words.now) (S.left case.old) (T.left proof.old)).Refuses
+    ensures ends { EndsIn (over_source (outcome (map string_bytes words.now) (S.left case.old) (T.left proof.old))
         (ReadRose (map string_bytes words.now) (S.left case.old)
-        (Rose (S.faults case.old) (S.faults case.new))
-        (Rose (T.faults proof.old) (T.faults proof.new)))) }
-    ensures clean { IfAnswered result
-        ((S.faults case.new ≡ S.faults case.old) × (T.faults proof.new ≡ T.faults proof.old)) }
+        (Rose (S.faults case.old) (S.faults case.new)) (Rose (T.faults proof.old) (T.faults proof.new)))
+        ((S.faults case.new ≡ S.faults case.old) × (T.faults proof.new ≡ T.faults proof.old))) result }
     ensures case_kept { ¬ ReadsCase (map string_bytes words.now) → case.new ≡ case.old }
     ensures case_end { ReadsCase (map string_bytes words.now) →
         OnOk result (IsAtEnd (S.left case.new)) }
@@ -53,8 +47,8 @@ fn answer<S: Source, T: Source>(
         proof.new ≡ proof.old }
     ensures proof_end { ReadsProof (map string_bytes words.now) (S.left case.old) →
         OnOk result (IsAtEnd (T.left proof.new)) }
-    ensures case_taken { IsTakenWithin (S.left case.old) (S.left case.new) }
-    ensures proof_taken { IsTakenWithin (T.left proof.old) (T.left proof.new) }
+    ensures case_taken { IsTakenWithin S.left S.calls case.old case.new }
+    ensures proof_taken { IsTakenWithin T.left T.calls proof.old proof.new }
 {
     match read_words(words) {
         Err(n) => Err(Stop::Refused(usage(alloc, n)?)),
@@ -77,19 +71,18 @@ pub fn run<S: Source, T: Source, W: Sink>(
     proof: &mut T,
     out: &mut W,
 ) -> u8
-    ensures runs { Runs (IsAnswerOf (outcome (map string_bytes words.now) (S.left case.old) (T.left proof.old)))
+    ensures runs { Runs
+        (over_source (outcome (map string_bytes words.now) (S.left case.old) (T.left proof.old))
         (ReadRose (map string_bytes words.now) (S.left case.old)
-        (Rose (S.faults case.old) (S.faults case.new))
-        (Rose (T.faults proof.old) (T.faults proof.new)))
-        (Rose (W.faults out.old) (W.faults out.new))
-        ((S.faults case.new ≡ S.faults case.old) × (T.faults proof.new ≡ T.faults proof.old))
-        (W.faults out.new ≡ W.faults out.old)
-        (W.held out.old) (W.held out.new) result }
+        (Rose (S.faults case.old) (S.faults case.new)) (Rose (T.faults proof.old) (T.faults proof.new)))
+        ((S.faults case.new ≡ S.faults case.old) × (T.faults proof.new ≡ T.faults proof.old)))
+        (Rose (W.faults out.old) (W.faults out.new)) (W.faults out.new ≡ W.faults out.old)
+        (W.held out.old) (W.held out.new) (W.calls out.old) (W.calls out.new) result }
     ensures case { Uses S.left (ReadsCase (map string_bytes words.now)) case.old case.new result }
     ensures proof { Uses T.left (ReadsProof (map string_bytes words.now) (S.left case.old))
         proof.old proof.new result }
-    ensures case_taken { IsTakenWithin (S.left case.old) (S.left case.new) }
-    ensures proof_taken { IsTakenWithin (T.left proof.old) (T.left proof.new) }
+    ensures case_taken { IsTakenWithin S.left S.calls case.old case.new }
+    ensures proof_taken { IsTakenWithin T.left T.calls proof.old proof.new }
 {
     let outcome = answer(alloc, words, case, proof);
     conclude(out, &outcome)

@@ -1,7 +1,7 @@
 -- What a study answers, from its parts.
 use Rattle.std.proofs.Common.{◌≡◌, ◌⊎◌, inl, inr, refl, sym, ap, ◌∙◌, subst, ℕ, ◌+◌, List, [], ◌∷◌, ◌++◌, length}
 use Rattle.std.proofs.Common.{Err}
-use Rattle.std.specs.Prelude.{IfSome, codes}
+use Rattle.std.specs.Prelude.{IfSome, ⊤, codes}
 use Rattle.std.specs.List.{flat_map}
 use Rattle.std.specs.declared.option.Option.{Option}
 use Rattle.std.specs.declared.option.Option.TheVariants.{Some, None}
@@ -26,12 +26,13 @@ use Rattle.study_register.specs.Looking.{arrival_of, arrivals_of, AreTaken}
 use Rattle.study_register.specs.RegisterFaults.{OnLooks, IsRegisterFault, IfLooksRefused}
 use Rattle.study_register.proofs.TakenLooks.{follows_values}
 use Rattle.study_answers.specs.Replies.{looks_taken, AreReplies, IsFirstBreak, MayTake}
-use Rattle.answers.specs.declared.stop.Stop.TheVariants.{Refused, ReadFault, NoMemory as OutOfMemory}
+use Rattle.answers.specs.declared.stop.Stop.{Stop}
+use Rattle.answers.specs.declared.stop.Stop.TheVariants.{Refused, ReadFault, KeeperFault, NoMemory as OutOfMemory}
+use Rattle.answers.specs.Ways.{StopsIn}
 use Rattle.study_answers.specs.declared.replying.CommandStop.{CommandStop}
 use Rattle.study_answers.specs.declared.replying.CommandStop.TheVariants as halts
-use Rattle.study_answers.specs.declared.stop.StudyStop.{StudyStop}
-use Rattle.study_answers.specs.declared.stop.StudyStop.TheVariants.{Stopped, KeeperFault}
-use Rattle.study_answers.specs.AnswerView.{AreRepliedTo, HoldSome, KeepWith, MayKeep, StopsCommands, StopsStudy, StopsOpening}
+use Rattle.study_answers.specs.AnswerView.{AreRepliedTo, HoldSome, KeepWith, MayKeep, StopsCommands}
+use Rattle.study_answers.specs.KeeperWays.{over_keeper, over_opening}
 use Rattle.study_answers.specs.StudyStages.{HasOpening, opened, study_stage, on_looks}
 use Rattle.study_answers.proofs.Looks.{with_none}
 
@@ -158,13 +159,13 @@ pub none_kept : (c : Content) (commands : List StudyCommand) (kept held : Option
 none_kept c commands kept held e = record { more = []; may = inl refl; held_is = e ∙ sym (with_none kept) }
 
 -- why kept looks aren't taken, as why the study gives no answer
-pub opening_stops : (c : Content) (commands : List StudyCommand) (kept held : Option (List Look)) (rose : Type 0) (stop : StudyStop) → held ≡ kept
-    → StopsOpening c rose kept stop
-    → StopsStudy (on_looks kept (study_stage c commands)).Refuses ⊥ (HasOpening c × rose) (MayKeep c commands kept) kept held stop
-opening_stops c commands kept held rose (Stopped (Refused r)) e h = (opening_refuses c commands kept r h, e)
-opening_stops c commands kept held rose (Stopped ReadFault) e h = absurd h
-opening_stops c commands kept held rose (Stopped OutOfMemory) e h = none_kept c commands kept held e
-opening_stops c commands kept held rose KeeperFault e h = (h, none_kept c commands kept held e)
+pub opening_stops : (c : Content) (commands : List StudyCommand) (kept held : Option (List Look)) (rose clean : Type 0) (stop : Stop) → held ≡ kept
+    → StopsIn (over_opening c rose clean kept) stop
+    → StopsIn (over_keeper (on_looks kept (study_stage c commands)) (MayKeep c commands kept) ⊥ (HasOpening c × rose) ⊤ clean kept held) stop
+opening_stops c commands kept held rose clean (Refused r) e h = (opening_refuses c commands kept r h.0, e, tt, h.1)
+opening_stops c commands kept held rose clean ReadFault e h = absurd h
+opening_stops c commands kept held rose clean KeeperFault e h = (h, none_kept c commands kept held e, tt)
+opening_stops c commands kept held rose clean OutOfMemory e h = (none_kept c commands kept held e, tt, h)
 
 -- ---- behind the opening, which leaves the looks of the keeper
 

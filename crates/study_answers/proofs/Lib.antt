@@ -3,5 +3,3 @@ pub mod KeptLooks
 pub mod Looks
 pub mod OneEnd
 pub mod CommandsReplied
-pub mod StudyEndings
-pub mod StudyHalting

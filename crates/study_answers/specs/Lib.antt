@@ -1,5 +1,5 @@
+pub mod AnswerView
+pub mod KeeperWays
 pub mod Replies
 pub mod StudyStages
-pub mod AnswerView
-pub mod StudyRuns
 pub mod StudyStatements

@@ -1,21 +1,18 @@
 //! What a study answers.
-ghost use Rattle.std.specs.Prelude.{◌≡◌, ◌≤◌, ◌++◌, IfOk, IfErr, false, length, codes};
+ghost use Rattle.std.specs.Prelude.{◌≡◌, ◌≤◌, ◌++◌, IfOk, ⊤, length, codes};
 ghost use Rattle.std.specs.List.{AllByRecursion};
 ghost use Rattle.graph_io.specs.Causes.{Rose};
 ghost use Rattle.answers.specs.Lines.{line, done, refused};
+ghost use Rattle.answers.specs.Ways.{EndsIn};
 ghost use Rattle.case_model.specs.CaseView.{content};
 ghost use Rattle.refusals.specs.WideRefusal.{wide_refusal};
 ghost use Rattle.refusals.specs.declared.wide.When.TheVariants.{Look as AfterLook};
 ghost use Rattle.staged_levels.specs.StudyAnswers.{IsStaged};
-ghost use Rattle.staged_levels.specs.StudyContents.{IsStudy};
 ghost use Rattle.study_commands.specs.CommandLines.{IsBelow};
-ghost use Rattle.study_register.specs.Looking.{AreTaken};
-ghost use Rattle.study_register.specs.RegisterFaults.{OnLooks};
-ghost use Rattle.study_register.specs.RegisterView.{study_in, looks_in, is_spent};
-ghost use Rattle.study_answers.specs.AnswerView.{KeepWith, MayKeep, StopsStudy, StopsOpening, UnlessKeeperFault};
+ghost use Rattle.study_answers.specs.AnswerView.{MayKeep};
 ghost use Rattle.study_answers.specs.StudyStages.{HasOpening, study_stage, on_looks};
+ghost use Rattle.study_answers.specs.KeeperWays.{over_opening, over_keeper};
 
-use crate::StudyStop;
 use crate::replying::{CommandStop, replies};
 use answers::{Answer, Refusal, Status, Stop};
 use case_model::Case;
@@ -37,30 +34,25 @@ fn refused(refusal: Refusal) -> Answer
     }
 }
 
-/// The study of a case, which has taken all looks that a keeper holds.
-fn opened<K: Keeper>(alloc: Global, case: &Case, keeper: &mut K) -> Result<Register, StudyStop>
+/// Opens the study of a case, and takes all looks that a keeper holds.
+fn opened<K: Keeper>(alloc: Global, case: &Case, keeper: &mut K) -> Result<Register, Stop>
     requires { IsStaged (content case.now).inputs }
-    ensures study { IfOk result (λ r. IsStudy (content case.now) (study_in r)) }
-    ensures taken { IfOk result (λ r. OnLooks (K.looks keeper.old) (λ looks. AreTaken (content case.now) looks (looks_in r))) }
-    ensures fresh { IfOk result (λ r. is_spent r ≡ false) }
-    ensures stopped { IfErr result (StopsOpening (content case.now) (Rose (K.faults keeper.old) (K.faults keeper.new)) (K.looks keeper.old)) }
+    ensures ends { EndsIn (over_opening (content case.now) (Rose (K.faults keeper.old) (K.faults keeper.new))
+        (K.faults keeper.new ≡ K.faults keeper.old) (K.looks keeper.old)) result }
     ensures kept { K.looks keeper.new ≡ K.looks keeper.old }
     ensures later { K.faults keeper.old ≤ K.faults keeper.new }
-    ensures clean { UnlessKeeperFault result (K.faults keeper.new ≡ K.faults keeper.old) }
 {
     match Register::open(alloc, case, keeper) {
         Ok(register) => Ok(register),
-        Err(RegisterFault::BadLook(n, _)) => {
-            Err(StudyStop::Stopped(Stop::Refused(record_refusal(alloc, n)?)))
-        }
-        Err(RegisterFault::Wide(n, wide)) => Err(StudyStop::Stopped(Stop::Refused(wide_refusal(
+        Err(RegisterFault::BadLook(n, _)) => Err(Stop::Refused(record_refusal(alloc, n)?)),
+        Err(RegisterFault::Wide(n, wide)) => Err(Stop::Refused(wide_refusal(
             alloc,
             case.names(),
             When::Look(n),
             &wide,
-        )?))),
-        Err(RegisterFault::Fault) => Err(StudyStop::KeeperFault),
-        Err(RegisterFault::NoMemory) => Err(StudyStop::Stopped(Stop::NoMemory)),
+        )?)),
+        Err(RegisterFault::Fault) => Err(Stop::KeeperFault),
+        Err(RegisterFault::NoMemory) => Err(Stop::NoMemory),
     }
 }
 
@@ -81,31 +73,34 @@ fn ended(text: List<u8>) -> Result<Answer, NoMemory>
     Ok(Answer::done(whole))
 }
 
-/// What a study of a case answers to commands, which ask for looks of hypotheses of the case: first all looks that the keeper
-/// holds are taken in their order, and then the commands are replied to. A look that is taken by a command is put behind those
-/// of the keeper.
+/// Answers commands in a study of a case. The commands ask for looks of hypotheses of the case.
 ///
-/// Unless memory runs out or the keeper fails, the kept looks are refused exactly where one can't be taken, and then none is kept
-/// besides. The keeper is asked once the opening of the case is defined. Where the settling after a look breaks off, the answer tells of that, and the looks before it stay kept.
+/// First all looks that the keeper holds are taken in their order, and then the commands are replied to. A look that is taken by a
+/// command is put after those of the keeper. Where the settling after a look is undefined, the answer names the operation, and the
+/// looks before it stay kept.
+///
+/// A refusal comes exactly where a kept look can't be taken, and then no look is added. The keeper is asked once the opening of the
+/// case is defined.
 pub fn study_answer<K: Keeper>(
     alloc: Global,
     case: &Case,
     keeper: &mut K,
     commands: &[StudyCommand],
-) -> Result<Answer, StudyStop>
+) -> Result<Answer, Stop>
     requires staged { IsStaged (content case.now).inputs }
     requires below { AllByRecursion (IsBelow (length (content case.now).names)) commands.now }
-    ensures given { IfOk result (KeepWith (on_looks (K.looks keeper.old) (study_stage (content case.now) commands.now)).Gives (K.looks keeper.old) (K.looks keeper.new)) }
-    ensures stopped { IfErr result (StopsStudy (on_looks (K.looks keeper.old) (study_stage (content case.now) commands.now)).Refuses ⊥ (HasOpening (content case.now) × Rose (K.faults keeper.old) (K.faults keeper.new)) (MayKeep (content case.now) commands.now (K.looks keeper.old)) (K.looks keeper.old) (K.looks keeper.new)) }
+    ensures ends { EndsIn (over_keeper (on_looks (K.looks keeper.old) (study_stage (content case.now) commands.now))
+        (MayKeep (content case.now) commands.now (K.looks keeper.old))
+        ⊥ (HasOpening (content case.now) × Rose (K.faults keeper.old) (K.faults keeper.new))
+        ⊤ (K.faults keeper.new ≡ K.faults keeper.old) (K.looks keeper.old) (K.looks keeper.new)) result }
     ensures later { K.faults keeper.old ≤ K.faults keeper.new }
-    ensures clean { UnlessKeeperFault result (K.faults keeper.new ≡ K.faults keeper.old) }
 {
     let mut register = opened(alloc, case, keeper)?;
     let mut text = opened_text(alloc, case, register.count())?;
     match replies(alloc, case, &mut register, keeper, commands, &mut text) {
         Ok(()) => Ok(ended(text)?),
         Err(CommandStop::Wide(place, wide)) => Ok(broken_off(alloc, case, place, &wide)?),
-        Err(CommandStop::Fault) => Err(StudyStop::KeeperFault),
-        Err(CommandStop::NoMemory) => Err(StudyStop::Stopped(Stop::NoMemory)),
+        Err(CommandStop::Fault) => Err(Stop::KeeperFault),
+        Err(CommandStop::NoMemory) => Err(Stop::NoMemory),
     }
 }

@@ -1,6 +1,11 @@
 -- What a call with words does, from what the study that they ask for does.
-use Rattle.std.proofs.Common.{◌⊎◌, inl, inr, sym, ◌∙◌, subst, ℕ, List}
+use Rattle.std.proofs.Common.{◌⊎◌, inl, inr, sym, ◌∙◌, subst, ℕ, List, Result, Ok, Err}
 use Rattle.std.specs.declared.option.Option.{Option}
+use Rattle.graph_io.specs.declared.keeper.Look.{Look}
+use Rattle.answers.specs.declared.answer.Answer.{Answer}
+use Rattle.answers.specs.declared.stop.Stop.{Stop}
+use Rattle.answers.specs.declared.stop.Stop.TheVariants.{Refused, ReadFault, KeeperFault, NoMemory}
+use Rattle.answers.specs.Ways.{Ways, EndsIn}
 use Rattle.case_model.specs.Content.{Content}
 use Rattle.case_model.specs.declared.inputs.Inputs.{Inputs}
 use Rattle.case_model.specs.declared.inputs.Inputs.TheVariants.{Bare, Single as Values, Staged as Stages}
@@ -9,13 +14,35 @@ use Rattle.graph_cli.specs.Accepted.{IsOfKind}
 use Rattle.graph_cli.specs.Outcome.{AskStudy}
 use Rattle.graph_cli.specs.declared.kind.InputKind.TheVariants.{Awaited}
 use Rattle.staged_levels.specs.StudyAnswers.{IsStaged}
-use Rattle.study_cli.specs.StudyOutcome.{study_needs, case_of, IsStudied, ReadRose}
+use Rattle.study_answers.specs.AnswerView.{HoldSome}
+use Rattle.study_answers.specs.KeeperWays.{over_keeper}
+use Rattle.study_cli.specs.StudyOutcome.{study_needs, case_of, study_call, study_outcome, IsStudied, IsOpened, MayBeKept, ReadRose, KeeperRose, MayEnd}
 
--- a source that is read had a fault
-pub rose_by : (words : List (List ℕ)) (case : Option (List ℕ)) (asked : StudyAsked) (P Q : Type 0) → AskStudy words asked → P
-    ⊎ (IsStudied asked case × Q) → ReadRose words case P Q
-rose_by words case asked P Q asks (inl p) = inl ((asked, asks), p)
-rose_by words case asked P Q asks (inr q) = inr ((asked, asks, q.0), q.1)
+module _ (words : List (List ℕ)) (case commands : Option (List ℕ)) (kept held : Option (List Look)) (asked : StudyAsked) (asks : AskStudy words asked)
+    (P Q R read_clean keeper_clean : Type 0) where
+  -- the ways of the study that is asked for
+  abbrev Called : Ways Answer
+  Called = over_keeper (study_call asked case commands kept) (MayBeKept asked case commands kept)
+      (P ⊎ (IsStudied asked case × Q)) (IsOpened asked case commands × R) read_clean keeper_clean kept held
+
+  -- the ways of the call with these words
+  abbrev Whole : Ways Answer
+  Whole = over_keeper (study_outcome words case commands kept) (MayEnd words case commands kept)
+      (ReadRose words case P Q) (KeeperRose words case commands R) read_clean keeper_clean kept held
+
+  rose_by : P ⊎ (IsStudied asked case × Q) → ReadRose words case P Q
+  rose_by (inl p) = inl ((asked, asks), p)
+  rose_by (inr q) = inr ((asked, asks, q.0), q.1)
+
+  may_end : HoldSome (MayBeKept asked case commands kept) kept held → HoldSome (MayEnd words case commands kept) kept held
+  may_end h = record { more = h.more; may = inr (asked, asks, h.may); held_is = h.held_is }
+
+  pub asked_ends : (result : Result Answer Stop) → EndsIn Called result → EndsIn Whole result
+  asked_ends (Ok a) h = (record { more = h.0.more; given = (asked, asks, h.0.given); held_is = h.0.held_is }, h.1, h.2)
+  asked_ends (Err (Refused r)) h = (inr (asked, asks, h.0), h.1, h.2, h.3)
+  asked_ends (Err ReadFault) h = (rose_by h.0, h.1, h.2)
+  asked_ends (Err KeeperFault) h = ((asked, asks, h.0.0, h.0.1), may_end h.1, h.2)
+  asked_ends (Err NoMemory) h = (may_end h.0, h.1, h.2)
 
 awaited_staged : (inputs : Inputs) → IsOfKind Awaited inputs → IsStaged inputs
 awaited_staged (Stages s) h = tt

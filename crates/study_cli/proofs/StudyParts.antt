@@ -1,70 +1,73 @@
 -- What a call of a study does, from what its parts do: the case, the commands, and then the kept looks and the replies.
-use Rattle.std.proofs.Common.{◌≡◌, ◌⊎◌, inl, inr, refl, ◌∙◌, ℕ, List, [], Result}
-use Rattle.std.specs.Prelude.{codes, IfOk, IfErr}
+use Rattle.std.proofs.Common.{◌≡◌, ◌⊎◌, inl, inr, refl, sym, ◌∙◌, ℕ, List, [], Result, Ok, Err}
+use Rattle.std.specs.Prelude.{codes, ⊤}
 use Rattle.std.specs.declared.option.Option.{Option}
 use Rattle.graph_io.specs.declared.keeper.Look.{Look}
 use Rattle.answers.specs.declared.answer.Answer.{Answer}
-use Rattle.answers.specs.declared.halt.Halt.{Halt}
 use Rattle.answers.specs.declared.refusal.Refusal.{Refusal}
 use Rattle.answers.specs.declared.stop.Stop.{Stop}
-use Rattle.answers.specs.Halts.{StopsBy, HaltsBy, stop_of}
+use Rattle.answers.specs.declared.stop.Stop.TheVariants.{Refused, ReadFault, KeeperFault, NoMemory}
 use Rattle.answers.specs.Stages.{on_bytes, within}
+use Rattle.answers.specs.Ways.{Ways, StopsIn, EndsIn, over_values, over_source}
+use Rattle.answers.proofs.Stopping.{value_stops, source_stops}
 use Rattle.case_model.specs.Content.{Content}
 use Rattle.command_words.specs.Asked.{StudyAsked}
 use Rattle.study_commands.specs.declared.command.StudyCommand.{StudyCommand}
-use Rattle.study_answers.specs.declared.stop.StudyStop.{StudyStop}
-use Rattle.study_answers.specs.declared.stop.StudyStop.TheVariants.{Stopped}
-use Rattle.study_answers.specs.AnswerView.{KeepWith, MayKeep, StopsStudy}
+use Rattle.study_answers.specs.AnswerView.{HoldSome, MayKeep}
+use Rattle.study_answers.specs.KeeperWays.{over_keeper}
 use Rattle.study_answers.specs.StudyStages.{StudyEnd, HasOpening, study_stage, on_looks}
-use Rattle.study_answers.proofs.StudyHalting.{stopped_before, halted_before, stops_weaker, keeps_on}
+use Rattle.study_answers.proofs.Looks.{with_none}
 use Rattle.study_cli.specs.StudyOutcome.{case_of, commands_in, commands_of, study_call, IsStudied, IsOpened, MayBeKept}
 
-module _ (asked : StudyAsked) (case commands : Option (List ℕ)) (kept held : Option (List Look)) (case_rose commands_rose keeper_rose : Type 0) where
-  -- why the call gives no answer
-  abbrev Stops : StudyStop → Type 0
-  Stops = StopsStudy (study_call asked case commands kept).Refuses (case_rose ⊎ (IsStudied asked case × commands_rose))
-      (IsOpened asked case commands × keeper_rose) (MayBeKept asked case commands kept) kept held
-
-  pub case_stops : (stop : Stop) → held ≡ kept → StopsBy (case_of asked case).Refuses case_rose stop → Stops (Stopped stop)
-  unfolding study_call
-  case_stops stop e h =
-      stopped_before (case_of asked case).Refuses (study_call asked case commands kept).Refuses case_rose
+module _ (asked : StudyAsked) (case commands : Option (List ℕ)) (kept held : Option (List Look))
+    (case_rose commands_rose keeper_rose case_clean commands_clean keeper_clean : Type 0) where
+  -- the ways of the call
+  abbrev Called : Ways Answer
+  Called = over_keeper (study_call asked case commands kept) (MayBeKept asked case commands kept)
       (case_rose ⊎ (IsStudied asked case × commands_rose)) (IsOpened asked case commands × keeper_rose)
-      (MayBeKept asked case commands kept) kept held stop
-      (λ (r : Refusal) x. inl x) (λ f. inl f) e (inl refl) h
+      (case_clean × commands_clean) keeper_clean kept held
 
-  module _ (c : Content) (taken : (case_of asked case).Gives c) where
-    pub bytes_stop : (stop : Stop) → held ≡ kept → StopsBy (on_bytes commands (within (codes "commands "))).Refuses commands_rose stop
-        → Stops (Stopped stop)
+  -- nothing is kept before the keeper is asked
+  none_kept : held ≡ kept → HoldSome (MayBeKept asked case commands kept) kept held
+  none_kept e = record { more = []; may = inl refl; held_is = e ∙ sym (with_none kept) }
+
+  pub case_stops : (stop : Stop) → held ≡ kept → commands_clean → keeper_clean → StopsIn (over_source (case_of asked case) case_rose case_clean) stop
+      → StopsIn Called stop
+  unfolding study_call
+  case_stops stop e same idle h =
+      source_stops _ Called.Refuses Called.read Called.keeper Called.memory case_rose case_clean stop (λ (r : Refusal) x k. (inl x, e, (k, same), idle)) (λ f. (inl f, e, idle))
+      (λ k. (none_kept e, (k, same), idle)) h
+
+  module _ (c : Content) (taken : (case_of asked case).Gives c) (clean : case_clean) (idle : keeper_clean) where
+    pub bytes_stop : (stop : Stop) → held ≡ kept
+        → StopsIn (over_source (on_bytes commands (within (codes "commands "))) commands_rose commands_clean) stop → StopsIn Called stop
     unfolding study_call
     bytes_stop stop e h =
-        stopped_before (on_bytes commands (within (codes "commands "))).Refuses (study_call asked case commands kept).Refuses commands_rose
-        (case_rose ⊎ (IsStudied asked case × commands_rose)) (IsOpened asked case commands × keeper_rose)
-        (MayBeKept asked case commands kept) kept held stop
-        (λ (r : Refusal) x. inr (c, taken, inl (inl x))) (λ f. inr ((c, taken), f)) e (inl refl) h
+        source_stops _ Called.Refuses Called.read Called.keeper Called.memory commands_rose commands_clean stop
+        (λ (r : Refusal) x k. (inr (c, taken, inl (inl x)), e, (clean, k), idle)) (λ f. (inr ((c, taken), f), e, idle))
+        (λ k. (none_kept e, (clean, k), idle)) h
 
-    pub commands_halt : (bytes : List ℕ) → (on_bytes commands (within (codes "commands "))).Gives bytes → (halt : Halt) → held ≡ kept
-        → HaltsBy (commands_in c bytes).Refuses halt → Stops (Stopped (stop_of halt))
+    pub commands_stop : (bytes : List ℕ) → (on_bytes commands (within (codes "commands "))).Gives bytes → commands_clean → (stop : Stop) → held ≡ kept
+        → StopsIn (over_values (commands_in c bytes)) stop → StopsIn Called stop
     unfolding study_call
-    commands_halt bytes given halt e h =
-        halted_before (commands_in c bytes).Refuses (study_call asked case commands kept).Refuses (case_rose ⊎ (IsStudied asked case × commands_rose))
-        (case_rose ⊎ (IsStudied asked case × commands_rose)) (IsOpened asked case commands × keeper_rose)
-        (MayBeKept asked case commands kept) kept held halt
-        (λ (r : Refusal) x. inr (c, taken, inl (inr (bytes, given, x)))) e (inl refl) h
+    commands_stop bytes given same stop e h =
+        value_stops _ Called.Refuses Called.read Called.keeper Called.memory stop (λ (r : Refusal) x. (inr (c, taken, inl (inr (bytes, given, x))), e, (clean, same), idle))
+        (none_kept e, (clean, same), idle) h
 
-    module _ (list : List StudyCommand) (said : (commands_of c commands).Gives list) where
-      pub answers_on : (result : Result Answer StudyStop) → IfOk result (KeepWith (on_looks kept (study_stage c list)).Gives kept held)
-          → IfOk result (KeepWith (study_call asked case commands kept).Gives kept held)
-      unfolding study_call
-      answers_on result h = keeps_on result (on_looks kept (study_stage c list)).Gives (study_call asked case commands kept).Gives kept held
-          (λ (e : StudyEnd) x. (c, taken, (list, said, x))) h
+  module _ (c : Content) (taken : (case_of asked case).Gives c) (list : List StudyCommand) (said : (commands_of c commands).Gives list)
+      (clean : case_clean) (same : commands_clean) where
+    -- the ways of the replies
+    abbrev Replied : Ways Answer
+    Replied = over_keeper (on_looks kept (study_stage c list)) (MayKeep c list kept) ⊥ (HasOpening c × keeper_rose) ⊤ keeper_clean kept held
 
-      pub stops_on : (result : Result Answer StudyStop)
-          → IfErr result (StopsStudy (on_looks kept (study_stage c list)).Refuses ⊥ (HasOpening c × keeper_rose) (MayKeep c list kept) kept held)
-          → IfErr result Stops
-      unfolding study_call
-      stops_on result h =
-          stops_weaker result (on_looks kept (study_stage c list)).Refuses (study_call asked case commands kept).Refuses ⊥
-          (case_rose ⊎ (IsStudied asked case × commands_rose)) (HasOpening c × keeper_rose) (IsOpened asked case commands × keeper_rose)
-          (MayKeep c list kept) (MayBeKept asked case commands kept) kept held (λ (r : Refusal) x. inr (c, taken, inr (list, said, x))) (λ f. absurd f)
-          (λ k. ((c, taken, list, said, k.0), k.1)) (λ (more : List Look) x. inr (c, taken, list, said, x)) h
+    -- the looks that may be added by the replies
+    may_keep : HoldSome (MayKeep c list kept) kept held → HoldSome (MayBeKept asked case commands kept) kept held
+    may_keep h = record { more = h.more; may = inr (c, taken, list, said, h.may); held_is = h.held_is }
+
+    pub replies_end : (result : Result Answer Stop) → EndsIn Replied result → EndsIn Called result
+    unfolding study_call
+    replies_end (Ok a) h = (record { more = h.0.more; given = (c, taken, (list, said, h.0.given)); held_is = h.0.held_is }, (clean, same), h.2)
+    replies_end (Err (Refused r)) h = (inr (c, taken, inr (list, said, h.0)), h.1, (clean, same), h.3)
+    replies_end (Err ReadFault) h = absurd h.0
+    replies_end (Err KeeperFault) h = (((c, taken, list, said, h.0.0), h.0.1), may_keep h.1, (clean, same))
+    replies_end (Err NoMemory) h = (may_keep h.0, (clean, same), h.2)

@@ -1,11 +1,11 @@
 //! The top call of studies whose looks are kept: words, a case and commands in, a text and a status out, over a keeper.
 //!
 //! Proved, of `run_study`:
-//! - `runs`: the status, the bytes put and the looks that the keeper holds. Statuses up to 5 come with the whole text that the
-//!   words, the case, the commands and the kept looks call for (`study_outcome`), and with the looks that it keeps besides; 6, 7
-//!   and 9 only where a source that is read, the sink or the keeper had a fault in this call, 8 with `no memory`; with 6 no look is
-//!   kept besides, with 8 and 9 only looks that commands before some place take. Where no fault came, the status is up to 5, or 8,
-//!   and with these no fault came; with 6 the keeper and the sink had none, with 9 the sources and the sink had none.
+//! - `runs`, by status (`Runs`, over the ways of `over_keeper`): with a status up to 5 the whole text of an answer was put that the
+//!   words, the case, the commands and the kept looks call for (`study_outcome`), and the keeper holds its looks too. 6, 7 and 9
+//!   come only where a source that is read, the sink or the keeper had a fault in this call. 8 comes with `no memory`. With 6 no
+//!   look is added; with 8 and 9 only looks that commands before some place take. Where no fault came, the status is up to 5, or 8;
+//!   and with these statuses no fault came. With 6 the keeper and the sink had none, with 9 the sources and the sink had none.
 //! - `case`, `commands`, `untouched`: a source that isn't read stays as it was, and one that is was read to its end after status 0.
 //!   The commands are read only behind a case that a study can take, and the keeper is asked only behind commands that are all
 //!   said.

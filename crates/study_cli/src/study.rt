@@ -1,18 +1,17 @@
 //! The top call of studies.
-ghost use Rattle.std.specs.Prelude.{◌≡◌, ◌⊎◌, IfOk, OnOk, IfErr, map, string_bytes, length};
+ghost use Rattle.std.specs.Prelude.{◌≡◌, ◌⊎◌, IfOk, OnOk, map, string_bytes, length};
 ghost use Rattle.std.specs.List.{AllByRecursion};
 ghost use Rattle.std.specs.Io.KnownBytes.{IsAtEnd};
 ghost use Rattle.graph_io.specs.Causes.{Rose};
-ghost use Rattle.answers.specs.Halts.{HaltsBy};
-ghost use Rattle.answers.specs.Runs.{Uses};
+ghost use Rattle.answers.specs.Runs.{Runs, Uses};
+ghost use Rattle.answers.specs.Ways.{EndsIn, over_values};
 ghost use Rattle.case_model.specs.CaseView.{content};
 ghost use Rattle.command_words.specs.Asked.{study_asked};
 ghost use Rattle.study_commands.specs.CommandLines.{IsBelow};
-ghost use Rattle.study_answers.specs.AnswerView.{KeepWith, StopsStudy, UnlessReadFault, UnlessKeeperFault};
-ghost use Rattle.study_answers.specs.StudyRuns.{IsEndOf, RunsStudy};
+ghost use Rattle.study_answers.specs.KeeperWays.{over_keeper};
 ghost use Rattle.study_cli.specs.StudyOutcome.{study_needs, commands_in, study_call, study_outcome, IsStudied, IsCommanded, IsOpened, MayBeKept, ReadsCase, ReadsCommands, AsksKeeper, ReadRose, KeeperRose, MayEnd};
 
-use answers::{Answer, Halt, Stop, take_whole};
+use answers::{Answer, Stop, conclude, take_whole};
 use case_model::Case;
 use command_words::{StudyCall, read_study};
 use field_core::List;
@@ -20,7 +19,7 @@ use graph_cli::{InputKind, Needs, accepted_case};
 use graph_io::{Keeper, Sink, Source};
 use refusals::{commands_refusal, usage};
 use std::alloc::Global;
-use study_answers::{StudyStop, conclude_study, study_answer};
+use study_answers::study_answer;
 use study_commands::{CommandsFault, StudyCommand, read_commands};
 
 /// What a study needs of its case.
@@ -32,15 +31,14 @@ fn study_needs() -> Needs
 }
 
 /// The commands that a text says for a case.
-fn commands_in(alloc: Global, case: &Case, bytes: &[u8]) -> Result<List<StudyCommand>, Halt>
-    ensures given { IfOk result (commands_in (content case.now) bytes.now).Gives }
+fn commands_in(alloc: Global, case: &Case, bytes: &[u8]) -> Result<List<StudyCommand>, Stop>
+    ensures ends { EndsIn (over_values (commands_in (content case.now) bytes.now)) result }
     ensures below { IfOk result (AllByRecursion (IsBelow (length (content case.now).names))) }
-    ensures refused { IfErr result (HaltsBy (commands_in (content case.now) bytes.now).Refuses) }
 {
     match read_commands(alloc, case, bytes) {
         Ok(commands) => Ok(commands),
-        Err(CommandsFault::Line(n, kind)) => Err(Halt::Refused(commands_refusal(alloc, n, kind)?)),
-        Err(CommandsFault::NoMemory) => Err(Halt::NoMemory),
+        Err(CommandsFault::Line(n, kind)) => Err(Stop::Refused(commands_refusal(alloc, n, kind)?)),
+        Err(CommandsFault::NoMemory) => Err(Stop::NoMemory),
     }
 }
 
@@ -53,20 +51,16 @@ fn study_call<S: Source, T: Source, K: Keeper>(
     case: &mut S,
     commands: &mut T,
     keeper: &mut K,
-) -> Result<Answer, StudyStop>
-    ensures given { IfOk result (KeepWith
-        (study_call (study_asked call.now) (S.left case.old) (T.left commands.old) (K.looks keeper.old)).Gives
-        (K.looks keeper.old) (K.looks keeper.new)) }
-    ensures stopped { IfErr result (StopsStudy
-        (study_call (study_asked call.now) (S.left case.old) (T.left commands.old) (K.looks keeper.old)).Refuses
+) -> Result<Answer, Stop>
+    ensures ends { EndsIn (over_keeper
+        (study_call (study_asked call.now) (S.left case.old) (T.left commands.old) (K.looks keeper.old))
+        (MayBeKept (study_asked call.now) (S.left case.old) (T.left commands.old) (K.looks keeper.old))
         (Rose (S.faults case.old) (S.faults case.new) ⊎
         (IsStudied (study_asked call.now) (S.left case.old) × Rose (T.faults commands.old) (T.faults commands.new)))
         (IsOpened (study_asked call.now) (S.left case.old) (T.left commands.old) × Rose (K.faults keeper.old) (K.faults keeper.new))
-        (MayBeKept (study_asked call.now) (S.left case.old) (T.left commands.old) (K.looks keeper.old))
-        (K.looks keeper.old) (K.looks keeper.new)) }
-    ensures clean { UnlessReadFault result
-        ((S.faults case.new ≡ S.faults case.old) × (T.faults commands.new ≡ T.faults commands.old)) }
-    ensures keeper_clean { UnlessKeeperFault result (K.faults keeper.new ≡ K.faults keeper.old) }
+        ((S.faults case.new ≡ S.faults case.old) × (T.faults commands.new ≡ T.faults commands.old))
+        (K.faults keeper.new ≡ K.faults keeper.old)
+        (K.looks keeper.old) (K.looks keeper.new)) result }
     ensures case_end { OnOk result (IsAtEnd (S.left case.new)) }
     ensures commands_kept { ¬ IsStudied (study_asked call.now) (S.left case.old) → commands.new ≡ commands.old }
     ensures commands_end { OnOk result (IsAtEnd (T.left commands.new)) }
@@ -86,21 +80,17 @@ fn answer<S: Source, T: Source, K: Keeper>(
     case: &mut S,
     commands: &mut T,
     keeper: &mut K,
-) -> Result<Answer, StudyStop>
-    ensures given { IfOk result (KeepWith
-        (study_outcome (map string_bytes words.now) (S.left case.old) (T.left commands.old) (K.looks keeper.old)).Gives
-        (K.looks keeper.old) (K.looks keeper.new)) }
-    ensures stopped { IfErr result (StopsStudy
-        (study_outcome (map string_bytes words.now) (S.left case.old) (T.left commands.old) (K.looks keeper.old)).Refuses
+) -> Result<Answer, Stop>
+    ensures ends { EndsIn (over_keeper
+        (study_outcome (map string_bytes words.now) (S.left case.old) (T.left commands.old) (K.looks keeper.old))
+        (MayEnd (map string_bytes words.now) (S.left case.old) (T.left commands.old) (K.looks keeper.old))
         (ReadRose (map string_bytes words.now) (S.left case.old)
         (Rose (S.faults case.old) (S.faults case.new)) (Rose (T.faults commands.old) (T.faults commands.new)))
         (KeeperRose (map string_bytes words.now) (S.left case.old) (T.left commands.old)
         (Rose (K.faults keeper.old) (K.faults keeper.new)))
-        (MayEnd (map string_bytes words.now) (S.left case.old) (T.left commands.old) (K.looks keeper.old))
-        (K.looks keeper.old) (K.looks keeper.new)) }
-    ensures clean { UnlessReadFault result
-        ((S.faults case.new ≡ S.faults case.old) × (T.faults commands.new ≡ T.faults commands.old)) }
-    ensures keeper_clean { UnlessKeeperFault result (K.faults keeper.new ≡ K.faults keeper.old) }
+        ((S.faults case.new ≡ S.faults case.old) × (T.faults commands.new ≡ T.faults commands.old))
+        (K.faults keeper.new ≡ K.faults keeper.old)
+        (K.looks keeper.old) (K.looks keeper.new)) result }
     ensures case_kept { ¬ ReadsCase (map string_bytes words.now) → case.new ≡ case.old }
     ensures case_end { ReadsCase (map string_bytes words.now) → OnOk result (IsAtEnd (S.left case.new)) }
     ensures commands_kept { ¬ ReadsCommands (map string_bytes words.now) (S.left case.old) →
@@ -111,7 +101,7 @@ fn answer<S: Source, T: Source, K: Keeper>(
         keeper.new ≡ keeper.old }
 {
     match read_study(words) {
-        Err(n) => Err(StudyStop::Stopped(Stop::Refused(usage(alloc, n)?))),
+        Err(n) => Err(Stop::Refused(usage(alloc, n)?)),
         Ok(call) => study_call(alloc, &call, case, commands, keeper),
     }
 }
@@ -136,18 +126,18 @@ pub fn run_study<S: Source, T: Source, K: Keeper, W: Sink>(
     keeper: &mut K,
     out: &mut W,
 ) -> u8
-    ensures runs { RunsStudy
-        (IsEndOf (study_outcome (map string_bytes words.now) (S.left case.old) (T.left commands.old) (K.looks keeper.old)))
+    ensures runs { Runs (over_keeper
+        (study_outcome (map string_bytes words.now) (S.left case.old) (T.left commands.old) (K.looks keeper.old))
         (MayEnd (map string_bytes words.now) (S.left case.old) (T.left commands.old) (K.looks keeper.old))
         (ReadRose (map string_bytes words.now) (S.left case.old)
         (Rose (S.faults case.old) (S.faults case.new)) (Rose (T.faults commands.old) (T.faults commands.new)))
         (KeeperRose (map string_bytes words.now) (S.left case.old) (T.left commands.old)
         (Rose (K.faults keeper.old) (K.faults keeper.new)))
-        (Rose (W.faults out.old) (W.faults out.new))
         ((S.faults case.new ≡ S.faults case.old) × (T.faults commands.new ≡ T.faults commands.old))
         (K.faults keeper.new ≡ K.faults keeper.old)
-        (W.faults out.new ≡ W.faults out.old)
-        (W.held out.old) (W.held out.new) (K.looks keeper.old) (K.looks keeper.new) result }
+        (K.looks keeper.old) (K.looks keeper.new))
+        (Rose (W.faults out.old) (W.faults out.new)) (W.faults out.new ≡ W.faults out.old)
+        (W.held out.old) (W.held out.new) (W.calls out.old) (W.calls out.new) result }
     ensures case { Uses S.left (ReadsCase (map string_bytes words.now)) case.old case.new result }
     ensures commands { Uses T.left (ReadsCommands (map string_bytes words.now) (S.left case.old))
         commands.old commands.new result }
@@ -155,5 +145,5 @@ pub fn run_study<S: Source, T: Source, K: Keeper, W: Sink>(
         keeper.new ≡ keeper.old }
 {
     let outcome = answer(alloc, words, case, commands, keeper);
-    conclude_study(out, outcome)
+    conclude(out, &outcome)
 }

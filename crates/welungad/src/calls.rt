@@ -1,4 +1,5 @@
 //! The two top calls: of studies whose looks are kept, and of all other words.
+use command_words::asks_study;
 use field_core::List;
 use graph_cli::run;
 use graph_io::{Keeper, MemoryKeeper, Source, StdSink, StdSource};
@@ -7,20 +8,12 @@ use study_sqlite::SqliteKeeper;
 
 /// Runs the program over standard input, the file that the words name and standard output, and answers the status.
 pub fn status_with<T: Source>(rt: &HostRuntime, words: &[String], file: &mut T) -> u8 {
-    if begins_study(words) {
+    if asks_study(words) {
         return status_of_study(rt, words, file);
     }
     let mut case = StdSource::new(rt.stdin());
     let mut out = StdSink::new(rt.stdout());
     run(rt.alloc(), words, &mut case, file, &mut out)
-}
-
-/// Whether the first word is that of a study.
-fn begins_study(words: &[String]) -> bool {
-    match words.first() {
-        Some(word) => word.as_str() == "study",
-        None => false,
-    }
 }
 
 /// Runs a study: over the file of looks that the words name, or over no looks where they name none.

@@ -1,6 +1,7 @@
 //! The command `evidence`.
 ghost use Rattle.std.specs.Prelude.{IfOk, IfErr};
-ghost use Rattle.answers.specs.Halts.{HaltsBy};
+ghost use Rattle.answers.specs.Stages.{seen_by};
+ghost use Rattle.answers.specs.Ways.{EndsIn, over_values};
 ghost use Rattle.case_model.specs.CaseView.{content};
 ghost use Rattle.evidence.specs.CaseFlows.{IsCompleteOrder};
 ghost use Rattle.graph_cli.specs.Accepted.{IsOfKind};
@@ -11,7 +12,7 @@ ghost use Rattle.sequential.specs.Decisions.{hypotheses};
 
 use crate::commands::check::checked;
 use crate::commands::test::decided;
-use answers::{Answer, Halt};
+use answers::{Answer, Stop};
 use case_model::Case;
 use evidence::{make, write};
 use evidence_check::{Evidence, Verdict};
@@ -21,22 +22,21 @@ use sequential::{Decision, Priority, RunFault};
 use std::alloc::Global;
 
 /// The evidence of the flow run along the steps of a decision.
-fn flown(alloc: Global, case: &Case, decision: &Decision) -> Result<Evidence, Halt>
+fn flown(alloc: Global, case: &Case, decision: &Decision) -> Result<Evidence, Stop>
     requires single { IsOfKind Single (content case.now).inputs }
     requires order { IsCompleteOrder (content case.now) (hypotheses decision.now.steps) }
     ensures run { IfOk result (IsFlowRun (content case.now) decision.now) }
-    ensures given { IfOk result (λ proof. (flown (content case.now) decision.now).Gives (said_of proof)) }
-    ensures refused { IfErr result (HaltsBy (flown (content case.now) decision.now).Refuses) }
+    ensures ends { EndsIn (over_values (seen_by said_of (flown (content case.now) decision.now))) result }
 {
     match make(alloc, case, decision) {
         Ok(proof) => Ok(proof),
-        Err(RunFault::Wide(step, wide)) => Err(Halt::Refused(wide_refusal(
+        Err(RunFault::Wide(step, wide)) => Err(Stop::Refused(wide_refusal(
             alloc,
             case.names(),
             When::EvidenceStep(step),
             &wide,
         )?)),
-        Err(RunFault::NoMemory) => Err(Halt::NoMemory),
+        Err(RunFault::NoMemory) => Err(Stop::NoMemory),
     }
 }
 
@@ -46,12 +46,11 @@ fn confirmed(
     case: &Case,
     decision: &Decision,
     proof: &Evidence,
-) -> Result<List<u8>, Halt>
+) -> Result<List<u8>, Stop>
     requires single { IsOfKind Single (content case.now).inputs }
     requires order { IsCompleteOrder (content case.now) (hypotheses decision.now.steps) }
     requires run { IsFlowRun (content case.now) decision.now proof.now }
-    ensures given { IfOk result (confirmed (content case.now) (said_of proof.now)).Gives }
-    ensures refused { IfErr result (HaltsBy (confirmed (content case.now) (said_of proof.now)).Refuses) }
+    ensures { EndsIn (over_values (confirmed (content case.now) (said_of proof.now))) result }
 {
     let verdict = checked(alloc, case, proof)?;
     match verdict {
@@ -63,10 +62,9 @@ fn confirmed(
 /// What `evidence` answers to a case: the decision comes first, then the flow run along its steps. What the run gives is
 /// printed only where `check` says yes to it.
 #[tactic(auto, unfolding(crate::specs::Evidence::evidence_stage))]
-pub fn evidence_answer(alloc: Global, case: &Case, priority: Priority) -> Result<Answer, Halt>
+pub fn evidence_answer(alloc: Global, case: &Case, priority: Priority) -> Result<Answer, Stop>
     requires { IsOfKind Single (content case.now).inputs }
-    ensures given { IfOk result (evidence_stage priority (content case.now)).Gives }
-    ensures refused { IfErr result (HaltsBy (evidence_stage priority (content case.now)).Refuses) }
+    ensures { EndsIn (over_values (evidence_stage priority (content case.now))) result }
 {
     let decision = decided(alloc, case, priority)?;
     let proof = flown(alloc, case, &decision)?;

@@ -1,13 +1,14 @@
 //! The command `catalogue`.
 ghost use Rattle.std.specs.Prelude.{◌≡◌, ◌⊎◌, IfOk, IfErr, Ok, Err};
-ghost use Rattle.answers.specs.Halts.{HaltsBy};
+ghost use Rattle.answers.specs.Stages.{seen_by};
+ghost use Rattle.answers.specs.Ways.{EndsIn, over_values};
 ghost use Rattle.case_model.specs.CaseView.{content};
 ghost use Rattle.catalogue.specs.declared.fault.CatalogueFault.TheVariants.{NoMemory as OutOfMemory};
 ghost use Rattle.graph_cli.specs.Catalogue.{made_of};
 ghost use Rattle.graph_cli.specs.Graphs.{named_case, told_size, catalogue_stage};
 
 use crate::commands::catalogue_faults::fault_refusal;
-use answers::{Answer, Halt};
+use answers::{Answer, Stop};
 use case_model::Case;
 use catalogue::{
     CatalogueFault, equal_fallback, fixed_sequence, holm, improved_parallel, parallel, part,
@@ -43,21 +44,19 @@ fn named_case(alloc: Global, graph: SizedGraph) -> Result<Case, CatalogueFault>
 }
 
 /// The same; or the refusal of its sizes.
-fn named(alloc: Global, graph: SizedGraph) -> Result<Case, Halt>
-    ensures given { IfOk result (λ case. (made_of (told_size graph) (named_case graph)).Gives (content case)) }
-    ensures refused { IfErr result (HaltsBy (made_of (told_size graph) (named_case graph)).Refuses) }
+fn named(alloc: Global, graph: SizedGraph) -> Result<Case, Stop>
+    ensures ends { EndsIn (over_values (seen_by content (made_of (told_size graph) (named_case graph)))) result }
 {
     match named_case(alloc, graph) {
         Ok(case) => Ok(case),
-        Err(fault) => Err(Halt::Refused(fault_refusal(alloc, told_size(graph), &fault)?)),
+        Err(fault) => Err(Stop::Refused(fault_refusal(alloc, told_size(graph), &fault)?)),
     }
 }
 
 /// What `catalogue` answers: the canonical text of the case of a named graph.
 #[tactic(auto, unfolding(crate::specs::Graphs::catalogue_stage))]
-pub fn catalogue_answer(alloc: Global, graph: SizedGraph) -> Result<Answer, Halt>
-    ensures given { IfOk result (catalogue_stage graph).Gives }
-    ensures refused { IfErr result (HaltsBy (catalogue_stage graph).Refuses) }
+pub fn catalogue_answer(alloc: Global, graph: SizedGraph) -> Result<Answer, Stop>
+    ensures { EndsIn (over_values (catalogue_stage graph)) result }
 {
     let case = named(alloc, graph)?;
     Ok(Answer::done(write_text(alloc, &case)?))

@@ -1,6 +1,7 @@
 //! The command `sample`.
 ghost use Rattle.std.specs.Prelude.{IfOk, IfErr};
-ghost use Rattle.answers.specs.Halts.{HaltsBy};
+ghost use Rattle.answers.specs.Stages.{seen_by};
+ghost use Rattle.answers.specs.Ways.{EndsIn, over_values};
 ghost use Rattle.case_model.specs.CaseView.{content};
 ghost use Rattle.catalogue.specs.Makings.{sample_case};
 ghost use Rattle.graph_cli.specs.Accepted.{IsOfKind};
@@ -10,7 +11,7 @@ ghost use Rattle.graph_cli.specs.declared.kind.InputKind.TheVariants.{Single};
 
 use crate::commands::catalogue_faults::fault_refusal;
 use crate::commands::test::decided;
-use answers::{Answer, Halt};
+use answers::{Answer, Stop};
 use case_model::Case;
 use catalogue::sample;
 use report::sample_text;
@@ -18,22 +19,20 @@ use sequential::Priority;
 use std::alloc::Global;
 
 /// The sample of a size and a seed.
-fn sampled(alloc: Global, size: u64, seed: u64) -> Result<Case, Halt>
-    ensures given { IfOk result (λ case. (made_of size (sample_case size seed)).Gives (content case)) }
+fn sampled(alloc: Global, size: u64, seed: u64) -> Result<Case, Stop>
+    ensures ends { EndsIn (over_values (seen_by content (made_of size (sample_case size seed)))) result }
     ensures single { IfOk result (λ case. IsOfKind Single (content case).inputs) }
-    ensures refused { IfErr result (HaltsBy (made_of size (sample_case size seed)).Refuses) }
 {
     match sample(alloc, size, seed) {
         Ok(case) => Ok(case),
-        Err(fault) => Err(Halt::Refused(fault_refusal(alloc, size, &fault)?)),
+        Err(fault) => Err(Stop::Refused(fault_refusal(alloc, size, &fault)?)),
     }
 }
 
 /// What `sample` answers: a sample is made, and decided with the priority `first`.
 #[tactic(auto, unfolding(crate::specs::Sample::sample_stage))]
-pub fn sample_answer(alloc: Global, size: u64, seed: u64) -> Result<Answer, Halt>
-    ensures given { IfOk result (sample_stage size seed).Gives }
-    ensures refused { IfErr result (HaltsBy (sample_stage size seed).Refuses) }
+pub fn sample_answer(alloc: Global, size: u64, seed: u64) -> Result<Answer, Stop>
+    ensures { EndsIn (over_values (sample_stage size seed)) result }
 {
     let case = sampled(alloc, size, seed)?;
     let decision = decided(alloc, &case, Priority::First)?;

@@ -3,14 +3,14 @@ use Rattle.case_csv.specs.Reading.{IsCsvFault}
 use Rattle.refusals.specs.CaseRefusal.{case_refusal}
 use Rattle.graph_cli.proofs.accepted.csv_case.Goals as goal
 
-pub returns-in-Ok-clause-given : goal.returns-in-Ok-clause-given
-returns-in-Ok-clause-given c =
+pub returns-in-Ok : goal.returns-in-Ok
+returns-in-Ok c =
     let h = c.in-Ok.ensures.case in
     (h.draft, (c.args.alpha, refl, h.says), (h.faultless, h.content_is))
 
-pub returns-in_ok-cell_refusal-in-Err-Row-clause-refused : goal.returns-in_ok-cell_refusal-in-Err-Row-clause-refused
+pub returns-in_ok-cell_refusal-in-Err-Row : goal.returns-in_ok-cell_refusal-in-Err-Row
 unfolding IsCsvFault
-returns-in_ok-cell_refusal-in-Err-Row-clause-refused c =
+returns-in_ok-cell_refusal-in-Err-Row c =
     inl (
       c.in-Err-Row.row,
       c.in-Err-Row.column,
@@ -19,9 +19,9 @@ returns-in_ok-cell_refusal-in-Err-Row-clause-refused c =
       c.in_ok-cell_refusal-in-Err-Row.ensures,
     )
 
-pub returns-in_ok-case_refusal-in-Err-Case-clause-refused : goal.returns-in_ok-case_refusal-in-Err-Case-clause-refused
+pub returns-in_ok-case_refusal-in-Err-Case : goal.returns-in_ok-case_refusal-in-Err-Case
 unfolding IsCsvFault
-returns-in_ok-case_refusal-in-Err-Case-clause-refused c =
+returns-in_ok-case_refusal-in-Err-Case c =
     let refused = c.in-Err-Case.refused in
     let h = rw c.in-Err-Case.field-0-is at c.in-Err-Case.ensures.fault in
     inr (

@@ -3,14 +3,14 @@ use Rattle.edge_text.specs.Reading.{IsTextFault}
 use Rattle.refusals.specs.CaseRefusal.{case_refusal}
 use Rattle.graph_cli.proofs.accepted.text_case.Goals as goal
 
-pub returns-in_ok-line_refusal-in-Err-Line-clause-refused : goal.returns-in_ok-line_refusal-in-Err-Line-clause-refused
+pub returns-in_ok-line_refusal-in-Err-Line : goal.returns-in_ok-line_refusal-in-Err-Line
 unfolding IsTextFault
-returns-in_ok-line_refusal-in-Err-Line-clause-refused c =
+returns-in_ok-line_refusal-in-Err-Line c =
     inl (c.in-Err-Line.n, c.in-Err-Line.kind, rw c.in-Err-Line.field-0-is at c.in-Err-Line.ensures.fault, c.in_ok-line_refusal-in-Err-Line.ensures)
 
-pub returns-in_ok-case_refusal-in-Err-Case-clause-refused : goal.returns-in_ok-case_refusal-in-Err-Case-clause-refused
+pub returns-in_ok-case_refusal-in-Err-Case : goal.returns-in_ok-case_refusal-in-Err-Case
 unfolding IsTextFault
-returns-in_ok-case_refusal-in-Err-Case-clause-refused c =
+returns-in_ok-case_refusal-in-Err-Case c =
     let refused = c.in-Err-Case.refused in
     let h = rw c.in-Err-Case.field-0-is at c.in-Err-Case.ensures.fault in
     inr (

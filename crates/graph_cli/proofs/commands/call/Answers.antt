@@ -1,31 +1,32 @@
-use Rattle.std.proofs.Common.{inl, inr}
+use Rattle.std.proofs.Common.{inl, inr, refl}
 use Rattle.answers.specs.declared.refusal.Refusal.{Refusal}
-use Rattle.answers.proofs.Halting.{stops_weaker, halted_by, handed_on}
+use Rattle.answers.proofs.Stopping.{source_ends, value_ends}
 use Rattle.graph_cli.specs.Commands.{call_of, TakesCase, TakesProof}
 use Rattle.graph_cli.proofs.commands.call.Goals as goal
 
-pub returns-in-OnCase-clause-stopped : goal.returns-in-OnCase-clause-stopped
+pub returns-in-OnCase-clause-ends : goal.returns-in-OnCase-clause-ends
 unfolding call_of TakesCase TakesProof
-returns-in-OnCase-clause-stopped g c = rw c.in-OnCase.is (stops_weaker c.case_call.result _ _ _ (λ f. inl (tt, f)) c.case_call.ensures.stopped)
+returns-in-OnCase-clause-ends g c =
+    rw c.in-OnCase.is (source_ends _ _ _ _ c.case_call.result (λ x h k. (h, (k, refl))) (λ (r : Refusal) h k. (h, (k, refl))) (λ f. inl (tt, f)) (λ k. (k, refl))
+    c.case_call.ensures.ends)
 
-pub returns-in-Check-clause-stopped : goal.returns-in-Check-clause-stopped
+pub returns-in-Check-clause-ends : goal.returns-in-Check-clause-ends
 unfolding call_of TakesCase TakesProof
-returns-in-Check-clause-stopped g c = rw c.in-Check.is (stops_weaker c.check_call.result _ _ _ (λ f. elim f [
-  | inl a ↦ inl (tt, a)
-  | inr b ↦ inr b
-]) c.check_call.ensures.stopped)
+returns-in-Check-clause-ends g c =
+    rw c.in-Check.is (source_ends _ _ _ _ c.check_call.result (λ x h k. (h, k)) (λ (r : Refusal) h k. (h, k))
+    (λ f. elim f [ inl a ↦ inl (tt, a) | inr b ↦ inr b ]) (λ k. k) c.check_call.ensures.ends)
 
-pub returns-in_err-sample_answer-in-Sample-clause-stopped : goal.returns-in_err-sample_answer-in-Sample-clause-stopped
+pub returns-in-Sample-clause-ends : goal.returns-in-Sample-clause-ends
 unfolding call_of TakesCase TakesProof
-returns-in_err-sample_answer-in-Sample-clause-stopped g c =
-    rw c.in-Sample.is (handed_on _ _ _ c.from_residual-in_err-sample_answer-in-Sample.ensures.1
-    (halted_by c.in_err-sample_answer-in-Sample.field-0.0 _ _ _ (λ (r : Refusal) h. h) c.in_err-sample_answer-in-Sample.ensures.refused))
+returns-in-Sample-clause-ends g c =
+    rw c.in-Sample.is (value_ends _ _ c.sample_answer.result (λ x h. (h, (refl, refl))) (λ (r : Refusal) h. (h, (refl, refl))) (refl, refl)
+    c.sample_answer.ensures)
 
-pub returns-in_err-catalogue_answer-in-Catalogue-clause-stopped : goal.returns-in_err-catalogue_answer-in-Catalogue-clause-stopped
+pub returns-in-Catalogue-clause-ends : goal.returns-in-Catalogue-clause-ends
 unfolding call_of TakesCase TakesProof
-returns-in_err-catalogue_answer-in-Catalogue-clause-stopped g c =
-    rw c.in-Catalogue.is (handed_on _ _ _ c.from_residual.ensures.1
-    (halted_by c.in_err-catalogue_answer-in-Catalogue.field-0.0 _ _ _ (λ (r : Refusal) h. h) c.in_err-catalogue_answer-in-Catalogue.ensures.refused))
+returns-in-Catalogue-clause-ends g c =
+    rw c.in-Catalogue.is (value_ends _ _ c.catalogue_answer.result (λ x h. (h, (refl, refl))) (λ (r : Refusal) h. (h, (refl, refl))) (refl, refl)
+    c.catalogue_answer.ensures)
 
 pub returns-in-Check-clause-proof_kept : goal.returns-in-Check-clause-proof_kept
 unfolding TakesProof

@@ -1,72 +1,72 @@
 use Rattle.std.proofs.Common.{◌∙◌, ap₂}
 use Rattle.answers.specs.Lines.{refused}
+use Rattle.answers.proofs.Stopping.{handed_on}
 use Rattle.case_model.specs.CaseView.{content}
 use Rattle.refusals.specs.WideRefusal.{wide_refusal}
 use Rattle.refusals.specs.declared.wide.When.TheVariants.{Look as AfterLook}
 use Rattle.study_register.specs.RegisterView.{looks_in}
 use Rattle.study_answers.proofs.Answering.{opening_stops, none_kept, all_answered, break_answered, replied_kept, stopped_kept}
 use Rattle.study_answers.proofs.CommandsReplied.{broken_by, first_broken}
-use Rattle.study_answers.proofs.StudyHalting.{handed_on, keeper_clean}
 use Rattle.study_answers.proofs.answer.study_answer.Goals as goal
 
-pub returns-in_err-register-clause-stopped : goal.returns-in_err-register-clause-stopped
-returns-in_err-register-clause-stopped g c =
+pub returns-in_err-register-clause-ends : goal.returns-in_err-register-clause-ends
+returns-in_err-register-clause-ends g c =
     let kept = g.K.Keeper.looks c.args.keeper.now in
     handed_on _ _ _ c.from_residual.ensures.1
-    (opening_stops (content c.args.case.now) c.args.commands.now kept _ _ c.in_err-register.field-0.0 c.in_err-register.ensures.kept
-    c.in_err-register.ensures.stopped)
+    (opening_stops (content c.args.case.now) c.args.commands.now kept _ _ _ c.in_err-register.field-0.0 c.in_err-register.ensures.kept
+    c.in_err-register.ensures.ends)
 
-pub returns-in_err-text-clause-stopped : goal.returns-in_err-text-clause-stopped
-returns-in_err-text-clause-stopped g c =
-    let kept = g.K.Keeper.looks c.args.keeper.now in
-    handed_on _ _ _ c.from_residual-in_err-text.ensures.1 (none_kept (content c.args.case.now) c.args.commands.now kept _ c.in_ok-register.ensures.kept)
+pub returns-in_err-text-clause-ends : goal.returns-in_err-text-clause-ends
+returns-in_err-text-clause-ends g c =
+    let r = c.in_ok-register in
+    handed_on _ _ _ c.from_residual-in_err-text.ensures.1
+    (none_kept (content c.args.case.now) c.args.commands.now (g.K.Keeper.looks c.args.keeper.now) _ r.ensures.kept, tt, r.ensures.ends.1)
 
-pub returns-in_err-ended-in-Ok-clause-stopped : goal.returns-in_err-ended-in-Ok-clause-stopped
-returns-in_err-ended-in-Ok-clause-stopped g c =
+pub returns-in_err-ended-in-Ok-clause-ends : goal.returns-in_err-ended-in-Ok-clause-ends
+returns-in_err-ended-in-Ok-clause-ends g c =
     let kept = g.K.Keeper.looks c.args.keeper.now in
     let r = c.in_ok-register in
-    handed_on _ _ _ c.from_residual-in_err-ended-in-Ok.ensures.1
-    (replied_kept (content c.args.case.now) c.args.commands.now kept _ _ r.ensures.kept (looks_in r.register) r.ensures.taken _ _ _ c.in-Ok.ensures.replied)
+    handed_on _ _ _ c.from_residual-in_err-ended-in-Ok.ensures.1 (
+      replied_kept (content c.args.case.now) c.args.commands.now kept _ _ r.ensures.kept (looks_in r.register) r.ensures.ends.0.taken _ _ _
+          c.in-Ok.ensures.replied,
+      tt,
+      c.in-Ok.ensures.counted ∙ r.ensures.ends.1,
+    )
 
-pub returns-in-Ok-clause-given : goal.returns-in-Ok-clause-given
-returns-in-Ok-clause-given g c =
+pub returns-in-Ok-clause-ends : goal.returns-in-Ok-clause-ends
+returns-in-Ok-clause-ends g c =
     let kept = g.K.Keeper.looks c.args.keeper.now in
-    let r = c.in_ok-register in
-    all_answered (content c.args.case.now) c.args.commands.now kept _ _ r.ensures.kept
-    (looks_in r.register) r.ensures.taken c.count.result c.in_ok-text.text _ _ _
-    c.count.ensures c.in_ok-text.ensures c.in-Ok.ensures.replied c.in_ok-ended-in-Ok.ensures
+    let r = c.in_ok-register in (
+      all_answered (content c.args.case.now) c.args.commands.now kept _ _ r.ensures.kept
+          (looks_in r.register) r.ensures.ends.0.taken c.count.result c.in_ok-text.text _ _ _
+          c.count.ensures c.in_ok-text.ensures c.in-Ok.ensures.replied c.in_ok-ended-in-Ok.ensures,
+      tt,
+      c.in-Ok.ensures.counted ∙ r.ensures.ends.1,
+    )
 
-pub returns-in_err-broken_off-in-Err-Wide-clause-stopped : goal.returns-in_err-broken_off-in-Err-Wide-clause-stopped
-returns-in_err-broken_off-in-Err-Wide-clause-stopped g c =
+pub returns-in_err-broken_off-in-Err-Wide-clause-ends : goal.returns-in_err-broken_off-in-Err-Wide-clause-ends
+returns-in_err-broken_off-in-Err-Wide-clause-ends g c =
     let kept = g.K.Keeper.looks c.args.keeper.now in
     let r = c.in_ok-register in
     let e = c.in-Err-Wide in
-    handed_on _ _ _ c.from_residual-in_err-broken_off-in-Err-Wide.ensures.1
-    (stopped_kept (content c.args.case.now) c.args.commands.now kept _ _ r.ensures.kept (looks_in r.register) r.ensures.taken _ e.field-0 e.ensures.stopped)
+    handed_on _ _ _ c.from_residual-in_err-broken_off-in-Err-Wide.ensures.1 (
+      stopped_kept (content c.args.case.now) c.args.commands.now kept _ _ r.ensures.kept (looks_in r.register) r.ensures.ends.0.taken _ e.field-0
+          e.ensures.stopped,
+      tt,
+      broken_by e.field-0 e.place e.wide _ e.field-0-is e.ensures.broken ∙ r.ensures.ends.1,
+    )
 
-pub returns-in-Err-Wide-clause-given : goal.returns-in-Err-Wide-clause-given
-returns-in-Err-Wide-clause-given g c =
+pub returns-in-Err-Wide-clause-ends : goal.returns-in-Err-Wide-clause-ends
+returns-in-Err-Wide-clause-ends g c =
     let k = content c.args.case.now in
     let commands = c.args.commands.now in
     let kept = g.K.Keeper.looks c.args.keeper.now in
     let r = c.in_ok-register in
     let e = c.in-Err-Wide in
-    let s = looks_in r.register in
-    break_answered k commands kept _ _ r.ensures.kept s r.ensures.taken e.place e.wide _
-    (first_broken k s commands _ _ _ e.field-0 e.place e.wide e.field-0-is e.ensures.stopped)
-    (c.in_ok-broken_off-in-Err-Wide.ensures ∙ ap₂ (λ n w. refused (wide_refusal k.names (AfterLook n) w)) e.place-is e.wide-is)
-
-pub returns-in-Err-Wide-clause-clean : goal.returns-in-Err-Wide-clause-clean
-returns-in-Err-Wide-clause-clean g c = let e = c.in-Err-Wide in broken_by e.field-0 e.place e.wide _ e.field-0-is e.ensures.broken
-    ∙ c.in_ok-register.ensures.clean
-
-pub returns-in_err-text-clause-clean : goal.returns-in_err-text-clause-clean
-returns-in_err-text-clause-clean g c = keeper_clean _ _ c.in_ok-register.ensures.clean
-
-pub returns-in_err-ended-in-Ok-clause-clean : goal.returns-in_err-ended-in-Ok-clause-clean
-returns-in_err-ended-in-Ok-clause-clean g c = keeper_clean _ _ (c.in-Ok.ensures.counted ∙ c.in_ok-register.ensures.clean)
-
-pub returns-in_err-broken_off-in-Err-Wide-clause-clean : goal.returns-in_err-broken_off-in-Err-Wide-clause-clean
-returns-in_err-broken_off-in-Err-Wide-clause-clean g c =
-    let e = c.in-Err-Wide in
-    keeper_clean _ _ (broken_by e.field-0 e.place e.wide _ e.field-0-is e.ensures.broken ∙ c.in_ok-register.ensures.clean)
+    let s = looks_in r.register in (
+      break_answered k commands kept _ _ r.ensures.kept s r.ensures.ends.0.taken e.place e.wide _
+          (first_broken k s commands _ _ _ e.field-0 e.place e.wide e.field-0-is e.ensures.stopped)
+          (c.in_ok-broken_off-in-Err-Wide.ensures ∙ ap₂ (λ n w. refused (wide_refusal k.names (AfterLook n) w)) e.place-is e.wide-is),
+      tt,
+      broken_by e.field-0 e.place e.wide _ e.field-0-is e.ensures.broken ∙ r.ensures.ends.1,
+    )

@@ -1,39 +1,20 @@
-use Rattle.std.proofs.Common.{inl, inr, refl, map}
+use Rattle.std.proofs.Common.{inl, refl, map, sym, ◌∙◌, []}
 use Rattle.std.specs.Prelude.{string_bytes}
-use Rattle.graph_io.specs.Causes.{Rose}
-use Rattle.answers.specs.declared.refusal.Refusal.{Refusal}
+use Rattle.answers.proofs.Stopping.{handed_on}
 use Rattle.command_words.specs.Asked.{study_asked}
-use Rattle.study_answers.specs.StudyStages.{StudyEnd}
-use Rattle.study_answers.proofs.StudyHalting.{handed_on, no_room, stops_weaker, keeps_on}
-use Rattle.study_cli.specs.StudyOutcome.{study_outcome, ReadRose, KeeperRose, MayEnd}
-use Rattle.study_cli.proofs.AskedStudies.{rose_by}
+use Rattle.study_answers.proofs.Looks.{with_none}
+use Rattle.study_cli.proofs.AskedStudies.{asked_ends}
 use Rattle.study_cli.proofs.study.answer.Goals as goal
 
-pub returns-in_err-usage-in-Err-clause-stopped : goal.returns-in_err-usage-in-Err-clause-stopped
-returns-in_err-usage-in-Err-clause-stopped g c =
-    let words = map string_bytes c.args.words.now in
-    let case = g.S.Source.left c.args.case.now in
-    let commands = g.T.Source.left c.args.commands.now in
-    let kept = g.K.Keeper.looks c.args.keeper.now in
-    let of_case = g.S.Source.faults c.args.case.now in
-    let of_commands = g.T.Source.faults c.args.commands.now in
-    let of_keeper = g.K.Keeper.faults c.args.keeper.now in
+pub returns-in_err-usage-in-Err-clause-ends : goal.returns-in_err-usage-in-Err-clause-ends
+returns-in_err-usage-in-Err-clause-ends g c =
     handed_on _ _ _ c.from_residual.ensures.1
-    (no_room (study_outcome words case commands kept).Refuses (ReadRose words case (Rose of_case of_case) (Rose of_commands of_commands))
-    (KeeperRose words case commands (Rose of_keeper of_keeper)) (MayEnd words case commands kept) kept kept refl (inl refl))
+    (record { more = []; may = inl refl; held_is = sym (with_none (g.K.Keeper.looks c.args.keeper.now)) }, (refl, refl), refl)
 
-pub returns-in-Ok-clause-given : goal.returns-in-Ok-clause-given
-returns-in-Ok-clause-given g c = keeps_on c.study_call.result _ _ _ _ (λ (e : StudyEnd) h. (study_asked c.in-Ok.call, c.in-Ok.ensures.given, h))
-    c.study_call.ensures.given
-
-pub returns-in-Ok-clause-stopped : goal.returns-in-Ok-clause-stopped
-returns-in-Ok-clause-stopped g c =
-    let asked = study_asked c.in-Ok.call in
-    let asks = c.in-Ok.ensures.given in
-    let words = map string_bytes c.args.words.now in
-    stops_weaker c.study_call.result _ _ _ _ _ _ _ _ _ _ (λ (r : Refusal) h. inr (asked, asks, h))
-    (λ f. rose_by words (g.S.Source.left c.args.case.now) asked _ _ asks f) (λ k. (asked, asks, k.0, k.1))
-    (λ more h. inr (asked, asks, h)) c.study_call.ensures.stopped
+pub returns-in-Ok-clause-ends : goal.returns-in-Ok-clause-ends
+returns-in-Ok-clause-ends g c =
+    asked_ends (map string_bytes c.args.words.now) (g.S.Source.left c.args.case.now) (g.T.Source.left c.args.commands.now)
+    (g.K.Keeper.looks c.args.keeper.now) _ (study_asked c.in-Ok.call) c.in-Ok.ensures.given _ _ _ _ _ c.study_call.result c.study_call.ensures.ends
 
 pub returns-in-Ok-clause-case_kept : goal.returns-in-Ok-clause-case_kept
 returns-in-Ok-clause-case_kept g c = λ none. absurd (none (study_asked c.in-Ok.call, c.in-Ok.ensures.given))

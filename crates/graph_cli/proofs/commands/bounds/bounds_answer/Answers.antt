@@ -7,9 +7,9 @@ use Rattle.graph_cli.specs.Bounds.{bounds_stage}
 use Rattle.graph_cli.proofs.SetAnswers.{closed_bounds}
 use Rattle.graph_cli.proofs.commands.bounds.bounds_answer.Goals as goal
 
-pub returns-clause-given : goal.returns-clause-given
+pub returns : goal.returns
 unfolding bounds_stage
-returns-clause-given c = (
+returns c = (
   c.in_ok-bounds_text.field-0,
   (
     c.in_ok-table.ensures.defined,

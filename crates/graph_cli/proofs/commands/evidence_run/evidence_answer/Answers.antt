@@ -1,34 +1,34 @@
 use Rattle.std.proofs.Common.{inl, inr}
 use Rattle.answers.specs.declared.refusal.Refusal.{Refusal}
+use Rattle.answers.proofs.Stopping.{value_stops, handed_on}
 use Rattle.case_model.specs.CaseView.{content}
 use Rattle.evidence.proofs.MakeAnswers.{decision_order}
 use Rattle.graph_cli.specs.Check.{said_of}
 use Rattle.graph_cli.specs.Evidence.{evidence_stage}
-use Rattle.graph_cli.proofs.HandedOn.{halts_weaker, halt_on}
 use Rattle.graph_cli.proofs.commands.evidence_run.evidence_answer.Goals as goal
 
 pub flown-requires-clause-order : goal.flown-requires-clause-order
 flown-requires-clause-order c = decision_order (content c.args.case.now) c.args.priority c.in_ok-decision.decision c.args.case.now.valid
-    c.in_ok-decision.ensures.given.1
+    c.in_ok-decision.ensures.1
 
 pub confirmed-requires-clause-order : goal.confirmed-requires-clause-order
 confirmed-requires-clause-order c = decision_order (content c.args.case.now) c.args.priority c.in_ok-decision.decision c.args.case.now.valid
-    c.in_ok-decision.ensures.given.1
+    c.in_ok-decision.ensures.1
 
-pub returns-in_err-proof-clause-refused : goal.returns-in_err-proof-clause-refused
+pub returns-in_err-proof : goal.returns-in_err-proof
 unfolding evidence_stage
-returns-in_err-proof-clause-refused c =
-    halt_on _ _ _ c.from_residual-in_err-proof.ensures.1
-    (halts_weaker c.in_err-proof.field-0.0 _ _ (λ (r : Refusal) h. inr (c.in_ok-decision.decision, c.in_ok-decision.ensures.given, inl h))
-    c.in_err-proof.ensures.refused)
+returns-in_err-proof c =
+    handed_on _ _ _ c.from_residual-in_err-proof.ensures.1
+    (value_stops _ _ _ _ _ c.in_err-proof.field-0.0 (λ (r : Refusal) h. inr (c.in_ok-decision.decision, c.in_ok-decision.ensures, inl h)) tt
+    c.in_err-proof.ensures.ends)
 
-pub returns-in_err-text-clause-refused : goal.returns-in_err-text-clause-refused
+pub returns-in_err-text : goal.returns-in_err-text
 unfolding evidence_stage
-returns-in_err-text-clause-refused c =
-    halt_on _ _ _ c.from_residual-in_err-text.ensures.1
-    (halts_weaker c.in_err-text.field-0.0 _ _
+returns-in_err-text c =
+    handed_on _ _ _ c.from_residual-in_err-text.ensures.1
+    (value_stops _ _ _ _ _ c.in_err-text.field-0.0
     (λ (r : Refusal) h. inr (
       c.in_ok-decision.decision,
-      c.in_ok-decision.ensures.given,
-      inr (said_of c.in_ok-proof.proof, c.in_ok-proof.ensures.given, inl h),
-    )) c.in_err-text.ensures.refused)
+      c.in_ok-decision.ensures,
+      inr (said_of c.in_ok-proof.proof, c.in_ok-proof.ensures.ends, inl h),
+    )) tt c.in_err-text.ensures)

@@ -4,6 +4,6 @@ use Rattle.case_model.specs.CaseView.{content}
 use Rattle.graph_cli.specs.Graphs.{catalogue_stage}
 use Rattle.graph_cli.proofs.commands.named_graph.catalogue_answer.Goals as goal
 
-pub returns-clause-given : goal.returns-clause-given
+pub returns : goal.returns
 unfolding catalogue_stage
-returns-clause-given c = (content c.in_ok-case.case, c.in_ok-case.ensures.given, c.done.ensures ∙ ap done c.in_ok-write_text.ensures.canonical)
+returns c = (content c.in_ok-case.case, c.in_ok-case.ensures.ends, c.done.ensures ∙ ap done c.in_ok-write_text.ensures.canonical)

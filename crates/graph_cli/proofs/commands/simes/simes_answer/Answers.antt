@@ -1,6 +1,7 @@
 use Rattle.std.proofs.Common.{◌≢◌, ◌<◌, refl, sym, subst, inl, inr, length}
 use Rattle.std.specs.List.{All, AllPairs}
 use Rattle.answers.specs.declared.refusal.Refusal.{Refusal}
+use Rattle.answers.proofs.Stopping.{value_stops, handed_on}
 use Rattle.case_model.specs.CaseView.{content}
 use Rattle.case_model.specs.SetTableView.{answer_of}
 use Rattle.closed_test.specs.WeightsView.{weight_at}
@@ -8,16 +9,15 @@ use Rattle.discovery_bound.specs.BoundsView.{bound_of}
 use Rattle.report.specs.SimesReport.{IsSimesReport}
 use Rattle.simes_test.specs.SimesAnswers.{AreSimesClosedAnswers}
 use Rattle.graph_cli.specs.Simes.{ReportsSimes, simes_stage}
-use Rattle.graph_cli.proofs.HandedOn.{halts_weaker, halt_on}
 use Rattle.graph_cli.proofs.SimesCalls.{simes_bounds, leaders_apart}
 use Rattle.graph_cli.proofs.commands.simes.simes_answer.Goals as goal
 
-pub returns-in_err-table-clause-refused : goal.returns-in_err-table-clause-refused
+pub returns-in_err-table : goal.returns-in_err-table
 unfolding simes_stage
-returns-in_err-table-clause-refused c =
-    halt_on _ _ _ c.from_residual-in_err-table.ensures.1
-    (halts_weaker c.in_err-table.field-0.0 _ _ (λ (r : Refusal) h. inr (content c.args.case.now, (c.in_ok-weights.ensures.defined, refl), inl h))
-    c.in_err-table.ensures.refused)
+returns-in_err-table c =
+    handed_on _ _ _ c.from_residual-in_err-table.ensures.1
+    (value_stops _ _ _ _ _ c.in_err-table.field-0.0
+    (λ (r : Refusal) h. inr (content c.args.case.now, (c.in_ok-weights.ensures.defined, refl), inl h)) tt c.in_err-table.ensures.refused)
 
 pub simes_text-requires-clause-below : goal.simes_text-requires-clause-below
 simes_text-requires-clause-below c =
@@ -28,9 +28,9 @@ pub simes_text-requires-clause-apart : goal.simes_text-requires-clause-apart
 simes_text-requires-clause-apart c =
     subst (AllPairs (λ i j. i ≢ j)) (sym c.as_slice.ensures) (leaders_apart (content c.args.case.now) c.in_ok-ranking.ranking c.in_ok-ranking.ensures).1
 
-pub returns-clause-given : goal.returns-clause-given
+pub returns : goal.returns
 unfolding simes_stage
-returns-clause-given c =
+returns c =
     let case = content c.args.case.now in
     let closed = answer_of c.closed_table-closed.result.now in
     let bound = bound_of c.in_ok-bounds.bounds in

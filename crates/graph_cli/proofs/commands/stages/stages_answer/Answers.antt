@@ -7,8 +7,8 @@ use Rattle.graph_cli.proofs.commands.stages.stages_answer.Goals as goal
 
 pub stages_text-requires-clause-count : goal.stages_text-requires-clause-count
 stages_text-requires-clause-count c = ap length c.as_slice.ensures
-    ∙ (looks_of_their_cases (content c.args.case.now) c.in_ok-looks.looks c.in_ok-looks.ensures.given).0
+    ∙ (looks_of_their_cases (content c.args.case.now) c.in_ok-looks.looks c.in_ok-looks.ensures).0
 
 pub stages_text-requires-clause-looks : goal.stages_text-requires-clause-looks
 stages_text-requires-clause-looks c = subst (All (AreRejectionsOf (content c.args.case.now))) (sym c.as_slice.ensures)
-    (looks_of_their_cases (content c.args.case.now) c.in_ok-looks.looks c.in_ok-looks.ensures.given).1
+    (looks_of_their_cases (content c.args.case.now) c.in_ok-looks.looks c.in_ok-looks.ensures).1
