@@ -33,7 +33,7 @@ pub fn limit(num: &EpsPoly, den: &EpsPoly) -> Ratio
     requires unit { IsUnit (value_of (norm num.now den.now)) }
     ensures { terms result ≡ limit_terms (norm num.now den.now) }
 {
-    // the degree tells that it is a polynomial
+    // the degree says that it is a polynomial
     let _ = num.degree();
     let power = den.order();
     let above = num.whole(power);

@@ -14,7 +14,7 @@ use field_core::{NoMemory, Number, Ratio, Whole, Wide};
 use std::alloc::Global;
 use std::marker::Model;
 
-/// The quotient of two polynomials, the second not 0.
+/// Returns the quotient of two polynomials, the second not 0.
 fn quotient(above: &EpsPoly, below: &EpsPoly) -> EpsQuotient
     requires { IsNonZero below.now }
     ensures { quotient_parts result ≡ norm above.now below.now }
@@ -25,7 +25,7 @@ fn quotient(above: &EpsPoly, below: &EpsPoly) -> EpsQuotient
     }
 }
 
-/// So many rows of so many zeros over 1.
+/// Rows of zeros over 1: this number of rows, of this length.
 fn zero_rows(alloc: Global, count: usize) -> Result<Vec<Row>, NoMemory>
     ensures { IfOk result (λ rows. rows.items ≡ replicate count (zero_row count)) }
 {
@@ -36,7 +36,7 @@ fn zero_rows(alloc: Global, count: usize) -> Result<Vec<Row>, NoMemory>
     Ok(rows)
 }
 
-/// Takes the numbers of as many rows of the same length.
+/// Takes the numbers of the same number of rows of the same length.
 fn copy_rows(rows: &mut [Row], other: &[Row], count: usize)
     requires length { length rows.old ≡ length other.now }
     requires rows { All (λ r. length r.numerators ≡ count) rows.old }
@@ -74,7 +74,7 @@ impl RowGraph {
     ghost use Rattle.row_removal.specs.StoredRow.{numerator_at};
     ghost use Rattle.row_removal.specs.StoredRows.{rows_size, rows_graph, row_at};
 
-    /// The number of hypotheses, those removed among them.
+    /// Returns the number of hypotheses, those removed among them.
     pub fn size(&self) -> usize
         ensures { result ≡ rows_size self.now }
     {
@@ -97,7 +97,7 @@ impl RowGraph {
         !self.live[k] || k == j
     }
 
-    /// The numerator of the weight of `k`.
+    /// Returns the numerator of the weight of `k`.
     pub fn weight_numerator(&self, k: usize) -> &EpsPoly
         requires proper { AreProperRows self.now }
         requires k { k < rows_size self.now }
@@ -106,14 +106,14 @@ impl RowGraph {
         self.weights.numerator(k)
     }
 
-    /// The denominator of the weights.
+    /// Returns the denominator of the weights.
     pub fn weight_denominator(&self) -> &EpsPoly
         ensures { result.now ≡ self.now.weights.denominator }
     {
         self.weights.denominator()
     }
 
-    /// The numerator of the edge from `l` to `k`.
+    /// Returns the numerator of the edge from `l` to `k`.
     pub fn numerator(&self, l: usize, k: usize) -> &EpsPoly
         requires proper { AreProperRows self.now }
         requires l { l < rows_size self.now }
@@ -123,7 +123,7 @@ impl RowGraph {
         self.edges[l].numerator(k)
     }
 
-    /// The denominator of the row of edges from `l`.
+    /// Returns the denominator of the row of edges from `l`.
     pub fn denominator(&self, l: usize) -> &EpsPoly
         requires proper { AreProperRows self.now }
         requires l { l < rows_size self.now }
@@ -132,7 +132,7 @@ impl RowGraph {
         self.edges[l].denominator()
     }
 
-    /// The denominator that the row of the last removed hypothesis had, or 1.
+    /// Returns the denominator that the row of the last removed hypothesis had, or 1.
     pub fn last(&self) -> &EpsPoly
         ensures { result.now ≡ self.now.last }
     {
@@ -146,7 +146,7 @@ impl RowGraph {
     ghost use Rattle.row_removal.specs.Proper.{AreProperRows, HasRoom};
     ghost use Rattle.row_removal.specs.StoredRows.{rows_size, zero_rows};
 
-    /// So many hypotheses, all in, with no weights and no edges.
+    /// Hypotheses, all in, without weights and edges.
     pub fn zeros(alloc: Global, count: usize) -> Result<RowGraph, NoMemory>
         ensures { IfOk result (λ g. g ≡ zero_rows count) }
     {
@@ -186,7 +186,7 @@ impl RowGraph {
     ghost use Rattle.row_removal.specs.Proper.{AreProperRows};
     ghost use Rattle.row_removal.specs.StoredRows.{rows_size, rows_graph};
 
-    /// The weight of `k`.
+    /// Returns the weight of `k`.
     pub fn weight(&self, k: usize) -> EpsQuotient
         requires proper { AreProperRows self.now }
         requires k { k < rows_size self.now }
@@ -195,7 +195,7 @@ impl RowGraph {
         quotient(self.weight_numerator(k), self.weight_denominator())
     }
 
-    /// The limit of the weight of `k`, which is from 0 to 1.
+    /// Returns the limit of the weight of `k`, which is from 0 to 1.
     pub fn weight_limit(&self, k: usize) -> Ratio
         requires proper { AreProperRows self.now }
         requires k { k < rows_size self.now }
@@ -205,7 +205,7 @@ impl RowGraph {
         limit(self.weight_numerator(k), self.weight_denominator())
     }
 
-    /// The edge from `l` to `k`, 0 where they are equal.
+    /// Returns the edge from `l` to `k`, 0 where they are equal.
     pub fn edge(&self, l: usize, k: usize) -> EpsQuotient
         requires proper { AreProperRows self.now }
         requires l { l < rows_size self.now }

@@ -7,7 +7,7 @@
 //!   (`sound`, `complete`); `weight_limit`.
 //! - `decide`, for each of the three priorities: `value` (the steps are the order of the priority, each with its
 //!   intersection weight, and the others are kept with theirs), `closed` (the steps are exactly what the closed test
-//!   rejects), `fault` and `defined` (unless memory runs out, it is too wide exactly where the written run is
+//!   rejects), `fault` and `defined` (or nothing when out of memory, it is too wide exactly where the written run is
 //!   undefined, with its step and place).
 //! - Laws in `src/laws.rt`: whatever calls are made on a trial, its rejections are a legal order, and the closed test
 //!   rejects each; once none is legal, they are all that it rejects. A case has at most one decision for each
