@@ -10,7 +10,7 @@ from typing import Dict, Iterator, List, Optional, Tuple
 FOLDER = os.path.join(os.path.dirname(os.path.abspath(__file__)), "..", "crates", "acceptance", "data")
 
 # The lines that say more of a row, and have bytes below or none.
-_OTHERS = ("kept", "keeps", "keeper", "leaves", "devices")
+_OTHERS = ("kept", "keeps", "keeper", "leaves", "devices", "room")
 
 
 @dataclass
@@ -48,6 +48,7 @@ class Row:
     status: int = -1
     printed: List[bytes] = field(default_factory=list)
     checked: Optional[bytes] = None
+    counts: Optional[Tuple[int, int]] = None
     fronts: Optional[Fronts] = None
 
 
@@ -57,6 +58,14 @@ def words_of(text: str) -> List[str]:
     for number, part in enumerate(text.split('"')):
         words += [part] if number % 2 else part.split()
     return words
+
+
+def counts_of(text: bytes) -> Tuple[int, int]:
+    """Returns the number of lines of a text, and the FNV-1a digest of its bytes, of 64 bits."""
+    digest = 0xCBF29CE484222325
+    for byte in text:
+        digest = ((digest ^ byte) * 0x100000001B3) & 0xFFFFFFFFFFFFFFFF
+    return text.count(b"\n"), digest
 
 
 def matches(text: bytes, pieces: List[bytes]) -> bool:
@@ -142,6 +151,9 @@ def _put(row: Row, block: Block) -> None:
         row.status, row.printed = int(block.rest), block.pieces
     elif block.word == "checked":
         row.checked = block.whole()
+    elif block.word == "counts":
+        lines, digest = block.rest.split()
+        row.counts = int(lines), int(digest, 16)
     elif block.word == "fronts":
         row.fronts = _fronts_of(block)
     elif block.word not in _OTHERS:

@@ -35,6 +35,8 @@ class Rows(unittest.TestCase):
                 status, text = welungad.run(row.words, row.case or b"", row.file or b"")
                 self.assertEqual(status, row.status)
                 self.assertTrue(acceptance_rows.matches(text, row.printed), text[:200])
+                if row.counts is not None:
+                    self.assertEqual(acceptance_rows.counts_of(text), row.counts)
                 if row.checked is not None:
                     self.assertEqual(welungad.run(["check", "-"], row.case, text), (0, row.checked))
 
