@@ -36,7 +36,7 @@ pub fn header(alloc: Global, row: &ByteRecord) -> Result<List<Text>, CsvFault>
     Ok(names(alloc, row)?)
 }
 
-/// Returns copies the cells of a record after the first three.
+/// Copies the cells of a record after the first three.
 fn names(alloc: Global, row: &ByteRecord) -> Result<List<Text>, NoMemory>
     requires { 3 ≤ length (cells row.now) }
     ensures { IfOk result (λ names. names ≡ drop 3 (cells row.now)) }
@@ -66,8 +66,8 @@ pub fn rows(
 ) -> Result<Table, CsvFault>
     requires columns { 3 ≤ columns }
     requires stands { IsOpen records.old }
-    ensures { IsAnswer result (mapped (rows_table (keeps (length names.now))) (rows_of columns 2 names.now (cells_in
-        (records_left records.old)))) }
+    ensures { IsAnswer result (mapped (rows_table (keeps (length names.now)))
+        (rows_of columns 2 names.now (cells_in (records_left records.old)))) }
 {
     let keep = names.len() <= 64;
     let mut table = Table::new(alloc);
