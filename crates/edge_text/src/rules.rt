@@ -1,8 +1,9 @@
-//! What the words of lines say.
+//! What the words of lines denote.
 ghost use Rattle.std.specs.Prelude.{◌≡◌, Some, map, IfOk};
 ghost use Rattle.text_lines.specs.Words.{words_of, behind_word};
 ghost use Rattle.edge_text.specs.View.{Gives};
-ghost use Rattle.edge_text.specs.WordReading.{numeral, number, numbers, given, entry, edge, whole, count, shares, first_step, step_of, arrival};
+ghost use Rattle.edge_text.specs.WordReading.{numeral, number, numbers, given, entry, edge, whole, count};
+ghost use Rattle.edge_text.specs.WordReading.{shares, first_step, step_of, arrival};
 
 use crate::ends::Ends;
 use crate::so_far::SoFar;
@@ -24,7 +25,7 @@ fn numeral(line: &Line, word: &[u8]) -> Result<Fraction, TextFault>
     }
 }
 
-/// Returns the value of the one numeral that stands behind the first word of a line.
+/// Returns the value of the one numeral after the first word of a line.
 pub fn number(line: &Line, words: Words) -> Result<Fraction, TextFault>
     ensures { Gives line.now.number (number (words_of words.entry)) result }
 {
@@ -88,7 +89,7 @@ fn entry(line: &Line, expression: &[u8]) -> Result<Entry, TextFault>
     }
 }
 
-/// Returns the edge that the words behind the first word of a line say.
+/// Returns the edge that the words after the first word of a line denote.
 pub fn edge(line: &Line, words: Words, draft: &SoFar) -> Result<DraftEdge, TextFault>
     requires { words ≡ behind_word line.now.text.now }
     ensures { Gives line.now.number (edge draft.now.names line.now.text.now (words_of words.entry)) result }
@@ -114,7 +115,7 @@ fn whole(line: &Line, word: &[u8]) -> Result<u64, TextFault>
     }
 }
 
-/// Returns the one whole number behind the first word of a line.
+/// Returns the one whole number after the first word of a line.
 pub fn count(line: &Line, words: Words) -> Result<u64, TextFault>
     ensures { Gives line.now.number (count (words_of words.entry)) result }
 {
@@ -124,7 +125,7 @@ pub fn count(line: &Line, words: Words) -> Result<u64, TextFault>
     whole(line, digits)
 }
 
-/// Returns the fractions behind this name.
+/// Returns the fractions after this name.
 pub fn shares(
     alloc: Global,
     line: &Line,
@@ -156,7 +157,7 @@ pub fn step_of(
     Ok(SpendStep { from, levels })
 }
 
-/// Returns the first step of a table, behind this name.
+/// Returns the first step of a table, after this name.
 pub fn first_step(
     alloc: Global,
     line: &Line,
