@@ -2,11 +2,12 @@
 ghost use Rattle.std.specs.Prelude.{◌≡◌, ◌≤◌, ◌⊎◌, OnOk, length};
 ghost use Rattle.std.specs.Io.KnownBytes.{IsAtEnd};
 ghost use Rattle.graph_io.specs.Causes.{Rose};
-ghost use Rattle.answers.specs.Ways.{EndsIn, over_values, over_source};
+ghost use Rattle.answers.specs.Ways.{EndsIn, over_source};
 ghost use Rattle.case_model.specs.CaseView.{content};
 ghost use Rattle.command_words.specs.Asked.{asked, written};
 ghost use Rattle.graph_cli.specs.Accepted.{IsOfKind, IsTakenWithin};
 ghost use Rattle.graph_cli.specs.Commands.{needs_of, on_case, case_call, check_needs, check_call, IsCheckable, call_of, TakesCase, TakesProof, CallFault};
+ghost use Rattle.graph_cli.specs.Troubles.{Meets};
 
 mod bounds;
 mod canon;
@@ -16,7 +17,6 @@ mod evidence_run;
 mod help;
 mod named_graph;
 mod sample;
-mod set_faults;
 mod simes;
 mod stages;
 mod test;
@@ -36,6 +36,7 @@ use crate::commands::test::test_answer;
 use crate::commands::weights::weights_answer;
 use crate::kind::InputKind;
 use crate::needs::Needs;
+use crate::trouble::{Trouble, told};
 use answers::{Answer, Stop, take_whole};
 use case_model::Case;
 use command_words::{CaseForm, CaseTask, Command};
@@ -60,10 +61,10 @@ fn needs_of(task: CaseTask) -> Needs
 
 /// What a task answers to a case that it can take.
 #[tactic(auto, unfolding(crate::specs::Commands::needs_of, crate::specs::Commands::on_case))]
-fn case_answer(alloc: Global, task: CaseTask, case: &Case) -> Result<Answer, Stop>
+fn case_answer(alloc: Global, task: CaseTask, case: &Case) -> Result<Answer, Trouble>
     requires kind { IsOfKind (needs_of task).kind (content case.now).inputs }
     requires size { length (content case.now).names ≤ (needs_of task).most }
-    ensures { EndsIn (over_values (on_case task (content case.now))) result }
+    ensures { Meets (on_case task (content case.now)) result }
 {
     match task {
         CaseTask::Test(priority) => test_answer(alloc, case, priority),
@@ -90,7 +91,7 @@ fn case_call<S: Source>(
     ensures taken { IsTakenWithin S.left S.calls source.old source.new }
 {
     let case = accepted_case(alloc, form, needs_of(task), source)?;
-    case_answer(alloc, task, &case)
+    told(alloc, &case, case_answer(alloc, task, &case))
 }
 
 /// What `check` needs of its case.
@@ -121,7 +122,8 @@ fn check_call<S: Source, T: Source>(
 {
     let accepted = accepted_case(alloc, form, check_needs(), case)?;
     let bytes = take_whole(alloc, b"proof ", proof)?;
-    check_answer(alloc, &accepted, bytes.as_slice())
+    let answer = check_answer(alloc, &accepted, bytes.as_slice());
+    told(alloc, &accepted, answer)
 }
 
 /// What a command answers to a case and a proof. It takes from a source only what it needs.

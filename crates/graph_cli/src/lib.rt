@@ -30,6 +30,7 @@ mod kind;
 pub mod laws;
 mod needs;
 mod top;
+mod trouble;
 
 pub use accepted::accepted_case;
 pub use kind::InputKind;
