@@ -53,7 +53,7 @@ fn draft(alloc: Global, bytes: &[u8], alpha: Fraction) -> Result<Draft, CsvFault
     Ok(one_component(alloc, alpha, names, table)?)
 }
 
-/// The draft of a table.
+/// Returns the draft of a table.
 fn one_component(
     alloc: Global,
     alpha: Fraction,
@@ -78,7 +78,7 @@ fn one_component(
     })
 }
 
-/// The fault of CSV whose draft gives no case.
+/// Returns the fault of CSV whose draft gives no case.
 fn csv_fault(refused: Refused) -> CsvFault
     ensures { ((refused.fault ≡ OutOfMemory) × (result ≡ faults.NoMemory))
         ⊎ ((refused.fault ≢ OutOfMemory) × (result ≡ faults.Case refused)) }

@@ -22,8 +22,8 @@ pub fn texts_say_or_fail()
     ensures apart { TextsDontSayAndFail }
 {}
 
-/// The first fault of a text is exactly where no document goes on: at the first line with which none does, or else
-/// behind the last line, where the lines are no document yet.
+/// The first fault of a text is exactly where no document continues: at the first line with which none does, or else
+/// after the last line, where the lines are not a document yet.
 pub fn first_faults_end_documents()
     ensures there { FirstFaultsEndDocuments }
     ensures line { WhereNoneGoesOnIsFault }

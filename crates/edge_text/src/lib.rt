@@ -2,8 +2,8 @@
 //!
 //! Proved:
 //! - `read_text`: `case` (the text is a document by the grammar, `IsText`, which says a draft without fault, and the
-//!   case has its content), `fault` (the first line that can't stand, with its number and kind, `IsFirstFault`; or
-//!   else the first fault of the draft, with its names).
+//!   case has its content), `fault` (the first line that isn't allowed, with its number and kind, `IsFirstFault`; or
+//!   else the first error in the draft, with its names).
 //! - `write_text`: the canonical text of a case (`canonical`, `says`).
 //! - Laws in `src/laws.rt`:
 //!   - `documents_are_read_by_places`: the reader goes from place to place, one line at a time. The lines that it takes
@@ -11,11 +11,11 @@
 //!     (`end`).
 //!   - A text denotes at most one draft and has at most one first fault. It has one of the two, never both.
 //!   - The first fault is exactly where no document continues.
-//!   - `canonical_texts_read_back`: the canonical text reads as the same case (`back`), tells cases apart (`apart`), and is
+//!   - `canonical_texts_read_back`: the canonical text reads as the same case (`back`), distinguishes cases (`apart`), and is
 //!     the canonical text of what is read (`again`).
 //!   - `expressions_are_decided`: an expression has one entry or one fault, never both.
 //!
-//! Tables of texts, with their lines by hand, stand in tests_forms.
+//! Tables of texts, with their lines by hand, are in tests_forms.
 //!
 //! The whole form is read and written: one graph or several with their shares, stages with what each hypothesis
 //! spends, by a list or a table, and p-values that arrived. What is written is read back as the same case, for every

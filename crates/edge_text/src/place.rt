@@ -26,7 +26,7 @@ use text_lines::{Line, Words};
 pub enum Place {
     /// The level.
     Alpha,
-    /// The names, behind this level.
+    /// The names, after this level.
     Names(Fraction),
     /// The p-values, or else the first block.
     Values(SoFar),

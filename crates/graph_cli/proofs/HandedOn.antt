@@ -15,13 +15,13 @@ use Rattle.graph_cli.specs.declared.trouble.Trouble.TheVariants.{NoMemory}
 same_ok : {A F : Type 0} (x y : A) → Path (Result A F) (Ok x) (Ok y) → x ≡ y
 same_ok x y e = cc
 
--- what a result gave whose errors were told otherwise
+-- what a result gave whose errors were reported otherwise
 pub kept_ok : (F : Type 0) {A E : Type 0} (r : Result A E) (P : A → Type 0) (Q : E → Type 0) (x : A) → IfOk r P
     → MatchResult r (λ y. Path (Result A F) (Ok x) (Ok y)) Q → true ≡ is_ok r → P x
 kept_ok F (Ok y) P Q x h m v = subst P (sym (same_ok x y m)) h
 kept_ok F (Err e) P Q x h m v = absurd (true≢false v)
 
--- what held where a result was given whose errors were told otherwise
+-- what held where a result was given whose errors were reported otherwise
 pub kept_on : {A E : Type 0} (r : Result A E) (P : Type 0) → OnOk r P → true ≡ is_ok r → P
 kept_on (Ok x) P h v = h
 kept_on (Err e) P h v = absurd (true≢false v)

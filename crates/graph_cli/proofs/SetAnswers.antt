@@ -73,7 +73,7 @@ bounds_decided c = then_decided (bounded c) _ (record {
   not_both = λ text r h k. none_wide c r h.0 k;
 }) (λ text. only_decided _)
 
--- the bounds by a table that tells what the closed test rejects are those of the closed test
+-- the bounds by a table of what the closed test rejects are those of the closed test
 bounds_of_table : (c : Content) (inputs : Inputs) (table : ℕ → Bool) (bound : ℕ → ℕ)
     → ForSingle inputs (λ ps. AnswersFor (length c.names) (IsClosedRejected (entangled c) (number_at ps) (number_of c.alpha)) table)
     → ((n : ℕ) → n < 2 ^ length c.names → IsBound (length c.names) (SaysYes (length c.names) table) (members n) (bound n))

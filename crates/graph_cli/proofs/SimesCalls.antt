@@ -72,7 +72,7 @@ pub simes_decided : (c : Content) → IsDecided (simes_stage c)
 unfolding simes_stage
 simes_decided c = then_decided _ _ (runs_decided c) (λ x. then_decided _ _ (tested_decided x) (λ text. only_decided _))
 
--- ---- the bounds by a table that tells what the closed test of Simes' test rejects are its own
+-- ---- the bounds by a table of what the closed test of Simes' test rejects are its own
 
 bounds_for : (c : Content) (table : ℕ → Bool) (bound : ℕ → ℕ)
     → ((n : ℕ) → n < 2 ^ length c.names → IsBound (length c.names) (SaysYes (length c.names) table) (members n) (bound n))

@@ -43,7 +43,7 @@ pub record IsTakenWithin {S : Type 0} (left : S → Option (List ℕ)) (calls : 
 abbrev pub IsNoJson : List ℕ → Type 0
 IsNoJson bytes = (value : Data) → ¬ IsJson bytes value
 
--- the draft that bytes say in a form, or the first place where they can't stand
+-- the draft that bytes say in a form, or the first place where they isn't allowed
 abbrev pub grammar : Written → List ℕ → Stage Refusal Draft
 grammar text bytes = record {
   Gives = λ d. IsText bytes d;

@@ -76,7 +76,7 @@ TakesCase (check form file) = Unit {0}
 TakesCase (sample size seed) = ⊥
 TakesCase help = ⊥
 
--- a command reads a proof, behind a case that it can take
+-- a command reads a proof, after a case that it can take
 unfoldable pub TakesProof : Asked → Option (List ℕ) → Type 0
 TakesProof (task_on_case form task) case = ⊥
 TakesProof (catalogue graph) case = ⊥

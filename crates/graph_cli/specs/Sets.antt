@@ -1,4 +1,4 @@
--- How it is told that the run of a set of a case is undefined.
+-- How it is reported that the run of a set of a case is undefined.
 use Rattle.std.specs.Prelude.{◌≡◌, ℕ}
 use Rattle.field_core.specs.declared.place.WideAt.{WideAt}
 use Rattle.graph_cli.specs.declared.trouble.Trouble.{Trouble}

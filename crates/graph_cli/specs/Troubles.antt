@@ -66,7 +66,7 @@ line_of names (Wide when wide) = wide_refusal names when wide
 line_of names (Proof n kind) = proof_refusal n kind
 line_of names NoMemory = kind_refusal
 
--- a call stops at a trouble: by its line, unless memory runs out
+-- a call stops at a trouble: by its line, or nothing when out of memory
 abbrev pub StopsAt : List (List ℕ) → Trouble → Stop → Type 0
 StopsAt names t stop = (stop ≡ stops.NoMemory) ⊎ ((t ≢ NoMemory) × (stop ≡ stops.Refused (line_of names t)))
 

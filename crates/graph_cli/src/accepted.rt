@@ -23,7 +23,7 @@ use graph_io::Source;
 use refusals::{case_refusal, cell_refusal, json_refusal, line_refusal};
 use std::alloc::Global;
 
-/// The case that a text says.
+/// Returns the case that a text says.
 fn text_case(alloc: Global, bytes: &[u8]) -> Result<Case, Stop>
     ensures { EndsIn (over_values (seen_by content (case_in text bytes.now))) result }
 {
@@ -39,7 +39,7 @@ fn text_case(alloc: Global, bytes: &[u8]) -> Result<Case, Stop>
     }
 }
 
-/// The case that CSV says at a level.
+/// Returns the case that CSV says at a level.
 fn csv_case(alloc: Global, alpha: Fraction, bytes: &[u8]) -> Result<Case, Stop>
     ensures { EndsIn (over_values (seen_by content (case_in (csv (level_of alpha)) bytes.now))) result }
 {
@@ -57,7 +57,7 @@ fn csv_case(alloc: Global, alpha: Fraction, bytes: &[u8]) -> Result<Case, Stop>
     }
 }
 
-/// The case that JSON says.
+/// Returns the case that JSON says.
 fn json_case(alloc: Global, bytes: &[u8]) -> Result<Case, Stop>
     ensures { EndsIn (over_values (seen_by content (case_in json bytes.now))) result }
 {
@@ -67,7 +67,7 @@ fn json_case(alloc: Global, bytes: &[u8]) -> Result<Case, Stop>
     }
 }
 
-/// The case that bytes say in a form.
+/// Returns the case that bytes say in a form.
 fn read_case(alloc: Global, form: &CaseForm, bytes: &[u8]) -> Result<Case, Stop>
     ensures { EndsIn (over_values (seen_by content (case_in (written form.now) bytes.now))) result }
 {
@@ -91,8 +91,8 @@ fn suitable(case: &Case, needs: Needs) -> Result<(), Trouble>
     Ok(())
 }
 
-/// The case that a source says in a form, where a command with these needs can take it. Of a source that isn't read to its
-/// end, at most one byte more than it may have is taken.
+/// Returns the case that a source says in a form, where a command with these needs can take it. Of a source that isn't
+/// read to its end, at most one byte more than it may have is taken.
 pub fn accepted_case<S: Source>(
     alloc: Global,
     form: &CaseForm,

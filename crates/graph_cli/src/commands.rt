@@ -6,7 +6,18 @@ ghost use Rattle.answers.specs.Ways.{EndsIn, over_source};
 ghost use Rattle.case_model.specs.CaseView.{content};
 ghost use Rattle.command_words.specs.Asked.{asked, written};
 ghost use Rattle.graph_cli.specs.Accepted.{IsOfKind, IsTakenWithin};
-ghost use Rattle.graph_cli.specs.Commands.{needs_of, on_case, case_call, check_needs, check_call, IsCheckable, call_of, TakesCase, TakesProof, CallFault};
+ghost use Rattle.graph_cli.specs.Commands.{
+  needs_of,
+  on_case,
+  case_call,
+  check_needs,
+  check_call,
+  IsCheckable,
+  call_of,
+  TakesCase,
+  TakesProof,
+  CallFault,
+};
 ghost use Rattle.graph_cli.specs.Troubles.{Meets};
 
 mod bounds;
@@ -43,7 +54,7 @@ use command_words::{CaseForm, CaseTask, Command};
 use graph_io::Source;
 use std::alloc::Global;
 
-/// What a task needs of its case.
+/// Returns what a task needs of its case.
 #[tactic(auto, unfolding(crate::specs::Commands::needs_of))]
 fn needs_of(task: CaseTask) -> Needs
     ensures { result ≡ needs_of task }
@@ -59,7 +70,7 @@ fn needs_of(task: CaseTask) -> Needs
     }
 }
 
-/// What a task answers to a case that it can take.
+/// Returns what a task answers to a case that it can take.
 #[tactic(auto, unfolding(crate::specs::Commands::needs_of, crate::specs::Commands::on_case))]
 fn case_answer(alloc: Global, task: CaseTask, case: &Case) -> Result<Answer, Trouble>
     requires kind { IsOfKind (needs_of task).kind (content case.now).inputs }
@@ -77,7 +88,7 @@ fn case_answer(alloc: Global, task: CaseTask, case: &Case) -> Result<Answer, Tro
     }
 }
 
-/// A task on a case alone.
+/// Returns a task on a case alone.
 #[tactic(auto, unfolding(crate::specs::Commands::case_call))]
 fn case_call<S: Source>(
     alloc: Global,
@@ -94,7 +105,7 @@ fn case_call<S: Source>(
     told(alloc, &case, case_answer(alloc, task, &case))
 }
 
-/// What `check` needs of its case.
+/// Returns what `check` needs of its case.
 #[tactic(auto, unfolding(crate::specs::Commands::check_needs))]
 fn check_needs() -> Needs
     ensures { result ≡ check_needs }
@@ -102,7 +113,7 @@ fn check_needs() -> Needs
     Needs::new(InputKind::Single, 64)
 }
 
-/// What `check` answers to a case and a proof. It takes from the proof only behind a case that it can take.
+/// Returns what `check` answers to a case and a proof. It takes from the proof only after a case that it can take.
 #[tactic(auto, using(crate::proofs::Taken::untouched), unfolding(crate::specs::Commands::check_call, crate::specs::Commands::check_needs))]
 fn check_call<S: Source, T: Source>(
     alloc: Global,
@@ -126,7 +137,7 @@ fn check_call<S: Source, T: Source>(
     told(alloc, &accepted, answer)
 }
 
-/// What a command answers to a case and a proof. It takes from a source only what it needs.
+/// Returns what a command answers to a case and a proof. It takes from a source only what it needs.
 #[tactic(auto, using(crate::proofs::Taken::untouched), unfolding(crate::specs::Commands::call_of, crate::specs::Commands::TakesCase, crate::specs::Commands::TakesProof))]
 pub fn call<S: Source, T: Source>(
     alloc: Global,

@@ -30,7 +30,7 @@ pub enum Run {
 pub enum Trouble {
     /// The p-values aren't of the kind that it needs, or no document of the form can hold them.
     Kind,
-    /// There are so many hypotheses, more than it takes.
+    /// There are this number of hypotheses, more than it takes.
     Closure(u64),
     /// The first operation that is undefined, and when it is written.
     Wide(When, WideAt),

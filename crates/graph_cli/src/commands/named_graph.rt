@@ -15,7 +15,7 @@ use command_words::SizedGraph;
 use edge_text::write_text;
 use std::alloc::Global;
 
-/// How many hypotheses a graph has; 2^64 - 1 where they are more.
+/// Returns how many hypotheses a graph has; 2^64 - 1 where they are more.
 fn told_size(graph: SizedGraph) -> u64
     ensures { result ≡ told_size graph }
 {
@@ -25,7 +25,7 @@ fn told_size(graph: SizedGraph) -> u64
     }
 }
 
-/// The case of a named graph, at the level 1/20 and without p-values.
+/// Returns the case of a named graph, at the level 1/20 and without p-values.
 #[tactic(auto, unfolding(crate::specs::Graphs::named_case))]
 fn named_case(alloc: Global, graph: SizedGraph) -> Result<Case, CatalogueFault>
     ensures case { IfOk result (λ c. named_case graph ≡ Ok (content c)) }
