@@ -126,7 +126,6 @@ OTHERS = {
     "NoMemory": "NoMemory",
     "AllocError": "AllocError",
     "Refused": "Refused { names: field_core::List::new(alloc), fault: crate::CaseFault::NoMemory }",
-    "StudyStop": "crate::StudyStop::Stopped(answers::Stop::NoMemory)",
 }
 
 
