@@ -15,10 +15,11 @@ ghost use Rattle.adjusted_p.specs.RatioRuns.{IsGreater};
 ghost use Rattle.adjusted_p.specs.WrittenRun.{IsWideAdjusting, IsAdjustFault};
 ghost use Rattle.adjusted_p.specs.Adjusting.{IsAdjustingRun};
 
+use crate::AdjustFault;
 use case_model::Case;
 use field_core::{List, NoMemory, Number};
 use fraction::Fraction;
-use sequential::{RunFault, Trial};
+use sequential::Trial;
 use std::alloc::Global;
 
 /// The adjusted value of a hypothesis: the least level from 0 to 1 at which the closed test rejects it, which is reached;
@@ -58,7 +59,7 @@ fn none_reached(alloc: Global, count: usize) -> Result<List<Adjusted>, NoMemory>
 }
 
 /// Rejects by the least ratio at the level 1, one hypothesis after another, and gives the values.
-fn run(alloc: Global, current: &mut Trial) -> Result<List<Adjusted>, RunFault>
+fn run(alloc: Global, current: &mut Trial) -> Result<List<Adjusted>, AdjustFault>
     requires { (trial current.old).rejected ≡ [] }
     ensures run { IfOk result (λ values. (c : Content) → IsTrialOf c (trial current.old) → c.alpha ≡ one_ratio → IsAdjustingRun c (trial current.new) values) }
     ensures fault { IfErr result (λ fault. (c : Content) → IsTrialOf c (trial current.old) → c.alpha ≡ one_ratio → IsDecideFault c ByRatio fault) }
@@ -79,7 +80,7 @@ fn run(alloc: Global, current: &mut Trial) -> Result<List<Adjusted>, RunFault>
                 );
             }
             Ok(None) => return Ok(values),
-            Err(wide) => return Err(RunFault::Wide(step, wide)),
+            Err(wide) => return Err(AdjustFault::Wide(step, wide)),
         }
     }
 }
@@ -90,8 +91,8 @@ fn run(alloc: Global, current: &mut Trial) -> Result<List<Adjusted>, RunFault>
 ///
 /// The run takes the remaining hypothesis with the least ratio of p-value and weight, the first among equals, as long as
 /// the ratio is at most 1; the value is the greater of the ratio and the value before. Unless memory runs out, it is
-/// `RunFault::Wide` exactly where this written run is undefined, with the step, counted from 1; step 0 is the opening.
-pub fn adjust(alloc: Global, case: &Case) -> Result<List<Adjusted>, RunFault>
+/// `AdjustFault::Wide` exactly where this written run is undefined, with the step, counted from 1; step 0 is the opening.
+pub fn adjust(alloc: Global, case: &Case) -> Result<List<Adjusted>, AdjustFault>
     requires { IsSingle (content case.now).inputs }
     ensures values { IfOk result (AreAdjusted (content case.now)) }
     ensures fault { IfErr result (IsAdjustFault (content case.now)) }

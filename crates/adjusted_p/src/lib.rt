@@ -8,6 +8,8 @@
 #![tactic(auto)]
 
 mod adjusted;
+mod fault;
 pub mod laws;
 
 pub use adjusted::{Adjusted, adjust};
+pub use fault::AdjustFault;

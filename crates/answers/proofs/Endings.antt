@@ -61,7 +61,7 @@ module _ (w : Ways Answer) (rose same : Type 0) (old new : Option (List ℕ)) (b
   }
   answered outcome h a may e (inr p) = failed outcome h p.0 p.1 (rw e p.2)
 
-  -- a line of a fault, or that memory ran out, was put
+  -- a line of a fault, or that memory was exhausted, was put
   told : (code : ℕ) → status ≡ code → 6 ≤ code → (code ≡ 7 → ⊥) → code ≤ 9 → same → (code ≡ 6 → w.read × Appends old new read_fault)
       → (code ≡ 8 → w.memory × Appends old new no_memory) → (code ≡ 9 → w.keeper × Appends old new keeper_fault) → Runs w rose same old new before after status
   told code e low seven high clean read memory keeper = record {

@@ -16,7 +16,7 @@ line text = text ++ 10 ∷ []
 unfoldable pub read_fault : List ℕ
 read_fault = line (codes "read fault")
 
--- what is put where memory ran out
+-- what is put where memory was exhausted
 unfoldable pub no_memory : List ℕ
 no_memory = line (codes "no memory")
 
@@ -31,7 +31,7 @@ stop_line stops.ReadFault = read_fault
 stop_line stops.KeeperFault = keeper_fault
 stop_line stops.NoMemory = no_memory
 
--- an input, named by these words, has more bytes than it may have; so many were read
+-- an input, named by these words, has more bytes than it may have; this number was read
 unfoldable pub bytes_refusal : List ℕ → ℕ → Refusal
 bytes_refusal name n = record { cause = Limit; line = line (codes "limit: " ++ name ++ codes "bytes " ++ decimal n) }
 

@@ -47,7 +47,7 @@ pub record IsPutBriefly (w : Ways Answer) (before after : ℕ) : Type 0 where
   pub puts : after ≤ before + (length (text_of outcome) + 1)
 
 -- What a top call does, by its status. `w` has the ways in which the call may end. `rose` says that the sink had a fault in this call, and
--- `same` that its count of faults stayed. `old` and `new` are what the sink held and holds, where it tells that, and `before` and `after` how
+-- `same` that its count of faults stayed. `old` and `new` are what the sink held and holds, where it says that, and `before` and `after` how
 -- many puts were made by then.
 pub record Runs (w : Ways Answer) (rose same : Type 0) (old new : Option (List ℕ)) (before after : ℕ) (status : ℕ) : Type 0 where
   pub done : status ≤ 5 → IsAnswered w old new status

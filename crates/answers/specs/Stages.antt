@@ -22,7 +22,7 @@ and_then {R} {A} {B} s t = record {
   Refuses = λ r. s.Refuses r ⊎ ((x : A) × s.Gives x × (t x).Refuses r);
 }
 
--- a stage whose refusals are told in another way
+-- a stage whose refusals are reported in another way
 abbrev pub told_as : {Q R A : Type 0} → (Q → R) → Stage Q A → Stage R A
 told_as {Q} tell s = record { Gives = s.Gives; Refuses = λ r. (q : Q) × s.Refuses q × (r ≡ tell q) }
 
@@ -30,7 +30,7 @@ told_as {Q} tell s = record { Gives = s.Gives; Refuses = λ r. (q : Q) × s.Refu
 abbrev pub seen_by : {R A B : Type 0} → (A → B) → Stage R B → Stage R A
 seen_by view s = record { Gives = λ x. s.Gives (view x); Refuses = s.Refuses }
 
--- a stage on the bytes that a source had left; on some bytes, where it doesn't tell which
+-- a stage on the bytes that a source had left; on some bytes, if it doesn't expose which
 abbrev pub on_bytes : {R A : Type 0} → Option (List ℕ) → (List ℕ → Stage R A) → Stage R A
 on_bytes (Some bytes) s = s bytes
 on_bytes None s = record { Gives = λ x. (bytes : List ℕ) × (s bytes).Gives x; Refuses = λ r. (bytes : List ℕ) × (s bytes).Refuses r }

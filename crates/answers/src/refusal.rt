@@ -14,7 +14,7 @@ pub struct Refusal {
 impl Refusal {
     ghost use Rattle.answers.specs.Lines.{line};
 
-    /// The refusal with a line of this text, which isn't ended yet.
+    /// Returns the refusal with a line of this text, which isn't ended yet.
     pub fn of_line(cause: Cause, text: List<u8>) -> Result<Refusal, NoMemory>
         ensures { IfOk result (λ refusal. refusal ≡ record { cause = cause; line = line text }) }
     {

@@ -16,7 +16,7 @@ pub enum Status {
 impl Status {
     ghost use Rattle.answers.specs.Codes.{status_code};
 
-    /// Its number as a status of the program.
+    /// Returns its number as a status of the program.
     pub fn code(self) -> u8
         ensures { result ≡ status_code self }
     {

@@ -17,7 +17,7 @@ use std::alloc::Global;
 /// The most bytes that an input may have.
 const MOST_BYTES: u64 = 4_194_304;
 
-/// The refusal of an input of more bytes than it may have, of which so many were read.
+/// Returns the refusal of an input of more bytes than it may have, of which this number was read.
 #[tactic(auto, unfolding(crate::specs::Lines::bytes_refusal))]
 pub(crate) fn bytes_refusal(alloc: Global, name: &[u8], n: u64) -> Result<Refusal, NoMemory>
     ensures { IfOk result (λ refusal. refusal ≡ bytes_refusal name.now n) }

@@ -80,8 +80,8 @@ fn one_component(
 
 /// Returns the fault of CSV whose draft gives no case.
 fn csv_fault(refused: Refused) -> CsvFault
-    ensures { ((refused.fault ≡ OutOfMemory) × (result ≡ faults.NoMemory)) ⊎ ((refused.fault ≢ OutOfMemory)
-        × (result ≡ faults.Case refused)) }
+    ensures { ((refused.fault ≡ OutOfMemory) × (result ≡ faults.NoMemory))
+        ⊎ ((refused.fault ≢ OutOfMemory) × (result ≡ faults.Case refused)) }
 {
     match refused.fault {
         CaseFault::NoMemory => CsvFault::NoMemory,

@@ -66,8 +66,8 @@ pub fn rows(
 ) -> Result<Table, CsvFault>
     requires columns { 3 ≤ columns }
     requires stands { IsOpen records.old }
-    ensures { IsAnswer result (mapped (rows_table (keeps (length names.now))) (rows_of columns 2 names.now (cells_in
-        (records_left records.old)))) }
+    ensures { IsAnswer result (mapped (rows_table (keeps (length names.now)))
+        (rows_of columns 2 names.now (cells_in (records_left records.old)))) }
 {
     let keep = names.len() <= 64;
     let mut table = Table::new(alloc);

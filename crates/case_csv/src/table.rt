@@ -81,8 +81,8 @@ impl Table {
     ) -> Result<(), CsvFault>
         requires columns { 3 ≤ columns }
         requires from { from + 2 < 2 ^ 64 }
-        ensures { IsAnswer (leaving self.new result) (mapped (with_row keep from self.old) (row_of columns
-            (from + 2) name.now (cells row.now))) }
+        ensures { IsAnswer (leaving self.new result)
+            (mapped (with_row keep from self.old) (row_of columns (from + 2) name.now (cells row.now))) }
     {
         let start = first_cells(row, from + 2, name, columns)?;
         take_edges(&mut self.edges, row, from, keep)?;

@@ -85,8 +85,8 @@ fn draft(alloc: Global, value: &Value) -> Result<Draft, JsonFault>
 
 /// Returns the error of JSON whose draft is refused.
 fn json_fault(refused: Refused) -> JsonFault
-    ensures { ((refused.fault ≡ OutOfMemory) × (result ≡ faults.NoMemory)) ⊎ ((refused.fault ≢ OutOfMemory)
-        × (result ≡ faults.Case refused)) }
+    ensures { ((refused.fault ≡ OutOfMemory) × (result ≡ faults.NoMemory))
+        ⊎ ((refused.fault ≢ OutOfMemory) × (result ≡ faults.Case refused)) }
 {
     match refused.fault {
         CaseFault::NoMemory => JsonFault::NoMemory,

@@ -74,7 +74,7 @@ from_place [] at d h = absurd (omega arith)
 from_place (x ∷ xs) zero d h = refl
 from_place (x ∷ xs) (suc k) d h = from_place xs k d (omega arith)
 
--- the word at a place, and the words behind it
+-- the word at a place, and the words after it
 pub from_slice : (words : List (String Global)) (at : ℕ) (d : String Global) (w : List ℕ) → at < length words → d ≡ get_or words at d
     → w ≡ string_bytes d → w ∷ map string_bytes (take (length words - (at + 1)) (drop (at + 1) words)) ≡ drop at (map string_bytes words)
 from_slice words at d w h i e =
@@ -93,7 +93,7 @@ none_left at xs h = grind (arith, common_steps)
 pub no_rest : (words : List (String Global)) (at : ℕ) → length words ≤ at → drop at (map string_bytes words) ≡ []
 no_rest words at h = none_left at (map string_bytes words) (omega (arith, length-map words string_bytes))
 
--- the words behind the first one
+-- the words after the first one
 abbrev pub rest_of : List (String Global) → List (List ℕ)
 rest_of [] = []
 rest_of (x ∷ xs) = map string_bytes xs

@@ -1,4 +1,4 @@
--- Names, and what stands behind them.
+-- Names, and what stands after them.
 use Rattle.std.proofs.Common.{Bool, true, false, ◌==◌, if◌then◌else◌, ◌≡◌, ◌≢◌, ◌<◌, ℕ, zero, suc, List, [], ◌∷◌, ◌++◌}
 use Rattle.std.proofs.Common.{length, take, drop, get_or, refl, ap, arith, subst}
 use Rattle.command_words.specs.WordParts.{IsName}

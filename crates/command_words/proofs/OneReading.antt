@@ -44,7 +44,7 @@ one_choice verb c d text e h k =
 
 -- ---- pieces
 
--- two pieces give the same and are equally wide, and the same words are behind them
+-- two pieces give the same and are equally wide, and the same words are after them
 record Same (at : ℕ) (g : GivenContent) (p q : Piece) (xs ys : List (List ℕ)) : Type 0 where
   now : with_piece at g p ≡ with_piece at g q
   width : length (spelled p) ≡ length (spelled q)
@@ -87,7 +87,7 @@ one_piece verb at g (bare c v) (bare d w) xs ys m n e =
     let same : c ≡ d = one_choice verb c d v (same_operand verb c.argument d.argument m.0.0 n.0.0) m.1 (subst (IsSpelled verb d) (sym text) n.1) in
     record { now = ap (λ x. with_piece at g (bare x v)) same; width = refl; rest = cc }
 
--- a piece that may stand doesn't begin where none may
+-- a piece that may be doesn't begin where none may
 no_front : (verb : Verb) (g : GivenContent) (p : Piece) (xs : List (List ℕ)) (n : ℕ) → MayStand verb g p → IsBadFront verb g (spelled p ++ xs) n → ⊥
 no_front verb g (joined c v) xs n m (inl f) = f.1.joins c v refl m
 no_front verb g (joined c v) xs n m (inr f) = no_equals (argument_name f.1.argument) (argument_name c.argument) v (argument_is_name f.1.argument)
@@ -107,7 +107,7 @@ one_front verb g (w ∷ ws) n k (inl h) (inr l) = absurd (h.1.opens l.1.argument
 one_front verb g (w ∷ ws) n k (inr h) (inl l) = absurd (l.1.opens h.1.argument h.1.opens h.1.may)
 one_front verb g (w ∷ ws) n k (inr h) (inr l) = h.0 ∙ sym l.0
 
--- no piece that may stand follows
+-- no piece that may be follows
 abbrev IsEnd : Verb → GivenContent → List (List ℕ) → Type 0
 IsEnd verb g rest = (rest ≡ []) ⊎ ((n : ℕ) × IsBadFront verb g rest n)
 
@@ -119,7 +119,7 @@ not_end verb g (joined c v) xs m (inr f) = no_front verb g (joined c v) xs f.0 m
 not_end verb g (apart c v) xs m (inr f) = no_front verb g (apart c v) xs f.0 m f.1
 not_end verb g (bare c w) xs m (inr f) = no_front verb g (bare c w) xs f.0 m f.1
 
--- two walks over pieces, as far as pieces may stand, give the same
+-- two walks over pieces, as far as pieces may be, give the same
 record SameWalk (all other : GivenContent) (r s : List (List ℕ)) (m n : ℕ) : Type 0 where
   given : all ≡ other
   rest : r ≡ s
@@ -230,7 +230,7 @@ one_reader words asked study h k = apart h.0 k.0 h.1.0 k.1.0 (sym h.1.1 ∙ k.1.
     apart : (v w : Verb) (xs ys : List (List ℕ)) → verb_name v ∷ xs ≡ verb_name w ∷ ys → keeps_looks v ≡ false → ¬ (keeps_looks w ≡ true)
     apart v w xs ys e f g = let same : v ≡ w = one_verb v w cc in let b : false ≡ true = sym f ∙ ap keeps_looks same ∙ g in cc
 
--- a command that keeps looks otherwise than asked is none that is asked for
+-- a command that keeps looks otherwise than asked is none that is requested
 pub not_kept : (words : List (List ℕ)) (v w : Verb) (xs ys : List (List ℕ)) (keeping : Bool) → words ≡ verb_name v ∷ xs
     → words ≡ verb_name w ∷ ys → keeps_looks w ≡ keeping → ¬ (keeps_looks v ≡ keeping) → ⊥
 not_kept words v w xs ys keeping h k keeps not = not

@@ -1,4 +1,4 @@
--- Where the option of the file of the looks stands in the words of a study.
+-- Where the option of the file of the looks is in the words of a study.
 use Rattle.std.proofs.Common.{◌≡◌, ◌⊎◌, ◌+◌, inl, inr, refl, sym, ap, ◌∙◌, subst, ℕ, List, [], ◌∷◌, ◌++◌, length, drop}
 use Rattle.std.proofs.Common.{append-nil, append_assoc, length-append, arith}
 use Rattle.std.specs.Prelude.{codes}

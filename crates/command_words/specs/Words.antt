@@ -13,7 +13,7 @@ use Rattle.command_words.specs.declared.verb.Verb.{Verb}
 
 -- ---- pieces
 
--- A piece of the words behind the command: an argument, and how its value is written.
+-- A piece of the words after the command: an argument, and how its value is written.
 pub data Piece : Type 0 where
   -- an option and its value in one word, `--name=text`
   joined : (choice : Chosen) (text : List ℕ) → Piece
@@ -33,15 +33,15 @@ choice_of (joined choice text) = choice
 choice_of (apart choice text) = choice
 choice_of (bare choice text) = choice
 
--- an option may stand behind what was given
+-- an option may be after what was given
 abbrev pub MayOpen : Verb → GivenContent → Argument → Type 0
 MayOpen verb given argument = Contains (options_of verb) argument × (is_given given argument ≡ false)
 
--- a word may stand without a name behind what was given
+-- a word may be without a name after what was given
 abbrev pub MayBeBare : Verb → GivenContent → Argument → List ℕ → Type 0
 MayBeBare verb given argument word = (operand_of verb ≡ Some argument) × (is_given given argument ≡ false) × IsBare word
 
--- a piece may stand behind what was given
+-- a piece may be after what was given
 abbrev pub MayStand : Verb → GivenContent → Piece → Type 0
 MayStand verb given (joined choice text) = MayOpen verb given choice.argument × IsSpelled verb choice text
 MayStand verb given (apart choice text) = MayOpen verb given choice.argument × IsSpelled verb choice text
@@ -51,12 +51,12 @@ MayStand verb given (bare choice text) = MayBeBare verb given choice.argument te
 abbrev pub with_piece : ℕ → GivenContent → Piece → GivenContent
 with_piece at given piece = with_chosen at given (choice_of piece)
 
--- Pieces may stand one behind the other, from a place on; the first `given` is what was given before them, the second also what they give.
+-- Pieces may be one after the other, from a place on; the first `given` is what was given before them, the second also what they give.
 abbrev pub Stand : Verb → ℕ → GivenContent → List Piece → GivenContent → Type 0
 Stand verb at given [] all = all ≡ given
 Stand verb at given (piece ∷ pieces) all = MayStand verb given piece × Stand verb (at + length (spelled piece)) (with_piece at given piece) pieces all
 
--- Words begin with pieces that may stand behind a command, and give this. Behind them is `rest`, from the place `at` on.
+-- Words begin with pieces that may be after a command, and give this. After them is `rest`, from the place `at` on.
 pub record Begin (verb : Verb) (words : List (List ℕ)) (given : GivenContent) (rest : List (List ℕ)) (at : ℕ) : Type 0 where
   pub pieces : List Piece
   pub words_are : words ≡ flat_map spelled pieces ++ rest
@@ -65,7 +65,7 @@ pub record Begin (verb : Verb) (words : List (List ℕ)) (given : GivenContent) 
 
 -- ---- words at which the reading fails
 
--- no piece that may stand begins with this word
+-- no piece that may be begins with this word
 pub record CannotBegin (verb : Verb) (given : GivenContent) (word : List ℕ) : Type 0 where
   pub opens : (argument : Argument) → word ≡ opener (argument_name argument) → ¬ MayOpen verb given argument
   pub joins : (choice : Chosen) (text : List ℕ) → word ≡ joined_word (argument_name choice.argument) text → ¬ MayStand verb given (joined choice text)
@@ -76,7 +76,7 @@ abbrev pub HasNoValue : Verb → Argument → List (List ℕ) → Type 0
 HasNoValue verb argument [] = Unit {0}
 HasNoValue verb argument (text ∷ words) = (value : Value argument) → ¬ Spells verb argument value text
 
--- an option may stand, and its value is missing or unknown
+-- an option may be, and its value is missing or unknown
 pub record LacksValue (verb : Verb) (given : GivenContent) (word : List ℕ) (words : List (List ℕ)) : Type 0 where
   pub argument : Argument
   pub opens : word ≡ opener (argument_name argument)
@@ -88,7 +88,7 @@ abbrev pub IsBadFront : Verb → GivenContent → List (List ℕ) → ℕ → Ty
 IsBadFront verb given [] n = ⊥
 IsBadFront verb given (word ∷ words) n = ((n ≡ 0) × CannotBegin verb given word) ⊎ ((n ≡ 1) × LacksValue verb given word words)
 
--- Words begin with pieces, and what is behind them can't stand.
+-- Words begin with pieces, and what is after them isn't allowed.
 pub record IsBadPiece (verb : Verb) (words : List (List ℕ)) (n : ℕ) : Type 0 where
   pub given : GivenContent
   pub rest : List (List ℕ)
@@ -111,14 +111,14 @@ command_in keeping words = record {
 abbrev pub AsksStudy : List (List ℕ) → Type 0
 AsksStudy words = (more : List (List ℕ)) × (words ≡ codes "study" ∷ more)
 
--- what the pieces behind a command give
+-- what the pieces after a command give
 abbrev pub pieces_in : Verb → List (List ℕ) → Stage ℕ GivenContent
 pieces_in verb words = record {
   Gives = λ given. (at : ℕ) × Begin verb words given [] at;
   Refuses = IsBadPiece verb words;
 }
 
--- what a command asks for with what was given, where nothing is missing; something is after the last of so many words
+-- what a command asks for with what was given, where nothing is missing; something is missing after the last word
 abbrev pub complete : Verb → ℕ → GivenContent → Stage ℕ Asked
 complete verb count given = record {
   Gives = λ asked. asked_of verb given ≡ Some asked;
@@ -152,7 +152,7 @@ asked_in words =
 
 -- ---- one step of the reading
 
--- One piece that may stand begins these words; this is given with it, and so many words it has.
+-- One piece that may be begins these words; this is given with it, and it has this number of words.
 pub record IsStep (verb : Verb) (at : ℕ) (given : GivenContent) (words : List (List ℕ)) (now : GivenContent) (width : ℕ) : Type 0 where
   pub piece : Piece
   pub more : List (List ℕ)

@@ -19,7 +19,7 @@ impl Argument {
     ghost use Rattle.std.specs.Prelude.{◌≡◌, ◌≢◌, IfSome};
     ghost use Rattle.command_words.specs.Table.{argument_name};
 
-    /// The argument of a name.
+    /// Returns the argument of a name.
     #[tactic(auto, unfolding(crate::specs::Table::argument_name))]
     pub(crate) fn named(name: &[u8]) -> Option<Argument>
         ensures named { IfSome result (λ argument. name.now ≡ argument_name argument) }

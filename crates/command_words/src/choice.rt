@@ -28,7 +28,7 @@ pub(crate) enum Choice {
     Store,
 }
 
-/// The priority of a name.
+/// Returns the priority of a name.
 #[tactic(auto, unfolding(crate::specs::Table::priority_name))]
 fn priority_named(name: &[u8]) -> Option<Priority>
     ensures named { IfSome result (λ priority. name.now ≡ priority_name priority) }
@@ -42,7 +42,7 @@ fn priority_named(name: &[u8]) -> Option<Priority>
     }
 }
 
-/// The form of a name, where the command reads its case in it.
+/// Returns the form of a name, where the command reads its case in it.
 fn form_read(verb: Verb, name: &[u8]) -> Option<Form>
     ensures known { IfSome result (λ form. Spells verb arguments.Form form name.now) }
     ensures unknown { result ≡ None → (form : Form) → ¬ Spells verb arguments.Form form name.now }
@@ -51,7 +51,7 @@ fn form_read(verb: Verb, name: &[u8]) -> Option<Form>
     if verb.reads(form) { Some(form) } else { None }
 }
 
-/// The level that a text spells.
+/// Returns the level that a text spells.
 fn level_spelt(text: &[u8]) -> Option<Fraction>
     ensures known { IfSome result (λ alpha. IsLevel text.now (level_of alpha)) }
     ensures unknown { result ≡ None → (level : Level) → ¬ IsLevel text.now level }
@@ -60,7 +60,7 @@ fn level_spelt(text: &[u8]) -> Option<Fraction>
 }
 
 impl Choice {
-    /// The value that a text spells of an argument of a command.
+    /// Returns the value that a text spells of an argument of a command.
     pub(crate) fn read(verb: Verb, argument: Argument, text: &[u8]) -> Option<Choice>
         ensures argument { IfSome result (λ choice. (chosen choice).argument ≡ argument) }
         ensures spelt { IfSome result (λ choice. IsSpelled verb (chosen choice) text.now) }

@@ -42,7 +42,7 @@ pub struct StudyCall {
 impl Command {
     ghost use Rattle.command_words.specs.Asked.{asked, file_of};
 
-    /// The place, from 0, of the word that names the file of a proof.
+    /// Returns the place, from 0, of the word that names the file of a proof.
     #[tactic(auto, unfolding(crate::specs::Asked::file_of))]
     pub fn file(&self) -> Option<usize>
         ensures { result ≡ file_of (asked self.now) }

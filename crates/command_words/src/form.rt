@@ -14,7 +14,7 @@ impl Form {
     ghost use Rattle.std.specs.Prelude.{◌≡◌, ◌≢◌, IfSome};
     ghost use Rattle.command_words.specs.Table.{form_name};
 
-    /// The form of a name.
+    /// Returns the form of a name.
     #[tactic(auto, unfolding(crate::specs::Table::form_name))]
     pub(crate) fn named(name: &[u8]) -> Option<Form>
         ensures named { IfSome result (λ form. name.now ≡ form_name form) }

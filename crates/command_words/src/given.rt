@@ -30,9 +30,24 @@ impl Given {
     ghost use Rattle.std.specs.Option.{option_map};
     ghost use Rattle.command_words.specs.Asked.{asked, study_asked, written};
     ghost use Rattle.command_words.specs.Choices.{chosen};
-    ghost use Rattle.command_words.specs.Given.{given_content, is_given, nothing, with_chosen, written_of, on_case, check_of, catalogue_of, sample_of, study_of, asked_of, alpha_forbidden, second_forbidden, forbidden_word};
+    ghost use Rattle.command_words.specs.Given.{
+      given_content,
+      is_given,
+      nothing,
+      with_chosen,
+      written_of,
+      on_case,
+      check_of,
+      catalogue_of,
+      sample_of,
+      study_of,
+      asked_of,
+      alpha_forbidden,
+      second_forbidden,
+      forbidden_word,
+    };
 
-    /// Nothing given.
+    /// Returns nothing given.
     pub(crate) fn new() -> Given
         ensures { given_content result ≡ nothing }
     {
@@ -68,7 +83,7 @@ impl Given {
         }
     }
 
-    /// The same, and an argument whose first word stands at a place, from 0.
+    /// Returns the same, and an argument whose first word stands at a place, from 0.
     pub(crate) fn with_choice(&self, at: usize, choice: Choice) -> Given
         requires { at + 1 < 2 ^ 64 }
         ensures { given_content result ≡ with_chosen at (given_content self.now) (chosen choice) }
@@ -89,7 +104,7 @@ impl Given {
         given
     }
 
-    /// How the case is written; `None` where its level is missing.
+    /// Returns how the case is written; `None` where its level is missing.
     #[tactic(auto, unfolding(crate::specs::Given::written_of))]
     fn case_form(&self) -> Option<CaseForm>
         ensures { option_map written result ≡ written_of (given_content self.now) }
@@ -101,7 +116,7 @@ impl Given {
         }
     }
 
-    /// A task on the case; `None` where something is missing.
+    /// Returns a task on the case; `None` where something is missing.
     #[tactic(auto, unfolding(crate::specs::Given::on_case))]
     fn on_case(&self, task: CaseTask) -> Option<Command>
         ensures { option_map asked result ≡ on_case (given_content self.now) task }
@@ -110,7 +125,7 @@ impl Given {
         Some(Command::OnCase(form, task))
     }
 
-    /// A named graph; `None` where something is missing.
+    /// Returns a named graph; `None` where something is missing.
     #[tactic(auto, unfolding(crate::specs::Given::catalogue_of))]
     fn catalogue(&self) -> Option<Command>
         ensures { option_map asked result ≡ catalogue_of (given_content self.now) }
@@ -121,7 +136,7 @@ impl Given {
         graph.sized(size, second).map(Command::Catalogue)
     }
 
-    /// A check; `None` where something is missing.
+    /// Returns a check; `None` where something is missing.
     #[tactic(auto, unfolding(crate::specs::Given::check_of))]
     fn check(&self) -> Option<Command>
         ensures { option_map asked result ≡ check_of (given_content self.now) }
@@ -131,7 +146,7 @@ impl Given {
         Some(Command::Check { form, file })
     }
 
-    /// A sample; `None` where something is missing.
+    /// Returns a sample; `None` where something is missing.
     #[tactic(auto, unfolding(crate::specs::Given::sample_of))]
     fn sample(&self) -> Option<Command>
         ensures { option_map asked result ≡ sample_of (given_content self.now) }
@@ -141,7 +156,7 @@ impl Given {
         Some(Command::Sample { size, seed })
     }
 
-    /// What a study is to do; `None` where something is missing.
+    /// Returns what a study is to do; `None` where something is missing.
     #[tactic(auto, unfolding(crate::specs::Given::study_of))]
     pub(crate) fn study(&self) -> Option<StudyCall>
         ensures { option_map study_asked result ≡ study_of (given_content self.now) }
@@ -154,7 +169,7 @@ impl Given {
         })
     }
 
-    /// What a command that keeps no looks asks for with these arguments; `None` where something is missing.
+    /// Returns what a command that keeps no looks asks for with these arguments; `None` where something is missing.
     pub(crate) fn command(&self, verb: Verb) -> Option<Command>
         ensures { option_map asked result ≡ asked_of verb (given_content self.now) }
     {
@@ -176,7 +191,7 @@ impl Given {
         }
     }
 
-    /// The number, from 1, of the word with the name `alpha`, where the form forbids it.
+    /// Returns the number, from 1, of the word with the name `alpha`, where the form forbids it.
     #[tactic(auto, unfolding(crate::specs::Given::alpha_forbidden))]
     fn forbidden_alpha(&self) -> Option<usize>
         ensures { result ≡ alpha_forbidden (given_content self.now) }
@@ -187,7 +202,7 @@ impl Given {
         }
     }
 
-    /// The number, from 1, of the word with the name `second`, where the graph forbids it.
+    /// Returns the number, from 1, of the word with the name `second`, where the graph forbids it.
     #[tactic(auto, unfolding(crate::specs::Given::second_forbidden))]
     fn forbidden_second(&self) -> Option<usize>
         ensures { result ≡ second_forbidden (given_content self.now) }
@@ -200,7 +215,7 @@ impl Given {
         Some(word)
     }
 
-    /// The number, from 1, of the word with the name of an option that the others forbid. No command takes both.
+    /// Returns the number, from 1, of the word with the name of an option that the others forbid. No command takes both.
     #[tactic(auto, unfolding(crate::specs::Given::forbidden_word))]
     pub(crate) fn forbidden(&self) -> Option<usize>
         ensures { result ≡ forbidden_word (given_content self.now) }

@@ -25,7 +25,7 @@ impl GraphName {
     ghost use Rattle.command_words.specs.Graphs.{sized, has_second};
     ghost use Rattle.command_words.specs.Table.{graph_name};
 
-    /// The graph of a name.
+    /// Returns the graph of a name.
     #[tactic(auto, unfolding(crate::specs::Table::graph_name))]
     pub(crate) fn named(name: &[u8]) -> Option<GraphName>
         ensures named { IfSome result (λ graph. name.now ≡ graph_name graph) }
@@ -50,7 +50,7 @@ impl GraphName {
         matches!(self, GraphName::Parallel | GraphName::ImprovedParallel)
     }
 
-    /// The graph with its sizes; `None` where the second one is missing.
+    /// Returns the graph with its sizes; `None` where the second one is missing.
     pub(crate) fn sized(self, size: u64, second: Option<u64>) -> Option<SizedGraph>
         ensures { result ≡ sized self size second }
     {

@@ -1,11 +1,37 @@
 //! Reading the words from left to right.
-ghost use Rattle.std.specs.Prelude.{◌≡◌, ◌↔◌, ◌+◌, ◌<◌, ◌^◌, ◌∷◌, None, IfOk, IfErr, IfSome, IsTrue, map, drop, string_bytes};
+ghost use Rattle.std.specs.Prelude.{
+  ◌≡◌,
+  ◌↔◌,
+  ◌+◌,
+  ◌<◌,
+  ◌^◌,
+  ◌∷◌,
+  None,
+  IfOk,
+  IfErr,
+  IfSome,
+  IsTrue,
+  map,
+  drop,
+  string_bytes,
+};
 ghost use Rattle.command_words.specs.Asked.{asked, study_asked};
 ghost use Rattle.command_words.specs.Choices.{Chosen, chosen};
 ghost use Rattle.command_words.specs.Given.{given_content};
 ghost use Rattle.command_words.specs.Table.{argument_name};
 ghost use Rattle.command_words.specs.WordParts.{IsBare};
-ghost use Rattle.command_words.specs.Words.{bare, MayOpen, MayStand, IsStep, IsBadFront, command_in, pieces_in, asked_in, study_in, AsksStudy};
+ghost use Rattle.command_words.specs.Words.{
+  bare,
+  MayOpen,
+  MayStand,
+  IsStep,
+  IsBadFront,
+  command_in,
+  pieces_in,
+  asked_in,
+  study_in,
+  AsksStudy,
+};
 
 use crate::argument::Argument;
 use crate::choice::Choice;
@@ -14,14 +40,14 @@ use crate::given::Given;
 use crate::verb::Verb;
 use crate::word::{Parts, parts_of};
 
-/// Whether an option may stand behind what was given.
+/// Whether an option may be after what was given.
 fn may_open(verb: Verb, given: &Given, argument: Argument) -> bool
     ensures { IsTrue result ↔ MayOpen verb (given_content given.now) argument }
 {
     verb.takes(argument) && !given.has(argument)
 }
 
-/// The option of a name, where it may stand behind what was given.
+/// Returns the option of a name, where it may be after what was given.
 fn open(verb: Verb, given: &Given, name: &[u8]) -> Option<Argument>
     ensures named { IfSome result (λ argument. name.now ≡ argument_name argument) }
     ensures may { IfSome result (MayOpen verb (given_content given.now)) }
@@ -36,7 +62,7 @@ fn open(verb: Verb, given: &Given, name: &[u8]) -> Option<Argument>
     }
 }
 
-/// What a word without a name gives, where it may stand behind what was given.
+/// Returns what a word without a name gives, where it may be after what was given.
 fn operand(verb: Verb, given: &Given, word: &[u8]) -> Option<Choice>
     requires { IsBare word.now }
     ensures found { IfSome result
@@ -51,8 +77,8 @@ fn operand(verb: Verb, given: &Given, word: &[u8]) -> Option<Choice>
     Choice::read(verb, argument, word)
 }
 
-/// What is given with the piece that begins with `word`, which stands at a place, and how many words it has; or the number,
-/// from 0, of the word at which it fails. `more` are the words behind it.
+/// Returns what is given with the piece that begins with `word`, which stands at a place, and how many words it has; or
+/// the number, from 0, of the word at which it fails. `more` are the words after it.
 fn piece(
     verb: Verb,
     given: &Given,
@@ -95,7 +121,7 @@ fn piece(
     }
 }
 
-/// What is given behind the command; or the number, from 1, of the word at which the reading fails.
+/// Returns what is given after the command; or the number, from 1, of the word at which the reading fails.
 fn pieces(verb: Verb, words: &[String]) -> Result<Given, usize>
     ensures given { IfOk result (λ given.
         (pieces_in verb (drop 1 (map string_bytes words.now))).Gives (given_content given)) }
@@ -115,7 +141,7 @@ fn pieces(verb: Verb, words: &[String]) -> Result<Given, usize>
     Ok(given)
 }
 
-/// The command that stands first, and keeps looks or doesn't.
+/// Returns the command that stands first, and keeps looks or doesn't.
 fn command_word(words: &[String], keeping: bool) -> Result<Verb, usize>
     ensures given { IfOk result (command_in keeping (map string_bytes words.now)).Gives }
     ensures refused { IfErr result (command_in keeping (map string_bytes words.now)).Refuses }
@@ -139,7 +165,7 @@ pub fn asks_study(words: &[String]) -> bool
     command_word(words, true).is_ok()
 }
 
-/// What the words ask a study for; or the number, from 1, of the first word at which the reading fails.
+/// Returns what the words ask a study for; or the number, from 1, of the first word at which the reading fails.
 #[tactic(auto, unfolding(crate::specs::Words::study_in))]
 pub fn read_study(words: &[String]) -> Result<StudyCall, usize>
     ensures given { IfOk result (λ call. (study_in (map string_bytes words.now)).Gives (study_asked call)) }
@@ -153,7 +179,7 @@ pub fn read_study(words: &[String]) -> Result<StudyCall, usize>
     }
 }
 
-/// What the words ask for, but of a study; or the number, from 1, of the first word at which the reading fails.
+/// Returns what the words ask for, but of a study; or the number, from 1, of the first word at which the reading fails.
 #[tactic(auto, unfolding(crate::specs::Words::asked_in))]
 pub fn read_words(words: &[String]) -> Result<Command, usize>
     ensures given { IfOk result (λ command. (asked_in (map string_bytes words.now)).Gives (asked command)) }

@@ -24,7 +24,7 @@ impl Verb {
     ghost use Rattle.std.specs.Prelude.{◌≡◌, ◌≢◌, ◌↔◌, IfSome, IsTrue, Contains};
     ghost use Rattle.command_words.specs.Table.{verb_name, keeps_looks, options_of, operand_of, forms_of};
 
-    /// The command of a name.
+    /// Returns the command of a name.
     #[tactic(auto, unfolding(crate::specs::Table::verb_name))]
     pub(crate) fn named(name: &[u8]) -> Option<Verb>
         ensures named { IfSome result (λ verb. name.now ≡ verb_name verb) }
@@ -58,7 +58,7 @@ impl Verb {
         }
     }
 
-    /// The options that the command takes.
+    /// Returns the options that the command takes.
     #[tactic(auto, unfolding(crate::specs::Table::options_of))]
     fn options(self) -> &'static [Argument]
         ensures { result.now ≡ options_of self }
@@ -79,7 +79,7 @@ impl Verb {
         }
     }
 
-    /// The forms in which the command reads its case.
+    /// Returns the forms in which the command reads its case.
     #[tactic(auto, unfolding(crate::specs::Table::forms_of))]
     fn forms(self) -> &'static [Form]
         ensures { result.now ≡ forms_of self }
@@ -98,7 +98,7 @@ impl Verb {
         }
     }
 
-    /// What a word without a name gives, where the command takes one.
+    /// Returns what a word without a name gives, where the command takes one.
     #[tactic(auto, unfolding(crate::specs::Table::operand_of))]
     pub(crate) fn operand(self) -> Option<Argument>
         ensures { result ≡ operand_of self }

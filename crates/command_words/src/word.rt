@@ -10,7 +10,7 @@ pub(crate) enum Parts<'a> {
     Joined(&'a [u8], &'a [u8]),
 }
 
-/// How many bytes stand before the first `=`.
+/// Returns how many bytes stand before the first `=`.
 fn name_length(text: &[u8]) -> usize
     ensures short { result ≤ length text.now }
     ensures name { IsName (take result text.now) }
@@ -26,7 +26,7 @@ fn name_length(text: &[u8]) -> usize
     k
 }
 
-/// The parts of a word: behind `--` a name, to the first `=`, and behind that a value.
+/// Returns the parts of a word: after `--` a name, to the first `=`, and after that a value.
 pub(crate) fn parts_of(word: &[u8]) -> Parts<'_>
     ensures { AreParts word.now result }
 {

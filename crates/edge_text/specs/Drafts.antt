@@ -32,7 +32,7 @@ with_edge k edge = record { share = k.share; weights = k.weights; edges = k.edge
 abbrev pub with_stages : Draft → DraftStages → Draft
 with_stages d stages = record { names = d.names; alpha = d.alpha; p = d.p; components = d.components; stages = Some stages }
 
--- stages for which nothing is said yet
+-- stages without spends and p-values
 abbrev pub counted : ℕ → DraftStages
 counted count = record { count = count; spend = []; arrivals = [] }
 

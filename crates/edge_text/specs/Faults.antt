@@ -1,4 +1,4 @@
--- The first line of a text that isn't allowed, and what is wrong with it.
+-- The first line of a text that is not allowed, and what is wrong with it.
 use Rattle.std.specs.Prelude.{ℕ, List}
 use Rattle.text_lines.specs.LanguageStatements.{HasFault}
 use Rattle.text_lines.specs.Lines.{Row, rows_of, end_of}

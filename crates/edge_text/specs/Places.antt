@@ -1,4 +1,4 @@
--- Texts of cases: which line may be where, and what it adds.
+-- Texts of cases: which line is allowed at which place, and what it adds.
 use Rattle.std.specs.Prelude.{ℕ, ◌++◌, if◌then◌else◌, length, slice_get, Bool, true, false, List, [], ◌∷◌, Option, Some, None, Result, Ok, Err, codes}
 use Rattle.std.specs.Str.{bytes_eq}
 use Rattle.case_model.specs.declared.draft.Draft.{Draft}
@@ -16,7 +16,7 @@ use Rattle.text_lines.specs.Languages.{Language}
 use Rattle.edge_text.specs.Grammar.{Words, one}
 use Rattle.edge_text.specs.WordReading.{behind, number, numbers, given, edge, count, shares, first_step, step_of, step_words, arrival, found_or}
 
--- where the first block must stand
+-- a line at which the first block is required
 abbrev pub block : Draft → List ℕ → Result Place LineKind
 block d line =
     behind (codes "component") line (λ words. and_then (number words) (λ share. Ok (Weights d share)))
@@ -27,16 +27,16 @@ block d line =
 abbrev pub stages : Draft → DraftComponent → List ℕ → Result Place LineKind
 stages d k line = behind (codes "stages") line (λ words. and_then (count words) (λ n. Ok (Spends (with_component d k) (counted n)))) (Err Unexpected)
 
--- the next block, where blocks have shares, or else the stages
+-- the next block if blocks have shares, or else the stages
 abbrev pub next_block : Bool → Draft → DraftComponent → List ℕ → Result Place LineKind
 next_block true d k line = behind (codes "component") line (λ words. and_then (number words) (λ share. Ok (Weights (with_component d k) share))) (stages d k line)
 next_block false d k line = stages d k line
 
--- the name of the hypothesis whose spend must stand next, where one is left
+-- the name of the hypothesis whose spend is due next, if one is left
 abbrev pub due : Draft → DraftStages → Option (List ℕ)
 due d s = slice_get d.names (length s.spend)
 
--- what the hypothesis of this name spends; or, where no name is left, a p-value that arrived
+-- what the hypothesis of this name spends; or, if no name is left, a p-value that arrived
 abbrev pub spend_or_arrive : Option (List ℕ) → Draft → DraftStages → List ℕ → Result Place LineKind
 spend_or_arrive (Some name) d s line =
     behind (codes "spend") line (λ words. and_then (shares name words) (λ xs. Ok (Spends d (with_spend s (Shares xs)))))
@@ -44,21 +44,22 @@ spend_or_arrive (Some name) d s line =
 spend_or_arrive None d s line =
     behind (codes "arrive") line (λ words. and_then (arrival d.names words) (λ a. Ok (Spends d (with_arrival s a)))) (Err Unexpected)
 
+-- what the next hypothesis spends, or a p-value that arrived
 abbrev pub spends : Draft → DraftStages → List ℕ → Result Place LineKind
 spends d s line = spend_or_arrive (due d s) d s line
 
--- whether this is the name
+-- whether this is the name that is due
 abbrev pub is_due : List ℕ → Option (List ℕ) → Bool
 is_due name (Some n) = bytes_eq name n
 is_due name None = false
 
--- a further step of the table, or else the line stands after the table
+-- a further step of the table, or else a line that follows the table
 abbrev pub further : Draft → DraftStages → List SpendStep → Words → Result Place LineKind → Result Place LineKind
 further d s steps words other =
     found_or (step_words words) WordCount (λ w.
     if is_due w.0 (due d s) then and_then (step_of w.1 w.2) (λ t. Ok (Steps d s (steps ++ t ∷ []))) else other)
 
--- What comes after a line that stands at the place, or what is wrong with it.
+-- The place after a line, or what is wrong with the line.
 abbrev pub step : Place → List ℕ → Result Place LineKind
 step Alpha line = behind (codes "alpha") line (λ words. and_then (number words) (λ alpha. Ok (Names alpha))) (Err Unexpected)
 step (Names alpha) line = behind (codes "hypotheses") line (λ words. Ok (Values (named alpha words))) (Err Unexpected)
@@ -72,12 +73,12 @@ step (Spends d s) line = spends d s line
 step (Steps d s steps) line =
     behind (codes "table") line (λ words. further d s steps words (spends d (with_spend s (Table steps)) line)) (spends d (with_spend s (Table steps)) line)
 
--- the draft, where no name is left
+-- the draft, if no name is left
 abbrev pub unless_due : Option (List ℕ) → Draft → Result Draft LineKind
 unless_due (Some name) d = Err Ended
 unless_due None d = Ok d
 
--- the draft of a text that ends at the place, or a line must follow
+-- the draft of a text that ends at the place, or the fault that it ends too early
 abbrev pub whole : Place → Result Draft LineKind
 whole (Edges shared d k) = Ok (with_component d k)
 whole Alpha = Err Ended

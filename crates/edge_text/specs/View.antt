@@ -1,4 +1,4 @@
--- What the reader's functions return, and lines as they are written.
+-- What the reader's functions return, and lines as the writer appends them.
 use Rattle.std.specs.Prelude.{◌≡◌, ℕ, List, [], ◌∷◌, ◌++◌, Result, Ok, Err}
 use Rattle.text_lines.specs.Languages.{FaultAt}
 use Rattle.text_lines.specs.Lines.{Row}
@@ -10,14 +10,14 @@ use Rattle.edge_text.specs.declared.place.Place.{Place}
 use Rattle.edge_text.specs.Faults.{IsFaultFrom}
 use Rattle.edge_text.specs.Grammar.{Words}
 
--- the result is what is said on the line of this number, or out of memory
+-- the result is this answer, its fault on the line of this number, or out of memory
 abbrev pub Gives : {A : Type 0} → ℕ → Result A LineKind → Result A TextFault → Type 0
 Gives number said (Ok x) = said ≡ Ok x
 Gives number said (Err (faults.Line n kind)) = (n ≡ number) × (said ≡ Err kind)
 Gives number said (Err (faults.Case refused)) = ⊥
 Gives number said (Err faults.NoMemory) = Unit {0}
 
--- the result is what a text says, or its first fault, or out of memory
+-- the result is this answer of a whole text, or out of memory
 abbrev pub GivesAll : {A : Type 0} → Result A (FaultAt LineKind) → Result A TextFault → Type 0
 GivesAll said (Ok x) = said ≡ Ok x
 GivesAll said (Err (faults.Line n kind)) = said ≡ Err (record { line = n; kind = kind })

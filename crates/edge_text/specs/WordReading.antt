@@ -1,4 +1,4 @@
--- What lines and their words say, or what is wrong with them.
+-- What lines and their words denote, or what is wrong with them.
 use Rattle.std.specs.Prelude.{ℕ, nat_le, nat_lt, ◌&&◌, Bool, if◌then◌else◌, List, [], ◌∷◌, map, length, Option, Some, None, Result, Ok, Err}
 use Rattle.std.specs.List.{list_all}
 use Rattle.std.specs.Str.{bytes_eq}
@@ -16,16 +16,16 @@ use Rattle.edge_text.specs.declared.fault.LineKind.{LineKind}
 use Rattle.edge_text.specs.declared.fault.LineKind.TheVariants.{Unexpected, WordCount, UnknownName, Whole, Number, Expr}
 use Rattle.edge_text.specs.Grammar.{Words}
 
--- the words after a keyword continue, where there are some, or else the line is another one
+-- the reading of the words after a keyword, if there are some, or else of another line
 abbrev pub on_words : {A Kind : Type 0} → Option Words → (Words → Result A Kind) → Result A Kind → Result A Kind
 on_words (Some words) f other = f words
 on_words None f other = other
 
--- a line with this first word continues with the words after it, or else the line is another one
+-- the reading of the words after this first word, or else of another line
 abbrev pub behind : {A Kind : Type 0} → List ℕ → List ℕ → (Words → Result A Kind) → Result A Kind → Result A Kind
 behind keyword line f other = on_words (words_behind keyword (words_of line)) f other
 
--- what is found continues, or else this is wrong
+-- the reading of what was found, or else this fault
 abbrev pub found_or : {A B : Type 0} → Option A → LineKind → (A → Result B LineKind) → Result B LineKind
 found_or (Some x) kind f = f x
 found_or None kind f = Err kind
@@ -56,14 +56,14 @@ given words = mapped (map Some) (some_numbers words)
 abbrev pub entry : List ℕ → Result (List Ratio) LineKind
 entry text = told_as Expr (entry_of text)
 
--- the first two words, where there is one more
+-- the first two words, if one more follows
 abbrev pub ends_of : Words → Option (List ℕ × List ℕ)
 ends_of [] = None
 ends_of (from ∷ []) = None
 ends_of (from ∷ to ∷ []) = None
 ends_of (from ∷ to ∷ further ∷ others) = Some (from, to)
 
--- the names of two hypotheses, and an expression: all of the line that stands after the second name
+-- the names of two hypotheses, and an expression: all of the line after the second name
 abbrev pub edge : List (List ℕ) → List ℕ → Words → Result DraftEdge LineKind
 edge names line words =
     found_or (ends_of words) WordCount (λ ends.
@@ -87,13 +87,13 @@ whole word = if is_whole word then Ok (digits_value 10 word) else Err Whole
 abbrev pub count : Words → Result ℕ LineKind
 count words = found_or (only_word words) WordCount whole
 
--- a name, and what stands after it, at least one word
+-- a name, and at least one word after it
 abbrev pub share_words : Words → Option (List ℕ × Words)
 share_words [] = None
 share_words (name ∷ []) = None
 share_words (name ∷ share ∷ more) = Some (name, share ∷ more)
 
--- a name, a word, and what stands after it, at least one word
+-- a name, a word, and at least one word after them
 abbrev pub step_words : Words → Option (List ℕ × List ℕ × Words)
 step_words [] = None
 step_words (name ∷ []) = None

@@ -1,4 +1,4 @@
-//! The draft that the lines of a text say.
+//! The draft that the lines of a text denote.
 ghost use Rattle.std.specs.Prelude.{◌≡◌, IfOk, IfErr};
 ghost use Rattle.text_lines.specs.Lines.{rows_of, end_of};
 ghost use Rattle.text_lines.specs.Languages.{reading};
@@ -25,7 +25,7 @@ fn read(alloc: Global, bytes: &[u8]) -> Result<Draft, TextFault>
     place.whole(lines.next_number())
 }
 
-/// Returns the draft that a text says.
+/// Returns the draft that a text denotes, or the first line that is not allowed.
 #[tactic(auto, using(crate::proofs::Texts::read_found, crate::proofs::Texts::read_fault))]
 pub fn draft(alloc: Global, bytes: &[u8]) -> Result<Draft, TextFault>
     ensures found { IfOk result (IsText bytes.now) }

@@ -6,7 +6,7 @@ ghost use Rattle.edge_text.specs.WordReading.{ends_of};
 
 use text_lines::Words;
 
-/// The names of the ends of an edge, and what stands after them.
+/// The names of the ends of an edge, and what follows them.
 #[derive(Clone, Copy)]
 pub struct Ends<'a> {
     pub from: &'a [u8],
@@ -15,7 +15,7 @@ pub struct Ends<'a> {
 }
 
 impl<'a> Ends<'a> {
-    /// Returns two words and what stands after them, where that has a word.
+    /// Returns two words and what follows them, if a word follows.
     pub fn of(mut words: Words<'a>) -> Option<Ends<'a>>
         ensures ends { option_map (λ ends. (ends.from.now, ends.to.now)) result ≡ ends_of (words_of words.entry) }
         ensures rest { IfSome result (λ ends. ends.expression.now ≡ behind_words 2 words.entry) }

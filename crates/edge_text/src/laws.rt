@@ -1,23 +1,10 @@
 //! Laws of texts: each says one draft, or has one first fault; and canonical texts say their cases.
 ghost use Rattle.edge_text.specs.CanonicalStatements.{CanonicalTextsReadBack, CanonicalTextsTellCasesApart, CanonicalTextsAreCanonical};
 ghost use Rattle.edge_text.specs.DocumentStatements.{DocumentsAreSaid, SaidAreDocuments, TextsCanEnd};
-ghost use Rattle.edge_text.specs.TextStatements.{
-  TextsSayOneDraft,
-  TextsHaveOneFault,
-  TextsSayOrFail,
-  TextsDontSayAndFail,
-  FirstFaultsEndDocuments,
-  WhereNoneGoesOnIsFault,
-  UnfinishedTextsEnd,
-  TextsHaveOneCase,
-  TextsHaveOneRefusal,
-  FaultsArentRefusals,
-  CasesHaveNoFault,
-  TextsHaveEntriesOrFaults,
-  TextsHaveOneEntry,
-  TextsHaveOneExprFault,
-  EntriesHaveNoFault,
-};
+ghost use Rattle.edge_text.specs.TextStatements.{TextsSayOneDraft, TextsHaveOneFault, TextsSayOrFail, TextsDontSayAndFail};
+ghost use Rattle.edge_text.specs.TextStatements.{FirstFaultsEndDocuments, WhereNoneGoesOnIsFault, UnfinishedTextsEnd};
+ghost use Rattle.edge_text.specs.TextStatements.{TextsHaveOneCase, TextsHaveOneRefusal, FaultsArentRefusals, CasesHaveNoFault};
+ghost use Rattle.edge_text.specs.TextStatements.{TextsHaveEntriesOrFaults, TextsHaveOneEntry, TextsHaveOneExprFault, EntriesHaveNoFault};
 
 /// A text says at most one draft.
 pub fn texts_say_one_draft()
@@ -43,9 +30,8 @@ pub fn first_faults_end_documents()
     ensures end { UnfinishedTextsEnd }
 {}
 
-/// The lines that the reader takes, one by one from place to place, are exactly the documents of the grammar, and say
-/// the same drafts. From each place a text continues to its end.
-#[tactic(auto, using(crate::proofs::BlocksSaid::text_said, crate::proofs::BlocksSaid::said_text, crate::proofs::Completions::cases_complete))]
+/// The lines that the reader takes from place to place are exactly the documents of the grammar, with the same drafts.
+/// From each place some text continues to its end.
 pub fn documents_are_read_by_places()
     ensures said { DocumentsAreSaid }
     ensures only { SaidAreDocuments }

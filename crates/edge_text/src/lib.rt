@@ -5,12 +5,15 @@
 //!   case has its content), `fault` (the first line that isn't allowed, with its number and kind, `IsFirstFault`; or
 //!   else the first error in the draft, with its names).
 //! - `write_text`: the canonical text of a case (`canonical`, `says`).
-//! - Laws in `src/laws.rt`: `documents_are_read_by_places`, that the places through which the reader goes accept
-//!   exactly the documents of the grammar, with the same drafts (`said`, `only`), and that each unfinished text can end
-//!   (`end`); a text says at most one draft, has at most one first fault, and one of the two and never both; the first
-//!   fault is exactly where no document continues. `canonical_texts_read_back`: the canonical text is read as the same
-//!   case (`back`), distinguishes cases (`apart`), and is the canonical text of what is read (`again`).
-//!   `expressions_are_decided`: an expression has one entry or one fault, and not both.
+//! - Laws in `src/laws.rt`:
+//!   - `documents_are_read_by_places`: the reader goes from place to place, one line at a time. The lines that it takes
+//!     are exactly the documents of the grammar, with the same drafts (`said`, `only`). Each unfinished text can end
+//!     (`end`).
+//!   - A text denotes at most one draft and has at most one first fault. It has one of the two, never both.
+//!   - The first fault is exactly where no document continues.
+//!   - `canonical_texts_read_back`: the canonical text reads as the same case (`back`), distinguishes cases (`apart`), and is
+//!     the canonical text of what is read (`again`).
+//!   - `expressions_are_decided`: an expression has one entry or one fault, never both.
 //!
 //! Tables of texts, with their lines by hand, are in tests_forms.
 //!

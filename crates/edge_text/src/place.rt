@@ -19,7 +19,9 @@ use fraction::Fraction;
 use std::alloc::Global;
 use text_lines::{Line, Words};
 
-/// What may be next, with what was said so far. The components of a draft are those before the one that is read.
+/// A place in a text: which line is allowed next, and what the lines before it denote.
+///
+/// The components of a draft are those before the one that is being read.
 #[derive(Drop)]
 pub enum Place {
     /// The level.
@@ -32,15 +34,15 @@ pub enum Place {
     Block(SoFar),
     /// The weights of a component of this share.
     Weights(SoFar, Fraction),
-    /// An edge of this component; or, where blocks have shares, the next one; or nothing.
+    /// An edge of this component, or the stages. Where blocks have shares, the next block is allowed too.
     Edges(bool, SoFar, DraftComponent),
-    /// What the next hypothesis spends, in the order of the names; or, where none is left, a p-value that arrived, or nothing.
+    /// What the next hypothesis spends, in the order of the names. Once each has its spend, a p-value that arrived.
     Spends(SoFar, DraftStages),
-    /// A further step of the table of the next hypothesis, or what may be after the table.
+    /// A further step of the table of the next hypothesis, or a line that is allowed after the table.
     Steps(SoFar, DraftStages, List<SpendStep>),
 }
 
-/// Returns the fault of a line that isn't allowed for its first word.
+/// Returns the fault of a line whose first word is not allowed here.
 fn unexpected(line: &Line) -> TextFault
     ensures { result ≡ faults.Line line.now.number Unexpected }
 {
@@ -66,7 +68,7 @@ fn weighted(alloc: Global, share: Fraction, weights: List<Fraction>) -> DraftCom
 }
 
 impl Place {
-    /// Returns the place after a line that stands here.
+    /// Returns the place after a line, or the fault of a line that is not allowed here.
     pub fn step(self, alloc: Global, line: &Line) -> Result<Place, TextFault>
         ensures { Gives line.now.number (step self line.now.text.now) result }
     {
@@ -82,7 +84,9 @@ impl Place {
         }
     }
 
-    /// Returns the draft of a text that ends here; `end` is the number of the line that would follow.
+    /// Returns the draft of a text that ends here, or the fault that it ends too early.
+    ///
+    /// `end` is the number of the line that would follow.
     pub fn whole(self, end: usize) -> Result<Draft, TextFault>
         ensures { Gives end (whole self) result }
     {
@@ -98,7 +102,7 @@ impl Place {
     }
 }
 
-/// Reads a line where the level must stand.
+/// Reads a line at which the level is required.
 fn alpha(line: &Line) -> Result<Place, TextFault>
     ensures { Gives line.now.number (step at.Alpha line.now.text.now) result }
 {
@@ -108,7 +112,7 @@ fn alpha(line: &Line) -> Result<Place, TextFault>
     Ok(Place::Names(rules::number(line, words)?))
 }
 
-/// Reads a line where the names must stand.
+/// Reads a line at which the names are required.
 fn names(alloc: Global, alpha: Fraction, line: &Line) -> Result<Place, TextFault>
     ensures { Gives line.now.number (step (at.Names alpha) line.now.text.now) result }
 {
@@ -119,7 +123,7 @@ fn names(alloc: Global, alpha: Fraction, line: &Line) -> Result<Place, TextFault
     Ok(Place::Values(SoFar::new(alloc, alpha, names)?))
 }
 
-/// Reads a line where the p-values or the first block may be.
+/// Reads a line at which the p-values or the first block is allowed.
 fn values(alloc: Global, draft: SoFar, line: &Line) -> Result<Place, TextFault>
     ensures { Gives line.now.number (step (at.Values draft) line.now.text.now) result }
 {
@@ -130,7 +134,7 @@ fn values(alloc: Global, draft: SoFar, line: &Line) -> Result<Place, TextFault>
     Ok(Place::Block(draft.with_p(p)))
 }
 
-/// Reads a line where the first block must stand.
+/// Reads a line at which the first block is required.
 fn block(alloc: Global, draft: SoFar, line: &Line) -> Result<Place, TextFault>
     ensures { Gives line.now.number (block draft line.now.text.now) result }
 {
@@ -146,7 +150,7 @@ fn block(alloc: Global, draft: SoFar, line: &Line) -> Result<Place, TextFault>
     Ok(Place::Edges(false, draft, component))
 }
 
-/// Reads a line where the weights of a component must stand.
+/// Reads a line at which the weights of a component are required.
 fn weights(alloc: Global, draft: SoFar, share: Fraction, line: &Line) -> Result<Place, TextFault>
     ensures { Gives line.now.number (step (at.Weights draft share) line.now.text.now) result }
 {
@@ -158,7 +162,7 @@ fn weights(alloc: Global, draft: SoFar, share: Fraction, line: &Line) -> Result<
     Ok(Place::Edges(true, draft, component))
 }
 
-/// Reads a line where an edge of the component may be, or what comes after it.
+/// Reads a line at which an edge of the component is allowed, or what follows its edges.
 fn edges(
     alloc: Global,
     shared: bool,
@@ -176,7 +180,7 @@ fn edges(
     Ok(Place::Edges(shared, draft, component))
 }
 
-/// Reads a line after the edges of a component: the next block, where blocks have shares, or the stages.
+/// Reads a line after the edges of a component: the next block if blocks have shares, or the stages.
 fn next_block(
     alloc: Global,
     shared: bool,
@@ -196,7 +200,7 @@ fn next_block(
     Ok(Place::Weights(draft.with_component(component)?, share))
 }
 
-/// Returns stages for which nothing is said yet.
+/// Returns stages without spends and p-values.
 fn counted(alloc: Global, count: u64) -> DraftStages
     ensures { result ≡ counted count }
 {
@@ -207,7 +211,7 @@ fn counted(alloc: Global, count: u64) -> DraftStages
     }
 }
 
-/// Reads a line where the stages may be.
+/// Reads a line at which the stages are allowed.
 fn stages(
     alloc: Global,
     draft: SoFar,
@@ -234,7 +238,7 @@ fn staged(draft: SoFar, stages: DraftStages, end: usize) -> Result<Draft, TextFa
     Ok(draft.staged(stages))
 }
 
-/// Reads a line where the spend of the next hypothesis must stand, or a p-value that arrived may.
+/// Reads a line at which the spend of the next hypothesis is required, or a p-value that arrived is allowed.
 fn spends(
     alloc: Global,
     draft: SoFar,
@@ -260,7 +264,7 @@ fn spends(
     Ok(Place::Steps(draft, stages, steps))
 }
 
-/// Reads a line where a p-value that arrived may be.
+/// Reads a line at which a p-value that arrived is allowed.
 fn arrive(draft: SoFar, mut stages: DraftStages, line: &Line) -> Result<Place, TextFault>
     ensures { Gives line.now.number (spend_or_arrive None draft stages line.now.text.now) result }
 {
@@ -272,7 +276,7 @@ fn arrive(draft: SoFar, mut stages: DraftStages, line: &Line) -> Result<Place, T
     Ok(Place::Spends(draft, stages))
 }
 
-/// Reads a line where a further step may be, or what comes after the table.
+/// Reads a line at which a further step is allowed, or what follows the table.
 fn steps_on(
     alloc: Global,
     draft: SoFar,
@@ -288,7 +292,7 @@ fn steps_on(
     further(alloc, draft, stages, steps, line, words)
 }
 
-/// Reads a line of a table: a further step of the one that is read, or a line after it.
+/// Reads a line of a table: a further step of the open one, or a line that follows it.
 fn further(
     alloc: Global,
     draft: SoFar,
@@ -297,8 +301,8 @@ fn further(
     line: &Line,
     words: Words,
 ) -> Result<Place, TextFault>
-    ensures { Gives line.now.number (further draft stages steps (words_of words.entry) (spends draft (with_spend stages
-        (Table steps)) line.now.text.now)) result }
+    ensures { Gives line.now.number
+        (further draft stages steps (words_of words.entry) (spends draft (with_spend stages (Table steps)) line.now.text.now)) result }
 {
     let Some(found) = StepWords::of(words) else {
         return Err(TextFault::Line(line.number, LineKind::WordCount));
@@ -310,7 +314,7 @@ fn further(
     Ok(Place::Steps(draft, stages, steps))
 }
 
-/// Reads a line after the table that is read.
+/// Reads a line after the open table.
 fn behind_table(
     alloc: Global,
     draft: SoFar,

@@ -1,21 +1,9 @@
-//! What the words of lines say.
+//! What the words of lines denote.
 ghost use Rattle.std.specs.Prelude.{◌≡◌, Some, map, IfOk};
 ghost use Rattle.text_lines.specs.Words.{words_of, behind_word};
 ghost use Rattle.edge_text.specs.View.{Gives};
-ghost use Rattle.edge_text.specs.WordReading.{
-  numeral,
-  number,
-  numbers,
-  given,
-  entry,
-  edge,
-  whole,
-  count,
-  shares,
-  first_step,
-  step_of,
-  arrival,
-};
+ghost use Rattle.edge_text.specs.WordReading.{numeral, number, numbers, given, entry, edge, whole, count};
+ghost use Rattle.edge_text.specs.WordReading.{shares, first_step, step_of, arrival};
 
 use crate::ends::Ends;
 use crate::so_far::SoFar;
@@ -37,7 +25,7 @@ fn numeral(line: &Line, word: &[u8]) -> Result<Fraction, TextFault>
     }
 }
 
-/// Returns the value of the one numeral that stands after the first word of a line.
+/// Returns the value of the one numeral after the first word of a line.
 pub fn number(line: &Line, words: Words) -> Result<Fraction, TextFault>
     ensures { Gives line.now.number (number (words_of words.entry)) result }
 {
@@ -101,7 +89,7 @@ fn entry(line: &Line, expression: &[u8]) -> Result<Entry, TextFault>
     }
 }
 
-/// Returns the edge that the words after the first word of a line say.
+/// Returns the edge that the words after the first word of a line denote.
 pub fn edge(line: &Line, words: Words, draft: &SoFar) -> Result<DraftEdge, TextFault>
     requires { words ≡ behind_word line.now.text.now }
     ensures { Gives line.now.number (edge draft.now.names line.now.text.now (words_of words.entry)) result }

@@ -1,4 +1,4 @@
-//! Drafts that are read line by line.
+//! A draft that grows line by line.
 ghost use Rattle.std.specs.Prelude.{◌≡◌, ℕ, IfOk, slice_get};
 ghost use Rattle.std.specs.Option.{option_map};
 ghost use Rattle.edge_text.specs.Places.{is_due};
@@ -11,7 +11,7 @@ use fraction::Fraction;
 use std::alloc::Global;
 use std::marker::Model;
 
-/// What the lines before a place have said: a draft, and the index of its names.
+/// What the lines before a place denote: a draft, and the index of its names.
 #[derive(Drop)]
 pub struct SoFar {
     draft: Draft,
@@ -32,7 +32,7 @@ impl Model for SoFar {
 }
 
 impl SoFar {
-    /// Returns the draft of a level and names, of which nothing else is said yet.
+    /// Returns the draft of a level and names, with nothing else yet.
     pub fn new(alloc: Global, alpha: Fraction, names: List<Text>) -> Result<SoFar, NoMemory>
         ensures { IfOk result (λ d. d ≡ named alpha names) }
     {
@@ -64,7 +64,7 @@ impl SoFar {
         }
     }
 
-    /// Returns whether this is the name at a position.
+    /// Whether this is the name at a position.
     pub fn is_name(&self, at: usize, name: &[u8]) -> bool
         ensures { result ≡ is_due name.now (slice_get self.now.names at) }
     {

@@ -72,7 +72,7 @@ part_stored K IsStored h parts each [] (suc c) (suc e) = h
 part_stored K IsStored h parts each (xs ∷ lists) zero e = stored_at K IsStored h parts each xs e
 part_stored K IsStored h parts each (xs ∷ lists) (suc c) e = part_stored K IsStored h parts each lists c e
 
--- as many components as the case has
+-- a component for each of the case
 pub case_all : (K : Kind) (n : Numbers) (c : Content) (f : ℕ → Result (Unit {0}) CheckEvent) (m : ℕ) (r : Result (Unit {0}) CheckEvent)
     → m ≡ length c.components → r ≡ all_below m f → all_below (loaded_case K n c).components f ≡ r
 unfolding loaded_case

@@ -58,7 +58,7 @@ module _ (K : Kind) (L : Loaded) (js : List ℕ) (h : ℕ → Parts) (k c r : �
             → exit_check K L js h k c r ≡ require (is_le order) (ShortExit c r)
         exit_done order g = rw (exit_check_is, ← tested, d, s, ← compared_is, g) refl
 
--- as many exits as steps, and those of a component
+-- an exit for each step, and those of a component
 pub exits_are : (K : Kind) (L : Loaded) (js : List ℕ) (k c n : ℕ) (xs ys : List Parts) (r : Result (Unit {0}) CheckEvent) → n ≡ length js → xs ≡ ys
     → r ≡ all_below n (exit_check K L js (numbers_at K xs) k c) → r ≡ all_below (length js) (exit_check K L js (numbers_at K ys) k c)
 exits_are K L js k c n xs ys r m e h = h ∙ ap (λ n. all_below n (exit_check K L js (numbers_at K xs) k c)) m

@@ -138,7 +138,7 @@ module _ {F : Type 0} (parts : F → Parts) where
 abbrev pub kept_of : {F : Type 0} → List (KeepProof F) → List ℕ
 kept_of xs = map (λ x. x.hypothesis) xs
 
--- the hypotheses from `k` on, so many of them, that aren't in a list
+-- the hypotheses from `k` on, in this number, that aren't in a list
 abbrev pub others_from : List ℕ → ℕ → ℕ → List ℕ
 others_from js k n = filter (λ k. not (set_of js k)) (range_with_len k n)
 

@@ -48,7 +48,7 @@ module _ (K : Kind) (L : Loaded) (js : List ℕ) (y : ℕ → Parts) (c r : ℕ)
             → flow_check K L js y c r ≡ require (is_le order) (Exceeds c r)
         flow_done order h = rw (flow_check_is, ← tested, d, summed, ← compared_is, h) refl
 
--- as many flows as earlier steps, and those of a component
+-- a flow for each earlier step, and those of a component
 pub flows_are : (K : Kind) (L : Loaded) (js : List ℕ) (c n : ℕ) (xs ys : List Parts) (r : Result (Unit {0}) CheckEvent) → n ≡ length js → xs ≡ ys
     → r ≡ all_below n (flow_check K L js (numbers_at K xs) c) → r ≡ all_below (length js) (flow_check K L js (numbers_at K ys) c)
 flows_are K L js c n xs ys r m e h = h ∙ ap (λ n. all_below n (flow_check K L js (numbers_at K xs) c)) m

@@ -1,4 +1,4 @@
--- Languages of lines have one reading, and the first fault is where no document goes on.
+-- Languages of lines have one reading, and the first fault is where no document continues.
 use Rattle.std.proofs.Common.{◌≡◌, ℕ, ◌⊎◌, inl, inr, Bool, true, false, List, [], ◌∷◌, ◌++◌, Result, Ok, Err, refl, sym, ap, subst}
 use Rattle.std.proofs.Common.{◌∙◌, append_assoc}
 use Rattle.std.proofs.lemmas.Bool.{cases_Bool}
@@ -126,7 +126,7 @@ module _ {Place Form Kind : Type 0} (L : Language Place Form Kind) where
   pub one_document : (place : Place) (lines : List Words) (fs gs : List Form) → IsDocument L place lines fs → IsDocument L place lines gs → fs ≡ gs
   one_document place lines fs gs d e = (lead_once place d.here e.here lines fs gs d.lead e.lead).0
 
-  -- ---- where no document goes on
+  -- ---- where no document continues
 
   pub lead_begins : (place here : Place) (lines : List Words) (fs : List Form) → Completes L → Lead L place lines fs here → Begins L place lines
   lead_begins place here lines fs complete h =

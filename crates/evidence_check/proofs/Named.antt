@@ -44,7 +44,7 @@ unfolding require
 names_test true why Bad unmet = record { bad = λ r h. absurd (cc) }
 names_test false why Bad unmet = record { bad = λ r h. let e : why ≡ r = cc in subst Bad e (unmet refl) }
 
--- a test of which it is known what it tells
+-- a test of which it is known what it says
 pub names_told : (b : Bool) (why : Reason) (P : Type 0) (Bad : Reason → Type 0) → Tells (require b why) (λ _. P) (¬ P) → (¬ P → Bad why)
     → Names (require b why) Bad
 unfolding require

@@ -62,7 +62,7 @@ full_same : (q : Quantity) (m : ℕ) (js : List ℕ) (xs ys : List (List Parts))
     → list_forms q 0 js xs ++ A ≡ list_forms q 0 js ys ++ B → (xs ≡ ys) × (A ≡ B)
 full_same q m js xs ys A B h k e = lists_same q 0 js xs ys A B (h.lists ∙ sym k.lists) h.each k.each e
 
--- what stands behind the steps
+-- what stands after the steps
 abbrev NoStepFirst : List Form → Type 0
 NoStepFirst [] = Unit {0}
 NoStepFirst (SaysVersion v ∷ fs) = Unit {0}

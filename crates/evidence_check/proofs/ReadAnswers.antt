@@ -27,7 +27,7 @@ use Rattle.evidence_check.specs.Documents.{Frame, Form, SaysNumber, number_forms
 use Rattle.evidence_check.specs.Documents.{read_at, next_at, is_ended, evidence_language}
 use Rattle.evidence_check.specs.ReadView.{IsFrameFor, Goes, Stops, NumbersRead, NumbersStop, ListsRead, ListsStop}
 
--- ---- forms, and what is read behind them
+-- ---- forms, and what is read after them
 
 with_none : (r : Result (List Form) (FaultAt ProofKind)) → r ≡ with_all [] r
 with_none (Ok fs) = refl
@@ -62,7 +62,7 @@ module _ (T : Frame) (end : ℕ) where
   unfolding Goes reading
   goes_line p row rows f e = rw e refl
 
-  -- a line that can't stand
+  -- a line that isn't allowed
   pub stops_line : (p : Place) (row : Row) (rows : List Row) (kind : ProofKind) → read_at T p (words_of row.text) ≡ Err kind
       → Stops T end p (row ∷ rows) (faults.Line row.number kind)
   unfolding Stops reading

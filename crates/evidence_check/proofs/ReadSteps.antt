@@ -111,7 +111,7 @@ module _ (n : Numbers) (c : Content) (end : ℕ) where
     unfolding StepsStop
     steps_memory T v t = stops_memory T end (At [] (AtSteps v [])) old
 
-  -- no line behind steps
+  -- no line after steps
   pub steps_early : (js : List ℕ) (rows : List Row) (fault : ProofText) → rows ≡ [] → fault ≡ faults.Line end Ended
       → StepsStop n c end js rows fault
   unfolding StepsStop
@@ -190,7 +190,7 @@ module _ (n : Numbers) (c : Content) (end : ℕ) where
   due_early T js [] = refl
   due_early T js (k ∷ ks) = refl
 
-  -- no line behind keeps
+  -- no line after keeps
   pub keeps_early : (js ks : List ℕ) (rows : List Row) (fault : ProofText) → rows ≡ [] → fault ≡ faults.Line end Ended
       → KeepsStop n c end js ks rows fault
   unfolding KeepsStop
@@ -290,7 +290,7 @@ kept_none m v js n = by (v == 2) refl
     by true e = absurd (n ((Decides-eqb v 2).0 e))
     by false e = refl
 
--- the end, and what is behind it
+-- the end, and what is after it
 pub end_all : (end : ℕ) (row : Row) (rows : List Row) (r : Result (Unit {0}) ProofText) → end_line (words_of row.text) ≡ Ok SaysEnd
     → IfOk r (λ _. rows ≡ [])
     → IfErr r (λ fault. (next : Row) × (more : List Row) × (rows ≡ next ∷ more) × (fault ≡ faults.Line next.number Unexpected))

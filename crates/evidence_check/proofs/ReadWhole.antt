@@ -84,7 +84,7 @@ next_no T v js (SaysNumber q c i x) h = refl
 next_no T v js (SaysKeep i) h = refl
 next_no T v js SaysEnd h = refl
 
--- ---- behind the last step
+-- ---- after the last step
 
 module _ (T : Frame) (end v : ℕ) (js : List ℕ) (row : Row) (rows : List Row) (other : words_behind (codes "step") (words_of row.text) ≡ None) where
   by_first : (ss : List Slot) → tail T v js ≡ ss → reading (evidence_language T) (At [] (AtSteps v js)) (row ∷ rows) end ≡ reading

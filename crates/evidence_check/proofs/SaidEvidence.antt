@@ -114,7 +114,7 @@ said_version : (T : Frame) (ws : Words) (form : Form) → read_at T (At [] AtVer
 unfolding read_at
 said_version T ws form h = version_said ws form h
 
--- the place behind a step, and behind a version
+-- the place after a step, and after a version
 behind_step : (T : Frame) (v : ℕ) (js : List ℕ) (j : ℕ) (form : Form) → form ≡ SaysStep j
     → next_at T (At [] (AtSteps v js)) form ≡ At (due Flow T.components 0 js) (AtSteps v (js ++ j ∷ []))
 unfolding next_at
@@ -127,7 +127,7 @@ behind_version T v form e = ap (next_at T (At [] AtVersion)) e
 -- ---- lines
 
 module _ (T : Frame) (end : ℕ) where
-  -- the first line says this form, and the lines behind it say these
+  -- the first line says this form, and the lines after it say these
   record FirstSaid (place : Place) (words : Words) (rows : List Row) (forms : List Form) : Type 0 where
     form : Form
     more : List Form
@@ -303,7 +303,7 @@ module _ {F : Type 0} (parts : F → Parts) (n : Numbers)
 
   -- ---- the steps
 
-  -- behind steps of these hypotheses, in a version: steps, keeps and the end
+  -- after steps of these hypotheses, in a version: steps, keeps and the end
   record StepsSaid (v : ℕ) (js : List ℕ) (forms : List Form) : Type 0 where
     steps : List (ProofStep F)
     keeps : List (KeepProof F)
@@ -335,7 +335,7 @@ module _ {F : Type 0} (parts : F → Parts) (n : Numbers)
   joined : (A B C D : List Form) → A ++ (B ++ C ++ D) ≡ (A ++ B) ++ C ++ D
   joined A B C D = sym (append_assoc A (B ++ C) D) ∙ ap (λ fs. fs ++ D) (sym (append_assoc A B C))
 
-  -- one step, and those behind it
+  -- one step, and those after it it
   one_step : (v : ℕ) (js : List ℕ) (name : List ℕ) (j : ℕ) (lists : List (List F)) (forms rest more : List Form)
       → position_of name c.names ≡ Some j → forms ≡ SaysStep j ∷ rest → AreFull (length c.components) (length js) (map (map parts) lists)
       → rest ≡ list_forms Flow 0 js (map (map parts) lists) ++ more → StepsSaid v (js ++ j ∷ []) more → StepsSaid v js forms
@@ -359,7 +359,7 @@ module _ {F : Type 0} (parts : F → Parts) (n : Numbers)
       longer : (js : List ℕ) (j m : ℕ) → length (js ++ j ∷ []) + m ≡ length js + suc m
       longer js j m = let l = one_longer js j in omega (arith, l)
 
-  -- (at most so many lines are left)
+  -- (at most this number of lines are left)
   steps_said : (most v : ℕ) (js : List ℕ) (rows : List Row) (forms : List Form) → length rows ≤ most → Says (At [] (AtSteps v js)) rows forms
       → StepsSaid v js forms
   steps_said most v js [] forms b h = absurd (not_early (case_frame n c) end (At [] (AtSteps v js)) forms refl h)

@@ -46,7 +46,7 @@ take_count (x ∷ xs) zero p = refl
 take_count (x ∷ xs) (suc i) p = ap suc (take_count xs i (omega arith))
 
 module _ {F : Type 0} (parts : F → Parts) (K : Kind) (L : Loaded) (m components : ℕ) (steps : List (ProofStep F)) where
-  -- so many steps were checked
+  -- this number of steps were checked
   pub record Checked (i : ℕ) : Type 0 where
     pub ahead : steps_check K L [] (map (step_parts parts) steps) ≡ steps_check K L (hypotheses_of (take i steps)) (map (step_parts parts) (drop i steps))
     pub order : IsOrder m whole (hypotheses_of (take i steps))
@@ -115,7 +115,7 @@ module _ {F : Type 0} (parts : F → Parts) (K : Kind) (L : Loaded) (m component
   order_end i e C = subst (λ ts. IsOrder m whole (hypotheses_of ts)) (take_end steps i e) C.order
 
 module _ {F : Type 0} (parts : F → Parts) (K : Kind) (L : Loaded) (js : List ℕ) (m components count n : ℕ) (keeps : List (KeepProof F)) where
-  -- so many keeps were checked
+  -- this number of keeps was checked
   pub record Kept (i : ℕ) : Type 0 where
     pub ahead : keeps_check K L js n (map (keep_parts parts) keeps) ≡ keeps_check K L js (n + i) (map (keep_parts parts) (drop i keeps))
     pub fit : ExitsFit components count (map (keep_parts parts) (drop i keeps))

@@ -95,7 +95,7 @@ all_tells_or (suc n) f P Bad each =
     (λ _ before. tells_if (f n) _ _ _ _ (λ _ g i p. elim (last i n p) [ inl e ↦ subst P (sym e) g | inr q ↦ before i q ]) (λ b. b)
     (each n (omega arith)))
 
--- as many as asked for, each with what is said of its place
+-- the requested number, each with what is said of its place
 pub record AreEach {A : Type 0} (n : ℕ) (P : ℕ → A → Type 0) (xs : List A) : Type 0 where
   pub count : length xs ≡ n
   pub each : (i : ℕ) (d : A) → i < n → P i (get_or xs i d)

@@ -35,7 +35,7 @@ SaysEvidence c bytes v =
     IsDocument (evidence_language (case_frame (numbers_of c) c)) start (words_in (rows_of bytes))
     (evidence_forms (version_of v) (steps_of v) (keeps_of v))
 
--- the first fault of a text: a line that says nothing where it stands, behind lines that say something, and what is wrong with it; or lines that end too early
+-- the first fault of a text: a line that says nothing where it stands, after lines that say something, and what is wrong with it; or lines that end too early
 abbrev pub HasFault : Content → List ℕ → FaultAt ProofKind → Type 0
 HasFault c bytes fault =
     IsBadLine (evidence_language (case_frame (numbers_of c) c)) start (rows_of bytes) fault
@@ -113,16 +113,16 @@ LinesSayTheirEvidence =
 abbrev pub StoredNumbersArePrinted : Type 0
 StoredNumbersArePrinted = (n : Numbers) (c : Content) (x : Parts) → IsStoredIn n x → IsPrinted (case_frame n c) x
 
--- ---- where no document goes on
+-- ---- where no document continues
 
--- The first fault is in the first line with which no document goes on; or the lines begin a document, and are none.
+-- The first fault is in the first line with which no document continues; or the lines begin a document, and are none.
 abbrev pub FaultsAreWhereNoneGoesOn : Type 0
 FaultsAreWhereNoneGoesOn =
     (c : Content) (bytes : List ℕ) (fault : FaultAt ProofKind) → HasFault c bytes fault
     → IsWhereNoneGoesOn (evidence_language (case_frame (numbers_of c) c)) start (rows_of bytes) fault.line
     ⊎ ((fault ≡ record { line = end_of bytes; kind = Ended }) × IsUnfinished (evidence_language (case_frame (numbers_of c) c)) start (rows_of bytes))
 
--- A line with which no document goes on, where one goes on with those before it, is that of the first fault.
+-- A line with which no document continues, where one continues with those before it, is that of the first fault.
 abbrev pub NoneGoesOnIsFault : Type 0
 NoneGoesOnIsFault =
     (c : Content) (bytes : List ℕ) (number : ℕ) → IsWhereNoneGoesOn (evidence_language (case_frame (numbers_of c) c)) start (rows_of bytes) number
@@ -130,7 +130,7 @@ NoneGoesOnIsFault =
 
 -- ---- the text of evidence
 
--- the text of evidence for a case: its lines, with one blank between words and a line feed behind each line
+-- the text of evidence for a case: its lines, with one blank between words and a line feed after each line
 abbrev pub evidence_text : Content → Evidence → List ℕ
 evidence_text c v = text_of (evidence_lines (case_frame (numbers_of c) c) (version_of v) (steps_of v) (keeps_of v))
 

@@ -1,4 +1,4 @@
--- Documents of evidence: what each line says, and which line may stand where.
+-- Documents of evidence: what each line says, and which line may be where.
 use Rattle.std.specs.Prelude.{ℕ, zero, suc, ◌+◌, ◌==◌, ◌&&◌, Bool, true, false, if◌then◌else◌, List, [], ◌∷◌, ◌++◌, map}
 use Rattle.std.specs.Prelude.{Option, Some, None, Result, Ok, Err, codes}
 use Rattle.std.specs.Fmt.{decimal}
@@ -43,12 +43,12 @@ abbrev pub list_forms : Quantity → ℕ → List ℕ → List (List Parts) → 
 list_forms q c js [] = []
 list_forms q c js (xs ∷ lists) = number_forms q c js xs ++ list_forms q (suc c) js lists
 
--- steps, behind steps of these hypotheses: each with its flows
+-- steps, after steps of these hypotheses: each with its flows
 abbrev pub step_forms : List ℕ → List StepParts → List Form
 step_forms js [] = []
 step_forms js (s ∷ ss) = SaysStep s.hypothesis ∷ list_forms Flow 0 js s.flows ++ step_forms (js ++ s.hypothesis ∷ []) ss
 
--- keeps, behind steps of these hypotheses: each with its exits
+-- keeps, after steps of these hypotheses: each with its exits
 abbrev pub keep_forms : List ℕ → List KeepParts → List Form
 keep_forms js [] = []
 keep_forms js (x ∷ xs) = SaysKeep x.hypothesis ∷ list_forms Exit 0 js x.exits ++ keep_forms js xs
@@ -78,7 +78,7 @@ evidence_lines F version steps keeps = map (line_of F) (evidence_forms version s
 
 -- ---- reading a line: the first word, the number of words, and then the words from left to right
 
--- what is found goes on, or else this is wrong
+-- what is found continues, or else this is wrong
 abbrev pub found_or : {A B : Type 0} → Option A → ProofKind → (A → Result B ProofKind) → Result B ProofKind
 found_or (Some x) kind f = f x
 found_or None kind f = Err kind
@@ -94,7 +94,7 @@ version_line ws =
     found_or (only_word rest) WordCount (λ v.
     if bytes_eq v (codes "1") then Ok (SaysVersion 1) else says_when (bytes_eq v (codes "2")) Version (SaysVersion 2)))
 
--- what stands behind the first word of a step
+-- what stands after the first word of a step
 unfoldable pub step_said : Frame → Words → Result Form ProofKind
 step_said F rest =
     found_or (only_word rest) WordCount (λ name.
@@ -135,7 +135,7 @@ is_none (w ∷ ws) = false
 unfoldable pub end_line : Words → Result Form ProofKind
 end_line ws = found_or (words_behind (codes "end") ws) Unexpected (λ rest. says_when (is_none rest) WordCount SaysEnd)
 
--- ---- which line may stand where
+-- ---- which line may be where
 
 -- a line that must stand at its place, but for its number
 pub data Slot : Type 0 where
@@ -158,15 +158,15 @@ abbrev pub keeps_due : Frame → List ℕ → List ℕ → List Slot
 keeps_due F js [] = TheEnd ∷ []
 keeps_due F js (k ∷ ks) = AKeep k ∷ due Exit F.components 0 js ++ keeps_due F js ks
 
--- the hypotheses that a version keeps behind these steps
+-- the hypotheses that a version keeps after these steps
 abbrev pub kept_in : Frame → ℕ → List ℕ → List ℕ
 kept_in F v js = if v == 2 then F.others js else []
 
--- what stands behind the last step
+-- what stands after the last step
 abbrev pub tail : Frame → ℕ → List ℕ → List Slot
 tail F v js = keeps_due F js (kept_in F v js)
 
--- what may stand behind lines that must stand: the version; in this version, behind these steps, one more step or what stands behind the last; or nothing
+-- what may follow lines that must stand: the version; in this version, after these steps, one more step or what stands after the last; or nothing
 pub data Stage : Type 0 where
   AtVersion : Stage
   AtSteps : (version : ℕ) (steps : List ℕ) → Stage
@@ -192,7 +192,7 @@ read_at F (At [] AtVersion) ws = version_line ws
 read_at F (At [] (AtSteps v js)) ws = step_or F (words_behind (codes "step") ws) (first_line F (tail F v js) ws)
 read_at F (At [] AtEnd) ws = Err Unexpected
 
--- behind a line that stands behind the steps: a step, or the first line of what stands behind the last
+-- after a line that stands after the steps: a step, or the first line of what stands after the last
 abbrev pub next_step : Frame → ℕ → List ℕ → Form → Place
 next_step F v js (SaysStep j) = At (due Flow F.components 0 js) (AtSteps v (js ++ j ∷ []))
 next_step F v js form = At (behind_first (tail F v js)) AtEnd
@@ -201,7 +201,7 @@ abbrev pub next_version : Form → Place
 next_version (SaysVersion v) = At [] (AtSteps v [])
 next_version form = At [] AtVersion
 
--- the place behind a line
+-- the place after a line
 unfoldable pub next_at : Frame → Place → Form → Place
 next_at F (At (s ∷ ss) stage) form = At ss stage
 next_at F (At [] AtVersion) form = next_version form

@@ -16,7 +16,7 @@ pub record IsBadLine {Place Form Kind : Type 0} (L : Language Place Form Kind) (
   pub bad : L.read here (words_of row.text) ≡ Err fault.kind
   pub line_is : fault.line ≡ row.number
 
--- Something must follow behind the last line.
+-- Something must follow after the last line.
 pub record IsEndedEarly {Place Form Kind : Type 0} (L : Language Place Form Kind) (start : Place) (rows : List Row) (end : ℕ)
     (fault : FaultAt Kind) : Type 0 where
   pub forms : List Form

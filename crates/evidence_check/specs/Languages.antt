@@ -1,4 +1,4 @@
--- Languages of lines: what a line says at a place, and which place comes behind it.
+-- Languages of lines: what a line says at a place, and which place comes after it.
 use Rattle.std.specs.Prelude.{◌≡◌, ℕ, Bool, true, if◌then◌else◌, List, [], ◌∷◌, ◌++◌, map, Result, Ok, Err}
 use Rattle.text_lines.specs.Lines.{Row}
 use Rattle.text_lines.specs.Words.{words_of}
@@ -11,7 +11,7 @@ Words = List (List ℕ)
 abbrev pub words_in : List Row → List Words
 words_in rows = map (λ row. words_of row.text) rows
 
--- What a line says at a place, or what is wrong with it; the place behind it; whether nothing more must follow, and the fault where something must.
+-- What a line says at a place, or what is wrong with it; the place after it; whether nothing more must follow, and the fault where something must.
 pub record Language (Place Form Kind : Type 0) : Type 0 where
   pub read : Place → Words → Result Form Kind
   pub next : Place → Form → Place
@@ -28,12 +28,12 @@ abbrev pub with_all : {Form E : Type 0} → List Form → Result (List Form) E �
 with_all fs (Ok gs) = Ok (fs ++ gs)
 with_all fs (Err e) = Err e
 
--- a fault of the line of this number, or what goes on from a form
+-- a fault of the line of this number, or what continues from a form
 abbrev pub on_line : {Form B Kind : Type 0} → ℕ → Result Form Kind → (Form → Result B (FaultAt Kind)) → Result B (FaultAt Kind)
 on_line number (Ok form) f = f form
 on_line number (Err kind) f = Err (record { line = number; kind = kind })
 
--- what lines say from a place on, one after the other, or the first fault; `end` is the number of the line behind the last one
+-- what lines say from a place on, one after the other, or the first fault; `end` is the number of the line after the last one
 unfoldable pub reading : {Place Form Kind : Type 0} → Language Place Form Kind → Place → List Row → ℕ → Result (List Form) (FaultAt Kind)
 reading L place [] end = if L.ended place then Ok [] else Err (record { line = end; kind = L.ends })
 reading L place (row ∷ rows) end =

@@ -17,7 +17,7 @@ use Rattle.evidence_check.specs.Evidence.{others}
 use Rattle.evidence_check.specs.Documents.{Frame}
 use Rattle.evidence_check.specs.NumberTexts.{number_text}
 
--- what stands before the first such byte and behind it, where there is one
+-- what stands before the first such byte and after it, where there is one
 abbrev pub cut : ℕ → List ℕ → Option (List ℕ × List ℕ)
 cut byte [] = None
 cut byte (b ∷ bs) = if b == byte then Some ([], bs) else and_then (cut byte bs) (λ x. Some (b ∷ x.0, x.1))
@@ -54,7 +54,7 @@ lists_in over under = and_then (list_in over) (λ n. and_then (list_in under) (�
 abbrev pub whole_in : List ℕ → Option (List ℤ × List ℤ)
 whole_in text = and_then (whole_of text) (λ z. Some (monomial z 0, one_polynomial))
 
--- the two polynomials of a text, by what stands on both sides of its first slash
+-- the two polynomials of a text, by what depends on both sides of its first slash
 abbrev pub by_sides : List ℕ → Option (List ℕ × List ℕ) → Option (List ℤ × List ℤ)
 by_sides text (Some x) = or_else (fraction_in x.0 x.1) (lists_in x.0 x.1)
 by_sides text None = whole_in text

@@ -34,25 +34,25 @@ unfoldable pub Stops : Frame → ℕ → Place → List Row → ProofText → Ty
 Stops T end place old (faults.Line n kind) = reading (evidence_language T) place old end ≡ Err (record { line = n; kind = kind })
 Stops T end place old faults.NoMemory = Unit {0}
 
--- the hypotheses below `m` that a version keeps behind these steps
+-- the hypotheses below `m` that a version keeps after these steps
 abbrev pub kept_by : ℕ → ℕ → List ℕ → List ℕ
 kept_by m v js = if v == 2 then others m js else []
 
--- a line, and those behind it
+-- a line, and those after it it
 abbrev pub rows_from : Line → Remainder → List Row
 rows_from line lines = row line ∷ rows_left lines
 
--- before the line of this number, the end was read, and nothing stands behind it
+-- before the line of this number, the end was read, and nothing stands after it
 unfoldable pub EndRead : ℕ → List Row → Type 0
 EndRead end old = (T : Frame) → reading (evidence_language T) (At (TheEnd ∷ []) AtEnd) old end ≡ Ok (SaysEnd ∷ [])
 
--- the end can't be read, or something stands behind it
+-- the end can't be read, or something stands after it
 unfoldable pub EndStops : ℕ → List Row → ProofText → Type 0
 EndStops end old fault = (T : Frame) → Stops T end (At (TheEnd ∷ []) AtEnd) old fault
 
 -- (in the numbers of a case, before the line of this number)
 module _ (n : Numbers) (c : Content) (end : ℕ) where
-  -- the numbers of a component were read, one for each of these hypotheses, whatever stands behind them
+  -- the numbers of a component were read, one for each of these hypotheses, whatever stands after them
   unfoldable pub NumbersRead : Quantity → ℕ → List ℕ → List Row → List Parts → List Row → Type 0
   NumbersRead q k js old xs new =
       (T : Frame) (rest : List Slot) (stage : Stage) → IsFrameFor n c T
@@ -86,11 +86,11 @@ module _ (n : Numbers) (c : Content) (end : ℕ) where
       (T : Frame) (v : ℕ) → IsFrameFor n c T
       → Goes T end (At [] (AtSteps v [])) old (step_forms [] ss) (At [] (AtSteps v (map (λ s. s.hypothesis) ss))) new
 
-  -- behind these steps of a version, a step can't be read
+  -- after these steps of a version, a step can't be read
   unfoldable pub StepsStop : List ℕ → List Row → ProofText → Type 0
   StepsStop js old fault = (T : Frame) (v : ℕ) → IsFrameFor n c T → Stops T end (At [] (AtSteps v js)) old fault
 
-  -- a keep was read, whatever other keeps stand behind it
+  -- a keep was read, whatever other keeps stand after it
   unfoldable pub KeepRead : List ℕ → List Row → KeepParts → List Row → Type 0
   KeepRead js old x new =
       (T : Frame) (ks : List ℕ) → IsFrameFor n c T

@@ -18,7 +18,7 @@ use case_model::Case;
 use case_numbers::CaseNumber;
 use field_core::{Number, Place};
 
-/// The hypothesis of a step; where the steps are of distinct hypotheses, it is one of them.
+/// Returns the hypothesis of a step; where the steps are of distinct hypotheses, it is one of them.
 #[tactic(auto, unfolding(crate::specs::Evidence::at_place))]
 pub fn hypothesis<F>(steps: &[ProofStep<F>], e: usize) -> usize
     requires { e < length steps.now }
@@ -28,7 +28,7 @@ pub fn hypothesis<F>(steps: &[ProofStep<F>], e: usize) -> usize
     steps[e].hypothesis
 }
 
-/// The weight of the hypothesis of a step in a component.
+/// Returns the weight of the hypothesis of a step in a component.
 fn weight_of<F: CaseNumber>(case: &Case, steps: &[ProofStep<F>], c: usize, e: usize) -> F
     requires c { c < length (content case.now).components }
     requires e { e < length steps.now }
@@ -38,7 +38,7 @@ fn weight_of<F: CaseNumber>(case: &Case, steps: &[ProofStep<F>], c: usize, e: us
     weight(case, c, hypothesis(steps, e))
 }
 
-/// The edge from the hypothesis of a step to `k` in a component.
+/// Returns the edge from the hypothesis of a step to `k` in a component.
 fn edge_from<F: CaseNumber>(case: &Case, steps: &[ProofStep<F>], c: usize, e: usize, k: usize) -> F
     requires c { c < length (content case.now).components }
     requires e { e < length steps.now }
@@ -49,7 +49,7 @@ fn edge_from<F: CaseNumber>(case: &Case, steps: &[ProofStep<F>], c: usize, e: us
     edge(case, c, hypothesis(steps, e), k)
 }
 
-/// The edge from `l` to the hypothesis of a step in a component.
+/// Returns the edge from `l` to the hypothesis of a step in a component.
 fn edge_to<F: CaseNumber>(case: &Case, steps: &[ProofStep<F>], c: usize, l: usize, e: usize) -> F
     requires c { c < length (content case.now).components }
     requires l { l < length (content case.now).names }
@@ -60,7 +60,7 @@ fn edge_to<F: CaseNumber>(case: &Case, steps: &[ProofStep<F>], c: usize, l: usiz
     edge(case, c, l, hypothesis(steps, e))
 }
 
-/// The number at a place.
+/// Returns the number at a place.
 #[tactic(auto, unfolding(crate::specs::EvidenceParts::numbers_at))]
 pub fn number<F: Number>(numbers: &[F], e: usize) -> F
     requires { e < length numbers.now }
@@ -83,7 +83,8 @@ pub fn brought<F: CaseNumber>(
     requires k { k < length (content case.now).names }
     requires count { length flows.now ≡ length earlier.now }
     requires order { IsOrder (length (content case.now).names) whole (hypotheses_of earlier.now) }
-    ensures { ok_map F.parts result ≡ brought_sum F.kind (loaded_case F.kind F.numbers (content case.now)) (hypotheses_of earlier.now) place
+    ensures { ok_map F.parts result ≡ brought_sum F.kind (loaded_case F.kind F.numbers (content case.now))
+        (hypotheses_of earlier.now) place
         (numbers_at F.kind (map F.parts flows.now)) k c }
 {
     added(

@@ -24,7 +24,7 @@ use crate::{CheckWide, Evidence, KeepProof, ProofStep, Steps, Verdict};
 use case_model::Case;
 use case_numbers::CaseNumber;
 
-/// An event with the number of its step or keep.
+/// Returns an event with the number of its step or keep.
 #[tactic(auto, unfolding(crate::specs::CheckSteps::numbered))]
 fn numbered(number: usize, checked: Result<(), CheckEvent>) -> Result<(), CheckEventAt>
     ensures { result ≡ numbered number checked }
@@ -35,7 +35,7 @@ fn numbered(number: usize, checked: Result<(), CheckEvent>) -> Result<(), CheckE
     }
 }
 
-/// What a check that ended so answers.
+/// Returns what a check that ended so answers.
 #[tactic(auto, unfolding(crate::specs::CaseCheck::verdict_of))]
 pub fn verdict(checked: Result<(), CheckEventAt>) -> Result<Verdict, CheckWide>
     ensures { result ≡ verdict_of checked }
@@ -49,13 +49,14 @@ pub fn verdict(checked: Result<(), CheckEventAt>) -> Result<Verdict, CheckWide>
     }
 }
 
-/// The conditions on all steps, in their order. Where they are met, the steps are of distinct hypotheses.
+/// Returns the conditions on all steps, in their order. Where they are met, the steps are of distinct hypotheses.
 pub fn steps<F: CaseNumber>(case: &Case, steps: &[ProofStep<F>]) -> Result<(), CheckEventAt>
     requires single { IsSingle (content case.now).inputs }
     requires below { All (λ s. s.hypothesis < length (content case.now).names) (map (step_parts F.parts) steps.now) }
     requires fit { FlowsFit (length (content case.now).components) 0 (map (step_parts F.parts) steps.now) }
     requires loaded { IsLoaded F.IsStored (loaded_case F.kind F.numbers (content case.now)) (entangled (content case.now)) }
-    ensures checked { ok_map (λ u. hypotheses_of steps.now) result ≡ steps_check F.kind (loaded_case F.kind F.numbers (content case.now)) []
+    ensures checked { ok_map (λ u. hypotheses_of steps.now) result ≡ steps_check F.kind
+        (loaded_case F.kind F.numbers (content case.now)) []
         (map (step_parts F.parts) steps.now) }
     ensures order { IfOk result (λ u. IsOrder (length (content case.now).names) whole (hypotheses_of steps.now)) }
 {
@@ -65,7 +66,7 @@ pub fn steps<F: CaseNumber>(case: &Case, steps: &[ProofStep<F>]) -> Result<(), C
     Ok(())
 }
 
-/// The conditions on all keeps, in their order, after so many steps.
+/// Returns the conditions on all keeps, in their order, after this number of steps.
 pub fn keeps<F: CaseNumber>(
     case: &Case,
     steps: &[ProofStep<F>],
@@ -85,13 +86,15 @@ pub fn keeps<F: CaseNumber>(
     Ok(())
 }
 
-/// The whole check of evidence, in these numbers. The loading of the case is step 0.
+/// Returns the whole check of evidence, in these numbers. The loading of the case is step 0.
 fn checked<F: EvidenceNumber>(case: &Case, proof: &Steps<F>) -> Result<(), CheckEventAt>
     requires single { IsSingle (content case.now).inputs }
     requires runs { CanRunIn F.numbers (content case.now) }
-    requires size { FitsSize (length (content case.now).names) (length (content case.now).components) (map (step_parts F.parts) proof.now.steps)
+    requires size { FitsSize (length (content case.now).names) (length (content case.now).components)
+        (map (step_parts F.parts) proof.now.steps)
         (map (keep_parts F.parts) proof.now.keeps) }
-    ensures { result ≡ check_in F.kind F.numbers (content case.now) (map (step_parts F.parts) proof.now.steps) (map (keep_parts F.parts) proof.now.keeps) }
+    ensures { result ≡ check_in F.kind F.numbers (content case.now) (map (step_parts F.parts) proof.now.steps)
+        (map (keep_parts F.parts) proof.now.keeps) }
 {
     let listed = proof.steps.as_slice();
     let kept = proof.keeps.as_slice();
@@ -100,7 +103,7 @@ fn checked<F: EvidenceNumber>(case: &Case, proof: &Steps<F>) -> Result<(), Check
     keeps(case, listed, kept)
 }
 
-/// The whole check of evidence for a case.
+/// Returns the whole check of evidence for a case.
 fn checked_for(case: &Case, proof: &Evidence) -> Result<(), CheckEventAt>
     requires single { IsSingle (content case.now).inputs }
     requires fits { IsEvidenceFor (content case.now) proof.now }
@@ -123,9 +126,12 @@ pub fn check(case: &Case, proof: &Evidence) -> Result<Verdict, CheckWide>
     requires fits { IsEvidenceFor (content case.now) proof.now }
     ensures answer { result ≡ verdict_of (case_check (content case.now) (steps_of proof.now) (keeps_of proof.now)) }
     ensures yes { result ≡ Ok Yes → MeetsIn (content case.now) (steps_of proof.now) (keeps_of proof.now) }
-    ensures no { (n : ℕ) (reason : Broken) → result ≡ Ok (No n reason) → ¬ MeetsIn (content case.now) (steps_of proof.now) (keeps_of proof.now) }
-    ensures rejected { result ≡ Ok Yes → (j : ℕ) → IsListed (map (λ s. s.hypothesis) (steps_of proof.now)) j → IsRejectedIn (content case.now) j }
-    ensures all { result ≡ Ok Yes → version_of proof.now ≡ 2 → (j : ℕ) → IsListed (map (λ s. s.hypothesis) (steps_of proof.now)) j
+    ensures no { (n : ℕ) (reason : Broken) → result ≡ Ok (No n reason)
+        → ¬ MeetsIn (content case.now) (steps_of proof.now) (keeps_of proof.now) }
+    ensures rejected { result ≡ Ok Yes → (j : ℕ) → IsListed (map (λ s. s.hypothesis) (steps_of proof.now)) j
+        → IsRejectedIn (content case.now) j }
+    ensures all { result ≡ Ok Yes → version_of proof.now ≡ 2 → (j : ℕ)
+        → IsListed (map (λ s. s.hypothesis) (steps_of proof.now)) j
         ↔ IsRejectedIn (content case.now) j }
 {
     verdict(checked_for(case, proof))

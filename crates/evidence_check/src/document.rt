@@ -7,7 +7,17 @@ ghost use Rattle.case_model.specs.CaseView.{content};
 ghost use Rattle.evidence_check.specs.Evidence.{others};
 ghost use Rattle.evidence_check.specs.EvidenceParts.{AreFull, FlowsFit, ExitsFit};
 ghost use Rattle.evidence_check.specs.EvidenceView.{hypotheses_of, step_parts, keep_parts};
-ghost use Rattle.evidence_check.specs.ReadView.{rows_from, kept_by, NumbersRead, NumbersStop, ListsRead, ListsStop, StepRead, StepsRead, StepsStop};
+ghost use Rattle.evidence_check.specs.ReadView.{
+  rows_from,
+  kept_by,
+  NumbersRead,
+  NumbersStop,
+  ListsRead,
+  ListsStop,
+  StepRead,
+  StepsRead,
+  StepsStop,
+};
 ghost use Rattle.evidence_check.specs.ReadView.{KeepRead, KeepsRead, KeepsStop, EndRead, EndStops};
 ghost use Rattle.evidence_check.specs.declared.fault.ProofKind.TheVariants.{Unexpected, Ended};
 ghost use Rattle.evidence_check.specs.declared.fault.ProofText.TheVariants as faults;
@@ -20,7 +30,7 @@ use field_core::List;
 use std::alloc::Global;
 use text_lines::{Line, Lines, Words};
 
-/// The next line, which must be there.
+/// Returns the next line, which must be there.
 pub fn next_line<'a>(lines: &mut Lines<'a>) -> Result<Line<'a>, ProofText>
     ensures found { IfOk result (λ line. rows_left lines.old ≡ row line ∷ rows_left lines.new) }
     ensures fault { IfErr result (λ fault. (rows_left lines.old ≡ []) × (fault ≡ faults.Line (end_at lines.old) Ended)) }
@@ -32,7 +42,7 @@ pub fn next_line<'a>(lines: &mut Lines<'a>) -> Result<Line<'a>, ProofText>
     }
 }
 
-/// The numbers of a component, one for each of these steps.
+/// Returns the numbers of a component, one for each of these steps.
 pub fn numbers<F: EvidenceNumber>(
     alloc: Global,
     lines: &mut Lines,
@@ -43,10 +53,12 @@ pub fn numbers<F: EvidenceNumber>(
 ) -> Result<List<F>, ProofText>
     requires c { c < 8 }
     requires known { All (λ j. j < length (content case.now).names) (hypotheses_of steps.now) }
-    ensures found { IfOk result (λ xs. NumbersRead F.numbers (content case.now) (end_at lines.old) quantity c (hypotheses_of steps.now) (rows_left lines.old)
+    ensures found { IfOk result (λ xs. NumbersRead F.numbers (content case.now) (end_at lines.old) quantity c
+        (hypotheses_of steps.now) (rows_left lines.old)
         (map F.parts xs) (rows_left lines.new)) }
     ensures count { IfOk result (λ xs. length xs ≡ length steps.now) }
-    ensures fault { IfErr result (NumbersStop F.numbers (content case.now) (end_at lines.old) quantity c (hypotheses_of steps.now) (rows_left lines.old)) }
+    ensures fault { IfErr result (NumbersStop F.numbers (content case.now) (end_at lines.old) quantity c
+        (hypotheses_of steps.now) (rows_left lines.old)) }
     ensures end { end_at lines.new ≡ end_at lines.old }
     ensures left { IfOk result (λ _. length (rows_left lines.new) ≤ length (rows_left lines.old)) }
 {
@@ -62,7 +74,7 @@ pub fn numbers<F: EvidenceNumber>(
     Ok(numbers)
 }
 
-/// The numbers of all components, in each one for each of these steps.
+/// Returns the numbers of all components, in each one for each of these steps.
 pub fn lists<F: EvidenceNumber>(
     alloc: Global,
     lines: &mut Lines,
@@ -71,10 +83,12 @@ pub fn lists<F: EvidenceNumber>(
     steps: &[ProofStep<F>],
 ) -> Result<List<List<F>>, ProofText>
     requires known { All (λ j. j < length (content case.now).names) (hypotheses_of steps.now) }
-    ensures found { IfOk result (λ xs. ListsRead F.numbers (content case.now) (end_at lines.old) quantity (hypotheses_of steps.now) (rows_left lines.old)
+    ensures found { IfOk result (λ xs. ListsRead F.numbers (content case.now) (end_at lines.old) quantity
+        (hypotheses_of steps.now) (rows_left lines.old)
         (map (map F.parts) xs) (rows_left lines.new)) }
     ensures full { IfOk result (λ xs. AreFull (length (content case.now).components) (length steps.now) (map (map F.parts) xs)) }
-    ensures fault { IfErr result (ListsStop F.numbers (content case.now) (end_at lines.old) quantity (hypotheses_of steps.now) (rows_left lines.old)) }
+    ensures fault { IfErr result (ListsStop F.numbers (content case.now) (end_at lines.old) quantity
+        (hypotheses_of steps.now) (rows_left lines.old)) }
     ensures end { end_at lines.new ≡ end_at lines.old }
     ensures left { IfOk result (λ _. length (rows_left lines.new) ≤ length (rows_left lines.old)) }
 {
@@ -85,7 +99,7 @@ pub fn lists<F: EvidenceNumber>(
     Ok(lists)
 }
 
-/// A step behind others, whose first line this is; `words` stand there behind `step`.
+/// Returns a step after others, whose first line this is; `words` stand there after `step`.
 pub fn step<F: EvidenceNumber>(
     alloc: Global,
     lines: &mut Lines,
@@ -96,11 +110,13 @@ pub fn step<F: EvidenceNumber>(
 ) -> Result<ProofStep<F>, ProofText>
     requires first { Some (words_of words) ≡ words_behind (codes "step") (words_of line.now.text.now) }
     requires known { All (λ j. j < length (content case.now).names) (hypotheses_of earlier.now) }
-    ensures found { IfOk result (λ s. StepRead F.numbers (content case.now) (end_at lines.old) (hypotheses_of earlier.now) (rows_from line.now lines.old)
+    ensures found { IfOk result (λ s. StepRead F.numbers (content case.now) (end_at lines.old)
+        (hypotheses_of earlier.now) (rows_from line.now lines.old)
         (step_parts F.parts s) (rows_left lines.new)) }
     ensures known { IfOk result (λ s. s.hypothesis < length (content case.now).names) }
     ensures full { IfOk result (λ s. AreFull (length (content case.now).components) (length earlier.now) (map (map F.parts) s.flows)) }
-    ensures fault { IfErr result (StepsStop F.numbers (content case.now) (end_at lines.old) (hypotheses_of earlier.now) (rows_from line.now lines.old)) }
+    ensures fault { IfErr result (StepsStop F.numbers (content case.now) (end_at lines.old) (hypotheses_of earlier.now)
+        (rows_from line.now lines.old)) }
     ensures end { end_at lines.new ≡ end_at lines.old }
     ensures left { IfOk result (λ _. length (rows_left lines.new) ≤ length (rows_left lines.old)) }
 {
@@ -113,13 +129,14 @@ pub fn step<F: EvidenceNumber>(
     }
 }
 
-/// All steps, and the line behind them.
+/// All steps, and the line after them.
 pub fn steps<'a, F: EvidenceNumber>(
     alloc: Global,
     lines: &mut Lines<'a>,
     case: &Case,
 ) -> Result<(List<ProofStep<F>>, Line<'a>), ProofText>
-    ensures found { IfOk result (λ x. StepsRead F.numbers (content case.now) (end_at lines.old) (rows_left lines.old) (map (step_parts F.parts) x.0)
+    ensures found { IfOk result (λ x. StepsRead F.numbers (content case.now) (end_at lines.old) (rows_left lines.old)
+        (map (step_parts F.parts) x.0)
         (rows_from x.1 lines.new)) }
     ensures behind { IfOk result (λ x. words_behind (codes "step") (words_of x.1.text.now) ≡ None) }
     ensures known { IfOk result (λ x. All (λ j. j < length (content case.now).names) (hypotheses_of x.0)) }
@@ -136,7 +153,7 @@ pub fn steps<'a, F: EvidenceNumber>(
     Ok((steps, line))
 }
 
-/// The keep of a hypothesis, whose first line this is.
+/// Returns the keep of a hypothesis, whose first line this is.
 pub fn keep<F: EvidenceNumber>(
     alloc: Global,
     lines: &mut Lines,
@@ -147,12 +164,14 @@ pub fn keep<F: EvidenceNumber>(
 ) -> Result<KeepProof<F>, ProofText>
     requires hypothesis { hypothesis < length (content case.now).names }
     requires known { All (λ j. j < length (content case.now).names) (hypotheses_of steps.now) }
-    ensures found { IfOk result (λ x. KeepRead F.numbers (content case.now) (end_at lines.old) (hypotheses_of steps.now) (rows_from line.now lines.old)
+    ensures found { IfOk result (λ x. KeepRead F.numbers (content case.now) (end_at lines.old)
+        (hypotheses_of steps.now) (rows_from line.now lines.old)
         (keep_parts F.parts x) (rows_left lines.new)) }
     ensures same { IfOk result (λ x. x.hypothesis ≡ hypothesis) }
     ensures full { IfOk result (λ x. AreFull (length (content case.now).components) (length steps.now) (map (map F.parts) x.exits)) }
     ensures fault { IfErr result (λ fault. (ks : Seq ℕ)
-        → KeepsStop F.numbers (content case.now) (end_at lines.old) (hypotheses_of steps.now) (hypothesis ∷ ks) (rows_from line.now lines.old) fault) }
+        → KeepsStop F.numbers (content case.now) (end_at lines.old) (hypotheses_of steps.now) (hypothesis ∷ ks)
+        (rows_from line.now lines.old) fault) }
     ensures end { end_at lines.new ≡ end_at lines.old }
 {
     match rules::keep(line, case.name(hypothesis)) {
@@ -164,7 +183,7 @@ pub fn keep<F: EvidenceNumber>(
     }
 }
 
-/// The keeps of all hypotheses that no step names, ascending, and the line behind them; `first` is their first line.
+/// Returns the keeps of all hypotheses that no step names, ascending, and the line after them; `first` is their first line.
 pub fn keeps<'a, F: EvidenceNumber>(
     alloc: Global,
     lines: &mut Lines<'a>,
@@ -193,8 +212,8 @@ pub fn keeps<'a, F: EvidenceNumber>(
     Ok((keeps, line))
 }
 
-/// The keeps of a version, and the line behind them: in version 2 those of all hypotheses that no step names, and else
-/// none. `first` is their first line, or the line behind.
+/// Returns the keeps of a version, and the line after them: in version 2 those of all hypotheses that no step names,
+/// and else none. `first` is their first line, or the line after.
 pub fn kept<'a, F: EvidenceNumber>(
     alloc: Global,
     lines: &mut Lines<'a>,
@@ -207,7 +226,8 @@ pub fn kept<'a, F: EvidenceNumber>(
     ensures found { IfOk result (λ x. KeepsRead F.numbers (content case.now) (end_at lines.old) (hypotheses_of steps.now)
         (kept_by (length (content case.now).names) version (hypotheses_of steps.now)) (rows_from first.entry lines.old)
         (map (keep_parts F.parts) x.0) [] (rows_from x.1 lines.new)) }
-    ensures all { IfOk result (λ x. map (λ k. k.hypothesis) x.0 ≡ kept_by (length (content case.now).names) version (hypotheses_of steps.now)) }
+    ensures all { IfOk result (λ x. map (λ k. k.hypothesis) x.0 ≡ kept_by (length (content case.now).names) version
+        (hypotheses_of steps.now)) }
     ensures full { IfOk result (λ x. ExitsFit (length (content case.now).components) (length steps.now) (map (keep_parts F.parts) x.0)) }
     ensures fault { IfErr result (KeepsStop F.numbers (content case.now) (end_at lines.old) (hypotheses_of steps.now)
         (kept_by (length (content case.now).names) version (hypotheses_of steps.now)) (rows_from first.entry lines.old)) }
@@ -220,7 +240,7 @@ pub fn kept<'a, F: EvidenceNumber>(
     }
 }
 
-/// No line is behind those taken so far.
+/// No line is after those taken so far.
 fn nothing_behind(lines: &mut Lines) -> Result<(), ProofText>
     ensures none { IfOk result (λ _. rows_left lines.old ≡ []) }
     ensures more { IfErr result (λ fault. (next : Row) × (more : Seq Row) × (rows_left lines.old ≡ next ∷ more)
@@ -232,7 +252,7 @@ fn nothing_behind(lines: &mut Lines) -> Result<(), ProofText>
     }
 }
 
-/// The end, in this line, and no line behind it.
+/// Returns the end, in this line, and no line after it.
 pub fn end(lines: &mut Lines, line: &Line) -> Result<(), ProofText>
     ensures found { IfOk result (λ _. EndRead (end_at lines.old) (rows_from line.now lines.old)) }
     ensures fault { IfErr result (EndStops (end_at lines.old) (rows_from line.now lines.old)) }

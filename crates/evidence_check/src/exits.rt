@@ -84,8 +84,10 @@ pub fn limit<F: CaseNumber>(
     requires full { AreFull (length (content case.now).components) (length steps.now) (map (map F.parts) lists.now) }
     requires order { IsOrder (length (content case.now).names) whole (hypotheses_of steps.now) }
     requires loaded { IsLoaded F.IsStored (loaded_case F.kind F.numbers (content case.now)) (entangled (content case.now)) }
-    requires exits { (r : ℕ) → r < length (hypotheses_of steps.now) → number_zero ≤ε value_of (part_at F.kind (map (map F.parts) lists.now) c r) }
-    ensures { ok_map fraction_parts result ≡ allowed_limit F.kind (loaded_case F.kind F.numbers (content case.now)) (hypotheses_of steps.now)
+    requires exits { (r : ℕ) → r < length (hypotheses_of steps.now)
+        → number_zero ≤ε value_of (part_at F.kind (map (map F.parts) lists.now) c r) }
+    ensures { ok_map fraction_parts result ≡ allowed_limit F.kind (loaded_case F.kind F.numbers (content case.now))
+        (hypotheses_of steps.now)
         (part_at F.kind (map (map F.parts) lists.now) c) k c }
 {
     let sum = allowed(case, steps, c, in_component(lists, c), k)?;

@@ -4,7 +4,7 @@ use field_core::NoMemory;
 /// What is wrong with a line of evidence.
 #[derive(Clone, Copy, PartialEq, Eq, Debug)]
 pub enum ProofKind {
-    /// The first word isn't one that may stand here, or the name of a `keep` isn't the one that must, or the line is behind
+    /// The first word isn't one that may be here, or the name of a `keep` isn't the one that must, or the line is after
     /// `end`.
     Unexpected,
     /// The document ends before `end`.
@@ -26,10 +26,10 @@ pub enum ProofKind {
 /// Why a text says no evidence.
 #[derive(Clone, Copy, PartialEq, Eq, Debug)]
 pub enum ProofText {
-    /// The number of the first line that can't stand where it stands, from 1, and what is wrong with it. Where the document
-    /// ends too early it is the number of lines plus 1.
+    /// The number of the first line that isn't allowed where it stands, from 1, and what is wrong with it. Where the
+    /// document ends too early it is the number of lines plus 1.
     Line(usize, ProofKind),
-    /// Memory ran out.
+    /// Out of memory.
     NoMemory,
 }
 

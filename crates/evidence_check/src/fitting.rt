@@ -11,21 +11,21 @@ use crate::{Evidence, KeepProof, ProofStep, Steps};
 use case_model::Case;
 use field_core::{List, Number};
 
-/// Whether each component has so many numbers.
+/// Whether each component has this number of numbers.
 fn are_counted<F>(count: usize, lists: &List<List<F>>) -> bool
     ensures { result ≡ list_all (λ ys. length ys == count) lists.now }
 {
     lists.iter().all(|numbers| numbers.len() == count)
 }
 
-/// Whether there are so many components, each with so many numbers.
+/// Whether there are this number of components, each with this number of numbers.
 fn are_full<F: Number>(components: usize, count: usize, lists: &List<List<F>>) -> bool
     ensures { IsTrue result ↔ AreFull components count (map (map F.parts) lists.now) }
 {
     lists.len() == components && are_counted(count, lists)
 }
 
-/// Whether a step after so many others has a hypothesis of the case, and all its flows.
+/// Whether a step after this number of others has a hypothesis of the case, and all its flows.
 fn step_fits<F: Number>(case: &Case, earlier: usize, step: &ProofStep<F>) -> bool
     ensures { IsTrue result ↔ ((step.now.hypothesis < length (content case.now).names)
         × AreFull (length (content case.now).components) earlier (map (map F.parts) step.now.flows)) }
@@ -46,7 +46,7 @@ fn steps_fit<F: Number>(case: &Case, steps: &[ProofStep<F>]) -> bool
     true
 }
 
-/// Whether a keep after so many steps has a hypothesis of the case, and all its exits.
+/// Whether a keep after this number of steps has a hypothesis of the case, and all its exits.
 fn keep_fits<F: Number>(case: &Case, steps: usize, keep: &KeepProof<F>) -> bool
     ensures { IsTrue result ↔ ((keep.now.hypothesis < length (content case.now).names)
         × AreFull (length (content case.now).components) steps (map (map F.parts) keep.now.exits)) }

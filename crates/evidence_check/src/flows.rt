@@ -42,7 +42,7 @@ fn flow<F: CaseNumber>(
     require(order.is_le(), Reason::Exceeds(c, r))
 }
 
-/// The numbers of a component.
+/// Returns the numbers of a component.
 pub fn in_component<F: Number>(lists: &List<List<F>>, c: usize) -> &[F]
     requires { c < length lists.now }
     ensures numbers { map F.parts result.now ≡ get_or (map (map F.parts) lists.now) c [] }

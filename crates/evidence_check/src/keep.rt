@@ -25,7 +25,7 @@ use case_numbers::CaseNumber;
 use field_core::List;
 use fraction::Fraction;
 
-/// The level that exits, none of which is below 0, allow to `k`.
+/// Returns the level that exits, none of which is below 0, allow to `k`.
 fn keep_level<F: CaseNumber>(
     case: &Case,
     steps: &[ProofStep<F>],
@@ -45,7 +45,7 @@ fn keep_level<F: CaseNumber>(
     level(case, k, |c| limit(case, steps, lists, k, c))
 }
 
-/// The conditions on a keep after all steps, in their order.
+/// Returns the conditions on a keep after all steps, in their order.
 pub fn keep<F: CaseNumber>(
     case: &Case,
     steps: &[ProofStep<F>],
@@ -56,7 +56,8 @@ pub fn keep<F: CaseNumber>(
     requires full { AreFull (length (content case.now).components) (length steps.now) (map (map F.parts) keep.now.exits) }
     requires order { IsOrder (length (content case.now).names) whole (hypotheses_of steps.now) }
     requires loaded { IsLoaded F.IsStored (loaded_case F.kind F.numbers (content case.now)) (entangled (content case.now)) }
-    ensures { result ≡ keep_check F.kind (loaded_case F.kind F.numbers (content case.now)) (hypotheses_of steps.now) (keep_parts F.parts keep.now) }
+    ensures { result ≡ keep_check F.kind (loaded_case F.kind F.numbers (content case.now)) (hypotheses_of steps.now)
+        (keep_parts F.parts keep.now) }
 {
     let k = keep.hypothesis;
     all_below(case.components(), |c| exits(case, steps, &keep.exits, k, c))?;

@@ -3,7 +3,13 @@
 ghost use Rattle.evidence_check.specs.EvidenceStatements.{EvidenceListsLegalOrders, EvidenceListsRejections, EvidenceWithKeepsIsComplete};
 ghost use Rattle.evidence_check.specs.EvidenceStatements.{EvidenceWithKeepsDecides};
 ghost use Rattle.evidence_check.specs.CheckStatements.{ChecksAreSound, ChecksAreFair};
-ghost use Rattle.evidence_check.specs.CaseCheck.{CaseChecksAreSound, CaseChecksAreFair, CaseChecksNameBroken, CheckedAreRejected, CheckedAreAllRejected};
+ghost use Rattle.evidence_check.specs.CaseCheck.{
+  CaseChecksAreSound,
+  CaseChecksAreFair,
+  CaseChecksNameBroken,
+  CheckedAreRejected,
+  CheckedAreAllRejected,
+};
 ghost use Rattle.evidence_check.specs.DocumentStatements.{CasesHaveFrames, ReadingsAreDocuments, FaultsAreBadLines, LinesSayOneEvidence};
 ghost use Rattle.evidence_check.specs.DocumentStatements.{TextsSayOneEvidence, TextsDontSayAndFail, TextsHaveOneFault, TextsSayOrFail};
 ghost use Rattle.evidence_check.specs.DocumentStatements.{LinesSayTheirEvidence, StoredNumbersArePrinted, EvidenceTextsSayIt};
@@ -75,7 +81,7 @@ pub fn lines_say_their_evidence()
     ensures text { EvidenceTextsSayIt }
 {}
 
-/// The first fault of a text is in the first line with which no document goes on, or the text ends too early.
+/// The first fault of a text is in the first line with which no document continues, or the text ends too early.
 pub fn first_faults_end_documents()
     ensures there { FaultsAreWhereNoneGoesOn }
     ensures line { NoneGoesOnIsFault }

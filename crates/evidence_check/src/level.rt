@@ -19,10 +19,11 @@ use case_model::{Case, passes};
 use field_core::{Number, Place, try_fill};
 use fraction::Fraction;
 
-/// The sum of the shares times limits, as the level of `k`.
+/// Returns the sum of the shares times limits, as the level of `k`.
 fn shared_sum(case: &Case, k: usize, limits: &[Fraction]) -> Result<Fraction, CheckEvent>
     requires { length limits.now ≡ length (content case.now).components }
-    ensures { (K : Kind) (n : Numbers) → ok_map fraction_parts result ≡ shared_sum (loaded_case K n (content case.now)) k (map fraction_parts limits.now) }
+    ensures { (K : Kind) (n : Numbers) → ok_map fraction_parts result ≡ shared_sum (loaded_case K n
+        (content case.now)) k (map fraction_parts limits.now) }
 {
     let mut sum = Fraction::zero();
     for c in 0..limits.len() {
@@ -31,7 +32,8 @@ fn shared_sum(case: &Case, k: usize, limits: &[Fraction]) -> Result<Fraction, Ch
     Ok(sum)
 }
 
-/// The level of `k` by the limits that `limit` gives in the components, once all are there. They are written to `limits`.
+/// Returns the level of `k` by the limits that `limit` gives in the components, once all are there. They are written to
+/// `limits`.
 fn level_in<L: Fn(usize) -> Result<Fraction, CheckEvent>>(
     case: &Case,
     k: usize,
@@ -41,14 +43,15 @@ fn level_in<L: Fn(usize) -> Result<Fraction, CheckEvent>>(
     requires limit { (c : ℕ) → c < length (content case.now).components → L.pre limit c }
     requires room { length limits.old ≡ length (content case.now).components }
     ensures { (K : Kind) (n : Numbers) (f : ℕ → Answer Parts Ended)
-        → ((c : ℕ) (r : Answer Ratio Ended) → c < length (content case.now).components → L.post limit c r → ok_map fraction_parts r ≡ f c)
+        → ((c : ℕ) (r : Answer Ratio Ended) → c < length (content case.now).components → L.post limit c r
+        → ok_map fraction_parts r ≡ f c)
         → ok_map fraction_parts result ≡ level_by (loaded_case K n (content case.now)) k f }
 {
     try_fill(limits, limit)?;
     shared_sum(case, k, limits)
 }
 
-/// The level of `k` by the limits that `limit` gives in the components, once all are there.
+/// Returns the level of `k` by the limits that `limit` gives in the components, once all are there.
 pub fn level<L: Fn(usize) -> Result<Fraction, CheckEvent>>(
     case: &Case,
     k: usize,
@@ -56,7 +59,8 @@ pub fn level<L: Fn(usize) -> Result<Fraction, CheckEvent>>(
 ) -> Result<Fraction, CheckEvent>
     requires { (c : ℕ) → c < length (content case.now).components → L.pre limit c }
     ensures { (K : Kind) (n : Numbers) (f : ℕ → Answer Parts Ended)
-        → ((c : ℕ) (r : Answer Ratio Ended) → c < length (content case.now).components → L.post limit c r → ok_map fraction_parts r ≡ f c)
+        → ((c : ℕ) (r : Answer Ratio Ended) → c < length (content case.now).components → L.post limit c r
+        → ok_map fraction_parts r ≡ f c)
         → ok_map fraction_parts result ≡ level_by (loaded_case K n (content case.now)) k f }
 {
     let mut limits = [Fraction::zero(); 8];
@@ -74,7 +78,8 @@ pub fn is_above_zero(level: &Fraction) -> bool
 pub fn passes_at(case: &Case, k: usize, level: &Fraction) -> bool
     requires single { IsSingle (content case.now).inputs }
     requires k { k < length (content case.now).names }
-    ensures { (K : Kind) (n : Numbers) → result ≡ does_pass ((loaded_case K n (content case.now)).p k) (value_of (fraction_parts level.now))
+    ensures { (K : Kind) (n : Numbers) → result ≡ does_pass ((loaded_case K n (content case.now)).p k) (value_of
+        (fraction_parts level.now))
         (loaded_case K n (content case.now)).alpha }
 {
     passes(&p_value(case, k), level, &case.alpha())

@@ -6,7 +6,7 @@
 //!   implies that the closed test rejects each hypothesis that is listed) and `all` (where each other hypothesis is
 //!   kept, a yes implies that it rejects no other). It removes no hypothesis and takes no memory.
 //! - `read`: `found` and `fits` (the document says this evidence, which fits the case), `fault` (the first line that
-//!   can't stand, with its kind).
+//!   isn't allowed, with its kind).
 //! - Laws in `src/laws.rt`: evidence that meets its conditions lists a legal order, and with all keeps a complete
 //!   one, whoever made it (`evidence_implies_rejections`); the written check is sound and fair.
 #![tactic(auto)]

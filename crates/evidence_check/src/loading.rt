@@ -28,7 +28,7 @@ fn has_bracket(text: &[u8]) -> bool
     text.iter().any(|byte| *byte == b'[')
 }
 
-/// The constant of a quotient as a fraction.
+/// Returns the constant of a quotient as a fraction.
 fn constant(quotient: &EpsQuotient) -> Option<Fraction>
     ensures found { IfSome result (λ x. IsConstantOf (quotient_parts quotient.now) (fraction_parts x)) }
     ensures only { (x : Parts) → IsConstantOf (quotient_parts quotient.now) x → option_map fraction_parts result ≡ Some x }
@@ -40,7 +40,7 @@ fn constant(quotient: &EpsQuotient) -> Option<Fraction>
 
 /// Numbers that evidence is checked and read in.
 pub trait EvidenceNumber: CaseNumber {
-    /// The number of a text: that of a quotient, or a fraction without brackets. Anything else gives `None`.
+    /// Returns the number of a text: that of a quotient, or a fraction without brackets. Anything else gives `None`.
     fn read(text: &[u8]) -> Option<Self>
         ensures found { IsNumberOf Self.numbers text.now (option_map Self.parts result) }
         ensures only { (x : Parts) → IsNumberText Self.numbers text.now x → option_map Self.parts result ≡ Some x };
@@ -68,7 +68,7 @@ impl EvidenceNumber for EpsQuotient {
     ghost stored_is = { λ x h. h };
 }
 
-/// The weight of a hypothesis in a component.
+/// Returns the weight of a hypothesis in a component.
 #[tactic(auto, unfolding(crate::specs::CaseCheck::loaded_case))]
 pub fn weight<F: CaseNumber>(case: &Case, c: usize, k: usize) -> F
     requires c { c < length (content case.now).components }
@@ -78,7 +78,7 @@ pub fn weight<F: CaseNumber>(case: &Case, c: usize, k: usize) -> F
     F::weight(&case.weight(c, k))
 }
 
-/// The edge from a hypothesis to a hypothesis in a component; 0 where it can't be loaded.
+/// Returns the edge from a hypothesis to a hypothesis in a component; 0 where it can't be loaded.
 #[tactic(auto, unfolding(crate::specs::CaseCheck::loaded_case, crate::specs::CaseCheck::written_edge))]
 pub fn edge<F: CaseNumber>(case: &Case, c: usize, l: usize, k: usize) -> F
     requires c { c < length (content case.now).components }
@@ -92,7 +92,7 @@ pub fn edge<F: CaseNumber>(case: &Case, c: usize, l: usize, k: usize) -> F
     }
 }
 
-/// The p-value of a hypothesis.
+/// Returns the p-value of a hypothesis.
 #[tactic(auto, unfolding(case_model::specs::Sums::ratio_at), using(crate::proofs::PValues::p_at))]
 pub fn p_value(case: &Case, k: usize) -> Fraction
     requires single { IsSingle (content case.now).inputs }

@@ -4,14 +4,14 @@ ghost use Rattle.evidence_check.specs.Documents.{keyword, place_fault};
 
 use crate::ProofKind;
 
-/// What the numbers of evidence are: those behind a step, or those behind a keep.
+/// What the numbers of evidence are: those after it a step, or those after it a keep.
 #[derive(Clone, Copy, PartialEq, Eq, Debug)]
 pub enum Quantity {
     Flow,
     Exit,
 }
 
-/// The first word of the line of a number.
+/// Returns the first word of the line of a number.
 pub fn keyword(quantity: Quantity) -> &'static [u8]
     ensures { result.now ≡ keyword quantity }
 {
@@ -21,7 +21,7 @@ pub fn keyword(quantity: Quantity) -> &'static [u8]
     }
 }
 
-/// What is wrong where the component or the name isn't the one that must stand there.
+/// Returns what is wrong where the component or the name isn't the one that must stand there.
 pub fn place_fault(quantity: Quantity) -> ProofKind
     ensures { result ≡ place_fault quantity }
 {

@@ -13,7 +13,7 @@ use case_model::Case;
 use std::alloc::Global;
 use text_lines::Lines;
 
-/// The evidence that a text says, in these numbers.
+/// Returns the evidence that a text says, in these numbers.
 fn read_in<F: EvidenceNumber>(
     alloc: Global,
     case: &Case,
@@ -21,7 +21,8 @@ fn read_in<F: EvidenceNumber>(
 ) -> Result<Steps<F>, ProofText>
     ensures found { IfOk result (λ v. SayEvidence F.numbers (content case.now) (end_of bytes.now) (rows_of bytes.now) v.version
         (map (step_parts F.parts) v.steps) (map (keep_parts F.parts) v.keeps)) }
-    ensures fits { IfOk result (λ v. FitsCase (content case.now) v.version (map (step_parts F.parts) v.steps) (map (keep_parts F.parts) v.keeps)) }
+    ensures fits { IfOk result (λ v. FitsCase (content case.now) v.version (map (step_parts F.parts) v.steps) (map
+        (keep_parts F.parts) v.keeps)) }
     ensures fault { IfErr result (HaveFault F.numbers (content case.now) (end_of bytes.now) (rows_of bytes.now)) }
 {
     let mut lines = Lines::new(bytes);
@@ -40,7 +41,7 @@ fn read_in<F: EvidenceNumber>(
     })
 }
 
-/// The evidence that a text says for a case, or the first line that can't stand in it, or `NoMemory`.
+/// Returns the evidence that a text says for a case, or the first line that isn't allowed in it, or `NoMemory`.
 ///
 /// The first line is `evidence 1` or `evidence 2`. For each step `step NAME` follows, and after it, for each component
 /// ascending and each earlier step in order, `flow C NAME Y`. In version 2, for each hypothesis that no step names,

@@ -6,7 +6,17 @@ ghost use Rattle.field_core.specs.Kind.{ok_map};
 ghost use Rattle.text_lines.specs.Words.{words_of};
 ghost use Rattle.case_model.specs.CaseView.{content};
 ghost use Rattle.case_model.specs.Names.{position_of};
-ghost use Rattle.evidence_check.specs.Documents.{Frame, SaysVersion, SaysStep, SaysNumber, SaysKeep, SaysEnd, version_line, step_said, number_line};
+ghost use Rattle.evidence_check.specs.Documents.{
+  Frame,
+  SaysVersion,
+  SaysStep,
+  SaysNumber,
+  SaysKeep,
+  SaysEnd,
+  version_line,
+  step_said,
+  number_line,
+};
 ghost use Rattle.evidence_check.specs.Documents.{keep_line, end_line};
 ghost use Rattle.evidence_check.specs.NumberTexts.{IsNumberOf};
 
@@ -16,7 +26,7 @@ use crate::{ProofKind, Quantity};
 use case_model::Case;
 use text_lines::{Line, Words};
 
-/// The version.
+/// Returns the version.
 #[tactic(auto, unfolding(crate::specs::Documents::version_line))]
 pub fn version(line: &Line) -> Result<u8, ProofKind>
     ensures said { ok_map SaysVersion result ≡ version_line (words_of line.now.text.now) }
@@ -37,7 +47,7 @@ pub fn version(line: &Line) -> Result<u8, ProofKind>
     }
 }
 
-/// The hypothesis of a step, by the words behind the first.
+/// Returns the hypothesis of a step, by the words after the first.
 #[tactic(auto, unfolding(crate::specs::Documents::step_said))]
 pub fn step(words: Words, case: &Case) -> Result<usize, ProofKind>
     ensures said { (T : Frame) → ((name : Seq ℕ) → T.position name ≡ position_of name (content case.now).names)
@@ -61,7 +71,7 @@ fn is_component(word: &[u8], c: usize) -> bool
     word == [b'1' + c as u8].as_slice()
 }
 
-/// The number of a component and of the hypothesis of this name.
+/// Returns the number of a component and of the hypothesis of this name.
 #[tactic(auto, unfolding(crate::specs::Documents::number_line))]
 pub fn number<F: EvidenceNumber>(
     line: &Line,
@@ -88,10 +98,11 @@ pub fn number<F: EvidenceNumber>(
     }
 }
 
-/// The keep of the hypothesis of this name.
+/// Returns the keep of the hypothesis of this name.
 #[tactic(auto, unfolding(crate::specs::Documents::keep_line))]
 pub fn keep(line: &Line, name: &[u8]) -> Result<(), ProofKind>
-    ensures said { (T : Frame) (h : ℕ) → T.name h ≡ name.now → ok_map (λ _. SaysKeep h) result ≡ keep_line T h (words_of line.now.text.now) }
+    ensures said { (T : Frame) (h : ℕ) → T.name h ≡ name.now
+        → ok_map (λ _. SaysKeep h) result ≡ keep_line T h (words_of line.now.text.now) }
 {
     let Some(words) = line.behind(b"keep") else {
         return Err(ProofKind::Unexpected);
@@ -106,7 +117,7 @@ pub fn keep(line: &Line, name: &[u8]) -> Result<(), ProofKind>
     }
 }
 
-/// The end.
+/// Returns the end.
 #[tactic(auto, unfolding(crate::specs::Documents::end_line))]
 pub fn end(line: &Line) -> Result<(), ProofKind>
     ensures said { ok_map (λ _. SaysEnd) result ≡ end_line (words_of line.now.text.now) }

@@ -50,7 +50,8 @@ fn limit<F: CaseNumber>(
     requires other { set_of (hypotheses_of earlier.now) k ≡ false }
     requires flows { AreFlows ((entangled (content case.now)).graph c) (hypotheses_of earlier.now)
         (λ e. value_of (part_at F.kind (map (map F.parts) lists.now) c e)) }
-    ensures { ok_map fraction_parts result ≡ level_limit F.kind (loaded_case F.kind F.numbers (content case.now)) (hypotheses_of earlier.now)
+    ensures { ok_map fraction_parts result ≡ level_limit F.kind (loaded_case F.kind F.numbers (content case.now))
+        (hypotheses_of earlier.now)
         (part_at F.kind (map (map F.parts) lists.now) c) k c }
 {
     let flows = in_component(lists, c);
@@ -58,7 +59,7 @@ fn limit<F: CaseNumber>(
     Ok(Fraction::of(sum.limit()))
 }
 
-/// The level of `k` by flows, which meet their conditions.
+/// Returns the level of `k` by flows, which meet their conditions.
 fn step_level<F: CaseNumber>(
     case: &Case,
     earlier: &[ProofStep<F>],
@@ -80,7 +81,7 @@ fn step_level<F: CaseNumber>(
     level(case, k, |c| limit(case, earlier, lists, k, c))
 }
 
-/// The conditions on a step after earlier ones, in their order.
+/// Returns the conditions on a step after earlier ones, in their order.
 pub fn step<F: CaseNumber>(
     case: &Case,
     earlier: &[ProofStep<F>],
@@ -91,7 +92,8 @@ pub fn step<F: CaseNumber>(
     requires full { AreFull (length (content case.now).components) (length earlier.now) (map (map F.parts) step.now.flows) }
     requires order { IsOrder (length (content case.now).names) whole (hypotheses_of earlier.now) }
     requires loaded { IsLoaded F.IsStored (loaded_case F.kind F.numbers (content case.now)) (entangled (content case.now)) }
-    ensures { result ≡ step_check F.kind (loaded_case F.kind F.numbers (content case.now)) (hypotheses_of earlier.now) (step_parts F.parts step.now) }
+    ensures { result ≡ step_check F.kind (loaded_case F.kind F.numbers (content case.now)) (hypotheses_of earlier.now)
+        (step_parts F.parts step.now) }
 {
     let k = step.hypothesis;
     require(!is_listed(earlier, k), Reason::Repeated)?;

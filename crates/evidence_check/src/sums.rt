@@ -11,7 +11,7 @@ use crate::event::CheckEvent;
 use field_core::{Number, Place, TooWide};
 use std::cmp::Ordering;
 
-/// A condition by its test, and the reason where it is broken.
+/// Returns a condition by its test, and the reason where it is broken.
 #[tactic(auto, unfolding(crate::specs::CheckSteps::require))]
 pub fn require(test: bool, reason: Reason) -> Result<(), CheckEvent>
     ensures { result ≡ require test reason }
@@ -23,14 +23,15 @@ pub fn require(test: bool, reason: Reason) -> Result<(), CheckEvent>
     }
 }
 
-/// What `test` finds at 0, 1, .. below `count`, up to the first event.
+/// Returns what `test` finds at 0, 1, .. below `count`, up to the first event.
 #[tactic(auto, using(crate::proofs::AllSteps::all_none, crate::proofs::AllSteps::all_next, crate::proofs::AllSteps::all_refused))]
 pub fn all_below<T: Fn(usize) -> Result<(), CheckEvent>>(
     count: usize,
     test: T,
 ) -> Result<(), CheckEvent>
     requires { (i : ℕ) → i < count → T.pre test i }
-    ensures { (f : ℕ → Answer (Unit {0}) Ended) → ((i : ℕ) (r : Answer (Unit {0}) Ended) → i < count → T.post test i r → r ≡ f i)
+    ensures { (f : ℕ → Answer (Unit {0}) Ended) → ((i : ℕ) (r : Answer (Unit {0}) Ended) → i < count
+        → T.post test i r → r ≡ f i)
         → result ≡ all_below count f }
 {
     for i in 0..count {
@@ -46,7 +47,7 @@ pub fn is_nonnegative<F: Number>(x: &F) -> bool
     x.sign() != Ordering::Less
 }
 
-/// A written operation, in a component and at a place.
+/// Returns a written operation, in a component and at a place.
 #[tactic(auto, unfolding(crate::specs::CheckSteps::written_at))]
 pub fn placed<A>(
     component: usize,
@@ -61,7 +62,7 @@ pub fn placed<A>(
     }
 }
 
-/// A sum with the product of two.
+/// Returns a sum with the product of two.
 pub fn with_product<F: Number>(
     component: usize,
     place: Place,
@@ -75,7 +76,7 @@ pub fn with_product<F: Number>(
     placed(component, place, sum.add(&product))
 }
 
-/// A start, and the products of what `x` and `y` give at 0, 1, .. below `count` added to it one after the other.
+/// Returns a start, and the products of what `x` and `y` give at 0, 1, .. below `count` added to it one after the other.
 #[tactic(auto, using(crate::proofs::AddedSteps::added_none, crate::proofs::AddedSteps::added_next, crate::proofs::AddedSteps::added_refused))]
 pub fn added<F: Number, X: Fn(usize) -> F, Y: Fn(usize) -> F>(
     component: usize,

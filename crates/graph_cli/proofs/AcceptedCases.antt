@@ -3,7 +3,7 @@ use Rattle.std.proofs.Common.{◌≡◌, refl, subst, sym, ap, ap₂, ◌∙◌,
 use Rattle.std.specs.declared.option.Option.{Option}
 use Rattle.answers.specs.declared.refusal.Refusal.{Refusal}
 use Rattle.answers.specs.Stages.{IsDecided}
-use Rattle.answers.proofs.Decided.{then_decided, within_decided}
+use Rattle.answers.proofs.Decided.{then_decided, told_as_decided, within_decided}
 use Rattle.case_model.specs.declared.fault.CaseFault.{CaseFault}
 use Rattle.case_model.specs.CaseFaults.{case_fault}
 use Rattle.case_model.specs.Content.{Content}
@@ -30,6 +30,7 @@ use Rattle.refusals.specs.CellRefusal.{cell_refusal}
 use Rattle.refusals.specs.JsonRefusal.{json_refusal}
 use Rattle.refusals.specs.TextRefusal.{line_refusal}
 use Rattle.graph_cli.specs.Accepted.{grammar, faultless, of_kind, of_size, suitable, accepted}
+use Rattle.graph_cli.specs.Troubles.{line_of}
 use Rattle.graph_cli.specs.declared.kind.InputKind.{InputKind}
 use Rattle.graph_cli.specs.declared.needs.Needs.{Needs}
 
@@ -105,4 +106,5 @@ suitable_decided needs c = then_decided _ _ (of_kind_decided needs.kind c) (of_s
 
 pub accepted_decided : (form : Written) (needs : Needs) (bytes : List ℕ) → IsDecided (accepted form needs (Some bytes))
 accepted_decided form needs bytes =
-    then_decided _ _ (within_decided _ bytes) (λ xs. then_decided _ _ (then_decided _ _ (grammar_decided form xs) faultless_decided) (suitable_decided needs))
+    then_decided _ _ (within_decided _ bytes) (λ xs. then_decided _ _ (then_decided _ _ (grammar_decided form xs) faultless_decided)
+    (λ c. told_as_decided (line_of c.names) _ (suitable_decided needs c)))

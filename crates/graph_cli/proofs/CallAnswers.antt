@@ -1,7 +1,7 @@
 -- Each command is decided.
 use Rattle.std.proofs.Common.{sym, ◌∙◌, ℕ, List, Some, true≢false}
 use Rattle.answers.specs.Stages.{IsDecided}
-use Rattle.answers.proofs.Decided.{then_decided, only_decided, within_decided}
+use Rattle.answers.proofs.Decided.{then_decided, told_as_decided, only_decided, within_decided}
 use Rattle.case_model.specs.Content.{Content}
 use Rattle.command_words.specs.Asked.{Asked, on_case as task_on_case, check, catalogue, sample, help}
 use Rattle.command_words.specs.declared.command.CaseTask.{CaseTask}
@@ -13,6 +13,7 @@ use Rattle.command_words.specs.declared.form.Form.TheVariants as forms
 use Rattle.graph_cli.specs.Canon.{sheet_stage, canon_stage}
 use Rattle.graph_cli.specs.Graphs.{catalogue_stage, named_case, told_size}
 use Rattle.graph_cli.specs.Help.{help_stage}
+use Rattle.graph_cli.specs.Troubles.{line_of}
 use Rattle.graph_cli.proofs.AcceptedCases.{accepted_decided}
 use Rattle.graph_cli.proofs.MadeAnswers.{made_decided}
 use Rattle.graph_cli.proofs.CheckAnswers.{check_decided}
@@ -53,9 +54,10 @@ task_decided (tasks.Canon form) c = canon_decided form c
 
 pub call_decided : (command : Asked) (case proof : List ℕ) → IsDecided (call_of command (Some case) (Some proof))
 unfolding call_of case_call check_call
-call_decided (task_on_case form task) case proof = then_decided _ _ (accepted_decided form (needs_of task) case) (task_decided task)
+call_decided (task_on_case form task) case proof = then_decided _ _ (accepted_decided form (needs_of task) case)
+    (λ c. told_as_decided (line_of c.names) _ (task_decided task c))
 call_decided (catalogue graph) case proof = catalogue_decided graph
 call_decided (check form file) case proof = then_decided _ _ (accepted_decided form check_needs case)
-    (λ c. then_decided _ _ (within_decided _ proof) (check_decided c))
+    (λ c. then_decided _ _ (within_decided _ proof) (λ bytes. told_as_decided (line_of c.names) _ (check_decided c bytes)))
 call_decided (sample size seed) case proof = sample_decided size seed
 call_decided help case proof = help_decided

@@ -7,8 +7,8 @@ use Rattle.evidence_check.specs.declared.verdict.CheckWide.{CheckWide}
 use Rattle.evidence_check.specs.declared.verdict.Verdict.{Verdict}
 use Rattle.evidence_check.specs.EvidenceParts.{StepParts, KeepParts}
 use Rattle.evidence_check.proofs.DocumentLaws.{one_said, said_or_failed, one_fault}
-use Rattle.refusals.specs.ProofRefusal.{part_at, proof_refusal}
-use Rattle.refusals.specs.WideRefusal.{wide_refusal}
+use Rattle.refusals.specs.ProofRefusal.{part_at}
+use Rattle.graph_cli.specs.declared.trouble.Trouble.TheVariants.{Wide, Proof}
 use Rattle.refusals.specs.declared.wide.When.TheVariants.{Check}
 use Rattle.graph_cli.specs.Check.{Said, listed_in, kept_in, evidence_in, checked, check_stage}
 
@@ -20,7 +20,7 @@ same_said v w ss ts xs ys e f g = ap (λ n. record { version = n; steps = ss; ke
 evidence_decided : (c : Content) (bytes : List ℕ) → IsDecided (evidence_in c bytes)
 evidence_decided c bytes = record {
   one = λ x y h k. let e = one_said c bytes h.0 k.0 h.1 k.1 h.2 k.2 in h.3 ∙ same_said _ _ _ _ _ _ e.0 e.1 e.2 ∙ sym k.3;
-  one_refusal = λ r q h k. h.3 ∙ ap (λ fault. proof_refusal fault.line fault.kind)
+  one_refusal = λ r q h k. h.3 ∙ ap (λ fault. Proof fault.line fault.kind)
       (one_fault c bytes (record { line = h.0; kind = h.1 }) (record { line = k.0; kind = k.1 }) h.2 k.2) ∙ sym k.3;
   not_both = λ x r h k. said_or_failed c bytes h.0 (record { line = k.0; kind = k.1 }) h.2 k.2;
 }
@@ -37,7 +37,7 @@ not_both r x y h k = cc
 checked_decided : (c : Content) (said : Said) → IsDecided (checked c said)
 checked_decided c said = record {
   one = λ x y h k. same_verdict _ x y h k;
-  one_refusal = λ r q h k. h.2 ∙ ap (λ wide. wide_refusal c.names (Check (part_at (listed_in said) (kept_in said) wide.step)) wide.at)
+  one_refusal = λ r q h k. h.2 ∙ ap (λ wide. Wide (Check (part_at (listed_in said) (kept_in said) wide.step)) wide.at)
       (same_wide _ h.0 k.0 h.1 k.1) ∙ sym k.2;
   not_both = λ x r h k. not_both _ x k.0 h k.1;
 }

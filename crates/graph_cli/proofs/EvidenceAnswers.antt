@@ -24,7 +24,7 @@ use Rattle.sequential.specs.declared.decision.Decision.{Decision}
 use Rattle.sequential.specs.declared.priority.Priority.{Priority}
 use Rattle.sequential.specs.Decisions.{hypotheses}
 use Rattle.refusals.specs.ProofRefusal.{part_at}
-use Rattle.refusals.specs.WideRefusal.{wide_refusal}
+use Rattle.graph_cli.specs.declared.trouble.Trouble.TheVariants.{Wide}
 use Rattle.refusals.specs.declared.wide.When.TheVariants.{EvidenceStep, Check}
 use Rattle.graph_cli.specs.Check.{Said, listed_in, kept_in}
 use Rattle.graph_cli.specs.Evidence.{IsFlowRun, flown, confirmed, evidence_stage}
@@ -50,14 +50,14 @@ flown_decided c decision = record {
   one = λ x y h k. let e = same_run _ _ _ h.1.run k.1.run in
       h.2 ∙ same_said _ _ _ _ _ _ (h.1.version ∙ sym k.1.version) (ap (λ (v : WrittenEvidence). v.steps) e) (ap (λ (v : WrittenEvidence). v.keeps) e)
       ∙ sym k.2;
-  one_refusal = λ r q h k. h.2 ∙ ap (λ (w : WideStep). wide_refusal c.names (EvidenceStep w.step) w.at) (same_step _ h.0 k.0 h.1 k.1) ∙ sym k.2;
+  one_refusal = λ r q h k. h.2 ∙ ap (λ (w : WideStep). Wide (EvidenceStep w.step) w.at) (same_step _ h.0 k.0 h.1 k.1) ∙ sym k.2;
   not_both = λ x r h k. run_or_wide _ _ k.0 h.1.run k.1;
 }
 
 confirmed_decided : (c : Content) (said : Said) → IsDecided (confirmed c said)
 confirmed_decided c said = record {
   one = λ x y h k. h.1 ∙ sym k.1;
-  one_refusal = λ r q h k. h.2 ∙ ap (λ (wide : CheckWide). wide_refusal c.names (Check (part_at (listed_in said) (kept_in said) wide.step)) wide.at)
+  one_refusal = λ r q h k. h.2 ∙ ap (λ (wide : CheckWide). Wide (Check (part_at (listed_in said) (kept_in said) wide.step)) wide.at)
       (same_wide _ h.0 k.0 h.1 k.1) ∙ sym k.2;
   not_both = λ x r h k. yes_or_wide _ Yes k.0 h.0 k.1;
 }

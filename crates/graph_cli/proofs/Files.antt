@@ -10,13 +10,13 @@ use Rattle.graph_cli.specs.Outcome.{AskFor, NamesFile}
 same_file : (o : Option ℕ) (i : ℕ) → o ≡ None → o ≡ Some i → ⊥
 same_file o i h k = cc
 
--- the file of a command that is asked for
+-- the file of a command that is requested
 pub file_by : (words : List (List ℕ)) (command : Asked) (place : Option ℕ) → AskFor words command → place ≡ file_of command
     → IfSome place (NamesFile words)
 file_by words command None asks e = tt
 file_by words command (Some place) asks e = inl (command, asks, sym e)
 
--- a command that names no file is asked for
+-- a command that names no file is requested
 pub no_file_by : (words : List (List ℕ)) (command : Asked) (place : ℕ) → AskFor words command → file_of command ≡ None → ¬ NamesFile words place
 no_file_by words command place asks none (inl h) =
     let same : h.0 ≡ command = (words_decided words).one h.0 command h.1 asks in

@@ -6,9 +6,11 @@ pub mod ClosedReports
 pub mod EvidenceAnswers
 pub mod EvidenceReports
 pub mod Files
+pub mod HandedOn
 pub mod JsonRefused
 pub mod MadeAnswers
 pub mod OneAnswer
+pub mod Refusing
 pub mod SampleAnswers
 pub mod SampledReports
 pub mod SetAnswers

@@ -29,7 +29,7 @@ made_decided n made = record {
   not_both = λ c r h g. not_both made c g.0 h g.1;
 }
 
--- a fault that is told is one that is made
+-- a fault that is reported is one that is made
 pub told : (n : ℕ) (made : Result Content CatalogueFault) (fault : CatalogueFault) (r : Refusal) → (fault ≡ OutOfMemory) ⊎ (made ≡ Err fault)
     → IsToldAs n fault r → (f : CatalogueFault) × (made ≡ Err f) × IsToldAs n f r
 told n made fault r (inl e) h = absurd (subst (λ f. IsToldAs n f r) e h)

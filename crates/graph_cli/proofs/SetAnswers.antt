@@ -3,7 +3,8 @@ use Rattle.std.proofs.Common.{◌≡◌, sym, ap₂, subst, ◌∙◌, ℕ, ◌^
 use Rattle.field_core.specs.NumberedSets.{members}
 use Rattle.fraction.specs.View.{number_of}
 use Rattle.fraction.proofs.SameRatios.{same_number}
-use Rattle.answers.specs.declared.refusal.Refusal.{Refusal}
+use Rattle.graph_cli.specs.declared.trouble.Trouble.{Trouble}
+use Rattle.graph_cli.specs.declared.trouble.Trouble.TheVariants.{Wide}
 use Rattle.answers.specs.Stages.{IsDecided}
 use Rattle.answers.proofs.Decided.{then_decided, only_decided}
 use Rattle.case_model.specs.ClosedTest.{IsClosedRejected}
@@ -19,7 +20,6 @@ use Rattle.case_model.proofs.IntersectionLaws.{intersection_unique}
 use Rattle.closed_test.specs.SetRuns.{AreRunsDefined}
 use Rattle.closed_test.specs.SetTests.{AreClosedAnswers}
 use Rattle.closed_test.proofs.SetLists.{defined_not_wide, first_wide_unique}
-use Rattle.refusals.specs.WideRefusal.{wide_refusal}
 use Rattle.refusals.specs.declared.wide.When.TheVariants.{Set}
 use Rattle.report.proofs.SetReports.{one_weights_report, one_bounds_report}
 use Rattle.graph_cli.specs.Bounds.{AreClosedBounds, ReportsBounds, bounded, bounds_stage}
@@ -28,10 +28,10 @@ use Rattle.graph_cli.specs.Weights.{ReportsWeights, weighed, weights_stage}
 
 -- ---- sets that are too wide
 
-pub one_wide_set : (c : Content) (r q : Refusal) → IsWideSet c r → IsWideSet c q → r ≡ q
-one_wide_set c r q h k = let e = first_wide_unique c h.0 k.0 h.1 k.1 h.2 k.2 in h.3 ∙ ap₂ (λ n w. wide_refusal c.names (Set n) w) e.0 e.1 ∙ sym k.3
+pub one_wide_set : (c : Content) (r q : Trouble) → IsWideSet c r → IsWideSet c q → r ≡ q
+one_wide_set c r q h k = let e = first_wide_unique c h.0 k.0 h.1 k.1 h.2 k.2 in h.3 ∙ ap₂ (λ n w. Wide (Set n) w) e.0 e.1 ∙ sym k.3
 
-pub none_wide : (c : Content) (r : Refusal) → AreRunsDefined c → IsWideSet c r → ⊥
+pub none_wide : (c : Content) (r : Trouble) → AreRunsDefined c → IsWideSet c r → ⊥
 none_wide c r d k = defined_not_wide c k.0 k.1 d k.2
 
 -- ---- weights
@@ -73,7 +73,7 @@ bounds_decided c = then_decided (bounded c) _ (record {
   not_both = λ text r h k. none_wide c r h.0 k;
 }) (λ text. only_decided _)
 
--- the bounds by a table that tells what the closed test rejects are those of the closed test
+-- the bounds by a table of what the closed test rejects are those of the closed test
 bounds_of_table : (c : Content) (inputs : Inputs) (table : ℕ → Bool) (bound : ℕ → ℕ)
     → ForSingle inputs (λ ps. AnswersFor (length c.names) (IsClosedRejected (entangled c) (number_at ps) (number_of c.alpha)) table)
     → ((n : ℕ) → n < 2 ^ length c.names → IsBound (length c.names) (SaysYes (length c.names) table) (members n) (bound n))

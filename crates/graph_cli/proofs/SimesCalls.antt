@@ -4,7 +4,8 @@ use Rattle.std.specs.List.{All, AllPairs}
 use Rattle.field_core.specs.NumberedSets.{members}
 use Rattle.field_core.specs.declared.ratio.Ratio.{Ratio}
 use Rattle.fraction.specs.View.{number_of}
-use Rattle.answers.specs.declared.refusal.Refusal.{Refusal}
+use Rattle.graph_cli.specs.declared.trouble.Trouble.{Trouble}
+use Rattle.graph_cli.specs.declared.trouble.Trouble.TheVariants.{Wide}
 use Rattle.answers.specs.Stages.{IsDecided}
 use Rattle.answers.proofs.Decided.{then_decided, only_decided}
 use Rattle.case_model.specs.Content.{Content, entangled}
@@ -21,7 +22,6 @@ use Rattle.simes_test.specs.SimesTest.{IsSimesClosed}
 use Rattle.simes_test.proofs.OneOutcome.{one_ranking, one_wide_sum, defined_not_wide, one_closed_table}
 use Rattle.simes_test.proofs.Rankings.{leaders_once}
 use Rattle.simes_test.proofs.SimesLaws.{simes_table_bound}
-use Rattle.refusals.specs.WideRefusal.{wide_refusal}
 use Rattle.refusals.specs.declared.wide.When.TheVariants.{SimesSet}
 use Rattle.report.proofs.SetReports.{one_simes_report}
 use Rattle.graph_cli.specs.Simes.{AreSimesBounds, AreLeadersIn, ReportsSimes, IsWideSimesSet, runs_of_sets, simes_tested, simes_stage}
@@ -29,8 +29,8 @@ use Rattle.graph_cli.proofs.SetAnswers.{one_wide_set, none_wide}
 
 -- ---- sums that are too wide
 
-one_wide_simes : (c : Content) (r q : Refusal) → IsWideSimesSet c r → IsWideSimesSet c q → r ≡ q
-one_wide_simes c r q h k = let e = one_wide_sum c h.0 k.0 h.1 k.1 h.2 k.2 h.3 k.3 h.4 k.4 in h.5 ∙ ap₂ (λ n w. wide_refusal c.names (SimesSet n) w) e.0 e.1
+one_wide_simes : (c : Content) (r q : Trouble) → IsWideSimesSet c r → IsWideSimesSet c q → r ≡ q
+one_wide_simes c r q h k = let e = one_wide_sum c h.0 k.0 h.1 k.1 h.2 k.2 h.3 k.3 h.4 k.4 in h.5 ∙ ap₂ (λ n w. Wide (SimesSet n) w) e.0 e.1
     ∙ sym k.5
 
 -- ---- the report
@@ -72,7 +72,7 @@ pub simes_decided : (c : Content) → IsDecided (simes_stage c)
 unfolding simes_stage
 simes_decided c = then_decided _ _ (runs_decided c) (λ x. then_decided _ _ (tested_decided x) (λ text. only_decided _))
 
--- ---- the bounds by a table that tells what the closed test of Simes' test rejects are its own
+-- ---- the bounds by a table of what the closed test of Simes' test rejects are its own
 
 bounds_for : (c : Content) (table : ℕ → Bool) (bound : ℕ → ℕ)
     → ((n : ℕ) → n < 2 ^ length c.names → IsBound (length c.names) (SaysYes (length c.names) table) (members n) (bound n))

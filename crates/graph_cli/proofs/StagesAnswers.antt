@@ -5,7 +5,7 @@ use Rattle.answers.proofs.Decided.{then_decided, only_decided}
 use Rattle.case_model.specs.Content.{Content}
 use Rattle.staged_levels.proofs.LookLaws.{looks_unique, looks_not_broken, breaks_unique, not_opened, one_opening}
 use Rattle.refusals.specs.declared.wide.When.TheVariants.{Opening, Arrival}
-use Rattle.refusals.specs.WideRefusal.{wide_refusal}
+use Rattle.graph_cli.specs.declared.trouble.Trouble.TheVariants.{Wide}
 use Rattle.graph_cli.specs.Stages.{looked, stages_stage}
 
 looked_decided : (c : Content) → IsDecided (looked c)
@@ -13,12 +13,12 @@ looked_decided c = record {
   one = λ xs ys h k. looks_unique c xs ys h k;
   one_refusal = λ r q h k. elim h [
     | inl a ↦ elim k [
-      | inl b ↦ a.2 ∙ ap (wide_refusal c.names Opening) (one_opening c a.0 b.0 a.1 b.1) ∙ sym b.2
+      | inl b ↦ a.2 ∙ ap (Wide Opening) (one_opening c a.0 b.0 a.1 b.1) ∙ sym b.2
       | inr b ↦ absurd (not_opened c a.0 a.1 b.2.opened)
     ]
     | inr a ↦ elim k [
       | inl b ↦ absurd (not_opened c b.0 b.1 a.2.opened)
-      | inr b ↦ let e = breaks_unique c a.0 b.0 a.1 b.1 a.2 b.2 in a.3 ∙ ap₂ (λ n w. wide_refusal c.names (Arrival n) w) e.0 e.1 ∙ sym b.3
+      | inr b ↦ let e = breaks_unique c a.0 b.0 a.1 b.1 a.2 b.2 in a.3 ∙ ap₂ (λ n w. Wide (Arrival n) w) e.0 e.1 ∙ sym b.3
     ]
   ];
   not_both = λ xs r h k. elim k [

@@ -3,7 +3,7 @@ use Rattle.std.specs.Prelude.{◌≡◌, ◌⊎◌, ◌+◌, ◌<◌, ◌≤◌,
 use Rattle.std.specs.Io.KnownBytes.{IsAtEnd}
 use Rattle.graph_io.specs.Reading.{TookAtMost}
 use Rattle.answers.specs.declared.refusal.Refusal.{Refusal}
-use Rattle.answers.specs.Stages.{Stage, and_then, on_bytes, within, most_bytes}
+use Rattle.answers.specs.Stages.{Stage, and_then, told_as, on_bytes, within, most_bytes}
 use Rattle.case_model.specs.declared.fault.CaseFault.{CaseFault}
 use Rattle.case_model.specs.CaseFaults.{case_fault}
 use Rattle.case_model.specs.declared.inputs.Inputs.{Inputs}
@@ -26,11 +26,13 @@ use Rattle.serde_json.specs.Data.{Data}
 use Rattle.refusals.specs.CaseRefusal.{case_refusal}
 use Rattle.refusals.specs.CellRefusal.{cell_refusal}
 use Rattle.refusals.specs.JsonRefusal.{syntax_refusal, json_refusal}
-use Rattle.refusals.specs.NeedRefusal.{kind_refusal, closure_refusal}
 use Rattle.refusals.specs.TextRefusal.{line_refusal}
 use Rattle.graph_cli.specs.declared.kind.InputKind.{InputKind}
 use Rattle.graph_cli.specs.declared.kind.InputKind.TheVariants.{Any, Single, Staged, Awaited}
 use Rattle.graph_cli.specs.declared.needs.Needs.{Needs}
+use Rattle.graph_cli.specs.declared.trouble.Trouble.{Trouble}
+use Rattle.graph_cli.specs.declared.trouble.Trouble.TheVariants as troubles
+use Rattle.graph_cli.specs.Troubles.{line_of}
 
 -- An input is at its end, or at most one byte more than an input may have was taken of it, by few takes.
 pub record IsTakenWithin {S : Type 0} (left : S → Option (List ℕ)) (calls : S → ℕ) (old new : S) : Type 0 where
@@ -41,7 +43,7 @@ pub record IsTakenWithin {S : Type 0} (left : S → Option (List ℕ)) (calls : 
 abbrev pub IsNoJson : List ℕ → Type 0
 IsNoJson bytes = (value : Data) → ¬ IsJson bytes value
 
--- the draft that bytes say in a form, or the first place where they can't stand
+-- the draft that bytes say in a form, or the first place where they isn't allowed
 abbrev pub grammar : Written → List ℕ → Stage Refusal Draft
 grammar text bytes = record {
   Gives = λ d. IsText bytes d;
@@ -81,23 +83,23 @@ IsOfKind Awaited NoValues = ⊥
 IsOfKind Awaited (Values ps) = ⊥
 
 -- a case with p-values of a kind
-abbrev pub of_kind : InputKind → Content → Stage Refusal Content
+abbrev pub of_kind : InputKind → Content → Stage Trouble Content
 of_kind kind c = record {
   Gives = λ x. IsOfKind kind c.inputs × (x ≡ c);
-  Refuses = λ r. ¬ IsOfKind kind c.inputs × (r ≡ kind_refusal);
+  Refuses = λ r. ¬ IsOfKind kind c.inputs × (r ≡ troubles.Kind);
 }
 
 -- a case of no more hypotheses than these
-abbrev pub of_size : ℕ → Content → Stage Refusal Content
+abbrev pub of_size : ℕ → Content → Stage Trouble Content
 of_size most c = record {
   Gives = λ x. (length c.names ≤ most) × (x ≡ c);
-  Refuses = λ r. (most < length c.names) × (r ≡ closure_refusal (length c.names));
+  Refuses = λ r. (most < length c.names) × (r ≡ troubles.Closure (length c.names));
 }
 
 -- a case that a command with these needs can take
-abbrev pub suitable : Needs → Content → Stage Refusal Content
+abbrev pub suitable : Needs → Content → Stage Trouble Content
 suitable needs c = and_then (of_kind needs.kind c) (of_size needs.most)
 
 -- the case that a source says in a form, where a command with these needs can take it
 abbrev pub accepted : Written → Needs → Option (List ℕ) → Stage Refusal Content
-accepted form needs left = and_then (on_bytes left (within [])) (λ bytes. and_then (case_in form bytes) (suitable needs))
+accepted form needs left = and_then (on_bytes left (within [])) (λ bytes. and_then (case_in form bytes) (λ c. told_as (line_of c.names) (suitable needs c)))

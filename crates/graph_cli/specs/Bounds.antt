@@ -1,7 +1,7 @@
 -- What `bounds` answers.
 use Rattle.std.specs.Prelude.{◌<◌, ◌^◌, ℕ, List, length}
 use Rattle.answers.specs.declared.answer.Answer.{Answer}
-use Rattle.answers.specs.declared.refusal.Refusal.{Refusal}
+use Rattle.graph_cli.specs.declared.trouble.Trouble.{Trouble}
 use Rattle.answers.specs.Lines.{done}
 use Rattle.answers.specs.Stages.{Stage, and_then, only}
 use Rattle.field_core.specs.NumberedSets.{members}
@@ -24,11 +24,11 @@ abbrev pub ReportsBounds : Content → List ℕ → Type 0
 ReportsBounds c text = (bound : ℕ → ℕ) × AreClosedBounds c bound × IsBoundsReport c bound text
 
 -- this report, where the runs of all sets are defined; or the first set whose run isn't
-abbrev pub bounded : Content → Stage Refusal (List ℕ)
+abbrev pub bounded : Content → Stage Trouble (List ℕ)
 bounded c = record {
   Gives = λ text. AreRunsDefined c × ReportsBounds c text;
   Refuses = IsWideSet c;
 }
 
-unfoldable pub bounds_stage : Content → Stage Refusal Answer
+unfoldable pub bounds_stage : Content → Stage Trouble Answer
 bounds_stage c = and_then (bounded c) (λ text. only (done text))

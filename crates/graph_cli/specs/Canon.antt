@@ -1,7 +1,6 @@
 -- What `canon` answers.
 use Rattle.std.specs.Prelude.{◌≡◌, true, false}
 use Rattle.answers.specs.declared.answer.Answer.{Answer}
-use Rattle.answers.specs.declared.refusal.Refusal.{Refusal}
 use Rattle.answers.specs.Lines.{done}
 use Rattle.answers.specs.Stages.{Stage, only}
 use Rattle.case_csv.specs.Sheet.{fits_sheet, sheet_text}
@@ -10,17 +9,18 @@ use Rattle.case_model.specs.Content.{Content}
 use Rattle.command_words.specs.declared.form.Form.{Form}
 use Rattle.command_words.specs.declared.form.Form.TheVariants.{Text, Csv, Json}
 use Rattle.edge_text.specs.CanonicalText.{canonical_text}
-use Rattle.refusals.specs.NeedRefusal.{kind_refusal}
+use Rattle.graph_cli.specs.declared.trouble.Trouble.{Trouble}
+use Rattle.graph_cli.specs.declared.trouble.Trouble.TheVariants as troubles
 
 -- the sheet of a case; a case that no sheet can hold is of the wrong kind
-unfoldable pub sheet_stage : Content → Stage Refusal Answer
+unfoldable pub sheet_stage : Content → Stage Trouble Answer
 sheet_stage c = record {
   Gives = λ a. (fits_sheet c ≡ true) × (a ≡ done (sheet_text c));
-  Refuses = λ r. (fits_sheet c ≡ false) × (r ≡ kind_refusal);
+  Refuses = λ r. (fits_sheet c ≡ false) × (r ≡ troubles.Kind);
 }
 
 -- the canonical document of a case in a form
-unfoldable pub canon_stage : Form → Content → Stage Refusal Answer
+unfoldable pub canon_stage : Form → Content → Stage Trouble Answer
 canon_stage Text c = only (done (canonical_text c))
 canon_stage Csv c = sheet_stage c
 canon_stage Json c = only (done (json_text c))

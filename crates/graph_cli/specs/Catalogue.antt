@@ -9,13 +9,13 @@ use Rattle.catalogue.specs.WeightedGraphs.{names_of}
 use Rattle.refusals.specs.CaseRefusal.{case_refusal}
 use Rattle.refusals.specs.CatalogueRefusal.{size_refusal, seed_refusal}
 
--- how a fault of a case of so many hypotheses is told; that memory ran out isn't
+-- how a fault of a case of a number of hypotheses is reported; that memory was exhausted isn't
 abbrev pub IsToldAs : ℕ → CatalogueFault → Refusal → Type 0
 IsToldAs n (Size k) r = r ≡ size_refusal k
 IsToldAs n (Seed k) r = r ≡ seed_refusal k
 IsToldAs n (OfCase fault) r = r ≡ case_refusal (names_of n) fault
 IsToldAs n OutOfMemory r = ⊥
 
--- the content that is made of so many hypotheses, or why none is
+-- the content that is made of a number of hypotheses, or why none is
 abbrev pub made_of : ℕ → Result Content CatalogueFault → Stage Refusal Content
 made_of n made = record { Gives = λ c. made ≡ Ok c; Refuses = λ r. (fault : CatalogueFault) × (made ≡ Err fault) × IsToldAs n fault r }

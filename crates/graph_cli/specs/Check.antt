@@ -1,7 +1,6 @@
 -- What `check` answers.
 use Rattle.std.specs.Prelude.{◌≡◌, ℕ, List, map, Ok, Err}
 use Rattle.answers.specs.declared.answer.Answer.{Answer}
-use Rattle.answers.specs.declared.refusal.Refusal.{Refusal}
 use Rattle.answers.specs.declared.status.Status.TheVariants as statuses
 use Rattle.answers.specs.Lines.{done}
 use Rattle.answers.specs.Stages.{Stage, and_then, only}
@@ -15,10 +14,11 @@ use Rattle.evidence_check.specs.EvidenceParts.{StepParts, KeepParts}
 use Rattle.evidence_check.specs.EvidenceView.{version_of, steps_of, keeps_of, IsEvidenceFor}
 use Rattle.evidence_check.specs.CaseCheck.{case_check, verdict_of}
 use Rattle.evidence_check.specs.DocumentStatements.{SaysEvidence, HasFault}
-use Rattle.refusals.specs.ProofRefusal.{part_at, no_line, proof_refusal}
-use Rattle.refusals.specs.WideRefusal.{wide_refusal}
+use Rattle.refusals.specs.ProofRefusal.{part_at, no_line}
 use Rattle.refusals.specs.declared.wide.When.TheVariants.{Check}
 use Rattle.report.specs.CheckReport.{check_report}
+use Rattle.graph_cli.specs.declared.trouble.Trouble.{Trouble}
+use Rattle.graph_cli.specs.declared.trouble.Trouble.TheVariants as troubles
 
 -- evidence as a text says it: its version, its steps and its keeps
 pub record Said : Type 0 where
@@ -37,19 +37,19 @@ listed_in said = map (λ s. s.hypothesis) said.steps
 abbrev pub kept_in : Said → List ℕ
 kept_in said = map (λ x. x.hypothesis) said.keeps
 
--- the evidence that a text says for a case, or the first line that can't stand in it
-abbrev pub evidence_in : Content → List ℕ → Stage Refusal Said
+-- the evidence that a text says for a case, or the first line that isn't allowed in it
+abbrev pub evidence_in : Content → List ℕ → Stage Trouble Said
 evidence_in c bytes = record {
   Gives = λ said. (v : Evidence) × IsEvidenceFor c v × SaysEvidence c bytes v × (said ≡ said_of v);
-  Refuses = λ r. (n : ℕ) × (kind : ProofKind) × HasFault c bytes (record { line = n; kind = kind }) × (r ≡ proof_refusal n kind);
+  Refuses = λ r. (n : ℕ) × (kind : ProofKind) × HasFault c bytes (record { line = n; kind = kind }) × (r ≡ troubles.Proof n kind);
 }
 
 -- the verdict of the written check, or its first operation that is undefined
-abbrev pub checked : Content → Said → Stage Refusal Verdict
+abbrev pub checked : Content → Said → Stage Trouble Verdict
 checked c said = record {
   Gives = λ verdict. verdict_of (case_check c said.steps said.keeps) ≡ Ok verdict;
   Refuses = λ r. (wide : CheckWide) × (verdict_of (case_check c said.steps said.keeps) ≡ Err wide)
-      × (r ≡ wide_refusal c.names (Check (part_at (listed_in said) (kept_in said) wide.step)) wide.at);
+      × (r ≡ troubles.Wide (Check (part_at (listed_in said) (kept_in said) wide.step)) wide.at);
 }
 
 -- what is answered to a verdict: to a no, the first broken condition, with a status of its own
@@ -58,5 +58,5 @@ answer_to c said Yes = done (check_report c said.version (listed_in said) (kept_
 answer_to c said (No n reason) = record { status = statuses.No; text = no_line c.names (listed_in said) (kept_in said) n reason }
 
 -- the evidence, the verdict on it, and the answer to that
-unfoldable pub check_stage : Content → List ℕ → Stage Refusal Answer
+unfoldable pub check_stage : Content → List ℕ → Stage Trouble Answer
 check_stage c bytes = and_then (evidence_in c bytes) (λ said. and_then (checked c said) (λ verdict. only (answer_to c said verdict)))

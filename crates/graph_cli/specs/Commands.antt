@@ -2,7 +2,7 @@
 use Rattle.std.specs.Prelude.{ℕ, ◌⊎◌, List, Option, codes}
 use Rattle.answers.specs.declared.answer.Answer.{Answer}
 use Rattle.answers.specs.declared.refusal.Refusal.{Refusal}
-use Rattle.answers.specs.Stages.{Stage, and_then, on_bytes, within}
+use Rattle.answers.specs.Stages.{Stage, and_then, told_as, on_bytes, within}
 use Rattle.case_model.specs.Content.{Content}
 use Rattle.command_words.specs.Asked.{Written, Asked, on_case as task_on_case, check, catalogue, sample, help}
 use Rattle.command_words.specs.declared.command.CaseTask.{CaseTask}
@@ -21,6 +21,8 @@ use Rattle.graph_cli.specs.Test.{test_stage}
 use Rattle.graph_cli.specs.Weights.{weights_stage}
 use Rattle.graph_cli.specs.declared.kind.InputKind.TheVariants.{Any, Single, Staged}
 use Rattle.graph_cli.specs.declared.needs.Needs.{Needs}
+use Rattle.graph_cli.specs.declared.trouble.Trouble.{Trouble}
+use Rattle.graph_cli.specs.Troubles.{line_of}
 
 -- what a task needs of its case
 unfoldable pub needs_of : CaseTask → Needs
@@ -33,7 +35,7 @@ needs_of tasks.Stages = record { kind = Staged; most = 64 }
 needs_of (tasks.Canon form) = record { kind = Any; most = 64 }
 
 -- what a task answers to a case that it can take
-unfoldable pub on_case : CaseTask → Content → Stage Refusal Answer
+unfoldable pub on_case : CaseTask → Content → Stage Trouble Answer
 on_case (tasks.Test priority) c = test_stage priority c
 on_case tasks.Weights c = weights_stage c
 on_case tasks.Bounds c = bounds_stage c
@@ -44,7 +46,7 @@ on_case (tasks.Canon form) c = canon_stage form c
 
 -- a task on a case alone
 unfoldable pub case_call : Written → CaseTask → Option (List ℕ) → Stage Refusal Answer
-case_call form task case = and_then (accepted form (needs_of task) case) (on_case task)
+case_call form task case = and_then (accepted form (needs_of task) case) (λ c. told_as (line_of c.names) (on_case task c))
 
 -- what `check` needs of its case
 unfoldable pub check_needs : Needs
@@ -52,7 +54,7 @@ check_needs = record { kind = Single; most = 64 }
 
 -- `check`: a case that it can take, and then the text of the evidence
 unfoldable pub check_call : Written → Option (List ℕ) → Option (List ℕ) → Stage Refusal Answer
-check_call form case proof = and_then (accepted form check_needs case) (λ c. and_then (on_bytes proof (within (codes "proof "))) (check_stage c))
+check_call form case proof = and_then (accepted form check_needs case) (λ c. and_then (on_bytes proof (within (codes "proof "))) (λ bytes. told_as (line_of c.names) (check_stage c bytes)))
 
 -- a case is said that `check` can take
 abbrev pub IsCheckable : Written → Option (List ℕ) → Type 0
@@ -74,7 +76,7 @@ TakesCase (check form file) = Unit {0}
 TakesCase (sample size seed) = ⊥
 TakesCase help = ⊥
 
--- a command reads a proof, behind a case that it can take
+-- a command reads a proof, after a case that it can take
 unfoldable pub TakesProof : Asked → Option (List ℕ) → Type 0
 TakesProof (task_on_case form task) case = ⊥
 TakesProof (catalogue graph) case = ⊥

@@ -14,4 +14,5 @@ pub mod Sample
 pub mod Sets
 pub mod Simes
 pub mod Test
+pub mod Troubles
 pub mod Weights

@@ -5,7 +5,8 @@ use Rattle.field_core.specs.declared.place.WideAt.{WideAt}
 use Rattle.field_core.specs.declared.ratio.Ratio.{Ratio}
 use Rattle.fraction.specs.View.{number_of}
 use Rattle.answers.specs.declared.answer.Answer.{Answer}
-use Rattle.answers.specs.declared.refusal.Refusal.{Refusal}
+use Rattle.graph_cli.specs.declared.trouble.Trouble.{Trouble}
+use Rattle.graph_cli.specs.declared.trouble.Trouble.TheVariants as troubles
 use Rattle.answers.specs.Lines.{done}
 use Rattle.answers.specs.Stages.{Stage, and_then, only}
 use Rattle.case_model.specs.Content.{Content, ForSingle, entangled}
@@ -13,7 +14,6 @@ use Rattle.case_model.specs.DiscoveryBound.{IsBound}
 use Rattle.case_model.specs.Sums.{number_at}
 use Rattle.closed_test.specs.SetRuns.{AreRunsDefined}
 use Rattle.closed_test.specs.SetWeights.{AreIntersectionWeights}
-use Rattle.refusals.specs.WideRefusal.{wide_refusal}
 use Rattle.refusals.specs.declared.wide.When.TheVariants.{SimesSet}
 use Rattle.report.specs.SimesReport.{IsSimesReport}
 use Rattle.simes_test.specs.Leaders.{AreLeaders}
@@ -43,23 +43,23 @@ pub record ReportsSimes (c : Content) (text : List ℕ) : Type 0 where
   pub text_is : IsSimesReport c bound closed leaders text
 
 -- a refusal names the first set, in the order of sets, with a sum of weights that isn't defined, and its first member whose sum isn't
-abbrev pub IsWideSimesSet : Content → Refusal → Type 0
+abbrev pub IsWideSimesSet : Content → Trouble → Type 0
 IsWideSimesSet c r = (weight : ℕ → ℕ → Ratio) × AreIntersectionWeights c weight × (n : ℕ) × (wide : WideAt)
-    × IsSimesFault c weight (Wide n wide) × (r ≡ wide_refusal c.names (SimesSet n) wide)
+    × IsSimesFault c weight (Wide n wide) × (r ≡ troubles.Wide (SimesSet n) wide)
 
 -- the case, where the runs of all sets are defined; or the first set whose run isn't
-abbrev pub runs_of_sets : Content → Stage Refusal Content
+abbrev pub runs_of_sets : Content → Stage Trouble Content
 runs_of_sets c = record {
   Gives = λ x. AreRunsDefined c × (x ≡ c);
   Refuses = IsWideSet c;
 }
 
 -- the report of Simes' test, where the sums of weights of all members of all sets are defined; or the first sum that isn't
-abbrev pub simes_tested : Content → Stage Refusal (List ℕ)
+abbrev pub simes_tested : Content → Stage Trouble (List ℕ)
 simes_tested c = record {
   Gives = λ text. ((weight : ℕ → ℕ → Ratio) × AreIntersectionWeights c weight × AreAllSumsDefined c weight) × ReportsSimes c text;
   Refuses = IsWideSimesSet c;
 }
 
-unfoldable pub simes_stage : Content → Stage Refusal Answer
+unfoldable pub simes_stage : Content → Stage Trouble Answer
 simes_stage c = and_then (runs_of_sets c) (λ x. and_then (simes_tested x) (λ text. only (done text)))

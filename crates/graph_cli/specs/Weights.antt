@@ -2,7 +2,7 @@
 use Rattle.std.specs.Prelude.{ℕ, List}
 use Rattle.field_core.specs.declared.ratio.Ratio.{Ratio}
 use Rattle.answers.specs.declared.answer.Answer.{Answer}
-use Rattle.answers.specs.declared.refusal.Refusal.{Refusal}
+use Rattle.graph_cli.specs.declared.trouble.Trouble.{Trouble}
 use Rattle.answers.specs.Lines.{done}
 use Rattle.answers.specs.Stages.{Stage, and_then, only}
 use Rattle.case_model.specs.Content.{Content}
@@ -16,11 +16,11 @@ abbrev pub ReportsWeights : Content → List ℕ → Type 0
 ReportsWeights c text = (weight : ℕ → ℕ → Ratio) × AreIntersectionWeights c weight × IsWeightsReport c weight text
 
 -- this report, where the runs of all sets are defined; or the first set whose run isn't
-abbrev pub weighed : Content → Stage Refusal (List ℕ)
+abbrev pub weighed : Content → Stage Trouble (List ℕ)
 weighed c = record {
   Gives = λ text. AreRunsDefined c × ReportsWeights c text;
   Refuses = IsWideSet c;
 }
 
-unfoldable pub weights_stage : Content → Stage Refusal Answer
+unfoldable pub weights_stage : Content → Stage Trouble Answer
 weights_stage c = and_then (weighed c) (λ text. only (done text))

@@ -7,10 +7,11 @@ ghost use Rattle.answers.specs.Ways.{EndsIn, over_values, over_source};
 ghost use Rattle.case_model.specs.CaseView.{content};
 ghost use Rattle.command_words.specs.Asked.{written, text, csv, json};
 ghost use Rattle.command_words.specs.Levels.{level_of};
-ghost use Rattle.graph_cli.specs.Accepted.{IsTakenWithin, case_in, of_kind, of_size, suitable, accepted};
+ghost use Rattle.graph_cli.specs.Accepted.{IsTakenWithin, case_in, suitable, accepted};
+ghost use Rattle.graph_cli.specs.Troubles.{Meets};
 
-use crate::kind::InputKind;
 use crate::needs::Needs;
+use crate::trouble::Trouble;
 use answers::{Stop, take_whole};
 use case_csv::{CsvFault, read_csv};
 use case_json::read_json;
@@ -19,12 +20,10 @@ use command_words::CaseForm;
 use edge_text::{TextFault, read_text};
 use fraction::Fraction;
 use graph_io::Source;
-use refusals::{
-    case_refusal, cell_refusal, closure_refusal, json_refusal, kind_refusal, line_refusal,
-};
+use refusals::{case_refusal, cell_refusal, json_refusal, line_refusal};
 use std::alloc::Global;
 
-/// The case that a text says.
+/// Returns the case that a text says.
 fn text_case(alloc: Global, bytes: &[u8]) -> Result<Case, Stop>
     ensures { EndsIn (over_values (seen_by content (case_in text bytes.now))) result }
 {
@@ -40,7 +39,7 @@ fn text_case(alloc: Global, bytes: &[u8]) -> Result<Case, Stop>
     }
 }
 
-/// The case that CSV says at a level.
+/// Returns the case that CSV says at a level.
 fn csv_case(alloc: Global, alpha: Fraction, bytes: &[u8]) -> Result<Case, Stop>
     ensures { EndsIn (over_values (seen_by content (case_in (csv (level_of alpha)) bytes.now))) result }
 {
@@ -58,7 +57,7 @@ fn csv_case(alloc: Global, alpha: Fraction, bytes: &[u8]) -> Result<Case, Stop>
     }
 }
 
-/// The case that JSON says.
+/// Returns the case that JSON says.
 fn json_case(alloc: Global, bytes: &[u8]) -> Result<Case, Stop>
     ensures { EndsIn (over_values (seen_by content (case_in json bytes.now))) result }
 {
@@ -68,7 +67,7 @@ fn json_case(alloc: Global, bytes: &[u8]) -> Result<Case, Stop>
     }
 }
 
-/// The case that bytes say in a form.
+/// Returns the case that bytes say in a form.
 fn read_case(alloc: Global, form: &CaseForm, bytes: &[u8]) -> Result<Case, Stop>
     ensures { EndsIn (over_values (seen_by content (case_in (written form.now) bytes.now))) result }
 {
@@ -79,38 +78,21 @@ fn read_case(alloc: Global, form: &CaseForm, bytes: &[u8]) -> Result<Case, Stop>
     }
 }
 
-/// A case that has p-values of a kind.
-fn of_kind(alloc: Global, case: Case, kind: InputKind) -> Result<Case, Stop>
-    ensures { EndsIn (over_values (seen_by content (of_kind kind (content case)))) result }
+/// Tests whether a command with these needs can take a case: its kind first, then its size.
+fn suitable(case: &Case, needs: Needs) -> Result<(), Trouble>
+    ensures { Meets (seen_by (λ _. content case.now) (suitable needs (content case.now))) result }
 {
-    if kind.is_of(&case) {
-        Ok(case)
-    } else {
-        Err(Stop::Refused(kind_refusal(alloc)?))
+    if !needs.kind.is_of(case) {
+        return Err(Trouble::Kind);
     }
-}
-
-/// A case of at most so many hypotheses.
-fn of_size(alloc: Global, case: Case, most: usize) -> Result<Case, Stop>
-    ensures { EndsIn (over_values (seen_by content (of_size most (content case)))) result }
-{
-    if case.size() <= most {
-        Ok(case)
-    } else {
-        Err(Stop::Refused(closure_refusal(alloc, case.size())?))
+    if case.size() > needs.most {
+        return Err(Trouble::Closure(case.size() as u64));
     }
+    Ok(())
 }
 
-/// A case that a command with these needs can take.
-fn suitable(alloc: Global, case: Case, needs: Needs) -> Result<Case, Stop>
-    ensures { EndsIn (over_values (seen_by content (suitable needs (content case)))) result }
-{
-    let case = of_kind(alloc, case, needs.kind)?;
-    of_size(alloc, case, needs.most)
-}
-
-/// The case that a source says in a form, where a command with these needs can take it. Of a source that isn't read to its
-/// end, at most one byte more than it may have is taken.
+/// Returns the case that a source says in a form, where a command with these needs can take it. Of a source that isn't
+/// read to its end, at most one byte more than it may have is taken.
 pub fn accepted_case<S: Source>(
     alloc: Global,
     form: &CaseForm,
@@ -124,5 +106,8 @@ pub fn accepted_case<S: Source>(
 {
     let bytes = take_whole(alloc, b"", source)?;
     let case = read_case(alloc, form, bytes.as_slice())?;
-    suitable(alloc, case, needs)
+    match suitable(&case, needs) {
+        Ok(()) => Ok(case),
+        Err(trouble) => Err(trouble.told(alloc, &case)),
+    }
 }

@@ -2,11 +2,23 @@
 ghost use Rattle.std.specs.Prelude.{◌≡◌, ◌≤◌, ◌⊎◌, OnOk, length};
 ghost use Rattle.std.specs.Io.KnownBytes.{IsAtEnd};
 ghost use Rattle.graph_io.specs.Causes.{Rose};
-ghost use Rattle.answers.specs.Ways.{EndsIn, over_values, over_source};
+ghost use Rattle.answers.specs.Ways.{EndsIn, over_source};
 ghost use Rattle.case_model.specs.CaseView.{content};
 ghost use Rattle.command_words.specs.Asked.{asked, written};
 ghost use Rattle.graph_cli.specs.Accepted.{IsOfKind, IsTakenWithin};
-ghost use Rattle.graph_cli.specs.Commands.{needs_of, on_case, case_call, check_needs, check_call, IsCheckable, call_of, TakesCase, TakesProof, CallFault};
+ghost use Rattle.graph_cli.specs.Commands.{
+  needs_of,
+  on_case,
+  case_call,
+  check_needs,
+  check_call,
+  IsCheckable,
+  call_of,
+  TakesCase,
+  TakesProof,
+  CallFault,
+};
+ghost use Rattle.graph_cli.specs.Troubles.{Meets};
 
 mod bounds;
 mod canon;
@@ -16,7 +28,6 @@ mod evidence_run;
 mod help;
 mod named_graph;
 mod sample;
-mod set_faults;
 mod simes;
 mod stages;
 mod test;
@@ -36,13 +47,14 @@ use crate::commands::test::test_answer;
 use crate::commands::weights::weights_answer;
 use crate::kind::InputKind;
 use crate::needs::Needs;
+use crate::trouble::{Trouble, told};
 use answers::{Answer, Stop, take_whole};
 use case_model::Case;
 use command_words::{CaseForm, CaseTask, Command};
 use graph_io::Source;
 use std::alloc::Global;
 
-/// What a task needs of its case.
+/// Returns what a task needs of its case.
 #[tactic(auto, unfolding(crate::specs::Commands::needs_of))]
 fn needs_of(task: CaseTask) -> Needs
     ensures { result ≡ needs_of task }
@@ -58,12 +70,12 @@ fn needs_of(task: CaseTask) -> Needs
     }
 }
 
-/// What a task answers to a case that it can take.
+/// Returns what a task answers to a case that it can take.
 #[tactic(auto, unfolding(crate::specs::Commands::needs_of, crate::specs::Commands::on_case))]
-fn case_answer(alloc: Global, task: CaseTask, case: &Case) -> Result<Answer, Stop>
+fn case_answer(alloc: Global, task: CaseTask, case: &Case) -> Result<Answer, Trouble>
     requires kind { IsOfKind (needs_of task).kind (content case.now).inputs }
     requires size { length (content case.now).names ≤ (needs_of task).most }
-    ensures { EndsIn (over_values (on_case task (content case.now))) result }
+    ensures { Meets (on_case task (content case.now)) result }
 {
     match task {
         CaseTask::Test(priority) => test_answer(alloc, case, priority),
@@ -76,7 +88,7 @@ fn case_answer(alloc: Global, task: CaseTask, case: &Case) -> Result<Answer, Sto
     }
 }
 
-/// A task on a case alone.
+/// Returns a task on a case alone.
 #[tactic(auto, unfolding(crate::specs::Commands::case_call))]
 fn case_call<S: Source>(
     alloc: Global,
@@ -90,10 +102,10 @@ fn case_call<S: Source>(
     ensures taken { IsTakenWithin S.left S.calls source.old source.new }
 {
     let case = accepted_case(alloc, form, needs_of(task), source)?;
-    case_answer(alloc, task, &case)
+    told(alloc, &case, case_answer(alloc, task, &case))
 }
 
-/// What `check` needs of its case.
+/// Returns what `check` needs of its case.
 #[tactic(auto, unfolding(crate::specs::Commands::check_needs))]
 fn check_needs() -> Needs
     ensures { result ≡ check_needs }
@@ -101,7 +113,7 @@ fn check_needs() -> Needs
     Needs::new(InputKind::Single, 64)
 }
 
-/// What `check` answers to a case and a proof. It takes from the proof only behind a case that it can take.
+/// Returns what `check` answers to a case and a proof. It takes from the proof only after a case that it can take.
 #[tactic(auto, using(crate::proofs::Taken::untouched), unfolding(crate::specs::Commands::check_call, crate::specs::Commands::check_needs))]
 fn check_call<S: Source, T: Source>(
     alloc: Global,
@@ -121,10 +133,11 @@ fn check_call<S: Source, T: Source>(
 {
     let accepted = accepted_case(alloc, form, check_needs(), case)?;
     let bytes = take_whole(alloc, b"proof ", proof)?;
-    check_answer(alloc, &accepted, bytes.as_slice())
+    let answer = check_answer(alloc, &accepted, bytes.as_slice());
+    told(alloc, &accepted, answer)
 }
 
-/// What a command answers to a case and a proof. It takes from a source only what it needs.
+/// Returns what a command answers to a case and a proof. It takes from a source only what it needs.
 #[tactic(auto, using(crate::proofs::Taken::untouched), unfolding(crate::specs::Commands::call_of, crate::specs::Commands::TakesCase, crate::specs::Commands::TakesProof))]
 pub fn call<S: Source, T: Source>(
     alloc: Global,

@@ -11,7 +11,7 @@ pub struct Needs {
 }
 
 impl Needs {
-    /// What a command needs that takes inputs of this kind, of at most so many hypotheses.
+    /// Returns what a command needs that takes inputs of this kind, of at most this number of hypotheses.
     pub fn new(kind: InputKind, most: usize) -> Needs
         ensures { result ≡ record { kind = kind; most = most } }
     {

@@ -14,7 +14,7 @@ use graph_io::{Sink, Source};
 use refusals::usage;
 use std::alloc::Global;
 
-/// The place, from 0, of the word that names the file of a proof, or that of the commands of a study.
+/// Returns the place, from 0, of the word that names the file of a proof, or that of the commands of a study.
 pub fn file_word(words: &[String]) -> Option<usize>
     ensures file { IfSome result (NamesFile (map string_bytes words.now)) }
     ensures none { result ≡ None → (place : ℕ) → ¬ NamesFile (map string_bytes words.now) place }
@@ -28,7 +28,7 @@ pub fn file_word(words: &[String]) -> Option<usize>
     }
 }
 
-/// What these words, this case and this proof call for.
+/// Returns what these words, this case and this proof call for.
 #[tactic(auto, using(crate::proofs::Taken::untouched))]
 fn answer<S: Source, T: Source>(
     alloc: Global,
@@ -56,14 +56,14 @@ fn answer<S: Source, T: Source>(
     }
 }
 
-/// All that the program does. `words` are the words after the program's name, `case` is standard input, `proof` is the file
-/// that `file_word` names, and `out` gets the text of the answer, or one line that says why there is none. A source that the
-/// command doesn't read stays as it was; `proof` is read only behind a case that the command can take. Of a source that isn't
-/// read to its end, at most one byte more than it may have is taken.
+/// Returns all that the program does. `words` are the words after the program's name, `case` is standard input, `proof`
+/// is the file that `file_word` names, and `out` gets the text of the answer, or one line that says why there is none.
+/// A source that the command doesn't read stays as it was; `proof` is read only after a case that the command can take.
+/// Of a source that isn't read to its end, at most one byte more than it may have is taken.
 ///
-/// Statuses: 0 done; 1 the proof doesn't hold; 2 the words aren't accepted; 3 an input is malformed or has other p-values
-/// than the command needs; 4 it is past a limit; 5 a number of it or of its run is too wide; 6 a source that is read had a
-/// fault; 7 `out` had a fault; 8 memory ran out.
+/// Statuses: 0 done; 1 the proof doesn't hold; 2 the words aren't accepted; 3 an input is malformed or has other
+/// p-values than the command needs; 4 it is past a limit; 5 a number of it or of its run is too wide; 6 a source that
+/// is read had a fault; 7 `out` had a fault; 8 memory was exhausted.
 pub fn run<S: Source, T: Source, W: Sink>(
     alloc: Global,
     words: &[String],

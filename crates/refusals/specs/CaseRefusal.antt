@@ -14,7 +14,7 @@ use Rattle.refusals.specs.declared.wide.When.TheVariants.{Reading}
 use Rattle.refusals.specs.LinePieces.{counted, name_at, two_names, in_component, malformed_at, past_limit}
 use Rattle.refusals.specs.WideRefusal.{wide_refusal}
 
--- where a number stands in a draft
+-- where a number is in a draft
 unfoldable pub part_words : List (List ℕ) → PartPlace → List ℕ
 part_words names Alpha = codes "alpha"
 part_words names (Share c) = codes "share" ++ in_component c
@@ -65,7 +65,7 @@ case_kind names NoMemory = []
 abbrev pub malformed_case : List (List ℕ) → CaseFault → Refusal
 malformed_case names fault = malformed_at (codes "case") (case_kind names fault)
 
--- The line of a fault. To be out of memory is not a fault of a draft: no line is given of it.
+-- The line of a fault. To be out of memory is not an error in a draft: no line is given of it.
 unfoldable pub case_refusal : List (List ℕ) → CaseFault → Refusal
 case_refusal names (TooMany n) = past_limit (codes "hypotheses " ++ decimal n)
 case_refusal names (TooManyComponents n) = past_limit (codes "components " ++ decimal n)

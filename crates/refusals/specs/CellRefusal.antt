@@ -11,7 +11,7 @@ use Rattle.refusals.specs.TextRefusal.{number_refusal, expression_refusal}
 abbrev pub at_cell : ℕ → ℕ → List ℕ
 at_cell row column = (codes "row " ++ decimal row) ++ (codes " column " ++ decimal column)
 
--- a cell of a record can't stand
+-- a cell of a record isn't allowed
 unfoldable pub cell_refusal : ℕ → ℕ → RowKind → Refusal
 cell_refusal row column NoHeader = malformed_at (at_cell row column) (codes "header")
 cell_refusal row column Header = malformed_at (at_cell row column) (codes "header")

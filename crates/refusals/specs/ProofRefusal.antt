@@ -55,7 +55,7 @@ no_line names js ks n reason = line (codes "no: " ++ part_words names (part_at j
 abbrev pub at_proof_line : ℕ → List ℕ
 at_proof_line n = codes "proof line " ++ decimal n
 
--- a line of a text of evidence can't stand
+-- a line of a text of evidence isn't allowed
 unfoldable pub proof_refusal : ℕ → ProofKind → Refusal
 proof_refusal n Unexpected = malformed_at (at_proof_line n) (codes "unexpected")
 proof_refusal n Ended = malformed_at (at_proof_line n) (codes "ended")

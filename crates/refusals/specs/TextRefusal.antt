@@ -31,7 +31,7 @@ expression_refusal place Degree = limit_at place (codes "degree")
 expression_refusal place Part = limit_at place (codes "part")
 expression_refusal place Depth = limit_at place (codes "depth")
 
--- a line at a place can't stand
+-- a line at a place isn't allowed
 unfoldable pub placed_refusal : List ℕ → LineKind → Refusal
 placed_refusal place Unexpected = malformed_at place (codes "unexpected")
 placed_refusal place Ended = malformed_at place (codes "ended")
@@ -41,7 +41,7 @@ placed_refusal place Whole = malformed_at place (codes "whole number")
 placed_refusal place (Number fault) = number_refusal place fault
 placed_refusal place (Expr fault) = expression_refusal place fault
 
--- a line of a text can't stand
+-- a line of a text isn't allowed
 unfoldable pub line_refusal : ℕ → LineKind → Refusal
 line_refusal n kind = placed_refusal (at_line n) kind
 

@@ -5,6 +5,6 @@ use Rattle.answers.specs.declared.refusal.Refusal.{Refusal}
 use Rattle.answers.specs.declared.cause.Cause.TheVariants.{Usage}
 use Rattle.answers.specs.Lines.{line}
 
--- the word of this number, from 1, is the first that can't stand
+-- the word of this number, from 1, is the first that isn't allowed
 unfoldable pub usage : ℕ → Refusal
 usage n = record { cause = Usage; line = line (codes "usage: word " ++ decimal n) }

@@ -75,7 +75,7 @@ fn put_arrival(text: &mut List<u8>, n: usize, words: &[u8]) -> Result<(), NoMemo
     text.append(words)
 }
 
-/// Appends where a number stands in a draft.
+/// Appends where a number is in a draft.
 #[tactic(auto, unfolding(crate::specs::CaseRefusal::part_words))]
 fn put_part(text: &mut List<u8>, names: &[Text], place: PartPlace) -> Result<(), NoMemory>
     ensures { OnOk result (text.new ≡ text.old ++ part_words names.now place) }
@@ -134,7 +134,7 @@ fn put_kind(text: &mut List<u8>, names: &[Text], fault: &CaseFault) -> Result<()
     }
 }
 
-/// The refusal of a case that is malformed.
+/// Returns the refusal of a case that is malformed.
 #[tactic(auto, unfolding(crate::specs::LinePieces::malformed_at))]
 fn malformed_case(alloc: Global, names: &[Text], fault: &CaseFault) -> Result<Refusal, NoMemory>
     ensures { IfOk result (λ refusal. refusal ≡ malformed_at (codes "case") (case_kind names.now fault.now)) }
@@ -144,7 +144,7 @@ fn malformed_case(alloc: Global, names: &[Text], fault: &CaseFault) -> Result<Re
     Refusal::of_line(Cause::Malformed, text)
 }
 
-/// The refusal of a quantity of which there is more than may be.
+/// Returns the refusal of a quantity of which there is more than may be.
 #[tactic(auto, unfolding(crate::specs::LinePieces::past_limit))]
 fn too_many(alloc: Global, quantity: &[u8], n: u64) -> Result<Refusal, NoMemory>
     ensures { IfOk result (λ refusal. refusal ≡ past_limit (quantity.now ++ decimal n)) }
@@ -154,7 +154,7 @@ fn too_many(alloc: Global, quantity: &[u8], n: u64) -> Result<Refusal, NoMemory>
     Refusal::of_line(Cause::Limit, text)
 }
 
-/// The refusal of a number that has a part past its limit.
+/// Returns the refusal of a number that has a part past its limit.
 #[tactic(auto, unfolding(crate::specs::LinePieces::past_limit))]
 fn too_long(alloc: Global, names: &[Text], place: PartPlace) -> Result<Refusal, NoMemory>
     ensures { IfOk result (λ refusal. refusal ≡ past_limit (codes "case: part " ++ part_words names.now place)) }
@@ -165,7 +165,7 @@ fn too_long(alloc: Global, names: &[Text], place: PartPlace) -> Result<Refusal, 
     Refusal::of_line(Cause::Limit, text)
 }
 
-/// The refusal of a fault of a case with these names; `NoMemory` where the fault is want of memory, or memory runs out.
+/// Returns the refusal of a fault of a case with these names; `NoMemory` where the fault is, or when out of memory.
 #[tactic(auto, unfolding(crate::specs::CaseRefusal::case_refusal, crate::specs::LinePieces::past_limit, crate::specs::LinePieces::malformed_at, crate::specs::WideRefusal::wide_refusal))]
 pub fn case_refusal(alloc: Global, names: &[Text], fault: &CaseFault) -> Result<Refusal, NoMemory>
     ensures line { IfOk result (λ refusal. refusal ≡ case_refusal names.now fault.now) }

@@ -7,7 +7,7 @@ use answers::{Cause, Refusal};
 use field_core::NoMemory;
 use std::alloc::Global;
 
-/// The refusal of a size that is 0 or too large.
+/// Returns the refusal of a size that is 0 or too large.
 #[tactic(auto, unfolding(crate::specs::CatalogueRefusal::size_refusal, crate::specs::LinePieces::past_limit))]
 pub fn size_refusal(alloc: Global, n: u64) -> Result<Refusal, NoMemory>
     ensures { IfOk result (λ refusal. refusal ≡ size_refusal n) }
@@ -17,7 +17,7 @@ pub fn size_refusal(alloc: Global, n: u64) -> Result<Refusal, NoMemory>
     Refusal::of_line(Cause::Limit, text)
 }
 
-/// The refusal of a seed that is too large.
+/// Returns the refusal of a seed that is too large.
 #[tactic(auto, unfolding(crate::specs::CatalogueRefusal::seed_refusal, crate::specs::LinePieces::past_limit))]
 pub fn seed_refusal(alloc: Global, n: u64) -> Result<Refusal, NoMemory>
     ensures { IfOk result (λ refusal. refusal ≡ seed_refusal n) }

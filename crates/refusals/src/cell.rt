@@ -9,7 +9,7 @@ use case_csv::RowKind;
 use field_core::{List, NoMemory};
 use std::alloc::Global;
 
-/// The place of a cell.
+/// Returns the place of a cell.
 fn at_cell(alloc: Global, row: usize, column: usize) -> Result<List<u8>, NoMemory>
     ensures { IfOk result (λ place. place ≡ at_cell row column) }
 {
@@ -19,7 +19,7 @@ fn at_cell(alloc: Global, row: usize, column: usize) -> Result<List<u8>, NoMemor
     Ok(place)
 }
 
-/// The refusal of a cell of CSV that can't stand, by its record and its column, both from 1.
+/// Returns the refusal of a cell of CSV that isn't allowed, by its record and its column, both from 1.
 #[tactic(auto, unfolding(crate::specs::CellRefusal::cell_refusal, crate::specs::LinePieces::past_limit, crate::specs::LinePieces::malformed_at, crate::specs::TextRefusal::number_refusal, crate::specs::TextRefusal::expression_refusal))]
 pub fn cell_refusal(
     alloc: Global,

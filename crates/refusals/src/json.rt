@@ -10,8 +10,8 @@ use case_json::JsonFault;
 use field_core::NoMemory;
 use std::alloc::Global;
 
-/// The refusal of JSON with this fault, by its path as it stands; `NoMemory` where the fault is want of memory, or memory
-/// runs out.
+/// Returns the refusal of JSON with this fault, by its path as it stands; `NoMemory` where the fault is, or when out of
+/// memory.
 #[tactic(auto, unfolding(crate::specs::JsonRefusal::json_refusal))]
 pub fn json_refusal(alloc: Global, fault: &JsonFault) -> Result<Refusal, NoMemory>
     ensures line { IfOk result (λ refusal. refusal ≡ json_refusal fault.now) }

@@ -7,7 +7,7 @@ use answers::{Cause, Refusal};
 use field_core::{List, NoMemory};
 use std::alloc::Global;
 
-/// The refusal of p-values that aren't of the kind that a command needs.
+/// Returns the refusal of p-values that aren't of the kind that a command needs.
 #[tactic(auto, unfolding(crate::specs::NeedRefusal::kind_refusal))]
 pub fn kind_refusal(alloc: Global) -> Result<Refusal, NoMemory>
     ensures { IfOk result (λ refusal. refusal ≡ kind_refusal) }
@@ -17,7 +17,7 @@ pub fn kind_refusal(alloc: Global) -> Result<Refusal, NoMemory>
     Refusal::of_line(Cause::Malformed, text)
 }
 
-/// The refusal of a case of more hypotheses than a command takes.
+/// Returns the refusal of a case of more hypotheses than a command takes.
 #[tactic(auto, unfolding(crate::specs::NeedRefusal::closure_refusal, crate::specs::LinePieces::past_limit))]
 pub fn closure_refusal(alloc: Global, n: usize) -> Result<Refusal, NoMemory>
     ensures { IfOk result (λ refusal. refusal ≡ closure_refusal n) }

@@ -84,7 +84,7 @@ pub fn put_between(
     put_two_names(text, names, i, j)
 }
 
-/// The beginning of the line of a malformed input: where.
+/// Returns the beginning of the line of a malformed input: where.
 pub fn malformed(alloc: Global, place: &[u8]) -> Result<List<u8>, NoMemory>
     ensures { IfOk result (λ text. text ≡ codes "malformed: " ++ place.now ++ codes ": ") }
 {
@@ -95,7 +95,7 @@ pub fn malformed(alloc: Global, place: &[u8]) -> Result<List<u8>, NoMemory>
     Ok(text)
 }
 
-/// The beginning of the line of a quantity past its limit.
+/// Returns the beginning of the line of a quantity past its limit.
 pub fn past_limit(alloc: Global) -> Result<List<u8>, NoMemory>
     ensures { IfOk result (λ text. text ≡ codes "limit: ") }
 {

@@ -3,7 +3,16 @@ ghost use Rattle.std.specs.Prelude.{◌≡◌, ◌++◌, IfOk, OnOk, length, map
 ghost use Rattle.std.specs.List.{slice_get};
 ghost use Rattle.evidence_check.specs.EvidenceView.{hypotheses_of, steps_of, keeps_of};
 ghost use Rattle.refusals.specs.LinePieces.{counted};
-ghost use Rattle.refusals.specs.ProofRefusal.{part_at, part_words, name_or_place, number_words, reason_words, no_line, at_proof_line, proof_refusal};
+ghost use Rattle.refusals.specs.ProofRefusal.{
+  part_at,
+  part_words,
+  name_or_place,
+  number_words,
+  reason_words,
+  no_line,
+  at_proof_line,
+  proof_refusal,
+};
 
 use crate::pieces::{put_at, put_counted, put_counting, put_name, put_of};
 use crate::text::malformed_at;
@@ -19,7 +28,7 @@ pub enum ProofPart {
     Keep(usize),
 }
 
-/// The hypothesis of the step at a place.
+/// Returns the hypothesis of the step at a place.
 fn listed_at<F>(steps: &[ProofStep<F>], r: usize) -> Option<usize>
     ensures { result ≡ slice_get (hypotheses_of steps.now) r }
 {
@@ -29,7 +38,7 @@ fn listed_at<F>(steps: &[ProofStep<F>], r: usize) -> Option<usize>
     }
 }
 
-/// The hypothesis of the keep at a place.
+/// Returns the hypothesis of the keep at a place.
 fn kept_at<F>(keeps: &[KeepProof<F>], x: usize) -> Option<usize>
     ensures { result ≡ slice_get (map (λ x. x.hypothesis) keeps.now) x }
 {
@@ -39,7 +48,7 @@ fn kept_at<F>(keeps: &[KeepProof<F>], x: usize) -> Option<usize>
     }
 }
 
-/// How many steps there are.
+/// Returns how many steps there are.
 fn step_count(proof: &Evidence) -> usize
     ensures { result ≡ length (map (λ s. s.hypothesis) (steps_of proof.now)) }
 {
@@ -49,7 +58,7 @@ fn step_count(proof: &Evidence) -> usize
     }
 }
 
-/// The hypothesis of the step at a place of evidence.
+/// Returns the hypothesis of the step at a place of evidence.
 fn step_at(proof: &Evidence, r: usize) -> Option<usize>
     ensures { result ≡ slice_get (map (λ s. s.hypothesis) (steps_of proof.now)) r }
 {
@@ -59,7 +68,7 @@ fn step_at(proof: &Evidence, r: usize) -> Option<usize>
     }
 }
 
-/// The hypothesis of the keep at a place of evidence.
+/// Returns the hypothesis of the keep at a place of evidence.
 fn keep_at(proof: &Evidence, x: usize) -> Option<usize>
     ensures { result ≡ slice_get (map (λ x. x.hypothesis) (keeps_of proof.now)) x }
 {
@@ -69,7 +78,8 @@ fn keep_at(proof: &Evidence, x: usize) -> Option<usize>
     }
 }
 
-/// The step or the keep of a number, from 1; the keeps count after the steps. Past the last keep it is the step of the number.
+/// Returns the step or the keep of a number, from 1; the keeps count after the steps. Past the last keep it is the step
+/// of the number.
 #[tactic(auto, unfolding(crate::specs::ProofRefusal::part_at))]
 pub fn part_at(proof: &Evidence, n: usize) -> ProofPart
     ensures { result ≡ part_at (map (λ s. s.hypothesis) (steps_of proof.now)) (map (λ x. x.hypothesis) (keeps_of proof.now)) n }
@@ -120,7 +130,8 @@ fn put_number(
     r: usize,
     wrong: &[u8],
 ) -> Result<(), NoMemory>
-    ensures { OnOk result (text.new ≡ text.old ++ number_words names.now (map (λ s. s.hypothesis) (steps_of proof.now)) c quantity.now r wrong.now) }
+    ensures { OnOk result (text.new ≡ text.old ++ number_words names.now (map (λ s. s.hypothesis)
+        (steps_of proof.now)) c quantity.now r wrong.now) }
 {
     put_at(text, b"component ", c)?;
     text.append(quantity)?;
@@ -163,7 +174,7 @@ fn put_reason(
     }
 }
 
-/// The line of evidence that doesn't hold: its first broken condition, at the step or keep of a number, from 1.
+/// Returns the line of evidence that doesn't hold: its first broken condition, at the step or keep of a number, from 1.
 #[tactic(auto, unfolding(crate::specs::ProofRefusal::no_line))]
 pub fn no_text(
     alloc: Global,
@@ -172,7 +183,8 @@ pub fn no_text(
     n: usize,
     reason: Reason,
 ) -> Result<List<u8>, NoMemory>
-    ensures { IfOk result (λ text. text ≡ no_line names.now (map (λ s. s.hypothesis) (steps_of proof.now)) (map (λ x. x.hypothesis) (keeps_of proof.now)) n reason) }
+    ensures { IfOk result (λ text. text ≡ no_line names.now (map (λ s. s.hypothesis) (steps_of proof.now)) (map
+        (λ x. x.hypothesis) (keeps_of proof.now)) n reason) }
 {
     let mut text = List::new(alloc);
     text.append(b"no: ")?;
@@ -183,7 +195,7 @@ pub fn no_text(
     Ok(text)
 }
 
-/// The place of a line of evidence.
+/// Returns the place of a line of evidence.
 fn at_proof_line(alloc: Global, line: usize) -> Result<List<u8>, NoMemory>
     ensures { IfOk result (λ place. place ≡ at_proof_line line) }
 {
@@ -192,7 +204,7 @@ fn at_proof_line(alloc: Global, line: usize) -> Result<List<u8>, NoMemory>
     Ok(place)
 }
 
-/// The refusal of a line of evidence, by its number from 1, that can't stand.
+/// Returns the refusal of a line of evidence, by its number from 1, that isn't allowed.
 #[tactic(auto, unfolding(crate::specs::ProofRefusal::proof_refusal))]
 pub fn proof_refusal(alloc: Global, line: usize, kind: ProofKind) -> Result<Refusal, NoMemory>
     ensures { IfOk result (λ refusal. refusal ≡ proof_refusal line kind) }

@@ -7,7 +7,7 @@ use answers::{Cause, Refusal};
 use field_core::{List, NoMemory};
 use std::alloc::Global;
 
-/// The refusal of a look that is kept, by its number from 1, and can't be taken.
+/// Returns the refusal of a look that is kept, by its number from 1, and can't be taken.
 #[tactic(auto, unfolding(crate::specs::RecordRefusal::record_refusal))]
 pub fn record_refusal(alloc: Global, n: usize) -> Result<Refusal, NoMemory>
     ensures { IfOk result (λ refusal. refusal ≡ record_refusal n) }

@@ -1,7 +1,15 @@
 //! Lines of texts that say no draft.
 ghost use Rattle.std.specs.Prelude.{◌≡◌, IfOk};
 ghost use Rattle.refusals.specs.LinePieces.{malformed_at, limit_at};
-ghost use Rattle.refusals.specs.TextRefusal.{at_line, at_command, number_refusal, expression_refusal, placed_refusal, line_refusal, commands_refusal};
+ghost use Rattle.refusals.specs.TextRefusal.{
+  at_line,
+  at_command,
+  number_refusal,
+  expression_refusal,
+  placed_refusal,
+  line_refusal,
+  commands_refusal,
+};
 
 use crate::pieces::{malformed, past_limit, put_counting};
 use answers::{Cause, Refusal};
@@ -10,7 +18,7 @@ use field_core::{List, NoMemory};
 use fraction::NumberFault;
 use std::alloc::Global;
 
-/// The refusal of what is malformed at a place.
+/// Returns the refusal of what is malformed at a place.
 #[tactic(auto, unfolding(crate::specs::LinePieces::malformed_at))]
 pub fn malformed_at(alloc: Global, place: &[u8], kind: &[u8]) -> Result<Refusal, NoMemory>
     ensures { IfOk result (λ refusal. refusal ≡ malformed_at place.now kind.now) }
@@ -20,7 +28,7 @@ pub fn malformed_at(alloc: Global, place: &[u8], kind: &[u8]) -> Result<Refusal,
     Refusal::of_line(Cause::Malformed, text)
 }
 
-/// The refusal of a quantity past its limit at a place.
+/// Returns the refusal of a quantity past its limit at a place.
 #[tactic(auto, unfolding(crate::specs::LinePieces::past_limit))]
 fn limit_at(alloc: Global, place: &[u8], quantity: &[u8]) -> Result<Refusal, NoMemory>
     ensures { IfOk result (λ refusal. refusal ≡ limit_at place.now quantity.now) }
@@ -32,7 +40,7 @@ fn limit_at(alloc: Global, place: &[u8], quantity: &[u8]) -> Result<Refusal, NoM
     Refusal::of_line(Cause::Limit, text)
 }
 
-/// The refusal of a numeral at a place that is refused.
+/// Returns the refusal of a numeral at a place that is refused.
 #[tactic(auto, unfolding(crate::specs::TextRefusal::number_refusal))]
 pub fn number_refusal(alloc: Global, place: &[u8], fault: NumberFault) -> Result<Refusal, NoMemory>
     ensures { IfOk result (λ refusal. refusal ≡ number_refusal place.now fault) }
@@ -44,7 +52,7 @@ pub fn number_refusal(alloc: Global, place: &[u8], fault: NumberFault) -> Result
     }
 }
 
-/// The refusal of an expression at a place that is refused.
+/// Returns the refusal of an expression at a place that is refused.
 #[tactic(auto, unfolding(crate::specs::TextRefusal::expression_refusal))]
 pub fn expression_refusal(
     alloc: Global,
@@ -63,7 +71,7 @@ pub fn expression_refusal(
     }
 }
 
-/// The place of a line.
+/// Returns the place of a line.
 fn at_line(alloc: Global, line: usize) -> Result<List<u8>, NoMemory>
     ensures { IfOk result (λ place. place ≡ at_line line) }
 {
@@ -72,7 +80,7 @@ fn at_line(alloc: Global, line: usize) -> Result<List<u8>, NoMemory>
     Ok(place)
 }
 
-/// The place of a line of commands.
+/// Returns the place of a line of commands.
 fn at_command(alloc: Global, line: usize) -> Result<List<u8>, NoMemory>
     ensures { IfOk result (λ place. place ≡ at_command line) }
 {
@@ -81,7 +89,7 @@ fn at_command(alloc: Global, line: usize) -> Result<List<u8>, NoMemory>
     Ok(place)
 }
 
-/// The refusal of a line at a place that can't stand.
+/// Returns the refusal of a line at a place that isn't allowed.
 #[tactic(auto, unfolding(crate::specs::TextRefusal::placed_refusal, crate::specs::LinePieces::past_limit, crate::specs::LinePieces::malformed_at, crate::specs::TextRefusal::number_refusal, crate::specs::TextRefusal::expression_refusal))]
 fn placed_refusal(alloc: Global, place: &[u8], kind: LineKind) -> Result<Refusal, NoMemory>
     ensures { IfOk result (λ refusal. refusal ≡ placed_refusal place.now kind) }
@@ -97,7 +105,7 @@ fn placed_refusal(alloc: Global, place: &[u8], kind: LineKind) -> Result<Refusal
     }
 }
 
-/// The refusal of a line of a text, by its number from 1, that can't stand.
+/// Returns the refusal of a line of a text, by its number from 1, that isn't allowed.
 #[tactic(auto, unfolding(crate::specs::TextRefusal::line_refusal))]
 pub fn line_refusal(alloc: Global, line: usize, kind: LineKind) -> Result<Refusal, NoMemory>
     ensures { IfOk result (λ refusal. refusal ≡ line_refusal line kind) }
@@ -106,7 +114,7 @@ pub fn line_refusal(alloc: Global, line: usize, kind: LineKind) -> Result<Refusa
     placed_refusal(alloc, place.as_slice(), kind)
 }
 
-/// The refusal of a line of the commands of a study, by its number from 1, that says none.
+/// Returns the refusal of a line of the commands of a study, by its number from 1, that says none.
 #[tactic(auto, unfolding(crate::specs::TextRefusal::commands_refusal))]
 pub fn commands_refusal(alloc: Global, line: usize, kind: LineKind) -> Result<Refusal, NoMemory>
     ensures { IfOk result (λ refusal. refusal ≡ commands_refusal line kind) }

@@ -128,7 +128,7 @@ fn put_op(text: &mut List<u8>, op: Op) -> Result<(), NoMemory>
     }
 }
 
-/// The refusal of an operation that has a part past its size.
+/// Returns the refusal of an operation that has a part past its size.
 #[tactic(auto, unfolding(crate::specs::WideRefusal::wide_refusal))]
 pub fn wide_refusal(
     alloc: Global,

@@ -7,7 +7,7 @@ use answers::{Cause, Refusal};
 use field_core::{List, NoMemory};
 use std::alloc::Global;
 
-/// The refusal of words of which this one, from 1, is the first that can't stand.
+/// Returns the refusal of words of which this one, from 1, is the first that isn't allowed.
 #[tactic(auto, unfolding(crate::specs::UsageRefusal::usage))]
 pub fn usage(alloc: Global, word: usize) -> Result<Refusal, NoMemory>
     ensures { IfOk result (λ refusal. refusal ≡ usage word) }

@@ -11,7 +11,7 @@ use Rattle.report.proofs.ListedLines.{flat_map-more}
 pub begun_none : (old new text : List ℕ) → new ≡ old → IsBegun old new text
 begun_none old new text e = record { front = []; rest = text; appended = e ∙ sym (append-nil old); text_is = refl }
 
--- behind a text that was written
+-- after a text that was written
 pub begun_behind : (old mid new a text : List ℕ) → mid ≡ old ++ a → IsBegun mid new text → IsBegun old new (a ++ text)
 begun_behind old mid new a text e b = record {
   front = a ++ b.front;
@@ -82,7 +82,7 @@ places_front f j (suc k) =
           ∙ (flat_map-more f (j + k) ∙ (ap (λ t. t ++ f (j + k)) h.1 ∙ append_assoc (flat_map f (range_with_len 0 j)) h.0 (f (j + k)))),
     )
 
--- a beginning of the text of a place, behind those of all before it
+-- a beginning of the text of a place, after those of all before it
 pub place_begun : (f : ℕ → List ℕ) (old text new : List ℕ) (j n : ℕ)
     → text ≡ old ++ flat_map f (range_with_len 0 j) → j < n → IsBegun text new (f j)
     → IsBegun old new (flat_map f (range_with_len 0 n))

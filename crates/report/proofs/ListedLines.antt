@@ -18,7 +18,7 @@ flat_map-more f n =
     ∙ flat_map-append f (map (λ k. k) (range_with_len 0 n)) (n ∷ [])
     ∙ ap₂ (λ xs ys. xs ++ ys) (flat_map-map f (λ k. k) (range_with_len 0 n)) (append-nil (f n))
 
--- the text behind one place more
+-- the text after one place more
 pub put_more : (f : ℕ → List ℕ) (start text new : List ℕ) (n : ℕ) → text ≡ start ++ flat_map f (range_with_len 0 n) → new ≡ text ++ f n
     → new ≡ start ++ flat_map f (range_with_len 0 (n + 1))
 put_more f start text new n e g =

@@ -12,7 +12,7 @@ use Rattle.staged_levels.proofs.LookLaws.{added_same}
 use Rattle.report.specs.StagesReport.{AreRejectionsOf}
 use Rattle.report.specs.ReportStatements.{LooksAreOfTheirCases}
 
--- a rejection is of one of so many hypotheses
+-- a rejection is of one of a number of hypotheses
 abbrev IsBelow : ℕ → Settled → Type 0
 IsBelow m r = r.hypothesis < m
 

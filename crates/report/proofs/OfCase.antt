@@ -22,7 +22,7 @@ use Rattle.sequential.specs.declared.priority.Priority.TheVariants.{First, Last,
 use Rattle.report.specs.TestReport.{AreOfCase}
 use Rattle.report.specs.ReportStatements.{DecisionsAreOfTheirCases}
 
--- a line is of one of so many hypotheses
+-- a line is of one of a number of hypotheses
 abbrev IsBelow : ℕ → StepLine → Type 0
 IsBelow m x = x.hypothesis < m
 

@@ -19,7 +19,7 @@ lines_more case (b ∷ arrivals) (l ∷ looks) a look e =
     ap (λ t. look_lines case b l ++ t) (lines_more case arrivals looks a look (omega (arith, e)))
     ∙ sym (append_assoc (look_lines case b l) (looks_lines case arrivals looks) (look_lines case a look))
 
--- the text behind one look more
+-- the text after one look more
 pub put_line_more : (case : Content) (arrivals : List Arrival) (looks : List (List Settled)) (a : Arrival) (look start text new : _)
     → length looks ≡ length arrivals → text ≡ start ++ looks_lines case arrivals looks → new ≡ text ++ look_lines case a look
     → new ≡ start ++ looks_lines case (arrivals ++ (a ∷ [])) (looks ++ (look ∷ []))

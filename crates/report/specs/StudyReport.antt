@@ -17,9 +17,9 @@ use Rattle.report.specs.StagesReport.{reject_line}
 pub data Reply : Type 0 where
   -- a look was taken, and it brought these rejections
   taken : (look : Look) (rejections : List Settled) → Reply
-  -- the command of this number, from 1, asked for a look that is refused
+  -- the command of this number, from 1, requested a look that is refused
   refused : (number : ℕ) (fault : StepFault) → Reply
-  -- so many looks have arrived, and these are rejected
+  -- this number of looks has arrived, and these are rejected
   shown : (looks : ℕ) (rejections : List Settled) → Reply
 
 -- the line of a look: the hypothesis, the stage and the p-value

@@ -62,7 +62,7 @@ name_if_rejected case steps j = if is_rejected steps j then spaced_name case j e
 unfoldable pub rejected_line : Content → List StepLine → List ℕ
 rejected_line case steps = line (codes "rejected" ++ flat_map (name_if_rejected case steps) (range_with_len 0 (length case.names)))
 
--- what is printed behind a value: nothing where it is reached
+-- what is printed after a value: nothing where it is reached
 abbrev pub reached_words : Bool → List ℕ
 reached_words reached = if reached then [] else codes " not reached"
 

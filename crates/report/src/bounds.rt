@@ -27,7 +27,8 @@ fn put_if_member(text: &mut List<u8>, case: &Case, set: u32, k: usize) -> Result
 /// Appends the names of the members of a set.
 fn put_members(text: &mut List<u8>, case: &Case, set: u32) -> Result<(), NoMemory>
     requires { length (content case.now).names ≤ 16 }
-    ensures { OnOk result (text.new ≡ text.old ++ flat_map (name_if_member (content case.now) set) (range_with_len 0 (length (content case.now).names))) }
+    ensures { OnOk result (text.new ≡ text.old ++ flat_map (name_if_member (content case.now) set) (range_with_len 0
+        (length (content case.now).names))) }
 {
     for k in 0..case.size() {
         put_if_member(text, case, set, k)?;
@@ -78,7 +79,7 @@ pub(crate) fn put_sets(
     Ok(())
 }
 
-/// What the command `bounds` prints of sets.
+/// Returns what the command `bounds` prints of sets.
 #[tactic(auto, unfolding(crate::specs::BoundsReport::bounds_report))]
 fn text_of_sets(
     alloc: Global,
@@ -97,8 +98,9 @@ fn text_of_sets(
     Ok(text)
 }
 
-/// What the command `bounds` prints: how many hypotheses there are, and for each set that isn't empty, in the order of sets,
-/// its bound and the names of its members. The bounds must be for the hypotheses of the case. `NoMemory` where memory runs out.
+/// Returns what the command `bounds` prints: how many hypotheses there are, and for each set that isn't empty, in the
+/// order of sets, its bound and the names of its members. The bounds must be for the hypotheses of the case. `NoMemory`
+/// when out of memory.
 pub fn bounds_text(alloc: Global, case: &Case, bounds: &Bounds) -> Result<List<u8>, NoMemory>
     requires { bounds_size bounds.now ≡ length (content case.now).names }
     ensures { IfOk result (λ text. IsBoundsReport (content case.now) (bound_of bounds.now) text) }

@@ -76,7 +76,9 @@ fn put_keeps<F>(
 fn put_hypotheses<F>(text: &mut List<u8>, case: &Case, proof: &Steps<F>) -> Result<(), NoMemory>
     requires steps { All (λ s. s.hypothesis < length (content case.now).names) proof.now.steps }
     requires keeps { All (λ x. x.hypothesis < length (content case.now).names) proof.now.keeps }
-    ensures { OnOk result (text.new ≡ text.old ++ (listed_line (content case.now) (hypotheses_of proof.now.steps) ++ keeps_line (content case.now) proof.now.version (map (λ x. x.hypothesis) proof.now.keeps))) }
+    ensures { OnOk result (text.new ≡ text.old ++ (listed_line (content case.now)
+        (hypotheses_of proof.now.steps) ++ keeps_line (content case.now) proof.now.version
+        (map (λ x. x.hypothesis) proof.now.keeps))) }
 {
     put_listed(text, case, proof.steps.as_slice())?;
     put_keeps(text, case, proof.version, proof.keeps.as_slice())
@@ -85,7 +87,9 @@ fn put_hypotheses<F>(text: &mut List<u8>, case: &Case, proof: &Steps<F>) -> Resu
 /// Appends the hypotheses of evidence for a case.
 fn put_evidence(text: &mut List<u8>, case: &Case, proof: &Evidence) -> Result<(), NoMemory>
     requires { IsEvidenceFor (content case.now) proof.now }
-    ensures { OnOk result (text.new ≡ text.old ++ (listed_line (content case.now) (map (λ s. s.hypothesis) (steps_of proof.now)) ++ keeps_line (content case.now) (version_of proof.now) (map (λ x. x.hypothesis) (keeps_of proof.now)))) }
+    ensures { OnOk result (text.new ≡ text.old ++ (listed_line (content case.now) (map (λ s. s.hypothesis)
+        (steps_of proof.now)) ++ keeps_line (content case.now) (version_of proof.now)
+        (map (λ x. x.hypothesis) (keeps_of proof.now)))) }
 {
     match proof {
         Evidence::Plain(proof) => put_hypotheses(text, case, proof),
@@ -93,14 +97,15 @@ fn put_evidence(text: &mut List<u8>, case: &Case, proof: &Evidence) -> Result<()
     }
 }
 
-/// What the command `check` prints of evidence that holds: `yes`, the names of the hypotheses of the steps in the order of the
-/// steps, and in version 2 the names of those that are kept.
+/// Returns what the command `check` prints of evidence that holds: `yes`, the names of the hypotheses of the steps in
+/// the order of the steps, and in version 2 the names of those that are kept.
 ///
-/// The evidence must be for the case. `NoMemory` where memory runs out.
+/// The evidence must be for the case. `NoMemory` when out of memory.
 #[tactic(auto, unfolding(crate::specs::CheckReport::check_report))]
 pub fn check_text(alloc: Global, case: &Case, proof: &Evidence) -> Result<List<u8>, NoMemory>
     requires { IsEvidenceFor (content case.now) proof.now }
-    ensures { IfOk result (λ text. text ≡ check_report (content case.now) (version_of proof.now) (map (λ s. s.hypothesis) (steps_of proof.now)) (map (λ x. x.hypothesis) (keeps_of proof.now))) }
+    ensures { IfOk result (λ text. text ≡ check_report (content case.now) (version_of proof.now) (map
+        (λ s. s.hypothesis) (steps_of proof.now)) (map (λ x. x.hypothesis) (keeps_of proof.now))) }
 {
     let mut text = List::new(alloc);
     text.append(b"yes\n")?;

@@ -65,7 +65,8 @@ fn put_if_rejected(
 
 /// Appends the names of the hypotheses that are rejected.
 fn put_rejected_names(text: &mut List<u8>, case: &Case, steps: &[StepLine]) -> Result<(), NoMemory>
-    ensures { OnOk result (text.new ≡ text.old ++ flat_map (name_if_rejected (content case.now) steps.now) (range_with_len 0 (length (content case.now).names))) }
+    ensures { OnOk result (text.new ≡ text.old ++ flat_map (name_if_rejected (content case.now) steps.now)
+        (range_with_len 0 (length (content case.now).names))) }
 {
     for j in 0..case.size() {
         put_if_rejected(text, case, steps, j)?;

@@ -19,7 +19,7 @@ fn is_edge(entry: &Entry) -> bool
     (0..5).any(|power| !entry.coefficient(power).is_zero())
 }
 
-/// How many of these entries are edges.
+/// Returns how many of these entries are edges.
 fn edges_in(entries: &[Entry]) -> usize
     ensures count { result ≡ count_by is_edge entries.now }
     ensures within { result ≤ length entries.now }
@@ -27,7 +27,7 @@ fn edges_in(entries: &[Entry]) -> usize
     entries.iter().filter(|entry| is_edge(entry)).count()
 }
 
-/// How many edges a case has.
+/// Returns how many edges a case has.
 #[tactic(auto, unfolding(crate::specs::SampleReport::edge_count))]
 fn edge_count(case: &Case) -> usize
     ensures { result ≡ edge_count (content case.now) }
@@ -50,8 +50,8 @@ fn put_head(text: &mut List<u8>, size: usize, seed: u64) -> Result<(), NoMemory>
     text.push(b'\n')
 }
 
-/// What the command `sample` prints: the size and the seed, how many edges and steps there are, and the names of the
-/// hypotheses that are rejected. `NoMemory` where memory runs out.
+/// Returns what the command `sample` prints: the size and the seed, how many edges and steps there are, and the names
+/// of the hypotheses that are rejected. `NoMemory` when out of memory.
 #[tactic(auto, unfolding(crate::specs::SampleReport::sample_report))]
 pub fn sample_text(
     alloc: Global,

@@ -48,7 +48,7 @@ fn put_tops(
     Ok(())
 }
 
-/// The set of one hypothesis.
+/// Returns the set of one hypothesis.
 fn alone(j: usize) -> u32
     requires { j < 16 }
     ensures { result ≡ 2 ^ j }
@@ -76,7 +76,8 @@ fn put_if_alone(
 /// Appends the names of the hypotheses that are rejected alone.
 fn put_alone_names(text: &mut List<u8>, case: &Case, closed: &SetTable) -> Result<(), NoMemory>
     requires size { table_size closed.now ≡ length (content case.now).names }
-    ensures { OnOk result (text.new ≡ text.old ++ flat_map (name_if_alone (content case.now) (answer_of closed.now)) (range_with_len 0 (length (content case.now).names))) }
+    ensures { OnOk result (text.new ≡ text.old ++ flat_map (name_if_alone (content case.now) (answer_of closed.now))
+        (range_with_len 0 (length (content case.now).names))) }
 {
     for j in 0..case.size() {
         put_if_alone(text, case, closed, j)?;
@@ -95,7 +96,7 @@ fn put_alone(text: &mut List<u8>, case: &Case, closed: &SetTable) -> Result<(), 
     text.push(b'\n')
 }
 
-/// What the command `simes` prints of sets.
+/// Returns what the command `simes` prints of sets.
 #[tactic(auto, unfolding(crate::specs::SimesReport::simes_report))]
 fn text_of_sets(
     alloc: Global,
@@ -110,7 +111,8 @@ fn text_of_sets(
     requires below { All (λ j. j < bounds_size bounds.now) leaders.now }
     requires apart { AllPairs (λ i j. i ≢ j) leaders.now }
     requires sets { All (λ n. n < 2 ^ bounds_size bounds.now) sets.now }
-    ensures { IfOk result (λ text. text ≡ simes_report (content case.now) (bound_of bounds.now) (answer_of closed.now) leaders.now sets.now) }
+    ensures { IfOk result (λ text. text ≡ simes_report (content case.now) (bound_of bounds.now)
+        (answer_of closed.now) leaders.now sets.now) }
 {
     let mut text = List::new(alloc);
     put_count(&mut text, b"simes ", case.size())?;
@@ -121,12 +123,12 @@ fn text_of_sets(
     Ok(text)
 }
 
-/// What the command `simes` prints: how many hypotheses there are; for each set that isn't empty, in the order of sets, its
-/// bound and the names of its members; for each number of leaders, from 1 on, the bound of the set of so many first ones; and
-/// the names of the hypotheses whose set alone is rejected.
+/// Returns what the command `simes` prints: how many hypotheses there are; for each set that isn't empty, in the order
+/// of sets, its bound and the names of its members; for each number of leaders, from 1 on, the bound of the set of so
+/// many first ones; and the names of the hypotheses whose set alone is rejected.
 ///
 /// The bounds and the answers must be for the hypotheses of the case, and each leader must be one of these, none twice.
-/// `NoMemory` where memory runs out.
+/// `NoMemory` when out of memory.
 pub fn simes_text(
     alloc: Global,
     case: &Case,

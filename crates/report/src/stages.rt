@@ -5,7 +5,16 @@ ghost use Rattle.field_core.specs.Texts.{IsBegun};
 ghost use Rattle.case_model.specs.CaseView.{content};
 ghost use Rattle.staged_levels.specs.StudyAnswers.{IsStaged};
 ghost use Rattle.staged_levels.specs.Looks.{arrivals_of};
-ghost use Rattle.report.specs.StagesReport.{AreRejectionsOf, arrive_line, reject_line, look_lines, looks_lines, name_if_settled, settled_line, stages_report};
+ghost use Rattle.report.specs.StagesReport.{
+  AreRejectionsOf,
+  arrive_line,
+  reject_line,
+  look_lines,
+  looks_lines,
+  name_if_settled,
+  settled_line,
+  stages_report,
+};
 
 use crate::lines::{put_alpha, put_name};
 use case_model::{Arrival, Case, Inputs};
@@ -13,7 +22,7 @@ use field_core::{List, NoMemory};
 use staged_levels::Settled;
 use std::alloc::Global;
 
-/// The arrivals of a case, each of which is of a hypothesis of it.
+/// Returns the arrivals of a case, each of which is of a hypothesis of it.
 fn arrivals_of(case: &Case) -> &[Arrival]
     requires { IsStaged (content case.now).inputs }
     ensures arrivals { result.now ≡ arrivals_of (content case.now).inputs }
@@ -142,7 +151,8 @@ fn put_settled_names(
     case: &Case,
     looks: &[List<Settled>],
 ) -> Result<(), NoMemory>
-    ensures { OnOk result (text.new ≡ text.old ++ flat_map (name_if_settled (content case.now) looks.now) (range_with_len 0 (length (content case.now).names))) }
+    ensures { OnOk result (text.new ≡ text.old ++ flat_map (name_if_settled (content case.now) looks.now)
+        (range_with_len 0 (length (content case.now).names))) }
 {
     for j in 0..case.size() {
         put_if_settled(text, case, looks, j)?;
@@ -160,11 +170,11 @@ fn put_settled(text: &mut List<u8>, case: &Case, looks: &[List<Settled>]) -> Res
     text.push(b'\n')
 }
 
-/// What the command `stages` prints: the level, the arrivals of the case, each with the rejections that it brings, and the names
-/// of the hypotheses that are rejected.
+/// Returns what the command `stages` prints: the level, the arrivals of the case, each with the rejections that it
+/// brings, and the names of the hypotheses that are rejected.
 ///
-/// The case must have stages, there must be a look for each arrival, and each rejection must be of a hypothesis of the case.
-/// `NoMemory` where memory runs out.
+/// The case must have stages, there must be a look for each arrival, and each rejection must be of a hypothesis of the
+/// case. `NoMemory` when out of memory.
 #[tactic(auto, unfolding(crate::specs::StagesReport::stages_report))]
 pub fn stages_text(
     alloc: Global,

@@ -3,7 +3,16 @@ ghost use Rattle.std.specs.Prelude.{◌≡◌, ◌<◌, ◌++◌, IfOk, OnOk, On
 ghost use Rattle.field_core.specs.Texts.{IsBegun};
 ghost use Rattle.case_model.specs.CaseView.{content};
 ghost use Rattle.report.specs.StagesReport.{AreRejectionsOf};
-ghost use Rattle.report.specs.StudyReport.{look_line, taken_lines, refusal_word, refused_line, name_if_among, names_among, shown_line, opened_lines};
+ghost use Rattle.report.specs.StudyReport.{
+  look_line,
+  taken_lines,
+  refusal_word,
+  refused_line,
+  name_if_among,
+  names_among,
+  shown_line,
+  opened_lines,
+};
 
 use crate::lines::{put_alpha, put_name};
 use crate::stages::{is_among, put_rejections};
@@ -30,8 +39,8 @@ fn put_look(text: &mut List<u8>, case: &Case, look: &Look) -> Result<(), NoMemor
     text.push(b'\n')
 }
 
-/// Appends a look that was taken, and the rejections that it brings. `NoMemory` where memory runs out; a beginning of the lines
-/// may then have been appended.
+/// Appends a look that was taken, and the rejections that it brings. `NoMemory` when out of memory; a beginning of the
+/// lines may then have been appended.
 #[tactic(auto, unfolding(crate::specs::StudyReport::taken_lines))]
 pub fn put_taken(
     text: &mut List<u8>,
@@ -48,7 +57,7 @@ pub fn put_taken(
     put_rejections(text, case, rejections)
 }
 
-/// Why an arrival is refused; nothing, where something else is.
+/// Returns why an arrival is refused; nothing, where something else is.
 fn refusal_word(fault: &StepFault) -> &'static [u8]
     ensures { result.now ≡ refusal_word fault.now }
 {
@@ -60,8 +69,8 @@ fn refusal_word(fault: &StepFault) -> &'static [u8]
     }
 }
 
-/// Appends that the command of a number, from 1, asked for a look that is refused. `NoMemory` where memory runs out; a beginning
-/// of the line may then have been appended.
+/// Appends that the command of a number, from 1, requested a look that is refused. `NoMemory` when out of memory; a
+/// beginning of the line may then have been appended.
 #[tactic(auto, unfolding(crate::specs::StudyReport::refused_line))]
 pub fn put_refused(text: &mut List<u8>, number: usize, fault: &StepFault) -> Result<(), NoMemory>
     ensures put { OnOk result (text.new ≡ text.old ++ refused_line number fault.now) }
@@ -102,8 +111,8 @@ fn put_names_among(text: &mut List<u8>, case: &Case, rejections: &[Settled]) -> 
     Ok(())
 }
 
-/// Appends how many looks have arrived, and the names of the hypotheses that are rejected. `NoMemory` where memory runs out; a
-/// beginning of the line may then have been appended.
+/// Appends how many looks have arrived, and the names of the hypotheses that are rejected. `NoMemory` when out of
+/// memory; a beginning of the line may then have been appended.
 #[tactic(auto, unfolding(crate::specs::StudyReport::shown_line))]
 pub fn put_shown(
     text: &mut List<u8>,
@@ -121,7 +130,8 @@ pub fn put_shown(
     text.push(b'\n')
 }
 
-/// The lines before the replies: the level, and the number of looks that were kept before. `NoMemory` where memory runs out.
+/// Returns the lines before the replies: the level, and the number of looks that were kept before. `NoMemory` when out
+/// of memory.
 #[tactic(auto, unfolding(crate::specs::StudyReport::opened_lines))]
 pub fn opened_text(alloc: Global, case: &Case, records: usize) -> Result<List<u8>, NoMemory>
     ensures { IfOk result (λ text. text ≡ opened_lines (content case.now) records) }

@@ -4,7 +4,18 @@ ghost use Rattle.std.specs.List.{flat_map};
 ghost use Rattle.case_model.specs.CaseView.{content};
 ghost use Rattle.case_model.specs.Sums.{ratio_at};
 ghost use Rattle.sequential.specs.TrialAnswers.{IsSingle};
-ghost use Rattle.report.specs.TestReport.{AreOfCase, p_values, figures, step_line, step_lines, kept_line, reached_words, adjusted_line, adjusted_lines, test_report};
+ghost use Rattle.report.specs.TestReport.{
+  AreOfCase,
+  p_values,
+  figures,
+  step_line,
+  step_lines,
+  kept_line,
+  reached_words,
+  adjusted_line,
+  adjusted_lines,
+  test_report,
+};
 
 use crate::lines::{put_alpha, put_name, put_rejected};
 use adjusted_p::Adjusted;
@@ -14,7 +25,7 @@ use fraction::Fraction;
 use sequential::{Decision, StepLine};
 use std::alloc::Global;
 
-/// The p-value of the hypothesis at a position.
+/// Returns the p-value of the hypothesis at a position.
 fn p_value(case: &Case, j: usize) -> Fraction
     requires single { IsSingle (content case.now).inputs }
     requires below { j < length (content case.now).names }
@@ -134,11 +145,11 @@ fn put_adjusted(text: &mut List<u8>, case: &Case, values: &[Adjusted]) -> Result
     Ok(())
 }
 
-/// What the command `test` prints: the level, the steps of the decision, the hypotheses that it keeps, the names of those
-/// that it rejects, and the adjusted values.
+/// Returns what the command `test` prints: the level, the steps of the decision, the hypotheses that it keeps, the
+/// names of those that it rejects, and the adjusted values.
 ///
-/// Each hypothesis of the decision must be one of the case, which must have a p-value for each hypothesis, and there must
-/// be an adjusted value for each. `NoMemory` where memory runs out.
+/// Each hypothesis of the decision must be one of the case, which must have a p-value for each hypothesis, and there
+/// must be an adjusted value for each. `NoMemory` when out of memory.
 #[tactic(auto, unfolding(crate::specs::TestReport::test_report))]
 pub fn test_text(
     alloc: Global,

@@ -58,7 +58,8 @@ fn put_members(
 ) -> Result<(), NoMemory>
     requires size { weights_size table.now ≡ length (content case.now).names }
     requires set { set < 2 ^ weights_size table.now }
-    ensures { OnOk result (text.new ≡ text.old ++ flat_map (weight_if_member (content case.now) (weight_at table.now) set) (range_with_len 0 (length (content case.now).names))) }
+    ensures { OnOk result (text.new ≡ text.old ++ flat_map (weight_if_member (content case.now)
+        (weight_at table.now) set) (range_with_len 0 (length (content case.now).names))) }
 {
     for k in 0..case.size() {
         put_if_member(text, case, table, set, k)?;
@@ -107,7 +108,7 @@ fn put_sets(
     Ok(())
 }
 
-/// What the command `weights` prints of sets.
+/// Returns what the command `weights` prints of sets.
 #[tactic(auto, unfolding(crate::specs::WeightsReport::weights_report))]
 fn text_of_sets(
     alloc: Global,
@@ -126,8 +127,9 @@ fn text_of_sets(
     Ok(text)
 }
 
-/// What the command `weights` prints: how many hypotheses there are, and for each set that isn't empty, in the order of sets,
-/// the weights of its members. The table must be for the hypotheses of the case. `NoMemory` where memory runs out.
+/// Returns what the command `weights` prints: how many hypotheses there are, and for each set that isn't empty, in the
+/// order of sets, the weights of its members. The table must be for the hypotheses of the case. `NoMemory` when out of
+/// memory.
 pub fn weights_text(alloc: Global, case: &Case, table: &WeightTable) -> Result<List<u8>, NoMemory>
     requires { weights_size table.now ≡ length (content case.now).names }
     ensures { IfOk result (λ text. IsWeightsReport (content case.now) (weight_at table.now) text) }

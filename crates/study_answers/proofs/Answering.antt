@@ -98,11 +98,11 @@ opening_refuses c commands (Some looks) r h = inl h
 length_arrivals : (ls : List Look) → length (arrivals_of ls) ≡ length ls
 length_arrivals ls = length-map ls arrival_of
 
--- as many values have arrived as looks were taken
+-- a value has arrived for each look that was taken
 pub records_counted : (c : Content) (looks : List Look) (s : StudyState) → AreTaken c looks s → length s.values ≡ length looks
 records_counted c looks s T = ap length (follows_values c looks start s T.follows) ∙ length_arrivals looks
 
--- looks that may be kept where a command breaks off or the answer isn't made
+-- looks that may be kept where a command stops part way or the answer isn't made
 pub taken_may : (c : Content) (xs : List StudyCommand) (n : ℕ) (s : StudyState) (looks : List Look) (place : ℕ) (w : WideAt)
     → IsFirstBreak c n s xs looks place w → MayTake c n s xs looks
 taken_may c [] n s looks place w h = absurd h
@@ -154,7 +154,7 @@ module _ (c : Content) (commands : List StudyCommand) (looks : List Look) (s : S
   pub some_kept : HoldSome (MayTake c 1 s commands) kept held → HoldSome (MayKeep c commands kept) kept held
   some_kept h = record { more = h.more; may = inr (record { looks = looks; told = told; start = s; opened = T; may = h.may }); held_is = h.held_is }
 
--- no look is kept besides
+-- no look is kept also
 pub none_kept : (c : Content) (commands : List StudyCommand) (kept held : Option (List Look)) → held ≡ kept → HoldSome (MayKeep c commands kept) kept held
 none_kept c commands kept held e = record { more = []; may = inl refl; held_is = e ∙ sym (with_none kept) }
 
@@ -167,7 +167,7 @@ opening_stops c commands kept held rose clean ReadFault e h = absurd h
 opening_stops c commands kept held rose clean KeeperFault e h = (h, none_kept c commands kept held e, tt)
 opening_stops c commands kept held rose clean OutOfMemory e h = (none_kept c commands kept held e, tt, h)
 
--- ---- behind the opening, which leaves the looks of the keeper
+-- ---- after the opening, which leaves the looks of the keeper
 
 module _ (c : Content) (commands : List StudyCommand) (kept now held : Option (List Look)) (same : now ≡ kept) (s : StudyState)
     (taken : OnLooks kept (λ looks. AreTaken c looks s)) where

@@ -1,4 +1,4 @@
--- Commands that are replied to, one behind the other.
+-- Commands that are replied to, one after the other.
 use Rattle.std.proofs.Common.{◌≡◌, ◌+◌, ◌<◌, ◌≤◌, ◌⊎◌, inl, inr, refl, sym, ap, ◌∙◌, subst, ℕ, zero, suc, arith, List, []}
 use Rattle.std.proofs.Common.{◌∷◌, ◌++◌, length, drop, get_or}
 use Rattle.std.specs.declared.option.Option.{Option}
@@ -101,7 +101,7 @@ module _ (c : Content) (n : ℕ) (old : StudyState) (kept : Option (List Look)) 
       → place ≡ length old.values + 1 → held ≡ kept → StopsCommands c rose n old (Take l ∷ []) kept held (Wide place w)
   stops_wide l held rose place w b p h = record { more = []; may = inl (refl, (p, b)); held_is = h ∙ sym (with_none kept) }
 
--- ---- commands that break off
+-- ---- commands that stop part way
 
 pub broken_weaker : (stop : CommandStop) (P Q : Type 0) → (P → Q) → IfBroken P stop → IfBroken Q stop
 broken_weaker (Wide place w) P Q f h = f h
@@ -119,7 +119,7 @@ pub first_broken : (c : Content) (old : StudyState) (commands : List StudyComman
     → StopsCommands c rose 1 old commands kept held stop → HoldSome (λ looks. IsFirstBreak c 1 old commands looks place w) kept held
 first_broken c old commands kept held rose stop place w e h = subst (StopsCommands c rose 1 old commands kept held) e h
 
--- ---- commands one behind the other
+-- ---- commands one after the other
 
 -- Of these commands some have been replied to, and the others are left, the first of which has this number.
 pub record AreBehind (c : Content) (old : StudyState) (commands : List StudyCommand) (n : ℕ) (mid : StudyState) (left : List StudyCommand)
@@ -159,7 +159,7 @@ one_behind c old commands n mid new left rest replies x r e is b = record {
     one_more looks = ap (λ ls. ls ++ looks) (taken_append replies (r ∷ []) ∙ ap (λ ls. looks_taken replies ++ ls) (append-nil (taken_in r)))
         ∙ append_assoc (looks_taken replies) (taken_in r) looks
 
--- So far commands have been replied to: the replies are written, and the looks that were taken are kept besides.
+-- So far commands have been replied to: the replies are written, and the looks that were taken are kept also.
 pub record AreSoFar (c : Content) (old : StudyState) (commands : List StudyCommand) (n : ℕ) (mid : StudyState) (left : List StudyCommand)
     (kept held : Option (List Look)) (text written : List ℕ) : Type 0 where
   pub replies : List Reply

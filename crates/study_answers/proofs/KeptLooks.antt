@@ -97,7 +97,7 @@ kept_looks_decide c commands looks e V h d = elim (h.2) [
       ∙ d in cc)
 ]
 
--- ---- the looks that are kept where commands break off
+-- ---- the looks that are kept where commands stop part way
 
 module _ (c : Content) where
   first_of_replies : (xs : List StudyCommand) (n : ℕ) (s : StudyState) (some : List Look) (rs : List Reply) (t : StudyState) → MayTake c n s xs some

@@ -13,12 +13,12 @@ use Rattle.study_answers.specs.declared.replying.CommandStop.TheVariants.{Wide, 
 use Rattle.study_answers.specs.Replies.{taken_in, looks_taken, IsReply, AreReplies, IsFirstBreak, MayTake}
 use Rattle.study_answers.specs.StudyStages.{StudyEnd}
 
--- the looks of a keeper with more behind them, where it tells its looks
+-- the looks of a keeper with more after them, if it exposes its looks
 abbrev pub with_looks : Option (List Look) → List Look → Option (List Look)
 with_looks None more = None
 with_looks (Some looks) more = Some (looks ++ more)
 
--- A command was replied to: the keeper holds the look that was taken besides, and the reply was written.
+-- A command was replied to: the keeper holds the look that was taken also, and the reply was written.
 pub record IsRepliedTo (c : Content) (n : ℕ) (old : StudyState) (command : StudyCommand)
     (kept held : Option (List Look)) (text written : List ℕ) (new : StudyState) : Type 0 where
   pub reply : Reply
@@ -26,7 +26,7 @@ pub record IsRepliedTo (c : Content) (n : ℕ) (old : StudyState) (command : Stu
   pub held_is : held ≡ with_looks kept (taken_in reply)
   pub text_is : written ≡ text ++ reply_lines c reply
 
--- Commands were replied to in this way, one behind the other.
+-- Commands were replied to in this way, one after the other.
 pub record AreRepliedTo (c : Content) (old : StudyState) (commands : List StudyCommand)
     (kept held : Option (List Look)) (text written : List ℕ) (new : StudyState) : Type 0 where
   pub replies : List Reply
@@ -34,7 +34,7 @@ pub record AreRepliedTo (c : Content) (old : StudyState) (commands : List StudyC
   pub held_is : held ≡ with_looks kept (looks_taken replies)
   pub text_is : written ≡ text ++ flat_map (reply_lines c) replies
 
--- looks are kept besides that may have been taken where the call broke off
+-- looks are kept also that may have been taken where the call stopped part way
 pub record HoldSome (May : List Look → Type 0) (kept held : Option (List Look)) : Type 0 where
   pub more : List Look
   pub may : May more
@@ -47,13 +47,13 @@ StopsCommands c rose n old commands kept held (Wide place w) = HoldSome (λ look
 StopsCommands c rose n old commands kept held Fault = rose × HoldSome (MayTake c n old commands) kept held
 StopsCommands c rose n old commands kept held NoMemory = HoldSome (MayTake c n old commands) kept held
 
--- a fact where the keeper had no fault: a command breaks off, or memory ran out
+-- a fact where the keeper had no fault: a command stops part way, or memory was exhausted
 abbrev pub IfBroken : Type 0 → CommandStop → Type 0
 IfBroken p (Wide place w) = p
 IfBroken p Fault = Unit {0}
 IfBroken p NoMemory = p
 
--- an answer that is called for, and its looks are kept besides
+-- an answer that is required, and its looks are kept also
 pub record KeepWith (Gives : StudyEnd → Type 0) (kept held : Option (List Look)) (answer : Answer) : Type 0 where
   pub more : List Look
   pub given : Gives (record { answer = answer; looks = more })
@@ -67,6 +67,6 @@ pub record MayTakeBehind (c : Content) (commands : List StudyCommand) (kept : Op
   pub opened : AreTaken c looks start
   pub may : MayTake c 1 start commands more
 
--- the looks that may be kept besides where a call breaks off: none, or those that the commands before some place take
+-- the looks that may be kept also where a call stops part way: none, or those that the commands before some place take
 abbrev pub MayKeep : Content → List StudyCommand → Option (List Look) → List Look → Type 0
 MayKeep c commands kept more = (more ≡ []) ⊎ MayTakeBehind c commands kept more

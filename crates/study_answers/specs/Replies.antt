@@ -11,7 +11,7 @@ use Rattle.study_commands.specs.declared.command.StudyCommand.TheVariants.{Take,
 use Rattle.study_register.specs.Looking.{arrival_of}
 use Rattle.report.specs.StudyReport.{Reply, taken, refused, shown}
 
--- the look that a reply tells of as taken
+-- the look that a reply reports as taken
 abbrev pub taken_in : Reply → List Look
 taken_in (taken l rejections) = l ∷ []
 taken_in (refused number fault) = []
@@ -39,12 +39,13 @@ module _ (c : Content) where
   AreReplies n old (x ∷ xs) [] new = ⊥
   AreReplies n old (x ∷ xs) (r ∷ rs) new = (mid : StudyState) × IsReply n old x r mid × AreReplies (n + 1) mid xs rs new
 
-  -- the command asks for a look that breaks off; it would be the look of this place, counted from 1
+  -- the command asks for a look that stops part way; it would be the look of this place, counted from 1
   abbrev pub IsBreak : StudyState → StudyCommand → ℕ → WideAt → Type 0
   IsBreak s (Take l) place w = (place ≡ length s.values + 1) × IsWideLook c s (arrival_of l) w
   IsBreak s Show place w = ⊥
 
-  -- of commands, the first of which has this number, all before one are replied to, by which these looks are taken, and that one breaks off
+  -- of commands, the first of which has this number, all before one are replied to, by which these looks are taken, and that one stops part
+  -- way
   abbrev pub IsFirstBreak : ℕ → StudyState → List StudyCommand → List Look → ℕ → WideAt → Type 0
   IsFirstBreak n old [] looks place w = ⊥
   IsFirstBreak n old (x ∷ xs) looks place w =

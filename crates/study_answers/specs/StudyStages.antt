@@ -1,4 +1,4 @@
--- What a study answers to commands, behind the looks that are kept.
+-- What a study answers to commands, after the looks that are kept.
 use Rattle.std.specs.Prelude.{◌≡◌, ◌⊎◌, ℕ, List, [], ◌∷◌, length, Option, Some, None, Err}
 use Rattle.field_core.specs.declared.place.WideAt.{WideAt}
 use Rattle.graph_io.specs.declared.keeper.Look.{Look}
@@ -21,7 +21,7 @@ use Rattle.study_register.specs.Looking.{AreTaken}
 use Rattle.study_register.specs.RegisterFaults.{IsStopped}
 use Rattle.study_answers.specs.Replies.{looks_taken, AreReplies, IsFirstBreak}
 
--- How the commands of a study end: what is answered, and the looks that are kept besides.
+-- How the commands of a study end: what is answered, and the looks that are kept also.
 pub record StudyEnd : Type 0 where
   pub answer : Answer
   pub looks : List Look
@@ -33,7 +33,7 @@ IsOpeningFault c looks (Wide n w) = ((n ≡ 0) × (case_opening c ≡ Err w)) �
 IsOpeningFault c looks Fault = ⊥
 IsOpeningFault c looks NoMemory = ⊥
 
--- how that is told
+-- how that is reported
 abbrev pub IsToldAs : List (List ℕ) → RegisterFault → Refusal → Type 0
 IsToldAs names (BadLook n l) r = r ≡ record_refusal n
 IsToldAs names (Wide n w) r = r ≡ wide_refusal names (AfterLook n) w
@@ -55,7 +55,7 @@ pub record AreAllAnswered (c : Content) (records : ℕ) (commands : List StudyCo
   pub answer_is : e.answer ≡ done (study_report c records replies)
   pub looks_are : e.looks ≡ looks_taken replies
 
--- a command breaks off; the looks that were taken before stay kept
+-- a command stops part way; the looks that were taken before stay kept
 pub record IsBrokenOff (c : Content) (commands : List StudyCommand) (s : StudyState) (e : StudyEnd) : Type 0 where
   pub place : ℕ
   pub wide : WideAt
@@ -77,7 +77,7 @@ HasOpening c = IsDefined c start
 unfoldable pub study_stage : Content → List StudyCommand → List Look → Stage Refusal StudyEnd
 study_stage c commands looks = and_then (opened c looks) (answering c (length looks) commands)
 
--- a stage on the looks that a keeper holds; on some looks, where it doesn't tell which
+-- a stage on the looks that a keeper holds; on some looks, if it doesn't expose which
 abbrev pub on_looks : {R A : Type 0} → Option (List Look) → (List Look → Stage R A) → Stage R A
 on_looks (Some looks) s = s looks
 on_looks None s = record { Gives = λ x. (looks : List Look) × (s looks).Gives x; Refuses = λ r. (looks : List Look) × (s looks).Refuses r }

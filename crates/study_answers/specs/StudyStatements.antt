@@ -40,23 +40,24 @@ pub record ShowsLooks (c : Content) (looks : List Look) (number : ℕ) (rejectio
   pub counted : number ≡ length looks
   pub named : (j : ℕ) → IsListed (positions_of rejections) j ↔ IsStagedRejectedIn c (arrivals_of looks) j
 
--- The answer is the report of these replies behind the looks that were kept, its looks are those that they tell as taken, and each showing
--- is of the looks that are kept by then.
+-- The answer is the report of these replies after the looks that were kept, its looks are those that they report as taken, and each
+-- showing is of the looks that are kept by then.
 pub record IsReportOf (c : Content) (looks : List Look) (e : StudyEnd) (replies : List Reply) : Type 0 where
   pub answer_is : e.answer ≡ done (study_report c (length looks) replies)
   pub looks_are : e.looks ≡ looks_taken replies
   pub shows : (before after : List Reply) (number : ℕ) (rejections : List Settled) → replies ≡ before ++ shown number rejections ∷ after
       → ShowsLooks c (looks ++ looks_taken before) number rejections
 
--- Where all commands are answered, the keeper's looks at the end decide, and what is told is the report of replies, each of which shows
--- what the looks decide that are kept by then.
+-- Where all commands are answered, the keeper's looks at the end decide, and what is reported is the report of replies, each of which
+-- shows what the looks decide that are kept by then.
 abbrev pub KeptLooksDecide : Type 0
 KeptLooksDecide =
     (c : Content) (commands : List StudyCommand) (looks : List Look) (e : StudyEnd) → IsValidContent c
     → (study_stage c commands looks).Gives e → e.answer.status ≡ Done
     → (s : StudyState) × DecidesOn c (looks ++ e.looks) s × (replies : List Reply) × IsReportOf c looks e replies
 
--- The looks that the commands before some place take are the first of those that all commands take, or that all take before one that breaks off.
+-- The looks that the commands before some place take are the first of those that all commands take, or that all take before one that stops part
+-- way.
 abbrev pub TakenLooksAreFirst : Type 0
 TakenLooksAreFirst =
     (c : Content) (commands : List StudyCommand) (s : StudyState) (some all : List Look) → MayTake c 1 s commands some

@@ -24,7 +24,7 @@ use std::alloc::Global;
 use study_commands::StudyCommand;
 use study_register::{Register, RegisterFault};
 
-/// The answer that a refusal is.
+/// Returns the answer that a refusal is.
 fn refused(refusal: Refusal) -> Answer
     ensures { result ≡ refused refusal }
 {
@@ -56,7 +56,7 @@ fn opened<K: Keeper>(alloc: Global, case: &Case, keeper: &mut K) -> Result<Regis
     }
 }
 
-/// The answer where a command breaks off.
+/// Returns the answer where a command stops part way.
 fn broken_off(alloc: Global, case: &Case, place: usize, wide: &WideAt) -> Result<Answer, NoMemory>
     ensures { IfOk result (λ answer. answer ≡ refused (wide_refusal (content case.now).names (AfterLook place) wide.now)) }
 {
@@ -64,7 +64,7 @@ fn broken_off(alloc: Global, case: &Case, place: usize, wide: &WideAt) -> Result
     Ok(refused(refusal))
 }
 
-/// The answer that a text of replies is, with its last line.
+/// Returns the answer that a text of replies is, with its last line.
 fn ended(text: List<u8>) -> Result<Answer, NoMemory>
     ensures { IfOk result (λ answer. answer ≡ done (text ++ line (codes "end"))) }
 {

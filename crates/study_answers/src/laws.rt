@@ -2,20 +2,21 @@
 
 ghost use Rattle.study_answers.specs.StudyStatements.{StudiesHaveOneEnd, RepliesDecide, KeptLooksDecide, TakenLooksAreFirst};
 
-/// Kept looks and commands have one end: one answer with the looks that are kept besides, or one refusal, and not both.
+/// Kept looks and commands have one end: one answer with the looks that are kept also, or one refusal, and not both.
 pub fn studies_have_one_end()
     ensures { StudiesHaveOneEnd }
 {}
 
-/// By any commands that are answered to their end, the rejections are exactly those of the staged closed test on all looks that are
-/// kept then, in whatever order they came. Whoever opens these looks again has the same rejections in the same order. The text is
-/// the report of the replies, and each showing in it tells how many looks are kept by then, and what is rejected on them.
+/// By any commands that are answered to their end, the rejections are exactly those of the staged closed test on all
+/// looks that are kept then, in whatever order they came. Whoever opens these looks again has the same rejections in
+/// the same order. The text is the report of the replies, and each showing in it says how many looks are kept by then,
+/// and what is rejected on them.
 pub fn kept_looks_decide()
     ensures replies { RepliesDecide }
     ensures end { KeptLooksDecide }
 {}
 
-/// Where commands break off, the looks that are kept besides are the first of those that all of them take.
+/// Where commands stop part way, the looks that are kept also are the first of those that all of them take.
 pub fn taken_looks_are_first()
     ensures { TakenLooksAreFirst }
 {}

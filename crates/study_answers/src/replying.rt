@@ -25,7 +25,7 @@ pub(crate) enum CommandStop {
     Wide(usize, WideAt),
     /// The keeper failed, and counted it.
     Fault,
-    /// Memory ran out.
+    /// Out of memory.
     NoMemory,
 }
 
@@ -43,8 +43,11 @@ fn take<K: Keeper>(
     requires study { IsStudy (content case.now) (study_in register.old) }
     requires fresh { is_spent register.old ≡ false }
     ensures study { IsStudy (content case.now) (study_in register.new) }
-    ensures replied { OnOk result (IsRepliedTo (content case.now) number (looks_in register.old) (AskTake look.now) (K.looks keeper.old) (K.looks keeper.new) text.old text.new (looks_in register.new)) }
-    ensures stopped { IfErr result (StopsCommands (content case.now) (Rose (K.faults keeper.old) (K.faults keeper.new)) number (looks_in register.old) (AskTake look.now ∷ []) (K.looks keeper.old) (K.looks keeper.new)) }
+    ensures replied { OnOk result (IsRepliedTo (content case.now) number (looks_in register.old) (AskTake look.now)
+        (K.looks keeper.old) (K.looks keeper.new) text.old text.new (looks_in register.new)) }
+    ensures stopped { IfErr result (StopsCommands (content case.now) (Rose (K.faults keeper.old)
+        (K.faults keeper.new)) number (looks_in register.old) (AskTake look.now ∷ []) (K.looks keeper.old)
+        (K.looks keeper.new)) }
     ensures fresh { OnOk result (is_spent register.new ≡ false) }
     ensures later { K.faults keeper.old ≤ K.faults keeper.new }
     ensures counted { OnOk result (K.faults keeper.new ≡ K.faults keeper.old) }
@@ -81,8 +84,11 @@ fn reply<K: Keeper>(
     requires study { IsStudy (content case.now) (study_in register.old) }
     requires fresh { is_spent register.old ≡ false }
     ensures study { IsStudy (content case.now) (study_in register.new) }
-    ensures replied { OnOk result (IsRepliedTo (content case.now) number (looks_in register.old) command.now (K.looks keeper.old) (K.looks keeper.new) text.old text.new (looks_in register.new)) }
-    ensures stopped { IfErr result (StopsCommands (content case.now) (Rose (K.faults keeper.old) (K.faults keeper.new)) number (looks_in register.old) (command.now ∷ []) (K.looks keeper.old) (K.looks keeper.new)) }
+    ensures replied { OnOk result (IsRepliedTo (content case.now) number (looks_in register.old) command.now
+        (K.looks keeper.old) (K.looks keeper.new) text.old text.new (looks_in register.new)) }
+    ensures stopped { IfErr result (StopsCommands (content case.now) (Rose (K.faults keeper.old)
+        (K.faults keeper.new)) number (looks_in register.old) (command.now ∷ []) (K.looks keeper.old)
+        (K.looks keeper.new)) }
     ensures fresh { OnOk result (is_spent register.new ≡ false) }
     ensures later { K.faults keeper.old ≤ K.faults keeper.new }
     ensures counted { OnOk result (K.faults keeper.new ≡ K.faults keeper.old) }
@@ -99,7 +105,7 @@ fn reply<K: Keeper>(
     }
 }
 
-/// Replies to commands one by one, with each reply put behind the text.
+/// Replies to commands one by one, with each reply put after the text.
 pub(crate) fn replies<K: Keeper>(
     alloc: Global,
     case: &Case,
@@ -111,8 +117,10 @@ pub(crate) fn replies<K: Keeper>(
     requires below { AllByRecursion (IsBelow (length (content case.now).names)) commands.now }
     requires study { IsStudy (content case.now) (study_in register.old) }
     requires fresh { is_spent register.old ≡ false }
-    ensures replied { OnOk result (AreRepliedTo (content case.now) (looks_in register.old) commands.now (K.looks keeper.old) (K.looks keeper.new) text.old text.new (looks_in register.new)) }
-    ensures stopped { IfErr result (StopsCommands (content case.now) (Rose (K.faults keeper.old) (K.faults keeper.new)) 1 (looks_in register.old) commands.now (K.looks keeper.old) (K.looks keeper.new)) }
+    ensures replied { OnOk result (AreRepliedTo (content case.now) (looks_in register.old) commands.now
+        (K.looks keeper.old) (K.looks keeper.new) text.old text.new (looks_in register.new)) }
+    ensures stopped { IfErr result (StopsCommands (content case.now) (Rose (K.faults keeper.old)
+        (K.faults keeper.new)) 1 (looks_in register.old) commands.now (K.looks keeper.old) (K.looks keeper.new)) }
     ensures later { K.faults keeper.old ≤ K.faults keeper.new }
     ensures counted { OnOk result (K.faults keeper.new ≡ K.faults keeper.old) }
     ensures broken { IfErr result (IfBroken (K.faults keeper.new ≡ K.faults keeper.old)) }

@@ -20,7 +20,7 @@ use Rattle.study_cli.specs.StudyOutcome.{study_needs, case_of, study_call, study
 
 module _ (words : List (List ℕ)) (case commands : Option (List ℕ)) (kept held : Option (List Look)) (asked : StudyAsked) (asks : AskStudy words asked)
     (P Q R read_clean keeper_clean : Type 0) where
-  -- the ways of the study that is asked for
+  -- the ways of the study that is requested
   abbrev Called : Ways Answer
   Called = over_keeper (study_call asked case commands kept) (MayBeKept asked case commands kept)
       (P ⊎ (IsStudied asked case × Q)) (IsOpened asked case commands × R) read_clean keeper_clean kept held

@@ -46,7 +46,7 @@ module _ (words : List (List ℕ)) (place : ℕ) (path : List ℕ) (s : StoresAt
   one_word : (x y : List ℕ) → slice_get words place ≡ Some x → slice_get words place ≡ Some y → x ≡ y
   one_word x y h k = let e : Some x ≡ Some y = sym h ∙ k in cc
 
-  -- the value stands in the same word
+  -- the value is in the same word
   pub joined_value : (rest : List ℕ) → slice_get words place ≡ Some (codes "--store=" ++ rest) → rest ≡ path
   joined_value rest h = elim stands [
     | inl k ↦ ap (drop 8) (one_word (codes "--store=" ++ rest) (joined_word (codes "store") path) h k)
@@ -84,7 +84,7 @@ pub item_is : {X : Type 0} (f : X → List ℕ) (words : List X) (place : ℕ) (
     → slice_get (map f words) place ≡ Some (f x)
 item_is f words place x h e = slice_get-map f words place ∙ ap (option_map f) (slice_get_read words (length words) place x refl h e)
 
--- what stands behind a text at the front
+-- what stands after a text at the front
 pub stripped : (p s : List ℕ) (r : Option (Bor (List ℕ))) → MatchOption r (FindsTextPrefix p s None) (λ x. StripsPrefix (FindsTextPrefix p) s x.now)
     → MatchOption r ((rest : List ℕ) → s ≢ p ++ rest) (λ x. s ≡ p ++ x.now)
 stripped p s None h = h

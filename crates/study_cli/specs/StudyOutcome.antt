@@ -51,17 +51,17 @@ study_outcome words case commands kept = and_then (told_as usage (study_in words
 abbrev pub IsStudied : StudyAsked → Option (List ℕ) → Type 0
 IsStudied asked case = (c : Content) × (case_of asked case).Gives c
 
--- besides, commands are said
+-- also, commands are said
 abbrev pub IsCommanded : StudyAsked → Option (List ℕ) → Option (List ℕ) → Type 0
 IsCommanded asked case commands = (c : Content) × (case_of asked case).Gives c × (list : List StudyCommand) × (commands_of c commands).Gives list
 
--- besides, the looks that may be kept where the call breaks off
+-- also, the looks that may be kept where the call stops part way
 abbrev pub MayBeKept : StudyAsked → Option (List ℕ) → Option (List ℕ) → Option (List Look) → List Look → Type 0
 MayBeKept asked case commands kept more =
     (more ≡ []) ⊎ ((c : Content) × (case_of asked case).Gives c × (list : List StudyCommand)
     × (commands_of c commands).Gives list × MayKeep c list kept more)
 
--- besides, the opening of the case is defined
+-- also, the opening of the case is defined
 abbrev pub IsOpened : StudyAsked → Option (List ℕ) → Option (List ℕ) → Type 0
 IsOpened asked case commands = (c : Content) × (case_of asked case).Gives c
     × (list : List StudyCommand) × (commands_of c commands).Gives list × HasOpening c
@@ -70,11 +70,11 @@ IsOpened asked case commands = (c : Content) × (case_of asked case).Gives c
 abbrev pub ReadsCase : List (List ℕ) → Type 0
 ReadsCase words = (asked : StudyAsked) × AskStudy words asked
 
--- besides, nothing before the commands refuses
+-- also, nothing before the commands refuses
 abbrev pub ReadsCommands : List (List ℕ) → Option (List ℕ) → Type 0
 ReadsCommands words case = (asked : StudyAsked) × AskStudy words asked × IsStudied asked case
 
--- besides, nothing before the kept looks refuses
+-- also, nothing before the kept looks refuses
 abbrev pub AsksKeeper : List (List ℕ) → Option (List ℕ) → Option (List ℕ) → Type 0
 AsksKeeper words case commands = (asked : StudyAsked) × AskStudy words asked × IsCommanded asked case commands
 
@@ -82,11 +82,11 @@ AsksKeeper words case commands = (asked : StudyAsked) × AskStudy words asked ×
 abbrev pub ReadRose : List (List ℕ) → Option (List ℕ) → Type 0 → Type 0 → Type 0
 ReadRose words case case_rose commands_rose = (ReadsCase words × case_rose) ⊎ (ReadsCommands words case × commands_rose)
 
--- the keeper is asked, behind a defined opening, and had a fault
+-- the keeper is asked, after a defined opening, and had a fault
 abbrev pub KeeperRose : List (List ℕ) → Option (List ℕ) → Option (List ℕ) → Type 0 → Type 0
 KeeperRose words case commands rose = (asked : StudyAsked) × AskStudy words asked × IsOpened asked case commands × rose
 
--- the looks that may be kept besides where a call with these words breaks off
+-- the looks that may be kept also where a call with these words stops part way
 abbrev pub MayEnd : List (List ℕ) → Option (List ℕ) → Option (List ℕ) → Option (List Look) → List Look → Type 0
 MayEnd words case commands kept more = (more ≡ []) ⊎ ((asked : StudyAsked) × AskStudy words asked × MayBeKept asked case commands kept more)
 

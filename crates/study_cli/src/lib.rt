@@ -6,9 +6,9 @@
 //!   come only where a source that is read, the sink or the keeper had a fault in this call. 8 comes with `no memory`. With 6 no
 //!   look is added; with 8 and 9 only looks that commands before some place take. Where no fault came, the status is up to 5, or 8;
 //!   and with these statuses no fault came. With 6 the keeper and the sink had none, with 9 the sources and the sink had none.
-//! - `case`, `commands`, `untouched`: a source that isn't read stays as it was, and one that is was read to its end after status 0.
-//!   The commands are read only behind a case that a study can take, and the keeper is asked only behind commands that are all
-//!   said.
+//! - `case`, `commands`, `untouched`: a source that isn't read stays as it was, and one that is was read to its end
+//!   after status 0. The commands are read only after a case that a study can take, and the keeper is asked only after
+//!   commands that are all said.
 //! - `store_path`: `path`, `none`.
 //! - Law in `src/laws.rt`: `studies_have_one_outcome`.
 #![tactic(auto)]

@@ -4,9 +4,10 @@ ghost use Rattle.study_cli.specs.StudyOutcome.{StoresAt, NamesStore};
 
 use command_words::read_study;
 
-/// The value of the option `store`, which begins at a place, from 0.
+/// Returns the value of the option `store`, which begins at a place, from 0.
 fn value_at(words: &[String], place: usize) -> Option<&str>
-    ensures value { IfSome result (λ path. (other : List ℕ) → StoresAt (map string_bytes words.now) place other → path.now ≡ other) }
+    ensures value { IfSome result (λ path. (other : List ℕ) → StoresAt (map string_bytes words.now) place other
+        → path.now ≡ other) }
     ensures none { result ≡ None → (other : List ℕ) → ¬ StoresAt (map string_bytes words.now) place other }
 {
     let word = words.get(place)?;
@@ -19,7 +20,7 @@ fn value_at(words: &[String], place: usize) -> Option<&str>
     }
 }
 
-/// The path that the option `store` names, where the words ask a study for something.
+/// Returns the path that the option `store` names, where the words ask a study for something.
 pub fn store_path(words: &[String]) -> Option<&str>
     ensures path { IfSome result (λ path. NamesStore (map string_bytes words.now) path.now) }
     ensures none { result ≡ None → (path : List ℕ) → ¬ NamesStore (map string_bytes words.now) path }

@@ -9,7 +9,22 @@ ghost use Rattle.case_model.specs.CaseView.{content};
 ghost use Rattle.command_words.specs.Asked.{study_asked};
 ghost use Rattle.study_commands.specs.CommandLines.{IsBelow};
 ghost use Rattle.study_answers.specs.KeeperWays.{over_keeper};
-ghost use Rattle.study_cli.specs.StudyOutcome.{study_needs, commands_in, study_call, study_outcome, IsStudied, IsCommanded, IsOpened, MayBeKept, ReadsCase, ReadsCommands, AsksKeeper, ReadRose, KeeperRose, MayEnd};
+ghost use Rattle.study_cli.specs.StudyOutcome.{
+  study_needs,
+  commands_in,
+  study_call,
+  study_outcome,
+  IsStudied,
+  IsCommanded,
+  IsOpened,
+  MayBeKept,
+  ReadsCase,
+  ReadsCommands,
+  AsksKeeper,
+  ReadRose,
+  KeeperRose,
+  MayEnd,
+};
 
 use answers::{Answer, Stop, conclude, take_whole};
 use case_model::Case;
@@ -22,7 +37,7 @@ use std::alloc::Global;
 use study_answers::study_answer;
 use study_commands::{CommandsFault, StudyCommand, read_commands};
 
-/// What a study needs of its case.
+/// Returns what a study needs of its case.
 #[tactic(auto, unfolding(crate::specs::StudyOutcome::study_needs))]
 fn study_needs() -> Needs
     ensures { result ≡ study_needs }
@@ -30,7 +45,7 @@ fn study_needs() -> Needs
     Needs::new(InputKind::Awaited, 64)
 }
 
-/// The commands that a text says for a case.
+/// Returns the commands that a text says for a case.
 fn commands_in(alloc: Global, case: &Case, bytes: &[u8]) -> Result<List<StudyCommand>, Stop>
     ensures ends { EndsIn (over_values (commands_in (content case.now) bytes.now)) result }
     ensures below { IfOk result (AllByRecursion (IsBelow (length (content case.now).names))) }
@@ -42,8 +57,8 @@ fn commands_in(alloc: Global, case: &Case, bytes: &[u8]) -> Result<List<StudyCom
     }
 }
 
-/// What a study answers to a case, commands and kept looks. It takes from the commands only behind a case that it can take, and
-/// asks the keeper only behind commands that are all said.
+/// Returns what a study answers to a case, commands and kept looks. It takes from the commands only after a case that
+/// it can take, and asks the keeper only after commands that are all said.
 #[tactic(auto, unfolding(crate::specs::StudyOutcome::study_call))]
 fn study_call<S: Source, T: Source, K: Keeper>(
     alloc: Global,
@@ -73,7 +88,7 @@ fn study_call<S: Source, T: Source, K: Keeper>(
     study_answer(alloc, &accepted, keeper, list.as_slice())
 }
 
-/// What these words, this case, these commands and the looks of this keeper call for.
+/// Returns what these words, this case, these commands and the looks of this keeper call for.
 fn answer<S: Source, T: Source, K: Keeper>(
     alloc: Global,
     words: &[String],
@@ -106,18 +121,19 @@ fn answer<S: Source, T: Source, K: Keeper>(
     }
 }
 
-/// All that the program does where its first word is `study`. `words` are the words after the program's name, `case` is standard
-/// input, `commands` is the file that `file_word` names, `keeper` keeps the looks, and `out` gets the text of the answer, or one
-/// line that says why there is none. A source that isn't read stays as it was: `commands` is read only behind a case that a study
-/// can take, and `keeper` is asked only behind commands that are all said.
+/// Returns all that the program does where its first word is `study`. `words` are the words after the program's name,
+/// `case` is standard input, `commands` is the file that `file_word` names, `keeper` keeps the looks, and `out` gets
+/// the text of the answer, or one line that says why there is none. A source that isn't read stays as it was:
+/// `commands` is read only after a case that a study can take, and `keeper` is asked only after commands that are all
+/// said.
 ///
 /// First the looks that are kept are taken in their order. Then each command is replied to: a look that is taken is kept, and
 /// one that is refused changes nothing.
 ///
-/// Statuses: 0 done; 2 the words aren't accepted; 3 the case, the commands or a kept look are malformed, or the case has other
-/// p-values than those of stages of which none has arrived; 4 an input is past a limit; 5 a number of the case, of its opening or
-/// of the settling after a look is too wide; 6 a source that is read had a fault; 7 `out` had a fault; 8 memory ran out; 9 the
-/// keeper had a fault, behind a case whose opening is defined.
+/// Statuses: 0 done; 2 the words aren't accepted; 3 the case, the commands or a kept look are malformed, or the case
+/// has other p-values than those of stages of which none has arrived; 4 an input is past a limit; 5 a number of the
+/// case, of its opening or of the settling after a look is too wide; 6 a source that is read had a fault; 7 `out` had a
+/// fault; 8 memory was exhausted; 9 the keeper had a fault, after a case whose opening is defined.
 pub fn run_study<S: Source, T: Source, K: Keeper, W: Sink>(
     alloc: Global,
     words: &[String],

@@ -29,6 +29,6 @@ abbrev pub command : List (List ℕ) → List ℕ → Result StudyCommand LineKi
 command names line =
     behind (codes "look") line (λ words. and_then (look names words) (λ l. Ok (Take l))) (behind (codes "show") line show (Err Unexpected))
 
--- The language of commands: a line says one, and a text may end behind each.
+-- The language of commands: a line says one, and a text may end after each.
 abbrev pub commands : List (List ℕ) → Language (List StudyCommand) (List StudyCommand) LineKind
 commands names = record { step = λ said line. and_then (command names line) (λ c. Ok (said ++ c ∷ [])); end = λ said. Ok said }

@@ -30,7 +30,7 @@ IsCommandLine names line Show = IsShowLine line
 abbrev pub AreCommands : List (List ℕ) → List ℕ → List StudyCommand → Type 0
 AreCommands names bytes commands = AllZip (IsCommandLine names) (texts_in (rows_of bytes)) commands
 
--- a look that is asked for is of one of so many hypotheses
+-- a look that is requested is of one of a number of hypotheses
 abbrev pub IsBelow : ℕ → StudyCommand → Type 0
 IsBelow size (Take look) = look.hypothesis < size
 IsBelow size Show = Unit {0}

@@ -7,7 +7,7 @@ use field_core::NoMemory;
 pub enum CommandsFault {
     /// The first line that says no command, counted from 1 over all lines, and what is wrong with it.
     Line(usize, LineKind),
-    /// Memory ran out.
+    /// Out of memory.
     NoMemory,
 }
 

@@ -1,5 +1,6 @@
 //! Laws of commands.
-ghost use Rattle.study_commands.specs.CommandStatements.{TextsSayOneList, TextsHaveOneFault, TextsSayOrFail, TextsDontSayAndFail, CommandsAreSaid, SaidAreCommands};
+ghost use Rattle.study_commands.specs.CommandStatements.{TextsSayOneList, TextsHaveOneFault, TextsSayOrFail, TextsDontSayAndFail};
+ghost use Rattle.study_commands.specs.CommandStatements.{CommandsAreSaid, SaidAreCommands};
 
 /// A text says one list of commands for hypotheses of these names, or has one first fault, and not both.
 pub fn texts_are_decided()

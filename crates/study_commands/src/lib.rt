@@ -4,7 +4,10 @@
 //! - `read_commands`: `found` (the lines of the text that aren't skipped say these commands, one each, `AreCommands`),
 //!   `below` (each look is of a hypothesis of the case), `fault` (the first line that says no command, with its number and
 //!   what is wrong with it, `IsFirstFault`).
-//! - Law in `src/laws.rt`: a text says one list of commands, or has one first fault, and not both.
+//! - Laws in `src/laws.rt`:
+//!   - `texts_are_decided`: a text denotes one list of commands or has one first fault, never both.
+//!   - `commands_are_read_by_lines`: the reader takes exactly the texts whose lines each denote a command, with the same
+//!     commands (`said`, `only`).
 #![tactic(auto)]
 
 mod command;

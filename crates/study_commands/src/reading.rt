@@ -18,7 +18,8 @@ use text_lines::Lines;
 
 /// Reads a text of commands, line by line.
 fn read(alloc: Global, case: &Case, bytes: &[u8]) -> Result<List<StudyCommand>, CommandsFault>
-    ensures { IsUnless NoMemory result (told_as on_line (reading (commands (content case.now).names) [] (rows_of bytes.now) (end_of bytes.now))) }
+    ensures { IsUnless NoMemory result
+        (told_as on_line (reading (commands (content case.now).names) [] (rows_of bytes.now) (end_of bytes.now))) }
 {
     let mut commands = List::new(alloc);
     for line in Lines::new(bytes) {
@@ -32,7 +33,6 @@ fn read(alloc: Global, case: &Case, bytes: &[u8]) -> Result<List<StudyCommand>, 
 /// Words and lines are those of `text_lines`. A line is `look NAME K N`, the name of a hypothesis, the number of a stage in 1 to 9
 /// digits and a numeral, or `show`. Within a line the first word is tested first, then the number of words, then what follows
 /// from left to right.
-#[tactic(auto, using(crate::proofs::CommandReads::read_found, crate::proofs::CommandReads::read_below, crate::proofs::CommandReads::read_fault))]
 pub fn read_commands(
     alloc: Global,
     case: &Case,

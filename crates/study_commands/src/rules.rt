@@ -36,7 +36,7 @@ fn whole(line: &Line, word: &[u8]) -> Result<u32, CommandsFault>
     }
 }
 
-/// Returns the look that the words behind `look` say, of a hypothesis of the case.
+/// Returns the look that the words after `look` say, of a hypothesis of the case.
 fn look(line: &Line, words: Words, case: &Case) -> Result<Look, CommandsFault>
     ensures { result ≡ told_as (faults.Line line.now.number) (look (content case.now).names (words_of words.entry)) }
 {
@@ -55,7 +55,7 @@ fn look(line: &Line, words: Words, case: &Case) -> Result<Look, CommandsFault>
     })
 }
 
-/// Returns the command of a line behind `show`: no word follows.
+/// Returns the command of a line after `show`: no word follows.
 fn show(line: &Line, mut words: Words) -> Result<StudyCommand, CommandsFault>
     ensures { result ≡ told_as (faults.Line line.now.number) (show (words_of words.entry)) }
 {

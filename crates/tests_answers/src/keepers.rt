@@ -1,10 +1,10 @@
-//! Keepers by hand: what they tell, and their calls that fail by plan.
+//! Keepers by hand: what they expose, and their calls that fail by plan.
 use field_core::{List, Ratio};
 use graph_io::{FailingKeeper, Keeper, KeeperFault, Look, MemoryKeeper};
 use std::alloc::Global;
 use std::test::Fail;
 
-/// A p-value of 0 of a hypothesis at a stage.
+/// Returns a p-value of 0 of a hypothesis at a stage.
 fn look(hypothesis: u32, stage: u32) -> Look {
     Look {
         hypothesis,

@@ -529,7 +529,7 @@ fn weights_of_json(rt: HostRuntime) -> Result<(), Fail> {
     Ok(())
 }
 
-/// A fault of a value of JSON is told in this line, with status 3.
+/// A fault of a value of JSON is reported in this line, with status 3.
 fn expect_value(rt: &impl Abort, alloc: Global, fault: &JsonFault, text: &str) -> Result<(), Fail> {
     expect(rt, &json_refusal(alloc, fault)?, 3, text);
     Ok(())
@@ -598,7 +598,7 @@ fn another_kind_of_inputs(rt: HostRuntime) -> Result<(), Fail> {
     Ok(())
 }
 
-/// Want of memory is no fault of a case, and has no line here.
+/// Out of memory is not a fault of a case, and has no line here.
 #[test]
 fn want_of_memory(rt: HostRuntime) -> Result<(), Fail> {
     let names = names(rt.alloc())?;

@@ -234,7 +234,7 @@ fn p_values(alloc: Global, hypotheses: &[(&str, Terms)]) -> Result<List<Option<F
     Ok(p_values)
 }
 
-/// So many weights of 0.
+/// Weights of 0, of this number.
 fn no_weights(alloc: Global, count: usize) -> Result<List<Fraction>, NoMemory> {
     let mut weights = List::new(alloc);
     for _ in 0..count {
@@ -243,7 +243,7 @@ fn no_weights(alloc: Global, count: usize) -> Result<List<Fraction>, NoMemory> {
     Ok(weights)
 }
 
-/// A draft of one component, without edges.
+/// Returns a draft of one component, without edges.
 #[tactic(auto, unfolding(case_model::specs::Draft::have_known_ends, case_model::specs::Draft::have_known_arrivals))]
 fn draft(
     alloc: Global,
@@ -270,7 +270,7 @@ fn draft(
     })
 }
 
-/// The case of a row. Its weights aren't printed.
+/// Returns the case of a row. Its weights aren't printed.
 fn case(alloc: Global, row: &Row) -> Result<Case, Fail> {
     let names = names(alloc, row.hypotheses)?;
     let alpha = fraction(row.alpha)?;
@@ -283,7 +283,7 @@ fn case(alloc: Global, row: &Row) -> Result<Case, Fail> {
     }
 }
 
-/// Whether each line is of one of so many hypotheses.
+/// Whether each line is of one of a number of hypotheses.
 fn are_below(lines: &[StepLine], count: usize) -> bool
     ensures { result ≡ list_all (λ line. nat_lt line.hypothesis count) lines.now }
 {
@@ -372,7 +372,7 @@ fn simes(rt: HostRuntime) -> Result<(), Fail> {
     Ok(())
 }
 
-/// A rejection, of which only the hypothesis is printed.
+/// Returns a rejection, of which only the hypothesis is printed.
 fn rejection(hypothesis: usize) -> Settled {
     Settled {
         hypothesis,

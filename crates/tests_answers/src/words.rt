@@ -9,7 +9,7 @@ use std::test::Fail;
 /// What words ask for of a case: the task, and the level where they give one.
 type Wanted = Option<(CaseTask, Option<(i128, i128)>)>;
 
-/// These words, as the program is given them.
+/// Returns these words, as the program is given them.
 fn words_of(alloc: Global, words: &[&str]) -> Result<Vec<String>, NoMemory> {
     let mut copies = Vec::new(alloc);
     for word in words {
@@ -18,7 +18,7 @@ fn words_of(alloc: Global, words: &[&str]) -> Result<Vec<String>, NoMemory> {
     Ok(copies)
 }
 
-/// The task, and the parts of the level where the case is a sheet.
+/// Returns the task, and the parts of the level where the case is a sheet.
 fn on_case(command: &Command) -> Wanted {
     match command {
         Command::OnCase(CaseForm::Csv(alpha), task) => {
@@ -32,7 +32,7 @@ fn on_case(command: &Command) -> Wanted {
     }
 }
 
-/// These words ask for this.
+/// Returns these words ask for this.
 fn expect(rt: &impl Abort, alloc: Global, words: &[&str], wanted: Wanted) -> Result<(), NoMemory> {
     let words = words_of(alloc, words)?;
     match read_words(words.as_slice()) {
@@ -80,7 +80,7 @@ fn words_give_values(rt: HostRuntime) -> Result<(), Fail> {
     Ok(())
 }
 
-/// The number, from 1, of the word at which the reading fails.
+/// Returns the number, from 1, of the word at which the reading fails.
 fn failing_word(alloc: Global, words: &[&str]) -> Result<Option<usize>, NoMemory> {
     let words = words_of(alloc, words)?;
     match read_words(words.as_slice()) {
@@ -104,7 +104,7 @@ fn words_fail_at_a_word(rt: HostRuntime) -> Result<(), Fail> {
     Ok(())
 }
 
-/// The place of the word that names a file.
+/// Returns the place of the word that names a file.
 fn file_of(alloc: Global, words: &[&str]) -> Result<Option<usize>, NoMemory> {
     let words = words_of(alloc, words)?;
     match read_words(words.as_slice()) {
@@ -132,7 +132,7 @@ fn checks_have_a_file(rt: HostRuntime) -> Result<(), Fail> {
     Ok(())
 }
 
-/// The size and the seed of a sample.
+/// Returns the size and the seed of a sample.
 fn sample_of(alloc: Global, words: &[&str]) -> Result<Option<(u64, u64)>, NoMemory> {
     let words = words_of(alloc, words)?;
     match read_words(words.as_slice()) {

@@ -27,9 +27,9 @@ fn status_of_study<T: Source>(rt: &HostRuntime, words: &[String], commands: &mut
     }
 }
 
-/// Runs a study whose looks are kept in the file at a path, which is opened when looks are first asked for. Where there is no
-/// memory for the path, nothing is printed. Where the log can't be copied into the file at the end, it keeps the looks, and the
-/// status stays.
+/// Runs a study whose looks are kept in the file at a path, which is opened when looks are first requested. Where there
+/// is no memory for the path, nothing is printed. Where the log can't be copied into the file at the end, it keeps the
+/// looks, and the status stays.
 fn status_in_file<T: Source>(
     rt: &HostRuntime,
     words: &[String],

@@ -14,12 +14,12 @@ pub fn status_of(rt: &HostRuntime, words: &[String]) -> u8 {
     }
 }
 
-/// The path of the file that the words name.
+/// Returns the path of the file that the words name.
 fn file_of(words: &[String]) -> Option<&String> {
     words.get(file_word(words)?)
 }
 
-/// A source that fails at its first take, as a file that can't be opened.
+/// Returns a source that fails at its first take, as a file that can't be opened.
 fn unopened(alloc: Global) -> Result<FailingSource, NoMemory> {
     let mut failing = List::new(alloc);
     failing.push(1)?;

@@ -10,7 +10,7 @@ pub enum NoWords {
 }
 
 impl NoWords {
-    /// The status that the program ends with, with nothing printed.
+    /// Returns the status that the program ends with, with nothing printed.
     pub fn status(&self) -> u8 {
         match self {
             NoWords::NoMemory => 8,
@@ -34,7 +34,7 @@ impl From<AllocError> for NoWords {
     }
 }
 
-/// The words after the program's name.
+/// Returns the words after the program's name.
 pub fn read_words(rt: &HostRuntime) -> Result<Vec<String>, NoWords> {
     Ok(env::args(rt)?.skip(1).collect(rt.alloc())?)
 }

@@ -8,7 +8,7 @@ use field_core::NoMemory;
 use refusals::{case_refusal, seed_refusal, size_refusal};
 use std::alloc::Global;
 
-/// The refusal of a fault of a case of so many hypotheses.
+/// Returns the refusal of a fault of a case of a number of hypotheses.
 pub fn fault_refusal(alloc: Global, size: u64, fault: &CatalogueFault) -> Result<Refusal, NoMemory>
     ensures { IfOk result (IsToldAs size fault.now) }
 {

@@ -1,72 +1,68 @@
 //! The command `evidence`.
-ghost use Rattle.std.specs.Prelude.{IfOk, IfErr};
+ghost use Rattle.std.specs.Prelude.{IfOk};
 ghost use Rattle.answers.specs.Stages.{seen_by};
-ghost use Rattle.answers.specs.Ways.{EndsIn, over_values};
 ghost use Rattle.case_model.specs.CaseView.{content};
 ghost use Rattle.evidence.specs.CaseFlows.{IsCompleteOrder};
 ghost use Rattle.graph_cli.specs.Accepted.{IsOfKind};
 ghost use Rattle.graph_cli.specs.Check.{said_of};
 ghost use Rattle.graph_cli.specs.Evidence.{IsFlowRun, flown, confirmed, evidence_stage};
+ghost use Rattle.graph_cli.specs.Troubles.{Meets};
 ghost use Rattle.graph_cli.specs.declared.kind.InputKind.TheVariants.{Single};
 ghost use Rattle.sequential.specs.Decisions.{hypotheses};
 
 use crate::commands::check::checked;
-use crate::commands::test::decided;
-use answers::{Answer, Stop};
+use crate::trouble::{Run, Trouble};
+use answers::Answer;
 use case_model::Case;
 use evidence::{make, write};
 use evidence_check::{Evidence, Verdict};
 use field_core::List;
-use refusals::{When, wide_refusal};
-use sequential::{Decision, Priority, RunFault};
+use sequential::{Decision, Priority, decide};
 use std::alloc::Global;
 
-/// The evidence of the flow run along the steps of a decision.
-fn flown(alloc: Global, case: &Case, decision: &Decision) -> Result<Evidence, Stop>
+/// Makes the evidence of the flow run along the steps of a decision.
+fn flown(alloc: Global, case: &Case, decision: &Decision) -> Result<Evidence, Trouble>
     requires single { IsOfKind Single (content case.now).inputs }
     requires order { IsCompleteOrder (content case.now) (hypotheses decision.now.steps) }
+    ensures meets { Meets (seen_by said_of (flown (content case.now) decision.now)) result }
     ensures run { IfOk result (IsFlowRun (content case.now) decision.now) }
-    ensures ends { EndsIn (over_values (seen_by said_of (flown (content case.now) decision.now))) result }
 {
     match make(alloc, case, decision) {
         Ok(proof) => Ok(proof),
-        Err(RunFault::Wide(step, wide)) => Err(Stop::Refused(wide_refusal(
-            alloc,
-            case.names(),
-            When::EvidenceStep(step),
-            &wide,
-        )?)),
-        Err(RunFault::NoMemory) => Err(Stop::NoMemory),
+        Err(fault) => Err(Trouble::of_run(Run::Flows, fault)),
     }
 }
 
-/// The text of the evidence of a flow run, which `check` says yes to.
+/// Writes the text of the evidence of a flow run, which `check` says yes to.
 fn confirmed(
     alloc: Global,
     case: &Case,
     decision: &Decision,
     proof: &Evidence,
-) -> Result<List<u8>, Stop>
+) -> Result<List<u8>, Trouble>
     requires single { IsOfKind Single (content case.now).inputs }
     requires order { IsCompleteOrder (content case.now) (hypotheses decision.now.steps) }
     requires run { IsFlowRun (content case.now) decision.now proof.now }
-    ensures { EndsIn (over_values (confirmed (content case.now) (said_of proof.now))) result }
+    ensures { Meets (confirmed (content case.now) (said_of proof.now)) result }
 {
-    let verdict = checked(alloc, case, proof)?;
+    let verdict = checked(case, proof)?;
     match verdict {
         Verdict::Yes => Ok(write(alloc, case, proof)?),
         Verdict::No(_, _) => unreachable!(),
     }
 }
 
-/// What `evidence` answers to a case: the decision comes first, then the flow run along its steps. What the run gives is
-/// printed only where `check` says yes to it.
+/// Answers `evidence` to a case: the decision comes first, then the flow run along its steps. What the run gives is printed only
+/// where `check` says yes to it.
 #[tactic(auto, unfolding(crate::specs::Evidence::evidence_stage))]
-pub fn evidence_answer(alloc: Global, case: &Case, priority: Priority) -> Result<Answer, Stop>
+pub fn evidence_answer(alloc: Global, case: &Case, priority: Priority) -> Result<Answer, Trouble>
     requires { IsOfKind Single (content case.now).inputs }
-    ensures { EndsIn (over_values (evidence_stage priority (content case.now))) result }
+    ensures { Meets (evidence_stage priority (content case.now)) result }
 {
-    let decision = decided(alloc, case, priority)?;
+    let decision = decide(alloc, case, priority).map_err(|fault| Trouble::of_run(
+        Run::Deciding,
+        fault,
+    ))?;
     let proof = flown(alloc, case, &decision)?;
     let text = confirmed(alloc, case, &decision, &proof)?;
     Ok(Answer::done(text))

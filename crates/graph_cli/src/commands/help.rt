@@ -6,7 +6,7 @@ use answers::Answer;
 use field_core::{List, NoMemory};
 use std::alloc::Global;
 
-/// The list of the commands.
+/// Returns the list of the commands.
 #[tactic(auto, unfolding(crate::specs::Help::help_stage))]
 pub fn help_answer(alloc: Global) -> Result<Answer, NoMemory>
     ensures { IfOk result help_stage.Gives }

@@ -1,10 +1,8 @@
 //! The command `catalogue`.
 ghost use Rattle.std.specs.Prelude.{◌≡◌, ◌⊎◌, IfOk, IfErr, Ok, Err};
-ghost use Rattle.answers.specs.Stages.{seen_by};
 ghost use Rattle.answers.specs.Ways.{EndsIn, over_values};
 ghost use Rattle.case_model.specs.CaseView.{content};
 ghost use Rattle.catalogue.specs.declared.fault.CatalogueFault.TheVariants.{NoMemory as OutOfMemory};
-ghost use Rattle.graph_cli.specs.Catalogue.{made_of};
 ghost use Rattle.graph_cli.specs.Graphs.{named_case, told_size, catalogue_stage};
 
 use crate::commands::catalogue_faults::fault_refusal;
@@ -17,7 +15,7 @@ use command_words::SizedGraph;
 use edge_text::write_text;
 use std::alloc::Global;
 
-/// How many hypotheses a graph has; 2^64 - 1 where they are more.
+/// Returns how many hypotheses a graph has; 2^64 - 1 where they are more.
 fn told_size(graph: SizedGraph) -> u64
     ensures { result ≡ told_size graph }
 {
@@ -27,7 +25,7 @@ fn told_size(graph: SizedGraph) -> u64
     }
 }
 
-/// The case of a named graph, at the level 1/20 and without p-values.
+/// Returns the case of a named graph, at the level 1/20 and without p-values.
 #[tactic(auto, unfolding(crate::specs::Graphs::named_case))]
 fn named_case(alloc: Global, graph: SizedGraph) -> Result<Case, CatalogueFault>
     ensures case { IfOk result (λ c. named_case graph ≡ Ok (content c)) }
@@ -43,21 +41,13 @@ fn named_case(alloc: Global, graph: SizedGraph) -> Result<Case, CatalogueFault>
     }
 }
 
-/// The same; or the refusal of its sizes.
-fn named(alloc: Global, graph: SizedGraph) -> Result<Case, Stop>
-    ensures ends { EndsIn (over_values (seen_by content (made_of (told_size graph) (named_case graph)))) result }
-{
-    match named_case(alloc, graph) {
-        Ok(case) => Ok(case),
-        Err(fault) => Err(Stop::Refused(fault_refusal(alloc, told_size(graph), &fault)?)),
-    }
-}
-
-/// What `catalogue` answers: the canonical text of the case of a named graph.
+/// Answers `catalogue`: the canonical text of the case of a named graph.
 #[tactic(auto, unfolding(crate::specs::Graphs::catalogue_stage))]
 pub fn catalogue_answer(alloc: Global, graph: SizedGraph) -> Result<Answer, Stop>
     ensures { EndsIn (over_values (catalogue_stage graph)) result }
 {
-    let case = named(alloc, graph)?;
-    Ok(Answer::done(write_text(alloc, &case)?))
+    match named_case(alloc, graph) {
+        Ok(case) => Ok(Answer::done(write_text(alloc, &case)?)),
+        Err(fault) => Err(Stop::Refused(fault_refusal(alloc, told_size(graph), &fault)?)),
+    }
 }

@@ -1,9 +1,17 @@
-use Rattle.std.proofs.Common.{inl, inr}
-use Rattle.answers.specs.declared.refusal.Refusal.{Refusal}
-use Rattle.answers.proofs.Stopping.{value_ends}
+use Rattle.std.proofs.Common.{ap, refl, inr, arith, rules, tests}
+use Rattle.std.specs.Prelude.{IsTrue}
 use Rattle.case_model.specs.CaseView.{content}
+use Rattle.graph_cli.specs.declared.trouble.Trouble.TheVariants.{Closure}
 use Rattle.graph_cli.proofs.accepted.suitable.Goals as goal
 
+pub returns-then-size-needs : goal.returns-then-size-needs
+returns-then-size-needs c = λ some.
+    let kind : IsTrue c.is_of.result = search (rules, tests) in
+    let count = c.size.ensures.count in
+    inr (content c.args.case.now, (c.is_of.ensures.0 kind, refl), (omega arith, ap Closure c.size-then-size-needs.ensures.count))
+
 pub returns : goal.returns
-returns c = value_ends _ _ c.of_size.result (λ x h. (content c.in_ok-case.case, c.in_ok-case.ensures, h))
-    (λ (r : Refusal) h. inr (content c.in_ok-case.case, c.in_ok-case.ensures, h)) tt c.of_size.ensures
+returns c =
+    let kind : IsTrue c.is_of.result = search (rules, tests) in
+    let count = c.size.ensures.count in
+    (content c.args.case.now, (c.is_of.ensures.0 kind, refl), (omega arith, refl))

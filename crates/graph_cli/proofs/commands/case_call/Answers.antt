@@ -3,6 +3,7 @@ use Rattle.answers.specs.declared.refusal.Refusal.{Refusal}
 use Rattle.answers.proofs.Stopping.{source_stops, value_ends, handed_on}
 use Rattle.case_model.specs.CaseView.{content}
 use Rattle.graph_cli.specs.Commands.{case_call}
+use Rattle.graph_cli.proofs.HandedOn.{told_ends}
 use Rattle.graph_cli.proofs.commands.case_call.Goals as goal
 
 pub returns-in_err-case-clause-ends : goal.returns-in_err-case-clause-ends
@@ -16,5 +17,6 @@ unfolding case_call
 returns-clause-ends g c =
     let taken = rw c.needs_of.ensures at c.in_ok-case.ensures.ends.0 in
     let clean = c.in_ok-case.ensures.ends.1 in
-    value_ends _ _ c.case_answer.result (λ x h. ((content c.in_ok-case.case, taken, h), clean))
-    (λ (r : Refusal) h. (inr (content c.in_ok-case.case, taken, h), clean)) clean c.case_answer.ensures
+    value_ends _ _ c.told.result (λ x h. ((content c.in_ok-case.case, taken, h), clean))
+    (λ (r : Refusal) h. (inr (content c.in_ok-case.case, taken, h), clean)) clean
+    (told_ends _ _ c.case_answer.result c.told.result c.case_answer.ensures c.told.ensures)

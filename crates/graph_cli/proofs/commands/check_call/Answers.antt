@@ -3,6 +3,7 @@ use Rattle.answers.specs.declared.refusal.Refusal.{Refusal}
 use Rattle.answers.proofs.Stopping.{source_stops, value_ends, handed_on}
 use Rattle.case_model.specs.CaseView.{content}
 use Rattle.graph_cli.specs.Commands.{check_call}
+use Rattle.graph_cli.proofs.HandedOn.{told_ends}
 use Rattle.graph_cli.proofs.commands.check_call.Goals as goal
 
 pub returns-in_err-accepted-clause-ends : goal.returns-in_err-accepted-clause-ends
@@ -28,9 +29,9 @@ returns-clause-ends g c =
     let taken = rw c.check_needs.ensures at c.in_ok-accepted.ensures.ends.0 in
     let bytes = c.in_ok-bytes.ensures.ends in
     let clean = c.in_ok-accepted.ensures.ends.1 in
-    value_ends _ _ c.check_answer.result (λ x h. ((case, taken, (c.in_ok-bytes.bytes, bytes.0, h)), (clean, bytes.1)))
+    value_ends _ _ c.told.result (λ x h. ((case, taken, (c.in_ok-bytes.bytes, bytes.0, h)), (clean, bytes.1)))
     (λ (r : Refusal) h. (inr (case, taken, inr (c.in_ok-bytes.bytes, bytes.0, h)), (clean, bytes.1))) (clean, bytes.1)
-    (rw c.as_slice.ensures at c.check_answer.ensures)
+    (told_ends _ _ c.check_answer-answer.result c.told.result (rw c.as_slice.ensures at c.check_answer-answer.ensures) c.told.ensures)
 
 pub returns-in_err-bytes-clause-proof_kept : goal.returns-in_err-bytes-clause-proof_kept
 returns-in_err-bytes-clause-proof_kept g c =

@@ -6,7 +6,7 @@ use Rattle.case_model.proofs.Holding.{both}
 use Rattle.sequential.specs.declared.decision.StepLine.{StepLine}
 use Rattle.tests_answers.proofs.texts.are_of_case.Goals as goal
 
--- each line is of one of so many hypotheses
+-- each line is of one of a number of hypotheses
 below_in : (m : ℕ) (xs : List StepLine) → list_all (λ x. nat_lt x.hypothesis m) xs ≡ true → All (λ s. s.hypothesis < m) xs
 below_in m [] h = All-nil (λ s. s.hypothesis < m)
 below_in m (x ∷ xs) h =

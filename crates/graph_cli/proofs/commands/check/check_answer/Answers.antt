@@ -1,12 +1,31 @@
-use Rattle.std.proofs.Common.{inl, inr}
-use Rattle.answers.specs.declared.refusal.Refusal.{Refusal}
-use Rattle.answers.proofs.Stopping.{value_stops, handed_on}
+use Rattle.std.proofs.Common.{inl, inr, refl}
+use Rattle.case_model.specs.CaseView.{content}
 use Rattle.graph_cli.specs.Check.{said_of, check_stage}
+use Rattle.graph_cli.proofs.HandedOn.{err_on}
+use Rattle.graph_cli.proofs.Refusing.{text_refuses}
 use Rattle.graph_cli.proofs.commands.check.check_answer.Goals as goal
+
+pub returns-in_err-proof : goal.returns-in_err-proof
+unfolding check_stage
+returns-in_err-proof c =
+    err_on _ _ _ c.from_residual.ensures.1
+    (λ some. inl (text_refuses (content c.args.case.now) c.args.bytes.now c.in_err-proof.field-0.0 c.in_err-proof.ensures.fault some))
 
 pub returns-in_err-verdict : goal.returns-in_err-verdict
 unfolding check_stage
 returns-in_err-verdict c =
-    handed_on _ _ _ c.from_residual-in_err-verdict.ensures.1
-    (value_stops _ _ _ _ _ c.in_err-verdict.field-0.0 (λ (r : Refusal) h. inr (said_of c.in_ok-proof.proof, c.in_ok-proof.ensures.ends, inl h)) tt
-    c.in_err-verdict.ensures)
+    let proof = c.in_ok-proof.proof in
+    err_on _ _ _ c.from_residual-in_err-verdict.ensures.1 (λ some. inr (
+      said_of proof,
+      (proof, c.in_ok-proof.ensures.fits, c.in_ok-proof.ensures.found, refl),
+      inl (c.in_err-verdict.ensures some),
+    ))
+
+pub returns : goal.returns
+unfolding check_stage
+returns c =
+    let proof = c.in_ok-proof.proof in (
+      said_of proof,
+      (proof, c.in_ok-proof.ensures.fits, c.in_ok-proof.ensures.found, refl),
+      (c.in_ok-verdict.verdict, c.in_ok-verdict.ensures, c.in_ok-answer_to.ensures),
+    )

@@ -1,22 +1,26 @@
-use Rattle.std.proofs.Common.{inl, inr, ap, ◌∙◌}
-use Rattle.answers.specs.Lines.{done}
+use Rattle.std.proofs.Common.{inl, inr, sym, subst}
 use Rattle.answers.specs.declared.refusal.Refusal.{Refusal}
-use Rattle.answers.proofs.Stopping.{value_stops, handed_on}
+use Rattle.answers.proofs.Stopping.{value_ends}
 use Rattle.case_model.specs.CaseView.{content}
+use Rattle.catalogue.specs.Makings.{sample_case}
+use Rattle.graph_cli.specs.Accepted.{IsOfKind}
 use Rattle.graph_cli.specs.Sample.{sample_stage}
+use Rattle.graph_cli.specs.declared.kind.InputKind.TheVariants.{Single}
+use Rattle.graph_cli.proofs.HandedOn.{told_ends}
+use Rattle.graph_cli.proofs.MadeAnswers.{told}
 use Rattle.graph_cli.proofs.commands.sample.sample_answer.Goals as goal
 
-pub returns-in_err-decision : goal.returns-in_err-decision
-unfolding sample_stage
-returns-in_err-decision c =
-    handed_on _ _ _ c.from_residual-in_err-decision.ensures.1
-    (value_stops _ _ _ _ _ c.in_err-decision.field-0.0 (λ (r : Refusal) h. inr (content c.in_ok-case.case, c.in_ok-case.ensures.ends, inl h)) tt
-    c.in_err-decision.ensures)
+pub decided_sample-requires : goal.decided_sample-requires
+decided_sample-requires c = subst (λ i. IsOfKind Single i) (sym c.in-Ok.ensures.p_values) tt
 
-pub returns : goal.returns
+pub returns-in-Ok : goal.returns-in-Ok
 unfolding sample_stage
-returns c = (
-  content c.in_ok-case.case,
-  c.in_ok-case.ensures.ends,
-  (c.in_ok-decision.decision, c.in_ok-decision.ensures, c.done.ensures ∙ ap done c.in_ok-sample_text.ensures),
-)
+returns-in-Ok c =
+    value_ends _ _ c.told.result (λ x h. (content c.in-Ok.case, c.in-Ok.ensures.case, h))
+    (λ (r : Refusal) h. inr (content c.in-Ok.case, c.in-Ok.ensures.case, h)) tt
+    (told_ends _ _ c.decided_sample.result c.told.result c.decided_sample.ensures c.told.ensures)
+
+pub returns-in_ok-fault_refusal-in-Err : goal.returns-in_ok-fault_refusal-in-Err
+unfolding sample_stage
+returns-in_ok-fault_refusal-in-Err c =
+    inl (told c.args.size (sample_case c.args.size c.args.seed) c.in-Err.fault _ c.in-Err.ensures.fault c.in_ok-fault_refusal-in-Err.ensures)

@@ -1,7 +1,5 @@
 use Rattle.std.proofs.Common.{◌≢◌, ◌<◌, refl, sym, subst, inl, inr, length}
 use Rattle.std.specs.List.{All, AllPairs}
-use Rattle.answers.specs.declared.refusal.Refusal.{Refusal}
-use Rattle.answers.proofs.Stopping.{value_stops, handed_on}
 use Rattle.case_model.specs.CaseView.{content}
 use Rattle.case_model.specs.SetTableView.{answer_of}
 use Rattle.closed_test.specs.WeightsView.{weight_at}
@@ -9,15 +7,19 @@ use Rattle.discovery_bound.specs.BoundsView.{bound_of}
 use Rattle.report.specs.SimesReport.{IsSimesReport}
 use Rattle.simes_test.specs.SimesAnswers.{AreSimesClosedAnswers}
 use Rattle.graph_cli.specs.Simes.{ReportsSimes, simes_stage}
+use Rattle.graph_cli.proofs.HandedOn.{err_on}
+use Rattle.graph_cli.proofs.Refusing.{sums_refuse}
 use Rattle.graph_cli.proofs.SimesCalls.{simes_bounds, leaders_apart}
 use Rattle.graph_cli.proofs.commands.simes.simes_answer.Goals as goal
 
 pub returns-in_err-table : goal.returns-in_err-table
 unfolding simes_stage
 returns-in_err-table c =
-    handed_on _ _ _ c.from_residual-in_err-table.ensures.1
-    (value_stops _ _ _ _ _ c.in_err-table.field-0.0
-    (λ (r : Refusal) h. inr (content c.args.case.now, (c.in_ok-weights.ensures.defined, refl), inl h)) tt c.in_err-table.ensures.refused)
+    err_on _ _ _ c.from_residual-in_err-table.ensures.1 (λ some. inr (
+      content c.args.case.now,
+      (c.in_ok-weights.ensures.defined, refl),
+      inl (sums_refuse (content c.args.case.now) _ c.in_err-table.field-0.0 c.in_ok-weights.ensures.weights c.in_err-table.ensures.fault some),
+    ))
 
 pub simes_text-requires-clause-below : goal.simes_text-requires-clause-below
 simes_text-requires-clause-below c =
