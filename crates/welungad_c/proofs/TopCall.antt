@@ -19,18 +19,18 @@ no_fault words case (inl rose) = let more : Rose 0 0 = rose.1 in absurd (omega (
 no_fault words case (inr rose) = let more : Rose 0 0 = rose.1 in absurd (omega (arith, more))
 
 -- an answer that a call over sources may give is one of its stage
-answer_of : {s : Stage Refusal Answer} {rose clean : Type 0} {a : Answer} → MayAnswer (over_source s rose clean) a → IsAnswerOf s a
-answer_of (inl given) = inl given.0
-answer_of (inr (r, (refuses, same))) = inr (r, (refuses.0, same))
+answer_of : (s : Stage Refusal Answer) (rose clean : Type 0) (a : Answer) → MayAnswer (over_source s rose clean) a → IsAnswerOf s a
+answer_of s rose clean a (inl given) = inl given.0
+answer_of s rose clean a (inr (r, refuses, same)) = inr (r, refuses.0, same)
 
-module _ {s : Stage Refusal Answer} {read_rose read_clean write_rose write_clean : Type 0} {old text : List ℕ} {before after status : ℕ} (empty : old ≡ [])
+module _ (s : Stage Refusal Answer) {read_rose read_clean write_rose write_clean : Type 0} {old text : List ℕ} {before after status : ℕ} (empty : old ≡ [])
     (runs : Runs (over_source s read_rose read_clean) write_rose write_clean (Some old) (Some text) before after status) where
   -- a status up to 5 comes with an answer
   answered : status ≤ 5 → IsAnswered (IsAnswerOf s) text status
   answered low = let put = runs.done low in
       record {
         answer = put.answer;
-        expected = answer_of put.may;
+        expected = answer_of s read_rose read_clean put.answer put.may;
         text_is = put.put ∙ ap (λ held. held ++ put.answer.text) empty;
         status_is = put.status_is;
       }

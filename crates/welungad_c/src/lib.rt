@@ -2,8 +2,8 @@
 //!
 //! Proved:
 //! - `welungad_run`: `answers`, `unread`. If the bytes are those of words, the text and the status are those of the answer to
-//!   these words, this case and this proof (`outcome` of `graph_cli`), or the call is out of memory. As much of the text as fits
-//!   is put into the caller's memory, and its whole length is reported. Status 7 comes exactly when the text doesn't fit. If the
+//!   them, the case and the proof (`outcome` of `graph_cli`), or the call is out of memory. As much of the text as fits is put
+//!   into the caller's memory, and its whole length is reported. Status 7 comes exactly when the text doesn't fit. If the
 //!   bytes are not those of any words, the status is 10 and nothing is put, or the call is out of memory.
 //! - `welungad_interface`.
 //!
