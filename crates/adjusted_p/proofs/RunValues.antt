@@ -168,7 +168,7 @@ module _ (E : EntangledGraph) (p : ℕ → Number) where
         | inr f ↦ absurd (true_not_false (sym t ∙ ap (λ y. y.reached) (table.rest j (λ l. true_not_false (sym l ∙ f)))))
       ]
 
-      -- at each level from 0 to 1 the closed test rejects just those whose values are at most the level
+      -- at each level from 0 to 1 the closed test rejects exactly those whose values are at most the level
       table_decides : (j : ℕ) → Decides E p j (T j).value (T j).reached
       table_decides j a u =
           let D =

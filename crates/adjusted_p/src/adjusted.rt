@@ -30,21 +30,21 @@ pub struct Adjusted {
     pub reached: bool,
 }
 
-/// The greater of two fractions.
+/// Returns the greater of two fractions.
 fn greater(x: &Fraction, y: &Fraction) -> Fraction
     ensures { IsGreater (number_of x.now) (number_of y.now) (number_of result) }
 {
     if *x <= *y { *y } else { *x }
 }
 
-/// The level 1.
+/// Returns the level 1.
 fn level_one() -> Fraction
     ensures { result ≡ one_ratio }
 {
     Fraction::one()
 }
 
-/// So many values of 1 that aren't reached.
+/// Returns a list of values of 1 that aren't reached, of this length.
 fn none_reached(alloc: Global, count: usize) -> Result<List<Adjusted>, NoMemory>
     ensures { IfOk result (λ values. values ≡ replicate count not_reached) }
 {
@@ -61,8 +61,10 @@ fn none_reached(alloc: Global, count: usize) -> Result<List<Adjusted>, NoMemory>
 /// Rejects by the least ratio at the level 1, one hypothesis after another, and gives the values.
 fn run(alloc: Global, current: &mut Trial) -> Result<List<Adjusted>, AdjustFault>
     requires { (trial current.old).rejected ≡ [] }
-    ensures run { IfOk result (λ values. (c : Content) → IsTrialOf c (trial current.old) → c.alpha ≡ one_ratio → IsAdjustingRun c (trial current.new) values) }
-    ensures fault { IfErr result (λ fault. (c : Content) → IsTrialOf c (trial current.old) → c.alpha ≡ one_ratio → IsDecideFault c ByRatio fault) }
+    ensures run { IfOk result (λ values. (c : Content) → IsTrialOf c (trial current.old) → c.alpha ≡ one_ratio
+        → IsAdjustingRun c (trial current.new) values) }
+    ensures fault { IfErr result (λ fault. (c : Content) → IsTrialOf c (trial current.old) → c.alpha ≡ one_ratio
+        → IsDecideFault c ByRatio fault) }
 {
     let mut values = none_reached(alloc, current.size())?;
     let mut before = Fraction::zero();
@@ -85,13 +87,14 @@ fn run(alloc: Global, current: &mut Trial) -> Result<List<Adjusted>, AdjustFault
     }
 }
 
-/// The adjusted values of a case that has a p-value for each hypothesis, by ascending position. Each is the least level
-/// from 0 to 1 at which the closed test rejects the hypothesis, and is reached; or it is 1 and not reached, where no such
-/// level rejects it.
+/// Returns the adjusted values of a case that has a p-value for each hypothesis, by ascending position. Each is the
+/// least level from 0 to 1 at which the closed test rejects the hypothesis, and is reached; or it is 1 and not reached,
+/// where no such level rejects it.
 ///
-/// The run takes the remaining hypothesis with the least ratio of p-value and weight, the first among equals, as long as
-/// the ratio is at most 1; the value is the greater of the ratio and the value before. Unless memory runs out, it is
-/// `AdjustFault::Wide` exactly where this written run is undefined, with the step, counted from 1; step 0 is the opening.
+/// The run takes the remaining hypothesis with the least ratio of p-value and weight, the first among equals, as long
+/// as the ratio is at most 1; the value is the greater of the ratio and the value before. Unless out of memory, it is
+/// `AdjustFault::Wide` exactly where this written run is undefined, with the step, counted from 1; step 0 is the
+/// opening.
 pub fn adjust(alloc: Global, case: &Case) -> Result<List<Adjusted>, AdjustFault>
     requires { IsSingle (content case.now).inputs }
     ensures values { IfOk result (AreAdjusted (content case.now)) }

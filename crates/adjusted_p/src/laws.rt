@@ -1,6 +1,11 @@
 //! Laws of the adjusted values of cases. Each function states a law that holds of all cases, and does nothing.
 
-ghost use Rattle.adjusted_p.specs.AdjustedListStatements.{AdjustedValuesDecideCases, AdjustedListsAreUnique, WideRunsAreUnique, RunsStopAboveOne};
+ghost use Rattle.adjusted_p.specs.AdjustedListStatements.{
+  AdjustedValuesDecideCases,
+  AdjustedListsAreUnique,
+  WideRunsAreUnique,
+  RunsStopAboveOne,
+};
 
 /// At each level from 0 to 1 the closed test rejects a hypothesis exactly where its adjusted value is reached and is at
 /// most the level.

@@ -29,7 +29,7 @@ module _ {A E : Type 0} (f : ℕ → Result A E) where
   unfolding put_each
   put_more r rs xs ys h = bind_ok (f r) (λ x. put_each f rs (set xs r x)) ys h
 
-  -- as many as before
+  -- the same number as before
   pub put_length : (rs : List ℕ) (xs ys : List A) → put_each f rs xs ≡ Ok ys → length ys ≡ length xs
   put_length [] xs ys h = ap length (put_none xs ys h)
   put_length (r ∷ rs) xs ys h = let a = put_more r rs xs ys h in put_length rs (set xs r a.0) ys a.1.1 ∙ length-set xs r a.0

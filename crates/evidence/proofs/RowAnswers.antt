@@ -13,12 +13,12 @@ module _ {F : Type 0} (parts : F → Parts) where
   pub row_is : (table : List (List F)) (l : ℕ) (xs : List F) → xs ≡ get_or table l [] → map parts xs ≡ row (map (map parts) table) l
   row_is table l xs e = ap (map parts) e ∙ sym (get_or-map (map parts) table l [])
 
-  -- so many of the same number
+  -- this number of copies of one number
   pub all_same : (x : F) (z : Parts) (n : ℕ) → parts x ≡ z → map parts (replicate n x) ≡ replicate n z
   all_same x z zero e = refl
   all_same x z (suc n) e = ap₂ (λ y ys. y ∷ ys) e (all_same x z n e)
 
-  -- as many zeros as numbers
+  -- a zero for each number
   pub zeros_for : (z : Parts) (xs : List F) → replicate (length xs) z ≡ map (λ x. z) (map parts xs)
   zeros_for z [] = refl
   zeros_for z (x ∷ xs) = ap (λ ys. z ∷ ys) (zeros_for z xs)

@@ -397,7 +397,7 @@ module _ {S : Type 0} (K : Kind) (IsStored : Parts → Type 0) (X : IsExact K Is
       unfolding flow_run
       run_end earlier s r h = ok_same (Ok r) r _ refl (sym h)
 
-      -- a run that goes on to a good end, and its first step
+      -- a run that continues to a good end, and its first step
       record Goes (earlier : List ℕ) (j : ℕ) (js : List ℕ) (s : RunState S) (r : FlowRun) : Type 0 where
         t : RunState S
         rest : FlowRun

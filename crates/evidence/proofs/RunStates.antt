@@ -35,7 +35,7 @@ wanted : {A E : Type 0} (old x : A) (r : Result A E) → if_wanted true old r �
 wanted old x r h = h
 
 module _ (K : Kind) (IsStored : Parts → Type 0) (X : IsExact K IsStored) (m : ℕ) where
-  -- the tables hold flows and what each live hypothesis sends, by value
+  -- the tables hold flows and what each remaining hypothesis sends, by value
   pub record HoldFlows (A : Graph Number) (I : ℕ → Bool) (now : Graph Number) (t : Tables) : Type 0 where
     pub y : ℕ → Number
     pub z : ℕ → ℕ → Number
@@ -43,7 +43,7 @@ module _ (K : Kind) (IsStored : Parts → Type 0) (X : IsExact K IsStored) (m : 
     pub through : HasRow K IsStored X m t.flows y
     pub sent : (l : ℕ) → IsIn m I l → HasRow K IsStored X m (row t.visits l) (z l)
 
-  -- the tables hold exits to each live hypothesis, by value
+  -- the tables hold exits to each remaining hypothesis, by value
   pub record HoldExits (A : Graph Number) (I : ℕ → Bool) (now : Graph Number) (t : Tables) : Type 0 where
     pub H : ℕ → ℕ → Number
     pub exits : Exits number_field m A I now H

@@ -28,7 +28,7 @@ order_at m (j ∷ js) I (suc s) o p = order_at m js (dropping j I) s o.1 (omega 
 pub drop_at : (js : List ℕ) (s : ℕ) → s < length js → drop s js ≡ get_or js s 0 ∷ drop (s + 1) js
 drop_at js s p = drop_here js s 0 p ∙ ap (λ n. get_or js s 0 ∷ drop n js) (sym (add-one s))
 
--- whether there is more behind a place
+-- whether there is more after a place
 pub more_behind : (js : List ℕ) (n : ℕ) → n ≤ length js → has_some (drop n js) ≡ not (n == length js)
 more_behind js n p = elim (ended n (length js) p) [
   | inl e ↦ ap has_some (ap (λ k. drop k js) e ∙ drop_end js (length js) refl) ∙ sym (ap not (same_numbers n (length js) e))

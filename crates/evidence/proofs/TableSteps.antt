@@ -40,7 +40,7 @@ module _ (K : Kind) (IsStored : Parts → Type 0) (X : IsExact K IsStored) (m : 
     pub stored : (r : ℕ) → IsStored (numbers_at K xs r)
     pub value : (r : ℕ) → value_of (numbers_at K xs r) ≡ v r
 
-  -- the graph of a component with the members of `I` live, by value
+  -- the graph of a component with the members of `I` remaining, by value
   pub record Shows (I : ℕ → Bool) (now : Graph Number) (G : StoredGraph) : Type 0 where
     pub same_size : size G ≡ m
     pub live : (i : ℕ) → i < m → is_live G i ≡ I i

@@ -3,12 +3,15 @@ use field_core::{NoMemory, Wide, WideAt};
 use sequential::RunFault;
 use std::alloc::AllocError;
 
+/// Why no evidence is made.
+pub type MakeFault = RunFault;
+
 /// Why a part of a run isn't made.
 #[derive(Clone, Copy)]
 pub enum Fault<W> {
     /// The first operation of it that is undefined.
     Wide(W),
-    /// Memory ran out.
+    /// Out of memory.
     NoMemory,
 }
 
@@ -49,7 +52,7 @@ impl Fault<Wide> {
     ghost use Rattle.std.specs.Prelude.{◌≡◌};
     ghost use Rattle.evidence.specs.Made.{fault_in};
 
-    /// The fault in a run on the component `component`.
+    /// Returns the fault in a run on the component `component`.
     pub fn in_component(self, component: usize) -> Fault<WideAt>
         ensures { result ≡ fault_in component self }
     {
@@ -64,13 +67,13 @@ impl Fault<WideAt> {
     ghost use Rattle.std.specs.Prelude.{◌≡◌};
     ghost use Rattle.evidence.specs.Made.{fault_at};
 
-    /// The fault at the step `step`.
-    pub fn at_step(self, step: usize) -> RunFault
+    /// Returns the fault at the step `step`.
+    pub fn at_step(self, step: usize) -> MakeFault
         ensures { result ≡ fault_at step self }
     {
         match self {
-            Fault::Wide(wide) => RunFault::Wide(step, wide),
-            Fault::NoMemory => RunFault::NoMemory,
+            Fault::Wide(wide) => MakeFault::Wide(step, wide),
+            Fault::NoMemory => MakeFault::NoMemory,
         }
     }
 }

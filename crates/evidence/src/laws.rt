@@ -1,9 +1,20 @@
 //! Laws of flow runs. Each function states laws that hold of all nets or of all cases, and does nothing.
 
 ghost use Rattle.evidence.specs.FlowStatements.{FlowRunsGiveSteps, FlowRunsGiveEvidence};
-ghost use Rattle.evidence.specs.CaseFlows.{CaseFlowsMeetConditions, CaseFlowsListOrders, CaseFlowsKeepOthers, CaseFlowsAreOfTheCase, CaseFlowsAreNotRefused};
+ghost use Rattle.evidence.specs.CaseFlows.{
+  CaseFlowsMeetConditions,
+  CaseFlowsListOrders,
+  CaseFlowsKeepOthers,
+  CaseFlowsAreOfTheCase,
+  CaseFlowsAreNotRefused,
+};
 ghost use Rattle.evidence.specs.CaseFlows.{DecisionsAreCompleteOrders};
-ghost use Rattle.evidence.specs.EvidenceText.{EvidenceTextsSayTheirs, EvidenceTextsSayNoOther, EvidenceTextsHaveNoFault, EvidenceTextsTellApart};
+ghost use Rattle.evidence.specs.EvidenceText.{
+  EvidenceTextsSayTheirs,
+  EvidenceTextsSayNoOther,
+  EvidenceTextsHaveNoFault,
+  EvidenceTextsTellApart,
+};
 
 use removal::Remover;
 

@@ -12,15 +12,16 @@ ghost use Rattle.evidence_check.specs.CaseCheck.{IsSingle, MeetsIn};
 ghost use Rattle.evidence.specs.CaseFlows.{IsCompleteOrder, case_flows, AreOpened, flows_from, has_fractions};
 ghost use Rattle.evidence.specs.Made.{MakesAll, written_evidence};
 
+use crate::fault::MakeFault;
 use crate::run::evidence;
 use case_model::Case;
 use entangled::CaseNet;
 use evidence_check::Evidence;
 use field_core::{List, NoMemory};
-use sequential::{Decision, RunFault, StepLine};
+use sequential::{Decision, StepLine};
 use std::alloc::Global;
 
-/// The hypotheses of lines, in their order.
+/// Returns the hypotheses of lines, in their order.
 #[tactic(auto, using(std::proofs::lemmas::List::map_push, std::proofs::lemmas::List::take_more, std::proofs::lemmas::List::take_all))]
 fn hypotheses(alloc: Global, lines: &[StepLine]) -> Result<List<usize>, NoMemory>
     ensures { IfOk result (λ js. js ≡ hypotheses lines.now) }
@@ -32,13 +33,13 @@ fn hypotheses(alloc: Global, lines: &[StepLine]) -> Result<List<usize>, NoMemory
     Ok(hypotheses)
 }
 
-/// The evidence of the nets of a case as they are opened, along a list of distinct hypotheses.
+/// Returns the evidence of the nets of a case as they are opened, along a list of distinct hypotheses.
 #[tactic(auto, unfolding(entangled::specs::CaseNetView::case_state))]
 fn evidence_of(
     alloc: Global,
     nets: &mut CaseNet,
     hypotheses: &[usize],
-) -> Result<Evidence, RunFault>
+) -> Result<Evidence, MakeFault>
     requires opened { AreOpened (case_state nets.old) }
     requires order { IsOrder (case_size (case_state nets.old)) whole hypotheses.now }
     ensures made { MakesAll written_evidence result (flows_from (case_state nets.old) hypotheses.now) }
@@ -57,8 +58,8 @@ fn evidence_of(
     }
 }
 
-/// The evidence of a case along a complete legal order.
-fn evidence_along(alloc: Global, case: &Case, hypotheses: &[usize]) -> Result<Evidence, RunFault>
+/// Returns the evidence of a case along a complete legal order.
+fn evidence_along(alloc: Global, case: &Case, hypotheses: &[usize]) -> Result<Evidence, MakeFault>
     requires { IsCompleteOrder (content case.now) hypotheses.now }
     ensures made { MakesAll written_evidence result (case_flows (content case.now) hypotheses.now) }
     ensures form { IfOk result (IsFormOf (content case.now)) }
@@ -74,16 +75,17 @@ fn evidence_along(alloc: Global, case: &Case, hypotheses: &[usize]) -> Result<Ev
 /// The evidence is of version 2. It lists the steps of the decision and keeps all other hypotheses, its flows and exits are
 /// the numbers of the written flow run, and it meets its conditions, so that `check` doesn't find a broken one.
 ///
-/// Unless memory runs out, it is `RunFault::Wide` exactly where the written flow run is undefined, with the step, counted
-/// from 1; step 0 is the opening.
-pub fn make(alloc: Global, case: &Case, decision: &Decision) -> Result<Evidence, RunFault>
+/// Unless out of memory, it is `MakeFault::Wide` exactly where the written flow run is undefined, with the step,
+/// counted from 1; step 0 is the opening.
+pub fn make(alloc: Global, case: &Case, decision: &Decision) -> Result<Evidence, MakeFault>
     requires single { IsSingle (content case.now).inputs }
     requires order { IsCompleteOrder (content case.now) (hypotheses decision.now.steps) }
     ensures made { MakesAll written_evidence result (case_flows (content case.now) (hypotheses decision.now.steps)) }
     ensures fits { IfOk result (λ v. IsEvidenceFor (content case.now) v) }
     ensures version { IfOk result (λ v. version_of v ≡ 2) }
     ensures lists { IfOk result (λ v. map (λ s. s.hypothesis) (steps_of v) ≡ hypotheses decision.now.steps) }
-    ensures keeps { IfOk result (λ v. map (λ x. x.hypothesis) (keeps_of v) ≡ others (length (content case.now).names) (hypotheses decision.now.steps)) }
+    ensures keeps { IfOk result (λ v. map (λ x. x.hypothesis) (keeps_of v) ≡ others (length
+        (content case.now).names) (hypotheses decision.now.steps)) }
     ensures meets { IfOk result (λ v. MeetsIn (content case.now) (steps_of v) (keeps_of v)) }
 {
     let hypotheses = hypotheses(alloc, decision.steps.as_slice())?;

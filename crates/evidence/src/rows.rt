@@ -8,7 +8,7 @@ ghost use Rattle.evidence.specs.FlowTables.{put_each};
 use field_core::{List, NoMemory, Number, Wide};
 use std::alloc::Global;
 
-/// The number at a place of a row, and 0 past its end.
+/// Returns the number at a place of a row, and 0 past its end.
 #[tactic(auto, unfolding(evidence_check::specs::EvidenceParts::numbers_at))]
 pub fn number<F: Number>(row: &[F], r: usize) -> F
     ensures { F.parts result ≡ numbers_at F.kind (map F.parts row.now) r }
@@ -16,7 +16,7 @@ pub fn number<F: Number>(row: &[F], r: usize) -> F
     if r < row.len() { row[r] } else { F::zero() }
 }
 
-/// A row of a table, and none past the end.
+/// Returns a row of a table, and none past the end.
 pub fn row<F>(table: &List<List<F>>, l: usize) -> &[F]
     ensures { result.now ≡ get_or table.now l [] }
 {
@@ -28,7 +28,7 @@ pub fn row<F>(table: &List<List<F>>, l: usize) -> &[F]
     }
 }
 
-/// A row of so many zeros.
+/// Returns a row of zeros of this length.
 #[tactic(auto, using(std::proofs::lemmas::List::replicate_more, std::proofs::lemmas::List::map_push))]
 pub fn zeros<F: Number>(alloc: Global, count: usize) -> Result<List<F>, NoMemory>
     ensures { IfOk result (λ row. map F.parts row ≡ replicate count F.kind.zero) }
@@ -40,7 +40,7 @@ pub fn zeros<F: Number>(alloc: Global, count: usize) -> Result<List<F>, NoMemory
     Ok(row)
 }
 
-/// The same row.
+/// Returns the same row.
 pub fn copy<F: Number>(alloc: Global, row: &[F]) -> Result<List<F>, NoMemory>
     ensures { IfOk result (λ copied. copied ≡ row.now) }
 {

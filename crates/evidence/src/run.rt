@@ -10,22 +10,31 @@ ghost use Rattle.evidence_check.specs.Evidence.{others};
 ghost use Rattle.evidence_check.specs.EvidenceParts.{numbers_at};
 ghost use Rattle.evidence_check.specs.EvidenceView.{step_parts, keep_parts};
 ghost use Rattle.evidence.specs.FlowTables.{new_tables};
-ghost use Rattle.evidence.specs.FlowRun.{graph_at, tables_at, recorded, kept_exits, all_tables, flow_step, flow_run, opening_state, evidence_run};
+ghost use Rattle.evidence.specs.FlowRun.{
+  graph_at,
+  tables_at,
+  recorded,
+  kept_exits,
+  all_tables,
+  flow_step,
+  flow_run,
+  opening_state,
+  evidence_run,
+};
 ghost use Rattle.evidence.specs.FlowStatements.{IsOpened};
 ghost use Rattle.evidence.specs.TablesView.{tables_of};
 ghost use Rattle.evidence.specs.Made.{Makes, MakesAll, written_steps};
 
-use crate::fault::Fault;
+use crate::fault::{Fault, MakeFault};
 use crate::rows::{number, row};
 use crate::tables::{Tables, first_tables, tables_after};
 use entangled::Bundle;
 use evidence_check::{KeepProof, ProofStep, Steps};
 use field_core::{List, NoMemory, Number, WideAt};
 use removal::Remover;
-use sequential::RunFault;
 use std::alloc::Global;
 
-/// The numbers at places of a row.
+/// Returns the numbers at places of a row.
 #[tactic(auto, using(entangled::proofs::Pushes::pushed, entangled::proofs::Pushes::pushed_all))]
 fn numbers<F: Number>(alloc: Global, row: &[F], places: &[usize]) -> Result<List<F>, NoMemory>
     ensures { IfOk result (λ ns. map F.parts ns ≡ map (numbers_at F.kind (map F.parts row.now)) places.now) }
@@ -37,7 +46,7 @@ fn numbers<F: Number>(alloc: Global, row: &[F], places: &[usize]) -> Result<List
     Ok(numbers)
 }
 
-/// A step, with what flows in each component through the hypotheses of the earlier steps.
+/// Returns a step, with what flows in each component through the hypotheses of the earlier steps.
 #[tactic(auto, using(entangled::proofs::Pushes::pushed, entangled::proofs::Pushes::pushed_all, crate::proofs::RunAnswers::recorded_is))]
 fn recorded<F: Number>(
     alloc: Global,
@@ -57,7 +66,7 @@ fn recorded<F: Number>(
     })
 }
 
-/// A hypothesis that is kept, with its exits in each component from the hypotheses of the steps.
+/// Returns a hypothesis that is kept, with its exits in each component from the hypotheses of the steps.
 #[tactic(auto, using(entangled::proofs::Pushes::pushed, entangled::proofs::Pushes::pushed_all, crate::proofs::RunAnswers::kept_is))]
 fn kept<F: Number>(
     alloc: Global,
@@ -77,7 +86,7 @@ fn kept<F: Number>(
     })
 }
 
-/// The tables of a component after a step.
+/// Returns the tables of a component after a step.
 fn component_tables<R: Remover>(
     alloc: Global,
     bundle: &Bundle<R>,
@@ -102,7 +111,7 @@ fn component_tables<R: Remover>(
     }
 }
 
-/// The tables of all components after a step.
+/// Returns the tables of all components after a step.
 #[tactic(auto, using(crate::proofs::TableAnswers::each_none, crate::proofs::TableAnswers::each_more, crate::proofs::RunAnswers::all_refused, crate::proofs::RunAnswers::all_done))]
 fn all_tables<R: Remover>(
     alloc: Global,
@@ -125,7 +134,7 @@ fn all_tables<R: Remover>(
     Ok(next)
 }
 
-/// A step after the earlier ones: the tables are made anew, and then, but for the last step, its hypothesis is removed.
+/// Returns a step after the earlier ones: the tables are made anew, and then, but for the last step, its hypothesis is removed.
 fn step<R: Remover>(
     alloc: Global,
     bundle: &mut Bundle<R>,
@@ -134,7 +143,7 @@ fn step<R: Remover>(
     earlier: &[usize],
     is_last: bool,
     is_kept: bool,
-) -> Result<List<Tables<R::Value>>, RunFault>
+) -> Result<List<Tables<R::Value>>, MakeFault>
     requires live { is_live R.graph (bundled bundle.old) j ≡ true }
     requires count { length tables.now ≡ length (bundled bundle.old).states }
     ensures { MakesAll (λ next. record { bundle = bundled bundle.new; tables = map (tables_of R.Value.parts) next }) result
@@ -151,7 +160,7 @@ fn step<R: Remover>(
     }
     match bundle.remove(j) {
         Ok(()) => Ok(next),
-        Err(wide) => Err(RunFault::Wide(number, wide)),
+        Err(wide) => Err(MakeFault::Wide(number, wide)),
     }
 }
 
@@ -162,7 +171,7 @@ struct FinishedRun<F> {
     tables: List<Tables<F>>,
 }
 
-/// The tables of all components before the first step.
+/// Returns the tables of all components before the first step.
 #[tactic(auto, using(std::proofs::lemmas::List::replicate_more, std::proofs::lemmas::List::map_push))]
 fn opening_tables<R: Remover>(
     alloc: Global,
@@ -183,10 +192,14 @@ fn run<R: Remover>(
     bundle: &mut Bundle<R>,
     hypotheses: &[usize],
     is_kept: bool,
-) -> Result<FinishedRun<R::Value>, RunFault>
+) -> Result<FinishedRun<R::Value>, MakeFault>
     requires opened { IsOpened R.Value.kind R.graph R.IsProper (bundled bundle.old) }
     requires order { IsOrder (size R.graph (bundled bundle.old)) whole hypotheses.now }
-    ensures { MakesAll (λ r. record { steps = map (step_parts R.Value.parts) r.steps; tables = map (tables_of R.Value.parts) r.tables }) result
+    ensures { MakesAll (λ r. record {
+      steps = map (step_parts R.Value.parts) r.steps;
+      tables = map
+          (tables_of R.Value.parts) r.tables;
+    }) result
         (flow_run R.Value.kind R.graph R.removal is_kept [] hypotheses.now (opening_state R.Value.kind R.graph (bundled bundle.old))) }
 {
     let mut steps = List::new(alloc);
@@ -222,7 +235,7 @@ fn is_missing(listed: &[usize], k: usize) -> bool
     !is_listed(listed, k)
 }
 
-/// The hypotheses below `size` that aren't listed, ascending.
+/// Returns the hypotheses below `size` that aren't listed, ascending.
 fn others(alloc: Global, size: usize, listed: &[usize]) -> Result<List<usize>, NoMemory>
     ensures { IfOk result (λ ks. ks ≡ others size listed.now) }
 {
@@ -235,7 +248,7 @@ fn others(alloc: Global, size: usize, listed: &[usize]) -> Result<List<usize>, N
     Ok(others)
 }
 
-/// The keeps of these hypotheses after the steps.
+/// Returns the keeps of these hypotheses after the steps.
 #[tactic(auto, using(entangled::proofs::Pushes::pushed, entangled::proofs::Pushes::pushed_all))]
 fn keeps<F: Number>(
     alloc: Global,
@@ -243,7 +256,8 @@ fn keeps<F: Number>(
     steps: &[usize],
     others: &[usize],
 ) -> Result<List<KeepProof<F>>, NoMemory>
-    ensures { IfOk result (λ xs. map (keep_parts F.parts) xs ≡ map (kept_exits F.kind (map (tables_of F.parts) tables.now) steps.now) others.now) }
+    ensures { IfOk result (λ xs. map (keep_parts F.parts) xs ≡ map (kept_exits F.kind (map
+        (tables_of F.parts) tables.now) steps.now) others.now) }
 {
     let mut keeps = List::new(alloc);
     for &k in others {
@@ -252,16 +266,17 @@ fn keeps<F: Number>(
     Ok(keeps)
 }
 
-/// The evidence of nets as they are opened, along a list of distinct hypotheses: the steps in this order, and then all
-/// other hypotheses, which are kept. It is of version 2.
+/// Returns the evidence of nets as they are opened, along a list of distinct hypotheses: the steps in this order, and
+/// then all other hypotheses, which are kept. It is of version 2.
 pub fn evidence<R: Remover>(
     alloc: Global,
     bundle: &mut Bundle<R>,
     hypotheses: &[usize],
-) -> Result<Steps<R::Value>, RunFault>
+) -> Result<Steps<R::Value>, MakeFault>
     requires opened { IsOpened R.Value.kind R.graph R.IsProper (bundled bundle.old) }
     requires order { IsOrder (size R.graph (bundled bundle.old)) whole hypotheses.now }
-    ensures made { MakesAll (written_steps R.Value.parts) result (evidence_run R.Value.kind R.graph R.removal (bundled bundle.old) hypotheses.now) }
+    ensures made { MakesAll (written_steps R.Value.parts) result
+        (evidence_run R.Value.kind R.graph R.removal (bundled bundle.old) hypotheses.now) }
     ensures version { IfOk result (λ v. v.version ≡ 2) }
 {
     let others = others(alloc, bundle.size(), hypotheses)?;

@@ -5,7 +5,17 @@ ghost use Rattle.field_core.specs.Kind.{ok_map, is_zero};
 ghost use Rattle.field_core.specs.Steps.{each_below};
 ghost use Rattle.removal.specs.StoredGraph.{size, is_live};
 ghost use Rattle.removal.specs.WrittenRemoval.{is_gone, divisor};
-ghost use Rattle.evidence.specs.FlowTables.{if_wanted, first_tables, new_flow, new_flows, new_visit, new_visits_by, new_visits, new_exit, new_exits};
+ghost use Rattle.evidence.specs.FlowTables.{
+  if_wanted,
+  first_tables,
+  new_flow,
+  new_flows,
+  new_visit,
+  new_visits_by,
+  new_visits,
+  new_exit,
+  new_exits,
+};
 ghost use Rattle.evidence.specs.FlowTables.{new_tables};
 ghost use Rattle.evidence.specs.TablesView.{tables_of};
 ghost use Rattle.evidence.specs.Made.{Makes};
@@ -34,7 +44,7 @@ fn is_gone<R: Remover>(net: &R, j: usize, l: usize) -> bool
     !net.is_live(l) || l == j
 }
 
-/// What flows through `r` now.
+/// Returns what flows through `r` now.
 #[tactic(auto, unfolding(crate::specs::FlowTables::new_flow))]
 fn new_flow<R: Remover>(
     net: &R,
@@ -55,7 +65,7 @@ fn new_flow<R: Remover>(
     number(flows, r).add(&gain).map_err(|wide| wide.at(place))
 }
 
-/// What flows through the hypotheses of the earlier steps and of this one.
+/// Returns what flows through the hypotheses of the earlier steps and of this one.
 #[tactic(auto, unfolding(crate::specs::FlowTables::new_flows))]
 fn new_flows<R: Remover>(
     alloc: Global,
@@ -75,7 +85,7 @@ fn new_flows<R: Remover>(
     Ok(flows)
 }
 
-/// What `l` is divided by; none where all that it sends becomes 0.
+/// Returns what `l` is divided by; none where all that it sends becomes 0.
 #[tactic(auto, unfolding(removal::specs::WrittenRemoval::is_gone, removal::specs::WrittenRemoval::divisor))]
 fn divisor<R: Remover>(net: &R, j: usize, l: usize) -> Result<Option<R::Value>, Wide>
     requires j { is_live (R.graph (R.present net.now)) j ≡ true }
@@ -95,7 +105,7 @@ fn divisor<R: Remover>(net: &R, j: usize, l: usize) -> Result<Option<R::Value>, 
     Ok(Some(left))
 }
 
-/// What `l` sends through `r` now.
+/// Returns what `l` sends through `r` now.
 #[tactic(auto, unfolding(removal::specs::WrittenRemoval::is_gone, crate::specs::FlowTables::new_visit))]
 fn new_visit<R: Remover>(
     net: &R,
@@ -121,7 +131,7 @@ fn new_visit<R: Remover>(
     merged.div(divisor).map_err(|wide| wide.at(place))
 }
 
-/// The row of what `l` sends, divided by `left`.
+/// Returns the row of what `l` sends, divided by `left`.
 fn divided_visits<R: Remover>(
     alloc: Global,
     net: &R,
@@ -147,7 +157,7 @@ fn divided_visits<R: Remover>(
     Ok(next)
 }
 
-/// The row of what `l` sends.
+/// Returns the row of what `l` sends.
 #[tactic(auto, unfolding(crate::specs::FlowTables::new_visits, crate::specs::FlowTables::new_visits_by))]
 fn new_visits<R: Remover>(
     alloc: Global,
@@ -159,7 +169,8 @@ fn new_visits<R: Remover>(
 ) -> Result<List<R::Value>, Fault<Wide>>
     requires j { is_live (R.graph (R.present net.now)) j ≡ true }
     requires l { l < size (R.graph (R.present net.now)) }
-    ensures { Makes (map R.Value.parts) result (new_visits R.Value.kind (R.graph (R.present net.now)) j earlier.now (map (map R.Value.parts) visits.now) l) }
+    ensures { Makes (map R.Value.parts) result (new_visits R.Value.kind (R.graph (R.present net.now)) j earlier.now (map
+        (map R.Value.parts) visits.now) l) }
 {
     let own = row(visits, l);
     if is_gone(net, j, l) {
@@ -171,7 +182,7 @@ fn new_visits<R: Remover>(
     }
 }
 
-/// The exit of `r` to `k` now.
+/// Returns the exit of `r` to `k` now.
 #[tactic(auto, unfolding(removal::specs::WrittenRemoval::is_gone, crate::specs::FlowTables::new_exit))]
 fn new_exit<R: Remover>(
     net: &R,
@@ -193,7 +204,7 @@ fn new_exit<R: Remover>(
     number(own, r).add(&through).map_err(|wide| wide.at(place))
 }
 
-/// The row of the exits to `k`.
+/// Returns the row of the exits to `k`.
 #[tactic(auto, unfolding(removal::specs::WrittenRemoval::is_gone, crate::specs::FlowTables::new_exits))]
 fn new_exits<R: Remover>(
     alloc: Global,
@@ -205,7 +216,8 @@ fn new_exits<R: Remover>(
 ) -> Result<List<R::Value>, Fault<Wide>>
     requires j { is_live (R.graph (R.present net.now)) j ≡ true }
     requires k { k < size (R.graph (R.present net.now)) }
-    ensures { Makes (map R.Value.parts) result (new_exits R.Value.kind (R.graph (R.present net.now)) j earlier.now (map (map R.Value.parts) exits.now) k) }
+    ensures { Makes (map R.Value.parts) result (new_exits R.Value.kind (R.graph (R.present net.now)) j earlier.now (map
+        (map R.Value.parts) exits.now) k) }
 {
     let (removed, own) = (row(exits, j), row(exits, k));
     if is_gone(net, j, k) {
@@ -217,7 +229,7 @@ fn new_exits<R: Remover>(
     Ok(next)
 }
 
-/// The rows of what each hypothesis sends.
+/// Returns the rows of what each hypothesis sends.
 #[tactic(auto, using(crate::proofs::TableAnswers::each_none, crate::proofs::TableAnswers::each_more, field_core::proofs::Fills::each_fault))]
 fn all_visits<R: Remover>(
     alloc: Global,
@@ -237,7 +249,7 @@ fn all_visits<R: Remover>(
     Ok(rows)
 }
 
-/// The rows of the exits to each hypothesis.
+/// Returns the rows of the exits to each hypothesis.
 #[tactic(auto, using(crate::proofs::TableAnswers::each_none, crate::proofs::TableAnswers::each_more, field_core::proofs::Fills::each_fault))]
 fn all_exits<R: Remover>(
     alloc: Global,
@@ -257,7 +269,7 @@ fn all_exits<R: Remover>(
     Ok(rows)
 }
 
-/// A row for each hypothesis: 1 at itself, and else 0.
+/// Returns a row for each hypothesis: 1 at itself, and else 0.
 #[tactic(auto, unfolding(crate::specs::FlowTables::first_tables), using(crate::proofs::RowAnswers::range_more, crate::proofs::RowAnswers::put_seen))]
 fn unit_rows<F: Number>(alloc: Global, size: usize) -> Result<List<List<F>>, NoMemory>
     ensures { IfOk result (λ rows. map (map F.parts) rows ≡ (first_tables F.kind size).visits) }
@@ -271,7 +283,7 @@ fn unit_rows<F: Number>(alloc: Global, size: usize) -> Result<List<List<F>>, NoM
     Ok(rows)
 }
 
-/// A row of zeros for each hypothesis.
+/// Returns a row of zeros for each hypothesis.
 #[tactic(auto, unfolding(crate::specs::FlowTables::first_tables), using(std::proofs::lemmas::List::replicate_more, std::proofs::lemmas::List::map_push))]
 fn zero_rows<F: Number>(alloc: Global, size: usize) -> Result<List<List<F>>, NoMemory>
     ensures { IfOk result (λ rows. map (map F.parts) rows ≡ (first_tables F.kind size).exits) }
@@ -283,7 +295,7 @@ fn zero_rows<F: Number>(alloc: Global, size: usize) -> Result<List<List<F>>, NoM
     Ok(rows)
 }
 
-/// The tables of a component of so many hypotheses before the first step.
+/// Returns the tables of a component of a number of hypotheses before the first step.
 #[tactic(auto, unfolding(crate::specs::FlowTables::first_tables))]
 pub fn first_tables<F: Number>(alloc: Global, size: usize) -> Result<Tables<F>, NoMemory>
     ensures { IfOk result (λ t. tables_of F.parts t ≡ first_tables F.kind size) }
@@ -295,7 +307,7 @@ pub fn first_tables<F: Number>(alloc: Global, size: usize) -> Result<Tables<F>, 
     })
 }
 
-/// The same rows.
+/// Returns the same rows.
 #[tactic(auto, using(std::proofs::lemmas::List::take_more, std::proofs::lemmas::List::take_all))]
 fn copy_rows<F: Number>(alloc: Global, rows: &List<List<F>>) -> Result<List<List<F>>, NoMemory>
     ensures { IfOk result (λ copied. copied ≡ rows.now) }
@@ -307,7 +319,7 @@ fn copy_rows<F: Number>(alloc: Global, rows: &List<List<F>>) -> Result<List<List
     Ok(copied)
 }
 
-/// What flows after a step; the last step leaves it.
+/// Returns what flows after a step; the last step leaves it.
 fn flows_after<R: Remover>(
     alloc: Global,
     net: &R,
@@ -327,7 +339,7 @@ fn flows_after<R: Remover>(
     new_flows(alloc, net, j, earlier, tables)
 }
 
-/// What each hypothesis sends after a step; the last step leaves it.
+/// Returns what each hypothesis sends after a step; the last step leaves it.
 fn visits_after<R: Remover>(
     alloc: Global,
     net: &R,
@@ -347,7 +359,7 @@ fn visits_after<R: Remover>(
     all_visits(alloc, net, j, earlier, visits)
 }
 
-/// The exits after a step; where no hypothesis is kept they are left.
+/// Returns the exits after a step; where no hypothesis is kept they are left.
 fn exits_after<R: Remover>(
     alloc: Global,
     net: &R,
@@ -367,7 +379,7 @@ fn exits_after<R: Remover>(
     Ok(copy_rows(alloc, exits)?)
 }
 
-/// The tables after a step.
+/// Returns the tables after a step.
 pub fn tables_after<R: Remover>(
     alloc: Global,
     net: &R,

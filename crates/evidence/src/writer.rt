@@ -6,7 +6,16 @@ ghost use Rattle.case_model.specs.CaseView.{content};
 ghost use Rattle.evidence_check.specs.declared.quantity.Quantity.TheVariants.{Flow, Exit};
 ghost use Rattle.evidence_check.specs.EvidenceParts.{AreFull, FlowsFit, ExitsFit};
 ghost use Rattle.evidence_check.specs.EvidenceView.{hypotheses_of, step_parts, keep_parts, FitsCase, IsEvidenceFor};
-ghost use Rattle.evidence_check.specs.Documents.{keyword, SaysVersion, SaysStep, SaysNumber, SaysKeep, number_forms, list_forms, step_forms};
+ghost use Rattle.evidence_check.specs.Documents.{
+  keyword,
+  SaysVersion,
+  SaysStep,
+  SaysNumber,
+  SaysKeep,
+  number_forms,
+  list_forms,
+  step_forms,
+};
 ghost use Rattle.evidence_check.specs.Documents.{keep_forms, evidence_forms};
 ghost use Rattle.evidence_check.specs.NumberTexts.{number_text};
 ghost use Rattle.evidence_check.specs.DocumentStatements.{SaysEvidence, evidence_text};
@@ -83,7 +92,8 @@ fn put_number<F: WrittenNumber>(
 ) -> Result<(), NoMemory>
     requires c { c < 8 }
     requires hypothesis { hypothesis < length (content case.now).names }
-    ensures { OnOk result (text.new ≡ text.old ++ form_text F.numbers (content case.now) (SaysNumber quantity c hypothesis (F.parts number.now))) }
+    ensures { OnOk result (text.new ≡ text.old ++ form_text F.numbers (content case.now)
+        (SaysNumber quantity c hypothesis (F.parts number.now))) }
 {
     text.append(keyword(quantity))?;
     put_whole(text, c as u8 + 1)?;
@@ -160,7 +170,7 @@ fn put_kept<F: WrittenNumber>(
     text.push(b'\n')
 }
 
-/// Appends a step behind others.
+/// Appends a step after others.
 fn put_step<F: WrittenNumber>(
     text: &mut List<u8>,
     case: &Case,
@@ -185,7 +195,8 @@ fn put_steps<F: WrittenNumber>(
 ) -> Result<(), NoMemory>
     requires known { All (λ j. j < length (content case.now).names) (hypotheses_of steps.now) }
     requires fit { FlowsFit (length (content case.now).components) 0 (map (step_parts F.parts) steps.now) }
-    ensures { OnOk result (text.new ≡ text.old ++ forms_text F.numbers (content case.now) (step_forms [] (map (step_parts F.parts) steps.now))) }
+    ensures { OnOk result (text.new ≡ text.old ++ forms_text F.numbers (content case.now) (step_forms [] (map
+        (step_parts F.parts) steps.now))) }
 {
     for s in 0..steps.len() {
         put_step(text, case, &steps[..s], &steps[s])?;
@@ -229,13 +240,14 @@ fn put_keeps<F: WrittenNumber>(
     Ok(())
 }
 
-/// The text of evidence in these numbers.
+/// Returns the text of evidence in these numbers.
 fn written<F: WrittenNumber>(
     alloc: Global,
     case: &Case,
     proof: &Steps<F>,
 ) -> Result<List<u8>, NoMemory>
-    requires { FitsCase (content case.now) proof.now.version (map (step_parts F.parts) proof.now.steps) (map (keep_parts F.parts) proof.now.keeps) }
+    requires { FitsCase (content case.now) proof.now.version (map (step_parts F.parts) proof.now.steps)
+        (map (keep_parts F.parts) proof.now.keeps) }
     ensures { IfOk result (λ text. text ≡ forms_text F.numbers (content case.now)
         (evidence_forms proof.now.version (map (step_parts F.parts) proof.now.steps) (map (keep_parts F.parts) proof.now.keeps))) }
 {
@@ -248,12 +260,12 @@ fn written<F: WrittenNumber>(
     Ok(text)
 }
 
-/// The text of evidence for a case, or `NoMemory`.
+/// Returns the text of evidence for a case, or `NoMemory`.
 ///
 /// Its lines are those that `evidence_check::read` reads, in their order, with one blank between words and a line feed
-/// behind each line. Numbers are written by `Fraction::print` where the case is plain, and else by `EpsQuotient::print`.
-/// The text says this evidence and no other, so `evidence_check::read` gives it back. Nothing is asked of the p-values of
-/// the case.
+/// after each line. Numbers are written by `Fraction::print` where the case is plain, and else by `EpsQuotient::print`.
+/// The text says this evidence and no other, so `evidence_check::read` gives it back. Nothing is asked of the p-values
+/// of the case.
 pub fn write(alloc: Global, case: &Case, proof: &Evidence) -> Result<List<u8>, NoMemory>
     requires { IsEvidenceFor (content case.now) proof.now }
     ensures text { IfOk result (λ text. text ≡ evidence_text (content case.now) proof.now) }
