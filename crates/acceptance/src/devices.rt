@@ -70,7 +70,7 @@ impl Devices<'_> {
         Ok(())
     }
 
-    /// Returns a sink without room holds what fits.
+    /// Compares what a sink without room holds with what fits.
     fn rooms(&self, findings: &mut Findings) -> Result<()> {
         for room in 0..self.text.len() {
             let wanted = Wanted {

@@ -75,7 +75,7 @@ impl<'a> Fronts<'a> {
         self.expect_counts(findings, row, statuses.as_slice())
     }
 
-    /// Returns a run over a front part that ends with another status than 0 and 1 prints one line.
+    /// Reports a run over a front part that ends with another status than 0 and 1 and does not print one line.
     fn expect_line(
         &self,
         findings: &mut Findings,
@@ -96,7 +96,7 @@ impl<'a> Fronts<'a> {
         Ok(())
     }
 
-    /// Returns a number of runs end with each status, and none with another.
+    /// Compares how many runs end with each status, and that none ends with another.
     fn expect_counts(&self, findings: &mut Findings, row: &Row, statuses: &[u8]) -> Result<()> {
         let mut all: usize = 0;
         for (status, wanted) in self.counts.iter().copied() {

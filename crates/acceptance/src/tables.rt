@@ -57,7 +57,7 @@ fn expect_left(findings: &mut Findings, row: &Row, ended: &Ended) -> Result<()> 
     Ok(())
 }
 
-/// Returns what is printed is to have the length and the digest that the row says.
+/// Compares the length and the digest of what is printed with those of the row.
 fn expect_counts(findings: &mut Findings, row: &Row, ended: &Ended) -> Result<()> {
     if let Some(wanted) = row.counts {
         let came = Counts::of(ended.printed.as_slice());

@@ -42,7 +42,7 @@ fn a_whole_input(rt: HostRuntime) -> Result<(), Fail> {
     }
 }
 
-/// Returns what is put of an outcome.
+/// Holds a call to what is put of an outcome.
 fn expect(
     rt: &impl Abort,
     alloc: Global,

@@ -36,7 +36,7 @@ pub fn header(alloc: Global, row: &ByteRecord) -> Result<List<Text>, CsvFault>
     Ok(names(alloc, row)?)
 }
 
-/// Returns copies the cells of a record after the first three.
+/// Copies the cells of a record after the first three.
 fn names(alloc: Global, row: &ByteRecord) -> Result<List<Text>, NoMemory>
     requires { 3 ≤ length (cells row.now) }
     ensures { IfOk result (λ names. names ≡ drop 3 (cells row.now)) }

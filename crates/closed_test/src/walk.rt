@@ -14,7 +14,7 @@ use case_model::Case;
 use entangled::CaseNet;
 use field_core::WideAt;
 
-/// Returns the nets become those of `parent`, with `j` removed.
+/// Makes the nets those of `parent`, with `j` removed.
 fn set_and_remove(nets: &mut CaseNet, parent: &CaseNet, j: usize) -> Result<(), WideAt>
     requires numbers { case_numbers (case_state nets.old) ≡ case_numbers (case_state parent.now) }
     requires size { case_size (case_state nets.old) ≡ case_size (case_state parent.now) }
@@ -26,7 +26,7 @@ fn set_and_remove(nets: &mut CaseNet, parent: &CaseNet, j: usize) -> Result<(), 
     nets.remove(j)
 }
 
-/// Returns the nets below this depth become those at it, with `j` removed.
+/// Makes the nets below this depth those at it, with `j` removed.
 fn enter(nets: &mut [CaseNet], depth: usize, j: usize) -> Result<(), WideAt>
     requires depth { depth + 1 < length nets.old }
     requires numbers { (d : CaseState) → case_numbers (get_or (map case_state nets.old)

@@ -24,7 +24,7 @@ use crate::{CheckWide, Evidence, KeepProof, ProofStep, Steps, Verdict};
 use case_model::Case;
 use case_numbers::CaseNumber;
 
-/// Returns an event with the number of its step or keep.
+/// Returns an event, if there is one, with the number of its step or keep.
 #[tactic(auto, unfolding(crate::specs::CheckSteps::numbered))]
 fn numbered(number: usize, checked: Result<(), CheckEvent>) -> Result<(), CheckEventAt>
     ensures { result ≡ numbered number checked }
@@ -49,7 +49,7 @@ pub fn verdict(checked: Result<(), CheckEventAt>) -> Result<Verdict, CheckWide>
     }
 }
 
-/// Returns the conditions on all steps, in their order. Where they are met, the steps are of distinct hypotheses.
+/// Tests the conditions on all steps, in their order. Where they are met, the steps are of distinct hypotheses.
 pub fn steps<F: CaseNumber>(case: &Case, steps: &[ProofStep<F>]) -> Result<(), CheckEventAt>
     requires single { IsSingle (content case.now).inputs }
     requires below { All (λ s. s.hypothesis < length (content case.now).names) (map (step_parts F.parts) steps.now) }
@@ -66,7 +66,7 @@ pub fn steps<F: CaseNumber>(case: &Case, steps: &[ProofStep<F>]) -> Result<(), C
     Ok(())
 }
 
-/// Returns the conditions on all keeps, in their order, after this number of steps.
+/// Tests the conditions on all keeps, in their order, after this number of steps.
 pub fn keeps<F: CaseNumber>(
     case: &Case,
     steps: &[ProofStep<F>],
@@ -86,7 +86,7 @@ pub fn keeps<F: CaseNumber>(
     Ok(())
 }
 
-/// Returns the whole check of evidence, in these numbers. The loading of the case is step 0.
+/// Checks evidence, in these numbers. The loading of the case is step 0.
 fn checked<F: EvidenceNumber>(case: &Case, proof: &Steps<F>) -> Result<(), CheckEventAt>
     requires single { IsSingle (content case.now).inputs }
     requires runs { CanRunIn F.numbers (content case.now) }
@@ -103,7 +103,7 @@ fn checked<F: EvidenceNumber>(case: &Case, proof: &Steps<F>) -> Result<(), Check
     keeps(case, listed, kept)
 }
 
-/// Returns the whole check of evidence for a case.
+/// Checks evidence for a case.
 fn checked_for(case: &Case, proof: &Evidence) -> Result<(), CheckEventAt>
     requires single { IsSingle (content case.now).inputs }
     requires fits { IsEvidenceFor (content case.now) proof.now }

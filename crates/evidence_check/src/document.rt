@@ -252,7 +252,7 @@ fn nothing_behind(lines: &mut Lines) -> Result<(), ProofText>
     }
 }
 
-/// Returns the end, in this line, and no line after it.
+/// Reads the end, in this line, and that no line follows it.
 pub fn end(lines: &mut Lines, line: &Line) -> Result<(), ProofText>
     ensures found { IfOk result (λ _. EndRead (end_at lines.old) (rows_from line.now lines.old)) }
     ensures fault { IfErr result (EndStops (end_at lines.old) (rows_from line.now lines.old)) }

@@ -45,7 +45,7 @@ fn keep_level<F: CaseNumber>(
     level(case, k, |c| limit(case, steps, lists, k, c))
 }
 
-/// Returns the conditions on a keep after all steps, in their order.
+/// Tests the conditions on a keep after all steps, in their order.
 pub fn keep<F: CaseNumber>(
     case: &Case,
     steps: &[ProofStep<F>],

@@ -98,7 +98,7 @@ pub fn number<F: EvidenceNumber>(
     }
 }
 
-/// Returns the keep of the hypothesis of this name.
+/// Reads the keep of the hypothesis of this name.
 #[tactic(auto, unfolding(crate::specs::Documents::keep_line))]
 pub fn keep(line: &Line, name: &[u8]) -> Result<(), ProofKind>
     ensures said { (T : Frame) (h : ℕ) → T.name h ≡ name.now
@@ -117,7 +117,7 @@ pub fn keep(line: &Line, name: &[u8]) -> Result<(), ProofKind>
     }
 }
 
-/// Returns the end.
+/// Reads the end.
 #[tactic(auto, unfolding(crate::specs::Documents::end_line))]
 pub fn end(line: &Line) -> Result<(), ProofKind>
     ensures said { ok_map (λ _. SaysEnd) result ≡ end_line (words_of line.now.text.now) }

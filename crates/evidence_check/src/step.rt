@@ -81,7 +81,7 @@ fn step_level<F: CaseNumber>(
     level(case, k, |c| limit(case, earlier, lists, k, c))
 }
 
-/// Returns the conditions on a step after earlier ones, in their order.
+/// Tests the conditions on a step after earlier ones, in their order.
 pub fn step<F: CaseNumber>(
     case: &Case,
     earlier: &[ProofStep<F>],

@@ -11,7 +11,7 @@ use crate::event::CheckEvent;
 use field_core::{Number, Place, TooWide};
 use std::cmp::Ordering;
 
-/// Returns a condition by its test, and the reason where it is broken.
+/// Returns the reason if a test of a condition fails.
 #[tactic(auto, unfolding(crate::specs::CheckSteps::require))]
 pub fn require(test: bool, reason: Reason) -> Result<(), CheckEvent>
     ensures { result ≡ require test reason }
@@ -23,7 +23,7 @@ pub fn require(test: bool, reason: Reason) -> Result<(), CheckEvent>
     }
 }
 
-/// Returns what `test` finds at 0, 1, .. below `count`, up to the first event.
+/// Makes a test at 0, 1, .. below `count`, up to the first event.
 #[tactic(auto, using(crate::proofs::AllSteps::all_none, crate::proofs::AllSteps::all_next, crate::proofs::AllSteps::all_refused))]
 pub fn all_below<T: Fn(usize) -> Result<(), CheckEvent>>(
     count: usize,

@@ -56,7 +56,7 @@ fn answer<S: Source, T: Source>(
     }
 }
 
-/// Returns all that the program does. `words` are the words after the program's name, `case` is standard input, `proof`
+/// Makes a call of the program: all that it does. `words` are the words after the program's name, `case` is standard input, `proof`
 /// is the file that `file_word` names, and `out` gets the text of the answer, or one line that says why there is none.
 /// A source that the command doesn't read stays as it was; `proof` is read only after a case that the command can take.
 /// Of a source that isn't read to its end, at most one byte more than it may have is taken.

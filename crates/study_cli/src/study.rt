@@ -121,7 +121,7 @@ fn answer<S: Source, T: Source, K: Keeper>(
     }
 }
 
-/// Returns all that the program does where its first word is `study`. `words` are the words after the program's name,
+/// Makes a call of the program whose first word is `study`: all that it does. `words` are the words after the program's name,
 /// `case` is standard input, `commands` is the file that `file_word` names, `keeper` keeps the looks, and `out` gets
 /// the text of the answer, or one line that says why there is none. A source that isn't read stays as it was:
 /// `commands` is read only after a case that a study can take, and `keeper` is asked only after commands that are all

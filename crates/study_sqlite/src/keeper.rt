@@ -44,7 +44,7 @@ impl SqliteKeeper {
         }
     }
 
-    /// Returns copies what the log beside the file holds into the file, where it was opened, and gives both back; they
+    /// Copies what the log beside the file holds into the file, where it was opened, and gives both back; they
     /// are closed when they are let go. The last commit is in the file then, without the log and also after a crash, as
     /// long as the disk returned what was written. Where that is refused, the log still holds it, and the next opening
     /// finds it there.

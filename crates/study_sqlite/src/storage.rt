@@ -66,7 +66,7 @@ impl Storage {
         }
     }
 
-    /// Returns copies the log into the file where it was opened, and gives both back; they are closed when they are let go.
+    /// Copies the log into the file where it was opened, and gives both back; they are closed when they are let go.
     pub fn close(self) -> Result<Closed, FileFault>
         ensures closed { IfOk result (IsClosed self) }
         ensures why { IfErr result (IsCloseFault self) }

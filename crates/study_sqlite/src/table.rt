@@ -127,7 +127,7 @@ fn put_values<S: Alter>(
     )
 }
 
-/// Returns copies the log into the file, and gives both back; they are closed when they are let go. The last commit is
+/// Copies the log into the file, and gives both back; they are closed when they are let go. The last commit is
 /// in the file then, as long as the disk returned what was written.
 pub fn close(connection: FileConnection) -> Result<Files<File>, FileFault>
     ensures copied { IfOk result (IsCopiedTo connection) }

@@ -32,7 +32,7 @@ fn on_case(command: &Command) -> Wanted {
     }
 }
 
-/// Returns these words ask for this.
+/// Holds these words to what they ask for.
 fn expect(rt: &impl Abort, alloc: Global, words: &[&str], wanted: Wanted) -> Result<(), NoMemory> {
     let words = words_of(alloc, words)?;
     match read_words(words.as_slice()) {

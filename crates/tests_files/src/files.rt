@@ -41,6 +41,15 @@ pub fn keeper_at(rt: &HostRuntime, path: &str) -> Option<SqliteKeeper> {
     Some(SqliteKeeper::at(rt, path))
 }
 
+/// Returns a keeper over a file that is opened and has the table, unless one of these is refused.
+fn keeper_over(rt: &HostRuntime, path: &str) -> Option<SqliteKeeper> {
+    let mut connection = table::open(rt, path).ok()?;
+    let made = table::make(&mut connection);
+    let keeper = SqliteKeeper::new(connection);
+    made.ok()?;
+    Some(keeper)
+}
+
 /// Puts looks into a keeper, up to the first that it refuses.
 fn put<K: Keeper>(alloc: Global, keeper: &mut K, looks: &[Look]) -> Result<(), KeeperFault> {
     for look in looks {
@@ -92,6 +101,21 @@ fn looks_are_kept_in_their_order(rt: HostRuntime) {
     assert!(rt; put_at(&rt, path, &[LATER, ONE]) == Some(Ok(())));
     assert!(rt; holds(&rt, path, &[BEFORE, LATER, ONE]) == Some(true));
     remove_folder(&rt, "kept_test");
+}
+
+#[test]
+fn a_keeper_over_an_open_file_keeps_looks(rt: HostRuntime) {
+    let path = "open_test/looks.db";
+    new_folder(&rt, "open_test");
+    let looks = looks_of(rt.alloc(), &[LATER, ONE]).expect(&rt, "looks");
+    let mut keeper = keeper_over(&rt, path).expect(&rt, "a keeper");
+    assert!(rt; put(rt.alloc(), &mut keeper, looks.as_slice()).is_ok());
+    let mut loaded = List::new(rt.alloc());
+    assert!(rt; keeper.load(rt.alloc(), &mut loaded).is_ok());
+    assert!(rt; loaded.as_slice() == looks.as_slice());
+    assert!(rt; keeper.close().is_ok());
+    assert!(rt; holds(&rt, path, &[BEFORE, LATER, ONE]) == Some(true));
+    remove_folder(&rt, "open_test");
 }
 
 #[test]
