@@ -1,7 +1,7 @@
 //! The top call for C: words, a case and a proof in, a text and a status out, all in the caller's memory.
 //!
 //! Proved:
-//! - `welungad_run`, `answers`: if the bytes are those of words, the call has the answer to these words, the case and the proof
+//! - `welungad_run`, `answers`: if the bytes are those of words, the call has the answer to them, the case and the proof
 //!   (`outcome` of `graph_cli`), or is out of memory. As much of the text as fits is put into the caller's memory, and its whole
 //!   length is reported. Status 7 comes exactly when the text doesn't fit.
 //! - `welungad_run`, `unread`: if they are not, the status is 10 and nothing is put, or the call is out of memory.
