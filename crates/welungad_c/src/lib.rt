@@ -1,10 +1,10 @@
 //! The top call for C: words, a case and a proof in, a text and a status out, all in the caller's memory.
 //!
 //! Proved:
-//! - `welungad_run`: `answers`, `unread`. If the bytes are those of words, the text and the status are those of the answer to
-//!   them, the case and the proof (`outcome` of `graph_cli`), or the call is out of memory. As much of the text as fits is put
-//!   into the caller's memory, and its whole length is reported. Status 7 comes exactly when the text doesn't fit. If the
-//!   bytes are not those of any words, the status is 10 and nothing is put, or the call is out of memory.
+//! - `welungad_run`, `answers`: if the bytes are those of words, the call has the answer to them, the case and the proof
+//!   (`outcome` of `graph_cli`), or is out of memory. As much of the text as fits is put into the caller's memory, and its whole
+//!   length is reported. Status 7 comes exactly when the text doesn't fit.
+//! - `welungad_run`, `unread`: if they are not, the status is 10 and nothing is put, or the call is out of memory.
 //! - `welungad_interface`.
 //!
 //! Not proved, as at any export: that the caller's C code keeps what `c/welungad.h` requires.
