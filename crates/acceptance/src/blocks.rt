@@ -1,5 +1,5 @@
 //! Blocks of a table: a line that says what something is, and the bytes that the lines below it say.
-use crate::pieces::said;
+use crate::pieces::bytes_of;
 use crate::printed::Printed;
 use anyhow::{Context, Result, bail};
 use std::alloc::Global;
@@ -59,7 +59,7 @@ impl<'a> Blocks<'a> {
             return self.part();
         }
         let (word, rest) = line.split_once(' ').unwrap_or((line, ""));
-        match said(self.alloc, self.blocks.as_slice(), word, rest)? {
+        match bytes_of(self.alloc, self.blocks.as_slice(), word, rest)? {
             Some(bytes) => self.put(bytes.as_slice()),
             None => self.open(number, word, rest),
         }

@@ -4,7 +4,12 @@ use anyhow::{Context, Result, bail};
 use std::alloc::Global;
 
 /// Returns the bytes that a line says, by its mark and what stands after it; or `None` where the mark is none of bytes.
-pub fn said(alloc: Global, blocks: &[Block], mark: &str, rest: &str) -> Result<Option<Vec<u8>>> {
+pub fn bytes_of(
+    alloc: Global,
+    blocks: &[Block],
+    mark: &str,
+    rest: &str,
+) -> Result<Option<Vec<u8>>> {
     let bytes = match mark {
         "|" => with_line_feed(alloc, rest)?,
         "/" => rest.as_bytes().to_vec(alloc)?,

@@ -21,7 +21,11 @@ pub struct Bundle<R: Remover> {
     shares: Vec<Fraction>,
     levels: Vec<Fraction>,
     next_levels: Vec<Fraction>,
-    ghost whole: { IsBundle R.Value.kind R.graph (record { states = map R.present nets.items; shares = shares.items; levels = map terms levels.items }) },
+    ghost whole: { IsBundle R.Value.kind R.graph (record {
+      states = map R.present nets.items;
+      shares = shares.items;
+      levels = map terms levels.items;
+    }) },
     ghost room: { length next_levels.items ≡ length levels.items },
 }
 

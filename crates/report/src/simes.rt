@@ -19,7 +19,8 @@ use std::alloc::Global;
 /// Appends the line of the bound of the set of the first leaders, of which there are `count`.
 fn put_top(text: &mut List<u8>, bounds: &Bounds, count: usize, set: u32) -> Result<(), NoMemory>
     requires { set < 2 ^ bounds_size bounds.now }
-    ensures { OnOk result (text.new ≡ text.old ++ line (codes "top " ++ decimal count ++ codes " bound " ++ decimal (bound_of bounds.now set))) }
+    ensures { OnOk result (text.new ≡ text.old
+        ++ line (codes "top " ++ decimal count ++ codes " bound " ++ decimal (bound_of bounds.now set))) }
 {
     text.append(b"top ")?;
     text.append_unsigned(count as u128)?;

@@ -24,7 +24,13 @@ pub struct Study {
     alpha: Fraction,
     values: Vec<Arrival>,
     settled: Vec<Settled>,
-    ghost whole: { IsSomeStudy (record { spends = spends; count = count; alpha = alpha; state = case_state net; looks = record { values = values.items; rejected = settled.items } }) },
+    ghost whole: { IsSomeStudy (record {
+      spends = spends;
+      count = count;
+      alpha = alpha;
+      state = case_state net;
+      looks = record { values = values.items; rejected = settled.items };
+    }) },
     ghost value_room: { count * length spends ≤ vec_capacity values },
     ghost room: { length spends ≤ vec_capacity settled },
 }

@@ -1,7 +1,7 @@
 //! What cases hold: exactly what their drafts say.
 ghost use Rattle.std.specs.Prelude.{◌≡◌, length};
 
-use crate::said::entry;
+use crate::lines::entry;
 use case_model::{
     Arrival, Case, Draft, DraftComponent, DraftEdge, DraftStages, Entry, Inputs, Spend, SpendStep,
     Stages,

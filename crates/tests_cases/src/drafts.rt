@@ -5,8 +5,8 @@ use crate::draft_faults::{
     BARE_FOUR, BARE_TWO, EDGES, FOUR, LEVELS, NAMES, ORDER, P_VALUES, POSITIONS, SHARES, TOO_MANY,
     TWO, WEIGHTS,
 };
+use crate::lines::draft;
 use crate::rows::expect;
-use crate::said::draft;
 use crate::stage_faults::STAGES;
 use case_model::{Case, CaseFault, Draft, NameIndex, Refused};
 use field_core::{List, Text};

@@ -13,13 +13,13 @@ mod draft_faults;
 #[cfg(test)]
 mod drafts;
 #[cfg(test)]
+mod lines;
+#[cfg(test)]
 mod named_graphs;
 #[cfg(test)]
 mod numbers;
 #[cfg(test)]
 mod rows;
-#[cfg(test)]
-mod said;
 #[cfg(test)]
 mod sets;
 #[cfg(test)]

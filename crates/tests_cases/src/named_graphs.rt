@@ -1,7 +1,7 @@
 //! Graphs that have names, and the refusals of sizes and seeds.
 use crate::contents::expect_case;
+use crate::lines::{draft, numbers};
 use crate::rows::{Terms, expect, fraction};
-use crate::said::{draft, numbers};
 use case_model::{Case, CaseFault, PartPlace};
 use catalogue::{
     CatalogueFault, equal_fallback, fallback, fixed_sequence, holm, improved_parallel, parallel,

@@ -1,6 +1,6 @@
 //! Entries of edges, and the numbers of cases with and without epsilon.
+use crate::lines::{entry, numbers};
 use crate::rows::{expect, fraction};
-use crate::said::{entry, numbers};
 use case_model::Entry;
 use case_numbers::CaseNumber;
 use eps_quotient::EpsQuotient;
@@ -9,7 +9,7 @@ use fraction::Fraction;
 use std::process::Abort;
 use text_lines::Words;
 
-fn said(rt: &(impl Abort + AllocGlobal), coefficients: &str) -> Entry {
+fn entry_of(rt: &(impl Abort + AllocGlobal), coefficients: &str) -> Entry {
     entry(
         rt,
         numbers(rt, Words::new(coefficients.as_bytes())).as_slice(),
@@ -21,7 +21,7 @@ const COEFFICIENTS: &[(i128, i128)] = &[(1, 2), (-1, 3), (0, 1), (2, 5), (-7, 1)
 
 #[test]
 fn an_entry_has_its_coefficients(rt: HostRuntime) {
-    let entry = said(&rt, "1/2 -1/3 0 2/5 -7");
+    let entry = entry_of(&rt, "1/2 -1/3 0 2/5 -7");
     for (power, terms) in COEFFICIENTS.iter().enumerate() {
         assert!(rt; power < 5);
         expect(
@@ -40,7 +40,7 @@ fn both<F: CaseNumber>(weight: &Fraction, edge: &Entry) -> Result<(F, F), TooWid
 #[test]
 fn a_plain_entry_is_its_first_coefficient(rt: HostRuntime) {
     let third = fraction(&rt, (1, 3));
-    let found = both::<Fraction>(&third, &said(&rt, "1/3"));
+    let found = both::<Fraction>(&third, &entry_of(&rt, "1/3"));
     assert!(rt; found == Ok((third, third)));
 }
 
@@ -56,7 +56,9 @@ fn is_over(x: &EpsQuotient, numerator: [i128; 2], denominator: i128) -> bool {
 #[test]
 fn an_entry_is_the_polynomial_of_its_coefficients(rt: HostRuntime) {
     let half = fraction(&rt, (1, 2));
-    let (weight, edge) = both::<EpsQuotient>(&half, &said(&rt, "1/2 -1/3")).expect(&rt, "too wide");
+    let (weight, edge) = both::<EpsQuotient>(&half, &entry_of(&rt, "1/2 -1/3")).expect(
+        &rt, "too wide",
+    );
     assert!(rt; is_over(&weight, [1, 0], 2));
     assert!(rt; is_over(&edge, [3, -2], 6));
 }
@@ -64,7 +66,7 @@ fn an_entry_is_the_polynomial_of_its_coefficients(rt: HostRuntime) {
 /// The common denominator has 54 digits, and the largest number of 127 bits has 39.
 #[test]
 fn a_sum_of_long_coefficients_is_too_wide(rt: HostRuntime) {
-    let entry = said(
+    let entry = entry_of(
         &rt,
         "1/1000000000000000000 1/999999999999999999 1/999999999999999997",
     );

@@ -4,8 +4,8 @@ ghost use Rattle.std.specs.List.{list_all};
 ghost use Rattle.case_model.specs.Draft.{is_short_level};
 ghost use Rattle.case_model.specs.StagedCase.{has_short_fractions};
 
+use crate::lines::spends;
 use crate::rows::{Terms, expect, fraction};
-use crate::said::spends;
 use crate::stage_faults::MET;
 use case_model::{Spend, is_level, is_p_value, is_short_level};
 use fraction::Fraction;

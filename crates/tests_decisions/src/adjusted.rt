@@ -1,6 +1,6 @@
 //! Adjusted values by hand.
 use crate::cases::{
-    CHAIN, EPSILON, FALLBACK, HOLM, NO_WEIGHT, SEQUENCE, TIE, WIDE_OPENING, expect, said,
+    CHAIN, EPSILON, FALLBACK, HOLM, NO_WEIGHT, SEQUENCE, TIE, WIDE_OPENING, case_of, expect,
 };
 use adjusted_p::{Adjusted, adjust};
 use field_core::{List, Op, Place, WideAt};
@@ -33,7 +33,7 @@ const ROWS: &[(&str, &[Value])] = &[
 ];
 
 fn adjusted(rt: &impl Abort, alloc: Global, text: &str) -> Result<List<Adjusted>, RunFault> {
-    let case = said(rt, alloc, text);
+    let case = case_of(rt, alloc, text);
     assert!(rt; is_single(&case));
     adjust(alloc, &case)
 }

@@ -88,7 +88,7 @@ pub const WIDE_OPENING: &str = "alpha 0.05\n\
     edge H1 H2 1/1000000000000000000+1/999999999999999999*\\epsilon+1/999999999999999997*\\epsilon^2\n";
 
 /// Returns the case that a text says.
-pub fn said(rt: &impl Abort, alloc: Global, text: &str) -> Case {
+pub fn case_of(rt: &impl Abort, alloc: Global, text: &str) -> Case {
     let Ok(case) = read_text(alloc, text.as_bytes()) else {
         panic!(rt; "no case");
     };

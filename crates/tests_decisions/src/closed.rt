@@ -1,6 +1,6 @@
 //! Weights and answers of all sets by hand.
 use crate::cases::{
-    CHAIN, HOLM, IMPROVED_GATEKEEPING, Parts, SEQUENCE, WIDE_OPENING, expect, fits, said,
+    CHAIN, HOLM, IMPROVED_GATEKEEPING, Parts, SEQUENCE, WIDE_OPENING, case_of, expect, fits,
 };
 use closed_test::{ClosedFault, ClosedTable, WeightTable, sets_in_order};
 use field_core::{Op, Place, WideAt};
@@ -104,7 +104,7 @@ fn has_weights(rt: &impl Abort, table: &WeightTable, wanted: &[Weight]) -> bool 
 #[test]
 fn weights_of_all_sets(rt: HostRuntime) {
     for (text, wanted) in WEIGHTS {
-        let case = said(&rt, rt.alloc(), text);
+        let case = case_of(&rt, rt.alloc(), text);
         let Ok(table) = WeightTable::build(rt.alloc(), &case) else {
             panic!(&rt; "no table");
         };
@@ -127,7 +127,7 @@ const ANSWERS: &[(u32, bool, bool)] = &[
 
 #[test]
 fn answers_of_all_sets(rt: HostRuntime) {
-    let case = said(&rt, rt.alloc(), SEQUENCE);
+    let case = case_of(&rt, rt.alloc(), SEQUENCE);
     assert!(&rt; is_single(&case));
     let Ok(table) = ClosedTable::build(rt.alloc(), &case) else {
         panic!(&rt; "no table");
@@ -183,7 +183,7 @@ const FAULTS: &[(&str, ClosedFault)] = &[
 #[test]
 fn tables_are_refused(rt: HostRuntime) {
     for (text, fault) in FAULTS {
-        let table = WeightTable::build(rt.alloc(), &said(&rt, rt.alloc(), text));
+        let table = WeightTable::build(rt.alloc(), &case_of(&rt, rt.alloc(), text));
         expect(&rt, table.err() == Some(*fault), text);
     }
 }

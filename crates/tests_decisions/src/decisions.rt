@@ -1,7 +1,7 @@
 //! Decisions by hand.
 use crate::cases::{
-    CHAIN, EPSILON, FALLBACK, HOLM, IMPROVED_GATEKEEPING, NO_WEIGHT, Parts, SEQUENCE, TIE, expect,
-    said,
+    CHAIN, EPSILON, FALLBACK, HOLM, IMPROVED_GATEKEEPING, NO_WEIGHT, Parts, SEQUENCE, TIE, case_of,
+    expect,
 };
 use field_core::{Op, Place, WideAt};
 use sequential::{Decision, Priority, RunFault, StepLine, decide, is_single};
@@ -130,7 +130,7 @@ fn decided(
     text: &str,
     priority: Priority,
 ) -> Result<Decision, RunFault> {
-    let case = said(rt, alloc, text);
+    let case = case_of(rt, alloc, text);
     assert!(rt; is_single(&case));
     decide(alloc, &case, priority)
 }

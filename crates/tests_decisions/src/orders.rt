@@ -1,5 +1,5 @@
 //! Rejections requested in any order.
-use crate::cases::{HOLM, said};
+use crate::cases::{HOLM, case_of};
 use sequential::{Trial, is_single};
 use std::process::Abort;
 use std::test::Fail;
@@ -36,7 +36,8 @@ fn ask_all(rt: &impl Abort, trial: &mut Trial, order: &[usize]) {
 /// Two hypotheses that pass on nothing, and one that doesn't pass: the order of the calls is that of the rejections.
 const APART: &str = "alpha 0.05\nhypotheses H1 H2 H3\np 0.01 0.9 0.015\nweights 1/3 1/3 1/3\n";
 
-/// A case, the order of the calls, and that of the rejections. The first two thresholds of Holm's procedure let only one hypothesis pass each.
+/// A case, the order of the calls, and that of the rejections. The first two thresholds of Holm's procedure let only one
+/// hypothesis pass each.
 const ROWS: &[(&str, &[usize], &[usize])] = &[
     (HOLM, &[0, 1, 2], &[1, 0, 2]),
     (HOLM, &[0, 2, 1], &[1, 0, 2]),
@@ -51,7 +52,7 @@ const ROWS: &[(&str, &[usize], &[usize])] = &[
 #[test]
 fn hypotheses_may_be_asked_for_in_any_order(rt: HostRuntime) -> Result<(), Fail> {
     for (text, order, rejected) in ROWS {
-        let case = said(&rt, rt.alloc(), text);
+        let case = case_of(&rt, rt.alloc(), text);
         assert!(rt; is_single(&case));
         let Ok(mut trial) = Trial::open(rt.alloc(), &case) else {
             panic!(rt; "not opened");

@@ -1,5 +1,5 @@
 //! Simes' test and its closed test of all sets, by hand.
-use crate::cases::{expect, fits, said};
+use crate::cases::{case_of, expect, fits};
 use case_model::{Case, SetTable};
 use closed_test::{ClosedTable, WeightTable};
 use discovery_bound::Bounds;
@@ -181,7 +181,7 @@ fn has_answers(rt: &impl Abort, table: &SimesTable, bounds: &Bounds, wanted: &[A
 #[test]
 fn answers_of_all_sets(rt: HostRuntime) {
     for row in ROWS {
-        let case = said(&rt, rt.alloc(), row.case);
+        let case = case_of(&rt, rt.alloc(), row.case);
         let Ok(table) = simes_table(&rt, rt.alloc(), &case) else {
             panic!(&rt; "no table");
         };
@@ -197,7 +197,7 @@ fn answers_of_all_sets(rt: HostRuntime) {
 #[test]
 fn hypotheses_come_by_their_p_values(rt: HostRuntime) {
     for row in ROWS {
-        let case = said(&rt, rt.alloc(), row.case);
+        let case = case_of(&rt, rt.alloc(), row.case);
         assert!(&rt; is_single(&case));
         let Ok(order) = leaders(rt.alloc(), &case) else {
             panic!(&rt; "no order");
@@ -209,7 +209,7 @@ fn hypotheses_come_by_their_p_values(rt: HostRuntime) {
 /// The closed test by weights rejects neither alone, nor both.
 #[test]
 fn the_closed_test_rejects_less(rt: HostRuntime) {
-    let case = said(&rt, rt.alloc(), HALVES);
+    let case = case_of(&rt, rt.alloc(), HALVES);
     assert!(&rt; is_single(&case));
     let Ok(table) = ClosedTable::build(rt.alloc(), &case) else {
         panic!(&rt; "no table");
@@ -230,7 +230,7 @@ const WIDE: &str = "alpha 0.05\n\
 
 #[test]
 fn the_first_sum_that_is_not_defined(rt: HostRuntime) {
-    let table = simes_table(&rt, rt.alloc(), &said(&rt, rt.alloc(), WIDE));
+    let table = simes_table(&rt, rt.alloc(), &case_of(&rt, rt.alloc(), WIDE));
     let wide = WideAt {
         component: 0,
         place: Place::Level(3),

@@ -2,7 +2,7 @@
 ghost use Rattle.std.specs.Prelude.{◌≡◌, IfOk};
 ghost use Rattle.staged_levels.specs.StudyAnswers.{hypothesis_of};
 
-use crate::cases::{Parts, said};
+use crate::cases::{Parts, case_of};
 use case_model::Case;
 use fraction::{Fraction, FractionFault};
 use staged_levels::{Event, Settled, StepFault, Study, is_staged};
@@ -103,7 +103,7 @@ fn are(settled: &[Settled], wanted: &[Rejection]) -> bool {
 
 #[test]
 fn each_event_is_answered(rt: HostRuntime) -> Result<(), Fail> {
-    let case = said(&rt, rt.alloc(), TWO);
+    let case = case_of(&rt, rt.alloc(), TWO);
     let mut study = opened(&rt, rt.alloc(), &case);
     for ((hypothesis, asked), wanted) in ROWS {
         let before = study.settled().len();
@@ -123,7 +123,7 @@ const TOO_WIDE: &str =
 
 #[test]
 fn rejections_stay_where_a_settling_breaks_off(rt: HostRuntime) -> Result<(), Fail> {
-    let case = said(&rt, rt.alloc(), TOO_WIDE);
+    let case = case_of(&rt, rt.alloc(), TOO_WIDE);
     let mut study = opened(&rt, rt.alloc(), &case);
     for hypothesis in 0..3 {
         assert!(rt; hypothesis < study.size());

@@ -2,7 +2,7 @@
 ghost use Rattle.std.specs.Prelude.{◌≡◌, not};
 ghost use Rattle.field_core.specs.Sets.{set_of};
 
-use crate::cases::{CHAIN, HOLM, IMPROVED_GATEKEEPING, Parts, expect, said};
+use crate::cases::{CHAIN, HOLM, IMPROVED_GATEKEEPING, Parts, case_of, expect};
 use field_core::{Number, Place};
 use sequential::{RejectFault, Trial, is_single};
 use std::alloc::Global;
@@ -66,7 +66,7 @@ const ROWS: &[Row] = &[
 const LONG: Parts = (1, 999_999_999_999_999_999_000_000_000_000_000_000);
 
 fn opened(rt: &impl Abort, alloc: Global, text: &str) -> Trial {
-    let case = said(rt, alloc, text);
+    let case = case_of(rt, alloc, text);
     assert!(rt; is_single(&case));
     let Ok(trial) = Trial::open(alloc, &case) else {
         panic!(rt; "not opened");

@@ -48,7 +48,7 @@ pub const GATEKEEPING_EVIDENCE: &str = "evidence 2\n\
     end\n";
 
 /// Returns the case that a text says.
-pub fn said(rt: &impl Abort, alloc: Global, text: &str) -> Case {
+pub fn case_of(rt: &impl Abort, alloc: Global, text: &str) -> Case {
     let Ok(case) = read_text(alloc, text.as_bytes()) else {
         panic!(rt; "no case");
     };

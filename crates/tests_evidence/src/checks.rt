@@ -1,5 +1,5 @@
 //! Documents by hand, read and checked.
-use crate::cases::{FIXED, FIXED_EVIDENCE, GATEKEEPING, GATEKEEPING_EVIDENCE, expect, said};
+use crate::cases::{FIXED, FIXED_EVIDENCE, GATEKEEPING, GATEKEEPING_EVIDENCE, case_of, expect};
 use crate::documents::{CHECKED, LONG, LONG_EVIDENCE, LONG_IS_WIDE, REFUSED, REPEATED_STEP};
 use eps_quotient::EpsQuotient;
 use evidence_check::{CheckWide, Evidence, ProofKind, ProofText, Verdict, check, fits, read};
@@ -16,7 +16,7 @@ fn checked(
     case: &str,
     document: &str,
 ) -> Option<Result<Verdict, CheckWide>> {
-    let case = said(rt, alloc, case);
+    let case = case_of(rt, alloc, case);
     let Ok(proof) = read(alloc, &case, document.as_bytes()) else {
         return None;
     };
@@ -46,7 +46,7 @@ fn refused(
     case: &str,
     document: &str,
 ) -> Option<(usize, ProofKind)> {
-    match read(alloc, &said(rt, alloc, case), document.as_bytes()) {
+    match read(alloc, &case_of(rt, alloc, case), document.as_bytes()) {
         Err(ProofText::Line(number, kind)) => Some((number, kind)),
         _ => None,
     }
@@ -65,7 +65,7 @@ fn documents_are_refused(rt: HostRuntime) {
 /// The flows of the third step, as they are read.
 #[test]
 fn documents_say_flows(rt: HostRuntime) {
-    let case = said(&rt, rt.alloc(), GATEKEEPING);
+    let case = case_of(&rt, rt.alloc(), GATEKEEPING);
     let Ok(Evidence::Eps(proof)) = read(rt.alloc(), &case, GATEKEEPING_EVIDENCE.as_bytes()) else {
         panic!(&rt; "no evidence in quotients");
     };
@@ -87,7 +87,7 @@ fn documents_say_flows(rt: HostRuntime) {
 /// The exits of both hypotheses that are kept, as they are read.
 #[test]
 fn documents_say_exits(rt: HostRuntime) {
-    let case = said(&rt, rt.alloc(), FIXED);
+    let case = case_of(&rt, rt.alloc(), FIXED);
     let Ok(Evidence::Plain(proof)) = read(rt.alloc(), &case, FIXED_EVIDENCE.as_bytes()) else {
         panic!(&rt; "no evidence in fractions");
     };
@@ -110,12 +110,12 @@ fn documents_say_exits(rt: HostRuntime) {
 /// Evidence fits no case of another form, nor one with other hypotheses left.
 #[test]
 fn evidence_fits_its_case(rt: HostRuntime) {
-    let fixed = said(&rt, rt.alloc(), FIXED);
+    let fixed = case_of(&rt, rt.alloc(), FIXED);
     let Ok(proof) = read(rt.alloc(), &fixed, FIXED_EVIDENCE.as_bytes()) else {
         panic!(&rt; "no evidence");
     };
     assert!(&rt; fits(&fixed, &proof));
-    assert!(&rt; !fits(&said(&rt, rt.alloc(), GATEKEEPING), &proof));
+    assert!(&rt; !fits(&case_of(&rt, rt.alloc(), GATEKEEPING), &proof));
     let Ok(Evidence::Plain(mut proof)) = read(rt.alloc(), &fixed, b"evidence 1\nstep H1\nend")
     else {
         panic!(&rt; "no evidence of version 1");

@@ -3,7 +3,7 @@ ghost use Rattle.std.specs.Prelude.{IfOk};
 ghost use Rattle.case_model.specs.CaseView.{content};
 ghost use Rattle.evidence_check.specs.EvidenceView.{IsEvidenceFor};
 
-use crate::cases::{FIXED, FIXED_EVIDENCE, GATEKEEPING, GATEKEEPING_EVIDENCE, expect, said};
+use crate::cases::{FIXED, FIXED_EVIDENCE, GATEKEEPING, GATEKEEPING_EVIDENCE, case_of, expect};
 use case_model::Case;
 use evidence::laws::decisions_are_complete_orders;
 use evidence::{make, write};
@@ -68,7 +68,7 @@ fn made(rt: &impl Abort, alloc: Global, case: &Case) -> Result<Evidence, RunFaul
 
 /// The evidence for the decision on a case has this text, and the checker accepts it.
 fn expect_made(rt: &impl Abort, alloc: Global, case: &str, wanted: &str) {
-    let case = said(rt, alloc, case);
+    let case = case_of(rt, alloc, case);
     let Ok(proof) = made(rt, alloc, &case) else {
         panic!(rt; "no evidence");
     };
@@ -98,7 +98,7 @@ const LONG: &str = "alpha 0.05\n\
 
 #[test]
 fn long_visits_are_too_wide(rt: HostRuntime) {
-    let proof = made(&rt, rt.alloc(), &said(&rt, rt.alloc(), LONG));
+    let proof = made(&rt, rt.alloc(), &case_of(&rt, rt.alloc(), LONG));
     let wide = WideAt {
         component: 0,
         place: Place::Visit(3, 0),

@@ -1,5 +1,5 @@
 //! Evidence by hand, read and written again.
-use crate::cases::{FIXED, FIXED_EVIDENCE, GATEKEEPING, GATEKEEPING_EVIDENCE, expect, said};
+use crate::cases::{FIXED, FIXED_EVIDENCE, GATEKEEPING, GATEKEEPING_EVIDENCE, case_of, expect};
 use evidence::write;
 use evidence_check::read;
 use field_core::List;
@@ -63,7 +63,7 @@ const WRITTEN: &[(&str, &str, &str)] = &[
 
 /// Returns the text of what a document says.
 fn rewritten(rt: &impl Abort, alloc: Global, case: &str, document: &str) -> List<u8> {
-    let case = said(rt, alloc, case);
+    let case = case_of(rt, alloc, case);
     let Ok(proof) = read(alloc, &case, document.as_bytes()) else {
         panic!(rt; "no evidence");
     };

@@ -2,7 +2,7 @@
 ghost use Rattle.std.specs.Prelude.{◌<◌, length};
 ghost use Rattle.case_model.specs.CaseView.{content};
 
-use crate::cases::{expect, said};
+use crate::cases::{case_of, expect};
 use crate::reading::{edge_of, remove, weight_of};
 use case_model::Case;
 use entangled::OpenFault;
@@ -171,7 +171,7 @@ fn are_same(rows: &RowNet, quotients: &Net<EpsQuotient>) -> bool {
 
 /// Rows and quotients stay the same while the hypotheses of a case are removed in this order.
 fn expect_same(rt: &impl Abort, alloc: Global, text: &str, order: &[usize]) {
-    let case = said(rt, alloc, text);
+    let case = case_of(rt, alloc, text);
     assert!(rt; !case.is_plain());
     assert!(rt; case.components() > 0);
     let (Ok(mut rows), Ok(mut quotients)) = (net(alloc, &case, 0), quotient_net(alloc, &case))

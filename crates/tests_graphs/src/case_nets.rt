@@ -2,7 +2,7 @@
 ghost use Rattle.std.specs.Prelude.{◌≡◌};
 ghost use Rattle.entangled.specs.CaseNetView.{case_state};
 
-use crate::cases::{CHAIN, HOLM, IMPROVED_GATEKEEPING, Terms, expect, said};
+use crate::cases::{CHAIN, HOLM, IMPROVED_GATEKEEPING, Terms, case_of, expect};
 use entangled::CaseNet;
 use field_core::{Number, Op, Place, WideAt};
 use removal::Remover;
@@ -110,7 +110,7 @@ const ROWS: &[Row] = &[
 
 /// Returns the nets of a case, with all hypotheses in.
 pub fn opened(rt: &impl Abort, alloc: Global, text: &str) -> CaseNet {
-    let Ok(nets) = CaseNet::load(alloc, &said(rt, alloc, text)) else {
+    let Ok(nets) = CaseNet::load(alloc, &case_of(rt, alloc, text)) else {
         panic!(rt; "not opened");
     };
     nets
@@ -214,7 +214,7 @@ fn remove_and_put_back(
 
 #[test]
 fn nets_are_set_to_others(rt: HostRuntime) {
-    let case = said(&rt, rt.alloc(), HOLM);
+    let case = case_of(&rt, rt.alloc(), HOLM);
     let (Ok(start), Ok(mut nets)) = (
         CaseNet::load(rt.alloc(), &case),
         CaseNet::load(rt.alloc(), &case),

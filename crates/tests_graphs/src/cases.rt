@@ -41,7 +41,7 @@ pub const CHAIN: &str = "alpha 0.05\n\
     edge C D 1/999999999999999997\n";
 
 /// Returns the case that a text says.
-pub fn said(rt: &impl Abort, alloc: Global, text: &str) -> Case {
+pub fn case_of(rt: &impl Abort, alloc: Global, text: &str) -> Case {
     let Ok(case) = read_text(alloc, text.as_bytes()) else {
         panic!(rt; "no case");
     };

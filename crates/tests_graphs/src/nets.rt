@@ -2,7 +2,7 @@
 ghost use Rattle.std.specs.Prelude.{◌≡◌, OnOk};
 ghost use Rattle.std.specs.Option.{IsSome};
 
-use crate::cases::{CHAIN, HOLM, Terms, expect, said};
+use crate::cases::{CHAIN, HOLM, Terms, case_of, expect};
 use crate::reading::{edge_of, remove, weight_of};
 use entangled::loading::net;
 use field_core::{Number, Op, Place, Ratio, Wide};
@@ -95,7 +95,7 @@ const CHAIN_OF_TWO: &Row = &Row {
 
 /// Returns the net of a graph, with all hypotheses in.
 fn opened(rt: &impl Abort, alloc: Global, text: &str) -> Net<Fraction> {
-    let case = said(rt, alloc, text);
+    let case = case_of(rt, alloc, text);
     assert!(rt; case.is_plain());
     assert!(rt; case.components() > 0);
     let Ok(net) = net(alloc, &case, 0) else {

@@ -1,5 +1,5 @@
 //! Removals from rows over one denominator, worked by hand.
-use crate::cases::{IMPROVED_GATEKEEPING, expect, said};
+use crate::cases::{IMPROVED_GATEKEEPING, case_of, expect};
 use crate::reading::{edge_of, remove, weight_of};
 use entangled::loading::net;
 use eps_quotient::EpsQuotient;
@@ -109,7 +109,7 @@ const CONTENT: &str = "alpha 0.05\n\
 
 /// Returns the rows of a graph, with all hypotheses in.
 fn opened(rt: &impl Abort, alloc: Global, text: &str) -> RowNet {
-    let case = said(rt, alloc, text);
+    let case = case_of(rt, alloc, text);
     assert!(rt; case.components() > 0);
     let Ok(net) = net(alloc, &case, 0) else {
         panic!(rt; "no rows");

@@ -1,6 +1,6 @@
 //! Where the written runs of cases are too wide, at their openings and in removals.
 use crate::case_nets::{opened, remove};
-use crate::cases::{expect, said};
+use crate::cases::{case_of, expect};
 use entangled::{CaseNet, OpenFault};
 use field_core::{Op, Place, WideAt};
 use std::alloc::Global;
@@ -122,7 +122,7 @@ const REMOVALS: &[(&str, Place)] = &[
 
 /// Returns the first operation of the opening that is too wide, if one is.
 fn wide_opening(rt: &impl Abort, alloc: Global, text: &str) -> Option<WideAt> {
-    match CaseNet::load(alloc, &said(rt, alloc, text)) {
+    match CaseNet::load(alloc, &case_of(rt, alloc, text)) {
         Err(OpenFault::Wide(wide)) => Some(wide),
         _ => None,
     }
