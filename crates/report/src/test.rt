@@ -22,7 +22,7 @@ use adjusted_p::Adjusted;
 use case_model::{Case, Inputs};
 use field_core::{List, NoMemory};
 use fraction::Fraction;
-use sequential::{Decision, StepLine};
+use sequential::{Decision, KeptLine, StepLine};
 use std::alloc::Global;
 
 /// Returns the p-value of the hypothesis at a position.
@@ -83,7 +83,7 @@ fn put_steps(text: &mut List<u8>, case: &Case, steps: &[StepLine]) -> Result<(),
 
 /// Appends a hypothesis that is kept.
 #[tactic(auto, unfolding(crate::specs::TestReport::kept_line))]
-fn put_kept_line(text: &mut List<u8>, case: &Case, kept: &StepLine) -> Result<(), NoMemory>
+fn put_kept_line(text: &mut List<u8>, case: &Case, kept: &KeptLine) -> Result<(), NoMemory>
     requires single { IsSingle (content case.now).inputs }
     requires below { kept.now.hypothesis < length (content case.now).names }
     ensures { OnOk result (text.new ≡ text.old ++ kept_line (content case.now) kept.now) }
@@ -94,7 +94,7 @@ fn put_kept_line(text: &mut List<u8>, case: &Case, kept: &StepLine) -> Result<()
 }
 
 /// Appends the hypotheses that are kept.
-fn put_kept(text: &mut List<u8>, case: &Case, kept: &[StepLine]) -> Result<(), NoMemory>
+fn put_kept(text: &mut List<u8>, case: &Case, kept: &[KeptLine]) -> Result<(), NoMemory>
     requires single { IsSingle (content case.now).inputs }
     requires of_case { AreOfCase (content case.now) kept.now }
     ensures { OnOk result (text.new ≡ text.old ++ flat_map (kept_line (content case.now)) kept.now) }

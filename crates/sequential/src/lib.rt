@@ -21,7 +21,7 @@ pub mod laws;
 mod priority;
 mod trial;
 
-pub use decision::{Decision, RatioStep, StepLine, decide};
+pub use decision::{Decision, KeptLine, RatioStep, StepLine, decide};
 pub use fault::{DecideFault, RejectFault, RunFault};
 pub use priority::Priority;
 pub use trial::{Trial, is_single, single_p_values};
