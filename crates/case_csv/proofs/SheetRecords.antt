@@ -19,7 +19,7 @@ use Rattle.csv.specs.declared.parser.State.TheVariants as st
 use Rattle.csv.proofs.RoundTrip.{read-write}
 use Rattle.field_core.specs.View.{terms}
 use Rattle.field_core.specs.declared.ratio.Ratio.{Ratio}
-use Rattle.fraction.specs.Numeral.{IsNumeralOf}
+use Rattle.numerals.specs.Numeral.{IsNumeralOf}
 use Rattle.fraction.specs.Spelling.{IsSpellingByte}
 use Rattle.fraction.proofs.ReadBack.{spelling_bytes, spelling_some}
 use Rattle.case_model.specs.Sums.{ratio_at}
@@ -39,7 +39,7 @@ use Rattle.case_csv.specs.Sheet.{header_fields, p_field, row_fields}
 use Rattle.case_csv.specs.declared.fault.RowKind.TheVariants.{Number}
 use Rattle.field_core.specs.Answers.{mapped, told_as}
 use Rattle.case_csv.specs.Table.{Cells, bare, header_of, is_missing, given_or, p_value_of, entries_of, RowSaid, row_of, rows_of}
-use Rattle.numerals.proofs.Numerals.{numeral_ok}
+use Rattle.fraction.proofs.Numerals.{numeral_ok}
 use Rattle.entries.proofs.Entries.{entry_ok}
 use Rattle.case_csv.proofs.RecordsLeft.{one_left, none_left}
 use Rattle.case_csv.proofs.SheetDrafts.{p_at, content_with, said_at}

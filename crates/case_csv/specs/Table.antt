@@ -6,7 +6,7 @@ use Rattle.std.specs.Str.{bytes_eq}
 use Rattle.field_core.specs.declared.ratio.Ratio.{Ratio}
 use Rattle.field_core.specs.Answers.{◌>>=◌, mapped, told_as}
 use Rattle.fraction.specs.Plain.{one_reduced}
-use Rattle.numerals.specs.Numerals.{numeral_of}
+use Rattle.fraction.specs.Numerals.{numeral_of}
 use Rattle.case_model.specs.declared.draft.Draft.{Draft}
 use Rattle.case_model.specs.declared.draft_component.DraftComponent.{DraftComponent}
 use Rattle.case_model.specs.declared.draft_edge.DraftEdge.{DraftEdge}

@@ -82,7 +82,7 @@ fn is_missing(cell: &[u8]) -> bool
 pub fn numeral(cell: &[u8]) -> Result<Fraction, RowKind>
     ensures { result ≡ number_of cell.now }
 {
-    numerals::numeral(cell).map_err(RowKind::Number)
+    Fraction::parse(cell).map_err(RowKind::Number)
 }
 
 /// Reads a p-value, or none from a cell that is empty or `NA`.
@@ -100,5 +100,5 @@ pub fn p_value(cell: &[u8]) -> Result<Option<Fraction>, RowKind>
 pub fn entry(cell: &[u8]) -> Result<Entry, RowKind>
     ensures { result ≡ edge_of cell.now }
 {
-    entries::entry(cell).map_err(RowKind::Expr)
+    entries::read_entry(cell).map_err(RowKind::Expr)
 }

@@ -4,7 +4,7 @@ use Rattle.std.specs.Prelude.{codes, unsigned_abs, nat_le, ◌^◌, ok_or, optio
 use Rattle.std.specs.Fmt.{decimal}
 use Rattle.field_core.specs.Answers.{and_then, mapped, told_as}
 use Rattle.field_core.specs.declared.ratio.Ratio.{Ratio}
-use Rattle.numerals.specs.Numerals.{numeral_of}
+use Rattle.fraction.specs.Numerals.{numeral_of}
 use Rattle.case_model.specs.declared.spend.Spend.TheVariants.{Shares, Table}
 use Rattle.case_model.specs.Names.{position_of}
 use Rattle.entries.specs.Entries.{entry_of}

@@ -4,7 +4,7 @@ use Rattle.std.specs.Prelude.{codes, nat_le, ok_or, option_and_then}
 use Rattle.field_core.specs.Answers.{and_then, ◌>>=◌, mapped, told_as}
 use Rattle.field_core.specs.declared.ratio.Ratio.{Ratio}
 use Rattle.fraction.specs.Plain.{zero_reduced, one_reduced}
-use Rattle.numerals.specs.Numerals.{numeral_of}
+use Rattle.fraction.specs.Numerals.{numeral_of}
 use Rattle.case_model.specs.declared.draft.Draft.{Draft}
 use Rattle.case_model.specs.declared.draft_component.DraftComponent.{DraftComponent}
 use Rattle.case_model.specs.declared.draft_edge.DraftEdge.{DraftEdge}

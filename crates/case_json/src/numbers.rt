@@ -5,7 +5,7 @@ ghost use Rattle.serde_json.specs.View.{view, number_view};
 ghost use Rattle.field_core.specs.Answers.{told_as};
 ghost use Rattle.case_json.specs.Answers.{IsAnswer, at, at_or, list_of};
 ghost use Rattle.case_json.specs.Document.{number_of, place_of, count_of};
-ghost use Rattle.numerals.specs.Numerals.{numeral_of};
+ghost use Rattle.fraction.specs.Numerals.{numeral_of};
 ghost use Rattle.case_json.specs.WholeRatios.{whole_ratio};
 ghost use Rattle.case_json.specs.declared.fault.JsonFault.TheVariants.{Number as refused};
 
@@ -43,7 +43,7 @@ pub fn whole(number: i128) -> Fraction
 fn numeral(alloc: Global, text: &[u8]) -> Result<Fraction, JsonFault>
     ensures { IsAnswer result (told_as (refused []) (numeral_of text.now)) }
 {
-    match numerals::numeral(text) {
+    match Fraction::parse(text) {
         Ok(value) => Ok(value),
         Err(fault) => Err(JsonFault::Number(Text::copy(alloc, b"")?, fault)),
     }

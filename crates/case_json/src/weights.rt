@@ -22,7 +22,7 @@ use std::alloc::Global;
 fn expression(alloc: Global, text: &[u8]) -> Result<Entry, JsonFault>
     ensures { IsAnswer result (told_as (expr []) (entry_of text.now)) }
 {
-    match entries::entry(text) {
+    match entries::read_entry(text) {
         Ok(entry) => Ok(entry),
         Err(fault) => Err(JsonFault::Expr(Text::copy(alloc, b"")?, fault)),
     }

@@ -10,10 +10,10 @@ use Rattle.field_core.specs.View.{terms}
 use Rattle.field_core.specs.declared.ratio.Ratio.{Ratio}
 use Rattle.fraction.specs.declared.fault.FractionFault.{FractionFault}
 use Rattle.fraction.specs.declared.fault.FractionFault.TheVariants.{ZeroDenominator, TooWide}
-use Rattle.fraction.specs.Lowest.{lowest_of, differ, lowest_terms, HasWidePart}
+use Rattle.numerals.specs.Lowest.{lowest_of, differ, lowest_terms, HasWidePart}
 use Rattle.fraction.specs.Plain.{plain, fraction_parts}
 use Rattle.fraction.proofs.SameRatios.{same_ratio}
-use Rattle.fraction.proofs.LowestTerms.{divided, abs_sign, lowest_cross}
+use Rattle.numerals.proofs.LowestTerms.{divided, abs_sign, lowest_cross}
 use Rattle.fraction.specs.View.{number_of}
 use Rattle.field_core.specs.Fractions.{fraction, one_over}
 use Rattle.field_core.specs.Laws.FractionLaws.{fraction-equal}

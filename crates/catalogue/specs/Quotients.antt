@@ -6,7 +6,7 @@ use Rattle.std.proofs.lemmas.Bool.Decides.{nat_tests}
 use Rattle.field_core.specs.Divisor.{gcd}
 use Rattle.field_core.specs.Terms.{IsReduced}
 use Rattle.field_core.specs.declared.ratio.Ratio.{Ratio}
-use Rattle.fraction.specs.Lowest.{lowest_terms}
+use Rattle.numerals.specs.Lowest.{lowest_terms}
 use Rattle.case_model.specs.Sums.{zero_ratio}
 
 -- two numbers have no common divisor above 1, the second isn't 0, and both are below 2^127 in size

@@ -1,7 +1,7 @@
 -- The numbers below 2^64 that texts spell.
 use Rattle.std.proofs.Common.{◌≡◌, ◌<◌, ◌≤◌, ◌^◌, ◌-◌, ℕ, List, arith}
-use Rattle.fraction.specs.WholeNumbers.{WritesNumber}
-use Rattle.fraction.proofs.WholeNumbers.{one_number}
+use Rattle.numerals.specs.WholeNumbers.{WritesNumber}
+use Rattle.numerals.proofs.WholeNumbers.{one_number}
 use Rattle.command_words.specs.Counts.{IsCount}
 
 pub none_written : (text : List ℕ) → ((n : ℕ) → ¬ WritesNumber 20 text n) → (n : ℕ) → ¬ IsCount text n

@@ -1,6 +1,6 @@
 -- Whole numbers of options, as words spell them.
 use Rattle.std.specs.Prelude.{◌<◌, ◌^◌, ℕ, List}
-use Rattle.fraction.specs.WholeNumbers.{WritesNumber}
+use Rattle.numerals.specs.WholeNumbers.{WritesNumber}
 
 -- a text of 1 to 20 digits spells a number below 2^64
 pub record IsCount (text : List ℕ) (n : ℕ) : Type 0 where

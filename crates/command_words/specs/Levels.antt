@@ -1,7 +1,7 @@
 -- The level of a sheet, as contracts see it.
 use Rattle.std.specs.Prelude.{ℕ, List}
 use Rattle.field_core.specs.Terms.{Terms}
-use Rattle.fraction.specs.Numeral.{IsNumeralOf}
+use Rattle.numerals.specs.Numeral.{IsNumeralOf}
 use Rattle.fraction.specs.View.{terms_of}
 use Rattle.fraction.specs.declared.fraction.Fraction.{Fraction}
 

@@ -2,7 +2,7 @@
 ghost use Rattle.std.specs.Prelude.{◌≡◌, ℕ, None, IfSome};
 ghost use Rattle.command_words.specs.Counts.{IsCount};
 
-use fraction::whole_number;
+use numerals::whole_number;
 
 /// Returns the number that a text of 1 to 20 digits spells, where it is below 2^64.
 #[tactic(auto, using(crate::proofs::CountTexts::none_written, crate::proofs::CountTexts::large_none, crate::proofs::CountTexts::count_found))]

@@ -4,15 +4,15 @@ use Rattle.std.proofs.Common.{ap, ap₂, ◌∙◌, ◌⊎◌, arith}
 use Rattle.std.proofs.lemmas.Bool.Decides.{nat_tests}
 use Rattle.std.proofs.lemmas.List.{append-nil}
 use Rattle.field_core.proofs.Longest.{accepts, accepts_then, count, stops_behind}
-use Rattle.fraction.specs.Prefixes.{IsBadByte}
-use Rattle.fraction.specs.Numeral.{body_text}
-use Rattle.fraction.specs.declared.decimal_machine.DecimalPart.{DecimalPart}
-use Rattle.fraction.specs.declared.decimal_machine.DecimalPart.TheVariants as parts
-use Rattle.fraction.specs.DecimalMachine.{class_of as decimal_class, decimal_byte, may_end as ends_decimal}
-use Rattle.fraction.specs.Decimals.{Decimal}
-use Rattle.fraction.proofs.Classes.{digit_test}
-use Rattle.fraction.proofs.DecimalTexts.{takes, takes_nil, takes_cons, decimal_taken}
-use Rattle.fraction.proofs.DecimalLengths.{completion as decimal_end, completes as decimal_ends}
+use Rattle.numerals.specs.Prefixes.{IsBadByte}
+use Rattle.numerals.specs.Numeral.{body_text}
+use Rattle.numerals.specs.declared.decimal_machine.DecimalPart.{DecimalPart}
+use Rattle.numerals.specs.declared.decimal_machine.DecimalPart.TheVariants as parts
+use Rattle.numerals.specs.DecimalMachine.{class_of as decimal_class, decimal_byte, may_end as ends_decimal}
+use Rattle.numerals.specs.Decimals.{Decimal}
+use Rattle.numerals.proofs.Classes.{digit_test}
+use Rattle.numerals.proofs.DecimalTexts.{takes, takes_nil, takes_cons, decimal_taken}
+use Rattle.numerals.proofs.DecimalLengths.{completion as decimal_end, completes as decimal_ends}
 use Rattle.edge_expression.specs.declared.byte_class.Class.{Class}
 use Rattle.edge_expression.specs.declared.byte_class.Class.TheVariants as classes
 use Rattle.edge_expression.specs.declared.byte_machine.Letter.{Letter}

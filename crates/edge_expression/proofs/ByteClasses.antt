@@ -3,7 +3,7 @@ use Rattle.std.proofs.Common.{◌≡◌, ◌≢◌, ℕ, ◌≤◌, ◌⊎◌, �
 use Rattle.std.specs.Char.{is_ascii_digit}
 use Rattle.std.proofs.lemmas.Bool.{cond_both, eqb-true, eqb-false}
 use Rattle.text_lines.specs.Words.{is_blank}
-use Rattle.fraction.proofs.Classes.{either, digit_in}
+use Rattle.numerals.proofs.Classes.{either, digit_in}
 use Rattle.edge_expression.specs.declared.byte_class.Class.{Class}
 use Rattle.edge_expression.specs.declared.byte_class.Class.TheVariants as classes
 use Rattle.edge_expression.specs.ByteMachine.{class_of}

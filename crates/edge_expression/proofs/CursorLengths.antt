@@ -1,7 +1,7 @@
 -- How much is left of what a cursor takes from.
 use Rattle.std.proofs.Common.{◌≡◌, ℕ, ◌+◌, ◌*◌, ◌≤◌, ◌<◌, inl, inr, List, [], ◌∷◌, length, drop, min, Option, Some, None, ap}
 use Rattle.std.proofs.Common.{subst, arith, length-drop}
-use Rattle.fraction.specs.DecimalMachine.{decimal_length}
+use Rattle.numerals.specs.DecimalMachine.{decimal_length}
 use Rattle.text_lines.specs.Words.{after_blanks}
 use Rattle.edge_expression.specs.declared.polynomial.Operation.{Operation}
 use Rattle.edge_expression.specs.declared.polynomial.Operation.TheVariants as operations

@@ -1,6 +1,6 @@
 -- The entries of decimals and of powers.
 use Rattle.std.proofs.Common.{◌≡◌, Option, refl}
-use Rattle.fraction.specs.Decimals.{Decimal, decimal_value}
+use Rattle.numerals.specs.Decimals.{Decimal, decimal_value}
 use Rattle.edge_expression.specs.Expressions.{Power, Number, Other, Epsilon}
 use Rattle.edge_expression.specs.EntryValues.{decimal_entry, epsilon_value, factor_value}
 

@@ -16,8 +16,8 @@ use Rattle.std.proofs.lemmas.List.Folds.{list_all-append}
 use Rattle.case_model.specs.Draft.{is_short}
 use Rattle.case_model.proofs.Holding.{both}
 use Rattle.field_core.specs.Terms.{Terms, IsReduced}
-use Rattle.fraction.proofs.LowestTerms.{sign_is}
-use Rattle.fraction.specs.Numeral.{with_sign}
+use Rattle.numerals.proofs.LowestTerms.{sign_is}
+use Rattle.numerals.specs.Numeral.{with_sign}
 use Rattle.fraction.specs.Spelling.{spelling, IsSpellingByte}
 use Rattle.fraction.proofs.ReadBack.{spelling_bytes}
 use Rattle.fraction.specs.Tests.{is_zero, is_one, absolute}
@@ -125,7 +125,7 @@ join_by e p false n s =
 record IsMore (e : List Terms) (p n : ℕ) : Type 0 where
   terms : MoreTerms
   spelt : IsSpelt (terms_tokens terms []) (terms_text false p n e)
-  worth : with_terms (tabled (upto e p)) terms ≡ Ok (tabled (upto e 5))
+  answer : with_terms (tabled (upto e p)) terms ≡ Ok (tabled (upto e 5))
 
 none_text : (f : Bool) (p : ℕ) (e : List Terms) → terms_text f p zero e ≡ []
 unfolding terms_text
@@ -173,7 +173,7 @@ more_term e p n b s h z neg m =
           (term_text p (absolute (terms_at e p)) ++ rest)
           (piece_text false p n e b z neg ∙ ap (λ (y : List ℕ). y ++ (term_text p (absolute (terms_at e p)) ++ rest)) (sign_text_is b))
           (t.spelt (terms_tokens m.terms []) rest m.spelt);
-      worth = and_more (tabled (upto e p)) (sign_if b) t.term m.terms ∙ rw (t.worth, join_by e p b neg s) m.worth;
+      answer = and_more (tabled (upto e p)) (sign_if b) t.term m.terms ∙ rw (t.answer, join_by e p b neg s) m.answer;
     }
 
 skipped : (e : List Terms) (p n : ℕ) → AreShort e → is_zero (terms_at e p) ≡ true → IsMore e (suc p) n → IsMore e p (suc n)
@@ -183,7 +183,7 @@ skipped e p n s z m =
     record {
       terms = m.terms;
       spelt = subst (IsSpelt (terms_tokens m.terms [])) (sym (next_text false p n e true z)) m.spelt;
-      worth = ap (λ v. with_terms v m.terms) (upto_skip e p none) ∙ m.worth;
+      answer = ap (λ v. with_terms v m.terms) (upto_skip e p none) ∙ m.answer;
     }
 
 more_by : (e : List Terms) (p n : ℕ) (b : Bool) → AreShort e → p ≤ 4 → is_zero (terms_at e p) ≡ b → IsMore e (suc p) n → IsMore e p (suc n)
@@ -196,17 +196,17 @@ more e zero p s h =
     record {
       terms = NoTerm;
       spelt = subst (IsSpelt []) (sym (none_text false p e)) tt;
-      worth = no_more (tabled (upto e p))
+      answer = no_more (tabled (upto e p))
           ∙ ap (λ q. Ok (tabled (upto e q))) last;
     }
 more e (suc n) p s h = more_by e p n (is_zero (terms_at e p)) s (omega (arith, h)) refl (more e n (suc p) s (omega (arith, h)))
 
 -- ---- the whole text
 
-pub record IsWhole (e : List Terms) (text : List ℕ) (worth_of : List Terms) : Type 0 where
+pub record IsWhole (e : List Terms) (text : List ℕ) (its_value : List Terms) : Type 0 where
   expression : Expression
   spells : Spells text expression
-  worth : value expression ≡ Ok worth_of
+  answer : value expression ≡ Ok its_value
 
 first_sign : Bool → Option Sign
 first_sign true = Some Minus
@@ -242,7 +242,7 @@ first_term e p n b s h z neg start m =
           subst (IsSpelt (expression_tokens (Sum (first_sign b) t.term m.terms) [])) (sym (piece_text true p n e b z neg))
           (first_spelt b t.term (terms_tokens m.terms []) (term_text p (absolute (terms_at e p)) ++ rest)
           (t.spelt (terms_tokens m.terms []) rest m.spelt) m.terms refl);
-      worth = sum_is (first_sign b) t.term m.terms ∙ rw (t.worth, first_sign_is b, start, join_by e p b neg s) m.worth;
+      answer = sum_is (first_sign b) t.term m.terms ∙ rw (t.answer, first_sign_is b, start, join_by e p b neg s) m.answer;
     }
 
 pub at_first : (e : List Terms) (p n : ℕ) (b : Bool) → AreShort e → p + suc n ≡ 5 → is_zero (terms_at e p) ≡ b
@@ -296,7 +296,7 @@ nought e =
     record {
       expression = Sum None t.term NoTerm;
       spells = subst (IsSpelt (term_tokens t.term [])) (ap (λ (x : List ℕ). x ++ []) nought_text) (t.spelt [] [] tt);
-      worth = sum_is None t.term NoTerm ∙ rw (t.worth, nought_sum) (no_more zero_coefficients);
+      answer = sum_is None t.term NoTerm ∙ rw (t.answer, nought_sum) (no_more zero_coefficients);
     }
 
 -- an entry whose coefficients are all 0
@@ -410,6 +410,6 @@ entry_reads_back xs h a =
       expression = w.expression;
       spells = w.spells;
       shallow = shallow (entry_text xs) (length (entry_text xs)) (entry_open e s);
-      worth_is = w.worth
+      value_is = w.answer
           ∙ ap Ok (five e (length-map xs terms ∙ h));
     }

@@ -21,7 +21,7 @@ use Rattle.field_core.specs.Laws.FractionLaws.{fraction-zero}
 use Rattle.field_core.specs.Laws.Effective.{positive_nonzero}
 use Rattle.field_core.specs.Laws.Order.{number_laws}
 use Rattle.fraction.specs.Laws.PlainLaws.{plain_is_exact}
-use Rattle.fraction.specs.Numeral.{value_of}
+use Rattle.numerals.specs.Numeral.{value_of}
 use Rattle.fraction.specs.Plain.{zero_reduced, one_reduced}
 use Rattle.case_model.specs.Entries.{power_of_epsilon, entry_value}
 use Rattle.fraction.specs.Tests.{is_zero}
@@ -39,8 +39,8 @@ use Rattle.edge_expression.specs.ExpressionStatements.{moved, power_meant, meani
 use Rattle.edge_expression.proofs.UnitEntries.{tabled}
 use Rattle.edge_expression.proofs.ShortNumbers.{IsNumber, short_number, sum_number, product_number, difference_number, quotient_number}
 use Rattle.edge_expression.proofs.ShortOperations.{some_number}
-use Rattle.fraction.specs.Lowest.{lowest_terms}
-use Rattle.fraction.specs.Decimals.{Decimal, has_too_many_digits, decimal_value}
+use Rattle.numerals.specs.Lowest.{lowest_terms}
+use Rattle.numerals.specs.Decimals.{Decimal, has_too_many_digits, decimal_value}
 use Rattle.fraction.proofs.DecimalValues.{decimal_some}
 
 -- ---- identities of numbers

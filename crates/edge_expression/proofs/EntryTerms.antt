@@ -10,12 +10,12 @@ use Rattle.std.proofs.lemmas.Int.{ints}
 use Rattle.std.proofs.lemmas.List.{append-nil}
 use Rattle.field_core.specs.Divisor.{gcd}
 use Rattle.field_core.specs.Terms.{Terms, IsReduced}
-use Rattle.fraction.specs.Numeral.{Plain, body_text, IsNumeralOf}
+use Rattle.numerals.specs.Numeral.{Plain, body_text, IsNumeralOf}
 use Rattle.field_core.specs.Texts.{fraction_text}
 use Rattle.fraction.specs.Spelling.{spelling}
 use Rattle.fraction.proofs.ReadBack.{digits_from, read_back}
 use Rattle.edge_expression.specs.EntryValues.{is_short, plain_entry, short_of, times, over, decimal_entry, power_value, term_value, with_factors, factor_value}
-use Rattle.fraction.specs.Decimals.{Decimal, decimal_value}
+use Rattle.numerals.specs.Decimals.{Decimal, decimal_value}
 use Rattle.fraction.proofs.DecimalValues.{decimal_found}
 use Rattle.edge_expression.specs.Expressions.{Power, Term, Product, MoreFactors, NoFactor, Times, Over, Factor, Number, Other, Further, Epsilon, Token}
 use Rattle.edge_expression.specs.Expressions.{DecimalToken, WordToken, CaretToken, PowerToken, TimesToken, OverToken, term_tokens, factors_tokens}
@@ -90,11 +90,11 @@ record IsFront (text : List ℕ) (c : Terms) : Type 0 where
   before : MoreFactors → MoreFactors
   spelt : (fs : MoreFactors) (more : List Token) (x : List ℕ) → IsSpelt (factors_tokens fs more) x
       → IsSpelt (factor_tokens first (factors_tokens (before fs) more)) (text ++ x)
-  worth : (fs : MoreFactors) → (factor_value first >>= λ v. with_factors v (before fs)) ≡ with_factors (plain_entry c) fs
+  answer : (fs : MoreFactors) → (factor_value first >>= λ v. with_factors v (before fs)) ≡ with_factors (plain_entry c) fs
 
-alone_worth : (n : ℕ) (h : n ≤ 10 ^ 18) (fs : MoreFactors)
+alone_answer : (n : ℕ) (h : n ≤ 10 ^ 18) (fs : MoreFactors)
     → (factor_value (Number (whole n h)) >>= λ v. with_factors v fs) ≡ with_factors (plain_entry (number_of n)) fs
-alone_worth n h fs = rw (decimal_factor (whole n h), whole_value n h) refl
+alone_answer n h fs = rw (decimal_factor (whole n h), whole_value n h) refl
 
 over_next : (v : List Terms) (f : Factor) (fs : MoreFactors) → with_factors v (Over f fs) ≡ (factor_value f >>= λ x. over v x >>= λ l. with_factors l fs)
 unfolding with_factors
@@ -113,9 +113,9 @@ over_is : (m d : ℕ) → IsShortTerms (over_of m d) → over (plain_entry (numb
 unfolding number_of
 over_is m d s = over_parts (over_of m d) s
 
-pair_worth : (m d : ℕ) (h : m ≤ 10 ^ 18) (k : d ≤ 10 ^ 18) (fs : MoreFactors) → IsShortTerms (over_of m d)
+pair_answer : (m d : ℕ) (h : m ≤ 10 ^ 18) (k : d ≤ 10 ^ 18) (fs : MoreFactors) → IsShortTerms (over_of m d)
     → (factor_value (Number (whole m h)) >>= λ v. with_factors v (Over (Number (whole d k)) fs)) ≡ with_factors (plain_entry (over_of m d)) fs
-pair_worth m d h k fs s =
+pair_answer m d h k fs s =
     rw (
       decimal_factor (whole m h),
       whole_value m h,
@@ -145,13 +145,13 @@ front_by m d true e h k s =
       first = Number (whole m h);
       before = λ fs. fs;
       spelt = λ fs more x t. ap_spelt (factors_tokens fs more) m h x t;
-      worth = λ fs. alone_worth m h fs ∙ ap (λ n. with_factors (plain_entry (record { num = pos m; den = pos n })) fs) (sym one);
+      answer = λ fs. alone_answer m h fs ∙ ap (λ n. with_factors (plain_entry (record { num = pos m; den = pos n })) fs) (sym one);
     }
 front_by m d false e h k s = record {
   first = Number (whole m h);
   before = λ fs. Over (Number (whole d k)) fs;
   spelt = λ fs more x t. pair_spelt m d h k (factors_tokens fs more) x t;
-  worth = λ fs. pair_worth m d h k fs s;
+  answer = λ fs. pair_answer m d h k fs s;
 }
 
 pair_spelling : (m d : ℕ) → ¬ (d ≡ 1) → fraction_text (pos m) (pos d) ≡ decimal m ++ 47 ∷ decimal d
@@ -176,7 +176,7 @@ power_of p h = record { power = p; digit = omega (arith, h) }
 record IsPower (p : ℕ) : Type 0 where
   further : Further
   spelt : (more : List Token) (x : List ℕ) → IsSpelt more x → IsSpelt (factor_tokens (Other further) more) (power_text p ++ x)
-  worth : factor_value (Other further) ≡ Ok (tabled (single p one_terms))
+  answer : factor_value (Other further) ≡ Ok (tabled (single p one_terms))
 
 text_by : (p : ℕ) (b : Bool) → eqb p 1 ≡ b → power_text p ≡ cond b (codes "\\epsilon") (codes "\\epsilon^" ++ ((48 + p) ∷ []))
 text_by p b e = ap (λ c. cond c (codes "\\epsilon") (codes "\\epsilon^" ++ ((48 + p) ∷ []))) e
@@ -198,11 +198,11 @@ power_by : (p : ℕ) (b : Bool) → eqb p 1 ≡ b → p ≤ 4 → IsPower p
 unfolding power_of
 power_by p true e h =
     let one : p ≡ 1 = eqb-true p 1 e in
-    record { further = Epsilon None; spelt = λ more x t. first_spelt p e more x t; worth = epsilon_factor None ∙ ap power_value (sym one) ∙ power_is p h }
+    record { further = Epsilon None; spelt = λ more x t. first_spelt p e more x t; answer = epsilon_factor None ∙ ap power_value (sym one) ∙ power_is p h }
 power_by p false e h = record {
   further = Epsilon (Some (power_of p h));
   spelt = λ more x t. other_spelt p h e more x t;
-  worth = epsilon_factor (Some (power_of p h)) ∙ power_is p h;
+  answer = epsilon_factor (Some (power_of p h)) ∙ power_is p h;
 }
 
 power : (p : ℕ) → p ≤ 4 → IsPower p
@@ -214,7 +214,7 @@ power p h = power_by p (eqb p 1) refl h
 pub record IsTerm (p : ℕ) (t : Terms) : Type 0 where
   pub term : Term
   pub spelt : (more : List Token) (x : List ℕ) → IsSpelt more x → IsSpelt (term_tokens term more) (term_text p t ++ x)
-  pub worth : term_value term ≡ Ok (tabled (single p t))
+  pub answer : term_value term ≡ Ok (tabled (single p t))
 
 term_is : (first : Factor) (fs : MoreFactors) → term_value (Product first fs) ≡ (factor_value first >>= λ v. with_factors v fs)
 unfolding term_value
@@ -227,7 +227,7 @@ constant_term m d h k s =
     record {
       term = Product f.first (f.before NoFactor);
       spelt = λ more x t. f.spelt NoFactor more x t;
-      worth = term_is f.first (f.before NoFactor) ∙ f.worth NoFactor ∙ no_next (plain_entry (over_of m d));
+      answer = term_is f.first (f.before NoFactor) ∙ f.answer NoFactor ∙ no_next (plain_entry (over_of m d));
     }
 
 factor_by : (m d : ℕ) (b : Bool) → is_one (over_of m d) ≡ b → factor_text (over_of m d) ≡ cond b [] (spelling (over_of m d) ++ codes "*")
@@ -250,15 +250,15 @@ unit_term p m d some h one =
     record {
       term = Product (Other w.further) NoFactor;
       spelt = λ more x t. subst (λ y. IsSpelt (factor_tokens (Other w.further) more) (y ++ x)) (sym text) (w.spelt more x t);
-      worth =
+      answer =
           term_is (Other w.further) NoFactor
-          ∙ rw (w.worth, no_next (tabled (single p one_terms))) (ap (λ t. Ok (tabled (single p t))) (sym (both_ones m d one)));
+          ∙ rw (w.answer, no_next (tabled (single p one_terms))) (ap (λ t. Ok (tabled (single p t))) (sym (both_ones m d one)));
     }
 
-times_worth : (p : ℕ) (c : Terms) (further : Further) → p ≤ 4 → IsShortTerms c
+times_answer : (p : ℕ) (c : Terms) (further : Further) → p ≤ 4 → IsShortTerms c
     → factor_value (Other further) ≡ Ok (tabled (single p one_terms))
     → with_factors (plain_entry c) (Times (Other further) NoFactor) ≡ Ok (tabled (single p c))
-times_worth p c further h s e = times_next (plain_entry c) (Other further) NoFactor ∙ rw (e, times_power c p h s) (no_next (tabled (single p c)))
+times_answer p c further h s e = times_next (plain_entry c) (Other further) NoFactor ∙ rw (e, times_power c p h s) (no_next (tabled (single p c)))
 
 star_spelt : (p : ℕ) (f : IsPower p) (more : List Token) (x : List ℕ) → IsSpelt more x
     → IsSpelt (TimesToken ∷ factor_tokens (Other f.further) more) (42 ∷ (power_text p ++ x))
@@ -281,9 +281,9 @@ product_term p m d some h i k s other =
       term = Product f.first (f.before (Times (Other w.further) NoFactor));
       spelt = λ more x t. subst (IsSpelt (factor_tokens f.first (factors_tokens (f.before (Times (Other w.further) NoFactor)) more)))
           (sym (product_text p m d x some other)) (f.spelt (Times (Other w.further) NoFactor) more (42 ∷ (power_text p ++ x)) (star_spelt p w more x t));
-      worth =
-          term_is f.first (f.before (Times (Other w.further) NoFactor)) ∙ f.worth (Times (Other w.further) NoFactor)
-          ∙ times_worth p (over_of m d) w.further h s w.worth;
+      answer =
+          term_is f.first (f.before (Times (Other w.further) NoFactor)) ∙ f.answer (Times (Other w.further) NoFactor)
+          ∙ times_answer p (over_of m d) w.further h s w.answer;
     }
 
 term_by : (p m d : ℕ) → 0 < p → p ≤ 4 → m ≤ 10 ^ 18 → d ≤ 10 ^ 18 → IsShortTerms (over_of m d) → (b : Bool)

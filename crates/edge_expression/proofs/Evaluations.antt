@@ -12,8 +12,8 @@ use Rattle.edge_expression.specs.declared.polynomial.Polynomial.{Polynomial}
 use Rattle.edge_expression.specs.declared.polynomial.Operation.{Operation}
 use Rattle.edge_expression.specs.declared.cursor.Head.{Head}
 use Rattle.edge_expression.specs.declared.cursor.Head.TheVariants as heads
-use Rattle.fraction.specs.Numeral.{body_text}
-use Rattle.fraction.specs.Decimals.{Decimal, decimal_value}
+use Rattle.numerals.specs.Numeral.{body_text}
+use Rattle.numerals.specs.Decimals.{Decimal, decimal_value}
 use Rattle.edge_expression.specs.Expressions.{Sign, Plus, Minus, Expression, Sum, MoreTerms, NoTerm, AndTerm, Term, Product, MoreFactors, NoFactor, Number}
 use Rattle.edge_expression.specs.Expressions.{Other, Epsilon, Parens, Token, CloseToken, expression_tokens, terms_tokens, term_tokens, factors_tokens, IsSpelt}
 use Rattle.edge_expression.specs.Expressions.{Spells}
@@ -39,7 +39,7 @@ not_ok : (f : ValueFault) (r : Result Polynomial ValueFault) → r ≡ Err f →
 unfolding failing
 not_ok f r e o = no_ok f (ap is_ok (sym e) ∙ o)
 
--- the worth is a fault, and so is the result
+-- the answer is a fault, and so is the result
 pub err_gives : (f : ValueFault) (left : List ℕ) (more : List Token) (w : Result (List Terms) ValueFault) (r : Result Polynomial ValueFault)
     → r ≡ Err f → w ≡ Err f → Evaluates r left w more
 err_gives f left more w r e k = (ap (map_value polynomial_terms) e ∙ sym k, λ o. absurd (not_ok f r e o))
@@ -55,10 +55,10 @@ sign_applied Plus x y = refl
 sign_applied Minus x y = refl
 
 -- with this sum, these terms are left
-record SumLeft (rest : List ℕ) (sum : List Terms) (worth : Result (List Terms) ValueFault) (more : List Token) : Type 0 where
+record SumLeft (rest : List ℕ) (sum : List Terms) (answer : Result (List Terms) ValueFault) (more : List Token) : Type 0 where
   others : MoreTerms
   spelt : IsSpelt (terms_tokens others more) rest
-  worth_is : worth ≡ with_terms sum others
+  value_is : answer ≡ with_terms sum others
 
 -- on each expression, what was taken makes this sum
 pub SumGoes : List ℕ → List ℕ → List Terms → Type 0
@@ -91,7 +91,7 @@ first_goes taken entry mid rest p s h gives a (Sum sign first others) more ends 
     record {
       others = others;
       spelt = g.1 refl;
-      worth_is =
+      value_is =
           sum_on (term_value first) (sign_or_plus sign) zero_coefficients (polynomial_terms p) s others g.0
           (by_sign (first_operation taken) (sign_or_plus sign) zero_coefficients (polynomial_terms p) (Ok s) x.0 a);
     }
@@ -131,8 +131,8 @@ next_goes op entry old mid rest sum s p goes h gives a e more ends t =
     record {
       others = n.others;
       spelt = g.1 refl;
-      worth_is =
-          l.worth_is ∙ ap (with_terms sum) n.are ∙ with_next sum n.sign n.term n.others
+      value_is =
+          l.value_is ∙ ap (with_terms sum) n.are ∙ with_next sum n.sign n.term n.others
           ∙ sum_on (term_value n.term) n.sign sum (polynomial_terms p) s n.others g.0 (by_sign op n.sign sum (polynomial_terms p) (Ok s) n.operation a);
     }
 
@@ -145,7 +145,7 @@ next_refused op entry old mid rest new sum p f r is goes h gives a e more ends t
     let n = next_term op l.others more old mid ends h l.spelt in
     let g = gives n.term (terms_tokens n.others more) (terms_end n.others more ends) n.spelt in
     err_gives f new more (value e) r is
-    (l.worth_is ∙ ap (with_terms sum) n.are ∙ with_next sum n.sign n.term n.others
+    (l.value_is ∙ ap (with_terms sum) n.are ∙ with_next sum n.sign n.term n.others
     ∙ sum_off (term_value n.term) n.sign sum (polynomial_terms p) n.others f g.0 (by_sign op n.sign sum (polynomial_terms p) (Err f) n.operation a))
 
 pub next_fails : (op : Operation) (entry old mid rest new : List ℕ) (sum : List Terms) (f : ValueFault) (r : Result Polynomial ValueFault)
@@ -156,7 +156,7 @@ next_fails op entry old mid rest new sum f r is goes h gives e more ends t =
     let n = next_term op l.others more old mid ends h l.spelt in
     let g = gives n.term (terms_tokens n.others more) (terms_end n.others more ends) n.spelt in
     err_gives f new more (value e) r is
-    (l.worth_is ∙ ap (with_terms sum) n.are ∙ with_next sum n.sign n.term n.others ∙ sum_stop (term_value n.term) n.sign sum n.others f g.0)
+    (l.value_is ∙ ap (with_terms sum) n.are ∙ with_next sum n.sign n.term n.others ∙ sum_stop (term_value n.term) n.sign sum n.others f g.0)
 
 with_none : (sum : List Terms) → with_terms sum NoTerm ≡ Ok sum
 unfolding with_terms
@@ -169,17 +169,17 @@ unfolding SumGoes SumGives
 sum_done entry old new sum goes h e more ends t =
     let l = goes e more ends t in
     let n = no_term l.others more old h.0 l.spelt in (
-      sym (l.worth_is ∙ ap (with_terms (polynomial_terms sum)) n ∙ with_none (polynomial_terms sum)),
+      sym (l.value_is ∙ ap (with_terms (polynomial_terms sum)) n ∙ with_none (polynomial_terms sum)),
       λ _. subst (IsSpelt more) (sym h.1) (subst (λ ts. IsSpelt (terms_tokens ts more) old) n l.spelt),
     )
 
 -- ---- products
 
 -- with this product, these factors are left
-record ProductLeft (rest : List ℕ) (product : List Terms) (worth : Result (List Terms) ValueFault) (more : List Token) : Type 0 where
+record ProductLeft (rest : List ℕ) (product : List Terms) (answer : Result (List Terms) ValueFault) (more : List Token) : Type 0 where
   others : MoreFactors
   spelt : IsSpelt (factors_tokens others more) rest
-  worth_is : worth ≡ with_factors product others
+  value_is : answer ≡ with_factors product others
 
 pub ProductGoes : List ℕ → List ℕ → List Terms → Type 0
 ProductGoes entry rest product =
@@ -198,7 +198,7 @@ unfolding ProductGoes FactorGives term_value
 first_factor head entry mid rest p h gives (Product first others) more ends t =
     let e = factors_end others more ends in
     let g = gives first (factors_tokens others more) e (head_is head first (factors_tokens others more) entry mid e h t) in
-    record { others = others; spelt = g.1 refl; worth_is = product_on (factor_value first) (polynomial_terms p) others g.0 }
+    record { others = others; spelt = g.1 refl; value_is = product_on (factor_value first) (polynomial_terms p) others g.0 }
 
 pub first_factor_fails : (head : Head) (entry mid rest new : List ℕ) (f : ValueFault) (r : Result Polynomial ValueFault) → r ≡ Err f
     → HeadTaken head (after_blanks entry) mid → FactorGives head mid (Err f) rest → ProductGives entry r new
@@ -232,7 +232,7 @@ factor_goes op head entry old mid front rest q s p goes j h gives a t more ends 
     record {
       others = n.others;
       spelt = g.1 refl;
-      worth_is = l.worth_is ∙ n.worth q
+      value_is = l.value_is ∙ n.answer q
           ∙ factor_on (factor_value n.factor) op q (polynomial_terms p) s n.others g.0 a;
     }
 
@@ -246,7 +246,7 @@ factor_refused op head entry old mid front rest new q p f r is goes j h gives a 
     let n = next_factor op l.others more old mid ends j l.spelt in
     let e = factors_end n.others more ends in
     let g = gives n.factor (factors_tokens n.others more) e (head_is head n.factor (factors_tokens n.others more) mid front e h n.spelt) in
-    err_gives f new more (term_value t) r is (l.worth_is ∙ n.worth q ∙ factor_off (factor_value n.factor) op q (polynomial_terms p) n.others f g.0 a)
+    err_gives f new more (term_value t) r is (l.value_is ∙ n.answer q ∙ factor_off (factor_value n.factor) op q (polynomial_terms p) n.others f g.0 a)
 
 pub factor_fails : (op : Operation) (head : Head) (entry old mid front rest new : List ℕ) (q : List Terms) (f : ValueFault) (r : Result Polynomial ValueFault)
     → r ≡ Err f → ProductGoes entry old q → JointTaken (Some op) old mid → HeadTaken head (after_blanks mid) front
@@ -257,7 +257,7 @@ factor_fails op head entry old mid front rest new q f r is goes j h gives t more
     let n = next_factor op l.others more old mid ends j l.spelt in
     let e = factors_end n.others more ends in
     let g = gives n.factor (factors_tokens n.others more) e (head_is head n.factor (factors_tokens n.others more) mid front e h n.spelt) in
-    err_gives f new more (term_value t) r is (l.worth_is ∙ n.worth q ∙ factor_stop (factor_value n.factor) op q n.others f g.0)
+    err_gives f new more (term_value t) r is (l.value_is ∙ n.answer q ∙ factor_stop (factor_value n.factor) op q n.others f g.0)
 
 with_no_factor : (p : List Terms) → with_factors p NoFactor ≡ Ok p
 unfolding with_factors
@@ -269,7 +269,7 @@ unfolding ProductGoes ProductGives
 product_done entry old new product goes h t more ends x =
     let l = goes t more ends x in
     let n = no_factor l.others more old h.0 l.spelt in (
-      sym (l.worth_is ∙ ap (with_factors (polynomial_terms product)) n ∙ with_no_factor (polynomial_terms product)),
+      sym (l.value_is ∙ ap (with_factors (polynomial_terms product)) n ∙ with_no_factor (polynomial_terms product)),
       λ _. subst (IsSpelt more) (sym h.1) (subst (λ fs. IsSpelt (factors_tokens fs more) old) n l.spelt),
     )
 
@@ -328,8 +328,8 @@ pub applied_first : (taken : Option Operation) (op : Operation) (x : List Terms)
     → op ≡ unwrap_or taken operations.Add → r ≡ applied op zero_coefficients x → r ≡ applied (first_operation taken) zero_coefficients x
 applied_first taken op x r e g = g ∙ ap (λ o. applied o zero_coefficients x) (e ∙ unwrapped taken)
 
--- what a text is worth that spells an expression
-pub sum_worth : (old text new : List ℕ) (r : Result Polynomial ValueFault) (e : Expression) → old ≡ text → SumGives old r new
+-- what a text gives that spells an expression
+pub sum_value : (old text new : List ℕ) (r : Result Polynomial ValueFault) (e : Expression) → old ≡ text → SumGives old r new
     → Spells text e → map_value polynomial_terms r ≡ value e
 unfolding SumGives Spells
-sum_worth old text new r e same gives h = (gives e [] tt (subst (IsSpelt (expression_tokens e [])) (sym same) h)).0
+sum_value old text new r e same gives h = (gives e [] tt (subst (IsSpelt (expression_tokens e [])) (sym same) h)).0

@@ -1,12 +1,12 @@
 -- The machine of edge expressions, state by state.
 use Rattle.std.proofs.Common.{◌≡◌, ℕ, Bool, true, List, [], ◌∷◌, Option, Some, None, inl, inr, refl, ap, ◌∙◌}
 use Rattle.field_core.proofs.Longest.{accepts, accepts_then, accepts_nil, accepts_cons}
-use Rattle.fraction.specs.declared.byte_class.Class.{Class as DecimalClass}
-use Rattle.fraction.specs.declared.byte_class.Class.TheVariants as decimals
-use Rattle.fraction.specs.declared.decimal_machine.DecimalPart.{DecimalPart}
-use Rattle.fraction.specs.declared.decimal_machine.DecimalPart.TheVariants as parts
-use Rattle.fraction.specs.DecimalMachine.{class_of as decimal_class, decimal_step, decimal_byte, may_end as ends_decimal}
-use Rattle.fraction.proofs.Classes.{IsOf as IsDecimalByte, class_is as decimal_class_is, digit_test}
+use Rattle.numerals.specs.declared.byte_class.Class.{Class as DecimalClass}
+use Rattle.numerals.specs.declared.byte_class.Class.TheVariants as decimals
+use Rattle.numerals.specs.declared.decimal_machine.DecimalPart.{DecimalPart}
+use Rattle.numerals.specs.declared.decimal_machine.DecimalPart.TheVariants as parts
+use Rattle.numerals.specs.DecimalMachine.{class_of as decimal_class, decimal_step, decimal_byte, may_end as ends_decimal}
+use Rattle.numerals.proofs.Classes.{IsOf as IsDecimalByte, class_is as decimal_class_is, digit_test}
 use Rattle.edge_expression.specs.declared.byte_machine.Letter.{Letter}
 use Rattle.edge_expression.specs.declared.byte_machine.Letter.TheVariants as letters
 use Rattle.edge_expression.specs.declared.byte_machine.State.{State}

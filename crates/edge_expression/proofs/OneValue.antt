@@ -3,20 +3,20 @@ use mathlib.Core.Path.{fun_ext}
 use Rattle.std.proofs.Common.{◌≡◌, ℕ, ◌+◌, inl, inr, List, [], ◌∷◌, ◌++◌, length, Option, Some, None, Result, refl, sym, ap, ap₂, subst}
 use Rattle.std.proofs.Common.{◌∙◌, arith}
 use Rattle.field_core.specs.Terms.{Terms}
-use Rattle.fraction.specs.Numeral.{body_text}
-use Rattle.fraction.proofs.Unique.{body_unique}
+use Rattle.numerals.specs.Numeral.{body_text}
+use Rattle.numerals.proofs.Unique.{body_unique}
 use Rattle.edge_expression.specs.EntryValues.{zero_coefficients, joined, times, over, sign_or_plus, decimal_entry, epsilon_value, power_value, value}
 use Rattle.edge_expression.specs.EntryValues.{with_terms, term_value, with_factors, factor_value, further_value}
-use Rattle.fraction.specs.DecimalMachine.{decimal_length}
+use Rattle.numerals.specs.DecimalMachine.{decimal_length}
 use Rattle.edge_expression.specs.declared.value_fault.ValueFault.{ValueFault}
-use Rattle.fraction.specs.Decimals.{Decimal, decimal_value}
+use Rattle.numerals.specs.Decimals.{Decimal, decimal_value}
 use Rattle.edge_expression.specs.Expressions.{Power, Sign, Plus, Minus, Expression, Sum, MoreTerms, NoTerm, AndTerm, Term, Product, MoreFactors, NoFactor}
 use Rattle.edge_expression.specs.Expressions.{Times, Over, Beside, Factor, Number, Other, Further, Epsilon, Parens, Token, DecimalToken, WordToken, CaretToken}
 use Rattle.edge_expression.specs.Expressions.{PowerToken, SignToken, TimesToken, OverToken, OpenToken, CloseToken, sign_tokens, power_tokens, expression_tokens}
 use Rattle.edge_expression.specs.Expressions.{terms_tokens, term_tokens, factors_tokens, factor_tokens, further_tokens, token_text, IsSpelt, Spells}
 use Rattle.field_core.specs.Steps.{◌>>=◌}
 use Rattle.edge_expression.specs.CursorView.{EndsExpression, EndsTerm, EndsFactor}
-use Rattle.fraction.proofs.DecimalLengths.{decimal_front}
+use Rattle.numerals.proofs.DecimalLengths.{decimal_front}
 use Rattle.field_core.proofs.Heads.{heads}
 use Rattle.edge_expression.proofs.SpeltTokens.{front, stops, mark, begin, same_begin, no_sign, no_joint, no_caret, term_no_sign, begin_further, not_further}
 use Rattle.edge_expression.proofs.TakenTokens.{terms_end, factors_end}

@@ -3,11 +3,11 @@ use Rattle.std.proofs.Common.{◌≡◌, ℕ, zero, suc, ◌+◌, ◌-◌, ◌�
 use Rattle.std.proofs.Common.{Option, Some, None, refl, sym, ap, subst, ◌∙◌, inl, inr, arith}
 use Rattle.std.proofs.lemmas.Bool.{eqb-true}
 use Rattle.field_core.proofs.Longest.{accepts, accepts_then}
-use Rattle.fraction.specs.declared.decimal_machine.DecimalPart.{DecimalPart}
-use Rattle.fraction.specs.declared.decimal_machine.DecimalPart.TheVariants as parts
-use Rattle.fraction.specs.DecimalMachine.{decimal_byte, may_end as ends_decimal}
-use Rattle.fraction.specs.Decimals.{Decimal}
-use Rattle.fraction.proofs.DecimalTexts.{takes, takes_nil, takes_cons, is_decimal_text}
+use Rattle.numerals.specs.declared.decimal_machine.DecimalPart.{DecimalPart}
+use Rattle.numerals.specs.declared.decimal_machine.DecimalPart.TheVariants as parts
+use Rattle.numerals.specs.DecimalMachine.{decimal_byte, may_end as ends_decimal}
+use Rattle.numerals.specs.Decimals.{Decimal}
+use Rattle.numerals.proofs.DecimalTexts.{takes, takes_nil, takes_cons, is_decimal_text}
 use Rattle.edge_expression.specs.declared.byte_class.Class.{Class}
 use Rattle.edge_expression.specs.declared.byte_class.Class.TheVariants as classes
 use Rattle.edge_expression.specs.declared.byte_machine.Letter.{Letter}

@@ -15,10 +15,10 @@ use Rattle.field_core.specs.Laws.Order.{subtract_equal, divide_unique}
 use Rattle.field_core.specs.Laws.PolynomialLaws.{product_nonzero}
 use Rattle.field_core.specs.Laws.Effective.{positive_nonzero}
 use Rattle.field_core.proofs.IntegerRing.{ring}
-use Rattle.fraction.specs.Laws.Unique.{AreLowest}
+use Rattle.numerals.specs.Laws.Unique.{AreLowest}
 use Rattle.fraction.specs.Within.{IsWithin}
-use Rattle.fraction.specs.Lowest.{lowest_terms}
-use Rattle.fraction.proofs.LowestTerms.{lowest_are, lowest_cross}
+use Rattle.numerals.specs.Lowest.{lowest_terms}
+use Rattle.numerals.proofs.LowestTerms.{lowest_are, lowest_cross}
 use Rattle.case_model.specs.Sums.{number}
 use Rattle.edge_expression.specs.declared.value_fault.ValueFault.TheVariants.{Part}
 use Rattle.edge_expression.specs.EntryValues.{is_short, short_of, short, sum, difference, product, quotient}

@@ -15,8 +15,8 @@ use Rattle.field_core.specs.View.{terms}
 use Rattle.field_core.specs.Laws.Integers.{int_negate_multiply, int_multiply_negate, int_negate_negate}
 use Rattle.field_core.specs.Laws.PolynomialLaws.{product_nonzero}
 use Rattle.field_core.specs.Laws.Effective.{positive_nonzero}
-use Rattle.fraction.specs.Lowest.{lowest_terms}
-use Rattle.fraction.specs.Numeral.{Same}
+use Rattle.numerals.specs.Lowest.{lowest_terms}
+use Rattle.numerals.specs.Numeral.{Same}
 use Rattle.fraction.specs.Plain.{single, pair_of, fraction_parts}
 use Rattle.fraction.specs.Tests.{is_zero}
 use Rattle.fraction.specs.Within.{IsWithin}
@@ -27,7 +27,7 @@ use Rattle.fraction.specs.Laws.Turned.{opposite_reduced, inverse_reduced}
 use Rattle.fraction.specs.Laws.WrittenLaws.{add_says, mul_says}
 use Rattle.edge_expression.specs.EntryValues.{is_short, short, short_of, sum, difference, product, quotient}
 use Rattle.edge_expression.specs.EntryView.{made_short}
-use Rattle.fraction.proofs.LowestTerms.{lowest_any}
+use Rattle.numerals.proofs.LowestTerms.{lowest_any}
 use Rattle.edge_expression.proofs.ShortNumbers.{short_parts}
 
 -- in lowest terms, with short parts

@@ -7,17 +7,17 @@ use Rattle.std.specs.Char.{is_ascii_digit}
 use Rattle.std.proofs.lemmas.Bool.Decides.{nat_tests}
 use Rattle.std.proofs.lemmas.Bool.{cases_Bool}
 use Rattle.field_core.proofs.Longest.{accepts_then}
-use Rattle.fraction.specs.Numeral.{body_text}
+use Rattle.numerals.specs.Numeral.{body_text}
 use Rattle.text_lines.specs.Words.{is_blank, after_blanks}
-use Rattle.fraction.specs.declared.byte_class.Class.{Class as DecimalClass}
-use Rattle.fraction.specs.declared.byte_class.Class.TheVariants as decimals
-use Rattle.fraction.specs.declared.decimal_machine.DecimalPart.{DecimalPart}
-use Rattle.fraction.specs.declared.decimal_machine.DecimalPart.TheVariants as parts
-use Rattle.fraction.specs.DecimalMachine.{class_of as decimal_class, decimal_step, decimal_byte, may_end as ends_decimal}
-use Rattle.fraction.specs.Decimals.{Decimal}
-use Rattle.fraction.proofs.Classes.{IsOf as IsDecimalByte, class_is as decimal_class_is, either}
-use Rattle.fraction.proofs.DecimalTexts.{takes, takes_nil, takes_cons, decimal_taken}
-use Rattle.fraction.proofs.DecimalLengths.{Stops}
+use Rattle.numerals.specs.declared.byte_class.Class.{Class as DecimalClass}
+use Rattle.numerals.specs.declared.byte_class.Class.TheVariants as decimals
+use Rattle.numerals.specs.declared.decimal_machine.DecimalPart.{DecimalPart}
+use Rattle.numerals.specs.declared.decimal_machine.DecimalPart.TheVariants as parts
+use Rattle.numerals.specs.DecimalMachine.{class_of as decimal_class, decimal_step, decimal_byte, may_end as ends_decimal}
+use Rattle.numerals.specs.Decimals.{Decimal}
+use Rattle.numerals.proofs.Classes.{IsOf as IsDecimalByte, class_is as decimal_class_is, either}
+use Rattle.numerals.proofs.DecimalTexts.{takes, takes_nil, takes_cons, decimal_taken}
+use Rattle.numerals.proofs.DecimalLengths.{Stops}
 use Rattle.edge_expression.specs.declared.byte_machine.State.TheVariants as states
 use Rattle.edge_expression.specs.ByteMachine.{class_of, behind_factor}
 use Rattle.edge_expression.specs.Expressions.{Sign, Plus, Minus, Term, Product, Factor, Number, Other, Further, Epsilon, Parens, Token, DecimalToken, WordToken}

@@ -3,14 +3,14 @@ use Rattle.std.proofs.Common.{◌≡◌, ◌≢◌, ℕ, ◌+◌, ◌%◌, ◌<�
 use Rattle.std.proofs.Common.{Option, Some, None, refl, sym, ap, subst, ◌∙◌, arith, length-append}
 use Rattle.std.proofs.lemmas.List.{take_at, drop_at}
 use Rattle.field_core.specs.Terms.{Terms}
-use Rattle.fraction.specs.Numeral.{body_text}
-use Rattle.fraction.specs.DecimalMachine.{decimal_length}
+use Rattle.numerals.specs.Numeral.{body_text}
+use Rattle.numerals.specs.DecimalMachine.{decimal_length}
 use Rattle.text_lines.specs.Words.{after_blanks}
 use Rattle.edge_expression.specs.declared.polynomial.Operation.{Operation}
 use Rattle.edge_expression.specs.declared.polynomial.Operation.TheVariants as operations
 use Rattle.edge_expression.specs.declared.cursor.Head.{Head}
 use Rattle.edge_expression.specs.declared.cursor.Head.TheVariants as heads
-use Rattle.fraction.specs.Decimals.{Decimal}
+use Rattle.numerals.specs.Decimals.{Decimal}
 use Rattle.edge_expression.specs.Expressions.{Power, Sign, Plus, Minus, MoreTerms, NoTerm, AndTerm, Term, MoreFactors, NoFactor, Times, Over, Beside, Factor}
 use Rattle.edge_expression.specs.Expressions.{Number, Other, Further, Epsilon, Parens, Token, DecimalToken, WordToken, CaretToken, PowerToken, SignToken}
 use Rattle.edge_expression.specs.Expressions.{TimesToken, OverToken, OpenToken, CloseToken, sign_tokens, power_tokens, expression_tokens, terms_tokens}
@@ -20,7 +20,7 @@ use Rattle.edge_expression.specs.EntryValues.{sign_or_plus, power_value, epsilon
 use Rattle.edge_expression.specs.EntryView.{applied}
 use Rattle.edge_expression.specs.CursorView.{IsOtherThan, NoSign, SignTaken, MayBeBeside, NoJoint, JointTaken, BeginsWord, HeadTaken, PowerTaken, CloseTaken}
 use Rattle.edge_expression.specs.CursorView.{EndsExpression, EndsTerm, EndsFactor, IsHead}
-use Rattle.fraction.proofs.DecimalLengths.{decimal_front}
+use Rattle.numerals.proofs.DecimalLengths.{decimal_front}
 use Rattle.field_core.proofs.Heads.{heads as heads_same}
 use Rattle.edge_expression.proofs.SpeltTokens.{front, stops, mark, begin, byte_mark, text_mark, text_begins, begins, no_sign, IsJoint, no_joint, no_caret}
 use Rattle.edge_expression.proofs.SpeltTokens.{term_no_sign, not_further}
@@ -151,23 +151,23 @@ factors_end (Beside (Parens inner) others) more e = tt
 pub record NextFactor (op : Operation) (fs : MoreFactors) (more : List Token) (new : List ℕ) : Type 0 where
   pub factor : Factor
   pub others : MoreFactors
-  pub worth : (p : List Terms) → with_factors p fs ≡ (factor_value factor >>= λ x. applied op p x >>= λ longer. with_factors longer others)
+  pub answer : (p : List Terms) → with_factors p fs ≡ (factor_value factor >>= λ x. applied op p x >>= λ longer. with_factors longer others)
   pub spelt : IsSpelt (factor_tokens factor (factors_tokens others more)) new
 
 times_next : (factor : Factor) (others : MoreFactors) (more : List Token) (new : List ℕ)
     → IsSpelt (factor_tokens factor (factors_tokens others more)) new → NextFactor operations.Multiply (Times factor others) more new
 unfolding with_factors applied
-times_next factor others more new s = record { factor = factor; others = others; worth = λ p. refl; spelt = s }
+times_next factor others more new s = record { factor = factor; others = others; answer = λ p. refl; spelt = s }
 
 over_next : (factor : Factor) (others : MoreFactors) (more : List Token) (new : List ℕ)
     → IsSpelt (factor_tokens factor (factors_tokens others more)) new → NextFactor operations.Divide (Over factor others) more new
 unfolding with_factors applied
-over_next factor others more new s = record { factor = factor; others = others; worth = λ p. refl; spelt = s }
+over_next factor others more new s = record { factor = factor; others = others; answer = λ p. refl; spelt = s }
 
 beside_next : (further : Further) (others : MoreFactors) (more : List Token) (new : List ℕ)
     → IsSpelt (further_tokens further (factors_tokens others more)) new → NextFactor operations.Multiply (Beside further others) more new
 unfolding with_factors applied
-beside_next further others more new s = record { factor = Other further; others = others; worth = λ p. refl; spelt = s }
+beside_next further others more new s = record { factor = Other further; others = others; answer = λ p. refl; spelt = s }
 
 star_next : (fs : MoreFactors) (more : List Token) (old new : List ℕ) → EndsTerm more → after_blanks old ≡ 42 ∷ new
     → IsSpelt (factors_tokens fs more) old → NextFactor operations.Multiply fs more new

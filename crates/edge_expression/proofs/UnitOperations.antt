@@ -4,15 +4,15 @@ use Rattle.std.proofs.Common.{arith}
 use Rattle.std.proofs.lemmas.Int.{ints}
 use Rattle.field_core.specs.Terms.{Terms, IsReduced}
 use Rattle.field_core.specs.Laws.Effective.{positive_nonzero}
-use Rattle.fraction.specs.Laws.Unique.{reduced_unique}
+use Rattle.numerals.specs.Laws.Unique.{reduced_unique}
 use Rattle.std.proofs.lemmas.Bool.Decides.{Decides-int_eq}
-use Rattle.fraction.specs.Numeral.{Same}
-use Rattle.fraction.specs.Lowest.{lowest_terms}
+use Rattle.numerals.specs.Numeral.{Same}
+use Rattle.numerals.specs.Lowest.{lowest_terms}
 use Rattle.fraction.specs.Plain.{zero_reduced, one_reduced}
 use Rattle.fraction.specs.Tests.{is_zero}
 use Rattle.case_model.specs.Sums.{zero_terms}
 use Rattle.edge_expression.specs.EntryValues.{is_short, short_of, short, sum, difference, product, quotient}
-use Rattle.fraction.proofs.LowestTerms.{lowest_any}
+use Rattle.numerals.proofs.LowestTerms.{lowest_any}
 
 -- in lowest terms, with parts of at most 10^18
 abbrev pub IsShortTerms : Terms → Type 0

@@ -2,9 +2,9 @@
 use Rattle.std.specs.Prelude.{ℕ, zero, suc, ◌||◌, Bool, true, false, Option, Some, None, ◌==◌, if◌then◌else◌}
 use Rattle.std.specs.Char.{is_ascii_digit}
 use Rattle.text_lines.specs.Words.{is_blank}
-use Rattle.fraction.specs.declared.decimal_machine.DecimalPart.{DecimalPart}
-use Rattle.fraction.specs.declared.decimal_machine.DecimalPart.TheVariants as parts
-use Rattle.fraction.specs.DecimalMachine.{decimal_byte, may_end as ends_decimal}
+use Rattle.numerals.specs.declared.decimal_machine.DecimalPart.{DecimalPart}
+use Rattle.numerals.specs.declared.decimal_machine.DecimalPart.TheVariants as parts
+use Rattle.numerals.specs.DecimalMachine.{decimal_byte, may_end as ends_decimal}
 use Rattle.edge_expression.specs.declared.byte_class.Class.{Class}
 use Rattle.edge_expression.specs.declared.byte_class.Class.TheVariants as classes
 use Rattle.edge_expression.specs.declared.byte_machine.Letter.{Letter}

@@ -1,8 +1,8 @@
 -- What is left of an edge expression, as contracts of the evaluator's parts see it.
 use Rattle.std.specs.Prelude.{◌≡◌, ◌≢◌, ℕ, ◌+◌, ◌%◌, ◌⊎◌, true, List, [], ◌∷◌, Option, Some, None, Result, is_ok, length}
 use Rattle.std.specs.Prelude.{drop, take, min}
-use Rattle.fraction.specs.Numeral.{body_text}
-use Rattle.fraction.specs.DecimalMachine.{decimal_length}
+use Rattle.numerals.specs.Numeral.{body_text}
+use Rattle.numerals.specs.DecimalMachine.{decimal_length}
 use Rattle.field_core.specs.Terms.{Terms}
 use Rattle.text_lines.specs.Words.{after_blanks}
 use Rattle.edge_expression.specs.declared.value_fault.ValueFault.{ValueFault}
@@ -107,9 +107,9 @@ EndsFactor ks = Unit {0}
 
 -- ---- what the evaluator gives
 
--- The result is this worth, and where that is a value, what is left spells these tokens.
+-- The result is this answer, and where that is a value, what is left spells these tokens.
 abbrev pub Evaluates : Result Polynomial ValueFault → List ℕ → Result (List Terms) ValueFault → List Token → Type 0
-Evaluates result left worth more = (map_value polynomial_terms result ≡ worth) × (is_ok result ≡ true → IsSpelt more left)
+Evaluates result left answer more = (map_value polynomial_terms result ≡ answer) × (is_ok result ≡ true → IsSpelt more left)
 
 -- after this front, what is left spells the rest of the factor, and then these tokens
 unfoldable pub IsHead : Head → List ℕ → Factor → List Token → Type 0

@@ -4,7 +4,7 @@ use Rattle.std.specs.Prelude.{if◌then◌else◌, Result, Ok, Err}
 use Rattle.field_core.specs.Terms.{Terms}
 use Rattle.field_core.specs.View.{terms}
 use Rattle.field_core.specs.declared.ratio.Ratio.{Ratio}
-use Rattle.fraction.specs.Prefixes.{IsBadByte}
+use Rattle.numerals.specs.Prefixes.{IsBadByte}
 use Rattle.edge_expression.specs.declared.fault.ExprFault.{ExprFault}
 use Rattle.edge_expression.specs.declared.fault.ExprFault.TheVariants.{BadByte, Depth, DivisorNotNumber, ZeroDivisor, Degree, Part}
 use Rattle.edge_expression.specs.declared.value_fault.ValueFault.{ValueFault}
@@ -49,16 +49,16 @@ IsScanned text (Err Part) = ⊥
 
 -- ---- what a text gives
 
--- The text is an expression with at most 32 open parentheses, and this is what it is worth.
-pub record IsWorth (text : List ℕ) (worth : Result (List Terms) ValueFault) : Type 0 where
+-- The text is an expression with at most 32 open parentheses, and this is its value, or why it has none.
+pub record TextGives (text : List ℕ) (answer : Result (List Terms) ValueFault) : Type 0 where
   pub expression : Expression
   pub spells : Spells text expression
   pub shallow : IsShallow text (length text)
-  pub worth_is : value expression ≡ worth
+  pub value_is : value expression ≡ answer
 
 -- the text is an expression of this entry
 abbrev pub IsEntryText : List ℕ → List Ratio → Type 0
-IsEntryText text entry = IsWorth text (Ok (map terms entry))
+IsEntryText text entry = TextGives text (Ok (map terms entry))
 
 -- why an expression has no value, as the fault of its text
 abbrev pub fault_of : ValueFault → ExprFault
@@ -71,7 +71,7 @@ fault_of values.Part = Part
 unfoldable pub IsExprFault : List ℕ → ExprFault → Type 0
 IsExprFault text Depth = IsTooDeep text
 IsExprFault text (BadByte n) = IsBadByte IsExpression text n × IsShallow text n
-IsExprFault text DivisorNotNumber = IsWorth text (Err values.DivisorNotNumber)
-IsExprFault text ZeroDivisor = IsWorth text (Err values.ZeroDivisor)
-IsExprFault text Degree = IsWorth text (Err values.Degree)
-IsExprFault text Part = IsWorth text (Err values.Part)
+IsExprFault text DivisorNotNumber = TextGives text (Err values.DivisorNotNumber)
+IsExprFault text ZeroDivisor = TextGives text (Err values.ZeroDivisor)
+IsExprFault text Degree = TextGives text (Err values.Degree)
+IsExprFault text Part = TextGives text (Err values.Part)

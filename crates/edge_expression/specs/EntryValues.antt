@@ -1,10 +1,10 @@
--- What edge expressions are worth: entries, by their five coefficients of ascending power, or the first fault from left to right.
+-- The values of edge expressions: entries, by their five coefficients of ascending power, or the first fault from left to right.
 use Rattle.std.specs.Prelude.{ℕ, zero, suc, ◌-◌, ◌+◌, ◌^◌, ◌==◌, Bool, List, [], ◌∷◌, pos, ℤ, ◌+ℤ◌, ◌-ℤ◌, ◌*ℤ◌}
 use Rattle.std.specs.Prelude.{Option, Some, None, Result, Ok, Err, nat_lt, if◌then◌else◌}
 use Rattle.field_core.specs.Terms.{Terms}
 use Rattle.field_core.specs.Steps.{◌>>=◌}
-use Rattle.fraction.specs.Lowest.{lowest_terms}
-use Rattle.fraction.specs.Decimals.{decimal_value}
+use Rattle.numerals.specs.Lowest.{lowest_terms}
+use Rattle.numerals.specs.Decimals.{decimal_value}
 use Rattle.case_model.specs.Sums.{zero_terms, terms_at}
 use Rattle.fraction.specs.Tests.{is_zero, is_within}
 use Rattle.edge_expression.specs.declared.value_fault.ValueFault.{ValueFault}

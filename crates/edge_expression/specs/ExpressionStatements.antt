@@ -6,7 +6,7 @@ use Rattle.field_core.specs.declared.ratio.Ratio.{Ratio}
 use Rattle.field_core.specs.Number.{Number as Value}
 use Rattle.field_core.specs.Arithmetic.{number_zero, ◌+ε◌, ◌-ε◌, ◌*ε◌, ◌/ε◌}
 use Rattle.field_core.specs.Fractions.{fraction}
-use Rattle.fraction.specs.Numeral.{value_of}
+use Rattle.numerals.specs.Numeral.{value_of}
 use Rattle.case_model.specs.Draft.{is_short}
 use Rattle.case_model.specs.Entries.{entry_value, power_of_epsilon}
 use Rattle.edge_expression.specs.Expressions.{Power, Sign, Plus, Minus, Expression, Sum, MoreTerms, NoTerm, AndTerm, Term, Product, MoreFactors, NoFactor}

@@ -1,7 +1,7 @@
 -- Edge expressions: sums of products of decimals, powers of epsilon and expressions in parentheses, and how they are spelt.
 use Rattle.std.specs.Prelude.{◌≡◌, ℕ, ◌+◌, ◌<◌, ◌⊎◌, List, [], ◌∷◌, ◌++◌, Option, Some, None, codes}
-use Rattle.fraction.specs.Numeral.{body_text}
-use Rattle.fraction.specs.Decimals.{Decimal}
+use Rattle.numerals.specs.Numeral.{body_text}
+use Rattle.numerals.specs.Decimals.{Decimal}
 
 -- ---- what they are made of
 

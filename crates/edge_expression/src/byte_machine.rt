@@ -19,7 +19,7 @@ ghost use Rattle.edge_expression.specs.ByteMachine.{
 };
 
 use crate::byte_class::{Class, class_of};
-use fraction::DecimalPart;
+use numerals::DecimalPart;
 
 /// The last byte that was read of `\epsilon`.
 #[derive(Clone, Copy)]

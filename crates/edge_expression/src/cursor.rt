@@ -5,7 +5,7 @@ ghost use Rattle.text_lines.specs.Words.{after_blanks};
 ghost use Rattle.edge_expression.specs.CursorView.{IsOtherThan, SignTaken, JointTaken, HeadTaken, PowerTaken, CloseTaken};
 
 use crate::polynomial::Operation;
-use fraction::decimal_len;
+use numerals::decimal_len;
 use text_lines::after_blanks;
 
 /// What is left of an edge expression.

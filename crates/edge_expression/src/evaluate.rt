@@ -1,8 +1,8 @@
 //! Edge expressions from left to right. What is said of a text holds where it is an expression.
 ghost use Rattle.std.specs.Prelude.{◌≡◌, ◌≤◌, map, length, IfOk};
-ghost use Rattle.fraction.specs.Numeral.{body_text};
+ghost use Rattle.numerals.specs.Numeral.{body_text};
 ghost use Rattle.field_core.specs.View.{terms};
-ghost use Rattle.fraction.specs.Decimals.{Decimal, decimal_value};
+ghost use Rattle.numerals.specs.Decimals.{Decimal, decimal_value};
 ghost use Rattle.edge_expression.specs.Expressions.{Expression, Spells};
 ghost use Rattle.edge_expression.specs.EntryValues.{decimal_entry, value};
 ghost use Rattle.edge_expression.specs.EntryView.{map_value, polynomial_terms};
@@ -73,13 +73,13 @@ fn factor(cursor: &mut Cursor, head: Head) -> Result<Polynomial, ValueFault>
     }
 }
 
-/// Returns what an edge expression is worth.
-pub fn worth(text: &[u8]) -> Result<Entry, ValueFault>
+/// Returns the value of an edge expression.
+pub fn expression_value(text: &[u8]) -> Result<Entry, ValueFault>
     ensures { (e : Expression) → Spells text.now e → map_value (map terms) result ≡ value e }
 {
     let mut cursor = Cursor::new(text);
     match sum(&mut cursor) {
-        Ok(worth) => Ok(worth.entry()),
+        Ok(value) => Ok(value.entry()),
         Err(fault) => Err(fault),
     }
 }

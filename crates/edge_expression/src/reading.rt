@@ -1,28 +1,18 @@
 //! The reader of edge expressions.
-ghost use Rattle.std.specs.Prelude.{◌≡◌, List as Seq, IfOk, IfErr, Ok};
-ghost use Rattle.field_core.specs.declared.ratio.Ratio.{Ratio};
+ghost use Rattle.std.specs.Prelude.{IfOk, IfErr};
 ghost use Rattle.edge_expression.specs.EntryReading.{IsEntryText, IsExprFault};
 
 use crate::ExprFault;
-use crate::evaluate::worth;
+use crate::evaluate::expression_value;
 use crate::scan::scan;
 use case_model::Entry;
 
-/// Reads an edge expression: a polynomial in epsilon of degree at most 4, or the first fault of the text. It takes no
-/// memory.
-///
-/// An expression is a sum of terms joined by `+` or `-`, perhaps with a sign before the first one. A term is a product
-/// of decimals such as `1.5e-3`, of `\epsilon` with perhaps `^` and one digit, and of expressions in parentheses.
-/// Factors are joined by `*` or `/`, and a `*` may be left out before `\epsilon` and before a parenthesis; they group
-/// to the left, so `1/2\epsilon` is half of epsilon. Spaces and tabs may be between all these.
-///
-/// The parts of each decimal, product, quotient and partial sum are at most 10^18 in lowest terms.
-pub fn read_entry(text: &[u8]) -> Result<Entry, ExprFault>
+/// Returns the entry of an edge expression, or the first fault of a text. It takes no memory.
+pub fn parse(text: &[u8]) -> Result<Entry, ExprFault>
     ensures found { IfOk result (IsEntryText text.now) }
-    ensures only { (e : Seq Ratio) → IsEntryText text.now e → result ≡ Ok e }
     ensures fault { IfErr result (IsExprFault text.now) }
 {
     scan(text)?;
-    let entry = worth(text)?;
+    let entry = expression_value(text)?;
     Ok(entry)
 }

@@ -11,7 +11,7 @@ use Rattle.std.proofs.lemmas.List.Folds.{list_all-append}
 use Rattle.field_core.specs.Terms.{Terms, IsReduced}
 use Rattle.field_core.specs.View.{terms}
 use Rattle.field_core.specs.declared.ratio.Ratio.{Ratio}
-use Rattle.fraction.specs.Numeral.{AreDigits}
+use Rattle.numerals.specs.Numeral.{AreDigits}
 use Rattle.fraction.specs.Spelling.{spelling, IsSpellingByte}
 use Rattle.fraction.specs.Tests.{is_zero, is_one, is_within, absolute}
 use Rattle.fraction.specs.View.{number_of}
@@ -222,7 +222,7 @@ blank_entry text e h = record {
   expression = h.expression;
   spells = blank_spells text h.expression h.spells;
   shallow = blank_shallow text h.shallow;
-  worth_is = h.worth_is;
+  value_is = h.value_is;
 }
 
 -- ---- the text of an entry has a byte

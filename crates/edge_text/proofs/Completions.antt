@@ -7,7 +7,7 @@ use Rattle.field_core.specs.declared.ratio.Ratio.{Ratio}
 use Rattle.field_core.specs.Terms.{Terms}
 use Rattle.fraction.specs.Plain.{zero_reduced}
 use Rattle.fraction.specs.Spelling.{spelling}
-use Rattle.fraction.specs.Numeral.{IsNumeralOf}
+use Rattle.numerals.specs.Numeral.{IsNumeralOf}
 use Rattle.fraction.proofs.ReadBack.{read_back}
 use Rattle.text_lines.specs.Words.{words_of}
 use Rattle.case_model.specs.declared.draft.Draft.{Draft}

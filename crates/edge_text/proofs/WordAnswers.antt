@@ -8,11 +8,11 @@ use Rattle.std.proofs.lemmas.Bool.Decides.{nat_tests}
 use Rattle.field_core.specs.Answers.{told_as}
 use Rattle.field_core.specs.declared.ratio.Ratio.{Ratio}
 use Rattle.field_core.proofs.Results.{same_value}
-use Rattle.fraction.specs.Numeral.{AreDigits}
-use Rattle.fraction.specs.WholeNumbers.{WritesNumber}
+use Rattle.numerals.specs.Numeral.{AreDigits}
+use Rattle.numerals.specs.WholeNumbers.{WritesNumber}
 use Rattle.edge_expression.specs.EntryReading.{IsEntryText}
-use Rattle.numerals.specs.Numerals.{numeral_of}
-use Rattle.numerals.proofs.Numerals.{numeral_ok, numeral_is}
+use Rattle.fraction.specs.Numerals.{numeral_of}
+use Rattle.fraction.proofs.Numerals.{numeral_ok, numeral_is}
 use Rattle.entries.specs.Entries.{entry_of}
 use Rattle.entries.proofs.Entries.{entry_ok, entry_is}
 use Rattle.edge_text.specs.declared.fault.LineKind.TheVariants.{Whole, Number, Expr}

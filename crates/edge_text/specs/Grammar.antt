@@ -3,8 +3,8 @@ use Rattle.std.specs.Prelude.{◌≡◌, ◌<◌, ◌⊎◌, ℕ, List, [], ◌�
 use Rattle.std.specs.List.{AllZip, flat_map}
 use Rattle.field_core.specs.declared.ratio.Ratio.{Ratio}
 use Rattle.field_core.specs.View.{terms}
-use Rattle.fraction.specs.Numeral.{IsNumeralOf}
-use Rattle.fraction.specs.WholeNumbers.{WritesNumber}
+use Rattle.numerals.specs.Numeral.{IsNumeralOf}
+use Rattle.numerals.specs.WholeNumbers.{WritesNumber}
 use Rattle.fraction.specs.Plain.{one_reduced}
 use Rattle.case_model.specs.declared.draft.Draft.{Draft}
 use Rattle.case_model.specs.declared.draft_component.DraftComponent.{DraftComponent}

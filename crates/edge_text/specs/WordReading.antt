@@ -10,7 +10,7 @@ use Rattle.case_model.specs.declared.draft_stages.Arrival.{Arrival}
 use Rattle.case_model.specs.declared.spend_step.SpendStep.{SpendStep}
 use Rattle.case_model.specs.Names.{position_of}
 use Rattle.text_lines.specs.Words.{words_of, words_behind, behind_words, only_word, only_three}
-use Rattle.numerals.specs.Numerals.{numeral_of}
+use Rattle.fraction.specs.Numerals.{numeral_of}
 use Rattle.entries.specs.Entries.{entry_of}
 use Rattle.edge_text.specs.declared.fault.LineKind.{LineKind}
 use Rattle.edge_text.specs.declared.fault.LineKind.TheVariants.{Unexpected, WordCount, UnknownName, Whole, Number, Expr}

@@ -36,7 +36,8 @@ mod write_stages;
 mod write_words;
 
 pub use draft_lines::draft;
-pub use edge_expression::{ExprFault, print_entry, read_entry};
+pub use edge_expression::{ExprFault, print_entry};
+pub use entries::read_entry;
 pub use fault::{LineKind, TextFault};
 pub use text_reader::read_text;
 pub use write::{is_absent, is_alone, write_text};

@@ -11,7 +11,8 @@ use crate::spend_words::{SharesWords, StepWords};
 use crate::{LineKind, TextFault};
 use case_model::{Arrival, DraftEdge, Entry, SpendStep};
 use field_core::{List, NoMemory, Text};
-use fraction::{Fraction, whole_number};
+use fraction::Fraction;
+use numerals::whole_number;
 use std::alloc::Global;
 use text_lines::{Line, Words};
 
@@ -19,7 +20,7 @@ use text_lines::{Line, Words};
 fn numeral(line: &Line, word: &[u8]) -> Result<Fraction, TextFault>
     ensures { Gives line.now.number (numeral word.now) result }
 {
-    match numerals::numeral(word) {
+    match Fraction::parse(word) {
         Ok(value) => Ok(value),
         Err(fault) => Err(TextFault::Line(line.number, LineKind::Number(fault))),
     }
@@ -83,7 +84,7 @@ fn filled(alloc: Global, values: &[Fraction]) -> Result<List<Option<Fraction>>, 
 fn entry(line: &Line, expression: &[u8]) -> Result<Entry, TextFault>
     ensures { Gives line.now.number (entry expression.now) result }
 {
-    match entries::entry(expression) {
+    match entries::read_entry(expression) {
         Ok(entry) => Ok(entry),
         Err(fault) => Err(TextFault::Line(line.number, LineKind::Expr(fault))),
     }

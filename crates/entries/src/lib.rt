@@ -5,11 +5,11 @@
 //! state what they return.
 //!
 //! Proved:
-//! - `entry`: `value` (it returns `entry_of` of its text).
+//! - `read_entry`: `value` (it returns `entry_of` of its text).
 //! - `entries_are_read`, a law: `entry_of` agrees with the grammar and with the faults, both ways.
 #![tactic(auto)]
 
 pub mod laws;
 mod reading;
 
-pub use reading::entry;
+pub use reading::read_entry;

@@ -9,7 +9,7 @@ use Rattle.std.proofs.lemmas.List.Elements.{All-nil, All-cons}
 use Rattle.field_core.specs.Kind.{Parts, is_zero_integer}
 use Rattle.field_core.specs.Polynomial.{coefficient, lowest}
 use Rattle.field_core.specs.Terms.{Terms}
-use Rattle.fraction.specs.Lowest.{lowest_terms, HasWidePart}
+use Rattle.numerals.specs.Lowest.{lowest_terms, HasWidePart}
 use Rattle.fraction.specs.Plain.{single}
 use Rattle.eps_poly.proofs.Coefficients.{is_zero_true, is_zero_false}
 use Rattle.eps_poly.specs.Polynomials.{monomial}

@@ -9,10 +9,10 @@ use Rattle.field_core.specs.Kind.{Parts}
 use Rattle.field_core.specs.Polynomial.{coefficient}
 use Rattle.field_core.specs.Terms.{Terms}
 use Rattle.field_core.specs.Texts.{fraction_text}
-use Rattle.fraction.specs.Lowest.{lowest_terms, HasWidePart}
+use Rattle.numerals.specs.Lowest.{lowest_terms, HasWidePart}
 use Rattle.fraction.specs.Plain.{single, pair_of, IsFraction}
 use Rattle.fraction.specs.Spelling.{spelling, IsSpellingByte}
-use Rattle.fraction.proofs.LowestTerms.{lowest_any}
+use Rattle.numerals.proofs.LowestTerms.{lowest_any}
 use Rattle.fraction.proofs.ReadBack.{spelling_bytes}
 use Rattle.eps_poly.specs.Polynomials.{monomial}
 use Rattle.eps_poly.specs.Written.{degree}

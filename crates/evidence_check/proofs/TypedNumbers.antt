@@ -8,9 +8,9 @@ use Rattle.field_core.specs.Terms.{Terms, IsReduced}
 use Rattle.field_core.specs.declared.ratio.Ratio.{Ratio}
 use Rattle.field_core.proofs.Positions.{below_or_above}
 use Rattle.field_core.proofs.Wholes.{size_negated}
-use Rattle.fraction.specs.Lowest.{lowest_terms, HasWidePart}
+use Rattle.numerals.specs.Lowest.{lowest_terms, HasWidePart}
 use Rattle.fraction.specs.Plain.{fraction_parts}
-use Rattle.fraction.proofs.LowestTerms.{lowest_are}
+use Rattle.numerals.proofs.LowestTerms.{lowest_are}
 use Rattle.eps_poly.specs.Polynomials.{IsPolynomial, by_powers}
 use Rattle.eps_poly.proofs.Coefficients.{length-by_powers, coefficient-by_powers, coefficient-past}
 use Rattle.eps_quotient.specs.declared.quotient.EpsQuotient.{EpsQuotient}

@@ -5,7 +5,7 @@ use Rattle.std.specs.List.{list_any}
 use Rattle.field_core.specs.Kind.{Parts, is_zero_integer}
 use Rattle.field_core.specs.Polynomial.{coefficient, lowest}
 use Rattle.field_core.specs.Terms.{Terms}
-use Rattle.fraction.specs.Lowest.{lowest_terms}
+use Rattle.numerals.specs.Lowest.{lowest_terms}
 use Rattle.fraction.specs.Plain.{single}
 use Rattle.eps_poly.specs.Polynomials.{monomial}
 use Rattle.eps_quotient.specs.Lowering.{norm, one_polynomial}

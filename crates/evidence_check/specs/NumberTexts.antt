@@ -3,7 +3,7 @@ use Rattle.std.specs.Prelude.{◌≡◌, ◌≢◌, ◌==◌, false, ℕ, ℤ, p
 use Rattle.std.specs.List.{list_any}
 use Rattle.field_core.specs.Kind.{Parts}
 use Rattle.field_core.specs.Polynomial.{coefficient}
-use Rattle.fraction.specs.Lowest.{lowest_terms, HasWidePart}
+use Rattle.numerals.specs.Lowest.{lowest_terms, HasWidePart}
 use Rattle.fraction.specs.Plain.{single, pair_of}
 use Rattle.fraction.specs.Spelling.{spelling}
 use Rattle.eps_quotient.specs.Grammar.{IsQuotientText}

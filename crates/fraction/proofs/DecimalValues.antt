@@ -1,22 +1,24 @@
 -- What a decimal is worth, by what is read of it.
-use Rattle.std.proofs.Common.{◌≡◌, ◌≢◌, ℕ, Bool, true, false, List, [], pos, Some, None, Result, Ok, Err, IfOk, IfErr, refl, sym, ap, subst}
+use Rattle.std.proofs.Common.{◌≡◌, ◌≢◌, ℕ, Bool, true, false, List, [], pos, Some, None, Result, Ok, Err, refl, sym, subst}
 use Rattle.std.proofs.Common.{◌∙◌}
 use Rattle.std.specs.Option.{option_map}
-use Rattle.std.specs.Result.{result_ok, IsOkAnd}
+use Rattle.std.specs.Result.{result_ok}
 use Rattle.field_core.specs.Terms.{Terms}
 use Rattle.field_core.specs.Laws.Effective.{positive_nonzero}
-use Rattle.fraction.specs.declared.fraction.Fraction.{Fraction}
-use Rattle.fraction.specs.View.{terms_of}
-use Rattle.fraction.specs.declared.fault.NumberFault.{NumberFault}
-use Rattle.fraction.specs.declared.fault.NumberFault.TheVariants.{Empty, BadByte, ZeroDenominator, TooManyDigits}
-use Rattle.fraction.specs.declared.decimal_machine.DecimalPart.TheVariants as parts
-use Rattle.fraction.specs.Numeral.{Same, Body, Plain, Pointed, Pair, body_text, value_of, IsNumeral, HasZeroDenominator, HasTooManyDigits, IsNumeralOf}
-use Rattle.fraction.specs.Numeral.{IsParseFault}
-use Rattle.fraction.specs.Decimals.{IsPair, Decimal, has_too_many_digits, decimal_value}
-use Rattle.fraction.proofs.DecimalTexts.{takes, takes_nil, decimal_taken}
-use Rattle.fraction.proofs.DecimalLimits.{decides_too_many}
-use Rattle.fraction.proofs.LowestTerms.{lowest_any}
-use Rattle.fraction.proofs.Unique.{body_unique, value_unique, value_positive}
+use Rattle.field_core.specs.View.{terms}
+use Rattle.field_core.specs.declared.ratio.Ratio.{Ratio}
+use Rattle.numerals.specs.declared.fault.NumberFault.{NumberFault}
+use Rattle.numerals.specs.declared.fault.NumberFault.TheVariants.{Empty, BadByte, ZeroDenominator, TooManyDigits}
+use Rattle.numerals.specs.declared.decimal_machine.DecimalPart.TheVariants as parts
+use Rattle.numerals.specs.Numeral.{Same, Body, Plain, Pointed, Pair, body_text, value_of, IsNumeral, HasZeroDenominator, HasTooManyDigits, IsNumeralOf}
+use Rattle.numerals.specs.Numeral.{IsParseFault}
+use Rattle.numerals.specs.Decimals.{IsPair, Decimal, has_too_many_digits, decimal_value}
+use Rattle.numerals.proofs.DecimalTexts.{takes, takes_nil, decimal_taken}
+use Rattle.numerals.proofs.DecimalLimits.{decides_too_many}
+use Rattle.numerals.proofs.LowestTerms.{lowest_any}
+use Rattle.numerals.proofs.Unique.{body_unique, value_unique, value_positive}
+use Rattle.fraction.specs.Numerals.{numeral_of}
+use Rattle.fraction.proofs.Numerals.{numeral_is, numeral_fails}
 
 -- a decimal is a numeral
 numeral : (d : Decimal) → IsNumeral (body_text d.body)
@@ -73,12 +75,7 @@ decimal_fault : (d : Decimal) (text : List ℕ) (f : NumberFault) → text ≡ b
 decimal_fault d text f e h = sym (fault_by d f (subst (λ x. IsParseFault x f) e h))
 
 -- what is read of the text of a decimal
-pub decimal_read : (d : Decimal) (text : List ℕ) (r : Result Fraction NumberFault) → text ≡ body_text d.body
-    → IfOk r (λ x. IsNumeralOf text (terms_of x)) → IfErr r (IsParseFault text) → option_map terms_of (result_ok r) ≡ decimal_value d
-decimal_read d text (Ok x) e ok err = decimal_found d text (terms_of x) e ok
-decimal_read d text (Err f) e ok err = decimal_fault d text f e err
-
--- what is read of a numeral
-pub numeral_read : (t : Terms) (r : Result Fraction NumberFault) → IsOkAnd r (λ x. terms_of x ≡ t) → option_map terms_of (result_ok r) ≡ Some t
-numeral_read t (Ok x) e = ap Some e
-numeral_read t (Err f) e = absurd e
+pub decimal_read : (d : Decimal) (text : List ℕ) (r : Result Ratio NumberFault) → text ≡ body_text d.body → r ≡ numeral_of text
+    → option_map terms (result_ok r) ≡ decimal_value d
+decimal_read d text (Ok x) e k = decimal_found d text (terms x) e (numeral_is text x (sym k))
+decimal_read d text (Err f) e k = decimal_fault d text f e (numeral_fails text f (sym k))

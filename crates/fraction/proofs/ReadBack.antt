@@ -14,12 +14,12 @@ use Rattle.std.proofs.lemmas.Fmt.{decimal_is_IsNumeral_wide, length-decimal-le_w
 use Rattle.std.proofs.lemmas.Str.Parse.{digit_from_value}
 use Rattle.std.proofs.lemmas.Int.{ints}
 use Rattle.field_core.specs.Terms.{Terms, IsReduced}
-use Rattle.fraction.specs.Numeral.{AreDigits, sign_text, IsSign, is_minus, with_sign, Plain, Pair, IsNumeral, value_of, without_leading_zeros, IsTooLong}
-use Rattle.fraction.specs.Numeral.{HasZeroDenominator, HasTooManyDigits, IsNumeralOf}
+use Rattle.numerals.specs.Numeral.{AreDigits, sign_text, IsSign, is_minus, with_sign, Plain, Pair, IsNumeral, value_of, without_leading_zeros, IsTooLong}
+use Rattle.numerals.specs.Numeral.{HasZeroDenominator, HasTooManyDigits, IsNumeralOf}
 use Rattle.field_core.specs.Texts.{fraction_text}
 use Rattle.fraction.specs.Spelling.{spelling, IsSpellingByte}
-use Rattle.fraction.proofs.LowestTerms.{sign_is}
-use Rattle.fraction.proofs.Zeros.{length_without_le, trailing_le}
+use Rattle.numerals.proofs.LowestTerms.{sign_is}
+use Rattle.numerals.proofs.Zeros.{length_without_le, trailing_le}
 
 -- ---- decimal digits
 

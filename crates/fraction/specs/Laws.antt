@@ -6,5 +6,4 @@ pub mod PlainLaws
 pub mod PlainLimits
 pub mod Reduced
 pub mod Turned
-pub mod Unique
 pub mod WrittenLaws

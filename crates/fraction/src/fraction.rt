@@ -3,8 +3,7 @@ ghost use Rattle.std.specs.Prelude.{◌≡◌};
 ghost use Rattle.fraction.specs.Plain.{plain, IsFraction, fraction_parts, fraction_stored};
 ghost use Rattle.fraction.specs.Laws.PlainLaws.{plain_is_exact};
 
-use crate::lowest::quotient;
-use crate::parse::read;
+use crate::quotients::quotient;
 use crate::written::{inverse, multiply, opposite, plus};
 use crate::{FractionFault, NumberFault};
 use field_core::{List, NoMemory, Number, Op, Ratio, TooWide};
@@ -141,15 +140,16 @@ impl Number for Fraction {
 }
 
 impl Fraction {
-    ghost use Rattle.std.specs.Prelude.{◌≡◌, ◌≢◌, ◌↔◌, ◌++◌, pos, Some, IfSome, IfOk, IfErr, IsOkAnd, OnOk, OnErr};
-    ghost use Rattle.field_core.specs.Terms.{Terms};
+    ghost use Rattle.std.specs.Prelude.{◌≡◌, ◌≢◌, ◌↔◌, ◌++◌, pos, IfOk, OnOk, OnErr};
     ghost use Rattle.field_core.specs.Fractions.{fraction};
     ghost use Rattle.field_core.specs.View.{terms};
     ghost use Rattle.fraction.specs.View.{terms_of, number_of};
-    ghost use Rattle.fraction.specs.Lowest.{lowest_terms, HasWidePart};
+    ghost use Rattle.numerals.specs.Lowest.{lowest_terms, HasWidePart};
     ghost use Rattle.std.specs.Option.{option_map};
-    ghost use Rattle.fraction.specs.Decimals.{Decimal, decimal_value};
-    ghost use Rattle.fraction.specs.Numeral.{IsNumeralOf, IsParseFault, body_text};
+    ghost use Rattle.std.specs.Result.{result_ok};
+    ghost use Rattle.numerals.specs.Decimals.{Decimal, decimal_value};
+    ghost use Rattle.numerals.specs.Numeral.{body_text};
+    ghost use Rattle.fraction.specs.Numerals.{numeral_of};
     ghost use Rattle.fraction.specs.Spelling.{spelling};
     ghost use Rattle.fraction.specs.Tests.{is_zero, is_one, is_within, absolute};
 
@@ -165,23 +165,20 @@ impl Fraction {
         Ok(Fraction { ratio })
     }
 
-    /// Reads a numeral: a decimal such as `-1.5e3`, or a pair such as `2/3`, within 38 digits. Else it is the first fault
-    /// of `NumberFault` that holds.
+    /// Returns the value of a numeral, a decimal such as `-1.5e3` or a pair such as `2/3`, within 38 digits. Of another text
+    /// it is the first fault of `NumberFault` that holds.
     pub fn parse(text: &[u8]) -> Result<Fraction, NumberFault>
-        ensures found { IfOk result (λ x. IsNumeralOf text.now (terms_of x)) }
-        ensures only { (t : Terms) → IsNumeralOf text.now t → IsOkAnd result (λ x. terms_of x ≡ t) }
-        ensures fault { IfErr result (IsParseFault text.now) }
+        ensures value { result ≡ numeral_of text.now }
     {
-        let ratio = read(text)?;
+        let ratio = numerals::parse(text)?;
         Ok(Fraction { ratio })
     }
 
     /// Returns the value of a text that is a decimal, or nothing where it has too many digits. Of any other text it is
     /// what `parse` reads: the fraction of a numeral, else nothing.
     pub fn parse_decimal(text: &[u8]) -> Option<Fraction>
+        ensures value { result ≡ result_ok (numeral_of text.now) }
         ensures decimal { (d : Decimal) → text.now ≡ body_text d.body → option_map terms_of result ≡ decimal_value d }
-        ensures found { IfSome result (λ x. IsNumeralOf text.now (terms_of x)) }
-        ensures only { (t : Terms) → IsNumeralOf text.now t → option_map terms_of result ≡ Some t }
     {
         Fraction::parse(text).ok()
     }

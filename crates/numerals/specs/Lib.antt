@@ -1,1 +1,10 @@
-pub mod Numerals
+pub mod Checking
+pub mod DecimalMachine
+pub mod Decimals
+pub mod Laws
+pub mod Lowest
+pub mod Numeral
+pub mod NumeralMachine
+pub mod Prefixes
+pub mod Sizes
+pub mod WholeNumbers

@@ -1,14 +1,21 @@
-//! Reading a numeral.
-ghost use Rattle.std.specs.Prelude.{◌≡◌};
-ghost use Rattle.numerals.specs.Numerals.{numeral_of};
+//! The reading of a numeral.
+ghost use Rattle.std.specs.Prelude.{IfOk, IfErr};
+ghost use Rattle.numerals.specs.Numeral.{IsRatioText, IsParseFault};
 
-use fraction::{Fraction, NumberFault};
+use crate::NumberFault;
+use crate::check::check;
+use crate::digits::split_sign;
+use crate::lowest::lowest;
+use crate::value::value;
+use field_core::Ratio;
 
-/// Returns the value of a numeral, such as `-1.5e3` or `2/3`, in lowest terms, or the fault of a text that has none. It
-/// takes no memory.
-#[tactic(auto, using(crate::proofs::Numerals::numeral_ok, crate::proofs::Numerals::numeral_err))]
-pub fn numeral(text: &[u8]) -> Result<Fraction, NumberFault>
-    ensures value { result ≡ numeral_of text.now }
+/// Returns the value of a numeral in lowest terms, or the fault of a text.
+pub fn parse(text: &[u8]) -> Result<Ratio, NumberFault>
+    ensures found { IfOk result (IsRatioText text.now) }
+    ensures fault { IfErr result (IsParseFault text.now) }
 {
-    Fraction::parse(text)
+    check(text)?;
+    let (negative, body) = split_sign(text);
+    let size = value(body)?;
+    Ok(lowest(negative, &size))
 }

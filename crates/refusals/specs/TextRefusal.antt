@@ -1,8 +1,8 @@
 -- Lines of texts that say no draft.
 use Rattle.std.specs.Prelude.{ℕ, List, ◌++◌, codes}
 use Rattle.std.specs.Fmt.{decimal}
-use Rattle.fraction.specs.declared.fault.NumberFault.{NumberFault}
-use Rattle.fraction.specs.declared.fault.NumberFault.TheVariants.{Empty, BadByte, ZeroDenominator, TooManyDigits}
+use Rattle.numerals.specs.declared.fault.NumberFault.{NumberFault}
+use Rattle.numerals.specs.declared.fault.NumberFault.TheVariants.{Empty, BadByte, ZeroDenominator, TooManyDigits}
 use Rattle.edge_text.specs.declared.fault.LineKind.{LineKind}
 use Rattle.edge_text.specs.declared.fault.LineKind.TheVariants.{Unexpected, Ended, WordCount, UnknownName, Whole, Number, Expr}
 use Rattle.edge_expression.specs.declared.fault.ExprFault.{ExprFault}

@@ -11,15 +11,16 @@ use crate::{CommandsFault, StudyCommand};
 use case_model::Case;
 use edge_text::LineKind;
 use field_core::Ratio;
-use fraction::whole_number;
+use fraction::Fraction;
 use graph_io::Look;
+use numerals::whole_number;
 use text_lines::{Line, Words};
 
 /// Returns the value of a numeral on a line.
 fn numeral(line: &Line, word: &[u8]) -> Result<Ratio, CommandsFault>
     ensures { result ≡ told_as (faults.Line line.now.number) (numeral word.now) }
 {
-    match numerals::numeral(word) {
+    match Fraction::parse(word) {
         Ok(value) => Ok(value.ratio()),
         Err(fault) => Err(CommandsFault::Line(line.number, LineKind::Number(fault))),
     }

@@ -15,7 +15,8 @@
 use crate::rows::fraction;
 use case_model::{Arrival, Draft, DraftComponent, DraftEdge, DraftStages, Entry, Spend, SpendStep};
 use field_core::{List, Text};
-use fraction::{Fraction, whole_number};
+use fraction::Fraction;
+use numerals::whole_number;
 use std::process::Abort;
 use text_lines::{Lines, Words};
 

@@ -1,6 +1,7 @@
 //! Edge expressions and texts of entries by hand.
 use crate::checks::{Terms, expect, has_coefficients};
-use edge_expression::{ExprFault, print_entry, read_entry};
+use edge_expression::{ExprFault, print_entry};
+use entries::read_entry;
 use field_core::List;
 use std::alloc::Global;
 use std::process::Abort;

@@ -2,7 +2,8 @@
 use crate::fraction_vectors::{ADD, COMPARE, DIV, MUL, SUB, Terms, Written};
 use crate::rows::{expect, result};
 use field_core::{List, NoMemory, Number, Op};
-use fraction::{Fraction, FractionFault, NumberFault, decimal_len};
+use fraction::{Fraction, FractionFault, NumberFault};
+use numerals::decimal_len;
 use std::alloc::Global;
 use std::cmp::Ordering;
 use std::process::Abort;

@@ -16,7 +16,7 @@ use Rattle.field_core.specs.declared.place.WideAt.{WideAt}
 use Rattle.field_core.proofs.UnitLimits.{one_is, suc_not_zero}
 use Rattle.fraction.specs.Plain.{plain}
 use Rattle.fraction.specs.View.{number_of}
-use Rattle.fraction.specs.Laws.Unique.{reduced_unique}
+use Rattle.numerals.specs.Laws.Unique.{reduced_unique}
 use Rattle.fraction.proofs.SameRatios.{same_ratio}
 use Rattle.case_model.specs.declared.component.Component.{Component}
 use Rattle.case_model.specs.Content.{Content, component_at, empty_component, entangled, is_plain}

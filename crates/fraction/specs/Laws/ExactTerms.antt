@@ -3,7 +3,7 @@ use Rattle.std.proofs.lemmas.Nat.Gcd.{dvd_trans}
 use Rattle.field_core.specs.Divisor.{gcd}
 use Rattle.field_core.specs.Terms.{Terms}
 use Rattle.field_core.specs.Sized.{sized, gcd_of}
-use Rattle.fraction.specs.Numeral.{Same}
+use Rattle.numerals.specs.Numeral.{Same}
 use Rattle.fraction.specs.Laws.CrossProducts.{sum_of, product_of}
 use Rattle.field_core.proofs.Divisors.{gcd_is}
 use Rattle.field_core.proofs.IntegerRing.{ring}

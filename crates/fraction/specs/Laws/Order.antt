@@ -12,7 +12,7 @@ use Rattle.field_core.specs.Fractions.{fraction}
 use Rattle.field_core.specs.Laws.FieldLaws.{number_is_field}
 use Rattle.field_core.specs.Laws.Effective.{fraction-compare, fraction-cross, positive_nonzero}
 use Rattle.field_core.specs.declared.ratio.Ratio.{Ratio}
-use Rattle.fraction.specs.Laws.Unique.{reduced_unique}
+use Rattle.numerals.specs.Laws.Unique.{reduced_unique}
 
 -- ---- the order
 

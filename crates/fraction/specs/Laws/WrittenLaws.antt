@@ -3,7 +3,7 @@ use Rattle.std.proofs.Common.{◌≡◌, refl, subst, Option, Some, None}
 use Rattle.field_core.specs.Terms.{Terms, IsReduced}
 use Rattle.field_core.specs.Sized.{◌>>=◌}
 use Rattle.fraction.specs.Written.{written_add, written_mul}
-use Rattle.fraction.specs.Numeral.{Same}
+use Rattle.numerals.specs.Numeral.{Same}
 use Rattle.fraction.specs.Laws.CrossProducts.{sum_of, product_of}
 use Rattle.fraction.specs.Laws.Reduced.{mul_reduced, add_reduced}
 use Rattle.fraction.specs.Laws.ExactTerms.{mul_exact, add_exact}

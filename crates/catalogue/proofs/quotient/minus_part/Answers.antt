@@ -1,7 +1,7 @@
 use Rattle.std.proofs.Common.{◌≡◌, ◌<◌, ◌^◌, ◌∙◌, ap₂, negsuc, arith, lit<, to_z, of_z}
 use Rattle.std.specs.Int.{w128}
 use Rattle.std.proofs.lemmas.Int.{to_z_pos, to_z-of_z, fits_signed_from_abs}
-use Rattle.fraction.specs.Lowest.{lowest_terms}
+use Rattle.numerals.specs.Lowest.{lowest_terms}
 use Rattle.catalogue.proofs.RatiosOf.{quotient_is, no_fault}
 use Rattle.catalogue.proofs.quotient.minus_part.Goals as goal
 

@@ -1,7 +1,7 @@
 use Rattle.std.proofs.Common.{◌<◌, ◌^◌, ◌∙◌, ap₂, pos, arith}
 use Rattle.std.specs.Int.{w128}
 use Rattle.std.proofs.lemmas.Int.{to_z_pos}
-use Rattle.fraction.specs.Lowest.{lowest_terms}
+use Rattle.numerals.specs.Lowest.{lowest_terms}
 use Rattle.catalogue.proofs.RatiosOf.{quotient_is, no_fault}
 use Rattle.catalogue.proofs.quotient.quotient.Goals as goal
 

@@ -1,10 +1,8 @@
-use Rattle.std.proofs.Common.{◌≡◌, None, Result, Ok, Err}
-use Rattle.std.specs.Result.{result_ok, IsOkAnd}
+use Rattle.command_words.proofs.LevelTexts.{level_known, level_unknown}
 use Rattle.command_words.proofs.choice.level_spelt.Goals as goal
 
-not_ok : {A E : Type 0} (r : Result A E) (P : A → Type 0) → result_ok r ≡ None → IsOkAnd r P → ⊥
-not_ok (Ok x) P e h = cc
-not_ok (Err x) P e h = h
+pub returns-clause-known : goal.returns-clause-known
+returns-clause-known c = rw c.ok.ensures.value (level_known c.args.text.now c.parse.result c.parse.ensures.value)
 
 pub returns-clause-unknown : goal.returns-clause-unknown
-returns-clause-unknown c = λ e level h. not_ok c.parse.result _ (rw c.ok.ensures.value at e) (c.parse.ensures.only level h)
+returns-clause-unknown c e level h = level_unknown c.args.text.now c.parse.result c.parse.ensures.value (rw c.ok.ensures.value at e) level h

@@ -1,5 +1,5 @@
 use Rattle.std.proofs.lemmas.Result.{err_from_is_err_and}
-use Rattle.fraction.proofs.LowestTerms.{from_machine, ok_lowest, ok_value, kind_ok, kind_err, zero_fault, wide_fault}
+use Rattle.fraction.proofs.LowestQuotients.{from_machine, ok_lowest, ok_value, kind_ok, kind_err, zero_fault, wide_fault}
 use Rattle.fraction.proofs.fraction.Fraction.new.Goals as goal
 
 pub returns-in_err-ratio-clause-zero : goal.returns-in_err-ratio-clause-zero

@@ -1,6 +1,0 @@
-use Rattle.std.proofs.Common.{arith}
-use Rattle.fraction.proofs.DigitNumbers.{power_small}
-use Rattle.fraction.proofs.decimal.power.Goals as goal
-
-pub pow-requires : goal.pow-requires
-pow-requires c = omega (arith, power_small c.args.exponent c.requires)

@@ -1,6 +1,0 @@
-use Rattle.std.proofs.Common.{arith}
-use Rattle.fraction.proofs.DigitNumbers.{power_small}
-use Rattle.fraction.proofs.digits.number.Goals as goal
-
-pub extended-requires-clause-room : goal.extended-requires-clause-room
-extended-requires-clause-room c = omega (arith, power_small _ c.requires.few)

@@ -1,6 +1,0 @@
-use Rattle.std.proofs.Common.{sym, ◌∙◌}
-use Rattle.fraction.proofs.WholeNumbers.{other_none}
-use Rattle.fraction.proofs.whole_numbers.whole_number.Goals as goal
-
-pub returns-then-not-are_digits-clause-other : goal.returns-then-not-are_digits-clause-other
-returns-then-not-are_digits-clause-other c = other_none c.args.most c.args.text.now (sym c.are_digits.ensures ∙ c.if-not-are_digits.true)
