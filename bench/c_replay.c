@@ -1,7 +1,7 @@
 /* Makes the calls of a file, each with blocks of exactly the lengths that it hands in, so that valgrind reports each access past
  * them. c_inputs.py writes the file: for each call four lengths of 8 bytes (words, case, proof, room) and the bytes.
  *
- * Prints for each call its status, the length of its text and a checksum of it. A text that does not fit is asked for again, with
+ * Prints for each call its status, the length of its text and a checksum of it. A text that does not fit is requested again, with
  * exactly the room that it needs. Ends with status 1 if a call does not keep to welungad.h. */
 #include <stdio.h>
 #include <stdlib.h>

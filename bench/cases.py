@@ -7,8 +7,8 @@ parallel-N.txt improved parallel gatekeeping with N primary and N secondary hypo
                secondary one, and \\epsilon to one primary one; all are rejected
 quarter-N.txt  N hypotheses of weight 1/N in two halves: each passes 1/N to each other one of its half, and each of the first
                half \\epsilon/N to each of the second; all are rejected
-lines-N.txt    N MiB of comments, blank lines and edge lines, behind a case whose last lines they are
-read-KIND.txt  4 MiB of one kind of line behind the lines that it needs: edges, arrivals, steps of a table, or one line of
+lines-N.txt    N MiB of comments, blank lines and edge lines, after a case whose last lines they are
+read-KIND.txt  4 MiB of one kind of line after the lines that it needs: edges, arrivals, steps of a table, or one line of
                names. They say more than a case may hold, so that each is refused once it is read
 """
 import sys
@@ -51,7 +51,7 @@ def quarter(count):
 
 
 def padded(size):
-    """A case of 64 hypotheses: its edges, with a comment and a blank line behind each, and comments up to the size."""
+    """A case of 64 hypotheses: its edges, with a comment and a blank line after each, and comments up to the size."""
     head, *edges = full(64).split("\nedge ")
     text = head + "\n" + "".join(f"edge {edge.strip()}\n# a comment behind this edge\n \t\n" for edge in edges)
     comment = "   # a line that says nothing of the case\n"
@@ -78,7 +78,7 @@ def readings(size):
 
 
 def sheets(size):
-    """Sheets of one hypothesis and empty records behind it, of names of one byte and no row, and of many rows."""
+    """Sheets of one hypothesis and empty records after it, of names of one byte and no row, and of many rows."""
     one = "hypothesis,weight,p,H1\nH1,1,,0\n"
     count = 1440
     rows = [f"N{i},0,," + ",".join(["0"] * count) for i in range(count)]

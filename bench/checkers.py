@@ -9,7 +9,7 @@ give the weights of all sets. A third of the cases have epsilon, some have sever
 
 Agreement means the same status and the same text. Where the program refuses a case or a document as too wide or past a limit
 (status 4 or 5, or a number of more than 127 bits), the second checker decides; these runs are counted apart. Prints what came how
-often and each disagreement, with the number of its case, and ends with status 1 where there is one.
+often and each disagreement, with the number of its case, and ends with status 1 if there is one.
 """
 import argparse
 import collections
@@ -42,7 +42,7 @@ def run(words, given):
 
 
 def shares(rng, count):
-    """The number of fractions asked for, which sum to at most 1."""
+    """The requested number of fractions, which sum to at most 1."""
     parts = [rng.randrange(0, 5) for _ in range(count)]
     total = sum(parts) + rng.choice([0, 0, 0, 1, 2])
     return [Fraction(part, total or 1) for part in parts]

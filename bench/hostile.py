@@ -13,7 +13,7 @@ weighted Simes rejects and bounds is never less; a hypothesis is rejected at its
 below; evidence is found good, and a changed or made-up proof is never found good for a hypothesis that isn't rejected;
 looks in another order end with the same rejections, and a study of the same looks settles as `stages` does. What a
 command that the program doesn't have would show is left out. Prints each finding with the number of its input, and ends
-with status 1 where there is one.
+with status 1 if there is one.
 """
 import argparse
 import csv
@@ -182,7 +182,7 @@ def changed_bytes(rng, text):
 
 
 def changed_pieces(rng, text, between):
-    """Lines, or what else stands between such marks: one goes, comes again, changes its place or is shuffled."""
+    """Lines, or other items between such marks: one is removed, repeated, moved or shuffled."""
     pieces = text.split(between)
     kind = rng.randrange(4)
     at = rng.randrange(len(pieces))
@@ -274,7 +274,7 @@ def damaged(rng, form, text):
 
 
 def lines_of(text, word):
-    """The words behind a word with which lines begin, line by line."""
+    """The words after a first word of lines, line by line."""
     lines = (line.split(" ") for line in text.decode().splitlines())
     return [line[1:] for line in lines if line[0] == word]
 
@@ -284,7 +284,7 @@ def named(text, word):
 
 
 def in_form(form, text):
-    """The words that say in which form a case stands; a sheet has no level, so that of the text goes with it."""
+    """The words for the form of a case; a sheet has no level, so that of the text is among them."""
     return ["--form", form] + (["--alpha", named(text, "alpha")[0]] if form == "csv" else [])
 
 
@@ -389,7 +389,7 @@ def checked(text, proof):
 
 
 def hold_proof(text, proof, rejected):
-    """A proof that is found good lists rejected hypotheses, and all of them where it says what is kept."""
+    """A proof that is found good lists rejected hypotheses, and all of them if it says what is kept."""
     status, verdict = checked(text, proof)
     if status == 0:
         listed = named(verdict, "listed")

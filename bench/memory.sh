@@ -1,7 +1,7 @@
 #!/bin/sh
 # Measures the most memory that the program takes over inputs of 4 MiB of one kind: of two million empty records, or two million
 # values `0`, among others. Prints it, by the byte of the input, with the status and the line of the run, and ends with status 1
-# where it is above 60 bytes a byte. Nothing of it is a gate. Needs /usr/bin/time.
+# if it is above 60 bytes a byte. Nothing of it is a gate. Needs /usr/bin/time.
 #
 #     bench/memory.sh [PROGRAM]
 set -eu
@@ -25,7 +25,7 @@ def write(name, text):
         file.write(text)
 
 
-# two million records of an empty field, and as many behind a header that counts them as surplus
+# two million records of an empty field, and the same number after a header that makes them surplus
 write("wide-records.csv", filled("", '""\n', ""))
 write("wide-short.csv", filled(",weight,p,A\n", ",\n", ""))
 write("wide-commas.csv", filled(",weight,p", ",", "\n"))

@@ -1,10 +1,10 @@
 #!/usr/bin/env python3
-"""Tells whether the definitions that docs/READING.md quotes stand in the files named above them, word for word.
+"""Checks that the definitions that docs/READING.md quotes are in the files named above them, word for word.
 
 usage: bench/quotes.py
 
 Each quoted line must be a line of one of the files that the paragraphs above its block, up to the block before, link to.
-Ends with status 1 where one isn't, and prints how many lines are quoted.
+Ends with status 1 if one isn't, and prints how many lines are quoted.
 """
 import os
 import re

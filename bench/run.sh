@@ -1,5 +1,5 @@
 #!/bin/sh
-# Measures the program on generated cases, and the same work in C++ beside it where that can read the case. Prints tables:
+# Measures the program on generated cases, and the same work in C++ if that can read the case. Prints tables:
 # the least of five times, the instructions that valgrind counts, which repeat, and the figures that are wanted; then what
 # reading 4 MiB of one kind of line takes beside 4 MiB of edges, and what sheets of 4 MiB take. Nothing of it is a gate.
 set -eu

@@ -6,8 +6,8 @@
 Holds the program to statuses, texts and files that were written down by hand: what is printed of looks and kept; which words,
 cases and commands leave no file; which files, locks and rows are refused; a hundred looks in mixed order, kept by two runs, beside
 one run in memory; a run that is killed. Then, unless it is to be untimed, it times the opening of a file with all 768 looks of 64
-hypotheses at 12 stages: more than S seconds (1 where it isn't said) is a finding. Prints each finding, and ends with status 1
-where there is one.
+hypotheses at 12 stages: more than S seconds (1 by default) is a finding. Prints each finding, and ends with status 1
+if there is one.
 """
 import argparse
 import os
@@ -111,7 +111,7 @@ def write(statements, path="looks.db"):
 
 
 def row(values, place=None):
-    """The statement that puts a row, whose values stand as SQL writes them."""
+    """The statement that puts a row, its values as SQL writes them."""
     if place is None:
         return [f"INSERT INTO looks (hypothesis, stage, p) VALUES ({values})"]
     return [f"INSERT INTO looks (place, hypothesis, stage, p) VALUES ({place}, {values})"]
@@ -154,7 +154,7 @@ def hold_json():
 
 
 def hold_no_file():
-    """What is refused before the looks are asked for makes no file, and reads none."""
+    """What is refused before the looks are requested makes no file, and reads none."""
     rows = [
         ("a word too many", (FIRST, ["more", *STORE], TWO), (2, "usage: word 3\n")),
         ("the store twice", (FIRST, [*STORE, "--store=other.db"], TWO), (2, "usage: word 5\n")),
@@ -272,7 +272,7 @@ def full(count, stages):
 
 
 def mixed(count, stages, step, p):
-    """All looks, each as hypothesis from 0, stage and value, in a mixed order: each so many places behind the one before."""
+    """All looks, each as hypothesis from 0, stage and value, in a mixed order: each the same number of places after the one before."""
     places = [at * step % (count * stages) for at in range(count * stages)]
     return [(place // stages, place % stages + 1, p(at)) for at, place in enumerate(places)]
 
@@ -282,7 +282,7 @@ def commands_of(looks):
 
 
 def hold_hundred():
-    """Two runs that keep a hundred looks in a file print, behind one another, what one run in memory prints."""
+    """Two runs that keep a hundred looks in a file print, one after the other, what one run in memory prints."""
     anew()
     case = full(10, 10)
     looks = mixed(10, 10, 37, lambda at: "1/32768" if at % 40 == 5 else f"{2 * at + 1}/512")

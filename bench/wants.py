@@ -1,23 +1,23 @@
 #!/usr/bin/env python3
-"""Looks for public calls that no test holds to an answer: a contract lets a body through that always answers want of
-memory, since nothing promises that there is memory, so a test has to refuse it.
+"""Looks for public functions of which no test would notice that they always return out-of-memory. A contract cannot forbid
+such a body, since nothing promises that there is memory. So a test has to refuse it.
 
     bench/wants.py [--jobs N] [--room FOLDER] [--of NAME ..] [--by NAME ..]
 
     --jobs N       builds and runs at a time (1)
-    --room FOLDER  where the copy of the repository lies; it is kept then, and what is built there is used again (else in a
+    --room FOLDER  the folder of the copy of the repository; it is kept, and what is built there is used again (by default a
                    folder of its own, which is removed at the end)
     --of NAME ..   only the functions of these crates (all)
     --by NAME ..   only the tests of these crates, in this order (all that have tests)
     --list         only lists the functions
 
-On a copy of the repository each public function whose result has a want of memory among its errors or is itself one of
-these errors, and each such method of a public trait that a type of the repository has, begins with a switch:
-`if wants::refused(N) { return Err(NoMemory); }`, where the crate `wants` stands in the copy alone. `rt try --test` builds
-the tests of a crate once, with everything below it, and `rt try` the program acceptance; then they are run with one switch on
-after the other, those tests alone that come to it. A function is tried with the tests of its own crate and of its layer first
-(the first crate of tests that uses it), then with acceptance, and then of all that use it, nearest first, until a test fails.
-Nothing is proved.
+The script works on a copy of the repository. A switch is put at the beginning of each public function whose result is
+out-of-memory or has it among its errors, and of each such method of a public trait that a type of the repository has:
+`if wants::refused(N) { return Err(NoMemory); }`. The crate `wants` is in the copy alone. `rt try --test` builds the tests of
+a crate once, with everything below it, and `rt try` the program acceptance. Then they are run with one switch on after the
+other, those tests alone that come to it. A function is tried first with the tests of its own crate and of its layer (the
+first crate of tests that uses it). Then it is tried with acceptance, and then with all that use it, nearest first, until a
+test fails. Nothing is proved.
 
 Prints a line for each function, and counts for each crate at the end:
 
@@ -25,8 +25,8 @@ Prints a line for each function, and counts for each crate at the end:
     passes NAME (tests that come to it, or none)
     not compiled NAME: REASON
 
-and behind `#` what is built. Ends with status 1 where a function passes or is not compiled. Needs rt, cc and Linux, and 40 to
-90 seconds of two processors for each crate that has tests; `nice` is used.
+After `#` it prints what is built. Ends with status 1 if a function passes or is not compiled. Needs rt, cc and Linux, and 40
+to 90 seconds of two processors for each crate that has tests; `nice` is used.
 """
 import argparse
 import concurrent.futures

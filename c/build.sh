@@ -13,7 +13,7 @@ crate=$top/crates/welungad_c
 out=$here/out
 stamp=$out/stamp
 
-# the trees of the sources in the commit; nothing where git doesn't tell
+# the trees of the sources in the commit; nothing if git has no answer
 trees() {
     git -C "$top" rev-parse HEAD:crates HEAD:crates.txt HEAD:c/build.sh HEAD:c/welungad.map 2>/dev/null | paste -sd ' ' -
 }

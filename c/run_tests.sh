@@ -1,5 +1,5 @@
 #!/bin/sh
-# Builds the C library where it isn't built, and tests it. Ends with a status other than 0 if a test fails; prints a line and ends
+# Builds the C library if it isn't built, and tests it. Ends with a status other than 0 if a test fails; prints a line and ends
 # with 0 if a tool is missing.
 set -eu
 here=$(cd "$(dirname "$0")" && pwd)

@@ -1,5 +1,5 @@
 #!/bin/sh
-# Runs the tests of welungad.py over c/out/libwelungad.so, which it builds where it isn't built. Ends with a status other than 0
+# Runs the tests of welungad.py over c/out/libwelungad.so, which it builds if it isn't built. Ends with a status other than 0
 # if a test fails; prints a line and ends with 0 if a tool is missing.
 set -eu
 here=$(cd "$(dirname "$0")" && pwd)

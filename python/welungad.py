@@ -128,11 +128,11 @@ _EXPLANATIONS = [
     ("no memory", "Out of memory."),
     ("usage: word N", "This word of the call, counted from 1, is unknown, repeated, missing, or forbidden by another word. A sheet "
                       "needs alpha, and the other forms forbid it."),
-    ("malformed: line N: unexpected", "The first word is not allowed here, or the name in a line spend or table is another than "
-                                      "the next. Keep the order: alpha, hypotheses, p, weights, edge, stages, spend, arrive."),
+    ("malformed: line N: unexpected", "The first word is not allowed here, or the name in a line spend or table is not that of the "
+                                      "next hypothesis. Keep the order: alpha, hypotheses, p, weights, edge, stages, spend, arrive."),
     ("malformed: line N: ended", "The text ends where a line must follow. Add what is missing."),
     ("malformed: line N: words", "The line has too few or too many words."),
-    ("malformed: line N: whole number", "The number of a stage is not 1 to 9 digits."),
+    ("malformed: line N: whole number", "The number of stages, or of a stage, is not 1 to 9 digits."),
     ("malformed: proof line N: unexpected", "The first word is not allowed here. Use the evidence of this case."),
     ("malformed: proof line N: ended", "The proof ends where a line must follow. Use the evidence of this case."),
     ("malformed: proof line N: words", "The line has too few or too many words. Use the evidence of this case."),
@@ -164,7 +164,7 @@ _EXPLANATIONS = [
     ("malformed: case: self edge of NAME component N", "A hypothesis passes weight to itself."),
     ("malformed: case: repeated edge NAME NAME component N", "A pair has two edges."),
     ("malformed: case: edge NAME NAME component N", "An edge is not from 0 to 1."),
-    ("malformed: case: row sum of NAME component N", "The edges from a hypothesis sum to more than 1, be it by an epsilon. Write "
+    ("malformed: case: row sum of NAME component N", "The edges from a hypothesis sum to more than 1, even if only by an epsilon. Write "
                                                      "1-\\epsilon beside \\epsilon, and thirds as 1/3."),
     ("malformed: case: mixed", "There are stages and single p-values. Leave out one of the two."),
     ("malformed: case: p count N", "The number of p-values is not the number of hypotheses."),
@@ -179,8 +179,8 @@ _EXPLANATIONS = [
     ("malformed: case: arrival N stage", "An arrival names no stage of the case."),
     ("malformed: case: arrival N repeated", "An arrival repeats an earlier one."),
     ("malformed: case: arrival N p", "The p-value of an arrival is not from 0 to 1."),
-    ("malformed: kind", "The case has not what the command needs. test, bounds, simes, evidence and check need a p-value for each "
-                        "hypothesis; stages needs stages; canon to csv needs one graph of share 1 without stages."),
+    ("malformed: kind", "The case lacks what the command needs. test, bounds, simes, evidence and check need a p-value for each "
+                        "hypothesis. stages needs stages. canon to csv needs one graph of share 1 without stages."),
     ("limit: bytes N", "The case has more than 4,194,304 bytes."),
     ("limit: proof bytes N", "The proof has more than 4,194,304 bytes."),
     ("limit: closure N", "weights, bounds and simes take at most 16 hypotheses. test takes 64."),
@@ -188,7 +188,7 @@ _EXPLANATIONS = [
     ("limit: components N", "There are more than 8 graphs."),
     ("limit: stages N", "There are more than 12 stages."),
     ("limit: spend steps N", "There are more than 32 steps of a table."),
-    ("limit: size N", "A size is 0 or above 64."),
+    ("limit: size N", "A size is 0 or above 64, or the sum of two sizes is above 64."),
     ("limit: seed N", "A seed is 2^48 or more."),
     ("limit: case: part alpha", "The numerator or the denominator of the level is above 10,000. It has at most four decimals."),
     ("limit: case: part p of NAME", "The denominator of a p-value is above 10^30. Round one below 10^-30 up to 1e-30."),

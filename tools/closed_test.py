@@ -11,7 +11,7 @@ is below 0, of
 
 The weight of k in I is the sum, over the components, of share * lim (w_k + sum over r outside I of w_r * h_r). The local test
 rejects I where some k in I has a weight above 0 and a p-value of at most its weight times alpha. The closed test rejects a
-hypothesis where the local test rejects each set that contains it.
+hypothesis if the local test rejects each set that contains it.
 
 Prints the level, the rejected hypotheses, and for each other one a set that contains it and is not rejected. With `--sets` each
 set is printed first, with its weights and the first hypothesis that rejects it.

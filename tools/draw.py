@@ -21,12 +21,12 @@ POWERS = ["", "ε", "ε²", "ε³", "ε⁴"]
 
 
 def decimal(x):
-    """A fraction as a decimal, where it has one of at most six places."""
+    """A fraction as a decimal, if it has one of at most six places."""
     return f"{float(x):.6f}".rstrip("0").rstrip(".") if 10**6 % x.denominator == 0 else short(x)
 
 
 def short(x):
-    """A fraction, or about its value where it is long."""
+    """A fraction, or its approximate value if it is long."""
     return str(x) if len(str(x)) <= 9 else f"≈{float(x):.4g}"
 
 
@@ -46,7 +46,7 @@ def row_of(count, y, wide):
 
 
 def centres(case, edges):
-    """In one row where each edge leads to the next hypothesis, in two where some hypotheses begin without a weight, else round."""
+    """In one row if each edge leads to the next hypothesis, in two if some hypotheses begin without a weight, else round."""
     count = len(case.names)
     begins = [any(part.weights[i] for part in case.components) for i in range(count)]
     upper, lower = ([i for i in range(count) if begins[i] is has] for has in (True, False))
@@ -90,7 +90,7 @@ def text_at(x, y, text, size, colour="#111", anchor="middle", weight="normal"):
 
 
 def bow_of(edges, i, j, c, centre):
-    """How far an arrow is bowed to its left: by its component where several have it, more where the way back or a circle is between.
+    """How far an arrow is bowed to its left: by its component if several have it, more if the way back or a circle is between.
     In one of two rows an arrow past a circle is bowed away from the other row."""
     fellows = [k for a, b, k, _ in edges if (a, b) == (i, j)]
     meets = any((b, a) == (i, j) for a, b, _, _ in edges)
@@ -104,7 +104,7 @@ def bow_of(edges, i, j, c, centre):
 
 
 def arrows(edges, centre):
-    """The lines of all arrows, and then their labels, which are put on top; each label stands where it covers no other."""
+    """The lines of all arrows, and then their labels, which are put on top; each label is placed so that it covers no other."""
     lines, labels, taken = [], [], [*centre]
     for i, j, c, edge in edges:
         curve = Curve(centre[i], centre[j], bow_of(edges, i, j, c, centre))

@@ -1,5 +1,5 @@
 #!/bin/sh
-# Runs the tests of the tools and of the scripts at the top. Ends with a status other than 0 where one fails. Says which program is
+# Runs the tests of the tools and of the scripts at the top. Ends with a status other than 0 if one fails. Says which program is
 # missing on this machine; what needs it is skipped.
 set -eu
 cd "$(dirname "$0")"

@@ -1,6 +1,6 @@
 """Tests of the scripts in this folder, of the examples and of the scripts at the top. `tools/run_tests.sh` runs them.
 
-Expected values are those of the rows in crates/acceptance/data, which are by hand, or stand here by hand.
+Expected values are those of the rows in crates/acceptance/data, which are by hand, or are here by hand.
 """
 import hashlib
 import os
@@ -66,7 +66,7 @@ DECIDED = [row for row in ROWS if row.words[0] == "test" and "json" not in row.w
 
 class Examples(unittest.TestCase):
     def test_files(self):
-        """Whether the gate runs each example as it stands in its file, and the file of commands with it."""
+        """Whether the gate runs each example as it is in its file, and the file of commands with it."""
         for row in ROWS:
             if row.words[0] != "catalogue":
                 with self.subTest(row.file):
@@ -136,7 +136,7 @@ def answer(case, proof, *how):
 
 
 def with_line(text, number, line):
-    """A text with another line in the place of one, from 1; without it where the line is None."""
+    """A text with another line in the place of one, from 1; without it if the line is None."""
     lines = text.splitlines()
     lines[number - 1 : number] = [] if line is None else [line]
     return "".join(line + "\n" for line in lines)
@@ -492,7 +492,7 @@ class Scripts(unittest.TestCase):
         self.assertEqual(self.run_script("uninstall", prefix)[0], 1)
 
     def test_library(self):
-        """Whether the C library is installed where it is built."""
+        """Whether the C library is installed if it is built."""
         self.run_script("welungad")
         for name in ("c/out/libwelungad.a", "c/out/libwelungad.so", "c/welungad.h"):
             self.write(name, name)

@@ -1,6 +1,6 @@
 # Numbers: how a number of R becomes an exact fraction.
 #
-# The rule. A text is taken as it stands. A double x is read as n/d with the least d up to 10,000 for which R computes
+# The rule. A text is taken as it is. A double x is read as n/d with the least d up to 10,000 for which R computes
 # n / d == x. If there is no such d, it is read as the shortest decimal that R reads back as x. So 1/3 typed in R is 1/3,
 # 0.025 is 1/40, and 0.3333 is 3333/10000.
 

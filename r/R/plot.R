@@ -119,7 +119,7 @@ arrows_of <- function(graph, all, at, radius) {
   found
 }
 
-# Draws all arrows, and then their texts where they hide each other least.
+# Draws all arrows, and then their texts at the places at which they hide each other least.
 draw_edges <- function(graph, all, at, radius, cex) {
   arrows <- arrows_of(graph, all, at, radius)
   for (it in arrows) draw_arrow(it$path, it$colour, cex)
@@ -162,7 +162,7 @@ draw_arrow <- function(path, colour, cex) {
   graphics::arrows(begin[1], begin[2], end[1], end[2], length = 0.1 * cex, angle = 22, col = colour)
 }
 
-# The box of an arrow's text: near a third of the way along, and where it hides the boxes before it least.
+# The box of an arrow's text: near a third of the way along, at the place at which it hides the boxes before it least.
 best_box <- function(arrow, taken, cex) {
   half <- c(graphics::strwidth(arrow$text, cex = cex) * 0.56, graphics::strheight(arrow$text, cex = cex) * 0.75)
   boxes <- lapply(c(0.32, 0.38, 0.26, 0.44, 0.5), function(part) {
