@@ -7,8 +7,18 @@ use crate::case::case_refusal;
 use crate::text::{expression_refusal, malformed_at, number_refusal};
 use answers::Refusal;
 use case_json::JsonFault;
-use field_core::NoMemory;
+use field_core::{NoMemory, Text};
 use std::alloc::Global;
+
+/// Returns a path as UTF-8, as each path of JSON is. There is no line of another: it is `NoMemory`.
+fn path_text(path: &Text) -> Result<&str, NoMemory>
+    ensures { IfOk result (λ text. text.now ≡ path.now) }
+{
+    match str::from_utf8(path.as_bytes()) {
+        Ok(text) => Ok(text),
+        Err(_) => Err(NoMemory),
+    }
+}
 
 /// Returns the refusal of JSON with this fault, by its path as it stands; `NoMemory` where the fault is, or when out of
 /// memory.
@@ -18,12 +28,12 @@ pub fn json_refusal(alloc: Global, fault: &JsonFault) -> Result<Refusal, NoMemor
     ensures memory { IfOk result (λ refusal. fault.now ≢ OutOfMemory) }
 {
     match fault {
-        JsonFault::Syntax => malformed_at(alloc, b"json", b"syntax"),
-        JsonFault::Shape(path) => malformed_at(alloc, path.as_bytes(), b"shape"),
-        JsonFault::NotWhole(path) => malformed_at(alloc, path.as_bytes(), b"not whole"),
-        JsonFault::Number(path, why) => number_refusal(alloc, path.as_bytes(), *why),
-        JsonFault::UnknownName(path) => malformed_at(alloc, path.as_bytes(), b"unknown name"),
-        JsonFault::Expr(path, why) => expression_refusal(alloc, path.as_bytes(), *why),
+        JsonFault::Syntax => malformed_at(alloc, "json", "syntax"),
+        JsonFault::Shape(path) => malformed_at(alloc, path_text(path)?, "shape"),
+        JsonFault::NotWhole(path) => malformed_at(alloc, path_text(path)?, "not whole"),
+        JsonFault::Number(path, why) => number_refusal(alloc, path_text(path)?, *why),
+        JsonFault::UnknownName(path) => malformed_at(alloc, path_text(path)?, "unknown name"),
+        JsonFault::Expr(path, why) => expression_refusal(alloc, path_text(path)?, *why),
         JsonFault::Case(refused) => case_refusal(alloc, refused.names.as_slice(), &refused.fault),
         JsonFault::NoMemory => Err(NoMemory),
     }

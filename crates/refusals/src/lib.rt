@@ -4,24 +4,20 @@
 #![tactic(auto)]
 
 mod case;
-mod catalogue;
 mod cell;
 mod json;
-mod needs;
-mod pieces;
+mod line;
+mod numbered;
 mod proof;
-mod record;
 mod text;
 mod wide;
-mod words;
 
 pub use case::case_refusal;
-pub use catalogue::{seed_refusal, size_refusal};
 pub use cell::cell_refusal;
 pub use json::json_refusal;
-pub use needs::{closure_refusal, kind_refusal};
+pub use numbered::{
+    closure_refusal, kind_refusal, record_refusal, seed_refusal, size_refusal, usage,
+};
 pub use proof::{ProofPart, no_text, part_at, proof_refusal};
-pub use record::record_refusal;
 pub use text::{commands_refusal, line_refusal};
 pub use wide::{When, wide_refusal};
-pub use words::usage;

@@ -1,25 +1,16 @@
 //! Lines of evidence: why it doesn't hold, and why a text says none.
-ghost use Rattle.std.specs.Prelude.{◌≡◌, ◌++◌, IfOk, OnOk, length, map, codes};
+ghost use Rattle.std.specs.Prelude.{◌≡◌, IfOk, length, map};
 ghost use Rattle.std.specs.List.{slice_get};
 ghost use Rattle.evidence_check.specs.EvidenceView.{hypotheses_of, steps_of, keeps_of};
-ghost use Rattle.refusals.specs.LinePieces.{counted};
-ghost use Rattle.refusals.specs.ProofRefusal.{
-  part_at,
-  part_words,
-  name_or_place,
-  number_words,
-  reason_words,
-  no_line,
-  at_proof_line,
-  proof_refusal,
-};
+ghost use Rattle.refusals.specs.ProofRefusal.{part_at, no_line, proof_refusal};
 
-use crate::pieces::{put_at, put_counted, put_counting, put_name, put_of};
+use crate::line::{Counted, Named, Names};
 use crate::text::malformed_at;
 use answers::Refusal;
 use evidence_check::{Evidence, KeepProof, ProofKind, ProofStep, Reason};
 use field_core::{List, NoMemory, Text};
 use std::alloc::Global;
+use std::fmt;
 
 /// A step of evidence by its number, from 1, or a keep by its hypothesis. Step 0 is the loading of the case.
 #[derive(Clone, Copy, PartialEq, Eq, Debug)]
@@ -32,20 +23,14 @@ pub enum ProofPart {
 fn listed_at<F>(steps: &[ProofStep<F>], r: usize) -> Option<usize>
     ensures { result ≡ slice_get (hypotheses_of steps.now) r }
 {
-    match steps.get(r) {
-        Some(step) => Some(step.hypothesis),
-        None => None,
-    }
+    steps.get(r).map(|step| step.hypothesis)
 }
 
 /// Returns the hypothesis of the keep at a place.
 fn kept_at<F>(keeps: &[KeepProof<F>], x: usize) -> Option<usize>
     ensures { result ≡ slice_get (map (λ x. x.hypothesis) keeps.now) x }
 {
-    match keeps.get(x) {
-        Some(keep) => Some(keep.hypothesis),
-        None => None,
-    }
+    keeps.get(x).map(|keep| keep.hypothesis)
 }
 
 /// Returns how many steps there are.
@@ -94,83 +79,112 @@ pub fn part_at(proof: &Evidence, n: usize) -> ProofPart
     }
 }
 
-/// Appends a step or a keep.
-#[tactic(auto, unfolding(crate::specs::ProofRefusal::part_words))]
-pub fn put_part(text: &mut List<u8>, names: &[Text], part: ProofPart) -> Result<(), NoMemory>
-    ensures { OnOk result (text.new ≡ text.old ++ part_words names.now part) }
-{
-    match part {
-        ProofPart::Step(n) => put_counting(text, b"step ", n as u128),
-        ProofPart::Keep(k) => put_of(text, b"keep ", names, k),
+impl fmt::Display for Named<'_, ProofPart> {
+    ghost use Rattle.std.specs.Prelude.{Some};
+    ghost use Rattle.refusals.specs.ProofRefusal.{part_words};
+
+    ghost output = { λ named. Some (part_words named.names.0.now named.it) };
+
+    #[tactic(auto, unfolding(crate::specs::ProofRefusal::part_words))]
+    fn fmt<W: fmt::Write>(&self, f: &mut fmt::Formatter<W>) -> fmt::Result {
+        let names = self.names;
+        match self.it {
+            ProofPart::Step(n) => write!(f, "step {n}"),
+            ProofPart::Keep(k) => write!(f, "keep {}", names.of(k)),
+        }
     }
 }
 
-/// Appends the name of a hypothesis, or else a place, counted from 1.
-fn put_name_or_place(
-    text: &mut List<u8>,
-    names: &[Text],
-    r: usize,
-    hypothesis: Option<usize>,
-) -> Result<(), NoMemory>
-    ensures { OnOk result (text.new ≡ text.old ++ name_or_place names.now r hypothesis) }
-{
-    match hypothesis {
-        Some(j) => put_name(text, names, j),
-        None => put_counted(text, r),
+/// The step at a place of evidence. It prints as its hypothesis; past the last step as its place, counted from 1.
+#[derive(Clone, Copy)]
+struct StepAt<'a> {
+    names: Names<'a>,
+    proof: &'a Evidence,
+    place: usize,
+}
+
+impl fmt::Display for StepAt<'_> {
+    ghost use Rattle.std.specs.Prelude.{Some, map};
+    ghost use Rattle.std.specs.List.{slice_get};
+    ghost use Rattle.evidence_check.specs.EvidenceView.{steps_of};
+    ghost use Rattle.refusals.specs.ProofRefusal.{name_or_place};
+
+    ghost output = { λ step. Some (name_or_place step.names.0.now step.place (slice_get (map (λ s. s.hypothesis) (steps_of step.proof.now)) step.place)) };
+
+    fn fmt<W: fmt::Write>(&self, f: &mut fmt::Formatter<W>) -> fmt::Result {
+        match step_at(self.proof, self.place) {
+            Some(j) => self.names.of(j).fmt(f),
+            None => Counted(self.place).fmt(f),
+        }
     }
 }
 
-/// Appends what a component has of the step at a place, and what is wrong with it.
-fn put_number(
-    text: &mut List<u8>,
-    names: &[Text],
-    proof: &Evidence,
-    c: usize,
-    quantity: &[u8],
-    r: usize,
-    wrong: &[u8],
-) -> Result<(), NoMemory>
-    ensures { OnOk result (text.new ≡ text.old ++ number_words names.now (map (λ s. s.hypothesis)
-        (steps_of proof.now)) c quantity.now r wrong.now) }
-{
-    put_at(text, b"component ", c)?;
-    text.append(quantity)?;
-    put_name_or_place(text, names, r, step_at(proof, r))?;
-    text.append(wrong)
-}
-
-/// Appends that the exits of a component allow more than 1.
-fn put_above_one(text: &mut List<u8>, c: usize) -> Result<(), NoMemory>
-    ensures { OnOk result (text.new ≡ text.old ++ (codes "component " ++ counted c ++ codes " level above one")) }
-{
-    put_at(text, b"component ", c)?;
-    text.append(b" level above one")
-}
-
-/// Appends why evidence doesn't hold.
-#[tactic(auto, unfolding(crate::specs::ProofRefusal::reason_words))]
-fn put_reason(
-    text: &mut List<u8>,
-    names: &[Text],
-    proof: &Evidence,
+/// Why evidence doesn't hold, with the names of the case.
+#[derive(Clone, Copy)]
+struct Broken<'a> {
+    names: Names<'a>,
+    proof: &'a Evidence,
     reason: Reason,
-) -> Result<(), NoMemory>
-    ensures { OnOk result (text.new ≡ text.old ++ reason_words names.now (map (λ s. s.hypothesis) (steps_of proof.now)) reason) }
-{
-    match reason {
-        Reason::Repeated => text.append(b"repeated"),
-        Reason::Negative(c, r) => {
-            put_number(text, names, proof, c, b" flow of ", r, b" negative")
+}
+
+impl<'a> Broken<'a> {
+    ghost use Rattle.std.specs.Prelude.{◌≡◌};
+
+    /// Returns the step at a place.
+    fn step(&self, place: usize) -> StepAt<'a>
+        ensures { result ≡ record { names = self.now.names; proof = self.now.proof; place = place } }
+    {
+        StepAt {
+            names: self.names,
+            proof: self.proof,
+            place,
         }
-        Reason::Exceeds(c, r) => put_number(text, names, proof, c, b" flow of ", r, b" exceeds"),
-        Reason::NoLevel => text.append(b"no level"),
-        Reason::AboveLevel => text.append(b"above level"),
-        Reason::NegativeExit(c, r) => {
-            put_number(text, names, proof, c, b" exit of ", r, b" negative")
+    }
+}
+
+impl fmt::Display for Broken<'_> {
+    ghost use Rattle.std.specs.Prelude.{Some, map};
+    ghost use Rattle.evidence_check.specs.EvidenceView.{steps_of};
+    ghost use Rattle.refusals.specs.ProofRefusal.{reason_words};
+
+    ghost output = { λ it. Some (reason_words it.names.0.now (map (λ s. s.hypothesis) (steps_of it.proof.now)) it.reason) };
+
+    #[tactic(auto, unfolding(crate::specs::ProofRefusal::reason_words))]
+    fn fmt<W: fmt::Write>(&self, f: &mut fmt::Formatter<W>) -> fmt::Result {
+        match self.reason {
+            Reason::Repeated => f.write_str("repeated"),
+            Reason::Negative(c, r) => {
+                write!(
+                    f,
+                    "component {} flow of {} negative",
+                    Counted(c),
+                    self.step(r)
+                )
+            }
+            Reason::Exceeds(c, r) => {
+                write!(
+                    f,
+                    "component {} flow of {} exceeds",
+                    Counted(c),
+                    self.step(r)
+                )
+            }
+            Reason::NoLevel => f.write_str("no level"),
+            Reason::AboveLevel => f.write_str("above level"),
+            Reason::NegativeExit(c, r) => {
+                write!(
+                    f,
+                    "component {} exit of {} negative",
+                    Counted(c),
+                    self.step(r)
+                )
+            }
+            Reason::ShortExit(c, r) => {
+                write!(f, "component {} exit of {} short", Counted(c), self.step(r))
+            }
+            Reason::AboveOne(c) => write!(f, "component {} level above one", Counted(c)),
+            Reason::Legal => f.write_str("legal"),
         }
-        Reason::ShortExit(c, r) => put_number(text, names, proof, c, b" exit of ", r, b" short"),
-        Reason::AboveOne(c) => put_above_one(text, c),
-        Reason::Legal => text.append(b"legal"),
     }
 }
 
@@ -186,22 +200,15 @@ pub fn no_text(
     ensures { IfOk result (λ text. text ≡ no_line names.now (map (λ s. s.hypothesis) (steps_of proof.now)) (map
         (λ x. x.hypothesis) (keeps_of proof.now)) n reason) }
 {
-    let mut text = List::new(alloc);
-    text.append(b"no: ")?;
-    put_part(&mut text, names, part_at(proof, n))?;
-    text.append(b": ")?;
-    put_reason(&mut text, names, proof, reason)?;
-    text.push(b'\n')?;
-    Ok(text)
-}
-
-/// Returns the place of a line of evidence.
-fn at_proof_line(alloc: Global, line: usize) -> Result<List<u8>, NoMemory>
-    ensures { IfOk result (λ place. place ≡ at_proof_line line) }
-{
-    let mut place = List::new(alloc);
-    put_counting(&mut place, b"proof line ", line as u128)?;
-    Ok(place)
+    let names = Names(names);
+    let part = names.of(part_at(proof, n));
+    let broken = Broken {
+        names,
+        proof,
+        reason,
+    };
+    let line = format!(in alloc; "no: {part}: {broken}\n")?;
+    Ok(List::of(line.into_bytes()))
 }
 
 /// Returns the refusal of a line of evidence, by its number from 1, that isn't allowed.
@@ -209,16 +216,15 @@ fn at_proof_line(alloc: Global, line: usize) -> Result<List<u8>, NoMemory>
 pub fn proof_refusal(alloc: Global, line: usize, kind: ProofKind) -> Result<Refusal, NoMemory>
     ensures { IfOk result (λ refusal. refusal ≡ proof_refusal line kind) }
 {
-    let place = at_proof_line(alloc, line)?;
-    let place = place.as_slice();
+    let place = format!(in alloc; "proof line {line}")?;
     match kind {
-        ProofKind::Unexpected => malformed_at(alloc, place, b"unexpected"),
-        ProofKind::Ended => malformed_at(alloc, place, b"ended"),
-        ProofKind::WordCount => malformed_at(alloc, place, b"words"),
-        ProofKind::Version => malformed_at(alloc, place, b"version"),
-        ProofKind::UnknownName => malformed_at(alloc, place, b"unknown name"),
-        ProofKind::FlowPlace => malformed_at(alloc, place, b"flow"),
-        ProofKind::ExitPlace => malformed_at(alloc, place, b"exit"),
-        ProofKind::Number => malformed_at(alloc, place, b"number"),
+        ProofKind::Unexpected => malformed_at(alloc, &place, "unexpected"),
+        ProofKind::Ended => malformed_at(alloc, &place, "ended"),
+        ProofKind::WordCount => malformed_at(alloc, &place, "words"),
+        ProofKind::Version => malformed_at(alloc, &place, "version"),
+        ProofKind::UnknownName => malformed_at(alloc, &place, "unknown name"),
+        ProofKind::FlowPlace => malformed_at(alloc, &place, "flow"),
+        ProofKind::ExitPlace => malformed_at(alloc, &place, "exit"),
+        ProofKind::Number => malformed_at(alloc, &place, "number"),
     }
 }

@@ -2,8 +2,6 @@
 ghost use Rattle.std.specs.Prelude.{◌≡◌, IfOk};
 ghost use Rattle.refusals.specs.LinePieces.{malformed_at, limit_at};
 ghost use Rattle.refusals.specs.TextRefusal.{
-  at_line,
-  at_command,
   number_refusal,
   expression_refusal,
   placed_refusal,
@@ -11,95 +9,73 @@ ghost use Rattle.refusals.specs.TextRefusal.{
   commands_refusal,
 };
 
-use crate::pieces::{malformed, past_limit, put_counting};
+use crate::line::refusal;
 use answers::{Cause, Refusal};
 use edge_text::{ExprFault, LineKind};
-use field_core::{List, NoMemory};
+use field_core::NoMemory;
 use fraction::NumberFault;
 use std::alloc::Global;
 
 /// Returns the refusal of what is malformed at a place.
 #[tactic(auto, unfolding(crate::specs::LinePieces::malformed_at))]
-pub fn malformed_at(alloc: Global, place: &[u8], kind: &[u8]) -> Result<Refusal, NoMemory>
+pub fn malformed_at(alloc: Global, place: &str, kind: &str) -> Result<Refusal, NoMemory>
     ensures { IfOk result (λ refusal. refusal ≡ malformed_at place.now kind.now) }
 {
-    let mut text = malformed(alloc, place)?;
-    text.append(kind)?;
-    Refusal::of_line(Cause::Malformed, text)
+    Ok(refusal(
+        Cause::Malformed,
+        format!(in alloc; "malformed: {place}: {kind}\n")?,
+    ))
 }
 
 /// Returns the refusal of a quantity past its limit at a place.
 #[tactic(auto, unfolding(crate::specs::LinePieces::past_limit))]
-fn limit_at(alloc: Global, place: &[u8], quantity: &[u8]) -> Result<Refusal, NoMemory>
+fn limit_at(alloc: Global, place: &str, quantity: &str) -> Result<Refusal, NoMemory>
     ensures { IfOk result (λ refusal. refusal ≡ limit_at place.now quantity.now) }
 {
-    let mut text = past_limit(alloc)?;
-    text.append(place)?;
-    text.append(b": ")?;
-    text.append(quantity)?;
-    Refusal::of_line(Cause::Limit, text)
+    Ok(refusal(
+        Cause::Limit,
+        format!(in alloc; "limit: {place}: {quantity}\n")?,
+    ))
 }
 
 /// Returns the refusal of a numeral at a place that is refused.
 #[tactic(auto, unfolding(crate::specs::TextRefusal::number_refusal))]
-pub fn number_refusal(alloc: Global, place: &[u8], fault: NumberFault) -> Result<Refusal, NoMemory>
+pub fn number_refusal(alloc: Global, place: &str, fault: NumberFault) -> Result<Refusal, NoMemory>
     ensures { IfOk result (λ refusal. refusal ≡ number_refusal place.now fault) }
 {
     match fault {
-        NumberFault::Empty | NumberFault::BadByte(_) => malformed_at(alloc, place, b"number"),
-        NumberFault::ZeroDenominator => malformed_at(alloc, place, b"zero denominator"),
-        NumberFault::TooManyDigits => limit_at(alloc, place, b"digits"),
+        NumberFault::Empty | NumberFault::BadByte(_) => malformed_at(alloc, place, "number"),
+        NumberFault::ZeroDenominator => malformed_at(alloc, place, "zero denominator"),
+        NumberFault::TooManyDigits => limit_at(alloc, place, "digits"),
     }
 }
 
 /// Returns the refusal of an expression at a place that is refused.
 #[tactic(auto, unfolding(crate::specs::TextRefusal::expression_refusal))]
-pub fn expression_refusal(
-    alloc: Global,
-    place: &[u8],
-    fault: ExprFault,
-) -> Result<Refusal, NoMemory>
+pub fn expression_refusal(alloc: Global, place: &str, fault: ExprFault) -> Result<Refusal, NoMemory>
     ensures { IfOk result (λ refusal. refusal ≡ expression_refusal place.now fault) }
 {
     match fault {
-        ExprFault::BadByte(_) => malformed_at(alloc, place, b"expression"),
-        ExprFault::DivisorNotNumber => malformed_at(alloc, place, b"divisor"),
-        ExprFault::ZeroDivisor => malformed_at(alloc, place, b"zero divisor"),
-        ExprFault::Degree => limit_at(alloc, place, b"degree"),
-        ExprFault::Part => limit_at(alloc, place, b"part"),
-        ExprFault::Depth => limit_at(alloc, place, b"depth"),
+        ExprFault::BadByte(_) => malformed_at(alloc, place, "expression"),
+        ExprFault::DivisorNotNumber => malformed_at(alloc, place, "divisor"),
+        ExprFault::ZeroDivisor => malformed_at(alloc, place, "zero divisor"),
+        ExprFault::Degree => limit_at(alloc, place, "degree"),
+        ExprFault::Part => limit_at(alloc, place, "part"),
+        ExprFault::Depth => limit_at(alloc, place, "depth"),
     }
 }
 
-/// Returns the place of a line.
-fn at_line(alloc: Global, line: usize) -> Result<List<u8>, NoMemory>
-    ensures { IfOk result (λ place. place ≡ at_line line) }
-{
-    let mut place = List::new(alloc);
-    put_counting(&mut place, b"line ", line as u128)?;
-    Ok(place)
-}
-
-/// Returns the place of a line of commands.
-fn at_command(alloc: Global, line: usize) -> Result<List<u8>, NoMemory>
-    ensures { IfOk result (λ place. place ≡ at_command line) }
-{
-    let mut place = List::new(alloc);
-    put_counting(&mut place, b"commands line ", line as u128)?;
-    Ok(place)
-}
-
 /// Returns the refusal of a line at a place that isn't allowed.
-#[tactic(auto, unfolding(crate::specs::TextRefusal::placed_refusal, crate::specs::LinePieces::past_limit, crate::specs::LinePieces::malformed_at, crate::specs::TextRefusal::number_refusal, crate::specs::TextRefusal::expression_refusal))]
-fn placed_refusal(alloc: Global, place: &[u8], kind: LineKind) -> Result<Refusal, NoMemory>
+#[tactic(auto, unfolding(crate::specs::TextRefusal::placed_refusal))]
+fn placed_refusal(alloc: Global, place: &str, kind: LineKind) -> Result<Refusal, NoMemory>
     ensures { IfOk result (λ refusal. refusal ≡ placed_refusal place.now kind) }
 {
     match kind {
-        LineKind::Unexpected => malformed_at(alloc, place, b"unexpected"),
-        LineKind::Ended => malformed_at(alloc, place, b"ended"),
-        LineKind::WordCount => malformed_at(alloc, place, b"words"),
-        LineKind::UnknownName => malformed_at(alloc, place, b"unknown name"),
-        LineKind::Whole => malformed_at(alloc, place, b"whole number"),
+        LineKind::Unexpected => malformed_at(alloc, place, "unexpected"),
+        LineKind::Ended => malformed_at(alloc, place, "ended"),
+        LineKind::WordCount => malformed_at(alloc, place, "words"),
+        LineKind::UnknownName => malformed_at(alloc, place, "unknown name"),
+        LineKind::Whole => malformed_at(alloc, place, "whole number"),
         LineKind::Number(fault) => number_refusal(alloc, place, fault),
         LineKind::Expr(fault) => expression_refusal(alloc, place, fault),
     }
@@ -110,8 +86,8 @@ fn placed_refusal(alloc: Global, place: &[u8], kind: LineKind) -> Result<Refusal
 pub fn line_refusal(alloc: Global, line: usize, kind: LineKind) -> Result<Refusal, NoMemory>
     ensures { IfOk result (λ refusal. refusal ≡ line_refusal line kind) }
 {
-    let place = at_line(alloc, line)?;
-    placed_refusal(alloc, place.as_slice(), kind)
+    let place = format!(in alloc; "line {line}")?;
+    placed_refusal(alloc, &place, kind)
 }
 
 /// Returns the refusal of a line of the commands of a study, by its number from 1, that says none.
@@ -119,6 +95,6 @@ pub fn line_refusal(alloc: Global, line: usize, kind: LineKind) -> Result<Refusa
 pub fn commands_refusal(alloc: Global, line: usize, kind: LineKind) -> Result<Refusal, NoMemory>
     ensures { IfOk result (λ refusal. refusal ≡ commands_refusal line kind) }
 {
-    let place = at_command(alloc, line)?;
-    placed_refusal(alloc, place.as_slice(), kind)
+    let place = format!(in alloc; "commands line {line}")?;
+    placed_refusal(alloc, &place, kind)
 }

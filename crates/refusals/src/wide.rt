@@ -1,14 +1,14 @@
 //! Lines of operations that have a part past its size.
-ghost use Rattle.std.specs.Prelude.{◌≡◌, ◌++◌, IfOk, OnOk, codes};
+ghost use Rattle.std.specs.Prelude.{◌≡◌, IfOk};
 ghost use Rattle.field_core.specs.NumberedSets.{members};
-ghost use Rattle.refusals.specs.ProofRefusal.{part_words};
-ghost use Rattle.refusals.specs.WideRefusal.{name_if_member, names_of_members, when_words, place_words, op_words, wide_refusal};
+ghost use Rattle.refusals.specs.WideRefusal.{op_words, wide_refusal};
 
-use crate::pieces::{put_between, put_counted, put_counting, put_of};
-use crate::proof::{ProofPart, put_part};
+use crate::line::{Counted, Named, Names, Shown, refusal};
+use crate::proof::ProofPart;
 use answers::{Cause, Refusal};
-use field_core::{List, NoMemory, Op, Place, Text, WideAt};
+use field_core::{NoMemory, Op, Place, Text, WideAt};
 use std::alloc::Global;
+use std::fmt;
 
 /// When an operation is written: for a sum of the case, in a step of the decision, in a step of the run of adjusted values, in
 /// a step of the flow run, in the run of a set of hypotheses, in Simes' test of a set, in the opening of a study, in the settling
@@ -28,14 +28,6 @@ pub enum When {
     Check(ProofPart),
 }
 
-/// Appends a step or a keep that is checked.
-fn put_check(text: &mut List<u8>, names: &[Text], part: ProofPart) -> Result<(), NoMemory>
-    ensures { OnOk result (text.new ≡ text.old ++ (codes "check " ++ part_words names.now part)) }
-{
-    text.append(b"check ")?;
-    put_part(text, names, part)
-}
-
 /// Whether a hypothesis is a member of a set.
 #[tactic(auto, unfolding(field_core::specs::NumberedSets::members))]
 fn is_member(set: u32, k: usize) -> bool
@@ -44,87 +36,91 @@ fn is_member(set: u32, k: usize) -> bool
     k < 32 && (set >> k) & 1 == 1
 }
 
-/// Appends a space and the name of a hypothesis, where it is a member of a set.
-fn put_if_member(text: &mut List<u8>, set: u32, k: usize, name: &Text) -> Result<(), NoMemory>
-    ensures { OnOk result (text.new ≡ text.old ++ name_if_member set k name.now) }
-{
-    if !is_member(set, k) {
-        return Ok(());
-    }
-    text.push(b' ')?;
-    text.append(name.as_bytes())
+/// The members of a set, with the names of the case. Each prints as a space and its name.
+#[derive(Clone, Copy)]
+struct Members<'a> {
+    names: Names<'a>,
+    set: u32,
 }
 
-/// Appends the names of the members of a set.
-fn put_members(text: &mut List<u8>, names: &[Text], set: u32) -> Result<(), NoMemory>
-    ensures { OnOk result (text.new ≡ text.old ++ names_of_members set 0 names.now) }
-{
-    for (k, name) in names.iter().enumerate() {
-        put_if_member(text, set, k, name)?;
-    }
-    Ok(())
-}
+impl fmt::Display for Members<'_> {
+    ghost use Rattle.std.specs.Prelude.{Some};
+    ghost use Rattle.refusals.specs.WideRefusal.{names_of_members};
 
-/// Appends words and a set.
-fn put_set(text: &mut List<u8>, names: &[Text], words: &[u8], set: u32) -> Result<(), NoMemory>
-    ensures { OnOk result (text.new ≡ text.old ++ (words.now ++ names_of_members set 0 names.now)) }
-{
-    text.append(words)?;
-    put_members(text, names, set)
-}
+    ghost output = { λ it. Some (names_of_members it.set 0 it.names.0.now) };
 
-/// Appends when an operation is written.
-#[tactic(auto, unfolding(crate::specs::WideRefusal::when_words))]
-fn put_when(text: &mut List<u8>, names: &[Text], when: When) -> Result<(), NoMemory>
-    ensures { OnOk result (text.new ≡ text.old ++ when_words names.now when) }
-{
-    match when {
-        When::Reading => text.append(b"reading"),
-        When::Step(n) => put_counting(text, b"step ", n as u128),
-        When::AdjustedStep(n) => put_counting(text, b"adjusted step ", n as u128),
-        When::EvidenceStep(n) => put_counting(text, b"evidence step ", n as u128),
-        When::Set(set) => put_set(text, names, b"set", set),
-        When::SimesSet(set) => put_set(text, names, b"simes set", set),
-        When::Opening => text.append(b"opening"),
-        When::Arrival(n) => put_counting(text, b"arrival ", n as u128),
-        When::Look(n) => put_counting(text, b"look ", n as u128),
-        When::Check(part) => put_check(text, names, part),
+    fn fmt<W: fmt::Write>(&self, f: &mut fmt::Formatter<W>) -> fmt::Result {
+        for (k, name) in self.names.0.iter().enumerate() {
+            if is_member(self.set, k) {
+                write!(f, " {}", Shown(name))?;
+            }
+        }
+        Ok(())
     }
 }
 
-/// Appends what an operation is for.
-#[tactic(auto, unfolding(crate::specs::WideRefusal::place_words))]
-fn put_place(text: &mut List<u8>, names: &[Text], place: Place) -> Result<(), NoMemory>
-    ensures { OnOk result (text.new ≡ text.old ++ place_words names.now place) }
-{
-    match place {
-        Place::Weight(i) => put_of(text, b"weight of ", names, i),
-        Place::Loss(i) => put_of(text, b"loss of ", names, i),
-        Place::Edge(i, j) => put_between(text, b"edge ", names, i, j),
-        Place::Share(i) => put_of(text, b"share of ", names, i),
-        Place::Ratio(i) => put_of(text, b"ratio of ", names, i),
-        Place::Flow(i) => put_of(text, b"flow of ", names, i),
-        Place::Visit(i, j) => put_between(text, b"visit ", names, i, j),
-        Place::Exit(i, j) => put_between(text, b"exit ", names, i, j),
-        Place::Bound(i) => put_of(text, b"bound of ", names, i),
-        Place::Level(i) => put_of(text, b"level of ", names, i),
-        Place::WeightSum => text.append(b"weight sum"),
-        Place::RowSum(i) => put_of(text, b"row sum of ", names, i),
-        Place::ShareSum => text.append(b"share sum"),
-        Place::SpendSum(i) => put_of(text, b"spend sum of ", names, i),
+impl fmt::Display for Named<'_, When> {
+    ghost use Rattle.std.specs.Prelude.{Some};
+    ghost use Rattle.refusals.specs.WideRefusal.{when_words};
+
+    ghost output = { λ named. Some (when_words named.names.0.now named.it) };
+
+    #[tactic(auto, unfolding(crate::specs::WideRefusal::when_words))]
+    fn fmt<W: fmt::Write>(&self, f: &mut fmt::Formatter<W>) -> fmt::Result {
+        let names = self.names;
+        match self.it {
+            When::Reading => f.write_str("reading"),
+            When::Step(n) => write!(f, "step {n}"),
+            When::AdjustedStep(n) => write!(f, "adjusted step {n}"),
+            When::EvidenceStep(n) => write!(f, "evidence step {n}"),
+            When::Set(set) => write!(f, "set{}", Members { names, set }),
+            When::SimesSet(set) => write!(f, "simes set{}", Members { names, set }),
+            When::Opening => f.write_str("opening"),
+            When::Arrival(n) => write!(f, "arrival {n}"),
+            When::Look(n) => write!(f, "look {n}"),
+            When::Check(part) => write!(f, "check {}", names.of(part)),
+        }
     }
 }
 
-/// Appends an operation.
+impl fmt::Display for Named<'_, Place> {
+    ghost use Rattle.std.specs.Prelude.{Some};
+    ghost use Rattle.refusals.specs.WideRefusal.{place_words};
+
+    ghost output = { λ named. Some (place_words named.names.0.now named.it) };
+
+    #[tactic(auto, unfolding(crate::specs::WideRefusal::place_words))]
+    fn fmt<W: fmt::Write>(&self, f: &mut fmt::Formatter<W>) -> fmt::Result {
+        let names = self.names;
+        match self.it {
+            Place::Weight(i) => write!(f, "weight of {}", names.of(i)),
+            Place::Loss(i) => write!(f, "loss of {}", names.of(i)),
+            Place::Edge(i, j) => write!(f, "edge {} {}", names.of(i), names.of(j)),
+            Place::Share(i) => write!(f, "share of {}", names.of(i)),
+            Place::Ratio(i) => write!(f, "ratio of {}", names.of(i)),
+            Place::Flow(i) => write!(f, "flow of {}", names.of(i)),
+            Place::Visit(i, j) => write!(f, "visit {} {}", names.of(i), names.of(j)),
+            Place::Exit(i, j) => write!(f, "exit {} {}", names.of(i), names.of(j)),
+            Place::Bound(i) => write!(f, "bound of {}", names.of(i)),
+            Place::Level(i) => write!(f, "level of {}", names.of(i)),
+            Place::WeightSum => f.write_str("weight sum"),
+            Place::RowSum(i) => write!(f, "row sum of {}", names.of(i)),
+            Place::ShareSum => f.write_str("share sum"),
+            Place::SpendSum(i) => write!(f, "spend sum of {}", names.of(i)),
+        }
+    }
+}
+
+/// Returns the name of an operation.
 #[tactic(auto, unfolding(crate::specs::WideRefusal::op_words))]
-fn put_op(text: &mut List<u8>, op: Op) -> Result<(), NoMemory>
-    ensures { OnOk result (text.new ≡ text.old ++ op_words op) }
+fn op_words(op: Op) -> &'static str
+    ensures { result.now ≡ op_words op }
 {
     match op {
-        Op::Add => text.append(b"add"),
-        Op::Sub => text.append(b"sub"),
-        Op::Mul => text.append(b"mul"),
-        Op::Div => text.append(b"div"),
+        Op::Add => "add",
+        Op::Sub => "sub",
+        Op::Mul => "mul",
+        Op::Div => "div",
     }
 }
 
@@ -138,14 +134,11 @@ pub fn wide_refusal(
 ) -> Result<Refusal, NoMemory>
     ensures { IfOk result (λ refusal. refusal ≡ wide_refusal names.now when wide.now) }
 {
-    let mut text = List::new(alloc);
-    text.append(b"too wide: ")?;
-    put_when(&mut text, names, when)?;
-    text.append(b": component ")?;
-    put_counted(&mut text, wide.component)?;
-    text.push(b' ')?;
-    put_place(&mut text, names, wide.place)?;
-    text.push(b' ')?;
-    put_op(&mut text, wide.op)?;
-    Refusal::of_line(Cause::TooWide, text)
+    let names = Names(names);
+    let when = names.of(when);
+    let component = Counted(wide.component);
+    let place = names.of(wide.place);
+    let op = op_words(wide.op);
+    let line = format!(in alloc; "too wide: {when}: component {component} {place} {op}\n")?;
+    Ok(refusal(Cause::TooWide, line))
 }

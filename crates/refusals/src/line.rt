@@ -1,0 +1,87 @@
+//! Lines, and the words in them that several lines have.
+ghost use Rattle.std.specs.Prelude.{◌≡◌, string_bytes};
+
+use answers::{Cause, Refusal};
+use field_core::{List, Text};
+use std::fmt;
+
+/// Returns the refusal with a line.
+pub fn refusal(cause: Cause, line: String) -> Refusal
+    ensures { result ≡ record { cause = cause; line = string_bytes line } }
+{
+    Refusal {
+        cause,
+        line: List::of(line.into_bytes()),
+    }
+}
+
+/// A place, which prints as its number from 1.
+#[derive(Clone, Copy)]
+pub struct Counted(pub usize);
+
+impl fmt::Display for Counted {
+    ghost use Rattle.std.specs.Prelude.{Some};
+    ghost use Rattle.refusals.specs.LinePieces.{counted};
+
+    ghost output = { λ place. Some (counted place.0) };
+
+    fn fmt<W: fmt::Write>(&self, f: &mut fmt::Formatter<W>) -> fmt::Result {
+        let number = self.0 as u128 + 1;
+        write!(f, "{number}")
+    }
+}
+
+/// A text, which prints as it is. One that isn't UTF-8 is an error; the names of a case are ASCII.
+#[derive(Clone, Copy)]
+pub struct Shown<'a>(pub &'a Text);
+
+impl fmt::Display for Shown<'_> {
+    ghost use Rattle.std.specs.Prelude.{Some};
+
+    ghost output = { λ shown. Some shown.0.now };
+
+    fn fmt<W: fmt::Write>(&self, f: &mut fmt::Formatter<W>) -> fmt::Result {
+        match str::from_utf8(self.0.as_bytes()) {
+            Ok(text) => f.write_str(text),
+            Err(_) => Err(fmt::Error),
+        }
+    }
+}
+
+/// The names of the hypotheses of a case.
+#[derive(Clone, Copy)]
+pub struct Names<'a>(pub &'a [Text]);
+
+impl<'a> Names<'a> {
+    ghost use Rattle.std.specs.Prelude.{◌≡◌};
+
+    /// Returns a hypothesis, or what names hypotheses, with the names.
+    pub fn of<T: Copy>(&self, it: T) -> Named<'a, T>
+        ensures { result ≡ record { names = self.now; it = it } }
+    {
+        Named { names: *self, it }
+    }
+}
+
+/// A hypothesis by its position, or what names hypotheses, with the names of the case.
+#[derive(Clone, Copy)]
+pub struct Named<'a, T> {
+    pub names: Names<'a>,
+    pub it: T,
+}
+
+/// A hypothesis prints as its name; past the last name as its place, counted from 1.
+impl fmt::Display for Named<'_, usize> {
+    ghost use Rattle.std.specs.Prelude.{Some};
+    ghost use Rattle.refusals.specs.LinePieces.{name_at};
+
+    ghost output = { λ named. Some (name_at named.names.0.now named.it) };
+
+    #[tactic(auto, unfolding(crate::specs::LinePieces::name_at))]
+    fn fmt<W: fmt::Write>(&self, f: &mut fmt::Formatter<W>) -> fmt::Result {
+        match self.names.0.get(self.it) {
+            Some(name) => Shown(name).fmt(f),
+            None => Counted(self.it).fmt(f),
+        }
+    }
+}
