@@ -1,5 +1,5 @@
 -- Steps of the binary greatest common divisor.
-use Rattle.std.proofs.Common.{◌≡◌, ℕ, zero, suc, ◌+◌, ◌-◌, ◌*◌, ◌/◌, ◌%◌, ◌^◌, ◌<◌, ◌≤◌, min, refl, sym, ◌∙◌}
+use Rattle.std.proofs.Common.{◌≡◌, ℕ, zero, suc, ◌+◌, ◌-◌, ◌*◌, ◌/◌, ◌%◌, ◌^◌, ◌<◌, ◌≤◌, min, max, refl, sym, ◌∙◌}
 use Rattle.std.proofs.Common.{ap, ap₂, subst, arith, inl, inr, ◌⊎◌, pow-add, pow-suc}
 use Rattle.std.specs.Int.{IsGcd, ◌∣◌, abs_diff, bit_at, trailing_zeros, w64}
 use Rattle.std.proofs.lemmas.Bool.{cases_lt}
@@ -132,15 +132,26 @@ gcd_shifted a b x y i j g s some small p q e f =
 pub gcd_of_zero : (a b : ℕ) → a ≡ 0 → b ≡ gcd a b
 gcd_of_zero a b h = gcd_same a b b (IsGcd-swap b a b (IsGcd-from_zero b a h))
 
-pub gcd_with_zero : (a b : ℕ) → b ≡ 0 → a ≡ gcd a b
-gcd_with_zero a b h = gcd_same a b a (IsGcd-from_zero a b h)
-
 pub gcd_by_one : (a b : ℕ) → b ≡ 1 → 1 ≡ gcd a b
 gcd_by_one a b h = sym (eq-one_of_dvd-one (subst (λ n. gcd a b ∣ n) h (gcd_is a b).1))
 
 pub gcd_with_one : (a b : ℕ) → (a ≡ 1) ⊎ ((a ≡ 1 → ⊥) × (b ≡ 1)) → 1 ≡ gcd a b
 gcd_with_one a b (inl h) = gcd_by_one b a h ∙ gcd_comm b a
 gcd_with_one a b (inr h) = gcd_by_one a b h.1
+
+-- the order doesn't count
+pub gcd_ordered : (a b least most g : ℕ) → least ≡ min a b → most ≡ max a b → g ≡ gcd least most → g ≡ gcd a b
+gcd_ordered a b least most g e f h =
+    elim (cases_lt a b) [
+      | inl below ↦
+          let l : least ≡ a = omega (arith, e) in
+          let m : most ≡ b = omega (arith, f) in
+          h ∙ ap₂ gcd l m
+      | inr above ↦
+          let l : least ≡ b = omega (arith, e) in
+          let m : most ≡ a = omega (arith, f) in
+          h ∙ ap₂ gcd l m ∙ gcd_comm b a
+    ]
 
 -- ---- one step of Euclid's first
 

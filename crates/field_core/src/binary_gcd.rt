@@ -44,17 +44,18 @@ fn stepped_gcd(a: u64, b: u64) -> u64
     }
 }
 
-/// Returns the greatest common divisor; `binary_gcd(0, b)` is `b`.
+/// Returns the greatest common divisor; `binary_gcd(0, b)` is `b`. Euclid's step divides by the smaller number, which leaves the
+/// fewest steps.
 pub fn binary_gcd(a: u64, b: u64) -> u64
     ensures { result ≡ gcd a b }
 {
-    if a == 0 {
-        b
-    } else if b == 0 {
-        a
-    } else if a == 1 || b == 1 {
+    let least = a.min(b);
+    let most = a.max(b);
+    if least == 0 {
+        most
+    } else if least == 1 {
         1
     } else {
-        stepped_gcd(a, b)
+        stepped_gcd(least, most)
     }
 }
