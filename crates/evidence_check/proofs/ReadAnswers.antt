@@ -13,6 +13,8 @@ use Rattle.std.proofs.lemmas.List.Elements.{All-nil, All-push}
 use Rattle.evidence_check.proofs.StepsAnswers.{take_end, drop_end}
 use Rattle.text_lines.specs.Lines.{Row}
 use Rattle.text_lines.specs.Words.{words_of}
+use Rattle.text_lines.specs.FormLanguages.{with_all, form_reading}
+use Rattle.text_lines.proofs.FormLaws.{all_none, all_joined}
 use Rattle.field_core.specs.Kind.{Parts}
 use Rattle.case_model.specs.Content.{Content}
 use Rattle.case_numbers.specs.Numbers.{Numbers}
@@ -22,32 +24,23 @@ use Rattle.evidence_check.specs.declared.fault.ProofText.{ProofText}
 use Rattle.evidence_check.specs.declared.fault.ProofText.TheVariants as faults
 use Rattle.evidence_check.specs.declared.quantity.Quantity.{Quantity}
 use Rattle.evidence_check.specs.EvidenceParts.{AreFull}
-use Rattle.evidence_check.specs.Languages.{FaultAt, with_all, reading}
 use Rattle.evidence_check.specs.Documents.{Frame, Form, SaysNumber, number_forms, list_forms, number_line, Slot, ANumber, slot_line, due, Stage, Place, At}
-use Rattle.evidence_check.specs.Documents.{read_at, next_at, is_ended, evidence_language}
+use Rattle.evidence_check.specs.Documents.{read_at, next_at, is_ended, line_language}
 use Rattle.evidence_check.specs.ReadView.{IsFrameFor, Goes, Stops, NumbersRead, NumbersStop, ListsRead, ListsStop}
 
 -- ---- forms, and what is read after them
-
-with_none : (r : Result (List Form) (FaultAt ProofKind)) → r ≡ with_all [] r
-with_none (Ok fs) = refl
-with_none (Err e) = refl
-
-with_joined : (fs gs : List Form) (r : Result (List Form) (FaultAt ProofKind)) → with_all fs (with_all gs r) ≡ with_all (fs ++ gs) r
-with_joined fs gs (Ok hs) = ap Ok (sym (append_assoc fs gs hs))
-with_joined fs gs (Err e) = refl
 
 -- (of a case, before the line of this number)
 module _ (T : Frame) (end : ℕ) where
   pub goes_none : (p : Place) (rows : List Row) → Goes T end p rows [] p rows
   unfolding Goes
-  goes_none p rows = with_none (reading (evidence_language T) p rows end)
+  goes_none p rows = sym (all_none (line_language T) (form_reading (line_language T) p rows end))
 
   -- forms and then others
   pub goes_on : (p q r : Place) (old cur new : List Row) (fs gs : List Form) → Goes T end p old fs q cur → Goes T end q cur gs r new
       → Goes T end p old (fs ++ gs) r new
   unfolding Goes
-  goes_on p q r old cur new fs gs h k = h ∙ ap (with_all fs) k ∙ with_joined fs gs (reading (evidence_language T) r new end)
+  goes_on p q r old cur new fs gs h k = h ∙ ap (with_all fs) k ∙ sym (all_joined (line_language T) fs gs (form_reading (line_language T) r new end))
 
   -- forms and then a fault
   pub goes_stops : (p q : Place) (old cur : List Row) (fs : List Form) (fault : ProofText) → Goes T end p old fs q cur → Stops T end q cur fault
@@ -59,18 +52,18 @@ module _ (T : Frame) (end : ℕ) where
   -- a line that says something
   pub goes_line : (p : Place) (row : Row) (rows : List Row) (f : Form) → read_at T p (words_of row.text) ≡ Ok f
       → Goes T end p (row ∷ rows) (f ∷ []) (next_at T p f) rows
-  unfolding Goes reading
+  unfolding Goes
   goes_line p row rows f e = rw e refl
 
   -- a line that isn't allowed
   pub stops_line : (p : Place) (row : Row) (rows : List Row) (kind : ProofKind) → read_at T p (words_of row.text) ≡ Err kind
       → Stops T end p (row ∷ rows) (faults.Line row.number kind)
-  unfolding Stops reading
+  unfolding Stops
   stops_line p row rows kind e = rw e refl
 
   -- no line
   pub stops_early : (p : Place) → is_ended p ≡ false → Stops T end p [] (faults.Line end Ended)
-  unfolding Stops reading
+  unfolding Stops
   stops_early p e = rw e refl
 
   pub stops_memory : (p : Place) (rows : List Row) → Stops T end p rows faults.NoMemory

@@ -17,8 +17,7 @@ use Rattle.evidence_check.specs.declared.fault.ProofText.TheVariants as faults
 use Rattle.evidence_check.specs.declared.quantity.Quantity.TheVariants.{Flow, Exit}
 use Rattle.evidence_check.specs.Evidence.{others}
 use Rattle.evidence_check.specs.EvidenceParts.{StepParts, KeepParts, AreFull, FlowsFit, ExitsFit}
-use Rattle.evidence_check.specs.Languages.{Words, reading}
-use Rattle.evidence_check.specs.Documents.{Frame, SaysStep, SaysKeep, SaysEnd, list_forms, step_forms, keep_forms, step_said, keep_line, end_line, AKeep}
+use Rattle.evidence_check.specs.Documents.{Words, Frame, SaysStep, SaysKeep, SaysEnd, list_forms, step_forms, keep_forms, step_said, keep_line, end_line, AKeep}
 use Rattle.evidence_check.specs.Documents.{TheEnd, slot_line, due, keeps_due, AtSteps, AtEnd, At, read_at, next_at, is_ended}
 use Rattle.evidence_check.specs.ReadView.{IsFrameFor, Goes, Stops, ListsRead, ListsStop, StepRead, StepsRead, StepsStop, KeepRead, KeepsRead, KeepsStop}
 use Rattle.evidence_check.specs.ReadView.{EndRead, EndStops, kept_by}
@@ -201,7 +200,7 @@ module _ (n : Numbers) (c : Content) (end : ℕ) where
 
 module _ (end : ℕ) (row : Row) where
   pub end_read : (rows : List Row) → rows ≡ [] → end_line (words_of row.text) ≡ Ok SaysEnd → EndRead end (row ∷ rows)
-  unfolding EndRead reading read_at slot_line next_at
+  unfolding EndRead read_at slot_line next_at
   end_read rows none e T = rw (e, none) refl
 
   pub end_bad : (rows : List Row) (kind : ProofKind) → end_line (words_of row.text) ≡ Err kind → EndStops end (row ∷ rows) (faults.Line row.number kind)

@@ -25,11 +25,11 @@ use Rattle.evidence_check.specs.declared.evidence.KeepProof.{KeepProof}
 use Rattle.evidence_check.specs.Evidence.{others}
 use Rattle.evidence_check.specs.EvidenceParts.{StepParts, KeepParts, FlowsFit, ExitsFit}
 use Rattle.evidence_check.specs.EvidenceView.{hypotheses_of, step_parts, keep_parts, FitsCase}
-use Rattle.evidence_check.specs.Languages.{Words, with_all, reading}
-use Rattle.evidence_check.specs.Documents.{Frame, Form, SaysVersion, SaysStep, SaysNumber, SaysKeep, SaysEnd, step_forms, keep_forms, found_or, is_none}
+use Rattle.text_lines.specs.FormLanguages.{with_all, form_reading}
+use Rattle.evidence_check.specs.Documents.{Words, Frame, Form, SaysVersion, SaysStep, SaysNumber, SaysKeep, SaysEnd, step_forms, keep_forms, found_or, is_none}
 use Rattle.evidence_check.specs.Documents.{version_line, number_line, place_fault, keyword, keep_line, end_line, first_line, behind_first, tail, Slot, ANumber}
 use Rattle.evidence_check.specs.Documents.{AKeep, TheEnd, slot_line, keeps_due, AtVersion, AtSteps, AtEnd, Place, At, read_at, next_at, next_step}
-use Rattle.evidence_check.specs.Documents.{evidence_language}
+use Rattle.evidence_check.specs.Documents.{line_language}
 use Rattle.evidence_check.specs.ReadView.{IsFrameFor, Goes, Stops, StepsRead, StepsStop, KeepsRead, KeepsStop, EndRead, EndStops, kept_by, SayEvidence}
 use Rattle.evidence_check.specs.ReadView.{HaveFault}
 use Rattle.evidence_check.proofs.ReadAnswers.{goes_on, goes_stops, goes_line, stops_line, stops_early}
@@ -87,9 +87,9 @@ next_no T v js SaysEnd h = refl
 -- ---- after the last step
 
 module _ (T : Frame) (end v : ℕ) (js : List ℕ) (row : Row) (rows : List Row) (other : words_behind (codes "step") (words_of row.text) ≡ None) where
-  by_first : (ss : List Slot) → tail T v js ≡ ss → reading (evidence_language T) (At [] (AtSteps v js)) (row ∷ rows) end ≡ reading
-      (evidence_language T) (At ss AtEnd) (row ∷ rows) end
-  unfolding reading read_at next_at
+  by_first : (ss : List Slot) → tail T v js ≡ ss → form_reading (line_language T) (At [] (AtSteps v js)) (row ∷ rows) end ≡ form_reading
+      (line_language T) (At ss AtEnd) (row ∷ rows) end
+  unfolding read_at next_at
   by_first [] e = let w : first_line T (tail T v js) (words_of row.text) ≡ Err Unexpected =
       ap (λ ss. first_line T ss (words_of row.text)) e in rw (other, w) refl
   by_first (s ∷ ss) e = by (slot_line T s (words_of row.text)) refl (slot_no T s (words_of row.text))
@@ -98,16 +98,16 @@ module _ (T : Frame) (end v : ℕ) (js : List ℕ) (row : Row) (rows : List Row)
       said = ap (λ ss. first_line T ss (words_of row.text)) e
 
       by : (r : Result Form ProofKind) → slot_line T s (words_of row.text) ≡ r → NoStep r
-          → reading (evidence_language T) (At [] (AtSteps v js)) (row ∷ rows) end ≡ reading (evidence_language T) (At (s ∷ ss) AtEnd) (row ∷ rows) end
+          → form_reading (line_language T) (At [] (AtSteps v js)) (row ∷ rows) end ≡ form_reading (line_language T) (At (s ∷ ss) AtEnd) (row ∷ rows) end
       by (Err kind) r n = rw (other, said, r) refl
       by (Ok f) r n = let w = next_no T v js f n ∙ ap (λ z. At (behind_first z) AtEnd) e in rw (other, said, r, w) refl
 
-  pub tail_reads : reading (evidence_language T) (At [] (AtSteps v js)) (row ∷ rows) end ≡ reading (evidence_language T) (At (tail T v js) AtEnd)
+  pub tail_reads : form_reading (line_language T) (At [] (AtSteps v js)) (row ∷ rows) end ≡ form_reading (line_language T) (At (tail T v js) AtEnd)
       (row ∷ rows) end
   tail_reads = by_first (tail T v js) refl
 
 goes_ends : (T : Frame) (end : ℕ) (p q : Place) (old cur : List Row) (fs gs : List Form) → Goes T end p old fs q cur
-    → reading (evidence_language T) q cur end ≡ Ok gs → reading (evidence_language T) p old end ≡ Ok (fs ++ gs)
+    → form_reading (line_language T) q cur end ≡ Ok gs → form_reading (line_language T) p old end ≡ Ok (fs ++ gs)
 unfolding Goes
 goes_ends T end p q old cur fs gs h k = h ∙ ap (with_all fs) k
 
@@ -140,7 +140,7 @@ module _ (n : Numbers) (c : Content) (end : ℕ) (first : Row) (v : ℕ) (said :
         (SaysVersion v ∷ []) (step_forms [] ss) (at_steps T) (read T v t)
         ∙ ap (with_all (SaysVersion v ∷ step_forms [] ss))
         (tail_reads T end v (map (λ s. s.hypothesis) ss) row cur other
-        ∙ ap (λ ss. reading (evidence_language T) (At ss AtEnd) (row ∷ cur) end) (due_same T t))
+        ∙ ap (λ ss. form_reading (line_language T) (At ss AtEnd) (row ∷ cur) end) (due_same T t))
 
     pub keeps_fault : (fault : ProofText) → KeepsStop n c end (map (λ s. s.hypothesis) ss) (kept_by (length c.names) v (map (λ s. s.hypothesis) ss))
         (row ∷ cur) fault → HaveFault n c end (first ∷ rows) fault

@@ -4,6 +4,7 @@ use Rattle.field_core.specs.Kind.{Parts}
 use Rattle.text_lines.specs.Lines.{Row, Remainder, rows_left}
 use Rattle.text_lines.specs.View.{row}
 use Rattle.text_lines.specs.declared.line.Line.{Line}
+use Rattle.text_lines.specs.FormLanguages.{with_all, form_reading}
 use Rattle.case_model.specs.Names.{position_of}
 use Rattle.case_model.specs.Content.{Content}
 use Rattle.case_numbers.specs.Numbers.{Numbers}
@@ -12,9 +13,8 @@ use Rattle.evidence_check.specs.declared.fault.ProofText.TheVariants as faults
 use Rattle.evidence_check.specs.declared.quantity.Quantity.{Quantity}
 use Rattle.evidence_check.specs.Evidence.{others}
 use Rattle.evidence_check.specs.EvidenceParts.{StepParts, KeepParts}
-use Rattle.evidence_check.specs.Languages.{with_all, reading}
 use Rattle.evidence_check.specs.Documents.{Frame, Form, SaysEnd, number_forms, list_forms, step_forms, keep_forms, evidence_forms, Slot, ANumber}
-use Rattle.evidence_check.specs.Documents.{TheEnd, due, keeps_due, Stage, AtVersion, AtSteps, AtEnd, Place, At, evidence_language}
+use Rattle.evidence_check.specs.Documents.{TheEnd, due, keeps_due, Stage, AtVersion, AtSteps, AtEnd, Place, At, line_language}
 use Rattle.evidence_check.specs.NumberTexts.{IsNumberOf}
 
 -- a frame says what there is in a case, in these numbers
@@ -27,11 +27,11 @@ pub record IsFrameFor (n : Numbers) (c : Content) (T : Frame) : Type 0 where
 
 -- What is read from a place on is these forms, and then what is read from another place on.
 unfoldable pub Goes : Frame → ℕ → Place → List Row → List Form → Place → List Row → Type 0
-Goes T end place old forms next new = reading (evidence_language T) place old end ≡ with_all forms (reading (evidence_language T) next new end)
+Goes T end place old forms next new = form_reading (line_language T) place old end ≡ with_all forms (form_reading (line_language T) next new end)
 
 -- What is read from a place on has this first fault; or memory is wanting.
 unfoldable pub Stops : Frame → ℕ → Place → List Row → ProofText → Type 0
-Stops T end place old (faults.Line n kind) = reading (evidence_language T) place old end ≡ Err (record { line = n; kind = kind })
+Stops T end place old (faults.Line n kind) = form_reading (line_language T) place old end ≡ Err (record { line = n; kind = kind })
 Stops T end place old faults.NoMemory = Unit {0}
 
 -- the hypotheses below `m` that a version keeps after these steps
@@ -44,7 +44,7 @@ rows_from line lines = row line ∷ rows_left lines
 
 -- before the line of this number, the end was read, and nothing stands after it
 unfoldable pub EndRead : ℕ → List Row → Type 0
-EndRead end old = (T : Frame) → reading (evidence_language T) (At (TheEnd ∷ []) AtEnd) old end ≡ Ok (SaysEnd ∷ [])
+EndRead end old = (T : Frame) → form_reading (line_language T) (At (TheEnd ∷ []) AtEnd) old end ≡ Ok (SaysEnd ∷ [])
 
 -- the end can't be read, or something stands after it
 unfoldable pub EndStops : ℕ → List Row → ProofText → Type 0
@@ -108,7 +108,7 @@ module _ (n : Numbers) (c : Content) (end : ℕ) where
   -- the lines say this evidence
   unfoldable pub SayEvidence : List Row → ℕ → List StepParts → List KeepParts → Type 0
   SayEvidence rows version steps keeps =
-      (T : Frame) → IsFrameFor n c T → reading (evidence_language T) (At [] AtVersion) rows end ≡ Ok (evidence_forms version steps keeps)
+      (T : Frame) → IsFrameFor n c T → form_reading (line_language T) (At [] AtVersion) rows end ≡ Ok (evidence_forms version steps keeps)
 
   -- this is the first fault of the lines; or memory is wanting
   unfoldable pub HaveFault : List Row → ProofText → Type 0
