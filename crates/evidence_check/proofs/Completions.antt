@@ -1,5 +1,26 @@
 -- From each place on, lines end.
-use Rattle.std.proofs.Common.{◌≡◌, refl, ap, ap₂, inl, inr, ℕ, Bool, true, false, if◌then◌else◌, List, [], ◌∷◌, ◌++◌, map, None, Ok, Err, arith}
+use Rattle.std.proofs.Common.{
+  ◌≡◌,
+  refl,
+  ap,
+  ap₂,
+  inl,
+  inr,
+  ℕ,
+  Bool,
+  true,
+  false,
+  if◌then◌else◌,
+  List,
+  [],
+  ◌∷◌,
+  ◌++◌,
+  map,
+  None,
+  Ok,
+  Err,
+  arith,
+}
 use Rattle.std.specs.Prelude.{codes, pos}
 use Rattle.text_lines.specs.Lines.{rows_of, end_of}
 use Rattle.text_lines.specs.Words.{words_behind}

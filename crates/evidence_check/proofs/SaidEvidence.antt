@@ -32,9 +32,8 @@ use Rattle.evidence_check.specs.Documents.{keep_forms, evidence_forms, found_or,
 use Rattle.evidence_check.specs.Documents.{keep_line, end_line, step_or, first_line, tail, Slot, ANumber, AKeep, TheEnd, slot_line, due, keeps_due, Stage}
 use Rattle.evidence_check.specs.Documents.{AtVersion, AtSteps, AtEnd, Place, At, read_at, next_at, is_ended, line_language}
 use Rattle.evidence_check.specs.NumberReading.{number_in_text, case_frame}
-use Rattle.evidence_check.specs.ReadView.{kept_by}
 use Rattle.evidence_check.proofs.Hypotheses.{one_longer}
-use Rattle.evidence_check.proofs.ReadWhole.{tail_reads, read_fits}
+use Rattle.evidence_check.proofs.ReadWhole.{tail_reads, kept_by, read_fits}
 
 -- ---- what a line says
 

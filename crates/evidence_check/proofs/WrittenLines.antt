@@ -1,5 +1,25 @@
 -- The lines of evidence say it.
-use Rattle.std.proofs.Common.{◌≡◌, refl, sym, ap, ap₂, subst, ◌∙◌, ℕ, suc, ◌+◌, true, false, List, [], ◌∷◌, ◌++◌, map, length, Some}
+use Rattle.std.proofs.Common.{
+  ◌≡◌,
+  refl,
+  sym,
+  ap,
+  ap₂,
+  subst,
+  ◌∙◌,
+  ℕ,
+  suc,
+  ◌+◌,
+  true,
+  false,
+  List,
+  [],
+  ◌∷◌,
+  ◌++◌,
+  map,
+  length,
+  Some,
+}
 use Rattle.std.proofs.Common.{None, Ok, append_assoc, inl, inr, arith}
 use Rattle.std.specs.Prelude.{◌⊎◌, codes}
 use Rattle.std.specs.Fmt.{decimal, digits}
@@ -14,9 +34,36 @@ use Rattle.field_core.specs.Kind.{Parts}
 use Rattle.evidence_check.specs.declared.quantity.Quantity.{Quantity}
 use Rattle.evidence_check.specs.declared.quantity.Quantity.TheVariants.{Flow, Exit}
 use Rattle.evidence_check.specs.EvidenceParts.{StepParts, KeepParts, AreFull, FlowsFit, ExitsFit}
-use Rattle.evidence_check.specs.Documents.{Frame, Form, SaysVersion, SaysStep, SaysNumber, SaysKeep, SaysEnd, number_forms, list_forms, step_forms, keep_forms, evidence_forms}
+use Rattle.evidence_check.specs.Documents.{
+  Frame,
+  Form,
+  SaysVersion,
+  SaysStep,
+  SaysNumber,
+  SaysKeep,
+  SaysEnd,
+  number_forms,
+  list_forms,
+  step_forms,
+  keep_forms,
+  evidence_forms,
+}
 use Rattle.evidence_check.specs.Documents.{line_of, step_said, version_line, number_line, keep_line, end_line, Slot, ANumber, slot_line, due, keeps_due}
-use Rattle.evidence_check.specs.Documents.{kept_in, tail, first_line, behind_first, Stage, AtVersion, AtSteps, AtEnd, Place, At, read_at, next_at, evidence_language}
+use Rattle.evidence_check.specs.Documents.{
+  kept_in,
+  tail,
+  first_line,
+  behind_first,
+  Stage,
+  AtVersion,
+  AtSteps,
+  AtEnd,
+  Place,
+  At,
+  read_at,
+  next_at,
+  evidence_language,
+}
 use Rattle.evidence_check.specs.DocumentStatements.{IsPrinted, LinesSayTheirEvidence}
 use Rattle.evidence_check.proofs.Hypotheses.{one_longer}
 use Rattle.evidence_check.proofs.ReadWhole.{is_step, next_no}
