@@ -69,13 +69,6 @@ module _ (T : Frame) where
   unfolding Reads
   reads_memory p left = tt
 
-  -- a fault that is handed on
-  pub reads_handed : {A : Type 0} (p : Place) (left : Left) (f : A → Taken) (result : Result A ProofText) (fault : ProofText) → IsErrAnd result
-      (λ y. y ≡ fault)
-      → Reads T p left (Err fault) → Reads T p left (ok_map f result)
-  reads_handed p left f (Ok x) fault h k = absurd h
-  reads_handed p left f (Err y) fault h k = subst (λ x. Reads T p left (Err x)) (sym h) k
-
   -- a line that must stand
   pub reads_slot : (s : Slot) (ss : List Slot) (stage : Stage) (row : Row) (rows : List Row) (end : ℕ) (f : Form) → slot_line T s (words_of row.text) ≡
       Ok f
@@ -88,6 +81,12 @@ module _ (T : Frame) where
       (Err (faults.Line row.number kind))
   unfolding read_at
   slot_bad s ss stage row rows end kind e = reads_bad (At (s ∷ ss) stage) row rows end kind e
+
+-- a fault that is handed on
+pub reads_handed : {A : Type 0} (T : Frame) (p : Place) (left : Left) (f : A → Taken) (result : Result A ProofText) (fault : ProofText)
+    → IsErrAnd result (λ y. y ≡ fault) → Reads T p left (Err fault) → Reads T p left (ok_map f result)
+reads_handed T p left f (Ok x) fault h k = absurd h
+reads_handed T p left f (Err y) fault h k = subst (λ x. Reads T p left (Err x)) (sym h) k
 
 -- the name of a hypothesis of the case
 pub frame_name : (n : Numbers) (c : Content) (j : ℕ) (name : List ℕ) → slice_get c.names j ≡ Some name → (case_frame n c).name j ≡ name
@@ -122,48 +121,50 @@ module _ (T : Frame) (q : Quantity) (k : ℕ) (js : List ℕ) (old : Left) where
   pub numbers_none : NumbersSoFar 0 [] old
   numbers_none = record { count = refl; read = λ rest stage. reads_none T (At (map (ANumber q k) js ++ rest) stage) old }
 
-  module _ (i : ℕ) (xs : List Parts) (left : Left) (p : i < length js) (S : NumbersSoFar i xs left) (j : ℕ) (is : get_or js i 0 ≡ j) where
-    here : drop i js ≡ j ∷ drop (i + 1) js
-    here = drop_more js i 0 p ∙ ap (λ j. j ∷ drop (i + 1) js) is
+module _ {T : Frame} {q : Quantity} {k : ℕ} {js : List ℕ} {old : Left} {i : ℕ} {xs : List Parts} {left : Left} (p : i < length js)
+    (S : NumbersSoFar T q k js old i xs left) {j : ℕ} (is : get_or js i 0 ≡ j) where
+  here : drop i js ≡ j ∷ drop (i + 1) js
+  here = drop_more js i 0 p ∙ ap (λ j. j ∷ drop (i + 1) js) is
 
-    at_here : (rest : List Slot) (stage : Stage) → Reads T (At (map (ANumber q k) js ++ rest) stage) old
-        (Ok (taken (number_forms q k (take i js) xs) (At (ANumber q k j ∷ map (ANumber q k) (drop (i + 1) js) ++ rest) stage) left))
-    at_here rest stage = subst (λ is. Reads T (At (map (ANumber q k) js ++ rest) stage) old
-        (Ok (taken (number_forms q k (take i js) xs) (At (map (ANumber q k) is ++ rest) stage) left))) here (S.read rest stage)
+  at_here : (rest : List Slot) (stage : Stage) → Reads T (At (map (ANumber q k) js ++ rest) stage) old
+      (Ok (taken (number_forms q k (take i js) xs) (At (ANumber q k j ∷ map (ANumber q k) (drop (i + 1) js) ++ rest) stage) left))
+  at_here rest stage = subst (λ is. Reads T (At (map (ANumber q k) js ++ rest) stage) old
+      (Ok (taken (number_forms q k (take i js) xs) (At (map (ANumber q k) is ++ rest) stage) left))) here (S.read rest stage)
 
-    pub numbers_next : (x : Parts) (new : Left) → ((ss : List Slot) (stage : Stage) → Reads T (At (ANumber q k j ∷ ss) stage) left
-        (Ok (taken (SaysNumber q k j x ∷ []) (At ss stage) new))) → NumbersSoFar (i + 1) (xs ++ x ∷ []) new
-    numbers_next x new said = record {
-      count = length-append xs (x ∷ [])
-          ∙ ap (λ n. n + 1) S.count;
-      read = λ rest stage. subst (λ fs. Reads T (At (map (ANumber q k) js ++ rest) stage) old
-          (Ok (taken fs (At (map (ANumber q k) (drop (i + 1) js) ++ rest) stage) new))) forms
-          (reads_on T (At (map (ANumber q k) js ++ rest) stage) old
-          (taken (number_forms q k (take i js) xs) (At (ANumber q k j ∷ map (ANumber q k) (drop (i + 1) js) ++ rest) stage) left)
-          (Ok (taken (SaysNumber q k j x ∷ []) (At (map (ANumber q k) (drop (i + 1) js) ++ rest) stage) new)) (at_here rest stage)
-          (said (map (ANumber q k) (drop (i + 1) js) ++ rest) stage));
-    }
-      where
-        same : length (take i js) ≡ length xs
-        same = omega (arith, length-take i js, S.count)
+  pub numbers_next : (x : Parts) (new : Left) → ((ss : List Slot) (stage : Stage) → Reads T (At (ANumber q k j ∷ ss) stage) left
+      (Ok (taken (SaysNumber q k j x ∷ []) (At ss stage) new))) → NumbersSoFar T q k js old (i + 1) (xs ++ x ∷ []) new
+  numbers_next x new said = record {
+    count = length-append xs (x ∷ [])
+        ∙ ap (λ n. n + 1) S.count;
+    read = λ rest stage. subst (λ fs. Reads T (At (map (ANumber q k) js ++ rest) stage) old
+        (Ok (taken fs (At (map (ANumber q k) (drop (i + 1) js) ++ rest) stage) new))) forms
+        (reads_on T (At (map (ANumber q k) js ++ rest) stage) old
+        (taken (number_forms q k (take i js) xs) (At (ANumber q k j ∷ map (ANumber q k) (drop (i + 1) js) ++ rest) stage) left)
+        (Ok (taken (SaysNumber q k j x ∷ []) (At (map (ANumber q k) (drop (i + 1) js) ++ rest) stage) new)) (at_here rest stage)
+        (said (map (ANumber q k) (drop (i + 1) js) ++ rest) stage));
+  }
+    where
+      same : length (take i js) ≡ length xs
+      same = omega (arith, length-take i js, S.count)
 
-        forms : number_forms q k (take i js) xs ++ SaysNumber q k j x ∷ [] ≡ number_forms q k (take (i + 1) js) (xs ++ x ∷ [])
-        forms = sym (number_snoc q k j x (take i js) xs same)
-            ∙ ap (λ is. number_forms q k is (xs ++ x ∷ [])) (sym (take_more js i 0 p ∙ ap (λ j. take i js ++ j ∷ []) is))
+      forms : number_forms q k (take i js) xs ++ SaysNumber q k j x ∷ [] ≡ number_forms q k (take (i + 1) js) (xs ++ x ∷ [])
+      forms = sym (number_snoc q k j x (take i js) xs same)
+          ∙ ap (λ is. number_forms q k is (xs ++ x ∷ [])) (sym (take_more js i 0 p ∙ ap (λ j. take i js ++ j ∷ []) is))
 
-    pub numbers_fault : (fault : ProofText) → ((ss : List Slot) (stage : Stage) → Reads T (At (ANumber q k j ∷ ss) stage) left (Err fault))
-        → (rest : List Slot) (stage : Stage) → Reads T (At (map (ANumber q k) js ++ rest) stage) old (Err fault)
-    numbers_fault fault said rest stage =
-        reads_on T (At (map (ANumber q k) js ++ rest) stage) old
-        (taken (number_forms q k (take i js) xs) (At (ANumber q k j ∷ map (ANumber q k) (drop (i + 1) js) ++ rest) stage) left) (Err fault)
-        (at_here rest stage) (said (map (ANumber q k) (drop (i + 1) js) ++ rest) stage)
+  pub numbers_fault : (fault : ProofText) → ((ss : List Slot) (stage : Stage) → Reads T (At (ANumber q k j ∷ ss) stage) left (Err fault))
+      → (rest : List Slot) (stage : Stage) → Reads T (At (map (ANumber q k) js ++ rest) stage) old (Err fault)
+  numbers_fault fault said rest stage =
+      reads_on T (At (map (ANumber q k) js ++ rest) stage) old
+      (taken (number_forms q k (take i js) xs) (At (ANumber q k j ∷ map (ANumber q k) (drop (i + 1) js) ++ rest) stage) left) (Err fault)
+      (at_here rest stage) (said (map (ANumber q k) (drop (i + 1) js) ++ rest) stage)
 
-  pub numbers_done : (i : ℕ) (xs : List Parts) (left : Left) → i ≡ length js → NumbersSoFar i xs left → (rest : List Slot) (stage : Stage)
-      → Reads T (At (map (ANumber q k) js ++ rest) stage) old (Ok (taken (number_forms q k js xs) (At rest stage) left))
-  numbers_done i xs left e S rest stage =
-      subst (λ is. Reads T (At (map (ANumber q k) js ++ rest) stage) old (Ok (taken (number_forms q k is xs) (At rest stage) left))) (take_end js i e)
-      (subst (λ is. Reads T (At (map (ANumber q k) js ++ rest) stage) old
-      (Ok (taken (number_forms q k (take i js) xs) (At (map (ANumber q k) is ++ rest) stage) left))) (drop_end js i e) (S.read rest stage))
+pub numbers_done : {T : Frame} {q : Quantity} {k : ℕ} {js : List ℕ} {old : Left} {i : ℕ} {xs : List Parts} {left : Left} → i ≡ length js
+    → NumbersSoFar T q k js old i xs left → (rest : List Slot) (stage : Stage)
+    → Reads T (At (map (ANumber q k) js ++ rest) stage) old (Ok (taken (number_forms q k js xs) (At rest stage) left))
+numbers_done {T} {q} {k} {js} {old} {i} {xs} {left} e S rest stage =
+    subst (λ is. Reads T (At (map (ANumber q k) js ++ rest) stage) old (Ok (taken (number_forms q k is xs) (At rest stage) left))) (take_end js i e)
+    (subst (λ is. Reads T (At (map (ANumber q k) js ++ rest) stage) old
+    (Ok (taken (number_forms q k (take i js) xs) (At (map (ANumber q k) is ++ rest) stage) left))) (drop_end js i e) (S.read rest stage))
 
 -- the line of a number
 module _ (T : Frame) (q : Quantity) (k j : ℕ) (left : Left) (row : Row) (rows : List Row) (end : ℕ)
@@ -215,50 +216,52 @@ module _ (T : Frame) (q : Quantity) (js : List ℕ) (old : Left) where
       whole : T.components ≡ T.components - 0
       whole = omega arith
 
-  module _ (k : ℕ) (lists : List (List Parts)) (left : Left) (p : k < T.components) (S : ListsSoFar k lists left) where
-    more : T.components - k ≡ suc (T.components - (k + 1))
-    more = omega arith
+module _ {T : Frame} {q : Quantity} {js : List ℕ} {old : Left} {k : ℕ} {lists : List (List Parts)} {left : Left} (p : k < T.components)
+    (S : ListsSoFar T q js old k lists left) where
+  more : T.components - k ≡ suc (T.components - (k + 1))
+  more = omega arith
 
-    at_list : (rest : List Slot) (stage : Stage) → Reads T (At (due q T.components 0 js ++ rest) stage) old
-        (Ok (taken (list_forms q 0 js lists) (At (map (ANumber q k) js ++ (due q (T.components - (k + 1)) (k + 1) js ++ rest)) stage) left))
-    at_list rest stage = subst (λ ss. Reads T (At (due q T.components 0 js ++ rest) stage) old (Ok (taken (list_forms q 0 js lists) (At ss stage) left)))
-        (ap (λ m. due q m k js ++ rest) more ∙ append_assoc (map (ANumber q k) js) (due q (T.components - (k + 1)) (suc k) js) rest
-        ∙ ap (λ i. map (ANumber q k) js ++ (due q (T.components - (k + 1)) i js ++ rest)) (sym (add-one k)))
-        (S.read rest stage)
-
-    pub lists_next : (xs : List Parts) (new : Left) → length xs ≡ length js
-        → ((rest : List Slot) (stage : Stage) → Reads T (At (map (ANumber q k) js ++ rest) stage) left
-        (Ok (taken (number_forms q k js xs) (At rest stage) new))) → ListsSoFar (k + 1) (lists ++ xs ∷ []) new
-    lists_next xs new count R = record {
-      full = record {
-        lists = length-append lists (xs ∷ [])
-            ∙ ap (λ n. n + 1) S.full.lists;
-        each = All-push (λ ys. length ys ≡ length js) lists xs S.full.each count;
-      };
-      read = λ rest stage. subst (λ fs. Reads T (At (due q T.components 0 js ++ rest) stage) old
-          (Ok (taken fs (At (due q (T.components - (k + 1)) (k + 1) js ++ rest) stage) new))) forms
-          (reads_on T (At (due q T.components 0 js ++ rest) stage) old
-          (taken (list_forms q 0 js lists) (At (map (ANumber q k) js ++ (due q (T.components - (k + 1)) (k + 1) js ++ rest)) stage) left)
-          (Ok (taken (number_forms q k js xs) (At (due q (T.components - (k + 1)) (k + 1) js ++ rest) stage) new)) (at_list rest stage)
-          (R (due q (T.components - (k + 1)) (k + 1) js ++ rest) stage));
-    }
-      where
-        forms : list_forms q 0 js lists ++ number_forms q k js xs ≡ list_forms q 0 js (lists ++ xs ∷ [])
-        forms = ap (λ i. list_forms q 0 js lists ++ number_forms q i js xs) (sym (zero-add (length lists) ∙ S.full.lists))
-            ∙ sym (list_snoc q 0 js lists xs)
-
-    pub lists_fault : (fault : ProofText) → ((rest : List Slot) (stage : Stage) → Reads T (At (map (ANumber q k) js ++ rest) stage) left (Err fault))
-        → (rest : List Slot) (stage : Stage) → Reads T (At (due q T.components 0 js ++ rest) stage) old (Err fault)
-    lists_fault fault R rest stage =
-        reads_on T (At (due q T.components 0 js ++ rest) stage) old
-        (taken (list_forms q 0 js lists) (At (map (ANumber q k) js ++ (due q (T.components - (k + 1)) (k + 1) js ++ rest)) stage) left) (Err fault)
-        (at_list rest stage) (R (due q (T.components - (k + 1)) (k + 1) js ++ rest) stage)
-
-  pub lists_done : (k : ℕ) (lists : List (List Parts)) (left : Left) → k ≡ T.components → ListsSoFar k lists left → (rest : List Slot) (stage : Stage)
-      → Reads T (At (due q T.components 0 js ++ rest) stage) old (Ok (taken (list_forms q 0 js lists) (At rest stage) left))
-  lists_done k lists left e S rest stage =
-      subst (λ m. Reads T (At (due q T.components 0 js ++ rest) stage) old (Ok (taken (list_forms q 0 js lists) (At (due q m k js ++ rest) stage) left))) gone
+  at_list : (rest : List Slot) (stage : Stage) → Reads T (At (due q T.components 0 js ++ rest) stage) old
+      (Ok (taken (list_forms q 0 js lists) (At (map (ANumber q k) js ++ (due q (T.components - (k + 1)) (k + 1) js ++ rest)) stage) left))
+  at_list rest stage = subst (λ ss. Reads T (At (due q T.components 0 js ++ rest) stage) old (Ok (taken (list_forms q 0 js lists) (At ss stage) left)))
+      (ap (λ m. due q m k js ++ rest) more ∙ append_assoc (map (ANumber q k) js) (due q (T.components - (k + 1)) (suc k) js) rest
+      ∙ ap (λ i. map (ANumber q k) js ++ (due q (T.components - (k + 1)) i js ++ rest)) (sym (add-one k)))
       (S.read rest stage)
+
+  pub lists_next : (xs : List Parts) (new : Left) → length xs ≡ length js
+      → ((rest : List Slot) (stage : Stage) → Reads T (At (map (ANumber q k) js ++ rest) stage) left
+      (Ok (taken (number_forms q k js xs) (At rest stage) new))) → ListsSoFar T q js old (k + 1) (lists ++ xs ∷ []) new
+  lists_next xs new count R = record {
+    full = record {
+      lists = length-append lists (xs ∷ [])
+          ∙ ap (λ n. n + 1) S.full.lists;
+      each = All-push (λ ys. length ys ≡ length js) lists xs S.full.each count;
+    };
+    read = λ rest stage. subst (λ fs. Reads T (At (due q T.components 0 js ++ rest) stage) old
+        (Ok (taken fs (At (due q (T.components - (k + 1)) (k + 1) js ++ rest) stage) new))) forms
+        (reads_on T (At (due q T.components 0 js ++ rest) stage) old
+        (taken (list_forms q 0 js lists) (At (map (ANumber q k) js ++ (due q (T.components - (k + 1)) (k + 1) js ++ rest)) stage) left)
+        (Ok (taken (number_forms q k js xs) (At (due q (T.components - (k + 1)) (k + 1) js ++ rest) stage) new)) (at_list rest stage)
+        (R (due q (T.components - (k + 1)) (k + 1) js ++ rest) stage));
+  }
     where
-      gone : T.components - k ≡ 0
-      gone = omega arith
+      forms : list_forms q 0 js lists ++ number_forms q k js xs ≡ list_forms q 0 js (lists ++ xs ∷ [])
+      forms = ap (λ i. list_forms q 0 js lists ++ number_forms q i js xs) (sym (zero-add (length lists) ∙ S.full.lists))
+          ∙ sym (list_snoc q 0 js lists xs)
+
+  pub lists_fault : (fault : ProofText) → ((rest : List Slot) (stage : Stage) → Reads T (At (map (ANumber q k) js ++ rest) stage) left (Err fault))
+      → (rest : List Slot) (stage : Stage) → Reads T (At (due q T.components 0 js ++ rest) stage) old (Err fault)
+  lists_fault fault R rest stage =
+      reads_on T (At (due q T.components 0 js ++ rest) stage) old
+      (taken (list_forms q 0 js lists) (At (map (ANumber q k) js ++ (due q (T.components - (k + 1)) (k + 1) js ++ rest)) stage) left) (Err fault)
+      (at_list rest stage) (R (due q (T.components - (k + 1)) (k + 1) js ++ rest) stage)
+
+pub lists_done : {T : Frame} {q : Quantity} {js : List ℕ} {old : Left} {k : ℕ} {lists : List (List Parts)} {left : Left} → k ≡ T.components
+    → ListsSoFar T q js old k lists left → (rest : List Slot) (stage : Stage)
+    → Reads T (At (due q T.components 0 js ++ rest) stage) old (Ok (taken (list_forms q 0 js lists) (At rest stage) left))
+lists_done {T} {q} {js} {old} {k} {lists} {left} e S rest stage =
+    subst (λ m. Reads T (At (due q T.components 0 js ++ rest) stage) old (Ok (taken (list_forms q 0 js lists) (At (due q m k js ++ rest) stage) left))) gone
+    (S.read rest stage)
+  where
+    gone : T.components - k ≡ 0
+    gone = omega arith

@@ -17,7 +17,7 @@ use Rattle.evidence_check.specs.declared.quantity.Quantity.TheVariants.{Flow, Ex
 use Rattle.evidence_check.specs.Evidence.{others}
 use Rattle.evidence_check.specs.EvidenceParts.{StepParts, KeepParts, AreFull, FlowsFit, ExitsFit}
 use Rattle.evidence_check.specs.Documents.{Words, Frame, Form, SaysStep, SaysKeep, SaysEnd, list_forms, step_forms, keep_forms, step_said, keep_line, end_line}
-use Rattle.evidence_check.specs.Documents.{AKeep, TheEnd, Slot, Stage, slot_line, due, keeps_due, tail, kept_in, AtSteps, AtEnd, At, read_at, next_at, is_ended}
+use Rattle.evidence_check.specs.Documents.{AKeep, TheEnd, Slot, Stage, slot_line, due, keeps_due, kept_in, AtSteps, AtEnd, At, read_at, next_at, is_ended}
 use Rattle.evidence_check.specs.ReadView.{Left, taken, said_at, proof_fault, Reads}
 use Rattle.evidence_check.proofs.FitAnswers.{others_from, listed_in, listed_out}
 use Rattle.evidence_check.proofs.ReadAnswers.{reads_none, reads_on, reads_line, reads_bad, reads_early, reads_slot, slot_bad}
@@ -220,58 +220,58 @@ module _ (T : Frame) (m count : ℕ) (js : List ℕ) (old : Left) where
   abbrev KeepsRead : List KeepParts → Left → List ℕ → Type 0
   KeepsRead xs left ks = Reads T (At (keeps_due T js (others m js)) AtEnd) old (Ok (taken (keep_forms js xs) (At (keeps_due T js ks) AtEnd) left))
 
-  module _ (k : ℕ) (p : k < m) (xs : List KeepParts) (left : Left) (S : KeepsSoFar k xs left) where
-    pub so_far_skip : set_of js k ≡ true → KeepsSoFar (k + 1) xs left
-    so_far_skip e = record {
-      names = ap (λ ks. map (λ x. x.hypothesis) xs ++ ks) (sym (listed_out m js k p e)) ∙ S.names;
-      full = S.full;
-      read = subst (KeepsRead xs left) (listed_out m js k p e) S.read;
-    }
+none_left : (m k : ℕ) (js : List ℕ) → k ≡ m → others_from js k (m - k) ≡ []
+none_left m k js e = ap (others_from js k) gone
+  where
+    gone : m - k ≡ 0
+    gone = omega arith
 
-    pub so_far_next : set_of js k ≡ false → (x : KeepParts) (new : Left) → x.hypothesis ≡ k → AreFull T.components count x.exits
-        → ((ks : List ℕ) → Reads T (At (keeps_due T js (k ∷ ks)) AtEnd) left (Ok (taken (keep_forms js (x ∷ [])) (At (keeps_due T js ks) AtEnd) new)))
-        → KeepsSoFar (k + 1) (xs ++ x ∷ []) new
-    so_far_next e x new same full R = record {
-      names = ap (λ ks. ks ++ others_from js (k + 1) (m - (k + 1))) (map-append (λ x. x.hypothesis) xs (x ∷ []))
-          ∙ append_assoc (map (λ x. x.hypothesis) xs) (x.hypothesis ∷ []) (others_from js (k + 1) (m - (k + 1)))
-          ∙ ap (λ j. map (λ x. x.hypothesis) xs ++ j ∷ others_from js (k + 1) (m - (k + 1))) same
-          ∙ ap (λ ks. map (λ x. x.hypothesis) xs ++ ks) (sym (listed_in m js k p e)) ∙ S.names;
-      full = exits_snoc T.components count xs x S.full full;
-      read = subst
-          (λ fs. Reads T (At (keeps_due T js (others m js)) AtEnd) old (Ok (taken fs (At (keeps_due T js (others_from js (k + 1) (m - (k + 1)))) AtEnd) new)))
-          (sym (keep_snoc js xs x))
-          (reads_on T (At (keeps_due T js (others m js)) AtEnd) old
-          (taken (keep_forms js xs) (At (keeps_due T js (k ∷ others_from js (k + 1) (m - (k + 1)))) AtEnd) left)
-          (Ok (taken (keep_forms js (x ∷ [])) (At (keeps_due T js (others_from js (k + 1) (m - (k + 1)))) AtEnd) new))
-          (subst (KeepsRead xs left) (listed_in m js k p e) S.read) (R (others_from js (k + 1) (m - (k + 1)))));
-    }
+module _ {T : Frame} {m count : ℕ} {js : List ℕ} {old : Left} {k : ℕ} {xs : List KeepParts} {left : Left} (S : KeepsSoFar T m count js old k xs left)
+  where
+    module _ (p : k < m) where
+      pub so_far_skip : set_of js k ≡ true → KeepsSoFar T m count js old (k + 1) xs left
+      so_far_skip e = record {
+        names = ap (λ ks. map (λ x. x.hypothesis) xs ++ ks) (sym (listed_out m js k p e)) ∙ S.names;
+        full = S.full;
+        read = subst (KeepsRead T m count js old xs left) (listed_out m js k p e) S.read;
+      }
 
-    pub so_far_fault : set_of js k ≡ false → (fault : ProofText) → ((ks : List ℕ) → Reads T (At (keeps_due T js (k ∷ ks)) AtEnd) left (Err fault))
+      pub so_far_next : set_of js k ≡ false → (x : KeepParts) (new : Left) → x.hypothesis ≡ k → AreFull T.components count x.exits
+          → ((ks : List ℕ) → Reads T (At (keeps_due T js (k ∷ ks)) AtEnd) left (Ok (taken (keep_forms js (x ∷ [])) (At (keeps_due T js ks) AtEnd) new)))
+          → KeepsSoFar T m count js old (k + 1) (xs ++ x ∷ []) new
+      so_far_next e x new same full R = record {
+        names = ap (λ ks. ks ++ others_from js (k + 1) (m - (k + 1))) (map-append (λ x. x.hypothesis) xs (x ∷ []))
+            ∙ append_assoc (map (λ x. x.hypothesis) xs) (x.hypothesis ∷ []) (others_from js (k + 1) (m - (k + 1)))
+            ∙ ap (λ j. map (λ x. x.hypothesis) xs ++ j ∷ others_from js (k + 1) (m - (k + 1))) same
+            ∙ ap (λ ks. map (λ x. x.hypothesis) xs ++ ks) (sym (listed_in m js k p e)) ∙ S.names;
+        full = exits_snoc T.components count xs x S.full full;
+        read = subst
+            (λ fs. Reads T (At (keeps_due T js (others m js)) AtEnd) old (Ok (taken fs (At (keeps_due T js (others_from js (k + 1) (m - (k + 1)))) AtEnd) new)))
+            (sym (keep_snoc js xs x))
+            (reads_on T (At (keeps_due T js (others m js)) AtEnd) old
+            (taken (keep_forms js xs) (At (keeps_due T js (k ∷ others_from js (k + 1) (m - (k + 1)))) AtEnd) left)
+            (Ok (taken (keep_forms js (x ∷ [])) (At (keeps_due T js (others_from js (k + 1) (m - (k + 1)))) AtEnd) new))
+            (subst (KeepsRead T m count js old xs left) (listed_in m js k p e) S.read) (R (others_from js (k + 1) (m - (k + 1)))));
+      }
+
+      pub so_far_fault : set_of js k ≡ false → (fault : ProofText) → ((ks : List ℕ) → Reads T (At (keeps_due T js (k ∷ ks)) AtEnd) left (Err fault))
+          → Reads T (At (keeps_due T js (others m js)) AtEnd) old (Err fault)
+      so_far_fault e fault R =
+          reads_on T (At (keeps_due T js (others m js)) AtEnd) old
+          (taken (keep_forms js xs) (At (keeps_due T js (k ∷ others_from js (k + 1) (m - (k + 1)))) AtEnd) left) (Err fault)
+          (subst (KeepsRead T m count js old xs left) (listed_in m js k p e) S.read) (R (others_from js (k + 1) (m - (k + 1))))
+
+    pub so_far_early : (fault : ProofText) → left.rows ≡ [] → fault ≡ faults.Line left.end Ended
         → Reads T (At (keeps_due T js (others m js)) AtEnd) old (Err fault)
-    so_far_fault e fault R =
-        reads_on T (At (keeps_due T js (others m js)) AtEnd) old
-        (taken (keep_forms js xs) (At (keeps_due T js (k ∷ others_from js (k + 1) (m - (k + 1)))) AtEnd) left) (Err fault)
-        (subst (KeepsRead xs left) (listed_in m js k p e) S.read) (R (others_from js (k + 1) (m - (k + 1))))
+    so_far_early fault e f =
+        reads_on T (At (keeps_due T js (others m js)) AtEnd) old (taken (keep_forms js xs) (At (keeps_due T js (others_from js k (m - k))) AtEnd) left)
+        (Err fault) S.read (reads_early T (At (keeps_due T js (others_from js k (m - k))) AtEnd) left fault (due_early T js (others_from js k (m - k))) e f)
 
-  pub so_far_early : (k : ℕ) (xs : List KeepParts) (left : Left) (fault : ProofText) → KeepsSoFar k xs left → left.rows ≡ []
-      → fault ≡ faults.Line left.end Ended → Reads T (At (keeps_due T js (others m js)) AtEnd) old (Err fault)
-  so_far_early k xs left fault S e f =
-      reads_on T (At (keeps_due T js (others m js)) AtEnd) old (taken (keep_forms js xs) (At (keeps_due T js (others_from js k (m - k))) AtEnd) left)
-      (Err fault)
-      S.read (reads_early T (At (keeps_due T js (others_from js k (m - k))) AtEnd) left fault (due_early T js (others_from js k (m - k))) e f)
+    pub so_far_read : k ≡ m → Reads T (At (keeps_due T js (others m js)) AtEnd) old (Ok (taken (keep_forms js xs) (At (TheEnd ∷ []) AtEnd) left))
+    so_far_read e = subst (KeepsRead T m count js old xs left) (none_left m k js e) S.read
 
-  none_left : (k : ℕ) → k ≡ m → others_from js k (m - k) ≡ []
-  none_left k e = ap (others_from js k) gone
-    where
-      gone : m - k ≡ 0
-      gone = omega arith
-
-  pub so_far_read : (k : ℕ) (xs : List KeepParts) (left : Left) → k ≡ m → KeepsSoFar k xs left
-      → Reads T (At (keeps_due T js (others m js)) AtEnd) old (Ok (taken (keep_forms js xs) (At (TheEnd ∷ []) AtEnd) left))
-  so_far_read k xs left e S = subst (KeepsRead xs left) (none_left k e) S.read
-
-  pub so_far_all : (k : ℕ) (xs : List KeepParts) (left : Left) → k ≡ m → KeepsSoFar k xs left → map (λ x. x.hypothesis) xs ≡ others m js
-  so_far_all k xs left e S = sym (append-nil (map (λ x. x.hypothesis) xs)) ∙ ap (λ ks. map (λ x. x.hypothesis) xs ++ ks) (sym (none_left k e)) ∙ S.names
+    pub so_far_all : k ≡ m → map (λ x. x.hypothesis) xs ≡ others m js
+    so_far_all e = sym (append-nil (map (λ x. x.hypothesis) xs)) ∙ ap (λ ks. map (λ x. x.hypothesis) xs ++ ks) (sym (none_left m k js e)) ∙ S.names
 
 -- no hypothesis is kept in another version
 pub kept_none : (T : Frame) (v : ℕ) (js : List ℕ) → v ≢ 2 → kept_in T v js ≡ []

@@ -19,16 +19,15 @@ use Rattle.text_lines.specs.Words.{words_of, words_behind, only_word, only_three
 use Rattle.field_core.specs.Kind.{Parts, ok_map}
 use Rattle.field_core.specs.Sets.{set_of}
 use Rattle.case_model.specs.Content.{Content}
-use Rattle.case_numbers.specs.Numbers.{Numbers}
 use Rattle.evidence_check.specs.declared.fault.ProofKind.{ProofKind}
-use Rattle.evidence_check.specs.declared.fault.ProofKind.TheVariants.{Unexpected, Ended, WordCount, Number}
+use Rattle.evidence_check.specs.declared.fault.ProofKind.TheVariants.{Unexpected, WordCount, Number}
 use Rattle.evidence_check.specs.declared.fault.ProofText.{ProofText}
 use Rattle.evidence_check.specs.declared.fault.ProofText.TheVariants as faults
 use Rattle.evidence_check.specs.declared.quantity.Quantity.{Quantity}
 use Rattle.evidence_check.specs.declared.evidence.ProofStep.{ProofStep}
 use Rattle.evidence_check.specs.declared.evidence.KeepProof.{KeepProof}
 use Rattle.evidence_check.specs.Evidence.{others}
-use Rattle.evidence_check.specs.EvidenceParts.{StepParts, KeepParts, FlowsFit, ExitsFit}
+use Rattle.evidence_check.specs.EvidenceParts.{FlowsFit, ExitsFit}
 use Rattle.evidence_check.specs.EvidenceView.{hypotheses_of, step_parts, keep_parts, FitsCase}
 use Rattle.text_lines.specs.FormLanguages.{with_all, form_reading}
 use Rattle.evidence_check.specs.Documents.{
@@ -47,7 +46,7 @@ use Rattle.evidence_check.specs.Documents.{
   is_none,
 }
 use Rattle.evidence_check.specs.Documents.{version_line, number_line, place_fault, keyword, keep_line, end_line, first_line, behind_first, tail, Slot, ANumber}
-use Rattle.evidence_check.specs.Documents.{AKeep, TheEnd, slot_line, keeps_due, AtVersion, AtSteps, AtEnd, Place, At, read_at, next_at, next_step}
+use Rattle.evidence_check.specs.Documents.{AKeep, TheEnd, slot_line, AtVersion, AtSteps, AtEnd, At, read_at, next_at, next_step}
 use Rattle.evidence_check.specs.Documents.{line_language}
 use Rattle.evidence_check.specs.DocumentStatements.{evidence_reading}
 use Rattle.evidence_check.specs.ReadView.{Left, taken, said_at, proof_fault, Reads}

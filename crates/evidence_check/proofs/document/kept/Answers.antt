@@ -1,4 +1,4 @@
-use Rattle.std.proofs.Common.{◌≢◌, sym, ap, subst, [], ◌∷◌, map, Ok}
+use Rattle.std.proofs.Common.{◌≢◌, sym, subst, [], ◌∷◌, map, Ok}
 use Rattle.case_model.specs.CaseView.{content}
 use Rattle.evidence_check.specs.Documents.{keep_forms, keeps_due, kept_in, TheEnd, AtEnd, At}
 use Rattle.evidence_check.specs.EvidenceView.{hypotheses_of, keep_parts}
@@ -21,4 +21,4 @@ returns-else-version-eq2-clause-said g c =
     (At (keeps_due (case_frame g.F.CaseNumber.numbers (content c.args.case.now)) (hypotheses_of c.args.steps.now) ks) AtEnd)
     (left_from c.args.first c.args.lines.now) (Ok (taken [] (At (TheEnd ∷ []) AtEnd) (left_from c.args.first c.args.lines.now))))
     (sym (kept_none (case_frame g.F.CaseNumber.numbers (content c.args.case.now)) c.args.version (hypotheses_of c.args.steps.now) n))
-    (reads_none (case_frame g.F.CaseNumber.numbers (content c.args.case.now)) (At (TheEnd ∷ []) AtEnd) (left_from c.args.first c.args.lines.now)))
+    (reads_none _ (At (TheEnd ∷ []) AtEnd) (left_from c.args.first c.args.lines.now)))
