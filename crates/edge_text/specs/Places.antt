@@ -90,5 +90,5 @@ whole (Spends d s) = unless_due (due d s) (with_stages d s)
 whole (Steps d s steps) = unless_due (due d (with_spend s (Table steps))) (with_stages d (with_spend s (Table steps)))
 
 -- the language of cases
-abbrev pub cases : Language Place Draft LineKind
-cases = record { step = step; end = whole }
+abbrev pub cases : Language (List ℕ) Place Draft LineKind
+cases = record { line_of = λ text. text; step = step; end = whole }

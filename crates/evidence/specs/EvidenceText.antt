@@ -1,14 +1,14 @@
 -- The text of evidence, line by line, and what it says.
 use Rattle.std.specs.Prelude.{◌≡◌, ℕ, List, [], ◌∷◌, ◌++◌, map}
 use Rattle.text_lines.specs.Spelling.{line_spelt, text_of}
+use Rattle.text_lines.specs.Languages.{FaultAt}
 use Rattle.case_model.specs.Content.{Content}
 use Rattle.case_model.specs.Validity.{IsValidContent}
 use Rattle.case_numbers.specs.Numbers.{Numbers}
 use Rattle.evidence_check.specs.declared.evidence.Evidence.{Evidence}
 use Rattle.evidence_check.specs.declared.fault.ProofKind.{ProofKind}
 use Rattle.evidence_check.specs.EvidenceView.{IsEvidenceFor, version_of, steps_of, keeps_of}
-use Rattle.evidence_check.specs.Languages.{Words, FaultAt}
-use Rattle.evidence_check.specs.Documents.{Form, line_of}
+use Rattle.evidence_check.specs.Documents.{Words, Form, line_of}
 use Rattle.evidence_check.specs.NumberReading.{case_frame}
 use Rattle.evidence_check.specs.DocumentStatements.{SaysEvidence, HasFault, evidence_text}
 

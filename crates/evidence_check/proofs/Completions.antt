@@ -1,22 +1,45 @@
 -- From each place on, lines end.
-use Rattle.std.proofs.Common.{◌≡◌, refl, ap, inl, inr, ℕ, false, List, [], ◌∷◌, ◌++◌, map, None, arith}
+use Rattle.std.proofs.Common.{
+  ◌≡◌,
+  refl,
+  ap,
+  ap₂,
+  inl,
+  inr,
+  ℕ,
+  Bool,
+  true,
+  false,
+  if◌then◌else◌,
+  List,
+  [],
+  ◌∷◌,
+  ◌++◌,
+  map,
+  None,
+  Ok,
+  Err,
+  arith,
+}
 use Rattle.std.specs.Prelude.{codes, pos}
 use Rattle.text_lines.specs.Lines.{rows_of, end_of}
 use Rattle.text_lines.specs.Words.{words_behind}
+use Rattle.text_lines.specs.Languages.{Completes}
+use Rattle.text_lines.proofs.LanguageLaws.{bad_ends, early_unfinished, faults_end}
 use Rattle.field_core.specs.Kind.{Parts}
 use Rattle.fraction.specs.Plain.{single, zero_reduced}
 use Rattle.eps_quotient.specs.Polynomials.{term}
 use Rattle.eps_quotient.proofs.TermLaws.{term_stored}
 use Rattle.case_model.specs.Content.{Content}
 use Rattle.case_numbers.specs.Numbers.{Numbers, in_fractions, in_quotients, numbers_of, IsStoredIn}
+use Rattle.evidence_check.specs.declared.fault.ProofKind.{ProofKind}
+use Rattle.evidence_check.specs.declared.fault.ProofKind.TheVariants.{Ended}
 use Rattle.evidence_check.specs.declared.quantity.Quantity.TheVariants.{Flow, Exit}
-use Rattle.evidence_check.specs.Languages.{Completes}
 use Rattle.evidence_check.specs.Documents.{Frame, Form, SaysVersion, SaysNumber, SaysKeep, SaysEnd, line_of, Slot, ANumber, AKeep, TheEnd, slot_line, keeps_due}
-use Rattle.evidence_check.specs.Documents.{kept_in, Stage, AtVersion, AtSteps, AtEnd, At, read_at, next_at, evidence_language}
+use Rattle.evidence_check.specs.Documents.{kept_in, Stage, AtVersion, AtSteps, AtEnd, At, Place, read_at, next_at, is_ended, evidence_language}
 use Rattle.evidence_check.specs.NumberReading.{case_frame}
 use Rattle.evidence_check.specs.DocumentStatements.{start, IsPrinted, FaultsAreWhereNoneGoesOn, NoneGoesOnIsFault}
-use Rattle.evidence_check.proofs.LanguageLaws.{bad_ends, early_unfinished, none_goes_on, read_faults}
-use Rattle.evidence_check.proofs.WrittenLines.{Leads, leads_on, number_back, keep_back, end_back, version_back, tail_lead}
+use Rattle.evidence_check.proofs.WrittenLines.{Leads, leads_on, lines_lead, number_back, keep_back, end_back, version_back, tail_lead}
 use Rattle.evidence_check.proofs.ReadWhole.{is_step}
 use Rattle.evidence_check.proofs.PrintedNumbers.{stored_printed}
 
@@ -56,16 +79,19 @@ module _ (T : Frame) (x : Parts) (printed : IsPrinted T x) where
   stage_lead (AtSteps v js) = (map form_in (keeps_due T js (kept_in T v js)), last_lead v js (kept_in T v js) refl)
   stage_lead AtEnd = ([], refl)
 
-  pub completes : Completes (evidence_language T)
-  completes (At must stage) =
+  place_lead : (place : Place) → (fs : List Form) × Leads T place fs (At [] AtEnd)
+  place_lead (At must stage) =
       let rest = stage_lead stage in (
-        map (line_of T) (map form_in must ++ rest.0),
         map form_in must ++ rest.0,
-        record {
-          here = At [] AtEnd;
-          lead = leads_on T (At must stage) (At [] stage) (At [] AtEnd) (map form_in must) rest.0 (slots_lead must stage) rest.1;
-          ended = refl;
-        },
+        leads_on T (At must stage) (At [] stage) (At [] AtEnd) (map form_in must) rest.0 (slots_lead must stage) rest.1,
+      )
+
+  pub completes : Completes (evidence_language T) start
+  completes lines here h =
+      let rest = place_lead here.0 in (
+        map (line_of T) rest.0,
+        here.1 ++ rest.0,
+        record { here = (At [] AtEnd, here.1 ++ rest.0); lead = lines_lead T here.0 (At [] AtEnd) here.1 rest.0 rest.1; ends = refl },
       )
 
 -- each kind of numbers has one
@@ -73,24 +99,23 @@ some_stored : (n : Numbers) → (x : Parts) × IsStoredIn n x
 some_stored in_fractions = (single (record { num = pos 0; den = pos 1 }), record { reduced = zero_reduced; shape = refl })
 some_stored in_quotients = (term 0 (record { num = pos 0; den = pos 1 }), term_stored 0 (record { num = pos 0; den = pos 1 }) (omega arith) zero_reduced)
 
-case_completes : (n : Numbers) (c : Content) → Completes (evidence_language (case_frame n c))
+case_completes : (n : Numbers) (c : Content) → Completes (evidence_language (case_frame n c)) start
 case_completes n c = let s = some_stored n in completes (case_frame n c) s.0 (stored_printed n c s.0 s.1)
 
-pub faults_end : FaultsAreWhereNoneGoesOn
-faults_end c bytes fault (inl b) =
+ended_kind : (b : Bool) (fs : List Form) (kind : ProofKind) → (if b then Ok fs else Err Ended) ≡ Err kind → kind ≡ Ended
+ended_kind true fs kind e = absurd (cc)
+ended_kind false fs kind e = cc
+
+pub faults_end_documents : FaultsAreWhereNoneGoesOn
+faults_end_documents c bytes fault (inl b) =
     inl (bad_ends (evidence_language (case_frame (numbers_of c) c)) start (rows_of bytes) fault (case_completes (numbers_of c) c) b)
-faults_end c bytes fault (inr b) =
+faults_end_documents c bytes fault (inr b) =
     inr (
-      b.fault_is,
+      ap₂ (λ line kind. record { line = line; kind = kind }) b.line_is (ended_kind (is_ended b.here.0) b.here.1 fault.kind b.must),
       early_unfinished (evidence_language (case_frame (numbers_of c) c)) start (rows_of bytes) (end_of bytes) fault
           (case_completes (numbers_of c) c) b,
     )
 
 pub none_is_fault : NoneGoesOnIsFault
-none_is_fault c bytes number w =
-    let found = none_goes_on (evidence_language (case_frame (numbers_of c) c)) start (rows_of bytes) (end_of bytes) number
-    (case_completes (numbers_of c) c) w in (
-      found.0,
-      read_faults (evidence_language (case_frame (numbers_of c) c)) start (rows_of bytes) (end_of bytes)
-          (record { line = number; kind = found.0 }) found.1,
-    )
+none_is_fault c bytes number =
+    (faults_end (evidence_language (case_frame (numbers_of c) c)) start (rows_of bytes) (end_of bytes) (case_completes (numbers_of c) c)).line number

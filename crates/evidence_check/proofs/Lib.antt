@@ -33,7 +33,6 @@ pub mod ReadAnswers
 pub mod ReadSteps
 pub mod ReadWhole
 pub mod NumberFound
-pub mod LanguageLaws
 pub mod OneEvidence
 pub mod TypedNumbers
 pub mod SaidEvidence

@@ -1,5 +1,5 @@
 -- The condition of a keep that the written check names is broken.
-use Rattle.std.proofs.Common.{◌≡◌, refl, sym, subst, ◌∙◌, ℕ, ◌<◌, not, List, length, Ok}
+use Rattle.std.proofs.Common.{refl, sym, subst, ◌∙◌, ℕ, ◌<◌, not, List, length, Ok}
 use Rattle.std.specs.Ordering.{is_le}
 use Rattle.field_core.specs.declared.place.Place.TheVariants.{Level, Exit}
 use Rattle.field_core.specs.Number.{Number}

@@ -22,7 +22,7 @@ use Rattle.case_model.specs.Content.{Content}
 use Rattle.case_numbers.specs.Numbers.{Numbers, in_fractions, in_quotients}
 use Rattle.evidence_check.specs.NumberTexts.{IsTextOf, IsConstantOf, IsNumberOf}
 use Rattle.evidence_check.specs.NumberReading.{cut, closed, inside, or_else, list_in, fraction_in, lists_in, whole_in, by_sides, polynomials_in, quotient_in}
-use Rattle.evidence_check.specs.NumberReading.{has_wide_part, fraction_by, fraction_of_text, number_in_text, case_frame}
+use Rattle.evidence_check.specs.NumberReading.{has_wide_part, fraction_by, constant_fraction, fraction_of_text, number_in_text, case_frame}
 use Rattle.evidence_check.specs.ReadView.{IsFrameFor}
 
 -- ---- a byte
@@ -171,7 +171,7 @@ quotient_by text (Some x) h = by (is_zero_integer (lowest x.1)) refl
         same x y e = cc
     by false e = record { numerator = x.0; denominator = x.1; spelt = record { polynomials = h.is; nonzero = is_zero_false (lowest x.1) e }; stored = refl }
 
-quotient_is : (text : List ℕ) → IsNumberOf in_quotients text (quotient_in text)
+pub quotient_is : (text : List ℕ) → IsNumberOf in_quotients text (quotient_in text)
 unfolding quotient_in
 quotient_is text = quotient_by text (polynomials_in text) (polynomials_only text)
 
@@ -197,7 +197,7 @@ at_most a b = elim (leb_tells a b) [
   | inr h ↦ (λ t. absurd (cc), λ l. absurd (omega arith))
 ]
 
-wide_decides : (x : Terms) → Decides (has_wide_part x) (HasWidePart x)
+pub wide_decides : (x : Terms) → Decides (has_wide_part x) (HasWidePart x)
 wide_decides x = Decides-or (nat_le (2 ^ 127) (unsigned_abs x.num)) (nat_le (2 ^ 127) (unsigned_abs x.den)) (at_most (2 ^ 127) (unsigned_abs x.num))
     (at_most (2 ^ 127) (unsigned_abs x.den))
 
@@ -235,7 +235,7 @@ unfolding fraction_of_text
 plain_is text = by (list_any (λ b. b == 91) text) refl
   where
     inner : list_any (λ b. b == 91) text ≡ false → (r : Option Parts) → quotient_in text ≡ r → IsNumberOf in_quotients text r
-        → IsNumberOf in_fractions text (and_then r (λ y. fraction_by (coefficient y.numerator 0) (coefficient y.denominator 0)))
+        → IsNumberOf in_fractions text (and_then r constant_fraction)
     inner e None f h = λ x t. h t.quotient t.says
     inner e (Some y) f h = found (fraction_by (coefficient y.numerator 0) (coefficient y.denominator 0)) (fraction_is y)
       where
@@ -251,7 +251,7 @@ plain_is text = by (list_any (λ b. b == 91) text) refl
 
     by : (b : Bool) → list_any (λ b. b == 91) text ≡ b
         → IsNumberOf in_fractions text
-        (if b then None else and_then (quotient_in text) (λ y. fraction_by (coefficient y.numerator 0) (coefficient y.denominator 0)))
+        (if b then None else and_then (quotient_in text) constant_fraction)
     by true e = λ x t. no (list_any (λ b. b == 91) text) e t.no_bracket
     by false e = inner e (quotient_in text) refl (quotient_is text)
 

@@ -2,6 +2,7 @@
 use Rattle.std.proofs.Common.{◌≡◌, refl, sym, ap, subst, ◌∙◌, ℕ, suc, ◌+◌, ◌-◌, ◌<◌, false, List, [], ◌∷◌, ◌++◌, map}
 use Rattle.std.proofs.Common.{length, get_or, take, drop, Some, Result, Ok, Err, append_assoc, add-one, arith}
 use Rattle.std.proofs.Common.{zero-add, length-append}
+use Rattle.std.specs.Result.{IsErrAnd}
 use Rattle.std.proofs.lemmas.List.{drop_more, take_more, length-take, append-nil, get_or-map}
 use Rattle.std.specs.List.{All, slice_get}
 use Rattle.std.proofs.lemmas.Option.{get_or_from_slice_get}
@@ -13,7 +14,9 @@ use Rattle.std.proofs.lemmas.List.Elements.{All-nil, All-push}
 use Rattle.evidence_check.proofs.StepsAnswers.{take_end, drop_end}
 use Rattle.text_lines.specs.Lines.{Row}
 use Rattle.text_lines.specs.Words.{words_of}
-use Rattle.field_core.specs.Kind.{Parts}
+use Rattle.text_lines.specs.FormLanguages.{with_all, form_reading}
+use Rattle.text_lines.proofs.FormLaws.{all_none, all_joined}
+use Rattle.field_core.specs.Kind.{Parts, ok_map}
 use Rattle.case_model.specs.Content.{Content}
 use Rattle.case_numbers.specs.Numbers.{Numbers}
 use Rattle.evidence_check.specs.declared.fault.ProofKind.{ProofKind}
@@ -22,81 +25,72 @@ use Rattle.evidence_check.specs.declared.fault.ProofText.{ProofText}
 use Rattle.evidence_check.specs.declared.fault.ProofText.TheVariants as faults
 use Rattle.evidence_check.specs.declared.quantity.Quantity.{Quantity}
 use Rattle.evidence_check.specs.EvidenceParts.{AreFull}
-use Rattle.evidence_check.specs.Languages.{FaultAt, with_all, reading}
 use Rattle.evidence_check.specs.Documents.{Frame, Form, SaysNumber, number_forms, list_forms, number_line, Slot, ANumber, slot_line, due, Stage, Place, At}
-use Rattle.evidence_check.specs.Documents.{read_at, next_at, is_ended, evidence_language}
-use Rattle.evidence_check.specs.ReadView.{IsFrameFor, Goes, Stops, NumbersRead, NumbersStop, ListsRead, ListsStop}
+use Rattle.evidence_check.specs.Documents.{read_at, next_at, is_ended, line_language}
+use Rattle.evidence_check.specs.NumberReading.{case_frame}
+use Rattle.evidence_check.specs.ReadView.{Left, Taken, taken, said_at, Reads}
 
 -- ---- forms, and what is read after them
 
-with_none : (r : Result (List Form) (FaultAt ProofKind)) → r ≡ with_all [] r
-with_none (Ok fs) = refl
-with_none (Err e) = refl
+module _ (T : Frame) where
+  pub reads_none : (p : Place) (left : Left) → Reads T p left (Ok (taken [] p left))
+  unfolding Reads
+  reads_none p left = sym (all_none (line_language T) (said_at T p left))
 
-with_joined : (fs gs : List Form) (r : Result (List Form) (FaultAt ProofKind)) → with_all fs (with_all gs r) ≡ with_all (fs ++ gs) r
-with_joined fs gs (Ok hs) = ap Ok (sym (append_assoc fs gs hs))
-with_joined fs gs (Err e) = refl
-
--- (of a case, before the line of this number)
-module _ (T : Frame) (end : ℕ) where
-  pub goes_none : (p : Place) (rows : List Row) → Goes T end p rows [] p rows
-  unfolding Goes
-  goes_none p rows = with_none (reading (evidence_language T) p rows end)
-
-  -- forms and then others
-  pub goes_on : (p q r : Place) (old cur new : List Row) (fs gs : List Form) → Goes T end p old fs q cur → Goes T end q cur gs r new
-      → Goes T end p old (fs ++ gs) r new
-  unfolding Goes
-  goes_on p q r old cur new fs gs h k = h ∙ ap (with_all fs) k ∙ with_joined fs gs (reading (evidence_language T) r new end)
-
-  -- forms and then a fault
-  pub goes_stops : (p q : Place) (old cur : List Row) (fs : List Form) (fault : ProofText) → Goes T end p old fs q cur → Stops T end q cur fault
-      → Stops T end p old fault
-  unfolding Goes Stops
-  goes_stops p q old cur fs (faults.Line n kind) h s = h ∙ ap (with_all fs) s
-  goes_stops p q old cur fs faults.NoMemory h s = tt
+  -- what was taken, and what is read after it
+  pub reads_on : (p : Place) (left : Left) (took : Taken) (answer : Result Taken ProofText) → Reads T p left (Ok took) → Reads T took.place took.left answer
+      → Reads T p left (ok_map (λ more. taken (took.forms ++ more.forms) more.place more.left) answer)
+  unfolding Reads
+  reads_on p left took (Ok more) h k =
+      h ∙ ap (with_all took.forms) k ∙ sym (all_joined (line_language T) took.forms more.forms (said_at T more.place more.left))
+  reads_on p left took (Err (faults.Line n kind)) h k = h ∙ ap (with_all took.forms) k
+  reads_on p left took (Err faults.NoMemory) h k = tt
 
   -- a line that says something
-  pub goes_line : (p : Place) (row : Row) (rows : List Row) (f : Form) → read_at T p (words_of row.text) ≡ Ok f
-      → Goes T end p (row ∷ rows) (f ∷ []) (next_at T p f) rows
-  unfolding Goes reading
-  goes_line p row rows f e = rw e refl
+  pub reads_line : (p : Place) (row : Row) (rows : List Row) (end : ℕ) (f : Form) → read_at T p (words_of row.text) ≡ Ok f
+      → Reads T p (record { rows = row ∷ rows; end = end }) (Ok (taken (f ∷ []) (next_at T p f) (record { rows = rows; end = end })))
+  unfolding Reads
+  reads_line p row rows end f e = rw e refl
 
   -- a line that isn't allowed
-  pub stops_line : (p : Place) (row : Row) (rows : List Row) (kind : ProofKind) → read_at T p (words_of row.text) ≡ Err kind
-      → Stops T end p (row ∷ rows) (faults.Line row.number kind)
-  unfolding Stops reading
-  stops_line p row rows kind e = rw e refl
+  pub reads_bad : (p : Place) (row : Row) (rows : List Row) (end : ℕ) (kind : ProofKind) → read_at T p (words_of row.text) ≡ Err kind
+      → Reads T p (record { rows = row ∷ rows; end = end }) (Err (faults.Line row.number kind))
+  unfolding Reads
+  reads_bad p row rows end kind e = rw e refl
 
   -- no line
-  pub stops_early : (p : Place) → is_ended p ≡ false → Stops T end p [] (faults.Line end Ended)
-  unfolding Stops reading
-  stops_early p e = rw e refl
+  pub reads_early : (p : Place) (left : Left) (fault : ProofText) → is_ended p ≡ false → left.rows ≡ [] → fault ≡ faults.Line left.end Ended
+      → Reads T p left (Err fault)
+  unfolding Reads
+  reads_early p left fault e r f = subst (λ x. Reads T p left (Err x)) (sym f)
+      (subst (λ rows. form_reading (line_language T) p rows left.end ≡ Err (record { line = left.end; kind = Ended })) (sym r) (rw e refl))
 
-  pub stops_memory : (p : Place) (rows : List Row) → Stops T end p rows faults.NoMemory
-  unfolding Stops
-  stops_memory p rows = tt
+  pub reads_memory : (p : Place) (left : Left) → Reads T p left (Err faults.NoMemory)
+  unfolding Reads
+  reads_memory p left = tt
 
   -- a line that must stand
-  pub goes_slot : (s : Slot) (ss : List Slot) (stage : Stage) (row : Row) (rows : List Row) (f : Form) → slot_line T s (words_of row.text) ≡ Ok f
-      → Goes T end (At (s ∷ ss) stage) (row ∷ rows) (f ∷ []) (At ss stage) rows
+  pub reads_slot : (s : Slot) (ss : List Slot) (stage : Stage) (row : Row) (rows : List Row) (end : ℕ) (f : Form) → slot_line T s (words_of row.text) ≡
+      Ok f
+      → Reads T (At (s ∷ ss) stage) (record { rows = row ∷ rows; end = end }) (Ok (taken (f ∷ []) (At ss stage) (record { rows = rows; end = end })))
   unfolding read_at next_at
-  goes_slot s ss stage row rows f e = goes_line (At (s ∷ ss) stage) row rows f e
+  reads_slot s ss stage row rows end f e = reads_line (At (s ∷ ss) stage) row rows end f e
 
-  pub stops_slot : (s : Slot) (ss : List Slot) (stage : Stage) (row : Row) (rows : List Row) (kind : ProofKind)
-      → slot_line T s (words_of row.text) ≡ Err kind → Stops T end (At (s ∷ ss) stage) (row ∷ rows) (faults.Line row.number kind)
+  pub slot_bad : (s : Slot) (ss : List Slot) (stage : Stage) (row : Row) (rows : List Row) (end : ℕ) (kind : ProofKind)
+      → slot_line T s (words_of row.text) ≡ Err kind → Reads T (At (s ∷ ss) stage) (record { rows = row ∷ rows; end = end })
+      (Err (faults.Line row.number kind))
   unfolding read_at
-  stops_slot s ss stage row rows kind e = stops_line (At (s ∷ ss) stage) row rows kind e
+  slot_bad s ss stage row rows end kind e = reads_bad (At (s ∷ ss) stage) row rows end kind e
 
-  pub stops_due : (s : Slot) (ss : List Slot) (stage : Stage) (rows : List Row) (fault : ProofText) → rows ≡ [] → fault ≡ faults.Line end Ended
-      → Stops T end (At (s ∷ ss) stage) rows fault
-  stops_due s ss stage rows fault e f = subst (λ rs. Stops T end (At (s ∷ ss) stage) rs fault) (sym e)
-      (subst (Stops T end (At (s ∷ ss) stage) []) (sym f) (stops_early (At (s ∷ ss) stage) refl))
+-- a fault that is handed on
+pub reads_handed : {A : Type 0} (T : Frame) (p : Place) (left : Left) (f : A → Taken) (result : Result A ProofText) (fault : ProofText)
+    → IsErrAnd result (λ y. y ≡ fault) → Reads T p left (Err fault) → Reads T p left (ok_map f result)
+reads_handed T p left f (Ok x) fault h k = absurd h
+reads_handed T p left f (Err y) fault h k = subst (λ x. Reads T p left (Err x)) (sym h) k
 
 -- the name of a hypothesis of the case
-pub frame_name : (n : Numbers) (c : Content) (T : Frame) → IsFrameFor n c T → (j : ℕ) (name : List ℕ) → j < length c.names
-    → slice_get c.names j ≡ Some name → T.name j ≡ name
-frame_name n c T t j name p e = t.name j p ∙ get_or_from_slice_get c.names j name [] e
+pub frame_name : (n : Numbers) (c : Content) (j : ℕ) (name : List ℕ) → slice_get c.names j ≡ Some name → (case_frame n c).name j ≡ name
+frame_name n c j name e = get_or_from_slice_get c.names j name [] e
 
 -- the hypothesis of a step
 pub known_at : {F : Type 0} (m : ℕ) (steps : List (ProofStep F)) (e : ℕ) (s : ProofStep F) → e < length steps → All (λ j. j < m) (hypotheses_of steps)
@@ -117,80 +111,77 @@ number_snoc q c j x [] (y ∷ ys) e = absurd (omega (arith, e))
 number_snoc q c j x (i ∷ js) [] e = absurd (omega (arith, e))
 number_snoc q c j x (i ∷ js) (y ∷ ys) e = ap (λ fs. SaysNumber q c i y ∷ fs) (number_snoc q c j x js ys (omega (arith, e)))
 
-module _ (n : Numbers) (c : Content) (end : ℕ) (q : Quantity) (k : ℕ) (js : List ℕ) (old : List Row) where
-  -- the first `i` numbers were read
-  pub record NumbersSoFar (i : ℕ) (xs : List Parts) (cur : List Row) : Type 0 where
+module _ (T : Frame) (q : Quantity) (k : ℕ) (js : List ℕ) (old : Left) where
+  -- the first `i` numbers were read, whatever stands after them
+  pub record NumbersSoFar (i : ℕ) (xs : List Parts) (left : Left) : Type 0 where
     pub count : length xs ≡ i
-    pub read : (T : Frame) (rest : List Slot) (stage : Stage) → IsFrameFor n c T
-        → Goes T end (At (map (ANumber q k) js ++ rest) stage) old (number_forms q k (take i js) xs) (At (map (ANumber q k) (drop i js) ++ rest) stage) cur
+    pub read : (rest : List Slot) (stage : Stage) → Reads T (At (map (ANumber q k) js ++ rest) stage) old
+        (Ok (taken (number_forms q k (take i js) xs) (At (map (ANumber q k) (drop i js) ++ rest) stage) left))
 
   pub numbers_none : NumbersSoFar 0 [] old
-  numbers_none = record { count = refl; read = λ T rest stage t. goes_none T end (At (map (ANumber q k) js ++ rest) stage) old }
+  numbers_none = record { count = refl; read = λ rest stage. reads_none T (At (map (ANumber q k) js ++ rest) stage) old }
 
-  module _ (i : ℕ) (xs : List Parts) (cur : List Row) (p : i < length js) (S : NumbersSoFar i xs cur) where
-    module _ (j : ℕ) (is : get_or js i 0 ≡ j) where
-      here : drop i js ≡ j ∷ drop (i + 1) js
-      here = drop_more js i 0 p ∙ ap (λ j. j ∷ drop (i + 1) js) is
+module _ {T : Frame} {q : Quantity} {k : ℕ} {js : List ℕ} {old : Left} {i : ℕ} {xs : List Parts} {left : Left} (p : i < length js)
+    (S : NumbersSoFar T q k js old i xs left) {j : ℕ} (is : get_or js i 0 ≡ j) where
+  here : drop i js ≡ j ∷ drop (i + 1) js
+  here = drop_more js i 0 p ∙ ap (λ j. j ∷ drop (i + 1) js) is
 
-      at_here : (T : Frame) (rest : List Slot) (stage : Stage) → IsFrameFor n c T
-          → Goes T end (At (map (ANumber q k) js ++ rest) stage) old (number_forms q k (take i js) xs)
-          (At (ANumber q k j ∷ map (ANumber q k) (drop (i + 1) js) ++ rest) stage) cur
-      at_here T rest stage t = subst
-          (λ is. Goes T end (At (map (ANumber q k) js ++ rest) stage) old (number_forms q k (take i js) xs) (At (map (ANumber q k) is ++ rest) stage) cur) here
-          (S.read T rest stage t)
+  at_here : (rest : List Slot) (stage : Stage) → Reads T (At (map (ANumber q k) js ++ rest) stage) old
+      (Ok (taken (number_forms q k (take i js) xs) (At (ANumber q k j ∷ map (ANumber q k) (drop (i + 1) js) ++ rest) stage) left))
+  at_here rest stage = subst (λ is. Reads T (At (map (ANumber q k) js ++ rest) stage) old
+      (Ok (taken (number_forms q k (take i js) xs) (At (map (ANumber q k) is ++ rest) stage) left))) here (S.read rest stage)
 
-      module _ (row : Row) (new : List Row) (taken : cur ≡ row ∷ new) where
-        pub numbers_next : (x : Parts) → ((T : Frame) → IsFrameFor n c T → number_line T q k j (words_of row.text) ≡ Ok (SaysNumber q k j x))
-            → NumbersSoFar (i + 1) (xs ++ x ∷ []) new
-        unfolding slot_line
-        numbers_next x said = record {
-          count = many;
-          read = λ T rest stage t.
-              subst (λ fs. Goes T end (At (map (ANumber q k) js ++ rest) stage) old fs (At (map (ANumber q k) (drop (i + 1) js) ++ rest) stage) new) forms
-              (goes_on T end (At (map (ANumber q k) js ++ rest) stage) (At (ANumber q k j ∷ map (ANumber q k) (drop (i + 1) js) ++ rest) stage)
-              (At (map (ANumber q k) (drop (i + 1) js) ++ rest) stage) old (row ∷ new) new (number_forms q k (take i js) xs) (SaysNumber q k j x ∷ [])
-              (subst (Goes T end (At (map (ANumber q k) js ++ rest) stage) old (number_forms q k (take i js) xs)
-              (At (ANumber q k j ∷ map (ANumber q k) (drop (i + 1) js) ++ rest) stage)) taken (at_here T rest stage t))
-              (goes_slot T end (ANumber q k j) (map (ANumber q k) (drop (i + 1) js) ++ rest) stage row new (SaysNumber q k j x) (said T t)));
-        }
-          where
-            many : length (xs ++ x ∷ []) ≡ i + 1
-            many = length-append xs (x ∷ []) ∙ ap (λ n. n + 1) S.count
+  pub numbers_next : (x : Parts) (new : Left) → ((ss : List Slot) (stage : Stage) → Reads T (At (ANumber q k j ∷ ss) stage) left
+      (Ok (taken (SaysNumber q k j x ∷ []) (At ss stage) new))) → NumbersSoFar T q k js old (i + 1) (xs ++ x ∷ []) new
+  numbers_next x new said = record {
+    count = length-append xs (x ∷ [])
+        ∙ ap (λ n. n + 1) S.count;
+    read = λ rest stage. subst (λ fs. Reads T (At (map (ANumber q k) js ++ rest) stage) old
+        (Ok (taken fs (At (map (ANumber q k) (drop (i + 1) js) ++ rest) stage) new))) forms
+        (reads_on T (At (map (ANumber q k) js ++ rest) stage) old
+        (taken (number_forms q k (take i js) xs) (At (ANumber q k j ∷ map (ANumber q k) (drop (i + 1) js) ++ rest) stage) left)
+        (Ok (taken (SaysNumber q k j x ∷ []) (At (map (ANumber q k) (drop (i + 1) js) ++ rest) stage) new)) (at_here rest stage)
+        (said (map (ANumber q k) (drop (i + 1) js) ++ rest) stage));
+  }
+    where
+      same : length (take i js) ≡ length xs
+      same = omega (arith, length-take i js, S.count)
 
-            same : length (take i js) ≡ length xs
-            same = omega (arith, length-take i js, S.count)
+      forms : number_forms q k (take i js) xs ++ SaysNumber q k j x ∷ [] ≡ number_forms q k (take (i + 1) js) (xs ++ x ∷ [])
+      forms = sym (number_snoc q k j x (take i js) xs same)
+          ∙ ap (λ is. number_forms q k is (xs ++ x ∷ [])) (sym (take_more js i 0 p ∙ ap (λ j. take i js ++ j ∷ []) is))
 
-            forms : number_forms q k (take i js) xs ++ SaysNumber q k j x ∷ [] ≡ number_forms q k (take (i + 1) js) (xs ++ x ∷ [])
-            forms = sym (number_snoc q k j x (take i js) xs same)
-                ∙ ap (λ is. number_forms q k is (xs ++ x ∷ [])) (sym (take_more js i 0 p ∙ ap (λ j. take i js ++ j ∷ []) is))
+  pub numbers_fault : (fault : ProofText) → ((ss : List Slot) (stage : Stage) → Reads T (At (ANumber q k j ∷ ss) stage) left (Err fault))
+      → (rest : List Slot) (stage : Stage) → Reads T (At (map (ANumber q k) js ++ rest) stage) old (Err fault)
+  numbers_fault fault said rest stage =
+      reads_on T (At (map (ANumber q k) js ++ rest) stage) old
+      (taken (number_forms q k (take i js) xs) (At (ANumber q k j ∷ map (ANumber q k) (drop (i + 1) js) ++ rest) stage) left) (Err fault)
+      (at_here rest stage) (said (map (ANumber q k) (drop (i + 1) js) ++ rest) stage)
 
-        pub numbers_bad : (kind : ProofKind) → ((T : Frame) → IsFrameFor n c T → number_line T q k j (words_of row.text) ≡ Err kind)
-            → NumbersStop n c end q k js old (faults.Line row.number kind)
-        unfolding NumbersStop slot_line
-        numbers_bad kind said T rest stage t =
-            goes_stops T end (At (map (ANumber q k) js ++ rest) stage) (At (ANumber q k j ∷ map (ANumber q k) (drop (i + 1) js) ++ rest) stage) old cur
-            (number_forms q k (take i js) xs) (faults.Line row.number kind) (at_here T rest stage t)
-            (subst (λ rs. Stops T end (At (ANumber q k j ∷ map (ANumber q k) (drop (i + 1) js) ++ rest) stage) rs (faults.Line row.number kind)) (sym taken)
-            (stops_slot T end (ANumber q k j) (map (ANumber q k) (drop (i + 1) js) ++ rest) stage row new kind (said T t)))
+pub numbers_done : {T : Frame} {q : Quantity} {k : ℕ} {js : List ℕ} {old : Left} {i : ℕ} {xs : List Parts} {left : Left} → i ≡ length js
+    → NumbersSoFar T q k js old i xs left → (rest : List Slot) (stage : Stage)
+    → Reads T (At (map (ANumber q k) js ++ rest) stage) old (Ok (taken (number_forms q k js xs) (At rest stage) left))
+numbers_done {T} {q} {k} {js} {old} {i} {xs} {left} e S rest stage =
+    subst (λ is. Reads T (At (map (ANumber q k) js ++ rest) stage) old (Ok (taken (number_forms q k is xs) (At rest stage) left))) (take_end js i e)
+    (subst (λ is. Reads T (At (map (ANumber q k) js ++ rest) stage) old
+    (Ok (taken (number_forms q k (take i js) xs) (At (map (ANumber q k) is ++ rest) stage) left))) (drop_end js i e) (S.read rest stage))
 
-    pub numbers_early : (fault : ProofText) → cur ≡ [] → fault ≡ faults.Line end Ended → NumbersStop n c end q k js old fault
-    unfolding NumbersStop
-    numbers_early fault e f T rest stage t =
-        goes_stops T end (At (map (ANumber q k) js ++ rest) stage)
-        (At (ANumber q k (get_or js i 0) ∷ map (ANumber q k) (drop (i + 1) js) ++ rest) stage) old cur (number_forms q k (take i js) xs) fault
-        (at_here (get_or js i 0) refl T rest stage t)
-        (stops_due T end (ANumber q k (get_or js i 0)) (map (ANumber q k) (drop (i + 1) js) ++ rest) stage cur fault e f)
+-- the line of a number
+module _ (T : Frame) (q : Quantity) (k j : ℕ) (left : Left) (row : Row) (rows : List Row) (end : ℕ)
+    (starts : left ≡ record { rows = row ∷ rows; end = end })
+    (ss : List Slot) (stage : Stage) where
+  pub number_read : (x : Parts) → number_line T q k j (words_of row.text) ≡ Ok (SaysNumber q k j x)
+      → Reads T (At (ANumber q k j ∷ ss) stage) left (Ok (taken (SaysNumber q k j x ∷ []) (At ss stage) (record { rows = rows; end = end })))
+  unfolding slot_line
+  number_read x e =
+      subst (λ l. Reads T (At (ANumber q k j ∷ ss) stage) l (Ok (taken (SaysNumber q k j x ∷ []) (At ss stage) (record { rows = rows; end = end }))))
+      (sym starts) (reads_slot T (ANumber q k j) ss stage row rows end (SaysNumber q k j x) e)
 
-  pub numbers_memory : NumbersStop n c end q k js old faults.NoMemory
-  unfolding NumbersStop
-  numbers_memory T rest stage t = stops_memory T end (At (map (ANumber q k) js ++ rest) stage) old
-
-  pub numbers_done : (i : ℕ) (xs : List Parts) (cur : List Row) → i ≡ length js → NumbersSoFar i xs cur → NumbersRead n c end q k js old xs cur
-  unfolding NumbersRead
-  numbers_done i xs cur e S T rest stage t =
-      subst (λ is. Goes T end (At (map (ANumber q k) js ++ rest) stage) old (number_forms q k is xs) (At rest stage) cur) (take_end js i e)
-      (subst (λ is. Goes T end (At (map (ANumber q k) js ++ rest) stage) old (number_forms q k (take i js) xs) (At (map (ANumber q k) is ++ rest) stage) cur)
-      (drop_end js i e) (S.read T rest stage t))
+  pub number_bad : (kind : ProofKind) → number_line T q k j (words_of row.text) ≡ Err kind
+      → Reads T (At (ANumber q k j ∷ ss) stage) left (Err (faults.Line row.number kind))
+  unfolding slot_line
+  number_bad kind e = subst (λ l. Reads T (At (ANumber q k j ∷ ss) stage) l (Err (faults.Line row.number kind))) (sym starts)
+      (slot_bad T (ANumber q k j) ss stage row rows end kind e)
 
 -- ---- the numbers of all components
 
@@ -208,76 +199,69 @@ list_snoc q c js (ys ∷ lists) xs =
     more : (c n : ℕ) → suc c + n ≡ c + suc n
     more c n = omega arith
 
-module _ (n : Numbers) (c : Content) (end : ℕ) (q : Quantity) (js : List ℕ) (old : List Row) where
-  -- the numbers of the first `k` components were read
-  pub record ListsSoFar (k : ℕ) (lists : List (List Parts)) (cur : List Row) : Type 0 where
+module _ (T : Frame) (q : Quantity) (js : List ℕ) (old : Left) where
+  -- the numbers of the first `k` components were read, whatever stands after them
+  pub record ListsSoFar (k : ℕ) (lists : List (List Parts)) (left : Left) : Type 0 where
     pub full : AreFull k (length js) lists
-    pub read : (T : Frame) (rest : List Slot) (stage : Stage) → IsFrameFor n c T
-        → Goes T end (At (due q (length c.components) 0 js ++ rest) stage) old (list_forms q 0 js lists)
-        (At (due q (length c.components - k) k js ++ rest) stage) cur
+    pub read : (rest : List Slot) (stage : Stage) → Reads T (At (due q T.components 0 js ++ rest) stage) old
+        (Ok (taken (list_forms q 0 js lists) (At (due q (T.components - k) k js ++ rest) stage) left))
 
   pub lists_none : ListsSoFar 0 [] old
   lists_none = record {
     full = record { lists = refl; each = All-nil (λ ys. length ys ≡ length js) };
-    read =
-        λ T rest stage t. subst (λ m. Goes T end (At (due q (length c.components) 0 js ++ rest) stage) old [] (At (due q m 0 js ++ rest) stage) old) whole
-        (goes_none T end (At (due q (length c.components) 0 js ++ rest) stage) old);
+    read = λ rest stage. subst (λ m. Reads T (At (due q T.components 0 js ++ rest) stage) old (Ok (taken [] (At (due q m 0 js ++ rest) stage) old))) whole
+        (reads_none T (At (due q T.components 0 js ++ rest) stage) old);
   }
     where
-      whole : length c.components ≡ length c.components - 0
+      whole : T.components ≡ T.components - 0
       whole = omega arith
 
-  module _ (k : ℕ) (lists : List (List Parts)) (cur : List Row) (p : k < length c.components) (S : ListsSoFar k lists cur) where
-    left : length c.components - k ≡ suc (length c.components - (k + 1))
-    left = omega arith
+module _ {T : Frame} {q : Quantity} {js : List ℕ} {old : Left} {k : ℕ} {lists : List (List Parts)} {left : Left} (p : k < T.components)
+    (S : ListsSoFar T q js old k lists left) where
+  more : T.components - k ≡ suc (T.components - (k + 1))
+  more = omega arith
 
-    at_list : (T : Frame) (rest : List Slot) (stage : Stage) → IsFrameFor n c T
-        → Goes T end (At (due q (length c.components) 0 js ++ rest) stage) old (list_forms q 0 js lists)
-        (At (map (ANumber q k) js ++ (due q (length c.components - (k + 1)) (k + 1) js ++ rest)) stage) cur
-    at_list T rest stage t = subst (λ ss. Goes T end (At (due q (length c.components) 0 js ++ rest) stage) old (list_forms q 0 js lists) (At ss stage) cur)
-        (ap (λ m. due q m k js ++ rest) left ∙ append_assoc (map (ANumber q k) js) (due q (length c.components - (k + 1)) (suc k) js) rest
-        ∙ ap (λ i. map (ANumber q k) js ++ (due q (length c.components - (k + 1)) i js ++ rest)) (sym (add-one k)))
-        (S.read T rest stage t)
+  at_list : (rest : List Slot) (stage : Stage) → Reads T (At (due q T.components 0 js ++ rest) stage) old
+      (Ok (taken (list_forms q 0 js lists) (At (map (ANumber q k) js ++ (due q (T.components - (k + 1)) (k + 1) js ++ rest)) stage) left))
+  at_list rest stage = subst (λ ss. Reads T (At (due q T.components 0 js ++ rest) stage) old (Ok (taken (list_forms q 0 js lists) (At ss stage) left)))
+      (ap (λ m. due q m k js ++ rest) more ∙ append_assoc (map (ANumber q k) js) (due q (T.components - (k + 1)) (suc k) js) rest
+      ∙ ap (λ i. map (ANumber q k) js ++ (due q (T.components - (k + 1)) i js ++ rest)) (sym (add-one k)))
+      (S.read rest stage)
 
-    pub lists_next : (xs : List Parts) (new : List Row) → length xs ≡ length js → NumbersRead n c end q k js cur xs new
-        → ListsSoFar (k + 1) (lists ++ xs ∷ []) new
-    unfolding NumbersRead
-    lists_next xs new count R = record {
-      full = record {
-        lists = length-append lists (xs ∷ [])
-            ∙ ap (λ n. n + 1) S.full.lists;
-        each = All-push (λ ys. length ys ≡ length js) lists xs S.full.each count;
-      };
-      read = λ T rest stage t.
-          subst (λ fs. Goes T end (At (due q (length c.components) 0 js ++ rest) stage) old fs
-          (At (due q (length c.components - (k + 1)) (k + 1) js ++ rest) stage) new) forms
-          (goes_on T end (At (due q (length c.components) 0 js ++ rest) stage)
-          (At (map (ANumber q k) js ++ (due q (length c.components - (k + 1)) (k + 1) js ++ rest)) stage)
-          (At (due q (length c.components - (k + 1)) (k + 1) js ++ rest) stage) old cur new (list_forms q 0 js lists) (number_forms q k js xs)
-          (at_list T rest stage t) (R T (due q (length c.components - (k + 1)) (k + 1) js ++ rest) stage t));
-    }
-      where
-        forms : list_forms q 0 js lists ++ number_forms q k js xs ≡ list_forms q 0 js (lists ++ xs ∷ [])
-        forms = ap (λ i. list_forms q 0 js lists ++ number_forms q i js xs) (sym (zero-add (length lists) ∙ S.full.lists))
-            ∙ sym (list_snoc q 0 js lists xs)
-
-    pub lists_stop : (fault : ProofText) → NumbersStop n c end q k js cur fault → ListsStop n c end q js old fault
-    unfolding NumbersStop ListsStop
-    lists_stop fault R T rest stage t =
-        goes_stops T end (At (due q (length c.components) 0 js ++ rest) stage)
-        (At (map (ANumber q k) js ++ (due q (length c.components - (k + 1)) (k + 1) js ++ rest)) stage) old cur (list_forms q 0 js lists) fault
-        (at_list T rest stage t) (R T (due q (length c.components - (k + 1)) (k + 1) js ++ rest) stage t)
-
-  pub lists_memory : ListsStop n c end q js old faults.NoMemory
-  unfolding ListsStop
-  lists_memory T rest stage t = stops_memory T end (At (due q (length c.components) 0 js ++ rest) stage) old
-
-  pub lists_done : (k : ℕ) (lists : List (List Parts)) (cur : List Row) → k ≡ length c.components → ListsSoFar k lists cur
-      → ListsRead n c end q js old lists cur
-  unfolding ListsRead
-  lists_done k lists cur e S T rest stage t = subst
-      (λ m. Goes T end (At (due q (length c.components) 0 js ++ rest) stage) old (list_forms q 0 js lists) (At (due q m k js ++ rest) stage) cur) gone
-      (S.read T rest stage t)
+  pub lists_next : (xs : List Parts) (new : Left) → length xs ≡ length js
+      → ((rest : List Slot) (stage : Stage) → Reads T (At (map (ANumber q k) js ++ rest) stage) left
+      (Ok (taken (number_forms q k js xs) (At rest stage) new))) → ListsSoFar T q js old (k + 1) (lists ++ xs ∷ []) new
+  lists_next xs new count R = record {
+    full = record {
+      lists = length-append lists (xs ∷ [])
+          ∙ ap (λ n. n + 1) S.full.lists;
+      each = All-push (λ ys. length ys ≡ length js) lists xs S.full.each count;
+    };
+    read = λ rest stage. subst (λ fs. Reads T (At (due q T.components 0 js ++ rest) stage) old
+        (Ok (taken fs (At (due q (T.components - (k + 1)) (k + 1) js ++ rest) stage) new))) forms
+        (reads_on T (At (due q T.components 0 js ++ rest) stage) old
+        (taken (list_forms q 0 js lists) (At (map (ANumber q k) js ++ (due q (T.components - (k + 1)) (k + 1) js ++ rest)) stage) left)
+        (Ok (taken (number_forms q k js xs) (At (due q (T.components - (k + 1)) (k + 1) js ++ rest) stage) new)) (at_list rest stage)
+        (R (due q (T.components - (k + 1)) (k + 1) js ++ rest) stage));
+  }
     where
-      gone : length c.components - k ≡ 0
-      gone = omega arith
+      forms : list_forms q 0 js lists ++ number_forms q k js xs ≡ list_forms q 0 js (lists ++ xs ∷ [])
+      forms = ap (λ i. list_forms q 0 js lists ++ number_forms q i js xs) (sym (zero-add (length lists) ∙ S.full.lists))
+          ∙ sym (list_snoc q 0 js lists xs)
+
+  pub lists_fault : (fault : ProofText) → ((rest : List Slot) (stage : Stage) → Reads T (At (map (ANumber q k) js ++ rest) stage) left (Err fault))
+      → (rest : List Slot) (stage : Stage) → Reads T (At (due q T.components 0 js ++ rest) stage) old (Err fault)
+  lists_fault fault R rest stage =
+      reads_on T (At (due q T.components 0 js ++ rest) stage) old
+      (taken (list_forms q 0 js lists) (At (map (ANumber q k) js ++ (due q (T.components - (k + 1)) (k + 1) js ++ rest)) stage) left) (Err fault)
+      (at_list rest stage) (R (due q (T.components - (k + 1)) (k + 1) js ++ rest) stage)
+
+pub lists_done : {T : Frame} {q : Quantity} {js : List ℕ} {old : Left} {k : ℕ} {lists : List (List Parts)} {left : Left} → k ≡ T.components
+    → ListsSoFar T q js old k lists left → (rest : List Slot) (stage : Stage)
+    → Reads T (At (due q T.components 0 js ++ rest) stage) old (Ok (taken (list_forms q 0 js lists) (At rest stage) left))
+lists_done {T} {q} {js} {old} {k} {lists} {left} e S rest stage =
+    subst (λ m. Reads T (At (due q T.components 0 js ++ rest) stage) old (Ok (taken (list_forms q 0 js lists) (At (due q m k js ++ rest) stage) left))) gone
+    (S.read rest stage)
+  where
+    gone : T.components - k ≡ 0
+    gone = omega arith

@@ -6,10 +6,9 @@ use Rattle.std.proofs.lemmas.Bool.Decides.{Decides-eqb}
 use Rattle.std.proofs.lemmas.List.{append-nil, map-append}
 use Rattle.text_lines.specs.Lines.{Row}
 use Rattle.text_lines.specs.Words.{words_of, words_behind}
-use Rattle.field_core.specs.Kind.{Parts}
+use Rattle.field_core.specs.Answers.{told_as}
+use Rattle.field_core.specs.Kind.{Parts, ok_map}
 use Rattle.field_core.specs.Sets.{set_of}
-use Rattle.case_model.specs.Content.{Content}
-use Rattle.case_numbers.specs.Numbers.{Numbers}
 use Rattle.evidence_check.specs.declared.fault.ProofKind.{ProofKind}
 use Rattle.evidence_check.specs.declared.fault.ProofKind.TheVariants.{Unexpected, Ended}
 use Rattle.evidence_check.specs.declared.fault.ProofText.{ProofText}
@@ -17,213 +16,190 @@ use Rattle.evidence_check.specs.declared.fault.ProofText.TheVariants as faults
 use Rattle.evidence_check.specs.declared.quantity.Quantity.TheVariants.{Flow, Exit}
 use Rattle.evidence_check.specs.Evidence.{others}
 use Rattle.evidence_check.specs.EvidenceParts.{StepParts, KeepParts, AreFull, FlowsFit, ExitsFit}
-use Rattle.evidence_check.specs.Languages.{Words, reading}
-use Rattle.evidence_check.specs.Documents.{Frame, SaysStep, SaysKeep, SaysEnd, list_forms, step_forms, keep_forms, step_said, keep_line, end_line, AKeep}
-use Rattle.evidence_check.specs.Documents.{TheEnd, slot_line, due, keeps_due, AtSteps, AtEnd, At, read_at, next_at, is_ended}
-use Rattle.evidence_check.specs.ReadView.{IsFrameFor, Goes, Stops, ListsRead, ListsStop, StepRead, StepsRead, StepsStop, KeepRead, KeepsRead, KeepsStop}
-use Rattle.evidence_check.specs.ReadView.{EndRead, EndStops, kept_by}
+use Rattle.evidence_check.specs.Documents.{Words, Frame, Form, SaysStep, SaysKeep, SaysEnd, list_forms, step_forms, keep_forms, step_said, keep_line, end_line}
+use Rattle.evidence_check.specs.Documents.{AKeep, TheEnd, Slot, Stage, slot_line, due, keeps_due, kept_in, AtSteps, AtEnd, At, read_at, next_at, is_ended}
+use Rattle.evidence_check.specs.ReadView.{Left, taken, said_at, proof_fault, Reads}
 use Rattle.evidence_check.proofs.FitAnswers.{others_from, listed_in, listed_out}
-use Rattle.evidence_check.proofs.ReadAnswers.{goes_none, goes_on, goes_stops, goes_line, stops_line, stops_early, stops_memory, goes_slot, stops_slot}
+use Rattle.evidence_check.proofs.ReadAnswers.{reads_none, reads_on, reads_line, reads_bad, reads_early, reads_slot, slot_bad}
 
 -- the hypotheses of steps
 abbrev named : List StepParts → List ℕ
 named ss = map (λ s. s.hypothesis) ss
 
-module _ (n : Numbers) (c : Content) (end : ℕ) where
-  -- ---- a step
+-- ---- a step
 
-  module _ (js : List ℕ) (row : Row) (rest : Words) (step : words_behind (codes "step") (words_of row.text) ≡ Some rest) (rows : List Row) where
-    step_at : (T : Frame) (v : ℕ) → read_at T (At [] (AtSteps v js)) (words_of row.text) ≡ step_said T rest
-    unfolding read_at
-    step_at T v = rw step refl
+module _ (T : Frame) (js : List ℕ) (row : Row) (rest : Words) (step : words_behind (codes "step") (words_of row.text) ≡ Some rest) (rows : List Row)
+    (end v : ℕ) where
+  step_at : read_at T (At [] (AtSteps v js)) (words_of row.text) ≡ step_said T rest
+  unfolding read_at
+  step_at = rw step refl
 
-    pub step_read : (j : ℕ) (flows : List (List Parts)) (new : List Row) → ((T : Frame) → IsFrameFor n c T → step_said T rest ≡ Ok (SaysStep j))
-        → ListsRead n c end Flow js rows flows new → StepRead n c end js (row ∷ rows) (record { hypothesis = j; flows = flows }) new
-    unfolding StepRead ListsRead next_at
-    step_read j flows new said R T v t =
-        goes_on T end (At [] (AtSteps v js)) (At (due Flow T.components 0 js) (AtSteps v (js ++ j ∷ []))) (At [] (AtSteps v (js ++ j ∷ [])))
-        (row ∷ rows) rows new (SaysStep j ∷ []) (list_forms Flow 0 js flows ++ [])
-        (goes_line T end (At [] (AtSteps v js)) row rows (SaysStep j) (step_at T v ∙ said T t))
-        (subst (λ ss. Goes T end (At ss (AtSteps v (js ++ j ∷ []))) rows (list_forms Flow 0 js flows ++ []) (At [] (AtSteps v (js ++ j ∷ []))) new)
-        (append-nil (due Flow (length c.components) 0 js) ∙ ap (λ m. due Flow m 0 js) (sym t.components))
-        (subst (λ fs. Goes T end (At (due Flow (length c.components) 0 js ++ []) (AtSteps v (js ++ j ∷ []))) rows fs
-        (At [] (AtSteps v (js ++ j ∷ []))) new) (sym (append-nil (list_forms Flow 0 js flows))) (R T [] (AtSteps v (js ++ j ∷ [])) t)))
+  pub step_bad : (kind : ProofKind) → step_said T rest ≡ Err kind
+      → Reads T (At [] (AtSteps v js)) (record { rows = row ∷ rows; end = end }) (Err (faults.Line row.number kind))
+  step_bad kind said = reads_bad T (At [] (AtSteps v js)) row rows end kind (step_at ∙ said)
 
-    pub step_bad : (kind : ProofKind) → ((T : Frame) → IsFrameFor n c T → step_said T rest ≡ Err kind)
-        → StepsStop n c end js (row ∷ rows) (faults.Line row.number kind)
-    unfolding StepsStop
-    step_bad kind said T v t = stops_line T end (At [] (AtSteps v js)) row rows kind (step_at T v ∙ said T t)
+  module _ (j : ℕ) (said : step_said T rest ≡ Ok (SaysStep j)) where
+    named_line : Reads T (At [] (AtSteps v js)) (record { rows = row ∷ rows; end = end })
+        (Ok (taken (SaysStep j ∷ []) (At (due Flow T.components 0 js) (AtSteps v (js ++ j ∷ []))) (record { rows = rows; end = end })))
+    unfolding next_at
+    named_line = reads_line T (At [] (AtSteps v js)) row rows end (SaysStep j) (step_at ∙ said)
 
-    pub step_stops : (j : ℕ) (fault : ProofText) → ((T : Frame) → IsFrameFor n c T → step_said T rest ≡ Ok (SaysStep j))
-        → ListsStop n c end Flow js rows fault → StepsStop n c end js (row ∷ rows) fault
-    unfolding StepsStop ListsStop next_at
-    step_stops j fault said R T v t =
-        goes_stops T end (At [] (AtSteps v js)) (At (due Flow T.components 0 js) (AtSteps v (js ++ j ∷ []))) (row ∷ rows) rows (SaysStep j ∷ []) fault
-        (goes_line T end (At [] (AtSteps v js)) row rows (SaysStep j) (step_at T v ∙ said T t))
-        (subst (λ ss. Stops T end (At ss (AtSteps v (js ++ j ∷ []))) rows fault)
-        (append-nil (due Flow (length c.components) 0 js) ∙ ap (λ m. due Flow m 0 js) (sym t.components)) (R T [] (AtSteps v (js ++ j ∷ [])) t))
+    pub step_read : (flows : List (List Parts)) (new : Left)
+        → ((ss : List Slot) (stage : Stage) → Reads T (At (due Flow T.components 0 js ++ ss) stage) (record { rows = rows; end = end })
+        (Ok (taken (list_forms Flow 0 js flows) (At ss stage) new)))
+        → Reads T (At [] (AtSteps v js)) (record { rows = row ∷ rows; end = end })
+        (Ok (taken (step_forms js (record { hypothesis = j; flows = flows } ∷ [])) (At [] (AtSteps v (js ++ j ∷ []))) new))
+    step_read flows new R =
+        reads_on T (At [] (AtSteps v js)) (record { rows = row ∷ rows; end = end })
+        (taken (SaysStep j ∷ []) (At (due Flow T.components 0 js) (AtSteps v (js ++ j ∷ []))) (record { rows = rows; end = end }))
+        (Ok (taken (list_forms Flow 0 js flows ++ []) (At [] (AtSteps v (js ++ j ∷ []))) new)) named_line
+        (subst (λ ss. Reads T (At ss (AtSteps v (js ++ j ∷ []))) (record { rows = rows; end = end })
+        (Ok (taken (list_forms Flow 0 js flows ++ []) (At [] (AtSteps v (js ++ j ∷ []))) new))) (append-nil (due Flow T.components 0 js))
+        (subst (λ fs. Reads T (At (due Flow T.components 0 js ++ []) (AtSteps v (js ++ j ∷ []))) (record { rows = rows; end = end })
+        (Ok (taken fs (At [] (AtSteps v (js ++ j ∷ []))) new))) (sym (append-nil (list_forms Flow 0 js flows))) (R [] (AtSteps v (js ++ j ∷ [])))))
 
-  -- ---- all steps
+    pub step_fault : (fault : ProofText)
+        → ((ss : List Slot) (stage : Stage) → Reads T (At (due Flow T.components 0 js ++ ss) stage) (record { rows = rows; end = end }) (Err fault))
+        → Reads T (At [] (AtSteps v js)) (record { rows = row ∷ rows; end = end }) (Err fault)
+    step_fault fault R =
+        reads_on T (At [] (AtSteps v js)) (record { rows = row ∷ rows; end = end })
+        (taken (SaysStep j ∷ []) (At (due Flow T.components 0 js) (AtSteps v (js ++ j ∷ []))) (record { rows = rows; end = end })) (Err fault) named_line
+        (subst (λ ss. Reads T (At ss (AtSteps v (js ++ j ∷ []))) (record { rows = rows; end = end }) (Err fault)) (append-nil (due Flow T.components 0 js))
+        (R [] (AtSteps v (js ++ j ∷ []))))
 
-  step_snoc : (js : List ℕ) (ss : List StepParts) (s : StepParts)
-      → step_forms js (ss ++ s ∷ []) ≡ step_forms js ss ++ step_forms (js ++ named ss) (s ∷ [])
-  step_snoc js [] s = ap (λ is. step_forms is (s ∷ [])) (sym (append-nil js))
-  step_snoc js (r ∷ ss) s =
-      ap (λ fs. SaysStep r.hypothesis ∷ (list_forms Flow 0 js r.flows ++ fs))
-      (step_snoc (js ++ r.hypothesis ∷ []) ss s ∙ ap (λ is. step_forms (js ++ r.hypothesis ∷ []) ss ++ step_forms is (s ∷ []))
-      (append_assoc js (r.hypothesis ∷ []) (named ss)))
-      ∙ ap (λ fs. SaysStep r.hypothesis ∷ fs)
-      (sym (append_assoc (list_forms Flow 0 js r.flows) (step_forms (js ++ r.hypothesis ∷ []) ss)
-      (step_forms (js ++ r.hypothesis ∷ named ss) (s ∷ []))))
+-- ---- all steps
 
-  pub flows_snoc : (m k : ℕ) (ss : List StepParts) (s : StepParts) → FlowsFit m k ss → AreFull m (k + length ss) s.flows → FlowsFit m k (ss ++ s ∷ [])
-  flows_snoc m k [] s h f = (subst (λ i. AreFull m i s.flows) (none k) f, tt)
-    where
-      none : (k : ℕ) → k + 0 ≡ k
-      none k = omega arith
-  flows_snoc m k (r ∷ ss) s h f = (h.0, flows_snoc m (suc k) ss s h.1 (subst (λ i. AreFull m i s.flows) (more k (length ss)) f))
-    where
-      more : (k n : ℕ) → k + suc n ≡ suc k + n
-      more k n = omega arith
+step_snoc : (js : List ℕ) (ss : List StepParts) (s : StepParts)
+    → step_forms js (ss ++ s ∷ []) ≡ step_forms js ss ++ step_forms (js ++ named ss) (s ∷ [])
+step_snoc js [] s = ap (λ is. step_forms is (s ∷ [])) (sym (append-nil js))
+step_snoc js (r ∷ ss) s =
+    ap (λ fs. SaysStep r.hypothesis ∷ (list_forms Flow 0 js r.flows ++ fs))
+    (step_snoc (js ++ r.hypothesis ∷ []) ss s ∙ ap (λ is. step_forms (js ++ r.hypothesis ∷ []) ss ++ step_forms is (s ∷ []))
+    (append_assoc js (r.hypothesis ∷ []) (named ss)))
+    ∙ ap (λ fs. SaysStep r.hypothesis ∷ fs)
+    (sym (append_assoc (list_forms Flow 0 js r.flows) (step_forms (js ++ r.hypothesis ∷ []) ss)
+    (step_forms (js ++ r.hypothesis ∷ named ss) (s ∷ []))))
 
-  module _ (old : List Row) where
-    pub steps_none : StepsRead n c end old [] old
-    unfolding StepsRead
-    steps_none T v t = goes_none T end (At [] (AtSteps v [])) old
+pub flows_snoc : (m k : ℕ) (ss : List StepParts) (s : StepParts) → FlowsFit m k ss → AreFull m (k + length ss) s.flows → FlowsFit m k (ss ++ s ∷ [])
+flows_snoc m k [] s h f = (subst (λ i. AreFull m i s.flows) (none k) f, tt)
+  where
+    none : (k : ℕ) → k + 0 ≡ k
+    none k = omega arith
+flows_snoc m k (r ∷ ss) s h f = (h.0, flows_snoc m (suc k) ss s h.1 (subst (λ i. AreFull m i s.flows) (more k (length ss)) f))
+  where
+    more : (k n : ℕ) → k + suc n ≡ suc k + n
+    more k n = omega arith
 
-    pub steps_next : (ss : List StepParts) (s : StepParts) (cur new : List Row) → StepsRead n c end old ss cur → StepRead n c end (named ss) cur s new
-        → StepsRead n c end old (ss ++ s ∷ []) new
-    unfolding StepsRead StepRead
-    steps_next ss s cur new R S T v t =
-        subst (λ is. Goes T end (At [] (AtSteps v [])) old (step_forms [] (ss ++ s ∷ [])) (At [] (AtSteps v is)) new)
+-- of these lines, those of some steps were read
+abbrev pub StepsRead : Frame → Left → List StepParts → Left → Type 0
+StepsRead T old ss left = (v : ℕ) → Reads T (At [] (AtSteps v [])) old (Ok (taken (step_forms [] ss) (At [] (AtSteps v (named ss))) left))
+
+module _ (T : Frame) (old : Left) where
+  pub steps_none : StepsRead T old [] old
+  steps_none v = reads_none T (At [] (AtSteps v [])) old
+
+  module _ (ss : List StepParts) (left : Left) (R : StepsRead T old ss left) where
+    pub steps_next : (s : StepParts) (new : Left)
+        → ((v : ℕ) → Reads T (At [] (AtSteps v (named ss))) left
+        (Ok (taken (step_forms (named ss) (s ∷ [])) (At [] (AtSteps v (named ss ++ s.hypothesis ∷ []))) new)))
+        → StepsRead T old (ss ++ s ∷ []) new
+    steps_next s new S v =
+        subst (λ is. Reads T (At [] (AtSteps v [])) old (Ok (taken (step_forms [] (ss ++ s ∷ [])) (At [] (AtSteps v is)) new)))
         (sym (map-append (λ s. s.hypothesis) ss (s ∷ [])))
-        (subst (λ fs. Goes T end (At [] (AtSteps v [])) old fs (At [] (AtSteps v (named ss ++ s.hypothesis ∷ []))) new) (sym (step_snoc [] ss s))
-        (goes_on T end (At [] (AtSteps v [])) (At [] (AtSteps v (named ss))) (At [] (AtSteps v (named ss ++ s.hypothesis ∷ []))) old cur new
-        (step_forms [] ss) (step_forms (named ss) (s ∷ [])) (R T v t) (S T v t)))
+        (subst (λ fs. Reads T (At [] (AtSteps v [])) old (Ok (taken fs (At [] (AtSteps v (named ss ++ s.hypothesis ∷ []))) new))) (sym (step_snoc [] ss s))
+        (reads_on T (At [] (AtSteps v [])) old (taken (step_forms [] ss) (At [] (AtSteps v (named ss))) left)
+        (Ok (taken (step_forms (named ss) (s ∷ [])) (At [] (AtSteps v (named ss ++ s.hypothesis ∷ []))) new)) (R v) (S v)))
 
-    pub steps_stop : (ss : List StepParts) (cur : List Row) (fault : ProofText) → StepsRead n c end old ss cur → StepsStop n c end (named ss) cur fault
-        → StepsStop n c end [] old fault
-    unfolding StepsRead StepsStop
-    steps_stop ss cur fault R S T v t = goes_stops T end (At [] (AtSteps v [])) (At [] (AtSteps v (named ss))) old cur (step_forms [] ss) fault (R T v t)
-        (S T v t)
+    pub steps_fault : (fault : ProofText) → ((v : ℕ) → Reads T (At [] (AtSteps v (named ss))) left (Err fault)) → (v : ℕ)
+        → Reads T (At [] (AtSteps v [])) old (Err fault)
+    steps_fault fault S v = reads_on T (At [] (AtSteps v [])) old (taken (step_forms [] ss) (At [] (AtSteps v (named ss))) left) (Err fault) (R v) (S v)
 
-    pub steps_memory : StepsStop n c end [] old faults.NoMemory
-    unfolding StepsStop
-    steps_memory T v t = stops_memory T end (At [] (AtSteps v [])) old
+-- ---- a keep
 
-  -- no line after steps
-  pub steps_early : (js : List ℕ) (rows : List Row) (fault : ProofText) → rows ≡ [] → fault ≡ faults.Line end Ended
-      → StepsStop n c end js rows fault
-  unfolding StepsStop
-  steps_early js rows fault e f T v t = subst (λ rs. Stops T end (At [] (AtSteps v js)) rs fault) (sym e)
-      (subst (Stops T end (At [] (AtSteps v js)) []) (sym f) (stops_early T end (At [] (AtSteps v js)) refl))
+module _ (T : Frame) (js : List ℕ) (k : ℕ) (row : Row) (rows : List Row) (end : ℕ) (ks : List ℕ) where
+  pub keep_bad : (kind : ProofKind) → keep_line T k (words_of row.text) ≡ Err kind
+      → Reads T (At (keeps_due T js (k ∷ ks)) AtEnd) (record { rows = row ∷ rows; end = end }) (Err (faults.Line row.number kind))
+  unfolding slot_line
+  keep_bad kind said = slot_bad T (AKeep k) (due Exit T.components 0 js ++ keeps_due T js ks) AtEnd row rows end kind said
 
-  -- ---- a keep
+  module _ (said : keep_line T k (words_of row.text) ≡ Ok (SaysKeep k)) where
+    kept_line : Reads T (At (keeps_due T js (k ∷ ks)) AtEnd) (record { rows = row ∷ rows; end = end })
+        (Ok (taken (SaysKeep k ∷ []) (At (due Exit T.components 0 js ++ keeps_due T js ks) AtEnd) (record { rows = rows; end = end })))
+    unfolding slot_line
+    kept_line = reads_slot T (AKeep k) (due Exit T.components 0 js ++ keeps_due T js ks) AtEnd row rows end (SaysKeep k) said
 
-  module _ (js : List ℕ) (k : ℕ) (row : Row) (rows : List Row) where
-    keep_at : (T : Frame) (ks : List ℕ) → At (keeps_due T js (k ∷ ks)) AtEnd ≡ At (AKeep k ∷ (due Exit T.components 0 js ++ keeps_due T js ks)) AtEnd
-    keep_at T ks = refl
+    pub keep_read : (exits : List (List Parts)) (new : Left)
+        → ((ss : List Slot) (stage : Stage) → Reads T (At (due Exit T.components 0 js ++ ss) stage) (record { rows = rows; end = end })
+        (Ok (taken (list_forms Exit 0 js exits) (At ss stage) new)))
+        → Reads T (At (keeps_due T js (k ∷ ks)) AtEnd) (record { rows = row ∷ rows; end = end })
+        (Ok (taken (keep_forms js (record { hypothesis = k; exits = exits } ∷ [])) (At (keeps_due T js ks) AtEnd) new))
+    keep_read exits new R =
+        reads_on T (At (keeps_due T js (k ∷ ks)) AtEnd) (record { rows = row ∷ rows; end = end })
+        (taken (SaysKeep k ∷ []) (At (due Exit T.components 0 js ++ keeps_due T js ks) AtEnd) (record { rows = rows; end = end }))
+        (Ok (taken (list_forms Exit 0 js exits ++ []) (At (keeps_due T js ks) AtEnd) new)) kept_line
+        (subst (λ fs. Reads T (At (due Exit T.components 0 js ++ keeps_due T js ks) AtEnd) (record { rows = rows; end = end })
+        (Ok (taken fs (At (keeps_due T js ks) AtEnd) new))) (sym (append-nil (list_forms Exit 0 js exits))) (R (keeps_due T js ks) AtEnd))
 
-    pub keep_read : (exits : List (List Parts)) (new : List Row)
-        → ((T : Frame) → IsFrameFor n c T → keep_line T k (words_of row.text) ≡ Ok (SaysKeep k)) → ListsRead n c end Exit js rows exits new
-        → KeepRead n c end js (row ∷ rows) (record { hypothesis = k; exits = exits }) new
-    unfolding KeepRead ListsRead slot_line
-    keep_read exits new said R T ks t =
-        goes_on T end (At (AKeep k ∷ (due Exit T.components 0 js ++ keeps_due T js ks)) AtEnd) (At (due Exit T.components 0 js ++ keeps_due T js ks) AtEnd)
-        (At (keeps_due T js ks) AtEnd) (row ∷ rows) rows new (SaysKeep k ∷ []) (list_forms Exit 0 js exits ++ [])
-        (goes_slot T end (AKeep k) (due Exit T.components 0 js ++ keeps_due T js ks) AtEnd row rows (SaysKeep k) (said T t))
-        (subst (λ m. Goes T end (At (due Exit m 0 js ++ keeps_due T js ks) AtEnd) rows (list_forms Exit 0 js exits ++ []) (At (keeps_due T js ks) AtEnd) new)
-        (sym t.components)
-        (subst (λ fs. Goes T end (At (due Exit (length c.components) 0 js ++ keeps_due T js ks) AtEnd) rows fs (At (keeps_due T js ks) AtEnd) new)
-        (sym (append-nil (list_forms Exit 0 js exits))) (R T (keeps_due T js ks) AtEnd t)))
+    pub keep_fault : (fault : ProofText)
+        → ((ss : List Slot) (stage : Stage) → Reads T (At (due Exit T.components 0 js ++ ss) stage) (record { rows = rows; end = end }) (Err fault))
+        → Reads T (At (keeps_due T js (k ∷ ks)) AtEnd) (record { rows = row ∷ rows; end = end }) (Err fault)
+    keep_fault fault R =
+        reads_on T (At (keeps_due T js (k ∷ ks)) AtEnd) (record { rows = row ∷ rows; end = end })
+        (taken (SaysKeep k ∷ []) (At (due Exit T.components 0 js ++ keeps_due T js ks) AtEnd) (record { rows = rows; end = end })) (Err fault) kept_line
+        (R (keeps_due T js ks) AtEnd)
 
-    pub keep_bad : (kind : ProofKind) → ((T : Frame) → IsFrameFor n c T → keep_line T k (words_of row.text) ≡ Err kind) → (ks : List ℕ)
-        → KeepsStop n c end js (k ∷ ks) (row ∷ rows) (faults.Line row.number kind)
-    unfolding KeepsStop slot_line
-    keep_bad kind said ks T t = stops_slot T end (AKeep k) (due Exit T.components 0 js ++ keeps_due T js ks) AtEnd row rows kind (said T t)
+-- ---- all keeps
 
-    pub keep_stops : (fault : ProofText) → ((T : Frame) → IsFrameFor n c T → keep_line T k (words_of row.text) ≡ Ok (SaysKeep k))
-        → ListsStop n c end Exit js rows fault → (ks : List ℕ) → KeepsStop n c end js (k ∷ ks) (row ∷ rows) fault
-    unfolding KeepsStop ListsStop slot_line
-    keep_stops fault said R ks T t =
-        goes_stops T end (At (AKeep k ∷ (due Exit T.components 0 js ++ keeps_due T js ks)) AtEnd) (At (due Exit T.components 0 js ++ keeps_due T js ks) AtEnd)
-        (row ∷ rows) rows (SaysKeep k ∷ []) fault
-        (goes_slot T end (AKeep k) (due Exit T.components 0 js ++ keeps_due T js ks) AtEnd row rows (SaysKeep k) (said T t))
-        (subst (λ m. Stops T end (At (due Exit m 0 js ++ keeps_due T js ks) AtEnd) rows fault) (sym t.components) (R T (keeps_due T js ks) AtEnd t))
+keep_snoc : (js : List ℕ) (xs : List KeepParts) (x : KeepParts) → keep_forms js (xs ++ x ∷ []) ≡ keep_forms js xs ++ keep_forms js (x ∷ [])
+keep_snoc js [] x = refl
+keep_snoc js (y ∷ xs) x =
+    ap (λ fs. SaysKeep y.hypothesis ∷ (list_forms Exit 0 js y.exits ++ fs)) (keep_snoc js xs x)
+    ∙ ap (λ fs. SaysKeep y.hypothesis ∷ fs) (sym (append_assoc (list_forms Exit 0 js y.exits) (keep_forms js xs) (keep_forms js (x ∷ []))))
 
-  -- ---- all keeps
+pub exits_snoc : (m k : ℕ) (xs : List KeepParts) (x : KeepParts) → ExitsFit m k xs → AreFull m k x.exits → ExitsFit m k (xs ++ x ∷ [])
+exits_snoc m k [] x h f = (f, tt)
+exits_snoc m k (y ∷ xs) x h f = (h.0, exits_snoc m k xs x h.1 f)
 
-  keep_snoc : (js : List ℕ) (xs : List KeepParts) (x : KeepParts) → keep_forms js (xs ++ x ∷ []) ≡ keep_forms js xs ++ keep_forms js (x ∷ [])
-  keep_snoc js [] x = refl
-  keep_snoc js (y ∷ xs) x =
-      ap (λ fs. SaysKeep y.hypothesis ∷ (list_forms Exit 0 js y.exits ++ fs)) (keep_snoc js xs x)
-      ∙ ap (λ fs. SaysKeep y.hypothesis ∷ fs) (sym (append_assoc (list_forms Exit 0 js y.exits) (keep_forms js xs) (keep_forms js (x ∷ []))))
-
-  pub exits_snoc : (m k : ℕ) (xs : List KeepParts) (x : KeepParts) → ExitsFit m k xs → AreFull m k x.exits → ExitsFit m k (xs ++ x ∷ [])
-  exits_snoc m k [] x h f = (f, tt)
-  exits_snoc m k (y ∷ xs) x h f = (h.0, exits_snoc m k xs x h.1 f)
-
-  module _ (js ks : List ℕ) (old : List Row) where
-    pub keeps_none : KeepsRead n c end js ks old [] ks old
-    unfolding KeepsRead
-    keeps_none T t = goes_none T end (At (keeps_due T js ks) AtEnd) old
-
-    pub keeps_next : (xs : List KeepParts) (x : KeepParts) (left : List ℕ) (cur new : List Row) → KeepsRead n c end js ks old xs (x.hypothesis ∷ left) cur
-        → KeepRead n c end js cur x new → KeepsRead n c end js ks old (xs ++ x ∷ []) left new
-    unfolding KeepsRead KeepRead
-    keeps_next xs x left cur new R S T t =
-        subst (λ fs. Goes T end (At (keeps_due T js ks) AtEnd) old fs (At (keeps_due T js left) AtEnd) new) (sym (keep_snoc js xs x))
-        (goes_on T end (At (keeps_due T js ks) AtEnd) (At (keeps_due T js (x.hypothesis ∷ left)) AtEnd) (At (keeps_due T js left) AtEnd) old cur new
-        (keep_forms js xs) (keep_forms js (x ∷ [])) (R T t) (S T left t))
-
-    pub keeps_stop : (xs : List KeepParts) (left : List ℕ) (cur : List Row) (fault : ProofText) → KeepsRead n c end js ks old xs left cur
-        → KeepsStop n c end js left cur fault → KeepsStop n c end js ks old fault
-    unfolding KeepsRead KeepsStop
-    keeps_stop xs left cur fault R S T t = goes_stops T end (At (keeps_due T js ks) AtEnd) (At (keeps_due T js left) AtEnd) old cur (keep_forms js xs) fault
-        (R T t) (S T t)
-
-    pub keeps_memory : KeepsStop n c end js ks old faults.NoMemory
-    unfolding KeepsStop
-    keeps_memory T t = stops_memory T end (At (keeps_due T js ks) AtEnd) old
-
-  due_early : (T : Frame) (js ks : List ℕ) → is_ended (At (keeps_due T js ks) AtEnd) ≡ false
-  due_early T js [] = refl
-  due_early T js (k ∷ ks) = refl
-
-  -- no line after keeps
-  pub keeps_early : (js ks : List ℕ) (rows : List Row) (fault : ProofText) → rows ≡ [] → fault ≡ faults.Line end Ended
-      → KeepsStop n c end js ks rows fault
-  unfolding KeepsStop
-  keeps_early js ks rows fault e f T t = subst (λ rs. Stops T end (At (keeps_due T js ks) AtEnd) rs fault) (sym e)
-      (subst (Stops T end (At (keeps_due T js ks) AtEnd) []) (sym f) (stops_early T end (At (keeps_due T js ks) AtEnd) (due_early T js ks)))
+due_early : (T : Frame) (js ks : List ℕ) → is_ended (At (keeps_due T js ks) AtEnd) ≡ false
+due_early T js [] = refl
+due_early T js (k ∷ ks) = refl
 
 -- ---- the end
 
-module _ (end : ℕ) (row : Row) where
-  pub end_read : (rows : List Row) → rows ≡ [] → end_line (words_of row.text) ≡ Ok SaysEnd → EndRead end (row ∷ rows)
-  unfolding EndRead reading read_at slot_line next_at
-  end_read rows none e T = rw (e, none) refl
+module _ (T : Frame) (row : Row) (rows : List Row) (end : ℕ) where
+  -- what the end and the lines after it say
+  abbrev end_said : Result (List Form) ProofText
+  end_said = told_as proof_fault (said_at T (At (TheEnd ∷ []) AtEnd) (record { rows = row ∷ rows; end = end }))
 
-  pub end_bad : (rows : List Row) (kind : ProofKind) → end_line (words_of row.text) ≡ Err kind → EndStops end (row ∷ rows) (faults.Line row.number kind)
-  unfolding EndStops slot_line
-  end_bad rows kind e T = stops_slot T end TheEnd [] AtEnd row rows kind e
+  end_read : rows ≡ [] → end_line (words_of row.text) ≡ Ok SaysEnd → Ok (SaysEnd ∷ []) ≡ end_said
+  unfolding read_at slot_line next_at
+  end_read none e = rw (e, none) refl
 
-  pub end_more : (rows more : List Row) (next : Row) → rows ≡ next ∷ more → end_line (words_of row.text) ≡ Ok SaysEnd
-      → EndStops end (row ∷ rows) (faults.Line next.number Unexpected)
-  unfolding EndStops slot_line read_at
-  end_more rows more next is e T =
-      goes_stops T end (At (TheEnd ∷ []) AtEnd) (At [] AtEnd) (row ∷ rows) rows (SaysEnd ∷ []) (faults.Line next.number Unexpected)
-      (goes_slot T end TheEnd [] AtEnd row rows SaysEnd e)
-      (subst (λ rs. Stops T end (At [] AtEnd) rs (faults.Line next.number Unexpected)) (sym is) (stops_line T end (At [] AtEnd) next more Unexpected refl))
+  pub end_bad : (kind : ProofKind) → end_line (words_of row.text) ≡ Err kind
+      → Err (faults.Line row.number kind) ≡ end_said
+  unfolding read_at slot_line
+  end_bad kind e = rw e refl
+
+  end_more : (more : List Row) (next : Row) → rows ≡ next ∷ more → end_line (words_of row.text) ≡ Ok SaysEnd
+      → Err (faults.Line next.number Unexpected) ≡ end_said
+  unfolding slot_line read_at next_at
+  end_more more next is e = rw (e, is) refl
+
+  -- the end, and what is after it
+  pub end_all : (r : Result (Unit {0}) ProofText) → end_line (words_of row.text) ≡ Ok SaysEnd → IfOk r (λ _. rows ≡ [])
+      → IfErr r (λ fault. (next : Row) × (more : List Row) × (rows ≡ next ∷ more) × (fault ≡ faults.Line next.number Unexpected))
+      → ok_map (λ _. SaysEnd ∷ []) r ≡ end_said
+  end_all (Ok u) said none more = end_read none said
+  end_all (Err fault) said none more = ap Err more.3 ∙ end_more more.1 more.0 more.2 said
 
 -- ---- the keeps of the others, one after the other
 
-module _ (n : Numbers) (c : Content) (end m count : ℕ) (js : List ℕ) (old : List Row) where
+module _ (T : Frame) (m count : ℕ) (js : List ℕ) (old : Left) where
   -- those below `k` were read
-  pub record KeepsSoFar (k : ℕ) (xs : List KeepParts) (cur : List Row) : Type 0 where
+  pub record KeepsSoFar (k : ℕ) (xs : List KeepParts) (left : Left) : Type 0 where
     pub names : map (λ x. x.hypothesis) xs ++ others_from js k (m - k) ≡ others m js
-    pub full : ExitsFit (length c.components) count xs
-    pub read : KeepsRead n c end js (others m js) old xs (others_from js k (m - k)) cur
+    pub full : ExitsFit T.components count xs
+    pub read : Reads T (At (keeps_due T js (others m js)) AtEnd) old (Ok (taken (keep_forms js xs) (At (keeps_due T js (others_from js k (m - k))) AtEnd) left))
 
   from_none : others_from js 0 (m - 0) ≡ others m js
   unfolding others
@@ -236,64 +212,71 @@ module _ (n : Numbers) (c : Content) (end m count : ℕ) (js : List ℕ) (old : 
   so_far_none = record {
     names = from_none;
     full = tt;
-    read = subst (λ ks. KeepsRead n c end js (others m js) old [] ks old) (sym from_none) (keeps_none n c end js (others m js) old);
+    read = subst (λ ks. Reads T (At (keeps_due T js (others m js)) AtEnd) old (Ok (taken [] (At (keeps_due T js ks) AtEnd) old))) (sym from_none)
+        (reads_none T (At (keeps_due T js (others m js)) AtEnd) old);
   }
 
-  module _ (k : ℕ) (p : k < m) (xs : List KeepParts) (cur : List Row) (S : KeepsSoFar k xs cur) where
-    pub so_far_skip : set_of js k ≡ true → KeepsSoFar (k + 1) xs cur
-    so_far_skip e = record {
-      names = ap (λ ks. map (λ x. x.hypothesis) xs ++ ks) (sym (listed_out m js k p e)) ∙ S.names;
-      full = S.full;
-      read = subst (λ ks. KeepsRead n c end js (others m js) old xs ks cur) (listed_out m js k p e) S.read;
-    }
+  -- what was read, before these keeps
+  abbrev KeepsRead : List KeepParts → Left → List ℕ → Type 0
+  KeepsRead xs left ks = Reads T (At (keeps_due T js (others m js)) AtEnd) old (Ok (taken (keep_forms js xs) (At (keeps_due T js ks) AtEnd) left))
 
-    pub so_far_next : set_of js k ≡ false → (x : KeepParts) (new : List Row) → x.hypothesis ≡ k → AreFull (length c.components) count x.exits
-        → KeepRead n c end js cur x new → KeepsSoFar (k + 1) (xs ++ x ∷ []) new
-    so_far_next e x new same full R = record {
-      names = ap (λ ks. ks ++ others_from js (k + 1) (m - (k + 1))) (map-append (λ x. x.hypothesis) xs (x ∷ []))
-          ∙ append_assoc (map (λ x. x.hypothesis) xs) (x.hypothesis ∷ []) (others_from js (k + 1) (m - (k + 1)))
-          ∙ ap (λ j. map (λ x. x.hypothesis) xs ++ j ∷ others_from js (k + 1) (m - (k + 1))) same
-          ∙ ap (λ ks. map (λ x. x.hypothesis) xs ++ ks) (sym (listed_in m js k p e)) ∙ S.names;
-      full = exits_snoc n c end (length c.components) count xs x S.full full;
-      read = keeps_next n c end js (others m js) old xs x (others_from js (k + 1) (m - (k + 1))) cur new
-          (subst (λ ks. KeepsRead n c end js (others m js) old xs ks cur)
-          (listed_in m js k p e ∙ ap (λ j. j ∷ others_from js (k + 1) (m - (k + 1))) (sym same)) S.read) R;
-    }
+none_left : (m k : ℕ) (js : List ℕ) → k ≡ m → others_from js k (m - k) ≡ []
+none_left m k js e = ap (others_from js k) gone
+  where
+    gone : m - k ≡ 0
+    gone = omega arith
 
-    pub so_far_stop : set_of js k ≡ false → (fault : ProofText) → ((ks : List ℕ) → KeepsStop n c end js (k ∷ ks) cur fault)
-        → KeepsStop n c end js (others m js) old fault
-    so_far_stop e fault R = keeps_stop n c end js (others m js) old xs (k ∷ others_from js (k + 1) (m - (k + 1))) cur fault
-        (subst (λ ks. KeepsRead n c end js (others m js) old xs ks cur) (listed_in m js k p e) S.read) (R (others_from js (k + 1) (m - (k + 1))))
+module _ {T : Frame} {m count : ℕ} {js : List ℕ} {old : Left} {k : ℕ} {xs : List KeepParts} {left : Left} (S : KeepsSoFar T m count js old k xs left)
+  where
+    module _ (p : k < m) where
+      pub so_far_skip : set_of js k ≡ true → KeepsSoFar T m count js old (k + 1) xs left
+      so_far_skip e = record {
+        names = ap (λ ks. map (λ x. x.hypothesis) xs ++ ks) (sym (listed_out m js k p e)) ∙ S.names;
+        full = S.full;
+        read = subst (KeepsRead T m count js old xs left) (listed_out m js k p e) S.read;
+      }
 
-  pub so_far_early : (k : ℕ) (xs : List KeepParts) (cur : List Row) (fault : ProofText) → KeepsSoFar k xs cur → cur ≡ []
-      → fault ≡ faults.Line end Ended → KeepsStop n c end js (others m js) old fault
-  so_far_early k xs cur fault S e f = keeps_stop n c end js (others m js) old xs (others_from js k (m - k)) cur fault S.read
-      (keeps_early n c end js (others_from js k (m - k)) cur fault e f)
+      pub so_far_next : set_of js k ≡ false → (x : KeepParts) (new : Left) → x.hypothesis ≡ k → AreFull T.components count x.exits
+          → ((ks : List ℕ) → Reads T (At (keeps_due T js (k ∷ ks)) AtEnd) left (Ok (taken (keep_forms js (x ∷ [])) (At (keeps_due T js ks) AtEnd) new)))
+          → KeepsSoFar T m count js old (k + 1) (xs ++ x ∷ []) new
+      so_far_next e x new same full R = record {
+        names = ap (λ ks. ks ++ others_from js (k + 1) (m - (k + 1))) (map-append (λ x. x.hypothesis) xs (x ∷ []))
+            ∙ append_assoc (map (λ x. x.hypothesis) xs) (x.hypothesis ∷ []) (others_from js (k + 1) (m - (k + 1)))
+            ∙ ap (λ j. map (λ x. x.hypothesis) xs ++ j ∷ others_from js (k + 1) (m - (k + 1))) same
+            ∙ ap (λ ks. map (λ x. x.hypothesis) xs ++ ks) (sym (listed_in m js k p e)) ∙ S.names;
+        full = exits_snoc T.components count xs x S.full full;
+        read = subst
+            (λ fs. Reads T (At (keeps_due T js (others m js)) AtEnd) old (Ok (taken fs (At (keeps_due T js (others_from js (k + 1) (m - (k + 1)))) AtEnd) new)))
+            (sym (keep_snoc js xs x))
+            (reads_on T (At (keeps_due T js (others m js)) AtEnd) old
+            (taken (keep_forms js xs) (At (keeps_due T js (k ∷ others_from js (k + 1) (m - (k + 1)))) AtEnd) left)
+            (Ok (taken (keep_forms js (x ∷ [])) (At (keeps_due T js (others_from js (k + 1) (m - (k + 1)))) AtEnd) new))
+            (subst (KeepsRead T m count js old xs left) (listed_in m js k p e) S.read) (R (others_from js (k + 1) (m - (k + 1)))));
+      }
 
-  none_left : (k : ℕ) → k ≡ m → others_from js k (m - k) ≡ []
-  none_left k e = ap (others_from js k) gone
-    where
-      gone : m - k ≡ 0
-      gone = omega arith
+      pub so_far_fault : set_of js k ≡ false → (fault : ProofText) → ((ks : List ℕ) → Reads T (At (keeps_due T js (k ∷ ks)) AtEnd) left (Err fault))
+          → Reads T (At (keeps_due T js (others m js)) AtEnd) old (Err fault)
+      so_far_fault e fault R =
+          reads_on T (At (keeps_due T js (others m js)) AtEnd) old
+          (taken (keep_forms js xs) (At (keeps_due T js (k ∷ others_from js (k + 1) (m - (k + 1)))) AtEnd) left) (Err fault)
+          (subst (KeepsRead T m count js old xs left) (listed_in m js k p e) S.read) (R (others_from js (k + 1) (m - (k + 1))))
 
-  pub so_far_read : (k : ℕ) (xs : List KeepParts) (cur : List Row) → k ≡ m → KeepsSoFar k xs cur → KeepsRead n c end js (others m js) old xs [] cur
-  so_far_read k xs cur e S = subst (λ ks. KeepsRead n c end js (others m js) old xs ks cur) (none_left k e) S.read
+    pub so_far_early : (fault : ProofText) → left.rows ≡ [] → fault ≡ faults.Line left.end Ended
+        → Reads T (At (keeps_due T js (others m js)) AtEnd) old (Err fault)
+    so_far_early fault e f =
+        reads_on T (At (keeps_due T js (others m js)) AtEnd) old (taken (keep_forms js xs) (At (keeps_due T js (others_from js k (m - k))) AtEnd) left)
+        (Err fault) S.read (reads_early T (At (keeps_due T js (others_from js k (m - k))) AtEnd) left fault (due_early T js (others_from js k (m - k))) e f)
 
-  pub so_far_all : (k : ℕ) (xs : List KeepParts) (cur : List Row) → k ≡ m → KeepsSoFar k xs cur → map (λ x. x.hypothesis) xs ≡ others m js
-  so_far_all k xs cur e S = sym (append-nil (map (λ x. x.hypothesis) xs)) ∙ ap (λ ks. map (λ x. x.hypothesis) xs ++ ks) (sym (none_left k e)) ∙ S.names
+    pub so_far_read : k ≡ m → Reads T (At (keeps_due T js (others m js)) AtEnd) old (Ok (taken (keep_forms js xs) (At (TheEnd ∷ []) AtEnd) left))
+    so_far_read e = subst (KeepsRead T m count js old xs left) (none_left m k js e) S.read
+
+    pub so_far_all : k ≡ m → map (λ x. x.hypothesis) xs ≡ others m js
+    so_far_all e = sym (append-nil (map (λ x. x.hypothesis) xs)) ∙ ap (λ ks. map (λ x. x.hypothesis) xs ++ ks) (sym (none_left m k js e)) ∙ S.names
 
 -- no hypothesis is kept in another version
-pub kept_none : (m v : ℕ) (js : List ℕ) → v ≢ 2 → kept_by m v js ≡ []
-kept_none m v js n = by (v == 2) refl
+pub kept_none : (T : Frame) (v : ℕ) (js : List ℕ) → v ≢ 2 → kept_in T v js ≡ []
+kept_none T v js n = by (v == 2) refl
   where
-    by : (b : Bool) → (v == 2) ≡ b → (if b then others m js else []) ≡ []
+    by : (b : Bool) → (v == 2) ≡ b → (if b then T.others js else []) ≡ []
     by true e = absurd (n ((Decides-eqb v 2).0 e))
     by false e = refl
-
--- the end, and what is after it
-pub end_all : (end : ℕ) (row : Row) (rows : List Row) (r : Result (Unit {0}) ProofText) → end_line (words_of row.text) ≡ Ok SaysEnd
-    → IfOk r (λ _. rows ≡ [])
-    → IfErr r (λ fault. (next : Row) × (more : List Row) × (rows ≡ next ∷ more) × (fault ≡ faults.Line next.number Unexpected))
-    → IfOk r (λ _. EndRead end (row ∷ rows)) × IfErr r (EndStops end (row ∷ rows))
-end_all end row rows (Ok u) said none more = (end_read end row rows none said, tt)
-end_all end row rows (Err fault) said none more = (tt, subst (EndStops end (row ∷ rows)) (sym more.3) (end_more end row rows more.1 more.0 more.2 said))

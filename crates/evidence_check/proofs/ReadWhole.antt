@@ -1,38 +1,56 @@
 -- A whole document is read.
 use Rattle.std.proofs.Common.{◌≡◌, refl, sym, ap, subst, ◌∙◌, ℕ, ◌+◌, ◌<◌, Bool, true, false, not, List, [], ◌∷◌, ◌++◌, map}
-use Rattle.std.proofs.Common.{length, Option, Some, None, Result, Ok, Err, arith}
+use Rattle.std.proofs.Common.{length, Option, Some, None, Result, Ok, Err, inl, inr, arith}
 use Rattle.std.specs.Prelude.{◌==◌, ◌&&◌, ◌⊎◌, codes, if◌then◌else◌}
 use Rattle.std.specs.Fmt.{decimal}
+use Rattle.std.specs.Result.{IsErrAnd}
 use Rattle.std.specs.Str.{bytes_eq}
 use Rattle.std.specs.List.{All, range_with_len}
 use Rattle.std.proofs.lemmas.List.{length-map}
 use Rattle.std.proofs.lemmas.List.Elements.{All-nil, All-cons, All-head, All-tail, All-filter, All-from_get_or}
 use Rattle.std.proofs.lemmas.List.FromFn.{length-range_with_len, get_or-range_with_len}
 use Rattle.std.proofs.lemmas.Simd.{map-map}
-use Rattle.text_lines.specs.Lines.{Row}
+use Rattle.text_lines.specs.Lines.{Row, rows_of, end_of}
+use Rattle.text_lines.specs.Languages.{FaultAt}
+use Rattle.text_lines.proofs.FormLaws.{forms_reading}
+use Rattle.field_core.specs.Answers.{IsUnless, told_as}
+use Rattle.field_core.proofs.Results.{same_value}
 use Rattle.text_lines.specs.Words.{words_of, words_behind, only_word, only_three}
-use Rattle.field_core.specs.Kind.{Parts}
+use Rattle.field_core.specs.Kind.{Parts, ok_map}
 use Rattle.field_core.specs.Sets.{set_of}
 use Rattle.case_model.specs.Content.{Content}
-use Rattle.case_numbers.specs.Numbers.{Numbers}
 use Rattle.evidence_check.specs.declared.fault.ProofKind.{ProofKind}
-use Rattle.evidence_check.specs.declared.fault.ProofKind.TheVariants.{Unexpected, Ended, WordCount, Number}
+use Rattle.evidence_check.specs.declared.fault.ProofKind.TheVariants.{Unexpected, WordCount, Number}
 use Rattle.evidence_check.specs.declared.fault.ProofText.{ProofText}
 use Rattle.evidence_check.specs.declared.fault.ProofText.TheVariants as faults
 use Rattle.evidence_check.specs.declared.quantity.Quantity.{Quantity}
 use Rattle.evidence_check.specs.declared.evidence.ProofStep.{ProofStep}
 use Rattle.evidence_check.specs.declared.evidence.KeepProof.{KeepProof}
 use Rattle.evidence_check.specs.Evidence.{others}
-use Rattle.evidence_check.specs.EvidenceParts.{StepParts, KeepParts, FlowsFit, ExitsFit}
+use Rattle.evidence_check.specs.EvidenceParts.{FlowsFit, ExitsFit}
 use Rattle.evidence_check.specs.EvidenceView.{hypotheses_of, step_parts, keep_parts, FitsCase}
-use Rattle.evidence_check.specs.Languages.{Words, with_all, reading}
-use Rattle.evidence_check.specs.Documents.{Frame, Form, SaysVersion, SaysStep, SaysNumber, SaysKeep, SaysEnd, step_forms, keep_forms, found_or, is_none}
+use Rattle.text_lines.specs.FormLanguages.{with_all, form_reading}
+use Rattle.evidence_check.specs.Documents.{
+  Words,
+  Frame,
+  Form,
+  SaysVersion,
+  SaysStep,
+  SaysNumber,
+  SaysKeep,
+  SaysEnd,
+  step_forms,
+  keep_forms,
+  evidence_forms,
+  found_or,
+  is_none,
+}
 use Rattle.evidence_check.specs.Documents.{version_line, number_line, place_fault, keyword, keep_line, end_line, first_line, behind_first, tail, Slot, ANumber}
-use Rattle.evidence_check.specs.Documents.{AKeep, TheEnd, slot_line, keeps_due, AtVersion, AtSteps, AtEnd, Place, At, read_at, next_at, next_step}
-use Rattle.evidence_check.specs.Documents.{evidence_language}
-use Rattle.evidence_check.specs.ReadView.{IsFrameFor, Goes, Stops, StepsRead, StepsStop, KeepsRead, KeepsStop, EndRead, EndStops, kept_by, SayEvidence}
-use Rattle.evidence_check.specs.ReadView.{HaveFault}
-use Rattle.evidence_check.proofs.ReadAnswers.{goes_on, goes_stops, goes_line, stops_line, stops_early}
+use Rattle.evidence_check.specs.Documents.{AKeep, TheEnd, slot_line, AtVersion, AtSteps, AtEnd, At, read_at, next_at, next_step}
+use Rattle.evidence_check.specs.Documents.{line_language}
+use Rattle.evidence_check.specs.DocumentStatements.{evidence_reading}
+use Rattle.evidence_check.specs.ReadView.{Left, taken, said_at, proof_fault, Reads}
+use Rattle.evidence_check.proofs.ReadAnswers.{reads_on, reads_line, reads_bad}
 
 -- ---- no line that must stand says a step
 
@@ -87,9 +105,9 @@ next_no T v js SaysEnd h = refl
 -- ---- after the last step
 
 module _ (T : Frame) (end v : ℕ) (js : List ℕ) (row : Row) (rows : List Row) (other : words_behind (codes "step") (words_of row.text) ≡ None) where
-  by_first : (ss : List Slot) → tail T v js ≡ ss → reading (evidence_language T) (At [] (AtSteps v js)) (row ∷ rows) end ≡ reading
-      (evidence_language T) (At ss AtEnd) (row ∷ rows) end
-  unfolding reading read_at next_at
+  by_first : (ss : List Slot) → tail T v js ≡ ss → form_reading (line_language T) (At [] (AtSteps v js)) (row ∷ rows) end ≡ form_reading
+      (line_language T) (At ss AtEnd) (row ∷ rows) end
+  unfolding read_at next_at
   by_first [] e = let w : first_line T (tail T v js) (words_of row.text) ≡ Err Unexpected =
       ap (λ ss. first_line T ss (words_of row.text)) e in rw (other, w) refl
   by_first (s ∷ ss) e = by (slot_line T s (words_of row.text)) refl (slot_no T s (words_of row.text))
@@ -98,88 +116,102 @@ module _ (T : Frame) (end v : ℕ) (js : List ℕ) (row : Row) (rows : List Row)
       said = ap (λ ss. first_line T ss (words_of row.text)) e
 
       by : (r : Result Form ProofKind) → slot_line T s (words_of row.text) ≡ r → NoStep r
-          → reading (evidence_language T) (At [] (AtSteps v js)) (row ∷ rows) end ≡ reading (evidence_language T) (At (s ∷ ss) AtEnd) (row ∷ rows) end
+          → form_reading (line_language T) (At [] (AtSteps v js)) (row ∷ rows) end ≡ form_reading (line_language T) (At (s ∷ ss) AtEnd) (row ∷ rows)
+          end
       by (Err kind) r n = rw (other, said, r) refl
       by (Ok f) r n = let w = next_no T v js f n ∙ ap (λ z. At (behind_first z) AtEnd) e in rw (other, said, r, w) refl
 
-  pub tail_reads : reading (evidence_language T) (At [] (AtSteps v js)) (row ∷ rows) end ≡ reading (evidence_language T) (At (tail T v js) AtEnd)
+  pub tail_reads : form_reading (line_language T) (At [] (AtSteps v js)) (row ∷ rows) end ≡ form_reading (line_language T) (At (tail T v js) AtEnd)
       (row ∷ rows) end
   tail_reads = by_first (tail T v js) refl
 
-goes_ends : (T : Frame) (end : ℕ) (p q : Place) (old cur : List Row) (fs gs : List Form) → Goes T end p old fs q cur
-    → reading (evidence_language T) q cur end ≡ Ok gs → reading (evidence_language T) p old end ≡ Ok (fs ++ gs)
-unfolding Goes
-goes_ends T end p q old cur fs gs h k = h ∙ ap (with_all fs) k
-
 -- ---- the whole document
 
-module _ (n : Numbers) (c : Content) (end : ℕ) (first : Row) (v : ℕ) (said : version_line (words_of first.text) ≡ Ok (SaysVersion v))
-    (rows : List Row) where
-  at_steps : (T : Frame) → Goes T end (At [] AtVersion) (first ∷ rows) (SaysVersion v ∷ []) (At [] (AtSteps v [])) rows
-  unfolding read_at next_at
-  at_steps T = goes_line T end (At [] AtVersion) first rows (SaysVersion v) said
+-- after the first line and the steps, whatever says the last is read at what stands after the last step
+module _ (T : Frame) (old : Left) (first : Row) (rows : List Row) (end : ℕ) (starts : old ≡ record { rows = first ∷ rows; end = end }) where
+  pub version_bad : (kind : ProofKind) → version_line (words_of first.text) ≡ Err kind → Reads T (At [] AtVersion) old
+      (Err (faults.Line first.number kind))
+  unfolding read_at
+  version_bad kind e = subst (λ l. Reads T (At [] AtVersion) l (Err (faults.Line first.number kind))) (sym starts)
+      (reads_bad T (At [] AtVersion) first rows end kind e)
 
-  pub steps_fault : (fault : ProofText) → StepsStop n c end [] rows fault → HaveFault n c end (first ∷ rows) fault
-  unfolding HaveFault StepsStop
-  steps_fault fault S T t = goes_stops T end (At [] AtVersion) (At [] (AtSteps v [])) (first ∷ rows) rows (SaysVersion v ∷ []) fault (at_steps T) (S T v t)
+  module _ (v : ℕ) (said : version_line (words_of first.text) ≡ Ok (SaysVersion v)) where
+    at_steps : Reads T (At [] AtVersion) old (Ok (taken (SaysVersion v ∷ []) (At [] (AtSteps v [])) (record { rows = rows; end = end })))
+    unfolding read_at next_at
+    at_steps = subst (λ l. Reads T (At [] AtVersion) l (Ok (taken (SaysVersion v ∷ []) (At [] (AtSteps v [])) (record { rows = rows; end = end }))))
+        (sym starts)
+        (reads_line T (At [] AtVersion) first rows end (SaysVersion v) said)
 
-  module _ (ss : List StepParts) (row : Row) (cur : List Row) (read : StepsRead n c end rows ss (row ∷ cur))
-      (other : words_behind (codes "step") (words_of row.text) ≡ None) where
-    js : List ℕ
-    js = map (λ s. s.hypothesis) ss
+    pub no_steps : (fault : ProofText) → Reads T (At [] (AtSteps v [])) (record { rows = rows; end = end }) (Err fault) → Reads T (At [] AtVersion) old
+        (Err fault)
+    no_steps fault S = reads_on T (At [] AtVersion) old (taken (SaysVersion v ∷ []) (At [] (AtSteps v [])) (record { rows = rows; end = end })) (Err fault)
+        at_steps S
 
-    due_same : (T : Frame) → IsFrameFor n c T → tail T v (map (λ s. s.hypothesis) ss) ≡ keeps_due T (map (λ s. s.hypothesis) ss)
-        (kept_by (length c.names) v (map (λ s. s.hypothesis) ss))
-    due_same T t = ap (λ ks. keeps_due T (map (λ s. s.hypothesis) ss) (if v == 2 then ks else [])) (t.others_are (map (λ s. s.hypothesis) ss))
+    module _ (js : List ℕ) (steps : List Form) (row : Row) (behind : List Row) (stop : ℕ) (other : words_behind (codes "step") (words_of row.text) ≡ None)
+        (R : Reads T (At [] (AtSteps v [])) (record { rows = rows; end = end })
+        (Ok (taken steps (At [] (AtSteps v js)) (record { rows = row ∷ behind; end = stop })))) where
+      at_last : Reads T (At [] AtVersion) old
+          (Ok (taken (SaysVersion v ∷ steps) (At (tail T v js) AtEnd) (record { rows = row ∷ behind; end = stop })))
+      unfolding Reads
+      at_last = reads_on T (At [] AtVersion) old (taken (SaysVersion v ∷ []) (At [] (AtSteps v [])) (record { rows = rows; end = end }))
+          (Ok (taken steps (At [] (AtSteps v js)) (record { rows = row ∷ behind; end = stop }))) at_steps R
+          ∙ ap (with_all (SaysVersion v ∷ steps)) (tail_reads T stop v js row behind other)
 
-    at_last : (T : Frame) → IsFrameFor n c T → Goes T end (At [] AtVersion) (first ∷ rows) (SaysVersion v ∷ step_forms [] ss)
-        (At (keeps_due T (map (λ s. s.hypothesis) ss) (kept_by (length c.names) v (map (λ s. s.hypothesis) ss))) AtEnd) (row ∷ cur)
-    unfolding StepsRead Goes
-    at_last T t =
-        goes_on T end (At [] AtVersion) (At [] (AtSteps v [])) (At [] (AtSteps v (map (λ s. s.hypothesis) ss))) (first ∷ rows) rows (row ∷ cur)
-        (SaysVersion v ∷ []) (step_forms [] ss) (at_steps T) (read T v t)
-        ∙ ap (with_all (SaysVersion v ∷ step_forms [] ss))
-        (tail_reads T end v (map (λ s. s.hypothesis) ss) row cur other
-        ∙ ap (λ ss. reading (evidence_language T) (At ss AtEnd) (row ∷ cur) end) (due_same T t))
+      pub no_keeps : (fault : ProofText) → Reads T (At (tail T v js) AtEnd) (record { rows = row ∷ behind; end = stop }) (Err fault)
+          → Reads T (At [] AtVersion) old (Err fault)
+      no_keeps fault S = reads_on T (At [] AtVersion) old
+          (taken (SaysVersion v ∷ steps) (At (tail T v js) AtEnd) (record { rows = row ∷ behind; end = stop })) (Err fault) at_last S
 
-    pub keeps_fault : (fault : ProofText) → KeepsStop n c end (map (λ s. s.hypothesis) ss) (kept_by (length c.names) v (map (λ s. s.hypothesis) ss))
-        (row ∷ cur) fault → HaveFault n c end (first ∷ rows) fault
-    unfolding HaveFault KeepsStop
-    keeps_fault fault S T t = goes_stops T end (At [] AtVersion)
-        (At (keeps_due T (map (λ s. s.hypothesis) ss) (kept_by (length c.names) v (map (λ s. s.hypothesis) ss))) AtEnd) (first ∷ rows) (row ∷ cur)
-        (SaysVersion v ∷ step_forms [] ss) fault (at_last T t) (S T t)
+      pub at_end : (keeps : List Form) (left : Left) → Reads T (At (tail T v js) AtEnd) (record { rows = row ∷ behind; end = stop })
+          (Ok (taken keeps (At (TheEnd ∷ []) AtEnd) left))
+          → Reads T (At [] AtVersion) old (Ok (taken ((SaysVersion v ∷ steps) ++ keeps) (At (TheEnd ∷ []) AtEnd) left))
+      at_end keeps left S = reads_on T (At [] AtVersion) old
+          (taken (SaysVersion v ∷ steps) (At (tail T v js) AtEnd) (record { rows = row ∷ behind; end = stop }))
+          (Ok (taken keeps (At (TheEnd ∷ []) AtEnd) left)) at_last S
 
-    module _ (xs : List KeepParts) (new : List Row)
-        (keeps : KeepsRead n c end (map (λ s. s.hypothesis) ss) (kept_by (length c.names) v (map (λ s. s.hypothesis) ss)) (row ∷ cur) xs [] new) where
-      at_end : (T : Frame) → IsFrameFor n c T → Goes T end (At [] AtVersion) (first ∷ rows)
-          ((SaysVersion v ∷ step_forms [] ss) ++ keep_forms (map (λ s. s.hypothesis) ss) xs) (At (TheEnd ∷ []) AtEnd) new
-      unfolding KeepsRead
-      at_end T t = goes_on T end (At [] AtVersion)
-          (At (keeps_due T (map (λ s. s.hypothesis) ss) (kept_by (length c.names) v (map (λ s. s.hypothesis) ss))) AtEnd) (At (TheEnd ∷ []) AtEnd)
-          (first ∷ rows) (row ∷ cur) new (SaysVersion v ∷ step_forms [] ss) (keep_forms (map (λ s. s.hypothesis) ss) xs) (at_last T t) (keeps T t)
+-- what a text says, by its first place
+module _ (T : Frame) (bytes : List ℕ) where
+  abbrev pub whole_of : Left
+  whole_of = record { rows = rows_of bytes; end = end_of bytes }
 
-      pub end_fault : (fault : ProofText) → EndStops end new fault → HaveFault n c end (first ∷ rows) fault
-      unfolding HaveFault EndStops
-      end_fault fault S T t = goes_stops T end (At [] AtVersion) (At (TheEnd ∷ []) AtEnd) (first ∷ rows) new
-          ((SaysVersion v ∷ step_forms [] ss) ++ keep_forms (map (λ s. s.hypothesis) ss) xs) fault (at_end T t) (S T)
+  said_whole : evidence_reading T bytes ≡ said_at T (At [] AtVersion) whole_of
+  said_whole = forms_reading (line_language T) (At [] AtVersion) (rows_of bytes) (end_of bytes)
 
-      pub all_read : EndRead end new → SayEvidence n c end (first ∷ rows) v ss xs
-      unfolding SayEvidence EndRead
-      all_read E T t = goes_ends T end (At [] AtVersion) (At (TheEnd ∷ []) AtEnd) (first ∷ rows) new
-          ((SaysVersion v ∷ step_forms [] ss) ++ keep_forms (map (λ s. s.hypothesis) ss) xs) (SaysEnd ∷ []) (at_end T t) (E T)
+  pub whole_fault : {A : Type 0} (f : A → List Form) (result : Result A ProofText) (fault : ProofText) → IsErrAnd result (λ y. y ≡ fault)
+      → Reads T (At [] AtVersion) whole_of (Err fault) → IsUnless faults.NoMemory (ok_map f result) (told_as proof_fault (evidence_reading T bytes))
+  unfolding Reads
+  whole_fault f (Ok x) fault h r = absurd h
+  whole_fault f (Err y) (faults.Line n kind) h r = inr (ap (told_as proof_fault) (said_whole ∙ r) ∙ ap Err (sym h))
+  whole_fault f (Err y) faults.NoMemory h r = inl h
 
-module _ (n : Numbers) (c : Content) (end : ℕ) where
-  pub version_fault : (first : Row) (rows : List Row) (kind : ProofKind) → version_line (words_of first.text) ≡ Err kind
-      → HaveFault n c end (first ∷ rows) (faults.Line first.number kind)
-  unfolding HaveFault read_at
-  version_fault first rows kind e T t = stops_line T end (At [] AtVersion) first rows kind e
+  -- what the end says
+  ends : (left : Left) (r : Result (List Form) (FaultAt ProofKind)) (forms : List Form) → Ok forms ≡ told_as proof_fault r → r ≡ Ok forms
+  ends left (Ok fs) forms e = ap Ok (sym (same_value forms fs e))
+  ends left (Err fault) forms e = absurd (cc)
 
-  pub no_first : (rows : List Row) (fault : ProofText) → rows ≡ [] → fault ≡ faults.Line end Ended → HaveFault n c end rows fault
-  unfolding HaveFault
-  no_first rows fault e f T t = subst (λ rs. Stops T end (At [] AtVersion) rs fault) (sym e)
-      (subst (Stops T end (At [] AtVersion) []) (sym f) (stops_early T end (At [] AtVersion) refl))
+  end_fault : (r : Result (List Form) (FaultAt ProofKind)) (fault : ProofText) → Err fault ≡ told_as proof_fault r
+      → (f : FaultAt ProofKind) × (r ≡ Err f) × (fault ≡ proof_fault f)
+  end_fault (Ok fs) fault e = absurd (cc)
+  end_fault (Err f) fault e = (f, refl, cc)
+
+  module _ (forms : List Form) (left : Left) (R : Reads T (At [] AtVersion) whole_of (Ok (taken forms (At (TheEnd ∷ []) AtEnd) left))) where
+    pub whole_read : (said : List Form) → Ok said ≡ told_as proof_fault (said_at T (At (TheEnd ∷ []) AtEnd) left)
+        → told_as proof_fault (evidence_reading T bytes) ≡ Ok (forms ++ said)
+    unfolding Reads
+    whole_read said e = ap (told_as proof_fault) (said_whole ∙ R ∙ ap (with_all forms) (ends left (said_at T (At (TheEnd ∷ []) AtEnd) left) said e))
+
+    pub no_end : (fault : ProofText) → Err fault ≡ told_as proof_fault (said_at T (At (TheEnd ∷ []) AtEnd) left) → Reads T (At [] AtVersion) whole_of
+        (Err fault)
+    unfolding Reads
+    no_end fault e =
+        let f = end_fault (said_at T (At (TheEnd ∷ []) AtEnd) left) fault e in
+        subst (λ x. Reads T (At [] AtVersion) whole_of (Err x)) (sym f.2) (R ∙ ap (with_all forms) f.1)
 
 -- ---- what is read fits the case
+
+-- the hypotheses below `m` that a version keeps after these steps
+abbrev pub kept_by : ℕ → ℕ → List ℕ → List ℕ
+kept_by m v js = if v == 2 then others m js else []
 
 range_below : (m : ℕ) → All (λ j. j < m) (range_with_len 0 m)
 range_below m = All-from_get_or (λ j. j < m) (range_with_len 0 m) 0
@@ -231,3 +263,11 @@ module _ {F : Type 0} (parts : F → Parts) where
     all = λ e. map-map (λ x. x.hypothesis) (keep_parts parts) keeps ∙ all ∙ ap (λ v. kept_by (length c.names) v (hypotheses_of steps)) e
         ∙ ap (others (length c.names)) (sym (map-map (λ s. s.hypothesis) (step_parts parts) steps));
   }
+
+-- all forms, in order
+pub forms_whole : {F : Type 0} (parts : F → Parts) (v : ℕ) (steps : List (ProofStep F)) (keeps : List (KeepProof F))
+    → ((SaysVersion v ∷ step_forms [] (map (step_parts parts) steps)) ++ keep_forms (hypotheses_of steps) (map (keep_parts parts) keeps)) ++ SaysEnd ∷ []
+    ≡ evidence_forms v (map (step_parts parts) steps) (map (keep_parts parts) keeps)
+forms_whole parts v steps keeps =
+    ap (λ js. SaysVersion v ∷ step_forms [] (map (step_parts parts) steps) ++ keep_forms js (map (keep_parts parts) keeps) ++ SaysEnd ∷ [])
+    (sym (map-map (λ s. s.hypothesis) (step_parts parts) steps))

@@ -16,7 +16,7 @@ use Rattle.case_model.specs.Names.{position_of}
 use Rattle.case_model.specs.Content.{Content}
 use Rattle.case_numbers.specs.Numbers.{Numbers}
 use Rattle.evidence_check.specs.declared.fault.ProofKind.{ProofKind}
-use Rattle.evidence_check.specs.declared.fault.ProofKind.TheVariants.{Unexpected, WordCount, Version, UnknownName, Number}
+use Rattle.evidence_check.specs.declared.fault.ProofKind.TheVariants.{Ended, Unexpected, WordCount, Version, UnknownName, Number}
 use Rattle.evidence_check.specs.declared.quantity.Quantity.{Quantity}
 use Rattle.evidence_check.specs.declared.quantity.Quantity.TheVariants.{Flow, Exit}
 use Rattle.evidence_check.specs.declared.evidence.ProofStep.{ProofStep}
@@ -24,16 +24,16 @@ use Rattle.evidence_check.specs.declared.evidence.KeepProof.{KeepProof}
 use Rattle.evidence_check.specs.declared.evidence.Steps.{Steps}
 use Rattle.evidence_check.specs.EvidenceParts.{AreFull, FlowsFit, ExitsFit}
 use Rattle.evidence_check.specs.EvidenceView.{hypotheses_of, step_parts, keep_parts, FitsCase}
-use Rattle.evidence_check.specs.Languages.{Words, FaultAt, with_all, on_line, reading}
-use Rattle.evidence_check.specs.Documents.{Frame, Form, SaysVersion, SaysStep, SaysNumber, SaysKeep, SaysEnd, number_forms, list_forms, step_forms}
+use Rattle.text_lines.specs.Languages.{FaultAt, on_line}
+use Rattle.text_lines.specs.FormLanguages.{with_all, form_reading}
+use Rattle.field_core.specs.Answers.{and_then}
+use Rattle.evidence_check.specs.Documents.{Words, Frame, Form, SaysVersion, SaysStep, SaysNumber, SaysKeep, SaysEnd, number_forms, list_forms, step_forms}
 use Rattle.evidence_check.specs.Documents.{keep_forms, evidence_forms, found_or, is_none, keyword, place_fault, version_line, step_said, number_line}
 use Rattle.evidence_check.specs.Documents.{keep_line, end_line, step_or, first_line, tail, Slot, ANumber, AKeep, TheEnd, slot_line, due, keeps_due, Stage}
-use Rattle.evidence_check.specs.Documents.{AtVersion, AtSteps, AtEnd, Place, At, read_at, next_at, is_ended, evidence_language}
+use Rattle.evidence_check.specs.Documents.{AtVersion, AtSteps, AtEnd, Place, At, read_at, next_at, is_ended, line_language}
 use Rattle.evidence_check.specs.NumberReading.{number_in_text, case_frame}
-use Rattle.evidence_check.specs.ReadView.{kept_by}
 use Rattle.evidence_check.proofs.Hypotheses.{one_longer}
-use Rattle.evidence_check.proofs.LanguageLaws.{read_early}
-use Rattle.evidence_check.proofs.ReadWhole.{tail_reads, read_fits}
+use Rattle.evidence_check.proofs.ReadWhole.{tail_reads, kept_by, read_fits}
 
 -- ---- what a line says
 
@@ -132,11 +132,11 @@ module _ (T : Frame) (end : ℕ) where
     form : Form
     more : List Form
     said : read_at T place words ≡ Ok form
-    rest : reading (evidence_language T) (next_at T place form) rows end ≡ Ok more
+    rest : form_reading (line_language T) (next_at T place form) rows end ≡ Ok more
     forms_are : forms ≡ form ∷ more
 
   line_ok : (number : ℕ) (r : Result Form ProofKind) (f : Form → Result (List Form) (FaultAt ProofKind)) (forms : List Form)
-      → on_line number r f ≡ Ok forms → (form : Form) × (r ≡ Ok form) × (f form ≡ Ok forms)
+      → and_then (on_line number r) f ≡ Ok forms → (form : Form) × (r ≡ Ok form) × (f form ≡ Ok forms)
   line_ok number (Ok form) f forms h = (form, refl, h)
   line_ok number (Err kind) f forms h = absurd (cc)
 
@@ -145,19 +145,18 @@ module _ (T : Frame) (end : ℕ) where
   behind_ok form (Ok more) forms h = (more, refl, cc)
   behind_ok form (Err e) forms h = absurd (cc)
 
-  first_said : (place : Place) (row : Row) (rows : List Row) (forms : List Form) → reading (evidence_language T) place (row ∷ rows) end ≡ Ok forms
+  first_said : (place : Place) (row : Row) (rows : List Row) (forms : List Form) → form_reading (line_language T) place (row ∷ rows) end ≡ Ok forms
       → FirstSaid place (words_of row.text) rows forms
-  unfolding reading
   first_said place row rows forms h =
       let a = line_ok row.number (read_at T place (words_of row.text)) _ forms h in
-      let b = behind_ok a.0 (reading (evidence_language T) (next_at T place a.0) rows end) forms a.2 in
+      let b = behind_ok a.0 (form_reading (line_language T) (next_at T place a.0) rows end) forms a.2 in
       record { form = a.0; more = b.0; said = a.1; rest = b.1; forms_are = b.2 }
 
   not_both : (r : Result (List Form) (FaultAt ProofKind)) (forms : List Form) (fault : FaultAt ProofKind) → r ≡ Err fault → r ≡ Ok forms → ⊥
   not_both r forms fault e h = cc
 
-  not_early : (place : Place) (forms : List Form) → is_ended place ≡ false → ¬ (reading (evidence_language T) place [] end ≡ Ok forms)
-  not_early place forms e h = not_both (reading (evidence_language T) place [] end) forms _ (read_early (evidence_language T) place end e) h
+  not_early : (place : Place) (forms : List Form) → is_ended place ≡ false → ¬ (form_reading (line_language T) place [] end ≡ Ok forms)
+  not_early place forms e h = not_both (form_reading (line_language T) place [] end) forms (record { line = end; kind = Ended }) (rw e refl) h
 
   -- a line that must stand
   record SlotSaid (slot : Slot) (must : List Slot) (stage : Stage) (rows : List Row) (forms : List Form) : Type 0 where
@@ -167,11 +166,11 @@ module _ (T : Frame) (end : ℕ) where
     behind : List Row
     said : slot_line T slot words ≡ Ok form
     fewer : length behind ≤ length rows
-    rest : reading (evidence_language T) (At must stage) behind end ≡ Ok more
+    rest : form_reading (line_language T) (At must stage) behind end ≡ Ok more
     forms_are : forms ≡ form ∷ more
 
   slot_said : (slot : Slot) (must : List Slot) (stage : Stage) (rows : List Row) (forms : List Form)
-      → reading (evidence_language T) (At (slot ∷ must) stage) rows end ≡ Ok forms → SlotSaid slot must stage rows forms
+      → form_reading (line_language T) (At (slot ∷ must) stage) rows end ≡ Ok forms → SlotSaid slot must stage rows forms
   unfolding read_at next_at
   slot_said slot must stage [] forms h = absurd (not_early (At (slot ∷ must) stage) forms refl h)
   slot_said slot must stage (row ∷ rows) forms h =
@@ -187,8 +186,8 @@ module _ (T : Frame) (end : ℕ) where
         forms_are = a.forms_are;
       }
 
-  nothing_behind : (rows : List Row) (forms : List Form) → reading (evidence_language T) (At [] AtEnd) rows end ≡ Ok forms → forms ≡ []
-  unfolding reading read_at
+  nothing_behind : (rows : List Row) (forms : List Form) → form_reading (line_language T) (At [] AtEnd) rows end ≡ Ok forms → forms ≡ []
+  unfolding read_at
   nothing_behind [] forms h = cc
   nothing_behind (row ∷ rows) forms h = absurd (cc)
 
@@ -198,7 +197,7 @@ module _ (T : Frame) (end : ℕ) where
 module _ {F : Type 0} (parts : F → Parts) (n : Numbers)
     (typed : (text : List ℕ) (x : Parts) → number_in_text n text ≡ Some x → (y : F) × (parts y ≡ x)) (c : Content) (end : ℕ) where
   abbrev Says : Place → List Row → List Form → Type 0
-  Says place rows forms = reading (evidence_language (case_frame n c)) place rows end ≡ Ok forms
+  Says place rows forms = form_reading (line_language (case_frame n c)) place rows end ≡ Ok forms
 
   -- the numbers of a component, one for each of these hypotheses
   record NumbersSaid (q : Quantity) (k : ℕ) (js : List ℕ) (must : List Slot) (stage : Stage) (rows : List Row) (forms : List Form) : Type 0 where

@@ -1,25 +1,71 @@
 -- The lines of evidence say it.
-use Rattle.std.proofs.Common.{◌≡◌, refl, sym, ap, subst, ◌∙◌, ℕ, suc, ◌+◌, true, false, List, [], ◌∷◌, ◌++◌, map, length, Some}
+use Rattle.std.proofs.Common.{
+  ◌≡◌,
+  refl,
+  sym,
+  ap,
+  ap₂,
+  subst,
+  ◌∙◌,
+  ℕ,
+  suc,
+  ◌+◌,
+  true,
+  false,
+  List,
+  [],
+  ◌∷◌,
+  ◌++◌,
+  map,
+  length,
+  Some,
+}
 use Rattle.std.proofs.Common.{None, Ok, append_assoc, inl, inr, arith}
 use Rattle.std.specs.Prelude.{◌⊎◌, codes}
 use Rattle.std.specs.Fmt.{decimal, digits}
 use Rattle.std.specs.Str.{bytes_eq}
 use Rattle.std.specs.List.{All}
-use Rattle.std.proofs.lemmas.List.{map-append, append-nil, length-map}
+use Rattle.std.proofs.lemmas.List.{append-nil, length-map}
 use Rattle.std.proofs.lemmas.List.Elements.{All-head, All-tail}
 use Rattle.std.proofs.lemmas.Slice.Eq.{bytes_eq-Decides}
 use Rattle.text_lines.specs.Words.{words_behind}
+use Rattle.text_lines.specs.Languages.{Lead}
 use Rattle.field_core.specs.Kind.{Parts}
 use Rattle.evidence_check.specs.declared.quantity.Quantity.{Quantity}
 use Rattle.evidence_check.specs.declared.quantity.Quantity.TheVariants.{Flow, Exit}
 use Rattle.evidence_check.specs.EvidenceParts.{StepParts, KeepParts, AreFull, FlowsFit, ExitsFit}
-use Rattle.evidence_check.specs.Languages.{Lead}
-use Rattle.evidence_check.specs.Documents.{Frame, Form, SaysVersion, SaysStep, SaysNumber, SaysKeep, SaysEnd, number_forms, list_forms, step_forms, keep_forms}
+use Rattle.evidence_check.specs.Documents.{
+  Frame,
+  Form,
+  SaysVersion,
+  SaysStep,
+  SaysNumber,
+  SaysKeep,
+  SaysEnd,
+  number_forms,
+  list_forms,
+  step_forms,
+  keep_forms,
+  evidence_forms,
+}
 use Rattle.evidence_check.specs.Documents.{line_of, step_said, version_line, number_line, keep_line, end_line, Slot, ANumber, slot_line, due, keeps_due}
-use Rattle.evidence_check.specs.Documents.{kept_in, tail, first_line, behind_first, Stage, AtSteps, AtEnd, Place, At, read_at, next_at, evidence_language}
+use Rattle.evidence_check.specs.Documents.{
+  kept_in,
+  tail,
+  first_line,
+  behind_first,
+  Stage,
+  AtVersion,
+  AtSteps,
+  AtEnd,
+  Place,
+  At,
+  read_at,
+  next_at,
+  evidence_language,
+}
 use Rattle.evidence_check.specs.DocumentStatements.{IsPrinted, LinesSayTheirEvidence}
 use Rattle.evidence_check.proofs.Hypotheses.{one_longer}
-use Rattle.evidence_check.proofs.LanguageLaws.{lead_on}
 use Rattle.evidence_check.proofs.ReadWhole.{is_step, next_no}
 
 same_bytes : (xs : List ℕ) → bytes_eq xs xs ≡ true
@@ -53,11 +99,22 @@ module _ (T : Frame) where
 
   -- these forms lead from a place to another
   abbrev pub Leads : Place → List Form → Place → Type 0
-  Leads p fs q = Lead (evidence_language T) p (map (line_of T) fs) fs q
+  Leads p [] q = q ≡ p
+  Leads p (f ∷ fs) q = (read_at T p (line_of T f) ≡ Ok f) × Leads (next_at T p f) fs q
 
   pub leads_on : (p q r : Place) (fs gs : List Form) → Leads p fs q → Leads q gs r → Leads p (fs ++ gs) r
-  leads_on p q r fs gs h k = subst (λ ls. Lead (evidence_language T) p ls (fs ++ gs) r) (sym (map-append (line_of T) fs gs))
-      (lead_on (evidence_language T) p q r (map (line_of T) fs) (map (line_of T) gs) fs gs h k)
+  leads_on p q r [] gs h k = subst (λ p. Leads p gs r) h k
+  leads_on p q r (f ∷ fs) gs h k = (h.0, leads_on (next_at T p f) q r fs gs h.1 k)
+
+  -- and so do their lines, in the language of evidence
+  pub lines_lead : (p q : Place) (said fs : List Form) → Leads p fs q → Lead (evidence_language T) (p, said) (map (line_of T) fs) (q, said ++ fs)
+  lines_lead p q said [] h = ap₂ (λ p fs. (p, fs)) h (append-nil said)
+  lines_lead p q said (f ∷ fs) h = (
+    (next_at T p f, said ++ f ∷ []),
+    rw h.0 refl,
+    subst (λ all. Lead (evidence_language T) (next_at T p f, said ++ f ∷ []) (map (line_of T) fs) (q, all)) (append_assoc said (f ∷ []) fs)
+        (lines_lead (next_at T p f) q (said ++ f ∷ []) fs h.1),
+  )
 
   -- ---- numbers
 
@@ -150,8 +207,8 @@ module _ (T : Frame) where
 pub lines_say : LinesSayTheirEvidence
 unfolding read_at next_at
 lines_say n c T v ss xs t h p = record {
-  here = At [] AtEnd;
-  lead = (
+  here = (At [] AtEnd, evidence_forms v ss xs);
+  lead = lines_lead T (At [] AtVersion) (At [] AtEnd) [] (evidence_forms v ss xs) (
     version_back T v h.version,
     subst (λ fs. Leads T (At [] (AtSteps v [])) fs (At [] AtEnd))
         (sym (append_assoc (step_forms [] ss) (keep_forms (map (λ s. s.hypothesis) ss) xs) (SaysEnd ∷ [])))
@@ -162,7 +219,7 @@ lines_say n c T v ss xs t h p = record {
         (subst (λ m. ExitsFit m (length (map (λ s. s.hypothesis) ss)) xs) (sym t.components)
         (subst (λ k. ExitsFit (length c.components) k xs) (sym (length-map ss (λ s. s.hypothesis))) h.size.exits)) p.exits)),
   );
-  ended = refl;
+  ends = refl;
 }
   where
     kept : (v ≡ 1) ⊎ (v ≡ 2) → kept_in T v (map (λ s. s.hypothesis) ss) ≡ map (λ x. x.hypothesis) xs

@@ -1,14 +1,14 @@
 -- The text of evidence says it.
 use Rattle.std.proofs.Common.{◌≡◌, refl, sym, ap, ap₂, subst, ◌∙◌, ℕ, ◌+◌, List, [], ◌∷◌}
 use Rattle.std.specs.List.{AllByRecursion}
-use Rattle.text_lines.specs.Lines.{rows_of}
+use Rattle.text_lines.specs.Lines.{rows_of, words_in}
 use Rattle.text_lines.specs.Words.{words_of}
 use Rattle.text_lines.specs.Spelling.{line_spelt, text_of, IsLine, numbered}
 use Rattle.text_lines.proofs.Spelt.{rows_of_text, words_of_line}
 use Rattle.case_numbers.specs.Numbers.{numbers_of}
 use Rattle.evidence_check.specs.EvidenceView.{version_of, steps_of, keeps_of}
-use Rattle.evidence_check.specs.Languages.{Words, words_in, IsDocument}
-use Rattle.evidence_check.specs.Documents.{evidence_forms, evidence_lines, evidence_language}
+use Rattle.text_lines.specs.Languages.{IsDocument}
+use Rattle.evidence_check.specs.Documents.{Words, evidence_forms, evidence_lines, evidence_language}
 use Rattle.evidence_check.specs.NumberReading.{case_frame}
 use Rattle.evidence_check.specs.DocumentStatements.{start, EvidenceTextsSayIt}
 use Rattle.evidence_check.proofs.NumberFound.{frame_is}

@@ -2,7 +2,9 @@
 use Rattle.std.specs.Prelude.{◌≡◌, ◌⊎◌, ◌↔◌, ℕ, List, [], Some, Result, Ok, Err, All}
 use Rattle.field_core.specs.Kind.{Parts}
 use Rattle.std.specs.List.{AllByRecursion}
-use Rattle.text_lines.specs.Lines.{rows_of, end_of}
+use Rattle.text_lines.specs.Lines.{rows_of, words_in, end_of}
+use Rattle.text_lines.specs.Languages.{FaultAt, reading, IsDocument}
+use Rattle.text_lines.specs.LanguageStatements.{HasFault as HasFirstFault, IsWhereNoneGoesOn, IsUnfinished}
 use Rattle.text_lines.specs.Spelling.{text_of, IsLine}
 use Rattle.case_model.specs.Content.{Content}
 use Rattle.case_numbers.specs.Numbers.{Numbers, numbers_of, IsStoredIn}
@@ -13,15 +15,13 @@ use Rattle.evidence_check.specs.declared.fault.ProofText.{ProofText}
 use Rattle.evidence_check.specs.declared.fault.ProofText.TheVariants.{Line, NoMemory}
 use Rattle.evidence_check.specs.EvidenceParts.{StepParts, KeepParts}
 use Rattle.evidence_check.specs.EvidenceView.{FitsCase, IsEvidenceFor, version_of, steps_of, keeps_of}
-use Rattle.evidence_check.specs.Languages.{words_in, FaultAt, reading, IsDocument}
-use Rattle.evidence_check.specs.LanguageStatements.{IsBadLine, IsEndedEarly, IsWhereNoneGoesOn, IsUnfinished}
 use Rattle.evidence_check.specs.Documents.{Frame, Form, evidence_forms, evidence_lines, AtVersion, Place, At, evidence_language}
 use Rattle.evidence_check.specs.ReadView.{IsFrameFor}
 use Rattle.evidence_check.specs.NumberReading.{case_frame}
 
 -- the place of the first line
-abbrev pub start : Place
-start = At [] AtVersion
+abbrev pub start : Place × List Form
+start = (At [] AtVersion, [])
 
 -- what a text says, or its first fault
 abbrev pub evidence_reading : Frame → List ℕ → Result (List Form) (FaultAt ProofKind)
@@ -37,9 +37,7 @@ SaysEvidence c bytes v =
 
 -- the first fault of a text: a line that says nothing where it stands, after lines that say something, and what is wrong with it; or lines that end too early
 abbrev pub HasFault : Content → List ℕ → FaultAt ProofKind → Type 0
-HasFault c bytes fault =
-    IsBadLine (evidence_language (case_frame (numbers_of c) c)) start (rows_of bytes) fault
-    ⊎ IsEndedEarly (evidence_language (case_frame (numbers_of c) c)) start (rows_of bytes) (end_of bytes) fault
+HasFault c bytes fault = HasFirstFault (evidence_language (case_frame (numbers_of c) c)) start (rows_of bytes) (end_of bytes) fault
 
 -- why a text says no evidence: its first fault, or memory is wanting
 abbrev pub IsProofFault : Content → List ℕ → ProofText → Type 0
@@ -58,11 +56,11 @@ ReadingsAreDocuments =
     (T : Frame) (bytes : List ℕ) (fs : List Form) → (evidence_reading T bytes ≡ Ok fs)
     ↔ IsDocument (evidence_language T) start (words_in (rows_of bytes)) fs
 
--- Its first fault is that of the first line that says nothing where it stands; or the lines end too early.
+-- And the fault that is read is its first one: that of the first line that says nothing where it stands; or the lines end too early.
 abbrev pub FaultsAreBadLines : Type 0
 FaultsAreBadLines =
-    (T : Frame) (bytes : List ℕ) (fault : FaultAt ProofKind) → evidence_reading T bytes ≡ Err fault
-    → IsBadLine (evidence_language T) start (rows_of bytes) fault ⊎ IsEndedEarly (evidence_language T) start (rows_of bytes) (end_of bytes) fault
+    (T : Frame) (bytes : List ℕ) (fault : FaultAt ProofKind) → (evidence_reading T bytes ≡ Err fault)
+    ↔ HasFirstFault (evidence_language T) start (rows_of bytes) (end_of bytes) fault
 
 -- Lines say one evidence.
 abbrev pub LinesSayOneEvidence : Type 0

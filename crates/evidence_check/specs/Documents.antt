@@ -5,12 +5,17 @@ use Rattle.std.specs.Fmt.{decimal}
 use Rattle.std.specs.Str.{bytes_eq}
 use Rattle.field_core.specs.Kind.{Parts}
 use Rattle.text_lines.specs.Words.{words_behind, only_word, only_three}
+use Rattle.text_lines.specs.Languages.{Language}
+use Rattle.text_lines.specs.FormLanguages.{FormLanguage, with_forms}
 use Rattle.evidence_check.specs.declared.fault.ProofKind.{ProofKind}
 use Rattle.evidence_check.specs.declared.fault.ProofKind.TheVariants.{Unexpected, Ended, WordCount, Version, UnknownName, FlowPlace, ExitPlace, Number}
 use Rattle.evidence_check.specs.declared.quantity.Quantity.{Quantity}
 use Rattle.evidence_check.specs.declared.quantity.Quantity.TheVariants.{Flow, Exit}
 use Rattle.evidence_check.specs.EvidenceParts.{StepParts, KeepParts}
-use Rattle.evidence_check.specs.Languages.{Words, Language}
+
+-- the words of a line
+abbrev pub Words : Type 0
+Words = List (List ℕ)
 
 -- What of a case the lines speak of: the names of its hypotheses and their positions, the number of its components, the hypotheses other than those
 -- listed, and its numbers and their texts.
@@ -215,6 +220,10 @@ is_ended (At [] AtVersion) = false
 is_ended (At [] (AtSteps v js)) = false
 is_ended (At (s ∷ ss) stage) = false
 
--- the language of evidence
-abbrev pub evidence_language : Frame → Language Place Form ProofKind
-evidence_language F = record { read = read_at F; next = next_at F; ended = is_ended; ends = Ended }
+-- what each line of evidence says
+abbrev pub line_language : Frame → FormLanguage Place Form ProofKind
+line_language F = record { read = read_at F; next = next_at F; ended = is_ended; ends = Ended }
+
+-- the language of evidence: at a place, after lines that said these forms
+abbrev pub evidence_language : Frame → Language Words (Place × List Form) (List Form) ProofKind
+evidence_language F = with_forms (line_language F)

@@ -7,10 +7,8 @@ pub mod CheckSteps
 pub mod WrittenCheck
 pub mod CheckStatements
 pub mod CaseCheck
-pub mod Languages
 pub mod Documents
 pub mod NumberTexts
 pub mod ReadView
-pub mod LanguageStatements
 pub mod NumberReading
 pub mod DocumentStatements

@@ -74,11 +74,15 @@ has_wide_part x = nat_le (2 ^ 127) (unsigned_abs x.num) || nat_le (2 ^ 127) (uns
 unfoldable pub fraction_by : ℤ → ℤ → Option Parts
 fraction_by n d = if is_zero_integer d || has_wide_part (lowest_terms n d) then None else Some (single (lowest_terms n d))
 
+-- the fraction of a constant quotient
+abbrev pub constant_fraction : Parts → Option Parts
+constant_fraction y = fraction_by (coefficient y.numerator 0) (coefficient y.denominator 0)
+
 -- the fraction of a text without brackets
 unfoldable pub fraction_of_text : List ℕ → Option Parts
 fraction_of_text text =
     if list_any (λ b. b == 91) text then None
-    else and_then (quotient_in text) (λ y. fraction_by (coefficient y.numerator 0) (coefficient y.denominator 0))
+    else and_then (quotient_in text) constant_fraction
 
 -- the number of a text
 abbrev pub number_in_text : Numbers → List ℕ → Option Parts

@@ -1,24 +1,18 @@
 //! A document of evidence, line by line.
-ghost use Rattle.std.specs.Prelude.{◌≡◌, ◌<◌, ◌≤◌, ℕ, List as Seq, [], ◌∷◌, length, map, IfOk, IfErr, All, codes};
+ghost use Rattle.std.specs.Prelude.{◌≡◌, ◌<◌, ◌≤◌, ℕ, List as Seq, [], ◌∷◌};
+ghost use Rattle.std.specs.Prelude.{◌++◌, length, map, IfOk, IfErr, All, codes};
+ghost use Rattle.field_core.specs.Answers.{told_as};
+ghost use Rattle.field_core.specs.Kind.{ok_map};
 ghost use Rattle.text_lines.specs.Lines.{Row, rows_left, end_at};
-ghost use Rattle.text_lines.specs.View.{row};
 ghost use Rattle.text_lines.specs.Words.{words_of, words_behind};
 ghost use Rattle.case_model.specs.CaseView.{content};
+ghost use Rattle.evidence_check.specs.Documents.{Frame, SaysEnd, number_forms, list_forms, step_forms, keep_forms, Slot, ANumber, TheEnd};
+ghost use Rattle.evidence_check.specs.Documents.{due, keeps_due, kept_in, tail, Stage, AtSteps, AtEnd, At};
+ghost use Rattle.evidence_check.specs.NumberReading.{case_frame};
 ghost use Rattle.evidence_check.specs.Evidence.{others};
 ghost use Rattle.evidence_check.specs.EvidenceParts.{AreFull, FlowsFit, ExitsFit};
 ghost use Rattle.evidence_check.specs.EvidenceView.{hypotheses_of, step_parts, keep_parts};
-ghost use Rattle.evidence_check.specs.ReadView.{
-  rows_from,
-  kept_by,
-  NumbersRead,
-  NumbersStop,
-  ListsRead,
-  ListsStop,
-  StepRead,
-  StepsRead,
-  StepsStop,
-};
-ghost use Rattle.evidence_check.specs.ReadView.{KeepRead, KeepsRead, KeepsStop, EndRead, EndStops};
+ghost use Rattle.evidence_check.specs.ReadView.{left_of, left_from, taken, said_at, proof_fault, Reads};
 ghost use Rattle.evidence_check.specs.declared.fault.ProofKind.TheVariants.{Unexpected, Ended};
 ghost use Rattle.evidence_check.specs.declared.fault.ProofText.TheVariants as faults;
 
@@ -32,9 +26,8 @@ use text_lines::{Line, Lines, Words};
 
 /// Returns the next line, which must be there.
 pub fn next_line<'a>(lines: &mut Lines<'a>) -> Result<Line<'a>, ProofText>
-    ensures found { IfOk result (λ line. rows_left lines.old ≡ row line ∷ rows_left lines.new) }
+    ensures found { IfOk result (λ line. left_of lines.old ≡ left_from line lines.new) }
     ensures fault { IfErr result (λ fault. (rows_left lines.old ≡ []) × (fault ≡ faults.Line (end_at lines.old) Ended)) }
-    ensures end { end_at lines.new ≡ end_at lines.old }
 {
     match lines.next() {
         Some(line) => Ok(line),
@@ -53,13 +46,11 @@ pub fn numbers<F: EvidenceNumber>(
 ) -> Result<List<F>, ProofText>
     requires c { c < 8 }
     requires known { All (λ j. j < length (content case.now).names) (hypotheses_of steps.now) }
-    ensures found { IfOk result (λ xs. NumbersRead F.numbers (content case.now) (end_at lines.old) quantity c
-        (hypotheses_of steps.now) (rows_left lines.old)
-        (map F.parts xs) (rows_left lines.new)) }
+    ensures said { (rest : Seq Slot) (stage : Stage) → Reads (case_frame F.numbers (content case.now))
+        (At (map (ANumber quantity c) (hypotheses_of steps.now) ++ rest) stage) (left_of lines.old)
+        (ok_map (λ xs. taken (number_forms quantity c (hypotheses_of steps.now) (map F.parts xs)) (At rest stage) (left_of lines.new))
+        result) }
     ensures count { IfOk result (λ xs. length xs ≡ length steps.now) }
-    ensures fault { IfErr result (NumbersStop F.numbers (content case.now) (end_at lines.old) quantity c
-        (hypotheses_of steps.now) (rows_left lines.old)) }
-    ensures end { end_at lines.new ≡ end_at lines.old }
     ensures left { IfOk result (λ _. length (rows_left lines.new) ≤ length (rows_left lines.old)) }
 {
     let mut numbers = List::new(alloc);
@@ -83,13 +74,11 @@ pub fn lists<F: EvidenceNumber>(
     steps: &[ProofStep<F>],
 ) -> Result<List<List<F>>, ProofText>
     requires known { All (λ j. j < length (content case.now).names) (hypotheses_of steps.now) }
-    ensures found { IfOk result (λ xs. ListsRead F.numbers (content case.now) (end_at lines.old) quantity
-        (hypotheses_of steps.now) (rows_left lines.old)
-        (map (map F.parts) xs) (rows_left lines.new)) }
+    ensures said { (rest : Seq Slot) (stage : Stage) → Reads (case_frame F.numbers (content case.now))
+        (At (due quantity (length (content case.now).components) 0 (hypotheses_of steps.now) ++ rest) stage) (left_of lines.old)
+        (ok_map (λ xs. taken (list_forms quantity 0 (hypotheses_of steps.now) (map (map F.parts) xs)) (At rest stage) (left_of lines.new))
+        result) }
     ensures full { IfOk result (λ xs. AreFull (length (content case.now).components) (length steps.now) (map (map F.parts) xs)) }
-    ensures fault { IfErr result (ListsStop F.numbers (content case.now) (end_at lines.old) quantity
-        (hypotheses_of steps.now) (rows_left lines.old)) }
-    ensures end { end_at lines.new ≡ end_at lines.old }
     ensures left { IfOk result (λ _. length (rows_left lines.new) ≤ length (rows_left lines.old)) }
 {
     let mut lists = List::new(alloc);
@@ -110,14 +99,12 @@ pub fn step<F: EvidenceNumber>(
 ) -> Result<ProofStep<F>, ProofText>
     requires first { Some (words_of words) ≡ words_behind (codes "step") (words_of line.now.text.now) }
     requires known { All (λ j. j < length (content case.now).names) (hypotheses_of earlier.now) }
-    ensures found { IfOk result (λ s. StepRead F.numbers (content case.now) (end_at lines.old)
-        (hypotheses_of earlier.now) (rows_from line.now lines.old)
-        (step_parts F.parts s) (rows_left lines.new)) }
+    ensures said { (v : ℕ) → Reads (case_frame F.numbers (content case.now))
+        (At [] (AtSteps v (hypotheses_of earlier.now))) (left_from line.now lines.old)
+        (ok_map (λ s. taken (step_forms (hypotheses_of earlier.now) (step_parts F.parts s ∷ []))
+        (At [] (AtSteps v (hypotheses_of earlier.now ++ s.hypothesis ∷ []))) (left_of lines.new)) result) }
     ensures known { IfOk result (λ s. s.hypothesis < length (content case.now).names) }
     ensures full { IfOk result (λ s. AreFull (length (content case.now).components) (length earlier.now) (map (map F.parts) s.flows)) }
-    ensures fault { IfErr result (StepsStop F.numbers (content case.now) (end_at lines.old) (hypotheses_of earlier.now)
-        (rows_from line.now lines.old)) }
-    ensures end { end_at lines.new ≡ end_at lines.old }
     ensures left { IfOk result (λ _. length (rows_left lines.new) ≤ length (rows_left lines.old)) }
 {
     match rules::step(words, case) {
@@ -135,14 +122,12 @@ pub fn steps<'a, F: EvidenceNumber>(
     lines: &mut Lines<'a>,
     case: &Case,
 ) -> Result<(List<ProofStep<F>>, Line<'a>), ProofText>
-    ensures found { IfOk result (λ x. StepsRead F.numbers (content case.now) (end_at lines.old) (rows_left lines.old)
-        (map (step_parts F.parts) x.0)
-        (rows_from x.1 lines.new)) }
+    ensures said { (v : ℕ) → Reads (case_frame F.numbers (content case.now)) (At [] (AtSteps v [])) (left_of lines.old)
+        (ok_map (λ x. taken (step_forms [] (map (step_parts F.parts) x.0)) (At [] (AtSteps v (hypotheses_of x.0)))
+        (left_from x.1 lines.new)) result) }
     ensures behind { IfOk result (λ x. words_behind (codes "step") (words_of x.1.text.now) ≡ None) }
     ensures known { IfOk result (λ x. All (λ j. j < length (content case.now).names) (hypotheses_of x.0)) }
     ensures full { IfOk result (λ x. FlowsFit (length (content case.now).components) 0 (map (step_parts F.parts) x.0)) }
-    ensures fault { IfErr result (StepsStop F.numbers (content case.now) (end_at lines.old) [] (rows_left lines.old)) }
-    ensures end { end_at lines.new ≡ end_at lines.old }
 {
     let mut steps = List::new(alloc);
     let mut line = next_line(lines)?;
@@ -164,15 +149,13 @@ pub fn keep<F: EvidenceNumber>(
 ) -> Result<KeepProof<F>, ProofText>
     requires hypothesis { hypothesis < length (content case.now).names }
     requires known { All (λ j. j < length (content case.now).names) (hypotheses_of steps.now) }
-    ensures found { IfOk result (λ x. KeepRead F.numbers (content case.now) (end_at lines.old)
-        (hypotheses_of steps.now) (rows_from line.now lines.old)
-        (keep_parts F.parts x) (rows_left lines.new)) }
+    ensures said { (ks : Seq ℕ) → Reads (case_frame F.numbers (content case.now))
+        (At (keeps_due (case_frame F.numbers (content case.now)) (hypotheses_of steps.now) (hypothesis ∷ ks)) AtEnd)
+        (left_from line.now lines.old)
+        (ok_map (λ x. taken (keep_forms (hypotheses_of steps.now) (keep_parts F.parts x ∷ []))
+        (At (keeps_due (case_frame F.numbers (content case.now)) (hypotheses_of steps.now) ks) AtEnd) (left_of lines.new)) result) }
     ensures same { IfOk result (λ x. x.hypothesis ≡ hypothesis) }
     ensures full { IfOk result (λ x. AreFull (length (content case.now).components) (length steps.now) (map (map F.parts) x.exits)) }
-    ensures fault { IfErr result (λ fault. (ks : Seq ℕ)
-        → KeepsStop F.numbers (content case.now) (end_at lines.old) (hypotheses_of steps.now) (hypothesis ∷ ks)
-        (rows_from line.now lines.old) fault) }
-    ensures end { end_at lines.new ≡ end_at lines.old }
 {
     match rules::keep(line, case.name(hypothesis)) {
         Ok(()) => {
@@ -192,14 +175,13 @@ pub fn keeps<'a, F: EvidenceNumber>(
     first: Line<'a>,
 ) -> Result<(List<KeepProof<F>>, Line<'a>), ProofText>
     requires known { All (λ j. j < length (content case.now).names) (hypotheses_of steps.now) }
-    ensures found { IfOk result (λ x. KeepsRead F.numbers (content case.now) (end_at lines.old) (hypotheses_of steps.now)
-        (others (length (content case.now).names) (hypotheses_of steps.now)) (rows_from first.entry lines.old) (map (keep_parts F.parts) x.0) []
-        (rows_from x.1 lines.new)) }
+    ensures said { Reads (case_frame F.numbers (content case.now))
+        (At (keeps_due (case_frame F.numbers (content case.now)) (hypotheses_of steps.now)
+        (others (length (content case.now).names) (hypotheses_of steps.now))) AtEnd) (left_from first.entry lines.old)
+        (ok_map (λ x. taken (keep_forms (hypotheses_of steps.now) (map (keep_parts F.parts) x.0)) (At (TheEnd ∷ []) AtEnd)
+        (left_from x.1 lines.new)) result) }
     ensures all { IfOk result (λ x. map (λ k. k.hypothesis) x.0 ≡ others (length (content case.now).names) (hypotheses_of steps.now)) }
     ensures full { IfOk result (λ x. ExitsFit (length (content case.now).components) (length steps.now) (map (keep_parts F.parts) x.0)) }
-    ensures fault { IfErr result (KeepsStop F.numbers (content case.now) (end_at lines.old) (hypotheses_of steps.now)
-        (others (length (content case.now).names) (hypotheses_of steps.now)) (rows_from first.entry lines.old)) }
-    ensures end { end_at lines.new ≡ end_at lines.old }
 {
     let mut keeps = List::new(alloc);
     let mut line = first;
@@ -223,15 +205,13 @@ pub fn kept<'a, F: EvidenceNumber>(
     first: Line<'a>,
 ) -> Result<(List<KeepProof<F>>, Line<'a>), ProofText>
     requires known { All (λ j. j < length (content case.now).names) (hypotheses_of steps.now) }
-    ensures found { IfOk result (λ x. KeepsRead F.numbers (content case.now) (end_at lines.old) (hypotheses_of steps.now)
-        (kept_by (length (content case.now).names) version (hypotheses_of steps.now)) (rows_from first.entry lines.old)
-        (map (keep_parts F.parts) x.0) [] (rows_from x.1 lines.new)) }
-    ensures all { IfOk result (λ x. map (λ k. k.hypothesis) x.0 ≡ kept_by (length (content case.now).names) version
+    ensures said { Reads (case_frame F.numbers (content case.now))
+        (At (tail (case_frame F.numbers (content case.now)) version (hypotheses_of steps.now)) AtEnd) (left_from first.entry lines.old)
+        (ok_map (λ x. taken (keep_forms (hypotheses_of steps.now) (map (keep_parts F.parts) x.0)) (At (TheEnd ∷ []) AtEnd)
+        (left_from x.1 lines.new)) result) }
+    ensures all { IfOk result (λ x. map (λ k. k.hypothesis) x.0 ≡ kept_in (case_frame F.numbers (content case.now)) version
         (hypotheses_of steps.now)) }
     ensures full { IfOk result (λ x. ExitsFit (length (content case.now).components) (length steps.now) (map (keep_parts F.parts) x.0)) }
-    ensures fault { IfErr result (KeepsStop F.numbers (content case.now) (end_at lines.old) (hypotheses_of steps.now)
-        (kept_by (length (content case.now).names) version (hypotheses_of steps.now)) (rows_from first.entry lines.old)) }
-    ensures end { end_at lines.new ≡ end_at lines.old }
 {
     if version == 2 {
         keeps(alloc, lines, case, steps, first)
@@ -254,8 +234,8 @@ fn nothing_behind(lines: &mut Lines) -> Result<(), ProofText>
 
 /// Reads the end, in this line, and that no line follows it.
 pub fn end(lines: &mut Lines, line: &Line) -> Result<(), ProofText>
-    ensures found { IfOk result (λ _. EndRead (end_at lines.old) (rows_from line.now lines.old)) }
-    ensures fault { IfErr result (EndStops (end_at lines.old) (rows_from line.now lines.old)) }
+    ensures { (T : Frame) → ok_map (λ _. SaysEnd ∷ []) result ≡ told_as proof_fault
+        (said_at T (At (TheEnd ∷ []) AtEnd) (left_from line.now lines.old)) }
 {
     match rules::end(line) {
         Ok(()) => nothing_behind(lines),

@@ -1,5 +1,5 @@
 //! The numbers of a case as evidence is checked with them.
-ghost use Rattle.std.specs.Prelude.{◌≡◌, ◌<◌, ◌==◌, length, true, IfSome};
+ghost use Rattle.std.specs.Prelude.{◌≡◌, ◌<◌, ◌==◌, length, true};
 ghost use Rattle.std.specs.List.{list_any};
 ghost use Rattle.std.specs.Option.{option_map};
 ghost use Rattle.field_core.specs.Kind.{Parts};
@@ -11,7 +11,7 @@ ghost use Rattle.case_model.specs.Sums.{number_at};
 ghost use Rattle.case_model.specs.CaseView.{content};
 ghost use Rattle.case_numbers.specs.Numbers.{IsStoredIn};
 ghost use Rattle.evidence_check.specs.CaseCheck.{IsSingle, p_values_of, loaded_case, edge_load, row_load, component_load, all_loads};
-ghost use Rattle.evidence_check.specs.NumberTexts.{IsConstantOf, IsNumberText, IsNumberOf};
+ghost use Rattle.evidence_check.specs.NumberReading.{constant_fraction, number_in_text};
 
 use crate::event::CheckEvent;
 use crate::sums::{all_below, placed};
@@ -30,8 +30,7 @@ fn has_bracket(text: &[u8]) -> bool
 
 /// Returns the constant of a quotient as a fraction.
 fn constant(quotient: &EpsQuotient) -> Option<Fraction>
-    ensures found { IfSome result (λ x. IsConstantOf (quotient_parts quotient.now) (fraction_parts x)) }
-    ensures only { (x : Parts) → IsConstantOf (quotient_parts quotient.now) x → option_map fraction_parts result ≡ Some x }
+    ensures { option_map fraction_parts result ≡ constant_fraction (quotient_parts quotient.now) }
 {
     let numerator = quotient.numerator().coefficient(0);
     let denominator = quotient.denominator().coefficient(0);
@@ -42,8 +41,7 @@ fn constant(quotient: &EpsQuotient) -> Option<Fraction>
 pub trait EvidenceNumber: CaseNumber {
     /// Returns the number of a text: that of a quotient, or a fraction without brackets. Anything else gives `None`.
     fn read(text: &[u8]) -> Option<Self>
-        ensures found { IsNumberOf Self.numbers text.now (option_map Self.parts result) }
-        ensures only { (x : Parts) → IsNumberText Self.numbers text.now x → option_map Self.parts result ≡ Some x };
+        ensures { option_map Self.parts result ≡ number_in_text Self.numbers text.now };
 
     /// What a case is loaded in is what they store.
     ghost stored_is: { (x : Parts) → IsStoredIn Self.numbers x → Self.IsStored x };

@@ -1,10 +1,14 @@
 //! The reader of evidence.
 ghost use Rattle.std.specs.Prelude.{map, IfOk, IfErr};
-ghost use Rattle.text_lines.specs.Lines.{rows_of, end_of};
+ghost use Rattle.field_core.specs.Answers.{IsUnless, told_as};
+ghost use Rattle.field_core.specs.Kind.{ok_map};
 ghost use Rattle.case_model.specs.CaseView.{content};
 ghost use Rattle.evidence_check.specs.EvidenceView.{step_parts, keep_parts, FitsCase, IsEvidenceFor};
-ghost use Rattle.evidence_check.specs.ReadView.{SayEvidence, HaveFault};
-ghost use Rattle.evidence_check.specs.DocumentStatements.{SaysEvidence, IsProofFault};
+ghost use Rattle.evidence_check.specs.Documents.{evidence_forms};
+ghost use Rattle.evidence_check.specs.NumberReading.{case_frame};
+ghost use Rattle.evidence_check.specs.ReadView.{proof_fault};
+ghost use Rattle.evidence_check.specs.DocumentStatements.{evidence_reading, SaysEvidence, IsProofFault};
+ghost use Rattle.evidence_check.specs.declared.fault.ProofText.TheVariants.{NoMemory};
 
 use crate::document::{end, kept, next_line, steps};
 use crate::loading::EvidenceNumber;
@@ -19,11 +23,11 @@ fn read_in<F: EvidenceNumber>(
     case: &Case,
     bytes: &[u8],
 ) -> Result<Steps<F>, ProofText>
-    ensures found { IfOk result (λ v. SayEvidence F.numbers (content case.now) (end_of bytes.now) (rows_of bytes.now) v.version
-        (map (step_parts F.parts) v.steps) (map (keep_parts F.parts) v.keeps)) }
+    ensures said { IsUnless NoMemory (ok_map (λ v. evidence_forms v.version (map (step_parts F.parts) v.steps)
+        (map (keep_parts F.parts) v.keeps)) result)
+        (told_as proof_fault (evidence_reading (case_frame F.numbers (content case.now)) bytes.now)) }
     ensures fits { IfOk result (λ v. FitsCase (content case.now) v.version (map (step_parts F.parts) v.steps) (map
         (keep_parts F.parts) v.keeps)) }
-    ensures fault { IfErr result (HaveFault F.numbers (content case.now) (end_of bytes.now) (rows_of bytes.now)) }
 {
     let mut lines = Lines::new(bytes);
     let first = next_line(&mut lines)?;

@@ -30,5 +30,9 @@ command names line =
     behind (codes "look") line (λ words. and_then (look names words) (λ l. Ok (Take l))) (behind (codes "show") line show (Err Unexpected))
 
 -- The language of commands: a line says one, and a text may end after each.
-abbrev pub commands : List (List ℕ) → Language (List StudyCommand) (List StudyCommand) LineKind
-commands names = record { step = λ said line. and_then (command names line) (λ c. Ok (said ++ c ∷ [])); end = λ said. Ok said }
+abbrev pub commands : List (List ℕ) → Language (List ℕ) (List StudyCommand) (List StudyCommand) LineKind
+commands names = record {
+  line_of = λ text. text;
+  step = λ said line. and_then (command names line) (λ c. Ok (said ++ c ∷ []));
+  end = λ said. Ok said;
+}

@@ -1,4 +1,4 @@
--- Languages whose lines say forms, one each, as languages of lines: what was said so far goes with the place.
+-- Languages whose lines say forms by their words, one each, as languages of lines: what was said so far goes with the place.
 use Rattle.std.specs.Prelude.{ℕ, Bool, if◌then◌else◌, List, [], ◌∷◌, ◌++◌, Result, Ok, Err}
 use Rattle.field_core.specs.Answers.{and_then}
 use Rattle.text_lines.specs.Lines.{Row}
@@ -24,8 +24,9 @@ form_reading L place (row ∷ rows) end =
     and_then (on_line row.number (L.read place (words_of row.text))) (λ form. with_all (form ∷ []) (form_reading L (L.next place form) rows end))
 
 -- the same as a language of lines
-abbrev pub with_forms : {Place Form Kind : Type 0} → FormLanguage Place Form Kind → Language (Place × List Form) (List Form) Kind
+abbrev pub with_forms : {Place Form Kind : Type 0} → FormLanguage Place Form Kind → Language (List (List ℕ)) (Place × List Form) (List Form) Kind
 with_forms L = record {
-  step = λ at line. and_then (L.read at.0 (words_of line)) (λ form. Ok (L.next at.0 form, at.1 ++ form ∷ []));
+  line_of = words_of;
+  step = λ at words. and_then (L.read at.0 words) (λ form. Ok (L.next at.0 form, at.1 ++ form ∷ []));
   end = λ at. if L.ended at.0 then Ok at.1 else Err L.ends;
 }

@@ -1,41 +1,33 @@
-use Rattle.std.proofs.Common.{◌≡◌, ◌∙◌, ℕ, ◌+◌, ◌<◌, ◌≤◌, refl, sym, ap, subst, [], ◌∷◌, map, length, arith}
+use Rattle.std.proofs.Common.{◌≡◌, ◌∙◌, ℕ, ◌+◌, ◌<◌, ◌≤◌, sym, ap, subst, [], ◌∷◌, map, length, arith}
 use Rattle.std.proofs.lemmas.List.{map-append, length-map}
-use Rattle.text_lines.specs.Lines.{rows_left, end_at}
-use Rattle.text_lines.proofs.HandedOn.{handed_on}
+use Rattle.text_lines.specs.Lines.{rows_left}
 use Rattle.case_model.specs.CaseView.{content}
 use Rattle.evidence_check.specs.EvidenceParts.{AreFull}
 use Rattle.evidence_check.specs.EvidenceView.{hypotheses_of}
-use Rattle.evidence_check.specs.ReadView.{NumbersRead, NumbersStop}
+use Rattle.evidence_check.specs.NumberReading.{case_frame}
+use Rattle.evidence_check.specs.ReadView.{left_of}
 use Rattle.evidence_check.specs.declared.fault.ProofText.TheVariants as faults
 use Rattle.evidence_check.proofs.Hypotheses.{as_many}
-use Rattle.evidence_check.proofs.ReadAnswers.{ListsSoFar, lists_none, lists_next, lists_stop, lists_memory, lists_done}
+use Rattle.evidence_check.proofs.ReadAnswers.{ListsSoFar, lists_none, lists_next, lists_fault, lists_done, reads_memory, reads_handed}
 use Rattle.evidence_check.proofs.document.lists.Goals as goal
 
 pub loop-c-init : goal.loop-c-init
 loop-c-init g c = record {
   left = omega arith;
-  end = refl;
-  so_far = subst (λ xs. ListsSoFar g.F.CaseNumber.numbers (content c.args.case.now) (end_at c.args.lines.now) c.args.quantity (hypotheses_of c.args.steps.now)
-      (rows_left c.args.lines.now) 0 (map (map g.F.Number.parts) xs) (rows_left c.args.lines.now)) (sym c.new-lists.ensures)
-      (lists_none g.F.CaseNumber.numbers (content c.args.case.now) (end_at c.args.lines.now) c.args.quantity (hypotheses_of c.args.steps.now)
-      (rows_left c.args.lines.now));
+  so_far = subst (λ xs. ListsSoFar (case_frame g.F.CaseNumber.numbers (content c.args.case.now)) c.args.quantity (hypotheses_of c.args.steps.now)
+      (left_of c.args.lines.now) 0 (map (map g.F.Number.parts) xs) (left_of c.args.lines.now)) (sym c.new-lists.ensures)
+      (lists_none _ c.args.quantity (hypotheses_of c.args.steps.now) (left_of c.args.lines.now));
 }
 
-pub returns-in_err-numbers-clause-fault : goal.returns-in_err-numbers-clause-fault
-returns-in_err-numbers-clause-fault g c =
+pub returns-in_err-numbers-clause-said : goal.returns-in_err-numbers-clause-said
+returns-in_err-numbers-clause-said g c = λ rest stage.
     let p : c.loop-c.c < length (content c.args.case.now).components = subst (λ n. c.loop-c.c < n) c.components-c-end.ensures.count c.loop-c-test.true in
-    handed_on c.from_residual.result c.in_err-numbers.field-0.0 _ c.from_residual.ensures.1
-    (lists_stop g.F.CaseNumber.numbers (content c.args.case.now) (end_at c.args.lines.now) c.args.quantity (hypotheses_of c.args.steps.now)
-    (rows_left c.args.lines.now) c.loop-c.c (map (map g.F.Number.parts) c.loop-c.lists) (rows_left c.loop-c.lines) p c.loop-c.invariant.so_far
-    c.in_err-numbers.field-0.0
-    (subst (λ n. NumbersStop g.F.CaseNumber.numbers (content c.args.case.now) n c.args.quantity c.loop-c.c (hypotheses_of c.args.steps.now)
-    (rows_left c.loop-c.lines) c.in_err-numbers.field-0.0) c.loop-c.invariant.end c.in_err-numbers.ensures.fault))
+    reads_handed _ _ _ _ c.from_residual.result c.in_err-numbers.field-0.0 c.from_residual.ensures.1
+    (lists_fault p c.loop-c.invariant.so_far c.in_err-numbers.field-0.0 c.in_err-numbers.ensures.said rest stage)
 
-pub returns-in_err-push-clause-fault : goal.returns-in_err-push-clause-fault
-returns-in_err-push-clause-fault g c =
-    handed_on c.from_residual-in_err-push.result faults.NoMemory _ c.from_residual-in_err-push.ensures.1
-    (lists_memory g.F.CaseNumber.numbers (content c.args.case.now) (end_at c.args.lines.now) c.args.quantity (hypotheses_of c.args.steps.now)
-    (rows_left c.args.lines.now))
+pub returns-in_err-push-clause-said : goal.returns-in_err-push-clause-said
+returns-in_err-push-clause-said g c = λ rest stage.
+    reads_handed _ _ _ _ c.from_residual-in_err-push.result faults.NoMemory c.from_residual-in_err-push.ensures.1 (reads_memory _ _ (left_of c.args.lines.now))
 
 fewer : (new cur old : ℕ) → new ≤ cur → cur ≤ old → new ≤ old
 fewer new cur old e h = omega arith
@@ -45,25 +37,16 @@ loop-c-preserved g c =
     let p : c.loop-c.c < length (content c.args.case.now).components = subst (λ n. c.loop-c.c < n) c.components-c-end.ensures.count c.loop-c-test.true in
     record {
       left = fewer (length (rows_left c.numbers.new.lines)) (length (rows_left c.loop-c.lines)) _ c.in_ok-numbers.ensures.left c.loop-c.invariant.left;
-      end = c.in_ok-numbers.ensures.end ∙ c.loop-c.invariant.end;
-      so_far = subst (λ xs. ListsSoFar g.F.CaseNumber.numbers (content c.args.case.now) (end_at c.args.lines.now) c.args.quantity
-          (hypotheses_of c.args.steps.now) (rows_left c.args.lines.now) (c.loop-c.c + 1) xs (rows_left c.numbers.new.lines))
-          (sym (ap (map (map g.F.Number.parts)) c.in_ok-push.ensures.pushed
-          ∙ map-append (map g.F.Number.parts) c.loop-c.lists (c.in_ok-numbers.field-0 ∷ [])))
-          (lists_next g.F.CaseNumber.numbers (content c.args.case.now) (end_at c.args.lines.now) c.args.quantity (hypotheses_of c.args.steps.now)
-          (rows_left c.args.lines.now) c.loop-c.c (map (map g.F.Number.parts) c.loop-c.lists) (rows_left c.loop-c.lines) p c.loop-c.invariant.so_far
-          (map g.F.Number.parts c.in_ok-numbers.field-0) (rows_left c.numbers.new.lines)
-          (length-map c.in_ok-numbers.field-0 g.F.Number.parts ∙ c.in_ok-numbers.ensures.count ∙ as_many c.args.steps.now)
-          (subst (λ n. NumbersRead g.F.CaseNumber.numbers (content c.args.case.now) n c.args.quantity c.loop-c.c (hypotheses_of c.args.steps.now)
-          (rows_left c.loop-c.lines) (map g.F.Number.parts c.in_ok-numbers.field-0) (rows_left c.numbers.new.lines)) c.loop-c.invariant.end
-          c.in_ok-numbers.ensures.found));
+      so_far = subst (λ xs. ListsSoFar (case_frame g.F.CaseNumber.numbers (content c.args.case.now)) c.args.quantity (hypotheses_of c.args.steps.now)
+          (left_of c.args.lines.now) (c.loop-c.c + 1) xs (left_of c.numbers.new.lines))
+          (sym (ap (map (map g.F.Number.parts)) c.in_ok-push.ensures.pushed ∙ map-append (map g.F.Number.parts) c.loop-c.lists
+          (c.in_ok-numbers.field-0 ∷ []))) (lists_next p c.loop-c.invariant.so_far (map g.F.Number.parts c.in_ok-numbers.field-0)
+          (left_of c.numbers.new.lines) (length-map c.in_ok-numbers.field-0 g.F.Number.parts ∙ c.in_ok-numbers.ensures.count ∙ as_many c.args.steps.now)
+          c.in_ok-numbers.ensures.said);
     }
 
-pub returns-clause-found : goal.returns-clause-found
-returns-clause-found g c =
-    lists_done g.F.CaseNumber.numbers (content c.args.case.now) (end_at c.args.lines.now) c.args.quantity (hypotheses_of c.args.steps.now)
-    (rows_left c.args.lines.now) c.loop-c.c (map (map g.F.Number.parts) c.loop-c.lists) (rows_left c.loop-c.lines)
-    (omega (arith, c.loop-c.auto.c-end, c.loop-c-test.false, c.components-c-end.ensures.count)) c.loop-c.invariant.so_far
+pub returns-clause-said : goal.returns-clause-said
+returns-clause-said g c = lists_done (omega (arith, c.loop-c.auto.c-end, c.loop-c-test.false, c.components-c-end.ensures.count)) c.loop-c.invariant.so_far
 
 pub returns-clause-full : goal.returns-clause-full
 returns-clause-full g c =
