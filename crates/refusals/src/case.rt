@@ -1,5 +1,5 @@
 //! Lines of the faults of a case.
-ghost use Rattle.std.specs.Prelude.{◌≡◌, ◌≢◌, ◌++◌, IfOk, codes};
+ghost use Rattle.std.specs.Prelude.{◌≡◌, ◌≢◌, ◌++◌, Some, IfOk, codes};
 ghost use Rattle.std.specs.Fmt.{decimal};
 ghost use Rattle.case_model.specs.declared.fault.CaseFault.TheVariants.{NoMemory as OutOfMemory};
 ghost use Rattle.refusals.specs.LinePieces.{past_limit, malformed_at};
@@ -14,9 +14,6 @@ use std::alloc::Global;
 use std::fmt;
 
 impl fmt::Display for Named<'_, PartPlace> {
-    ghost use Rattle.std.specs.Prelude.{Some};
-    ghost use Rattle.refusals.specs.CaseRefusal.{part_words};
-
     ghost output = { λ named. Some (part_words named.names.0.now named.it) };
 
     #[tactic(auto, unfolding(crate::specs::CaseRefusal::part_words))]
@@ -25,12 +22,9 @@ impl fmt::Display for Named<'_, PartPlace> {
         match self.it {
             PartPlace::Alpha => f.write_str("alpha"),
             PartPlace::Share(c) => write!(f, "share component {}", Counted(c)),
-            PartPlace::Weight(c, i) => write!(
-                f,
-                "weight of {} component {}",
-                names.of(i),
-                Counted(c)
-            ),
+            PartPlace::Weight(c, i) => {
+                write!(f, "weight of {} component {}", names.of(i), Counted(c))
+            }
             PartPlace::Edge(c, i, j) => {
                 write!(f, "edge {} {}", names.of(i), names.of(j))?;
                 write!(f, " component {}", Counted(c))
@@ -43,11 +37,8 @@ impl fmt::Display for Named<'_, PartPlace> {
     }
 }
 
-/// What is wrong with a case that is malformed. It prints as nothing where the fault is another.
+/// The fault of a case that is malformed prints as what is wrong, and any other as nothing.
 impl fmt::Display for Named<'_, CaseFault> {
-    ghost use Rattle.std.specs.Prelude.{Some};
-    ghost use Rattle.refusals.specs.CaseRefusal.{case_kind};
-
     ghost output = { λ named. Some (case_kind named.names.0.now named.it) };
 
     #[tactic(auto, unfolding(crate::specs::CaseRefusal::case_kind, crate::specs::CaseRefusal::part_words))]

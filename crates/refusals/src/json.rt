@@ -14,10 +14,7 @@ use std::alloc::Global;
 fn path_text(path: &Text) -> Result<&str, NoMemory>
     ensures { IfOk result (λ text. text.now ≡ path.now) }
 {
-    match str::from_utf8(path.as_bytes()) {
-        Ok(text) => Ok(text),
-        Err(_) => Err(NoMemory),
-    }
+    str::from_utf8(path.as_bytes()).map_err(|_| NoMemory)
 }
 
 /// Returns the refusal of JSON with this fault, by its path as it stands; `NoMemory` where the fault is, or when out of

@@ -1,6 +1,7 @@
 //! The lines of refusals.
 //!
-//! Proved: each line of a refusal, as a function of its cause.
+//! Proved: each line of a refusal, as a function of its cause. A line is UTF-8: a name or a path that isn't gives
+//! `NoMemory`. A fault that names hypotheses comes after all names are found well formed, so they are ASCII.
 #![tactic(auto)]
 
 mod case;

@@ -1,5 +1,6 @@
 //! Lines, and the words in them that several lines have.
-ghost use Rattle.std.specs.Prelude.{◌≡◌, string_bytes};
+ghost use Rattle.std.specs.Prelude.{◌≡◌, Some, string_bytes};
+ghost use Rattle.refusals.specs.LinePieces.{counted, name_at};
 
 use answers::{Cause, Refusal};
 use field_core::{List, Text};
@@ -20,14 +21,10 @@ pub fn refusal(cause: Cause, line: String) -> Refusal
 pub struct Counted(pub usize);
 
 impl fmt::Display for Counted {
-    ghost use Rattle.std.specs.Prelude.{Some};
-    ghost use Rattle.refusals.specs.LinePieces.{counted};
-
     ghost output = { λ place. Some (counted place.0) };
 
     fn fmt<W: fmt::Write>(&self, f: &mut fmt::Formatter<W>) -> fmt::Result {
-        let number = self.0 as u128 + 1;
-        write!(f, "{number}")
+        write!(f, "{}", self.0 as u128 + 1)
     }
 }
 
@@ -36,8 +33,6 @@ impl fmt::Display for Counted {
 pub struct Shown<'a>(pub &'a Text);
 
 impl fmt::Display for Shown<'_> {
-    ghost use Rattle.std.specs.Prelude.{Some};
-
     ghost output = { λ shown. Some shown.0.now };
 
     fn fmt<W: fmt::Write>(&self, f: &mut fmt::Formatter<W>) -> fmt::Result {
@@ -53,8 +48,6 @@ impl fmt::Display for Shown<'_> {
 pub struct Names<'a>(pub &'a [Text]);
 
 impl<'a> Names<'a> {
-    ghost use Rattle.std.specs.Prelude.{◌≡◌};
-
     /// Returns a hypothesis, or what names hypotheses, with the names.
     pub fn of<T: Copy>(&self, it: T) -> Named<'a, T>
         ensures { result ≡ record { names = self.now; it = it } }
@@ -72,9 +65,6 @@ pub struct Named<'a, T> {
 
 /// A hypothesis prints as its name; past the last name as its place, counted from 1.
 impl fmt::Display for Named<'_, usize> {
-    ghost use Rattle.std.specs.Prelude.{Some};
-    ghost use Rattle.refusals.specs.LinePieces.{name_at};
-
     ghost output = { λ named. Some (name_at named.names.0.now named.it) };
 
     #[tactic(auto, unfolding(crate::specs::LinePieces::name_at))]

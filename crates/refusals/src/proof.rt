@@ -1,8 +1,8 @@
 //! Lines of evidence: why it doesn't hold, and why a text says none.
-ghost use Rattle.std.specs.Prelude.{◌≡◌, IfOk, length, map};
+ghost use Rattle.std.specs.Prelude.{◌≡◌, Some, IfOk, length, map};
 ghost use Rattle.std.specs.List.{slice_get};
 ghost use Rattle.evidence_check.specs.EvidenceView.{hypotheses_of, steps_of, keeps_of};
-ghost use Rattle.refusals.specs.ProofRefusal.{part_at, no_line, proof_refusal};
+ghost use Rattle.refusals.specs.ProofRefusal.{part_at, part_words, name_or_place, reason_words, no_line, proof_refusal};
 
 use crate::line::{Counted, Named, Names};
 use crate::text::malformed_at;
@@ -80,9 +80,6 @@ pub fn part_at(proof: &Evidence, n: usize) -> ProofPart
 }
 
 impl fmt::Display for Named<'_, ProofPart> {
-    ghost use Rattle.std.specs.Prelude.{Some};
-    ghost use Rattle.refusals.specs.ProofRefusal.{part_words};
-
     ghost output = { λ named. Some (part_words named.names.0.now named.it) };
 
     #[tactic(auto, unfolding(crate::specs::ProofRefusal::part_words))]
@@ -104,11 +101,6 @@ struct StepAt<'a> {
 }
 
 impl fmt::Display for StepAt<'_> {
-    ghost use Rattle.std.specs.Prelude.{Some, map};
-    ghost use Rattle.std.specs.List.{slice_get};
-    ghost use Rattle.evidence_check.specs.EvidenceView.{steps_of};
-    ghost use Rattle.refusals.specs.ProofRefusal.{name_or_place};
-
     ghost output = { λ step. Some (name_or_place step.names.0.now step.place (slice_get (map (λ s. s.hypothesis) (steps_of step.proof.now)) step.place)) };
 
     fn fmt<W: fmt::Write>(&self, f: &mut fmt::Formatter<W>) -> fmt::Result {
@@ -128,8 +120,6 @@ struct Broken<'a> {
 }
 
 impl<'a> Broken<'a> {
-    ghost use Rattle.std.specs.Prelude.{◌≡◌};
-
     /// Returns the step at a place.
     fn step(&self, place: usize) -> StepAt<'a>
         ensures { result ≡ record { names = self.now.names; proof = self.now.proof; place = place } }
@@ -143,10 +133,6 @@ impl<'a> Broken<'a> {
 }
 
 impl fmt::Display for Broken<'_> {
-    ghost use Rattle.std.specs.Prelude.{Some, map};
-    ghost use Rattle.evidence_check.specs.EvidenceView.{steps_of};
-    ghost use Rattle.refusals.specs.ProofRefusal.{reason_words};
-
     ghost output = { λ it. Some (reason_words it.names.0.now (map (λ s. s.hypothesis) (steps_of it.proof.now)) it.reason) };
 
     #[tactic(auto, unfolding(crate::specs::ProofRefusal::reason_words))]

@@ -1,7 +1,7 @@
 //! Lines of operations that have a part past its size.
-ghost use Rattle.std.specs.Prelude.{◌≡◌, IfOk};
+ghost use Rattle.std.specs.Prelude.{◌≡◌, Some, IfOk};
 ghost use Rattle.field_core.specs.NumberedSets.{members};
-ghost use Rattle.refusals.specs.WideRefusal.{op_words, wide_refusal};
+ghost use Rattle.refusals.specs.WideRefusal.{names_of_members, when_words, place_words, op_words, wide_refusal};
 
 use crate::line::{Counted, Named, Names, Shown, refusal};
 use crate::proof::ProofPart;
@@ -44,9 +44,6 @@ struct Members<'a> {
 }
 
 impl fmt::Display for Members<'_> {
-    ghost use Rattle.std.specs.Prelude.{Some};
-    ghost use Rattle.refusals.specs.WideRefusal.{names_of_members};
-
     ghost output = { λ it. Some (names_of_members it.set 0 it.names.0.now) };
 
     fn fmt<W: fmt::Write>(&self, f: &mut fmt::Formatter<W>) -> fmt::Result {
@@ -60,9 +57,6 @@ impl fmt::Display for Members<'_> {
 }
 
 impl fmt::Display for Named<'_, When> {
-    ghost use Rattle.std.specs.Prelude.{Some};
-    ghost use Rattle.refusals.specs.WideRefusal.{when_words};
-
     ghost output = { λ named. Some (when_words named.names.0.now named.it) };
 
     #[tactic(auto, unfolding(crate::specs::WideRefusal::when_words))]
@@ -84,9 +78,6 @@ impl fmt::Display for Named<'_, When> {
 }
 
 impl fmt::Display for Named<'_, Place> {
-    ghost use Rattle.std.specs.Prelude.{Some};
-    ghost use Rattle.refusals.specs.WideRefusal.{place_words};
-
     ghost output = { λ named. Some (place_words named.names.0.now named.it) };
 
     #[tactic(auto, unfolding(crate::specs::WideRefusal::place_words))]
