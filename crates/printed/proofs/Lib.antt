@@ -6,6 +6,7 @@ pub mod RulesDecide
 pub mod SetNumbers
 pub mod SetsOnce
 pub mod SimesPrinted
+pub mod StudyPrinted
 pub mod WeightsPrinted
 pub mod WholeDrafts
 pub mod WholeJson

@@ -3,4 +3,5 @@ pub mod Canon
 pub mod Catalogue
 pub mod Sets
 pub mod Simes
+pub mod Study
 pub mod Weights

@@ -3,6 +3,7 @@ ghost use Rattle.printed.specs.Bounds.{BoundsAreOfTheClosedTest};
 ghost use Rattle.printed.specs.Canon.{CanonIsReadAsTheCase, CanonTellsCasesApart};
 ghost use Rattle.printed.specs.Catalogue.{CatalogueIsOfTheNamedGraphs};
 ghost use Rattle.printed.specs.Simes.{SimesReportsAreOfTheSimesTest};
+ghost use Rattle.printed.specs.Study.{StudiesAreOfTheStagedTest};
 ghost use Rattle.printed.specs.Weights.{WeightsAreOfTheIntersections};
 
 /// What `canon` prints in a form with status 0 is read in that form as the case that was read, and as no other. Two cases
@@ -33,4 +34,11 @@ pub fn bounds_are_of_the_closed_test()
 /// the closed test decides as the rule.
 pub fn catalogue_is_of_the_named_graphs()
     ensures { CatalogueIsOfTheNamedGraphs }
+{}
+
+/// What `study` prints with status 0 is the report of the replies to its commands. Each line `show` names exactly what the
+/// staged closed test rejects on the looks that are kept by then. The lines `reject` after a look name what the test rejects
+/// with it, beyond what it rejected before.
+pub fn studies_are_of_the_staged_test()
+    ensures { StudiesAreOfTheStagedTest }
 {}

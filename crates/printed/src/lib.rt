@@ -1,5 +1,5 @@
-//! What the program prints, by laws over words and bytes: of `canon`, `simes`, `weights`, `bounds` and `catalogue`. The laws
-//! of `test`, `sample`, `stages`, `check` and `evidence` are in `graph_cli`.
+//! What the program prints, by laws over words and bytes: of `canon`, `simes`, `weights`, `bounds`, `catalogue` and `study`.
+//! The laws of `test`, `sample`, `stages`, `check` and `evidence` are in `graph_cli`.
 //!
 //! Proved, for each answer with status 0:
 //! - `canon_is_read_as_the_case`: what `canon` prints in a form is read in that form as the case that was read, and as no
@@ -13,6 +13,9 @@
 //!   hypotheses in its set.
 //! - `catalogue_is_of_the_named_graphs`: what `catalogue` prints is read as the case of the named graph. On the cases of
 //!   Holm's graph, of fixed sequences and of fallback the closed test decides as the textbook rule, and is never too wide.
+//! - `studies_are_of_the_staged_test`: what `study` prints is the report of the replies to its commands. Each line `show`
+//!   names exactly what the staged closed test rejects on the looks that are kept by then. The lines `reject` after a look
+//!   name what the test rejects with it, beyond what it rejected before.
 #![tactic(auto)]
 
 pub mod laws;
