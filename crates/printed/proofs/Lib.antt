@@ -1,0 +1,14 @@
+pub mod BoundsPrinted
+pub mod CanonReadBack
+pub mod CataloguePrinted
+pub mod NamedGraphs
+pub mod RulesDecide
+pub mod SetNumbers
+pub mod SetsOnce
+pub mod SimesPrinted
+pub mod StudyPrinted
+pub mod WeightsPrinted
+pub mod WholeDrafts
+pub mod WholeJson
+pub mod WholeTexts
+pub mod WholeValues

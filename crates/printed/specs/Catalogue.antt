@@ -1,0 +1,69 @@
+-- What `catalogue` prints is read as the case of the named graph, on which the closed test decides as the rule of the textbooks.
+use Rattle.std.specs.Prelude.{◌≡◌, ◌↔◌, ◌+◌, ℕ, List, Option, Ok}
+use Rattle.field_core.specs.Fractions.{one_over}
+use Rattle.field_core.specs.Number.{Number}
+use Rattle.field_core.specs.declared.ratio.Ratio.{Ratio}
+use Rattle.fraction.specs.View.{number_of}
+use Rattle.answers.specs.declared.answer.Answer.{Answer}
+use Rattle.answers.specs.declared.status.Status.TheVariants.{Done}
+use Rattle.answers.specs.Stages.{IsAnswerOf}
+use Rattle.case_model.specs.Content.{Content, IsRejectedIn, entangled}
+use Rattle.case_model.specs.Sums.{number_at}
+use Rattle.case_model.specs.TextbookGraphs.{IsHolmGraph, IsSequenceGraph, IsFallbackGraph}
+use Rattle.case_model.specs.TextbookRules.{IsHolmRejected, IsSequenceRejected, IsFallbackRejected}
+use Rattle.case_model.specs.Validity.{IsValidContent}
+use Rattle.case_model.specs.declared.inputs.Inputs.TheVariants.{Bare, Single}
+use Rattle.catalogue.specs.WeightedGraphs.{names_of}
+use Rattle.command_words.specs.Asked.{catalogue}
+use Rattle.command_words.specs.declared.form.Form.TheVariants.{Text}
+use Rattle.command_words.specs.declared.graph_name.SizedGraph.{SizedGraph}
+use Rattle.command_words.specs.declared.graph_name.SizedGraph.TheVariants.{Holm, FixedSequence, Fallback, Parallel, ImprovedParallel}
+use Rattle.textbook.specs.DefinedDecisions.{IsNeverWide}
+use Rattle.graph_cli.specs.Graphs.{named_case}
+use Rattle.graph_cli.specs.Outcome.{AskFor, outcome}
+use Rattle.printed.specs.Canon.{IsReadAs}
+
+-- how many hypotheses a named graph has
+abbrev pub graph_size : SizedGraph → ℕ
+graph_size (Holm n) = n
+graph_size (FixedSequence n) = n
+graph_size (Fallback n) = n
+graph_size (Parallel a b) = a + b
+graph_size (ImprovedParallel a b) = a + b
+
+-- the level of named graphs, 1/20
+abbrev pub twentieth : Number
+twentieth = one_over 20
+
+-- the case with these p-values in place of its own
+abbrev pub with_p_values : List Ratio → Content → Content
+with_p_values ps c = record { names = c.names; alpha = c.alpha; components = c.components; inputs = Single ps }
+
+-- On the case with p-values, whichever these are, the closed test rejects exactly the hypotheses that a rule rejects, and nothing is too wide.
+pub record DecidesBy (Rejects : (ℕ → Number) → ℕ → Type 0) (c : Content) : Type 0 where
+  pub rejects : (ps : List Ratio) → IsValidContent (with_p_values ps c) → (j : ℕ) → IsRejectedIn (with_p_values ps c) j ↔ Rejects (number_at ps) j
+  pub never_wide : (ps : List Ratio) → IsValidContent (with_p_values ps c) → IsNeverWide (with_p_values ps c)
+
+-- The case has the graph of the textbooks, and is decided by their rule at the level 1/20. Fallback has equal weights. The gatekeeping graphs have no
+-- such rule.
+abbrev pub HasItsRule : SizedGraph → Content → Type 0
+HasItsRule (Holm n) c = IsHolmGraph (entangled c) × DecidesBy (λ p. IsHolmRejected p twentieth n) c
+HasItsRule (FixedSequence n) c = IsSequenceGraph (entangled c) × DecidesBy (λ p. IsSequenceRejected p twentieth n) c
+HasItsRule (Fallback n) c = IsFallbackGraph (λ i. one_over n) (entangled c) × DecidesBy (λ p. IsFallbackRejected p twentieth n (λ i. one_over n)) c
+HasItsRule (Parallel a b) c = Unit {0}
+HasItsRule (ImprovedParallel a b) c = Unit {0}
+
+-- The text is read as the case of a named graph: with its size, its weights and edges, at the level 1/20, and without p-values.
+pub record PrintsNamedGraph (graph : SizedGraph) (printed : List ℕ) : Type 0 where
+  pub case : Content
+  pub read : IsReadAs Text case printed
+  pub made : named_case graph ≡ Ok case
+  pub names : case.names ≡ names_of (graph_size graph)
+  pub level : number_of case.alpha ≡ twentieth
+  pub bare : case.inputs ≡ Bare
+  pub rule : HasItsRule graph case
+
+-- what words that ask for `catalogue` are answered with status 0 is read as the case of the named graph
+abbrev pub CatalogueIsOfTheNamedGraphs : Type 0
+CatalogueIsOfTheNamedGraphs = (words : List (List ℕ)) (graph : SizedGraph) (case proof : Option (List ℕ)) (a : Answer)
+    → AskFor words (catalogue graph) → IsAnswerOf (outcome words case proof) a → a.status ≡ Done → PrintsNamedGraph graph a.text

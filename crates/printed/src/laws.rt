@@ -1,0 +1,44 @@
+//! Laws of what is printed. Each function states laws, and does nothing.
+ghost use Rattle.printed.specs.Bounds.{BoundsAreOfTheClosedTest};
+ghost use Rattle.printed.specs.Canon.{CanonIsReadAsTheCase, CanonTellsCasesApart};
+ghost use Rattle.printed.specs.Catalogue.{CatalogueIsOfTheNamedGraphs};
+ghost use Rattle.printed.specs.Simes.{SimesReportsAreOfTheSimesTest};
+ghost use Rattle.printed.specs.Study.{StudiesAreOfTheStagedTest};
+ghost use Rattle.printed.specs.Weights.{WeightsAreOfTheIntersections};
+
+/// What `canon` prints in a form with status 0 is read in that form as the case that was read, and as no other. Two cases
+/// have the same text in a form exactly if they are the same case; a sheet doesn't hold its level.
+pub fn canon_is_read_as_the_case()
+    ensures back { CanonIsReadAsTheCase }
+    ensures apart { CanonTellsCasesApart }
+{}
+
+/// What `simes` prints with status 0 names as rejected exactly the hypotheses that the closed test of weighted Simes tests
+/// rejects. It has one line for each set that isn't empty, with its bound by that test.
+pub fn simes_reports_are_of_the_simes_test()
+    ensures { SimesReportsAreOfTheSimesTest }
+{}
+
+/// What `weights` prints with status 0 has one line for each set that isn't empty, with the weights of its members in the
+/// intersection. By whatever p-values and level, the closed test can be done by them.
+pub fn weights_are_of_the_intersections()
+    ensures { WeightsAreOfTheIntersections }
+{}
+
+/// What `bounds` prints with status 0 has one line for each set that isn't empty, with its bound by the closed test.
+pub fn bounds_are_of_the_closed_test()
+    ensures { BoundsAreOfTheClosedTest }
+{}
+
+/// What `catalogue` prints with status 0 is read as the case of the named graph. On the cases of graphs with a textbook rule
+/// the closed test decides as the rule.
+pub fn catalogue_is_of_the_named_graphs()
+    ensures { CatalogueIsOfTheNamedGraphs }
+{}
+
+/// What `study` prints with status 0 is the report of the replies to its commands. Each line `show` names exactly what the
+/// staged closed test rejects on the looks that are kept by then. The lines `reject` after a look name what the test rejects
+/// with it, beyond what it rejected before.
+pub fn studies_are_of_the_staged_test()
+    ensures { StudiesAreOfTheStagedTest }
+{}

@@ -1,0 +1,21 @@
+//! What the program prints, by laws over words and bytes: of `canon`, `simes`, `weights`, `bounds`, `catalogue` and `study`.
+//! The laws of `test`, `sample`, `stages`, `check` and `evidence` are in `graph_cli`.
+//!
+//! Proved, for each answer with status 0:
+//! - `canon_is_read_as_the_case`: what `canon` prints in a form is read in that form as the case that was read, and as no
+//!   other. Two cases have the same text in a form exactly if they are the same case. (A sheet doesn't hold its level.)
+//! - `simes_reports_are_of_the_simes_test`: what `simes` prints names as rejected exactly the hypotheses that the closed test
+//!   of weighted Simes tests rejects. It has one line for each set that isn't empty, with its bound by that test.
+//! - `weights_are_of_the_intersections`: what `weights` prints has one line for each set that isn't empty, with the weights
+//!   of its members in the intersection. By whatever p-values and level, these weights suffice for the closed test.
+//! - `bounds_are_of_the_closed_test`: what `bounds` prints has one line for each set that isn't empty, with its bound by the
+//!   closed test. If the closed test doesn't reject the set of the true hypotheses, no bound is above the number of false
+//!   hypotheses in its set.
+//! - `catalogue_is_of_the_named_graphs`: what `catalogue` prints is read as the case of the named graph. On the cases of
+//!   Holm's graph, of fixed sequences and of fallback the closed test decides as the textbook rule, and is never too wide.
+//! - `studies_are_of_the_staged_test`: what `study` prints is the report of the replies to its commands. Each line `show`
+//!   names exactly what the staged closed test rejects on the looks that are kept by then. The lines `reject` after a look
+//!   name what the test rejects with it, beyond what it rejected before.
+#![tactic(auto)]
+
+pub mod laws;
