@@ -14,8 +14,8 @@ use Rattle.case_model.specs.LegalOrder.{IsListed}
 use Rattle.case_model.specs.StagedCase.{IsStagedRejectedIn}
 use Rattle.staged_levels.specs.declared.event.Settled.{Settled}
 use Rattle.staged_levels.specs.Studies.{StudyState, start, positions_of}
-use Rattle.study_commands.specs.declared.command.StudyCommand.{StudyCommand}
-use Rattle.study_commands.specs.declared.command.StudyCommand.TheVariants.{Take, Show}
+use Rattle.study_answers.specs.declared.command.StudyCommand.{StudyCommand}
+use Rattle.study_answers.specs.declared.command.StudyCommand.TheVariants.{Take, Show}
 use Rattle.study_register.specs.Looking.{arrival_of, arrivals_of, AreTaken, Follows}
 use Rattle.study_register.proofs.TakenLooks.{follows_on, taken_looks_decide}
 use Rattle.study_register.proofs.OneEnd.{reopenings_agree}

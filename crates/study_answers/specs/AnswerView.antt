@@ -6,7 +6,7 @@ use Rattle.answers.specs.declared.answer.Answer.{Answer}
 use Rattle.case_model.specs.Content.{Content}
 use Rattle.report.specs.StudyReport.{Reply, reply_lines}
 use Rattle.staged_levels.specs.Studies.{StudyState}
-use Rattle.study_commands.specs.declared.command.StudyCommand.{StudyCommand}
+use Rattle.study_answers.specs.declared.command.StudyCommand.{StudyCommand}
 use Rattle.study_register.specs.Looking.{AreTaken}
 use Rattle.study_answers.specs.declared.replying.CommandStop.{CommandStop}
 use Rattle.study_answers.specs.declared.replying.CommandStop.TheVariants.{Wide, Fault, NoMemory}

@@ -14,7 +14,7 @@ use Rattle.refusals.specs.declared.wide.When.TheVariants.{Look as AfterLook}
 use Rattle.report.specs.StudyReport.{Reply, study_report}
 use Rattle.staged_levels.specs.Looks.{IsDefined}
 use Rattle.staged_levels.specs.Studies.{StudyState, start}
-use Rattle.study_commands.specs.declared.command.StudyCommand.{StudyCommand}
+use Rattle.study_answers.specs.declared.command.StudyCommand.{StudyCommand}
 use Rattle.study_register.specs.declared.fault.RegisterFault.{RegisterFault}
 use Rattle.study_register.specs.declared.fault.RegisterFault.TheVariants.{BadLook, Wide, Fault, NoMemory}
 use Rattle.study_register.specs.Looking.{AreTaken}

@@ -14,9 +14,9 @@ use Rattle.graph_cli.specs.Accepted.{accepted}
 use Rattle.graph_cli.specs.Outcome.{AskStudy}
 use Rattle.graph_cli.specs.declared.kind.InputKind.TheVariants.{Awaited}
 use Rattle.graph_cli.specs.declared.needs.Needs.{Needs}
-use Rattle.study_commands.specs.CommandLines.{AreCommands}
-use Rattle.study_commands.specs.CommandFaults.{IsFirstFault}
-use Rattle.study_commands.specs.declared.command.StudyCommand.{StudyCommand}
+use Rattle.study_answers.specs.CommandLines.{AreCommands}
+use Rattle.study_answers.specs.CommandFaults.{IsFirstFault}
+use Rattle.study_answers.specs.declared.command.StudyCommand.{StudyCommand}
 use Rattle.study_answers.specs.AnswerView.{MayKeep}
 use Rattle.study_answers.specs.StudyStages.{StudyEnd, HasOpening, study_stage, on_looks}
 

@@ -8,8 +8,8 @@ use Rattle.edge_text.specs.declared.fault.LineKind.{LineKind}
 use Rattle.edge_text.specs.declared.fault.LineKind.TheVariants.{Unexpected, WordCount}
 use Rattle.edge_text.specs.Grammar.{Words}
 use Rattle.edge_text.specs.WordReading.{behind, arrival}
-use Rattle.study_commands.specs.declared.command.StudyCommand.{StudyCommand}
-use Rattle.study_commands.specs.declared.command.StudyCommand.TheVariants.{Take, Show}
+use Rattle.study_answers.specs.declared.command.StudyCommand.{StudyCommand}
+use Rattle.study_answers.specs.declared.command.StudyCommand.TheVariants.{Take, Show}
 
 -- the look of a p-value that arrives
 abbrev pub look_of : Arrival → Look

@@ -5,10 +5,10 @@ ghost use Rattle.field_core.specs.Answers.{IsUnless, told_as};
 ghost use Rattle.case_model.specs.CaseView.{content};
 ghost use Rattle.text_lines.specs.Languages.{reading};
 ghost use Rattle.text_lines.specs.Lines.{rows_of, end_of};
-ghost use Rattle.study_commands.specs.CommandLanguage.{commands};
-ghost use Rattle.study_commands.specs.CommandLines.{AreCommands, IsBelow};
-ghost use Rattle.study_commands.specs.CommandFaults.{IsCommandsFault, on_line};
-ghost use Rattle.study_commands.specs.declared.fault.CommandsFault.TheVariants.{NoMemory};
+ghost use Rattle.study_answers.specs.CommandLanguage.{commands};
+ghost use Rattle.study_answers.specs.CommandLines.{AreCommands, IsBelow};
+ghost use Rattle.study_answers.specs.CommandFaults.{IsCommandsFault, on_line};
+ghost use Rattle.study_answers.specs.declared.fault.CommandsFault.TheVariants.{NoMemory};
 
 use crate::{CommandsFault, StudyCommand, rules};
 use case_model::Case;

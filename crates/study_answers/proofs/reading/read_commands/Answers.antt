@@ -1,6 +1,6 @@
 use Rattle.case_model.specs.CaseView.{content}
-use Rattle.study_commands.proofs.CommandReads.{read_found, read_below, read_fault}
-use Rattle.study_commands.proofs.reading.read_commands.Goals as goal
+use Rattle.study_answers.proofs.CommandReads.{read_found, read_below, read_fault}
+use Rattle.study_answers.proofs.reading.read_commands.Goals as goal
 
 pub returns-clause-found : goal.returns-clause-found
 returns-clause-found c = read_found (content c.args.case.now).names c.args.bytes.now c.read.result c.read.ensures

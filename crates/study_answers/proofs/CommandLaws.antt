@@ -3,9 +3,9 @@ use Rattle.std.proofs.Common.{ℕ, inl, inr, List, [], ap}
 use Rattle.text_lines.specs.LanguageStatements.{HaveOneReading}
 use Rattle.text_lines.specs.Lines.{rows_of, texts_in, end_of}
 use Rattle.text_lines.proofs.LanguageLaws.{one_reading}
-use Rattle.study_commands.specs.CommandLanguage.{commands}
-use Rattle.study_commands.specs.CommandStatements.{TextsSayOneList, TextsHaveOneFault, TextsSayOrFail, TextsDontSayAndFail}
-use Rattle.study_commands.proofs.CommandReads.{commands_said, said_commands}
+use Rattle.study_answers.specs.CommandLanguage.{commands}
+use Rattle.study_answers.specs.CommandStatements.{TextsSayOneList, TextsHaveOneFault, TextsSayOrFail, TextsDontSayAndFail}
+use Rattle.study_answers.proofs.CommandReads.{commands_said, said_commands}
 
 reading_of : (names : List (List ℕ)) (bytes : List ℕ) → HaveOneReading (commands names) [] (rows_of bytes) (end_of bytes)
 reading_of names bytes = one_reading (commands names) [] (rows_of bytes) (end_of bytes)

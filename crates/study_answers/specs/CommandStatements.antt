@@ -3,10 +3,10 @@ use Rattle.std.specs.Prelude.{◌≡◌, ◌⊎◌, ℕ, List, []}
 use Rattle.std.specs.List.{AllZip}
 use Rattle.edge_text.specs.declared.fault.LineKind.{LineKind}
 use Rattle.text_lines.specs.Languages.{IsDocument}
-use Rattle.study_commands.specs.CommandLanguage.{commands}
-use Rattle.study_commands.specs.CommandLines.{AreCommands, IsCommandLine}
-use Rattle.study_commands.specs.CommandFaults.{IsFirstFault}
-use Rattle.study_commands.specs.declared.command.StudyCommand.{StudyCommand}
+use Rattle.study_answers.specs.CommandLanguage.{commands}
+use Rattle.study_answers.specs.CommandLines.{AreCommands, IsCommandLine}
+use Rattle.study_answers.specs.CommandFaults.{IsFirstFault}
+use Rattle.study_answers.specs.declared.command.StudyCommand.{StudyCommand}
 
 -- a text says at most one list of commands
 abbrev pub TextsSayOneList : Type 0

@@ -2,8 +2,8 @@ use Rattle.std.proofs.Common.{◌≡◌, []}
 use Rattle.case_model.specs.CaseView.{content}
 use Rattle.text_lines.specs.Languages.{reading}
 use Rattle.text_lines.specs.Lines.{rows_of, end_of, rows_left}
-use Rattle.study_commands.specs.CommandLanguage.{commands}
-use Rattle.study_commands.proofs.reading.read.Given as goal
+use Rattle.study_answers.specs.CommandLanguage.{commands}
+use Rattle.study_answers.proofs.reading.read.Given as goal
 
 abbrev pub invariant-loop-line : goal.invariant-loop-line
 invariant-loop-line l =

@@ -1,8 +1,8 @@
 use Rattle.std.proofs.Common.{arith}
 use Rattle.case_model.specs.CaseView.{content}
 use Rattle.case_model.proofs.CaseFacts.{names_few}
-use Rattle.study_commands.proofs.Looks.{place_below}
-use Rattle.study_commands.proofs.rules.look.Goals as goal
+use Rattle.study_answers.proofs.LookPlaces.{place_below}
+use Rattle.study_answers.proofs.rules.look.Goals as goal
 
 pub overflow_cast-result : goal.overflow_cast-result
 overflow_cast-result c =

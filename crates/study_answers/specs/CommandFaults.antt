@@ -4,9 +4,9 @@ use Rattle.edge_text.specs.declared.fault.LineKind.{LineKind}
 use Rattle.text_lines.specs.Languages.{FaultAt}
 use Rattle.text_lines.specs.LanguageStatements.{HasFault}
 use Rattle.text_lines.specs.Lines.{rows_of, end_of}
-use Rattle.study_commands.specs.CommandLanguage.{commands}
-use Rattle.study_commands.specs.declared.fault.CommandsFault.{CommandsFault}
-use Rattle.study_commands.specs.declared.fault.CommandsFault.TheVariants.{Line, NoMemory}
+use Rattle.study_answers.specs.CommandLanguage.{commands}
+use Rattle.study_answers.specs.declared.fault.CommandsFault.{CommandsFault}
+use Rattle.study_answers.specs.declared.fault.CommandsFault.TheVariants.{Line, NoMemory}
 
 -- the first line of a text that says no command, counted from 1 over all lines, and what is wrong with it
 abbrev pub IsFirstFault : List (List ℕ) → List ℕ → ℕ → LineKind → Type 0

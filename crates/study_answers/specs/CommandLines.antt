@@ -6,8 +6,8 @@ use Rattle.case_model.specs.declared.draft_stages.Arrival.{Arrival}
 use Rattle.text_lines.specs.Lines.{rows_of, texts_in}
 use Rattle.text_lines.specs.Words.{words_of}
 use Rattle.edge_text.specs.Grammar.{IsLineOf, IsArrival}
-use Rattle.study_commands.specs.declared.command.StudyCommand.{StudyCommand}
-use Rattle.study_commands.specs.declared.command.StudyCommand.TheVariants.{Take, Show}
+use Rattle.study_answers.specs.declared.command.StudyCommand.{StudyCommand}
+use Rattle.study_answers.specs.declared.command.StudyCommand.TheVariants.{Take, Show}
 
 -- the p-value of a look, as one that arrives
 abbrev pub arrival_of : Look → Arrival

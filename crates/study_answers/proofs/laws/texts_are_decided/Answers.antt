@@ -1,5 +1,5 @@
-use Rattle.study_commands.proofs.CommandLaws.{texts_say_one_list, texts_have_one_fault, texts_say_or_fail, texts_dont_say_and_fail}
-use Rattle.study_commands.proofs.laws.texts_are_decided.Goals as goal
+use Rattle.study_answers.proofs.CommandLaws.{texts_say_one_list, texts_have_one_fault, texts_say_or_fail, texts_dont_say_and_fail}
+use Rattle.study_answers.proofs.laws.texts_are_decided.Goals as goal
 
 pub returns-clause-commands : goal.returns-clause-commands
 returns-clause-commands c = texts_say_one_list

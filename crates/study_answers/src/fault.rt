@@ -13,7 +13,7 @@ pub enum CommandsFault {
 
 impl From<NoMemory> for CommandsFault {
     ghost use Rattle.std.specs.Prelude.{◌≡◌};
-    ghost use Rattle.study_commands.specs.declared.fault.CommandsFault.TheVariants.{NoMemory as OutOfMemory};
+    ghost use Rattle.study_answers.specs.declared.fault.CommandsFault.TheVariants.{NoMemory as OutOfMemory};
 
     ghost from_gives = { λ _ fault. fault ≡ OutOfMemory };
 

@@ -16,15 +16,15 @@ use Rattle.edge_text.specs.Grammar.{Words, IsArrival}
 use Rattle.edge_text.specs.WordReading.{arrival}
 use Rattle.edge_text.proofs.Leaves.{arrival_said, arrival_is}
 use Rattle.edge_text.proofs.LinesTaken.{here, past, said, taken, reads, none}
-use Rattle.study_commands.specs.declared.command.StudyCommand.{StudyCommand}
-use Rattle.study_commands.specs.declared.command.StudyCommand.TheVariants.{Take, Show}
-use Rattle.study_commands.specs.declared.fault.CommandsFault.{CommandsFault}
-use Rattle.study_commands.specs.declared.fault.CommandsFault.TheVariants.{Line, NoMemory}
-use Rattle.study_commands.specs.CommandFaults.{IsCommandsFault, on_line}
-use Rattle.study_commands.specs.CommandLanguage.{look_of, look, show, command, commands}
-use Rattle.study_commands.specs.CommandLines.{arrival_of, IsCommandLine, AreCommands, IsBelow}
-use Rattle.study_commands.specs.CommandStatements.{CommandsAreSaid, SaidAreCommands}
-use Rattle.study_commands.proofs.Looks.{place_below}
+use Rattle.study_answers.specs.declared.command.StudyCommand.{StudyCommand}
+use Rattle.study_answers.specs.declared.command.StudyCommand.TheVariants.{Take, Show}
+use Rattle.study_answers.specs.declared.fault.CommandsFault.{CommandsFault}
+use Rattle.study_answers.specs.declared.fault.CommandsFault.TheVariants.{Line, NoMemory}
+use Rattle.study_answers.specs.CommandFaults.{IsCommandsFault, on_line}
+use Rattle.study_answers.specs.CommandLanguage.{look_of, look, show, command, commands}
+use Rattle.study_answers.specs.CommandLines.{arrival_of, IsCommandLine, AreCommands, IsBelow}
+use Rattle.study_answers.specs.CommandStatements.{CommandsAreSaid, SaidAreCommands}
+use Rattle.study_answers.proofs.LookPlaces.{place_below}
 
 module _ (names : Words) where
   -- ---- lines

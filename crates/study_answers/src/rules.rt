@@ -4,8 +4,8 @@ ghost use Rattle.field_core.specs.Answers.{told_as};
 ghost use Rattle.case_model.specs.CaseView.{content};
 ghost use Rattle.edge_text.specs.WordReading.{numeral, whole};
 ghost use Rattle.text_lines.specs.Words.{words_of};
-ghost use Rattle.study_commands.specs.CommandLanguage.{look, show, command};
-ghost use Rattle.study_commands.specs.declared.fault.CommandsFault.TheVariants as faults;
+ghost use Rattle.study_answers.specs.CommandLanguage.{look, show, command};
+ghost use Rattle.study_answers.specs.declared.fault.CommandsFault.TheVariants as faults;
 
 use crate::{CommandsFault, StudyCommand};
 use case_model::Case;
