@@ -61,7 +61,7 @@ fn commands_in(alloc: Global, case: &Case, bytes: &[u8]) -> Result<List<StudyCom
 #[tactic(auto, unfolding(crate::specs::StudyOutcome::study_call))]
 fn study_call<S: Source, T: Source, K: Keeper>(
     alloc: Global,
-    call: &StudyCall,
+    call: &StudyCall<'_>,
     case: &mut S,
     commands: &mut T,
     keeper: &mut K,
