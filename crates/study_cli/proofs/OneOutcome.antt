@@ -1,5 +1,5 @@
 -- Words, a case, commands and kept looks have one outcome.
-use Rattle.std.proofs.Common.{◌≡◌, ap₂, ◌∙◌, sym, ℕ, List, Some}
+use Rattle.std.proofs.Common.{ap₂, ◌∙◌, sym, ℕ, List, Some}
 use Rattle.graph_io.specs.declared.keeper.Look.{Look}
 use Rattle.answers.specs.Stages.{IsDecided}
 use Rattle.answers.proofs.Decided.{then_decided, told_as_decided, within_decided}
