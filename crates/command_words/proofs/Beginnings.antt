@@ -1,31 +1,17 @@
 -- Words that begin with pieces, piece by piece.
 use Rattle.std.proofs.Common.{◌≡◌, ◌<◌, ◌≤◌, ◌+◌, ◌-◌, ℕ, zero, suc, List, [], ◌∷◌, ◌++◌, Some, None, length, take, drop}
-use Rattle.std.proofs.Common.{map, get_or, refl, sym, ap, ◌∙◌, subst, arith, append_assoc, append-nil, add-one, length-append, length-drop, String}
+use Rattle.std.proofs.Common.{map, get_or, refl, sym, ap, ◌∙◌, subst, arith, append_assoc, add-one, length-append, length-drop, String}
 use Rattle.std.proofs.Common.{Global}
 use Rattle.std.specs.Prelude.{string_bytes}
 use Rattle.std.specs.List.{flat_map, slice_get}
 use Rattle.std.proofs.lemmas.Grind.{common_steps}
 use Rattle.std.proofs.lemmas.List.{take_rest, length-map}
-use Rattle.command_words.specs.Given.{GivenContent, nothing}
-use Rattle.command_words.specs.Words.{Piece, joined, apart, bare, spelled, MayStand, Stand, with_piece, Begin, IsStep}
+use Rattle.command_words.specs.Choices.{Chosen}
+use Rattle.command_words.specs.Given.{GivenContent, with_chosen}
+use Rattle.command_words.specs.Words.{Piece, joined, apart, bare, spelled, Stand, with_piece, Begin, IsBadPiece, IsStep}
 use Rattle.command_words.specs.declared.verb.Verb.{Verb}
 
 -- ---- pieces
-
-spelled_all : (ps : List Piece) (p : Piece) → flat_map spelled (ps ++ p ∷ []) ≡ flat_map spelled ps ++ spelled p
-spelled_all [] p = append-nil (spelled p)
-spelled_all (q ∷ ps) p = ap (λ xs. spelled q ++ xs) (spelled_all ps p) ∙ sym (append_assoc (spelled q) (flat_map spelled ps) (spelled p))
-
-stand_more : (verb : Verb) (at : ℕ) (given all : GivenContent) (ps : List Piece) (p : Piece) (to : ℕ) → Stand verb at given ps all → MayStand verb all p
-    → to ≡ at + length (flat_map spelled ps) → Stand verb at given (ps ++ p ∷ []) (with_piece to all p)
-stand_more verb at given all [] p to h m e =
-    let same : to ≡ at = omega (arith, e) in
-    (subst (λ g. MayStand verb g p) h m, ap (λ g. with_piece to g p) h ∙ ap (λ n. with_piece n given p) same)
-stand_more verb at given all (q ∷ ps) p to h m e = (
-  h.0,
-  stand_more verb (at + length (spelled q)) (with_piece at given q) all ps p to h.1 m
-      (e ∙ omega (arith, length-append (spelled q) (flat_map spelled ps))),
-)
 
 some_width : (p : Piece) → 1 ≤ length (spelled p)
 some_width (joined choice text) = omega arith
@@ -33,9 +19,9 @@ some_width (apart choice text) = omega arith
 some_width (bare choice text) = omega arith
 
 -- a step is at least one word wide
-pub step_width : (verb : Verb) (at : ℕ) (given now : GivenContent) (words : List (List ℕ)) (width : ℕ) → IsStep verb at given words now width
+pub step_width : (verb : Verb) (given : GivenContent) (words : List (List ℕ)) (choice : Chosen) (width : ℕ) → IsStep verb given words choice width
     → (1 ≤ width) × (width ≤ length words)
-step_width verb at given now words width s =
+step_width verb given words choice width s =
     let some = some_width s.piece in
     let all : length words ≡ length (spelled s.piece) + length s.more = ap length s.words_are ∙ length-append (spelled s.piece) s.more in
     (omega (arith, s.width_is), omega (arith, s.width_is))
@@ -46,25 +32,41 @@ drop_more n m xs = grind (arith, common_steps)
 drop_front : (xs ys : List (List ℕ)) → drop (length xs) (xs ++ ys) ≡ ys
 drop_front xs ys = grind (arith, common_steps)
 
-pub begin_more : (words all : List (List ℕ)) (verb : Verb) (given now : GivenContent) (at width : ℕ) → Begin verb words given (drop at all) at
-    → IsStep verb at given (drop at all) now width → Begin verb words now (drop (at + width) all) (at + width)
-begin_more words all verb given now at width b s =
-    let rest : drop (at + width) all ≡ s.more = drop_more at width all
-    ∙ (ap (λ xs. drop width xs) s.words_are ∙ (ap (λ n. drop n (spelled s.piece ++ s.more)) s.width_is ∙ drop_front (spelled s.piece) s.more)) in
-    record {
-      pieces = b.pieces ++ s.piece ∷ [];
-      words_are = b.words_are ∙ (ap (λ xs. flat_map spelled b.pieces ++ xs) (s.words_are ∙ ap (λ xs. spelled s.piece ++ xs) (sym rest))
-          ∙ (sym (append_assoc (flat_map spelled b.pieces) (spelled s.piece) (drop (at + width) all))
-          ∙ ap (λ xs. xs ++ drop (at + width) all) (sym (spelled_all b.pieces s.piece))));
-      stand = subst (λ g. Stand verb 1 nothing (b.pieces ++ s.piece ∷ []) g) (sym s.now_is)
-          (stand_more verb 1 nothing given b.pieces s.piece at b.stand s.may b.at_is);
-      at_is = let e : length (flat_map spelled (b.pieces ++ s.piece ∷ [])) ≡ length (flat_map spelled b.pieces) + length (spelled s.piece) =
-          ap length (spelled_all b.pieces s.piece) ∙ length-append (flat_map spelled b.pieces) (spelled s.piece) in omega (arith, b.at_is, s.width_is);
-    }
+module _ (verb : Verb) (at width : ℕ) (given next : GivenContent) (choice : Chosen) (all : List (List ℕ)) (s : IsStep verb given (drop at all) choice width)
+    (e : next ≡ with_chosen at given choice) where
+  -- a piece before those that words begin with
+  pub begin_more : (now : GivenContent) (rest : List (List ℕ)) (to : ℕ) → Begin verb (at + width) next (drop (at + width) all) now rest to
+      → Begin verb at given (drop at all) now rest to
+  begin_more now rest to b =
+      let after : drop (at + width) all ≡ s.more = drop_more at width all
+      ∙ (ap (λ xs. drop width xs) s.words_are ∙ (ap (λ n. drop n (spelled s.piece ++ s.more)) s.width_is ∙ drop_front (spelled s.piece) s.more)) in
+      let long = length-append (spelled s.piece) (flat_map spelled b.pieces) in
+      record {
+        pieces = s.piece ∷ b.pieces;
+        words_are = s.words_are ∙ (ap (λ xs. spelled s.piece ++ xs) (sym after ∙ b.words_are)
+            ∙ sym (append_assoc (spelled s.piece) (flat_map spelled b.pieces) rest));
+        stand = (
+          s.may,
+          subst (λ n. Stand verb (at + n) (with_piece at given s.piece) b.pieces now) s.width_is
+              (subst (λ g. Stand verb (at + width) g b.pieces now) (e ∙ ap (λ c. with_chosen at given c) s.choice_is) b.stand),
+        );
+        at_is = omega (arith, long, b.at_is, s.width_is);
+      }
+
+  pub bad_more : (n : ℕ) → IsBadPiece verb (at + width) next (drop (at + width) all) n → IsBadPiece verb at given (drop at all) n
+  bad_more n h = record {
+    given = h.given;
+    rest = h.rest;
+    at = h.at;
+    begin = begin_more h.given h.rest h.at h.begin;
+    front = h.front;
+    bad = h.bad;
+    number = h.number;
+  }
 
 -- no piece stands before the first
-pub begin_none : (words : List (List ℕ)) (verb : Verb) → Begin verb words nothing words 1
-begin_none words verb = record { pieces = []; words_are = refl; stand = refl; at_is = refl }
+pub begin_none : (verb : Verb) (at : ℕ) (given : GivenContent) (words : List (List ℕ)) → Begin verb at given words given words at
+begin_none verb at given words = record { pieces = []; words_are = refl; stand = refl; at_is = omega arith }
 
 -- ---- the words of the program
 
@@ -75,12 +77,13 @@ from_place (x ∷ xs) zero d h = refl
 from_place (x ∷ xs) (suc k) d h = from_place xs k d (omega arith)
 
 -- the word at a place, and the words after it
-pub from_slice : (words : List (String Global)) (at : ℕ) (d : String Global) (w : List ℕ) → at < length words → d ≡ get_or words at d
-    → w ≡ string_bytes d → w ∷ map string_bytes (take (length words - (at + 1)) (drop (at + 1) words)) ≡ drop at (map string_bytes words)
-from_slice words at d w h i e =
+pub from_slice : (words : List (String Global)) (at : ℕ) (d : String Global) (w : List ℕ) → at ≤ length words → ¬ (at ≡ length words)
+    → d ≡ get_or words at d → w ≡ string_bytes d
+    → w ∷ map string_bytes (take (length words - (at + 1)) (drop (at + 1) words)) ≡ drop at (map string_bytes words)
+from_slice words at d w within some i e =
     ap (λ xs. w ∷ map string_bytes xs) (take_rest words (at + 1))
     ∙ (ap (λ n. w ∷ map string_bytes (drop n words)) (add-one at)
-    ∙ (ap (λ b. b ∷ map string_bytes (drop (suc at) words)) (e ∙ ap string_bytes i) ∙ from_place words at d h))
+    ∙ (ap (λ b. b ∷ map string_bytes (drop (suc at) words)) (e ∙ ap string_bytes i) ∙ from_place words at d (omega (arith, within, some))))
 
 -- how many words there are from a place on
 pub rest_length : (words : List (String Global)) (at : ℕ) → at ≤ length words → length (drop at (map string_bytes words)) + at ≡ length words

@@ -1,7 +1,15 @@
 -- Names, and what stands after them.
 use Rattle.std.proofs.Common.{Bool, true, false, ◌==◌, if◌then◌else◌, ◌≡◌, ◌≢◌, ◌<◌, ℕ, zero, suc, List, [], ◌∷◌, ◌++◌}
-use Rattle.std.proofs.Common.{length, take, drop, get_or, refl, ap, arith, subst}
-use Rattle.command_words.specs.WordParts.{IsName}
+use Rattle.std.proofs.Common.{length, take, get_or, refl, ap, ap₂, sym, ◌∙◌, arith, subst, ◌≤◌, not, Bor}
+use Rattle.std.specs.List.{position_or_len, before_first, after_first}
+use Rattle.std.specs.Option.{MatchOption}
+use Rattle.std.specs.Str.Pattern.{FindsTextPrefix, StripsPrefix}
+use Rattle.std.specs.declared.option.Option.{Option}
+use Rattle.std.specs.declared.option.Option.TheVariants.{Some, None}
+use Rattle.std.proofs.lemmas.Bool.{eqb-true, eqb-false}
+use Rattle.std.proofs.lemmas.List.{take_all}
+use Rattle.std.proofs.lemmas.List.Sums.{prefix_len-le-length, fails_before_first, passes_at_first, split_at_first}
+use Rattle.command_words.specs.WordParts.{IsName, opener, joined_word}
 use Rattle.command_words.specs.Table.{argument_name}
 use Rattle.command_words.specs.declared.argument.Argument.{Argument}
 use Rattle.command_words.specs.declared.argument.Argument.TheVariants.{Form, Alpha, Priority, To, Size, Seed, Graph, Second, File, Store}
@@ -12,11 +20,43 @@ name_more [] k h n d = absurd (omega arith)
 name_more (b ∷ bs) zero h n d = (d, tt)
 name_more (b ∷ bs) (suc k) h n d = (n.0, name_more bs k (omega arith) n.1 d)
 
--- a text with an equals sign at a place
-pub split_at : (text : List ℕ) (k : ℕ) → k < length text → get_or text k 0 ≡ 61 → text ≡ take k text ++ 61 ∷ drop (suc k) text
-split_at [] k h e = absurd (omega arith)
-split_at (b ∷ bs) zero h e = ap (λ x. x ∷ bs) e
-split_at (b ∷ bs) (suc k) h e = ap (λ xs. b ∷ xs) (split_at bs k (omega arith) e)
+abbrev is_equals : ℕ → Bool
+is_equals b = b == 61
+
+name_within : (text : List ℕ) (k : ℕ) → k ≤ position_or_len is_equals text → IsName (take k text)
+name_within text zero h = tt
+name_within text (suc k) h =
+    let within = prefix_len-le-length (λ b. not (is_equals b)) text in
+    name_more text k (omega (arith, within, h)) (name_within text k (omega (arith, h)))
+    (eqb-false (get_or text k 0) 61 (fails_before_first is_equals text k 0 (omega (arith, h))))
+
+-- what is before the first equals sign is a name
+pub name_first : (text : List ℕ) → IsName (before_first is_equals text)
+name_first text = name_within text (position_or_len is_equals text) (omega arith)
+
+-- a text with no equals sign is a name
+pub name_whole : (text : List ℕ) → position_or_len is_equals text ≡ length text → IsName text
+name_whole text e = subst IsName (take_all (position_or_len is_equals text) text (omega (arith, e))) (name_first text)
+
+-- a text with an equals sign
+pub split_first : (text : List ℕ) → position_or_len is_equals text < length text
+    → text ≡ before_first is_equals text ++ 61 ∷ after_first is_equals text
+split_first text h = split_at_first is_equals text 0 h
+    ∙ ap (λ b. before_first is_equals text ++ b ∷ after_first is_equals text) (eqb-true _ 61 (passes_at_first is_equals text 0 h))
+
+-- the parts of a word with an equals sign
+pub joined_parts : (word text name value : List ℕ) → word ≡ opener text → (position_or_len is_equals text < length text)
+    × (name ≡ before_first is_equals text) × (value ≡ after_first is_equals text) → (word ≡ joined_word name value) × IsName name
+joined_parts word text name value w h = (
+  w ∙ ap opener (split_first text h.0 ∙ sym (ap₂ (λ n v. n ++ 61 ∷ v) h.1 h.2)),
+  subst IsName (sym h.1) (name_first text),
+)
+
+-- what stands after a text at the front
+pub stripped : (p s : List ℕ) (r : Option (Bor (List ℕ))) → MatchOption r (FindsTextPrefix p s None) (λ x. StripsPrefix (FindsTextPrefix p) s x.now)
+    → MatchOption r ((rest : List ℕ) → s ≢ p ++ rest) (λ x. s ≡ p ++ x.now)
+stripped p s None h = h
+stripped p s (Some x) h = h.1.1 ∙ ap (λ l. p ++ l) (sym h.2)
 
 -- names end at the first equals sign
 pub one_name : (n m v w : List ℕ) → IsName n → IsName m → n ++ 61 ∷ v ≡ m ++ 61 ∷ w → (n ≡ m) × (v ≡ w)

@@ -5,5 +5,4 @@ pub mod LevelTexts
 pub mod OneName
 pub mod OneReading
 pub mod Steps
-pub mod StorePlaces
 pub mod StudyWords

@@ -1,5 +1,5 @@
 -- Each stage of the reading of words is decided.
-use Rattle.std.proofs.Common.{◌≡◌, ◌⊎◌, ◌+◌, ℕ, Bool, true, false, List, [], ◌∷◌, ◌++◌, length, length-append, refl, sym, ap, ap₂}
+use Rattle.std.proofs.Common.{◌≡◌, ◌⊎◌, ◌+◌, ℕ, Bool, true, false, List, [], ◌∷◌, ◌++◌, length, drop, length-append, refl, sym, ap, ap₂}
 use Rattle.std.proofs.Common.{◌∙◌, subst, inl, inr, Some, None, append_assoc}
 use Rattle.std.specs.List.{flat_map}
 use Rattle.std.specs.declared.option.Option.{Option}
@@ -11,7 +11,7 @@ use Rattle.command_words.specs.Given.{GivenContent, nothing, forbidden_word, ask
 use Rattle.command_words.specs.Laws.{WordsAreDecided, StudyWordsAreDecided}
 use Rattle.command_words.specs.Table.{verb_name, keeps_looks, argument_name, operand_of}
 use Rattle.command_words.specs.WordParts.{opener, joined_word}
-use Rattle.command_words.specs.Words.{Piece, joined, apart, bare, spelled, MayStand, with_piece, Stand, Begin, IsBadFront, IsBadPiece, command_in, pieces_in}
+use Rattle.command_words.specs.Words.{Piece, joined, apart, bare, spelled, MayStand, with_piece, Stand, Begin, IsBadFront, IsBadPiece, command_in, arguments_in}
 use Rattle.command_words.specs.Words.{complete, complete_study, allowed, asked_in, study_in}
 use Rattle.command_words.specs.declared.argument.Argument.{Argument}
 use Rattle.command_words.specs.declared.argument.Argument.TheVariants as arguments
@@ -35,7 +35,7 @@ one_value verb arguments.Seed v w text h k = one_count text v w h k
 one_value verb arguments.Graph v w text h k = one_graph v w (sym h ∙ k)
 one_value verb arguments.Second v w text h k = one_count text v w h k
 one_value verb arguments.File v w text h k = refl
-one_value verb arguments.Store v w text h k = refl
+one_value verb arguments.Store v w text h k = sym h ∙ k
 
 one_choice : (verb : Verb) (c d : Chosen) (text : List ℕ) → c.argument ≡ d.argument → IsSpelled verb c text → IsSpelled verb d text → c ≡ d
 one_choice verb c d text e h k =
@@ -160,28 +160,30 @@ command_decided keeping words = record {
   first_verb : (v w : Verb) (xs ys : List (List ℕ)) → verb_name v ∷ xs ≡ verb_name w ∷ ys → v ≡ w
   first_verb v w xs ys e = one_verb v w cc
 
-same_begin : (verb : Verb) (words : List (List ℕ)) (given other : GivenContent) (r s : List (List ℕ)) (m n : ℕ) (b : Begin verb words given r m)
-    (d : Begin verb words other s n) → IsEnd verb given r → IsEnd verb other s → SameWalk given other r s m n
-same_begin verb words given other r s m n b d f l =
-    let w = same_walk verb 1 nothing b.pieces d.pieces given other r s b.stand d.stand (sym b.words_are ∙ d.words_are) f l in
-    record { given = w.given; rest = w.rest; width = b.at_is ∙ (ap (λ k. 1 + k) w.width ∙ sym d.at_is) }
+same_begin : (verb : Verb) (from : ℕ) (before : GivenContent) (words : List (List ℕ)) (given other : GivenContent) (r s : List (List ℕ)) (m n : ℕ)
+    (b : Begin verb from before words given r m) (d : Begin verb from before words other s n) → IsEnd verb given r
+    → IsEnd verb other s → SameWalk given other r s m n
+same_begin verb from before words given other r s m n b d f l =
+    let w = same_walk verb from before b.pieces d.pieces given other r s b.stand d.stand (sym b.words_are ∙ d.words_are) f l in
+    record { given = w.given; rest = w.rest; width = b.at_is ∙ (ap (λ k. from + k) w.width ∙ sym d.at_is) }
 
 no_clash : (rest : List (List ℕ)) (verb : Verb) (g : GivenContent) (n : ℕ) → [] ≡ rest → IsBadFront verb g rest n → ⊥
 no_clash [] verb g n e f = f
 no_clash (w ∷ ws) verb g n e f = cc
 
-one_bad_piece : (verb : Verb) (words : List (List ℕ)) (m n : ℕ) → IsBadPiece verb words m → IsBadPiece verb words n → m ≡ n
-one_bad_piece verb words m n h k =
-    let w = same_begin verb words h.given k.given h.rest k.rest h.at k.at h.begin k.begin (inr (h.front, h.bad)) (inr (k.front, k.bad)) in
+one_bad_piece : (verb : Verb) (from : ℕ) (before : GivenContent) (words : List (List ℕ)) (m n : ℕ) → IsBadPiece verb from before words m
+    → IsBadPiece verb from before words n → m ≡ n
+one_bad_piece verb from before words m n h k =
+    let w = same_begin verb from before words h.given k.given h.rest k.rest h.at k.at h.begin k.begin (inr (h.front, h.bad)) (inr (k.front, k.bad)) in
     let front = one_front verb k.given k.rest h.front k.front
     (subst (λ x. IsBadFront verb k.given x h.front) w.rest (subst (λ x. IsBadFront verb x h.rest h.front) w.given h.bad)) k.bad in
     h.number ∙ (ap₂ (λ x y. x + y + 1) w.width front ∙ sym k.number)
 
-pieces_decided : (verb : Verb) (words : List (List ℕ)) → IsDecided (pieces_in verb words)
-pieces_decided verb words = record {
-  one = λ g o h k. (same_begin verb words g o [] [] h.0 k.0 h.1 k.1 (inl refl) (inl refl)).given;
-  one_refusal = one_bad_piece verb words;
-  not_both = λ g n h k. let w = same_begin verb words g k.given [] k.rest h.0 k.at h.1 k.begin (inl refl) (inr (k.front, k.bad)) in no_clash k.rest verb
+arguments_decided : (verb : Verb) (words : List (List ℕ)) → IsDecided (arguments_in verb words)
+arguments_decided verb words = record {
+  one = λ g o h k. (same_begin verb 1 nothing (drop 1 words) g o [] [] h.0 k.0 h.1 k.1 (inl refl) (inl refl)).given;
+  one_refusal = one_bad_piece verb 1 nothing (drop 1 words);
+  not_both = λ g n h k. let w = same_begin verb 1 nothing (drop 1 words) g k.given [] k.rest h.0 k.at h.1 k.begin (inl refl) (inr (k.front, k.bad)) in no_clash k.rest verb
       k.given k.front w.rest k.bad;
 }
 
@@ -209,7 +211,7 @@ pub words_decided : WordsAreDecided
 unfolding asked_in
 words_decided words =
     then_decided _ _ (command_decided false words)
-    (λ verb. then_decided _ _ (pieces_decided verb _) (λ given. then_decided _ _ (complete_decided verb _ given) (allowed_decided given)))
+    (λ verb. then_decided _ _ (arguments_decided verb words) (λ given. then_decided _ _ (complete_decided verb _ given) (allowed_decided given)))
 
 study_decided : (count : ℕ) (given : GivenContent) → IsDecided (complete_study count given)
 study_decided count given = record {
@@ -220,7 +222,7 @@ study_decided count given = record {
 
 pub study_words_decided : StudyWordsAreDecided
 unfolding study_in
-study_words_decided words = then_decided _ _ (command_decided true words) (λ verb. then_decided _ _ (pieces_decided verb _) (study_decided _))
+study_words_decided words = then_decided _ _ (command_decided true words) (λ verb. then_decided _ _ (arguments_decided verb words) (study_decided _))
 
 -- words that ask for a command that keeps no looks don't ask a study for anything
 pub one_reader : (words : List (List ℕ)) (asked : Asked) (study : StudyAsked) → (asked_in words).Gives asked → ¬ (study_in words).Gives study

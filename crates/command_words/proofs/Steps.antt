@@ -1,7 +1,7 @@
 -- Steps of one piece, and words at which none begins.
 use Rattle.std.proofs.Common.{◌≡◌, ℕ, List, ◌∷◌, ◌++◌, refl, sym, ap, ◌∙◌, subst}
 use Rattle.command_words.specs.Choices.{Value, Chosen, Spells, IsSpelled}
-use Rattle.command_words.specs.Given.{GivenContent, with_chosen}
+use Rattle.command_words.specs.Given.{GivenContent}
 use Rattle.command_words.specs.Table.{argument_name}
 use Rattle.command_words.specs.WordParts.{IsName, IsBare, opener, joined_word}
 use Rattle.command_words.specs.Words.{joined, apart, bare, MayOpen, MayStand, IsStep, CannotBegin}
@@ -10,33 +10,33 @@ use Rattle.command_words.specs.declared.verb.Verb.{Verb}
 use Rattle.command_words.proofs.EqualsSigns.{no_equals, one_name, argument_is_name}
 use Rattle.command_words.proofs.OneName.{one_argument}
 
-pub joined_step : (verb : Verb) (at : ℕ) (given now : GivenContent) (word name text : List ℕ) (more : List (List ℕ)) (argument : Argument)
+pub joined_step : (verb : Verb) (given : GivenContent) (word name text : List ℕ) (more : List (List ℕ)) (argument : Argument)
     (choice : Chosen) → word ≡ joined_word name text → name ≡ argument_name argument → MayOpen verb given argument → choice.argument ≡ argument
-    → IsSpelled verb choice text → now ≡ with_chosen at given choice → IsStep verb at given (word ∷ more) now 1
-joined_step verb at given now word name text more argument choice w n may a s e = record {
+    → IsSpelled verb choice text → IsStep verb given (word ∷ more) choice 1
+joined_step verb given word name text more argument choice w n may a s = record {
   piece = joined choice text;
   more = more;
   may = (subst (MayOpen verb given) (sym a) may, s);
   words_are = ap (λ x. x ∷ more) (w ∙ ap (λ x. joined_word x text) (n ∙ ap argument_name (sym a)));
-  now_is = e;
+  choice_is = refl;
   width_is = refl;
 }
 
-pub apart_step : (verb : Verb) (at : ℕ) (given now : GivenContent) (word name text : List ℕ) (words more : List (List ℕ)) (argument : Argument)
+pub apart_step : (verb : Verb) (given : GivenContent) (word name text : List ℕ) (words more : List (List ℕ)) (argument : Argument)
     (choice : Chosen) → word ≡ opener name → words ≡ text ∷ more → name ≡ argument_name argument → MayOpen verb given argument
-    → choice.argument ≡ argument → IsSpelled verb choice text → now ≡ with_chosen at given choice → IsStep verb at given (word ∷ words) now 2
-apart_step verb at given now word name text words more argument choice w ws n may a s e = record {
+    → choice.argument ≡ argument → IsSpelled verb choice text → IsStep verb given (word ∷ words) choice 2
+apart_step verb given word name text words more argument choice w ws n may a s = record {
   piece = apart choice text;
   more = more;
   may = (subst (MayOpen verb given) (sym a) may, s);
   words_are = ap (λ x. word ∷ x) ws ∙ ap (λ x. x ∷ text ∷ more) (w ∙ ap opener (n ∙ ap argument_name (sym a)));
-  now_is = e;
+  choice_is = refl;
   width_is = refl;
 }
 
-pub bare_step : (verb : Verb) (at : ℕ) (given now : GivenContent) (word : List ℕ) (more : List (List ℕ)) (choice : Chosen)
-    → MayStand verb given (bare choice word) → now ≡ with_chosen at given choice → IsStep verb at given (word ∷ more) now 1
-bare_step verb at given now word more choice may e = record { piece = bare choice word; more = more; may = may; words_are = refl; now_is = e; width_is = refl }
+pub bare_step : (verb : Verb) (given : GivenContent) (word : List ℕ) (more : List (List ℕ)) (choice : Chosen)
+    → MayStand verb given (bare choice word) → IsStep verb given (word ∷ more) choice 1
+bare_step verb given word more choice may = record { piece = bare choice word; more = more; may = may; words_are = refl; choice_is = refl; width_is = refl }
 
 behind : (a b : List ℕ) → opener a ≡ opener b → a ≡ b
 behind a b e = cc

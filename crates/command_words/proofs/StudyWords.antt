@@ -1,5 +1,5 @@
 -- Words of the command that keeps looks.
-use Rattle.std.proofs.Common.{◌≡◌, ◌≢◌, ap, ◌∙◌, ℕ, Bool, true, false, true≢false, List, ◌∷◌, Result, Ok, Err, refl, sym, subst}
+use Rattle.std.proofs.Common.{◌≡◌, ap, ◌∙◌, ℕ, Bool, true, true≢false, List, ◌∷◌, Result, Ok, Err, refl, sym, subst}
 use Rattle.std.specs.Prelude.{◌↔◌, IfOk, IfErr, IsTrue, is_ok, codes}
 use Rattle.command_words.specs.Table.{verb_name, keeps_looks}
 use Rattle.command_words.specs.Words.{command_in, AsksStudy}

@@ -1,5 +1,6 @@
 -- Commands, as contracts see them.
-use Rattle.std.specs.Prelude.{ℕ, Option, Some, None}
+use Rattle.std.specs.Prelude.{ℕ, List, Option, Some, None}
+use Rattle.std.specs.Option.{option_map}
 use Rattle.command_words.specs.Levels.{Level, level_of}
 use Rattle.command_words.specs.declared.command.CaseTask.{CaseTask}
 use Rattle.command_words.specs.declared.command.Command.{Command}
@@ -43,12 +44,12 @@ file_of (check form file) = Some file
 file_of (sample size seed) = None
 file_of help = None
 
--- What a study is to do: how its case is written, the place, from 0, of the word that names the file of its commands, and that of the first
--- word of the option that names the file of its looks.
+-- What a study is to do: how its case is written, the place, from 0, of the word that names the file of its commands, and the path of
+-- the file of its looks.
 pub record StudyAsked : Type 0 where
   pub form : Written
   pub file : ℕ
-  pub store : Option ℕ
+  pub store : Option (List ℕ)
 
 abbrev pub study_asked : StudyCall → StudyAsked
-study_asked call = record { form = written call.form; file = call.file; store = call.store }
+study_asked call = record { form = written call.form; file = call.file; store = option_map (λ path. path.now) call.store }

@@ -12,7 +12,7 @@ use Rattle.command_words.specs.declared.graph_name.GraphName.{GraphName}
 use Rattle.command_words.specs.declared.verb.Verb.{Verb}
 use Rattle.sequential.specs.declared.priority.Priority.{Priority}
 
--- the values of an argument; of files only their places are kept
+-- the values of an argument; of the file that is read only its place is kept
 abbrev pub Value : Argument → Type 0
 Value arguments.Form = Form
 Value arguments.Alpha = Level
@@ -23,7 +23,7 @@ Value arguments.Seed = ℕ
 Value arguments.Graph = GraphName
 Value arguments.Second = ℕ
 Value arguments.File = Unit {0}
-Value arguments.Store = Unit {0}
+Value arguments.Store = List ℕ
 
 -- An argument with its value.
 pub record Chosen : Type 0 where
@@ -40,7 +40,7 @@ chosen (choices.Seed seed) = record { argument = arguments.Seed; value = seed }
 chosen (choices.Graph graph) = record { argument = arguments.Graph; value = graph }
 chosen (choices.Second second) = record { argument = arguments.Second; value = second }
 chosen choices.File = record { argument = arguments.File; value = tt }
-chosen choices.Store = record { argument = arguments.Store; value = tt }
+chosen (choices.Store path) = record { argument = arguments.Store; value = path.now }
 
 -- a command knows the text of a value
 abbrev pub Spells : Verb → (argument : Argument) → Value argument → List ℕ → Type 0
@@ -53,7 +53,7 @@ Spells verb arguments.Seed seed text = IsCount text seed
 Spells verb arguments.Graph graph text = text ≡ graph_name graph
 Spells verb arguments.Second second text = IsCount text second
 Spells verb arguments.File named text = Unit {0}
-Spells verb arguments.Store named text = Unit {0}
+Spells verb arguments.Store path text = text ≡ path
 
 abbrev pub IsSpelled : Verb → Chosen → List ℕ → Type 0
 IsSpelled verb choice text = Spells verb choice.argument choice.value text

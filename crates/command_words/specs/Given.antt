@@ -1,5 +1,5 @@
 -- What the arguments say.
-use Rattle.std.specs.Prelude.{ℕ, ◌+◌, Bool, true, false, Option, Some, None, is_some}
+use Rattle.std.specs.Prelude.{ℕ, ◌+◌, List, Bool, true, false, Option, Some, None, is_some}
 use Rattle.std.specs.Option.{option_map}
 use Rattle.command_words.specs.Asked.{Asked, StudyAsked, Written, text, csv, json, on_case as task_on_case, check, catalogue, sample, help}
 use Rattle.command_words.specs.Choices.{Value, Chosen}
@@ -19,7 +19,7 @@ use Rattle.sequential.specs.declared.priority.Priority.{Priority}
 use Rattle.sequential.specs.declared.priority.Priority.TheVariants.{First}
 
 -- The values that were given, beside those of `alpha` and `second` the numbers, from 1, of the words with these names, and the
--- places, from 0, of the word that names a file and of the first word of the option `store`.
+-- place, from 0, of the word that names a file.
 pub record GivenContent : Type 0 where
   pub form : Option Form
   pub alpha : Option (Level × ℕ)
@@ -30,7 +30,7 @@ pub record GivenContent : Type 0 where
   pub graph : Option GraphName
   pub second : Option (ℕ × ℕ)
   pub file : Option ℕ
-  pub store : Option ℕ
+  pub store : Option (List ℕ)
 
 abbrev pub given_content : Given → GivenContent
 given_content g = record {
@@ -43,7 +43,7 @@ given_content g = record {
   graph = g.graph;
   second = g.second;
   file = g.file;
-  store = g.store;
+  store = option_map (λ path. path.now) g.store;
 }
 
 abbrev pub nothing : GivenContent
@@ -84,7 +84,7 @@ with_value at g arguments.Seed seed = record g { seed = Some seed }
 with_value at g arguments.Graph graph = record g { graph = Some graph }
 with_value at g arguments.Second second = record g { second = Some (second, at + 1) }
 with_value at g arguments.File named = record g { file = Some at }
-with_value at g arguments.Store named = record g { store = Some at }
+with_value at g arguments.Store path = record g { store = Some path }
 
 abbrev pub with_chosen : ℕ → GivenContent → Chosen → GivenContent
 with_chosen at g choice = with_value at g choice.argument choice.value
@@ -151,7 +151,7 @@ unfoldable pub sample_of : GivenContent → Option Asked
 sample_of g = sample_by g.size g.seed
 
 -- a study needs its commands, and how its case is written
-abbrev pub study_by : Option Written → Option ℕ → Option ℕ → Option StudyAsked
+abbrev pub study_by : Option Written → Option ℕ → Option (List ℕ) → Option StudyAsked
 study_by (Some form) (Some file) store = Some (record { form = form; file = file; store = store })
 study_by (Some form) None store = None
 study_by None file store = None

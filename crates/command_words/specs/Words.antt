@@ -56,12 +56,12 @@ abbrev pub Stand : Verb → ℕ → GivenContent → List Piece → GivenContent
 Stand verb at given [] all = all ≡ given
 Stand verb at given (piece ∷ pieces) all = MayStand verb given piece × Stand verb (at + length (spelled piece)) (with_piece at given piece) pieces all
 
--- Words begin with pieces that may be after a command, and give this. After them is `rest`, from the place `at` on.
-pub record Begin (verb : Verb) (words : List (List ℕ)) (given : GivenContent) (rest : List (List ℕ)) (at : ℕ) : Type 0 where
+-- Words from a place on begin with pieces that may be after what was given `before`, and give this. After them is `rest`, from the place `at` on.
+pub record Begin (verb : Verb) (from : ℕ) (before : GivenContent) (words : List (List ℕ)) (given : GivenContent) (rest : List (List ℕ)) (at : ℕ) : Type 0 where
   pub pieces : List Piece
   pub words_are : words ≡ flat_map spelled pieces ++ rest
-  pub stand : Stand verb 1 nothing pieces given
-  pub at_is : at ≡ 1 + length (flat_map spelled pieces)
+  pub stand : Stand verb from before pieces given
+  pub at_is : at ≡ from + length (flat_map spelled pieces)
 
 -- ---- words at which the reading fails
 
@@ -88,12 +88,12 @@ abbrev pub IsBadFront : Verb → GivenContent → List (List ℕ) → ℕ → Ty
 IsBadFront verb given [] n = ⊥
 IsBadFront verb given (word ∷ words) n = ((n ≡ 0) × CannotBegin verb given word) ⊎ ((n ≡ 1) × LacksValue verb given word words)
 
--- Words begin with pieces, and what is after them isn't allowed.
-pub record IsBadPiece (verb : Verb) (words : List (List ℕ)) (n : ℕ) : Type 0 where
+-- Words from a place on begin with pieces, and what is after them isn't allowed.
+pub record IsBadPiece (verb : Verb) (from : ℕ) (before : GivenContent) (words : List (List ℕ)) (n : ℕ) : Type 0 where
   pub given : GivenContent
   pub rest : List (List ℕ)
   pub at : ℕ
-  pub begin : Begin verb words given rest at
+  pub begin : Begin verb from before words given rest at
   pub front : ℕ
   pub bad : IsBadFront verb given rest front
   pub number : n ≡ at + front + 1
@@ -111,12 +111,16 @@ command_in keeping words = record {
 abbrev pub AsksStudy : List (List ℕ) → Type 0
 AsksStudy words = (more : List (List ℕ)) × (words ≡ codes "study" ∷ more)
 
--- what the pieces after a command give
-abbrev pub pieces_in : Verb → List (List ℕ) → Stage ℕ GivenContent
-pieces_in verb words = record {
-  Gives = λ given. (at : ℕ) × Begin verb words given [] at;
-  Refuses = IsBadPiece verb words;
+-- what the pieces that are words from a place on give, after what was given before
+abbrev pub pieces_in : Verb → ℕ → GivenContent → List (List ℕ) → Stage ℕ GivenContent
+pieces_in verb from before words = record {
+  Gives = λ given. (at : ℕ) × Begin verb from before words given [] at;
+  Refuses = IsBadPiece verb from before words;
 }
+
+-- what the pieces after a command give
+abbrev pub arguments_in : Verb → List (List ℕ) → Stage ℕ GivenContent
+arguments_in verb words = pieces_in verb 1 nothing (drop 1 words)
 
 -- what a command asks for with what was given, where nothing is missing; something is missing after the last word
 abbrev pub complete : Verb → ℕ → GivenContent → Stage ℕ Asked
@@ -142,21 +146,21 @@ complete_study count given = record {
 -- what words ask a study for, or the first word at which their reading fails
 unfoldable pub study_in : List (List ℕ) → Stage ℕ StudyAsked
 study_in words =
-    and_then (command_in true words) (λ verb. and_then (pieces_in verb (drop 1 words)) (complete_study (length words)))
+    and_then (command_in true words) (λ verb. and_then (arguments_in verb words) (complete_study (length words)))
 
 -- what words ask for that keeps no looks, or the first word at which their reading fails
 unfoldable pub asked_in : List (List ℕ) → Stage ℕ Asked
 asked_in words =
-    and_then (command_in false words) (λ verb. and_then (pieces_in verb (drop 1 words))
+    and_then (command_in false words) (λ verb. and_then (arguments_in verb words)
     (λ given. and_then (complete verb (length words) given) (allowed given)))
 
 -- ---- one step of the reading
 
--- One piece that may be begins these words; this is given with it, and it has this number of words.
-pub record IsStep (verb : Verb) (at : ℕ) (given : GivenContent) (words : List (List ℕ)) (now : GivenContent) (width : ℕ) : Type 0 where
+-- One piece that may be begins these words; this is its argument with its value, and it has this number of words.
+pub record IsStep (verb : Verb) (given : GivenContent) (words : List (List ℕ)) (choice : Chosen) (width : ℕ) : Type 0 where
   pub piece : Piece
   pub more : List (List ℕ)
   pub may : MayStand verb given piece
   pub words_are : words ≡ spelled piece ++ more
-  pub now_is : now ≡ with_piece at given piece
+  pub choice_is : choice ≡ choice_of piece
   pub width_is : width ≡ length (spelled piece)

@@ -15,7 +15,7 @@ use sequential::Priority;
 
 /// An argument with its value.
 #[derive(Clone, Copy)]
-pub(crate) enum Choice {
+pub(crate) enum Choice<'a> {
     Form(Form),
     Alpha(Fraction),
     Priority(Priority),
@@ -25,7 +25,7 @@ pub(crate) enum Choice {
     Graph(GraphName),
     Second(u64),
     File,
-    Store,
+    Store(&'a str),
 }
 
 /// Returns the priority of a name.
@@ -59,24 +59,24 @@ fn level_spelt(text: &[u8]) -> Option<Fraction>
     Fraction::parse(text).ok()
 }
 
-impl Choice {
+impl<'a> Choice<'a> {
     /// Returns the value that a text spells of an argument of a command.
-    pub(crate) fn read(verb: Verb, argument: Argument, text: &[u8]) -> Option<Choice>
+    pub(crate) fn read(verb: Verb, argument: Argument, text: &'a str) -> Option<Choice<'a>>
         ensures argument { IfSome result (λ choice. (chosen choice).argument ≡ argument) }
         ensures spelt { IfSome result (λ choice. IsSpelled verb (chosen choice) text.now) }
         ensures unknown { result ≡ None → (value : Value argument) → ¬ Spells verb argument value text.now }
     {
         match argument {
-            Argument::Form => Some(Choice::Form(form_read(verb, text)?)),
-            Argument::Alpha => Some(Choice::Alpha(level_spelt(text)?)),
-            Argument::Priority => Some(Choice::Priority(priority_named(text)?)),
-            Argument::To => Some(Choice::To(Form::named(text)?)),
-            Argument::Size => Some(Choice::Size(count_spelt(text)?)),
-            Argument::Seed => Some(Choice::Seed(count_spelt(text)?)),
-            Argument::Graph => Some(Choice::Graph(GraphName::named(text)?)),
-            Argument::Second => Some(Choice::Second(count_spelt(text)?)),
+            Argument::Form => Some(Choice::Form(form_read(verb, text.as_bytes())?)),
+            Argument::Alpha => Some(Choice::Alpha(level_spelt(text.as_bytes())?)),
+            Argument::Priority => Some(Choice::Priority(priority_named(text.as_bytes())?)),
+            Argument::To => Some(Choice::To(Form::named(text.as_bytes())?)),
+            Argument::Size => Some(Choice::Size(count_spelt(text.as_bytes())?)),
+            Argument::Seed => Some(Choice::Seed(count_spelt(text.as_bytes())?)),
+            Argument::Graph => Some(Choice::Graph(GraphName::named(text.as_bytes())?)),
+            Argument::Second => Some(Choice::Second(count_spelt(text.as_bytes())?)),
             Argument::File => Some(Choice::File),
-            Argument::Store => Some(Choice::Store),
+            Argument::Store => Some(Choice::Store(text)),
         }
     }
 }

@@ -30,13 +30,13 @@ pub enum Command {
     Help,
 }
 
-/// What a study is to do: how its case is written, and the places, from 0, of the word that names the file of its commands, and of
-/// the first word of the option that names the file of its looks.
+/// What a study is to do: how its case is written, the place, from 0, of the word that names the file of its commands, and the path
+/// of the file of its looks.
 #[derive(Clone, Copy)]
-pub struct StudyCall {
+pub struct StudyCall<'a> {
     pub form: CaseForm,
     pub file: usize,
-    pub store: Option<usize>,
+    pub store: Option<&'a str>,
 }
 
 impl Command {

@@ -10,9 +10,9 @@ use fraction::Fraction;
 use sequential::Priority;
 
 /// The values that were given so far, beside those of `alpha` and `second` the numbers, from 1, of the words with these names, and
-/// the places, from 0, of the word that names a file and of the first word of the option `store`.
-#[derive(Clone, Copy)]
-pub(crate) struct Given {
+/// the place, from 0, of the word that names a file.
+#[derive(Drop)]
+pub(crate) struct Given<'a> {
     form: Option<Form>,
     alpha: Option<(Fraction, usize)>,
     priority: Option<Priority>,
@@ -22,10 +22,10 @@ pub(crate) struct Given {
     graph: Option<GraphName>,
     second: Option<(u64, usize)>,
     file: Option<usize>,
-    store: Option<usize>,
+    store: Option<&'a str>,
 }
 
-impl Given {
+impl<'a> Given<'a> {
     ghost use Rattle.std.specs.Prelude.{◌≡◌, ◌<◌, ◌^◌, ◌+◌};
     ghost use Rattle.std.specs.Option.{option_map};
     ghost use Rattle.command_words.specs.Asked.{asked, study_asked, written};
@@ -48,7 +48,7 @@ impl Given {
     };
 
     /// Returns nothing given.
-    pub(crate) fn new() -> Given
+    pub(crate) fn new() -> Given<'a>
         ensures { given_content result ≡ nothing }
     {
         Given {
@@ -63,6 +63,13 @@ impl Given {
             file: None,
             store: None,
         }
+    }
+
+    /// Returns the same.
+    pub(crate) fn copied(&self) -> Given<'a>
+        ensures { given_content result ≡ given_content self.now }
+    {
+        Given { ..*self }
     }
 
     /// Whether an argument was given.
@@ -84,11 +91,11 @@ impl Given {
     }
 
     /// Returns the same, and an argument whose first word stands at a place, from 0.
-    pub(crate) fn with_choice(&self, at: usize, choice: Choice) -> Given
+    pub(crate) fn with_choice(&self, at: usize, choice: Choice<'a>) -> Given<'a>
         requires { at + 1 < 2 ^ 64 }
-        ensures { given_content result ≡ with_chosen at (given_content self.now) (chosen choice) }
+        ensures { given_content result ≡ with_chosen at (given_content self.now) (chosen choice.entry) }
     {
-        let mut given = *self;
+        let mut given = self.copied();
         match choice {
             Choice::Form(form) => given.form = Some(form),
             Choice::Alpha(alpha) => given.alpha = Some((alpha, at + 1)),
@@ -99,7 +106,7 @@ impl Given {
             Choice::Graph(graph) => given.graph = Some(graph),
             Choice::Second(second) => given.second = Some((second, at + 1)),
             Choice::File => given.file = Some(at),
-            Choice::Store => given.store = Some(at),
+            Choice::Store(path) => given.store = Some(path),
         }
         given
     }
@@ -158,7 +165,7 @@ impl Given {
 
     /// Returns what a study is to do; `None` where something is missing.
     #[tactic(auto, unfolding(crate::specs::Given::study_of))]
-    pub(crate) fn study(&self) -> Option<StudyCall>
+    pub(crate) fn study(&self) -> Option<StudyCall<'a>>
         ensures { option_map study_asked result ≡ study_of (given_content self.now) }
     {
         let form = self.case_form()?;

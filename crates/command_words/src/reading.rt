@@ -2,9 +2,7 @@
 ghost use Rattle.std.specs.Prelude.{
   ◌≡◌,
   ◌↔◌,
-  ◌+◌,
-  ◌<◌,
-  ◌^◌,
+  ◌≤◌,
   ◌∷◌,
   None,
   IfOk,
@@ -13,6 +11,7 @@ ghost use Rattle.std.specs.Prelude.{
   IsTrue,
   map,
   drop,
+  length,
   string_bytes,
 };
 ghost use Rattle.command_words.specs.Asked.{asked, study_asked};
@@ -28,6 +27,7 @@ ghost use Rattle.command_words.specs.Words.{
   IsBadFront,
   command_in,
   pieces_in,
+  arguments_in,
   asked_in,
   study_in,
   AsksStudy,
@@ -41,20 +41,20 @@ use crate::verb::Verb;
 use crate::word::{Parts, parts_of};
 
 /// Whether an option may be after what was given.
-fn may_open(verb: Verb, given: &Given, argument: Argument) -> bool
+fn may_open(verb: Verb, given: &Given<'_>, argument: Argument) -> bool
     ensures { IsTrue result ↔ MayOpen verb (given_content given.now) argument }
 {
     verb.takes(argument) && !given.has(argument)
 }
 
 /// Returns the option of a name, where it may be after what was given.
-fn open(verb: Verb, given: &Given, name: &[u8]) -> Option<Argument>
+fn open(verb: Verb, given: &Given<'_>, name: &str) -> Option<Argument>
     ensures named { IfSome result (λ argument. name.now ≡ argument_name argument) }
     ensures may { IfSome result (MayOpen verb (given_content given.now)) }
     ensures none { result ≡ None → (argument : Argument) → name.now ≡ argument_name argument →
         ¬ MayOpen verb (given_content given.now) argument }
 {
-    let argument = Argument::named(name)?;
+    let argument = Argument::named(name.as_bytes())?;
     if may_open(verb, given, argument) {
         Some(argument)
     } else {
@@ -63,7 +63,7 @@ fn open(verb: Verb, given: &Given, name: &[u8]) -> Option<Argument>
 }
 
 /// Returns what a word without a name gives, where it may be after what was given.
-fn operand(verb: Verb, given: &Given, word: &[u8]) -> Option<Choice>
+fn operand<'a>(verb: Verb, given: &Given<'_>, word: &'a str) -> Option<Choice<'a>>
     requires { IsBare word.now }
     ensures found { IfSome result
         (λ choice. MayStand verb (given_content given.now) (bare (chosen choice) word.now)) }
@@ -77,24 +77,22 @@ fn operand(verb: Verb, given: &Given, word: &[u8]) -> Option<Choice>
     Choice::read(verb, argument, word)
 }
 
-/// Returns what is given with the piece that begins with `word`, which stands at a place, and how many words it has; or
-/// the number, from 0, of the word at which it fails. `more` are the words after it.
-fn piece(
+/// Returns the argument, with its value, of the piece that begins with `word`, and how many words it has; or the number, from 0,
+/// of the word at which it fails. `more` are the words after it.
+fn piece<'a>(
     verb: Verb,
-    given: &Given,
-    at: usize,
-    word: &[u8],
-    more: &[String],
-) -> Result<(Given, usize), usize>
-    requires { at + 1 < 2 ^ 64 }
-    ensures step { IfOk result (λ step. IsStep verb at (given_content given.now)
-        (word.now ∷ map string_bytes more.now) (given_content step.0) step.1) }
+    given: &Given<'_>,
+    word: &'a str,
+    more: &'a [String],
+) -> Result<(Choice<'a>, usize), usize>
+    ensures step { IfOk result (λ step. IsStep verb (given_content given.now)
+        (word.now ∷ map string_bytes more.now) (chosen step.0) step.1) }
     ensures bad { IfErr result
         (IsBadFront verb (given_content given.now) (word.now ∷ map string_bytes more.now)) }
 {
     match parts_of(word) {
         Parts::Bare => match operand(verb, given, word) {
-            Some(choice) => Ok((given.with_choice(at, choice), 1)),
+            Some(choice) => Ok((choice, 1)),
             None => Err(0),
         },
         Parts::Joined(name, text) => {
@@ -102,7 +100,7 @@ fn piece(
                 return Err(0);
             };
             match Choice::read(verb, argument, text) {
-                Some(choice) => Ok((given.with_choice(at, choice), 1)),
+                Some(choice) => Ok((choice, 1)),
                 None => Err(0),
             }
         }
@@ -113,32 +111,44 @@ fn piece(
             let Some(text) = more.first() else {
                 return Err(1);
             };
-            match Choice::read(verb, argument, text.as_bytes()) {
-                Some(choice) => Ok((given.with_choice(at, choice), 2)),
+            match Choice::read(verb, argument, text.as_str()) {
+                Some(choice) => Ok((choice, 2)),
                 None => Err(1),
             }
         }
     }
 }
 
-/// Returns what is given after the command; or the number, from 1, of the word at which the reading fails.
-fn pieces(verb: Verb, words: &[String]) -> Result<Given, usize>
-    ensures given { IfOk result (λ given.
-        (pieces_in verb (drop 1 (map string_bytes words.now))).Gives (given_content given)) }
-    ensures refused { IfErr result (pieces_in verb (drop 1 (map string_bytes words.now))).Refuses }
+/// Returns what is given with the words from a place on, after what was given before; or the number, from 1, of the word at which
+/// the reading fails. It calls itself for each piece: an argument comes at most once, so at most eleven times.
+fn pieces<'a>(
+    verb: Verb,
+    given: &Given<'a>,
+    at: usize,
+    words: &'a [String],
+) -> Result<Given<'a>, usize>
+    requires { at ≤ length words.now }
+    ensures given { IfOk result (λ all. (pieces_in verb at (given_content given.now)
+        (drop at (map string_bytes words.now))).Gives (given_content all)) }
+    ensures refused { IfErr result (pieces_in verb at (given_content given.now)
+        (drop at (map string_bytes words.now))).Refuses }
 {
-    let mut given = Given::new();
-    let mut at = 1;
-    'pieces: while at < words.len() {
-        match piece(verb, &given, at, words[at].as_bytes(), &words[at + 1..]) {
-            Ok((now, width)) => {
-                given = now;
-                at += width;
-            }
-            Err(n) => return Err(at + n + 1),
-        }
+    if at == words.len() {
+        return Ok(given.copied());
     }
-    Ok(given)
+    match piece(verb, given, words[at].as_str(), &words[at + 1..]) {
+        Ok((choice, width)) => pieces(verb, &given.with_choice(at, choice), at + width, words),
+        Err(n) => Err(at + n + 1),
+    }
+}
+
+/// Returns what is given after the command, which stands first; or the number, from 1, of the word at which the reading fails.
+fn arguments(verb: Verb, words: &[String]) -> Result<Given<'_>, usize>
+    requires { 1 ≤ length words.now }
+    ensures given { IfOk result (λ given. (arguments_in verb (map string_bytes words.now)).Gives (given_content given)) }
+    ensures refused { IfErr result (arguments_in verb (map string_bytes words.now)).Refuses }
+{
+    pieces(verb, &Given::new(), 1, words)
 }
 
 /// Returns the command that stands first, and keeps looks or doesn't.
@@ -167,15 +177,17 @@ pub fn asks_study(words: &[String]) -> bool
 
 /// Returns what the words ask a study for; or the number, from 1, of the first word at which the reading fails.
 #[tactic(auto, unfolding(crate::specs::Words::study_in))]
-pub fn read_study(words: &[String]) -> Result<StudyCall, usize>
+pub fn read_study(words: &[String]) -> Result<StudyCall<'_>, usize>
     ensures given { IfOk result (λ call. (study_in (map string_bytes words.now)).Gives (study_asked call)) }
     ensures refused { IfErr result (study_in (map string_bytes words.now)).Refuses }
 {
     let verb = command_word(words, true)?;
-    let given = pieces(verb, words)?;
-    match given.study() {
-        Some(call) => Ok(call),
-        None => Err(words.len() + 1),
+    match arguments(verb, words) {
+        Ok(given) => match given.study() {
+            Some(call) => Ok(call),
+            None => Err(words.len() + 1),
+        },
+        Err(n) => Err(n),
     }
 }
 
@@ -186,7 +198,10 @@ pub fn read_words(words: &[String]) -> Result<Command, usize>
     ensures refused { IfErr result (asked_in (map string_bytes words.now)).Refuses }
 {
     let verb = command_word(words, false)?;
-    let given = pieces(verb, words)?;
+    let given = match arguments(verb, words) {
+        Ok(given) => given,
+        Err(n) => return Err(n),
+    };
     let Some(command) = given.command(verb) else {
         return Err(words.len() + 1);
     };

@@ -8,7 +8,7 @@ use Rattle.field_core.specs.Kind.{Parts, is_zero_integer}
 use Rattle.fraction.specs.declared.fraction.Fraction.{Fraction}
 use Rattle.fraction.specs.declared.fault.FractionFault.{FractionFault}
 use Rattle.fraction.specs.declared.fault.FractionFault.TheVariants.{ZeroDenominator, TooWide}
-use Rattle.fraction.specs.Lowest.{lowest_terms, HasWidePart}
+use Rattle.numerals.specs.Lowest.{lowest_terms, HasWidePart}
 use Rattle.fraction.specs.Plain.{single, fraction_parts}
 use Rattle.fraction.specs.View.{terms_of}
 use Rattle.eps_poly.proofs.Coefficients.{is_zero_true, is_zero_false}

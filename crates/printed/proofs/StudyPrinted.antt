@@ -21,9 +21,9 @@ use Rattle.study_answers.proofs.KeptLooks.{replies_decide}
 use Rattle.study_answers.specs.Replies.{taken_in, looks_taken, IsReply, AreReplies}
 use Rattle.study_answers.specs.StudyStages.{StudyEnd, IsBrokenOff, study_stage}
 use Rattle.study_cli.specs.StudyOutcome.{study_call}
-use Rattle.study_commands.specs.CommandLines.{AreCommands}
-use Rattle.study_commands.specs.declared.command.StudyCommand.{StudyCommand}
-use Rattle.study_commands.specs.declared.command.StudyCommand.TheVariants.{Take, Show}
+use Rattle.study_answers.specs.CommandLines.{AreCommands}
+use Rattle.study_answers.specs.declared.command.StudyCommand.{StudyCommand}
+use Rattle.study_answers.specs.declared.command.StudyCommand.TheVariants.{Take, Show}
 use Rattle.study_register.specs.Looking.{arrivals_of, AreTaken}
 use Rattle.graph_cli.proofs.ClosedReports.{known_arrivals, faultless_content, not_done}
 use Rattle.graph_cli.specs.Accepted.{grammar}

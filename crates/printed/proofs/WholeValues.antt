@@ -9,7 +9,7 @@ use Rattle.field_core.specs.declared.ratio.Ratio.{Ratio}
 use Rattle.field_core.specs.Laws.Prefixes.{bind_ok}
 use Rattle.case_model.specs.Entries.{is_whole_entry}
 use Rattle.case_model.specs.Sums.{terms_at}
-use Rattle.fraction.specs.Decimals.{decimal_value}
+use Rattle.numerals.specs.Decimals.{decimal_value}
 use Rattle.fraction.specs.Tests.{is_zero}
 use Rattle.edge_expression.specs.declared.value_fault.ValueFault.{ValueFault}
 use Rattle.edge_expression.specs.declared.value_fault.ValueFault.TheVariants.{DivisorNotNumber, ZeroDivisor, Degree}

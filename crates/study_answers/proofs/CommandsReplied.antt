@@ -1,5 +1,5 @@
 -- Commands that are replied to, one after the other.
-use Rattle.std.proofs.Common.{◌≡◌, ◌+◌, ◌<◌, ◌≤◌, ◌⊎◌, inl, inr, refl, sym, ap, ◌∙◌, subst, ℕ, zero, suc, arith, List, []}
+use Rattle.std.proofs.Common.{◌≡◌, ◌+◌, ◌<◌, ◌≤◌, inl, inr, refl, sym, ap, ◌∙◌, subst, ℕ, zero, suc, arith, List, []}
 use Rattle.std.proofs.Common.{◌∷◌, ◌++◌, length, drop, get_or}
 use Rattle.std.specs.declared.option.Option.{Option}
 use Rattle.std.specs.List.{AllByRecursion, flat_map}
@@ -17,9 +17,9 @@ use Rattle.staged_levels.specs.declared.event.StepFault.{StepFault}
 use Rattle.staged_levels.specs.Looks.{IsWideLook}
 use Rattle.staged_levels.specs.Studies.{StudyState}
 use Rattle.staged_levels.specs.StudyAnswers.{IsArriveFault}
-use Rattle.study_commands.specs.declared.command.StudyCommand.{StudyCommand}
-use Rattle.study_commands.specs.declared.command.StudyCommand.TheVariants.{Take, Show}
-use Rattle.study_commands.specs.CommandLines.{IsBelow}
+use Rattle.study_answers.specs.declared.command.StudyCommand.{StudyCommand}
+use Rattle.study_answers.specs.declared.command.StudyCommand.TheVariants.{Take, Show}
+use Rattle.study_answers.specs.CommandLines.{IsBelow}
 use Rattle.study_register.specs.Looking.{arrival_of, Takes}
 use Rattle.study_register.specs.RegisterFaults.{IsAddFault, IfRefused, IfMemory}
 use Rattle.study_register.specs.declared.fault.AddFault.{AddFault}

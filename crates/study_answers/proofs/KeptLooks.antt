@@ -1,5 +1,5 @@
 -- The rejections after commands are those on all looks that are kept then.
-use Rattle.std.proofs.Common.{◌≡◌, ◌⊎◌, ◌↔◌, ◌+◌, inl, inr, refl, sym, ap, ◌∙◌, subst, ℕ, List, [], ◌∷◌, ◌++◌, length}
+use Rattle.std.proofs.Common.{◌≡◌, ◌↔◌, ◌+◌, inl, inr, refl, sym, ap, ◌∙◌, subst, ℕ, List, [], ◌∷◌, ◌++◌, length}
 use Rattle.std.proofs.lemmas.List.{append_assoc}
 use Rattle.field_core.specs.declared.place.WideAt.{WideAt}
 use Rattle.graph_io.specs.declared.keeper.Look.{Look}
@@ -14,8 +14,8 @@ use Rattle.case_model.specs.LegalOrder.{IsListed}
 use Rattle.case_model.specs.StagedCase.{IsStagedRejectedIn}
 use Rattle.staged_levels.specs.declared.event.Settled.{Settled}
 use Rattle.staged_levels.specs.Studies.{StudyState, start, positions_of}
-use Rattle.study_commands.specs.declared.command.StudyCommand.{StudyCommand}
-use Rattle.study_commands.specs.declared.command.StudyCommand.TheVariants.{Take, Show}
+use Rattle.study_answers.specs.declared.command.StudyCommand.{StudyCommand}
+use Rattle.study_answers.specs.declared.command.StudyCommand.TheVariants.{Take, Show}
 use Rattle.study_register.specs.Looking.{arrival_of, arrivals_of, AreTaken, Follows}
 use Rattle.study_register.proofs.TakenLooks.{follows_on, taken_looks_decide}
 use Rattle.study_register.proofs.OneEnd.{reopenings_agree}

@@ -1,5 +1,8 @@
 pub mod Answering
+pub mod CommandLaws
+pub mod CommandReads
+pub mod CommandsReplied
 pub mod KeptLooks
+pub mod LookPlaces
 pub mod Looks
 pub mod OneEnd
-pub mod CommandsReplied

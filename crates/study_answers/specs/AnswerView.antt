@@ -1,12 +1,12 @@
 -- Replies and ends as contracts see them, with the looks that a keeper holds.
-use Rattle.std.specs.Prelude.{◌≡◌, ◌++◌, ◌⊎◌, ℕ, List, [], ◌∷◌, IfSome, Option, Some, None}
+use Rattle.std.specs.Prelude.{◌≡◌, ◌++◌, ◌⊎◌, ℕ, List, [], IfSome, Option, Some, None}
 use Rattle.std.specs.List.{flat_map}
 use Rattle.graph_io.specs.declared.keeper.Look.{Look}
 use Rattle.answers.specs.declared.answer.Answer.{Answer}
 use Rattle.case_model.specs.Content.{Content}
 use Rattle.report.specs.StudyReport.{Reply, reply_lines}
 use Rattle.staged_levels.specs.Studies.{StudyState}
-use Rattle.study_commands.specs.declared.command.StudyCommand.{StudyCommand}
+use Rattle.study_answers.specs.declared.command.StudyCommand.{StudyCommand}
 use Rattle.study_register.specs.Looking.{AreTaken}
 use Rattle.study_answers.specs.declared.replying.CommandStop.{CommandStop}
 use Rattle.study_answers.specs.declared.replying.CommandStop.TheVariants.{Wide, Fault, NoMemory}

@@ -1,4 +1,8 @@
 pub mod AnswerView
+pub mod CommandFaults
+pub mod CommandLanguage
+pub mod CommandLines
+pub mod CommandStatements
 pub mod KeeperWays
 pub mod Replies
 pub mod StudyStages

@@ -6,8 +6,8 @@ use Rattle.case_model.specs.Content.{Content}
 use Rattle.staged_levels.specs.Looks.{IsLook, IsWideLook}
 use Rattle.staged_levels.specs.Studies.{StudyState}
 use Rattle.staged_levels.specs.StudyAnswers.{IsArriveFault}
-use Rattle.study_commands.specs.declared.command.StudyCommand.{StudyCommand}
-use Rattle.study_commands.specs.declared.command.StudyCommand.TheVariants.{Take, Show}
+use Rattle.study_answers.specs.declared.command.StudyCommand.{StudyCommand}
+use Rattle.study_answers.specs.declared.command.StudyCommand.TheVariants.{Take, Show}
 use Rattle.study_register.specs.Looking.{arrival_of}
 use Rattle.report.specs.StudyReport.{Reply, taken, refused, shown}
 

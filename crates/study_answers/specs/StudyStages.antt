@@ -1,5 +1,5 @@
 -- What a study answers to commands, after the looks that are kept.
-use Rattle.std.specs.Prelude.{◌≡◌, ◌⊎◌, ℕ, List, [], ◌∷◌, length, Option, Some, None, Err}
+use Rattle.std.specs.Prelude.{◌≡◌, ◌⊎◌, ℕ, List, length, Option, Some, None, Err}
 use Rattle.field_core.specs.declared.place.WideAt.{WideAt}
 use Rattle.graph_io.specs.declared.keeper.Look.{Look}
 use Rattle.answers.specs.declared.answer.Answer.{Answer}
@@ -14,7 +14,7 @@ use Rattle.refusals.specs.declared.wide.When.TheVariants.{Look as AfterLook}
 use Rattle.report.specs.StudyReport.{Reply, study_report}
 use Rattle.staged_levels.specs.Looks.{IsDefined}
 use Rattle.staged_levels.specs.Studies.{StudyState, start}
-use Rattle.study_commands.specs.declared.command.StudyCommand.{StudyCommand}
+use Rattle.study_answers.specs.declared.command.StudyCommand.{StudyCommand}
 use Rattle.study_register.specs.declared.fault.RegisterFault.{RegisterFault}
 use Rattle.study_register.specs.declared.fault.RegisterFault.TheVariants.{BadLook, Wide, Fault, NoMemory}
 use Rattle.study_register.specs.Looking.{AreTaken}

@@ -1,5 +1,5 @@
 -- The laws of studies whose looks are kept, over all kept looks and all commands, as contracts name them.
-use Rattle.std.specs.Prelude.{◌≡◌, ◌++◌, ◌↔◌, ◌⊎◌, ℕ, List, [], ◌∷◌, length}
+use Rattle.std.specs.Prelude.{◌≡◌, ◌++◌, ◌↔◌, ◌⊎◌, ℕ, List, ◌∷◌, length}
 use Rattle.field_core.specs.declared.place.WideAt.{WideAt}
 use Rattle.graph_io.specs.declared.keeper.Look.{Look}
 use Rattle.answers.specs.declared.status.Status.TheVariants.{Done}
@@ -12,7 +12,7 @@ use Rattle.case_model.specs.Validity.{IsValidContent}
 use Rattle.report.specs.StudyReport.{Reply, shown, study_report}
 use Rattle.staged_levels.specs.declared.event.Settled.{Settled}
 use Rattle.staged_levels.specs.Studies.{StudyState, positions_of}
-use Rattle.study_commands.specs.declared.command.StudyCommand.{StudyCommand}
+use Rattle.study_answers.specs.declared.command.StudyCommand.{StudyCommand}
 use Rattle.study_register.specs.Looking.{arrivals_of, AreTaken}
 use Rattle.study_answers.specs.Replies.{looks_taken, AreReplies, IsFirstBreak, MayTake}
 use Rattle.study_answers.specs.StudyStages.{StudyEnd, study_stage}

@@ -8,11 +8,12 @@ ghost use Rattle.case_model.specs.CaseView.{content};
 ghost use Rattle.refusals.specs.WideRefusal.{wide_refusal};
 ghost use Rattle.refusals.specs.declared.wide.When.TheVariants.{Look as AfterLook};
 ghost use Rattle.staged_levels.specs.StudyAnswers.{IsStaged};
-ghost use Rattle.study_commands.specs.CommandLines.{IsBelow};
+ghost use Rattle.study_answers.specs.CommandLines.{IsBelow};
 ghost use Rattle.study_answers.specs.AnswerView.{MayKeep};
 ghost use Rattle.study_answers.specs.StudyStages.{HasOpening, study_stage, on_looks};
 ghost use Rattle.study_answers.specs.KeeperWays.{over_opening, over_keeper};
 
+use crate::StudyCommand;
 use crate::replying::{CommandStop, replies};
 use answers::{Answer, Refusal, Status, Stop};
 use case_model::Case;
@@ -21,7 +22,6 @@ use graph_io::Keeper;
 use refusals::{When, record_refusal, wide_refusal};
 use report::opened_text;
 use std::alloc::Global;
-use study_commands::StudyCommand;
 use study_register::{Register, RegisterFault};
 
 /// Returns the answer that a refusal is.

@@ -1,6 +1,8 @@
-//! Laws of studies whose looks are kept. Each function states laws that hold of all cases, and does nothing.
+//! Laws of studies whose looks are kept, and of texts of commands. Each function states laws that hold of all cases, and does nothing.
 
 ghost use Rattle.study_answers.specs.StudyStatements.{StudiesHaveOneEnd, RepliesDecide, KeptLooksDecide, TakenLooksAreFirst};
+ghost use Rattle.study_answers.specs.CommandStatements.{TextsSayOneList, TextsHaveOneFault, TextsSayOrFail, TextsDontSayAndFail};
+ghost use Rattle.study_answers.specs.CommandStatements.{CommandsAreSaid, SaidAreCommands};
 
 /// Kept looks and commands have one end: one answer with the looks that are kept also, or one refusal, and not both.
 pub fn studies_have_one_end()
@@ -19,4 +21,19 @@ pub fn kept_looks_decide()
 /// Where commands stop part way, the looks that are kept also are the first of those that all of them take.
 pub fn taken_looks_are_first()
     ensures { TakenLooksAreFirst }
+{}
+
+/// A text says one list of commands for hypotheses of these names, or has one first fault, and not both.
+pub fn texts_are_decided()
+    ensures commands { TextsSayOneList }
+    ensures fault { TextsHaveOneFault }
+    ensures each { TextsSayOrFail }
+    ensures apart { TextsDontSayAndFail }
+{}
+
+/// The lines that are read one by one are exactly those that each say a command, and say the same ones.
+#[tactic(auto, using(crate::proofs::CommandReads::commands_said, crate::proofs::CommandReads::said_commands))]
+pub fn commands_are_read_by_lines()
+    ensures said { CommandsAreSaid }
+    ensures only { SaidAreCommands }
 {}

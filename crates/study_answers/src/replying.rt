@@ -4,18 +4,18 @@ ghost use Rattle.std.specs.List.{AllByRecursion};
 ghost use Rattle.graph_io.specs.Causes.{Rose};
 ghost use Rattle.case_model.specs.CaseView.{content};
 ghost use Rattle.staged_levels.specs.StudyContents.{IsStudy};
-ghost use Rattle.study_commands.specs.CommandLines.{IsBelow};
-ghost use Rattle.study_commands.specs.declared.command.StudyCommand.TheVariants.{Take as AskTake};
+ghost use Rattle.study_answers.specs.CommandLines.{IsBelow};
+ghost use Rattle.study_answers.specs.declared.command.StudyCommand.TheVariants.{Take as AskTake};
 ghost use Rattle.study_register.specs.RegisterView.{study_in, looks_in, is_spent};
 ghost use Rattle.study_answers.specs.AnswerView.{IsRepliedTo, AreRepliedTo, StopsCommands, IfBroken};
 
+use crate::StudyCommand;
 use case_model::Case;
 use field_core::{List, WideAt};
 use graph_io::{Keeper, Look};
 use report::{put_refused, put_shown, put_taken};
 use staged_levels::behind;
 use std::alloc::Global;
-use study_commands::StudyCommand;
 use study_register::{AddFault, Register};
 
 /// Why commands aren't replied to.

@@ -1,5 +1,5 @@
 -- Words, a case, commands and kept looks have one outcome.
-use Rattle.std.proofs.Common.{◌≡◌, ap₂, ◌∙◌, sym, ℕ, List, Some}
+use Rattle.std.proofs.Common.{ap₂, ◌∙◌, sym, ℕ, List, Some}
 use Rattle.graph_io.specs.declared.keeper.Look.{Look}
 use Rattle.answers.specs.Stages.{IsDecided}
 use Rattle.answers.proofs.Decided.{then_decided, told_as_decided, within_decided}
@@ -11,7 +11,7 @@ use Rattle.graph_cli.proofs.AcceptedCases.{accepted_decided}
 use Rattle.refusals.specs.TextRefusal.{commands_refusal}
 use Rattle.refusals.specs.UsageRefusal.{usage}
 use Rattle.study_answers.proofs.OneEnd.{studies_have_one_end}
-use Rattle.study_commands.proofs.CommandLaws.{texts_say_one_list, texts_have_one_fault, texts_dont_say_and_fail}
+use Rattle.study_answers.proofs.CommandLaws.{texts_say_one_list, texts_have_one_fault, texts_dont_say_and_fail}
 use Rattle.study_cli.specs.StudyLaws.{StudiesHaveOneOutcome}
 use Rattle.study_cli.specs.StudyOutcome.{study_needs, commands_in, study_call}
 

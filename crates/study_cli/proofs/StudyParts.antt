@@ -12,10 +12,10 @@ use Rattle.answers.specs.Ways.{Ways, StopsIn, EndsIn, over_values, over_source}
 use Rattle.answers.proofs.Stopping.{value_stops, source_stops}
 use Rattle.case_model.specs.Content.{Content}
 use Rattle.command_words.specs.Asked.{StudyAsked}
-use Rattle.study_commands.specs.declared.command.StudyCommand.{StudyCommand}
+use Rattle.study_answers.specs.declared.command.StudyCommand.{StudyCommand}
 use Rattle.study_answers.specs.AnswerView.{HoldSome, MayKeep}
 use Rattle.study_answers.specs.KeeperWays.{over_keeper}
-use Rattle.study_answers.specs.StudyStages.{StudyEnd, HasOpening, study_stage, on_looks}
+use Rattle.study_answers.specs.StudyStages.{HasOpening, study_stage, on_looks}
 use Rattle.study_answers.proofs.Looks.{with_none}
 use Rattle.study_cli.specs.StudyOutcome.{case_of, commands_in, commands_of, study_call, IsStudied, IsOpened, MayBeKept}
 

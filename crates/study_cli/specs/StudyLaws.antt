@@ -1,5 +1,5 @@
 -- What the definition of the outcome of studies promises.
-use Rattle.std.specs.Prelude.{◌≡◌, ℕ, List, Some}
+use Rattle.std.specs.Prelude.{ℕ, List, Some}
 use Rattle.graph_io.specs.declared.keeper.Look.{Look}
 use Rattle.answers.specs.Stages.{IsDecided}
 use Rattle.study_cli.specs.StudyOutcome.{study_outcome}

@@ -1,11 +1,10 @@
 -- What words, a case, commands and kept looks call for: the first stage that refuses decides.
-use Rattle.std.specs.Prelude.{◌≡◌, ◌⊎◌, ◌++◌, ℕ, List, [], ◌∷◌, Option, Some, length, codes}
+use Rattle.std.specs.Prelude.{◌≡◌, ◌⊎◌, ℕ, List, [], Option, Some, codes}
 use Rattle.graph_io.specs.declared.keeper.Look.{Look}
 use Rattle.answers.specs.declared.refusal.Refusal.{Refusal}
 use Rattle.answers.specs.Stages.{Stage, and_then, told_as, on_bytes, within}
 use Rattle.case_model.specs.Content.{Content}
 use Rattle.command_words.specs.Asked.{StudyAsked}
-use Rattle.command_words.specs.WordParts.{opener, joined_word}
 use Rattle.command_words.specs.Words.{study_in}
 use Rattle.edge_text.specs.declared.fault.LineKind.{LineKind}
 use Rattle.refusals.specs.TextRefusal.{commands_refusal}
@@ -14,9 +13,9 @@ use Rattle.graph_cli.specs.Accepted.{accepted}
 use Rattle.graph_cli.specs.Outcome.{AskStudy}
 use Rattle.graph_cli.specs.declared.kind.InputKind.TheVariants.{Awaited}
 use Rattle.graph_cli.specs.declared.needs.Needs.{Needs}
-use Rattle.study_commands.specs.CommandLines.{AreCommands}
-use Rattle.study_commands.specs.CommandFaults.{IsFirstFault}
-use Rattle.study_commands.specs.declared.command.StudyCommand.{StudyCommand}
+use Rattle.study_answers.specs.CommandLines.{AreCommands}
+use Rattle.study_answers.specs.CommandFaults.{IsFirstFault}
+use Rattle.study_answers.specs.declared.command.StudyCommand.{StudyCommand}
 use Rattle.study_answers.specs.AnswerView.{MayKeep}
 use Rattle.study_answers.specs.StudyStages.{StudyEnd, HasOpening, study_stage, on_looks}
 
@@ -92,13 +91,6 @@ MayEnd words case commands kept more = (more ≡ []) ⊎ ((asked : StudyAsked) �
 
 -- ---- the file of the looks
 
--- At this place, from 0, the option `store` begins, in one word or two, and this is its value.
-pub record StoresAt (words : List (List ℕ)) (place : ℕ) (path : List ℕ) : Type 0 where
-  pub front : List (List ℕ)
-  pub rest : List (List ℕ)
-  pub place_is : place ≡ length front
-  pub words_are : (words ≡ front ++ joined_word (codes "store") path ∷ rest) ⊎ (words ≡ front ++ opener (codes "store") ∷ path ∷ rest)
-
 -- the words ask a study for something, and the option `store` is given with this value
 abbrev pub NamesStore : List (List ℕ) → List ℕ → Type 0
-NamesStore words path = (asked : StudyAsked) × AskStudy words asked × (place : ℕ) × (asked.store ≡ Some place) × StoresAt words place path
+NamesStore words path = (asked : StudyAsked) × AskStudy words asked × (asked.store ≡ Some path)

@@ -7,7 +7,7 @@ ghost use Rattle.answers.specs.Runs.{Runs, Uses};
 ghost use Rattle.answers.specs.Ways.{EndsIn, over_values};
 ghost use Rattle.case_model.specs.CaseView.{content};
 ghost use Rattle.command_words.specs.Asked.{study_asked};
-ghost use Rattle.study_commands.specs.CommandLines.{IsBelow};
+ghost use Rattle.study_answers.specs.CommandLines.{IsBelow};
 ghost use Rattle.study_answers.specs.KeeperWays.{over_keeper};
 ghost use Rattle.study_cli.specs.StudyOutcome.{
   study_needs,
@@ -34,8 +34,7 @@ use graph_cli::{InputKind, Needs, accepted_case};
 use graph_io::{Keeper, Sink, Source};
 use refusals::{commands_refusal, usage};
 use std::alloc::Global;
-use study_answers::study_answer;
-use study_commands::{CommandsFault, StudyCommand, read_commands};
+use study_answers::{CommandsFault, StudyCommand, read_commands, study_answer};
 
 /// Returns what a study needs of its case.
 #[tactic(auto, unfolding(crate::specs::StudyOutcome::study_needs))]
@@ -62,7 +61,7 @@ fn commands_in(alloc: Global, case: &Case, bytes: &[u8]) -> Result<List<StudyCom
 #[tactic(auto, unfolding(crate::specs::StudyOutcome::study_call))]
 fn study_call<S: Source, T: Source, K: Keeper>(
     alloc: Global,
-    call: &StudyCall,
+    call: &StudyCall<'_>,
     case: &mut S,
     commands: &mut T,
     keeper: &mut K,

@@ -162,50 +162,66 @@ fn samples_have_sizes_and_seeds(rt: HostRuntime) -> Result<(), Fail> {
     Ok(())
 }
 
-/// Whether the case of a study is JSON, and the places of its files; or the word at which the reading fails.
-fn study_of(
+/// What words ask a study for: whether its case is JSON, the place of the file of its commands, and the path of its looks.
+type Study<'a> = (bool, usize, Option<&'a str>);
+
+/// Holds these words to what they ask a study for, or to the word at which the reading fails.
+fn expect_study(
+    rt: &impl Abort,
     alloc: Global,
     words: &[&str],
-) -> Result<Result<(bool, usize, Option<usize>), usize>, NoMemory> {
+    wanted: Result<Study<'_>, usize>,
+) -> Result<(), NoMemory> {
     let words = words_of(alloc, words)?;
-    match read_study(words.as_slice()) {
-        Ok(call) => Ok(Ok((matches!(&call.form, CaseForm::Json), call.file, call.store))),
-        Err(n) => Ok(Err(n)),
-    }
+    let read = match read_study(words.as_slice()) {
+        Ok(call) => Ok((
+            matches!(&call.form, CaseForm::Json),
+            call.file,
+            call.store,
+        )),
+        Err(n) => Err(n),
+    };
+    assert!(rt; read == wanted);
+    Ok(())
 }
 
+const STUDIES: &[(&[&str], Study<'static>)] = &[
+    (&["study", "looks.txt"], (false, 1, None)),
+    (&["study", "--store", "a.db", "-"], (false, 3, Some("a.db"))),
+    (
+        &["study", "a", "--store=", "--form=json"],
+        (true, 1, Some("")),
+    ),
+    (&["study", "--store=a=b", "c"], (false, 2, Some("a=b"))),
+    (
+        &["study", "--store", "--form=json", "a"],
+        (false, 3, Some("--form=json")),
+    ),
+    (&["study", "--form", "text", "study"], (false, 3, None)),
+];
+
 #[test]
-fn studies_have_a_file(rt: HostRuntime) -> Result<(), Fail> {
-    let alloc = rt.alloc();
-    let rows: &[(&[&str], (bool, usize, Option<usize>))] = &[
-        (&["study", "looks.txt"], (false, 1, None)),
-        (&["study", "--store", "a.db", "-"], (false, 3, Some(1))),
-        (
-            &["study", "a", "--store=", "--form=json"],
-            (true, 1, Some(2)),
-        ),
-        (&["study", "--form", "text", "study"], (false, 3, None)),
-    ];
-    for (words, wanted) in rows {
-        assert!(rt; study_of(alloc, words)? == Ok(*wanted));
+fn studies_have_files(rt: HostRuntime) -> Result<(), Fail> {
+    for (words, wanted) in STUDIES {
+        expect_study(&rt, rt.alloc(), words, Ok(*wanted))?;
     }
     Ok(())
 }
 
+const FAILED_STUDIES: &[(&[&str], usize)] = &[
+    (&[], 1),
+    (&["test"], 1),
+    (&["study"], 2),
+    (&["study", "a", "--form=csv"], 3),
+    (&["study", "a", "--alpha=1"], 3),
+    (&["study", "a", "--store", "b", "--store=c"], 5),
+    (&["study", "a", "--store"], 4),
+];
+
 #[test]
 fn words_of_studies_that_fail(rt: HostRuntime) -> Result<(), Fail> {
-    let alloc = rt.alloc();
-    let rows: &[(&[&str], usize)] = &[
-        (&[], 1),
-        (&["test"], 1),
-        (&["study"], 2),
-        (&["study", "a", "--form=csv"], 3),
-        (&["study", "a", "--alpha=1"], 3),
-        (&["study", "a", "--store", "b", "--store=c"], 5),
-        (&["study", "a", "--store"], 4),
-    ];
-    for (words, word) in rows {
-        assert!(rt; study_of(alloc, words)? == Err(*word));
+    for (words, word) in FAILED_STUDIES {
+        expect_study(&rt, rt.alloc(), words, Err(*word))?;
     }
     Ok(())
 }

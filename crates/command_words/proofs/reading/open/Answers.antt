@@ -9,4 +9,4 @@ pub returns-else-may_open-clause-none : goal.returns-else-may_open-clause-none
 returns-else-may_open-clause-none c =
     λ e argument named may. iff_false c.may_open.ensures c.if-may_open.false
     (subst (MayOpen c.args.verb (given_content c.args.given.now))
-    (one_argument argument c.in_ok-argument.argument (sym named ∙ c.in_ok-argument.ensures.named)) may)
+    (one_argument argument c.in_ok-argument.argument (sym named ∙ (sym c.as_bytes.ensures.value ∙ c.in_ok-argument.ensures.named))) may)

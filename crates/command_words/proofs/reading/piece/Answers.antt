@@ -16,9 +16,8 @@ returns-in_default-clause-bad c =
 
 pub returns-in-Some-read-clause-step : goal.returns-in-Some-read-clause-step
 returns-in-Some-read-clause-step c =
-    joined_step _ _ _ _ _ c.in-Joined.name.now c.in-Joined.text.now _ c.in-Some-open.argument
-    (chosen c.in-Some-read.choice) c.in-Joined.ensures.0 c.in-Some-open.ensures.named c.in-Some-open.ensures.may c.in-Some-read.ensures.argument
-    c.in-Some-read.ensures.spelt c.with_choice-in-Some-read.ensures
+    joined_step _ _ _ c.in-Joined.name.now c.in-Joined.text.now _ c.in-Some-open.argument (chosen c.in-Some-read.choice) c.in-Joined.ensures.0
+    c.in-Some-open.ensures.named c.in-Some-open.ensures.may c.in-Some-read.ensures.argument c.in-Some-read.ensures.spelt
 
 pub returns-in-None-read-clause-bad : goal.returns-in-None-read-clause-bad
 returns-in-None-read-clause-bad c =
@@ -31,11 +30,11 @@ returns-in-None-read-clause-bad c =
 
 pub returns-in-Some-read-2-clause-step : goal.returns-in-Some-read-2-clause-step
 returns-in-Some-read-2-clause-step c =
-    apart_step _ _ _ _ _ c.in-Open.name.now c.as_bytes.result.now (map string_bytes c.args.more.now) (rest_of c.args.more.now) c.in-Some-open-2.argument
+    apart_step _ _ _ c.in-Open.name.now c.as_str.result.now (map string_bytes c.args.more.now) (rest_of c.args.more.now) c.in-Some-open-2.argument
     (chosen c.in-Some-read-2.choice) c.in-Open.ensures.0
     (first_word c.args.more.now c.in-Some-first.text.now c.in-Some-first.ensures.value
-    ∙ ap (λ t. t ∷ rest_of c.args.more.now) (sym c.as_bytes.ensures.value)) c.in-Some-open-2.ensures.named c.in-Some-open-2.ensures.may
-    c.in-Some-read-2.ensures.argument c.in-Some-read-2.ensures.spelt c.with_choice-in-Some-read-2.ensures
+    ∙ ap (λ t. t ∷ rest_of c.args.more.now) (sym c.as_str.ensures.value)) c.in-Some-open-2.ensures.named c.in-Some-open-2.ensures.may
+    c.in-Some-read-2.ensures.argument c.in-Some-read-2.ensures.spelt
 
 pub returns-in_default-open-clause-bad : goal.returns-in_default-open-clause-bad
 returns-in_default-open-clause-bad c =
@@ -46,4 +45,4 @@ returns-in_default-open-clause-bad c =
     )
 
 pub returns-in-Some-clause-step : goal.returns-in-Some-clause-step
-returns-in-Some-clause-step c = bare_step _ _ _ _ _ _ (chosen c.in-Some.choice) c.in-Some.ensures.found c.with_choice.ensures
+returns-in-Some-clause-step c = bare_step _ _ _ _ (chosen c.in-Some.choice) c.in-Some.ensures.found

@@ -12,8 +12,8 @@ returns-in-None-clause-refused c =
       c.in_ok-verb.verb,
       c.in_ok-verb.ensures.given,
       inr (
-        given_content c.in_ok-given.given,
-        c.in_ok-given.ensures.given,
+        given_content c.in-Ok.given,
+        c.in-Ok.ensures.given,
         (sym c.in-None.ensures, ap (λ n. n + 1) (sym (length-map c.args.words.now string_bytes))),
       ),
     )

@@ -13,8 +13,8 @@ returns-in_default-clause-refused c =
       c.in_ok-verb.verb,
       c.in_ok-verb.ensures.given,
       inr (
-        given_content c.in_ok-given.given,
-        c.in_ok-given.ensures.given,
+        given_content c.in-Ok.given,
+        c.in-Ok.ensures.given,
         inl (sym c.in_default.ensures, ap (λ n. n + 1) (sym (length-map c.args.words.now string_bytes))),
       ),
     )
@@ -26,8 +26,8 @@ returns-in-Some-forbidden-clause-refused c =
       c.in_ok-verb.verb,
       c.in_ok-verb.ensures.given,
       inr (
-        given_content c.in_ok-given.given,
-        c.in_ok-given.ensures.given,
+        given_content c.in-Ok.given,
+        c.in-Ok.ensures.given,
         inr (asked c.in-Some.command, sym c.in-Some.ensures, sym c.in-Some-forbidden.ensures),
       ),
     )

@@ -1,4 +1,4 @@
-use Rattle.std.proofs.Common.{◌≡◌, ap, ◌∙◌}
+use Rattle.std.proofs.Common.{ap, ◌∙◌}
 use Rattle.graph_io.specs.Causes.{Rose}
 use Rattle.answers.proofs.Stopping.{handed_on}
 use Rattle.case_model.specs.CaseView.{content}

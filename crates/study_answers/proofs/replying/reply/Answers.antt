@@ -1,4 +1,4 @@
-use Rattle.std.proofs.Common.{◌≡◌, ◌++◌, sym, ap₂, ◌∙◌, subst}
+use Rattle.std.proofs.Common.{◌++◌, sym, ap₂, ◌∙◌, subst}
 use Rattle.case_model.specs.CaseView.{content}
 use Rattle.report.specs.StudyReport.{shown_line}
 use Rattle.study_register.specs.RegisterView.{looks_in}

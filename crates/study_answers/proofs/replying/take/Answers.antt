@@ -3,7 +3,7 @@ use Rattle.graph_io.specs.Causes.{Rose}
 use Rattle.case_model.specs.CaseView.{content}
 use Rattle.report.specs.StagesReport.{AreRejectionsOf}
 use Rattle.report.specs.StudyReport.{refused_line}
-use Rattle.study_commands.specs.declared.command.StudyCommand.TheVariants.{Take as AskTake}
+use Rattle.study_answers.specs.declared.command.StudyCommand.TheVariants.{Take as AskTake}
 use Rattle.study_register.specs.RegisterView.{study_in, looks_in}
 use Rattle.study_answers.specs.AnswerView.{StopsCommands}
 use Rattle.study_answers.specs.declared.replying.CommandStop.TheVariants.{Wide}

@@ -1,4 +1,4 @@
-use Rattle.std.proofs.Common.{inl, refl, map, sym, ◌∙◌, []}
+use Rattle.std.proofs.Common.{inl, refl, map, sym, []}
 use Rattle.std.specs.Prelude.{string_bytes}
 use Rattle.answers.proofs.Stopping.{handed_on}
 use Rattle.command_words.specs.Asked.{study_asked}

@@ -1,3 +1,0 @@
-pub mod CommandLaws
-pub mod CommandReads
-pub mod Looks

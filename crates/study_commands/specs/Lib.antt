@@ -1,4 +1,0 @@
-pub mod CommandLanguage
-pub mod CommandLines
-pub mod CommandFaults
-pub mod CommandStatements
