@@ -10,17 +10,17 @@ use std::mem;
 pub struct Block<'a> {
     /// The number of the line, from 1.
     pub line: usize,
-    /// Its first word, and what stands after it.
+    /// Its first word, and what follows it.
     pub word: &'a str,
     pub rest: &'a str,
     /// The bytes before each gap.
     fronts: Vec<Vec<u8>>,
-    /// The bytes after the last gap, or all where there is none.
+    /// The bytes after the last gap, or all if there is none.
     bytes: Vec<u8>,
 }
 
 impl Block<'_> {
-    /// Whether no bytes stand below.
+    /// Whether no bytes are below.
     pub fn is_bare(&self) -> bool {
         self.fronts.is_empty() && self.bytes.is_empty()
     }

@@ -6,7 +6,7 @@ use crate::printed::Printed;
 use crate::rows::{Call, Row};
 use anyhow::Result;
 
-/// The most bytes of a take and of a put where calls fail.
+/// The most bytes of a take and of a put if calls fail.
 const TAKE: usize = 4;
 
 const PUT: usize = 5;
@@ -48,7 +48,7 @@ impl Devices<'_> {
         self.puts(findings)
     }
 
-    /// The row is to end as it says.
+    /// Reports a run that does not end as the row says.
     fn expect(&self, findings: &mut Findings, plan: &Plan) -> Result<()> {
         let wanted = Wanted {
             status: self.status,
@@ -83,7 +83,7 @@ impl Devices<'_> {
         self.expect(findings, &Plan::of_room(self.text.len()))
     }
 
-    /// Each take of the case fails, and each of the file; both together are reported as one.
+    /// Lets each take of the case fail in turn, and each take of the file. Both together are reported as one.
     fn takes(&self, findings: &mut Findings) -> Result<()> {
         for take in 1..=takes_of(self.row.case) {
             self.read_fault(findings, take, 0)?;
@@ -114,7 +114,7 @@ impl Devices<'_> {
         }
     }
 
-    /// Each call of the keeper fails, and then each put of the line that reports it.
+    /// Lets each call of the keeper fail in turn, and then each put of the line that reports it.
     fn calls(&self, findings: &mut Findings) -> Result<()> {
         for before in 0..self.keeper_calls() {
             let plan = Plan {
@@ -127,7 +127,7 @@ impl Devices<'_> {
         Ok(())
     }
 
-    /// Each put of the text fails. The calls of the other devices that would fail are those after it the last.
+    /// Lets each put of the text fail in turn. The calls of the other devices that would fail are those after it the last.
     fn puts(&self, findings: &mut Findings) -> Result<()> {
         let plan = Plan {
             case_take: takes_of(self.row.case).saturating_add(1),
@@ -139,8 +139,8 @@ impl Devices<'_> {
         self.each_put(findings, &plan, (self.status, self.text), looks)
     }
 
-    /// Each put of a text fails in turn, and then the one after the last, which isn't made. The keeper holds this
-    /// number of looks more than before.
+    /// Lets each put of a text fail in turn, and then the one after the last, which isn't made. The keeper holds this number of
+    /// looks more than before.
     fn each_put(
         &self,
         findings: &mut Findings,

@@ -18,7 +18,7 @@ pub struct Ended {
     pub status: u8,
     pub printed: Vec<u8>,
     pub looks: Vec<Look>,
-    /// How many bytes of the case weren't taken, at most 8; or none where the next take fails.
+    /// How many bytes of the case weren't taken, at most 8; or none if the next take fails.
     pub left: Option<usize>,
 }
 

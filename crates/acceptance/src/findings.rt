@@ -8,7 +8,7 @@ use std::alloc::Global;
 use std::fmt;
 use std::fmt::Write;
 
-/// How many rows and runs there were of a table, and what is reported of those that ended otherwise than wanted.
+/// How many rows and runs there were of a table, and what is reported of those that did not end as expected.
 #[derive(Drop)]
 pub struct Findings<'a> {
     alloc: Global,
@@ -19,7 +19,7 @@ pub struct Findings<'a> {
 }
 
 impl<'a> Findings<'a> {
-    /// Of the table of this name nothing was run yet.
+    /// Returns the findings of the table of this name, of which nothing was run yet.
     pub fn new(alloc: Global, table: &'a str) -> Findings<'a> {
         Findings {
             alloc,
@@ -30,7 +30,7 @@ impl<'a> Findings<'a> {
         }
     }
 
-    /// Whether each run ended as wanted.
+    /// Whether each run ended as expected.
     pub fn is_clean(&self) -> bool {
         self.told.is_empty()
     }

@@ -1,9 +1,9 @@
 //! Whole runs of the top calls, read from tables: what a run is given, and how it is to end.
 //!
 //! The program reads the tables that its words name, and runs each row through `graph_cli::run` or `study_cli::run_study` over
-//! sources, sinks and keepers in memory. For each table it prints how many rows and runs there were, and before that each run
-//! that ended otherwise: the table and the line of its row, how the devices were planned, what was wanted and what came. It ends
-//! with status 1 where there was such a run or where a table can't be read, else with 0.
+//! sources, sinks and keepers in memory. For each table it prints how many rows and runs there were. Before that it prints each
+//! run that ended otherwise: the table and the line of its row, how the devices were planned, what was expected and what came.
+//! It ends with status 1 if there was such a run or if a table can't be read, else with 0.
 //!
 //! An empty line of a table, and one that begins with `#`, says nothing. A row begins with one of these lines:
 //!
@@ -59,7 +59,7 @@ use anyhow::{Context, Result};
 use std::process::ExitCode;
 use std::{env, fs};
 
-/// Runs a table, prints what is reported of it, and answers whether each run ended as wanted.
+/// Runs a table, prints what is reported of it, and returns whether each run ended as expected.
 fn is_clean(rt: &HostRuntime, path: &str) -> Result<bool> {
     let table = fs::read_to_string(rt, path)?;
     let findings = tables::run_table(rt.alloc(), path, table.as_str())?;

@@ -3,7 +3,7 @@ use crate::blocks::Block;
 use anyhow::{Context, Result, bail};
 use std::alloc::Global;
 
-/// Returns the bytes that a line says, by its mark and what stands after it; or `None` where the mark is none of bytes.
+/// Returns the bytes that a line says, by its mark and what follows it; or `None` if the mark is none of bytes.
 pub fn bytes_of(
     alloc: Global,
     blocks: &[Block],

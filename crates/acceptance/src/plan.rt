@@ -11,7 +11,7 @@ pub struct Plan {
     pub take_most: usize,
     /// The most bytes that a put takes, at least 1.
     pub put_most: usize,
-    /// The room of the sink, where it takes what fits at once.
+    /// The room of the sink, if it takes what fits at once.
     pub room: Option<usize>,
     pub case_take: u64,
     pub file_take: u64,
@@ -20,12 +20,12 @@ pub struct Plan {
 }
 
 impl Plan {
-    /// No call fails, and each moves all that it may.
+    /// Returns the plan in which no call fails, and each moves all that it may.
     pub fn whole() -> Plan {
         Plan::of_pieces(ALL, ALL)
     }
 
-    /// No call fails, and each moves at most this number of bytes.
+    /// Returns the plan in which no call fails, and each moves at most this number of bytes.
     pub fn of_pieces(take_most: usize, put_most: usize) -> Plan {
         Plan {
             take_most,
@@ -38,7 +38,7 @@ impl Plan {
         }
     }
 
-    /// No call fails but where the sink has no room left, which has so much.
+    /// Returns the plan in which a call fails only if the sink has no room left. It has this room.
     pub fn of_room(room: usize) -> Plan {
         Plan {
             room: Some(room),

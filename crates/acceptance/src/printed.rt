@@ -6,7 +6,7 @@ use std::fmt;
 pub struct Printed<'a> {
     /// The bytes before each gap.
     pub fronts: &'a [Vec<u8>],
-    /// The bytes after the last gap, or all where there is none.
+    /// The bytes after the last gap, or all if there is none.
     pub last: &'a [u8],
 }
 
@@ -30,7 +30,7 @@ impl<'a> Printed<'a> {
         }
     }
 
-    /// Whether lines hold these, one after the other, and end in the last.
+    /// Whether lines hold these, one after another, and end in the last.
     fn ends(&self, lines: &[u8], fronts: &[Vec<u8>]) -> bool {
         let mut rest = lines;
         for front in fronts {
@@ -46,7 +46,7 @@ impl<'a> Printed<'a> {
     }
 }
 
-/// Returns what stands after the first place, at the beginning of a line, where these bytes stand.
+/// Returns what follows the first place, at the beginning of a line, where these bytes are.
 fn behind<'a>(lines: &'a [u8], bytes: &[u8]) -> Option<&'a [u8]> {
     let mut rest = lines;
     for line in lines.split_inclusive(|byte| *byte == b'\n') {

@@ -18,7 +18,7 @@ pub enum Call {
     Run,
     /// `study_cli::run_study`.
     Study,
-    /// `graph_cli::file_word`: the status is the number of the word, from 1, or 0 where none names a file.
+    /// `graph_cli::file_word`: the status is the number of the word, from 1, or 0 if none names a file.
     FileWord,
 }
 
@@ -41,7 +41,7 @@ pub struct Row<'a> {
     pub ending: Option<Ending<'a>>,
     /// What `check` is to print of the case and what is printed.
     pub checked: Option<&'a [u8]>,
-    /// The room of the sink in bytes, where it isn't that of a failing sink.
+    /// The room of the sink in bytes, if it isn't that of a failing sink.
     pub room: Option<usize>,
     /// How long the printed text is, and its digest.
     pub counts: Option<Counts>,
@@ -90,7 +90,7 @@ impl<'a> Row<'a> {
         }
     }
 
-    /// Returns the plan of its run where no call fails.
+    /// Returns the plan of its run if no call fails.
     pub fn plan(&self) -> Plan {
         match self.room {
             Some(room) => Plan::of_room(room),
@@ -124,7 +124,7 @@ impl<'a> Row<'a> {
         }
     }
 
-    /// Takes what a line says below which no bytes stand.
+    /// Takes what a line says below which there are no bytes.
     fn take_bare(&mut self, block: &Block) -> Result<()> {
         if !block.is_bare() {
             bail!("bytes below {}", block.word);
@@ -153,7 +153,7 @@ impl<'a> Row<'a> {
     }
 }
 
-/// Puts a value where none was put before.
+/// Puts a value if none was put before.
 fn put_once<T: Copy>(place: &mut Option<T>, value: T) -> Result<()> {
     if place.is_some() {
         bail!("said twice");

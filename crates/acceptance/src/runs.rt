@@ -28,7 +28,7 @@ impl Given<'_> {
         }
     }
 
-    /// Runs over a sink that has so much room.
+    /// Runs over a sink that has this room.
     fn run_in_room(&self, alloc: Global, plan: &Plan, room: usize) -> Result<Ended> {
         let mut out = MemorySink::with_room(alloc, room).map_err(|_| AllocError)?;
         let mut ended = self.run_into(alloc, plan, &mut out)?;
@@ -45,7 +45,7 @@ impl Given<'_> {
         Ok(ended)
     }
 
-    /// Runs over this sink, and over sources and a keeper by plan. What the sink holds isn't told.
+    /// Runs over this sink, and over sources and a keeper by plan. What the sink holds isn't reported.
     fn run_into<W: Sink>(&self, alloc: Global, plan: &Plan, out: &mut W) -> Result<Ended> {
         let mut case = source(alloc, self.case, plan.take_most, plan.case_take)?;
         let mut file = source(alloc, self.file, plan.take_most, plan.file_take)?;
@@ -59,7 +59,7 @@ impl Given<'_> {
         })
     }
 
-    /// Makes the call, and answers the status.
+    /// Makes the call, and returns the status.
     fn status<S: Source, T: Source, K: Keeper, W: Sink>(
         &self,
         alloc: Global,
@@ -99,7 +99,7 @@ fn study_status<S: Source, T: Source, K: Keeper, W: Sink>(
     run_study(alloc, words, case, file, keeper, out)
 }
 
-/// Returns the number of the word that names a file, from 1, or 0 where none does.
+/// Returns the number of the word that names a file, from 1, or 0 if none does.
 fn file_number(words: &[String]) -> u8 {
     match file_word(words) {
         Some(place) => u8::try_from(place.saturating_add(1)).unwrap_or(u8::MAX),

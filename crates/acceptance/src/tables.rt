@@ -25,7 +25,7 @@ pub fn run_table<'a>(alloc: Global, name: &'a str, table: &str) -> Result<Findin
     Ok(findings)
 }
 
-/// Runs a row, and, where it ends as it is to, all that it says also.
+/// Runs a row, and, if it ends as it is to, all that it says also.
 fn run_row(alloc: Global, findings: &mut Findings, row: &Row) -> Result<()> {
     let ending = row.ending.context("no end")?;
     let wanted = Wanted {
@@ -44,7 +44,7 @@ fn run_row(alloc: Global, findings: &mut Findings, row: &Row) -> Result<()> {
     Ok(())
 }
 
-/// A case is to be taken to its end, but for what the row leaves; and where there is none, no take is to be made.
+/// Reports a case that is not taken to its end, but for what the row leaves. If there is no case, no take is to be made.
 fn expect_left(findings: &mut Findings, row: &Row, ended: &Ended) -> Result<()> {
     let wanted = row.case.map(|_| row.leaves);
     let came = ended.left;
@@ -84,7 +84,7 @@ fn run_besides(alloc: Global, findings: &mut Findings, row: &Row, ended: &Ended)
     Ok(())
 }
 
-/// `check` is to say yes to what was printed, and to print this.
+/// Reports if `check` does not say yes to what was printed, or does not print this.
 fn run_check(
     alloc: Global,
     findings: &mut Findings,

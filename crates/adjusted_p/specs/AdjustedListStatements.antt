@@ -20,7 +20,7 @@ use Rattle.adjusted_p.specs.WrittenRun.{IsWideAdjusting}
 abbrev pub IsReachedBy : Number → Adjusted → Type 0
 IsReachedBy level x = (x.reached ≡ true) × (number_of x.value ≤ε level)
 
--- At each level from 0 to 1 the closed test rejects a hypothesis of a case exactly where its value is reached and is at most the level.
+-- At each level from 0 to 1 the closed test rejects a hypothesis of a case exactly if its value is reached and is at most the level.
 abbrev pub AdjustedValuesDecideCases : Type 0
 AdjustedValuesDecideCases =
     (c : Content) (xs : List Adjusted) (level : Number) (j : ℕ) → AreAdjusted c xs → IsUnit level → j < length c.names
@@ -34,6 +34,6 @@ AdjustedListsAreUnique = (c : Content) (xs ys : List Adjusted) → AreAdjusted c
 abbrev pub WideRunsAreUnique : Type 0
 WideRunsAreUnique = (c : Content) (m n : ℕ) (v w : WideAt) → IsWideAdjusting c m v → IsWideAdjusting c n w → (m ≡ n) × (v ≡ w)
 
--- At the level 1 the least ratio is legal exactly where it is at most 1.
+-- At the level 1 the least ratio is legal exactly if it is at most 1.
 abbrev pub RunsStopAboveOne : Type 0
 RunsStopAboveOne = (E : EntangledGraph) (p : ℕ → Number) (I : ℕ → Bool) (j : ℕ) → IsLeastLegalRatio E p number_one I j ↔ IsLeastToOne E p I j

@@ -15,7 +15,7 @@ use Rattle.adjusted_p.specs.declared.adjusted.Adjusted.{Adjusted}
 use Rattle.adjusted_p.specs.AdjustedLists.{adjusted_at}
 use Rattle.adjusted_p.specs.RatioRuns.{ValueStep, removed_ones, AreValueSteps, IsTableOf}
 
--- the value of the last step, and `before` where there is none
+-- the value of the last step, and `before` if there is none
 abbrev pub last_value : Number → List ValueStep → Number
 last_value before [] = before
 last_value before (x ∷ xs) = last_value (number_of x.value) xs

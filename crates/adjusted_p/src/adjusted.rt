@@ -22,8 +22,8 @@ use fraction::Fraction;
 use sequential::Trial;
 use std::alloc::Global;
 
-/// The adjusted value of a hypothesis: the least level from 0 to 1 at which the closed test rejects it, which is reached;
-/// or 1, not reached, where no level up to 1 rejects it.
+/// The adjusted value of a hypothesis. It is the least level from 0 to 1 at which the closed test rejects it, and is reached.
+/// If no level up to 1 rejects it, it is 1, not reached.
 #[derive(Clone, Copy, PartialEq, Eq, Debug)]
 pub struct Adjusted {
     pub value: Fraction,
@@ -87,14 +87,13 @@ fn run(alloc: Global, current: &mut Trial) -> Result<List<Adjusted>, AdjustFault
     }
 }
 
-/// Returns the adjusted values of a case that has a p-value for each hypothesis, by ascending position. Each is the
-/// least level from 0 to 1 at which the closed test rejects the hypothesis, and is reached; or it is 1 and not reached,
-/// where no such level rejects it.
+/// Returns the adjusted values of a case that has a p-value for each hypothesis, by ascending position. Each is the least level
+/// from 0 to 1 at which the closed test rejects the hypothesis, and is reached. If no such level rejects it, the value is 1 and
+/// not reached.
 ///
-/// The run takes the remaining hypothesis with the least ratio of p-value and weight, the first among equals, as long
-/// as the ratio is at most 1; the value is the greater of the ratio and the value before. Unless out of memory, it is
-/// `AdjustFault::Wide` exactly where this written run is undefined, with the step, counted from 1; step 0 is the
-/// opening.
+/// The run takes the remaining hypothesis with the least ratio of p-value and weight, the first among equals, as long as the
+/// ratio is at most 1. The value is the greater of the ratio and the value before. Unless out of memory, it is
+/// `AdjustFault::Wide` exactly if this written run is undefined, with the step, counted from 1; step 0 is the opening.
 pub fn adjust(alloc: Global, case: &Case) -> Result<List<Adjusted>, AdjustFault>
     requires { IsSingle (content case.now).inputs }
     ensures values { IfOk result (AreAdjusted (content case.now)) }

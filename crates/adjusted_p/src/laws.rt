@@ -7,8 +7,8 @@ ghost use Rattle.adjusted_p.specs.AdjustedListStatements.{
   RunsStopAboveOne,
 };
 
-/// At each level from 0 to 1 the closed test rejects a hypothesis exactly where its adjusted value is reached and is at
-/// most the level.
+/// At each level from 0 to 1 the closed test rejects a hypothesis exactly if its adjusted value is reached and is at most the
+/// level.
 pub fn adjusted_values_decide_cases()
     ensures { AdjustedValuesDecideCases }
 {}
@@ -23,8 +23,8 @@ pub fn wide_runs_are_unique()
     ensures { WideRunsAreUnique }
 {}
 
-/// At the level 1 the hypothesis with the least ratio is legal exactly where its ratio is at most 1: so the run stops at
-/// the first least ratio above 1.
+/// At the level 1 the hypothesis with the least ratio is legal exactly if its ratio is at most 1. So the run stops at the first
+/// least ratio above 1.
 pub fn runs_stop_above_one()
     ensures { RunsStopAboveOne }
 {}

@@ -12,19 +12,19 @@ use Rattle.answers.specs.declared.stop.Stop.TheVariants as stops
 abbrev pub line : List ℕ → List ℕ
 line text = text ++ 10 ∷ []
 
--- what is put where a source had a fault
+-- what is put if a source had a fault
 unfoldable pub read_fault : List ℕ
 read_fault = line (codes "read fault")
 
--- what is put where memory was exhausted
+-- what is put when out of memory
 unfoldable pub no_memory : List ℕ
 no_memory = line (codes "no memory")
 
--- what is put where the keeper had a fault
+-- what is put if the keeper had a fault
 unfoldable pub keeper_fault : List ℕ
 keeper_fault = line (codes "keeper fault")
 
--- what is put where a call gives no answer
+-- what is put if a call gives no answer
 abbrev pub stop_line : Stop → List ℕ
 stop_line (stops.Refused refusal) = refusal.line
 stop_line stops.ReadFault = read_fault

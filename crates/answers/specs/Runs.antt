@@ -19,7 +19,7 @@ abbrev pub status_of : Result Answer Stop → ℕ
 status_of (Ok a) = status_code a.status
 status_of (Err stop) = stop_code stop
 
--- A text was put without a fault of the sink, and its status returned; or the sink had a fault and holds a prefix of the text, and the status is 7.
+-- A text was put without a fault of the sink, and its status returned. Or the sink had a fault and holds a prefix of the text, and the status is 7.
 abbrev pub Finished : Type 0 → Type 0 → Option (List ℕ) → Option (List ℕ) → List ℕ → ℕ → ℕ → Type 0
 Finished rose same old new text status result = ((result ≡ status) × Appends old new text × same) ⊎ ((result ≡ 7) × rose × AppendsPrefix old new text)
 
@@ -46,9 +46,9 @@ pub record IsPutBriefly (w : Ways Answer) (before after : ℕ) : Type 0 where
   pub ends : EndsIn w outcome
   pub puts : after ≤ before + (length (text_of outcome) + 1)
 
--- What a top call does, by its status. `w` has the ways in which the call may end. `rose` says that the sink had a fault in this call, and
--- `same` that its count of faults stayed. `old` and `new` are what the sink held and holds, where it says that, and `before` and `after` how
--- many puts were made by then.
+-- What a top call does, by its status. `w` has the ways in which the call may end. `rose` says that the sink had a fault in this call, and `same`
+-- that its count of faults stayed. `old` and `new` are what the sink held and holds, if it says that, and `before` and `after` how many puts were
+-- made by then.
 pub record Runs (w : Ways Answer) (rose same : Type 0) (old new : Option (List ℕ)) (before after : ℕ) (status : ℕ) : Type 0 where
   pub done : status ≤ 5 → IsAnswered w old new status
   pub read : status ≡ 6 → w.read × Appends old new read_fault
@@ -61,7 +61,7 @@ pub record Runs (w : Ways Answer) (rose same : Type 0) (old new : Option (List �
   pub known : status ≤ 9
   pub brief : IsPutBriefly w before after
 
--- What a top call does to a source. Where it doesn't read it, it leaves it as it was. With status 0 it has read it to its end.
+-- What a top call does to a source. If it doesn't read it, it leaves it as it was. With status 0 it has read it to its end.
 pub record Uses {S : Type 0} (left : S → Option (List ℕ)) (Reads : Type 0) (old new : S) (status : ℕ) : Type 0 where
   pub untouched : ¬ Reads → new ≡ old
   pub end : Reads → status ≡ 0 → IsAtEnd (left new)

@@ -43,7 +43,7 @@ only x = record { Gives = λ y. y ≡ x; Refuses = λ r. ⊥ }
 abbrev pub most_bytes : ℕ
 most_bytes = 4194304
 
--- the bytes of an input, named by these words, where they aren't too many
+-- the bytes of an input, named by these words, if they aren't too many
 abbrev pub within : List ℕ → List ℕ → Stage Refusal (List ℕ)
 within name bytes = record {
   Gives = λ x. (x ≡ bytes) × (length bytes ≤ most_bytes);

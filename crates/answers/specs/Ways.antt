@@ -5,7 +5,7 @@ use Rattle.answers.specs.declared.refusal.Refusal.{Refusal}
 use Rattle.answers.specs.declared.stop.Stop.{Stop}
 use Rattle.answers.specs.declared.stop.Stop.TheVariants.{Refused, ReadFault, KeeperFault, NoMemory}
 
--- What holds where a call gives a value, where it is refused, where a source or the keeper had a fault, and where it is out of memory.
+-- What holds if a call gives a value, if it is refused, if a source or the keeper had a fault, and if it is out of memory.
 pub record Ways (A : Type 0) : Type 1 where
   pub Gives : A → Type 0
   pub Refuses : Refusal → Type 0
@@ -25,7 +25,7 @@ abbrev pub EndsIn : {A : Type 0} → Ways A → Result A Stop → Type 0
 EndsIn w (Ok x) = w.Gives x
 EndsIn w (Err stop) = StopsIn w stop
 
--- The ways of a stage over values: no device is asked. Nothing is said of memory.
+-- The ways of a stage over values: no device is asked. Nothing is claimed of out-of-memory.
 abbrev pub over_values : {A : Type 0} → Stage Refusal A → Ways A
 over_values s = record { Gives = s.Gives; Refuses = s.Refuses; read = ⊥; keeper = ⊥; memory = Unit {0} }
 

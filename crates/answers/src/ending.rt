@@ -7,7 +7,7 @@ use crate::answer::Answer;
 use crate::stop::Stop;
 use graph_io::{Sink, write_all};
 
-/// Puts a text, and returns its status, or 7 where putting failed.
+/// Puts a text, and returns its status, or 7 if putting failed.
 fn finish<W: Sink>(out: &mut W, text: &[u8], status: u8) -> u8
     ensures finished { Finished (Rose (W.faults out.old) (W.faults out.new))
         (W.faults out.new ≡ W.faults out.old)
@@ -22,8 +22,8 @@ fn finish<W: Sink>(out: &mut W, text: &[u8], status: u8) -> u8
 
 /// Puts an answer, or the line that says why there is none, and returns the status.
 ///
-/// The status is that of the answer or of the refusal; 6 where a source had a fault, 8 out of memory, 9 where the keeper had a
-/// fault. It is 7 where putting failed.
+/// The status is that of the answer or of the refusal; 6 if a source had a fault, 8 out of memory, 9 if the keeper had a fault.
+/// It is 7 if putting failed.
 pub fn conclude<W: Sink>(out: &mut W, outcome: &Result<Answer, Stop>) -> u8
     ensures finished { Finished (Rose (W.faults out.old) (W.faults out.new))
         (W.faults out.new ≡ W.faults out.old)

@@ -30,8 +30,8 @@ pub(crate) fn bytes_refusal(alloc: Global, name: &[u8], n: u64) -> Result<Refusa
     Refusal::of_line(Cause::Limit, text)
 }
 
-/// Takes all bytes of a source, where there are at most 4,194,304. `name` says in the refusal which input it is, and ends with
-/// a space if it isn't empty.
+/// Takes all bytes of a source, if there are at most 4,194,304. `name` says in the refusal which input it is, and ends with a
+/// space if it isn't empty.
 ///
 /// Of an input that has too many bytes, one more than it may have is taken. No call takes more. At most 4,194,306 takes are made.
 pub fn take_whole<S: Source>(alloc: Global, name: &[u8], source: &mut S) -> Result<List<u8>, Stop>

@@ -1,4 +1,4 @@
--- What readers of records return, one after the other, up to the first fault.
+-- What readers of records return, one after another, up to the first fault.
 use Rattle.std.specs.Prelude.{ℕ, Bool, true, false, Result, Ok, Err}
 use Rattle.field_core.specs.Answers.{IsUnless, told_as}
 use Rattle.case_csv.specs.declared.fault.CsvFault.{CsvFault}

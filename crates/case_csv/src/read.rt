@@ -22,11 +22,11 @@ use std::alloc::Global;
 /// Reads the case that CSV denotes at a level. Reports the first faulty record, or else the error of the draft, or
 /// `NoMemory`.
 ///
-/// The first record is the header: a cell that is empty or `hypothesis`, then `weight`, `p` and the names. Each further
-/// record is a row: a name of the header, in its order, a weight and a p-value, which are numerals that `Fraction::parse`
-/// reads, and for each hypothesis an expression that `read_entry` reads, the weight of the edge to it. A cell of a p-value
-/// that is empty or `NA` is a p-value that is not given, and a zero from a hypothesis to itself is not an edge. Spaces and tabs
-/// around a field are ignored. There is one component, of share 1. The draft is checked once the records are read.
+/// The first record is the header: a cell that is empty or `hypothesis`, then `weight`, `p` and the names. Each further record
+/// is a row: a name of the header, in its order, a weight, a p-value, and for each hypothesis the weight of the edge to it.
+/// Weights and p-values are numerals that `Fraction::parse` reads. Edges are expressions that `read_entry` reads. A cell of a
+/// p-value that is empty or `NA` is a p-value that is not given, and a zero from a hypothesis to itself is not an edge. Spaces
+/// and tabs around a field are ignored. There is one component, of share 1. The draft is checked once the records are read.
 pub fn read_csv(alloc: Global, bytes: &[u8], alpha: Fraction) -> Result<Case, CsvFault>
     ensures case { IfOk result (IsCaseOf bytes.now alpha) }
     ensures fault { IfErr result (IsCsvFault bytes.now alpha) }

@@ -1,4 +1,4 @@
--- What readers of values return, one after the other, up to the first fault.
+-- What readers of values return, one after another, up to the first fault.
 use Rattle.std.specs.Prelude.{ℕ, ◌+◌, List, [], ◌∷◌, Bool, true, false, Option, Some, None, Result, Ok, Err}
 use Rattle.std.specs.Borrow.{Bor}
 use Rattle.std.specs.Fmt.{decimal}

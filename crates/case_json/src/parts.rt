@@ -8,7 +8,7 @@ use field_core::List;
 use serde_json::Value;
 use std::alloc::Global;
 
-/// Reads values one after the other, up to the first that `read` refuses.
+/// Reads values one after another, up to the first that `read` refuses.
 fn each_item<T: Drop, F: Fn(&Value) -> Result<T, JsonFault>>(
     alloc: Global,
     values: &[Value],

@@ -20,20 +20,20 @@ use std::alloc::Global;
 /// Reads the case that JSON denotes. Reports the first fault of the value, or else the error of the draft, or `NoMemory`.
 /// `Syntax` is reported exactly if `serde_json` refuses the bytes for another cause than memory.
 ///
-/// The value is an object with the keys `alpha`, a number, `hypotheses`, an array of texts, and `components`, an array of
-/// objects, and perhaps with `p`, an array, and `stages`, an object. A component has `weights`, an array of numbers, and
-/// `edges`, and perhaps `share`, a number, which is 1 if it is not written; an edge has `from` and `to`, names of
-/// hypotheses, and `weight`. Stages have `count`, a whole number of at least 0, `spend`, for each hypothesis an array of
-/// numbers or an object with the one key `steps`, and `arrivals`, each with `hypothesis`, `stage`, a whole number of at
-/// least 0, and `p`. A step has `from`, a number, and `levels`, an array of numbers.
+/// The value is an object. Its keys are `alpha`, a number, `hypotheses`, an array of texts, and `components`, an array of
+/// objects. There may be `p`, an array, and `stages`, an object. A component has `weights`, an array of numbers, and `edges`,
+/// and perhaps `share`, a number, which is 1 if it is not written. An edge has `from` and `to`, names of hypotheses, and
+/// `weight`. Stages have `count`, a whole number of at least 0. They have `spend`, for each hypothesis an array of numbers or
+/// an object with the one key `steps`. They have `arrivals`, each with `hypothesis`, `stage`, a whole number of at least 0, and
+/// `p`. A step has `from`, a number, and `levels`, an array of numbers.
 ///
 /// A number is a text that `Fraction::parse` reads, or a whole number of JSON that is held as an integer of 64 bits. The
 /// weight of an edge is a text that `read_entry` reads, or such a whole number of at most 10^18 in size. A place of `p` may
 /// be null, for a p-value that is not given.
 ///
-/// In each object unknown keys are found first, and then the values are read in the order in which they are named here,
-/// with `p` before `components`, `share` before `weights`, and `stages` last, whatever their order in the bytes. A key that
-/// is missing is found at its place. The draft is checked once the value is read.
+/// In each object unknown keys are found first. Then the values are read in the order in which they are named here, with `p`
+/// before `components`, `share` before `weights`, and `stages` last. The order of the keys in the bytes does not matter. A key
+/// that is missing is found at its place. The draft is checked once the value is read.
 pub fn read_json(alloc: Global, bytes: &[u8]) -> Result<Case, JsonFault>
     ensures case { IfOk result (IsCaseOf bytes.now) }
     ensures fault { IfErr result (IsJsonFault bytes.now) }

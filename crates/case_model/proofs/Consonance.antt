@@ -1,5 +1,5 @@
--- Legal orders and the closed test, for any rule that allows members alone and what it allows in a set also in each smaller one: whatever
--- passes at a weight and still passes at a greater one.
+-- Legal orders and the closed test, for any rule that allows members alone, and allows in each smaller set what it allows in a set. An example is
+-- what passes at a weight and still passes at a greater one.
 use Rattle.std.proofs.Common.{◌≡◌, inl, inr, refl, sym, ap, ◌∙◌, ℕ, ◌<◌, Bool, false, List, [], ◌∷◌}
 use Rattle.field_core.specs.Sets.{IsIn, IsSubset, HaveSameMembers, dropping, whole}
 use Rattle.field_core.specs.Runs.{left_after}

@@ -14,11 +14,11 @@ use Rattle.case_model.specs.ClosedTest.{IsRejected}
 use Rattle.case_model.specs.ClosedTestExamples.{alone, two_halves, twentieth, near_half}
 use Rattle.case_model.specs.AdjustedValues.{IsLeastLevel, IsNeverRejected, IsAdjusted}
 
--- at each level from 0 to 1 the closed test rejects `j` exactly where the value is reached and is at most the level
+-- at each level from 0 to 1 the closed test rejects `j` exactly if the value is reached and is at most the level
 abbrev pub Decides : EntangledGraph → (ℕ → Number) → ℕ → Ratio → Bool → Type 0
 Decides E p j value reached = (level : Number) → IsUnit level → IsRejected E p level j ↔ ((reached ≡ true) × (number_of value ≤ε level))
 
--- a value from 0 to 1, which is 1 where it isn't reached
+-- a value from 0 to 1, which is 1 if it isn't reached
 pub record IsInRange (value : Ratio) (reached : Bool) : Type 0 where
   pub unit : IsUnit (number_of value)
   pub one : reached ≡ false → number_of value ≡ number_one
@@ -38,6 +38,6 @@ AdjustedValuesAreUnique =
 abbrev pub LeastLevelsOfTwoHalves : Type 0
 LeastLevelsOfTwoHalves = IsLeastLevel two_halves near_half 0 twentieth × IsLeastLevel two_halves near_half 1 (fraction (pos 13) (pos 250))
 
--- Without weights no hypothesis is ever rejected, even where all p-values are 0.
+-- Without weights no hypothesis is ever rejected, even if all p-values are 0.
 abbrev pub WeightZeroIsNeverRejected : Type 0
 WeightZeroIsNeverRejected = (m j : ℕ) → IsNeverRejected (alone m (graph_without_edges number_field (λ _. number_zero))) (λ _. number_zero) j

@@ -21,8 +21,8 @@ module _ (E : EntangledGraph) (p : ℕ → Number) where
   abbrev pub IsNeverRejected : ℕ → Type 0
   IsNeverRejected j = (level : Number) → IsUnit level → ¬ IsRejected E p level j
 
-  -- the adjusted value of `j`: the least level from 0 to 1 at which the closed test rejects it, which is reached; or 1, not reached, where
-  -- it rejects it at none
+  -- the adjusted value of `j`: the least level from 0 to 1 at which the closed test rejects it, which is reached. If it rejects it at no level, the
+  -- value is 1, not reached
   pub record IsAdjusted (j : ℕ) (value : Ratio) (reached : Bool) : Type 0 where
     pub least : reached ≡ true → IsLeastLevel j (number_of value)
     pub never : reached ≡ false → IsNeverRejected j × (number_of value ≡ number_one)

@@ -7,7 +7,7 @@ use Rattle.case_model.specs.ClosedTest.{only, IsLocallyRejected, IsClosedRejecte
 use Rattle.case_model.specs.SetAnswers.{SaysYes, AnswersFor}
 use Rattle.case_model.specs.DiscoveryBound.{IsBound}
 
--- The closed test rejects a set exactly where the local test rejects it and the closed test rejects it with any one hypothesis more.
+-- The closed test rejects a set exactly if the local test rejects it and the closed test rejects it with any one hypothesis more.
 abbrev pub SetsAreRejectedByTheNextLarger : Type 0
 SetsAreRejectedByTheNextLarger =
     (E : EntangledGraph) (p : ℕ → Number) (level : Number) (S : ℕ → Bool)

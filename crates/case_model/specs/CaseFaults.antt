@@ -50,7 +50,7 @@ infixr 20 ◌or◌
 abbrev pub ◌or◌ : Option CaseFault → Option CaseFault → Option CaseFault
 first or second = option_or first second
 
--- the fault, where the test holds
+-- the fault, if the test holds
 infix 30 ◌when◌
 abbrev pub ◌when◌ : CaseFault → Bool → Option CaseFault
 fault when test = then_some test fault
@@ -198,7 +198,7 @@ shares_fault ks = share_range ks or share_sum ks
 
 -- ---- the weights
 
--- the first component without just one weight for each of `m` hypotheses
+-- the first component without exactly one weight for each of `m` hypotheses
 unfoldable pub weight_count : ℕ → List DraftComponent → Option CaseFault
 weight_count m ks = first_of (λ c k. WeightCount c when not (length k.weights == m)) ks
 
@@ -275,7 +275,7 @@ rows_fault m ks = first_of (component_rows m) ks
 unfoldable pub mixed : Option DraftStages → List (Option Ratio) → Option CaseFault
 mixed stages ps = Mixed when (is_some stages && not (length ps == 0))
 
--- there are p-values, and not just one place for each of `m` hypotheses
+-- there are p-values, and not exactly one place for each of `m` hypotheses
 unfoldable pub p_count : ℕ → List (Option Ratio) → Option CaseFault
 p_count m ps = PCount (length ps) when (not (length ps == 0) && not (length ps == m))
 
@@ -353,7 +353,7 @@ unfoldable pub spend_range : ℕ → Spend → Option CaseFault
 spend_range i (Shares fs) = first_of (λ t f. SpendRange i t when is_below_zero f) fs
 spend_range i (Table ss) = first_of (λ n s. falling_level i (step_before ss n) s.levels) ss
 
--- the fault of a sum and a bound that are written one after the other
+-- the fault of a sum and a bound that are written one after another
 abbrev pub sum_and_bound_fault : {A B : Type 0} → Result A WideAt → Result B WideAt → Number → Number → CaseFault → Option CaseFault
 sum_and_bound_fault (Err wide) r value bound above = Some (Wide wide)
 sum_and_bound_fault (Ok s) r value bound above = bound_fault r value bound above

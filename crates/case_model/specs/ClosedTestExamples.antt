@@ -44,7 +44,7 @@ OnlyFirstHalfIsRejected = IsRejected two_halves near_half twentieth 0 × ¬ IsRe
 abbrev pub BothLinkedHalvesAreRejected : Type 0
 BothLinkedHalvesAreRejected = IsRejected linked_halves near_half twentieth 0 × IsRejected linked_halves near_half twentieth 1
 
--- Where all weights are 0, nothing is rejected at any level, even where all p-values are 0.
+-- If all weights are 0, nothing is rejected at any level, even if all p-values are 0.
 abbrev pub WeightZeroRejectsNothing : Type 0
 WeightZeroRejectsNothing = (m : ℕ) (level : Number) (j : ℕ)
     → ¬ IsRejected (alone m (graph_without_edges number_field (λ _. number_zero))) (λ _. number_zero) level j
@@ -64,6 +64,6 @@ AlikeAreTakenByPosition =
     × IsLastOrder two_halves (λ _. fortieth) twentieth whole (1 ∷ 0 ∷ [])
     × IsRatioOrder two_halves (λ _. fortieth) twentieth whole (0 ∷ 1 ∷ [])
 
--- Where the second has the less p-value, the priority `ratio` takes it first, and the priority `first` doesn't.
+-- If the second has the less p-value, the priority `ratio` takes it first, and the priority `first` doesn't.
 abbrev pub LeastRatioIsTakenFirst : Type 0
 LeastRatioIsTakenFirst = IsRatioOrder two_halves falling twentieth whole (1 ∷ 0 ∷ []) × IsFirstOrder two_halves falling twentieth whole (0 ∷ 1 ∷ [])

@@ -8,13 +8,13 @@ use Rattle.case_model.specs.EntangledGraph.{EntangledGraph, IsValidEntangled}
 use Rattle.case_model.specs.ClosedTest.{IsLocallyRejected, IsClosedRejected, IsRejected}
 use Rattle.case_model.specs.LegalOrder.{IsListed, IsLegalOrder, IsComplete, IsFirstOrder, IsLastOrder, IsRatioOrder}
 
--- The closed test rejects a set with a member exactly where the local test rejects each set that holds it.
+-- The closed test rejects a set with a member exactly if the local test rejects each set that holds it.
 abbrev pub SetsAreRejectedByTheirSupersets : Type 0
 SetsAreRejectedByTheirSupersets =
     (E : EntangledGraph) (p : ℕ → Number) (level : Number) (S : ℕ → Bool) (j : ℕ) → IsIn E.hypotheses S j
     → IsClosedRejected E p level S ↔ ((I : ℕ → Bool) → IsSubset E.hypotheses S I → IsLocallyRejected E p level I)
 
--- It rejects a hypothesis exactly where the local test rejects each set that the hypothesis is in.
+-- It rejects a hypothesis exactly if the local test rejects each set that the hypothesis is in.
 abbrev pub HypothesesAreRejectedByTheirSets : Type 0
 HypothesesAreRejectedByTheirSets =
     (E : EntangledGraph) (p : ℕ → Number) (level : Number) (j : ℕ) → j < E.hypotheses
@@ -26,7 +26,7 @@ LegalOrdersAreRejected =
     (E : EntangledGraph) (p : ℕ → Number) (level : Number) (js : List ℕ) (j : ℕ) → IsValidEntangled E → IsUnit level
     → IsLegalOrder E p level whole js → IsListed js j → IsRejected E p level j
 
--- Where no hypothesis is legal once those of a list are removed, the list has each hypothesis that the closed test rejects.
+-- If no hypothesis is legal once those of a list are removed, the list has each hypothesis that the closed test rejects.
 abbrev pub CompleteListsHaveAllRejected : Type 0
 CompleteListsHaveAllRejected =
     (E : EntangledGraph) (p : ℕ → Number) (level : Number) (js : List ℕ) (j : ℕ)

@@ -1,4 +1,4 @@
--- What a case holds, the content that a draft stands for, and the entangled graph, the p-values and the level of a content.
+-- What a case holds, the content that a draft denotes, and the entangled graph, the p-values and the level of a content.
 use Rattle.std.specs.Prelude.{◌≡◌, ◌≤◌, ◌&&◌, true, ℕ, ◌*◌, ◌/◌, ◌%◌, Bool, List, [], Option, Some, None, map, length, get_or}
 use Rattle.std.specs.Prelude.{if◌then◌else◌, is_some}
 use Rattle.std.specs.Option.{option_map_or}
@@ -31,7 +31,7 @@ pub record Content : Type 0 where
 
 -- ---- the content of a draft
 
--- the entry of the first edge in a list that goes from `i` to `j`, and 0 where none does
+-- the entry of the first edge in a list that goes from `i` to `j`, and 0 if none does
 unfoldable pub edge_between : List DraftEdge → ℕ → ℕ → List Ratio
 edge_between es i j = option_map_or (λ e. e.entry) (find (has_ends i j) es) no_edge
 
@@ -47,7 +47,7 @@ tabled m k = record { share = k.share; weights = k.weights; edges = table_of m k
 unfoldable pub given : List (Option Ratio) → List Ratio
 given ps = filter_map (λ p. p) ps
 
--- the p-values that are given, or none where no p-value is
+-- the p-values that are given, or none if no p-value is
 abbrev pub inputs_given : List (Option Ratio) → Inputs
 inputs_given ps = if list_any is_some ps then Single (given ps) else Bare
 
@@ -55,7 +55,7 @@ inputs_given ps = if list_any is_some ps then Single (given ps) else Bare
 abbrev pub stages_of : DraftStages → Stages
 stages_of s = record { count = s.count; spend = s.spend; arrivals = s.arrivals }
 
--- the stages, where there are some, and else the p-values that are given
+-- the stages, if there are some, and else the p-values that are given
 abbrev pub inputs_of : Option DraftStages → List (Option Ratio) → Inputs
 inputs_of None ps = inputs_given ps
 inputs_of (Some s) ps = Staged (stages_of s)
@@ -92,13 +92,13 @@ entangled c = record {
   graph = λ k. graph_of (length c.names) (component_at c.components k);
 }
 
--- a fact of single p-values, where there are some
+-- a fact of single p-values, if there are some
 abbrev pub IfSingle : Inputs → (List Ratio → Type 0) → Type 0
 IfSingle (Single ps) P = P ps
 IfSingle Bare P = Unit {0}
 IfSingle (Staged s) P = Unit {0}
 
--- an arrival is of one of `m` hypotheses at one of a number of stages, counted from 1, and its p-value is from 0 to 1 with a denominator of at most
+-- an arrival is of one of `m` hypotheses, at one of a number of stages, counted from 1. Its p-value is from 0 to 1 with a denominator of at most
 -- 10^30
 abbrev pub is_arrival : ℕ → ℕ → Arrival → Bool
 is_arrival m count a = arrives_among m a && is_stage count a.stage && is_p_value a.p
@@ -110,13 +110,13 @@ pub record AreStages (m : ℕ) (s : Stages) : Type 0 where
   pub spends : length s.spend ≡ m
   pub arrivals : list_all (is_arrival m s.count) s.arrivals ≡ true
 
--- a fact of stages, where there are some
+-- a fact of stages, if there are some
 abbrev pub IfStaged : Inputs → (Stages → Type 0) → Type 0
 IfStaged (Staged s) P = P s
 IfStaged Bare P = Unit {0}
 IfStaged (Single ps) P = Unit {0}
 
--- a fact of single p-values; it doesn't hold where there are none, or stages
+-- a fact of single p-values; it doesn't hold if there are none, or stages
 abbrev pub ForSingle : Inputs → (List Ratio → Type 0) → Type 0
 ForSingle (Single ps) P = P ps
 ForSingle Bare P = ⊥

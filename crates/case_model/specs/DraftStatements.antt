@@ -8,7 +8,7 @@ use Rattle.case_model.specs.StagedCase.{has_short_fractions, spend_in}
 use Rattle.case_model.specs.ValidDraft.{IsValidDraft, HasWrittenSums}
 use Rattle.case_model.specs.Validity.{IsValidContent}
 
--- A draft has no fault exactly where it is valid and its sums can be written.
+-- A draft has no fault exactly if it is valid and its sums can be written.
 abbrev pub DraftsAreFaultlessWhereValid : Type 0
 DraftsAreFaultlessWhereValid = (d : Draft) → (case_fault d ≡ None) ↔ (IsValidDraft d × HasWrittenSums d)
 

@@ -44,7 +44,7 @@ is_plain_entry e = list_all (λ x. is_zero (terms x)) (drop 1 e)
 unfoldable pub entry_at : ℕ → List (List Ratio) → ℕ → ℕ → List Ratio
 entry_at m table i j = get_or table (i * m + j) no_edge
 
--- the sign of the first coefficient that isn't 0, and that of 0 where all are 0
+-- the sign of the first coefficient that isn't 0, and that of 0 if all are 0
 unfoldable pub first_sign : List Ratio → Ordering
 first_sign [] = Equal
 first_sign (x ∷ xs) = ordering_then (int_sign x.num) (first_sign xs)

@@ -8,8 +8,8 @@ use Rattle.field_core.specs.Sums.{sum_below}
 use Rattle.field_core.specs.Walks.{IsComponentWeight}
 use Rattle.case_model.specs.EntangledGraph.{EntangledGraph}
 
--- `u` is the weight of `k` in the intersection of the set `I`: the sum, over the components, of the share times the limit of the weight of
--- `k` in `I` in that component
+-- `u` is the weight of `k` in the intersection of the set `I`. It is the sum, over the components, of the share times the limit of the weight of `k`
+-- in `I` in that component
 pub record IsIntersectionWeight (E : EntangledGraph) (I : ℕ → Bool) (k : ℕ) (u : Number) : Type 0 where
   pub weight : ℕ → Number
   pub is_weight : (c : ℕ) → c < E.components → IsComponentWeight number_field E.hypotheses (E.graph c) I k (weight c)

@@ -13,7 +13,7 @@ use Rattle.case_model.specs.declared.spend.Spend.{Spend}
 use Rattle.case_model.specs.declared.spend.Spend.TheVariants.{Shares, Table}
 use Rattle.case_model.specs.declared.spend_step.SpendStep.{SpendStep}
 
--- the number of a stage, counted from 1; 0 past the last one, and at 0, where there is no stage
+-- the number of a stage, counted from 1; 0 past the last one, and at 0, if there is no stage
 abbrev pub stage_number : List Ratio → ℕ → Number
 stage_number xs zero = number_zero
 stage_number xs (suc t) = number_at xs t
@@ -23,7 +23,7 @@ unfoldable pub last_step : List SpendStep → Number → Option SpendStep
 last_step [] u = None
 last_step (s ∷ ss) u = option_or (last_step ss u) (then_some (at_most (number_of s.from) u) s)
 
--- the level of a stage in a table at a weight: that of the last step whose `from` is at most the weight, and 0 where there is none
+-- the level of a stage in a table at a weight: that of the last step whose `from` is at most the weight, and 0 if there is none
 abbrev pub table_level : List SpendStep → ℕ → Number → Number
 table_level ss t u = option_map_or (λ s. stage_number s.levels t) (last_step ss u) number_zero
 

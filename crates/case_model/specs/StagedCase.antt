@@ -12,7 +12,7 @@ use Rattle.case_model.specs.Draft.{is_short_level}
 use Rattle.case_model.specs.Content.{Content, entangled}
 use Rattle.case_model.specs.StagedTest.{MeetsAt, IsStagedLegal, IsStagedRejected}
 
--- what the hypotheses spend; nothing where there are no stages
+-- what the hypotheses spend; nothing if there are no stages
 abbrev pub spends_in : Inputs → List Spend
 spends_in (Staged s) = s.spend
 spends_in Bare = []

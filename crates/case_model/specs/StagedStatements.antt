@@ -25,7 +25,7 @@ SpendLevelsAreNondecreasing =
 abbrev pub LastStepsAreReached : Type 0
 LastStepsAreReached = (ss : List SpendStep) (u : Number) (s : SpendStep) → last_step ss u ≡ Some s → IsLastStep ss u s
 
--- Of two steps the second counts where the weight reaches it, else the first where it reaches that; below both the level is 0.
+-- Of two steps the second counts if the weight reaches it, else the first if it reaches that; below both the level is 0.
 abbrev pub TwoStepsGiveTheirLevels : Type 0
 TwoStepsGiveTheirLevels =
     (a b : SpendStep) (t : ℕ) (u : Number)

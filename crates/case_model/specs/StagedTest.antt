@@ -28,7 +28,7 @@ module _ (spend : ℕ → Spend) (alpha : Number) (values : List Arrival) where
     pub hypothesis : a.hypothesis ≡ k
     pub meets : Meets (spend k) alpha a.stage weight (number_of a.p)
 
-  -- `k` passes at a weight where it meets its level at some stage that has arrived
+  -- `k` passes at a weight if it meets its level at some stage that has arrived
   pub record AtStages (k : ℕ) (weight : Number) : Type 0 where
     pub arrival : Arrival
     pub at : MeetsAt k weight arrival

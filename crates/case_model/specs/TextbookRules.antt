@@ -20,7 +20,7 @@ module _ (p : ℕ → Number) where
     pub not_above : p j ≤ε p k
     pub tie : p k ≤ε p j → j < k
 
-  -- each one of a list comes before all that stand after it
+  -- each one of a list comes before all that follow it
   abbrev pub IsByPValue : List ℕ → Type 0
   IsByPValue [] = Unit {0}
   IsByPValue (j ∷ js) = ((k : ℕ) → IsListed js k → Precedes j k) × IsByPValue js
@@ -38,7 +38,7 @@ module _ (p : ℕ → Number) where
   module _ (level : Number) where
     -- ---- fallback
 
-    -- the fraction of the level that a hypothesis is tested at: its own weight, and what the one before it had, where that was rejected
+    -- the fraction of the level that a hypothesis is tested at: its own weight, and what the one before it had, if that was rejected
     unfoldable pub fallback_weight : (ℕ → Number) → ℕ → Number
     fallback_weight w zero = w zero
     fallback_weight w (suc i) = if does_pass (p i) (fallback_weight w i) level then w (suc i) +ε fallback_weight w i else w (suc i)

@@ -18,7 +18,7 @@ abbrev pub PositionsAreAscending : Type 0
 PositionsAreAscending =
     (p : ℕ → Number) (n : ℕ) → ((j : ℕ) → IsListed (by_p_value p n) j ↔ j < n) × (length (by_p_value p n) ≡ n) × IsByPValue p (by_p_value p n)
 
--- There is just one Holm number.
+-- There is exactly one Holm number.
 abbrev pub HasOneHolmNumber : Type 0
 HasOneHolmNumber =
     (p : ℕ → Number) (level : Number) (n : ℕ) → (r : ℕ) × IsHolmNumber p level n r × ((s : ℕ) → IsHolmNumber p level n s → s ≡ r)

@@ -84,8 +84,8 @@ pub record AreValidShares (count : ℕ) (fs : List Ratio) : Type 0 where
   pub nonneg : Each fs IsNonneg
   pub total : SumsTo fs number_one
 
--- a table of levels: 1 to 32 steps by ascending weight, whose levels don't fall from step to step and sum to at most the weight of the step
--- times the level `alpha`
+-- a table of levels: 1 to 32 steps by ascending weight. Levels don't fall from step to step, and sum to at most the weight of the step times the
+-- level `alpha`
 pub record IsValidTable (count : ℕ) (alpha : Ratio) (ss : List SpendStep) : Type 0 where
   pub some : 0 < length ss
   pub few : length ss ≤ 32

@@ -142,9 +142,8 @@ impl Case {
         self.component(c).edges.as_slice()
     }
 
-    /// Returns the p-values. Where there are single ones, there is one for each hypothesis, from 0 to 1. Where there
-    /// are stages, there are 1 to 12, each hypothesis spends at them, and each arrival is of a hypothesis and one of
-    /// the stages.
+    /// Returns the p-values. If there are single ones, there is one for each hypothesis, from 0 to 1. If there are stages,
+    /// there are 1 to 12, each hypothesis spends at them, and each arrival is of a hypothesis and one of the stages.
     pub fn inputs(&self) -> &Inputs
         ensures inputs { result.now ≡ (content self.now).inputs }
         ensures p_values { IfSingle result.now (ArePValues (length (content self.now).names)) }
@@ -161,7 +160,7 @@ impl Case {
         self.components.iter().all(|component| component.is_plain())
     }
 
-    /// Returns the position of the hypothesis of this name; `None` where no hypothesis has it.
+    /// Returns the position of the hypothesis of this name; `None` if no hypothesis has it.
     pub fn position(&self, name: &[u8]) -> Option<usize>
         ensures { result ≡ position_of name.now (content self.now).names }
     {

@@ -30,8 +30,8 @@ use field_core::{List, Text};
 use fraction::Fraction;
 use std::alloc::Global;
 
-/// A case as it was read, which may have faults. `p` has no place, or one for each hypothesis; an empty place is a p-value
-/// that is missing, and where all are empty the case has no p-values.
+/// A case as it was read, which may have faults. `p` has no place, or one for each hypothesis; an empty place is a p-value that
+/// is missing, and if all are empty the case has no p-values.
 #[derive(Drop)]
 pub struct Draft {
     pub names: List<Text>,
@@ -64,9 +64,9 @@ impl Draft {
         }
     }
 
-    /// Returns the case that the draft says, or the first fault that a row of `CaseFault` finds in it, or `NoMemory`. A
-    /// refusal hands back the draft's names; the rest is given up. Each edge goes from a hypothesis to a hypothesis,
-    /// and each p-value that arrived is of a hypothesis.
+    /// Returns the case that the draft denotes, or the first fault that a row of `CaseFault` finds in it, or `NoMemory`. A
+    /// refusal gives the draft's names back; the rest is dropped. Each edge goes from a hypothesis to a hypothesis, and each
+    /// p-value that arrived is of a hypothesis.
     pub fn finish(self, alloc: Global) -> Result<Case, Refused>
         requires ends { have_known_ends self ≡ true }
         requires arrivals { have_known_arrivals self ≡ true }
@@ -184,7 +184,7 @@ fn long_stage_part(stages: &Option<DraftStages>) -> Option<CaseFault>
     }
 }
 
-/// Returns the first fault of the stages of a number of hypotheses, where there are some.
+/// Returns the first fault of the stages of a number of hypotheses, if there are some.
 fn stages_fault(size: usize, alpha: &Fraction, stages: &Option<DraftStages>) -> Option<CaseFault>
     ensures { result ≡ option_and_then (stages_fault size alpha.now) stages.now }
 {
@@ -194,7 +194,7 @@ fn stages_fault(size: usize, alpha: &Fraction, stages: &Option<DraftStages>) -> 
     }
 }
 
-/// There are stages and single p-values.
+/// Returns the error that there are stages and single p-values, if so.
 #[tactic(auto, unfolding(crate::specs::CaseFaults::mixed))]
 fn mixed(stages: &Option<DraftStages>, p: &[Option<Fraction>]) -> Option<CaseFault>
     ensures { result ≡ mixed stages.now p.now }

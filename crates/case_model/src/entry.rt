@@ -134,7 +134,7 @@ fn are_zero(fractions: &[Fraction]) -> bool
     fractions.iter().all(|fraction| fraction.is_zero())
 }
 
-/// Whether `x` is below, at or above 0.
+/// Returns whether `x` is below, at or above 0.
 #[tactic(auto, using(crate::proofs::Comparisons::sign_is))]
 fn sign(x: &Fraction) -> Ordering
     ensures { result ≡ int_sign x.now.num }

@@ -21,8 +21,8 @@ pub enum PartPlace {
     Arrival(usize),
 }
 
-/// Why a draft is refused. The rows are tested in this order, each for all components, hypotheses and places of a list,
-/// in ascending order, before the next; numbers with long parts in the order of `PartPlace`, and a table step by step.
+/// Why a draft is refused. The rows are tested in this order, each for all components, hypotheses and places of a list, in
+/// ascending order, before the next. Numbers with long parts are tested in the order of `PartPlace`, and a table step by step.
 /// Components, hypotheses, stages, steps and arrivals are named by their places, from 0.
 #[derive(Clone, Copy, PartialEq, Eq, Debug)]
 pub enum CaseFault {
@@ -38,8 +38,9 @@ pub enum CaseFault {
     NoComponent,
     /// There are this many components, more than 8.
     TooManyComponents(u64),
-    /// A part of a number passes its limit: 10,000 for the level and a fraction that is spent, 10^30 for the denominator of
-    /// a p-value, 10^18 for a share, a weight, a coefficient of an edge, and the weight or a level of a step.
+    /// A part of a number passes its limit. The limit is 10,000 for the level and a fraction that is spent, and 10^30 for the
+    /// denominator of a p-value. It is 10^18 for a share, a weight, a coefficient of an edge, and the weight or a level of a
+    /// step.
     PartTooLong(PartPlace),
     /// The level isn't above 0 and at most 1.
     AlphaRange,
@@ -47,7 +48,7 @@ pub enum CaseFault {
     ShareRange(usize),
     /// The shares sum above 1.
     ShareSum,
-    /// A component hasn't just one weight for each hypothesis.
+    /// A component hasn't exactly one weight for each hypothesis.
     WeightCount(usize),
     /// In a component, the weight of a hypothesis is below 0.
     WeightRange(usize, usize),
@@ -63,7 +64,7 @@ pub enum CaseFault {
     RowSum(usize, usize),
     /// There are stages, and p-values that belong to none.
     Mixed,
-    /// There are this many places of p-values, and not just one for each hypothesis.
+    /// There are this many places of p-values, and not exactly one for each hypothesis.
     PCount(usize),
     /// Some p-value is given, and that of a hypothesis isn't.
     PMissing(usize),
@@ -73,8 +74,8 @@ pub enum CaseFault {
     NoStage,
     /// There are this many stages, more than 12.
     TooManyStages(u64),
-    /// A hypothesis spends nothing, or its list hasn't just one fraction for each stage, or its table has no step, or a step
-    /// hasn't just one level for each stage; or something is spent past the last hypothesis, at this place.
+    /// A hypothesis spends nothing, or its list hasn't exactly one fraction for each stage, or its table has no step, or a step
+    /// hasn't exactly one level for each stage. Or something is spent past the last hypothesis, at this place.
     SpendCount(usize),
     /// The table of a hypothesis has this many steps, more than 32.
     TooManySteps(usize, u64),

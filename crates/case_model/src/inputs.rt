@@ -66,7 +66,7 @@ impl Inputs {
     ghost use Rattle.std.specs.Prelude.{◌≡◌, IfOk};
     ghost use Rattle.case_model.specs.Content.{inputs_given, inputs_of};
 
-    /// Returns the stages, where there are some, and else the p-values that are given.
+    /// Returns the stages, if there are some, and else the p-values that are given.
     pub(crate) fn of(
         alloc: Global,
         stages: Option<DraftStages>,
@@ -80,7 +80,7 @@ impl Inputs {
         }
     }
 
-    /// Returns the p-values that are given, or none where no p-value is.
+    /// Returns the p-values that are given, or none if no p-value is.
     fn given(alloc: Global, p: &[Option<Fraction>]) -> Result<Inputs, NoMemory>
         ensures { IfOk result (λ inputs. inputs ≡ inputs_given p.now) }
     {

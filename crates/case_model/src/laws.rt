@@ -43,19 +43,19 @@ ghost use Rattle.case_model.specs.IntersectionStatements.{
   IntersectionWeightsAreMonotone,
 };
 
-/// A draft has no fault exactly where it is valid and its sums can be written.
+/// A draft has no fault exactly if it is valid and its sums can be written.
 pub fn faultless_drafts_are_valid()
     ensures { DraftsAreFaultlessWhereValid }
 {}
 
-/// The entangled graph of a case is valid: weights, edges and shares aren't below 0, no hypothesis passes weight to
-/// itself, and the weights, each row of edges and the shares sum to at most 1.
+/// The entangled graph of a case is valid. Weights, edges and shares aren't below 0, and no hypothesis passes weight to itself.
+/// The weights, each row of edges and the shares sum to at most 1.
 #[tactic(auto, using(crate::proofs::ValidContents::valid_content))]
 pub fn entangled_graphs_are_valid()
     ensures { EntangledGraphsAreValid }
 {}
 
-/// Each member of each set has just one intersection weight.
+/// Each member of each set has exactly one intersection weight.
 pub fn intersection_weights_exist()
     ensures exist { IntersectionWeightsExist }
     ensures unique { IntersectionWeightsAreUnique }
@@ -77,7 +77,7 @@ pub fn intersection_weights_are_monotone()
     ensures { IntersectionWeightsAreMonotone }
 {}
 
-/// The closed test rejects a set, or a hypothesis, exactly where the local test rejects all sets that hold it.
+/// The closed test rejects a set, or a hypothesis, exactly if the local test rejects all sets that hold it.
 pub fn closed_rejections_are_of_all_supersets()
     ensures sets { SetsAreRejectedByTheirSupersets }
     ensures hypotheses { HypothesesAreRejectedByTheirSets }
@@ -104,7 +104,7 @@ pub fn priority_orders_are_complete()
     ensures ratio { RatioOrdersAreComplete }
 {}
 
-/// Each priority has just one order.
+/// Each priority has exactly one order.
 pub fn priority_orders_exist()
     ensures first { FirstOrdersExist }
     ensures last { LastOrdersExist }

@@ -9,9 +9,9 @@ ghost use Rattle.case_model.specs.ClosedTest.{Passes};
 use field_core::Number;
 use fraction::Fraction;
 
-/// Returns the least weight, if it is above 0, at which a p-value passes at a level: p / alpha. `p` is from 0 to 1 with
-/// a denominator of at most 10^30, and `alpha` a level with parts of at most 10,000; so p / alpha has parts of at most
-/// 10^34, and nothing is refused.
+/// Returns the least weight, if it is above 0, at which a p-value passes at a level: p / alpha. `p` is from 0 to 1 with a
+/// denominator of at most 10^30, and `alpha` a level with parts of at most 10,000. So p / alpha has parts of at most 10^34, and
+/// nothing is refused.
 pub fn least_weight(p: &Fraction, alpha: &Fraction) -> Fraction
     requires p { is_p_value p.now ≡ true }
     requires alpha { is_level alpha.now ≡ true }

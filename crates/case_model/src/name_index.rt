@@ -40,7 +40,7 @@ impl NameIndex {
         Ok(())
     }
 
-    /// Returns the least position of a name in the list that was indexed; `None` where the list doesn't have it.
+    /// Returns the least position of a name in the list that was indexed; `None` if the list doesn't have it.
     pub fn position(&self, name: &[u8]) -> Option<usize>
         ensures { result ≡ place_of self.now name.now }
     {

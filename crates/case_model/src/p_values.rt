@@ -61,7 +61,7 @@ fn first_missing(p: &[Option<Fraction>]) -> Option<CaseFault>
     first_fault(p, |p, i| is_missing(p).then_some(CaseFault::PMissing(i)))
 }
 
-/// Where some p-value is given, the first that isn't.
+/// Returns the fault of the first p-value that isn't given, if some p-value is given.
 #[tactic(auto, unfolding(crate::specs::CaseFaults::p_missing))]
 fn p_missing(p: &[Option<Fraction>]) -> Option<CaseFault>
     ensures { result ≡ p_missing p.now }

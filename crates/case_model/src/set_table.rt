@@ -41,7 +41,7 @@ impl SetTable {
         self.size
     }
 
-    /// The answer for a set.
+    /// Whether the table says yes for a set.
     pub fn get(&self, set: u32) -> bool
         requires { set < 2 ^ table_size self.now }
         ensures { result ≡ answer_of self.now set }

@@ -65,8 +65,8 @@ impl SpendStep {
         written_sum(levels.len(), |t| levels[t])
     }
 
-    /// Returns the fault of the sum of its levels for a hypothesis: that it or the bound is too wide, or else that it
-    /// is above the bound, its weight times the level `alpha`.
+    /// Returns the fault of the sum of its levels for a hypothesis. Either the sum or the bound is too wide, or the sum is
+    /// above the bound, which is its weight times the level `alpha`.
     #[tactic(auto, unfolding(crate::specs::CaseFaults::step_sum))]
     pub(crate) fn sum_fault(&self, i: usize, alpha: &Fraction) -> Option<CaseFault>
         ensures { result ≡ step_sum i alpha.now self.now }

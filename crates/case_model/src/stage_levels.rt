@@ -22,8 +22,8 @@ pub fn at_stage(fractions: &[Fraction], t: usize) -> Option<Fraction>
     fractions.get(t - 1).copied()
 }
 
-/// Returns the level of a stage, from 1, in the last step that a weight reaches; `None` where it reaches none, or the
-/// step has none.
+/// Returns the level of a stage, from 1, in the last step that a weight reaches; `None` if it reaches none, or the step has
+/// none.
 pub fn table_level(steps: &[SpendStep], t: usize, weight: &Fraction) -> Option<Fraction>
     requires { 1 ≤ t }
     ensures { result ≡ option_and_then (λ s. slice_get s.levels (t - 1)) (last_step steps.now (number_of weight.now)) }
@@ -71,8 +71,8 @@ fn weight_for(p: &Fraction, level: &Fraction) -> Fraction
     }
 }
 
-/// Whether a p-value meets the level of a stage at a weight where a fraction of the level is spent. `p` over the fraction
-/// times `alpha` has parts of at most 10^38, so nothing is refused.
+/// Whether a p-value meets the level of a stage at a weight if a fraction of the level is spent. `p` over the fraction times
+/// `alpha` has parts of at most 10^38, so nothing is refused.
 pub fn meets_fraction(
     fraction: &Fraction,
     alpha: &Fraction,

@@ -11,7 +11,7 @@ use crate::CaseFault;
 use field_core::{Number, Place, TooWide};
 use fraction::Fraction;
 
-/// Returns the sum of a number of fractions, written one after the other.
+/// Returns the sum of a number of fractions, written one after another.
 pub fn written_sum<F: Fn(usize) -> Fraction>(count: usize, at: F) -> Result<Fraction, TooWide>
     requires { (i : ℕ) → i < count → F.pre at i }
     ensures { (f : ℕ → Ratio) → ((i : ℕ) (x : Ratio) → i < count → F.post at i x → x ≡ f i)

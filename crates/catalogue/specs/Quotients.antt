@@ -24,7 +24,7 @@ lowest_reduced n d e =
       reduced = grind (arith, nat_tests);
     }
 
--- the fraction with these terms; 0 where they aren't lowest terms
+-- the fraction with these terms; 0 if they aren't lowest terms
 abbrev pub ratio_by : (n : ℤ) (d : ℕ) (b : Bool) → are_lowest n d ≡ b → Ratio
 ratio_by n d true e = record { num = n; den = pos d; valid = lowest_reduced n d e }
 ratio_by n d false e = zero_ratio

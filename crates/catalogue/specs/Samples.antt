@@ -46,7 +46,7 @@ ends_of n seed i = (named_by n i (draw seed (n + 2 * i)), named_by n i (draw see
 unfoldable pub sample_ends : ℕ → ℕ → List (ℕ × ℕ)
 sample_ends n seed = map (ends_of n seed) (range_with_len 0 (n - 1))
 
--- an edge of 1/2 to each end; one edge where both are the same
+-- an edge of 1/2 to each end; one edge if both are the same
 abbrev pub half_to : Option (ℕ × ℕ) → ℕ → Option (List Ratio)
 half_to None j = None
 half_to (Some ends) j = if ends.0 == j || ends.1 == j then Some (constant (part 2)) else None

@@ -8,7 +8,7 @@ use Rattle.case_model.specs.declared.draft_component.DraftComponent.{DraftCompon
 use Rattle.case_model.specs.declared.draft_edge.DraftEdge.{DraftEdge}
 use Rattle.case_model.specs.Sums.{one_ratio}
 
--- how many hypotheses there are, the weight of each, and the edge from each to each, where there is one
+-- how many hypotheses there are, the weight of each, and the edge from each to each, if there is one
 pub record WeightedGraph : Type 0 where
   pub size : ℕ
   pub weight : ℕ → Ratio
@@ -22,7 +22,7 @@ name_of i = 72 ∷ decimal (i + 1)
 abbrev pub names_of : ℕ → List (List ℕ)
 names_of n = map name_of (range_with_len 0 n)
 
--- an edge of a draft, where there is one
+-- an edge of a draft, if there is one
 abbrev pub edge_with : ℕ → ℕ → Option (List Ratio) → List DraftEdge
 edge_with i j None = []
 edge_with i j (Some e) = record { from = i; to = j; entry = e } ∷ []

@@ -96,8 +96,8 @@ pub fn fixed_sequence(
     made(alloc, &Sequence { size }, alpha, p)
 }
 
-/// Fallback with these weights, 1 to 64 of them: each hypothesis passes all its weight to the next one. `p` has no
-/// p-value, or one for each hypothesis. The closed test on the case rejects exactly what the fallback rule rejects.
+/// Returns the case of fallback with these weights, 1 to 64 of them. Each hypothesis passes all its weight to the next one. `p`
+/// has no p-value, or one for each hypothesis. The closed test on the case rejects exactly what the fallback rule rejects.
 #[tactic(auto, unfolding(crate::specs::Makings::fallback_case))]
 pub fn fallback(
     alloc: Global,
@@ -129,7 +129,8 @@ fn equal_weights(alloc: Global, n: usize) -> Result<List<Fraction>, NoMemory>
     Ok(weights)
 }
 
-/// Fallback with the weight 1/n for each of `n` hypotheses, from 1 to 64. `p` has no p-value, or one for each hypothesis.
+/// Returns the case of fallback with the weight 1/n for each of `n` hypotheses, from 1 to 64. `p` has no p-value, or one for
+/// each hypothesis.
 #[tactic(auto, using(crate::proofs::EqualChains::size_refused))]
 pub fn equal_fallback(
     alloc: Global,

@@ -46,7 +46,7 @@ fn weights<G: NamedGraph>(alloc: Global, graph: &G) -> Result<List<Fraction>, No
     Ok(weights)
 }
 
-/// Appends the edge from a hypothesis to a hypothesis, where there is one.
+/// Appends the edge from a hypothesis to a hypothesis, if there is one.
 fn put_edge<G: NamedGraph>(
     edges: &mut List<DraftEdge>,
     graph: &G,

@@ -45,8 +45,8 @@ impl NamedGraph for Equal {
     }
 }
 
-/// Holm's graph of `n` hypotheses, from 1 to 64: each has the weight 1/n and passes 1/(n - 1) to each other one. `p`
-/// has no p-value, or one for each hypothesis. The closed test on the case rejects exactly what Holm's rule rejects.
+/// Returns the case of Holm's graph of `n` hypotheses, from 1 to 64. Each has the weight 1/n and passes 1/(n - 1) to each other
+/// one. `p` has no p-value, or one for each hypothesis. The closed test on the case rejects exactly what Holm's rule rejects.
 #[tactic(auto, unfolding(crate::specs::Makings::holm_case))]
 pub fn holm(alloc: Global, n: u64, alpha: Fraction, p: &[Fraction]) -> Result<Case, CatalogueFault>
     ensures case { IfOk result (λ c. holm_case n alpha p.now ≡ Ok (content c)) }

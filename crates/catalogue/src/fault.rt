@@ -7,7 +7,7 @@ use field_core::NoMemory;
 /// Why a case isn't made. Sizes are tested first, then the seed, then the draft.
 #[derive(Clone, Copy, PartialEq, Eq, Debug)]
 pub enum CatalogueFault {
-    /// A size is 0; else there are more than 64 hypotheses, and this is their number, or 2^64 - 1 where it is above that.
+    /// A size is 0; else there are more than 64 hypotheses, and this is their number, or 2^64 - 1 if it is above that.
     Size(u64),
     /// The seed is 2^48 or more.
     Seed(u64),

@@ -154,9 +154,9 @@ fn two_families(a: u64, b: u64) -> Result<Families, CatalogueFault>
     Ok(Families { primary, secondary })
 }
 
-/// Parallel gatekeeping of `a` primary and `b` secondary hypotheses, at least 1 of each and at most 64 together. Each primary
-/// one has the weight 1/a and passes 1/b to each secondary one; each secondary one passes 1/(b - 1) to each other secondary
-/// one. `p` has no p-value, or one for each hypothesis.
+/// Returns the case of parallel gatekeeping with `a` primary and `b` secondary hypotheses, at least 1 of each and at most 64
+/// together. Each primary one has the weight 1/a and passes 1/b to each secondary one; each secondary one passes 1/(b - 1) to
+/// each other secondary one. `p` has no p-value, or one for each hypothesis.
 #[tactic(auto, unfolding(crate::specs::Makings::parallel_case))]
 pub fn parallel(
     alloc: Global,
@@ -172,8 +172,8 @@ pub fn parallel(
     made(alloc, &ParallelGates { families }, alpha, p)
 }
 
-/// Parallel gatekeeping in which each secondary hypothesis passes epsilon to one primary one, by turns, and
-/// (1 - epsilon)/(b - 1) to each other secondary one.
+/// Returns the case of improved parallel gatekeeping. Each secondary hypothesis passes epsilon to one primary one, by turns,
+/// and (1 - epsilon)/(b - 1) to each other secondary one.
 #[tactic(auto, unfolding(crate::specs::Makings::improved_case))]
 pub fn improved_parallel(
     alloc: Global,

@@ -19,7 +19,7 @@ pub trait NamedGraph {
         requires { i < (graph self.now).size }
         ensures { result ≡ (graph self.now).weight i };
 
-    /// Returns the edge from a hypothesis to a hypothesis, where there is one.
+    /// Returns the edge from a hypothesis to a hypothesis, if there is one.
     fn edge(&self, from: usize, to: usize) -> Option<Entry>
         requires from { from < (graph self.now).size }
         requires to { to < (graph self.now).size }

@@ -1,12 +1,11 @@
 //! Named graphs, and cases that are made from a number.
 //!
 //! Proved:
-//! - `holm`, `fixed_sequence`, `fallback`, `equal_fallback`, `parallel`, `improved_parallel`, `sample`: `case` and
-//!   `fault` (the case is the named graph, by its weights and edges, with the p-values that were handed in; or the
-//!   first of the faults: a size, a seed, a error in the draft). `sample`: `p_values`.
-//! - `holm`, `fixed_sequence`, `fallback`: `graph`, `rule` (on each case that is made with p-values the closed test
-//!   rejects exactly the hypotheses that the textbook rule rejects); these and `equal_fallback`: `plain` (no edge has
-//!   an epsilon).
+//! - `holm`, `fixed_sequence`, `fallback`, `equal_fallback`, `parallel`, `improved_parallel`, `sample`. `case`: the case is the
+//!   named graph, by its weights and edges, with the given p-values. `fault`: the first of a size, a seed, an error in the
+//!   draft. `sample`: `p_values`.
+//! - `holm`, `fixed_sequence`, `fallback`: `graph`, `rule` (on each case that is made with p-values, the closed test rejects
+//!   exactly the hypotheses that the textbook rule rejects). These and `equal_fallback`: `plain` (no edge has an epsilon).
 //! - `names` (`H1`, `H2` and so on); `part` (1/n).
 #![tactic(auto)]
 

@@ -101,8 +101,8 @@ fn ends(
     Ok(ends)
 }
 
-/// Returns the sample of `n` hypotheses, from 1 to 64, and a seed below 2^48, at level 1/20: weights 1/n, p-values that
-/// are drawn from 0 to 999999/10^8, and from each hypothesis edges of 1/2 to one or two later ones that are drawn.
+/// Returns the sample of `n` hypotheses, from 1 to 64, and a seed below 2^48, at level 1/20. Weights are 1/n, and p-values are
+/// drawn from 0 to 999999/10^8. Each hypothesis has edges of 1/2 to one or two later ones that are drawn.
 #[tactic(auto, unfolding(crate::specs::Makings::sample_case, crate::specs::Makings::seed_fault))]
 pub fn sample(alloc: Global, n: u64, seed: u64) -> Result<Case, CatalogueFault>
     ensures case { IfOk result (λ c. sample_case n seed ≡ Ok (content c)) }

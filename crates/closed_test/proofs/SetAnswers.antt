@@ -52,8 +52,8 @@ module _ (c : Content) (ps : List Ratio) (weight : ℕ → ℕ → Ratio) (W : A
       of_single (λ qs. AnswersFor (length c.names) (IsLocallyRejected (entangled c) (number_at qs) (number_of c.alpha)) table) c.inputs ps inputs
       (λ n b. (λ t. passing_rejected n b ((each n b).0 t), λ r. (each n b).1 (rejected_passing n b r)))
 
--- a table of any local test, and the table of its closed test; the local test doesn't distinguish sets with the same members, and a set
--- that it rejects has a member
+-- a table of any local test, and the table of its closed test. The local test doesn't distinguish sets with the same members, and a set that it
+-- rejects has a member
 pub closed_by : (m : ℕ) (Local : (ℕ → Bool) → Type 0) → ((I J : ℕ → Bool) → HaveSameMembers m I J → Local I → Local J)
     → ((I : ℕ → Bool) → Local I → (k : ℕ) × IsIn m I k)
     → (local closed : ℕ → Bool) → AreClosedFrom m local closed 0 → AnswersFor m Local local → AnswersFor m (IsClosedRejectedBy m Local) closed

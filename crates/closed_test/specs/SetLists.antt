@@ -1,4 +1,4 @@
--- All sets of some hypotheses, one after the other.
+-- All sets of some hypotheses, one after another.
 use Rattle.std.specs.Prelude.{◌<◌, ◌^◌, ℕ, List, Contains}
 use Rattle.std.specs.List.{All, AllPairs}
 use Rattle.closed_test.specs.SetRuns.{IsEarlierSet}

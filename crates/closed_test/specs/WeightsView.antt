@@ -8,6 +8,6 @@ use Rattle.closed_test.specs.declared.weights.WeightTable.{WeightTable}
 abbrev pub weights_size : WeightTable → ℕ
 weights_size t = t.size
 
--- the weight of `k` in the set of `n`, and some fraction where `k` isn't a member
+-- the weight of `k` in the set of `n`, and some fraction if `k` isn't a member
 unfoldable pub weight_at : WeightTable → ℕ → ℕ → Ratio
 weight_at t n k = ratio_at t.weights (n * 16 + k)

@@ -22,7 +22,7 @@ fn all_larger(closed: &SetTable, set: u32) -> bool
     true
 }
 
-/// Whether a table says yes of each set that holds a set, where another one says that of all sets with a greater number.
+/// Whether a table says yes of each set that holds a set, if another one says that of all sets with a greater number.
 fn answer(local: &SetTable, closed: &SetTable, set: u32) -> bool
     requires size { table_size closed.now ≡ table_size local.now }
     requires set { set < 2 ^ table_size local.now }
@@ -32,10 +32,10 @@ fn answer(local: &SetTable, closed: &SetTable, set: u32) -> bool
     local.get(set) && all_larger(closed, set)
 }
 
-/// Returns the answers of the closed test of a local test, whose answers for all sets are handed in: a set is rejected
-/// where the local test rejects each set that holds it.
+/// Returns the answers of the closed test of a local test, whose answers for all sets are given. A set is rejected if the local
+/// test rejects each set that holds it.
 ///
-/// The sets are taken from larger ones to smaller ones. Nothing is said of the empty set but the same.
+/// The sets are taken from larger ones to smaller ones. The same holds of the empty set, and nothing more.
 pub fn closed_answers(alloc: Global, local: &SetTable) -> Result<SetTable, NoMemory>
     ensures size { IfOk result (λ t. table_size t ≡ table_size local.now) }
     ensures answers { IfOk result (λ t. AreClosedFrom (table_size local.now) (answer_of local.now) (answer_of t) 0) }

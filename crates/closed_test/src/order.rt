@@ -1,4 +1,4 @@
-//! All sets, one after the other.
+//! All sets, one after another.
 ghost use Rattle.std.specs.Prelude.{◌<◌, ◌≤◌, IfOk};
 ghost use Rattle.closed_test.specs.SetLists.{AreSetsInOrder};
 
@@ -6,8 +6,8 @@ use crate::path::Path;
 use field_core::{List, NoMemory};
 use std::alloc::Global;
 
-/// All sets of a number of hypotheses, from 1 to 16, in the order of sets: by the ascending lists of the hypotheses
-/// that they leave out, a list before those that it begins. The set of all hypotheses is the first.
+/// Returns all sets of a number of hypotheses, from 1 to 16, in the order of sets. Sets are ordered by the ascending lists of
+/// the hypotheses that they leave out, a list before those that it begins. The set of all hypotheses is the first.
 pub fn sets_in_order(alloc: Global, size: usize) -> Result<List<u32>, NoMemory>
     requires some { 0 < size }
     requires few { size ≤ 16 }

@@ -66,7 +66,7 @@ impl Path {
         self.left.push_reserved(k);
     }
 
-    /// Takes back the last that is left out; `None` where nothing is.
+    /// Takes back the last that is left out; `None` if nothing is.
     fn take_back(&mut self) -> Option<usize>
         requires { IsPath self.old }
         ensures size { self.new.size ≡ self.old.size }
@@ -83,9 +83,8 @@ impl Path {
         }
     }
 
-    /// Goes to the next set, which comes later in the order of sets, and gives the last hypothesis that it leaves out; all
-    /// others that it leaves out begin what was left out before. `None` after the last set; the path is then
-    /// at the first set again.
+    /// Goes to the next set in the order of sets, and returns the last hypothesis that it leaves out. All others that it leaves
+    /// out begin what was left out before. `None` after the last set; the path is then at the first set again.
     pub fn step(&mut self) -> Option<usize>
         requires { IsPath self.old }
         ensures size { path_size self.new ≡ path_size self.old }

@@ -76,7 +76,7 @@ impl ClosedTable {
 
     /// Returns the tests of all sets of a case that has a p-value for each hypothesis, at its level.
     ///
-    /// There is no table exactly where there is none of the weights, or nothing when out of memory.
+    /// Unless out of memory, there is no table exactly if there is none of the weights.
     pub fn build(alloc: Global, case: &Case) -> Result<ClosedTable, ClosedFault>
         requires { IsSingle (content case.now).inputs }
         ensures size { IfOk result (λ t. weights_size (weights_of t) ≡ length (content case.now).names) }

@@ -68,8 +68,7 @@ fn load_nets(alloc: Global, case: &Case, count: usize) -> Result<Vec<CaseNet>, O
     Ok(nets)
 }
 
-/// Returns why there is no table, where the opening fails: it belongs to the run of the set of all hypotheses, which is
-/// the first.
+/// Returns why there is no table, if the opening fails: it belongs to the run of the set of all hypotheses, which is the first.
 fn opening_fault(case: &Case, fault: OpenFault) -> ClosedFault
     requires few { length (content case.now).names ≤ 16 }
     requires fault { IsOpenFaultOf (content case.now) fault }
@@ -106,9 +105,8 @@ impl WeightTable {
 
     /// Returns the weights of all sets of a case.
     ///
-    /// There are none where there are more than 16 hypotheses; or nothing when out of memory, there are none also
-    /// exactly where the written run of some set is undefined, and the fault names the first such set in the order of
-    /// sets.
+    /// There are none if there are more than 16 hypotheses. Unless out of memory, there are also none exactly if the written
+    /// run of some set is undefined. The fault then names the first such set in the order of sets.
     pub fn build(alloc: Global, case: &Case) -> Result<WeightTable, ClosedFault>
         ensures size { IfOk result (λ t. weights_size t ≡ length (content case.now).names) }
         ensures weights { IfOk result (λ t. AreIntersectionWeights (content case.now) (weight_at t)) }
@@ -139,8 +137,7 @@ impl WeightTable {
         self.size
     }
 
-    /// Returns the weight of `k` in a set, of which it is a member; a fraction that means nothing where it isn't. `k`
-    /// is below 16.
+    /// Returns the weight of `k` in a set, of which it is a member; a fraction that means nothing if it isn't. `k` is below 16.
     pub fn weight(&self, set: u32, k: usize) -> Fraction
         requires set { set < 2 ^ weights_size self.now }
         requires k { k < 16 }

@@ -73,7 +73,7 @@ is_given g arguments.Second = is_some g.second
 is_given g arguments.File = is_some g.file
 is_given g arguments.Store = is_some g.store
 
--- the same, and a value whose first word stands at a place, from 0
+-- the same, and a value whose first word is at a place, from 0
 abbrev pub with_value : ℕ → GivenContent → (argument : Argument) → Value argument → GivenContent
 with_value at g arguments.Form form = record g { form = Some form }
 with_value at g arguments.Alpha alpha = record g { alpha = Some (alpha, at + 1) }
@@ -99,7 +99,7 @@ word_of given = option_map (λ x. x.1) given
 
 -- ---- how a case is written
 
--- a text, where no form is given
+-- a text, if no form is given
 abbrev pub form_or_text : Option Form → Form
 form_or_text None = forms.Text
 form_or_text (Some form) = form
@@ -119,11 +119,11 @@ abbrev pub priority_or_first : Option Priority → Priority
 priority_or_first None = First
 priority_or_first (Some priority) = priority
 
--- a task on the case; nothing, where something is missing
+-- a task on the case; nothing if something is missing
 unfoldable pub on_case : GivenContent → CaseTask → Option Asked
 on_case g task = option_map (λ form. task_on_case form task) (written_of g)
 
--- a named graph needs its name, its size, and its second size where it has one
+-- a named graph needs its name, its size, and its second size if it has one
 abbrev pub catalogue_by : Option GraphName → Option ℕ → Option ℕ → Option Asked
 catalogue_by (Some graph) (Some size) second = option_map catalogue (sized graph size second)
 catalogue_by (Some graph) None second = None
@@ -159,7 +159,7 @@ study_by None file store = None
 unfoldable pub study_of : GivenContent → Option StudyAsked
 study_of g = study_by (written_of g) g.file g.store
 
--- what a command asks for that keeps no looks; nothing, where something is missing
+-- what a command asks for that keeps no looks; nothing if something is missing
 abbrev pub asked_of : Verb → GivenContent → Option Asked
 asked_of verbs.Test g = on_case g (tasks.Test (priority_or_first g.priority))
 asked_of verbs.Weights g = on_case g tasks.Weights
@@ -197,7 +197,7 @@ forbidden_second (Some graph) word = forbidden_if (has_second graph) word
 unfoldable pub second_forbidden : GivenContent → Option ℕ
 second_forbidden g = forbidden_second g.graph (word_of g.second)
 
--- the first of two words, where there is one
+-- the first of two words, if there is one
 abbrev pub first_word : Option ℕ → Option ℕ → Option ℕ
 first_word (Some word) other = Some word
 first_word None other = other

@@ -14,7 +14,7 @@ has_second names.Fallback = false
 has_second names.Parallel = true
 has_second names.ImprovedParallel = true
 
--- a graph with its sizes; nothing, where the second one is missing
+-- a graph with its sizes; nothing if the second one is missing
 abbrev pub sized : GraphName → ℕ → Option ℕ → Option SizedGraph
 sized names.Holm size second = Some (Holm size)
 sized names.FixedSequence size second = Some (FixedSequence size)

@@ -47,7 +47,7 @@ options_of verbs.Sample = arguments.Size ∷ arguments.Seed ∷ []
 options_of verbs.Study = arguments.Form ∷ arguments.Store ∷ []
 options_of verbs.Help = []
 
--- what a word without a name gives, where a command takes one
+-- what a word without a name gives, if a command takes one
 unfoldable pub operand_of : Verb → Option Argument
 operand_of verbs.Catalogue = Some arguments.Graph
 operand_of verbs.Check = Some arguments.File

@@ -47,11 +47,11 @@ MayStand verb given (joined choice text) = MayOpen verb given choice.argument ×
 MayStand verb given (apart choice text) = MayOpen verb given choice.argument × IsSpelled verb choice text
 MayStand verb given (bare choice text) = MayBeBare verb given choice.argument text × IsSpelled verb choice text
 
--- what was given, with a piece whose first word stands at a place, from 0
+-- what was given, with a piece whose first word is at a place, from 0
 abbrev pub with_piece : ℕ → GivenContent → Piece → GivenContent
 with_piece at given piece = with_chosen at given (choice_of piece)
 
--- Pieces may be one after the other, from a place on; the first `given` is what was given before them, the second also what they give.
+-- Pieces may be one after another, from a place on; the first `given` is what was given before them, the second also what they give.
 abbrev pub Stand : Verb → ℕ → GivenContent → List Piece → GivenContent → Type 0
 Stand verb at given [] all = all ≡ given
 Stand verb at given (piece ∷ pieces) all = MayStand verb given piece × Stand verb (at + length (spelled piece)) (with_piece at given piece) pieces all
@@ -71,7 +71,7 @@ pub record CannotBegin (verb : Verb) (given : GivenContent) (word : List ℕ) : 
   pub joins : (choice : Chosen) (text : List ℕ) → word ≡ joined_word (argument_name choice.argument) text → ¬ MayStand verb given (joined choice text)
   pub stands : (choice : Chosen) → ¬ MayStand verb given (bare choice word)
 
--- no value of an option stands first
+-- no value of an option is first
 abbrev pub HasNoValue : Verb → Argument → List (List ℕ) → Type 0
 HasNoValue verb argument [] = Unit {0}
 HasNoValue verb argument (text ∷ words) = (value : Value argument) → ¬ Spells verb argument value text
@@ -100,7 +100,7 @@ pub record IsBadPiece (verb : Verb) (from : ℕ) (before : GivenContent) (words 
 
 -- ---- the stages of the reading
 
--- the command that stands first, and keeps looks or doesn't
+-- the command that is first, and keeps looks or doesn't
 abbrev pub command_in : Bool → List (List ℕ) → Stage ℕ Verb
 command_in keeping words = record {
   Gives = λ verb. (more : List (List ℕ)) × (words ≡ verb_name verb ∷ more) × (keeps_looks verb ≡ keeping);
@@ -122,21 +122,21 @@ pieces_in verb from before words = record {
 abbrev pub arguments_in : Verb → List (List ℕ) → Stage ℕ GivenContent
 arguments_in verb words = pieces_in verb 1 nothing (drop 1 words)
 
--- what a command asks for with what was given, where nothing is missing; something is missing after the last word
+-- what a command asks for with what was given, if nothing is missing; something is missing after the last word
 abbrev pub complete : Verb → ℕ → GivenContent → Stage ℕ Asked
 complete verb count given = record {
   Gives = λ asked. asked_of verb given ≡ Some asked;
   Refuses = λ n. (asked_of verb given ≡ None) × (n ≡ count + 1);
 }
 
--- the same, where no option is forbidden by the others
+-- the same, if no option is forbidden by the others
 abbrev pub allowed : GivenContent → Asked → Stage ℕ Asked
 allowed given asked = record {
   Gives = λ x. (forbidden_word given ≡ None) × (x ≡ asked);
   Refuses = λ n. forbidden_word given ≡ Some n;
 }
 
--- what a study asks for with what was given, where nothing is missing
+-- what a study asks for with what was given, if nothing is missing
 abbrev pub complete_study : ℕ → GivenContent → Stage ℕ StudyAsked
 complete_study count given = record {
   Gives = λ asked. study_of given ≡ Some asked;

@@ -42,7 +42,7 @@ fn priority_named(name: &[u8]) -> Option<Priority>
     }
 }
 
-/// Returns the form of a name, where the command reads its case in it.
+/// Returns the form of a name, if the command reads its case in it.
 fn form_read(verb: Verb, name: &[u8]) -> Option<Form>
     ensures known { IfSome result (λ form. Spells verb arguments.Form form name.now) }
     ensures unknown { result ≡ None → (form : Form) → ¬ Spells verb arguments.Form form name.now }

@@ -4,7 +4,7 @@ ghost use Rattle.command_words.specs.Counts.{IsCount};
 
 use numerals::whole_number;
 
-/// Returns the number that a text of 1 to 20 digits spells, where it is below 2^64.
+/// Returns the number that a text of 1 to 20 digits spells, if it is below 2^64.
 #[tactic(auto, using(crate::proofs::CountTexts::none_written, crate::proofs::CountTexts::large_none, crate::proofs::CountTexts::count_found))]
 pub(crate) fn count_spelt(text: &[u8]) -> Option<u64>
     ensures known { IfSome result (IsCount text.now) }

@@ -29,7 +29,7 @@ impl Form {
     }
 }
 
-/// How a case is written. A sheet doesn't say its level.
+/// How a case is written. A sheet doesn't have its level.
 #[derive(Clone, Copy)]
 pub enum CaseForm {
     Text,

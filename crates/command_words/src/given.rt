@@ -90,7 +90,7 @@ impl<'a> Given<'a> {
         }
     }
 
-    /// Returns the same, and an argument whose first word stands at a place, from 0.
+    /// Returns the same, and an argument whose first word is at a place, from 0.
     pub(crate) fn with_choice(&self, at: usize, choice: Choice<'a>) -> Given<'a>
         requires { at + 1 < 2 ^ 64 }
         ensures { given_content result ≡ with_chosen at (given_content self.now) (chosen choice.entry) }
@@ -111,7 +111,7 @@ impl<'a> Given<'a> {
         given
     }
 
-    /// Returns how the case is written; `None` where its level is missing.
+    /// Returns how the case is written; `None` if its level is missing.
     #[tactic(auto, unfolding(crate::specs::Given::written_of))]
     fn case_form(&self) -> Option<CaseForm>
         ensures { option_map written result ≡ written_of (given_content self.now) }
@@ -123,7 +123,7 @@ impl<'a> Given<'a> {
         }
     }
 
-    /// Returns a task on the case; `None` where something is missing.
+    /// Returns a task on the case; `None` if something is missing.
     #[tactic(auto, unfolding(crate::specs::Given::on_case))]
     fn on_case(&self, task: CaseTask) -> Option<Command>
         ensures { option_map asked result ≡ on_case (given_content self.now) task }
@@ -132,7 +132,7 @@ impl<'a> Given<'a> {
         Some(Command::OnCase(form, task))
     }
 
-    /// Returns a named graph; `None` where something is missing.
+    /// Returns a named graph; `None` if something is missing.
     #[tactic(auto, unfolding(crate::specs::Given::catalogue_of))]
     fn catalogue(&self) -> Option<Command>
         ensures { option_map asked result ≡ catalogue_of (given_content self.now) }
@@ -143,7 +143,7 @@ impl<'a> Given<'a> {
         graph.sized(size, second).map(Command::Catalogue)
     }
 
-    /// Returns a check; `None` where something is missing.
+    /// Returns a check; `None` if something is missing.
     #[tactic(auto, unfolding(crate::specs::Given::check_of))]
     fn check(&self) -> Option<Command>
         ensures { option_map asked result ≡ check_of (given_content self.now) }
@@ -153,7 +153,7 @@ impl<'a> Given<'a> {
         Some(Command::Check { form, file })
     }
 
-    /// Returns a sample; `None` where something is missing.
+    /// Returns a sample; `None` if something is missing.
     #[tactic(auto, unfolding(crate::specs::Given::sample_of))]
     fn sample(&self) -> Option<Command>
         ensures { option_map asked result ≡ sample_of (given_content self.now) }
@@ -163,7 +163,7 @@ impl<'a> Given<'a> {
         Some(Command::Sample { size, seed })
     }
 
-    /// Returns what a study is to do; `None` where something is missing.
+    /// Returns what a study is to do; `None` if something is missing.
     #[tactic(auto, unfolding(crate::specs::Given::study_of))]
     pub(crate) fn study(&self) -> Option<StudyCall<'a>>
         ensures { option_map study_asked result ≡ study_of (given_content self.now) }
@@ -176,7 +176,7 @@ impl<'a> Given<'a> {
         })
     }
 
-    /// Returns what a command that keeps no looks asks for with these arguments; `None` where something is missing.
+    /// Returns what a command that keeps no looks asks for with these arguments; `None` if something is missing.
     pub(crate) fn command(&self, verb: Verb) -> Option<Command>
         ensures { option_map asked result ≡ asked_of verb (given_content self.now) }
     {
@@ -198,7 +198,7 @@ impl<'a> Given<'a> {
         }
     }
 
-    /// Returns the number, from 1, of the word with the name `alpha`, where the form forbids it.
+    /// Returns the number, from 1, of the word with the name `alpha`, if the form forbids it.
     #[tactic(auto, unfolding(crate::specs::Given::alpha_forbidden))]
     fn forbidden_alpha(&self) -> Option<usize>
         ensures { result ≡ alpha_forbidden (given_content self.now) }
@@ -209,7 +209,7 @@ impl<'a> Given<'a> {
         }
     }
 
-    /// Returns the number, from 1, of the word with the name `second`, where the graph forbids it.
+    /// Returns the number, from 1, of the word with the name `second`, if the graph forbids it.
     #[tactic(auto, unfolding(crate::specs::Given::second_forbidden))]
     fn forbidden_second(&self) -> Option<usize>
         ensures { result ≡ second_forbidden (given_content self.now) }

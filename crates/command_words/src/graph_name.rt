@@ -50,7 +50,7 @@ impl GraphName {
         matches!(self, GraphName::Parallel | GraphName::ImprovedParallel)
     }
 
-    /// Returns the graph with its sizes; `None` where the second one is missing.
+    /// Returns the graph with its sizes; `None` if the second one is missing.
     pub(crate) fn sized(self, size: u64, second: Option<u64>) -> Option<SizedGraph>
         ensures { result ≡ sized self size second }
     {

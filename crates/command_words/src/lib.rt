@@ -1,8 +1,9 @@
 //! What the words of a call ask for.
 //!
-//! Proved: `read_words` answers the command that the words ask for, or the number of the first word at which they
-//! fail (`given`, `refused`), by a table of commands, options and values; `read_study` does so for the command that keeps
-//! looks, which has a top call of its own; `asks_study` says whose words they are; the law `words_are_decided`.
+//! Proved: `read_words` returns the command that the words ask for, or the number of the first word at which they fail
+//! (`given`, `refused`). It does so by a table of commands, options and values. `read_study` does so for the command that keeps
+//! looks, which has a top call of its own. `asks_study` says which of the two the words are for. The law is
+//! `words_are_decided`.
 #![tactic(auto)]
 
 mod argument;

@@ -47,7 +47,7 @@ fn may_open(verb: Verb, given: &Given<'_>, argument: Argument) -> bool
     verb.takes(argument) && !given.has(argument)
 }
 
-/// Returns the option of a name, where it may be after what was given.
+/// Returns the option of a name, if it may be after what was given.
 fn open(verb: Verb, given: &Given<'_>, name: &str) -> Option<Argument>
     ensures named { IfSome result (λ argument. name.now ≡ argument_name argument) }
     ensures may { IfSome result (MayOpen verb (given_content given.now)) }
@@ -62,7 +62,7 @@ fn open(verb: Verb, given: &Given<'_>, name: &str) -> Option<Argument>
     }
 }
 
-/// Returns what a word without a name gives, where it may be after what was given.
+/// Returns what a word without a name gives, if it may be after what was given.
 fn operand<'a>(verb: Verb, given: &Given<'_>, word: &'a str) -> Option<Choice<'a>>
     requires { IsBare word.now }
     ensures found { IfSome result
@@ -151,7 +151,7 @@ fn arguments(verb: Verb, words: &[String]) -> Result<Given<'_>, usize>
     pieces(verb, &Given::new(), 1, words)
 }
 
-/// Returns the command that stands first, and keeps looks or doesn't.
+/// Returns the command that is first, and keeps looks or doesn't.
 fn command_word(words: &[String], keeping: bool) -> Result<Verb, usize>
     ensures given { IfOk result (command_in keeping (map string_bytes words.now)).Gives }
     ensures refused { IfErr result (command_in keeping (map string_bytes words.now)).Refuses }
@@ -168,7 +168,7 @@ fn command_word(words: &[String], keeping: bool) -> Result<Verb, usize>
     Ok(verb)
 }
 
-/// Returns whether words begin with the command that keeps looks, so that they go to its top call.
+/// Whether words begin with the command that keeps looks. Then they go to its top call.
 pub fn asks_study(words: &[String]) -> bool
     ensures { IsTrue result ↔ AsksStudy (map string_bytes words.now) }
 {

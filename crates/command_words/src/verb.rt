@@ -98,7 +98,7 @@ impl Verb {
         }
     }
 
-    /// Returns what a word without a name gives, where the command takes one.
+    /// Returns what a word without a name gives, if the command takes one.
     #[tactic(auto, unfolding(crate::specs::Table::operand_of))]
     pub(crate) fn operand(self) -> Option<Argument>
         ensures { result ≡ operand_of self }

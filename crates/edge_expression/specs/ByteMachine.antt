@@ -116,20 +116,20 @@ next Epsilon b = behind_epsilon (class_of b)
 next Caret b = behind_caret (class_of b)
 next Factor b = behind_factor (class_of b)
 
--- how many parentheses are open with one byte more, or nothing where it closes one and none is
+-- how many parentheses are open with one byte more, or nothing if it closes one and none is
 abbrev pub opened : Class → ℕ → Option ℕ
 opened classes.Open n = Some (suc n)
 opened classes.Close zero = None
 opened classes.Close (suc n) = Some n
 opened class n = Some n
 
--- both, where there are both
+-- both, if there are both
 abbrev pub reached : Option State → Option ℕ → Option Reached
 reached (Some state) (Some n) = Some (record { state = state; depth = n })
 reached (Some state) None = None
 reached None n = None
 
--- what was read with one byte more, or nothing where no expression begins so
+-- what was read with one byte more, or nothing if no expression begins so
 unfoldable pub step : Reached → ℕ → Option Reached
 step r b = reached (next r.state b) (opened (class_of b) r.depth)
 

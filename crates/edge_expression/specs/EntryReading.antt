@@ -18,7 +18,7 @@ use Rattle.edge_expression.specs.EntryValues.{value}
 abbrev pub open_with : ℕ → ℕ → ℕ
 open_with b n = if b == 40 then suc n else if b == 41 then n - 1 else n
 
--- how many are open after a text, where n are before it
+-- how many are open after a text, if n are before it
 abbrev pub open_behind : ℕ → List ℕ → ℕ
 open_behind n [] = n
 open_behind n (b ∷ bs) = open_behind (open_with b n) bs

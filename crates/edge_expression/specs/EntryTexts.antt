@@ -12,7 +12,7 @@ use Rattle.case_model.specs.Sums.{terms_at}
 abbrev pub power_text : ℕ → List ℕ
 power_text power = if power == 1 then codes "\\epsilon" else codes "\\epsilon^" ++ ((48 + power) ∷ [])
 
--- what stands before a power of epsilon: nothing for 1, else the fraction and `*`
+-- what is before a power of epsilon: nothing for 1, else the fraction and `*`
 abbrev pub factor_text : Terms → List ℕ
 factor_text t = if is_one t then [] else spelling t ++ codes "*"
 
@@ -20,7 +20,7 @@ factor_text t = if is_one t then [] else spelling t ++ codes "*"
 unfoldable pub term_text : ℕ → Terms → List ℕ
 term_text power t = if power == 0 then spelling t else factor_text t ++ power_text power
 
--- what joins a term to those before it: a minus where it is below 0, else a plus, which the first term lacks
+-- what joins a term to those before it: a minus if it is below 0, else a plus, which the first term lacks
 abbrev pub joint_text : Bool → Bool → List ℕ
 joint_text is_first true = codes "-"
 joint_text true false = []
@@ -42,7 +42,7 @@ unfoldable pub are_zero_below : ℕ → List Terms → Bool
 are_zero_below zero entry = true
 are_zero_below (suc n) entry = are_zero_below n entry && is_zero (terms_at entry n)
 
--- the terms of five coefficients that aren't 0, from power 0 to 4, or 0 where there is none
+-- the terms of five coefficients that aren't 0, from power 0 to 4, or 0 if there is none
 unfoldable pub coefficients_text : List Terms → List ℕ
 coefficients_text entry = if are_zero_below 5 entry then codes "0" else terms_text true 0 5 entry
 

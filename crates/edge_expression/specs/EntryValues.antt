@@ -18,11 +18,11 @@ use Rattle.edge_expression.specs.Expressions.{Times, Over, Beside, Factor, Numbe
 abbrev pub is_short : Terms → Bool
 is_short t = is_within (10 ^ 18) t
 
--- a fraction, where neither part is above 10^18
+-- a fraction, if neither part is above 10^18
 unfoldable pub short_of : Terms → Result Terms ValueFault
 short_of t = if is_short t then Ok t else Err Part
 
--- n/d in lowest terms, where neither part is above 10^18
+-- n/d in lowest terms, if neither part is above 10^18
 unfoldable pub short : ℤ → ℤ → Result Terms ValueFault
 short n d = short_of (lowest_terms n d)
 
@@ -67,12 +67,12 @@ unfoldable pub joined : Sign → List Terms → List Terms → Result (List Term
 joined Plus x y = coefficients (λ k. sum (terms_at x k) (terms_at y k))
 joined Minus x y = coefficients (λ k. difference (terms_at x k) (terms_at y k))
 
--- the greatest power up to n whose coefficient isn't 0, and 0 where there is none
+-- the greatest power up to n whose coefficient isn't 0, and 0 if there is none
 unfoldable pub degree_within : ℕ → List Terms → ℕ
 degree_within zero x = zero
 degree_within (suc n) x = if is_zero (terms_at x (suc n)) then degree_within n x else suc n
 
--- the greatest power whose coefficient isn't 0, and 0 where there is none
+-- the greatest power whose coefficient isn't 0, and 0 if there is none
 abbrev pub degree : List Terms → ℕ
 degree x = degree_within 4 x
 
@@ -117,13 +117,13 @@ epsilon_value (Some power) = power_value power.power
 
 -- ---- expressions, from left to right
 
--- plus where no sign is written
+-- plus if no sign is written
 abbrev pub sign_or_plus : Option Sign → Sign
 sign_or_plus None = Plus
 sign_or_plus (Some sign) = sign
 
 unfoldable mutual
-  -- the value of an expression: the terms are added to 0 one after the other
+  -- the value of an expression: the terms are added to 0 one after another
   pub value : Expression → Result (List Terms) ValueFault
   value (Sum sign first others) = do
     term ← term_value first

@@ -23,7 +23,7 @@ abbrev pub map_value : {A B : Type 0} → (A → B) → Result A ValueFault → 
 map_value f (Ok x) = Ok (f x)
 map_value f (Err fault) = Err fault
 
--- what an operation made, where its parts are short
+-- what an operation made, if its parts are short
 abbrev pub made_short : Result Terms TooWide → Result Terms ValueFault
 made_short (Ok t) = short_of t
 made_short (Err e) = Err Part

@@ -9,7 +9,7 @@ use text_lines::is_blank;
 pub enum Class {
     Digit,
     Sign,
-    /// What stands between two factors.
+    /// What is between two factors.
     Joint,
     Caret,
     Open,

@@ -192,7 +192,7 @@ fn next(state: State, byte: u8) -> Option<State>
     }
 }
 
-/// Returns how many parentheses are open after such a byte, or nothing where it closes one and none is.
+/// Returns how many parentheses are open after such a byte, or nothing if it closes one and none is.
 fn opened(class: Class, depth: u32) -> Option<u32>
     requires { depth ≤ 32 }
     ensures { result ≡ opened class depth }
@@ -205,7 +205,7 @@ fn opened(class: Class, depth: u32) -> Option<u32>
     }
 }
 
-/// Returns what was read with one byte more, or nothing where no expression begins so.
+/// Returns what was read with one byte more, or nothing if no expression begins so.
 #[tactic(auto, unfolding(crate::specs::ByteMachine::step))]
 pub fn step(reached: Reached, byte: u8) -> Option<Reached>
     requires { reached.depth ≤ 32 }
@@ -226,7 +226,7 @@ fn is_whole(state: State) -> bool
     }
 }
 
-/// An expression may end here.
+/// Whether an expression may end here.
 #[tactic(auto, unfolding(crate::specs::ByteMachine::may_end))]
 pub fn may_end(reached: Reached) -> bool
     ensures { result ≡ may_end reached }

@@ -26,7 +26,7 @@ pub enum Head<'a> {
 }
 
 impl<'a> Cursor<'a> {
-    /// All of a text.
+    /// Returns a cursor at the beginning of a text.
     pub fn new(text: &'a [u8]) -> Cursor<'a>
         ensures { result.rest.now ≡ text.now }
     {
@@ -48,7 +48,7 @@ impl<'a> Cursor<'a> {
         }
     }
 
-    /// Takes a byte, if it is next.
+    /// Whether a byte is next, which it then takes.
     fn take_byte(&mut self, byte: u8) -> bool
         ensures { MatchBool result (after_blanks self.old.rest.now ≡ byte ∷ self.new.rest.now)
             (IsOtherThan byte (after_blanks self.old.rest.now) × (self.new.rest.now ≡ self.old.rest.now)) }
@@ -114,7 +114,7 @@ impl<'a> Cursor<'a> {
         }
     }
 
-    /// Takes a caret and a power, if they are next. The power is 1 where they are not.
+    /// Takes a caret and a power, if they are next. The power is 1 if they are not.
     pub fn take_power(&mut self) -> usize
         ensures { PowerTaken result self.old.rest.now self.new.rest.now }
     {

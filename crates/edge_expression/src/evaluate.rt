@@ -1,4 +1,4 @@
-//! Edge expressions from left to right. What is said of a text holds where it is an expression.
+//! Edge expressions from left to right. What is stated of a text holds if it is an expression.
 ghost use Rattle.std.specs.Prelude.{◌≡◌, ◌≤◌, map, length, IfOk};
 ghost use Rattle.numerals.specs.Numeral.{body_text};
 ghost use Rattle.field_core.specs.View.{terms};

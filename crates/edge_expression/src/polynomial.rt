@@ -95,7 +95,7 @@ impl Polynomial {
         ])
     }
 
-    /// Returns the greatest power whose coefficient isn't 0, and 0 where there is none.
+    /// Returns the greatest power whose coefficient isn't 0, and 0 if there is none.
     fn degree(&self) -> usize
         ensures value { result ≡ degree (polynomial_terms self.now) }
         ensures within { result ≤ 4 }
@@ -202,7 +202,7 @@ fn coefficient(
     }
 }
 
-/// All coefficients.
+/// Returns all coefficients.
 #[tactic(auto, unfolding(crate::specs::EntryValues::coefficients))]
 fn coefficients(
     operation: Operation,

@@ -22,7 +22,7 @@ fn put_power(out: &mut List<u8>, power: usize) -> Result<(), NoMemory>
     out.push(b'0' + power as u8)
 }
 
-/// Appends what stands before a power of epsilon.
+/// Appends what is before a power of epsilon.
 fn put_factor(out: &mut List<u8>, coefficient: &Fraction) -> Result<(), NoMemory>
     ensures put { OnOk result (out.new ≡ out.old ++ factor_text (terms coefficient.now)) }
     ensures begun { OnErr result (IsBegun out.old out.new (factor_text (terms coefficient.now))) }
@@ -80,9 +80,9 @@ fn put_joined(
 
 /// Appends the canonical text of an entry: its terms that aren't 0 by ascending power, or `0`.
 ///
-/// A term of power 0 is its fraction. A term of power 1 is `\epsilon` and of a greater power `\epsilon^` and the power;
-/// before it stand its absolute coefficient and `*`, unless that is 1. Terms are joined by `+` or `-`, and a `-` stands
-/// before a first term below 0. When out of memory, a front of the text may have been appended.
+/// A term of power 0 is its fraction. A term of power 1 is `\epsilon` and of a greater power `\epsilon^` and the power; before
+/// it are its absolute coefficient and `*`, unless that is 1. Terms are joined by `+` or `-`, and a `-` is before a first term
+/// below 0. When out of memory, a front of the text may have been appended.
 pub fn print_entry(entry: &Entry, out: &mut List<u8>) -> Result<(), NoMemory>
     ensures printed { OnOk result (out.new ≡ out.old ++ entry_text entry.now) }
     ensures begun { OnErr result (IsBegun out.old out.new (entry_text entry.now)) }

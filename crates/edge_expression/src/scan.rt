@@ -7,7 +7,7 @@ use crate::byte_machine::{Reached, State, may_end, step};
 /// The most parentheses that may be open at once.
 const MOST_OPEN: u32 = 32;
 
-/// Whether a text is an edge expression that isn't too deep, or else why not.
+/// Returns nothing if a text is an edge expression that isn't too deep, or else why it is not one.
 pub fn scan(text: &[u8]) -> Result<(), ExprFault>
     ensures { IsScanned text.now result }
 {

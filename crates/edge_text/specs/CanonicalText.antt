@@ -81,7 +81,7 @@ is_zero_at entry power = is_zero (terms (ratio_at entry power))
 unfoldable pub is_absent : List Ratio → Bool
 is_absent entry = is_zero_at entry 0 && is_zero_at entry 1 && is_zero_at entry 2 && is_zero_at entry 3 && is_zero_at entry 4
 
--- the edge at a place of a table, row by row: place `i * m + j` of `m` rows and columns has the edge from `i` to `j`; nothing where it is 0
+-- the edge at a place of a table, row by row: place `i * m + j` of `m` rows and columns has the edge from `i` to `j`; nothing if it is 0
 unfoldable pub edge_lines : List (List ℕ) → ℕ → List Ratio → List Words
 edge_lines names place entry = if is_absent entry then [] else edge_words names (place / length names) (place % length names) entry ∷ []
 
@@ -121,13 +121,13 @@ spends_lines (name ∷ names) (spend ∷ spends) = spend_lines name spend ++ spe
 unfoldable pub stages_lines : List (List ℕ) → Stages → List Words
 stages_lines names s = stages_words s.count ∷ spends_lines names s.spend ++ map (arrive_words names) s.arrivals
 
--- the p-values of hypotheses, where there are some
+-- the p-values of hypotheses, if there are some
 abbrev pub p_lines : Inputs → List Words
 p_lines Bare = []
 p_lines (Single ps) = p_words ps ∷ []
 p_lines (Staged s) = []
 
--- the stages, where there are some
+-- the stages, if there are some
 abbrev pub late_lines : List (List ℕ) → Inputs → List Words
 late_lines names Bare = []
 late_lines names (Single ps) = []

@@ -1,4 +1,4 @@
--- What lines say, and which lists of lines are documents.
+-- What lines denote, and which lists of lines are documents.
 use Rattle.std.specs.Prelude.{◌≡◌, ◌<◌, ◌⊎◌, ℕ, List, [], ◌∷◌, ◌++◌, Option, Some, None, map, length, codes, pos}
 use Rattle.std.specs.List.{AllZip, flat_map}
 use Rattle.field_core.specs.declared.ratio.Ratio.{Ratio}
@@ -27,7 +27,7 @@ Words = List (List ℕ)
 unfoldable pub Says : List ℕ → Ratio → Type 0
 Says word value = IsNumeralOf word (terms value)
 
--- the line has the keyword as its first word, and what stands after it is such words
+-- the line has the keyword as its first word, and what follows it is such words
 pub record IsLineOf (keyword line : List ℕ) (Are : Words → Type 0) : Type 0 where
   pub behind : Words
   pub words : words_of line ≡ keyword ∷ behind
@@ -54,8 +54,8 @@ pub record HasThree (words : Words) (from to : List ℕ) : Type 0 where
   pub others : Words
   pub words_are : words ≡ from ∷ to ∷ further ∷ others
 
--- The names of the two ends of an edge, and an expression of its weight: all of the line that stands after the second name. Where a name
--- stands for several hypotheses, it is the first.
+-- The names of the two ends of an edge, and an expression of its weight: all of the line that follows the second name. If a name denotes several
+-- hypotheses, it is the first.
 pub record IsEdge (names : List (List ℕ)) (line : List ℕ) (words : Words) (edge : DraftEdge) : Type 0 where
   pub from : List ℕ
   pub to : List ℕ
@@ -112,7 +112,7 @@ pub record IsStep (name : List ℕ) (words : Words) (step : SpendStep) : Type 0 
   pub each : AreNumbers numerals (step.from ∷ step.levels)
   pub some : 0 < length step.levels
 
--- a name, the number of a stage, and the numeral of a p-value; where a name stands for several hypotheses, it is the first
+-- a name, the number of a stage, and the numeral of a p-value; if a name denotes several hypotheses, it is the first
 pub record IsArrival (names : List (List ℕ)) (words : Words) (arrival : Arrival) : Type 0 where
   pub name : List ℕ
   pub stage : List ℕ
@@ -143,7 +143,7 @@ abbrev pub optional : Option (List ℕ) → List (List ℕ)
 optional None = []
 optional (Some line) = line ∷ []
 
--- the p-values that such a line gives: none where it is left out
+-- the p-values that such a line gives: none if it is left out
 abbrev pub GivesP : Option (List ℕ) → List (Option Ratio) → Type 0
 GivesP None p = p ≡ []
 GivesP (Some line) p = (values : List Ratio) × IsPLine line values × (p ≡ map Some values)
@@ -200,7 +200,7 @@ abbrev pub EndsBefore : List ℕ → Spend → List (List ℕ) → Type 0
 EndsBefore name (Shares shares) lines = Unit {0}
 EndsBefore name (Table steps) lines = IsNoStep name lines
 
--- for each hypothesis, in their order, the lines of what it spends; other lines stand after them
+-- for each hypothesis, in their order, the lines of what it spends; other lines follow them
 abbrev pub AreSpends : List (List ℕ) → List (List ℕ) → List Spend → List (List ℕ) → Type 0
 AreSpends [] lines [] others = lines ≡ others
 AreSpends [] lines (spend ∷ spends) others = ⊥
@@ -224,7 +224,8 @@ abbrev pub MayHaveStages : List (List ℕ) → List (List ℕ) → Option DraftS
 MayHaveStages names lines None = lines ≡ []
 MayHaveStages names lines (Some stages) = AreStages names lines stages
 
--- The lines are, in this order, the level, the names, perhaps the p-values, the blocks of the components, and perhaps the stages, and they say this draft.
+-- The lines are, in this order, the level, the names, perhaps the p-values, the blocks of the components, and perhaps the stages, and they denote
+-- this draft.
 pub record IsDocument (lines : List (List ℕ)) (draft : Draft) : Type 0 where
   pub alpha_line : List ℕ
   pub names_line : List ℕ
@@ -238,6 +239,6 @@ pub record IsDocument (lines : List (List ℕ)) (draft : Draft) : Type 0 where
   pub blocks : AreBlocks draft.names block_lines draft.components
   pub stages : MayHaveStages draft.names stage_lines draft.stages
 
--- the lines of a text that aren't skipped are a document, and it says this draft
+-- the lines of a text that aren't skipped are a document, and it denotes this draft
 abbrev pub IsText : List ℕ → Draft → Type 0
 IsText bytes draft = IsDocument (texts_in (rows_of bytes)) draft

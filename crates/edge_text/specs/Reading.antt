@@ -11,14 +11,14 @@ use Rattle.edge_text.specs.declared.fault.TextFault.TheVariants.{Line, Case as R
 use Rattle.edge_text.specs.Grammar.{IsText}
 use Rattle.edge_text.specs.Faults.{IsFirstFault}
 
--- The text says a draft without fault, and the case has its content.
+-- The text denotes a draft without fault, and the case has its content.
 pub record IsCaseOf (bytes : List ℕ) (case : Case) : Type 0 where
   pub draft : Draft
   pub says : IsText bytes draft
   pub faultless : case_fault draft ≡ None
   pub content_is : content case ≡ content_of draft
 
--- The text says a draft that is refused for its first fault, with its names.
+-- The text denotes a draft that is refused for its first fault, with its names.
 pub record IsRefusedText (bytes : List ℕ) (refused : Refused) : Type 0 where
   pub draft : Draft
   pub says : IsText bytes draft

@@ -16,7 +16,7 @@ use Rattle.edge_expression.specs.EntryReading.{IsEntryText, IsExprFault}
 use Rattle.edge_expression.specs.declared.fault.ExprFault.{ExprFault}
 use Rattle.field_core.specs.declared.ratio.Ratio.{Ratio}
 
--- a text says at most one draft
+-- a text denotes at most one draft
 abbrev pub TextsSayOneDraft : Type 0
 TextsSayOneDraft = (bytes : List ℕ) (d e : Draft) → IsText bytes d → IsText bytes e → d ≡ e
 
@@ -24,11 +24,11 @@ TextsSayOneDraft = (bytes : List ℕ) (d e : Draft) → IsText bytes d → IsTex
 abbrev pub TextsHaveOneFault : Type 0
 TextsHaveOneFault = (bytes : List ℕ) (m n : ℕ) (j k : LineKind) → IsFirstFault bytes m j → IsFirstFault bytes n k → (m ≡ n) × (j ≡ k)
 
--- a text says a draft or has a first fault
+-- a text denotes a draft or has a first fault
 abbrev pub TextsSayOrFail : Type 0
 TextsSayOrFail = (bytes : List ℕ) → ((d : Draft) × IsText bytes d) ⊎ ((n : ℕ) × (kind : LineKind) × IsFirstFault bytes n kind)
 
--- a text that says a draft has no first fault
+-- a text that denotes a draft has no first fault
 abbrev pub TextsDontSayAndFail : Type 0
 TextsDontSayAndFail = (bytes : List ℕ) (d : Draft) (n : ℕ) (kind : LineKind) → IsText bytes d → ¬ IsFirstFault bytes n kind
 
@@ -53,7 +53,7 @@ pub record IsUnfinished (rows : List Row) : Type 0 where
   pub begins : BeginDocument (texts_in rows)
   pub refused : (draft : Draft) → ¬ IsDocument (texts_in rows) draft
 
--- the first fault of a text is at the first line with which no document continues; or, where the lines begin some document and are none, after the last
+-- the first fault of a text is at the first line with which no document continues; or, if the lines begin some document and are none, after the last
 -- line
 abbrev pub FirstFaultsEndDocuments : Type 0
 FirstFaultsEndDocuments =
@@ -80,7 +80,7 @@ TextsHaveOneRefusal = (bytes : List ℕ) (r s : Refused) → IsRefusedText bytes
 abbrev pub FaultsArentRefusals : Type 0
 FaultsArentRefusals = (bytes : List ℕ) (n : ℕ) (kind : LineKind) (refused : Refused) → IsFirstFault bytes n kind → ¬ IsRefusedText bytes refused
 
--- where a text says a case, only memory can be wanting
+-- if a text denotes a case, the only possible fault is out of memory
 abbrev pub CasesHaveNoFault : Type 0
 CasesHaveNoFault = (bytes : List ℕ) (c : Case) (fault : TextFault) → IsCaseOf bytes c → IsTextFault bytes fault → fault ≡ faults.NoMemory
 

@@ -12,8 +12,8 @@ pub enum LineKind {
     Unexpected,
     /// The document ends where a line must follow.
     Ended,
-    /// `alpha`, `component` or `stages` has not just one word after it, `arrive` not three, `edge` or `table` fewer
-    /// than three, `spend` fewer than two, or `p` none.
+    /// `alpha`, `component` or `stages` has not exactly one word after it, `arrive` not three, `edge` or `table` fewer than
+    /// three, `spend` fewer than two, or `p` none.
     WordCount,
     /// A name isn't that of a hypothesis.
     UnknownName,
@@ -28,10 +28,10 @@ pub enum LineKind {
 /// Why a text gives no case.
 #[derive(Drop)]
 pub enum TextFault {
-    /// The first line that isn't allowed where it stands, counted from 1 over all lines, and what is wrong with it.
-    /// Where the document ends too early it is the number of lines plus 1.
+    /// The first line that isn't allowed at its place, counted from 1 over all lines, and what is wrong with it. If the
+    /// document ends too early it is the number of lines plus 1.
     Line(usize, LineKind),
-    /// Each line stands, and the draft that they say is refused.
+    /// Each line is allowed, and the draft that they denote is refused.
     Case(Refused),
     /// Out of memory.
     NoMemory,

@@ -1,4 +1,4 @@
-//! Laws of texts: each says one draft, or has one first fault; and canonical texts say their cases.
+//! Laws of texts: each denotes one draft, or has one first fault; and canonical texts denote their cases.
 ghost use Rattle.edge_text.specs.CanonicalStatements.{CanonicalTextsReadBack, CanonicalTextsTellCasesApart, CanonicalTextsAreCanonical};
 ghost use Rattle.edge_text.specs.DocumentStatements.{DocumentsAreSaid, SaidAreDocuments, TextsCanEnd};
 ghost use Rattle.edge_text.specs.TextStatements.{TextsSayOneDraft, TextsHaveOneFault, TextsSayOrFail, TextsDontSayAndFail};
@@ -6,7 +6,7 @@ ghost use Rattle.edge_text.specs.TextStatements.{FirstFaultsEndDocuments, WhereN
 ghost use Rattle.edge_text.specs.TextStatements.{TextsHaveOneCase, TextsHaveOneRefusal, FaultsArentRefusals, CasesHaveNoFault};
 ghost use Rattle.edge_text.specs.TextStatements.{TextsHaveEntriesOrFaults, TextsHaveOneEntry, TextsHaveOneExprFault, EntriesHaveNoFault};
 
-/// A text says at most one draft.
+/// A text denotes at most one draft.
 pub fn texts_say_one_draft()
     ensures { TextsSayOneDraft }
 {}
@@ -16,14 +16,14 @@ pub fn texts_have_one_fault()
     ensures { TextsHaveOneFault }
 {}
 
-/// A text says a draft or has a first fault, and not both.
+/// A text denotes a draft or has a first fault, and not both.
 pub fn texts_say_or_fail()
     ensures each { TextsSayOrFail }
     ensures apart { TextsDontSayAndFail }
 {}
 
-/// The first fault of a text is exactly where no document continues: at the first line with which none does, or else
-/// after the last line, where the lines are not a document yet.
+/// The first fault of a text is exactly where no document continues. This is at the first line with which none does. If the
+/// lines are not a document yet, it is after the last line.
 pub fn first_faults_end_documents()
     ensures there { FirstFaultsEndDocuments }
     ensures line { WhereNoneGoesOnIsFault }
@@ -46,7 +46,7 @@ pub fn texts_have_one_reading()
     ensures apart { CasesHaveNoFault }
 {}
 
-/// The canonical text of a case says that case. Cases of another content have another one, and the case that is read of a
+/// The canonical text of a case denotes that case. Cases of another content have another one, and the case that is read of a
 /// canonical text has that canonical text.
 pub fn canonical_texts_read_back()
     ensures back { CanonicalTextsReadBack }

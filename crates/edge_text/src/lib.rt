@@ -1,9 +1,9 @@
 //! The text form of cases.
 //!
 //! Proved:
-//! - `read_text`: `case` (the text is a document by the grammar, `IsText`, which says a draft without fault, and the
-//!   case has its content), `fault` (the first line that isn't allowed, with its number and kind, `IsFirstFault`; or
-//!   else the first error in the draft, with its names).
+//! - `read_text`: `case` (the text is a document by the grammar, `IsText`, that denotes a draft without fault, and the case has
+//!   its content). `fault` (the first line that isn't allowed, with its number and kind, `IsFirstFault`; or else the first
+//!   error in the draft, with its names).
 //! - `write_text`: the canonical text of a case (`canonical`, `says`).
 //! - Laws in `src/laws.rt`:
 //!   - `documents_are_read_by_places`: the reader goes from place to place, one line at a time. The lines that it takes

@@ -34,7 +34,7 @@ pub enum Place {
     Block(SoFar),
     /// The weights of a component of this share.
     Weights(SoFar, Fraction),
-    /// An edge of this component, or the stages. Where blocks have shares, the next block is allowed too.
+    /// An edge of this component, or the stages. If blocks have shares, the next block is allowed too.
     Edges(bool, SoFar, DraftComponent),
     /// What the next hypothesis spends, in the order of the names. Once each has its spend, a p-value that arrived.
     Spends(SoFar, DraftStages),
@@ -228,7 +228,7 @@ fn stages(
     Ok(Place::Spends(draft, counted(alloc, count)))
 }
 
-/// Returns the draft with its stages, where each hypothesis has its spend.
+/// Returns the draft with its stages, if each hypothesis has its spend.
 fn staged(draft: SoFar, stages: DraftStages, end: usize) -> Result<Draft, TextFault>
     ensures { Gives end (unless_due (due draft stages) (with_stages draft stages)) result }
 {

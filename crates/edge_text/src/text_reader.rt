@@ -9,18 +9,18 @@ use crate::draft_lines::draft;
 use case_model::{Case, CaseFault, Refused};
 use std::alloc::Global;
 
-/// Returns the case that a text says, or the first line that isn't allowed in a text, or else the error in the draft;
-/// or `NoMemory`.
+/// Returns the case that a text denotes, or the first line that isn't allowed in a text, or else the error in the draft; or
+/// `NoMemory`.
 ///
-/// A text has the lines `alpha N`, `hypotheses NAME..`, perhaps `p N..` (one numeral or more), and then the blocks of
-/// the components: one that begins with `weights N..`, whose share is 1, or one or more that each begin with `component
-/// N`, the share, before `weights N..`. A block ends with lines `edge NAME NAME EXPR`, any number of them. After the
-/// blocks there may be `stages K`, then for each hypothesis in order one line `spend NAME N..` or one or more lines
-/// `table NAME N N..`, and then lines `arrive NAME K N`, any number of them. `K` is 1 to 9 digits. `N` is a numeral
-/// that `Fraction::parse` reads, and `EXPR`, all that stands after the second name, an expression that `read_entry`
-/// reads. Words stand between runs of spaces and tabs. A line ends with a line feed, perhaps after a carriage return;
-/// the last one may lack its line feed. Lines of blanks, and lines whose first other byte is `#`, are skipped. The
-/// draft is looked at once the whole text is read.
+/// A text has the lines `alpha N`, `hypotheses NAME..`, perhaps `p N..` (one numeral or more), and then the blocks of the
+/// components. Either there is one block that begins with `weights N..`, whose share is 1. Or there are one or more that each
+/// begin with `component N`, the share, before `weights N..`. A block ends with lines `edge NAME NAME EXPR`, any number of
+/// them. After the blocks there may be `stages K`, then for each hypothesis in order one line `spend NAME N..` or one or more
+/// lines `table NAME N N..`, and then lines `arrive NAME K N`, any number of them. `K` is 1 to 9 digits. `N` is a numeral that
+/// `Fraction::parse` reads, and `EXPR`, all that follows the second name, an expression that `read_entry` reads. Words are
+/// between runs of spaces and tabs. A line ends with a line feed, perhaps after a carriage return; the last one may lack its
+/// line feed. Lines of blanks, and lines whose first other byte is `#`, are skipped. The draft is looked at once the whole text
+/// is read.
 pub fn read_text(alloc: Global, bytes: &[u8]) -> Result<Case, TextFault>
     ensures case { IfOk result (IsCaseOf bytes.now) }
     ensures fault { IfErr result (IsTextFault bytes.now) }

@@ -128,7 +128,7 @@ fn put_edge(
     text.push(b'\n')
 }
 
-/// Appends the edge at a place of a table, row by row, where it isn't 0.
+/// Appends the edge at a place of a table, row by row, if it isn't 0.
 #[tactic(auto, unfolding(crate::specs::CanonicalText::edge_lines))]
 fn put_edge_if_any(
     text: &mut List<u8>,
@@ -193,7 +193,7 @@ fn put_blocks(text: &mut List<u8>, case: &Case) -> Result<(), NoMemory>
     Ok(())
 }
 
-/// Appends the p-values of hypotheses, where there are some.
+/// Appends the p-values of hypotheses, if there are some.
 fn put_single(text: &mut List<u8>, inputs: &Inputs) -> Result<(), NoMemory>
     ensures { OnOk result (text.new ≡ text.old ++ text_of (p_lines inputs.now)) }
 {
@@ -204,7 +204,7 @@ fn put_single(text: &mut List<u8>, inputs: &Inputs) -> Result<(), NoMemory>
     }
 }
 
-/// Appends the stages of a case, where there are some.
+/// Appends the stages of a case, if there are some.
 fn put_staged(text: &mut List<u8>, case: &Case) -> Result<(), NoMemory>
     ensures { OnOk result (text.new ≡ text.old ++ text_of (late_lines (content case.now).names (content case.now).inputs)) }
 {
@@ -231,10 +231,10 @@ fn written(alloc: Global, case: &Case) -> Result<List<u8>, NoMemory>
 
 /// Returns the canonical text of a case, or `NoMemory`.
 ///
-/// Words stand one blank apart, and a line feed after each line. Numbers are in lowest terms, as `Fraction::print`
-/// writes them. Of the edges of a component those that aren't 0 are written, by ascending first and then second end, as
-/// `print_entry` writes them. One component of share 1 has no line of its share. A table of levels stays one, and the
-/// p-values that arrived keep their order.
+/// Words are one blank apart, and a line feed ends each line. Numbers are in lowest terms, as `Fraction::print` writes them. Of
+/// the edges of a component those that aren't 0 are written, by ascending first and then second end, as `print_entry` writes
+/// them. One component of share 1 has no line of its share. A table of levels stays one, and the p-values that arrived keep
+/// their order.
 #[tactic(auto, using(crate::proofs::CanonicalCases::says_its_case))]
 pub fn write_text(alloc: Global, case: &Case) -> Result<List<u8>, NoMemory>
     ensures canonical { IfOk result (λ text. text ≡ canonical_text (content case.now)) }

@@ -33,7 +33,7 @@ case_removal (state_of n b) j = ok_map (state_of n) (removed (kind_of n) (graph_
 abbrev pub case_size : CaseState → ℕ
 case_size (state_of n b) = size (graph_in n) b
 
--- whether `k` is still in
+-- whether `k` remains
 abbrev pub is_live_in_case : CaseState → ℕ → Bool
 is_live_in_case (state_of n b) k = is_live (graph_in n) b k
 

@@ -38,6 +38,6 @@ module _ (n : Numbers) (m : ℕ) where
   unfoldable pub state_at : List Component → ℕ → Result (state_in n) WideAt
   state_at components c = in_component c (loaded_state (component_at components c))
 
-  -- the states of all components, one after the other, or the first operation that is undefined, with its component
+  -- the states of all components, one after another, or the first operation that is undefined, with its component
   unfoldable pub loaded_states : List Component → Result (List (state_in n)) WideAt
   loaded_states components = each_below (length components) (state_at components)

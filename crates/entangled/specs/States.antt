@@ -32,7 +32,7 @@ abbrev pub removal_in : (n : Numbers) → state_in n → ℕ → Result (state_i
 removal_in in_fractions = written_removal plain
 removal_in in_quotients = row_removal
 
--- the state that is made of a graph in which all hypotheses are in: rows are gathered, and a graph of fractions is kept as it is
+-- the state that is made of a graph in which all hypotheses remain: rows are gathered, and a graph of fractions is kept as it is
 abbrev pub gathered_in : (n : Numbers) → StoredGraph → Result (state_in n) Wide
 gathered_in in_fractions = λ G. Ok G
 gathered_in in_quotients = gathered

@@ -38,10 +38,10 @@ impl<R: Remover + Drop> Bundle<R> {
     ghost use Rattle.entangled.specs.BundleView.{bundled};
     ghost use Rattle.entangled.specs.Opening.{Opens};
 
-    /// Returns the bundle of these nets, in each of which all hypotheses are in, with these shares. There is at least
-    /// one net, all are of one size, and each has a share; the shares aren't below 0 and sum to at most 1.
+    /// Returns the bundle of these nets, in each of which all hypotheses remain, with these shares. There is at least one net,
+    /// all are of one size, and each has a share; the shares aren't below 0 and sum to at most 1.
     ///
-    /// Unless out of memory, it is `OpenFault::Wide` exactly where the written opening is undefined.
+    /// Unless out of memory, it is `OpenFault::Wide` exactly if the written opening is undefined.
     pub fn try_new(
         alloc: Global,
         nets: List<R>,
@@ -89,7 +89,7 @@ impl<R: Remover> Bundle<R> {
         self.nets.len()
     }
 
-    /// Whether `k`, a position below the size, is still in.
+    /// Whether `k`, a position below the size, remains.
     pub fn is_live(&self, k: usize) -> bool
         requires { k < size R.graph (bundled self.now) }
         ensures { result ≡ is_live R.graph (bundled self.now) k }
@@ -97,7 +97,7 @@ impl<R: Remover> Bundle<R> {
         self.nets[0].is_live(k)
     }
 
-    /// Returns the level of `k`, which is still in, as a fraction of alpha: the weight, with the limits for epsilon taken.
+    /// Returns the level of `k`, which remains, as a fraction of alpha: the weight, with the limits for epsilon taken.
     pub fn weight_limit(&self, k: usize) -> Fraction
         requires { is_live R.graph (bundled self.now) k ≡ true }
         ensures level { terms result ≡ level (bundled self.now) k }
@@ -114,7 +114,8 @@ impl<R: Remover> Bundle<R> {
         &self.nets[c]
     }
 
-    /// Removes `j`, which is still in, from all nets. It is `WideAt` exactly where the written removal is undefined; the bundle then stays.
+    /// Removes `j`, which remains, from all nets. It is `WideAt` exactly if the written removal is undefined; the bundle then
+    /// stays.
     pub fn remove(&mut self, j: usize) -> Result<(), WideAt>
         requires { is_live R.graph (bundled self.old) j ≡ true }
         ensures value { ok_map (λ _. bundled self.new) result ≡ removed R.Value.kind R.graph R.removal (bundled self.old) j }
@@ -128,7 +129,7 @@ impl<R: Remover> Bundle<R> {
         Ok(())
     }
 
-    /// Makes this bundle that of `other`, which has the same size and equal shares. What was prepared before is gone.
+    /// Makes this bundle that of `other`, which has the same size and equal shares. What was prepared before is removed.
     pub fn set_to(&mut self, other: &Bundle<R>)
         requires size { size R.graph (bundled self.old) ≡ size R.graph (bundled other.now) }
         requires shares { (bundled self.old).shares ≡ (bundled other.now).shares }

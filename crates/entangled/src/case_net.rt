@@ -62,11 +62,11 @@ impl CaseNet {
     };
     ghost use Rattle.entangled.specs.Opening.{Opens};
 
-    /// Returns the nets of a case, with all hypotheses in: of fractions where the case is plain, and of rows of
-    /// quotients in epsilon where it isn't. There each edge is loaded as the written polynomial of its coefficients,
-    /// and then the rows of each component are gathered.
+    /// Returns the nets of a case, with all hypotheses in: of fractions if the case is plain, and of rows of quotients in
+    /// epsilon if it isn't. There each edge is loaded as the written polynomial of its coefficients, and then the rows of each
+    /// component are gathered.
     ///
-    /// Unless out of memory, it is `OpenFault::Wide` exactly where the written opening is undefined.
+    /// Unless out of memory, it is `OpenFault::Wide` exactly if the written opening is undefined.
     #[tactic(auto, unfolding(crate::specs::CaseNetView::case_state), using(crate::proofs::CaseNumbers::plain_opening, crate::proofs::CaseNumbers::other_opening))]
     pub fn load(alloc: Global, case: &Case) -> Result<CaseNet, OpenFault>
         ensures opened { Opens case_state result (case_opening (content case.now)) }
@@ -91,7 +91,7 @@ impl CaseNet {
         }
     }
 
-    /// Whether `k`, a position below the size, is still in.
+    /// Whether `k`, a position below the size, remains.
     pub fn is_live(&self, k: usize) -> bool
         requires { k < case_size (case_state self.now) }
         ensures { result ≡ is_live_in_case (case_state self.now) k }
@@ -102,7 +102,7 @@ impl CaseNet {
         }
     }
 
-    /// Returns the level of `k`, which is still in, as a fraction of alpha: the weight, with the limits for epsilon taken.
+    /// Returns the level of `k`, which remains, as a fraction of alpha: the weight, with the limits for epsilon taken.
     pub fn weight_limit(&self, k: usize) -> Fraction
         requires { is_live_in_case (case_state self.now) k ≡ true }
         ensures level { terms result ≡ case_level (case_state self.now) k }
@@ -114,7 +114,8 @@ impl CaseNet {
         }
     }
 
-    /// Removes `j`, which is still in, from all nets. It is `WideAt` exactly where the written removal is undefined; the nets then stay.
+    /// Removes `j`, which remains, from all nets. It is `WideAt` exactly if the written removal is undefined; the nets then
+    /// stay.
     pub fn remove(&mut self, j: usize) -> Result<(), WideAt>
         requires { is_live_in_case (case_state self.old) j ≡ true }
         ensures value { ok_map (λ _. case_state self.new) result ≡ case_removal (case_state self.old) j }
@@ -126,8 +127,8 @@ impl CaseNet {
         }
     }
 
-    /// Makes these nets those of `other`, which are of the same numbers, with the same size and equal shares.
-    /// What was prepared before is gone.
+    /// Makes these nets those of `other`, which are of the same numbers, with the same size and equal shares. What was prepared
+    /// before is removed.
     pub fn set_to(&mut self, other: &CaseNet)
         requires numbers { case_numbers (case_state self.old) ≡ case_numbers (case_state other.now) }
         requires size { case_size (case_state self.old) ≡ case_size (case_state other.now) }

@@ -25,8 +25,8 @@ pub trait ComponentNet: Drop {
     /// Its state, as the nets of these numbers have it.
     ghost state: { Self → state_in numbers };
 
-    /// All hypotheses are in, with these weights and edges. There are at most 64 hypotheses, a weight and a row of
-    /// edges for each, they are a valid graph, and quotients are over constants. A refusal is reported at the
+    /// Returns the net with these weights and edges, in which all hypotheses remain. There are at most 64 hypotheses, a weight
+    /// and a row of edges for each, they are a valid graph, and quotients are over constants. A refusal is reported at the
     /// component.
     fn open(
         alloc: Global,

@@ -1,4 +1,4 @@
-//! The nets of a case, in which all hypotheses are in.
+//! The nets of a case, in which all hypotheses remain.
 ghost use Rattle.std.specs.Prelude.{◌≡◌, ◌<◌, ◌*◌, map, length, IfOk};
 ghost use Rattle.field_core.specs.Kind.{ok_map};
 ghost use Rattle.field_core.specs.Steps.{in_component};
@@ -54,8 +54,7 @@ fn write_edges<F: CaseNumber>(table: &[Entry], size: usize, edges: &mut [F]) -> 
     try_fill(edges, |i| edge(table, size, i))
 }
 
-/// Returns the edges of a component, row by row. It is `OpenFault::Wide` exactly where one is undefined, or nothing
-/// when out of memory.
+/// Returns the edges of a component, row by row. Unless out of memory, it is `OpenFault::Wide` exactly if one is undefined.
 #[tactic(auto, using(std::proofs::lemmas::List::with_items_is))]
 pub fn edges<F: CaseNumber>(alloc: Global, case: &Case, c: usize) -> Result<Vec<F>, OpenFault>
     requires { c < length (content case.now).components }

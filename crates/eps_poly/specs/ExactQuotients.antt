@@ -1,4 +1,4 @@
--- Exact quotients of polynomials: the polynomial whose written product with a divisor is the dividend, where there is one. There is at most one.
+-- Exact quotients of polynomials: the polynomial whose written product with a divisor is the dividend, if there is one. There is at most one.
 use Rattle.std.specs.Prelude.{ℕ, zero, suc, ◌+◌, ℤ, ◌+ℤ◌, neg_ℤ, int_div, List, [], ◌∷◌, ◌++◌, length, Bool, false}
 use Rattle.std.specs.Prelude.{if◌then◌else◌, Option, Some, None}
 use Rattle.field_core.specs.Polynomial.{coefficient}
@@ -22,6 +22,6 @@ abbrev pub is_product : Option (List ℤ) → List ℤ → Bool
 is_product (Some r) p = is_same r p
 is_product None p = false
 
--- the polynomial whose written product with `by` is `p`, where there is one
+-- the polynomial whose written product with `by` is `p`, if there is one
 unfoldable pub exact_quotient : List ℤ → List ℤ → Option (List ℤ)
 exact_quotient p by = if is_product (sized_product (quotient_front p by 33) by) p then Some (quotient_front p by 33) else None

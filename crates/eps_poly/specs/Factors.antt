@@ -1,5 +1,5 @@
--- The factors of a polynomial: a polynomial that isn't zero is in one way c * epsilon^k * P, where the coefficients of P have
--- greatest common divisor 1 and its coefficient of power 0 is above 0.
+-- The factors of a polynomial. A polynomial that isn't zero is in one way c * epsilon^k * P. The coefficients of P have greatest common divisor 1,
+-- and its coefficient of power 0 is above 0.
 use Rattle.std.specs.Prelude.{◌≡◌, ℕ, suc, ◌+◌, if◌then◌else◌, ℤ, pos, negsuc, neg_ℤ, ◌<ℤ◌, unsigned_abs, int_div, List, []}
 use Rattle.std.specs.Prelude.{◌∷◌, ◌++◌, replicate, Option, Some, None}
 use Rattle.std.specs.List.{list_all}
@@ -18,7 +18,7 @@ unfoldable pub order : List ℤ → ℕ
 order [] = 0
 order (c ∷ p) = if is_zero_integer c then suc (order p) else 0
 
--- the least power with a coefficient that isn't 0, where there is one
+-- the least power with a coefficient that isn't 0, if there is one
 unfoldable pub low_order : List ℤ → Option ℕ
 low_order p = if list_all is_zero_integer p then None else Some (order p)
 

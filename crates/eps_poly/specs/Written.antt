@@ -16,8 +16,8 @@ sized_list (suc n) value = do
 unfoldable pub sized_sum : List ℤ → List ℤ → Option (List ℤ)
 sized_sum p q = sized_list 33 (λ k. sized (coefficient p k +ℤ coefficient q k))
 
--- what the first n factors add to the coefficient of power k of a product: coefficient i of the first factor times coefficient k - i of the
--- second, by ascending i
+-- what the first n factors add to the coefficient of power k of a product. By ascending i, it is coefficient i of the first factor times coefficient
+-- k - i of the second
 unfoldable pub written_coefficient : List ℤ → List ℤ → ℕ → ℕ → Option ℤ
 written_coefficient p q k zero = Some (pos 0)
 written_coefficient p q k (suc n) = do
@@ -41,7 +41,7 @@ count_to_last (c ∷ p) = counted c (count_to_last p)
 unfoldable pub degree : List ℤ → ℕ
 degree p = count_to_last p - 1
 
--- the written product: of each power the written coefficient, where the degree doesn't pass 32
+-- the written product: of each power the written coefficient, if the degree doesn't pass 32
 unfoldable pub sized_product : List ℤ → List ℤ → Option (List ℤ)
 sized_product p q =
     if nat_le (degree p + degree q) 32

@@ -4,8 +4,8 @@ ghost use Rattle.field_core.specs.Polynomial.{Same, IsNonZero};
 ghost use Rattle.eps_poly.specs.Factors.{IsCore, core, factor, from_factors, order};
 ghost use Rattle.eps_poly.specs.Polynomials.{IsPolynomial};
 
-/// Each polynomial that isn't zero is `c * epsilon^k * P` in one way, where the coefficients of `P` have greatest common divisor 1
-/// and its coefficient of power 0 is above 0: `c` is the factor, `k` the least power, `P` the core.
+/// Each polynomial that isn't zero is `c * epsilon^k * P` in one way. `c` is the factor, `k` the least power, `P` the core. The
+/// coefficients of `P` have greatest common divisor 1, and its coefficient of power 0 is above 0.
 pub fn polynomials_have_one_core()
     ensures polynomial { (p : List ℤ) → IsPolynomial p → IsPolynomial (core p) }
     ensures core { (p : List ℤ) → IsPolynomial p → IsNonZero p → IsCore (core p) }

@@ -1,10 +1,10 @@
 //! Polynomials in epsilon with whole coefficients, in place: 33 coefficients, for the powers 0 to 32.
 //!
 //! Proved, for polynomials of 33 whole coefficients of at most 2^127 - 1 in size, which contracts see as lists:
-//! - `add`, `sub`, `mul`, and `checked_add`, `checked_mul`: `written` (what the written operation gives, or refused
-//!   exactly where it is undefined), `exact` (a result is the sum or the product).
-//! - `divide_exact`: `value` (the quotient by its definition), `found`, `only`, `none` (the one polynomial whose
-//!   written product with the divisor is the dividend, exactly where there is one).
+//! - `add`, `sub`, `mul`, and `checked_add`, `checked_mul`: `written` (what the written operation gives, or refused exactly if
+//!   it is undefined), `exact` (a result is the sum or the product).
+//! - `divide_exact`: `value` (the quotient by its definition), `found`, `only`, `none` (the one polynomial whose written
+//!   product with the divisor is the dividend, exactly if there is one).
 //! - `zero`, `constant`, `monomial`, `with`, `put`, `coefficient`, `is_zero`, `negate`, `content`, `low_order`,
 //!   `degree`, `factor`, `core`, `lowered`, by their definitions; `==`.
 //! - `add_assign`, `put_product`, `clear` and `lower` write in place, with the same values and refusals as `add`,

@@ -33,7 +33,7 @@ pub fn size(c: Whole) -> u128
     c.value().unsigned_abs()
 }
 
-/// Returns the number that times `by` is `product`, where there is one.
+/// Returns the number that times `by` is `product`, if there is one.
 pub fn divided(product: Whole, by: Whole) -> Option<Whole>
     requires { by ≢ pos 0 }
     ensures { (x : ℤ) → (result ≡ Some x) ↔ (x *ℤ by ≡ product) }

@@ -99,7 +99,7 @@ impl EpsPoly {
         }
     }
 
-    /// Returns the polynomial `c`, refused with `Op::Add` exactly where `c` is the least `i128`.
+    /// Returns the polynomial `c`, refused with `Op::Add` exactly if `c` is the least `i128`.
     pub fn constant(c: i128) -> Result<EpsPoly, TooWide>
         ensures { result ≡ or_wide Add (option_map (λ a. monomial a 0) (sized c)) }
     {
@@ -117,8 +117,8 @@ impl EpsPoly {
         single
     }
 
-    /// Returns this polynomial with `c` as one coefficient, refused with `Op::Add` exactly where `c` is the least
-    /// `i128`; `power` is at most 32.
+    /// Returns this polynomial with `c` as one coefficient, refused with `Op::Add` exactly if `c` is the least `i128`; `power`
+    /// is at most 32.
     pub fn with(&self, power: usize, c: i128) -> Result<EpsPoly, TooWide>
         requires { power ≤ 32 }
         ensures { result ≡ or_wide Add (option_map (slice_set self.now power) (sized c)) }
@@ -139,7 +139,7 @@ impl EpsPoly {
         self.used = used;
     }
 
-    /// Returns one coefficient of this polynomial where that of `power` is `c`.
+    /// Returns one coefficient of this polynomial, with that of `power` replaced by `c`.
     fn whole_with(&self, power: usize, c: Whole, at: usize) -> Whole
         requires power { power ≤ 32 }
         requires at { at ≤ 32 }
@@ -249,7 +249,7 @@ impl EpsPoly {
         true
     }
 
-    /// Returns the greatest power with a coefficient that isn't 0, and 0 where there is none.
+    /// Returns the greatest power with a coefficient that isn't 0, and 0 if there is none.
     pub fn degree(&self) -> usize
         ensures value { result ≡ degree self.now }
         ensures within { result ≤ 32 }
@@ -413,7 +413,7 @@ impl EpsPoly {
         opposite
     }
 
-    /// Returns the sum, or `TooWide` exactly where the written sum has a part past its size.
+    /// Returns the sum, or `TooWide` exactly if the written sum has a part past its size.
     pub fn add(&self, other: &EpsPoly) -> Result<EpsPoly, TooWide>
         ensures written { result ≡ or_wide Add (sized_sum self.now other.now) }
         ensures exact { IfOk result (λ r. Same r (poly_add self.now other.now)) }
@@ -421,7 +421,7 @@ impl EpsPoly {
         self.checked_add(other).ok_or(TooWide { op: Op::Add })
     }
 
-    /// Returns the difference, or `TooWide` exactly where the written difference has a part past its size.
+    /// Returns the difference, or `TooWide` exactly if the written difference has a part past its size.
     pub fn sub(&self, other: &EpsPoly) -> Result<EpsPoly, TooWide>
         ensures written { result ≡ or_wide Sub (sized_sum self.now (poly_negate other.now)) }
         ensures exact { IfOk result (λ r. Same r (poly_add self.now (poly_negate other.now))) }
@@ -430,7 +430,7 @@ impl EpsPoly {
             .ok_or(TooWide { op: Op::Sub })
     }
 
-    /// Returns the product, or `TooWide` exactly where the written product has a part past its size or a degree above 32.
+    /// Returns the product, or `TooWide` exactly if the written product has a part past its size or a degree above 32.
     pub fn mul(&self, other: &EpsPoly) -> Result<EpsPoly, TooWide>
         ensures written { result ≡ or_wide Mul (sized_product self.now other.now) }
         ensures exact { IfOk result (λ r. Same r (poly_multiply self.now other.now)) }
@@ -438,7 +438,7 @@ impl EpsPoly {
         self.checked_mul(other).ok_or(TooWide { op: Op::Mul })
     }
 
-    /// Returns the sum, or nothing exactly where the written sum has a part past its size.
+    /// Returns the sum, or nothing exactly if the written sum has a part past its size.
     pub fn checked_add(&self, other: &EpsPoly) -> Option<EpsPoly>
         ensures written { result ≡ sized_sum self.now other.now }
         ensures exact { IfSome result (λ r. Same r (poly_add self.now other.now)) }
@@ -450,7 +450,7 @@ impl EpsPoly {
         Some(sum)
     }
 
-    /// Returns the product, or nothing exactly where the written product has a part past its size or a degree above 32.
+    /// Returns the product, or nothing exactly if the written product has a part past its size or a degree above 32.
     pub fn checked_mul(&self, other: &EpsPoly) -> Option<EpsPoly>
         ensures written { result ≡ sized_product self.now other.now }
         ensures exact { IfSome result (λ r. Same r (poly_multiply self.now other.now)) }
@@ -460,16 +460,16 @@ impl EpsPoly {
         Some(product)
     }
 
-    /// Adds another polynomial to this one, or is `TooWide` exactly where the written sum has a part past its size; then what
-    /// was written before stays.
+    /// Adds another polynomial to this one, or is `TooWide` exactly if the written sum has a part past its size; then what was
+    /// written before stays.
     pub fn add_assign(&mut self, other: &EpsPoly) -> Result<(), TooWide>
         ensures { ok_map (λ _. self.new) result ≡ or_wide Add (sized_sum self.old other.now) }
     {
         self.write_sum(other).ok_or(TooWide { op: Op::Add })
     }
 
-    /// Subtracts another polynomial from this one, or is `TooWide` exactly where the written difference has a part past its
-    /// size; then what was written before stays.
+    /// Subtracts another polynomial from this one, or is `TooWide` exactly if the written difference has a part past its size;
+    /// then what was written before stays.
     pub fn sub_assign(&mut self, other: &EpsPoly) -> Result<(), TooWide>
         ensures { ok_map (λ _. self.new) result ≡ or_wide Sub (sized_sum self.old (poly_negate other.now)) }
     {
@@ -477,8 +477,8 @@ impl EpsPoly {
             .ok_or(TooWide { op: Op::Sub })
     }
 
-    /// Becomes the product of two polynomials, or is `TooWide` exactly where the written product has a part past its size or a
-    /// degree above 32; then what was written before stays.
+    /// Becomes the product of two polynomials, or is `TooWide` exactly if the written product has a part past its size or a
+    /// degree above 32. What was written before then stays.
     pub fn put_product(&mut self, left: &EpsPoly, right: &EpsPoly) -> Result<(), TooWide>
         ensures { ok_map (λ _. self.new) result ≡ or_wide Mul (sized_product left.now right.now) }
     {
@@ -525,7 +525,7 @@ impl EpsPoly {
         Some(())
     }
 
-    /// Returns the polynomial `q` whose written product with `by` is this polynomial, or `None` exactly where there is none.
+    /// Returns the polynomial `q` whose written product with `by` is this polynomial, or `None` exactly if there is none.
     pub fn divide_exact(&self, by: &EpsPoly) -> Option<EpsPoly>
         requires { IsNonZero by.now }
         ensures value { result ≡ exact_quotient self.now by.now }
@@ -539,7 +539,7 @@ impl EpsPoly {
         Some(quotient)
     }
 
-    /// Becomes the polynomial `q` whose written product with `by` is `p`, or is `None` exactly where there is none; then what was
+    /// Becomes the polynomial `q` whose written product with `by` is `p`, or is `None` exactly if there is none; then what was
     /// written before stays. `spare` is room for that product.
     pub fn put_quotient(&mut self, p: &EpsPoly, by: &EpsPoly, spare: &mut EpsPoly) -> Option<()>
         requires { IsNonZero by.now }

@@ -43,8 +43,8 @@ fn short_part(p: &EpsPoly, q: &EpsPoly, power: usize, count: usize) -> Option<Wh
     Some(sum)
 }
 
-/// Returns what the coefficients below `count` of the first factor add to a coefficient of the product, where it may be
-/// known that all coefficients of both fit 64 bits.
+/// Returns what the coefficients below `count` of the first factor add to a coefficient of the product, if it may be known that
+/// all coefficients of both fit 64 bits.
 pub fn part_of_product(
     p: &EpsPoly,
     q: &EpsPoly,

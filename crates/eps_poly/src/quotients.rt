@@ -10,7 +10,7 @@ use crate::numbers::{divided, is_short};
 use crate::products::part_of_product;
 use field_core::Whole;
 
-/// Returns the next coefficient of a quotient, where those of lower powers are known.
+/// Returns the next coefficient of a quotient, if those of lower powers are known.
 fn next(
     p: &EpsPoly,
     by: &EpsPoly,
@@ -33,7 +33,7 @@ fn next(
     divided(rest, by.whole(low))
 }
 
-/// Writes the only polynomial that times `by` can be `p`, or is `None` where there is none.
+/// Writes the only polynomial that times `by` can be `p`, or is `None` if there is none.
 pub fn write_candidate(p: &EpsPoly, by: &EpsPoly, quotient: &mut EpsPoly) -> Option<()>
     requires { IsNonZero by.now }
     ensures only { (q : List ℤ) → sized_product q by.now ≡ Some p.now → IsSomeAnd result (λ _. Same quotient.new q) }

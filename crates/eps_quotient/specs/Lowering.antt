@@ -1,5 +1,5 @@
--- Quotients of polynomials without common factors, as they are stored (this project's own). A polynomial that isn't 0 is in one way
--- c * epsilon^k * P, where P is its core; two equal cores are cut, and other common factors of cores are left.
+-- Quotients of polynomials without common factors, as they are stored (this project's own). A polynomial that isn't 0 is in one way c * epsilon^k *
+-- P, and P is its core. Two equal cores are cut, and other common factors of cores are left.
 use Rattle.std.specs.Prelude.{◌-◌, ℕ, min, if◌then◌else◌, ℤ, pos, int_div, List}
 use Rattle.std.specs.List.{list_all}
 use Rattle.std.specs.Int.{is_negative}
@@ -36,14 +36,14 @@ without_powers a b = record {
   denominator = lowered (common_order a b) (pos (common_content a b)) b;
 }
 
--- the same where both cores are replaced by 1
+-- the same if both cores are replaced by 1
 unfoldable pub without_cores : List ℤ → List ℤ → Parts
 without_cores a b = record {
   numerator = monomial (int_div (factor a) (pos (common_content a b))) (order a - common_order a b);
   denominator = monomial (int_div (factor b) (pos (common_content a b))) (order b - common_order a b);
 }
 
--- a/b without common content, common powers of epsilon and equal cores; 0/1 where a is 0
+-- a/b without common content, common powers of epsilon and equal cores; 0/1 if a is 0
 unfoldable pub lower : List ℤ → List ℤ → Parts
 lower a b =
     if list_all is_zero_integer a

@@ -16,7 +16,7 @@ abbrev pub is_some_text : List ℕ → Bool
 is_some_text [] = false
 is_some_text (b ∷ bs) = true
 
--- the number that digits write, where it is at most 2^127 - 1
+-- the number that digits write, if it is at most 2^127 - 1
 unfoldable pub number_of : List ℕ → Option ℤ
 number_of text = if (is_some_text text && list_all is_ascii_digit text)
     && nat_lt (digits_value 10 text) (2 ^ 127) then Some (pos (digits_value 10 text)) else None

@@ -15,11 +15,11 @@ list_text cs = 91 ∷ join_with_byte 44 (map signed_decimal cs) ++ 93 ∷ []
 abbrev pub polynomial_text : List ℤ → List ℕ
 polynomial_text p = list_text (take (degree p + 1) p)
 
--- a coefficient, after a comma where it isn't the first
+-- a coefficient, after a comma if it isn't the first
 abbrev pub coefficient_text : ℕ → ℤ → List ℕ
 coefficient_text k c = if k == 0 then signed_decimal c else 44 ∷ signed_decimal c
 
--- the text of a fraction where both polynomials are constants, else both polynomials in brackets
+-- the text of a fraction if both polynomials are constants, else both polynomials in brackets
 unfoldable pub quotient_text : Parts → List ℕ
 quotient_text x =
     if (degree x.numerator == 0) && (degree x.denominator == 0)

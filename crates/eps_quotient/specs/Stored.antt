@@ -7,8 +7,8 @@ use Rattle.eps_poly.specs.Polynomials.{IsPolynomial}
 use Rattle.eps_poly.specs.Factors.{core}
 use Rattle.eps_quotient.specs.Lowering.{one_polynomial, common_content}
 
--- Two polynomials within their sizes; the lowest coefficient of the denominator is positive, 0 is stored as 0/1,
--- and there is no common power of epsilon, no common content and no common core but 1.
+-- Two polynomials within their sizes. The lowest coefficient of the denominator is positive, and 0 is stored as 0/1. There is no common power of
+-- epsilon, no common content and no common core but 1.
 pub record IsQuotient (x : Parts) : Type 0 where
   pub above : IsPolynomial x.numerator
   pub below : IsPolynomial x.denominator

@@ -26,8 +26,8 @@ fn lowest_terms(num: Whole, den: Whole) -> Ratio
     Ratio::of_wholes(num.over(divisor), den.over(divisor))
 }
 
-/// Returns the limit of the quotient of two polynomials, which is from 0 to 1, as epsilon decreases to 0: that of the
-/// coefficients of the least power of the denominator. So the quotient needs no norm.
+/// Returns the limit of the quotient of two polynomials, which is from 0 to 1, as epsilon decreases to 0. It is the quotient of
+/// the coefficients of the least power of the denominator. So the quotient needs no norm.
 pub fn limit(num: &EpsPoly, den: &EpsPoly) -> Ratio
     requires some { IsNonZero den.now }
     requires unit { IsUnit (value_of (norm num.now den.now)) }

@@ -53,7 +53,7 @@ fn without_powers(a: &EpsPoly, b: &EpsPoly, power: usize) -> Pair
     }
 }
 
-/// Returns the same where both cores are replaced by 1.
+/// Returns the same if both cores are replaced by 1.
 #[tactic(auto, unfolding(crate::specs::Lowering::without_cores), using(crate::specs::Laws::Cuts::order_within))]
 fn without_cores(a: &EpsPoly, b: &EpsPoly, power: usize) -> Pair
     requires a { IsNonZero a.now }
@@ -69,7 +69,7 @@ fn without_cores(a: &EpsPoly, b: &EpsPoly, power: usize) -> Pair
     }
 }
 
-/// Returns the quotient without common content, common powers of epsilon and equal cores; 0/1 where the numerator is 0.
+/// Returns the quotient without common content, common powers of epsilon and equal cores; 0/1 if the numerator is 0.
 #[tactic(auto, unfolding(crate::specs::Lowering::lower))]
 pub fn lower(a: &EpsPoly, b: &EpsPoly) -> Pair
     requires { IsNonZero b.now }

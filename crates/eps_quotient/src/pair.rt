@@ -68,7 +68,7 @@ impl Pair {
         is_one(&self.numerator) && is_one(&self.denominator)
     }
 
-    /// Whether it is below, at or above 0, where the lowest coefficient of its denominator is positive.
+    /// Returns whether it is below, at or above 0. The lowest coefficient of its denominator is positive.
     #[tactic(auto, unfolding(field_core::specs::Kind::sign_of))]
     pub fn sign(&self) -> Ordering
         ensures { result ≡ sign_of (pair_parts self.now) }

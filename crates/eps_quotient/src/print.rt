@@ -9,7 +9,7 @@ use crate::pair::Pair;
 use eps_poly::EpsPoly;
 use field_core::{List, NoMemory};
 
-/// Appends a coefficient, after a comma where it isn't that of power 0.
+/// Appends a coefficient, after a comma if it isn't that of power 0.
 fn put_coefficient(text: &mut List<u8>, p: &EpsPoly, power: usize) -> Result<(), NoMemory>
     requires { power ≤ 32 }
     ensures put { OnOk result (text.new ≡ text.old ++ coefficient_text power (coefficient p.now power)) }

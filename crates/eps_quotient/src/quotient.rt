@@ -58,7 +58,7 @@ impl EpsQuotient {
     ghost use Rattle.eps_quotient.specs.Stored.{IsQuotient};
     ghost use Rattle.eps_quotient.specs.View.{number_of, pair_parts, quotient_parts};
 
-    /// Returns the quotient num/den as the norm of the two polynomials stores it, or `None` exactly where `den` is 0.
+    /// Returns the quotient num/den as the norm of the two polynomials stores it, or `None` exactly if `den` is 0.
     pub fn new(num: &EpsPoly, den: &EpsPoly) -> Option<EpsQuotient>
         ensures norm { IfSome result (λ x. quotient_parts x ≡ norm num.now den.now) }
         ensures value { IfSome result (λ x. number_of x ≡ quotient_of num.now den.now) }
@@ -86,8 +86,8 @@ impl EpsQuotient {
         self.pair.denominator
     }
 
-    /// Appends the text: that of the fraction where both polynomials are constants, else `[c0,c1,..]/[d0,d1,..]`, the
-    /// coefficients of both up to the last that isn't 0. When out of memory, `out` stays as it was.
+    /// Appends the text: that of the fraction if both polynomials are constants, else `[c0,c1,..]/[d0,d1,..]`, the coefficients
+    /// of both up to the last that isn't 0. When out of memory, `out` stays as it was.
     pub fn print(&self, out: &mut List<u8>) -> Result<(), NoMemory>
         ensures printed { OnOk result (out.new ≡ out.old ++ quotient_text (quotient_parts self.now)) }
         ensures unchanged { OnErr result (out.new ≡ out.old) }
@@ -95,8 +95,8 @@ impl EpsQuotient {
         put_quotient(out, &self.pair)
     }
 
-    /// Reads the text of a quotient: a whole number, two numbers with a slash between them, or two lists of coefficients in brackets
-    /// with a slash between them, each number of at most 2^127 - 1 in size. Anything else gives `None`.
+    /// Reads the text of a quotient: a whole number, two numbers with a slash between them, or two lists of coefficients in
+    /// brackets with a slash between them. Each number is at most 2^127 - 1 in size. Anything else gives `None`.
     pub fn read(text: &[u8]) -> Option<EpsQuotient>
         ensures found { IfSome result (λ x. (n d : Seq ℤ) × IsQuotientText text.now n d × (quotient_parts x ≡ norm n d)) }
         ensures only { (n d : Seq ℤ) → IsQuotientText text.now n d → IsSomeAnd result (λ x. quotient_parts x ≡ norm n d) }
@@ -105,8 +105,8 @@ impl EpsQuotient {
         EpsQuotient::new(&num, &den)
     }
 
-    /// Returns the quotient whose value is the polynomial with these coefficients of ascending power: the written sum
-    /// of its terms, or `TooWide` with `Op::Add` exactly where that sum has a part past its size.
+    /// Returns the quotient whose value is the polynomial with these coefficients of ascending power: the written sum of its
+    /// terms. It is `TooWide` with `Op::Add` exactly if that sum has a part past its size.
     pub fn from_parts(parts: &[Ratio; 5]) -> Result<EpsQuotient, TooWide>
         ensures written { ok_map quotient_parts result ≡ or_wide Add (written_polynomial (map terms parts.now)) }
         ensures value { IfOk result (λ x. number_of x ≡ polynomial_value (map terms parts.now)) }
@@ -190,7 +190,7 @@ impl Number for EpsQuotient {
         EpsQuotient::answer(Op::Div, quotient(&self.pair, &other.pair))
     }
 
-    /// Refused exactly where the difference is, with `Op::Sub`.
+    /// Returns how it compares with `other`. It is refused exactly if the difference is, with `Op::Sub`.
     fn compare(&self, other: &EpsQuotient) -> Result<Ordering, TooWide> {
         match self.sub(other) {
             Ok(difference) => Ok(difference.sign()),

@@ -36,7 +36,7 @@ fn are_digits(text: &[u8]) -> bool
     text.iter().all(|byte| byte.is_ascii_digit())
 }
 
-/// Returns the number that digits write, or the greatest that there is where it is greater.
+/// Returns the number that digits write, or the greatest that there is if it is greater.
 fn size(digits: &[u8]) -> u128
     requires { list_all is_ascii_digit digits.now ≡ true }
     ensures { result ≡ min (digits_value 10 digits.now) (2 ^ 128 - 1) }
@@ -50,7 +50,7 @@ fn size(digits: &[u8]) -> u128
     size
 }
 
-/// Returns the number that digits write, where it is at most 2^127 - 1.
+/// Returns the number that digits write, if it is at most 2^127 - 1.
 #[tactic(auto, unfolding(crate::specs::Reading::number_of))]
 fn number(text: &[u8]) -> Option<Whole>
     ensures { result ≡ number_of text.now }
@@ -77,7 +77,7 @@ fn whole(text: &[u8]) -> Option<Whole>
     }
 }
 
-/// Returns what stands before the first such byte, and after it.
+/// Returns what is before the first such byte, and after it.
 fn cut(text: &[u8], byte: u8) -> Option<(&[u8], &[u8])>
     ensures none { IfNone result (All (λ b. (b == byte) ≡ false) text.now) }
     ensures whole { IfSome result (λ x. text.now ≡ x.0.now ++ byte ∷ x.1.now) }
@@ -90,7 +90,7 @@ fn cut(text: &[u8], byte: u8) -> Option<(&[u8], &[u8])>
     Some((&text[..front], &text[front + 1..]))
 }
 
-/// Returns what stands inside the brackets.
+/// Returns what is inside the brackets.
 fn inside(text: &[u8]) -> Option<&[u8]>
     ensures found { IfSome result (λ inner. text.now ≡ 91 ∷ inner.now ++ 93 ∷ []) }
     ensures none { IfNone result ((inner : List ℕ) → text.now ≢ 91 ∷ inner ++ 93 ∷ []) }

@@ -23,7 +23,7 @@ use Rattle.evidence.specs.FlowRun.{WideStep, WrittenEvidence, at_step, evidence_
 use Rattle.evidence.specs.FlowStatements.{IsOpened}
 use Rattle.std.specs.Prelude.{Ok}
 
--- a complete legal order of a case: each hypothesis is legal where it stands, and none is legal after the last
+-- a complete legal order of a case: each hypothesis is legal at its place, and none is legal after the last
 pub record IsCompleteOrder (c : Content) (js : List ℕ) : Type 0 where
   pub legal : IsLegalOrder (entangled c) (number_at (p_values_of c.inputs)) (number_of c.alpha) whole js
   pub complete : IsComplete (entangled c) (number_at (p_values_of c.inputs)) (number_of c.alpha) whole js

@@ -20,17 +20,17 @@ line_text words = line_spelt words ++ 10 ∷ []
 abbrev pub form_text : Numbers → Content → Form → List ℕ
 form_text n c form = line_text (line_of (case_frame n c) form)
 
--- the lines that say so, one after the other
+-- the lines that say so, one after another
 unfoldable pub forms_text : Numbers → Content → List Form → List ℕ
 forms_text n c forms = text_of (map (line_of (case_frame n c)) forms)
 
 -- ---- laws
 
--- The text of evidence for a case says it.
+-- The text of evidence for a case denotes it.
 abbrev pub EvidenceTextsSayTheirs : Type 0
 EvidenceTextsSayTheirs = (c : Content) (v : Evidence) → IsValidContent c → IsEvidenceFor c v → SaysEvidence c (evidence_text c v) v
 
--- It says no other evidence for the case.
+-- It denotes no other evidence for the case.
 abbrev pub EvidenceTextsSayNoOther : Type 0
 EvidenceTextsSayNoOther =
     (c : Content) (v w : Evidence) → IsValidContent c → IsEvidenceFor c v → IsEvidenceFor c w → SaysEvidence c (evidence_text c v) w

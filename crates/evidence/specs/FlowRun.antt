@@ -1,5 +1,5 @@
--- The written flow run of nets: for each step of an order, what flows through the hypotheses of the earlier steps is recorded, the tables of all
--- components are made anew, and its hypothesis is removed (this project's own).
+-- The written flow run of nets (this project's own). For each step of an order, what flows through the hypotheses of the earlier steps is recorded.
+-- Then the tables of all components are computed anew, and its hypothesis is removed.
 use Rattle.std.specs.Prelude.{ℕ, ◌+◌, List, [], ◌∷◌, ◌++◌, Bool, true, false, not, Result, Ok, Err, map, length, get_or, replicate}
 use Rattle.field_core.specs.declared.place.Wide.{Wide}
 use Rattle.field_core.specs.declared.place.WideAt.{WideAt}
@@ -36,11 +36,11 @@ pub record WrittenEvidence : Type 0 where
   pub steps : List StepParts
   pub keeps : List KeepParts
 
--- (stands for a graph past the last one)
+-- (denotes a graph past the last one)
 abbrev pub no_graph : StoredGraph
 no_graph = record { live = []; weights = []; edges = [] }
 
--- (stands for tables past the last ones)
+-- (denotes tables past the last ones)
 abbrev pub no_tables : Tables
 no_tables = record { flows = []; visits = []; exits = [] }
 

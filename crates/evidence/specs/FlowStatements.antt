@@ -15,7 +15,7 @@ use Rattle.evidence_check.specs.CheckStatements.{evidence_values}
 use Rattle.evidence.specs.FlowRun.{WrittenEvidence, evidence_run}
 
 module _ {S : Type 0} (K : Kind) (graph : S → StoredGraph) (IsProper : S → Type 0) where
-  -- nets as they are opened: all hypotheses are in, and the levels are those of the opening
+  -- nets as they are opened: all hypotheses remain, and the levels are those of the opening
   pub record IsOpened (b : Bundled S) : Type 0 where
     pub ready : AreReady K graph IsProper b.states b.shares
     pub levels : opened K graph b.states b.shares ≡ Ok b

@@ -1,6 +1,6 @@
 -- The written flow run in one component: which operations are done in a step, in which order and for what. All operands are old values. It keeps what
--- flows through each removed hypothesis, what each hypothesis that is in sends through each removed one, and the exits of each removed one to each
--- hypothesis that is in (this project's own).
+-- flows through each removed hypothesis, and what each remaining hypothesis sends through each removed one. It also keeps the exits of each removed
+-- one to each remaining one (this project's own).
 use Rattle.std.specs.Prelude.{ℕ, List, [], ◌∷◌, ◌++◌, Bool, not, if◌then◌else◌, Option, Some, None, Result, Ok, map, get_or, set, replicate}
 use Rattle.std.specs.List.{range_with_len}
 use Rattle.field_core.specs.declared.place.Op.TheVariants.{Add, Mul, Div}
@@ -12,8 +12,8 @@ use Rattle.removal.specs.StoredGraph.{StoredGraph, size, weight, edge}
 use Rattle.removal.specs.WrittenRemoval.{is_gone, divisor}
 use Rattle.evidence_check.specs.EvidenceParts.{numbers_at}
 
--- What the run keeps of a component: by hypothesis what flows through it, for each hypothesis `l` a row of what `l` sends through each one, and for
--- each hypothesis `k` a row of the exits of each one to `k`.
+-- What the run keeps of a component: by hypothesis what flows through it, and for each hypothesis `l` a row of what `l` sends through each one. For
+-- each hypothesis `k` also a row of the exits of each one to `k`.
 pub record Tables : Type 0 where
   pub flows : List Parts
   pub visits : List (List Parts)
@@ -30,7 +30,7 @@ put_each f (r ∷ rs) xs = do
   x ← f r
   put_each f rs (set xs r x)
 
--- nothing is written of what isn't wanted, which stays
+-- nothing is written of what isn't required, which stays
 abbrev pub if_wanted : {A E : Type 0} → Bool → A → Result A E → Result A E
 if_wanted wanted old new = if wanted then new else Ok old
 
@@ -70,18 +70,18 @@ module _ (K : Kind) where
       unfoldable pub new_flows : List (List Parts) → List Parts → Result (List Parts) Wide
       new_flows visits ys = put_each (new_flow (row visits j) ys) (earlier ++ j ∷ []) ys
 
-      -- the row of `l` with this divisor: all 0 where there is none
+      -- the row of `l` with this divisor: all 0 if there is none
       unfoldable pub new_visits_by : List (List Parts) → ℕ → Option Parts → Result (List Parts) Wide
       new_visits_by visits l None = Ok (map (λ x. K.zero) (row visits l))
       new_visits_by visits l (Some d) = put_each (new_visit (row visits j) (row visits l) l d) (earlier ++ j ∷ l ∷ []) (row visits l)
 
-      -- the row of `l`, which stays where `l` is gone; it is divided by what the removal divides the edges of `l` by
+      -- the row of `l`, which stays if `l` is removed; it is divided by what the removal divides the edges of `l` by
       unfoldable pub new_visits : List (List Parts) → ℕ → Result (List Parts) Wide
       new_visits visits l = if is_gone G j l then Ok (row visits l) else do
         d ← divisor K G j l
         new_visits_by visits l d
 
-      -- the exits to `k`, which stay where `k` is gone; that of `j` is its edge
+      -- the exits to `k`, which stay if `k` is removed; that of `j` is its edge
       unfoldable pub new_exits : List (List Parts) → ℕ → Result (List Parts) Wide
       new_exits exits k = if is_gone G j k then Ok (row exits k) else do
         xs ← put_each (new_exit (row exits j) (row exits k) k) earlier (row exits k)

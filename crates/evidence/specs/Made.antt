@@ -22,8 +22,8 @@ abbrev pub fault_at : ℕ → Fault WideAt → RunFault
 fault_at n (Wide w) = MakeWide n w
 fault_at n NoMemory = MakeNoMemory
 
--- What is made: if it is, what was written, as `view` shows it; if it is too wide, the first operation that is undefined; nothing is said where memory was
--- exhausted.
+-- What is made. If it is made: what was written, as `view` shows it. If it is too wide: the first operation that is undefined. Nothing is said when
+-- out of memory.
 abbrev pub Makes : {A B W : Type 0} → (A → B) → Result A (Fault W) → Result B W → Type 0
 Makes view (Ok x) written = written ≡ Ok (view x)
 Makes view (Err (Wide w)) written = written ≡ Err w

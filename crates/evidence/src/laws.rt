@@ -36,7 +36,7 @@ pub fn case_flows_are_evidence()
     ensures accepted { CaseFlowsAreNotRefused }
 {}
 
-/// The text of evidence for a case says this evidence and no other, and has no fault: so it is read back as it was written.
+/// The text of evidence for a case denotes this evidence and no other, and has no fault: so it is read back as it was written.
 /// Evidence of one text is the same.
 pub fn evidence_texts_are_read_back()
     ensures says { EvidenceTextsSayTheirs }

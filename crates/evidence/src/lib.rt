@@ -1,12 +1,12 @@
 //! Evidence for the rejections of a decision, made by a run that keeps what flows through each removed hypothesis.
 //!
 //! Proved:
-//! - `make`: `made` (its steps and keeps are what the written flow run of the case gives; or nothing when out of
-//!   memory, it is too wide exactly where that run is undefined, with its step and place), `fits` and `version` (it is
-//!   evidence of version 2 for the case), `lists` and `keeps` (the steps of the decision in their order, and all other
-//!   hypotheses, ascending), `meets` (it meets its conditions, so `evidence_check::check` finds no broken one).
-//! - Laws in `src/laws.rt`: the flow run along a legal order gives good steps, and along a complete one evidence that
-//!   meets its conditions and keeps all others; each decision lists a complete legal order.
+//! - `make`: `made` (its steps and keeps are what the written flow run of the case gives). Unless out of memory, it is too wide
+//!   exactly if that run is undefined, with its step and place. `fits` and `version`: it is evidence of version 2 for the case.
+//!   `lists` and `keeps`: the steps of the decision in their order, and all other hypotheses, ascending. `meets`: it meets its
+//!   conditions, so `evidence_check::check` finds no broken one.
+//! - Laws in `src/laws.rt`: the flow run along a legal order gives good steps. Along a complete one it gives evidence that
+//!   meets its conditions and keeps all others. Each decision lists a complete legal order.
 #![tactic(auto)]
 
 mod fault;

@@ -58,7 +58,7 @@ pub fn put<F: Number>(row: &mut List<F>, r: usize, number: F)
     }
 }
 
-/// Puts what `step` gives for them at places of a row, one after the other, up to the first refusal.
+/// Puts what `step` gives for them at places of a row, one after another, up to the first refusal.
 pub fn put_each<F: Number, S: Fn(usize) -> Result<F, Wide>>(
     row: &mut List<F>,
     places: &[usize],

@@ -186,7 +186,7 @@ fn opening_tables<R: Remover>(
     Ok(tables)
 }
 
-/// All steps along a list of distinct hypotheses, from the opening on.
+/// Makes all steps along a list of distinct hypotheses, from the opening on.
 fn run<R: Remover>(
     alloc: Global,
     bundle: &mut Bundle<R>,

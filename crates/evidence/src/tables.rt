@@ -26,8 +26,8 @@ use field_core::{List, NoMemory, Number, Place, Wide};
 use removal::Remover;
 use std::alloc::Global;
 
-/// What a run keeps of a component: by hypothesis what flows through it, for each hypothesis a row of what it sends through
-/// each one, and for each hypothesis a row of the exits of each one to it.
+/// What a run keeps of a component: by hypothesis what flows through it, and for each hypothesis a row of what it sends through
+/// each one. For each hypothesis also a row of the exits of each one to it.
 #[derive(Drop)]
 pub struct Tables<F> {
     pub flows: List<F>,
@@ -85,7 +85,7 @@ fn new_flows<R: Remover>(
     Ok(flows)
 }
 
-/// Returns what `l` is divided by; none where all that it sends becomes 0.
+/// Returns what `l` is divided by; none if all that it sends becomes 0.
 #[tactic(auto, unfolding(removal::specs::WrittenRemoval::is_gone, removal::specs::WrittenRemoval::divisor))]
 fn divisor<R: Remover>(net: &R, j: usize, l: usize) -> Result<Option<R::Value>, Wide>
     requires j { is_live (R.graph (R.present net.now)) j ≡ true }
@@ -359,7 +359,7 @@ fn visits_after<R: Remover>(
     all_visits(alloc, net, j, earlier, visits)
 }
 
-/// Returns the exits after a step; where no hypothesis is kept they are left.
+/// Returns the exits after a step; if no hypothesis is kept they are left.
 fn exits_after<R: Remover>(
     alloc: Global,
     net: &R,

@@ -262,10 +262,9 @@ fn written<F: WrittenNumber>(
 
 /// Returns the text of evidence for a case, or `NoMemory`.
 ///
-/// Its lines are those that `evidence_check::read` reads, in their order, with one blank between words and a line feed
-/// after each line. Numbers are written by `Fraction::print` where the case is plain, and else by `EpsQuotient::print`.
-/// The text says this evidence and no other, so `evidence_check::read` gives it back. Nothing is asked of the p-values
-/// of the case.
+/// Its lines are those that `evidence_check::read` reads, in their order, with one blank between words and a line feed after
+/// each line. Numbers are written by `Fraction::print` if the case is plain, and else by `EpsQuotient::print`. The text denotes
+/// this evidence and no other, so `evidence_check::read` gives it back. Nothing is asked of the p-values of the case.
 pub fn write(alloc: Global, case: &Case, proof: &Evidence) -> Result<List<u8>, NoMemory>
     requires { IsEvidenceFor (content case.now) proof.now }
     ensures text { IfOk result (λ text. text ≡ evidence_text (content case.now) proof.now) }

@@ -35,7 +35,7 @@ abbrev pub given_or : Parts → Result Parts TooWide → Parts
 given_or none (Ok x) = x
 given_or none (Err e) = none
 
--- the p-values, where there are single ones
+-- the p-values, if there are single ones
 abbrev pub p_values_of : Inputs → List Ratio
 p_values_of (Single ps) = ps
 p_values_of Bare = []
@@ -120,13 +120,13 @@ values_in c = evidence_values (kind_of (numbers_of c))
 abbrev pub MeetsIn : Content → List StepParts → List KeepParts → Type 0
 MeetsIn c steps keeps = MeetsConditions (entangled c) (number_at (p_values_of c.inputs)) (number_of c.alpha) (values_in c steps keeps)
 
--- Where the check of a case finds nothing, the evidence meets its conditions.
+-- If the check of a case finds nothing, the evidence meets its conditions.
 abbrev pub CaseChecksAreSound : Type 0
 CaseChecksAreSound =
     (c : Content) (steps : List StepParts) (keeps : List KeepParts) → IsValidContent c → AreStepsOf c steps keeps
     → case_check c steps keeps ≡ Ok tt → MeetsIn c steps keeps
 
--- Where it finds a broken condition, it doesn't.
+-- If it finds a broken condition, it doesn't.
 abbrev pub CaseChecksAreFair : Type 0
 CaseChecksAreFair =
     (c : Content) (steps : List StepParts) (keeps : List KeepParts) (n : ℕ) (reason : Reason) → IsValidContent c → AreStepsOf c steps keeps
@@ -139,13 +139,13 @@ CaseChecksNameBroken =
     → case_check c steps keeps ≡ Err (record { number = n; event = Broken reason })
     → IsBrokenBy (entangled c) (number_at (p_values_of c.inputs)) (number_of c.alpha) (values_in c steps keeps) n reason
 
--- Where it finds nothing, the closed test of the case rejects each hypothesis that is listed.
+-- If it finds nothing, the closed test of the case rejects each hypothesis that is listed.
 abbrev pub CheckedAreRejected : Type 0
 CheckedAreRejected =
     (c : Content) (steps : List StepParts) (keeps : List KeepParts) (j : ℕ) → IsValidContent c → IsSingle c.inputs → AreStepsOf c steps keeps
     → case_check c steps keeps ≡ Ok tt → IsListed (map (λ s. s.hypothesis) steps) j → IsRejectedIn c j
 
--- And where all others are kept, it rejects no other.
+-- And if all others are kept, it rejects no other.
 abbrev pub CheckedAreAllRejected : Type 0
 CheckedAreAllRejected =
     (c : Content) (steps : List StepParts) (keeps : List KeepParts) (j : ℕ) → IsValidContent c → IsSingle c.inputs → AreStepsOf c steps keeps

@@ -28,14 +28,14 @@ pub record AreStoredSteps (K : Kind) (IsStored : Parts → Type 0) (m : ℕ) (st
 abbrev pub evidence_values : Kind → List StepParts → List KeepParts → EvidenceValues
 evidence_values K steps keeps = record { steps = map (step_values K) steps; keeps = map (keep_values K) keeps }
 
--- Where the written check finds nothing, the evidence meets its conditions.
+-- If the written check finds nothing, the evidence meets its conditions.
 abbrev pub ChecksAreSound : (K : Kind) → (Parts → Type 0) → Type 0
 ChecksAreSound K IsStored =
     (L : Loaded) (E : EntangledGraph) (steps : List StepParts) (keeps : List KeepParts) → IsValidEntangled E → IsLoaded IsStored L E
     → AreStoredSteps K IsStored E.hypotheses steps keeps
     → written_check K L steps keeps ≡ Ok tt → MeetsConditions E L.p L.alpha (evidence_values K steps keeps)
 
--- Where it finds a broken condition, it doesn't.
+-- If it finds a broken condition, it doesn't.
 abbrev pub ChecksAreFair : (K : Kind) → (Parts → Type 0) → Type 0
 ChecksAreFair K IsStored =
     (L : Loaded) (E : EntangledGraph) (steps : List StepParts) (keeps : List KeepParts) (n : ℕ) (reason : Reason) → IsValidEntangled E

@@ -1,4 +1,4 @@
--- Steps of a check, one after the other: the first broken condition or undefined operation is the answer of all.
+-- Steps of a check, one after another: the first broken condition or undefined operation is the answer of all.
 use Rattle.std.specs.Prelude.{ℕ, zero, suc, Bool, Result, Ok, Err, if◌then◌else◌}
 use Rattle.field_core.specs.Steps.{◌>>=◌}
 use Rattle.field_core.specs.declared.place.TooWide.{TooWide}
@@ -8,7 +8,7 @@ use Rattle.evidence_check.specs.declared.event.CheckEvent.{CheckEvent}
 use Rattle.evidence_check.specs.declared.event.CheckEvent.TheVariants.{Broken, Undefined}
 use Rattle.evidence_check.specs.declared.event.CheckEventAt.{CheckEventAt}
 
--- a condition by its test, and the reason where it is broken
+-- a condition by its test, and the reason if it is broken
 unfoldable pub require : Bool → Reason → Result (Unit {0}) CheckEvent
 require test reason = if test then Ok tt else Err (Broken reason)
 

@@ -23,23 +23,24 @@ use Rattle.evidence_check.specs.NumberReading.{case_frame}
 abbrev pub start : Place × List Form
 start = (At [] AtVersion, [])
 
--- what a text says, or its first fault
+-- what a text denotes, or its first fault
 abbrev pub evidence_reading : Frame → List ℕ → Result (List Form) (FaultAt ProofKind)
 evidence_reading T bytes = reading (evidence_language T) start (rows_of bytes) (end_of bytes)
 
 -- ---- what a text says of a case
 
--- the lines of a text say this evidence, one after the other
+-- the lines of a text denote this evidence, one after another
 abbrev pub SaysEvidence : Content → List ℕ → Evidence → Type 0
 SaysEvidence c bytes v =
     IsDocument (evidence_language (case_frame (numbers_of c) c)) start (words_in (rows_of bytes))
     (evidence_forms (version_of v) (steps_of v) (keeps_of v))
 
--- the first fault of a text: a line that says nothing where it stands, after lines that say something, and what is wrong with it; or lines that end too early
+-- the first fault of a text, and what is wrong there: a line that denotes nothing at its place, after lines that denote something. Or lines that end
+-- too early
 abbrev pub HasFault : Content → List ℕ → FaultAt ProofKind → Type 0
 HasFault c bytes fault = HasFirstFault (evidence_language (case_frame (numbers_of c) c)) start (rows_of bytes) (end_of bytes) fault
 
--- why a text says no evidence: its first fault, or memory is wanting
+-- why a text denotes no evidence: its first fault, or out of memory
 abbrev pub IsProofFault : Content → List ℕ → ProofText → Type 0
 IsProofFault c bytes (Line n kind) = HasFault c bytes (record { line = n; kind = kind })
 IsProofFault c bytes NoMemory = Unit {0}
@@ -50,7 +51,7 @@ IsProofFault c bytes NoMemory = Unit {0}
 abbrev pub CasesHaveFrames : Type 0
 CasesHaveFrames = (n : Numbers) (c : Content) → IsFrameFor n c (case_frame n c)
 
--- What is read of a text is what its lines say, one after the other.
+-- What is read of a text is what its lines denote, one after another.
 abbrev pub ReadingsAreDocuments : Type 0
 ReadingsAreDocuments =
     (T : Frame) (bytes : List ℕ) (fs : List Form) → (evidence_reading T bytes ≡ Ok fs)
@@ -62,19 +63,19 @@ FaultsAreBadLines =
     (T : Frame) (bytes : List ℕ) (fault : FaultAt ProofKind) → (evidence_reading T bytes ≡ Err fault)
     ↔ HasFirstFault (evidence_language T) start (rows_of bytes) (end_of bytes) fault
 
--- Lines say one evidence.
+-- Lines denote one evidence.
 abbrev pub LinesSayOneEvidence : Type 0
 LinesSayOneEvidence =
     (c : Content) (v w : ℕ) (ss ts : List StepParts) (xs ys : List KeepParts) → FitsCase c v ss xs → FitsCase c w ts ys
     → evidence_forms v ss xs ≡ evidence_forms w ts ys → (v ≡ w) × (ss ≡ ts) × (xs ≡ ys)
 
--- A text says one evidence of a case.
+-- A text denotes one evidence of a case.
 abbrev pub TextsSayOneEvidence : Type 0
 TextsSayOneEvidence =
     (c : Content) (bytes : List ℕ) (v w : Evidence) → IsEvidenceFor c v → IsEvidenceFor c w → SaysEvidence c bytes v → SaysEvidence c bytes w
     → (version_of v ≡ version_of w) × (steps_of v ≡ steps_of w) × (keeps_of v ≡ keeps_of w)
 
--- A text that says evidence has no fault.
+-- A text that denotes evidence has no fault.
 abbrev pub TextsDontSayAndFail : Type 0
 TextsDontSayAndFail = (c : Content) (bytes : List ℕ) (v : Evidence) (fault : FaultAt ProofKind) → SaysEvidence c bytes v → ¬ HasFault c bytes fault
 
@@ -82,7 +83,7 @@ TextsDontSayAndFail = (c : Content) (bytes : List ℕ) (v : Evidence) (fault : F
 abbrev pub TextsHaveOneFault : Type 0
 TextsHaveOneFault = (c : Content) (bytes : List ℕ) (fault other : FaultAt ProofKind) → HasFault c bytes fault → HasFault c bytes other → fault ≡ other
 
--- A text has a reading: it says some evidence of the case, or it has a first fault.
+-- A text has a reading: it denotes some evidence of the case, or it has a first fault.
 abbrev pub TextsSayOrFail : Type 0
 TextsSayOrFail =
     (c : Content) (bytes : List ℕ)
@@ -100,7 +101,7 @@ pub record ArePrinted (T : Frame) (steps : List StepParts) (keeps : List KeepPar
   pub flows : All (λ s. All (All (IsPrinted T)) s.flows) steps
   pub exits : All (λ x. All (All (IsPrinted T)) x.exits) keeps
 
--- The lines of evidence that fits a case say it.
+-- The lines of evidence that fits a case denote it.
 abbrev pub LinesSayTheirEvidence : Type 0
 LinesSayTheirEvidence =
     (n : Numbers) (c : Content) (T : Frame) (v : ℕ) (ss : List StepParts) (xs : List KeepParts) → IsFrameFor n c T → FitsCase c v ss xs
@@ -132,7 +133,7 @@ NoneGoesOnIsFault =
 abbrev pub evidence_text : Content → Evidence → List ℕ
 evidence_text c v = text_of (evidence_lines (case_frame (numbers_of c) c) (version_of v) (steps_of v) (keeps_of v))
 
--- It says the evidence, where its names and numbers are words.
+-- It denotes the evidence, if its names and numbers are words.
 abbrev pub EvidenceTextsSayIt : Type 0
 EvidenceTextsSayIt =
     (c : Content) (v : Evidence) → IsEvidenceFor c v → ArePrinted (case_frame (numbers_of c) c) (steps_of v) (keeps_of v)

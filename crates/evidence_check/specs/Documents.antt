@@ -1,4 +1,4 @@
--- Documents of evidence: what each line says, and which line may be where.
+-- Documents of evidence: what each line denotes, and which line may be where.
 use Rattle.std.specs.Prelude.{ℕ, zero, suc, ◌+◌, ◌==◌, ◌&&◌, Bool, true, false, if◌then◌else◌, List, [], ◌∷◌, ◌++◌, map}
 use Rattle.std.specs.Prelude.{Option, Some, None, Result, Ok, Err, codes}
 use Rattle.std.specs.Fmt.{decimal}
@@ -17,8 +17,8 @@ use Rattle.evidence_check.specs.EvidenceParts.{StepParts, KeepParts}
 abbrev pub Words : Type 0
 Words = List (List ℕ)
 
--- What of a case the lines speak of: the names of its hypotheses and their positions, the number of its components, the hypotheses other than those
--- listed, and its numbers and their texts.
+-- What the lines refer to in a case: the names of its hypotheses and their positions, the number of its components, and the hypotheses other than
+-- those listed. Also its numbers and their texts.
 pub record Frame : Type 0 where
   pub name : ℕ → List ℕ
   pub position : List ℕ → Option ℕ
@@ -29,7 +29,7 @@ pub record Frame : Type 0 where
 
 -- ---- what lines say
 
--- what a line says
+-- what a line denotes
 pub data Form : Type 0 where
   SaysVersion : (version : ℕ) → Form
   SaysStep : (hypothesis : ℕ) → Form
@@ -58,7 +58,7 @@ abbrev pub keep_forms : List ℕ → List KeepParts → List Form
 keep_forms js [] = []
 keep_forms js (x ∷ xs) = SaysKeep x.hypothesis ∷ list_forms Exit 0 js x.exits ++ keep_forms js xs
 
--- what the lines of evidence say, in order: the version, the steps, the keeps, and the end
+-- what the lines of evidence denote, in order: the version, the steps, the keeps, and the end
 abbrev pub evidence_forms : ℕ → List StepParts → List KeepParts → List Form
 evidence_forms version steps keeps = SaysVersion version ∷ step_forms [] steps ++ keep_forms (map (λ s. s.hypothesis) steps) keeps ++ SaysEnd ∷ []
 
@@ -88,7 +88,7 @@ abbrev pub found_or : {A B : Type 0} → Option A → ProofKind → (A → Resul
 found_or (Some x) kind f = f x
 found_or None kind f = Err kind
 
--- the form where a test holds, or else this is wrong
+-- the form if a test holds, or else this is wrong
 abbrev pub says_when : Bool → ProofKind → Form → Result Form ProofKind
 says_when b kind form = if b then Ok form else Err kind
 
@@ -99,7 +99,7 @@ version_line ws =
     found_or (only_word rest) WordCount (λ v.
     if bytes_eq v (codes "1") then Ok (SaysVersion 1) else says_when (bytes_eq v (codes "2")) Version (SaysVersion 2)))
 
--- what stands after the first word of a step
+-- what follows the first word of a step
 unfoldable pub step_said : Frame → Words → Result Form ProofKind
 step_said F rest =
     found_or (only_word rest) WordCount (λ name.
@@ -110,7 +110,7 @@ abbrev pub step_or : Frame → Option Words → Result Form ProofKind → Result
 step_or F (Some rest) other = step_said F rest
 step_or F None other = other
 
--- what is wrong where the component or the name of a number isn't the one that must stand there
+-- what is wrong if the component or the name of a number isn't the one that must be there
 abbrev pub place_fault : Quantity → ProofKind
 place_fault Flow = FlowPlace
 place_fault Exit = ExitPlace
@@ -142,7 +142,7 @@ end_line ws = found_or (words_behind (codes "end") ws) Unexpected (λ rest. says
 
 -- ---- which line may be where
 
--- a line that must stand at its place, but for its number
+-- a line that is due at its place, but for its number
 pub data Slot : Type 0 where
   ANumber : (quantity : Quantity) (component hypothesis : ℕ) → Slot
   AKeep : (hypothesis : ℕ) → Slot
@@ -167,21 +167,21 @@ keeps_due F js (k ∷ ks) = AKeep k ∷ due Exit F.components 0 js ++ keeps_due 
 abbrev pub kept_in : Frame → ℕ → List ℕ → List ℕ
 kept_in F v js = if v == 2 then F.others js else []
 
--- what stands after the last step
+-- what follows the last step
 abbrev pub tail : Frame → ℕ → List ℕ → List Slot
 tail F v js = keeps_due F js (kept_in F v js)
 
--- what may follow lines that must stand: the version; in this version, after these steps, one more step or what stands after the last; or nothing
+-- what may follow lines that are due: the version; in this version, after these steps, one more step or what follows the last; or nothing
 pub data Stage : Type 0 where
   AtVersion : Stage
   AtSteps : (version : ℕ) (steps : List ℕ) → Stage
   AtEnd : Stage
 
--- a place in a document: lines that must stand there, and then a stage
+-- a place in a document: lines that must be there, and then a stage
 pub data Place : Type 0 where
   At : (must : List Slot) (stage : Stage) → Place
 
--- the first of the lines that must stand
+-- the first of the lines that are due
 abbrev pub first_line : Frame → List Slot → Words → Result Form ProofKind
 first_line F [] ws = Err Unexpected
 first_line F (s ∷ ss) ws = slot_line F s ws
@@ -190,14 +190,14 @@ abbrev pub behind_first : List Slot → List Slot
 behind_first [] = []
 behind_first (s ∷ ss) = ss
 
--- what a line says at a place
+-- what a line denotes at a place
 unfoldable pub read_at : Frame → Place → Words → Result Form ProofKind
 read_at F (At (s ∷ ss) stage) ws = slot_line F s ws
 read_at F (At [] AtVersion) ws = version_line ws
 read_at F (At [] (AtSteps v js)) ws = step_or F (words_behind (codes "step") ws) (first_line F (tail F v js) ws)
 read_at F (At [] AtEnd) ws = Err Unexpected
 
--- after a line that stands after the steps: a step, or the first line of what stands after the last
+-- after a line that follows the steps: a step, or the first line of what follows the last
 abbrev pub next_step : Frame → ℕ → List ℕ → Form → Place
 next_step F v js (SaysStep j) = At (due Flow F.components 0 js) (AtSteps v (js ++ j ∷ []))
 next_step F v js form = At (behind_first (tail F v js)) AtEnd

@@ -17,18 +17,18 @@ use Rattle.evidence_check.specs.Evidence.{others}
 use Rattle.evidence_check.specs.Documents.{Frame}
 use Rattle.evidence_check.specs.NumberTexts.{number_text}
 
--- what stands before the first such byte and after it, where there is one
+-- what is before the first such byte and after it, if there is one
 abbrev pub cut : ℕ → List ℕ → Option (List ℕ × List ℕ)
 cut byte [] = None
 cut byte (b ∷ bs) = if b == byte then Some ([], bs) else and_then (cut byte bs) (λ x. Some (b ∷ x.0, x.1))
 
--- what stands before a bracket that closes the text
+-- what is before a bracket that closes the text
 abbrev pub closed : List ℕ → Option (List ℕ)
 closed [] = None
 closed (b ∷ []) = if b == 93 then Some [] else None
 closed (b ∷ c ∷ bs) = and_then (closed (c ∷ bs)) (λ inner. Some (b ∷ inner))
 
--- what stands inside the brackets
+-- what is inside the brackets
 abbrev pub inside : List ℕ → Option (List ℕ)
 inside [] = None
 inside (b ∷ bs) = if b == 91 then closed bs else None
@@ -70,7 +70,7 @@ quotient_in text = and_then (polynomials_in text) (λ x. if is_zero_integer (low
 abbrev pub has_wide_part : Terms → Bool
 has_wide_part x = nat_le (2 ^ 127) (unsigned_abs x.num) || nat_le (2 ^ 127) (unsigned_abs x.den)
 
--- the fraction of two whole numbers in lowest terms, where there is one within its size
+-- the fraction of two whole numbers in lowest terms, if there is one within its size
 unfoldable pub fraction_by : ℤ → ℤ → Option Parts
 fraction_by n d = if is_zero_integer d || has_wide_part (lowest_terms n d) then None else Some (single (lowest_terms n d))
 

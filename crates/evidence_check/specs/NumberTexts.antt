@@ -36,7 +36,7 @@ abbrev pub IsNumberText : Numbers → List ℕ → Parts → Type 0
 IsNumberText in_fractions text x = IsPlainTextOf text x
 IsNumberText in_quotients text x = IsTextOf text x
 
--- what is found is the number of a text, and nothing is found where it has none
+-- what is found is the number of a text, and nothing is found if it has none
 abbrev pub IsNumberOf : Numbers → List ℕ → Option Parts → Type 0
 IsNumberOf n text None = (x : Parts) → ¬ IsNumberText n text x
 IsNumberOf n text (Some x) = IsNumberText n text x

@@ -42,7 +42,7 @@ module _ (K : Kind) where
     product ← written_at c place (or_wide Mul (K.written Mul x y))
     written_at c place (or_wide Add (K.written Add sum product))
 
-  -- `start`, and then the products of the first `n` of `f` and `g` added to it one after the other, each in its component
+  -- `start`, and then the products of the first `n` of `f` and `g` added to it one after another, each in its component
   unfoldable pub added : (ℕ → ℕ) → Place → Parts → (ℕ → Parts) → (ℕ → Parts) → ℕ → Result Parts CheckEvent
   added component place start f g zero = Ok start
   added component place start f g (suc n) = do

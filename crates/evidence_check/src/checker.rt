@@ -49,7 +49,7 @@ pub fn verdict(checked: Result<(), CheckEventAt>) -> Result<Verdict, CheckWide>
     }
 }
 
-/// Tests the conditions on all steps, in their order. Where they are met, the steps are of distinct hypotheses.
+/// Tests the conditions on all steps, in their order. If they are met, the steps are of distinct hypotheses.
 pub fn steps<F: CaseNumber>(case: &Case, steps: &[ProofStep<F>]) -> Result<(), CheckEventAt>
     requires single { IsSingle (content case.now).inputs }
     requires below { All (λ s. s.hypothesis < length (content case.now).names) (map (step_parts F.parts) steps.now) }
@@ -115,12 +115,12 @@ fn checked_for(case: &Case, proof: &Evidence) -> Result<(), CheckEventAt>
     }
 }
 
-/// Whether evidence meets its conditions for a case that has a p-value for each hypothesis.
+/// Checks evidence by its conditions, for a case that has a p-value for each hypothesis.
 ///
-/// The conditions are tried in their order: those on each step, and then those on each keep. It is `Verdict::No` exactly
-/// where a broken condition comes first, `CheckWide` exactly where a written operation does that is undefined, and
-/// `Verdict::Yes` exactly where neither comes. A yes implies that the closed test rejects each hypothesis of a step, and
-/// in version 2 that it rejects no other. The call takes no memory and removes nothing.
+/// The conditions are tried in their order: those on each step, and then those on each keep. It is `Verdict::No` exactly if a
+/// broken condition comes first, `CheckWide` exactly if a written operation does that is undefined, and `Verdict::Yes` exactly
+/// if neither comes. A yes implies that the closed test rejects each hypothesis of a step, and in version 2 that it rejects no
+/// other. The call takes no memory and removes nothing.
 pub fn check(case: &Case, proof: &Evidence) -> Result<Verdict, CheckWide>
     requires single { IsSingle (content case.now).inputs }
     requires fits { IsEvidenceFor (content case.now) proof.now }

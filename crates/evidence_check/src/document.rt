@@ -88,7 +88,7 @@ pub fn lists<F: EvidenceNumber>(
     Ok(lists)
 }
 
-/// Returns a step after others, whose first line this is; `words` stand there after `step`.
+/// Returns a step after others, whose first line this is; `words` are there after `step`.
 pub fn step<F: EvidenceNumber>(
     alloc: Global,
     lines: &mut Lines,
@@ -116,7 +116,7 @@ pub fn step<F: EvidenceNumber>(
     }
 }
 
-/// All steps, and the line after them.
+/// Returns all steps, and the line after them.
 pub fn steps<'a, F: EvidenceNumber>(
     alloc: Global,
     lines: &mut Lines<'a>,
@@ -220,7 +220,7 @@ pub fn kept<'a, F: EvidenceNumber>(
     }
 }
 
-/// No line is after those taken so far.
+/// Refuses a line after those taken so far.
 fn nothing_behind(lines: &mut Lines) -> Result<(), ProofText>
     ensures none { IfOk result (λ _. rows_left lines.old ≡ []) }
     ensures more { IfErr result (λ fault. (next : Row) × (more : Seq Row) × (rows_left lines.old ≡ next ∷ more)

@@ -25,7 +25,7 @@ pub struct Steps<F> {
     pub keeps: List<KeepProof<F>>,
 }
 
-/// Evidence in the numbers of its case: fractions where the case is plain, and else quotients in epsilon.
+/// Evidence in the numbers of its case: fractions if the case is plain, and else quotients in epsilon.
 #[derive(Drop)]
 pub enum Evidence {
     Plain(Steps<Fraction>),

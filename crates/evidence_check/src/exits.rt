@@ -26,7 +26,7 @@ use case_numbers::CaseNumber;
 use field_core::{List, Number, Place};
 use fraction::Fraction;
 
-/// In a component, the conditions on the exit to `k` from the hypothesis of a step.
+/// Tests, in a component, the conditions on the exit to `k` from the hypothesis of a step.
 fn exit<F: CaseNumber>(
     case: &Case,
     steps: &[ProofStep<F>],
@@ -51,7 +51,7 @@ fn exit<F: CaseNumber>(
     require(order.is_le(), Reason::ShortExit(c, r))
 }
 
-/// In a component, the conditions on the exits to `k` from the hypotheses of all steps.
+/// Tests, in a component, the conditions on the exits to `k` from the hypotheses of all steps.
 pub fn exits<F: CaseNumber>(
     case: &Case,
     steps: &[ProofStep<F>],
@@ -71,7 +71,7 @@ pub fn exits<F: CaseNumber>(
     all_below(steps.len(), |r| exit(case, steps, c, exits, k, r))
 }
 
-/// In a component, the limit of the weight that exits allow to `k`, which is at most 1. The exits aren't below 0.
+/// Returns, in a component, the limit of the weight that exits allow to `k`, which is at most 1. The exits aren't below 0.
 pub fn limit<F: CaseNumber>(
     case: &Case,
     steps: &[ProofStep<F>],

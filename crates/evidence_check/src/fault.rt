@@ -1,4 +1,4 @@
-//! Why a text says no evidence.
+//! Why a text denotes no evidence.
 use field_core::NoMemory;
 
 /// What is wrong with a line of evidence.
@@ -15,19 +15,19 @@ pub enum ProofKind {
     Version,
     /// The name of a step isn't that of a hypothesis.
     UnknownName,
-    /// The component or the name of a flow isn't the one that must stand here.
+    /// The component or the name of a flow isn't the one that must be here.
     FlowPlace,
-    /// The component or the name of an exit isn't the one that must stand here.
+    /// The component or the name of an exit isn't the one that must be here.
     ExitPlace,
     /// The number isn't one of its form.
     Number,
 }
 
-/// Why a text says no evidence.
+/// Why a text denotes no evidence.
 #[derive(Clone, Copy, PartialEq, Eq, Debug)]
 pub enum ProofText {
-    /// The number of the first line that isn't allowed where it stands, from 1, and what is wrong with it. Where the
-    /// document ends too early it is the number of lines plus 1.
+    /// The number of the first line that isn't allowed at its place, from 1, and what is wrong with it. If the document ends
+    /// too early it is the number of lines plus 1.
     Line(usize, ProofKind),
     /// Out of memory.
     NoMemory,

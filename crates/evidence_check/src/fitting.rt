@@ -103,9 +103,9 @@ fn fits_case<F: Number>(case: &Case, proof: &Steps<F>) -> bool
     }
 }
 
-/// Whether evidence is for a case, as `check` requires of it: it has the form of the case, its hypotheses are those of the
-/// case, each step has in each component a flow through the hypothesis of each earlier step, each keep an exit from that of
-/// each step; and version 1 keeps none, version 2 all hypotheses that no step names, ascending. It takes no memory.
+/// Whether evidence is for a case, as `check` requires. It has the form of the case, and its hypotheses are those of the case.
+/// In each component, each step has a flow through the hypothesis of each earlier step, and each keep an exit from that of each
+/// step. Version 1 keeps none, and version 2 all hypotheses that no step names, ascending. It takes no memory.
 pub fn fits(case: &Case, proof: &Evidence) -> bool
     ensures { IsTrue result ↔ IsEvidenceFor (content case.now) proof.now }
 {

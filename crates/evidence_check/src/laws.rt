@@ -17,8 +17,8 @@ ghost use Rattle.evidence_check.specs.DocumentStatements.{FaultsAreWhereNoneGoes
 
 use field_core::Number;
 
-/// Evidence that meets its conditions lists a legal order, so the closed test rejects each hypothesis that it lists.
-/// Where it keeps all others, the closed test rejects no other.
+/// Evidence that meets its conditions lists a legal order, so the closed test rejects each hypothesis that it lists. If it
+/// keeps all others, the closed test rejects no other.
 pub fn evidence_implies_rejections()
     ensures order { EvidenceListsLegalOrders }
     ensures rejected { EvidenceListsRejections }
@@ -26,14 +26,13 @@ pub fn evidence_implies_rejections()
     ensures decides { EvidenceWithKeepsDecides }
 {}
 
-/// Where the written check finds nothing, the evidence meets its conditions, and where it finds a broken condition, it
-/// doesn't.
+/// If the written check finds nothing, the evidence meets its conditions, and if it finds a broken condition, it doesn't.
 pub fn checks_decide<F: Number>()
     ensures sound { ChecksAreSound F.kind F.IsStored }
     ensures fair { ChecksAreFair F.kind F.IsStored }
 {}
 
-/// Where the check of a case finds nothing, the evidence meets its conditions, and where it finds a broken condition, it
+/// If the check of a case finds nothing, the evidence meets its conditions. If it finds a broken condition, the evidence
 /// doesn't: the condition that the number and the reason name is broken, and all before it are met.
 pub fn case_checks_decide()
     ensures sound { CaseChecksAreSound }
@@ -41,8 +40,8 @@ pub fn case_checks_decide()
     ensures named { CaseChecksNameBroken }
 {}
 
-/// Where the check of a case finds nothing, the closed test rejects each hypothesis that is listed. Where all others are
-/// kept, it rejects no other.
+/// If the check of a case finds nothing, the closed test rejects each hypothesis that is listed. If all others are kept, it
+/// rejects no other.
 pub fn checked_hypotheses_are_rejected()
     ensures listed { CheckedAreRejected }
     ensures all { CheckedAreAllRejected }
@@ -53,19 +52,19 @@ pub fn cases_have_frames()
     ensures { CasesHaveFrames }
 {}
 
-/// What is read of a text is what its lines say, and else its first fault is that of the first line that says nothing where
-/// it stands.
+/// What is read of a text is what its lines denote, and else its first fault is that of the first line that denotes nothing at
+/// its place.
 pub fn readings_are_documents()
     ensures says { ReadingsAreDocuments }
     ensures fault { FaultsAreBadLines }
 {}
 
-/// The lines of evidence that fits a case say no other evidence that fits it.
+/// The lines of evidence that fits a case denote no other evidence that fits it.
 pub fn lines_say_one_evidence()
     ensures { LinesSayOneEvidence }
 {}
 
-/// A text says some evidence of a case or has a first fault, at most one of each, and never both.
+/// A text denotes some evidence of a case or has a first fault, at most one of each, and never both.
 pub fn texts_have_one_reading()
     ensures evidence { TextsSayOneEvidence }
     ensures either { TextsDontSayAndFail }
@@ -73,8 +72,8 @@ pub fn texts_have_one_reading()
     ensures each { TextsSayOrFail }
 {}
 
-/// The lines of evidence that fits a case say it, where each number is read from its text, and stored numbers are. So does
-/// its text, where names and numbers are words.
+/// The lines of evidence that fits a case denote it, if each number is read from its text, and stored numbers are. So does its
+/// text, if names and numbers are words.
 pub fn lines_say_their_evidence()
     ensures lines { LinesSayTheirEvidence }
     ensures numbers { StoredNumbersArePrinted }

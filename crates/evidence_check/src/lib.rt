@@ -1,14 +1,14 @@
 //! Evidence for the rejections of a case, and its checker, which removes no hypothesis.
 //!
 //! Proved:
-//! - `check`: `answer` (the verdict is that of the written check: yes, or the first broken condition, or the first
-//!   undefined sum), `yes` and `no` (yes only where all conditions hold, no only where they don't), `rejected` (a yes
-//!   implies that the closed test rejects each hypothesis that is listed) and `all` (where each other hypothesis is
-//!   kept, a yes implies that it rejects no other). It removes no hypothesis and takes no memory.
-//! - `read`: `found` and `fits` (the document says this evidence, which fits the case), `fault` (the first line that
-//!   isn't allowed, with its kind).
-//! - Laws in `src/laws.rt`: evidence that meets its conditions lists a legal order, and with all keeps a complete
-//!   one, whoever made it (`evidence_implies_rejections`); the written check is sound and fair.
+//! - `check`: `answer` (the verdict is that of the written check: yes, or the first broken condition, or the first undefined
+//!   sum). `yes` and `no` (yes only if all conditions hold, no only if they don't). `rejected` (a yes implies that the closed
+//!   test rejects each listed hypothesis). `all` (if each other hypothesis is kept, a yes implies that it rejects no other). It
+//!   removes no hypothesis and takes no memory.
+//! - `read`: `found` and `fits` (the document denotes this evidence, which fits the case), `fault` (the first line that isn't
+//!   allowed, with its kind).
+//! - Laws in `src/laws.rt`: evidence that meets its conditions lists a legal order, and with all keeps a complete one, whoever
+//!   made it (`evidence_implies_rejections`). The written check is sound and fair.
 #![tactic(auto)]
 
 mod case_sums;

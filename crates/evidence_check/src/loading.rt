@@ -76,7 +76,7 @@ pub fn weight<F: CaseNumber>(case: &Case, c: usize, k: usize) -> F
     F::weight(&case.weight(c, k))
 }
 
-/// Returns the edge from a hypothesis to a hypothesis in a component; 0 where it can't be loaded.
+/// Returns the edge from a hypothesis to a hypothesis in a component; 0 if it can't be loaded.
 #[tactic(auto, unfolding(crate::specs::CaseCheck::loaded_case, crate::specs::CaseCheck::written_edge))]
 pub fn edge<F: CaseNumber>(case: &Case, c: usize, l: usize, k: usize) -> F
     requires c { c < length (content case.now).components }
@@ -104,7 +104,7 @@ pub fn p_value(case: &Case, k: usize) -> Fraction
     }
 }
 
-/// Whether an edge can be loaded.
+/// Refuses an edge that cannot be loaded.
 #[tactic(auto, unfolding(crate::specs::CaseCheck::edge_load, crate::specs::CaseCheck::written_edge))]
 fn load_edge<F: CaseNumber>(case: &Case, c: usize, l: usize, k: usize) -> Result<(), CheckEvent>
     requires c { c < length (content case.now).components }
@@ -116,7 +116,7 @@ fn load_edge<F: CaseNumber>(case: &Case, c: usize, l: usize, k: usize) -> Result
     Ok(())
 }
 
-/// Whether the edges from `l` in a component can be loaded.
+/// Refuses the first edge from `l` in a component that cannot be loaded.
 #[tactic(auto, unfolding(crate::specs::CaseCheck::row_load))]
 fn load_row<F: CaseNumber>(case: &Case, c: usize, l: usize) -> Result<(), CheckEvent>
     requires c { c < length (content case.now).components }
@@ -126,7 +126,7 @@ fn load_row<F: CaseNumber>(case: &Case, c: usize, l: usize) -> Result<(), CheckE
     all_below(case.size(), |k| load_edge::<F>(case, c, l, k))
 }
 
-/// Whether the edges of a component can be loaded.
+/// Refuses the first edge of a component that cannot be loaded.
 #[tactic(auto, unfolding(crate::specs::CaseCheck::component_load))]
 fn load_component<F: CaseNumber>(case: &Case, c: usize) -> Result<(), CheckEvent>
     requires c { c < length (content case.now).components }
@@ -135,7 +135,7 @@ fn load_component<F: CaseNumber>(case: &Case, c: usize) -> Result<(), CheckEvent
     all_below(case.size(), |l| load_row::<F>(case, c, l))
 }
 
-/// Whether all edges can be loaded.
+/// Refuses the first edge that cannot be loaded.
 #[tactic(auto, unfolding(crate::specs::CaseCheck::all_loads))]
 pub fn load<F: CaseNumber>(case: &Case) -> Result<(), CheckEvent>
     ensures { result ≡ all_loads F.numbers (content case.now) }

@@ -21,7 +21,7 @@ pub fn keyword(quantity: Quantity) -> &'static [u8]
     }
 }
 
-/// Returns what is wrong where the component or the name isn't the one that must stand there.
+/// Returns what is wrong if the component or the name isn't the one that must be there.
 pub fn place_fault(quantity: Quantity) -> ProofKind
     ensures { result ≡ place_fault quantity }
 {

@@ -17,7 +17,7 @@ use case_model::Case;
 use std::alloc::Global;
 use text_lines::Lines;
 
-/// Returns the evidence that a text says, in these numbers.
+/// Returns the evidence that a text denotes, in these numbers.
 fn read_in<F: EvidenceNumber>(
     alloc: Global,
     case: &Case,
@@ -45,15 +45,15 @@ fn read_in<F: EvidenceNumber>(
     })
 }
 
-/// Returns the evidence that a text says for a case, or the first line that isn't allowed in it, or `NoMemory`.
+/// Returns the evidence that a text denotes for a case, or the first line that isn't allowed in it, or `NoMemory`.
 ///
 /// The first line is `evidence 1` or `evidence 2`. For each step `step NAME` follows, and after it, for each component
-/// ascending and each earlier step in order, `flow C NAME Y`. In version 2, for each hypothesis that no step names,
-/// ascending, `keep NAME` follows, and after it, for each component ascending and each step in order, `exit C NAME Y`.
-/// Last comes `end`. In a flow or exit `C` is the component from 1, `NAME` is the hypothesis of that step, and `Y` is the
-/// text of a quotient that `EpsQuotient::read` reads, without brackets where the case is plain. Words and lines are those
-/// of `text_lines`. Within a line the first word is tested first, then the number of words, then what follows from left to
-/// right. The evidence is in fractions exactly where the case is plain, and fits the case.
+/// ascending and each earlier step in order, `flow C NAME Y`. In version 2, for each hypothesis that no step names, ascending,
+/// `keep NAME` follows, and after it, for each component ascending and each step in order, `exit C NAME Y`. Last comes `end`.
+/// In a flow or exit `C` is the component from 1, and `NAME` is the hypothesis of that step. `Y` is the text of a quotient that
+/// `EpsQuotient::read` reads, without brackets if the case is plain. Words and lines are those of `text_lines`. Within a line
+/// the first word is tested first, then the number of words, then what follows from left to right. The evidence is in fractions
+/// exactly if the case is plain, and fits the case.
 pub fn read(alloc: Global, case: &Case, bytes: &[u8]) -> Result<Evidence, ProofText>
     ensures found { IfOk result (SaysEvidence (content case.now) bytes.now) }
     ensures fits { IfOk result (IsEvidenceFor (content case.now)) }

@@ -33,8 +33,8 @@ pub fn is_listed<F>(steps: &[ProofStep<F>], j: usize) -> bool
     steps.iter().any(|step| step.hypothesis == j)
 }
 
-/// In a component, the limit of what flows bring to `k`, which no earlier step names. The flows meet their conditions, so
-/// what they bring is from 0 to 1.
+/// Returns, in a component, the limit of what flows bring to `k`, which no earlier step names. The flows meet their conditions,
+/// so what they bring is from 0 to 1.
 fn limit<F: CaseNumber>(
     case: &Case,
     earlier: &[ProofStep<F>],

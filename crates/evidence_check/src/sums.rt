@@ -1,4 +1,4 @@
-//! Tests and written sums, one after the other.
+//! Tests and written sums, one after another.
 ghost use Rattle.std.specs.Prelude.{◌≡◌, ◌<◌, ℕ, Result as Answer};
 ghost use Rattle.field_core.specs.Kind.{Parts, ok_map, sign_of};
 ghost use Rattle.field_core.specs.Field.{not_less};
@@ -76,7 +76,7 @@ pub fn with_product<F: Number>(
     placed(component, place, sum.add(&product))
 }
 
-/// Returns a start, and the products of what `x` and `y` give at 0, 1, .. below `count` added to it one after the other.
+/// Returns a start, and the products of what `x` and `y` give at 0, 1, .. below `count` added to it one after another.
 #[tactic(auto, using(crate::proofs::AddedSteps::added_none, crate::proofs::AddedSteps::added_next, crate::proofs::AddedSteps::added_refused))]
 pub fn added<F: Number, X: Fn(usize) -> F, Y: Fn(usize) -> F>(
     component: usize,

@@ -1,4 +1,4 @@
--- Answers of readers, one after the other, up to the first fault.
+-- Answers of readers, one after another, up to the first fault.
 use Rattle.std.specs.Prelude.{◌≡◌, ◌⊎◌, Result, Ok, Err}
 
 -- ---- results

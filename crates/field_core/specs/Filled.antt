@@ -1,4 +1,4 @@
--- Places that are filled one after the other, up to the first refusal.
+-- Places that are filled one after another, up to the first refusal.
 use Rattle.std.specs.Prelude.{ℕ, ◌<◌, List, length, get_or, Result, Ok, Err}
 
 -- the first `n` places hold what `step` may give for them

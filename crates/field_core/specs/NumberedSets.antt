@@ -2,7 +2,7 @@
 use Rattle.std.specs.Prelude.{ℕ, zero, suc, ◌+◌, ◌^◌, ◌==◌, Bool, if◌then◌else◌}
 use Rattle.std.specs.Int.{bit_at}
 
--- the set that a number stands for
+-- the set that a number denotes
 unfoldable pub members : ℕ → ℕ → Bool
 members n k = bit_at n k == 1
 

@@ -5,11 +5,11 @@ use Rattle.field_core.specs.Runs.{IsOrder, left_after}
 use Rattle.field_core.specs.NumberedSets.{members, set_number}
 use Rattle.field_core.specs.OrderOfSets.{left_out, ComesBefore, IsAscending, IsNextList, IsLastList}
 
--- Each set of `m` hypotheses has a number below 2^m, which stands for it.
+-- Each set of `m` hypotheses has a number below 2^m, which denotes it.
 abbrev pub SetsHaveNumbers : Type 0
 SetsHaveNumbers = (m : ℕ) (I : ℕ → Bool) → (set_number m I < 2 ^ m) × HaveSameMembers m (members (set_number m I)) I
 
--- Each number below 2^m is that of the set for which it stands.
+-- Each number below 2^m is that of the set that it denotes.
 abbrev pub NumbersAreOfSets : Type 0
 NumbersAreOfSets = (m n : ℕ) → n < 2 ^ m → set_number m (members n) ≡ n
 
@@ -31,7 +31,7 @@ SubsetsAreSmaller =
     (m : ℕ) (J I : ℕ → Bool) → IsSubset m J I
     → (size_of m J ≤ size_of m I) × (HaveSameMembers m J I ⊎ ((k : ℕ) × IsIn m I k × (J k ≡ false)))
 
--- What a set leaves out, removed one after the other, leaves the set.
+-- What a set leaves out, removed one after another, leaves the set.
 abbrev pub LeftOutLeavesTheSet : Type 0
 LeftOutLeavesTheSet = (m : ℕ) (I : ℕ → Bool) → IsAscending m 0 (left_out m I) × IsOrder m whole (left_out m I)
     × HaveSameMembers m (left_after whole (left_out m I)) I

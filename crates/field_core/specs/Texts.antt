@@ -3,7 +3,7 @@ use Rattle.std.specs.Prelude.{◌≡◌, ℕ, ℤ, pos, List, ◌∷◌, ◌++�
 use Rattle.std.specs.Fmt.{signed_decimal}
 use Rattle.std.specs.Ordering.{int_eq}
 
--- `n`, or `n/d` where the denominator isn't 1
+-- `n`, or `n/d` if the denominator isn't 1
 abbrev pub fraction_text : ℤ → ℤ → List ℕ
 fraction_text n d = if int_eq d (pos 1) then signed_decimal n else signed_decimal n ++ 47 ∷ signed_decimal d
 

@@ -1,4 +1,4 @@
-//! Places that are filled one after the other.
+//! Places that are filled one after another.
 ghost use Rattle.std.specs.Prelude.{ℕ, ◌<◌, length};
 ghost use Rattle.field_core.specs.Filled.{AreFilled};
 

@@ -8,8 +8,7 @@ impl List<u8> {
     ghost use Rattle.std.specs.Fmt.{decimal, signed_decimal};
     ghost use Rattle.field_core.specs.Texts.{fraction_text, IsBegun};
 
-    /// Appends a number in decimal digits, after a minus where it is below 0. When out of memory, the list stays as it
-    /// was.
+    /// Appends a number in decimal digits, after a minus if it is below 0. When out of memory, the list stays as it was.
     pub fn append_number(&mut self, number: i128) -> Result<(), NoMemory>
         ensures appended { OnOk result (self.new ≡ self.old ++ signed_decimal number) }
         ensures unchanged { OnErr result (self.new ≡ self.old) }
@@ -27,7 +26,7 @@ impl List<u8> {
         self.append(buffer.format(number).as_bytes())
     }
 
-    /// Appends `num`, or `num/den` where `den` isn't 1. When out of memory, the list stays as it was.
+    /// Appends `num`, or `num/den` if `den` isn't 1. When out of memory, the list stays as it was.
     pub fn append_fraction(&mut self, num: i128, den: i128) -> Result<(), NoMemory>
         ensures appended { OnOk result (self.new ≡ self.old ++ fraction_text num den) }
         ensures unchanged { OnErr result (self.new ≡ self.old) }

@@ -3,7 +3,7 @@ use Rattle.std.specs.Prelude.{◌≡◌, ℕ, ◌≤◌, ◌⊎◌, List}
 use Rattle.field_core.specs.Terms.{Terms}
 use Rattle.field_core.specs.Texts.{fraction_text}
 
--- `n`, or `n/d` where the denominator isn't 1, with a minus in front where n is below 0
+-- `n`, or `n/d` if the denominator isn't 1, with a minus in front if n is below 0
 unfoldable pub spelling : Terms → List ℕ
 spelling x = fraction_text x.num x.den
 

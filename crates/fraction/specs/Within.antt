@@ -22,7 +22,7 @@ limit_of Sub a b = a * b + a * b
 limit_of Mul a b = a * b
 limit_of Div a b = a * b
 
--- An operation on fractions within limits isn't refused where what it can reach is below 2^127, and its result is within that.
+-- An operation on fractions within limits isn't refused if what it can reach is below 2^127, and its result is within that.
 abbrev pub ShortOperationsAreDefined : Type 0
 ShortOperationsAreDefined =
     (op : Op) (x y : Terms) (a b : ℕ) → IsWithin a x → IsWithin b y → limit_of op a b < 2 ^ 127

@@ -57,7 +57,7 @@ impl PartialOrd for Fraction {
     }
 }
 
-/// `n` where the denominator is 1, else `n/d`.
+/// `n` if the denominator is 1, else `n/d`.
 impl fmt::Display for Fraction {
     ghost use Rattle.std.specs.Prelude.{Some};
     ghost use Rattle.field_core.specs.View.{terms};
@@ -117,7 +117,7 @@ impl Number for Fraction {
         Ok(Fraction { ratio })
     }
 
-    /// Never refused.
+    /// Returns how it compares with `other`. It is never refused.
     fn compare(&self, other: &Fraction) -> Result<Ordering, TooWide> {
         Ok(self.ratio.compare(&other.ratio))
     }
@@ -153,8 +153,8 @@ impl Fraction {
     ghost use Rattle.fraction.specs.Spelling.{spelling};
     ghost use Rattle.fraction.specs.Tests.{is_zero, is_one, is_within, absolute};
 
-    /// Returns the fraction num/den, in lowest terms. `ZeroDenominator` where `den` is 0, else `TooWide` where a part
-    /// in lowest terms has 2^127 or more in size.
+    /// Returns the fraction num/den, in lowest terms. `ZeroDenominator` if `den` is 0, else `TooWide` if a part in lowest terms
+    /// has 2^127 or more in size.
     pub fn new(num: i128, den: i128) -> Result<Fraction, FractionFault>
         ensures lowest { IfOk result (λ x. terms_of x ≡ lowest_terms num den) }
         ensures value { IfOk result (λ x. number_of x ≡ fraction num den) }
@@ -174,8 +174,8 @@ impl Fraction {
         Ok(Fraction { ratio })
     }
 
-    /// Returns the value of a text that is a decimal, or nothing where it has too many digits. Of any other text it is
-    /// what `parse` reads: the fraction of a numeral, else nothing.
+    /// Returns the value of a text that is a decimal, or nothing if it has too many digits. Of any other text it is what
+    /// `parse` reads: the fraction of a numeral, else nothing.
     pub fn parse_decimal(text: &[u8]) -> Option<Fraction>
         ensures value { result ≡ result_ok (numeral_of text.now) }
         ensures decimal { (d : Decimal) → text.now ≡ body_text d.body → option_map terms_of result ≡ decimal_value d }
@@ -183,8 +183,7 @@ impl Fraction {
         Fraction::parse(text).ok()
     }
 
-    /// Appends the fraction as a text: `n` where the denominator is 1, else `n/d`. When out of memory, `out` stays as
-    /// it was.
+    /// Appends the fraction as a text: `n` if the denominator is 1, else `n/d`. When out of memory, `out` stays as it was.
     #[tactic(auto, unfolding(crate::specs::Spelling::spelling))]
     pub fn print(&self, out: &mut List<u8>) -> Result<(), NoMemory>
         ensures printed { OnOk result (out.new ≡ out.old ++ spelling (terms_of self.now)) }

@@ -17,7 +17,8 @@ pub fn numerals_are_read()
     ensures fault { (text : List ℕ) (f : NumberFault) → (numeral_of text ≡ Err f) ↔ IsParseFault text f }
 {}
 
-/// The text of a fraction is a word of digits, a minus and a slash; where its parts have at most 38 digits, it is a numeral of the fraction.
+/// The text of a fraction is a word of digits, a minus and a slash; if its parts have at most 38 digits, it is a numeral of the
+/// fraction.
 pub fn a_printed_fraction_reads_back()
     ensures some { (t : Terms) → IsReduced t → 0 < length (spelling t) }
     ensures bytes { (t : Terms) → IsReduced t → AllByRecursion IsSpellingByte (spelling t) }

@@ -1,9 +1,9 @@
 //! Fractions: the plain kind of numbers.
 //!
 //! Proved:
-//! - `Fraction` is a `Number`: each result that isn't refused is exact and in lowest terms, and it is refused exactly
-//!   where a part of the written operation is too wide. Contracts see it as its `Ratio`; `Ord` is the order of the
-//!   numbers, and `Display` writes the bytes that `print` appends.
+//! - `Fraction` is a `Number`. Each result that isn't refused is exact and in lowest terms. It is refused exactly if a part of
+//!   the written operation is too wide. Contracts see it as its `Ratio`; `Ord` is the order of the numbers, and `Display`
+//!   writes the bytes that `print` appends.
 //! - `Fraction::new`: `lowest`, `value`, `zero`, `wide`. `is_zero`, `is_one`, `is_within`, `abs`.
 //! - `Fraction::parse`: `value` (it returns `numeral_of` of its text). `Fraction::parse_decimal`: `value` (the same without
 //!   the fault), `decimal` (the value of a decimal, or nothing where it has too many digits).

@@ -18,7 +18,7 @@ impl ShortRatio {
     ghost use Rattle.fraction.specs.Short.{short_terms};
     ghost use Rattle.fraction.specs.Written.{written_mul, written_add};
 
-    /// Returns a fraction, where its parts fit 64 bits.
+    /// Returns a fraction, if its parts fit 64 bits.
     pub fn of(x: &Ratio) -> Option<ShortRatio>
         ensures { IfSome result (λ s. short_terms s ≡ terms x.now) }
     {
@@ -53,7 +53,7 @@ impl ShortRatio {
         Ratio::of_wholes(num, den)
     }
 
-    /// Returns the written sum, or nothing where it is refused.
+    /// Returns the written sum, or nothing if it is refused.
     #[tactic(auto, using(crate::proofs::AtOnce::zero_plus), unfolding(crate::specs::Written::written_add))]
     pub fn plus(self, other: ShortRatio) -> Option<Ratio>
         ensures { option_map terms result ≡ written_add (short_terms self) (short_terms other) }

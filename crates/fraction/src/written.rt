@@ -7,7 +7,7 @@ ghost use Rattle.fraction.specs.Written.{written_mul, written_add, opposite, inv
 use crate::short::ShortRatio;
 use field_core::Ratio;
 
-/// Returns the written product, or nothing where it is refused.
+/// Returns the written product, or nothing if it is refused.
 pub fn multiply(x: &Ratio, y: &Ratio) -> Option<Ratio>
     ensures { option_map terms result ≡ written_mul (terms x.now) (terms y.now) }
 {
@@ -32,7 +32,7 @@ fn multiply_wide(x: &Ratio, y: &Ratio) -> Option<Ratio>
     Some(Ratio::of_wholes(num, den))
 }
 
-/// Returns the written sum, or nothing where it is refused.
+/// Returns the written sum, or nothing if it is refused.
 pub fn plus(x: &Ratio, y: &Ratio) -> Option<Ratio>
     ensures { option_map terms result ≡ written_add (terms x.now) (terms y.now) }
 {

@@ -23,7 +23,7 @@ AreClosedBounds c bound = ForSingle c.inputs (λ ps. (n : ℕ) → n < 2 ^ lengt
 abbrev pub ReportsBounds : Content → List ℕ → Type 0
 ReportsBounds c text = (bound : ℕ → ℕ) × AreClosedBounds c bound × IsBoundsReport c bound text
 
--- this report, where the runs of all sets are defined; or the first set whose run isn't
+-- this report, if the runs of all sets are defined; or the first set whose run isn't
 abbrev pub bounded : Content → Stage Trouble (List ℕ)
 bounded c = record {
   Gives = λ text. AreRunsDefined c × ReportsBounds c text;

@@ -37,7 +37,7 @@ listed_in said = map (λ s. s.hypothesis) said.steps
 abbrev pub kept_in : Said → List ℕ
 kept_in said = map (λ x. x.hypothesis) said.keeps
 
--- the evidence that a text says for a case, or the first line that isn't allowed in it
+-- the evidence that a text denotes for a case, or the first line that isn't allowed in it
 abbrev pub evidence_in : Content → List ℕ → Stage Trouble Said
 evidence_in c bytes = record {
   Gives = λ said. (v : Evidence) × IsEvidenceFor c v × SaysEvidence c bytes v × (said ≡ said_of v);

@@ -56,7 +56,7 @@ check_needs = record { kind = Single; most = 64 }
 unfoldable pub check_call : Written → Option (List ℕ) → Option (List ℕ) → Stage Refusal Answer
 check_call form case proof = and_then (accepted form check_needs case) (λ c. and_then (on_bytes proof (within (codes "proof "))) (λ bytes. told_as (line_of c.names) (check_stage c bytes)))
 
--- a case is said that `check` can take
+-- the source denotes a case that `check` can take
 abbrev pub IsCheckable : Written → Option (List ℕ) → Type 0
 IsCheckable form case = (c : Content) × (accepted form check_needs case).Gives c
 

@@ -14,7 +14,7 @@ use Rattle.command_words.specs.declared.graph_name.SizedGraph.TheVariants.{Holm,
 use Rattle.edge_text.specs.CanonicalText.{canonical_text}
 use Rattle.graph_cli.specs.Catalogue.{made_of}
 
--- how many hypotheses a named graph has, as it is reported: 2^64 - 1 where they are more
+-- how many hypotheses a named graph has, as it is reported: 2^64 - 1 if they are more
 abbrev pub told_size : SizedGraph → ℕ
 told_size (Holm n) = n
 told_size (FixedSequence n) = n

@@ -34,8 +34,8 @@ abbrev pub HasOneAnswer : Type 0
 HasOneAnswer = (words : List (List ℕ)) (case proof : List ℕ) (a b : Answer) → IsAnswerOf (outcome words (Some case) (Some proof)) a
     → IsAnswerOf (outcome words (Some case) (Some proof)) b → a ≡ b
 
--- the text is the report of a decision, whose line `rejected` names exactly the hypotheses that the closed test rejects, and of
--- the adjusted values, the least levels at which it rejects them
+-- the text is the report of a decision, with the adjusted values, the least levels at which the closed test rejects the hypotheses. Its line
+-- `rejected` names exactly the hypotheses that the closed test rejects
 pub record ReportsClosedTest (c : Content) (text : List ℕ) : Type 0 where
   pub decision : Decision
   pub adjusted : List Adjusted
@@ -97,8 +97,8 @@ EvidenceIsOfTheClosedTest = (words : List (List ℕ)) (form : Written) (priority
     → AskFor words (on_case form (EvidenceTask priority)) → IsAnswerOf (outcome words (Some case) proof) a → a.status ≡ Done
     → ReportsCase PrintsEvidence form case a.text
 
--- The text is the report of the evidence for a case that a proof says, to which the check says yes; its steps list only
--- hypotheses that the closed test rejects, and in version 2 all of them.
+-- The text is the report of the evidence for a case that a proof denotes, to which the check says yes. Its steps list only hypotheses that the closed
+-- test rejects, and in version 2 all of them.
 pub record ReportsEvidence (c : Content) (proof text : List ℕ) : Type 0 where
   pub evidence : Evidence
   pub fits : IsEvidenceFor c evidence

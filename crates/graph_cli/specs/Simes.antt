@@ -32,7 +32,8 @@ AreSimesBounds c bound = ForSingle c.inputs (λ ps. (n : ℕ) → n < 2 ^ length
 abbrev pub AreLeadersIn : Content → List ℕ → Type 0
 AreLeadersIn c js = ForSingle c.inputs (λ ps. AreLeaders (length c.names) (number_at ps) js)
 
--- the report of the bounds of all sets of a case, of its hypotheses by ascending p-value, and of what the closed test of Simes' test says of each one alone
+-- the report of the bounds of all sets of a case, of its hypotheses by ascending p-value, and of the hypotheses that the closed test of Simes' test
+-- rejects
 pub record ReportsSimes (c : Content) (text : List ℕ) : Type 0 where
   pub bound : ℕ → ℕ
   pub closed : ℕ → Bool
@@ -47,14 +48,14 @@ abbrev pub IsWideSimesSet : Content → Trouble → Type 0
 IsWideSimesSet c r = (weight : ℕ → ℕ → Ratio) × AreIntersectionWeights c weight × (n : ℕ) × (wide : WideAt)
     × IsSimesFault c weight (Wide n wide) × (r ≡ troubles.Wide (SimesSet n) wide)
 
--- the case, where the runs of all sets are defined; or the first set whose run isn't
+-- the case, if the runs of all sets are defined; or the first set whose run isn't
 abbrev pub runs_of_sets : Content → Stage Trouble Content
 runs_of_sets c = record {
   Gives = λ x. AreRunsDefined c × (x ≡ c);
   Refuses = IsWideSet c;
 }
 
--- the report of Simes' test, where the sums of weights of all members of all sets are defined; or the first sum that isn't
+-- the report of Simes' test, if the sums of weights of all members of all sets are defined; or the first sum that isn't
 abbrev pub simes_tested : Content → Stage Trouble (List ℕ)
 simes_tested c = record {
   Gives = λ text. ((weight : ℕ → ℕ → Ratio) × AreIntersectionWeights c weight × AreAllSumsDefined c weight) × ReportsSimes c text;

@@ -24,7 +24,7 @@ use Rattle.simes_test.specs.declared.fault.SimesFault.TheVariants as simes
 use Rattle.staged_levels.specs.declared.case_looks.LooksFault.{LooksFault}
 use Rattle.staged_levels.specs.declared.case_looks.LooksFault.TheVariants as looks
 
--- A stage gave this value, or refuses in this way. Nothing is said of memory.
+-- A stage gave this value, or refuses in this way. Nothing is claimed of out-of-memory.
 abbrev pub Meets : {A : Type 0} → Stage Trouble A → Result A Trouble → Type 0
 Meets s (Ok x) = s.Gives x
 Meets s (Err t) = t ≢ NoMemory → s.Refuses t

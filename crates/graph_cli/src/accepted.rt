@@ -23,7 +23,7 @@ use graph_io::Source;
 use refusals::{case_refusal, cell_refusal, json_refusal, line_refusal};
 use std::alloc::Global;
 
-/// Returns the case that a text says.
+/// Returns the case that a text denotes.
 fn text_case(alloc: Global, bytes: &[u8]) -> Result<Case, Stop>
     ensures { EndsIn (over_values (seen_by content (case_in text bytes.now))) result }
 {
@@ -91,8 +91,8 @@ fn suitable(case: &Case, needs: Needs) -> Result<(), Trouble>
     Ok(())
 }
 
-/// Returns the case that a source says in a form, where a command with these needs can take it. Of a source that isn't
-/// read to its end, at most one byte more than it may have is taken.
+/// Returns the case that a source says in a form, if a command with these needs can take it. Of a source that isn't read to its
+/// end, at most one byte more than it may have is taken.
 pub fn accepted_case<S: Source>(
     alloc: Global,
     form: &CaseForm,

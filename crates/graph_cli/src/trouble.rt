@@ -72,7 +72,7 @@ impl Trouble {
         }
     }
 
-    /// Returns the line that reports it, with the names of the case; `NoMemory` where it is that, or out of memory.
+    /// Returns the line that reports it, with the names of the case; `NoMemory` if it is that, or out of memory.
     fn line(&self, alloc: Global, names: &[Text]) -> Result<Refusal, NoMemory>
         ensures line { IfOk result (λ refusal. refusal ≡ line_of names.now self.now) }
         ensures memory { IfOk result (λ refusal. self.now ≢ OutOfMemory) }

@@ -5,11 +5,11 @@ use Rattle.std.specs.Prelude.{◌≡◌, ℕ, ◌+◌, ◌-◌, ◌^◌, ◌≤�
 abbrev pub count_up : ℕ → ℕ
 count_up n = min (n + 1) (2 ^ 64 - 1)
 
--- the count of faults rose, or stands at its end
+-- the count of faults rose, or is at its end
 abbrev pub Rose : ℕ → ℕ → Type 0
 Rose before now = count_up before ≤ now
 
--- the count never falls, an error comes only where it rose, and with an answer it stays
+-- the count never falls, an error comes only if it rose, and with an answer it stays
 pub record HasCause {T E : Type 0} (before now : ℕ) (result : Result T E) : Type 0 where
   pub later : before ≤ now
   pub failed : OnErr result (Rose before now)

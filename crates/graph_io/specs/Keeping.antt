@@ -26,7 +26,7 @@ abbrev pub CallCaused : {T : Type 0} → ℕ → ℕ → Result T KeeperFault �
 CallCaused before now (Ok x) = now ≡ before
 CallCaused before now (Err fault) = CausedBy before now fault
 
--- the count never falls, a fault comes only where it rose, and else it stays
+-- the count never falls, a fault comes only if it rose, and else it stays
 pub record IsCaused {T : Type 0} (before now : ℕ) (result : Result T KeeperFault) : Type 0 where
   pub later : before ≤ now
   pub cause : CallCaused before now result

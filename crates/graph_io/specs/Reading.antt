@@ -20,7 +20,7 @@ EndedBy limit old new before now Fault = Rose before now
 EndedBy limit old new before now (TooLong n) = (n ≡ limit + 1) × TookCount old new n × IfSome old (λ xs. limit < length xs)
 EndedBy limit old new before now NoMemory = ⊤
 
--- the count of faults stayed, where the reading didn't end by a fault
+-- the count of faults stayed, if the reading didn't end by a fault
 abbrev pub IsClean : {A : Type 0} → ℕ → ℕ → Result A ReadEnd → Type 0
 IsClean before now (Ok x) = now ≡ before
 IsClean before now (Err (TooLong n)) = now ≡ before

@@ -67,7 +67,7 @@ pub struct StdSink<W> {
 }
 
 impl<W> StdSink<W> {
-    /// Returns a sink that hands all to this writer.
+    /// Returns a sink that passes all bytes to this writer.
     pub fn new(inner: W) -> StdSink<W>
         ensures inner { writer_of result ≡ inner }
         ensures faults { write_faults result ≡ 0 }

@@ -26,8 +26,8 @@ use std::alloc::Global;
 /// The room of a failing sink, in bytes.
 const ROOM: usize = 65_536;
 
-/// A sink in memory with room for 65,536 bytes, for tests. It exposes what it holds, takes at most `cap` bytes a put,
-/// and fails at the puts of given numbers, and where some bytes are put and no room is left.
+/// A sink in memory with room for 65,536 bytes, for tests. It exposes what it holds, and takes at most `cap` bytes a put. It
+/// fails at the puts of given numbers, and if some bytes are put and no room is left.
 #[derive(Drop)]
 pub struct FailingSink {
     room: Room,

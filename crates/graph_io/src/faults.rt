@@ -20,7 +20,7 @@ impl FaultCount {
         FaultCount { count: 0 }
     }
 
-    /// Counts a call that failed, and hands its outcome on.
+    /// Counts a call that failed, and returns its outcome.
     pub(crate) fn note(&mut self, outcome: Result<usize, Failed>) -> Result<usize, Failed>
         ensures same { result ≡ outcome }
         ensures counted { CountsFault self.old.count self.new.count outcome }

@@ -34,26 +34,26 @@ impl From<NoMemory> for KeeperFault {
     }
 }
 
-/// Keeps looks in their order. It may expose them to contracts, and it counts its failures; the count never falls.
+/// A keeper of looks, in their order. It may expose them to contracts. It counts its failures, and the count never falls.
 pub trait Keeper {
     ghost use Rattle.graph_io.specs.declared.keeper.Look.{Look};
 
-    /// The looks, where contracts know them; else `None`.
+    /// The looks, if contracts know them; else `None`.
     ghost looks: { Self → Option (Seq Look) };
 
     /// How often a call failed.
     ghost faults: { Self → ℕ };
 
-    /// Appends all looks in their order to `into`. It is `Fault` only where the count rose, and then, as when out of
-    /// memory, `into` stays as it was. The looks stay in each case.
+    /// Appends all looks in their order to `into`. It is `Fault` only if the count rose, and then, as when out of memory,
+    /// `into` stays as it was. The looks stay in each case.
     fn load(&mut self, alloc: Global, into: &mut List<Look>) -> Result<(), KeeperFault>
         ensures loaded { OnOk result (Loads (looks self.old) into.old into.new) }
         ensures unchanged { OnErr result (into.new ≡ into.old) }
         ensures kept { looks self.new ≡ looks self.old }
         ensures cause { IsCaused (faults self.old) (faults self.new) result };
 
-    /// Puts a look after the others. It is `Fault` only where the count rose, and then, as when out of memory, the
-    /// looks stay as they were.
+    /// Puts a look after the others. It is `Fault` only if the count rose, and then, as when out of memory, the looks stay as
+    /// they were.
     fn append(&mut self, alloc: Global, look: &Look) -> Result<(), KeeperFault>
         ensures appended { OnOk result (looks self.new ≡ with_look (looks self.old) look.now) }
         ensures kept { OnErr result (looks self.new ≡ looks self.old) }

@@ -8,8 +8,7 @@ use crate::{Failed, Sink};
 use field_core::NoMemory;
 use std::alloc::Global;
 
-/// A sink with a fixed room in memory. It exposes what it holds, takes what fits, and fails only where it has no room
-/// left.
+/// A sink with a fixed room in memory. It exposes what it holds, takes what fits, and fails only if it has no room left.
 #[derive(Drop)]
 pub struct MemorySink {
     room: Room,
@@ -65,7 +64,7 @@ impl Sink for MemorySink {
         ensures cause { HasCause (fault_count self.old) (fault_count self.new) result }
         ensures turn { call_count self.new ≡ call_count self.old + 1 }
 
-        // Only a piece that isn't empty, where no room is left, fails.
+        // Only a piece that isn't empty, if no room is left, fails.
         ensures fails { IsErr result ↔ ((room_left self.old ≡ 0) × (0 < length bytes.now)) }
         ensures count { IfOk result (λ n. n ≡ min (length bytes.now) (room_left self.old)) }
         ensures room { TakesRoom (room_left self.old) (room_left self.new) result }

@@ -19,7 +19,7 @@ impl Plan {
         Plan { fails, calls: 0 }
     }
 
-    /// Makes the next call, and says whether it is to fail.
+    /// Whether the next call, which is counted, is to fail.
     pub(crate) fn next_fails(&mut self) -> bool
         ensures listed { IsTrue result ↔ Contains self.old.fails (call_number self.old.calls) }
         ensures counted { self.new.calls ≡ call_number self.old.calls }

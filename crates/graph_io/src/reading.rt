@@ -33,7 +33,7 @@ impl From<NoMemory> for ReadEnd {
 
 /// Bytes to be read.
 pub trait Source {
-    /// The bytes that are left, where contracts know them; else `None`.
+    /// The bytes that are left, if contracts know them; else `None`.
     ghost left: { Self → Option (Seq ℕ) };
 
     /// How often a call failed.
@@ -42,8 +42,8 @@ pub trait Source {
     /// How many calls were made.
     ghost calls: { Self → ℕ };
 
-    /// Moves the next bytes into the front of `buf`, and says how many. 0, where `buf` has room, means the end. A failed
-    /// call moves nothing.
+    /// Moves the next bytes into the front of `buf`, and says how many. 0, if `buf` has room, means the end. A failed call
+    /// moves nothing.
     fn take(&mut self, buf: &mut [u8]) -> Result<usize, Failed>
         ensures bound { ReadsAtMost result buf.new }
         ensures bytes { ReadConsumes (left self.old) (left self.new) result buf.new }
@@ -54,12 +54,11 @@ pub trait Source {
     ghost counted: { (s : Self) → faults s < 2 ^ 64 };
 }
 
-/// All bytes of a source, read to its end, where there are at most `limit` of them; `limit` is at
-/// most 4,194,304.
+/// Reads all bytes of a source to its end, if there are at most `limit` of them. `limit` is at most 4,194,304.
 ///
-/// `Fault` comes only where the source's count of faults rose; with each other answer the count stays.
-/// `TooLong` comes only where just `limit + 1` bytes were taken. Before `Fault` at most `limit` bytes were taken, before
-/// `NoMemory` at most `limit + 1`. At most `limit + 2` takes are made.
+/// `Fault` comes only if the source's count of faults rose; with each other answer the count stays. `TooLong` comes only if
+/// exactly `limit + 1` bytes were taken. Before `Fault` at most `limit` bytes were taken, before `NoMemory` at most `limit +
+/// 1`. At most `limit + 2` takes are made.
 pub fn read_all<S: Source>(alloc: Global, source: &mut S, limit: u64) -> Result<List<u8>, ReadEnd>
     requires { limit ≤ 4194304 }
     ensures whole { IfOk result (ReadWhole limit (S.left source.old) (S.left source.new)) }

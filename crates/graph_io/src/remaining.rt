@@ -1,10 +1,10 @@
-//! Bytes that are handed out from the front.
+//! Bytes that are given out from the front.
 ghost use Rattle.std.specs.Prelude.{◌≡◌, ℕ, ◌≤◌, ◌<◌, min, List as Seq, ◌++◌, length, drop, take};
 
 use field_core::List;
 use std::marker::Model;
 
-/// The bytes that are still to be handed out.
+/// The bytes that are still to be given out.
 #[derive(Drop)]
 pub(crate) struct Remaining {
     bytes: List<u8>,

@@ -47,7 +47,7 @@ impl Room {
         self.held.as_slice()
     }
 
-    /// Takes the bytes that fit, at most `most`; it fails where it takes none of some.
+    /// Takes the bytes that fit, at most `most`; it fails if it takes none of some.
     pub(crate) fn put(&mut self, bytes: &[u8], most: usize) -> Result<usize, Failed>
         ensures failed { IsErr result
             ↔ ((min most (free_in self.old) ≡ 0) × (0 < length bytes.now)) }

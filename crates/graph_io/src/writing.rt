@@ -10,7 +10,7 @@ use crate::Failed;
 
 /// A place where bytes are written.
 pub trait Sink {
-    /// The bytes that it holds, where contracts know them; else `None`.
+    /// The bytes that it holds, if contracts know them; else `None`.
     ghost held: { Self → Option (Seq ℕ) };
 
     /// How often a call failed.
@@ -19,8 +19,7 @@ pub trait Sink {
     /// How many calls were made.
     ghost calls: { Self → ℕ };
 
-    /// Appends the first bytes of `bytes`, at least one where there are any, and says how many. A
-    /// failed call appends nothing.
+    /// Appends the first bytes of `bytes`, at least one if there are any, and says how many. A failed call appends nothing.
     fn put(&mut self, bytes: &[u8]) -> Result<usize, Failed>
         ensures bound { WritesAtMost result bytes.now }
         ensures some { IfOk result (λ n. 0 < length bytes.now → 0 < n) }
@@ -32,8 +31,8 @@ pub trait Sink {
     ghost counted: { (s : Self) → faults s < 2 ^ 64 };
 }
 
-/// Puts all bytes into a sink, after what it holds. After a failure a prefix of them stands there, and the count of
-/// faults rose; else the count stays. At most one put a byte is made, and one more.
+/// Puts all bytes into a sink, after what it holds. After a failure a prefix of them is there, and the count of faults rose;
+/// else the count stays. At most one put a byte is made, and one more.
 pub fn write_all<W: Sink>(sink: &mut W, bytes: &[u8]) -> Result<(), Failed>
     ensures bytes { PutAll (W.held sink.old) (W.held sink.new) bytes.now result }
     ensures cause { HasCause (W.faults sink.old) (W.faults sink.new) result }

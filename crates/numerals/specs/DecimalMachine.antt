@@ -17,7 +17,7 @@ class_of b =
     else if b == 47 then classes.Slash
     else classes.Other
 
--- what was read of a decimal with one byte more, or nothing where no decimal begins so
+-- what was read of a decimal with one byte more, or nothing if no decimal begins so
 abbrev pub decimal_step : DecimalPart → Class → Option DecimalPart
 decimal_step Start classes.Digit = Some Whole
 decimal_step Start classes.Point = Some Point

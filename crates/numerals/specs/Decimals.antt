@@ -38,7 +38,7 @@ has_too_many_digits (Pointed whole fraction exponent) =
     is_too_long (without_leading_zeros (whole ++ fraction)) (pos (length fraction) -ℤ exponent_of exponent)
 has_too_many_digits (Pair over under) = nat_lt 38 (length (without_leading_zeros over)) || nat_lt 38 (length (without_leading_zeros under))
 
--- the value of a decimal in lowest terms, or nothing where it has too many digits
+-- the value of a decimal in lowest terms, or nothing if it has too many digits
 unfoldable pub decimal_value : Decimal → Option Terms
 decimal_value d =
     if has_too_many_digits d.body then None

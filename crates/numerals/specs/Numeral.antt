@@ -43,7 +43,7 @@ abbrev pub IsExponent : Option Exponent → Type 0
 IsExponent None = Unit {0}
 IsExponent (Some e) = ((e.mark ≡ 101) ⊎ (e.mark ≡ 69)) × IsSign e.sign × AreDigits e.digits × (0 < length e.digits)
 
--- what stands after the sign
+-- what follows the sign
 pub data Body : Type 0 where
   -- digits, perhaps an exponent
   Plain : (whole : List ℕ) (exponent : Option Exponent) → Body
@@ -87,7 +87,7 @@ with_sign negative n = if negative then neg_ℤ (pos n) else pos n
 abbrev pub signed : Option ℕ → ℕ → ℤ
 signed sign n = with_sign (is_minus sign) n
 
--- the exponent, 0 where none is written
+-- the exponent, 0 if none is written
 abbrev pub exponent_of : Option Exponent → ℤ
 exponent_of None = pos 0
 exponent_of (Some e) = signed e.sign (digits_value 10 e.digits)
@@ -118,12 +118,12 @@ without_leading_zeros digits = drop (prefix_len is_nought digits) digits
 unfoldable pub trailing_zeros : List ℕ → ℕ
 trailing_zeros digits = suffix_len is_nought digits
 
--- a number of n digits, divided by ten to the s: they are more than 38, or reach more than 38 places after the point, or are more than 38
--- together with the zeros up to the point
+-- a number of n digits, divided by ten to the s, passes the limit: the digits are more than 38, or reach more than 38 places after the point. Or they
+-- are more than 38 together with the zeros up to the point
 abbrev pub PassesLimit : ℕ → ℤ → Type 0
 PassesLimit n s = (38 < n) ⊎ ((pos 38 <ℤ s) ⊎ ((s <ℤ pos 0) × (pos 38 <ℤ (pos n -ℤ s))))
 
--- The digits of a whole number without leading zeros, divided by ten to the s: it isn't 0, and passes the limit once its trailing zeros are
+-- The digits of a whole number without leading zeros, divided by ten to the s. The number isn't 0, and passes the limit once its trailing zeros are
 -- dropped, each of which lowers s by 1.
 unfoldable pub IsTooLong : List ℕ → ℤ → Type 0
 IsTooLong digits s = (0 < length digits) × PassesLimit (length digits - trailing_zeros digits) (s -ℤ pos (trailing_zeros digits))

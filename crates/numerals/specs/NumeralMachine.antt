@@ -8,7 +8,7 @@ use Rattle.numerals.specs.declared.numeral_machine.State.{State}
 use Rattle.numerals.specs.declared.numeral_machine.State.TheVariants.{Start, Decimal, Slash, Under}
 use Rattle.numerals.specs.DecimalMachine.{class_of, decimal_step, may_end}
 
--- what was read with one byte more, or nothing where no numeral begins so
+-- what was read with one byte more, or nothing if no numeral begins so
 abbrev pub step : State → Class → Option State
 step Start classes.Sign = Some (Decimal parts.Start)
 step Start class = option_map Decimal (decimal_step parts.Start class)

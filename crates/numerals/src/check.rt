@@ -5,7 +5,7 @@ use crate::NumberFault;
 use crate::byte_class::class_of;
 use crate::numeral_machine::{State, is_final, step};
 
-/// Whether a text is a numeral, or else why not.
+/// Returns nothing if a text is a numeral, or else why it is not one.
 pub fn check(text: &[u8]) -> Result<(), NumberFault>
     ensures { IsChecked text.now result }
 {

@@ -26,7 +26,7 @@ pub enum DecimalPart {
 }
 
 impl DecimalPart {
-    /// Returns what was read with a byte of this class more, or nothing where no decimal begins so.
+    /// Returns what was read with a byte of this class more, or nothing if no decimal begins so.
     pub(crate) fn step_class(self, class: Class) -> Option<DecimalPart>
         ensures { result ≡ decimal_step self class }
     {
@@ -45,14 +45,14 @@ impl DecimalPart {
         }
     }
 
-    /// Returns what was read with one byte more, or nothing where no decimal begins so.
+    /// Returns what was read with one byte more, or nothing if no decimal begins so.
     pub fn step(self, byte: u8) -> Option<DecimalPart>
         ensures { result ≡ decimal_byte self byte }
     {
         self.step_class(class_of(byte))
     }
 
-    /// A decimal may end here.
+    /// Whether a decimal may end here.
     pub fn may_end(self) -> bool
         ensures { result ≡ may_end self }
     {

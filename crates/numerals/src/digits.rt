@@ -9,7 +9,7 @@ ghost use Rattle.numerals.specs.Numeral.{AreDigits, is_nought, without_leading_z
 /// The most digits that a number may have.
 pub const MOST_DIGITS: usize = 38;
 
-/// Whether a text begins with a minus, and what stands after its sign.
+/// Returns whether a text begins with a minus, and what follows its sign.
 pub fn split_sign(text: &[u8]) -> (bool, &[u8])
     ensures minus { result.0 ≡ starts_with_minus text.now }
     ensures rest { result.1.now ≡ without_leading_sign text.now }
@@ -28,7 +28,7 @@ fn digits_len(text: &[u8]) -> usize
     text.iter().take_while(|b| b.is_ascii_digit()).count()
 }
 
-/// Returns what stands after a byte with which a text begins.
+/// Returns what follows a byte with which a text begins.
 pub fn behind(text: &[u8], byte: u8) -> Option<&[u8]>
     ensures { MatchOption result (BeginsOtherwise byte text.now) (λ rest. text.now ≡ byte ∷ rest.now) }
 {
@@ -69,7 +69,7 @@ pub fn trailing_zeros(digits: &[u8]) -> usize
     digits.iter().rev().take_while(|b| **b == b'0').count()
 }
 
-/// Returns the number that digits write where they follow those of another one.
+/// Returns the number that digits write if they follow those of another one.
 pub fn extended(start: u128, digits: &[u8]) -> u128
     requires digits { AreDigits digits.now }
     requires room { (start + 1) * 10 ^ length digits.now ≤ 10 ^ 38 }
@@ -96,7 +96,7 @@ pub fn number(digits: &[u8]) -> u128
 /// A number past all lengths.
 pub const FAR: u128 = 0x10000000000000000000000000;
 
-/// Returns the number that digits write, or `FAR` where that is less.
+/// Returns the number that digits write, or `FAR` if that is less.
 pub fn number_to_far(digits: &[u8]) -> u128
     requires { AreDigits digits.now }
     ensures { result ≡ min (digits_value 10 digits.now) FAR }

@@ -18,7 +18,7 @@ pub enum State {
     Under,
 }
 
-/// Returns what was read with one byte more, or nothing where no numeral begins so.
+/// Returns what was read with one byte more, or nothing if no numeral begins so.
 pub fn step(state: State, class: Class) -> Option<State>
     ensures { result ≡ step state class }
 {
@@ -32,7 +32,7 @@ pub fn step(state: State, class: Class) -> Option<State>
     }
 }
 
-/// A numeral may end here.
+/// Whether a numeral may end here.
 pub fn is_final(state: State) -> bool
     ensures { result ≡ is_final state }
 {

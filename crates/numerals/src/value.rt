@@ -1,4 +1,4 @@
-//! The value of what stands after the sign of a numeral.
+//! The value of what follows the sign of a numeral.
 ghost use Rattle.numerals.specs.Numeral.{AreDigits, Pair};
 ghost use Rattle.numerals.specs.Sizes.{GivesShift, IsBodySize, GivesBody};
 
@@ -46,7 +46,7 @@ fn shift(exponent: &[u8]) -> Shift
     Shift { up: size, down: 0 }
 }
 
-/// Returns the value of what stands after the sign of a numeral.
+/// Returns the value of what follows the sign of a numeral.
 pub fn value(body: &[u8]) -> Result<Size, NumberFault>
     ensures { GivesBody body.now result }
 {

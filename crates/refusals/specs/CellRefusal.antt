@@ -1,4 +1,4 @@
--- Lines of CSV that says no draft.
+-- Lines of CSV that denotes no draft.
 use Rattle.std.specs.Prelude.{ℕ, List, ◌++◌, codes}
 use Rattle.std.specs.Fmt.{decimal}
 use Rattle.answers.specs.declared.refusal.Refusal.{Refusal}

@@ -1,4 +1,4 @@
--- Lines of texts that say no draft.
+-- Lines of texts that denote no draft.
 use Rattle.std.specs.Prelude.{ℕ, List, ◌++◌, codes}
 use Rattle.std.specs.Fmt.{decimal}
 use Rattle.numerals.specs.declared.fault.NumberFault.{NumberFault}

@@ -16,7 +16,7 @@ use Rattle.answers.specs.Lines.{line}
 use Rattle.refusals.specs.LinePieces.{counted, name_at, two_names}
 use Rattle.refusals.specs.ProofRefusal.{part_words}
 
--- a space and the name of the hypothesis at a position, where it is a member of a set
+-- a space and the name of the hypothesis at a position, if it is a member of a set
 abbrev pub name_if_member : ℕ → ℕ → List ℕ → List ℕ
 name_if_member n k name = if members n k then 32 ∷ name else []
 

@@ -120,7 +120,7 @@ fn too_many(alloc: Global, quantity: &str, n: u64) -> Result<Refusal, NoMemory>
     Ok(refusal(Cause::Limit, format!(in alloc; "limit: {quantity} {n}\n")?))
 }
 
-/// Returns the refusal of a fault of a case with these names; `NoMemory` where the fault is, or when out of memory.
+/// Returns the refusal of a fault of a case with these names; `NoMemory` if the fault is, or when out of memory.
 #[tactic(auto, unfolding(crate::specs::CaseRefusal::case_refusal))]
 pub fn case_refusal(alloc: Global, names: &[Text], fault: &CaseFault) -> Result<Refusal, NoMemory>
     ensures line { IfOk result (λ refusal. refusal ≡ case_refusal names.now fault.now) }

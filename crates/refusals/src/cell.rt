@@ -1,4 +1,4 @@
-//! Lines of CSV that says no draft.
+//! Lines of CSV that denotes no draft.
 ghost use Rattle.std.specs.Prelude.{◌≡◌, IfOk};
 ghost use Rattle.refusals.specs.CellRefusal.{cell_refusal};
 

@@ -17,8 +17,7 @@ fn path_text(path: &Text) -> Result<&str, NoMemory>
     str::from_utf8(path.as_bytes()).map_err(|_| NoMemory)
 }
 
-/// Returns the refusal of JSON with this fault, by its path as it stands; `NoMemory` where the fault is, or when out of
-/// memory.
+/// Returns the refusal of JSON with this fault, by its path as it is; `NoMemory` if the fault is, or when out of memory.
 #[tactic(auto, unfolding(crate::specs::JsonRefusal::json_refusal))]
 pub fn json_refusal(alloc: Global, fault: &JsonFault) -> Result<Refusal, NoMemory>
     ensures line { IfOk result (λ refusal. refusal ≡ json_refusal fault.now) }

@@ -1,4 +1,4 @@
-//! Lines of texts that say no draft.
+//! Lines of texts that denote no draft.
 ghost use Rattle.std.specs.Prelude.{◌≡◌, IfOk};
 ghost use Rattle.refusals.specs.LinePieces.{malformed_at, limit_at};
 ghost use Rattle.refusals.specs.TextRefusal.{

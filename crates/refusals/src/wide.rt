@@ -10,10 +10,10 @@ use field_core::{NoMemory, Op, Place, Text, WideAt};
 use std::alloc::Global;
 use std::fmt;
 
-/// When an operation is written: for a sum of the case, in a step of the decision, in a step of the run of adjusted values, in
-/// a step of the flow run, in the run of a set of hypotheses, in Simes' test of a set, in the opening of a study, in the settling
-/// after an arrival, in that after a look of a study whose looks are kept, or in the check of evidence. Steps and looks count from
-/// 1, and 0 is the opening; arrivals count from 1. Bit `k` of the number of a set says whether hypothesis `k` is a member.
+/// When an operation is written. A sum of the case; a step of the decision, of the run of adjusted values, or of the flow run.
+/// The run of a set of hypotheses, or Simes' test of a set. The opening of a study, the settling after an arrival, or that
+/// after a kept look. The check of evidence. Steps and looks count from 1, and 0 is the opening; arrivals count from 1. Bit `k`
+/// of the number of a set says whether hypothesis `k` is a member.
 #[derive(Clone, Copy, PartialEq, Eq, Debug)]
 pub enum When {
     Reading,

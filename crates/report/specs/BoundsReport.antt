@@ -8,7 +8,7 @@ use Rattle.case_model.specs.Content.{Content}
 use Rattle.closed_test.specs.SetLists.{AreSetsInOrder}
 use Rattle.report.specs.TestReport.{spaced_name}
 
--- the name of a hypothesis, where it is a member of a set; else nothing
+-- the name of a hypothesis, if it is a member of a set; else nothing
 abbrev pub name_if_member : Content → ℕ → ℕ → List ℕ
 name_if_member case n k = if members n k then spaced_name case k else []
 

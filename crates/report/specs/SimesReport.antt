@@ -27,7 +27,7 @@ top_lines case bound js = flat_map (λ k. top_line case bound js (k + 1)) (range
 abbrev pub set_alone : Content → ℕ → ℕ
 set_alone case j = set_number (length case.names) (only j)
 
--- the name of a hypothesis, where the set of it alone is rejected; else nothing
+-- the name of a hypothesis, if the set of it alone is rejected; else nothing
 abbrev pub name_if_alone : Content → (ℕ → Bool) → ℕ → List ℕ
 name_if_alone case closed j = if closed (set_alone case j) then spaced_name case j else []
 

@@ -38,7 +38,7 @@ looks_lines case (a ∷ more) (look ∷ looks) = look_lines case a look ++ looks
 unfoldable pub is_settled : List (List Settled) → ℕ → Bool
 is_settled looks j = list_any (λ look. list_any (λ r. r.hypothesis == j) look) looks
 
--- a space and the name of the hypothesis at a position, where it is rejected; else nothing
+-- a space and the name of the hypothesis at a position, if it is rejected; else nothing
 abbrev pub name_if_settled : Content → List (List Settled) → ℕ → List ℕ
 name_if_settled case looks j = if is_settled looks j then spaced_name case j else []
 

@@ -30,7 +30,7 @@ look_line case l = line (codes "look" ++ spaced_name case l.hypothesis ++ codes 
 unfoldable pub taken_lines : Content → Look → List Settled → List ℕ
 taken_lines case l rejections = look_line case l ++ flat_map (reject_line case) rejections
 
--- why an arrival is refused; nothing, where something else is
+-- why an arrival is refused; nothing if something else is
 abbrev pub refusal_word : StepFault → List ℕ
 refusal_word (StageRange t) = codes "stage"
 refusal_word (Known i t) = codes "known"
@@ -47,7 +47,7 @@ refused_line number fault = line (codes "refused " ++ decimal number ++ codes ":
 unfoldable pub is_among : List Settled → ℕ → Bool
 is_among rejections j = list_any (λ r. r.hypothesis == j) rejections
 
--- a space and the name of the hypothesis at a position, where it is rejected; else nothing
+-- a space and the name of the hypothesis at a position, if it is rejected; else nothing
 abbrev pub name_if_among : Content → List Settled → ℕ → List ℕ
 name_if_among case rejections j = if is_among rejections j then spaced_name case j else []
 

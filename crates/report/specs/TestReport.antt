@@ -18,7 +18,7 @@ use Rattle.adjusted_p.specs.declared.adjusted.Adjusted.{Adjusted}
 abbrev pub AreOfCase : Content → List StepLine → Type 0
 AreOfCase case lines = All (λ x. x.hypothesis < length case.names) lines
 
--- the p-values, and nothing where there are no single ones
+-- the p-values, and nothing if there are no single ones
 abbrev pub p_values : Inputs → List Ratio
 p_values (Single ps) = ps
 p_values Bare = []
@@ -54,7 +54,7 @@ kept_line case x = line (codes "kept" ++ figures case x)
 unfoldable pub is_rejected : List StepLine → ℕ → Bool
 is_rejected steps j = list_any (λ x. x.hypothesis == j) steps
 
--- a space and the name of the hypothesis at a position, where it is that of a step; else nothing
+-- a space and the name of the hypothesis at a position, if it is that of a step; else nothing
 abbrev pub name_if_rejected : Content → List StepLine → ℕ → List ℕ
 name_if_rejected case steps j = if is_rejected steps j then spaced_name case j else []
 
@@ -62,7 +62,7 @@ name_if_rejected case steps j = if is_rejected steps j then spaced_name case j e
 unfoldable pub rejected_line : Content → List StepLine → List ℕ
 rejected_line case steps = line (codes "rejected" ++ flat_map (name_if_rejected case steps) (range_with_len 0 (length case.names)))
 
--- what is printed after a value: nothing where it is reached
+-- what is printed after a value: nothing if it is reached
 abbrev pub reached_words : Bool → List ℕ
 reached_words reached = if reached then [] else codes " not reached"
 

@@ -12,7 +12,7 @@ use discovery_bound::Bounds;
 use field_core::{List, NoMemory};
 use std::alloc::Global;
 
-/// Appends the name of a hypothesis, where it is a member of a set.
+/// Appends the name of a hypothesis, if it is a member of a set.
 fn put_if_member(text: &mut List<u8>, case: &Case, set: u32, k: usize) -> Result<(), NoMemory>
     requires below { k < length (content case.now).names }
     requires few { k < 16 }
@@ -98,9 +98,9 @@ fn text_of_sets(
     Ok(text)
 }
 
-/// Returns what the command `bounds` prints: how many hypotheses there are, and for each set that isn't empty, in the
-/// order of sets, its bound and the names of its members. The bounds must be for the hypotheses of the case. `NoMemory`
-/// when out of memory.
+/// Returns what the command `bounds` prints. It has the number of hypotheses, and for each set that isn't empty, in the order
+/// of sets, its bound and the names of its members. The bounds must be for the hypotheses of the case. `NoMemory` when out of
+/// memory.
 pub fn bounds_text(alloc: Global, case: &Case, bounds: &Bounds) -> Result<List<u8>, NoMemory>
     requires { bounds_size bounds.now ≡ length (content case.now).names }
     ensures { IfOk result (λ text. IsBoundsReport (content case.now) (bound_of bounds.now) text) }

@@ -53,7 +53,7 @@ fn put_listed<F>(text: &mut List<u8>, case: &Case, steps: &[ProofStep<F>]) -> Re
     text.push(b'\n')
 }
 
-/// Appends the line of the hypotheses that are kept, where the version has it.
+/// Appends the line of the hypotheses that are kept, if the version has it.
 #[tactic(auto, unfolding(crate::specs::CheckReport::keeps_line))]
 fn put_keeps<F>(
     text: &mut List<u8>,
@@ -97,8 +97,8 @@ fn put_evidence(text: &mut List<u8>, case: &Case, proof: &Evidence) -> Result<()
     }
 }
 
-/// Returns what the command `check` prints of evidence that holds: `yes`, the names of the hypotheses of the steps in
-/// the order of the steps, and in version 2 the names of those that are kept.
+/// Returns what the command `check` prints of evidence that holds. It has `yes`, the names of the hypotheses of the steps in
+/// their order, and in version 2 the names of those that are kept.
 ///
 /// The evidence must be for the case. `NoMemory` when out of memory.
 #[tactic(auto, unfolding(crate::specs::CheckReport::check_report))]

@@ -1,12 +1,11 @@
 //! What the commands print.
 //!
-//! Proved: `test_text`, `stages_text`, `sample_text` and `check_text`, which give exactly the text of a decision on a
-//! case with its adjusted values (`test_report`), of looks (`stages_report`), of a sample (`sample_report`) and of
-//! evidence that holds (`check_report`); `weights_text`, `bounds_text` and `simes_text`, which give that of all sets in
-//! their order (`weights_report`, `bounds_report`, `simes_report`); and the laws that each line of a decision, and each
-//! rejection of a look, is of a hypothesis of its case. `opened_text`, `put_taken`, `put_refused` and `put_shown` put
-//! the pieces of what `study` prints (`study_report`), one after the other; when out of memory a beginning of the piece
-//! is in the text (`begun`).
+//! Proved: `test_text`, `stages_text`, `sample_text` and `check_text`. They give exactly the text of a decision on a case with
+//! its adjusted values (`test_report`), of looks (`stages_report`), of a sample (`sample_report`) and of evidence that holds
+//! (`check_report`). `weights_text`, `bounds_text` and `simes_text` give that of all sets in their order (`weights_report`,
+//! `bounds_report`, `simes_report`). By the laws, each line of a decision, and each rejection of a look, is of a hypothesis of
+//! its case. `opened_text`, `put_taken`, `put_refused` and `put_shown` put the pieces of what `study` prints (`study_report`),
+//! one after another. When out of memory, a beginning of the piece is in the text (`begun`).
 #![tactic(auto)]
 
 mod bounds;

@@ -47,7 +47,7 @@ fn is_rejected(steps: &[StepLine], j: usize) -> bool
     steps.iter().any(|step| step.hypothesis == j)
 }
 
-/// Appends the name of the hypothesis at a position, where it is that of a step.
+/// Appends the name of the hypothesis at a position, if it is that of a step.
 fn put_if_rejected(
     text: &mut List<u8>,
     case: &Case,

@@ -57,7 +57,7 @@ fn alone(j: usize) -> u32
     1 << j
 }
 
-/// Appends the name of a hypothesis, where the set of it alone is rejected.
+/// Appends the name of a hypothesis, if the set of it alone is rejected.
 fn put_if_alone(
     text: &mut List<u8>,
     case: &Case,
@@ -124,9 +124,9 @@ fn text_of_sets(
     Ok(text)
 }
 
-/// Returns what the command `simes` prints: how many hypotheses there are; for each set that isn't empty, in the order
-/// of sets, its bound and the names of its members; for each number of leaders, from 1 on, the bound of the set of so
-/// many first ones; and the names of the hypotheses whose set alone is rejected.
+/// Returns what the command `simes` prints. It has the number of hypotheses, and for each set that isn't empty, in the order of
+/// sets, its bound and the names of its members. For each number of leaders, from 1 on, it has the bound of the set of these
+/// leaders. Last it has the names of the hypotheses whose set alone is rejected.
 ///
 /// The bounds and the answers must be for the hypotheses of the case, and each leader must be one of these, none twice.
 /// `NoMemory` when out of memory.

@@ -129,7 +129,7 @@ fn is_settled(looks: &[List<Settled>], j: usize) -> bool
     looks.iter().any(|look| is_among(look.as_slice(), j))
 }
 
-/// Appends the name of the hypothesis at a position, where it is rejected.
+/// Appends the name of the hypothesis at a position, if it is rejected.
 fn put_if_settled(
     text: &mut List<u8>,
     case: &Case,

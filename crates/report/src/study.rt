@@ -57,7 +57,7 @@ pub fn put_taken(
     put_rejections(text, case, rejections)
 }
 
-/// Returns why an arrival is refused; nothing, where something else is.
+/// Returns why an arrival is refused; nothing if something else is.
 fn refusal_word(fault: &StepFault) -> &'static [u8]
     ensures { result.now ≡ refusal_word fault.now }
 {
@@ -83,7 +83,7 @@ pub fn put_refused(text: &mut List<u8>, number: usize, fault: &StepFault) -> Res
     text.push(b'\n')
 }
 
-/// Appends the name of the hypothesis at a position, where it is rejected.
+/// Appends the name of the hypothesis at a position, if it is rejected.
 fn put_if_among(
     text: &mut List<u8>,
     case: &Case,

@@ -105,7 +105,7 @@ fn put_kept(text: &mut List<u8>, case: &Case, kept: &[KeptLine]) -> Result<(), N
     Ok(())
 }
 
-/// Appends that a value isn't reached, where it isn't.
+/// Appends that a value isn't reached, if it isn't.
 fn put_reached(text: &mut List<u8>, reached: bool) -> Result<(), NoMemory>
     ensures { OnOk result (text.new ≡ text.old ++ reached_words reached) }
 {

@@ -30,7 +30,7 @@ fn put_weight(
     table.weight(set, k).print(text)
 }
 
-/// Appends the name of a hypothesis and its weight in a set, where it is a member.
+/// Appends the name of a hypothesis and its weight in a set, if it is a member.
 fn put_if_member(
     text: &mut List<u8>,
     case: &Case,

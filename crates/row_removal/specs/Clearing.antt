@@ -8,7 +8,7 @@ use Rattle.eps_poly.specs.ExactQuotients.{exact_quotient}
 use Rattle.eps_poly.specs.Factors.{content, order, core, lowered}
 use Rattle.row_removal.specs.StoredRow.{StoredRow}
 
--- what `f` gives for each item, where it gives something for all
+-- what `f` gives for each item, if it gives something for all
 unfoldable pub map_all : {A B : Type 0} → (A → Option B) → List A → Option (List B)
 map_all f [] = Some []
 map_all f (x ∷ xs) = do
@@ -16,14 +16,14 @@ map_all f (x ∷ xs) = do
   ys ← map_all f xs
   Some (y ∷ ys)
 
--- the row of the exact quotients, where each polynomial of the row has one
+-- the row of the exact quotients, if each polynomial of the row has one
 unfoldable pub quotient_row : List ℤ → StoredRow → Option StoredRow
 quotient_row by r = do
   denominator ← exact_quotient r.denominator by
   numerators ← map_all (λ p. exact_quotient p by) r.numerators
   Some (record { numerators = numerators; denominator = denominator })
 
--- the row of the exact quotients, or the row itself where there is none
+-- the row of the exact quotients, or the row itself if there is none
 unfoldable pub divided_row : List ℤ → StoredRow → StoredRow
 divided_row by r = unwrap_or (quotient_row by r) r
 
@@ -43,7 +43,7 @@ row_by k c r = record { numerators = map (lowered k c) r.numerators; denominator
 unfoldable pub lowered_row : StoredRow → StoredRow
 lowered_row r = row_by (row_order r) (pos (row_content r)) r
 
--- The cleared row: if every polynomial has an exact quotient by the core of `last`, each is replaced by it; then each is divided by the
--- common content and the least common power of epsilon.
+-- The cleared row. If every polynomial has an exact quotient by the core of `last`, each is replaced by it. Then each is divided by the common
+-- content and the least common power of epsilon.
 unfoldable pub cleared : List ℤ → StoredRow → StoredRow
 cleared last r = lowered_row (divided_row (core last) r)

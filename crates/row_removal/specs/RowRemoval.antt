@@ -38,7 +38,7 @@ module _ (s : StoredRows) (j : ℕ) where
   abbrev pub above : ℕ → ℕ → List ℤ
   above l k = numerator_at (row_at s l) k
 
-  -- the new numerator of the weight of `l`, `W_l D_j + W_j N_jl`; 0, with nothing written, where `l` is gone
+  -- the new numerator of the weight of `l`, `W_l D_j + W_j N_jl`; 0, with nothing written, if `l` is removed
   unfoldable pub new_weight : ℕ → Result (List ℤ) Wide
   new_weight l =
       if is_gone (rows_graph s) j l
@@ -60,20 +60,20 @@ module _ (s : StoredRows) (j : ℕ) where
   unfoldable pub new_denominator : ℕ → Result (List ℤ) Wide
   new_denominator l = difference_of_products (Loss l) (below l) (below j) (above l j) (above j l)
 
-  -- the new numerator of the edge from `l` to `k`, `N_lk D_j + N_lj N_jk`; 0, with nothing written, where `k` is gone, and where `k` is `l`
+  -- the new numerator of the edge from `l` to `k`, `N_lk D_j + N_lj N_jk`; 0, with nothing written, if `k` is removed, and if `k` is `l`
   unfoldable pub new_numerator : ℕ → ℕ → Result (List ℤ) Wide
   new_numerator l k =
       if is_gone (rows_graph s) j k || k == l
       then Ok zero_polynomial
       else sum_of_products (Edge l k) (above l k) (below j) (above l j) (above j k)
 
-  -- the new row of `l` over a denominator; where that is 0, all edges are 0 over 1, and nothing is written
+  -- the new row of `l` over a denominator; if that is 0, all edges are 0 over 1, and nothing is written
   unfoldable pub row_over : ℕ → List ℤ → Result StoredRow Wide
   row_over l d = if list_all is_zero_integer d then Ok (zero_row (rows_size s)) else do
     numerators ← each_below (rows_size s) (new_numerator l)
     Ok (cleared s.last (record { numerators = numerators; denominator = d }))
 
-  -- the new row of `l`; zeros over 1, with nothing written, where `l` is gone
+  -- the new row of `l`; zeros over 1, with nothing written, if `l` is removed
   unfoldable pub new_row : ℕ → Result StoredRow Wide
   new_row l = if is_gone (rows_graph s) j l then Ok (zero_row (rows_size s)) else do
     d ← new_denominator l

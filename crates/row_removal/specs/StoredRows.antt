@@ -6,8 +6,8 @@ use Rattle.removal.specs.StoredGraph.{StoredGraph}
 use Rattle.eps_quotient.specs.Lowering.{norm, one_polynomial}
 use Rattle.row_removal.specs.StoredRow.{StoredRow, zero_row}
 
--- The hypotheses that are still in are marked as remaining; `last` is the denominator that the row of the last removed hypothesis had
--- when it was removed, and 1 before the first removal.
+-- The remaining hypotheses are marked. `last` is the denominator that the row of the last removed hypothesis had when it was removed, and 1 before
+-- the first removal.
 pub record StoredRows : Type 0 where
   pub live : List Bool
   pub weights : StoredRow

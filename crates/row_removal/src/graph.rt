@@ -48,7 +48,7 @@ fn copy_rows(rows: &mut [Row], other: &[Row], count: usize)
     }
 }
 
-/// A weighted graph in rows: which hypotheses are still in, the row of their weights, and the row of edges from each.
+/// A weighted graph in rows: which hypotheses remain, the row of their weights, and the row of edges from each.
 #[derive(Drop)]
 pub struct RowGraph {
     live: Vec<bool>,
@@ -81,7 +81,7 @@ impl RowGraph {
         self.live.len()
     }
 
-    /// Whether `k` is still in.
+    /// Whether `k` remains.
     pub fn is_live(&self, k: usize) -> bool
         requires { k < rows_size self.now }
         ensures { result ≡ is_live (rows_graph self.now) k }
@@ -205,7 +205,7 @@ impl RowGraph {
         limit(self.weight_numerator(k), self.weight_denominator())
     }
 
-    /// Returns the edge from `l` to `k`, 0 where they are equal.
+    /// Returns the edge from `l` to `k`, 0 if they are equal.
     pub fn edge(&self, l: usize, k: usize) -> EpsQuotient
         requires proper { AreProperRows self.now }
         requires l { l < rows_size self.now }

@@ -17,7 +17,7 @@ use std::alloc::Global;
 /// A graph of quotients in epsilon in rows, room for the one after the next removal, and a spare row for the quotients of a
 /// clearing.
 ///
-/// All stand from the start, so no removal takes memory.
+/// All exist from the start, so no removal takes memory.
 #[derive(Drop)]
 pub struct RowNet {
     present: RowGraph,
@@ -44,11 +44,11 @@ impl RowNet {
     ghost use Rattle.row_removal.specs.RowNetView.{present_rows, prepared_rows};
     ghost use Rattle.row_removal.specs.RowsOpen.{RowsOpen};
 
-    /// All hypotheses are in, with these weights and edges, and nothing is prepared. There are at most 64 hypotheses, a
-    /// weight and a row of edges for each, they are a valid graph, and every denominator is a constant. The edges stand row by
-    /// row; what stands for an edge from a hypothesis to itself isn't read.
+    /// Returns the net with these weights and edges. All hypotheses remain, and nothing is prepared. There are at most 64
+    /// hypotheses, a weight and a row of edges for each, they are a valid graph, and every denominator is a constant. The edges
+    /// are in order, row by row. The number for an edge from a hypothesis to itself isn't read.
     ///
-    /// The rows are gathered: or nothing when out of memory, it is `RowOpen::Wide` exactly where the gathering is undefined.
+    /// The rows are gathered. Unless out of memory, it is `RowOpen::Wide` exactly if the gathering is undefined.
     pub fn try_new(
         alloc: Global,
         weights: &[EpsQuotient],

@@ -54,7 +54,7 @@ fn copy_all(numerators: &mut [EpsPoly], other: &[EpsPoly])
     }
 }
 
-/// Writes the exact quotients of polynomials, or is `None` exactly where one has none. `room` is for a product.
+/// Writes the exact quotients of polynomials, or is `None` exactly if one has none. `room` is for a product.
 fn write_quotients(
     numerators: &[EpsPoly],
     by: &EpsPoly,
@@ -71,7 +71,7 @@ fn write_quotients(
     Some(())
 }
 
-/// Returns the greatest common divisor with the content of a polynomial. That isn't computed where the divisor is 1.
+/// Returns the greatest common divisor with the content of a polynomial. That isn't computed if the divisor is 1.
 fn common_content(divisor: u128, p: &EpsPoly) -> u128
     ensures { result ≡ gcd divisor (content p.now) }
 {
@@ -146,7 +146,7 @@ impl Row {
 }
 
 impl Row {
-    /// Writes the row of the exact quotients by `by`, or is `None` exactly where one polynomial has none.
+    /// Writes the row of the exact quotients by `by`, or is `None` exactly if one polynomial has none.
     #[tactic(auto, using(std::proofs::lemmas::List::with_items_is), unfolding(crate::specs::Clearing::quotient_row))]
     fn write_quotient_row(&self, by: &EpsPoly, next: &mut Row) -> Option<()>
         requires some { IsNonZero by.now }
@@ -161,7 +161,7 @@ impl Row {
         Some(())
     }
 
-    /// Becomes the row of the exact quotients by `by`, where each polynomial has one; else it stays. `spare` is room for them.
+    /// Becomes the row of the exact quotients by `by`, if each polynomial has one; else it stays. `spare` is room for them.
     #[tactic(auto, using(std::proofs::lemmas::List::with_items_is), unfolding(crate::specs::Clearing::divided_row))]
     fn divide(&mut self, by: &EpsPoly, spare: &mut Row)
         requires some { IsNonZero by.now }

@@ -1,17 +1,15 @@
 //! Rejections one after another, and the decision on a case.
 //!
 //! Proved:
-//! - `Trial`: `open`; `can_reject` (exactly where the hypothesis is legal in what remains); `reject` (`trial`,
-//!   `answer`, `added`, `refused`: each refusal exactly with its cause, and then nothing changes);
-//!   `reject_least_ratio` (`trial`, `step`, `wide`, `refused`: a step of the run by ratios, or its end); `rejected`
-//!   (`sound`, `complete`); `weight_limit`.
-//! - `decide`, for each of the three priorities: `value` (the steps are the order of the priority, each with its
-//!   intersection weight, and the others are kept with theirs), `closed` (the steps are exactly what the closed test
-//!   rejects), `fault` and `defined` (or nothing when out of memory, it is too wide exactly where the written run is
-//!   undefined, with its step and place).
-//! - Laws in `src/laws.rt`: whatever calls are made on a trial, its rejections are a legal order, and the closed test
-//!   rejects each; once none is legal, they are all that it rejects. A case has at most one decision for each
-//!   priority, and at most one first undefined operation.
+//! - `Trial`: `open`. `can_reject` (exactly if the hypothesis is legal in what remains). `reject` (`trial`, `answer`, `added`,
+//!   `refused`: each refusal exactly with its cause, and then nothing changes). `reject_least_ratio` (`trial`, `step`, `wide`,
+//!   `refused`: a step of the run by ratios, or its end). `rejected` (`sound`, `complete`). `weight_limit`.
+//! - `decide`, for each of the three priorities: `value` (the steps are the order of the priority, each with its intersection
+//!   weight, and the others are kept with theirs). `closed` (the steps are exactly what the closed test rejects). `fault` and
+//!   `defined` (unless out of memory, it is too wide exactly if the written run is undefined, with its step and place).
+//! - Laws in `src/laws.rt`: whatever calls are made on a trial, its rejections are a legal order, and the closed test rejects
+//!   each. Once none is legal, they are all that it rejects. A case has at most one decision for each priority, and at most one
+//!   first undefined operation.
 #![tactic(auto)]
 
 mod candidate;

@@ -13,7 +13,7 @@ use Rattle.simes_test.specs.SimesTest.{is_up_to}
 
 -- (The hypotheses have these p-values, and of each set and each of its members there is a weight.)
 module _ (ps : List Ratio) (weight : ℕ → ℕ → Ratio) where
-  -- the weight of `i` in the set of `n`, where it is a member whose p-value is at most that of `j`, and else 0
+  -- the weight of `i` in the set of `n`, if it is a member whose p-value is at most that of `j`, and else 0
   unfoldable pub weight_up_to : ℕ → ℕ → ℕ → Ratio
   weight_up_to n j i = if is_up_to (number_at ps) (members n) j i then weight n i else zero_ratio
 

@@ -1,5 +1,5 @@
--- Simes' test of an intersection (Simes 1986) with the weights of its members, and its closed test (Hommel 1988 for equal weights). Nothing
--- is said of when it is valid. That a sum of 0 rejects nothing is this project's own.
+-- Simes' test of an intersection (Simes 1986) with the weights of its members, and its closed test (Hommel 1988 for equal weights). Nothing is
+-- claimed of when it is valid. That a sum of 0 rejects nothing is this project's own.
 use Rattle.std.specs.Prelude.{◌≡◌, ℕ, Bool, ◌&&◌, if◌then◌else◌}
 use Rattle.field_core.specs.Number.{Number}
 use Rattle.field_core.specs.Arithmetic.{number_zero}

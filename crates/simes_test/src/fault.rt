@@ -5,7 +5,7 @@ use field_core::{NoMemory, WideAt};
 #[derive(Clone, Copy, PartialEq, Eq, Debug)]
 pub enum SimesFault {
     /// The first set, in the order of sets, with a sum that isn't defined, and its first member whose sum isn't. The sum is
-    /// over all components; the component told is 0.
+    /// over all components; the reported component is 0.
     Wide(u32, WideAt),
     /// Out of memory.
     NoMemory,

@@ -8,7 +8,7 @@ ghost use Rattle.simes_test.specs.SimesStatements.{
 };
 
 /// Simes' test rejects each set that the local test by weights rejects, and its closed test each set and each hypothesis that
-/// the closed test rejects. Nothing is said of when either test is valid.
+/// the closed test rejects. Nothing is claimed of when either test is valid.
 pub fn simes_rejects_more()
     ensures local { LocalRejectionsAreOfSimes }
     ensures closed { ClosedRejectionsAreOfSimes }

@@ -12,7 +12,7 @@ use closed_test::WeightTable;
 use field_core::{Place, WideAt};
 use fraction::Fraction;
 
-/// Whether the p-value of `j` passes at its sum in a set.
+/// Returns whether the p-value of `j` passes at its sum in a set, or refuses a sum that isn't defined.
 fn member_passes(
     weights: &WeightTable,
     p_values: &[Fraction],
@@ -34,7 +34,7 @@ fn member_passes(
     }
 }
 
-/// Whether Simes' test rejects a set; or its first sum that isn't defined.
+/// Returns whether Simes' test rejects a set, or the first sum that isn't defined.
 pub fn is_rejected(
     weights: &WeightTable,
     p_values: &[Fraction],

@@ -63,12 +63,12 @@ impl SimesTable {
     ghost use Rattle.simes_test.specs.SimesFaults.{IsSimesFault};
     ghost use Rattle.simes_test.specs.SimesView.{simes_size, local_of, closed_of};
 
-    /// Simes' test of all sets of a case that has a p-value for each hypothesis, at its level, and its closed test, by the
-    /// weights of all sets of the case.
+    /// Returns Simes' test of all sets and its closed test, by the weights of all sets of the case. The case has a p-value for
+    /// each hypothesis, and is tested at its level.
     ///
-    /// There is no table exactly where the sum of some member of some set isn't defined, or nothing when out of memory;
-    /// the fault names the first such set in the order of sets, and its first such member. All sums are made, also
-    /// where the set is rejected by an earlier one.
+    /// Unless out of memory, there is no table exactly if the sum of some member of some set isn't defined. The fault names the
+    /// first such set in the order of sets, and its first such member. All sums are made, also if the set is rejected by an
+    /// earlier one.
     pub fn build(
         alloc: Global,
         case: &Case,

@@ -16,7 +16,7 @@ use Rattle.staged_levels.specs.Studies.{StudyState, start, positions_of}
 use Rattle.staged_levels.specs.StudyCalls.{IsArrival, AreFirstRejections, Settles}
 use Rattle.staged_levels.specs.StudyAnswers.{IsWideSettling}
 
--- the p-values that arrived, and none where there are no stages
+-- the p-values that arrived, and none if there are no stages
 abbrev pub arrivals_of : Inputs → List Arrival
 arrivals_of (Staged s) = s.arrivals
 arrivals_of Bare = []
@@ -46,7 +46,7 @@ pub record IsWideLook (c : Content) (old : StudyState) (a : Arrival) (w : WideAt
   pub is_defined : IsDefined c stop
   pub wide : IsWideSettling c stop w
 
--- why the look at an arrival of this number stops part way; nothing is said of memory
+-- why the look at an arrival of this number stops part way; nothing is claimed of out-of-memory
 abbrev pub IsLookFault : Content → StudyState → Arrival → ℕ → LooksFault → Type 0
 IsLookFault c old a n (Opening w) = ⊥
 IsLookFault c old a n (Arriving i w) = (i ≡ n) × IsWideLook c old a w
@@ -87,7 +87,7 @@ pub record BreaksOff (c : Content) (n : ℕ) (w : WideAt) : Type 0 where
   pub opened : IsDefined c start
   pub first : IsFirstWideLook c start 1 (arrivals_of c.inputs) n w
 
--- why there are no looks at a case; nothing is said of memory
+-- why there are no looks at a case; nothing is claimed of out-of-memory
 abbrev pub IsLooksFault : Content → LooksFault → Type 0
 IsLooksFault c (Opening w) = case_opening c ≡ Err w
 IsLooksFault c (Arriving n w) = BreaksOff c n w

@@ -45,8 +45,8 @@ pub record IsStage (c : Content) (t : ℕ) : Type 0 where
   pub first : 1 ≤ t
   pub last : t ≤ stages_in c.inputs
 
--- a p-value of a hypothesis may arrive: its stage is one of the case at which none of the hypothesis has arrived, and it is from 0 to 1
--- with a denominator of at most 10^30
+-- a p-value of a hypothesis may arrive: its stage is one of the case at which none of the hypothesis has arrived. It is from 0 to 1 with a
+-- denominator of at most 10^30
 pub record MayArrive (c : Content) (values : List Arrival) (a : Arrival) : Type 0 where
   pub below : a.hypothesis < length c.names
   pub stage : IsStage c a.stage

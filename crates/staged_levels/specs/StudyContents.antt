@@ -59,8 +59,8 @@ pub record MeetsAtStage (s : StudyContent) (k t : ℕ) (weight : Number) : Type 
   pub meets : MeetsAt (spend_at s.spends) (number_of s.alpha) s.looks.values k weight arrival
   pub stage : arrival.stage ≡ t
 
--- by the present state `k` may be rejected, at a stage: it is still in, and this is the least stage that has arrived at which it meets its
--- level at its present weight
+-- by the present state `k` may be rejected, at a stage: it remains, and this is the least arrived stage at which it meets its level at its present
+-- weight
 pub record MayRejectAt (t : StudyContent) (k stage : ℕ) : Type 0 where
   pub below : k < size_of t
   pub live : is_live_in_case t.state k ≡ true

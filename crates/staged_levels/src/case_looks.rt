@@ -111,11 +111,11 @@ fn look(
     Ok(added)
 }
 
-/// Returns the rejections that each arrival of a case brings, whose p-values are those of stages: the arrivals come in
-/// their order, and after each the first hypothesis that is legal is rejected, until none is.
+/// Returns the rejections that each arrival of a case brings, whose p-values are those of stages. The arrivals come in their
+/// order. After each, the first hypothesis that is legal is rejected, until none is legal.
 ///
-/// Unless out of memory, it is `LooksFault::Opening` exactly where the written opening is undefined, and
-/// `LooksFault::Arriving` exactly where it is defined and some removal isn't, at the first such arrival.
+/// Unless out of memory, it is `LooksFault::Opening` exactly if the written opening is undefined, and `LooksFault::Arriving`
+/// exactly if it is defined and some removal isn't, at the first such arrival.
 pub fn looks(alloc: Global, case: &Case) -> Result<List<List<Settled>>, LooksFault>
     requires { IsStaged (content case.now).inputs }
     ensures looks { IfOk result (AreLooks (content case.now)) }

@@ -36,7 +36,7 @@ pub enum SettleFault {
     Wide(WideAt),
 }
 
-/// A rejection: the hypothesis, by its position from 0, the least stage, from 1, that met the test at that moment, and the
+/// A rejection: the hypothesis, by its position from 0, and the least stage, from 1, that met the test at that moment. Also the
 /// weight at that moment, as a fraction of alpha.
 #[derive(Clone, Copy, PartialEq, Eq, Debug)]
 pub struct Settled {

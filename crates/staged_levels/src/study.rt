@@ -88,8 +88,8 @@ impl Study {
     /// Opens a case whose p-values are those of stages. Nothing has arrived yet, the arrivals of the case neither, and nothing
     /// is rejected.
     ///
-    /// Unless out of memory, it is `OpenFault::Wide` exactly where the written opening is undefined. All memory that a
-    /// study needs is taken here.
+    /// Unless out of memory, it is `OpenFault::Wide` exactly if the written opening is undefined. All memory that a study needs
+    /// is taken here.
     pub fn open(alloc: Global, case: &Case) -> Result<Study, OpenFault>
         requires { IsStaged (content case.now).inputs }
         ensures study { IfOk result (λ s. IsStudy (content case.now) (study s)) }
@@ -140,7 +140,7 @@ impl Study {
         self.values.as_slice()
     }
 
-    /// Whether `k` is still in.
+    /// Whether `k` remains.
     fn is_in(&self, k: usize) -> bool
         requires { k < size_of (study self.now) }
         ensures { result ≡ is_live_in_case (study self.now).state k }
@@ -201,7 +201,7 @@ impl Study {
         }
     }
 
-    /// Returns the least stage at which `k`, which is still in, may be rejected now, if there is one.
+    /// Returns the least stage at which `k`, which remains, may be rejected now, if there is one.
     fn first_stage(&self, k: usize) -> Option<usize>
         requires below { k < size_of (study self.now) }
         requires live { is_live_in_case (study self.now).state k ≡ true }
@@ -217,7 +217,7 @@ impl Study {
         None
     }
 
-    /// Returns the least stage at which `k` may be rejected now, where it is still in and there is one.
+    /// Returns the least stage at which `k` may be rejected now, if it remains and there is one.
     fn legal_stage(&self, k: usize) -> Option<usize>
         requires { k < size_of (study self.now) }
         ensures some { IfSome result (MayRejectAt (study self.now) k) }
@@ -280,8 +280,8 @@ impl Study {
         Ok(())
     }
 
-    /// Removes `k`, which may be rejected at this stage. It is `WideAt` exactly where the written removal is undefined; nothing
-    /// is changed then.
+    /// Removes `k`, which may be rejected at this stage. It is `WideAt` exactly if the written removal is undefined; nothing is
+    /// changed then.
     fn remove(&mut self, k: usize, stage: usize) -> Result<(), WideAt>
         requires { MayRejectAt (study self.old) k stage }
         ensures next { OnOk result (IsNextStudy (study self.old) k stage (study self.new)) }
@@ -299,7 +299,7 @@ impl Study {
         Ok(())
     }
 
-    /// Rejects `k` where it is legal.
+    /// Rejects `k` if it is legal.
     fn reject(&mut self, k: usize) -> Result<(), StepFault>
         requires { k < size_of (study self.old) }
         ensures study { (c : Content) → IsStudy c (study self.old) → IsStudy c (study self.new) }
@@ -323,11 +323,10 @@ impl Study {
 
     /// Lets a p-value arrive, or rejects a hypothesis, whose position is below the size.
     ///
-    /// An arrival is refused where its stage isn't one of the case (`StageRange`), where a p-value of the hypothesis has arrived
-    /// at it (`Known`), and where the p-value isn't from 0 to 1 with a denominator of at most 10^30 (`PRange`), tested in this
-    /// order. One for a hypothesis that is rejected is kept. A rejection is refused where the hypothesis was rejected before
-    /// (`Rejected`), where it isn't legal (`NotLegal`), and where its removal is undefined (`Wide`), tested in this order. A
-    /// refusal changes nothing.
+    /// An arrival is refused by the first of these. Its stage isn't one of the case (`StageRange`). A p-value of the hypothesis
+    /// has arrived at it (`Known`). The p-value isn't from 0 to 1 with a denominator of at most 10^30 (`PRange`). One for a
+    /// hypothesis that is rejected is kept. A rejection is refused if the hypothesis was rejected before (`Rejected`), if it
+    /// isn't legal (`NotLegal`), and if its removal is undefined (`Wide`), tested in this order. A refusal changes nothing.
     pub fn step(&mut self, event: Event) -> Result<(), StepFault>
         requires { hypothesis_of event < size_of (study self.old) }
         ensures study { (c : Content) → IsStudy c (study self.old) → IsStudy c (study self.new) }
@@ -349,7 +348,7 @@ impl Study {
 
     /// Rejects the first hypothesis that is legal, until none is. The values that have arrived stay.
     ///
-    /// Where the removal of the next one is undefined, it stops part way, and the rejections before it stay.
+    /// If the removal of the next one is undefined, it stops part way, and the rejections before it stay.
     pub fn settle(&mut self) -> Result<(), SettleFault>
         ensures study { (c : Content) → IsStudy c (study self.old) → IsStudy c (study self.new) }
         ensures call { (c : Content) → IsStudy c (study self.old)

@@ -26,7 +26,7 @@ pub record IsRepliedTo (c : Content) (n : ℕ) (old : StudyState) (command : Stu
   pub held_is : held ≡ with_looks kept (taken_in reply)
   pub text_is : written ≡ text ++ reply_lines c reply
 
--- Commands were replied to in this way, one after the other.
+-- Commands were replied to in this way, one after another.
 pub record AreRepliedTo (c : Content) (old : StudyState) (commands : List StudyCommand)
     (kept held : Option (List Look)) (text written : List ℕ) (new : StudyState) : Type 0 where
   pub replies : List Reply
@@ -34,7 +34,7 @@ pub record AreRepliedTo (c : Content) (old : StudyState) (commands : List StudyC
   pub held_is : held ≡ with_looks kept (looks_taken replies)
   pub text_is : written ≡ text ++ flat_map (reply_lines c) replies
 
--- looks are kept also that may have been taken where the call stopped part way
+-- looks are kept also that may have been taken if the call stopped part way
 pub record HoldSome (May : List Look → Type 0) (kept held : Option (List Look)) : Type 0 where
   pub more : List Look
   pub may : May more
@@ -47,7 +47,7 @@ StopsCommands c rose n old commands kept held (Wide place w) = HoldSome (λ look
 StopsCommands c rose n old commands kept held Fault = rose × HoldSome (MayTake c n old commands) kept held
 StopsCommands c rose n old commands kept held NoMemory = HoldSome (MayTake c n old commands) kept held
 
--- a fact where the keeper had no fault: a command stops part way, or memory was exhausted
+-- a fact if the keeper had no fault: a command stops part way, or memory was exhausted
 abbrev pub IfBroken : Type 0 → CommandStop → Type 0
 IfBroken p (Wide place w) = p
 IfBroken p Fault = Unit {0}
@@ -67,6 +67,6 @@ pub record MayTakeBehind (c : Content) (commands : List StudyCommand) (kept : Op
   pub opened : AreTaken c looks start
   pub may : MayTake c 1 start commands more
 
--- the looks that may be kept also where a call stops part way: none, or those that the commands before some place take
+-- the looks that may be kept also if a call stops part way: none, or those that the commands before some place take
 abbrev pub MayKeep : Content → List StudyCommand → Option (List Look) → List Look → Type 0
 MayKeep c commands kept more = (more ≡ []) ⊎ MayTakeBehind c commands kept more

@@ -12,7 +12,7 @@ use Rattle.study_answers.specs.declared.fault.CommandsFault.TheVariants.{Line, N
 abbrev pub IsFirstFault : List (List ℕ) → List ℕ → ℕ → LineKind → Type 0
 IsFirstFault names bytes number kind = HasFault (commands names) [] (rows_of bytes) (end_of bytes) (record { line = number; kind = kind })
 
--- why a text says no commands; nothing is said of out of memory
+-- why a text denotes no commands; nothing is claimed of out-of-memory
 abbrev pub IsCommandsFault : List (List ℕ) → List ℕ → CommandsFault → Type 0
 IsCommandsFault names bytes (Line number kind) = IsFirstFault names bytes number kind
 IsCommandsFault names bytes NoMemory = Unit {0}

@@ -26,7 +26,7 @@ abbrev pub IsCommandLine : List (List ℕ) → List ℕ → StudyCommand → Typ
 IsCommandLine names line (Take look) = IsLookLine names line look
 IsCommandLine names line Show = IsShowLine line
 
--- the lines of a text that aren't skipped say these commands, one each
+-- the lines of a text that aren't skipped denote these commands, one each
 abbrev pub AreCommands : List (List ℕ) → List ℕ → List StudyCommand → Type 0
 AreCommands names bytes commands = AllZip (IsCommandLine names) (texts_in (rows_of bytes)) commands
 

@@ -8,7 +8,7 @@ use Rattle.study_answers.specs.CommandLines.{AreCommands, IsCommandLine}
 use Rattle.study_answers.specs.CommandFaults.{IsFirstFault}
 use Rattle.study_answers.specs.declared.command.StudyCommand.{StudyCommand}
 
--- a text says at most one list of commands
+-- a text denotes at most one list of commands
 abbrev pub TextsSayOneList : Type 0
 TextsSayOneList = (names : List (List ℕ)) (bytes : List ℕ) (cs ds : List StudyCommand)
     → AreCommands names bytes cs → AreCommands names bytes ds → cs ≡ ds
@@ -28,12 +28,12 @@ abbrev pub TextsDontSayAndFail : Type 0
 TextsDontSayAndFail = (names : List (List ℕ)) (bytes : List ℕ) (cs : List StudyCommand) (n : ℕ) (kind : LineKind)
     → AreCommands names bytes cs → ¬ IsFirstFault names bytes n kind
 
--- lines that say these commands, one each, are of the language, and say them there
+-- lines that denote these commands, one each, are of the language, and say them there
 abbrev pub CommandsAreSaid : Type 0
 CommandsAreSaid = (names : List (List ℕ)) (lines : List (List ℕ)) (cs : List StudyCommand)
     → AllZip (IsCommandLine names) lines cs → IsDocument (commands names) [] lines cs
 
--- lines of the language say these commands, one each
+-- lines of the language denote these commands, one each
 abbrev pub SaidAreCommands : Type 0
 SaidAreCommands = (names : List (List ℕ)) (lines : List (List ℕ)) (cs : List StudyCommand)
     → IsDocument (commands names) [] lines cs → AllZip (IsCommandLine names) lines cs

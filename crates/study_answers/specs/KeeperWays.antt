@@ -14,9 +14,9 @@ use Rattle.study_register.specs.RegisterView.{study_in, looks_in, is_spent}
 use Rattle.study_answers.specs.AnswerView.{HoldSome, KeepWith}
 use Rattle.study_answers.specs.StudyStages.{StudyEnd, HasOpening, opened, on_looks}
 
--- The ways of a call that answers, over sources and a keeper. `May` says which looks may be added where the call stops by a fault of the
--- keeper or is out of memory. `read_rose` says that a source that is read had a fault, and `keeper_rose` that the keeper had one; `read_clean`
--- and `keeper_clean` say that their counts of faults stayed. `kept` and `held` are the looks that the keeper held and holds, if it exposes them.
+-- The ways of a call that answers, over sources and a keeper. `May` says which looks may be added if the call stops by a fault of the keeper or is
+-- out of memory. `read_rose` says that a source that is read had a fault, and `keeper_rose` that the keeper had one; `read_clean` and `keeper_clean`
+-- say that their counts of faults stayed. `kept` and `held` are the looks that the keeper held and holds, if it exposes them.
 abbrev pub over_keeper : Stage Refusal StudyEnd → (List Look → Type 0) → (read_rose keeper_rose read_clean keeper_clean : Type 0)
     → (kept held : Option (List Look)) → Ways Answer
 over_keeper s May read_rose keeper_rose read_clean keeper_clean kept held = record {

@@ -21,8 +21,8 @@ use Rattle.study_answers.specs.StudyStages.{StudyEnd, study_stage}
 abbrev pub StudiesHaveOneEnd : Type 0
 StudiesHaveOneEnd = (c : Content) (commands : List StudyCommand) (looks : List Look) → IsDecided (study_stage c commands looks)
 
--- The rejections of a state are those of the staged closed test on these looks, and whoever takes these looks again, in this order, comes
--- to the same rejections in the same order, with the same stages and weights.
+-- The rejections of a state are those of the staged closed test on these looks. Whoever takes these looks again, in this order, comes to the same
+-- rejections in the same order, with the same stages and weights.
 pub record DecidesOn (c : Content) (looks : List Look) (s : StudyState) : Type 0 where
   pub taken : AreTaken c looks s
   pub named : (j : ℕ) → IsListed (positions_of s.rejected) j ↔ IsStagedRejectedIn c (arrivals_of looks) j
@@ -40,16 +40,16 @@ pub record ShowsLooks (c : Content) (looks : List Look) (number : ℕ) (rejectio
   pub counted : number ≡ length looks
   pub named : (j : ℕ) → IsListed (positions_of rejections) j ↔ IsStagedRejectedIn c (arrivals_of looks) j
 
--- The answer is the report of these replies after the looks that were kept, its looks are those that they report as taken, and each
--- showing is of the looks that are kept by then.
+-- The answer is the report of these replies after the kept looks, and its looks are those that they report as taken. Each reply to `show` is about
+-- the looks that are kept by then.
 pub record IsReportOf (c : Content) (looks : List Look) (e : StudyEnd) (replies : List Reply) : Type 0 where
   pub answer_is : e.answer ≡ done (study_report c (length looks) replies)
   pub looks_are : e.looks ≡ looks_taken replies
   pub shows : (before after : List Reply) (number : ℕ) (rejections : List Settled) → replies ≡ before ++ shown number rejections ∷ after
       → ShowsLooks c (looks ++ looks_taken before) number rejections
 
--- Where all commands are answered, the keeper's looks at the end decide, and what is reported is the report of replies, each of which
--- shows what the looks decide that are kept by then.
+-- If all commands are answered, the keeper's looks at the end decide. What is reported is the report of replies, each of which shows what the looks
+-- decide that are kept by then.
 abbrev pub KeptLooksDecide : Type 0
 KeptLooksDecide =
     (c : Content) (commands : List StudyCommand) (looks : List Look) (e : StudyEnd) → IsValidContent c

@@ -56,7 +56,7 @@ fn opened<K: Keeper>(alloc: Global, case: &Case, keeper: &mut K) -> Result<Regis
     }
 }
 
-/// Returns the answer where a command stops part way.
+/// Returns the answer if a command stops part way.
 fn broken_off(alloc: Global, case: &Case, place: usize, wide: &WideAt) -> Result<Answer, NoMemory>
     ensures { IfOk result (λ answer. answer ≡ refused (wide_refusal (content case.now).names (AfterLook place) wide.now)) }
 {
@@ -75,12 +75,12 @@ fn ended(text: List<u8>) -> Result<Answer, NoMemory>
 
 /// Answers commands in a study of a case. The commands ask for looks of hypotheses of the case.
 ///
-/// First all looks that the keeper holds are taken in their order, and then the commands are replied to. A look that is taken by a
-/// command is put after those of the keeper. Where the settling after a look is undefined, the answer names the operation, and the
-/// looks before it stay kept.
+/// First all looks that the keeper holds are taken in their order, and then the commands are replied to. A look that is taken
+/// by a command is put after those of the keeper. If the settling after a look is undefined, the answer names the operation,
+/// and the looks before it stay kept.
 ///
-/// A refusal comes exactly where a kept look can't be taken, and then no look is added. The keeper is asked once the opening of the
-/// case is defined.
+/// A refusal comes exactly if a kept look can't be taken, and then no look is added. The keeper is asked once the opening of
+/// the case is defined.
 pub fn study_answer<K: Keeper>(
     alloc: Global,
     case: &Case,

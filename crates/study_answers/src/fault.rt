@@ -1,8 +1,8 @@
-//! Why a text says no commands.
+//! Why a text denotes no commands.
 use edge_text::LineKind;
 use field_core::NoMemory;
 
-/// Why a text says no commands.
+/// Why a text denotes no commands.
 #[derive(Clone, Copy, PartialEq, Eq, Debug)]
 pub enum CommandsFault {
     /// The first line that says no command, counted from 1 over all lines, and what is wrong with it.

@@ -9,21 +9,20 @@ pub fn studies_have_one_end()
     ensures { StudiesHaveOneEnd }
 {}
 
-/// By any commands that are answered to their end, the rejections are exactly those of the staged closed test on all
-/// looks that are kept then, in whatever order they came. Whoever opens these looks again has the same rejections in
-/// the same order. The text is the report of the replies, and each showing in it says how many looks are kept by then,
-/// and what is rejected on them.
+/// If commands are answered to their end, the rejections are exactly those of the staged closed test on all looks that are kept
+/// then, in whatever order they came. Whoever opens these looks again has the same rejections in the same order. The text is
+/// the report of the replies, and each showing in it says how many looks are kept by then, and what is rejected on them.
 pub fn kept_looks_decide()
     ensures replies { RepliesDecide }
     ensures end { KeptLooksDecide }
 {}
 
-/// Where commands stop part way, the looks that are kept also are the first of those that all of them take.
+/// If commands stop part way, the looks that are kept also are the first of those that all of them take.
 pub fn taken_looks_are_first()
     ensures { TakenLooksAreFirst }
 {}
 
-/// A text says one list of commands for hypotheses of these names, or has one first fault, and not both.
+/// A text denotes one list of commands for hypotheses of these names, or has one first fault, and not both.
 pub fn texts_are_decided()
     ensures commands { TextsSayOneList }
     ensures fault { TextsHaveOneFault }

@@ -2,12 +2,12 @@
 //! order.
 //!
 //! Proved:
-//! - `read_commands`: `found` (the lines of the text that aren't skipped say these commands, one each, `AreCommands`),
-//!   `below` (each look is of a hypothesis of the case), `fault` (the first line that says no command, with its number and
+//! - `read_commands`: `found` (the lines of the text that aren't skipped denote these commands, one each, `AreCommands`).
+//!   `below` (each look is of a hypothesis of the case). `fault` (the first line that denotes no command, with its number and
 //!   what is wrong with it, `IsFirstFault`).
-//! - `study_answer`: `ends` (`over_keeper`: it gives what the kept looks and the commands call for, `study_stage`, and the keeper
-//!   holds the looks of it too; it is refused only for the kept looks, and then no look is added; after a fault of the keeper, and
-//!   out of memory, the looks of the commands up to some place may be added), `later`.
+//! - `study_answer`: `ends` (`over_keeper`: it gives what the kept looks and the commands require, `study_stage`, and the
+//!   keeper holds its looks too). It is refused only for the kept looks, and then no look is added. After a fault of the
+//!   keeper, and out of memory, the looks of the commands up to some place may be added. `later`: no count of faults falls.
 //! - Laws in `src/laws.rt`:
 //!   - kept looks and commands have one answer; by any commands that are answered to their end, the rejections are those of the
 //!     staged closed test on all looks that are kept.

@@ -23,14 +23,14 @@ use Rattle.study_answers.specs.StudyStages.{StudyEnd, HasOpening, study_stage, o
 unfoldable pub study_needs : Needs
 study_needs = record { kind = Awaited; most = 64 }
 
--- the commands that a text says for a case, or the first line that says none
+-- the commands that a text denotes for a case, or the first line that says none
 abbrev pub commands_in : Content → List ℕ → Stage Refusal (List StudyCommand)
 commands_in c bytes = record {
   Gives = λ commands. AreCommands c.names bytes commands;
   Refuses = λ r. (n : ℕ) × (kind : LineKind) × IsFirstFault c.names bytes n kind × (r ≡ commands_refusal n kind);
 }
 
--- the case that a study asks for, where it can take it
+-- the case that a study asks for, if it can take it
 abbrev pub case_of : StudyAsked → Option (List ℕ) → Stage Refusal Content
 case_of asked case = accepted asked.form study_needs case
 
@@ -46,15 +46,15 @@ study_call asked case commands kept = and_then (case_of asked case) (λ c. and_t
 abbrev pub study_outcome : List (List ℕ) → Option (List ℕ) → Option (List ℕ) → Option (List Look) → Stage Refusal StudyEnd
 study_outcome words case commands kept = and_then (told_as usage (study_in words)) (λ asked. study_call asked case commands kept)
 
--- a case is said that a study can take
+-- the source denotes a case that a study can take
 abbrev pub IsStudied : StudyAsked → Option (List ℕ) → Type 0
 IsStudied asked case = (c : Content) × (case_of asked case).Gives c
 
--- also, commands are said
+-- also, the source denotes commands
 abbrev pub IsCommanded : StudyAsked → Option (List ℕ) → Option (List ℕ) → Type 0
 IsCommanded asked case commands = (c : Content) × (case_of asked case).Gives c × (list : List StudyCommand) × (commands_of c commands).Gives list
 
--- also, the looks that may be kept where the call stops part way
+-- also, the looks that may be kept if the call stops part way
 abbrev pub MayBeKept : StudyAsked → Option (List ℕ) → Option (List ℕ) → Option (List Look) → List Look → Type 0
 MayBeKept asked case commands kept more =
     (more ≡ []) ⊎ ((c : Content) × (case_of asked case).Gives c × (list : List StudyCommand)
@@ -85,7 +85,7 @@ ReadRose words case case_rose commands_rose = (ReadsCase words × case_rose) ⊎
 abbrev pub KeeperRose : List (List ℕ) → Option (List ℕ) → Option (List ℕ) → Type 0 → Type 0
 KeeperRose words case commands rose = (asked : StudyAsked) × AskStudy words asked × IsOpened asked case commands × rose
 
--- the looks that may be kept also where a call with these words stops part way
+-- the looks that may be kept also if a call with these words stops part way
 abbrev pub MayEnd : List (List ℕ) → Option (List ℕ) → Option (List ℕ) → Option (List Look) → List Look → Type 0
 MayEnd words case commands kept more = (more ≡ []) ⊎ ((asked : StudyAsked) × AskStudy words asked × MayBeKept asked case commands kept more)
 

@@ -1,8 +1,8 @@
 //! Laws of the outcome of studies.
 ghost use Rattle.study_cli.specs.StudyLaws.{StudiesHaveOneOutcome};
 
-/// Words, the bytes of a case and of commands, and kept looks have at most one outcome: one answer with the looks that
-/// it keeps also, or one refusal, and not both.
+/// Words, the bytes of a case and of commands, and kept looks have at most one outcome. It is one answer with the looks that
+/// are kept in addition, or one refusal, and not both.
 pub fn studies_have_one_outcome()
     ensures { StudiesHaveOneOutcome }
 {}

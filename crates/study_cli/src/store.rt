@@ -4,7 +4,7 @@ ghost use Rattle.study_cli.specs.StudyOutcome.{NamesStore};
 
 use command_words::read_study;
 
-/// Returns the path that the option `store` names, where the words ask a study for something.
+/// Returns the path that the option `store` names, if the words ask a study for something.
 pub fn store_path(words: &[String]) -> Option<&str>
     ensures path { IfSome result (λ path. NamesStore (map string_bytes words.now) path.now) }
     ensures none { result ≡ None → (path : List ℕ) → ¬ NamesStore (map string_bytes words.now) path }

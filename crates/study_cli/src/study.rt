@@ -44,7 +44,7 @@ fn study_needs() -> Needs
     Needs::new(InputKind::Awaited, 64)
 }
 
-/// Returns the commands that a text says for a case.
+/// Returns the commands that a text denotes for a case.
 fn commands_in(alloc: Global, case: &Case, bytes: &[u8]) -> Result<List<StudyCommand>, Stop>
     ensures ends { EndsIn (over_values (commands_in (content case.now) bytes.now)) result }
     ensures below { IfOk result (AllByRecursion (IsBelow (length (content case.now).names))) }
@@ -56,8 +56,8 @@ fn commands_in(alloc: Global, case: &Case, bytes: &[u8]) -> Result<List<StudyCom
     }
 }
 
-/// Returns what a study answers to a case, commands and kept looks. It takes from the commands only after a case that
-/// it can take, and asks the keeper only after commands that are all said.
+/// Returns what a study answers to a case, commands and kept looks. It takes from the commands only after a case that it can
+/// take, and asks the keeper only after all commands are accepted.
 #[tactic(auto, unfolding(crate::specs::StudyOutcome::study_call))]
 fn study_call<S: Source, T: Source, K: Keeper>(
     alloc: Global,
@@ -121,18 +121,17 @@ fn answer<S: Source, T: Source, K: Keeper>(
 }
 
 /// Makes a call of the program whose first word is `study`: all that it does. `words` are the words after the program's name,
-/// `case` is standard input, `commands` is the file that `file_word` names, `keeper` keeps the looks, and `out` gets
-/// the text of the answer, or one line that says why there is none. A source that isn't read stays as it was:
-/// `commands` is read only after a case that a study can take, and `keeper` is asked only after commands that are all
-/// said.
+/// `case` is standard input, and `commands` is the file that `file_word` names. `keeper` keeps the looks. `out` gets the text
+/// of the answer, or one line that says why there is none. A source that isn't read stays as it was. `commands` is read only
+/// after a case that a study can take, and `keeper` is asked only after all commands are accepted.
 ///
 /// First the looks that are kept are taken in their order. Then each command is replied to: a look that is taken is kept, and
 /// one that is refused changes nothing.
 ///
-/// Statuses: 0 done; 2 the words aren't accepted; 3 the case, the commands or a kept look are malformed, or the case
-/// has other p-values than those of stages of which none has arrived; 4 an input is past a limit; 5 a number of the
-/// case, of its opening or of the settling after a look is too wide; 6 a source that is read had a fault; 7 `out` had a
-/// fault; 8 memory was exhausted; 9 the keeper had a fault, after a case whose opening is defined.
+/// Statuses: 0 done; 2 the words aren't accepted. 3: the case, the commands or a kept look are malformed, or the case is not
+/// one of stages without arrivals. 4: an input is past a limit. 5: a number of the case, of its opening or of the settling
+/// after a look is too wide. 6: a source that is read had a fault. 7: `out` had a fault. 8: out of memory. 9: the keeper had a
+/// fault, after a case whose opening is defined.
 pub fn run_study<S: Source, T: Source, K: Keeper, W: Sink>(
     alloc: Global,
     words: &[String],

@@ -44,7 +44,7 @@ module _ (c : Content) where
     pub opened : IsDefined c start
     pub first : IsFirstStop start 1 looks why
 
-  -- why a register isn't opened, where a keeper holds looks and its count of faults rose or didn't
+  -- why a register isn't opened, if a keeper holds looks and its count of faults rose or didn't
   abbrev pub IsRegisterFault : Option (List Look) → Type 0 → RegisterFault → Type 0
   IsRegisterFault kept rose (BadLook n l) = OnLooks kept (λ looks. IsStopped looks (BadLook n l))
   IsRegisterFault kept rose (Wide n w) = ((n ≡ 0) × (case_opening c ≡ Err w)) ⊎ OnLooks kept (λ looks. IsStopped looks (Wide n w))
@@ -56,7 +56,7 @@ module _ (c : Content) where
   IsTakeFault s l (takings.Refused f) = IsArriveFault c s (arrival_of l) f
   IsTakeFault s l (takings.Wide w) = IsWideLook c s (arrival_of l) w
 
-  -- why a look isn't added; a keeper is asked only where the look can be taken
+  -- why a look isn't added; a keeper is asked only if the look can be taken
   abbrev pub IsAddFault : StudyState → Look → Type 0 → AddFault → Type 0
   IsAddFault s l rose (additions.Refused f) = IsArriveFault c s (arrival_of l) f
   IsAddFault s l rose (additions.Wide w) = IsWideLook c s (arrival_of l) w
@@ -72,45 +72,45 @@ module _ (c : Content) where
     pub rejections : AreFirstRejections c arrived rejected new
     pub wide : IsWideSettling c new w
 
-  -- what is left of a study that doesn't take a look: it stays where the arrival is refused
+  -- what is left of a study that doesn't take a look: it stays if the arrival is refused
   abbrev pub LeavesUntaken : StudyState → Look → StudyState → TakeFault → Type 0
   LeavesUntaken s l new (takings.Refused f) = new ≡ s
   LeavesUntaken s l new (takings.Wide w) = BreaksInto s l w new
 
-  -- what is left of a study where a look isn't added: the look is taken, where only the keeper doesn't hold it
+  -- what is left of a study if a look isn't added: the look is taken, if only the keeper doesn't hold it
   abbrev pub Leaves : StudyState → Look → StudyState → AddFault → Type 0
   Leaves s l new (additions.Refused f) = new ≡ s
   Leaves s l new (additions.Wide w) = BreaksInto s l w new
   Leaves s l new additions.Fault = Takes c s l new
   Leaves s l new additions.NoMemory = Takes c s l new
 
--- a fact where the keeper had no fault: the opening of the case or a look that is kept is refused, or memory was exhausted
+-- a fact if the keeper had no fault: the opening of the case or a look that is kept is refused, or memory was exhausted
 abbrev pub IfLooksRefused : Type 0 → RegisterFault → Type 0
 IfLooksRefused p (BadLook n l) = p
 IfLooksRefused p (Wide n w) = p
 IfLooksRefused p Fault = Unit {0}
 IfLooksRefused p NoMemory = p
 
--- a fact where the arrival was refused
+-- a fact if the arrival was refused
 abbrev pub IfNotTaken : Type 0 → TakeFault → Type 0
 IfNotTaken p (takings.Refused f) = p
 IfNotTaken p (takings.Wide w) = Unit {0}
 
--- a fact where the arrival was refused
+-- a fact if the arrival was refused
 abbrev pub IfRefused : Type 0 → AddFault → Type 0
 IfRefused p (additions.Refused f) = p
 IfRefused p (additions.Wide w) = Unit {0}
 IfRefused p additions.Fault = Unit {0}
 IfRefused p additions.NoMemory = Unit {0}
 
--- a fact where the keeper wasn't asked
+-- a fact if the keeper wasn't asked
 abbrev pub IfNotAsked : Type 0 → AddFault → Type 0
 IfNotAsked p (additions.Refused f) = p
 IfNotAsked p (additions.Wide w) = p
 IfNotAsked p additions.Fault = Unit {0}
 IfNotAsked p additions.NoMemory = Unit {0}
 
--- a fact where memory was exhausted
+-- a fact when out of memory
 abbrev pub IfMemory : Type 0 → AddFault → Type 0
 IfMemory p (additions.Refused f) = Unit {0}
 IfMemory p (additions.Wide w) = Unit {0}

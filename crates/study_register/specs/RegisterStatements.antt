@@ -53,7 +53,7 @@ TakenLooksAreNotStopped = (c : Content) (looks : List Look) (s : StudyState) (wh
 abbrev pub StopsAreUnique : Type 0
 StopsAreUnique = (c : Content) (looks : List Look) (f g : RegisterFault) → IsStopped c looks f → IsStopped c looks g → f ≡ g
 
--- Where the opening of the case is undefined, it is so at one place, and no looks are taken and none is the first that can't be.
+-- If the opening of the case is undefined, it is so at one place, and no looks are taken and none is the first that can't be.
 pub record IsNotOpened (c : Content) (w : WideAt) : Type 0 where
   pub unique : (v : WideAt) → case_opening c ≡ Err v → v ≡ w
   pub taken : (looks : List Look) (s : StudyState) → ¬ AreTaken c looks s
@@ -83,8 +83,8 @@ pub record HasOneEnd (c : Content) (s : StudyState) (l : Look) : Type 0 where
 abbrev pub LooksHaveOneEnd : Type 0
 LooksHaveOneEnd = (c : Content) (s : StudyState) (l : Look) → HasOneEnd c s l
 
--- Each look has an end: after looks that were taken it is taken, or it can't arrive, since it names no hypothesis of the case or its arrival is
--- refused, or it stops part way at a place.
+-- Each look has an end, after looks that were taken. It is taken; or it can't arrive, since it names no hypothesis of the case or its arrival is
+-- refused; or it stops part way at a place.
 abbrev pub EachLookEnds : Type 0
 EachLookEnds =
     (c : Content) (looks : List Look) (s : StudyState) (l : Look) → IsValidContent c → AreTaken c looks s

@@ -10,7 +10,7 @@ pub record Replied : Type 0 where
   pub look : Look
   pub taken : Bool
 
--- the look, where it was taken
+-- the look, if it was taken
 abbrev pub look_in : Look → Bool → List Look
 look_in l true = l ∷ []
 look_in l false = []

@@ -16,9 +16,8 @@ ghost use Rattle.study_register.specs.RegisterStatements.{
   EachLookEnds,
 };
 
-/// By whatever looks are requested, each of which is taken or refused, the rejections are exactly those of the staged
-/// closed test on all looks that were taken, in whatever order they came. The same looks in the same order give the
-/// same rejections again.
+/// Let looks be requested, each of which is taken or refused. The rejections are exactly those of the staged closed test on all
+/// looks that were taken, in whatever order they came. The same looks in the same order give the same rejections again.
 pub fn registers_decide()
     ensures one_more { OneMoreIsTaken }
     ensures replies { RepliesAreTaken }
@@ -27,8 +26,8 @@ pub fn registers_decide()
     ensures again { ReopeningsAgree }
 {}
 
-/// The opening of a register has one end: its looks are taken, or one of them is the first that can't be, for one reason, or the
-/// opening of the case is undefined. Of a valid case one of the three always holds.
+/// The opening of a register has one end. Its looks are taken, or one of them is the first that can't be, for one reason, or
+/// the opening of the case is undefined. Of a valid case one of the three always holds.
 pub fn openings_have_one_end()
     ensures taken { TakenLooksAreNotStopped }
     ensures stopped { StopsAreUnique }

@@ -47,11 +47,11 @@ impl Register {
     /// Opens a case whose p-values are those of stages, and takes all looks of a keeper in their order: each arrives, and then the
     /// study is settled. The arrivals of the case itself don't count. The looks of the keeper stay.
     ///
-    /// Unless out of memory or the keeper fails: it is `RegisterFault::Wide` at 0 exactly where the written opening is
-    /// undefined; else it is, at the first look that can't be taken, `RegisterFault::BadLook` exactly where it names no
-    /// hypothesis of the case or its arrival is refused, and `RegisterFault::Wide` exactly where its settling stops
-    /// part way. Places count from 1. It is `RegisterFault::Fault` only where the case was opened and the keeper's
-    /// count rose in this call; with each other answer the count stays.
+    /// Faults, unless out of memory or the keeper fails. It is `RegisterFault::Wide` at 0 exactly if the written opening is
+    /// undefined. Else the first look that can't be taken is named. It is `RegisterFault::BadLook` exactly if that look names
+    /// no hypothesis of the case or its arrival is refused. It is `RegisterFault::Wide` exactly if its settling stops part way.
+    /// Places count from 1. It is `RegisterFault::Fault` only if the case was opened and the keeper's count rose in this call;
+    /// with each other answer the count stays.
     pub fn open<K: Keeper>(
         alloc: Global,
         case: &Case,
@@ -107,8 +107,8 @@ impl Register {
         self.study.values().len() + 1
     }
 
-    /// Returns the rejections in their order, each with its stage and its weight at its moment. Where these looks were
-    /// taken, whatever their order, they are exactly those of the staged closed test on them.
+    /// Returns the rejections in their order, each with its stage and its weight at its moment. If these looks were taken,
+    /// whatever their order, they are exactly those of the staged closed test on them.
     pub fn settled(&self) -> &[Settled]
         ensures value { result.now ≡ (looks_in self.now).rejected }
         ensures decides { (c : Content) (looks : Seq Kept) (j : ℕ) → IsValidContent c
@@ -121,11 +121,11 @@ impl Register {
     /// Lets a look of a hypothesis of the case arrive, settles the study, and only then puts the look after those of
     /// the keeper. The register isn't spent.
     ///
-    /// It is `AddFault::Refused` exactly where the arrival is refused, and then all is unchanged. It is
-    /// `AddFault::Wide` exactly where the settling stops part way, `AddFault::Fault` only where the look was taken and
-    /// the keeper's count rose in this call, and `AddFault::NoMemory` where the keeper has no memory for it, and its
-    /// count stays. After these three the looks of the keeper are unchanged, and the register is spent: after `Wide`
-    /// the look has arrived, and the rejections before the undefined one stay; after the other two the look is taken.
+    /// It is `AddFault::Refused` exactly if the arrival is refused, and then all is unchanged. It is `AddFault::Wide` exactly
+    /// if the settling stops part way. It is `AddFault::Fault` only if the look was taken and the keeper's count rose in this
+    /// call. It is `AddFault::NoMemory` if the keeper has no memory for it, and its count stays. After these three the looks of
+    /// the keeper are unchanged, and the register is spent. After `Wide` the look has arrived, and the rejections before the
+    /// undefined one stay. After the other two the look is taken.
     pub fn add<K: Keeper>(
         &mut self,
         alloc: Global,

@@ -33,8 +33,8 @@ fn event_of(look: &Look) -> Event
     )
 }
 
-/// Lets a look of a hypothesis of the case arrive, and settles the study. A refused arrival changes nothing. Where the
-/// settling stops part way, the look has arrived, and the rejections before that stay.
+/// Lets a look of a hypothesis of the case arrive, and settles the study. A refused arrival changes nothing. If the settling
+/// stops part way, the look has arrived, and the rejections before that stay.
 pub(crate) fn take(current: &mut Study, look: &Look) -> Result<(), TakeFault>
     requires { look.now.hypothesis < size_of (study current.old) }
     ensures study { (c : Content) → IsStudy c (study current.old) → IsStudy c (study current.new) }

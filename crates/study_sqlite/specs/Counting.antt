@@ -17,7 +17,7 @@ abbrev pub IsCounted : ℕ → ℕ → FileFault → KeeperFault → Type 0
 IsCounted before now Refused told = (told ≡ Fault) × (now ≡ count_up before)
 IsCounted before now files.NoMemory told = (told ≡ NoMemory) × (now ≡ before)
 
--- what holds where a fault is reported; memory may run out at any time
+-- what holds if a fault is reported; memory may run out at any time
 abbrev pub OnFault : Type 0 → KeeperFault → Type 0
 OnFault P Fault = P
 OnFault P NoMemory = ⊤

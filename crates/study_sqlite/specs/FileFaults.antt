@@ -18,7 +18,7 @@ abbrev pub fault_of_rows : RowsFault → FileFault
 fault_of_rows (rows.Bad place) = files.Refused
 fault_of_rows rows.NoMemory = files.NoMemory
 
--- what holds where a file was refused; memory may run out at any time
+-- what holds if a file was refused; memory may run out at any time
 abbrev pub OnRefusal : Type 0 → FileFault → Type 0
 OnRefusal P files.Refused = P
 OnRefusal P files.NoMemory = ⊤

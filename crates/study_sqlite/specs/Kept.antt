@@ -9,7 +9,7 @@ use Rattle.study_sqlite.specs.Rows.{IsRowOf, AreRows}
 use Rattle.study_sqlite.specs.Statements.{make_sql, put_sql, values_of, Ran, RanInto, ShowedRows, AreRowsRefused}
 
 module _ {S : Type 0} (g : Ghosts S) (before after : Held S) where
-  -- The looks are those of all rows: the table was made where it wasn't there, and then its rows were shown.
+  -- The looks are those of all rows: the table was made if it wasn't there, and then its rows were shown.
   pub record AreKept (looks : List Look) : Type 0 where
     pub middle : Held S
     pub rows : List LookRow
@@ -17,7 +17,7 @@ module _ {S : Type 0} (g : Ghosts S) (before after : Held S) where
     pub shown : ShowedRows (state g middle) (state g after) rows
     pub read : AreRows rows looks
 
-  -- The row of the look was put after the others: the table was made where it wasn't there, and then the row was put there.
+  -- The row of the look was put after the others: the table was made if it wasn't there, and then the row was put there.
   pub record IsPut (look : Look) : Type 0 where
     pub middle : Held S
     pub row : LookRow
@@ -29,7 +29,7 @@ module _ {S : Type 0} (g : Ghosts S) (before after : Held S) where
   abbrev pub IsTableRefused : Type 0
   IsTableRefused = RanInto (state g before) (state g after) make_sql [] Refused
 
-  -- the table was made where it wasn't there, and then its rows gave no looks
+  -- the table was made if it wasn't there, and then its rows gave no looks
   pub record AreMadeRowsRefused : Type 0 where
     pub middle : Held S
     pub made : Ran (state g before) (state g middle) make_sql []
@@ -39,7 +39,7 @@ module _ {S : Type 0} (g : Ghosts S) (before after : Held S) where
   abbrev pub AreLooksRefused : Type 0
   AreLooksRefused = IsTableRefused ⊎ AreMadeRowsRefused
 
-  -- the table was made where it wasn't there, and then the statement that puts the row of the look gave an error
+  -- the table was made if it wasn't there, and then the statement that puts the row of the look gave an error
   pub record IsRowRefused (look : Look) : Type 0 where
     pub middle : Held S
     pub row : LookRow

@@ -24,11 +24,11 @@ IsRowOf row look = IsRow row.hypothesis row.stage row.p look
 abbrev pub AreRows : List LookRow → List Look → Type 0
 AreRows rows looks = AllZip IsRowOf rows looks
 
--- a row of no look
+-- a row that is not the row of a look
 abbrev pub IsOfNone : LookRow → Type 0
 IsOfNone row = (look : Look) → ¬ IsRowOf row look
 
--- The row at a place, counted from 1, is that of no look, and those before it are rows of looks.
+-- The row at a place, counted from 1, is not the row of a look, and those before it are rows of looks.
 pub record IsFirstBad (rows : List LookRow) (place : ℕ) : Type 0 where
   pub before : List LookRow
   pub row : LookRow

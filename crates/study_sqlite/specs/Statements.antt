@@ -12,7 +12,7 @@ use Rattle.study_sqlite.specs.declared.row.LookRow.{LookRow}
 use Rattle.study_sqlite.specs.FileFaults.{fault_of_error}
 use Rattle.study_sqlite.specs.Rows.{IsRowOf}
 
--- the table is made where it isn't there
+-- the table is made if it isn't there
 abbrev pub make_sql : List ℕ
 make_sql = codes "CREATE TABLE IF NOT EXISTS looks (place INTEGER PRIMARY KEY, hypothesis INTEGER NOT NULL, stage INTEGER NOT NULL, p TEXT NOT NULL, UNIQUE (hypothesis, stage))"
 
@@ -34,7 +34,7 @@ pub record IsShownAs (shown : Row) (row : LookRow) : Type 0 where
   pub stage : column shown 1 ≡ Int row.stage
   pub p : column shown 2 ≡ Text row.p
 
--- a row of an answer shows the row of no look
+-- a row of an answer shows a row that is not the row of a look
 abbrev pub ShowsNoLook : Row → Type 0
 ShowsNoLook shown = (row : LookRow) (look : Look) → IsShownAs shown row → ¬ IsRowOf row look
 
@@ -55,7 +55,7 @@ module _ (old new : State) where
   abbrev pub IsQueryRefused : Type 0
   IsQueryRefused = (error : Error) × (fault_of_error error ≡ Refused) × FailsToQuery rows_sql [] old new error
 
-  -- a row that the query showed is that of no look
+  -- a row that the query showed is not the row of a look
   abbrev pub ShowedNoLook : Type 0
   ShowedNoLook = (answer : List Row) × (shown : Row) × Shown rows_sql [] old new answer × Contains answer shown × ShowsNoLook shown
 

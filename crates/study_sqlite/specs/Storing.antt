@@ -36,8 +36,8 @@ abbrev pub IsOpenedFrom : Storage → Storage → Type 0
 IsOpenedFrom (Opened connection) now = now ≡ Opened connection
 IsOpenedFrom (Unopened rt path) now = IsOpened now
 
--- The looks are those of the file, by its connection before and after: the one before is that of a file that was open, or one that
--- an opening gave, of which no clause says what its path is.
+-- The looks are those of the file, by its connection before and after. The one before is that of an open file, or one that an opening gave. No clause
+-- says what its path is.
 abbrev pub AreLoaded : Storage → Storage → List Look → Type 0
 AreLoaded old new looks =
     (before : _) × (after : _) × IsOpenedFrom old (Opened before) × (new ≡ Opened after)
@@ -60,7 +60,7 @@ abbrev pub IsNotOpened : Storage → Storage → Type 0
 IsNotOpened (Opened connection) now = ⊥
 IsNotOpened (Unopened rt path) now = now ≡ Unopened rt path
 
--- why a file gave no looks: its opening was refused, a statement gave an error, or a row that it showed is that of no look
+-- why a file gave no looks: its opening was refused, a statement gave an error, or a row that it showed is not the row of a look
 abbrev pub IsLoadRefused : Storage → Storage → Type 0
 IsLoadRefused old new =
     IsNotOpened old new

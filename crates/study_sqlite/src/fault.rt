@@ -5,7 +5,7 @@ use sqlite::{Error, ErrorCode};
 /// Why rows gave no looks.
 #[derive(Clone, Copy, PartialEq, Eq, Debug)]
 pub enum RowsFault {
-    /// The row at this place, counted from 1, is that of no look, and it is the first such row.
+    /// The row at this place, counted from 1, is not the row of a look, and it is the first such row.
     Bad(usize),
     /// Out of memory.
     NoMemory,

@@ -8,7 +8,8 @@ use field_core::List;
 use graph_io::{Keeper, KeeperFault, Look};
 use std::alloc::Global;
 
-/// Looks in a file. They aren't told; each call that meets a refused statement, or a row that is that of no look, is counted.
+/// Looks in a file. They aren't reported. Each call that meets a refused statement, or a row that is not the row of a look, is
+/// counted.
 #[derive(Drop)]
 pub struct SqliteKeeper {
     storage: Storage,
@@ -32,8 +33,8 @@ impl SqliteKeeper {
         }
     }
 
-    /// Returns a keeper over the file at this path. The first call opens it, and makes it where it isn't there; until
-    /// then nothing is read of it or written to it.
+    /// Returns a keeper over the file at this path. The first call opens it, and makes it if it isn't there; until then nothing
+    /// is read of it or written to it.
     pub fn at(rt: &HostRuntime, path: String) -> SqliteKeeper
         ensures storage { storage_of result ≡ Unopened rt.now path }
         ensures faults { fault_count result ≡ 0 }
@@ -44,10 +45,9 @@ impl SqliteKeeper {
         }
     }
 
-    /// Copies what the log beside the file holds into the file, where it was opened, and gives both back; they
-    /// are closed when they are let go. The last commit is in the file then, without the log and also after a crash, as
-    /// long as the disk returned what was written. Where that is refused, the log still holds it, and the next opening
-    /// finds it there.
+    /// Copies what the log beside the file holds into the file, if it was opened, and gives both back; they are closed when
+    /// they are let go. The last commit is in the file then, without the log and also after a crash, as long as the disk
+    /// returned what was written. If that is refused, the log still holds it, and the next opening finds it there.
     pub fn close(self) -> Result<Closed, FileFault>
         ensures closed { IfOk result (IsClosed (storage_of self)) }
         ensures why { IfErr result (IsCloseFault (storage_of self)) }
@@ -82,8 +82,8 @@ impl Keeper for SqliteKeeper {
 
     ghost counted = { λ k. k.in_range };
 
-    /// A fault is reported only where the file isn't open then, a statement gave an error, or a row that the file
-    /// showed is that of no look, as long as the disk returned what was written.
+    /// Appends the looks of the file to a list. A fault is reported only if the file isn't open then, a statement gave an
+    /// error, or the file showed a row that is not the row of a look. This holds as long as the disk returned what was written.
     fn load(&mut self, alloc: Global, into: &mut List<Look>) -> Result<(), KeeperFault>
         ensures loaded { OnOk result (Loads None into.old into.new) }
         ensures unchanged { OnErr result (into.new ≡ into.old) }
@@ -98,8 +98,8 @@ impl Keeper for SqliteKeeper {
         Ok(())
     }
 
-    /// A fault is reported only where the file isn't open then or a statement gave an error, as long as the disk
-    /// returned what was written.
+    /// Puts a look into the file. A fault is reported only if the file isn't open then or a statement gave an error, as long as
+    /// the disk returned what was written.
     fn append(&mut self, alloc: Global, look: &Look) -> Result<(), KeeperFault>
         ensures cause { IsCaused (fault_count self.old) (fault_count self.new) result }
         ensures look { OnOk result (IsAppended (storage_of self.old) (storage_of self.new) look.now) }

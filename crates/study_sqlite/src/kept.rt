@@ -11,7 +11,8 @@ use graph_io::Look;
 use sqlite::{Alter, Connection};
 use std::alloc::Global;
 
-/// Returns the looks of all rows. They are refused only where a statement gives an error, or for a row that is that of no look.
+/// Returns the looks of all rows. They are refused only if a statement gives an error, or for a row that is not the row of a
+/// look.
 pub fn looks_in<S: Alter>(
     alloc: Global,
     connection: &mut Connection<S>,
@@ -26,7 +27,7 @@ pub fn looks_in<S: Alter>(
     Ok(read_rows(alloc, rows.as_slice())?)
 }
 
-/// Puts the row of a look after the others. It is refused only where a statement gives an error.
+/// Puts the row of a look after the others. It is refused only if a statement gives an error.
 pub fn keep_in<S: Alter>(
     alloc: Global,
     connection: &mut Connection<S>,

@@ -13,7 +13,7 @@ pub fn rows_and_looks_correspond()
     ensures row { LooksHaveOneRow }
 {}
 
-/// Rows are read as one list of looks, or have one first row that is that of no look, and not both.
+/// Rows are read as one list of looks, or have one first row that is not the row of a look, and not both.
 pub fn rows_have_one_reading()
     ensures read { RowsAreReadOneWay }
     ensures fault { RowsHaveOneFault }

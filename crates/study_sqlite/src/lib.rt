@@ -1,31 +1,30 @@
 //! Looks kept in a file by SQL.
 //!
 //! Proved:
-//! - `to_row`: `row` (the row of the look, `IsRow`). `from_row`: `found`, `only`, `other` (a look exactly where the three
-//!   values are the row of one, and that look).
-//! - `read_rows`: `read` (the looks of the rows, in their order), `fault` (the first row that is that of no look).
-//! - Statements of `table`, over any connection, by what it showed before and after and as long as the disk returned
-//!   what was written: `make` and `put` ran `make_sql` and `put_sql` with the values of the row, or report the error
-//!   that it gave (`made`, `ran`, `why`); `rows` are the rows of the answer to `rows_sql`, in its order (`shown`), and
-//!   are refused only where that gave an error or showed a row that is that of no look (`why`). What the statements do
-//!   to a table is the meaning that the crate `sqlite` gives their texts (`Executes`, `Shown`, `FailsToQuery`).
+//! - `to_row`: `row` (the row of the look, `IsRow`). `from_row`: `found`, `only`, `other` (a look exactly if the three values
+//!   are the row of one, and that look).
+//! - `read_rows`: `read` (the looks of the rows, in their order), `fault` (the first row that is not the row of a look).
+//! - Statements of `table`, over any connection, by what it showed before and after and as long as the disk returned what was
+//!   written. `make` and `put` ran `make_sql` and `put_sql` with the values of the row, or report the error that it gave
+//!   (`made`, `ran`, `why`). `rows` are the rows of the answer to `rows_sql`, in its order (`shown`). They are refused only if
+//!   that gave an error or showed a row that is not the row of a look (`why`). What the statements do to a table is the meaning
+//!   that the crate `sqlite` gives their texts (`Executes`, `Shown`, `FailsToQuery`).
 //! - `looks_in` and `keep_in` of `kept`: the table is made, and then all rows are shown and read, or the row of the look is put
-//!   there (`kept`, `put`); they are refused only where one of the two statements was, or for a row that is that of no look
+//!   there (`kept`, `put`). They are refused only if one of the two statements was, or for a row that is not the row of a look
 //!   (`why`).
-//! - `SqliteKeeper` is a `Keeper` that doesn't expose its looks: a fault comes only where its count rose, and else the
-//!   count stays; a refused load leaves the list as it was. Where `load` goes well, the looks of all rows that the file
-//!   showed stand after the others (`looks`), and where `append` does, the row of the look was put into the file
-//!   (`look`). Both report a fault only where the file isn't open then, a statement gave an error, or, of `load`, a row
-//!   that the file showed is that of no look (`why`). Each refusal of the file is reported as a fault, and out of
-//!   memory as such (`counted`). One that is made `at` a path opens nothing before its first call, and a `new` one is
-//!   over its connection (`storage`). Its `close` gives back the log and the database file of a connection, whose last
-//!   commit is in the database file then, alone and also after a crash (`closed`), or reports an error of the
-//!   connection's close (`why`); a file that was never opened has neither.
-//! - Laws in `src/laws.rt`: rows and looks correspond one to one (`rows_and_looks_correspond`), and rows are the looks they
-//!   are read as or have one first bad row, and not both (`rows_have_one_reading`).
+//! - `SqliteKeeper` is a `Keeper` that doesn't expose its looks. A fault comes only if its count rose, and else the count
+//!   stays. A refused load leaves the list as it was. After a successful `load`, the looks of all rows that the file showed
+//!   follow the others (`looks`). After a successful `append`, the row of the look was put into the file (`look`). Both report
+//!   a fault only if the file isn't open then, or a statement gave an error. `load` also reports one if the file showed a row
+//!   that is not the row of a look (`why`). Each refusal of the file is reported as a fault, and out of memory as such
+//!   (`counted`). One that is made `at` a path opens nothing before its first call, and a `new` one is over its connection
+//!   (`storage`). Its `close` gives back the log and the database file of a connection, or reports an error of the connection's
+//!   close (`why`). The last commit is in the database file then, alone and also after a crash (`closed`). For a file that was
+//!   never opened there is neither.
+//! - Laws in `src/laws.rt`: rows and looks correspond one to one (`rows_and_looks_correspond`). Rows are read as looks in one
+//!   way, or have one first bad row, and not both (`rows_have_one_reading`).
 //!
-//! Only tested: that the file is the one at the path, and that its opening, and its close, are refused only where they have
-//! to be.
+//! Only tested: that the file is the one at the path, and that its opening, and its close, are refused only if they have to be.
 #![tactic(auto)]
 
 mod closed;

@@ -13,7 +13,7 @@ use field_core::{Ratio, gcd};
 use itoa::Buffer;
 use std::str;
 
-/// Returns the fraction that is printed as this text: `n`, or `n/d` where the denominator isn't 1, in lowest terms.
+/// Returns the fraction that is printed as this text: `n`, or `n/d` if the denominator isn't 1, in lowest terms.
 pub fn printed_ratio(text: &[u8]) -> Option<Ratio>
     ensures found { IfSome result (λ x. text.now ≡ spelling (terms x)) }
     ensures only { (x : Ratio) → text.now ≡ spelling (terms x) → result ≡ Some x }
@@ -22,7 +22,7 @@ pub fn printed_ratio(text: &[u8]) -> Option<Ratio>
     lowest_ratio(num, den)
 }
 
-/// Returns the fraction of these parts, where they are in lowest terms.
+/// Returns the fraction of these parts, if they are in lowest terms.
 fn lowest_ratio(num: i128, den: i128) -> Option<Ratio>
     ensures found { IfSome result (λ x. terms x ≡ record { num = num; den = den }) }
     ensures only { (x : Ratio) → terms x ≡ record { num = num; den = den } → result ≡ Some x }
@@ -56,7 +56,7 @@ fn printed_denominator(text: &[u8]) -> Option<i128>
     if den == 1 { None } else { Some(den) }
 }
 
-/// Returns what stands before the first slash, and after it where there is one.
+/// Returns what is before the first slash, and after it if there is one.
 fn split_slash(text: &[u8]) -> (&[u8], Option<&[u8]>)
     ensures front { HasNoSlash result.0.now }
     ensures whole { MatchOption result.1 (text.now ≡ result.0.now) (λ under. text.now ≡ result.0.now ++ 47 ∷ under.now) }
@@ -80,7 +80,7 @@ fn printed_number(text: &[u8]) -> Option<i128>
     }
 }
 
-/// Returns the number that a text writes in any way, at least where it is printed so.
+/// Returns the number that a text writes in any way, at least if it is printed so.
 fn parsed_number(text: &[u8]) -> Option<i128>
     ensures { (n : ℤ) → FitsSigned w128 n → text.now ≡ signed_decimal n → result ≡ Some n }
 {

@@ -32,7 +32,7 @@ pub fn to_row(alloc: Global, look: &Look) -> Result<LookRow, NoMemory>
     })
 }
 
-/// Returns the look whose row has these values, or nothing where they are the row of none.
+/// Returns the look whose row has these values, or nothing if they are not the row of a look.
 pub fn from_row(hypothesis: i64, stage: i64, p: &[u8]) -> Option<Look>
     ensures found { IfSome result (IsRow hypothesis stage p.now) }
     ensures only { (look : Look) → IsRow hypothesis stage p.now look → result ≡ Some look }

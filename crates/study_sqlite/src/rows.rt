@@ -22,7 +22,7 @@ pub fn read_rows(alloc: Global, rows: &[LookRow]) -> Result<List<Look>, RowsFaul
     Ok(looks)
 }
 
-/// Returns the look of a row, or nothing where it is that of none.
+/// Returns the look of a row, or nothing if it is not the row of a look.
 fn look_of(row: &LookRow) -> Option<Look>
     ensures found { IfSome result (IsRowOf row.now) }
     ensures other { IfNone result (IsOfNone row.now) }

@@ -28,7 +28,7 @@ pub enum Storage {
 }
 
 impl Storage {
-    /// Opens the file where it isn't open. Where that is refused, it stays unopened.
+    /// Opens the file if it isn't open. If that is refused, it stays unopened.
     fn open(&mut self) -> Result<(), FileFault>
         ensures opened { OnOk result (IsOpenedFrom self.old self.new) }
         ensures why { OnErr result (IsNotOpened self.old self.new) }
@@ -40,8 +40,8 @@ impl Storage {
         Ok(())
     }
 
-    /// Returns the looks in the file, which is opened where it isn't open. They are refused only where the opening is,
-    /// where a statement gives an error, or for a row that is that of no look.
+    /// Returns the looks in the file, which is opened if it isn't open. They are refused only if the opening is, if a statement
+    /// gives an error, or for a row that is not the row of a look.
     pub fn looks(&mut self, alloc: Global) -> Result<List<Look>, FileFault>
         ensures loaded { IfOk result (AreLoaded self.old self.new) }
         ensures why { IfErr result (OnRefusal (IsLoadRefused self.old self.new)) }
@@ -53,8 +53,8 @@ impl Storage {
         }
     }
 
-    /// Puts the row of a look into the file, which is opened where it isn't open. It is refused only where the opening is, or
-    /// where a statement gives an error.
+    /// Puts the row of a look into the file, which is opened if it isn't open. It is refused only if the opening is, or if a
+    /// statement gives an error.
     pub fn keep(&mut self, alloc: Global, look: &Look) -> Result<(), FileFault>
         ensures appended { OnOk result (IsAppended self.old self.new look.now) }
         ensures why { IfErr result (OnRefusal (IsAppendRefused self.old self.new look.now)) }
@@ -66,7 +66,7 @@ impl Storage {
         }
     }
 
-    /// Copies the log into the file where it was opened, and gives both back; they are closed when they are let go.
+    /// Copies the log into the file if it was opened, and gives both back; they are closed when they are let go.
     pub fn close(self) -> Result<Closed, FileFault>
         ensures closed { IfOk result (IsClosed self) }
         ensures why { IfErr result (IsCloseFault self) }

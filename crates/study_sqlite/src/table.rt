@@ -28,14 +28,14 @@ use std::str;
 /// A connection to a file.
 pub type FileConnection = Connection<FileStore<File>>;
 
-/// Opens a file, and makes it where it isn't there.
+/// Opens a file, and makes it if it isn't there.
 pub fn open(rt: &HostRuntime, path: &str) -> Result<FileConnection, FileFault>
     ensures opened { IfOk result (λ connection. HasCleanDisk (file_state connection) → IsOpened connection) }
 {
     Ok(Connection::open(rt, path)?)
 }
 
-/// Makes the table where it isn't there.
+/// Makes the table if it isn't there.
 pub fn make<S: Alter>(connection: &mut Connection<S>) -> Result<(), FileFault>
     ensures clean { HasCleanDisk (state S.Store connection.new) → HasCleanDisk (state S.Store connection.old) }
     ensures made { HasCleanDisk (state S.Store connection.new)
@@ -50,8 +50,8 @@ pub fn make<S: Alter>(connection: &mut Connection<S>) -> Result<(), FileFault>
     Ok(())
 }
 
-/// All rows, in the order in which they were put there. They are refused only where the query gives an error, or for a row
-/// that is that of no look.
+/// Returns all rows, in the order in which they were put there. They are refused only if the query gives an error, or for a row
+/// that is not the row of a look.
 pub fn rows<S: Alter>(
     alloc: Global,
     connection: &mut Connection<S>,
@@ -66,7 +66,7 @@ pub fn rows<S: Alter>(
     look_rows(alloc, found.as_slice())
 }
 
-/// Returns the values of each row of an answer. They are refused only for a row that is that of no look.
+/// Returns the values of each row of an answer. They are refused only for a row that is not the row of a look.
 fn look_rows(alloc: Global, answer: &[Row]) -> Result<List<LookRow>, FileFault>
     ensures shown { IfOk result (AllZip IsShownAs answer.now) }
     ensures why { IfErr result (OnRefusal ((shown : _) × Contains answer.now shown × ShowsNoLook shown)) }
@@ -78,7 +78,7 @@ fn look_rows(alloc: Global, answer: &[Row]) -> Result<List<LookRow>, FileFault>
     Ok(rows)
 }
 
-/// Returns the values of a row, which is refused only where it is that of no look.
+/// Returns the values of a row, which is refused only if it is not the row of a look.
 fn look_row(alloc: Global, row: &Row) -> Result<LookRow, FileFault>
     ensures shown { IfOk result (IsShownAs row.now) }
     ensures why { IfErr result (OnRefusal (ShowsNoLook row.now)) }

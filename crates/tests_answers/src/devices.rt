@@ -61,7 +61,7 @@ fn writes_what_fits(rt: HostRuntime) -> Result<(), Fail> {
     Ok(())
 }
 
-/// Whether a sink that grows holds each piece whole, one after the other.
+/// Whether a sink that grows holds each piece whole, one after another.
 #[test]
 fn holds_a_whole_text(rt: HostRuntime) -> Result<(), Fail> {
     let alloc = rt.alloc();

@@ -14,7 +14,7 @@ use std::alloc::Global;
 use std::process::Abort;
 use std::test::Fail;
 
-/// Three names.
+/// Returns three names.
 fn names(alloc: Global) -> Result<List<Text>, NoMemory> {
     let mut names = List::new(alloc);
     names.push(Text::copy(alloc, b"H1")?)?;
@@ -23,13 +23,13 @@ fn names(alloc: Global) -> Result<List<Text>, NoMemory> {
     Ok(names)
 }
 
-/// An answer has this status, and this text.
+/// Asserts that an answer has this status, and this text.
 fn expect(rt: &impl Abort, answer: &Refusal, status: u8, text: &str) {
     expect_text(rt, answer.line.as_slice(), text);
     assert!(rt; answer.cause.code() == status, "{text}");
 }
 
-/// A line is this text.
+/// Asserts that a line is this text.
 fn expect_text(rt: &impl Abort, line: &[u8], text: &str) {
     assert!(rt; line == text.as_bytes(), "{text}");
 }
@@ -262,7 +262,7 @@ const BEGINNINGS: &[(When, &str)] = &[
     ),
 ];
 
-/// An answer is this status, and the two texts in turn.
+/// Asserts that an answer is this status, and the two texts in turn.
 fn expect_both(
     rt: &impl Abort,
     alloc: Global,
@@ -529,7 +529,7 @@ fn weights_of_json(rt: HostRuntime) -> Result<(), Fail> {
     Ok(())
 }
 
-/// A fault of a value of JSON is reported in this line, with status 3.
+/// Asserts that a fault of a value of JSON is reported in this line, with status 3.
 fn expect_value(rt: &impl Abort, alloc: Global, fault: &JsonFault, text: &str) -> Result<(), Fail> {
     expect(rt, &json_refusal(alloc, fault)?, 3, text);
     Ok(())
@@ -598,7 +598,7 @@ fn another_kind_of_inputs(rt: HostRuntime) -> Result<(), Fail> {
     Ok(())
 }
 
-/// Out of memory is not a fault of a case, and has no line here.
+/// Whether out of memory is not a fault of a case, and has no line.
 #[test]
 fn want_of_memory(rt: HostRuntime) -> Result<(), Fail> {
     let names = names(rt.alloc())?;
@@ -607,7 +607,7 @@ fn want_of_memory(rt: HostRuntime) -> Result<(), Fail> {
     Ok(())
 }
 
-/// Evidence with steps of the third and the first hypothesis, which keeps the second.
+/// Returns evidence with steps of the third and the first hypothesis, which keeps the second.
 fn evidence(alloc: Global) -> Result<Evidence, NoMemory> {
     let mut steps = List::new(alloc);
     for hypothesis in [2, 0] {

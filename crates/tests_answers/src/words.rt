@@ -174,11 +174,7 @@ fn expect_study(
 ) -> Result<(), NoMemory> {
     let words = words_of(alloc, words)?;
     let read = match read_study(words.as_slice()) {
-        Ok(call) => Ok((
-            matches!(&call.form, CaseForm::Json),
-            call.file,
-            call.store,
-        )),
+        Ok(call) => Ok((matches!(&call.form, CaseForm::Json), call.file, call.store)),
         Err(n) => Err(n),
     };
     assert!(rt; read == wanted);

@@ -20,7 +20,7 @@ pub fn expect_case(rt: &(impl Abort + AllocGlobal), case: &Case, draft: &Draft) 
     expect_inputs(rt, case, draft);
 }
 
-/// The names at their positions.
+/// Asserts that a case has the names at their positions.
 fn expect_names(rt: &impl Abort, case: &Case, names: &[Text]) {
     assert!(rt; case.size() == names.len());
     for (i, name) in names.iter().enumerate() {
@@ -92,7 +92,7 @@ fn expect_p_values(rt: &impl Abort, found: &[Fraction], p: &[Option<Fraction>]) 
 
 // ---- stages
 
-/// The stages, and copies of what is spent.
+/// Asserts that a case has the stages, and copies of what is spent.
 fn expect_stages(rt: &(impl Abort + AllocGlobal), size: usize, found: &Stages, draft: &DraftStages)
     requires { length found.now.spend ≡ size }
 {

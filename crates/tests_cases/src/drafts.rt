@@ -34,7 +34,7 @@ fn expect_names(rt: &impl Abort, found: &[Text], wanted: &[Text]) {
     }
 }
 
-/// The drafts that the first lines and those of a row say are refused.
+/// Asserts that the drafts of the first lines and those of a row are refused.
 fn expect_refused(rt: &(impl Abort + AllocGlobal), first: &str, rows: &[(&str, CaseFault)]) {
     for row in rows {
         let (text, wanted) = row;

@@ -1,6 +1,6 @@
 //! Tests of cases, of their numbers and of named graphs.
 //!
-//! Drafts with each fault and with pairs of faults, drafts that make cases, with several components and with stages,
+//! Drafts with each fault and with pairs of faults, and drafts that make cases, with several components and with stages. Also
 //! positions in an index of names, sets of hypotheses, named graphs and samples, with values by hand.
 #![tactic(auto)]
 

@@ -231,7 +231,7 @@ fn arrivals(rt: &(impl Abort + AllocGlobal), text: &[u8], names: &[Text]) -> Lis
 
 // ---- drafts
 
-/// Returns the draft that the lines of two texts say, one after the other.
+/// Returns the draft that the lines of two texts say, one after another.
 pub fn draft(rt: &(impl Abort + AllocGlobal), first: &str, more: &str) -> Draft {
     let mut text = List::new(rt.alloc());
     text.append(first.as_bytes()).expect(rt, "no memory");

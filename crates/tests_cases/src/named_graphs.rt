@@ -198,7 +198,7 @@ fn graphs_are_made(rt: HostRuntime) {
     }
 }
 
-/// The greatest size and the greatest seed.
+/// Whether the greatest size and the greatest seed are accepted.
 #[test]
 fn the_last_sample_is_made(rt: HostRuntime) {
     assert!(rt; sample(rt.alloc(), 64, (1 << 48) - 1).is_ok());

@@ -63,7 +63,7 @@ fn an_entry_is_the_polynomial_of_its_coefficients(rt: HostRuntime) {
     assert!(rt; is_over(&edge, [3, -2], 6));
 }
 
-/// The common denominator has 54 digits, and the largest number of 127 bits has 39.
+/// Whether a sum is too wide whose common denominator has 54 digits. The largest number of 127 bits has 39.
 #[test]
 fn a_sum_of_long_coefficients_is_too_wide(rt: HostRuntime) {
     let entry = entry_of(

@@ -10,7 +10,7 @@ pub fn fraction(rt: &impl Abort, terms: Terms) -> Fraction {
     Fraction::new(terms.0, terms.1).expect(rt, "no fraction")
 }
 
-/// What is said of a row holds.
+/// Asserts that a statement about a row holds.
 pub fn expect<R: Abort, D: Debug>(rt: &R, holds: bool, row: &D) {
     assert!(rt; holds, "{row:?}");
 }

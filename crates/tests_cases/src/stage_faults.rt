@@ -11,7 +11,7 @@ const WIDE_SECOND: CaseFault = CaseFault::Wide(WideAt {
     op: Op::Add,
 });
 
-/// Stages of `TWO`: each row of the table of faults with one that stands after it where both are at fault.
+/// Stages of `TWO`: each row of the table of faults with one that follows it where both are at fault.
 pub const STAGES: &[(&str, CaseFault)] = &[
     // Long parts: fractions, then steps, then p-values; before all else.
     (

@@ -108,7 +108,7 @@ const FAULTS: &[(&str, RunFault)] = &[
     ),
 ];
 
-/// The first operation that is undefined is reported, with its step.
+/// Whether the first operation that is undefined is reported, with its step.
 #[test]
 fn runs_can_be_too_wide(rt: HostRuntime) {
     for (text, fault) in FAULTS {

@@ -87,7 +87,7 @@ pub const WIDE_OPENING: &str = "alpha 0.05\n\
     weights 1 0\n\
     edge H1 H2 1/1000000000000000000+1/999999999999999999*\\epsilon+1/999999999999999997*\\epsilon^2\n";
 
-/// Returns the case that a text says.
+/// Returns the case that a text denotes.
 pub fn case_of(rt: &impl Abort, alloc: Global, text: &str) -> Case {
     let Ok(case) = read_text(alloc, text.as_bytes()) else {
         panic!(rt; "no case");
@@ -95,7 +95,7 @@ pub fn case_of(rt: &impl Abort, alloc: Global, text: &str) -> Case {
     case
 }
 
-/// A row of a table holds; the label says which.
+/// Asserts that a row of a table holds; the label says which.
 pub fn expect(rt: &impl Abort, holds: bool, label: &str) {
     assert!(rt; holds, "{label}");
 }

@@ -112,8 +112,8 @@ fn weights_of_all_sets(rt: HostRuntime) {
     }
 }
 
-/// The sets of the fixed sequence, each with what the local test and the closed test say of it: the local test rejects H3
-/// alone and H1 with any, and the closed test what holds H1.
+/// The sets of the fixed sequence, each with the answers of the local test and the closed test. The local test rejects H3
+/// alone, and each set with H1. The closed test rejects each set that holds H1.
 const ANSWERS: &[(u32, bool, bool)] = &[
     (0, false, false),
     (1, true, true),
@@ -179,7 +179,7 @@ const FAULTS: &[(&str, ClosedFault)] = &[
     (ONE_MORE, ClosedFault::TooMany(18)),
 ];
 
-/// The first set whose run is undefined is reported, and more than sixteen hypotheses are refused.
+/// Whether the first set whose run is undefined is reported, and more than sixteen hypotheses are refused.
 #[test]
 fn tables_are_refused(rt: HostRuntime) {
     for (text, fault) in FAULTS {
@@ -192,7 +192,7 @@ const SETS_OF_TWO: &[u32] = &[3, 2, 0, 1];
 
 const SETS_OF_THREE: &[u32] = &[7, 6, 4, 0, 2, 5, 1, 3];
 
-/// Each set comes before those that leave out one more after its last.
+/// Whether each set comes before those that leave out one more after its last.
 #[test]
 fn sets_come_in_order(rt: HostRuntime) {
     let (Ok(two), Ok(three)) = (sets_in_order(rt.alloc(), 2), sets_in_order(rt.alloc(), 3)) else {

@@ -1,5 +1,5 @@
-//! Tests of decisions: rejections one by one, in any order and in each priority, events of studies, adjusted p-values, the
-//! closed test of all intersections, Simes' test and bounds, with values by hand.
+//! Tests of decisions, with values by hand: rejections one by one, in any order and in each priority, events of studies,
+//! adjusted p-values. Also the closed test of all intersections, Simes' test and bounds.
 #![tactic(auto)]
 
 #[cfg(test)]

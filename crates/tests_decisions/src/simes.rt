@@ -33,8 +33,8 @@ const EXCHANGED: &str = "alpha 0.05\n\
     edge H1 H2 1\n\
     edge H2 H1 1\n";
 
-/// Holm's graph. By Hommel's procedure, the greatest i such that the k-th of the i greatest p-values is above k/i of the level,
-/// for each k up to i: there is none, so all are rejected. Holm's procedure rejects none.
+/// Holm's graph. Hommel's procedure asks for the greatest i such that the k-th of the i greatest p-values is above k/i of the
+/// level, for each k up to i. There is none, so all are rejected. Holm's procedure rejects none.
 const HOMMEL_ALL: &str = "alpha 0.05\n\
     hypotheses H1 H2 H3\n\
     p 0.02 0.04 0.045\n\
@@ -71,7 +71,7 @@ const HOMMEL_TIE: &str = "alpha 0.05\n\
     edge H3 H2 1/2\n";
 
 /// H1 passes epsilon on to H3 and the rest to H2, and H2 all to H3. In the set of H2 and H3 the weight of H2 is 1 in the limit,
-/// and that of H3 is 0, with the least p-value: its sum rejects nothing, and that of H2 rejects. H1 alone keeps 1/2.
+/// and that of H3 is 0. H3 has the least p-value, and its sum rejects nothing. That of H2 rejects. H1 alone keeps 1/2.
 const EPSILON: &str = "alpha 0.05\n\
     hypotheses H1 H2 H3\n\
     p 0.04 0.05 0.03\n\
@@ -206,7 +206,7 @@ fn hypotheses_come_by_their_p_values(rt: HostRuntime) {
     }
 }
 
-/// The closed test by weights rejects neither alone, nor both.
+/// Whether the closed test by weights rejects neither alone, nor both.
 #[test]
 fn the_closed_test_rejects_less(rt: HostRuntime) {
     let case = case_of(&rt, rt.alloc(), HALVES);

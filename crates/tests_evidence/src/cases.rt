@@ -47,7 +47,7 @@ pub const GATEKEEPING_EVIDENCE: &str = "evidence 2\n\
     flow 1 H4 [1]/[0,2]\n\
     end\n";
 
-/// Returns the case that a text says.
+/// Returns the case that a text denotes.
 pub fn case_of(rt: &impl Abort, alloc: Global, text: &str) -> Case {
     let Ok(case) = read_text(alloc, text.as_bytes()) else {
         panic!(rt; "no case");
@@ -55,7 +55,7 @@ pub fn case_of(rt: &impl Abort, alloc: Global, text: &str) -> Case {
     case
 }
 
-/// A row of a table holds; the label says which.
+/// Asserts that a row of a table holds; the label says which.
 pub fn expect(rt: &impl Abort, holds: bool, label: &str) {
     assert!(rt; holds, "{label}");
 }

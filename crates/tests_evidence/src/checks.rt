@@ -62,7 +62,7 @@ fn documents_are_refused(rt: HostRuntime) {
     assert!(&rt; found == Some((12, ProofKind::Unexpected)));
 }
 
-/// The flows of the third step, as they are read.
+/// Whether the flows of the third step are read.
 #[test]
 fn documents_say_flows(rt: HostRuntime) {
     let case = case_of(&rt, rt.alloc(), GATEKEEPING);
@@ -84,7 +84,7 @@ fn documents_say_flows(rt: HostRuntime) {
     assert!(&rt; EpsQuotient::read(b"[1]/[4,-2]") == Some(*third));
 }
 
-/// The exits of both hypotheses that are kept, as they are read.
+/// Whether the exits of both kept hypotheses are read.
 #[test]
 fn documents_say_exits(rt: HostRuntime) {
     let case = case_of(&rt, rt.alloc(), FIXED);
@@ -107,7 +107,7 @@ fn documents_say_exits(rt: HostRuntime) {
     assert!(&rt; third.as_slice() == [Fraction::zero()].as_slice());
 }
 
-/// Evidence fits no case of another form, nor one with other hypotheses left.
+/// Whether evidence does not fit a case of another form, nor one with other hypotheses left.
 #[test]
 fn evidence_fits_its_case(rt: HostRuntime) {
     let fixed = case_of(&rt, rt.alloc(), FIXED);

@@ -66,7 +66,7 @@ fn made(rt: &impl Abort, alloc: Global, case: &Case) -> Result<Evidence, RunFaul
     make(alloc, case, &decision)
 }
 
-/// The evidence for the decision on a case has this text, and the checker accepts it.
+/// Asserts that the evidence for the decision on a case has this text, and the checker accepts it.
 fn expect_made(rt: &impl Abort, alloc: Global, case: &str, wanted: &str) {
     let case = case_of(rt, alloc, case);
     let Ok(proof) = made(rt, alloc, &case) else {

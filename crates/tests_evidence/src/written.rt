@@ -17,7 +17,7 @@ const ENTANGLED: &str = "alpha 0.05\n\
     weights 0 1 0\n\
     edge H1 H3 1\n";
 
-/// The components stand one after the other after a step or a keep.
+/// The components stand one after another after a step or a keep.
 const ENTANGLED_EVIDENCE: &str = "evidence 2\n\
     step H1\n\
     step H3\n\

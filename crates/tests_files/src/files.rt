@@ -16,7 +16,7 @@ const OTHER: Given = (1, 1, (1, 50));
 
 const LATER: Given = (3, 2, (1, 50));
 
-/// A new folder, whatever stood there.
+/// Makes a new folder, whatever was there.
 pub fn new_folder(rt: &(impl Abort + Alloc + Files), folder: &str) {
     let _ = fs::remove_dir_all(rt, folder);
     fs::create_dir(rt, folder).expect(rt, folder);
@@ -153,7 +153,7 @@ fn a_file_is_made_at_the_first_call(rt: HostRuntime) {
     remove_folder(&rt, "made_test");
 }
 
-/// While a file is open it is refused, and a log beside it holds its looks. Closing puts them into the file.
+/// Whether a file is refused while it is open, and a log beside it holds its looks. Closing puts them into the file.
 #[test]
 fn a_closed_file_holds_its_looks(rt: HostRuntime) {
     let path = "closed_test/looks.db";

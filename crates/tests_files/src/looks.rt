@@ -28,7 +28,7 @@ pub fn looks_of(alloc: Global, given: &[Given]) -> Option<List<Look>> {
     Some(looks)
 }
 
-/// That a row of a table holds, by its label.
+/// Asserts that a row of a table holds, by its label.
 pub fn expect(rt: &impl Abort, holds: bool, label: &str) {
     assert!(rt; holds, "{label}");
 }

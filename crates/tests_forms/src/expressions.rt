@@ -166,7 +166,7 @@ fn has_fault(text: &str, fault: ExprFault) -> bool {
     }
 }
 
-/// Each text has this fault.
+/// Asserts that each text has this fault.
 fn expect_faults(rt: &impl Abort, texts: &[&str], fault: ExprFault) {
     for text in texts {
         expect(rt, has_fault(text, fault), text);

@@ -1,5 +1,5 @@
-//! Tests of the forms of a case: lines and words, expressions, texts, sheets and JSON, as they are read and as they are
-//! written, with each fault and its place by hand.
+//! Tests of the forms of a case: lines and words, expressions, texts, sheets and JSON. They are tested as they are read and as
+//! they are written, with each fault and its place by hand.
 #![tactic(auto)]
 
 #[cfg(test)]

@@ -40,7 +40,7 @@ fn has_fault(alloc: Global, document: &[u8], path: &str, kind: &Kind) -> bool {
     }
 }
 
-/// Each document has a fault of this kind, at its path.
+/// Asserts that each document has a fault of this kind, at its path.
 fn expect_kind(rt: &impl Abort, alloc: Global, documents: &[(&str, &str)], kind: &Kind) {
     for (document, path) in documents {
         let holds = has_fault(alloc, document.as_bytes(), path, kind);
@@ -56,7 +56,7 @@ fn bytes_and_values_are_refused(rt: HostRuntime) {
     expect_kind(&rt, rt.alloc(), UNKNOWN_NAMES, &Kind::UnknownName);
 }
 
-/// A text that isn't UTF-8.
+/// Whether a text that isn't UTF-8 is refused.
 #[test]
 fn foreign_bytes_are_no_json(rt: HostRuntime) {
     let document = b"{\"alpha\":\"\xff\"}";
@@ -71,7 +71,7 @@ fn numerals_expressions_and_drafts_are_refused(rt: HostRuntime) {
     }
 }
 
-/// Whether a document says a case of a number of hypotheses and components.
+/// Whether a document denotes a case of a number of hypotheses and components.
 fn says_case(alloc: Global, document: &str, size: usize, components: usize) -> bool {
     match read_json(alloc, document.as_bytes()) {
         Ok(case) => case.size() == size && case.components() == components,

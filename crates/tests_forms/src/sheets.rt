@@ -25,7 +25,7 @@ fn rewritten(alloc: Global, sheet: &[u8]) -> Option<List<u8>> {
     write_csv(alloc, &case).ok()
 }
 
-/// Whether a sheet says a case, of which this is written.
+/// Whether a sheet denotes a case, of which this is written.
 fn is_rewritten(alloc: Global, sheet: &[u8], written: &[u8]) -> bool {
     match rewritten(alloc, sheet) {
         Some(again) => again.as_slice() == written,

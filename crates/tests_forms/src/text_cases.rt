@@ -1,4 +1,4 @@
-//! Texts, with the case or the stages that they say.
+//! Texts, with the case or the stages that they denote.
 use crate::checks::Terms;
 
 /// The positions of the ends of an edge, and the coefficients of its weight by ascending power of epsilon. Those after
@@ -32,7 +32,7 @@ pub const SINGLE: Held = Held {
     }],
 };
 
-/// Texts that say this case.
+/// Texts that denote this case.
 pub const SPELLINGS: &[&str] = &[
     // The last line may lack its line feed, and each may have a carriage return.
     "alpha 0.05\nhypotheses A\np 0.01\nweights 1\n",
@@ -47,7 +47,7 @@ pub const SPELLINGS: &[&str] = &[
     "alpha +.5e-1\nhypotheses A\np 10E-3\nweights 3/3\n",
 ];
 
-/// Texts, and the cases that they say.
+/// Texts, and the cases that they denote.
 pub const CASES: &[(&str, Held)] = &[
     // No p-values and no edges.
     (

@@ -25,7 +25,7 @@ fn has_fault(alloc: Global, text: &str, number: usize, kind: LineKind) -> bool {
     }
 }
 
-/// Each text has a fault of this kind, in the line of its number.
+/// Asserts that each text has a fault of this kind, in the line of its number.
 fn expect_kind(rt: &impl Abort, alloc: Global, texts: &[(&str, usize)], kind: LineKind) {
     for (text, number) in texts {
         expect(rt, has_fault(alloc, text, *number, kind), text);
@@ -41,7 +41,7 @@ fn lines_cannot_stand(rt: HostRuntime) {
     expect_kind(&rt, rt.alloc(), WHOLE, LineKind::Whole);
 }
 
-/// Each text has the fault of its row.
+/// Asserts that each text has the fault of its row.
 fn expect_faults(rt: &impl Abort, alloc: Global, rows: &[Faulty]) {
     for (text, number, kind) in rows {
         expect(rt, has_fault(alloc, text, *number, *kind), text);
@@ -139,7 +139,7 @@ fn are_p_values(inputs: &Inputs, p: &[Terms]) -> bool {
     }
 }
 
-/// Whether a text says the case that holds exactly this.
+/// Whether a text denotes the case that holds exactly this.
 fn says_case(alloc: Global, text: &str, held: &Held) -> bool {
     match read_text(alloc, text.as_bytes()) {
         Ok(case) => {
@@ -217,7 +217,7 @@ fn are_stages(stages: &DraftStages, held: &HeldStages) -> bool {
         && are_arrivals(stages.arrivals.as_slice(), held.arrivals)
 }
 
-/// Whether a text says a draft of these stages.
+/// Whether a text denotes a draft of these stages.
 fn says_stages(alloc: Global, text: &str, held: &HeldStages) -> bool {
     match draft(alloc, text.as_bytes()) {
         Ok(draft) => match &draft.stages {

@@ -116,7 +116,7 @@ pub fn opened(rt: &impl Abort, alloc: Global, text: &str) -> CaseNet {
     nets
 }
 
-/// Removes `j`, which is still in.
+/// Removes `j`, which remains.
 pub fn remove(rt: &impl Abort, nets: &mut CaseNet, j: usize) -> Result<(), WideAt> {
     assert!(rt; j < nets.size());
     assert!(rt; nets.is_live(j));

@@ -18,8 +18,8 @@ pub const HOLM: &str = "alpha 0.05\n\
     edge C A 1/2\n\
     edge C B 1/2\n";
 
-/// Two primary hypotheses, each of which passes half to either of two secondary ones; each of these passes epsilon back
-/// to one primary hypothesis and the rest to the other secondary one.
+/// Two primary hypotheses, each of which passes half to either of two secondary ones. Each of these passes epsilon back to one
+/// primary hypothesis, and the rest to the other secondary one.
 pub const IMPROVED_GATEKEEPING: &str = "alpha 0.05\n\
     hypotheses A B C D\n\
     weights 1/2 1/2 0 0\n\
@@ -40,7 +40,7 @@ pub const CHAIN: &str = "alpha 0.05\n\
     edge B C 1/999999999999999999\n\
     edge C D 1/999999999999999997\n";
 
-/// Returns the case that a text says.
+/// Returns the case that a text denotes.
 pub fn case_of(rt: &impl Abort, alloc: Global, text: &str) -> Case {
     let Ok(case) = read_text(alloc, text.as_bytes()) else {
         panic!(rt; "no case");
@@ -48,7 +48,7 @@ pub fn case_of(rt: &impl Abort, alloc: Global, text: &str) -> Case {
     case
 }
 
-/// A row of a table holds; the label says which.
+/// Asserts that a row of a table holds; the label says which.
 pub fn expect(rt: &impl Abort, holds: bool, label: &str) {
     assert!(rt; holds, "{label}");
 }

@@ -1,5 +1,5 @@
-//! Tests of removals and of entangled graphs: nets of fractions, rows over one denominator, rows beside the nets of
-//! quotients that they stand for, and numbers that grow too wide, with values by hand.
+//! Tests of removals and of entangled graphs, with values by hand: nets of fractions, rows over one denominator, and rows
+//! compared with the nets of quotients that they denote. Also numbers that become too wide.
 #![tactic(auto)]
 
 #[cfg(test)]

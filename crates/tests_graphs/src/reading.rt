@@ -19,7 +19,7 @@ pub fn edge_of<R: Remover>(net: &R, l: usize, k: usize) -> Option<R::Value> {
     None
 }
 
-/// Removes `j`, which is still in.
+/// Removes `j`, which remains.
 pub fn remove<R: Remover>(rt: &impl Abort, net: &mut R, j: usize) -> Result<(), Wide> {
     assert!(rt; j < net.size());
     assert!(rt; net.is_live(j));

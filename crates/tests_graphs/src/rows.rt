@@ -75,8 +75,8 @@ const ROWS: &[Row] = &[
     },
 ];
 
-/// D gets a quarter of what A and B pass round, 1 / (1 - e^2). Once C is out, both parts of its weight have been divided by
-/// 1 - e^2, which was below the row of B: a number by itself keeps such a factor.
+/// D gets a quarter of what A and B pass round, 1 / (1 - e^2). Once C is removed, both parts of its weight have been divided by
+/// 1 - e^2, the denominator of the row of B. A number by itself keeps such a factor.
 const POLYNOMIAL: &str = "alpha 0.05\n\
     hypotheses A B C D\n\
     weights 1 0 0 0\n\
@@ -126,7 +126,7 @@ fn after(rt: &impl Abort, alloc: Global, text: &str, removed: &[usize]) -> RowNe
     net
 }
 
-/// Whether a number is stored as the one that a text says, or neither is there.
+/// Whether a number is stored as the one that a text denotes, or neither is there.
 fn is_number(number: Option<EpsQuotient>, wanted: Option<&str>) -> bool {
     match (number, wanted) {
         (Some(number), Some(text)) => EpsQuotient::read(text.as_bytes()) == Some(number),

@@ -5,7 +5,7 @@ use Rattle.text_lines.specs.Lines.{Row}
 use Rattle.text_lines.specs.Words.{words_of}
 use Rattle.text_lines.specs.Languages.{Language, FaultAt, on_line}
 
--- What a line says at a place, or what is wrong with it; the place after it; whether nothing more must follow, and the fault where something must.
+-- What a line denotes at a place, or what is wrong with it; the place after it; whether nothing more must follow, and the fault where something must.
 pub record FormLanguage (Place Form Kind : Type 0) : Type 0 where
   pub read : Place → List (List ℕ) → Result Form Kind
   pub next : Place → Form → Place
@@ -17,7 +17,7 @@ abbrev pub with_all : {Form E : Type 0} → List Form → Result (List Form) E �
 with_all fs (Ok gs) = Ok (fs ++ gs)
 with_all fs (Err e) = Err e
 
--- what lines say, one after the other, or the first fault
+-- what lines denote, one after another, or the first fault
 abbrev pub form_reading : {Place Form Kind : Type 0} → FormLanguage Place Form Kind → Place → List Row → ℕ → Result (List Form) (FaultAt Kind)
 form_reading L place [] end = if L.ended place then Ok [] else Err (record { line = end; kind = L.ends })
 form_reading L place (row ∷ rows) end =

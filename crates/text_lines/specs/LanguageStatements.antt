@@ -48,7 +48,7 @@ pub record HaveOneReading {Line Place Said Kind : Type 0} (L : Language Line Pla
   pub apart : (x : Said) (f : FaultAt Kind) → IsDocument L start (lines_in L rows) x → ¬ HasFault L start rows end f
   pub each : ((x : Said) × IsDocument L start (lines_in L rows) x) ⊎ ((f : FaultAt Kind) × HasFault L start rows end f)
 
--- What is read is what the lines say, or else their first fault.
+-- What is read is what the lines denote, or else their first fault.
 pub record AreReadAs {Line Place Said Kind : Type 0} (L : Language Line Place Said Kind) (start : Place) (rows : List Row) (end : ℕ) : Type 0 where
   pub says : (x : Said) → (reading L start rows end ≡ Ok x) ↔ IsDocument L start (lines_in L rows) x
   pub fails : (f : FaultAt Kind) → (reading L start rows end ≡ Err f) ↔ HasFault L start rows end f

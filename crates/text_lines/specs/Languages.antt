@@ -24,12 +24,12 @@ abbrev pub on_line : {A Kind : Type 0} → ℕ → Result A Kind → Result A (F
 on_line number (Ok x) = Ok x
 on_line number (Err kind) = Err (record { line = number; kind = kind })
 
--- what lines say from a place on, or the first fault; `end` is the number of the line after the last one
+-- what lines denote from a place on, or the first fault; `end` is the number of the line after the last one
 abbrev pub reading : {Line Place Said Kind : Type 0} → Language Line Place Said Kind → Place → List Row → ℕ → Result Said (FaultAt Kind)
 reading L place [] end = on_line end (L.end place)
 reading L place (row ∷ rows) end = and_then (on_line row.number (L.step place (L.line_of row.text))) (λ next. reading L next rows end)
 
--- the lines are allowed, one after the other, from the first place on, and lead to the second
+-- the lines are allowed, one after another, from the first place on, and lead to the second
 abbrev pub Lead : {Line Place Said Kind : Type 0} → Language Line Place Said Kind → Place → List Line → Place → Type 0
 Lead L place [] here = here ≡ place
 Lead {Line} {Place} L place (line ∷ lines) here = (next : Place) × (L.step place line ≡ Ok next) × Lead L next lines here

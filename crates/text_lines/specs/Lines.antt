@@ -8,7 +8,7 @@ use Rattle.text_lines.specs.Words.{after_blanks, words_of}
 abbrev pub is_line_feed : ℕ → Bool
 is_line_feed b = b == 10
 
--- all parts but an empty last one: what stands after the last line feed is a line only where it has a byte
+-- all parts but an empty last one: what follows the last line feed is a line only if it has a byte
 abbrev pub whole_lines : List (List ℕ) → List (List ℕ)
 whole_lines [] = []
 whole_lines ([] ∷ []) = []
@@ -33,7 +33,7 @@ pub record Row : Type 0 where
   pub number : ℕ
   pub text : List ℕ
 
--- the lines that aren't skipped, where n others stand before the first
+-- the lines that aren't skipped, where n others are before the first
 unfoldable pub kept_after : ℕ → List (List ℕ) → List Row
 kept_after n [] = []
 kept_after n (line ∷ lines) = if is_skipped line then kept_after (n + 1) lines else record { number = n + 1; text = line } ∷ kept_after (n + 1) lines
@@ -42,7 +42,7 @@ kept_after n (line ∷ lines) = if is_skipped line then kept_after (n + 1) lines
 abbrev pub rows_of : List ℕ → List Row
 rows_of bytes = kept_after 0 (lines_of bytes)
 
--- the number of the line that would stand after the last one
+-- the number of the line that would follow the last one
 abbrev pub end_of : List ℕ → ℕ
 end_of bytes = length (lines_of bytes) + 1
 
@@ -56,7 +56,7 @@ words_in rows = map (λ row. words_of row.text) rows
 
 -- ---- a text that is read
 
--- what of a text is still to come, and how many lines stand before it
+-- what of a text is still to come, and how many lines are before it
 pub record Remainder : Type 0 where
   pub before : ℕ
   pub text : List ℕ
@@ -65,6 +65,6 @@ pub record Remainder : Type 0 where
 unfoldable pub rows_left : Remainder → List Row
 rows_left r = kept_after r.before (lines_of r.text)
 
--- the number of the line that would stand after the last one
+-- the number of the line that would follow the last one
 unfoldable pub end_at : Remainder → ℕ
 end_at r = r.before + length (lines_of r.text) + 1

@@ -15,7 +15,7 @@ abbrev pub is_word : List ℕ → Bool
 is_word [] = false
 is_word (b ∷ bs) = true
 
--- the words of a line are what stands between its blanks
+-- the words of a line are what is between its blanks
 unfoldable pub words_of : List ℕ → List (List ℕ)
 words_of line = filter is_word (slice_split is_blank line)
 
@@ -23,27 +23,27 @@ words_of line = filter is_word (slice_split is_blank line)
 unfoldable pub after_blanks : List ℕ → List ℕ
 after_blanks line = drop (prefix_len is_blank line) line
 
--- what stands after the first word of a line
+-- what follows the first word of a line
 unfoldable pub behind_word : List ℕ → List ℕ
 behind_word line = drop (position_or_len is_blank (after_blanks line)) (after_blanks line)
 
--- what stands after its first n words
+-- what follows its first n words
 abbrev pub behind_words : ℕ → List ℕ → List ℕ
 behind_words zero line = line
 behind_words (suc n) line = behind_words n (behind_word line)
 
--- the words after the keyword, where that is the first
+-- the words after the keyword, if that is the first
 abbrev pub words_behind : List ℕ → List (List ℕ) → Option (List (List ℕ))
 words_behind keyword [] = None
 words_behind keyword (w ∷ ws) = if bytes_eq w keyword then Some ws else None
 
--- the word, where there is just one
+-- the word, if there is exactly one
 abbrev pub only_word : List (List ℕ) → Option (List ℕ)
 only_word [] = None
 only_word (w ∷ []) = Some w
 only_word (w ∷ x ∷ ws) = None
 
--- the words, where there are just three
+-- the words, if there are exactly three
 abbrev pub only_three : List (List ℕ) → Option (List ℕ × List ℕ × List ℕ)
 only_three [] = None
 only_three (a ∷ []) = None

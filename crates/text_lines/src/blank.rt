@@ -17,7 +17,7 @@ fn blanks_len(bytes: &[u8]) -> usize
     bytes.iter().take_while(|byte| is_blank(**byte)).count()
 }
 
-/// Returns how many bytes stand before the first blank.
+/// Returns how many bytes are before the first blank.
 pub fn word_len(bytes: &[u8]) -> usize
     ensures value { result ≡ position_or_len is_blank bytes.now }
     ensures within { result ≤ length bytes.now }
@@ -25,7 +25,7 @@ pub fn word_len(bytes: &[u8]) -> usize
     bytes.iter().take_while(|byte| !is_blank(**byte)).count()
 }
 
-/// Returns what stands from the first byte on that isn't blank.
+/// Returns the rest of a line from the first byte on that isn't blank.
 #[tactic(auto, unfolding(crate::specs::Words::after_blanks))]
 pub fn after_blanks(line: &[u8]) -> &[u8]
     ensures { result.now ≡ after_blanks line.now }

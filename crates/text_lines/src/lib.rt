@@ -1,8 +1,7 @@
 //! Texts in lines, and lines in words.
 //!
-//! Proved: `Lines` gives the lines of a text that aren't skipped, each with its number (`rows`, `end`, `done`), and
-//! `Words` the words of a line and what stands after them (`word`, `rest`); laws in `src/laws.rt`: lines that are spelt
-//! are read back.
+//! Proved: `Lines` gives the lines of a text that aren't skipped, each with its number (`rows`, `end`, `done`). `Words` gives
+//! the words of a line and what follows them (`word`, `rest`). Laws in `src/laws.rt`: written lines are read back.
 #![tactic(auto)]
 
 mod blank;

@@ -57,7 +57,7 @@ fn line_len(bytes: &[u8]) -> usize
     bytes.iter().take_while(|byte| **byte != b'\n').count()
 }
 
-/// Returns the front of a text up to its first line feed, and what stands after that.
+/// Returns the front of a text up to its first line feed, and what follows that.
 fn cut_line(text: &[u8]) -> (&[u8], &[u8])
     ensures line { result.0.now ≡ before_first is_line_feed text.now }
     ensures rest { result.1.now ≡ after_first is_line_feed text.now }
@@ -84,8 +84,8 @@ impl<'a> Lines<'a> {
         }
     }
 
-    /// Returns the number of the line after those taken so far: 1 of a new reader, that of the answered line plus 1
-    /// after each `next`, and the number of all lines plus 1 once `next` has answered `None`.
+    /// Returns the number of the line after those taken so far. It is 1 for a new reader, and the number of the returned line
+    /// plus 1 after each `next`. Once `next` has returned `None`, it is the number of all lines plus 1.
     pub fn next_number(&self) -> usize
         ensures { result ≡ self.now.before + 1 }
     {

@@ -27,14 +27,14 @@ impl<'a> Words<'a> {
         Words { rest: line }
     }
 
-    /// Returns what of the line stands after the words taken so far.
+    /// Returns what of the line follows the words taken so far.
     pub fn rest(&self) -> &'a [u8]
         ensures { result.now ≡ self.now }
     {
         self.rest
     }
 
-    /// Returns the word, where there is just one.
+    /// Returns the word, if there is exactly one.
     pub fn one(mut self) -> Option<&'a [u8]>
         ensures { option_map (λ word. word.now) result ≡ only_word (words_of self.entry) }
     {
@@ -45,7 +45,7 @@ impl<'a> Words<'a> {
         }
     }
 
-    /// Returns the words, where there are just three.
+    /// Returns the words, if there are exactly three.
     pub fn three(mut self) -> Option<(&'a [u8], &'a [u8], &'a [u8])>
         ensures { option_map (λ words. (words.0.now, words.1.now, words.2.now)) result ≡ only_three (words_of self.entry) }
     {

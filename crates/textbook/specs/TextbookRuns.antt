@@ -16,7 +16,7 @@ use Rattle.removal.specs.InTurn.{removed_in_turn}
 use Rattle.entangled.specs.Bundled.{Bundled}
 use Rattle.entangled.specs.BundleRun.{opened_after}
 
--- all hypotheses are in, all numbers are fractions in lowest terms, and by value they are those of `G`
+-- all hypotheses remain, all numbers are fractions in lowest terms, and by value they are those of `G`
 pub record Stores (G : Graph Number) (S : StoredGraph) : Type 0 where
   pub stored : AreStored plain IsFraction S
   pub live : AreAllLive S

@@ -6,7 +6,7 @@ use graph_io::{Keeper, MemoryKeeper, Source, StdSink, StdSource};
 use study_cli::{run_study, store_path};
 use study_sqlite::SqliteKeeper;
 
-/// Runs the program over standard input, the file that the words name and standard output, and answers the status.
+/// Runs the program over standard input, the file that the words name and standard output, and returns the status.
 pub fn status_with<T: Source>(rt: &HostRuntime, words: &[String], file: &mut T) -> u8 {
     if asks_study(words) {
         return status_of_study(rt, words, file);
@@ -16,7 +16,7 @@ pub fn status_with<T: Source>(rt: &HostRuntime, words: &[String], file: &mut T) 
     run(rt.alloc(), words, &mut case, file, &mut out)
 }
 
-/// Runs a study: over the file of looks that the words name, or over no looks where they name none.
+/// Runs a study: over the file of looks that the words name, or over no looks if they name none.
 fn status_of_study<T: Source>(rt: &HostRuntime, words: &[String], commands: &mut T) -> u8 {
     match store_path(words) {
         Some(path) => status_in_file(rt, words, commands, path),
@@ -27,9 +27,9 @@ fn status_of_study<T: Source>(rt: &HostRuntime, words: &[String], commands: &mut
     }
 }
 
-/// Runs a study whose looks are kept in the file at a path, which is opened when looks are first requested. Where there
-/// is no memory for the path, nothing is printed. Where the log can't be copied into the file at the end, it keeps the
-/// looks, and the status stays.
+/// Runs a study whose looks are kept in the file at a path, which is opened when looks are first requested. If there is no
+/// memory for the path, nothing is printed. If the log can't be copied into the file at the end, it keeps the looks, and the
+/// status stays.
 fn status_in_file<T: Source>(
     rt: &HostRuntime,
     words: &[String],

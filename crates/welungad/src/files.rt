@@ -6,7 +6,7 @@ use graph_io::{FailingSource, MemorySource, StdSource};
 use std::alloc::Global;
 use std::{fs, io};
 
-/// Runs the program with the file that the words name, or with no bytes where they name none, and answers the status.
+/// Runs the program with the file that the words name, or with no bytes if they name none, and returns the status.
 pub fn status_of(rt: &HostRuntime, words: &[String]) -> u8 {
     match file_of(words) {
         Some(path) => status_with_file(rt, words, path),
@@ -26,7 +26,7 @@ fn unopened(alloc: Global) -> Result<FailingSource, NoMemory> {
     Ok(FailingSource::new(List::new(alloc), 1, failing))
 }
 
-/// Runs the program with a file. Where there is no memory to open it, nothing is printed.
+/// Runs the program with a file. If there is no memory to open it, nothing is printed.
 fn status_with_file(rt: &HostRuntime, words: &[String], path: &str) -> u8 {
     match fs::open(rt, path) {
         Ok(file) => status_with(rt, words, &mut StdSource::new(file)),

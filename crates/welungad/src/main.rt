@@ -1,10 +1,11 @@
-//! The program: the words after its name, a case on standard input, a proof or the commands of a study in a file, the looks of a
-//! study in another, the answer on standard output.
+//! The program. It takes the words after its name, and a case on standard input. A file has a proof or the commands of a study,
+//! and another one the looks of a study. The answer is put on standard output.
 //!
-//! `main` reads the words, makes the adapters, calls `run`, or `run_study` where the first word is `study`, and ends with its
-//! status. It is proved safe; that it hands the right words and devices to `run` is shown by its stored run (`args`, `stdin`,
-//! `stdout`), and that it does so to `run_study` by `bench/study.py`. Its own statuses, 10 where a word can't be read and 8 with
-//! nothing printed where there is no memory for the words or to open a file, have no clause and no test.
+//! `main` reads the words, makes the adapters, calls `run`, or `run_study` if the first word is `study`, and ends with its
+//! status. It is proved safe. Its stored run (`args`, `stdin`, `stdout`) shows that it gives the right words and devices to
+//! `run`, and `bench/study.py` shows that it does so to `run_study`. Two statuses of its own have no clause and no test. It
+//! ends with 10 if a word can't be read. It ends with 8, with nothing printed, if there is no memory for the words, to open a
+//! file, or to name the file of the looks.
 #![tactic(auto)]
 
 mod calls;

@@ -5,7 +5,7 @@ use Rattle.std.specs.Str.{IsUtf8}
 use Rattle.welungad_c.specs.declared.words.NoWords.{NoWords}
 use Rattle.welungad_c.specs.declared.words.NoWords.TheVariants.{NoMemory, Unreadable}
 
--- words one after the other, each ended by a byte 0
+-- words one after another, each ended by a byte 0
 abbrev pub ended : List (List ℕ) → List ℕ
 ended [] = []
 ended (word ∷ words) = word ++ 0 ∷ ended words

@@ -1,4 +1,4 @@
-//! The words of a call from C, one after the other.
+//! The words of a call from C, one after another.
 ghost use Rattle.std.specs.Prelude.{◌≡◌, IfOk, IfErr, map, string_bytes};
 ghost use Rattle.std.specs.Str.{IsUtf8};
 ghost use Rattle.welungad_c.specs.Words.{AreWords, LeavesNoText, LeavesNoWords};

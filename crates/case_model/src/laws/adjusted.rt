@@ -8,8 +8,8 @@ ghost use Rattle.case_model.specs.AdjustedStatements.{
   WeightZeroIsNeverRejected,
 };
 
-/// At each level from 0 to 1 the closed test rejects a hypothesis exactly where its adjusted value is reached and is at
-/// most the level; no other value does so.
+/// At each level from 0 to 1 the closed test rejects a hypothesis exactly if its adjusted value is reached and is at most the
+/// level. No other value does so.
 pub fn adjusted_values_decide()
     ensures decide { AdjustedValuesDecide }
     ensures unique { AdjustedValuesAreUnique }

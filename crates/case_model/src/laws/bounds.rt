@@ -9,13 +9,13 @@ ghost use Rattle.case_model.specs.BoundStatements.{
   BoundsOfTwo,
 };
 
-/// The closed test rejects a set exactly where the local test rejects it and the closed test rejects it with any one
-/// hypothesis more.
+/// The closed test rejects a set exactly if the local test rejects it and the closed test rejects it with any one hypothesis
+/// more.
 pub fn sets_are_rejected_by_the_next_larger()
     ensures { SetsAreRejectedByTheNextLarger }
 {}
 
-/// Each set has just one bound, and a table of what the closed test rejects has the bounds of the closed test.
+/// Each set has exactly one bound, and a table of what the closed test rejects has the bounds of the closed test.
 pub fn bounds_exist()
     ensures exist { BoundsExist }
     ensures unique { BoundsAreUnique }

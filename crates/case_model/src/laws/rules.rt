@@ -26,7 +26,7 @@ pub fn textbook_graphs_are_valid()
     ensures holm { HolmGraphsAreValid }
 {}
 
-/// The positions by ascending p-value are all positions, in this order, ties by position; and there is just one number of
+/// The positions by ascending p-value are all positions, in this order, ties by position; and there is exactly one number of
 /// them that Holm's rule rejects.
 pub fn holm_numbers_exist()
     ensures order { PositionsAreAscending }

@@ -26,7 +26,7 @@ pub fn spend_levels_are_nondecreasing()
     ensures two { TwoStepsGiveTheirLevels }
 {}
 
-/// What is legal at stages stays legal at a greater weight and once more values have arrived, and complete legal orders have
+/// What is legal at stages stays legal at a greater weight and once more values have arrived. Complete legal orders have
 /// exactly the hypotheses that the staged closed test rejects.
 pub fn staged_orders_decide()
     ensures weights { StagedTestsAreMonotone }
@@ -34,7 +34,7 @@ pub fn staged_orders_decide()
     ensures decide { StagedOrdersDecide }
 {}
 
-/// From each set on there is just one settling.
+/// From each set on there is exactly one settling.
 pub fn settlings_exist()
     ensures exist { SettlingsExist }
     ensures unique { SettlingsAreUnique }

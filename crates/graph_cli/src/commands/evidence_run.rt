@@ -52,8 +52,8 @@ fn confirmed(
     }
 }
 
-/// Answers `evidence` to a case: the decision comes first, then the flow run along its steps. What the run gives is printed only
-/// where `check` says yes to it.
+/// Answers `evidence` to a case: the decision comes first, then the flow run along its steps. What the run gives is printed
+/// only if `check` says yes to it.
 #[tactic(auto, unfolding(crate::specs::Evidence::evidence_stage))]
 pub fn evidence_answer(alloc: Global, case: &Case, priority: Priority) -> Result<Answer, Trouble>
     requires { IsOfKind Single (content case.now).inputs }

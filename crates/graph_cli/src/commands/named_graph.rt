@@ -15,7 +15,7 @@ use command_words::SizedGraph;
 use edge_text::write_text;
 use std::alloc::Global;
 
-/// Returns how many hypotheses a graph has; 2^64 - 1 where they are more.
+/// Returns how many hypotheses a graph has; 2^64 - 1 if they are more.
 fn told_size(graph: SizedGraph) -> u64
     ensures { result ≡ told_size graph }
 {

@@ -139,7 +139,7 @@ order_each c [] k h = absurd (omega arith)
 order_each c (p ∷ ps) zero h = let s = min-le_right c (order p) in let t = order_first (min c (order p)) ps in omega arith
 order_each c (p ∷ ps) (suc k) h = order_each (min c (order p)) ps k (omega arith)
 
--- where the denominator isn't 0, the common content is above 0, and at most its own
+-- if the denominator isn't 0, the common content is above 0, and at most its own
 pub content_some : (r : StoredRow) → IsNonZero r.denominator → 0 < row_content r
 unfolding row_content
 content_some r some = pos_of_dvd_of_pos (content_first (content r.denominator) r.numerators) (own_some r.denominator some)
