@@ -8,7 +8,7 @@ definitions. For each part of the repository (a page, a crate) it counts
   words    words that the writing guide of docs/CONTRIBUTING.md replaces, such as 'want of memory' and 'so many',
   long     sentences of more than 30 words,
   cells    table cells of more than 160 characters,
-  wide     lines of .rt over 140 bytes, but for string literals.
+  wide     lines of .rt over 140 bytes, but for string literals and for attributes, which `rt fmt` keeps on one line.
 Prints each part whose count is above its bound in bench/prose.bounds, and ends with status 1 where there is one. With --all it
 prints every count and the places of words; with --write it lowers the bounds to the counts of today, never raises one.
 """
@@ -54,7 +54,7 @@ def comment_blocks(text, mark):
     for line in text.split("\n") + [""]:
         found = re.match(r"\s*" + mark + r"\s?(.*)", line)
         rest = found and found.group(1)
-        if rest and not rest.startswith("    ") and not re.fullmatch(r"[-= ]*", rest):
+        if rest and not rest.startswith(("    ", "|")) and not re.fullmatch(r"[-= ]*", rest):
             if re.match(r"(?:[-*]|\d+\.)\s", rest):
                 blocks.append(" ".join(lines))
                 lines = []
@@ -72,7 +72,10 @@ def sentences(block):
 
 
 def wide_lines(text):
-    return sum(1 for line in text.split("\n") if len(re.sub(r'"(?:[^"\\]|\\.)*"', '""', line).encode()) > 140)
+    """Returns how many lines are too long, but for string literals and attributes."""
+    quoted = r"'(?:[^'\\\n]|\\.)'" + r'|r#".*?"#|"(?:[^"\\]|\\.)*"'
+    text = re.sub(quoted, lambda m: '""' + "\n" * m.group(0).count("\n"), text, flags=re.S)
+    return sum(1 for it in text.split("\n") if len(it.encode()) > 140 and not it.lstrip().startswith(("#[", "#![")))
 
 
 def parts():

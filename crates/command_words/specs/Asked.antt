@@ -44,8 +44,8 @@ file_of (check form file) = Some file
 file_of (sample size seed) = None
 file_of help = None
 
--- What a study is to do: how its case is written, the place, from 0, of the word that names the file of its commands, and the path of
--- the file of its looks.
+-- What a study is to do: how its case is written, which word names the file of its commands, and the path of the file of its looks. The word's place
+-- counts from 0.
 pub record StudyAsked : Type 0 where
   pub form : Written
   pub file : ℕ

@@ -18,8 +18,8 @@ use Rattle.command_words.specs.declared.verb.Verb.TheVariants as verbs
 use Rattle.sequential.specs.declared.priority.Priority.{Priority}
 use Rattle.sequential.specs.declared.priority.Priority.TheVariants.{First}
 
--- The values that were given, beside those of `alpha` and `second` the numbers, from 1, of the words with these names, and the
--- place, from 0, of the word that names a file.
+-- The values that were given. Beside those of `alpha` and `second` are the numbers, from 1, of the words with these names. The place of the word that
+-- names a file counts from 0.
 pub record GivenContent : Type 0 where
   pub form : Option Form
   pub alpha : Option (Level × ℕ)

@@ -30,8 +30,8 @@ pub enum Command {
     Help,
 }
 
-/// What a study is to do: how its case is written, the place, from 0, of the word that names the file of its commands, and the path
-/// of the file of its looks.
+/// What a study is to do: how its case is written, which word names the file of its commands, and the path of the file of its
+/// looks. The word's place counts from 0.
 #[derive(Clone, Copy)]
 pub struct StudyCall<'a> {
     pub form: CaseForm,

@@ -9,8 +9,8 @@ use crate::verb::Verb;
 use fraction::Fraction;
 use sequential::Priority;
 
-/// The values that were given so far, beside those of `alpha` and `second` the numbers, from 1, of the words with these names, and
-/// the place, from 0, of the word that names a file.
+/// The values that were given so far. Beside those of `alpha` and `second` are the numbers, from 1, of the words with these
+/// names. The place of the word that names a file counts from 0.
 #[derive(Drop)]
 pub(crate) struct Given<'a> {
     form: Option<Form>,

@@ -77,8 +77,8 @@ fn operand<'a>(verb: Verb, given: &Given<'_>, word: &'a str) -> Option<Choice<'a
     Choice::read(verb, argument, word)
 }
 
-/// Returns the argument, with its value, of the piece that begins with `word`, and how many words it has; or the number, from 0,
-/// of the word at which it fails. `more` are the words after it.
+/// Returns the argument, with its value, of the piece that begins with `word`, and how many words it has. If the piece fails,
+/// it is the number, from 0, of the word at which it does. `more` are the words after it.
 fn piece<'a>(
     verb: Verb,
     given: &Given<'_>,

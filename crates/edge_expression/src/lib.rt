@@ -1,7 +1,7 @@
 //! Edge expressions: the weights of edges as texts.
 //!
-//! Their grammar is `IsExpression`, and the value of an expression is `value`, an entry or the first fault from left to
-//! right. `IsEntryText` and `IsExprFault` tell what a text gives. `entries` makes one function of the two, `entry_of`.
+//! Their grammar is `IsExpression`, and the value of an expression is `value`, an entry or the first fault from left to right.
+//! `IsEntryText` and `IsExprFault` state what a text gives. `entries` makes one function of the two, `entry_of`.
 //!
 //! Proved:
 //! - `parse`: `found` (the entry of an expression), `fault` (too deep, the first bad byte, or the first fault of its

@@ -13,7 +13,7 @@
 //!   - The first fault is exactly where no document continues.
 //!   - `canonical_texts_read_back`: the canonical text reads as the same case (`back`), distinguishes cases (`apart`), and is
 //!     the canonical text of what is read (`again`).
-//!   - `expressions_are_decided`: an expression has one entry or one fault, never both.
+//! - `expressions_are_decided`: a text is an expression of one entry, or has one fault, never both.
 //!
 //! Tables of texts, with their lines by hand, are in tests_forms.
 //!

@@ -57,7 +57,8 @@ said_at T place left = form_reading (line_language T) place left.rows left.end
 abbrev pub proof_fault : FaultAt ProofKind → ProofText
 proof_fault fault = faults.Line fault.line fault.kind
 
--- What lines say from a place on is what was taken, and then what those after say from the place after; or this is the first fault; or memory is wanting.
+-- What lines denote from a place on is what was taken, followed by what the rest denotes from the place after it. Else this is the first fault, or
+-- the call is out of memory.
 unfoldable pub Reads : Frame → Place → Left → Result Taken ProofText → Type 0
 Reads T place left (Ok took) = said_at T place left ≡ with_all took.forms (said_at T took.place took.left)
 Reads T place left (Err (faults.Line line kind)) = said_at T place left ≡ Err (record { line = line; kind = kind })

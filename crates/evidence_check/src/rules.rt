@@ -80,7 +80,8 @@ pub fn number<F: EvidenceNumber>(
     name: &[u8],
 ) -> Result<F, ProofKind>
     requires { c < 8 }
-    ensures said { (T : Frame) (h : ℕ) → T.name h ≡ name.now → ((text : Seq ℕ) → T.number text ≡ number_in_text F.numbers text)
+    ensures said { (T : Frame) (h : ℕ) → T.name h ≡ name.now
+        → ((text : Seq ℕ) → T.number text ≡ number_in_text F.numbers text)
         → ok_map (λ x. SaysNumber quantity c h (F.parts x)) result ≡ number_line T quantity c h (words_of line.now.text.now) }
 {
     let Some(words) = line.behind(keyword(quantity)) else {

@@ -6,8 +6,9 @@
 //!   only if the sink had one. 8 comes with `no memory`. If no fault came, the status is up to 5, or 8; and with these statuses
 //!   no fault came. At most one put is made for each byte of a text, and one more. If a source doesn't expose its bytes, the
 //!   answer is that of some bytes.
-//! - `case`, `proof`: a source that the words don't read stays as it was; one that they read was read to its end after
-//!   status 0. The proof is read only after a case that the command can take.
+//! - `case`, `proof`: a source that the words don't read stays as it was; one that they read was read to its end after status
+//!   0. The proof is read only after a case that the command can take. `case_taken`, `proof_taken`: how many bytes are taken at
+//!   most.
 //! - `file_word`: `file`, `none`.
 //! - Laws in `src/laws.rt`: `calls_have_one_answer`. `reports_are_of_the_closed_test`: what `test` prints with status 0, by any
 //!   priority, of a text, a sheet or JSON, names as rejected exactly the hypotheses that the closed test rejects. The adjusted

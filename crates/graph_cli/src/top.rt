@@ -61,9 +61,9 @@ fn answer<S: Source, T: Source>(
 /// source that the command doesn't read stays as it was; `proof` is read only after a case that the command can take. Of a
 /// source that isn't read to its end, at most one byte more than it may have is taken.
 ///
-/// Statuses: 0 done; 1 the proof doesn't hold; 2 the words aren't accepted. 3: an input is malformed or has other p-values than
-/// the command needs. 4: it is past a limit. 5: a number of it or of its run is too wide. 6: a source that is read had a fault.
-/// 7: `out` had a fault. 8: out of memory.
+/// Statuses: 0 done; 1 the proof doesn't hold; 2 the words aren't accepted. 3: an input is malformed, or isn't of the kind that
+/// the command needs. 4: an input, a size or a seed is past a limit, or a size is 0. 5: a number of the case or of its run is too
+/// wide. 6: a source that is read had a fault. 7: `out` had a fault. 8: out of memory.
 pub fn run<S: Source, T: Source, W: Sink>(
     alloc: Global,
     words: &[String],

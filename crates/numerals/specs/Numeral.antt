@@ -134,8 +134,8 @@ HasZeroDenominator (Plain whole exponent) = ⊥
 HasZeroDenominator (Pointed whole fraction exponent) = ⊥
 HasZeroDenominator (Pair over under) = digits_value 10 under ≡ 0
 
--- All digits before the exponent make one whole number, and s is the number of those after it the point less the exponent. In a pair
--- each part is a number of its own.
+-- All digits before the exponent make one whole number, and s is the number of those after the point less the exponent. In a pair each part is a
+-- number of its own.
 unfoldable pub HasTooManyDigits : Body → Type 0
 HasTooManyDigits (Plain whole exponent) = IsTooLong (without_leading_zeros whole) (pos 0 -ℤ exponent_of exponent)
 HasTooManyDigits (Pointed whole fraction exponent) = IsTooLong (without_leading_zeros (whole ++ fraction)) (pos (length fraction) -ℤ exponent_of exponent)

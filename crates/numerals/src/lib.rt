@@ -1,7 +1,7 @@
 //! Numerals, such as `-1.5e3` and `2/3`: their grammar, what they are worth, and the reader of them.
 //!
-//! The grammar is `IsNumeral` in `specs/Numeral.antt`, and the value of a numeral is `IsNumeralOf`. `IsParseFault` tells
-//! the four faults of the other texts. `fraction` makes one function of the two, `numeral_of`.
+//! The grammar is `IsNumeral` in `specs/Numeral.antt`, and the value of a numeral is `IsNumeralOf`. `IsParseFault` states the
+//! four faults of the other texts. `fraction` makes one function of the two, `numeral_of`.
 //!
 //! Proved:
 //! - `parse`: `found` (the value of a numeral within the limits, in lowest terms), `fault` (which of the four faults, the

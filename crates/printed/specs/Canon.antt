@@ -41,8 +41,8 @@ pub record AreSameTogether (form : Form) (c d : Content) (one other : List ℕ) 
   pub same_text : c ≡ d → one ≡ other
   pub same_case : LevelsAgree form c d → one ≡ other → c ≡ d
 
--- what words that ask for `canon` in one form are answered with status 0 of two cases, however these are written, is the same text for the same
--- case, and another text for another case (of the same level, if the form is a sheet)
+-- Words that ask for `canon` in one form, and two cases that are answered with status 0, however they are written. The two texts are the same exactly
+-- if the cases are. If the form is a sheet, the cases have the same level.
 abbrev pub CanonTellsCasesApart : Type 0
 CanonTellsCasesApart =
     (words others : List (List ℕ)) (form other_form : Written) (to : Form) (case other : List ℕ) (proof other_proof : Option (List ℕ)) (a b : Answer)

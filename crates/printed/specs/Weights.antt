@@ -25,8 +25,8 @@ pub record HasMemberPassing (m : ℕ) (weight : ℕ → ℕ → Ratio) (p : ℕ 
   pub passes : Passes (p hypothesis) (number_of (weight n hypothesis)) level
 
 -- The text is a report with exactly one line for each set that isn't empty. The weights in it are those of the members in the intersections. They
--- suffice for the closed test, by whatever p-values and level: the local test rejects exactly the sets of which some member passes at its weight
--- there, and the closed test rejects exactly the hypotheses all of whose sets have such a member.
+-- suffice for the closed test, by whatever p-values and level. The local test rejects exactly the sets of which some member passes at its weight
+-- there. The closed test rejects exactly the hypotheses all of whose sets have such a member.
 pub record ReportsSetWeights (c : Content) (text : List ℕ) : Type 0 where
   pub weight : ℕ → ℕ → Ratio
   pub sets : List ℕ

@@ -101,7 +101,8 @@ struct StepAt<'a> {
 }
 
 impl fmt::Display for StepAt<'_> {
-    ghost output = { λ step. Some (name_or_place step.names.0.now step.place (slice_get (map (λ s. s.hypothesis) (steps_of step.proof.now)) step.place)) };
+    ghost output = { λ step. Some (name_or_place step.names.0.now step.place
+        (slice_get (map (λ s. s.hypothesis) (steps_of step.proof.now)) step.place)) };
 
     fn fmt<W: fmt::Write>(&self, f: &mut fmt::Formatter<W>) -> fmt::Result {
         match step_at(self.proof, self.place) {

@@ -40,7 +40,7 @@ IsToldAs names (Wide n w) r = r ≡ wide_refusal names (AfterLook n) w
 IsToldAs names Fault r = ⊥
 IsToldAs names NoMemory r = ⊥
 
--- the study of a case that has taken the kept looks; or the first of them that can't be taken
+-- the study of a case that has taken the kept looks; or its undefined opening, or the first look that can't be taken
 abbrev pub opened : Content → List Look → Stage Refusal StudyState
 opened c looks = record {
   Gives = AreTaken c looks;

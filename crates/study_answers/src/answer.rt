@@ -79,8 +79,8 @@ fn ended(text: List<u8>) -> Result<Answer, NoMemory>
 /// by a command is put after those of the keeper. If the settling after a look is undefined, the answer names the operation,
 /// and the looks before it stay kept.
 ///
-/// A refusal comes exactly if a kept look can't be taken, and then no look is added. The keeper is asked once the opening of
-/// the case is defined.
+/// A refusal comes exactly if the opening of the case is undefined or a kept look can't be taken, and then no look is added.
+/// The keeper is asked once the opening of the case is defined.
 pub fn study_answer<K: Keeper>(
     alloc: Global,
     case: &Case,

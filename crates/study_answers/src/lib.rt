@@ -6,8 +6,9 @@
 //!   `below` (each look is of a hypothesis of the case). `fault` (the first line that denotes no command, with its number and
 //!   what is wrong with it, `IsFirstFault`).
 //! - `study_answer`: `ends` (`over_keeper`: it gives what the kept looks and the commands require, `study_stage`, and the
-//!   keeper holds its looks too). It is refused only for the kept looks, and then no look is added. After a fault of the
-//!   keeper, and out of memory, the looks of the commands up to some place may be added. `later`: no count of faults falls.
+//!   keeper holds its looks too). It is refused only for the opening of the case and for the kept looks, and then no look is
+//!   added. After a fault of the keeper, and out of memory, the looks of the commands up to some place may be added. `later`:
+//!   no count of faults falls.
 //! - Laws in `src/laws.rt`:
 //!   - kept looks and commands have one answer; by any commands that are answered to their end, the rejections are those of the
 //!     staged closed test on all looks that are kept.

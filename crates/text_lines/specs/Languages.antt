@@ -3,8 +3,8 @@ use Rattle.std.specs.Prelude.{◌≡◌, ℕ, List, [], ◌∷◌, ◌++◌, map
 use Rattle.field_core.specs.Answers.{and_then}
 use Rattle.text_lines.specs.Lines.{Row}
 
--- What the language sees of the text of a line, as the text itself or its words; the place after a line at a place, or what is wrong with the line; and
--- what a text reads as that ends at a place, or what is wrong with that.
+-- A language of lines has three parts. What it sees of the text of a line: the text itself, or its words. The place after a line at a place, or what
+-- is wrong with the line. What a text that ends at a place reads as, or what is wrong with that.
 pub record Language (Line Place Said Kind : Type 0) : Type 0 where
   pub line_of : List ℕ → Line
   pub step : Place → Line → Result Place Kind

@@ -97,7 +97,8 @@ impl<'a> Lines<'a> {
     fn take_line(&mut self) -> Option<&'a [u8]>
         ensures cases { MatchOption result
             ((lines_of self.old.text ≡ []) × (self.new ≡ self.old))
-            (λ line. (lines_of self.old.text ≡ line.now ∷ lines_of self.new.text) × (self.new.before ≡ self.old.before + 1) × (length self.new.text < length self.old.text)) }
+            (λ line. (lines_of self.old.text ≡ line.now ∷ lines_of self.new.text)
+            × (self.new.before ≡ self.old.before + 1) × (length self.new.text < length self.old.text)) }
     {
         if self.rest.is_empty() {
             return None;
