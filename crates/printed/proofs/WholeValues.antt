@@ -35,7 +35,7 @@ five_made f z h =
     let e = bind_ok (f 4) _ z d.1.1 in
     ap length (sym (same_ok (a.0 ∷ b.0 ∷ c.0 ∷ d.0 ∷ e.0 ∷ []) z e.1.1))
 
--- what stands behind a test that may refuse
+-- what follows a test that may refuse
 behind_test : (b : Bool) (fault : ValueFault) (r : Result (List Terms) ValueFault) (z : List Terms) → cond b (Err fault) r ≡ Ok z → r ≡ Ok z
 behind_test true fault r z h = absurd (cc h)
 behind_test false fault r z h = h
