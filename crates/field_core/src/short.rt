@@ -51,13 +51,17 @@ impl Short {
         Whole::new(self.value as i128 * other.value as i128)
     }
 
-    /// Returns the quotient by a number above 0, rounded towards 0.
+    /// Returns the quotient by a number above 0, rounded towards 0. By 1 and by the number itself it saves a division, which takes
+    /// the machine longer than all else here.
     pub fn over(self, by: Short) -> Short
         requires { pos 0 <ℤ by }
         ensures { result ≡ int_div self by }
     {
         if by.value == 1 {
             return self;
+        }
+        if by.value == self.value {
+            return Short { value: 1 };
         }
         Short {
             value: self.value / by.value,
@@ -70,7 +74,7 @@ impl Short {
         ensures value { result ≡ gcd_of self other }
         ensures positive { pos 0 <ℤ result }
     {
-        let divisor = binary_gcd(self.value.unsigned_abs(), other.value.unsigned_abs());
+        let divisor = binary_gcd(self.value.unsigned_abs(), other.value as u64);
         Short {
             value: divisor as i64,
         }

@@ -9,8 +9,8 @@ divisor c =
     let a : FitsSigned w64 c.self.inside.value = search rules in
     let b : FitsSigned w64 c.other.inside.value = search rules in
     let e = simp to_z-of_z at c.unsigned_abs.ensures.value in
-    let f = simp to_z-of_z at c.unsigned_abs-2.ensures.value in
-    machine_divisor w64 c.self.inside.value c.other.inside.value _ b (rw c.other.view_is c.requires) (c.binary_gcd-divisor.ensures ∙ rw (e, f) refl)
+    let f = simp to_z-of_z at c.binary_gcd-divisor.ensures in
+    machine_divisor w64 c.self.inside.value c.other.inside.value _ b (rw c.other.view_is c.requires) (f ∙ rw e refl)
 
 pub overflow_cast-result : goal.overflow_cast-result
 overflow_cast-result c = (divisor c).fits
