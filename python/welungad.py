@@ -149,7 +149,8 @@ _EXPLANATIONS = [
                                         "header."),
     ("malformed: json: syntax", "The bytes are not one JSON value. A byte order mark is refused."),
     ("malformed: PATH: shape", "A value is of the wrong kind, a key is missing, or an object has an unknown key."),
-    ("malformed: PATH: not whole", "A JSON number is not whole. Write decimals as texts: \"0.025\"."),
+    ("malformed: PATH: not whole", "A JSON number has a point or an exponent, is -0, or does not fit in 64 bits. Write decimals "
+                                   "and large numbers as texts: \"0.025\"."),
     ("malformed: case: no hypothesis", "There is no name."),
     ("malformed: case: name N", "The name, counted from 1, is not 1 to 32 ASCII letters, digits, _, . or -."),
     ("malformed: case: duplicate name N", "The name, counted from 1, is equal to an earlier one."),
