@@ -27,7 +27,8 @@ status_low statuses.Done = omega arith
 status_low statuses.No = omega arith
 status_low (statuses.Refused c) = (cause_low c).0
 
-module _ (w : Ways Answer) (rose same : Type 0) (old new : Option (List ℕ)) (before after status : ℕ) (brief : IsPutBriefly w before after) where
+module _ (w : Ways Answer) (rose same : Type 0) (old new : Option (List ℕ)) (before after status : ℕ)
+    (brief : IsPutBriefly w rose same old new before after status) where
   -- the sink had a fault
   failed : (outcome : Result Answer Stop) → EndsIn w outcome → status ≡ 7 → rose → AppendsPrefix old new (text_of outcome)
       → Runs w rose same old new before after status
@@ -98,7 +99,7 @@ pub runs_of : (w : Ways Answer) (rose same : Type 0) (old new : Option (List ℕ
     → Finished rose same old new (text_of outcome) (status_of outcome) status → after ≤ before + (length (text_of outcome) + 1)
     → Runs w rose same old new before after status
 runs_of w rose same old new before after status outcome h f puts =
-    by_outcome w rose same old new before after status (record { outcome = outcome; ends = h; puts = puts }) outcome h f
+    by_outcome w rose same old new before after status (record { outcome = outcome; ends = h; finished = f; puts = puts }) outcome h f
 
 -- an outcome other than an answer has a status of its own
 not_done : (stop : Stop) → status_of (Err stop) ≡ 0 → ⊥

@@ -40,10 +40,11 @@ pub record IsCutShort (w : Ways Answer) (old new : Option (List ℕ)) : Type 0 w
   pub ends : EndsIn w outcome
   pub put : AppendsPrefix old new (text_of outcome)
 
--- At most one put was made for each byte of what is put of an outcome that the call may have, and one more.
-pub record IsPutBriefly (w : Ways Answer) (before after : ℕ) : Type 0 where
+-- An outcome that the call may have was put. At most one put was made for each byte of its text, and one more.
+pub record IsPutBriefly (w : Ways Answer) (rose same : Type 0) (old new : Option (List ℕ)) (before after status : ℕ) : Type 0 where
   pub outcome : Result Answer Stop
   pub ends : EndsIn w outcome
+  pub finished : Finished rose same old new (text_of outcome) (status_of outcome) status
   pub puts : after ≤ before + (length (text_of outcome) + 1)
 
 -- What a top call does, by its status. `w` has the ways in which the call may end. `rose` says that the sink had a fault in this call, and `same`
@@ -59,7 +60,7 @@ pub record Runs (w : Ways Answer) (rose same : Type 0) (old new : Option (List �
   pub faultless : ¬ (status ≡ 7) → same
   pub complete : ¬ w.read → ¬ w.keeper → ¬ rose → (status ≤ 5) ⊎ (status ≡ 8)
   pub known : status ≤ 9
-  pub brief : IsPutBriefly w before after
+  pub brief : IsPutBriefly w rose same old new before after status
 
 -- What a top call does to a source. If it doesn't read it, it leaves it as it was. With status 0 it has read it to its end.
 pub record Uses {S : Type 0} (left : S → Option (List ℕ)) (Reads : Type 0) (old new : S) (status : ℕ) : Type 0 where
