@@ -120,54 +120,31 @@ struct Broken<'a> {
     reason: Reason,
 }
 
-impl<'a> Broken<'a> {
-    /// Returns the step at a place.
-    fn step(&self, place: usize) -> StepAt<'a>
-        ensures { result ≡ record { names = self.now.names; proof = self.now.proof; place = place } }
-    {
-        StepAt {
-            names: self.names,
-            proof: self.proof,
-            place,
-        }
-    }
-}
-
 impl fmt::Display for Broken<'_> {
     ghost output = { λ it. Some (reason_words it.names.0.now (map (λ s. s.hypothesis) (steps_of it.proof.now)) it.reason) };
 
     #[tactic(auto, unfolding(crate::specs::ProofRefusal::reason_words))]
     fn fmt<W: fmt::Write>(&self, f: &mut fmt::Formatter<W>) -> fmt::Result {
+        let step = |place| StepAt {
+            names: self.names,
+            proof: self.proof,
+            place,
+        };
         match self.reason {
             Reason::Repeated => f.write_str("repeated"),
             Reason::Negative(c, r) => {
-                write!(
-                    f,
-                    "component {} flow of {} negative",
-                    Counted(c),
-                    self.step(r)
-                )
+                write!(f, "component {} flow of {} negative", Counted(c), step(r))
             }
             Reason::Exceeds(c, r) => {
-                write!(
-                    f,
-                    "component {} flow of {} exceeds",
-                    Counted(c),
-                    self.step(r)
-                )
+                write!(f, "component {} flow of {} exceeds", Counted(c), step(r))
             }
             Reason::NoLevel => f.write_str("no level"),
             Reason::AboveLevel => f.write_str("above level"),
             Reason::NegativeExit(c, r) => {
-                write!(
-                    f,
-                    "component {} exit of {} negative",
-                    Counted(c),
-                    self.step(r)
-                )
+                write!(f, "component {} exit of {} negative", Counted(c), step(r))
             }
             Reason::ShortExit(c, r) => {
-                write!(f, "component {} exit of {} short", Counted(c), self.step(r))
+                write!(f, "component {} exit of {} short", Counted(c), step(r))
             }
             Reason::AboveOne(c) => write!(f, "component {} level above one", Counted(c)),
             Reason::Legal => f.write_str("legal"),

@@ -1,9 +1,11 @@
-use Rattle.std.proofs.Common.{rules, ◌≡◌, refl, ◌++◌, ◌+◌, ◌<◌, ◌∙◌, sym, ℕ, List, [], ◌∷◌, length, take, get_or, zero, suc, arith, add-one, append_assoc, append-nil}
+use Rattle.std.proofs.Common.{rules, ◌≡◌, refl, ◌++◌, ◌+◌, ◌<◌, ◌∙◌, sym, ℕ, List, [], ◌∷◌, length, take, get_or, zero, suc}
+use Rattle.std.proofs.Common.{arith, add-one, append_assoc, append-nil}
 use Rattle.std.proofs.Output.{has_written_append, has_written_of_eq}
 use Rattle.refusals.specs.WideRefusal.{names_of_members, name_if_member}
 use Rattle.refusals.proofs.wide.MembersDisplay.fmt.Goals.{then-is_member+in_ok-write, else-is_member}
 use Rattle.refusals.proofs.wide.MembersDisplay.fmt.Goals as goal
 
+-- the names of one more member
 members_more : (n k : ℕ) (names : List (List ℕ)) (i m : ℕ) (name : List ℕ) → i < length names → m ≡ k + i → name ≡ get_or names i name →
     names_of_members n k (take (i + 1) names) ≡ names_of_members n k (take i names) ++ name_if_member n m name
 members_more n k [] i m name below at is = elim below [ ]
