@@ -1,0 +1,19 @@
+//! The program over an opener: which files it opens for its words, and which call it makes over them.
+//!
+//! Proved, of `run_program`:
+//! - `run`, `study`: words that begin with `study` are those of `run_study`, all others those of `run`. The call does what that
+//!   one does over the file that the words name, and over the store that they name, or over no looks where they name none. Only
+//!   these are opened, at these paths, and a store is given back with its looks. Where there is no memory to open one, the status
+//!   is 8, and nothing is read or put.
+//! - `untouched`: a case that the words don't read stays as it was.
+//! - `file_path`: `path`, `none`.
+//!
+//! Only tested: that a file that can't be opened is read as one that fails at its first take.
+#![tactic(auto)]
+
+mod opener;
+mod over_file;
+mod whole;
+
+pub use opener::{OpenFault, Opener};
+pub use whole::{file_path, run_program};
