@@ -29,6 +29,7 @@ prints graph a g =
       names = N.names;
       level = ap number_of N.level ∙ part_value 20 (omega arith) (lit< tt);
       bare = N.bare;
+      filled = N.filled;
       rule = has_rule graph c N g.1;
     }
 

@@ -1,6 +1,7 @@
 pub mod BoundsPrinted
 pub mod CanonReadBack
 pub mod CataloguePrinted
+pub mod FilledCases
 pub mod NamedGraphs
 pub mod RulesDecide
 pub mod SetNumbers

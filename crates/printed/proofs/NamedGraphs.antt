@@ -7,6 +7,7 @@ use Rattle.std.proofs.lemmas.List.{length-replicate}
 use Rattle.field_core.specs.declared.ratio.Ratio.{Ratio}
 use Rattle.case_model.specs.Content.{Content, content_of, has_coefficients}
 use Rattle.case_model.specs.Sums.{one_ratio, zero_ratio}
+use Rattle.case_model.specs.Draft.{ArePValues}
 use Rattle.case_model.specs.Validity.{IsValidContent}
 use Rattle.case_model.specs.declared.inputs.Inputs.TheVariants.{Bare}
 use Rattle.catalogue.proofs.AloneCases.{is_made}
@@ -22,7 +23,8 @@ use Rattle.command_words.specs.declared.graph_name.SizedGraph.{SizedGraph}
 use Rattle.command_words.specs.declared.graph_name.SizedGraph.TheVariants.{Holm, FixedSequence, Fallback, Parallel, ImprovedParallel}
 use Rattle.graph_cli.proofs.ClosedReports.{faultless_content}
 use Rattle.graph_cli.specs.Graphs.{named_case}
-use Rattle.printed.specs.Catalogue.{graph_size}
+use Rattle.printed.specs.Catalogue.{graph_size, with_p_values}
+use Rattle.printed.proofs.FilledCases.{filled_case}
 use Rattle.printed.proofs.WholeDrafts.{whole_edge, IsWhole, whole_content}
 
 -- ---- whole entries
@@ -101,6 +103,7 @@ pub record IsOfGraph (G : WeightedGraph) (alpha : Ratio) (c : Content) : Type 0 
   pub names : c.names ≡ names_of G.size
   pub level : c.alpha ≡ alpha
   pub bare : c.inputs ≡ Bare
+  pub filled : (ps : List Ratio) → ArePValues (length c.names) ps → IsValidContent (with_p_values ps c)
 
 module _ (G : WeightedGraph) (alpha : Ratio) where
   names_are : (content_of (draft_of G alpha [])).names ≡ names_of G.size
@@ -125,6 +128,7 @@ module _ (G : WeightedGraph) (alpha : Ratio) where
         names = names_are;
         level = level_is;
         bare = bare_is;
+        filled = λ ps h. filled_case G alpha ps M.faultless (subst (λ names. ArePValues (length names) ps) names_are h);
       })
 
 -- the case of a named graph
@@ -134,12 +138,13 @@ pub record IsNamedCase (n : ℕ) (c : Content) : Type 0 where
   pub names : c.names ≡ names_of n
   pub level : c.alpha ≡ part 20
   pub bare : c.inputs ≡ Bare
+  pub filled : (ps : List Ratio) → ArePValues (length c.names) ps → IsValidContent (with_p_values ps c)
 
 named : (G : WeightedGraph) (n : ℕ) (fault : Option CatalogueFault) (c : Content) → G.size ≡ n → ((i j : ℕ) → IsWholeEdge (G.edge i j))
     → behind fault (made (draft_of G (part 20) [])) ≡ Ok c → IsNamedCase n c
 named G n fault c size whole h =
     let k = of_graph G (part 20) c whole (behind_is fault (made (draft_of G (part 20) [])) c h).is in
-    record { valid = k.valid; whole = k.whole; names = k.names ∙ ap names_of size; level = k.level; bare = k.bare }
+    record { valid = k.valid; whole = k.whole; names = k.names ∙ ap names_of size; level = k.level; bare = k.bare; filled = k.filled }
 
 holm_size : (n : ℕ) → (holm_graph n).size ≡ n
 unfolding holm_graph

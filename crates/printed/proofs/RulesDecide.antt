@@ -101,9 +101,9 @@ module _ (n : ℕ) (c : Content) (N : IsNamedCase n c) where
       let plain = holm_plain n (part 20) [] c B.is in (
         A,
         record {
-          rejects = λ ps V. carried c ps V (λ l k j. IsHolmRejected (number_at ps) l k j) n size_is level_is
+          rejects = λ ps P. let V = N.filled ps P in carried c ps V (λ l k j. IsHolmRejected (number_at ps) l k j) n size_is level_is
               (holm_decides (number_at ps) (number_of c.alpha) (entangled c) (graph_valid c ps V) A (low c ps V));
-          never_wide = λ ps V. holm_decisions (with_p_values ps c) V (same_plain c ps V plain) (subst IsHolmGraph (sym (same_graph c ps V)) A);
+          never_wide = λ ps P. let V = N.filled ps P in holm_decisions (with_p_values ps c) V (same_plain c ps V plain) (subst IsHolmGraph (sym (same_graph c ps V)) A);
         },
       )
 
@@ -117,9 +117,9 @@ module _ (n : ℕ) (c : Content) (N : IsNamedCase n c) where
       let plain = sequence_plain n (part 20) [] c B.is in (
         A,
         record {
-          rejects = λ ps V. carried c ps V (λ l k j. IsSequenceRejected (number_at ps) l k j) n size_is level_is
+          rejects = λ ps P. let V = N.filled ps P in carried c ps V (λ l k j. IsSequenceRejected (number_at ps) l k j) n size_is level_is
               (sequence_decides (number_at ps) (number_of c.alpha) (entangled c) (graph_valid c ps V) A (low c ps V));
-          never_wide = λ ps V. sequence_decisions (with_p_values ps c) V (same_plain c ps V plain) (subst IsSequenceGraph (sym (same_graph c ps V)) A);
+          never_wide = λ ps P. let V = N.filled ps P in sequence_decisions (with_p_values ps c) V (same_plain c ps V plain) (subst IsSequenceGraph (sym (same_graph c ps V)) A);
         },
       )
 
@@ -152,10 +152,10 @@ module _ (n : ℕ) (c : Content) (N : IsNamedCase n c) where
       let next : n ≡ suc d = omega (arith, within.0) in (
         A,
         record {
-          rejects = λ ps V. carried c ps V (λ l k j. IsFallbackRejected (number_at ps) l k (λ i. one_over n) j) n size_is level_is
+          rejects = λ ps P. let V = N.filled ps P in carried c ps V (λ l k j. IsFallbackRejected (number_at ps) l k (λ i. one_over n) j) n size_is level_is
               (fallback_decides (number_at ps) (number_of c.alpha) (λ i. one_over n) (entangled c) (graph_valid c ps V) A
               (λ i p. limit-fraction (pos 1) (pos n) (λ e. omega (arith, ints, within.0))) (low c ps V));
-          never_wide = λ ps V. fallback_decisions (with_p_values ps c) (λ i. 1) d V (same_plain c ps V plain) (omega (arith, within.1))
+          never_wide = λ ps P. let V = N.filled ps P in fallback_decisions (with_p_values ps c) (λ i. 1) d V (same_plain c ps V plain) (omega (arith, within.1))
               (subst (IsFallbackGraph (λ i. fraction (pos 1) (pos (suc d)))) (sym (same_graph c ps V))
               (subst (λ k. IsFallbackGraph (λ i. fraction (pos 1) (pos k)) (entangled c)) next A));
         },

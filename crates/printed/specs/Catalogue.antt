@@ -1,5 +1,5 @@
 -- What `catalogue` prints is read as the case of the named graph, on which the closed test decides as the rule of the textbooks.
-use Rattle.std.specs.Prelude.{◌≡◌, ◌↔◌, ◌+◌, ℕ, List, Option, Ok}
+use Rattle.std.specs.Prelude.{◌≡◌, ◌↔◌, ◌+◌, ℕ, List, Option, Ok, length}
 use Rattle.field_core.specs.Fractions.{one_over}
 use Rattle.field_core.specs.Number.{Number}
 use Rattle.field_core.specs.declared.ratio.Ratio.{Ratio}
@@ -8,6 +8,7 @@ use Rattle.answers.specs.declared.answer.Answer.{Answer}
 use Rattle.answers.specs.declared.status.Status.TheVariants.{Done}
 use Rattle.answers.specs.Stages.{IsAnswerOf}
 use Rattle.case_model.specs.Content.{Content, IsRejectedIn, entangled}
+use Rattle.case_model.specs.Draft.{ArePValues}
 use Rattle.case_model.specs.Sums.{number_at}
 use Rattle.case_model.specs.TextbookGraphs.{IsHolmGraph, IsSequenceGraph, IsFallbackGraph}
 use Rattle.case_model.specs.TextbookRules.{IsHolmRejected, IsSequenceRejected, IsFallbackRejected}
@@ -39,10 +40,10 @@ twentieth = one_over 20
 abbrev pub with_p_values : List Ratio → Content → Content
 with_p_values ps c = record { names = c.names; alpha = c.alpha; components = c.components; inputs = Single ps }
 
--- On the case with p-values, whichever these are, the closed test rejects exactly the hypotheses that a rule rejects, and nothing is too wide.
+-- By whatever p-values, one for each hypothesis, the closed test rejects exactly the hypotheses that a rule rejects, and nothing is too wide.
 pub record DecidesBy (Rejects : (ℕ → Number) → ℕ → Type 0) (c : Content) : Type 0 where
-  pub rejects : (ps : List Ratio) → IsValidContent (with_p_values ps c) → (j : ℕ) → IsRejectedIn (with_p_values ps c) j ↔ Rejects (number_at ps) j
-  pub never_wide : (ps : List Ratio) → IsValidContent (with_p_values ps c) → IsNeverWide (with_p_values ps c)
+  pub rejects : (ps : List Ratio) → ArePValues (length c.names) ps → (j : ℕ) → IsRejectedIn (with_p_values ps c) j ↔ Rejects (number_at ps) j
+  pub never_wide : (ps : List Ratio) → ArePValues (length c.names) ps → IsNeverWide (with_p_values ps c)
 
 -- The case has the graph of the textbooks, and is decided by their rule at the level 1/20. Fallback has equal weights. The gatekeeping graphs have no
 -- such rule.
@@ -53,7 +54,8 @@ HasItsRule (Fallback n) c = IsFallbackGraph (λ i. one_over n) (entangled c) × 
 HasItsRule (Parallel a b) c = Unit {0}
 HasItsRule (ImprovedParallel a b) c = Unit {0}
 
--- The text is read as the case of a named graph: with its size, its weights and edges, at the level 1/20, and without p-values.
+-- The text is read as the case of a named graph: with its size, its weights and edges, at the level 1/20, and without p-values. By whatever p-values,
+-- one for each hypothesis, it is a case, too.
 pub record PrintsNamedGraph (graph : SizedGraph) (printed : List ℕ) : Type 0 where
   pub case : Content
   pub read : IsReadAs Text case printed
@@ -61,6 +63,7 @@ pub record PrintsNamedGraph (graph : SizedGraph) (printed : List ℕ) : Type 0 w
   pub names : case.names ≡ names_of (graph_size graph)
   pub level : number_of case.alpha ≡ twentieth
   pub bare : case.inputs ≡ Bare
+  pub filled : (ps : List Ratio) → ArePValues (length case.names) ps → IsValidContent (with_p_values ps case)
   pub rule : HasItsRule graph case
 
 -- what words that ask for `catalogue` are answered with status 0 is read as the case of the named graph
