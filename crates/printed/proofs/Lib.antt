@@ -3,6 +3,7 @@ pub mod CanonReadBack
 pub mod CataloguePrinted
 pub mod FilledCases
 pub mod NamedGraphs
+pub mod RuleTests
 pub mod RulesDecide
 pub mod SetNumbers
 pub mod SetsOnce

@@ -40,6 +40,7 @@ use Rattle.command_words.specs.declared.graph_name.SizedGraph.TheVariants.{Holm,
 use Rattle.graph_cli.specs.Graphs.{named_case}
 use Rattle.textbook.proofs.NeverWide.{holm_decisions, sequence_decisions, fallback_decisions}
 use Rattle.printed.specs.Catalogue.{graph_size, twentieth, with_p_values, HasItsRule}
+use Rattle.printed.proofs.RuleTests.{decides_by}
 use Rattle.printed.proofs.NamedGraphs.{IsNamedCase, behind_is}
 
 -- ---- the case with p-values
@@ -87,6 +88,9 @@ module _ (n : ℕ) (c : Content) (N : IsNamedCase n c) where
   unfolding entangled
   size_is = ap length N.names ∙ length-map-range_with_len name_of 0 n
 
+  few_names : n ≤ 64 → length c.names ≤ 64
+  few_names few = subst (λ k. k ≤ 64) (sym (ap length N.names ∙ length-map-range_with_len name_of 0 n)) few
+
   level_is : number_of c.alpha ≡ twentieth
   level_is = ap number_of N.level ∙ part_value 20 (omega arith) (lit< tt)
 
@@ -100,11 +104,11 @@ module _ (n : ℕ) (c : Content) (N : IsNamedCase n c) where
       let A = holm_made n (part 20) [] c within.0 within.1 B.is in
       let plain = holm_plain n (part 20) [] c B.is in (
         A,
-        record {
-          rejects = λ ps P. let V = N.filled ps P in carried c ps V (λ l k j. IsHolmRejected (number_at ps) l k j) n size_is level_is
-              (holm_decides (number_at ps) (number_of c.alpha) (entangled c) (graph_valid c ps V) A (low c ps V));
-          never_wide = λ ps P. let V = N.filled ps P in holm_decisions (with_p_values ps c) V (same_plain c ps V plain) (subst IsHolmGraph (sym (same_graph c ps V)) A);
-        },
+        decides_by (λ p. IsHolmRejected p twentieth n) c (few_names within.1)
+            (λ ps P. let V = N.filled ps P in carried c ps V (λ l k j. IsHolmRejected (number_at ps) l k j) n size_is level_is
+            (holm_decides (number_at ps) (number_of c.alpha) (entangled c) (graph_valid c ps V) A (low c ps V)))
+            (λ ps P. let V = N.filled ps P in
+            holm_decisions (with_p_values ps c) V (same_plain c ps V plain) (subst IsHolmGraph (sym (same_graph c ps V)) A)),
       )
 
   -- ---- fixed sequence
@@ -113,14 +117,15 @@ module _ (n : ℕ) (c : Content) (N : IsNamedCase n c) where
   unfolding named_case sequence_case
   sequence_rule h =
       let B = behind_is (size_fault n) (made (draft_of (sequence_graph n) (part 20) [])) c h in
+      let within = size_within n B.none in
       let A = sequence_made n (part 20) [] c B.is in
       let plain = sequence_plain n (part 20) [] c B.is in (
         A,
-        record {
-          rejects = λ ps P. let V = N.filled ps P in carried c ps V (λ l k j. IsSequenceRejected (number_at ps) l k j) n size_is level_is
-              (sequence_decides (number_at ps) (number_of c.alpha) (entangled c) (graph_valid c ps V) A (low c ps V));
-          never_wide = λ ps P. let V = N.filled ps P in sequence_decisions (with_p_values ps c) V (same_plain c ps V plain) (subst IsSequenceGraph (sym (same_graph c ps V)) A);
-        },
+        decides_by (λ p. IsSequenceRejected p twentieth n) c (few_names within.1)
+            (λ ps P. let V = N.filled ps P in carried c ps V (λ l k j. IsSequenceRejected (number_at ps) l k j) n size_is level_is
+            (sequence_decides (number_at ps) (number_of c.alpha) (entangled c) (graph_valid c ps V) A (low c ps V)))
+            (λ ps P. let V = N.filled ps P in
+            sequence_decisions (with_p_values ps c) V (same_plain c ps V plain) (subst IsSequenceGraph (sym (same_graph c ps V)) A)),
       )
 
   -- ---- fallback with equal weights
@@ -151,14 +156,14 @@ module _ (n : ℕ) (c : Content) (N : IsNamedCase n c) where
       let d = n - 1 in
       let next : n ≡ suc d = omega (arith, within.0) in (
         A,
-        record {
-          rejects = λ ps P. let V = N.filled ps P in carried c ps V (λ l k j. IsFallbackRejected (number_at ps) l k (λ i. one_over n) j) n size_is level_is
-              (fallback_decides (number_at ps) (number_of c.alpha) (λ i. one_over n) (entangled c) (graph_valid c ps V) A
-              (λ i p. limit-fraction (pos 1) (pos n) (λ e. omega (arith, ints, within.0))) (low c ps V));
-          never_wide = λ ps P. let V = N.filled ps P in fallback_decisions (with_p_values ps c) (λ i. 1) d V (same_plain c ps V plain) (omega (arith, within.1))
-              (subst (IsFallbackGraph (λ i. fraction (pos 1) (pos (suc d)))) (sym (same_graph c ps V))
-              (subst (λ k. IsFallbackGraph (λ i. fraction (pos 1) (pos k)) (entangled c)) next A));
-        },
+        decides_by (λ p. IsFallbackRejected p twentieth n (λ i. one_over n)) c (few_names within.1)
+            (λ ps P. let V = N.filled ps P in carried c ps V (λ l k j. IsFallbackRejected (number_at ps) l k (λ i. one_over n) j) n size_is level_is
+            (fallback_decides (number_at ps) (number_of c.alpha) (λ i. one_over n) (entangled c) (graph_valid c ps V) A
+            (λ i p. limit-fraction (pos 1) (pos n) (λ e. omega (arith, ints, within.0))) (low c ps V)))
+            (λ ps P. let V = N.filled ps P in
+            fallback_decisions (with_p_values ps c) (λ i. 1) d V (same_plain c ps V plain) (omega (arith, within.1))
+            (subst (IsFallbackGraph (λ i. fraction (pos 1) (pos (suc d)))) (sym (same_graph c ps V))
+            (subst (λ k. IsFallbackGraph (λ i. fraction (pos 1) (pos k)) (entangled c)) next A))),
       )
 
 pub has_rule : (graph : SizedGraph) (c : Content) → IsNamedCase (graph_size graph) c → named_case graph ≡ Ok c → HasItsRule graph c

@@ -30,8 +30,8 @@ pub fn bounds_are_of_the_closed_test()
     ensures { BoundsAreOfTheClosedTest }
 {}
 
-/// What `catalogue` prints with status 0 is read as the case of the named graph. On the cases of graphs with a textbook rule
-/// the closed test decides as the rule.
+/// What `catalogue` prints with status 0 is read as the case of the named graph. Where the graph has a textbook rule, `test`
+/// on the case with p-values ends with status 0, and names exactly what the rule rejects.
 pub fn catalogue_is_of_the_named_graphs()
     ensures { CatalogueIsOfTheNamedGraphs }
 {}

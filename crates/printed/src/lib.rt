@@ -11,8 +11,9 @@
 //! - `bounds_are_of_the_closed_test`: what `bounds` prints has one line for each set that isn't empty, with its bound by the
 //!   closed test. If the closed test doesn't reject the set of the true hypotheses, no bound is above the number of false
 //!   hypotheses in its set.
-//! - `catalogue_is_of_the_named_graphs`: what `catalogue` prints is read as the case of the named graph. On the cases of
-//!   Holm's graph, of fixed sequences and of fallback the closed test decides as the textbook rule, and is never too wide.
+//! - `catalogue_is_of_the_named_graphs`: what `catalogue` prints is read as the case of the named graph. On Holm's graph, on
+//!   fixed sequences and on fallback with equal weights, by whatever p-values, the closed test rejects exactly what the
+//!   textbook rule rejects. `test` on the case with these p-values ends with status 0 and names exactly these hypotheses.
 //! - `studies_are_of_the_staged_test`: what `study` prints is the report of the replies to its commands. Each line `show`
 //!   names exactly what the staged closed test rejects on the looks that are kept by then. The lines `reject` after a look
 //!   name what the test rejects with it, beyond what it rejected before.
