@@ -54,6 +54,16 @@ pub trait Source {
     ghost counted: { (s : Self) → faults s < 2 ^ 64 };
 }
 
+/// Takes the next bytes into the front of the buffer, in one call, and returns how many.
+fn take_piece<S: Source>(source: &mut S, buf: &mut [u8]) -> Result<usize, Failed>
+    ensures bound { ReadsAtMost result buf.new }
+    ensures bytes { ReadConsumes (S.left source.old) (S.left source.new) result buf.new }
+    ensures cause { HasCause (S.faults source.old) (S.faults source.new) result }
+    ensures turn { S.calls source.new ≡ S.calls source.old + 1 }
+{
+    source.take(buf)
+}
+
 /// Reads all bytes of a source to its end, if there are at most `limit` of them. `limit` is at most 4,194,304.
 ///
 /// `Fault` comes only if the source's count of faults rose; with each other answer the count stays. `TooLong` comes only if
@@ -76,7 +86,7 @@ pub fn read_all<S: Source>(alloc: Global, source: &mut S, limit: u64) -> Result<
     let mut piece = [0u8; 4096];
     'pieces: loop {
         let ask = (most + 1 - read.len()).min(4096);
-        match source.take(&mut piece[..ask]) {
+        match take_piece(source, &mut piece[..ask]) {
             Err(_) => return Err(ReadEnd::Fault),
             Ok(0) => return Ok(read),
             Ok(count) => {

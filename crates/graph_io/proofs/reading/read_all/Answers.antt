@@ -9,8 +9,8 @@ pub returns-in_err-append-in-Ok-clause-taken : goal.returns-in_err-append-in-Ok-
 returns-in_err-append-in-Ok-clause-taken g c =
     let l = c.pieces in
     let p = err_from_is_err_and c.from_residual.result c.from_residual.ensures.1 in
-    let cs = take c.in-Ok.count c.take.new.buf in
-    let h : Consumes (g.S.Source.left l.source) (g.S.Source.left c.take.new.self) cs = c.in-Ok.ensures.bytes.0 in
+    let cs = take c.in-Ok.count c.take_piece.new.buf in
+    let h : Consumes (g.S.Source.left l.source) (g.S.Source.left c.take_piece.new.source) cs = c.in-Ok.ensures.bytes.0 in
     let b : length l.read + length cs ≤ c.args.limit + 1 = omega (arith, length-take {A = ℕ}) in
-    rw (p.1, p.2) (TookAtMost-piece (g.S.Source.left c.args.source.now) (g.S.Source.left l.source) (g.S.Source.left c.take.new.self)
+    rw (p.1, p.2) (TookAtMost-piece (g.S.Source.left c.args.source.now) (g.S.Source.left l.source) (g.S.Source.left c.take_piece.new.source)
     (c.args.limit + 1) l.read cs l.invariant.taken h b)
