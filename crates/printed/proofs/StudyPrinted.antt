@@ -1,5 +1,6 @@
 -- What `study` prints is of the staged closed test, on the looks that are kept by then.
-use Rattle.std.proofs.Common.{◌≡◌, refl, sym, ap, ap₂, subst, ◌∙◌, ℕ, ◌+◌, ◌==◌, ◌||◌, ◌⊎◌, ◌↔◌, inl, inr, Bool, true, false, List, [], ◌∷◌, ◌++◌, Some, length, arith}
+use Rattle.std.proofs.Common.{◌≡◌, refl, sym, ap, ap₂, subst, ◌∙◌, ℕ, ◌+◌, ◌==◌, ◌||◌, ◌⊎◌, ◌↔◌, inl, inr, Bool}
+use Rattle.std.proofs.Common.{true, false, List, [], ◌∷◌, ◌++◌, Some, length, arith}
 use Rattle.std.proofs.lemmas.Bool.Decides.{nat_tests}
 use Rattle.std.proofs.lemmas.List.{append_assoc}
 use Rattle.field_core.specs.Sets.{set_of}
