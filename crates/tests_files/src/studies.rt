@@ -6,7 +6,7 @@ use std::alloc::Global;
 use study_cli::run_study;
 
 /// A staged case of two hypotheses. At half the level each stage has 1/80, at the whole level 1/40.
-const CASE: &[u8] = b"alpha 0.05
+pub const CASE: &[u8] = b"alpha 0.05
 hypotheses H1 H2
 weights 1/2 1/2
 edge H1 H2 1
@@ -60,11 +60,11 @@ fn prints(rt: &HostRuntime, path: &str, commands: &[u8], text: &[u8]) -> Option<
     Some(status == 0 && printed.as_slice() == text)
 }
 
-const FIRST: &[u8] = b"look H1 1 0.02
+pub const FIRST: &[u8] = b"look H1 1 0.02
 look H2 1 0.03
 ";
 
-const FIRST_TEXT: &[u8] = b"alpha 1/20
+pub const FIRST_TEXT: &[u8] = b"alpha 1/20
 records 0
 look H1 1 1/50
 look H2 1 3/100
