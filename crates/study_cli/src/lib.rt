@@ -10,6 +10,8 @@
 //! - `case`, `commands`, `untouched`: a source that isn't read stays as it was, and one that is was read to its end after
 //!   status 0. The commands are read only after a case that a study can take, and the keeper is asked only after all commands
 //!   are accepted.
+//! - `case_taken`, `commands_taken`: of a source that isn't read to its end, at most one byte more than it may have is taken.
+//!   The takes are at most two more than the bytes that it may have.
 //! - `store_path`: `path`, `none`.
 //! - Law in `src/laws.rt`: `studies_have_one_outcome`.
 #![tactic(auto)]

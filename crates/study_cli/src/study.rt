@@ -7,6 +7,7 @@ ghost use Rattle.answers.specs.Runs.{Runs, Uses};
 ghost use Rattle.answers.specs.Ways.{EndsIn, over_values};
 ghost use Rattle.case_model.specs.CaseView.{content};
 ghost use Rattle.command_words.specs.Asked.{study_asked};
+ghost use Rattle.graph_cli.specs.Accepted.{IsTakenWithin};
 ghost use Rattle.study_answers.specs.CommandLines.{IsBelow};
 ghost use Rattle.study_answers.specs.KeeperWays.{over_keeper};
 ghost use Rattle.study_cli.specs.StudyOutcome.{
@@ -58,7 +59,7 @@ fn commands_in(alloc: Global, case: &Case, bytes: &[u8]) -> Result<List<StudyCom
 
 /// Returns what a study answers to a case, commands and kept looks. It takes from the commands only after a case that it can
 /// take, and asks the keeper only after all commands are accepted.
-#[tactic(auto, unfolding(crate::specs::StudyOutcome::study_call))]
+#[tactic(auto, using(graph_cli::proofs::Taken::untouched), unfolding(crate::specs::StudyOutcome::study_call))]
 fn study_call<S: Source, T: Source, K: Keeper>(
     alloc: Global,
     call: &StudyCall<'_>,
@@ -80,6 +81,8 @@ fn study_call<S: Source, T: Source, K: Keeper>(
     ensures commands_end { OnOk result (IsAtEnd (T.left commands.new)) }
     ensures keeper_kept { ¬ IsCommanded (study_asked call.now) (S.left case.old) (T.left commands.old) →
         keeper.new ≡ keeper.old }
+    ensures case_taken { IsTakenWithin S.left S.calls case.old case.new }
+    ensures commands_taken { IsTakenWithin T.left T.calls commands.old commands.new }
 {
     let accepted = accepted_case(alloc, &call.form, study_needs(), case)?;
     let bytes = take_whole(alloc, b"commands ", commands)?;
@@ -88,6 +91,7 @@ fn study_call<S: Source, T: Source, K: Keeper>(
 }
 
 /// Returns what these words, this case, these commands and the looks of this keeper call for.
+#[tactic(auto, using(graph_cli::proofs::Taken::untouched))]
 fn answer<S: Source, T: Source, K: Keeper>(
     alloc: Global,
     words: &[String],
@@ -113,6 +117,8 @@ fn answer<S: Source, T: Source, K: Keeper>(
         OnOk result (IsAtEnd (T.left commands.new)) }
     ensures keeper_kept { ¬ AsksKeeper (map string_bytes words.now) (S.left case.old) (T.left commands.old) →
         keeper.new ≡ keeper.old }
+    ensures case_taken { IsTakenWithin S.left S.calls case.old case.new }
+    ensures commands_taken { IsTakenWithin T.left T.calls commands.old commands.new }
 {
     match read_study(words) {
         Err(n) => Err(Stop::Refused(usage(alloc, n)?)),
@@ -123,7 +129,8 @@ fn answer<S: Source, T: Source, K: Keeper>(
 /// Makes a call of the program whose first word is `study`: all that it does. `words` are the words after the program's name,
 /// `case` is standard input, and `commands` is the file that `file_word` names. `keeper` keeps the looks. `out` gets the text
 /// of the answer, or one line that says why there is none. A source that isn't read stays as it was. `commands` is read only
-/// after a case that a study can take, and `keeper` is asked only after all commands are accepted.
+/// after a case that a study can take, and `keeper` is asked only after all commands are accepted. Of a source that isn't read
+/// to its end, at most one byte more than it may have is taken.
 ///
 /// First the looks that are kept are taken in their order. Then each command is replied to: a look that is taken is kept, and
 /// one that is refused changes nothing.
@@ -157,6 +164,8 @@ pub fn run_study<S: Source, T: Source, K: Keeper, W: Sink>(
         commands.old commands.new result }
     ensures untouched { ¬ AsksKeeper (map string_bytes words.now) (S.left case.old) (T.left commands.old) →
         keeper.new ≡ keeper.old }
+    ensures case_taken { IsTakenWithin S.left S.calls case.old case.new }
+    ensures commands_taken { IsTakenWithin T.left T.calls commands.old commands.new }
 {
     let outcome = answer(alloc, words, case, commands, keeper);
     conclude(out, &outcome)
