@@ -14,8 +14,8 @@ use Rattle.program.specs.Asks.{Ask, open_file, open_store, close_store}
 abbrev pub NamesPath : List (List ℕ) → List ℕ → Type 0
 NamesPath words path = (place : ℕ) × graph.NamesFile words place × (slice_get words place ≡ Some path)
 
--- An opener was asked for the file that the words name, and is `mid` then; `left` is what is read of the file. No bytes are read of a file
--- that was refused. Where no file is named, none is asked for, and there are no bytes.
+-- An opener was requested to open the file that the words name, and is `mid` then. `left` is what is read of the file. No bytes are read of a file
+-- that was refused. If no file is named, none is requested, and there are no bytes.
 abbrev pub IsGiven : {O : Type 0} → (O → Ask → O → Type 0) → (O → List ℕ → Option (List ℕ)) → (O → List ℕ → Type 0) → List (List ℕ)
     → O → O → Option (List ℕ) → Type 0
 IsGiven Does bytes_at MayRefuse words old mid left =
@@ -23,8 +23,8 @@ IsGiven Does bytes_at MayRefuse words old mid left =
     × ((left ≡ bytes_at old path) ⊎ (MayRefuse old path × (left ≡ Some []))))
     ⊎ (((path : List ℕ) → ¬ NamesPath words path) × (mid ≡ old) × (left ≡ Some []))
 
--- The store that the words name was asked for, held the looks `kept`, and was given back with the looks `held`; the opener is `new` then.
--- Where no store is named, none is asked for, and there are no looks before.
+-- The store that the words name was requested, held the looks `kept`, and was given back with the looks `held`. The opener is `new` then.
+-- If no store is named, none is requested, and there are no looks before.
 abbrev pub IsStored : {O : Type 0} → (O → Ask → O → Type 0) → (O → List ℕ → Option (List Look)) → List (List ℕ)
     → O → O → (kept held : Option (List Look)) → Type 0
 IsStored {O} Does looks_at words mid new kept held =
@@ -32,11 +32,11 @@ IsStored {O} Does looks_at words mid new kept held =
     × Does asked (close_store path held) new)
     ⊎ (((path : List ℕ) → ¬ study.NamesStore words path) × (new ≡ mid) × (kept ≡ Some []))
 
--- An opener was asked for the file that the words name.
+-- An opener was requested to open the file that the words name.
 abbrev pub IsAskedForFile : {O : Type 0} → (O → Ask → O → Type 0) → List (List ℕ) → O → O → Type 0
 IsAskedForFile Does words old new = (path : List ℕ) × NamesPath words path × Does old (open_file path) new
 
--- An opener that gave the file was asked for the store that the words name.
+-- An opener that gave the file was requested to open the store that the words name.
 abbrev pub IsAskedForStore : {O : Type 0} → (O → Ask → O → Type 0) → List (List ℕ) → (O → Option (List ℕ) → Type 0) → O → Type 0
 IsAskedForStore {O} Does words Given new =
     (mid : O) × (left : Option (List ℕ)) × Given mid left × (path : List ℕ) × study.NamesStore words path × Does mid (open_store path) new

@@ -26,7 +26,7 @@ pub trait Opener {
     /// A store of looks.
     type Store: Keeper + Drop;
 
-    /// What it may be after it was asked for this.
+    /// What it may be after this was requested.
     ghost does: { Self → Ask → Self → Type 0 };
 
     /// What the file at a path holds, where contracts know it; else `None`.

@@ -38,8 +38,8 @@ fn unopened(alloc: Global) -> Result<FailingSource, NoMemory>
 /// Makes a call of the program: all that it does but to make its devices. `words` are the words after the program's name. `case`
 /// is standard input, and `out` gets the text of the answer, or one line that says why there is none.
 ///
-/// The opener is asked for the file that the words name, then for the store of looks that they name, and gets the store back. It
-/// is asked for nothing that isn't named. Words that begin with `study` are those of `run_study`, all others those of `run`. A
+/// The opener opens the file that the words name, then the store of looks that they name, and gets the store back. It opens
+/// nothing that isn't named. Words that begin with `study` are those of `run_study`, all others those of `run`. A
 /// study whose words name no store begins with no looks, and they are kept nowhere. A file that is refused fails at its first
 /// take. Where there is no memory to open what is named, the status is 8, and nothing is read or put.
 pub fn run_program<O: Opener, S: Source, W: Sink>(

@@ -1,5 +1,5 @@
-//! Tests of looks that are kept in files: their rows, a keeper over files that the tests make, and
-//! runs of a study over one file; and the whole program over a file and a store in memory.
+//! Tests of looks that are kept in files: their rows, a keeper over files that the tests make, and runs of a study over one
+//! file. Tests of the whole program over a file and a store in memory.
 #![tactic(auto)]
 
 #[cfg(test)]

@@ -7,7 +7,7 @@ use graph_io::{Look, MemoryKeeper, MemorySink, MemorySource};
 use program::{OpenFault, Opener, run_program};
 use std::alloc::Global;
 
-/// One file and one store, whatever their paths, and a line for each thing that was asked for.
+/// One file and one store, whatever their paths, and a line for each thing that was requested.
 #[derive(Drop)]
 struct Shelf {
     alloc: Global,
@@ -74,7 +74,7 @@ impl Opener for Shelf {
     }
 }
 
-/// A call and what it is to do: the status, the text, what is asked for, and how many looks are kept then.
+/// A call and what it is to do: the status, the text, what is requested, and how many looks are kept then.
 #[derive(Clone, Copy)]
 struct Row<'a> {
     words: &'a [&'a str],
@@ -170,7 +170,7 @@ fn a_check_opens_its_document(rt: HostRuntime) {
     assert!(rt; is_done(rt.alloc(), &row) == Some(true));
 }
 
-/// Whether a file that can't be opened is told as a fault of the reading.
+/// Whether a file that can't be opened is reported as a fault of the reading.
 #[test]
 fn a_file_that_is_refused_is_a_read_fault(rt: HostRuntime) {
     let row = Row {

@@ -3,8 +3,8 @@
 //!
 //! `main` reads the words, makes the devices, calls `run_program`, and ends with its status. It is proved safe. Its stored run
 //! (`args`, `stdin`, `stdout`) shows that it gives the right words and devices to `run_program`. `bench/study.py` shows that it
-//! opens the real files. Two statuses of its own have no clause and no test: 10 if a word can't be read, and 8, with nothing
-//! printed, if there is no memory for the words.
+//! opens the real files. Two statuses of its own have no clause and no test. It ends with 10 if a word can't be read, and with
+//! 8, and nothing printed, if there is no memory for the words.
 #![tactic(auto)]
 
 mod opener;
