@@ -40,7 +40,8 @@ pub record IsCutShort (w : Ways Answer) (old new : Option (List ℕ)) : Type 0 w
   pub ends : EndsIn w outcome
   pub put : AppendsPrefix old new (text_of outcome)
 
--- An outcome that the call may have was put. At most one put was made for each byte of its text, and one more.
+-- An outcome that the call may have was put, or the front of it before a fault of the sink. At most one put was made for each byte of its text,
+-- and one more.
 pub record IsPutBriefly (w : Ways Answer) (rose same : Type 0) (old new : Option (List ℕ)) (before after status : ℕ) : Type 0 where
   pub outcome : Result Answer Stop
   pub ends : EndsIn w outcome
