@@ -1,5 +1,5 @@
 -- A text spells at most one level, which `numeral_of` gives.
-use Rattle.std.proofs.Common.{◌≡◌, ℕ, List, Option, None, Result, Ok, Err, IfSome, sym, ◌∙◌, ap}
+use Rattle.std.proofs.Common.{◌≡◌, ℕ, List, None, Result, Ok, Err, IfSome, sym, ◌∙◌}
 use Rattle.std.specs.Result.{result_ok}
 use Rattle.field_core.specs.View.{terms}
 use Rattle.field_core.specs.declared.ratio.Ratio.{Ratio}

@@ -1,18 +1,15 @@
 -- Each name of the table names one thing.
-use Rattle.std.proofs.Common.{◌≡◌, ◌∙◌, sym, ap, refl, ℕ, List, if◌then◌else◌}
+use Rattle.std.proofs.Common.{◌≡◌, ◌∙◌, sym, ap, refl, ℕ, List, if◌then◌else◌, Option, Some}
 use Rattle.std.specs.Prelude.{codes}
 use Rattle.std.specs.Str.{bytes_eq}
-use Rattle.command_words.specs.Table.{verb_name, argument_name, form_name, graph_name, priority_name}
+use Rattle.command_words.specs.Table.{verb_name, argument_name}
 use Rattle.command_words.specs.declared.argument.Argument.{Argument}
 use Rattle.command_words.specs.declared.argument.Argument.TheVariants as arguments
-use Rattle.command_words.specs.declared.form.Form.{Form}
-use Rattle.command_words.specs.declared.form.Form.TheVariants.{Text, Csv, Json}
-use Rattle.command_words.specs.declared.graph_name.GraphName.{GraphName}
-use Rattle.command_words.specs.declared.graph_name.GraphName.TheVariants as graphs
 use Rattle.command_words.specs.declared.verb.Verb.{Verb}
 use Rattle.command_words.specs.declared.verb.Verb.TheVariants as verbs
-use Rattle.sequential.specs.declared.priority.Priority.{Priority}
-use Rattle.sequential.specs.declared.priority.Priority.TheVariants.{First, Last, Ratio}
+
+pub same_some : {A : Type 0} (o : Option A) (x y : A) → o ≡ Some x → o ≡ Some y → x ≡ y
+same_some o x y h k = cc
 
 -- ---- commands
 
@@ -72,45 +69,3 @@ argument_back arguments.Store = refl
 
 pub one_argument : (a b : Argument) → argument_name a ≡ argument_name b → a ≡ b
 one_argument a b e = sym (argument_back a) ∙ (ap argument_of e ∙ argument_back b)
-
--- ---- values
-
-abbrev form_of : List ℕ → Form
-form_of name = if bytes_eq name (codes "text") then Text else if bytes_eq name (codes "csv") then Csv else Json
-
-form_back : (f : Form) → form_of (form_name f) ≡ f
-unfolding form_name
-form_back Text = refl
-form_back Csv = refl
-form_back Json = refl
-
-pub one_form : (f g : Form) → form_name f ≡ form_name g → f ≡ g
-one_form f g e = sym (form_back f) ∙ (ap form_of e ∙ form_back g)
-
-abbrev graph_of : List ℕ → GraphName
-graph_of name =
-    if bytes_eq name (codes "holm") then graphs.Holm else if bytes_eq name (codes "fixed-sequence") then graphs.FixedSequence
-    else if bytes_eq name (codes "fallback") then graphs.Fallback else if bytes_eq name (codes "parallel") then graphs.Parallel else graphs.ImprovedParallel
-
-graph_back : (g : GraphName) → graph_of (graph_name g) ≡ g
-unfolding graph_name
-graph_back graphs.Holm = refl
-graph_back graphs.FixedSequence = refl
-graph_back graphs.Fallback = refl
-graph_back graphs.Parallel = refl
-graph_back graphs.ImprovedParallel = refl
-
-pub one_graph : (g h : GraphName) → graph_name g ≡ graph_name h → g ≡ h
-one_graph g h e = sym (graph_back g) ∙ (ap graph_of e ∙ graph_back h)
-
-abbrev priority_of : List ℕ → Priority
-priority_of name = if bytes_eq name (codes "first") then First else if bytes_eq name (codes "last") then Last else Ratio
-
-priority_back : (p : Priority) → priority_of (priority_name p) ≡ p
-unfolding priority_name
-priority_back First = refl
-priority_back Last = refl
-priority_back Ratio = refl
-
-pub one_priority : (p q : Priority) → priority_name p ≡ priority_name q → p ≡ q
-one_priority p q e = sym (priority_back p) ∙ (ap priority_of e ∙ priority_back q)

@@ -19,20 +19,20 @@ use Rattle.command_words.specs.declared.verb.Verb.{Verb}
 use Rattle.command_words.proofs.CountTexts.{one_count}
 use Rattle.command_words.proofs.EqualsSigns.{no_equals, one_name, argument_is_name}
 use Rattle.command_words.proofs.LevelTexts.{one_level}
-use Rattle.command_words.proofs.OneName.{one_verb, one_argument, one_form, one_graph, one_priority}
+use Rattle.command_words.proofs.OneName.{same_some, one_verb, one_argument}
 
 -- ---- values
 
 -- a text spells at most one value
 one_value : (verb : Verb) (argument : Argument) (v w : Value argument) (text : List ℕ) → Spells verb argument v text → Spells verb argument w text
     → v ≡ w
-one_value verb arguments.Form v w text h k = one_form v w (sym h.1 ∙ k.1)
+one_value verb arguments.Form v w text h k = same_some _ v w h.1 k.1
 one_value verb arguments.Alpha v w text h k = one_level text v w h k
-one_value verb arguments.Priority v w text h k = one_priority v w (sym h ∙ k)
-one_value verb arguments.To v w text h k = one_form v w (sym h ∙ k)
+one_value verb arguments.Priority v w text h k = same_some _ v w h k
+one_value verb arguments.To v w text h k = same_some _ v w h k
 one_value verb arguments.Size v w text h k = one_count text v w h k
 one_value verb arguments.Seed v w text h k = one_count text v w h k
-one_value verb arguments.Graph v w text h k = one_graph v w (sym h ∙ k)
+one_value verb arguments.Graph v w text h k = same_some _ v w h k
 one_value verb arguments.Second v w text h k = one_count text v w h k
 one_value verb arguments.File v w text h k = refl
 one_value verb arguments.Store v w text h k = sym h ∙ k
@@ -186,9 +186,6 @@ arguments_decided verb words = record {
   not_both = λ g n h k. let w = same_begin verb 1 nothing (drop 1 words) g k.given [] k.rest h.0 k.at h.1 k.begin (inl refl) (inr (k.front, k.bad)) in no_clash k.rest verb
       k.given k.front w.rest k.bad;
 }
-
-same_some : {A : Type 0} (o : Option A) (x y : A) → o ≡ Some x → o ≡ Some y → x ≡ y
-same_some o x y h k = cc
 
 no_some : {A : Type 0} (o : Option A) (x : A) → o ≡ None → o ≡ Some x → ⊥
 no_some o x h k = cc

@@ -1,8 +1,8 @@
 -- Arguments with their values.
-use Rattle.std.specs.Prelude.{◌≡◌, ℕ, List, Contains}
+use Rattle.std.specs.Prelude.{◌≡◌, ℕ, List, Contains, Some}
 use Rattle.command_words.specs.Counts.{IsCount}
 use Rattle.command_words.specs.Levels.{Level, level_of, IsLevel}
-use Rattle.command_words.specs.Table.{forms_of, form_name, graph_name, priority_name}
+use Rattle.command_words.specs.Table.{forms_of, form_named, graph_named, priority_named}
 use Rattle.command_words.specs.declared.argument.Argument.{Argument}
 use Rattle.command_words.specs.declared.argument.Argument.TheVariants as arguments
 use Rattle.command_words.specs.declared.choice.Choice.{Choice}
@@ -44,13 +44,13 @@ chosen (choices.Store path) = record { argument = arguments.Store; value = path.
 
 -- a command knows the text of a value
 abbrev pub Spells : Verb → (argument : Argument) → Value argument → List ℕ → Type 0
-Spells verb arguments.Form form text = Contains (forms_of verb) form × (text ≡ form_name form)
+Spells verb arguments.Form form text = Contains (forms_of verb) form × (form_named text ≡ Some form)
 Spells verb arguments.Alpha alpha text = IsLevel text alpha
-Spells verb arguments.Priority priority text = text ≡ priority_name priority
-Spells verb arguments.To form text = text ≡ form_name form
+Spells verb arguments.Priority priority text = priority_named text ≡ Some priority
+Spells verb arguments.To form text = form_named text ≡ Some form
 Spells verb arguments.Size size text = IsCount text size
 Spells verb arguments.Seed seed text = IsCount text seed
-Spells verb arguments.Graph graph text = text ≡ graph_name graph
+Spells verb arguments.Graph graph text = graph_named text ≡ Some graph
 Spells verb arguments.Second second text = IsCount text second
 Spells verb arguments.File named text = Unit {0}
 Spells verb arguments.Store path text = text ≡ path

@@ -1,5 +1,7 @@
 -- The names of commands, arguments and values, and what each command takes.
 use Rattle.std.specs.Prelude.{ℕ, Bool, true, false, List, [], ◌∷◌, Option, Some, None, codes}
+use Rattle.std.specs.Str.{bytes_eq}
+use Rattle.std.specs.Map.{lookup}
 use Rattle.command_words.specs.declared.argument.Argument.{Argument}
 use Rattle.command_words.specs.declared.argument.Argument.TheVariants as arguments
 use Rattle.command_words.specs.declared.form.Form.{Form}
@@ -85,19 +87,20 @@ argument_name arguments.Store = codes "store"
 
 -- ---- values
 
-unfoldable pub form_name : Form → List ℕ
-form_name Text = codes "text"
-form_name Csv = codes "csv"
-form_name Json = codes "json"
+-- the form of a name
+unfoldable pub form_named : List ℕ → Option Form
+form_named name = lookup (bytes_eq name) ((codes "text", Text) ∷ (codes "csv", Csv) ∷ (codes "json", Json) ∷ [])
 
-unfoldable pub graph_name : GraphName → List ℕ
-graph_name Holm = codes "holm"
-graph_name FixedSequence = codes "fixed-sequence"
-graph_name Fallback = codes "fallback"
-graph_name Parallel = codes "parallel"
-graph_name ImprovedParallel = codes "improved-parallel"
+-- the graph of a name
+unfoldable pub graph_named : List ℕ → Option GraphName
+graph_named name = lookup (bytes_eq name) (
+    (codes "holm", Holm) ∷
+    (codes "fixed-sequence", FixedSequence) ∷
+    (codes "fallback", Fallback) ∷
+    (codes "parallel", Parallel) ∷
+    (codes "improved-parallel", ImprovedParallel) ∷
+    [])
 
-unfoldable pub priority_name : Priority → List ℕ
-priority_name First = codes "first"
-priority_name Last = codes "last"
-priority_name Ratio = codes "ratio"
+-- the priority of a name
+unfoldable pub priority_named : List ℕ → Option Priority
+priority_named name = lookup (bytes_eq name) ((codes "first", First) ∷ (codes "last", Last) ∷ (codes "ratio", Ratio) ∷ [])

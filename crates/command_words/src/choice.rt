@@ -1,8 +1,8 @@
 //! Arguments with their values.
-ghost use Rattle.std.specs.Prelude.{◌≡◌, ◌≢◌, None, IfSome};
+ghost use Rattle.std.specs.Prelude.{◌≡◌, None, IfSome};
 ghost use Rattle.command_words.specs.Choices.{Value, chosen, Spells, IsSpelled};
 ghost use Rattle.command_words.specs.Levels.{Level, level_of, IsLevel};
-ghost use Rattle.command_words.specs.Table.{priority_name};
+ghost use Rattle.command_words.specs.Table.{priority_named};
 ghost use Rattle.command_words.specs.declared.argument.Argument.TheVariants as arguments;
 
 use crate::argument::Argument;
@@ -29,21 +29,20 @@ pub(crate) enum Choice<'a> {
 }
 
 /// Returns the priority of a name.
-#[tactic(auto, unfolding(crate::specs::Table::priority_name))]
-fn priority_named(name: &[u8]) -> Option<Priority>
-    ensures named { IfSome result (λ priority. name.now ≡ priority_name priority) }
-    ensures unknown { result ≡ None → (priority : Priority) → name.now ≢ priority_name priority }
+#[tactic(auto, unfolding(crate::specs::Table::priority_named))]
+fn priority_named(name: &str) -> Option<Priority>
+    ensures { result ≡ priority_named name.now }
 {
     match name {
-        b"first" => Some(Priority::First),
-        b"last" => Some(Priority::Last),
-        b"ratio" => Some(Priority::Ratio),
+        "first" => Some(Priority::First),
+        "last" => Some(Priority::Last),
+        "ratio" => Some(Priority::Ratio),
         _ => None,
     }
 }
 
 /// Returns the form of a name, if the command reads its case in it.
-fn form_read(verb: Verb, name: &[u8]) -> Option<Form>
+fn form_read(verb: Verb, name: &str) -> Option<Form>
     ensures known { IfSome result (λ form. Spells verb arguments.Form form name.now) }
     ensures unknown { result ≡ None → (form : Form) → ¬ Spells verb arguments.Form form name.now }
 {
@@ -67,13 +66,13 @@ impl<'a> Choice<'a> {
         ensures unknown { result ≡ None → (value : Value argument) → ¬ Spells verb argument value text.now }
     {
         match argument {
-            Argument::Form => Some(Choice::Form(form_read(verb, text.as_bytes())?)),
+            Argument::Form => Some(Choice::Form(form_read(verb, text)?)),
             Argument::Alpha => Some(Choice::Alpha(level_spelt(text.as_bytes())?)),
-            Argument::Priority => Some(Choice::Priority(priority_named(text.as_bytes())?)),
-            Argument::To => Some(Choice::To(Form::named(text.as_bytes())?)),
+            Argument::Priority => Some(Choice::Priority(priority_named(text)?)),
+            Argument::To => Some(Choice::To(Form::named(text)?)),
             Argument::Size => Some(Choice::Size(count_spelt(text.as_bytes())?)),
             Argument::Seed => Some(Choice::Seed(count_spelt(text.as_bytes())?)),
-            Argument::Graph => Some(Choice::Graph(GraphName::named(text.as_bytes())?)),
+            Argument::Graph => Some(Choice::Graph(GraphName::named(text)?)),
             Argument::Second => Some(Choice::Second(count_spelt(text.as_bytes())?)),
             Argument::File => Some(Choice::File),
             Argument::Store => Some(Choice::Store(text)),

@@ -11,19 +11,18 @@ pub enum Form {
 }
 
 impl Form {
-    ghost use Rattle.std.specs.Prelude.{◌≡◌, ◌≢◌, IfSome};
-    ghost use Rattle.command_words.specs.Table.{form_name};
+    ghost use Rattle.std.specs.Prelude.{◌≡◌};
+    ghost use Rattle.command_words.specs.Table.{form_named};
 
     /// Returns the form of a name.
-    #[tactic(auto, unfolding(crate::specs::Table::form_name))]
-    pub(crate) fn named(name: &[u8]) -> Option<Form>
-        ensures named { IfSome result (λ form. name.now ≡ form_name form) }
-        ensures unknown { result ≡ None → (form : Form) → name.now ≢ form_name form }
+    #[tactic(auto, unfolding(crate::specs::Table::form_named))]
+    pub(crate) fn named(name: &str) -> Option<Form>
+        ensures { result ≡ form_named name.now }
     {
         match name {
-            b"text" => Some(Form::Text),
-            b"csv" => Some(Form::Csv),
-            b"json" => Some(Form::Json),
+            "text" => Some(Form::Text),
+            "csv" => Some(Form::Csv),
+            "json" => Some(Form::Json),
             _ => None,
         }
     }

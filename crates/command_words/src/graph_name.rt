@@ -21,24 +21,21 @@ pub enum SizedGraph {
 }
 
 impl GraphName {
-    ghost use Rattle.std.specs.Prelude.{◌≡◌, ◌≢◌, IfSome};
+    ghost use Rattle.std.specs.Prelude.{◌≡◌};
     ghost use Rattle.command_words.specs.Graphs.{sized, has_second};
-    ghost use Rattle.command_words.specs.Table.{graph_name};
+    ghost use Rattle.command_words.specs.Table.{graph_named};
 
     /// Returns the graph of a name.
-    #[tactic(auto, unfolding(crate::specs::Table::graph_name))]
-    pub(crate) fn named(name: &[u8]) -> Option<GraphName>
-        ensures named { IfSome result (λ graph. name.now ≡ graph_name graph) }
-        ensures unknown { result ≡ None → (graph : GraphName) → name.now ≢ graph_name graph }
+    #[tactic(auto, unfolding(crate::specs::Table::graph_named))]
+    pub(crate) fn named(name: &str) -> Option<GraphName>
+        ensures { result ≡ graph_named name.now }
     {
-        if name == b"improved-parallel".as_slice() {
-            return Some(GraphName::ImprovedParallel);
-        }
         match name {
-            b"holm" => Some(GraphName::Holm),
-            b"fixed-sequence" => Some(GraphName::FixedSequence),
-            b"fallback" => Some(GraphName::Fallback),
-            b"parallel" => Some(GraphName::Parallel),
+            "holm" => Some(GraphName::Holm),
+            "fixed-sequence" => Some(GraphName::FixedSequence),
+            "fallback" => Some(GraphName::Fallback),
+            "parallel" => Some(GraphName::Parallel),
+            "improved-parallel" => Some(GraphName::ImprovedParallel),
             _ => None,
         }
     }

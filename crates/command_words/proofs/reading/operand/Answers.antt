@@ -1,10 +1,7 @@
-use Rattle.std.proofs.Common.{◌≡◌, sym, Option, Some}
-use Rattle.command_words.specs.declared.argument.Argument.{Argument}
+use Rattle.std.proofs.Common.{sym}
+use Rattle.command_words.proofs.OneName.{same_some}
 use Rattle.command_words.proofs.Steps.{none_spelled}
 use Rattle.command_words.proofs.reading.operand.Goals as goal
-
-same_some : (o : Option Argument) (a b : Argument) → o ≡ Some a → o ≡ Some b → a ≡ b
-same_some o a b h k = cc
 
 pub returns-clause-none : goal.returns-clause-none
 returns-clause-none c =
