@@ -121,4 +121,4 @@ mutual
 -- the entry of a text has five coefficients
 pub entry_whole : (text : List ℕ) (entry : List Ratio) → IsEntryText text entry → is_whole_entry entry ≡ true
 entry_whole text entry h =
-    ap (λ n. n == 5) (sym (length-map entry terms) ∙ value_five h.expression (map terms entry) h.worth_is)
+    ap (λ n. n == 5) (sym (length-map entry terms) ∙ value_five h.expression (map terms entry) h.value_is)
