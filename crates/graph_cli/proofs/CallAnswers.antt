@@ -11,7 +11,7 @@ use Rattle.command_words.specs.declared.graph_name.SizedGraph.{SizedGraph}
 use Rattle.command_words.specs.declared.form.Form.{Form}
 use Rattle.command_words.specs.declared.form.Form.TheVariants as forms
 use Rattle.graph_cli.specs.Canon.{sheet_stage, canon_stage}
-use Rattle.graph_cli.specs.Graphs.{catalogue_stage, named_case, told_size}
+use Rattle.graph_cli.specs.Graphs.{catalogue_stage, named_case, reported_size}
 use Rattle.graph_cli.specs.Help.{help_stage}
 use Rattle.graph_cli.specs.Troubles.{line_of}
 use Rattle.graph_cli.proofs.AcceptedCases.{accepted_decided}
@@ -30,7 +30,7 @@ help_decided = only_decided _
 
 catalogue_decided : (graph : SizedGraph) → IsDecided (catalogue_stage graph)
 unfolding catalogue_stage
-catalogue_decided graph = then_decided _ _ (made_decided (told_size graph) (named_case graph)) (λ c. only_decided _)
+catalogue_decided graph = then_decided _ _ (made_decided (reported_size graph) (named_case graph)) (λ c. only_decided _)
 
 sheet_decided : (c : Content) → IsDecided (sheet_stage c)
 unfolding sheet_stage

@@ -15,12 +15,12 @@ use Rattle.edge_text.specs.CanonicalText.{canonical_text}
 use Rattle.graph_cli.specs.Catalogue.{made_of}
 
 -- how many hypotheses a named graph has, as it is reported: 2^64 - 1 if they are more
-abbrev pub told_size : SizedGraph → ℕ
-told_size (Holm n) = n
-told_size (FixedSequence n) = n
-told_size (Fallback n) = n
-told_size (Parallel a b) = min (a + b) (2 ^ 64 - 1)
-told_size (ImprovedParallel a b) = min (a + b) (2 ^ 64 - 1)
+abbrev pub reported_size : SizedGraph → ℕ
+reported_size (Holm n) = n
+reported_size (FixedSequence n) = n
+reported_size (Fallback n) = n
+reported_size (Parallel a b) = min (a + b) (2 ^ 64 - 1)
+reported_size (ImprovedParallel a b) = min (a + b) (2 ^ 64 - 1)
 
 -- the case of a named graph, at the level 1/20 and without p-values; the weights of fallback are equal
 unfoldable pub named_case : SizedGraph → Result Content CatalogueFault
@@ -32,4 +32,4 @@ named_case (ImprovedParallel a b) = improved_case a b (part 20) []
 
 -- the canonical text of the case that is the named graph; or why there is none of these sizes
 unfoldable pub catalogue_stage : SizedGraph → Stage Refusal Answer
-catalogue_stage graph = and_then (made_of (told_size graph) (named_case graph)) (λ c. only (done (canonical_text c)))
+catalogue_stage graph = and_then (made_of (reported_size graph) (named_case graph)) (λ c. only (done (canonical_text c)))

@@ -108,6 +108,6 @@ pub fn accepted_case<S: Source>(
     let case = read_case(alloc, form, bytes.as_slice())?;
     match suitable(&case, needs) {
         Ok(()) => Ok(case),
-        Err(trouble) => Err(trouble.told(alloc, &case)),
+        Err(trouble) => Err(trouble.stop(alloc, &case)),
     }
 }

@@ -47,7 +47,7 @@ use crate::commands::test::test_answer;
 use crate::commands::weights::weights_answer;
 use crate::kind::InputKind;
 use crate::needs::Needs;
-use crate::trouble::{Trouble, told};
+use crate::trouble::{Trouble, ending_of};
 use answers::{Answer, Stop, take_whole};
 use case_model::Case;
 use command_words::{CaseForm, CaseTask, Command};
@@ -102,7 +102,7 @@ fn case_call<S: Source>(
     ensures taken { IsTakenWithin S.left S.calls source.old source.new }
 {
     let case = accepted_case(alloc, form, needs_of(task), source)?;
-    told(alloc, &case, case_answer(alloc, task, &case))
+    ending_of(alloc, &case, case_answer(alloc, task, &case))
 }
 
 /// Returns what `check` needs of its case.
@@ -134,7 +134,7 @@ fn check_call<S: Source, T: Source>(
     let accepted = accepted_case(alloc, form, check_needs(), case)?;
     let bytes = take_whole(alloc, b"proof ", proof)?;
     let answer = check_answer(alloc, &accepted, bytes.as_slice());
-    told(alloc, &accepted, answer)
+    ending_of(alloc, &accepted, answer)
 }
 
 /// Returns what a command answers to a case and a proof. It takes from a source only what it needs.

@@ -16,6 +16,7 @@
 //!   those that the staged closed test rejects. `checks_are_of_the_closed_test`: if `check` ends with status 0, the closed test
 //!   rejects each listed hypothesis, and in version 2 no other. `evidence_is_of_the_closed_test`: what `evidence` prints with
 //!   status 0 is evidence that `check` says yes to. Its steps list exactly the hypotheses that the closed test rejects.
+//!   `samples_are_of_the_closed_test`: the same of what `sample` prints. The laws of the other commands are in `printed`.
 //!
 //! The clauses speak of sources that expose their bytes and of a sink that exposes what it holds, as those in memory
 //! do. Standard input and output expose neither. That the program answers there as on exposed bytes rests on `run`

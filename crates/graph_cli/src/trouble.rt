@@ -63,7 +63,7 @@ impl Trouble {
     }
 
     /// Returns why a call stops at it, with the line that reports it by the names of a case.
-    pub fn told(&self, alloc: Global, case: &Case) -> Stop
+    pub fn stop(&self, alloc: Global, case: &Case) -> Stop
         ensures { StopsAt (content case.now).names self.now result }
     {
         match self.line(alloc, case.names()) {
@@ -88,12 +88,12 @@ impl Trouble {
 }
 
 /// Returns what a call ends in whose command answers this to a case.
-pub fn told(alloc: Global, case: &Case, given: Result<Answer, Trouble>) -> Result<Answer, Stop>
+pub fn ending_of(alloc: Global, case: &Case, given: Result<Answer, Trouble>) -> Result<Answer, Stop>
     ensures { IsTold (content case.now).names given result }
 {
     match given {
         Ok(answer) => Ok(answer),
-        Err(trouble) => Err(trouble.told(alloc, case)),
+        Err(trouble) => Err(trouble.stop(alloc, case)),
     }
 }
 

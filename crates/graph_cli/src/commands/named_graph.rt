@@ -3,7 +3,7 @@ ghost use Rattle.std.specs.Prelude.{◌≡◌, ◌⊎◌, IfOk, IfErr, Ok, Err};
 ghost use Rattle.answers.specs.Ways.{EndsIn, over_values};
 ghost use Rattle.case_model.specs.CaseView.{content};
 ghost use Rattle.catalogue.specs.declared.fault.CatalogueFault.TheVariants.{NoMemory as OutOfMemory};
-ghost use Rattle.graph_cli.specs.Graphs.{named_case, told_size, catalogue_stage};
+ghost use Rattle.graph_cli.specs.Graphs.{named_case, reported_size, catalogue_stage};
 
 use crate::commands::catalogue_faults::fault_refusal;
 use answers::{Answer, Stop};
@@ -16,8 +16,8 @@ use edge_text::write_text;
 use std::alloc::Global;
 
 /// Returns how many hypotheses a graph has; 2^64 - 1 if they are more.
-fn told_size(graph: SizedGraph) -> u64
-    ensures { result ≡ told_size graph }
+fn reported_size(graph: SizedGraph) -> u64
+    ensures { result ≡ reported_size graph }
 {
     match graph {
         SizedGraph::Holm(n) | SizedGraph::FixedSequence(n) | SizedGraph::Fallback(n) => n,
@@ -48,6 +48,6 @@ pub fn catalogue_answer(alloc: Global, graph: SizedGraph) -> Result<Answer, Stop
 {
     match named_case(alloc, graph) {
         Ok(case) => Ok(Answer::done(write_text(alloc, &case)?)),
-        Err(fault) => Err(Stop::Refused(fault_refusal(alloc, told_size(graph), &fault)?)),
+        Err(fault) => Err(Stop::Refused(fault_refusal(alloc, reported_size(graph), &fault)?)),
     }
 }

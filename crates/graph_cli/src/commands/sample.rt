@@ -7,7 +7,7 @@ ghost use Rattle.graph_cli.specs.Troubles.{Meets};
 ghost use Rattle.graph_cli.specs.declared.kind.InputKind.TheVariants.{Single};
 
 use crate::commands::catalogue_faults::fault_refusal;
-use crate::trouble::{Run, Trouble, told};
+use crate::trouble::{Run, Trouble, ending_of};
 use answers::{Answer, Stop};
 use case_model::Case;
 use catalogue::sample;
@@ -33,7 +33,7 @@ pub fn sample_answer(alloc: Global, size: u64, seed: u64) -> Result<Answer, Stop
     ensures { EndsIn (over_values (sample_stage size seed)) result }
 {
     match sample(alloc, size, seed) {
-        Ok(case) => told(alloc, &case, decided_sample(alloc, &case, seed)),
+        Ok(case) => ending_of(alloc, &case, decided_sample(alloc, &case, seed)),
         Err(fault) => Err(Stop::Refused(fault_refusal(alloc, size, &fault)?)),
     }
 }

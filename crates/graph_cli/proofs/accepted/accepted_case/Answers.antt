@@ -27,6 +27,6 @@ pub returns-clause-ends : goal.returns-clause-ends
 returns-clause-ends g c =
     let bytes = c.in_ok-bytes.ensures.ends in
     let read = rw c.as_slice.ensures at c.in_ok-case.ensures in
-    trouble_stops (content c.in_ok-case.case).names (suitable c.args.needs (content c.in_ok-case.case)) _ _ _ _ c.in-Err.trouble c.told.result
-    c.in-Err.ensures c.told.ensures
+    trouble_stops (content c.in_ok-case.case).names (suitable c.args.needs (content c.in_ok-case.case)) _ _ _ _ c.in-Err.trouble c.stop.result
+    c.in-Err.ensures c.stop.ensures
     (λ (r : Refusal) h. (inr (c.in_ok-bytes.bytes, bytes.0, inr (content c.in_ok-case.case, read, h)), bytes.1)) bytes.1

@@ -17,6 +17,6 @@ unfolding case_call
 returns-clause-ends g c =
     let taken = rw c.needs_of.ensures at c.in_ok-case.ensures.ends.0 in
     let clean = c.in_ok-case.ensures.ends.1 in
-    value_ends _ _ c.told.result (λ x h. ((content c.in_ok-case.case, taken, h), clean))
+    value_ends _ _ c.ending_of.result (λ x h. ((content c.in_ok-case.case, taken, h), clean))
     (λ (r : Refusal) h. (inr (content c.in_ok-case.case, taken, h), clean)) clean
-    (told_ends _ _ c.case_answer.result c.told.result c.case_answer.ensures c.told.ensures)
+    (told_ends _ _ c.case_answer.result c.ending_of.result c.case_answer.ensures c.ending_of.ensures)

@@ -29,9 +29,9 @@ returns-clause-ends g c =
     let taken = rw c.check_needs.ensures at c.in_ok-accepted.ensures.ends.0 in
     let bytes = c.in_ok-bytes.ensures.ends in
     let clean = c.in_ok-accepted.ensures.ends.1 in
-    value_ends _ _ c.told.result (λ x h. ((case, taken, (c.in_ok-bytes.bytes, bytes.0, h)), (clean, bytes.1)))
+    value_ends _ _ c.ending_of.result (λ x h. ((case, taken, (c.in_ok-bytes.bytes, bytes.0, h)), (clean, bytes.1)))
     (λ (r : Refusal) h. (inr (case, taken, inr (c.in_ok-bytes.bytes, bytes.0, h)), (clean, bytes.1))) (clean, bytes.1)
-    (told_ends _ _ c.check_answer-answer.result c.told.result (rw c.as_slice.ensures at c.check_answer-answer.ensures) c.told.ensures)
+    (told_ends _ _ c.check_answer-answer.result c.ending_of.result (rw c.as_slice.ensures at c.check_answer-answer.ensures) c.ending_of.ensures)
 
 pub returns-in_err-bytes-clause-proof_kept : goal.returns-in_err-bytes-clause-proof_kept
 returns-in_err-bytes-clause-proof_kept g c =

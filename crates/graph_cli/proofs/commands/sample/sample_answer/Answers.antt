@@ -16,9 +16,9 @@ decided_sample-requires c = subst (λ i. IsOfKind Single i) (sym c.in-Ok.ensures
 pub returns-in-Ok : goal.returns-in-Ok
 unfolding sample_stage
 returns-in-Ok c =
-    value_ends _ _ c.told.result (λ x h. (content c.in-Ok.case, c.in-Ok.ensures.case, h))
+    value_ends _ _ c.ending_of.result (λ x h. (content c.in-Ok.case, c.in-Ok.ensures.case, h))
     (λ (r : Refusal) h. inr (content c.in-Ok.case, c.in-Ok.ensures.case, h)) tt
-    (told_ends _ _ c.decided_sample.result c.told.result c.decided_sample.ensures c.told.ensures)
+    (told_ends _ _ c.decided_sample.result c.ending_of.result c.decided_sample.ensures c.ending_of.ensures)
 
 pub returns-in_ok-fault_refusal-in-Err : goal.returns-in_ok-fault_refusal-in-Err
 unfolding sample_stage
