@@ -1,8 +1,11 @@
 #!/bin/sh
-# Runs the program on worked cases with the first, the second, the third .. allocation refused and the others given, and then with
-# all refused from that one on. Each run has to end with status 8 and `no memory`, with status 8 and nothing where `main` found no
-# memory for its words or its file, or as the case ends with all the memory it asks for. Prints how often each came, and each run
-# that ends otherwise, with status 1 then. Stops a case after 2,000 runs or ten minutes. Needs glibc and cc.
+# Runs the program on cases of examples with the first, the second, the third and each later allocation refused: first with that one
+# alone, then with all from that one on. Each run has to end in one of three ways:
+# - with status 8 and `no memory`;
+# - with status 8 and nothing, if `main` has no memory for its words or its file;
+# - as the case ends with all the memory that it requests.
+# Prints how often each came, and each run that ends otherwise; its status is 1 then. Stops a case after 2,000 runs or ten minutes.
+# Needs glibc and cc.
 #
 #     bench/allocations.sh [PROGRAM]
 #

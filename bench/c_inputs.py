@@ -1,14 +1,16 @@
 #!/usr/bin/env python3
-"""Holds the C library to the program, and to its header for any bytes.
+"""Compares the C library with the program, and makes hostile calls, which have to do what its header says.
 
     bench/c_inputs.py [--inputs N] [--hostile N] [--seed S] [--jobs J] [--program PATH]
 
-1. Each command on each example, and N random cases (10,000), many of them damaged: the library's status and text, through
-   welungad.py, are the program's.
+1. Each command on each example, and N random cases (10,000), many of them damaged. The library's status and text, through
+   welungad.py, have to be the program's.
 2. N hostile calls (10,000), by bench/c_replay.c under valgrind: damaged cases, sheets and JSON; damaged and random words and
-   proofs; random bytes; rooms of all sizes. No call reads or writes past what it is handed, or leaves a block; each status is one
-   of the header's, a text that does not fit is reported with its length, and the status and the text are those of the same call
-   through welungad.py.
+   proofs; random bytes; outputs of all sizes. Of each call it checks:
+   - it reads and writes nothing past what it is given, and leaves no block;
+   - its status is one of the header's;
+   - a text that does not fit is reported with its length;
+   - the status and the text are those of the same call through welungad.py.
 
 Prints each difference and a line of figures for each part. Ends with status 1 if there is a difference. Needs c/out, which
 c/build.sh makes, the built program, cc and valgrind.

@@ -5,7 +5,7 @@
 # - by the algorithm in plain R with doubles, decision and adjusted p-values, which proves and refuses nothing: by loops, and
 #   by whole matrices.
 # Each number is the least of five rounds, elapsed. The package `welungad` has to be installed with the C library for the first
-# two; without it they are NA. Nothing of it is a gate.
+# two; without it they are NA. The gate requires none of these figures.
 library(welungad)
 
 program <- commandArgs(TRUE)

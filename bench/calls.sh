@@ -1,7 +1,7 @@
 #!/bin/sh
 # Measures a call of `test` from C, Python and R: in process, and by the program, started for each call. Prints a table in
-# microseconds: the processor time of a call in process, and the time of a started program; each the least of five rounds. R's
-# table follows (calls.R), if Rscript and the package of r/ are there. Nothing of it is a gate.
+# microseconds, the least of five rounds: the processor time of a call in process, and the elapsed time of a started program. R's
+# table follows (calls.R), if Rscript and the package of r/ are there. The gate requires none of these figures.
 set -eu
 here=$(cd "$(dirname "$0")" && pwd)
 out=$here/out

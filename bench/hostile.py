@@ -4,16 +4,24 @@ another implementation.
 
     bench/hostile.py [--inputs N] [--seed S] [--jobs J] [--program PATH] [--first N]
 
-Inputs are texts, sheets and JSON, damaged by bytes, lines, cells and values; a few are lists of words, named graphs and
-samples. Held of each run: a status from 0 to 5, a whole text with status 0, else one line of printable bytes that begins
-as the lines of its status do; now and then the same answer to the same input. Held of each case that is accepted: its
-canonical text is canonical; the text, the sheet and the JSON of the case are answered alike and lead back to one another;
-the weights of all intersections give, by the definition of the closed test, the rejected hypotheses and all bounds; what
-weighted Simes rejects and bounds is never less; a hypothesis is rejected at its adjusted value and just above, and not just
-below; evidence is found good, and a changed or made-up proof is never found good for a hypothesis that isn't rejected;
-looks in another order end with the same rejections, and a study of the same looks settles as `stages` does. What a
-command that the program doesn't have would show is left out. Prints each finding with the number of its input, and ends
-with status 1 if there is one.
+Inputs are texts, sheets and JSON, damaged by bytes, lines, cells and values. A few are lists of words, named graphs and
+samples. For each run it checks:
+
+- the status is from 0 to 5, or 6 if FILE cannot be opened;
+- with status 0 the text is whole; else it is one line of printable bytes, which begins as the lines of its status do;
+- now and then, that the same input has the same answer.
+
+For each case that is accepted it checks:
+
+- its canonical text is canonical; its text, sheet and JSON are answered alike and lead back to one another;
+- by the definition of the closed test, the weights of all intersections give the rejected hypotheses and all bounds;
+- weighted Simes rejects no less, and its bounds are no lower;
+- a hypothesis is rejected at its adjusted value and just above, and not just below;
+- evidence is accepted, and a changed or made-up document is never accepted for a hypothesis that isn't rejected;
+- looks in another order end with the same rejections, and a study of the same looks rejects what `stages` does.
+
+A check is left out if the program does not have its command. Prints each finding with the number of its input, and ends with
+status 1 if there is one.
 """
 import argparse
 import csv

@@ -1,7 +1,7 @@
 #!/bin/sh
 # Measures the most memory that the program takes over inputs of 4 MiB of one kind: of two million empty records, or two million
 # values `0`, among others. Prints it, by the byte of the input, with the status and the line of the run, and ends with status 1
-# if it is above 60 bytes a byte. Nothing of it is a gate. Needs /usr/bin/time.
+# if it is above 60 bytes a byte. The gate does not run it. Needs /usr/bin/time.
 #
 #     bench/memory.sh [PROGRAM]
 set -eu

@@ -1,11 +1,11 @@
 #!/usr/bin/env python3
-"""Holds the R package to the program.
+"""Compares the R package with the program.
 
     bench/r_inputs.py [--inputs N] [--seed S] [--jobs J] [--program PATH]
 
-Each command on each example, and N random cases (10,000), many of them damaged, with the checks of their evidence: the status and
-the text of welungad_run are the program's, by each way that the package has. Prints each difference and a line of figures. Ends
-with status 1 if there is a difference. Needs the built program, and R with the package `welungad`.
+Makes calls of each command on each example, and on N random cases (10,000), many of them damaged, and checks the evidence for
+these. The status and the text of welungad_run have to be the program's, by each way that the package has. Prints each difference
+and a line of figures. Ends with status 1 if there is a difference. Needs the built program, and R with the package `welungad`.
 """
 import argparse
 import concurrent.futures

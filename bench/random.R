@@ -1,7 +1,13 @@
-# random.R PROGRAM SEED COUNT: random graphs of 2 to 6 hypotheses through the R package `welungad`, epsilon in a third and two
-# graphs with shares in a fifth. On each: the weights of the graphs after each rejection and after random removals are held to
-# the proved call; the closed test, the bounds and the decision agree; the evidence for the decision holds. Stops at the first
-# difference.
+# Makes COUNT random graphs of 2 to 6 hypotheses through the R package `welungad`. A third have epsilon, a fifth are two graphs with
+# shares.
+#
+#     Rscript bench/random.R PROGRAM SEED COUNT
+#
+# On each graph it checks:
+# - the weights of the graphs after each rejection, and after random removals, are those that the program prints;
+# - the closed test, the bounds and the decision agree;
+# - the evidence for the decision holds.
+# Stops at the first difference. Prints how many graphs agree, and how many are too wide.
 library(welungad)
 
 arguments <- commandArgs(TRUE)

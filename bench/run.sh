@@ -1,7 +1,10 @@
 #!/bin/sh
 # Measures the program on generated cases, and the same work in C++ if that can read the case. Prints tables:
-# the least of five times, the instructions that valgrind counts, which repeat, and the figures that are wanted; then what
-# reading 4 MiB of one kind of line takes beside 4 MiB of edges, and what sheets of 4 MiB take. Nothing of it is a gate.
+# - the least of five times;
+# - the instructions that valgrind counts, which repeat from run to run;
+# - the figures that are wanted;
+# - the time of reading 4 MiB of one kind of line, compared with 4 MiB of edges, and of reading sheets of 4 MiB.
+# The gate requires none of these figures. Needs g++, /usr/bin/time and, for the instructions, valgrind.
 set -eu
 here=$(cd "$(dirname "$0")" && pwd)
 out=$here/out

@@ -3,11 +3,16 @@
 
     bench/study.py [--program PATH] [--seconds S] [--untimed]
 
-Holds the program to statuses, texts and files that were written down by hand: what is printed of looks and kept; which words,
-cases and commands leave no file; which files, locks and rows are refused; a hundred looks in mixed order, kept by two runs, beside
-one run in memory; a run that is killed. Then, unless it is to be untimed, it times the opening of a file with all 768 looks of 64
-hypotheses at 12 stages: more than S seconds (1 by default) is a finding. Prints each finding, and ends with status 1
-if there is one.
+Compares the program with statuses, texts and files that were written by hand:
+
+- what is printed of looks, and what is kept;
+- which words, cases and commands leave no file;
+- which files, locks and rows are refused;
+- a hundred looks in mixed order, kept by two runs, and the same in one run in memory;
+- a run that is killed.
+
+Then it times the opening of a file with all 768 looks of 64 hypotheses at 12 stages, unless --untimed is given. More than S
+seconds (1 by default) is a finding. Prints each finding, and ends with status 1 if there is one.
 """
 import argparse
 import os
