@@ -247,7 +247,7 @@ def count(pool, tasks, counts):
 
 def main():
     global PROGRAM
-    parser = argparse.ArgumentParser()
+    parser = argparse.ArgumentParser(description=__doc__, formatter_class=argparse.RawDescriptionHelpFormatter)
     for name, default in (("documents", 20000), ("damaged", 20000), ("closed", 5000), ("seed", 1), ("jobs", os.cpu_count())):
         parser.add_argument(f"--{name}", type=int, default=default)
     parser.add_argument("--program", default=PROGRAM)

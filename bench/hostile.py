@@ -583,7 +583,7 @@ def tried(given, jobs):
 
 
 def main():
-    words = argparse.ArgumentParser()
+    words = argparse.ArgumentParser(description=__doc__, formatter_class=argparse.RawDescriptionHelpFormatter)
     words.add_argument("--inputs", type=int, default=1000)
     words.add_argument("--first", type=int, default=0, help="the number of the first input")
     words.add_argument("--seed", type=int, default=1)

@@ -5,7 +5,7 @@
 
 Reads README.md, CHANGES.md, the pages of docs/, examples/, bench/, c/, python/, r/ and tools/, and the comments of sources and
 definitions. For each part of the repository (a page, a crate) it counts
-  words    words that the writing guide of docs/CONTRIBUTING.md replaces, such as 'want of memory' and 'so many',
+  words    words that have a plainer one, such as 'want of memory' and 'so many',
   long     sentences of more than 30 words,
   cells    table cells of more than 160 characters,
   wide     lines of .rt over 140 bytes, but for string literals and for attributes, which `rt fmt` keeps on one line.

@@ -369,7 +369,7 @@ def hold_speed(most):
 
 def main():
     global PROGRAM
-    words = argparse.ArgumentParser()
+    words = argparse.ArgumentParser(description=__doc__, formatter_class=argparse.RawDescriptionHelpFormatter)
     words.add_argument("--program", default=PROGRAM)
     words.add_argument("--seconds", type=float, default=1)
     words.add_argument("--untimed", action="store_true")

@@ -2,7 +2,7 @@
 """Looks for public functions of which no test would notice that they always return out-of-memory. A contract cannot forbid
 such a body, since nothing promises that there is memory. So a test has to refuse it.
 
-    bench/wants.py [--jobs N] [--room FOLDER] [--of NAME ..] [--by NAME ..]
+    bench/wants.py [--jobs N] [--room FOLDER] [--of NAME ..] [--by NAME ..] [--list]
 
     --jobs N       builds and runs at a time (1)
     --room FOLDER  the folder of the copy of the repository; it is kept, and what is built there is used again (by default a

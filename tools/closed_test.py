@@ -91,7 +91,8 @@ def report(case, with_sets=False):
 
 
 def main():
-    parser = argparse.ArgumentParser(usage="closed_test.py CASE [--form text|csv] [--alpha N] [--sets]")
+    parser = argparse.ArgumentParser(usage="closed_test.py CASE [--form text|csv] [--alpha N] [--sets]", description=__doc__,
+                                     formatter_class=argparse.RawDescriptionHelpFormatter)
     parser.add_argument("case", type=argparse.FileType("rb"))
     parser.add_argument("--form", choices=["text", "csv"], default="text")
     parser.add_argument("--alpha")

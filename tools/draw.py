@@ -207,7 +207,8 @@ def picture(case, steps=None):
 
 
 def main():
-    parser = argparse.ArgumentParser(usage="draw.py CASE [REPORT] [--form text|csv] [--alpha N]")
+    parser = argparse.ArgumentParser(usage="draw.py CASE [REPORT] [--form text|csv] [--alpha N] > PICTURE.svg", description=__doc__,
+                                     formatter_class=argparse.RawDescriptionHelpFormatter)
     parser.add_argument("case", type=argparse.FileType("rb"))
     parser.add_argument("report", nargs="?")
     parser.add_argument("--form", choices=["text", "csv"], default="text")
