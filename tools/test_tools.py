@@ -326,6 +326,35 @@ class ClosedTest(unittest.TestCase):
         self.assertEqual(self.lines("alpha 1\n"), (3, ["malformed: line 2: ended"]))
 
 
+class Sixteen(unittest.TestCase):
+    def test_digests(self):
+        """Whether the digests of the reports on Holm's graph of sixteen are those of texts that two rules make: each weight is 1
+        divided by the size of its set, and each bound is the size."""
+        sets = [members for members in self.sets(list(range(1, 17)), 1) if members]
+        self.assertEqual(len(sets), 65535)
+        weights = ["set " + " ".join(f"H{k}={Fraction(1, len(members))}" for k in members) for members in sets]
+        bounds = [f"bound {len(members)} of " + " ".join(f"H{k}" for k in members) for members in sets]
+        tops = [f"top {k} bound {k}" for k in range(1, 17)] + [" ".join(["rejected", *(f"H{k}" for k in range(1, 17))])]
+        rows = content("crates", "acceptance", "data", "sixteen.rows")
+        for word, lines in {"weights": weights, "bounds": bounds, "simes": bounds + tops}.items():
+            text = "".join(line + "\n" for line in [f"{word} 16", *lines, "end"])
+            counts = re.search(rf"^run {word}$.*?^counts (.*?)$", rows, re.MULTILINE | re.DOTALL)
+            self.assertEqual(counts.group(1), f"{len(lines) + 2} {self.digest(text.encode()):016x}")
+
+    def sets(self, members, first):
+        """A set, and those that leave out one more hypothesis, later than the ones left out so far."""
+        yield members
+        for k in range(first, 17):
+            yield from self.sets([other for other in members if other != k], k + 1)
+
+    def digest(self, text):
+        """The FNV-1a digest, of 64 bits."""
+        digest = 0xCBF29CE484222325
+        for byte in text:
+            digest = ((digest ^ byte) * 0x100000001B3) & 0xFFFFFFFFFFFFFFFF
+        return digest
+
+
 class Pictures(unittest.TestCase):
     def picture(self, *words):
         done = subprocess.run([sys.executable, os.path.join(TOOLS, "draw.py"), *words], capture_output=True, text=True, encoding="utf-8")
