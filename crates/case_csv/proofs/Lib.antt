@@ -1,6 +1,6 @@
 pub mod CellFacts
 pub mod Drafts
-pub mod OneTable
+pub mod NoArrivals
 pub mod RecordsLeft
 pub mod Results
 pub mod RowEntries

@@ -5,5 +5,4 @@ pub mod Records
 pub mod Sheet
 pub mod SheetStatements
 pub mod Table
-pub mod TableStatements
 pub mod View

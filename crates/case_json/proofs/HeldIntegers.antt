@@ -13,9 +13,8 @@ use Rattle.json.specs.Lex.{tokens}
 use Rattle.serde_json.specs.Data.{Num, unsigned, negative, float, Data, number, array, object, item}
 use Rattle.serde_json.specs.Data.{Members, no_members, member, put}
 use Rattle.serde_json.specs.Read.{is_integer, float_of, number_from, number_of, of_json, of_items, of_members, max_depth}
-use Rattle.case_json.specs.JsonStatements.{JsonHoldsIntegers, JsonSaysOrFails}
+use Rattle.case_json.specs.JsonStatements.{JsonHoldsIntegers}
 use Rattle.case_json.specs.Values.{IsHeld, HoldsIntegers, ItemsHoldIntegers, MembersHoldIntegers}
-use Rattle.case_json.proofs.OneReading as reading
 
 if_there : {A : Type 0} (P : A → Type 0) (o : Option A) (a : A) → IfSome o P → o ≡ Some a → P a
 if_there P None a h e = absurd (cc)
@@ -105,6 +104,3 @@ pub held_integers : JsonHoldsIntegers
 held_integers bytes value is =
     let document = option_and_then (λ p. json.if_last p.0 p.1) (json.value max_depth (tokens bytes)) in
     if_there HoldsIntegers (option_and_then of_json document) value (read_holds document) is.1
-
-pub says_or_fails : JsonSaysOrFails
-says_or_fails bytes value is = reading.says_or_fails value

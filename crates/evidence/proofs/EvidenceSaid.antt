@@ -1,5 +1,5 @@
 -- The text of evidence says it, and nothing else.
-use Rattle.std.proofs.Common.{◌≡◌, sym, refl, subst, ℕ, suc, ◌+◌, ◌<◌, ◌≤◌, inl, inr, List, [], ◌∷◌, ◌++◌, length, map, get_or}
+use Rattle.std.proofs.Common.{◌≡◌, ◌∙◌, sym, refl, subst, ℕ, suc, ◌+◌, ◌<◌, ◌≤◌, inl, inr, List, [], ◌∷◌, ◌++◌, length, map, get_or}
 use Rattle.std.proofs.Common.{Some, arith}
 use Rattle.std.specs.Prelude.{◌⊎◌}
 use Rattle.std.specs.Fmt.{decimal}
@@ -29,7 +29,7 @@ use Rattle.evidence_check.specs.Documents.{evidence_forms, evidence_lines, line_
 use Rattle.evidence_check.specs.NumberReading.{case_frame}
 use Rattle.evidence_check.specs.DocumentStatements.{IsPrinted, ArePrinted, SaysEvidence, evidence_text}
 use Rattle.evidence_check.proofs.CheckAnswers.{fractions_of, quotients_of}
-use Rattle.evidence_check.proofs.DocumentLaws.{one_said, said_or_failed}
+use Rattle.evidence_check.proofs.DocumentLaws.{one_said}
 use Rattle.evidence_check.proofs.PrintedNumbers.{stored_printed}
 use Rattle.evidence_check.proofs.WrittenTexts.{text_says}
 use Rattle.evidence.specs.EvidenceText.{EvidenceTextsSayTheirs, EvidenceTextsSayNoOther, EvidenceTextsHaveNoFault, EvidenceTextsTellApart}
@@ -194,7 +194,7 @@ pub no_other : EvidenceTextsSayNoOther
 no_other c v w valid h k d = one_said c (evidence_text c v) w v k h d (text_says_it c v valid h)
 
 pub no_fault : EvidenceTextsHaveNoFault
-no_fault c v fault valid h = said_or_failed c (evidence_text c v) v fault (text_says_it c v valid h)
+no_fault c v fault valid h k = cc (sym (text_says_it c v valid h) ∙ k)
 
 pub told_apart : EvidenceTextsTellApart
 told_apart c v w valid h k e = one_said c (evidence_text c w) v w h k (said c v (evidence_text c w) (sym e) valid h) (text_says_it c w valid k)

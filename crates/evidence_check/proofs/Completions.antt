@@ -25,7 +25,7 @@ use Rattle.std.specs.Prelude.{codes, pos}
 use Rattle.text_lines.specs.Lines.{rows_of, end_of}
 use Rattle.text_lines.specs.Words.{words_behind}
 use Rattle.text_lines.specs.Languages.{Completes}
-use Rattle.text_lines.proofs.LanguageLaws.{bad_ends, early_unfinished, faults_end}
+use Rattle.text_lines.proofs.LanguageLaws.{read_faults, bad_ends, early_unfinished, none_goes_on}
 use Rattle.field_core.specs.Kind.{Parts}
 use Rattle.fraction.specs.Plain.{single, zero_reduced}
 use Rattle.eps_quotient.specs.Polynomials.{term}
@@ -38,7 +38,7 @@ use Rattle.evidence_check.specs.declared.quantity.Quantity.TheVariants.{Flow, Ex
 use Rattle.evidence_check.specs.Documents.{Frame, Form, SaysVersion, SaysNumber, SaysKeep, SaysEnd, line_of, Slot, ANumber, AKeep, TheEnd, slot_line, keeps_due}
 use Rattle.evidence_check.specs.Documents.{kept_in, Stage, AtVersion, AtSteps, AtEnd, At, Place, read_at, next_at, is_ended, evidence_language}
 use Rattle.evidence_check.specs.NumberReading.{case_frame}
-use Rattle.evidence_check.specs.DocumentStatements.{start, IsPrinted, FaultsAreWhereNoneGoesOn, NoneGoesOnIsFault}
+use Rattle.evidence_check.specs.DocumentStatements.{start, case_reading, IsPrinted, FaultsAreWhereNoneGoesOn, NoneGoesOnIsFault}
 use Rattle.evidence_check.proofs.WrittenLines.{Leads, leads_on, lines_lead, number_back, keep_back, end_back, version_back, tail_lead}
 use Rattle.evidence_check.proofs.ReadWhole.{is_step}
 use Rattle.evidence_check.proofs.PrintedNumbers.{stored_printed}
@@ -107,15 +107,17 @@ ended_kind true fs kind e = absurd (cc)
 ended_kind false fs kind e = cc
 
 pub faults_end_documents : FaultsAreWhereNoneGoesOn
-faults_end_documents c bytes fault (inl b) =
-    inl (bad_ends (evidence_language (case_frame (numbers_of c) c)) start (rows_of bytes) fault (case_completes (numbers_of c) c) b)
-faults_end_documents c bytes fault (inr b) =
-    inr (
-      ap₂ (λ line kind. record { line = line; kind = kind }) b.line_is (ended_kind (is_ended b.here.0) b.here.1 fault.kind b.must),
-      early_unfinished (evidence_language (case_frame (numbers_of c) c)) start (rows_of bytes) (end_of bytes) fault
-          (case_completes (numbers_of c) c) b,
-    )
+unfolding case_reading
+faults_end_documents c bytes fault e = elim (read_faults (evidence_language (case_frame (numbers_of c) c)) start (rows_of bytes) (end_of bytes) fault e) [
+  | inl b ↦ inl (bad_ends (evidence_language (case_frame (numbers_of c) c)) start (rows_of bytes) fault (case_completes (numbers_of c) c) b)
+  | inr b ↦ inr (
+    ap₂ (λ line kind. record { line = line; kind = kind }) b.line_is (ended_kind (is_ended b.here.0) b.here.1 fault.kind b.must),
+    early_unfinished (evidence_language (case_frame (numbers_of c) c)) start (rows_of bytes) (end_of bytes) fault
+        (case_completes (numbers_of c) c) b,
+  )
+]
 
 pub none_is_fault : NoneGoesOnIsFault
-none_is_fault c bytes number =
-    (faults_end (evidence_language (case_frame (numbers_of c) c)) start (rows_of bytes) (end_of bytes) (case_completes (numbers_of c) c)).line number
+unfolding case_reading
+none_is_fault c bytes number w =
+    none_goes_on (evidence_language (case_frame (numbers_of c) c)) start (rows_of bytes) (end_of bytes) number (case_completes (numbers_of c) c) w

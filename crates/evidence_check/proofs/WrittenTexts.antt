@@ -1,16 +1,17 @@
 -- The text of evidence says it.
 use Rattle.std.proofs.Common.{◌≡◌, refl, sym, ap, ap₂, subst, ◌∙◌, ℕ, ◌+◌, List, [], ◌∷◌}
 use Rattle.std.specs.List.{AllByRecursion}
-use Rattle.text_lines.specs.Lines.{rows_of, words_in}
+use Rattle.text_lines.specs.Lines.{rows_of, end_of, words_in}
 use Rattle.text_lines.specs.Words.{words_of}
 use Rattle.text_lines.specs.Spelling.{line_spelt, text_of, IsLine, numbered}
+use Rattle.text_lines.proofs.LanguageLaws.{document_reads}
 use Rattle.text_lines.proofs.Spelt.{rows_of_text, words_of_line}
 use Rattle.case_numbers.specs.Numbers.{numbers_of}
 use Rattle.evidence_check.specs.EvidenceView.{version_of, steps_of, keeps_of}
 use Rattle.text_lines.specs.Languages.{IsDocument}
-use Rattle.evidence_check.specs.Documents.{Words, evidence_forms, evidence_lines, evidence_language}
+use Rattle.evidence_check.specs.Documents.{Words, evidence_lines, evidence_language}
 use Rattle.evidence_check.specs.NumberReading.{case_frame}
-use Rattle.evidence_check.specs.DocumentStatements.{start, EvidenceTextsSayIt}
+use Rattle.evidence_check.specs.DocumentStatements.{start, case_reading, forms_of, evidence_text, EvidenceTextsSayIt}
 use Rattle.evidence_check.proofs.NumberFound.{frame_is}
 use Rattle.evidence_check.proofs.WrittenLines.{lines_say}
 
@@ -26,8 +27,12 @@ lines_back : (lines : List Words) → AllByRecursion IsLine lines → words_in (
 lines_back lines h = ap words_in (rows_of_text lines h) ∙ numbered_back 0 lines h
 
 pub text_says : EvidenceTextsSayIt
+unfolding case_reading
 text_says c v h p l =
-    subst (λ ls. IsDocument (evidence_language (case_frame (numbers_of c) c)) start ls (evidence_forms (version_of v) (steps_of v) (keeps_of v)))
-    (sym (lines_back (evidence_lines (case_frame (numbers_of c) c) (version_of v) (steps_of v) (keeps_of v)) l))
-    (lines_say (numbers_of c) c (case_frame (numbers_of c) c) (version_of v) (steps_of v) (keeps_of v) (frame_is (numbers_of c) c)
-    (record { version = h.version; size = h.size; none = h.none; all = h.all }) p)
+    let T = case_frame (numbers_of c) c in
+    let bytes = evidence_text c v in
+    let said = lines_say (numbers_of c) c T (version_of v) (steps_of v) (keeps_of v) (frame_is (numbers_of c) c)
+        (record { version = h.version; size = h.size; none = h.none; all = h.all }) p in
+    document_reads (evidence_language T) start (rows_of bytes) (end_of bytes) (forms_of v)
+    (subst (λ ls. IsDocument (evidence_language T) start ls (forms_of v))
+    (sym (lines_back (evidence_lines T (version_of v) (steps_of v) (keeps_of v)) l)) said)

@@ -11,8 +11,6 @@ use Rattle.case_numbers.specs.Numbers.{Numbers, numbers_of, IsStoredIn}
 use Rattle.evidence_check.specs.declared.evidence.Evidence.{Evidence}
 use Rattle.evidence_check.specs.declared.fault.ProofKind.{ProofKind}
 use Rattle.evidence_check.specs.declared.fault.ProofKind.TheVariants.{Ended}
-use Rattle.evidence_check.specs.declared.fault.ProofText.{ProofText}
-use Rattle.evidence_check.specs.declared.fault.ProofText.TheVariants.{Line, NoMemory}
 use Rattle.evidence_check.specs.EvidenceParts.{StepParts, KeepParts}
 use Rattle.evidence_check.specs.EvidenceView.{FitsCase, IsEvidenceFor, version_of, steps_of, keeps_of}
 use Rattle.evidence_check.specs.Documents.{Frame, Form, evidence_forms, evidence_lines, AtVersion, Place, At, evidence_language}
@@ -29,21 +27,22 @@ evidence_reading T bytes = reading (evidence_language T) start (rows_of bytes) (
 
 -- ---- what a text says of a case
 
--- the lines of a text denote this evidence, one after another
+-- what the lines of a text denote for a case, one after another, or the first fault
+unfoldable pub case_reading : Content → List ℕ → Result (List Form) (FaultAt ProofKind)
+case_reading c bytes = evidence_reading (case_frame (numbers_of c) c) bytes
+
+-- what the lines of this evidence denote
+abbrev pub forms_of : Evidence → List Form
+forms_of v = evidence_forms (version_of v) (steps_of v) (keeps_of v)
+
+-- the lines of a text denote this evidence
 abbrev pub SaysEvidence : Content → List ℕ → Evidence → Type 0
-SaysEvidence c bytes v =
-    IsDocument (evidence_language (case_frame (numbers_of c) c)) start (words_in (rows_of bytes))
-    (evidence_forms (version_of v) (steps_of v) (keeps_of v))
+SaysEvidence c bytes v = case_reading c bytes ≡ Ok (forms_of v)
 
 -- the first fault of a text, and what is wrong there: a line that denotes nothing at its place, after lines that denote something. Or lines that end
 -- too early
 abbrev pub HasFault : Content → List ℕ → FaultAt ProofKind → Type 0
-HasFault c bytes fault = HasFirstFault (evidence_language (case_frame (numbers_of c) c)) start (rows_of bytes) (end_of bytes) fault
-
--- why a text denotes no evidence: its first fault, or out of memory
-abbrev pub IsProofFault : Content → List ℕ → ProofText → Type 0
-IsProofFault c bytes (Line n kind) = HasFault c bytes (record { line = n; kind = kind })
-IsProofFault c bytes NoMemory = Unit {0}
+HasFault c bytes fault = case_reading c bytes ≡ Err fault
 
 -- ---- laws
 
@@ -69,25 +68,9 @@ LinesSayOneEvidence =
     (c : Content) (v w : ℕ) (ss ts : List StepParts) (xs ys : List KeepParts) → FitsCase c v ss xs → FitsCase c w ts ys
     → evidence_forms v ss xs ≡ evidence_forms w ts ys → (v ≡ w) × (ss ≡ ts) × (xs ≡ ys)
 
--- A text denotes one evidence of a case.
-abbrev pub TextsSayOneEvidence : Type 0
-TextsSayOneEvidence =
-    (c : Content) (bytes : List ℕ) (v w : Evidence) → IsEvidenceFor c v → IsEvidenceFor c w → SaysEvidence c bytes v → SaysEvidence c bytes w
-    → (version_of v ≡ version_of w) × (steps_of v ≡ steps_of w) × (keeps_of v ≡ keeps_of w)
-
--- A text that denotes evidence has no fault.
-abbrev pub TextsDontSayAndFail : Type 0
-TextsDontSayAndFail = (c : Content) (bytes : List ℕ) (v : Evidence) (fault : FaultAt ProofKind) → SaysEvidence c bytes v → ¬ HasFault c bytes fault
-
--- A text has one first fault.
-abbrev pub TextsHaveOneFault : Type 0
-TextsHaveOneFault = (c : Content) (bytes : List ℕ) (fault other : FaultAt ProofKind) → HasFault c bytes fault → HasFault c bytes other → fault ≡ other
-
--- A text has a reading: it denotes some evidence of the case, or it has a first fault.
-abbrev pub TextsSayOrFail : Type 0
-TextsSayOrFail =
-    (c : Content) (bytes : List ℕ)
-    → ((v : Evidence) × IsEvidenceFor c v × SaysEvidence c bytes v) ⊎ ((fault : FaultAt ProofKind) × HasFault c bytes fault)
+-- What is read of a text for a case is some evidence that fits the case.
+abbrev pub ReadingsAreEvidence : Type 0
+ReadingsAreEvidence = (c : Content) (bytes : List ℕ) (fs : List Form) → case_reading c bytes ≡ Ok fs → (v : Evidence) × IsEvidenceFor c v × (fs ≡ forms_of v)
 
 -- ---- the lines of evidence
 

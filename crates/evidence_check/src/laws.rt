@@ -10,8 +10,8 @@ ghost use Rattle.evidence_check.specs.CaseCheck.{
   CheckedAreRejected,
   CheckedAreAllRejected,
 };
-ghost use Rattle.evidence_check.specs.DocumentStatements.{CasesHaveFrames, ReadingsAreDocuments, FaultsAreBadLines, LinesSayOneEvidence};
-ghost use Rattle.evidence_check.specs.DocumentStatements.{TextsSayOneEvidence, TextsDontSayAndFail, TextsHaveOneFault, TextsSayOrFail};
+ghost use Rattle.evidence_check.specs.DocumentStatements.{CasesHaveFrames, ReadingsAreDocuments, FaultsAreBadLines, ReadingsAreEvidence};
+ghost use Rattle.evidence_check.specs.DocumentStatements.{LinesSayOneEvidence};
 ghost use Rattle.evidence_check.specs.DocumentStatements.{LinesSayTheirEvidence, StoredNumbersArePrinted, EvidenceTextsSayIt};
 ghost use Rattle.evidence_check.specs.DocumentStatements.{FaultsAreWhereNoneGoesOn, NoneGoesOnIsFault};
 
@@ -53,23 +53,16 @@ pub fn cases_have_frames()
 {}
 
 /// What is read of a text is what its lines denote, and else its first fault is that of the first line that denotes nothing at
-/// its place.
+/// its place. What is read for a case is some evidence that fits the case.
 pub fn readings_are_documents()
     ensures says { ReadingsAreDocuments }
     ensures fault { FaultsAreBadLines }
+    ensures evidence { ReadingsAreEvidence }
 {}
 
 /// The lines of evidence that fits a case denote no other evidence that fits it.
 pub fn lines_say_one_evidence()
     ensures { LinesSayOneEvidence }
-{}
-
-/// A text denotes some evidence of a case or has a first fault, at most one of each, and never both.
-pub fn texts_have_one_reading()
-    ensures evidence { TextsSayOneEvidence }
-    ensures either { TextsDontSayAndFail }
-    ensures fault { TextsHaveOneFault }
-    ensures each { TextsSayOrFail }
 {}
 
 /// The lines of evidence that fits a case denote it, if each number is read from its text, and stored numbers are. So does its

@@ -5,8 +5,8 @@
 //!   sum). `yes` and `no` (yes only if all conditions hold, no only if they don't). `rejected` (a yes implies that the closed
 //!   test rejects each listed hypothesis). `all` (if each other hypothesis is kept, a yes implies that it rejects no other). It
 //!   removes no hypothesis and takes no memory.
-//! - `read`: `found` and `fits` (the document denotes this evidence, which fits the case), `fault` (the first line that isn't
-//!   allowed, with its kind).
+//! - `read`: `read` (the evidence that the document denotes, or the first line that isn't allowed, with its kind; one function,
+//!   `case_reading`, defines both). `fits` (the evidence fits the case).
 //! - Laws in `src/laws.rt`: evidence that meets its conditions lists a legal order, and with all keeps a complete one, whoever
 //!   made it (`evidence_implies_rejections`). The written check is sound and fair.
 #![tactic(auto)]

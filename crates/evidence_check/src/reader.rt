@@ -1,5 +1,5 @@
 //! The reader of evidence.
-ghost use Rattle.std.specs.Prelude.{map, IfOk, IfErr};
+ghost use Rattle.std.specs.Prelude.{map, IfOk};
 ghost use Rattle.field_core.specs.Answers.{IsUnless, told_as};
 ghost use Rattle.field_core.specs.Kind.{ok_map};
 ghost use Rattle.case_model.specs.CaseView.{content};
@@ -7,7 +7,7 @@ ghost use Rattle.evidence_check.specs.EvidenceView.{step_parts, keep_parts, Fits
 ghost use Rattle.evidence_check.specs.Documents.{evidence_forms};
 ghost use Rattle.evidence_check.specs.NumberReading.{case_frame};
 ghost use Rattle.evidence_check.specs.ReadView.{proof_fault};
-ghost use Rattle.evidence_check.specs.DocumentStatements.{evidence_reading, SaysEvidence, IsProofFault};
+ghost use Rattle.evidence_check.specs.DocumentStatements.{evidence_reading, case_reading, forms_of};
 ghost use Rattle.evidence_check.specs.declared.fault.ProofText.TheVariants.{NoMemory};
 
 use crate::document::{end, kept, next_line, steps};
@@ -55,9 +55,8 @@ fn read_in<F: EvidenceNumber>(
 /// the first word is tested first, then the number of words, then what follows from left to right. The evidence is in fractions
 /// exactly if the case is plain, and fits the case.
 pub fn read(alloc: Global, case: &Case, bytes: &[u8]) -> Result<Evidence, ProofText>
-    ensures found { IfOk result (SaysEvidence (content case.now) bytes.now) }
+    ensures read { IsUnless NoMemory (ok_map forms_of result) (told_as proof_fault (case_reading (content case.now) bytes.now)) }
     ensures fits { IfOk result (IsEvidenceFor (content case.now)) }
-    ensures fault { IfErr result (IsProofFault (content case.now) bytes.now) }
 {
     if case.is_plain() {
         Ok(Evidence::Plain(read_in(alloc, case, bytes)?))

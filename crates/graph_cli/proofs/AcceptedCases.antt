@@ -1,5 +1,5 @@
 -- The stages that commands have in common are decided.
-use Rattle.std.proofs.Common.{◌≡◌, refl, subst, sym, ap, ap₂, ◌∙◌, ℕ, List, Some, None, inl, inr, arith}
+use Rattle.std.proofs.Common.{◌≡◌, subst, sym, ap, ap₂, ◌∙◌, ℕ, List, Some, None, Err, inl, inr, arith}
 use Rattle.std.specs.declared.option.Option.{Option}
 use Rattle.answers.specs.declared.refusal.Refusal.{Refusal}
 use Rattle.answers.specs.Stages.{IsDecided}
@@ -12,16 +12,14 @@ use Rattle.command_words.specs.Asked.{Written, text, csv, json}
 use Rattle.edge_text.proofs.TextLaws.{one_draft, one_first_fault, not_both}
 use Rattle.field_core.specs.View.{terms}
 use Rattle.field_core.specs.declared.ratio.Ratio.{Ratio}
+use Rattle.field_core.proofs.Results.{came_from, same_value, same_fault}
 use Rattle.fraction.proofs.SameRatios.{same_ratio}
-use Rattle.case_csv.specs.Table.{Cells, cells_of, IsTable}
-use Rattle.case_csv.specs.declared.fault.RowKind.{RowKind}
-use Rattle.case_csv.proofs.OneTable as tables
+use Rattle.case_csv.specs.Answers.{RowFault}
+use Rattle.case_csv.specs.Table.{Cells, cells_of, sheet_of, IsTable}
 use Rattle.case_json.specs.Values.{IsJson}
 use Rattle.case_json.specs.Reading.{SaysDraft, HasFirstFault}
-use Rattle.case_json.specs.Document.{IsDraft}
-use Rattle.case_json.specs.Faults.{IsFirstFault}
+use Rattle.case_json.specs.Document.{document_of}
 use Rattle.case_json.specs.declared.fault.JsonFault.{JsonFault}
-use Rattle.case_json.proofs.OneReading as document_rule
 use Rattle.case_json.proofs.OneReading.{same_some}
 use Rattle.serde_json.specs.Data.{Data}
 use Rattle.serde_json.specs.Read.{read}
@@ -35,20 +33,23 @@ use Rattle.graph_cli.specs.declared.kind.InputKind.{InputKind}
 use Rattle.graph_cli.specs.declared.needs.Needs.{Needs}
 
 csv_draft : (records : List Cells) (x y : Ratio) (d e : Draft) → terms x ≡ terms y → IsTable records x d → IsTable records y e → d ≡ e
-csv_draft records x y d e same h k = tables.one_draft records y d e (subst (λ z. IsTable records z d) (same_ratio x y same) h) k
+csv_draft records x y d e same h k = same_value d e (sym (subst (λ z. IsTable records z d) (same_ratio x y same) h) ∙ k)
 
-same_cell : (row line column place : ℕ) (j k : RowKind) → row ≡ line → column ≡ place → j ≡ k
-    → cell_refusal row column j ≡ cell_refusal line place k
-same_cell row line column place j k e f g = rw (e, f, g) refl
+csv_refusal : (records : List Cells) (f g : RowFault) → sheet_of records ≡ Err f → sheet_of records ≡ Err g
+    → cell_refusal f.row f.column f.kind ≡ cell_refusal g.row g.column g.kind
+csv_refusal records f g h k = ap (λ (f : RowFault). cell_refusal f.row f.column f.kind) (same_fault f g (sym h ∙ k))
 
-same_value : (bytes : List ℕ) (u v : Data) → IsJson bytes u → IsJson bytes v → u ≡ v
-same_value bytes u v h k = same_some (read bytes) u v h.1 k.1
+csv_not_both : (records : List Cells) (alpha : Ratio) (d : Draft) (f : RowFault) → IsTable records alpha d → sheet_of records ≡ Err f → ⊥
+csv_not_both records alpha d f h k = let said = came_from (sheet_of records) _ d h in cc (sym said.1 ∙ k)
+
+same_document : (bytes : List ℕ) (u v : Data) → IsJson bytes u → IsJson bytes v → document_of u ≡ document_of v
+same_document bytes u v h k = ap document_of (same_some (read bytes) u v h.1 k.1)
 
 json_draft : (bytes : List ℕ) (d e : Draft) → SaysDraft bytes d → SaysDraft bytes e → d ≡ e
-json_draft bytes d e h k = document_rule.one k.0 d e (subst (λ v. IsDraft v d) (same_value bytes h.0 k.0 h.1 k.1) h.2) k.2
+json_draft bytes d e h k = same_value d e (sym h.2 ∙ same_document bytes h.0 k.0 h.1 k.1 ∙ k.2)
 
 json_fault : (bytes : List ℕ) (f g : JsonFault) → HasFirstFault bytes f → HasFirstFault bytes g → f ≡ g
-json_fault bytes f g h k = document_rule.fault_one k.0 f g (subst (λ v. IsFirstFault v f) (same_value bytes h.0 k.0 h.1 k.1) h.2) k.2
+json_fault bytes f g h k = same_fault f g (sym h.2 ∙ same_document bytes h.0 k.0 h.1 k.1 ∙ k.2)
 
 json_one_refusal : (bytes : List ℕ) (r q : Refusal) → (grammar json bytes).Refuses r → (grammar json bytes).Refuses q → r ≡ q
 json_one_refusal bytes r q (inl h) (inl k) = h.1 ∙ sym k.1
@@ -58,7 +59,7 @@ json_one_refusal bytes r q (inr h) (inr k) = h.2 ∙ ap json_refusal (json_fault
 
 json_not_both : (bytes : List ℕ) (d : Draft) (r : Refusal) → (grammar json bytes).Gives d → (grammar json bytes).Refuses r → ⊥
 json_not_both bytes d r h (inl k) = k.0 h.0 h.1
-json_not_both bytes d r h (inr k) = document_rule.apart k.1.0 d k.0 (subst (λ v. IsDraft v d) (same_value bytes h.0 k.1.0 h.1 k.1.1) h.2) k.1.2
+json_not_both bytes d r h (inr k) = cc (sym h.2 ∙ same_document bytes h.0 k.1.0 h.1 k.1.1 ∙ k.1.2)
 
 grammar_decided : (form : Written) (bytes : List ℕ) → IsDecided (grammar form bytes)
 grammar_decided text bytes = record {
@@ -68,14 +69,11 @@ grammar_decided text bytes = record {
 }
 grammar_decided (csv alpha) bytes = record {
   one = λ d e h k. csv_draft (cells_of bytes) h.0 k.0 d e (h.1 ∙ sym k.1) h.2 k.2;
-  one_refusal = λ r q h k. let e = tables.one_first_fault (cells_of bytes) h.0 k.0 h.1 k.1 h.2 k.2 h.3 k.3 in h.4
-      ∙ same_cell h.0 k.0 h.1 k.1 h.2 k.2 e.0 e.1 e.2 ∙ sym k.4;
-  not_both = λ d r h k. tables.not_both (cells_of bytes) h.0 d k.0 k.1 k.2 h.2 k.3;
+  one_refusal = λ r q h k. h.4 ∙ csv_refusal (cells_of bytes) (record { row = h.0; column = h.1; kind = h.2 })
+      (record { row = k.0; column = k.1; kind = k.2 }) h.3 k.3 ∙ sym k.4;
+  not_both = λ d r h k. csv_not_both (cells_of bytes) h.0 d (record { row = k.0; column = k.1; kind = k.2 }) h.2 k.3;
 }
 grammar_decided json bytes = record { one = json_draft bytes; one_refusal = json_one_refusal bytes; not_both = json_not_both bytes }
-
-same_fault : (o : Option CaseFault) (x y : CaseFault) → o ≡ Some x → o ≡ Some y → x ≡ y
-same_fault o x y h k = cc
 
 no_fault : (o : Option CaseFault) (x : CaseFault) → o ≡ None → o ≡ Some x → ⊥
 no_fault o x h k = cc
@@ -83,7 +81,7 @@ no_fault o x h k = cc
 faultless_decided : (d : Draft) → IsDecided (faultless d)
 faultless_decided d = record {
   one = λ c e h k. h.1 ∙ sym k.1;
-  one_refusal = λ r q h k. h.2 ∙ ap (case_refusal d.names) (same_fault (case_fault d) h.0 k.0 h.1 k.1) ∙ sym k.2;
+  one_refusal = λ r q h k. h.2 ∙ ap (case_refusal d.names) (same_some (case_fault d) h.0 k.0 h.1 k.1) ∙ sym k.2;
   not_both = λ c r h k. no_fault (case_fault d) k.0 h.0 k.1;
 }
 

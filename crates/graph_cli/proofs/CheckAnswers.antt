@@ -3,10 +3,13 @@ use Rattle.std.proofs.Common.{◌≡◌, sym, ap, ap₂, ◌∙◌, ℕ, List, R
 use Rattle.answers.specs.Stages.{IsDecided}
 use Rattle.answers.proofs.Decided.{then_decided, only_decided}
 use Rattle.case_model.specs.Content.{Content}
+use Rattle.field_core.proofs.Results.{same_fault}
+use Rattle.text_lines.specs.Languages.{FaultAt}
+use Rattle.evidence_check.specs.declared.fault.ProofKind.{ProofKind}
 use Rattle.evidence_check.specs.declared.verdict.CheckWide.{CheckWide}
 use Rattle.evidence_check.specs.declared.verdict.Verdict.{Verdict}
 use Rattle.evidence_check.specs.EvidenceParts.{StepParts, KeepParts}
-use Rattle.evidence_check.proofs.DocumentLaws.{one_said, said_or_failed, one_fault}
+use Rattle.evidence_check.proofs.DocumentLaws.{one_said}
 use Rattle.refusals.specs.ProofRefusal.{part_at}
 use Rattle.graph_cli.specs.declared.trouble.Trouble.TheVariants.{Wide, Proof}
 use Rattle.refusals.specs.declared.wide.When.TheVariants.{Check}
@@ -20,9 +23,9 @@ same_said v w ss ts xs ys e f g = ap (λ n. record { version = n; steps = ss; ke
 evidence_decided : (c : Content) (bytes : List ℕ) → IsDecided (evidence_in c bytes)
 evidence_decided c bytes = record {
   one = λ x y h k. let e = one_said c bytes h.0 k.0 h.1 k.1 h.2 k.2 in h.3 ∙ same_said _ _ _ _ _ _ e.0 e.1 e.2 ∙ sym k.3;
-  one_refusal = λ r q h k. h.3 ∙ ap (λ fault. Proof fault.line fault.kind)
-      (one_fault c bytes (record { line = h.0; kind = h.1 }) (record { line = k.0; kind = k.1 }) h.2 k.2) ∙ sym k.3;
-  not_both = λ x r h k. said_or_failed c bytes h.0 (record { line = k.0; kind = k.1 }) h.2 k.2;
+  one_refusal = λ r q h k. h.3 ∙ ap (λ (fault : FaultAt ProofKind). Proof fault.line fault.kind)
+      (same_fault (record { line = h.0; kind = h.1 }) (record { line = k.0; kind = k.1 }) (sym h.2 ∙ k.2)) ∙ sym k.3;
+  not_both = λ x r h k. cc (sym h.2 ∙ k.2);
 }
 
 same_verdict : (r : Result Verdict CheckWide) (x y : Verdict) → r ≡ Ok x → r ≡ Ok y → x ≡ y

@@ -16,7 +16,7 @@ use Rattle.case_model.specs.declared.draft.Draft.{Draft}
 use Rattle.case_model.specs.Validity.{IsValidContent}
 use Rattle.edge_text.proofs.Texts.{document_arrivals}
 use Rattle.case_csv.specs.Table.{cells_of}
-use Rattle.case_csv.proofs.OneTable.{no_arrivals}
+use Rattle.case_csv.proofs.NoArrivals.{no_arrivals}
 use Rattle.case_json.proofs.Drafts.{says_arrivals}
 use Rattle.command_words.specs.Asked.{Written, text, csv, json, on_case}
 use Rattle.command_words.specs.declared.command.CaseTask.{CaseTask}

@@ -1,12 +1,12 @@
 -- The faults of the calls that commands make, as what the commands refuse.
-use Rattle.std.proofs.Common.{◌≢◌, ℕ, List, inl, inr, refl}
+use Rattle.std.proofs.Common.{◌≢◌, ℕ, List, Err, inl, inr, refl}
 use Rattle.case_model.specs.Content.{Content}
 use Rattle.closed_test.specs.SetWeights.{AreIntersectionWeights}
 use Rattle.field_core.specs.declared.ratio.Ratio.{Ratio}
 use Rattle.graph_cli.specs.Simes.{IsWideSimesSet}
 use Rattle.evidence_check.specs.declared.fault.ProofText.{ProofText}
 use Rattle.evidence_check.specs.declared.fault.ProofText.TheVariants as texts
-use Rattle.evidence_check.specs.DocumentStatements.{IsProofFault}
+use Rattle.evidence_check.proofs.DocumentLaws.{IsReading, evidence_refused}
 use Rattle.staged_levels.specs.Looks.{IsLooksFault}
 use Rattle.staged_levels.specs.declared.case_looks.LooksFault.{LooksFault}
 use Rattle.staged_levels.specs.declared.case_looks.LooksFault.TheVariants as looks
@@ -28,7 +28,7 @@ looks_refuse c (looks.Opening w) h some = inl (w, h, refl)
 looks_refuse c (looks.Arriving n w) h some = inr (n, w, h, refl)
 looks_refuse c looks.NoMemory h some = absurd (some refl)
 
-pub text_refuses : (c : Content) (bytes : List ℕ) (f : ProofText) → IsProofFault c bytes f → of_text f ≢ NoMemory
+pub text_refuses : (c : Content) (bytes : List ℕ) (f : ProofText) → IsReading c bytes (Err f) → of_text f ≢ NoMemory
     → (evidence_in c bytes).Refuses (of_text f)
-text_refuses c bytes (texts.Line n kind) h some = (n, kind, h, refl)
+text_refuses c bytes (texts.Line n kind) h some = (n, kind, evidence_refused c bytes n kind h, refl)
 text_refuses c bytes texts.NoMemory h some = absurd (some refl)

@@ -1,19 +1,18 @@
 -- What `canon` prints is read as the case that was read, and as no other.
 use Rattle.std.proofs.Common.{◌≡◌, refl, sym, ap, subst, ◌∙◌, ℕ, List, Option, Some, true}
 use Rattle.field_core.specs.View.{terms}
+use Rattle.field_core.proofs.Results.{same_value}
 use Rattle.fraction.proofs.SameRatios.{same_ratio}
 use Rattle.serde_json.specs.Read.{read}
 use Rattle.answers.specs.declared.answer.Answer.{Answer}
 use Rattle.answers.specs.declared.status.Status.TheVariants.{Done}
 use Rattle.answers.specs.Stages.{IsAnswerOf}
-use Rattle.case_csv.proofs.OneTable as tables
 use Rattle.case_csv.proofs.SheetCases.{sheets_read_back}
 use Rattle.case_csv.specs.Sheet.{sheet_text}
 use Rattle.case_csv.specs.Table.{cells_of, IsTable}
-use Rattle.case_json.proofs.OneReading as documents
 use Rattle.case_json.proofs.OneReading.{same_some}
 use Rattle.case_json.proofs.WrittenCases.{reads_back}
-use Rattle.case_json.specs.Document.{IsDraft}
+use Rattle.case_json.specs.Document.{document_of}
 use Rattle.case_json.specs.Written.{json_text}
 use Rattle.case_model.specs.Content.{Content, content_of, has_coefficients}
 use Rattle.case_model.specs.Validity.{IsValidContent}
@@ -42,9 +41,9 @@ one_draft : (form : Written) (bytes : List ℕ) (d e : Draft) → (grammar form 
 one_draft text bytes d e h k = texts.one_draft bytes d e h k
 one_draft (csv alpha) bytes d e h k =
     let same = same_ratio h.0 k.0 (h.1 ∙ sym k.1) in
-    tables.one_draft (cells_of bytes) k.0 d e (subst (λ z. IsTable (cells_of bytes) z d) same h.2) k.2
+    same_value d e (sym (subst (λ z. IsTable (cells_of bytes) z d) same h.2) ∙ k.2)
 one_draft json bytes d e h k =
-    documents.one k.0 d e (subst (λ v. IsDraft v d) (same_some (read bytes) h.0 k.0 h.1.1 k.1.1) h.2) k.2
+    same_value d e (sym h.2 ∙ ap document_of (same_some (read bytes) h.0 k.0 h.1.1 k.1.1) ∙ k.2)
 
 -- bytes say at most one case
 pub one_content : (form : Written) (bytes : List ℕ) (c d : Content) → (case_in form bytes).Gives c → (case_in form bytes).Gives d → c ≡ d

@@ -1,29 +1,30 @@
 -- Lines of commands, read one by one.
-use Rattle.std.proofs.Common.{◌≡◌, ℕ, inl, inr, List, [], ◌∷◌, ◌++◌, length, Result, Ok, Err, refl, sym, ap, ap₂, subst, ◌∙◌, append_assoc}
-use Rattle.std.specs.List.{AllZip, AllByRecursion}
-use Rattle.std.specs.Prelude.{IfOk, IfErr, codes}
+use Rattle.std.proofs.Common.{◌≡◌, ◌⊎◌, ℕ, inl, inr, List, [], ◌∷◌, ◌++◌, length, Result, Ok, Err, refl, sym, ap, ap₂, subst, ◌∙◌, append_assoc}
+use Rattle.std.specs.List.{AllByRecursion}
+use Rattle.std.specs.Prelude.{IfOk, codes}
 use Rattle.std.proofs.lemmas.List.{append-nil}
 use Rattle.field_core.specs.Answers.{and_then, IsUnless, told_as}
 use Rattle.field_core.proofs.Results.{came_from, same_value, same_fault}
 use Rattle.graph_io.specs.declared.keeper.Look.{Look}
-use Rattle.text_lines.specs.Languages.{FaultAt, reading}
+use Rattle.text_lines.specs.Languages.{FaultAt, IsDocument}
 use Rattle.text_lines.specs.Lines.{rows_of, texts_in, end_of}
-use Rattle.text_lines.proofs.LanguageLaws.{read_says, read_faults}
+use Rattle.text_lines.proofs.LanguageLaws.{read_as}
 use Rattle.text_lines.proofs.Runs.{run, run_line, document_runs, run_documents}
 use Rattle.edge_text.specs.declared.fault.LineKind.{LineKind}
 use Rattle.edge_text.specs.declared.fault.LineKind.TheVariants.{WordCount}
 use Rattle.edge_text.specs.Grammar.{Words, IsArrival}
 use Rattle.edge_text.specs.WordReading.{arrival}
 use Rattle.edge_text.proofs.Leaves.{arrival_said, arrival_is}
+use Rattle.edge_text.proofs.WordAnswers.{value_told}
 use Rattle.edge_text.proofs.LinesTaken.{here, past, said, taken, reads, none}
 use Rattle.study_answers.specs.declared.command.StudyCommand.{StudyCommand}
 use Rattle.study_answers.specs.declared.command.StudyCommand.TheVariants.{Take, Show}
 use Rattle.study_answers.specs.declared.fault.CommandsFault.{CommandsFault}
 use Rattle.study_answers.specs.declared.fault.CommandsFault.TheVariants.{Line, NoMemory}
-use Rattle.study_answers.specs.CommandFaults.{IsCommandsFault, on_line}
-use Rattle.study_answers.specs.CommandLanguage.{look_of, look, show, command, commands}
-use Rattle.study_answers.specs.CommandLines.{arrival_of, IsCommandLine, AreCommands, IsBelow}
-use Rattle.study_answers.specs.CommandStatements.{CommandsAreSaid, SaidAreCommands}
+use Rattle.study_answers.specs.CommandFaults.{IsFirstFault, on_line}
+use Rattle.study_answers.specs.CommandLanguage.{look_of, look, show, command, commands, commands_of}
+use Rattle.study_answers.specs.CommandLines.{arrival_of, IsCommandLine, AreCommandLines, AreCommands, IsBelow}
+use Rattle.study_answers.specs.CommandStatements.{CommandsAreOfLines, FaultsAreBadLines}
 use Rattle.study_answers.proofs.LookPlaces.{place_below}
 
 module _ (names : Words) where
@@ -63,7 +64,7 @@ module _ (names : Words) where
   abbrev Say : List StudyCommand → Words → List StudyCommand → Type 0
   Say before lines all = run (commands names) before lines ≡ Ok all
 
-  all_said : (before : List StudyCommand) (lines : Words) (cs : List StudyCommand) → AllZip (IsCommandLine names) lines cs → Say before lines (before ++ cs)
+  all_said : (before : List StudyCommand) (lines : Words) (cs : List StudyCommand) → AreCommandLines names lines cs → Say before lines (before ++ cs)
   all_said before [] [] h = ap Ok (sym (append-nil before))
   all_said before [] (c ∷ cs) h = absurd h
   all_said before (line ∷ lines) [] h = absurd h
@@ -72,7 +73,7 @@ module _ (names : Words) where
       ∙ all_said (before ++ c ∷ []) lines cs h.1 ∙ ap Ok (append_assoc before (c ∷ []) cs)
 
   abbrev From : List StudyCommand → Words → List StudyCommand → Type 0
-  From before lines all = (cs : List StudyCommand) × AllZip (IsCommandLine names) lines cs × (all ≡ before ++ cs)
+  From before lines all = (cs : List StudyCommand) × AreCommandLines names lines cs × (all ≡ before ++ cs)
 
   said_all : (before : List StudyCommand) (lines : Words) (all : List StudyCommand) → Say before lines all → From before lines all
   said_all before [] all e = ([], tt, sym (same_value before all e) ∙ sym (append-nil before))
@@ -89,53 +90,52 @@ module _ (names : Words) where
   below line (Take l) h = place_below h.are.name names l.hypothesis (sym h.are.name_is)
   below line Show h = tt
 
-  all_below : (lines : Words) (cs : List StudyCommand) → AllZip (IsCommandLine names) lines cs → AllByRecursion (IsBelow (length names)) cs
+  all_below : (lines : Words) (cs : List StudyCommand) → AreCommandLines names lines cs → AllByRecursion (IsBelow (length names)) cs
   all_below [] [] h = tt
   all_below [] (c ∷ cs) h = absurd h
   all_below (line ∷ lines) [] h = absurd h
   all_below (line ∷ lines) (c ∷ cs) h = (below line c h.0, all_below lines cs h.1)
 
-pub commands_said : CommandsAreSaid
-commands_said names lines cs h = run_documents (commands names) [] lines cs (all_said names [] lines cs h)
+  commands_said : (lines : Words) (cs : List StudyCommand) → AreCommandLines names lines cs → IsDocument (commands names) [] lines cs
+  commands_said lines cs h = run_documents (commands names) [] lines cs (all_said [] lines cs h)
 
-pub said_commands : SaidAreCommands
-said_commands names lines cs d =
-    let f = said_all names [] lines cs (document_runs (commands names) [] lines cs d) in
-    subst (AllZip (IsCommandLine names) lines) (sym f.2) f.1
+  said_commands : (lines : Words) (cs : List StudyCommand) → IsDocument (commands names) [] lines cs → AreCommandLines names lines cs
+  said_commands lines cs d =
+      let f = said_all [] lines cs (document_runs (commands names) [] lines cs d) in
+      subst (AreCommandLines names lines) (sym f.2) f.1
+
+pub commands_of_lines : CommandsAreOfLines
+unfolding commands_of
+commands_of_lines names bytes cs =
+    let read = (read_as (commands names) [] (rows_of bytes) (end_of bytes)).says cs in
+    let lines = texts_in (rows_of bytes) in
+    ((λ e. said_commands names lines cs (read.0 e)), (λ h. read.1 (commands_said names lines cs h)))
+
+pub faults_of_lines : FaultsAreBadLines
+unfolding commands_of
+faults_of_lines names bytes number kind =
+    (read_as (commands names) [] (rows_of bytes) (end_of bytes)).fails (record { line = number; kind = kind })
 
 -- ---- what is read
 
-abbrev IsRead : Words → List ℕ → Result (List StudyCommand) CommandsFault → Type 0
-IsRead names bytes r = IsUnless NoMemory r (told_as on_line (reading (commands names) [] (rows_of bytes) (end_of bytes)))
+pub commands_found : (names : Words) (bytes : List ℕ) (cs : List StudyCommand) → told_as on_line (commands_of names bytes) ≡ Ok cs → AreCommands names bytes cs
+commands_found names bytes cs e = value_told on_line (commands_of names bytes) cs e
 
-value_told : (r : Result (List StudyCommand) (FaultAt LineKind)) (cs : List StudyCommand) → told_as on_line r ≡ Ok cs → r ≡ Ok cs
-value_told (Ok ds) cs e = ap Ok (same_value ds cs e)
-value_told (Err f) cs e = absurd (cc e)
-
-fault_told : (r : Result (List StudyCommand) (FaultAt LineKind)) (n : ℕ) (kind : LineKind) → told_as on_line r ≡ Err (Line n kind)
-    → r ≡ Err (record { line = n; kind = kind })
-fault_told (Ok ds) n kind e = absurd (cc e)
-fault_told (Err f) n kind e =
-    let same : Line f.line f.kind ≡ Line n kind = same_fault (Line f.line f.kind) (Line n kind) e in
-    let number : f.line ≡ n = cc in
+fault_told : (r : Result (List StudyCommand) (FaultAt LineKind)) (number : ℕ) (kind : LineKind) → told_as on_line r ≡ Err (Line number kind)
+    → r ≡ Err (record { line = number; kind = kind })
+fault_told (Ok ds) number kind e = absurd (cc e)
+fault_told (Err f) number kind e =
+    let same : Line f.line f.kind ≡ Line number kind = same_fault (Line f.line f.kind) (Line number kind) e in
+    let line : f.line ≡ number = cc in
     let why : f.kind ≡ kind = cc in
-    ap₂ (λ l k. Err (record { line = l; kind = k })) number why
+    ap₂ (λ l k. Err (record { line = l; kind = k })) line why
 
-pub read_found : (names : Words) (bytes : List ℕ) (r : Result (List StudyCommand) CommandsFault) → IsRead names bytes r → IfOk r (AreCommands names bytes)
-read_found names bytes (Ok cs) h =
-    let e = value_told (reading (commands names) [] (rows_of bytes) (end_of bytes)) cs h in
-    said_commands names (texts_in (rows_of bytes)) cs (read_says (commands names) [] (rows_of bytes) (end_of bytes) cs e)
-read_found names bytes (Err fault) h = tt
+pub commands_refused : (names : Words) (bytes : List ℕ) (number : ℕ) (kind : LineKind)
+    → (Line number kind ≡ NoMemory) ⊎ (told_as on_line (commands_of names bytes) ≡ Err (Line number kind)) → IsFirstFault names bytes number kind
+commands_refused names bytes number kind (inl e) = absurd (cc e)
+commands_refused names bytes number kind (inr e) = fault_told (commands_of names bytes) number kind e
 
-pub read_below : (names : Words) (bytes : List ℕ) (r : Result (List StudyCommand) CommandsFault) → IsRead names bytes r
-    → IfOk r (AllByRecursion (IsBelow (length names)))
-read_below names bytes (Ok cs) h = all_below names (texts_in (rows_of bytes)) cs (read_found names bytes (Ok cs) h)
+pub read_below : (names : Words) (bytes : List ℕ) (r : Result (List StudyCommand) CommandsFault)
+    → IsUnless NoMemory r (told_as on_line (commands_of names bytes)) → IfOk r (AllByRecursion (IsBelow (length names)))
+read_below names bytes (Ok cs) h = all_below names (texts_in (rows_of bytes)) cs ((commands_of_lines names bytes cs).0 (commands_found names bytes cs h))
 read_below names bytes (Err fault) h = tt
-
-pub read_fault : (names : Words) (bytes : List ℕ) (r : Result (List StudyCommand) CommandsFault) → IsRead names bytes r → IfErr r (IsCommandsFault names bytes)
-read_fault names bytes (Ok cs) h = tt
-read_fault names bytes (Err (Line n kind)) (inl e) = absurd (cc e)
-read_fault names bytes (Err (Line n kind)) (inr e) =
-    let f = fault_told (reading (commands names) [] (rows_of bytes) (end_of bytes)) n kind e in
-    read_faults (commands names) [] (rows_of bytes) (end_of bytes) (record { line = n; kind = kind }) f
-read_fault names bytes (Err NoMemory) h = tt

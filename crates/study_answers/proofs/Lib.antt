@@ -1,5 +1,4 @@
 pub mod Answering
-pub mod CommandLaws
 pub mod CommandReads
 pub mod CommandsReplied
 pub mod KeptLooks

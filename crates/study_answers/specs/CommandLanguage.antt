@@ -3,7 +3,8 @@ use Rattle.std.specs.Prelude.{ℕ, List, [], ◌∷◌, ◌++◌, Result, Ok, Er
 use Rattle.field_core.specs.Answers.{and_then}
 use Rattle.graph_io.specs.declared.keeper.Look.{Look}
 use Rattle.case_model.specs.declared.draft_stages.Arrival.{Arrival}
-use Rattle.text_lines.specs.Languages.{Language}
+use Rattle.text_lines.specs.Languages.{Language, FaultAt, reading}
+use Rattle.text_lines.specs.Lines.{rows_of, end_of}
 use Rattle.edge_text.specs.declared.fault.LineKind.{LineKind}
 use Rattle.edge_text.specs.declared.fault.LineKind.TheVariants.{Unexpected, WordCount}
 use Rattle.edge_text.specs.Grammar.{Words}
@@ -36,3 +37,7 @@ commands names = record {
   step = λ said line. and_then (command names line) (λ c. Ok (said ++ c ∷ []));
   end = λ said. Ok said;
 }
+
+-- what a text denotes for hypotheses of these names, line by line, or its first fault
+unfoldable pub commands_of : List (List ℕ) → List ℕ → Result (List StudyCommand) (FaultAt LineKind)
+commands_of names bytes = reading (commands names) [] (rows_of bytes) (end_of bytes)

@@ -1,11 +1,11 @@
 -- What lines ask a study for.
-use Rattle.std.specs.Prelude.{◌≡◌, ◌<◌, ℕ, List, [], ◌∷◌, codes}
+use Rattle.std.specs.Prelude.{◌≡◌, ◌<◌, ℕ, List, [], ◌∷◌, Ok, codes}
 use Rattle.std.specs.List.{AllZip}
 use Rattle.graph_io.specs.declared.keeper.Look.{Look}
 use Rattle.case_model.specs.declared.draft_stages.Arrival.{Arrival}
-use Rattle.text_lines.specs.Lines.{rows_of, texts_in}
 use Rattle.text_lines.specs.Words.{words_of}
 use Rattle.edge_text.specs.Grammar.{IsLineOf, IsArrival}
+use Rattle.study_answers.specs.CommandLanguage.{commands_of}
 use Rattle.study_answers.specs.declared.command.StudyCommand.{StudyCommand}
 use Rattle.study_answers.specs.declared.command.StudyCommand.TheVariants.{Take, Show}
 
@@ -26,9 +26,13 @@ abbrev pub IsCommandLine : List (List ℕ) → List ℕ → StudyCommand → Typ
 IsCommandLine names line (Take look) = IsLookLine names line look
 IsCommandLine names line Show = IsShowLine line
 
--- the lines of a text that aren't skipped denote these commands, one each
+-- the lines denote these commands, one each
+abbrev pub AreCommandLines : List (List ℕ) → List (List ℕ) → List StudyCommand → Type 0
+AreCommandLines names lines commands = AllZip (IsCommandLine names) lines commands
+
+-- the text denotes these commands
 abbrev pub AreCommands : List (List ℕ) → List ℕ → List StudyCommand → Type 0
-AreCommands names bytes commands = AllZip (IsCommandLine names) (texts_in (rows_of bytes)) commands
+AreCommands names bytes commands = commands_of names bytes ≡ Ok commands
 
 -- a look that is requested is of one of a number of hypotheses
 abbrev pub IsBelow : ℕ → StudyCommand → Type 0

@@ -1,39 +1,20 @@
 -- What the lines of commands and their first faults promise.
-use Rattle.std.specs.Prelude.{◌≡◌, ◌⊎◌, ℕ, List, []}
-use Rattle.std.specs.List.{AllZip}
+use Rattle.std.specs.Prelude.{◌↔◌, ℕ, List, []}
 use Rattle.edge_text.specs.declared.fault.LineKind.{LineKind}
-use Rattle.text_lines.specs.Languages.{IsDocument}
+use Rattle.text_lines.specs.LanguageStatements.{HasFault}
+use Rattle.text_lines.specs.Lines.{rows_of, texts_in, end_of}
 use Rattle.study_answers.specs.CommandLanguage.{commands}
-use Rattle.study_answers.specs.CommandLines.{AreCommands, IsCommandLine}
+use Rattle.study_answers.specs.CommandLines.{AreCommands, AreCommandLines}
 use Rattle.study_answers.specs.CommandFaults.{IsFirstFault}
 use Rattle.study_answers.specs.declared.command.StudyCommand.{StudyCommand}
 
--- a text denotes at most one list of commands
-abbrev pub TextsSayOneList : Type 0
-TextsSayOneList = (names : List (List ℕ)) (bytes : List ℕ) (cs ds : List StudyCommand)
-    → AreCommands names bytes cs → AreCommands names bytes ds → cs ≡ ds
+-- a text denotes commands exactly if its lines that aren't skipped denote them, one each
+abbrev pub CommandsAreOfLines : Type 0
+CommandsAreOfLines = (names : List (List ℕ)) (bytes : List ℕ) (cs : List StudyCommand)
+    → AreCommands names bytes cs ↔ AreCommandLines names (texts_in (rows_of bytes)) cs
 
--- a text has at most one first fault
-abbrev pub TextsHaveOneFault : Type 0
-TextsHaveOneFault = (names : List (List ℕ)) (bytes : List ℕ) (m n : ℕ) (j k : LineKind)
-    → IsFirstFault names bytes m j → IsFirstFault names bytes n k → (m ≡ n) × (j ≡ k)
-
--- a text says commands or has a first fault
-abbrev pub TextsSayOrFail : Type 0
-TextsSayOrFail = (names : List (List ℕ)) (bytes : List ℕ) → ((cs : List StudyCommand) × AreCommands names bytes cs)
-    ⊎ ((n : ℕ) × (kind : LineKind) × IsFirstFault names bytes n kind)
-
--- a text that says commands has no first fault
-abbrev pub TextsDontSayAndFail : Type 0
-TextsDontSayAndFail = (names : List (List ℕ)) (bytes : List ℕ) (cs : List StudyCommand) (n : ℕ) (kind : LineKind)
-    → AreCommands names bytes cs → ¬ IsFirstFault names bytes n kind
-
--- lines that denote these commands, one each, are of the language, and say them there
-abbrev pub CommandsAreSaid : Type 0
-CommandsAreSaid = (names : List (List ℕ)) (lines : List (List ℕ)) (cs : List StudyCommand)
-    → AllZip (IsCommandLine names) lines cs → IsDocument (commands names) [] lines cs
-
--- lines of the language denote these commands, one each
-abbrev pub SaidAreCommands : Type 0
-SaidAreCommands = (names : List (List ℕ)) (lines : List (List ℕ)) (cs : List StudyCommand)
-    → IsDocument (commands names) [] lines cs → AllZip (IsCommandLine names) lines cs
+-- its first fault is that of the first line that denotes no command
+abbrev pub FaultsAreBadLines : Type 0
+FaultsAreBadLines = (names : List (List ℕ)) (bytes : List ℕ) (number : ℕ) (kind : LineKind)
+    → IsFirstFault names bytes number kind
+    ↔ HasFault (commands names) [] (rows_of bytes) (end_of bytes) (record { line = number; kind = kind })

@@ -1,8 +1,7 @@
 //! Laws of studies whose looks are kept, and of texts of commands. Each function states laws that hold of all cases, and does nothing.
 
 ghost use Rattle.study_answers.specs.StudyStatements.{StudiesHaveOneEnd, RepliesDecide, KeptLooksDecide, TakenLooksAreFirst};
-ghost use Rattle.study_answers.specs.CommandStatements.{TextsSayOneList, TextsHaveOneFault, TextsSayOrFail, TextsDontSayAndFail};
-ghost use Rattle.study_answers.specs.CommandStatements.{CommandsAreSaid, SaidAreCommands};
+ghost use Rattle.study_answers.specs.CommandStatements.{CommandsAreOfLines, FaultsAreBadLines};
 
 /// Kept looks and commands have one end: one answer with the looks that are kept also, or one refusal, and not both.
 pub fn studies_have_one_end()
@@ -22,17 +21,10 @@ pub fn taken_looks_are_first()
     ensures { TakenLooksAreFirst }
 {}
 
-/// A text denotes one list of commands for hypotheses of these names, or has one first fault, and not both.
-pub fn texts_are_decided()
-    ensures commands { TextsSayOneList }
-    ensures fault { TextsHaveOneFault }
-    ensures each { TextsSayOrFail }
-    ensures apart { TextsDontSayAndFail }
-{}
-
-/// The lines that are read one by one are exactly those that each say a command, and say the same ones.
-#[tactic(auto, using(crate::proofs::CommandReads::commands_said, crate::proofs::CommandReads::said_commands))]
+/// A text denotes commands exactly if its lines that aren't skipped denote them, one each. Its first fault is that of the
+/// first line that denotes no command.
+#[tactic(auto, using(crate::proofs::CommandReads::commands_of_lines, crate::proofs::CommandReads::faults_of_lines))]
 pub fn commands_are_read_by_lines()
-    ensures said { CommandsAreSaid }
-    ensures only { SaidAreCommands }
+    ensures said { CommandsAreOfLines }
+    ensures fault { FaultsAreBadLines }
 {}

@@ -1,5 +1,6 @@
 -- Words, a case, commands and kept looks have one outcome.
-use Rattle.std.proofs.Common.{ap₂, ◌∙◌, sym, ℕ, List, Some}
+use Rattle.std.proofs.Common.{ap, ◌∙◌, sym, ℕ, List, Some}
+use Rattle.field_core.proofs.Results.{same_value, same_fault}
 use Rattle.graph_io.specs.declared.keeper.Look.{Look}
 use Rattle.answers.specs.Stages.{IsDecided}
 use Rattle.answers.proofs.Decided.{then_decided, told_as_decided, within_decided}
@@ -7,19 +8,21 @@ use Rattle.case_model.specs.Content.{Content}
 use Rattle.command_words.specs.Asked.{StudyAsked}
 use Rattle.command_words.specs.Words.{study_in}
 use Rattle.command_words.proofs.OneReading.{study_words_decided}
+use Rattle.edge_text.specs.declared.fault.LineKind.{LineKind}
+use Rattle.text_lines.specs.Languages.{FaultAt}
 use Rattle.graph_cli.proofs.AcceptedCases.{accepted_decided}
 use Rattle.refusals.specs.TextRefusal.{commands_refusal}
 use Rattle.refusals.specs.UsageRefusal.{usage}
 use Rattle.study_answers.proofs.OneEnd.{studies_have_one_end}
-use Rattle.study_answers.proofs.CommandLaws.{texts_say_one_list, texts_have_one_fault, texts_dont_say_and_fail}
 use Rattle.study_cli.specs.StudyLaws.{StudiesHaveOneOutcome}
 use Rattle.study_cli.specs.StudyOutcome.{study_needs, commands_in, study_call}
 
 commands_decided : (c : Content) (bytes : List ℕ) → IsDecided (commands_in c bytes)
 commands_decided c bytes = record {
-  one = λ xs ys h k. texts_say_one_list c.names bytes xs ys h k;
-  one_refusal = λ r q h k. let e = texts_have_one_fault c.names bytes h.0 k.0 h.1 k.1 h.2 k.2 in h.3 ∙ ap₂ commands_refusal e.0 e.1 ∙ sym k.3;
-  not_both = λ xs r h k. texts_dont_say_and_fail c.names bytes xs k.0 k.1 h k.2;
+  one = λ xs ys h k. same_value xs ys (sym h ∙ k);
+  one_refusal = λ r q h k. h.3 ∙ ap (λ (f : FaultAt LineKind). commands_refusal f.line f.kind)
+      (same_fault (record { line = h.0; kind = h.1 }) (record { line = k.0; kind = k.1 }) (sym h.2 ∙ k.2)) ∙ sym k.3;
+  not_both = λ xs r h k. cc (sym h ∙ k.2);
 }
 
 call_decided : (asked : StudyAsked) (case commands : List ℕ) (looks : List Look) → IsDecided (study_call asked (Some case) (Some commands) (Some looks))

@@ -1,5 +1,6 @@
 use Rattle.std.proofs.Common.{inl, inr, refl}
 use Rattle.case_model.specs.CaseView.{content}
+use Rattle.evidence_check.proofs.DocumentLaws.{evidence_found}
 use Rattle.graph_cli.specs.Check.{said_of, check_stage}
 use Rattle.graph_cli.proofs.HandedOn.{err_on}
 use Rattle.graph_cli.proofs.Refusing.{text_refuses}
@@ -9,7 +10,7 @@ pub returns-in_err-proof : goal.returns-in_err-proof
 unfolding check_stage
 returns-in_err-proof c =
     err_on _ _ _ c.from_residual.ensures.1
-    (λ some. inl (text_refuses (content c.args.case.now) c.args.bytes.now c.in_err-proof.field-0.0 c.in_err-proof.ensures.fault some))
+    (λ some. inl (text_refuses (content c.args.case.now) c.args.bytes.now c.in_err-proof.field-0.0 c.in_err-proof.ensures.read some))
 
 pub returns-in_err-verdict : goal.returns-in_err-verdict
 unfolding check_stage
@@ -17,7 +18,7 @@ returns-in_err-verdict c =
     let proof = c.in_ok-proof.proof in
     err_on _ _ _ c.from_residual-in_err-verdict.ensures.1 (λ some. inr (
       said_of proof,
-      (proof, c.in_ok-proof.ensures.fits, c.in_ok-proof.ensures.found, refl),
+      (proof, c.in_ok-proof.ensures.fits, evidence_found (content c.args.case.now) c.args.bytes.now proof c.in_ok-proof.ensures.read, refl),
       inl (c.in_err-verdict.ensures some),
     ))
 
@@ -26,6 +27,6 @@ unfolding check_stage
 returns c =
     let proof = c.in_ok-proof.proof in (
       said_of proof,
-      (proof, c.in_ok-proof.ensures.fits, c.in_ok-proof.ensures.found, refl),
+      (proof, c.in_ok-proof.ensures.fits, evidence_found (content c.args.case.now) c.args.bytes.now proof c.in_ok-proof.ensures.read, refl),
       (c.in_ok-verdict.verdict, c.in_ok-verdict.ensures, c.in_ok-answer_to.ensures),
     )
