@@ -24,6 +24,7 @@ use Rattle.case_json.specs.declared.fault.JsonFault.TheVariants as faults
 use Rattle.case_json.specs.Values.{IsJson, OrMemory, item_list, under}
 use Rattle.field_core.specs.Answers.{told_as}
 use Rattle.field_core.proofs.Results.{came_from, same_value}
+use Rattle.edge_text.proofs.WordAnswers.{value_told}
 use Rattle.case_json.specs.Answers.{with_keys, Reader, part_at, at, part_or, at_or, each, list_of, IsAnswer}
 use Rattle.case_json.specs.Document.{edge_keys, component_keys, arrival_keys, stages_keys, document_keys}
 use Rattle.case_json.specs.Document.{one, number_of, place_of, text_of, count_of, weight_of, spend_of, hypothesis_of, edge_of, component_of, arrival_of, stages_of, some_stages, document_of, IsDraft}
@@ -34,21 +35,17 @@ use Rattle.case_json.proofs.Paths.{HasPath, fault_placed}
 -- ---- known ends
 
 -- what is read passes a test
-abbrev Tested : {A : Type 0} → Reader A → (A → Bool) → Type 0
+abbrev pub Tested : {A : Type 0} → Reader A → (A → Bool) → Type 0
 Tested read test = (d : Data) (a : _) → read d ≡ Ok a → test a ≡ true
 
-untold : {A : Type 0} (step : List ℕ) (r : Result A JsonFault) (a : A) → told_as (under step) r ≡ Ok a → r ≡ Ok a
-untold step (Ok b) a e = ap Ok (same_value b a e)
-untold step (Err fault) a e = absurd (cc e)
-
 module _ {A : Type 0} (read : Reader A) (test : A → Bool) (tested : Tested read test) where
-  in_part : (key : List ℕ) (o : Option Data) (a : A) → part_at key read o ≡ Ok a → test a ≡ true
+  pub in_part : (key : List ℕ) (o : Option Data) (a : A) → part_at key read o ≡ Ok a → test a ≡ true
   in_part key None a e = absurd (cc e)
-  in_part key (Some d) a e = tested d a (untold key (read d) a e)
+  in_part key (Some d) a e = tested d a (value_told (under key) (read d) a e)
 
   may_part : (absent : A) → test absent ≡ true → (key : List ℕ) (o : Option Data) (a : A) → part_or absent key read o ≡ Ok a → test a ≡ true
   may_part absent h key None a e = ap test (sym (same_value absent a e)) ∙ h
-  may_part absent h key (Some d) a e = tested d a (untold key (read d) a e)
+  may_part absent h key (Some d) a e = tested d a (value_told (under key) (read d) a e)
 
   all_of : (i : ℕ) (ds : List Data) (xs : List A) → each read i ds ≡ Ok xs → list_all test xs ≡ true
   all_of i [] xs e = ap (list_all test) (sym (same_value [] xs e))
@@ -56,9 +53,9 @@ module _ {A : Type 0} (read : Reader A) (test : A → Bool) (tested : Tested rea
       let first = came_from (told_as (under (decimal i)) (read d)) _ xs e in
       let rest = came_from (each read (i + 1) ds) _ xs first.2 in
       ap (list_all test) (sym (same_value (first.0 ∷ rest.0) xs rest.2))
-      ∙ ap₂ (λ a b. a && b) (tested d first.0 (untold (decimal i) (read d) first.0 first.1)) (all_of (i + 1) ds rest.0 rest.1)
+      ∙ ap₂ (λ a b. a && b) (tested d first.0 (value_told (under (decimal i)) (read d) first.0 first.1)) (all_of (i + 1) ds rest.0 rest.1)
 
-  all_in : Tested (list_of read) (list_all test)
+  pub all_in : Tested (list_of read) (list_all test)
   all_in (array ds) xs e = all_of 0 (item_list ds) xs e
   all_in other xs e = absurd (cc e)
 

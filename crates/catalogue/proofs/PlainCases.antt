@@ -28,7 +28,7 @@ unfolding is_plain_entry
 no_edge_plain = refl
 
 -- the entry of an edge, where there is one
-abbrev entry_found : Option DraftEdge → List Ratio
+abbrev pub entry_found : Option DraftEdge → List Ratio
 entry_found o = option_map_or (λ (e : DraftEdge). e.entry) o no_edge
 
 first_plain : (t : Bool) (e : DraftEdge) (o : Option DraftEdge) → is_plain_entry e.entry ≡ true → is_plain_entry (entry_found o) ≡ true

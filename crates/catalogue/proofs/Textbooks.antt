@@ -63,7 +63,7 @@ first_value (suc i) = let t : (suc i == 0) ≡ false = grind (arith, nat_tests) 
 
 -- ---- the graphs
 
-few_are_short : (n : ℕ) → n ≤ 64 → n < 2 ^ 127
+pub few_are_short : (n : ℕ) → n ≤ 64 → n < 2 ^ 127
 few_are_short n h = let k : 64 < 2 ^ 127 = lit< tt in omega (arith, h, k)
 
 pub holm_is : (n : ℕ) (alpha : Ratio) (ps : List Ratio) → 1 ≤ n → n ≤ 64

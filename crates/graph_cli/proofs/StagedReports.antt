@@ -17,7 +17,7 @@ use Rattle.graph_cli.specs.Stages.{stages_stage}
 use Rattle.graph_cli.specs.Laws.{ReportsStagedTest, ReportsAreOfTheStagedTest}
 use Rattle.graph_cli.proofs.ClosedReports.{reports_case}
 
-or_again : (a b c : Bool) → ((a || b) || c) ≡ (a || (b || c))
+pub or_again : (a b c : Bool) → ((a || b) || c) ≡ (a || (b || c))
 or_again true b c = refl
 or_again false b c = refl
 

@@ -1,5 +1,5 @@
 -- On the cases of Holm's graph, of fixed sequences and of fallback the closed test decides as the rules, and nothing is too wide.
-use Rattle.std.proofs.Common.{◌≡◌, refl, sym, ap, subst, ◌∙◌, ℕ, suc, ◌-◌, ◌^◌, ◌==◌, ◌<◌, ◌≤◌, ◌||◌, ◌↔◌, Bool, true, false, cond}
+use Rattle.std.proofs.Common.{◌≡◌, refl, sym, ap, subst, ◌∙◌, ℕ, suc, ◌-◌, ◌==◌, ◌<◌, ◌≤◌, ◌||◌, ◌↔◌, Bool, true, false, cond}
 use Rattle.std.proofs.Common.{List, [], length, Some, None, Ok, pos, arith, lit<}
 use Rattle.std.specs.Prelude.{nat_lt}
 use Rattle.std.proofs.lemmas.Bool.Decides.{nat_tests}
@@ -29,7 +29,7 @@ use Rattle.case_model.proofs.Thresholds.{good_level}
 use Rattle.case_model.proofs.ValidContents.{valid_content, shape}
 use Rattle.catalogue.proofs.PlainCases.{holm_plain, sequence_plain, fallback_plain_case}
 use Rattle.catalogue.proofs.RatiosOf.{part_value}
-use Rattle.catalogue.proofs.Textbooks.{holm_made, sequence_made, fallback_made}
+use Rattle.catalogue.proofs.Textbooks.{few_are_short, holm_made, sequence_made, fallback_made}
 use Rattle.catalogue.specs.Makings.{made, holm_case, sequence_case, fallback_case}
 use Rattle.catalogue.specs.NamedGraphs.{part, holm_graph, sequence_graph, fallback_graph, equal_weights}
 use Rattle.catalogue.specs.Sizes.{size_fault}
@@ -79,9 +79,6 @@ size_within n e = by (n == 0) (nat_lt 64 n) refl refl e
     by true t f g h = absurd (cc h)
     by false true f g h = absurd (cc h)
     by false false f g h = (grind (arith, nat_tests), ltb-false 64 n g)
-
-few_are_short : (n : ℕ) → n ≤ 64 → n < 2 ^ 127
-few_are_short n h = let k : 64 < 2 ^ 127 = lit< tt in omega (arith, h, k)
 
 module _ (n : ℕ) (c : Content) (N : IsNamedCase n c) where
   size_is : (entangled c).hypotheses ≡ n

@@ -27,6 +27,7 @@ use Rattle.study_answers.specs.declared.command.StudyCommand.{StudyCommand}
 use Rattle.study_answers.specs.declared.command.StudyCommand.TheVariants.{Take, Show}
 use Rattle.study_register.specs.Looking.{arrivals_of, AreTaken}
 use Rattle.graph_cli.proofs.ClosedReports.{known_arrivals, faultless_content, not_done}
+use Rattle.graph_cli.proofs.StagedReports.{or_again}
 use Rattle.graph_cli.specs.Accepted.{grammar}
 use Rattle.printed.specs.Study.{ShowsStagedTest, BringsRejections, ReportsStudy, StudiesAreOfTheStagedTest}
 
@@ -50,10 +51,6 @@ or_first false b h = absurd (cc)
 or_second : (a b : Bool) → b ≡ true → (a || b) ≡ true
 or_second true b h = refl
 or_second false b h = h
-
-or_again : (a b c : Bool) → ((a || b) || c) ≡ (a || (b || c))
-or_again true b c = refl
-or_again false b c = refl
 
 listed_behind : (rs more : List Settled) (j : ℕ) → set_of (positions_of (rs ++ more)) j ≡ (set_of (positions_of rs) j || is_among more j)
 listed_behind [] more j = sym (among_listed more j)

@@ -2,15 +2,14 @@
 use Rattle.std.proofs.Common.{◌≡◌, refl, ap₂, ℕ, zero, suc, ◌+◌, ◌*◌, ◌/◌, ◌%◌, ◌&&◌, Bool, true, false, cond}
 use Rattle.std.proofs.Common.{List, [], ◌∷◌, map, length, Option, Some}
 use Rattle.std.specs.List.{list_all, find, range_with_len}
-use Rattle.std.specs.Option.{option_map_or}
-use Rattle.field_core.specs.declared.ratio.Ratio.{Ratio}
 use Rattle.case_model.specs.declared.draft.Draft.{Draft}
 use Rattle.case_model.specs.declared.draft_component.DraftComponent.{DraftComponent}
 use Rattle.case_model.specs.declared.draft_edge.DraftEdge.{DraftEdge}
 use Rattle.case_model.specs.Content.{content_of, edge_between, table_of, tabled, has_coefficients}
 use Rattle.case_model.specs.Draft.{has_ends}
-use Rattle.case_model.specs.Entries.{is_whole_entry, no_edge}
+use Rattle.case_model.specs.Entries.{is_whole_entry}
 use Rattle.case_model.proofs.Holding.{both}
+use Rattle.catalogue.proofs.PlainCases.{entry_found}
 
 -- an edge with a coefficient for each power
 abbrev pub whole_edge : DraftEdge → Bool
@@ -23,10 +22,6 @@ whole_component k = list_all whole_edge k.edges
 -- a draft with such components
 abbrev pub IsWhole : Draft → Type 0
 IsWhole d = list_all whole_component d.components ≡ true
-
--- the entry of an edge, where there is one
-abbrev entry_found : Option DraftEdge → List Ratio
-entry_found o = option_map_or (λ (e : DraftEdge). e.entry) o no_edge
 
 first_whole : (t : Bool) (e : DraftEdge) (o : Option DraftEdge) → whole_edge e ≡ true → is_whole_entry (entry_found o) ≡ true
     → is_whole_entry (entry_found (cond t (Some e) o)) ≡ true

@@ -1,51 +1,25 @@
 -- What JSON says has edges with a coefficient for each power.
-use Rattle.std.proofs.Common.{◌≡◌, sym, ap, ap₂, ◌∙◌, ℕ, ◌+◌, ◌&&◌, Bool, true, false, List, [], ◌∷◌, Option, Some, None, Result, Ok, Err, ℤ, ◌^◌}
-use Rattle.std.specs.Fmt.{decimal}
+use Rattle.std.proofs.Common.{◌≡◌, sym, ap, ◌∙◌, ℕ, Bool, true, false, List, [], Option, Some, None, Ok, ℤ, ◌^◌}
 use Rattle.std.specs.List.{list_all}
 use Rattle.std.specs.Prelude.{codes, nat_le, unsigned_abs, ok_or}
-use Rattle.field_core.specs.Answers.{told_as}
 use Rattle.field_core.proofs.Results.{came_from, same_value}
 use Rattle.field_core.specs.declared.ratio.Ratio.{Ratio}
-use Rattle.serde_json.specs.Data.{Data, string, number, array}
+use Rattle.serde_json.specs.Data.{Data, string, number}
 use Rattle.serde_json.specs.Find.{get, as_integer}
 use Rattle.case_model.specs.declared.draft.Draft.{Draft}
 use Rattle.case_model.specs.Entries.{is_whole_entry}
-use Rattle.case_json.specs.Answers.{Reader, with_keys, part_at, at, at_or, each, list_of}
+use Rattle.case_json.specs.Answers.{with_keys, at, at_or, list_of}
 use Rattle.case_json.specs.Document.{edge_keys, component_keys, document_keys, one, number_of, place_of, text_of, hypothesis_of, weight_of, whole_entry}
 use Rattle.case_json.specs.Document.{short_weight, whole_weight, edge_of, component_of, some_stages, IsDraft}
 use Rattle.case_json.specs.Reading.{SaysDraft}
-use Rattle.case_json.specs.Values.{item_list, under}
 use Rattle.case_json.specs.WholeRatios.{whole_ratio}
 use Rattle.case_json.specs.declared.fault.JsonFault.TheVariants.{NotWhole, Expr}
+use Rattle.case_json.proofs.Drafts.{Tested, in_part, all_in}
+use Rattle.edge_text.proofs.WordAnswers.{value_told}
 use Rattle.entries.specs.Entries.{entry_of}
 use Rattle.entries.proofs.Entries.{entry_is}
 use Rattle.printed.proofs.WholeDrafts.{whole_edge, whole_component, IsWhole}
 use Rattle.printed.proofs.WholeValues.{entry_whole}
-
--- what is read passes a test
-abbrev Tested : {A : Type 0} → Reader A → (A → Bool) → Type 0
-Tested read test = (d : Data) (a : _) → read d ≡ Ok a → test a ≡ true
-
-untold : {A E F : Type 0} (tell : E → F) (r : Result A E) (a : A) → told_as tell r ≡ Ok a → r ≡ Ok a
-untold tell (Ok b) a e = ap Ok (same_value b a e)
-untold tell (Err fault) a e = absurd (cc e)
-
-module _ {A : Type 0} (read : Reader A) (test : A → Bool) (tested : Tested read test) where
-  in_part : (key : List ℕ) (o : Option Data) (a : A) → part_at key read o ≡ Ok a → test a ≡ true
-  in_part key None a e = absurd (cc e)
-  in_part key (Some d) a e = tested d a (untold (under key) (read d) a e)
-
-  all_of : (i : ℕ) (ds : List Data) (xs : List A) → each read i ds ≡ Ok xs → list_all test xs ≡ true
-  all_of i [] xs e = ap (list_all test) (sym (same_value [] xs e))
-  all_of i (d ∷ ds) xs e =
-      let first = came_from (told_as (under (decimal i)) (read d)) _ xs e in
-      let rest = came_from (each read (i + 1) ds) _ xs first.2 in
-      ap (list_all test) (sym (same_value (first.0 ∷ rest.0) xs rest.2))
-      ∙ ap₂ (λ a b. a && b) (tested d first.0 (untold (under (decimal i)) (read d) first.0 first.1)) (all_of (i + 1) ds rest.0 rest.1)
-
-  all_in : Tested (list_of read) (list_all test)
-  all_in (array ds) xs e = all_of 0 (item_list ds) xs e
-  all_in other xs e = absurd (cc e)
 
 -- ---- weights
 
@@ -60,7 +34,7 @@ integer_whole (Some z) entry e =
     short_whole (nat_le (unsigned_abs z) (10 ^ 18)) x.0 entry x.2
 
 weight_whole : Tested weight_of is_whole_entry
-weight_whole (string s) entry e = entry_whole s entry (entry_is s entry (untold (Expr []) (entry_of s) entry e))
+weight_whole (string s) entry e = entry_whole s entry (entry_is s entry (value_told (Expr []) (entry_of s) entry e))
 weight_whole (number n) entry e = integer_whole (as_integer n) entry e
 weight_whole other entry e = absurd (cc e)
 

@@ -1,8 +1,7 @@
 -- What texts and sheets say has edges with a coefficient for each power.
 use Rattle.std.proofs.Common.{◌≡◌, refl, sym, ap, ap₂, ◌∙◌, ℕ, ◌+◌, ◌==◌, ◌&&◌, Bool, true, false, cond}
-use Rattle.std.proofs.Common.{List, [], ◌∷◌, ◌++◌, drop, length, Result, Ok, Err, inl, inr}
+use Rattle.std.proofs.Common.{List, [], ◌∷◌, ◌++◌, drop, length, Ok, inl, inr}
 use Rattle.std.specs.List.{AllZip, list_all}
-use Rattle.field_core.specs.Answers.{told_as}
 use Rattle.field_core.proofs.Results.{came_from, same_value}
 use Rattle.field_core.specs.declared.ratio.Ratio.{Ratio}
 use Rattle.case_model.specs.declared.draft.Draft.{Draft}
@@ -16,6 +15,7 @@ use Rattle.case_csv.specs.Table.{table_edges, draft_of, IsTable}
 use Rattle.case_csv.specs.declared.fault.RowKind.TheVariants.{Expr}
 use Rattle.edge_text.specs.CanonicalText.{is_absent}
 use Rattle.edge_text.specs.Grammar.{IsEdgeLine, IsSharedBlock, AreBlocks, IsText}
+use Rattle.edge_text.proofs.WordAnswers.{value_told}
 use Rattle.entries.specs.Entries.{entry_of}
 use Rattle.entries.proofs.Entries.{entry_is}
 use Rattle.printed.proofs.WholeDrafts.{whole_edge, whole_component, IsWhole}
@@ -51,17 +51,13 @@ text_whole bytes d h = components_whole d.names h.block_lines d.components h.blo
 
 -- ---- sheets
 
-untold : {A E F : Type 0} (tell : E → F) (r : Result A E) (a : A) → told_as tell r ≡ Ok a → r ≡ Ok a
-untold tell (Ok b) a e = ap Ok (same_value b a e)
-untold tell (Err fault) a e = absurd (cc e)
-
 entries_whole : (number column : ℕ) (cells : Cells) (entries : List (List Ratio)) → entries_of number column cells ≡ Ok entries
     → list_all is_whole_entry entries ≡ true
 entries_whole number column [] entries e = ap (list_all is_whole_entry) (sym (same_value [] entries e))
 entries_whole number column (cell ∷ cells) entries e =
     let first = came_from (at number column (edge_of cell)) _ entries e in
     let rest = came_from (entries_of number (column + 1) cells) _ entries first.2 in
-    let said = untold Expr (entry_of cell) first.0 (untold _ (edge_of cell) first.0 first.1) in
+    let said = value_told Expr (entry_of cell) first.0 (value_told _ (edge_of cell) first.0 first.1) in
     ap (list_all is_whole_entry) (sym (same_value (first.0 ∷ rest.0) entries rest.2))
     ∙ ap₂ (λ x y. x && y) (entry_whole cell first.0 (entry_is cell first.0 said)) (entries_whole number (column + 1) cells rest.0 rest.1)
 

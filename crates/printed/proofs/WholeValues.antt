@@ -7,6 +7,7 @@ use Rattle.field_core.specs.Terms.{Terms}
 use Rattle.field_core.specs.View.{terms}
 use Rattle.field_core.specs.declared.ratio.Ratio.{Ratio}
 use Rattle.field_core.specs.Laws.Prefixes.{bind_ok}
+use Rattle.field_core.proofs.Results.{same_value}
 use Rattle.case_model.specs.Entries.{is_whole_entry}
 use Rattle.case_model.specs.Sums.{terms_at}
 use Rattle.numerals.specs.Decimals.{decimal_value}
@@ -20,9 +21,6 @@ use Rattle.edge_expression.specs.EntryValues.{value, with_terms, term_value, wit
 use Rattle.edge_expression.specs.Expressions.{Power, Sign, Plus, Minus, Expression, Sum, MoreTerms, NoTerm, AndTerm, Term, Product}
 use Rattle.edge_expression.specs.Expressions.{MoreFactors, NoFactor, Times, Over, Beside, Factor, Number, Other, Further, Epsilon, Parens}
 
-same_ok : (x y : List Terms) → Path (Result (List Terms) ValueFault) (Ok x) (Ok y) → x ≡ y
-same_ok x y h = cc
-
 -- ---- operations
 
 five_made : (f : ℕ → Result Terms ValueFault) (z : List Terms) → coefficients f ≡ Ok z → length z ≡ 5
@@ -33,7 +31,7 @@ five_made f z h =
     let c = bind_ok (f 2) _ z b.1.1 in
     let d = bind_ok (f 3) _ z c.1.1 in
     let e = bind_ok (f 4) _ z d.1.1 in
-    ap length (sym (same_ok (a.0 ∷ b.0 ∷ c.0 ∷ d.0 ∷ e.0 ∷ []) z e.1.1))
+    ap length (sym (same_value (a.0 ∷ b.0 ∷ c.0 ∷ d.0 ∷ e.0 ∷ []) z e.1.1))
 
 -- what follows a test that may refuse
 behind_test : (b : Bool) (fault : ValueFault) (r : Result (List Terms) ValueFault) (z : List Terms) → cond b (Err fault) r ≡ Ok z → r ≡ Ok z
@@ -61,7 +59,7 @@ over_five x y z h =
 
 decimal_five : (o : Option Terms) (z : List Terms) → decimal_entry o ≡ Ok z → length z ≡ 5
 decimal_five None z h = absurd (cc h)
-decimal_five (Some t) z h = let s = bind_ok (short_of t) (λ x. Ok (plain_entry x)) z h in ap length (sym (same_ok (plain_entry s.0) z s.1.1))
+decimal_five (Some t) z h = let s = bind_ok (short_of t) (λ x. Ok (plain_entry x)) z h in ap length (sym (same_value (plain_entry s.0) z s.1.1))
 
 power_five : (power : ℕ) (z : List Terms) → power_value power ≡ Ok z → length z ≡ 5
 unfolding power_value
@@ -84,7 +82,7 @@ mutual
       terms_five others s.0 z (joined_five (sign_or_plus sign) zero_coefficients t.0 s.0 s.1.0) s.1.1
 
   terms_five : (ts : MoreTerms) (s z : List Terms) → length s ≡ 5 → with_terms s ts ≡ Ok z → length z ≡ 5
-  terms_five NoTerm s z five h = ap length (sym (same_ok s z h)) ∙ five
+  terms_five NoTerm s z five h = ap length (sym (same_value s z h)) ∙ five
   terms_five (AndTerm sign term others) s z five h =
       let t = bind_ok (term_value term) _ z h in
       let l = bind_ok (joined sign s t.0) _ z t.1.1 in
@@ -96,7 +94,7 @@ mutual
       factors_five others f.0 z (factor_five first f.0 f.1.0) f.1.1
 
   factors_five : (fs : MoreFactors) (p z : List Terms) → length p ≡ 5 → with_factors p fs ≡ Ok z → length z ≡ 5
-  factors_five NoFactor p z five h = ap length (sym (same_ok p z h)) ∙ five
+  factors_five NoFactor p z five h = ap length (sym (same_value p z h)) ∙ five
   factors_five (Times factor others) p z five h =
       let f = bind_ok (factor_value factor) _ z h in
       let l = bind_ok (times p f.0) _ z f.1.1 in
