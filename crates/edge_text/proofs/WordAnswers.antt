@@ -20,7 +20,7 @@ use Rattle.edge_text.specs.Grammar.{Says, IsWholeNumber}
 use Rattle.edge_text.specs.WordReading.{numeral, entry, is_digit, is_whole, whole}
 
 -- what is reported of a value was one
-pub value_told : {A E F : Type 0} (tell : E → F) (r : Result A E) (x : A) → told_as tell r ≡ Ok x → r ≡ Ok x
+value_told : {A E F : Type 0} (tell : E → F) (r : Result A E) (x : A) → told_as tell r ≡ Ok x → r ≡ Ok x
 value_told tell (Ok y) x e = ap Ok (same_value y x e)
 value_told tell (Err f) x e = absurd (cc e)
 

@@ -32,7 +32,7 @@ text_says c v h p l =
     let T = case_frame (numbers_of c) c in
     let bytes = evidence_text c v in
     let said = lines_say (numbers_of c) c T (version_of v) (steps_of v) (keeps_of v) (frame_is (numbers_of c) c)
-        (record { version = h.version; size = h.size; none = h.none; all = h.all }) p in
+    (record { version = h.version; size = h.size; none = h.none; all = h.all }) p in
     document_reads (evidence_language T) start (rows_of bytes) (end_of bytes) (forms_of v)
     (subst (λ ls. IsDocument (evidence_language T) start ls (forms_of v))
     (sym (lines_back (evidence_lines T (version_of v) (steps_of v) (keeps_of v)) l)) said)

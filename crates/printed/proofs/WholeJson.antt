@@ -14,8 +14,7 @@ use Rattle.case_json.specs.Document.{short_weight, whole_weight, edge_of, compon
 use Rattle.case_json.specs.Reading.{SaysDraft}
 use Rattle.case_json.specs.WholeRatios.{whole_ratio}
 use Rattle.case_json.specs.declared.fault.JsonFault.TheVariants.{NotWhole, Expr}
-use Rattle.case_json.proofs.Drafts.{Tested, in_part, all_in}
-use Rattle.edge_text.proofs.WordAnswers.{value_told}
+use Rattle.case_json.proofs.Drafts.{Tested, value_told, in_part, all_in}
 use Rattle.entries.specs.Entries.{entry_of}
 use Rattle.entries.proofs.Entries.{entry_is}
 use Rattle.printed.proofs.WholeDrafts.{whole_edge, whole_component, IsWhole}

@@ -13,9 +13,9 @@ use Rattle.case_csv.specs.Answers.{at}
 use Rattle.case_csv.specs.Table.{Cells, RowSaid, SheetSaid, edge_of, start_of, entries_of, row_of, rows_of, header_of, sheet_of, edge_at, row_edges}
 use Rattle.case_csv.specs.Table.{table_edges, draft_of, IsTable}
 use Rattle.case_csv.specs.declared.fault.RowKind.TheVariants.{Expr}
+use Rattle.case_json.proofs.Drafts.{value_told}
 use Rattle.edge_text.specs.CanonicalText.{is_absent}
 use Rattle.edge_text.specs.Grammar.{IsEdgeLine, IsSharedBlock, AreBlocks, IsText}
-use Rattle.edge_text.proofs.WordAnswers.{value_told}
 use Rattle.entries.specs.Entries.{entry_of}
 use Rattle.entries.proofs.Entries.{entry_is}
 use Rattle.printed.proofs.WholeDrafts.{whole_edge, whole_component, IsWhole}

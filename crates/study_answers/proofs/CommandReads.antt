@@ -15,7 +15,6 @@ use Rattle.edge_text.specs.declared.fault.LineKind.TheVariants.{WordCount}
 use Rattle.edge_text.specs.Grammar.{Words, IsArrival}
 use Rattle.edge_text.specs.WordReading.{arrival}
 use Rattle.edge_text.proofs.Leaves.{arrival_said, arrival_is}
-use Rattle.edge_text.proofs.WordAnswers.{value_told}
 use Rattle.edge_text.proofs.LinesTaken.{here, past, said, taken, reads, none}
 use Rattle.study_answers.specs.declared.command.StudyCommand.{StudyCommand}
 use Rattle.study_answers.specs.declared.command.StudyCommand.TheVariants.{Take, Show}
@@ -118,8 +117,12 @@ faults_of_lines names bytes number kind =
 
 -- ---- what is read
 
+value_told : (r : Result (List StudyCommand) (FaultAt LineKind)) (cs : List StudyCommand) → told_as on_line r ≡ Ok cs → r ≡ Ok cs
+value_told (Ok ds) cs e = ap Ok (same_value ds cs e)
+value_told (Err f) cs e = absurd (cc e)
+
 pub commands_found : (names : Words) (bytes : List ℕ) (cs : List StudyCommand) → told_as on_line (commands_of names bytes) ≡ Ok cs → AreCommands names bytes cs
-commands_found names bytes cs e = value_told on_line (commands_of names bytes) cs e
+commands_found names bytes cs e = value_told (commands_of names bytes) cs e
 
 fault_told : (r : Result (List StudyCommand) (FaultAt LineKind)) (number : ℕ) (kind : LineKind) → told_as on_line r ≡ Err (Line number kind)
     → r ≡ Err (record { line = number; kind = kind })
