@@ -14,7 +14,7 @@ use Rattle.edge_text.specs.declared.fault.LineKind.TheVariants.{Ended}
 use Rattle.edge_text.specs.declared.place.Place.{Place}
 use Rattle.edge_text.specs.declared.place.Place.TheVariants as at
 use Rattle.edge_text.specs.Grammar.{Words, one, optional, IsAlphaLine, IsNamesLine, IsShareLine, IsWeightsLine, IsEdgeLine, IsStagesLine, GivesP, IsBlock, IsSharedBlock, AreBlocks, MayHaveStages, IsDocument}
-use Rattle.edge_text.specs.Drafts.{named, with_p, with_component, weighted, with_edge, with_stages, counted}
+use Rattle.edge_text.specs.Drafts.{named, with_p, with_component, edgeless, with_edge, with_stages, counted}
 use Rattle.edge_text.proofs.Leaves.{number_said, number_is, names_said, names_are, numbers_said, numbers_are, given_said, given_are, edge_said, edge_is, count_said, count_is}
 use Rattle.text_lines.specs.Languages.{IsDocument as IsOfLanguage}
 use Rattle.edge_text.specs.WordReading.{number, numbers, given, edge, count}
@@ -66,8 +66,8 @@ stages_step false d k line n h = past (codes "edge") (codes "stages") line h.beh
     ∙ said (codes "stages") count count_said line n (λ x. at.Spends (with_component d k) (counted x)) _ h
 
 weights_step : (d : Draft) (share : Ratio) (line : List ℕ) (weights : List Ratio) → IsWeightsLine line weights
-    → step (at.Weights d share) line ≡ Ok (at.Edges true d (weighted share weights))
-weights_step d share line weights h = said (codes "weights") numbers numbers_said line weights (λ x. at.Edges true d (weighted share x)) _ h
+    → step (at.Weights d share) line ≡ Ok (at.Edges true d (edgeless share weights))
+weights_step d share line weights h = said (codes "weights") numbers numbers_said line weights (λ x. at.Edges true d (edgeless share x)) _ h
 
 -- after the last component
 tail_said : (shared : Bool) (d : Draft) (k : DraftComponent) (lines : Lines) (o : Option DraftStages) → d.stages ≡ None → MayHaveStages d.names lines o
@@ -91,12 +91,12 @@ edges_said shared d k (line ∷ lines) rest (e ∷ es) draft h m =
 
 -- a block, where its weights may be
 block_said : (place : Place) (shared : Bool) (d : Draft) (lines rest : Lines) (k : DraftComponent) (draft : Draft) (b : IsBlock d.names lines k)
-    → step place b.weights_line ≡ Ok (at.Edges shared d (weighted k.share k.weights)) → Say (at.Edges shared d k) rest draft
+    → step place b.weights_line ≡ Ok (at.Edges shared d (edgeless k.share k.weights)) → Say (at.Edges shared d k) rest draft
     → Say place (lines ++ rest) draft
 block_said place shared d lines rest k draft b e m =
     subst (λ ls. Say place (ls ++ rest) draft) (sym b.spelt)
-    (behind_line place (at.Edges shared d (weighted k.share k.weights)) b.weights_line (b.edge_lines ++ rest) draft e
-    (edges_said shared d (weighted k.share k.weights) b.edge_lines rest k.edges draft b.edges m))
+    (behind_line place (at.Edges shared d (edgeless k.share k.weights)) b.weights_line (b.edge_lines ++ rest) draft e
+    (edges_said shared d (edgeless k.share k.weights) b.edge_lines rest k.edges draft b.edges m))
 
 -- a block with a share, where its share may be
 shared_said : (place : Place) (d : Draft) (lines rest : Lines) (k : DraftComponent) (draft : Draft) (b : IsSharedBlock d.names lines k)
@@ -131,11 +131,11 @@ blocks_said : (place : Place) (d : Draft) (lines rest : Lines) (ks : List DraftC
 blocks_said place d lines rest ks o opens n c (inl b) m =
     let w = b.block.weights in
     let line = b.block.weights_line in
-    let e : step place line ≡ Ok (at.Edges false d (weighted b.component.share b.component.weights)) =
+    let e : step place line ≡ Ok (at.Edges false d (edgeless b.component.share b.component.weights)) =
     opens line (codes "weights") w.behind w.words refl
     ∙ past (codes "component") (codes "weights") line w.behind _ _ w.words refl
-    ∙ said (codes "weights") numbers numbers_said line b.component.weights (λ x. at.Edges false d (weighted one x)) _ w
-    ∙ ap (λ x. Ok (at.Edges false d (weighted x b.component.weights))) (sym b.share_is) in
+    ∙ said (codes "weights") numbers numbers_said line b.component.weights (λ x. at.Edges false d (edgeless one x)) _ w
+    ∙ ap (λ x. Ok (at.Edges false d (edgeless x b.component.weights))) (sym b.share_is) in
     block_said place false d lines rest b.component _ b.block e
     (tail_said false d b.component rest o n m
     ∙ ap (λ xs. Ok (record { names = d.names; alpha = d.alpha; p = d.p; components = xs; stages = o }))
@@ -212,7 +212,7 @@ record WeightsFrom (d : Draft) (share : Ratio) (lines : Lines) (draft : Draft) :
   is : IsWeightsLine weights_line weights
   rest : Lines
   spelt : lines ≡ weights_line ∷ rest
-  edges : EdgesFrom true d (weighted share weights) rest draft
+  edges : EdgesFrom true d (edgeless share weights) rest draft
 
 -- blocks with shares, one or more, and then the stages
 record SharedFrom (d : Draft) (lines : Lines) (draft : Draft) : Type 0 where
@@ -243,7 +243,7 @@ share_opens : (d : Draft) (line : List ℕ) (lines : Lines) (share : Ratio) (dra
     → WeightsFrom d share lines draft → SharedFrom d (line ∷ lines) draft
 share_opens d line lines share draft h f =
     let g = f.edges in
-    let k : DraftComponent = with_edges (weighted share f.weights) g.edges in
+    let k : DraftComponent = with_edges (edgeless share f.weights) g.edges in
     record {
       block = line ∷ f.weights_line ∷ g.edge_lines;
       blocks = g.blocks;
@@ -346,8 +346,8 @@ blocks_line (at.Edges shared d k) line lines next draft e m f =
       | inr o ↦ behind_edges shared d k line lines next draft o m f n
     ]
 blocks_line (at.Weights d share) line lines next draft e m f =
-    λ n. elim (reads (codes "weights") numbers numbers_are line (λ x. at.Edges true d (weighted share x)) _ next e) [
-      | inl t ↦ let g : BlocksFrom (at.Edges true d (weighted share t.0)) lines draft = subst (λ p. BlocksFrom p lines draft) t.2 f in
+    λ n. elim (reads (codes "weights") numbers numbers_are line (λ x. at.Edges true d (edgeless share x)) _ next e) [
+      | inl t ↦ let g : BlocksFrom (at.Edges true d (edgeless share t.0)) lines draft = subst (λ p. BlocksFrom p lines draft) t.2 f in
           record { weights_line = line; weights = t.0; is = t.1; rest = lines; spelt = refl; edges = g n }
       | inr o ↦ none next o
     ]
@@ -393,9 +393,9 @@ body_shared d lines draft f = record {
 }
 
 body_lone : (d : Draft) (line : List ℕ) (lines : Lines) (weights : List Ratio) (draft : Draft) → IsWeightsLine line weights
-    → EdgesFrom false d (weighted one weights) lines draft → BodyFrom d (line ∷ lines) draft
+    → EdgesFrom false d (edgeless one weights) lines draft → BodyFrom d (line ∷ lines) draft
 body_lone d line lines weights draft h f =
-    let k : DraftComponent = with_edges (weighted one weights) f.edges in
+    let k : DraftComponent = with_edges (edgeless one weights) f.edges in
     record {
       block_lines = line ∷ f.edge_lines;
       components = k ∷ [];
@@ -415,9 +415,9 @@ body_line : (d : Draft) (line : List ℕ) (lines : Lines) (next : Place) (draft 
 body_line d line lines next draft n e m = elim (reads (codes "component") number number_is line (λ x. at.Weights d x) _ next e) [
   | inl t ↦ let g : BlocksFrom (at.Weights d t.0) lines draft = blocks_from (at.Weights d t.0) lines draft (subst (λ p. Say p lines draft) t.2 m) in
       body_shared d (line ∷ lines) draft (share_opens d line lines t.0 draft t.1 (g n))
-  | inr o ↦ elim (reads (codes "weights") numbers numbers_are line (λ x. at.Edges false d (weighted one x)) _ next o) [
-    | inl t ↦ let g : BlocksFrom (at.Edges false d (weighted one t.0)) lines draft =
-        blocks_from (at.Edges false d (weighted one t.0)) lines draft (subst (λ p. Say p lines draft) t.2 m) in
+  | inr o ↦ elim (reads (codes "weights") numbers numbers_are line (λ x. at.Edges false d (edgeless one x)) _ next o) [
+    | inl t ↦ let g : BlocksFrom (at.Edges false d (edgeless one t.0)) lines draft =
+        blocks_from (at.Edges false d (edgeless one t.0)) lines draft (subst (λ p. Say p lines draft) t.2 m) in
         body_lone d line lines t.0 draft t.1 (g n)
     | inr p ↦ none next p
   ]

@@ -20,7 +20,7 @@ use Rattle.edge_text.specs.declared.fault.LineKind.TheVariants.{WordCount}
 use Rattle.edge_text.specs.declared.place.Place.{Place}
 use Rattle.edge_text.specs.declared.place.Place.TheVariants as at
 use Rattle.edge_text.specs.Grammar.{Words, Says, one, IsSpendLine, IsWeightsLine}
-use Rattle.edge_text.specs.Drafts.{named, with_p, with_component, weighted, with_edge, with_stages, counted, with_spend, with_arrival}
+use Rattle.edge_text.specs.Drafts.{named, with_p, with_component, edgeless, with_edge, with_stages, counted, with_spend, with_arrival}
 use Rattle.edge_text.proofs.Leaves.{names_are, number_said, number_is, names_said, numbers_said, numbers_are, given_are, edge_is, count_is}
 use Rattle.text_lines.specs.Languages.{Lead, Completes, IsDocument}
 use Rattle.edge_text.specs.WordReading.{found_or, number, numbers, given, edge, count, step_of, step_words}
@@ -69,8 +69,8 @@ next_keep true d k line next e h = elim (reads (codes "component") number number
 block_keep : (d : Draft) (line : List ℕ) (next : Place) → block d line ≡ Ok next → AllByRecursion IsNameWord d.names → HasWords next
 block_keep d line next e h = elim (reads (codes "component") number number_is line (λ x. at.Weights d x) _ next e) [
   | inl t ↦ to next (at.Weights d t.0) t.2 h
-  | inr o ↦ elim (reads (codes "weights") numbers numbers_are line (λ x. at.Edges false d (weighted one x)) _ next o) [
-    | inl t ↦ to next (at.Edges false d (weighted one t.0)) t.2 h
+  | inr o ↦ elim (reads (codes "weights") numbers numbers_are line (λ x. at.Edges false d (edgeless one x)) _ next o) [
+    | inl t ↦ to next (at.Edges false d (edgeless one t.0)) t.2 h
     | inr p ↦ none next p
   ]
 ]
@@ -114,8 +114,8 @@ step_keeps (at.Values d) line next e h = elim (reads (codes "p") given given_are
   | inr o ↦ block_keep d line next o h
 ]
 step_keeps (at.Block d) line next e h = block_keep d line next e h
-step_keeps (at.Weights d share) line next e h = elim (reads (codes "weights") numbers numbers_are line (λ x. at.Edges true d (weighted share x)) _ next e) [
-  | inl t ↦ to next (at.Edges true d (weighted share t.0)) t.2 h
+step_keeps (at.Weights d share) line next e h = elim (reads (codes "weights") numbers numbers_are line (λ x. at.Edges true d (edgeless share x)) _ next e) [
+  | inl t ↦ to next (at.Edges true d (edgeless share t.0)) t.2 h
   | inr o ↦ none next o
 ]
 step_keeps (at.Edges shared d k) line next e h = elim (reads (codes "edge") (edge d.names line) (edge_is d.names line) line (λ x. at.Edges shared d (with_edge k x)) _ next e) [
@@ -186,19 +186,19 @@ weights_line : IsWeightsLine (codes "weights") []
 weights_line = record { behind = []; words = weights_words; are = tt }
 
 weights_rest : (d : Draft) (share : Ratio) → Rest (at.Weights d share)
-weights_rest d share = one_more (at.Weights d share) (at.Edges true d (weighted share [])) (codes "weights")
-    (said (codes "weights") numbers numbers_said (codes "weights") [] (λ x. at.Edges true d (weighted share x)) _ weights_line) (edges_rest true d (weighted share []))
+weights_rest d share = one_more (at.Weights d share) (at.Edges true d (edgeless share [])) (codes "weights")
+    (said (codes "weights") numbers numbers_said (codes "weights") [] (λ x. at.Edges true d (edgeless share x)) _ weights_line) (edges_rest true d (edgeless share []))
 
-block_step : (d : Draft) → block d (codes "weights") ≡ Ok (at.Edges false d (weighted one []))
+block_step : (d : Draft) → block d (codes "weights") ≡ Ok (at.Edges false d (edgeless one []))
 block_step d = past (codes "component") (codes "weights") (codes "weights") [] _ _ weights_words refl
-    ∙ said (codes "weights") numbers numbers_said (codes "weights") [] (λ x. at.Edges false d (weighted one x)) _ weights_line
+    ∙ said (codes "weights") numbers numbers_said (codes "weights") [] (λ x. at.Edges false d (edgeless one x)) _ weights_line
 
 block_rest : (d : Draft) → Rest (at.Block d)
-block_rest d = one_more (at.Block d) (at.Edges false d (weighted one [])) (codes "weights") (block_step d) (edges_rest false d (weighted one []))
+block_rest d = one_more (at.Block d) (at.Edges false d (edgeless one [])) (codes "weights") (block_step d) (edges_rest false d (edgeless one []))
 
 values_rest : (d : Draft) → Rest (at.Values d)
-values_rest d = one_more (at.Values d) (at.Edges false d (weighted one [])) (codes "weights")
-    (past (codes "p") (codes "weights") (codes "weights") [] _ _ weights_words refl ∙ block_step d) (edges_rest false d (weighted one []))
+values_rest d = one_more (at.Values d) (at.Edges false d (edgeless one [])) (codes "weights")
+    (past (codes "p") (codes "weights") (codes "weights") [] _ _ weights_words refl ∙ block_step d) (edges_rest false d (edgeless one []))
 
 names_rest : (alpha : Ratio) → Rest (at.Names alpha)
 names_rest alpha = one_more (at.Names alpha) (at.Values (named alpha [])) (codes "hypotheses")

@@ -21,8 +21,8 @@ abbrev pub with_component : Draft → DraftComponent → Draft
 with_component d component = record { names = d.names; alpha = d.alpha; p = d.p; components = d.components ++ component ∷ []; stages = d.stages }
 
 -- a component without edges
-abbrev pub weighted : Ratio → List Ratio → DraftComponent
-weighted share weights = record { share = share; weights = weights; edges = [] }
+abbrev pub edgeless : Ratio → List Ratio → DraftComponent
+edgeless share weights = record { share = share; weights = weights; edges = [] }
 
 -- the component with one edge more
 abbrev pub with_edge : DraftComponent → DraftEdge → DraftComponent

@@ -10,7 +10,7 @@ use Rattle.edge_text.specs.declared.fault.LineKind.{LineKind}
 use Rattle.edge_text.specs.declared.fault.LineKind.TheVariants.{Unexpected, Ended, WordCount}
 use Rattle.edge_text.specs.declared.place.Place.{Place}
 use Rattle.edge_text.specs.declared.place.Place.TheVariants.{Alpha, Names, Values, Block, Weights, Edges, Spends, Steps}
-use Rattle.edge_text.specs.Drafts.{named, with_p, with_component, weighted, with_edge, with_stages, counted, with_spend, with_arrival}
+use Rattle.edge_text.specs.Drafts.{named, with_p, with_component, edgeless, with_edge, with_stages, counted, with_spend, with_arrival}
 use Rattle.field_core.specs.Answers.{and_then}
 use Rattle.text_lines.specs.Languages.{Language}
 use Rattle.edge_text.specs.Grammar.{Words, one}
@@ -20,7 +20,7 @@ use Rattle.edge_text.specs.WordReading.{behind, number, numbers, given, edge, co
 abbrev pub block : Draft → List ℕ → Result Place LineKind
 block d line =
     behind (codes "component") line (λ words. and_then (number words) (λ share. Ok (Weights d share)))
-    (behind (codes "weights") line (λ words. and_then (numbers words) (λ weights. Ok (Edges false d (weighted one weights))))
+    (behind (codes "weights") line (λ words. and_then (numbers words) (λ weights. Ok (Edges false d (edgeless one weights))))
     (Err Unexpected))
 
 -- the stages, after the last block
@@ -66,7 +66,7 @@ step (Names alpha) line = behind (codes "hypotheses") line (λ words. Ok (Values
 step (Values d) line = behind (codes "p") line (λ words. and_then (given words) (λ p. Ok (Block (with_p d p)))) (block d line)
 step (Block d) line = block d line
 step (Weights d share) line =
-    behind (codes "weights") line (λ words. and_then (numbers words) (λ weights. Ok (Edges true d (weighted share weights)))) (Err Unexpected)
+    behind (codes "weights") line (λ words. and_then (numbers words) (λ weights. Ok (Edges true d (edgeless share weights)))) (Err Unexpected)
 step (Edges shared d k) line =
     behind (codes "edge") line (λ words. and_then (edge d.names line words) (λ e. Ok (Edges shared d (with_edge k e)))) (next_block shared d k line)
 step (Spends d s) line = spends d s line

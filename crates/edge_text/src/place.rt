@@ -1,7 +1,7 @@
 //! Places in a text, and the step from one to the next.
 ghost use Rattle.std.specs.Prelude.{◌≡◌, true, false, None};
 ghost use Rattle.edge_text.specs.declared.place.Place.TheVariants as at;
-ghost use Rattle.edge_text.specs.Drafts.{weighted, with_stages, with_spend, counted};
+ghost use Rattle.edge_text.specs.Drafts.{edgeless, with_stages, with_spend, counted};
 ghost use Rattle.edge_text.specs.Grammar.{one};
 ghost use Rattle.edge_text.specs.Places.{block, stages, next_block, due, unless_due, spends, spend_or_arrive, further, step, whole};
 ghost use Rattle.edge_text.specs.View.{Gives};
@@ -57,8 +57,8 @@ fn one() -> Fraction
 }
 
 /// Returns a component without edges.
-fn weighted(alloc: Global, share: Fraction, weights: List<Fraction>) -> DraftComponent
-    ensures { result ≡ weighted share weights }
+fn edgeless(alloc: Global, share: Fraction, weights: List<Fraction>) -> DraftComponent
+    ensures { result ≡ edgeless share weights }
 {
     DraftComponent {
         share,
@@ -146,7 +146,7 @@ fn block(alloc: Global, draft: SoFar, line: &Line) -> Result<Place, TextFault>
         return Err(unexpected(line));
     };
     let weights = rules::numbers(alloc, line, words)?;
-    let component = weighted(alloc, one(), weights);
+    let component = edgeless(alloc, one(), weights);
     Ok(Place::Edges(false, draft, component))
 }
 
@@ -158,7 +158,7 @@ fn weights(alloc: Global, draft: SoFar, share: Fraction, line: &Line) -> Result<
         return Err(unexpected(line));
     };
     let weights = rules::numbers(alloc, line, words)?;
-    let component = weighted(alloc, share, weights);
+    let component = edgeless(alloc, share, weights);
     Ok(Place::Edges(true, draft, component))
 }
 
