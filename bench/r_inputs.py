@@ -54,7 +54,7 @@ def main():
     parser.add_argument("--jobs", type=int, default=os.cpu_count())
     parser.add_argument("--program", default=c_inputs.PROGRAM)
     given = parser.parse_args()
-    c_inputs.PROGRAM = os.path.abspath(given.program)
+    c_inputs.PROGRAM = hostile.PROGRAM = os.path.abspath(given.program)
     with tempfile.NamedTemporaryFile(suffix=".calls") as file:
         for words, case in c_inputs.example_calls():
             file.write(record(*answered(words, case)))
