@@ -1,8 +1,5 @@
-pub mod Beginnings
 pub mod CountTexts
-pub mod EqualsSigns
-pub mod LevelTexts
-pub mod OneName
-pub mod OneReading
-pub mod Steps
-pub mod StudyWords
+pub mod PartTexts
+pub mod PieceSteps
+pub mod Readings
+pub mod WholeReadings

@@ -1,10 +1,11 @@
 -- What the arguments say.
-use Rattle.std.specs.Prelude.{ℕ, ◌+◌, List, Bool, true, false, Option, Some, None, is_some}
+use Rattle.std.specs.Prelude.{ℕ, ◌+◌, List, Bool, true, false, not, Option, Some, None, is_some}
 use Rattle.std.specs.Option.{option_map}
 use Rattle.command_words.specs.Asked.{Asked, StudyAsked, Written, text, csv, json, on_case as task_on_case, check, catalogue, sample, help}
-use Rattle.command_words.specs.Choices.{Value, Chosen}
+use Rattle.command_words.specs.Counts.{count_of}
 use Rattle.command_words.specs.Graphs.{sized, has_second}
-use Rattle.command_words.specs.Levels.{Level, level_of}
+use Rattle.command_words.specs.Levels.{Level, level_of, level_in}
+use Rattle.command_words.specs.Table.{form_named, form_read, graph_named, priority_named, passing}
 use Rattle.command_words.specs.declared.argument.Argument.{Argument}
 use Rattle.command_words.specs.declared.argument.Argument.TheVariants as arguments
 use Rattle.command_words.specs.declared.command.CaseTask.{CaseTask}
@@ -73,21 +74,22 @@ is_given g arguments.Second = is_some g.second
 is_given g arguments.File = is_some g.file
 is_given g arguments.Store = is_some g.store
 
--- the same, and a value whose first word is at a place, from 0
-abbrev pub with_value : ℕ → GivenContent → (argument : Argument) → Value argument → GivenContent
-with_value at g arguments.Form form = record g { form = Some form }
-with_value at g arguments.Alpha alpha = record g { alpha = Some (alpha, at + 1) }
-with_value at g arguments.Priority priority = record g { priority = Some priority }
-with_value at g arguments.To form = record g { to = Some form }
-with_value at g arguments.Size size = record g { size = Some size }
-with_value at g arguments.Seed seed = record g { seed = Some seed }
-with_value at g arguments.Graph graph = record g { graph = Some graph }
-with_value at g arguments.Second second = record g { second = Some (second, at + 1) }
-with_value at g arguments.File named = record g { file = Some at }
-with_value at g arguments.Store path = record g { store = Some path }
+-- an argument that isn't given yet
+abbrev pub not_given : GivenContent → Option Argument → Option Argument
+not_given g argument = passing (λ x. not (is_given g x)) argument
 
-abbrev pub with_chosen : ℕ → GivenContent → Chosen → GivenContent
-with_chosen at g choice = with_value at g choice.argument choice.value
+-- the same, and an argument with the value that bytes spell, if they spell one; its first word is at a place, from 0
+unfoldable pub with_text : Verb → ℕ → Argument → List ℕ → GivenContent → Option GivenContent
+with_text verb at arguments.Form bytes g = option_map (λ form. record g { form = Some form }) (form_read verb bytes)
+with_text verb at arguments.Alpha bytes g = option_map (λ alpha. record g { alpha = Some (alpha, at + 1) }) (level_in bytes)
+with_text verb at arguments.Priority bytes g = option_map (λ priority. record g { priority = Some priority }) (priority_named bytes)
+with_text verb at arguments.To bytes g = option_map (λ form. record g { to = Some form }) (form_named bytes)
+with_text verb at arguments.Size bytes g = option_map (λ size. record g { size = Some size }) (count_of bytes)
+with_text verb at arguments.Seed bytes g = option_map (λ seed. record g { seed = Some seed }) (count_of bytes)
+with_text verb at arguments.Graph bytes g = option_map (λ graph. record g { graph = Some graph }) (graph_named bytes)
+with_text verb at arguments.Second bytes g = option_map (λ second. record g { second = Some (second, at + 1) }) (count_of bytes)
+with_text verb at arguments.File bytes g = Some (record g { file = Some at })
+with_text verb at arguments.Store bytes g = Some (record g { store = Some bytes })
 
 -- a value, without the number of its word
 abbrev pub value_of : {A : Type 0} → Option (A × ℕ) → Option A

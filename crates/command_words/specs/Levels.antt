@@ -1,7 +1,10 @@
 -- The level of a sheet, as contracts see it.
-use Rattle.std.specs.Prelude.{ℕ, List}
+use Rattle.std.specs.Prelude.{ℕ, List, Option}
+use Rattle.std.specs.Option.{option_map}
+use Rattle.std.specs.Result.{result_ok}
 use Rattle.field_core.specs.Terms.{Terms}
-use Rattle.numerals.specs.Numeral.{IsNumeralOf}
+use Rattle.field_core.specs.View.{terms}
+use Rattle.fraction.specs.Numerals.{numeral_of}
 use Rattle.fraction.specs.View.{terms_of}
 use Rattle.fraction.specs.declared.fraction.Fraction.{Fraction}
 
@@ -11,6 +14,6 @@ Level = Terms
 abbrev pub level_of : Fraction → Level
 level_of alpha = terms_of alpha
 
--- a text spells a level
-abbrev pub IsLevel : List ℕ → Level → Type 0
-IsLevel text level = IsNumeralOf text level
+-- the level that a text spells
+abbrev pub level_in : List ℕ → Option Level
+level_in text = option_map terms (result_ok (numeral_of text))

@@ -1,9 +1,7 @@
 pub mod Asked
-pub mod Choices
 pub mod Counts
 pub mod Given
 pub mod Graphs
-pub mod Laws
 pub mod Levels
 pub mod Table
 pub mod WordParts

@@ -1,5 +1,7 @@
 -- The names of commands, arguments and values, and what each command takes.
 use Rattle.std.specs.Prelude.{ℕ, Bool, true, false, List, [], ◌∷◌, Option, Some, None, codes}
+use Rattle.std.specs.Prelude.{if◌then◌else◌}
+use Rattle.std.specs.List.{find}
 use Rattle.std.specs.Str.{bytes_eq}
 use Rattle.std.specs.Map.{lookup}
 use Rattle.command_words.specs.declared.argument.Argument.{Argument}
@@ -13,26 +15,28 @@ use Rattle.command_words.specs.declared.verb.Verb.TheVariants as verbs
 use Rattle.sequential.specs.declared.priority.Priority.{Priority}
 use Rattle.sequential.specs.declared.priority.Priority.TheVariants.{First, Last, Ratio}
 
+-- what was found, if it passes a test
+abbrev pub passing : {A : Type 0} → (A → Bool) → Option A → Option A
+passing test None = None
+passing test (Some x) = if test x then Some x else None
+
 -- ---- commands
 
-unfoldable pub verb_name : Verb → List ℕ
-verb_name verbs.Test = codes "test"
-verb_name verbs.Weights = codes "weights"
-verb_name verbs.Bounds = codes "bounds"
-verb_name verbs.Simes = codes "simes"
-verb_name verbs.Evidence = codes "evidence"
-verb_name verbs.Stages = codes "stages"
-verb_name verbs.Check = codes "check"
-verb_name verbs.Canon = codes "canon"
-verb_name verbs.Catalogue = codes "catalogue"
-verb_name verbs.Sample = codes "sample"
-verb_name verbs.Study = codes "study"
-verb_name verbs.Help = codes "help"
-
--- the command takes looks that are kept from call to call, and is done by a top call of its own
-unfoldable pub keeps_looks : Verb → Bool
-keeps_looks verbs.Study = true
-keeps_looks verb = false
+-- the command of a name, but for `study`, which is done by a top call of its own
+unfoldable pub verb_named : List ℕ → Option Verb
+verb_named name = lookup (bytes_eq name) (
+    (codes "test", verbs.Test) ∷
+    (codes "weights", verbs.Weights) ∷
+    (codes "bounds", verbs.Bounds) ∷
+    (codes "simes", verbs.Simes) ∷
+    (codes "evidence", verbs.Evidence) ∷
+    (codes "stages", verbs.Stages) ∷
+    (codes "check", verbs.Check) ∷
+    (codes "canon", verbs.Canon) ∷
+    (codes "catalogue", verbs.Catalogue) ∷
+    (codes "sample", verbs.Sample) ∷
+    (codes "help", verbs.Help) ∷
+    [])
 
 -- the options that a command takes
 unfoldable pub options_of : Verb → List Argument
@@ -56,20 +60,11 @@ operand_of verbs.Check = Some arguments.File
 operand_of verbs.Study = Some arguments.File
 operand_of verb = None
 
--- the forms in which a command reads its case
-unfoldable pub forms_of : Verb → List Form
-forms_of verbs.Test = Text ∷ Csv ∷ Json ∷ []
-forms_of verbs.Weights = Text ∷ Csv ∷ Json ∷ []
-forms_of verbs.Bounds = Text ∷ Csv ∷ Json ∷ []
-forms_of verbs.Simes = Text ∷ Csv ∷ Json ∷ []
-forms_of verbs.Evidence = Text ∷ Csv ∷ Json ∷ []
-forms_of verbs.Stages = Text ∷ Json ∷ []
-forms_of verbs.Check = Text ∷ Csv ∷ Json ∷ []
-forms_of verbs.Canon = Text ∷ Csv ∷ Json ∷ []
-forms_of verbs.Catalogue = []
-forms_of verbs.Sample = []
-forms_of verbs.Study = Text ∷ Json ∷ []
-forms_of verbs.Help = []
+-- a command may read its case in a form; a sheet has no stages
+unfoldable pub reads : Verb → Form → Bool
+reads verbs.Stages Csv = false
+reads verbs.Study Csv = false
+reads verb form = true
 
 -- ---- arguments
 
@@ -85,11 +80,24 @@ argument_name arguments.Second = codes "second"
 argument_name arguments.File = codes "file"
 argument_name arguments.Store = codes "store"
 
+-- the option of a name, if a command takes it
+unfoldable pub option_named : Verb → List ℕ → Option Argument
+option_named verb name = find (λ argument. bytes_eq name (argument_name argument)) (options_of verb)
+
+-- what a command is given by an option of a name, or by a word without one
+abbrev pub argument_of : Verb → Option (List ℕ) → Option Argument
+argument_of verb (Some name) = option_named verb name
+argument_of verb None = operand_of verb
+
 -- ---- values
 
 -- the form of a name
 unfoldable pub form_named : List ℕ → Option Form
 form_named name = lookup (bytes_eq name) ((codes "text", Text) ∷ (codes "csv", Csv) ∷ (codes "json", Json) ∷ [])
+
+-- the same, if a command may read its case in it
+abbrev pub form_read : Verb → List ℕ → Option Form
+form_read verb name = passing (reads verb) (form_named name)
 
 -- the graph of a name
 unfoldable pub graph_named : List ℕ → Option GraphName

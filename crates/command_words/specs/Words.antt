@@ -1,166 +1,91 @@
--- What lists of words ask for, and the number, from 1, of the first word at which their reading from left to right fails.
-use Rattle.std.specs.Prelude.{◌≡◌, ◌≢◌, ◌⊎◌, ℕ, ◌+◌, Bool, true, false, List, [], ◌∷◌, ◌++◌, length, drop, Some, None}
-use Rattle.std.specs.Prelude.{Contains, codes}
-use Rattle.std.specs.List.{flat_map}
-use Rattle.answers.specs.Stages.{Stage, and_then}
+-- What lists of words ask for, or else the number, from 1, of the first word at which their reading from left to right fails.
+use Rattle.std.specs.Prelude.{◌≡◌, ℕ, ◌+◌, Bool, false, List, [], ◌∷◌, length, drop, codes, Option, Some, None, Result, Ok, Err, ok_or}
+use Rattle.std.specs.Prelude.{IsTrue, if◌then◌else◌}
+use Rattle.std.specs.Str.{bytes_eq}
+use Rattle.answers.specs.Stages.{Stage}
+use Rattle.field_core.specs.Answers.{◌>>=◌}
 use Rattle.command_words.specs.Asked.{Asked, StudyAsked}
-use Rattle.command_words.specs.Choices.{Value, Chosen, Spells, IsSpelled}
-use Rattle.command_words.specs.Given.{GivenContent, nothing, is_given, with_chosen, asked_of, study_of, forbidden_word}
-use Rattle.command_words.specs.Table.{verb_name, keeps_looks, argument_name, options_of, operand_of}
-use Rattle.command_words.specs.WordParts.{opener, joined_word, IsBare}
+use Rattle.command_words.specs.Given.{GivenContent, nothing, not_given, with_text, asked_of, study_of, forbidden_word}
+use Rattle.command_words.specs.Table.{verb_named, argument_of}
+use Rattle.command_words.specs.WordParts.{name_of, text_of}
 use Rattle.command_words.specs.declared.argument.Argument.{Argument}
 use Rattle.command_words.specs.declared.verb.Verb.{Verb}
+use Rattle.command_words.specs.declared.verb.Verb.TheVariants.{Study}
 
--- ---- pieces
+-- ---- the first word
 
--- A piece of the words after the command: an argument, and how its value is written.
-pub data Piece : Type 0 where
-  -- an option and its value in one word, `--name=text`
-  joined : (choice : Chosen) (text : List ℕ) → Piece
-  -- an option and its value in two words, `--name` and `text`
-  apart : (choice : Chosen) (text : List ℕ) → Piece
-  -- a value without a name
-  bare : (choice : Chosen) (text : List ℕ) → Piece
+-- the command that is first
+abbrev pub first_verb : List (List ℕ) → Option Verb
+first_verb [] = None
+first_verb (word ∷ words) = verb_named word
 
--- the words of a piece
-abbrev pub spelled : Piece → List (List ℕ)
-spelled (joined choice text) = joined_word (argument_name choice.argument) text ∷ []
-spelled (apart choice text) = opener (argument_name choice.argument) ∷ text ∷ []
-spelled (bare choice text) = text ∷ []
+-- the first word is `study`
+abbrev pub asks_study : List (List ℕ) → Bool
+asks_study [] = false
+asks_study (word ∷ words) = bytes_eq word (codes "study")
 
-abbrev pub choice_of : Piece → Chosen
-choice_of (joined choice text) = choice
-choice_of (apart choice text) = choice
-choice_of (bare choice text) = choice
-
--- an option may be after what was given
-abbrev pub MayOpen : Verb → GivenContent → Argument → Type 0
-MayOpen verb given argument = Contains (options_of verb) argument × (is_given given argument ≡ false)
-
--- a word may be without a name after what was given
-abbrev pub MayBeBare : Verb → GivenContent → Argument → List ℕ → Type 0
-MayBeBare verb given argument word = (operand_of verb ≡ Some argument) × (is_given given argument ≡ false) × IsBare word
-
--- a piece may be after what was given
-abbrev pub MayStand : Verb → GivenContent → Piece → Type 0
-MayStand verb given (joined choice text) = MayOpen verb given choice.argument × IsSpelled verb choice text
-MayStand verb given (apart choice text) = MayOpen verb given choice.argument × IsSpelled verb choice text
-MayStand verb given (bare choice text) = MayBeBare verb given choice.argument text × IsSpelled verb choice text
-
--- what was given, with a piece whose first word is at a place, from 0
-abbrev pub with_piece : ℕ → GivenContent → Piece → GivenContent
-with_piece at given piece = with_chosen at given (choice_of piece)
-
--- Pieces may be one after another, from a place on; the first `given` is what was given before them, the second also what they give.
-abbrev pub Stand : Verb → ℕ → GivenContent → List Piece → GivenContent → Type 0
-Stand verb at given [] all = all ≡ given
-Stand verb at given (piece ∷ pieces) all = MayStand verb given piece × Stand verb (at + length (spelled piece)) (with_piece at given piece) pieces all
-
--- Words from a place on begin with pieces that may be after what was given `before`, and give this. After them is `rest`, from the place `at` on.
-pub record Begin (verb : Verb) (from : ℕ) (before : GivenContent) (words : List (List ℕ)) (given : GivenContent) (rest : List (List ℕ)) (at : ℕ) : Type 0 where
-  pub pieces : List Piece
-  pub words_are : words ≡ flat_map spelled pieces ++ rest
-  pub stand : Stand verb from before pieces given
-  pub at_is : at ≡ from + length (flat_map spelled pieces)
-
--- ---- words at which the reading fails
-
--- no piece that may be begins with this word
-pub record CannotBegin (verb : Verb) (given : GivenContent) (word : List ℕ) : Type 0 where
-  pub opens : (argument : Argument) → word ≡ opener (argument_name argument) → ¬ MayOpen verb given argument
-  pub joins : (choice : Chosen) (text : List ℕ) → word ≡ joined_word (argument_name choice.argument) text → ¬ MayStand verb given (joined choice text)
-  pub stands : (choice : Chosen) → ¬ MayStand verb given (bare choice word)
-
--- no value of an option is first
-abbrev pub HasNoValue : Verb → Argument → List (List ℕ) → Type 0
-HasNoValue verb argument [] = Unit {0}
-HasNoValue verb argument (text ∷ words) = (value : Value argument) → ¬ Spells verb argument value text
-
--- an option may be, and its value is missing or unknown
-pub record LacksValue (verb : Verb) (given : GivenContent) (word : List ℕ) (words : List (List ℕ)) : Type 0 where
-  pub argument : Argument
-  pub opens : word ≡ opener (argument_name argument)
-  pub may : MayOpen verb given argument
-  pub none : HasNoValue verb argument words
-
--- the number, from 0, of the word at which these words fail
-abbrev pub IsBadFront : Verb → GivenContent → List (List ℕ) → ℕ → Type 0
-IsBadFront verb given [] n = ⊥
-IsBadFront verb given (word ∷ words) n = ((n ≡ 0) × CannotBegin verb given word) ⊎ ((n ≡ 1) × LacksValue verb given word words)
-
--- Words from a place on begin with pieces, and what is after them isn't allowed.
-pub record IsBadPiece (verb : Verb) (from : ℕ) (before : GivenContent) (words : List (List ℕ)) (n : ℕ) : Type 0 where
-  pub given : GivenContent
-  pub rest : List (List ℕ)
-  pub at : ℕ
-  pub begin : Begin verb from before words given rest at
-  pub front : ℕ
-  pub bad : IsBadFront verb given rest front
-  pub number : n ≡ at + front + 1
-
--- ---- the stages of the reading
-
--- the command that is first, and keeps looks or doesn't
-abbrev pub command_in : Bool → List (List ℕ) → Stage ℕ Verb
-command_in keeping words = record {
-  Gives = λ verb. (more : List (List ℕ)) × (words ≡ verb_name verb ∷ more) × (keeps_looks verb ≡ keeping);
-  Refuses = λ n. ((verb : Verb) (more : List (List ℕ)) → keeps_looks verb ≡ keeping → words ≢ verb_name verb ∷ more) × (n ≡ 1);
-}
-
--- the first word is the command that keeps looks
 abbrev pub AsksStudy : List (List ℕ) → Type 0
-AsksStudy words = (more : List (List ℕ)) × (words ≡ codes "study" ∷ more)
+AsksStudy words = IsTrue (asks_study words)
 
--- what the pieces that are words from a place on give, after what was given before
-abbrev pub pieces_in : Verb → ℕ → GivenContent → List (List ℕ) → Stage ℕ GivenContent
-pieces_in verb from before words = record {
-  Gives = λ given. (at : ℕ) × Begin verb from before words given [] at;
-  Refuses = IsBadPiece verb from before words;
-}
+-- ---- the words after it
 
--- what the pieces after a command give
-abbrev pub arguments_in : Verb → List (List ℕ) → Stage ℕ GivenContent
+-- what a word gives: the option of its name, or what the command takes without a name; nothing if there is none, or it is given already
+abbrev pub argument_in : Verb → GivenContent → List ℕ → Option Argument
+argument_in verb given word = not_given given (argument_of verb (name_of word))
+
+-- what comes of a text, or else of none
+abbrev pub on_text : {A : Type 0} → Option (List ℕ) → (List ℕ → A) → A → A
+on_text (Some text) next other = next text
+on_text None next other = other
+
+-- What is given with the words from a place on, which counts from 0, after what was given before. An argument is given in one word, `--name=text` or
+-- `text`, or in two, `--name` and `text`.
+unfoldable mutual
+  -- arguments with their values
+  pub pieces_in : Verb → ℕ → GivenContent → List (List ℕ) → Result GivenContent ℕ
+  pieces_in verb at given [] = Ok given
+  pieces_in verb at given (word ∷ words) = do
+    argument ← ok_or (argument_in verb given word) (at + 1)
+    on_text (text_of word) (λ text. do
+      all ← ok_or (with_text verb at argument text given) (at + 1)
+      pieces_in verb (at + 1) all words) (value_in verb at given argument words)
+
+  -- the value of an argument whose name is the word at this place, and then further arguments
+  pub value_in : Verb → ℕ → GivenContent → Argument → List (List ℕ) → Result GivenContent ℕ
+  value_in verb at given argument [] = Err (at + 2)
+  value_in verb at given argument (text ∷ words) = do
+    all ← ok_or (with_text verb at argument text given) (at + 2)
+    pieces_in verb (at + 2) all words
+
+-- what is given after the first word
+abbrev pub arguments_in : Verb → List (List ℕ) → Result GivenContent ℕ
 arguments_in verb words = pieces_in verb 1 nothing (drop 1 words)
 
--- what a command asks for with what was given, if nothing is missing; something is missing after the last word
-abbrev pub complete : Verb → ℕ → GivenContent → Stage ℕ Asked
-complete verb count given = record {
-  Gives = λ asked. asked_of verb given ≡ Some asked;
-  Refuses = λ n. (asked_of verb given ≡ None) × (n ≡ count + 1);
-}
+-- ---- all words
 
--- the same, if no option is forbidden by the others
-abbrev pub allowed : GivenContent → Asked → Stage ℕ Asked
-allowed given asked = record {
-  Gives = λ x. (forbidden_word given ≡ None) × (x ≡ asked);
-  Refuses = λ n. forbidden_word given ≡ Some n;
-}
+-- what the words after `study` ask for; something that is missing is after the last word
+abbrev pub study_after : List (List ℕ) → Result StudyAsked ℕ
+study_after words = do
+  given ← arguments_in Study words
+  ok_or (study_of given) (length words + 1)
 
--- what a study asks for with what was given, if nothing is missing
-abbrev pub complete_study : ℕ → GivenContent → Stage ℕ StudyAsked
-complete_study count given = record {
-  Gives = λ asked. study_of given ≡ Some asked;
-  Refuses = λ n. (study_of given ≡ None) × (n ≡ count + 1);
-}
+-- what words ask a study for
+unfoldable pub study_in : List (List ℕ) → Result StudyAsked ℕ
+study_in words = if asks_study words then study_after words else Err 1
 
--- what words ask a study for, or the first word at which their reading fails
-unfoldable pub study_in : List (List ℕ) → Stage ℕ StudyAsked
-study_in words =
-    and_then (command_in true words) (λ verb. and_then (arguments_in verb words) (complete_study (length words)))
+-- this, unless a word is forbidden
+abbrev pub unless : {A : Type 0} → Option ℕ → A → Result A ℕ
+unless None x = Ok x
+unless (Some word) x = Err word
 
--- what words ask for that keeps no looks, or the first word at which their reading fails
-unfoldable pub asked_in : List (List ℕ) → Stage ℕ Asked
-asked_in words =
-    and_then (command_in false words) (λ verb. and_then (arguments_in verb words)
-    (λ given. and_then (complete verb (length words) given) (allowed given)))
+-- what words ask for that keeps no looks
+unfoldable pub asked_in : List (List ℕ) → Result Asked ℕ
+asked_in words = do
+  verb ← ok_or (first_verb words) 1
+  given ← arguments_in verb words
+  asked ← ok_or (asked_of verb given) (length words + 1)
+  unless (forbidden_word given) asked
 
--- ---- one step of the reading
-
--- One piece that may be begins these words; this is its argument with its value, and it has this number of words.
-pub record IsStep (verb : Verb) (given : GivenContent) (words : List (List ℕ)) (choice : Chosen) (width : ℕ) : Type 0 where
-  pub piece : Piece
-  pub more : List (List ℕ)
-  pub may : MayStand verb given piece
-  pub words_are : words ≡ spelled piece ++ more
-  pub choice_is : choice ≡ choice_of piece
-  pub width_is : width ≡ length (spelled piece)
+-- the reading of words as a stage of a call
+abbrev pub stage_of : {A : Type 0} → Result A ℕ → Stage ℕ A
+stage_of result = record { Gives = λ x. result ≡ Ok x; Refuses = λ n. result ≡ Err n }

@@ -16,27 +16,25 @@ pub(crate) enum Argument {
 }
 
 impl Argument {
-    ghost use Rattle.std.specs.Prelude.{◌≡◌, ◌≢◌, IfSome};
+    ghost use Rattle.std.specs.Prelude.{◌≡◌};
     ghost use Rattle.command_words.specs.Table.{argument_name};
 
-    /// Returns the argument of a name.
+    /// Returns the name of the argument.
     #[tactic(auto, unfolding(crate::specs::Table::argument_name))]
-    pub(crate) fn named(name: &[u8]) -> Option<Argument>
-        ensures named { IfSome result (λ argument. name.now ≡ argument_name argument) }
-        ensures unknown { result ≡ None → (argument : Argument) → name.now ≢ argument_name argument }
+    pub(crate) fn name(self) -> &'static str
+        ensures { result.now ≡ argument_name self }
     {
-        match name {
-            b"form" => Some(Argument::Form),
-            b"alpha" => Some(Argument::Alpha),
-            b"priority" => Some(Argument::Priority),
-            b"to" => Some(Argument::To),
-            b"size" => Some(Argument::Size),
-            b"seed" => Some(Argument::Seed),
-            b"graph" => Some(Argument::Graph),
-            b"second" => Some(Argument::Second),
-            b"file" => Some(Argument::File),
-            b"store" => Some(Argument::Store),
-            _ => None,
+        match self {
+            Argument::Form => "form",
+            Argument::Alpha => "alpha",
+            Argument::Priority => "priority",
+            Argument::To => "to",
+            Argument::Size => "size",
+            Argument::Seed => "seed",
+            Argument::Graph => "graph",
+            Argument::Second => "second",
+            Argument::File => "file",
+            Argument::Store => "store",
         }
     }
 }

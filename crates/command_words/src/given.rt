@@ -1,10 +1,12 @@
 //! What was given so far.
 
 use crate::argument::Argument;
-use crate::choice::Choice;
 use crate::command::{CaseTask, Command, StudyCall};
+use crate::count::count_spelt;
 use crate::form::{CaseForm, Form};
 use crate::graph_name::GraphName;
+use crate::level::level_spelt;
+use crate::priority::priority_named;
 use crate::verb::Verb;
 use fraction::Fraction;
 use sequential::Priority;
@@ -29,12 +31,11 @@ impl<'a> Given<'a> {
     ghost use Rattle.std.specs.Prelude.{◌≡◌, ◌<◌, ◌^◌, ◌+◌};
     ghost use Rattle.std.specs.Option.{option_map};
     ghost use Rattle.command_words.specs.Asked.{asked, study_asked, written};
-    ghost use Rattle.command_words.specs.Choices.{chosen};
     ghost use Rattle.command_words.specs.Given.{
       given_content,
       is_given,
       nothing,
-      with_chosen,
+      with_text,
       written_of,
       on_case,
       check_of,
@@ -90,25 +91,33 @@ impl<'a> Given<'a> {
         }
     }
 
-    /// Returns the same, and an argument whose first word is at a place, from 0.
-    pub(crate) fn with_choice(&self, at: usize, choice: Choice<'a>) -> Given<'a>
+    /// Returns the same, and an argument with the value that a text spells, if it spells one. Its first word is at a place, which
+    /// counts from 0.
+    #[tactic(auto, unfolding(crate::specs::Given::with_text))]
+    pub(crate) fn with(
+        &self,
+        verb: Verb,
+        at: usize,
+        argument: Argument,
+        text: &'a str,
+    ) -> Option<Given<'a>>
         requires { at + 1 < 2 ^ 64 }
-        ensures { given_content result ≡ with_chosen at (given_content self.now) (chosen choice.entry) }
+        ensures { option_map given_content result ≡ with_text verb at argument text.now (given_content self.now) }
     {
-        let mut given = self.copied();
-        match choice {
-            Choice::Form(form) => given.form = Some(form),
-            Choice::Alpha(alpha) => given.alpha = Some((alpha, at + 1)),
-            Choice::Priority(priority) => given.priority = Some(priority),
-            Choice::To(form) => given.to = Some(form),
-            Choice::Size(size) => given.size = Some(size),
-            Choice::Seed(seed) => given.seed = Some(seed),
-            Choice::Graph(graph) => given.graph = Some(graph),
-            Choice::Second(second) => given.second = Some((second, at + 1)),
-            Choice::File => given.file = Some(at),
-            Choice::Store(path) => given.store = Some(path),
+        let mut given = Given { ..*self };
+        match argument {
+            Argument::Form => given.form = Some(verb.form(text)?),
+            Argument::Alpha => given.alpha = Some((level_spelt(text)?, at + 1)),
+            Argument::Priority => given.priority = Some(priority_named(text)?),
+            Argument::To => given.to = Some(Form::named(text)?),
+            Argument::Size => given.size = Some(count_spelt(text.as_bytes())?),
+            Argument::Seed => given.seed = Some(count_spelt(text.as_bytes())?),
+            Argument::Graph => given.graph = Some(GraphName::named(text)?),
+            Argument::Second => given.second = Some((count_spelt(text.as_bytes())?, at + 1)),
+            Argument::File => given.file = Some(at),
+            Argument::Store => given.store = Some(text),
         }
-        given
+        Some(given)
     }
 
     /// Returns how the case is written; `None` if its level is missing.

@@ -1,19 +1,20 @@
 //! What the words of a call ask for.
 //!
-//! Proved: `read_words` returns the command that the words ask for, or the number of the first word at which they fail
-//! (`given`, `refused`). It does so by a table of commands, options and values. `read_study` does so for the command that keeps
-//! looks, which has a top call of its own. `asks_study` says which of the two the words are for. The law is
-//! `words_are_decided`.
+//! `asked_in` in `specs/Words.antt` is what words ask for, as one function: a command, or the number of the first word at which
+//! they fail. `study_in` is the same of the command that keeps looks, which has a top call of its own.
+//!
+//! Proved: `read_words` and `read_study` return these functions, each by its only clause, by a table of commands, options and
+//! values. `asks_study` says which of the two the words are for.
 #![tactic(auto)]
 
 mod argument;
-mod choice;
 mod command;
 mod count;
 mod form;
 mod given;
 mod graph_name;
-pub mod laws;
+mod level;
+mod priority;
 mod reading;
 mod verb;
 mod word;

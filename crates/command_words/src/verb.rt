@@ -21,40 +21,28 @@ pub(crate) enum Verb {
 }
 
 impl Verb {
-    ghost use Rattle.std.specs.Prelude.{◌≡◌, ◌≢◌, ◌↔◌, IfSome, IsTrue, Contains};
-    ghost use Rattle.command_words.specs.Table.{verb_name, keeps_looks, options_of, operand_of, forms_of};
+    ghost use Rattle.std.specs.Prelude.{◌≡◌};
+    ghost use Rattle.std.specs.Option.{option_map};
+    ghost use Rattle.command_words.specs.Table.{verb_named, options_of, operand_of, option_named, argument_of, reads, form_read};
 
-    /// Returns the command of a name.
-    #[tactic(auto, unfolding(crate::specs::Table::verb_name))]
-    pub(crate) fn named(name: &[u8]) -> Option<Verb>
-        ensures named { IfSome result (λ verb. name.now ≡ verb_name verb) }
-        ensures unknown { result ≡ None → (verb : Verb) → name.now ≢ verb_name verb }
+    /// Returns the command of a name, but for `study`, which is done by a top call of its own.
+    #[tactic(auto, unfolding(crate::specs::Table::verb_named))]
+    pub(crate) fn named(name: &str) -> Option<Verb>
+        ensures { result ≡ verb_named name.now }
     {
         match name {
-            b"test" => Some(Verb::Test),
-            b"weights" => Some(Verb::Weights),
-            b"bounds" => Some(Verb::Bounds),
-            b"simes" => Some(Verb::Simes),
-            b"evidence" => Some(Verb::Evidence),
-            b"stages" => Some(Verb::Stages),
-            b"check" => Some(Verb::Check),
-            b"canon" => Some(Verb::Canon),
-            b"catalogue" => Some(Verb::Catalogue),
-            b"sample" => Some(Verb::Sample),
-            b"study" => Some(Verb::Study),
-            b"help" => Some(Verb::Help),
+            "test" => Some(Verb::Test),
+            "weights" => Some(Verb::Weights),
+            "bounds" => Some(Verb::Bounds),
+            "simes" => Some(Verb::Simes),
+            "evidence" => Some(Verb::Evidence),
+            "stages" => Some(Verb::Stages),
+            "check" => Some(Verb::Check),
+            "canon" => Some(Verb::Canon),
+            "catalogue" => Some(Verb::Catalogue),
+            "sample" => Some(Verb::Sample),
+            "help" => Some(Verb::Help),
             _ => None,
-        }
-    }
-
-    /// Whether the command takes looks that are kept from call to call.
-    #[tactic(auto, unfolding(crate::specs::Table::keeps_looks))]
-    pub(crate) fn keeps_looks(self) -> bool
-        ensures { result ≡ keeps_looks self }
-    {
-        match self {
-            Verb::Study => true,
-            _ => false,
         }
     }
 
@@ -79,28 +67,9 @@ impl Verb {
         }
     }
 
-    /// Returns the forms in which the command reads its case.
-    #[tactic(auto, unfolding(crate::specs::Table::forms_of))]
-    fn forms(self) -> &'static [Form]
-        ensures { result.now ≡ forms_of self }
-    {
-        match self {
-            Verb::Test => &[Form::Text, Form::Csv, Form::Json],
-            Verb::Weights => &[Form::Text, Form::Csv, Form::Json],
-            Verb::Bounds => &[Form::Text, Form::Csv, Form::Json],
-            Verb::Simes => &[Form::Text, Form::Csv, Form::Json],
-            Verb::Evidence => &[Form::Text, Form::Csv, Form::Json],
-            Verb::Stages => &[Form::Text, Form::Json],
-            Verb::Check => &[Form::Text, Form::Csv, Form::Json],
-            Verb::Canon => &[Form::Text, Form::Csv, Form::Json],
-            Verb::Study => &[Form::Text, Form::Json],
-            Verb::Catalogue | Verb::Sample | Verb::Help => &[],
-        }
-    }
-
     /// Returns what a word without a name gives, if the command takes one.
     #[tactic(auto, unfolding(crate::specs::Table::operand_of))]
-    pub(crate) fn operand(self) -> Option<Argument>
+    fn operand(self) -> Option<Argument>
         ensures { result ≡ operand_of self }
     {
         match self {
@@ -110,17 +79,40 @@ impl Verb {
         }
     }
 
-    /// Whether the command takes an option.
-    pub(crate) fn takes(self, argument: Argument) -> bool
-        ensures { IsTrue result ↔ Contains (options_of self) argument }
+    /// Returns the option of a name, if the command takes it.
+    #[tactic(auto, unfolding(crate::specs::Table::option_named))]
+    fn option(self, name: &str) -> Option<Argument>
+        ensures { result ≡ option_named self name.now }
     {
-        self.options().contains(&argument)
+        self.options()
+            .iter()
+            .copied()
+            .find(|argument| argument.name() == name)
     }
 
-    /// Whether the command reads its case in a form.
-    pub(crate) fn reads(self, form: Form) -> bool
-        ensures { IsTrue result ↔ Contains (forms_of self) form }
+    /// Returns what the command is given by an option of a name, or by a word without one.
+    pub(crate) fn argument(self, name: Option<&str>) -> Option<Argument>
+        ensures { result ≡ argument_of self (option_map (λ text. text.now) name.entry) }
     {
-        self.forms().contains(&form)
+        match name {
+            Some(name) => self.option(name),
+            None => self.operand(),
+        }
+    }
+
+    /// Whether the command may read its case in a form.
+    #[tactic(auto, unfolding(crate::specs::Table::reads))]
+    fn reads(self, form: Form) -> bool
+        ensures { result ≡ reads self form }
+    {
+        !matches!((self, form), (Verb::Stages | Verb::Study, Form::Csv))
+    }
+
+    /// Returns the form of a name, if the command may read its case in it.
+    pub(crate) fn form(self, name: &str) -> Option<Form>
+        ensures { result ≡ form_read self name.now }
+    {
+        let form = Form::named(name)?;
+        if self.reads(form) { Some(form) } else { None }
     }
 }

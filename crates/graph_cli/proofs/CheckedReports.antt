@@ -8,7 +8,8 @@ use Rattle.case_model.specs.declared.inputs.Inputs.{Inputs}
 use Rattle.case_model.specs.declared.inputs.Inputs.TheVariants.{Bare, Single as Values, Staged as Stages}
 use Rattle.case_model.specs.Validity.{IsValidContent}
 use Rattle.command_words.specs.Asked.{check}
-use Rattle.command_words.proofs.OneReading.{words_decided}
+use Rattle.command_words.specs.Words.{asked_in}
+use Rattle.command_words.proofs.Readings.{stage_decided}
 use Rattle.evidence_check.specs.declared.evidence.Evidence.{Evidence}
 use Rattle.evidence_check.specs.declared.verdict.Verdict.{Verdict}
 use Rattle.evidence_check.specs.declared.verdict.Verdict.TheVariants.{Yes, No}
@@ -56,7 +57,7 @@ pub checks_closed_test : ChecksAreOfTheClosedTest
 unfolding call_of check_call check_needs check_stage
 checks_closed_test words form file case proof a asks (inr h) z = absurd (not_done a.status h.0.cause (ap (λ (x : Answer). x.status) h.2) z)
 checks_closed_test words form file case proof a asks (inl h) z =
-    let command_is : h.0 ≡ check form file = (words_decided words).one h.0 (check form file) h.1 asks in
+    let command_is : h.0 ≡ check form file = (stage_decided (asked_in words)).one h.0 (check form file) h.1 asks in
     let gives = subst (λ command. (call_of command (Some case) (Some proof)).Gives a) command_is h.2 in
     let bytes_are = gives.1.1.0 in
     let read = gives.1.2.1 in

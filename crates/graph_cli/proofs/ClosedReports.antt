@@ -21,7 +21,8 @@ use Rattle.case_json.proofs.Drafts.{says_arrivals}
 use Rattle.command_words.specs.Asked.{Written, text, csv, json, on_case}
 use Rattle.command_words.specs.declared.command.CaseTask.{CaseTask}
 use Rattle.command_words.specs.declared.command.CaseTask.TheVariants.{Test}
-use Rattle.command_words.proofs.OneReading.{words_decided}
+use Rattle.command_words.specs.Words.{asked_in}
+use Rattle.command_words.proofs.Readings.{stage_decided}
 use Rattle.sequential.specs.declared.decision.StepLine.{StepLine}
 use Rattle.sequential.specs.declared.decision.Decision.{Decision}
 use Rattle.sequential.specs.Decisions.{hypotheses, IsDecision}
@@ -83,7 +84,7 @@ pub reports_case : (Reports : Content → List ℕ → Type 0) (words : List (Li
 unfolding call_of case_call
 reports_case Reports words form task case proof a of_case asks (inr h) z = absurd (not_done a.status h.0.cause (ap (λ (x : Answer). x.status) h.2) z)
 reports_case Reports words form task case proof a of_case asks (inl h) z =
-    let command_is : h.0 ≡ on_case form task = (words_decided words).one h.0 (on_case form task) h.1 asks in
+    let command_is : h.0 ≡ on_case form task = (stage_decided (asked_in words)).one h.0 (on_case form task) h.1 asks in
     let gives = subst (λ command. (call_of command (Some case) proof).Gives a) command_is h.2 in
     let bytes_are = gives.1.1.0 in
     let read = gives.1.2.1 in

@@ -16,7 +16,8 @@ use Rattle.catalogue.specs.Samples.{sample_graph, sample_p_values}
 use Rattle.catalogue.specs.Sizes.{size_fault}
 use Rattle.catalogue.specs.WeightedGraphs.{WeightedGraph, draft_of}
 use Rattle.command_words.specs.Asked.{sample}
-use Rattle.command_words.proofs.OneReading.{words_decided}
+use Rattle.command_words.specs.Words.{asked_in}
+use Rattle.command_words.proofs.Readings.{stage_decided}
 use Rattle.sequential.specs.declared.priority.Priority.TheVariants.{First}
 use Rattle.graph_cli.specs.Commands.{call_of}
 use Rattle.graph_cli.specs.Sample.{sample_stage}
@@ -55,7 +56,7 @@ pub samples_closed_test : SamplesAreOfTheClosedTest
 unfolding call_of sample_stage
 samples_closed_test words size seed case proof a asks (inr h) z = absurd (not_done a.status h.0.cause (ap (λ (x : Answer). x.status) h.2) z)
 samples_closed_test words size seed case proof a asks (inl h) z =
-    let command_is : h.0 ≡ sample size seed = (words_decided words).one h.0 (sample size seed) h.1 asks in
+    let command_is : h.0 ≡ sample size seed = (stage_decided (asked_in words)).one h.0 (sample size seed) h.1 asks in
     let gives = subst (λ command. (call_of command case proof).Gives a) command_is h.2 in (
       gives.0,
       gives.1,

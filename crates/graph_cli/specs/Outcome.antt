@@ -1,24 +1,24 @@
 -- What words, a case and a proof call for: the first stage that refuses decides.
-use Rattle.std.specs.Prelude.{◌≡◌, ℕ, ◌⊎◌, List, Option, Some}
+use Rattle.std.specs.Prelude.{◌≡◌, ℕ, ◌⊎◌, List, Option, Some, Ok}
 use Rattle.answers.specs.declared.answer.Answer.{Answer}
 use Rattle.answers.specs.declared.refusal.Refusal.{Refusal}
 use Rattle.answers.specs.Stages.{Stage, and_then, told_as}
 use Rattle.command_words.specs.Asked.{Asked, StudyAsked, file_of}
-use Rattle.command_words.specs.Words.{asked_in, study_in}
+use Rattle.command_words.specs.Words.{asked_in, study_in, stage_of}
 use Rattle.refusals.specs.UsageRefusal.{usage}
 use Rattle.graph_cli.specs.Commands.{call_of, TakesCase, TakesProof}
 
 -- the outcome of words, a case and a proof
 abbrev pub outcome : List (List ℕ) → Option (List ℕ) → Option (List ℕ) → Stage Refusal Answer
-outcome words case proof = and_then (told_as usage (asked_in words)) (λ command. call_of command case proof)
+outcome words case proof = and_then (told_as usage (stage_of (asked_in words))) (λ command. call_of command case proof)
 
 -- words are accepted, and ask for this
 abbrev pub AskFor : List (List ℕ) → Asked → Type 0
-AskFor words command = (asked_in words).Gives command
+AskFor words command = asked_in words ≡ Ok command
 
 -- words are accepted, and ask a study for this
 abbrev pub AskStudy : List (List ℕ) → StudyAsked → Type 0
-AskStudy words asked = (study_in words).Gives asked
+AskStudy words asked = study_in words ≡ Ok asked
 
 -- the word at this place, from 0, names the file of a proof, or that of the commands of a study
 abbrev pub NamesFile : List (List ℕ) → ℕ → Type 0

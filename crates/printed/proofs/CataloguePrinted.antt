@@ -6,7 +6,8 @@ use Rattle.catalogue.proofs.RatiosOf.{part_value}
 use Rattle.command_words.specs.Asked.{text, catalogue}
 use Rattle.command_words.specs.declared.form.Form.TheVariants.{Text}
 use Rattle.command_words.specs.declared.graph_name.SizedGraph.{SizedGraph}
-use Rattle.command_words.proofs.OneReading.{words_decided}
+use Rattle.command_words.specs.Words.{asked_in}
+use Rattle.command_words.proofs.Readings.{stage_decided}
 use Rattle.graph_cli.proofs.ClosedReports.{not_done}
 use Rattle.graph_cli.specs.Accepted.{case_in}
 use Rattle.graph_cli.specs.Commands.{call_of}
@@ -37,5 +38,5 @@ pub catalogue_of_graphs : CatalogueIsOfTheNamedGraphs
 unfolding call_of
 catalogue_of_graphs words graph case proof a asks (inr h) z = absurd (not_done a.status h.0.cause (ap (λ (x : Answer). x.status) h.2) z)
 catalogue_of_graphs words graph case proof a asks (inl h) z =
-    let command_is : h.0 ≡ catalogue graph = (words_decided words).one h.0 (catalogue graph) h.1 asks in
+    let command_is : h.0 ≡ catalogue graph = (stage_decided (asked_in words)).one h.0 (catalogue graph) h.1 asks in
     prints graph a (subst (λ command. (call_of command case proof).Gives a) command_is h.2)

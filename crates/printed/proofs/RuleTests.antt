@@ -11,7 +11,8 @@ use Rattle.case_model.specs.Draft.{ArePValues}
 use Rattle.case_model.specs.Sums.{number_at}
 use Rattle.command_words.specs.Asked.{Written, on_case}
 use Rattle.command_words.specs.declared.command.CaseTask.TheVariants.{Test}
-use Rattle.command_words.proofs.OneReading.{words_decided}
+use Rattle.command_words.specs.Words.{asked_in}
+use Rattle.command_words.proofs.Readings.{stage_decided}
 use Rattle.sequential.specs.declared.priority.Priority.{Priority}
 use Rattle.textbook.specs.DefinedDecisions.{IsNeverWide}
 use Rattle.graph_cli.proofs.AcceptedCases.{accepted_decided}
@@ -61,16 +62,16 @@ module _ (Rejects : (ℕ → Number) → ℕ → Type 0) (c : Content) (few : le
       → ArePValues (length c.names) ps → (accepted form (needs_of (Test priority)) (Some bytes)).Gives (with_p_values ps c)
       → AskFor words (on_case form (Test priority)) → (outcome words (Some bytes) proof).Refuses r → ⊥
   unfolding call_of
-  not_refused words form priority bytes proof ps r P takes asks (inl h) = (words_decided words).not_both (on_case form (Test priority)) h.0 asks h.1
+  not_refused words form priority bytes proof ps r P takes asks (inl h) = (stage_decided (asked_in words)).not_both (on_case form (Test priority)) h.0 asks h.1
   not_refused words form priority bytes proof ps r P takes asks (inr h) =
-      let command_is = (words_decided words).one h.0 (on_case form (Test priority)) h.1 asks in
+      let command_is = (stage_decided (asked_in words)).one h.0 (on_case form (Test priority)) h.1 asks in
       call_not_refused form priority bytes ps r P takes (subst (λ command. (call_of command (Some bytes) proof).Refuses r) command_is h.2)
 
   given_done : (words : List (List ℕ)) (form : Written) (priority : Priority) (bytes : List ℕ) (proof : Option (List ℕ)) (a : Answer)
       → AskFor words (on_case form (Test priority)) → (outcome words (Some bytes) proof).Gives a → a.status ≡ Done
   unfolding call_of case_call
   given_done words form priority bytes proof a asks h =
-      let command_is = (words_decided words).one h.0 (on_case form (Test priority)) h.1 asks in
+      let command_is = (stage_decided (asked_in words)).one h.0 (on_case form (Test priority)) h.1 asks in
       let gives = subst (λ command. (call_of command (Some bytes) proof).Gives a) command_is h.2 in
       is_done priority gives.0 a gives.2
 

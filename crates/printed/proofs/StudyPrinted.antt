@@ -11,7 +11,8 @@ use Rattle.case_model.specs.Content.{Content, content_of}
 use Rattle.case_model.specs.LegalOrder.{IsListed}
 use Rattle.case_model.specs.StagedCase.{IsStagedRejectedIn}
 use Rattle.case_model.specs.Validity.{IsValidContent}
-use Rattle.command_words.proofs.OneReading.{study_words_decided}
+use Rattle.command_words.specs.Words.{study_in}
+use Rattle.command_words.proofs.Readings.{stage_decided}
 use Rattle.refusals.specs.WideRefusal.{wide_refusal}
 use Rattle.refusals.specs.declared.wide.When.TheVariants.{Look as AfterLook}
 use Rattle.report.specs.StudyReport.{Reply, taken, shown, is_among}
@@ -161,7 +162,7 @@ broken_not_done c commands s e b z =
 pub studies_of_test : StudiesAreOfTheStagedTest
 unfolding study_call study_stage
 studies_of_test words asked case commands kept e asks h z =
-    let asked_is : h.0 ≡ asked = (study_words_decided words).one h.0 asked h.1 asks in
+    let asked_is : h.0 ≡ asked = (stage_decided (study_in words)).one h.0 asked h.1 asks in
     let gives = subst (λ x. (study_call x (Some case) (Some commands) (Some kept)).Gives e) asked_is h.2 in
     let c = gives.0 in
     let bytes_are = gives.1.1.0 in

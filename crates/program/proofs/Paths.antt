@@ -6,7 +6,8 @@ use Rattle.std.specs.declared.option.Option.{Option}
 use Rattle.std.specs.declared.option.Option.TheVariants.{Some, None}
 use Rattle.std.proofs.lemmas.Option.{slice_get-map, slice_get_past, slice_get_read}
 use Rattle.command_words.specs.Asked.{file_of}
-use Rattle.command_words.proofs.OneReading.{words_decided, study_words_decided, one_reader}
+use Rattle.command_words.specs.Words.{asked_in, study_in}
+use Rattle.command_words.proofs.Readings.{stage_decided, one_reader}
 use Rattle.graph_cli.specs.Outcome.{NamesFile}
 use Rattle.program.specs.Calls.{NamesPath}
 
@@ -15,10 +16,10 @@ same_number i j e = cc
 
 -- words name one file at most
 one_place : (words : List (List ℕ)) (i j : ℕ) → NamesFile words i → NamesFile words j → i ≡ j
-one_place words i j (inl h) (inl k) = same_number i j (sym h.2 ∙ ap file_of ((words_decided words).one h.0 k.0 h.1 k.1) ∙ k.2)
+one_place words i j (inl h) (inl k) = same_number i j (sym h.2 ∙ ap file_of ((stage_decided (asked_in words)).one h.0 k.0 h.1 k.1) ∙ k.2)
 one_place words i j (inl h) (inr k) = absurd (one_reader words h.0 k.0 h.1 k.1)
 one_place words i j (inr h) (inl k) = absurd (one_reader words k.0 h.0 k.1 h.1)
-one_place words i j (inr h) (inr k) = sym h.2 ∙ ap (λ a. a.file) ((study_words_decided words).one h.0 k.0 h.1 k.1) ∙ k.2
+one_place words i j (inr h) (inr k) = sym h.2 ∙ ap (λ a. a.file) ((stage_decided (study_in words)).one h.0 k.0 h.1 k.1) ∙ k.2
 
 module _ {X : Type 0} (f : X → List ℕ) (words : List X) (place : ℕ) (named : NamesFile (map f words) place) where
   -- the word at the place

@@ -7,7 +7,7 @@ use Rattle.answers.proofs.Decided.{then_decided, told_as_decided, within_decided
 use Rattle.case_model.specs.Content.{Content}
 use Rattle.command_words.specs.Asked.{StudyAsked}
 use Rattle.command_words.specs.Words.{study_in}
-use Rattle.command_words.proofs.OneReading.{study_words_decided}
+use Rattle.command_words.proofs.Readings.{stage_decided}
 use Rattle.edge_text.specs.declared.fault.LineKind.{LineKind}
 use Rattle.text_lines.specs.Languages.{FaultAt}
 use Rattle.graph_cli.proofs.AcceptedCases.{accepted_decided}
@@ -33,4 +33,4 @@ call_decided asked case commands looks =
 
 pub studies_have_one_outcome : StudiesHaveOneOutcome
 studies_have_one_outcome words case commands looks =
-    then_decided _ _ (told_as_decided usage (study_in words) (study_words_decided words)) (λ asked. call_decided asked case commands looks)
+    then_decided _ _ (told_as_decided usage _ (stage_decided (study_in words))) (λ asked. call_decided asked case commands looks)

@@ -5,7 +5,7 @@ use Rattle.answers.specs.declared.refusal.Refusal.{Refusal}
 use Rattle.answers.specs.Stages.{Stage, and_then, told_as, on_bytes, within}
 use Rattle.case_model.specs.Content.{Content}
 use Rattle.command_words.specs.Asked.{StudyAsked}
-use Rattle.command_words.specs.Words.{study_in}
+use Rattle.command_words.specs.Words.{study_in, stage_of}
 use Rattle.edge_text.specs.declared.fault.LineKind.{LineKind}
 use Rattle.refusals.specs.TextRefusal.{commands_refusal}
 use Rattle.refusals.specs.UsageRefusal.{usage}
@@ -44,7 +44,7 @@ study_call asked case commands kept = and_then (case_of asked case) (λ c. and_t
 
 -- the outcome of words, a case, commands and kept looks
 abbrev pub study_outcome : List (List ℕ) → Option (List ℕ) → Option (List ℕ) → Option (List Look) → Stage Refusal StudyEnd
-study_outcome words case commands kept = and_then (told_as usage (study_in words)) (λ asked. study_call asked case commands kept)
+study_outcome words case commands kept = and_then (told_as usage (stage_of (study_in words))) (λ asked. study_call asked case commands kept)
 
 -- the source denotes a case that a study can take
 abbrev pub IsStudied : StudyAsked → Option (List ℕ) → Type 0

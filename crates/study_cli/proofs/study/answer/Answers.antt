@@ -14,13 +14,13 @@ returns-in_err-usage-in-Err-clause-ends g c =
 pub returns-in-Ok-clause-ends : goal.returns-in-Ok-clause-ends
 returns-in-Ok-clause-ends g c =
     asked_ends (map string_bytes c.args.words.now) (g.S.Source.left c.args.case.now) (g.T.Source.left c.args.commands.now)
-    (g.K.Keeper.looks c.args.keeper.now) _ (study_asked c.in-Ok.call) c.in-Ok.ensures.given _ _ _ _ _ c.study_call.result c.study_call.ensures.ends
+    (g.K.Keeper.looks c.args.keeper.now) _ (study_asked c.in-Ok.call) (sym c.in-Ok.ensures) _ _ _ _ _ c.study_call.result c.study_call.ensures.ends
 
 pub returns-in-Ok-clause-case_kept : goal.returns-in-Ok-clause-case_kept
-returns-in-Ok-clause-case_kept g c = λ none. absurd (none (study_asked c.in-Ok.call, c.in-Ok.ensures.given))
+returns-in-Ok-clause-case_kept g c = λ none. absurd (none (study_asked c.in-Ok.call, (sym c.in-Ok.ensures)))
 
 pub returns-in-Ok-clause-commands_kept : goal.returns-in-Ok-clause-commands_kept
-returns-in-Ok-clause-commands_kept g c = λ none. c.study_call.ensures.commands_kept (λ s. none (study_asked c.in-Ok.call, c.in-Ok.ensures.given, s))
+returns-in-Ok-clause-commands_kept g c = λ none. c.study_call.ensures.commands_kept (λ s. none (study_asked c.in-Ok.call, (sym c.in-Ok.ensures), s))
 
 pub returns-in-Ok-clause-keeper_kept : goal.returns-in-Ok-clause-keeper_kept
-returns-in-Ok-clause-keeper_kept g c = λ none. c.study_call.ensures.keeper_kept (λ s. none (study_asked c.in-Ok.call, c.in-Ok.ensures.given, s))
+returns-in-Ok-clause-keeper_kept g c = λ none. c.study_call.ensures.keeper_kept (λ s. none (study_asked c.in-Ok.call, (sym c.in-Ok.ensures), s))
