@@ -6,7 +6,7 @@ use Rattle.std.proofs.lemmas.List.{append-nil}
 use Rattle.field_core.specs.Answers.{and_then, IsUnless, told_as}
 use Rattle.field_core.proofs.Results.{came_from, same_value, same_fault}
 use Rattle.graph_io.specs.declared.keeper.Look.{Look}
-use Rattle.text_lines.specs.Languages.{FaultAt, IsDocument}
+use Rattle.text_lines.specs.Languages.{FaultAt, reading, IsDocument}
 use Rattle.text_lines.specs.Lines.{rows_of, texts_in, end_of}
 use Rattle.text_lines.proofs.LanguageLaws.{read_as}
 use Rattle.text_lines.proofs.Runs.{run, run_line, document_runs, run_documents}
@@ -117,6 +117,15 @@ faults_of_lines names bytes number kind =
 
 -- ---- what is read
 
+-- an answer of the reader
+abbrev IsRead : Words → List ℕ → Result (List StudyCommand) CommandsFault → Type 0
+IsRead names bytes r = IsUnless NoMemory r (told_as on_line (reading (commands names) [] (rows_of bytes) (end_of bytes)))
+
+pub commands_read : (names : Words) (bytes : List ℕ) (r : Result (List StudyCommand) CommandsFault) → IsRead names bytes r
+    → IsUnless NoMemory r (told_as on_line (commands_of names bytes))
+unfolding commands_of
+commands_read names bytes r h = h
+
 value_told : (r : Result (List StudyCommand) (FaultAt LineKind)) (cs : List StudyCommand) → told_as on_line r ≡ Ok cs → r ≡ Ok cs
 value_told (Ok ds) cs e = ap Ok (same_value ds cs e)
 value_told (Err f) cs e = absurd (cc e)
@@ -138,7 +147,9 @@ pub commands_refused : (names : Words) (bytes : List ℕ) (number : ℕ) (kind :
 commands_refused names bytes number kind (inl e) = absurd (cc e)
 commands_refused names bytes number kind (inr e) = fault_told (commands_of names bytes) number kind e
 
-pub read_below : (names : Words) (bytes : List ℕ) (r : Result (List StudyCommand) CommandsFault)
-    → IsUnless NoMemory r (told_as on_line (commands_of names bytes)) → IfOk r (AllByRecursion (IsBelow (length names)))
-read_below names bytes (Ok cs) h = all_below names (texts_in (rows_of bytes)) cs ((commands_of_lines names bytes cs).0 (commands_found names bytes cs h))
+pub read_below : (names : Words) (bytes : List ℕ) (r : Result (List StudyCommand) CommandsFault) → IsRead names bytes r
+    → IfOk r (AllByRecursion (IsBelow (length names)))
+read_below names bytes (Ok cs) h =
+    let said = commands_found names bytes cs (commands_read names bytes (Ok cs) h) in
+    all_below names (texts_in (rows_of bytes)) cs ((commands_of_lines names bytes cs).0 said)
 read_below names bytes (Err fault) h = tt

@@ -1,9 +1,11 @@
 //! The reader of commands.
-ghost use Rattle.std.specs.Prelude.{IfOk, length};
+ghost use Rattle.std.specs.Prelude.{IfOk, [], length};
 ghost use Rattle.std.specs.List.{AllByRecursion};
 ghost use Rattle.field_core.specs.Answers.{IsUnless, told_as};
 ghost use Rattle.case_model.specs.CaseView.{content};
-ghost use Rattle.study_answers.specs.CommandLanguage.{commands_of};
+ghost use Rattle.text_lines.specs.Languages.{reading};
+ghost use Rattle.text_lines.specs.Lines.{rows_of, end_of};
+ghost use Rattle.study_answers.specs.CommandLanguage.{commands, commands_of};
 ghost use Rattle.study_answers.specs.CommandLines.{IsBelow};
 ghost use Rattle.study_answers.specs.CommandFaults.{on_line};
 ghost use Rattle.study_answers.specs.declared.fault.CommandsFault.TheVariants.{NoMemory};
@@ -14,12 +16,23 @@ use field_core::List;
 use std::alloc::Global;
 use text_lines::Lines;
 
+/// Reads a text of commands, line by line.
+fn read(alloc: Global, case: &Case, bytes: &[u8]) -> Result<List<StudyCommand>, CommandsFault>
+    ensures { IsUnless NoMemory result
+        (told_as on_line (reading (commands (content case.now).names) [] (rows_of bytes.now) (end_of bytes.now))) }
+{
+    let mut commands = List::new(alloc);
+    for line in Lines::new(bytes) {
+        commands.push(rules::command(&line, case)?)?;
+    }
+    Ok(commands)
+}
+
 /// Returns the commands that a text denotes for a case, or the first line that says none, or `NoMemory`.
 ///
 /// Words and lines are those of `text_lines`. A line is `look NAME K N`, the name of a hypothesis, the number of a stage in 1 to 9
 /// digits and a numeral, or `show`. Within a line the first word is tested first, then the number of words, then what follows
 /// from left to right.
-#[tactic(auto, unfolding(crate::specs::CommandLanguage::commands_of))]
 pub fn read_commands(
     alloc: Global,
     case: &Case,
@@ -28,9 +41,5 @@ pub fn read_commands(
     ensures read { IsUnless NoMemory result (told_as on_line (commands_of (content case.now).names bytes.now)) }
     ensures below { IfOk result (AllByRecursion (IsBelow (length (content case.now).names))) }
 {
-    let mut commands = List::new(alloc);
-    for line in Lines::new(bytes) {
-        commands.push(rules::command(&line, case)?)?;
-    }
-    Ok(commands)
+    read(alloc, case, bytes)
 }

@@ -46,7 +46,6 @@ fn study_needs() -> Needs
 }
 
 /// Returns the commands that a text denotes for a case.
-#[tactic(auto, using(study_answers::proofs::CommandReads::commands_found, study_answers::proofs::CommandReads::commands_refused))]
 fn commands_in(alloc: Global, case: &Case, bytes: &[u8]) -> Result<List<StudyCommand>, Stop>
     ensures ends { EndsIn (over_values (commands_in (content case.now) bytes.now)) result }
     ensures below { IfOk result (AllByRecursion (IsBelow (length (content case.now).names))) }
