@@ -4,8 +4,8 @@
 # - with status 8 and `no memory`;
 # - with status 8 and nothing, if `main` has no memory for its words or its file;
 # - as the case ends with all the memory that it requests.
-# Prints how often each came, and each run that ends otherwise; its status is 1 then. Stops a case after 2,000 runs or ten minutes.
-# Needs glibc and cc.
+# Prints how often each came, and each run that ends otherwise. Its status is 1 if there is one, and if a case has no allocation to
+# refuse. Stops a case after 2,000 runs or ten minutes. Needs glibc and cc, and a program that takes its memory from glibc.
 #
 #     bench/allocations.sh [PROGRAM]
 #
@@ -90,13 +90,20 @@ tried() {
     name=$1
     file=$2
     shift 2
+    rm -f "$out/count"
     ran 0 one "$file" "$@"
     if ! grep -q '^status 0$' "$out/printed"; then
-        echo "$name: the program has no such command"
+        echo "$name: the program does not answer the case"
+        ended=1
         return 0
     fi
     mv "$out/printed" "$out/wanted"
-    count=$(cat "$out/count")
+    count=$(cat "$out/count" 2>/dev/null || echo 0)
+    if [ "$count" -eq 0 ]; then
+        echo "$name: no allocation is seen, so none can be refused"
+        ended=1
+        return 0
+    fi
     begun=$(date +%s)
     for kind in one on; do
         own=0 memory=0 silent=0 other=0 number=1

@@ -1,5 +1,5 @@
-/* Stands before the C library's allocator, counts the calls, and refuses the one whose number, from 1, is REFUSE_AT; with
-   REFUSE_ON set, all after it too. Writes how many there were to the file REFUSE_COUNT. Made for glibc:
+/* Takes the place of the C library's allocator. Counts the calls, and refuses the one whose number, from 1, is REFUSE_AT; with
+   REFUSE_ON set, also all after it. Writes the number of calls to the file REFUSE_COUNT. Made for glibc:
 
        cc -shared -fPIC -O2 -o refuse.so refuse.c
        LD_PRELOAD=./refuse.so REFUSE_AT=7 program
