@@ -23,7 +23,6 @@ pub fn taken_looks_are_first()
 
 /// A text denotes commands exactly if its lines that aren't skipped denote them, one each. Its first fault is that of the
 /// first line that denotes no command.
-#[tactic(auto, using(crate::proofs::CommandReads::commands_of_lines, crate::proofs::CommandReads::faults_of_lines))]
 pub fn commands_are_read_by_lines()
     ensures said { CommandsAreOfLines }
     ensures fault { FaultsAreBadLines }
