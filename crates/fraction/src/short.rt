@@ -19,6 +19,7 @@ impl ShortRatio {
     ghost use Rattle.fraction.specs.Written.{written_mul, written_add};
 
     /// Returns a fraction, if its parts fit 64 bits.
+    #[inline(always)]
     pub fn of(x: &Ratio) -> Option<ShortRatio>
         ensures { IfSome result (λ s. short_terms s ≡ terms x.now) }
     {
@@ -37,6 +38,7 @@ impl ShortRatio {
 
     /// Returns the written product, which is never refused.
     #[tactic(auto, using(crate::proofs::AtOnce::zero_times, crate::proofs::AtOnce::times_zero), unfolding(crate::specs::Written::written_mul))]
+    #[inline(never)]
     pub fn times(self, other: ShortRatio) -> Ratio
         ensures { Some (terms result) ≡ written_mul (short_terms self) (short_terms other) }
     {
@@ -55,6 +57,7 @@ impl ShortRatio {
 
     /// Returns the written sum, or nothing if it is refused.
     #[tactic(auto, using(crate::proofs::AtOnce::zero_plus), unfolding(crate::specs::Written::written_add))]
+    #[inline(never)]
     pub fn plus(self, other: ShortRatio) -> Option<Ratio>
         ensures { option_map terms result ≡ written_add (short_terms self) (short_terms other) }
     {

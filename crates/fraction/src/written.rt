@@ -1,4 +1,5 @@
-//! The written operations on fractions.
+//! The written operations on fractions. A caller tests the width of the parts in place, which saves it a call and a copy of what it
+//! gets; only the operations themselves are called.
 ghost use Rattle.std.specs.Prelude.{◌≡◌, ◌≢◌, pos};
 ghost use Rattle.std.specs.Option.{option_map};
 ghost use Rattle.field_core.specs.View.{terms};
@@ -8,6 +9,7 @@ use crate::short::ShortRatio;
 use field_core::Ratio;
 
 /// Returns the written product, or nothing if it is refused.
+#[inline(always)]
 pub fn multiply(x: &Ratio, y: &Ratio) -> Option<Ratio>
     ensures { option_map terms result ≡ written_mul (terms x.now) (terms y.now) }
 {
@@ -18,6 +20,7 @@ pub fn multiply(x: &Ratio, y: &Ratio) -> Option<Ratio>
 }
 
 #[tactic(auto, unfolding(crate::specs::Written::written_mul))]
+#[inline(never)]
 fn multiply_wide(x: &Ratio, y: &Ratio) -> Option<Ratio>
     ensures { option_map terms result ≡ written_mul (terms x.now) (terms y.now) }
 {
@@ -33,6 +36,7 @@ fn multiply_wide(x: &Ratio, y: &Ratio) -> Option<Ratio>
 }
 
 /// Returns the written sum, or nothing if it is refused.
+#[inline(always)]
 pub fn plus(x: &Ratio, y: &Ratio) -> Option<Ratio>
     ensures { option_map terms result ≡ written_add (terms x.now) (terms y.now) }
 {
@@ -43,6 +47,7 @@ pub fn plus(x: &Ratio, y: &Ratio) -> Option<Ratio>
 }
 
 #[tactic(auto, unfolding(crate::specs::Written::written_add))]
+#[inline(never)]
 fn plus_wide(x: &Ratio, y: &Ratio) -> Option<Ratio>
     ensures { option_map terms result ≡ written_add (terms x.now) (terms y.now) }
 {
