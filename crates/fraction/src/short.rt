@@ -1,7 +1,20 @@
 //! The written operations on fractions whose parts fit 64 bits.
+ghost use Rattle.std.specs.Prelude.{◌≡◌, ◌<ℤ◌, pos, IfSome};
 ghost use Rattle.field_core.specs.Terms.{IsReduced};
 
-use field_core::{Ratio, Short};
+use field_core::{Ratio, Short, Whole};
+
+/// Returns a number above 0, if it fits 64 bits. One comparison decides that, which saves half of what `Whole::short` takes.
+fn positive_short(n: Whole) -> Option<Short>
+    requires { pos 0 <ℤ n }
+    ensures { IfSome result (λ s. s ≡ n) }
+{
+    if n.value() <= i64::MAX as i128 {
+        Some(Short::new(n.value() as i64))
+    } else {
+        None
+    }
+}
 
 /// A fraction in lowest terms whose parts fit 64 bits.
 #[derive(Clone, Copy)]
@@ -23,7 +36,7 @@ impl ShortRatio {
     pub fn of(x: &Ratio) -> Option<ShortRatio>
         ensures { IfSome result (λ s. short_terms s ≡ terms x.now) }
     {
-        match (x.whole_num().short(), x.whole_den().short()) {
+        match (x.whole_num().short(), positive_short(x.whole_den())) {
             (Some(num), Some(den)) => Some(ShortRatio { num, den }),
             _ => None,
         }
