@@ -382,10 +382,21 @@ impl EpsPoly {
         ensures { self.new ≡ lowered power by self.old }
     {
         if power > 0 {
-            *self = self.lowered(power, by);
+            self.lower_from(power, by);
         } else {
             self.divide(by);
         }
+    }
+
+    /// Keeps the coefficients from a power on, as `lower` does. It is a function of its own because `lower` would fill the room for
+    /// the polynomial with zeros at each call, also of power 0.
+    #[inline(never)]
+    fn lower_from(&mut self, power: usize, by: Whole)
+        requires power { power ≤ 32 }
+        requires by { pos 0 <ℤ by }
+        ensures { self.new ≡ lowered power by self.old }
+    {
+        *self = self.lowered(power, by);
     }
 
     /// Divides each coefficient by a number above 0, without remainders.
