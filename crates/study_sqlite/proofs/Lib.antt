@@ -1,4 +1,5 @@
 mod Faults
+mod Memory
 mod PrintedNumbers
 mod PrintedRatios
 mod Refusals

@@ -21,3 +21,8 @@ IsCounted before now files.NoMemory told = (told ≡ NoMemory) × (now ≡ befor
 abbrev pub OnFault : Type 0 → KeeperFault → Type 0
 OnFault P Fault = P
 OnFault P NoMemory = ⊤
+
+-- what holds if out of memory is reported
+abbrev pub OnNoMemory : Type 0 → KeeperFault → Type 0
+OnNoMemory P Fault = ⊤
+OnNoMemory P NoMemory = P

@@ -22,3 +22,8 @@ fault_of_rows rows.NoMemory = files.NoMemory
 abbrev pub OnRefusal : Type 0 → FileFault → Type 0
 OnRefusal P files.Refused = P
 OnRefusal P files.NoMemory = ⊤
+
+-- what holds when out of memory
+abbrev pub OnMemory : Type 0 → FileFault → Type 0
+OnMemory P files.Refused = ⊤
+OnMemory P files.NoMemory = P

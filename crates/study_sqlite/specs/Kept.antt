@@ -3,10 +3,10 @@ use Rattle.std.specs.Prelude.{◌⊎◌, List, []}
 use Rattle.graph_io.specs.declared.keeper.Look.{Look}
 use Rattle.sqlite.specs.Store.{Ghosts}
 use Rattle.sqlite.specs.Held.{Held, state}
-use Rattle.study_sqlite.specs.declared.fault.FileFault.TheVariants.{Refused}
+use Rattle.study_sqlite.specs.declared.fault.FileFault.TheVariants.{Refused, NoMemory}
 use Rattle.study_sqlite.specs.declared.row.LookRow.{LookRow}
 use Rattle.study_sqlite.specs.Rows.{IsRowOf, AreRows}
-use Rattle.study_sqlite.specs.Statements.{make_sql, put_sql, values_of, Ran, RanInto, ShowedRows, AreRowsRefused}
+use Rattle.study_sqlite.specs.Statements.{make_sql, put_sql, values_of, Ran, RanInto, ShowedRows, AreRowsRefused, AreRowsCut}
 
 module _ {S : Type 0} (g : Ghosts S) (before after : Held S) where
   -- The looks are those of all rows: the table was made if it wasn't there, and then its rows were shown.
@@ -50,3 +50,23 @@ module _ {S : Type 0} (g : Ghosts S) (before after : Held S) where
   -- why a connection took no look
   abbrev pub IsLookRefused : Look → Type 0
   IsLookRefused look = IsTableRefused ⊎ IsRowRefused look
+
+  -- the statement that makes the table was out of memory
+  abbrev pub IsTableCut : Type 0
+  IsTableCut = RanInto (state g before) (state g after) make_sql [] NoMemory
+
+  -- out of memory, nothing but these ran: the table was made if it wasn't there, and its rows were shown
+  abbrev pub AreLooksCut : Type 0
+  AreLooksCut = IsTableCut ⊎ ((middle : Held S) × Ran (state g before) (state g middle) make_sql [] × AreRowsCut (state g middle) (state g after))
+
+  -- the table was made if it wasn't there, and then the statement that puts the row of the look was out of memory
+  pub record IsRowCut (look : Look) : Type 0 where
+    pub middle : Held S
+    pub row : LookRow
+    pub made : Ran (state g before) (state g middle) make_sql []
+    pub row_is : IsRowOf row look
+    pub cut : RanInto (state g middle) (state g after) put_sql (values_of row) NoMemory
+
+  -- out of memory, no row was put: the table was made at most if it wasn't there, or the statement that puts the row gave the error
+  abbrev pub IsLookCut : Look → Type 0
+  IsLookCut look = IsTableCut ⊎ (Ran (state g before) (state g after) make_sql [] ⊎ IsRowCut look)

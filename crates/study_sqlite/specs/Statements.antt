@@ -7,7 +7,7 @@ use Rattle.sqlite.specs.declared.types.Value.TheVariants.{Int, Text}
 use Rattle.sqlite.specs.Order.{Row, column}
 use Rattle.sqlite.specs.State.{State, Executes, Shown, FailsToQuery}
 use Rattle.study_sqlite.specs.declared.fault.FileFault.{FileFault}
-use Rattle.study_sqlite.specs.declared.fault.FileFault.TheVariants.{Refused}
+use Rattle.study_sqlite.specs.declared.fault.FileFault.TheVariants.{Refused, NoMemory}
 use Rattle.study_sqlite.specs.declared.row.LookRow.{LookRow}
 use Rattle.study_sqlite.specs.FileFaults.{fault_of_error}
 use Rattle.study_sqlite.specs.Rows.{IsRowOf}
@@ -62,3 +62,9 @@ module _ (old new : State) where
   -- why the rows gave no looks
   abbrev pub AreRowsRefused : Type 0
   AreRowsRefused = IsQueryRefused ⊎ ShowedNoLook
+
+  -- out of memory, the query of the rows failed, or it showed rows that weren't read
+  abbrev pub AreRowsCut : Type 0
+  AreRowsCut =
+      ((error : Error) × (fault_of_error error ≡ NoMemory) × FailsToQuery rows_sql [] old new error)
+      ⊎ ((answer : List Row) × Shown rows_sql [] old new answer)

@@ -20,7 +20,7 @@ use Rattle.study_sqlite.specs.declared.keeper.SqliteKeeper.{SqliteKeeper}
 use Rattle.study_sqlite.specs.declared.storage.Storage.{Storage}
 use Rattle.study_sqlite.specs.declared.storage.Storage.TheVariants.{Unopened, Opened}
 use Rattle.study_sqlite.specs.FileFaults.{fault_of_error, OnRefusal}
-use Rattle.study_sqlite.specs.Kept.{AreKept, IsPut, AreLooksRefused, IsLookRefused}
+use Rattle.study_sqlite.specs.Kept.{AreKept, IsPut, AreLooksRefused, IsLookRefused, AreLooksCut, IsLookCut}
 
 -- the file of a keeper
 abbrev pub storage_of : SqliteKeeper → Storage
@@ -75,6 +75,22 @@ IsAppendRefused old new look =
     ⊎ ((before : _) × (after : _) × IsOpenedFrom old (Opened before) × (new ≡ Opened after)
     × (HasCleanDisk (file_state after) → HasCleanDisk (file_state before))
     × (HasCleanDisk (file_state after) → IsLookRefused over_files before after look))
+
+-- what a file did that gave no looks when out of memory: it wasn't opened, or no statement ran on it but those of a load
+abbrev pub IsLoadCut : Storage → Storage → Type 0
+IsLoadCut old new =
+    IsNotOpened old new
+    ⊎ ((before : _) × (after : _) × IsOpenedFrom old (Opened before) × (new ≡ Opened after)
+    × (HasCleanDisk (file_state after) → HasCleanDisk (file_state before))
+    × (HasCleanDisk (file_state after) → AreLooksCut over_files before after))
+
+-- what a file did that took no look when out of memory: it wasn't opened, or no row was put into it
+abbrev pub IsAppendCut : Storage → Storage → Look → Type 0
+IsAppendCut old new look =
+    IsNotOpened old new
+    ⊎ ((before : _) × (after : _) × IsOpenedFrom old (Opened before) × (new ≡ Opened after)
+    × (HasCleanDisk (file_state after) → HasCleanDisk (file_state before))
+    × (HasCleanDisk (file_state after) → IsLookCut over_files before after look))
 
 -- The last commit of a connection is in the database file that its close left, alone and also after a crash, as long as the disk
 -- returned what was written.

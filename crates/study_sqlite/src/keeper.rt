@@ -73,8 +73,8 @@ impl SqliteKeeper {
 
 impl Keeper for SqliteKeeper {
     ghost use Rattle.graph_io.specs.Keeping.{Loads, IsCaused};
-    ghost use Rattle.study_sqlite.specs.Counting.{fault_count, OnFault};
-    ghost use Rattle.study_sqlite.specs.Storing.{storage_of, IsLoaded, IsAppended, IsLoadRefused, IsAppendRefused};
+    ghost use Rattle.study_sqlite.specs.Counting.{fault_count, OnFault, OnNoMemory};
+    ghost use Rattle.study_sqlite.specs.Storing.{storage_of, IsLoaded, IsAppended, IsLoadRefused, IsAppendRefused, IsLoadCut, IsAppendCut};
 
     ghost looks = { λ k. None };
 
@@ -90,6 +90,7 @@ impl Keeper for SqliteKeeper {
         ensures cause { IsCaused (fault_count self.old) (fault_count self.new) result }
         ensures looks { OnOk result (IsLoaded (storage_of self.old) (storage_of self.new) into.old into.new) }
         ensures why { IfErr result (OnFault (IsLoadRefused (storage_of self.old) (storage_of self.new))) }
+        ensures memory { IfErr result (OnNoMemory (IsLoadCut (storage_of self.old) (storage_of self.new))) }
     {
         match self.storage.looks(alloc) {
             Ok(looks) => into.append(looks.as_slice())?,
@@ -104,6 +105,7 @@ impl Keeper for SqliteKeeper {
         ensures cause { IsCaused (fault_count self.old) (fault_count self.new) result }
         ensures look { OnOk result (IsAppended (storage_of self.old) (storage_of self.new) look.now) }
         ensures why { IfErr result (OnFault (IsAppendRefused (storage_of self.old) (storage_of self.new) look.now)) }
+        ensures memory { IfErr result (OnNoMemory (IsAppendCut (storage_of self.old) (storage_of self.new) look.now)) }
     {
         match self.storage.keep(alloc, look) {
             Ok(()) => Ok(()),

@@ -2,8 +2,8 @@
 ghost use Rattle.std.specs.Prelude.{IfOk, IfErr, OnOk};
 ghost use Rattle.sqlite.specs.Held.{state};
 ghost use Rattle.sqlite.specs.State.{HasCleanDisk};
-ghost use Rattle.study_sqlite.specs.FileFaults.{OnRefusal};
-ghost use Rattle.study_sqlite.specs.Kept.{AreKept, IsPut, AreLooksRefused, IsLookRefused};
+ghost use Rattle.study_sqlite.specs.FileFaults.{OnRefusal, OnMemory};
+ghost use Rattle.study_sqlite.specs.Kept.{AreKept, IsPut, AreLooksRefused, IsLookRefused, AreLooksCut, IsLookCut};
 
 use crate::{FileFault, read_rows, table, to_row};
 use field_core::List;
@@ -21,6 +21,8 @@ pub fn looks_in<S: Alter>(
     ensures kept { HasCleanDisk (state S.Store connection.new) → IfOk result (AreKept S.Store connection.old connection.new) }
     ensures why { HasCleanDisk (state S.Store connection.new)
         → IfErr result (OnRefusal (AreLooksRefused S.Store connection.old connection.new)) }
+    ensures memory { HasCleanDisk (state S.Store connection.new)
+        → IfErr result (OnMemory (AreLooksCut S.Store connection.old connection.new)) }
 {
     table::make(connection)?;
     let rows = table::rows(alloc, connection)?;
@@ -37,6 +39,8 @@ pub fn keep_in<S: Alter>(
     ensures put { HasCleanDisk (state S.Store connection.new) → OnOk result (IsPut S.Store connection.old connection.new look.now) }
     ensures why { HasCleanDisk (state S.Store connection.new)
         → IfErr result (OnRefusal (IsLookRefused S.Store connection.old connection.new look.now)) }
+    ensures memory { HasCleanDisk (state S.Store connection.new)
+        → IfErr result (OnMemory (IsLookCut S.Store connection.old connection.new look.now)) }
 {
     table::make(connection)?;
     let row = to_row(alloc, look)?;

@@ -16,7 +16,8 @@
 //!   stays. A refused load leaves the list as it was. After a successful `load`, the looks of all rows that the file showed
 //!   follow the others (`looks`). After a successful `append`, the row of the look was put into the file (`look`). Both report
 //!   a fault only if the file isn't open then, or a statement gave an error. `load` also reports one if the file showed a row
-//!   that is not the row of a look (`why`). Each refusal of the file is reported as a fault, and out of memory as such
+//!   that is not the row of a look (`why`). When out of memory, nothing ran but the statements of the call, and no row was put
+//!   (`memory`). Each refusal of the file is reported as a fault, and out of memory as such
 //!   (`counted`). One that is made `at` a path opens nothing before its first call, and a `new` one is over its connection
 //!   (`storage`). Its `close` gives back the log and the database file of a connection, or reports an error of the connection's
 //!   close (`why`). The last commit is in the database file then, alone and also after a crash (`closed`). For a file that was

@@ -1,6 +1,6 @@
 //! Where looks are kept: at a path until they are requested, then over a connection.
 ghost use Rattle.std.specs.Prelude.{IfOk, IfErr, OnOk, OnErr};
-ghost use Rattle.study_sqlite.specs.FileFaults.{OnRefusal};
+ghost use Rattle.study_sqlite.specs.FileFaults.{OnRefusal, OnMemory};
 ghost use Rattle.study_sqlite.specs.Storing.{
   IsOpenedFrom,
   IsNotOpened,
@@ -8,6 +8,8 @@ ghost use Rattle.study_sqlite.specs.Storing.{
   IsAppended,
   IsLoadRefused,
   IsAppendRefused,
+  IsLoadCut,
+  IsAppendCut,
   IsClosed,
   IsCloseFault,
 };
@@ -45,6 +47,7 @@ impl Storage {
     pub fn looks(&mut self, alloc: Global) -> Result<List<Look>, FileFault>
         ensures loaded { IfOk result (AreLoaded self.old self.new) }
         ensures why { IfErr result (OnRefusal (IsLoadRefused self.old self.new)) }
+        ensures memory { IfErr result (OnMemory (IsLoadCut self.old self.new)) }
     {
         self.open()?;
         match self {
@@ -58,6 +61,7 @@ impl Storage {
     pub fn keep(&mut self, alloc: Global, look: &Look) -> Result<(), FileFault>
         ensures appended { OnOk result (IsAppended self.old self.new look.now) }
         ensures why { IfErr result (OnRefusal (IsAppendRefused self.old self.new look.now)) }
+        ensures memory { IfErr result (OnMemory (IsAppendCut self.old self.new look.now)) }
     {
         self.open()?;
         match self {

@@ -5,7 +5,7 @@ ghost use Rattle.sqlite.specs.Files.{file_state, IsOpened};
 ghost use Rattle.sqlite.specs.Held.{state};
 ghost use Rattle.sqlite.specs.State.{HasCleanDisk, Executes};
 ghost use Rattle.sqlite.specs.declared.types.Value.TheVariants.{Int, Text as SqlText};
-ghost use Rattle.study_sqlite.specs.FileFaults.{OnRefusal};
+ghost use Rattle.study_sqlite.specs.FileFaults.{OnRefusal, OnMemory};
 ghost use Rattle.study_sqlite.specs.Statements.{
   make_sql,
   put_sql,
@@ -16,6 +16,7 @@ ghost use Rattle.study_sqlite.specs.Statements.{
   RanInto,
   ShowedRows,
   AreRowsRefused,
+  AreRowsCut,
 };
 ghost use Rattle.study_sqlite.specs.Storing.{IsCopiedTo, IsCloseRefused};
 
@@ -61,6 +62,8 @@ pub fn rows<S: Alter>(
         → IfOk result (ShowedRows (state S.Store connection.old) (state S.Store connection.new)) }
     ensures why { HasCleanDisk (state S.Store connection.new)
         → IfErr result (OnRefusal (AreRowsRefused (state S.Store connection.old) (state S.Store connection.new))) }
+    ensures memory { HasCleanDisk (state S.Store connection.new)
+        → IfErr result (OnMemory (AreRowsCut (state S.Store connection.old) (state S.Store connection.new))) }
 {
     let found = connection.query_all("SELECT hypothesis, stage, p FROM looks ORDER BY place", &[])?;
     look_rows(alloc, found.as_slice())

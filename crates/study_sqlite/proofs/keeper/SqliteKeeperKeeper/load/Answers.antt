@@ -1,5 +1,6 @@
 use Rattle.std.proofs.Common.{rules}
-use Rattle.study_sqlite.specs.Storing.{storage_of}
+use Rattle.study_sqlite.specs.Storing.{storage_of, IsLoadCut}
+use Rattle.study_sqlite.proofs.Memory.{known_out, load_cut, shown_at_most}
 use Rattle.study_sqlite.proofs.Refusals.{load_counted}
 use Rattle.study_sqlite.proofs.keeper.SqliteKeeperKeeper.load.Goals as goal
 
@@ -10,3 +11,13 @@ pub returns-in-Err-clause-why : goal.returns-in-Err-clause-why
 returns-in-Err-clause-why c =
     load_counted _ _ c.in-Err.fault c.counted.result (storage_of c.args.self.now) c.looks.new.self (storage_of c.counted.new.self)
     c.in-Err.ensures.why c.counted.ensures.counted c.counted.ensures.storage
+
+pub returns-in_err-append-in-Ok-clause-memory : goal.returns-in_err-append-in-Ok-clause-memory
+returns-in_err-append-in-Ok-clause-memory c =
+    known_out c.from_residual.result (IsLoadCut (storage_of c.args.self.now) c.looks.new.self)
+    (shown_at_most (storage_of c.args.self.now) c.looks.new.self c.in-Ok.looks c.in-Ok.ensures.loaded)
+
+pub returns-in-Err-clause-memory : goal.returns-in-Err-clause-memory
+returns-in-Err-clause-memory c =
+    load_cut _ _ c.in-Err.fault c.counted.result (storage_of c.args.self.now) c.looks.new.self (storage_of c.counted.new.self)
+    c.in-Err.ensures.memory c.counted.ensures.counted c.counted.ensures.storage

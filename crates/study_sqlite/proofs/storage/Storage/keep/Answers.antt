@@ -1,7 +1,8 @@
 use Rattle.std.proofs.Common.{refl, subst, inr}
 use Rattle.study_sqlite.specs.declared.storage.Storage.TheVariants.{Opened}
-use Rattle.study_sqlite.specs.Storing.{IsOpenedFrom, IsAppended, IsAppendRefused}
+use Rattle.study_sqlite.specs.Storing.{IsOpenedFrom, IsAppended, IsAppendRefused, IsAppendCut}
 use Rattle.study_sqlite.proofs.Faults.{goes_well_under}
+use Rattle.study_sqlite.proofs.Memory.{memory_under}
 use Rattle.study_sqlite.proofs.Refusals.{refused_under}
 use Rattle.study_sqlite.proofs.storage.Storage.keep.Goals as goal
 
@@ -16,3 +17,9 @@ returns-clause-why c =
     let opened = subst (IsOpenedFrom c.args.self.now) c.in-Opened.is c.in_ok-open.ensures.opened in
     refused_under c.keep_in.result _ _ (IsAppendRefused c.args.self.now (Opened c.keep_in.new.connection) c.args.look.now) c.keep_in.ensures.why
     (λ why. inr (c.in-Opened.connection, c.keep_in.new.connection, opened, refl, c.keep_in.ensures.clean, why))
+
+pub returns-clause-memory : goal.returns-clause-memory
+returns-clause-memory c =
+    let opened = subst (IsOpenedFrom c.args.self.now) c.in-Opened.is c.in_ok-open.ensures.opened in
+    memory_under c.keep_in.result _ _ (IsAppendCut c.args.self.now (Opened c.keep_in.new.connection) c.args.look.now) c.keep_in.ensures.memory
+    (λ cut. inr (c.in-Opened.connection, c.keep_in.new.connection, opened, refl, c.keep_in.ensures.clean, cut))

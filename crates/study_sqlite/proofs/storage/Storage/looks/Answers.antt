@@ -1,7 +1,8 @@
 use Rattle.std.proofs.Common.{refl, subst, inr}
 use Rattle.study_sqlite.specs.declared.storage.Storage.TheVariants.{Opened}
-use Rattle.study_sqlite.specs.Storing.{IsOpenedFrom, AreLoaded, IsLoadRefused}
+use Rattle.study_sqlite.specs.Storing.{IsOpenedFrom, AreLoaded, IsLoadRefused, IsLoadCut}
 use Rattle.study_sqlite.proofs.Faults.{gives_under}
+use Rattle.study_sqlite.proofs.Memory.{memory_under}
 use Rattle.study_sqlite.proofs.Refusals.{refused_under}
 use Rattle.study_sqlite.proofs.storage.Storage.looks.Goals as goal
 
@@ -16,3 +17,9 @@ returns-clause-why c =
     let opened = subst (IsOpenedFrom c.args.self.now) c.in-Opened.is c.in_ok-open.ensures.opened in
     refused_under c.looks_in.result _ _ (IsLoadRefused c.args.self.now (Opened c.looks_in.new.connection)) c.looks_in.ensures.why
     (λ why. inr (c.in-Opened.connection, c.looks_in.new.connection, opened, refl, c.looks_in.ensures.clean, why))
+
+pub returns-clause-memory : goal.returns-clause-memory
+returns-clause-memory c =
+    let opened = subst (IsOpenedFrom c.args.self.now) c.in-Opened.is c.in_ok-open.ensures.opened in
+    memory_under c.looks_in.result _ _ (IsLoadCut c.args.self.now (Opened c.looks_in.new.connection)) c.looks_in.ensures.memory
+    (λ cut. inr (c.in-Opened.connection, c.looks_in.new.connection, opened, refl, c.looks_in.ensures.clean, cut))
